@@ -1,0 +1,82 @@
+-- Document 01, 'Records': how trees over name numbers are written, in prefix order, as records of four words.
+-- Assumes nothing.
+use mathlib.Core.Bool.{Bool, true, false}
+use mathlib.Core.List.{List, [], _∷_, _++_, map}
+use Prim.Native.Nat.{ℕ, _-_}
+use lib.Dec.{ltb}
+use lib.IntN.{ℤ, pos, negsuc}
+use lib.ListN.{length}
+use Rattle.rules.specs.Exponents.{Exp, frac}
+use Rattle.rules.specs.Trees.{Open, var, quant, par, free, base, Factor, _↑_, Product, Ty, opened, basic, dim, fn, struct, list, Tys, nil, cons, Fields, noFields, field, Con, equal, isDim, isScalar, hasField, Binding, _≔_, count, countFields}
+use Rattle.rules.specs.Schemes.{Scheme, concrete, scheme}
+use Rattle.rules.specs.Views.{kindOpen, kindBasic}
+
+-- kind, a, b, c
+pub data Rec : Type 0 where
+  rec : ℕ → ℕ → ℕ → ℕ → Rec
+
+-- a numerator as a word of 32 bits, in two's complement, and back
+unfoldable pub twos : ℤ → ℕ
+twos (pos n) = n
+twos (negsuc n) = 4_294_967_295 - n
+
+unfoldable pub bySign : Bool → ℕ → ℤ
+bySign true w = pos w
+bySign false w = negsuc (4_294_967_295 - w)
+
+unfoldable pub signed : ℕ → ℤ
+signed w = bySign (ltb w 2_147_483_648) w
+
+abbrev pub wordOf : Open ℕ → ℕ
+wordOf (var x) = x
+wordOf (quant i) = i
+wordOf (par x) = x
+
+unfoldable pub writeFactor : Factor ℕ → Rec
+writeFactor (free (var x) ↑ frac n d) = rec 11 x (twos n) d
+writeFactor (free (par x) ↑ frac n d) = rec 12 x (twos n) d
+writeFactor (base x ↑ frac n d) = rec 13 x (twos n) d
+writeFactor (free (quant i) ↑ frac n d) = rec 15 i (twos n) d
+
+unfoldable pub writeProduct : Product ℕ → List Rec
+writeProduct p = rec 3 (length p) 0 0 ∷ map writeFactor p
+
+unfoldable mutual
+  pub writeTy : Ty ℕ → List Rec
+  writeTy (opened o) = rec (kindOpen o) (wordOf o) 0 0 ∷ []
+  writeTy (basic b) = rec (kindBasic b) 0 0 0 ∷ []
+  writeTy (dim p) = writeProduct p
+  writeTy (fn ps r) = rec 7 (count ps) 0 0 ∷ (writeTys ps ++ writeTy r)
+  writeTy (struct n as′ fs) = rec 8 n (count as′) (countFields fs) ∷ (writeTys as′ ++ writeFields fs)
+  writeTy (list t) = rec 10 0 0 0 ∷ writeTy t
+
+  pub writeTys : Tys ℕ → List Rec
+  writeTys nil = []
+  writeTys (cons t ts) = writeTy t ++ writeTys ts
+
+  pub writeFields : Fields ℕ → List Rec
+  writeFields noFields = []
+  writeFields (field n t fs) = rec 9 n 0 0 ∷ (writeTy t ++ writeFields fs)
+
+unfoldable pub writeCon : Con ℕ → List Rec
+writeCon (equal l r) = rec 20 0 0 0 ∷ (writeTy l ++ writeTy r)
+writeCon (isDim t) = rec 21 0 0 0 ∷ writeTy t
+writeCon (isScalar p) = rec 22 0 0 0 ∷ writeProduct p
+writeCon (hasField n s t) = rec 23 n 0 0 ∷ (writeTy s ++ writeTy t)
+
+unfoldable pub writeBinding : Binding ℕ → List Rec
+writeBinding (x ≔ t) = rec 24 x 0 0 ∷ writeTy t
+
+-- a bound: a name, or the index of a quantified variable
+unfoldable pub writeBound : Open ℕ → Rec
+writeBound (var x) = rec 25 x 0 0
+writeBound (quant i) = rec 25 i 1 0
+writeBound (par x) = rec 25 x 0 0
+
+unfoldable pub writeScheme : Scheme ℕ → List Rec
+writeScheme (concrete t) = rec 26 0 1 0 ∷ writeTy t
+writeScheme (scheme n t bs) = rec 26 n 0 0 ∷ (writeTy t ++ map writeBound bs)
+
+unfoldable pub words : List Rec → List ℕ
+words [] = []
+words (rec k a b c ∷ rs) = k ∷ a ∷ b ∷ c ∷ words rs
