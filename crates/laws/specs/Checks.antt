@@ -1,0 +1,19 @@
+-- A row of checks passes exactly when each passes.
+-- Assumes nothing.
+use mathlib.Core.Path.{_≡_, refl}
+use mathlib.Core.Bool.{Bool, true, false}
+use Prim.Native.Nat.{ℕ}
+use Rattle.rules.specs.Base.{Got, got, refused, _>>_, need}
+
+pub need-passed : (b : Bool) (n : ℕ) → need b n ≡ got tt → b ≡ true
+need-passed true n h = refl
+need-passed false n h = cc
+
+module _ {A : Type 0} (b : Got A) (x : A) where
+  pub first-passed : (a : Got (Unit {0})) → (a >> b) ≡ got x → a ≡ got tt
+  first-passed (got u) h = refl
+  first-passed (refused n) h = cc
+
+  pub next-passed : (a : Got (Unit {0})) → (a >> b) ≡ got x → b ≡ got x
+  next-passed (got u) h = h
+  next-passed (refused n) h = cc

@@ -1,0 +1,92 @@
+-- Reading what was written gives it back.
+-- Assumes nothing.
+use mathlib.Core.Path.{_≡_, refl, ap, _∙_, sym}
+use mathlib.Core.Bool.{Bool, true, false}
+use mathlib.Core.Option.{Option, none, some}
+use mathlib.Core.List.{List, [], _∷_, _++_, map, append-assoc}
+use Prim.Native.Nat.{ℕ, zero, suc, _≤_, _<_, _-_, max}
+use native.Mathlib.Omega.{arith}
+use borrow.Author.Tests.{lt-ltb, le-ltb}
+use lib.IntN.{ℤ, pos, negsuc, natAbs}
+use lib.ListN.{length}
+use lib.Dec.{ltb}
+use Rattle.rules.specs.Base.{all}
+use Rattle.rules.specs.Exponents.{Exp, frac, top}
+use Rattle.rules.specs.Trees.{Open, var, quant, par, Atom, free, base, Factor, _↑_, Product, Names, Ty, opened, basic, dim, fn, struct, list, Tys, nil, cons, Fields, noFields, field, Basic, boolean, string, datetime, depth, depthTys, depthFields, count, countFields}
+use Rattle.rules.specs.Writing.{Rec, rec, twos, bySign, signed, writeFactor, writeProduct, writeTy, writeTys, writeFields}
+use Rattle.rules.specs.Reading.{readFactors, readTys, readFields, readTy}
+
+-- numerators that a word can hold
+abbrev pub FitsProduct : Product ℕ → Type 0
+FitsProduct [] = Unit {0}
+FitsProduct (a ↑ frac n d ∷ p) = (natAbs n ≤ top) × FitsProduct p
+
+abbrev mutual
+  pub Fits : Ty ℕ → Type 0
+  Fits (opened o) = Unit {0}
+  Fits (basic b) = Unit {0}
+  Fits (dim p) = FitsProduct p
+  Fits (fn ps r) = FitsTys ps × Fits r
+  Fits (struct n as′ fs) = FitsTys as′ × FitsFields fs
+  Fits (list t) = Fits t
+
+  pub FitsTys : Tys ℕ → Type 0
+  FitsTys nil = Unit {0}
+  FitsTys (cons t ts) = Fits t × FitsTys ts
+
+  pub FitsFields : Fields ℕ → Type 0
+  FitsFields noFields = Unit {0}
+  FitsFields (field n t fs) = Fits t × FitsFields fs
+
+pub sign : (n : ℤ) → natAbs n ≤ top → signed (twos n) ≡ n
+unfolding signed bySign twos
+sign (pos n) h = rw (lt-ltb n 2147483648 (omega arith))
+sign (negsuc n) h = rw (le-ltb (4294967295 - n) 2147483648 (omega arith)) (ap negsuc (omega arith))
+
+pub read-factors : (p : Product ℕ) (rest : List Rec) → FitsProduct p → readFactors (length p) (map writeFactor p ++ rest) ≡ some (p, rest)
+unfolding readFactors writeFactor
+read-factors [] rest h = refl
+read-factors (free (var x) ↑ frac n d ∷ p) rest h = rw (sign n (h .0), read-factors p rest (h .1))
+read-factors (free (quant x) ↑ frac n d ∷ p) rest h = rw (sign n (h .0), read-factors p rest (h .1))
+read-factors (free (par x) ↑ frac n d ∷ p) rest h = rw (sign n (h .0), read-factors p rest (h .1))
+read-factors (base x ↑ frac n d ∷ p) rest h = rw (sign n (h .0), read-factors p rest (h .1))
+
+pub deep : (t : Ty ℕ) → 1 ≤ depth t
+unfolding depth
+deep (opened o) = omega arith
+deep (basic b) = omega arith
+deep (dim p) = omega arith
+deep (fn ps r) = omega arith
+deep (struct n as′ fs) = omega arith
+deep (list t) = omega arith
+
+pub lift : (t : Ty ℕ) (d : ℕ) (rest : List Rec) → depth t ≤ d → ((e : ℕ) → depth t ≤ suc e → readTy (suc e) (writeTy t ++ rest) ≡ some (t, rest)) → readTy d (writeTy t ++ rest) ≡ some (t, rest)
+lift t zero rest h k = absurd (omega (arith, deep t))
+lift t (suc e) rest h k = k e h
+
+mutual
+  unfolding readTy readTys readFields writeTy writeProduct count countFields all depth
+
+  pub read-ty : (t : Ty ℕ) (d : ℕ) (rest : List Rec) → Fits t → depth t ≤ suc d → readTy (suc d) (writeTy t ++ rest) ≡ some (t, rest)
+  read-ty (opened (var x)) d rest f h = refl
+  read-ty (opened (quant x)) d rest f h = refl
+  read-ty (opened (par x)) d rest f h = refl
+  read-ty (basic boolean) d rest f h = refl
+  read-ty (basic string) d rest f h = refl
+  read-ty (basic datetime) d rest f h = refl
+  read-ty (dim p) d rest f h = rw (read-factors p rest f)
+  read-ty (fn ps r) d rest f h =
+      rw (append-assoc (writeTys ps) (writeTy r) rest, read-tys ps d (writeTy r ++ rest) (f .0) (omega arith), lift r d rest (omega arith) (λ e k. read-ty r e rest (f .1) k))
+  read-ty (struct n as′ fs) d rest f h =
+      rw (append-assoc (writeTys as′) (writeFields fs) rest, read-tys as′ d (writeFields fs ++ rest) (f .0) (omega arith), read-fields fs d rest (f .1) (omega arith))
+  read-ty (list t) d rest f h = rw (lift t d rest (omega arith) (λ e k. read-ty t e rest f k))
+
+  pub read-tys : (ts : Tys ℕ) (d : ℕ) (rest : List Rec) → FitsTys ts → depthTys ts ≤ d → readTys (readTy d) (count ts) (writeTys ts ++ rest) ≡ some (ts, rest)
+  read-tys nil d rest f h = refl
+  read-tys (cons t ts) d rest f h =
+      rw (append-assoc (writeTy t) (writeTys ts) rest, lift t d (writeTys ts ++ rest) (omega arith) (λ e k. read-ty t e (writeTys ts ++ rest) (f .0) k), read-tys ts d rest (f .1) (omega arith))
+
+  pub read-fields : (fs : Fields ℕ) (d : ℕ) (rest : List Rec) → FitsFields fs → depthFields fs ≤ d → readFields (readTy d) (countFields fs) (writeFields fs ++ rest) ≡ some (fs, rest)
+  read-fields noFields d rest f h = refl
+  read-fields (field n t fs) d rest f h =
+      rw (append-assoc (writeTy t) (writeFields fs) rest, lift t d (writeFields fs ++ rest) (omega arith) (λ e k. read-ty t e (writeFields fs ++ rest) (f .0) k), read-fields fs d rest (f .1) (omega arith))

@@ -1,0 +1,39 @@
+-- As many records are written as the size says.
+-- Assumes nothing.
+use mathlib.Core.Path.{_≡_, refl, ap, _∙_}
+use mathlib.Core.List.{List, [], _∷_, _++_, map}
+use Prim.Native.Nat.{ℕ, suc, _+_}
+use native.Mathlib.Omega.{arith}
+use lib.ListN.{length, length-append, length-map}
+use Rattle.rules.specs.Trees.{Ty, opened, basic, dim, fn, struct, list, Tys, nil, cons, Fields, noFields, field, Con, equal, isDim, isScalar, hasField, Binding, _≔_, size, sizeTys, sizeFields, sizeCon, sizeBinding}
+use Rattle.rules.specs.Writing.{writeTy, writeTys, writeFields, writeProduct, writeFactor, writeCon, writeBinding}
+
+mutual
+  unfolding size writeTy writeProduct
+
+  pub size-ty : (t : Ty ℕ) → length (writeTy t) ≡ size t
+  size-ty (opened o) = refl
+  size-ty (basic b) = refl
+  size-ty (dim p) = simp length-map
+  size-ty (fn ps r) = simp (length-append, size-tys ps, size-ty r)
+  size-ty (struct n as′ fs) = simp (length-append, size-tys as′, size-fields fs)
+  size-ty (list t) = ap suc (size-ty t)
+
+  pub size-tys : (ts : Tys ℕ) → length (writeTys ts) ≡ sizeTys ts
+  size-tys nil = refl
+  size-tys (cons t ts) = simp (length-append, size-ty t, size-tys ts)
+
+  pub size-fields : (fs : Fields ℕ) → length (writeFields fs) ≡ sizeFields fs
+  size-fields noFields = refl
+  size-fields (field n t fs) = simp (length-append, size-ty t, size-fields fs)
+
+pub size-con : (c : Con ℕ) → length (writeCon c) ≡ sizeCon c
+unfolding sizeCon writeCon size writeTy writeProduct
+size-con (equal l r) = simp (length-append, size-ty l, size-ty r)
+size-con (isDim t) = ap suc (size-ty t)
+size-con (isScalar p) = simp length-map
+size-con (hasField n s t) = simp (length-append, size-ty s, size-ty t)
+
+pub size-binding : (b : Binding ℕ) → length (writeBinding b) ≡ sizeBinding b
+unfolding sizeBinding writeBinding
+size-binding (x ≔ t) = ap suc (size-ty t)

@@ -1,0 +1,200 @@
+-- What was read is what is written there: the records that were read are those of the tree.
+-- Assumes nothing.
+use mathlib.Core.Path.{_≡_, refl, ap, ap₂, _∙_, sym, subst}
+use mathlib.Core.Bool.{Bool, true, false, _&&_}
+use mathlib.Core.Option.{Option, none, some}
+use mathlib.Core.List.{List, [], _∷_, _++_, map, append-assoc}
+use Prim.Native.Nat.{ℕ, zero, suc, _≤_, _<_, _-_, _+_}
+use native.Mathlib.Omega.{arith}
+use lib.IntN.{ℤ, pos, negsuc}
+use lib.ListN.{length}
+use lib.Dec.{T, eqb, ltb, eqb→eq}
+use Rattle.rules.specs.Base.{all}
+use Rattle.rules.specs.Exponents.{Exp, frac}
+use Rattle.rules.specs.Trees.{Open, var, quant, par, Atom, free, base, Factor, _↑_, Product, Ty, opened, basic, dim, fn, struct, list, Tys, nil, cons, Fields, noFields, field, Basic, boolean, string, datetime, count, countFields}
+use Rattle.rules.specs.Writing.{Rec, rec, twos, signed, bySign, writeFactor, writeProduct, writeTy, writeTys, writeFields}
+use Rattle.rules.specs.Reading.{Reader, pass, give, unused, pick, next, factorTable, factorKinds, readFactors, readTys, readFields, fieldName, readDim, readFn, readStruct, readList, typeTable, typeKinds, readTy}
+
+-- what was read, if anything was, is as stated
+pub record Reads {A : Type 0} (o : Option (A × List Rec)) (P : A → List Rec → Type 0) : Type 0 where
+  pub holds : (a : A) (rest : List Rec) → o ≡ some (a, rest) → P a rest
+
+pub nothing : {A : Type 0} {P : A → List Rec → Type 0} → Reads none P
+nothing = record { holds = λ a r e. let z : _≡_ {A = ℕ} 0 1 = cc in absurd (omega arith) }
+
+pub given : {A : Type 0} {P : A → List Rec → Type 0} {a : A} {s : List Rec} → P a s → Reads (some (a, s)) P
+given {A} {P} {a} {s} p = record { holds = λ b r e. let t : _≡_ {A = A × List Rec} (a, s) (b, r) = cc in subst (λ (v : A × List Rec). P (v .0) (v .1)) t p }
+
+pub then : {A B : Type 0} {o : Option (A × List Rec)} {f : A → Reader B} {P : A → List Rec → Type 0} {Q : B → List Rec → Type 0} → Reads o P → ((a : A) (s : List Rec) → P a s → Reads (f a s) Q) → Reads (pass o f) Q
+then {o} {f} {P} {Q} h k = go o refl
+  where
+    go : (p : Option _) → o ≡ p → Reads (pass p f) Q
+    go none e = nothing
+    go (some r) e = k (r .0) (r .1) (h .holds (r .0) (r .1) e)
+
+-- by the kind: each line of the table, at its kind
+abbrev pub Each : {A : Type 0} → ℕ → List Rec → (A → List Rec → Type 0) → List (ℕ × Reader A) → Type 0
+Each k s Q [] = Unit {0}
+Each k s Q (x ∷ xs) = (k ≡ x .0 → Reads (x .1 s) Q) × Each k s Q xs
+
+pub picked : {A : Type 0} {Q : A → List Rec → Type 0} (k : ℕ) (s : List Rec) (xs : List (ℕ × Reader A)) → Each k s Q xs → Reads (pick k xs s) Q
+picked k s [] h = nothing
+picked {A} {Q} k s (x ∷ xs) h = go (eqb k (x .0)) refl (picked k s xs (h .1))
+  where
+    go : (b : Bool) → eqb k (x .0) ≡ b → Reads (pick k xs s) Q → Reads (pick k (x ∷ xs) s) Q
+    go true e r = rw (e, pick) (h .0 (eqb→eq k (x .0) (rw e tt)))
+    go false e r = rw (e, pick) r
+
+-- words that are 0
+abbrev pub Zeros : List ℕ → Type 0
+Zeros [] = Unit {0}
+Zeros (w ∷ ws) = (w ≡ 0) × Zeros ws
+
+pub zeros : (ws : List ℕ) → T (all (λ w. eqb w 0) ws) → Zeros ws
+unfolding all
+zeros [] t = tt
+zeros (w ∷ ws) t = go (eqb w 0) refl t (λ u. zeros ws u)
+  where
+    go : (b : Bool) → eqb w 0 ≡ b → T (b && all (λ w. eqb w 0) ws) → (T (all (λ w. eqb w 0) ws) → Zeros ws) → Zeros (w ∷ ws)
+    go true e u f = (eqb→eq w 0 (rw e tt), f u)
+    go false e u f = absurd u
+
+pub plain : {A : Type 0} {Q : A → List Rec → Type 0} (ws : List ℕ) (m : Reader A) (s : List Rec) → (Zeros ws → Reads (m s) Q) → Reads (unused ws m s) Q
+plain {A} {Q} ws m s h = go (all (λ w. eqb w 0) ws) refl
+  where
+    go : (b : Bool) → all (λ w. eqb w 0) ws ≡ b → Reads (unused ws m s) Q
+    go true e = rw (e, unused) (h (zeros ws (rw e tt)))
+    go false e = rw (e, unused) nothing
+
+-- words of 32 bits
+abbrev pub Small : List Rec → Type 0
+Small [] = Unit {0}
+Small (rec k a b c ∷ rs) = (b < 4_294_967_296) × Small rs
+
+back-by : (b : Bool) (w : ℕ) → w < 4_294_967_296 → ltb w 2_147_483_648 ≡ b → twos (bySign b w) ≡ w
+unfolding bySign twos
+back-by true w h e = refl
+back-by false w h e = omega arith
+
+pub unsigned : (w : ℕ) → w < 4_294_967_296 → twos (signed w) ≡ w
+unfolding signed
+unsigned w h = back-by (ltb w 2_147_483_648) w h refl
+
+-- s is what is written, and then the rest
+abbrev pub Is : List Rec → List Rec → List Rec → Type 0
+Is s w rest = (s ≡ w ++ rest) × Small rest
+
+factor-read : (s : List Rec) → Small s → Reads (next factorKinds s) (λ f rest. Is s (writeFactor f ∷ []) rest)
+unfolding writeFactor
+factor-read [] h = nothing
+factor-read (rec k a b c ∷ rs) h = picked k rs (factorTable a b c) (
+  (λ e. given (rw (e, unsigned b (h .0)) refl, h .1)),
+  (
+    (λ e. given (rw (e, unsigned b (h .0)) refl, h .1)),
+    (
+      (λ e. given (rw (e, unsigned b (h .0)) refl, h .1)),
+      ((λ e. given (rw (e, unsigned b (h .0)) refl, h .1)), tt),
+    ),
+  ),
+)
+
+pub factors-read : (n : ℕ) (s : List Rec) → Small s → Reads (readFactors n s) (λ p rest. Is s (map writeFactor p) rest × (length p ≡ n))
+unfolding readFactors
+factors-read zero s h = given ((refl, h), refl)
+factors-read (suc n) s h =
+    then (factor-read s h) (λ f s′ i.
+    then (factors-read n s′ (i .1)) (λ p s″ j.
+    given ((i .0 ∙ ap (writeFactor f ∷_) (j .0 .0), j .0 .1), ap suc (j .1))))
+
+-- what a reader of types is to do
+abbrev pub Types-read : Reader (Ty ℕ) → Type 0
+Types-read ty = (s : List Rec) → Small s → Reads (ty s) (λ t rest. Is s (writeTy t) rest)
+
+-- one part after another
+pub after : (s s′ w v rest : List Rec) → s ≡ w ++ s′ → s′ ≡ v ++ rest → s ≡ (w ++ v) ++ rest
+after s s′ w v rest i j = i ∙ ap (w ++_) j ∙ sym (append-assoc w v rest)
+
+tys-read : (ty : Reader (Ty ℕ)) → Types-read ty → (n : ℕ) (s : List Rec) → Small s → Reads (readTys ty n s) (λ ts rest. Is s (writeTys ts) rest × (count ts ≡ n))
+unfolding readTys writeTy count
+tys-read ty r zero s h = given ((refl, h), refl)
+tys-read ty r (suc n) s h =
+    then (r s h) (λ t s′ i.
+    then (tys-read ty r n s′ (i .1)) (λ ts s″ j.
+    given ((after s s′ (writeTy t) (writeTys ts) s″ (i .0) (j .0 .0), j .0 .1), ap suc (j .1))))
+
+name-read : (s : List Rec) → Small s → Reads (next fieldName s) (λ x rest. Is s (rec 9 x 0 0 ∷ []) rest)
+name-read [] h = nothing
+name-read (rec k a b c ∷ rs) h =
+    picked k rs ((9, unused (b ∷ c ∷ []) (give a)) ∷ []) ((λ e. plain (b ∷ c ∷ []) (give a) rs (λ z. given (rw (e, z .0, z .1 .0) refl, h .1))), tt)
+
+fields-read : (ty : Reader (Ty ℕ)) → Types-read ty → (n : ℕ) (s : List Rec) → Small s → Reads (readFields ty n s) (λ fs rest. Is s (writeFields fs) rest × (countFields fs ≡ n))
+unfolding readFields writeTy countFields
+fields-read ty r zero s h = given ((refl, h), refl)
+fields-read ty r (suc n) s h =
+    then (name-read s h) (λ x s′ i.
+    then (r s′ (i .1)) (λ t s″ j.
+    then (fields-read ty r n s″ (j .1)) (λ fs s‴ k.
+    given ((i .0 ∙ ap (rec 9 x 0 0 ∷_) (after s′ s″ (writeTy t) (writeFields fs) s‴ (j .0) (k .0 .0)), k .0 .1), ap suc (k .1)))))
+
+-- the records of a type follow the record that begins it
+abbrev Body : Rec → List Rec → Option (Ty ℕ × List Rec) → Type 0
+Body r rs o = Reads o (λ t rest. Is (r ∷ rs) (writeTy t) rest)
+
+dim-read : (a : ℕ) (rs : List Rec) → Small rs → Body (rec 3 a 0 0) rs (readDim a rs)
+unfolding writeTy writeProduct
+dim-read a rs h = then (factors-read a rs h) (λ p s i. given (rw (i .1) (ap (rec 3 a 0 0 ∷_) (i .0 .0)), i .0 .1))
+
+module _ (ty : Reader (Ty ℕ)) (r : Types-read ty) where
+  fn-read : (a : ℕ) (rs : List Rec) → Small rs → Body (rec 7 a 0 0) rs (readFn ty a rs)
+  unfolding writeTy
+  fn-read a rs h =
+      then (tys-read ty r a rs h) (λ ps s i.
+      then (r s (i .0 .1)) (λ t s′ j.
+      given (rw (i .1) (ap (rec 7 a 0 0 ∷_) (after rs s (writeTys ps) (writeTy t) s′ (i .0 .0) (j .0))), j .1)))
+
+  struct-read : (a b c : ℕ) (rs : List Rec) → Small rs → Body (rec 8 a b c) rs (readStruct ty a b c rs)
+  unfolding writeTy
+  struct-read a b c rs h =
+      then (tys-read ty r b rs h) (λ as′ s i.
+      then (fields-read ty r c s (i .0 .1)) (λ fs s′ j.
+      given (rw (i .1, j .1) (ap (rec 8 a b c ∷_) (after rs s (writeTys as′) (writeFields fs) s′ (i .0 .0) (j .0 .0))), j .0 .1)))
+
+  list-read : (rs : List Rec) → Small rs → Body (rec 10 0 0 0) rs (readList ty rs)
+  unfolding writeTy
+  list-read rs h = then (r rs h) (λ t s i. given (ap (rec 10 0 0 0 ∷_) (i .0), i .1))
+
+pub ty-read : (d : ℕ) → Types-read (readTy d)
+unfolding readTy writeTy
+ty-read zero s h = nothing
+ty-read (suc d) [] h = nothing
+ty-read (suc d) (rec k a b c ∷ rs) h = picked k rs (typeTable (readTy d) a b c) (
+  (λ e. plain (b ∷ c ∷ []) (give (opened (var a))) rs (λ z. given (rw (e, z .0, z .1 .0) refl, h .1))),
+  (
+    (λ e. plain (b ∷ c ∷ []) (give (opened (par a))) rs (λ z. given (rw (e, z .0, z .1 .0) refl, h .1))),
+    (
+      (λ e. plain (b ∷ c ∷ []) (give (opened (quant a))) rs (λ z. given (rw (e, z .0, z .1 .0) refl, h .1))),
+      (
+        (λ e. plain (b ∷ c ∷ []) (readDim a) rs (λ z. rw (e, z .0, z .1 .0) (dim-read a rs (h .1)))),
+        (
+          (λ e. plain (a ∷ b ∷ c ∷ []) (give (basic boolean)) rs (λ z. given (rw (e, z .0, z .1 .0, z .1 .1 .0) refl, h .1))),
+          (
+            (λ e. plain (a ∷ b ∷ c ∷ []) (give (basic string)) rs (λ z. given (rw (e, z .0, z .1 .0, z .1 .1 .0) refl, h .1))),
+            (
+              (λ e. plain (a ∷ b ∷ c ∷ []) (give (basic datetime)) rs (λ z. given (rw (e, z .0, z .1 .0, z .1 .1 .0) refl, h .1))),
+              (
+                (λ e. plain (b ∷ c ∷ []) (readFn (readTy d) a) rs (λ z. rw (e, z .0, z .1 .0) (fn-read (readTy d) (ty-read d) a rs (h .1)))),
+                (
+                  (λ e. rw e (struct-read (readTy d) (ty-read d) a b c rs (h .1))),
+                  (
+                    (λ e. plain (a ∷ b ∷ c ∷ []) (readList (readTy d)) rs (λ z. rw (e, z .0, z .1 .0, z .1 .1 .0) (list-read (readTy d) (ty-read d) rs (h .1)))),
+                    tt,
+                  ),
+                ),
+              ),
+            ),
+          ),
+        ),
+      ),
+    ),
+  ),
+)

@@ -1,0 +1,1 @@
+// Theorems about the rules stand in specs/; there is no code.
