@@ -1,0 +1,60 @@
+-- `exponents_run::text::digits_at` is safe and ends.
+-- Assumes nothing.
+use Prim.Native.Nat.{_-_}
+use lib.ListN.{length}
+use borrow.Author.Needs.{needs}
+use Rattle.exponents_run.proofs.text.digits_at.Statement.{statement}
+use Rattle.exponents_run.proofs.text.digits_at.Tie as tie
+
+abbrev Inv-loop : tie.InvT-loop
+Inv-loop s at i₀ word₀ i word = Unit {0}
+
+abbrev μ-loop : tie.MeasureT-loop
+μ-loop s at i₀ word₀ i word = length s - i
+
+loop-holds : tie.Need-loop-holds Inv-loop μ-loop
+loop-holds c = search needs
+
+shared-slice-read-is-digit : tie.Need-shared-slice-read-is-digit Inv-loop μ-loop
+shared-slice-read-is-digit c = search needs
+
+is-digit-requires : tie.Need-is-digit-requires Inv-loop μ-loop
+is-digit-requires c κs = search needs
+
+returns : tie.Need-returns Inv-loop μ-loop
+returns c = search needs
+
+shared-slice-read-shifted : tie.Need-shared-slice-read-shifted Inv-loop μ-loop
+shared-slice-read-shifted c = search needs
+
+shifted-requires : tie.Need-shifted-requires Inv-loop μ-loop
+shifted-requires c κs = search needs
+
+add-i : tie.Need-add-i Inv-loop μ-loop
+add-i c = search needs
+
+loop-less : tie.Need-loop-less Inv-loop μ-loop
+loop-less c = search needs
+
+loop-again : tie.Need-loop-again Inv-loop μ-loop
+loop-again c = search needs
+
+returns-2 : tie.Need-returns-2 Inv-loop μ-loop
+returns-2 c = search needs
+
+pub digits-at-spec : {M : Type 1} → statement M
+digits-at-spec =
+    tie.close
+    (tie.spec
+    Inv-loop
+    μ-loop
+    loop-holds
+    shared-slice-read-is-digit
+    is-digit-requires
+    returns
+    shared-slice-read-shifted
+    shifted-requires
+    add-i
+    loop-less
+    loop-again
+    returns-2)
