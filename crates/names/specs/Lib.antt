@@ -1,0 +1,4 @@
+pub mod Told
+pub mod Determined
+pub mod Promises
+pub mod Kept

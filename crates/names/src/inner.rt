@@ -1,0 +1,207 @@
+// The work on a pool and a table that were tested before.
+use super::Answer;
+use super::Order;
+use super::compare;
+use rules::NAME_BYTES;
+use rules::NAMES;
+use rules::POOL_BYTES;
+use rules::Refusal;
+ghost use mathlib.Core.Path.{_≡_};
+ghost use mathlib.Core.Bool.{_&&_};
+ghost use mathlib.Core.List.{[], _++_};
+ghost use mathlib.Core.Option.{none};
+ghost use Prim.Native.Nat.{_≤_, _<_};
+ghost use lib.Dec.{leb, ltb};
+ghost use lib.ListN.{length, getD, drop};
+ghost use Rattle.rules.specs.Names.{tableOf, namesOf, numbersOf, numberOf, lengthsGood, distinct, tableGood, hasRoom, enterKnown, enterChecked};
+ghost use Rattle.laws.specs.NameTable.{startAt, endsOf, Laid, Good};
+ghost use Rattle.rules.specs.Base.{need};
+ghost use Rattle.names.specs.Told.{toldOrder, toldFound, entered};
+
+// What a search answers: a number, or nothing.
+pub enum Found {
+    At(u32),
+    Nothing,
+}
+
+fn wide(x: u32) -> usize
+    ensures { λ r. ⌜ r ≡ x ⌝ }
+{
+    x as usize
+}
+
+// How many names are held.
+pub fn count(table: &[u32]) -> u32
+    requires { ⌜ 257 ≤ length (now table) ⌝ }
+    ensures { λ r. ⌜ r ≡ getD (now (table .entry)) 0 0 ⌝ }
+{
+    table[0]
+}
+
+// Whether a name has this number.
+pub fn is_held(table: &[u32], i: u32) -> bool
+    requires { ⌜ 257 ≤ length (now table) ⌝ }
+    ensures { λ r. ⌜ r ≡ ltb i (getD (now (table .entry)) 0 0) ⌝ }
+{
+    i < table[0]
+}
+
+// Where the name with the number k starts: at the end of the one before.
+fn start_of(table: &[u32], k: usize) -> usize
+    requires { ⌜ k < length (now table) ⌝ }
+    ensures { λ r. ⌜ r ≡ startAt (now (table .entry)) k ⌝ }
+{
+    if k == 0 { 0 } else { wide(table[k]) }
+}
+
+// The name with the number k: that part of the pool itself.
+pub fn name_at<'a, 'b>(pool: &'a [u8], table: &'b [u32], k: usize) -> &'a [u8]
+    requires { ⌜ Laid (now pool) (now table) ⌝ }
+    requires { ⌜ k < getD (now table) 0 0 ⌝ }
+    ensures { λ r. ⌜ now r ≡ getD (namesOf (tableOf (now (pool .entry)) (now (table .entry)))) k [] ⌝ }
+{
+    let start = start_of(table, k);
+    let end = wide(table[k + 1]);
+    &pool[start..end]
+}
+
+// The order of two held numbers: that of their names.
+pub fn order(pool: &[u8], table: &[u32], i: u32, j: u32) -> Order
+    requires { ⌜ Good (now pool) (now table) ⌝ }
+    requires { ⌜ i < getD (now table) 0 0 ⌝ }
+    requires { ⌜ j < getD (now table) 0 0 ⌝ }
+    ensures { λ r. ⌜ toldOrder r ≡ numbersOf (tableOf (now (pool .entry)) (now (table .entry))) .order i j ⌝ }
+{
+    compare(name_at(pool, table, wide(i)), name_at(pool, table, wide(j)))
+}
+
+// Do the ends rise within the pool, each 1 to 48 bytes after the one before?
+fn lengths_good(table: &[u32]) -> bool
+    requires { ⌜ 257 ≤ length (now table) ⌝ }
+    requires { ⌜ getD (now table) 0 0 ≤ 256 ⌝ }
+    ensures { λ r. ⌜ r ≡ lengthsGood 0 (endsOf (now (table .entry))) ⌝ }
+{
+    let n = wide(table[0]);
+    let mut k = 0;
+    let mut at = 0;
+    while k < n {
+        let end = wide(table[k + 1]);
+        if end <= at {
+            return false;
+        }
+        if NAME_BYTES < end - at {
+            return false;
+        }
+        at = end;
+        k = k + 1;
+    }
+    at <= POOL_BYTES
+}
+
+// The number of a name among those from a number on: it is compared with each held name's part of the pool.
+pub fn search(pool: &[u8], table: &[u32], from: usize, name: &[u8]) -> Found
+    requires { ⌜ Laid (now pool) (now table) ⌝ }
+    requires { ⌜ from ≤ getD (now table) 0 0 ⌝ }
+    ensures { λ r. ⌜ toldFound r ≡ numberOf from (now (name .entry)) (drop from (namesOf (tableOf (now (pool .entry)) (now (table .entry))))) ⌝ }
+{
+    let n = wide(table[0]);
+    let mut k = from;
+    let mut start = start_of(table, from);
+    while k < n {
+        let end = wide(table[k + 1]);
+        match compare(name, &pool[start..end]) {
+            Order::Same => {
+                let i = k as u32;
+                return Found::At(i);
+            }
+            Order::Less | Order::More => {
+                start = end;
+                k = k + 1;
+            }
+        }
+    }
+    Found::Nothing
+}
+
+// Is no name held twice?
+fn all_distinct(pool: &[u8], table: &[u32]) -> bool
+    requires { ⌜ Laid (now pool) (now table) ⌝ }
+    ensures { λ r. ⌜ r ≡ distinct (namesOf (tableOf (now (pool .entry)) (now (table .entry)))) ⌝ }
+{
+    let n = wide(table[0]);
+    let mut k = 0;
+    while k < n {
+        match search(pool, table, k + 1, name_at(pool, table, k)) {
+            Found::At(_) => return false,
+            Found::Nothing => {
+                k = k + 1;
+            }
+        }
+    }
+    true
+}
+
+// Is the table well formed?
+pub fn is_good(pool: &[u8], table: &[u32]) -> bool
+    requires { ⌜ 8192 ≤ length (now pool) ⌝ }
+    requires { ⌜ 257 ≤ length (now table) ⌝ }
+    ensures { λ r. ⌜ r ≡ tableGood (tableOf (now (pool .entry)) (now (table .entry))) ⌝ }
+{
+    if NAMES < wide(table[0]) {
+        return false;
+    }
+    if lengths_good(table) {
+        all_distinct(pool, table)
+    } else {
+        false
+    }
+}
+
+// The bytes of src, at the front of dst.
+fn copy(dst: &mut [u8], src: &[u8])
+    requires { ⌜ length (now src) ≤ length (now dst) ⌝ }
+    ensures { λ _. ⌜ now (dst .exit) ≡ now (src .entry) ++ drop (length (now (src .entry))) (now (dst .entry)) ⌝ }
+{
+    let mut i = 0;
+    while i < src.len() {
+        dst[i] = src[i];
+        i = i + 1;
+    }
+}
+
+// A name that is not held: it is copied in at the first free pool byte and gets the next number, or is refused.
+fn enter_new(pool: &mut [u8], table: &mut [u32], name: &[u8]) -> Answer
+    requires { ⌜ Good (now pool) (now table) ⌝ }
+    ensures { λ r. ⌜ entered r (now (pool .exit)) (now (table .exit)) ≡ enterKnown none (hasRoom (tableOf (now (pool .entry)) (now (table .entry))) (now (name .entry))) (now (pool .entry)) (now (table .entry)) (now (name .entry)) ⌝ }
+{
+    let n = table[0];
+    let k = wide(n);
+    if NAMES <= k {
+        return Answer::Refused(Refusal::NoRoom); // no number is left
+    }
+    let free = start_of(table, k);
+    if POOL_BYTES - free < name.len() {
+        return Answer::Refused(Refusal::NoRoom); // too few bytes are left
+    }
+    copy(&mut pool[free..], name);
+    table[0] = n + 1;
+    table[k + 1] = (free + name.len()) as u32;
+    Answer::Number(n)
+}
+
+// A name is entered into a table that is well formed.
+pub fn enter_good(pool: &mut [u8], table: &mut [u32], name: &[u8]) -> Answer
+    requires { ⌜ Good (now pool) (now table) ⌝ }
+    ensures { λ r. ⌜ entered r (now (pool .exit)) (now (table .exit)) ≡ enterChecked (need (leb 1 (length (now (name .entry))) && leb (length (now (name .entry))) 48) 2) (now (pool .entry)) (now (table .entry)) (now (name .entry)) ⌝ }
+{
+    if name.len() == 0 {
+        return Answer::Refused(Refusal::NameLength);
+    }
+    if NAME_BYTES < name.len() {
+        return Answer::Refused(Refusal::NameLength);
+    }
+    match search(pool, table, 0, name) {
+        Found::At(i) => Answer::Number(i),
+        Found::Nothing => enter_new(pool, table, name),
+    }
+}
