@@ -1,0 +1,272 @@
+-- What is read at a place is held there. Assumes nothing.
+use mathlib.Core.Path.{_≡_, refl, sym, ap, subst, _∙_}
+use mathlib.Core.Bool.{Bool, true, false}
+use mathlib.Core.Option.{Option, none, some}
+use mathlib.Core.List.{List, [], _∷_, _++_, map}
+use Prim.Native.Nat.{ℕ, zero, suc, _+_, _*_, _/_, _≤_, _<_, max}
+use native.Mathlib.Nat.{add-zero}
+use native.Mathlib.Omega.{arith}
+use lib.ListN.{length, getD}
+use Rattle.rules.specs.Base.{all}
+use Rattle.rules.specs.Exponents.{frac}
+use Rattle.rules.specs.Trees as tree
+use Rattle.rules.specs.Trees.{Factor, _↑_, Product, Ty, opened, basic, dim, fn, struct, list, Tys, nil, cons, Fields, noFields, field, Con, equal, isDim, isScalar, hasField, Binding, _≔_, size, sizeTys, sizeFields, sizeCon, sizeBinding, depth, depthTys, depthFields, depthCon, depthBinding, count, countFields}
+use Rattle.rules.specs.Writing.{Rec, rec, twos, signed}
+use Rattle.rules.specs.Reading.{Reader, pass, give, unused, pick, next, factorTable, factorKinds, readFactors, readTys, readFields, fieldName, readDim, readFn, readStruct, readList, typeTable, typeKinds, readTy, readCon, conKinds, scalarKinds, readBinding, bindingKinds, readBound}
+use Rattle.laws.specs.Written.{Reads, nothing, given, then, Each, picked, Zeros, unsigned}
+use Rattle.laws.specs.Written as laws
+use Rattle.records.specs.Views.{plain, viewOf, recOf, from, viewAt}
+use Rattle.records.specs.Places.{_&_, First, first}
+use Rattle.records.specs.Holds.{viewOpen, viewAtom, viewBasic, Shows, HoldsFactor, HoldsFactors, HoldsProduct, Holds, HoldsTys, HoldsFields, HoldsCon, HoldsBinding, HoldsBound, HoldsScheme, HoldsBounds}
+use Rattle.records.specs.declared.View.{View}
+use Rattle.records.specs.declared.View.the-variants as view
+
+-- words of 32 bits
+pub record Words32 (s : List ℕ) : Type 0 where
+  pub word : (i : ℕ) → getD s i 0 < 4_294_967_296
+
+-- a part that was read from `at` on is held there, and nested at most d deep
+pub record FoundPart {A : Type 0} (holds : List ℕ → A → ℕ → Type 0) (long depths : A → ℕ) (s : List ℕ) (d at : ℕ) (a : A) (rest : List Rec) : Type 0 where
+  pub held : holds s a at
+  pub place : rest ≡ from s (at + long a)
+  pub deep : depths a ≤ d
+
+module _ (s : List ℕ) where
+  pub record FoundFactors (n at : ℕ) (p : Product ℕ) (rest : List Rec) : Type 0 where
+    pub held : HoldsFactors s p at
+    pub many : length p ≡ n
+    pub place : rest ≡ from s (at + n)
+
+  pub record Found (d at : ℕ) (t : Ty ℕ) (rest : List Rec) : Type 0 where
+    pub held : Holds s t at
+    pub place : rest ≡ from s (at + size t)
+    pub deep : depth t ≤ d
+
+  pub record FoundTys (d n at : ℕ) (ts : Tys ℕ) (rest : List Rec) : Type 0 where
+    pub held : HoldsTys s ts at
+    pub many : count ts ≡ n
+    pub place : rest ≡ from s (at + sizeTys ts)
+    pub deep : depthTys ts ≤ d
+
+  pub record FoundFields (d n at : ℕ) (fs : Fields ℕ) (rest : List Rec) : Type 0 where
+    pub held : HoldsFields s fs at
+    pub many : countFields fs ≡ n
+    pub place : rest ≡ from s (at + sizeFields fs)
+    pub deep : depthFields fs ≤ d
+
+  -- the record at a place, seen by its words
+  pub here : (at k a b c : ℕ) (rs : List Rec) {v : View} → from s at ≡ rec k a b c ∷ rs → viewOf (rec k a b c) ≡ v → Shows s at v × (rs ≡ from s (at + 1))
+  here at k a b c rs e q = let f = first s at (rec k a b c) rs e in (f .view ∙ q, f .rest)
+
+  module _ (w : Words32 s) where
+    -- the numerator's word of the record at a place
+    small : (at k a b c : ℕ) (rs : List Rec) → from s at ≡ rec k a b c ∷ rs → twos (signed b) ≡ b
+    small at k a b c rs e =
+        let f : rec _ _ (getD s (at * 4 + 2) 0) _ ≡ rec k a b c = first s at (rec k a b c) rs e .this in
+        let q : getD s (at * 4 + 2) 0 ≡ b = cc in
+        unsigned b (subst (λ (x : ℕ). x < 4_294_967_296) q (w .word (at * 4 + 2)))
+
+    factor-found : (at : ℕ) (l : List Rec) → from s at ≡ l → Reads (next factorKinds l) (λ f rest. HoldsFactor s f at × (rest ≡ from s (at + 1)))
+    unfolding viewOf plain all
+    factor-found at [] e = nothing
+    factor-found at (rec k a b c ∷ rs) e =
+        let x = small at k a b c rs e in
+        picked k rs (factorTable a b c) (
+        (λ q. let (u, v) = here at k a b c rs e (rw (q, x)) in given ((u, ap signed x), v))
+        & (λ q. let (u, v) = here at k a b c rs e (rw (q, x)) in given ((u, ap signed x), v))
+        & (λ q. let (u, v) = here at k a b c rs e (rw (q, x)) in given ((u, ap signed x), v))
+        & (λ q. let (u, v) = here at k a b c rs e (rw (q, x)) in given ((u, ap signed x), v))
+        & tt)
+
+    pub factors-found : (n at : ℕ) → Reads (readFactors n (from s at)) (FoundFactors n at)
+    unfolding readFactors HoldsFactors
+    factors-found zero at = given (record { held = tt; many = refl; place = rw (add-zero at) })
+    factors-found (suc n) at =
+        let q : at + 1 + n ≡ at + suc n = omega arith in
+        then (factor-found at (from s at) refl) (λ f rest i.
+        rw (i .1) (then (factors-found n (at + 1)) (λ p rest′ j.
+        given (record { held = (i .0, j .held); many = ap suc (j .many); place = rw (← q) (j .place) }))))
+
+    -- a reader of types that finds what is held
+    abbrev Finds : Reader (Ty ℕ) → ℕ → Type 0
+    Finds ty d = (at : ℕ) → Reads (ty (from s at)) (Found d at)
+
+    module _ (ty : Reader (Ty ℕ)) (d : ℕ) (r : Finds ty d) where
+      tys-finds : (n at : ℕ) → Reads (readTys ty n (from s at)) (FoundTys d n at)
+      unfolding readTys Holds sizeTys depthTys count
+      tys-finds zero at = given (record { held = tt; many = refl; place = rw (add-zero at); deep = omega arith })
+      tys-finds (suc n) at =
+          then (r at) (λ t rest i.
+          rw (i .place) (then (tys-finds n (at + size t)) (λ ts rest′ j.
+          let q : at + size t + sizeTys ts ≡ at + (size t + sizeTys ts) = omega arith in
+          given (record {
+            held = (i .held, j .held);
+            many = ap suc (j .many);
+            place = rw (← q) (j .place);
+            deep = omega (arith, i .deep, j .deep);
+          }))))
+
+      name-found : (at : ℕ) (l : List Rec) → from s at ≡ l → Reads (next fieldName l) (λ x rest. Shows s at (view.Field x) × (rest ≡ from s (at + 1)))
+      unfolding viewOf plain all
+      name-found at [] e = nothing
+      name-found at (rec k a b c ∷ rs) e =
+          picked k rs ((9, unused (b ∷ c ∷ []) (give a)) ∷ []) ((λ q. laws.plain (b ∷ c ∷ []) (give a) rs (λ z. given (here at k a b c rs e (rw (q, z .0, z .1 .0))))) & tt)
+
+      fields-finds : (n at : ℕ) → Reads (readFields ty n (from s at)) (FoundFields d n at)
+      unfolding readFields Holds sizeFields depthFields countFields
+      fields-finds zero at = given (record { held = tt; many = refl; place = rw (add-zero at); deep = omega arith })
+      fields-finds (suc n) at =
+          then (name-found at (from s at) refl) (λ x rest i.
+          rw (i .1) (then (r (at + 1)) (λ t rest′ j.
+          rw (j .place) (then (fields-finds n (at + 1 + size t)) (λ fs rest″ k.
+          let q : at + 1 + size t + sizeFields fs ≡ at + suc (size t + sizeFields fs) = omega arith in
+          given (record {
+            held = (i .0, j .held, k .held);
+            many = ap suc (k .many);
+            place = rw (← q) (k .place);
+            deep = omega (arith, j .deep, k .deep);
+          }))))))
+
+      fn-found : (at a : ℕ) → Shows s at (view.Function a) → Reads (readFn ty a (from s (at + 1))) (Found (suc d) at)
+      unfolding Holds size depth
+      fn-found at a h =
+          then (tys-finds a (at + 1)) (λ ps rest i.
+          rw (i .place) (then (r (at + 1 + sizeTys ps)) (λ t rest′ j.
+          let q : at + 1 + sizeTys ps + size t ≡ at + suc (sizeTys ps + size t) = omega arith in
+          given (record {
+            held = (rw (i .many) h, i .held, j .held);
+            place = rw (← q) (j .place);
+            deep = omega (arith, i .deep, j .deep);
+          }))))
+
+      struct-found : (at a b c : ℕ) → Shows s at (view.Struct a b c) → Reads (readStruct ty a b c (from s (at + 1))) (Found (suc d) at)
+      unfolding Holds size depth
+      struct-found at a b c h =
+          then (tys-finds b (at + 1)) (λ as′ rest i.
+          rw (i .place) (then (fields-finds c (at + 1 + sizeTys as′)) (λ fs rest′ j.
+          let q : at + 1 + sizeTys as′ + sizeFields fs ≡ at + suc (sizeTys as′ + sizeFields fs) = omega arith in
+          given (record {
+            held = (rw (i .many, j .many) h, i .held, j .held);
+            place = rw (← q) (j .place);
+            deep = omega (arith, i .deep, j .deep);
+          }))))
+
+      list-found : (at : ℕ) → Shows s at view.List → Reads (readList ty (from s (at + 1))) (Found (suc d) at)
+      unfolding Holds size depth
+      list-found at h =
+          then (r (at + 1)) (λ t rest i.
+          let q : at + 1 + size t ≡ at + suc (size t) = omega arith in
+          given (record { held = (h, i .held); place = rw (← q) (i .place); deep = omega (arith, i .deep) }))
+
+    dim-found : (d at a : ℕ) → Shows s at (view.Dim a) → Reads (readDim a (from s (at + 1))) (Found (suc d) at)
+    unfolding Holds HoldsProduct size depth
+    dim-found d at a h =
+        then (factors-found a (at + 1)) (λ p rest i.
+        let q : at + 1 + a ≡ at + suc a = omega arith in
+        given (record { held = (rw (i .many) h, i .held); place = rw (i .many, ← q) (i .place); deep = omega arith }))
+
+    leaf-found : (t : Ty ℕ) (d at : ℕ) (rs : List Rec) → Holds s t at → size t ≡ 1 → depth t ≡ 1 → rs ≡ from s (at + 1) → Reads (give t rs) (Found (suc d) at)
+    leaf-found t d at rs h e k q = given (record { held = h; place = rw e q; deep = omega arith })
+
+    first-found : (d at : ℕ) → Finds (readTy d) d → (l : List Rec) → from s at ≡ l → Reads (next (typeKinds (readTy d)) l) (Found (suc d) at)
+    unfolding viewOf plain all Holds size depth
+    first-found d at r [] e = nothing
+    first-found d at r (rec k a b c ∷ rs) e = picked k rs (typeTable (readTy d) a b c) (
+        (λ q. laws.plain (b ∷ c ∷ []) (give (opened (tree.var a))) rs (λ z. let (u, v) = here at k a b c rs e (rw (q, z .0, z .1 .0)) in leaf-found (opened (tree.var a)) d at rs u refl refl v))
+        & (λ q. laws.plain (b ∷ c ∷ []) (give (opened (tree.par a))) rs (λ z. let (u, v) = here at k a b c rs e (rw (q, z .0, z .1 .0)) in leaf-found (opened (tree.par a)) d at rs u refl refl v))
+        & (λ q. laws.plain (b ∷ c ∷ []) (give (opened (tree.quant a))) rs (λ z. let (u, v) = here at k a b c rs e (rw (q, z .0, z .1 .0)) in leaf-found (opened (tree.quant a)) d at rs u refl refl v))
+        & (λ q. laws.plain (b ∷ c ∷ []) (readDim a) rs (λ z. let (u, v) = here at k a b c rs e (rw (q, z .0, z .1 .0)) in rw v (dim-found d at a u)))
+        & (λ q. laws.plain (a ∷ b ∷ c ∷ []) (give (basic tree.boolean)) rs (λ z. let (u, v) = here at k a b c rs e (rw (q, z .0, z .1 .0, z .1 .1 .0)) in leaf-found (basic tree.boolean) d at rs u refl refl v))
+        & (λ q. laws.plain (a ∷ b ∷ c ∷ []) (give (basic tree.string)) rs (λ z. let (u, v) = here at k a b c rs e (rw (q, z .0, z .1 .0, z .1 .1 .0)) in leaf-found (basic tree.string) d at rs u refl refl v))
+        & (λ q. laws.plain (a ∷ b ∷ c ∷ []) (give (basic tree.datetime)) rs (λ z. let (u, v) = here at k a b c rs e (rw (q, z .0, z .1 .0, z .1 .1 .0)) in leaf-found (basic tree.datetime) d at rs u refl refl v))
+        & (λ q. laws.plain (b ∷ c ∷ []) (readFn (readTy d) a) rs (λ z. let (u, v) = here at k a b c rs e (rw (q, z .0, z .1 .0)) in rw v (fn-found (readTy d) d r at a u)))
+        & (λ q. let (u, v) = here at k a b c rs e (rw q) in rw v (struct-found (readTy d) d r at a b c u))
+        & (λ q. laws.plain (a ∷ b ∷ c ∷ []) (readList (readTy d)) rs (λ z. let (u, v) = here at k a b c rs e (rw (q, z .0, z .1 .0, z .1 .1 .0)) in rw v (list-found (readTy d) d r at u)))
+        & tt)
+
+    pub found : (d at : ℕ) → Reads (readTy d (from s at)) (Found d at)
+    unfolding readTy
+    found zero at = nothing
+    found (suc d) at = first-found d at (found d) (from s at) refl
+
+    abbrev pub FoundCon : ℕ → Con ℕ → List Rec → Type 0
+    FoundCon at c rest = FoundPart HoldsCon sizeCon depthCon s 64 at c rest
+
+    abbrev pub FoundBinding : ℕ → Binding ℕ → List Rec → Type 0
+    FoundBinding at b rest = FoundPart HoldsBinding sizeBinding depthBinding s 64 at b rest
+
+    -- two types after a record
+    two-found : {A : Type 0} (at : ℕ) (f : Ty ℕ → Ty ℕ → A) (P : A → List Rec → Type 0) → ((l r : Ty ℕ) (rest : List Rec) → Holds s l (at + 1) → Holds s r (at + 1 + size l) → max (depth l) (depth r) ≤ 64 → rest ≡ from s (at + suc (size l + size r)) → P (f l r) rest)
+        → Reads (pass (readTy 64 (from s (at + 1))) (λ l s′. pass (readTy 64 s′) (λ r. give (f l r)))) P
+    two-found at f P k =
+        then (found 64 (at + 1)) (λ l rest i.
+        rw (i .place) (then (found 64 (at + 1 + size l)) (λ r rest′ j.
+        let q : at + 1 + size l + size r ≡ at + suc (size l + size r) = omega arith in
+        given (k l r rest′ (i .held) (j .held) (omega (arith, i .deep, j .deep)) (rw (← q) (j .place))))))
+
+    -- one type after a record
+    one-found : {A : Type 0} (at : ℕ) (f : Ty ℕ → A) (P : A → List Rec → Type 0) → ((t : Ty ℕ) (rest : List Rec) → Holds s t (at + 1) → depth t ≤ 64 → rest ≡ from s (at + suc (size t)) → P (f t) rest)
+        → Reads (pass (readTy 64 (from s (at + 1))) (λ t. give (f t))) P
+    one-found at f P k =
+        then (found 64 (at + 1)) (λ t rest i.
+        let q : at + 1 + size t ≡ at + suc (size t) = omega arith in
+        given (k t rest (i .held) (i .deep) (rw (← q) (i .place))))
+
+    abbrev scalar : ℕ → Reader (Con ℕ)
+    scalar a = λ s. pass (readFactors a s) (λ p. give (isScalar p))
+
+    scalar-factors : (at a : ℕ) → Shows s at view.IsScalar → Shows s (at + 1) (view.Dim a) → Reads (scalar a (from s (at + 1 + 1))) (FoundCon at)
+    unfolding HoldsCon HoldsProduct sizeCon size depthCon
+    scalar-factors at a h u =
+        let n : at + 1 + 1 + a ≡ at + suc (suc a) = omega arith in
+        then (factors-found a (at + 1 + 1)) (λ p rest i.
+        given (record { held = (h, (rw (i .many) u, i .held)); place = rw (i .many, ← n) (i .place); deep = omega arith }))
+
+    scalar-found : (at : ℕ) (l : List Rec) → Shows s at view.IsScalar → from s (at + 1) ≡ l → Reads (next scalarKinds l) (FoundCon at)
+    unfolding viewOf plain all
+    scalar-found at [] h e = nothing
+    scalar-found at (rec k a b c ∷ rs) h e =
+        picked k rs ((3, unused (b ∷ c ∷ []) (scalar a)) ∷ []) (
+        (λ q. laws.plain (b ∷ c ∷ []) (scalar a) rs (λ z.
+        let (u, v) = here (at + 1) k a b c rs e (rw (q, z .0, z .1 .0)) in
+        rw v (scalar-factors at a h u)))
+        & tt)
+
+    abbrev two : (Ty ℕ → Ty ℕ → Con ℕ) → Reader (Con ℕ)
+    two f = λ s. pass (readTy 64 s) (λ l s′. pass (readTy 64 s′) (λ r. give (f l r)))
+
+    abbrev dimension : Reader (Con ℕ)
+    dimension = λ s. pass (readTy 64 s) (λ t. give (isDim t))
+
+    con-first : (at : ℕ) (l : List Rec) → from s at ≡ l → Reads (next (conKinds (readTy 64)) l) (FoundCon at)
+    unfolding viewOf plain all HoldsCon sizeCon depthCon
+    con-first at [] e = nothing
+    con-first at (rec k a b c ∷ rs) e = picked k rs ((20, unused (a ∷ b ∷ c ∷ []) (two equal)) ∷ (21, unused (a ∷ b ∷ c ∷ []) dimension) ∷ (22, unused (a ∷ b ∷ c ∷ []) (next scalarKinds)) ∷ (23, unused (b ∷ c ∷ []) (two (hasField a))) ∷ []) (
+        (λ q. laws.plain (a ∷ b ∷ c ∷ []) (two equal) rs (λ z. let (u, v) = here at k a b c rs e (rw (q, z .0, z .1 .0, z .1 .1 .0)) in
+        rw v (two-found at equal (FoundCon at) (λ l r rest x y i n. record { held = (u, x, y); place = n; deep = i }))))
+        & (λ q. laws.plain (a ∷ b ∷ c ∷ []) dimension rs (λ z. let (u, v) = here at k a b c rs e (rw (q, z .0, z .1 .0, z .1 .1 .0)) in
+        rw v (one-found at isDim (FoundCon at) (λ t rest x i n. record { held = (u, x); place = n; deep = i }))))
+        & (λ q. laws.plain (a ∷ b ∷ c ∷ []) (next scalarKinds) rs (λ z. let (u, v) = here at k a b c rs e (rw (q, z .0, z .1 .0, z .1 .1 .0)) in
+        scalar-found at rs u (sym v)))
+        & (λ q. laws.plain (b ∷ c ∷ []) (two (hasField a)) rs (λ z. let (u, v) = here at k a b c rs e (rw (q, z .0, z .1 .0)) in
+        rw v (two-found at (hasField a) (FoundCon at) (λ l r rest x y i n. record { held = (u, x, y); place = n; deep = i }))))
+        & tt)
+
+    pub con-found : (at : ℕ) → Reads (readCon (from s at)) (FoundCon at)
+    unfolding readCon
+    con-found at = con-first at (from s at) refl
+
+    abbrev bound : ℕ → Reader (Binding ℕ)
+    bound a = λ s. pass (readTy 64 s) (λ t. give (a ≔ t))
+
+    binding-first : (at : ℕ) (l : List Rec) → from s at ≡ l → Reads (next bindingKinds l) (FoundBinding at)
+    unfolding viewOf plain all HoldsBinding sizeBinding depthBinding
+    binding-first at [] e = nothing
+    binding-first at (rec k a b c ∷ rs) e = picked k rs ((24, unused (b ∷ c ∷ []) (bound a)) ∷ []) (
+        (λ q. laws.plain (b ∷ c ∷ []) (bound a) rs (λ z. let (u, v) = here at k a b c rs e (rw (q, z .0, z .1 .0)) in
+        rw v (one-found at (λ t. a ≔ t) (FoundBinding at) (λ t rest x i n. record { held = (u, x); place = n; deep = i }))))
+        & tt)
+
+    pub binding-found : (at : ℕ) → Reads (readBinding (from s at)) (FoundBinding at)
+    unfolding readBinding
+    binding-found at = binding-first at (from s at) refl

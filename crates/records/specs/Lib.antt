@@ -1,0 +1,15 @@
+pub mod Views
+pub mod Stores
+pub mod Buffers
+pub mod Places
+pub mod Holds
+pub mod ByView
+pub mod Held
+pub mod Parsed
+pub mod Found
+pub mod Good
+pub mod Moves
+pub mod Given
+pub mod Told
+pub mod Whole
+pub mod Schemes
