@@ -1,0 +1,12 @@
+pub mod Scans
+pub mod Marks
+pub mod Ends
+pub mod ScanLaws
+pub mod EndLaws
+pub mod MarkLaws
+pub mod SortMarks
+pub mod GoodOpens
+pub mod Runs
+pub mod Told
+pub mod Determined
+pub mod Answers
