@@ -1,0 +1,2 @@
+// Products taken from records, and written as records.
+pub mod inner;
