@@ -1,0 +1,344 @@
+-- Replacing in a constraint or a binding, arm by arm, and line after line. Assumes nothing.
+use mathlib.Core.Path.{_≡_, refl, sym, ap, subst, _∙_}
+use mathlib.Core.Bool.{false}
+use mathlib.Core.List.{List, [], _∷_, _++_, append-nil}
+use Prim.Native.Nat.{ℕ, suc, _+_, _*_, _/_, _≤_, _<_}
+use native.Mathlib.Nat.{add-zero}
+use native.Mathlib.Omega.{arith}
+use lib.ListN.{length}
+use lib.Seq.{sets}
+use Rattle.rules.specs.Base.{Got, got, refused, _>>=_, bounded, each, collect, sumOf}
+use Rattle.rules.specs.Names.{tableOf, isHeld}
+use Rattle.rules.specs.Replacing.{replaceProduct, replaceTy, replaceTys, replaceCon, replaceBinding}
+use Rattle.rules.specs.Trees.{Ty, Tys, nil, cons, Con, equal, isDim, isScalar, hasField, Binding, _≔_, size, sizeTys, sizeCon, sizeBinding, count}
+use Rattle.rules.specs.WellFormed.{goodTy, goodCon, goodBinding}
+use Rattle.rules.specs.Writing.{Rec, rec, words, writeProduct, writeTy, writeTys, writeCon, writeBinding}
+use Rattle.rules.specs.declared.Refusal.{Refusal}
+use Rattle.laws.specs.GoodProducts.{good-product}
+use Rattle.laws.specs.Size.{size-con, size-binding}
+use Rattle.laws.specs.Value.{Gives, gives, next}
+use Rattle.products.specs.Told.{Tree}
+use Rattle.products.specs.Held.{law}
+use Rattle.records.specs.Views.{recOf, viewAt}
+use Rattle.records.specs.Places.{seen-in}
+use Rattle.records.specs.Holds.{Holds, HoldsProduct, HoldsCon, HoldsBinding}
+use Rattle.replacing.specs.Runs.{HoldsAll}
+use Rattle.records.specs.ByView.{con-in, binding-in}
+use Rattle.records.specs.declared.View.{View}
+use Rattle.records.specs.declared.View.the-variants as view
+use Rattle.replacing.specs.Well as well
+use Rattle.replacing.specs.Well.{GoodTy, GoodCon, GoodBinding, HeldDim, Lent}
+use Rattle.replacing.specs.InProducts.{product-kept}
+use Rattle.replacing.specs.Writes.{writes}
+use Rattle.replacing.specs.Left.{Left, LeftOf, Room, types, sizeRow, writeRow, HeldRow, look, Replaced, RowReplaced, ProductReplaced, sizeProduct}
+use Rattle.replacing.specs.LineRules.{Line, con, binding, sizeLine, writeLine, HoldsLine, GoodLine, HeldLine, HeldLines, ScalarHeld, replaceLine, ScalarReplaced, LineReplaced, LinesReplaced}
+use Rattle.replacing.specs.declared.inner.walk.Went.{Went}
+use Rattle.replacing.specs.declared.inner.walk.Went.the-variants.{To, Stop}
+use Rattle.replacing.proofs.Others.{Tagged, untagged}
+use Rattle.replacing.proofs.Lefts.{went, stopped, left-made, left-stop, left-back, left-on, room-on}
+use Rattle.replacing.proofs.Sizes.{both, ty-size}
+use Rattle.replacing.proofs.Steps.{kept, AType, ARow}
+
+-- ══ Where a line begins ══
+
+-- what is left to show of a line, once its record was seen to say v
+module _ (s : List ℕ) where
+  abbrev pub Arms : (Line → Type 0) → ℕ → View → Type 0
+  Arms P at (view.Opened o) = Unit {0}
+  Arms P at (view.Basic k) = Unit {0}
+  Arms P at (view.Dim n) = Unit {0}
+  Arms P at (view.Function n) = Unit {0}
+  Arms P at (view.Struct x n m) = Unit {0}
+  Arms P at view.List = Unit {0}
+  Arms P at (view.Field x) = Unit {0}
+  Arms P at (view.Factor f n d) = Unit {0}
+  Arms P at view.Equal = (l r : Ty ℕ) → Holds s l (at + 1) → Holds s r (at + 1 + size l) → P (con (equal l r))
+  Arms P at view.IsDim = (t : Ty ℕ) → Holds s t (at + 1) → P (con (isDim t))
+  Arms P at view.IsScalar = (p : Tree) → HoldsProduct s p (at + 1) → P (con (isScalar p))
+  Arms P at (view.HasField x) = (l r : Ty ℕ) → Holds s l (at + 1) → Holds s r (at + 1 + size l) → P (con (hasField x l r))
+  Arms P at (view.Binding x) = (t : Ty ℕ) → Holds s t (at + 1) → P (binding (x ≔ t))
+  Arms P at (view.Bound o) = Unit {0}
+  Arms P at (view.Scheme n) = Unit {0}
+  Arms P at view.Concrete = Unit {0}
+  Arms P at view.Bad = Unit {0}
+
+  -- each arm of a match on the view gets its line
+  pub line-by-view : (P : Line → Type 0) (x : Line) (at : ℕ) {v : View} → HoldsLine s x at → viewAt s at ≡ v → Arms P at v → P x
+  unfolding HoldsCon HoldsBinding
+  line-by-view P (con (equal l r)) at h e a = subst (Arms P at) (sym e ∙ h .0) a l r (h .1) (h .2)
+  line-by-view P (con (isDim t)) at h e a = subst (Arms P at) (sym e ∙ h .0) a t (h .1)
+  line-by-view P (con (isScalar p)) at h e a = subst (Arms P at) (sym e ∙ h .0) a p (h .1)
+  line-by-view P (con (hasField x l r)) at h e a = subst (Arms P at) (sym e ∙ h .0) a l r (h .1) (h .2)
+  line-by-view P (binding (x ≔ t)) at h e a = subst (Arms P at) (sym e ∙ h .0) a t (h .1)
+
+  abbrev pub unlined : List ℕ
+  unlined = 0 ∷ 1 ∷ 2 ∷ 3 ∷ 4 ∷ 5 ∷ 6 ∷ 7 ∷ 13 ∷ 14 ∷ 15 ∷ 16 ∷ []
+
+  pub no-line : (x : Line) (at : ℕ) {v : View} → HoldsLine s x at → v ≡ viewAt s at → Tagged unlined v → ⊥
+  unfolding HoldsCon HoldsBinding
+  no-line (con (equal l r)) at {v} h e k = untagged v unlined 8 tt k view.Equal refl (e ∙ h .0)
+  no-line (con (isDim t)) at {v} h e k = untagged v unlined 9 tt k view.IsDim refl (e ∙ h .0)
+  no-line (con (isScalar p)) at {v} h e k = untagged v unlined 10 tt k view.IsScalar refl (e ∙ h .0)
+  no-line (con (hasField x l r)) at {v} h e k = untagged v unlined 11 tt k (view.HasField x) refl (e ∙ h .0)
+  no-line (binding (x ≔ t)) at {v} h e k = untagged v unlined 12 tt k (view.Binding x) refl (e ∙ h .0)
+
+  pub line-in : (x : Line) (at : ℕ) → HoldsLine s x at → at + sizeLine x ≤ length s / 4
+  line-in (con c) at h = con-in s c at h
+  line-in (binding x) at h = binding-in s x at h
+
+  -- the place of a line is within
+  pub line-here : (x : Line) (at : ℕ) → HoldsLine s x at → at < length s / 4
+  unfolding HoldsCon HoldsBinding
+  line-here (con (equal l r)) at h = seen-in s at (h .0) tt
+  line-here (con (isDim t)) at h = seen-in s at (h .0) tt
+  line-here (con (isScalar p)) at h = seen-in s at (h .0) tt
+  line-here (con (hasField x l r)) at h = seen-in s at (h .0) tt
+  line-here (binding (x ≔ t)) at h = seen-in s at (h .0) tt
+
+-- ══ Two types behind a head ══
+
+module _ (f : Ty ℕ → Ty ℕ → Line) (w : Rec) (hm : (l r : Ty ℕ) → sizeLine (f l r) ≡ suc (size l + size r)) (hw : (l r : Ty ℕ) → writeLine (f l r) ≡ w ∷ (writeTy l ++ writeTy r))
+    (d d₁ d′ : List ℕ) (next out : ℕ) (q : Went) where
+  abbrev Pair : Got (Ty ℕ) → Got (Ty ℕ) → Got (Tys ℕ)
+  Pair R S = R >>= λ l. (S >>= λ r. got nil >>= λ ts. got (cons r ts)) >>= λ ts. got (cons l ts)
+
+  two-of : (R S : Got (Ty ℕ)) → d₁ ≡ sets d (out * 4) (words (w ∷ [])) → LeftOf sizeTys writeTys d₁ d′ next (out + 1) q (Pair R S) → LeftOf sizeLine writeLine d d′ next out q (R >>= λ l. S >>= λ r. got (f l r))
+  unfolding sizeTys writeTys
+  two-of (refused k) S p h = h
+  two-of (got l) (refused k) p h = h
+  two-of (got l) (got r) p h =
+      let g : out + 1 + (size l + (size r + 0)) ≡ out + sizeLine (f l r) = omega (arith, hm l r) in
+      let z : writeTy l ++ (writeTy r ++ []) ≡ writeTy l ++ writeTy r = ap (writeTy l ++_) (append-nil (writeTy r)) in
+      (h .0 ∙ ap (To next) g, writes d d₁ d′ (w ∷ []) (writeTy l ++ (writeTy r ++ [])) 1 out refl p (h .1) ∙ ap (λ (x : List Rec). sets d (out * 4) (words (w ∷ x))) z ∙ ap (λ (x : List Rec). sets d (out * 4) (words x)) (sym (hw l r)))
+
+  two : (R S : Got (Ty ℕ)) → d₁ ≡ sets d (out * 4) (words (w ∷ [])) → Left sizeTys writeTys d₁ d′ next (out + 1) q (Pair R S) → Left sizeLine writeLine d d′ next out q (R >>= λ l. S >>= λ r. got (f l r))
+  two R S p h = record { says = two-of R S p (h .says) }
+
+assoc : {A : Type 0} (R S : Got (Ty ℕ)) (f : Ty ℕ → Ty ℕ → A) (g : A → Line) → (R >>= λ l. S >>= λ r. got (g (f l r))) ≡ ((R >>= λ l. S >>= λ r. got (f l r)) >>= λ c. got (g c))
+assoc (refused k) S f g = refl
+assoc (got l) (refused k) f g = refl
+assoc (got l) (got r) f g = refl
+
+assoc-one : {A B : Type 0} (R : Got A) (f : A → B) (g : B → Line) → (R >>= λ l. got (g (f l))) ≡ ((R >>= λ l. got (f l)) >>= λ c. got (g c))
+assoc-one (refused k) f g = refl
+assoc-one (got l) f g = refl
+
+module _ (pool table s v : List ℕ) (b e : ℕ) where
+  abbrev Ty′ : List (Binding ℕ) → Ty ℕ → Got (Ty ℕ)
+  Ty′ bs t = replaceTy (well.names pool table) bounded (look pool table bs) t
+
+  equal-good : (l r : Ty ℕ) → GoodCon pool table (equal l r) → GoodTy pool table l × GoodTy pool table r
+  unfolding goodCon
+  equal-good l r h = both pool table (goodTy _ _ _ l) (goodTy _ _ _ r) h
+
+  field-good : (x : ℕ) (l r : Ty ℕ) → GoodCon pool table (hasField x l r) → GoodTy pool table l × GoodTy pool table r
+  unfolding goodCon
+  field-good x l r h =
+      let a = both pool table _ (goodTy _ _ _ r) h in
+      (both pool table (isHeld (tableOf pool table) x) (goodTy _ _ _ l) (a .0) .1, a .1)
+
+  dim-good : (t : Ty ℕ) → GoodCon pool table (isDim t) → GoodTy pool table t
+  unfolding goodCon
+  dim-good t h = h
+
+  scalar-good : (p : Tree) → GoodCon pool table (isScalar p) → well.GoodProduct pool table p
+  unfolding goodCon
+  scalar-good p h = h
+
+  binding-good : (x : ℕ) (t : Ty ℕ) → GoodBinding pool table (x ≔ t) → GoodTy pool table t
+  unfolding goodBinding
+  binding-good x t h = both pool table (isHeld (tableOf pool table) x) (goodTy _ _ _ t) h .1
+
+  -- two types as a row
+  pair-row : (l r : Ty ℕ) (at : ℕ) → Holds s l at → Holds s r (at + size l) → GoodTy pool table l → GoodTy pool table r → HeldRow pool table s (types (cons l (cons r nil))) at 2 false
+  unfolding Holds goodTy count
+  pair-row l r at hl hr gl gr = record { held = (hl, (hr, tt)); good = rw (gl, gr); many = refl; kind = refl }
+
+  module _ (at out : ℕ) where
+    abbrev Leaves : List (Binding ℕ) → List ℕ → List ℕ → Went → Line → Type 0
+    Leaves bs d d′ r x = GoodLine pool table x → Left sizeLine writeLine d d′ (at + sizeLine x) out r (replaceLine pool table bs x)
+
+    pair-line : (f : Ty ℕ → Ty ℕ → Con ℕ) (w : Rec) (hm : (l r : Ty ℕ) → sizeCon (f l r) ≡ suc (size l + size r)) (hw : (l r : Ty ℕ) → writeCon (f l r) ≡ w ∷ (writeTy l ++ writeTy r))
+        (d d₁ d′ : List ℕ) (q : Went) (bs : List (Binding ℕ)) (l r : Ty ℕ) → d₁ ≡ sets d (out * 4) (words (w ∷ [])) → HeldRow pool table s (types (cons l (cons r nil))) (at + 1) 2 false → Lent pool table v b e bs
+        → RowReplaced pool table s v b e d₁ d′ (at + 1) 2 false (out + 1) q → Left sizeLine writeLine d d′ (at + suc (size l + size r)) out q ((Ty′ bs l >>= λ l′. Ty′ bs r >>= λ r′. got (f l′ r′)) >>= λ c. got (con c))
+    unfolding replaceTy sizeTys
+    pair-line f w hm hw d d₁ d′ q bs l r p h lent k =
+        let R = left-back sizeTys writeTys sizeRow writeRow types (λ a. refl) (λ a. refl) d₁ d′ (at + 1 + (size l + (size r + 0))) (out + 1) q (replaceTys (well.names pool table) bounded (look pool table bs) (cons l (cons r nil))) (k (types (cons l (cons r nil))) bs h lent) in
+        let i : at + 1 + (size l + (size r + 0)) ≡ at + suc (size l + size r) = omega arith in
+        let R′ : Left sizeTys writeTys d₁ d′ (at + suc (size l + size r)) (out + 1) q (replaceTys (well.names pool table) bounded (look pool table bs) (cons l (cons r nil))) = rw i at R in
+        rw (← assoc (Ty′ bs l) (Ty′ bs r) f con) (two (λ x y. con (f x y)) w hm hw d d₁ d′ (at + suc (size l + size r)) out q (Ty′ bs l) (Ty′ bs r) p R′)
+
+    pub equal-here : {d d₁ d′ : List ℕ} {w : View} {q : Went} → w ≡ viewAt s at → w ≡ view.Equal → d₁ ≡ sets d (out * 4) (words (recOf w ∷ []))
+        → RowReplaced pool table s v b e d₁ d′ (at + 1) 2 false (out + 1) q → LineReplaced pool table s v b e d d′ at out q
+    unfolding sizeCon writeCon replaceCon
+    equal-here {d} {d₁} {d′} {w} {q} p z y k x bs h lent =
+        line-by-view s (Leaves bs d d′ q) x at (h .held) (sym p ∙ z) (λ l r hl hr g.
+        let gs = equal-good l r g in
+        pair-line equal (rec 20 0 0 0) (λ i j. refl) (λ i j. refl) d d₁ d′ q bs l r (kept d d₁ out w view.Equal y z) (pair-row l r (at + 1) hl hr (gs .0) (gs .1)) lent k) (h .good)
+
+    pub has-here : {d d₁ d′ : List ℕ} {w : View} {n : ℕ} {q : Went} → w ≡ viewAt s at → w ≡ view.HasField n → d₁ ≡ sets d (out * 4) (words (recOf w ∷ []))
+        → RowReplaced pool table s v b e d₁ d′ (at + 1) 2 false (out + 1) q → LineReplaced pool table s v b e d d′ at out q
+    unfolding sizeCon writeCon replaceCon
+    has-here {d} {d₁} {d′} {w} {n} {q} p z y k x bs h lent =
+        line-by-view s (Leaves bs d d′ q) x at (h .held) (sym p ∙ z) (λ l r hl hr g.
+        let gs = field-good n l r g in
+        pair-line (hasField n) (rec 23 n 0 0) (λ i j. refl) (λ i j. refl) d d₁ d′ q bs l r (kept d d₁ out w (view.HasField n) y z) (pair-row l r (at + 1) hl hr (gs .0) (gs .1)) lent k) (h .good)
+
+    pub is-here : {d d₁ d′ : List ℕ} {w : View} {q : Went} → w ≡ viewAt s at → w ≡ view.IsDim → d₁ ≡ sets d (out * 4) (words (recOf w ∷ []))
+        → Replaced pool table s v b e d₁ d′ (at + 1) (out + 1) q → LineReplaced pool table s v b e d d′ at out q
+    unfolding sizeCon writeCon replaceCon
+    is-here {d} {d₁} {d′} {w} {q} p z y k x bs h lent =
+        line-by-view s (Leaves bs d d′ q) x at (h .held) (sym p ∙ z) (λ t ht g.
+        let i : at + 1 + size t ≡ at + suc (size t) = omega arith in
+        rw (← assoc-one (Ty′ bs t) isDim con)
+        (left-on size writeTy sizeLine writeLine (λ a. con (isDim a)) 1 (rec 21 0 0 0 ∷ []) refl (Ty′ bs t) (λ a u. omega arith) (λ a u. refl) d d₁ d′ (at + suc (size t)) out q (kept d d₁ out w view.IsDim y z)
+        (rw i at (k t bs (record { held = ht; good = dim-good t g }) lent)))) (h .good)
+
+    pub binding-here : {d d₁ d′ : List ℕ} {w : View} {n : ℕ} {q : Went} → w ≡ viewAt s at → w ≡ view.Binding n → d₁ ≡ sets d (out * 4) (words (recOf w ∷ []))
+        → Replaced pool table s v b e d₁ d′ (at + 1) (out + 1) q → LineReplaced pool table s v b e d d′ at out q
+    unfolding sizeBinding writeBinding replaceBinding
+    binding-here {d} {d₁} {d′} {w} {n} {q} p z y k x bs h lent =
+        line-by-view s (Leaves bs d d′ q) x at (h .held) (sym p ∙ z) (λ t ht g.
+        let i : at + 1 + size t ≡ at + suc (size t) = omega arith in
+        rw (← assoc-one (Ty′ bs t) (n ≔_) binding)
+        (left-on size writeTy sizeLine writeLine (λ a. binding (n ≔ a)) 1 (rec 24 n 0 0 ∷ []) refl (Ty′ bs t) (λ a u. omega arith) (λ a u. refl) d d₁ d′ (at + suc (size t)) out q (kept d d₁ out w (view.Binding n) y z)
+        (rw i at (k t bs (record { held = ht; good = binding-good n t g }) lent)))) (h .good)
+
+    pub scalar-here : {d d₁ d′ : List ℕ} {w : View} {q : Went} → w ≡ viewAt s at → w ≡ view.IsScalar → d₁ ≡ sets d (out * 4) (words (recOf w ∷ []))
+        → ScalarReplaced pool table s v b e d₁ d′ (at + 1) (out + 1) q → LineReplaced pool table s v b e d d′ at out q
+    unfolding sizeCon size writeCon replaceCon
+    scalar-here {d} {d₁} {d′} {w} {q} p z y k x bs h lent =
+        line-by-view s (Leaves bs d d′ q) x at (h .held) (sym p ∙ z) (λ a ha g.
+        let i : at + 1 + suc (length a) ≡ at + suc (suc (length a)) = omega arith in
+        let R = replaceProduct (well.names pool table) bounded (look pool table bs) a in
+        rw (← assoc-one R isScalar con)
+        (left-on sizeProduct writeProduct sizeLine writeLine (λ a. con (isScalar a)) 1 (rec 22 0 0 0 ∷ []) refl R (λ a u. omega arith) (λ a u. refl) d d₁ d′ (at + suc (suc (length a))) out q (kept d d₁ out w view.IsScalar y z)
+        (rw i at (k a bs (record { held = ha; good = scalar-good a g }) lent)))) (h .good)
+
+    pub unlined-here : {d d′ : List ℕ} {w : View} {q : Went} → w ≡ viewAt s at → Tagged (unlined s) w → LineReplaced pool table s v b e d d′ at out q
+    unlined-here p k x bs h lent = absurd (no-line s x at (h .held) p k)
+
+    -- ══ What the calls ask ══
+
+    module _ (room : Room s at out) (x : Line) (h : HeldLine pool table s x at) {w : View} (p : w ≡ viewAt s at) where
+      pub room-next : Room s (at + 1) (out + 1)
+      room-next = let i = line-here s x at (h .held) in room-on 1 1 room refl refl (omega arith) (omega arith)
+
+      pub equal-asks : w ≡ view.Equal → ARow pool table s v b e (at + 1) 2 false
+      equal-asks z = line-by-view s (λ x. GoodLine pool table x → ARow pool table s v b e (at + 1) 2 false) x at (h .held) (sym p ∙ z) (λ l r hl hr g. let gs = equal-good l r g in (types (cons l (cons r nil)), pair-row l r (at + 1) hl hr (gs .0) (gs .1))) (h .good)
+
+      pub has-asks : {n : ℕ} → w ≡ view.HasField n → ARow pool table s v b e (at + 1) 2 false
+      has-asks {n} z = line-by-view s (λ x. GoodLine pool table x → ARow pool table s v b e (at + 1) 2 false) x at (h .held) (sym p ∙ z) (λ l r hl hr g. let gs = field-good n l r g in (types (cons l (cons r nil)), pair-row l r (at + 1) hl hr (gs .0) (gs .1))) (h .good)
+
+      pub is-asks : w ≡ view.IsDim → AType pool table s v b e (at + 1)
+      is-asks z = line-by-view s (λ x. GoodLine pool table x → AType pool table s v b e (at + 1)) x at (h .held) (sym p ∙ z) (λ t ht g. (t, record { held = ht; good = dim-good t g })) (h .good)
+
+      pub binding-asks : {n : ℕ} → w ≡ view.Binding n → AType pool table s v b e (at + 1)
+      binding-asks {n} z = line-by-view s (λ x. GoodLine pool table x → AType pool table s v b e (at + 1)) x at (h .held) (sym p ∙ z) (λ t ht g. (t, record { held = ht; good = binding-good n t g })) (h .good)
+
+      pub scalar-asks : w ≡ view.IsScalar → ((a : Tree) × ScalarHeld pool table s a (at + 1))
+      scalar-asks z = line-by-view s (λ x. GoodLine pool table x → ((a : Tree) × ScalarHeld pool table s a (at + 1))) x at (h .held) (sym p ∙ z) (λ a ha g. (a, record { held = ha; good = scalar-good a g })) (h .good)
+
+    -- the product of an equal-scalar
+    pub scalar-dim : (a : Tree) → ScalarHeld pool table s a at → {w : View} {n : ℕ} → w ≡ viewAt s at → w ≡ view.Dim n → HeldDim pool table s a (at + 1) n
+    unfolding HoldsProduct
+    scalar-dim a h {n = n} p z =
+        let q : view.Dim (length a) ≡ view.Dim n = sym (h .held .0) ∙ sym p ∙ z in
+        let k : length a ≡ n = cc in
+        record { held = h .held .1; many = k; good = h .good }
+
+    pub scalar-in : (a : Tree) → ScalarHeld pool table s a at → at < length s / 4
+    unfolding HoldsProduct
+    scalar-in a h = seen-in s at (h .held .0) tt
+
+    pub scalar-done : {d d′ : List ℕ} {w : View} {n : ℕ} {q : Went} → w ≡ viewAt s at → w ≡ view.Dim n
+        → ((p : Tree) (bs : List (Binding ℕ)) → HeldDim pool table s p (at + 1) n → Lent pool table v b e bs → ProductReplaced pool table bs d d′ (at + 1 + n) out q p) → ScalarReplaced pool table s v b e d d′ at out q
+    scalar-done {n = n} p z k a bs h l =
+        let y = scalar-dim a h p z in
+        let i : at + 1 + n ≡ at + suc (length a) = omega (arith, y .many) in
+        rw i at (k a bs y l)
+
+    abbrev pub undimmed : List ℕ
+    undimmed = 0 ∷ 1 ∷ 3 ∷ 4 ∷ 5 ∷ 6 ∷ 7 ∷ 8 ∷ 9 ∷ 10 ∷ 11 ∷ 12 ∷ 13 ∷ 14 ∷ 15 ∷ 16 ∷ []
+
+    pub scalar-other : {d d′ : List ℕ} {w : View} {q : Went} → w ≡ viewAt s at → Tagged undimmed w → ScalarReplaced pool table s v b e d d′ at out q
+    unfolding HoldsProduct
+    scalar-other {w = w} p k a bs h l = absurd (untagged w undimmed 2 tt k (view.Dim (length a)) refl (p ∙ h .held .0))
+
+  -- ══ Line after line ══
+
+  -- what becomes of a line is at most 2,048 times as long
+  module _ (bs : List (Binding ℕ)) (l : Lent pool table v b e bs) where
+    con-size : (c : Con ℕ) → GoodCon pool table c → Gives (replaceCon (well.names pool table) bounded (look pool table bs) c) (λ d. sizeCon d ≤ sizeCon c * 2048)
+    unfolding replaceCon sizeCon size
+    con-size (equal x y) g = let h = equal-good x y g in next (ty-size pool table bs l x (h .0)) (λ p i. next (ty-size pool table bs l y (h .1)) (λ q j. gives (omega arith)))
+    con-size (isDim t) g = next (ty-size pool table bs l t (dim-good t g)) (λ p i. gives (omega arith))
+    con-size (isScalar a) g =
+        next (product-kept pool table a bs (scalar-good a g) (l .good)) (λ q h.
+        gives (omega (arith, good-product (well.names pool table) (law pool table) (isHeld (tableOf pool table)) 4_294_967_296 q h .few)))
+    con-size (hasField n x y) g = let h = field-good n x y g in next (ty-size pool table bs l x (h .0)) (λ p i. next (ty-size pool table bs l y (h .1)) (λ q j. gives (omega arith)))
+
+    binding-size : (x : Binding ℕ) → GoodBinding pool table x → Gives (replaceBinding (well.names pool table) bounded (look pool table bs) x) (λ y. sizeBinding y ≤ sizeBinding x * 2048)
+    unfolding replaceBinding sizeBinding
+    binding-size (n ≔ t) g = next (ty-size pool table bs l t (binding-good n t g)) (λ p i. gives (omega arith))
+
+    pub line-size : (x : Line) → GoodLine pool table x → Gives (replaceLine pool table bs x) (λ y. sizeLine y ≤ sizeLine x * 2048)
+    line-size (con c) g = next (con-size c g) (λ d i. gives i)
+    line-size (binding x) g = next (binding-size x g) (λ y i. gives i)
+
+  line-length : (x : Line) → length (writeLine x) ≡ sizeLine x
+  line-length (con c) = size-con c
+  line-length (binding x) = size-binding x
+
+  line-pos : (x : Line) → 1 ≤ sizeLine x
+  unfolding sizeCon sizeBinding
+  line-pos (con (equal l r)) = omega arith
+  line-pos (con (isDim t)) = omega arith
+  line-pos (con (isScalar p)) = omega arith
+  line-pos (con (hasField n l r)) = omega arith
+  line-pos (binding (x ≔ t)) = omega arith
+
+  module _ (at end out : ℕ) where
+    pub lines-done : {d : List ℕ} → end ≤ at → LinesReplaced pool table s v b e d d at end out (To at out)
+    unfolding each collect words
+    lines-done z [] bs h l = left-made [] refl (omega (arith, h .ends)) (sym (add-zero out)) refl
+    lines-done z (x ∷ xs) bs h l = absurd (omega (arith, h .ends, line-pos x))
+
+    pub lines-here : {d d₁ d′ : List ℕ} {q o : ℕ} {r₁ r : Went} → (end ≤ at → ⊥) → LineReplaced pool table s v b e d d₁ at out r₁ → r₁ ≡ To q o → LinesReplaced pool table s v b e d₁ d′ q end o r → LinesReplaced pool table s v b e d d′ at end out r
+    unfolding each collect HoldsAll
+    lines-here nz k g j [] bs h l = absurd (nz (omega (arith, h .ends)))
+    lines-here {d} {d₁} {d′} {q} {o} {r = r} nz k g j (x ∷ xs) bs h l =
+        let m = went (k x bs (record { held = h .held .0; good = h .good .0 }) l) g in
+        let y : Line = m .value in
+        let R = j xs bs (record { held = subst (HoldsAll HoldsLine sizeLine s xs) (sym (m .read)) (h .held .1); good = h .good .1; ends = omega (arith, h .ends, m .read) }) l in
+        let R′ : Left (sumOf sizeLine) (collect writeLine) d₁ d′ end (out + sizeLine y) r (each (replaceLine pool table bs) xs) = rw (m .counted) at R in
+        rw (m .is)
+        (left-on (sumOf sizeLine) (collect writeLine) (sumOf sizeLine) (collect writeLine) (y ∷_) (sizeLine y) (writeLine y) (line-length y) (each (replaceLine pool table bs) xs) (λ a u. refl) (λ a u. refl) d d₁ d′ end out r (m .buffer) R′)
+
+    pub lines-stop : {d d₁ : List ℕ} {i : Refusal} {r₁ : Went} → (end ≤ at → ⊥) → LineReplaced pool table s v b e d d₁ at out r₁ → r₁ ≡ Stop i → LinesReplaced pool table s v b e d d₁ at end out (Stop i)
+    unfolding each HoldsAll
+    lines-stop nz k g [] bs h l = absurd (nz (omega (arith, h .ends)))
+    lines-stop nz k g (x ∷ xs) bs h l = left-stop (rw (stopped (k x bs (record { held = h .held .0; good = h .good .0 }) l) g))
+
+    pub lines-asks : (xs : List Line) → HeldLines pool table s xs at end → (end ≤ at → ⊥) → ((x : Line) × HeldLine pool table s x at)
+    unfolding HoldsAll
+    lines-asks [] h nz = absurd (nz (omega (arith, h .ends)))
+    lines-asks (x ∷ xs) h nz = (x, record { held = h .held .0; good = h .good .0 })
+
+    pub lines-next : (room : Room s at out) (bs : List (Binding ℕ)) (l : Lent pool table v b e bs) (xs : List Line) → HeldLines pool table s xs at end → (end ≤ at → ⊥) → {d d₁ : List ℕ} {q o : ℕ} {r₁ : Went} → LineReplaced pool table s v b e d d₁ at out r₁ → r₁ ≡ To q o
+        → ((ys : List Line) × HeldLines pool table s ys q end) × (at < q) × (q ≤ end) × Room s q o
+    unfolding HoldsAll
+    lines-next room bs l [] h nz k g = absurd (nz (omega (arith, h .ends)))
+    lines-next room bs l (x ∷ xs) h nz k g =
+        let m = went (k x bs (record { held = h .held .0; good = h .good .0 }) l) g in
+        let i = line-in s x at (h .held .0) in
+        let z = line-size bs l x (h .good .0) .holds (m .value) (m .is) in
+        let p = line-pos x in (
+          (xs, record { held = subst (HoldsAll HoldsLine sizeLine s xs) (sym (m .read)) (h .held .1); good = h .good .1; ends = omega (arith, h .ends, m .read) }),
+          omega (arith, m .read),
+          omega (arith, m .read, h .ends),
+          room-on (sizeLine x) (sizeLine (m .value)) room (m .read) (m .counted) i z,
+        )
+
+pub before : {m n : ℕ} → m < n → n ≤ m → ⊥
+before h k = omega arith

@@ -1,0 +1,152 @@
+-- What is written of an open name, of a product that was made and of a dimension. Assumes nothing.
+use mathlib.Core.Path.{_≡_, refl, sym, ap, _∙_}
+use mathlib.Core.List.{List, [], _∷_}
+use mathlib.Core.Option.{Option, none, some, Option·getD}
+use Prim.Native.Nat.{ℕ, _+_, _*_, _-_, _≤_}
+use native.Mathlib.Omega.{arith}
+use lib.ListN.{length}
+use lib.Seq.{sets, slice}
+use Rattle.rules.specs.Base.{Got, bounded}
+use Rattle.rules.specs.Names.{Bytes, numbered, tableOf, isHeld}
+use Rattle.rules.specs.Products.{single}
+use Rattle.rules.specs.Replacing.{bindings, replaceProduct, replaceDim}
+use Rattle.rules.specs.Trees as tree
+use Rattle.rules.specs.Trees.{Ty, opened, dim, Binding, size}
+use Rattle.rules.specs.Writing.{words, writeProduct, writeTy}
+use Rattle.rules.specs.declared.Refusal.{Refusal}
+use Rattle.laws.specs.Value.{Gives}
+use Rattle.products.specs.Told.{Tree, given, told, answer, productOf}
+use Rattle.products.specs.Held.{Sound, well-sound, law}
+use Rattle.products.specs.Places.{length-product}
+use Rattle.products.specs.declared.Product.{Product}
+use Rattle.products.specs.declared.Tried.{Tried}
+use Rattle.names.specs.declared.Checked.the-variants.{Good as Well′, Refused as Because}
+use Rattle.records.specs.Views.{recOf}
+use Rattle.records.specs.Holds.{openOf, HoldsFactors}
+use Rattle.records.specs.ByView.{ends-in}
+use Rattle.records.specs.Held.{held-words}
+use Rattle.records.specs.declared.Open as names
+use Rattle.records.specs.declared.View.the-variants as view
+use Rattle.replacing.specs.Runs.{Run, LookedUp, found, looked-short}
+use Rattle.replacing.specs.Well as well
+use Rattle.replacing.specs.Well.{Whole, HeldDim, Lent}
+use Rattle.replacing.specs.InProducts.{done, taken, told-stop, told-value, product-kept}
+use Rattle.replacing.specs.Alone.{toldAlone}
+use Rattle.replacing.specs.declared.inner.factors.Alone.{Alone}
+use Rattle.replacing.specs.declared.inner.factors.Alone.the-variants.{Of, Not}
+use Rattle.laws.specs.GoodProducts.{good-product}
+use Rattle.rules.specs.Values.{productValue}
+use Rattle.replacing.specs.Left.{OpenReplaced, becomes, Ready, ProductPut, ProductReplaced, DimReplaced, sizeProduct, look}
+use Rattle.replacing.specs.declared.inner.bound.Found.{Found}
+use Rattle.replacing.specs.declared.inner.bound.Found.the-variants.{At}
+use Rattle.replacing.specs.declared.inner.walk.Went.{Went}
+use Rattle.replacing.specs.declared.inner.walk.Went.the-variants.{To, Stop}
+use Rattle.replacing.proofs.Lefts.{left-made, left-stop, left-as}
+
+-- ══ What was found, copied ══
+
+module _ (v : List ℕ) (b e : ℕ) (short : e ≤ b + 2048) where
+  pub record Copied (o : Option (Ty ℕ)) (i j : ℕ) : Type 0 where
+    pub type : Ty ℕ
+    pub is : o ≡ some type
+    pub order : i ≤ j
+    pub inside : j * 4 ≤ length v
+    pub long : j - i ≡ size type
+    pub few : j - i ≤ 2048
+    pub holds : slice (i * 4) (j * 4) v ≡ words (writeTy type)
+
+  pub copied : (bs : List (Binding ℕ)) (names : List Bytes) (o : tree.Open ℕ) {r : Found} {i j : ℕ} → Run v b e bs → LookedUp v (bindings (numbered names) bs o) r → r ≡ At i j → Copied (bindings (numbered names) bs o) i j
+  copied bs names o {r} {i} {j} run h q =
+      let f = found (bindings (numbered names) bs o) h q in
+      let n = looked-short (numbered names) bs o (f .type) (f .is) in
+      let k = ends-in v (f .type) i (f .held) in
+      record {
+        type = f .type;
+        is = f .is;
+        order = omega (arith, f .ends);
+        inside = omega (arith, f .ends);
+        long = omega (arith, f .ends);
+        few = omega (arith, f .ends, run .past);
+        holds = ap (λ (k : ℕ). slice (i * 4) (k * 4) v) (f .ends) ∙ held-words v (f .type) i (f .held);
+      }
+
+-- ══ An open name ══
+
+module _ (names : List Bytes) (bs : List (Binding ℕ)) (o : tree.Open ℕ) (d d′ : List ℕ) (out : ℕ) where
+  pub open-bound : {v : List ℕ} {b e i j : ℕ} {short : e ≤ b + 2048} → Copied v b e short (bindings (numbered names) bs o) i j → d′ ≡ sets d (out * 4) (slice (i * 4) (j * 4) v) → OpenReplaced names bs o d d′ out (j - i)
+  open-bound c h =
+      let q : becomes names bs o ≡ c .type = ap (λ (m : Option (Ty ℕ)). Option·getD m (opened o)) (c .is) in
+      record { many = c .long ∙ ap size (sym q); short = c .few; buffer = h ∙ ap (sets d (out * 4)) (c .holds ∙ ap (λ (t : Ty ℕ). words (writeTy t)) (sym q)) }
+
+  pub open-kept : bindings (numbered names) bs o ≡ none → d′ ≡ sets d (out * 4) (words (writeTy (opened o))) → OpenReplaced names bs o d d′ out 1
+  unfolding size
+  open-kept e h =
+      let q : becomes names bs o ≡ opened o = ap (λ (m : Option (Ty ℕ)). Option·getD m (opened o)) e in
+      record { many = ap size (sym q); short = omega arith; buffer = h ∙ ap (λ (t : Ty ℕ). sets d (out * 4) (words (writeTy t))) (sym q) }
+
+-- the record of an open name
+pub open-rec : (o : names.Open) → recOf (view.Opened o) ∷ [] ≡ writeTy (opened (openOf o))
+unfolding writeTy
+open-rec (names.the-variants.Var x) = refl
+open-rec (names.the-variants.Quant i) = refl
+open-rec (names.the-variants.Par x) = refl
+
+-- ══ A product that was made ══
+
+module _ (t : Tried) where
+  pub ready-product : (m : Got Tree) → Ready t m → t .checked ≡ Well′ → Sound (t .product)
+  ready-product m h e = let x = done t m (h .is) e in h .sound (x .tree) (x .is) .0
+
+  pub put-made : {d d′ : List ℕ} {next out : ℕ} (m : Got Tree) → Ready t m → t .checked ≡ Well′ → d′ ≡ sets d (out * 4) (words (writeProduct (productOf (t .product)))) → ProductPut d d′ next out (To next (out + 1 + t .product .len)) m
+  put-made {d} {d′} {next} {out} m h e b =
+      let x = done t m (h .is) e in
+      let s = h .sound (x .tree) (x .is) in
+      let l = length-product (t .product) (s .0 .long) (s .0 .few) in
+      left-made (x .tree) (x .is) refl (omega (arith, ap length (s .1), l)) (b ∙ ap (λ (p : Tree). sets d (out * 4) (words (writeProduct p))) (sym (s .1)))
+
+  pub put-stop : {d d′ : List ℕ} {next out : ℕ} (m : Got Tree) (k : Refusal) → Ready t m → t .checked ≡ Because k → ProductPut d d′ next out (Stop k) m
+  put-stop m k h e = left-stop (told-stop t m k (h .is) e)
+
+module _ (pool table : List ℕ) where
+  -- a product that is well formed may be written
+  pub ready : (t : Tried) (m : Got Tree) → told t ≡ answer m → Gives m (well.GoodProduct pool table) → Ready t m
+  ready t m h g = record {
+    is = h;
+    sound = λ p e.
+        let x = taken pool table (t .product) p (record { is = told-value t p (h ∙ ap answer e); good = g .holds p e }) in
+        (well-sound (x .well), x .is);
+  }
+
+  pub replaced-ready : (t : Tried) (a : Tree) (bs : List (Binding ℕ)) {v : List ℕ} {b e : ℕ} {P : Product} → Whole pool table P a → Lent pool table v b e bs → told t ≡ answer (replaceProduct (well.names pool table) bounded (look pool table bs) a) → Ready t (replaceProduct (well.names pool table) bounded (look pool table bs) a)
+  replaced-ready t a bs w l h = ready t _ h (product-kept pool table a bs (w .good) (l .good))
+
+  -- a product that was loaded
+  pub loaded : {s : List ℕ} {at n : ℕ} {P : Product} (p : Tree) → HeldDim pool table s p at n → ((q : Tree) → HoldsFactors s q at → length q ≡ n → given P ≡ productValue q) → Whole pool table P p
+  loaded p h f = record { is = f p (h .held) (h .many); good = h .good }
+
+  pub few : {s : List ℕ} {at n : ℕ} (p : Tree) → HeldDim pool table s p at n → n ≤ 64
+  few p h = omega (arith, h .many, good-product (well.names pool table) (law pool table) (isHeld (tableOf pool table)) 4_294_967_296 p (h .good) .few)
+
+  -- ══ A dimension ══
+
+  module _ (P : Product) (p : Tree) (bs : List (Binding ℕ)) (w : Whole pool table P p) {a : Alone} (e : toldAlone a ≡ single (productOf P)) (d d′ : List ℕ) (next out : ℕ) where
+    alone-is : {o : names.Open} → a ≡ Of o → single p ≡ some (openOf o)
+    alone-is q = ap single (taken pool table P p w .is) ∙ sym e ∙ ap toldAlone q
+
+    pub dim-bound : {o : names.Open} {v : List ℕ} {b f i j : ℕ} {short : f ≤ b + 2048} → a ≡ Of o → Copied v b f short (look pool table bs (openOf o)) i j → d′ ≡ sets d (out * 4) (slice (i * 4) (j * 4) v)
+        → DimReplaced pool table bs d d′ next out (To next (out + (j - i))) p
+    unfolding replaceDim
+    dim-bound q c h =
+        left-made (c .type) (rw (alone-is q, c .is)) refl (ap (out +_) (c .long)) (h ∙ ap (sets d (out * 4)) (c .holds))
+
+    pub dim-kept : {o : names.Open} {n : ℕ} → a ≡ Of o → look pool table bs (openOf o) ≡ none → length p ≡ n → d′ ≡ sets d (out * 4) (words (writeProduct (productOf P)))
+        → DimReplaced pool table bs d d′ next out (To next (out + 1 + n)) p
+    unfolding replaceDim size writeTy
+    dim-kept q k l h =
+        left-made (dim p) (rw (alone-is q, k)) refl (omega (arith, l)) (h ∙ ap (λ (x : Tree). sets d (out * 4) (words (writeProduct x))) (sym (taken pool table P p w .is)))
+
+    pub dim-replaced : {r : Went} → a ≡ Not → ProductReplaced pool table bs d d′ next out r p → DimReplaced pool table bs d d′ next out r p
+    unfolding replaceDim size writeTy
+    dim-replaced {r} q h =
+        let z : single p ≡ none = ap single (taken pool table P p w .is) ∙ sym e ∙ ap toldAlone q in
+        rw z (left-as sizeProduct writeProduct size writeTy dim (λ x. refl) (λ x. refl) d d′ next out r (replaceProduct (well.names pool table) bounded (look pool table bs) p) h)

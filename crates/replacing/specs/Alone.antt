@@ -1,0 +1,73 @@
+-- A product that is one variable to the power 1. Assumes nothing.
+use mathlib.Core.Path.{_≡_, refl, sym, ap, _∙_}
+use mathlib.Core.Bool.{Bool, true, false}
+use mathlib.Core.List.{[], _∷_}
+use mathlib.Core.Option.{Option, none, some}
+use Prim.Native.Nat.{ℕ}
+use native.Mathlib.Omega.{arith}
+use lib.ListN.{length, drop}
+use Rattle.rules.specs.Base.{isYes}
+use Rattle.rules.specs.Exponents.{Exp-dec, one}
+use Rattle.rules.specs.Products.{single}
+use Rattle.rules.specs.Trees as trees
+use Rattle.rules.specs.Trees.{_↑_}
+use Rattle.rules.specs.Values.{atomIn}
+use Rattle.exponents.specs.Answers.{expOf}
+use Rattle.products.specs.Told.{treeOf, productOf, factorAt}
+use Rattle.products.specs.Kinds.{Kind, variable, parameter, dimension, quantified}
+use Rattle.products.specs.Held.{Sound}
+use Rattle.products.specs.Places.{length-product, at-place, at-end}
+use Rattle.products.specs.declared.Factor.{Factor}
+use Rattle.products.specs.declared.Product.{Product}
+use Rattle.records.specs.Holds.{openOf}
+use Rattle.replacing.specs.declared.inner.factors.Alone.{Alone}
+use Rattle.replacing.specs.declared.inner.factors.Alone.the-variants.{Of, Not}
+
+abbrev pub toldAlone : Alone → Option (trees.Open ℕ)
+toldAlone (Of o) = some (openOf o)
+toldAlone Not = none
+
+module _ (f : Factor) where
+  module _ (b : Bool) (e : b ≡ isYes (Exp-dec (expOf (f .exp)) one)) where
+    pub alone-var : b ≡ true → f .kind ≡ 11 → some (trees.var (f .name)) ≡ single (treeOf f ∷ [])
+    unfolding single atomIn
+    alone-var t k = rw (k, ← e, t)
+
+    pub alone-quant : b ≡ true → f .kind ≡ 15 → some (trees.quant (f .name)) ≡ single (treeOf f ∷ [])
+    unfolding single atomIn
+    alone-quant t k = rw (k, ← e, t)
+
+    pub alone-not : Kind (f .kind) → b ≡ false → none ≡ single (treeOf f ∷ [])
+    unfolding single atomIn
+    alone-not k t = go k refl
+      where
+        go : {j : ℕ} → Kind j → f .kind ≡ j → none ≡ single (treeOf f ∷ [])
+        go variable i = rw (i, ← e, t)
+        go parameter i = rw i
+        go dimension i = rw i
+        go quantified i = rw (i, ← e, t)
+
+  pub alone-other : Kind (f .kind) → (f .kind ≡ 11 → ⊥) → (f .kind ≡ 15 → ⊥) → none ≡ single (treeOf f ∷ [])
+  unfolding single atomIn
+  alone-other k a b = go k refl
+    where
+      go : {j : ℕ} → Kind j → f .kind ≡ j → none ≡ single (treeOf f ∷ [])
+      go variable i = absurd (a i)
+      go parameter i = rw i
+      go dimension i = rw i
+      go quantified i = absurd (b i)
+
+module _ (p : Product) (s : Sound p) where
+  -- a product of one factor
+  pub one-factor : p .len ≡ 1 → productOf p ≡ treeOf (factorAt p 0) ∷ []
+  one-factor e = at-place p (s .long) (s .few) 0 (omega arith) ∙ ap (λ (l : trees.Product ℕ). treeOf (factorAt p 0) ∷ l) (ap (λ (k : ℕ). drop k (productOf p)) (sym e) ∙ at-end p (s .long) (s .few))
+
+  -- and of another count
+  pub not-single : (p .len ≡ 1 → ⊥) → none ≡ single (productOf p)
+  unfolding single
+  not-single f = go (productOf p) (length-product p (s .long) (s .few))
+    where
+      go : (t : trees.Product ℕ) → length t ≡ p .len → none ≡ single t
+      go [] e = refl
+      go (a ↑ x ∷ []) e = absurd (f (sym e))
+      go (a ↑ x ∷ g ∷ t) e = refl

@@ -1,0 +1,11 @@
+pub mod Runs
+pub mod Alone
+pub mod Writes
+pub mod Well
+pub mod InProducts
+pub mod Left
+pub mod LineRules
+pub mod LineLaws
+pub mod Weaker
+pub mod Given
+pub mod Written

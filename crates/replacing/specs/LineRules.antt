@@ -1,0 +1,71 @@
+-- Lines: constraints and bindings, one after another, and what replacing in them leaves. Assumes nothing: these are definitions.
+use mathlib.Core.Path.{_≡_}
+use mathlib.Core.List.{List, [], _∷_}
+use Prim.Native.Nat.{ℕ, _+_}
+use Rattle.rules.specs.Base.{Got, got, _>>=_, bounded, each, collect, sumOf}
+use Rattle.rules.specs.Replacing.{replaceProduct, replaceCon, replaceBinding}
+use Rattle.rules.specs.Trees.{Con, Binding, sizeCon, sizeBinding}
+use Rattle.rules.specs.Writing.{Rec, writeProduct, writeCon, writeBinding}
+use Rattle.products.specs.Told.{Tree}
+use Rattle.records.specs.Holds.{HoldsProduct, HoldsCon, HoldsBinding}
+use Rattle.replacing.specs.Runs.{HoldsAll}
+use Rattle.replacing.specs.declared.inner.walk.Went.{Went}
+use Rattle.replacing.specs.Well.{names, GoodProduct, GoodCon, GoodBinding, Lent}
+use Rattle.replacing.specs.Left.{Left, look, sizeProduct}
+
+-- a constraint or a binding
+pub data Line : Type 0 where
+  con : Con ℕ → Line
+  binding : Binding ℕ → Line
+
+abbrev pub sizeLine : Line → ℕ
+sizeLine (con c) = sizeCon c
+sizeLine (binding x) = sizeBinding x
+
+abbrev pub writeLine : Line → List Rec
+writeLine (con c) = writeCon c
+writeLine (binding x) = writeBinding x
+
+abbrev pub HoldsLine : List ℕ → Line → ℕ → Type 0
+HoldsLine s (con c) at = HoldsCon s c at
+HoldsLine s (binding x) at = HoldsBinding s x at
+
+module _ (pool table : List ℕ) where
+  abbrev pub GoodLine : Line → Type 0
+  GoodLine (con c) = GoodCon pool table c
+  GoodLine (binding x) = GoodBinding pool table x
+
+  pub record HeldLine (s : List ℕ) (x : Line) (at : ℕ) : Type 0 where
+    pub held : HoldsLine s x at
+    pub good : GoodLine x
+
+  abbrev pub EachGood : List Line → Type 0
+  EachGood [] = Unit {0}
+  EachGood (x ∷ xs) = GoodLine x × EachGood xs
+
+  -- the lines from a place up to an end
+  pub record HeldLines (s : List ℕ) (xs : List Line) (at end : ℕ) : Type 0 where
+    pub held : HoldsAll HoldsLine sizeLine s xs at
+    pub good : EachGood xs
+    pub ends : end ≡ at + sumOf sizeLine xs
+
+  pub record ScalarHeld (s : List ℕ) (p : Tree) (at : ℕ) : Type 0 where
+    pub held : HoldsProduct s p at
+    pub good : GoodProduct pool table p
+
+  -- the rules for a constraint and for a binding
+  abbrev pub replaceLine : List (Binding ℕ) → Line → Got Line
+  replaceLine bs (con c) = replaceCon (names pool table) bounded (look pool table bs) c >>= λ d. got (con d)
+  replaceLine bs (binding x) = replaceBinding (names pool table) bounded (look pool table bs) x >>= λ y. got (binding y)
+
+  abbrev pub ScalarReplaced : List ℕ → List ℕ → ℕ → ℕ → List ℕ → List ℕ → ℕ → ℕ → Went → Type 0
+  ScalarReplaced s v b e d d′ at out r =
+      (p : Tree) (bs : List (Binding ℕ)) → ScalarHeld s p at → Lent pool table v b e bs → Left sizeProduct writeProduct d d′ (at + sizeProduct p) out r (replaceProduct (names pool table) bounded (look pool table bs) p)
+
+  abbrev pub LineReplaced : List ℕ → List ℕ → ℕ → ℕ → List ℕ → List ℕ → ℕ → ℕ → Went → Type 0
+  LineReplaced s v b e d d′ at out r =
+      (x : Line) (bs : List (Binding ℕ)) → HeldLine s x at → Lent pool table v b e bs → Left sizeLine writeLine d d′ (at + sizeLine x) out r (replaceLine bs x)
+
+  abbrev pub LinesReplaced : List ℕ → List ℕ → ℕ → ℕ → List ℕ → List ℕ → ℕ → ℕ → ℕ → Went → Type 0
+  LinesReplaced s v b e d d′ at end out r =
+      (xs : List Line) (bs : List (Binding ℕ)) → HeldLines s xs at end → Lent pool table v b e bs → Left (sumOf sizeLine) (collect writeLine) d d′ end out r (each (replaceLine bs) xs)

@@ -1,0 +1,177 @@
+-- A run of bindings in a part of a list of words, and what a variable is bound to there. Assumes nothing.
+use mathlib.Core.Path.{_≡_, refl, sym, ap, subst, _∙_}
+use mathlib.Core.Bool.{Bool, true, false}
+use mathlib.Core.List.{List, [], _∷_}
+use mathlib.Core.Option.{Option, none, some}
+use Prim.Native.Nat.{ℕ, suc, _+_, _≤_, _<_, _/_}
+use native.Mathlib.Decide.{ℕ-discrete}
+use native.Mathlib.Omega.{arith}
+use lib.Dec.{eqb}
+use lib.ListN.{length}
+use borrow.Author.Tests.{eq-eqb, ne-eqb}
+use Rattle.rules.specs.Base.{sumOf, isYes}
+use Rattle.rules.specs.Names.{Bytes, numbered}
+use Rattle.rules.specs.Trees.{Open, var, quant, par, Names, Ty, Binding, _≔_, size, sizeBinding}
+use Rattle.rules.specs.Replacing.{find, bindings}
+use Rattle.records.specs.Views.{viewAt}
+use Rattle.records.specs.Holds.{Holds, HoldsBinding}
+use Rattle.records.specs.ByView.{ends-in}
+use Rattle.records.specs.declared.View.{View}
+use Rattle.records.specs.declared.View.the-variants as view
+use Rattle.replacing.specs.declared.inner.bound.Found.{Found}
+use Rattle.replacing.specs.declared.inner.bound.Found.the-variants.{At, Nothing}
+
+-- one after another, each as long as `long` says
+unfoldable pub HoldsAll : {A : Type 0} → (List ℕ → A → ℕ → Type 0) → (A → ℕ) → List ℕ → List A → ℕ → Type 0
+HoldsAll one long s [] at = Unit {0}
+HoldsAll one long s (a ∷ as′) at = one s a at × HoldsAll one long s as′ (at + long a)
+
+-- v holds the bindings bs from b up to e
+pub record Run (v : List ℕ) (b e : ℕ) (bs : List (Binding ℕ)) : Type 0 where
+  pub held : HoldsAll HoldsBinding sizeBinding v bs b
+  pub past : e ≡ b + sumOf sizeBinding bs
+
+-- where the type stands that was found
+pub record Bound (v : List ℕ) (t : Ty ℕ) (r : Found) : Type 0 where
+  pub place : ℕ
+  pub is : r ≡ At place (place + size t)
+  pub held : Holds v t place
+
+abbrev pub LookedUp : List ℕ → Option (Ty ℕ) → Found → Type 0
+LookedUp v none r = r ≡ Nothing
+LookedUp v (some t) r = Bound v t r
+
+-- what is at the places that were found
+pub record FoundAt (v : List ℕ) (o : Option (Ty ℕ)) (i j : ℕ) : Type 0 where
+  pub type : Ty ℕ
+  pub is : o ≡ some type
+  pub held : Holds v type i
+  pub ends : j ≡ i + size type
+
+pub found : {v : List ℕ} (o : Option (Ty ℕ)) {r : Found} {i j : ℕ} → LookedUp v o r → r ≡ At i j → FoundAt v o i j
+found none h e = absurd (let z : _≡_ {A = ℕ} 0 1 = cc in omega arith)
+found {v} (some t) {r} {i} {j} h e =
+    let q : At (h .place) (h .place + size t) ≡ At i j = sym (h .is) ∙ e in
+    let p : h .place ≡ i = cc in
+    let k : h .place + size t ≡ j = cc in
+    record { type = t; is = refl; held = subst (Holds v t) p (h .held); ends = omega arith }
+
+pub not-found : (v : List ℕ) (o : Option (Ty ℕ)) {r : Found} → LookedUp v o r → r ≡ Nothing → o ≡ none
+not-found v none h e = refl
+not-found v (some t) h e = absurd (let q : At (h .place) (h .place + size t) ≡ Nothing = sym (h .is) ∙ e in let z : _≡_ {A = ℕ} 0 1 = cc in omega arith)
+
+module _ (v : List ℕ) where
+  -- the first binding of a run that isn't empty
+  pub record First (b e : ℕ) (bs : List (Binding ℕ)) : Type 0 where
+    pub name : ℕ
+    pub type : Ty ℕ
+    pub rest : List (Binding ℕ)
+    pub is : bs ≡ name ≔ type ∷ rest
+    pub shows : viewAt v b ≡ view.Binding name
+    pub held : Holds v type (b + 1)
+    pub run : Run v (b + 1 + size type) e rest
+    pub within : b + 1 + size type ≤ length v / 4
+
+  pub run-first : (b e : ℕ) (bs : List (Binding ℕ)) → Run v b e bs → b < e → First b e bs
+  unfolding HoldsAll HoldsBinding sizeBinding
+  run-first b e [] r lt = absurd (omega (arith, r .past))
+  run-first b e (x ≔ t ∷ bs) r lt =
+      let q : b + suc (size t) ≡ b + 1 + size t = omega arith in
+      record {
+        name = x;
+        type = t;
+        rest = bs;
+        is = refl;
+        shows = r .held .0 .0;
+        held = r .held .0 .1;
+        run = record { held = rw q at (r .held .1); past = omega (arith, r .past) };
+        within = ends-in v t (b + 1) (r .held .0 .1);
+      }
+
+  pub run-none : (b e : ℕ) (bs : List (Binding ℕ)) → Run v b e bs → e ≤ b → bs ≡ []
+  unfolding sizeBinding
+  run-none b e [] r le = refl
+  run-none b e (x ≔ t ∷ bs) r le = absurd (omega (arith, r .past))
+
+  pub run-order : (b e : ℕ) (bs : List (Binding ℕ)) → Run v b e bs → b ≤ e
+  run-order b e bs r = omega (arith, r .past)
+
+  -- a place that binds x, or another
+  module _ (names : List Bytes) (b e x : ℕ) (bs : List (Binding ℕ)) (f : First b e bs) where
+    picks : (d : Dec (x ≡ f .name)) → isYes d ≡ eqb x (f .name)
+    picks (yes p) = sym (eq-eqb x (f .name) p)
+    picks (no n) = sym (ne-eqb x (f .name) n)
+
+    pub find-here : eqb x (f .name) ≡ true → find (numbered names) bs x ≡ some (f .type)
+    unfolding find numbered
+    find-here h = rw (f .is, find, picks (ℕ-discrete x (f .name)), h)
+
+    pub find-on : eqb x (f .name) ≡ false → find (numbered names) bs x ≡ find (numbered names) (f .rest) x
+    unfolding find numbered
+    find-on h = rw (f .is, find, picks (ℕ-discrete x (f .name)), h)
+
+  -- what is left of a search: the bindings from i on, and no binding of x before
+  pub record Rest (x i e : ℕ) (bs : List (Binding ℕ)) : Type 0 where
+    pub rest : List (Binding ℕ)
+    pub run : Run v i e rest
+    pub same : (names : List Bytes) → find (numbered names) bs x ≡ find (numbered names) rest x
+
+  module _ {x i e : ℕ} {bs : List (Binding ℕ)} (r : Rest x i e bs) where
+    pub rest-first : i < e → First i e (r .rest)
+    rest-first lt = run-first i e (r .rest) (r .run) lt
+
+    -- where its type is said to end
+    abbrev Ended : ℕ → Type 0
+    Ended q = (t : Ty ℕ) → Holds v t (i + 1) → q ≡ i + 1 + size t
+
+    -- what the test of its name says
+    abbrev Named : Bool → Type 0
+    Named b = (y : ℕ) → viewAt v i ≡ view.Binding y → b ≡ eqb x y
+
+    pub rest-here : {q : ℕ} {b : Bool} → i < e → Ended q → Named b → b ≡ true → (names : List Bytes) → LookedUp v (find (numbered names) bs x) (At (i + 1) q)
+    rest-here {q} {b} lt h n t names =
+        let f = rest-first lt in
+        let k : find (numbered names) bs x ≡ some (f .type) = r .same names ∙ find-here names i e x (r .rest) f (sym (n (f .name) (f .shows)) ∙ t) in
+        subst (λ (o : Option (Ty ℕ)). LookedUp v o (At (i + 1) q)) (sym k) (record { place = i + 1; is = ap (At (i + 1)) (h (f .type) (f .held)); held = f .held })
+
+    pub rest-next : {q : ℕ} {b : Bool} → i < e → Ended q → Named b → b ≡ false → Rest x q e bs
+    rest-next {q} {b} lt h n t =
+        let f = rest-first lt in
+        record {
+          rest = f .rest;
+          run = subst (λ (k : ℕ). Run v k e (f .rest)) (sym (h (f .type) (f .held))) (f .run);
+          same = λ names. r .same names ∙ find-on names i e x (r .rest) f (sym (n (f .name) (f .shows)) ∙ t);
+        }
+
+    pub rest-further : {q : ℕ} → i < e → Ended q → (i < q) × (q ≤ e)
+    rest-further {q} lt h =
+        let f = rest-first lt in
+        let p = h (f .type) (f .held) in
+        (omega arith, omega (arith, run-order (i + 1 + size (f .type)) e (f .rest) (f .run)))
+
+    pub rest-none : e ≤ i → (names : List Bytes) → LookedUp v (find (numbered names) bs x) Nothing
+    unfolding find
+    rest-none le names =
+        let k : find (numbered names) bs x ≡ none = r .same names ∙ ap (λ (l : List (Binding ℕ)). find (numbered names) l x) (run-none i e (r .rest) (r .run) le) in
+        subst (λ (o : Option (Ty ℕ)). LookedUp v o Nothing) (sym k) refl
+
+-- what is found is shorter than the run
+pub found-short : (ν : Names ℕ) (bs : List (Binding ℕ)) (x : ℕ) (t : Ty ℕ) → find ν bs x ≡ some t → suc (size t) ≤ sumOf sizeBinding bs
+unfolding find sizeBinding
+found-short ν [] x t e = absurd (let z : _≡_ {A = ℕ} 0 1 = cc in omega arith)
+found-short ν (y ≔ u ∷ bs) x t e = go (isYes (ν .same x y)) refl (found-short ν bs x t)
+  where
+    go : (b : Bool) → isYes (ν .same x y) ≡ b → (find ν bs x ≡ some t → suc (size t) ≤ sumOf sizeBinding bs) → suc (size t) ≤ sumOf sizeBinding (y ≔ u ∷ bs)
+    go true q ih =
+        let z : some u ≡ some t = rw (find, q) at e in
+        let k : u ≡ t = cc in
+        omega (arith, ap size k)
+    go false q ih =
+        let z : find ν bs x ≡ some t = rw (find, q) at e in
+        omega (arith, ih z)
+
+pub looked-short : (ν : Names ℕ) (bs : List (Binding ℕ)) (o : Open ℕ) (t : Ty ℕ) → bindings ν bs o ≡ some t → suc (size t) ≤ sumOf sizeBinding bs
+unfolding bindings
+looked-short ν bs (var x) t e = found-short ν bs x t e
+looked-short ν bs (quant i) t e = absurd (let z : _≡_ {A = ℕ} 0 1 = cc in omega arith)
+looked-short ν bs (par x) t e = absurd (let z : _≡_ {A = ℕ} 0 1 = cc in omega arith)

@@ -1,0 +1,156 @@
+-- Lines that were written to a buffer are held there, and replacing keeps them well formed. Assumes nothing.
+use mathlib.Core.Path.{_≡_, refl, sym, ap, ap₂, _∙_}
+use mathlib.Core.Bool.{Bool, true, not, _&&_}
+use mathlib.Core.List.{List, [], _∷_, _++_, map, append-assoc}
+use Prim.Native.Nat.{ℕ, _+_, _*_, _/_, _≤_}
+use native.Mathlib.Omega.{arith}
+use borrow.Author.Tests.{leb-true}
+use lib.Dec.{leb, eqb}
+use lib.ListN.{length, length-append}
+use lib.Seq.{sets}
+use Rattle.rules.specs.Base.{all, each, collect, sumOf}
+use lib.IntN.{natAbs}
+use Rattle.rules.specs.Exponents.{frac, top, gcd, inRange, isZero, goodExp, goodStored}
+use Rattle.rules.specs.Names.{tableOf, isHeld}
+use Rattle.rules.specs.Trees.{free, base, _↑_, Product, Ty, opened, basic, dim, fn, struct, list, Tys, nil, cons, Fields, noFields, field, Con, equal, isDim, isScalar, hasField, Binding, _≔_, Names, size, orderAtom}
+use Rattle.rules.specs.WellFormed.{goodOpen, goodFactor, goodProduct, goodTy, goodTys, goodFields, goodCon, goodBinding, rising, atomOf, fieldNames}
+use Rattle.rules.specs.Writing.{Rec, rec, words, writeProduct, writeTy, writeCon, writeBinding}
+use Rattle.laws.specs.NameTable.{both-left, both-right}
+use Rattle.laws.specs.Reading.{FitsProduct, Fits, FitsTys, FitsFields}
+use Rattle.laws.specs.Size.{size-ty, size-con, size-binding}
+use Rattle.laws.specs.Value.{Gives, gives, next}
+use Rattle.laws.specs.KeepsGood as laws
+use Rattle.products.specs.Held.{law}
+use Rattle.records.specs.Views.{plain, viewOf, from}
+use Rattle.records.specs.Places.{first, past}
+use Rattle.records.specs.Buffers.{stored}
+use Rattle.records.specs.Holds.{HoldsCon, HoldsBinding}
+use Rattle.records.specs.Held.{held, product-held}
+use Rattle.replacing.specs.Runs.{HoldsAll}
+use Rattle.replacing.specs.Well as well
+use Rattle.replacing.specs.Well.{Lent}
+use Rattle.replacing.specs.InProducts.{looked-good}
+use Rattle.replacing.specs.Left.{look}
+use Rattle.replacing.specs.LineRules.{Line, con, binding, sizeLine, writeLine, HoldsLine, GoodLine, EachGood, HeldLines, replaceLine}
+
+-- ══ Well formed numerators fit a word ══
+
+stored-fits : (n : lib.IntN.ℤ) (d : ℕ) → goodStored (frac n d) ≡ true → natAbs n ≤ top
+unfolding goodStored goodExp inRange
+stored-fits n d h =
+    let a = both-right (not (isZero (frac n d))) (goodExp (frac n d)) h in
+    let b = both-left (inRange (frac n d)) (eqb (gcd (natAbs n) d) 1) a in
+    let c = both-left (leb (natAbs n) top && leb 1 d) (leb d top) b in
+    leb-true (natAbs n) top (both-left (leb (natAbs n) top) (leb 1 d) c)
+
+module _ (ν : Names ℕ) (known : ℕ → Bool) (q : ℕ) where
+  factors-fit : (p : Product ℕ) → all (goodFactor ν known q) p ≡ true → FitsProduct p
+  unfolding all goodFactor
+  factors-fit [] h = tt
+  factors-fit (free o ↑ frac n d ∷ p) h =
+      (stored-fits n d (both-right (goodOpen ν known q o) (goodStored (frac n d)) (both-left (goodFactor ν known q (free o ↑ frac n d)) (all (goodFactor ν known q) p) h)), factors-fit p (both-right (goodFactor ν known q (free o ↑ frac n d)) (all (goodFactor ν known q) p) h))
+  factors-fit (base x ↑ frac n d ∷ p) h =
+      (stored-fits n d (both-right (known x) (goodStored (frac n d)) (both-left (goodFactor ν known q (base x ↑ frac n d)) (all (goodFactor ν known q) p) h)), factors-fit p (both-right (goodFactor ν known q (base x ↑ frac n d)) (all (goodFactor ν known q) p) h))
+
+  pub product-fits : (p : Product ℕ) → goodProduct ν known q p ≡ true → FitsProduct p
+  unfolding goodProduct
+  product-fits p h = factors-fit p (both-left (all (goodFactor ν known q) p) (rising (orderAtom ν) (map atomOf p)) (both-left (all (goodFactor ν known q) p && rising (orderAtom ν) (map atomOf p)) (leb (length p) 64) h))
+
+  mutual
+    unfolding goodTy
+
+    pub ty-fits : (t : Ty ℕ) → goodTy ν known q t ≡ true → Fits t
+    ty-fits (opened o) h = tt
+    ty-fits (basic b) h = tt
+    ty-fits (dim p) h = product-fits p h
+    ty-fits (fn ps r) h = (tys-fit ps (both-left (goodTys ν known q ps) (goodTy ν known q r) h), ty-fits r (both-right (goodTys ν known q ps) (goodTy ν known q r) h))
+    ty-fits (struct n as′ fs) h =
+        let a = both-left (known n && goodTys ν known q as′ && goodFields ν known q fs) (rising (ν .order) (fieldNames fs)) h in
+        (tys-fit as′ (both-right (known n) (goodTys ν known q as′) (both-left (known n && goodTys ν known q as′) (goodFields ν known q fs) a)), fields-fit fs (both-right (known n && goodTys ν known q as′) (goodFields ν known q fs) a))
+    ty-fits (list t) h = ty-fits t h
+
+    tys-fit : (ts : Tys ℕ) → goodTys ν known q ts ≡ true → FitsTys ts
+    tys-fit nil h = tt
+    tys-fit (cons t ts) h = (ty-fits t (both-left (goodTy ν known q t) (goodTys ν known q ts) h), tys-fit ts (both-right (goodTy ν known q t) (goodTys ν known q ts) h))
+
+    fields-fit : (fs : Fields ℕ) → goodFields ν known q fs ≡ true → FitsFields fs
+    fields-fit noFields h = tt
+    fields-fit (field n t fs) h =
+        let a = both-left (known n && goodTy ν known q t) (goodFields ν known q fs) h in
+        (ty-fits t (both-right (known n) (goodTy ν known q t) a), fields-fit fs (both-right (known n && goodTy ν known q t) (goodFields ν known q fs) h))
+
+-- ══ Written, so held ══
+
+module _ (pool table : List ℕ) where
+  abbrev known′ : ℕ → Bool
+  known′ = isHeld (tableOf pool table)
+
+  module _ (s : List ℕ) where
+    -- two parts, the first of n records
+    parted : (a b rest : List Rec) (at n : ℕ) → length a ≡ n → from s at ≡ (a ++ b) ++ rest → (from s at ≡ a ++ (b ++ rest)) × (from s (at + n) ≡ b ++ rest)
+    parted a b rest at n l e =
+        let q : from s at ≡ a ++ (b ++ rest) = e ∙ append-assoc a b rest in
+        (q, sym (past s a (b ++ rest) at q ∙ ap (λ (k : ℕ). from s (at + k)) l))
+
+    con-held : (c : Con ℕ) (at : ℕ) (rest : List Rec) → well.GoodCon pool table c → from s at ≡ writeCon c ++ rest → HoldsCon s c at
+    unfolding HoldsCon writeCon goodCon viewOf plain all
+    con-held (equal l r) at rest g e =
+        let f = first s at (rec 20 0 0 0) ((writeTy l ++ writeTy r) ++ rest) e in
+        let (u, v) = parted (writeTy l) (writeTy r) rest (at + 1) (size l) (size-ty l) (sym (f .rest)) in
+        (f .view, held s l (at + 1) (writeTy r ++ rest) (ty-fits (well.names pool table) known′ 4_294_967_296 l (both-left (goodTy _ _ _ l) (goodTy _ _ _ r) g)) u, held s r (at + 1 + size l) rest (ty-fits (well.names pool table) known′ 4_294_967_296 r (both-right (goodTy _ _ _ l) (goodTy _ _ _ r) g)) v)
+    con-held (isDim t) at rest g e =
+        let f = first s at (rec 21 0 0 0) (writeTy t ++ rest) e in
+        (f .view, held s t (at + 1) rest (ty-fits (well.names pool table) known′ 4_294_967_296 t g) (sym (f .rest)))
+    con-held (isScalar p) at rest g e =
+        let f = first s at (rec 22 0 0 0) (writeProduct p ++ rest) e in
+        (f .view, product-held s p (at + 1) rest (product-fits (well.names pool table) known′ 4_294_967_296 p g) (sym (f .rest)))
+    con-held (hasField n l r) at rest g e =
+        let f = first s at (rec 23 n 0 0) ((writeTy l ++ writeTy r) ++ rest) e in
+        let (u, v) = parted (writeTy l) (writeTy r) rest (at + 1) (size l) (size-ty l) (sym (f .rest)) in
+        let a = both-left (known′ n && goodTy _ _ _ l) (goodTy _ _ _ r) g in
+        (f .view, held s l (at + 1) (writeTy r ++ rest) (ty-fits (well.names pool table) known′ 4_294_967_296 l (both-right (known′ n) (goodTy _ _ _ l) a)) u, held s r (at + 1 + size l) rest (ty-fits (well.names pool table) known′ 4_294_967_296 r (both-right (known′ n && goodTy _ _ _ l) (goodTy _ _ _ r) g)) v)
+
+    binding-held : (x : Binding ℕ) (at : ℕ) (rest : List Rec) → well.GoodBinding pool table x → from s at ≡ writeBinding x ++ rest → HoldsBinding s x at
+    unfolding HoldsBinding writeBinding goodBinding viewOf plain all
+    binding-held (n ≔ t) at rest g e =
+        let f = first s at (rec 24 n 0 0) (writeTy t ++ rest) e in
+        (f .view, held s t (at + 1) rest (ty-fits (well.names pool table) known′ 4_294_967_296 t (both-right (known′ n) (goodTy _ _ _ t) g)) (sym (f .rest)))
+
+    line-held : (x : Line) (at : ℕ) (rest : List Rec) → GoodLine pool table x → from s at ≡ writeLine x ++ rest → HoldsLine s x at
+    line-held (con c) at rest g e = con-held c at rest g e
+    line-held (binding x) at rest g e = binding-held x at rest g e
+
+    line-length : (x : Line) → length (writeLine x) ≡ sizeLine x
+    line-length (con c) = size-con c
+    line-length (binding x) = size-binding x
+
+    lines-held : (xs : List Line) (at : ℕ) (rest : List Rec) → EachGood pool table xs → from s at ≡ collect writeLine xs ++ rest → HoldsAll HoldsLine sizeLine s xs at
+    unfolding HoldsAll collect
+    lines-held [] at rest g e = tt
+    lines-held (x ∷ xs) at rest g e =
+        let (u, v) = parted (writeLine x) (collect writeLine xs) rest at (sizeLine x) (line-length x) e in
+        (line-held x at (collect writeLine xs ++ rest) (g .0) u, lines-held xs (at + sizeLine x) rest (g .1) v)
+
+  all-length : (xs : List Line) → length (collect writeLine xs) ≡ sumOf sizeLine xs
+  unfolding collect
+  all-length [] = refl
+  all-length (x ∷ xs) = length-append (writeLine x) (collect writeLine xs) ∙ ap₂ _+_ (line-length [] x) (all-length xs)
+
+  -- well formed lines that were written where there is room are held there
+  pub written-lines : (d d′ : List ℕ) (out : ℕ) (xs : List Line) → d′ ≡ sets d (out * 4) (words (collect writeLine xs)) → out + sumOf sizeLine xs ≤ length d / 4 → EachGood pool table xs → HeldLines pool table d′ xs out (out + sumOf sizeLine xs)
+  written-lines d d′ out xs e le g =
+      let n = all-length xs in
+      let z : from d′ out ≡ collect writeLine xs ++ from d (out + length (collect writeLine xs)) = ap (λ (l : List ℕ). from l out) e ∙ stored d (collect writeLine xs) out (omega arith) in
+      record { held = lines-held d′ xs out _ g z; good = g; ends = refl }
+
+  -- ══ Replacing keeps lines well formed ══
+
+  module _ {v : List ℕ} {b e : ℕ} (bs : List (Binding ℕ)) (l : Lent pool table v b e bs) where
+    line-kept : (x : Line) → GoodLine pool table x → Gives (replaceLine pool table bs x) (GoodLine pool table)
+    line-kept (con c) g = next (laws.con-kept (well.names pool table) (law pool table) known′ 4_294_967_296 (look pool table bs) (λ o t q. looked-good pool table bs o t (l .good) q .good) c g) (λ d h. gives h)
+    line-kept (binding x) g = next (laws.binding-kept (well.names pool table) (law pool table) known′ 4_294_967_296 (look pool table bs) (λ o t q. looked-good pool table bs o t (l .good) q .good) x g) (λ d h. gives h)
+
+    pub lines-kept : (xs : List Line) → EachGood pool table xs → Gives (each (replaceLine pool table bs) xs) (EachGood pool table)
+    unfolding each
+    lines-kept [] g = gives tt
+    lines-kept (x ∷ xs) g = next (line-kept x (g .0)) (λ y i. next (lines-kept xs (g .1)) (λ ys j. gives (i, j)))

@@ -1,0 +1,101 @@
+// Replacing in constraints and bindings: a line is either, and a set or a list of bindings is a run of lines.
+use super::walk::Went;
+use super::walk::replace_list;
+use super::walk::replace_scalar;
+use super::walk::replace_type;
+use records::View;
+use records::inner::put_record;
+use records::seen::view_at;
+use rules::Refusal;
+ghost use mathlib.Core.List.{List};
+ghost use Prim.Native.Nat.{ℕ, _≤_, _/_};
+ghost use lib.ListN.{length};
+ghost use Rattle.rules.specs.Trees.{Binding};
+ghost use Rattle.laws.specs.NameTable.{Good};
+ghost use Rattle.products.specs.Told.{Tree};
+ghost use Rattle.replacing.specs.Well.{Lent};
+ghost use Rattle.replacing.specs.Left.{Room};
+ghost use Rattle.replacing.specs.LineRules.{Line, HeldLine, HeldLines, ScalarHeld, ScalarReplaced, LineReplaced, LinesReplaced};
+
+// Writes the product at a place with its bound variables replaced, as a product even at power 1.
+fn replace_equal_scalar(
+    pool: &[u8],
+    table: &[u32],
+    s: &[u32],
+    at: usize,
+    v: &[u32],
+    b: usize,
+    e: usize,
+    dst: &mut [u32],
+    out: usize,
+) -> Went
+    requires { ⌜ Good (now pool) (now table) ⌝ }
+    requires { ⌜ ((p : Tree) × ScalarHeld (now pool) (now table) (now s) p at) ⌝ }
+    requires { ⌜ ((bs : List (Binding ℕ)) × Lent (now pool) (now table) (now v) b e bs) ⌝ }
+    requires { ⌜ Room (now s) at out ⌝ }
+    ensures { λ r. ⌜ ScalarReplaced (now (pool .entry)) (now (table .entry)) (now (s .entry)) (now (v .entry)) b e (now (dst .entry)) (now (dst .exit)) at out r ⌝ }
+{
+    match view_at(s, at) {
+        View::Dim(n) => replace_scalar(pool, table, s, at + 1, n, v, b, e, dst, out),
+        _ => Went::Stop(Refusal::Malformed),
+    }
+}
+
+// Writes the constraint or the binding at a place with its bound variables replaced.
+pub fn replace_line(
+    pool: &[u8],
+    table: &[u32],
+    s: &[u32],
+    at: usize,
+    v: &[u32],
+    b: usize,
+    e: usize,
+    dst: &mut [u32],
+    out: usize,
+) -> Went
+    requires { ⌜ Good (now pool) (now table) ⌝ }
+    requires { ⌜ ((x : Line) × HeldLine (now pool) (now table) (now s) x at) ⌝ }
+    requires { ⌜ ((bs : List (Binding ℕ)) × Lent (now pool) (now table) (now v) b e bs) ⌝ }
+    requires { ⌜ Room (now s) at out ⌝ }
+    ensures { λ r. ⌜ LineReplaced (now (pool .entry)) (now (table .entry)) (now (s .entry)) (now (v .entry)) b e (now (dst .entry)) (now (dst .exit)) at out r ⌝ }
+{
+    let w = view_at(s, at);
+    put_record(dst, out, w);
+    match w {
+        View::Equal => replace_list(pool, table, s, at + 1, 2, false, v, b, e, dst, out + 1),
+        View::IsDim => replace_type(pool, table, s, at + 1, v, b, e, dst, out + 1),
+        View::IsScalar => replace_equal_scalar(pool, table, s, at + 1, v, b, e, dst, out + 1),
+        View::HasField(_) => replace_list(pool, table, s, at + 1, 2, false, v, b, e, dst, out + 1),
+        View::Binding(_) => replace_type(pool, table, s, at + 1, v, b, e, dst, out + 1),
+        _ => Went::Stop(Refusal::Malformed),
+    }
+}
+
+// Writes the constraints and bindings from a place up to an end with their bound variables replaced.
+pub fn replace_lines(
+    pool: &[u8],
+    table: &[u32],
+    s: &[u32],
+    at: usize,
+    end: usize,
+    v: &[u32],
+    b: usize,
+    e: usize,
+    dst: &mut [u32],
+    out: usize,
+) -> Went
+    requires { ⌜ Good (now pool) (now table) ⌝ }
+    requires { ⌜ ((xs : List Line) × HeldLines (now pool) (now table) (now s) xs at end) ⌝ }
+    requires { ⌜ ((bs : List (Binding ℕ)) × Lent (now pool) (now table) (now v) b e bs) ⌝ }
+    requires { ⌜ end ≤ length (now s) / 4 ⌝ }
+    requires { ⌜ Room (now s) at out ⌝ }
+    ensures { λ r. ⌜ LinesReplaced (now (pool .entry)) (now (table .entry)) (now (s .entry)) (now (v .entry)) b e (now (dst .entry)) (now (dst .exit)) at end out r ⌝ }
+{
+    if end <= at {
+        return Went::To(at, out);
+    }
+    match replace_line(pool, table, s, at, v, b, e, dst, out) {
+        Went::To(q, o) => replace_lines(pool, table, s, q, end, v, b, e, dst, o),
+        Went::Stop(k) => Went::Stop(k),
+    }
+}

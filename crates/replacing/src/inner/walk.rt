@@ -1,0 +1,254 @@
+// Replacing in types, constraints and bindings that are known to be held.
+use super::bound::Found;
+use super::bound::look_up;
+use super::dims::replace_factors;
+use super::factors::Alone;
+use super::factors::single;
+use loading::inner::load;
+use loading::inner::store;
+use names::Checked;
+use products::Product;
+use products::Tried;
+use records::Open;
+use records::View;
+use records::inner::copy;
+use records::inner::put_record;
+use records::seen::view_at;
+use rules::Refusal;
+ghost use mathlib.Core.Path.{_≡_};
+ghost use mathlib.Core.List.{List};
+ghost use Prim.Native.Nat.{ℕ, _+_, _*_, _/_, _^_, _≤_, _<_};
+ghost use lib.ListN.{length};
+ghost use lib.Seq.{sets};
+ghost use Rattle.rules.specs.Base.{Got};
+ghost use Rattle.rules.specs.Names.{Bytes};
+ghost use Rattle.rules.specs.Trees.{Ty, Binding};
+ghost use Rattle.rules.specs.Writing.{words};
+ghost use Rattle.laws.specs.NameTable.{Good};
+ghost use Rattle.products.specs.Told.{Tree};
+ghost use Rattle.records.specs.Holds.{openOf};
+ghost use Rattle.records.specs.Views.{viewAt};
+ghost use Rattle.replacing.specs.Runs.{Run};
+ghost use Rattle.replacing.specs.Well.{Whole, HeldType, HeldDim, Lent};
+ghost use Rattle.replacing.specs.Left.{Room, Row, HeldRow, Ready, headOf, headRecs, OpenReplaced, ProductPut, ProductReplaced, DimReplaced, Replaced, RowReplaced};
+
+// The next place in the source and in the buffer, or why the walk stopped.
+pub enum Went {
+    To(usize, usize),
+    Stop(Refusal),
+}
+
+// Writes an open name, or what it is bound to: how many records that is.
+fn replace_open(o: Open, v: &[u32], b: usize, e: usize, dst: &mut [u32], out: usize) -> usize
+    requires { ⌜ ((bs : List (Binding ℕ)) × Run (now v) b e bs) ⌝ }
+    requires { ⌜ e ≤ b + 2048 ⌝ }
+    requires { ⌜ out ≤ 1000000000 ⌝ }
+    ensures { λ r. ⌜ ((bs : List (Binding ℕ)) (names : List Bytes) → Run (now (v .entry)) b e bs → OpenReplaced names bs (openOf o) (now (dst .entry)) (now (dst .exit)) out r) ⌝ }
+{
+    match look_up(v, b, e, o) {
+        Found::At(i, j) => {
+            copy(v, i, j, dst, out);
+            j - i
+        }
+        Found::Nothing => {
+            put_record(dst, out, View::Opened(o));
+            1
+        }
+    }
+}
+
+// Writes a product that was made, or stops.
+fn put_tried(t: Tried, next: usize, dst: &mut [u32], out: usize) -> Went
+    requires { ⌜ ((m : Got Tree) × Ready t m) ⌝ }
+    requires { ⌜ out ≤ 1000000000 ⌝ }
+    ensures { λ r. ⌜ ((m : Got Tree) → Ready t m → ProductPut (now (dst .entry)) (now (dst .exit)) next out r m) ⌝ }
+{
+    let checked = t.checked;
+    match checked {
+        Checked::Refused(why) => Went::Stop(why),
+        Checked::Good => {
+            let p = t.product;
+            let n = p.len;
+            store(p, dst, out);
+            Went::To(next, out + 1 + n)
+        }
+    }
+}
+
+// Writes a product with its bound variables replaced.
+fn replace_product(
+    pool: &[u8],
+    table: &[u32],
+    p: Product,
+    next: usize,
+    v: &[u32],
+    b: usize,
+    e: usize,
+    dst: &mut [u32],
+    out: usize,
+) -> Went
+    requires { ⌜ Good (now pool) (now table) ⌝ }
+    requires { ⌜ ((a : Tree) × Whole (now pool) (now table) p a) ⌝ }
+    requires { ⌜ ((bs : List (Binding ℕ)) × Lent (now pool) (now table) (now v) b e bs) ⌝ }
+    requires { ⌜ out ≤ 1000000000 ⌝ }
+    ensures { λ r. ⌜ ((a : Tree) (bs : List (Binding ℕ)) → Whole (now (pool .entry)) (now (table .entry)) p a → Lent (now (pool .entry)) (now (table .entry)) (now (v .entry)) b e bs → ProductReplaced (now (pool .entry)) (now (table .entry)) bs (now (dst .entry)) (now (dst .exit)) next out r a) ⌝ }
+{
+    put_tried(replace_factors(pool, table, p, v, b, e), next, dst, out)
+}
+
+// Writes the product of n factors at a place with its bound variables replaced, as a product even at power 1.
+pub fn replace_scalar(
+    pool: &[u8],
+    table: &[u32],
+    s: &[u32],
+    at: usize,
+    n: u32,
+    v: &[u32],
+    b: usize,
+    e: usize,
+    dst: &mut [u32],
+    out: usize,
+) -> Went
+    requires { ⌜ Good (now pool) (now table) ⌝ }
+    requires { ⌜ ((p : Tree) × HeldDim (now pool) (now table) (now s) p at n) ⌝ }
+    requires { ⌜ ((bs : List (Binding ℕ)) × Lent (now pool) (now table) (now v) b e bs) ⌝ }
+    requires { ⌜ at ≤ 1000000000 ⌝ }
+    requires { ⌜ out ≤ 1000000000 ⌝ }
+    ensures { λ r. ⌜ ((p : Tree) (bs : List (Binding ℕ)) → HeldDim (now (pool .entry)) (now (table .entry)) (now (s .entry)) p at n → Lent (now (pool .entry)) (now (table .entry)) (now (v .entry)) b e bs → ProductReplaced (now (pool .entry)) (now (table .entry)) bs (now (dst .entry)) (now (dst .exit)) (at + n) out r p) ⌝ }
+{
+    let k = n as usize;
+    let p = load(s, at, k);
+    replace_product(pool, table, p, at + k, v, b, e, dst, out)
+}
+
+// Writes the dimension of n factors at a place: one variable to the power 1 becomes what it is bound to.
+fn replace_dim(
+    pool: &[u8],
+    table: &[u32],
+    s: &[u32],
+    at: usize,
+    n: u32,
+    v: &[u32],
+    b: usize,
+    e: usize,
+    dst: &mut [u32],
+    out: usize,
+) -> Went
+    requires { ⌜ Good (now pool) (now table) ⌝ }
+    requires { ⌜ ((p : Tree) × HeldDim (now pool) (now table) (now s) p at n) ⌝ }
+    requires { ⌜ ((bs : List (Binding ℕ)) × Lent (now pool) (now table) (now v) b e bs) ⌝ }
+    requires { ⌜ at ≤ 1000000000 ⌝ }
+    requires { ⌜ out ≤ 1000000000 ⌝ }
+    ensures { λ r. ⌜ ((p : Tree) (bs : List (Binding ℕ)) → HeldDim (now (pool .entry)) (now (table .entry)) (now (s .entry)) p at n → Lent (now (pool .entry)) (now (table .entry)) (now (v .entry)) b e bs → DimReplaced (now (pool .entry)) (now (table .entry)) bs (now (dst .entry)) (now (dst .exit)) (at + n) out r p) ⌝ }
+{
+    let k = n as usize;
+    let p = load(s, at, k);
+    match single(p) {
+        Alone::Of(o) => match look_up(v, b, e, o) {
+            Found::At(i, j) => {
+                copy(v, i, j, dst, out);
+                Went::To(at + k, out + (j - i))
+            }
+            Found::Nothing => {
+                store(p, dst, out);
+                Went::To(at + k, out + 1 + k)
+            }
+        },
+        Alone::Not => replace_product(pool, table, p, at + k, v, b, e, dst, out),
+    }
+}
+
+// Writes the record that stands before the type of a field; a type has none.
+fn put_head(s: &[u32], at: usize, fields: bool, dst: &mut [u32], out: usize) -> usize
+    requires { ⌜ out < 2 ^ 60 ⌝ }
+    ensures { λ r. ⌜ (r ≡ headOf fields) × (now (dst .exit) ≡ sets (now (dst .entry)) (out * 4) (words (headRecs fields (viewAt (now (s .entry)) at)))) ⌝ }
+{
+    if fields {
+        put_record(dst, out, view_at(s, at));
+        1
+    } else {
+        0
+    }
+}
+
+// Writes the type at a place with its bound variables replaced, as far as the buffer goes.
+pub fn replace_type(
+    pool: &[u8],
+    table: &[u32],
+    s: &[u32],
+    at: usize,
+    v: &[u32],
+    b: usize,
+    e: usize,
+    dst: &mut [u32],
+    out: usize,
+) -> Went
+    requires { ⌜ Good (now pool) (now table) ⌝ }
+    requires { ⌜ ((t : Ty ℕ) × HeldType (now pool) (now table) (now s) t at) ⌝ }
+    requires { ⌜ ((bs : List (Binding ℕ)) × Lent (now pool) (now table) (now v) b e bs) ⌝ }
+    requires { ⌜ Room (now s) at out ⌝ }
+    ensures { λ r. ⌜ Replaced (now (pool .entry)) (now (table .entry)) (now (s .entry)) (now (v .entry)) b e (now (dst .entry)) (now (dst .exit)) at out r ⌝ }
+{
+    let w = view_at(s, at);
+    match w {
+        View::Opened(o) => {
+            let n = replace_open(o, v, b, e, dst, out);
+            Went::To(at + 1, out + n)
+        }
+        View::Basic(_) => {
+            put_record(dst, out, w);
+            Went::To(at + 1, out + 1)
+        }
+        View::Dim(n) => replace_dim(pool, table, s, at + 1, n, v, b, e, dst, out),
+        View::Function(n) => {
+            put_record(dst, out, w);
+            match replace_list(pool, table, s, at + 1, n, false, v, b, e, dst, out + 1) {
+                Went::To(q, o) => replace_type(pool, table, s, q, v, b, e, dst, o),
+                Went::Stop(k) => Went::Stop(k),
+            }
+        }
+        View::Struct(_, n, m) => {
+            put_record(dst, out, w);
+            match replace_list(pool, table, s, at + 1, n, false, v, b, e, dst, out + 1) {
+                Went::To(q, o) => replace_list(pool, table, s, q, m, true, v, b, e, dst, o),
+                Went::Stop(k) => Went::Stop(k),
+            }
+        }
+        View::List => {
+            put_record(dst, out, w);
+            replace_type(pool, table, s, at + 1, v, b, e, dst, out + 1)
+        }
+        _ => Went::Stop(Refusal::Malformed),
+    }
+}
+
+// Writes n types, or n fields, with their bound variables replaced.
+pub fn replace_list(
+    pool: &[u8],
+    table: &[u32],
+    s: &[u32],
+    at: usize,
+    n: u32,
+    fields: bool,
+    v: &[u32],
+    b: usize,
+    e: usize,
+    dst: &mut [u32],
+    out: usize,
+) -> Went
+    requires { ⌜ Good (now pool) (now table) ⌝ }
+    requires { ⌜ ((row : Row) × HeldRow (now pool) (now table) (now s) row at n fields) ⌝ }
+    requires { ⌜ ((bs : List (Binding ℕ)) × Lent (now pool) (now table) (now v) b e bs) ⌝ }
+    requires { ⌜ at ≤ length (now s) / 4 ⌝ }
+    requires { ⌜ Room (now s) at out ⌝ }
+    ensures { λ r. ⌜ RowReplaced (now (pool .entry)) (now (table .entry)) (now (s .entry)) (now (v .entry)) b e (now (dst .entry)) (now (dst .exit)) at n fields out r ⌝ }
+{
+    if n == 0 {
+        return Went::To(at, out);
+    }
+    let h = put_head(s, at, fields, dst, out);
+    match replace_type(pool, table, s, at + h, v, b, e, dst, out + h) {
+        Went::To(q, o) => replace_list(pool, table, s, q, n - 1, fields, v, b, e, dst, o),
+        Went::Stop(k) => Went::Stop(k),
+    }
+}

@@ -1,0 +1,9 @@
+pub mod Told
+pub mod Entry
+pub mod Fits
+pub mod Made
+pub mod Filled
+pub mod Whole
+pub mod Lent
+pub mod CallOnType
+pub mod Determined
