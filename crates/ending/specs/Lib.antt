@@ -1,0 +1,13 @@
+pub mod Members
+pub mod Yields
+pub mod Products
+pub mod Fine
+pub mod Replaced
+pub mod Weights
+pub mod Steps
+pub mod Rounds
+pub mod Runs
+pub mod Sets
+pub mod Tables
+pub mod Calls
+pub mod Ending

@@ -1,0 +1,1 @@
+// Theorems that solving ends stand in specs/; there is no code.
