@@ -1,0 +1,15 @@
+pub mod Soundness
+pub mod Claims
+pub mod Instances
+pub mod Judged
+pub mod Form
+pub mod Runs
+pub mod Turns
+pub mod Steps
+pub mod Solved
+pub mod Alike
+pub mod Putting
+pub mod Truth
+pub mod Back
+pub mod Finds
+pub mod Words
