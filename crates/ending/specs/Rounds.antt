@@ -107,7 +107,7 @@ module _ {N : Type 0} (ν : Names N) (law : Lawful (orderAtom ν)) (xs : List N)
   unfolding limited sizeState
   limited-ok s h =
       next (bounded-yields (sizeState s) 2048 s (λ i. h (omega (arith, weigh-all (s .cons))))) (λ s′ p.
-      within-yields bounded (depthState s′) 64 s′ p)
+      within-yields bounded (depthState s) 64 s′ p)
 
   pub perform-ok : (w : ℕ) (bs : List (Binding N)) (s : Step N) (rest : List (Con N)) → All (OkBinding ν) bs → Chosen ν xs w s rest → Yields (perform ν bounded bs s rest) (Went ν xs w bs s)
   unfolding perform

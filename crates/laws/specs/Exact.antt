@@ -9,7 +9,7 @@ use Prim.Native.Nat.{ℕ, zero, suc, Ordering, Ordering·lt, Ordering·eq, Order
 use lib.IntN.{ℤ, pos, negsuc}
 use lib.ListN.{length}
 use lib.Dec.{leb}
-use Rattle.rules.specs.Base.{Got, got, refused, _>>=_, Limits, bounded, exact, within, allow}
+use Rattle.rules.specs.Base.{Got, got, refused, _>>=_, Limits, bounded, exact, within, sized, allow}
 use Rattle.rules.specs.Exponents.{Exp, frac, ranged, inRange, plus, mul, sum, times, quotient}
 use Rattle.rules.specs.Trees.{Open, var, quant, par, Atom, free, base, Factor, _↑_, Product, Names, Ty, opened, basic, dim, fn, struct, list, Tys, nil, cons, Fields, noFields, field, orderAtom}
 use Rattle.rules.specs.Products.{put, inverse, single, mergeOne, merge, multiply, divide, raise}
@@ -48,6 +48,9 @@ ranged-below e = allowed (inRange e) 7 e (inl refl)
 
 pub within-below : {A : Type 0} (n m : ℕ) (a : A) → Below (within bounded n m a) (within exact n m a)
 within-below n m a = allowed (leb n m) 8 a (inr refl)
+
+pub sized-below : {A : Type 0} (n d : ℕ) (a : A) → Below (sized bounded n d a) (sized exact n d a)
+sized-below n d a = next (within-below n 2048 a) (λ a. within-below d 64 a)
 
 pub sum-below : (e d : Exp) → Below (sum bounded e d) (sum exact e d)
 unfolding sum

@@ -12,7 +12,7 @@ use Rattle.rules.specs.Views.{productOf, asVar}
 use Rattle.rules.specs.Replacing.{Look, replaceCon, replaceBinding, replaceProduct, bindings}
 use Rattle.rules.specs.Rounds.{Step, bind, split, done, stuck, State, firstRules, orTry, dimensions, otherSide, taken, performed, byKind, trySatisfy, firstStep, sizeState, depthState, limited, perform, round}
 use Rattle.rules.specs.Solving.{Answer, accepted, remaining, stopped, after, run}
-use Rattle.laws.specs.Exact.{Below, same, next, within-below, times-below, divide-below, factors-below, ty-below}
+use Rattle.laws.specs.Exact.{Below, same, next, sized-below, times-below, divide-below, factors-below, ty-below}
 
 quotient-below : (a b : Exp) → Below (quotient bounded a b) (quotient exact a b)
 unfolding quotient
@@ -89,7 +89,7 @@ module _ {N : Type 0} (ν : Names N) where
 
   limited-below : (s : State N) → Below (limited bounded s) (limited exact s)
   unfolding limited
-  limited-below s = next (within-below (sizeState s) 2048 s) (λ s. within-below (depthState s) 64 s)
+  limited-below s = sized-below (sizeState s) (depthState s) s
 
   perform-below : (bs : List (Binding N)) (s : Step N) (cs : List (Con N)) → Below (perform ν bounded bs s cs) (perform ν exact bs s cs)
   unfolding perform

@@ -25,6 +25,7 @@ pub mod Ranges
 pub mod GoodProducts
 pub mod Numbers
 pub mod Lists
+pub mod Sized
 pub mod RuleCases
 pub mod Evaluation
 pub mod KeepsGood

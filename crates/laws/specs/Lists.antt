@@ -19,6 +19,9 @@ some≢none e = let z : _≡_ {A = ℕ} 0 1 = cc in omega arith
 pub got≢refused : {A : Type 0} {a : A} {n : ℕ} → got a ≡ refused n → ⊥
 got≢refused e = let z : _≡_ {A = ℕ} 0 1 = cc in omega arith
 
+pub clash : {A B : Type 0} {n : ℕ} {b : B} → refused n ≡ got b → A
+clash e = absurd (got≢refused (sym e))
+
 pub allow-same : {A : Type 0} (b : Bool) (n : ℕ) (a v : A) → allow b n a ≡ got v → a ≡ v
 allow-same true n a v e = cc
 allow-same false n a v e = absurd (got≢refused (sym e))

@@ -46,6 +46,10 @@ abbrev pub within : {A : Type 0} → Limits → ℕ → ℕ → A → Got A
 within exact n m a = got a
 within bounded n m a = allow (leb n m) 8 a
 
+-- a value of n records, nested d deep: over 2,048 records, or nested over 64, is 8
+abbrev pub sized : {A : Type 0} → Limits → ℕ → ℕ → A → Got A
+sized l n d a = within l n 2048 a >>= λ a. within l d 64 a
+
 abbrev pub isYes : {A : Type 0} → Dec A → Bool
 isYes (yes a) = true
 isYes (no f) = false

@@ -7,7 +7,7 @@ use mathlib.Core.Option.{Option, none, some}
 use Prim.Native.Nat.{ℕ, _+_, _*_}
 use lib.Dec.{eqb, leb}
 use lib.ListN.{length, take, drop, replicate}
-use Rattle.rules.specs.Base.{Got, got, refused, _>>=_, _>>_, need, orRefuse, bounded, within, andThen, any, all, each, collect, sumOf}
+use Rattle.rules.specs.Base.{Got, got, refused, _>>=_, _>>_, need, orRefuse, bounded, sized, andThen, any, all, each, collect, sumOf}
 use Rattle.rules.specs.Trees.{Open, var, quant, par, Names, Ty, Con, Binding, _≔_, opens, opensCon, size, depth, sizeCon, sizeBinding}
 use Rattle.rules.specs.Names.{Table, tableOf, tableGood, numbersOf, isHeld, lentTable}
 use Rattle.rules.specs.Contents.{closed, containsName, variables, unmixed}
@@ -194,8 +194,7 @@ module _ (t : Table) where
     bs ← bindingsGiven t binds
     apart t (opens ty ++ collect opensBinding bs)
     r ← replaceTy (numbersOf t) bounded (bindings (numbersOf t) bs) ty
-    r ← within bounded (size r) 2048 r
-    r ← within bounded (depth r) 64 r
+    r ← sized bounded (size r) (depth r) r
     got (writeTy r)
 
   unfoldable pub replacedSet : List ℕ → List ℕ → Got (List Rec)

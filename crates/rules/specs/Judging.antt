@@ -4,7 +4,7 @@ use mathlib.Core.Bool.{Bool, true, false}
 use mathlib.Core.List.{List, [], _∷_}
 use Prim.Native.Nat.{ℕ}
 use lib.Dec.{eqb}
-use Rattle.rules.specs.Base.{Got, got, refused, _>>=_, Limits, within}
+use Rattle.rules.specs.Base.{Got, got, refused, _>>=_, Limits, sized}
 use Rattle.rules.specs.Trees.{Names, Con, Binding, sizeCon, depthCon}
 use Rattle.rules.specs.Replacing.{replaceCon, bindings}
 use Rattle.rules.specs.Meaning.{holds}
@@ -19,8 +19,7 @@ module _ {N : Type 0} (ν : Names N) (l : Limits) where
   unfoldable pub judgeCon : List (Binding N) → List N → Con N → Got Bool
   judgeCon bs bounds c = failed (do
     d ← replaceCon ν l (bindings ν bs) c
-    d ← within l (sizeCon d) 2048 d
-    d ← within l (depthCon d) 64 d
+    d ← sized l (sizeCon d) (depthCon d) d
     got (holds ν bounds d))
 
   -- 'constraint by constraint': the first failure, 7 or 8 decides

@@ -5,7 +5,7 @@ use mathlib.Core.List.{List, [], _∷_, _++_, map}
 use mathlib.Core.Option.{Option, none, some, Option·getD}
 use Prim.Native.Nat.{ℕ, _+_, max}
 use lib.Dec.{eqb}
-use Rattle.rules.specs.Base.{Got, got, refused, _>>=_, Limits, within, isYes, _orElse_, onlyIf, andThen, each, collect, sumOf, maxOf}
+use Rattle.rules.specs.Base.{Got, got, refused, _>>=_, Limits, sized, isYes, _orElse_, onlyIf, andThen, each, collect, sumOf, maxOf}
 use Rattle.rules.specs.Exponents.{Exp, neg, quotient}
 use Rattle.rules.specs.Trees.{Open, var, quant, par, free, base, Factor, _↑_, Product, Names, Ty, opened, basic, dim, fn, struct, list, Tys, nil, cons, Fields, Con, equal, isDim, isScalar, hasField, Binding, _≔_, ty-dec, count, openOfFactor, sizeCon, depthCon, sizeBinding, depthBinding}
 use Rattle.rules.specs.Views.{productOf, fnOf, structOf, listOf, variable, asVar, asPower}
@@ -139,7 +139,7 @@ module _ {N : Type 0} where
 
   -- 'constraints and bindings together over 2,048 records, or a type nested over 64, is 8'
   unfoldable pub limited : Limits → State N → Got (State N)
-  limited l s = within l (sizeState s) 2048 s >>= λ s. within l (depthState s) 64 s
+  limited l s = sized l (sizeState s) (depthState s) s
 
 module _ {N : Type 0} (ν : Names N) (l : Limits) where
   -- 'the first constraint to which a rule applies': what the rule does, and the other constraints

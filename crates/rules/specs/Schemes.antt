@@ -6,7 +6,7 @@ use mathlib.Core.Option.{Option, none, some, Option·getD}
 use Prim.Native.Nat.{ℕ, zero, suc, _+_}
 use lib.Dec.{eqb}
 use lib.ListN.{length, getElem?}
-use Rattle.rules.specs.Base.{Got, got, refused, _>>=_, _>>_, need, Limits, within, isYes, onlyIf, andThen, keep}
+use Rattle.rules.specs.Base.{Got, got, refused, _>>=_, _>>_, need, Limits, sized, isYes, onlyIf, andThen, keep}
 use Rattle.rules.specs.Trees.{Open, var, quant, par, Names, Ty, opened, opens, size, depth}
 use Rattle.rules.specs.Contents.{sort, namesIn, among}
 use Rattle.rules.specs.Plain.{plain}
@@ -28,7 +28,7 @@ module _ {N : Type 0} where
 
   -- 'so too the result of .. scheme calls': records and nesting, 8
   unfoldable pub schemeLimited : {A : Type 0} → Limits → ℕ → Ty N → List (Open N) → A → Got A
-  schemeLimited l heads t bs a = within l (heads + (size t + length bs)) 2048 a >>= λ a. within l (depth t) 64 a
+  schemeLimited l heads t bs a = sized l (heads + (size t + length bs)) (depth t) a
 
   -- 'puts given variables back': quantified variable i is the i-th of these
   unfoldable pub back : List N → Open N → Option (Open N)

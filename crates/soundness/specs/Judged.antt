@@ -7,14 +7,14 @@ use mathlib.Core.List.{List, [], _∷_, List·Memᴰ, List·Memᴰ·head, List·
 use Prim.Native.Nat.{ℕ}
 use native.Mathlib.Omega.{arith}
 use lib.Dec.{eqb, eqb→eq}
-use Rattle.rules.specs.Base.{Got, got, refused, _>>=_, Limits, bounded, exact, within}
+use Rattle.rules.specs.Base.{Got, got, refused, _>>=_, Limits, bounded, exact, sized}
 use Rattle.rules.specs.Trees.{Names, Con, Binding, sizeCon, depthCon}
 use Rattle.rules.specs.Replacing.{replaceCon, bindings}
 use Rattle.rules.specs.Meaning.{holds, TrueUnder, Solves}
 use Rattle.rules.specs.Judging.{failed, judgeCon, judge}
 use Rattle.laws.specs.Lists.{got≢refused}
 use Rattle.soundness.specs.Claims.{Fails}
-use Rattle.laws.specs.Exact.{Below, OfLimits, same, next, within-below}
+use Rattle.laws.specs.Exact.{Below, OfLimits, same, next, sized-below}
 use Rattle.laws.specs.ExactSolve.{con-below}
 
 never : {A : Type 0} {n : ℕ} {a : A} → refused n ≡ got a → ⊥
@@ -56,12 +56,11 @@ module _ {N : Type 0} (ν : Names N) (bs : List (Binding N)) (bounds : List N) w
   abbrev judged : Limits → Con N → Got Bool
   judged l c = do
     d ← replaceCon ν l (bindings ν bs) c
-    d ← within l (sizeCon d) 2048 d
-    d ← within l (depthCon d) 64 d
+    d ← sized l (sizeCon d) (depthCon d) d
     got (holds ν bounds d)
 
   judged-below : (c : Con N) → Below (judged bounded c) (judged exact c)
-  judged-below c = next (con-below ν (bindings ν bs) c) (λ d. next (within-below (sizeCon d) 2048 d) (λ e. next (within-below (depthCon e) 64 e) (λ f. same _)))
+  judged-below c = next (con-below ν (bindings ν bs) c) (λ d. next (sized-below (sizeCon d) (depthCon d) d) (λ e. same _))
 
   true-exact : (c : Con N) → judged exact c ≡ got true → TrueUnder ν bs bounds c
   true-exact c h = go (replaceCon ν exact (bindings ν bs) c) refl

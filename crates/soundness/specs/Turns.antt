@@ -6,12 +6,12 @@ use mathlib.Core.Logic.{_⊎_, inl, inr}
 use mathlib.Core.List.{List, [], _∷_, _++_, List·Memᴰ, List·Memᴰ·head, List·Memᴰ·tail, List·Memᴰ·cases-cons}
 use Prim.Native.Nat.{ℕ}
 use native.Mathlib.Omega.{arith}
-use lib.Dec.{leb}
-use Rattle.rules.specs.Base.{Got, got, refused, _>>=_, Limits, bounded, exact, within, each}
+use Rattle.rules.specs.Base.{Got, got, refused, _>>=_, Limits, each}
 use Rattle.rules.specs.Trees.{Names, Ty, Con, Binding, _≔_}
 use Rattle.rules.specs.Replacing.{replaceCon, replaceBinding, bindings}
 use Rattle.rules.specs.Rounds.{Step, bind, split, done, stuck, State, trySatisfy, taken, sizeState, depthState, limited, firstStep, perform, performed, round}
-use Rattle.laws.specs.Lists.{All, all-cons, in-head, some≢none, got≢refused, allow-same}
+use Rattle.laws.specs.Lists.{All, all-cons, in-head, some≢none, got≢refused}
+use Rattle.laws.specs.Sized.{sized-same}
 
 module _ {N : Type 0} (ν : Names N) (l : Limits) where
   -- the constraint that a step was made of, and the others
@@ -96,19 +96,9 @@ module _ {N : Type 0} (ν : Names N) (l : Limits) where
       go (refused n) i h = let z : refused n ≡ got (some v) = rw (i, firstStep) at e in absurd (got≢refused (sym z))
       go (got s) i h = taken-found c cs v h s i (rw (i, firstStep) at e)
 
-  within-same : {A : Type 0} (m : Limits) (n k : ℕ) (a v : A) → within m n k a ≡ got v → a ≡ v
-  within-same exact n k a v e = cc
-  within-same bounded n k a v e = allow-same (leb n k) 8 a v e
-
   limited-same : (s s′ : State N) → limited l s ≡ got s′ → s ≡ s′
   unfolding limited
-  limited-same s s′ e = go (within l (sizeState s) 2048 s) refl
-    where
-      go : (r : Got (State N)) → within l (sizeState s) 2048 s ≡ r → s ≡ s′
-      go (refused n) i = let z : refused n ≡ got s′ = rw i at e in absurd (got≢refused (sym z))
-      go (got u) i =
-          let z : within l (depthState u) 64 u ≡ got s′ = rw i at e in
-          within-same l (sizeState s) 2048 s u i ∙ within-same l (depthState u) 64 u s′ z
+  limited-same s s′ e = sized-same (sizeState s) (depthState s) s l s′ e
 
   performed-turn : (s s′ : State N) (step : Step N) (rest : List (Con N)) → Found (s .cons) step rest → perform ν l (s .binds) step rest ≡ got s′ → Turn s s′
   unfolding perform
