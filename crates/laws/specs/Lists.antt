@@ -34,6 +34,10 @@ pub not-true : (a : Bool) → not a ≡ true → a ≡ false
 not-true true e = absurd (true≢false (sym e))
 not-true false e = refl
 
+pub not-false : (a : Bool) → not a ≡ false → a ≡ true
+not-false true e = refl
+not-false false e = absurd (true≢false e)
+
 pub yes-is : {A : Type 0} (d : Dec A) → isYes d ≡ true → A
 yes-is (yes a) e = a
 yes-is (no f) e = absurd (true≢false (sym e))

@@ -218,10 +218,10 @@ module _ {A : Type 0} (P : ℕ → A → ℕ → Type 0) (n at : ℕ) where
 
 module _ (pool table : List ℕ) (q : ℕ) (s : List ℕ) (at : ℕ) where
   pub one-con : (a b : Con ℕ) (e f : ℕ) → GoodCon pool table q s at a e → GoodCon pool table q s at b f → e ≡ f
-  one-con a b e f g h = g .past ∙ ap (λ (c : Con ℕ). at + sizeCon c) (only-con s a b at (g .deep) (h .deep) (g .held) (h .held)) ∙ sym (h .past)
+  one-con a b e f g h = g .past ∙ ap (λ (c : Con ℕ). at + sizeCon c) (only-con s a b at (g .held) (h .held)) ∙ sym (h .past)
 
   pub one-binding : (a b : Binding ℕ) (e f : ℕ) → GoodBinding pool table q s at a e → GoodBinding pool table q s at b f → e ≡ f
-  one-binding a b e f g h = g .past ∙ ap (λ (c : Binding ℕ). at + sizeBinding c) (only-binding s a b at (g .deep) (h .deep) (g .held) (h .held)) ∙ sym (h .past)
+  one-binding a b e f g h = g .past ∙ ap (λ (c : Binding ℕ). at + sizeBinding c) (only-binding s a b at (g .held) (h .held)) ∙ sym (h .past)
 
   pub one-bound : (a b : tree.Open ℕ) (e f : ℕ) → GoodBound pool table q s at a e → GoodBound pool table q s at b f → e ≡ f
   one-bound a b e f g h = g .past ∙ sym (h .past)

@@ -1,5 +1,5 @@
 -- What is held at a place is what is read there; and so one tree at most is held at a place. Assumes nothing.
-use mathlib.Core.Path.{_≡_, refl, sym, ap, subst, _∙_}
+use mathlib.Core.Path.{_≡_, refl, sym, ap, ap₂, subst, _∙_}
 use mathlib.Core.Bool.{Bool, true, false}
 use mathlib.Core.Option.{Option, none, some}
 use mathlib.Core.List.{List, [], _∷_, _++_, map}
@@ -16,6 +16,7 @@ use Rattle.rules.specs.Reading.{readFactors, readTys, readFields, readTy, readC
 use Rattle.records.specs.Views.{recOf, from, viewAt}
 use Rattle.records.specs.Places.{Says, seen}
 use Rattle.records.specs.Holds.{viewOpen, viewAtom, viewBasic, Shows, HoldsFactor, HoldsFactors, HoldsProduct, Holds, HoldsTys, HoldsFields, HoldsCon, HoldsBinding, HoldsBound, HoldsScheme, HoldsBounds}
+use Rattle.records.specs.ByView.{con-by-view}
 use Rattle.records.specs.declared.View.{View}
 use Rattle.records.specs.declared.View.the-variants as view
 
@@ -134,8 +135,28 @@ module _ (s : List ℕ) where
   pub only-factors : (p q : Product ℕ) (at : ℕ) → length p ≡ length q → HoldsFactors s p at → HoldsFactors s q at → p ≡ q
   only-factors p q at e h k = same (factors-read p at h) (rw (← e) at (factors-read q at k))
 
-  pub only-con : (c d : Con ℕ) (at : ℕ) → depthCon c ≤ 64 → depthCon d ≤ 64 → HoldsCon s c at → HoldsCon s d at → c ≡ d
-  only-con c d at i j h k = same (con-read c at h i) (con-read d at k j)
+  pub only-product : (p q : Product ℕ) (at : ℕ) → HoldsProduct s p at → HoldsProduct s q at → p ≡ q
+  unfolding HoldsProduct
+  only-product p q at h k =
+      let z : view.Dim (length p) ≡ view.Dim (length q) = sym (h .0) ∙ k .0 in
+      let n : length p ≡ length q = cc in
+      only-factors p q (at + 1) n (h .1) (k .1)
 
-  pub only-binding : (b c : Binding ℕ) (at : ℕ) → depthBinding b ≤ 64 → depthBinding c ≤ 64 → HoldsBinding s b at → HoldsBinding s c at → b ≡ c
-  only-binding b c at i j h k = same (binding-read b at h i) (binding-read c at k j)
+  only-two : (f : Ty ℕ → Ty ℕ → Con ℕ) (l r l′ r′ : Ty ℕ) (at : ℕ) → Holds s l at → Holds s r (at + size l) → Holds s l′ at → Holds s r′ (at + size l′) → f l r ≡ f l′ r′
+  only-two f l r l′ r′ at h i h′ i′ =
+      let e = only l l′ at h h′ in
+      ap₂ f e (only r r′ (at + size l) i (subst (λ (t : Ty ℕ). Holds s r′ (at + size t)) (sym e) i′))
+
+  pub only-con : (c d : Con ℕ) (at : ℕ) → HoldsCon s c at → HoldsCon s d at → c ≡ d
+  unfolding HoldsCon
+  only-con c (equal l r) at h k = con-by-view s (λ x. x ≡ equal l r) c at h (k .0) (λ l′ r′ i j. only-two equal l′ r′ l r (at + 1) i j (k .1) (k .2))
+  only-con c (isDim t) at h k = con-by-view s (λ x. x ≡ isDim t) c at h (k .0) (λ u i. ap isDim (only u t (at + 1) i (k .1)))
+  only-con c (isScalar p) at h k = con-by-view s (λ x. x ≡ isScalar p) c at h (k .0) (λ q i. ap isScalar (only-product q p (at + 1) i (k .1)))
+  only-con c (hasField n l r) at h k = con-by-view s (λ x. x ≡ hasField n l r) c at h (k .0) (λ l′ r′ i j. only-two (hasField n) l′ r′ l r (at + 1) i j (k .1) (k .2))
+
+  pub only-binding : (b c : Binding ℕ) (at : ℕ) → HoldsBinding s b at → HoldsBinding s c at → b ≡ c
+  unfolding HoldsBinding
+  only-binding (x ≔ t) (y ≔ u) at h k =
+      let z : view.Binding x ≡ view.Binding y = sym (h .0) ∙ k .0 in
+      let n : x ≡ y = cc in
+      ap₂ _≔_ n (only t u (at + 1) (h .1) (k .1))

@@ -6,6 +6,7 @@ pub mod InProducts
 pub mod Left
 pub mod LineRules
 pub mod LineLaws
+pub mod Flat
 pub mod Weaker
 pub mod Given
 pub mod Written

@@ -131,7 +131,7 @@ module _ (pool table : List ℕ) where
         let (u, v) = parted (writeLine x) (collect writeLine xs) rest at (sizeLine x) (line-length x) e in
         (line-held x at (collect writeLine xs ++ rest) (g .0) u, lines-held xs (at + sizeLine x) rest (g .1) v)
 
-  all-length : (xs : List Line) → length (collect writeLine xs) ≡ sumOf sizeLine xs
+  pub all-length : (xs : List Line) → length (collect writeLine xs) ≡ sumOf sizeLine xs
   unfolding collect
   all-length [] = refl
   all-length (x ∷ xs) = length-append (writeLine x) (collect writeLine xs) ∙ ap₂ _+_ (line-length [] x) (all-length xs)

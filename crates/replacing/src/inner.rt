@@ -2,5 +2,6 @@
 pub mod bound;
 pub mod dims;
 pub mod factors;
+pub mod flat;
 pub mod lines;
 pub mod walk;

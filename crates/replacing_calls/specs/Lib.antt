@@ -1,9 +1,5 @@
-pub mod Told
 pub mod Entry
-pub mod Fits
+pub mod Kept
+pub mod Stands
 pub mod Made
-pub mod Filled
 pub mod Whole
-pub mod Lent
-pub mod CallOnType
-pub mod Determined

@@ -4,10 +4,10 @@ use mathlib.Core.List.{List, _++_, append-nil}
 use native.Mathlib.Omega.{arith}
 use borrow.Author.Fill.{fill-none, fill-more}
 use lib.ListN.{length, drop, set, replicate, length-set, drop-of-length-le}
-use Rattle.replacing_calls.proofs.inner.clear.Statement.{statement}
-use Rattle.replacing_calls.proofs.inner.clear.Tie as tie
-use Rattle.replacing_calls.proofs.inner.clear.Reads as reads
-use Rattle.replacing_calls.proofs.inner.clear.Lts as lts
+use Rattle.lending.proofs.inner.clear.Statement.{statement}
+use Rattle.lending.proofs.inner.clear.Tie as tie
+use Rattle.lending.proofs.inner.clear.Reads as reads
+use Rattle.lending.proofs.inner.clear.Lts as lts
 
 abbrev Inv-loop : tie.InvT-loop
 Inv-loop work₀ i₀ work i =

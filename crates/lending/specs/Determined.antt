@@ -1,13 +1,13 @@
--- The contract leaves no choice: two results that it allows coincide, with both buffers. Assumes nothing.
+-- An answer with its buffers is told in one way: two that are told the same coincide. Assumes nothing.
 use mathlib.Core.Path.{_≡_, ap}
 use mathlib.Core.List.{List}
 use Prim.Native.Nat.{ℕ}
 use native.Mathlib.Omega.{arith}
 use Rattle.rules.specs.Calls.{Written}
 use Rattle.laws.specs.Numbers.{number-injective}
-use Rattle.replacing_calls.specs.declared.Answer.{Answer}
-use Rattle.replacing_calls.specs.declared.Answer.the-variants.{Records, Refused}
-use Rattle.replacing_calls.specs.Told.{told, writtenAs}
+use Rattle.lending.specs.declared.Answer.{Answer}
+use Rattle.lending.specs.declared.Answer.the-variants.{Records, Refused}
+use Rattle.lending.specs.Told.{told, writtenAs}
 
 told-injective : (a b : Answer) → told a ≡ told b → a ≡ b
 told-injective (Records n) (Records m) e = ap Records (cc)

@@ -1,0 +1,4 @@
+pub mod Told
+pub mod Handed
+pub mod Lent
+pub mod Determined
