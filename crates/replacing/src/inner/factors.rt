@@ -5,11 +5,12 @@ use products::Product;
 use records::Open;
 ghost use mathlib.Core.Path.{_≡_};
 ghost use mathlib.Core.List.{[], _∷_};
+ghost use Prim.Native.Nat.{_<_};
 ghost use Rattle.rules.specs.Products.{single};
 ghost use Rattle.rules.specs.Trees.{_↑_, free};
 ghost use Rattle.rules.specs.Values.{valueOf};
 ghost use Rattle.exponents.specs.Answers.{expOf};
-ghost use Rattle.products.specs.Told.{valueIn, treeOf, productOf};
+ghost use Rattle.products.specs.Told.{valueIn, treeOf, productOf, factorAt};
 ghost use Rattle.products.specs.Kinds.{Kind};
 ghost use Rattle.products.specs.Held.{Sound};
 ghost use Rattle.records.specs.Holds.{openOf};
@@ -42,6 +43,14 @@ pub fn free_factor(o: Open, exp: Exponent) -> Factor
             exp,
         },
     }
+}
+
+// The factor at a place.
+pub fn factor_at(p: Product, i: usize) -> Factor
+    requires { ⌜ i < 64 ⌝ }
+    ensures { λ r. ⌜ r ≡ factorAt p i ⌝ }
+{
+    p.factors[i]
 }
 
 fn lone(f: Factor) -> Alone
