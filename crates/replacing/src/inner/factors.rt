@@ -14,7 +14,7 @@ ghost use Rattle.products.specs.Told.{valueIn, treeOf, productOf, factorAt};
 ghost use Rattle.products.specs.Kinds.{Kind};
 ghost use Rattle.products.specs.Held.{Sound};
 ghost use Rattle.records.specs.Holds.{openOf};
-ghost use Rattle.replacing.specs.Alone.{toldAlone};
+ghost use Rattle.replacing.specs.Alone.{toldAlone, picked};
 
 // The variable of a product that is one variable to the power 1.
 pub enum Alone {
@@ -81,4 +81,12 @@ pub fn single(p: Product) -> Alone
     } else {
         Alone::Not
     }
+}
+
+// The variable that a product is, where it stands for a type.
+pub fn picked(p: Product, as_type: bool) -> Alone
+    requires { ⌜ Sound p ⌝ }
+    ensures { λ r. ⌜ toldAlone r ≡ picked as_type (productOf p) ⌝ }
+{
+    if as_type { single(p) } else { Alone::Not }
 }

@@ -323,7 +323,7 @@ replace-type-returns-2 t c =
 
 -- src/inner/walk.rt:175:1
 replace-type-same-length-3 : (t : ℕ) → replace-type-lts.Need-same-length-3 (Y t) (replace-type-at t) replace-type.Post
-replace-type-same-length-3 t c = c .before .before .replace-dim .kept .1 .1 .1 .1 .1 .1 .1 .1 .0
+replace-type-same-length-3 t c = c .before .before .replace-dim .kept .1 .1 .1 .1 .1 .1 .1 .1 .1 .0
 
 -- src/inner/walk.rt:175:1
 replace-type-returns-3 : (t : ℕ) → replace-type-lts.Need-returns-3 (Y t) (replace-type-at t) replace-type.Post
