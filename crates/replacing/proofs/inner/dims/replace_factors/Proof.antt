@@ -18,17 +18,17 @@ Inv-loop pool table p v b e acc₀ i₀ acc i =
 abbrev μ-loop : tie.MeasureT-loop
 μ-loop pool table p v b e acc₀ i₀ acc i = p .len - i
 
--- src/inner/dims.rt:145:5
+-- src/inner/dims.rt:147:5
 loop-holds : tie.Need-loop-holds Inv-loop μ-loop
 loop-holds c = (omega arith, λ a bs w l. going-start (c .before .before .before .args .pool .now) (c .before .before .before .args .table .now) (c .before .before .before .args .p) a bs w)
 
--- src/inner/dims.rt:146:17
+-- src/inner/dims.rt:148:17
 factor-at-requires : tie.Need-factor-at-requires Inv-loop μ-loop
 factor-at-requires c κs =
     let s = c .before .before .before .before .before .before in
     omega (arith, taken (s .args .pool .now) (s .args .table .now) (s .args .p) (s .pre .1 .0 .0) (s .pre .1 .0 .1) .well .few)
 
--- src/inner/dims.rt:147:17
+-- src/inner/dims.rt:149:17
 replace-factor-requires : tie.Need-replace-factor-requires Inv-loop μ-loop
 replace-factor-requires c κs =
     let s = c .before .before .before .before .before .before .before in
@@ -39,11 +39,11 @@ replace-factor-requires c κs =
 enum-told : tie.Need-enum-told Inv-loop μ-loop
 enum-told c = search needs
 
--- src/inner/dims.rt:150:13
+-- src/inner/dims.rt:152:13
 enum-told-2 : tie.Need-enum-told-2 Inv-loop μ-loop
 enum-told-2 c = search needs
 
--- src/inner/dims.rt:150:13
+-- src/inner/dims.rt:152:13
 returns : tie.Need-returns Inv-loop μ-loop
 returns c = λ a bs w l.
     let s = c .before .before .before .before .before .before .before .before .before .before .args in
@@ -52,17 +52,17 @@ returns c = λ a bs w l.
     let h = rw (c .before .before .before .factor-at .ensures) at (c .before .before .replace-factor .ensures (g .tree) bs (g .whole) l) in
     going-stop (s .pool .now) (s .table .now) (s .p) a bs w (n .acc) (n .i) (c .before .before .before .before .if1 .taken) g (c .before .before .replace-factor .result) h (because (c .enum-told2 .given .1))
 
--- src/inner/dims.rt:153:9
+-- src/inner/dims.rt:155:9
 add-i : tie.Need-add-i Inv-loop μ-loop
 add-i c =
     let s = c .before .before .before .before .before .before .before .before .before .before .before in
     omega (arith, taken (s .args .pool .now) (s .args .table .now) (s .args .p) (s .pre .1 .0 .0) (s .pre .1 .0 .1) .well .few)
 
--- src/inner/dims.rt:145:5
+-- src/inner/dims.rt:147:5
 loop-less : tie.Need-loop-less Inv-loop μ-loop
 loop-less c = omega arith
 
--- src/inner/dims.rt:145:5
+-- src/inner/dims.rt:147:5
 loop-again : tie.Need-loop-again Inv-loop μ-loop
 loop-again c = (
   omega arith,
@@ -74,11 +74,11 @@ loop-again c = (
       going-on (s .pool .now) (s .table .now) (s .p) a bs w (n .acc) (n .i) (c .before .before .before .before .before .if1 .taken) g (c .before .before .before .replace-factor .result) h (l .good) (c .before .enum-told .given .1),
 )
 
--- src/inner/dims.rt:155:5
+-- src/inner/dims.rt:157:5
 made-requires : tie.Need-made-requires Inv-loop μ-loop
 made-requires c κs = tt
 
--- src/inner/dims.rt:129:1
+-- src/inner/dims.rt:132:1
 returns-2 : tie.Need-returns-2 Inv-loop μ-loop
 returns-2 c = λ a bs w l.
     let s = c .before .before .before .before .before .before .before .args in
