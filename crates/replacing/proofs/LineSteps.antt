@@ -9,8 +9,8 @@ use lib.ListN.{length}
 use lib.Seq.{sets}
 use Rattle.rules.specs.Base.{Got, got, refused, _>>=_, bounded, each, collect, sumOf}
 use Rattle.rules.specs.Names.{tableOf, isHeld}
-use Rattle.rules.specs.Replacing.{replaceProduct, replaceTy, replaceTys, replaceCon, replaceBinding}
-use Rattle.rules.specs.Trees.{Ty, Tys, nil, cons, Con, equal, isDim, isScalar, hasField, Binding, _≔_, size, sizeTys, sizeCon, sizeBinding, count}
+use Rattle.rules.specs.Replacing.{replaceProduct, replaceDim, replaceTy, replaceTys, replaceCon, replaceBinding}
+use Rattle.rules.specs.Trees.{Ty, dim, Tys, nil, cons, Con, equal, isDim, isScalar, hasField, Binding, _≔_, size, sizeTys, sizeCon, sizeBinding, count}
 use Rattle.rules.specs.WellFormed.{goodTy, goodCon, goodBinding}
 use Rattle.rules.specs.Writing.{Rec, rec, words, writeProduct, writeTy, writeTys, writeCon, writeBinding}
 use Rattle.rules.specs.declared.Refusal.{Refusal}
@@ -30,7 +30,7 @@ use Rattle.replacing.specs.Well as well
 use Rattle.replacing.specs.Well.{GoodTy, GoodCon, GoodBinding, HeldDim, Lent}
 use Rattle.replacing.specs.InProducts.{product-kept}
 use Rattle.replacing.specs.Writes.{writes}
-use Rattle.replacing.specs.Left.{Left, LeftOf, Room, types, sizeRow, writeRow, HeldRow, look, Replaced, RowReplaced, ProductReplaced, sizeProduct}
+use Rattle.replacing.specs.Left.{Left, LeftOf, Room, types, sizeRow, writeRow, HeldRow, look, Replaced, RowReplaced, ProductReplaced, DimReplaced, sizeProduct}
 use Rattle.replacing.specs.LineRules.{Line, con, binding, sizeLine, writeLine, HoldsLine, GoodLine, HeldLine, HeldLines, ScalarHeld, replaceLine, ScalarReplaced, LineReplaced, LinesReplaced}
 use Rattle.replacing.specs.declared.inner.walk.Went.{Went}
 use Rattle.replacing.specs.declared.inner.walk.Went.the-variants.{To, Stop}
@@ -251,12 +251,17 @@ module _ (pool table s v : List ℕ) (b e : ℕ) where
     unfolding HoldsProduct
     scalar-in a h = seen-in s at (h .held .0) tt
 
+    -- a dimension that isn't read as a type is the product replaced
+    scalar-kept : (bs : List (Binding ℕ)) (a : Tree) (d d′ : List ℕ) (next : ℕ) (q : Went) → DimReplaced pool table bs false d d′ next out q a → ProductReplaced pool table bs d d′ next out q a
+    unfolding replaceDim size writeTy
+    scalar-kept bs a d d′ next q h = left-back sizeProduct writeProduct size writeTy dim (λ x. refl) (λ x. refl) d d′ next out q (replaceProduct (well.names pool table) bounded (look pool table bs) a) h
+
     pub scalar-done : {d d′ : List ℕ} {w : View} {n : ℕ} {q : Went} → w ≡ viewAt s at → w ≡ view.Dim n
-        → ((p : Tree) (bs : List (Binding ℕ)) → HeldDim pool table s p (at + 1) n → Lent pool table v b e bs → ProductReplaced pool table bs d d′ (at + 1 + n) out q p) → ScalarReplaced pool table s v b e d d′ at out q
-    scalar-done {n = n} p z k a bs h l =
+        → ((p : Tree) (bs : List (Binding ℕ)) → HeldDim pool table s p (at + 1) n → Lent pool table v b e bs → DimReplaced pool table bs false d d′ (at + 1 + n) out q p) → ScalarReplaced pool table s v b e d d′ at out q
+    scalar-done {d} {d′} {n = n} {q} p z k a bs h l =
         let y = scalar-dim a h p z in
         let i : at + 1 + n ≡ at + suc (length a) = omega (arith, y .many) in
-        rw i at (k a bs y l)
+        scalar-kept bs a d d′ (at + suc (length a)) q (rw i at (k a bs y l))
 
     abbrev pub undimmed : List ℕ
     undimmed = 0 ∷ 1 ∷ 3 ∷ 4 ∷ 5 ∷ 6 ∷ 7 ∷ 8 ∷ 9 ∷ 10 ∷ 11 ∷ 12 ∷ 13 ∷ 14 ∷ 15 ∷ 16 ∷ []

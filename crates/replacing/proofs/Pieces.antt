@@ -1,5 +1,6 @@
 -- What is written of an open name, of a product that was made and of a dimension. Assumes nothing.
 use mathlib.Core.Path.{_≡_, refl, sym, ap, _∙_}
+use mathlib.Core.Bool.{Bool}
 use mathlib.Core.List.{List, [], _∷_}
 use mathlib.Core.Option.{Option, none, some, Option·getD}
 use Prim.Native.Nat.{ℕ, _+_, _*_, _-_, _≤_}
@@ -8,7 +9,6 @@ use lib.ListN.{length}
 use lib.Seq.{sets, slice}
 use Rattle.rules.specs.Base.{Got, bounded}
 use Rattle.rules.specs.Names.{Bytes, numbered, tableOf, isHeld}
-use Rattle.rules.specs.Products.{single}
 use Rattle.rules.specs.Replacing.{bindings, replaceProduct, replaceDim}
 use Rattle.rules.specs.Trees as tree
 use Rattle.rules.specs.Trees.{Ty, opened, dim, Binding, size}
@@ -31,7 +31,7 @@ use Rattle.replacing.specs.Runs.{Run, LookedUp, found, looked-short}
 use Rattle.replacing.specs.Well as well
 use Rattle.replacing.specs.Well.{Whole, HeldDim, Lent}
 use Rattle.replacing.specs.InProducts.{done, taken, told-stop, told-value, product-kept}
-use Rattle.replacing.specs.Alone.{toldAlone}
+use Rattle.replacing.specs.Alone.{toldAlone, picked}
 use Rattle.replacing.specs.declared.inner.factors.Alone.{Alone}
 use Rattle.replacing.specs.declared.inner.factors.Alone.the-variants.{Of, Not}
 use Rattle.laws.specs.GoodProducts.{good-product}
@@ -129,24 +129,24 @@ module _ (pool table : List ℕ) where
 
   -- ══ A dimension ══
 
-  module _ (P : Product) (p : Tree) (bs : List (Binding ℕ)) (w : Whole pool table P p) {a : Alone} (e : toldAlone a ≡ single (productOf P)) (d d′ : List ℕ) (next out : ℕ) where
-    alone-is : {o : names.Open} → a ≡ Of o → single p ≡ some (openOf o)
-    alone-is q = ap single (taken pool table P p w .is) ∙ sym e ∙ ap toldAlone q
+  module _ (P : Product) (p : Tree) (bs : List (Binding ℕ)) (w : Whole pool table P p) {a : Alone} (f : Bool) (e : toldAlone a ≡ picked f (productOf P)) (d d′ : List ℕ) (next out : ℕ) where
+    alone-is : {o : names.Open} → a ≡ Of o → picked f p ≡ some (openOf o)
+    alone-is q = ap (picked f) (taken pool table P p w .is) ∙ sym e ∙ ap toldAlone q
 
-    pub dim-bound : {o : names.Open} {v : List ℕ} {b f i j : ℕ} {short : f ≤ b + 2048} → a ≡ Of o → Copied v b f short (look pool table bs (openOf o)) i j → d′ ≡ sets d (out * 4) (slice (i * 4) (j * 4) v)
-        → DimReplaced pool table bs d d′ next out (To next (out + (j - i))) p
+    pub dim-bound : {o : names.Open} {v : List ℕ} {b c i j : ℕ} {short : c ≤ b + 2048} → a ≡ Of o → Copied v b c short (look pool table bs (openOf o)) i j → d′ ≡ sets d (out * 4) (slice (i * 4) (j * 4) v)
+        → DimReplaced pool table bs f d d′ next out (To next (out + (j - i))) p
     unfolding replaceDim
-    dim-bound q c h =
-        left-made (c .type) (rw (alone-is q, c .is)) refl (ap (out +_) (c .long)) (h ∙ ap (sets d (out * 4)) (c .holds))
+    dim-bound q k h =
+        left-made (k .type) (rw (alone-is q, k .is)) refl (ap (out +_) (k .long)) (h ∙ ap (sets d (out * 4)) (k .holds))
 
     pub dim-kept : {o : names.Open} {n : ℕ} → a ≡ Of o → look pool table bs (openOf o) ≡ none → length p ≡ n → d′ ≡ sets d (out * 4) (words (writeProduct (productOf P)))
-        → DimReplaced pool table bs d d′ next out (To next (out + 1 + n)) p
+        → DimReplaced pool table bs f d d′ next out (To next (out + 1 + n)) p
     unfolding replaceDim size writeTy
     dim-kept q k l h =
         left-made (dim p) (rw (alone-is q, k)) refl (omega (arith, l)) (h ∙ ap (λ (x : Tree). sets d (out * 4) (words (writeProduct x))) (sym (taken pool table P p w .is)))
 
-    pub dim-replaced : {r : Went} → a ≡ Not → ProductReplaced pool table bs d d′ next out r p → DimReplaced pool table bs d d′ next out r p
+    pub dim-replaced : {r : Went} → a ≡ Not → ProductReplaced pool table bs d d′ next out r p → DimReplaced pool table bs f d d′ next out r p
     unfolding replaceDim size writeTy
     dim-replaced {r} q h =
-        let z : single p ≡ none = ap single (taken pool table P p w .is) ∙ sym e ∙ ap toldAlone q in
+        let z : picked f p ≡ none = ap (picked f) (taken pool table P p w .is) ∙ sym e ∙ ap toldAlone q in
         rw z (left-as sizeProduct writeProduct size writeTy dim (λ x. refl) (λ x. refl) d d′ next out r (replaceProduct (well.names pool table) bounded (look pool table bs) p) h)

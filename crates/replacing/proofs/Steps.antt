@@ -106,7 +106,7 @@ module _ (pool table s v : List ℕ) (b e : ℕ) where
         left-made (basic (basicOf k)) refl refl refl (kept d d′ out w (view.Basic k) x q ∙ ap (λ (y : List Rec). sets d (out * 4) (words y)) (basic-rec k))) (h .good)
 
     pub dim-here : {d d′ : List ℕ} {w : View} {n : ℕ} {r : Went} → w ≡ viewAt s at → w ≡ view.Dim n
-        → ((p : Tree) (bs : List (Binding ℕ)) → HeldDim pool table s p (at + 1) n → Lent pool table v b e bs → DimReplaced pool table bs d d′ (at + 1 + n) out r p) → Replaced pool table s v b e d d′ at out r
+        → ((p : Tree) (bs : List (Binding ℕ)) → HeldDim pool table s p (at + 1) n → Lent pool table v b e bs → DimReplaced pool table bs true d d′ (at + 1 + n) out r p) → Replaced pool table s v b e d d′ at out r
     unfolding size replaceTy
     dim-here {d} {d′} {n = n} {r} p q k t bs h l =
         by-view s (Leaves bs d d′ r) t at (h .held) (sym p ∙ q) (λ x c hx g.

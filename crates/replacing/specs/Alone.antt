@@ -27,6 +27,11 @@ abbrev pub toldAlone : Alone → Option (trees.Open ℕ)
 toldAlone (Of o) = some (openOf o)
 toldAlone Not = none
 
+-- the variable that a product is where it stands for a type; the product of an equal-scalar is none
+abbrev pub picked : Bool → trees.Product ℕ → Option (trees.Open ℕ)
+picked true p = single p
+picked false p = none
+
 module _ (f : Factor) where
   module _ (b : Bool) (e : b ≡ isYes (Exp-dec (expOf (f .exp)) one)) where
     pub alone-var : b ≡ true → f .kind ≡ 11 → some (trees.var (f .name)) ≡ single (treeOf f ∷ [])

@@ -1,21 +1,21 @@
 -- Replacing in a product, factor by factor. Assumes nothing.
-use mathlib.Core.Path.{_≡_, refl, sym, ap, subst, _∙_}
-use mathlib.Core.Bool.{Bool, true, false, and-eq-true-iff}
+use mathlib.Core.Path.{_≡_, refl, sym, ap, _∙_}
+use mathlib.Core.Bool.{true, and-eq-true-iff}
 use mathlib.Core.List.{List, [], _∷_}
 use mathlib.Core.Option.{Option, none, some}
-use Prim.Native.Nat.{ℕ, suc, _+_, _≤_, _<_}
+use Prim.Native.Nat.{ℕ, _+_, _≤_, _<_}
 use native.Mathlib.Omega.{arith}
 use lib.ListN.{length, drop, drop-of-length-le}
-use Rattle.rules.specs.Base.{Got, got, refused, _>>=_, bounded, all, sumOf, isYes}
+use Rattle.rules.specs.Base.{Got, got, refused, _>>=_, bounded, all}
 use Rattle.rules.specs.Exponents.{Exp, goodExp, goodStored, one, goodExp}
 use Rattle.rules.specs.Names.{tableOf, isHeld}
 use Rattle.rules.specs.Products.{divide, raise, multiply}
-use Rattle.rules.specs.Replacing.{Look, asProduct, replaceFactors, replaceProduct, find, bindings}
+use Rattle.rules.specs.Replacing.{Look, asProduct, replaceFactors, replaceProduct, bindings}
 use Rattle.rules.specs.Refusals.{numberOf}
 use Rattle.rules.specs.declared.Refusal.{Refusal}
-use Rattle.rules.specs.Trees.{Open, var, quant, par, Atom, free, base, Factor, _↑_, Names, Ty, Binding, _≔_, size, sizeBinding}
+use Rattle.rules.specs.Trees.{Open, var, Atom, free, base, Factor, _↑_, Names, Ty, Binding, size}
 use Rattle.rules.specs.Values.{productValue, atomIn}
-use Rattle.rules.specs.WellFormed.{goodOpen, goodFactor, goodProduct, goodTy, goodBinding, rising}
+use Rattle.rules.specs.WellFormed.{goodOpen, goodFactor, goodProduct, goodBinding, rising}
 use Rattle.laws.specs.GoodProducts.{multiply-good, divide-good, raise-good, goodAtom}
 use Rattle.laws.specs.KeepsGood as laws
 use Rattle.laws.specs.Ranges.{stored-good}
@@ -33,7 +33,7 @@ use Rattle.names.specs.declared.Checked.the-variants.{Good as Well′, Refused 
 use Rattle.records.specs.ByView.{in-reach}
 use Rattle.replacing.specs.declared.inner.bound.Found.{Found}
 use Rattle.replacing.specs.declared.inner.bound.Found.the-variants.{At}
-use Rattle.replacing.specs.Runs.{LookedUp, found}
+use Rattle.replacing.specs.Runs.{LookedUp, found, looked-short, looked-good}
 use Rattle.replacing.specs.Well.{names, GoodFactor, GoodProduct, GoodTy, Whole, HeldType, Lent}
 
 -- what the atom of a factor is bound to
@@ -156,37 +156,9 @@ module _ (pool table : List ℕ) where
   unfolding tableOf
   fine-good f g = tree-good (names pool table) (heldIn table) (atomAt f) (expOf (f .exp)) ∙ and-eq-true-iff (goodAtom (names pool table) (heldIn table) 4_294_967_296 (atomAt f)) (goodStored (expOf (f .exp))) .1 (g .atom, g .stored)
 
-  -- a type that is found in a run is well formed, and short
-  pub record Bound′ (bs : List (Binding ℕ)) (t : Ty ℕ) : Type 0 where
-    pub good : GoodTy pool table t
-    pub short : suc (size t) ≤ sumOf sizeBinding bs
-
-  found-good : (bs : List (Binding ℕ)) (x : ℕ) (t : Ty ℕ) → all (goodBinding (names pool table) (isHeld (tableOf pool table)) 4_294_967_296) bs ≡ true → find (names pool table) bs x ≡ some t → Bound′ bs t
-  unfolding find all goodBinding sizeBinding
-  found-good [] x t g e = absurd (let z : _≡_ {A = ℕ} 0 1 = cc in omega arith)
-  found-good (y ≔ u ∷ bs) x t g e = go (isYes (names pool table .same x y)) refl (found-good bs x t (r .1))
-    where
-      r : (goodBinding (names pool table) (isHeld (tableOf pool table)) 4_294_967_296 (y ≔ u) ≡ true) × (all (goodBinding (names pool table) (isHeld (tableOf pool table)) 4_294_967_296) bs ≡ true)
-      r = and-eq-true-iff (goodBinding (names pool table) (isHeld (tableOf pool table)) 4_294_967_296 (y ≔ u)) (all (goodBinding (names pool table) (isHeld (tableOf pool table)) 4_294_967_296) bs) .0 g
-
-      go : (b : Bool) → isYes (names pool table .same x y) ≡ b → (find (names pool table) bs x ≡ some t → Bound′ bs t) → Bound′ (y ≔ u ∷ bs) t
-      go true q ih =
-          let z : some u ≡ some t = rw (find, q) at e in
-          let k : u ≡ t = cc in
-          record {
-            good = subst (GoodTy pool table) k (and-eq-true-iff (isHeld (tableOf pool table) y) (goodTy _ _ _ u) .0 (r .0) .1);
-            short = omega (arith, ap size k);
-          }
-      go false q ih =
-          let z : find (names pool table) bs x ≡ some t = rw (find, q) at e in
-          let b = ih z in
-          record { good = b .good; short = omega (arith, b .short) }
-
-  pub looked-good : (bs : List (Binding ℕ)) (o : Open ℕ) (t : Ty ℕ) → all (goodBinding (names pool table) (isHeld (tableOf pool table)) 4_294_967_296) bs ≡ true → bindings (names pool table) bs o ≡ some t → Bound′ bs t
-  unfolding bindings
-  looked-good bs (var x) t g e = found-good bs x t g e
-  looked-good bs (quant i) t g e = absurd (let z : _≡_ {A = ℕ} 0 1 = cc in omega arith)
-  looked-good bs (par x) t g e = absurd (let z : _≡_ {A = ℕ} 0 1 = cc in omega arith)
+  -- what is bound is well formed
+  pub bound-good : (bs : List (Binding ℕ)) (o : Open ℕ) (t : Ty ℕ) → all (goodBinding (names pool table) (isHeld (tableOf pool table)) 4_294_967_296) bs ≡ true → bindings (names pool table) bs o ≡ some t → GoodTy pool table t
+  bound-good = looked-good (names pool table) (isHeld (tableOf pool table)) 4_294_967_296
 
   -- a product that was made is well formed
   pub record Fresh (t : Tried) (m : Got Tree) : Type 0 where
@@ -271,8 +243,7 @@ module _ (pool table : List ℕ) where
   pub lent-type : {v : List ℕ} {b e : ℕ} (bs : List (Binding ℕ)) (o : Open ℕ) {r : Found} {i j : ℕ} → Lent pool table v b e bs → LookedUp v (bindings (names pool table) bs o) r → r ≡ At i j → LentType v bs o i j
   lent-type {v} bs o {i = i} l h e =
       let f = found (bindings (names pool table) bs o) h e in
-      let g = looked-good bs o (f .type) (l .good) (f .is) in
-      record { type = f .type; is = f .is; held = record { held = f .held; good = g .good }; ends = f .ends; short = omega (arith, g .short, l .short, l .run .past); near = let k = in-reach v (f .type) i (f .held) in omega (arith, l .near) }
+      record { type = f .type; is = f .is; held = record { held = f .held; good = bound-good bs o (f .type) (l .good) (f .is) }; ends = f .ends; short = omega (arith, looked-short (names pool table) bs o (f .type) (f .is), l .short, l .run .past); near = let k = in-reach v (f .type) i (f .held) in omega (arith, l .near) }
 
   module _ (f : code.Factor) (bs : List (Binding ℕ)) where
     abbrev pub Looked : Option (Ty ℕ)
@@ -304,7 +275,7 @@ module _ (pool table : List ℕ) where
     factor-good a fine g h = put-good Looked (treeOf f) a (go (treeOf f) refl) (fine-good f fine) h
       where
         go : (x : Factor ℕ) → treeOf f ≡ x → (t : Ty ℕ) → atomLooked (bindings (names pool table) bs) x ≡ some t → GoodTy pool table t
-        go (free o ↑ e) q t k = looked-good bs o t g k .good
+        go (free o ↑ e) q t k = bound-good bs o t g k
         go (base n ↑ e) q t k = absurd (let z : _≡_ {A = ℕ} 0 1 = cc in omega arith)
 
   -- ══ All factors ══
@@ -351,4 +322,4 @@ module _ (pool table : List ℕ) where
 
   -- a product that was replaced is well formed again
   pub product-kept : (p : Tree) (bs : List (Binding ℕ)) → GoodProduct pool table p → all (goodBinding (names pool table) (isHeld (tableOf pool table)) 4_294_967_296) bs ≡ true → Gives (replaceProduct (names pool table) bounded (bindings (names pool table) bs) p) (GoodProduct pool table)
-  product-kept p bs h g = laws.product-kept (names pool table) (law pool table) (isHeld (tableOf pool table)) 4_294_967_296 (bindings (names pool table) bs) (λ o t q. looked-good bs o t g q .good) p h
+  product-kept p bs h g = laws.product-kept (names pool table) (law pool table) (isHeld (tableOf pool table)) 4_294_967_296 (bindings (names pool table) bs) (λ o t q. bound-good bs o t g q) p h

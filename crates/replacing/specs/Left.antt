@@ -8,7 +8,6 @@ use lib.ListN.{length}
 use lib.Seq.{sets}
 use Rattle.rules.specs.Base.{Got, got, refused, _>>=_, bounded}
 use Rattle.rules.specs.Names.{Bytes, numbered}
-use Rattle.rules.specs.Products.{single}
 use Rattle.rules.specs.Refusals.{numberOf}
 use Rattle.rules.specs.Replacing.{Look, bindings, replaceProduct, replaceDim, replaceTy, replaceTys, replaceFields}
 use Rattle.rules.specs.Trees.{Open, Ty, opened, Tys, Fields, Binding, size, sizeTys, sizeFields, count, countFields}
@@ -21,6 +20,7 @@ use Rattle.records.specs.Holds.{HoldsTys, HoldsFields}
 use Rattle.records.specs.declared.View.{View}
 use Rattle.replacing.specs.declared.inner.walk.Went.{Went}
 use Rattle.replacing.specs.declared.inner.walk.Went.the-variants.{To, Stop}
+use Rattle.replacing.specs.Alone.{picked}
 use Rattle.replacing.specs.Well.{names, GoodTys, GoodFields, HeldType, Lent}
 
 -- at most 2,048 records are written for each that is read, so the count stays small
@@ -119,8 +119,8 @@ module _ (pool table : List ℕ) where
     abbrev pub ProductReplaced : List ℕ → List ℕ → ℕ → ℕ → Went → Tree → Type 0
     ProductReplaced d d′ next out r p = Left sizeProduct writeProduct d d′ next out r (replaceProduct (names pool table) bounded look p)
 
-    abbrev pub DimReplaced : List ℕ → List ℕ → ℕ → ℕ → Went → Tree → Type 0
-    DimReplaced d d′ next out r p = Left size writeTy d d′ next out r (replaceDim (names pool table) bounded look (single p) p)
+    abbrev pub DimReplaced : Bool → List ℕ → List ℕ → ℕ → ℕ → Went → Tree → Type 0
+    DimReplaced f d d′ next out r p = Left size writeTy d d′ next out r (replaceDim (names pool table) bounded look (picked f p) p)
 
   -- for each type that is held at the place, and all bindings that are lent
   abbrev pub Replaced : List ℕ → List ℕ → ℕ → ℕ → List ℕ → List ℕ → ℕ → ℕ → Went → Type 0

@@ -1,6 +1,6 @@
 -- A run of bindings in a part of a list of words, and what a variable is bound to there. Assumes nothing.
 use mathlib.Core.Path.{_≡_, refl, sym, ap, subst, _∙_}
-use mathlib.Core.Bool.{Bool, true, false}
+use mathlib.Core.Bool.{Bool, true, false, and-eq-true-iff}
 use mathlib.Core.List.{List, [], _∷_}
 use mathlib.Core.Option.{Option, none, some}
 use Prim.Native.Nat.{ℕ, suc, _+_, _≤_, _<_, _/_}
@@ -9,10 +9,11 @@ use native.Mathlib.Omega.{arith}
 use lib.Dec.{eqb}
 use lib.ListN.{length}
 use borrow.Author.Tests.{eq-eqb, ne-eqb}
-use Rattle.rules.specs.Base.{sumOf, isYes}
+use Rattle.rules.specs.Base.{all, sumOf, isYes}
 use Rattle.rules.specs.Names.{Bytes, numbered}
 use Rattle.rules.specs.Trees.{Open, var, quant, par, Names, Ty, Binding, _≔_, size, sizeBinding}
 use Rattle.rules.specs.Replacing.{find, bindings}
+use Rattle.rules.specs.WellFormed.{goodTy, goodBinding}
 use Rattle.records.specs.Views.{viewAt}
 use Rattle.records.specs.Holds.{Holds, HoldsBinding}
 use Rattle.records.specs.ByView.{ends-in}
@@ -175,3 +176,26 @@ unfolding bindings
 looked-short ν bs (var x) t e = found-short ν bs x t e
 looked-short ν bs (quant i) t e = absurd (let z : _≡_ {A = ℕ} 0 1 = cc in omega arith)
 looked-short ν bs (par x) t e = absurd (let z : _≡_ {A = ℕ} 0 1 = cc in omega arith)
+
+-- what is found among well formed bindings is well formed
+module _ (ν : Names ℕ) (known : ℕ → Bool) (q : ℕ) where
+  pub found-good : (bs : List (Binding ℕ)) (x : ℕ) (t : Ty ℕ) → all (goodBinding ν known q) bs ≡ true → find ν bs x ≡ some t → goodTy ν known q t ≡ true
+  unfolding find all goodBinding
+  found-good [] x t g e = absurd (let z : _≡_ {A = ℕ} 0 1 = cc in omega arith)
+  found-good (y ≔ u ∷ bs) x t g e = go (isYes (ν .same x y)) refl (found-good bs x t (r .1))
+    where
+      r : (goodBinding ν known q (y ≔ u) ≡ true) × (all (goodBinding ν known q) bs ≡ true)
+      r = and-eq-true-iff (goodBinding ν known q (y ≔ u)) (all (goodBinding ν known q) bs) .0 g
+
+      go : (b : Bool) → isYes (ν .same x y) ≡ b → (find ν bs x ≡ some t → goodTy ν known q t ≡ true) → goodTy ν known q t ≡ true
+      go true i ih =
+          let z : some u ≡ some t = rw (find, i) at e in
+          let k : u ≡ t = cc in
+          subst (λ (v : Ty ℕ). goodTy ν known q v ≡ true) k (and-eq-true-iff (known y) (goodTy ν known q u) .0 (r .0) .1)
+      go false i ih = let z : find ν bs x ≡ some t = rw (find, i) at e in ih z
+
+  pub looked-good : (bs : List (Binding ℕ)) (o : Open ℕ) (t : Ty ℕ) → all (goodBinding ν known q) bs ≡ true → bindings ν bs o ≡ some t → goodTy ν known q t ≡ true
+  unfolding bindings
+  looked-good bs (var x) t g e = found-good bs x t g e
+  looked-good bs (quant i) t g e = absurd (let z : _≡_ {A = ℕ} 0 1 = cc in omega arith)
+  looked-good bs (par x) t g e = absurd (let z : _≡_ {A = ℕ} 0 1 = cc in omega arith)

@@ -29,7 +29,7 @@ use Rattle.records.specs.Held.{held, product-held}
 use Rattle.replacing.specs.Runs.{HoldsAll}
 use Rattle.replacing.specs.Well as well
 use Rattle.replacing.specs.Well.{Lent}
-use Rattle.replacing.specs.InProducts.{looked-good}
+use Rattle.replacing.specs.InProducts.{bound-good}
 use Rattle.replacing.specs.Left.{look}
 use Rattle.replacing.specs.LineRules.{Line, con, binding, sizeLine, writeLine, HoldsLine, GoodLine, EachGood, HeldLines, replaceLine}
 
@@ -147,8 +147,8 @@ module _ (pool table : List ℕ) where
 
   module _ {v : List ℕ} {b e : ℕ} (bs : List (Binding ℕ)) (l : Lent pool table v b e bs) where
     line-kept : (x : Line) → GoodLine pool table x → Gives (replaceLine pool table bs x) (GoodLine pool table)
-    line-kept (con c) g = next (laws.con-kept (well.names pool table) (law pool table) known′ 4_294_967_296 (look pool table bs) (λ o t q. looked-good pool table bs o t (l .good) q .good) c g) (λ d h. gives h)
-    line-kept (binding x) g = next (laws.binding-kept (well.names pool table) (law pool table) known′ 4_294_967_296 (look pool table bs) (λ o t q. looked-good pool table bs o t (l .good) q .good) x g) (λ d h. gives h)
+    line-kept (con c) g = next (laws.con-kept (well.names pool table) (law pool table) known′ 4_294_967_296 (look pool table bs) (λ o t q. bound-good pool table bs o t (l .good) q) c g) (λ d h. gives h)
+    line-kept (binding x) g = next (laws.binding-kept (well.names pool table) (law pool table) known′ 4_294_967_296 (look pool table bs) (λ o t q. bound-good pool table bs o t (l .good) q) x g) (λ d h. gives h)
 
     pub lines-kept : (xs : List Line) → EachGood pool table xs → Gives (each (replaceLine pool table bs) xs) (EachGood pool table)
     unfolding each

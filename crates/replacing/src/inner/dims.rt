@@ -1,6 +1,7 @@
 // Replacing in products: each factor of a bound variable goes, and the bound dimension comes in its place.
 use super::bound::Found;
 use super::bound::look_up;
+use super::factors::factor_at;
 use super::factors::free_factor;
 use exponents::Exponent;
 use loading::inner::load;
@@ -141,11 +142,10 @@ pub fn replace_factors(
     requires { ⌜ ((bs : List (Binding ℕ)) × Lent (now pool) (now table) (now v) b e bs) ⌝ }
     ensures { λ r. ⌜ ((a : Tree) (bs : List (Binding ℕ)) → Whole (now (pool .entry)) (now (table .entry)) p a → Lent (now (pool .entry)) (now (table .entry)) (now (v .entry)) b e bs → told r ≡ answer (replaceProduct (names (now (pool .entry)) (now (table .entry))) bounded (bindings (names (now (pool .entry)) (now (table .entry))) bs) a)) ⌝ }
 {
-    let n = p.len;
     let mut acc = p;
     let mut i = 0;
-    while i < n {
-        let f = p.factors[i];
+    while i < p.len {
+        let f = factor_at(p, i);
         let t = replace_factor(pool, table, acc, f, v, b, e);
         let checked = t.checked;
         let Checked::Good = checked else {

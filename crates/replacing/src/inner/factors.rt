@@ -5,15 +5,16 @@ use products::Product;
 use records::Open;
 ghost use mathlib.Core.Path.{_≡_};
 ghost use mathlib.Core.List.{[], _∷_};
+ghost use Prim.Native.Nat.{_<_};
 ghost use Rattle.rules.specs.Products.{single};
 ghost use Rattle.rules.specs.Trees.{_↑_, free};
 ghost use Rattle.rules.specs.Values.{valueOf};
 ghost use Rattle.exponents.specs.Answers.{expOf};
-ghost use Rattle.products.specs.Told.{valueIn, treeOf, productOf};
+ghost use Rattle.products.specs.Told.{valueIn, treeOf, productOf, factorAt};
 ghost use Rattle.products.specs.Kinds.{Kind};
 ghost use Rattle.products.specs.Held.{Sound};
 ghost use Rattle.records.specs.Holds.{openOf};
-ghost use Rattle.replacing.specs.Alone.{toldAlone};
+ghost use Rattle.replacing.specs.Alone.{toldAlone, picked};
 
 // The variable of a product that is one variable to the power 1.
 pub enum Alone {
@@ -44,6 +45,14 @@ pub fn free_factor(o: Open, exp: Exponent) -> Factor
     }
 }
 
+// The factor at a place.
+pub fn factor_at(p: Product, i: usize) -> Factor
+    requires { ⌜ i < 64 ⌝ }
+    ensures { λ r. ⌜ r ≡ factorAt p i ⌝ }
+{
+    p.factors[i]
+}
+
 fn lone(f: Factor) -> Alone
     requires { ⌜ Kind (f .kind) ⌝ }
     ensures { λ r. ⌜ toldAlone r ≡ single (treeOf f ∷ []) ⌝ }
@@ -72,4 +81,12 @@ pub fn single(p: Product) -> Alone
     } else {
         Alone::Not
     }
+}
+
+// The variable that a product is, where it stands for a type.
+pub fn picked(p: Product, as_type: bool) -> Alone
+    requires { ⌜ Sound p ⌝ }
+    ensures { λ r. ⌜ toldAlone r ≡ picked as_type (productOf p) ⌝ }
+{
+    if as_type { single(p) } else { Alone::Not }
 }

@@ -1,7 +1,7 @@
 // Replacing in constraints and bindings: a line is either, and a set or a list of bindings is a run of lines.
 use super::walk::Went;
+use super::walk::replace_dim;
 use super::walk::replace_list;
-use super::walk::replace_scalar;
 use super::walk::replace_type;
 use records::View;
 use records::inner::put_record;
@@ -36,7 +36,7 @@ fn replace_equal_scalar(
     ensures { λ r. ⌜ ScalarReplaced (now (pool .entry)) (now (table .entry)) (now (s .entry)) (now (v .entry)) b e (now (dst .entry)) (now (dst .exit)) at out r ⌝ }
 {
     match view_at(s, at) {
-        View::Dim(n) => replace_scalar(pool, table, s, at + 1, n, v, b, e, dst, out),
+        View::Dim(n) => replace_dim(pool, table, s, at + 1, n, false, v, b, e, dst, out),
         _ => Went::Stop(Refusal::Malformed),
     }
 }

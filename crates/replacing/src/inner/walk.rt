@@ -3,7 +3,7 @@ use super::bound::Found;
 use super::bound::look_up;
 use super::dims::replace_factors;
 use super::factors::Alone;
-use super::factors::single;
+use super::factors::picked;
 use loading::inner::load;
 use loading::inner::store;
 use names::Checked;
@@ -96,13 +96,15 @@ fn replace_product(
     put_tried(replace_factors(pool, table, p, v, b, e), next, dst, out)
 }
 
-// Writes the product of n factors at a place with its bound variables replaced, as a product even at power 1.
-pub fn replace_scalar(
+// Writes the product of n factors at a place with its bound variables replaced.
+// As a type, one variable to the power 1 becomes what it is bound to; the product of an equal-scalar stays a product.
+pub fn replace_dim(
     pool: &[u8],
     table: &[u32],
     s: &[u32],
     at: usize,
     n: u32,
+    as_type: bool,
     v: &[u32],
     b: usize,
     e: usize,
@@ -114,36 +116,11 @@ pub fn replace_scalar(
     requires { ⌜ ((bs : List (Binding ℕ)) × Lent (now pool) (now table) (now v) b e bs) ⌝ }
     requires { ⌜ at ≤ 1000000000 ⌝ }
     requires { ⌜ out ≤ 1000000000 ⌝ }
-    ensures { λ r. ⌜ ((p : Tree) (bs : List (Binding ℕ)) → HeldDim (now (pool .entry)) (now (table .entry)) (now (s .entry)) p at n → Lent (now (pool .entry)) (now (table .entry)) (now (v .entry)) b e bs → ProductReplaced (now (pool .entry)) (now (table .entry)) bs (now (dst .entry)) (now (dst .exit)) (at + n) out r p) ⌝ }
+    ensures { λ r. ⌜ ((p : Tree) (bs : List (Binding ℕ)) → HeldDim (now (pool .entry)) (now (table .entry)) (now (s .entry)) p at n → Lent (now (pool .entry)) (now (table .entry)) (now (v .entry)) b e bs → DimReplaced (now (pool .entry)) (now (table .entry)) bs as_type (now (dst .entry)) (now (dst .exit)) (at + n) out r p) ⌝ }
 {
     let k = n as usize;
     let p = load(s, at, k);
-    replace_product(pool, table, p, at + k, v, b, e, dst, out)
-}
-
-// Writes the dimension of n factors at a place: one variable to the power 1 becomes what it is bound to.
-fn replace_dim(
-    pool: &[u8],
-    table: &[u32],
-    s: &[u32],
-    at: usize,
-    n: u32,
-    v: &[u32],
-    b: usize,
-    e: usize,
-    dst: &mut [u32],
-    out: usize,
-) -> Went
-    requires { ⌜ Good (now pool) (now table) ⌝ }
-    requires { ⌜ ((p : Tree) × HeldDim (now pool) (now table) (now s) p at n) ⌝ }
-    requires { ⌜ ((bs : List (Binding ℕ)) × Lent (now pool) (now table) (now v) b e bs) ⌝ }
-    requires { ⌜ at ≤ 1000000000 ⌝ }
-    requires { ⌜ out ≤ 1000000000 ⌝ }
-    ensures { λ r. ⌜ ((p : Tree) (bs : List (Binding ℕ)) → HeldDim (now (pool .entry)) (now (table .entry)) (now (s .entry)) p at n → Lent (now (pool .entry)) (now (table .entry)) (now (v .entry)) b e bs → DimReplaced (now (pool .entry)) (now (table .entry)) bs (now (dst .entry)) (now (dst .exit)) (at + n) out r p) ⌝ }
-{
-    let k = n as usize;
-    let p = load(s, at, k);
-    match single(p) {
+    match picked(p, as_type) {
         Alone::Of(o) => match look_up(v, b, e, o) {
             Found::At(i, j) => {
                 copy(v, i, j, dst, out);
@@ -199,7 +176,7 @@ pub fn replace_type(
             put_record(dst, out, w);
             Went::To(at + 1, out + 1)
         }
-        View::Dim(n) => replace_dim(pool, table, s, at + 1, n, v, b, e, dst, out),
+        View::Dim(n) => replace_dim(pool, table, s, at + 1, n, true, v, b, e, dst, out),
         View::Function(n) => {
             put_record(dst, out, w);
             match replace_list(pool, table, s, at + 1, n, false, v, b, e, dst, out + 1) {

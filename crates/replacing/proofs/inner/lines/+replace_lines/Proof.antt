@@ -31,25 +31,25 @@ replace-lines-below t =
 abbrev L : ℕ → replace-lines-lts.Claims
 L t = (replace-line-reads.Asked, replace-line-reads.Learnt, replace-lines-below t, replace-lines.Post)
 
--- src/inner/lines.rt:96:9
+-- src/inner/lines.rt:95:9
 replace-lines-returns : (t : ℕ) → replace-lines-lts.Need-returns (L t) (replace-lines-at t) replace-lines.Post
 replace-lines-returns t c =
     let S = c .before .before .before .before .before .before in
     let a = S .args in
     lines-done (a .pool .now) (a .table .now) (a .s .now) (a .v .now) (a .b) (a .e) (a .at) (a .end) (a .out) (c .if1 .taken)
 
--- src/inner/lines.rt:98:11
+-- src/inner/lines.rt:97:11
 replace-lines-replace-line-requires : (t : ℕ) → replace-lines-lts.Need-replace-line-requires (L t) (replace-lines-at t) replace-lines.Post
 replace-lines-replace-line-requires t c κs =
     let S = c .before .before .before .before .before .before .before in
     let a = S .args in
     (S .pre .1 .0, (lines-asks (a .pool .now) (a .table .now) (a .s .now) (a .v .now) (a .b) (a .e) (a .at) (a .end) (a .out) (S .pre .1 .1 .0 .0) (S .pre .1 .1 .0 .1) (before (c .before .if1 .left)), (S .pre .1 .1 .1 .0, S .pre .1 .1 .1 .1 .1)))
 
--- src/inner/lines.rt:99:18
+-- src/inner/lines.rt:98:18
 replace-lines-enum-known-q : (t : ℕ) → replace-lines-lts.Need-enum-known-q (L t) (replace-lines-at t) replace-lines.Post
 replace-lines-enum-known-q t c = search needs
 
--- src/inner/lines.rt:99:27
+-- src/inner/lines.rt:98:27
 replace-lines-replace-lines-requires : (t : ℕ) → replace-lines-lts.Need-replace-lines-requires (L t) (replace-lines-at t) replace-lines.Post
 replace-lines-replace-lines-requires t c κs =
     let S = c .before .before .before .before .before .before .before .before .before .before .before .before .before .before in
@@ -57,26 +57,26 @@ replace-lines-replace-lines-requires t c κs =
     let h = lines-next (a .pool .now) (a .table .now) (a .s .now) (a .v .now) (a .b) (a .e) (a .at) (a .end) (a .out) (S .pre .1 .1 .1 .1 .1) (S .pre .1 .1 .1 .0 .0) (S .pre .1 .1 .1 .0 .1) (S .pre .1 .1 .0 .0) (S .pre .1 .1 .0 .1) (before (c .before .before .before .before .before .before .before .before .if1 .left)) (c .before .before .before .before .before .before .replace-line .ensures) (c .before .before .q .given .1) in
     (omega (arith, S .pre .0, h .1, h .2), (S .pre .1 .0, (h .0, (S .pre .1 .1 .1 .0, (S .pre .1 .1 .1 .1 .0, h .3)))))
 
--- src/inner/lines.rt:100:20
+-- src/inner/lines.rt:99:20
 replace-lines-enum-known-k : (t : ℕ) → replace-lines-lts.Need-enum-known-k (L t) (replace-lines-at t) replace-lines.Post
 replace-lines-enum-known-k t c = search needs
 
--- src/inner/lines.rt:76:1
+-- src/inner/lines.rt:75:1
 replace-lines-same-length : (t : ℕ) → replace-lines-lts.Need-same-length (L t) (replace-lines-at t) replace-lines.Post
 replace-lines-same-length t c = c .before .before .replace-lines .kept .1 .1 .1 .1 .1 .1 .1 .1 .0 ∙ c .before .before .before .before .before .before .before .before .before .replace-line .kept .1 .1 .1 .1 .1 .1 .1 .0
 
--- src/inner/lines.rt:76:1
+-- src/inner/lines.rt:75:1
 replace-lines-returns-2 : (t : ℕ) → replace-lines-lts.Need-returns-2 (L t) (replace-lines-at t) replace-lines.Post
 replace-lines-returns-2 t c =
     let S = c .before .before .before .before .before .before .before .before .before .before .before .before .before .before .before .before .before in
     let a = S .args in
     lines-here (a .pool .now) (a .table .now) (a .s .now) (a .v .now) (a .b) (a .e) (a .at) (a .end) (a .out) (before (c .before .before .before .before .before .before .before .before .before .before .before .if1 .left)) (c .before .before .before .before .before .before .before .before .before .replace-line .ensures) (c .before .before .before .before .before .q .given .1) (c .before .before .replace-lines .ensures)
 
--- src/inner/lines.rt:76:1
+-- src/inner/lines.rt:75:1
 replace-lines-same-length-2 : (t : ℕ) → replace-lines-lts.Need-same-length-2 (L t) (replace-lines-at t) replace-lines.Post
 replace-lines-same-length-2 t c = c .before .before .before .before .before .replace-line .kept .1 .1 .1 .1 .1 .1 .1 .0
 
--- src/inner/lines.rt:76:1
+-- src/inner/lines.rt:75:1
 replace-lines-returns-3 : (t : ℕ) → replace-lines-lts.Need-returns-3 (L t) (replace-lines-at t) replace-lines.Post
 replace-lines-returns-3 t c =
     let S = c .before .before .before .before .before .before .before .before .before .before .before .before .before in
