@@ -10,3 +10,4 @@ pub mod Flat
 pub mod Weaker
 pub mod Given
 pub mod Written
+pub mod Kept

@@ -1,4 +1,4 @@
--- Lines that were written to a buffer are held there, and replacing keeps them well formed. Assumes nothing.
+-- Lines that were written to a buffer are held there. Assumes nothing.
 use mathlib.Core.Path.{_≡_, refl, sym, ap, ap₂, _∙_}
 use mathlib.Core.Bool.{Bool, true, not, _&&_}
 use mathlib.Core.List.{List, [], _∷_, _++_, map, append-assoc}
@@ -142,15 +142,3 @@ module _ (pool table : List ℕ) where
       let n = all-length xs in
       let z : from d′ out ≡ collect writeLine xs ++ from d (out + length (collect writeLine xs)) = ap (λ (l : List ℕ). from l out) e ∙ stored d (collect writeLine xs) out (omega arith) in
       record { held = lines-held d′ xs out _ g z; good = g; ends = refl }
-
-  -- ══ Replacing keeps lines well formed ══
-
-  module _ {v : List ℕ} {b e : ℕ} (bs : List (Binding ℕ)) (l : Lent pool table v b e bs) where
-    line-kept : (x : Line) → GoodLine pool table x → Gives (replaceLine pool table bs x) (GoodLine pool table)
-    line-kept (con c) g = next (laws.con-kept (well.names pool table) (law pool table) known′ 4_294_967_296 (look pool table bs) (λ o t q. bound-good pool table bs o t (l .good) q) c g) (λ d h. gives h)
-    line-kept (binding x) g = next (laws.binding-kept (well.names pool table) (law pool table) known′ 4_294_967_296 (look pool table bs) (λ o t q. bound-good pool table bs o t (l .good) q) x g) (λ d h. gives h)
-
-    pub lines-kept : (xs : List Line) → EachGood pool table xs → Gives (each (replaceLine pool table bs) xs) (EachGood pool table)
-    unfolding each
-    lines-kept [] g = gives tt
-    lines-kept (x ∷ xs) g = next (line-kept x (g .0)) (λ y i. next (lines-kept xs (g .1)) (λ ys j. gives (i, j)))

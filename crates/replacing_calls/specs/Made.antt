@@ -34,18 +34,19 @@ use Rattle.records.specs.Views.{from}
 use Rattle.records.specs.Whole.{type-is, set-is, bindings-is}
 use Rattle.replacing.specs.Flat.{depthLine, goodLine, PlainLines, state-limited}
 use Rattle.replacing.specs.Given.{row, given-type, given-set, given-bindings}
+use Rattle.replacing.specs.Kept.{plain-kept, plain-written}
 use Rattle.replacing.specs.Left.{Left, Room}
 use Rattle.replacing.specs.LineLaws.{cons-each, lines-long, lines-write}
 use Rattle.replacing.specs.LineRules.{Line, con, binding, sizeLine, writeLine, HeldLines, replaceLine}
+use Rattle.replacing.specs.Runs.{looked-good}
 use Rattle.replacing.specs.Well.{HeldType, Lent}
-use Rattle.replacing.specs.Written.{ty-fits, all-length, written-lines}
+use Rattle.replacing.specs.Written.{ty-fits, all-length}
 use Rattle.replacing.specs.declared.inner.walk.Went.{Went}
 use Rattle.replacing.specs.declared.inner.walk.Went.the-variants.{To, Stop}
 use Rattle.lending.specs.Told.{told, Front, Made}
 use Rattle.lending.specs.declared.Answer.{Answer}
 use Rattle.lending.specs.declared.Answer.the-variants.{Refused}
 use Rattle.replacing_calls.specs.Entry.{Entered}
-use Rattle.replacing_calls.specs.Kept.{looked-good, plain-kept, lines-weaker}
 use Rattle.replacing_calls.specs.Stands.{counted, TypeStands, typeCounted, LinesStand, linesCounted}
 
 -- ══ From a walk to what was made, whatever it writes ══
@@ -199,8 +200,5 @@ module _ (pool table : List ℕ) where
       pub lines-stand : (d d′ : List ℕ) (nx m : ℕ) (space : 16384 ≤ length d) → (c : Came (sumOf sizeLine) (maxOf depthLine) (collect writeLine) (all-length pool table) d d′ nx space (each (replaceLine pool table bs) (map con cs)) m) → LinesStand pool table d′ m (c .value)
       lines-stand d d′ nx m space c = record {
         many = c .many;
-        held = λ le.
-            let g = set-kept (c .value) (c .is) in
-            let h = written-lines pool table d d′ 0 (c .value) (c .buffer) (omega arith) (lines-weaker pool table (c .value) g) in
-            record { held = h .held; good = g; ends = omega (arith, c .many) };
+        held = λ le. subst (PlainLines pool table d′ (c .value) 0) (omega (arith, c .many)) (plain-written pool table d d′ 0 (c .value) (set-kept (c .value) (c .is)) (c .buffer) (omega arith));
       }
