@@ -3,7 +3,6 @@
 use mathlib.Core.Path.{_≡_, refl, sym, ap, _∙_}
 use mathlib.Core.Bool.{Bool, true, false, _&&_, _||_}
 use mathlib.Core.List.{List, [], _∷_, map}
-use mathlib.Core.Option.{none as nothing}
 use Prim.Native.Nat.{ℕ, Ordering·lt, Ordering·eq}
 use native.Mathlib.Omega.{arith}
 use Rattle.rules.specs.Base.{isYes, any, all, collect}

@@ -6,10 +6,10 @@ use mathlib.Core.Option.{Option, none as nothing, some}
 use Prim.Native.Nat.{ℕ, suc, _+_, _≤_, _<_}
 use native.Mathlib.Omega.{arith}
 use lib.ListN.{length, length-append}
-use Rattle.rules.specs.Base.{Got, Limits, bounded, andThen, each}
+use Rattle.rules.specs.Base.{Got, Limits, bounded, andThen}
 use Rattle.rules.specs.Trees.{Open, Names, Ty, Con, equal, isDim, isScalar, hasField, Binding, _≔_, orderAtom, opens}
 use Rattle.rules.specs.Replacing.{replaceTy, replaceCon, replaceBinding, bindings}
-use Rattle.rules.specs.Rounds.{Step, bind, split, done, stuck, State, taken, firstStep, sizeState, depthState, limited, perform, round}
+use Rattle.rules.specs.Rounds.{Step, bind, split, done, stuck, State, taken, firstStep, sizeState, depthState, limited, perform}
 use Rattle.laws.specs.Order.{Lawful}
 use Rattle.ending.specs.Members.{All, none, _&_, all-join, Member, without, shorter}
 use Rattle.ending.specs.Yields.{Yields, yields, next, within-yields, bounded-yields, each-yields}

@@ -8,7 +8,6 @@ use native.Mathlib.Omega.{arith}
 use lib.ListN.{length}
 use Rattle.rules.specs.Base.{bounded, all, collect, sumOf}
 use Rattle.rules.specs.Trees.{Open, var, quant, par, free, base, _↑_, Product, Names, Ty, opened, basic, dim, fn, struct, list, Tys, nil, cons, Fields, noFields, field, Con, equal, isDim, isScalar, hasField, Binding, orderAtom, opens, opensTys, opensFields, openOfFactor, opensCon, sizeCon}
-use Rattle.rules.specs.Views.{variable}
 use Rattle.rules.specs.Contents.{variablesIn, sort}
 use Rattle.rules.specs.WellFormed.{goodTy, goodCon, goodOpen}
 use Rattle.rules.specs.Rounds.{State}

@@ -1,11 +1,10 @@
 -- What is read with a nesting limit is nested no deeper.
 -- Assumes nothing.
-use mathlib.Core.Path.{_≡_, refl}
-use mathlib.Core.Option.{Option, none, some}
+use mathlib.Core.Option.{Option}
 use mathlib.Core.List.{List, [], _∷_}
-use Prim.Native.Nat.{ℕ, zero, suc, _≤_, max}
+use Prim.Native.Nat.{ℕ, zero, suc, _≤_}
 use native.Mathlib.Omega.{arith}
-use Rattle.rules.specs.Trees.{var, quant, par, Ty, opened, basic, dim, fn, struct, list, Tys, nil, cons, Fields, noFields, field, boolean, string, datetime, depth, depthTys, depthFields}
+use Rattle.rules.specs.Trees.{var, quant, par, Ty, opened, basic, boolean, string, datetime, depth, depthTys, depthFields}
 use Rattle.rules.specs.Writing.{Rec, rec}
 use Rattle.rules.specs.Reading.{Reader, give, next, readFactors, readTys, readFields, fieldName, readDim, readFn, readStruct, readList, typeTable, readTy}
 use Rattle.laws.specs.Written.{Reads, nothing, given, then, picked, plain}

@@ -1,18 +1,17 @@
 -- Where the bounded rules give a value, the exact rules give the same; where they refuse other than by 7 or 8, the exact rules refuse alike.
 -- Assumes nothing.
-use mathlib.Core.Path.{_≡_, refl, ap, _∙_, sym}
+use mathlib.Core.Path.{_≡_, refl, ap, _∙_}
 use mathlib.Core.Bool.{Bool, true, false}
-use mathlib.Core.Option.{Option, none, some, Option·getD}
-use mathlib.Core.List.{List, [], _∷_, _++_, map}
+use mathlib.Core.Option.{Option, none, some}
+use mathlib.Core.List.{[], _∷_}
 use mathlib.Core.Logic.{_⊎_, inl, inr}
-use Prim.Native.Nat.{ℕ, zero, suc, Ordering, Ordering·lt, Ordering·eq, Ordering·gt}
-use lib.IntN.{ℤ, pos, negsuc}
+use Prim.Native.Nat.{ℕ, Ordering, Ordering·lt, Ordering·eq, Ordering·gt}
 use lib.ListN.{length}
 use lib.Dec.{leb}
-use Rattle.rules.specs.Base.{Got, got, refused, _>>=_, Limits, bounded, exact, within, sized, allow}
-use Rattle.rules.specs.Exponents.{Exp, frac, ranged, inRange, plus, mul, sum, times, quotient}
-use Rattle.rules.specs.Trees.{Open, var, quant, par, Atom, free, base, Factor, _↑_, Product, Names, Ty, opened, basic, dim, fn, struct, list, Tys, nil, cons, Fields, noFields, field, orderAtom}
-use Rattle.rules.specs.Products.{put, inverse, single, mergeOne, merge, multiply, divide, raise}
+use Rattle.rules.specs.Base.{Got, got, refused, _>>=_, bounded, exact, within, sized, allow}
+use Rattle.rules.specs.Exponents.{Exp, ranged, inRange, plus, mul, sum, times}
+use Rattle.rules.specs.Trees.{Open, Atom, free, base, _↑_, Product, Names, Ty, opened, basic, dim, fn, struct, list, Tys, nil, cons, Fields, noFields, field, orderAtom}
+use Rattle.rules.specs.Products.{inverse, single, mergeOne, merge, multiply, divide, raise}
 use Rattle.rules.specs.Replacing.{Look, asProduct, replaceFactors, replaceProduct, replaceDim, replaceTy, replaceTys, replaceFields}
 
 -- the refusals that exact arithmetic doesn't know

@@ -1,13 +1,12 @@
 -- Where the bounded solver answers without 7 and 8, the exact solver answers the same.
 -- Assumes nothing.
-use mathlib.Core.Path.{_≡_, refl, ap, _∙_, sym}
-use mathlib.Core.Bool.{Bool, true, false}
-use mathlib.Core.Option.{Option, none, some, Option·getD}
-use mathlib.Core.List.{List, [], _∷_, _++_, map}
-use Prim.Native.Nat.{ℕ, zero, suc, _+_, max}
-use Rattle.rules.specs.Base.{Got, got, refused, _>>=_, Limits, bounded, exact, each, sumOf, maxOf}
-use Rattle.rules.specs.Exponents.{Exp, neg, inverted, timesInverse, quotient, times}
-use Rattle.rules.specs.Trees.{Open, var, quant, par, free, base, Factor, _↑_, Product, Names, Ty, opened, basic, dim, fn, struct, list, Con, equal, isDim, isScalar, hasField, Binding, _≔_, sizeCon, depthCon, sizeBinding, depthBinding}
+use mathlib.Core.Path.{_≡_, refl}
+use mathlib.Core.Option.{Option, none, some}
+use mathlib.Core.List.{List, [], _∷_}
+use Prim.Native.Nat.{ℕ, zero, suc}
+use Rattle.rules.specs.Base.{Got, got, refused, bounded, exact, each}
+use Rattle.rules.specs.Exponents.{Exp, neg, inverted, timesInverse, quotient}
+use Rattle.rules.specs.Trees.{var, quant, par, free, base, Factor, _↑_, Product, Names, Ty, opened, basic, dim, fn, struct, list, Con, equal, isDim, isScalar, hasField, Binding, _≔_}
 use Rattle.rules.specs.Views.{productOf, asVar}
 use Rattle.rules.specs.Replacing.{Look, replaceCon, replaceBinding, replaceProduct, bindings}
 use Rattle.rules.specs.Rounds.{Step, bind, split, done, stuck, State, firstRules, orTry, dimensions, otherSide, taken, performed, byKind, trySatisfy, firstStep, sizeState, depthState, limited, perform, round}

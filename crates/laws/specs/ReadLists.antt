@@ -2,15 +2,14 @@
 -- So a list of words holds one list of trees at the most.
 -- Assumes nothing.
 use mathlib.Core.Path.{_≡_, refl, ap, _∙_, sym, subst}
-use mathlib.Core.Bool.{Bool, true, false}
 use mathlib.Core.Option.{Option, none, some}
-use mathlib.Core.List.{List, [], _∷_, _++_, map, append-assoc}
-use Prim.Native.Nat.{ℕ, zero, suc, _≤_, _<_, _+_, max}
+use mathlib.Core.List.{List, [], _∷_, _++_, append-assoc}
+use Prim.Native.Nat.{ℕ, zero, suc, _≤_, _<_}
 use native.Mathlib.Omega.{arith}
 use lib.ListN.{length, length-append}
 use Rattle.rules.specs.Base.{all, collect}
-use Rattle.rules.specs.Trees.{Open, var, quant, par, Ty, dim, Con, equal, isDim, isScalar, hasField, Binding, _≔_, depth, depthCon, depthBinding}
-use Rattle.rules.specs.Writing.{Rec, rec, words, writeFactor, writeProduct, writeTy, writeCon, writeBinding, writeBound}
+use Rattle.rules.specs.Trees.{Open, var, quant, par, Con, equal, isDim, isScalar, hasField, Binding, _≔_, depthCon, depthBinding}
+use Rattle.rules.specs.Writing.{Rec, rec, words, writeProduct, writeTy, writeCon, writeBinding, writeBound}
 use Rattle.rules.specs.Reading.{Reader, give, pick, next, readTy, scalarTable, scalarKinds, conTable, readEqual, readIsDim, readScalar, readHasField, readBoundTo, readCon, bindingTable, readBinding, boundTable, readBound, readAll, records}
 use Rattle.laws.specs.Reading.{FitsProduct, Fits, read-factors, read-ty}
 use Rattle.laws.specs.Written.{Reads, nothing, given, then, picked, plain, Small, Is, after, factors-read, ty-read}

@@ -1,19 +1,17 @@
 -- Reading what was written gives it back.
 -- Assumes nothing.
-use mathlib.Core.Path.{_≡_, refl, ap, _∙_, sym}
-use mathlib.Core.Bool.{Bool, true, false}
-use mathlib.Core.Option.{Option, none, some}
+use mathlib.Core.Path.{_≡_, refl, ap}
+use mathlib.Core.Option.{some}
 use mathlib.Core.List.{List, [], _∷_, _++_, map, append-assoc}
-use Prim.Native.Nat.{ℕ, zero, suc, _≤_, _<_, _-_, max}
+use Prim.Native.Nat.{ℕ, zero, suc, _≤_, _-_}
 use native.Mathlib.Omega.{arith}
 use borrow.Author.Tests.{lt-ltb, le-ltb}
 use lib.IntN.{ℤ, pos, negsuc, natAbs}
 use lib.ListN.{length}
-use lib.Dec.{ltb}
 use Rattle.rules.specs.Base.{all}
-use Rattle.rules.specs.Exponents.{Exp, frac, top}
-use Rattle.rules.specs.Trees.{Open, var, quant, par, Atom, free, base, Factor, _↑_, Product, Names, Ty, opened, basic, dim, fn, struct, list, Tys, nil, cons, Fields, noFields, field, Basic, boolean, string, datetime, depth, depthTys, depthFields, count, countFields}
-use Rattle.rules.specs.Writing.{Rec, rec, twos, bySign, signed, writeFactor, writeProduct, writeTy, writeTys, writeFields}
+use Rattle.rules.specs.Exponents.{frac, top}
+use Rattle.rules.specs.Trees.{var, quant, par, free, base, _↑_, Product, Ty, opened, basic, dim, fn, struct, list, Tys, nil, cons, Fields, noFields, field, boolean, string, datetime, depth, depthTys, depthFields, count, countFields}
+use Rattle.rules.specs.Writing.{Rec, twos, bySign, signed, writeFactor, writeProduct, writeTy, writeTys, writeFields}
 use Rattle.rules.specs.Reading.{readFactors, readTys, readFields, readTy}
 
 -- numerators that a word can hold

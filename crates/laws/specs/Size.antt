@@ -1,12 +1,10 @@
 -- As many records are written as the size says.
 -- Assumes nothing.
-use mathlib.Core.Path.{_≡_, refl, ap, _∙_}
-use mathlib.Core.List.{List, [], _∷_, _++_, map}
-use Prim.Native.Nat.{ℕ, suc, _+_}
-use native.Mathlib.Omega.{arith}
+use mathlib.Core.Path.{_≡_, refl, ap}
+use Prim.Native.Nat.{ℕ, suc}
 use lib.ListN.{length, length-append, length-map}
 use Rattle.rules.specs.Trees.{Ty, opened, basic, dim, fn, struct, list, Tys, nil, cons, Fields, noFields, field, Con, equal, isDim, isScalar, hasField, Binding, _≔_, size, sizeTys, sizeFields, sizeCon, sizeBinding}
-use Rattle.rules.specs.Writing.{writeTy, writeTys, writeFields, writeProduct, writeFactor, writeCon, writeBinding}
+use Rattle.rules.specs.Writing.{writeTy, writeTys, writeFields, writeProduct, writeCon, writeBinding}
 
 mutual
   unfolding size writeTy writeProduct

@@ -5,7 +5,7 @@ use mathlib.Core.Bool.{Bool, true, false}
 use Prim.Native.Nat.{ℕ, _≤_, _<_}
 use borrow.Author.Tests.{le-leb, lt-leb, leb-true}
 use lib.Dec.{leb}
-use Rattle.rules.specs.Base.{Got, got, refused, _>>=_, allow, Limits, bounded, exact, within, sized}
+use Rattle.rules.specs.Base.{got, refused, _>>=_, allow, Limits, bounded, exact, sized}
 use Rattle.laws.specs.Lists.{clash, allow-same}
 
 module _ {A : Type 0} (n d : ℕ) (a : A) where

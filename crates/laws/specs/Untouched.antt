@@ -1,12 +1,12 @@
 -- A type none of whose open names is bound stays as it is.
 -- Assumes nothing.
-use mathlib.Core.Path.{_≡_, refl, ap, _∙_, sym}
+use mathlib.Core.Path.{_≡_, refl}
 use mathlib.Core.Bool.{Bool, true, false}
-use mathlib.Core.Option.{Option, none, some, Option·getD}
-use mathlib.Core.List.{List, [], _∷_, _++_, map}
-use Rattle.rules.specs.Base.{Got, got, _>>=_, Limits, collect, onlyIf, isYes}
+use mathlib.Core.Option.{Option, none, some}
+use mathlib.Core.List.{List, [], _∷_, _++_}
+use Rattle.rules.specs.Base.{got, Limits, collect, onlyIf, isYes}
 use Rattle.rules.specs.Exponents.{Exp-dec, one}
-use Rattle.rules.specs.Trees.{Open, var, quant, par, Atom, free, base, Factor, _↑_, Product, Names, Ty, opened, basic, dim, fn, struct, list, Tys, nil, cons, Fields, noFields, field, opens, opensTys, opensFields, openOfFactor}
+use Rattle.rules.specs.Trees.{Open, var, quant, par, free, base, _↑_, Product, Names, Ty, opened, basic, dim, fn, struct, list, Tys, nil, cons, Fields, noFields, field, opens, opensTys, opensFields, openOfFactor}
 use Rattle.rules.specs.Products.{single}
 use Rattle.rules.specs.Replacing.{Look, replaceFactors, replaceProduct, replaceDim, replaceTy, replaceTys, replaceFields}
 

@@ -3,14 +3,14 @@
 use mathlib.Core.Path.{_≡_, refl, ap, ap₂, _∙_, sym, subst}
 use mathlib.Core.Bool.{Bool, true, false}
 use mathlib.Core.Option.{Option, none as nothing, some}
-use mathlib.Core.List.{List, [], _∷_}
-use Prim.Native.Nat.{ℕ, zero, suc, _<_, _*_, _/_, Ordering, Ordering·lt, Ordering·eq, Ordering·gt}
+use mathlib.Core.List.{[], _∷_}
+use Prim.Native.Nat.{ℕ, Ordering, Ordering·lt, Ordering·eq, Ordering·gt}
 use native.Mathlib.Omega.{arith}
 use lib.ListN.{length}
 use lib.Dec.{leb}
 use Rattle.rules.specs.Base.{Got, got, refused, _>>=_, Limits, bounded, exact, within, allow}
-use Rattle.rules.specs.Exponents.{Exp, frac, ranged, inRange, isZero, one, neg, plus, mul, sum, times}
-use Rattle.rules.specs.Trees.{Open, Ty, Atom, free, base, Factor, _↑_, Product, Names, orderAtom}
+use Rattle.rules.specs.Exponents.{Exp, inRange, isZero, one, neg, plus, mul, sum, times}
+use Rattle.rules.specs.Trees.{Open, Ty, Atom, free, base, _↑_, Product, Names, orderAtom}
 use Rattle.rules.specs.Replacing.{Look, asProduct, replaceFactors}
 use Rattle.rules.specs.Products.{put, inverse, mergeOne, merge, multiply, divide, raise}
 

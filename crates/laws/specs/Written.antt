@@ -1,19 +1,17 @@
 -- What was read is what is written there: the records that were read are those of the tree.
 -- Assumes nothing.
-use mathlib.Core.Path.{_≡_, refl, ap, ap₂, _∙_, sym, subst}
+use mathlib.Core.Path.{_≡_, refl, ap, _∙_, sym, subst}
 use mathlib.Core.Bool.{Bool, true, false, _&&_}
 use mathlib.Core.Option.{Option, none, some}
 use mathlib.Core.List.{List, [], _∷_, _++_, map, append-assoc}
-use Prim.Native.Nat.{ℕ, zero, suc, _≤_, _<_, _-_, _+_}
+use Prim.Native.Nat.{ℕ, zero, suc, _<_}
 use native.Mathlib.Omega.{arith}
-use lib.IntN.{ℤ, pos, negsuc}
 use lib.ListN.{length}
 use lib.Dec.{T, eqb, ltb, eqb→eq}
 use Rattle.rules.specs.Base.{all}
-use Rattle.rules.specs.Exponents.{Exp, frac}
-use Rattle.rules.specs.Trees.{Open, var, quant, par, Atom, free, base, Factor, _↑_, Product, Ty, opened, basic, dim, fn, struct, list, Tys, nil, cons, Fields, noFields, field, Basic, boolean, string, datetime, count, countFields}
+use Rattle.rules.specs.Trees.{var, quant, par, Ty, opened, basic, boolean, string, datetime, count, countFields}
 use Rattle.rules.specs.Writing.{Rec, rec, twos, signed, bySign, writeFactor, writeProduct, writeTy, writeTys, writeFields}
-use Rattle.rules.specs.Reading.{Reader, pass, give, unused, pick, next, factorTable, factorKinds, readFactors, readTys, readFields, fieldName, readDim, readFn, readStruct, readList, typeTable, typeKinds, readTy}
+use Rattle.rules.specs.Reading.{Reader, pass, give, unused, pick, next, factorTable, factorKinds, readFactors, readTys, readFields, fieldName, readDim, readFn, readStruct, readList, typeTable, readTy}
 
 -- what was read, if anything was, is as stated
 pub record Reads {A : Type 0} (o : Option (A × List Rec)) (P : A → List Rec → Type 0) : Type 0 where

@@ -1,10 +1,10 @@
 -- What was made, handed over: its records in the result buffer, and the work buffer all zero. Assumes nothing.
 use mathlib.Core.Path.{_≡_, refl, sym, ap, subst, _∙_}
 use mathlib.Core.List.{List, _++_}
-use Prim.Native.Nat.{ℕ, _+_, _*_, _≤_}
+use Prim.Native.Nat.{ℕ, _*_, _≤_}
 use native.Mathlib.Nat.{zero-add}
 use native.Mathlib.Omega.{arith}
-use lib.ListN.{length, take, drop, replicate}
+use lib.ListN.{length, drop, replicate}
 use lib.Seq.{sets, sets-eq, slice}
 use Rattle.rules.specs.Base.{Got, got, refused, _>>=_}
 use Rattle.rules.specs.Calls.{over, resultAfter, writing, workAfter}

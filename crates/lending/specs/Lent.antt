@@ -6,7 +6,7 @@ use Prim.Native.Nat.{ℕ, _≤_, _<_}
 use borrow.Author.Tests.{le-leb, lt-leb, leb-true}
 use lib.Dec.{leb}
 use lib.ListN.{length}
-use Rattle.rules.specs.Base.{Got, got, refused, _>>=_, _>>_, need}
+use Rattle.rules.specs.Base.{got, refused, _>>_, need}
 use Rattle.rules.specs.Calls.{lent, lentResult, lentWork}
 use Rattle.rules.specs.Names.{lentTable}
 use Rattle.laws.specs.Lists.{not-true, not-false}

@@ -2,19 +2,19 @@
 use mathlib.Core.Path.{_≡_, refl, sym, ap, subst, _∙_}
 use mathlib.Core.Bool.{Bool, true, false, _&&_}
 use mathlib.Core.List.{List, [], _∷_}
-use Prim.Native.Nat.{ℕ, suc, _+_, _-_, _*_, _/_, _≤_, _<_, max}
+use Prim.Native.Nat.{ℕ, suc, _+_, _≤_, _<_}
 use native.Mathlib.Omega.{arith}
 use types.Run.{miss}
 use lib.ListN.{length}
 use Rattle.rules.specs.Trees as tree
-use Rattle.rules.specs.Trees.{Product, Ty, Con, equal, isDim, isScalar, hasField, Binding, _≔_, size, sizeCon, sizeBinding, depth, depthCon, depthBinding}
+use Rattle.rules.specs.Trees.{Ty, Con, equal, isDim, isScalar, hasField, Binding, _≔_, size, sizeCon, sizeBinding, depthCon, depthBinding}
 use Rattle.rules.specs.WellFormed as rules
 use Rattle.laws.specs.NameTable.{both-left, both-right}
 use Rattle.records.specs.Views.{viewAt}
-use Rattle.records.specs.Holds.{openOf, viewOpen, Shows, HoldsFactors, HoldsProduct, Holds, HoldsCon, HoldsBinding}
+use Rattle.records.specs.Holds.{openOf, viewOpen, HoldsProduct, Holds, HoldsCon, HoldsBinding}
 use Rattle.records.specs.ByView.{ArmsCon, con-by-view}
 use Rattle.records.specs.Parsed.{only, only-con, only-binding}
-use Rattle.records.specs.Good.{Ends, holding, goodOpen, goodProduct, goodTy, goodCon, goodBinding, GoodDim, GoodTy, GoodProduct, GoodTwo, GoodCon, GoodBinding, GoodBound, Chain, Chained}
+use Rattle.records.specs.Good.{Ends, holding, goodOpen, goodTy, goodCon, goodBinding, GoodDim, GoodTy, GoodProduct, GoodTwo, GoodCon, GoodBinding, GoodBound, Chain, Chained}
 use Rattle.records.specs.declared.Open as names
 use Rattle.records.specs.declared.View.{View}
 use Rattle.records.specs.declared.View.the-variants as view

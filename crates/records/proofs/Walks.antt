@@ -2,14 +2,12 @@
 use mathlib.Core.Path.{_≡_, refl, sym, ap, subst, _∙_}
 use mathlib.Core.Bool.{Bool, true, false, not, _&&_}
 use mathlib.Core.List.{List, [], _∷_, map}
-use Prim.Native.Nat.{ℕ, zero, suc, _+_, _-_, _*_, _/_, _≤_, _<_, max}
-use native.Mathlib.Nat.{add-zero}
-use native.Mathlib.Numerals.{sub-one}
+use Prim.Native.Nat.{ℕ, suc, _+_, _-_, _≤_, _<_}
 use native.Mathlib.Omega.{arith}
 use borrow.Author.Tests.{ltb-true, le-leb, leb-true}
 use denote.Enum.Declared
 use types.Run.{OneOf, miss}
-use lib.Dec.{T, ltb, leb}
+use lib.Dec.{T, leb}
 use mir.Val.{hasKey}
 use lib.ListN.{length, getD}
 use Rattle.rules.specs.Base.{all}
@@ -19,15 +17,14 @@ use Rattle.rules.specs.Trees as tree
 use Rattle.rules.specs.Trees.{Factor, _↑_, Product, Ty, opened, basic, dim, fn, struct, list, Tys, nil, cons, Fields, noFields, field, size, sizeTys, sizeFields, depth, depthTys, depthFields, count, countFields, orderAtom}
 use Rattle.rules.specs.Writing.{twos, signed}
 use Rattle.rules.specs.WellFormed as rules
-use Rattle.rules.specs.WellFormed.{isLt, rising, fieldNames}
+use Rattle.rules.specs.WellFormed.{rising, fieldNames}
 use Rattle.laws.specs.Written.{unsigned}
 use Rattle.laws.specs.NameTable.{both-left, both-right}
 use Rattle.records.specs.Views.{viewAt}
-use Rattle.records.specs.Places.{seen-in}
-use Rattle.records.specs.Holds.{openOf, viewOpen, atomOf, viewAtom, basicOf, viewBasic, Shows, HoldsFactor, HoldsFactors, HoldsProduct, Holds, HoldsTys, HoldsFields}
+use Rattle.records.specs.Holds.{openOf, viewOpen, atomOf, viewAtom, basicOf, viewBasic, HoldsFactors, HoldsProduct, Holds, HoldsTys, HoldsFields}
 use Rattle.records.specs.ByView.{Arms, by-view, factor-by-view}
-use Rattle.records.specs.Parsed.{only, only-tys, only-fields}
-use Rattle.records.specs.Good.{Ends, HeldOpen, HeldAtom, HeldBefore, HeldLeft, numbers, holding, follows, risingFrom, atomFollows, atomsFrom, goodOpen, goodAtom, goodFactors, goodProduct, goodTy, goodTys, goodFields, GoodFactors, GoodDim, GoodTy, GoodTys, GoodFields}
+use Rattle.records.specs.Parsed.{only, only-tys}
+use Rattle.records.specs.Good.{Ends, HeldOpen, HeldAtom, numbers, holding, follows, risingFrom, atomFollows, atomsFrom, goodOpen, goodAtom, goodFactors, goodProduct, goodTy, goodTys, goodFields, GoodFactors, GoodDim, GoodTy, GoodTys, GoodFields}
 use Rattle.records.specs.declared.Atom as atoms
 use Rattle.records.specs.declared.Open as names
 use Rattle.records.specs.declared.Basic as basics

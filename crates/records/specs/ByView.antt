@@ -1,17 +1,17 @@
 -- What a place that holds a tree says, case by case, and that it lies within. Assumes nothing.
 use mathlib.Core.Path.{_≡_, refl, sym, ap, subst, _∙_}
 use mathlib.Core.List.{List, [], _∷_}
-use Prim.Native.Nat.{ℕ, suc, _+_, _*_, _/_, _≤_, _<_}
+use Prim.Native.Nat.{ℕ, suc, _+_, _/_, _≤_, _<_}
 use native.Mathlib.Omega.{arith}
 use lib.ListN.{length}
 use Rattle.rules.specs.Exponents.{frac}
 use Rattle.rules.specs.Trees as tree
 use Rattle.rules.specs.Trees.{Factor, _↑_, Product, Ty, opened, basic, dim, fn, struct, list, Tys, nil, cons, Fields, noFields, field, Con, equal, isDim, isScalar, hasField, Binding, _≔_, size, sizeTys, sizeFields, sizeCon, sizeBinding, count, countFields}
-use Rattle.rules.specs.Schemes.{Scheme, concrete, scheme}
+use Rattle.rules.specs.Schemes.{Scheme}
 use Rattle.rules.specs.Writing.{twos, signed}
 use Rattle.records.specs.Views.{viewAt}
-use Rattle.records.specs.Places.{Says, seen-in}
-use Rattle.records.specs.Holds.{openOf, viewOpen, atomOf, viewAtom, basicOf, viewBasic, Shows, HoldsFactor, HoldsFactors, HoldsProduct, Holds, HoldsTys, HoldsFields, HoldsCon, HoldsBinding, HoldsBound, HoldsScheme, HoldsBounds}
+use Rattle.records.specs.Places.{seen-in}
+use Rattle.records.specs.Holds.{openOf, viewOpen, atomOf, viewAtom, basicOf, viewBasic, HoldsFactor, HoldsFactors, HoldsProduct, Holds, HoldsTys, HoldsFields, HoldsCon, HoldsBinding}
 use Rattle.records.specs.declared.View.{View}
 use Rattle.records.specs.declared.View.the-variants as view
 

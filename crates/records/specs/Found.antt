@@ -1,23 +1,20 @@
 -- What is read at a place is held there. Assumes nothing.
 use mathlib.Core.Path.{_≡_, refl, sym, ap, subst, _∙_}
-use mathlib.Core.Bool.{Bool, true, false}
-use mathlib.Core.Option.{Option, none, some}
-use mathlib.Core.List.{List, [], _∷_, _++_, map}
-use Prim.Native.Nat.{ℕ, zero, suc, _+_, _*_, _/_, _≤_, _<_, max}
+use mathlib.Core.List.{List, [], _∷_}
+use Prim.Native.Nat.{ℕ, zero, suc, _+_, _*_, _≤_, _<_, max}
 use native.Mathlib.Nat.{add-zero}
 use native.Mathlib.Omega.{arith}
 use lib.ListN.{length, getD}
 use Rattle.rules.specs.Base.{all}
-use Rattle.rules.specs.Exponents.{frac}
 use Rattle.rules.specs.Trees as tree
-use Rattle.rules.specs.Trees.{Factor, _↑_, Product, Ty, opened, basic, dim, fn, struct, list, Tys, nil, cons, Fields, noFields, field, Con, equal, isDim, isScalar, hasField, Binding, _≔_, size, sizeTys, sizeFields, sizeCon, sizeBinding, depth, depthTys, depthFields, depthCon, depthBinding, count, countFields}
+use Rattle.rules.specs.Trees.{Product, Ty, opened, basic, Tys, Fields, Con, equal, isDim, isScalar, hasField, Binding, _≔_, size, sizeTys, sizeFields, sizeCon, sizeBinding, depth, depthTys, depthFields, depthCon, depthBinding, count, countFields}
 use Rattle.rules.specs.Writing.{Rec, rec, twos, signed}
-use Rattle.rules.specs.Reading.{Reader, pass, give, unused, pick, next, factorTable, factorKinds, readFactors, readTys, readFields, fieldName, readDim, readFn, readStruct, readList, typeTable, typeKinds, readTy, readCon, conKinds, scalarKinds, readBinding, bindingKinds, readBound}
-use Rattle.laws.specs.Written.{Reads, nothing, given, then, Each, picked, Zeros, unsigned}
+use Rattle.rules.specs.Reading.{Reader, pass, give, unused, next, factorTable, factorKinds, readFactors, readTys, readFields, fieldName, readDim, readFn, readStruct, readList, typeTable, typeKinds, readTy, readCon, conKinds, scalarKinds, readBinding, bindingKinds}
+use Rattle.laws.specs.Written.{Reads, nothing, given, then, picked, unsigned}
 use Rattle.laws.specs.Written as laws
-use Rattle.records.specs.Views.{plain, viewOf, recOf, from, viewAt}
-use Rattle.records.specs.Places.{_&_, First, first}
-use Rattle.records.specs.Holds.{viewOpen, viewAtom, viewBasic, Shows, HoldsFactor, HoldsFactors, HoldsProduct, Holds, HoldsTys, HoldsFields, HoldsCon, HoldsBinding, HoldsBound, HoldsScheme, HoldsBounds}
+use Rattle.records.specs.Views.{plain, viewOf, from}
+use Rattle.records.specs.Places.{_&_, first}
+use Rattle.records.specs.Holds.{Shows, HoldsFactor, HoldsFactors, HoldsProduct, Holds, HoldsTys, HoldsFields, HoldsCon, HoldsBinding}
 use Rattle.records.specs.declared.View.{View}
 use Rattle.records.specs.declared.View.the-variants as view
 

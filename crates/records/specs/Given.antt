@@ -3,13 +3,13 @@ use mathlib.Core.Path.{_≡_, refl, sym, ap, subst, _∙_}
 use mathlib.Core.Bool.{Bool, true, false, _&&_}
 use mathlib.Core.Option.{Option, none, some}
 use mathlib.Core.List.{List, [], _∷_, cons≢nil}
-use Prim.Native.Nat.{ℕ, zero, suc, _+_, _-_, _*_, _/_, _%_, _≤_, _<_}
+use Prim.Native.Nat.{ℕ, zero, suc, _+_, _/_, _%_, _≤_, _<_}
 use native.Mathlib.Omega.{arith}
 use borrow.Author.Tests.{ltb-true, ltb-false, eqb-true, eqb-false}
 use lib.Dec.{ltb, eqb}
-use lib.ListN.{length, drop}
-use Rattle.rules.specs.Base.{Got, got, refused, _>>=_, _>>_, orRefuse, need, all}
-use Rattle.rules.specs.Writing.{Rec, rec}
+use lib.ListN.{length}
+use Rattle.rules.specs.Base.{Got, got, refused, _>>=_, _>>_, need, all}
+use Rattle.rules.specs.Writing.{Rec}
 use Rattle.rules.specs.Reading.{Reader, readAll, records}
 use Rattle.rules.specs.Calls.{listGiven, only}
 use Rattle.laws.specs.NameTable.{both-left, both-right}
@@ -20,7 +20,7 @@ use Rattle.rules.specs.Trees.{size, sizeCon, sizeBinding}
 use Rattle.laws.specs.Written.{Reads}
 use Rattle.records.specs.ByView.{ends-in, size-pos}
 use Rattle.records.specs.Parsed.{read, con-read, binding-read}
-use Rattle.records.specs.Found.{Words32, Found, found, con-found, binding-found}
+use Rattle.records.specs.Found.{Words32, found, con-found, binding-found}
 use Rattle.records.specs.Moves.{con-moves, binding-moves}
 use Rattle.records.specs.Good.{Chain, Chained, There, goodTy, goodCon, goodBinding, GoodTy, GoodCon, GoodBinding}
 

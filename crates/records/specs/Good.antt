@@ -1,19 +1,17 @@
 -- What the walkers find: a well formed part that is held at a place, and where it ends. Assumes nothing: these are definitions.
 use mathlib.Core.Path.{_≡_}
-use mathlib.Core.Bool.{Bool, true, false, _&&_}
+use mathlib.Core.Bool.{Bool, true, false}
 use mathlib.Core.List.{List, [], _∷_, map}
 use Prim.Native.Nat.{ℕ, suc, _+_, _/_, _≤_, _<_}
-use lib.Dec.{leb, ltb}
 use lib.ListN.{length, getD}
 use Rattle.rules.specs.Base.{all}
-use Rattle.rules.specs.Exponents.{goodStored, frac}
 use Rattle.rules.specs.Trees as tree
-use Rattle.rules.specs.Trees.{Names, Factor, _↑_, Product, Ty, Tys, Fields, Con, Binding, orderAtom, size, sizeTys, sizeFields, sizeCon, sizeBinding, depth, depthTys, depthFields, depthCon, depthBinding, count, countFields}
+use Rattle.rules.specs.Trees.{Names, Product, Ty, Tys, Fields, Con, Binding, orderAtom, size, sizeTys, sizeFields, sizeCon, sizeBinding, depth, depthTys, depthFields, depthCon, depthBinding, count, countFields}
 use Rattle.rules.specs.Schemes.{Scheme, concrete, scheme}
-use Rattle.rules.specs.Names.{Table, tableOf, numbersOf, isHeld}
+use Rattle.rules.specs.Names.{tableOf, numbersOf, isHeld}
 use Rattle.rules.specs.WellFormed as rules
 use Rattle.rules.specs.WellFormed.{isLt, rising, fieldNames}
-use Rattle.records.specs.Holds.{openOf, viewOpen, atomOf, Shows, HoldsFactors, HoldsProduct, Holds, HoldsTys, HoldsFields, HoldsCon, HoldsBinding, HoldsBound}
+use Rattle.records.specs.Holds.{atomOf, Shows, HoldsFactors, HoldsProduct, Holds, HoldsTys, HoldsFields, HoldsCon, HoldsBinding, HoldsBound}
 use Rattle.records.specs.declared.Atom.{Atom}
 use Rattle.records.specs.declared.Atom.the-variants as atoms
 use Rattle.records.specs.declared.Open as names

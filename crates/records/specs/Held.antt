@@ -1,22 +1,21 @@
 -- What is held at a place is what is written there. Assumes nothing.
-use mathlib.Core.Path.{_≡_, refl, sym, ap, subst, _∙_}
+use mathlib.Core.Path.{_≡_, refl, sym, ap, _∙_}
 use mathlib.Core.List.{List, [], _∷_, _++_, map, append-assoc}
-use Prim.Native.Nat.{ℕ, suc, _+_, _*_, _/_, _≤_, _<_}
+use Prim.Native.Nat.{ℕ, suc, _+_, _*_, _/_, _≤_}
 use native.Mathlib.Nat.{add-zero}
 use native.Mathlib.Omega.{arith}
-use lib.ListN.{length, length-map}
+use lib.ListN.{length}
 use lib.Seq.{slice}
-use Rattle.rules.specs.Base.{all, collect}
+use Rattle.rules.specs.Base.{all}
 use Rattle.rules.specs.Exponents.{frac}
 use Rattle.rules.specs.Trees as tree
 use Rattle.rules.specs.Trees.{Factor, _↑_, Product, Ty, opened, basic, dim, fn, struct, list, Tys, nil, cons, Fields, noFields, field, Con, equal, isDim, isScalar, hasField, Binding, _≔_, size, sizeTys, sizeFields, sizeCon, sizeBinding, count, countFields}
-use Rattle.rules.specs.Schemes.{Scheme, concrete, scheme}
-use Rattle.rules.specs.Writing.{Rec, rec, twos, signed, writeFactor, writeProduct, writeTy, writeTys, writeFields, writeCon, writeBinding, writeBound, writeScheme, words}
-use Rattle.laws.specs.Size.{size-ty, size-tys, size-fields}
+use Rattle.rules.specs.Writing.{Rec, rec, twos, writeFactor, writeProduct, writeTy, writeTys, writeFields, writeCon, writeBinding, words}
+use Rattle.laws.specs.Size.{size-ty, size-tys}
 use Rattle.laws.specs.Reading.{FitsProduct, Fits, FitsTys, FitsFields, sign}
-use Rattle.records.specs.Views.{plain, viewOf, recOf, from, viewAt}
-use Rattle.records.specs.Places.{Says, seen-in, seen, First, first, past, words-from}
-use Rattle.records.specs.Holds.{openOf, viewOpen, atomOf, viewAtom, basicOf, viewBasic, Shows, HoldsFactor, HoldsFactors, HoldsProduct, Holds, HoldsTys, HoldsFields, HoldsCon, HoldsBinding, HoldsBound, HoldsScheme, HoldsBounds}
+use Rattle.records.specs.Views.{plain, viewOf, recOf, from}
+use Rattle.records.specs.Places.{Says, seen, first, past, words-from}
+use Rattle.records.specs.Holds.{viewOpen, viewAtom, viewBasic, Shows, HoldsFactors, HoldsProduct, Holds, HoldsTys, HoldsFields, HoldsCon, HoldsBinding}
 use Rattle.records.specs.ByView.{in-reach}
 use Rattle.records.specs.declared.View.{View}
 use Rattle.records.specs.declared.View.the-variants as view

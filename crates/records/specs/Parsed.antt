@@ -1,23 +1,21 @@
 -- What is held at a place is what is read there; and so one tree at most is held at a place. Assumes nothing.
-use mathlib.Core.Path.{_≡_, refl, sym, ap, ap₂, subst, _∙_}
-use mathlib.Core.Bool.{Bool, true, false}
-use mathlib.Core.Option.{Option, none, some}
-use mathlib.Core.List.{List, [], _∷_, _++_, map}
-use Prim.Native.Nat.{ℕ, zero, suc, _+_, _*_, _/_, _≤_, _<_, max}
+use mathlib.Core.Path.{_≡_, sym, ap, ap₂, subst, _∙_}
+use mathlib.Core.Option.{Option, some}
+use mathlib.Core.List.{List, [], _∷_}
+use Prim.Native.Nat.{ℕ, zero, suc, _+_, _≤_, max}
 use native.Mathlib.Nat.{add-zero}
 use native.Mathlib.Omega.{arith}
 use lib.ListN.{length}
 use Rattle.rules.specs.Base.{all}
 use Rattle.rules.specs.Exponents.{frac}
 use Rattle.rules.specs.Trees as tree
-use Rattle.rules.specs.Trees.{Factor, _↑_, Product, Ty, opened, basic, dim, fn, struct, list, Tys, nil, cons, Fields, noFields, field, Con, equal, isDim, isScalar, hasField, Binding, _≔_, size, sizeTys, sizeFields, sizeCon, sizeBinding, depth, depthTys, depthFields, depthCon, depthBinding, count, countFields}
-use Rattle.rules.specs.Writing.{Rec, rec, twos, signed}
-use Rattle.rules.specs.Reading.{readFactors, readTys, readFields, readTy, readCon, readBinding, readBound}
-use Rattle.records.specs.Views.{recOf, from, viewAt}
-use Rattle.records.specs.Places.{Says, seen}
-use Rattle.records.specs.Holds.{viewOpen, viewAtom, viewBasic, Shows, HoldsFactor, HoldsFactors, HoldsProduct, Holds, HoldsTys, HoldsFields, HoldsCon, HoldsBinding, HoldsBound, HoldsScheme, HoldsBounds}
+use Rattle.rules.specs.Trees.{_↑_, Product, Ty, opened, basic, dim, fn, struct, list, Tys, nil, cons, Fields, noFields, field, Con, equal, isDim, isScalar, hasField, Binding, _≔_, size, sizeTys, sizeFields, sizeCon, sizeBinding, depth, depthTys, depthFields, depthCon, depthBinding, count, countFields}
+use Rattle.rules.specs.Writing.{Rec}
+use Rattle.rules.specs.Reading.{readFactors, readTys, readFields, readTy, readCon, readBinding}
+use Rattle.records.specs.Views.{from}
+use Rattle.records.specs.Places.{seen}
+use Rattle.records.specs.Holds.{viewOpen, viewBasic, Shows, HoldsFactor, HoldsFactors, HoldsProduct, Holds, HoldsTys, HoldsFields, HoldsCon, HoldsBinding}
 use Rattle.records.specs.ByView.{con-by-view}
-use Rattle.records.specs.declared.View.{View}
 use Rattle.records.specs.declared.View.the-variants as view
 
 -- a limit that leaves room for one level

@@ -2,18 +2,17 @@
 use mathlib.Core.Path.{_≡_, refl, sym, ap, ap₂, subst, _∙_}
 use mathlib.Core.Bool.{Bool, true, false}
 use mathlib.Core.List.{List, [], _∷_, _++_, cons≢nil}
-use Prim.Native.Nat.{ℕ, zero, suc, _+_, _*_, _/_, _-_, _≤_, _<_}
-use native.Mathlib.Nat.{add-zero, add-suc, suc-add}
+use Prim.Native.Nat.{ℕ, suc, _+_, _*_, _/_, _≤_, _<_}
+use native.Mathlib.Nat.{add-zero}
 use native.Mathlib.Numerals.{add-one, add-two, add-three}
 use native.Mathlib.Omega.{arith}
 use borrow.Author.Tests.{eqb-true, ltb-true, ltb-false}
 use lib.Dec.{eqb, ltb}
-use lib.ListN.{length, getD, take, drop, length-drop}
+use lib.ListN.{length, getD, drop, length-drop}
 use lib.Seq.{drop-cons, slice, slice-cons, slice-empty}
 use Rattle.rules.specs.Base.{all}
 use Rattle.rules.specs.Writing.{Rec, rec, words}
-use Rattle.records.specs.Views.{either, plain, pick, viewOf, recOf, recs, from, viewFirst, viewAt, boundTable, schemeTable, typeTable, otherTable}
-use Rattle.records.specs.declared.Open.the-variants.{Var, Quant, Par}
+use Rattle.records.specs.Views.{either, plain, pick, viewOf, recOf, recs, from, viewAt, boundTable, schemeTable, typeTable, otherTable}
 use Rattle.records.specs.declared.View.{View}
 use Rattle.records.specs.declared.View.the-variants as view
 

@@ -3,31 +3,31 @@ use mathlib.Core.Path.{_≡_, refl, sym, ap, subst, _∙_}
 use mathlib.Core.Bool.{Bool, true, false, _&&_}
 use mathlib.Core.Option.{Option, none, some}
 use mathlib.Core.List.{List, [], _∷_}
-use Prim.Native.Nat.{ℕ, suc, _+_, _-_, _*_, _/_, _%_, _≤_, _<_}
+use Prim.Native.Nat.{ℕ, _+_, _*_, _/_, _%_, _≤_}
 use native.Mathlib.Omega.{arith}
 use borrow.Author.Tests.{eqb-true, eqb-false}
 use lib.Dec.{eqb}
 use lib.ListN.{length, drop, length-drop}
-use Rattle.rules.specs.Base.{Got, got, refused, _>>=_, _>>_, need, orRefuse, all, andThen}
+use Rattle.rules.specs.Base.{Got, got, refused, _>>_, need, all}
 use Rattle.rules.specs.Trees as tree
 use Rattle.rules.specs.Trees.{Ty, size}
 use Rattle.rules.specs.Names.{tableOf}
 use Rattle.rules.specs.Schemes.{Scheme, concrete, scheme}
 use Rattle.rules.specs.Writing.{Rec, rec}
-use Rattle.rules.specs.Reading.{Reader, pass, give, unused, pick, next, boundTable, boundKinds, readBound, readTy, readAll, records, schemeOf}
+use Rattle.rules.specs.Reading.{Reader, pass, give, unused, pick, next, boundTable, boundKinds, readBound, readTy, readAll, schemeOf}
 use Rattle.rules.specs.Calls.{aloneGiven, schemeGiven, schemeCall, goodScheme}
 use Rattle.laws.specs.NameTable.{both-left, both-right}
 use Rattle.laws.specs.Written.{Reads, nothing, given, then, picked}
 use Rattle.laws.specs.Written as laws
-use Rattle.records.specs.Views.{plain, viewOf, recs, from, viewAt}
-use Rattle.records.specs.Places.{_&_, first, seen, seen-in, from-none, from-some}
+use Rattle.records.specs.Views.{plain, viewOf, recs, from}
+use Rattle.records.specs.Places.{_&_, first, seen, from-none}
 use Rattle.records.specs.Holds.{viewOpen, Shows}
 use Rattle.records.specs.ByView.{ends-in}
 use Rattle.records.specs.Parsed.{read}
 use Rattle.records.specs.Found.{Words32, Found, found, here}
 use Rattle.records.specs.Moves.{bound-moves}
 use Rattle.records.specs.Given.{records-whole, records-broken, recs-length, absurd-some, Reader-of, chain-read, read-chain}
-use Rattle.records.specs.Good.{Chain, There, goodOpen, goodTy, GoodTy, GoodBound, GoodScheme}
+use Rattle.records.specs.Good.{Chain, There, goodOpen, goodTy, GoodBound, GoodScheme}
 use Rattle.records.specs.declared.View.the-variants as view
 
 -- how many records there are from a place on

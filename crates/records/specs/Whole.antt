@@ -1,13 +1,13 @@
 -- The public tests of lists, from what the walkers find. Assumes nothing.
-use mathlib.Core.Path.{_≡_, refl, sym, ap, subst, _∙_}
+use mathlib.Core.Path.{_≡_, refl}
 use mathlib.Core.Bool.{Bool, true, false, _&&_}
 use mathlib.Core.List.{List, [], _∷_}
-use Prim.Native.Nat.{ℕ, _+_, _/_, _%_, _≤_, _<_}
+use Prim.Native.Nat.{ℕ, _/_, _%_}
 use native.Mathlib.Omega.{arith}
 use borrow.Author.Tests.{leb-true}
 use lib.Dec.{leb, eqb}
 use lib.ListN.{length}
-use Rattle.rules.specs.Base.{Got, got, refused, _>>=_, _>>_, need, all}
+use Rattle.rules.specs.Base.{got, _>>_, need, all}
 use Rattle.rules.specs.Names.{tableOf, tableGood, lentTable}
 use Rattle.rules.specs.Reading.{readTy, readCon, readBinding}
 use Rattle.rules.specs.Trees.{Ty, Con, Binding}

@@ -2,12 +2,12 @@
 use mathlib.Core.Path.{_≡_, refl, sym, ap, ap₂, subst, _∙_}
 use mathlib.Core.Bool.{Bool, true, false, and-eq-true-iff}
 use mathlib.Core.List.{List, [], _∷_, _++_, map}
-use Prim.Native.Nat.{ℕ, suc, _+_, _≤_, _<_, max}
+use Prim.Native.Nat.{ℕ, _+_, _≤_, _<_, max}
 use native.Mathlib.Decide.{decLe}
 use native.Mathlib.Omega.{arith}
 use borrow.Author.Tests.{le-leb, lt-leb}
 use lib.Dec.{leb}
-use Rattle.rules.specs.Base.{Got, bounded, sized, all, sumOf, maxOf}
+use Rattle.rules.specs.Base.{bounded, sized, all, sumOf, maxOf}
 use Rattle.rules.specs.Rounds.{State, sizeState, depthState, limited}
 use Rattle.rules.specs.Trees.{Con, equal, isDim, isScalar, hasField, Binding, _≔_, sizeCon, sizeBinding, depthCon, depthBinding}
 use Rattle.rules.specs.WellFormed.{goodCon, goodBinding}

@@ -7,7 +7,7 @@ use Prim.Native.Nat.{ℕ, _+_, _≤_, _<_}
 use native.Mathlib.Omega.{arith}
 use lib.ListN.{length, drop, drop-of-length-le}
 use Rattle.rules.specs.Base.{Got, got, refused, _>>=_, bounded, all}
-use Rattle.rules.specs.Exponents.{Exp, goodExp, goodStored, one, goodExp}
+use Rattle.rules.specs.Exponents.{Exp, goodExp, goodStored, goodExp}
 use Rattle.rules.specs.Names.{tableOf, isHeld}
 use Rattle.rules.specs.Products.{divide, raise, multiply}
 use Rattle.rules.specs.Replacing.{Look, asProduct, replaceFactors, replaceProduct, bindings}
@@ -24,7 +24,7 @@ use Rattle.exponents.specs.Answers.{expOf}
 use Rattle.products.specs.Told.{Tree, given, told, answer, Answer, refusalOf, treeOf, productOf, heldIn, factorAt, atomAt}
 use Rattle.products.specs.Kinds.{Fine, Kind, variable, parameter, dimension, quantified, tree-good}
 use Rattle.products.specs.Places.{at-place, length-product}
-use Rattle.products.specs.Held.{Well, law, made, made-long, Taken}
+use Rattle.products.specs.Held.{law, made, made-long, Taken}
 use Rattle.products.specs.declared.Factor as code
 use Rattle.products.specs.declared.Product.{Product}
 use Rattle.products.specs.declared.Tried.{Tried}

@@ -17,7 +17,6 @@ use Rattle.rules.specs.WellFormed.{goodTy, goodBinding}
 use Rattle.records.specs.Views.{viewAt}
 use Rattle.records.specs.Holds.{Holds, HoldsBinding}
 use Rattle.records.specs.ByView.{ends-in}
-use Rattle.records.specs.declared.View.{View}
 use Rattle.records.specs.declared.View.the-variants as view
 use Rattle.replacing.specs.declared.inner.bound.Found.{Found}
 use Rattle.replacing.specs.declared.inner.bound.Found.the-variants.{At, Nothing}

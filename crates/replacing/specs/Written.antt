@@ -8,7 +8,7 @@ use borrow.Author.Tests.{leb-true}
 use lib.Dec.{leb, eqb}
 use lib.ListN.{length, length-append}
 use lib.Seq.{sets}
-use Rattle.rules.specs.Base.{all, each, collect, sumOf}
+use Rattle.rules.specs.Base.{all, collect, sumOf}
 use lib.IntN.{natAbs}
 use Rattle.rules.specs.Exponents.{frac, top, gcd, inRange, isZero, goodExp, goodStored}
 use Rattle.rules.specs.Names.{tableOf, isHeld}
@@ -18,9 +18,6 @@ use Rattle.rules.specs.Writing.{Rec, rec, words, writeProduct, writeTy, writeCo
 use Rattle.laws.specs.NameTable.{both-left, both-right}
 use Rattle.laws.specs.Reading.{FitsProduct, Fits, FitsTys, FitsFields}
 use Rattle.laws.specs.Size.{size-ty, size-con, size-binding}
-use Rattle.laws.specs.Value.{Gives, gives, next}
-use Rattle.laws.specs.KeepsGood as laws
-use Rattle.products.specs.Held.{law}
 use Rattle.records.specs.Views.{plain, viewOf, from}
 use Rattle.records.specs.Places.{first, past}
 use Rattle.records.specs.Buffers.{stored}
@@ -28,10 +25,7 @@ use Rattle.records.specs.Holds.{HoldsCon, HoldsBinding}
 use Rattle.records.specs.Held.{held, product-held}
 use Rattle.replacing.specs.Runs.{HoldsAll}
 use Rattle.replacing.specs.Well as well
-use Rattle.replacing.specs.Well.{Lent}
-use Rattle.replacing.specs.InProducts.{bound-good}
-use Rattle.replacing.specs.Left.{look}
-use Rattle.replacing.specs.LineRules.{Line, con, binding, sizeLine, writeLine, HoldsLine, GoodLine, EachGood, HeldLines, replaceLine}
+use Rattle.replacing.specs.LineRules.{Line, con, binding, sizeLine, writeLine, HoldsLine, GoodLine, EachGood, HeldLines}
 
 -- ══ Well formed numerators fit a word ══
 

@@ -1,5 +1,5 @@
 -- The checks of a list and its bindings past that of 10, and what is known where they are met. The list is a type or a set. Assumes nothing.
-use mathlib.Core.Path.{_≡_, refl, sym, ap, _∙_}
+use mathlib.Core.Path.{_≡_, refl, sym}
 use mathlib.Core.Bool.{Bool, true, false, _&&_}
 use mathlib.Core.List.{List, [], _∷_, _++_}
 use Prim.Native.Nat.{ℕ, _/_, _≤_, _<_}
@@ -7,10 +7,10 @@ use borrow.Author.Tests.{le-leb, lt-leb, leb-true}
 use lib.Dec.{leb}
 use lib.ListN.{length}
 use Rattle.rules.specs.Base.{Got, got, refused, _>>=_, _>>_, need, all, collect}
-use Rattle.rules.specs.Trees.{Open, Ty, Con, Binding}
+use Rattle.rules.specs.Trees.{Open, Binding}
 use Rattle.rules.specs.Names.{tableOf, tableGood, lentTable}
 use Rattle.rules.specs.Contents.{unmixed}
-use Rattle.rules.specs.Calls.{shortLists, tableKept, typeGiven, setGiven, bindingsGiven, apart, opensBinding, aloneGiven, typeCall, setCall, bindingsCall}
+use Rattle.rules.specs.Calls.{shortLists, tableKept, setGiven, bindingsGiven, apart, opensBinding, aloneGiven, typeCall, setCall, bindingsCall}
 use Rattle.laws.specs.Checks.{need-passed}
 use Rattle.laws.specs.KnownNames.{every-append}
 use Rattle.laws.specs.Lists.{clash, and-left, and-right}

@@ -3,7 +3,6 @@ use mathlib.Core.Path.{_≡_, refl, sym, ap, subst, _∙_}
 use mathlib.Core.Bool.{Bool, true, false, and-eq-true-iff}
 use mathlib.Core.List.{List, [], _∷_, _++_, map, append-nil}
 use Prim.Native.Nat.{ℕ, _+_, _*_, _/_, _≤_}
-use native.Mathlib.Nat.{zero-add}
 use native.Mathlib.Omega.{arith}
 use lib.Dec.{leb}
 use lib.ListN.{length, take, drop}
@@ -11,7 +10,6 @@ use lib.Seq.{sets, sets-eq, length-sets, take-at}
 use Rattle.rules.specs.Base.{Got, got, refused, _>>=_, allow, bounded, sized, all, each, collect, sumOf, maxOf}
 use Rattle.rules.specs.Calls.{typeGiven, setGiven, bindingsGiven}
 use Rattle.rules.specs.Names.{tableOf}
-use Rattle.rules.specs.Refusals.{numberOf}
 use Rattle.rules.specs.Replacing.{bindings, replaceTy, replaceCon}
 use Rattle.rules.specs.Rounds.{State, limited}
 use Rattle.rules.specs.Trees.{Ty, Con, Binding, size, depth, sizeCon, sizeBinding}
@@ -22,22 +20,21 @@ use Rattle.laws.specs.KeepsGood as laws
 use Rattle.laws.specs.Lists.{clash}
 use Rattle.laws.specs.Size.{size-ty}
 use Rattle.laws.specs.Sized.{sized-same, sized-small}
-use Rattle.laws.specs.Value.{Gives}
 use Rattle.products.specs.Held.{law}
 use Rattle.records.specs.Buffers.{stored, words-length}
 use Rattle.records.specs.Found.{Words32}
 use Rattle.records.specs.Good as records
 use Rattle.records.specs.Good.{numbers, holding}
 use Rattle.records.specs.Held.{held}
-use Rattle.records.specs.Holds.{Holds, HoldsCon, HoldsBinding}
+use Rattle.records.specs.Holds.{HoldsCon, HoldsBinding}
 use Rattle.records.specs.Views.{from}
 use Rattle.records.specs.Whole.{type-is, set-is, bindings-is}
 use Rattle.replacing.specs.Flat.{depthLine, goodLine, PlainLines, state-limited}
 use Rattle.replacing.specs.Given.{row, given-type, given-set, given-bindings}
 use Rattle.replacing.specs.Kept.{plain-kept, plain-written}
 use Rattle.replacing.specs.Left.{Left, Room}
-use Rattle.replacing.specs.LineLaws.{cons-each, lines-long, lines-write}
-use Rattle.replacing.specs.LineRules.{Line, con, binding, sizeLine, writeLine, HeldLines, replaceLine}
+use Rattle.replacing.specs.LineLaws.{cons-each, lines-write}
+use Rattle.replacing.specs.LineRules.{Line, con, sizeLine, writeLine, HeldLines, replaceLine}
 use Rattle.replacing.specs.Runs.{looked-good}
 use Rattle.replacing.specs.Well.{HeldType, Lent}
 use Rattle.replacing.specs.Written.{ty-fits, all-length}
@@ -47,7 +44,7 @@ use Rattle.lending.specs.Told.{told, Front, Made}
 use Rattle.lending.specs.declared.Answer.{Answer}
 use Rattle.lending.specs.declared.Answer.the-variants.{Refused}
 use Rattle.replacing_calls.specs.Entry.{Entered}
-use Rattle.replacing_calls.specs.Stands.{counted, TypeStands, typeCounted, LinesStand, linesCounted}
+use Rattle.replacing_calls.specs.Stands.{counted, TypeStands, LinesStand}
 
 -- ══ From a walk to what was made, whatever it writes ══
 

@@ -1,13 +1,13 @@
 -- The calls past the check of 10: where their checks refuse, so do they; where these are met, they are what is made. Assumes nothing.
-use mathlib.Core.Path.{_≡_, refl, sym, ap, subst, _∙_}
+use mathlib.Core.Path.{_≡_, sym, ap, subst, _∙_}
 use mathlib.Core.List.{List, _++_}
 use Prim.Native.Nat.{ℕ, _+_, _/_, _≤_, _<_}
 use lib.ListN.{length, replicate}
 use Rattle.rules.specs.Base.{Got, got, refused, _>>=_, _>>_, collect}
-use Rattle.rules.specs.Trees.{Open, Ty, Con, Binding, opens, opensCon, size}
+use Rattle.rules.specs.Trees.{Open, Binding, opens, opensCon, size}
 use Rattle.rules.specs.Names.{tableOf, lentTable}
 use Rattle.rules.specs.Refusals.{numberOf}
-use Rattle.rules.specs.Calls.{shortLists, tableKept, typeGiven, setGiven, bindingsGiven, apart, opensBinding, typeCall, setCall, lent, resultAfter, Written, replacedType, replacedSet, replaceTypeCall, replaceSetCall}
+use Rattle.rules.specs.Calls.{shortLists, tableKept, typeGiven, setGiven, bindingsGiven, apart, opensBinding, typeCall, setCall, lent, resultAfter, replacedType, replacedSet, replaceTypeCall, replaceSetCall}
 use Rattle.rules.specs.Writing.{Rec, words}
 use Rattle.rules.specs.declared.Refusal.{Refusal}
 use Rattle.rules.specs.declared.Refusal.the-variants.{TooLarge}
@@ -18,7 +18,6 @@ use Rattle.records.specs.Whole.{type-is, set-is}
 use Rattle.records.specs.declared.Checked.{Checked}
 use Rattle.queries.specs.Runs.{set-opens}
 use Rattle.queries.specs.ScanLaws.{type-opens}
-use Rattle.queries.specs.Scans.{opensIn}
 use Rattle.lending.specs.Handed.{as-written, unwritten}
 use Rattle.lending.specs.Told.{Made, handed}
 use Rattle.lending.specs.declared.Answer.{Answer}

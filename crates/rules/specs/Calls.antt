@@ -1,22 +1,22 @@
 -- Document 01, 'Refusal numbers': every public call on lists as one function, from all that is lent to the whole outcome: the answer or
 -- the refusal, and what each lent buffer holds afterwards. Names, exponents and products have their calls in Names and Values.
 -- Assumes nothing.
-use mathlib.Core.Bool.{Bool, true, false, not, _&&_}
+use mathlib.Core.Bool.{Bool, true, not, _&&_}
 use mathlib.Core.List.{List, [], _∷_, _++_, map}
-use mathlib.Core.Option.{Option, none, some}
-use Prim.Native.Nat.{ℕ, _+_, _*_}
+use mathlib.Core.Option.{some}
+use Prim.Native.Nat.{ℕ, _*_}
 use lib.Dec.{eqb, leb}
 use lib.ListN.{length, take, drop, replicate}
 use Rattle.rules.specs.Base.{Got, got, refused, _>>=_, _>>_, need, orRefuse, bounded, sized, andThen, any, all, each, collect, sumOf}
-use Rattle.rules.specs.Trees.{Open, var, quant, par, Names, Ty, Con, Binding, _≔_, opens, opensCon, size, depth, sizeCon, sizeBinding}
+use Rattle.rules.specs.Trees.{Open, var, Ty, Con, Binding, _≔_, opens, opensCon, size, depth, sizeCon, sizeBinding}
 use Rattle.rules.specs.Names.{Table, tableOf, tableGood, numbersOf, isHeld, lentTable}
 use Rattle.rules.specs.Contents.{closed, containsName, variables, unmixed}
-use Rattle.rules.specs.Writing.{Rec, rec, words, wordOf, writeTy, writeCon, writeBinding, writeBound, writeScheme}
+use Rattle.rules.specs.Writing.{Rec, words, wordOf, writeTy, writeCon, writeBinding, writeBound, writeScheme}
 use Rattle.rules.specs.Reading.{Reader, records, readAll, readTy, readCon, readBinding, readBound, schemeOf}
 use Rattle.rules.specs.WellFormed.{goodTy, goodCon, goodOpen, goodBinding, rising}
 use Rattle.rules.specs.Replacing.{replaceTy, replaceCon, bindings}
 use Rattle.rules.specs.Adding.{Added, satisfied, violated, unknown, add}
-use Rattle.rules.specs.Rounds.{State, limited}
+use Rattle.rules.specs.Rounds.{limited}
 use Rattle.rules.specs.Solving.{Answer, accepted, remaining, stopped, solve}
 use Rattle.rules.specs.Schemes.{Scheme, concrete, scheme, quantify, generalise, instantiate}
 use Rattle.rules.specs.Judging.{judge}

@@ -3,13 +3,13 @@
 use mathlib.Core.Path.{_≡_, refl}
 use mathlib.Core.Bool.{Bool, true, false}
 use mathlib.Core.List.{List, [], _∷_, _++_, map}
-use Prim.Native.Nat.{ℕ, zero, suc, _+_, _*_}
+use Prim.Native.Nat.{ℕ, zero, suc}
 use lib.ListN.{length, replicate, take, drop}
 use Rattle.rules.specs.Base.{Got, got, refused, _>>=_}
 use Rattle.rules.specs.Writing.{Rec, rec, words}
-use Rattle.rules.specs.Adding.{Added, satisfied, violated, unknown}
+use Rattle.rules.specs.Adding.{satisfied, violated, unknown}
 use Rattle.rules.specs.Names.{tableOf}
-use Rattle.rules.specs.Calls.{setCall, typeCall, schemeCall, bindingsCall, containsCall, closedCall, variablesCall, replacedType, replacedSet, replaceTypeCall, addedTo, addCall, Solved, solved, unsolved, refusedAfter, Solution, solvedOf, solvedWords, solvedSet, solveCall, quantified, generalised, instantiated, quantifyCall, Entry, judgedSet, judgeCall}
+use Rattle.rules.specs.Calls.{setCall, typeCall, schemeCall, containsCall, closedCall, variablesCall, replacedType, replacedSet, replaceTypeCall, addedTo, addCall, Solved, solved, unsolved, refusedAfter, solvedOf, solvedWords, solvedSet, quantified, generalised, instantiated, Entry, judgedSet}
 use Rattle.rules.specs.Rules.{rules}
 use Rattle.rules.specs.Examples.{pool, table, result, work, minus, x, y, z, a, L, P}
 

@@ -1,18 +1,18 @@
 -- Small cases of the calls on exponents, names and products, by computation.
 -- Assumes nothing.
 use mathlib.Core.Path.{_≡_, refl}
-use mathlib.Core.Bool.{Bool, true, false}
+use mathlib.Core.Bool.{true, false}
 use mathlib.Core.List.{List, [], _∷_, _++_, map}
 use Prim.Native.Nat.{ℕ, zero, suc}
 use lib.IntN.{pos, negsuc}
 use lib.ListN.{length, replicate, take, drop}
 use Rattle.rules.specs.Base.{Got, got, refused, _>>=_}
 use Rattle.rules.specs.Exponents.{Exp, frac, nought, one}
-use Rattle.rules.specs.Trees.{var, quant, par, free, base, _↑_, Product}
+use Rattle.rules.specs.Trees.{var, quant, par, free, base, _↑_}
 use Rattle.rules.specs.Names.{Entered, enter, hasRoom, nameAsked}
-use Rattle.rules.specs.Values.{sumCall, timesCall, negationCall, quotientCall, FactorValue, ProductValue, productValue, multiplyCall, divideCall, inverseCall, raiseCall}
+use Rattle.rules.specs.Values.{sumCall, timesCall, negationCall, quotientCall, FactorValue, ProductValue, multiplyCall, divideCall, inverseCall, raiseCall}
 use Rattle.rules.specs.Rules.{rules}
-use Rattle.rules.specs.Examples.{pool, table, x, y, z, a, L, P}
+use Rattle.rules.specs.Examples.{pool, table, x, y, a, L}
 
 -- ══ Exponents ══
 

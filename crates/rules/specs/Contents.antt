@@ -1,11 +1,11 @@
 -- Document 01, 'Records': closed, contains, variables. All look into arguments and fields.
 -- Assumes nothing.
-use mathlib.Core.Bool.{Bool, true, false, not, _&&_, _||_}
-use mathlib.Core.List.{List, [], _∷_, _++_}
+use mathlib.Core.Bool.{Bool, true, false, not}
+use mathlib.Core.List.{List, [], _∷_}
 use mathlib.Core.Option.{Option, none, some}
-use Prim.Native.Nat.{ℕ, Ordering, Ordering·lt, Ordering·eq, Ordering·gt}
+use Prim.Native.Nat.{Ordering·lt, Ordering·eq, Ordering·gt}
 use Rattle.rules.specs.Base.{isYes, any, all, collect, toList, isNil}
-use Rattle.rules.specs.Trees.{Open, var, quant, par, Names, Ty, Fields, noFields, field, open-dec, opens}
+use Rattle.rules.specs.Trees.{Open, var, Names, Ty, Fields, noFields, field, open-dec, opens}
 use Rattle.rules.specs.Views.{variable, parameter, nameOf}
 
 module _ {N : Type 0} where

@@ -8,7 +8,7 @@ use Prim.Native.Nat.{ℕ, _+_, _-_}
 use native.Mathlib.Decide.{ℕ-discrete}
 use lib.Dec.{eqb}
 use lib.ListN.{length, replicate, drop}
-use Rattle.rules.specs.Base.{Got, got, refused, _>>=_, isYes, list-dec, all, collect}
+use Rattle.rules.specs.Base.{Got, got, refused, isYes, list-dec, all, collect}
 use Rattle.rules.specs.Trees.{Binding, _≔_}
 use Rattle.rules.specs.Names.{tableOf}
 use Rattle.rules.specs.Writing.{Rec, rec, words, writeTy}

@@ -2,7 +2,6 @@
 -- Assumes nothing.
 use mathlib.Core.Bool.{Bool, true, false}
 use mathlib.Core.List.{List, [], _∷_}
-use Prim.Native.Nat.{ℕ}
 use lib.Dec.{eqb}
 use Rattle.rules.specs.Base.{Got, got, refused, _>>=_, Limits, sized}
 use Rattle.rules.specs.Trees.{Names, Con, Binding, sizeCon, depthCon}

@@ -2,9 +2,9 @@
 -- Assumes nothing.
 use mathlib.Core.Path.{_≡_}
 use mathlib.Core.Bool.{Bool, true, false, not, _&&_, _||_}
-use mathlib.Core.Option.{Option, none, some}
-use mathlib.Core.List.{List, [], _∷_, _++_, List·Memᴰ}
-use Rattle.rules.specs.Base.{Got, got, exact, isYes, andThen, and′, all, collect, isNone, isNil}
+use mathlib.Core.Option.{some}
+use mathlib.Core.List.{List, [], _++_, List·Memᴰ}
+use Rattle.rules.specs.Base.{got, exact, isYes, andThen, and′, all, collect, isNone, isNil}
 use Rattle.rules.specs.Trees.{Open, var, Product, Names, Ty, opened, basic, dim, fn, struct, list, Tys, nil, cons, Fields, noFields, field, Con, equal, isDim, isScalar, hasField, Binding, ty-dec, opens, openOfFactor}
 use Rattle.rules.specs.Views.{openOf, productOf, structOf}
 use Rattle.rules.specs.Contents.{fieldIn, namesIn, among}

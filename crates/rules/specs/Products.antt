@@ -1,13 +1,13 @@
 -- Document 01, 'Exponent and product steps': multiplying, dividing and raising products of factors.
 -- Assumes nothing.
-use mathlib.Core.Bool.{Bool, true, false}
-use mathlib.Core.List.{List, [], _∷_}
-use mathlib.Core.Option.{Option, none, some}
-use Prim.Native.Nat.{ℕ, Ordering, Ordering·lt, Ordering·eq, Ordering·gt}
+use mathlib.Core.Bool.{true, false}
+use mathlib.Core.List.{[], _∷_}
+use mathlib.Core.Option.{Option, none}
+use Prim.Native.Nat.{Ordering·lt, Ordering·eq, Ordering·gt}
 use lib.ListN.{length}
-use Rattle.rules.specs.Base.{Got, got, refused, _>>=_, Limits, within, onlyIf, isYes}
+use Rattle.rules.specs.Base.{Got, got, _>>=_, Limits, within, onlyIf, isYes}
 use Rattle.rules.specs.Exponents.{Exp, Exp-dec, one, isZero, neg, sum, times}
-use Rattle.rules.specs.Trees.{Open, var, quant, par, Atom, free, base, Factor, _↑_, Product, Names, orderAtom}
+use Rattle.rules.specs.Trees.{Open, var, quant, par, Atom, free, base, _↑_, Product, Names, orderAtom}
 
 module _ {N : Type 0} where
   -- 'drops zeros': a power in front of a product, unless it is 0

@@ -1,13 +1,13 @@
 -- Document 01, 'Records': how records are read back as trees. A type nested over the limit isn't read.
 -- Assumes nothing.
-use mathlib.Core.Bool.{Bool, true, false, _&&_}
+use mathlib.Core.Bool.{true, false}
 use mathlib.Core.List.{List, [], _∷_}
 use mathlib.Core.Option.{Option, none, some}
 use Prim.Native.Nat.{ℕ, zero, suc}
 use lib.Dec.{eqb}
 use lib.ListN.{length}
 use Rattle.rules.specs.Base.{all, andThen}
-use Rattle.rules.specs.Exponents.{Exp, frac}
+use Rattle.rules.specs.Exponents.{frac}
 use Rattle.rules.specs.Trees.{Open, var, quant, par, free, base, Factor, _↑_, Product, Ty, opened, basic, dim, fn, struct, list, Tys, nil, cons, Fields, noFields, field, Con, equal, isDim, isScalar, hasField, Binding, _≔_, boolean, string, datetime}
 use Rattle.rules.specs.Schemes.{Scheme, concrete, scheme}
 use Rattle.rules.specs.Writing.{Rec, rec, signed}

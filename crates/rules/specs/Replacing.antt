@@ -1,11 +1,10 @@
 -- Document 01, 'Replacing': open names replaced by types, all at once.
 -- Assumes nothing.
-use mathlib.Core.Bool.{Bool, true, false}
+use mathlib.Core.Bool.{true, false}
 use mathlib.Core.List.{List, [], _∷_}
 use mathlib.Core.Option.{Option, none, some, Option·getD}
 use Rattle.rules.specs.Base.{Got, got, refused, _>>=_, Limits, isYes}
-use Rattle.rules.specs.Exponents.{Exp}
-use Rattle.rules.specs.Trees.{Open, var, quant, par, Atom, free, base, Factor, _↑_, Product, Names, Ty, opened, basic, dim, fn, struct, list, Tys, nil, cons, Fields, noFields, field, Con, equal, isDim, isScalar, hasField, Binding, _≔_}
+use Rattle.rules.specs.Trees.{Open, var, quant, par, free, base, _↑_, Product, Names, Ty, opened, basic, dim, fn, struct, list, Tys, nil, cons, Fields, noFields, field, Con, equal, isDim, isScalar, hasField, Binding, _≔_}
 use Rattle.rules.specs.Products.{just, single, multiply, divide, raise}
 
 -- what an open name becomes; none: it stays

@@ -1,13 +1,13 @@
 -- Document 01, 'Adding and rounds': which rule applies to a constraint, and one round.
 -- Assumes nothing.
-use mathlib.Core.Bool.{Bool, true, false, not, _&&_}
+use mathlib.Core.Bool.{true, false, not, _&&_}
 use mathlib.Core.List.{List, [], _∷_, _++_, map}
 use mathlib.Core.Option.{Option, none, some, Option·getD}
 use Prim.Native.Nat.{ℕ, _+_, max}
 use lib.Dec.{eqb}
-use Rattle.rules.specs.Base.{Got, got, refused, _>>=_, Limits, sized, isYes, _orElse_, onlyIf, andThen, each, collect, sumOf, maxOf}
+use Rattle.rules.specs.Base.{Got, got, _>>=_, Limits, sized, isYes, _orElse_, onlyIf, andThen, each, collect, sumOf, maxOf}
 use Rattle.rules.specs.Exponents.{Exp, neg, quotient}
-use Rattle.rules.specs.Trees.{Open, var, quant, par, free, base, Factor, _↑_, Product, Names, Ty, opened, basic, dim, fn, struct, list, Tys, nil, cons, Fields, Con, equal, isDim, isScalar, hasField, Binding, _≔_, ty-dec, count, openOfFactor, sizeCon, depthCon, sizeBinding, depthBinding}
+use Rattle.rules.specs.Trees.{var, quant, par, free, base, Factor, _↑_, Product, Names, Ty, opened, basic, dim, fn, struct, list, Tys, nil, cons, Fields, Con, equal, isDim, isScalar, hasField, Binding, _≔_, ty-dec, count, openOfFactor, sizeCon, depthCon, sizeBinding, depthBinding}
 use Rattle.rules.specs.Views.{productOf, fnOf, structOf, listOf, variable, asVar, asPower}
 use Rattle.rules.specs.Contents.{closed, contains, fieldIn, namesIn}
 use Rattle.rules.specs.Products.{just, divide}

@@ -1,9 +1,9 @@
 -- Document 01, 'Schemes': quantifying, generalising, instantiating.
 -- Assumes nothing.
-use mathlib.Core.Bool.{Bool, true, false}
+use mathlib.Core.Bool.{true}
 use mathlib.Core.List.{List, [], _∷_, map}
 use mathlib.Core.Option.{Option, none, some, Option·getD}
-use Prim.Native.Nat.{ℕ, zero, suc, _+_}
+use Prim.Native.Nat.{ℕ, suc, _+_}
 use lib.Dec.{eqb}
 use lib.ListN.{length, getElem?}
 use Rattle.rules.specs.Base.{Got, got, refused, _>>=_, _>>_, need, Limits, sized, isYes, onlyIf, andThen, keep}

@@ -1,6 +1,5 @@
 -- Document 01, 'Adding and rounds': round after round, and what is answered at the end.
 -- Assumes nothing.
-use mathlib.Core.Bool.{Bool, true, false}
 use mathlib.Core.List.{List, [], _∷_}
 use mathlib.Core.Option.{Option, none, some}
 use Prim.Native.Nat.{ℕ, zero, suc}

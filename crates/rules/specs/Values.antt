@@ -1,14 +1,14 @@
 -- Document 01, 'An exponent and a product are values with operations that take and give back such values': the calls on them.
 -- Assumes nothing.
-use mathlib.Core.Bool.{Bool, true, false, _&&_}
+use mathlib.Core.Bool.{_&&_}
 use mathlib.Core.List.{List, [], _∷_, _++_, map}
-use mathlib.Core.Option.{Option, none, some}
+use mathlib.Core.Option.{Option, some}
 use Prim.Native.Nat.{ℕ}
 use lib.Dec.{eqb, leb}
 use lib.ListN.{length, take, replicate}
-use Rattle.rules.specs.Base.{Got, got, refused, _>>=_, _>>_, need, orRefuse, andThen, onlyIf, _orElse_, bounded}
+use Rattle.rules.specs.Base.{Got, got, _>>=_, _>>_, need, orRefuse, andThen, onlyIf, _orElse_, bounded}
 use Rattle.rules.specs.Exponents.{Exp, nought, goodExp, sum, times, negation, quotient}
-use Rattle.rules.specs.Trees.{Open, var, quant, par, Atom, free, base, Factor, _↑_, Product, Names}
+use Rattle.rules.specs.Trees.{var, quant, par, Atom, free, base, Factor, _↑_, Product}
 use Rattle.rules.specs.Names.{tableOf, numbersOf, isHeld, tableGiven}
 use Rattle.rules.specs.Products.{inverse, multiply, divide, raise}
 use Rattle.rules.specs.WellFormed.{goodProduct}

@@ -3,9 +3,7 @@ use Rattle.rules.specs.Calls.{aloneGiven, shortLists, tableKept}
 use Rattle.rules.specs.Names.{lentTable}
 use Rattle.rules.specs.Base.{all}
 use borrow.Author.Tests.{le-leb, lt-leb}
-use native.Mathlib.Omega.{arith}
-use mathlib.Core.Path.{_≡_, refl, sym, ap, subst, _∙_}
-use borrow.Author.Needs.{needs}
+use mathlib.Core.Path.{sym, _∙_}
 use Rattle.records.proofs.entry.Statement.{statement}
 use Rattle.records.proofs.entry.Tie as tie
 

@@ -1,12 +1,9 @@
 -- `is_scheme` meets its contract. Assumes nothing.
 use Rattle.rules.specs.Calls.{schemeCall}
-use Rattle.rules.specs.Base.{Got}
 use Rattle.records.specs.Schemes.{scheme-told}
 use Rattle.records.specs.Whole.{entry-good}
-use Rattle.records.specs.Found.{Words32}
 use Rattle.records.specs.Told.{told}
-use native.Mathlib.Omega.{arith}
-use mathlib.Core.Path.{_≡_, refl, sym, ap, subst, _∙_}
+use mathlib.Core.Path.{refl, sym, ap, _∙_}
 use borrow.Author.Needs.{needs}
 use Rattle.records.proofs.is_scheme.Statement.{statement}
 use Rattle.records.proofs.is_scheme.Tie as tie

@@ -1,8 +1,5 @@
 -- `listed` meets its contract. Assumes nothing.
 use borrow.Author.Tests.{eq-eqb, ne-eqb}
-use native.Mathlib.Omega.{arith}
-use borrow.Author.Needs.{needs}
-use mathlib.Core.Path.{_≡_, refl, sym, ap, subst, _∙_}
 use Rattle.records.proofs.listed.Statement.{statement}
 use Rattle.records.proofs.listed.Tie as tie
 

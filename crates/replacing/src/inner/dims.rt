@@ -23,7 +23,6 @@ ghost use mathlib.Core.List.{List, [], _∷_};
 ghost use mathlib.Core.Option.{some};
 ghost use Prim.Native.Nat.{ℕ, _+_, _<_};
 ghost use Rattle.rules.specs.Base.{bounded, got};
-ghost use Rattle.rules.specs.Exponents.{one};
 ghost use Rattle.rules.specs.Products.{just};
 ghost use Rattle.rules.specs.Replacing.{asProduct, bindings, replaceProduct};
 ghost use Rattle.rules.specs.Trees.{Ty, Binding};

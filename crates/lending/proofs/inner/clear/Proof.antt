@@ -1,13 +1,11 @@
 use Prim.Native.Nat.{ℕ, _≤_, _-_}
-use mathlib.Core.Path.{_≡_, refl, sym, ap, _∙_}
+use mathlib.Core.Path.{_≡_, refl, ap, _∙_}
 use mathlib.Core.List.{List, _++_, append-nil}
 use native.Mathlib.Omega.{arith}
-use borrow.Author.Fill.{fill-none, fill-more}
+use borrow.Author.Fill.{fill-more}
 use lib.ListN.{length, drop, set, replicate, length-set, drop-of-length-le}
 use Rattle.lending.proofs.inner.clear.Statement.{statement}
 use Rattle.lending.proofs.inner.clear.Tie as tie
-use Rattle.lending.proofs.inner.clear.Reads as reads
-use Rattle.lending.proofs.inner.clear.Lts as lts
 
 abbrev Inv-loop : tie.InvT-loop
 Inv-loop work₀ i₀ work i =

@@ -1,6 +1,5 @@
 -- `inner::apart` meets its contract: by what the marks say. Assumes nothing.
 use mathlib.Core.Path.{_∙_}
-use Prim.Native.Nat.{_+_}
 use borrow.Author.Needs.{needs}
 use denote.Ref.{now}
 use mathlib.Core.List.{[], _++_}

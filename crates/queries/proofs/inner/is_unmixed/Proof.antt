@@ -1,6 +1,5 @@
 -- `inner::is_unmixed` meets its contract: the second run is empty. Assumes nothing.
 use mathlib.Core.Path.{ap, _∙_}
-use Prim.Native.Nat.{_+_}
 use native.Mathlib.Omega.{arith}
 use denote.Ref.{now}
 use mathlib.Core.List.{_++_, append-nil}

@@ -1,17 +1,15 @@
 -- The walkers of types, lists of types and fields meet their contracts: one cycle. Assumes nothing.
 use Rattle.records.proofs.Walks.{untagged, held-name, types-none, types-fail, types-step, fields-none, fields-other, fields-fail, fields-type, fields-step, type-shallow, type-open, type-open-fail, type-basic, type-dim, type-list, type-fn-fail, type-fn, type-struct-name, type-struct-fail, type-struct, type-other}
-use Rattle.records.specs.declared.inner.Before.the-variants.{Start}
 use Rattle.records.specs.declared.View.the-variants as view
-use Rattle.records.specs.Good.{Ends, GoodTy, GoodTys, GoodFields, holding, follows}
+use Rattle.records.specs.Good.{Ends, GoodTy, GoodTys, holding, follows}
 use Rattle.records.specs.Places.{seen-in}
 use Rattle.laws.specs.NameTable.{both-left}
 use Rattle.rules.specs.Names.{tableOf}
 use borrow.Author.Needs.{needs}
 use native.Mathlib.Omega.{arith}
-use mathlib.Core.List.{List, [], _∷_}
-use mathlib.Core.Bool.{_&&_}
+use mathlib.Core.List.{[], _∷_}
 use Prim.Native.Nat.{_+_, _-_, _*_, _^_}
-use mathlib.Core.Path.{_≡_, refl, sym, ap, subst, _∙_}
+use mathlib.Core.Path.{refl, sym, subst, _∙_}
 use Prim.Native.Nat.{ℕ, _<_}
 use borrow.Fn.Kinds.{In}
 use borrow.Fn.PlainCycle.{Measures, is, falls, and}

@@ -1,7 +1,7 @@
 -- `inner::atom_follows` meets its contract. Assumes nothing.
 use Rattle.records.specs.Good.{HeldLeft}
 use Rattle.rules.specs.WellFormed.{isLt}
-use mathlib.Core.Path.{_≡_, refl, sym, ap, subst, _∙_}
+use mathlib.Core.Path.{ap, subst, _∙_}
 use borrow.Author.Needs.{needs}
 use Rattle.records.proofs.inner.atom_follows.Statement.{statement}
 use Rattle.records.proofs.inner.atom_follows.Tie as tie

@@ -1,6 +1,5 @@
 -- `inner::atom_good` meets its contract: by the case. Assumes nothing.
 use Rattle.rules.specs.Names.{tableOf}
-use mathlib.Core.Path.{_≡_, refl, sym, ap, subst, _∙_}
 use borrow.Author.Needs.{needs}
 use Rattle.records.proofs.inner.atom_good.Statement.{statement}
 use Rattle.records.proofs.inner.atom_good.Tie as tie

@@ -1,7 +1,7 @@
 -- `inner::atom_order` meets its contract: by the cases. Assumes nothing.
 use Rattle.records.specs.Good.{HeldAtom}
 use Rattle.rules.specs.Trees.{orderAtom}
-use mathlib.Core.Path.{_≡_, refl, sym, ap, subst, _∙_}
+use mathlib.Core.Path.{refl, subst}
 use borrow.Author.Needs.{needs}
 use Rattle.records.proofs.inner.atom_order.Statement.{statement}
 use Rattle.records.proofs.inner.atom_order.Tie as tie

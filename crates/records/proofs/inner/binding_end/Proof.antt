@@ -4,10 +4,9 @@ use Rattle.records.proofs.Walks.{untagged}
 use Rattle.records.proofs.Parts.{binding-type, binding-name, binding-other}
 use Rattle.records.specs.declared.View.the-variants as view
 use Rattle.records.specs.Places.{seen-in}
-use Prim.Native.Nat.{ℕ, _+_, _-_, _*_, _/_, _≤_}
 use native.Mathlib.Omega.{arith}
-use mathlib.Core.List.{List, [], _∷_}
-use mathlib.Core.Path.{_≡_, refl, sym, ap, subst, _∙_}
+use mathlib.Core.List.{[], _∷_}
+use mathlib.Core.Path.{refl, sym, _∙_}
 use borrow.Author.Needs.{needs}
 use Rattle.records.proofs.inner.binding_end.Statement.{statement}
 use Rattle.records.proofs.inner.binding_end.Tie as tie

@@ -4,13 +4,10 @@ use Rattle.records.proofs.Parts.{chain-done, chain-fail, chain-step, on
 use Rattle.records.specs.Moves.{bound-moves}
 use mathlib.Core.Bool.{Bool, true, false}
 use lib.ListN.{length}
-use Rattle.records.specs.declared.View.the-variants as view
-use Rattle.records.specs.Places.{seen-in}
-use Prim.Native.Nat.{ℕ, _+_, _-_, _*_, _/_, _≤_}
+use Prim.Native.Nat.{ℕ, _-_, _/_, _≤_}
 use borrow.Author.Needs.{needs}
 use native.Mathlib.Omega.{arith}
-use mathlib.Core.List.{List, [], _∷_}
-use mathlib.Core.Path.{_≡_, refl, sym, ap, subst, _∙_}
+use mathlib.Core.Path.{_≡_, refl, subst}
 use Rattle.records.proofs.inner.bounds_good.Statement.{statement}
 use Rattle.records.proofs.inner.bounds_good.Tie as tie
 

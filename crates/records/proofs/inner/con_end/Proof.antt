@@ -1,12 +1,9 @@
 -- `inner::con_end` meets its contract. Assumes nothing.
 use Rattle.rules.specs.Names.{tableOf}
 use Rattle.records.proofs.Parts.{con-equal, con-dim, con-scalar, con-field, con-field-name, con-other}
-use Rattle.records.specs.declared.View.the-variants as view
 use Rattle.records.specs.Places.{seen-in}
-use Prim.Native.Nat.{ℕ, _+_, _-_, _*_, _/_, _≤_}
 use native.Mathlib.Omega.{arith}
-use mathlib.Core.List.{List, [], _∷_}
-use mathlib.Core.Path.{_≡_, refl, sym, ap, subst, _∙_}
+use mathlib.Core.Path.{sym, _∙_}
 use borrow.Author.Needs.{needs}
 use Rattle.records.proofs.inner.con_end.Statement.{statement}
 use Rattle.records.proofs.inner.con_end.Tie as tie

@@ -1,8 +1,5 @@
 -- `inner::dim_end` meets its contract. Assumes nothing.
 use Rattle.records.proofs.Walks.{dim-many, dim-few}
-use native.Mathlib.Omega.{arith}
-use mathlib.Core.Path.{_≡_, refl, sym, ap, subst, _∙_}
-use borrow.Author.Needs.{needs}
 use Rattle.records.proofs.inner.dim_end.Statement.{statement}
 use Rattle.records.proofs.inner.dim_end.Tie as tie
 

@@ -1,7 +1,7 @@
 -- `inner::factor_good` meets its contract. Assumes nothing.
 use Rattle.records.proofs.Walks.{held-atom}
 use Rattle.rules.specs.Exponents.{goodStored}
-use mathlib.Core.Path.{_≡_, refl, sym, ap, subst, _∙_}
+use mathlib.Core.Path.{refl, sym, ap, _∙_}
 use borrow.Author.Needs.{needs}
 use Rattle.records.proofs.inner.factor_good.Statement.{statement}
 use Rattle.records.proofs.inner.factor_good.Tie as tie

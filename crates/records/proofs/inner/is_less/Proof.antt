@@ -1,6 +1,6 @@
 -- `inner::is_less` meets its contract: by the case. Assumes nothing.
 use borrow.Author.Needs.{needs}
-use mathlib.Core.Path.{_≡_, sym, ap}
+use mathlib.Core.Path.{sym, ap}
 use Rattle.rules.specs.WellFormed.{isLt}
 use Rattle.names.specs.Told.{toldOrder}
 use Rattle.names.specs.declared.Order.{Order}

@@ -1,7 +1,7 @@
 -- `inner::name_good` meets its contract. Assumes nothing.
 use Rattle.records.proofs.Walks.{held-name}
 use Rattle.rules.specs.Names.{tableOf}
-use mathlib.Core.Path.{_≡_, refl, sym, ap, subst, _∙_}
+use mathlib.Core.Path.{refl, sym, _∙_}
 use borrow.Author.Needs.{needs}
 use Rattle.records.proofs.inner.name_good.Statement.{statement}
 use Rattle.records.proofs.inner.name_good.Tie as tie

@@ -1,7 +1,7 @@
 -- `inner::number_order` meets its contract. Assumes nothing.
 use Rattle.laws.specs.ByteOrder.{compare-below, compare-above, compare-equal}
 use native.Mathlib.Omega.{arith}
-use mathlib.Core.Path.{_≡_, refl, sym, ap, subst, _∙_}
+use mathlib.Core.Path.{sym}
 use Rattle.records.proofs.inner.number_order.Statement.{statement}
 use Rattle.records.proofs.inner.number_order.Tie as tie
 

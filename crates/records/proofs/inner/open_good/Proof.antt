@@ -1,7 +1,7 @@
 -- `inner::open_good` meets its contract: by the case. Assumes nothing.
 use Rattle.rules.specs.WellFormed.{goodOpen}
 use Rattle.rules.specs.Names.{tableOf}
-use mathlib.Core.Path.{_≡_, refl, sym, ap, subst, _∙_}
+use mathlib.Core.Path.{refl}
 use borrow.Author.Needs.{needs}
 use Rattle.records.proofs.inner.open_good.Statement.{statement}
 use Rattle.records.proofs.inner.open_good.Tie as tie

@@ -1,7 +1,7 @@
 -- `inner::open_order` meets its contract: by the cases. Assumes nothing.
 use Rattle.records.specs.Good.{HeldOpen}
 use Rattle.rules.specs.Trees.{orderOpen}
-use mathlib.Core.Path.{_≡_, refl, sym, ap, subst, _∙_}
+use mathlib.Core.Path.{refl, subst}
 use borrow.Author.Needs.{needs}
 use Rattle.records.proofs.inner.open_order.Statement.{statement}
 use Rattle.records.proofs.inner.open_order.Tie as tie

@@ -4,7 +4,7 @@ use Rattle.rules.specs.Writing.{Rec, words}
 use lib.Seq.{sets}
 use Prim.Native.Nat.{_*_}
 use mathlib.Core.List.{[], _∷_}
-use mathlib.Core.Path.{_≡_, sym, ap, subst, _∙_}
+use mathlib.Core.Path.{ap, _∙_}
 use borrow.Author.Needs.{needs}
 use Rattle.records.proofs.inner.put_record.Statement.{statement}
 use Rattle.records.proofs.inner.put_record.Tie as tie

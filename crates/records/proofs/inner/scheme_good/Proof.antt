@@ -2,10 +2,9 @@
 use Rattle.records.proofs.Wholes.{scheme-concrete, scheme-other, scheme-type, scheme-bounds, type-within}
 use Rattle.records.proofs.Walks.{untagged}
 use Rattle.records.specs.declared.View.the-variants as view
-use Rattle.records.specs.Good.{Ends, There, GoodTy}
-use mathlib.Core.List.{List, [], _∷_}
-use native.Mathlib.Omega.{arith}
-use mathlib.Core.Path.{_≡_, refl, sym, ap, subst, _∙_}
+use Rattle.records.specs.Good.{Ends, GoodTy}
+use mathlib.Core.List.{[], _∷_}
+use mathlib.Core.Path.{refl, sym, subst, _∙_}
 use borrow.Author.Needs.{needs}
 use Rattle.records.proofs.inner.scheme_good.Statement.{statement}
 use Rattle.records.proofs.inner.scheme_good.Tie as tie

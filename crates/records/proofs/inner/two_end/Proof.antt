@@ -1,12 +1,7 @@
 -- `inner::two_end` meets its contract. Assumes nothing.
 use Rattle.records.specs.Good.{Ends, GoodTy}
 use Rattle.records.proofs.Parts.{two-step, two-fail}
-use Rattle.records.specs.declared.View.the-variants as view
-use Rattle.records.specs.Places.{seen-in}
-use Prim.Native.Nat.{ℕ, _+_, _-_, _*_, _/_, _≤_}
-use native.Mathlib.Omega.{arith}
-use mathlib.Core.List.{List, [], _∷_}
-use mathlib.Core.Path.{_≡_, refl, sym, ap, subst, _∙_}
+use mathlib.Core.Path.{subst}
 use borrow.Author.Needs.{needs}
 use Rattle.records.proofs.inner.two_end.Statement.{statement}
 use Rattle.records.proofs.inner.two_end.Tie as tie

@@ -1,10 +1,7 @@
 -- `inner::type_good` meets its contract. Assumes nothing.
 use Rattle.records.proofs.Wholes.{type-whole, type-not-whole, type-bad}
-use Rattle.records.specs.Good.{Ends, There, GoodTy}
-use lib.ListN.{length}
-use Prim.Native.Nat.{ℕ, _/_}
-use native.Mathlib.Omega.{arith}
-use mathlib.Core.Path.{_≡_, refl, sym, ap, subst, _∙_}
+use Rattle.records.specs.Good.{Ends, GoodTy}
+use mathlib.Core.Path.{subst}
 use borrow.Author.Needs.{needs}
 use Rattle.records.proofs.inner.type_good.Statement.{statement}
 use Rattle.records.proofs.inner.type_good.Tie as tie

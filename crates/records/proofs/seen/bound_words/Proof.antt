@@ -1,6 +1,6 @@
 -- `bound_words` meets its contract: by the case. Assumes nothing.
 use Rattle.records.specs.Views.{recBound}
-use mathlib.Core.Path.{_≡_, refl, sym, ap, _∙_}
+use mathlib.Core.Path.{sym, ap}
 use borrow.Author.Needs.{needs}
 use Rattle.records.proofs.seen.bound_words.Statement.{statement}
 use Rattle.records.proofs.seen.bound_words.Tie as tie

@@ -2,7 +2,7 @@
 use Rattle.records.specs.declared.Atom.{Atom}
 -- `factor_words` meets its contract. Assumes nothing.
 use Rattle.records.specs.Views.{recFactor}
-use mathlib.Core.Path.{_≡_, refl, sym, ap, _∙_}
+use mathlib.Core.Path.{sym, ap, _∙_}
 use borrow.Author.Needs.{needs}
 use Rattle.records.proofs.seen.factor_words.Statement.{statement}
 use Rattle.records.proofs.seen.factor_words.Tie as tie

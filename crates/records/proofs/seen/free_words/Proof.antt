@@ -1,7 +1,7 @@
 -- `free_words` meets its contract: by the case. Assumes nothing.
 use Rattle.records.specs.Views.{recFree}
 use Rattle.records.specs.declared.Open.{Open}
-use mathlib.Core.Path.{_≡_, refl, sym, ap, _∙_}
+use mathlib.Core.Path.{sym, ap}
 use borrow.Author.Needs.{needs}
 use Rattle.records.proofs.seen.free_words.Statement.{statement}
 use Rattle.records.proofs.seen.free_words.Tie as tie

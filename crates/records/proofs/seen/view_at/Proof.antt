@@ -1,6 +1,6 @@
 -- `view_at` meets its contract. Assumes nothing.
 use Rattle.records.specs.Places.{view-none, view-some}
-use mathlib.Core.Path.{_≡_, sym, _∙_}
+use mathlib.Core.Path.{sym, _∙_}
 use borrow.Author.Needs.{needs}
 use Rattle.records.proofs.seen.view_at.Statement.{statement}
 use Rattle.records.proofs.seen.view_at.Tie as tie

@@ -2,7 +2,7 @@
 use Rattle.records.specs.Views.{recOf}
 use Rattle.rules.specs.Writing.{rec}
 use Prim.Native.Nat.{ℕ}
-use mathlib.Core.Path.{_≡_, refl, sym, ap, _∙_}
+use mathlib.Core.Path.{sym, ap, _∙_}
 use borrow.Author.Needs.{needs}
 use Rattle.records.proofs.seen.words_of.Statement.{statement}
 use Rattle.records.proofs.seen.words_of.Tie as tie

@@ -1,5 +1,4 @@
 -- `inner::unmixed_or` meets its contract. Assumes nothing.
-use mathlib.Core.Path.{refl}
 use Rattle.replacing_calls.proofs.inner.unmixed_or.Statement.{statement}
 use Rattle.replacing_calls.proofs.inner.unmixed_or.Tie as tie
 
