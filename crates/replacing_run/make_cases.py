@@ -155,9 +155,9 @@ class Lists:
             'gives %d %s' % (refusal, line_of_words(answer)),
         ]))
 
-    def ask(self, line, lent=USUAL):
+    def ask(self, line, lent=USUAL, why=''):
         """A case whose answer is numbat's."""
-        self.asked.append((line, lent))
+        self.asked.append((line, lent, why))
 
     def put_tree(self, said, line, answer, lent, by_hand):
         """A case in the form of a line; answer is a list of trees, or the number of a refusal."""
@@ -170,26 +170,31 @@ class Lists:
         names = w.seen
         self.random.shuffle(names)  # so that numbers don't rise with the names' bytes
         w = Writer(names)
-        self.put(('by hand: ' if by_hand else 'numbat: ') + said, letter, names, lent, w.list(letter, items), w.bindings(binds), refusal,
-                 w.list(letter, given) if refusal == 0 else [])
+        words, bound = w.list(letter, items), w.bindings(binds)
+        self.put(('by hand: ' if by_hand else 'numbat: ') + said, letter, names, lent, words, bound, refusal, w.list(letter, given) if refusal == 0 else [])
 
-    def hand(self, line, refusal, why, lent=USUAL):
-        """A case that document 01 refuses for a reason that numbat doesn't know."""
-        self.put_tree('%s = %d, %s' % (short(line), refusal, why), line, refusal, lent, True)
+    def refuse(self, line, refusal, why, lent=USUAL):
+        """A case that document 01 refuses. Numbat knows the reason of a 6 only, so others are given by hand."""
+        if refusal == 6:
+            self.ask(line, lent, ', ' + why)
+        else:
+            self.put_tree('%s = %d, %s' % (short(line), refusal, why), line, refusal, lent, True)
 
-    def hand_words(self, letter, names, words, binds, refusal, why, lent=USUAL):
-        """The same, for words that no line can say."""
+    def refuse_words(self, letter, names, words, binds, refusal, why, lent=USUAL):
+        """A refused case whose words no line can say."""
         self.put('by hand: %s = %d' % (why, refusal), letter, names, lent, words, binds, refusal, [])
 
     def flush(self):
         """Asks what is to be asked."""
-        lines = [line for line, _ in self.asked]
+        if not self.asked:
+            return
+        lines = [line for line, _, _ in self.asked]
         answers = subprocess.run([self.oracle], input='\n'.join(lines) + '\n', stdout=subprocess.PIPE, text=True, check=True).stdout.splitlines()
         assert len(answers) == len(lines)
-        for (line, lent), answer in zip(self.asked, answers):
+        for (line, lent, why), answer in zip(self.asked, answers):
             verdict, *trees = parse(answer)
-            assert verdict in ('ok', 'nondim'), (line, answer)
-            self.put_tree('%s = %s' % (short(line), short(answer)), line, 6 if verdict == 'nondim' else trees, lent, False)
+            assert verdict in ('ok', 'nondim') and (verdict == 'nondim' or not why), (line, answer)
+            self.put_tree('%s = %s%s' % (short(line), short(answer), why), line, 6 if verdict == 'nondim' else trees, lent, False)
         self.asked = []
 
 
@@ -425,10 +430,10 @@ def out_of_range(lists):
     ]
     for number, rows in ((7, seven), (6, six)):
         for subject, bindings, why in rows:
-            lists.hand('replace %s %s' % (subject, bindings), number, why)
-            lists.hand('replaceset (set (eq (var v) %s)) %s' % (subject, bindings), number, why)
-    lists.hand('replaceset (set (scalar (v x 1 1) (b L 2147483647 1)) (scalar (v y 1 1))) (bind x (dim (b L 1 1))) (bind y (bool))', 7, 'met before the 6')
-    lists.hand('replaceset (set (scalar (v y 1 1)) (scalar (v x 1 1) (b L 2147483647 1))) (bind x (dim (b L 1 1))) (bind y (bool))', 6, 'met before the 7')
+            lists.refuse('replace %s %s' % (subject, bindings), number, why)
+            lists.refuse('replaceset (set (eq (var v) %s)) %s' % (subject, bindings), number, why)
+    lists.refuse('replaceset (set (scalar (v x 1 1) (b L 2147483647 1)) (scalar (v y 1 1))) (bind x (dim (b L 1 1))) (bind y (bool))', 7, 'met before the 6')
+    lists.refuse('replaceset (set (scalar (v y 1 1)) (scalar (v x 1 1) (b L 2147483647 1))) (bind x (dim (b L 1 1))) (bind y (bool))', 6, 'met before the 7')
 
 
 def too_many_factors(lists):
@@ -441,9 +446,9 @@ def too_many_factors(lists):
         ('(fn ((dim (v y 2 1))) %s)' % wide, two + ' (bind y (bool))', 6, 'met before 65 factors'),
         ('(dim (v x 1 1) (v y 1 1) %s)' % bases(0, 62), two + ' (bind y (bool))', 8, 'the factor before the one that is a 6'),
     ):
-        lists.hand('replace %s %s' % (subject, bindings), number, why)
-        lists.hand('replaceset (set (isdim %s)) %s' % (subject, bindings), number, why)
-    lists.hand('replaceset (set (scalar (v x 1 1) %s)) %s' % (bases(0, 63), two), 8, '65 factors')
+        lists.refuse('replace %s %s' % (subject, bindings), number, why)
+        lists.refuse('replaceset (set (isdim %s)) %s' % (subject, bindings), number, why)
+    lists.refuse('replaceset (set (scalar (v x 1 1) %s)) %s' % (bases(0, 63), two), 8, '65 factors')
 
 
 def too_large(lists):
@@ -463,14 +468,14 @@ def too_large(lists):
         ('(fn (%s) (dim (v x 2 1)))' % nested(62, '(var x)'), bound, 6, 'behind 65 nested'),
         ('(struct P () ((f %s)))' % nested(62, '(var x)'), bound, 8, '65 nested'),
     ):
-        lists.hand('replace %s %s' % (subject, bindings), number, why)
+        lists.refuse('replace %s %s' % (subject, bindings), number, why)
         if number != 8 or why == '65 nested':
-            lists.hand('replaceset (set (isdim %s)) %s' % (subject, bindings), number, why, LONGER)
-    lists.hand('replaceset (set (isdim (var x)) (isdim (var y))) (bind x %s)' % function(2045, '(bool)'), 8, '2,049 records')
-    lists.hand('replaceset (set %s) (bind x %s)' % (times(3, '(isdim (var x))'), function(681, '(bool)')), 8, '2,049 records')
-    lists.hand('replaceset (set %s (scalar (v x 1 1))) (bind x %s)' % (times(3, '(isdim (var x))'), function(681, '(bool)')), 6, 'behind 2,049 records')
-    lists.hand('replaceset (set (eq (var x) (bool)) (eq (bool) %s) (scalar (v y 1 1))) %s (bind y (par a))' % (nested(63, '(var x)'), bound), 6, 'behind 65 nested')
-    lists.hand('replaceset (set (hasfield (bool) f %s)) %s' % (nested(63, '(var x)'), bound), 8, '65 nested')
+            lists.refuse('replaceset (set (isdim %s)) %s' % (subject, bindings), number, why, LONGER)
+    lists.refuse('replaceset (set (isdim (var x)) (isdim (var y))) (bind x %s)' % function(2045, '(bool)'), 8, '2,049 records')
+    lists.refuse('replaceset (set %s) (bind x %s)' % (times(3, '(isdim (var x))'), function(681, '(bool)')), 8, '2,049 records')
+    lists.refuse('replaceset (set %s (scalar (v x 1 1))) (bind x %s)' % (times(3, '(isdim (var x))'), function(681, '(bool)')), 6, 'behind 2,049 records')
+    lists.refuse('replaceset (set (eq (var x) (bool)) (eq (bool) %s) (scalar (v y 1 1))) %s (bind y (par a))' % (nested(63, '(var x)'), bound), 6, 'behind 65 nested')
+    lists.refuse('replaceset (set (hasfield (bool) f %s)) %s' % (nested(63, '(var x)'), bound), 8, '65 nested')
 
 
 def mixed(lists):
@@ -480,11 +485,10 @@ def mixed(lists):
         'replaceset (set (isdim (var x)) (isdim (par x)))', 'replaceset (set (scalar (v x 1 1) (p x 1 1)))', 'replaceset (set (isdim (par x))) (bind x (bool))',
         'replaceset (set) (bind x (par x))', 'replaceset (set (hasfield (var x) f (par x)))', 'replaceset (set (scalar (v x 1 1)) (isdim (par y))) (bind x (bool)) (bind y (bool))',
     ):
-        lists.hand(line, 4, 'variable and parameter of one name')
+        lists.refuse(line, 4, 'variable and parameter of one name')
     # names of base dimensions, structs and fields are neither
     lists.ask('replace (struct x ((dim (b x 1 1))) ((x (par x)))) (bind y (bool))')
     lists.ask('replaceset (set (hasfield (struct a ((dim (b a 1 1))) ()) a (var a))) (bind a (dim (b a 2 1)))')
-    lists.flush()
 
 
 BOOL, VAR, SCALAR = [4, 0, 0, 0], [1, 0, 0, 0], [3, 0, 0, 0]
@@ -506,49 +510,49 @@ def malformed(lists):
         ('a struct whose name is not held', [8, 2, 0, 0]), ('a struct without its field', [8, 0, 0, 1] + BOOL), ('65 nested types', [10, 0, 0, 0] * 64 + BOOL), ('2,048 records, no type', [4, 0, 0, 0] * 2048),
     ]
     for why, words in bad_types:
-        lists.hand_words('t', ['x', 'L'], words, BIND, 1, 'type: ' + why)
+        lists.refuse_words('t', ['x', 'L'], words, BIND, 1, 'type: ' + why)
     factors65 = [word for i in range(65) for word in (13, i, 1, 1)]
-    lists.hand_words('t', ['D%02d' % i for i in range(65)], [3, 65, 0, 0] + factors65, [], 1, 'type: 65 factors')
+    lists.refuse_words('t', ['D%02d' % i for i in range(65)], [3, 65, 0, 0] + factors65, [], 1, 'type: 65 factors')
     bad_sets = [
         ('a type', BOOL), ('is-dimension of nothing', [21, 0, 0, 0]), ('equal of one type', [20, 0, 0, 0] + BOOL), ('equal-scalar of a boolean', [22, 0, 0, 0] + BOOL), ('equal-scalar of nothing', [22, 0, 0, 0]),
         ('has-field of a name that is not held', [23, 9, 0, 0] + BOOL + BOOL), ('equal with a word that is unused', [20, 1, 0, 0] + BOOL + BOOL), ('a binding', BIND), ('a bound', [25, 0, 0, 0]), ('six words', [21, 0, 0, 0, 4, 0]),
         ('a good constraint, then rubbish', [21, 0, 0, 0] + VAR + [99, 0, 0, 0]), ('a type behind a good constraint', [21, 0, 0, 0] + VAR + BOOL), ('65 nested types', [21, 0, 0, 0] + [10, 0, 0, 0] * 64 + BOOL),
     ]
     for why, words in bad_sets:
-        lists.hand_words('s', ['x', 'L'], words, BIND, 1, 'set: ' + why)
+        lists.refuse_words('s', ['x', 'L'], words, BIND, 1, 'set: ' + why)
     bad_bindings = [
         ('a bound', [25, 0, 0, 0]), ('a type', BOOL), ('no type', [24, 0, 0, 0]), ('a name that is not held', [24, 5, 0, 0] + BOOL), ('a word that is unused', [24, 0, 1, 0] + BOOL), ('seven words', BIND[:7]),
         ('a second one without a type', BIND + [24, 1, 0, 0]), ('a type of power 0', [24, 0, 0, 0, 3, 1, 0, 0, 13, 1, 0, 1]),
     ]
     for why, words in bad_bindings:
-        lists.hand_words('t', ['x', 'L'], VAR, words, 1, 'binding: ' + why)
-        lists.hand_words('s', ['x', 'L'], [21, 0, 0, 0] + VAR, words, 1, 'binding: ' + why, LONGER)
-    lists.hand_words('t', ['x', 'L'], [7, 1, 0, 0, 1, 0, 0, 0, 2, 0, 0, 0], [25, 0, 0, 0], 1, 'a name both variable and parameter, but the bindings are malformed')
-    lists.hand_words('t', [], VAR, [], 1, 'type: a variable, and no name is held')
+        lists.refuse_words('t', ['x', 'L'], VAR, words, 1, 'binding: ' + why)
+        lists.refuse_words('s', ['x', 'L'], [21, 0, 0, 0] + VAR, words, 1, 'binding: ' + why, LONGER)
+    lists.refuse_words('t', ['x', 'L'], [7, 1, 0, 0, 1, 0, 0, 0, 2, 0, 0, 0], [25, 0, 0, 0], 1, 'a name both variable and parameter, but the bindings are malformed')
+    lists.refuse_words('t', [], VAR, [], 1, 'type: a variable, and no name is held')
 
 
 def too_long(lists):
     """More than 2,048 records at entry, before anything else but 10."""
     for n in (8193, 8196):
-        lists.hand_words('t', ['x'], [0] * n, BIND, 8, 'a list of %d words, all 0' % n)
-        lists.hand_words('t', ['x'], VAR, [0] * n, 8, 'bindings of %d words, all 0' % n)
-        lists.hand_words('s', ['x'], [0] * n, BIND, 8, 'a set of %d words, all 0' % n, LONGER)
-        lists.hand_words('s', ['x'], [], [0] * n, 8, 'bindings of %d words, all 0' % n)
-    lists.hand_words('t', ['x'], [7, 2047, 0, 0] + BOOL * 2048, [], 8, 'a good type of 2,049 records')
-    lists.hand_words('t', ['x'], [99, 0, 0, 0], [0] * 8193, 8, 'a malformed type, and too many bindings')
-    lists.hand_words('s', ['x'], [99, 0, 0, 0], [0] * 8196, 8, 'a malformed set, and too many bindings')
-    lists.hand_words('s', ['x'], [0] * 8196, [99, 0, 0, 0], 8, 'too long a set, and malformed bindings')
-    lists.hand_words('s', ['x'], [0] * 8192, [], 1, '2,048 records of kind 0')
+        lists.refuse_words('t', ['x'], [0] * n, BIND, 8, 'a list of %d words, all 0' % n)
+        lists.refuse_words('t', ['x'], VAR, [0] * n, 8, 'bindings of %d words, all 0' % n)
+        lists.refuse_words('s', ['x'], [0] * n, BIND, 8, 'a set of %d words, all 0' % n, LONGER)
+        lists.refuse_words('s', ['x'], [], [0] * n, 8, 'bindings of %d words, all 0' % n)
+    lists.refuse_words('t', ['x'], [7, 2047, 0, 0] + BOOL * 2048, [], 8, 'a good type of 2,049 records')
+    lists.refuse_words('t', ['x'], [99, 0, 0, 0], [0] * 8193, 8, 'a malformed type, and too many bindings')
+    lists.refuse_words('s', ['x'], [99, 0, 0, 0], [0] * 8196, 8, 'a malformed set, and too many bindings')
+    lists.refuse_words('s', ['x'], [0] * 8196, [99, 0, 0, 0], 8, 'too long a set, and malformed bindings')
+    lists.refuse_words('s', ['x'], [0] * 8192, [], 1, '2,048 records of kind 0')
 
 
 def too_short(lists):
     for i, least in enumerate(USUAL):
         lent = USUAL[:i] + (least - 1,) + USUAL[i + 1:]
-        lists.hand_words('t', ['x'], VAR, BIND, 10, 'lent too little', lent)
-        lists.hand_words('s', ['x'], [21, 0, 0, 0] + VAR, BIND, 10, 'lent too little', lent)
-        lists.hand_words('ts'[i % 2], ['x'], [0] * 8196, [7], 10, 'lent too little, and an over-long list', lent)
-    lists.hand_words('t', ['x'], VAR, BIND, 10, 'lent nothing', (0, 0, 0, 0))
-    lists.hand_words('s', ['x'], [99, 0, 0, 0], BIND, 10, 'lent nothing, and a malformed set', (0, 0, 0, 0))
+        lists.refuse_words('t', ['x'], VAR, BIND, 10, 'lent too little', lent)
+        lists.refuse_words('s', ['x'], [21, 0, 0, 0] + VAR, BIND, 10, 'lent too little', lent)
+        lists.refuse_words('ts'[i % 2], ['x'], [0] * 8196, [7], 10, 'lent too little, and an over-long list', lent)
+    lists.refuse_words('t', ['x'], VAR, BIND, 10, 'lent nothing', (0, 0, 0, 0))
+    lists.refuse_words('s', ['x'], [99, 0, 0, 0], BIND, 10, 'lent nothing, and a malformed set', (0, 0, 0, 0))
 
 
 def main():
@@ -558,6 +562,7 @@ def main():
     by_chance(lists, 100)
     for part in (out_of_range, too_many_factors, too_large, mixed, malformed, too_long, too_short):
         part(lists)
+        lists.flush()
     sys.stdout.write(in_blocks(lists.out))
 
 

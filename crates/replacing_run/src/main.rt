@@ -9,6 +9,7 @@ use compare::RESULT_BEFORE;
 use compare::WORK_BEFORE;
 use compare::agrees;
 use libc::STDIN_FILENO;
+use libc::STDOUT_FILENO;
 use lists::enter_names;
 use lists::lent_from;
 use lists::lines_of;
@@ -16,7 +17,7 @@ use lists::words_from;
 use replacing_calls::Answer;
 use replacing_calls::replace_in_type;
 use rules::Refusal;
-ghost use Prim.Native.Nat.{_<_};
+ghost use Prim.Native.Nat.{_≤_, _<_};
 ghost use lib.ListN.{length};
 
 // The list is read in blocks, at most this many.
@@ -133,24 +134,38 @@ fn holds(s: &[u8], at: usize) -> bool
     lists_hold(s, at, &pool[0..p], &table[0..t])
 }
 
+// The tally with one case more. The comment of a case that differs, which stands from before up to it, is written.
+fn with_case(t: Tally, s: &[u8], before: usize, at: usize) -> Tally
+    requires { ⌜ (before ≤ at) × (at < length (now s)) ⌝ }
+{
+    let right = holds(s, at);
+    if !right {
+        io::write_all(STDOUT_FILENO, &s[before..at]);
+    }
+    t.with(right)
+}
+
 // The cases of a block, added to those before it.
-fn run(s: &[u8], before: Tally) -> Tally {
-    let mut t = before;
+fn run(s: &[u8], tally: Tally) -> Tally {
+    let mut t = tally;
+    let mut before = 0;
     let mut at = 0;
     while at < s.len() {
         let next = next_line(s, at);
         if is_case(s[at]) {
-            t = t.with(holds(s, at));
+            t = with_case(t, s, before, at);
         }
+        before = at;
         at = next;
     }
     t
 }
 
-fn run_next(before: Tally) -> Tally {
+// Reads the next block and runs it.
+fn run_next(tally: Tally) -> Tally {
     let mut buf = io::large_buffer();
     let n = io::read_full(STDIN_FILENO, &mut buf);
-    run(&buf[..n], before)
+    run(&buf[..n], tally)
 }
 
 fn main() {

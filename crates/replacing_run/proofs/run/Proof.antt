@@ -1,6 +1,6 @@
 -- `replacing_run::run` is safe and ends: the next line starts further on.
 -- Assumes nothing.
-use Prim.Native.Nat.{_-_, _<_}
+use Prim.Native.Nat.{_-_, _≤_, _<_}
 use native.Mathlib.Omega.{arith}
 use lib.ListN.{length}
 use denote.Ref.{now}
@@ -10,10 +10,10 @@ use Rattle.replacing_run.proofs.run.Statement.{statement}
 use Rattle.replacing_run.proofs.run.Tie as tie
 
 abbrev Inv-loop : tie.InvT-loop
-Inv-loop s t₀ at₀ t at = Unit {0}
+Inv-loop s t₀ before₀ at₀ t before at = before ≤ at
 
 abbrev μ-loop : tie.MeasureT-loop
-μ-loop s t₀ at₀ t at = length s - at
+μ-loop s t₀ before₀ at₀ t before at = length s - at
 
 moves : (c : tie.After-next-line Inv-loop μ-loop) → c .before .before .loop .at < c .next-line .result
 moves c =
@@ -33,23 +33,20 @@ shared-slice-read-is-case c = search needs
 is-case-requires : tie.Need-is-case-requires Inv-loop μ-loop
 is-case-requires c κs = search needs
 
-holds-requires : tie.Need-holds-requires Inv-loop μ-loop
-holds-requires c κs = search needs
-
-with-requires : tie.Need-with-requires Inv-loop μ-loop
-with-requires c κs = search needs
+with-case-requires : tie.Need-with-case-requires Inv-loop μ-loop
+with-case-requires c κs = search needs
 
 loop-less : tie.Need-loop-less Inv-loop μ-loop
-loop-less c = let m = moves (c .before .before .before .before .before) in omega arith
+loop-less c = let m = moves (c .before .before .before .before) in omega arith
 
 loop-again : tie.Need-loop-again Inv-loop μ-loop
-loop-again c = search needs
+loop-again c = let m = moves (c .before .before .before .before) in omega arith
 
 loop-less-2 : tie.Need-loop-less-2 Inv-loop μ-loop
 loop-less-2 c = let m = moves (c .before .before .before) in omega arith
 
 loop-again-2 : tie.Need-loop-again-2 Inv-loop μ-loop
-loop-again-2 c = search needs
+loop-again-2 c = let m = moves (c .before .before .before) in omega arith
 
 returns : tie.Need-returns Inv-loop μ-loop
 returns c = search needs
@@ -64,8 +61,7 @@ run-spec =
     next-line-requires
     shared-slice-read-is-case
     is-case-requires
-    holds-requires
-    with-requires
+    with-case-requires
     loop-less
     loop-again
     loop-less-2
