@@ -157,7 +157,7 @@ class Lists:
 
     def ask(self, line, lent=USUAL, why=''):
         """A case whose answer is numbat's."""
-        self.asked.append((line, lent, why))
+        self.asked.append((' '.join(line.split()), lent, why))
 
     def put_tree(self, said, line, answer, lent, by_hand):
         """A case in the form of a line; answer is a list of trees, or the number of a refusal."""
@@ -305,6 +305,8 @@ def function(n, item):
 
 # ---------------------------------------------------------------- aimed cases that numbat answers
 
+LONG = 'n' * 47  # with one byte more, as long as a name can be
+
 # (subject, bindings): asked of a type, and of sets that hold it
 AIMED = [
     # no bindings
@@ -333,6 +335,7 @@ AIMED = [
     ('(dim (v x 1 1) (v y 2 1))', '(bind x (var y)) (bind y (var x))'), ('(dim (v x 1 1) (v y -1 1))', '(bind x (var y)) (bind y (dim (b L 1 1)))'),
     ('(dim (v x 1 1) (v y -1 1))', '(bind x (var y))'), ('(dim (v x 1 1) (v y 1 1) (v z 1 1))', '(bind x (dim (v z -1 1))) (bind y (dim (v x 1 1)))'),
     ('(dim (v x 2 1) (v y 1 1) (b L -6 1))', '(bind x (dim (b L 3 1)))'), ('(dim (v x 1 1) (v y 1 1))', '(bind x (dim (v y -1 1)))'),
+    ('(dim (v %sa 1 1) (v %sb 2 1))' % (LONG, LONG), '(bind %sb (dim (v %sa 1 1) (b %sc 1 1)))' % (LONG, LONG, LONG)),
     # what cancels away before and after a non-dimension is met
     ('(dim (v w 1 1) (v y -1 1))', '(bind w (dim (v y 1 1))) (bind y (bool))'), ('(dim (v w 1 1) (v y 1 1))', '(bind w (dim (v y -1 1))) (bind y (str))'),
     ('(dim (v w 1 1) (v y 1 1))', '(bind w (bool)) (bind y (dim (v w -1 1)))'), ('(dim (v w 1 1) (v x 1 1) (v y -2 1))', '(bind w (var y)) (bind x (var y)) (bind y (bool))'),
