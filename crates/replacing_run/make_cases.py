@@ -18,7 +18,6 @@ import random
 import subprocess
 import sys
 
-MOST = 2147483647  # the largest numerator and denominator
 BLOCK = 65536  # bytes that the reader takes at a time
 USUAL = (8192, 257, 8192, 16384)  # what is lent: pool bytes, words of table, result, work
 LONGER = (8200, 260, 8200, 16400)
@@ -88,13 +87,15 @@ class Writer:
     def constraint(self, c):
         head = c[0]
         if head == 'eq':
-            return [20, 0, 0, 0] + self.types(c[1:])
+            _, left, right = c
+            return [20, 0, 0, 0] + self.type(left) + self.type(right)
         if head == 'isdim':
             return [21, 0, 0, 0] + self.type(c[1])
         if head == 'scalar':
             return [22, 0, 0, 0] + self.type(['dim'] + c[1:])
         assert head == 'hasfield', c
-        return [23, self.name(c[2]), 0, 0] + self.type(c[1]) + self.type(c[3])
+        _, struct, field, asked = c
+        return [23, self.name(field), 0, 0] + self.type(struct) + self.type(asked)
 
     def list(self, letter, items):
         if letter == 't':
@@ -103,7 +104,7 @@ class Writer:
         return [word for c in items for word in self.constraint(c)]
 
     def bindings(self, bs):
-        return [word for b in bs for word in [24, self.name(b[1]), 0, 0] + self.type(b[2])]
+        return [word for _, variable, t in bs for word in [24, self.name(variable), 0, 0] + self.type(t)]
 
 
 # ---------------------------------------------------------------- cases to lines
@@ -310,71 +311,134 @@ LONG = 'n' * 47  # with one byte more, as long as a name can be
 # (subject, bindings): asked of a type, and of sets that hold it
 AIMED = [
     # no bindings
-    ('(bool)', ''), ('(str)', ''), ('(date)', ''), ('(var x)', ''), ('(par a)', ''), ('(dim)', ''), ('(dim (v x 1 1))', ''),
-    ('(dim (v x 1 2) (p a -1 1) (b L 3 1))', ''), ('(list (var x))', ''), ('(fn () (var x))', ''), ('(fn ((var x) (var y)) (dim (v x 2 1)))', ''),
-    ('(struct P () ())', ''), ('(struct P ((var x)) ((f (var x)) (g (bool))))', ''),
+    ('(bool)', ''),
+    ('(str)', ''),
+    ('(date)', ''),
+    ('(var x)', ''),
+    ('(par a)', ''),
+    ('(dim)', ''),
+    ('(dim (v x 1 1))', ''),
+    ('(dim (v x 1 2) (p a -1 1) (b L 3 1))', ''),
+    ('(list (var x))', ''),
+    ('(fn () (var x))', ''),
+    ('(fn ((var x) (var y)) (dim (v x 2 1)))', ''),
+    ('(struct P () ())', ''),
+    ('(struct P ((var x)) ((f (var x)) (g (bool))))', ''),
     # the first of two bindings counts
-    ('(var x)', '(bind x (bool)) (bind x (str))'), ('(dim (v x 1 1))', '(bind x (str)) (bind x (bool))'),
-    ('(dim (v x 2 1))', '(bind x (dim (b L 1 1))) (bind x (dim (b M 1 1)))'), ('(dim (v x 2 1))', '(bind x (dim (b L 1 1))) (bind x (bool))'),
-    ('(dim (v x 2 1))', '(bind x (bool)) (bind x (dim (b L 1 1)))'), ('(fn ((var y)) (var x))', '(bind y (str)) (bind x (bool)) (bind y (date)) (bind x (date))'),
+    ('(var x)', '(bind x (bool)) (bind x (str))'),
+    ('(dim (v x 1 1))', '(bind x (str)) (bind x (bool))'),
+    ('(dim (v x 2 1))', '(bind x (dim (b L 1 1))) (bind x (dim (b M 1 1)))'),
+    ('(dim (v x 2 1))', '(bind x (dim (b L 1 1))) (bind x (bool))'),
+    ('(dim (v x 2 1))', '(bind x (bool)) (bind x (dim (b L 1 1)))'),
+    ('(fn ((var y)) (var x))', '(bind y (str)) (bind x (bool)) (bind y (date)) (bind x (date))'),
     # bound types aren't replaced again
-    ('(var x)', '(bind x (var y)) (bind y (bool))'), ('(var x)', '(bind x (list (var x)))'), ('(var y)', '(bind x (var y)) (bind y (var x))'),
-    ('(dim (v x 2 1))', '(bind x (var y)) (bind y (bool))'), ('(dim (v x 2 1))', '(bind x (dim (v x 1 1) (b L 1 1)))'),
+    ('(var x)', '(bind x (var y)) (bind y (bool))'),
+    ('(var x)', '(bind x (list (var x)))'),
+    ('(var y)', '(bind x (var y)) (bind y (var x))'),
+    ('(dim (v x 2 1))', '(bind x (var y)) (bind y (bool))'),
+    ('(dim (v x 2 1))', '(bind x (dim (v x 1 1) (b L 1 1)))'),
     ('(fn ((var x) (var y)) (var z))', '(bind x (var y)) (bind y (var z)) (bind z (var x))'),
     ('(list (dim (v x 1 1)))', '(bind x (dim (v y 1 1))) (bind y (bool))'),
     # one variable to the power 1 becomes the bound type, whatever it is
-    ('(dim (v x 1 1))', '(bind x (bool))'), ('(dim (v x 1 1))', '(bind x (var y))'), ('(dim (v x 1 1))', '(bind x (par a))'), ('(dim (v x 1 1))', '(bind x (dim))'),
-    ('(dim (v x 1 1))', '(bind x (dim (v y 1 1)))'), ('(dim (v x 1 1))', '(bind x (fn ((var x)) (dim (v x 2 1))))'), ('(dim (v x 1 1))', '(bind x (list (str)))'),
-    ('(dim (v x 1 1))', '(bind x (struct P ((bool)) ((f (bool)))))'), ('(dim (v x 1 1))', '(bind y (bool))'),
+    ('(dim (v x 1 1))', '(bind x (bool))'),
+    ('(dim (v x 1 1))', '(bind x (var y))'),
+    ('(dim (v x 1 1))', '(bind x (par a))'),
+    ('(dim (v x 1 1))', '(bind x (dim))'),
+    ('(dim (v x 1 1))', '(bind x (dim (v y 1 1)))'),
+    ('(dim (v x 1 1))', '(bind x (fn ((var x)) (dim (v x 2 1))))'),
+    ('(dim (v x 1 1))', '(bind x (list (str)))'),
+    ('(dim (v x 1 1))', '(bind x (struct P ((bool)) ((f (bool)))))'),
+    ('(dim (v x 1 1))', '(bind y (bool))'),
     # any other product of it doesn't
-    ('(dim (v x -1 1))', '(bind x (bool))'), ('(dim (v x 1 2))', '(bind x (bool))'), ('(dim (v x 1 1) (b L 1 1))', '(bind x (bool))'),
-    ('(dim (v x 1 1) (p a 1 1))', '(bind x (par a))'), ('(dim (v x -1 1))', '(bind x (var y))'), ('(dim (v x 2 1))', '(bind x (fn () (dim)))'),
-    ('(dim (v x 2 1))', '(bind x (list (dim)))'), ('(dim (v x 2 1))', '(bind x (struct P () ()))'), ('(dim (v x 2 1))', '(bind x (par a))'),
-    ('(dim (p a 1 1))', '(bind x (bool))'), ('(dim (b x 1 1))', '(bind x (bool))'), ('(dim (v y 2 1) (b x 1 1))', '(bind x (bool))'),
+    ('(dim (v x -1 1))', '(bind x (bool))'),
+    ('(dim (v x 1 2))', '(bind x (bool))'),
+    ('(dim (v x 1 1) (b L 1 1))', '(bind x (bool))'),
+    ('(dim (v x 1 1) (p a 1 1))', '(bind x (par a))'),
+    ('(dim (v x -1 1))', '(bind x (var y))'),
+    ('(dim (v x 2 1))', '(bind x (fn () (dim)))'),
+    ('(dim (v x 2 1))', '(bind x (list (dim)))'),
+    ('(dim (v x 2 1))', '(bind x (struct P () ()))'),
+    ('(dim (v x 2 1))', '(bind x (par a))'),
+    ('(dim (p a 1 1))', '(bind x (bool))'),
+    ('(dim (b x 1 1))', '(bind x (bool))'),
+    ('(dim (v y 2 1) (b x 1 1))', '(bind x (bool))'),
     # factors in their stored order, on what earlier factors left
-    ('(dim (v x 1 1) (v y 2 1))', '(bind x (var y)) (bind y (var x))'), ('(dim (v x 1 1) (v y -1 1))', '(bind x (var y)) (bind y (dim (b L 1 1)))'),
-    ('(dim (v x 1 1) (v y -1 1))', '(bind x (var y))'), ('(dim (v x 1 1) (v y 1 1) (v z 1 1))', '(bind x (dim (v z -1 1))) (bind y (dim (v x 1 1)))'),
-    ('(dim (v x 2 1) (v y 1 1) (b L -6 1))', '(bind x (dim (b L 3 1)))'), ('(dim (v x 1 1) (v y 1 1))', '(bind x (dim (v y -1 1)))'),
+    ('(dim (v x 1 1) (v y 2 1))', '(bind x (var y)) (bind y (var x))'),
+    ('(dim (v x 1 1) (v y -1 1))', '(bind x (var y)) (bind y (dim (b L 1 1)))'),
+    ('(dim (v x 1 1) (v y -1 1))', '(bind x (var y))'),
+    ('(dim (v x 1 1) (v y 1 1) (v z 1 1))', '(bind x (dim (v z -1 1))) (bind y (dim (v x 1 1)))'),
+    ('(dim (v x 2 1) (v y 1 1) (b L -6 1))', '(bind x (dim (b L 3 1)))'),
+    ('(dim (v x 1 1) (v y 1 1))', '(bind x (dim (v y -1 1)))'),
     ('(dim (v %sa 1 1) (v %sb 2 1))' % (LONG, LONG), '(bind %sb (dim (v %sa 1 1) (b %sc 1 1)))' % (LONG, LONG, LONG)),
     # what cancels away before and after a non-dimension is met
-    ('(dim (v w 1 1) (v y -1 1))', '(bind w (dim (v y 1 1))) (bind y (bool))'), ('(dim (v w 1 1) (v y 1 1))', '(bind w (dim (v y -1 1))) (bind y (str))'),
-    ('(dim (v w 1 1) (v y 1 1))', '(bind w (bool)) (bind y (dim (v w -1 1)))'), ('(dim (v w 1 1) (v x 1 1) (v y -2 1))', '(bind w (var y)) (bind x (var y)) (bind y (bool))'),
-    ('(dim (v w 1 1) (v x 1 1) (v y 1 1))', '(bind w (dim)) (bind x (str)) (bind y (bool))'), ('(dim (v w 1 1) (v y -1 1))', '(bind w (dim (v y 1 1)))'),
+    ('(dim (v w 1 1) (v y -1 1))', '(bind w (dim (v y 1 1))) (bind y (bool))'),
+    ('(dim (v w 1 1) (v y 1 1))', '(bind w (dim (v y -1 1))) (bind y (str))'),
+    ('(dim (v w 1 1) (v y 1 1))', '(bind w (bool)) (bind y (dim (v w -1 1)))'),
+    ('(dim (v w 1 1) (v x 1 1) (v y -2 1))', '(bind w (var y)) (bind x (var y)) (bind y (bool))'),
+    ('(dim (v w 1 1) (v x 1 1) (v y 1 1))', '(bind w (dim)) (bind x (str)) (bind y (bool))'),
+    ('(dim (v w 1 1) (v y -1 1))', '(bind w (dim (v y 1 1)))'),
     ('(fn ((dim (v w 1 1) (v y -1 1)) (dim (v x 2 1))) (bool))', '(bind w (var y)) (bind x (date))'),
     # rational powers
-    ('(dim (v x 1 2))', '(bind x (dim (b L 3 1)))'), ('(dim (v x 2 3))', '(bind x (dim (v y 3 2)))'), ('(dim (v x 1 2) (v y 1 3))', '(bind x (dim (b L 1 1))) (bind y (dim (b L -3 2)))'),
-    ('(dim (v x -5 6) (b L 1 3))', '(bind x (dim (b L 2 5) (b M 6 5)))'), ('(dim (v x 1 2) (b L 1 6))', '(bind x (dim (b L -1 3)))'),
-    ('(dim (v x 1 2147483647))', '(bind x (dim (b L 2147483647 1)))'), ('(dim (v x 2147483647 1))', '(bind x (dim (b L -1 2147483647)))'),
-    ('(dim (v x 1 1) (b L 2147483646 1))', '(bind x (dim (b L 1 1)))'), ('(dim (v x 2147483647 2147483646) (p a 1 1))', '(bind x (dim (b L -2147483646 2147483647)))'),
-    ('(dim (v x -1 1) (b L -2147483646 1))', '(bind x (dim (b L 1 1)))'), ('(dim (v x -1 1) (b M 1 1))', '(bind x (dim (b L 2147483647 1) (b M 1 2147483647)))'),
+    ('(dim (v x 1 2))', '(bind x (dim (b L 3 1)))'),
+    ('(dim (v x 2 3))', '(bind x (dim (v y 3 2)))'),
+    ('(dim (v x 1 2) (v y 1 3))', '(bind x (dim (b L 1 1))) (bind y (dim (b L -3 2)))'),
+    ('(dim (v x -5 6) (b L 1 3))', '(bind x (dim (b L 2 5) (b M 6 5)))'),
+    ('(dim (v x 1 2) (b L 1 6))', '(bind x (dim (b L -1 3)))'),
+    ('(dim (v x 1 2147483647))', '(bind x (dim (b L 2147483647 1)))'),
+    ('(dim (v x 2147483647 1))', '(bind x (dim (b L -1 2147483647)))'),
+    ('(dim (v x 1 1) (b L 2147483646 1))', '(bind x (dim (b L 1 1)))'),
+    ('(dim (v x 2147483647 2147483646) (p a 1 1))', '(bind x (dim (b L -2147483646 2147483647)))'),
+    ('(dim (v x -1 1) (b L -2147483646 1))', '(bind x (dim (b L 1 1)))'),
+    ('(dim (v x -1 1) (b M 1 1))', '(bind x (dim (b L 2147483647 1) (b M 1 2147483647)))'),
     # functions, structs, lists, nested
-    ('(fn ((var x) (list (var x)) (dim (v x 2 1))) (dim (v x 1 1)))', '(bind x (dim (v y 1 1) (b L 1 1)))'), ('(fn () (var x))', '(bind x (fn () (var x)))'),
-    ('(struct x ((var x)) ((x (var x))))', '(bind x (bool))'), ('(struct P ((var x) (var y)) ((f (var y)) (g (var x))))', '(bind x (struct Q ((var y)) ())) (bind y (list (bool)))'),
-    ('(list (list (list (dim (v x 1 1)))))', '(bind x (list (var x)))'), ('(struct P () ((f (dim (v x 3 1))) (g (dim (v x 1 1)))))', '(bind x (var y))'),
-    ('(struct P () ((f (dim (v x 1 1))) (g (dim (v x 3 1)))))', '(bind x (bool))'), ('(fn ((struct P ((fn ((var x)) (var y))) ())) (struct Q () ((h (list (var y))))))', '(bind y (dim (p a 1 1))) (bind x (par a))'),
+    ('(fn ((var x) (list (var x)) (dim (v x 2 1))) (dim (v x 1 1)))', '(bind x (dim (v y 1 1) (b L 1 1)))'),
+    ('(fn () (var x))', '(bind x (fn () (var x)))'),
+    ('(struct x ((var x)) ((x (var x))))', '(bind x (bool))'),
+    ('(struct P ((var x) (var y)) ((f (var y)) (g (var x))))', '(bind x (struct Q ((var y)) ())) (bind y (list (bool)))'),
+    ('(list (list (list (dim (v x 1 1)))))', '(bind x (list (var x)))'),
+    ('(struct P () ((f (dim (v x 3 1))) (g (dim (v x 1 1)))))', '(bind x (var y))'),
+    ('(struct P () ((f (dim (v x 1 1))) (g (dim (v x 3 1)))))', '(bind x (bool))'),
+    ('(fn ((struct P ((fn ((var x)) (var y))) ())) (struct Q () ((h (list (var y))))))', '(bind y (dim (p a 1 1))) (bind x (par a))'),
     ('(fn ((fn ((fn ((var x)) (var x))) (var x))) (var x))', '(bind x (fn ((var x)) (var x)))'),
     # products of many factors
     ('(dim (v x 1 1) (v y 1 1) %s)' % bases(0, 30), '(bind x (dim %s)) (bind y (dim %s))' % (bases(30, 16), bases(46, 18))),
-    ('(dim (v x 1 1) %s)' % bases(0, 63), '(bind x (dim %s))' % bases(63, 1, '-1 2')), ('(dim (v x 1 1) %s)' % bases(0, 63), '(bind x (dim %s))' % bases(0, 64, '-1 1')),
+    ('(dim (v x 1 1) %s)' % bases(0, 63), '(bind x (dim %s))' % bases(63, 1, '-1 2')),
+    ('(dim (v x 1 1) %s)' % bases(0, 63), '(bind x (dim %s))' % bases(0, 64, '-1 1')),
     ('(dim (v x 2 1))', '(bind x (dim %s))' % bases(0, 64, '3 4')),
 ]
 
 # (constraints, bindings): sets only
 AIMED_SETS = [
-    ('', ''), ('', '(bind x (bool))'), ('(scalar)', '(bind x (bool))'),
+    ('', ''),
+    ('', '(bind x (bool))'),
+    ('(scalar)', '(bind x (bool))'),
     # the product of an equal-scalar stays a product
-    ('(scalar (v x 1 1))', ''), ('(scalar (v x 1 1))', '(bind x (dim (b L 1 1)))'), ('(scalar (v x 1 1))', '(bind x (var y))'), ('(scalar (v x 1 1))', '(bind x (bool))'),
-    ('(scalar (v x 1 1))', '(bind x (par a))'), ('(scalar (v x 1 1))', '(bind x (dim))'), ('(scalar (v x 1 1))', '(bind x (dim (v x 2 1)))'), ('(scalar (v x 1 1))', '(bind y (bool))'),
-    ('(scalar (v x 1 1) (v y -1 1))', '(bind x (var y))'), ('(scalar (v x 1 1))', '(bind x (dim (b L 1 1))) (bind x (bool))'), ('(scalar (v x 1 1))', '(bind x (list (dim)))'),
-    ('(scalar (v x 2 1) (v y 1 2) (b L -1 1))', '(bind x (dim (b L 1 2))) (bind y (dim (v x 2 1)))'), ('(scalar (p a 1 1) (b L 1 1))', '(bind x (bool))'),
-    ('(isdim (dim (v x 1 1))) (scalar (v x 1 1))', '(bind x (bool))'), ('(isdim (dim (v x 1 1))) (isdim (var x))', '(bind x (bool))'),
+    ('(scalar (v x 1 1))', ''),
+    ('(scalar (v x 1 1))', '(bind x (dim (b L 1 1)))'),
+    ('(scalar (v x 1 1))', '(bind x (var y))'),
+    ('(scalar (v x 1 1))', '(bind x (bool))'),
+    ('(scalar (v x 1 1))', '(bind x (par a))'),
+    ('(scalar (v x 1 1))', '(bind x (dim))'),
+    ('(scalar (v x 1 1))', '(bind x (dim (v x 2 1)))'),
+    ('(scalar (v x 1 1))', '(bind y (bool))'),
+    ('(scalar (v x 1 1) (v y -1 1))', '(bind x (var y))'),
+    ('(scalar (v x 1 1))', '(bind x (dim (b L 1 1))) (bind x (bool))'),
+    ('(scalar (v x 1 1))', '(bind x (list (dim)))'),
+    ('(scalar (v x 2 1) (v y 1 2) (b L -1 1))', '(bind x (dim (b L 1 2))) (bind y (dim (v x 2 1)))'),
+    ('(scalar (p a 1 1) (b L 1 1))', '(bind x (bool))'),
+    ('(isdim (dim (v x 1 1))) (scalar (v x 1 1))', '(bind x (bool))'),
+    ('(isdim (dim (v x 1 1))) (isdim (var x))', '(bind x (bool))'),
     # all four kinds; the first failure in the records' order decides
     ('(eq (var x) (var y)) (isdim (var x)) (scalar (v x 1 1) (v y 1 1)) (hasfield (var x) f (var y))', '(bind x (dim (b L 1 1))) (bind y (dim (v z 1 2)))'),
     ('(hasfield (struct P ((var x)) ((f (var x)))) f (var y)) (eq (list (var x)) (var x))', '(bind x (fn ((var y)) (var x)))'),
-    ('(hasfield (dim (v x 1 1)) x (dim (v x 1 1)))', '(bind x (struct x () ((x (bool)))))'), ('(hasfield (var x) f (dim (v x 2 1)))', '(bind x (struct P () ()))'),
-    ('(eq (dim (v x 1 1)) (dim (v x 2 1)))', '(bind x (bool))'), ('(eq (bool) (dim (v y 2 1))) (scalar (v x 1 1))', '(bind x (bool)) (bind y (str))'),
-    ('(scalar (v x 1 1)) (eq (bool) (dim (v y 2 1)))', '(bind x (bool)) (bind y (str))'), ('(eq (var x) (var x)) (eq (var x) (var x))', '(bind x (dim (v x 1 1)))'),
-    ('(isdim (dim (v x 1 1) (p a 1 1))) (isdim (par a))', '(bind x (dim (p a -1 1)))'), ('(eq (par a) (var x))', '(bind x (par a))'),
+    ('(hasfield (dim (v x 1 1)) x (dim (v x 1 1)))', '(bind x (struct x () ((x (bool)))))'),
+    ('(hasfield (var x) f (dim (v x 2 1)))', '(bind x (struct P () ()))'),
+    ('(eq (dim (v x 1 1)) (dim (v x 2 1)))', '(bind x (bool))'),
+    ('(eq (bool) (dim (v y 2 1))) (scalar (v x 1 1))', '(bind x (bool)) (bind y (str))'),
+    ('(scalar (v x 1 1)) (eq (bool) (dim (v y 2 1)))', '(bind x (bool)) (bind y (str))'),
+    ('(eq (var x) (var x)) (eq (var x) (var x))', '(bind x (dim (v x 1 1)))'),
+    ('(isdim (dim (v x 1 1) (p a 1 1))) (isdim (par a))', '(bind x (dim (p a -1 1)))'),
+    ('(eq (par a) (var x))', '(bind x (par a))'),
 ]
 
 # sets that hold a type in each place where a set can
@@ -424,7 +488,7 @@ def out_of_range(lists):
         ('(dim (v x 1 1) (v y 1 1) (v z 2147483647 1))', '(bind x (var z)) (bind y (dim (v z -1 1)))', 'though a later factor takes it back'),
         ('(dim (v x 2147483647 1) (v y 1 1))', '(bind x (dim (b L 2 1))) (bind y (bool))', 'met before the 6'),
         ('(fn ((list (dim (v x 2147483647 1)))) (dim (v y 2 1)))', '(bind x (dim (b L 2 1))) (bind y (bool))', 'met before the 6'),
-        ('(dim (v x 1 1) (b D00 2147483647 1) %s)' % bases(1, 62), '(bind x (dim %s))' % bases(0, 2) [:-1] + ' (b E 1 1) (b F 1 1))', 'before the 8 of the same multiplication'),
+        ('(dim (v x 1 1) (b D00 2147483647 1) %s)' % bases(1, 62), '(bind x (dim (b D00 1 1) (b E 1 1) (b F 1 1)))', 'before the 8 of the same multiplication'),
     ]
     six = [
         ('(dim (v x 2147483647 1) (v y 1 1))', '(bind x (bool)) (bind y (dim (b L 2 1)))', 'met before a 7'),
@@ -483,10 +547,19 @@ def too_large(lists):
 
 def mixed(lists):
     for line in (
-        'replace (fn ((var x)) (par x))', 'replace (dim (v x 1 1) (p x 1 1))', 'replace (par x) (bind x (bool))', 'replace (var x) (bind y (par x))',
-        'replace (bool) (bind x (var y)) (bind z (par y))', 'replace (struct P ((dim (p x 1 1))) ((f (var x))))', 'replace (dim (v x 2 1) (p y 1 1)) (bind x (bool)) (bind y (bool))',
-        'replaceset (set (isdim (var x)) (isdim (par x)))', 'replaceset (set (scalar (v x 1 1) (p x 1 1)))', 'replaceset (set (isdim (par x))) (bind x (bool))',
-        'replaceset (set) (bind x (par x))', 'replaceset (set (hasfield (var x) f (par x)))', 'replaceset (set (scalar (v x 1 1)) (isdim (par y))) (bind x (bool)) (bind y (bool))',
+        'replace (fn ((var x)) (par x))',
+        'replace (dim (v x 1 1) (p x 1 1))',
+        'replace (par x) (bind x (bool))',
+        'replace (var x) (bind y (par x))',
+        'replace (bool) (bind x (var y)) (bind z (par y))',
+        'replace (struct P ((dim (p x 1 1))) ((f (var x))))',
+        'replace (dim (v x 2 1) (p y 1 1)) (bind x (bool)) (bind y (bool))',
+        'replaceset (set (isdim (var x)) (isdim (par x)))',
+        'replaceset (set (scalar (v x 1 1) (p x 1 1)))',
+        'replaceset (set (isdim (par x))) (bind x (bool))',
+        'replaceset (set) (bind x (par x))',
+        'replaceset (set (hasfield (var x) f (par x)))',
+        'replaceset (set (scalar (v x 1 1)) (isdim (par y))) (bind x (bool)) (bind y (bool))',
     ):
         lists.refuse(line, 4, 'variable and parameter of one name')
     # names of base dimensions, structs and fields are neither
@@ -501,31 +574,73 @@ BIND = [24, 0, 0, 0] + BOOL
 def malformed(lists):
     """Lists that are not well formed, over the names x (number 0) and L (number 1)."""
     bad_types = [
-        ('no record at all', []), ('one word', [4]), ('three words', [4, 0, 0]), ('five words', BOOL + [0]), ('two types', BOOL + BOOL), ('no such kind', [16, 0, 0, 0]),
-        ('kind 0', [0, 0, 0, 0]), ('boolean with a word that is unused', [4, 1, 0, 0]), ('variable with a word that is unused', [1, 0, 1, 0]), ('variable with a word that is unused', [1, 0, 0, 1]),
-        ('a name that is not held', [1, 2, 0, 0]), ('a parameter that is not held', [2, 7, 0, 0]), ('a quantified variable', [14, 0, 0, 0]), ('a field by itself', [9, 0, 0, 0] + BOOL),
-        ('a factor by itself', [11, 0, 1, 1]), ('a binding', BIND), ('a constraint', [21, 0, 0, 0] + VAR), ('a list of nothing', [10, 0, 0, 0]),
-        ('a function without its return', [7, 1, 0, 0] + BOOL), ('a function of more types than there are', [7, 4294967295, 0, 0] + BOOL + BOOL), ('more factors than there are', [3, 2, 0, 0, 13, 1, 1, 1]),
-        ('the power 0', [3, 1, 0, 0, 13, 1, 0, 1]), ('not in lowest terms', [3, 1, 0, 0, 13, 1, 2, 4]), ('the denominator 0', [3, 1, 0, 0, 13, 1, 1, 0]), ('the least numerator', [3, 1, 0, 0, 13, 1, -2147483648, 1]),
-        ('a denominator of 2^31', [3, 1, 0, 0, 13, 1, 1, 2147483648]), ('a factor of a quantified variable', [3, 1, 0, 0, 15, 0, 1, 1]), ('one factor twice', [3, 2, 0, 0, 11, 0, 1, 1, 11, 0, 1, 1]),
-        ('a base dimension before a variable', [3, 2, 0, 0, 13, 1, 1, 1, 11, 0, 1, 1]), ('factors that fall', [3, 2, 0, 0, 11, 0, 1, 1, 11, 1, 1, 1]),
-        ('a field twice', [8, 0, 0, 2, 9, 0, 0, 0] + BOOL + [9, 0, 0, 0] + BOOL), ('fields that fall', [8, 0, 0, 2, 9, 0, 0, 0] + BOOL + [9, 1, 0, 0] + BOOL),
-        ('a struct whose name is not held', [8, 2, 0, 0]), ('a struct without its field', [8, 0, 0, 1] + BOOL), ('65 nested types', [10, 0, 0, 0] * 64 + BOOL), ('2,048 records, no type', [4, 0, 0, 0] * 2048),
+        ('no record at all', []),
+        ('one word', [4]),
+        ('three words', [4, 0, 0]),
+        ('five words', BOOL + [0]),
+        ('two types', BOOL + BOOL),
+        ('no such kind', [16, 0, 0, 0]),
+        ('kind 0', [0, 0, 0, 0]),
+        ('boolean with a word that is unused', [4, 1, 0, 0]),
+        ('variable with a word that is unused', [1, 0, 1, 0]),
+        ('variable with a word that is unused', [1, 0, 0, 1]),
+        ('a name that is not held', [1, 2, 0, 0]),
+        ('a parameter that is not held', [2, 7, 0, 0]),
+        ('a quantified variable', [14, 0, 0, 0]),
+        ('a field by itself', [9, 0, 0, 0] + BOOL),
+        ('a factor by itself', [11, 0, 1, 1]),
+        ('a binding', BIND),
+        ('a constraint', [21, 0, 0, 0] + VAR),
+        ('a list of nothing', [10, 0, 0, 0]),
+        ('a function without its return', [7, 1, 0, 0] + BOOL),
+        ('a function of more types than there are', [7, 4294967295, 0, 0] + BOOL + BOOL),
+        ('more factors than there are', [3, 2, 0, 0, 13, 1, 1, 1]),
+        ('the power 0', [3, 1, 0, 0, 13, 1, 0, 1]),
+        ('not in lowest terms', [3, 1, 0, 0, 13, 1, 2, 4]),
+        ('the denominator 0', [3, 1, 0, 0, 13, 1, 1, 0]),
+        ('the least numerator', [3, 1, 0, 0, 13, 1, -2147483648, 1]),
+        ('a denominator of 2^31', [3, 1, 0, 0, 13, 1, 1, 2147483648]),
+        ('a factor of a quantified variable', [3, 1, 0, 0, 15, 0, 1, 1]),
+        ('one factor twice', [3, 2, 0, 0, 11, 0, 1, 1, 11, 0, 1, 1]),
+        ('a base dimension before a variable', [3, 2, 0, 0, 13, 1, 1, 1, 11, 0, 1, 1]),
+        ('factors that fall', [3, 2, 0, 0, 11, 0, 1, 1, 11, 1, 1, 1]),
+        ('a field twice', [8, 0, 0, 2, 9, 0, 0, 0] + BOOL + [9, 0, 0, 0] + BOOL),
+        ('fields that fall', [8, 0, 0, 2, 9, 0, 0, 0] + BOOL + [9, 1, 0, 0] + BOOL),
+        ('a struct whose name is not held', [8, 2, 0, 0]),
+        ('a struct without its field', [8, 0, 0, 1] + BOOL),
+        ('65 nested types', [10, 0, 0, 0] * 64 + BOOL),
+        ('2,048 records, no type', [4, 0, 0, 0] * 2048),
     ]
     for why, words in bad_types:
         lists.refuse_words('t', ['x', 'L'], words, BIND, 1, 'type: ' + why)
     factors65 = [word for i in range(65) for word in (13, i, 1, 1)]
     lists.refuse_words('t', ['D%02d' % i for i in range(65)], [3, 65, 0, 0] + factors65, [], 1, 'type: 65 factors')
     bad_sets = [
-        ('a type', BOOL), ('is-dimension of nothing', [21, 0, 0, 0]), ('equal of one type', [20, 0, 0, 0] + BOOL), ('equal-scalar of a boolean', [22, 0, 0, 0] + BOOL), ('equal-scalar of nothing', [22, 0, 0, 0]),
-        ('has-field of a name that is not held', [23, 9, 0, 0] + BOOL + BOOL), ('equal with a word that is unused', [20, 1, 0, 0] + BOOL + BOOL), ('a binding', BIND), ('a bound', [25, 0, 0, 0]), ('six words', [21, 0, 0, 0, 4, 0]),
-        ('a good constraint, then rubbish', [21, 0, 0, 0] + VAR + [99, 0, 0, 0]), ('a type behind a good constraint', [21, 0, 0, 0] + VAR + BOOL), ('65 nested types', [21, 0, 0, 0] + [10, 0, 0, 0] * 64 + BOOL),
+        ('a type', BOOL),
+        ('is-dimension of nothing', [21, 0, 0, 0]),
+        ('equal of one type', [20, 0, 0, 0] + BOOL),
+        ('equal-scalar of a boolean', [22, 0, 0, 0] + BOOL),
+        ('equal-scalar of nothing', [22, 0, 0, 0]),
+        ('has-field of a name that is not held', [23, 9, 0, 0] + BOOL + BOOL),
+        ('equal with a word that is unused', [20, 1, 0, 0] + BOOL + BOOL),
+        ('a binding', BIND),
+        ('a bound', [25, 0, 0, 0]),
+        ('six words', [21, 0, 0, 0, 4, 0]),
+        ('a good constraint, then rubbish', [21, 0, 0, 0] + VAR + [99, 0, 0, 0]),
+        ('a type behind a good constraint', [21, 0, 0, 0] + VAR + BOOL),
+        ('65 nested types', [21, 0, 0, 0] + [10, 0, 0, 0] * 64 + BOOL),
     ]
     for why, words in bad_sets:
         lists.refuse_words('s', ['x', 'L'], words, BIND, 1, 'set: ' + why)
     bad_bindings = [
-        ('a bound', [25, 0, 0, 0]), ('a type', BOOL), ('no type', [24, 0, 0, 0]), ('a name that is not held', [24, 5, 0, 0] + BOOL), ('a word that is unused', [24, 0, 1, 0] + BOOL), ('seven words', BIND[:7]),
-        ('a second one without a type', BIND + [24, 1, 0, 0]), ('a type of power 0', [24, 0, 0, 0, 3, 1, 0, 0, 13, 1, 0, 1]),
+        ('a bound', [25, 0, 0, 0]),
+        ('a type', BOOL),
+        ('no type', [24, 0, 0, 0]),
+        ('a name that is not held', [24, 5, 0, 0] + BOOL),
+        ('a word that is unused', [24, 0, 1, 0] + BOOL),
+        ('seven words', BIND[:7]),
+        ('a second one without a type', BIND + [24, 1, 0, 0]),
+        ('a type of power 0', [24, 0, 0, 0, 3, 1, 0, 0, 13, 1, 0, 1]),
     ]
     for why, words in bad_bindings:
         lists.refuse_words('t', ['x', 'L'], VAR, words, 1, 'binding: ' + why)
