@@ -1,19 +1,26 @@
 // Runs the listed operations on exponents and compares each answer with the one that is stored.
-mod text;
-
+use cases::Tally;
+use cases::next_line;
+use cases::number_from;
 use exponents::Exponent;
 use exponents::Power;
 use libc::STDIN_FILENO;
-use libc::STDOUT_FILENO;
-use text::fraction_from;
-use text::next_line;
-use text::number_from;
 ghost use Prim.Native.Nat.{_<_};
 ghost use lib.ListN.{length};
 
-struct Tally {
-    cases: u64,
-    right: u64,
+struct Fraction {
+    value: Exponent,
+    next: usize,
+}
+
+// The next two numbers: a numerator and a denominator.
+fn fraction_from(s: &[u8], at: usize) -> Fraction {
+    let n = number_from(s, at);
+    let d = number_from(s, n.next);
+    Fraction {
+        value: Exponent::from_words(n.word, d.word),
+        next: d.next,
+    }
 }
 
 // The operation that a line's first letter names.
@@ -54,7 +61,7 @@ fn holds(s: &[u8], at: usize) -> bool
 }
 
 fn run(s: &[u8]) -> Tally {
-    let mut t = Tally { cases: 0, right: 0 };
+    let mut t = Tally::none();
     let mut at = 0;
     while at < s.len() {
         let next = next_line(s, at);
@@ -64,34 +71,8 @@ fn run(s: &[u8]) -> Tally {
     t
 }
 
-impl Tally {
-    // One case more.
-    fn with(self, right: bool) -> Tally {
-        let cases = more(self.cases);
-        if right {
-            return Tally {
-                cases,
-                right: more(self.right),
-            };
-        }
-        Tally {
-            cases,
-            right: self.right,
-        }
-    }
-}
-
-fn more(n: u64) -> u64 {
-    if n < 1000000 { n + 1 } else { n }
-}
-
 fn main() {
     let mut buf = io::large_buffer();
     let n = io::read_full(STDIN_FILENO, &mut buf);
-    let t = run(&buf[..n]);
-    io::write_all(STDOUT_FILENO, b"exponents: ");
-    io::print_decimal(STDOUT_FILENO, t.cases);
-    io::write_all(STDOUT_FILENO, b" cases, ");
-    io::print_decimal(STDOUT_FILENO, t.right);
-    io::write_all(STDOUT_FILENO, b" as stored\n");
+    run(&buf[..n]).print(b"exponents");
 }

@@ -1,8 +1,11 @@
--- `exponents_run::run` is safe and ends.
+-- `exponents_run::run` is safe and ends: the next line starts further on.
 -- Assumes nothing.
 use Prim.Native.Nat.{_-_}
-use lib.ListN.{length}
+use native.Mathlib.Omega.{arith}
 use borrow.Author.Needs.{needs}
+use lib.ListN.{length}
+use denote.Ref.{now}
+use Rattle.cases.specs.Steps.{line-moves}
 use Rattle.exponents_run.proofs.run.Statement.{statement}
 use Rattle.exponents_run.proofs.run.Tie as tie
 
@@ -11,6 +14,9 @@ Inv-loop s t₀ at₀ t at = Unit {0}
 
 abbrev μ-loop : tie.MeasureT-loop
 μ-loop s t₀ at₀ t at = length s - at
+
+none-requires : tie.Need-none-requires Inv-loop μ-loop
+none-requires c κs = search needs
 
 loop-holds : tie.Need-loop-holds Inv-loop μ-loop
 loop-holds c = search needs
@@ -25,7 +31,11 @@ with-requires : tie.Need-with-requires Inv-loop μ-loop
 with-requires c κs = search needs
 
 loop-less : tie.Need-loop-less Inv-loop μ-loop
-loop-less c = search needs
+loop-less c =
+    let n = c .before .before in
+    let l = n .before .before in
+    let moves = line-moves (now (l .before .before .before .args .s)) (l .loop .at) (n .before .loop-test .taken) in
+    omega arith
 
 loop-again : tie.Need-loop-again Inv-loop μ-loop
 loop-again c = search needs
@@ -39,6 +49,7 @@ run-spec =
     (tie.spec
     Inv-loop
     μ-loop
+    none-requires
     loop-holds
     next-line-requires
     holds-requires

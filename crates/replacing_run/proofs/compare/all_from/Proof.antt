@@ -1,25 +1,25 @@
--- `exponents_run::text::digit_from` is safe and ends.
+-- `replacing_run::compare::all_from` is safe and ends.
 -- Assumes nothing.
 use Prim.Native.Nat.{_-_}
 use lib.ListN.{length}
 use borrow.Author.Needs.{needs}
-use Rattle.exponents_run.proofs.text.digit_from.Statement.{statement}
-use Rattle.exponents_run.proofs.text.digit_from.Tie as tie
+use Rattle.replacing_run.proofs.compare.all_from.Statement.{statement}
+use Rattle.replacing_run.proofs.compare.all_from.Tie as tie
 
 abbrev Inv-loop : tie.InvT-loop
-Inv-loop s at i₀ i = Unit {0}
+Inv-loop a from word i₀ i = Unit {0}
 
 abbrev μ-loop : tie.MeasureT-loop
-μ-loop s at i₀ i = length s - i
+μ-loop a from word i₀ i = length a - i
 
 loop-holds : tie.Need-loop-holds Inv-loop μ-loop
 loop-holds c = search needs
 
-shared-slice-read-is-digit : tie.Need-shared-slice-read-is-digit Inv-loop μ-loop
-shared-slice-read-is-digit c = search needs
+mul-if1 : tie.Need-mul-if1 Inv-loop μ-loop
+mul-if1 c = search needs
 
-is-digit-requires : tie.Need-is-digit-requires Inv-loop μ-loop
-is-digit-requires c κs = search needs
+shared-slice-read-if1 : tie.Need-shared-slice-read-if1 Inv-loop μ-loop
+shared-slice-read-if1 c = search needs
 
 returns : tie.Need-returns Inv-loop μ-loop
 returns c = search needs
@@ -36,15 +36,15 @@ loop-again c = search needs
 returns-2 : tie.Need-returns-2 Inv-loop μ-loop
 returns-2 c = search needs
 
-pub digit-from-spec : {M : Type 1} → statement M
-digit-from-spec =
+pub all-from-spec : {M : Type 1} → statement M
+all-from-spec =
     tie.close
     (tie.spec
     Inv-loop
     μ-loop
     loop-holds
-    shared-slice-read-is-digit
-    is-digit-requires
+    mul-if1
+    shared-slice-read-if1
     returns
     add-i
     loop-less
