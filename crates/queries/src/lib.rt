@@ -4,7 +4,7 @@ use inner::list_names;
 use inner::none_open;
 use inner::occurs;
 use names::inner::is_held;
-use records::Checked;
+use names::Checked;
 use records::Open;
 use records::is_type;
 use rules::RECORD_WORDS;
@@ -60,7 +60,7 @@ pub fn contains(pool: &[u8], table: &[u32], words: &[u32], x: u32, parameters: b
     ensures { λ r. ⌜ told r ≡ containsCall (now (pool .entry)) (now (table .entry)) (now (words .entry)) x parameters ⌝ }
 {
     match is_type(pool, table, words) {
-        Checked::Yes => {
+        Checked::Good => {
             if is_held(table, x) {
                 let n = words.len() / 4;
                 if is_unmixed(words, 0, n) {
@@ -81,7 +81,7 @@ pub fn closed(pool: &[u8], table: &[u32], words: &[u32]) -> Answer
     ensures { λ r. ⌜ told r ≡ closedCall (now (pool .entry)) (now (table .entry)) (now (words .entry)) ⌝ }
 {
     match is_type(pool, table, words) {
-        Checked::Yes => {
+        Checked::Good => {
             let n = words.len() / 4;
             if is_unmixed(words, 0, n) {
                 Answer::Said(none_open(words, 0, n))
@@ -107,7 +107,7 @@ pub fn variables(
         return Count::Refused(Refusal::ShortBuffer);
     }
     match is_type(pool, table, words) {
-        Checked::Yes => {
+        Checked::Good => {
             let n = words.len() / 4;
             if is_unmixed(words, 0, n) {
                 let many = list_names(pool, table, words, 0, n, kind_of(parameters), result);

@@ -10,6 +10,5 @@ pub mod Found
 pub mod Good
 pub mod Moves
 pub mod Given
-pub mod Told
 pub mod Whole
 pub mod Schemes

@@ -6,6 +6,7 @@ use inner::bindings_good;
 use inner::scheme_good;
 use inner::set_good;
 use inner::type_good;
+use names::Checked;
 use names::inner::is_good;
 use rules::POOL_BYTES;
 use rules::RECORD_WORDS;
@@ -18,7 +19,7 @@ ghost use lib.Dec.{eqb};
 ghost use lib.ListN.{length};
 ghost use Rattle.rules.specs.Base.{need};
 ghost use Rattle.rules.specs.Calls.{aloneGiven, setCall, typeCall, schemeCall, bindingsCall};
-ghost use Rattle.records.specs.Told.{told};
+ghost use Rattle.names.specs.Told.{toldChecked};
 
 // An open name: a variable, a quantified variable by its index, a parameter.
 pub enum Open {
@@ -68,15 +69,9 @@ pub struct Words {
     pub c: u32,
 }
 
-// Yes, or why not.
-pub enum Checked {
-    Yes,
-    Refused(Refusal),
-}
-
 // What comes before reading a list: short buffers 10, a long list 8, the table 1.
 pub fn entry(pool: &[u8], table: &[u32], words: &[u32]) -> Checked
-    ensures { λ r. ⌜ told r ≡ aloneGiven (now (pool .entry)) (now (table .entry)) (now (words .entry)) ⌝ }
+    ensures { λ r. ⌜ toldChecked r ≡ aloneGiven (now (pool .entry)) (now (table .entry)) (now (words .entry)) ⌝ }
 {
     if pool.len() < POOL_BYTES {
         return Checked::Refused(Refusal::ShortBuffer);
@@ -88,7 +83,7 @@ pub fn entry(pool: &[u8], table: &[u32], words: &[u32]) -> Checked
         return Checked::Refused(Refusal::TooLarge);
     }
     if is_good(pool, table) {
-        Checked::Yes
+        Checked::Good
     } else {
         Checked::Refused(Refusal::Malformed)
     }
@@ -96,13 +91,13 @@ pub fn entry(pool: &[u8], table: &[u32], words: &[u32]) -> Checked
 
 // A list of whole records that passed its test.
 fn listed(words: &[u32], good: bool) -> Checked
-    ensures { λ r. ⌜ told r ≡ need (eqb (length (now (words .entry)) % 4) 0 && good) 1 ⌝ }
+    ensures { λ r. ⌜ toldChecked r ≡ need (eqb (length (now (words .entry)) % 4) 0 && good) 1 ⌝ }
 {
     if words.len() % 4 != 0 {
         return Checked::Refused(Refusal::Malformed);
     }
     if good {
-        Checked::Yes
+        Checked::Good
     } else {
         Checked::Refused(Refusal::Malformed)
     }
@@ -110,40 +105,40 @@ fn listed(words: &[u32], good: bool) -> Checked
 
 // Is this list a well formed set of constraints?
 pub fn is_set(pool: &[u8], table: &[u32], words: &[u32]) -> Checked
-    ensures { λ r. ⌜ told r ≡ setCall (now (pool .entry)) (now (table .entry)) (now (words .entry)) ⌝ }
+    ensures { λ r. ⌜ toldChecked r ≡ setCall (now (pool .entry)) (now (table .entry)) (now (words .entry)) ⌝ }
 {
     match entry(pool, table, words) {
-        Checked::Yes => listed(words, set_good(pool, table, words)),
+        Checked::Good => listed(words, set_good(pool, table, words)),
         Checked::Refused(r) => Checked::Refused(r),
     }
 }
 
 // Is this list a well formed type?
 pub fn is_type(pool: &[u8], table: &[u32], words: &[u32]) -> Checked
-    ensures { λ r. ⌜ told r ≡ typeCall (now (pool .entry)) (now (table .entry)) (now (words .entry)) ⌝ }
+    ensures { λ r. ⌜ toldChecked r ≡ typeCall (now (pool .entry)) (now (table .entry)) (now (words .entry)) ⌝ }
 {
     match entry(pool, table, words) {
-        Checked::Yes => listed(words, type_good(pool, table, words, 0)),
+        Checked::Good => listed(words, type_good(pool, table, words, 0)),
         Checked::Refused(r) => Checked::Refused(r),
     }
 }
 
 // Is this list a well formed scheme?
 pub fn is_scheme(pool: &[u8], table: &[u32], words: &[u32]) -> Checked
-    ensures { λ r. ⌜ told r ≡ schemeCall (now (pool .entry)) (now (table .entry)) (now (words .entry)) ⌝ }
+    ensures { λ r. ⌜ toldChecked r ≡ schemeCall (now (pool .entry)) (now (table .entry)) (now (words .entry)) ⌝ }
 {
     match entry(pool, table, words) {
-        Checked::Yes => listed(words, scheme_good(pool, table, words)),
+        Checked::Good => listed(words, scheme_good(pool, table, words)),
         Checked::Refused(r) => Checked::Refused(r),
     }
 }
 
 // Is this list a well formed list of bindings?
 pub fn is_bindings(pool: &[u8], table: &[u32], words: &[u32]) -> Checked
-    ensures { λ r. ⌜ told r ≡ bindingsCall (now (pool .entry)) (now (table .entry)) (now (words .entry)) ⌝ }
+    ensures { λ r. ⌜ toldChecked r ≡ bindingsCall (now (pool .entry)) (now (table .entry)) (now (words .entry)) ⌝ }
 {
     match entry(pool, table, words) {
-        Checked::Yes => listed(words, bindings_good(pool, table, words)),
+        Checked::Good => listed(words, bindings_good(pool, table, words)),
         Checked::Refused(r) => Checked::Refused(r),
     }
 }

@@ -13,9 +13,9 @@ use Rattle.rules.specs.declared.Refusal.{Refusal}
 use Rattle.rules.specs.declared.Refusal.the-variants.{TooLarge}
 use Rattle.laws.specs.Lists.{clash}
 use Rattle.records.specs.Found.{Words32}
-use Rattle.records.specs.Told as checked
+use Rattle.names.specs.Told.{toldChecked}
 use Rattle.records.specs.Whole.{type-is, set-is}
-use Rattle.records.specs.declared.Checked.{Checked}
+use Rattle.names.specs.declared.Checked.{Checked}
 use Rattle.queries.specs.Runs.{set-opens}
 use Rattle.queries.specs.ScanLaws.{type-opens}
 use Rattle.lending.specs.Handed.{as-written, unwritten}
@@ -55,7 +55,7 @@ module _ (pool table ws binds : List ℕ) where
 
   -- what the code's checks say
   module _ (h : length binds ≤ 8192) (l : lentTable pool table ≡ got tt) (w : Words32 ws) (v : Words32 binds) (x y : Checked) where
-    pub type-checked : checked.told x ≡ typeCall pool table ws → checked.told y ≡ withBindings pool table ws binds (checked.told x) → (entered pool table ws binds (typeGiven (tableOf pool table) ws) opens >> got (tt {0})) ≡ checked.told y
+    pub type-checked : toldChecked x ≡ typeCall pool table ws → toldChecked y ≡ withBindings pool table ws binds (toldChecked x) → (entered pool table ws binds (typeGiven (tableOf pool table) ws) opens >> got (tt {0})) ≡ toldChecked y
     unfolding typeCall
     type-checked e g =
         sym (g ∙ ap (withBindings pool table ws binds) e ∙ all-checked pool table ws binds (typeGiven (tableOf pool table) ws) opens h l v (λ t i.
@@ -63,7 +63,7 @@ module _ (pool table ws binds : List ℕ) where
         let z : length ws / 4 ≡ 0 + size t = k .past in
         rw z (type-opens ws t 0 (k .held))))
 
-    pub set-checked : checked.told x ≡ setCall pool table ws → checked.told y ≡ withBindings pool table ws binds (checked.told x) → (entered pool table ws binds (setGiven (tableOf pool table) ws) (collect opensCon) >> got (tt {0})) ≡ checked.told y
+    pub set-checked : toldChecked x ≡ setCall pool table ws → toldChecked y ≡ withBindings pool table ws binds (toldChecked x) → (entered pool table ws binds (setGiven (tableOf pool table) ws) (collect opensCon) >> got (tt {0})) ≡ toldChecked y
     unfolding setCall
     set-checked e g =
         sym (g ∙ ap (withBindings pool table ws binds) e ∙ all-checked pool table ws binds (setGiven (tableOf pool table) ws) (collect opensCon) h l v (λ cs i.

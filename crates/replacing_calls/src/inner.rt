@@ -1,7 +1,7 @@
 // The steps of a call that replaces, past the check of 10.
 use lending::Answer;
 use queries::inner::apart;
-use records::Checked;
+use names::Checked;
 use records::inner::Ended;
 use records::inner::type_end;
 use records::is_bindings;
@@ -24,7 +24,7 @@ ghost use Rattle.rules.specs.Names.{tableOf, lentTable};
 ghost use Rattle.rules.specs.Calls.{setGiven, typeGiven, replacedSet, replacedType};
 ghost use Rattle.rules.specs.Trees.{Ty, Con, Binding};
 ghost use Rattle.laws.specs.NameTable.{Good};
-ghost use Rattle.records.specs.Told as checked;
+ghost use Rattle.names.specs.Told.{toldChecked};
 ghost use Rattle.queries.specs.Marks.{Small};
 ghost use Rattle.queries.specs.Scans.{opensIn};
 ghost use Rattle.lending.specs.Told.{Made, told};
@@ -35,10 +35,10 @@ ghost use Rattle.replacing_calls.specs.Made.{madeType, madeSet};
 
 // No, as refusal 4.
 fn unmixed_or(yes: bool) -> Checked
-    ensures { λ r. ⌜ checked.told r ≡ need yes 4 ⌝ }
+    ensures { λ r. ⌜ toldChecked r ≡ need yes 4 ⌝ }
 {
     if yes {
-        Checked::Yes
+        Checked::Good
     } else {
         Checked::Refused(Refusal::Mixed)
     }
@@ -52,12 +52,12 @@ fn with_bindings(
     words: &[u32],
     binds: &[u32],
 ) -> Checked
-    requires { ⌜ (checked.told first ≡ got tt → Small (opensIn (now words) 0 (length (now words) / 4))) ⌝ }
-    ensures { λ r. ⌜ checked.told r ≡ withBindings (now (pool .entry)) (now (table .entry)) (now (words .entry)) (now (binds .entry)) (checked.told first) ⌝ }
+    requires { ⌜ (toldChecked first ≡ got tt → Small (opensIn (now words) 0 (length (now words) / 4))) ⌝ }
+    ensures { λ r. ⌜ toldChecked r ≡ withBindings (now (pool .entry)) (now (table .entry)) (now (words .entry)) (now (binds .entry)) (toldChecked first) ⌝ }
 {
     match first {
-        Checked::Yes => match is_bindings(pool, table, binds) {
-            Checked::Yes => {
+        Checked::Good => match is_bindings(pool, table, binds) {
+            Checked::Good => {
                 let n = words.len() / 4;
                 unmixed_or(apart(words, 0, n, binds, 0, binds.len() / 4))
             }
@@ -139,7 +139,7 @@ pub fn make_type(
         return Answer::Refused(Refusal::TooLarge);
     }
     match with_bindings(is_type(pool, table, words), pool, table, words, binds) {
-        Checked::Yes => type_into(pool, table, words, binds, work),
+        Checked::Good => type_into(pool, table, words, binds, work),
         Checked::Refused(r) => Answer::Refused(r),
     }
 }
@@ -160,7 +160,7 @@ pub fn make_set(
         return Answer::Refused(Refusal::TooLarge);
     }
     match with_bindings(is_set(pool, table, words), pool, table, words, binds) {
-        Checked::Yes => set_into(pool, table, words, binds, work),
+        Checked::Good => set_into(pool, table, words, binds, work),
         Checked::Refused(r) => Answer::Refused(r),
     }
 }

@@ -6,7 +6,7 @@ use denote.Ref.{now}
 use Rattle.rules.specs.Base.{got}
 use Rattle.rules.specs.Trees.{Ty}
 use Rattle.rules.specs.Names.{tableOf, namesOf}
-use Rattle.records.specs.Told as checked
+use Rattle.names.specs.Told.{toldChecked}
 use Rattle.queries.specs.Answers.{Typed, typed, typed-small, closed-refused, closed-mixed, closed-said}
 use Rattle.queries.proofs.closed.Statement.{statement}
 use Rattle.queries.proofs.closed.Tie as tie
@@ -15,7 +15,7 @@ use Rattle.queries.proofs.closed.Tie as tie
 given : (c : tie.After-enum-told) →
     let a = c .before .before .before .before .before .before .args in
     (t : Ty ℕ) × Typed (now (a .pool)) (now (a .table)) (now (a .words)) t
-given c = typed _ _ _ (record { word = λ i. c .before .before .before .shared-slice-known3 .given i .fits }) (sym (c .before .before .is-type .ensures) ∙ ap checked.told (c .enum-told .given .1))
+given c = typed _ _ _ (record { word = λ i. c .before .before .before .shared-slice-known3 .given i .fits }) (sym (c .before .before .is-type .ensures) ∙ ap toldChecked (c .enum-told .given .1))
 
 is-type-requires : tie.Need-is-type-requires
 is-type-requires c κs = search needs
@@ -45,7 +45,7 @@ returns-2 c =
     sym (closed-mixed _ _ _ t k (sym (c .before .is-unmixed .ensures (namesOf (tableOf (now (a .pool)) (now (a .table))))) ∙ c .if1 .left))
 
 returns-3 : tie.Need-returns-3
-returns-3 c = sym (closed-refused _ _ _ _ (sym (c .before .before .before .is-type .ensures) ∙ ap checked.told (c .before .r .given .1)))
+returns-3 c = sym (closed-refused _ _ _ _ (sym (c .before .before .before .is-type .ensures) ∙ ap toldChecked (c .before .r .given .1)))
 
 pub closed-spec : {M : Type 1} → statement M
 closed-spec =

@@ -6,7 +6,7 @@ use denote.Ref.{now}
 use Rattle.rules.specs.Base.{got, any}
 use Rattle.rules.specs.Trees.{Ty}
 use Rattle.rules.specs.Names.{tableOf, namesOf}
-use Rattle.records.specs.Told as checked
+use Rattle.names.specs.Told.{toldChecked}
 use lib.Dec.{eqb}
 use lib.ListN.{length}
 use Rattle.queries.specs.Scans.{choose, opensIn}
@@ -18,7 +18,7 @@ use Rattle.queries.proofs.contains.Tie as tie
 given : (c : tie.After-enum-told) →
     let a = c .before .before .before .before .before .before .args in
     (t : Ty ℕ) × Typed (now (a .pool)) (now (a .table)) (now (a .words)) t
-given c = typed _ _ _ (record { word = λ i. c .before .before .before .shared-slice-known3 .given i .fits }) (sym (c .before .before .is-type .ensures) ∙ ap checked.told (c .enum-told .given .1))
+given c = typed _ _ _ (record { word = λ i. c .before .before .before .shared-slice-known3 .given i .fits }) (sym (c .before .before .is-type .ensures) ∙ ap toldChecked (c .enum-told .given .1))
 
 is-type-requires : tie.Need-is-type-requires
 is-type-requires c κs = search needs
@@ -63,7 +63,7 @@ returns-3 c =
 returns-4 : tie.Need-returns-4
 returns-4 c =
     let a = c .before .before .before .before .before .before .before .args in
-    sym (contains-refused _ _ _ (a .x) (a .parameters) _ (sym (c .before .before .before .is-type .ensures) ∙ ap checked.told (c .before .r .given .1)))
+    sym (contains-refused _ _ _ (a .x) (a .parameters) _ (sym (c .before .before .before .is-type .ensures) ∙ ap toldChecked (c .before .r .given .1)))
 
 pub contains-spec : {M : Type 1} → statement M
 contains-spec =

@@ -6,7 +6,7 @@ use borrow.Author.Needs.{needs}
 use denote.Ref.{now}
 use Rattle.rules.specs.Trees.{Ty}
 use Rattle.rules.specs.Names.{tableOf, namesOf}
-use Rattle.records.specs.Told as checked
+use Rattle.names.specs.Told.{toldChecked}
 use Rattle.queries.specs.Answers.{Typed, typed, typed-good, typed-small, typed-held, variables-short, variables-refused, variables-mixed, variables-said}
 use Rattle.queries.proofs.variables.Statement.{statement}
 use Rattle.queries.proofs.variables.Tie as tie
@@ -15,7 +15,7 @@ use Rattle.queries.proofs.variables.Tie as tie
 given : (c : tie.After-enum-told) →
     let a = c .before .before .before .before .before .before .before .before .args in
     (t : Ty ℕ) × Typed (now (a .pool)) (now (a .table)) (now (a .words)) t
-given c = typed _ _ _ (record { word = λ i. c .before .before .before .before .before .shared-slice-known3 .given i .fits }) (sym (c .before .before .is-type .ensures) ∙ ap checked.told (c .enum-told .given .1))
+given c = typed _ _ _ (record { word = λ i. c .before .before .before .before .before .shared-slice-known3 .given i .fits }) (sym (c .before .before .is-type .ensures) ∙ ap toldChecked (c .enum-told .given .1))
 
 returns : tie.Need-returns
 returns c = let a = c .before .before .before .before .before .args in variables-short _ _ _ (a .parameters) (now (a .result)) (c .if1 .taken)
@@ -58,7 +58,7 @@ returns-3 c =
 returns-4 : tie.Need-returns-4
 returns-4 c =
     let a = c .before .before .before .before .before .before .before .before .before .args in
-    variables-refused _ _ _ (a .parameters) (now (a .result)) _ (c .before .before .before .before .if1 .left) (sym (c .before .before .before .is-type .ensures) ∙ ap checked.told (c .before .r .given .1))
+    variables-refused _ _ _ (a .parameters) (now (a .result)) _ (c .before .before .before .before .if1 .left) (sym (c .before .before .before .is-type .ensures) ∙ ap toldChecked (c .before .r .given .1))
 
 pub variables-spec : {M : Type 1} → statement M
 variables-spec =

@@ -6,7 +6,7 @@ use Rattle.rules.specs.Base.{got, _>>_, collect}
 use Rattle.rules.specs.Calls.{setGiven}
 use Rattle.rules.specs.Names.{tableOf}
 use Rattle.rules.specs.Trees.{opensCon}
-use Rattle.records.specs.Told as checked
+use Rattle.names.specs.Told.{toldChecked}
 use Rattle.replacing_calls.specs.Entry.{entered, constraints-small, came-in}
 use Rattle.replacing_calls.specs.Whole.{long-made, unmet-made, met-made, set-whole, set-checked}
 use Rattle.replacing_calls.proofs.inner.make_set.Statement.{statement}
@@ -15,7 +15,7 @@ use Rattle.replacing_calls.proofs.inner.make_set.Tie as tie
 -- what the checks say
 entry : (c : tie.After-with-bindings) →
     let a = c .before .before .before .before .before .before .before .before .args in
-    (entered (now (a .pool)) (now (a .table)) (now (a .words)) (now (a .binds)) (setGiven (tableOf (now (a .pool)) (now (a .table))) (now (a .words))) (collect opensCon) >> got (tt {0})) ≡ checked.told (c .with-bindings .result)
+    (entered (now (a .pool)) (now (a .table)) (now (a .words)) (now (a .binds)) (setGiven (tableOf (now (a .pool)) (now (a .table))) (now (a .words))) (collect opensCon) >> got (tt {0})) ≡ toldChecked (c .with-bindings .result)
 entry c =
     let e = c .before .before in
     set-checked _ _ _ _ (e .if1 .left) (e .before .before .before .before .before .before .pre .0) (record { word = λ i. e .before .before .before .shared-slice-known3 .given i .fits }) (record { word = λ i. e .before .before .shared-slice-known4 .given i .fits }) (c .before .is-set .result) (c .with-bindings .result) (c .before .is-set .ensures) (c .with-bindings .ensures)
@@ -36,7 +36,7 @@ set-into-requires : tie.Need-set-into-requires
 set-into-requires c κs =
     let w = c .before .before .before in
     let p = w .before .before .before .before .before .before .before .before .pre in
-    let (t, (bs, (e, n))) = came-in _ _ _ _ _ (collect opensCon) (p .0) (entry w ∙ ap checked.told (c .before .enum-told .given .1)) in
+    let (t, (bs, (e, n))) = came-in _ _ _ _ _ (collect opensCon) (p .0) (entry w ∙ ap toldChecked (c .before .enum-told .given .1)) in
     ((t, (bs, n)), p .1)
 
 enum-known-r : tie.Need-enum-known-r
@@ -50,13 +50,13 @@ returns-2 c =
     let k = c .before .before in
     let w = k .before .before .before .before in
     let p = w .before .before .before .before .before .before .before .before .pre in
-    let (t, (bs, (e, n))) = came-in _ _ _ _ _ (collect opensCon) (p .0) (entry w ∙ ap checked.told (k .before .before .enum-told .given .1)) in
+    let (t, (bs, (e, n))) = came-in _ _ _ _ _ (collect opensCon) (p .0) (entry w ∙ ap toldChecked (k .before .before .enum-told .given .1)) in
     met-made _ _ _ _ _ _ _ _ (set-whole _ _ _ _) _ _ t bs e (k .set-into .ensures t bs n)
 
 returns-3 : tie.Need-returns-3
 returns-3 c =
     let w = c .before .before .before in
-    unmet-made _ _ _ _ _ _ _ _ (set-whole _ _ _ _) _ _ (entry w ∙ ap checked.told (c .before .r .given .1))
+    unmet-made _ _ _ _ _ _ _ _ (set-whole _ _ _ _) _ _ (entry w ∙ ap toldChecked (c .before .r .given .1))
 
 pub make-set-spec : {M : Type 1} → statement M
 make-set-spec =

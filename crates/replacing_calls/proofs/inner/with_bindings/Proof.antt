@@ -5,7 +5,7 @@ use borrow.Author.Needs.{needs}
 use denote.Ref.{now}
 use Rattle.rules.specs.Base.{need}
 use Rattle.rules.specs.Names.{tableOf, namesOf}
-use Rattle.records.specs.Told as checked
+use Rattle.names.specs.Told.{toldChecked}
 use Rattle.replacing_calls.specs.Entry.{both-small}
 use Rattle.replacing_calls.proofs.inner.with_bindings.Statement.{statement}
 use Rattle.replacing_calls.proofs.inner.with_bindings.Tie as tie
@@ -23,7 +23,7 @@ apart-requires : tie.Need-apart-requires
 apart-requires c κs =
     let e = c .before .before .before in
     let s = e .before .before in
-    both-small _ _ _ _ (s .before .before .before .before .pre (ap checked.told (e .enum-told .given .1))) (record { word = λ i. s .shared-slice-known4 .given i .fits }) (sym (c .before .before .is-bindings .ensures) ∙ ap checked.told (c .enum-told2 .given .1))
+    both-small _ _ _ _ (s .before .before .before .before .pre (ap toldChecked (e .enum-told .given .1))) (record { word = λ i. s .shared-slice-known4 .given i .fits }) (sym (c .before .before .is-bindings .ensures) ∙ ap toldChecked (c .enum-told2 .given .1))
 
 unmixed-or-requires : tie.Need-unmixed-or-requires
 unmixed-or-requires c κs = search needs
@@ -39,7 +39,7 @@ returns c =
     let b = c .before .before in
     let e = b .before .before .before in
     let a = e .before .before .before .before .before .before .args in
-    let q = sym (b .before .before .is-bindings .ensures) ∙ ap checked.told (b .enum-told2 .given .1) in
+    let q = sym (b .before .before .is-bindings .ensures) ∙ ap toldChecked (b .enum-told2 .given .1) in
     c .unmixed-or .ensures
     ∙ ap (λ (b : Bool). need b 4) (c .before .apart .ensures (namesOf (tableOf (now (a .pool)) (now (a .table)))))
     ∙ sym (rw (e .enum-told .given .1, q))
@@ -47,7 +47,7 @@ returns c =
 returns-2 : tie.Need-returns-2
 returns-2 c =
     let k = c .before .before .before in
-    let q = sym (k .is-bindings .ensures) ∙ ap checked.told (c .before .r .given .1) in
+    let q = sym (k .is-bindings .ensures) ∙ ap toldChecked (c .before .r .given .1) in
     sym (rw (k .before .enum-told .given .1, q))
 
 returns-3 : tie.Need-returns-3
