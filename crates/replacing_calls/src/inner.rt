@@ -1,7 +1,7 @@
 // The steps of a call that replaces, past the check of 10.
 use lending::Answer;
-use queries::inner::apart;
 use names::Checked;
+use queries::inner::apart;
 use records::inner::Ended;
 use records::inner::type_end;
 use records::is_bindings;
