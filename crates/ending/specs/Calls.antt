@@ -20,7 +20,8 @@ use Rattle.rules.specs.Solving.{Answer, accepted, remaining, stopped, solve}
 use Rattle.rules.specs.Calls.{lent, lentResult, lentWork, shortLists, listGiven, tableKept, setGiven, apart, Solved, solved, unsolved, refusedAfter, solvedOf, solvedSet, solveCall}
 use Rattle.laws.specs.Size.{size-con}
 use Rattle.laws.specs.ReadLists.{con-read, all-read, Words, taken}
-use Rattle.laws.specs.NameTable.{Good, both-left, both-right}
+use Rattle.laws.specs.Lists.{and-left, and-right}
+use Rattle.laws.specs.NameTable.{Good}
 use Rattle.ending.specs.Yields.{Yields, yields, refuses, next, weaken, traced}
 use Rattle.ending.specs.Runs.{roundsOf}
 use Rattle.ending.specs.Sets.{Admitted}
@@ -63,7 +64,7 @@ lent-yields pool table result work =
     let b = leb 257 (length table) in
     next (next (need-yields (a && b) 10 (omega arith)) (λ u e. weaken (need-yields (leb 8192 (length result)) 10 (omega arith)) (λ v i. e))) (λ u t.
     weaken (need-yields (leb 16384 (length work)) 10 (omega arith)) (λ v i.
-    (leb-true 8192 (length pool) (both-left a b t), leb-true 257 (length table) (both-right a b t))))
+    (leb-true 8192 (length pool) (and-left a b t), leb-true 257 (length table) (and-right a b t))))
 
 -- the rounds that the answer of the call carries
 abbrev pub roundsIn : Solved → ℕ
@@ -94,7 +95,7 @@ module _ (pool table set result work : List ℕ) (small : Words set) (Q : Solved
       let t = tableOf pool table in
       next (need-yields (leb (length set) 8192 && true) 8 (omega arith)) (λ u e.
       next (need-yields (tableGood t) 1 (omega arith)) (λ v g.
-      next (traced (set-admitted t set small (leb-true (length set) 8192 (both-left (leb (length set) 8192) true e)))) (λ cs i.
+      next (traced (set-admitted t set small (leb-true (length set) 8192 (and-left (leb (length set) 8192) true e)))) (λ cs i.
       next (need-yields (unmixed (numbersOf t) (collect opensCon cs)) 4 (omega arith)) (λ w m.
       yields (every (record { bytes = h; words = k; good = g }) cs (i .1) (i .0))))))
 

@@ -10,7 +10,7 @@ use Rattle.rules.specs.Exponents.{goodStored}
 use Rattle.rules.specs.Trees.{Open, var, Atom, free, base, _↑_, Product, Names, Ty, opened, basic, dim, fn, struct, list, Tys, nil, cons, Fields, noFields, field, orderAtom, open-dec, opens, opensTys, opensFields, openOfFactor}
 use Rattle.rules.specs.Products.{just}
 use Rattle.rules.specs.WellFormed.{rising, atomOf, goodOpen, goodFactor, goodProduct, goodTy, goodTys, goodFields}
-use Rattle.laws.specs.NameTable.{both-left, both-right}
+use Rattle.laws.specs.Lists.{and-left, and-right}
 use Rattle.laws.specs.Order.{Lawful, self}
 use Rattle.laws.specs.Sorted.{Before, sorted}
 use Rattle.ending.specs.Members.{All, none, _&_, all-left, all-right}
@@ -112,8 +112,8 @@ module _ {N : Type 0} (ν : Names N) (law : Lawful (orderAtom ν)) (held : N →
   good-atoms : (p : Product N) → all (goodFactor ν held q) p ≡ true → Atoms (Named Good) p
   unfolding all goodFactor
   good-atoms [] t = none
-  good-atoms (free o ↑ e ∷ p) t = both-left (goodOpen ν held q o) _ (both-left (goodOpen ν held q o && goodStored e) _ t) & good-atoms p (both-right (goodOpen ν held q o && goodStored e) _ t)
-  good-atoms (base n ↑ e ∷ p) t = tt & good-atoms p (both-right (held n && goodStored e) _ t)
+  good-atoms (free o ↑ e ∷ p) t = and-left (goodOpen ν held q o) _ (and-left (goodOpen ν held q o && goodStored e) _ t) & good-atoms p (and-right (goodOpen ν held q o && goodStored e) _ t)
+  good-atoms (base n ↑ e ∷ p) t = tt & good-atoms p (and-right (held n && goodStored e) _ t)
 
   pub good-product : (p : Product N) → goodProduct ν held q p ≡ true → Neat ν (Named Good) p
   unfolding goodProduct
@@ -121,8 +121,8 @@ module _ {N : Type 0} (ν : Names N) (law : Lawful (orderAtom ν)) (held : N →
       let a = all (goodFactor ν held q) p in
       let r = rising (orderAtom ν) (map atomOf p) in
       record {
-        sorted = sorted ν law p (rw (both-right a r (both-left (a && r) _ t)) tt);
-        atoms = good-atoms p (both-left a r (both-left (a && r) _ t));
+        sorted = sorted ν law p (rw (and-right a r (and-left (a && r) _ t)) tt);
+        atoms = good-atoms p (and-left a r (and-left (a && r) _ t));
       }
 
   mutual
@@ -132,19 +132,19 @@ module _ {N : Type 0} (ν : Names N) (law : Lawful (orderAtom ν)) (held : N →
     good-ty (opened o) t = t
     good-ty (basic b) t = tt
     good-ty (dim p) t = good-product p t
-    good-ty (fn ps r) t = (good-tys ps (both-left (goodTys ν held q ps) _ t), good-ty r (both-right (goodTys ν held q ps) _ t))
+    good-ty (fn ps r) t = (good-tys ps (and-left (goodTys ν held q ps) _ t), good-ty r (and-right (goodTys ν held q ps) _ t))
     good-ty (struct n as′ fs) t =
         let a = held n && goodTys ν held q as′ in
         let b = a && goodFields ν held q fs in
-        (good-tys as′ (both-right (held n) _ (both-left a _ (both-left b _ t))), good-fields fs (both-right a _ (both-left b _ t)))
+        (good-tys as′ (and-right (held n) _ (and-left a _ (and-left b _ t))), good-fields fs (and-right a _ (and-left b _ t)))
     good-ty (list t) g = good-ty t g
 
     good-tys : (ts : Tys N) → goodTys ν held q ts ≡ true → FineTys ν Good ts
     good-tys nil t = tt
-    good-tys (cons u ts) t = (good-ty u (both-left (goodTy ν held q u) _ t), good-tys ts (both-right (goodTy ν held q u) _ t))
+    good-tys (cons u ts) t = (good-ty u (and-left (goodTy ν held q u) _ t), good-tys ts (and-right (goodTy ν held q u) _ t))
 
     good-fields : (fs : Fields N) → goodFields ν held q fs ≡ true → FineFields ν Good fs
     good-fields noFields t = tt
     good-fields (field n u fs) t =
         let a = held n && goodTy ν held q u in
-        (good-ty u (both-right (held n) _ (both-left a _ t)), good-fields fs (both-right a _ t))
+        (good-ty u (and-right (held n) _ (and-left a _ t)), good-fields fs (and-right a _ t))

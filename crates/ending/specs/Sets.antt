@@ -12,7 +12,7 @@ use Rattle.rules.specs.Contents.{variablesIn, sort}
 use Rattle.rules.specs.WellFormed.{goodTy, goodCon, goodOpen}
 use Rattle.rules.specs.Rounds.{State}
 use Rattle.rules.specs.Solving.{accepted, stopped, run, enough, solve}
-use Rattle.laws.specs.NameTable.{both-left, both-right}
+use Rattle.laws.specs.Lists.{and-left, and-right}
 use Rattle.laws.specs.Order.{Lawful, Tells}
 use Rattle.ending.specs.Members.{All, none, _&_, all-left, all-right, all-join, all-map, Member, here, there, sort-keeps}
 use Rattle.ending.specs.Products.{Atoms}
@@ -72,24 +72,24 @@ module _ {N : Type 0} (ν : Names N) (law : Lawful (orderAtom ν)) (held : N →
 
   names-con : (c : Con N) → goodCon ν held 0 c ≡ true → All goodOne (opensCon c)
   unfolding goodCon opensCon opens
-  names-con (equal l r) t = all-join (names-ty ν l (good-ty ν law held 0 l (both-left (goodTy ν held 0 l) _ t))) (names-ty ν r (good-ty ν law held 0 r (both-right (goodTy ν held 0 l) _ t)))
+  names-con (equal l r) t = all-join (names-ty ν l (good-ty ν law held 0 l (and-left (goodTy ν held 0 l) _ t))) (names-ty ν r (good-ty ν law held 0 r (and-right (goodTy ν held 0 l) _ t)))
   names-con (isDim u) t = names-ty ν u (good-ty ν law held 0 u t)
   names-con (isScalar p) t = names-atoms ν p (good-product ν law held 0 p t .atoms)
   names-con (hasField n s u) t =
       let a = held n && goodTy ν held 0 s in
-      all-join (names-ty ν s (good-ty ν law held 0 s (both-right (held n) _ (both-left a _ t)))) (names-ty ν u (good-ty ν law held 0 u (both-right a _ t)))
+      all-join (names-ty ν s (good-ty ν law held 0 s (and-right (held n) _ (and-left a _ t)))) (names-ty ν u (good-ty ν law held 0 u (and-right a _ t)))
 
   names-set : (cs : List (Con N)) → all (goodCon ν held 0) cs ≡ true → All goodOne (collect opensCon cs)
   unfolding all collect
   names-set [] t = none
-  names-set (c ∷ cs) t = all-join (names-con c (both-left (goodCon ν held 0 c) _ t)) (names-set cs (both-right (goodCon ν held 0 c) _ t))
+  names-set (c ∷ cs) t = all-join (names-con c (and-left (goodCon ν held 0 c) _ t)) (names-set cs (and-right (goodCon ν held 0 c) _ t))
 
   -- a well formed constraint whose variables are of the list
   con-ok : (xs : List N) (c : Con N) → goodCon ν held 0 c ≡ true → All (In xs) (opensCon c) → Ok ν xs c
   unfolding goodCon opensCon Ok opens
   con-ok xs (equal l r) t a = (
-    change ν (λ o g i. i) l (good-ty ν law held 0 l (both-left (goodTy ν held 0 l) _ t)) (all-left (opens l) (opens r) a),
-    change ν (λ o g i. i) r (good-ty ν law held 0 r (both-right (goodTy ν held 0 l) _ t)) (all-right (opens l) (opens r) a),
+    change ν (λ o g i. i) l (good-ty ν law held 0 l (and-left (goodTy ν held 0 l) _ t)) (all-left (opens l) (opens r) a),
+    change ν (λ o g i. i) r (good-ty ν law held 0 r (and-right (goodTy ν held 0 l) _ t)) (all-right (opens l) (opens r) a),
   )
   con-ok xs (isDim u) t a = change ν (λ o g i. tt) u (good-ty ν law held 0 u t) a
   con-ok xs (isScalar p) t a =
@@ -97,16 +97,16 @@ module _ {N : Type 0} (ν : Names N) (law : Lawful (orderAtom ν)) (held : N →
       record { sorted = n .sorted; atoms = change-atoms ν (λ o g i. i) p (n .atoms) a }
   con-ok xs (hasField n s u) t a =
       let b = held n && goodTy ν held 0 s in (
-        change ν (λ o g i. i) s (good-ty ν law held 0 s (both-right (held n) _ (both-left b _ t))) (all-left (opens s) (opens u) a),
-        change ν (λ o g i. i) u (good-ty ν law held 0 u (both-right b _ t)) (all-right (opens s) (opens u) a),
+        change ν (λ o g i. i) s (good-ty ν law held 0 s (and-right (held n) _ (and-left b _ t))) (all-left (opens s) (opens u) a),
+        change ν (λ o g i. i) u (good-ty ν law held 0 u (and-right b _ t)) (all-right (opens s) (opens u) a),
       )
 
   set-ok : (xs : List N) (cs : List (Con N)) → all (goodCon ν held 0) cs ≡ true → All (In xs) (collect opensCon cs) → All (Ok ν xs) cs
   unfolding all collect
   set-ok xs [] t a = none
   set-ok xs (c ∷ cs) t a =
-      con-ok xs c (both-left (goodCon ν held 0 c) _ t) (all-left (opensCon c) (collect opensCon cs) a)
-      & set-ok xs cs (both-right (goodCon ν held 0 c) _ t) (all-right (opensCon c) (collect opensCon cs) a)
+      con-ok xs c (and-left (goodCon ν held 0 c) _ t) (all-left (opensCon c) (collect opensCon cs) a)
+      & set-ok xs cs (and-right (goodCon ν held 0 c) _ t) (all-right (opensCon c) (collect opensCon cs) a)
 
 -- ══ The names held ══
 

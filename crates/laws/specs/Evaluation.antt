@@ -12,10 +12,10 @@ use Rattle.rules.specs.Products.{put, inverse, divide, multiply, raise}
 use Rattle.rules.specs.Replacing.{Look, asProduct, replaceFactors, replaceProduct}
 use Rattle.rules.specs.Rounds.{otherSide}
 use Rattle.laws.specs.Order.{Lawful, Tells}
-use Rattle.laws.specs.Fractions.{Lowest, neg-lowest, one-lowest, mul-in-lowest, plus-in-lowest, inverted-lowest, mul-comm′, mul-assoc′, mul-one′, mul-inverted, zero-is-nought}
+use Rattle.laws.specs.Fractions.{Lowest, neg-lowest, one-lowest, mul-in-lowest, plus-in-lowest, inverted-lowest, mul-comm′, mul-assoc′, mul-one′, mul-inverted, zero-is-nought, neg-zero}
 use Rattle.laws.specs.Sorted.{Before, Each}
 use Rattle.laws.specs.ExactProducts.{mergeE, mergeOneE, raiseE, merge-scalar, scalar-merge, multiply-exact, divide-exact, raise-exact}
-use Rattle.laws.specs.Powers.{Sound, Proper, neg-zero, merge-proper, raise-proper, inverse-proper, scalar-proper, merge-assoc, merge-comm, raise-merge, merge-inverse, raise-one, raise-nought, raise-plus, raise-mul, raise-neg, inverse-merge}
+use Rattle.laws.specs.Powers.{Sound, Proper, merge-proper, raise-proper, inverse-proper, scalar-proper, merge-assoc, merge-comm, raise-merge, merge-inverse, raise-one, raise-nought, raise-plus, raise-mul, raise-neg, inverse-merge}
 use Rattle.laws.specs.Lists.{All, in-head, each-parts}
 
 module _ {N : Type 0} (ν : Names N) (v : Atom N → Product N) where

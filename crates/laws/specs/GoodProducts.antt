@@ -17,7 +17,8 @@ use Rattle.laws.specs.Order.{Lawful, Tells}
 use Rattle.laws.specs.Value.{Gives, gives, refuses, next, weaken}
 use Rattle.laws.specs.Ranges.{good-lowest, stored-good, stored-not-zero, is-stored, neg-good, sum-good, times-good}
 use Rattle.laws.specs.Sorted.{Sorted, Each, sorted, sorted-rises, merge-sorted, raise-sorted, inverse-sorted, merge-each, raise-each, inverse-each}
-use Rattle.laws.specs.Powers.{Sound, Proper, neg-zero}
+use Rattle.laws.specs.Fractions.{neg-zero}
+use Rattle.laws.specs.Powers.{Sound, Proper}
 
 pub passed : (b : Bool) → T b → b ≡ true
 passed true t = refl

@@ -19,8 +19,7 @@ use Rattle.rules.specs.WellFormed.{atomOf, fieldNames, goodOpen, goodProduct, g
 use Rattle.laws.specs.Order.{Lawful}
 use Rattle.laws.specs.Value.{Gives, gives, refuses, next, weaken}
 use Rattle.laws.specs.Sorted.{Each, sorted, sorted-rises}
-use Rattle.laws.specs.Fractions.{Lowest, neg-lowest, mul-in-lowest, inverted-lowest, mul-comm′, mul-assoc′, mul-one′, mul-inverted, zero-is-nought}
-use Rattle.laws.specs.Powers.{neg-zero, nought-mul}
+use Rattle.laws.specs.Fractions.{Lowest, neg-lowest, mul-in-lowest, inverted-lowest, mul-comm′, mul-assoc′, mul-one′, mul-inverted, zero-is-nought, neg-zero, nought-mul}
 use Rattle.laws.specs.Ranges.{good-lowest, one-good, stored-good, stored-not-zero, is-stored, neg-good, quotient-good}
 use Rattle.laws.specs.GoodProducts.{goodAtom, GoodFactor, good-product, product-good, multiply-good, divide-good, raise-good}
 use Rattle.laws.specs.RuleCases.{Reads, Sides, After, Rule, none-applies, equal-records, binds, two-functions, two-lists, two-structs, as-product, two-dimensions, dimension, no-factor, first-factor, closed-struct, part-of}

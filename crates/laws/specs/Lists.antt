@@ -1,13 +1,12 @@
 -- Lists and tests: what is in a list, and what a test says of it.
 -- Assumes nothing.
 use mathlib.Core.Path.{_≡_, refl, ap, _∙_, sym}
-use mathlib.Core.Bool.{Bool, true, false, not, _&&_, _||_}
+use mathlib.Core.Bool.{Bool, true, false, not, _&&_, _||_, or-true}
 use mathlib.Core.Option.{none, some}
 use mathlib.Core.Logic.{_⊎_, inl, inr}
 use mathlib.Core.List.{List, [], _∷_, _++_, map, List·Memᴰ, List·Memᴰ·head, List·Memᴰ·tail, List·Memᴰ·cases-cons, List·Memᴰ·not-nil, List·Memᴰ·append-cases, Memᴰ·append-left, Memᴰ·append-right}
 use Prim.Native.Nat.{ℕ}
 use native.Mathlib.Omega.{arith}
-pub use Rattle.laws.specs.NameTable.{both-left as and-left, both-right as and-right}
 use Rattle.rules.specs.Base.{Got, got, refused, _>>=_, allow, isYes, any, all, each, collect}
 
 pub true≢false : true ≡ false → ⊥
@@ -27,6 +26,14 @@ allow-same true n a v e = cc
 allow-same false n a v e = absurd (got≢refused (sym e))
 
 -- both tests pass
+pub and-left : (a b : Bool) → a && b ≡ true → a ≡ true
+and-left true b h = refl
+and-left false b h = h
+
+pub and-right : (a b : Bool) → a && b ≡ true → b ≡ true
+and-right true b h = h
+and-right false b h = cc
+
 pub and-both : {a b : Bool} → a ≡ true → b ≡ true → (a && b) ≡ true
 and-both p q = rw (p, q)
 
@@ -118,10 +125,6 @@ module _ {A : Type 0} where
   is-any p [] a m e = absurd (List·Memᴰ·not-nil m)
   is-any p (x ∷ xs) a m e = go (List·Memᴰ·cases-cons m) (is-any p xs a)
     where
-      or-true : (b : Bool) → (b || true) ≡ true
-      or-true true = refl
-      or-true false = refl
-
       go : (a ≡ x) ⊎ List·Memᴰ a xs → (List·Memᴰ a xs → p a ≡ true → any p xs ≡ true) → (p x || any p xs) ≡ true
       go (inl i) r = rw (sym (ap p i) ∙ e)
       go (inr i) r = rw (r i e) (or-true (p x))

@@ -3,44 +3,16 @@
 use mathlib.Core.Path.{_≡_, refl, ap, ap₂, _∙_, sym, subst}
 use mathlib.Core.Bool.{Bool, true, false}
 use mathlib.Core.List.{[], _∷_}
-use Prim.Native.Nat.{ℕ, _*_, Ordering, Ordering·lt, Ordering·eq, Ordering·gt}
+use Prim.Native.Nat.{ℕ, Ordering, Ordering·lt, Ordering·eq, Ordering·gt}
 use native.Mathlib.Omega.{arith}
-use native.Mathlib.Nat.{mul-one}
-use lib.IntN.{ℤ, negℤ, negℤ-negℤ, _*ℤ_, *ℤ-comm, *ℤ-zero}
 use Rattle.rules.specs.Base.{got, exact}
-use Rattle.rules.specs.Exponents.{Exp, frac, nought, one, isZero, lowest, neg, plus, mul, sum, times}
+use Rattle.rules.specs.Exponents.{Exp, nought, one, isZero, neg, plus, mul, sum, times}
 use Rattle.rules.specs.Trees.{Atom, Atom-discrete, Factor, _↑_, Product, Names, open-dec, orderAtom}
 use Rattle.rules.specs.Products.{put, inverse}
 use Rattle.laws.specs.Order.{Lawful, Tells, self, after}
-use Rattle.laws.specs.Integers.{natAbs-neg, neg-mul}
-use Rattle.laws.specs.Fractions.{Lowest, lowest-neg, lowest-terms, lowest-nought, nought-lowest, one-lowest, neg-lowest, plus-in-lowest, mul-in-lowest, plus-comm, plus-assoc, plus-nought, plus-neg, mul-comm′, mul-assoc′, mul-plus, mul-one′, zero-is-nought}
+use Rattle.laws.specs.Fractions.{Lowest, nought-lowest, one-lowest, neg-lowest, plus-in-lowest, mul-in-lowest, plus-comm, plus-assoc, plus-nought, plus-neg, mul-assoc′, mul-plus, mul-one′, zero-is-nought, neg-zero, mul-nought, nought-mul, nought-plus, plus-mul, mul-neg, neg-neg}
 use Rattle.laws.specs.Sorted.{Before, Sorted, Each, sooner, beside, merge-sorted, raise-behind, raise-sorted, inverse-sorted, merge-each, raise-each, inverse-each}
 use Rattle.laws.specs.ExactProducts.{mergeE, mergeOneE, raiseE, merge-exact, raise-exact, sum-exact, times-exact}
-
-pub neg-zero : (e : Exp) → isZero (neg e) ≡ isZero e
-unfolding neg
-neg-zero (frac n d) = rw (natAbs-neg n)
-
-pub mul-nought : (a : Exp) → Lowest a → mul a nought ≡ nought
-unfolding mul
-mul-nought (frac n d) l = ap₂ lowest (*ℤ-zero n) (mul-one d) ∙ lowest-nought d (lowest-terms n d l .positive)
-
-pub nought-mul : (a : Exp) → Lowest a → mul nought a ≡ nought
-nought-mul a l = mul-comm′ nought a ∙ mul-nought a l
-
-pub nought-plus : (a : Exp) → Lowest a → plus nought a ≡ a
-nought-plus a l = plus-comm nought a ∙ plus-nought a l
-
-pub plus-mul : (a b c : Exp) → Lowest a → Lowest b → Lowest c → mul (plus a b) c ≡ plus (mul a c) (mul b c)
-plus-mul a b c l m n = mul-comm′ (plus a b) c ∙ mul-plus c a b n l m ∙ ap₂ plus (mul-comm′ c a) (mul-comm′ c b)
-
-pub mul-neg : (a b : Exp) → mul a (neg b) ≡ neg (mul a b)
-unfolding mul neg
-mul-neg (frac n d) (frac m e) = ap (λ (x : ℤ). lowest x (d * e)) (*ℤ-comm n (negℤ m) ∙ neg-mul m n ∙ ap negℤ (*ℤ-comm m n)) ∙ lowest-neg (n *ℤ m) (d * e)
-
-pub neg-neg : (a : Exp) → neg (neg a) ≡ a
-unfolding neg
-neg-neg (frac n d) = ap (λ (x : ℤ). frac x d) (negℤ-negℤ n)
 
 -- ══ The power of an atom in a product ══
 

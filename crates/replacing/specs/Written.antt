@@ -15,7 +15,7 @@ use Rattle.rules.specs.Names.{tableOf, isHeld}
 use Rattle.rules.specs.Trees.{free, base, _↑_, Product, Ty, opened, basic, dim, fn, struct, list, Tys, nil, cons, Fields, noFields, field, Con, equal, isDim, isScalar, hasField, Binding, _≔_, Names, size, orderAtom}
 use Rattle.rules.specs.WellFormed.{goodOpen, goodFactor, goodProduct, goodTy, goodTys, goodFields, goodCon, goodBinding, rising, atomOf, fieldNames}
 use Rattle.rules.specs.Writing.{Rec, rec, words, writeProduct, writeTy, writeCon, writeBinding}
-use Rattle.laws.specs.NameTable.{both-left, both-right}
+use Rattle.laws.specs.Lists.{and-left as both-left, and-right as both-right}
 use Rattle.laws.specs.Reading.{FitsProduct, Fits, FitsTys, FitsFields}
 use Rattle.laws.specs.Size.{size-ty, size-con, size-binding}
 use Rattle.records.specs.Views.{plain, viewOf, from}
