@@ -11,7 +11,7 @@ use Rattle.rules.specs.Trees.{Names, Con, Binding, orderAtom}
 use Rattle.rules.specs.Rounds.{Step, bind, split, done, stuck, State, firstStep, perform, performed, round}
 use Rattle.rules.specs.Solving.{Answer, accepted, remaining, stopped, finished, finish, after, run}
 use Rattle.laws.specs.Order.{Lawful}
-use Rattle.ending.specs.Members.{without}
+use Rattle.ending.specs.Without.{without}
 use Rattle.ending.specs.Yields.{Yields}
 use Rattle.ending.specs.Weights.{weighAll}
 use Rattle.ending.specs.Steps.{Maybe, present}

@@ -9,7 +9,7 @@ use lib.Dec.{T, leb, leb→le}
 use lib.ListN.{length}
 use Rattle.rules.specs.Base.{Got, got, refused, _>>=_, Limits, bounded, exact, within, allow, each}
 use Rattle.laws.specs.Value.{Gives}
-use Rattle.ending.specs.Members.{All, none, _&_}
+use Rattle.laws.specs.Lists.{Every}
 
 pub record Yields {A : Type 0} (m : Got A) (P : A → Type 0) : Type 0 where
   pub holds : (a : A) → m ≡ got a → P a
@@ -58,7 +58,7 @@ pub bounded-yields : {A : Type 0} {P : A → Type 0} (n m : ℕ) (a : A) → (n 
 bounded-yields n m a p = allowed (leb n m) 8 a (omega arith) (λ t. p (leb→le n m t))
 
 -- one for one
-pub each-yields : {A B : Type 0} {P : A → Type 0} {Q : B → Type 0} (f : A → Got B) → ((a : A) → P a → Yields (f a) Q) → (xs : List A) → All P xs → Yields (each f xs) (λ ys. All Q ys × (length ys ≡ length xs))
+pub each-yields : {A B : Type 0} {P : A → Type 0} {Q : B → Type 0} (f : A → Got B) → ((a : A) → P a → Yields (f a) Q) → (xs : List A) → Every P xs → Yields (each f xs) (λ ys. Every Q ys × (length ys ≡ length xs))
 unfolding each
-each-yields f h [] none = yields (none, refl)
-each-yields f h (x ∷ xs) (p & a) = next (h x p) (λ y i. next (each-yields f h xs a) (λ ys j. yields (i & j .0, ap suc (j .1))))
+each-yields f h [] p = yields (tt, refl)
+each-yields f h (x ∷ xs) p = next (h x (p .0)) (λ y i. next (each-yields f h xs (p .1)) (λ ys j. yields ((i, j .0), ap suc (j .1))))

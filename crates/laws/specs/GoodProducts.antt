@@ -13,10 +13,11 @@ use Rattle.rules.specs.Exponents.{Exp, isZero, neg, goodExp, goodStored, sum, t
 use Rattle.rules.specs.Trees.{Open, var, quant, par, Atom, free, base, Factor, _↑_, Product, Names, orderOpen, orderAtom}
 use Rattle.rules.specs.Products.{put, inverse, merge, multiply, divide, raise}
 use Rattle.rules.specs.WellFormed.{rising, atomOf, goodOpen, goodFactor, goodProduct}
+use Rattle.laws.specs.Lists.{Every, every-all, all-every, every-as, all-is, is-all}
 use Rattle.laws.specs.Order.{Lawful, Tells}
 use Rattle.laws.specs.Value.{Gives, gives, refuses, next, weaken}
 use Rattle.laws.specs.Ranges.{good-lowest, stored-good, stored-not-zero, is-stored, neg-good, sum-good, times-good}
-use Rattle.laws.specs.Sorted.{Sorted, Each, sorted, sorted-rises, merge-sorted, raise-sorted, inverse-sorted, merge-each, raise-each, inverse-each}
+use Rattle.laws.specs.Sorted.{Sorted, sorted, sorted-rises, merge-sorted, raise-sorted, inverse-sorted, merge-each, raise-each, inverse-each}
 use Rattle.laws.specs.Fractions.{neg-zero}
 use Rattle.laws.specs.Powers.{Sound, Proper}
 
@@ -39,7 +40,7 @@ module _ {N : Type 0} (ν : Names N) (held : N → Bool) (q : ℕ) where
   -- what the test of a product asks
   pub record GoodProduct (p : Product N) : Type 0 where
     pub in-order : Sorted ν p
-    pub each : Each GoodFactor p
+    pub each : Every GoodFactor p
     pub few : length p ≤ 64
 
   factor-good : (f : Factor N) → goodFactor ν held q f ≡ true → GoodFactor f
@@ -52,15 +53,11 @@ module _ {N : Type 0} (ν : Names N) (held : N → Bool) (q : ℕ) where
   good-factor (free o ↑ e) h = and-eq-true-iff (goodOpen ν held q o) (goodStored e) .1 h
   good-factor (base n ↑ e) h = and-eq-true-iff (held n) (goodStored e) .1 h
 
-  all-good : (p : Product N) → all (goodFactor ν held q) p ≡ true → Each GoodFactor p
-  unfolding all
-  all-good [] h = tt
-  all-good (f ∷ p) h = let r = and-eq-true-iff (goodFactor ν held q f) _ .0 h in (factor-good f (r .0), all-good p (r .1))
+  all-good : (p : Product N) → all (goodFactor ν held q) p ≡ true → Every GoodFactor p
+  all-good p h = all-every GoodFactor p (λ f m. factor-good f (all-is (goodFactor ν held q) p h f m))
 
-  good-all : (p : Product N) → Each GoodFactor p → all (goodFactor ν held q) p ≡ true
-  unfolding all
-  good-all [] h = refl
-  good-all (f ∷ p) h = and-eq-true-iff (goodFactor ν held q f) _ .1 (good-factor f (h .0), good-all p (h .1))
+  good-all : (p : Product N) → Every GoodFactor p → all (goodFactor ν held q) p ≡ true
+  good-all p h = is-all (goodFactor ν held q) p (λ f m. good-factor f (every-all GoodFactor p h f m))
 
   -- the order tells atoms apart where it tells names apart
   module _ (t : Tells (λ n. held n ≡ true) (ν .order)) where
@@ -102,11 +99,10 @@ module _ {N : Type 0} (ν : Names N) (law : Lawful (orderAtom ν)) (held : N →
 
   -- a well formed product is one of exact arithmetic
   pub good-proper : (p : Product N) → goodProduct ν held q p ≡ true → Proper ν (λ a. goodAtom ν held q a ≡ true) p
-  good-proper p h = let g = good-product p h in record { in-order = g .in-order; each = go p (g .each) }
+  good-proper p h = let g = good-product p h in record { in-order = g .in-order; each = every-as factor-sound p (g .each) }
     where
-      go : (p : Product N) → Each (GoodFactor ν held q) p → Each (Sound (λ a. goodAtom ν held q a ≡ true)) p
-      go [] i = tt
-      go (a ↑ e ∷ p) i = ((i .0 .0, good-lowest e (stored-good e (i .0 .1)), stored-not-zero e (i .0 .1)), go p (i .1))
+      factor-sound : (f : Factor N) → GoodFactor ν held q f → Sound (λ a. goodAtom ν held q a ≡ true) f
+      factor-sound (a ↑ e) i = (i .0, good-lowest e (stored-good e (i .1)), stored-not-zero e (i .1))
 
   -- ══ The bounded steps ══
 
@@ -125,7 +121,7 @@ module _ {N : Type 0} (ν : Names N) (law : Lawful (orderAtom ν)) (held : N →
   multiply-facts p r g h =
       next merged (λ s i. weaken (few-left s) (λ t j. rw (j .0) (record { in-order = i .0; each = i .1; few = j .1 })))
     where
-      merged : Gives (merge ν bounded p r) (λ s. Sorted ν s × Each (GoodFactor ν held q) s)
+      merged : Gives (merge ν bounded p r) (λ s. Sorted ν s × Every (GoodFactor ν held q) s)
       merged = record { holds = λ s e. (merge-sorted ν law bounded p r (g .in-order) (h .in-order) .holds s e .0, merge-each (GoodFactor ν held q) ν bounded adds p r (g .each) (h .each) .holds s e) }
 
   pub multiply-good : (p r : Product N) → goodProduct ν held q p ≡ true → goodProduct ν held q r ≡ true → Gives (multiply ν bounded p r) (λ s. goodProduct ν held q s ≡ true)
@@ -188,11 +184,10 @@ module _ {N : Type 0} (ν : Names N) (law : Lawful (orderAtom ν)) (held : N →
   wider-atom (free (par x)) g = g
   wider-atom (base x) g = g
 
-  wider-each : (p : Product N) → Each (GoodFactor ν held q) p → Each (GoodFactor ν held r) p
-  wider-each [] g = tt
-  wider-each (a ↑ e ∷ p) g = ((wider-atom a (g .0 .0), g .0 .1), wider-each p (g .1))
+  wider-factor : (f : Factor N) → GoodFactor ν held q f → GoodFactor ν held r f
+  wider-factor (a ↑ e) g = (wider-atom a (g .0), g .1)
 
   pub wider : (p : Product N) → goodProduct ν held q p ≡ true → goodProduct ν held r p ≡ true
   wider p g =
       let f = good-product ν law held q p g in
-      product-good ν law held r p (record { in-order = f .in-order; each = wider-each p (f .each); few = f .few })
+      product-good ν law held r p (record { in-order = f .in-order; each = every-as wider-factor p (f .each); few = f .few })

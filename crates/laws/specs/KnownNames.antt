@@ -2,7 +2,7 @@
 -- Assumes nothing.
 use mathlib.Core.Path.{_≡_}
 use mathlib.Core.Bool.{Bool, true, _&&_}
-use mathlib.Core.List.{List, [], _∷_, _++_, map}
+use mathlib.Core.List.{List, [], _∷_, map}
 use Prim.Native.Nat.{ℕ}
 use lib.Dec.{leb}
 use lib.ListN.{length}
@@ -11,16 +11,8 @@ use Rattle.rules.specs.Exponents.{goodStored}
 use Rattle.rules.specs.Trees.{Open, free, base, _↑_, Product, Names, Ty, opened, basic, dim, fn, struct, list, Tys, nil, cons, Fields, noFields, field, Con, equal, isDim, isScalar, hasField, Binding, _≔_, orderAtom, openOfFactor, opens, opensTys, opensFields, opensCon}
 use Rattle.rules.specs.WellFormed.{rising, atomOf, fieldNames, goodOpen, goodFactor, goodProduct, goodTy, goodTys, goodFields, goodCon, goodBinding}
 use Rattle.rules.specs.Calls.{opensBinding}
-use Rattle.laws.specs.Lists.{and-left, and-right}
-use Rattle.laws.specs.ReadLists.{Every}
-
-pub every-append : {A : Type 0} (P : A → Type 0) (xs ys : List A) → Every P xs → Every P ys → Every P (xs ++ ys)
-every-append P [] ys p q = q
-every-append P (x ∷ xs) ys p q = (p .0, every-append P xs ys (p .1) q)
-
-pub every-as : {A : Type 0} {P Q : A → Type 0} → ((a : A) → P a → Q a) → (xs : List A) → Every P xs → Every Q xs
-every-as f [] p = tt
-every-as f (x ∷ xs) p = (f x (p .0), every-as f xs (p .1))
+use Rattle.laws.specs.Lists.{and-left, and-right, Every}
+pub use Rattle.laws.specs.Lists.{every-append, every-as}
 
 module _ {N : Type 0} (ν : Names N) (held : N → Bool) (q : ℕ) where
   abbrev pub Known : Open N → Type 0
@@ -34,7 +26,7 @@ module _ {N : Type 0} (ν : Names N) (held : N → Bool) (q : ℕ) where
       (and-left (goodOpen ν held q o) (goodStored e) k, factors-known p (and-right (goodOpen ν held q o && goodStored e) (all (goodFactor ν held q) p) h))
   factors-known (base n ↑ e ∷ p) h = factors-known p (and-right (held n && goodStored e) (all (goodFactor ν held q) p) h)
 
-  product-known : (p : Product N) → goodProduct ν held q p ≡ true → Every Known (opens (dim p))
+  pub product-known : (p : Product N) → goodProduct ν held q p ≡ true → Every Known (opens (dim p))
   unfolding goodProduct opens
   product-known p h =
       let f = all (goodFactor ν held q) p in
@@ -80,3 +72,9 @@ module _ {N : Type 0} (ν : Names N) (held : N → Bool) (q : ℕ) where
   pub binding-known : (b : Binding N) → goodBinding ν held q b ≡ true → Every Known (opensBinding b)
   unfolding goodBinding opensBinding goodOpen
   binding-known (x ≔ t) h = (and-left (held x) (goodTy ν held q t) h, ty-known t (and-right (held x) (goodTy ν held q t) h))
+
+  pub set-known : (cs : List (Con N)) → all (goodCon ν held q) cs ≡ true → Every Known (collect opensCon cs)
+  unfolding all collect
+  set-known [] h = tt
+  set-known (c ∷ cs) h =
+      every-append Known (opensCon c) (collect opensCon cs) (con-known c (and-left (goodCon ν held q c) (all (goodCon ν held q) cs) h)) (set-known cs (and-right (goodCon ν held q c) (all (goodCon ν held q) cs) h))

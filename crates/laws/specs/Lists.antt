@@ -62,7 +62,10 @@ is-no (yes a) f = absurd (f a)
 is-no (no g) f = refl
 
 module _ {A : Type 0} where
-  -- all of a list
+  pub in-head : {a : A} {xs : List A} → List·Memᴰ a (a ∷ xs)
+  in-head = List·Memᴰ·head refl
+
+  -- every one of a list, by membership
   abbrev pub All : (A → Type 0) → List A → Type 0
   All P xs = (a : A) → List·Memᴰ a xs → P a
 
@@ -83,6 +86,35 @@ module _ {A : Type 0} where
       go (inl i) = p a i
       go (inr i) = q a i
 
+  -- every one of a list, by recursion: for what goes through the list
+  abbrev pub Every : (A → Type 0) → List A → Type 0
+  Every P [] = Unit {0}
+  Every P (x ∷ xs) = P x × Every P xs
+
+  pub every-all : (P : A → Type 0) (xs : List A) → Every P xs → All P xs
+  every-all P [] h = all-nil P
+  every-all P (x ∷ xs) h = all-cons P (h .0) (every-all P xs (h .1))
+
+  pub all-every : (P : A → Type 0) (xs : List A) → All P xs → Every P xs
+  all-every P [] h = tt
+  all-every P (x ∷ xs) h = (h x in-head, all-every P xs (λ a m. h a (List·Memᴰ·tail m)))
+
+  pub every-append : (P : A → Type 0) (xs ys : List A) → Every P xs → Every P ys → Every P (xs ++ ys)
+  every-append P [] ys p q = q
+  every-append P (x ∷ xs) ys p q = (p .0, every-append P xs ys (p .1) q)
+
+  pub every-left : (P : A → Type 0) (xs ys : List A) → Every P (xs ++ ys) → Every P xs
+  every-left P [] ys h = tt
+  every-left P (x ∷ xs) ys h = (h .0, every-left P xs ys (h .1))
+
+  pub every-right : (P : A → Type 0) (xs ys : List A) → Every P (xs ++ ys) → Every P ys
+  every-right P [] ys h = h
+  every-right P (x ∷ xs) ys h = every-right P xs ys (h .1)
+
+  pub every-as : {P Q : A → Type 0} → ((a : A) → P a → Q a) → (xs : List A) → Every P xs → Every Q xs
+  every-as f [] p = tt
+  every-as f (x ∷ xs) p = (f x (p .0), every-as f xs (p .1))
+
   -- part by part
   pub append-parts : {a : A} (xs xs′ ys ys′ : List A) → (List·Memᴰ a xs → List·Memᴰ a xs′) → (List·Memᴰ a ys → List·Memᴰ a ys′) → List·Memᴰ a (xs ++ ys) → List·Memᴰ a (xs′ ++ ys′)
   append-parts {a} xs xs′ ys ys′ f g m = go (List·Memᴰ·append-cases xs m)
@@ -90,9 +122,6 @@ module _ {A : Type 0} where
       go : List·Memᴰ a xs ⊎ List·Memᴰ a ys → List·Memᴰ a (xs′ ++ ys′)
       go (inl i) = Memᴰ·append-left ys′ (f i)
       go (inr i) = Memᴰ·append-right xs′ (g i)
-
-  pub in-head : {a : A} {xs : List A} → List·Memᴰ a (a ∷ xs)
-  in-head = List·Memᴰ·head refl
 
   -- a test of each element
   pub all-is : (p : A → Bool) (xs : List A) → all p xs ≡ true → All (λ a. p a ≡ true) xs

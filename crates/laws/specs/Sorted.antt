@@ -10,6 +10,7 @@ use Rattle.rules.specs.Exponents.{Exp, isZero, neg, sum, times}
 use Rattle.rules.specs.Trees.{Atom, Factor, _↑_, Product, Names, orderAtom}
 use Rattle.rules.specs.Products.{put, inverse, mergeOne, merge, raise}
 use Rattle.rules.specs.WellFormed.{isLt, rising, atomOf}
+use Rattle.laws.specs.Lists.{Every, every-as}
 use Rattle.laws.specs.Order.{Lawful, after}
 use Rattle.laws.specs.Value.{Gives, gives, next, weaken}
 
@@ -29,8 +30,7 @@ right false b t = absurd t
 module _ {N : Type 0} (ν : Names N) where
   -- an atom stands before all of a product
   abbrev pub Before : Atom N → Product N → Type 0
-  Before a [] = Unit {0}
-  Before a (b ↑ d ∷ p) = (orderAtom ν a b ≡ Ordering·lt) × Before a p
+  Before a p = Every (λ f. orderAtom ν a (atomOf f) ≡ Ordering·lt) p
 
   abbrev pub Sorted : Product N → Type 0
   Sorted [] = Unit {0}
@@ -38,12 +38,10 @@ module _ {N : Type 0} (ν : Names N) where
 
 module _ {N : Type 0} (ν : Names N) (law : Lawful (orderAtom ν)) where
   pub sooner : (a b : Atom N) (p : Product N) → orderAtom ν a b ≡ Ordering·lt → Before ν b p → Before ν a p
-  sooner a b [] h k = tt
-  sooner a b (c ↑ e ∷ p) h k = (law .trans a b c h (k .0), sooner a b p h (k .1))
+  sooner a b p h k = every-as (λ f. law .trans a b (atomOf f) h) p k
 
   pub beside : (a b : Atom N) (p : Product N) → orderAtom ν a b ≡ Ordering·eq → Before ν b p → Before ν a p
-  beside a b [] h k = tt
-  beside a b (c ↑ e ∷ p) h k = (law .alike a b c h ∙ k .0, beside a b p h (k .1))
+  beside a b p h k = every-as (λ f i. law .alike a b (atomOf f) h ∙ i) p k
 
   -- the test of the records, as a fact
   pub sorted : (p : Product N) → T (rising (orderAtom ν) (map atomOf p)) → Sorted ν p
@@ -127,20 +125,15 @@ module _ {N : Type 0} (ν : Names N) (law : Lawful (orderAtom ν)) where
 
 -- ══ What holds of each factor ══
 
-module _ {N : Type 0} where
-  abbrev pub Each : (Factor N → Type 0) → Product N → Type 0
-  Each P [] = Unit {0}
-  Each P (f ∷ p) = P f × Each P p
-
 module _ {N : Type 0} (P : Factor N → Type 0) where
-  put-each : (a : Atom N) (e : Exp) (r : Product N) → (isZero e ≡ false → P (a ↑ e)) → Each P r → Each P (put a e r)
+  put-each : (a : Atom N) (e : Exp) (r : Product N) → (isZero e ≡ false → P (a ↑ e)) → Every P r → Every P (put a e r)
   put-each a e r h k = go (isZero e) refl
     where
-      go : (b : Bool) → isZero e ≡ b → Each P (put a e r)
+      go : (b : Bool) → isZero e ≡ b → Every P (put a e r)
       go true q = rw (q, put) k
       go false q = rw (q, put) (h q, k)
 
-  pub inverse-each : ((a : Atom N) (e : Exp) → P (a ↑ e) → P (a ↑ neg e)) → (p : Product N) → Each P p → Each P (inverse p)
+  pub inverse-each : ((a : Atom N) (e : Exp) → P (a ↑ e) → P (a ↑ neg e)) → (p : Product N) → Every P p → Every P (inverse p)
   unfolding inverse
   inverse-each f [] h = tt
   inverse-each f (a ↑ e ∷ p) h = (f a e (h .0), inverse-each f p (h .1))
@@ -148,7 +141,7 @@ module _ {N : Type 0} (P : Factor N → Type 0) where
   module _ (ν : Names N) (l : Limits) where
     -- merging keeps what sums of exponents keep
     module _ (adds : (a b : Atom N) (e d s : Exp) → P (a ↑ e) → P (b ↑ d) → sum l e d ≡ got s → isZero s ≡ false → P (a ↑ s)) where
-      one-each : (a : Atom N) (e : Exp) (p : Product N) (m : Product N → Got (Product N)) → P (a ↑ e) → Each P p → ((q : Product N) → Each P q → Gives (m q) (Each P)) → (q : Product N) → Each P q → Gives (mergeOne ν l a e p m q) (Each P)
+      one-each : (a : Atom N) (e : Exp) (p : Product N) (m : Product N → Got (Product N)) → P (a ↑ e) → Every P p → ((q : Product N) → Every P q → Gives (m q) (Every P)) → (q : Product N) → Every P q → Gives (mergeOne ν l a e p m q) (Every P)
       unfolding mergeOne
       one-each a e p m h i f [] k = gives (h, i)
       one-each a e p m h i f (b ↑ d ∷ q) k = go (orderAtom ν a b) refl (one-each a e p m h i f q (k .1))
@@ -156,18 +149,18 @@ module _ {N : Type 0} (P : Factor N → Type 0) where
           summed : Gives (sum l e d) (λ s. sum l e d ≡ got s)
           summed = record { holds = λ s j. j }
 
-          go : (o : Ordering) → orderAtom ν a b ≡ o → Gives (mergeOne ν l a e p m q) (Each P) → Gives (mergeOne ν l a e p m (b ↑ d ∷ q)) (Each P)
+          go : (o : Ordering) → orderAtom ν a b ≡ o → Gives (mergeOne ν l a e p m q) (Every P) → Gives (mergeOne ν l a e p m (b ↑ d ∷ q)) (Every P)
           go Ordering·lt j r = rw (j, mergeOne) (next (f (b ↑ d ∷ q) k) (λ s g. gives (h, g)))
           go Ordering·eq j r = rw (j, mergeOne) (next summed (λ s u. next (f q (k .1)) (λ t g. gives (put-each a s t (adds a b e d s h (k .0) u) g))))
           go Ordering·gt j r = rw (j, mergeOne) (next r (λ s g. gives (k .0, g)))
 
-      pub merge-each : (p q : Product N) → Each P p → Each P q → Gives (merge ν l p q) (Each P)
+      pub merge-each : (p q : Product N) → Every P p → Every P q → Gives (merge ν l p q) (Every P)
       unfolding merge
       merge-each [] q h k = gives k
       merge-each (a ↑ e ∷ p) q h k = one-each a e p _ (h .0) (h .1) (λ q i. merge-each p q (h .1) i) q k
 
     -- raising keeps what products of exponents keep
-    pub raise-each : (k : Exp) → ((a : Atom N) (e s : Exp) → P (a ↑ e) → times l e k ≡ got s → isZero s ≡ false → P (a ↑ s)) → (p : Product N) → Each P p → Gives (raise ν l p k) (Each P)
+    pub raise-each : (k : Exp) → ((a : Atom N) (e s : Exp) → P (a ↑ e) → times l e k ≡ got s → isZero s ≡ false → P (a ↑ s)) → (p : Product N) → Every P p → Gives (raise ν l p k) (Every P)
     unfolding raise
     raise-each k f [] h = gives tt
     raise-each k f (a ↑ e ∷ p) h = next timed (λ s u. next (raise-each k f p (h .1)) (λ r g. gives (put-each a s r (f a e s (h .0) u) g)))
