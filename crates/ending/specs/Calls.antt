@@ -22,7 +22,8 @@ use Rattle.laws.specs.Size.{size-con}
 use Rattle.laws.specs.ReadLists.{con-read, all-read, Words, taken}
 use Rattle.laws.specs.Lists.{and-left, and-right}
 use Rattle.laws.specs.NameTable.{Good}
-use Rattle.ending.specs.Yields.{Yields, yields, refuses, next, weaken, traced}
+use Rattle.laws.specs.Value.{its-own}
+use Rattle.ending.specs.Yields.{Yields, yields, refuses, next, weaken, also}
 use Rattle.ending.specs.Runs.{roundsOf}
 use Rattle.ending.specs.Sets.{Admitted}
 
@@ -95,7 +96,7 @@ module _ (pool table set result work : List ℕ) (small : Words set) (Q : Solved
       let t = tableOf pool table in
       next (need-yields (leb (length set) 8192 && true) 8 (omega arith)) (λ u e.
       next (need-yields (tableGood t) 1 (omega arith)) (λ v g.
-      next (traced (set-admitted t set small (leb-true (length set) 8192 (and-left (leb (length set) 8192) true e)))) (λ cs i.
+      next (also (set-admitted t set small (leb-true (length set) 8192 (and-left (leb (length set) 8192) true e))) (its-own (setGiven t set))) (λ cs i.
       next (need-yields (unmixed (numbersOf t) (collect opensCon cs)) 4 (omega arith)) (λ w m.
       yields (every (record { bytes = h; words = k; good = g }) cs (i .1) (i .0))))))
 
@@ -108,4 +109,4 @@ module _ (pool table set result work : List ℕ) (small : Words set) (Q : Solved
     where
       go : (m : Got (Answer ℕ)) → call ≡ m → Q (solvedOf m)
       go (refused n) e = refusal n (call-solved .numbered n e)
-      go (got a) e = call-solved .holds a e
+      go (got a) e = call-solved .value .holds a e

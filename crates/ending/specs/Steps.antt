@@ -11,7 +11,7 @@ use Rattle.rules.specs.Base.{Got, Limits, isYes, _orElse_, onlyIf, andThen, col
 use Rattle.rules.specs.Exponents.{Exp, Exp-dec, one}
 use Rattle.rules.specs.Trees.{Open, var, quant, par, free, base, _↑_, Product, Names, Ty, opened, basic, dim, fn, struct, list, Tys, nil, cons, Fields, noFields, field, Con, equal, isDim, isScalar, hasField, count, orderAtom, ty-dec, openOfFactor}
 use Rattle.rules.specs.Views.{productOf, fnOf, structOf, listOf, variable, asVar, asPower}
-use Rattle.rules.specs.Products.{just, single}
+use Rattle.rules.specs.Products.{single}
 use Rattle.rules.specs.Contents.{closed, contains, fieldIn, namesIn}
 use Rattle.rules.specs.Rounds.{Step, bind, split, done, stuck, pairs, asProducts, variableLeft, functions, lists, bindTo, firstRules, structs, dimensions, byKind, orTry, dimensionParts, fieldStep, trySatisfy}
 use Rattle.laws.specs.Lists.{Every}

@@ -8,14 +8,14 @@ use native.Mathlib.Omega.{arith}
 use borrow.Author.Tests.{eqb-true, leb-true, le-leb, ltb-true, lt-ltb}
 use lib.Dec.{T, isEq, leb}
 use lib.ListN.{length}
-use Rattle.rules.specs.Base.{got, bounded, within, allow, all}
+use Rattle.rules.specs.Base.{got, bounded, within, all}
 use Rattle.rules.specs.Exponents.{Exp, isZero, neg, goodExp, goodStored, sum, times}
 use Rattle.rules.specs.Trees.{Open, var, quant, par, Atom, free, base, Factor, _↑_, Product, Names, orderOpen, orderAtom}
-use Rattle.rules.specs.Products.{put, inverse, merge, multiply, divide, raise}
+use Rattle.rules.specs.Products.{put, inverse, multiply, divide, raise}
 use Rattle.rules.specs.WellFormed.{rising, atomOf, goodOpen, goodFactor, goodProduct}
 use Rattle.laws.specs.Lists.{Every, every-all, all-every, every-as, all-is, is-all}
 use Rattle.laws.specs.Order.{Lawful, Tells}
-use Rattle.laws.specs.Value.{Gives, gives, refuses, next, weaken}
+use Rattle.laws.specs.Value.{Gives, gives, next, weaken, together, its-own, allowed}
 use Rattle.laws.specs.Ranges.{good-lowest, stored-good, stored-not-zero, is-stored, neg-good, sum-good, times-good}
 use Rattle.laws.specs.Sorted.{Sorted, sorted, sorted-rises, merge-sorted, raise-sorted, inverse-sorted, merge-each, raise-each, inverse-each}
 use Rattle.laws.specs.Fractions.{neg-zero}
@@ -110,19 +110,13 @@ module _ {N : Type 0} (ν : Names N) (law : Lawful (orderAtom ν)) (held : N →
   adds a b e d s h k i z = (h .0, is-stored s z (sum-good e d (stored-good e (h .1)) (stored-good d (k .1)) .holds s i))
 
   few-left : (r : Product N) → Gives (within bounded (length r) 64 r) (λ s. (s ≡ r) × (length r ≤ 64))
-  few-left r = go (leb (length r) 64) refl
-    where
-      go : (b : Bool) → leb (length r) 64 ≡ b → Gives (allow b 8 r) (λ s. (s ≡ r) × (length r ≤ 64))
-      go true e = gives (refl, leb-true (length r) 64 e)
-      go false e = refuses
+  few-left r = allowed (leb (length r) 64) 8 r (λ e. (refl, leb-true (length r) 64 e))
 
   multiply-facts : (p r : Product N) → GoodProduct ν held q p → GoodProduct ν held q r → Gives (multiply ν bounded p r) (GoodProduct ν held q)
   unfolding multiply
   multiply-facts p r g h =
-      next merged (λ s i. weaken (few-left s) (λ t j. rw (j .0) (record { in-order = i .0; each = i .1; few = j .1 })))
-    where
-      merged : Gives (merge ν bounded p r) (λ s. Sorted ν s × Every (GoodFactor ν held q) s)
-      merged = record { holds = λ s e. (merge-sorted ν law bounded p r (g .in-order) (h .in-order) .holds s e .0, merge-each (GoodFactor ν held q) ν bounded adds p r (g .each) (h .each) .holds s e) }
+      next (together (merge-sorted ν law bounded p r (g .in-order) (h .in-order)) (merge-each (GoodFactor ν held q) ν bounded adds p r (g .each) (h .each))) (λ s i.
+      weaken (few-left s) (λ t j. rw (j .0) (record { in-order = i .0 .0; each = i .1; few = j .1 })))
 
   pub multiply-good : (p r : Product N) → goodProduct ν held q p ≡ true → goodProduct ν held q r ≡ true → Gives (multiply ν bounded p r) (λ s. goodProduct ν held q s ≡ true)
   multiply-good p r h k = weaken (multiply-facts p r (good-product p h) (good-product r k)) product-good
@@ -148,11 +142,8 @@ module _ {N : Type 0} (ν : Names N) (law : Lawful (orderAtom ν)) (held : N →
   raise-length : (p : Product N) (k : Exp) → Gives (raise ν bounded p k) (λ r. length r ≤ length p)
   unfolding raise
   raise-length [] k = gives (omega arith)
-  raise-length (a ↑ e ∷ p) k = next timed (λ s u. next (raise-length p k) (λ r i. gives (put-length s r i)))
+  raise-length (a ↑ e ∷ p) k = next (its-own (times bounded e k)) (λ s u. next (raise-length p k) (λ r i. gives (put-length s r i)))
     where
-      timed : Gives (times bounded e k) (λ s. Unit {0})
-      timed = record { holds = λ s j. tt }
-
       put-length : (s : Exp) (r : Product N) → length r ≤ length p → length (put a s r) ≤ suc (length p)
       put-length s r i = go (isZero s) refl
         where

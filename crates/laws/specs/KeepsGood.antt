@@ -9,7 +9,7 @@ use Prim.Native.Nat.{ℕ, suc}
 use native.Mathlib.Omega.{arith}
 use lib.ListN.{length}
 use Rattle.rules.specs.Base.{got, refused, bounded, each, isYes}
-use Rattle.rules.specs.Exponents.{Exp, nought, one, isZero, inRange, neg, mul, inverted, times, goodExp, goodStored, quotient}
+use Rattle.rules.specs.Exponents.{Exp, nought, one, isZero, inRange, neg, mul, inverted, times, goodStored, quotient}
 use Rattle.rules.specs.Trees.{Open, var, quant, par, Atom, free, base, _↑_, Product, Names, Ty, opened, basic, dim, fn, struct, list, Tys, nil, cons, Fields, noFields, field, Con, equal, isDim, isScalar, hasField, Binding, _≔_, orderAtom, opens}
 use Rattle.rules.specs.Contents.{fieldIn}
 use Rattle.rules.specs.Products.{just, single}
@@ -17,7 +17,7 @@ use Rattle.rules.specs.Replacing.{Look, asProduct, replaceFactors, replaceProdu
 use Rattle.rules.specs.Rounds.{Step, otherSide, pairs}
 use Rattle.rules.specs.WellFormed.{atomOf, fieldNames, goodOpen, goodProduct, goodTy, goodTys, goodFields, goodCon, goodBinding}
 use Rattle.laws.specs.Order.{Lawful}
-use Rattle.laws.specs.Value.{Gives, gives, refuses, next, weaken}
+use Rattle.laws.specs.Value.{Gives, gives, refuses, next, weaken, together, its-own}
 use Rattle.laws.specs.Sorted.{sorted, sorted-rises}
 use Rattle.laws.specs.Fractions.{Lowest, neg-lowest, mul-in-lowest, inverted-lowest, mul-comm′, mul-assoc′, mul-one′, mul-inverted, zero-is-nought, neg-zero, nought-mul}
 use Rattle.laws.specs.Ranges.{good-lowest, one-good, stored-good, stored-not-zero, is-stored, neg-good, quotient-good}
@@ -163,10 +163,9 @@ module _ {N : Type 0} (ν : Names N) (law : Lawful (orderAtom ν)) (held : N →
   module _ (k : Exp) (h : goodStored k ≡ true) where
     other-good : (a : Atom N) (j : Exp) → GoodFactor ν held q (a ↑ j) → Gives (otherSide bounded k (a ↑ j)) (λ f. (e : Exp) × (f ≡ a ↑ e) × GoodFactor ν held q (a ↑ e))
     unfolding otherSide
-    other-good a j g = next both (λ s i. gives (s, refl, (g .0, is-stored s (i .1) (i .0))))
-      where
-        both : Gives (quotient bounded (neg j) k) (λ s. (goodExp s ≡ true) × (isZero s ≡ false))
-        both = record { holds = λ s i. (quotient-good (neg j) k (neg-good j (stored-good j (g .1))) (stored-good k h) .holds s i, quotient-not-zero j k s (good-lowest j (stored-good j (g .1))) (good-lowest k (stored-good k h)) (stored-not-zero j (g .1)) i) }
+    other-good a j g =
+        next (together (quotient-good (neg j) k (neg-good j (stored-good j (g .1))) (stored-good k h)) (its-own (quotient bounded (neg j) k))) (λ s i.
+        gives (s, refl, (g .0, is-stored s (quotient-not-zero j k s (good-lowest j (stored-good j (g .1))) (good-lowest k (stored-good k h)) (stored-not-zero j (g .1)) (i .1)) (i .0))))
 
     -- good factors of the same atoms
     abbrev Alongside : Product N → Product N → Type 0

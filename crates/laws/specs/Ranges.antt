@@ -13,7 +13,7 @@ use Rattle.rules.specs.Exponents.{Exp, frac, gcdIn, gcd, nought, one, top, inRa
 use Rattle.rules.specs.Values.{sumCall, timesCall, negationCall, quotientCall}
 use Rattle.laws.specs.Integers.{natAbs-neg}
 use Rattle.laws.specs.Gcd.{gcd-comm}
-use Rattle.laws.specs.Value.{Gives, gives, refuses}
+use Rattle.laws.specs.Value.{Gives, gives, refuses, allowed}
 use Rattle.laws.specs.Fractions.{Lowest, lowest-terms, terms-lowest, coprime-terms, plus-in-lowest, mul-in-lowest, inverted-lowest}
 
 -- what the test asks
@@ -78,11 +78,7 @@ is-stored e z h = rw (z, h)
 -- ══ The bounded steps ══
 
 pub ranged-good : (e : Exp) → Lowest e → Gives (ranged bounded e) (λ r. goodExp r ≡ true)
-ranged-good e l = record { holds = λ r. go r (inRange e) refl }
-  where
-    go : (r : Exp) (t : Bool) → inRange e ≡ t → allow t 7 e ≡ got r → goodExp r ≡ true
-    go r true h k = let is : e ≡ r = cc in subst (λ (x : Exp). goodExp x ≡ true) is (lowest-good e l h)
-    go r false h k = let z : _≡_ {A = ℕ} 0 1 = cc in absurd (omega arith)
+ranged-good e l = allowed (inRange e) 7 e (lowest-good e l)
 
 -- a negative is never out of range
 pub neg-good : (e : Exp) → goodExp e ≡ true → goodExp (neg e) ≡ true

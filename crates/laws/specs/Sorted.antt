@@ -12,7 +12,7 @@ use Rattle.rules.specs.Products.{put, inverse, mergeOne, merge, raise}
 use Rattle.rules.specs.WellFormed.{isLt, rising, atomOf}
 use Rattle.laws.specs.Lists.{Every, every-as}
 use Rattle.laws.specs.Order.{Lawful, after}
-use Rattle.laws.specs.Value.{Gives, gives, next, weaken}
+use Rattle.laws.specs.Value.{Gives, gives, next, weaken, its-own}
 
 lt : (o : Ordering) → T (isLt o) → o ≡ Ordering·lt
 lt Ordering·lt t = refl
@@ -71,12 +71,6 @@ module _ {N : Type 0} (ν : Names N) (law : Lawful (orderAtom ν)) where
       go false q = rw (q, put) ((h, k), λ c i j. (i, j))
 
   module _ (l : Limits) where
-    any-sum : (e d : Exp) → Gives (sum l e d) (λ s. Unit {0})
-    any-sum e d = record { holds = λ a i. tt }
-
-    any-times : (e d : Exp) → Gives (times l e d) (λ s. Unit {0})
-    any-times e d = record { holds = λ a i. tt }
-
     one-sorted : (a : Atom N) (e : Exp) (p : Product N) (m : Product N → Got (Product N)) → Before ν a p → Sorted ν p → ((q : Product N) → Sorted ν q → Gives (m q) (Joined p q)) → (q : Product N) → Sorted ν q → Gives (mergeOne ν l a e p m q) (Joined (a ↑ e ∷ p) q)
     unfolding mergeOne
     one-sorted a e p m h i f [] k = gives ((h, i), λ c j n. j)
@@ -88,7 +82,7 @@ module _ {N : Type 0} (ν : Names N) (law : Lawful (orderAtom ν)) where
             gives ((g .1 a h (j, sooner a b q j (k .0)), g .0), λ c x y. (x .0, g .1 c (x .1) y))))
         go Ordering·eq j r =
             let aq : Before ν a q = beside a b q j (k .0) in
-            rw (j, mergeOne) (next (any-sum e d) (λ s u. next (f q (k .1)) (λ t g.
+            rw (j, mergeOne) (next (its-own (sum l e d)) (λ s u. next (f q (k .1)) (λ t g.
             let w = put-sorted a s t (g .1 a h aq) (g .0) in
             gives (w .0, λ c x y. w .1 c (x .0) (g .1 c (x .1) (y .1))))))
         go Ordering·gt j r =
@@ -106,7 +100,7 @@ module _ {N : Type 0} (ν : Names N) (law : Lawful (orderAtom ν)) where
     unfolding raise
     raise-behind [] k h = gives (tt, λ c x. x)
     raise-behind (a ↑ e ∷ p) k h =
-        next (any-times e k) (λ s u. next (raise-behind p k (h .1)) (λ r g.
+        next (its-own (times l e k)) (λ s u. next (raise-behind p k (h .1)) (λ r g.
         let w = put-sorted a s r (g .1 a (h .0)) (g .0) in
         gives (w .0, λ c x. w .1 c (x .0) (g .1 c (x .1)))))
 
@@ -146,12 +140,9 @@ module _ {N : Type 0} (P : Factor N → Type 0) where
       one-each a e p m h i f [] k = gives (h, i)
       one-each a e p m h i f (b ↑ d ∷ q) k = go (orderAtom ν a b) refl (one-each a e p m h i f q (k .1))
         where
-          summed : Gives (sum l e d) (λ s. sum l e d ≡ got s)
-          summed = record { holds = λ s j. j }
-
           go : (o : Ordering) → orderAtom ν a b ≡ o → Gives (mergeOne ν l a e p m q) (Every P) → Gives (mergeOne ν l a e p m (b ↑ d ∷ q)) (Every P)
           go Ordering·lt j r = rw (j, mergeOne) (next (f (b ↑ d ∷ q) k) (λ s g. gives (h, g)))
-          go Ordering·eq j r = rw (j, mergeOne) (next summed (λ s u. next (f q (k .1)) (λ t g. gives (put-each a s t (adds a b e d s h (k .0) u) g))))
+          go Ordering·eq j r = rw (j, mergeOne) (next (its-own (sum l e d)) (λ s u. next (f q (k .1)) (λ t g. gives (put-each a s t (adds a b e d s h (k .0) u) g))))
           go Ordering·gt j r = rw (j, mergeOne) (next r (λ s g. gives (k .0, g)))
 
       pub merge-each : (p q : Product N) → Every P p → Every P q → Gives (merge ν l p q) (Every P)
@@ -163,7 +154,4 @@ module _ {N : Type 0} (P : Factor N → Type 0) where
     pub raise-each : (k : Exp) → ((a : Atom N) (e s : Exp) → P (a ↑ e) → times l e k ≡ got s → isZero s ≡ false → P (a ↑ s)) → (p : Product N) → Every P p → Gives (raise ν l p k) (Every P)
     unfolding raise
     raise-each k f [] h = gives tt
-    raise-each k f (a ↑ e ∷ p) h = next timed (λ s u. next (raise-each k f p (h .1)) (λ r g. gives (put-each a s r (f a e s (h .0) u) g)))
-      where
-        timed : Gives (times l e k) (λ s. times l e k ≡ got s)
-        timed = record { holds = λ s j. j }
+    raise-each k f (a ↑ e ∷ p) h = next (its-own (times l e k)) (λ s u. next (raise-each k f p (h .1)) (λ r g. gives (put-each a s r (f a e s (h .0) u) g)))
