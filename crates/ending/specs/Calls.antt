@@ -2,23 +2,23 @@
 -- Assumes nothing.
 use mathlib.Core.Path.{_≡_, refl, ap}
 use mathlib.Core.Bool.{Bool, true, false, _&&_}
-use mathlib.Core.List.{List, [], _∷_}
+use mathlib.Core.List.{List}
 use mathlib.Core.Option.{Option, none, some}
-use Prim.Native.Nat.{ℕ, _*_, _≤_, _<_}
+use Prim.Native.Nat.{ℕ, _≤_, _<_}
 use native.Mathlib.Omega.{arith}
 use borrow.Author.Tests.{leb-true}
 use lib.Dec.{leb}
-use lib.ListN.{length, length-append}
-use Rattle.rules.specs.Base.{Got, got, refused, _>>_, need, orRefuse, bounded, all, collect, sumOf}
-use Rattle.rules.specs.Trees.{Con, opensCon, sizeCon}
+use lib.ListN.{length}
+use Rattle.rules.specs.Base.{Got, got, refused, _>>_, need, orRefuse, bounded, all, collect}
+use Rattle.rules.specs.Trees.{Con, opensCon}
 use Rattle.rules.specs.Names.{Table, tableOf, tableGood, numbersOf, isHeld, lentTable}
 use Rattle.rules.specs.Contents.{unmixed}
 use Rattle.rules.specs.WellFormed.{goodCon}
-use Rattle.rules.specs.Writing.{Rec, rec, words, writeCon}
+use Rattle.rules.specs.Writing.{words, writeCon}
 use Rattle.rules.specs.Reading.{readCon, readAll, records}
 use Rattle.rules.specs.Solving.{Answer, accepted, remaining, stopped, solve}
 use Rattle.rules.specs.Calls.{lent, lentResult, lentWork, shortLists, listGiven, tableKept, setGiven, apart, Solved, solved, unsolved, refusedAfter, solvedOf, solvedSet, solveCall}
-use Rattle.laws.specs.Size.{size-con}
+use Rattle.laws.specs.Size.{words-length, set-length}
 use Rattle.laws.specs.ReadLists.{con-read, all-read, Words, taken}
 use Rattle.laws.specs.Lists.{and-left, and-right}
 use Rattle.laws.specs.NameTable.{Good}
@@ -34,17 +34,6 @@ need-yields false n h = refuses h
 or-refuse : {A : Type 0} (n : ℕ) (o : Option A) → 0 < n → Yields (orRefuse n o) (λ a. o ≡ some a)
 or-refuse n none h = refuses h
 or-refuse n (some a) h = yields refl
-
--- four words a record, and as many records as the sizes say
-words-length : (rs : List Rec) → length (words rs) ≡ 4 * length rs
-unfolding words
-words-length [] = refl
-words-length (rec k a b c ∷ rs) = omega (arith, words-length rs)
-
-set-length : (cs : List (Con ℕ)) → length (collect writeCon cs) ≡ sumOf sizeCon cs
-unfolding collect
-set-length [] = refl
-set-length (c ∷ cs) = simp (length-append, size-con c, set-length cs)
 
 -- a set that was given is well formed, and has a record for each four words
 pub set-admitted : (t : Table) (ws : List ℕ) → Words ws → length ws ≤ 8192 → Yields (setGiven t ws) (Admitted (numbersOf t) (isHeld t))

@@ -11,33 +11,30 @@ use Rattle.rules.specs.Exponents.{Exp, Exp-dec, one}
 use Rattle.rules.specs.Trees.{Open, var, quant, par, Atom, free, base, _↑_, Product, Names, Ty, opened, basic, dim, fn, struct, list, Tys, nil, cons, Fields, noFields, field, _≔_, orderAtom}
 use Rattle.rules.specs.Products.{single}
 use Rattle.rules.specs.Replacing.{asProduct, replaceFactors, replaceProduct, replaceDim, replaceTy, replaceTys, replaceFields, find, bindings}
-use Rattle.laws.specs.Lists.{every-append}
+use Rattle.laws.specs.Lists.{some≢none, every-append}
 use Rattle.laws.specs.Order.{Lawful}
 use Rattle.laws.specs.Sorted.{Before, Sorted}
 use Rattle.ending.specs.Yields.{Yields, yields, refuses, next}
 use Rattle.ending.specs.Products.{Atoms, Neat, multiply-neat, raise-neat, divide-away}
 use Rattle.ending.specs.Fine.{Named, Fine, FineTys, FineFields, just-neat, Apart, behind, apart-atoms}
 
-never : {A B : Type 0} {a : A} → nothing ≡ some a → B
-never e = let z : _≡_ {A = ℕ} 0 1 = cc in absurd (omega arith)
-
 -- the open name of a product that is one variable to the power 1 is its only atom
 single-atoms : {N : Type 0} (P Q : Open N → Type 0) (p : Product N) (o : Open N) → single p ≡ some o → (P o → Q o) → Atoms (Named P) p → Atoms (Named Q) p
 unfolding single
 single-atoms P Q [] o e h a = tt
-single-atoms P Q (a ↑ e ∷ f ∷ p) o e′ h a′ = never e′
+single-atoms P Q (a ↑ e ∷ f ∷ p) o e′ h a′ = absurd (some≢none (sym e′))
 single-atoms P Q (free (var x) ↑ e ∷ []) o e′ h a = (go (isYes (Exp-dec e one)) e′, tt)
   where
     go : (b : Bool) → onlyIf b (var x) ≡ some o → Q (var x)
     go true q = let z : var x ≡ o = cc in subst Q (sym z) (h (subst P z (a .0)))
-    go false q = never q
+    go false q = absurd (some≢none (sym q))
 single-atoms P Q (free (quant x) ↑ e ∷ []) o e′ h a = (go (isYes (Exp-dec e one)) e′, tt)
   where
     go : (b : Bool) → onlyIf b (quant x) ≡ some o → Q (quant x)
     go true q = let z : quant x ≡ o = cc in subst Q (sym z) (h (subst P z (a .0)))
-    go false q = never q
-single-atoms P Q (free (par x) ↑ e ∷ []) o e′ h a = never e′
-single-atoms P Q (base n ↑ e ∷ []) o e′ h a = never e′
+    go false q = absurd (some≢none (sym q))
+single-atoms P Q (free (par x) ↑ e ∷ []) o e′ h a = absurd (some≢none (sym e′))
+single-atoms P Q (base n ↑ e ∷ []) o e′ h a = absurd (some≢none (sym e′))
 
 -- x is replaced by t: names of which P held are names of which Q holds, all but x
 module _ {N : Type 0} (ν : Names N) (law : Lawful (orderAtom ν)) (l : Limits) (P Q : Open N → Type 0) (x : N) (t : Ty N) (other : (o : Open N) → P o → (var x ≡ o → ⊥) → Q o) (fine : Fine ν Q t) where

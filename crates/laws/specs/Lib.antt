@@ -27,6 +27,7 @@ pub mod Numbers
 pub mod Lists
 pub mod Sized
 pub mod RuleCases
+pub mod Turns
 pub mod Evaluation
 pub mod KeepsGood
 pub mod Occurs

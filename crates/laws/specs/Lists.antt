@@ -2,12 +2,12 @@
 -- Assumes nothing.
 use mathlib.Core.Path.{_≡_, refl, ap, _∙_, sym}
 use mathlib.Core.Bool.{Bool, true, false, not, _&&_, _||_, or-true}
-use mathlib.Core.Option.{none, some}
+use mathlib.Core.Option.{Option, none, some}
 use mathlib.Core.Logic.{_⊎_, inl, inr}
-use mathlib.Core.List.{List, [], _∷_, _++_, map, List·Memᴰ, List·Memᴰ·head, List·Memᴰ·tail, List·Memᴰ·cases-cons, List·Memᴰ·not-nil, List·Memᴰ·append-cases, Memᴰ·append-left, Memᴰ·append-right}
+use mathlib.Core.List.{List, [], _∷_, _++_, map, List·Memᴰ, List·Memᴰ·head, List·Memᴰ·tail, List·Memᴰ·cases-cons, List·Memᴰ·not-nil, List·Memᴰ·append-cases, List·Memᴰ·eq-of-singleton, Memᴰ·append-left, Memᴰ·append-right}
 use Prim.Native.Nat.{ℕ}
 use native.Mathlib.Omega.{arith}
-use Rattle.rules.specs.Base.{Got, got, refused, _>>=_, allow, isYes, any, all, each, collect}
+use Rattle.rules.specs.Base.{Got, got, refused, _>>=_, allow, isYes, any, all, each, collect, toList}
 
 pub true≢false : true ≡ false → ⊥
 true≢false e = let z : _≡_ {A = ℕ} 0 1 = cc in omega arith
@@ -122,6 +122,15 @@ module _ {A : Type 0} where
       go : List·Memᴰ a xs ⊎ List·Memᴰ a ys → List·Memᴰ a (xs′ ++ ys′)
       go (inl i) = Memᴰ·append-left ys′ (f i)
       go (inr i) = Memᴰ·append-right xs′ (g i)
+
+  -- a list without elements
+  pub none-in : (xs : List A) → ((a : A) → List·Memᴰ a xs → ⊥) → xs ≡ []
+  none-in [] h = refl
+  none-in (x ∷ xs) h = absurd (h x in-head)
+
+  pub to-list : (o : Option A) (a : A) → List·Memᴰ a (toList o) → o ≡ some a
+  to-list none a m = absurd (List·Memᴰ·not-nil m)
+  to-list (some b) a m = ap some (sym (List·Memᴰ·eq-of-singleton m))
 
   -- a test of each element
   pub all-is : (p : A → Bool) (xs : List A) → all p xs ≡ true → All (λ a. p a ≡ true) xs

@@ -1,6 +1,6 @@
 -- Well formed exponents: what the test says, and that the bounded steps give well formed exponents again.
 -- Assumes nothing.
-use mathlib.Core.Path.{_≡_, refl, ap, _∙_, sym, subst}
+use mathlib.Core.Path.{_≡_, refl, ap, _∙_, subst}
 use mathlib.Core.Bool.{Bool, true, false, not, _&&_, and-eq-true-iff}
 use mathlib.Core.Option.{Option, none, some}
 use Prim.Native.Nat.{ℕ, zero, suc, _<_, _≤_}
@@ -11,6 +11,7 @@ use lib.IntN.{ℤ, pos, negsuc, negℤ, natAbs}
 use Rattle.rules.specs.Base.{Got, got, bounded, allow, need, _>>_}
 use Rattle.rules.specs.Exponents.{Exp, frac, gcdIn, gcd, nought, one, top, inRange, goodExp, isZero, goodStored, ranged, neg, plus, mul, inverted, sum, times, negation, quotient, timesInverse}
 use Rattle.rules.specs.Values.{sumCall, timesCall, negationCall, quotientCall}
+use Rattle.laws.specs.Lists.{not-true}
 use Rattle.laws.specs.Integers.{natAbs-neg}
 use Rattle.laws.specs.Gcd.{gcd-comm}
 use Rattle.laws.specs.Value.{Gives, gives, refuses, allowed}
@@ -65,11 +66,7 @@ stored-good e h = and-eq-true-iff (not (isZero e)) (goodExp e) .0 h .1
 
 pub stored-not-zero : (e : Exp) → goodStored e ≡ true → isZero e ≡ false
 unfolding goodStored
-stored-not-zero e h = go (isZero e) (and-eq-true-iff (not (isZero e)) (goodExp e) .0 h .0)
-  where
-    go : (t : Bool) → not t ≡ true → t ≡ false
-    go true k = sym k
-    go false k = refl
+stored-not-zero e h = not-true (isZero e) (and-eq-true-iff (not (isZero e)) (goodExp e) .0 h .0)
 
 pub is-stored : (e : Exp) → isZero e ≡ false → goodExp e ≡ true → goodStored e ≡ true
 unfolding goodStored

@@ -185,8 +185,7 @@ module _ {A : Type 0} (w : A → List Rec) where
 
 -- words of 32 bits
 abbrev pub Words : List ℕ → Type 0
-Words [] = Unit {0}
-Words (w ∷ ws) = (w < 4_294_967_296) × Words ws
+Words ws = Every (λ w. w < 4_294_967_296) ws
 
 -- what words were taken as has these words, and its words are small
 pub record Taken (ws : List ℕ) (o : Option (List Rec)) : Type 0 where

@@ -25,7 +25,7 @@ use Rattle.laws.specs.Untouched.{closed-same}
 use Rattle.laws.specs.ExactProducts.{mergeE, raiseE, divide-value}
 use Rattle.laws.specs.Powers.{Proper, merge-comm, merge-inverse, inverse-proper}
 use Rattle.laws.specs.GoodProducts.{goodAtom, good-proper}
-use Rattle.laws.specs.Lists.{true≢false, some≢none, and-left, and-right, is-yes, All, all-is, is-all, in-head, map-to, Every}
+use Rattle.laws.specs.Lists.{true≢false, some≢none, and-left, and-right, is-yes, All, all-is, is-all, in-head, map-to, Every, none-in}
 use Rattle.laws.specs.RuleCases.{Reads, Sides, After, Rule, none-applies, equal-records, binds, two-functions, two-lists, two-structs, as-product, two-dimensions, dimension, no-factor, first-factor, closed-struct, parts, named, naming}
 use Rattle.laws.specs.KeepsGood.{GoodTy, sides-good}
 use Rattle.soundness.specs.Steps.{sides-in}
@@ -34,11 +34,6 @@ use Rattle.laws.specs.Occurs.{OnFactor, each-opens, opens-each, valued-on, as-p
 use Rattle.soundness.specs.Alike.{alike-same, means-same, dim-alike, plain-just, no-fields}
 use Rattle.soundness.specs.Putting.{proper-look, put-product, put-dim, put-ty, put-fields, worth-kept}
 use Rattle.soundness.specs.Truth.{FitsIn, Holds, Respects, Equals, equals, equals-holds, turned, dimensional, dimensional-holds, scalar, scalar-holds}
-
--- a list without elements
-none-in : {A : Type 0} (xs : List A) → ((a : A) → List·Memᴰ a xs → ⊥) → xs ≡ []
-none-in [] h = refl
-none-in (x ∷ xs) h = absurd (h x in-head)
 
 module _ {N : Type 0} (ν : Names N) (law : Lawful (orderAtom ν)) (held : N → Bool) (q : ℕ) (tells : Tells (λ a. goodAtom ν held q a ≡ true) (orderAtom ν))
     (bs : List (Binding N)) (bounds : List N) (σg : (o : Open N) (t : Ty N) → bindings ν bs o ≡ some t → GoodTy ν law held q t) where

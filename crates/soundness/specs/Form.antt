@@ -1,30 +1,27 @@
 -- The form of an accepted answer: no variable bound twice or left in a type, all well formed, bounds that rise by bytes.
 -- Assumes nothing.
-use mathlib.Core.Path.{_≡_, refl, ap, _∙_, sym, subst}
-use mathlib.Core.Bool.{Bool, true, false, not}
-use mathlib.Core.Option.{Option, none, some}
+use mathlib.Core.Path.{_≡_, refl, sym}
+use mathlib.Core.Bool.{Bool, true, false}
+use mathlib.Core.Option.{some}
 use mathlib.Core.Logic.{_⊎_, inl, inr}
-use mathlib.Core.List.{List, [], List·Memᴰ, List·Memᴰ·not-nil, List·Memᴰ·eq-of-singleton}
+use mathlib.Core.List.{List, [], List·Memᴰ, List·Memᴰ·not-nil}
 use Prim.Native.Nat.{ℕ}
-use Rattle.rules.specs.Base.{bounded, collect, toList, isYes}
+use Rattle.rules.specs.Base.{bounded, collect, toList}
 use Rattle.rules.specs.Trees.{Open, var, quant, par, Names, opened, basic, dim, fn, struct, list, Con, equal, isDim, isScalar, hasField, Binding, opens, opensCon}
-use Rattle.rules.specs.Views.{variable, parameter}
-use Rattle.rules.specs.Contents.{contains, variablesIn, parametersIn, among, unmixed}
+use Rattle.rules.specs.Contents.{contains, unmixed}
 use Rattle.rules.specs.Rounds.{State}
 use Rattle.rules.specs.Solving.{accepted, boundOf, solve, enough}
 use Rattle.rules.specs.WellFormed.{goodOpen, goodTy, goodCon, goodBinding}
+use Rattle.laws.specs.Contents.{not-mixed}
 use Rattle.laws.specs.ByteOrder.{atom-lawful}
 use Rattle.laws.specs.GoodProducts.{atom-tells}
-use Rattle.laws.specs.Lists.{true≢false, some≢none, not-true, yes-is, is-yes, All, all-nil, all-is, is-all, in-head, any-is, is-any, collect-from, collect-to, map-to}
+use Rattle.laws.specs.Lists.{some≢none, All, all-nil, all-is, in-head, collect-from, collect-to, map-to, to-list}
 use Rattle.laws.specs.RuleCases.{contained}
 use Rattle.laws.specs.SortedNames.{sort-from, sort-rising}
 use Rattle.soundness.specs.Steps.{OpenOk, DimOk, okFor, ConOk}
 use Rattle.soundness.specs.Claims.{Ordered, Given, key, typeOf, keys, SolvedForm}
-use Rattle.soundness.specs.Solved.{Kept, turn-kept, Ended, run-back}
-
-pub to-list : {A : Type 0} (o : Option A) (a : A) → List·Memᴰ a (toList o) → o ≡ some a
-to-list none a m = absurd (List·Memᴰ·not-nil m)
-to-list (some b) a m = ap some (sym (List·Memᴰ·eq-of-singleton m))
+use Rattle.laws.specs.Turns.{Ended, run-back}
+use Rattle.soundness.specs.Solved.{Kept, turn-kept}
 
 -- ══ The start of a run ══
 
@@ -34,19 +31,11 @@ module _ {N : Type 0} where
   ParameterOf cs x = List·Memᴰ (par x) (collect opensCon cs)
 
 module _ {N : Type 0} (ν : Names N) where
-  pub not-mixed : (os : List (Open N)) → unmixed ν os ≡ true → (x : N) → List·Memᴰ (var x) os → List·Memᴰ (par x) os → ⊥
-  unfolding unmixed variablesIn parametersIn among
-  not-mixed os h x m p =
-      let v : List·Memᴰ x (variablesIn os) = collect-to (λ o. toList (variable o)) os (var x) x m in-head in
-      let w : List·Memᴰ x (parametersIn os) = collect-to (λ o. toList (parameter o)) os (par x) x p in-head in
-      let n : among ν x (parametersIn os) ≡ false = not-true (among ν x (parametersIn os)) (all-is (λ y. not (among ν y (parametersIn os))) (variablesIn os) h x v) in
-      true≢false (sym (is-any (λ y. isYes (ν .same x y)) (parametersIn os) x w (is-yes (ν .same x x) refl)) ∙ n)
-
   given-ok : (cs : List (Con N)) → unmixed ν (collect opensCon cs) ≡ true → All (ConOk (ParameterOf cs) []) cs
   given-ok cs h c m o i = ok c o (collect-to opensCon cs c o m i)
     where
       open-ok : (o : Open N) → List·Memᴰ o (collect opensCon cs) → OpenOk (ParameterOf cs) [] o
-      open-ok (var x) i = (λ p. not-mixed (collect opensCon cs) h x i p, λ j. List·Memᴰ·not-nil j)
+      open-ok (var x) i = (λ p. not-mixed ν (collect opensCon cs) h x i p, λ j. List·Memᴰ·not-nil j)
       open-ok (quant n) i = tt
       open-ok (par x) i = i
 
@@ -135,35 +124,3 @@ module _ {N : Type 0} (ν : Names N) (held : N → Bool) (ord : Ordered ν held)
 
   pub solved-form : Given ν held cs → (bs : List (Binding N)) (ns : List N) (k : ℕ) → solve ν bounded cs ≡ accepted bs ns k → SolvedForm ν held bs ns
   solved-form g bs ns k e = let f = final g bs ns k e in ended-form bs ns (f .state) (f .kept) (f .ended)
-
--- ══ Names of the answer ══
-
-module _ {N : Type 0} (ν : Names N) where
-  from-variables : (os : List (Open N)) (x : N) → List·Memᴰ x (variablesIn os) → List·Memᴰ (var x) os
-  unfolding variablesIn
-  from-variables os x m = let o = collect-from (λ o. toList (variable o)) os x m in go (o .one) (o .within) (o .from)
-    where
-      go : (o : Open N) → List·Memᴰ o os → List·Memᴰ x (toList (variable o)) → List·Memᴰ (var x) os
-      go (var y) i j = subst (λ (z : N). List·Memᴰ (var z) os) (sym (List·Memᴰ·eq-of-singleton j)) i
-      go (quant n) i j = absurd (List·Memᴰ·not-nil j)
-      go (par y) i j = absurd (List·Memᴰ·not-nil j)
-
-  from-parameters : (os : List (Open N)) (x : N) → List·Memᴰ x (parametersIn os) → List·Memᴰ (par x) os
-  unfolding parametersIn
-  from-parameters os x m = let o = collect-from (λ o. toList (parameter o)) os x m in go (o .one) (o .within) (o .from)
-    where
-      go : (o : Open N) → List·Memᴰ o os → List·Memᴰ x (toList (parameter o)) → List·Memᴰ (par x) os
-      go (var y) i j = absurd (List·Memᴰ·not-nil j)
-      go (quant n) i j = absurd (List·Memᴰ·not-nil j)
-      go (par y) i j = subst (λ (z : N). List·Memᴰ (par z) os) (sym (List·Memᴰ·eq-of-singleton j)) i
-
-  -- names of variables that are no parameters' are apart from those of parameters
-  pub apart-names : (P : N → Type 0) (os : List (Open N)) → ((x : N) → List·Memᴰ (var x) os → ¬ (P x)) → ((x : N) → List·Memᴰ (par x) os → P x) → unmixed ν os ≡ true
-  unfolding unmixed among
-  apart-names P os h k = is-all (λ x. not (among ν x (parametersIn os))) (variablesIn os) (λ x m. go x m (among ν x (parametersIn os)) refl)
-    where
-      go : (x : N) → List·Memᴰ x (variablesIn os) → (b : Bool) → among ν x (parametersIn os) ≡ b → not b ≡ true
-      go x m false i = refl
-      go x m true i =
-          let s = any-is (λ y. isYes (ν .same x y)) (parametersIn os) i in
-          absurd (h x (from-variables os x m) (k x (from-parameters os x (subst (λ (z : N). List·Memᴰ z (parametersIn os)) (sym (yes-is (ν .same x (s .one)) (s .fits))) (s .within)))))

@@ -17,6 +17,7 @@ use Rattle.rules.specs.Solving.{accepted, boundOf, solve, enough}
 use Rattle.rules.specs.Calls.{opensBinding}
 use Rattle.rules.specs.Meaning.{amongBounds, holds, Solves, inProducts, productsOf, Premise}
 use Rattle.rules.specs.WellFormed.{goodBinding}
+use Rattle.laws.specs.Contents.{not-mixed, apart-names}
 use Rattle.laws.specs.Order.{Lawful, Tells}
 use Rattle.laws.specs.ByteOrder.{atom-lawful}
 use Rattle.laws.specs.Exact.{ty-below}
@@ -26,13 +27,13 @@ use Rattle.laws.specs.GoodProducts.{goodAtom, atom-tells, good-proper}
 use Rattle.laws.specs.Lists.{true≢false, some≢none, is-yes, All, all-nil, all-cons, all-append, in-head, is-any, Came, each-went, each-came, Origin, collect-from, collect-to, map-to, all-every}
 use Rattle.laws.specs.SortedNames.{sort-to}
 use Rattle.laws.specs.RuleCases.{After, rule}
-use Rattle.soundness.specs.Turns.{Found, Bound, Split, Taken, Turn, bound, parted, dropped}
+use Rattle.laws.specs.Turns.{Found, Bound, Split, Taken, Turn, bound, parted, dropped, Ended, run-back}
 use Rattle.laws.specs.KeepsGood.{GoodTy, GoodBind, dimension-good, rule-good}
 use Rattle.laws.specs.Occurs.{ty-in, con-in}
 use Rattle.soundness.specs.Steps.{OpenOk, okFor, rule-in}
 use Rattle.soundness.specs.Claims.{Ordered, Given, key, typeOf, keys}
-use Rattle.soundness.specs.Solved.{same-key, type-good, turn-kept, Ended, run-back}
-use Rattle.soundness.specs.Form.{Final, final, ParameterOf, not-mixed, apart-names, AllKept, start-kept, bound-is, bound-ok}
+use Rattle.soundness.specs.Solved.{same-key, type-good, turn-kept}
+use Rattle.soundness.specs.Form.{Final, final, ParameterOf, AllKept, start-kept, bound-is, bound-ok}
 use Rattle.soundness.specs.Putting.{ty-put}
 use Rattle.soundness.specs.Truth.{FitsIn, Holds, Respects, dimensional-holds, con-back}
 use Rattle.soundness.specs.Back.{TrueCon, TrueBind, rule-true}
