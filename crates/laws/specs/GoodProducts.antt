@@ -5,7 +5,7 @@ use mathlib.Core.Bool.{Bool, true, false, and-eq-true-iff}
 use mathlib.Core.List.{[], _∷_, map}
 use Prim.Native.Nat.{ℕ, suc, _≤_, Ordering·eq}
 use native.Mathlib.Omega.{arith}
-use borrow.Author.Tests.{eqb-true, leb-true, le-leb, ltb-true, lt-ltb}
+use borrow.Author.Tests.{eqb-true, leb-true, le-leb}
 use lib.Dec.{T, isEq, leb}
 use lib.ListN.{length}
 use Rattle.rules.specs.Base.{got, bounded, within, all}
@@ -165,20 +165,3 @@ module _ {N : Type 0} (ν : Names N) (law : Lawful (orderAtom ν)) (held : N →
 
       scales : (a : Atom N) (e s : Exp) → GoodFactor ν held q (a ↑ e) → times bounded e k ≡ got s → isZero s ≡ false → GoodFactor ν held q (a ↑ s)
       scales a e s i j z = (i .0, is-stored s z (times-good e k (stored-good e (i .1)) l .holds s j))
-
--- what is well formed with fewer quantified variables is so with more
-module _ {N : Type 0} (ν : Names N) (law : Lawful (orderAtom ν)) (held : N → Bool) (q r : ℕ) (h : q ≤ r) where
-  wider-atom : (a : Atom N) → goodAtom ν held q a ≡ true → goodAtom ν held r a ≡ true
-  unfolding goodOpen
-  wider-atom (free (var x)) g = g
-  wider-atom (free (quant i)) g = let l = ltb-true i q g in lt-ltb i r (omega arith)
-  wider-atom (free (par x)) g = g
-  wider-atom (base x) g = g
-
-  wider-factor : (f : Factor N) → GoodFactor ν held q f → GoodFactor ν held r f
-  wider-factor (a ↑ e) g = (wider-atom a (g .0), g .1)
-
-  pub wider : (p : Product N) → goodProduct ν held q p ≡ true → goodProduct ν held r p ≡ true
-  wider p g =
-      let f = good-product ν law held q p g in
-      product-good ν law held r p (record { in-order = f .in-order; each = every-as wider-factor p (f .each); few = f .few })

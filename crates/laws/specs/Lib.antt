@@ -17,6 +17,7 @@ pub mod Written
 pub mod Reading
 pub mod ReadLists
 pub mod KnownNames
+pub mod Weaker
 pub mod Contents
 pub mod Depth
 pub mod Value
