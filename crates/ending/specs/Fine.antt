@@ -115,7 +115,7 @@ module _ {N : Type 0} (ν : Names N) (law : Lawful (orderAtom ν)) (held : N →
       let a = all (goodFactor ν held q) p in
       let r = rising (orderAtom ν) (map atomOf p) in
       record {
-        sorted = sorted ν law p (rw (and-right a r (and-left (a && r) _ t)) tt);
+        sorted = sorted ν law p (and-right a r (and-left (a && r) _ t));
         atoms = good-atoms p (and-left a r (and-left (a && r) _ t));
       }
 

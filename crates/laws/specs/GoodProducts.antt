@@ -2,17 +2,17 @@
 -- Assumes nothing.
 use mathlib.Core.Path.{_≡_, refl, ap, _∙_}
 use mathlib.Core.Bool.{Bool, true, false, and-eq-true-iff}
-use mathlib.Core.List.{[], _∷_, map}
+use mathlib.Core.List.{[], _∷_}
 use Prim.Native.Nat.{ℕ, suc, _≤_, Ordering·eq}
 use native.Mathlib.Omega.{arith}
 use borrow.Author.Tests.{eqb-true, leb-true, le-leb}
-use lib.Dec.{T, isEq, leb}
+use lib.Dec.{isEq, leb}
 use lib.ListN.{length}
 use Rattle.rules.specs.Base.{got, bounded, within, all}
 use Rattle.rules.specs.Exponents.{Exp, isZero, neg, goodExp, goodStored, sum, times}
 use Rattle.rules.specs.Trees.{Open, var, quant, par, Atom, free, base, Factor, _↑_, Product, Names, orderOpen, orderAtom}
 use Rattle.rules.specs.Products.{put, inverse, multiply, divide, raise}
-use Rattle.rules.specs.WellFormed.{rising, atomOf, goodOpen, goodFactor, goodProduct}
+use Rattle.rules.specs.WellFormed.{goodOpen, goodFactor, goodProduct}
 use Rattle.laws.specs.Lists.{Every, every-all, all-every, every-as, all-is, is-all}
 use Rattle.laws.specs.Order.{Lawful, Tells}
 use Rattle.laws.specs.Value.{Gives, gives, next, weaken, together, its-own, allowed}
@@ -20,13 +20,6 @@ use Rattle.laws.specs.Ranges.{good-lowest, stored-good, stored-not-zero,
 use Rattle.laws.specs.Sorted.{Sorted, sorted, sorted-rises, merge-sorted, raise-sorted, inverse-sorted, merge-each, raise-each, inverse-each}
 use Rattle.laws.specs.Fractions.{neg-zero}
 use Rattle.laws.specs.Powers.{Sound, Proper}
-
-pub passed : (b : Bool) → T b → b ≡ true
-passed true t = refl
-passed false t = absurd t
-
-pub passes : (b : Bool) → b ≡ true → T b
-passes b h = rw h tt
 
 module _ {N : Type 0} (ν : Names N) (held : N → Bool) (q : ℕ) where
   -- an atom whose name is held, or whose index is below the count
@@ -89,13 +82,12 @@ module _ {N : Type 0} (ν : Names N) (law : Lawful (orderAtom ν)) (held : N →
   good-product p h =
       let r = and-eq-true-iff _ (leb (length p) 64) .0 h in
       let s = and-eq-true-iff (all (goodFactor ν held q) p) _ .0 (r .0) in
-      record { in-order = sorted ν law p (passes _ (s .1)); each = all-good ν held q p (s .0); few = leb-true (length p) 64 (r .1) }
+      record { in-order = sorted ν law p (s .1); each = all-good ν held q p (s .0); few = leb-true (length p) 64 (r .1) }
 
   pub product-good : (p : Product N) → GoodProduct ν held q p → goodProduct ν held q p ≡ true
   unfolding goodProduct
   product-good p g =
-      let r : rising (orderAtom ν) (map atomOf p) ≡ true = passed _ (sorted-rises ν law p (g .in-order)) in
-      simp (good-all ν held q p (g .each), r, le-leb _ _ (g .few))
+      simp (good-all ν held q p (g .each), sorted-rises ν law p (g .in-order), le-leb _ _ (g .few))
 
   -- a well formed product is one of exact arithmetic
   pub good-proper : (p : Product N) → goodProduct ν held q p ≡ true → Proper ν (λ a. goodAtom ν held q a ≡ true) p

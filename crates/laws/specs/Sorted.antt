@@ -1,31 +1,22 @@
 -- Merging, raising and inverting keep products in order, and keep what holds of each factor.
 -- Assumes nothing.
-use mathlib.Core.Path.{_≡_, refl, _∙_}
-use mathlib.Core.Bool.{Bool, true, false, _&&_}
+use mathlib.Core.Path.{_≡_, refl, sym, _∙_}
+use mathlib.Core.Bool.{Bool, true, false}
 use mathlib.Core.List.{[], _∷_, map}
 use Prim.Native.Nat.{Ordering, Ordering·lt, Ordering·eq, Ordering·gt}
-use lib.Dec.{T}
 use Rattle.rules.specs.Base.{Got, got, Limits}
 use Rattle.rules.specs.Exponents.{Exp, isZero, neg, sum, times}
 use Rattle.rules.specs.Trees.{Atom, Factor, _↑_, Product, Names, orderAtom}
 use Rattle.rules.specs.Products.{put, inverse, mergeOne, merge, raise}
 use Rattle.rules.specs.WellFormed.{isLt, rising, atomOf}
-use Rattle.laws.specs.Lists.{Every, every-as}
+use Rattle.laws.specs.Lists.{true≢false, and-left, and-right, Every, every-as}
 use Rattle.laws.specs.Order.{Lawful, after}
 use Rattle.laws.specs.Value.{Gives, gives, next, weaken, its-own}
 
-lt : (o : Ordering) → T (isLt o) → o ≡ Ordering·lt
+lt : (o : Ordering) → isLt o ≡ true → o ≡ Ordering·lt
 lt Ordering·lt t = refl
-lt Ordering·eq t = absurd t
-lt Ordering·gt t = absurd t
-
-left : (a b : Bool) → T (a && b) → T a
-left true b t = tt
-left false b t = t
-
-right : (a b : Bool) → T (a && b) → T b
-right true b t = t
-right false b t = absurd t
+lt Ordering·eq t = absurd (true≢false (sym t))
+lt Ordering·gt t = absurd (true≢false (sym t))
 
 module _ {N : Type 0} (ν : Names N) where
   -- an atom stands before all of a product
@@ -44,19 +35,19 @@ module _ {N : Type 0} (ν : Names N) (law : Lawful (orderAtom ν)) where
   beside a b p h k = every-as (λ f i. law .alike a b (atomOf f) h ∙ i) p k
 
   -- the test of the records, as a fact
-  pub sorted : (p : Product N) → T (rising (orderAtom ν) (map atomOf p)) → Sorted ν p
+  pub sorted : (p : Product N) → rising (orderAtom ν) (map atomOf p) ≡ true → Sorted ν p
   unfolding rising
   sorted [] t = tt
   sorted (a ↑ e ∷ []) t = (tt, tt)
   sorted (a ↑ e ∷ b ↑ d ∷ p) t =
-      let h : orderAtom ν a b ≡ Ordering·lt = lt (orderAtom ν a b) (left (isLt (orderAtom ν a b)) _ t) in
-      let s = sorted (b ↑ d ∷ p) (right (isLt (orderAtom ν a b)) _ t) in
+      let h : orderAtom ν a b ≡ Ordering·lt = lt (orderAtom ν a b) (and-left (isLt (orderAtom ν a b)) _ t) in
+      let s = sorted (b ↑ d ∷ p) (and-right (isLt (orderAtom ν a b)) _ t) in
       ((h, sooner a b p h (s .0)), s)
 
-  pub sorted-rises : (p : Product N) → Sorted ν p → T (rising (orderAtom ν) (map atomOf p))
+  pub sorted-rises : (p : Product N) → Sorted ν p → rising (orderAtom ν) (map atomOf p) ≡ true
   unfolding rising
-  sorted-rises [] s = tt
-  sorted-rises (a ↑ e ∷ []) s = tt
+  sorted-rises [] s = refl
+  sorted-rises (a ↑ e ∷ []) s = refl
   sorted-rises (a ↑ e ∷ b ↑ d ∷ p) s = rw (s .0 .0) (sorted-rises (b ↑ d ∷ p) (s .1))
 
   -- a product in order, behind each atom that stands before p and q

@@ -1,5 +1,5 @@
 -- Sorting gives the rising list of the names that occur, so it depends on nothing else. Assumes nothing.
-use mathlib.Core.Path.{_≡_, refl, sym, ap, ap₂, subst, _∙_}
+use mathlib.Core.Path.{_≡_, refl, sym, ap₂, subst, _∙_}
 use mathlib.Core.Bool.{true}
 use mathlib.Core.List.{List, [], _∷_, List·Memᴰ, List·Memᴰ·head, List·Memᴰ·tail, List·Memᴰ·cases-cons, List·Memᴰ·not-nil}
 use mathlib.Core.Logic.{_⊎_, inl, inr, ⊎-elim}
@@ -10,7 +10,7 @@ use Rattle.rules.specs.Trees.{Names}
 use Rattle.rules.specs.Contents.{sorted, sort}
 use Rattle.rules.specs.WellFormed.{rising}
 use Rattle.laws.specs.Order.{Lawful, Tells, self, after}
-use Rattle.laws.specs.Lists.{Every, every-as}
+use Rattle.laws.specs.Lists.{Every, every-all, all-every, every-as}
 
 -- a name occurs, by recursion
 abbrev pub In : {N : Type 0} → N → List N → Type 0
@@ -25,6 +25,12 @@ module _ {N : Type 0} {z : N} where
   member-in : (xs : List N) → List·Memᴰ z xs → In z xs
   member-in [] m = absurd (List·Memᴰ·not-nil m)
   member-in (x ∷ xs) m = ⊎-elim (λ e. inl e) (λ i. inr (member-in xs i)) (List·Memᴰ·cases-cons m)
+
+pub every-in : {A : Type 0} (P : A → Type 0) (xs : List A) → ((z : A) → In z xs → P z) → Every P xs
+every-in P xs f = all-every P xs (λ z m. f z (member-in xs m))
+
+pub in-every : {A : Type 0} (P : A → Type 0) (xs : List A) → Every P xs → (z : A) → In z xs → P z
+in-every P xs ps z k = every-all P xs ps z (in-member xs k)
 
 module _ {N : Type 0} (ν : Names N) where
   -- a name stands before all of these
@@ -41,14 +47,6 @@ module _ {N : Type 0} (ν : Names N) where
   rises-rising [] h = refl
   rises-rising (a ∷ []) h = refl
   rises-rising (a ∷ b ∷ xs) h = rw (h .0 .0) (rises-rising (b ∷ xs) (h .1))
-
-  before-in : (a : N) (xs : List N) → Before a xs → (z : N) → In z xs → ν .order a z ≡ Ordering·lt
-  before-in a [] h z k = absurd k
-  before-in a (x ∷ xs) h z k = ⊎-elim (λ e. ap (ν .order a) e ∙ h .0) (λ i. before-in a xs (h .1) z i) k
-
-  pub in-before : (a : N) (xs : List N) → ((z : N) → In z xs → ν .order a z ≡ Ordering·lt) → Before a xs
-  in-before a [] h = tt
-  in-before a (x ∷ xs) h = (h x (inl refl), in-before a xs (λ z i. h z (inr i)))
 
   -- the three places of a name before a rising list
   module _ (Q : List N → Type 0) (x y : N) (ys : List N) where
@@ -158,11 +156,11 @@ module _ {N : Type 0} (ν : Names N) (law : Lawful (ν .order)) where
   one-rising (x ∷ xs) (y ∷ ys) h k f g =
       let e : x ≡ y = first in
       ap₂ _∷_ e (one-rising xs ys (h .1) (k .1)
-      (λ z i. ⊎-elim (λ q. absurd (never-self x (subst (λ (w : N). ν .order x w ≡ Ordering·lt) (q ∙ sym e) (before-in ν x xs (h .0) z i)))) (λ j. j) (f z (inr i)))
-      (λ z i. ⊎-elim (λ q. absurd (never-self y (subst (λ (w : N). ν .order y w ≡ Ordering·lt) (q ∙ e) (before-in ν y ys (k .0) z i)))) (λ j. j) (g z (inr i))))
+      (λ z i. ⊎-elim (λ q. absurd (never-self x (subst (λ (w : N). ν .order x w ≡ Ordering·lt) (q ∙ sym e) (in-every _ xs (h .0) z i)))) (λ j. j) (f z (inr i)))
+      (λ z i. ⊎-elim (λ q. absurd (never-self y (subst (λ (w : N). ν .order y w ≡ Ordering·lt) (q ∙ e) (in-every _ ys (k .0) z i)))) (λ j. j) (g z (inr i))))
     where
       first : x ≡ y
-      first = ⊎-elim (λ q. q) (λ i. ⊎-elim (λ q. sym q) (λ j. absurd (never-both x y (before-in ν x xs (h .0) y j) (before-in ν y ys (k .0) x i))) (g y (inl refl))) (f x (inl refl))
+      first = ⊎-elim (λ q. q) (λ i. ⊎-elim (λ q. sym q) (λ j. absurd (never-both x y (in-every _ xs (h .0) y j) (in-every _ ys (k .0) x i))) (g y (inl refl))) (f x (inl refl))
 
   module _ (P : N → Type 0) (tells : Tells P (ν .order)) where
     -- ══ Sorting depends on what occurs ══
@@ -174,6 +172,6 @@ module _ {N : Type 0} (ν : Names N) (law : Lawful (ν .order)) where
     -- the first of them, then the others
     pub first-sort : (x : N) (xs ys : List N) → Every P xs → Every P ys → In x xs → ((z : N) → In z xs → (z ≡ x) ⊎ In z ys) → ((z : N) → In z ys → In z xs × (ν .order x z ≡ Ordering·lt)) → sort ν xs ≡ x ∷ sort ν ys
     first-sort x xs ys p q i f g =
-        one-rising (sort ν xs) (x ∷ sort ν ys) (sort-rises xs) (in-before ν x (sort ν ys) (λ z j. g z (sort-of ν ys z j) .1), sort-rises ys)
+        one-rising (sort ν xs) (x ∷ sort ν ys) (sort-rises xs) (every-in _ (sort ν ys) (λ z j. g z (sort-of ν ys z j) .1), sort-rises ys)
         (λ z j. ⊎-elim (λ e. inl e) (λ k. inr (of-sort ν P tells ys q z k)) (f z (sort-of ν xs z j)))
         (λ z j. ⊎-elim (λ e. rw e (of-sort ν P tells xs p x i)) (λ k. of-sort ν P tells xs p z (g z (sort-of ν ys z k) .0)) j)
