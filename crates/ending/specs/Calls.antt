@@ -2,26 +2,28 @@
 -- Assumes nothing.
 use mathlib.Core.Path.{_≡_, refl, ap}
 use mathlib.Core.Bool.{Bool, true, false, _&&_}
-use mathlib.Core.List.{List, [], _∷_}
+use mathlib.Core.List.{List}
 use mathlib.Core.Option.{Option, none, some}
-use Prim.Native.Nat.{ℕ, _*_, _≤_, _<_}
+use Prim.Native.Nat.{ℕ, _≤_, _<_}
 use native.Mathlib.Omega.{arith}
 use borrow.Author.Tests.{leb-true}
 use lib.Dec.{leb}
-use lib.ListN.{length, length-append}
-use Rattle.rules.specs.Base.{Got, got, refused, _>>_, need, orRefuse, bounded, all, collect, sumOf}
-use Rattle.rules.specs.Trees.{Con, opensCon, sizeCon}
+use lib.ListN.{length}
+use Rattle.rules.specs.Base.{Got, got, refused, _>>_, need, orRefuse, bounded, all, collect}
+use Rattle.rules.specs.Trees.{Con, opensCon}
 use Rattle.rules.specs.Names.{Table, tableOf, tableGood, numbersOf, isHeld, lentTable}
 use Rattle.rules.specs.Contents.{unmixed}
 use Rattle.rules.specs.WellFormed.{goodCon}
-use Rattle.rules.specs.Writing.{Rec, rec, words, writeCon}
+use Rattle.rules.specs.Writing.{words, writeCon}
 use Rattle.rules.specs.Reading.{readCon, readAll, records}
 use Rattle.rules.specs.Solving.{Answer, accepted, remaining, stopped, solve}
 use Rattle.rules.specs.Calls.{lent, lentResult, lentWork, shortLists, listGiven, tableKept, setGiven, apart, Solved, solved, unsolved, refusedAfter, solvedOf, solvedSet, solveCall}
-use Rattle.laws.specs.Size.{size-con}
+use Rattle.laws.specs.Size.{words-length, set-length}
 use Rattle.laws.specs.ReadLists.{con-read, all-read, Words, taken}
-use Rattle.laws.specs.NameTable.{Good, both-left, both-right}
-use Rattle.ending.specs.Yields.{Yields, yields, refuses, next, weaken, traced}
+use Rattle.laws.specs.Lists.{and-left, and-right}
+use Rattle.laws.specs.NameTable.{Good}
+use Rattle.laws.specs.Value.{its-own}
+use Rattle.ending.specs.Yields.{Yields, yields, refuses, next, weaken, also}
 use Rattle.ending.specs.Runs.{roundsOf}
 use Rattle.ending.specs.Sets.{Admitted}
 
@@ -32,17 +34,6 @@ need-yields false n h = refuses h
 or-refuse : {A : Type 0} (n : ℕ) (o : Option A) → 0 < n → Yields (orRefuse n o) (λ a. o ≡ some a)
 or-refuse n none h = refuses h
 or-refuse n (some a) h = yields refl
-
--- four words a record, and as many records as the sizes say
-words-length : (rs : List Rec) → length (words rs) ≡ 4 * length rs
-unfolding words
-words-length [] = refl
-words-length (rec k a b c ∷ rs) = omega (arith, words-length rs)
-
-set-length : (cs : List (Con ℕ)) → length (collect writeCon cs) ≡ sumOf sizeCon cs
-unfolding collect
-set-length [] = refl
-set-length (c ∷ cs) = simp (length-append, size-con c, set-length cs)
 
 -- a set that was given is well formed, and has a record for each four words
 pub set-admitted : (t : Table) (ws : List ℕ) → Words ws → length ws ≤ 8192 → Yields (setGiven t ws) (Admitted (numbersOf t) (isHeld t))
@@ -63,7 +54,7 @@ lent-yields pool table result work =
     let b = leb 257 (length table) in
     next (next (need-yields (a && b) 10 (omega arith)) (λ u e. weaken (need-yields (leb 8192 (length result)) 10 (omega arith)) (λ v i. e))) (λ u t.
     weaken (need-yields (leb 16384 (length work)) 10 (omega arith)) (λ v i.
-    (leb-true 8192 (length pool) (both-left a b t), leb-true 257 (length table) (both-right a b t))))
+    (leb-true 8192 (length pool) (and-left a b t), leb-true 257 (length table) (and-right a b t))))
 
 -- the rounds that the answer of the call carries
 abbrev pub roundsIn : Solved → ℕ
@@ -94,7 +85,7 @@ module _ (pool table set result work : List ℕ) (small : Words set) (Q : Solved
       let t = tableOf pool table in
       next (need-yields (leb (length set) 8192 && true) 8 (omega arith)) (λ u e.
       next (need-yields (tableGood t) 1 (omega arith)) (λ v g.
-      next (traced (set-admitted t set small (leb-true (length set) 8192 (both-left (leb (length set) 8192) true e)))) (λ cs i.
+      next (also (set-admitted t set small (leb-true (length set) 8192 (and-left (leb (length set) 8192) true e))) (its-own (setGiven t set))) (λ cs i.
       next (need-yields (unmixed (numbersOf t) (collect opensCon cs)) 4 (omega arith)) (λ w m.
       yields (every (record { bytes = h; words = k; good = g }) cs (i .1) (i .0))))))
 
@@ -107,4 +98,4 @@ module _ (pool table set result work : List ℕ) (small : Words set) (Q : Solved
     where
       go : (m : Got (Answer ℕ)) → call ≡ m → Q (solvedOf m)
       go (refused n) e = refusal n (call-solved .numbered n e)
-      go (got a) e = call-solved .holds a e
+      go (got a) e = call-solved .value .holds a e

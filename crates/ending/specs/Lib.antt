@@ -1,4 +1,4 @@
-pub mod Members
+pub mod Without
 pub mod Yields
 pub mod Products
 pub mod Fine

@@ -16,9 +16,9 @@ use Rattle.rules.specs.Products.{put, inverse, mergeOne, merge, multiply, divid
 use Rattle.rules.specs.Rounds.{otherSide}
 use Rattle.rules.specs.WellFormed.{atomOf}
 use Rattle.laws.specs.Integers.{neg-mul}
+use Rattle.laws.specs.Lists.{Every}
 use Rattle.laws.specs.Order.{Lawful, self}
-use Rattle.laws.specs.Sorted.{Before, Sorted, merge-sorted}
-use Rattle.ending.specs.Members.{All, none, _&_}
+use Rattle.laws.specs.Sorted.{Before, Sorted, merge-sorted, merge-each}
 use Rattle.ending.specs.Yields.{Yields, yields, refuses, next, weaken, also, allowed, within-yields}
 
 -- ══ Exponents ══
@@ -53,7 +53,7 @@ cancels (frac n d) =
 module _ {N : Type 0} where
   -- all atoms of a product
   abbrev pub Atoms : (Atom N → Type 0) → Product N → Type 0
-  Atoms P = All (λ f. P (atomOf f))
+  Atoms P p = Every (λ f. P (atomOf f)) p
 
   -- the same atoms in the same order, some left out
   pub data Thinned : Product N → Product N → Type 0 where
@@ -63,8 +63,8 @@ module _ {N : Type 0} where
 
   pub thin-atoms : (P : Atom N → Type 0) {p q : Product N} → Thinned p q → Atoms P p → Atoms P q
   thin-atoms P end a = a
-  thin-atoms P (kept t) (h & a) = h & thin-atoms P t a
-  thin-atoms P (dropped t) (h & a) = thin-atoms P t a
+  thin-atoms P (kept t) a = (a .0, thin-atoms P t (a .1))
+  thin-atoms P (dropped t) a = thin-atoms P t (a .1)
 
   thin-put : {a : Atom N} {e : Exp} {p q : Product N} (d : Exp) → Thinned p q → Thinned (a ↑ e ∷ p) (put a d q)
   thin-put {a} {e} {p} {q} d t = go (isZero d) refl
@@ -107,28 +107,23 @@ module _ {N : Type 0} (ν : Names N) (l : Limits) where
   raise-thins [] k = yields end
   raise-thins (a ↑ e ∷ p) k = next (times-yields l e k) (λ s u. next (raise-thins p k) (λ q t. yields (thin-put s t)))
 
-  module _ (P : Atom N → Type 0) where
-    put-atoms : (a : Atom N) (e : Exp) (p : Product N) → P a → Atoms P p → Atoms P (put a e p)
-    put-atoms a e p h i = go (isZero e) refl
-      where
-        go : (b : Bool) → isZero e ≡ b → Atoms P (put a e p)
-        go true z = rw (z, put) i
-        go false z = rw (z, put) (h & i)
+  one-numbered : (a : Atom N) (e : Exp) (p : Product N) (m : Product N → Got (Product N)) → ((q : Product N) → Yields (m q) (λ r. Unit {0})) → (q : Product N) → Yields (mergeOne ν l a e p m q) (λ r. Unit {0})
+  unfolding mergeOne
+  one-numbered a e p m f [] = yields tt
+  one-numbered a e p m f (b ↑ d ∷ q) = go (orderAtom ν a b) refl (one-numbered a e p m f q)
+    where
+      go : (o : Ordering) → orderAtom ν a b ≡ o → Yields (mergeOne ν l a e p m q) (λ r. Unit {0}) → Yields (mergeOne ν l a e p m (b ↑ d ∷ q)) (λ r. Unit {0})
+      go Ordering·lt j r = rw (j, mergeOne) (next (f (b ↑ d ∷ q)) (λ s u. yields tt))
+      go Ordering·eq j r = rw (j, mergeOne) (next (sum-yields l e d) (λ s u. next (f q) (λ t v. yields tt)))
+      go Ordering·gt j r = rw (j, mergeOne) (next r (λ s u. yields tt))
 
-    one-atoms : (a : Atom N) (e : Exp) (p : Product N) (m : Product N → Got (Product N)) → P a → Atoms P p → ((q : Product N) → Atoms P q → Yields (m q) (Atoms P)) → (q : Product N) → Atoms P q → Yields (mergeOne ν l a e p m q) (Atoms P)
-    unfolding mergeOne
-    one-atoms a e p m h i f [] k = yields (h & i)
-    one-atoms a e p m h i f (b ↑ d ∷ q) (g & k) = go (orderAtom ν a b) refl (one-atoms a e p m h i f q k)
-      where
-        go : (o : Ordering) → orderAtom ν a b ≡ o → Yields (mergeOne ν l a e p m q) (Atoms P) → Yields (mergeOne ν l a e p m (b ↑ d ∷ q)) (Atoms P)
-        go Ordering·lt j r = rw (j, mergeOne) (next (f (b ↑ d ∷ q) (g & k)) (λ s n. yields (h & n)))
-        go Ordering·eq j r = rw (j, mergeOne) (next (sum-yields l e d) (λ s u. next (f q k) (λ t n. yields (put-atoms a s t h n))))
-        go Ordering·gt j r = rw (j, mergeOne) (next r (λ s n. yields (g & n)))
+  merge-numbered : (p q : Product N) → Yields (merge ν l p q) (λ r. Unit {0})
+  unfolding merge
+  merge-numbered [] q = yields tt
+  merge-numbered (a ↑ e ∷ p) q = one-numbered a e p _ (merge-numbered p) q
 
-    merge-atoms : (p q : Product N) → Atoms P p → Atoms P q → Yields (merge ν l p q) (Atoms P)
-    unfolding merge
-    merge-atoms [] q none k = yields k
-    merge-atoms (a ↑ e ∷ p) q (h & i) k = one-atoms a e p _ h i (λ q j. merge-atoms p q i j) q k
+  merge-atoms : (P : Atom N → Type 0) (p q : Product N) → Atoms P p → Atoms P q → Yields (merge ν l p q) (λ r. Unit {0} × Atoms P r)
+  merge-atoms P p q h k = also (merge-numbered p q) (merge-each (λ f. P (atomOf f)) ν l (λ a b e d s i j x z. i) p q h k)
 
 -- ══ In order, and with names of one kind ══
 
@@ -144,7 +139,7 @@ module _ {N : Type 0} (ν : Names N) (law : Lawful (orderAtom ν)) (l : Limits) 
   unfolding multiply
   multiply-neat {P} {p} {q} m n =
       next (also (merge-atoms ν l P p q (m .atoms) (n .atoms)) (merge-sorted ν law l p q (m .sorted) (n .sorted))) (λ r g.
-      within-yields l (length r) 64 r (record { sorted = g .1 .0; atoms = g .0 }))
+      within-yields l (length r) 64 r (record { sorted = g .1 .0; atoms = g .0 .1 }))
 
   pub divide-neat : {P : Atom N → Type 0} {p q : Product N} → Neat ν P p → Neat ν P q → Yields (divide ν l p q) (Neat ν P)
   unfolding divide

@@ -11,33 +11,30 @@ use Rattle.rules.specs.Exponents.{Exp, Exp-dec, one}
 use Rattle.rules.specs.Trees.{Open, var, quant, par, Atom, free, base, _↑_, Product, Names, Ty, opened, basic, dim, fn, struct, list, Tys, nil, cons, Fields, noFields, field, _≔_, orderAtom}
 use Rattle.rules.specs.Products.{single}
 use Rattle.rules.specs.Replacing.{asProduct, replaceFactors, replaceProduct, replaceDim, replaceTy, replaceTys, replaceFields, find, bindings}
+use Rattle.laws.specs.Lists.{some≢none, every-append}
 use Rattle.laws.specs.Order.{Lawful}
 use Rattle.laws.specs.Sorted.{Before, Sorted}
-use Rattle.ending.specs.Members.{none, _&_, all-join}
 use Rattle.ending.specs.Yields.{Yields, yields, refuses, next}
 use Rattle.ending.specs.Products.{Atoms, Neat, multiply-neat, raise-neat, divide-away}
 use Rattle.ending.specs.Fine.{Named, Fine, FineTys, FineFields, just-neat, Apart, behind, apart-atoms}
 
-never : {A B : Type 0} {a : A} → nothing ≡ some a → B
-never e = let z : _≡_ {A = ℕ} 0 1 = cc in absurd (omega arith)
-
 -- the open name of a product that is one variable to the power 1 is its only atom
-single-atoms : {N : Type 0} {P Q : Open N → Type 0} (p : Product N) (o : Open N) → single p ≡ some o → (P o → Q o) → Atoms (Named P) p → Atoms (Named Q) p
+single-atoms : {N : Type 0} (P Q : Open N → Type 0) (p : Product N) (o : Open N) → single p ≡ some o → (P o → Q o) → Atoms (Named P) p → Atoms (Named Q) p
 unfolding single
-single-atoms [] o e h a = none
-single-atoms (a ↑ e ∷ f ∷ p) o e′ h a′ = never e′
-single-atoms {P} {Q} (free (var x) ↑ e ∷ []) o e′ h (i & none) = go (isYes (Exp-dec e one)) e′ & none
+single-atoms P Q [] o e h a = tt
+single-atoms P Q (a ↑ e ∷ f ∷ p) o e′ h a′ = absurd (some≢none (sym e′))
+single-atoms P Q (free (var x) ↑ e ∷ []) o e′ h a = (go (isYes (Exp-dec e one)) e′, tt)
   where
     go : (b : Bool) → onlyIf b (var x) ≡ some o → Q (var x)
-    go true q = let z : var x ≡ o = cc in subst Q (sym z) (h (subst P z i))
-    go false q = never q
-single-atoms {P} {Q} (free (quant x) ↑ e ∷ []) o e′ h (i & none) = go (isYes (Exp-dec e one)) e′ & none
+    go true q = let z : var x ≡ o = cc in subst Q (sym z) (h (subst P z (a .0)))
+    go false q = absurd (some≢none (sym q))
+single-atoms P Q (free (quant x) ↑ e ∷ []) o e′ h a = (go (isYes (Exp-dec e one)) e′, tt)
   where
     go : (b : Bool) → onlyIf b (quant x) ≡ some o → Q (quant x)
-    go true q = let z : quant x ≡ o = cc in subst Q (sym z) (h (subst P z i))
-    go false q = never q
-single-atoms (free (par x) ↑ e ∷ []) o e′ h a = never e′
-single-atoms (base n ↑ e ∷ []) o e′ h a = never e′
+    go true q = let z : quant x ≡ o = cc in subst Q (sym z) (h (subst P z (a .0)))
+    go false q = absurd (some≢none (sym q))
+single-atoms P Q (free (par x) ↑ e ∷ []) o e′ h a = absurd (some≢none (sym e′))
+single-atoms P Q (base n ↑ e ∷ []) o e′ h a = absurd (some≢none (sym e′))
 
 -- x is replaced by t: names of which P held are names of which Q holds, all but x
 module _ {N : Type 0} (ν : Names N) (law : Lawful (orderAtom ν)) (l : Limits) (P Q : Open N → Type 0) (x : N) (t : Ty N) (other : (o : Open N) → P o → (var x ≡ o → ⊥) → Q o) (fine : Fine ν Q t) where
@@ -60,12 +57,12 @@ module _ {N : Type 0} (ν : Names N) (law : Lawful (orderAtom ν)) (l : Limits) 
 
   idle : (p acc : Product N) → Atoms (Apart x) p → replaceFactors ν l look p acc ≡ got acc
   unfolding replaceFactors
-  idle [] acc none = refl
-  idle (base n ↑ e ∷ p) acc (j & b) = idle p acc b
-  idle (free o ↑ e ∷ p) acc (j & b) = go (looked o) (idle p acc b)
+  idle [] acc b = refl
+  idle (base n ↑ e ∷ p) acc b = idle p acc (b .1)
+  idle (free o ↑ e ∷ p) acc b = go (looked o) (idle p acc (b .1))
     where
       go : Looked o → replaceFactors ν l look p acc ≡ got acc → replaceFactors ν l look (free o ↑ e ∷ p) acc ≡ got acc
-      go (hit q z) r = absurd (j (ap free z))
+      go (hit q z) r = absurd (b .0 (ap free z))
       go (miss q f) r = rw (q, replaceFactors) r
 
   product-neat : Yields (asProduct t) (Neat ν (Named Q))
@@ -97,27 +94,27 @@ module _ {N : Type 0} (ν : Names N) (law : Lawful (orderAtom ν)) (l : Limits) 
   -- `pre` has been looked through, `p` is still to come
   factors-neat : (pre p : Product N) → Sorted ν (pre ++ p) → Atoms (Named Q) pre → Atoms (Named P) p → Yields (replaceFactors ν l look p (pre ++ p)) (Neat ν (Named Q))
   unfolding replaceFactors
-  factors-neat pre [] h a b = yields (record { sorted = h; atoms = all-join a none })
-  factors-neat pre (base n ↑ e ∷ p) h a (i & b) =
-      rw append-assoc at (factors-neat (pre ++ (base n ↑ e ∷ [])) p (rw append-assoc h) (all-join a (tt & none)) b)
-  factors-neat pre (free o ↑ e ∷ p) h a (i & b) =
-      go (looked o) (λ j. rw append-assoc at (factors-neat (pre ++ (free o ↑ e ∷ [])) p (rw append-assoc h) (all-join a (j & none)) b))
+  factors-neat pre [] h a b = yields (record { sorted = h; atoms = every-append _ pre [] a tt })
+  factors-neat pre (base n ↑ e ∷ p) h a b =
+      rw append-assoc at (factors-neat (pre ++ (base n ↑ e ∷ [])) p (rw append-assoc h) (every-append _ pre (base n ↑ e ∷ []) a (tt, tt)) (b .1))
+  factors-neat pre (free o ↑ e ∷ p) h a b =
+      go (looked o) (λ j. rw append-assoc at (factors-neat (pre ++ (free o ↑ e ∷ [])) p (rw append-assoc h) (every-append _ pre (free o ↑ e ∷ []) a (j, tt)) (b .1)))
     where
       go : Looked o → (Q o → Yields (replaceFactors ν l look p (pre ++ (free o ↑ e ∷ p))) (Neat ν (Named Q))) → Yields (replaceFactors ν l look (free o ↑ e ∷ p) (pre ++ (free o ↑ e ∷ p))) (Neat ν (Named Q))
-      go (miss q f) r = rw (q, replaceFactors) (r (other o i f))
+      go (miss q f) r = rw (q, replaceFactors) (r (other o (b .0) f))
       go (hit q z) r =
           let w : Atoms (Apart x) p = behind ν law x p (rw (ap free z) (sorted-end pre p (free o) e h)) in
           rw (q, replaceFactors)
           (next product-neat (λ d m.
           next (divide-away ν law l pre p (free o) e h) (λ left k.
           next (raise-neat ν law l e m) (λ more n.
-          next (multiply-neat ν law l {p = left} (rw k (record { sorted = sorted-less pre p (free o) e h; atoms = all-join a (apart-atoms x other p b w) })) n) (λ acc s.
+          next (multiply-neat ν law l {p = left} (rw k (record { sorted = sorted-less pre p (free o) e h; atoms = every-append _ pre p a (apart-atoms x other p (b .1) w) })) n) (λ acc s.
           rw (idle p acc w) (yields s))))))
 
   -- an equal-scalar's product is replaced as a product
   pub product-replaced : (p : Product N) → Neat ν (Named P) p → Yields (replaceProduct ν l look p) (Neat ν (Named Q))
   unfolding replaceProduct
-  product-replaced p n = factors-neat [] p (n .sorted) none (n .atoms)
+  product-replaced p n = factors-neat [] p (n .sorted) tt (n .atoms)
 
   dim-replaced : (p : Product N) (s : Option (Open N)) → single p ≡ s → Neat ν (Named P) p → Yields (replaceDim ν l look s p) (Fine ν Q)
   unfolding replaceDim Fine
@@ -126,7 +123,7 @@ module _ {N : Type 0} (ν : Names N) (law : Lawful (orderAtom ν)) (l : Limits) 
     where
       go : Looked o → Yields (replaceDim ν l look (some o) p) (Fine ν Q)
       go (hit q z) = rw q (yields fine)
-      go (miss q f) = rw q (yields (record { sorted = n .sorted; atoms = single-atoms {P = P} p o e (λ h. other o h f) (n .atoms) }))
+      go (miss q f) = rw q (yields (record { sorted = n .sorted; atoms = single-atoms P Q p o e (λ h. other o h f) (n .atoms) }))
 
   mutual
     unfolding replaceTy Fine

@@ -11,7 +11,7 @@ use Rattle.rules.specs.Trees.{Names, Con, Binding, orderAtom}
 use Rattle.rules.specs.Rounds.{Step, bind, split, done, stuck, State, firstStep, perform, performed, round}
 use Rattle.rules.specs.Solving.{Answer, accepted, remaining, stopped, finished, finish, after, run}
 use Rattle.laws.specs.Order.{Lawful}
-use Rattle.ending.specs.Members.{without}
+use Rattle.ending.specs.Without.{without}
 use Rattle.ending.specs.Yields.{Yields}
 use Rattle.ending.specs.Weights.{weighAll}
 use Rattle.ending.specs.Steps.{Maybe, present}
@@ -71,13 +71,13 @@ module _ {N : Type 0} (ν : Names N) (law : Lawful (orderAtom ν)) where
 
       after-step : (v : Step N × List (Con N)) → firstStep ν bounded (s .cons) ≡ got (some v) → Yields (perform ν bounded (s .binds) (v .0) (v .1)) (Went ν xs (weighAll (s .cons)) (s .binds) (v .0)) → (m : Got (State N)) → perform ν bounded (s .binds) (v .0) (v .1) ≡ m → Rounded xs s
       after-step v e y (refused n) q = refuses n (y .numbered n q) (rw (e, q))
-      after-step v e y (got s′) q = goes v s′ e (rw (e, q)) (y .holds s′ q)
+      after-step v e y (got s′) q = goes v s′ e (rw (e, q)) (y .value .holds s′ q)
 
       go : (m : Got (Option (Step N × List (Con N)))) → firstStep ν bounded (s .cons) ≡ m → Rounded xs s
       go (refused n) e = refuses n (first .numbered n e) (rw e)
       go (got nothing) e = ends (rw e)
       go (got (some v)) e =
-          after-step v e (perform-ok ν law xs (weighAll (s .cons)) (s .binds) (v .0) (v .1) (h .bound) (chosen (first .holds (some v) e))) (perform ν bounded (s .binds) (v .0) (v .1)) refl
+          after-step v e (perform-ok ν law xs (weighAll (s .cons)) (s .binds) (v .0) (v .1) (h .bound) (chosen (first .value .holds (some v) e))) (perform ν bounded (s .binds) (v .0) (v .1)) refl
 
   -- after a completed round: fewer variables by as many as it bound, and a lower measure
   record Falls (xs : List N) (s : State N) (b : ℕ) (s′ : State N) : Type 0 where

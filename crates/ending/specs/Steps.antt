@@ -2,20 +2,21 @@
 -- Assumes nothing.
 use mathlib.Core.Path.{_≡_, refl, ap}
 use mathlib.Core.Bool.{Bool, true, false, not, _&&_}
-use mathlib.Core.List.{List, [], _∷_, map}
+use mathlib.Core.List.{List, [], _∷_, map, List·Memᴰ}
 use mathlib.Core.Option.{Option, none as nothing, some, Option·getD}
 use Prim.Native.Nat.{ℕ, suc, _+_, _≤_, _<_}
 use native.Mathlib.Omega.{arith}
 use lib.Dec.{eqb}
 use Rattle.rules.specs.Base.{Got, Limits, isYes, _orElse_, onlyIf, andThen, collect}
 use Rattle.rules.specs.Exponents.{Exp, Exp-dec, one}
-use Rattle.rules.specs.Trees.{Open, var, quant, par, free, base, _↑_, Product, Names, Ty, opened, basic, dim, fn, struct, list, Tys, nil, cons, Fields, noFields, field, Con, equal, isDim, isScalar, hasField, count, orderAtom, ty-dec, opens, openOfFactor}
+use Rattle.rules.specs.Trees.{Open, var, quant, par, free, base, _↑_, Product, Names, Ty, opened, basic, dim, fn, struct, list, Tys, nil, cons, Fields, noFields, field, Con, equal, isDim, isScalar, hasField, count, orderAtom, ty-dec, openOfFactor}
 use Rattle.rules.specs.Views.{productOf, fnOf, structOf, listOf, variable, asVar, asPower}
-use Rattle.rules.specs.Products.{just, single}
+use Rattle.rules.specs.Products.{single}
 use Rattle.rules.specs.Contents.{closed, contains, fieldIn, namesIn}
 use Rattle.rules.specs.Rounds.{Step, bind, split, done, stuck, pairs, asProducts, variableLeft, functions, lists, bindTo, firstRules, structs, dimensions, byKind, orTry, dimensionParts, fieldStep, trySatisfy}
+use Rattle.laws.specs.Lists.{Every}
 use Rattle.laws.specs.Order.{Lawful}
-use Rattle.ending.specs.Members.{All, none, _&_, Member, without, stays}
+use Rattle.ending.specs.Without.{without, stays}
 use Rattle.ending.specs.Yields.{Yields, yields, next}
 use Rattle.ending.specs.Products.{Atoms, Neat, Thinned, thin-neat, others-thin, divide-neat}
 use Rattle.ending.specs.Fine.{Named, Fine, FineTys, FineFields, Any, change, apart, just-neat, behind, apart-atoms}
@@ -23,7 +24,7 @@ use Rattle.ending.specs.Weights.{weigh, weighTys, weighFields, weighDim,
 
 -- an open name that is no variable, or a variable of the list
 abbrev pub In : {N : Type 0} → List N → Open N → Type 0
-In xs (var x) = Member x xs
+In xs (var x) = List·Memᴰ x xs
 In xs (quant i) = Unit {0}
 In xs (par x) = Unit {0}
 
@@ -37,8 +38,8 @@ module _ {N : Type 0} (ν : Names N) where
 
   -- a step from a constraint of the weight w
   abbrev pub Stepped : List N → ℕ → Step N → Type 0
-  Stepped xs w (bind x t) = Member x xs × Fine ν (In (without ν x xs)) t
-  Stepped xs w (split new) = All (Ok xs) new × (weighAll new < w)
+  Stepped xs w (bind x t) = List·Memᴰ x xs × Fine ν (In (without ν x xs)) t
+  Stepped xs w (split new) = Every (Ok xs) new × (weighAll new < w)
   Stepped xs w done = 0 < w
   Stepped xs w stuck = Unit {0}
 
@@ -57,14 +58,14 @@ only false a h = absent
 
 -- a variable of the list that isn't x
 pub left : {N : Type 0} (ν : Names N) (x : N) (xs : List N) (o : Open N) → In xs o → (var x ≡ o → ⊥) → In (without ν x xs) o
-left ν x xs (var y) m f = stays ν m (λ e. f (ap var e))
+left ν x xs (var y) m f = stays ν xs m (λ e. f (ap var e))
 left ν x xs (quant i) m f = tt
 left ν x xs (par y) m f = tt
 
 module _ {N : Type 0} (ν : Names N) (xs : List N) where
   -- ══ The parts of a type ══
 
-  var-in : (t : Ty N) → Fine ν (In xs) t → Maybe (λ x. Member x xs × (weigh t ≡ 2)) (asVar t)
+  var-in : (t : Ty N) → Fine ν (In xs) t → Maybe (λ x. List·Memᴰ x xs × (weigh t ≡ 2)) (asVar t)
   unfolding Fine weigh
   var-in (opened (var x)) h = present (h, refl)
   var-in (opened (quant i)) h = absent
@@ -129,24 +130,24 @@ module _ {N : Type 0} (ν : Names N) (xs : List N) where
       go false q r = rw (q, fieldIn) (heavier (omega arith) r)
 
   -- the variable of a dimension that is one variable to the power 1
-  single-in : (p : Product N) → Neat ν (Named (In xs)) p → Maybe (λ x. Member x xs) (andThen (single p) variable)
+  single-in : (p : Product N) → Neat ν (Named (In xs)) p → Maybe (λ x. List·Memᴰ x xs) (andThen (single p) variable)
   unfolding single
   single-in [] h = absent
   single-in (a ↑ e ∷ f ∷ p) h = absent
   single-in (free (var x) ↑ e ∷ []) h = go (isYes (Exp-dec e one)) (h .atoms)
     where
-      go : (b : Bool) → Atoms (Named (In xs)) (free (var x) ↑ e ∷ []) → Maybe (λ x. Member x xs) (andThen (onlyIf b (var x)) variable)
-      go true (m & a) = present m
+      go : (b : Bool) → Atoms (Named (In xs)) (free (var x) ↑ e ∷ []) → Maybe (λ x. List·Memᴰ x xs) (andThen (onlyIf b (var x)) variable)
+      go true a = present (a .0)
       go false a = absent
   single-in (free (quant i) ↑ e ∷ []) h = go (isYes (Exp-dec e one))
     where
-      go : (b : Bool) → Maybe (λ x. Member x xs) (andThen (onlyIf {A = Open N} b (quant i)) variable)
+      go : (b : Bool) → Maybe (λ x. List·Memᴰ x xs) (andThen (onlyIf {A = Open N} b (quant i)) variable)
       go true = absent
       go false = absent
   single-in (free (par x) ↑ e ∷ []) h = absent
   single-in (base n ↑ e ∷ []) h = absent
 
-  power-in : (t : Ty N) → Fine ν (In xs) t → Maybe (λ x. Member x xs) (asPower t)
+  power-in : (t : Ty N) → Fine ν (In xs) t → Maybe (λ x. List·Memᴰ x xs) (asPower t)
   unfolding Fine
   power-in (opened o) h = absent
   power-in (basic b) h = absent
@@ -157,14 +158,14 @@ module _ {N : Type 0} (ν : Names N) (xs : List N) where
 
   -- ══ Equal ══
 
-  bind-to : (w : ℕ) {x : Option N} {Q : N → Type 0} (t : Ty N) → Maybe Q x → ((x : N) → Q x → Member x xs) → Fine ν (In xs) t → Maybe (Stepped ν xs w) (bindTo ν x t)
+  bind-to : (w : ℕ) {x : Option N} {Q : N → Type 0} (t : Ty N) → Maybe Q x → ((x : N) → Q x → List·Memᴰ x xs) → Fine ν (In xs) t → Maybe (Stepped ν xs w) (bindTo ν x t)
   unfolding bindTo contains
   bind-to w t absent q h = absent
   bind-to w t (present {a = y} m) q h = go (contains ν y t) refl
     where
       go : (b : Bool) → contains ν y t ≡ b → Maybe (Stepped ν xs w) (onlyIf (not b) (bind y t))
       go true e = absent
-      go false e = present {a = bind y t} (q y m, change ν (left ν y xs) t h (apart ν y (opens t) e))
+      go false e = present {a = bind y t} (q y m, change ν (left ν y xs) t h (apart ν y t e))
 
   first-rules : (s t : Ty N) → Fine ν (In xs) s → Fine ν (In xs) t → Maybe (Stepped ν xs (weigh s + weigh t)) (firstRules ν s t)
   unfolding firstRules
@@ -176,21 +177,17 @@ module _ {N : Type 0} (ν : Names N) (xs : List N) where
       (first (bind-to w t (power-in s h) (λ x m. m) k)
       (bind-to w s (power-in t k) (λ x m. m) h))))
 
-  an-equal : {s t : Ty N} {cs : List (Con N)} → Fine ν (In xs) s → Fine ν (In xs) t → All (Ok ν xs) cs → All (Ok ν xs) (equal s t ∷ cs)
-  unfolding Ok
-  an-equal {s} {t} h k a = _&_ {x = equal s t} (h, k) a
-
-  pairs-ok : (ts us : Tys N) → FineTys ν (In xs) ts → FineTys ν (In xs) us → All (Ok ν xs) (pairs ts us)
+  pairs-ok : (ts us : Tys N) → FineTys ν (In xs) ts → FineTys ν (In xs) us → Every (Ok ν xs) (pairs ts us)
   unfolding pairs Fine Ok
-  pairs-ok nil us h k = none
-  pairs-ok (cons t ts) nil h k = none
-  pairs-ok (cons t ts) (cons u us) h k = an-equal {s = t} {t = u} (h .0) (k .0) (pairs-ok ts us (h .1) (k .1))
+  pairs-ok nil us h k = tt
+  pairs-ok (cons t ts) nil h k = tt
+  pairs-ok (cons t ts) (cons u us) h k = ((h .0, k .0), pairs-ok ts us (h .1) (k .1))
 
   -- 7: the variable weighs 2, as a product 1
-  as-products : {x : Option N} {Q : N → Type 0} (w : ℕ) (d : Product N) → Maybe Q x → ((x : N) → Q x → Member x xs × (2 < w)) → Neat ν (Named (In xs)) d → Stepped ν xs w (asProducts x d)
+  as-products : {x : Option N} {Q : N → Type 0} (w : ℕ) (d : Product N) → Maybe Q x → ((x : N) → Q x → List·Memᴰ x xs × (2 < w)) → Neat ν (Named (In xs)) d → Stepped ν xs w (asProducts x d)
   unfolding asProducts Ok Fine weighCon weigh
   as-products w d absent q h = tt
-  as-products w d (present {a = x} m) q h = let k = q x m in (an-equal {s = dim (just (var x))} {t = dim d} (just-neat (var x) (k .0)) h none, omega (arith, k .1))
+  as-products w d (present {a = x} m) q h = let k = q x m in (((just-neat (var x) (k .0), h), tt), omega (arith, k .1))
 
   functions-ok : {w : ℕ} (ps : Tys N) (r : Ty N) (f : Option (Tys N × Ty N)) → FineTys ν (In xs) ps → Fine ν (In xs) r → Maybe (λ f. FineTys ν (In xs) (f .0) × Fine ν (In xs) (f .1) × (w ≡ suc (weighTys (f .0) + weigh (f .1)))) f → Stepped ν xs (suc (weighTys ps + weigh r) + w) (functions ps r f)
   unfolding functions Ok weighCon
@@ -198,7 +195,7 @@ module _ {N : Type 0} (ν : Names N) (xs : List N) where
   functions-ok {w} ps r (some f) h k (present m) = go (eqb (count ps) (count (f .0)))
     where
       go : (b : Bool) → Stepped ν xs (suc (weighTys ps + weigh r) + w) (elim b [ true ↦ split (equal r (f .1) ∷ pairs ps (f .0)) | false ↦ stuck ])
-      go true = (an-equal {s = r} {t = f .1} k (m .1) (pairs-ok ps (f .0) h (m .0)), omega (arith, weigh-pairs ps (f .0), m .2))
+      go true = (((k, m .1), pairs-ok ps (f .0) h (m .0)), omega (arith, weigh-pairs ps (f .0), m .2))
       go false = tt
 
   structs-ok : {w v : ℕ} (n : N) (as′ : Tys N) (s : Option (N × Tys N × Fields N)) → FineTys ν (In xs) as′ → Maybe (λ s. FineTys ν (In xs) (s .1) × FineFields ν (In xs) (s .2) × (w ≡ suc (weighTys (s .1) + weighFields (s .2)))) s → weighTys as′ < v → Stepped ν xs (v + w) (structs ν n as′ s)
@@ -213,20 +210,20 @@ module _ {N : Type 0} (ν : Names N) (xs : List N) where
   lists-ok : {w : ℕ} (t : Ty N) (u : Option (Ty N)) → Fine ν (In xs) t → Maybe (λ u. Fine ν (In xs) u × (w ≡ suc (weigh u))) u → Stepped ν xs (suc (weigh t) + w) (lists t u)
   unfolding lists Ok weighCon
   lists-ok t nothing h m = tt
-  lists-ok t (some u) h (present m) = (an-equal {s = t} {t = u} h (m .0) none, omega (arith, m .1))
+  lists-ok t (some u) h (present m) = (((h, m .0), tt), omega (arith, m .1))
 
   variable-left : {w : ℕ} (o : Open N) (d : Option (Product N)) → In xs o → Maybe (λ p. Neat ν (Named (In xs)) p × (w ≡ 1)) d → Stepped ν xs (2 + w) (variableLeft (variable o) d)
   unfolding variableLeft asProducts
   variable-left o nothing h m = tt
-  variable-left {w} (var x) (some d) h (present m) = as-products {Q = λ x. Member x xs} (2 + w) d (present h) (λ x k. (k, omega (arith, m .1))) (m .0)
+  variable-left {w} (var x) (some d) h (present m) = as-products {Q = λ x. List·Memᴰ x xs} (2 + w) d (present h) (λ x k. (k, omega (arith, m .1))) (m .0)
   variable-left (quant i) (some d) h m = tt
   variable-left (par x) (some d) h m = tt
 
   -- is-dimension of a variable weighs nothing
-  parts-ok : (names : List N) → All (Ok ν xs) (map (λ x. isDim (opened (var x))) names) × (weighAll (map (λ x. isDim (opened (var x))) names) ≡ 0)
+  parts-ok : (names : List N) → Every (Ok ν xs) (map (λ x. isDim (opened (var x))) names) × (weighAll (map (λ x. isDim (opened (var x))) names) ≡ 0)
   unfolding Ok Fine weighCon
-  parts-ok [] = (none, refl)
-  parts-ok (x ∷ names) = let r = parts-ok names in (_&_ {x = isDim (opened (var x))} tt (r .0), omega (arith, r .1))
+  parts-ok [] = (tt, refl)
+  parts-ok (x ∷ names) = let r = parts-ok names in ((tt, r .0), omega (arith, r .1))
 
   dimension-ok : (p : Option (Product N)) → Stepped ν xs (weighDim p) (dimensionParts p)
   unfolding dimensionParts
@@ -234,12 +231,12 @@ module _ {N : Type 0} (ν : Names N) (xs : List N) where
   dimension-ok (some p) = let r = parts-ok (namesIn (collect openOfFactor p)) in (r .0, omega (arith, r .1))
 
   field-ok : (n : N) (s t : Ty N) → Fine ν (In xs) s → Fine ν (In xs) t → Maybe (Stepped ν xs (weigh s + weigh t)) (fieldStep ν n s t)
-  unfolding fieldStep weighCon
+  unfolding fieldStep Ok weighCon
   field-ok n s t h k = go (closed s)
     where
       found : (u : Option (Ty N)) (w : ℕ) → weigh s ≡ suc w → Maybe (NoHeavier w) u → Maybe (Stepped ν xs (weigh s + weigh t)) (andThen u (λ u. some (split (equal u t ∷ []))))
       found nothing w e m = absent
-      found (some u) w e (present m) = present {a = split (equal u t ∷ [])} (an-equal {s = u} {t = t} (m .0) k none, omega (arith, m .1))
+      found (some u) w e (present m) = present {a = split (equal u t ∷ [])} (((m .0, k), tt), omega (arith, m .1))
 
       inside : (v : Option (N × Tys N × Fields N)) → Maybe (λ v. FineTys ν (In xs) (v .1) × FineFields ν (In xs) (v .2) × (weigh s ≡ suc (weighTys (v .1) + weighFields (v .2)))) v → Maybe (Stepped ν xs (weigh s + weigh t)) (andThen v (λ v. andThen (fieldIn ν n (v .2)) (λ u. some (split (equal u t ∷ [])))))
       inside nothing m = absent
@@ -250,9 +247,9 @@ module _ {N : Type 0} (ν : Names N) (xs : List N) where
       go true = inside (structOf s) (struct-in s h)
 
 module _ {N : Type 0} (ν : Names N) (law : Lawful (orderAtom ν)) (l : Limits) (xs : List N) where
-  dimensions-ok : {w : ℕ} (d : Product N) (e : Option (Product N)) (x : Option N) → Neat ν (Named (In xs)) d → Maybe (λ p. Neat ν (Named (In xs)) p × (w ≡ 1)) e → Maybe (λ x. Member x xs × (w ≡ 2)) x → Yields (dimensions ν l d e x) (Stepped ν xs (1 + w))
+  dimensions-ok : {w : ℕ} (d : Product N) (e : Option (Product N)) (x : Option N) → Neat ν (Named (In xs)) d → Maybe (λ p. Neat ν (Named (In xs)) p × (w ≡ 1)) e → Maybe (λ x. List·Memᴰ x xs × (w ≡ 2)) x → Yields (dimensions ν l d e x) (Stepped ν xs (1 + w))
   unfolding dimensions Ok weighCon
-  dimensions-ok d (some e) x h (present m) k = next (divide-neat ν law l h (m .0)) (λ q n. yields (_&_ {x = isScalar q} n none, omega (arith, m .1)))
+  dimensions-ok d (some e) x h (present m) k = next (divide-neat ν law l h (m .0)) (λ q n. yields ((n, tt), omega (arith, m .1)))
   dimensions-ok {w} d nothing x h m k = yields (as-products ν xs (1 + w) d k (λ y i. (i .0, omega (arith, i .1))) h)
 
   kind-ok : (s t : Ty N) → Fine ν (In xs) s → Fine ν (In xs) t → Yields (byKind ν l s t) (Stepped ν xs (weigh s + weigh t))
@@ -277,8 +274,8 @@ module _ {N : Type 0} (ν : Names N) (law : Lawful (orderAtom ν)) (l : Limits) 
   unfolding Fine
   scalar-ok x k p q h t = go (h .atoms)
     where
-      go : Atoms (Named (In xs)) (free (var x) ↑ k ∷ p) → Member x xs × Neat ν (Named (In (without ν x xs))) q
-      go (m & a) = (m, thin-neat t (record { sorted = h .sorted .1; atoms = apart-atoms x (left ν x xs) p a (behind ν law x p (h .sorted .0)) }))
+      go : Atoms (Named (In xs)) (free (var x) ↑ k ∷ p) → List·Memᴰ x xs × Neat ν (Named (In (without ν x xs))) q
+      go a = (a .0, thin-neat t (record { sorted = h .sorted .1; atoms = apart-atoms x (left ν x xs) p (a .1) (behind ν law x p (h .sorted .0)) }))
 
   pub try-ok : (c : Con N) → Ok ν xs c → Yields (trySatisfy ν l c) (Stepped ν xs (weighCon c))
   unfolding trySatisfy Ok weighCon

@@ -1,7 +1,7 @@
 -- The numbers of a well formed table: a lawful order that tells them apart, and at most 256 of them.
 -- Assumes nothing.
 use mathlib.Core.Path.{_≡_, refl, ap}
-use mathlib.Core.List.{List, [], _∷_}
+use mathlib.Core.List.{List, [], _∷_, List·Memᴰ, List·Memᴰ·head, List·Memᴰ·tail}
 use Prim.Native.Nat.{ℕ, zero, suc, _<_}
 use native.Mathlib.Decide.{ℕ-discrete}
 use native.Mathlib.Omega.{arith}
@@ -10,7 +10,6 @@ use lib.ListN.{length, getD}
 use Rattle.rules.specs.Names.{tableOf, namesOf, numbersOf, isHeld}
 use Rattle.laws.specs.ByteOrder.{numbered-lawful, atom-lawful}
 use Rattle.laws.specs.NameTable.{Good, good-laid, held-tells}
-use Rattle.ending.specs.Members.{Member, here, there}
 use Rattle.ending.specs.Sets.{Known}
 
 -- the numbers below n
@@ -23,14 +22,14 @@ unfolding below
 below-length zero = refl
 below-length (suc n) = ap suc (below-length n)
 
-below-every : (n i : ℕ) → i < n → Member i (below n)
+below-every : (n i : ℕ) → i < n → List·Memᴰ i (below n)
 unfolding below
 below-every zero i h = absurd (omega arith)
 below-every (suc n) i h = go (ℕ-discrete i n) (below-every n i)
   where
-    go : Dec (i ≡ n) → (i < n → Member i (below n)) → Member i (n ∷ below n)
-    go (yes e) r = rw e here
-    go (no f) r = there (r (omega arith))
+    go : Dec (i ≡ n) → (i < n → List·Memᴰ i (below n)) → List·Memᴰ i (n ∷ below n)
+    go (yes e) r = List·Memᴰ·head e
+    go (no f) r = List·Memᴰ·tail (r (omega arith))
 
 -- what a well formed table holds
 pub table-known : {pool table : List ℕ} → Good pool table → Known (numbersOf (tableOf pool table)) (isHeld (tableOf pool table))

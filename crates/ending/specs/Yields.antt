@@ -1,6 +1,6 @@
--- What a step yields: where it gives a value, the value is as stated; where it refuses, the number is a refusal of document 01 and never 0.
+-- What a step yields: where it gives a value, the value is as stated; where it refuses, the number is never 0, which is no refusal of document 01.
 -- Assumes nothing.
-use mathlib.Core.Path.{_≡_, refl, ap, subst}
+use mathlib.Core.Path.{_≡_, refl, ap}
 use mathlib.Core.Bool.{Bool, true, false}
 use mathlib.Core.List.{List, [], _∷_}
 use Prim.Native.Nat.{ℕ, suc, _≤_, _<_}
@@ -8,42 +8,33 @@ use native.Mathlib.Omega.{arith}
 use lib.Dec.{T, leb, leb→le}
 use lib.ListN.{length}
 use Rattle.rules.specs.Base.{Got, got, refused, _>>=_, Limits, bounded, exact, within, allow, each}
-use Rattle.laws.specs.Value.{Gives}
-use Rattle.ending.specs.Members.{All, none, _&_}
+use Rattle.laws.specs.Value.{Gives, gives, together}
+use Rattle.laws.specs.Value as value
+use Rattle.laws.specs.Lists.{Every}
 
 pub record Yields {A : Type 0} (m : Got A) (P : A → Type 0) : Type 0 where
-  pub holds : (a : A) → m ≡ got a → P a
+  pub value : Gives m P
   pub numbered : (n : ℕ) → m ≡ refused n → 0 < n
 
 pub yields : {A : Type 0} {P : A → Type 0} {a : A} → P a → Yields (got a) P
-yields {A} {P} {a} p = record {
-  holds = λ b e. let q : a ≡ b = cc in subst P q p;
-  numbered = λ n e. let z : _≡_ {A = ℕ} 0 1 = cc in absurd (omega arith);
-}
+yields p = record { value = gives p; numbered = λ n e. let z : _≡_ {A = ℕ} 0 1 = cc in absurd (omega arith) }
 
 pub refuses : {A : Type 0} {P : A → Type 0} {n : ℕ} → 0 < n → Yields (refused n) P
-refuses {n} h = record {
-  holds = λ b e. let z : _≡_ {A = ℕ} 0 1 = cc in absurd (omega arith);
-  numbered = λ k e. let q : n ≡ k = cc in omega arith;
-}
+refuses {n} h = record { value = value.refuses; numbered = λ k e. let q : n ≡ k = cc in omega arith }
 
 pub next : {A B : Type 0} {m : Got A} {f : A → Got B} {P : A → Type 0} {Q : B → Type 0} → Yields m P → ((a : A) → P a → Yields (f a) Q) → Yields (m >>= f) Q
-next {m} {f} {P} {Q} h s = go m refl
+next {m} {f} {P} {Q} h s = record { value = value.next (h .value) (λ a p. s a p .value); numbered = λ n e. go m refl n e }
   where
-    go : (m′ : Got _) → m ≡ m′ → Yields (m′ >>= f) Q
-    go (refused k) e = refuses (h .numbered k e)
-    go (got a) e = s a (h .holds a e)
+    go : (m′ : Got _) → m ≡ m′ → (n : ℕ) → (m′ >>= f) ≡ refused n → 0 < n
+    go (refused k) i n e = let q : k ≡ n = cc in omega (arith, h .numbered k i)
+    go (got a) i n e = s a (h .value .holds a i) .numbered n e
 
 pub weaken : {A : Type 0} {m : Got A} {P Q : A → Type 0} → Yields m P → ((a : A) → P a → Q a) → Yields m Q
-weaken h s = record { holds = λ a e. s a (h .holds a e); numbered = h .numbered }
+weaken h s = record { value = value.weaken (h .value) s; numbered = h .numbered }
 
 -- what is known of the value by another law
 pub also : {A : Type 0} {m : Got A} {P Q : A → Type 0} → Yields m P → Gives m Q → Yields m (λ a. P a × Q a)
-also h g = record { holds = λ a e. (h .holds a e, g .holds a e); numbered = h .numbered }
-
--- and that it was this step's value
-pub traced : {A : Type 0} {m : Got A} {P : A → Type 0} → Yields m P → Yields m (λ a. P a × (m ≡ got a))
-traced h = record { holds = λ a e. (h .holds a e, e); numbered = h .numbered }
+also h g = record { value = together (h .value) g; numbered = h .numbered }
 
 pub allowed : {A : Type 0} {P : A → Type 0} (b : Bool) (k : ℕ) (a : A) → 0 < k → (T b → P a) → Yields (allow b k a) P
 allowed true k a h p = yields (p tt)
@@ -58,7 +49,7 @@ pub bounded-yields : {A : Type 0} {P : A → Type 0} (n m : ℕ) (a : A) → (n 
 bounded-yields n m a p = allowed (leb n m) 8 a (omega arith) (λ t. p (leb→le n m t))
 
 -- one for one
-pub each-yields : {A B : Type 0} {P : A → Type 0} {Q : B → Type 0} (f : A → Got B) → ((a : A) → P a → Yields (f a) Q) → (xs : List A) → All P xs → Yields (each f xs) (λ ys. All Q ys × (length ys ≡ length xs))
+pub each-yields : {A B : Type 0} {P : A → Type 0} {Q : B → Type 0} (f : A → Got B) → ((a : A) → P a → Yields (f a) Q) → (xs : List A) → Every P xs → Yields (each f xs) (λ ys. Every Q ys × (length ys ≡ length xs))
 unfolding each
-each-yields f h [] none = yields (none, refl)
-each-yields f h (x ∷ xs) (p & a) = next (h x p) (λ y i. next (each-yields f h xs a) (λ ys j. yields (i & j .0, ap suc (j .1))))
+each-yields f h [] p = yields (tt, refl)
+each-yields f h (x ∷ xs) p = next (h x (p .0)) (λ y i. next (each-yields f h xs (p .1)) (λ ys j. yields ((i, j .0), ap suc (j .1))))

@@ -14,6 +14,7 @@ use mir.Val.{Fits, SFits, toZ, ofZ}
 use mir.Facts.{toZ-ofZ, toZ-pos}
 use Rattle.rules.specs.Base.{got, refused, bounded, isYes}
 use Rattle.rules.specs.Exponents.{frac, Exp-dec, one, gcd, lowest, top, inRange, goodExp, isZero, ranged, inverted}
+use Rattle.laws.specs.Lists.{is-yes, is-no}
 use Rattle.laws.specs.Integers.{natAbs-neg, natAbs-mul, natAbs-plus}
 use Rattle.laws.specs.Fractions.{lowest-terms}
 use Rattle.laws.specs.Ranges.{Good}
@@ -137,20 +138,12 @@ inverted-zero (negsuc n) d h = absurd (omega (arith, eqb-true (suc n) 0 h))
 
 -- ══ The exponent one ══
 
-decided : {A : Type 0} (t : Dec A) → A → isYes t ≡ true
-decided (yes a) x = refl
-decided (no f) x = absurd (f x)
-
-refuted : {A : Type 0} (t : Dec A) → (A → ⊥) → isYes t ≡ false
-refuted (yes a) f = absurd (f a)
-refuted (no g) f = refl
-
 pub den-decides : (n : ℤ) (d : ℕ) → n ≡ pos 1 → eqb d 1 ≡ isYes (Exp-dec (frac n d) one)
 den-decides n d h = go (eqb d 1) refl
   where
     go : (t : Bool) → eqb d 1 ≡ t → t ≡ isYes (Exp-dec (frac n d) one)
-    go true e = sym (decided (Exp-dec (frac n d) one) (ap₂ frac h (eqb-true d 1 e)))
-    go false e = sym (refuted (Exp-dec (frac n d) one) (λ x. eqb-false d 1 e (cc)))
+    go true e = sym (is-yes (Exp-dec (frac n d) one) (ap₂ frac h (eqb-true d 1 e)))
+    go false e = sym (is-no (Exp-dec (frac n d) one) (λ x. eqb-false d 1 e (cc)))
 
 pub other-num : (n : ℤ) (d : ℕ) → (n ≡ pos 1 → ⊥) → false ≡ isYes (Exp-dec (frac n d) one)
-other-num n d f = sym (refuted (Exp-dec (frac n d) one) (λ x. f (cc)))
+other-num n d f = sym (is-no (Exp-dec (frac n d) one) (λ x. f (cc)))

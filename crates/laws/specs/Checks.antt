@@ -4,6 +4,7 @@ use mathlib.Core.Path.{_≡_, refl}
 use mathlib.Core.Bool.{Bool, true, false}
 use Prim.Native.Nat.{ℕ}
 use Rattle.rules.specs.Base.{Got, got, refused, _>>_, need}
+use Rattle.laws.specs.Lists.{clash}
 
 pub need-passed : (b : Bool) (n : ℕ) → need b n ≡ got tt → b ≡ true
 need-passed true n h = refl
@@ -17,3 +18,9 @@ module _ {A : Type 0} (b : Got A) (x : A) where
   pub next-passed : (a : Got (Unit {0})) → (a >> b) ≡ got x → b ≡ got x
   next-passed (got u) h = h
   next-passed (refused n) h = cc
+
+-- checks, and then a value of which only is asked that there is one
+pub passed : {A : Type 0} (a : Got (Unit {0})) (m : Got A) → (a >> m >> got (tt {0})) ≡ got tt → (x : A) × ((a ≡ got tt) × (m ≡ got x))
+passed (got u) (got x) e = (x, (refl, refl))
+passed (got u) (refused n) e = clash e
+passed (refused n) m e = clash e

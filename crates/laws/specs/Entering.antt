@@ -15,7 +15,8 @@ use lib.Seq.{take-nil, take-take, take-at, drop-at, take-append-seam, length-tak
 use Rattle.rules.specs.Base.{Got, got, refused, need, _>>_, any, isNone}
 use Rattle.rules.specs.Names.{Bytes, Table, isHeld, nameAsked, tableOf, cut, namesOf, used, lengthsGood, sameBytes, distinct, tableGood, tableGiven, lentTable, numberOf, hasRoom, unchanged, enterNew, enterKnown, enterChecks, enterChecked, enter}
 use Rattle.laws.specs.Checks.{need-passed, first-passed, next-passed}
-use Rattle.laws.specs.NameTable.{both-left, both-right, endsOf, startAt, lengths-step, same-yes, same-no, used-is, used-within, Laid, length-names, Good, good-laid, good-distinct, good-is, given-good, good-given, Asked, search-any, search-found, room-is, new-is}
+use Rattle.laws.specs.Lists.{and-left, and-right}
+use Rattle.laws.specs.NameTable.{endsOf, startAt, lengths-step, same-yes, same-no, used-is, used-within, Laid, length-names, Good, good-laid, good-distinct, good-is, given-good, good-given, Asked, search-any, search-found, room-is, new-is}
 
 -- ══ One end more ══
 
@@ -237,8 +238,8 @@ module _ (pool table : List ℕ) (name : Bytes) where
       let sized : test ≡ true = need-passed test 2 (next-passed (need test 2) tt (tableGiven pool table) h) in
       record {
         good = given-good (first-passed (need test 2) tt (tableGiven pool table) h);
-        long = leb-true 1 (length name) (both-left (leb 1 (length name)) _ sized);
-        short = leb-true (length name) 48 (both-right (leb 1 (length name)) _ sized);
+        long = leb-true 1 (length name) (and-left (leb 1 (length name)) _ sized);
+        short = leb-true (length name) 48 (and-right (leb 1 (length name)) _ sized);
       }
 
   pub pass-checks : Passed → enterChecks pool table name ≡ got tt
@@ -259,8 +260,8 @@ module _ (pool table : List ℕ) (name : Bytes) where
         good = p .good;
         long = p .long;
         short = p .short;
-        number = ltb-true (getD table 0 0) 256 (both-left (ltb (getD table 0 0) 256) _ r);
-        bytes = leb-true (startAt table (getD table 0 0) + length name) 8192 (both-right (ltb (getD table 0 0) 256) _ r);
+        number = ltb-true (getD table 0 0) 256 (and-left (ltb (getD table 0 0) 256) _ r);
+        bytes = leb-true (startAt table (getD table 0 0) + length name) 8192 (and-right (ltb (getD table 0 0) 256) _ r);
         new = a;
       }
 

@@ -12,11 +12,11 @@ use Rattle.rules.specs.Products.{put, inverse, divide, multiply, raise}
 use Rattle.rules.specs.Replacing.{Look, asProduct, replaceFactors, replaceProduct}
 use Rattle.rules.specs.Rounds.{otherSide}
 use Rattle.laws.specs.Order.{Lawful, Tells}
-use Rattle.laws.specs.Fractions.{Lowest, neg-lowest, one-lowest, mul-in-lowest, plus-in-lowest, inverted-lowest, mul-comm′, mul-assoc′, mul-one′, mul-inverted, zero-is-nought}
-use Rattle.laws.specs.Sorted.{Before, Each}
+use Rattle.laws.specs.Fractions.{Lowest, neg-lowest, one-lowest, mul-in-lowest, plus-in-lowest, inverted-lowest, mul-comm′, mul-assoc′, mul-one′, mul-inverted, zero-is-nought, neg-zero}
+use Rattle.laws.specs.Sorted.{Before}
 use Rattle.laws.specs.ExactProducts.{mergeE, mergeOneE, raiseE, merge-scalar, scalar-merge, multiply-exact, divide-exact, raise-exact}
-use Rattle.laws.specs.Powers.{Sound, Proper, neg-zero, merge-proper, raise-proper, inverse-proper, scalar-proper, merge-assoc, merge-comm, raise-merge, merge-inverse, raise-one, raise-nought, raise-plus, raise-mul, raise-neg, inverse-merge}
-use Rattle.laws.specs.Lists.{All, in-head, each-parts}
+use Rattle.laws.specs.Powers.{Sound, Proper, merge-proper, raise-proper, inverse-proper, scalar-proper, merge-assoc, merge-comm, raise-merge, merge-inverse, raise-one, raise-nought, raise-plus, raise-mul, raise-neg, inverse-merge}
+use Rattle.laws.specs.Lists.{All, in-head, each-parts, Every}
 
 module _ {N : Type 0} (ν : Names N) (v : Atom N → Product N) where
   -- a product with v's products put in for its atoms
@@ -101,7 +101,7 @@ module _ {N : Type 0} (ν : Names N) {Held : Atom N → Type 0} (law : Lawful (o
     power-proper : (a : Atom N) (e : Exp) → Sound Held (a ↑ e) → Proper ν Held (raiseE (v a) e)
     power-proper a e h = raise-proper ν law tells (v a) e (vp a (h .0)) (h .1)
 
-    pub valued-proper : (p : Product N) → Each (Sound Held) p → Proper ν Held (valued ν v p)
+    pub valued-proper : (p : Product N) → Every (Sound Held) p → Proper ν Held (valued ν v p)
     unfolding valued
     valued-proper [] h = scalar-proper ν law tells
     valued-proper (a ↑ e ∷ p) h = merge-proper ν law tells (raiseE (v a) e) (valued ν v p) (power-proper a e (h .0)) (valued-proper p (h .1))
@@ -116,9 +116,9 @@ module _ {N : Type 0} (ν : Names N) {Held : Atom N → Type 0} (law : Lawful (o
             (sym (ap (λ (x : Product N). mergeE ν x (valued ν v r)) (ap (raiseE (v a)) (zero-is-nought s k z) ∙ raise-nought ν law tells (v a) (vp a h)) ∙ scalar-merge ν (valued ν v r)))
         go false z = rw (z, put)
 
-    valued-one : (a : Atom N) (e : Exp) (p : Product N) (m : Product N → Product N) → Sound Held (a ↑ e) → Each (Sound Held) p
-        → ((q : Product N) → Each (Sound Held) q → valued ν v (m q) ≡ mergeE ν (valued ν v p) (valued ν v q))
-        → (q : Product N) → Each (Sound Held) q → valued ν v (mergeOneE ν a e p m q) ≡ mergeE ν (valued ν v (a ↑ e ∷ p)) (valued ν v q)
+    valued-one : (a : Atom N) (e : Exp) (p : Product N) (m : Product N → Product N) → Sound Held (a ↑ e) → Every (Sound Held) p
+        → ((q : Product N) → Every (Sound Held) q → valued ν v (m q) ≡ mergeE ν (valued ν v p) (valued ν v q))
+        → (q : Product N) → Every (Sound Held) q → valued ν v (mergeOneE ν a e p m q) ≡ mergeE ν (valued ν v (a ↑ e ∷ p)) (valued ν v q)
     unfolding valued mergeOneE
     valued-one a e p m h i f [] k = sym (merge-scalar ν (valued ν v (a ↑ e ∷ p)))
     valued-one a e p m h i f (b ↑ d ∷ q) k = go (orderAtom ν a b) refl (valued-one a e p m h i f q (k .1))
@@ -156,12 +156,12 @@ module _ {N : Type 0} (ν : Names N) {Held : Atom N → Type 0} (law : Lawful (o
         go Ordering·gt o r =
             rw (o, mergeOneE) (ap (mergeE ν D) r ∙ front (mergeE ν A (valued ν v p)) D (valued ν v q) (merge-proper ν law tells A (valued ν v p) hA hp) hD hq)
 
-    pub valued-merge : (p q : Product N) → Each (Sound Held) p → Each (Sound Held) q → valued ν v (mergeE ν p q) ≡ mergeE ν (valued ν v p) (valued ν v q)
+    pub valued-merge : (p q : Product N) → Every (Sound Held) p → Every (Sound Held) q → valued ν v (mergeE ν p q) ≡ mergeE ν (valued ν v p) (valued ν v q)
     unfolding valued mergeE
     valued-merge [] q h k = refl
     valued-merge (a ↑ e ∷ p) q h k = valued-one a e p (mergeE ν p) (h .0) (h .1) (λ r x. valued-merge p r (h .1) x) q k
 
-    pub valued-raise : (p : Product N) (k : Exp) → Each (Sound Held) p → Lowest k → valued ν v (raiseE p k) ≡ raiseE (valued ν v p) k
+    pub valued-raise : (p : Product N) (k : Exp) → Every (Sound Held) p → Lowest k → valued ν v (raiseE p k) ≡ raiseE (valued ν v p) k
     unfolding valued raiseE
     valued-raise [] k h l = refl
     valued-raise (a ↑ e ∷ p) k h l =
@@ -169,7 +169,7 @@ module _ {N : Type 0} (ν : Names N) {Held : Atom N → Type 0} (law : Lawful (o
         ∙ ap₂ (mergeE ν) (raise-mul ν law tells (v a) (vp a (h .0 .0)) e k (h .0 .1) l) (valued-raise p k (h .1) l)
         ∙ sym (raise-merge ν law tells (raiseE (v a) e) (valued ν v p) (power-proper a e (h .0)) (valued-proper p (h .1)) k l)
 
-    pub valued-inverse : (p : Product N) → Each (Sound Held) p → valued ν v (inverse p) ≡ inverse (valued ν v p)
+    pub valued-inverse : (p : Product N) → Every (Sound Held) p → valued ν v (inverse p) ≡ inverse (valued ν v p)
     unfolding valued inverse
     valued-inverse [] h = refl
     valued-inverse (a ↑ e ∷ p) h =
@@ -181,7 +181,7 @@ module _ {N : Type 0} (ν : Names N) {Held : Atom N → Type 0} (law : Lawful (o
     valued-just a h = merge-scalar ν (raiseE (v a) one) ∙ raise-one ν law tells (v a) (vp a h)
 
     -- a quotient that is worth nothing: both parts are worth the same
-    pub valued-divided : (p q : Product N) → Each (Sound Held) p → Proper ν Held q → valued ν v (mergeE ν p (inverse q)) ≡ [] → valued ν v p ≡ valued ν v q
+    pub valued-divided : (p q : Product N) → Every (Sound Held) p → Proper ν Held q → valued ν v (mergeE ν p (inverse q)) ≡ [] → valued ν v p ≡ valued ν v q
     valued-divided p q h k e =
         let P = valued ν v p in
         let Q = valued ν v q in
@@ -198,7 +198,7 @@ module _ {N : Type 0} (ν : Names N) {Held : Atom N → Type 0} (law : Lawful (o
   -- ══ What replacing does ══
 
   module _ (look : Look N) where
-    pub change-proper : (p : Product N) → Each (Sound Held) p → Fits ν Held look p → Proper ν Held (change ν look p)
+    pub change-proper : (p : Product N) → Every (Sound Held) p → Fits ν Held look p → Proper ν Held (change ν look p)
     unfolding change changedAt changedBy
     change-proper [] h f = scalar-proper ν law tells
     change-proper (base n ↑ e ∷ p) h f = change-proper p (h .1) f
@@ -214,7 +214,7 @@ module _ {N : Type 0} (ν : Names N) {Held : Atom N → Type 0} (law : Lawful (o
         go none i r = r
         go (some t) i r = changed t (f .0 .bound t i) r
 
-    replace-changes : (p acc : Product N) → Each (Sound Held) p → Fits ν Held look p → Proper ν Held acc → replaceFactors ν exact look p acc ≡ got (mergeE ν acc (change ν look p))
+    replace-changes : (p acc : Product N) → Every (Sound Held) p → Fits ν Held look p → Proper ν Held acc → replaceFactors ν exact look p acc ≡ got (mergeE ν acc (change ν look p))
     unfolding replaceFactors change changedAt changedBy inverse
     replace-changes [] acc h f k = ap got (sym (merge-scalar ν acc))
     replace-changes (base n ↑ e ∷ p) acc h f k = replace-changes p acc (h .1) f k
@@ -318,7 +318,7 @@ module _ {N : Type 0} (ν : Names N) {Held : Atom N → Type 0} (law : Lawful (o
       abbrev Kept : Open N → Type 0
       Kept o = (t : Ty N) (d : Product N) → look o ≡ some t → asProduct t ≡ got d → valued ν v d ≡ v (free o)
 
-      change-worth : (p : Product N) → Each (Sound Held) p → Fits ν Held look p → All Kept (collect openOfFactor p) → valued ν v (change ν look p) ≡ []
+      change-worth : (p : Product N) → Every (Sound Held) p → Fits ν Held look p → All Kept (collect openOfFactor p) → valued ν v (change ν look p) ≡ []
       unfolding valued change changedAt changedBy inverse collect
       change-worth [] h f kept = refl
       change-worth (base n ↑ e ∷ p) h f kept = change-worth p (h .1) f kept
@@ -366,7 +366,7 @@ module _ {N : Type 0} (ν : Names N) {Held : Atom N → Type 0} (law : Lawful (o
   other-is k i n a j f e = let z : got (a ↑ mul (neg j) i) ≡ got f = rw n at e in cc
 
   -- each power j becomes -j/k: raised to k again, that is the inverse
-  pub other-raised : (k i : Exp) → Lowest k → inverted k ≡ some i → (p q : Product N) → Each (Sound Held) p → each (otherSide exact k) p ≡ got q → raiseE q k ≡ inverse p
+  pub other-raised : (k i : Exp) → Lowest k → inverted k ≡ some i → (p q : Product N) → Every (Sound Held) p → each (otherSide exact k) p ≡ got q → raiseE q k ≡ inverse p
   unfolding each raiseE inverse
   other-raised k i l n [] q h e = let z : [] ≡ q = cc in rw (sym z)
   other-raised k i l n (a ↑ j ∷ p) q h e =

@@ -7,7 +7,7 @@ use Prim.Native.Nat.{ℕ, zero, suc, _*_, _/_, _<_}
 use native.Mathlib.Nat.{mul-comm, mul-assoc, mul-left-comm, mul-one, mul-div-mul-left, mul-pos, zero-div, div-one, mul-div-cancel'}
 use native.Mathlib.Omega.{arith}
 use borrow.Author.Tests.{eqb-true}
-use lib.IntN.{ℤ, pos, negsuc, negℤ, natAbs, _+ℤ_, _*ℤ_, negℤ-negℤ, +ℤ-idr, +ℤ-invr, +ℤ-assoc, +ℤ-comm, zero-*ℤ, *ℤ-comm}
+use lib.IntN.{ℤ, pos, negsuc, negℤ, natAbs, _+ℤ_, _*ℤ_, negℤ-negℤ, +ℤ-idr, +ℤ-invr, +ℤ-assoc, +ℤ-comm, zero-*ℤ, *ℤ-comm, *ℤ-zero}
 use Rattle.rules.specs.Exponents.{Exp, frac, gcdIn, gcd, lowest, nought, one, neg, plus, mul, inverted, isZero}
 use Rattle.laws.specs.Gcd.{is-gcd, gcd-pos, gcd-comm, gcd-scale, coprime}
 use Rattle.laws.specs.Integers.{distrib, distrib-left, neg-mul, assoc, times-one, middle, four, natAbs-neg}
@@ -332,3 +332,30 @@ zero-is-nought (frac (pos n) d) l e =
     let z : n ≡ 0 = eqb-true n 0 e in
     sym (t .own) ∙ ap (λ (k : ℕ). lowest (pos k) d) z ∙ lowest-nought d (t .positive)
 zero-is-nought (frac (negsuc n) d) l e = absurd (omega (arith, eqb-true (suc n) 0 e))
+
+-- ══ What follows of a field ══
+
+pub neg-zero : (e : Exp) → isZero (neg e) ≡ isZero e
+unfolding neg
+neg-zero (frac n d) = rw (natAbs-neg n)
+
+pub mul-nought : (a : Exp) → Lowest a → mul a nought ≡ nought
+unfolding mul
+mul-nought (frac n d) l = ap₂ lowest (*ℤ-zero n) (mul-one d) ∙ lowest-nought d (lowest-terms n d l .positive)
+
+pub nought-mul : (a : Exp) → Lowest a → mul nought a ≡ nought
+nought-mul a l = mul-comm′ nought a ∙ mul-nought a l
+
+pub nought-plus : (a : Exp) → Lowest a → plus nought a ≡ a
+nought-plus a l = plus-comm nought a ∙ plus-nought a l
+
+pub plus-mul : (a b c : Exp) → Lowest a → Lowest b → Lowest c → mul (plus a b) c ≡ plus (mul a c) (mul b c)
+plus-mul a b c l m n = mul-comm′ (plus a b) c ∙ mul-plus c a b n l m ∙ ap₂ plus (mul-comm′ c a) (mul-comm′ c b)
+
+pub mul-neg : (a b : Exp) → mul a (neg b) ≡ neg (mul a b)
+unfolding mul neg
+mul-neg (frac n d) (frac m e) = ap (λ (x : ℤ). lowest x (d * e)) (*ℤ-comm n (negℤ m) ∙ neg-mul m n ∙ ap negℤ (*ℤ-comm m n)) ∙ lowest-neg (n *ℤ m) (d * e)
+
+pub neg-neg : (a : Exp) → neg (neg a) ≡ a
+unfolding neg
+neg-neg (frac n d) = ap (λ (x : ℤ). frac x d) (negℤ-negℤ n)

@@ -2,29 +2,24 @@
 -- Assumes nothing.
 use mathlib.Core.Path.{_≡_, refl, ap, _∙_}
 use mathlib.Core.Bool.{Bool, true, false, and-eq-true-iff}
-use mathlib.Core.List.{[], _∷_, map}
+use mathlib.Core.List.{[], _∷_}
 use Prim.Native.Nat.{ℕ, suc, _≤_, Ordering·eq}
 use native.Mathlib.Omega.{arith}
-use borrow.Author.Tests.{eqb-true, leb-true, le-leb, ltb-true, lt-ltb}
-use lib.Dec.{T, isEq, leb}
+use borrow.Author.Tests.{eqb-true, leb-true, le-leb}
+use lib.Dec.{isEq, leb}
 use lib.ListN.{length}
-use Rattle.rules.specs.Base.{got, bounded, within, allow, all}
+use Rattle.rules.specs.Base.{got, bounded, within, all}
 use Rattle.rules.specs.Exponents.{Exp, isZero, neg, goodExp, goodStored, sum, times}
 use Rattle.rules.specs.Trees.{Open, var, quant, par, Atom, free, base, Factor, _↑_, Product, Names, orderOpen, orderAtom}
-use Rattle.rules.specs.Products.{put, inverse, merge, multiply, divide, raise}
-use Rattle.rules.specs.WellFormed.{rising, atomOf, goodOpen, goodFactor, goodProduct}
+use Rattle.rules.specs.Products.{put, inverse, multiply, divide, raise}
+use Rattle.rules.specs.WellFormed.{goodOpen, goodFactor, goodProduct}
+use Rattle.laws.specs.Lists.{Every, every-all, all-every, every-as, all-is, is-all}
 use Rattle.laws.specs.Order.{Lawful, Tells}
-use Rattle.laws.specs.Value.{Gives, gives, refuses, next, weaken}
+use Rattle.laws.specs.Value.{Gives, gives, next, weaken, together, its-own, allowed}
 use Rattle.laws.specs.Ranges.{good-lowest, stored-good, stored-not-zero, is-stored, neg-good, sum-good, times-good}
-use Rattle.laws.specs.Sorted.{Sorted, Each, sorted, sorted-rises, merge-sorted, raise-sorted, inverse-sorted, merge-each, raise-each, inverse-each}
-use Rattle.laws.specs.Powers.{Sound, Proper, neg-zero}
-
-pub passed : (b : Bool) → T b → b ≡ true
-passed true t = refl
-passed false t = absurd t
-
-pub passes : (b : Bool) → b ≡ true → T b
-passes b h = rw h tt
+use Rattle.laws.specs.Sorted.{Sorted, sorted, sorted-rises, merge-sorted, raise-sorted, inverse-sorted, merge-each, raise-each, inverse-each}
+use Rattle.laws.specs.Fractions.{neg-zero}
+use Rattle.laws.specs.Powers.{Sound, Proper}
 
 module _ {N : Type 0} (ν : Names N) (held : N → Bool) (q : ℕ) where
   -- an atom whose name is held, or whose index is below the count
@@ -38,7 +33,7 @@ module _ {N : Type 0} (ν : Names N) (held : N → Bool) (q : ℕ) where
   -- what the test of a product asks
   pub record GoodProduct (p : Product N) : Type 0 where
     pub in-order : Sorted ν p
-    pub each : Each GoodFactor p
+    pub each : Every GoodFactor p
     pub few : length p ≤ 64
 
   factor-good : (f : Factor N) → goodFactor ν held q f ≡ true → GoodFactor f
@@ -51,15 +46,11 @@ module _ {N : Type 0} (ν : Names N) (held : N → Bool) (q : ℕ) where
   good-factor (free o ↑ e) h = and-eq-true-iff (goodOpen ν held q o) (goodStored e) .1 h
   good-factor (base n ↑ e) h = and-eq-true-iff (held n) (goodStored e) .1 h
 
-  all-good : (p : Product N) → all (goodFactor ν held q) p ≡ true → Each GoodFactor p
-  unfolding all
-  all-good [] h = tt
-  all-good (f ∷ p) h = let r = and-eq-true-iff (goodFactor ν held q f) _ .0 h in (factor-good f (r .0), all-good p (r .1))
+  all-good : (p : Product N) → all (goodFactor ν held q) p ≡ true → Every GoodFactor p
+  all-good p h = all-every GoodFactor p (λ f m. factor-good f (all-is (goodFactor ν held q) p h f m))
 
-  good-all : (p : Product N) → Each GoodFactor p → all (goodFactor ν held q) p ≡ true
-  unfolding all
-  good-all [] h = refl
-  good-all (f ∷ p) h = and-eq-true-iff (goodFactor ν held q f) _ .1 (good-factor f (h .0), good-all p (h .1))
+  good-all : (p : Product N) → Every GoodFactor p → all (goodFactor ν held q) p ≡ true
+  good-all p h = is-all (goodFactor ν held q) p (λ f m. good-factor f (every-all GoodFactor p h f m))
 
   -- the order tells atoms apart where it tells names apart
   module _ (t : Tells (λ n. held n ≡ true) (ν .order)) where
@@ -91,21 +82,19 @@ module _ {N : Type 0} (ν : Names N) (law : Lawful (orderAtom ν)) (held : N →
   good-product p h =
       let r = and-eq-true-iff _ (leb (length p) 64) .0 h in
       let s = and-eq-true-iff (all (goodFactor ν held q) p) _ .0 (r .0) in
-      record { in-order = sorted ν law p (passes _ (s .1)); each = all-good ν held q p (s .0); few = leb-true (length p) 64 (r .1) }
+      record { in-order = sorted ν law p (s .1); each = all-good ν held q p (s .0); few = leb-true (length p) 64 (r .1) }
 
   pub product-good : (p : Product N) → GoodProduct ν held q p → goodProduct ν held q p ≡ true
   unfolding goodProduct
   product-good p g =
-      let r : rising (orderAtom ν) (map atomOf p) ≡ true = passed _ (sorted-rises ν law p (g .in-order)) in
-      simp (good-all ν held q p (g .each), r, le-leb _ _ (g .few))
+      simp (good-all ν held q p (g .each), sorted-rises ν law p (g .in-order), le-leb _ _ (g .few))
 
   -- a well formed product is one of exact arithmetic
   pub good-proper : (p : Product N) → goodProduct ν held q p ≡ true → Proper ν (λ a. goodAtom ν held q a ≡ true) p
-  good-proper p h = let g = good-product p h in record { in-order = g .in-order; each = go p (g .each) }
+  good-proper p h = let g = good-product p h in record { in-order = g .in-order; each = every-as factor-sound p (g .each) }
     where
-      go : (p : Product N) → Each (GoodFactor ν held q) p → Each (Sound (λ a. goodAtom ν held q a ≡ true)) p
-      go [] i = tt
-      go (a ↑ e ∷ p) i = ((i .0 .0, good-lowest e (stored-good e (i .0 .1)), stored-not-zero e (i .0 .1)), go p (i .1))
+      factor-sound : (f : Factor N) → GoodFactor ν held q f → Sound (λ a. goodAtom ν held q a ≡ true) f
+      factor-sound (a ↑ e) i = (i .0, good-lowest e (stored-good e (i .1)), stored-not-zero e (i .1))
 
   -- ══ The bounded steps ══
 
@@ -113,19 +102,13 @@ module _ {N : Type 0} (ν : Names N) (law : Lawful (orderAtom ν)) (held : N →
   adds a b e d s h k i z = (h .0, is-stored s z (sum-good e d (stored-good e (h .1)) (stored-good d (k .1)) .holds s i))
 
   few-left : (r : Product N) → Gives (within bounded (length r) 64 r) (λ s. (s ≡ r) × (length r ≤ 64))
-  few-left r = go (leb (length r) 64) refl
-    where
-      go : (b : Bool) → leb (length r) 64 ≡ b → Gives (allow b 8 r) (λ s. (s ≡ r) × (length r ≤ 64))
-      go true e = gives (refl, leb-true (length r) 64 e)
-      go false e = refuses
+  few-left r = allowed (leb (length r) 64) 8 r (λ e. (refl, leb-true (length r) 64 e))
 
   multiply-facts : (p r : Product N) → GoodProduct ν held q p → GoodProduct ν held q r → Gives (multiply ν bounded p r) (GoodProduct ν held q)
   unfolding multiply
   multiply-facts p r g h =
-      next merged (λ s i. weaken (few-left s) (λ t j. rw (j .0) (record { in-order = i .0; each = i .1; few = j .1 })))
-    where
-      merged : Gives (merge ν bounded p r) (λ s. Sorted ν s × Each (GoodFactor ν held q) s)
-      merged = record { holds = λ s e. (merge-sorted ν law bounded p r (g .in-order) (h .in-order) .holds s e .0, merge-each (GoodFactor ν held q) ν bounded adds p r (g .each) (h .each) .holds s e) }
+      next (together (merge-sorted ν law bounded p r (g .in-order) (h .in-order)) (merge-each (GoodFactor ν held q) ν bounded adds p r (g .each) (h .each))) (λ s i.
+      weaken (few-left s) (λ t j. rw (j .0) (record { in-order = i .0 .0; each = i .1; few = j .1 })))
 
   pub multiply-good : (p r : Product N) → goodProduct ν held q p ≡ true → goodProduct ν held q r ≡ true → Gives (multiply ν bounded p r) (λ s. goodProduct ν held q s ≡ true)
   multiply-good p r h k = weaken (multiply-facts p r (good-product p h) (good-product r k)) product-good
@@ -151,11 +134,8 @@ module _ {N : Type 0} (ν : Names N) (law : Lawful (orderAtom ν)) (held : N →
   raise-length : (p : Product N) (k : Exp) → Gives (raise ν bounded p k) (λ r. length r ≤ length p)
   unfolding raise
   raise-length [] k = gives (omega arith)
-  raise-length (a ↑ e ∷ p) k = next timed (λ s u. next (raise-length p k) (λ r i. gives (put-length s r i)))
+  raise-length (a ↑ e ∷ p) k = next (its-own (times bounded e k)) (λ s u. next (raise-length p k) (λ r i. gives (put-length s r i)))
     where
-      timed : Gives (times bounded e k) (λ s. Unit {0})
-      timed = record { holds = λ s j. tt }
-
       put-length : (s : Exp) (r : Product N) → length r ≤ length p → length (put a s r) ≤ suc (length p)
       put-length s r i = go (isZero s) refl
         where
@@ -177,21 +157,3 @@ module _ {N : Type 0} (ν : Names N) (law : Lawful (orderAtom ν)) (held : N →
 
       scales : (a : Atom N) (e s : Exp) → GoodFactor ν held q (a ↑ e) → times bounded e k ≡ got s → isZero s ≡ false → GoodFactor ν held q (a ↑ s)
       scales a e s i j z = (i .0, is-stored s z (times-good e k (stored-good e (i .1)) l .holds s j))
-
--- what is well formed with fewer quantified variables is so with more
-module _ {N : Type 0} (ν : Names N) (law : Lawful (orderAtom ν)) (held : N → Bool) (q r : ℕ) (h : q ≤ r) where
-  wider-atom : (a : Atom N) → goodAtom ν held q a ≡ true → goodAtom ν held r a ≡ true
-  unfolding goodOpen
-  wider-atom (free (var x)) g = g
-  wider-atom (free (quant i)) g = let l = ltb-true i q g in lt-ltb i r (omega arith)
-  wider-atom (free (par x)) g = g
-  wider-atom (base x) g = g
-
-  wider-each : (p : Product N) → Each (GoodFactor ν held q) p → Each (GoodFactor ν held r) p
-  wider-each [] g = tt
-  wider-each (a ↑ e ∷ p) g = ((wider-atom a (g .0 .0), g .0 .1), wider-each p (g .1))
-
-  pub wider : (p : Product N) → goodProduct ν held q p ≡ true → goodProduct ν held r p ≡ true
-  wider p g =
-      let f = good-product ν law held q p g in
-      product-good ν law held r p (record { in-order = f .in-order; each = wider-each p (f .each); few = f .few })

@@ -8,23 +8,23 @@ use mathlib.Core.List.{List, [], _∷_, map, cons≢nil, List·Memᴰ}
 use Prim.Native.Nat.{ℕ, suc}
 use native.Mathlib.Omega.{arith}
 use lib.ListN.{length}
-use Rattle.rules.specs.Base.{got, refused, bounded, each, collect, isYes}
-use Rattle.rules.specs.Exponents.{Exp, nought, one, isZero, inRange, neg, mul, inverted, times, goodExp, goodStored, quotient}
-use Rattle.rules.specs.Trees.{Open, var, quant, par, Atom, free, base, _↑_, Product, Names, Ty, opened, basic, dim, fn, struct, list, Tys, nil, cons, Fields, noFields, field, Con, equal, isDim, isScalar, hasField, Binding, _≔_, orderAtom, opens, openOfFactor}
+use Rattle.rules.specs.Base.{got, refused, bounded, each, isYes}
+use Rattle.rules.specs.Exponents.{Exp, nought, one, isZero, inRange, neg, mul, inverted, times, goodStored, quotient}
+use Rattle.rules.specs.Trees.{Open, var, quant, par, Atom, free, base, _↑_, Product, Names, Ty, opened, basic, dim, fn, struct, list, Tys, nil, cons, Fields, noFields, field, Con, equal, isDim, isScalar, hasField, Binding, _≔_, orderAtom, opens}
 use Rattle.rules.specs.Contents.{fieldIn}
 use Rattle.rules.specs.Products.{just, single}
 use Rattle.rules.specs.Replacing.{Look, asProduct, replaceFactors, replaceProduct, replaceDim, replaceTy, replaceTys, replaceFields, replaceCon, replaceBinding}
 use Rattle.rules.specs.Rounds.{Step, otherSide, pairs}
 use Rattle.rules.specs.WellFormed.{atomOf, fieldNames, goodOpen, goodProduct, goodTy, goodTys, goodFields, goodCon, goodBinding}
 use Rattle.laws.specs.Order.{Lawful}
-use Rattle.laws.specs.Value.{Gives, gives, refuses, next, weaken}
-use Rattle.laws.specs.Sorted.{Each, sorted, sorted-rises}
-use Rattle.laws.specs.Fractions.{Lowest, neg-lowest, mul-in-lowest, inverted-lowest, mul-comm′, mul-assoc′, mul-one′, mul-inverted, zero-is-nought}
-use Rattle.laws.specs.Powers.{neg-zero, nought-mul}
+use Rattle.laws.specs.Value.{Gives, gives, refuses, next, weaken, together, its-own}
+use Rattle.laws.specs.Sorted.{sorted, sorted-rises}
+use Rattle.laws.specs.Fractions.{Lowest, neg-lowest, mul-in-lowest, inverted-lowest, mul-comm′, mul-assoc′, mul-one′, mul-inverted, zero-is-nought, neg-zero, nought-mul}
 use Rattle.laws.specs.Ranges.{good-lowest, one-good, stored-good, stored-not-zero, is-stored, neg-good, quotient-good}
 use Rattle.laws.specs.GoodProducts.{goodAtom, GoodFactor, good-product, product-good, multiply-good, divide-good, raise-good}
 use Rattle.laws.specs.RuleCases.{Reads, Sides, After, Rule, none-applies, equal-records, binds, two-functions, two-lists, two-structs, as-product, two-dimensions, dimension, no-factor, first-factor, closed-struct, part-of}
-use Rattle.laws.specs.Lists.{true≢false, some≢none, got≢refused, allow-same, and-left, and-right, and-both, All, all-nil, all-cons}
+use Rattle.laws.specs.Lists.{true≢false, some≢none, got≢refused, allow-same, and-left, and-right, and-both, All, all-nil, all-cons, Every, every-all}
+use Rattle.laws.specs.KnownNames.{product-known}
 
 same-length : {N : Type 0} (p r : Product N) → map atomOf p ≡ map atomOf r → length p ≡ length r
 same-length [] [] e = refl
@@ -87,7 +87,7 @@ module _ {N : Type 0} (ν : Names N) (law : Lawful (orderAtom ν)) (held : N →
   -- ══ Replacing ══
 
   module _ (look : Look N) (bound : (o : Open N) (t : Ty N) → look o ≡ some t → GoodTy t) where
-    factors-good : (p acc : Product N) → Each (GoodFactor ν held q) p → goodProduct ν held q acc ≡ true → Gives (replaceFactors ν bounded look p acc) (λ r. goodProduct ν held q r ≡ true)
+    factors-good : (p acc : Product N) → Every (GoodFactor ν held q) p → goodProduct ν held q acc ≡ true → Gives (replaceFactors ν bounded look p acc) (λ r. goodProduct ν held q r ≡ true)
     unfolding replaceFactors
     factors-good [] acc h k = gives k
     factors-good (base n ↑ e ∷ p) acc h k = factors-good p acc (h .1) k
@@ -163,16 +163,15 @@ module _ {N : Type 0} (ν : Names N) (law : Lawful (orderAtom ν)) (held : N →
   module _ (k : Exp) (h : goodStored k ≡ true) where
     other-good : (a : Atom N) (j : Exp) → GoodFactor ν held q (a ↑ j) → Gives (otherSide bounded k (a ↑ j)) (λ f. (e : Exp) × (f ≡ a ↑ e) × GoodFactor ν held q (a ↑ e))
     unfolding otherSide
-    other-good a j g = next both (λ s i. gives (s, refl, (g .0, is-stored s (i .1) (i .0))))
-      where
-        both : Gives (quotient bounded (neg j) k) (λ s. (goodExp s ≡ true) × (isZero s ≡ false))
-        both = record { holds = λ s i. (quotient-good (neg j) k (neg-good j (stored-good j (g .1))) (stored-good k h) .holds s i, quotient-not-zero j k s (good-lowest j (stored-good j (g .1))) (good-lowest k (stored-good k h)) (stored-not-zero j (g .1)) i) }
+    other-good a j g =
+        next (together (quotient-good (neg j) k (neg-good j (stored-good j (g .1))) (stored-good k h)) (its-own (quotient bounded (neg j) k))) (λ s i.
+        gives (s, refl, (g .0, is-stored s (quotient-not-zero j k s (good-lowest j (stored-good j (g .1))) (good-lowest k (stored-good k h)) (stored-not-zero j (g .1)) (i .1)) (i .0))))
 
     -- good factors of the same atoms
     abbrev Alongside : Product N → Product N → Type 0
-    Alongside p r = Each (GoodFactor ν held q) r × (map atomOf r ≡ map atomOf p)
+    Alongside p r = Every (GoodFactor ν held q) r × (map atomOf r ≡ map atomOf p)
 
-    others-good : (p : Product N) → Each (GoodFactor ν held q) p → Gives (each (otherSide bounded k) p) (Alongside p)
+    others-good : (p : Product N) → Every (GoodFactor ν held q) p → Gives (each (otherSide bounded k) p) (Alongside p)
     unfolding each
     others-good [] g = gives (tt, refl)
     others-good (a ↑ j ∷ p) g =
@@ -198,13 +197,7 @@ module _ {N : Type 0} (ν : Names N) (law : Lawful (orderAtom ν)) (held : N →
 
   -- the names of a well formed product are held
   opens-good : (p : Product N) → goodProduct ν held q p ≡ true → All (λ o. goodOpen ν held q o ≡ true) (opens (dim p))
-  unfolding opens collect
-  opens-good p h = go p (good-product ν law held q p h .each)
-    where
-      go : (p : Product N) → Each (GoodFactor ν held q) p → All (λ o. goodOpen ν held q o ≡ true) (collect openOfFactor p)
-      go [] g = all-nil (λ o. goodOpen ν held q o ≡ true)
-      go (free o ↑ e ∷ p) g = all-cons (λ o. goodOpen ν held q o ≡ true) (g .0 .0) (go p (g .1))
-      go (base n ↑ e ∷ p) g = go p (g .1)
+  opens-good p h = every-all (λ o. goodOpen ν held q o ≡ true) (opens (dim p)) (product-known ν held q p h)
 
   reads-held : (x : N) (side : Ty N) → Reads x side → GoodTy side → held x ≡ true
   unfolding goodTy goodOpen

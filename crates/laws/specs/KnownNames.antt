@@ -2,7 +2,7 @@
 -- Assumes nothing.
 use mathlib.Core.Path.{_≡_}
 use mathlib.Core.Bool.{Bool, true, _&&_}
-use mathlib.Core.List.{List, [], _∷_, _++_, map}
+use mathlib.Core.List.{List, [], _∷_, map}
 use Prim.Native.Nat.{ℕ}
 use lib.Dec.{leb}
 use lib.ListN.{length}
@@ -11,16 +11,8 @@ use Rattle.rules.specs.Exponents.{goodStored}
 use Rattle.rules.specs.Trees.{Open, free, base, _↑_, Product, Names, Ty, opened, basic, dim, fn, struct, list, Tys, nil, cons, Fields, noFields, field, Con, equal, isDim, isScalar, hasField, Binding, _≔_, orderAtom, openOfFactor, opens, opensTys, opensFields, opensCon}
 use Rattle.rules.specs.WellFormed.{rising, atomOf, fieldNames, goodOpen, goodFactor, goodProduct, goodTy, goodTys, goodFields, goodCon, goodBinding}
 use Rattle.rules.specs.Calls.{opensBinding}
-use Rattle.laws.specs.NameTable.{both-left, both-right}
-use Rattle.laws.specs.ReadLists.{Every}
-
-pub every-append : {A : Type 0} (P : A → Type 0) (xs ys : List A) → Every P xs → Every P ys → Every P (xs ++ ys)
-every-append P [] ys p q = q
-every-append P (x ∷ xs) ys p q = (p .0, every-append P xs ys (p .1) q)
-
-pub every-as : {A : Type 0} {P Q : A → Type 0} → ((a : A) → P a → Q a) → (xs : List A) → Every P xs → Every Q xs
-every-as f [] p = tt
-every-as f (x ∷ xs) p = (f x (p .0), every-as f xs (p .1))
+use Rattle.laws.specs.Lists.{and-left, and-right, Every}
+pub use Rattle.laws.specs.Lists.{every-append, every-as}
 
 module _ {N : Type 0} (ν : Names N) (held : N → Bool) (q : ℕ) where
   abbrev pub Known : Open N → Type 0
@@ -30,16 +22,16 @@ module _ {N : Type 0} (ν : Names N) (held : N → Bool) (q : ℕ) where
   unfolding all collect goodFactor
   factors-known [] h = tt
   factors-known (free o ↑ e ∷ p) h =
-      let k = both-left (goodOpen ν held q o && goodStored e) (all (goodFactor ν held q) p) h in
-      (both-left (goodOpen ν held q o) (goodStored e) k, factors-known p (both-right (goodOpen ν held q o && goodStored e) (all (goodFactor ν held q) p) h))
-  factors-known (base n ↑ e ∷ p) h = factors-known p (both-right (held n && goodStored e) (all (goodFactor ν held q) p) h)
+      let k = and-left (goodOpen ν held q o && goodStored e) (all (goodFactor ν held q) p) h in
+      (and-left (goodOpen ν held q o) (goodStored e) k, factors-known p (and-right (goodOpen ν held q o && goodStored e) (all (goodFactor ν held q) p) h))
+  factors-known (base n ↑ e ∷ p) h = factors-known p (and-right (held n && goodStored e) (all (goodFactor ν held q) p) h)
 
-  product-known : (p : Product N) → goodProduct ν held q p ≡ true → Every Known (opens (dim p))
+  pub product-known : (p : Product N) → goodProduct ν held q p ≡ true → Every Known (opens (dim p))
   unfolding goodProduct opens
   product-known p h =
       let f = all (goodFactor ν held q) p in
       let r = rising (orderAtom ν) (map atomOf p) in
-      factors-known p (both-left f r (both-left (f && r) (leb (length p) 64) h))
+      factors-known p (and-left f r (and-left (f && r) (leb (length p) 64) h))
 
   mutual
     unfolding goodTy opens
@@ -49,34 +41,40 @@ module _ {N : Type 0} (ν : Names N) (held : N → Bool) (q : ℕ) where
     ty-known (basic b) h = tt
     ty-known (dim p) h = product-known p h
     ty-known (fn ps r) h =
-        every-append Known (opensTys ps) (opens r) (tys-known ps (both-left (goodTys ν held q ps) (goodTy ν held q r) h)) (ty-known r (both-right (goodTys ν held q ps) (goodTy ν held q r) h))
+        every-append Known (opensTys ps) (opens r) (tys-known ps (and-left (goodTys ν held q ps) (goodTy ν held q r) h)) (ty-known r (and-right (goodTys ν held q ps) (goodTy ν held q r) h))
     ty-known (struct n as′ fs) h =
         let a = goodTys ν held q as′ in
         let f = goodFields ν held q fs in
-        let k = both-left (held n && a && f) (rising (ν .order) (fieldNames fs)) h in
-        every-append Known (opensTys as′) (opensFields fs) (tys-known as′ (both-right (held n) a (both-left (held n && a) f k))) (fields-known fs (both-right (held n && a) f k))
+        let k = and-left (held n && a && f) (rising (ν .order) (fieldNames fs)) h in
+        every-append Known (opensTys as′) (opensFields fs) (tys-known as′ (and-right (held n) a (and-left (held n && a) f k))) (fields-known fs (and-right (held n && a) f k))
     ty-known (list t) h = ty-known t h
 
     tys-known : (ts : Tys N) → goodTys ν held q ts ≡ true → Every Known (opensTys ts)
     tys-known nil h = tt
     tys-known (cons t ts) h =
-        every-append Known (opens t) (opensTys ts) (ty-known t (both-left (goodTy ν held q t) (goodTys ν held q ts) h)) (tys-known ts (both-right (goodTy ν held q t) (goodTys ν held q ts) h))
+        every-append Known (opens t) (opensTys ts) (ty-known t (and-left (goodTy ν held q t) (goodTys ν held q ts) h)) (tys-known ts (and-right (goodTy ν held q t) (goodTys ν held q ts) h))
 
     fields-known : (fs : Fields N) → goodFields ν held q fs ≡ true → Every Known (opensFields fs)
     fields-known noFields h = tt
     fields-known (field n t fs) h =
-        let k = both-left (held n && goodTy ν held q t) (goodFields ν held q fs) h in
-        every-append Known (opens t) (opensFields fs) (ty-known t (both-right (held n) (goodTy ν held q t) k)) (fields-known fs (both-right (held n && goodTy ν held q t) (goodFields ν held q fs) h))
+        let k = and-left (held n && goodTy ν held q t) (goodFields ν held q fs) h in
+        every-append Known (opens t) (opensFields fs) (ty-known t (and-right (held n) (goodTy ν held q t) k)) (fields-known fs (and-right (held n && goodTy ν held q t) (goodFields ν held q fs) h))
 
   pub con-known : (c : Con N) → goodCon ν held q c ≡ true → Every Known (opensCon c)
   unfolding goodCon opensCon
-  con-known (equal l r) h = every-append Known (opens l) (opens r) (ty-known l (both-left (goodTy ν held q l) (goodTy ν held q r) h)) (ty-known r (both-right (goodTy ν held q l) (goodTy ν held q r) h))
+  con-known (equal l r) h = every-append Known (opens l) (opens r) (ty-known l (and-left (goodTy ν held q l) (goodTy ν held q r) h)) (ty-known r (and-right (goodTy ν held q l) (goodTy ν held q r) h))
   con-known (isDim t) h = ty-known t h
   con-known (isScalar p) h = product-known p h
   con-known (hasField n l r) h =
-      let k = both-left (held n && goodTy ν held q l) (goodTy ν held q r) h in
-      every-append Known (opens l) (opens r) (ty-known l (both-right (held n) (goodTy ν held q l) k)) (ty-known r (both-right (held n && goodTy ν held q l) (goodTy ν held q r) h))
+      let k = and-left (held n && goodTy ν held q l) (goodTy ν held q r) h in
+      every-append Known (opens l) (opens r) (ty-known l (and-right (held n) (goodTy ν held q l) k)) (ty-known r (and-right (held n && goodTy ν held q l) (goodTy ν held q r) h))
 
   pub binding-known : (b : Binding N) → goodBinding ν held q b ≡ true → Every Known (opensBinding b)
   unfolding goodBinding opensBinding goodOpen
-  binding-known (x ≔ t) h = (both-left (held x) (goodTy ν held q t) h, ty-known t (both-right (held x) (goodTy ν held q t) h))
+  binding-known (x ≔ t) h = (and-left (held x) (goodTy ν held q t) h, ty-known t (and-right (held x) (goodTy ν held q t) h))
+
+  pub set-known : (cs : List (Con N)) → all (goodCon ν held q) cs ≡ true → Every Known (collect opensCon cs)
+  unfolding all collect
+  set-known [] h = tt
+  set-known (c ∷ cs) h =
+      every-append Known (opensCon c) (collect opensCon cs) (con-known c (and-left (goodCon ν held q c) (all (goodCon ν held q) cs) h)) (set-known cs (and-right (goodCon ν held q c) (all (goodCon ν held q) cs) h))

@@ -17,6 +17,7 @@ pub mod Written
 pub mod Reading
 pub mod ReadLists
 pub mod KnownNames
+pub mod Weaker
 pub mod Contents
 pub mod Depth
 pub mod Value
@@ -27,6 +28,7 @@ pub mod Numbers
 pub mod Lists
 pub mod Sized
 pub mod RuleCases
+pub mod Turns
 pub mod Evaluation
 pub mod KeepsGood
 pub mod Occurs

@@ -1,14 +1,13 @@
 -- Lists and tests: what is in a list, and what a test says of it.
 -- Assumes nothing.
 use mathlib.Core.Path.{_≡_, refl, ap, _∙_, sym}
-use mathlib.Core.Bool.{Bool, true, false, not, _&&_, _||_}
-use mathlib.Core.Option.{none, some}
+use mathlib.Core.Bool.{Bool, true, false, not, _&&_, _||_, or-true}
+use mathlib.Core.Option.{Option, none, some}
 use mathlib.Core.Logic.{_⊎_, inl, inr}
-use mathlib.Core.List.{List, [], _∷_, _++_, map, List·Memᴰ, List·Memᴰ·head, List·Memᴰ·tail, List·Memᴰ·cases-cons, List·Memᴰ·not-nil, List·Memᴰ·append-cases, Memᴰ·append-left, Memᴰ·append-right}
+use mathlib.Core.List.{List, [], _∷_, _++_, map, List·Memᴰ, List·Memᴰ·head, List·Memᴰ·tail, List·Memᴰ·cases-cons, List·Memᴰ·not-nil, List·Memᴰ·append-cases, List·Memᴰ·eq-of-singleton, Memᴰ·append-left, Memᴰ·append-right}
 use Prim.Native.Nat.{ℕ}
 use native.Mathlib.Omega.{arith}
-pub use Rattle.laws.specs.NameTable.{both-left as and-left, both-right as and-right}
-use Rattle.rules.specs.Base.{Got, got, refused, _>>=_, allow, isYes, any, all, each, collect}
+use Rattle.rules.specs.Base.{Got, got, refused, _>>=_, allow, isYes, any, all, each, collect, toList}
 
 pub true≢false : true ≡ false → ⊥
 true≢false e = let z : _≡_ {A = ℕ} 0 1 = cc in omega arith
@@ -27,6 +26,14 @@ allow-same true n a v e = cc
 allow-same false n a v e = absurd (got≢refused (sym e))
 
 -- both tests pass
+pub and-left : (a b : Bool) → a && b ≡ true → a ≡ true
+and-left true b h = refl
+and-left false b h = h
+
+pub and-right : (a b : Bool) → a && b ≡ true → b ≡ true
+and-right true b h = h
+and-right false b h = cc
+
 pub and-both : {a b : Bool} → a ≡ true → b ≡ true → (a && b) ≡ true
 and-both p q = rw (p, q)
 
@@ -55,7 +62,10 @@ is-no (yes a) f = absurd (f a)
 is-no (no g) f = refl
 
 module _ {A : Type 0} where
-  -- all of a list
+  pub in-head : {a : A} {xs : List A} → List·Memᴰ a (a ∷ xs)
+  in-head = List·Memᴰ·head refl
+
+  -- every one of a list, by membership
   abbrev pub All : (A → Type 0) → List A → Type 0
   All P xs = (a : A) → List·Memᴰ a xs → P a
 
@@ -76,6 +86,35 @@ module _ {A : Type 0} where
       go (inl i) = p a i
       go (inr i) = q a i
 
+  -- every one of a list, by recursion: for what goes through the list
+  abbrev pub Every : (A → Type 0) → List A → Type 0
+  Every P [] = Unit {0}
+  Every P (x ∷ xs) = P x × Every P xs
+
+  pub every-all : (P : A → Type 0) (xs : List A) → Every P xs → All P xs
+  every-all P [] h = all-nil P
+  every-all P (x ∷ xs) h = all-cons P (h .0) (every-all P xs (h .1))
+
+  pub all-every : (P : A → Type 0) (xs : List A) → All P xs → Every P xs
+  all-every P [] h = tt
+  all-every P (x ∷ xs) h = (h x in-head, all-every P xs (λ a m. h a (List·Memᴰ·tail m)))
+
+  pub every-append : (P : A → Type 0) (xs ys : List A) → Every P xs → Every P ys → Every P (xs ++ ys)
+  every-append P [] ys p q = q
+  every-append P (x ∷ xs) ys p q = (p .0, every-append P xs ys (p .1) q)
+
+  pub every-left : (P : A → Type 0) (xs ys : List A) → Every P (xs ++ ys) → Every P xs
+  every-left P [] ys h = tt
+  every-left P (x ∷ xs) ys h = (h .0, every-left P xs ys (h .1))
+
+  pub every-right : (P : A → Type 0) (xs ys : List A) → Every P (xs ++ ys) → Every P ys
+  every-right P [] ys h = h
+  every-right P (x ∷ xs) ys h = every-right P xs ys (h .1)
+
+  pub every-as : {P Q : A → Type 0} → ((a : A) → P a → Q a) → (xs : List A) → Every P xs → Every Q xs
+  every-as f [] p = tt
+  every-as f (x ∷ xs) p = (f x (p .0), every-as f xs (p .1))
+
   -- part by part
   pub append-parts : {a : A} (xs xs′ ys ys′ : List A) → (List·Memᴰ a xs → List·Memᴰ a xs′) → (List·Memᴰ a ys → List·Memᴰ a ys′) → List·Memᴰ a (xs ++ ys) → List·Memᴰ a (xs′ ++ ys′)
   append-parts {a} xs xs′ ys ys′ f g m = go (List·Memᴰ·append-cases xs m)
@@ -84,8 +123,14 @@ module _ {A : Type 0} where
       go (inl i) = Memᴰ·append-left ys′ (f i)
       go (inr i) = Memᴰ·append-right xs′ (g i)
 
-  pub in-head : {a : A} {xs : List A} → List·Memᴰ a (a ∷ xs)
-  in-head = List·Memᴰ·head refl
+  -- a list without elements
+  pub none-in : (xs : List A) → ((a : A) → List·Memᴰ a xs → ⊥) → xs ≡ []
+  none-in [] h = refl
+  none-in (x ∷ xs) h = absurd (h x in-head)
+
+  pub to-list : (o : Option A) (a : A) → List·Memᴰ a (toList o) → o ≡ some a
+  to-list none a m = absurd (List·Memᴰ·not-nil m)
+  to-list (some b) a m = ap some (sym (List·Memᴰ·eq-of-singleton m))
 
   -- a test of each element
   pub all-is : (p : A → Bool) (xs : List A) → all p xs ≡ true → All (λ a. p a ≡ true) xs
@@ -118,10 +163,6 @@ module _ {A : Type 0} where
   is-any p [] a m e = absurd (List·Memᴰ·not-nil m)
   is-any p (x ∷ xs) a m e = go (List·Memᴰ·cases-cons m) (is-any p xs a)
     where
-      or-true : (b : Bool) → (b || true) ≡ true
-      or-true true = refl
-      or-true false = refl
-
       go : (a ≡ x) ⊎ List·Memᴰ a xs → (List·Memᴰ a xs → p a ≡ true → any p xs ≡ true) → (p x || any p xs) ≡ true
       go (inl i) r = rw (sym (ap p i) ∙ e)
       go (inr i) r = rw (r i e) (or-true (p x))

@@ -11,8 +11,9 @@ use borrow.Author.Tests.{ltb-true, leb-true, lt-ltb, le-leb}
 use lib.Dec.{leb, ltb}
 use lib.ListN.{length, take, drop, getD, set, length-take, length-drop, drop-of-length-le}
 use lib.Seq.{drop-cons, getD-take, getD-drop, take-take, take-add, drop-at, length-take-le}
-use Rattle.rules.specs.Base.{got, need, _>>_, isYes, list-dec, any, isNone}
+use Rattle.rules.specs.Base.{got, need, _>>_, list-dec, any, isNone}
 use Rattle.rules.specs.Names.{Bytes, tableOf, isHeld, held, cut, namesOf, used, lengthsGood, sameBytes, distinct, tableGood, tableGiven, lentTable, numberOf, numbered, nameAsked, hasRoom, enterNew}
+use Rattle.laws.specs.Lists.{and-left, and-right, is-yes, is-no, yes-is}
 use Rattle.laws.specs.Checks.{need-passed, first-passed, next-passed}
 use Rattle.laws.specs.Order.{Tells}
 use Rattle.laws.specs.ByteOrder.{bytes-same}
@@ -22,37 +23,15 @@ use Rattle.laws.specs.ByteOrder.{bytes-same}
 module _ (a b : Bytes) where
   pub same-yes : a ≡ b → sameBytes a b ≡ true
   unfolding sameBytes
-  same-yes e = go (list-dec ℕ-discrete a b)
-    where
-      go : (d : Dec (a ≡ b)) → isYes d ≡ true
-      go (yes h) = refl
-      go (no f) = absurd (f e)
+  same-yes e = is-yes (list-dec ℕ-discrete a b) e
 
   pub same-no : (a ≡ b → ⊥) → sameBytes a b ≡ false
   unfolding sameBytes
-  same-no f = go (list-dec ℕ-discrete a b)
-    where
-      go : (d : Dec (a ≡ b)) → isYes d ≡ false
-      go (yes h) = absurd (f h)
-      go (no g) = refl
+  same-no f = is-no (list-dec ℕ-discrete a b) f
 
   pub same-is : sameBytes a b ≡ true → a ≡ b
   unfolding sameBytes
-  same-is t = go (list-dec ℕ-discrete a b) t
-    where
-      go : (d : Dec (a ≡ b)) → isYes d ≡ true → a ≡ b
-      go (yes h) u = h
-      go (no g) u = cc
-
--- ══ Tests joined ══
-
-pub both-left : (a b : Bool) → a && b ≡ true → a ≡ true
-both-left true b h = refl
-both-left false b h = h
-
-pub both-right : (a b : Bool) → a && b ≡ true → b ≡ true
-both-right true b h = h
-both-right false b h = cc
+  same-is t = yes-is (list-dec ℕ-discrete a b) t
 
 -- ══ From one end to the next ══
 
@@ -94,11 +73,11 @@ pub record Step (at e : ℕ) (es : List ℕ) : Type 0 where
 pub lengths-step : (at e : ℕ) (es : List ℕ) → lengthsGood at (e ∷ es) ≡ true → Step at e es
 unfolding lengthsGood
 lengths-step at e es h =
-    let two = both-left (ltb at e && leb e (at + 48)) _ h in
+    let two = and-left (ltb at e && leb e (at + 48)) _ h in
     record {
-      rises = ltb-true at e (both-left (ltb at e) _ two);
-      short = leb-true e (at + 48) (both-right (ltb at e) _ two);
-      rest = both-right (ltb at e && leb e (at + 48)) _ h;
+      rises = ltb-true at e (and-left (ltb at e) _ two);
+      short = leb-true e (at + 48) (and-right (ltb at e) _ two);
+      rest = and-right (ltb at e && leb e (at + 48)) _ h;
     }
 
 pub lengths-drop : (at : ℕ) (es : List ℕ) (k : ℕ) → lengthsGood at es ≡ true → lengthsGood (startOf at es k) (drop k es) ≡ true
@@ -258,14 +237,14 @@ distinct-same [] d i j h k e = absurd (omega arith)
 distinct-same (n ∷ ns) d zero zero h k e = refl
 distinct-same (n ∷ ns) d zero (suc j) h k e =
     let a = any-at (sameBytes n) ns j (omega arith) (same-yes n (getD ns j []) e) in
-    let z : false ≡ true = sym (ap not a) ∙ both-left (not (any (sameBytes n) ns)) _ d in
+    let z : false ≡ true = sym (ap not a) ∙ and-left (not (any (sameBytes n) ns)) _ d in
     cc
 distinct-same (n ∷ ns) d (suc i) zero h k e =
     let a = any-at (sameBytes n) ns i (omega arith) (same-yes n (getD ns i []) (sym e)) in
-    let z : false ≡ true = sym (ap not a) ∙ both-left (not (any (sameBytes n) ns)) _ d in
+    let z : false ≡ true = sym (ap not a) ∙ and-left (not (any (sameBytes n) ns)) _ d in
     cc
 distinct-same (n ∷ ns) d (suc i) (suc j) h k e =
-    ap suc (distinct-same ns (both-right (not (any (sameBytes n) ns)) _ d) i j (omega arith) (omega arith) e)
+    ap suc (distinct-same ns (and-right (not (any (sameBytes n) ns)) _ d) i j (omega arith) (omega arith) e)
 
 -- the order tells held numbers apart
 pub numbered-tells : (names : List Bytes) → distinct names ≡ true → Tells (λ i. i < length names) (numbered names .order)
@@ -290,16 +269,16 @@ module _ {pool table : List ℕ} (g : Good pool table) where
 
   pub good-laid : Laid pool table
   good-laid =
-      let two = both-left (leb (getD table 0 0) 256 && lengthsGood 0 (endsOf table)) _ tested in
+      let two = and-left (leb (getD table 0 0) 256 && lengthsGood 0 (endsOf table)) _ tested in
       record {
         bytes = g .bytes;
         words = g .words;
-        few = leb-true (getD table 0 0) 256 (both-left (leb (getD table 0 0) 256) _ two);
-        rising = both-right (leb (getD table 0 0) 256) _ two;
+        few = leb-true (getD table 0 0) 256 (and-left (leb (getD table 0 0) 256) _ two);
+        rising = and-right (leb (getD table 0 0) 256) _ two;
       }
 
   pub good-distinct : distinct (namesOf (tableOf pool table)) ≡ true
-  good-distinct = both-right (leb (getD table 0 0) 256 && lengthsGood 0 (endsOf table)) _ tested
+  good-distinct = and-right (leb (getD table 0 0) 256 && lengthsGood 0 (endsOf table)) _ tested
 
   -- of held numbers, the order says equal exactly where the numbers are equal
   pub held-tells : Tells (λ i. i < getD table 0 0) (numbered (namesOf (tableOf pool table)) .order)
@@ -360,8 +339,8 @@ module _ {pool table : List ℕ} where
   given-good e =
       let long = need-passed _ 10 (first-passed (need (tableGood (tableOf pool table)) 1) tt (need (leb 8192 (length pool) && leb 257 (length table)) 10) e) in
       record {
-        bytes = leb-true 8192 (length pool) (both-left (leb 8192 (length pool)) _ long);
-        words = leb-true 257 (length table) (both-right (leb 8192 (length pool)) _ long);
+        bytes = leb-true 8192 (length pool) (and-left (leb 8192 (length pool)) _ long);
+        words = leb-true 257 (length table) (and-right (leb 8192 (length pool)) _ long);
         good = need-passed _ 1 (next-passed (need (tableGood (tableOf pool table)) 1) tt (need (leb 8192 (length pool) && leb 257 (length table)) 10) e);
       }
 

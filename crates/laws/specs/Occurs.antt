@@ -17,10 +17,10 @@ use Rattle.rules.specs.Rounds.{otherSide}
 use Rattle.rules.specs.WellFormed.{goodProduct, goodTy, goodTys, goodFields, goodCon}
 use Rattle.rules.specs.Meaning.{inProducts, inProductsTys, inProductsFields, productsOf}
 use Rattle.laws.specs.Order.{Lawful, Tells}
-use Rattle.laws.specs.Sorted.{Each, merge-each, raise-each, inverse-each}
+use Rattle.laws.specs.Sorted.{merge-each, raise-each, inverse-each}
 use Rattle.laws.specs.ExactProducts.{mergeE, raiseE, merge-exact, raise-exact}
 use Rattle.laws.specs.GoodProducts.{goodAtom, good-proper}
-use Rattle.laws.specs.Lists.{and-left, and-right, All, all-nil, all-cons, all-append, append-parts, in-head, some≢none, got≢refused, yes-is, no-is, two-steps, one-step, each-parts, bound-step}
+use Rattle.laws.specs.Lists.{and-left, and-right, All, all-nil, all-cons, all-append, append-parts, in-head, some≢none, got≢refused, yes-is, no-is, two-steps, one-step, each-parts, bound-step, Every}
 use Rattle.laws.specs.RuleCases.{single-is}
 use Rattle.laws.specs.KeepsGood.{GoodTy, dimension-good}
 use Rattle.laws.specs.Evaluation.{valued, valueOf, meantBy, orSelf, Fit, Fits, replace-exact}
@@ -33,13 +33,13 @@ module _ {N : Type 0} (P : Open N → Type 0) where
   OnFactor (free o ↑ e) = P o
   OnFactor (base n ↑ e) = Unit {0}
 
-  pub each-opens : (p : Product N) → Each OnFactor p → All P (collect openOfFactor p)
+  pub each-opens : (p : Product N) → Every OnFactor p → All P (collect openOfFactor p)
   unfolding collect
   each-opens [] h = all-nil P
   each-opens (free o ↑ e ∷ p) h = all-cons P (h .0) (each-opens p (h .1))
   each-opens (base n ↑ e ∷ p) h = each-opens p (h .1)
 
-  pub opens-each : (p : Product N) → All P (collect openOfFactor p) → Each OnFactor p
+  pub opens-each : (p : Product N) → All P (collect openOfFactor p) → Every OnFactor p
   unfolding collect
   opens-each [] h = tt
   opens-each (free o ↑ e ∷ p) h = (h o in-head, opens-each p (λ u m. h u (List·Memᴰ·tail m)))
@@ -50,17 +50,17 @@ module _ {N : Type 0} (P : Open N → Type 0) where
   same-atom (base n) e s h = tt
 
   module _ (ν : Names N) where
-    pub merge-on : (p q : Product N) → Each OnFactor p → Each OnFactor q → Each OnFactor (mergeE ν p q)
+    pub merge-on : (p q : Product N) → Every OnFactor p → Every OnFactor q → Every OnFactor (mergeE ν p q)
     merge-on p q h k = merge-each OnFactor ν exact (λ a b e d s x y i z. same-atom a e s x) p q h k .holds (mergeE ν p q) (merge-exact ν p q)
 
-    pub raise-on : (p : Product N) (k : Exp) → Each OnFactor p → Each OnFactor (raiseE p k)
+    pub raise-on : (p : Product N) (k : Exp) → Every OnFactor p → Every OnFactor (raiseE p k)
     raise-on p k h = raise-each OnFactor ν exact k (λ a e s x i z. same-atom a e s x) p h .holds (raiseE p k) (raise-exact ν p k)
 
-    pub inverse-on : (p : Product N) → Each OnFactor p → Each OnFactor (inverse p)
+    pub inverse-on : (p : Product N) → Every OnFactor p → Every OnFactor (inverse p)
     inverse-on p h = inverse-each OnFactor (λ a e x. same-atom a e (neg e) x) p h
 
     -- a product that was put in has the atoms of what was put in
-    pub valued-on : (v : Atom N → Product N) (p : Product N) → ((n : N) → Each OnFactor (v (base n))) → ((o : Open N) → List·Memᴰ o (collect openOfFactor p) → Each OnFactor (v (free o))) → Each OnFactor (valued ν v p)
+    pub valued-on : (v : Atom N → Product N) (p : Product N) → ((n : N) → Every OnFactor (v (base n))) → ((o : Open N) → List·Memᴰ o (collect openOfFactor p) → Every OnFactor (v (free o))) → Every OnFactor (valued ν v p)
     unfolding valued collect
     valued-on v [] b h = tt
     valued-on v (free o ↑ e ∷ p) b h = merge-on (raiseE (v (free o)) e) (valued ν v p) (raise-on (v (free o)) e (h o in-head)) (valued-on v p b (λ u m. h u (List·Memᴰ·tail m)))
@@ -198,7 +198,7 @@ module _ {N : Type 0} (ν : Names N) (law : Lawful (orderAtom ν)) (held : N →
         let y : valued ν (valueOf look) p ≡ r = cc in
         rw (sym y) (each-opens P (valued ν (valueOf look) p) (valued-on P ν (valueOf look) p (λ n. (tt, tt)) (λ o m. value o m (one-bound ν x t o) (fits-fit ν (λ a. goodAtom ν held q a ≡ true) look p f o m))))
       where
-        value : (o : Open N) → List·Memᴰ o (collect openOfFactor p) → ((o ≡ var x) × (look o ≡ some t)) ⊎ ((o ≡ var x → ⊥) × (look o ≡ none)) → Fit ν (λ a. goodAtom ν held q a ≡ true) look o → Each (OnFactor P) (valueOf look (free o))
+        value : (o : Open N) → List·Memᴰ o (collect openOfFactor p) → ((o ≡ var x) × (look o ≡ some t)) ⊎ ((o ≡ var x → ⊥) × (look o ≡ none)) → Fit ν (λ a. goodAtom ν held q a ≡ true) look o → Every (OnFactor P) (valueOf look (free o))
         value o m (inl i) f =
             let d = f .bound t (i .1) in
             rw (i .1, meantBy, d .is, orSelf) (opens-each P (d .product) (k (d .product) (d .is) (rw (i .0) at m)))

@@ -3,44 +3,17 @@
 use mathlib.Core.Path.{_≡_, refl, ap, ap₂, _∙_, sym, subst}
 use mathlib.Core.Bool.{Bool, true, false}
 use mathlib.Core.List.{[], _∷_}
-use Prim.Native.Nat.{ℕ, _*_, Ordering, Ordering·lt, Ordering·eq, Ordering·gt}
+use Prim.Native.Nat.{ℕ, Ordering, Ordering·lt, Ordering·eq, Ordering·gt}
 use native.Mathlib.Omega.{arith}
-use native.Mathlib.Nat.{mul-one}
-use lib.IntN.{ℤ, negℤ, negℤ-negℤ, _*ℤ_, *ℤ-comm, *ℤ-zero}
 use Rattle.rules.specs.Base.{got, exact}
-use Rattle.rules.specs.Exponents.{Exp, frac, nought, one, isZero, lowest, neg, plus, mul, sum, times}
+use Rattle.rules.specs.Exponents.{Exp, nought, one, isZero, neg, plus, mul, sum, times}
 use Rattle.rules.specs.Trees.{Atom, Atom-discrete, Factor, _↑_, Product, Names, open-dec, orderAtom}
 use Rattle.rules.specs.Products.{put, inverse}
+use Rattle.laws.specs.Lists.{Every}
 use Rattle.laws.specs.Order.{Lawful, Tells, self, after}
-use Rattle.laws.specs.Integers.{natAbs-neg, neg-mul}
-use Rattle.laws.specs.Fractions.{Lowest, lowest-neg, lowest-terms, lowest-nought, nought-lowest, one-lowest, neg-lowest, plus-in-lowest, mul-in-lowest, plus-comm, plus-assoc, plus-nought, plus-neg, mul-comm′, mul-assoc′, mul-plus, mul-one′, zero-is-nought}
-use Rattle.laws.specs.Sorted.{Before, Sorted, Each, sooner, beside, merge-sorted, raise-behind, raise-sorted, inverse-sorted, merge-each, raise-each, inverse-each}
+use Rattle.laws.specs.Fractions.{Lowest, nought-lowest, one-lowest, neg-lowest, plus-in-lowest, mul-in-lowest, plus-comm, plus-assoc, plus-nought, plus-neg, mul-assoc′, mul-plus, mul-one′, zero-is-nought, neg-zero, mul-nought, nought-mul, nought-plus, plus-mul, mul-neg, neg-neg}
+use Rattle.laws.specs.Sorted.{Before, Sorted, sooner, beside, merge-sorted, raise-behind, raise-sorted, inverse-sorted, merge-each, raise-each, inverse-each}
 use Rattle.laws.specs.ExactProducts.{mergeE, mergeOneE, raiseE, merge-exact, raise-exact, sum-exact, times-exact}
-
-pub neg-zero : (e : Exp) → isZero (neg e) ≡ isZero e
-unfolding neg
-neg-zero (frac n d) = rw (natAbs-neg n)
-
-pub mul-nought : (a : Exp) → Lowest a → mul a nought ≡ nought
-unfolding mul
-mul-nought (frac n d) l = ap₂ lowest (*ℤ-zero n) (mul-one d) ∙ lowest-nought d (lowest-terms n d l .positive)
-
-pub nought-mul : (a : Exp) → Lowest a → mul nought a ≡ nought
-nought-mul a l = mul-comm′ nought a ∙ mul-nought a l
-
-pub nought-plus : (a : Exp) → Lowest a → plus nought a ≡ a
-nought-plus a l = plus-comm nought a ∙ plus-nought a l
-
-pub plus-mul : (a b c : Exp) → Lowest a → Lowest b → Lowest c → mul (plus a b) c ≡ plus (mul a c) (mul b c)
-plus-mul a b c l m n = mul-comm′ (plus a b) c ∙ mul-plus c a b n l m ∙ ap₂ plus (mul-comm′ c a) (mul-comm′ c b)
-
-pub mul-neg : (a b : Exp) → mul a (neg b) ≡ neg (mul a b)
-unfolding mul neg
-mul-neg (frac n d) (frac m e) = ap (λ (x : ℤ). lowest x (d * e)) (*ℤ-comm n (negℤ m) ∙ neg-mul m n ∙ ap negℤ (*ℤ-comm m n)) ∙ lowest-neg (n *ℤ m) (d * e)
-
-pub neg-neg : (a : Exp) → neg (neg a) ≡ a
-unfolding neg
-neg-neg (frac n d) = ap (λ (x : ℤ). frac x d) (negℤ-negℤ n)
 
 -- ══ The power of an atom in a product ══
 
@@ -83,10 +56,10 @@ module _ {N : Type 0} (Held : Atom N → Type 0) where
 
 pub record Proper {N : Type 0} (ν : Names N) (Held : Atom N → Type 0) (p : Product N) : Type 0 where
   pub in-order : Sorted ν p
-  pub each : Each (Sound Held) p
+  pub each : Every (Sound Held) p
 
 module _ {N : Type 0} (ν : Names N) (Held : Atom N → Type 0) where
-  power-lowest : (a : Atom N) (p : Product N) → Each (Sound Held) p → Lowest (powerOf ν a p)
+  power-lowest : (a : Atom N) (p : Product N) → Every (Sound Held) p → Lowest (powerOf ν a p)
   unfolding powerOf
   power-lowest a [] h = nought-lowest
   power-lowest a (b ↑ e ∷ p) h = go (atom-dec ν a b) (power-lowest a p (h .1))
@@ -148,10 +121,10 @@ module _ {N : Type 0} (ν : Names N) {Held : Atom N → Type 0} (law : Lawful (o
   low : (c : Atom N) (p : Product N) → Proper ν Held p → Lowest (powerOf ν c p)
   low c p h = power-lowest ν Held c p (h .each)
 
-  one-power : (c a : Atom N) (e : Exp) (p : Product N) (m : Product N → Product N) → Sound Held (a ↑ e) → Before ν a p → Each (Sound Held) p
-      → ((q : Product N) → Sorted ν q → Each (Sound Held) q → powerOf ν c (m q) ≡ plus (powerOf ν c p) (powerOf ν c q))
+  one-power : (c a : Atom N) (e : Exp) (p : Product N) (m : Product N → Product N) → Sound Held (a ↑ e) → Before ν a p → Every (Sound Held) p
+      → ((q : Product N) → Sorted ν q → Every (Sound Held) q → powerOf ν c (m q) ≡ plus (powerOf ν c p) (powerOf ν c q))
       → ((q : Product N) → Sorted ν q → Before ν a q → Before ν a (m q))
-      → (q : Product N) → Sorted ν q → Each (Sound Held) q → powerOf ν c (mergeOneE ν a e p m q) ≡ plus (powerOf ν c (a ↑ e ∷ p)) (powerOf ν c q)
+      → (q : Product N) → Sorted ν q → Every (Sound Held) q → powerOf ν c (mergeOneE ν a e p m q) ≡ plus (powerOf ν c (a ↑ e ∷ p)) (powerOf ν c q)
   unfolding powerOf mergeOneE
   one-power c a e p m h i j f g [] k n = sym (plus-nought (powerOf ν c (a ↑ e ∷ p)) (power-lowest ν Held c (a ↑ e ∷ p) (h, j)))
   one-power c a e p m h i j f g (b ↑ d ∷ q) k n = go (orderAtom ν a b) refl (one-power c a e p m h i j f g q (k .1) (n .1))
@@ -180,7 +153,7 @@ module _ {N : Type 0} (ν : Names N) {Held : Atom N → Type 0} (law : Lawful (o
           ∙ subst (λ (x : Atom N). pick (atom-dec ν c a) (plus e d) (powerOf ν c (m q)) ≡ plus (powerOf ν c (a ↑ e ∷ p)) (powerOf ν c (x ↑ d ∷ q))) (tells .same a b (h .0) (n .0 .0) o) (both (atom-dec ν c a)))
       go Ordering·gt o r = rw (o, mergeOneE) (second (after law a b o) r (atom-dec ν c b))
 
-  merge-powers : (c : Atom N) (p q : Product N) → Sorted ν p → Each (Sound Held) p → Sorted ν q → Each (Sound Held) q → powerOf ν c (mergeE ν p q) ≡ plus (powerOf ν c p) (powerOf ν c q)
+  merge-powers : (c : Atom N) (p q : Product N) → Sorted ν p → Every (Sound Held) p → Sorted ν q → Every (Sound Held) q → powerOf ν c (mergeE ν p q) ≡ plus (powerOf ν c p) (powerOf ν c q)
   unfolding powerOf mergeE
   merge-powers c [] q h i j k = sym (nought-plus (powerOf ν c q) (power-lowest ν Held c q k))
   merge-powers c (a ↑ e ∷ p) q h i j k =
@@ -191,7 +164,7 @@ module _ {N : Type 0} (ν : Names N) {Held : Atom N → Type 0} (law : Lawful (o
   pub merge-power : (c : Atom N) (p q : Product N) → Proper ν Held p → Proper ν Held q → powerOf ν c (mergeE ν p q) ≡ plus (powerOf ν c p) (powerOf ν c q)
   merge-power c p q h k = merge-powers c p q (h .in-order) (h .each) (k .in-order) (k .each)
 
-  raise-powers : (c : Atom N) (p : Product N) (k : Exp) → Sorted ν p → Each (Sound Held) p → Lowest k → powerOf ν c (raiseE p k) ≡ mul (powerOf ν c p) k
+  raise-powers : (c : Atom N) (p : Product N) (k : Exp) → Sorted ν p → Every (Sound Held) p → Lowest k → powerOf ν c (raiseE p k) ≡ mul (powerOf ν c p) k
   unfolding powerOf raiseE
   raise-powers c [] k h i l = sym (nought-mul k l)
   raise-powers c (a ↑ e ∷ p) k h i l =
@@ -221,7 +194,7 @@ module _ {N : Type 0} (ν : Names N) {Held : Atom N → Type 0} (law : Lawful (o
   some-power : (e : Exp) → isZero e ≡ false → ¬ (e ≡ nought)
   some-power e h i = let j : true ≡ false = sym (ap isZero i) ∙ h in let z : _≡_ {A = ℕ} 0 1 = cc in omega arith
 
-  determined : (p q : Product N) → Sorted ν p → Each (Sound Held) p → Sorted ν q → Each (Sound Held) q → ((c : Atom N) → powerOf ν c p ≡ powerOf ν c q) → p ≡ q
+  determined : (p q : Product N) → Sorted ν p → Every (Sound Held) p → Sorted ν q → Every (Sound Held) q → ((c : Atom N) → powerOf ν c p ≡ powerOf ν c q) → p ≡ q
   unfolding powerOf
   determined [] [] h i j k f = refl
   determined [] (b ↑ d ∷ q) h i j k f = absurd (some-power d (k .0 .2) (sym (power-here ν b d q) ∙ sym (f b)))

@@ -1,6 +1,6 @@
 -- Well formed exponents: what the test says, and that the bounded steps give well formed exponents again.
 -- Assumes nothing.
-use mathlib.Core.Path.{_≡_, refl, ap, _∙_, sym, subst}
+use mathlib.Core.Path.{_≡_, refl, ap, _∙_, subst}
 use mathlib.Core.Bool.{Bool, true, false, not, _&&_, and-eq-true-iff}
 use mathlib.Core.Option.{Option, none, some}
 use Prim.Native.Nat.{ℕ, zero, suc, _<_, _≤_}
@@ -11,9 +11,10 @@ use lib.IntN.{ℤ, pos, negsuc, negℤ, natAbs}
 use Rattle.rules.specs.Base.{Got, got, bounded, allow, need, _>>_}
 use Rattle.rules.specs.Exponents.{Exp, frac, gcdIn, gcd, nought, one, top, inRange, goodExp, isZero, goodStored, ranged, neg, plus, mul, inverted, sum, times, negation, quotient, timesInverse}
 use Rattle.rules.specs.Values.{sumCall, timesCall, negationCall, quotientCall}
+use Rattle.laws.specs.Lists.{not-true}
 use Rattle.laws.specs.Integers.{natAbs-neg}
 use Rattle.laws.specs.Gcd.{gcd-comm}
-use Rattle.laws.specs.Value.{Gives, gives, refuses}
+use Rattle.laws.specs.Value.{Gives, gives, refuses, allowed}
 use Rattle.laws.specs.Fractions.{Lowest, lowest-terms, terms-lowest, coprime-terms, plus-in-lowest, mul-in-lowest, inverted-lowest}
 
 -- what the test asks
@@ -65,11 +66,7 @@ stored-good e h = and-eq-true-iff (not (isZero e)) (goodExp e) .0 h .1
 
 pub stored-not-zero : (e : Exp) → goodStored e ≡ true → isZero e ≡ false
 unfolding goodStored
-stored-not-zero e h = go (isZero e) (and-eq-true-iff (not (isZero e)) (goodExp e) .0 h .0)
-  where
-    go : (t : Bool) → not t ≡ true → t ≡ false
-    go true k = sym k
-    go false k = refl
+stored-not-zero e h = not-true (isZero e) (and-eq-true-iff (not (isZero e)) (goodExp e) .0 h .0)
 
 pub is-stored : (e : Exp) → isZero e ≡ false → goodExp e ≡ true → goodStored e ≡ true
 unfolding goodStored
@@ -78,11 +75,7 @@ is-stored e z h = rw (z, h)
 -- ══ The bounded steps ══
 
 pub ranged-good : (e : Exp) → Lowest e → Gives (ranged bounded e) (λ r. goodExp r ≡ true)
-ranged-good e l = record { holds = λ r. go r (inRange e) refl }
-  where
-    go : (r : Exp) (t : Bool) → inRange e ≡ t → allow t 7 e ≡ got r → goodExp r ≡ true
-    go r true h k = let is : e ≡ r = cc in subst (λ (x : Exp). goodExp x ≡ true) is (lowest-good e l h)
-    go r false h k = let z : _≡_ {A = ℕ} 0 1 = cc in absurd (omega arith)
+ranged-good e l = allowed (inRange e) 7 e (lowest-good e l)
 
 -- a negative is never out of range
 pub neg-good : (e : Exp) → goodExp e ≡ true → goodExp (neg e) ≡ true

@@ -11,6 +11,7 @@ use Rattle.rules.specs.Base.{all, collect}
 use Rattle.rules.specs.Trees.{Open, var, quant, par, Con, equal, isDim, isScalar, hasField, Binding, _≔_, depthCon, depthBinding}
 use Rattle.rules.specs.Writing.{Rec, rec, words, writeProduct, writeTy, writeCon, writeBinding, writeBound}
 use Rattle.rules.specs.Reading.{Reader, give, pick, next, readTy, scalarTable, scalarKinds, conTable, readEqual, readIsDim, readScalar, readHasField, readBoundTo, readCon, bindingTable, readBinding, boundTable, readBound, readAll, records}
+pub use Rattle.laws.specs.Lists.{Every}
 use Rattle.laws.specs.Reading.{FitsProduct, Fits, read-factors, read-ty}
 use Rattle.laws.specs.Written.{Reads, nothing, given, then, picked, plain, Small, Is, after, factors-read, ty-read}
 
@@ -48,11 +49,6 @@ unfolding readBound writeBound all
 read-bound (var x) rest h = refl
 read-bound (quant i) rest h = refl
 read-bound (par x) rest h = absurd h
-
--- every one of a list
-abbrev pub Every : {A : Type 0} → (A → Type 0) → List A → Type 0
-Every P [] = Unit {0}
-Every P (a ∷ as′) = P a × Every P as′
 
 -- one more read in front of what is read behind it
 abbrev before : {A : Type 0} → A → Option (List A) → Option (List A)
@@ -189,8 +185,7 @@ module _ {A : Type 0} (w : A → List Rec) where
 
 -- words of 32 bits
 abbrev pub Words : List ℕ → Type 0
-Words [] = Unit {0}
-Words (w ∷ ws) = (w < 4_294_967_296) × Words ws
+Words ws = Every (λ w. w < 4_294_967_296) ws
 
 -- what words were taken as has these words, and its words are small
 pub record Taken (ws : List ℕ) (o : Option (List Rec)) : Type 0 where

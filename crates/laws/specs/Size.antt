@@ -1,10 +1,13 @@
--- As many records are written as the size says.
+-- As many records are written as the size says, and four words a record.
 -- Assumes nothing.
 use mathlib.Core.Path.{_≡_, refl, ap}
-use Prim.Native.Nat.{ℕ, suc}
+use mathlib.Core.List.{List, [], _∷_}
+use Prim.Native.Nat.{ℕ, suc, _*_}
+use native.Mathlib.Omega.{arith}
 use lib.ListN.{length, length-append, length-map}
+use Rattle.rules.specs.Base.{collect, sumOf}
 use Rattle.rules.specs.Trees.{Ty, opened, basic, dim, fn, struct, list, Tys, nil, cons, Fields, noFields, field, Con, equal, isDim, isScalar, hasField, Binding, _≔_, size, sizeTys, sizeFields, sizeCon, sizeBinding}
-use Rattle.rules.specs.Writing.{writeTy, writeTys, writeFields, writeProduct, writeCon, writeBinding}
+use Rattle.rules.specs.Writing.{Rec, rec, words, writeTy, writeTys, writeFields, writeProduct, writeCon, writeBinding}
 
 mutual
   unfolding size writeTy writeProduct
@@ -35,3 +38,14 @@ size-con (hasField n s t) = simp (length-append, size-ty s, size-ty t)
 pub size-binding : (b : Binding ℕ) → length (writeBinding b) ≡ sizeBinding b
 unfolding sizeBinding writeBinding
 size-binding (x ≔ t) = ap suc (size-ty t)
+
+-- four words a record
+pub words-length : (rs : List Rec) → length (words rs) ≡ length rs * 4
+unfolding words
+words-length [] = refl
+words-length (rec k a b c ∷ rs) = omega (arith, words-length rs)
+
+pub set-length : (cs : List (Con ℕ)) → length (collect writeCon cs) ≡ sumOf sizeCon cs
+unfolding collect
+set-length [] = refl
+set-length (c ∷ cs) = simp (length-append, size-con c, set-length cs)

@@ -1,36 +1,27 @@
 -- Merging, raising and inverting keep products in order, and keep what holds of each factor.
 -- Assumes nothing.
-use mathlib.Core.Path.{_≡_, refl, _∙_}
-use mathlib.Core.Bool.{Bool, true, false, _&&_}
+use mathlib.Core.Path.{_≡_, refl, sym, _∙_}
+use mathlib.Core.Bool.{Bool, true, false}
 use mathlib.Core.List.{[], _∷_, map}
 use Prim.Native.Nat.{Ordering, Ordering·lt, Ordering·eq, Ordering·gt}
-use lib.Dec.{T}
 use Rattle.rules.specs.Base.{Got, got, Limits}
 use Rattle.rules.specs.Exponents.{Exp, isZero, neg, sum, times}
 use Rattle.rules.specs.Trees.{Atom, Factor, _↑_, Product, Names, orderAtom}
 use Rattle.rules.specs.Products.{put, inverse, mergeOne, merge, raise}
 use Rattle.rules.specs.WellFormed.{isLt, rising, atomOf}
+use Rattle.laws.specs.Lists.{true≢false, and-left, and-right, Every, every-as}
 use Rattle.laws.specs.Order.{Lawful, after}
-use Rattle.laws.specs.Value.{Gives, gives, next, weaken}
+use Rattle.laws.specs.Value.{Gives, gives, next, weaken, its-own}
 
-lt : (o : Ordering) → T (isLt o) → o ≡ Ordering·lt
+lt : (o : Ordering) → isLt o ≡ true → o ≡ Ordering·lt
 lt Ordering·lt t = refl
-lt Ordering·eq t = absurd t
-lt Ordering·gt t = absurd t
-
-left : (a b : Bool) → T (a && b) → T a
-left true b t = tt
-left false b t = t
-
-right : (a b : Bool) → T (a && b) → T b
-right true b t = t
-right false b t = absurd t
+lt Ordering·eq t = absurd (true≢false (sym t))
+lt Ordering·gt t = absurd (true≢false (sym t))
 
 module _ {N : Type 0} (ν : Names N) where
   -- an atom stands before all of a product
   abbrev pub Before : Atom N → Product N → Type 0
-  Before a [] = Unit {0}
-  Before a (b ↑ d ∷ p) = (orderAtom ν a b ≡ Ordering·lt) × Before a p
+  Before a p = Every (λ f. orderAtom ν a (atomOf f) ≡ Ordering·lt) p
 
   abbrev pub Sorted : Product N → Type 0
   Sorted [] = Unit {0}
@@ -38,27 +29,25 @@ module _ {N : Type 0} (ν : Names N) where
 
 module _ {N : Type 0} (ν : Names N) (law : Lawful (orderAtom ν)) where
   pub sooner : (a b : Atom N) (p : Product N) → orderAtom ν a b ≡ Ordering·lt → Before ν b p → Before ν a p
-  sooner a b [] h k = tt
-  sooner a b (c ↑ e ∷ p) h k = (law .trans a b c h (k .0), sooner a b p h (k .1))
+  sooner a b p h k = every-as (λ f. law .trans a b (atomOf f) h) p k
 
   pub beside : (a b : Atom N) (p : Product N) → orderAtom ν a b ≡ Ordering·eq → Before ν b p → Before ν a p
-  beside a b [] h k = tt
-  beside a b (c ↑ e ∷ p) h k = (law .alike a b c h ∙ k .0, beside a b p h (k .1))
+  beside a b p h k = every-as (λ f i. law .alike a b (atomOf f) h ∙ i) p k
 
   -- the test of the records, as a fact
-  pub sorted : (p : Product N) → T (rising (orderAtom ν) (map atomOf p)) → Sorted ν p
+  pub sorted : (p : Product N) → rising (orderAtom ν) (map atomOf p) ≡ true → Sorted ν p
   unfolding rising
   sorted [] t = tt
   sorted (a ↑ e ∷ []) t = (tt, tt)
   sorted (a ↑ e ∷ b ↑ d ∷ p) t =
-      let h : orderAtom ν a b ≡ Ordering·lt = lt (orderAtom ν a b) (left (isLt (orderAtom ν a b)) _ t) in
-      let s = sorted (b ↑ d ∷ p) (right (isLt (orderAtom ν a b)) _ t) in
+      let h : orderAtom ν a b ≡ Ordering·lt = lt (orderAtom ν a b) (and-left (isLt (orderAtom ν a b)) _ t) in
+      let s = sorted (b ↑ d ∷ p) (and-right (isLt (orderAtom ν a b)) _ t) in
       ((h, sooner a b p h (s .0)), s)
 
-  pub sorted-rises : (p : Product N) → Sorted ν p → T (rising (orderAtom ν) (map atomOf p))
+  pub sorted-rises : (p : Product N) → Sorted ν p → rising (orderAtom ν) (map atomOf p) ≡ true
   unfolding rising
-  sorted-rises [] s = tt
-  sorted-rises (a ↑ e ∷ []) s = tt
+  sorted-rises [] s = refl
+  sorted-rises (a ↑ e ∷ []) s = refl
   sorted-rises (a ↑ e ∷ b ↑ d ∷ p) s = rw (s .0 .0) (sorted-rises (b ↑ d ∷ p) (s .1))
 
   -- a product in order, behind each atom that stands before p and q
@@ -73,12 +62,6 @@ module _ {N : Type 0} (ν : Names N) (law : Lawful (orderAtom ν)) where
       go false q = rw (q, put) ((h, k), λ c i j. (i, j))
 
   module _ (l : Limits) where
-    any-sum : (e d : Exp) → Gives (sum l e d) (λ s. Unit {0})
-    any-sum e d = record { holds = λ a i. tt }
-
-    any-times : (e d : Exp) → Gives (times l e d) (λ s. Unit {0})
-    any-times e d = record { holds = λ a i. tt }
-
     one-sorted : (a : Atom N) (e : Exp) (p : Product N) (m : Product N → Got (Product N)) → Before ν a p → Sorted ν p → ((q : Product N) → Sorted ν q → Gives (m q) (Joined p q)) → (q : Product N) → Sorted ν q → Gives (mergeOne ν l a e p m q) (Joined (a ↑ e ∷ p) q)
     unfolding mergeOne
     one-sorted a e p m h i f [] k = gives ((h, i), λ c j n. j)
@@ -90,7 +73,7 @@ module _ {N : Type 0} (ν : Names N) (law : Lawful (orderAtom ν)) where
             gives ((g .1 a h (j, sooner a b q j (k .0)), g .0), λ c x y. (x .0, g .1 c (x .1) y))))
         go Ordering·eq j r =
             let aq : Before ν a q = beside a b q j (k .0) in
-            rw (j, mergeOne) (next (any-sum e d) (λ s u. next (f q (k .1)) (λ t g.
+            rw (j, mergeOne) (next (its-own (sum l e d)) (λ s u. next (f q (k .1)) (λ t g.
             let w = put-sorted a s t (g .1 a h aq) (g .0) in
             gives (w .0, λ c x y. w .1 c (x .0) (g .1 c (x .1) (y .1))))))
         go Ordering·gt j r =
@@ -108,7 +91,7 @@ module _ {N : Type 0} (ν : Names N) (law : Lawful (orderAtom ν)) where
     unfolding raise
     raise-behind [] k h = gives (tt, λ c x. x)
     raise-behind (a ↑ e ∷ p) k h =
-        next (any-times e k) (λ s u. next (raise-behind p k (h .1)) (λ r g.
+        next (its-own (times l e k)) (λ s u. next (raise-behind p k (h .1)) (λ r g.
         let w = put-sorted a s r (g .1 a (h .0)) (g .0) in
         gives (w .0, λ c x. w .1 c (x .0) (g .1 c (x .1)))))
 
@@ -127,20 +110,15 @@ module _ {N : Type 0} (ν : Names N) (law : Lawful (orderAtom ν)) where
 
 -- ══ What holds of each factor ══
 
-module _ {N : Type 0} where
-  abbrev pub Each : (Factor N → Type 0) → Product N → Type 0
-  Each P [] = Unit {0}
-  Each P (f ∷ p) = P f × Each P p
-
 module _ {N : Type 0} (P : Factor N → Type 0) where
-  put-each : (a : Atom N) (e : Exp) (r : Product N) → (isZero e ≡ false → P (a ↑ e)) → Each P r → Each P (put a e r)
+  put-each : (a : Atom N) (e : Exp) (r : Product N) → (isZero e ≡ false → P (a ↑ e)) → Every P r → Every P (put a e r)
   put-each a e r h k = go (isZero e) refl
     where
-      go : (b : Bool) → isZero e ≡ b → Each P (put a e r)
+      go : (b : Bool) → isZero e ≡ b → Every P (put a e r)
       go true q = rw (q, put) k
       go false q = rw (q, put) (h q, k)
 
-  pub inverse-each : ((a : Atom N) (e : Exp) → P (a ↑ e) → P (a ↑ neg e)) → (p : Product N) → Each P p → Each P (inverse p)
+  pub inverse-each : ((a : Atom N) (e : Exp) → P (a ↑ e) → P (a ↑ neg e)) → (p : Product N) → Every P p → Every P (inverse p)
   unfolding inverse
   inverse-each f [] h = tt
   inverse-each f (a ↑ e ∷ p) h = (f a e (h .0), inverse-each f p (h .1))
@@ -148,29 +126,23 @@ module _ {N : Type 0} (P : Factor N → Type 0) where
   module _ (ν : Names N) (l : Limits) where
     -- merging keeps what sums of exponents keep
     module _ (adds : (a b : Atom N) (e d s : Exp) → P (a ↑ e) → P (b ↑ d) → sum l e d ≡ got s → isZero s ≡ false → P (a ↑ s)) where
-      one-each : (a : Atom N) (e : Exp) (p : Product N) (m : Product N → Got (Product N)) → P (a ↑ e) → Each P p → ((q : Product N) → Each P q → Gives (m q) (Each P)) → (q : Product N) → Each P q → Gives (mergeOne ν l a e p m q) (Each P)
+      one-each : (a : Atom N) (e : Exp) (p : Product N) (m : Product N → Got (Product N)) → P (a ↑ e) → Every P p → ((q : Product N) → Every P q → Gives (m q) (Every P)) → (q : Product N) → Every P q → Gives (mergeOne ν l a e p m q) (Every P)
       unfolding mergeOne
       one-each a e p m h i f [] k = gives (h, i)
       one-each a e p m h i f (b ↑ d ∷ q) k = go (orderAtom ν a b) refl (one-each a e p m h i f q (k .1))
         where
-          summed : Gives (sum l e d) (λ s. sum l e d ≡ got s)
-          summed = record { holds = λ s j. j }
-
-          go : (o : Ordering) → orderAtom ν a b ≡ o → Gives (mergeOne ν l a e p m q) (Each P) → Gives (mergeOne ν l a e p m (b ↑ d ∷ q)) (Each P)
+          go : (o : Ordering) → orderAtom ν a b ≡ o → Gives (mergeOne ν l a e p m q) (Every P) → Gives (mergeOne ν l a e p m (b ↑ d ∷ q)) (Every P)
           go Ordering·lt j r = rw (j, mergeOne) (next (f (b ↑ d ∷ q) k) (λ s g. gives (h, g)))
-          go Ordering·eq j r = rw (j, mergeOne) (next summed (λ s u. next (f q (k .1)) (λ t g. gives (put-each a s t (adds a b e d s h (k .0) u) g))))
+          go Ordering·eq j r = rw (j, mergeOne) (next (its-own (sum l e d)) (λ s u. next (f q (k .1)) (λ t g. gives (put-each a s t (adds a b e d s h (k .0) u) g))))
           go Ordering·gt j r = rw (j, mergeOne) (next r (λ s g. gives (k .0, g)))
 
-      pub merge-each : (p q : Product N) → Each P p → Each P q → Gives (merge ν l p q) (Each P)
+      pub merge-each : (p q : Product N) → Every P p → Every P q → Gives (merge ν l p q) (Every P)
       unfolding merge
       merge-each [] q h k = gives k
       merge-each (a ↑ e ∷ p) q h k = one-each a e p _ (h .0) (h .1) (λ q i. merge-each p q (h .1) i) q k
 
     -- raising keeps what products of exponents keep
-    pub raise-each : (k : Exp) → ((a : Atom N) (e s : Exp) → P (a ↑ e) → times l e k ≡ got s → isZero s ≡ false → P (a ↑ s)) → (p : Product N) → Each P p → Gives (raise ν l p k) (Each P)
+    pub raise-each : (k : Exp) → ((a : Atom N) (e s : Exp) → P (a ↑ e) → times l e k ≡ got s → isZero s ≡ false → P (a ↑ s)) → (p : Product N) → Every P p → Gives (raise ν l p k) (Every P)
     unfolding raise
     raise-each k f [] h = gives tt
-    raise-each k f (a ↑ e ∷ p) h = next timed (λ s u. next (raise-each k f p (h .1)) (λ r g. gives (put-each a s r (f a e s (h .0) u) g)))
-      where
-        timed : Gives (times l e k) (λ s. times l e k ≡ got s)
-        timed = record { holds = λ s j. j }
+    raise-each k f (a ↑ e ∷ p) h = next (its-own (times l e k)) (λ s u. next (raise-each k f p (h .1)) (λ r g. gives (put-each a s r (f a e s (h .0) u) g)))

@@ -3,26 +3,18 @@
 use mathlib.Core.Path.{_≡_, refl}
 use mathlib.Core.Bool.{Bool, true, false}
 use mathlib.Core.Option.{Option, none, some}
-use mathlib.Core.List.{List, [], _∷_, _++_}
+use mathlib.Core.List.{List, [], _∷_}
 use Rattle.rules.specs.Base.{got, Limits, collect, onlyIf, isYes}
 use Rattle.rules.specs.Exponents.{Exp-dec, one}
 use Rattle.rules.specs.Trees.{Open, var, quant, par, free, base, _↑_, Product, Names, Ty, opened, basic, dim, fn, struct, list, Tys, nil, cons, Fields, noFields, field, opens, opensTys, opensFields, openOfFactor}
 use Rattle.rules.specs.Products.{single}
 use Rattle.rules.specs.Replacing.{Look, replaceFactors, replaceProduct, replaceDim, replaceTy, replaceTys, replaceFields}
+use Rattle.laws.specs.Lists.{Every, every-left, every-right}
 
 module _ {N : Type 0} (look : Look N) where
   -- none of the open names is bound
   abbrev pub Unbound : List (Open N) → Type 0
-  Unbound [] = Unit {0}
-  Unbound (o ∷ os) = (look o ≡ none) × Unbound os
-
-  left : (xs ys : List (Open N)) → Unbound (xs ++ ys) → Unbound xs
-  left [] ys h = tt
-  left (x ∷ xs) ys h = (h .0, left xs ys (h .1))
-
-  right : (xs ys : List (Open N)) → Unbound (xs ++ ys) → Unbound ys
-  right [] ys h = h
-  right (x ∷ xs) ys h = right xs ys (h .1)
+  Unbound os = Every (λ o. look o ≡ none) os
 
   only : (b : Bool) (o u : Open N) → look o ≡ none → onlyIf b o ≡ some u → look u ≡ none
   only true o u h e = cc
@@ -56,17 +48,17 @@ module _ {N : Type 0} (ν : Names N) (l : Limits) (look : Look N) where
     ty-same (opened o) h = rw (h .0)
     ty-same (basic b) h = refl
     ty-same (dim p) h = dim-same p (single p) refl h
-    ty-same (fn ps r) h = rw (tys-same ps (left look (opensTys ps) (opens r) h), ty-same r (right look (opensTys ps) (opens r) h))
-    ty-same (struct n as′ fs) h = rw (tys-same as′ (left look (opensTys as′) (opensFields fs) h), fields-same fs (right look (opensTys as′) (opensFields fs) h))
+    ty-same (fn ps r) h = rw (tys-same ps (every-left (λ o. look o ≡ none) (opensTys ps) (opens r) h), ty-same r (every-right (λ o. look o ≡ none) (opensTys ps) (opens r) h))
+    ty-same (struct n as′ fs) h = rw (tys-same as′ (every-left (λ o. look o ≡ none) (opensTys as′) (opensFields fs) h), fields-same fs (every-right (λ o. look o ≡ none) (opensTys as′) (opensFields fs) h))
     ty-same (list t) h = rw (ty-same t h)
 
     pub tys-same : (ts : Tys N) → Unbound look (opensTys ts) → replaceTys ν l look ts ≡ got ts
     tys-same nil h = refl
-    tys-same (cons t ts) h = rw (ty-same t (left look (opens t) (opensTys ts) h), tys-same ts (right look (opens t) (opensTys ts) h))
+    tys-same (cons t ts) h = rw (ty-same t (every-left (λ o. look o ≡ none) (opens t) (opensTys ts) h), tys-same ts (every-right (λ o. look o ≡ none) (opens t) (opensTys ts) h))
 
     pub fields-same : (fs : Fields N) → Unbound look (opensFields fs) → replaceFields ν l look fs ≡ got fs
     fields-same noFields h = refl
-    fields-same (field n t fs) h = rw (ty-same t (left look (opens t) (opensFields fs) h), fields-same fs (right look (opens t) (opensFields fs) h))
+    fields-same (field n t fs) h = rw (ty-same t (every-left (λ o. look o ≡ none) (opens t) (opensFields fs) h), fields-same fs (every-right (λ o. look o ≡ none) (opens t) (opensFields fs) h))
 
   -- a closed type is never changed
   pub closed-same : (t : Ty N) → opens t ≡ [] → replaceTy ν l look t ≡ got t

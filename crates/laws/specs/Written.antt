@@ -1,17 +1,19 @@
 -- What was read is what is written there: the records that were read are those of the tree.
 -- Assumes nothing.
 use mathlib.Core.Path.{_≡_, refl, ap, _∙_, sym, subst}
-use mathlib.Core.Bool.{Bool, true, false, _&&_}
+use mathlib.Core.Bool.{Bool, true, false}
 use mathlib.Core.Option.{Option, none, some}
 use mathlib.Core.List.{List, [], _∷_, _++_, map, append-assoc}
 use Prim.Native.Nat.{ℕ, zero, suc, _<_}
 use native.Mathlib.Omega.{arith}
 use lib.ListN.{length}
-use lib.Dec.{T, eqb, ltb, eqb→eq}
+use lib.Dec.{eqb, ltb, eqb→eq}
 use Rattle.rules.specs.Base.{all}
 use Rattle.rules.specs.Trees.{var, quant, par, Ty, opened, basic, boolean, string, datetime, count, countFields}
 use Rattle.rules.specs.Writing.{Rec, rec, twos, signed, bySign, writeFactor, writeProduct, writeTy, writeTys, writeFields}
 use Rattle.rules.specs.Reading.{Reader, pass, give, unused, pick, next, factorTable, factorKinds, readFactors, readTys, readFields, fieldName, readDim, readFn, readStruct, readList, typeTable, readTy}
+use Rattle.laws.specs.Lists.{Every, all-every, all-is}
+use borrow.Author.Tests.{eqb-true}
 
 -- what was read, if anything was, is as stated
 pub record Reads {A : Type 0} (o : Option (A × List Rec)) (P : A → List Rec → Type 0) : Type 0 where
@@ -31,11 +33,10 @@ then {o} {f} {P} {Q} h k = go o refl
     go (some r) e = k (r .0) (r .1) (h .holds (r .0) (r .1) e)
 
 -- by the kind: each line of the table, at its kind
-abbrev pub Each : {A : Type 0} → ℕ → List Rec → (A → List Rec → Type 0) → List (ℕ × Reader A) → Type 0
-Each k s Q [] = Unit {0}
-Each k s Q (x ∷ xs) = (k ≡ x .0 → Reads (x .1 s) Q) × Each k s Q xs
+abbrev pub Lines : {A : Type 0} → ℕ → List Rec → (A → List Rec → Type 0) → List (ℕ × Reader A) → Type 0
+Lines k s Q xs = Every (λ x. k ≡ x .0 → Reads (x .1 s) Q) xs
 
-pub picked : {A : Type 0} {Q : A → List Rec → Type 0} (k : ℕ) (s : List Rec) (xs : List (ℕ × Reader A)) → Each k s Q xs → Reads (pick k xs s) Q
+pub picked : {A : Type 0} {Q : A → List Rec → Type 0} (k : ℕ) (s : List Rec) (xs : List (ℕ × Reader A)) → Lines k s Q xs → Reads (pick k xs s) Q
 picked k s [] h = nothing
 picked {A} {Q} k s (x ∷ xs) h = go (eqb k (x .0)) refl (picked k s xs (h .1))
   where
@@ -45,23 +46,16 @@ picked {A} {Q} k s (x ∷ xs) h = go (eqb k (x .0)) refl (picked k s xs (h .1))
 
 -- words that are 0
 abbrev pub Zeros : List ℕ → Type 0
-Zeros [] = Unit {0}
-Zeros (w ∷ ws) = (w ≡ 0) × Zeros ws
+Zeros ws = Every (λ w. w ≡ 0) ws
 
-pub zeros : (ws : List ℕ) → T (all (λ w. eqb w 0) ws) → Zeros ws
-unfolding all
-zeros [] t = tt
-zeros (w ∷ ws) t = go (eqb w 0) refl t (λ u. zeros ws u)
-  where
-    go : (b : Bool) → eqb w 0 ≡ b → T (b && all (λ w. eqb w 0) ws) → (T (all (λ w. eqb w 0) ws) → Zeros ws) → Zeros (w ∷ ws)
-    go true e u f = (eqb→eq w 0 (rw e tt), f u)
-    go false e u f = absurd u
+zeros : (ws : List ℕ) → all (λ w. eqb w 0) ws ≡ true → Zeros ws
+zeros ws t = all-every (λ w. w ≡ 0) ws (λ w m. eqb-true w 0 (all-is (λ w. eqb w 0) ws t w m))
 
 pub plain : {A : Type 0} {Q : A → List Rec → Type 0} (ws : List ℕ) (m : Reader A) (s : List Rec) → (Zeros ws → Reads (m s) Q) → Reads (unused ws m s) Q
 plain {A} {Q} ws m s h = go (all (λ w. eqb w 0) ws) refl
   where
     go : (b : Bool) → all (λ w. eqb w 0) ws ≡ b → Reads (unused ws m s) Q
-    go true e = rw (e, unused) (h (zeros ws (rw e tt)))
+    go true e = rw (e, unused) (h (zeros ws e))
     go false e = rw (e, unused) nothing
 
 -- words of 32 bits

@@ -20,9 +20,10 @@ use Rattle.rules.specs.Trees as Trees
 use Rattle.rules.specs.Trees.{var, quant, par, free, base, _↑_, Names, orderAtom}
 use Rattle.rules.specs.Values.{ProductValue, blank, kindOf, numberIn, atomIn, valueOf, factorIn, factorsIn, productValue, productIn, productGiven}
 use Rattle.rules.specs.WellFormed.{goodProduct}
+use Rattle.laws.specs.Lists.{Every}
 use Rattle.laws.specs.Order.{Lawful}
 use Rattle.laws.specs.ByteOrder.{numbered-lawful, atom-lawful}
-use Rattle.laws.specs.Sorted.{Sorted, Each, sooner}
+use Rattle.laws.specs.Sorted.{Sorted, sooner}
 use Rattle.laws.specs.GoodProducts.{GoodFactor, GoodProduct, good-product, product-good, inverse-good}
 use Rattle.exponents.specs.Answers.{expOf}
 use Rattle.products.specs.declared.Factor.{Factor}
@@ -88,21 +89,17 @@ some-injective h = cc
 
 -- ══ By place, and by list ══
 
-abbrev EachOf : (Factor → Type 0) → List Factor → Type 0
-EachOf P [] = Unit {0}
-EachOf P (f ∷ l) = P f × EachOf P l
-
 abbrev Rises : Names ℕ → List Factor → Type 0
 Rises ν [] = Unit {0}
 Rises ν (x ∷ []) = Unit {0}
 Rises ν (x ∷ y ∷ l) = (orderAtom ν (atomAt x) (atomAt y) ≡ Ordering·lt) × Rises ν (y ∷ l)
 
-each-at : (P : Factor → Type 0) (l : List Factor) → EachOf P l → (i : ℕ) → i < length l → P (getD l i unread)
+each-at : (P : Factor → Type 0) (l : List Factor) → Every P l → (i : ℕ) → i < length l → P (getD l i unread)
 each-at P [] h i k = absurd (omega arith)
 each-at P (f ∷ l) h zero k = h .0
 each-at P (f ∷ l) h (suc i) k = each-at P l (h .1) i (omega arith)
 
-at-each : (P : Factor → Type 0) (l : List Factor) → ((i : ℕ) → i < length l → P (getD l i unread)) → EachOf P l
+at-each : (P : Factor → Type 0) (l : List Factor) → ((i : ℕ) → i < length l → P (getD l i unread)) → Every P l
 at-each P [] h = tt
 at-each P (f ∷ l) h = (h 0 (omega arith), at-each P l (λ i k. h (suc i) (omega arith)))
 
@@ -120,18 +117,18 @@ module _ (ν : Names ℕ) where
 
 -- ══ The factors of a list of known kinds ══
 
-known : (l : List Factor) → EachOf (λ f. Kind (f .kind)) l → factorsIn (map valueIn l) ≡ some (map treeOf l)
+known : (l : List Factor) → Every (λ f. Kind (f .kind)) l → factorsIn (map valueIn l) ≡ some (map treeOf l)
 unfolding factorsIn
 known [] h = refl
 known (f ∷ l) h = rw (factor-back f (h .0), known l (h .1))
 
-all-known : (l : List Factor) (t : Tree) → factorsIn (map valueIn l) ≡ some t → EachOf (λ f. Kind (f .kind)) l
+all-known : (l : List Factor) (t : Tree) → factorsIn (map valueIn l) ≡ some t → Every (λ f. Kind (f .kind)) l
 unfolding factorsIn
 all-known [] t h = tt
 all-known (f ∷ l) t h = go (kind-of (f .kind) (f .name)) (factorsIn (map valueIn l)) refl (all-known l)
   where
     go : Kind (f .kind) ⊎ (atomIn (f .kind) (f .name) ≡ none) → (o : Option Tree) → factorsIn (map valueIn l) ≡ o
-        → ((t : Tree) → factorsIn (map valueIn l) ≡ some t → EachOf (λ f. Kind (f .kind)) l) → EachOf (λ f. Kind (f .kind)) (f ∷ l)
+        → ((t : Tree) → factorsIn (map valueIn l) ≡ some t → Every (λ f. Kind (f .kind)) l) → Every (λ f. Kind (f .kind)) (f ∷ l)
     go (inl k) (some r) e rest = (k, rest r e)
     go (inl k) none e rest = let z : none ≡ some t = rw (factor-back f k, e) at h in let w : _≡_ {A = ℕ} 0 1 = cc in absurd (omega arith)
     go (inr n) o e rest = let z : none ≡ some t = rw (factor-none f n) at h in let w : _≡_ {A = ℕ} 0 1 = cc in absurd (omega arith)
@@ -142,7 +139,7 @@ take-map g (suc n) [] = refl
 take-map g (suc n) (x ∷ l) = ap (g x ∷_) (take-map g n l)
 
 -- the product that a value is, if its kinds are known
-pub product-in : (p : Product) → p .len ≤ 64 → EachOf (λ f. Kind (f .kind)) (take (p .len) (p .factors)) → productIn (given p) ≡ some (productOf p)
+pub product-in : (p : Product) → p .len ≤ 64 → Every (λ f. Kind (f .kind)) (take (p .len) (p .factors)) → productIn (given p) ≡ some (productOf p)
 unfolding productIn given productOf
 product-in p h k = rw (le-leb _ _ h, take-map valueIn (p .len) (p .factors)) (known (take (p .len) (p .factors)) k)
 
@@ -155,18 +152,18 @@ module _ (p : Product) where
       go true e = leb-true (p .len) 64 e
       go false e = let z : none ≡ some t = rw e at h in let w : _≡_ {A = ℕ} 0 1 = cc in absurd (omega arith)
 
-  in-known : (t : Tree) → productIn (given p) ≡ some t → EachOf (λ f. Kind (f .kind)) (take (p .len) (p .factors))
+  in-known : (t : Tree) → productIn (given p) ≡ some t → Every (λ f. Kind (f .kind)) (take (p .len) (p .factors))
   unfolding productIn given
   in-known t h = all-known (take (p .len) (p .factors)) t (rw (le-leb _ _ (in-few t h), take-map valueIn (p .len) (p .factors)) at h)
 
 -- ══ The test of a product ══
 
 module _ (ν : Names ℕ) (held : ℕ → Bool) where
-  each-good : (l : List Factor) → EachOf (Fine ν held) l → Each (GoodFactor ν held 4_294_967_296) (map treeOf l)
+  each-good : (l : List Factor) → Every (Fine ν held) l → Every (GoodFactor ν held 4_294_967_296) (map treeOf l)
   each-good [] h = tt
   each-good (f ∷ l) h = ((h .0 .atom, h .0 .stored), each-good l (h .1))
 
-  good-each : (l : List Factor) → EachOf (λ f. Kind (f .kind)) l → Each (GoodFactor ν held 4_294_967_296) (map treeOf l) → EachOf (Fine ν held) l
+  good-each : (l : List Factor) → Every (λ f. Kind (f .kind)) l → Every (GoodFactor ν held 4_294_967_296) (map treeOf l) → Every (Fine ν held) l
   good-each [] k h = tt
   good-each (f ∷ l) k h = (record { kind = k .0; atom = h .0 .0; stored = h .0 .1 }, good-each l (k .1) (h .1))
 
@@ -209,7 +206,7 @@ module _ (pool table : List ℕ) where
       at-counted i h = getD-take (p .len) (p .factors) i unread h
 
     module _ (w : Well pool table p) where
-      well-each : EachOf (Fine numbers (heldIn table)) counted
+      well-each : Every (Fine numbers (heldIn table)) counted
       well-each =
           at-each (Fine numbers (heldIn table)) counted (λ i h.
           let k : i < p .len = omega (arith, places (w .long) (w .few)) in
@@ -230,7 +227,7 @@ module _ (pool table : List ℕ) where
         few = omega (arith, length-map counted treeOf, places (w .long) (w .few), w .few);
       })
 
-      well-known : (l : List Factor) → EachOf (Fine numbers (heldIn table)) l → EachOf (λ f. Kind (f .kind)) l
+      well-known : (l : List Factor) → Every (Fine numbers (heldIn table)) l → Every (λ f. Kind (f .kind)) l
       well-known [] h = tt
       well-known (f ∷ l) h = (h .0 .kind, well-known l (h .1))
 
@@ -245,7 +242,7 @@ module _ (pool table : List ℕ) where
         pub well : Well pool table p
         pub is : t ≡ productOf p
 
-      good-well : p .len ≤ 64 → EachOf (λ f. Kind (f .kind)) counted → goodProduct numbers (isHeld (tableOf pool table)) 4_294_967_296 (productOf p) ≡ true → Well pool table p
+      good-well : p .len ≤ 64 → Every (λ f. Kind (f .kind)) counted → goodProduct numbers (isHeld (tableOf pool table)) 4_294_967_296 (productOf p) ≡ true → Well pool table p
       unfolding productOf
       good-well few k h =
           let g = good-here (productOf p) h in
@@ -264,7 +261,7 @@ module _ (pool table : List ℕ) where
       unfolding productGiven
       given-well t h = go (productIn (given p)) refl h
         where
-          test : (b : Bool) → goodProduct numbers (isHeld (tableOf pool table)) 4_294_967_296 (productOf p) ≡ b → p .len ≤ 64 → EachOf (λ f. Kind (f .kind)) counted → (need b 1 >> got (productOf p)) ≡ got t → Taken t
+          test : (b : Bool) → goodProduct numbers (isHeld (tableOf pool table)) 4_294_967_296 (productOf p) ≡ b → p .len ≤ 64 → Every (λ f. Kind (f .kind)) counted → (need b 1 >> got (productOf p)) ≡ got t → Taken t
           test true e few k j = record { well = good-well few k e; is = cc }
           test false e few k j = let z : _≡_ {A = ℕ} 0 1 = cc in absurd (omega arith)
 

@@ -17,6 +17,7 @@ use mathlib.Core.Logic.{inl, inr, ⊎-elim}
 use Rattle.laws.specs.Lists.{true≢false, all-is, is-all, any-is, is-any}
 use Rattle.laws.specs.ReadLists.{Every}
 use Rattle.laws.specs.SortedNames.{In}
+pub use Rattle.laws.specs.SortedNames.{every-in, in-every}
 use Rattle.queries.specs.declared.Kind.{Kind}
 use Rattle.queries.specs.declared.Kind.the-variants.{Variables, Parameters, Both}
 use Rattle.queries.specs.Scans.{choose}
@@ -27,14 +28,6 @@ unequal : {A : Type 0} → true ≡ false → A
 unequal e = absurd (true≢false e)
 
 -- ══ Which names occur ══
-
-pub every-in : {A : Type 0} (P : A → Type 0) (xs : List A) → ((z : A) → In z xs → P z) → Every P xs
-every-in P [] f = tt
-every-in P (x ∷ xs) f = (f x (inl refl), every-in P xs (λ z i. f z (inr i)))
-
-pub in-every : {A : Type 0} (P : A → Type 0) (xs : List A) → Every P xs → (z : A) → In z xs → P z
-in-every P [] ps z k = absurd k
-in-every P (x ∷ xs) ps z k = ⊎-elim (λ e. rw e (ps .0)) (λ i. in-every P xs (ps .1) z i) k
 
 pub any-in : (x : ℕ) (xs : List ℕ) → any (eqb x) xs ≡ true → In x xs
 unfolding any

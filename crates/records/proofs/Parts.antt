@@ -9,7 +9,7 @@ use lib.ListN.{length}
 use Rattle.rules.specs.Trees as tree
 use Rattle.rules.specs.Trees.{Ty, Con, equal, isDim, isScalar, hasField, Binding, _≔_, size, sizeCon, sizeBinding, depthCon, depthBinding}
 use Rattle.rules.specs.WellFormed as rules
-use Rattle.laws.specs.NameTable.{both-left, both-right}
+use Rattle.laws.specs.Lists.{and-left as both-left, and-right as both-right}
 use Rattle.records.specs.Views.{viewAt}
 use Rattle.records.specs.Holds.{openOf, viewOpen, HoldsProduct, Holds, HoldsCon, HoldsBinding}
 use Rattle.records.specs.ByView.{ArmsCon, con-by-view}

@@ -19,7 +19,7 @@ use Rattle.rules.specs.Writing.{twos, signed}
 use Rattle.rules.specs.WellFormed as rules
 use Rattle.rules.specs.WellFormed.{rising, fieldNames}
 use Rattle.laws.specs.Written.{unsigned}
-use Rattle.laws.specs.NameTable.{both-left, both-right}
+use Rattle.laws.specs.Lists.{and-left as both-left, and-right as both-right}
 use Rattle.records.specs.Views.{viewAt}
 use Rattle.records.specs.Holds.{openOf, viewOpen, atomOf, viewAtom, basicOf, viewBasic, HoldsFactors, HoldsProduct, Holds, HoldsTys, HoldsFields}
 use Rattle.records.specs.ByView.{Arms, by-view, factor-by-view}

@@ -6,12 +6,8 @@ use native.Mathlib.Omega.{arith}
 use lib.ListN.{length, take, drop}
 use lib.Seq.{sets, sets-eq, drop-at, length-take-le}
 use Rattle.rules.specs.Writing.{Rec, rec, words}
+pub use Rattle.laws.specs.Size.{words-length}
 use Rattle.records.specs.Views.{recs, from}
-
-pub words-length : (rs : List Rec) → length (words rs) ≡ length rs * 4
-unfolding words
-words-length [] = refl
-words-length (rec k a b c ∷ rs) = omega (arith, words-length rs)
 
 -- records, then words, are read back
 recs-words : (rs : List Rec) (l : List ℕ) → recs (words rs ++ l) ≡ rs ++ recs l

@@ -12,7 +12,7 @@ use Rattle.rules.specs.Base.{Got, got, refused, _>>=_, _>>_, need, all}
 use Rattle.rules.specs.Writing.{Rec}
 use Rattle.rules.specs.Reading.{Reader, readAll, records}
 use Rattle.rules.specs.Calls.{listGiven, only}
-use Rattle.laws.specs.NameTable.{both-left, both-right}
+use Rattle.laws.specs.Lists.{and-left as both-left, and-right as both-right}
 use Rattle.records.specs.Views.{recs, from}
 use Rattle.records.specs.Places.{recAt, from-none, from-some}
 use Rattle.rules.specs.Reading.{readTy, readCon, readBinding}

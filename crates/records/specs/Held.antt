@@ -150,7 +150,7 @@ module _ (s : List ℕ) where
       (q .view, factors-held p (at + 1) rest f (sym (q .rest)))
 
   -- two parts, the first of n records
-  parted : (a b rest : List Rec) (at n : ℕ) → length a ≡ n → from s at ≡ (a ++ b) ++ rest → (from s at ≡ a ++ (b ++ rest)) × (from s (at + n) ≡ b ++ rest)
+  pub parted : (a b rest : List Rec) (at n : ℕ) → length a ≡ n → from s at ≡ (a ++ b) ++ rest → (from s at ≡ a ++ (b ++ rest)) × (from s (at + n) ≡ b ++ rest)
   parted a b rest at n l e =
       let q : from s at ≡ a ++ (b ++ rest) = e ∙ append-assoc a b rest in
       (q, sym (past s a (b ++ rest) at q ∙ ap (λ (k : ℕ). from s (at + k)) l))

@@ -12,6 +12,7 @@ use lib.ListN.{length, getD, drop, length-drop}
 use lib.Seq.{drop-cons, slice, slice-cons, slice-empty}
 use Rattle.rules.specs.Base.{all}
 use Rattle.rules.specs.Writing.{Rec, rec, words}
+use Rattle.laws.specs.Written.{Zeros}
 use Rattle.records.specs.Views.{either, plain, pick, viewOf, recOf, recs, from, viewAt, boundTable, schemeTable, typeTable, otherTable}
 use Rattle.records.specs.declared.View.{View}
 use Rattle.records.specs.declared.View.the-variants as view
@@ -60,10 +61,6 @@ module _ (r : Rec) where
   by-kind : (k : ℕ) (xs : List (ℕ × View)) → Lines k xs → Told r (pick k xs)
   by-kind k [] h = λ a. absurd a
   by-kind k (x ∷ xs) h = by-test (eqb k (x .0)) (x .1) (pick k xs) (λ e. h .0 (eqb-true k (x .0) e)) (by-kind k xs (h .1))
-
-abbrev Zeros : List ℕ → Type 0
-Zeros [] = Unit {0}
-Zeros (w ∷ ws) = (w ≡ 0) × Zeros ws
 
 by-plain : (r : Rec) (ws : List ℕ) (v : View) → (Zeros ws → Told r v) → Told r (plain ws v)
 unfolding plain all

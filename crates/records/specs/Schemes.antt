@@ -16,7 +16,7 @@ use Rattle.rules.specs.Schemes.{Scheme, concrete, scheme}
 use Rattle.rules.specs.Writing.{Rec, rec}
 use Rattle.rules.specs.Reading.{Reader, pass, give, unused, pick, next, boundTable, boundKinds, readBound, readTy, readAll, schemeOf}
 use Rattle.rules.specs.Calls.{aloneGiven, schemeGiven, schemeCall, goodScheme}
-use Rattle.laws.specs.NameTable.{both-left, both-right}
+use Rattle.laws.specs.Lists.{and-left as both-left, and-right as both-right}
 use Rattle.laws.specs.Written.{Reads, nothing, given, then, picked}
 use Rattle.laws.specs.Written as laws
 use Rattle.records.specs.Views.{plain, viewOf, recs, from}

@@ -1,9 +1,8 @@
 -- The public tests of lists, from what the walkers find. Assumes nothing.
 use mathlib.Core.Path.{_≡_, refl}
-use mathlib.Core.Bool.{Bool, true, false, _&&_}
+use mathlib.Core.Bool.{Bool, _&&_}
 use mathlib.Core.List.{List, [], _∷_}
 use Prim.Native.Nat.{ℕ, _/_, _%_}
-use native.Mathlib.Omega.{arith}
 use borrow.Author.Tests.{leb-true}
 use lib.Dec.{leb, eqb}
 use lib.ListN.{length}
@@ -12,26 +11,25 @@ use Rattle.rules.specs.Names.{tableOf, tableGood, lentTable}
 use Rattle.rules.specs.Reading.{readTy, readCon, readBinding}
 use Rattle.rules.specs.Trees.{Ty, Con, Binding}
 use Rattle.rules.specs.Calls.{only, aloneGiven, shortLists, tableKept, setGiven, typeGiven, bindingsGiven, setCall, typeCall, bindingsCall}
-use Rattle.laws.specs.NameTable.{Good, both-left, both-right}
+use Rattle.laws.specs.Checks.{need-passed, first-passed, next-passed}
+use Rattle.laws.specs.Lists.{and-left, and-right}
+use Rattle.laws.specs.NameTable.{Good}
 use Rattle.records.specs.Found.{Words32}
 use Rattle.records.specs.Good.{Chain, Chained, There, goodTy, goodCon, goodBinding, GoodTy, GoodCon, GoodBinding}
 use Rattle.records.specs.Given.{list-yes, list-is, one-is, list-told, one-told, con-reader, binding-reader, type-reader}
-
-need-passed : (a b c : Bool) (i j k : ℕ) → (need a i >> need b j >> need c k) ≡ got tt → (a ≡ true) × ((b ≡ true) × (c ≡ true))
-need-passed true true true i j k e = (refl, (refl, refl))
-need-passed true true false i j k e = absurd (let z : _≡_ {A = ℕ} 0 1 = cc in omega arith)
-need-passed true false c i j k e = absurd (let z : _≡_ {A = ℕ} 0 1 = cc in omega arith)
-need-passed false b c i j k e = absurd (let z : _≡_ {A = ℕ} 0 1 = cc in omega arith)
 
 module _ (pool table ws : List ℕ) (e : aloneGiven pool table ws ≡ got tt) where
   pub entry-good : Good pool table
   unfolding aloneGiven lentTable shortLists tableKept
   entry-good =
-      let (a, (b, c)) = need-passed (leb 8192 (length pool) && leb 257 (length table)) (all (λ ws. leb (length ws) 8192) (ws ∷ [])) (tableGood (tableOf pool table)) 10 8 1 e in
+      let lent = need (leb 8192 (length pool) && leb 257 (length table)) 10 in
+      let short = need (all (λ ws. leb (length ws) 8192) (ws ∷ [])) 8 in
+      let kept = need (tableGood (tableOf pool table)) 1 in
+      let long = need-passed (leb 8192 (length pool) && leb 257 (length table)) 10 (first-passed short tt lent (first-passed kept tt (lent >> short) e)) in
       record {
-        bytes = leb-true 8192 (length pool) (both-left (leb 8192 (length pool)) (leb 257 (length table)) a);
-        words = leb-true 257 (length table) (both-right (leb 8192 (length pool)) (leb 257 (length table)) a);
-        good = c;
+        bytes = leb-true 8192 (length pool) (and-left (leb 8192 (length pool)) (leb 257 (length table)) long);
+        words = leb-true 257 (length table) (and-right (leb 8192 (length pool)) (leb 257 (length table)) long);
+        good = need-passed (tableGood (tableOf pool table)) 1 (next-passed kept tt (lent >> short) e);
       }
 
   module _ (w : Words32 ws) (b : Bool) where

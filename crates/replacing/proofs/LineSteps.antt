@@ -15,7 +15,6 @@ use Rattle.rules.specs.WellFormed.{goodTy, goodCon, goodBinding}
 use Rattle.rules.specs.Writing.{Rec, rec, words, writeProduct, writeTy, writeTys, writeCon, writeBinding}
 use Rattle.rules.specs.declared.Refusal.{Refusal}
 use Rattle.laws.specs.GoodProducts.{good-product}
-use Rattle.laws.specs.Size.{size-con, size-binding}
 use Rattle.laws.specs.Value.{Gives, gives, next}
 use Rattle.products.specs.Told.{Tree}
 use Rattle.products.specs.Held.{law}
@@ -31,7 +30,7 @@ use Rattle.replacing.specs.Well.{GoodTy, GoodCon, GoodBinding, HeldDim, 
 use Rattle.replacing.specs.InProducts.{product-kept}
 use Rattle.replacing.specs.Writes.{writes}
 use Rattle.replacing.specs.Left.{Left, LeftOf, Room, types, sizeRow, writeRow, HeldRow, look, Replaced, RowReplaced, ProductReplaced, DimReplaced, sizeProduct}
-use Rattle.replacing.specs.LineRules.{Line, con, binding, sizeLine, writeLine, HoldsLine, GoodLine, HeldLine, HeldLines, ScalarHeld, replaceLine, ScalarReplaced, LineReplaced, LinesReplaced}
+use Rattle.replacing.specs.LineRules.{Line, con, binding, sizeLine, writeLine, HoldsLine, GoodLine, HeldLine, HeldLines, ScalarHeld, replaceLine, ScalarReplaced, LineReplaced, LinesReplaced, line-length, line-some}
 use Rattle.replacing.specs.declared.inner.walk.Went.{Went}
 use Rattle.replacing.specs.declared.inner.walk.Went.the-variants.{To, Stop}
 use Rattle.replacing.proofs.Others.{Tagged, untagged}
@@ -291,23 +290,11 @@ module _ (pool table s v : List ℕ) (b e : ℕ) where
     line-size (con c) g = next (con-size c g) (λ d i. gives i)
     line-size (binding x) g = next (binding-size x g) (λ y i. gives i)
 
-  line-length : (x : Line) → length (writeLine x) ≡ sizeLine x
-  line-length (con c) = size-con c
-  line-length (binding x) = size-binding x
-
-  line-pos : (x : Line) → 1 ≤ sizeLine x
-  unfolding sizeCon sizeBinding
-  line-pos (con (equal l r)) = omega arith
-  line-pos (con (isDim t)) = omega arith
-  line-pos (con (isScalar p)) = omega arith
-  line-pos (con (hasField n l r)) = omega arith
-  line-pos (binding (x ≔ t)) = omega arith
-
   module _ (at end out : ℕ) where
     pub lines-done : {d : List ℕ} → end ≤ at → LinesReplaced pool table s v b e d d at end out (To at out)
     unfolding each collect words
     lines-done z [] bs h l = left-made [] refl (omega (arith, h .ends)) (sym (add-zero out)) refl
-    lines-done z (x ∷ xs) bs h l = absurd (omega (arith, h .ends, line-pos x))
+    lines-done z (x ∷ xs) bs h l = absurd (omega (arith, h .ends, line-some x))
 
     pub lines-here : {d d₁ d′ : List ℕ} {q o : ℕ} {r₁ r : Went} → (end ≤ at → ⊥) → LineReplaced pool table s v b e d d₁ at out r₁ → r₁ ≡ To q o → LinesReplaced pool table s v b e d₁ d′ q end o r → LinesReplaced pool table s v b e d d′ at end out r
     unfolding each collect HoldsAll
@@ -338,7 +325,7 @@ module _ (pool table s v : List ℕ) (b e : ℕ) where
         let m = went (k x bs (record { held = h .held .0; good = h .good .0 }) l) g in
         let i = line-in s x at (h .held .0) in
         let z = line-size bs l x (h .good .0) .holds (m .value) (m .is) in
-        let p = line-pos x in (
+        let p = line-some x in (
           (xs, record { held = subst (HoldsAll HoldsLine sizeLine s xs) (sym (m .read)) (h .held .1); good = h .good .1; ends = omega (arith, h .ends, m .read) }),
           omega (arith, m .read),
           omega (arith, m .read, h .ends),

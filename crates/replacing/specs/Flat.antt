@@ -9,7 +9,7 @@ use borrow.Author.Tests.{le-leb, lt-leb}
 use lib.Dec.{leb}
 use Rattle.rules.specs.Base.{bounded, sized, all, sumOf, maxOf}
 use Rattle.rules.specs.Rounds.{State, sizeState, depthState, limited}
-use Rattle.rules.specs.Trees.{Con, equal, isDim, isScalar, hasField, Binding, _≔_, sizeCon, sizeBinding, depthCon, depthBinding}
+use Rattle.rules.specs.Trees.{Con, Binding, _≔_, depthCon, depthBinding}
 use Rattle.rules.specs.WellFormed.{goodCon, goodBinding}
 use Rattle.records.specs.ByView.{con-by-view}
 use Rattle.records.specs.Good as records
@@ -19,19 +19,11 @@ use Rattle.records.specs.Parsed.{only-con, only-binding}
 use Rattle.records.specs.declared.inner.Ended.{Ended}
 use Rattle.records.specs.declared.inner.Ended.the-variants.{At, Bad}
 use Rattle.replacing.specs.Runs.{HoldsAll}
-use Rattle.replacing.specs.LineRules.{Line, con, binding, sizeLine, HoldsLine}
+use Rattle.replacing.specs.LineRules.{Line, con, binding, sizeLine, line-some, HoldsLine}
 
 abbrev pub depthLine : Line → ℕ
 depthLine (con c) = depthCon c
 depthLine (binding x) = depthBinding x
-
-line-some : (x : Line) → 1 ≤ sizeLine x
-unfolding sizeCon sizeBinding
-line-some (con (equal l r)) = omega arith
-line-some (con (isDim t)) = omega arith
-line-some (con (isScalar p)) = omega arith
-line-some (con (hasField x l r)) = omega arith
-line-some (binding (x ≔ t)) = omega arith
 
 -- ══ The limits of a state are those of its lines ══
 

@@ -18,7 +18,7 @@ use Rattle.records.specs.Whole.{type-is, set-is, bindings-is}
 use Rattle.records.specs.Holds.{HoldsCon, HoldsBinding}
 use Rattle.replacing.specs.Runs.{HoldsAll}
 use Rattle.replacing.specs.Well.{names, HeldType, Lent}
-use Rattle.replacing.specs.Weaker.{ty-weaker, con-weaker, binding-weaker}
+use Rattle.laws.specs.Weaker.{ty-weaker, con-weaker, binding-weaker}
 use Rattle.replacing.specs.LineRules.{con, HeldLines}
 use Rattle.replacing.specs.LineLaws.{set-lines}
 

@@ -18,7 +18,7 @@ use Rattle.records.specs.Good.{numbers, holding}
 use Rattle.replacing.specs.Flat.{goodLine, PlainLines}
 use Rattle.replacing.specs.Runs.{looked-good}
 use Rattle.replacing.specs.LineRules.{Line, con, binding, sizeLine, writeLine, GoodLine, EachGood, HeldLines, replaceLine}
-use Rattle.replacing.specs.Weaker.{con-weaker, binding-weaker}
+use Rattle.laws.specs.Weaker.{con-weaker, binding-weaker}
 use Rattle.replacing.specs.Written.{written-lines}
 
 module _ (pool table : List ℕ) where

@@ -7,7 +7,6 @@ pub mod Left
 pub mod LineRules
 pub mod LineLaws
 pub mod Flat
-pub mod Weaker
 pub mod Given
 pub mod Written
 pub mod Kept

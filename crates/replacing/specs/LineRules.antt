@@ -1,11 +1,15 @@
--- Lines: constraints and bindings, one after another, and what replacing in them leaves. Assumes nothing: these are definitions.
+-- Lines: constraints and bindings, one after another, and what replacing in them leaves. Assumes nothing: these are definitions, and that each line has its size in records, one or more.
 use mathlib.Core.Path.{_≡_}
-use mathlib.Core.List.{List, [], _∷_}
-use Prim.Native.Nat.{ℕ, _+_}
+use mathlib.Core.List.{List}
+use Prim.Native.Nat.{ℕ, _+_, _≤_}
+use native.Mathlib.Omega.{arith}
+use lib.ListN.{length}
 use Rattle.rules.specs.Base.{Got, got, _>>=_, bounded, each, collect, sumOf}
 use Rattle.rules.specs.Replacing.{replaceProduct, replaceCon, replaceBinding}
-use Rattle.rules.specs.Trees.{Con, Binding, sizeCon, sizeBinding}
+use Rattle.rules.specs.Trees.{Con, equal, isDim, isScalar, hasField, Binding, _≔_, sizeCon, sizeBinding}
 use Rattle.rules.specs.Writing.{Rec, writeProduct, writeCon, writeBinding}
+use Rattle.laws.specs.Lists.{Every}
+use Rattle.laws.specs.Size.{size-con, size-binding}
 use Rattle.products.specs.Told.{Tree}
 use Rattle.records.specs.Holds.{HoldsProduct, HoldsCon, HoldsBinding}
 use Rattle.replacing.specs.Runs.{HoldsAll}
@@ -26,6 +30,18 @@ abbrev pub writeLine : Line → List Rec
 writeLine (con c) = writeCon c
 writeLine (binding x) = writeBinding x
 
+pub line-length : (x : Line) → length (writeLine x) ≡ sizeLine x
+line-length (con c) = size-con c
+line-length (binding x) = size-binding x
+
+pub line-some : (x : Line) → 1 ≤ sizeLine x
+unfolding sizeCon sizeBinding
+line-some (con (equal l r)) = omega arith
+line-some (con (isDim t)) = omega arith
+line-some (con (isScalar p)) = omega arith
+line-some (con (hasField n l r)) = omega arith
+line-some (binding (x ≔ t)) = omega arith
+
 abbrev pub HoldsLine : List ℕ → Line → ℕ → Type 0
 HoldsLine s (con c) at = HoldsCon s c at
 HoldsLine s (binding x) at = HoldsBinding s x at
@@ -40,8 +56,7 @@ module _ (pool table : List ℕ) where
     pub good : GoodLine x
 
   abbrev pub EachGood : List Line → Type 0
-  EachGood [] = Unit {0}
-  EachGood (x ∷ xs) = GoodLine x × EachGood xs
+  EachGood xs = Every GoodLine xs
 
   -- the lines from a place up to an end
   pub record HeldLines (s : List ℕ) (xs : List Line) (at end : ℕ) : Type 0 where

@@ -1,7 +1,7 @@
 -- Lines that were written to a buffer are held there. Assumes nothing.
 use mathlib.Core.Path.{_≡_, refl, sym, ap, ap₂, _∙_}
 use mathlib.Core.Bool.{Bool, true, not, _&&_}
-use mathlib.Core.List.{List, [], _∷_, _++_, map, append-assoc}
+use mathlib.Core.List.{List, [], _∷_, _++_, map}
 use Prim.Native.Nat.{ℕ, _+_, _*_, _/_, _≤_}
 use native.Mathlib.Omega.{arith}
 use borrow.Author.Tests.{leb-true}
@@ -15,17 +15,17 @@ use Rattle.rules.specs.Names.{tableOf, isHeld}
 use Rattle.rules.specs.Trees.{free, base, _↑_, Product, Ty, opened, basic, dim, fn, struct, list, Tys, nil, cons, Fields, noFields, field, Con, equal, isDim, isScalar, hasField, Binding, _≔_, Names, size, orderAtom}
 use Rattle.rules.specs.WellFormed.{goodOpen, goodFactor, goodProduct, goodTy, goodTys, goodFields, goodCon, goodBinding, rising, atomOf, fieldNames}
 use Rattle.rules.specs.Writing.{Rec, rec, words, writeProduct, writeTy, writeCon, writeBinding}
-use Rattle.laws.specs.NameTable.{both-left, both-right}
+use Rattle.laws.specs.Lists.{and-left as both-left, and-right as both-right}
 use Rattle.laws.specs.Reading.{FitsProduct, Fits, FitsTys, FitsFields}
-use Rattle.laws.specs.Size.{size-ty, size-con, size-binding}
+use Rattle.laws.specs.Size.{size-ty}
 use Rattle.records.specs.Views.{plain, viewOf, from}
-use Rattle.records.specs.Places.{first, past}
+use Rattle.records.specs.Places.{first}
 use Rattle.records.specs.Buffers.{stored}
 use Rattle.records.specs.Holds.{HoldsCon, HoldsBinding}
-use Rattle.records.specs.Held.{held, product-held}
+use Rattle.records.specs.Held.{held, product-held, parted}
 use Rattle.replacing.specs.Runs.{HoldsAll}
 use Rattle.replacing.specs.Well as well
-use Rattle.replacing.specs.LineRules.{Line, con, binding, sizeLine, writeLine, HoldsLine, GoodLine, EachGood, HeldLines}
+use Rattle.replacing.specs.LineRules.{Line, con, binding, sizeLine, writeLine, HoldsLine, GoodLine, EachGood, HeldLines, line-length}
 
 -- ══ Well formed numerators fit a word ══
 
@@ -80,17 +80,11 @@ module _ (pool table : List ℕ) where
   known′ = isHeld (tableOf pool table)
 
   module _ (s : List ℕ) where
-    -- two parts, the first of n records
-    parted : (a b rest : List Rec) (at n : ℕ) → length a ≡ n → from s at ≡ (a ++ b) ++ rest → (from s at ≡ a ++ (b ++ rest)) × (from s (at + n) ≡ b ++ rest)
-    parted a b rest at n l e =
-        let q : from s at ≡ a ++ (b ++ rest) = e ∙ append-assoc a b rest in
-        (q, sym (past s a (b ++ rest) at q ∙ ap (λ (k : ℕ). from s (at + k)) l))
-
     con-held : (c : Con ℕ) (at : ℕ) (rest : List Rec) → well.GoodCon pool table c → from s at ≡ writeCon c ++ rest → HoldsCon s c at
     unfolding HoldsCon writeCon goodCon viewOf plain all
     con-held (equal l r) at rest g e =
         let f = first s at (rec 20 0 0 0) ((writeTy l ++ writeTy r) ++ rest) e in
-        let (u, v) = parted (writeTy l) (writeTy r) rest (at + 1) (size l) (size-ty l) (sym (f .rest)) in
+        let (u, v) = parted s (writeTy l) (writeTy r) rest (at + 1) (size l) (size-ty l) (sym (f .rest)) in
         (f .view, held s l (at + 1) (writeTy r ++ rest) (ty-fits (well.names pool table) known′ 4_294_967_296 l (both-left (goodTy _ _ _ l) (goodTy _ _ _ r) g)) u, held s r (at + 1 + size l) rest (ty-fits (well.names pool table) known′ 4_294_967_296 r (both-right (goodTy _ _ _ l) (goodTy _ _ _ r) g)) v)
     con-held (isDim t) at rest g e =
         let f = first s at (rec 21 0 0 0) (writeTy t ++ rest) e in
@@ -100,7 +94,7 @@ module _ (pool table : List ℕ) where
         (f .view, product-held s p (at + 1) rest (product-fits (well.names pool table) known′ 4_294_967_296 p g) (sym (f .rest)))
     con-held (hasField n l r) at rest g e =
         let f = first s at (rec 23 n 0 0) ((writeTy l ++ writeTy r) ++ rest) e in
-        let (u, v) = parted (writeTy l) (writeTy r) rest (at + 1) (size l) (size-ty l) (sym (f .rest)) in
+        let (u, v) = parted s (writeTy l) (writeTy r) rest (at + 1) (size l) (size-ty l) (sym (f .rest)) in
         let a = both-left (known′ n && goodTy _ _ _ l) (goodTy _ _ _ r) g in
         (f .view, held s l (at + 1) (writeTy r ++ rest) (ty-fits (well.names pool table) known′ 4_294_967_296 l (both-right (known′ n) (goodTy _ _ _ l) a)) u, held s r (at + 1 + size l) rest (ty-fits (well.names pool table) known′ 4_294_967_296 r (both-right (known′ n && goodTy _ _ _ l) (goodTy _ _ _ r) g)) v)
 
@@ -114,21 +108,17 @@ module _ (pool table : List ℕ) where
     line-held (con c) at rest g e = con-held c at rest g e
     line-held (binding x) at rest g e = binding-held x at rest g e
 
-    line-length : (x : Line) → length (writeLine x) ≡ sizeLine x
-    line-length (con c) = size-con c
-    line-length (binding x) = size-binding x
-
     lines-held : (xs : List Line) (at : ℕ) (rest : List Rec) → EachGood pool table xs → from s at ≡ collect writeLine xs ++ rest → HoldsAll HoldsLine sizeLine s xs at
     unfolding HoldsAll collect
     lines-held [] at rest g e = tt
     lines-held (x ∷ xs) at rest g e =
-        let (u, v) = parted (writeLine x) (collect writeLine xs) rest at (sizeLine x) (line-length x) e in
+        let (u, v) = parted s (writeLine x) (collect writeLine xs) rest at (sizeLine x) (line-length x) e in
         (line-held x at (collect writeLine xs ++ rest) (g .0) u, lines-held xs (at + sizeLine x) rest (g .1) v)
 
   pub all-length : (xs : List Line) → length (collect writeLine xs) ≡ sumOf sizeLine xs
   unfolding collect
   all-length [] = refl
-  all-length (x ∷ xs) = length-append (writeLine x) (collect writeLine xs) ∙ ap₂ _+_ (line-length [] x) (all-length xs)
+  all-length (x ∷ xs) = length-append (writeLine x) (collect writeLine xs) ∙ ap₂ _+_ (line-length x) (all-length xs)
 
   -- well formed lines that were written where there is room are held there
   pub written-lines : (d d′ : List ℕ) (out : ℕ) (xs : List Line) → d′ ≡ sets d (out * 4) (words (collect writeLine xs)) → out + sumOf sizeLine xs ≤ length d / 4 → EachGood pool table xs → HeldLines pool table d′ xs out (out + sumOf sizeLine xs)

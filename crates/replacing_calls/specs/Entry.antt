@@ -11,7 +11,7 @@ use Rattle.rules.specs.Trees.{Open, Binding}
 use Rattle.rules.specs.Names.{tableOf, tableGood, lentTable}
 use Rattle.rules.specs.Contents.{unmixed}
 use Rattle.rules.specs.Calls.{shortLists, tableKept, setGiven, bindingsGiven, apart, opensBinding, aloneGiven, typeCall, setCall, bindingsCall}
-use Rattle.laws.specs.Checks.{need-passed}
+use Rattle.laws.specs.Checks.{need-passed, passed}
 use Rattle.laws.specs.KnownNames.{every-append}
 use Rattle.laws.specs.Lists.{clash, and-left, and-right}
 use Rattle.laws.specs.NameTable.{Good, good-laid}
@@ -24,12 +24,6 @@ use Rattle.queries.specs.Runs.{set-small, bindings-opens, bindings-small}
 use Rattle.queries.specs.Scans.{opensIn}
 
 -- ══ A row of checks ══
-
--- a list that is read behind checks
-passed : {A : Type 0} (a : Got (Unit {0})) (m : Got A) → (a >> m >> got (tt {0})) ≡ got tt → (x : A) × ((a ≡ got tt) × (m ≡ got x))
-passed (got u) (got x) e = (x, (refl, refl))
-passed (got u) (refused n) e = clash e
-passed (refused n) m e = clash e
 
 module _ {A B : Type 0} (f : A → B → Got (Unit {0})) where
   -- two lists and what is asked of both

@@ -23,10 +23,9 @@ use Rattle.laws.specs.ExactSolve.{others-below}
 use Rattle.laws.specs.Fractions.{Lowest, inverted-none}
 use Rattle.laws.specs.Untouched.{closed-same}
 use Rattle.laws.specs.ExactProducts.{mergeE, raiseE, divide-value}
-use Rattle.laws.specs.Sorted.{Each}
 use Rattle.laws.specs.Powers.{Proper, merge-comm, merge-inverse, inverse-proper}
 use Rattle.laws.specs.GoodProducts.{goodAtom, good-proper}
-use Rattle.laws.specs.Lists.{true≢false, some≢none, and-left, and-right, is-yes, All, all-is, is-all, in-head, map-to}
+use Rattle.laws.specs.Lists.{true≢false, some≢none, and-left, and-right, is-yes, All, all-is, is-all, in-head, map-to, Every, none-in}
 use Rattle.laws.specs.RuleCases.{Reads, Sides, After, Rule, none-applies, equal-records, binds, two-functions, two-lists, two-structs, as-product, two-dimensions, dimension, no-factor, first-factor, closed-struct, parts, named, naming}
 use Rattle.laws.specs.KeepsGood.{GoodTy, sides-good}
 use Rattle.soundness.specs.Steps.{sides-in}
@@ -35,11 +34,6 @@ use Rattle.laws.specs.Occurs.{OnFactor, each-opens, opens-each, valued-on, as-p
 use Rattle.soundness.specs.Alike.{alike-same, means-same, dim-alike, plain-just, no-fields}
 use Rattle.soundness.specs.Putting.{proper-look, put-product, put-dim, put-ty, put-fields, worth-kept}
 use Rattle.soundness.specs.Truth.{FitsIn, Holds, Respects, Equals, equals, equals-holds, turned, dimensional, dimensional-holds, scalar, scalar-holds}
-
--- a list without elements
-none-in : {A : Type 0} (xs : List A) → ((a : A) → List·Memᴰ a xs → ⊥) → xs ≡ []
-none-in [] h = refl
-none-in (x ∷ xs) h = absurd (h x in-head)
 
 module _ {N : Type 0} (ν : Names N) (law : Lawful (orderAtom ν)) (held : N → Bool) (q : ℕ) (tells : Tells (λ a. goodAtom ν held q a ≡ true) (orderAtom ν))
     (bs : List (Binding N)) (bounds : List N) (σg : (o : Open N) (t : Ty N) → bindings ν bs o ≡ some t → GoodTy ν law held q t) where
@@ -186,11 +180,11 @@ module _ {N : Type 0} (ν : Names N) (law : Lawful (orderAtom ν)) (held : N →
       go (inl i) = subst (λ (u : Ty N). All Bounded (opens u)) i h
       go (inr (o, i, j)) = rw j (subst (λ (u : Ty N). All Bounded (opens u)) i h)
 
-  becomes-bounded : (o : Open N) → Fit o → ((y : N) → nameOf o ≡ some y → True (isDim (opened (var y)))) → ((y : N) → o ≡ par y → find ν bs y ≡ none) → Each (OnFactor Bounded) (valueOf σ (free o))
+  becomes-bounded : (o : Open N) → Fit o → ((y : N) → nameOf o ≡ some y → True (isDim (opened (var y)))) → ((y : N) → o ≡ par y → find ν bs y ≡ none) → Every (OnFactor Bounded) (valueOf σ (free o))
   unfolding valueOf meantBy orSelf bindings opens
   becomes-bounded (var y) f h n = go (find ν bs y) refl (variable-bounded y (h y refl))
     where
-      go : (t : Option (Ty N)) → find ν bs y ≡ t → All Bounded (opens (Option·getD t (opened (var y)))) → Each (OnFactor Bounded) (meantBy t (free (var y)))
+      go : (t : Option (Ty N)) → find ν bs y ≡ t → All Bounded (opens (Option·getD t (opened (var y)))) → Every (OnFactor Bounded) (meantBy t (free (var y)))
       go none i k = (k (var y) in-head, tt)
       go (some t) i k = let b = f .bound t i in rw (b .is, orSelf) (opens-each Bounded (b .product) (product-bounded t (b .product) (b .is) k))
   becomes-bounded (quant i) f h n = (λ y e. absurd (some≢none (sym e)), tt)

@@ -10,12 +10,12 @@ use Rattle.rules.specs.Trees.{Open, var, quant, par, Names, Ty, opened, Binding
 use Rattle.rules.specs.Replacing.{Look, replaceTy, replaceBinding, find, bindings}
 use Rattle.rules.specs.Rounds.{State}
 use Rattle.laws.specs.Untouched.{Unbound}
-use Rattle.laws.specs.Lists.{some≢none, yes-is, is-yes, All, in-head, each-parts, map-to}
-use Rattle.soundness.specs.Turns.{Bound, Turn, bound, parted, dropped}
+use Rattle.laws.specs.Lists.{some≢none, yes-is, is-yes, All, each-parts, map-to, all-every}
+use Rattle.laws.specs.Turns.{Bound, Turn, bound, parted, dropped, Ended}
 use Rattle.laws.specs.Occurs.{one-bound}
 use Rattle.soundness.specs.Steps.{OpenOk}
 use Rattle.soundness.specs.Claims.{key, typeOf, keys, Once}
-use Rattle.soundness.specs.Solved.{same-key, Ended}
+use Rattle.soundness.specs.Solved.{same-key}
 
 module _ {N : Type 0} (ν : Names N) where
   pub find-member : (bs : List (Binding N)) (x : N) (t : Ty N) → find ν bs x ≡ some t → List·Memᴰ (x ≔ t) bs
@@ -59,10 +59,12 @@ module _ {N : Type 0} (ν : Names N) where
   -- names that are not bound stay
   pub unbound : (bs : List (Binding N)) (P : N → Type 0) (os : List (Open N)) → All (OpenOk P (keys bs)) os → Unbound (bindings ν bs) os
   unfolding bindings
-  unbound bs P [] h = tt
-  unbound bs P (var x ∷ os) h = (find-none bs x (h (var x) in-head .1), unbound bs P os (λ o m. h o (List·Memᴰ·tail m)))
-  unbound bs P (quant i ∷ os) h = (refl, unbound bs P os (λ o m. h o (List·Memᴰ·tail m)))
-  unbound bs P (par x ∷ os) h = (refl, unbound bs P os (λ o m. h o (List·Memᴰ·tail m)))
+  unbound bs P os h = all-every (λ o. bindings ν bs o ≡ none) os (λ o m. go o (h o m))
+    where
+      go : (o : Open N) → OpenOk P (keys bs) o → bindings ν bs o ≡ none
+      go (var x) i = find-none bs x (i .1)
+      go (quant n) i = refl
+      go (par x) i = refl
 
   -- ══ After a round ══
 

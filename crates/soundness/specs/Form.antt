@@ -1,120 +1,27 @@
 -- The form of an accepted answer: no variable bound twice or left in a type, all well formed, bounds that rise by bytes.
 -- Assumes nothing.
-use mathlib.Core.Path.{_≡_, refl, ap, _∙_, sym, subst}
-use mathlib.Core.Bool.{Bool, true, false, not}
-use mathlib.Core.Option.{Option, none, some}
+use mathlib.Core.Path.{_≡_, refl, sym}
+use mathlib.Core.Bool.{Bool, true, false}
+use mathlib.Core.Option.{some}
 use mathlib.Core.Logic.{_⊎_, inl, inr}
-use mathlib.Core.List.{List, [], _∷_, List·Memᴰ, List·Memᴰ·head, List·Memᴰ·tail, List·Memᴰ·cases-cons, List·Memᴰ·not-nil, List·Memᴰ·eq-of-singleton}
-use Prim.Native.Nat.{ℕ, Ordering, Ordering·lt, Ordering·eq, Ordering·gt}
-use Rattle.rules.specs.Base.{bounded, collect, toList, isYes}
+use mathlib.Core.List.{List, [], List·Memᴰ, List·Memᴰ·not-nil}
+use Prim.Native.Nat.{ℕ}
+use Rattle.rules.specs.Base.{bounded, collect, toList}
 use Rattle.rules.specs.Trees.{Open, var, quant, par, Names, opened, basic, dim, fn, struct, list, Con, equal, isDim, isScalar, hasField, Binding, opens, opensCon}
-use Rattle.rules.specs.Views.{variable, parameter}
-use Rattle.rules.specs.Contents.{contains, variablesIn, parametersIn, among, sorted, sort, unmixed}
+use Rattle.rules.specs.Contents.{contains, unmixed}
 use Rattle.rules.specs.Rounds.{State}
 use Rattle.rules.specs.Solving.{accepted, boundOf, solve, enough}
-use Rattle.rules.specs.WellFormed.{isLt, rising, goodOpen, goodTy, goodCon, goodBinding}
-use Rattle.laws.specs.Order.{Lawful, Tells, after}
+use Rattle.rules.specs.WellFormed.{goodOpen, goodTy, goodCon, goodBinding}
+use Rattle.laws.specs.Contents.{not-mixed}
 use Rattle.laws.specs.ByteOrder.{atom-lawful}
 use Rattle.laws.specs.GoodProducts.{atom-tells}
-use Rattle.laws.specs.Lists.{true≢false, some≢none, and-left, and-right, and-both, not-true, yes-is, is-yes, All, all-nil, all-is, is-all, in-head, any-is, is-any, collect-from, collect-to, map-to}
+use Rattle.laws.specs.Lists.{some≢none, All, all-nil, all-is, in-head, collect-from, collect-to, map-to, to-list}
 use Rattle.laws.specs.RuleCases.{contained}
+use Rattle.laws.specs.SortedNames.{sort-from, sort-rising}
 use Rattle.soundness.specs.Steps.{OpenOk, DimOk, okFor, ConOk}
 use Rattle.soundness.specs.Claims.{Ordered, Given, key, typeOf, keys, SolvedForm}
-use Rattle.soundness.specs.Solved.{Kept, turn-kept, Ended, run-back}
-
-pub to-list : {A : Type 0} (o : Option A) (a : A) → List·Memᴰ a (toList o) → o ≡ some a
-to-list none a m = absurd (List·Memᴰ·not-nil m)
-to-list (some b) a m = ap some (sym (List·Memᴰ·eq-of-singleton m))
-
--- ══ Sorting ══
-
-module _ {N : Type 0} (ν : Names N) where
-  module _ (law : Lawful (ν .order)) where
-    insert-after : (y x : N) (ys : List N) → ν .order x y ≡ Ordering·gt → rising (ν .order) (y ∷ ys) ≡ true → rising (ν .order) (y ∷ sorted ν x ys) ≡ true
-    unfolding sorted rising
-    insert-after y x [] h k = rw (after law x y h)
-    insert-after y x (z ∷ zs) h k = go (ν .order x z) refl (λ i. insert-after z x zs i (and-right (isLt (ν .order y z)) _ k))
-      where
-        go : (o : Ordering) → ν .order x z ≡ o → (ν .order x z ≡ Ordering·gt → rising (ν .order) (z ∷ sorted ν x zs) ≡ true) → rising (ν .order) (y ∷ sorted ν x (z ∷ zs)) ≡ true
-        go Ordering·lt i r = rw (i, sorted) (rw (after law x y h, i) (and-right (isLt (ν .order y z)) _ k))
-        go Ordering·eq i r = rw (i, sorted) k
-        go Ordering·gt i r = rw (i, sorted) (and-both (and-left (isLt (ν .order y z)) _ k) (r i))
-
-    insert-rising : (x : N) (ys : List N) → rising (ν .order) ys ≡ true → rising (ν .order) (sorted ν x ys) ≡ true
-    unfolding sorted rising
-    insert-rising x [] k = refl
-    insert-rising x (y ∷ ys) k = go (ν .order x y) refl
-      where
-        go : (o : Ordering) → ν .order x y ≡ o → rising (ν .order) (sorted ν x (y ∷ ys)) ≡ true
-        go Ordering·lt i = rw (i, sorted) (rw i k)
-        go Ordering·eq i = rw (i, sorted) k
-        go Ordering·gt i = rw (i, sorted) (insert-after y x ys i k)
-
-    pub sort-rising : (xs : List N) → rising (ν .order) (sort ν xs) ≡ true
-    unfolding sort rising
-    sort-rising [] = refl
-    sort-rising (x ∷ xs) = insert-rising x (sort ν xs) (sort-rising xs)
-
-  insert-from : (x : N) (ys : List N) (y : N) → List·Memᴰ y (sorted ν x ys) → (y ≡ x) ⊎ List·Memᴰ y ys
-  unfolding sorted
-  insert-from x [] y m = List·Memᴰ·cases-cons m
-  insert-from x (z ∷ zs) y m = go (ν .order x z) refl (insert-from x zs y)
-    where
-      late : (List·Memᴰ y (sorted ν x zs) → (y ≡ x) ⊎ List·Memᴰ y zs) → (y ≡ z) ⊎ List·Memᴰ y (sorted ν x zs) → (y ≡ x) ⊎ List·Memᴰ y (z ∷ zs)
-      late r (inl i) = inr (List·Memᴰ·head i)
-      late r (inr i) = more (r i)
-        where
-          more : (y ≡ x) ⊎ List·Memᴰ y zs → (y ≡ x) ⊎ List·Memᴰ y (z ∷ zs)
-          more (inl j) = inl j
-          more (inr j) = inr (List·Memᴰ·tail j)
-
-      go : (o : Ordering) → ν .order x z ≡ o → (List·Memᴰ y (sorted ν x zs) → (y ≡ x) ⊎ List·Memᴰ y zs) → (y ≡ x) ⊎ List·Memᴰ y (z ∷ zs)
-      go Ordering·lt i r = List·Memᴰ·cases-cons (rw (i, sorted) at m)
-      go Ordering·eq i r = inr (rw (i, sorted) at m)
-      go Ordering·gt i r = late r (List·Memᴰ·cases-cons (rw (i, sorted) at m))
-
-  pub sort-from : (xs : List N) (y : N) → List·Memᴰ y (sort ν xs) → List·Memᴰ y xs
-  unfolding sort
-  sort-from [] y m = m
-  sort-from (x ∷ xs) y m = go (insert-from x (sort ν xs) y m) (sort-from xs y)
-    where
-      go : (y ≡ x) ⊎ List·Memᴰ y (sort ν xs) → (List·Memᴰ y (sort ν xs) → List·Memᴰ y xs) → List·Memᴰ y (x ∷ xs)
-      go (inl i) r = List·Memᴰ·head i
-      go (inr i) r = List·Memᴰ·tail (r i)
-
-  module _ (held : N → Bool) (tells : Tells (λ n. held n ≡ true) (ν .order)) where
-    insert-old : (x : N) (ys : List N) (y : N) → List·Memᴰ y ys → List·Memᴰ y (sorted ν x ys)
-    unfolding sorted
-    insert-old x [] y m = absurd (List·Memᴰ·not-nil m)
-    insert-old x (z ∷ zs) y m = go (ν .order x z) refl (insert-old x zs y)
-      where
-        late : (y ≡ z) ⊎ List·Memᴰ y zs → (List·Memᴰ y zs → List·Memᴰ y (sorted ν x zs)) → List·Memᴰ y (z ∷ sorted ν x zs)
-        late (inl i) r = List·Memᴰ·head i
-        late (inr i) r = List·Memᴰ·tail (r i)
-
-        go : (o : Ordering) → ν .order x z ≡ o → (List·Memᴰ y zs → List·Memᴰ y (sorted ν x zs)) → List·Memᴰ y (sorted ν x (z ∷ zs))
-        go Ordering·lt i r = rw (i, sorted) (List·Memᴰ·tail m)
-        go Ordering·eq i r = rw (i, sorted) m
-        go Ordering·gt i r = rw (i, sorted) (late (List·Memᴰ·cases-cons m) r)
-
-    insert-new : (x : N) (ys : List N) → held x ≡ true → All (λ n. held n ≡ true) ys → List·Memᴰ x (sorted ν x ys)
-    unfolding sorted
-    insert-new x [] h k = in-head
-    insert-new x (z ∷ zs) h k = go (ν .order x z) refl (insert-new x zs h (λ n m. k n (List·Memᴰ·tail m)))
-      where
-        go : (o : Ordering) → ν .order x z ≡ o → List·Memᴰ x (sorted ν x zs) → List·Memᴰ x (sorted ν x (z ∷ zs))
-        go Ordering·lt i r = rw (i, sorted) in-head
-        go Ordering·eq i r = rw (i, sorted) (List·Memᴰ·head (tells .same x z h (k z in-head) i))
-        go Ordering·gt i r = rw (i, sorted) (List·Memᴰ·tail r)
-
-    pub sort-to : (xs : List N) (y : N) → All (λ n. held n ≡ true) xs → List·Memᴰ y xs → List·Memᴰ y (sort ν xs)
-    unfolding sort
-    sort-to [] y h m = m
-    sort-to (x ∷ xs) y h m = go (List·Memᴰ·cases-cons m) (sort-to xs y (λ n i. h n (List·Memᴰ·tail i)))
-      where
-        go : (y ≡ x) ⊎ List·Memᴰ y xs → (List·Memᴰ y xs → List·Memᴰ y (sort ν xs)) → List·Memᴰ y (sorted ν x (sort ν xs))
-        go (inl i) r = rw i (insert-new x (sort ν xs) (h x in-head) (λ n j. h n (List·Memᴰ·tail (sort-from xs n j))))
-        go (inr i) r = insert-old x (sort ν xs) y (r i)
+use Rattle.laws.specs.Turns.{Ended, run-back}
+use Rattle.soundness.specs.Solved.{Kept, turn-kept}
 
 -- ══ The start of a run ══
 
@@ -124,19 +31,11 @@ module _ {N : Type 0} where
   ParameterOf cs x = List·Memᴰ (par x) (collect opensCon cs)
 
 module _ {N : Type 0} (ν : Names N) where
-  pub not-mixed : (os : List (Open N)) → unmixed ν os ≡ true → (x : N) → List·Memᴰ (var x) os → List·Memᴰ (par x) os → ⊥
-  unfolding unmixed variablesIn parametersIn among
-  not-mixed os h x m p =
-      let v : List·Memᴰ x (variablesIn os) = collect-to (λ o. toList (variable o)) os (var x) x m in-head in
-      let w : List·Memᴰ x (parametersIn os) = collect-to (λ o. toList (parameter o)) os (par x) x p in-head in
-      let n : among ν x (parametersIn os) ≡ false = not-true (among ν x (parametersIn os)) (all-is (λ y. not (among ν y (parametersIn os))) (variablesIn os) h x v) in
-      true≢false (sym (is-any (λ y. isYes (ν .same x y)) (parametersIn os) x w (is-yes (ν .same x x) refl)) ∙ n)
-
   given-ok : (cs : List (Con N)) → unmixed ν (collect opensCon cs) ≡ true → All (ConOk (ParameterOf cs) []) cs
   given-ok cs h c m o i = ok c o (collect-to opensCon cs c o m i)
     where
       open-ok : (o : Open N) → List·Memᴰ o (collect opensCon cs) → OpenOk (ParameterOf cs) [] o
-      open-ok (var x) i = (λ p. not-mixed (collect opensCon cs) h x i p, λ j. List·Memᴰ·not-nil j)
+      open-ok (var x) i = (λ p. not-mixed ν (collect opensCon cs) h x i p, λ j. List·Memᴰ·not-nil j)
       open-ok (quant n) i = tt
       open-ok (par x) i = i
 
@@ -225,35 +124,3 @@ module _ {N : Type 0} (ν : Names N) (held : N → Bool) (ord : Ordered ν held)
 
   pub solved-form : Given ν held cs → (bs : List (Binding N)) (ns : List N) (k : ℕ) → solve ν bounded cs ≡ accepted bs ns k → SolvedForm ν held bs ns
   solved-form g bs ns k e = let f = final g bs ns k e in ended-form bs ns (f .state) (f .kept) (f .ended)
-
--- ══ Names of the answer ══
-
-module _ {N : Type 0} (ν : Names N) where
-  from-variables : (os : List (Open N)) (x : N) → List·Memᴰ x (variablesIn os) → List·Memᴰ (var x) os
-  unfolding variablesIn
-  from-variables os x m = let o = collect-from (λ o. toList (variable o)) os x m in go (o .one) (o .within) (o .from)
-    where
-      go : (o : Open N) → List·Memᴰ o os → List·Memᴰ x (toList (variable o)) → List·Memᴰ (var x) os
-      go (var y) i j = subst (λ (z : N). List·Memᴰ (var z) os) (sym (List·Memᴰ·eq-of-singleton j)) i
-      go (quant n) i j = absurd (List·Memᴰ·not-nil j)
-      go (par y) i j = absurd (List·Memᴰ·not-nil j)
-
-  from-parameters : (os : List (Open N)) (x : N) → List·Memᴰ x (parametersIn os) → List·Memᴰ (par x) os
-  unfolding parametersIn
-  from-parameters os x m = let o = collect-from (λ o. toList (parameter o)) os x m in go (o .one) (o .within) (o .from)
-    where
-      go : (o : Open N) → List·Memᴰ o os → List·Memᴰ x (toList (parameter o)) → List·Memᴰ (par x) os
-      go (var y) i j = absurd (List·Memᴰ·not-nil j)
-      go (quant n) i j = absurd (List·Memᴰ·not-nil j)
-      go (par y) i j = subst (λ (z : N). List·Memᴰ (par z) os) (sym (List·Memᴰ·eq-of-singleton j)) i
-
-  -- names of variables that are no parameters' are apart from those of parameters
-  pub apart-names : (P : N → Type 0) (os : List (Open N)) → ((x : N) → List·Memᴰ (var x) os → ¬ (P x)) → ((x : N) → List·Memᴰ (par x) os → P x) → unmixed ν os ≡ true
-  unfolding unmixed among
-  apart-names P os h k = is-all (λ x. not (among ν x (parametersIn os))) (variablesIn os) (λ x m. go x m (among ν x (parametersIn os)) refl)
-    where
-      go : (x : N) → List·Memᴰ x (variablesIn os) → (b : Bool) → among ν x (parametersIn os) ≡ b → not b ≡ true
-      go x m false i = refl
-      go x m true i =
-          let s = any-is (λ y. isYes (ν .same x y)) (parametersIn os) i in
-          absurd (h x (from-variables os x m) (k x (from-parameters os x (subst (λ (z : N). List·Memᴰ z (parametersIn os)) (sym (yes-is (ν .same x (s .one)) (s .fits))) (s .within)))))

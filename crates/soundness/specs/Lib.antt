@@ -4,7 +4,6 @@ pub mod Instances
 pub mod Judged
 pub mod Form
 pub mod Runs
-pub mod Turns
 pub mod Steps
 pub mod Solved
 pub mod Alike

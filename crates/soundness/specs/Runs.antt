@@ -17,21 +17,23 @@ use Rattle.rules.specs.Solving.{accepted, boundOf, solve, enough}
 use Rattle.rules.specs.Calls.{opensBinding}
 use Rattle.rules.specs.Meaning.{amongBounds, holds, Solves, inProducts, productsOf, Premise}
 use Rattle.rules.specs.WellFormed.{goodBinding}
+use Rattle.laws.specs.Contents.{not-mixed, apart-names}
 use Rattle.laws.specs.Order.{Lawful, Tells}
 use Rattle.laws.specs.ByteOrder.{atom-lawful}
 use Rattle.laws.specs.Exact.{ty-below}
 use Rattle.laws.specs.ExactSolve.{con-below}
 use Rattle.laws.specs.Untouched.{ty-same}
 use Rattle.laws.specs.GoodProducts.{goodAtom, atom-tells, good-proper}
-use Rattle.laws.specs.Lists.{true≢false, some≢none, is-yes, All, all-nil, all-cons, all-append, in-head, is-any, Came, each-went, each-came, Origin, collect-from, collect-to, map-to}
+use Rattle.laws.specs.Lists.{true≢false, some≢none, is-yes, All, all-nil, all-cons, all-append, in-head, is-any, Came, each-went, each-came, Origin, collect-from, collect-to, map-to, all-every}
+use Rattle.laws.specs.SortedNames.{sort-to}
 use Rattle.laws.specs.RuleCases.{After, rule}
-use Rattle.soundness.specs.Turns.{Found, Bound, Split, Taken, Turn, bound, parted, dropped}
+use Rattle.laws.specs.Turns.{Found, Bound, Split, Taken, Turn, bound, parted, dropped, Ended, run-back}
 use Rattle.laws.specs.KeepsGood.{GoodTy, GoodBind, dimension-good, rule-good}
 use Rattle.laws.specs.Occurs.{ty-in, con-in}
 use Rattle.soundness.specs.Steps.{OpenOk, okFor, rule-in}
 use Rattle.soundness.specs.Claims.{Ordered, Given, key, typeOf, keys}
-use Rattle.soundness.specs.Solved.{same-key, type-good, turn-kept, Ended, run-back}
-use Rattle.soundness.specs.Form.{Final, final, ParameterOf, not-mixed, apart-names, AllKept, start-kept, bound-is, bound-ok, sort-to}
+use Rattle.soundness.specs.Solved.{same-key, type-good, turn-kept}
+use Rattle.soundness.specs.Form.{Final, final, ParameterOf, AllKept, start-kept, bound-is, bound-ok}
 use Rattle.soundness.specs.Putting.{ty-put}
 use Rattle.soundness.specs.Truth.{FitsIn, Holds, Respects, dimensional-holds, con-back}
 use Rattle.soundness.specs.Back.{TrueCon, TrueBind, rule-true}
@@ -109,7 +111,7 @@ module _ {N : Type 0} (ν : Names N) (held : N → Bool) (ord : Ordered ν held)
         among-these y i = collect-to (λ d. toList (boundOf d)) (s .cons) c y m (rw i in-head)
 
         in-bounds : (y : N) → boundOf c ≡ some y → List·Memᴰ y ns
-        in-bounds y i = rw (e .bounds) (sort-to ν held (ord .tells) (collect (λ d. toList (boundOf d)) (s .cons)) y (λ z n. bound-ok ν held ord cs s k z n .0) (among-these y i))
+        in-bounds y i = rw (e .bounds) (sort-to ν (λ n. held n ≡ true) (ord .tells) (collect (λ d. toList (boundOf d)) (s .cons)) (all-every (λ n. held n ≡ true) _ (λ z n. bound-ok ν held ord cs s k z n .0)) y (among-these y i))
 
         not-bound : (y : N) → boundOf c ≡ some y → find ν bs y ≡ none
         not-bound y i = rw (e .binds) (find-none ν (s .binds) y (bound-ok ν held ord cs s k y (among-these y i) .1))

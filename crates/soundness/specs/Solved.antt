@@ -2,17 +2,14 @@
 -- Assumes nothing.
 use mathlib.Core.Path.{_≡_, refl, ap, ap₂, _∙_, sym, subst}
 use mathlib.Core.Bool.{Bool, true}
-use mathlib.Core.Option.{Option, none, some}
+use mathlib.Core.Option.{some}
 use mathlib.Core.Logic.{_⊎_, inl, inr}
 use mathlib.Core.List.{List, [], _∷_, _++_, List·Memᴰ, List·Memᴰ·head, List·Memᴰ·tail, List·Memᴰ·not-nil, List·Memᴰ·append-cases, List·Memᴰ·eq-of-singleton}
-use Prim.Native.Nat.{ℕ, zero, suc}
-use native.Mathlib.Omega.{arith}
-use Rattle.rules.specs.Base.{Got, got, refused, Limits, bounded, exact, each, keep, collect, toList, isNone}
+use Prim.Native.Nat.{ℕ}
+use Rattle.rules.specs.Base.{got, Limits, bounded, exact, each}
 use Rattle.rules.specs.Trees.{Open, var, quant, par, Names, Ty, Con, equal, isDim, isScalar, hasField, Binding, _≔_, orderAtom, opens, opensCon}
-use Rattle.rules.specs.Contents.{sort}
 use Rattle.rules.specs.Replacing.{Look, replaceTy, replaceProduct, replaceCon, replaceBinding, bindings}
-use Rattle.rules.specs.Rounds.{State, bind, split, round}
-use Rattle.rules.specs.Solving.{Answer, accepted, boundOf, finished, finish, after, run}
+use Rattle.rules.specs.Rounds.{State, bind, split}
 use Rattle.rules.specs.WellFormed.{goodBinding}
 use Rattle.laws.specs.Order.{Lawful, Tells}
 use Rattle.laws.specs.Exact.{ty-below}
@@ -21,7 +18,7 @@ use Rattle.laws.specs.GoodProducts.{goodAtom}
 use Rattle.laws.specs.Lists.{and-right, and-both, All, all-nil, all-cons, all-append, one-step, two-steps, Came, each-parts, each-came}
 use Rattle.soundness.specs.Claims.{key, typeOf, keys, Once}
 use Rattle.laws.specs.RuleCases.{rule}
-use Rattle.soundness.specs.Turns.{Found, Bound, Split, Taken, Turn, bound, parted, dropped, turn}
+use Rattle.laws.specs.Turns.{Found, Bound, Split, Taken, Turn, bound, parted, dropped}
 use Rattle.laws.specs.KeepsGood.{GoodTy, GoodCon, GoodBind, rule-good, con-kept, binding-kept}
 use Rattle.laws.specs.Occurs.{bound-good, ty-on, con-on}
 use Rattle.soundness.specs.Steps.{OpenOk, DimOk, okFor, ConOk, BindOk, rule-open}
@@ -212,30 +209,3 @@ module _ {N : Type 0} (ν : Names N) (law : Lawful (orderAtom ν)) (held : N →
   turn-kept s s′ k (bound b) = bound-kept s s′ k b
   turn-kept s s′ k (parted b) = split-kept s s′ k b
   turn-kept s s′ k (dropped b) = taken-kept s s′ k b
-
--- ══ A run ══
-
--- the state in which a run ends, and what is answered of it
-pub record Ended {N : Type 0} (ν : Names N) (bs : List (Binding N)) (ns : List N) (s : State N) : Type 0 where
-  pub left : keep (λ c. isNone (boundOf c)) (s .cons) ≡ []
-  pub binds : bs ≡ s .binds
-  pub bounds : ns ≡ sort ν (collect (λ c. toList (boundOf c)) (s .cons))
-
-module _ {N : Type 0} (ν : Names N) (l : Limits) (bs : List (Binding N)) (ns : List N) (j : ℕ) where
-  finished-ended : (cs : List (Con N)) (k : ℕ) (s : State N) → keep (λ c. isNone (boundOf c)) (s .cons) ≡ cs → finished ν cs k s ≡ accepted bs ns j → Ended ν bs ns s
-  unfolding finished
-  finished-ended [] k s i e = record { left = i; binds = cc; bounds = cc }
-  finished-ended (c ∷ cs) k s i e = let z : _≡_ {A = ℕ} 0 1 = cc in absurd (omega arith)
-
-  after-back : (P : State N → Type 0) → ((s : State N) → Ended ν bs ns s → P s) → ((s s′ : State N) → Turn ν l s s′ → P s′ → P s) → (k : ℕ) (s : State N) (more : State N → Answer N) → ((s′ : State N) → more s′ ≡ accepted bs ns j → P s′)
-      → (r : Got (Option (State N))) → round ν l s ≡ r → after ν r k s more ≡ accepted bs ns j → P s
-  unfolding after finish
-  after-back P end step k s more again (refused n) i e = let z : _≡_ {A = ℕ} 0 1 = cc in absurd (omega arith)
-  after-back P end step k s more again (got none) i e = end s (finished-ended (keep (λ c. isNone (boundOf c)) (s .cons)) k s refl e)
-  after-back P end step k s more again (got (some s′)) i e = step s s′ (turn ν l s s′ i) (again s′ e)
-
-  -- what holds at the end, and before a round if after it, holds from the start
-  pub run-back : (P : State N → Type 0) → ((s : State N) → Ended ν bs ns s → P s) → ((s s′ : State N) → Turn ν l s s′ → P s′ → P s) → (f k : ℕ) (s : State N) → run ν l f k s ≡ accepted bs ns j → P s
-  unfolding run
-  run-back P end step zero k s e = let z : _≡_ {A = ℕ} 0 1 = cc in absurd (omega arith)
-  run-back P end step (suc f) k s e = after-back P end step k s (λ s′. run ν l f (suc k) s′) (λ s′ i. run-back P end step f (suc k) s′ i) (round ν l s) refl e

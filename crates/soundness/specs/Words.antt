@@ -1,6 +1,6 @@
 -- The theorems for the calls on words: what a call checks is what the theorems ask.
 -- Assumes nothing.
-use mathlib.Core.Path.{_≡_, refl, sym, subst}
+use mathlib.Core.Path.{_≡_, refl, subst}
 use mathlib.Core.Bool.{Bool, true, false}
 use mathlib.Core.List.{List, [], _∷_, _++_}
 use Prim.Native.Nat.{ℕ, _<_, _≤_}
@@ -19,18 +19,14 @@ use Rattle.rules.specs.Solving.{Answer, accepted, remaining, stopped, solve}
 use Rattle.rules.specs.Meaning.{Solves, Premise}
 use Rattle.rules.specs.Judging.{judge}
 use Rattle.rules.specs.Calls.{lentResult, lentWork, lent, shortLists, shortNumbers, tableKept, listGiven, setGiven, apart, opensBinding, resultAfter, solved, refusedAfter, solvedOf, solvedWords, solvedSet, solveCall, Entry, entriesGiven, risingBounds, judgedSet, judgeCall}
+use Rattle.laws.specs.Checks.{need-passed}
 use Rattle.laws.specs.ByteOrder.{numbered-lawful}
 use Rattle.laws.specs.NameTable.{Good, count-is, held-tells}
-use Rattle.laws.specs.Lists.{and-left, and-right, got≢refused, bound-step}
+use Rattle.laws.specs.Lists.{and-left, and-right, bound-step}
 use Rattle.soundness.specs.Claims.{Ordered, Given, Fails, Proposes, YesOrLimits, SoundAnswer, JudgedSet}
 use Rattle.soundness.specs.Form.{final, solved-form}
 use Rattle.soundness.specs.Runs.{answer-apart, solves}
 use Rattle.soundness.specs.Judged.{yes-solves, no-fails, solution-judged}
-
--- a check that passed
-passed : (b : Bool) (n : ℕ) (u : Unit {0}) → need b n ≡ got u → b ≡ true
-passed true n u e = refl
-passed false n u e = absurd (got≢refused (sym e))
 
 -- ══ Names ══
 
@@ -43,11 +39,11 @@ numbers-ordered pool table g = record { lawful = numbered-lawful _; tells = reco
 
 lent-long : (pool table : List ℕ) (u : Unit {0}) → lentTable pool table ≡ got u → (8192 ≤ length pool) × (257 ≤ length table)
 unfolding lentTable
-lent-long pool table u e = let h = passed _ 10 u e in (leb-true 8192 (length pool) (and-left (leb 8192 (length pool)) _ h), leb-true 257 (length table) (and-right (leb 8192 (length pool)) _ h))
+lent-long pool table u e = let h = need-passed _ 10 e in (leb-true 8192 (length pool) (and-left (leb 8192 (length pool)) _ h), leb-true 257 (length table) (and-right (leb 8192 (length pool)) _ h))
 
 kept-good : (t : Table) (u : Unit {0}) → tableKept t ≡ got u → tableGood t ≡ true
 unfolding tableKept
-kept-good t u e = passed (tableGood t) 1 u e
+kept-good t u e = need-passed (tableGood t) 1 e
 
 set-good : (t : Table) (ws : List ℕ) (cs : List (Con ℕ)) → setGiven t ws ≡ got cs → all (goodCon (numbersOf t) (isHeld t) 0) cs ≡ true
 unfolding setGiven listGiven
@@ -56,7 +52,7 @@ set-good t ws cs e =
     let b = bound-step (orRefuse 1 (readAll readCon (length (a .0)) (a .0))) _ cs (a .2) in
     let c = bound-step (need (all (goodCon (numbersOf t) (isHeld t) 0) (b .0)) 1) _ cs (b .2) in
     let z : b .0 ≡ cs = cc (c .2) in
-    subst (λ (l : List (Con ℕ)). all (goodCon (numbersOf t) (isHeld t) 0) l ≡ true) z (passed (all (goodCon (numbersOf t) (isHeld t) 0) (b .0)) 1 (c .0) (c .1))
+    subst (λ (l : List (Con ℕ)). all (goodCon (numbersOf t) (isHeld t) 0) l ≡ true) z (need-passed (all (goodCon (numbersOf t) (isHeld t) 0) (b .0)) 1 (c .1))
 
 -- ══ Solving ══
 
@@ -86,7 +82,7 @@ module _ (pool table set : List ℕ) where
         read = c .1;
         kept = (b .0, b .1);
         order = numbers-ordered pool table (record { bytes = l .0; words = l .1; good = kept-good t (b .0) (b .1) });
-        given = record { well-formed = set-good t set (c .0) (c .1); apart = passed (unmixed (numbersOf t) (collect opensCon (c .0))) 4 (d .0) (d .1) };
+        given = record { well-formed = set-good t set (c .0) (c .1); apart = need-passed (unmixed (numbersOf t) (collect opensCon (c .0))) 4 (d .1) };
         accepts = cc (d .2);
       }
 

@@ -2,7 +2,7 @@
 use Rattle.records.proofs.Walks.{untagged, held-atom, factors-none, factors-other, factors-fail, factors-step}
 use Rattle.records.specs.declared.View.the-variants as view
 use Rattle.records.specs.Places.{seen-in}
-use Rattle.laws.specs.NameTable.{both-left}
+use Rattle.laws.specs.Lists.{and-left as both-left}
 use borrow.Author.Needs.{needs}
 use native.Mathlib.Omega.{arith}
 use mathlib.Core.List.{[], _∷_}

@@ -3,7 +3,7 @@ use Rattle.records.proofs.Walks.{untagged, held-name, types-none, types
 use Rattle.records.specs.declared.View.the-variants as view
 use Rattle.records.specs.Good.{Ends, GoodTy, GoodTys, holding, follows}
 use Rattle.records.specs.Places.{seen-in}
-use Rattle.laws.specs.NameTable.{both-left}
+use Rattle.laws.specs.Lists.{and-left as both-left}
 use Rattle.rules.specs.Names.{tableOf}
 use borrow.Author.Needs.{needs}
 use native.Mathlib.Omega.{arith}

@@ -1,17 +1,19 @@
--- What a round did: it bound a variable, put constraints in another's place, or took one away.
+-- What a round did: it bound a variable, put constraints in another's place, or took one away. And how a run ended.
 -- Assumes nothing.
 use mathlib.Core.Path.{_≡_, refl, ap, _∙_, sym}
 use mathlib.Core.Option.{Option, none, some}
 use mathlib.Core.Logic.{_⊎_, inl, inr}
 use mathlib.Core.List.{List, [], _∷_, _++_, List·Memᴰ, List·Memᴰ·head, List·Memᴰ·tail, List·Memᴰ·cases-cons}
-use Prim.Native.Nat.{ℕ}
+use Prim.Native.Nat.{ℕ, zero, suc}
 use native.Mathlib.Omega.{arith}
-use Rattle.rules.specs.Base.{Got, got, refused, _>>=_, Limits, each}
+use Rattle.rules.specs.Base.{Got, got, refused, _>>=_, Limits, each, keep, collect, toList, isNone}
+use Rattle.rules.specs.Contents.{sort}
 use Rattle.rules.specs.Trees.{Names, Ty, Con, Binding, _≔_}
 use Rattle.rules.specs.Replacing.{replaceCon, replaceBinding, bindings}
 use Rattle.rules.specs.Rounds.{Step, bind, split, done, stuck, State, trySatisfy, taken, sizeState, depthState, limited, firstStep, perform, performed, round}
+use Rattle.rules.specs.Solving.{Answer, accepted, boundOf, finished, finish, after, run}
 use Rattle.laws.specs.Lists.{All, all-cons, in-head, some≢none, got≢refused}
 use Rattle.laws.specs.Sized.{sized-same}
 
 module _ {N : Type 0} (ν : Names N) (l : Limits) where
   -- the constraint that a step was made of, and the others
@@ -131,3 +133,30 @@ module _ {N : Type 0} (ν : Names N) (l : Limits) where
           more : (r : Got (State N)) → perform ν l (s .binds) (v .0) (v .1) ≡ r → (perform ν l (s .binds) (v .0) (v .1) >>= λ s″. got (some s″)) ≡ got (some s′) → Turn s s′
           more (refused n) j h = let z : refused n ≡ got (some s′) = rw j at h in absurd (got≢refused (sym z))
           more (got u) j h = let z : got (some u) ≡ got (some s′) = rw j at h in let q : u ≡ s′ = cc in performed-turn s s′ (v .0) (v .1) (found (s .cons) v i) (j ∙ ap got q)
+
+-- ══ A run ══
+
+-- the state in which a run ends, and what is answered of it
+pub record Ended {N : Type 0} (ν : Names N) (bs : List (Binding N)) (ns : List N) (s : State N) : Type 0 where
+  pub left : keep (λ c. isNone (boundOf c)) (s .cons) ≡ []
+  pub binds : bs ≡ s .binds
+  pub bounds : ns ≡ sort ν (collect (λ c. toList (boundOf c)) (s .cons))
+
+module _ {N : Type 0} (ν : Names N) (l : Limits) (bs : List (Binding N)) (ns : List N) (j : ℕ) where
+  finished-ended : (cs : List (Con N)) (k : ℕ) (s : State N) → keep (λ c. isNone (boundOf c)) (s .cons) ≡ cs → finished ν cs k s ≡ accepted bs ns j → Ended ν bs ns s
+  unfolding finished
+  finished-ended [] k s i e = record { left = i; binds = cc; bounds = cc }
+  finished-ended (c ∷ cs) k s i e = let z : _≡_ {A = ℕ} 0 1 = cc in absurd (omega arith)
+
+  after-back : (P : State N → Type 0) → ((s : State N) → Ended ν bs ns s → P s) → ((s s′ : State N) → Turn ν l s s′ → P s′ → P s) → (k : ℕ) (s : State N) (more : State N → Answer N) → ((s′ : State N) → more s′ ≡ accepted bs ns j → P s′)
+      → (r : Got (Option (State N))) → round ν l s ≡ r → after ν r k s more ≡ accepted bs ns j → P s
+  unfolding after finish
+  after-back P end step k s more again (refused n) i e = let z : _≡_ {A = ℕ} 0 1 = cc in absurd (omega arith)
+  after-back P end step k s more again (got none) i e = end s (finished-ended (keep (λ c. isNone (boundOf c)) (s .cons)) k s refl e)
+  after-back P end step k s more again (got (some s′)) i e = step s s′ (turn ν l s s′ i) (again s′ e)
+
+  -- what holds at the end, and before a round if after it, holds from the start
+  pub run-back : (P : State N → Type 0) → ((s : State N) → Ended ν bs ns s → P s) → ((s s′ : State N) → Turn ν l s s′ → P s′ → P s) → (f k : ℕ) (s : State N) → run ν l f k s ≡ accepted bs ns j → P s
+  unfolding run
+  run-back P end step zero k s e = let z : _≡_ {A = ℕ} 0 1 = cc in absurd (omega arith)
+  run-back P end step (suc f) k s e = after-back P end step k s (λ s′. run ν l f (suc k) s′) (λ s′ i. run-back P end step f (suc k) s′ i) (round ν l s) refl e

@@ -1,7 +1,8 @@
--- What is well formed with fewer quantified variables is so with more. Assumes nothing.
+-- What is well formed with fewer quantified variables is so with more.
+-- Assumes nothing.
 use mathlib.Core.Path.{_≡_, refl}
 use mathlib.Core.Bool.{Bool, true, _&&_, and-eq-true-iff}
-use mathlib.Core.List.{List, [], _∷_, map}
+use mathlib.Core.List.{map}
 use Prim.Native.Nat.{ℕ, _≤_}
 use native.Mathlib.Omega.{arith}
 use borrow.Author.Tests.{ltb-true, lt-ltb}
@@ -11,6 +12,7 @@ use Rattle.rules.specs.Base.{all}
 use Rattle.rules.specs.Exponents.{goodStored}
 use Rattle.rules.specs.Trees.{Open, var, quant, par, free, base, Factor, _↑_, Product, Names, Ty, opened, basic, dim, fn, struct, list, Tys, nil, cons, Fields, noFields, field, Con, equal, isDim, isScalar, hasField, Binding, _≔_, orderAtom}
 use Rattle.rules.specs.WellFormed.{goodOpen, goodFactor, goodProduct, goodTy, goodTys, goodFields, goodCon, goodBinding, rising, atomOf, fieldNames}
+use Rattle.laws.specs.Lists.{all-is, is-all}
 
 module _ {N : Type 0} (ν : Names N) (held : N → Bool) (q r : ℕ) (le : q ≤ r) where
   both : (a b c d : Bool) → a && b ≡ true → (a ≡ true → c ≡ true) → (b ≡ true → d ≡ true) → c && d ≡ true
@@ -27,16 +29,11 @@ module _ {N : Type 0} (ν : Names N) (held : N → Bool) (q r : ℕ) (le : q ≤
   factor-weaker (free o ↑ e) h = both (goodOpen ν held q o) (goodStored e) (goodOpen ν held r o) (goodStored e) h (open-weaker o) (λ x. x)
   factor-weaker (base n ↑ e) h = h
 
-  pub all-weaker : {A : Type 0} (f g : A → Bool) → ((a : A) → f a ≡ true → g a ≡ true) → (l : List A) → all f l ≡ true → all g l ≡ true
-  unfolding all
-  all-weaker f g w [] h = refl
-  all-weaker f g w (a ∷ l) h = both (f a) (all f l) (g a) (all g l) h (w a) (all-weaker f g w l)
-
   pub product-weaker : (p : Product N) → goodProduct ν held q p ≡ true → goodProduct ν held r p ≡ true
   unfolding goodProduct
   product-weaker p h =
       both (all (goodFactor ν held q) p && rising (orderAtom ν) (map atomOf p)) (leb (length p) 64) (all (goodFactor ν held r) p && rising (orderAtom ν) (map atomOf p)) (leb (length p) 64) h
-      (λ x. both (all (goodFactor ν held q) p) (rising (orderAtom ν) (map atomOf p)) (all (goodFactor ν held r) p) (rising (orderAtom ν) (map atomOf p)) x (all-weaker (goodFactor ν held q) (goodFactor ν held r) factor-weaker p) (λ y. y)) (λ y. y)
+      (λ x. both (all (goodFactor ν held q) p) (rising (orderAtom ν) (map atomOf p)) (all (goodFactor ν held r) p) (rising (orderAtom ν) (map atomOf p)) x (λ y. is-all (goodFactor ν held r) p (λ f m. factor-weaker f (all-is (goodFactor ν held q) p y f m))) (λ y. y)) (λ y. y)
 
   mutual
     unfolding goodTy
