@@ -5,6 +5,7 @@ use mathlib.Core.List.{List}
 use Prim.Native.Nat.{ℕ, zero, suc, _+_, _-_, _/_, _%_, _≤_, _<_}
 use native.Mathlib.Numerals.{add-one}
 use native.Mathlib.Omega.{arith}
+use borrow.Author.Count.{below-more}
 use borrow.Author.Tests.{eqb-true, eqb-false}
 use lib.Dec.{eqb}
 use lib.ListN.{length, getD, set, length-set}
@@ -95,17 +96,6 @@ module _ (pool table types slots places₀ : List ℕ) where
     unfolding taken
     add-more b e = rw (add-one v, s .counted, e)
 
-    -- what holds of each below v, and of v
-    each-more : (P : ℕ → Type 0) → ((x : ℕ) → x < v → P x) → P v → (x : ℕ) → x < v + 1 → P x
-    each-more P f p x h = go (eqb x v) refl
-      where
-        go : (b : Bool) → eqb x v ≡ b → P x
-        go true e = subst P (sym (eqb-true x v e)) p
-        go false e = f x (omega (arith, less (eqb-false x v e)))
-          where
-            less : (x ≡ v → ⊥) → x < v
-            less g = omega arith
-
     pub one-more : 256 ≤ length places₀ → (b : ℕ) → b ≡ bit (getD slots v 0) → Fits pool table types v (getD slots v 0) → SoFar (set places v (getD slots v 0)) (n + b) (v + 1)
     one-more long b e fits =
         let w : ℕ = getD slots v 0 in
@@ -115,8 +105,8 @@ module _ (pool table types slots places₀ : List ℕ) where
           few = omega (arith, bit-few w, s .few);
           same = length-set places v w ∙ s .same;
           counted = add-more b e;
-          fits = each-more (λ x. Fits pool table types x (getD slots x 0)) (s .fits) fits;
-          copied = each-more (λ x. getD (set places v w) x 0 ≡ getD slots x 0)
+          fits = below-more (λ x. Fits pool table types x (getD slots x 0)) v (s .fits) fits;
+          copied = below-more (λ x. getD (set places v w) x 0 ≡ getD slots x 0) v
               (λ x h. getD-set-other places v x w 0 (λ q. omega arith) ∙ s .copied x h)
               (getD-set-same places v w 0 i);
         }

@@ -1,5 +1,5 @@
 -- How looking up and testing for a repeat go along the entries, by the entry at an index: what the turns of the loops need. Assumes nothing.
-use mathlib.Core.Path.{_≡_, refl, ap}
+use mathlib.Core.Path.{_≡_, refl}
 use mathlib.Core.Bool.{Bool, true, false, not, _&&_, _||_}
 use mathlib.Core.List.{List, [], _∷_}
 use mathlib.Core.Option.{Option, none, some}
@@ -93,7 +93,3 @@ repeated-nowhere [] zero l = refl
 repeated-nowhere [] (suc i) l = refl
 repeated-nowhere (y ∷ ys) zero l = absurd (not-suc-le-zero l)
 repeated-nowhere (y ∷ ys) (suc i) l = repeated-nowhere ys i (le-of-suc-le-suc l)
-
-pub told-length : (ys : List Entry) → length (told ys) ≡ length ys
-told-length [] = refl
-told-length (y ∷ ys) = ap suc (told-length ys)

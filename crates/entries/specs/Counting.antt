@@ -33,10 +33,9 @@ noted-at es (suc k) x h l = go (eqb x k) refl (λ i. noted-at es k x i (omega ar
         let q : x ≡ k = eqb-true x k e in
         let i : k < length (notedBelow es k .at) = omega (arith, noted-length es k) in
         rw q (getD-set-same (notedBelow es k .at) k (slotOf (placeOf es k)) 0 i)
-    go false e ih = getD-set-other (notedBelow es k .at) k x (slotOf (placeOf es k)) 0 (eqb-false x k e) ∙ ih (less (eqb-false x k e))
-      where
-        less : (x ≡ k → ⊥) → x < k
-        less f = omega arith
+    go false e ih =
+        let f = eqb-false x k e in
+        getD-set-other (notedBelow es k .at) k x (slotOf (placeOf es k)) 0 f ∙ ih (omega arith)
 
 pub slot-at : (es : List Entry) (x : ℕ) → x < 256 → getD (slotsOf es .at) x 0 ≡ slotOf (placeOf es x)
 slot-at es x h = noted-at es 256 x h (omega arith)
@@ -105,10 +104,8 @@ module _ (e : Entry) (es : List Entry) where
           omega (arith, bound-past k (omega arith), ap one-if (here k i), ap one-if (ap (placeOf es) (sym i) ∙ n))
       go false q ih =
           let f = eqb-false (e .variable) k q in
-          omega (arith, ap one-if (away k f), ih (less f))
-        where
-          less : (e .variable ≡ k → ⊥) → e .variable < k
-          less f = omega arith
+          let l : e .variable < k = omega arith in
+          omega (arith, ap one-if (away k f), ih l)
 
 bound-length : (es : List Entry) (k : ℕ) → bound es k ≤ length es
 bound-length [] k = omega (arith, bound-none k)

@@ -5,6 +5,7 @@ use Prim.Native.Nat.{ℕ, zero, suc, _+_}
 use lib.Dec.{eqb}
 use lib.ListN.{getD, set, replicate}
 use Rattle.rules.specs.Base.{_orElse_, onlyIf}
+use Rattle.rules.specs.Trees.{Binding, _≔_}
 use Rattle.rules.specs.Calls as rules
 use Rattle.entries.specs.declared.Entry.{Entry}
 use Rattle.entries.specs.declared.Found.{Found}
@@ -23,6 +24,9 @@ toldFound Nothing = none
 
 abbrev pub variablesOf : List rules.Entry → List ℕ
 variablesOf es = map (λ e. e .variable) es
+
+abbrev pub variableOf : Binding ℕ → ℕ
+variableOf (x ≔ t) = x
 
 -- the place in the first entry of a variable
 abbrev pub placeOf : List rules.Entry → ℕ → Option ℕ

@@ -1,7 +1,7 @@
 -- Entries that are given as document 01 asks, and what their slots say. Assumes nothing.
 use mathlib.Core.Path.{_≡_, refl, sym, ap, subst, _∙_}
 use mathlib.Core.Bool.{Bool, true, false, _&&_}
-use mathlib.Core.List.{List, [], _∷_}
+use mathlib.Core.List.{List, [], _∷_, map}
 use mathlib.Core.Option.{Option, none, some}
 use Prim.Native.Nat.{ℕ, zero, suc, _+_, _/_, _%_, _<_}
 use native.Mathlib.Nat.{add-zero}
@@ -23,8 +23,9 @@ use Rattle.records.specs.Views.{recs, from}
 use Rattle.records.specs.Places.{from-none, from-some}
 use Rattle.records.specs.Found.{Words32}
 use Rattle.records.specs.Given.{records-whole, records-broken, from-start, type-reader}
-use Rattle.records.specs.Good.{numbers, goodTy, GoodTy}
-use Rattle.entries.specs.Entries.{variablesOf, placeOf, slotOf}
+use Rattle.rules.specs.WellFormed as rules
+use Rattle.records.specs.Good.{numbers, goodTy, goodBinding, GoodTy}
+use Rattle.entries.specs.Entries.{variableOf, variablesOf, placeOf, slotOf}
 use Rattle.entries.specs.Tables.{Fits}
 use Rattle.entries.specs.Counting.{Below, First}
 
@@ -42,7 +43,7 @@ from-drop s at (suc i) = go (ltb at (length s / 4)) refl (from-drop s (at + 1) i
         let l = ltb-false at (length s / 4) q in
         ap (drop (suc i)) (from-none s at (omega (arith, l))) ∙ sym (from-none s (at + suc i) (omega (arith, l)))
 
-module _ (pool table types : List ℕ) (w : Words32 types) where
+module _ (pool table types : List ℕ) where
   abbrev t : Table
   t = tableOf pool table
 
@@ -56,27 +57,36 @@ module _ (pool table types : List ℕ) (w : Words32 types) where
       zero-plus : (n : ℕ) → 0 + n ≡ n
       zero-plus n = omega arith
 
-  pub type-there : (at : ℕ) (ty : Ty ℕ) (e : ℕ) → GoodTy pool table 0 types 64 at ty e → typeAt t rs at ≡ got ty
+  module _ (w : Words32 types) where
+    pub type-there : (at : ℕ) (ty : Ty ℕ) (e : ℕ) → GoodTy pool table 0 types 64 at ty e → typeAt t rs at ≡ got ty
+    unfolding typeAt
+    type-there at ty e g = rw (records-at at, type-reader pool table types w .reads at ty e g, g .good)
+
+    pub type-is : (at : ℕ) (ty : Ty ℕ) → typeAt t rs at ≡ got ty → (e : ℕ) × GoodTy pool table 0 types 64 at ty e
+    unfolding typeAt
+    type-is at ty h = go (readTy 64 (from types at)) refl (rw (records-at at) at h)
+      where
+        no : {B : Type 0} → refused 1 ≡ got ty → B
+        no e = absurd (got≢refused (sym e))
+
+        tested : (u : Ty ℕ) (rest : List Rec) → readTy 64 (from types at) ≡ some (u, rest) → (b : Bool) → goodTy pool table 0 u ≡ b → (need b 1 >> got u) ≡ got ty → (e : ℕ) × GoodTy pool table 0 types 64 at ty e
+        tested u rest p true q h =
+            let i : u ≡ ty = cc in
+            let (e, (g, k)) = type-reader pool table types w .finds at u rest p q in
+            (e, subst (λ (x : Ty ℕ). GoodTy pool table 0 types 64 at x e) i g)
+        tested u rest p false q h = no h
+
+        go : (o : Option (Ty ℕ × List Rec)) → readTy 64 (from types at) ≡ o → (orRefuse 1 (andThen o (λ r. some (r .0))) >>= λ ty. need (goodTy pool table 0 ty) 1 >> got ty) ≡ got ty → (e : ℕ) × GoodTy pool table 0 types 64 at ty e
+        go none p h = no h
+        go (some v) p h = tested (v .0) (v .1) p (goodTy pool table 0 (v .0)) refl h
+
+  type-good : (at : ℕ) (ty : Ty ℕ) → typeAt t rs at ≡ got ty → goodTy pool table 0 ty ≡ true
   unfolding typeAt
-  type-there at ty e g = rw (records-at at, type-reader pool table types w .reads at ty e g, g .good)
-
-  pub type-is : (at : ℕ) (ty : Ty ℕ) → typeAt t rs at ≡ got ty → (e : ℕ) × GoodTy pool table 0 types 64 at ty e
-  unfolding typeAt
-  type-is at ty h = go (readTy 64 (from types at)) refl (rw (records-at at) at h)
-    where
-      no : {B : Type 0} → refused 1 ≡ got ty → B
-      no e = absurd (got≢refused (sym e))
-
-      tested : (u : Ty ℕ) (rest : List Rec) → readTy 64 (from types at) ≡ some (u, rest) → (b : Bool) → goodTy pool table 0 u ≡ b → (need b 1 >> got u) ≡ got ty → (e : ℕ) × GoodTy pool table 0 types 64 at ty e
-      tested u rest p true q h =
-          let i : u ≡ ty = cc in
-          let (e, (g, k)) = type-reader pool table types w .finds at u rest p q in
-          (e, subst (λ (x : Ty ℕ). GoodTy pool table 0 types 64 at x e) i g)
-      tested u rest p false q h = no h
-
-      go : (o : Option (Ty ℕ × List Rec)) → readTy 64 (from types at) ≡ o → (orRefuse 1 (andThen o (λ r. some (r .0))) >>= λ ty. need (goodTy pool table 0 ty) 1 >> got ty) ≡ got ty → (e : ℕ) × GoodTy pool table 0 types 64 at ty e
-      go none p h = no h
-      go (some v) p h = tested (v .0) (v .1) p (goodTy pool table 0 (v .0)) refl h
+  type-good at ty h =
+      let (u, g, q) = bound-step (orRefuse 1 (andThen (readTy 64 (drop at rs)) (λ r. some (r .0)))) (λ u. need (goodTy pool table 0 u) 1 >> got u) ty h in
+      let i : got u ≡ got ty = next-passed (got u) ty (need (goodTy pool table 0 u) 1) q in
+      let j : u ≡ ty = cc in
+      rw (← j) (need-passed (goodTy pool table 0 u) 1 (first-passed (got u) ty (need (goodTy pool table 0 u) 1) q))
 
   -- ══ The binding of an entry ══
 
@@ -148,13 +158,31 @@ module _ (pool table types : List ℕ) (w : Words32 types) where
       let p = each-parts (bindingOf t rs) e es bs h in
       (binding-is e (p .first) (p .gave) .held, held-all es (p .second) (p .then))
 
-  pub bindings-there : (fs : List Entry) → ((x : ℕ) → x < 256 → Fits pool table types x (slotOf (placeOf fs x))) → (es : List Entry) → Below 256 es → First fs es → (bs : List (Binding ℕ)) × (each (bindingOf t rs) es ≡ got bs)
+  pub good-all : (es : List Entry) (bs : List (Binding ℕ)) → each (bindingOf t rs) es ≡ got bs → all (goodBinding pool table 0) bs ≡ true
+  unfolding each all rules.goodBinding
+  good-all [] bs h = let q : [] ≡ bs = cc in rw (← q)
+  good-all (e ∷ es) bs h =
+      let p = each-parts (bindingOf t rs) e es bs h in
+      let b = binding-is e (p .first) (p .gave) in
+      let i : isHeld t (e .variable) ≡ true = held-is pool table (e .variable) ∙ lt-ltb (e .variable) n (b .held) in
+      rw (← p .both, b .is, i, type-good (e .place) (b .type) (b .at), good-all es (p .second) (p .then))
+
+  -- the bindings are of the entries' variables
+  pub same-variables : (es : List Entry) (bs : List (Binding ℕ)) → each (bindingOf t rs) es ≡ got bs → map variableOf bs ≡ variablesOf es
   unfolding each
-  bindings-there fs fits [] b p = ([], refl)
-  bindings-there fs fits (e ∷ es) b p =
+  same-variables [] bs h = let q : [] ≡ bs = cc in rw (← q)
+  same-variables (e ∷ es) bs h =
+      let p = each-parts (bindingOf t rs) e es bs h in
+      let b = binding-is e (p .first) (p .gave) in
+      rw (← p .both, b .is, same-variables es (p .second) (p .then))
+
+  pub bindings-there : Words32 types → (fs : List Entry) → ((x : ℕ) → x < 256 → Fits pool table types x (slotOf (placeOf fs x))) → (es : List Entry) → Below 256 es → First fs es → (bs : List (Binding ℕ)) × (each (bindingOf t rs) es ≡ got bs)
+  unfolding each
+  bindings-there w fs fits [] b p = ([], refl)
+  bindings-there w fs fits (e ∷ es) b p =
       let (held, (ty, (k, g))) = fits (e .variable) (b .0) (e .place) (ap slotOf (p .0)) in
-      let (bs, q) = bindings-there fs fits es (b .1) (p .1) in
-      ((e .variable ≔ ty) ∷ bs, rw (binding-there e ty held (type-there (e .place) ty k g), q))
+      let (bs, q) = bindings-there w fs fits es (b .1) (p .1) in
+      ((e .variable ≔ ty) ∷ bs, rw (binding-there e ty held (type-there w (e .place) ty k g), q))
 
   -- ══ Entries as a whole ══
 

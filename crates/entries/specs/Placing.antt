@@ -44,30 +44,30 @@ module _ (pool table types : List ℕ) (w : Words32 types) (es : List Entry) whe
   abbrev Asks : Type 0
   Asks = Asked pool table types (slotsOf es .at) (not (differ (variablesOf es))) (length es)
 
-  types-at : (o : Option (Ty ℕ)) (x at : ℕ) → Agrees pool table types w (some at) o → (ty : Ty ℕ) × ((e : ℕ) × GoodTy pool table 0 types 64 at ty e)
+  types-at : (o : Option (Ty ℕ)) (x at : ℕ) → Agrees pool table types (some at) o → (ty : Ty ℕ) × ((e : ℕ) × GoodTy pool table 0 types 64 at ty e)
   types-at none x at g = absurd g
   types-at (some ty) x at g = (ty, type-is pool table types w at ty g)
 
-  asked-of : Good pool table → (bs : List (Binding ℕ)) → Parts pool table types w es bs → Asks
+  asked-of : Good pool table → (bs : List (Binding ℕ)) → Parts pool table types es bs → Asks
   asked-of good bs p =
-      let held = held-all pool table types w es bs (p .bound) in
+      let held = held-all pool table types es bs (p .bound) in
       record {
         whole = p .whole;
         once = ap not (p .once);
         fits = λ x l at q.
             let e = slot-place (placeOf es x) at (sym (slot-at es x l) ∙ q) in
-            (place-below _ es x at held e, types-at (find (numbers pool table) bs x) x at (subst (λ (o : Option ℕ). Agrees pool table types w o (find (numbers pool table) bs x)) e (agrees pool table types w es bs (p .bound) x)));
+            (place-below _ es x at held e, types-at (find (numbers pool table) bs x) x at (subst (λ (o : Option ℕ). Agrees pool table types o (find (numbers pool table) bs x)) e (agrees pool table types es bs (p .bound) x)));
         all = below-taken es (p .once) (below-more (getD table 0 0) 256 (good-laid good .few) es held);
       }
 
-  parts-of : Asks → (bs : List (Binding ℕ)) × Parts pool table types w es bs
+  parts-of : Asks → (bs : List (Binding ℕ)) × Parts pool table types es bs
   parts-of a =
       let once = not-false (differ (variablesOf es)) (a .once) in
       let (bs, q) = bindings-there pool table types w es (λ x l. subst (Fits pool table types x) (slot-at es x l) (a .fits x l)) es (taken-below es (a .all)) (first-is es once) in
       (bs, record { whole = a .whole; once = once; bound = q })
 
   -- the word of a slot, where looking up agrees
-  says : (word : ℕ) (o : Option ℕ) (p : Option (Ty ℕ)) → word ≡ slotOf o → Agrees pool table types w o p → SaysAt pool table types word p
+  says : (word : ℕ) (o : Option ℕ) (p : Option (Ty ℕ)) → word ≡ slotOf o → Agrees pool table types o p → SaysAt pool table types word p
   says word none none q g = q
   says word none (some ty) q g = absurd g
   says word (some at) none q g = absurd g
@@ -80,12 +80,12 @@ module _ (pool table types : List ℕ) (w : Words32 types) (es : List Entry) whe
     placed-by : (r : Bool) → Filled pool table types (slotsOf es .at) (not (differ (variablesOf es))) (length es) places r → Placed pool table es types places r
     placed-by true (a, same) = record {
       given = λ bs h.
-          let p = parts pool table types w es bs h in
-          (refl, record { says = λ x l. says (getD places x 0) (placeOf es x) (find (numbers pool table) bs x) (same x l ∙ slot-at es x l) (agrees pool table types w es bs (p .bound) x) });
-      refuses = λ h. let (bs, p) = parts-of a in absurd (got≢refused (sym (whole-given pool table types w es bs p) ∙ h));
+          let p = parts pool table types es bs h in
+          (refl, record { says = λ x l. says (getD places x 0) (placeOf es x) (find (numbers pool table) bs x) (same x l ∙ slot-at es x l) (agrees pool table types es bs (p .bound) x) });
+      refuses = λ h. let (bs, p) = parts-of a in absurd (got≢refused (sym (whole-given pool table types es bs p) ∙ h));
     }
     placed-by false f = record {
-      given = λ bs h. absurd (f (asked-of good bs (parts pool table types w es bs h)));
+      given = λ bs h. absurd (f (asked-of good bs (parts pool table types es bs h)));
       refuses = λ h. refl;
     }
 

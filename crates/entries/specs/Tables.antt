@@ -37,7 +37,7 @@ module _ (pool table types : List ℕ) where
   pub record Tabled (bs : List (Binding ℕ)) (places : List ℕ) : Type 0 where
     pub says : (x : ℕ) → x < 256 → SaysAt (getD places x 0) (find (numbers pool table) bs x)
 
--- what is known before
+-- what is known before: the table has a word for each name, and a place fits a word
 pub record Ready (pool table types places : List ℕ) : Type 0 where
   pub good : Good pool table
   pub short : length types ≤ 8192

@@ -5,6 +5,8 @@ use names::inner::is_held;
 use records::inner::Ended;
 use records::inner::put;
 use records::inner::type_end;
+use rules::NAMES;
+use rules::NESTED;
 ghost use mathlib.Core.Path.{_≡_};
 ghost use mathlib.Core.Bool.{not};
 ghost use Prim.Native.Nat.{_<_};
@@ -49,14 +51,14 @@ pub fn repeats(entries: &[Entry]) -> bool
 }
 
 // One number for each name: 0, or one more than the place of its entry. A place takes all of 32 bits, so these are wider.
-pub struct Slots {
-    pub at: [u64; 256],
+struct Slots {
+    at: [u64; NAMES],
 }
 
 fn no_slots() -> Slots
     ensures { λ r. ⌜ r ≡ noSlots ⌝ }
 {
-    let at = [0; 256];
+    let at = [0; NAMES];
     Slots { at }
 }
 
@@ -106,7 +108,7 @@ fn is_sound(pool: &[u8], table: &[u32], types: &[u32], v: u32, w: u64) -> bool
         return true;
     }
     if is_held(table, v) {
-        match type_end(pool, table, 0, types, (w - 1) as usize, 64) {
+        match type_end(pool, table, 0, types, (w - 1) as usize, NESTED) {
             Ended::At(_) => true,
             Ended::Bad => false,
         }
