@@ -1,0 +1,3 @@
+pub mod Filling
+pub mod Turns
+pub mod Walk
