@@ -1,51 +1,43 @@
 -- Records put one after another, rules that are tried one after another, and types seen from outside. Assumes nothing.
 use mathlib.Core.Path.{_≡_, refl, sym, ap, subst, _∙_}
-use mathlib.Core.Bool.{Bool, true, false, not}
+use mathlib.Core.Bool.{true, false, not}
 use mathlib.Core.List.{List, [], _∷_, _++_, append-nil}
 use mathlib.Core.Option.{Option, none, some}
-use Prim.Native.Nat.{ℕ, suc, _+_, _*_, _/_, _≤_, _<_}
+use Prim.Native.Nat.{ℕ, _+_, _*_}
 use native.Mathlib.Nat.{add-zero}
 use native.Mathlib.Omega.{arith}
 use lib.ListN.{length}
 use lib.Seq.{sets, slice}
-use Rattle.rules.specs.Base.{Got, got, refused, bounded, collect, sumOf, andThen, onlyIf, _orElse_}
+use Rattle.rules.specs.Base.{collect, sumOf, andThen, _orElse_, isYes}
 use denote.Enum.Declared
 use types.Run.{OneOf, miss}
 use Rattle.satisfying.proofs.Step as steps
 use lib.Dec.{T}
 use mir.Val.{hasKey}
-use Rattle.rules.specs.Base.{isYes}
 use Rattle.rules.specs.Exponents.{Exp, frac, Exp-dec, one}
 use Rattle.rules.specs.Trees as tree
-use Rattle.rules.specs.Trees.{free, _↑_}
-use Rattle.rules.specs.Views.{productOf, fnOf, structOf, listOf}
-use Rattle.rules.specs.Writing.{signed, twos}
-use Rattle.records.specs.Holds.{openOf, atomOf, viewAtom, HoldsFactors}
-use Rattle.records.specs.ByView.{by-view, factor-by-view}
+use Rattle.rules.specs.Trees.{free, _↑_, ty-dec, Product, Ty, opened, basic, dim, fn, struct, list, Tys, nil, cons, Con, equal, _≔_, size, sizeTys, sizeCon, sizeBinding, count, countFields}
+use Rattle.rules.specs.Views.{productOf, fnOf, structOf, listOf, variable, asVar, asPower}
+use Rattle.rules.specs.Writing.{signed, twos, Rec, rec, words, writeTy, writeCon, writeBinding}
+use Rattle.records.specs.Holds.{openOf, atomOf, viewAtom, HoldsFactors, viewOpen, viewBasic, HoldsProduct, Holds, HoldsTys}
+use Rattle.records.specs.ByView.{by-view, factor-by-view, size-pos, ends-in}
 use Rattle.records.specs.declared.Open as names
 use Rattle.records.specs.declared.Atom as atoms
 use Rattle.replacing.proofs.Others.{Tagged, untagged}
-use Rattle.satisfying.specs.Parts.{TriedLeft}
+use Rattle.satisfying.specs.Parts.{TriedLeft, named, Put, Wrote, Tried, PairRoom}
 use Rattle.rules.specs.Names.{Bytes, numbered}
 use Rattle.rules.specs.Contents.{contains}
 use Rattle.rules.specs.Products.{single}
 use Rattle.rules.specs.Rounds as rules
-use Rattle.rules.specs.Rounds.{bindTo, pairs}
-use Rattle.rules.specs.Trees.{Product, Ty, opened, basic, dim, fn, struct, list, Tys, nil, cons, Con, equal, _≔_, size, sizeTys, sizeCon, sizeBinding, count, countFields}
-use Rattle.rules.specs.Views.{variable, asVar, asPower}
-use Rattle.rules.specs.Writing.{Rec, rec, words, writeTy, writeCon, writeBinding}
+use Rattle.rules.specs.Rounds.{bindTo, firstRules, pairs}
 use Rattle.laws.specs.Size.{size-ty, size-con}
 use Rattle.records.specs.Views.{viewAt}
-use Rattle.records.specs.Holds.{viewOpen, viewBasic, HoldsProduct, Holds, HoldsTys}
-use Rattle.records.specs.ByView.{size-pos, in-reach, ends-in, tys-in}
 use Rattle.records.specs.Held.{held-words}
 use Rattle.records.specs.declared.View.{View}
 use Rattle.records.specs.declared.View.the-variants as view
 use Rattle.replacing.specs.Writes.{writes}
 use Rattle.queries.specs.declared.Name.{Name}
 use Rattle.queries.specs.declared.Name.the-variants.{Of, Nothing}
-use Rattle.satisfying.specs.Parts.{named, Put, Wrote, Tried, PairRoom}
-use Rattle.satisfying.specs.Stepped.{StepLeft, Stepped}
 use Rattle.satisfying.specs.declared.Step.{Step}
 use Rattle.satisfying.specs.declared.Step.the-variants.{Bind, Split, Done, Stuck}
 
@@ -331,3 +323,37 @@ notStuck = 0 ∷ 1 ∷ 2 ∷ 4 ∷ []
 -- a step other than Stuck
 pub other-step : {r : Step} → OneOf notStuck (Declared.tagOf steps.the-type r) → r ≡ Stuck → ⊥
 other-step {r} k e = miss notStuck 3 tt (subst (λ (x : Step). OneOf notStuck (Declared.tagOf steps.the-type x)) e k)
+
+-- ══ The first three rules ══
+
+or-assoc : {A : Type 0} (a b c : Option A) → ((a orElse b) orElse c) ≡ (a orElse (b orElse c))
+or-assoc none b c = refl
+or-assoc (some a) b c = refl
+
+module _ (names : List Bytes) (t u : Ty ℕ) where
+  pub first-same : {d : List ℕ} {out : ℕ} → isYes (ty-dec (numbered names) t u) ≡ true → Tried d d out Done (firstRules (numbered names) t u)
+  unfolding firstRules
+  first-same e = rw e (record { says = (refl, refl) })
+
+  -- a variable that a side is, or that it is as a product
+  abbrev asVars : Option (rules.Step ℕ)
+  asVars = bindTo (numbered names) (asVar t) u orElse bindTo (numbered names) (asVar u) t
+
+  abbrev asPowers : Option (rules.Step ℕ)
+  asPowers = bindTo (numbered names) (asPower t) u orElse bindTo (numbered names) (asPower u) t
+
+  first-is : isYes (ty-dec (numbered names) t u) ≡ false → firstRules (numbered names) t u ≡ (asVars orElse asPowers)
+  unfolding firstRules
+  first-is e = rw e (sym (or-assoc (bindTo (numbered names) (asVar t) u) (bindTo (numbered names) (asVar u) t) asPowers))
+
+  module _ {d d₁ : List ℕ} {out : ℕ} {r : Step} (x y : Name) (different : isYes (ty-dec (numbered names) t u) ≡ false) (e : named x ≡ asVar t) (f : named y ≡ asVar u) (h : Tried d d₁ out r (bindTo (numbered names) (named x) u orElse bindTo (numbered names) (named y) t)) where
+    vars : Tried d d₁ out r asVars
+    vars = subst (λ (m : Option ℕ). Tried d d₁ out r (bindTo (numbered names) m u orElse bindTo (numbered names) (asVar u) t)) e (subst (λ (m : Option ℕ). Tried d d₁ out r (bindTo (numbered names) (named x) u orElse bindTo (numbered names) m t)) f h)
+
+    pub first-variable : (r ≡ Stuck → ⊥) → Tried d d₁ out r (firstRules (numbered names) t u)
+    first-variable n = subst (Tried d d₁ out r) (sym (first-is different)) (tried-first asPowers vars n)
+
+    pub first-power : {d₂ : List ℕ} {r₂ : Step} (v w : Name) → r ≡ Stuck → named v ≡ asPower t → named w ≡ asPower u → Tried d₁ d₂ out r₂ (bindTo (numbered names) (named v) u orElse bindTo (numbered names) (named w) t) → Tried d d₂ out r₂ (firstRules (numbered names) t u)
+    first-power {d₂} {r₂} v w n i j k =
+        let p : Tried d₁ d₂ out r₂ asPowers = subst (λ (m : Option ℕ). Tried d₁ d₂ out r₂ (bindTo (numbered names) m u orElse bindTo (numbered names) (asPower u) t)) i (subst (λ (m : Option ℕ). Tried d₁ d₂ out r₂ (bindTo (numbered names) (named v) u orElse bindTo (numbered names) m t)) j k) in
+        subst (Tried d d₂ out r₂) (sym (first-is different)) (tried-next vars n p)

@@ -1,21 +1,23 @@
 -- What the parts of trying the rules ask and leave. Assumes nothing: these are definitions.
 use mathlib.Core.Path.{_≡_}
+use mathlib.Core.Bool.{true}
 use mathlib.Core.List.{List, [], _∷_, map}
 use mathlib.Core.Option.{Option, none, some}
 use Prim.Native.Nat.{ℕ, _+_, _*_, _-_, _/_, _≤_, _<_}
 use lib.ListN.{length}
 use lib.Seq.{sets}
 use Rattle.rules.specs.Base.{Got, got, refused, _>>=_, bounded, collect, sumOf}
+use Rattle.rules.specs.Exponents.{goodExp}
 use Rattle.rules.specs.Names.{Bytes, numbered}
 use Rattle.rules.specs.Refusals.{numberOf}
 use Rattle.rules.specs.Rounds as rules
-use Rattle.rules.specs.Trees.{Ty, Tys, Con, isScalar, Product, count, sizeTys, sizeCon}
+use Rattle.rules.specs.Trees.{var, _↑_, Ty, opened, dim, Tys, Fields, Con, isDim, isScalar, Product, count, countFields, sizeTys, sizeCon}
 use Rattle.rules.specs.Writing.{Rec, words, writeCon, writeFactor}
 use Rattle.names.specs.declared.Checked.{Checked}
 use Rattle.names.specs.declared.Checked.the-variants.{Good, Refused as Because}
 use Rattle.queries.specs.declared.Name.{Name}
 use Rattle.queries.specs.declared.Name.the-variants.{Of, Nothing}
-use Rattle.records.specs.Holds.{Holds, HoldsTys}
+use Rattle.records.specs.Holds.{HoldsFactors, HoldsProduct, Holds, HoldsTys, HoldsFields}
 use Rattle.satisfying.specs.declared.Step.{Step}
 use Rattle.satisfying.specs.declared.Step.the-variants.{Stuck}
 use Rattle.satisfying.specs.Stepped.{StepLeft, Stepped}
@@ -78,3 +80,31 @@ pub record FunctionHeld (s : List ℕ) (ps : Tys ℕ) (t : Ty ℕ) (at n : ℕ) 
 -- a product that was made is a scalar
 abbrev pub asScalar : Got (Product ℕ) → Got (rules.Step ℕ)
 asScalar m = m >>= λ q. got (rules.split (isScalar q ∷ []))
+
+-- the constraint that a name stands for a dimension
+abbrev pub isDimOf : ℕ → List (Con ℕ)
+isDimOf x = isDim (opened (var x)) ∷ []
+
+-- powers that may be divided
+abbrev pub GoodPowers : Product ℕ → Type 0
+GoodPowers [] = Unit {0}
+GoodPowers (a ↑ e ∷ p) = (goodExp e ≡ true) × GoodPowers p
+
+-- n factors from a place on
+pub record FactorsHeld (s : List ℕ) (p : Product ℕ) (at n : ℕ) : Type 0 where
+  pub held : HoldsFactors s p at
+  pub many : length p ≡ n
+  pub powers : GoodPowers p
+
+pub record ProductHeld (s : List ℕ) (p : Product ℕ) (at : ℕ) : Type 0 where
+  pub held : HoldsProduct s p at
+  pub powers : GoodPowers p
+
+-- n fields from a place on
+pub record FieldsHeld (s : List ℕ) (fs : Fields ℕ) (at n : ℕ) : Type 0 where
+  pub held : HoldsFields s fs at
+  pub many : countFields fs ≡ n
+
+-- x bound to a product that was made
+abbrev pub boundTo : ℕ → Got (Product ℕ) → Got (rules.Step ℕ)
+boundTo x m = m >>= λ q. got (rules.bind x (dim q))

@@ -1,6 +1,7 @@
 // The rules 2 and 3: a variable that the other side doesn't contain is bound to it.
 use super::super::Step;
 use super::writing::put_type;
+use comparing::inner::same_types;
 use exponents::Exponent;
 use queries::Name;
 use queries::inner::contains_at;
@@ -16,7 +17,7 @@ ghost use Rattle.rules.specs.Base.{andThen, _orElse_};
 ghost use Rattle.rules.specs.Exponents.{frac};
 ghost use Rattle.rules.specs.Names.{Bytes, numbered};
 ghost use Rattle.rules.specs.Products.{single};
-ghost use Rattle.rules.specs.Rounds.{bindTo};
+ghost use Rattle.rules.specs.Rounds.{bindTo, firstRules};
 ghost use Rattle.rules.specs.Trees.{Ty, _↑_};
 ghost use Rattle.rules.specs.Views.{variable, asVar, asPower};
 ghost use Rattle.rules.specs.Writing.{signed};
@@ -111,4 +112,29 @@ pub fn bind_either(
         return bound;
     };
     bind_to(y, s, left, dst, out)
+}
+
+// Equal records: done. A variable, left, else right, is bound; then the product of one variable to the power 1.
+pub fn first_rules(s: &[u32], left: usize, right: usize, dst: &mut [u32], out: usize) -> Step
+    requires { ⌜ ((t : Ty ℕ) × Holds (now s) t left) ⌝ }
+    requires { ⌜ ((u : Ty ℕ) × Holds (now s) u right) ⌝ }
+    requires { ⌜ Fits (now s) out ⌝ }
+    ensures { λ r. ⌜ ((t u : Ty ℕ) (names : List Bytes) → Holds (now (s .entry)) t left → Holds (now (s .entry)) u right → Tried (now (dst .entry)) (now (dst .exit)) out r (firstRules (numbered names) t u)) ⌝ }
+{
+    if same_types(s, left, s, right) {
+        return Step::Done;
+    }
+    let bound = bind_either(as_var(s, left), as_var(s, right), s, left, right, dst, out);
+    let Step::Stuck = bound else {
+        return bound;
+    };
+    bind_either(
+        as_power(s, left),
+        as_power(s, right),
+        s,
+        left,
+        right,
+        dst,
+        out,
+    )
 }

@@ -37,14 +37,7 @@ pub fn put_equal(s: &[u32], left: usize, right: usize, dst: &mut [u32], out: usi
 }
 
 // Writes that n types from one place on are equal to n types from another on, pairwise.
-pub fn put_pairs(
-    s: &[u32],
-    left: usize,
-    right: usize,
-    n: u32,
-    dst: &mut [u32],
-    out: usize,
-) -> usize
+pub fn put_pairs(s: &[u32], left: usize, right: usize, n: u32, dst: &mut [u32], out: usize) -> usize
     requires { ⌜ ((ts : Tys ℕ) × HoldsTys (now s) ts left × (count ts ≡ n)) ⌝ }
     requires { ⌜ ((us : Tys ℕ) × HoldsTys (now s) us right × (count us ≡ n)) ⌝ }
     requires { ⌜ PairRoom (now s) left right out ⌝ }

@@ -6,10 +6,6 @@ use Rattle.satisfying.proofs.Laws.{no-product, power-none, power-many, 
 use borrow.Author.Needs.{needs}
 use Rattle.satisfying.proofs.inner.binding.as_power.Statement.{statement}
 use Rattle.satisfying.proofs.inner.binding.as_power.Tie as tie
-use Rattle.satisfying.proofs.inner.binding.as_power.Reads as reads
-use Rattle.satisfying.proofs.inner.binding.as_power.Lts as lts
-use Rattle.records.proofs.seen.view_at.Reads as view-at-reads
-use Rattle.satisfying.proofs.inner.binding.power_one.Reads as power-one-reads
 
 -- src/inner/binding.rt:66:24
 view-at-requires : tie.Need-view-at-requires

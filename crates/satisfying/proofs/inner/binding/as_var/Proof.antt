@@ -9,10 +9,6 @@ use Prim.Native.Nat.{ℕ}
 use borrow.Author.Needs.{needs}
 use Rattle.satisfying.proofs.inner.binding.as_var.Statement.{statement}
 use Rattle.satisfying.proofs.inner.binding.as_var.Tie as tie
-use Rattle.satisfying.proofs.inner.binding.as_var.Reads as reads
-use Rattle.satisfying.proofs.inner.binding.as_var.Lts as lts
-use Rattle.records.proofs.seen.view_at.Reads as view-at-reads
-use Rattle.satisfying.proofs.inner.binding.variable.Reads as variable-reads
 
 -- src/inner/binding.rt:40:11
 view-at-requires : tie.Need-view-at-requires

@@ -1,5 +1,4 @@
 -- `bind_either` meets its contract. Assumes nothing.
-use native.Mathlib.Omega.{arith}
 use Rattle.rules.specs.Names.{numbered}
 use Rattle.rules.specs.Rounds.{bindTo}
 use Rattle.satisfying.specs.Parts.{named}
@@ -7,9 +6,6 @@ use Rattle.satisfying.proofs.Laws.{tried-first, tried-next, other-step}
 use borrow.Author.Needs.{needs}
 use Rattle.satisfying.proofs.inner.binding.bind_either.Statement.{statement}
 use Rattle.satisfying.proofs.inner.binding.bind_either.Tie as tie
-use Rattle.satisfying.proofs.inner.binding.bind_either.Reads as reads
-use Rattle.satisfying.proofs.inner.binding.bind_either.Lts as lts
-use Rattle.satisfying.proofs.inner.binding.bind_to.Reads as bind-to-reads
 
 -- src/inner/binding.rt:109:9
 bind-to-requires : tie.Need-bind-to-requires

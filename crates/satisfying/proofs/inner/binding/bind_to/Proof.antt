@@ -5,11 +5,6 @@ use Rattle.satisfying.proofs.Laws.{bind-nothing, bind-contained, bind-p
 use borrow.Author.Needs.{needs}
 use Rattle.satisfying.proofs.inner.binding.bind_to.Statement.{statement}
 use Rattle.satisfying.proofs.inner.binding.bind_to.Tie as tie
-use Rattle.satisfying.proofs.inner.binding.bind_to.Reads as reads
-use Rattle.satisfying.proofs.inner.binding.bind_to.Lts as lts
-use Rattle.queries.proofs.inner.contains_at.Reads as contains-at-reads
-use Rattle.records.proofs.inner.put_record.Reads as put-record-reads
-use Rattle.satisfying.proofs.inner.writing.put_type.Reads as put-type-reads
 
 -- src/inner/binding.rt:84:18
 enum-known-x : tie.Need-enum-known-x

@@ -7,11 +7,6 @@ use Rattle.satisfying.proofs.Laws.{power-one, power-other, power-base}
 use borrow.Author.Needs.{needs}
 use Rattle.satisfying.proofs.inner.binding.power_one.Statement.{statement}
 use Rattle.satisfying.proofs.inner.binding.power_one.Tie as tie
-use Rattle.satisfying.proofs.inner.binding.power_one.Reads as reads
-use Rattle.satisfying.proofs.inner.binding.power_one.Lts as lts
-use Rattle.exponents.proofs.Exponent.from_words.Reads as from-words-reads
-use Rattle.exponents.proofs.Exponent.is_one.Reads as is-one-reads
-use Rattle.satisfying.proofs.inner.binding.variable.Reads as variable-reads
 
 -- src/inner/binding.rt:51:20
 enum-known-a : tie.Need-enum-known-a

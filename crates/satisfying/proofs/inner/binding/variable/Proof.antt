@@ -6,8 +6,6 @@ use Rattle.records.specs.declared.Open.{Open}
 use borrow.Author.Needs.{needs}
 use Rattle.satisfying.proofs.inner.binding.variable.Statement.{statement}
 use Rattle.satisfying.proofs.inner.binding.variable.Tie as tie
-use Rattle.satisfying.proofs.inner.binding.variable.Reads as reads
-use Rattle.satisfying.proofs.inner.binding.variable.Lts as lts
 
 -- src/inner/binding.rt:30:19
 enum-known-o : tie.Need-enum-known-o

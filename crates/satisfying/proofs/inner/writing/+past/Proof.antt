@@ -1,8 +1,7 @@
 -- `past` meets its contract. Assumes nothing.
-use mathlib.Core.Path.{sym, ap, subst, _∙_}
+use mathlib.Core.Path.{sym, subst}
 use native.Mathlib.Omega.{arith}
 use Rattle.records.specs.Holds.{HoldsTys}
-use Rattle.rules.specs.Trees.{Tys, sizeTys}
 use Rattle.satisfying.proofs.Laws.{first-ty, past-none, past-some}
 use Prim.Native.Nat.{ℕ, _<_}
 use borrow.Fn.Kinds.{In}
@@ -53,9 +52,9 @@ past-past-requires t c κs =
 past-returns-2 : (t : ℕ) → past-lts.Need-returns-2 (L t) (past-at t) past.Post
 past-returns-2 t c =
     λ ts h k.
-        let f = first-ty (c .before .before .before .before .args .s .now) ts (c .before .before .before .before .args .at) (c .before .before .before .before .args .n) h k (c .before .before .if1 .left) in
-        let e = c .before .end-of .ensures (f .first) (f .held) in
-        past-some (c .before .before .before .before .args .s .now) f e (c .past .ensures (f .rest) (subst (HoldsTys (c .before .before .before .before .args .s .now) (f .rest)) (sym e) (f .then)) (omega (arith, f .many)))
+    let f = first-ty (c .before .before .before .before .args .s .now) ts (c .before .before .before .before .args .at) (c .before .before .before .before .args .n) h k (c .before .before .if1 .left) in
+    let e = c .before .end-of .ensures (f .first) (f .held) in
+    past-some (c .before .before .before .before .args .s .now) f e (c .past .ensures (f .rest) (subst (HoldsTys (c .before .before .before .before .args .s .now) (f .rest)) (sym e) (f .then)) (omega (arith, f .many)))
 
 pub +past-spec : {M : Type 1} → statement M
 +past-spec = close μ-past λ t. past-lts.spec (L t)

@@ -77,11 +77,11 @@ put-pairs-same-length t c = c .before .before .put-pairs .kept .1 .1 .1 .1 .0 �
 put-pairs-returns-2 : (t : ℕ) → put-pairs-lts.Need-returns-2 (L t) (put-pairs-at t) put-pairs.Post
 put-pairs-returns-2 t c =
     λ ts us h k i j.
-        let f = first-ty (c .before .before .before .before .before .before .before .before .before .before .before .before .before .args .s .now) ts (c .before .before .before .before .before .before .before .before .before .before .before .before .before .args .left) (c .before .before .before .before .before .before .before .before .before .before .before .before .before .args .n) h i (c .before .before .before .before .before .before .before .before .before .before .if1 .left) in
-        let g = first-ty (c .before .before .before .before .before .before .before .before .before .before .before .before .before .args .s .now) us (c .before .before .before .before .before .before .before .before .before .before .before .before .before .args .right) (c .before .before .before .before .before .before .before .before .before .before .before .before .before .args .n) k j (c .before .before .before .before .before .before .before .before .before .before .if1 .left) in
-        let e = c .before .before .before .before .before .end-of .ensures (f .first) (f .held) in
-        let y = c .before .before .before .before .end-of2 .ensures (g .first) (g .held) in
-        pairs-some (c .before .before .before .before .before .before .before .before .before .before .before .before .before .args .s .now) f g (c .before .before .before .before .before .before .before .before .put-equal .ensures (f .first) (g .first) (f .held) (g .held)) (c .before .before .put-pairs .ensures (f .rest) (g .rest) (subst (HoldsTys (c .before .before .before .before .before .before .before .before .before .before .before .before .before .args .s .now) (f .rest)) (sym e) (f .then)) (subst (HoldsTys (c .before .before .before .before .before .before .before .before .before .before .before .before .before .args .s .now) (g .rest)) (sym y) (g .then)) (omega (arith, f .many)) (omega (arith, g .many)))
+    let f = first-ty (c .before .before .before .before .before .before .before .before .before .before .before .before .before .args .s .now) ts (c .before .before .before .before .before .before .before .before .before .before .before .before .before .args .left) (c .before .before .before .before .before .before .before .before .before .before .before .before .before .args .n) h i (c .before .before .before .before .before .before .before .before .before .before .if1 .left) in
+    let g = first-ty (c .before .before .before .before .before .before .before .before .before .before .before .before .before .args .s .now) us (c .before .before .before .before .before .before .before .before .before .before .before .before .before .args .right) (c .before .before .before .before .before .before .before .before .before .before .before .before .before .args .n) k j (c .before .before .before .before .before .before .before .before .before .before .if1 .left) in
+    let e = c .before .before .before .before .before .end-of .ensures (f .first) (f .held) in
+    let y = c .before .before .before .before .end-of2 .ensures (g .first) (g .held) in
+    pairs-some (c .before .before .before .before .before .before .before .before .before .before .before .before .before .args .s .now) f g (c .before .before .before .before .before .before .before .before .put-equal .ensures (f .first) (g .first) (f .held) (g .held)) (c .before .before .put-pairs .ensures (f .rest) (g .rest) (subst (HoldsTys (c .before .before .before .before .before .before .before .before .before .before .before .before .before .args .s .now) (f .rest)) (sym e) (f .then)) (subst (HoldsTys (c .before .before .before .before .before .before .before .before .before .before .before .before .before .args .s .now) (g .rest)) (sym y) (g .then)) (omega (arith, f .many)) (omega (arith, g .many)))
 
 pub +put-pairs-spec : {M : Type 1} → statement M
 +put-pairs-spec = close μ-put-pairs λ t. put-pairs-lts.spec (L t)

@@ -5,10 +5,6 @@ use Rattle.satisfying.proofs.Laws.{equal-put}
 use borrow.Author.Needs.{needs}
 use Rattle.satisfying.proofs.inner.writing.put_equal.Statement.{statement}
 use Rattle.satisfying.proofs.inner.writing.put_equal.Tie as tie
-use Rattle.satisfying.proofs.inner.writing.put_equal.Reads as reads
-use Rattle.satisfying.proofs.inner.writing.put_equal.Lts as lts
-use Rattle.records.proofs.inner.put_record.Reads as put-record-reads
-use Rattle.satisfying.proofs.inner.writing.put_type.Reads as put-type-reads
 
 -- src/inner/writing.rt:34:5
 put-record-requires : tie.Need-put-record-requires

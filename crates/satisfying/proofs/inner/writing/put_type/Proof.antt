@@ -1,17 +1,11 @@
 -- `put_type` meets its contract. Assumes nothing.
-use mathlib.Core.Path.{_≡_}
 use native.Mathlib.Omega.{arith}
-use Prim.Native.Nat.{_+_, _-_}
-use Rattle.rules.specs.Trees.{size}
+use Prim.Native.Nat.{_-_}
 use Rattle.records.specs.ByView.{ends-in}
 use Rattle.satisfying.proofs.Laws.{type-put}
 use borrow.Author.Needs.{needs}
 use Rattle.satisfying.proofs.inner.writing.put_type.Statement.{statement}
 use Rattle.satisfying.proofs.inner.writing.put_type.Tie as tie
-use Rattle.satisfying.proofs.inner.writing.put_type.Reads as reads
-use Rattle.satisfying.proofs.inner.writing.put_type.Lts as lts
-use Rattle.queries.proofs.inner.end_of.Reads as end-of-reads
-use Rattle.records.proofs.inner.copy.Reads as copy-reads
 
 -- src/inner/writing.rt:22:9
 end-of-requires : tie.Need-end-of-requires
