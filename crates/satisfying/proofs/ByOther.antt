@@ -19,7 +19,7 @@ use Rattle.rules.specs.Rounds.{otherSide, fieldStep, trySatisfy}
 use Rattle.rules.specs.Trees.{var, quant, par, Atom, free, base, Factor, _↑_, Product, Ty, opened, struct, Tys, Fields, noFields, field, Con, equal, isDim, isScalar, size, sizeTys, sizeCon, sizeBinding, count, countFields, hasField}
 use Rattle.rules.specs.Views.{structOf}
 use Rattle.rules.specs.Writing.{rec, words, twos, signed, writeFactor, writeProduct, writeTy, writeCon, writeBinding}
-use Rattle.laws.specs.Lists.{each-parts, and-left, and-right}
+use Rattle.laws.specs.Lists.{each-parts, and-left, and-right, Every}
 use Rattle.laws.specs.RuleCases.{parts}
 use Rattle.exponents.specs.Answers.{expOf, told}
 use Rattle.exponents.specs.declared.Exponent.{Exponent}
@@ -35,10 +35,9 @@ use Rattle.records.specs.Places.{seen-in}
 use Rattle.rules.specs.WellFormed.{goodTy, goodCon}
 use Rattle.laws.specs.GoodProducts.{GoodFactor, good-product}
 use Rattle.laws.specs.Ranges.{stored-good}
-use Rattle.laws.specs.Sorted.{Each}
 use Rattle.products.specs.Held.{law}
 use Rattle.replacing.specs.Left.{Room}
-use Rattle.replacing.specs.Weaker.{ty-weaker}
+use Rattle.laws.specs.Weaker.{ty-weaker}
 use Rattle.replacing.specs.Well.{HeldType}
 use Rattle.satisfying.specs.Parts.{Fits, Put, Wrote, FactorsPut, FactorsLeft, isDimOf, GoodPowers, FactorsHeld, ProductHeld, FieldsHeld, boundTo}
 use Rattle.satisfying.specs.Stepped.{HeldCon, Stepped}
@@ -334,7 +333,7 @@ moved {s} {fs} {n = n} e h = subst (λ (k : ℕ). FieldsHeld s fs k n) (sym e) h
 
 -- ══ The kinds of constraints ══
 
-powers-good : (pool table : List ℕ) (p : Product ℕ) → Each (GoodFactor (numbers pool table) (holding pool table) 0) p → GoodPowers p
+powers-good : (pool table : List ℕ) (p : Product ℕ) → Every (GoodFactor (numbers pool table) (holding pool table) 0) p → GoodPowers p
 powers-good pool table [] h = tt
 powers-good pool table (a ↑ e ∷ p) h = (stored-good e (h .0 .1), powers-good pool table p (h .1))
 
