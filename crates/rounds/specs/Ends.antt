@@ -1,9 +1,9 @@
 -- The types of a constraint, and where it ends. Assumes nothing.
-use mathlib.Core.Path.{_≡_, refl, ap, _∙_}
+use mathlib.Core.Path.{_≡_, refl}
 use mathlib.Core.List.{List}
 use Prim.Native.Nat.{ℕ, suc, _+_}
 use native.Mathlib.Omega.{arith}
-use Rattle.rules.specs.Trees.{Ty, dim, Con, equal, isDim, isScalar, hasField, size, sizeCon}
+use Rattle.rules.specs.Trees.{Ty, dim, Con, size, sizeCon}
 use Rattle.records.specs.ByView.{con-by-view}
 use Rattle.records.specs.Holds.{Holds, HoldsProduct, HoldsCon}
 use Rattle.records.specs.Views.{viewAt}

@@ -9,3 +9,4 @@ pub mod Sizes
 pub mod Rebinding
 pub mod Performing
 pub mod Searching
+pub mod Fronts

@@ -9,14 +9,14 @@ use borrow.Author.Tests.{le-leb, lt-leb, leb-true}
 use lib.Dec.{leb}
 use lib.ListN.{length}
 use lib.Seq.{sets, slice}
-use Rattle.rules.specs.Base.{Got, got, refused, _>>=_, allow, bounded, sumOf, maxOf}
-use Rattle.rules.specs.Rounds.{State, limited}
+use Rattle.rules.specs.Base.{Got, got, refused, _>>=_, allow, sumOf, maxOf}
+use Rattle.rules.specs.Rounds.{State}
 use Rattle.rules.specs.declared.Refusal.{Refusal}
 use Rattle.rules.specs.declared.Refusal.the-variants.{TooLarge}
 use Rattle.laws.specs.Lists.{and-left}
-use Rattle.replacing.specs.Flat.{depthLine, PlainLines, state-limited, stateLines}
+use Rattle.replacing.specs.Flat.{depthLine, state-limited, stateLines}
 use Rattle.replacing.specs.LineRules.{Line, con, binding, sizeLine}
-use Rattle.rounds.specs.States.{StateHeld, Onward, TurnLeft, Turned}
+use Rattle.rounds.specs.States.{Turned}
 use Rattle.rounds.specs.Lines.{copied, plain-split}
 use Rattle.rounds.specs.Parts.{fitting, keeps, Stands, Made}
 use Rattle.rounds.specs.declared.inner.Turn.{Turn}
@@ -58,9 +58,12 @@ module _ (pool table : List ℕ) where
     pub over : (w w′ : List ℕ) → fitting (stateLines st) ≡ false → Turned pool table w w′ (Stop TooLarge) (keeps st)
     over w w′ e = turned-as (passed-is e) (record { says = refl })
 
+    pub few : (s : List ℕ) (n m : ℕ) → Made pool table s n m st → fitting (stateLines st) ≡ true → m ≤ 2048
+    few s n m d e = let i = leb-true (sumOf sizeLine (stateLines st)) 2048 (and-left (leb (sumOf sizeLine (stateLines st)) 2048) _ e) in omega (arith, d .lines .many)
+
     pub within : (w s : List ℕ) (n m : ℕ) → Made pool table s n m st → fitting (stateLines st) ≡ true → Turned pool table w s (Next n m) (keeps st)
     within w s n m d e =
-        let k : m ≤ 2048 = (let i = leb-true (sumOf sizeLine (stateLines st)) 2048 (and-left (leb (sumOf sizeLine (stateLines st)) 2048) _ e) in omega (arith, d .lines .many)) in
+        let k = few s n m d e in
         let p = plain-split pool table s (map con (st .cons)) (map binding (st .binds)) 0 n m (omega (arith, d .first)) (d .lines .held k) in
         turned-as (kept-is e) (record { says = record { n = n; m = m; is = refl; held = record { cons = p .0; binds = p .1; short = k } } })
 
@@ -99,9 +102,6 @@ module _ (pool table : List ℕ) where
 
   -- copied to the start of the other buffer
   module _ (next work work′ : List ℕ) (n m : ℕ) (st : State ℕ) (d : Made pool table next n m st) (room : 8192 ≤ length next) (space : 8192 ≤ length work) where
-    pub few : fitting (stateLines st) ≡ true → m ≤ 2048
-    few e = let i = leb-true (sumOf sizeLine (stateLines st)) 2048 (and-left (leb (sumOf sizeLine (stateLines st)) 2048) _ e) in omega (arith, d .lines .many)
-
     pub back : work′ ≡ sets work 0 (slice 0 (m * 4) next) → Made pool table work′ n m st
     back e = record {
       first = d .first;

@@ -1,6 +1,6 @@
 -- Lines that stand in a buffer: their words, and what copying and storing leave of them. Assumes nothing.
-use mathlib.Core.Path.{_≡_, refl, sym, ap, ap₂, subst, _∙_}
-use mathlib.Core.Bool.{true, and-eq-true-iff}
+use mathlib.Core.Path.{_≡_, refl, sym, ap, subst, _∙_}
+use mathlib.Core.Bool.{Bool, true, _&&_, and-eq-true-iff}
 use mathlib.Core.List.{List, [], _∷_, _++_, map, append-assoc}
 use Prim.Native.Nat.{ℕ, _+_, _*_, _/_, _-_, _≤_}
 use native.Mathlib.Nat.{add-zero}
@@ -8,13 +8,15 @@ use native.Mathlib.Omega.{arith}
 use lib.ListN.{length}
 use lib.Seq.{sets, slice, length-sets, length-slice}
 use Rattle.rules.specs.Base.{all, collect, sumOf}
-use Rattle.rules.specs.Writing.{Rec, words}
-use Rattle.records.specs.Buffers.{words-length}
+use Rattle.rules.specs.Trees.{Con, Binding, sizeCon, sizeBinding}
+use Rattle.rules.specs.Writing.{words, writeCon, writeBinding}
 use Rattle.records.specs.Held.{con-written, binding-written}
+use Rattle.records.specs.Holds.{HoldsCon, HoldsBinding}
 use Rattle.records.specs.Places.{words-from}
 use Rattle.records.specs.Views.{from}
 use Rattle.replacing.specs.Flat.{goodLine, PlainLines}
 use Rattle.replacing.specs.Kept.{plain-written}
+use Rattle.replacing.specs.LineLaws.{lines-long}
 use Rattle.replacing.specs.LineRules.{Line, con, binding, sizeLine, writeLine, HoldsLine}
 use Rattle.replacing.specs.Runs.{HoldsAll}
 use Rattle.replacing.specs.Written.{all-length}
@@ -27,6 +29,17 @@ map-both f (x ∷ xs) ys = ap (f x ∷_) (map-both f xs ys)
 pub sum-both : {A : Type 0} (f : A → ℕ) (xs ys : List A) → sumOf f (xs ++ ys) ≡ sumOf f xs + sumOf f ys
 sum-both f [] ys = omega arith
 sum-both f (x ∷ xs) ys = omega (arith, sum-both f xs ys)
+
+pub all-map : {A B : Type 0} (p : B → Bool) (f : A → B) (xs : List A) → all p (map f xs) ≡ all (λ a. p (f a)) xs
+unfolding all
+all-map p f [] = refl
+all-map p f (x ∷ xs) = ap (p (f x) &&_) (all-map p f xs)
+
+pub long-cons : (cs : List (Con ℕ)) → sumOf sizeLine (map con cs) ≡ sumOf sizeCon cs
+long-cons cs = lines-long con sizeCon writeCon HoldsCon (λ c. refl) (λ c. refl) (λ s c at h. h) cs
+
+pub long-binds : (bs : List (Binding ℕ)) → sumOf sizeLine (map binding bs) ≡ sumOf sizeBinding bs
+long-binds bs = lines-long binding sizeBinding writeBinding HoldsBinding (λ b. refl) (λ b. refl) (λ s b at h. h) bs
 
 line-written : (s : List ℕ) (x : Line) (at : ℕ) → HoldsLine s x at → from s at ≡ writeLine x ++ from s (at + sizeLine x)
 line-written s (con c) at h = con-written s c at h

@@ -1,16 +1,16 @@
 -- What a step wrote, by the answer of the code that tried the rules. Assumes nothing.
 use mathlib.Core.Path.{_≡_, refl, sym, ap, subst, _∙_}
-use mathlib.Core.Bool.{true, and-eq-true-iff}
+use mathlib.Core.Bool.{true}
 use mathlib.Core.List.{List, [], _∷_, map, append-nil}
-use mathlib.Core.Logic.{_⊎_, inl, inr}
-use Prim.Native.Nat.{ℕ, suc, _+_, _*_, _/_, _-_, _≤_}
+use mathlib.Core.Logic.{inl, inr}
+use Prim.Native.Nat.{ℕ, suc, _+_, _*_, _-_, _≤_}
 use native.Mathlib.Omega.{arith}
 use lib.ListN.{length}
 use lib.Seq.{sets, length-sets}
 use Rattle.rules.specs.Base.{Got, got, refused, bounded, all, each, collect, sumOf}
 use Rattle.rules.specs.Refusals.{numberOf}
 use Rattle.rules.specs.Rounds.{Step, bind, split, done, stuck, trySatisfy}
-use Rattle.rules.specs.Trees.{free, var, _↑_, Names, Ty, dim, Con, equal, isScalar, _≔_, size, sizeCon, sizeBinding}
+use Rattle.rules.specs.Trees.{Names, Ty, dim, Con, _≔_, size, sizeCon, sizeBinding}
 use Rattle.rules.specs.WellFormed.{goodCon, goodBinding}
 use Rattle.rules.specs.Writing.{words, writeCon, writeBinding}
 use Rattle.rules.specs.declared.Refusal.{Refusal}
@@ -21,14 +21,15 @@ use Rattle.products.specs.Held.{law}
 use Rattle.records.specs.ByView.{size-pos}
 use Rattle.records.specs.Good.{numbers, holding}
 use Rattle.records.specs.Holds.{HoldsCon}
-use Rattle.replacing.specs.Flat.{goodLine, PlainLines}
+use Rattle.replacing.specs.Flat.{goodLine}
 use Rattle.replacing.specs.Kept.{plain-written}
-use Rattle.replacing.specs.LineLaws.{lines-long, lines-write}
+use Rattle.replacing.specs.LineLaws.{lines-write}
 use Rattle.replacing.specs.LineRules.{Line, con, binding, sizeLine, writeLine}
 use Rattle.replacing.specs.Runs.{HoldsAll}
 use Rattle.satisfying.specs.Stepped.{Stepped}
 use Rattle.satisfying.specs.declared.Step as code
 use Rattle.satisfying.specs.declared.Step.the-variants.{Bind, Split, Done, Stuck, Refused}
+use Rattle.rounds.specs.Lines.{all-map, long-cons}
 use Rattle.rounds.specs.Parts.{Parts, New, Taken}
 
 -- ══ A binding takes no more room than the constraint it comes from ══
@@ -60,11 +61,6 @@ bind-fits ν c s x t (closed-struct n m as′ fs u v o f j e) i = absurd (let z 
 -- ══ By the answer ══
 
 module _ (pool table : List ℕ) where
-  cons-good : (ds : List (Con ℕ)) → all (goodCon (numbers pool table) (holding pool table) 0) ds ≡ true → all (goodLine pool table) (map con ds) ≡ true
-  unfolding all
-  cons-good [] g = refl
-  cons-good (c ∷ ds) g = let r = and-eq-true-iff (goodLine pool table (con c)) (all (goodCon (numbers pool table) (holding pool table) 0) ds) .0 g in and-both (r .0) (cons-good ds (r .1))
-
   -- lines that were written are new ones
   written : (was d : List ℕ) (xs : List Line) (b q : ℕ) → 8192 ≤ length d → q ≡ b + sumOf sizeLine xs → all (goodLine pool table) xs ≡ true → d ≡ sets was (b * 4) (words (collect writeLine xs)) → New pool table d xs b q
   written was d xs b q room e g w = record {
@@ -126,9 +122,8 @@ module _ (pool table : List ℕ) where
             let f = s .says .0 in
             let z : q ≡ out + sumOf sizeCon cs = cc in
             let g = rule-good (numbers pool table) (law pool table) (holding pool table) 0 c (split cs) (rule (numbers pool table) bounded c (split cs) j) (k .here .good) in
-            let l = lines-long con sizeCon writeCon HoldsCon (λ c. refl) (λ c. refl) (λ s c at h. h) cs in
             let u = lines-write con sizeCon writeCon HoldsCon (λ c. refl) (λ c. refl) (λ s c at h. h) cs in
-            record { cons = cs; is = j; new = written (k .was) d (map con cs) out q room (omega arith) (cons-good cs (is-all (goodCon (numbers pool table) (holding pool table) 0) cs g)) (rw u (s .says .1)) }
+            record { cons = cs; is = j; new = written (k .was) d (map con cs) out q room (omega (arith, long-cons cs)) (all-map (goodLine pool table) con cs ∙ is-all (goodCon (numbers pool table) (holding pool table) 0) cs g) (rw u (s .says .1)) }
         go (got done) j s = absurd (let f = s .says .0 in let z : _≡_ {A = ℕ} 0 1 = cc in omega arith)
         go (got stuck) j s = absurd (let f = s .says .0 in let z : _≡_ {A = ℕ} 0 1 = cc in omega arith)
         go (refused l) j s = absurd (s .says)

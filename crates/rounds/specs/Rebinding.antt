@@ -1,34 +1,33 @@
 -- A new binding put into the constraints and the older bindings. Assumes nothing.
 use mathlib.Core.Path.{_≡_, refl, sym, ap, subst, _∙_}
-use mathlib.Core.Bool.{true, and-eq-true-iff}
+use mathlib.Core.Bool.{true}
 use mathlib.Core.List.{List, [], _∷_, _++_, map}
-use mathlib.Core.Option.{Option, some}
-use Prim.Native.Nat.{ℕ, suc, _+_, _*_, _/_, _-_, _≤_}
+use mathlib.Core.Option.{some}
+use Prim.Native.Nat.{ℕ, _+_, _*_, _-_, _≤_}
 use native.Mathlib.Omega.{arith}
 use lib.ListN.{length}
 use lib.Seq.{sets, slice, length-sets}
 use Rattle.rules.specs.Base.{Got, got, refused, _>>=_, bounded, all, each, collect, sumOf}
 use Rattle.rules.specs.Refusals.{numberOf}
-use Rattle.rules.specs.Replacing.{bindings, replaceCon, replaceBinding}
-use Rattle.rules.specs.Rounds.{State, bind, perform}
-use Rattle.rules.specs.Trees.{Open, Ty, Con, Binding, _≔_, size, sizeCon, sizeBinding}
-use Rattle.rules.specs.WellFormed.{goodTy, goodCon, goodBinding}
-use Rattle.rules.specs.Writing.{words, writeCon, writeBinding}
+use Rattle.rules.specs.Replacing.{replaceCon, replaceBinding}
+use Rattle.rules.specs.Rounds.{State, perform}
+use Rattle.rules.specs.Trees.{Open, Ty, Con, Binding, _≔_, size}
+use Rattle.rules.specs.WellFormed.{goodTy, goodBinding}
+use Rattle.rules.specs.Writing.{words}
 use Rattle.rules.specs.declared.Refusal.{Refusal}
 use Rattle.laws.specs.Lists.{One, one-step, and-both, clash}
 use Rattle.products.specs.Held.{law}
 use Rattle.records.specs.Good.{numbers, holding}
-use Rattle.records.specs.Holds.{HoldsCon, HoldsBinding}
 use Rattle.replacing.specs.Flat.{goodLine, PlainLines, stateLines}
 use Rattle.replacing.specs.Kept.{plain-held, plain-written, plain-kept}
 use Rattle.replacing.specs.Left.{Left, Room, look}
-use Rattle.replacing.specs.LineLaws.{cons-each, bindings-each, lines-long}
+use Rattle.replacing.specs.LineLaws.{cons-each, bindings-each}
 use Rattle.replacing.specs.LineRules.{Line, con, binding, sizeLine, writeLine, HeldLines, replaceLine}
 use Rattle.replacing.specs.Runs.{HoldsAll, looked-good, looked-short}
 use Rattle.replacing.specs.Well.{names, Lent}
 use Rattle.replacing.specs.declared.inner.walk.Went.{Went}
 use Rattle.replacing.specs.declared.inner.walk.Went.the-variants.{To, Stop}
-use Rattle.rounds.specs.Lines.{map-both, sum-both, kept-before, copied, plain-join}
+use Rattle.rounds.specs.Lines.{map-both, sum-both, all-map, long-cons, long-binds, kept-before, copied, plain-join}
 use Rattle.rounds.specs.Parts.{keeps, Made, Bound, rebinds}
 use Rattle.rounds.specs.Sizes.{cons-size, bindings-size}
 
@@ -60,23 +59,6 @@ module _ {d d′ : List ℕ} {nx out : ℕ} {r : Went} (R : Got (List Line)) (le
 one-refused : {A B : Type 0} (m : Got A) (f : A → B) (k : ℕ) → (m >>= λ a. got (f a)) ≡ refused k → m ≡ refused k
 one-refused (got a) f k e = clash (sym e)
 one-refused (refused j) f k e = cc
-
-module _ (pool table : List ℕ) where
-  cons-good : (ds : List (Con ℕ)) → all (goodLine pool table) (map con ds) ≡ true → all (goodCon (numbers pool table) (holding pool table) 0) ds ≡ true
-  unfolding all
-  cons-good [] g = refl
-  cons-good (c ∷ ds) g = let r = and-eq-true-iff (goodLine pool table (con c)) (all (goodLine pool table) (map con ds)) .0 g in and-both (r .0) (cons-good ds (r .1))
-
-  binds-good : (ds : List (Binding ℕ)) → all (goodLine pool table) (map binding ds) ≡ true → all (goodBinding (numbers pool table) (holding pool table) 0) ds ≡ true
-  unfolding all
-  binds-good [] g = refl
-  binds-good (c ∷ ds) g = let r = and-eq-true-iff (goodLine pool table (binding c)) (all (goodLine pool table) (map binding ds)) .0 g in and-both (r .0) (binds-good ds (r .1))
-
-long-cons : (ds : List (Con ℕ)) → sumOf sizeLine (map con ds) ≡ sumOf sizeCon ds
-long-cons ds = lines-long con sizeCon writeCon HoldsCon (λ c. refl) (λ c. refl) (λ s c at h. h) ds
-
-long-binds : (ds : List (Binding ℕ)) → sumOf sizeLine (map binding ds) ≡ sumOf sizeBinding ds
-long-binds ds = lines-long binding sizeBinding writeBinding HoldsBinding (λ c. refl) (λ c. refl) (λ s c at h. h) ds
 
 module _ (pool table next : List ℕ) (b q m : ℕ) (cs : List (Con ℕ)) (x : ℕ) (t : Ty ℕ) (bs : List (Binding ℕ)) (h : Bound pool table next b q m cs x t bs) where
   abbrev pub one : List (Binding ℕ)
@@ -140,7 +122,7 @@ module _ (pool table next : List ℕ) (b q m : ℕ) (cs : List (Con ℕ)) (x : �
 
     pub first-size : sumOf sizeLine ys ≤ b * 2048
     first-size =
-        let s = cons-size (numbers pool table) (law pool table) (holding pool table) 0 (look pool table one) bound-good bound-small cs (cons-good pool table cs (h .cons .good)) .holds (new-cons .value) (new-cons .gave) in
+        let s = cons-size (numbers pool table) (law pool table) (holding pool table) 0 (look pool table one) bound-good bound-small cs (sym (all-map (goodLine pool table) con cs) ∙ h .cons .good) .holds (new-cons .value) (new-cons .gave) in
         omega (arith, s, ap (sumOf sizeLine) (new-cons .is), long-cons (new-cons .value), long-cons cs, h .cons .ends)
 
     pub room : length next ≤ 1_000_000 → (n : ℕ) → n ≡ 0 + sumOf sizeLine ys → Room next q n
@@ -152,7 +134,7 @@ module _ (pool table next : List ℕ) (b q m : ℕ) (cs : List (Con ℕ)) (x : �
 
       pub second-size : sumOf sizeLine zs ≤ (m - q) * 2048
       second-size =
-          let s = bindings-size (numbers pool table) (law pool table) (holding pool table) 0 (look pool table one) bound-good bound-small bs (binds-good pool table bs (h .binds .good)) .holds (new-binds .value) (new-binds .gave) in
+          let s = bindings-size (numbers pool table) (law pool table) (holding pool table) 0 (look pool table one) bound-good bound-small bs (sym (all-map (goodLine pool table) binding bs) ∙ h .binds .good) .holds (new-binds .value) (new-binds .gave) in
           omega (arith, s, ap (sumOf sizeLine) (new-binds .is), long-binds (new-binds .value), long-binds bs, h .binds .ends)
 
       -- so that the count stays small

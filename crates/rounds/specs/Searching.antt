@@ -1,6 +1,6 @@
 -- The first constraint to which a rule applies: what is left of the search. Assumes nothing.
-use mathlib.Core.Path.{_≡_, refl, sym, ap, subst, _∙_}
-use mathlib.Core.Bool.{true, and-eq-true-iff}
+use mathlib.Core.Path.{_≡_, refl, sym, ap, _∙_}
+use mathlib.Core.Bool.{and-eq-true-iff}
 use mathlib.Core.List.{List, [], _∷_, _++_, map, append-nil}
 use mathlib.Core.Option.{Option, none, some}
 use Prim.Native.Nat.{ℕ, _+_, _-_, _≤_, _<_}
@@ -12,7 +12,7 @@ use Rattle.rules.specs.Trees.{Con, equal, isDim, isScalar, hasField, Binding, s
 use Rattle.laws.specs.Lists.{and-both}
 use Rattle.records.specs.Good.{numbers}
 use Rattle.replacing.specs.Flat.{goodLine, PlainLines}
-use Rattle.replacing.specs.LineRules.{Line, con, sizeLine}
+use Rattle.replacing.specs.LineRules.{con}
 use Rattle.replacing.specs.Runs.{HoldsAll}
 use Rattle.satisfying.specs.Stepped.{HeldCon, Stepped}
 use Rattle.satisfying.specs.declared.Step as code

@@ -1,5 +1,4 @@
 -- `inner::fits` meets its contract. Assumes nothing.
-use native.Mathlib.Omega.{arith}
 use Rattle.rounds.specs.Limits.{too-many, by-depth}
 use Rattle.rounds.proofs.inner.fits.Statement.{statement}
 use Rattle.rounds.proofs.inner.fits.Tie as tie

@@ -18,7 +18,7 @@ copy-requires c κs =
     let l = c .before .before .before in
     let S = l .before .before .before .before .before in
     let (st, d) = S .pre .1 .0 in
-    let k = few _ _ (now (S .args .next)) (now (S .args .work)) (now (S .args .work)) _ _ st d (S .pre .1 .1 .0) (S .pre .1 .1 .1) (went-on _ _ st (l .limit .ensures st d) (c .before .enum-told .given .1)) in
+    let k = few _ _ st _ _ _ d (went-on _ _ st (l .limit .ensures st d) (c .before .enum-told .given .1)) in
     (omega arith, (omega (arith, S .pre .1 .1 .0), omega arith))
 
 enum-told-2 : tie.Need-enum-told-2

@@ -3,7 +3,6 @@ use mathlib.Core.Path.{refl}
 use mathlib.Core.List.{map}
 use native.Mathlib.Omega.{arith}
 use borrow.Author.Needs.{needs}
-use denote.Ref.{now}
 use Rattle.replacing.specs.LineRules.{con, binding}
 use Rattle.rounds.specs.Limits.{turned-as, anew}
 use Rattle.rounds.specs.Rebinding.{in-order, one, lent, cons-asked, binds-asked, first, second, came, stops, first-refused, second-refused, room, near, rebound, rebinds-is, rebind-made}
