@@ -1,4 +1,6 @@
 // What the first rule that fits does with a constraint.
+pub mod inner;
+
 use rules::Refusal;
 
 // A variable bound, other constraints in the place of this one, it alone taken away, no rule, or a refusal.
