@@ -6,19 +6,23 @@ use records::seen::view_at;
 use replacing::inner::flat::lines_flat;
 use replacing::inner::lines::replace_lines;
 use replacing::inner::walk::Went;
+use rules::RECORD_WORDS;
 use rules::RECORDS;
 use rules::Refusal;
 use satisfying::Step;
+use satisfying::inner::try_satisfy;
 ghost use mathlib.Core.Path.{_≡_};
 ghost use mathlib.Core.List.{List, map, [], _∷_};
 ghost use Prim.Native.Nat.{ℕ, _+_, _-_, _≤_};
 ghost use lib.ListN.{length};
-ghost use Rattle.rules.specs.Rounds.{State};
+ghost use Rattle.rules.specs.Base.{bounded};
+ghost use Rattle.rules.specs.Rounds.{State, round};
 ghost use Rattle.rules.specs.Trees.{Ty, Con, Binding, _≔_, sizeCon};
 ghost use Rattle.laws.specs.NameTable.{Good};
+ghost use Rattle.records.specs.Good.{numbers};
 ghost use Rattle.records.specs.Holds.{HoldsCon};
 ghost use Rattle.replacing.specs.LineRules.{Line, con, binding};
-ghost use Rattle.rounds.specs.States.{Turned};
+ghost use Rattle.rounds.specs.States.{StateHeld, Turned};
 ghost use Rattle.rounds.specs.Parts.{joined, Stands, fitting, Made, keeps, Parts, Around, New, appends, Bound, rebinds, Taken, others, performs};
 
 // The state after a round: where its constraints end, and where its bindings end; or that no rule applies; or why the round stops.
@@ -29,7 +33,7 @@ pub enum Turn {
 }
 
 // Where the constraint at a place ends.
-pub fn con_end(s: &[u32], at: usize) -> usize
+fn con_end(s: &[u32], at: usize) -> usize
     requires { ⌜ ((c : Con ℕ) × HoldsCon (now s) c at) ⌝ }
     ensures { λ r. ⌜ ((c : Con ℕ) → HoldsCon (now (s .entry)) c at → r ≡ at + sizeCon c) ⌝ }
 {
@@ -181,7 +185,7 @@ fn bind(
 }
 
 // Does what the step of the constraint from `at` up to e says.
-pub fn perform(
+fn perform(
     pool: &[u8],
     table: &[u32],
     work: &mut [u32],
@@ -206,4 +210,58 @@ pub fn perform(
         Step::Stuck => Turn::End,
         Step::Refused(k) => Turn::Stop(k),
     }
+}
+
+// One round in buffers that are not too long: the first constraint to which a rule applies is taken.
+fn take_turn(
+    pool: &[u8],
+    table: &[u32],
+    work: &mut [u32],
+    next: &mut [u32],
+    n: usize,
+    m: usize,
+) -> Turn
+    requires { ⌜ Good (now pool) (now table) ⌝ }
+    requires { ⌜ ((st : State ℕ) × StateHeld (now pool) (now table) (now work) n m st) ⌝ }
+    requires { ⌜ 8192 ≤ length (now work) ⌝ }
+    requires { ⌜ length (now work) ≤ 1000000 ⌝ }
+    requires { ⌜ 8192 ≤ length (now next) ⌝ }
+    requires { ⌜ length (now next) ≤ 1000000 ⌝ }
+    ensures { λ r. ⌜ ((st : State ℕ) → StateHeld (now (pool .entry)) (now (table .entry)) (now (work .entry)) n m st → Turned (now (pool .entry)) (now (table .entry)) (now (work .entry)) (now (work .exit)) r (round (numbers (now (pool .entry)) (now (table .entry))) bounded st)) ⌝ }
+{
+    let mut at = 0;
+    while at < n {
+        let e = con_end(work, at);
+        let step = try_satisfy(pool, table, work, at, next, n - (e - at));
+        let Step::Stuck = step else {
+            return perform(pool, table, work, next, at, e, n, m, step);
+        };
+        at = e;
+    }
+    Turn::End
+}
+
+// One round: the state stands in the first 8,192 words of `work`, and `next` is used to make the next one.
+pub fn round(
+    pool: &[u8],
+    table: &[u32],
+    work: &mut [u32],
+    next: &mut [u32],
+    n: usize,
+    m: usize,
+) -> Turn
+    requires { ⌜ Good (now pool) (now table) ⌝ }
+    requires { ⌜ ((st : State ℕ) × StateHeld (now pool) (now table) (now work) n m st) ⌝ }
+    requires { ⌜ 8192 ≤ length (now work) ⌝ }
+    requires { ⌜ 8192 ≤ length (now next) ⌝ }
+    ensures { λ r. ⌜ ((st : State ℕ) → StateHeld (now (pool .entry)) (now (table .entry)) (now (work .entry)) n m st → Turned (now (pool .entry)) (now (table .entry)) (now (work .entry)) (now (work .exit)) r (round (numbers (now (pool .entry)) (now (table .entry))) bounded st)) ⌝ }
+{
+    take_turn(
+        pool,
+        table,
+        &mut work[0..RECORD_WORDS],
+        &mut next[0..RECORD_WORDS],
+        n,
+        m,
+    )
 }
