@@ -124,7 +124,7 @@ fn append(
     ensures { λ r. ⌜ ((p : Parts) (new : List (Con ℕ)) → Around (now (pool .entry)) (now (table .entry)) (now (work .entry)) at e n m p → New (now (pool .entry)) (now (table .entry)) (now (next .entry)) (map con new) (n - (e - at)) q → Turned (now (pool .entry)) (now (table .entry)) (now (work .entry)) (now (work .exit)) r (appends p new)) ⌝ }
 {
     if RECORDS < q {
-        return Turn::Stop(Refusal::TooLarge);
+        return Turn::Stop(Refusal::TooLarge); // the constraints alone pass the limit
     }
     join(work, at, e, n, m, next, q);
     keep(pool, table, next, q, q + (m - n), work)
