@@ -22,7 +22,7 @@ both-ways true b f g = sym (f refl)
 both-ways false true f g = g refl
 both-ways false false f g = refl
 
-pub decided : {A : Type 0} (r : Bool) (d : Dec A) → Decides r A → r ≡ isYes d
+decided : {A : Type 0} (r : Bool) (d : Dec A) → Decides r A → r ≡ isYes d
 decided true d h = sym (is-yes d h)
 decided false d h = sym (is-no d h)
 

@@ -1,4 +1,6 @@
 // Comparing types that are known to be held: a product that is one variable to the power 1 reads as that variable, structs count by name and arguments only.
+pub mod truth;
+
 use exponents::Exponent;
 use queries::inner::end_of;
 use records::Atom;
