@@ -20,7 +20,7 @@ ghost use Rattle.rules.specs.Writing.{signed};
 ghost use Rattle.records.specs.Holds.{openOf, basicOf, atomOf, Holds, HoldsTys, HoldsFactors};
 ghost use Rattle.meaning.specs.Heads.{Decides, TellsFactors, headOpen, headAtom, headOf, headAlone, headDim, reads, meansAll};
 
-// What is compared of a type before its parts: its kind, its name, and how many parts follow.
+// What is compared of a type before its parts: its kind as document 01 numbers it, its name, and how many parts follow.
 pub struct Head {
     pub kind: u32,
     pub name: u32,
@@ -235,7 +235,7 @@ pub fn means(s: &[u32], at: usize, t: &[u32], k: usize) -> bool
 }
 
 // Do n types from two places on mean the same, one by one?
-pub fn means_all(s: &[u32], at: usize, t: &[u32], k: usize, n: usize) -> bool
+fn means_all(s: &[u32], at: usize, t: &[u32], k: usize, n: usize) -> bool
     requires { ⌜ ((xs : Tys ℕ) × HoldsTys (now s) xs at × (count xs ≡ n)) ⌝ }
     requires { ⌜ ((ys : Tys ℕ) × HoldsTys (now t) ys k × (count ys ≡ n)) ⌝ }
     ensures { λ r. ⌜ ((xs ys : Tys ℕ) (names : List Bytes) → HoldsTys (now (s .entry)) xs at → count xs ≡ n → HoldsTys (now (t .entry)) ys k → count ys ≡ n → r ≡ meansAll (numbered names) xs ys) ⌝ }
