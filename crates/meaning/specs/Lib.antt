@@ -1,0 +1,5 @@
+pub mod Heads
+pub mod HeadLaws
+pub mod Means
+pub mod Truth
+pub mod TruthLaws
