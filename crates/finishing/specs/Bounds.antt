@@ -132,6 +132,10 @@ module _ (s : List ℕ) where
       ∙ ap (writeLine x ++_) (lines-stand xs (at + sizeLine x) (h .1) ∙ ap (λ (j : ℕ). collect writeLine xs ++ from s j) i)
       ∙ sym (append-assoc (writeLine x) (collect writeLine xs) (from s (at + (sizeLine x + sumOf sizeLine xs))))
 
+  -- the records from a place on, where lines are held, are theirs
+  pub lines-words : (pool table : List ℕ) (xs : List Line) (at : ℕ) → at ≤ length s / 4 → HoldsAll HoldsLine sizeLine s xs at → slice (at * 4) ((at + sumOf sizeLine xs) * 4) s ≡ words (collect writeLine xs)
+  lines-words pool table xs at le h = rw (all-length pool table xs) at (words-from s (collect writeLine xs) (from s (at + sumOf sizeLine xs)) at le (lines-stand xs at h))
+
 -- ══ A state whose constraints are bounds ══
 
 cons-good : (pool table : List ℕ) (cs : List (Con ℕ)) → all (goodLine pool table) (map con cs) ≡ true → Every (Known (numbers pool table) (holding pool table) 0) (collect opensCon cs)
@@ -161,10 +165,8 @@ module _ (pool table s : List ℕ) (n m : ℕ) (st : State ℕ) (h : StateHeld p
 
   binds-words : slice (n * 4) (m * 4) s ≡ words (collect writeBinding (st .binds))
   binds-words =
-      let xs = map binding (st .binds) in
       let a = lines-in s (map con (st .cons)) 0 (omega arith) (h .cons .held) in
-      let e : n + length (collect writeLine xs) ≡ m = omega (arith, all-length pool table xs, h .binds .ends) in
-      (rw e at (words-from s (collect writeLine xs) (from s (n + sumOf sizeLine xs)) n (omega (arith, a, h .cons .ends)) (lines-stand s xs n (h .binds .held))))
+      rw (h .binds .ends) (lines-words s pool table (map binding (st .binds)) n (omega (arith, a, h .cons .ends)) (h .binds .held))
       ∙ ap words (lines-write binding sizeBinding writeBinding HoldsBinding (λ b. refl) (λ b. refl) (λ s b at h. h) (st .binds))
 
   binds-length : length (collect writeBinding (st .binds)) ≡ m - n

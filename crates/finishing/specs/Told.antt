@@ -42,6 +42,10 @@ pub record Copied (d d′ : List ℕ) (out r : ℕ) (cs : List (Con ℕ)) : Type
 abbrev pub boundRec : ℕ → Rec
 boundRec n = writeBound (var n)
 
+abbrev pub toldFinish : Finish → ℕ → Solved
+toldFinish (Bound b n) k = solved b n k
+toldFinish (Unsolved r) k = unsolved r k
+
 module _ (pool table : List ℕ) (st : State ℕ) where
   -- the bounds of a state
   abbrev pub bounds : List ℕ
@@ -51,10 +55,6 @@ module _ (pool table : List ℕ) (st : State ℕ) where
   pub record Accepted (result result′ : List ℕ) (r : ℕ) : Type 0 where
     pub many : r ≡ length bounds
     pub buffer : result′ ≡ over (words (collect writeBinding (st .binds) ++ map boundRec bounds)) result
-
-  abbrev pub toldFinish : Finish → ℕ → Solved
-  toldFinish (Bound b n) k = solved b n k
-  toldFinish (Unsolved r) k = unsolved r k
 
   -- as the rules finish after k rounds, whatever k is
   pub record Finished (result result′ : List ℕ) (r : Finish) : Type 0 where
