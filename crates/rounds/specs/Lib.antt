@@ -1,0 +1,12 @@
+pub mod States
+pub mod Slices
+pub mod Lines
+pub mod Parts
+pub mod Ends
+pub mod Limits
+pub mod Joining
+pub mod Sizes
+pub mod Rebinding
+pub mod Performing
+pub mod Searching
+pub mod Fronts
