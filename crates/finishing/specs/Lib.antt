@@ -1,0 +1,4 @@
+pub mod Said
+pub mod Told
+pub mod Others
+pub mod Bounds
