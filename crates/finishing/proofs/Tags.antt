@@ -8,7 +8,7 @@ use types.Run.{OneOf, miss}
 use Rattle.records.specs.declared.View.{View}
 use Rattle.records.specs.declared.View.the-variants as view
 use Rattle.records.proofs.View as views
-use Rattle.finishing.specs.Said.{saysNamed, saysDim, saysSingle}
+use Rattle.finishing.specs.Said.{saysNamed, saysDim}
 
 -- the view has one of these tags
 abbrev pub Tagged : List ℕ → View → Type 0
@@ -57,25 +57,3 @@ undim (view.Bound o) k = refl
 undim (view.Scheme n) k = refl
 undim view.Concrete k = refl
 undim view.Bad k = refl
-
-abbrev unsingle-tags : List ℕ
-unsingle-tags = 0 ∷ 1 ∷ 2 ∷ 3 ∷ 4 ∷ 5 ∷ 6 ∷ 7 ∷ 8 ∷ 11 ∷ 12 ∷ 13 ∷ 14 ∷ 15 ∷ 16 ∷ []
-
-pub unsingle : (v : View) → Tagged unsingle-tags v → false ≡ saysSingle v
-unsingle (view.Opened o) k = refl
-unsingle (view.Basic b) k = refl
-unsingle (view.Dim n) k = refl
-unsingle (view.Function n) k = refl
-unsingle (view.Struct x n m) k = refl
-unsingle view.List k = refl
-unsingle (view.Field x) k = refl
-unsingle (view.Factor a n d) k = refl
-unsingle view.Equal k = refl
-unsingle view.IsDim k = absurd (miss unsingle-tags 9 tt k)
-unsingle view.IsScalar k = absurd (miss unsingle-tags 10 tt k)
-unsingle (view.HasField x) k = refl
-unsingle (view.Binding x) k = refl
-unsingle (view.Bound o) k = refl
-unsingle (view.Scheme n) k = refl
-unsingle view.Concrete k = refl
-unsingle view.Bad k = refl

@@ -1,7 +1,7 @@
 -- Where every constraint is a bound: their names, and bindings and bounds in the result buffer. Assumes nothing.
 use mathlib.Core.Path.{_≡_, refl, sym, ap, subst, _∙_}
 use mathlib.Core.Bool.{true, and-eq-true-iff}
-use mathlib.Core.List.{List, [], _∷_, _++_, map, append-assoc, cons≢nil}
+use mathlib.Core.List.{List, [], _∷_, _++_, map, cons≢nil}
 use mathlib.Core.Option.{Option, none, some}
 use Prim.Native.Nat.{ℕ, _+_, _-_, _*_, _/_, _≤_, _<_}
 use native.Mathlib.Nat.{add-zero, zero-add}
@@ -22,11 +22,9 @@ use Rattle.laws.specs.SortedNames.{sort-few}
 use Rattle.records.specs.Buffers.{words-length}
 use Rattle.records.specs.ByView.{con-in, binding-in}
 use Rattle.records.specs.Good.{Chain, numbers, holding}
-use Rattle.records.specs.Held.{con-written, binding-written}
 use Rattle.records.specs.Holds.{HoldsCon, HoldsBinding}
-use Rattle.records.specs.Places.{words-from}
 use Rattle.records.specs.Stores.{sets-append}
-use Rattle.records.specs.Views.{recOf, from}
+use Rattle.records.specs.Views.{recOf}
 use Rattle.records.specs.declared.Open.the-variants.{Var}
 use Rattle.records.specs.declared.View.the-variants as view
 use Rattle.queries.specs.GoodOpens.{names-held}
@@ -36,12 +34,14 @@ use Rattle.queries.specs.Scans.{choose, opensIn}
 use Rattle.queries.specs.declared.Kind.the-variants.{Both}
 use Rattle.replacing.specs.Flat.{goodLine}
 use Rattle.replacing.specs.LineLaws.{lines-long, lines-write}
-use Rattle.replacing.specs.LineRules.{Line, con, binding, sizeLine, writeLine, HoldsLine}
+use Rattle.replacing.specs.LineRules.{Line, con, binding, sizeLine, HoldsLine}
 use Rattle.replacing.specs.Runs.{HoldsAll}
 use Rattle.replacing.specs.Writes.{words-append, writes}
 use Rattle.replacing.specs.Written.{all-length}
+use Rattle.rounds.specs.Lines.{lines-words}
+use Rattle.rounds.specs.States.{StateHeld}
 use Rattle.finishing.specs.declared.Finish.the-variants.{Solved as Bound, Unsolved}
-use Rattle.finishing.specs.Told.{SetHeld, StateHeld, others, boundRec, bounds, Copied, Accepted, Finished}
+use Rattle.finishing.specs.Told.{SetHeld, others, boundRec, bounds, Copied, Accepted, Finished}
 use Rattle.finishing.specs.Others.{con-some, cons-length, others-few, set-held}
 
 -- ══ Bounds written one after another ══
@@ -108,7 +108,7 @@ module _ (s : List ℕ) where
   set-opens : (cs : List (Con ℕ)) (n : ℕ) → SetHeld s cs 0 n → opensIn s 0 n ≡ collect opensCon cs
   set-opens cs n h = chain-opens s (λ at c e. HoldsCon s c at × (e ≡ at + sizeCon c)) opensCon (λ at c e k. part c at e k) cs 0 n (chained cs 0 n (h .held) (h .ends)) .1
 
-  -- ══ The words of lines ══
+  -- ══ Lines that are held lie within ══
 
   line-in : (x : Line) (at : ℕ) → HoldsLine s x at → at + sizeLine x ≤ length s / 4
   line-in (con c) at h = con-in s c at h
@@ -118,23 +118,6 @@ module _ (s : List ℕ) where
   unfolding HoldsAll
   lines-in [] at le h = omega arith
   lines-in (x ∷ xs) at le h = omega (arith, lines-in xs (at + sizeLine x) (line-in x at (h .0)) (h .1))
-
-  line-stands : (x : Line) (at : ℕ) → HoldsLine s x at → from s at ≡ writeLine x ++ from s (at + sizeLine x)
-  line-stands (con c) at h = con-written s c at h
-  line-stands (binding b) at h = binding-written s b at h
-
-  lines-stand : (xs : List Line) (at : ℕ) → HoldsAll HoldsLine sizeLine s xs at → from s at ≡ collect writeLine xs ++ from s (at + sumOf sizeLine xs)
-  unfolding HoldsAll collect
-  lines-stand [] at h = rw (add-zero at)
-  lines-stand (x ∷ xs) at h =
-      let i : at + sizeLine x + sumOf sizeLine xs ≡ at + (sizeLine x + sumOf sizeLine xs) = omega arith in
-      line-stands x at (h .0)
-      ∙ ap (writeLine x ++_) (lines-stand xs (at + sizeLine x) (h .1) ∙ ap (λ (j : ℕ). collect writeLine xs ++ from s j) i)
-      ∙ sym (append-assoc (writeLine x) (collect writeLine xs) (from s (at + (sizeLine x + sumOf sizeLine xs))))
-
-  -- the records from a place on, where lines are held, are theirs
-  pub lines-words : (pool table : List ℕ) (xs : List Line) (at : ℕ) → at ≤ length s / 4 → HoldsAll HoldsLine sizeLine s xs at → slice (at * 4) ((at + sumOf sizeLine xs) * 4) s ≡ words (collect writeLine xs)
-  lines-words pool table xs at le h = rw (all-length pool table xs) at (words-from s (collect writeLine xs) (from s (at + sumOf sizeLine xs)) at le (lines-stand xs at h))
 
 -- ══ A state whose constraints are bounds ══
 
@@ -166,7 +149,7 @@ module _ (pool table s : List ℕ) (n m : ℕ) (st : State ℕ) (h : StateHeld p
   binds-words : slice (n * 4) (m * 4) s ≡ words (collect writeBinding (st .binds))
   binds-words =
       let a = lines-in s (map con (st .cons)) 0 (omega arith) (h .cons .held) in
-      rw (h .binds .ends) (lines-words s pool table (map binding (st .binds)) n (omega (arith, a, h .cons .ends)) (h .binds .held))
+      lines-words pool table s (map binding (st .binds)) n m (omega (arith, a, h .cons .ends)) (h .binds)
       ∙ ap words (lines-write binding sizeBinding writeBinding HoldsBinding (λ b. refl) (λ b. refl) (λ s b at h. h) (st .binds))
 
   binds-length : length (collect writeBinding (st .binds)) ≡ m - n

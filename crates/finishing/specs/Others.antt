@@ -8,16 +8,16 @@ use lib.ListN.{length, length-append}
 use lib.Seq.{sets, slice}
 use Rattle.rules.specs.Base.{keep, isNone, collect, sumOf}
 use Rattle.rules.specs.Solving.{boundOf}
-use Rattle.rules.specs.Trees.{Ty, dim, Con, equal, isDim, isScalar, hasField, size, sizeCon}
+use Rattle.rules.specs.Trees.{Con, equal, isDim, isScalar, hasField, sizeCon}
 use Rattle.rules.specs.Writing.{words, writeCon}
 use Rattle.laws.specs.Contents.{collect-append}
 use Rattle.laws.specs.Lists.{true≢false}
 use Rattle.laws.specs.Size.{size-con}
 use Rattle.records.specs.ByView.{con-in}
 use Rattle.records.specs.Held.{con-written}
-use Rattle.records.specs.Holds.{Holds, HoldsCon}
+use Rattle.records.specs.Holds.{HoldsCon}
 use Rattle.records.specs.Places.{words-from}
-use Rattle.records.specs.Views.{from, viewAt}
+use Rattle.records.specs.Views.{from}
 use Rattle.records.specs.Stores.{sets-append}
 use Rattle.records.specs.Buffers.{words-length}
 use Rattle.replacing.specs.Flat.{PlainLines}
@@ -25,7 +25,8 @@ use Rattle.replacing.specs.LineLaws.{lines-long}
 use Rattle.replacing.specs.LineRules.{con, sizeLine, HoldsLine}
 use Rattle.replacing.specs.Runs.{HoldsAll}
 use Rattle.replacing.specs.Writes.{words-append}
-use Rattle.finishing.specs.Said.{isBound, saysSingle}
+use Rattle.rounds.specs.Lines.{sum-both}
+use Rattle.finishing.specs.Said.{isBound}
 use Rattle.finishing.specs.Told.{SetHeld, others, Copied}
 
 pub con-some : (c : Con ℕ) → 1 ≤ sizeCon c
@@ -36,45 +37,6 @@ con-some (isScalar p) = omega arith
 con-some (hasField x l r) = omega arith
 
 module _ (s : List ℕ) where
-  -- ══ Where one of them ends ══
-
-  -- where the type at a place is said to end
-  abbrev pub Ended : ℕ → ℕ → Type 0
-  Ended at e = (t : Ty ℕ) → Holds s t at → e ≡ at + size t
-
-  -- its first part is a type, or a product, which is held as a dimension is
-  pub con-first : (c : Con ℕ) (at : ℕ) → HoldsCon s c at → (t : Ty ℕ) × Holds s t (at + 1)
-  unfolding HoldsCon Holds
-  con-first (equal l r) at h = (l, h .1)
-  con-first (isDim t) at h = (t, h .1)
-  con-first (isScalar p) at h = (dim p, h .1)
-  con-first (hasField x l r) at h = (l, h .1)
-
-  never : {A : Type 0} {b : Bool} → b ≡ true → b ≡ false → A
-  never p q = absurd (true≢false (sym p ∙ q))
-
-  pub con-single : (c : Con ℕ) (at e : ℕ) → HoldsCon s c at → Ended (at + 1) e → saysSingle (viewAt s at) ≡ true → e ≡ at + sizeCon c
-  unfolding HoldsCon Holds sizeCon size
-  con-single (equal l r) at e h k i = never i (rw (h .0))
-  con-single (isDim t) at e h k i = omega (arith, k t (h .1))
-  con-single (isScalar p) at e h k i = omega (arith, k (dim p) (h .1))
-  con-single (hasField x l r) at e h k i = never i (rw (h .0))
-
-  -- a second type follows
-  pub con-second : (c : Con ℕ) (at e : ℕ) → HoldsCon s c at → Ended (at + 1) e → saysSingle (viewAt s at) ≡ false → (t : Ty ℕ) × Holds s t e
-  unfolding HoldsCon
-  con-second (equal l r) at e h k i = (r, subst (Holds s r) (sym (k l (h .1))) (h .2))
-  con-second (isDim t) at e h k i = never (rw (h .0)) i
-  con-second (isScalar p) at e h k i = never (rw (h .0)) i
-  con-second (hasField x l r) at e h k i = (r, subst (Holds s r) (sym (k l (h .1))) (h .2))
-
-  pub con-double : (c : Con ℕ) (at e f : ℕ) → HoldsCon s c at → Ended (at + 1) e → Ended e f → saysSingle (viewAt s at) ≡ false → f ≡ at + sizeCon c
-  unfolding HoldsCon sizeCon
-  con-double (equal l r) at e f h k j i = omega (arith, k l (h .1), j r (subst (Holds s r) (sym (k l (h .1))) (h .2)))
-  con-double (isDim t) at e f h k j i = never (rw (h .0)) i
-  con-double (isScalar p) at e f h k j i = never (rw (h .0)) i
-  con-double (hasField x l r) at e f h k j i = omega (arith, k l (h .1), j r (subst (Holds s r) (sym (k l (h .1))) (h .2)))
-
   -- ══ One of them is copied, or passed over ══
 
   con-words : (c : Con ℕ) (at : ℕ) → HoldsCon s c at → slice (at * 4) ((at + sizeCon c) * 4) s ≡ words (writeCon c)
@@ -118,10 +80,6 @@ pub cons-length : (cs : List (Con ℕ)) → length (collect writeCon cs) ≡ sum
 unfolding collect
 cons-length [] = refl
 cons-length (c ∷ cs) = length-append (writeCon c) (collect writeCon cs) ∙ ap₂ _+_ (size-con c) (cons-length cs)
-
-sum-append : (cs ds : List (Con ℕ)) → sumOf sizeCon (cs ++ ds) ≡ sumOf sizeCon cs + sumOf sizeCon ds
-sum-append [] ds = omega arith
-sum-append (c ∷ cs) ds = omega (arith, sum-append cs ds)
 
 pub others-few : (cs : List (Con ℕ)) → sumOf sizeCon (others cs) ≤ sumOf sizeCon cs
 unfolding keep
@@ -183,7 +141,7 @@ module _ (s : List ℕ) (n : ℕ) (d₀ : List ℕ) (cs : List (Con ℕ)) where
           record {
             left = xs;
             held = subst (λ (j : ℕ). SetHeld s xs j n) (sym q) b;
-            many = omega (arith, k .many, sum-append (others (c ∷ [])) (others xs), ap (sumOf sizeCon) o, l .many);
+            many = omega (arith, k .many, sum-both sizeCon (others (c ∷ [])) (others xs), ap (sumOf sizeCon) o, l .many);
             buffer =
                 rw (i, k .buffer) (sym (sets-append (words (collect writeCon (others (c ∷ [])))) (words (collect writeCon (others xs))) d (out * 4)))
                 ∙ ap (sets d (out * 4)) (sym (ap words z ∙ words-append (collect writeCon (others (c ∷ []))) (collect writeCon (others xs))))

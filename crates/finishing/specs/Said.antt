@@ -1,4 +1,4 @@
--- What the first two records of a constraint say of it: is it a bound, and has it one part. Assumes nothing.
+-- What the first two records of a constraint say of it: is it a bound. Assumes nothing.
 use mathlib.Core.Path.{_≡_}
 use mathlib.Core.Bool.{Bool, true, false, not, _&&_}
 use mathlib.Core.List.{List}
@@ -59,26 +59,6 @@ saysDim (view.Bound o) = false
 saysDim (view.Scheme n) = false
 saysDim view.Concrete = false
 saysDim view.Bad = false
-
--- a constraint of one type, or of one product
-abbrev pub saysSingle : View → Bool
-saysSingle (view.Opened o) = false
-saysSingle (view.Basic b) = false
-saysSingle (view.Dim n) = false
-saysSingle (view.Function n) = false
-saysSingle (view.Struct x n m) = false
-saysSingle view.List = false
-saysSingle (view.Field x) = false
-saysSingle (view.Factor a n d) = false
-saysSingle view.Equal = false
-saysSingle view.IsDim = true
-saysSingle view.IsScalar = true
-saysSingle (view.HasField x) = false
-saysSingle (view.Binding x) = false
-saysSingle (view.Bound o) = false
-saysSingle (view.Scheme n) = false
-saysSingle view.Concrete = false
-saysSingle view.Bad = false
 
 module _ (s : List ℕ) where
   dim-said : (t : tree.Ty ℕ) (at : ℕ) → Holds s t at → saysNamed (viewAt s at) ≡ isBound (isDim t)

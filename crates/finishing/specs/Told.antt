@@ -1,7 +1,7 @@
--- A state that is held, and what is answered and left where no rule applies to it. Assumes nothing: these are definitions.
+-- What is answered and left where no rule applies to a state. Assumes nothing: these are definitions.
 use mathlib.Core.Path.{_≡_}
 use mathlib.Core.List.{List, _++_, map}
-use Prim.Native.Nat.{ℕ, _+_, _*_, _≤_}
+use Prim.Native.Nat.{ℕ, _+_, _*_}
 use lib.ListN.{length}
 use lib.Seq.{sets}
 use Rattle.rules.specs.Base.{got, keep, collect, toList, isNone, sumOf}
@@ -13,8 +13,6 @@ use Rattle.rules.specs.Trees.{var, Con, sizeCon}
 use Rattle.rules.specs.Writing.{Rec, words, writeCon, writeBinding, writeBound}
 use Rattle.records.specs.Good.{numbers}
 use Rattle.records.specs.Holds.{HoldsCon}
-use Rattle.replacing.specs.Flat.{PlainLines}
-use Rattle.replacing.specs.LineRules.{con, binding}
 use Rattle.replacing.specs.Runs.{HoldsAll}
 use Rattle.finishing.specs.declared.Finish.{Finish}
 use Rattle.finishing.specs.declared.Finish.the-variants.{Solved as Bound, Unsolved}
@@ -23,12 +21,6 @@ use Rattle.finishing.specs.declared.Finish.the-variants.{Solved as Bound
 pub record SetHeld (s : List ℕ) (cs : List (Con ℕ)) (at end : ℕ) : Type 0 where
   pub held : HoldsAll HoldsCon sizeCon s cs at
   pub ends : end ≡ at + sumOf sizeCon cs
-
--- a state: its constraints in the records up to n, its bindings from there up to m
-pub record StateHeld (pool table s : List ℕ) (n m : ℕ) (st : State ℕ) : Type 0 where
-  pub cons : PlainLines pool table s (map con (st .cons)) 0 n
-  pub binds : PlainLines pool table s (map binding (st .binds)) n m
-  pub short : m ≤ 2048
 
 -- the constraints that are no bounds
 abbrev pub others : List (Con ℕ) → List (Con ℕ)

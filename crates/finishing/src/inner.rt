@@ -1,13 +1,13 @@
 // The work on a state that is held: the constraints that remain, or the bindings and bounds.
 use super::Finish;
 use queries::Kind;
-use queries::inner::end_of;
 use queries::inner::list_names;
 use records::Open;
 use records::View;
 use records::inner::copy;
 use records::inner::put_record;
 use records::seen::view_at;
+use rounds::inner::con_end;
 use rules::NAMES;
 ghost use mathlib.Core.Path.{_≡_};
 ghost use mathlib.Core.List.{List, [], _∷_, map};
@@ -19,8 +19,9 @@ ghost use Rattle.rules.specs.Trees.{Con, sizeCon};
 ghost use Rattle.rules.specs.Writing.{words};
 ghost use Rattle.laws.specs.NameTable.{Good};
 ghost use Rattle.records.specs.Holds.{HoldsCon};
-ghost use Rattle.finishing.specs.Said.{named, saysNamed, saysDim, saysSingle, isBound};
-ghost use Rattle.finishing.specs.Told.{SetHeld, StateHeld, others, boundRec, Copied, Accepted, Finished};
+ghost use Rattle.rounds.specs.States.{StateHeld};
+ghost use Rattle.finishing.specs.Said.{named, saysNamed, saysDim, isBound};
+ghost use Rattle.finishing.specs.Told.{SetHeld, others, boundRec, Copied, Accepted, Finished};
 
 fn is_named(o: Open) -> bool
     ensures { λ r. ⌜ r ≡ named o ⌝ }
@@ -64,30 +65,6 @@ fn is_bound(s: &[u32], at: usize) -> bool
     }
 }
 
-// Does a record begin a constraint of one type or product?
-fn says_single(v: View) -> bool
-    ensures { λ r. ⌜ r ≡ saysSingle v ⌝ }
-{
-    match v {
-        View::IsDim => true,
-        View::IsScalar => true,
-        _ => false,
-    }
-}
-
-// Where the constraint at a place ends.
-fn con_past(s: &[u32], at: usize) -> usize
-    requires { ⌜ ((c : Con ℕ) × HoldsCon (now s) c at) ⌝ }
-    ensures { λ r. ⌜ ((c : Con ℕ) → HoldsCon (now (s .entry)) c at → r ≡ at + sizeCon c) ⌝ }
-{
-    let e = end_of(s, at + 1);
-    if says_single(view_at(s, at)) {
-        e
-    } else {
-        end_of(s, e)
-    }
-}
-
 // Copies the constraint from a place up to e, if it is no bound: where the next one goes.
 fn copy_other(s: &[u32], at: usize, e: usize, dst: &mut [u32], out: usize) -> usize
     requires { ⌜ ((c : Con ℕ) × (HoldsCon (now s) c at × (e ≡ at + sizeCon c))) ⌝ }
@@ -111,7 +88,7 @@ fn copy_others(s: &[u32], n: usize, dst: &mut [u32]) -> usize
     let mut at = 0;
     let mut out = 0;
     while at < n {
-        let e = con_past(s, at);
+        let e = con_end(s, at);
         out = copy_other(s, at, e, dst, out);
         at = e;
     }

@@ -33,7 +33,7 @@ pub enum Turn {
 }
 
 // Where the constraint at a place ends.
-fn con_end(s: &[u32], at: usize) -> usize
+pub fn con_end(s: &[u32], at: usize) -> usize
     requires { ⌜ ((c : Con ℕ) × HoldsCon (now s) c at) ⌝ }
     ensures { λ r. ⌜ ((c : Con ℕ) → HoldsCon (now (s .entry)) c at → r ≡ at + sizeCon c) ⌝ }
 {

@@ -19,8 +19,8 @@ abbrev μ-loop : tie.MeasureT-loop
 loop-holds : tie.Need-loop-holds Inv-loop μ-loop
 loop-holds c = (refl, λ cs h. left-all _ _ _ cs h)
 
-con-past-requires : tie.Need-con-past-requires Inv-loop μ-loop
-con-past-requires c κs =
+con-end-requires : tie.Need-con-end-requires Inv-loop μ-loop
+con-end-requires c κs =
     let (cs, h) = c .before .before .before .before .pre .0 in
     let f = first _ _ _ cs _ _ _ (c .loop-test .taken) (c .before .loop .inv .1 cs h) in
     (f .con, f .held)
@@ -32,7 +32,7 @@ copy-other-requires c κs =
     let (cs, h) = l .before .before .before .before .pre .0 in
     let i = l .before .loop .inv .1 cs h in
     let f = first _ _ _ cs _ _ _ (l .loop-test .taken) i in
-    let e = p .con-past .ensures (f .con) (f .held) in
+    let e = p .con-end .ensures (f .con) (f .held) in
     ((f .con, (f .held, e)), (omega (arith, e, f .behind .ends), omega (arith, out-few _ _ _ cs _ _ _ h i)))
 
 loop-less : tie.Need-loop-less Inv-loop μ-loop
@@ -43,7 +43,7 @@ loop-less c =
     let (cs, h) = l .before .before .before .before .pre .0 in
     let i = l .before .loop .inv .1 cs h in
     let f = first _ _ _ cs _ _ _ (l .loop-test .taken) i in
-    let e = p .con-past .ensures (f .con) (f .held) in
+    let e = p .con-end .ensures (f .con) (f .held) in
     let k = left-next _ _ _ cs _ _ _ (l .loop-test .taken) i _ _ _ e (o .copy-other .ensures (f .con) (f .held) e) in
     omega (arith, k .1 .0, k .1 .1)
 
@@ -56,7 +56,7 @@ loop-again c =
       λ cs h.
           let i = l .before .loop .inv .1 cs h in
           let f = first _ _ _ cs _ _ _ (l .loop-test .taken) i in
-          let e = p .con-past .ensures (f .con) (f .held) in
+          let e = p .con-end .ensures (f .con) (f .held) in
           left-next _ _ _ cs _ _ _ (l .loop-test .taken) i _ _ _ e (o .copy-other .ensures (f .con) (f .held) e) .0,
     )
 
@@ -73,7 +73,7 @@ copy-others-spec =
     Inv-loop
     μ-loop
     loop-holds
-    con-past-requires
+    con-end-requires
     copy-other-requires
     loop-less
     loop-again
