@@ -16,7 +16,7 @@ use Rattle.rules.specs.declared.Refusal.{Refusal}
 use Rattle.rules.specs.Rounds as rules
 use Rattle.rules.specs.Rounds.{pairs, asProducts, variableLeft, functions, lists, structs, dimensions, byKind, orTry}
 use Rattle.rules.specs.Trees as tree
-use Rattle.rules.specs.Trees.{var, Names, Product, Ty, opened, basic, dim, fn, struct, list, Tys, Fields, Con, equal, isScalar, size, sizeCon, count}
+use Rattle.rules.specs.Trees.{var, Names, Product, Ty, opened, basic, dim, fn, struct, list, Tys, Fields, Con, equal, isScalar, size, sizeCon, count, sizeTys}
 use Rattle.rules.specs.Views.{productOf, fnOf, structOf, listOf, variable, asVar}
 use Rattle.rules.specs.WellFormed.{goodTy}
 use Rattle.rules.specs.Writing.{rec, words, twos, writeFactor, writeProduct, writeTy, writeCon}
@@ -41,7 +41,7 @@ use Rattle.replacing.proofs.Others.{Tagged}
 use Rattle.replacing.proofs.Pieces.{ready}
 use Rattle.queries.specs.declared.Name.{Name}
 use Rattle.queries.specs.declared.Name.the-variants.{Of, Nothing}
-use Rattle.satisfying.specs.Parts.{named, Fits, Put, Wrote, Tried, TriedLeft, PairRoom, FunctionHeld, asScalar}
+use Rattle.satisfying.specs.Parts.{named, Fits, Put, Wrote, Tried, TriedLeft, PairRoom, FunctionHeld, asScalar, FieldsHeld}
 use Rattle.satisfying.specs.Stepped.{Stepped}
 use Rattle.satisfying.specs.declared.Step.{Step}
 use Rattle.satisfying.specs.declared.Step.the-variants.{Split, Stuck, Refused}
@@ -63,22 +63,24 @@ pair-space {s} i j o f h = record { near = f .near; small = omega (arith, f .nea
 
 -- ══ Functions, lists, structs ══
 
-module _ (s : List ℕ) (right : ℕ) (out : ℕ) where
+module _ (s : List ℕ) where
   pub function-held : (t : Ty ℕ) (at : ℕ) → Holds s t at → {n : ℕ} → viewAt s at ≡ view.Function n → ((f : Tys ℕ × Ty ℕ) × (t ≡ fn (f .0) (f .1)) × FunctionHeld s (f .0) (f .1) (at + 1) n)
   function-held t at h {n} e = by-view s (λ t. ((f : Tys ℕ × Ty ℕ) × (t ≡ fn (f .0) (f .1)) × FunctionHeld s (f .0) (f .1) (at + 1) n)) t at h e (λ ps r c hp hr. ((ps, r), refl, record { parameters = hp; many = c; return = hr }))
 
   pub list-held : (t : Ty ℕ) (at : ℕ) → Holds s t at → viewAt s at ≡ view.List → ((u : Ty ℕ) × (t ≡ list u) × Holds s u (at + 1))
   list-held t at h e = by-view s (λ t. ((u : Ty ℕ) × (t ≡ list u) × Holds s u (at + 1))) t at h e (λ u hu. (u, refl, hu))
 
-  pub record StructHeld (t : Ty ℕ) (at x n : ℕ) : Type 0 where
+  pub record StructHeld (t : Ty ℕ) (at x n m : ℕ) : Type 0 where
     pub arguments : Tys ℕ
     pub fields : Fields ℕ
     pub is : t ≡ struct x arguments fields
     pub many : count arguments ≡ n
     pub held : HoldsTys s arguments (at + 1)
+    pub then : FieldsHeld s fields (at + 1 + sizeTys arguments) m
 
-  pub struct-held : (t : Ty ℕ) (at : ℕ) → Holds s t at → {x n m : ℕ} → viewAt s at ≡ view.Struct x n m → StructHeld t at x n
-  struct-held t at h {x} {n} e = by-view s (λ t. StructHeld t at x n) t at h e (λ as′ fs c k ha hf. record { arguments = as′; fields = fs; is = refl; many = c; held = ha })
+  pub struct-held : (t : Ty ℕ) (at : ℕ) → Holds s t at → {x n m : ℕ} → viewAt s at ≡ view.Struct x n m → StructHeld t at x n m
+  struct-held t at h {x} {n} {m} e =
+      by-view s (λ t. StructHeld t at x n m) t at h e (λ as′ fs c k ha hf. record { arguments = as′; fields = fs; is = refl; many = c; held = ha; then = record { held = hf; many = k } })
 
   pub product-held : (t : Ty ℕ) (at : ℕ) → Holds s t at → {n : ℕ} → viewAt s at ≡ view.Dim n → ((p : Product ℕ) × (t ≡ dim p) × (length p ≡ n) × HoldsFactors s p (at + 1))
   product-held t at h {n} e = by-view s (λ t. ((p : Product ℕ) × (t ≡ dim p) × (length p ≡ n) × HoldsFactors s p (at + 1))) t at h e (λ p l hp. (p, refl, l, hp))

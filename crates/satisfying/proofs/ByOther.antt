@@ -16,7 +16,7 @@ use Rattle.rules.specs.Refusals.{numberOf}
 use Rattle.rules.specs.declared.Refusal.{Refusal}
 use Rattle.rules.specs.Rounds as rules
 use Rattle.rules.specs.Rounds.{otherSide, fieldStep, trySatisfy}
-use Rattle.rules.specs.Trees.{var, quant, par, Atom, free, base, Factor, _↑_, Product, Ty, opened, struct, Tys, Fields, noFields, field, Con, equal, isDim, isScalar, size, sizeTys, sizeCon, sizeBinding, count, countFields, hasField}
+use Rattle.rules.specs.Trees.{var, quant, par, Atom, free, base, Factor, _↑_, Product, Ty, opened, struct, Tys, Fields, noFields, field, Con, equal, isDim, isScalar, size, sizeCon, sizeBinding, countFields, hasField}
 use Rattle.rules.specs.Views.{structOf}
 use Rattle.rules.specs.Writing.{rec, words, twos, signed, writeFactor, writeProduct, writeTy, writeCon, writeBinding}
 use Rattle.laws.specs.Lists.{each-parts, and-left, and-right, Every}
@@ -28,8 +28,8 @@ use Rattle.loading.specs.Loaded.{write-first}
 use Rattle.names.specs.declared.Checked.{Checked}
 use Rattle.names.specs.declared.Checked.the-variants.{Good, Refused as Because}
 use Rattle.records.specs.Views.{viewAt, recOf}
-use Rattle.records.specs.Holds.{openOf, atomOf, viewAtom, HoldsFactors, HoldsProduct, Holds, HoldsTys, HoldsFields, HoldsCon}
-use Rattle.records.specs.ByView.{by-view, con-by-view, factor-by-view}
+use Rattle.records.specs.Holds.{openOf, atomOf, viewAtom, HoldsFactors, HoldsProduct, Holds, HoldsFields, HoldsCon}
+use Rattle.records.specs.ByView.{con-by-view, factor-by-view}
 use Rattle.records.specs.Good.{numbers, holding}
 use Rattle.records.specs.Places.{seen-in}
 use Rattle.rules.specs.WellFormed.{goodTy, goodCon}
@@ -313,20 +313,6 @@ module _ (names : List Bytes) (x : ℕ) (t u : Ty ℕ) where
 
     pub field-missing : fieldIn (numbered names) x fs ≡ none → asked ≡ got rules.stuck
     field-missing q = field-is ∙ rw q
-
-module _ (s : List ℕ) where
-  pub record ArgsHeld (t : Ty ℕ) (at n m : ℕ) : Type 0 where
-    pub name : ℕ
-    pub arguments : Tys ℕ
-    pub fields : Fields ℕ
-    pub is : t ≡ struct name arguments fields
-    pub held : HoldsTys s arguments (at + 1)
-    pub many : count arguments ≡ n
-    pub then : FieldsHeld s fields (at + 1 + sizeTys arguments) m
-
-  pub args-held : (t : Ty ℕ) (at : ℕ) → Holds s t at → {x n m : ℕ} → viewAt s at ≡ view.Struct x n m → ArgsHeld t at n m
-  args-held t at h {x} {n} {m} e =
-      by-view s (λ t. ArgsHeld t at n m) t at h e (λ as′ fs c k ha hf. record { name = x; arguments = as′; fields = fs; is = refl; held = ha; many = c; then = record { held = hf; many = k } })
 
 pub moved : {s : List ℕ} {fs : Fields ℕ} {at k n : ℕ} → k ≡ at → FieldsHeld s fs at n → FieldsHeld s fs k n
 moved {s} {fs} {n = n} e h = subst (λ (k : ℕ). FieldsHeld s fs k n) (sym e) h

@@ -8,7 +8,6 @@ use borrow.Author.Needs.{needs}
 use Rattle.satisfying.proofs.inner.equal.Statement.{statement}
 use Rattle.satisfying.proofs.inner.equal.Tie as tie
 
--- src/inner.rt:43:9
 first-rules-requires : tie.Need-first-rules-requires
 first-rules-requires c κs =
     let h = c .before .before .before .before .before .pre .1 .0 in
@@ -18,11 +17,9 @@ first-rules-requires c κs =
 enum-told : tie.Need-enum-told
 enum-told c = search needs
 
--- src/inner.rt:45:9
 same-length : tie.Need-same-length
 same-length c = search needs
 
--- src/inner.rt:45:9
 returns : tie.Need-returns
 unfolding trySatisfy
 returns c =
@@ -30,15 +27,12 @@ returns c =
     let names = namesOf (tableOf (c .before .before .before .before .before .before .before .before .before .args .pool .now) (c .before .before .before .before .before .before .before .before .before .args .table .now)) in
     first-fits (byKind (numbered names) bounded t u) (c .before .before .before .first-rules .ensures t u names (h .held) (k .held)) (other-step (c .match .keys2))
 
--- src/inner.rt:47:5
 by-kind-requires : tie.Need-by-kind-requires
 by-kind-requires c κs = search needs
 
--- src/inner.rt:28:1
 same-length-2 : tie.Need-same-length-2
 same-length-2 c = search needs
 
--- src/inner.rt:28:1
 returns-2 : tie.Need-returns-2
 unfolding trySatisfy
 returns-2 c =

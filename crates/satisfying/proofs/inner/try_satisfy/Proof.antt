@@ -10,29 +10,24 @@ use borrow.Author.Needs.{needs}
 use Rattle.satisfying.proofs.inner.try_satisfy.Statement.{statement}
 use Rattle.satisfying.proofs.inner.try_satisfy.Tie as tie
 
--- src/inner.rt:64:11
 view-at-requires : tie.Need-view-at-requires
 view-at-requires c κs = search needs
 
--- src/inner.rt:65:46
 enum-told : tie.Need-enum-told
 enum-told c = search needs
 
--- src/inner.rt:65:46
 add-equal : tie.Need-add-equal
 add-equal c =
     let a = c .before .before .before .before .before .before .before .args in
     let h = c .before .before .before .before .before .before .before .pre .1 .0 in
     omega (arith, con-here (a .pool .now) (a .table .now) (a .s .now) (a .at) (h .0) (h .1))
 
--- src/inner.rt:65:64
 add-end-of : tie.Need-add-end-of
 add-end-of c =
     let a = c .before .before .before .before .before .before .before .args in
     let h = c .before .before .before .before .before .before .before .pre .1 .0 in
     omega (arith, con-here (a .pool .now) (a .table .now) (a .s .now) (a .at) (h .0) (h .1))
 
--- src/inner.rt:65:54
 end-of-requires : tie.Need-end-of-requires
 end-of-requires c κs =
     let a = c .before .before .before .before .before .before .before .args in
@@ -40,7 +35,6 @@ end-of-requires c κs =
     let g = equal-con (a .pool .now) (a .table .now) (a .s .now) (a .at) (h .0) (h .1) (sym (c .before .before .view-at .ensures) ∙ c .enum-told .given .1) in
     (g .l, g .left .held)
 
--- src/inner.rt:65:24
 equal-requires : tie.Need-equal-requires
 equal-requires c κs =
     let a = c .before .before .before .before .before .before .before .before .before .args in
@@ -48,18 +42,15 @@ equal-requires c κs =
     let g = equal-con (a .pool .now) (a .table .now) (a .s .now) (a .at) (h .0) (h .1) (sym (c .before .before .before .before .view-at .ensures) ∙ c .before .before .enum-told .given .1) in
     (c .before .before .before .before .before .before .before .before .before .pre .0, ((g .l, g .left), ((g .r, subst (HeldType (a .pool .now) (a .table .now) (a .s .now) (g .r)) (sym (c .before .end-of .ensures (g .l) (g .left .held))) (g .right)), con-fits (a .pool .now) (a .table .now) (a .s .now) (a .at) (h .0) (h .1) (c .before .before .before .before .before .before .before .before .before .pre .1 .1))))
 
--- src/inner.rt:66:40
 enum-told-2 : tie.Need-enum-told-2
 enum-told-2 c = search needs
 
--- src/inner.rt:66:40
 add-is-dimension : tie.Need-add-is-dimension
 add-is-dimension c =
     let a = c .before .before .before .before .before .before .before .args in
     let h = c .before .before .before .before .before .before .before .pre .1 .0 in
     omega (arith, con-here (a .pool .now) (a .table .now) (a .s .now) (a .at) (h .0) (h .1))
 
--- src/inner.rt:66:24
 is-dimension-requires : tie.Need-is-dimension-requires
 is-dimension-requires c κs =
     let a = c .before .before .before .before .before .before .before .before .args in
@@ -67,18 +58,15 @@ is-dimension-requires c κs =
     let g = is-dim-con (a .pool .now) (a .table .now) (a .s .now) (a .at) (h .0) (h .1) (sym (c .before .before .before .view-at .ensures) ∙ c .before .enum-told2 .given .1) in
     ((g .0, g .2), con-fits (a .pool .now) (a .table .now) (a .s .now) (a .at) (h .0) (h .1) (c .before .before .before .before .before .before .before .before .pre .1 .1))
 
--- src/inner.rt:67:43
 enum-told-3 : tie.Need-enum-told-3
 enum-told-3 c = search needs
 
--- src/inner.rt:67:43
 add-equal-scalar : tie.Need-add-equal-scalar
 add-equal-scalar c =
     let a = c .before .before .before .before .before .before .before .args in
     let h = c .before .before .before .before .before .before .before .pre .1 .0 in
     omega (arith, con-here (a .pool .now) (a .table .now) (a .s .now) (a .at) (h .0) (h .1))
 
--- src/inner.rt:67:27
 equal-scalar-requires : tie.Need-equal-scalar-requires
 equal-scalar-requires c κs =
     let a = c .before .before .before .before .before .before .before .before .args in
@@ -86,18 +74,15 @@ equal-scalar-requires c κs =
     let g = is-scalar-con (a .pool .now) (a .table .now) (a .s .now) (a .at) (h .0) (h .1) (sym (c .before .before .before .view-at .ensures) ∙ c .before .enum-told3 .given .1) in
     ((g .0, g .2), con-fits (a .pool .now) (a .table .now) (a .s .now) (a .at) (h .0) (h .1) (c .before .before .before .before .before .before .before .before .pre .1 .1))
 
--- src/inner.rt:68:24
 enum-known-x : tie.Need-enum-known-x
 enum-known-x c = search needs
 
--- src/inner.rt:68:43
 add-has-field : tie.Need-add-has-field
 add-has-field c =
     let a = c .before .before .before .before .before .before .before .before .args in
     let h = c .before .before .before .before .before .before .before .before .pre .1 .0 in
     omega (arith, con-here (a .pool .now) (a .table .now) (a .s .now) (a .at) (h .0) (h .1))
 
--- src/inner.rt:68:30
 has-field-requires : tie.Need-has-field-requires
 has-field-requires c κs =
     let a = c .before .before .before .before .before .before .before .before .before .args in
@@ -105,11 +90,9 @@ has-field-requires c κs =
     let g = has-field-con (a .pool .now) (a .table .now) (a .s .now) (a .at) (h .0) (h .1) (sym (c .before .before .before .before .view-at .ensures) ∙ c .before .before .x .given .1) in
     ((g .0, g .2, g .3), con-fits (a .pool .now) (a .table .now) (a .s .now) (a .at) (h .0) (h .1) (c .before .before .before .before .before .before .before .before .before .pre .1 .1))
 
--- src/inner.rt:51:1
 same-length : tie.Need-same-length
 same-length c = search needs
 
--- src/inner.rt:51:1
 returns : tie.Need-returns
 returns c =
     λ con h.
@@ -117,11 +100,9 @@ returns c =
     let g = equal-con (a .pool .now) (a .table .now) (a .s .now) (a .at) con h (sym (c .before .before .before .before .before .before .before .view-at .ensures) ∙ c .before .before .before .before .before .enum-told .given .1) in
     stepped-as (namesOf (tableOf (a .pool .now) (a .table .now))) _ (g .is) (c .before .before .equal .ensures (g .l) (g .r) (g .left) (subst (HeldType (a .pool .now) (a .table .now) (a .s .now) (g .r)) (sym (c .before .before .before .before .end-of .ensures (g .l) (g .left .held))) (g .right)))
 
--- src/inner.rt:51:1
 same-length-2 : tie.Need-same-length-2
 same-length-2 c = search needs
 
--- src/inner.rt:51:1
 returns-2 : tie.Need-returns-2
 unfolding trySatisfy
 returns-2 c =
@@ -130,11 +111,9 @@ returns-2 c =
     let g = is-dim-con (a .pool .now) (a .table .now) (a .s .now) (a .at) con h (sym (c .before .before .before .before .before .before .view-at .ensures) ∙ c .before .before .before .before .enum-told2 .given .1) in
     stepped-as (namesOf (tableOf (a .pool .now) (a .table .now))) _ (g .1) (c .before .before .is-dimension .ensures (g .0) (g .2))
 
--- src/inner.rt:51:1
 same-length-3 : tie.Need-same-length-3
 same-length-3 c = search needs
 
--- src/inner.rt:51:1
 returns-3 : tie.Need-returns-3
 returns-3 c =
     λ con h.
@@ -142,11 +121,9 @@ returns-3 c =
     let g = is-scalar-con (a .pool .now) (a .table .now) (a .s .now) (a .at) con h (sym (c .before .before .before .before .before .before .view-at .ensures) ∙ c .before .before .before .before .enum-told3 .given .1) in
     stepped-as (namesOf (tableOf (a .pool .now) (a .table .now))) _ (g .1) (c .before .before .equal-scalar .ensures (g .0) (namesOf (tableOf (a .pool .now) (a .table .now))) (g .2))
 
--- src/inner.rt:51:1
 same-length-4 : tie.Need-same-length-4
 same-length-4 c = search needs
 
--- src/inner.rt:51:1
 returns-4 : tie.Need-returns-4
 unfolding trySatisfy
 returns-4 c =
@@ -155,7 +132,6 @@ returns-4 c =
     let g = has-field-con (a .pool .now) (a .table .now) (a .s .now) (a .at) con h (sym (c .before .before .before .before .before .before .before .view-at .ensures) ∙ c .before .before .before .before .before .x .given .1) in
     stepped-as (namesOf (tableOf (a .pool .now) (a .table .now))) _ (g .1) (c .before .before .has-field .ensures (g .0 .0) (g .0 .1) (namesOf (tableOf (a .pool .now) (a .table .now))) (g .2) (g .3))
 
--- src/inner.rt:51:1
 returns-5 : tie.Need-returns-5
 returns-5 c = λ con h. absurd (no-con (c .before .before .before .before .before .before .args .pool .now) (c .before .before .before .before .before .before .args .table .now) (c .before .before .before .before .before .before .args .s .now) (c .before .before .before .before .before .before .args .at) con h (c .before .view-at .ensures) (c .match .keys5))
 

@@ -10,23 +10,18 @@ use borrow.Author.Needs.{needs}
 use Rattle.satisfying.proofs.inner.binding.as_var.Statement.{statement}
 use Rattle.satisfying.proofs.inner.binding.as_var.Tie as tie
 
--- src/inner/binding.rt:40:11
 view-at-requires : tie.Need-view-at-requires
 view-at-requires c κs = search needs
 
--- src/inner/binding.rt:41:22
 enum-known-o : tie.Need-enum-known-o
 enum-known-o c = search needs
 
--- src/inner/binding.rt:41:28
 variable-requires : tie.Need-variable-requires
 variable-requires c κs = search needs
 
--- src/inner/binding.rt:37:1
 returns : tie.Need-returns
 returns c = λ t h. by-view (c .before .before .before .before .before .before .args .s .now) (λ (t : Ty ℕ). named (c .variable .result) ≡ asVar t) t (c .before .before .before .before .before .before .args .at) h (sym (c .before .before .before .before .view-at .ensures) ∙ c .before .before .o .given .1) (c .variable .ensures)
 
--- src/inner/binding.rt:37:1
 returns-2 : tie.Need-returns-2
 returns-2 c = λ t h. no-variable (c .before .before .before .args .s .now) t (c .before .before .before .args .at) h (c .before .view-at .ensures) (c .match .keys2)
 

@@ -7,30 +7,24 @@ use borrow.Author.Needs.{needs}
 use Rattle.satisfying.proofs.inner.binding.bind_either.Statement.{statement}
 use Rattle.satisfying.proofs.inner.binding.bind_either.Tie as tie
 
--- src/inner/binding.rt:109:9
 bind-to-requires : tie.Need-bind-to-requires
 bind-to-requires c κs = search needs
 
 enum-told : tie.Need-enum-told
 enum-told c = search needs
 
--- src/inner/binding.rt:111:9
 same-length : tie.Need-same-length
 same-length c = search needs
 
--- src/inner/binding.rt:111:9
 returns : tie.Need-returns
 returns c = λ t u names h k. tried-first (bindTo (numbered names) (named (c .before .before .before .before .before .before .before .args .y)) t) (c .before .before .before .bind-to .ensures u names k) (other-step (c .match .keys2))
 
--- src/inner/binding.rt:113:5
 bind-to-requires-2 : tie.Need-bind-to-requires-2
 bind-to-requires-2 c κs = search needs
 
--- src/inner/binding.rt:95:1
 same-length-2 : tie.Need-same-length-2
 same-length-2 c = search needs
 
--- src/inner/binding.rt:95:1
 returns-2 : tie.Need-returns-2
 returns-2 c = λ t u names h k. tried-next (c .before .before .before .before .before .before .before .before .bind-to .ensures u names k) (c .before .before .before .before .enum-told .given .1) (c .before .before .bind-to2 .ensures t names h)
 

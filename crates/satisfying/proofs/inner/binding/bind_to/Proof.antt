@@ -6,43 +6,33 @@ use borrow.Author.Needs.{needs}
 use Rattle.satisfying.proofs.inner.binding.bind_to.Statement.{statement}
 use Rattle.satisfying.proofs.inner.binding.bind_to.Tie as tie
 
--- src/inner/binding.rt:84:18
 enum-known-x : tie.Need-enum-known-x
 enum-known-x c = search needs
 
--- src/inner/binding.rt:85:9
 enum-told : tie.Need-enum-told
 enum-told c = search needs
 
--- src/inner/binding.rt:85:9
 returns : tie.Need-returns
 returns c = λ t names h. bind-nothing names (c .before .before .before .before .args .x) t (c .enum-told .given .1)
 
--- src/inner/binding.rt:87:8
 contains-at-requires : tie.Need-contains-at-requires
 contains-at-requires c κs = search needs
 
--- src/inner/binding.rt:88:9
 returns-2 : tie.Need-returns-2
 returns-2 c = λ t names h. bind-contained names (c .before .before .before .before .before .before .before .args .x) t (c .before .before .before .x .given .1) (sym (c .before .contains-at .ensures t names h) ∙ c .if1 .taken)
 
--- src/inner/binding.rt:90:5
 put-record-requires : tie.Need-put-record-requires
 put-record-requires c κs = search needs
 
--- src/inner/binding.rt:91:37
 add-put-type : tie.Need-add-put-type
 add-put-type c = search needs
 
--- src/inner/binding.rt:91:16
 put-type-requires : tie.Need-put-type-requires
 put-type-requires c κs = (c .before .before .before .before .before .before .before .before .before .before .before .before .pre .0, (c .before .before .before .before .before .before .before .before .before .before .before .before .pre .1 .near, omega (arith, c .before .before .before .before .before .before .before .before .before .before .before .before .pre .1 .small)))
 
--- src/inner/binding.rt:79:1
 same-length : tie.Need-same-length
 same-length c = search needs
 
--- src/inner/binding.rt:79:1
 returns-3 : tie.Need-returns-3
 returns-3 c = λ t names h. bind-put names (c .before .before .before .before .before .before .before .before .before .before .before .before .before .before .before .args .x) t (c .before .before .before .before .before .before .before .before .before .before .before .x .given .1) (sym (c .before .before .before .before .before .before .before .before .before .contains-at .ensures t names h) ∙ c .before .before .before .before .before .before .before .before .if1 .left) (c .before .before .before .before .before .before .put-record .ensures) (c .before .before .put-type .ensures t h)
 

@@ -8,35 +8,27 @@ use borrow.Author.Needs.{needs}
 use Rattle.satisfying.proofs.inner.binding.power_one.Statement.{statement}
 use Rattle.satisfying.proofs.inner.binding.power_one.Tie as tie
 
--- src/inner/binding.rt:51:20
 enum-known-a : tie.Need-enum-known-a
 enum-known-a c = search needs
 
--- src/inner/binding.rt:52:16
 from-words-requires : tie.Need-from-words-requires
 from-words-requires c κs = search needs
 
--- src/inner/binding.rt:52:16
 is-one-requires : tie.Need-is-one-requires
 is-one-requires c κs = search needs
 
--- src/inner/binding.rt:53:17
 variable-requires : tie.Need-variable-requires
 variable-requires c κs = search needs
 
--- src/inner/binding.rt:58:26
 enum-told : tie.Need-enum-told
 enum-told c = search needs
 
--- src/inner/binding.rt:47:1
 returns : tie.Need-returns
 returns c = power-one (c .before .before .before .before .before .a .given .1) (frac (signed (c .before .before .before .before .before .before .before .args .num)) (c .before .before .before .before .before .before .before .args .den)) (c .variable .result) (ap (λ (e : Exp). isYes (Exp-dec e one)) (sym (c .before .before .before .from-words .ensures)) ∙ sym (c .before .before .is-one .ensures) ∙ c .before .if1 .taken) (c .variable .ensures)
 
--- src/inner/binding.rt:47:1
 returns-2 : tie.Need-returns-2
 returns-2 c = power-other (c .before .before .before .before .a .given .1) (frac (signed (c .before .before .before .before .before .before .args .num)) (c .before .before .before .before .before .before .args .den)) (ap (λ (e : Exp). isYes (Exp-dec e one)) (sym (c .before .before .from-words .ensures)) ∙ sym (c .before .is-one .ensures) ∙ c .if1 .left)
 
--- src/inner/binding.rt:47:1
 returns-3 : tie.Need-returns-3
 returns-3 c = power-base (c .enum-told .given .1) (frac (signed (c .before .before .args .num)) (c .before .before .args .den))
 

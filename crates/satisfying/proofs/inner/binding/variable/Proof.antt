@@ -7,27 +7,21 @@ use borrow.Author.Needs.{needs}
 use Rattle.satisfying.proofs.inner.binding.variable.Statement.{statement}
 use Rattle.satisfying.proofs.inner.binding.variable.Tie as tie
 
--- src/inner/binding.rt:30:19
 enum-known-o : tie.Need-enum-known-o
 enum-known-o c = search needs
 
--- src/inner/binding.rt:31:27
 enum-told : tie.Need-enum-told
 enum-told c = search needs
 
--- src/inner/binding.rt:32:25
 enum-told-2 : tie.Need-enum-told-2
 enum-told-2 c = search needs
 
--- src/inner/binding.rt:26:1
 returns : tie.Need-returns
 returns c = ap (λ (o : Open). variable (openOf o)) (sym (c .before .o .given .1))
 
--- src/inner/binding.rt:26:1
 returns-2 : tie.Need-returns-2
 returns-2 c = search needs
 
--- src/inner/binding.rt:26:1
 returns-3 : tie.Need-returns-3
 returns-3 c = search needs
 

@@ -5,53 +5,41 @@ use borrow.Author.Needs.{needs}
 use Rattle.satisfying.proofs.inner.kinds.as_products.Statement.{statement}
 use Rattle.satisfying.proofs.inner.kinds.as_products.Tie as tie
 
--- src/inner/kinds.rt:123:18
 enum-known-x : tie.Need-enum-known-x
 enum-known-x c = search needs
 
--- src/inner/kinds.rt:124:9
 enum-told : tie.Need-enum-told
 enum-told c = search needs
 
--- src/inner/kinds.rt:124:9
 returns : tie.Need-returns
 returns c = λ p h. products-none (c .before .before .before .before .args .x) p (c .enum-told .given .1)
 
--- src/inner/kinds.rt:126:5
 put-record-requires : tie.Need-put-record-requires
 put-record-requires c κs = search needs
 
--- src/inner/kinds.rt:127:21
 add-put-record : tie.Need-add-put-record
 add-put-record c = search needs
 
--- src/inner/kinds.rt:127:5
 put-record-requires-2 : tie.Need-put-record-requires-2
 put-record-requires-2 c κs = search needs
 
--- src/inner/kinds.rt:128:21
 add-put-record-2 : tie.Need-add-put-record-2
 add-put-record-2 c = search needs
 
--- src/inner/kinds.rt:128:5
 put-record-requires-3 : tie.Need-put-record-requires-3
 put-record-requires-3 c κs = search needs
 
--- src/inner/kinds.rt:129:38
 add-put-type : tie.Need-add-put-type
 add-put-type c = search needs
 
--- src/inner/kinds.rt:129:17
 put-type-requires : tie.Need-put-type-requires
 put-type-requires c κs =
     let h = c .before .before .before .before .before .before .before .before .before .before .before .before .before .before .before .before .before .before .pre .0 in
     ((_, h .1), (c .before .before .before .before .before .before .before .before .before .before .before .before .before .before .before .before .before .before .pre .1 .near, omega (arith, c .before .before .before .before .before .before .before .before .before .before .before .before .before .before .before .before .before .before .pre .1 .small)))
 
--- src/inner/kinds.rt:118:1
 same-length : tie.Need-same-length
 same-length c = search needs
 
--- src/inner/kinds.rt:118:1
 returns-2 : tie.Need-returns-2
 returns-2 c = λ p h. products-put (c .before .before .before .before .before .before .before .before .before .before .before .before .before .before .before .before .before .before .before .before .before .args .x) p (c .before .before .before .before .before .before .before .before .before .before .before .before .before .before .before .before .before .x .given .1) (c .before .before .before .before .before .before .before .before .before .before .before .before .before .before .put-record .ensures) (c .before .before .before .before .before .before .before .before .before .before .put-record2 .ensures) (c .before .before .before .before .before .before .put-record3 .ensures) (c .before .before .put-type .ensures _ h)
 

@@ -6,103 +6,81 @@ use borrow.Author.Needs.{needs}
 use Rattle.satisfying.proofs.inner.kinds.by_kind.Statement.{statement}
 use Rattle.satisfying.proofs.inner.kinds.by_kind.Tie as tie
 
--- src/inner/kinds.rt:228:11
 view-at-requires : tie.Need-view-at-requires
 view-at-requires c κs = search needs
 
--- src/inner/kinds.rt:229:58
 enum-told : tie.Need-enum-told
 enum-told c = search needs
 
--- src/inner/kinds.rt:229:28
 variable-left-requires : tie.Need-variable-left-requires
 variable-left-requires c κs =
     let h = c .before .before .before .before .before .before .before .before .pre .1 .0 in
     let k = c .before .before .before .before .before .before .before .before .pre .1 .1 .0 in
     ((_, sym (c .before .before .before .view-at .ensures) ∙ c .before .enum-told .given .1), ((h .0, h .1 .held), ((k .0, k .1 .held), c .before .before .before .before .before .before .before .before .pre .1 .1 .1)))
 
--- src/inner/kinds.rt:230:19
 enum-known-n : tie.Need-enum-known-n
 enum-known-n c = search needs
 
--- src/inner/kinds.rt:230:25
 dimensions-requires : tie.Need-dimensions-requires
 dimensions-requires c κs = (c .before .before .before .before .before .before .before .before .before .pre .0, (sym (c .before .before .before .before .view-at .ensures) ∙ c .before .before .n .given .1, c .before .before .before .before .before .before .before .before .before .pre .1))
 
--- src/inner/kinds.rt:231:24
 enum-known-n-2 : tie.Need-enum-known-n-2
 enum-known-n-2 c = search needs
 
--- src/inner/kinds.rt:231:30
 functions-requires : tie.Need-functions-requires
 functions-requires c κs =
     let h = c .before .before .before .before .before .before .before .before .before .pre .1 .0 in
     let k = c .before .before .before .before .before .before .before .before .before .pre .1 .1 .0 in
     (sym (c .before .before .before .before .view-at .ensures) ∙ c .before .before .n2 .given .1, ((h .0, h .1 .held), ((k .0, k .1 .held), c .before .before .before .before .before .before .before .before .before .pre .1 .1 .1)))
 
--- src/inner/kinds.rt:232:22
 enum-known-x : tie.Need-enum-known-x
 enum-known-x c = search needs
 
--- src/inner/kinds.rt:232:34
 structs-requires : tie.Need-structs-requires
 structs-requires c κs =
     let h = c .before .before .before .before .before .before .before .before .before .pre .1 .0 in
     let k = c .before .before .before .before .before .before .before .before .before .pre .1 .1 .0 in
     ((_, sym (c .before .before .before .before .view-at .ensures) ∙ c .before .before .x .given .1), ((h .0, h .1 .held), ((k .0, k .1 .held), c .before .before .before .before .before .before .before .before .before .pre .1 .1 .1)))
 
--- src/inner/kinds.rt:233:45
 enum-told-2 : tie.Need-enum-told-2
 enum-told-2 c = search needs
 
--- src/inner/kinds.rt:233:23
 lists-requires : tie.Need-lists-requires
 lists-requires c κs =
     let h = c .before .before .before .before .before .before .before .before .pre .1 .0 in
     let k = c .before .before .before .before .before .before .before .before .pre .1 .1 .0 in
     (sym (c .before .before .before .view-at .ensures) ∙ c .before .enum-told2 .given .1, ((h .0, h .1 .held), ((k .0, k .1 .held), c .before .before .before .before .before .before .before .before .pre .1 .1 .1)))
 
--- src/inner/kinds.rt:213:1
 same-length : tie.Need-same-length
 same-length c = search needs
 
--- src/inner/kinds.rt:213:1
 returns : tie.Need-returns
 returns c = λ t u h k. c .before .before .variable-left .ensures t u (namesOf (tableOf (c .before .before .before .before .before .before .before .before .before .before .before .args .pool .now) (c .before .before .before .before .before .before .before .before .before .before .before .args .table .now))) (h .held) (k .held)
 
--- src/inner/kinds.rt:213:1
 same-length-2 : tie.Need-same-length-2
 same-length-2 c = search needs
 
--- src/inner/kinds.rt:213:1
 returns-2 : tie.Need-returns-2
 returns-2 c = λ t u h k. c .before .before .dimensions .ensures t u h k
 
--- src/inner/kinds.rt:213:1
 same-length-3 : tie.Need-same-length-3
 same-length-3 c = search needs
 
--- src/inner/kinds.rt:213:1
 returns-3 : tie.Need-returns-3
 returns-3 c = λ t u h k. c .before .before .functions .ensures t u (namesOf (tableOf (c .before .before .before .before .before .before .before .before .before .before .before .before .args .pool .now) (c .before .before .before .before .before .before .before .before .before .before .before .before .args .table .now))) (h .held) (k .held)
 
--- src/inner/kinds.rt:213:1
 same-length-4 : tie.Need-same-length-4
 same-length-4 c = search needs
 
--- src/inner/kinds.rt:213:1
 returns-4 : tie.Need-returns-4
 returns-4 c = λ t u h k. c .before .before .structs .ensures t u (namesOf (tableOf (c .before .before .before .before .before .before .before .before .before .before .before .before .args .pool .now) (c .before .before .before .before .before .before .before .before .before .before .before .before .args .table .now))) (h .held) (k .held)
 
--- src/inner/kinds.rt:213:1
 same-length-5 : tie.Need-same-length-5
 same-length-5 c = search needs
 
--- src/inner/kinds.rt:213:1
 returns-5 : tie.Need-returns-5
 returns-5 c = λ t u h k. c .before .before .lists .ensures t u (namesOf (tableOf (c .before .before .before .before .before .before .before .before .before .before .before .args .pool .now) (c .before .before .before .before .before .before .before .before .before .before .before .args .table .now))) (h .held) (k .held)
 
--- src/inner/kinds.rt:213:1
 returns-6 : tie.Need-returns-6
 returns-6 c = λ t u h k. step-stuck (no-kind (numbered (namesOf (tableOf (c .before .before .before .before .before .before .args .pool .now) (c .before .before .before .before .before .before .args .table .now)))) (c .before .before .before .before .before .before .args .s .now) t u (c .before .before .before .before .before .before .args .left) (h .held) (c .before .view-at .ensures) (c .match .keys6))
 

@@ -13,27 +13,22 @@ use borrow.Author.Needs.{needs}
 use Rattle.satisfying.proofs.inner.kinds.dimensions.Statement.{statement}
 use Rattle.satisfying.proofs.inner.kinds.dimensions.Tie as tie
 
--- src/inner/kinds.rt:206:11
 view-at-requires : tie.Need-view-at-requires
 view-at-requires c κs = search needs
 
--- src/inner/kinds.rt:207:19
 enum-known-m : tie.Need-enum-known-m
 enum-known-m c = search needs
 
--- src/inner/kinds.rt:207:50
 add-quotient : tie.Need-add-quotient
 add-quotient c =
     let k = c .before .before .before .before .before .before .before .before .pre .1 .1 .0 in
     omega (arith, in-reach (c .before .before .before .before .before .before .before .before .args .s .now) (k .0) (c .before .before .before .before .before .before .before .before .args .left) (k .1 .held))
 
--- src/inner/kinds.rt:207:63
 add-quotient-2 : tie.Need-add-quotient-2
 add-quotient-2 c =
     let k = c .before .before .before .before .before .before .before .before .pre .1 .1 .1 .0 in
     omega (arith, in-reach (c .before .before .before .before .before .before .before .before .args .s .now) (k .0) (c .before .before .before .before .before .before .before .before .args .right) (k .1 .held))
 
--- src/inner/kinds.rt:207:25
 quotient-requires : tie.Need-quotient-requires
 quotient-requires c κs =
     let a = c .before .before .before .before .before .before .before .before .before .args in
@@ -46,11 +41,9 @@ quotient-requires c κs =
     let j = in-reach (a .s .now) (k .0) (a .right) (k .1 .held) in
     (c .before .before .before .before .before .before .before .before .before .pre .0, ((l .0, l .2), ((r .0, r .2), (omega (arith, i, f .near), omega (arith, j, f .near), f .small))))
 
--- src/inner/kinds.rt:208:26
 as-var-requires : tie.Need-as-var-requires
 as-var-requires c κs = search needs
 
--- src/inner/kinds.rt:208:14
 as-products-requires : tie.Need-as-products-requires
 as-products-requires c κs =
     let a = c .before .before .before .before .before .before .before .before .args in
@@ -58,11 +51,9 @@ as-products-requires c κs =
     let l = dim-held (a .pool .now) (a .table .now) (a .s .now) (h .0) (a .left) (h .1) (c .before .before .before .before .before .before .before .before .pre .1 .0) in
     ((l .0, subst (λ (t : Ty ℕ). Holds (a .s .now) t (a .left)) (l .1) (h .1 .held)), c .before .before .before .before .before .before .before .before .pre .1 .1 .1 .1)
 
--- src/inner/kinds.rt:189:1
 same-length : tie.Need-same-length
 same-length c = search needs
 
--- src/inner/kinds.rt:189:1
 returns : tie.Need-returns
 returns c =
     λ t u h k.
@@ -71,11 +62,9 @@ returns c =
     let r = dim-held (a .pool .now) (a .table .now) (a .s .now) u (a .right) k (sym (c .before .before .before .before .before .before .before .view-at .ensures) ∙ c .before .before .before .before .before .m .given .1) in
     subst (Stepped _ _ (a .out) _) (sym (dim-dim (numbered (namesOf (tableOf (a .pool .now) (a .table .now)))) (l .1) (r .1))) (c .before .before .quotient .ensures (l .0) (r .0) (l .2) (r .2))
 
--- src/inner/kinds.rt:189:1
 same-length-2 : tie.Need-same-length-2
 same-length-2 c = search needs
 
--- src/inner/kinds.rt:189:1
 returns-2 : tie.Need-returns-2
 returns-2 c =
     λ t u h k.

@@ -11,26 +11,22 @@ use borrow.Author.Needs.{needs}
 use Rattle.satisfying.proofs.inner.kinds.put_function.Statement.{statement}
 use Rattle.satisfying.proofs.inner.kinds.put_function.Tie as tie
 
--- src/inner/kinds.rt:51:26
 past-requires : tie.Need-past-requires
 past-requires c κs =
     let f = c .before .before .pre .0 in
     (f .0 .0, f .1 .parameters, f .1 .many)
 
--- src/inner/kinds.rt:51:44
 past-requires-2 : tie.Need-past-requires-2
 past-requires-2 c κs =
     let f = c .before .before .before .pre .1 .0 in
     (f .0 .0, f .1 .parameters, f .1 .many)
 
--- src/inner/kinds.rt:51:9
 put-equal-requires : tie.Need-put-equal-requires
 put-equal-requires c κs =
     let f = c .before .before .before .before .before .pre .0 in
     let g = c .before .before .before .before .before .pre .1 .0 in
     ((f .0 .1, subst (Holds (c .before .before .before .before .before .args .s .now) (f .0 .1)) (sym (c .before .before .past .ensures (f .0 .0) (f .1 .parameters) (f .1 .many))) (f .1 .return)), ((g .0 .1, subst (Holds (c .before .before .before .before .before .args .s .now) (g .0 .1)) (sym (c .before .past2 .ensures (g .0 .0) (g .1 .parameters) (g .1 .many))) (g .1 .return)), (c .before .before .before .before .before .pre .1 .1 .near, omega (arith, c .before .before .before .before .before .pre .1 .1 .small))))
 
--- src/inner/kinds.rt:52:5
 put-pairs-requires : tie.Need-put-pairs-requires
 unfolding sizeCon
 put-pairs-requires c κs =
@@ -40,13 +36,11 @@ put-pairs-requires c κs =
     let k = subst (Holds (c .before .before .before .before .before .before .before .before .before .args .s .now) (g .0 .1)) (sym (c .before .before .before .before .before .past2 .ensures (g .0 .0) (g .1 .parameters) (g .1 .many))) (g .1 .return) in
     let i = ends-in (c .before .before .before .before .before .before .before .before .before .args .s .now) (f .0 .1) _ h in
     let j = ends-in (c .before .before .before .before .before .before .before .before .before .args .s .now) (g .0 .1) _ k in
-    ((f .0 .0, f .1 .parameters, f .1 .many), ((g .0 .0, g .1 .parameters, g .1 .many), pair-space (c .before .before .before .before .before .before .before .before .before .args .left) (c .before .before .before .before .before .before .before .before .before .args .right) (c .before .before .before .put-equal .result) (c .before .before .before .before .before .before .before .before .before .pre .1 .1) (omega (arith, i, j, c .before .before .before .before .before .before .before .before .before .pre .1 .1 .near, c .before .before .before .put-equal .ensures (f .0 .1) (g .0 .1) h k .past))))
+    ((f .0 .0, f .1 .parameters, f .1 .many), ((g .0 .0, g .1 .parameters, g .1 .many), pair-space (c .before .before .before .before .before .before .before .before .before .args .left) (c .before .before .before .before .before .before .before .before .before .args .right) _ (c .before .before .before .before .before .before .before .before .before .pre .1 .1) (omega (arith, i, j, c .before .before .before .before .before .before .before .before .before .pre .1 .1 .near, c .before .before .before .put-equal .ensures (f .0 .1) (g .0 .1) h k .past))))
 
--- src/inner/kinds.rt:38:1
 same-length : tie.Need-same-length
 same-length c = search needs
 
--- src/inner/kinds.rt:38:1
 returns : tie.Need-returns
 returns c =
     λ ps qs t u h k.

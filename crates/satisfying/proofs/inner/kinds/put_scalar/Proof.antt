@@ -6,47 +6,37 @@ use borrow.Author.Needs.{needs}
 use Rattle.satisfying.proofs.inner.kinds.put_scalar.Statement.{statement}
 use Rattle.satisfying.proofs.inner.kinds.put_scalar.Tie as tie
 
--- src/inner/kinds.rt:154:26
 enum-known-checked : tie.Need-enum-known-checked
 enum-known-checked c = search needs
 
--- src/inner/kinds.rt:156:17
 enum-told : tie.Need-enum-told
 enum-told c = search needs
 
--- src/inner/kinds.rt:158:13
 put-record-requires : tie.Need-put-record-requires
 put-record-requires c κs = search needs
 
--- src/inner/kinds.rt:159:27
 add-store : tie.Need-add-store
 add-store c = search needs
 
--- src/inner/kinds.rt:159:13
 store-requires : tie.Need-store-requires
 store-requires c κs =
     let h = c .before .before .before .before .before .before .before .before .before .pre .0 in
     (ready-product (c .before .before .before .before .before .before .before .before .before .args .t) (h .0) (h .1) (c .before .before .before .before .before .before .enum-told .given .1), omega (arith, c .before .before .before .before .before .before .before .before .before .pre .1))
 
--- src/inner/kinds.rt:160:25
 add-t15 : tie.Need-add-t15
 add-t15 c = omega (arith, c .before .before .before .before .before .before .before .before .before .before .before .before .pre .1)
 
--- src/inner/kinds.rt:160:25
 add-t16 : tie.Need-add-t16
 add-t16 c =
     let h = c .before .before .before .before .before .before .before .before .before .before .before .before .pre .0 in
     omega (arith, c .before .before .before .before .before .before .before .before .before .before .before .before .pre .1, ready-product (c .before .before .before .before .before .before .before .before .before .before .before .before .args .t) (h .0) (h .1) (c .before .before .before .before .before .before .before .before .before .enum-told .given .1) .few)
 
--- src/inner/kinds.rt:147:1
 returns : tie.Need-returns
 returns c = λ m h. scalar-stop (c .before .before .before .before .args .t) m (c .before .checked .given .0 .0) h (c .before .checked .given .1)
 
--- src/inner/kinds.rt:147:1
 same-length : tie.Need-same-length
 same-length c = search needs
 
--- src/inner/kinds.rt:147:1
 returns-2 : tie.Need-returns-2
 returns-2 c = λ m h. scalar-put (c .before .before .before .before .before .before .before .before .before .before .before .before .args .t) m h (c .before .before .before .before .before .before .before .before .before .enum-told .given .1) (c .before .before .before .before .before .before .put-record .ensures) (c .before .before .store .ensures)
 

@@ -5,21 +5,18 @@ use borrow.Author.Needs.{needs}
 use Rattle.satisfying.proofs.inner.kinds.quotient.Statement.{statement}
 use Rattle.satisfying.proofs.inner.kinds.quotient.Tie as tie
 
--- src/inner/kinds.rt:183:9
 load-requires : tie.Need-load-requires
 load-requires c κs =
     let a = c .before .before .before .before .args in
     let h = c .before .before .before .before .pre .1 .0 in
     (c .before .before .before .before .pre .1 .1 .1 .0, few (a .pool .now) (a .table .now) (h .0) (h .1))
 
--- src/inner/kinds.rt:184:9
 load-requires-2 : tie.Need-load-requires-2
 load-requires-2 c κs =
     let a = c .before .before .before .before .before .args in
     let h = c .before .before .before .before .before .pre .1 .1 .0 in
     (c .before .before .before .before .before .pre .1 .1 .1 .1, few (a .pool .now) (a .table .now) (h .0) (h .1))
 
--- src/inner/kinds.rt:185:16
 divided-requires : tie.Need-divided-requires
 divided-requires c κs =
     let a = c .before .before .before .before .before .before .args in
@@ -27,7 +24,6 @@ divided-requires c κs =
     let k = c .before .before .before .before .before .before .pre .1 .1 .0 in
     (c .before .before .before .before .before .before .pre .0, (whole-well (a .pool .now) (a .table .now) (h .0) (loaded (a .pool .now) (a .table .now) (h .0) (h .1) (c .before .load .ensures)), whole-well (a .pool .now) (a .table .now) (k .0) (loaded (a .pool .now) (a .table .now) (k .0) (k .1) (c .load2 .ensures))))
 
--- src/inner/kinds.rt:185:5
 put-scalar-requires : tie.Need-put-scalar-requires
 put-scalar-requires c κs =
     let a = c .before .before .before .before .before .before .before .before .args in
@@ -35,11 +31,9 @@ put-scalar-requires c κs =
     let k = c .before .before .before .before .before .before .before .before .pre .1 .1 .0 in
     ((_, quotient-ready (a .pool .now) (a .table .now) (c .before .divided .result) (h .0) (k .0) (loaded (a .pool .now) (a .table .now) (h .0) (h .1) (c .before .before .before .load .ensures)) (loaded (a .pool .now) (a .table .now) (k .0) (k .1) (c .before .before .load2 .ensures)) (c .before .divided .ensures)), c .before .before .before .before .before .before .before .before .pre .1 .1 .1 .2)
 
--- src/inner/kinds.rt:166:1
 same-length : tie.Need-same-length
 same-length c = search needs
 
--- src/inner/kinds.rt:166:1
 returns : tie.Need-returns
 returns c =
     λ p q h k.

@@ -29,56 +29,45 @@ find-field-below t =
 abbrev L : ℕ → find-field-lts.Claims
 L t = (view-at-reads.Asked, view-at-reads.Learnt, end-of-reads.Asked, end-of-reads.Learnt, find-field-below t, find-field.Post)
 
--- src/inner/others.rt:198:9
 find-field-returns : (t : ℕ) → find-field-lts.Need-returns (L t) (find-field-at t) find-field.Post
 find-field-returns t c = λ fs names h. no-fields (c .before .before .args .s .now) fs (c .before .before .args .x) names h (c .if1 .taken)
 
--- src/inner/others.rt:200:26
 find-field-view-at-requires : (t : ℕ) → find-field-lts.Need-view-at-requires (L t) (find-field-at t) find-field.Post
 find-field-view-at-requires t c κs = search needs
 
--- src/inner/others.rt:200:21
 find-field-enum-known-y : (t : ℕ) → find-field-lts.Need-enum-known-y (L t) (find-field-at t) find-field.Post
 find-field-enum-known-y t c = search needs
 
--- src/inner/others.rt:201:9
 find-field-returns-2 : (t : ℕ) → find-field-lts.Need-returns-2 (L t) (find-field-at t) find-field.Post
 find-field-returns-2 t c = λ fs names h. absurd (no-field-here (c .before .before .before .before .args .s .now) fs (c .before .before .before .before .args .at) h (c .before .before .if1 .left) (c .before .view-at .ensures) (c .match .keys2))
 
--- src/inner/others.rt:203:23
 find-field-add-end-of : (t : ℕ) → find-field-lts.Need-add-end-of (L t) (find-field-at t) find-field.Post
 find-field-add-end-of t c = omega (arith, seen-in (c .before .before .before .before .before .before .args .s .now) (c .before .before .before .before .before .before .args .at) (sym (c .before .before .before .view-at .ensures) ∙ c .before .y .given .1) tt)
 
--- src/inner/others.rt:203:9
 find-field-end-of-requires : (t : ℕ) → find-field-lts.Need-end-of-requires (L t) (find-field-at t) find-field.Post
 find-field-end-of-requires t c κs =
     let h = c .before .before .before .before .before .before .pre .1 in
     let f = first-field (c .before .before .before .before .before .before .args .s .now) (h .0) (c .before .before .before .before .before .before .args .at) (h .1) (c .before .before .before .before .if1 .left) (sym (c .before .before .before .view-at .ensures) ∙ c .before .y .given .1) in
     (f .type, f .held)
 
--- src/inner/others.rt:205:26
 find-field-add-t10 : (t : ℕ) → find-field-lts.Need-add-t10 (L t) (find-field-at t) find-field.Post
 find-field-add-t10 t c = omega (arith, seen-in (c .before .before .before .before .before .before .before .before .args .s .now) (c .before .before .before .before .before .before .before .before .args .at) (sym (c .before .before .before .before .before .view-at .ensures) ∙ c .before .before .before .y .given .1) tt)
 
--- src/inner/others.rt:205:9
 find-field-returns-3 : (t : ℕ) → find-field-lts.Need-returns-3 (L t) (find-field-at t) find-field.Post
 find-field-returns-3 t c =
     λ fs names h.
     let f = first-field (c .before .before .before .before .before .before .before .before .args .s .now) fs (c .before .before .before .before .before .before .before .before .args .at) h (c .before .before .before .before .before .before .if1 .left) (sym (c .before .before .before .before .before .view-at .ensures) ∙ c .before .before .before .y .given .1) in
     field-here (c .before .before .before .before .before .before .before .before .args .s .now) f names (c .if2 .taken) (c .before .end-of .ensures (f .type) (f .held))
 
--- src/inner/others.rt:207:22
 find-field-sub-find-field : (t : ℕ) → find-field-lts.Need-sub-find-field (L t) (find-field-at t) find-field.Post
 find-field-sub-find-field t c = omega arith
 
--- src/inner/others.rt:207:5
 find-field-find-field-requires : (t : ℕ) → find-field-lts.Need-find-field-requires (L t) (find-field-at t) find-field.Post
 find-field-find-field-requires t c κs =
     let h = c .before .before .before .before .before .before .before .before .pre .1 in
     let f = first-field (c .before .before .before .before .before .before .before .before .args .s .now) (h .0) (c .before .before .before .before .before .before .before .before .args .at) (h .1) (c .before .before .before .before .before .before .if1 .left) (sym (c .before .before .before .before .before .view-at .ensures) ∙ c .before .before .before .y .given .1) in
     (omega (arith, c .before .before .before .before .before .before .before .before .pre .0), (f .rest, rest-fields (c .before .before .before .before .before .before .before .before .args .s .now) f (c .before .end-of .ensures (f .type) (f .held)) (omega arith)))
 
--- src/inner/others.rt:193:1
 find-field-returns-4 : (t : ℕ) → find-field-lts.Need-returns-4 (L t) (find-field-at t) find-field.Post
 find-field-returns-4 t c =
     λ fs names h.

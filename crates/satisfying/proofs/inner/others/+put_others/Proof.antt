@@ -31,76 +31,60 @@ put-others-below t =
 abbrev L : ℕ → put-others-lts.Claims
 L t = (view-at-reads.Asked, view-at-reads.Learnt, other-power-reads.Asked, other-power-reads.Learnt, num-word-reads.Asked, num-word-reads.Learnt, put-record-reads.Asked, put-record-reads.Learnt, put-others-below t, put-others.Post)
 
--- src/inner/others.rt:117:9
 put-others-returns : (t : ℕ) → put-others-lts.Need-returns (L t) (put-others-at t) put-others.Post
 put-others-returns t c = λ p h. others-none (expOf (c .before .before .before .args .k)) p (h .many) (c .if1 .taken)
 
--- src/inner/others.rt:119:37
 put-others-view-at-requires : (t : ℕ) → put-others-lts.Need-view-at-requires (L t) (put-others-at t) put-others.Post
 put-others-view-at-requires t c κs = search needs
 
--- src/inner/others.rt:119:22
 put-others-enum-known-a : (t : ℕ) → put-others-lts.Need-enum-known-a (L t) (put-others-at t) put-others.Post
 put-others-enum-known-a t c = search needs
 
--- src/inner/others.rt:120:9
 put-others-returns-2 : (t : ℕ) → put-others-lts.Need-returns-2 (L t) (put-others-at t) put-others.Post
 put-others-returns-2 t c = λ p h. absurd (no-factor-here (c .before .before .before .before .before .args .s .now) p (c .before .before .before .before .before .args .at) (h .held) (h .many) (c .before .before .if1 .left) (c .before .view-at .ensures) (c .match .keys2))
 
--- src/inner/others.rt:122:11
 put-others-other-power-requires : (t : ℕ) → put-others-lts.Need-other-power-requires (L t) (put-others-at t) put-others.Post
 put-others-other-power-requires t c κs =
     let h = c .before .before .before .before .before .before .before .pre .1 .1 .0 in
     let f = first-of (c .before .before .before .before .before .before .before .args .s .now) (h .0) (c .before .before .before .before .before .before .before .args .at) (h .1 .held) (h .1 .many) (c .before .before .before .before .if1 .left) (sym (c .before .before .before .view-at .ensures) ∙ c .before .a .given .1) in
     (first-good (c .before .before .before .before .before .before .before .args .s .now) f (h .1 .powers) .0, c .before .before .before .before .before .before .before .pre .1 .0)
 
--- src/inner/others.rt:123:24
 put-others-enum-known-why : (t : ℕ) → put-others-lts.Need-enum-known-why (L t) (put-others-at t) put-others.Post
 put-others-enum-known-why t c = search needs
 
--- src/inner/others.rt:124:22
 put-others-enum-known-e : (t : ℕ) → put-others-lts.Need-enum-known-e (L t) (put-others-at t) put-others.Post
 put-others-enum-known-e t c = search needs
 
--- src/inner/others.rt:125:50
 put-others-num-word-requires : (t : ℕ) → put-others-lts.Need-num-word-requires (L t) (put-others-at t) put-others.Post
 put-others-num-word-requires t c κs = search needs
 
--- src/inner/others.rt:125:13
 put-others-put-record-requires : (t : ℕ) → put-others-lts.Need-put-record-requires (L t) (put-others-at t) put-others.Post
 put-others-put-record-requires t c κs = omega (arith, c .before .before .before .before .before .before .before .before .before .before .before .before .before .pre .1 .1 .1)
 
--- src/inner/others.rt:126:30
 put-others-add-put-others : (t : ℕ) → put-others-lts.Need-add-put-others (L t) (put-others-at t) put-others.Post
 put-others-add-put-others t c = omega (arith, c .before .before .before .before .before .before .before .before .before .before .before .before .before .before .before .before .pre .1 .1 .1)
 
--- src/inner/others.rt:126:38
 put-others-sub-put-others : (t : ℕ) → put-others-lts.Need-sub-put-others (L t) (put-others-at t) put-others.Post
 put-others-sub-put-others t c = omega arith
 
--- src/inner/others.rt:126:50
 put-others-add-put-others-2 : (t : ℕ) → put-others-lts.Need-add-put-others-2 (L t) (put-others-at t) put-others.Post
 put-others-add-put-others-2 t c = omega (arith, c .before .before .before .before .before .before .before .before .before .before .before .before .before .before .before .before .before .pre .1 .1 .1)
 
--- src/inner/others.rt:126:13
 put-others-put-others-requires : (t : ℕ) → put-others-lts.Need-put-others-requires (L t) (put-others-at t) put-others.Post
 put-others-put-others-requires t c κs =
     let h = c .before .before .before .before .before .before .before .before .before .before .before .before .before .before .before .before .before .pre .1 .1 .0 in
     let f = first-of (c .before .before .before .before .before .before .before .before .before .before .before .before .before .before .before .before .before .args .s .now) (h .0) (c .before .before .before .before .before .before .before .before .before .before .before .before .before .before .before .before .before .args .at) (h .1 .held) (h .1 .many) (c .before .before .before .before .before .before .before .before .before .before .before .before .before .before .if1 .left) (sym (c .before .before .before .before .before .before .before .before .before .before .before .before .before .view-at .ensures) ∙ c .before .before .before .before .before .before .before .before .before .before .before .a .given .1) in
     (omega (arith, c .before .before .before .before .before .before .before .before .before .before .before .before .before .before .before .before .before .pre .0), (c .before .before .before .before .before .before .before .before .before .before .before .before .before .before .before .before .before .pre .1 .0, ((f .rest, rest-held (c .before .before .before .before .before .before .before .before .before .before .before .before .before .before .before .before .before .args .s .now) f (h .1 .powers) (c .before .before .before .before .before .before .before .before .before .before .before .before .before .before .before .before .before .args .at + 1) (c .before .before .before .before .before .before .before .before .before .before .before .before .before .before .before .before .before .args .n - 1) refl (omega arith)), (omega (arith, c .before .before .before .before .before .before .before .before .before .before .before .before .before .before .before .before .before .pre .1 .1 .1), omega (arith, c .before .before .before .before .before .before .before .before .before .before .before .before .before .before .before .before .before .pre .1 .1 .1)))))
 
--- src/inner/others.rt:110:1
 put-others-returns-3 : (t : ℕ) → put-others-lts.Need-returns-3 (L t) (put-others-at t) put-others.Post
 put-others-returns-3 t c =
     λ p h.
     let f = first-of (c .before .before .before .before .before .before .before .before .before .before .before .args .s .now) p (c .before .before .before .before .before .before .before .before .before .before .before .args .at) (h .held) (h .many) (c .before .before .before .before .before .before .before .before .if1 .left) (sym (c .before .before .before .before .before .before .before .view-at .ensures) ∙ c .before .before .before .before .before .a .given .1) in
     others-stop (c .before .before .before .before .before .before .before .before .before .before .before .args .s .now) (expOf (c .before .before .before .before .before .before .before .before .before .before .before .args .k)) (c .before .before .before .before .before .a .given .0 .0) f (c .before .before .before .other-power .result) (c .before .before .before .other-power .ensures) (c .before .why .given .0 .0) (c .before .why .given .1)
 
--- src/inner/others.rt:110:1
 put-others-same-length : (t : ℕ) → put-others-lts.Need-same-length (L t) (put-others-at t) put-others.Post
 put-others-same-length t c = c .before .before .put-others .kept .1 .1 .1 .1 .0 ∙ c .before .before .before .before .before .before .put-record .kept .0
 
--- src/inner/others.rt:110:1
 put-others-returns-4 : (t : ℕ) → put-others-lts.Need-returns-4 (L t) (put-others-at t) put-others.Post
 put-others-returns-4 t c =
     λ p h.

@@ -31,31 +31,24 @@ put-parts-below t =
 abbrev L : ℕ → put-parts-lts.Claims
 L t = (view-at-reads.Asked, view-at-reads.Learnt, put-part-reads.Asked, put-part-reads.Learnt, put-parts-below t, put-parts.Post)
 
--- src/inner/others.rt:79:9
 put-parts-returns : (t : ℕ) → put-parts-lts.Need-returns (L t) (put-parts-at t) put-parts.Post
 put-parts-returns t c = λ p h l. no-parts nought p l (c .if1 .taken)
 
--- src/inner/others.rt:81:11
 put-parts-view-at-requires : (t : ℕ) → put-parts-lts.Need-view-at-requires (L t) (put-parts-at t) put-parts.Post
 put-parts-view-at-requires t c κs = search needs
 
--- src/inner/others.rt:82:22
 put-parts-enum-known-a : (t : ℕ) → put-parts-lts.Need-enum-known-a (L t) (put-parts-at t) put-parts.Post
 put-parts-enum-known-a t c = search needs
 
--- src/inner/others.rt:83:17
 put-parts-put-part-requires : (t : ℕ) → put-parts-lts.Need-put-part-requires (L t) (put-parts-at t) put-parts.Post
 put-parts-put-part-requires t c κs = omega (arith, c .before .before .before .before .before .before .before .before .pre .1 .1)
 
--- src/inner/others.rt:84:26
 put-parts-add-put-parts : (t : ℕ) → put-parts-lts.Need-add-put-parts (L t) (put-parts-at t) put-parts.Post
 put-parts-add-put-parts t c = omega (arith, c .before .before .before .before .before .before .before .before .before .before .before .pre .1 .1)
 
--- src/inner/others.rt:84:34
 put-parts-sub-put-parts : (t : ℕ) → put-parts-lts.Need-sub-put-parts (L t) (put-parts-at t) put-parts.Post
 put-parts-sub-put-parts t c = omega arith
 
--- src/inner/others.rt:84:13
 put-parts-put-parts-requires : (t : ℕ) → put-parts-lts.Need-put-parts-requires (L t) (put-parts-at t) put-parts.Post
 put-parts-put-parts-requires t c κs =
     let h = c .before .before .before .before .before .before .before .before .before .before .before .before .pre .1 .0 in
@@ -63,18 +56,15 @@ put-parts-put-parts-requires t c κs =
     let w = c .before .before .before .put-part .ensures nought in
     (omega (arith, c .before .before .before .before .before .before .before .before .before .before .before .before .pre .0), ((f .rest, f .then, omega (arith, f .many)), (omega (arith, c .before .before .before .before .before .before .before .before .before .before .before .before .pre .1 .1), omega (arith, c .before .before .before .before .before .before .before .before .before .before .before .before .pre .1 .1, w .past, part-size (atomOf (c .before .before .before .before .before .before .a .given .0 .0) ↑ nought)))))
 
--- src/inner/others.rt:73:1
 put-parts-same-length : (t : ℕ) → put-parts-lts.Need-same-length (L t) (put-parts-at t) put-parts.Post
 put-parts-same-length t c = c .before .before .put-parts .kept .1 .1 .1 .0 ∙ c .before .before .before .before .before .before .put-part .kept .1 .0
 
--- src/inner/others.rt:73:1
 put-parts-returns-2 : (t : ℕ) → put-parts-lts.Need-returns-2 (L t) (put-parts-at t) put-parts.Post
 put-parts-returns-2 t c =
     λ p h l.
     let f = first-of (c .before .before .before .before .before .before .before .before .before .before .before .before .before .before .before .args .s .now) p (c .before .before .before .before .before .before .before .before .before .before .before .before .before .before .before .args .at) h l (c .before .before .before .before .before .before .before .before .before .before .before .before .if1 .left) (sym (c .before .before .before .before .before .before .before .before .before .before .before .view-at .ensures) ∙ c .before .before .before .before .before .before .before .before .before .a .given .1) in
     parts-all (c .before .before .before .before .before .before .before .before .before .before .before .before .before .before .before .args .s .now) f (c .before .before .before .before .before .before .put-part .ensures (frac (signed (c .before .before .before .before .before .before .before .before .before .a .given .0 .1 .0)) (c .before .before .before .before .before .before .before .before .before .a .given .0 .1 .1 .0))) (c .before .before .put-parts .ensures (f .rest) (f .then) (omega (arith, f .many)))
 
--- src/inner/others.rt:73:1
 put-parts-returns-3 : (t : ℕ) → put-parts-lts.Need-returns-3 (L t) (put-parts-at t) put-parts.Post
 put-parts-returns-3 t c = λ p h l. absurd (no-factor-here (c .before .before .before .before .before .args .s .now) p (c .before .before .before .before .before .args .at) h l (c .before .before .if1 .left) (c .before .view-at .ensures) (c .match .keys2))
 

@@ -12,51 +12,40 @@ use borrow.Author.Needs.{needs}
 use Rattle.satisfying.proofs.inner.others.equal_scalar.Statement.{statement}
 use Rattle.satisfying.proofs.inner.others.equal_scalar.Tie as tie
 
--- src/inner/others.rt:178:24
 view-at-requires : tie.Need-view-at-requires
 view-at-requires c κs = search needs
 
--- src/inner/others.rt:178:19
 enum-known-n : tie.Need-enum-known-n
 enum-known-n c = search needs
 
--- src/inner/others.rt:179:9
 returns : tie.Need-returns
 returns c = λ p names h. absurd (no-product-here (c .before .before .before .before .args .s .now) p (c .before .before .before .before .args .at) (h .held) (c .before .view-at .ensures) (c .match .keys2))
 
--- src/inner/others.rt:182:9
 returns-2 : tie.Need-returns-2
 returns-2 c = λ p names h. scalar-none names p (product-factors (c .before .before .before .before .before .before .before .args .s .now) p (c .before .before .before .before .before .before .before .args .at) (h .held) (sym (c .before .before .before .before .view-at .ensures) ∙ c .before .before .n .given .1) .1) (c .if1 .taken)
 
--- src/inner/others.rt:184:22
 add-view-at : tie.Need-add-view-at
 add-view-at c =
     let h = c .before .before .before .before .before .before .before .pre .0 in
     omega (arith, product-in (c .before .before .before .before .before .before .before .args .s .now) (h .0) (c .before .before .before .before .before .before .before .args .at) (h .1 .held))
 
--- src/inner/others.rt:184:11
 view-at-requires-2 : tie.Need-view-at-requires-2
 view-at-requires-2 c κs = search needs
 
--- src/inner/others.rt:185:22
 enum-known-a : tie.Need-enum-known-a
 enum-known-a c = search needs
 
--- src/inner/others.rt:186:17
 from-words-requires : tie.Need-from-words-requires
 from-words-requires c κs = search needs
 
--- src/inner/others.rt:187:35
 add-first-factor : tie.Need-add-first-factor
 add-first-factor c =
     let h = c .before .before .before .before .before .before .before .before .before .before .before .before .pre .0 in
     omega (arith, product-in (c .before .before .before .before .before .before .before .before .before .before .before .before .args .s .now) (h .0) (c .before .before .before .before .before .before .before .before .before .before .before .before .args .at) (h .1 .held), c .before .before .before .before .before .before .before .before .before .before .before .before .pre .1 .near)
 
--- src/inner/others.rt:187:43
 sub-first-factor : tie.Need-sub-first-factor
 sub-first-factor c = omega arith
 
--- src/inner/others.rt:187:13
 first-factor-requires : tie.Need-first-factor-requires
 first-factor-requires c κs =
     let a = c .before .before .before .before .before .before .before .before .before .before .before .before .before .args in
@@ -66,11 +55,9 @@ first-factor-requires c κs =
     let i = product-in (a .s .now) (h .0) (a .at) (h .1 .held) in
     (ap goodExp (c .before .from-words .ensures) ∙ first-good (a .s .now) f (h .1 .powers) .0, ((f .rest, rest-held (a .s .now) f (h .1 .powers) (a .at + 2) (c .before .before .before .before .before .before .before .before .n .given .0 .0 - 1) (omega arith) (omega (arith, c .before .before .before .before .before .before .if1 .left))), (omega (arith, i, q .1, c .before .before .before .before .before .before .before .before .before .before .before .before .before .pre .1 .near), omega (arith, c .before .before .before .before .before .before .before .before .before .before .before .before .before .pre .1 .small))))
 
--- src/inner/others.rt:173:1
 same-length : tie.Need-same-length
 same-length c = search needs
 
--- src/inner/others.rt:173:1
 returns-3 : tie.Need-returns-3
 returns-3 c =
     λ p names h.
@@ -79,7 +66,6 @@ returns-3 c =
     let f = first-of (a .s .now) p (a .at + 1) (q .0) (q .1) (c .before .before .before .before .before .before .before .before .before .if1 .left) (sym (c .before .before .before .before .before .before .before .before .view-at2 .ensures) ∙ c .before .before .before .before .before .before .a .given .1) in
     stepped-as names _ (ap isScalar (f .is ∙ ap (λ (e : Exp). atomOf (c .before .before .before .before .before .before .a .given .0 .0) ↑ e ∷ f .rest) (sym (c .before .before .before .before .from-words .ensures)))) (c .before .before .first-factor .ensures (f .rest) names (rest-held (a .s .now) f (h .powers) (a .at + 2) (c .before .before .before .before .before .before .before .before .before .before .before .n .given .0 .0 - 1) (omega arith) (omega (arith, c .before .before .before .before .before .before .before .before .before .if1 .left))))
 
--- src/inner/others.rt:173:1
 returns-4 : tie.Need-returns-4
 returns-4 c =
     λ p names h.

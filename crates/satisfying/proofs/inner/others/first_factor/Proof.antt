@@ -6,47 +6,36 @@ use borrow.Author.Needs.{needs}
 use Rattle.satisfying.proofs.inner.others.first_factor.Statement.{statement}
 use Rattle.satisfying.proofs.inner.others.first_factor.Tie as tie
 
--- src/inner/others.rt:162:20
 enum-known-a : tie.Need-enum-known-a
 enum-known-a c = search needs
 
--- src/inner/others.rt:163:9
 enum-told : tie.Need-enum-told
 enum-told c = search needs
 
--- src/inner/others.rt:163:9
 returns : tie.Need-returns
 returns c = λ p names h. scalar-base names (expOf (c .before .before .before .before .args .k)) p (c .enum-told .given .1)
 
--- src/inner/others.rt:166:19
 enum-known-o : tie.Need-enum-known-o
 enum-known-o c = search needs
 
--- src/inner/others.rt:166:25
 solve-for-requires : tie.Need-solve-for-requires
 solve-for-requires c κs = c .before .before .before .before .before .before .before .before .before .pre
 
--- src/inner/others.rt:167:27
 enum-told-2 : tie.Need-enum-told-2
 enum-told-2 c = search needs
 
--- src/inner/others.rt:168:25
 enum-told-3 : tie.Need-enum-told-3
 enum-told-3 c = search needs
 
--- src/inner/others.rt:148:1
 same-length : tie.Need-same-length
 same-length c = search needs
 
--- src/inner/others.rt:148:1
 returns-2 : tie.Need-returns-2
 returns-2 c = λ p names h. scalar-var names (expOf (c .before .before .before .before .before .before .before .before .before .before .before .before .args .k)) p (c .before .before .before .before .before .before .before .before .a .given .1) (c .before .before .before .before .before .o .given .1) (c .before .before .solve-for .ensures p h)
 
--- src/inner/others.rt:148:1
 returns-3 : tie.Need-returns-3
 returns-3 c = λ p names h. scalar-quant names (expOf (c .before .before .before .before .before .before .before .args .k)) p (c .before .before .before .a .given .1) (c .enum-told2 .given .1)
 
--- src/inner/others.rt:148:1
 returns-4 : tie.Need-returns-4
 returns-4 c = λ p names h. scalar-par names (expOf (c .before .before .before .before .before .before .before .args .k)) p (c .before .before .before .a .given .1) (c .enum-told3 .given .1)
 

@@ -9,19 +9,15 @@ use borrow.Author.Needs.{needs}
 use Rattle.satisfying.proofs.inner.others.other_power.Statement.{statement}
 use Rattle.satisfying.proofs.inner.others.other_power.Tie as tie
 
--- src/inner/others.rt:106:29
 from-words-requires : tie.Need-from-words-requires
 from-words-requires c κs = search needs
 
--- src/inner/others.rt:106:17
 negative-of-requires : tie.Need-negative-of-requires
 negative-of-requires c κs = ap goodExp (c .from-words .ensures) ∙ c .before .pre .0
 
--- src/inner/others.rt:106:5
 quotient-of-requires : tie.Need-quotient-of-requires
 quotient-of-requires c κs = (ap goodExp (c .negative-of .ensures) ∙ neg-good (expOf (c .before .from-words .result)) (ap goodExp (c .before .from-words .ensures) ∙ c .before .before .pre .0), c .before .before .pre .1)
 
--- src/inner/others.rt:102:1
 returns : tie.Need-returns
 returns c = c .quotient-of .ensures ∙ ap (λ (e : Exp). quotient bounded e (expOf (c .before .before .before .args .k))) (c .before .negative-of .ensures ∙ ap neg (c .before .before .from-words .ensures))
 

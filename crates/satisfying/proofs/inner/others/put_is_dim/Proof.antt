@@ -4,27 +4,21 @@ use borrow.Author.Needs.{needs}
 use Rattle.satisfying.proofs.inner.others.put_is_dim.Statement.{statement}
 use Rattle.satisfying.proofs.inner.others.put_is_dim.Tie as tie
 
--- src/inner/others.rt:44:5
 put-record-requires : tie.Need-put-record-requires
 put-record-requires c κs = search needs
 
--- src/inner/others.rt:45:21
 add-put-record : tie.Need-add-put-record
 add-put-record c = search needs
 
--- src/inner/others.rt:45:5
 put-record-requires-2 : tie.Need-put-record-requires-2
 put-record-requires-2 c κs = search needs
 
--- src/inner/others.rt:46:5
 add-result : tie.Need-add-result
 add-result c = search needs
 
--- src/inner/others.rt:40:1
 same-length : tie.Need-same-length
 same-length c = search needs
 
--- src/inner/others.rt:40:1
 returns : tie.Need-returns
 returns c = is-dim-put (c .before .before .before .before .before .before .before .before .before .args .x) (c .before .before .before .before .before .before .put-record .ensures) (c .before .before .put-record2 .ensures)
 

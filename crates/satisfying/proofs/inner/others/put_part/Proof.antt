@@ -4,27 +4,21 @@ use borrow.Author.Needs.{needs}
 use Rattle.satisfying.proofs.inner.others.put_part.Statement.{statement}
 use Rattle.satisfying.proofs.inner.others.put_part.Tie as tie
 
--- src/inner/others.rt:66:20
 enum-known-a : tie.Need-enum-known-a
 enum-known-a c = search needs
 
--- src/inner/others.rt:66:26
 put-open-requires : tie.Need-put-open-requires
 put-open-requires c κs = search needs
 
--- src/inner/others.rt:67:26
 enum-told : tie.Need-enum-told
 enum-told c = search needs
 
--- src/inner/others.rt:61:1
 same-length : tie.Need-same-length
 same-length c = search needs
 
--- src/inner/others.rt:61:1
 returns : tie.Need-returns
 returns c = λ e. free-part e (c .before .before .before .before .before .a .given .1) (c .before .before .put-open .ensures e)
 
--- src/inner/others.rt:61:1
 returns-2 : tie.Need-returns-2
 returns-2 c = λ e. base-part e (c .enum-told .given .1)
 

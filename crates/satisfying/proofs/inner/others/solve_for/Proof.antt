@@ -9,55 +9,42 @@ use borrow.Author.Needs.{needs}
 use Rattle.satisfying.proofs.inner.others.solve_for.Statement.{statement}
 use Rattle.satisfying.proofs.inner.others.solve_for.Tie as tie
 
--- src/inner/others.rt:139:5
 put-record-requires : tie.Need-put-record-requires
 put-record-requires c κs = search needs
 
--- src/inner/others.rt:140:21
 add-put-record : tie.Need-add-put-record
 add-put-record c = search needs
 
--- src/inner/others.rt:140:5
 put-record-requires-2 : tie.Need-put-record-requires-2
 put-record-requires-2 c κs = search needs
 
--- src/inner/others.rt:141:40
 add-put-others : tie.Need-add-put-others
 add-put-others c = search needs
 
--- src/inner/others.rt:141:11
 put-others-requires : tie.Need-put-others-requires
 put-others-requires c κs = (c .before .before .before .before .before .before .before .before .before .before .before .pre .0, (c .before .before .before .before .before .before .before .before .before .before .before .pre .1 .0, (c .before .before .before .before .before .before .before .before .before .before .before .pre .1 .1 .0, omega (arith, c .before .before .before .before .before .before .before .before .before .before .before .pre .1 .1))))
 
--- src/inner/others.rt:142:37
 enum-told : tie.Need-enum-told
 enum-told c = search needs
 
--- src/inner/others.rt:142:37
 add-t20 : tie.Need-add-t20
 add-t20 c = omega (arith, c .before .before .before .before .before .before .before .before .before .before .before .before .before .before .before .before .pre .1 .1)
 
--- src/inner/others.rt:142:37
 add-t22 : tie.Need-add-t22
 add-t22 c = omega (arith, c .before .before .before .before .before .before .before .before .before .before .before .before .before .before .before .before .pre .1 .1)
 
--- src/inner/others.rt:143:26
 enum-known-why : tie.Need-enum-known-why
 enum-known-why c = search needs
 
--- src/inner/others.rt:133:1
 same-length : tie.Need-same-length
 same-length c = search needs
 
--- src/inner/others.rt:133:1
 returns : tie.Need-returns
 returns c = λ p h. solved (c .before .before .before .before .before .before .before .before .before .before .before .before .before .before .before .before .args .x) (otherSide bounded (expOf (c .before .before .before .before .before .before .before .before .before .before .before .before .before .before .before .before .args .k))) p (h .many) (c .before .before .before .before .put-others .result) (c .before .before .before .before .put-others .ensures p h) (c .enum-told .given .1) (c .before .before .before .before .before .before .before .before .before .before .before .before .put-record .ensures) (c .before .before .before .before .before .before .before .before .put-record2 .ensures)
 
--- src/inner/others.rt:133:1
 same-length-2 : tie.Need-same-length-2
 same-length-2 c = search needs
 
--- src/inner/others.rt:133:1
 returns-2 : tie.Need-returns-2
 returns-2 c = λ p h. unsolved (c .before .before .before .before .before .before .before .before .before .before .before .before .before .before .before .before .before .args .x) (otherSide bounded (expOf (c .before .before .before .before .before .before .before .before .before .before .before .before .before .before .before .before .before .args .k))) p (h .many) (c .before .before .before .before .before .put-others .result) (c .before .before .before .before .before .put-others .ensures p h) (c .before .why .given .0 .0) (c .before .why .given .1)
 

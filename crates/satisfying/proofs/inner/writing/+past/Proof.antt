@@ -25,22 +25,18 @@ past-below t = and 1 past-kinds.ps (falls 1 past-kinds.ps _<_ μ-past t) past.Pr
 abbrev L : ℕ → past-lts.Claims
 L t = (end-of-reads.Asked, end-of-reads.Learnt, past-below t, past.Post)
 
--- src/inner/writing.rt:66:9
 past-returns : (t : ℕ) → past-lts.Need-returns (L t) (past-at t) past.Post
 past-returns t c = λ ts h k. past-none ts (c .before .before .args .at) k (c .if1 .taken)
 
--- src/inner/writing.rt:68:13
 past-end-of-requires : (t : ℕ) → past-lts.Need-end-of-requires (L t) (past-at t) past.Post
 past-end-of-requires t c κs =
     let p = c .before .before .pre .1 in
     let f = first-ty (c .before .before .args .s .now) (p .0) (c .before .before .args .at) (c .before .before .args .n) (p .1) (p .2) (c .if1 .left) in
     (f .first, f .held)
 
--- src/inner/writing.rt:68:28
 past-sub-past : (t : ℕ) → past-lts.Need-sub-past (L t) (past-at t) past.Post
 past-sub-past t c = omega arith
 
--- src/inner/writing.rt:68:5
 past-past-requires : (t : ℕ) → past-lts.Need-past-requires (L t) (past-at t) past.Post
 past-past-requires t c κs =
     let p = c .before .before .before .pre .1 in
@@ -48,7 +44,6 @@ past-past-requires t c κs =
     let e = c .end-of .ensures (f .first) (f .held) in
     (omega (arith, c .before .before .before .pre .0), (f .rest, subst (HoldsTys (c .before .before .before .args .s .now) (f .rest)) (sym e) (f .then), omega (arith, f .many)))
 
--- src/inner/writing.rt:61:1
 past-returns-2 : (t : ℕ) → past-lts.Need-returns-2 (L t) (past-at t) past.Post
 past-returns-2 t c =
     λ ts h k.

@@ -27,11 +27,9 @@ put-pairs-below t =
 abbrev L : ℕ → put-pairs-lts.Claims
 L t = (put-equal-reads.Asked, put-equal-reads.Learnt, end-of-reads.Asked, end-of-reads.Learnt, put-pairs-below t, put-pairs.Post)
 
--- src/inner/writing.rt:54:9
 put-pairs-returns : (t : ℕ) → put-pairs-lts.Need-returns (L t) (put-pairs-at t) put-pairs.Post
 put-pairs-returns t c = λ ts us h k i j. pairs-none ts us i (c .if1 .taken)
 
--- src/inner/writing.rt:56:9
 put-pairs-put-equal-requires : (t : ℕ) → put-pairs-lts.Need-put-equal-requires (L t) (put-pairs-at t) put-pairs.Post
 put-pairs-put-equal-requires t c κs =
     let p = c .before .before .before .before .pre .1 .0 in
@@ -40,25 +38,21 @@ put-pairs-put-equal-requires t c κs =
     let g = first-ty (c .before .before .before .before .args .s .now) (q .0) (c .before .before .before .before .args .right) (c .before .before .before .before .args .n) (q .1) (q .2) (c .before .if1 .left) in
     ((f .first, f .held), ((g .first, g .held), (c .before .before .before .before .pre .1 .1 .1 .near, omega (arith, c .before .before .before .before .pre .1 .1 .1 .small))))
 
--- src/inner/writing.rt:57:18
 put-pairs-end-of-requires : (t : ℕ) → put-pairs-lts.Need-end-of-requires (L t) (put-pairs-at t) put-pairs.Post
 put-pairs-end-of-requires t c κs =
     let p = c .before .before .before .before .before .before .before .pre .1 .0 in
     let f = first-ty (c .before .before .before .before .before .before .before .args .s .now) (p .0) (c .before .before .before .before .before .before .before .args .left) (c .before .before .before .before .before .before .before .args .n) (p .1) (p .2) (c .before .before .before .before .if1 .left) in
     (f .first, f .held)
 
--- src/inner/writing.rt:57:35
 put-pairs-end-of-requires-2 : (t : ℕ) → put-pairs-lts.Need-end-of-requires-2 (L t) (put-pairs-at t) put-pairs.Post
 put-pairs-end-of-requires-2 t c κs =
     let q = c .before .before .before .before .before .before .before .before .pre .1 .1 .0 in
     let g = first-ty (c .before .before .before .before .before .before .before .before .args .s .now) (q .0) (c .before .before .before .before .before .before .before .before .args .right) (c .before .before .before .before .before .before .before .before .args .n) (q .1) (q .2) (c .before .before .before .before .before .if1 .left) in
     (g .first, g .held)
 
--- src/inner/writing.rt:57:53
 put-pairs-sub-put-pairs : (t : ℕ) → put-pairs-lts.Need-sub-put-pairs (L t) (put-pairs-at t) put-pairs.Post
 put-pairs-sub-put-pairs t c = omega arith
 
--- src/inner/writing.rt:57:5
 put-pairs-put-pairs-requires : (t : ℕ) → put-pairs-lts.Need-put-pairs-requires (L t) (put-pairs-at t) put-pairs.Post
 put-pairs-put-pairs-requires t c κs =
     let p = c .before .before .before .before .before .before .before .before .before .before .pre .1 .0 in
@@ -69,11 +63,9 @@ put-pairs-put-pairs-requires t c κs =
     let i = c .before .end-of2 .ensures (g .first) (g .held) in
     (omega (arith, c .before .before .before .before .before .before .before .before .before .before .pre .0), ((f .rest, subst (HoldsTys (c .before .before .before .before .before .before .before .before .before .before .args .s .now) (f .rest)) (sym e) (f .then), omega (arith, f .many)), ((g .rest, subst (HoldsTys (c .before .before .before .before .before .before .before .before .before .before .args .s .now) (g .rest)) (sym i) (g .then), omega (arith, g .many)), pair-room (c .before .before .before .before .before .before .before .before .before .before .args .s .now) (c .before .before .before .before .before .before .before .before .before .before .pre .1 .1 .1) (f .first) (g .first) (f .held) (g .held) e i (c .before .before .before .before .before .put-equal .ensures (f .first) (g .first) (f .held) (g .held)))))
 
--- src/inner/writing.rt:40:1
 put-pairs-same-length : (t : ℕ) → put-pairs-lts.Need-same-length (L t) (put-pairs-at t) put-pairs.Post
 put-pairs-same-length t c = c .before .before .put-pairs .kept .1 .1 .1 .1 .0 ∙ c .before .before .before .before .before .before .before .before .put-equal .kept .1 .1 .1 .0
 
--- src/inner/writing.rt:40:1
 put-pairs-returns-2 : (t : ℕ) → put-pairs-lts.Need-returns-2 (L t) (put-pairs-at t) put-pairs.Post
 put-pairs-returns-2 t c =
     λ ts us h k i j.

@@ -6,29 +6,23 @@ use borrow.Author.Needs.{needs}
 use Rattle.satisfying.proofs.inner.writing.put_equal.Statement.{statement}
 use Rattle.satisfying.proofs.inner.writing.put_equal.Tie as tie
 
--- src/inner/writing.rt:34:5
 put-record-requires : tie.Need-put-record-requires
 put-record-requires c κs = search needs
 
--- src/inner/writing.rt:35:36
 add-put-type : tie.Need-add-put-type
 add-put-type c = search needs
 
--- src/inner/writing.rt:35:9
 put-type-requires : tie.Need-put-type-requires
 put-type-requires c κs = (c .before .before .before .before .before .before .before .pre .0, (c .before .before .before .before .before .before .before .pre .1 .1 .0, omega (arith, c .before .before .before .before .before .before .before .pre .1 .1)))
 
--- src/inner/writing.rt:36:5
 put-type-requires-2 : tie.Need-put-type-requires-2
 put-type-requires-2 c κs =
     let h = c .before .before .before .before .before .before .before .before .before .before .before .pre .0 in
     (c .before .before .before .before .before .before .before .before .before .before .before .pre .1 .0, (c .before .before .before .before .before .before .before .before .before .before .before .pre .1 .1 .0, omega (arith, c .before .before .before .put-type .ensures (h .0) (h .1) .past, ends-in (c .before .before .before .before .before .before .before .before .before .before .before .args .s .now) (h .0) (c .before .before .before .before .before .before .before .before .before .before .before .args .left) (h .1), c .before .before .before .before .before .before .before .before .before .before .before .pre .1 .1)))
 
--- src/inner/writing.rt:28:1
 same-length : tie.Need-same-length
 same-length c = search needs
 
--- src/inner/writing.rt:28:1
 returns : tie.Need-returns
 returns c = λ t u h k. equal-put t u (c .before .before .before .before .before .before .before .before .before .before .put-record .ensures) (c .before .before .before .before .before .before .put-type .ensures t h) (c .before .before .put-type2 .ensures u k)
 

@@ -7,11 +7,9 @@ use borrow.Author.Needs.{needs}
 use Rattle.satisfying.proofs.inner.writing.put_type.Statement.{statement}
 use Rattle.satisfying.proofs.inner.writing.put_type.Tie as tie
 
--- src/inner/writing.rt:22:9
 end-of-requires : tie.Need-end-of-requires
 end-of-requires c κs = search needs
 
--- src/inner/writing.rt:23:5
 copy-requires : tie.Need-copy-requires
 copy-requires c κs =
     let h = c .before .before .before .before .pre .0 in
@@ -19,23 +17,19 @@ copy-requires c κs =
     let i = ends-in (c .before .before .before .before .args .s .now) (h .0) (c .before .before .before .before .args .at) (h .1) in
     (omega (arith, e), (omega (arith, e, i), omega (arith, e, i, c .before .before .before .before .pre .1)))
 
--- src/inner/writing.rt:24:12
 sub-result : tie.Need-sub-result
 sub-result c =
     let h = c .before .before .before .before .before .before .before .pre .0 in
     omega (arith, c .before .before .before .before .end-of .ensures (h .0) (h .1))
 
--- src/inner/writing.rt:24:5
 add-result : tie.Need-add-result
 add-result c =
     let h = c .before .before .before .before .before .before .before .pre .0 in
     omega (arith, c .before .before .before .before .end-of .ensures (h .0) (h .1), ends-in (c .before .before .before .before .before .before .before .args .s .now) (h .0) (c .before .before .before .before .before .before .before .args .at) (h .1), c .before .before .before .before .before .before .before .pre .1)
 
--- src/inner/writing.rt:17:1
 same-length : tie.Need-same-length
 same-length c = search needs
 
--- src/inner/writing.rt:17:1
 returns : tie.Need-returns
 returns c = λ t h. type-put (c .before .before .before .before .before .before .before .args .s .now) (c .before .before .before .before .before .before .before .args .at) t h (c .before .before .before .before .end-of .ensures t h) (c .before .before .copy .ensures) (omega (arith, c .before .before .before .before .end-of .ensures t h))
 
