@@ -1,6 +1,5 @@
 // Lists of cases in ASCII: their numbers and lines, and how many cases came out as stored.
 // What stands between two numbers is not looked at.
-use libc::STDOUT_FILENO;
 ghost use mathlib.Core.Path.{_≡_};
 ghost use Prim.Native.Nat.{_<_, _≤_};
 ghost use lib.ListN.{drop, length};
@@ -149,15 +148,5 @@ impl Tally {
             cases,
             right: self.right,
         }
-    }
-
-    // Writes the line of what was run.
-    pub fn print(self, what: &[u8]) {
-        io::write_all(STDOUT_FILENO, what);
-        io::write_all(STDOUT_FILENO, b": ");
-        io::print_decimal(STDOUT_FILENO, self.cases);
-        io::write_all(STDOUT_FILENO, b" cases, ");
-        io::print_decimal(STDOUT_FILENO, self.right);
-        io::write_all(STDOUT_FILENO, b" as stored\n");
     }
 }

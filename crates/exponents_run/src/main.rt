@@ -5,6 +5,7 @@ use cases::number_from;
 use exponents::Exponent;
 use exponents::Power;
 use libc::STDIN_FILENO;
+use libc::STDOUT_FILENO;
 ghost use Prim.Native.Nat.{_<_};
 ghost use lib.ListN.{length};
 
@@ -74,5 +75,10 @@ fn run(s: &[u8]) -> Tally {
 fn main() {
     let mut buf = io::large_buffer();
     let n = io::read_full(STDIN_FILENO, &mut buf);
-    run(&buf[..n]).print(b"exponents");
+    let t = run(&buf[..n]);
+    io::write_all(STDOUT_FILENO, b"exponents: ");
+    io::print_decimal(STDOUT_FILENO, t.cases);
+    io::write_all(STDOUT_FILENO, b" cases, ");
+    io::print_decimal(STDOUT_FILENO, t.right);
+    io::write_all(STDOUT_FILENO, b" as stored\n");
 }

@@ -67,9 +67,10 @@ fn is_number(got: Answer, number: u32) -> bool {
 }
 
 // Enters the names that stand behind a line's first letter. Does each get the next number?
-pub fn enter_names(s: &[u8], at: usize, pool: &mut [u8], table: &mut [u32]) -> bool
-    requires { ⌜ at < length (now s) ⌝ }
-{
+pub fn enter_names(s: &[u8], at: usize, pool: &mut [u8], table: &mut [u32]) -> bool {
+    if s.len() <= at {
+        return false;
+    }
     let mut i = name_end(s, at);
     let mut number: u32 = 0;
     while i < s.len() {

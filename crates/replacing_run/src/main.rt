@@ -170,6 +170,15 @@ fn run_next(tally: Tally) -> Tally {
     run(&buf[..n], tally)
 }
 
+// Writes how many cases were run.
+fn report(t: Tally) {
+    io::write_all(STDOUT_FILENO, b"replacing: ");
+    io::print_decimal(STDOUT_FILENO, t.cases);
+    io::write_all(STDOUT_FILENO, b" cases, ");
+    io::print_decimal(STDOUT_FILENO, t.right);
+    io::write_all(STDOUT_FILENO, b" as stored\n");
+}
+
 fn main() {
     let mut t = Tally::none();
     let mut i = 0;
@@ -177,5 +186,5 @@ fn main() {
         t = run_next(t);
         i += 1;
     }
-    t.print(b"replacing");
+    report(t);
 }

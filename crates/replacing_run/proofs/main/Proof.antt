@@ -6,10 +6,10 @@ use Rattle.replacing_run.proofs.main.Statement.{statement}
 use Rattle.replacing_run.proofs.main.Tie as tie
 
 abbrev Inv-loop : tie.InvT-loop
-Inv-loop t₀ i₀ t3 t i = Unit {0}
+Inv-loop t₀ i₀ t i = Unit {0}
 
 abbrev μ-loop : tie.MeasureT-loop
-μ-loop t₀ i₀ t3 t i = 16 - i
+μ-loop t₀ i₀ t i = 16 - i
 
 none-requires : tie.Need-none-requires Inv-loop μ-loop
 none-requires c κs = search needs
@@ -29,11 +29,8 @@ loop-less c = search needs
 loop-again : tie.Need-loop-again Inv-loop μ-loop
 loop-again c = search needs
 
-slice-aggregate-print : tie.Need-slice-aggregate-print Inv-loop μ-loop
-slice-aggregate-print c = search needs
-
-print-requires : tie.Need-print-requires Inv-loop μ-loop
-print-requires c κs = search needs
+report-requires : tie.Need-report-requires Inv-loop μ-loop
+report-requires c κs = search needs
 
 returns : tie.Need-returns Inv-loop μ-loop
 returns c = search needs
@@ -50,6 +47,5 @@ main-spec =
     add-i
     loop-less
     loop-again
-    slice-aggregate-print
-    print-requires
+    report-requires
     returns)

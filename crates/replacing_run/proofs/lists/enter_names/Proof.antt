@@ -13,14 +13,17 @@ Inv-loop s at pool₀ table₀ i₀ number₀ pool table i number = (i ≤ lengt
 abbrev μ-loop : tie.MeasureT-loop
 μ-loop s at pool₀ table₀ i₀ number₀ pool table i number = length s - i
 
+returns : tie.Need-returns Inv-loop μ-loop
+returns c = search needs
+
 name-end-requires : tie.Need-name-end-requires Inv-loop μ-loop
 name-end-requires c κs = search needs
 
 loop-holds : tie.Need-loop-holds Inv-loop μ-loop
 loop-holds c = search needs
 
-shared-slice-read-if1 : tie.Need-shared-slice-read-if1 Inv-loop μ-loop
-shared-slice-read-if1 c = search needs
+shared-slice-read-if2 : tie.Need-shared-slice-read-if2 Inv-loop μ-loop
+shared-slice-read-if2 c = search needs
 
 same-length : tie.Need-same-length Inv-loop μ-loop
 same-length c = search needs
@@ -28,8 +31,8 @@ same-length c = search needs
 same-length-2 : tie.Need-same-length-2 Inv-loop μ-loop
 same-length-2 c = search needs
 
-returns : tie.Need-returns Inv-loop μ-loop
-returns c = search needs
+returns-2 : tie.Need-returns-2 Inv-loop μ-loop
+returns-2 c = search needs
 
 add-start : tie.Need-add-start Inv-loop μ-loop
 add-start c = search needs
@@ -58,8 +61,8 @@ same-length-3 c = search needs
 same-length-4 : tie.Need-same-length-4 Inv-loop μ-loop
 same-length-4 c = search needs
 
-returns-2 : tie.Need-returns-2 Inv-loop μ-loop
-returns-2 c = search needs
+returns-3 : tie.Need-returns-3 Inv-loop μ-loop
+returns-3 c = search needs
 
 wrapping-add-u32-requires : tie.Need-wrapping-add-u32-requires Inv-loop μ-loop
 wrapping-add-u32-requires c κs = search needs
@@ -76,8 +79,8 @@ same-length-5 c = search needs
 same-length-6 : tie.Need-same-length-6 Inv-loop μ-loop
 same-length-6 c = search needs
 
-returns-3 : tie.Need-returns-3 Inv-loop μ-loop
-returns-3 c = search needs
+returns-4 : tie.Need-returns-4 Inv-loop μ-loop
+returns-4 c = search needs
 
 pub enter-names-spec : {M : Type 1} → statement M
 enter-names-spec =
@@ -85,12 +88,13 @@ enter-names-spec =
     (tie.spec
     Inv-loop
     μ-loop
+    returns
     name-end-requires
     loop-holds
-    shared-slice-read-if1
+    shared-slice-read-if2
     same-length
     same-length-2
-    returns
+    returns-2
     add-start
     name-end-requires-2
     sub-enter
@@ -100,10 +104,10 @@ enter-names-spec =
     is-number-requires
     same-length-3
     same-length-4
-    returns-2
+    returns-3
     wrapping-add-u32-requires
     loop-less
     loop-again
     same-length-5
     same-length-6
-    returns-3)
+    returns-4)
