@@ -13,8 +13,8 @@ use Rattle.rules.specs.Reading.{readCon}
 use Rattle.rules.specs.Calls.{lentResult, shortLists, tableKept, setGiven, only, aloneGiven, setCall}
 use Rattle.rules.specs.Names.{tableOf, lentTable}
 use Rattle.rules.specs.Trees.{Con, sizeCon}
-use Rattle.laws.specs.Checks.{need-passed, first-passed, next-passed}
-use Rattle.laws.specs.Lists.{clash, not-true, not-false}
+use Rattle.laws.specs.Checks.{need-passed, first-passed, next-passed, passed}
+use Rattle.laws.specs.Lists.{not-true, not-false}
 use Rattle.laws.specs.NameTable.{Good}
 use Rattle.records.specs.Whole.{entry-good}
 use Rattle.records.specs.Found.{Words32}
@@ -66,10 +66,6 @@ module _ (pool table s : List ℕ) where
 
 -- ══ The checks, one after another ══
 
-passed : {A : Type 0} (a : Got (Unit {0})) (m : Got A) → (a >> m >> got (tt {0})) ≡ got tt → a ≡ got tt
-passed (got u) m e = refl
-passed (refused n) m e = clash e
-
 in-a-row : {A : Type 0} (a : Got (Unit {0})) (m : Got A) (o : Got (Unit {0})) → (a >> (told m >> o)) ≡ (a >> m >> got (tt {0}) >> o)
 in-a-row (got u) (got x) o = refl
 in-a-row (got u) (refused n) o = refl
@@ -78,7 +74,7 @@ in-a-row (refused n) m o = refl
 module _ (pool table ws : List ℕ) where
   pub table-good : setCall pool table ws ≡ got tt → Good pool table
   unfolding setCall
-  table-good e = entry-good pool table ws (passed (aloneGiven pool table ws) (setGiven (tableOf pool table) ws) e)
+  table-good e = entry-good pool table ws (passed (aloneGiven pool table ws) (setGiven (tableOf pool table) ws) e .1 .0)
 
 module _ (pool table buffer : List ℕ) where
   pub lent-met : (b : Bool) → need b 10 ≡ lentBuffer pool table buffer → not b ≡ false → lentBuffer pool table buffer ≡ got tt

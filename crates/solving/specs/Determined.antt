@@ -8,7 +8,7 @@ use Rattle.laws.specs.Numbers.{number-injective}
 use Rattle.solving.specs.declared.Outcome.{Outcome}
 use Rattle.solving.specs.declared.Outcome.the-variants.{Solved, Unsolved, Refused}
 use Rattle.solving.specs.declared.Solution.{Solution}
-use Rattle.solving.specs.Told.{toldOutcome, told, solutionAs}
+use Rattle.solving.specs.Told.{toldOutcome, solutionAs}
 
 outcome-injective : (a b : Outcome) (j k : ℕ) → toldOutcome a j ≡ toldOutcome b k → (a ≡ b) × (j ≡ k)
 outcome-injective (Solved x y) (Solved x′ y′) j k e = let p : x ≡ x′ = cc in let q : y ≡ y′ = cc in let r : j ≡ k = cc in (ap₂ Solved p q, r)

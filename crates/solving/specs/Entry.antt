@@ -20,7 +20,7 @@ use Rattle.rules.specs.WellFormed.{goodCon}
 use Rattle.rules.specs.Writing.{words}
 use Rattle.rules.specs.declared.Refusal.{Refusal}
 use Rattle.rules.specs.declared.Refusal.the-variants.{ShortBuffer}
-use Rattle.laws.specs.Checks.{need-passed}
+use Rattle.laws.specs.Checks.{need-passed, passed}
 use Rattle.laws.specs.Lists.{clash, and-left}
 use Rattle.laws.specs.NameTable.{Good, good-laid}
 use Rattle.records.specs.Found.{Words32}
@@ -42,11 +42,6 @@ use Rattle.solving.specs.Told.{refusedAs, solutionAs, Answered}
 use Rattle.solving.specs.Running.{Begun}
 
 -- ══ A row of checks ══
-
-passed : {A : Type 0} (a : Got (Unit {0})) (m : Got A) → (a >> m >> got (tt {0})) ≡ got tt → (x : A) × ((a ≡ got tt) × (m ≡ got x))
-passed (got u) (got x) e = (x, (refl, refl))
-passed (got u) (refused n) e = clash e
-passed (refused n) m e = clash e
 
 module _ {A B : Type 0} (u : A → Got (Unit {0})) (v : A → B) where
   -- the checks of the paper, and then the answer
