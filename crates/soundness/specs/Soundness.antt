@@ -1,8 +1,8 @@
 -- What an accepted answer is worth, and what the judge's verdicts say. The words stand in Claims and in rules' Meaning, the proofs in the other files.
 -- Assumes nothing.
-use mathlib.Core.Path.{_≡_}
+use mathlib.Core.Path.{_≡_, refl}
 use mathlib.Core.Bool.{Bool, true, false}
-use mathlib.Core.List.{List, []}
+use mathlib.Core.List.{List, [], _∷_}
 use Prim.Native.Nat.{ℕ}
 use Rattle.rules.specs.Base.{got, bounded}
 use Rattle.rules.specs.Trees.{Names, Con, Binding}
@@ -88,6 +88,11 @@ k5-solved = demand-3 names held ordered k5 k5-given k5-bindings [] 1 k5-accepted
 
 pub k8-solved : Solves names k8 [] k8-bounds
 k8-solved = demand-3 names held ordered k8 k8-given [] k8-bounds 1 k8-accepted k8-premise
+
+-- K2's whole answer, (24,0,0,0)(4,0,0,0), is proposed by one entry: the variable 0, its type at the place 1
+pub k2-entries : pointed 0 (24 ∷ 0 ∷ 0 ∷ 0 ∷ 4 ∷ 0 ∷ 0 ∷ 0 ∷ []) ≡ record { variable = 0; place = 1 } ∷ []
+unfolding pointed
+k2-entries = refl
 
 -- K10 doesn't meet the premise; it is accepted, but its answer is no solution
 pub k10-outside : ¬ (Premise names k10 k10-bindings)
