@@ -13,7 +13,8 @@ use lib.ListN.{length, take, drop, length-map}
 use lib.Seq.{take-at, drop-at, drop-drop}
 use Rattle.rules.specs.Base.{Got, got, refused, _>>_, need, orRefuse, bounded, any, all, each, collect, toList, sumOf, maxOf}
 use Rattle.rules.specs.Exponents.{frac}
-use Rattle.rules.specs.Trees.{var, quant, par, free, base, _↑_, Product, Names, Ty, opened, basic, boolean, string, datetime, dim, fn, struct, list, Tys, nil, cons, Fields, noFields, field, Con, equal, isDim, isScalar, hasField, Binding, _≔_, size, sizeTys, sizeFields, sizeCon, sizeBinding, depth, depthBinding}
+use Rattle.rules.specs.Trees.{var, quant, par, free, base, _↑_, Product, Names, Ty, opened, basic, boolean, string, datetime, dim, fn, struct, list, Tys, nil, cons, Fields, noFields, field, Con, equal, isDim, isScalar, hasField, Binding, _≔_}
+use Rattle.rules.specs.Trees.{size, sizeTys, sizeFields, sizeCon, sizeBinding, depth, depthBinding}
 use Rattle.rules.specs.Contents.{sort}
 use Rattle.rules.specs.Names.{Table, tableOf, numbersOf, isHeld}
 use Rattle.rules.specs.Replacing.{replaceCon, replaceBinding, bindings}
