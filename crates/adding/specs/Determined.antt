@@ -1,11 +1,16 @@
--- The contract leaves no choice: two results that it allows coincide. Assumes nothing.
-use mathlib.Core.Path.{_≡_, ap, sym, _∙_}
+-- The contract leaves no choice: two results that it allows coincide (`add-determined`). And the answer has document 01's number of
+-- its outcome (`add-numbered`).
+-- Assumes nothing.
+use mathlib.Core.Path.{_≡_, refl, ap, sym, _∙_}
 use mathlib.Core.List.{List}
 use Prim.Native.Nat.{ℕ}
 use native.Mathlib.Omega.{arith}
 use Rattle.rules.specs.Adding.{satisfied, violated, unknown}
 use Rattle.rules.specs.Base.{Got, got}
 use Rattle.rules.specs.Calls.{AddedTo, addCall}
+use Rattle.rules.specs.Numbers as numbers
+use Rattle.rules.specs.Numbers.{refusalIn, number}
+use Rattle.rules.specs.Refusals.{numberOf}
 use Rattle.rules.specs.Adding as rules
 use Rattle.laws.specs.Lists.{got≢refused}
 use Rattle.laws.specs.Numbers.{number-injective}
@@ -43,7 +48,26 @@ told-injective (Refused r) (Violated n) e = absurd (got≢refused (sym e))
 told-injective (Refused r) (Unknown n) e = absurd (got≢refused (sym e))
 told-injective (Refused r) (Refused s) e = ap Refused (number-injective r s (cc))
 
+-- the number of an answer: 0, or that of the refusal
+abbrev pub numberAdded : Added → ℕ
+numberAdded (Satisfied n) = 0
+numberAdded (Violated n) = 0
+numberAdded (Unknown n) = 0
+numberAdded (Refused r) = numberOf r
+
+added-in : (p : Added) → numberAdded p ≡ refusalIn (toldAdded p)
+unfolding refusalIn
+added-in (Satisfied n) = refl
+added-in (Violated n) = refl
+added-in (Unknown n) = refl
+added-in (Refused r) = refl
+
+-- `add`
 pub add-determined : (pool table buffer : List ℕ) (count : ℕ) (con : List ℕ) (p q : Added) (a b : List ℕ) → addedAs p a ≡ addCall pool table buffer count con → addedAs q b ≡ addCall pool table buffer count con → (p ≡ q) × (a ≡ b)
 add-determined pool table buffer count con p q a b h k =
     let e : addedAs p a ≡ addedAs q b = h ∙ sym k in
     (told-injective p q (ap (λ (r : AddedTo). r .answer) e), ap (λ (r : AddedTo). r .buffer) e)
+
+pub add-numbered : (pool table buffer : List ℕ) (count : ℕ) (con : List ℕ) (p : Added) (a : List ℕ) → addedAs p a ≡ addCall pool table buffer count con → numberAdded p ≡ number (numbers.added (addCall pool table buffer count con))
+unfolding number
+add-numbered pool table buffer count con p a h = added-in p ∙ ap (λ (r : AddedTo). refusalIn (r .answer)) h

@@ -1,6 +1,6 @@
 -- Exponents and answers of the code as document 01's exponents and answers.
 -- Assumes nothing.
-use mathlib.Core.Path.{_≡_, ap, sym, _∙_}
+use mathlib.Core.Path.{_≡_, ap}
 use Prim.Native.Nat.{ℕ}
 use native.Mathlib.Omega.{arith}
 use lib.IntN.{ℤ, pos, negsuc, negℤ}
@@ -36,7 +36,3 @@ told-injective (Value a) (Value b) e = ap Value (exp-injective a b (cc))
 told-injective (Value a) (Refused s) e = let z : _≡_ {A = ℕ} 0 1 = cc in absurd (omega arith)
 told-injective (Refused r) (Value b) e = let z : _≡_ {A = ℕ} 0 1 = cc in absurd (omega arith)
 told-injective (Refused r) (Refused s) e = ap Refused (number-injective r s (cc))
-
--- two results that a contract allows coincide
-pub one-answer : (p q : Power) (g : Got Exp) → told p ≡ g → told q ≡ g → p ≡ q
-one-answer p q g h k = told-injective p q (h ∙ sym k)

@@ -12,7 +12,7 @@ use lib.Dec.{leb, ltb}
 use lib.ListN.{length, take, drop, getD, set, length-take, length-drop, drop-of-length-le}
 use lib.Seq.{drop-cons, getD-take, getD-drop, take-take, take-add, drop-at, length-take-le}
 use Rattle.rules.specs.Base.{got, need, _>>_, list-dec, any, isNone}
-use Rattle.rules.specs.Names.{Bytes, tableOf, isHeld, held, cut, namesOf, used, lengthsGood, sameBytes, distinct, tableGood, tableGiven, lentTable, numberOf, numbered, nameAsked, hasRoom, enterNew}
+use Rattle.rules.specs.Names.{Bytes, tableOf, isHeld, held, cut, namesOf, used, lengthsGood, sameBytes, distinct, tableGood, tableGiven, lentTable, numberOf, numbered, nameAsked, hasRoom, enterNew, startIn}
 use Rattle.laws.specs.Lists.{and-left, and-right, is-yes, is-no, yes-is}
 use Rattle.laws.specs.Checks.{need-passed, first-passed, next-passed}
 use Rattle.laws.specs.Order.{Tells}
@@ -216,6 +216,12 @@ module _ {pool table : List ℕ} (laid : Laid pool table) where
 
   pub name-is : (k : ℕ) → k < getD table 0 0 → getD (namesOf (tableOf pool table)) k [] ≡ partOf pool table k
   name-is k h = cc (drop-cons (namesOf (tableOf pool table)) k [] (omega (arith, length-names)), names-step k h)
+
+  -- a held name starts where the word of the end before it says
+  pub start-in : (k : ℕ) → k < getD table 0 0 → startIn (tableOf pool table) k ≡ startAt table k
+  unfolding startIn tableOf endsOf
+  start-in zero h = refl
+  start-in (suc k) h = ends-get table (laid .words) (laid .few) k (omega arith)
 
   pub part-length : (k : ℕ) → k < getD table 0 0 → length (partOf pool table k) ≡ getD table (suc k) 0 - startAt table k
   part-length k h =

@@ -5,14 +5,18 @@ use mathlib.Core.Option.{some}
 use mathlib.Core.List.{List, [], _∷_, _++_, map, append-assoc}
 use Prim.Native.Nat.{ℕ, zero, suc, _≤_, _-_}
 use native.Mathlib.Omega.{arith}
-use borrow.Author.Tests.{lt-ltb, le-ltb}
+use borrow.Author.Tests.{lt-ltb, le-ltb, leb-true}
+use mathlib.Core.Bool.{Bool, true, not, _&&_}
+use lib.Dec.{leb}
 use lib.IntN.{ℤ, pos, negsuc, natAbs}
 use lib.ListN.{length}
 use Rattle.rules.specs.Base.{all}
-use Rattle.rules.specs.Exponents.{frac, top}
-use Rattle.rules.specs.Trees.{var, quant, par, free, base, _↑_, Product, Ty, opened, basic, dim, fn, struct, list, Tys, nil, cons, Fields, noFields, field, boolean, string, datetime, depth, depthTys, depthFields, count, countFields}
+use Rattle.rules.specs.Exponents.{frac, top, inRange, goodExp, isZero, goodStored}
+use Rattle.rules.specs.Trees.{var, quant, par, free, base, _↑_, Product, Names, Ty, opened, basic, dim, fn, struct, list, Tys, nil, cons, Fields, noFields, field, boolean, string, datetime, depth, depthTys, depthFields, count, countFields, orderAtom}
 use Rattle.rules.specs.Writing.{Rec, twos, bySign, signed, writeFactor, writeProduct, writeTy, writeTys, writeFields}
 use Rattle.rules.specs.Reading.{readFactors, readTys, readFields, readTy}
+use Rattle.rules.specs.WellFormed.{atomOf, rising, goodOpen, goodFactor, goodProduct, goodTy, goodTys, goodFields}
+use Rattle.laws.specs.Lists.{and-left, and-right}
 
 -- numerators that a word can hold
 abbrev pub FitsProduct : Product ℕ → Type 0
@@ -88,3 +92,47 @@ mutual
   read-fields noFields d rest f h = refl
   read-fields (field n t fs) d rest f h =
       rw (append-assoc (writeTy t) (writeFields fs) rest, lift t d (writeFields fs ++ rest) (omega arith) (λ e k. read-ty t e (writeFields fs ++ rest) (f .0) k), read-fields fs d rest (f .1) (omega arith))
+
+-- ══ Well formed types can be written ══
+
+stored-fits : (n : ℤ) (d : ℕ) → goodStored (frac n d) ≡ true → natAbs n ≤ top
+unfolding goodStored goodExp inRange
+stored-fits n d h =
+    let g = and-right (not (isZero (frac n d))) _ h in
+    let r = and-left (inRange (frac n d)) _ g in
+    leb-true (natAbs n) top (and-left (leb (natAbs n) top) _ (and-left (leb (natAbs n) top && leb 1 d) _ r))
+
+module _ (ν : Names ℕ) (held : ℕ → Bool) (q : ℕ) where
+  factors-fit : (p : Product ℕ) → all (goodFactor ν held q) p ≡ true → FitsProduct p
+  unfolding all goodFactor
+  factors-fit [] h = tt
+  factors-fit (free o ↑ frac n d ∷ p) h = (
+    stored-fits n d (and-right (goodOpen ν held q o) _ (and-left (goodFactor ν held q (free o ↑ frac n d)) _ h)),
+    factors-fit p (and-right (goodFactor ν held q (free o ↑ frac n d)) _ h),
+  )
+  factors-fit (base x ↑ frac n d ∷ p) h = (
+    stored-fits n d (and-right (held x) _ (and-left (goodFactor ν held q (base x ↑ frac n d)) _ h)),
+    factors-fit p (and-right (goodFactor ν held q (base x ↑ frac n d)) _ h),
+  )
+
+  mutual
+    unfolding goodTy goodProduct
+
+    pub good-fits : (t : Ty ℕ) → goodTy ν held q t ≡ true → Fits t
+    good-fits (opened o) h = tt
+    good-fits (basic b) h = tt
+    good-fits (dim p) h = factors-fit p (and-left (all (goodFactor ν held q) p) _ (and-left (all (goodFactor ν held q) p && rising (orderAtom ν) (map atomOf p)) _ h))
+    good-fits (fn ps r) h = (good-fits-all ps (and-left (goodTys ν held q ps) _ h), good-fits r (and-right (goodTys ν held q ps) _ h))
+    good-fits (struct n as′ fs) h =
+        let f = and-left (held n && goodTys ν held q as′ && goodFields ν held q fs) _ h in
+        (good-fits-all as′ (and-right (held n) _ (and-left (held n && goodTys ν held q as′) _ f)), good-fits-fields fs (and-right (held n && goodTys ν held q as′) _ f))
+    good-fits (list t) h = good-fits t h
+
+    pub good-fits-all : (ts : Tys ℕ) → goodTys ν held q ts ≡ true → FitsTys ts
+    good-fits-all nil h = tt
+    good-fits-all (cons t ts) h = (good-fits t (and-left (goodTy ν held q t) _ h), good-fits-all ts (and-right (goodTy ν held q t) _ h))
+
+    pub good-fits-fields : (fs : Fields ℕ) → goodFields ν held q fs ≡ true → FitsFields fs
+    good-fits-fields noFields h = tt
+    good-fits-fields (field n t fs) h =
+        (good-fits t (and-right (held n) _ (and-left (held n && goodTy ν held q t) _ h)), good-fits-fields fs (and-right (held n && goodTy ν held q t) _ h))

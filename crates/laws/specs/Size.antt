@@ -1,7 +1,7 @@
 -- As many records are written as the size says, and four words a record.
 -- Assumes nothing.
 use mathlib.Core.Path.{_≡_, refl, ap}
-use mathlib.Core.List.{List, [], _∷_}
+use mathlib.Core.List.{List, [], _∷_, _++_}
 use Prim.Native.Nat.{ℕ, suc, _*_}
 use native.Mathlib.Omega.{arith}
 use lib.ListN.{length, length-append, length-map}
@@ -49,3 +49,13 @@ pub set-length : (cs : List (Con ℕ)) → length (collect writeCon cs) ≡ sumO
 unfolding collect
 set-length [] = refl
 set-length (c ∷ cs) = simp (length-append, size-con c, set-length cs)
+
+pub bindings-length : (bs : List (Binding ℕ)) → length (collect writeBinding bs) ≡ sumOf sizeBinding bs
+unfolding collect
+bindings-length [] = refl
+bindings-length (b ∷ bs) = simp (length-append, size-binding b, bindings-length bs)
+
+pub words-append : (a b : List Rec) → words (a ++ b) ≡ words a ++ words b
+unfolding words
+words-append [] b = refl
+words-append (rec k x y z ∷ a) b = ap (λ (l : List ℕ). k ∷ x ∷ y ∷ z ∷ l) (words-append a b)

@@ -36,3 +36,11 @@ module _ {A : Type 0} (n d : ℕ) (a : A) where
       go : (b : Bool) → leb n 2048 ≡ b → (allow b 8 a >>= λ a. allow (leb d 64) 8 a) ≡ got v → n ≤ 2048
       go true i e = leb-true n 2048 i
       go false i e = clash e
+
+  pub sized-flat : (v : A) → sized bounded n d a ≡ got v → d ≤ 64
+  sized-flat v e = go (leb n 2048) (leb d 64) refl e
+    where
+      go : (b c : Bool) → leb d 64 ≡ c → (allow b 8 a >>= λ a. allow c 8 a) ≡ got v → d ≤ 64
+      go true true i e = leb-true d 64 i
+      go true false i e = clash e
+      go false c i e = clash e

@@ -6,13 +6,13 @@ use mathlib.Core.Bool.{false}
 use mathlib.Core.List.{List, [], _∷_}
 use Prim.Native.Nat.{ℕ, _<_}
 use native.Mathlib.Omega.{arith}
-use lib.ListN.{length, drop, getD, List·getD-append}
+use lib.ListN.{length, take, drop, getD, List·getD-append}
 use lib.Seq.{getD-at}
 use Rattle.rules.specs.Base.{Got, got, refused, any}
-use Rattle.rules.specs.Names.{Bytes, orderBytes, numbered, sameBytes, tableOf, namesOf, tableGiven, nameAsked, Entered, unchanged, enterChecks, enterNew, enter}
+use Rattle.rules.specs.Names.{Bytes, orderBytes, numbered, sameBytes, tableOf, namesOf, tableGiven, nameAsked, partFrom, partAsked, Entered, unchanged, enterChecks, enterNew, enter}
 use Rattle.laws.specs.Order.{self}
 use Rattle.laws.specs.ByteOrder.{bytes-lawful}
-use Rattle.laws.specs.NameTable.{Good, good-laid, good-given, length-names, good-distinct, distinct-same, held-tells, Asked, asked-name, name-asked, search-none, free-is, part-length, name-is, placed, new-is}
+use Rattle.laws.specs.NameTable.{Good, good-laid, good-given, length-names, good-distinct, distinct-same, held-tells, Asked, asked-name, name-asked, search-none, free-is, startAt, partOf, start-in, part-length, name-is, placed, new-is}
 use Rattle.laws.specs.Entering.{Enters, Passed, checks-refuse, pass-checks, Case, stopped, known, full, new, enter-case, count-with, names-with, good-with, pool-behind, table-behind, SameFront, same-answer, same-asked}
 use Rattle.names.specs.Promises.{Unheld, NoRoom, Promises, NumberPromises, FrontDecides, Alike}
 
@@ -34,8 +34,17 @@ module _ (pool table : List ℕ) where
       let e : length n ≡ _ = ap length (sym (a .name) ∙ name-is laid i (a .held)) ∙ part-length laid i (a .held) in
       record { good = a .good; long = omega (arith, p .rises); short = omega (arith, p .short) }
 
+  from-the-pool : (i : ℕ) (n : Bytes) → nameAsked pool table i ≡ got n → n ≡ take (length n) (drop (partAsked pool table i .start) pool)
+  unfolding partAsked partFrom
+  from-the-pool i n h =
+      let a = asked-name h in
+      let laid = good-laid (a .good) in
+      let e : n ≡ partOf pool table i = sym (a .name) ∙ name-is laid i (a .held) in
+      rw (h, start-in laid i (a .held)) (e ∙ ap (λ (k : ℕ). take k (drop (startAt table i) pool)) (sym (ap length e ∙ part-length laid i (a .held))))
+
   pub numbers-kept : NumberPromises pool table
   numbers-kept = record {
+    fromThePool = from-the-pool;
     noNameTwice = no-name-twice;
     neverEmpty = λ i h. let p = held-passes (asked-name h) in omega (arith, p .long);
   }

@@ -6,9 +6,9 @@ use mathlib.Core.Path.{_≡_}
 use mathlib.Core.Logic.{_⊎_}
 use mathlib.Core.List.{List, []}
 use Prim.Native.Nat.{ℕ, _-_, _≤_, _<_, Ordering·eq}
-use lib.ListN.{length, drop, getD}
+use lib.ListN.{length, take, drop, getD}
 use Rattle.rules.specs.Base.{got, refused}
-use Rattle.rules.specs.Names.{Bytes, tableOf, held, used, namesOf, numbersOf, tableGiven, nameAsked, unchanged, enterChecks, enter}
+use Rattle.rules.specs.Names.{Bytes, tableOf, held, used, namesOf, numbersOf, tableGiven, nameAsked, partAsked, unchanged, enterChecks, enter}
 
 module _ (pool table : List ℕ) (name : Bytes) where
   -- no number has this name
@@ -45,6 +45,8 @@ pub record NumberPromises (pool table : List ℕ) : Type 0 where
   pub noNameTwice : (i j : ℕ) (n : Bytes) → nameAsked pool table i ≡ got n → nameAsked pool table j ≡ got n → i ≡ j
   -- a name is never empty: the empty part is a refusal
   pub neverEmpty : (i : ℕ) → nameAsked pool table i ≡ got [] → ⊥
+  -- a name's bytes are those of the pool from the start of its part on
+  pub fromThePool : (i : ℕ) (n : Bytes) → nameAsked pool table i ≡ got n → n ≡ take (length n) (drop (partAsked pool table i .start) pool)
 
 -- two lendings that are long enough and begin alike get the same answers, whatever stands behind
 pub record FrontDecides (pool table pool′ table′ : List ℕ) : Type 0 where

@@ -8,7 +8,7 @@ use rules::POOL_BYTES;
 use rules::Refusal;
 ghost use mathlib.Core.Path.{_≡_};
 ghost use mathlib.Core.Bool.{_&&_};
-ghost use mathlib.Core.List.{[], _++_};
+ghost use mathlib.Core.List.{_++_};
 ghost use mathlib.Core.Option.{none};
 ghost use Prim.Native.Nat.{_≤_, _<_};
 ghost use lib.Dec.{leb, ltb};
@@ -16,7 +16,7 @@ ghost use lib.ListN.{length, getD, drop};
 ghost use Rattle.rules.specs.Names.{tableOf, namesOf, numbersOf, numberOf, lengthsGood, distinct, tableGood, hasRoom, enterKnown, enterChecked};
 ghost use Rattle.laws.specs.NameTable.{startAt, endsOf, Laid, Good};
 ghost use Rattle.rules.specs.Base.{need};
-ghost use Rattle.names.specs.Told.{toldOrder, toldFound, entered};
+ghost use Rattle.names.specs.Told.{toldOrder, toldFound, IsPart, heldPart, entered};
 
 // What a search answers: a number, or nothing.
 pub enum Found {
@@ -58,7 +58,7 @@ fn start_of(table: &[u32], k: usize) -> usize
 pub fn name_at<'a, 'b>(pool: &'a [u8], table: &'b [u32], k: usize) -> &'a [u8]
     requires { ⌜ Laid (now pool) (now table) ⌝ }
     requires { ⌜ k < getD (now table) 0 0 ⌝ }
-    ensures { λ r. ⌜ now r ≡ getD (namesOf (tableOf (now (pool .entry)) (now (table .entry)))) k [] ⌝ }
+    ensures { λ r. ⌜ IsPart (pool .entry) r (heldPart (now (pool .entry)) (now (table .entry)) k) ⌝ }
 {
     let start = start_of(table, k);
     let end = wide(table[k + 1]);

@@ -3,8 +3,8 @@ use rules::POOL_BYTES;
 use rules::Refusal;
 use rules::TABLE_WORDS;
 ghost use mathlib.Core.Path.{_≡_};
-ghost use Rattle.rules.specs.Names.{orderBytes, tableGiven, nameAsked, partOf, enter};
-ghost use Rattle.names.specs.Told.{toldOrder, toldChecked, refusalOf, entered};
+ghost use Rattle.rules.specs.Names.{orderBytes, tableGiven, nameAsked, partAsked, enter};
+ghost use Rattle.names.specs.Told.{toldOrder, toldChecked, refusalOf, IsPart, entered};
 
 pub mod inner;
 
@@ -87,7 +87,7 @@ pub fn check_number(pool: &[u8], table: &[u32], number: u32) -> Checked
 
 // The name with this number: that part of the pool itself, and the empty part where `check_number` refuses.
 pub fn name_of<'a, 'b>(pool: &'a [u8], table: &'b [u32], number: u32) -> &'a [u8]
-    ensures { λ r. ⌜ now r ≡ partOf (nameAsked (now (pool .entry)) (now (table .entry)) number) ⌝ }
+    ensures { λ r. ⌜ IsPart (pool .entry) r (partAsked (now (pool .entry)) (now (table .entry)) number) ⌝ }
 {
     match check_number(pool, table, number) {
         Checked::Good => inner::name_at(pool, table, number as usize),

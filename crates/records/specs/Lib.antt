@@ -12,3 +12,4 @@ pub mod Moves
 pub mod Given
 pub mod Whole
 pub mod Schemes
+pub mod Determined

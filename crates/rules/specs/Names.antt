@@ -3,7 +3,7 @@
 use mathlib.Core.Bool.{Bool, true, false, not, _&&_}
 use mathlib.Core.List.{List, [], _∷_, _++_}
 use mathlib.Core.Option.{Option, none, some}
-use Prim.Native.Nat.{ℕ, suc, _+_, _-_, compare, Ordering, Ordering·lt, Ordering·eq, Ordering·gt}
+use Prim.Native.Nat.{ℕ, zero, suc, _+_, _-_, compare, Ordering, Ordering·lt, Ordering·eq, Ordering·gt}
 use native.Mathlib.Decide.{ℕ-discrete}
 use lib.Dec.{leb, ltb}
 use lib.ListN.{length, take, drop, getD, set}
@@ -160,3 +160,21 @@ nameAsked pool table i = do
 abbrev pub partOf : Got Bytes → Bytes
 partOf (got name) = name
 partOf (refused n) = []
+
+-- where a name starts in the pool: at the end of the one before it
+unfoldable pub startIn : Table → ℕ → ℕ
+startIn t zero = 0
+startIn t (suc i) = getD (held t) i 0
+
+-- a part of the pool: where it starts, and its bytes
+pub record PoolPart : Type 0 where
+  pub start : ℕ
+  pub bytes : Bytes
+
+-- 'asking for a number's name gives back that part of the pool itself. Refusals give the empty part'
+unfoldable pub partFrom : ℕ → Got Bytes → PoolPart
+partFrom start (got name) = record { start = start; bytes = name }
+partFrom start (refused n) = record { start = 0; bytes = [] }
+
+unfoldable pub partAsked : List ℕ → List ℕ → ℕ → PoolPart
+partAsked pool table i = partFrom (startIn (tableOf pool table) i) (nameAsked pool table i)

@@ -1,14 +1,19 @@
--- An answer of solving with its buffers is told in one way: two that are told the same coincide. Assumes nothing.
-use mathlib.Core.Path.{_≡_, ap, ap₂}
+-- The contract leaves no choice: two results that it allows coincide (`solve-determined`). And the answer has document 01's number of
+-- its outcome (`solve-numbered`): 5 where constraints remain.
+-- Assumes nothing.
+use mathlib.Core.Path.{_≡_, refl, ap, ap₂, sym, _∙_}
 use mathlib.Core.List.{List}
 use Prim.Native.Nat.{ℕ}
 use native.Mathlib.Omega.{arith}
 use Rattle.rules.specs.Calls as calls
+use Rattle.rules.specs.Calls.{solveCall}
+use Rattle.rules.specs.Numbers as numbers
+use Rattle.rules.specs.Numbers.{number}
 use Rattle.laws.specs.Numbers.{number-injective}
 use Rattle.solving.specs.declared.Outcome.{Outcome}
 use Rattle.solving.specs.declared.Outcome.the-variants.{Solved, Unsolved, Refused}
 use Rattle.solving.specs.declared.Solution.{Solution}
-use Rattle.solving.specs.Told.{toldOutcome, solutionAs}
+use Rattle.solving.specs.Told.{toldOutcome, numberOutcome, solutionAs}
 
 outcome-injective : (a b : Outcome) (j k : ℕ) → toldOutcome a j ≡ toldOutcome b k → (a ≡ b) × (j ≡ k)
 outcome-injective (Solved x y) (Solved x′ y′) j k e = let p : x ≡ x′ = cc in let q : y ≡ y′ = cc in let r : j ≡ k = cc in (ap₂ Solved p q, r)
@@ -36,3 +41,18 @@ one-result a b result result′ work work′ e =
       results = ap (λ (s : calls.Solution). s .result) e;
       works = ap (λ (s : calls.Solution). s .work) e;
     }
+
+outcome-in : (a : Outcome) (k : ℕ) → numberOutcome a ≡ numbers.refusalOf (toldOutcome a k)
+unfolding numbers.refusalOf
+outcome-in (Solved b n) k = refl
+outcome-in (Unsolved n) k = refl
+outcome-in (Refused r) k = refl
+
+module _ (pool table set result work : List ℕ) where
+  -- `solve`
+  pub solve-determined : (p q : Solution) (a b c d : List ℕ) → solutionAs p a c ≡ solveCall pool table set result work → solutionAs q b d ≡ solveCall pool table set result work → OneResult p q a b c d
+  solve-determined p q a b c d h k = one-result p q a b c d (h ∙ sym k)
+
+  pub solve-numbered : (p : Solution) (a c : List ℕ) → solutionAs p a c ≡ solveCall pool table set result work → numberOutcome (p .outcome) ≡ number (numbers.solution (solveCall pool table set result work))
+  unfolding number
+  solve-numbered p a c h = outcome-in (p .outcome) (p .rounds) ∙ ap (λ (s : calls.Solution). numbers.refusalOf (s .answer)) h

@@ -8,6 +8,7 @@ use Rattle.rules.specs.Calls.{solvedOf, solvedWords, resultAfter}
 use Rattle.rules.specs.Refusals.{numberOf}
 use Rattle.rules.specs.Solving.{Answer}
 use Rattle.rules.specs.declared.Refusal.{Refusal}
+use Rattle.rules.specs.declared.Refusal.the-variants as refusal
 use Rattle.solving.specs.declared.Outcome.{Outcome}
 use Rattle.solving.specs.declared.Outcome.the-variants.{Solved, Unsolved, Refused}
 use Rattle.solving.specs.declared.Solution.{Solution}
@@ -16,6 +17,12 @@ abbrev pub toldOutcome : Outcome → ℕ → calls.Solved
 toldOutcome (Solved b n) k = calls.solved b n k
 toldOutcome (Unsolved n) k = calls.unsolved n k
 toldOutcome (Refused r) k = calls.refusedAfter (numberOf r) k
+
+-- its number in document 01: 0 where the set is solved, 5 where constraints remain
+abbrev pub numberOutcome : Outcome → ℕ
+numberOutcome (Solved b n) = 0
+numberOutcome (Unsolved n) = numberOf refusal.Unsolved
+numberOutcome (Refused r) = numberOf r
 
 abbrev pub refusedAs : Refusal → ℕ → Solution
 refusedAs r k = record { outcome = Refused r; rounds = k }

@@ -8,13 +8,26 @@ use lending::lent;
 use rules::Refusal;
 ghost use mathlib.Core.Path.{_≡_};
 ghost use Rattle.rules.specs.Calls.{solveCall};
-ghost use Rattle.solving.specs.Told.{solutionAs};
+ghost use Rattle.solving.specs.Told.{numberOutcome, solutionAs};
 
 // How many records of bindings and of bounds were written; how many records of constraints remain (5); or why there is no answer.
 pub enum Outcome {
     Solved(usize, usize),
     Unsolved(usize),
     Refused(Refusal),
+}
+
+impl Outcome {
+    // Its number in document 01: 0 where the set is solved, 5 where constraints remain.
+    pub fn number(self) -> u32
+        ensures { λ r. ⌜ r ≡ numberOutcome self ⌝ }
+    {
+        match self {
+            Outcome::Solved(_, _) => 0,
+            Outcome::Unsolved(_) => Refusal::Unsolved.number(),
+            Outcome::Refused(why) => why.number(),
+        }
+    }
 }
 
 // What solving answers, with the number of completed rounds.

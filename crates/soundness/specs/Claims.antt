@@ -4,15 +4,17 @@ use mathlib.Core.Path.{_≡_}
 use mathlib.Core.Bool.{Bool, true, false}
 use mathlib.Core.Logic.{_⊎_}
 use mathlib.Core.List.{List, [], _∷_, _++_, map, List·Memᴰ}
-use Prim.Native.Nat.{ℕ}
-use lib.ListN.{length}
-use Rattle.rules.specs.Base.{Got, got, refused, _>>_, all, collect, sumOf}
+use Prim.Native.Nat.{ℕ, suc, _*_}
+use lib.Dec.{eqb}
+use lib.ListN.{length, take, drop}
+use Rattle.rules.specs.Base.{Got, got, refused, _>>_, bounded, onlyIf, toList, all, collect, sumOf}
 use Rattle.rules.specs.Trees.{var, Names, Ty, Con, Binding, _≔_, opensCon, sizeBinding}
 use Rattle.rules.specs.Names.{tableOf, numbersOf, isHeld}
 use Rattle.rules.specs.Writing.{words, writeBinding, writeBound}
 use Rattle.rules.specs.Calls.{lentWork, shortLists, shortNumbers, setGiven, entriesGiven, risingBounds, over, solveCall, Entry, judgeCall}
 use Rattle.rules.specs.Contents.{contains, unmixed}
 use Rattle.rules.specs.WellFormed.{rising, goodCon, goodBinding}
+use Rattle.rules.specs.Solving.{accepted, solve}
 use Rattle.rules.specs.Meaning.{TrueUnder, Solves, Premise}
 use Rattle.laws.specs.Order.{Lawful, Tells}
 use Rattle.laws.specs.Lists.{All}
@@ -75,12 +77,30 @@ pub record Proposes (pool table set : List ℕ) (bs : List (Binding ℕ)) (ns : 
 abbrev pub YesOrLimits : Got Bool → Type 0
 YesOrLimits answer = (answer ≡ got true) ⊎ ((answer ≡ refused 7) ⊎ (answer ≡ refused 8))
 
+-- the parts of the result buffer that hold the written bindings, and behind them the bounds
+abbrev pub bindingsIn : List ℕ → ℕ → List ℕ
+bindingsIn result records = take (records * 4) result
+
+abbrev pub boundsIn : List ℕ → ℕ → ℕ → List ℕ
+boundsIn result records bounds = take (bounds * 4) (drop (records * 4) result)
+
+-- an entry for each of these words' records that begins a binding (kind 24): its variable, and the place behind that record, where its type
+-- stands. The first record has the place `at`
+unfoldable pub pointed : ℕ → List ℕ → List Entry
+pointed at [] = []
+pointed at (k ∷ []) = []
+pointed at (k ∷ a ∷ []) = []
+pointed at (k ∷ a ∷ b ∷ []) = []
+pointed at (k ∷ a ∷ b ∷ c ∷ ws) = toList (onlyIf (eqb k 24) (record { variable = a; place = suc at })) ++ pointed (suc at) ws
+
 -- an accepted answer: the constraints that were read, the bindings and bounds that were written, and what they are worth
 pub record SoundAnswer (pool table set result work : List ℕ) (records bounds rounds : ℕ) : Type 0 where
   pub cs : List (Con ℕ)
   pub bs : List (Binding ℕ)
   pub ns : List ℕ
   pub read : setGiven (tableOf pool table) set ≡ got cs
+  pub short : shortLists (set ∷ []) ≡ got tt
+  pub accepts : solve (numbersOf (tableOf pool table)) bounded cs ≡ accepted bs ns rounds
   pub written : solveCall pool table set result work .result ≡ over (words (collect writeBinding bs ++ map (λ n. writeBound (var n)) ns)) result
   pub binding-records : sumOf sizeBinding bs ≡ records
   pub bound-records : length ns ≡ bounds

@@ -12,3 +12,4 @@ pub mod Truth
 pub mod Back
 pub mod Finds
 pub mod Words
+pub mod Own

@@ -1,8 +1,8 @@
 -- What an accepted answer is worth, and what the judge's verdicts say. The words stand in Claims and in rules' Meaning, the proofs in the other files.
 -- Assumes nothing.
-use mathlib.Core.Path.{_≡_}
+use mathlib.Core.Path.{_≡_, refl}
 use mathlib.Core.Bool.{Bool, true, false}
-use mathlib.Core.List.{List, []}
+use mathlib.Core.List.{List, [], _∷_}
 use Prim.Native.Nat.{ℕ}
 use Rattle.rules.specs.Base.{got, bounded}
 use Rattle.rules.specs.Trees.{Names, Con, Binding}
@@ -10,12 +10,13 @@ use Rattle.rules.specs.Solving.{accepted, solve}
 use Rattle.rules.specs.Meaning.{Solves, Premise}
 use Rattle.rules.specs.Judging.{judge}
 use Rattle.rules.specs.Names.{tableOf, numbersOf}
-use Rattle.rules.specs.Calls.{solved, solveCall, Entry, judgeCall}
-use Rattle.soundness.specs.Claims.{Ordered, Given, SolvedForm, Fails, YesOrLimits, SoundAnswer, JudgedSet}
+use Rattle.rules.specs.Calls.{lentWork, solved, solveCall, Entry, judgeCall}
+use Rattle.soundness.specs.Claims.{Ordered, Given, SolvedForm, Fails, YesOrLimits, Proposes, pointed, bindingsIn, boundsIn, SoundAnswer, JudgedSet}
 use Rattle.soundness.specs.Form as Form
 use Rattle.soundness.specs.Runs as Runs
 use Rattle.soundness.specs.Judged as Judged
 use Rattle.soundness.specs.Words as Words
+use Rattle.soundness.specs.Own as Own
 use Rattle.soundness.specs.Instances.{names, held, ordered, k2, k2-bindings, k2-given, k2-accepted, k2-premise, k5, k5-bindings, k5-given, k5-accepted, k5-premise, k8, k8-bounds, k8-given, k8-accepted, k8-premise, k10, k10-bindings, k10-given, k10-accepted, k10-no-premise, k10-judged}
 
 -- ══ An accepted answer ══
@@ -57,6 +58,26 @@ module _ (pool table set : List ℕ) (entries : List Entry) (types bounds work :
   pub judge-call-no : judgeCall pool table set entries types bounds work .answer ≡ got false → JudgedSet pool table set entries types bounds (Fails (numbersOf (tableOf pool table)))
   judge-call-no says = Words.judge-call-no pool table set entries types bounds work says
 
+-- what solving wrote, judged where it stands: an entry for each written binding points at its type in the result buffer, the bounds are the
+-- records behind the bindings, and nothing is copied
+module _ (pool table set result work : List ℕ) (records bounds rounds : ℕ) (accepts : solveCall pool table set result work .answer ≡ solved records bounds rounds) where
+  abbrev answer : SoundAnswer pool table set result work records bounds rounds
+  answer = solve-call pool table set result work records bounds rounds accepts
+
+  abbrev written : List ℕ
+  written = bindingsIn (solveCall pool table set result work .result) records
+
+  abbrev behind : List ℕ
+  behind = boundsIn (solveCall pool table set result work .result) records bounds
+
+  -- it can always be proposed to the judge
+  pub own-proposed : (buffer : List ℕ) → lentWork buffer ≡ got tt → Proposes pool table set (answer .bs) (answer .ns) (pointed 0 written) written behind buffer
+  own-proposed = Own.own-proposed pool table set result work records bounds rounds answer
+
+  -- and under demand 3's premise the judge says yes, 7 or 8
+  pub own-words : Premise (numbersOf (tableOf pool table)) (answer .cs) (answer .bs) → (buffer : List ℕ) → lentWork buffer ≡ got tt → YesOrLimits (judgeCall pool table set (pointed 0 written) written behind buffer .answer)
+  own-words premise buffer lent = answer .judged premise (pointed 0 written) written behind buffer (own-proposed buffer lent)
+
 -- ══ Instances ══
 
 pub k2-solved : Solves names k2 k2-bindings []
@@ -67,6 +88,11 @@ k5-solved = demand-3 names held ordered k5 k5-given k5-bindings [] 1 k5-accepted
 
 pub k8-solved : Solves names k8 [] k8-bounds
 k8-solved = demand-3 names held ordered k8 k8-given [] k8-bounds 1 k8-accepted k8-premise
+
+-- K2's whole answer, (24,0,0,0)(4,0,0,0), is proposed by one entry: the variable 0, its type at the place 1
+pub k2-entries : pointed 0 (24 ∷ 0 ∷ 0 ∷ 0 ∷ 4 ∷ 0 ∷ 0 ∷ 0 ∷ []) ≡ record { variable = 0; place = 1 } ∷ []
+unfolding pointed
+k2-entries = refl
 
 -- K10 doesn't meet the premise; it is accepted, but its answer is no solution
 pub k10-outside : ¬ (Premise names k10 k10-bindings)

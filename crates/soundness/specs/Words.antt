@@ -1,6 +1,6 @@
 -- The theorems for the calls on words: what a call checks is what the theorems ask.
 -- Assumes nothing.
-use mathlib.Core.Path.{_≡_, refl, subst}
+use mathlib.Core.Path.{_≡_, refl, ap, _∙_, subst}
 use mathlib.Core.Bool.{Bool, true, false}
 use mathlib.Core.List.{List, [], _∷_, _++_}
 use Prim.Native.Nat.{ℕ, _<_, _≤_}
@@ -63,6 +63,7 @@ module _ (pool table set : List ℕ) where
   -- a set that passed the checks, and was accepted
   record Passed (bs : List (Binding ℕ)) (ns : List ℕ) (k : ℕ) : Type 0 where
     cs : List (Con ℕ)
+    short : shortLists (set ∷ []) ≡ got tt
     read : setGiven t set ≡ got cs
     kept : (u : Unit {0}) × (tableKept t ≡ got u)
     order : Ordered (numbersOf t) (isHeld t)
@@ -79,6 +80,7 @@ module _ (pool table set : List ℕ) where
       let l = lent-long pool table u h in
       record {
         cs = c .0;
+        short = a .1;
         read = c .1;
         kept = (b .0, b .1);
         order = numbers-ordered pool table (record { bytes = l .0; words = l .1; good = kept-good t (b .0) (b .1) });
@@ -113,6 +115,8 @@ module _ (pool table set : List ℕ) where
             bs = bs;
             ns = ns;
             read = s .read;
+            short = s .short;
+            accepts = s .accepts ∙ ap (accepted bs ns) (cc);
             written = rw i;
             binding-records = cc;
             bound-records = cc;

@@ -1,18 +1,18 @@
 -- `names::name_of` meets its contract: a number that passed has a name, and a refusal gives the empty part. Assumes nothing.
-use mathlib.Core.Path.{_≡_, refl, _∙_}
+use mathlib.Core.Path.{_≡_, refl, subst}
 use mathlib.Core.Bool.{Bool, true, false}
 use mathlib.Core.List.{List, []}
 use Prim.Native.Nat.{ℕ, _<_}
 use native.Mathlib.Omega.{arith}
 use borrow.Author.Needs.{needs}
-use borrow.Author.Tests.{ltb-true, lt-ltb}
+use borrow.Author.Tests.{ltb-true}
 use lib.Dec.{ltb}
 use lib.ListN.{getD}
 use denote.Ref.{now}
 use Rattle.rules.specs.Base.{Got, got, refused, _>>_, need}
-use Rattle.rules.specs.Names.{Bytes, tableOf, namesOf, tableGiven, nameAsked, partOf}
-use Rattle.laws.specs.NameTable.{Good, good-laid, given-good, good-given}
-use Rattle.names.specs.Told.{refusalOf}
+use Rattle.rules.specs.Names.{Bytes, tableOf, namesOf, tableGiven, nameAsked, startIn, partFrom, partAsked}
+use Rattle.laws.specs.NameTable.{Good, good-laid, given-good, name-asked, start-in}
+use Rattle.names.specs.Told.{refusalOf, IsPart, heldPart}
 use Rattle.names.proofs.name_of.Statement.{statement}
 use Rattle.names.proofs.name_of.Tie as tie
 
@@ -27,13 +27,14 @@ module _ (p t : List ℕ) (i : ℕ) where
       go (got u) e false f h = let z : _≡_ {A = ℕ} 0 1 = cc in absurd (omega arith)
       go (got u) e true f h = (given-good e, ltb-true i (getD t 0 0) f)
 
-  named : Good p t → i < getD t 0 0 → getD (namesOf (tableOf p t)) i [] ≡ partOf (nameAsked p t i)
-  unfolding nameAsked tableOf
-  named g h = rw (good-given g, lt-ltb i (getD t 0 0) h)
+  named : Good p t → i < getD t 0 0 → heldPart p t i ≡ partAsked p t i
+  unfolding partAsked partFrom
+  named g h = rw (name-asked g i h, start-in (good-laid g) i h)
 
-nothing : (x : Got Bytes) {k : ℕ} → refused k ≡ refusalOf x → [] ≡ partOf x
-nothing (got n) h = cc
-nothing (refused k) h = refl
+nothing : (start : ℕ) (x : Got Bytes) {k : ℕ} → refused k ≡ refusalOf x → record { start = 0; bytes = [] } ≡ partFrom start x
+unfolding partFrom
+nothing start (got n) h = cc
+nothing start (refused k) h = refl
 
 check-number-requires : tie.Need-check-number-requires
 check-number-requires c κs = search needs
@@ -66,13 +67,15 @@ returns c =
     let k = t .before .before in
     let a = k .before .before .before .args in
     let h = held (now (a .pool)) (now (a .table)) (a .number) (rw (t .enum-told .given .1) at (k .check-number .ensures)) in
-    c .name-at .ensures ∙ named (now (a .pool)) (now (a .table)) (a .number) (h .0) (h .1)
+    subst (IsPart (a .pool) _) (named (now (a .pool)) (now (a .table)) (a .number) (h .0) (h .1)) (c .name-at .ensures)
 
 returns-2 : tie.Need-returns-2
+unfolding partAsked partFrom
 returns-2 c =
     let t = c .before in
     let a = t .before .before .before .before .before .args in
-    nothing (nameAsked (now (a .pool)) (now (a .table)) (a .number)) (rw (t .enum-told2 .given .1) at (t .before .before .check-number .ensures))
+    let e = nothing (startIn (tableOf (now (a .pool)) (now (a .table))) (a .number)) (nameAsked (now (a .pool)) (now (a .table)) (a .number)) (rw (t .enum-told2 .given .1) at (t .before .before .check-number .ensures)) in
+    subst (IsPart (a .pool) _) e (record { place = refl; bytes = refl })
 
 pub name-of-spec : {M : Type 1} → statement M
 name-of-spec =

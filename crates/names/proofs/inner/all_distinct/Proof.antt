@@ -54,7 +54,7 @@ told : (c : tie.After-search Inv-loop μ-loop) →
     let a = l .before .before .before .before .before .args in
     let names = namesOf (tableOf (now (a .pool)) (now (a .table))) in
     toldFound (c .search .result) ≡ numberOf (l .loop .k + 1) (getD names (l .loop .k) []) (drop (l .loop .k + 1) names)
-told c = rw (c .before .name-at .ensures) at (c .search .ensures)
+told c = rw (c .before .name-at .ensures .bytes) at (c .search .ensures)
 
 shared-slice-read-wide : tie.Need-shared-slice-read-wide Inv-loop μ-loop
 shared-slice-read-wide c = omega arith

@@ -56,7 +56,10 @@ returns : tie.Need-returns
 returns c =
     let w = c .before in
     let s = w .before .before .before .before .before in
-    rw (w .wide .ensures, w .before .before .start-of .ensures, add-one (s .args .k)) (sym (name-is (s .pre .0) (s .args .k) (s .pre .1)))
+    record {
+      place = rw (w .before .before .start-of .ensures);
+      bytes = rw (w .wide .ensures, w .before .before .start-of .ensures, add-one (s .args .k)) (sym (name-is (s .pre .0) (s .args .k) (s .pre .1)));
+    }
 
 pub name-at-spec : {M : Type 1} → statement M
 name-at-spec =

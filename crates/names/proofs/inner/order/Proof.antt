@@ -26,7 +26,7 @@ unfolding numbered
 returns c =
     let n = c .before in
     let m = n .before .before in
-    rw (m .before .wide .ensures, n .before .wide2 .ensures) at (c .compare .ensures ∙ ap₂ orderBytes (m .name-at .ensures) (n .name-at2 .ensures))
+    rw (m .before .wide .ensures, n .before .wide2 .ensures) at (c .compare .ensures ∙ ap₂ orderBytes (m .name-at .ensures .bytes) (n .name-at2 .ensures .bytes))
 
 pub order-spec : {M : Type 1} → statement M
 order-spec = tie.close (tie.spec wide-requires name-at-requires wide-requires-2 name-at-requires-2 compare-requires returns)
