@@ -51,8 +51,8 @@ pub fn repeats(entries: &[Entry]) -> bool
 }
 
 // One number for each name: 0, or one more than the place of its entry. A place takes all of 32 bits, so these are wider.
-struct Slots {
-    at: [u64; NAMES],
+pub struct Slots {
+    pub at: [u64; NAMES],
 }
 
 fn no_slots() -> Slots
@@ -80,7 +80,7 @@ fn note(s: Slots, v: u32, f: Found) -> Slots
 }
 
 // Each name is looked up. From here on nothing has a `&[Entry]`.
-fn slots_of(entries: &[Entry]) -> Slots
+pub fn slots_of(entries: &[Entry]) -> Slots
     ensures { λ r. ⌜ r ≡ slotsOf (told (now (entries .entry))) ⌝ }
 {
     let mut s = no_slots();
@@ -118,7 +118,7 @@ fn is_sound(pool: &[u8], table: &[u32], types: &[u32], v: u32, w: u64) -> bool
 }
 
 // Writes the slots as the table of places, if all that is asked of the entries holds: as many slots are taken as there are entries.
-fn fill(
+pub fn fill(
     pool: &[u8],
     table: &[u32],
     types: &[u32],
