@@ -32,7 +32,7 @@ fn stopped(k: Refusal) -> Verdict
     ensures { λ r. ⌜ told r ≡ failed (refused (numberOf k)) ⌝ }
 {
     if k.number() == 6 {
-        Verdict::No
+        Verdict::No // the bindings don't fit
     } else {
         Verdict::Refused(k)
     }
