@@ -1,23 +1,19 @@
 -- The checks of the judge at entry, and what is known where they are met. Assumes nothing.
-use mathlib.Core.Path.{_≡_, refl, sym, ap, _∙_}
+use mathlib.Core.Path.{_≡_, refl, sym, _∙_}
 use mathlib.Core.Bool.{Bool, true, false, not, _&&_, and-eq-true-iff}
 use mathlib.Core.List.{List, [], _∷_, _++_, map}
-use mathlib.Core.Option.{some}
 use Prim.Native.Nat.{ℕ, _/_, _%_, _≤_, _<_}
-use native.Mathlib.Omega.{arith}
 use borrow.Author.Tests.{leb-true, lt-leb, le-leb, eq-eqb, ne-eqb}
 use lib.Dec.{leb, eqb}
 use lib.ListN.{length, replicate}
 use Rattle.rules.specs.Base.{Got, got, refused, _>>=_, _>>_, need, bounded, all, collect}
-use Rattle.rules.specs.Calls.{Entry, Judged, shortLists, shortNumbers, tableKept, setGiven, boundsGiven, risingBounds, entriesGiven, apart, opensBinding, aloneGiven, setCall, lentWork, workAfter, judgedSet, judgeCall, differ}
+use Rattle.rules.specs.Calls.{Entry, shortLists, shortNumbers, tableKept, setGiven, boundsGiven, risingBounds, entriesGiven, apart, opensBinding, aloneGiven, setCall, lentWork, workAfter, judgedSet, judgeCall, differ}
 use Rattle.rules.specs.Judging.{judge}
-use Rattle.rules.specs.Names.{tableOf, numbersOf, isHeld, tableGood, lentTable}
+use Rattle.rules.specs.Names.{tableOf, numbersOf, tableGood, lentTable}
 use Rattle.rules.specs.Reading.{readBound}
-use Rattle.rules.specs.Refusals.{numberOf}
 use Rattle.rules.specs.Trees.{Open, Con, opensCon}
 use Rattle.rules.specs.WellFormed.{rising}
 use Rattle.rules.specs.Writing.{wordOf}
-use Rattle.rules.specs.declared.Refusal.{Refusal}
 use Rattle.laws.specs.Checks.{need-passed, first-passed, next-passed}
 use Rattle.laws.specs.Lists.{clash}
 use Rattle.laws.specs.NameTable.{Good}

@@ -1,20 +1,19 @@
 -- Entries that were placed, as the walks and the checks ask for them. Assumes nothing.
-use mathlib.Core.Path.{_≡_, refl, sym, ap, subst, _∙_}
+use mathlib.Core.Path.{_≡_, refl, ap}
 use mathlib.Core.Bool.{Bool, true, false, cond, and-eq-true-iff}
-use mathlib.Core.List.{List, [], _∷_, _++_, map}
+use mathlib.Core.List.{List, [], _∷_, map}
 use mathlib.Core.Option.{Option, none, some}
-use Prim.Native.Nat.{ℕ, _+_, _/_, _≤_, _<_}
+use Prim.Native.Nat.{ℕ, _+_, _≤_, _<_}
 use native.Mathlib.Decide.{decLt}
 use native.Mathlib.Omega.{arith}
 use borrow.Author.Tests.{ltb-true, ltb-false, ne-eqb}
 use lib.Dec.{eqb, ltb}
 use lib.ListN.{length, getD, List·getD-eq-default}
-use Rattle.rules.specs.Base.{all, any, collect, got, refused, need, bounded, _>>=_, _>>_}
-use Rattle.rules.specs.Calls.{Entry, entriesGiven, risingBounds, apart, opensBinding}
-use Rattle.rules.specs.Contents.{unmixed}
-use Rattle.rules.specs.Names.{tableOf, namesOf, numbered, isHeld}
+use Rattle.rules.specs.Base.{all, any}
+use Rattle.rules.specs.Calls.{Entry}
+use Rattle.rules.specs.Names.{tableOf, namesOf, isHeld}
 use Rattle.rules.specs.Replacing.{find, bindings}
-use Rattle.rules.specs.Trees.{Open, var, quant, par, Ty, Con, Binding, _≔_, opensCon, size}
+use Rattle.rules.specs.Trees.{Open, var, quant, par, Ty, Binding, _≔_, size}
 use Rattle.rules.specs.WellFormed.{goodTy, goodBinding}
 use Rattle.laws.specs.NameTable.{Good, good-laid}
 use Rattle.laws.specs.Weaker.{ty-weaker}
@@ -25,7 +24,6 @@ use Rattle.entries.specs.Tables as tables
 use Rattle.entries.specs.Answers.{Bound}
 use Rattle.replacing.specs.Places.{SaysAt, wordOf}
 use Rattle.replacing.specs.Runs.{looked-good}
-use Rattle.replacing.specs.Well.{Lent}
 use Rattle.proposals.specs.Mixed.{variable, Table}
 use Rattle.proposals.specs.Order.{find-no}
 use Rattle.trials.specs.Trials.{Put}

@@ -1,10 +1,10 @@
 -- The judge past its set: entries, bounds, names that are both, then the constraints. Assumes nothing.
-use mathlib.Core.Path.{_≡_, refl, sym, ap, subst, _∙_}
-use mathlib.Core.Bool.{Bool, true, false, not, and-eq-true-iff}
+use mathlib.Core.Path.{_≡_, refl, sym, ap}
+use mathlib.Core.Bool.{Bool, true, false, and-eq-true-iff}
 use mathlib.Core.List.{List, [], _∷_, _++_, map}
-use Prim.Native.Nat.{ℕ, _/_, _≤_}
+use Prim.Native.Nat.{ℕ, _/_}
 use lib.ListN.{length}
-use Rattle.rules.specs.Base.{Got, got, refused, need, bounded, all, collect}
+use Rattle.rules.specs.Base.{got, refused, need, bounded, all, collect}
 use Rattle.rules.specs.Calls.{Entry, entriesGiven, risingBounds, apart, opensBinding}
 use Rattle.rules.specs.Contents.{unmixed}
 use Rattle.rules.specs.Judging.{judge}
@@ -12,7 +12,7 @@ use Rattle.rules.specs.Names.{tableOf}
 use Rattle.rules.specs.Trees.{Con, Binding, opensCon, sizeCon}
 use Rattle.rules.specs.WellFormed.{goodCon}
 use Rattle.laws.specs.KnownNames.{every-append, binding-known}
-use Rattle.laws.specs.NameTable.{Good, good-laid}
+use Rattle.laws.specs.NameTable.{good-laid}
 use Rattle.records.specs.Found.{Words32}
 use Rattle.records.specs.Good as records
 use Rattle.records.specs.Good.{numbers, holding}
@@ -26,7 +26,6 @@ use Rattle.replacing.specs.Flat.{goodLine}
 use Rattle.replacing.specs.Given.{row, given-set}
 use Rattle.replacing.specs.LineRules.{con}
 use Rattle.entries.specs.Answers.{Bound, placed-yes, placed-no}
-use Rattle.entries.specs.Entries.{slotsOf}
 use Rattle.entries.specs.Placing.{placed}
 use Rattle.entries.specs.Tables.{Made}
 use Rattle.entries.specs.declared.inner.Slots.{Slots}

@@ -1,20 +1,19 @@
 -- Bounds with names, one a record. Assumes nothing.
-use mathlib.Core.Path.{_≡_, refl, sym, ap, subst, _∙_}
-use mathlib.Core.Bool.{Bool, true, false, _&&_}
+use mathlib.Core.Path.{_≡_, refl, subst, _∙_}
+use mathlib.Core.Bool.{true, false, _&&_}
 use mathlib.Core.List.{List, [], _∷_, _++_, map, append-assoc}
 use Prim.Native.Nat.{ℕ, zero, suc, _+_, _-_, _/_, _≤_, _<_, Ordering}
 use native.Mathlib.Nat.{add-zero}
 use native.Mathlib.Numerals.{add-one}
 use native.Mathlib.Omega.{arith}
 use borrow.Author.Tests.{ltb-true}
-use lib.Dec.{ltb}
 use lib.ListN.{length, getD, take, drop, length-drop}
 use lib.Seq.{drop-cons, take-suc}
 use Rattle.rules.specs.Names.{tableOf}
 use Rattle.rules.specs.Trees.{Open, var, quant, par}
 use Rattle.rules.specs.WellFormed.{goodOpen, isLt, rising}
 use Rattle.rules.specs.Writing.{wordOf}
-use Rattle.records.specs.Good.{Chain, GoodBound, numbers, holding}
+use Rattle.records.specs.Good.{Chain, GoodBound}
 use Rattle.records.specs.Good as records
 use Rattle.records.specs.Holds.{HoldsBound}
 

@@ -1,5 +1,5 @@
 -- The open names of a table of places. Assumes nothing.
-use mathlib.Core.Path.{_≡_, refl, sym, ap, _∙_}
+use mathlib.Core.Path.{_≡_, refl}
 use mathlib.Core.Bool.{Bool, true}
 use mathlib.Core.List.{List, [], _∷_, _++_, map, append-assoc, append-nil}
 use mathlib.Core.Option.{Option, none, some}
@@ -16,7 +16,7 @@ use Rattle.rules.specs.Trees.{Open, var, Ty, Binding, _≔_, opens, size}
 use Rattle.records.specs.Holds.{Holds}
 use Rattle.replacing.specs.Places.{SaysAt, says-some}
 use Rattle.queries.specs.Marks.{Marks}
-use Rattle.queries.specs.Scans.{choose, opensIn, toldName}
+use Rattle.queries.specs.Scans.{choose, opensIn}
 use Rattle.queries.specs.ScanLaws.{choose-append, type-opens}
 use Rattle.queries.specs.declared.Kind.{Kind}
 use Rattle.queries.specs.declared.Kind.the-variants.{Variables, Parameters, Both}

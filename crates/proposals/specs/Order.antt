@@ -10,7 +10,6 @@ use borrow.Author.Tests.{eq-eqb, ne-eqb, lt-ltb, le-ltb, not-true}
 use lib.Dec.{eqb, ltb}
 use Rattle.rules.specs.Base.{any, collect, isYes}
 use Rattle.rules.specs.Calls.{differ, opensBinding}
-use Rattle.rules.specs.Contents.{unmixed}
 use Rattle.rules.specs.Names.{Bytes, numbered}
 use Rattle.rules.specs.Replacing.{find}
 use Rattle.rules.specs.Trees.{Open, Ty, Binding, _≔_}

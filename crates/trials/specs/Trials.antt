@@ -3,11 +3,10 @@ use mathlib.Core.Path.{_≡_, refl, sym, ap, subst, _∙_}
 use mathlib.Core.Bool.{Bool, true, false, and-eq-true-iff}
 use mathlib.Core.List.{List, [], _∷_, map, append-nil}
 use mathlib.Core.Option.{some}
-use Prim.Native.Nat.{ℕ, _+_, _*_, _/_, _≤_, _<_}
-use native.Mathlib.Nat.{add-zero}
+use Prim.Native.Nat.{ℕ, _+_, _/_, _≤_, _<_}
 use native.Mathlib.Decide.{decLe}
 use native.Mathlib.Omega.{arith}
-use borrow.Author.Tests.{leb-true, le-leb, eqb-true, eq-eqb, ne-eqb}
+use borrow.Author.Tests.{leb-true, le-leb, eq-eqb, ne-eqb}
 use lib.Dec.{leb, eqb}
 use lib.ListN.{length}
 use lib.Seq.{sets}
@@ -34,7 +33,7 @@ use Rattle.queries.specs.Marks.{Marks, Small}
 use Rattle.meaning.specs.Truth.{ConTrue}
 use Rattle.replacing.specs.Flat.{depthLine, goodLine, PlainLines}
 use Rattle.replacing.specs.Kept.{plain-held, plain-written}
-use Rattle.replacing.specs.Left.{Left, Room}
+use Rattle.replacing.specs.Left.{Left}
 use Rattle.replacing.specs.LineRules.{con, sizeLine, writeLine, HeldLine, replaceLine, line-some}
 use Rattle.replacing.specs.Runs.{HoldsAll}
 use Rattle.replacing.specs.Well.{Lent}
