@@ -13,7 +13,7 @@ ghost use Prim.Native.Nat.{_<_};
 ghost use Rattle.rules.specs.Calls.{differ};
 ghost use Rattle.laws.specs.NameTable.{Good};
 ghost use Rattle.entries.specs.Entries.{told, toldFound, placeOf, variablesOf, noSlots, noted, slotsOf, bit};
-ghost use Rattle.entries.specs.Tables.{Ready, Sound, Made, Placed};
+ghost use Rattle.entries.specs.Tables.{Ready, Sound, Made};
 
 // What a variable is bound to: the first entry counts.
 pub fn look_up(entries: &[Entry], v: u32) -> Found
@@ -149,20 +149,4 @@ pub fn fill(
         v += 1;
     }
     taken == count
-}
-
-// Are the entries well formed? Then the table says where each variable's type is.
-pub fn places_of(
-    pool: &[u8],
-    table: &[u32],
-    entries: &[Entry],
-    types: &[u32],
-    places: &mut [u32],
-) -> bool
-    requires { ⌜ Ready (now pool) (now table) (now types) (now places) ⌝ }
-    ensures { λ r. ⌜ Placed (now (pool .entry)) (now (table .entry)) (told (now (entries .entry))) (now (types .entry)) (now (places .exit)) r ⌝ }
-{
-    let r = repeats(entries);
-    let s = slots_of(entries);
-    fill(pool, table, types, r, entries.len(), s, places)
 }
