@@ -1,4 +1,4 @@
--- What an answer of `places_of` tells its caller: yes, and there are bindings with this table; or no, and the entries are refused. Assumes nothing.
+-- What an answer of `fill` tells its caller: yes, and there are bindings with this table; or no, and the entries are refused. Assumes nothing.
 use mathlib.Core.Path.{_≡_, refl, sym}
 use mathlib.Core.Bool.{Bool, true, false}
 use mathlib.Core.List.{List, [], _∷_, map}

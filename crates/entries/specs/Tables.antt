@@ -1,4 +1,4 @@
--- The table of places by variable, and what `places_of` promises of it. Assumes nothing: these are definitions.
+-- The table of places by variable, and what is promised of it. Assumes nothing: these are definitions.
 use mathlib.Core.Path.{_≡_}
 use mathlib.Core.Bool.{Bool, true, false}
 use mathlib.Core.List.{List}

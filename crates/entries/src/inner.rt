@@ -13,7 +13,7 @@ ghost use Prim.Native.Nat.{_<_};
 ghost use Rattle.rules.specs.Calls.{differ};
 ghost use Rattle.laws.specs.NameTable.{Good};
 ghost use Rattle.entries.specs.Entries.{told, toldFound, placeOf, variablesOf, noSlots, noted, slotsOf, bit};
-ghost use Rattle.entries.specs.Tables.{Ready, Sound, Made, Placed};
+ghost use Rattle.entries.specs.Tables.{Ready, Sound, Made};
 
 // What a variable is bound to: the first entry counts.
 pub fn look_up(entries: &[Entry], v: u32) -> Found
@@ -51,8 +51,8 @@ pub fn repeats(entries: &[Entry]) -> bool
 }
 
 // One number for each name: 0, or one more than the place of its entry. A place takes all of 32 bits, so these are wider.
-struct Slots {
-    at: [u64; NAMES],
+pub struct Slots {
+    pub at: [u64; NAMES],
 }
 
 fn no_slots() -> Slots
@@ -80,7 +80,7 @@ fn note(s: Slots, v: u32, f: Found) -> Slots
 }
 
 // Each name is looked up. From here on nothing has a `&[Entry]`.
-fn slots_of(entries: &[Entry]) -> Slots
+pub fn slots_of(entries: &[Entry]) -> Slots
     ensures { λ r. ⌜ r ≡ slotsOf (told (now (entries .entry))) ⌝ }
 {
     let mut s = no_slots();
@@ -118,7 +118,7 @@ fn is_sound(pool: &[u8], table: &[u32], types: &[u32], v: u32, w: u64) -> bool
 }
 
 // Writes the slots as the table of places, if all that is asked of the entries holds: as many slots are taken as there are entries.
-fn fill(
+pub fn fill(
     pool: &[u8],
     table: &[u32],
     types: &[u32],
@@ -149,20 +149,4 @@ fn fill(
         v += 1;
     }
     taken == count
-}
-
-// Are the entries well formed? Then the table says where each variable's type is.
-pub fn places_of(
-    pool: &[u8],
-    table: &[u32],
-    entries: &[Entry],
-    types: &[u32],
-    places: &mut [u32],
-) -> bool
-    requires { ⌜ Ready (now pool) (now table) (now types) (now places) ⌝ }
-    ensures { λ r. ⌜ Placed (now (pool .entry)) (now (table .entry)) (told (now (entries .entry))) (now (types .entry)) (now (places .exit)) r ⌝ }
-{
-    let r = repeats(entries);
-    let s = slots_of(entries);
-    fill(pool, table, types, r, entries.len(), s, places)
 }
