@@ -135,7 +135,7 @@ module _ {N : Type 0} (ν : Names N) where
     pub all-good : (i : ℕ) (vs : List N) → i + length vs ≤ q → (o u : Open N) → allOf i vs o ≡ some u → goodOpen ν held q u ≡ true
     all-good i vs le o u e = let (x, (j, a)) = all-at i vs o u e in place-good i vs le x u a
 
-    all-renames : (i : ℕ) (vs : List N) (P : Open N → Type 0) → i + length vs ≤ q → Fair i P → Renames ν held q P (allOf i vs)
+    pub all-renames : (i : ℕ) (vs : List N) (P : Open N → Type 0) → i + length vs ≤ q → Fair i P → Renames ν held q P (allOf i vs)
     unfolding asProduct
     all-renames i vs P le h = record {
       dimension = λ o u p e. let (x, (j, a)) = all-at i vs o u e in rw (a .is);

@@ -4,3 +4,6 @@ pub mod Occurring
 pub mod Types
 pub mod InTurn
 pub mod Own
+pub mod Sizes
+pub mod Again
+pub mod Cases
