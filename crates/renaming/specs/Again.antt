@@ -28,7 +28,7 @@ use Rattle.renaming.specs.Products.{moved, moved-none, moved-some, Renam
 use Rattle.renaming.specs.Types.{andLater, Becomes, Twice, ty-twice}
 use Rattle.renaming.specs.Occurring.{ty-occurs}
 use Rattle.renaming.specs.InTurn.{firstOf, allOf, At, first-at, all-at, Fair, all-renames, given-fair, quantify-once}
-use Rattle.renaming.specs.Own.{own, own-is, own-same, Named, own-renames, plain-once}
+use Rattle.renaming.specs.Own.{own, own-held, own-same, Named, own-renames, plain-once}
 use Rattle.renaming.specs.Sizes.{renamed-deep, plain-size}
 
 module _ {N : Type 0} where
@@ -191,8 +191,8 @@ module _ {N : Type 0} (ν : Names N) (law : Lawful (orderAtom ν)) (held : N →
       go none i = moved-none h o i
       go (some u) i = let (x, (j, k)) = again-is o u p i in moved-some h o u i ∙ k
 
-  then-own : Twice ν law held q tells P h own own
-  unfolding andLater own asProduct
+  then-own : Twice ν law held q tells P h (own held) (own held)
+  unfolding andLater asProduct goodOpen
   then-own = record {
     first = again-renames;
     second = own-renames ν law held q tells (Becomes P h) (record { known = λ o p. named .known o (as-before o p); none-quantified = λ j p. named .none-quantified j (as-before (quant j) p) });
@@ -201,9 +201,12 @@ module _ {N : Type 0} (ν : Names N) (law : Lawful (orderAtom ν)) (held : N →
     still = λ o u p e. let (x, (i, j)) = again-is o u p e in inl (rw i);
   }
     where
-      one′ : (o : Open N) → P o → (s : Option (Open N)) → h o ≡ s → own o ≡ andLater s own o
+      one′ : (o : Open N) → P o → (s : Option (Open N)) → h o ≡ s → own held o ≡ andLater s (own held) o
       one′ o p none i = refl
-      one′ o p (some u) i = let (x, (j, k)) = again-is o u p i in rw (k, j)
+      one′ o p (some u) i =
+          let (x, (j, k)) = again-is o u p i in
+          let l : own held o ≡ some o = rw j (own-held held x (rw j at (named .known o p))) in
+          l ∙ ap some (sym (ap (moved (own held)) k ∙ own-same held o))
 
   -- the type quantified, and put back
   pub record Returned : Type 0 where
@@ -218,9 +221,9 @@ module _ {N : Type 0} (ν : Names N) (law : Lawful (orderAtom ν)) (held : N →
   again =
       let g = ty-weaker ν held 0 q (omega arith) t good in
       let (u, (b, c)) = ty-twice ν law held q tells P f (back vs) h there-and-back t g (λ o m. m) in
-      let (w, (d, e)) = ty-twice ν law held q tells P h own own then-own t g (λ o m. m) in
-      let i : replaceTy ν bounded (renamed own) t ≡ got (plain t true) = plain-once ν law held q tells P named t g (λ o m. m) in
-      let j : replaceTy ν bounded (renamed own) w ≡ got (plain w true) = plain-once ν law held q tells P named w (good-there w d) (names-there w d) in
+      let (w, (d, e)) = ty-twice ν law held q tells P h (own held) (own held) then-own t g (λ o m. m) in
+      let i : replaceTy ν bounded (renamed (own held)) t ≡ got (plain t true) = plain-once ν law held q tells P named t g (λ o m. m) in
+      let j : replaceTy ν bounded (renamed (own held)) w ≡ got (plain w true) = plain-once ν law held q tells P named w (good-there w d) (names-there w d) in
       let k : got (plain w true) ≡ got (plain t true) = sym j ∙ e ∙ i in
       record { type = u; quantified = b; given = w; returned = c ∙ d; reads = cc }
     where
@@ -300,7 +303,7 @@ module _ {N : Type 0} (ν : Names N) (law : Lawful (orderAtom ν)) (held : N →
       let flat = not-deep (1 + (size (r .type) + length (renamedBounds f bs))) (depth (r .type)) (scheme (length vs) (r .type) (renamedBounds f bs)) s made in
       let less = plain-size ν law held q tells P f (all-renames ν held q 0 vs P (omega arith) fair) t (r .type) g (λ o m. m) (r .quantified) in
       let d1 = renamed-deep ν bounded f t (r .type) (r .quantified) in
-      let d2 = renamed-deep ν bounded own t (plain t true) (plain-once ν law held q tells P named t g (λ o m. m)) in
+      let d2 = renamed-deep ν bounded (own held) t (plain t true) (plain-once ν law held q tells P named t g (λ o m. m)) in
       rw (sym is, eq-eqb (length vs) (length vs) refl, r .returned, r .reads, bounds-again bs k)
       (sized-kept (0 + (size (plain t true) + length (renamedBounds f bs))) (depth (plain t true)) (plain t true, bs) (omega arith) (omega arith))
 
