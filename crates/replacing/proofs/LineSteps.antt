@@ -9,7 +9,7 @@ use lib.ListN.{length}
 use lib.Seq.{sets}
 use Rattle.rules.specs.Base.{Got, got, refused, _>>=_, bounded, each, collect, sumOf}
 use Rattle.rules.specs.Names.{tableOf, isHeld}
-use Rattle.rules.specs.Replacing.{replaceProduct, replaceDim, replaceTy, replaceTys, replaceCon, replaceBinding}
+use Rattle.rules.specs.Replacing.{Look, replaceProduct, replaceDim, replaceTy, replaceTys, replaceCon, replaceBinding}
 use Rattle.rules.specs.Trees.{Ty, dim, Tys, nil, cons, Con, equal, isDim, isScalar, hasField, Binding, _≔_, size, sizeTys, sizeCon, sizeBinding, count}
 use Rattle.rules.specs.WellFormed.{goodTy, goodCon, goodBinding}
 use Rattle.rules.specs.Writing.{Rec, rec, words, writeProduct, writeTy, writeTys, writeCon, writeBinding}
@@ -29,7 +29,7 @@ use Rattle.replacing.specs.Well as well
 use Rattle.replacing.specs.Well.{GoodTy, GoodCon, GoodBinding, HeldDim, Lent}
 use Rattle.replacing.specs.InProducts.{product-kept}
 use Rattle.replacing.specs.Writes.{writes}
-use Rattle.replacing.specs.Left.{Left, LeftOf, Room, types, sizeRow, writeRow, HeldRow, look, Replaced, RowReplaced, ProductReplaced, DimReplaced, sizeProduct}
+use Rattle.replacing.specs.Left.{Left, LeftOf, Room, types, sizeRow, writeRow, HeldRow, Replaced, RowReplaced, ProductReplaced, DimReplaced, sizeProduct}
 use Rattle.replacing.specs.LineRules.{Line, con, binding, sizeLine, writeLine, HoldsLine, GoodLine, HeldLine, HeldLines, ScalarHeld, replaceLine, ScalarReplaced, LineReplaced, LinesReplaced, line-length, line-some}
 use Rattle.replacing.specs.declared.inner.walk.Went.{Went}
 use Rattle.replacing.specs.declared.inner.walk.Went.the-variants.{To, Stop}
@@ -122,9 +122,9 @@ assoc-one : {A B : Type 0} (R : Got A) (f : A → B) (g : B → Line) → (R >>=
 assoc-one (refused k) f g = refl
 assoc-one (got l) f g = refl
 
-module _ (pool table s v : List ℕ) (b e : ℕ) where
-  abbrev Ty′ : List (Binding ℕ) → Ty ℕ → Got (Ty ℕ)
-  Ty′ bs t = replaceTy (well.names pool table) bounded (look pool table bs) t
+module _ (pool table s places v : List ℕ) where
+  abbrev Ty′ : Look ℕ → Ty ℕ → Got (Ty ℕ)
+  Ty′ look t = replaceTy (well.names pool table) bounded look t
 
   equal-good : (l r : Ty ℕ) → GoodCon pool table (equal l r) → GoodTy pool table l × GoodTy pool table r
   unfolding goodCon
@@ -154,68 +154,68 @@ module _ (pool table s v : List ℕ) (b e : ℕ) where
   pair-row l r at hl hr gl gr = record { held = (hl, (hr, tt)); good = rw (gl, gr); many = refl; kind = refl }
 
   module _ (at out : ℕ) where
-    abbrev Leaves : List (Binding ℕ) → List ℕ → List ℕ → Went → Line → Type 0
-    Leaves bs d d′ r x = GoodLine pool table x → Left sizeLine writeLine d d′ (at + sizeLine x) out r (replaceLine pool table bs x)
+    abbrev Leaves : Look ℕ → List ℕ → List ℕ → Went → Line → Type 0
+    Leaves look d d′ r x = GoodLine pool table x → Left sizeLine writeLine d d′ (at + sizeLine x) out r (replaceLine pool table look x)
 
     pair-line : (f : Ty ℕ → Ty ℕ → Con ℕ) (w : Rec) (hm : (l r : Ty ℕ) → sizeCon (f l r) ≡ suc (size l + size r)) (hw : (l r : Ty ℕ) → writeCon (f l r) ≡ w ∷ (writeTy l ++ writeTy r))
-        (d d₁ d′ : List ℕ) (q : Went) (bs : List (Binding ℕ)) (l r : Ty ℕ) → d₁ ≡ sets d (out * 4) (words (w ∷ [])) → HeldRow pool table s (types (cons l (cons r nil))) (at + 1) 2 false → Lent pool table v b e bs
-        → RowReplaced pool table s v b e d₁ d′ (at + 1) 2 false (out + 1) q → Left sizeLine writeLine d d′ (at + suc (size l + size r)) out q ((Ty′ bs l >>= λ l′. Ty′ bs r >>= λ r′. got (f l′ r′)) >>= λ c. got (con c))
+        (d d₁ d′ : List ℕ) (q : Went) (look : Look ℕ) (l r : Ty ℕ) → d₁ ≡ sets d (out * 4) (words (w ∷ [])) → HeldRow pool table s (types (cons l (cons r nil))) (at + 1) 2 false → Lent pool table places v look
+        → RowReplaced pool table s places v d₁ d′ (at + 1) 2 false (out + 1) q → Left sizeLine writeLine d d′ (at + suc (size l + size r)) out q ((Ty′ look l >>= λ l′. Ty′ look r >>= λ r′. got (f l′ r′)) >>= λ c. got (con c))
     unfolding replaceTy sizeTys
-    pair-line f w hm hw d d₁ d′ q bs l r p h lent k =
-        let R = left-back sizeTys writeTys sizeRow writeRow types (λ a. refl) (λ a. refl) d₁ d′ (at + 1 + (size l + (size r + 0))) (out + 1) q (replaceTys (well.names pool table) bounded (look pool table bs) (cons l (cons r nil))) (k (types (cons l (cons r nil))) bs h lent) in
+    pair-line f w hm hw d d₁ d′ q look l r p h lent k =
+        let R = left-back sizeTys writeTys sizeRow writeRow types (λ a. refl) (λ a. refl) d₁ d′ (at + 1 + (size l + (size r + 0))) (out + 1) q (replaceTys (well.names pool table) bounded look (cons l (cons r nil))) (k (types (cons l (cons r nil))) look h lent) in
         let i : at + 1 + (size l + (size r + 0)) ≡ at + suc (size l + size r) = omega arith in
-        let R′ : Left sizeTys writeTys d₁ d′ (at + suc (size l + size r)) (out + 1) q (replaceTys (well.names pool table) bounded (look pool table bs) (cons l (cons r nil))) = rw i at R in
-        rw (← assoc (Ty′ bs l) (Ty′ bs r) f con) (two (λ x y. con (f x y)) w hm hw d d₁ d′ (at + suc (size l + size r)) out q (Ty′ bs l) (Ty′ bs r) p R′)
+        let R′ : Left sizeTys writeTys d₁ d′ (at + suc (size l + size r)) (out + 1) q (replaceTys (well.names pool table) bounded look (cons l (cons r nil))) = rw i at R in
+        rw (← assoc (Ty′ look l) (Ty′ look r) f con) (two (λ x y. con (f x y)) w hm hw d d₁ d′ (at + suc (size l + size r)) out q (Ty′ look l) (Ty′ look r) p R′)
 
     pub equal-here : {d d₁ d′ : List ℕ} {w : View} {q : Went} → w ≡ viewAt s at → w ≡ view.Equal → d₁ ≡ sets d (out * 4) (words (recOf w ∷ []))
-        → RowReplaced pool table s v b e d₁ d′ (at + 1) 2 false (out + 1) q → LineReplaced pool table s v b e d d′ at out q
+        → RowReplaced pool table s places v d₁ d′ (at + 1) 2 false (out + 1) q → LineReplaced pool table s places v d d′ at out q
     unfolding sizeCon writeCon replaceCon
-    equal-here {d} {d₁} {d′} {w} {q} p z y k x bs h lent =
-        line-by-view s (Leaves bs d d′ q) x at (h .held) (sym p ∙ z) (λ l r hl hr g.
+    equal-here {d} {d₁} {d′} {w} {q} p z y k x look h lent =
+        line-by-view s (Leaves look d d′ q) x at (h .held) (sym p ∙ z) (λ l r hl hr g.
         let gs = equal-good l r g in
-        pair-line equal (rec 20 0 0 0) (λ i j. refl) (λ i j. refl) d d₁ d′ q bs l r (kept d d₁ out w view.Equal y z) (pair-row l r (at + 1) hl hr (gs .0) (gs .1)) lent k) (h .good)
+        pair-line equal (rec 20 0 0 0) (λ i j. refl) (λ i j. refl) d d₁ d′ q look l r (kept d d₁ out w view.Equal y z) (pair-row l r (at + 1) hl hr (gs .0) (gs .1)) lent k) (h .good)
 
     pub has-here : {d d₁ d′ : List ℕ} {w : View} {n : ℕ} {q : Went} → w ≡ viewAt s at → w ≡ view.HasField n → d₁ ≡ sets d (out * 4) (words (recOf w ∷ []))
-        → RowReplaced pool table s v b e d₁ d′ (at + 1) 2 false (out + 1) q → LineReplaced pool table s v b e d d′ at out q
+        → RowReplaced pool table s places v d₁ d′ (at + 1) 2 false (out + 1) q → LineReplaced pool table s places v d d′ at out q
     unfolding sizeCon writeCon replaceCon
-    has-here {d} {d₁} {d′} {w} {n} {q} p z y k x bs h lent =
-        line-by-view s (Leaves bs d d′ q) x at (h .held) (sym p ∙ z) (λ l r hl hr g.
+    has-here {d} {d₁} {d′} {w} {n} {q} p z y k x look h lent =
+        line-by-view s (Leaves look d d′ q) x at (h .held) (sym p ∙ z) (λ l r hl hr g.
         let gs = field-good n l r g in
-        pair-line (hasField n) (rec 23 n 0 0) (λ i j. refl) (λ i j. refl) d d₁ d′ q bs l r (kept d d₁ out w (view.HasField n) y z) (pair-row l r (at + 1) hl hr (gs .0) (gs .1)) lent k) (h .good)
+        pair-line (hasField n) (rec 23 n 0 0) (λ i j. refl) (λ i j. refl) d d₁ d′ q look l r (kept d d₁ out w (view.HasField n) y z) (pair-row l r (at + 1) hl hr (gs .0) (gs .1)) lent k) (h .good)
 
     pub is-here : {d d₁ d′ : List ℕ} {w : View} {q : Went} → w ≡ viewAt s at → w ≡ view.IsDim → d₁ ≡ sets d (out * 4) (words (recOf w ∷ []))
-        → Replaced pool table s v b e d₁ d′ (at + 1) (out + 1) q → LineReplaced pool table s v b e d d′ at out q
+        → Replaced pool table s places v d₁ d′ (at + 1) (out + 1) q → LineReplaced pool table s places v d d′ at out q
     unfolding sizeCon writeCon replaceCon
-    is-here {d} {d₁} {d′} {w} {q} p z y k x bs h lent =
-        line-by-view s (Leaves bs d d′ q) x at (h .held) (sym p ∙ z) (λ t ht g.
+    is-here {d} {d₁} {d′} {w} {q} p z y k x look h lent =
+        line-by-view s (Leaves look d d′ q) x at (h .held) (sym p ∙ z) (λ t ht g.
         let i : at + 1 + size t ≡ at + suc (size t) = omega arith in
-        rw (← assoc-one (Ty′ bs t) isDim con)
-        (left-on size writeTy sizeLine writeLine (λ a. con (isDim a)) 1 (rec 21 0 0 0 ∷ []) refl (Ty′ bs t) (λ a u. omega arith) (λ a u. refl) d d₁ d′ (at + suc (size t)) out q (kept d d₁ out w view.IsDim y z)
-        (rw i at (k t bs (record { held = ht; good = dim-good t g }) lent)))) (h .good)
+        rw (← assoc-one (Ty′ look t) isDim con)
+        (left-on size writeTy sizeLine writeLine (λ a. con (isDim a)) 1 (rec 21 0 0 0 ∷ []) refl (Ty′ look t) (λ a u. omega arith) (λ a u. refl) d d₁ d′ (at + suc (size t)) out q (kept d d₁ out w view.IsDim y z)
+        (rw i at (k t look (record { held = ht; good = dim-good t g }) lent)))) (h .good)
 
     pub binding-here : {d d₁ d′ : List ℕ} {w : View} {n : ℕ} {q : Went} → w ≡ viewAt s at → w ≡ view.Binding n → d₁ ≡ sets d (out * 4) (words (recOf w ∷ []))
-        → Replaced pool table s v b e d₁ d′ (at + 1) (out + 1) q → LineReplaced pool table s v b e d d′ at out q
+        → Replaced pool table s places v d₁ d′ (at + 1) (out + 1) q → LineReplaced pool table s places v d d′ at out q
     unfolding sizeBinding writeBinding replaceBinding
-    binding-here {d} {d₁} {d′} {w} {n} {q} p z y k x bs h lent =
-        line-by-view s (Leaves bs d d′ q) x at (h .held) (sym p ∙ z) (λ t ht g.
+    binding-here {d} {d₁} {d′} {w} {n} {q} p z y k x look h lent =
+        line-by-view s (Leaves look d d′ q) x at (h .held) (sym p ∙ z) (λ t ht g.
         let i : at + 1 + size t ≡ at + suc (size t) = omega arith in
-        rw (← assoc-one (Ty′ bs t) (n ≔_) binding)
-        (left-on size writeTy sizeLine writeLine (λ a. binding (n ≔ a)) 1 (rec 24 n 0 0 ∷ []) refl (Ty′ bs t) (λ a u. omega arith) (λ a u. refl) d d₁ d′ (at + suc (size t)) out q (kept d d₁ out w (view.Binding n) y z)
-        (rw i at (k t bs (record { held = ht; good = binding-good n t g }) lent)))) (h .good)
+        rw (← assoc-one (Ty′ look t) (n ≔_) binding)
+        (left-on size writeTy sizeLine writeLine (λ a. binding (n ≔ a)) 1 (rec 24 n 0 0 ∷ []) refl (Ty′ look t) (λ a u. omega arith) (λ a u. refl) d d₁ d′ (at + suc (size t)) out q (kept d d₁ out w (view.Binding n) y z)
+        (rw i at (k t look (record { held = ht; good = binding-good n t g }) lent)))) (h .good)
 
     pub scalar-here : {d d₁ d′ : List ℕ} {w : View} {q : Went} → w ≡ viewAt s at → w ≡ view.IsScalar → d₁ ≡ sets d (out * 4) (words (recOf w ∷ []))
-        → ScalarReplaced pool table s v b e d₁ d′ (at + 1) (out + 1) q → LineReplaced pool table s v b e d d′ at out q
+        → ScalarReplaced pool table s places v d₁ d′ (at + 1) (out + 1) q → LineReplaced pool table s places v d d′ at out q
     unfolding sizeCon size writeCon replaceCon
-    scalar-here {d} {d₁} {d′} {w} {q} p z y k x bs h lent =
-        line-by-view s (Leaves bs d d′ q) x at (h .held) (sym p ∙ z) (λ a ha g.
+    scalar-here {d} {d₁} {d′} {w} {q} p z y k x look h lent =
+        line-by-view s (Leaves look d d′ q) x at (h .held) (sym p ∙ z) (λ a ha g.
         let i : at + 1 + suc (length a) ≡ at + suc (suc (length a)) = omega arith in
-        let R = replaceProduct (well.names pool table) bounded (look pool table bs) a in
+        let R = replaceProduct (well.names pool table) bounded look a in
         rw (← assoc-one R isScalar con)
         (left-on sizeProduct writeProduct sizeLine writeLine (λ a. con (isScalar a)) 1 (rec 22 0 0 0 ∷ []) refl R (λ a u. omega arith) (λ a u. refl) d d₁ d′ (at + suc (suc (length a))) out q (kept d d₁ out w view.IsScalar y z)
-        (rw i at (k a bs (record { held = ha; good = scalar-good a g }) lent)))) (h .good)
+        (rw i at (k a look (record { held = ha; good = scalar-good a g }) lent)))) (h .good)
 
-    pub unlined-here : {d d′ : List ℕ} {w : View} {q : Went} → w ≡ viewAt s at → Tagged (unlined s) w → LineReplaced pool table s v b e d d′ at out q
-    unlined-here p k x bs h lent = absurd (no-line s x at (h .held) p k)
+    pub unlined-here : {d d′ : List ℕ} {w : View} {q : Went} → w ≡ viewAt s at → Tagged (unlined s) w → LineReplaced pool table s places v d d′ at out q
+    unlined-here p k x look h lent = absurd (no-line s x at (h .held) p k)
 
     -- ══ What the calls ask ══
 
@@ -223,17 +223,17 @@ module _ (pool table s v : List ℕ) (b e : ℕ) where
       pub room-next : Room s (at + 1) (out + 1)
       room-next = let i = line-here s x at (h .held) in room-on 1 1 room refl refl (omega arith) (omega arith)
 
-      pub equal-asks : w ≡ view.Equal → ARow pool table s v b e (at + 1) 2 false
-      equal-asks z = line-by-view s (λ x. GoodLine pool table x → ARow pool table s v b e (at + 1) 2 false) x at (h .held) (sym p ∙ z) (λ l r hl hr g. let gs = equal-good l r g in (types (cons l (cons r nil)), pair-row l r (at + 1) hl hr (gs .0) (gs .1))) (h .good)
+      pub equal-asks : w ≡ view.Equal → ARow pool table s places v (at + 1) 2 false
+      equal-asks z = line-by-view s (λ x. GoodLine pool table x → ARow pool table s places v (at + 1) 2 false) x at (h .held) (sym p ∙ z) (λ l r hl hr g. let gs = equal-good l r g in (types (cons l (cons r nil)), pair-row l r (at + 1) hl hr (gs .0) (gs .1))) (h .good)
 
-      pub has-asks : {n : ℕ} → w ≡ view.HasField n → ARow pool table s v b e (at + 1) 2 false
-      has-asks {n} z = line-by-view s (λ x. GoodLine pool table x → ARow pool table s v b e (at + 1) 2 false) x at (h .held) (sym p ∙ z) (λ l r hl hr g. let gs = field-good n l r g in (types (cons l (cons r nil)), pair-row l r (at + 1) hl hr (gs .0) (gs .1))) (h .good)
+      pub has-asks : {n : ℕ} → w ≡ view.HasField n → ARow pool table s places v (at + 1) 2 false
+      has-asks {n} z = line-by-view s (λ x. GoodLine pool table x → ARow pool table s places v (at + 1) 2 false) x at (h .held) (sym p ∙ z) (λ l r hl hr g. let gs = field-good n l r g in (types (cons l (cons r nil)), pair-row l r (at + 1) hl hr (gs .0) (gs .1))) (h .good)
 
-      pub is-asks : w ≡ view.IsDim → AType pool table s v b e (at + 1)
-      is-asks z = line-by-view s (λ x. GoodLine pool table x → AType pool table s v b e (at + 1)) x at (h .held) (sym p ∙ z) (λ t ht g. (t, record { held = ht; good = dim-good t g })) (h .good)
+      pub is-asks : w ≡ view.IsDim → AType pool table s places v (at + 1)
+      is-asks z = line-by-view s (λ x. GoodLine pool table x → AType pool table s places v (at + 1)) x at (h .held) (sym p ∙ z) (λ t ht g. (t, record { held = ht; good = dim-good t g })) (h .good)
 
-      pub binding-asks : {n : ℕ} → w ≡ view.Binding n → AType pool table s v b e (at + 1)
-      binding-asks {n} z = line-by-view s (λ x. GoodLine pool table x → AType pool table s v b e (at + 1)) x at (h .held) (sym p ∙ z) (λ t ht g. (t, record { held = ht; good = binding-good n t g })) (h .good)
+      pub binding-asks : {n : ℕ} → w ≡ view.Binding n → AType pool table s places v (at + 1)
+      binding-asks {n} z = line-by-view s (λ x. GoodLine pool table x → AType pool table s places v (at + 1)) x at (h .held) (sym p ∙ z) (λ t ht g. (t, record { held = ht; good = binding-good n t g })) (h .good)
 
       pub scalar-asks : w ≡ view.IsScalar → ((a : Tree) × ScalarHeld pool table s a (at + 1))
       scalar-asks z = line-by-view s (λ x. GoodLine pool table x → ((a : Tree) × ScalarHeld pool table s a (at + 1))) x at (h .held) (sym p ∙ z) (λ a ha g. (a, record { held = ha; good = scalar-good a g })) (h .good)
@@ -251,80 +251,80 @@ module _ (pool table s v : List ℕ) (b e : ℕ) where
     scalar-in a h = seen-in s at (h .held .0) tt
 
     -- a dimension that isn't read as a type is the product replaced
-    scalar-kept : (bs : List (Binding ℕ)) (a : Tree) (d d′ : List ℕ) (next : ℕ) (q : Went) → DimReplaced pool table bs false d d′ next out q a → ProductReplaced pool table bs d d′ next out q a
+    scalar-kept : (look : Look ℕ) (a : Tree) (d d′ : List ℕ) (next : ℕ) (q : Went) → DimReplaced pool table look false d d′ next out q a → ProductReplaced pool table look d d′ next out q a
     unfolding replaceDim size writeTy
-    scalar-kept bs a d d′ next q h = left-back sizeProduct writeProduct size writeTy dim (λ x. refl) (λ x. refl) d d′ next out q (replaceProduct (well.names pool table) bounded (look pool table bs) a) h
+    scalar-kept look a d d′ next q h = left-back sizeProduct writeProduct size writeTy dim (λ x. refl) (λ x. refl) d d′ next out q (replaceProduct (well.names pool table) bounded look a) h
 
     pub scalar-done : {d d′ : List ℕ} {w : View} {n : ℕ} {q : Went} → w ≡ viewAt s at → w ≡ view.Dim n
-        → ((p : Tree) (bs : List (Binding ℕ)) → HeldDim pool table s p (at + 1) n → Lent pool table v b e bs → DimReplaced pool table bs false d d′ (at + 1 + n) out q p) → ScalarReplaced pool table s v b e d d′ at out q
-    scalar-done {d} {d′} {n = n} {q} p z k a bs h l =
+        → ((p : Tree) (look : Look ℕ) → HeldDim pool table s p (at + 1) n → Lent pool table places v look → DimReplaced pool table look false d d′ (at + 1 + n) out q p) → ScalarReplaced pool table s places v d d′ at out q
+    scalar-done {d} {d′} {n = n} {q} p z k a look h l =
         let y = scalar-dim a h p z in
         let i : at + 1 + n ≡ at + suc (length a) = omega (arith, y .many) in
-        scalar-kept bs a d d′ (at + suc (length a)) q (rw i at (k a bs y l))
+        scalar-kept look a d d′ (at + suc (length a)) q (rw i at (k a look y l))
 
     abbrev pub undimmed : List ℕ
     undimmed = 0 ∷ 1 ∷ 3 ∷ 4 ∷ 5 ∷ 6 ∷ 7 ∷ 8 ∷ 9 ∷ 10 ∷ 11 ∷ 12 ∷ 13 ∷ 14 ∷ 15 ∷ 16 ∷ []
 
-    pub scalar-other : {d d′ : List ℕ} {w : View} {q : Went} → w ≡ viewAt s at → Tagged undimmed w → ScalarReplaced pool table s v b e d d′ at out q
+    pub scalar-other : {d d′ : List ℕ} {w : View} {q : Went} → w ≡ viewAt s at → Tagged undimmed w → ScalarReplaced pool table s places v d d′ at out q
     unfolding HoldsProduct
-    scalar-other {w = w} p k a bs h l = absurd (untagged w undimmed 2 tt k (view.Dim (length a)) refl (p ∙ h .held .0))
+    scalar-other {w = w} p k a look h l = absurd (untagged w undimmed 2 tt k (view.Dim (length a)) refl (p ∙ h .held .0))
 
   -- ══ Line after line ══
 
   -- what becomes of a line is at most 2,048 times as long
-  module _ (bs : List (Binding ℕ)) (l : Lent pool table v b e bs) where
-    con-size : (c : Con ℕ) → GoodCon pool table c → Gives (replaceCon (well.names pool table) bounded (look pool table bs) c) (λ d. sizeCon d ≤ sizeCon c * 2048)
+  module _ (look : Look ℕ) (l : Lent pool table places v look) where
+    con-size : (c : Con ℕ) → GoodCon pool table c → Gives (replaceCon (well.names pool table) bounded look c) (λ d. sizeCon d ≤ sizeCon c * 2048)
     unfolding replaceCon sizeCon size
-    con-size (equal x y) g = let h = equal-good x y g in next (ty-size pool table bs l x (h .0)) (λ p i. next (ty-size pool table bs l y (h .1)) (λ q j. gives (omega arith)))
-    con-size (isDim t) g = next (ty-size pool table bs l t (dim-good t g)) (λ p i. gives (omega arith))
+    con-size (equal x y) g = let h = equal-good x y g in next (ty-size pool table look l x (h .0)) (λ p i. next (ty-size pool table look l y (h .1)) (λ q j. gives (omega arith)))
+    con-size (isDim t) g = next (ty-size pool table look l t (dim-good t g)) (λ p i. gives (omega arith))
     con-size (isScalar a) g =
-        next (product-kept pool table a bs (scalar-good a g) (l .good)) (λ q h.
+        next (product-kept pool table a look (scalar-good a g) (l .good)) (λ q h.
         gives (omega (arith, good-product (well.names pool table) (law pool table) (isHeld (tableOf pool table)) 4_294_967_296 q h .few)))
-    con-size (hasField n x y) g = let h = field-good n x y g in next (ty-size pool table bs l x (h .0)) (λ p i. next (ty-size pool table bs l y (h .1)) (λ q j. gives (omega arith)))
+    con-size (hasField n x y) g = let h = field-good n x y g in next (ty-size pool table look l x (h .0)) (λ p i. next (ty-size pool table look l y (h .1)) (λ q j. gives (omega arith)))
 
-    binding-size : (x : Binding ℕ) → GoodBinding pool table x → Gives (replaceBinding (well.names pool table) bounded (look pool table bs) x) (λ y. sizeBinding y ≤ sizeBinding x * 2048)
+    binding-size : (x : Binding ℕ) → GoodBinding pool table x → Gives (replaceBinding (well.names pool table) bounded look x) (λ y. sizeBinding y ≤ sizeBinding x * 2048)
     unfolding replaceBinding sizeBinding
-    binding-size (n ≔ t) g = next (ty-size pool table bs l t (binding-good n t g)) (λ p i. gives (omega arith))
+    binding-size (n ≔ t) g = next (ty-size pool table look l t (binding-good n t g)) (λ p i. gives (omega arith))
 
-    pub line-size : (x : Line) → GoodLine pool table x → Gives (replaceLine pool table bs x) (λ y. sizeLine y ≤ sizeLine x * 2048)
+    pub line-size : (x : Line) → GoodLine pool table x → Gives (replaceLine pool table look x) (λ y. sizeLine y ≤ sizeLine x * 2048)
     line-size (con c) g = next (con-size c g) (λ d i. gives i)
     line-size (binding x) g = next (binding-size x g) (λ y i. gives i)
 
   module _ (at end out : ℕ) where
-    pub lines-done : {d : List ℕ} → end ≤ at → LinesReplaced pool table s v b e d d at end out (To at out)
+    pub lines-done : {d : List ℕ} → end ≤ at → LinesReplaced pool table s places v d d at end out (To at out)
     unfolding each collect words
-    lines-done z [] bs h l = left-made [] refl (omega (arith, h .ends)) (sym (add-zero out)) refl
-    lines-done z (x ∷ xs) bs h l = absurd (omega (arith, h .ends, line-some x))
+    lines-done z [] look h l = left-made [] refl (omega (arith, h .ends)) (sym (add-zero out)) refl
+    lines-done z (x ∷ xs) look h l = absurd (omega (arith, h .ends, line-some x))
 
-    pub lines-here : {d d₁ d′ : List ℕ} {q o : ℕ} {r₁ r : Went} → (end ≤ at → ⊥) → LineReplaced pool table s v b e d d₁ at out r₁ → r₁ ≡ To q o → LinesReplaced pool table s v b e d₁ d′ q end o r → LinesReplaced pool table s v b e d d′ at end out r
+    pub lines-here : {d d₁ d′ : List ℕ} {q o : ℕ} {r₁ r : Went} → (end ≤ at → ⊥) → LineReplaced pool table s places v d d₁ at out r₁ → r₁ ≡ To q o → LinesReplaced pool table s places v d₁ d′ q end o r → LinesReplaced pool table s places v d d′ at end out r
     unfolding each collect HoldsAll
-    lines-here nz k g j [] bs h l = absurd (nz (omega (arith, h .ends)))
-    lines-here {d} {d₁} {d′} {q} {o} {r = r} nz k g j (x ∷ xs) bs h l =
-        let m = went (k x bs (record { held = h .held .0; good = h .good .0 }) l) g in
+    lines-here nz k g j [] look h l = absurd (nz (omega (arith, h .ends)))
+    lines-here {d} {d₁} {d′} {q} {o} {r = r} nz k g j (x ∷ xs) look h l =
+        let m = went (k x look (record { held = h .held .0; good = h .good .0 }) l) g in
         let y : Line = m .value in
-        let R = j xs bs (record { held = subst (HoldsAll HoldsLine sizeLine s xs) (sym (m .read)) (h .held .1); good = h .good .1; ends = omega (arith, h .ends, m .read) }) l in
-        let R′ : Left (sumOf sizeLine) (collect writeLine) d₁ d′ end (out + sizeLine y) r (each (replaceLine pool table bs) xs) = rw (m .counted) at R in
+        let R = j xs look (record { held = subst (HoldsAll HoldsLine sizeLine s xs) (sym (m .read)) (h .held .1); good = h .good .1; ends = omega (arith, h .ends, m .read) }) l in
+        let R′ : Left (sumOf sizeLine) (collect writeLine) d₁ d′ end (out + sizeLine y) r (each (replaceLine pool table look) xs) = rw (m .counted) at R in
         rw (m .is)
-        (left-on (sumOf sizeLine) (collect writeLine) (sumOf sizeLine) (collect writeLine) (y ∷_) (sizeLine y) (writeLine y) (line-length y) (each (replaceLine pool table bs) xs) (λ a u. refl) (λ a u. refl) d d₁ d′ end out r (m .buffer) R′)
+        (left-on (sumOf sizeLine) (collect writeLine) (sumOf sizeLine) (collect writeLine) (y ∷_) (sizeLine y) (writeLine y) (line-length y) (each (replaceLine pool table look) xs) (λ a u. refl) (λ a u. refl) d d₁ d′ end out r (m .buffer) R′)
 
-    pub lines-stop : {d d₁ : List ℕ} {i : Refusal} {r₁ : Went} → (end ≤ at → ⊥) → LineReplaced pool table s v b e d d₁ at out r₁ → r₁ ≡ Stop i → LinesReplaced pool table s v b e d d₁ at end out (Stop i)
+    pub lines-stop : {d d₁ : List ℕ} {i : Refusal} {r₁ : Went} → (end ≤ at → ⊥) → LineReplaced pool table s places v d d₁ at out r₁ → r₁ ≡ Stop i → LinesReplaced pool table s places v d d₁ at end out (Stop i)
     unfolding each HoldsAll
-    lines-stop nz k g [] bs h l = absurd (nz (omega (arith, h .ends)))
-    lines-stop nz k g (x ∷ xs) bs h l = left-stop (rw (stopped (k x bs (record { held = h .held .0; good = h .good .0 }) l) g))
+    lines-stop nz k g [] look h l = absurd (nz (omega (arith, h .ends)))
+    lines-stop nz k g (x ∷ xs) look h l = left-stop (rw (stopped (k x look (record { held = h .held .0; good = h .good .0 }) l) g))
 
     pub lines-asks : (xs : List Line) → HeldLines pool table s xs at end → (end ≤ at → ⊥) → ((x : Line) × HeldLine pool table s x at)
     unfolding HoldsAll
     lines-asks [] h nz = absurd (nz (omega (arith, h .ends)))
     lines-asks (x ∷ xs) h nz = (x, record { held = h .held .0; good = h .good .0 })
 
-    pub lines-next : (room : Room s at out) (bs : List (Binding ℕ)) (l : Lent pool table v b e bs) (xs : List Line) → HeldLines pool table s xs at end → (end ≤ at → ⊥) → {d d₁ : List ℕ} {q o : ℕ} {r₁ : Went} → LineReplaced pool table s v b e d d₁ at out r₁ → r₁ ≡ To q o
+    pub lines-next : (room : Room s at out) (look : Look ℕ) (l : Lent pool table places v look) (xs : List Line) → HeldLines pool table s xs at end → (end ≤ at → ⊥) → {d d₁ : List ℕ} {q o : ℕ} {r₁ : Went} → LineReplaced pool table s places v d d₁ at out r₁ → r₁ ≡ To q o
         → ((ys : List Line) × HeldLines pool table s ys q end) × (at < q) × (q ≤ end) × Room s q o
     unfolding HoldsAll
-    lines-next room bs l [] h nz k g = absurd (nz (omega (arith, h .ends)))
-    lines-next room bs l (x ∷ xs) h nz k g =
-        let m = went (k x bs (record { held = h .held .0; good = h .good .0 }) l) g in
+    lines-next room look l [] h nz k g = absurd (nz (omega (arith, h .ends)))
+    lines-next room look l (x ∷ xs) h nz k g =
+        let m = went (k x look (record { held = h .held .0; good = h .good .0 }) l) g in
         let i = line-in s x at (h .held .0) in
-        let z = line-size bs l x (h .good .0) .holds (m .value) (m .is) in
+        let z = line-size look l x (h .good .0) .holds (m .value) (m .is) in
         let p = line-some x in (
           (xs, record { held = subst (HoldsAll HoldsLine sizeLine s xs) (sym (m .read)) (h .held .1); good = h .good .1; ends = omega (arith, h .ends, m .read) }),
           omega (arith, m .read),

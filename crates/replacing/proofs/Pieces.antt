@@ -8,10 +8,10 @@ use native.Mathlib.Omega.{arith}
 use lib.ListN.{length}
 use lib.Seq.{sets, slice}
 use Rattle.rules.specs.Base.{Got, bounded}
-use Rattle.rules.specs.Names.{Bytes, numbered, tableOf, isHeld}
-use Rattle.rules.specs.Replacing.{bindings, replaceProduct, replaceDim}
+use Rattle.rules.specs.Names.{tableOf, isHeld}
+use Rattle.rules.specs.Replacing.{Look, replaceProduct, replaceDim}
 use Rattle.rules.specs.Trees as tree
-use Rattle.rules.specs.Trees.{Ty, opened, dim, Binding, size}
+use Rattle.rules.specs.Trees.{Ty, opened, dim, size}
 use Rattle.rules.specs.Writing.{words, writeProduct, writeTy}
 use Rattle.rules.specs.declared.Refusal.{Refusal}
 use Rattle.laws.specs.Value.{Gives}
@@ -27,7 +27,8 @@ use Rattle.records.specs.ByView.{ends-in}
 use Rattle.records.specs.Held.{held-words}
 use Rattle.records.specs.declared.Open as names
 use Rattle.records.specs.declared.View.the-variants as view
-use Rattle.replacing.specs.Runs.{Run, LookedUp, found, looked-short}
+use Rattle.replacing.specs.Runs.{LookedUp, found}
+use Rattle.replacing.specs.Places.{Tabled}
 use Rattle.replacing.specs.Well as well
 use Rattle.replacing.specs.Well.{Whole, HeldDim, Lent}
 use Rattle.replacing.specs.InProducts.{done, taken, told-stop, told-value, product-kept}
@@ -36,7 +37,7 @@ use Rattle.replacing.specs.declared.inner.factors.Alone.{Alone}
 use Rattle.replacing.specs.declared.inner.factors.Alone.the-variants.{Of, Not}
 use Rattle.laws.specs.GoodProducts.{good-product}
 use Rattle.rules.specs.Values.{productValue}
-use Rattle.replacing.specs.Left.{OpenReplaced, becomes, Ready, ProductPut, ProductReplaced, DimReplaced, sizeProduct, look}
+use Rattle.replacing.specs.Left.{OpenReplaced, becomes, Ready, ProductPut, ProductReplaced, DimReplaced, sizeProduct}
 use Rattle.replacing.specs.declared.inner.bound.Found.{Found}
 use Rattle.replacing.specs.declared.inner.bound.Found.the-variants.{At}
 use Rattle.replacing.specs.declared.inner.walk.Went.{Went}
@@ -45,7 +46,7 @@ use Rattle.replacing.proofs.Lefts.{left-made, left-stop, left-as}
 
 -- ══ What was found, copied ══
 
-module _ (v : List ℕ) (b e : ℕ) (short : e ≤ b + 2048) where
+module _ (v : List ℕ) where
   pub record Copied (o : Option (Ty ℕ)) (i j : ℕ) : Type 0 where
     pub type : Ty ℕ
     pub is : o ≡ some type
@@ -55,10 +56,10 @@ module _ (v : List ℕ) (b e : ℕ) (short : e ≤ b + 2048) where
     pub few : j - i ≤ 2048
     pub holds : slice (i * 4) (j * 4) v ≡ words (writeTy type)
 
-  pub copied : (bs : List (Binding ℕ)) (names : List Bytes) (o : tree.Open ℕ) {r : Found} {i j : ℕ} → Run v b e bs → LookedUp v (bindings (numbered names) bs o) r → r ≡ At i j → Copied (bindings (numbered names) bs o) i j
-  copied bs names o {r} {i} {j} run h q =
-      let f = found (bindings (numbered names) bs o) h q in
-      let n = looked-short (numbered names) bs o (f .type) (f .is) in
+  pub copied : {places : List ℕ} (look : Look ℕ) (o : tree.Open ℕ) {r : Found} {i j : ℕ} → Tabled places v look → LookedUp v (look o) r → r ≡ At i j → Copied (look o) i j
+  copied look o {r} {i} {j} l h q =
+      let f = found (look o) h q in
+      let n = l .few o (f .type) (f .is) in
       let k = ends-in v (f .type) i (f .held) in
       record {
         type = f .type;
@@ -66,22 +67,22 @@ module _ (v : List ℕ) (b e : ℕ) (short : e ≤ b + 2048) where
         order = omega (arith, f .ends);
         inside = omega (arith, f .ends);
         long = omega (arith, f .ends);
-        few = omega (arith, f .ends, run .past);
+        few = omega (arith, f .ends);
         holds = ap (λ (k : ℕ). slice (i * 4) (k * 4) v) (f .ends) ∙ held-words v (f .type) i (f .held);
       }
 
 -- ══ An open name ══
 
-module _ (names : List Bytes) (bs : List (Binding ℕ)) (o : tree.Open ℕ) (d d′ : List ℕ) (out : ℕ) where
-  pub open-bound : {v : List ℕ} {b e i j : ℕ} {short : e ≤ b + 2048} → Copied v b e short (bindings (numbered names) bs o) i j → d′ ≡ sets d (out * 4) (slice (i * 4) (j * 4) v) → OpenReplaced names bs o d d′ out (j - i)
+module _ (look : Look ℕ) (o : tree.Open ℕ) (d d′ : List ℕ) (out : ℕ) where
+  pub open-bound : {v : List ℕ} {i j : ℕ} → Copied v (look o) i j → d′ ≡ sets d (out * 4) (slice (i * 4) (j * 4) v) → OpenReplaced look o d d′ out (j - i)
   open-bound c h =
-      let q : becomes names bs o ≡ c .type = ap (λ (m : Option (Ty ℕ)). Option·getD m (opened o)) (c .is) in
+      let q : becomes look o ≡ c .type = ap (λ (m : Option (Ty ℕ)). Option·getD m (opened o)) (c .is) in
       record { many = c .long ∙ ap size (sym q); short = c .few; buffer = h ∙ ap (sets d (out * 4)) (c .holds ∙ ap (λ (t : Ty ℕ). words (writeTy t)) (sym q)) }
 
-  pub open-kept : bindings (numbered names) bs o ≡ none → d′ ≡ sets d (out * 4) (words (writeTy (opened o))) → OpenReplaced names bs o d d′ out 1
+  pub open-kept : look o ≡ none → d′ ≡ sets d (out * 4) (words (writeTy (opened o))) → OpenReplaced look o d d′ out 1
   unfolding size
   open-kept e h =
-      let q : becomes names bs o ≡ opened o = ap (λ (m : Option (Ty ℕ)). Option·getD m (opened o)) e in
+      let q : becomes look o ≡ opened o = ap (λ (m : Option (Ty ℕ)). Option·getD m (opened o)) e in
       record { many = ap size (sym q); short = omega arith; buffer = h ∙ ap (λ (t : Ty ℕ). sets d (out * 4) (words (writeTy t))) (sym q) }
 
 -- the record of an open name
@@ -117,8 +118,8 @@ module _ (pool table : List ℕ) where
         (well-sound (x .well), x .is);
   }
 
-  pub replaced-ready : (t : Tried) (a : Tree) (bs : List (Binding ℕ)) {v : List ℕ} {b e : ℕ} {P : Product} → Whole pool table P a → Lent pool table v b e bs → told t ≡ answer (replaceProduct (well.names pool table) bounded (look pool table bs) a) → Ready t (replaceProduct (well.names pool table) bounded (look pool table bs) a)
-  replaced-ready t a bs w l h = ready t _ h (product-kept pool table a bs (w .good) (l .good))
+  pub replaced-ready : (t : Tried) (a : Tree) (look : Look ℕ) {places v : List ℕ} {P : Product} → Whole pool table P a → Lent pool table places v look → told t ≡ answer (replaceProduct (well.names pool table) bounded look a) → Ready t (replaceProduct (well.names pool table) bounded look a)
+  replaced-ready t a look w l h = ready t _ h (product-kept pool table a look (w .good) (l .good))
 
   -- a product that was loaded
   pub loaded : {s : List ℕ} {at n : ℕ} {P : Product} (p : Tree) → HeldDim pool table s p at n → ((q : Tree) → HoldsFactors s q at → length q ≡ n → given P ≡ productValue q) → Whole pool table P p
@@ -129,24 +130,24 @@ module _ (pool table : List ℕ) where
 
   -- ══ A dimension ══
 
-  module _ (P : Product) (p : Tree) (bs : List (Binding ℕ)) (w : Whole pool table P p) {a : Alone} (f : Bool) (e : toldAlone a ≡ picked f (productOf P)) (d d′ : List ℕ) (next out : ℕ) where
+  module _ (P : Product) (p : Tree) (look : Look ℕ) (w : Whole pool table P p) {a : Alone} (f : Bool) (e : toldAlone a ≡ picked f (productOf P)) (d d′ : List ℕ) (next out : ℕ) where
     alone-is : {o : names.Open} → a ≡ Of o → picked f p ≡ some (openOf o)
     alone-is q = ap (picked f) (taken pool table P p w .is) ∙ sym e ∙ ap toldAlone q
 
-    pub dim-bound : {o : names.Open} {v : List ℕ} {b c i j : ℕ} {short : c ≤ b + 2048} → a ≡ Of o → Copied v b c short (look pool table bs (openOf o)) i j → d′ ≡ sets d (out * 4) (slice (i * 4) (j * 4) v)
-        → DimReplaced pool table bs f d d′ next out (To next (out + (j - i))) p
+    pub dim-bound : {o : names.Open} {v : List ℕ} {i j : ℕ} → a ≡ Of o → Copied v (look (openOf o)) i j → d′ ≡ sets d (out * 4) (slice (i * 4) (j * 4) v)
+        → DimReplaced pool table look f d d′ next out (To next (out + (j - i))) p
     unfolding replaceDim
     dim-bound q k h =
         left-made (k .type) (rw (alone-is q, k .is)) refl (ap (out +_) (k .long)) (h ∙ ap (sets d (out * 4)) (k .holds))
 
-    pub dim-kept : {o : names.Open} {n : ℕ} → a ≡ Of o → look pool table bs (openOf o) ≡ none → length p ≡ n → d′ ≡ sets d (out * 4) (words (writeProduct (productOf P)))
-        → DimReplaced pool table bs f d d′ next out (To next (out + 1 + n)) p
+    pub dim-kept : {o : names.Open} {n : ℕ} → a ≡ Of o → look (openOf o) ≡ none → length p ≡ n → d′ ≡ sets d (out * 4) (words (writeProduct (productOf P)))
+        → DimReplaced pool table look f d d′ next out (To next (out + 1 + n)) p
     unfolding replaceDim size writeTy
     dim-kept q k l h =
         left-made (dim p) (rw (alone-is q, k)) refl (omega (arith, l)) (h ∙ ap (λ (x : Tree). sets d (out * 4) (words (writeProduct x))) (sym (taken pool table P p w .is)))
 
-    pub dim-replaced : {r : Went} → a ≡ Not → ProductReplaced pool table bs d d′ next out r p → DimReplaced pool table bs f d d′ next out r p
+    pub dim-replaced : {r : Went} → a ≡ Not → ProductReplaced pool table look d d′ next out r p → DimReplaced pool table look f d d′ next out r p
     unfolding replaceDim size writeTy
     dim-replaced {r} q h =
         let z : picked f p ≡ none = ap (picked f) (taken pool table P p w .is) ∙ sym e ∙ ap toldAlone q in
-        rw z (left-as sizeProduct writeProduct size writeTy dim (λ x. refl) (λ x. refl) d d′ next out r (replaceProduct (well.names pool table) bounded (look pool table bs) p) h)
+        rw z (left-as sizeProduct writeProduct size writeTy dim (λ x. refl) (λ x. refl) d d′ next out r (replaceProduct (well.names pool table) bounded look p) h)

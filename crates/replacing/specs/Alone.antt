@@ -2,11 +2,13 @@
 use mathlib.Core.Path.{_≡_, refl, sym, ap, _∙_}
 use mathlib.Core.Bool.{Bool, true, false}
 use mathlib.Core.List.{[], _∷_}
-use mathlib.Core.Option.{Option, none, some}
+use mathlib.Core.Option.{Option, none, some, Option·getD}
 use Prim.Native.Nat.{ℕ}
 use native.Mathlib.Omega.{arith}
+use borrow.Author.Tests.{ne-eqb}
+use lib.Dec.{eqb}
 use lib.ListN.{length, drop}
-use Rattle.rules.specs.Base.{isYes}
+use Rattle.rules.specs.Base.{isYes, onlyIf, _orElse_}
 use Rattle.rules.specs.Exponents.{Exp-dec, one}
 use Rattle.rules.specs.Products.{single}
 use Rattle.rules.specs.Trees as trees
@@ -32,7 +34,32 @@ abbrev pub picked : Bool → trees.Product ℕ → Option (trees.Open ℕ)
 picked true p = single p
 picked false p = none
 
+-- the open name of a factor; a base dimension has none
+abbrev pub openIn : trees.Factor ℕ → Option (trees.Open ℕ)
+openIn (trees.free o ↑ e) = some o
+openIn (trees.base n ↑ e) = none
+
 module _ (f : Factor) where
+  pub open-var : f .kind ≡ 11 → some (trees.var (f .name)) ≡ openIn (treeOf f)
+  unfolding atomIn
+  open-var k = rw k
+
+  pub open-par : f .kind ≡ 12 → some (trees.par (f .name)) ≡ openIn (treeOf f)
+  unfolding atomIn
+  open-par k = rw k
+
+  pub open-quant : f .kind ≡ 15 → some (trees.quant (f .name)) ≡ openIn (treeOf f)
+  unfolding atomIn
+  open-quant k = rw k
+
+  pub open-none : (f .kind ≡ 11 → ⊥) → (f .kind ≡ 12 → ⊥) → (f .kind ≡ 15 → ⊥) → none ≡ openIn (treeOf f)
+  unfolding atomIn
+  open-none a b c = rw (ne-eqb (f .kind) 11 a, ne-eqb (f .kind) 12 b, ne-eqb (f .kind) 15 c) (go (eqb (f .kind) 13))
+    where
+      go : (q : Bool) → none ≡ openIn (Option·getD (onlyIf q (trees.base (f .name)) orElse none) (trees.base (f .name)) ↑ expOf (f .exp))
+      go true = refl
+      go false = refl
+
   module _ (b : Bool) (e : b ≡ isYes (Exp-dec (expOf (f .exp)) one)) where
     pub alone-var : b ≡ true → f .kind ≡ 11 → some (trees.var (f .name)) ≡ single (treeOf f ∷ [])
     unfolding single atomIn

@@ -17,7 +17,7 @@ use Rattle.records.specs.Good.{Chain}
 use Rattle.records.specs.Whole.{type-is, set-is, bindings-is}
 use Rattle.records.specs.Holds.{HoldsCon, HoldsBinding}
 use Rattle.replacing.specs.Runs.{HoldsAll}
-use Rattle.replacing.specs.Well.{names, HeldType, Lent}
+use Rattle.replacing.specs.Well.{names, HeldType, Listed}
 use Rattle.laws.specs.Weaker.{ty-weaker, con-weaker, binding-weaker}
 use Rattle.replacing.specs.LineRules.{con, HeldLines}
 use Rattle.replacing.specs.LineLaws.{set-lines}
@@ -51,7 +51,7 @@ module _ (pool table s : List ℕ) (w : Words32 s) where
       let g = type-is pool table s w t h in
       (record { held = g .held; good = ty-weaker (names pool table) (isHeld (tableOf pool table)) 0 4_294_967_296 weak t (g .good) }, omega (arith, g .past))
 
-  pub given-bindings : (bs : List (Binding ℕ)) → length s ≤ 8192 → bindingsGiven (tableOf pool table) s ≡ got bs → Lent pool table s 0 (length s / 4) bs
+  pub given-bindings : (bs : List (Binding ℕ)) → length s ≤ 8192 → bindingsGiven (tableOf pool table) s ≡ got bs → Listed pool table s 0 (length s / 4) bs
   given-bindings bs le h =
       let r = row s HoldsBinding sizeBinding (goodBinding (names pool table) (isHeld (tableOf pool table)) 4_294_967_296) (records.GoodBinding pool table 0 s)
       (λ at a e g. (g .held, g .past, binding-weaker (names pool table) (isHeld (tableOf pool table)) 0 4_294_967_296 weak a (g .good))) (length s / 4) 0 bs (bindings-is pool table s w bs h) in

@@ -10,19 +10,19 @@ use Rattle.rules.specs.Base.{Got, got, refused, _>>=_, bounded, all}
 use Rattle.rules.specs.Exponents.{Exp, goodExp, goodStored, goodExp}
 use Rattle.rules.specs.Names.{tableOf, isHeld}
 use Rattle.rules.specs.Products.{divide, raise, multiply}
-use Rattle.rules.specs.Replacing.{Look, asProduct, replaceFactors, replaceProduct, bindings}
+use Rattle.rules.specs.Replacing.{Look, asProduct, replaceFactors, replaceProduct}
 use Rattle.rules.specs.Refusals.{numberOf}
 use Rattle.rules.specs.declared.Refusal.{Refusal}
-use Rattle.rules.specs.Trees.{Open, var, Atom, free, base, Factor, _↑_, Names, Ty, Binding, size}
-use Rattle.rules.specs.Values.{productValue, atomIn}
-use Rattle.rules.specs.WellFormed.{goodOpen, goodFactor, goodProduct, goodBinding, rising}
+use Rattle.rules.specs.Trees.{Open, Atom, free, base, Factor, _↑_, Names, Ty, size}
+use Rattle.rules.specs.Values.{productValue}
+use Rattle.rules.specs.WellFormed.{goodOpen, goodFactor, goodProduct, rising}
 use Rattle.laws.specs.GoodProducts.{multiply-good, divide-good, raise-good, goodAtom}
 use Rattle.laws.specs.KeepsGood as laws
 use Rattle.laws.specs.Ranges.{stored-good}
 use Rattle.laws.specs.Value.{Gives, gives, next}
 use Rattle.exponents.specs.Answers.{expOf}
 use Rattle.products.specs.Told.{Tree, given, told, answer, Answer, refusalOf, treeOf, productOf, heldIn, factorAt, atomAt}
-use Rattle.products.specs.Kinds.{Fine, Kind, variable, parameter, dimension, quantified, tree-good}
+use Rattle.products.specs.Kinds.{Fine, tree-good}
 use Rattle.products.specs.Places.{at-place, length-product}
 use Rattle.products.specs.Held.{law, made, made-long, Taken}
 use Rattle.products.specs.declared.Factor as code
@@ -33,8 +33,9 @@ use Rattle.names.specs.declared.Checked.the-variants.{Good as Well′, Refused 
 use Rattle.records.specs.ByView.{in-reach}
 use Rattle.replacing.specs.declared.inner.bound.Found.{Found}
 use Rattle.replacing.specs.declared.inner.bound.Found.the-variants.{At}
-use Rattle.replacing.specs.Runs.{LookedUp, found, looked-short, looked-good}
-use Rattle.replacing.specs.Well.{names, GoodFactor, GoodProduct, GoodTy, Whole, HeldType, Lent}
+use Rattle.replacing.specs.Runs.{LookedUp, found}
+use Rattle.replacing.specs.Alone.{openIn}
+use Rattle.replacing.specs.Well.{names, GoodFactor, GoodProduct, GoodTy, Whole, HeldType, LooksGood, Lent}
 
 -- what the atom of a factor is bound to
 abbrev pub atomLooked : Look ℕ → Factor ℕ → Option (Ty ℕ)
@@ -156,10 +157,6 @@ module _ (pool table : List ℕ) where
   unfolding tableOf
   fine-good f g = tree-good (names pool table) (heldIn table) (atomAt f) (expOf (f .exp)) ∙ and-eq-true-iff (goodAtom (names pool table) (heldIn table) 4_294_967_296 (atomAt f)) (goodStored (expOf (f .exp))) .1 (g .atom, g .stored)
 
-  -- what is bound is well formed
-  pub bound-good : (bs : List (Binding ℕ)) (o : Open ℕ) (t : Ty ℕ) → all (goodBinding (names pool table) (isHeld (tableOf pool table)) 4_294_967_296) bs ≡ true → bindings (names pool table) bs o ≡ some t → GoodTy pool table t
-  bound-good = looked-good (names pool table) (isHeld (tableOf pool table)) 4_294_967_296
-
   -- a product that was made is well formed
   pub record Fresh (t : Tried) (m : Got Tree) : Type 0 where
     pub tree : Tree
@@ -231,37 +228,37 @@ module _ (pool table : List ℕ) where
 
   -- ══ One factor by what is bound ══
 
-  -- a type that was found in a run that is lent
-  pub record LentType (v : List ℕ) (bs : List (Binding ℕ)) (o : Open ℕ) (i j : ℕ) : Type 0 where
+  -- a type that was found by a table that is lent
+  pub record LentType (v : List ℕ) (look : Look ℕ) (o : Open ℕ) (i j : ℕ) : Type 0 where
     pub type : Ty ℕ
-    pub is : bindings (names pool table) bs o ≡ some type
+    pub is : look o ≡ some type
     pub held : HeldType pool table v type i
     pub ends : j ≡ i + size type
     pub short : size type ≤ 2048
     pub near : i < 1_000_000_000
 
-  pub lent-type : {v : List ℕ} {b e : ℕ} (bs : List (Binding ℕ)) (o : Open ℕ) {r : Found} {i j : ℕ} → Lent pool table v b e bs → LookedUp v (bindings (names pool table) bs o) r → r ≡ At i j → LentType v bs o i j
-  lent-type {v} bs o {i = i} l h e =
-      let f = found (bindings (names pool table) bs o) h e in
-      record { type = f .type; is = f .is; held = record { held = f .held; good = bound-good bs o (f .type) (l .good) (f .is) }; ends = f .ends; short = omega (arith, looked-short (names pool table) bs o (f .type) (f .is), l .short, l .run .past); near = let k = in-reach v (f .type) i (f .held) in omega (arith, l .near) }
+  pub lent-type : {places v : List ℕ} (look : Look ℕ) (o : Open ℕ) {r : Found} {i j : ℕ} → Lent pool table places v look → LookedUp v (look o) r → r ≡ At i j → LentType v look o i j
+  lent-type {v = v} look o {i = i} l h e =
+      let f = found (look o) h e in
+      record { type = f .type; is = f .is; held = record { held = f .held; good = l .good o (f .type) (f .is) }; ends = f .ends; short = l .tabled .few o (f .type) (f .is); near = let k = in-reach v (f .type) i (f .held) in omega (arith, l .near) }
 
-  module _ (f : code.Factor) (bs : List (Binding ℕ)) where
+  module _ (f : code.Factor) (look : Look ℕ) where
     abbrev pub Looked : Option (Ty ℕ)
-    Looked = atomLooked (bindings (names pool table) bs) (treeOf f)
+    Looked = atomLooked look (treeOf f)
 
-    pub bound-var : f .kind ≡ 11 → Looked ≡ bindings (names pool table) bs (var (f .name))
-    unfolding atomIn
-    bound-var k = rw k
-
-    pub bound-other : Kind (f .kind) → (f .kind ≡ 11 → ⊥) → Looked ≡ none
-    unfolding atomIn bindings
-    bound-other k n = go k refl
+    pub bound-free : (o : Open ℕ) → openIn (treeOf f) ≡ some o → Looked ≡ look o
+    bound-free o = go (treeOf f)
       where
-        go : {j : ℕ} → Kind j → f .kind ≡ j → Looked ≡ none
-        go variable i = absurd (n i)
-        go parameter i = rw i
-        go dimension i = rw i
-        go quantified i = rw i
+        go : (x : Factor ℕ) → openIn x ≡ some o → atomLooked look x ≡ look o
+        go (free p ↑ e) h = let z : p ≡ o = cc in ap look z
+        go (base n ↑ e) h = absurd (let z : _≡_ {A = ℕ} 0 1 = cc in omega arith)
+
+    pub bound-base : openIn (treeOf f) ≡ none → Looked ≡ none
+    bound-base = go (treeOf f)
+      where
+        go : (x : Factor ℕ) → openIn x ≡ none → atomLooked look x ≡ none
+        go (free p ↑ e) h = absurd (let z : _≡_ {A = ℕ} 0 1 = cc in omega arith)
+        go (base n ↑ e) h = refl
 
     pub put-none : (a : Tree) → Looked ≡ none → got a ≡ putIn (names pool table) Looked (treeOf f) a
     unfolding putIn
@@ -271,21 +268,21 @@ module _ (pool table : List ℕ) where
     put-bound a t r e h = h ∙ ap (λ (o : Option (Ty ℕ)). answer (putIn (names pool table) o (treeOf f) a)) (sym e)
 
     -- a factor's replacement is well formed again
-    pub factor-good : (a : Tree) → Fine (names pool table) (heldIn table) f → all (goodBinding (names pool table) (isHeld (tableOf pool table)) 4_294_967_296) bs ≡ true → GoodProduct pool table a → Gives (putIn (names pool table) Looked (treeOf f) a) (GoodProduct pool table)
+    pub factor-good : (a : Tree) → Fine (names pool table) (heldIn table) f → LooksGood pool table look → GoodProduct pool table a → Gives (putIn (names pool table) Looked (treeOf f) a) (GoodProduct pool table)
     factor-good a fine g h = put-good Looked (treeOf f) a (go (treeOf f) refl) (fine-good f fine) h
       where
-        go : (x : Factor ℕ) → treeOf f ≡ x → (t : Ty ℕ) → atomLooked (bindings (names pool table) bs) x ≡ some t → GoodTy pool table t
-        go (free o ↑ e) q t k = bound-good bs o t g k
+        go : (x : Factor ℕ) → treeOf f ≡ x → (t : Ty ℕ) → atomLooked look x ≡ some t → GoodTy pool table t
+        go (free o ↑ e) q t k = g o t k
         go (base n ↑ e) q t k = absurd (let z : _≡_ {A = ℕ} 0 1 = cc in omega arith)
 
   -- ══ All factors ══
 
-  module _ (p : Product) (a : Tree) (bs : List (Binding ℕ)) where
+  module _ (p : Product) (a : Tree) (look : Look ℕ) where
     -- so much is left to do
     pub record Going (acc : Product) (i : ℕ) : Type 0 where
       pub tree : Tree
       pub whole : Whole pool table acc tree
-      pub rest : replaceFactors (names pool table) bounded (bindings (names pool table) bs) (drop i a) tree ≡ replaceProduct (names pool table) bounded (bindings (names pool table) bs) a
+      pub rest : replaceFactors (names pool table) bounded look (drop i a) tree ≡ replaceProduct (names pool table) bounded look a
 
     pub going-start : Whole pool table p a → Going p 0
     unfolding replaceProduct
@@ -298,28 +295,28 @@ module _ (pool table : List ℕ) where
       drop-at : (i : ℕ) → i < p .len → drop i a ≡ treeOf (factorAt p i) ∷ drop (i + 1) a
       drop-at i h = let t = taken p a w in rw (t .is) (at-place p (t .well .long) (t .well .few) i h)
 
-      module _ (acc : Product) (i : ℕ) (h : i < p .len) (g : Going acc i) (t : Tried) (e : told t ≡ answer (putIn (names pool table) (Looked (factorAt p i) bs) (treeOf (factorAt p i)) (g .tree))) where
-        turn : replaceProduct (names pool table) bounded (bindings (names pool table) bs) a ≡ (putIn (names pool table) (Looked (factorAt p i) bs) (treeOf (factorAt p i)) (g .tree) >>= λ x. replaceFactors (names pool table) bounded (bindings (names pool table) bs) (drop (i + 1) a) x)
+      module _ (acc : Product) (i : ℕ) (h : i < p .len) (g : Going acc i) (t : Tried) (e : told t ≡ answer (putIn (names pool table) (Looked (factorAt p i) look) (treeOf (factorAt p i)) (g .tree))) where
+        turn : replaceProduct (names pool table) bounded look a ≡ (putIn (names pool table) (Looked (factorAt p i) look) (treeOf (factorAt p i)) (g .tree) >>= λ x. replaceFactors (names pool table) bounded look (drop (i + 1) a) x)
         turn =
             sym (g .rest)
-            ∙ ap (λ (l : Tree). replaceFactors (names pool table) bounded (bindings (names pool table) bs) l (g .tree)) (drop-at i h)
-            ∙ factor-step (names pool table) (bindings (names pool table) bs) (treeOf (factorAt p i)) (drop (i + 1) a) (g .tree)
+            ∙ ap (λ (l : Tree). replaceFactors (names pool table) bounded look l (g .tree)) (drop-at i h)
+            ∙ factor-step (names pool table) look (treeOf (factorAt p i)) (drop (i + 1) a) (g .tree)
 
-        pub going-stop : (t .checked ≡ Well′ → ⊥) → told t ≡ answer (replaceProduct (names pool table) bounded (bindings (names pool table) bs) a)
+        pub going-stop : (t .checked ≡ Well′ → ⊥) → told t ≡ answer (replaceProduct (names pool table) bounded look a)
         going-stop n = rw turn (ended t _ e n _)
 
-        pub going-on : all (goodBinding (names pool table) (isHeld (tableOf pool table)) 4_294_967_296) bs ≡ true → t .checked ≡ Well′ → Going (t .product) (i + 1)
+        pub going-on : LooksGood pool table look → t .checked ≡ Well′ → Going (t .product) (i + 1)
         going-on b v =
-            let f = fresh t _ e v (factor-good (factorAt p i) bs (g .tree) (fine-at i h) b (g .whole .good)) in
-            record { tree = f .tree; whole = f .whole; rest = sym (turn ∙ ap (λ (m : Got Tree). m >>= λ x. replaceFactors (names pool table) bounded (bindings (names pool table) bs) (drop (i + 1) a) x) (f .is)) }
+            let f = fresh t _ e v (factor-good (factorAt p i) look (g .tree) (fine-at i h) b (g .whole .good)) in
+            record { tree = f .tree; whole = f .whole; rest = sym (turn ∙ ap (λ (m : Got Tree). m >>= λ x. replaceFactors (names pool table) bounded look (drop (i + 1) a) x) (f .is)) }
 
-      pub going-end : (acc : Product) (i : ℕ) → p .len ≤ i → (g : Going acc i) → replaceProduct (names pool table) bounded (bindings (names pool table) bs) a ≡ got (g .tree)
+      pub going-end : (acc : Product) (i : ℕ) → p .len ≤ i → (g : Going acc i) → replaceProduct (names pool table) bounded look a ≡ got (g .tree)
       unfolding replaceFactors
       going-end acc i h g =
           let t = taken p a w in
           let z : drop i a ≡ [] = drop-of-length-le a {i = i} (omega (arith, ap length (t .is), length-product p (t .well .long) (t .well .few))) in
-          sym (g .rest) ∙ ap (λ (l : Tree). replaceFactors (names pool table) bounded (bindings (names pool table) bs) l (g .tree)) z
+          sym (g .rest) ∙ ap (λ (l : Tree). replaceFactors (names pool table) bounded look l (g .tree)) z
 
   -- a product that was replaced is well formed again
-  pub product-kept : (p : Tree) (bs : List (Binding ℕ)) → GoodProduct pool table p → all (goodBinding (names pool table) (isHeld (tableOf pool table)) 4_294_967_296) bs ≡ true → Gives (replaceProduct (names pool table) bounded (bindings (names pool table) bs) p) (GoodProduct pool table)
-  product-kept p bs h g = laws.product-kept (names pool table) (law pool table) (isHeld (tableOf pool table)) 4_294_967_296 (bindings (names pool table) bs) (λ o t q. bound-good bs o t g q) p h
+  pub product-kept : (p : Tree) (look : Look ℕ) → GoodProduct pool table p → LooksGood pool table look → Gives (replaceProduct (names pool table) bounded look p) (GoodProduct pool table)
+  product-kept p look h g = laws.product-kept (names pool table) (law pool table) (isHeld (tableOf pool table)) 4_294_967_296 look g p h

@@ -7,10 +7,9 @@ use Prim.Native.Nat.{ℕ, suc, _+_, _*_, _-_, _/_, _≤_}
 use lib.ListN.{length}
 use lib.Seq.{sets}
 use Rattle.rules.specs.Base.{Got, got, refused, _>>=_, bounded}
-use Rattle.rules.specs.Names.{Bytes, numbered}
 use Rattle.rules.specs.Refusals.{numberOf}
-use Rattle.rules.specs.Replacing.{Look, bindings, replaceProduct, replaceDim, replaceTy, replaceTys, replaceFields}
-use Rattle.rules.specs.Trees.{Open, Ty, opened, Tys, Fields, Binding, size, sizeTys, sizeFields, count, countFields}
+use Rattle.rules.specs.Replacing.{Look, replaceProduct, replaceDim, replaceTy, replaceTys, replaceFields}
+use Rattle.rules.specs.Trees.{Open, Ty, opened, Tys, Fields, size, sizeTys, sizeFields, count, countFields}
 use Rattle.rules.specs.Writing.{Rec, words, writeProduct, writeTy, writeTys, writeFields}
 use Rattle.products.specs.Told.{Tree, told, answer, productOf}
 use Rattle.products.specs.Held.{Sound}
@@ -44,13 +43,13 @@ pub record Left {A : Type 0} (m : A → ℕ) (ws : A → List Rec) (d d′ : Lis
   pub says : LeftOf m ws d d′ next out r R
 
 -- what an open name becomes
-abbrev pub becomes : List Bytes → List (Binding ℕ) → Open ℕ → Ty ℕ
-becomes names bs o = Option·getD (bindings (numbered names) bs o) (opened o)
+abbrev pub becomes : Look ℕ → Open ℕ → Ty ℕ
+becomes look o = Option·getD (look o) (opened o)
 
-pub record OpenReplaced (names : List Bytes) (bs : List (Binding ℕ)) (o : Open ℕ) (d d′ : List ℕ) (out n : ℕ) : Type 0 where
-  pub many : n ≡ size (becomes names bs o)
+pub record OpenReplaced (look : Look ℕ) (o : Open ℕ) (d d′ : List ℕ) (out n : ℕ) : Type 0 where
+  pub many : n ≡ size (becomes look o)
   pub short : n ≤ 2048
-  pub buffer : d′ ≡ sets d (out * 4) (words (writeTy (becomes names bs o)))
+  pub buffer : d′ ≡ sets d (out * 4) (words (writeTy (becomes look o)))
 
 -- a product that may be written, where there is one
 pub record Ready (t : Tried) (m : Got Tree) : Type 0 where
@@ -108,10 +107,7 @@ module _ (pool table : List ℕ) where
     pub many : countRow row ≡ n
     pub kind : isFields row ≡ f
 
-  module _ (bs : List (Binding ℕ)) where
-    abbrev pub look : Look ℕ
-    look = bindings (names pool table) bs
-
+  module _ (look : Look ℕ) where
     abbrev pub replaceRow : Row → Got Row
     replaceRow (types ts) = replaceTys (names pool table) bounded look ts >>= λ us. got (types us)
     replaceRow (fields fs) = replaceFields (names pool table) bounded look fs >>= λ gs. got (fields gs)
@@ -122,11 +118,11 @@ module _ (pool table : List ℕ) where
     abbrev pub DimReplaced : Bool → List ℕ → List ℕ → ℕ → ℕ → Went → Tree → Type 0
     DimReplaced f d d′ next out r p = Left size writeTy d d′ next out r (replaceDim (names pool table) bounded look (picked f p) p)
 
-  -- for each type that is held at the place, and all bindings that are lent
-  abbrev pub Replaced : List ℕ → List ℕ → ℕ → ℕ → List ℕ → List ℕ → ℕ → ℕ → Went → Type 0
-  Replaced s v b e d d′ at out r =
-      (t : Ty ℕ) (bs : List (Binding ℕ)) → HeldType pool table s t at → Lent pool table v b e bs → Left size writeTy d d′ (at + size t) out r (replaceTy (names pool table) bounded (look bs) t)
+  -- for each type that is held at the place, and whatever names become by the table that is lent
+  abbrev pub Replaced : List ℕ → List ℕ → List ℕ → List ℕ → List ℕ → ℕ → ℕ → Went → Type 0
+  Replaced s places v d d′ at out r =
+      (t : Ty ℕ) (look : Look ℕ) → HeldType pool table s t at → Lent pool table places v look → Left size writeTy d d′ (at + size t) out r (replaceTy (names pool table) bounded look t)
 
-  abbrev pub RowReplaced : List ℕ → List ℕ → ℕ → ℕ → List ℕ → List ℕ → ℕ → ℕ → Bool → ℕ → Went → Type 0
-  RowReplaced s v b e d d′ at n f out r =
-      (row : Row) (bs : List (Binding ℕ)) → HeldRow s row at n f → Lent pool table v b e bs → Left sizeRow writeRow d d′ (at + sizeRow row) out r (replaceRow bs row)
+  abbrev pub RowReplaced : List ℕ → List ℕ → List ℕ → List ℕ → List ℕ → ℕ → ℕ → Bool → ℕ → Went → Type 0
+  RowReplaced s places v d d′ at n f out r =
+      (row : Row) (look : Look ℕ) → HeldRow s row at n f → Lent pool table places v look → Left sizeRow writeRow d d′ (at + sizeRow row) out r (replaceRow look row)

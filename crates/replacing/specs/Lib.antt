@@ -1,4 +1,5 @@
 pub mod Runs
+pub mod Places
 pub mod Alone
 pub mod Writes
 pub mod Well

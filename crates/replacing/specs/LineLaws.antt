@@ -6,14 +6,13 @@ use Prim.Native.Nat.{ℕ, _+_}
 use native.Mathlib.Omega.{arith}
 use Rattle.rules.specs.Base.{Got, got, refused, _>>=_, bounded, all, each, collect, sumOf}
 use Rattle.rules.specs.Names.{tableOf, isHeld}
-use Rattle.rules.specs.Replacing.{replaceCon, replaceBinding}
+use Rattle.rules.specs.Replacing.{Look, replaceCon, replaceBinding}
 use Rattle.rules.specs.Trees.{Con, Binding, sizeCon, sizeBinding}
 use Rattle.rules.specs.WellFormed.{goodCon, goodBinding}
 use Rattle.rules.specs.Writing.{Rec, writeCon, writeBinding}
 use Rattle.records.specs.Holds.{HoldsCon, HoldsBinding}
 use Rattle.replacing.specs.Runs.{HoldsAll}
 use Rattle.replacing.specs.Well.{names}
-use Rattle.replacing.specs.Left.{look}
 use Rattle.replacing.specs.LineRules.{Line, con, binding, sizeLine, writeLine, HoldsLine, EachGood, HeldLines, replaceLine}
 
 -- what holds of all lines of one kind
@@ -44,12 +43,12 @@ module _ {A : Type 0} (f : A → Line) (long : A → ℕ) (write : A → List Re
       go (got c) (refused k) = refl
       go (got c) (got cs) = refl
 
-module _ (pool table : List ℕ) (bs : List (Binding ℕ)) where
-  pub cons-each : (cs : List (Con ℕ)) → each (replaceLine pool table bs) (map con cs) ≡ (each (replaceCon (names pool table) bounded (look pool table bs)) cs >>= λ ds. got (map con ds))
-  cons-each cs = lines-each con sizeCon writeCon HoldsCon (λ c. refl) (λ c. refl) (λ s c at h. h) (replaceCon (names pool table) bounded (look pool table bs)) (replaceLine pool table bs) (λ c. refl) cs
+module _ (pool table : List ℕ) (look : Look ℕ) where
+  pub cons-each : (cs : List (Con ℕ)) → each (replaceLine pool table look) (map con cs) ≡ (each (replaceCon (names pool table) bounded look) cs >>= λ ds. got (map con ds))
+  cons-each cs = lines-each con sizeCon writeCon HoldsCon (λ c. refl) (λ c. refl) (λ s c at h. h) (replaceCon (names pool table) bounded look) (replaceLine pool table look) (λ c. refl) cs
 
-  pub bindings-each : (xs : List (Binding ℕ)) → each (replaceLine pool table bs) (map binding xs) ≡ (each (replaceBinding (names pool table) bounded (look pool table bs)) xs >>= λ ys. got (map binding ys))
-  bindings-each xs = lines-each binding sizeBinding writeBinding HoldsBinding (λ c. refl) (λ c. refl) (λ s c at h. h) (replaceBinding (names pool table) bounded (look pool table bs)) (replaceLine pool table bs) (λ c. refl) xs
+  pub bindings-each : (xs : List (Binding ℕ)) → each (replaceLine pool table look) (map binding xs) ≡ (each (replaceBinding (names pool table) bounded look) xs >>= λ ys. got (map binding ys))
+  bindings-each xs = lines-each binding sizeBinding writeBinding HoldsBinding (λ c. refl) (λ c. refl) (λ s c at h. h) (replaceBinding (names pool table) bounded look) (replaceLine pool table look) (λ c. refl) xs
 
 module _ {B : Type 0} where
   whole : (R : Got (List B)) → R ≡ (R >>= λ vs. got vs)

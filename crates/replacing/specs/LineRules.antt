@@ -5,7 +5,7 @@ use Prim.Native.Nat.{ℕ, _+_, _≤_}
 use native.Mathlib.Omega.{arith}
 use lib.ListN.{length}
 use Rattle.rules.specs.Base.{Got, got, _>>=_, bounded, each, collect, sumOf}
-use Rattle.rules.specs.Replacing.{replaceProduct, replaceCon, replaceBinding}
+use Rattle.rules.specs.Replacing.{Look, replaceProduct, replaceCon, replaceBinding}
 use Rattle.rules.specs.Trees.{Con, equal, isDim, isScalar, hasField, Binding, _≔_, sizeCon, sizeBinding}
 use Rattle.rules.specs.Writing.{Rec, writeProduct, writeCon, writeBinding}
 use Rattle.laws.specs.Lists.{Every}
@@ -15,7 +15,7 @@ use Rattle.records.specs.Holds.{HoldsProduct, HoldsCon, HoldsBinding}
 use Rattle.replacing.specs.Runs.{HoldsAll}
 use Rattle.replacing.specs.declared.inner.walk.Went.{Went}
 use Rattle.replacing.specs.Well.{names, GoodProduct, GoodCon, GoodBinding, Lent}
-use Rattle.replacing.specs.Left.{Left, look, sizeProduct}
+use Rattle.replacing.specs.Left.{Left, sizeProduct}
 
 -- a constraint or a binding
 pub data Line : Type 0 where
@@ -69,18 +69,18 @@ module _ (pool table : List ℕ) where
     pub good : GoodProduct pool table p
 
   -- the rules for a constraint and for a binding
-  abbrev pub replaceLine : List (Binding ℕ) → Line → Got Line
-  replaceLine bs (con c) = replaceCon (names pool table) bounded (look pool table bs) c >>= λ d. got (con d)
-  replaceLine bs (binding x) = replaceBinding (names pool table) bounded (look pool table bs) x >>= λ y. got (binding y)
+  abbrev pub replaceLine : Look ℕ → Line → Got Line
+  replaceLine look (con c) = replaceCon (names pool table) bounded look c >>= λ d. got (con d)
+  replaceLine look (binding x) = replaceBinding (names pool table) bounded look x >>= λ y. got (binding y)
 
-  abbrev pub ScalarReplaced : List ℕ → List ℕ → ℕ → ℕ → List ℕ → List ℕ → ℕ → ℕ → Went → Type 0
-  ScalarReplaced s v b e d d′ at out r =
-      (p : Tree) (bs : List (Binding ℕ)) → ScalarHeld s p at → Lent pool table v b e bs → Left sizeProduct writeProduct d d′ (at + sizeProduct p) out r (replaceProduct (names pool table) bounded (look pool table bs) p)
+  abbrev pub ScalarReplaced : List ℕ → List ℕ → List ℕ → List ℕ → List ℕ → ℕ → ℕ → Went → Type 0
+  ScalarReplaced s places v d d′ at out r =
+      (p : Tree) (look : Look ℕ) → ScalarHeld s p at → Lent pool table places v look → Left sizeProduct writeProduct d d′ (at + sizeProduct p) out r (replaceProduct (names pool table) bounded look p)
 
-  abbrev pub LineReplaced : List ℕ → List ℕ → ℕ → ℕ → List ℕ → List ℕ → ℕ → ℕ → Went → Type 0
-  LineReplaced s v b e d d′ at out r =
-      (x : Line) (bs : List (Binding ℕ)) → HeldLine s x at → Lent pool table v b e bs → Left sizeLine writeLine d d′ (at + sizeLine x) out r (replaceLine bs x)
+  abbrev pub LineReplaced : List ℕ → List ℕ → List ℕ → List ℕ → List ℕ → ℕ → ℕ → Went → Type 0
+  LineReplaced s places v d d′ at out r =
+      (x : Line) (look : Look ℕ) → HeldLine s x at → Lent pool table places v look → Left sizeLine writeLine d d′ (at + sizeLine x) out r (replaceLine look x)
 
-  abbrev pub LinesReplaced : List ℕ → List ℕ → ℕ → ℕ → List ℕ → List ℕ → ℕ → ℕ → ℕ → Went → Type 0
-  LinesReplaced s v b e d d′ at end out r =
-      (xs : List Line) (bs : List (Binding ℕ)) → HeldLines s xs at end → Lent pool table v b e bs → Left (sumOf sizeLine) (collect writeLine) d d′ end out r (each (replaceLine bs) xs)
+  abbrev pub LinesReplaced : List ℕ → List ℕ → List ℕ → List ℕ → List ℕ → ℕ → ℕ → ℕ → Went → Type 0
+  LinesReplaced s places v d d′ at end out r =
+      (xs : List Line) (look : Look ℕ) → HeldLines s xs at end → Lent pool table places v look → Left (sumOf sizeLine) (collect writeLine) d d′ end out r (each (replaceLine look) xs)

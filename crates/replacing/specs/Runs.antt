@@ -110,51 +110,6 @@ module _ (v : List ℕ) where
     unfolding find numbered
     find-on h = rw (f .is, find, picks (ℕ-discrete x (f .name)), h)
 
-  -- what is left of a search: the bindings from i on, and no binding of x before
-  pub record Rest (x i e : ℕ) (bs : List (Binding ℕ)) : Type 0 where
-    pub rest : List (Binding ℕ)
-    pub run : Run v i e rest
-    pub same : (names : List Bytes) → find (numbered names) bs x ≡ find (numbered names) rest x
-
-  module _ {x i e : ℕ} {bs : List (Binding ℕ)} (r : Rest x i e bs) where
-    pub rest-first : i < e → First i e (r .rest)
-    rest-first lt = run-first i e (r .rest) (r .run) lt
-
-    -- where its type is said to end
-    abbrev Ended : ℕ → Type 0
-    Ended q = (t : Ty ℕ) → Holds v t (i + 1) → q ≡ i + 1 + size t
-
-    -- what the test of its name says
-    abbrev Named : Bool → Type 0
-    Named b = (y : ℕ) → viewAt v i ≡ view.Binding y → b ≡ eqb x y
-
-    pub rest-here : {q : ℕ} {b : Bool} → i < e → Ended q → Named b → b ≡ true → (names : List Bytes) → LookedUp v (find (numbered names) bs x) (At (i + 1) q)
-    rest-here {q} {b} lt h n t names =
-        let f = rest-first lt in
-        let k : find (numbered names) bs x ≡ some (f .type) = r .same names ∙ find-here names i e x (r .rest) f (sym (n (f .name) (f .shows)) ∙ t) in
-        subst (λ (o : Option (Ty ℕ)). LookedUp v o (At (i + 1) q)) (sym k) (record { place = i + 1; is = ap (At (i + 1)) (h (f .type) (f .held)); held = f .held })
-
-    pub rest-next : {q : ℕ} {b : Bool} → i < e → Ended q → Named b → b ≡ false → Rest x q e bs
-    rest-next {q} {b} lt h n t =
-        let f = rest-first lt in
-        record {
-          rest = f .rest;
-          run = subst (λ (k : ℕ). Run v k e (f .rest)) (sym (h (f .type) (f .held))) (f .run);
-          same = λ names. r .same names ∙ find-on names i e x (r .rest) f (sym (n (f .name) (f .shows)) ∙ t);
-        }
-
-    pub rest-further : {q : ℕ} → i < e → Ended q → (i < q) × (q ≤ e)
-    rest-further {q} lt h =
-        let f = rest-first lt in
-        let p = h (f .type) (f .held) in
-        (omega arith, omega (arith, run-order (i + 1 + size (f .type)) e (f .rest) (f .run)))
-
-    pub rest-none : e ≤ i → (names : List Bytes) → LookedUp v (find (numbered names) bs x) Nothing
-    unfolding find
-    rest-none le names =
-        let k : find (numbered names) bs x ≡ none = r .same names ∙ ap (λ (l : List (Binding ℕ)). find (numbered names) l x) (run-none i e (r .rest) (r .run) le) in
-        subst (λ (o : Option (Ty ℕ)). LookedUp v o Nothing) (sym k) refl
-
 -- what is found is shorter than the run
 pub found-short : (ν : Names ℕ) (bs : List (Binding ℕ)) (x : ℕ) (t : Ty ℕ) → find ν bs x ≡ some t → suc (size t) ≤ sumOf sizeBinding bs
 unfolding find sizeBinding

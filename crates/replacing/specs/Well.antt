@@ -3,10 +3,12 @@
 use mathlib.Core.Path.{_≡_}
 use mathlib.Core.Bool.{true}
 use mathlib.Core.List.{List}
+use mathlib.Core.Option.{some}
 use Prim.Native.Nat.{ℕ, _+_, _≤_}
 use Rattle.rules.specs.Base.{all}
 use Rattle.rules.specs.Names.{tableOf, numbersOf, isHeld}
-use Rattle.rules.specs.Trees.{Names, Factor, Ty, Tys, Fields, Con, Binding}
+use Rattle.rules.specs.Replacing.{Look}
+use Rattle.rules.specs.Trees.{Open, Names, Factor, Ty, Tys, Fields, Con, Binding}
 use Rattle.rules.specs.Values.{productValue}
 use Rattle.rules.specs.WellFormed.{goodFactor, goodProduct, goodTy, goodTys, goodFields, goodCon, goodBinding}
 use Rattle.products.specs.Told.{Tree, given}
@@ -14,6 +16,7 @@ use Rattle.products.specs.declared.Product.{Product}
 use Rattle.records.specs.Holds.{Holds, HoldsFactors}
 use lib.ListN.{length}
 use Rattle.replacing.specs.Runs.{Run}
+use Rattle.replacing.specs.Places.{Tabled}
 
 module _ (pool table : List ℕ) where
   abbrev pub names : Names ℕ
@@ -51,10 +54,20 @@ module _ (pool table : List ℕ) where
     pub good : GoodTy t
 
   -- a run of well formed bindings, of at most 2,048 records, in a list that is not too long
-  pub record Lent (v : List ℕ) (b e : ℕ) (bs : List (Binding ℕ)) : Type 0 where
+  pub record Listed (v : List ℕ) (b e : ℕ) (bs : List (Binding ℕ)) : Type 0 where
     pub run : Run v b e bs
     pub good : all (goodBinding names (isHeld (tableOf pool table)) 4_294_967_296) bs ≡ true
     pub short : e ≤ b + 2048
+    pub near : length v ≤ 4_000_000_000
+
+  -- what names become is well formed
+  abbrev pub LooksGood : Look ℕ → Type 0
+  LooksGood look = (o : Open ℕ) (t : Ty ℕ) → look o ≡ some t → GoodTy t
+
+  -- a table of places that says what names become, over a list that is not too long
+  pub record Lent (places v : List ℕ) (look : Look ℕ) : Type 0 where
+    pub tabled : Tabled places v look
+    pub good : LooksGood look
     pub near : length v ≤ 4_000_000_000
 
   -- n factors of a well formed product

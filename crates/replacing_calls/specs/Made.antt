@@ -36,7 +36,7 @@ use Rattle.replacing.specs.Left.{Left, Room}
 use Rattle.replacing.specs.LineLaws.{cons-each, lines-write}
 use Rattle.replacing.specs.LineRules.{Line, con, sizeLine, writeLine, HeldLines, replaceLine}
 use Rattle.replacing.specs.Runs.{looked-good}
-use Rattle.replacing.specs.Well.{HeldType, Lent}
+use Rattle.replacing.specs.Well.{HeldType, Listed}
 use Rattle.replacing.specs.Written.{ty-fits, all-length}
 use Rattle.replacing.specs.declared.inner.walk.Went.{Went}
 use Rattle.replacing.specs.declared.inner.walk.Went.the-variants.{To, Stop}
@@ -123,7 +123,7 @@ module _ (pool table : List ℕ) where
 
   -- the set as lines
   abbrev pub madeLines : List (Con ℕ) → List (Binding ℕ) → Got (List Rec)
-  madeLines cs bs = limitedTo (sumOf sizeLine) (maxOf depthLine) (collect writeLine) (all-length pool table) (each (replaceLine pool table bs) (map con cs))
+  madeLines cs bs = limitedTo (sumOf sizeLine) (maxOf depthLine) (collect writeLine) (all-length pool table) (each (replaceLine pool table (bindings (numbers pool table) bs)) (map con cs))
 
   all-written : (cs : List (Con ℕ)) → collect writeLine (map con cs) ≡ collect writeCon cs
   all-written cs = lines-write con sizeCon writeCon HoldsCon (λ c. refl) (λ c. refl) (λ s c at h. h) cs
@@ -141,7 +141,7 @@ module _ (pool table : List ℕ) where
       ∙ tested (leb (sumOf sizeLine (map con cs)) 2048) (leb (maxOf depthLine (map con cs)) 64) cs t refl
 
   set-lines : (cs : List (Con ℕ)) (bs : List (Binding ℕ)) → madeLines cs bs ≡ madeSet cs bs
-  set-lines cs bs = rw (cons-each pool table bs cs) (go (each (replaceCon (numbers pool table) bounded (bindings (numbers pool table) bs)) cs))
+  set-lines cs bs = rw (cons-each pool table (bindings (numbers pool table) bs) cs) (go (each (replaceCon (numbers pool table) bounded (bindings (numbers pool table) bs)) cs))
     where
       go : (R : Got (List (Con ℕ))) → limitedTo (sumOf sizeLine) (maxOf depthLine) (collect writeLine) (all-length pool table) (R >>= λ ds. got (map con ds)) ≡ (R >>= λ r. limited bounded (record { cons = r; binds = [] }) >>= λ s. got (collect writeCon (s .cons)))
       go (got r) = sym (one-way r)
@@ -161,7 +161,7 @@ module _ (pool table : List ℕ) where
     room h = record { near = omega arith; small = omega arith }
 
     module _ (t : Ty ℕ) (n : Entered pool table ws binds (typeGiven (tableOf pool table) ws) t bs) where
-      pub type-asks : HeldType pool table ws t 0 × (Lent pool table binds 0 (length binds / 4) bs × Room ws 0 0)
+      pub type-asks : HeldType pool table ws t 0 × (Listed pool table binds 0 (length binds / 4) bs × Room ws 0 0)
       type-asks = (given-type pool table ws w t (n .one) .0, (given-bindings pool table binds v bs (n .binds-short) (n .two), room (n .words-short)))
 
       type-kept : (u : Ty ℕ) → replaceTy (numbers pool table) bounded (bindings (numbers pool table) bs) t ≡ got u → goodTy (numbers pool table) (holding pool table) 0 u ≡ true
@@ -179,7 +179,7 @@ module _ (pool table : List ℕ) where
       }
 
     module _ (cs : List (Con ℕ)) (n : Entered pool table ws binds (setGiven (tableOf pool table) ws) cs bs) where
-      pub set-asks : HeldLines pool table ws (map con cs) 0 (length ws / 4) × (Lent pool table binds 0 (length binds / 4) bs × Room ws 0 0)
+      pub set-asks : HeldLines pool table ws (map con cs) 0 (length ws / 4) × (Listed pool table binds 0 (length binds / 4) bs × Room ws 0 0)
       set-asks = (given-set pool table ws w cs (n .one), (given-bindings pool table binds v bs (n .binds-short) (n .two), room (n .words-short)))
 
       cons-good : (ds : List (Con ℕ)) → all (goodCon (numbers pool table) (holding pool table) 0) ds ≡ true → all (goodLine pool table) (map con ds) ≡ true
@@ -189,12 +189,12 @@ module _ (pool table : List ℕ) where
           let r = and-eq-true-iff (goodLine pool table (con c)) (all (goodCon (numbers pool table) (holding pool table) 0) ds) .0 g in
           and-eq-true-iff (goodLine pool table (con c)) (all (goodLine pool table) (map con ds)) .1 (r .0, cons-good ds (r .1))
 
-      set-kept : (xs : List Line) → each (replaceLine pool table bs) (map con cs) ≡ got xs → all (goodLine pool table) xs ≡ true
+      set-kept : (xs : List Line) → each (replaceLine pool table (bindings (numbers pool table) bs)) (map con cs) ≡ got xs → all (goodLine pool table) xs ≡ true
       set-kept xs e =
-          plain-kept pool table bs (binds-good (n .two)) (map con cs)
+          plain-kept pool table (bindings (numbers pool table) bs) (λ o t q. looked-good (numbers pool table) (holding pool table) 0 bs o t (binds-good (n .two)) q) (map con cs)
           (cons-good cs (row ws HoldsCon sizeCon (goodCon (numbers pool table) (holding pool table) 0) (records.GoodCon pool table 0 ws) (λ at a e g. (g .held, g .past, g .good)) (length ws / 4) 0 cs (set-is pool table ws w cs (n .one)) .right)) .holds xs e
 
-      pub lines-stand : (d d′ : List ℕ) (nx m : ℕ) (space : 16384 ≤ length d) → (c : Came (sumOf sizeLine) (maxOf depthLine) (collect writeLine) (all-length pool table) d d′ nx space (each (replaceLine pool table bs) (map con cs)) m) → LinesStand pool table d′ m (c .value)
+      pub lines-stand : (d d′ : List ℕ) (nx m : ℕ) (space : 16384 ≤ length d) → (c : Came (sumOf sizeLine) (maxOf depthLine) (collect writeLine) (all-length pool table) d d′ nx space (each (replaceLine pool table (bindings (numbers pool table) bs)) (map con cs)) m) → LinesStand pool table d′ m (c .value)
       lines-stand d d′ nx m space c = record {
         many = c .many;
         held = λ le. subst (PlainLines pool table d′ (c .value) 0) (omega (arith, c .many)) (plain-written pool table d d′ 0 (c .value) (set-kept (c .value) (c .is)) (c .buffer) (omega arith));

@@ -1,6 +1,7 @@
 // The steps of a call that replaces, past the check of 10.
 use lending::Answer;
 use names::Checked;
+use places::inner::fill;
 use queries::inner::apart;
 use records::inner::Ended;
 use records::inner::type_end;
@@ -11,6 +12,7 @@ use replacing::inner::flat::lines_flat;
 use replacing::inner::lines::replace_lines;
 use replacing::inner::walk::Went;
 use replacing::inner::walk::replace_type;
+use rules::NAMES;
 use rules::NESTED;
 use rules::RECORD_WORDS;
 use rules::RECORDS;
@@ -103,7 +105,9 @@ fn type_into(pool: &[u8], table: &[u32], words: &[u32], binds: &[u32], work: &mu
     requires { ⌜ 16384 ≤ length (now work) ⌝ }
     ensures { λ r. ⌜ ((t : Ty ℕ) (bs : List (Binding ℕ)) → Entered (now (pool .entry)) (now (table .entry)) (now (words .entry)) (now (binds .entry)) (typeGiven (tableOf (now (pool .entry)) (now (table .entry))) (now (words .entry))) t bs → Made (madeType (now (pool .entry)) (now (table .entry)) t bs) (now (work .exit)) r) ⌝ }
 {
-    match replace_type(pool, table, words, 0, binds, 0, binds.len() / 4, work, 0) {
+    let mut places = [0u32; NAMES];
+    fill(binds, 0, binds.len() / 4, &mut places);
+    match replace_type(pool, table, words, 0, &places, binds, work, 0) {
         Went::To(_, n) => type_fits(pool, table, work, n),
         Went::Stop(k) => Answer::Refused(k),
     }
@@ -115,9 +119,10 @@ fn set_into(pool: &[u8], table: &[u32], words: &[u32], binds: &[u32], work: &mut
     requires { ⌜ 16384 ≤ length (now work) ⌝ }
     ensures { λ r. ⌜ ((cs : List (Con ℕ)) (bs : List (Binding ℕ)) → Entered (now (pool .entry)) (now (table .entry)) (now (words .entry)) (now (binds .entry)) (setGiven (tableOf (now (pool .entry)) (now (table .entry))) (now (words .entry))) cs bs → Made (madeSet (now (pool .entry)) (now (table .entry)) cs bs) (now (work .exit)) r) ⌝ }
 {
+    let mut places = [0u32; NAMES];
+    fill(binds, 0, binds.len() / 4, &mut places);
     let n = words.len() / 4;
-    let m = binds.len() / 4;
-    match replace_lines(pool, table, words, 0, n, binds, 0, m, work, 0) {
+    match replace_lines(pool, table, words, 0, n, &places, binds, work, 0) {
         Went::To(_, k) => set_fits(pool, table, work, k),
         Went::Stop(k) => Answer::Refused(k),
     }

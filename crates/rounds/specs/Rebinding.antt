@@ -9,24 +9,26 @@ use lib.ListN.{length}
 use lib.Seq.{sets, slice, length-sets}
 use Rattle.rules.specs.Base.{Got, got, refused, _>>=_, bounded, all, each, collect, sumOf}
 use Rattle.rules.specs.Refusals.{numberOf}
-use Rattle.rules.specs.Replacing.{replaceCon, replaceBinding}
+use Rattle.rules.specs.Replacing.{Look, bindings, replaceCon, replaceBinding}
 use Rattle.rules.specs.Rounds.{State, perform}
 use Rattle.rules.specs.Trees.{Open, Ty, Con, Binding, _≔_, size}
 use Rattle.rules.specs.WellFormed.{goodTy, goodBinding}
 use Rattle.rules.specs.Writing.{words}
 use Rattle.rules.specs.declared.Refusal.{Refusal}
 use Rattle.laws.specs.Lists.{One, one-step, and-both, clash}
+use Rattle.laws.specs.NameTable.{Good}
 use Rattle.products.specs.Held.{law}
 use Rattle.records.specs.Good.{numbers, holding}
 use Rattle.replacing.specs.Flat.{goodLine, PlainLines, stateLines}
 use Rattle.replacing.specs.Kept.{plain-held, plain-written, plain-kept}
-use Rattle.replacing.specs.Left.{Left, Room, look}
+use Rattle.replacing.specs.Left.{Left, Room}
 use Rattle.replacing.specs.LineLaws.{cons-each, bindings-each}
 use Rattle.replacing.specs.LineRules.{Line, con, binding, sizeLine, writeLine, HeldLines, replaceLine}
 use Rattle.replacing.specs.Runs.{HoldsAll, looked-good, looked-short}
-use Rattle.replacing.specs.Well.{names, Lent}
+use Rattle.replacing.specs.Well.{names, Listed, Lent}
 use Rattle.replacing.specs.declared.inner.walk.Went.{Went}
 use Rattle.replacing.specs.declared.inner.walk.Went.the-variants.{To, Stop}
+use Rattle.places.specs.Filling.{Fills}
 use Rattle.rounds.specs.Lines.{map-both, sum-both, all-map, long-cons, long-binds, kept-before, copied, plain-join}
 use Rattle.rounds.specs.Parts.{keeps, Made, Bound, rebinds}
 use Rattle.rounds.specs.Sizes.{cons-size, bindings-size}
@@ -64,6 +66,10 @@ module _ (pool table next : List ℕ) (b q m : ℕ) (cs : List (Con ℕ)) (x : �
   abbrev pub one : List (Binding ℕ)
   one = x ≔ t ∷ []
 
+  -- what its variable becomes
+  abbrev pub look : Look ℕ
+  look = bindings (names pool table) one
+
   pub in-order : (b ≤ q) × (q ≤ m)
   in-order = (omega (arith, h .new .ends), omega (arith, h .binds .ends))
 
@@ -73,14 +79,17 @@ module _ (pool table next : List ℕ) (b q m : ℕ) (cs : List (Con ℕ)) (x : �
 
   -- ══ What the walks ask ══
 
-  pub lent : length next ≤ 1_000_000 → Lent pool table next b q one
+  pub listed : length next ≤ 1_000_000 → Listed pool table next b q one
   unfolding all HoldsAll
-  lent le = record {
+  listed le = record {
     run = record { held = h .new .held; past = h .new .ends };
     good = and-both (plain-held pool table next (binding (x ≔ t) ∷ []) b q (h .new) .good .0) refl;
     short = omega (arith, in-order, h .short);
     near = omega arith;
   }
+
+  pub lent : {places : List ℕ} → Fills next b q places → Good pool table → length next ≤ 1_000_000 → Lent pool table places next look
+  lent f g le = f pool table one g (listed le)
 
   pub cons-asked : HeldLines pool table next (map con cs) 0 b
   cons-asked = plain-held pool table next (map con cs) 0 b (h .cons)
@@ -90,51 +99,51 @@ module _ (pool table next : List ℕ) (b q m : ℕ) (cs : List (Con ℕ)) (x : �
 
   -- ══ What is put in ══
 
-  bound-good : (o : Open ℕ) (u : Ty ℕ) → look pool table one o ≡ some u → goodTy (numbers pool table) (holding pool table) 0 u ≡ true
+  bound-good : (o : Open ℕ) (u : Ty ℕ) → look o ≡ some u → goodTy (numbers pool table) (holding pool table) 0 u ≡ true
   bound-good o u i = looked-good (numbers pool table) (holding pool table) 0 one o u good-one i
 
-  bound-small : (o : Open ℕ) (u : Ty ℕ) → look pool table one o ≡ some u → size u ≤ 2048
+  bound-small : (o : Open ℕ) (u : Ty ℕ) → look o ≡ some u → size u ≤ 2048
   bound-small o u i = omega (arith, looked-short (numbers pool table) one o u i, h .new .ends, in-order, h .short)
 
   -- ══ What they make ══
 
   abbrev pub first : Got (List Line)
-  first = each (replaceLine pool table one) (map con cs)
+  first = each (replaceLine pool table look) (map con cs)
 
   abbrev pub second : Got (List Line)
-  second = each (replaceLine pool table one) (map binding bs)
+  second = each (replaceLine pool table look) (map binding bs)
 
   pub first-refused : (k : ℕ) → first ≡ refused k → rebinds pool table cs x t bs ≡ refused k
   unfolding perform
   first-refused k e =
-      let i = one-refused (each (replaceCon (names pool table) bounded (look pool table one)) cs) (map con) k (sym (cons-each pool table one cs) ∙ e) in
+      let i = one-refused (each (replaceCon (names pool table) bounded look) cs) (map con) k (sym (cons-each pool table look cs) ∙ e) in
       rw i
 
   module _ (ys : List Line) (e : first ≡ got ys) where
-    pub new-cons : One (each (replaceCon (names pool table) bounded (look pool table one)) cs) ys (map con)
-    new-cons = one-step (each (replaceCon (names pool table) bounded (look pool table one)) cs) (map con) ys (sym (cons-each pool table one cs) ∙ e)
+    pub new-cons : One (each (replaceCon (names pool table) bounded look) cs) ys (map con)
+    new-cons = one-step (each (replaceCon (names pool table) bounded look) cs) (map con) ys (sym (cons-each pool table look cs) ∙ e)
 
     pub second-refused : (k : ℕ) → second ≡ refused k → rebinds pool table cs x t bs ≡ refused k
     unfolding perform
     second-refused k f =
-        let i = one-refused (each (replaceBinding (names pool table) bounded (look pool table one)) bs) (map binding) k (sym (bindings-each pool table one bs) ∙ f) in
+        let i = one-refused (each (replaceBinding (names pool table) bounded look) bs) (map binding) k (sym (bindings-each pool table look bs) ∙ f) in
         rw (new-cons .gave, i)
 
     pub first-size : sumOf sizeLine ys ≤ b * 2048
     first-size =
-        let s = cons-size (numbers pool table) (law pool table) (holding pool table) 0 (look pool table one) bound-good bound-small cs (sym (all-map (goodLine pool table) con cs) ∙ h .cons .good) .holds (new-cons .value) (new-cons .gave) in
+        let s = cons-size (numbers pool table) (law pool table) (holding pool table) 0 look bound-good bound-small cs (sym (all-map (goodLine pool table) con cs) ∙ h .cons .good) .holds (new-cons .value) (new-cons .gave) in
         omega (arith, s, ap (sumOf sizeLine) (new-cons .is), long-cons (new-cons .value), long-cons cs, h .cons .ends)
 
     pub room : length next ≤ 1_000_000 → (n : ℕ) → n ≡ 0 + sumOf sizeLine ys → Room next q n
     room le n i = record { near = omega arith; small = omega (arith, first-size, in-order, h .short) }
 
     module _ (zs : List Line) (f : second ≡ got zs) where
-      pub new-binds : One (each (replaceBinding (names pool table) bounded (look pool table one)) bs) zs (map binding)
-      new-binds = one-step (each (replaceBinding (names pool table) bounded (look pool table one)) bs) (map binding) zs (sym (bindings-each pool table one bs) ∙ f)
+      pub new-binds : One (each (replaceBinding (names pool table) bounded look) bs) zs (map binding)
+      new-binds = one-step (each (replaceBinding (names pool table) bounded look) bs) (map binding) zs (sym (bindings-each pool table look bs) ∙ f)
 
       pub second-size : sumOf sizeLine zs ≤ (m - q) * 2048
       second-size =
-          let s = bindings-size (numbers pool table) (law pool table) (holding pool table) 0 (look pool table one) bound-good bound-small bs (sym (all-map (goodLine pool table) binding bs) ∙ h .binds .good) .holds (new-binds .value) (new-binds .gave) in
+          let s = bindings-size (numbers pool table) (law pool table) (holding pool table) 0 look bound-good bound-small bs (sym (all-map (goodLine pool table) binding bs) ∙ h .binds .good) .holds (new-binds .value) (new-binds .gave) in
           omega (arith, s, ap (sumOf sizeLine) (new-binds .is), long-binds (new-binds .value), long-binds bs, h .binds .ends)
 
       -- so that the count stays small
@@ -169,11 +178,11 @@ module _ (pool table next : List ℕ) (b q m : ℕ) (cs : List (Con ℕ)) (x : �
           lines = record {
             many = all-long;
             held = λ k.
-                let c₁ = plain-written pool table w w₁ 0 ys (plain-kept pool table one good-one (map con cs) (h .cons .good) .holds ys e) e₁ (omega arith) in
+                let c₁ = plain-written pool table w w₁ 0 ys (plain-kept pool table look bound-good (map con cs) (h .cons .good) .holds ys e) e₁ (omega arith) in
                 let c₁′ : PlainLines pool table w₁ ys 0 n = rw (← i) at c₁ in
                 let c₂ = kept-before pool table w₁ w₂ n (words (collect writeLine zs)) e₂ ys 0 n c₁′ (omega (arith, n₁)) (omega arith) in
                 let c₃ = kept-before pool table w₂ w₃ o (slice (b * 4) (q * 4) next) e₃ ys 0 n c₂ (omega (arith, n₂)) (omega arith) in
-                let b₂ = plain-written pool table w₁ w₂ n zs (plain-kept pool table one good-one (map binding bs) (h .binds .good) .holds zs f) e₂ (omega (arith, n₁)) in
+                let b₂ = plain-written pool table w₁ w₂ n zs (plain-kept pool table look bound-good (map binding bs) (h .binds .good) .holds zs f) e₂ (omega (arith, n₁)) in
                 let b₂′ : PlainLines pool table w₂ zs n o = rw (← j) at b₂ in
                 let b₃ = kept-before pool table w₂ w₃ o (slice (b * 4) (q * 4) next) e₃ zs n o b₂′ (omega (arith, n₂)) (omega arith) in
                 let x₃ = copied pool table next w₂ w₃ (map binding one) b q o (h .new) (omega (arith, in-order, h .short)) (omega (arith, n₂)) e₃ in

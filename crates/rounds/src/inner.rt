@@ -1,4 +1,5 @@
 // One round on constraints and bindings that stand one after another in a buffer.
+use places::inner::fill;
 use queries::inner::end_of;
 use records::View;
 use records::inner::copy;
@@ -6,6 +7,7 @@ use records::seen::view_at;
 use replacing::inner::flat::lines_flat;
 use replacing::inner::lines::replace_lines;
 use replacing::inner::walk::Went;
+use rules::NAMES;
 use rules::RECORD_WORDS;
 use rules::RECORDS;
 use rules::Refusal;
@@ -22,6 +24,7 @@ ghost use Rattle.laws.specs.NameTable.{Good};
 ghost use Rattle.records.specs.Good.{numbers};
 ghost use Rattle.records.specs.Holds.{HoldsCon};
 ghost use Rattle.replacing.specs.LineRules.{Line, con, binding};
+ghost use Rattle.places.specs.Filling.{Fills};
 ghost use Rattle.rounds.specs.States.{StateHeld, Turned};
 ghost use Rattle.rounds.specs.Parts.{joined, Stands, fitting, Made, keeps, Parts, Around, New, appends, Bound, rebinds, Taken, others, performs};
 
@@ -131,6 +134,37 @@ fn append(
 }
 
 // Writes the constraints and the older bindings with the new binding put in to the work buffer, and the new binding behind them.
+fn rebind_by(
+    pool: &[u8],
+    table: &[u32],
+    next: &[u32],
+    places: &[u32],
+    b: usize,
+    q: usize,
+    m: usize,
+    work: &mut [u32],
+) -> Turn
+    requires { ⌜ Good (now pool) (now table) ⌝ }
+    requires { ⌜ ((cs : List (Con ℕ)) × ((x : ℕ) × ((t : Ty ℕ) × ((bs : List (Binding ℕ)) × Bound (now pool) (now table) (now next) b q m cs x t bs)))) ⌝ }
+    requires { ⌜ 8192 ≤ length (now next) ⌝ }
+    requires { ⌜ length (now next) ≤ 1000000 ⌝ }
+    requires { ⌜ 8192 ≤ length (now work) ⌝ }
+    requires { ⌜ Fills (now next) b q (now places) ⌝ }
+    ensures { λ r. ⌜ ((cs : List (Con ℕ)) (x : ℕ) (t : Ty ℕ) (bs : List (Binding ℕ)) → Bound (now (pool .entry)) (now (table .entry)) (now (next .entry)) b q m cs x t bs → Turned (now (pool .entry)) (now (table .entry)) (now (work .entry)) (now (work .exit)) r (rebinds (now (pool .entry)) (now (table .entry)) cs x t bs)) ⌝ }
+{
+    match replace_lines(pool, table, next, 0, b, places, next, work, 0) {
+        Went::To(_, n) => match replace_lines(pool, table, next, q, m, places, next, work, n) {
+            Went::To(_, o) => {
+                copy(next, b, q, work, o);
+                limit(pool, table, work, n, o + (q - b))
+            }
+            Went::Stop(k) => Turn::Stop(k),
+        },
+        Went::Stop(k) => Turn::Stop(k),
+    }
+}
+
+// The same with a table of the new binding alone.
 fn rebind(
     pool: &[u8],
     table: &[u32],
@@ -147,16 +181,9 @@ fn rebind(
     requires { ⌜ 8192 ≤ length (now work) ⌝ }
     ensures { λ r. ⌜ ((cs : List (Con ℕ)) (x : ℕ) (t : Ty ℕ) (bs : List (Binding ℕ)) → Bound (now (pool .entry)) (now (table .entry)) (now (next .entry)) b q m cs x t bs → Turned (now (pool .entry)) (now (table .entry)) (now (work .entry)) (now (work .exit)) r (rebinds (now (pool .entry)) (now (table .entry)) cs x t bs)) ⌝ }
 {
-    match replace_lines(pool, table, next, 0, b, next, b, q, work, 0) {
-        Went::To(_, n) => match replace_lines(pool, table, next, q, m, next, b, q, work, n) {
-            Went::To(_, o) => {
-                copy(next, b, q, work, o);
-                limit(pool, table, work, n, o + (q - b))
-            }
-            Went::Stop(k) => Turn::Stop(k),
-        },
-        Went::Stop(k) => Turn::Stop(k),
-    }
+    let mut places = [0u32; NAMES];
+    fill(next, b, q, &mut places);
+    rebind_by(pool, table, next, &places, b, q, m, work)
 }
 
 // The new binding stands in `next` up to q: the constraints go before it, the older bindings behind, and it is put into both.

@@ -1,60 +1,60 @@
-// What a variable is bound to: a run of bindings in a part of a slice.
+// What open names become: a table of places, one word for each name, and a slice in which the types stand.
+// The word of variable x is at x, of parameter x at 256 + x, of quantified variable i at 512 + i; past the table's end words count as 0.
+// 0: the name stays. Any other word is one more than the place of its type.
 use queries::inner::end_of;
 use records::Open;
-use records::View;
-use records::seen::view_at;
 ghost use mathlib.Core.Path.{_≡_};
-ghost use mathlib.Core.List.{List};
-ghost use Prim.Native.Nat.{ℕ};
-ghost use lib.Dec.{eqb};
-ghost use Rattle.rules.specs.Names.{Bytes, numbered};
-ghost use Rattle.rules.specs.Trees.{Binding};
-ghost use Rattle.rules.specs.Replacing.{bindings, find};
-ghost use Rattle.records.specs.Views.{viewAt};
+ghost use Prim.Native.Nat.{ℕ, _≤_};
+ghost use lib.ListN.{getD};
+ghost use Rattle.rules.specs.Replacing.{Look};
 ghost use Rattle.records.specs.Holds.{openOf};
-ghost use Rattle.records.specs.declared.View;
-ghost use Rattle.replacing.specs.Runs.{Run, LookedUp};
+ghost use Rattle.replacing.specs.Runs.{LookedUp};
+ghost use Rattle.replacing.specs.Places.{nameWord, wordOf, Tabled};
 
-// The places of a bound type, from its first record up to its end.
+// The places of a type that was found, from its first record up to its end.
 pub enum Found {
     At(usize, usize),
     Nothing,
 }
 
-// Does the binding at a place bind x?
-fn binds(v: &[u32], at: usize, x: u32) -> bool
-    ensures { λ r. ⌜ ((y : ℕ) → viewAt (now (v .entry)) at ≡ View.Binding y → r ≡ eqb x y) ⌝ }
+// A word of the table.
+pub fn word_at(places: &[u32], i: usize) -> u32
+    ensures { λ r. ⌜ r ≡ getD (now (places .entry)) i 0 ⌝ }
 {
-    match view_at(v, at) {
-        View::Binding(y) => x == y,
-        _ => false,
+    if i < places.len() { places[i] } else { 0 }
+}
+
+// The word of a variable or a parameter: only the 256 names have one.
+fn name_word(places: &[u32], first: usize, x: u32) -> u32
+    requires { ⌜ first ≤ 256 ⌝ }
+    ensures { λ r. ⌜ r ≡ nameWord (now (places .entry)) first x ⌝ }
+{
+    if x < 256 {
+        word_at(places, first + x as usize)
+    } else {
+        0
     }
 }
 
-// What x is bound to; of two bindings of it the first counts.
-fn bound(v: &[u32], b: usize, e: usize, x: u32) -> Found
-    requires { ⌜ ((bs : List (Binding ℕ)) × Run (now v) b e bs) ⌝ }
-    ensures { λ r. ⌜ ((bs : List (Binding ℕ)) (names : List Bytes) → Run (now (v .entry)) b e bs → LookedUp (now (v .entry)) (find (numbered names) bs x) r) ⌝ }
-{
-    let mut i = b;
-    while i < e {
-        let t = end_of(v, i + 1);
-        if binds(v, i, x) {
-            return Found::At(i + 1, t);
-        }
-        i = t;
-    }
-    Found::Nothing
-}
-
-// What an open name is bound to: only variables are.
-pub fn look_up(v: &[u32], b: usize, e: usize, o: Open) -> Found
-    requires { ⌜ ((bs : List (Binding ℕ)) × Run (now v) b e bs) ⌝ }
-    ensures { λ r. ⌜ ((bs : List (Binding ℕ)) (names : List Bytes) → Run (now (v .entry)) b e bs → LookedUp (now (v .entry)) (bindings (numbered names) bs (openOf o)) r) ⌝ }
+fn word_of(places: &[u32], o: Open) -> u32
+    ensures { λ r. ⌜ r ≡ wordOf (now (places .entry)) (openOf o) ⌝ }
 {
     match o {
-        Open::Var(x) => bound(v, b, e, x),
-        Open::Quant(_) => Found::Nothing,
-        Open::Par(_) => Found::Nothing,
+        Open::Var(x) => name_word(places, 0, x),
+        Open::Quant(i) => word_at(places, 512 + i as usize),
+        Open::Par(x) => name_word(places, 256, x),
     }
+}
+
+// What an open name becomes.
+pub fn look_up(places: &[u32], v: &[u32], o: Open) -> Found
+    requires { ⌜ ((look : Look ℕ) × Tabled (now places) (now v) look) ⌝ }
+    ensures { λ r. ⌜ ((look : Look ℕ) → Tabled (now (places .entry)) (now (v .entry)) look → LookedUp (now (v .entry)) (look (openOf o)) r) ⌝ }
+{
+    let w = word_of(places, o);
+    if w == 0 {
+        return Found::Nothing;
+    }
+    let at = w as usize - 1;
+    Found::At(at, end_of(v, at))
 }

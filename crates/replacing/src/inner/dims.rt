@@ -1,8 +1,10 @@
-// Replacing in products: each factor of a bound variable goes, and the bound dimension comes in its place.
+// Replacing in products: each factor whose name becomes a type goes, and that type comes in its place as a dimension.
 use super::bound::Found;
 use super::bound::look_up;
+use super::factors::Alone;
 use super::factors::factor_at;
 use super::factors::free_factor;
+use super::factors::open_of;
 use exponents::Exponent;
 use loading::inner::load;
 use names::Checked;
@@ -19,13 +21,13 @@ use records::View;
 use records::seen::view_at;
 use rules::Refusal;
 ghost use mathlib.Core.Path.{_≡_};
-ghost use mathlib.Core.List.{List, [], _∷_};
+ghost use mathlib.Core.List.{[], _∷_};
 ghost use mathlib.Core.Option.{some};
 ghost use Prim.Native.Nat.{ℕ, _+_, _<_};
 ghost use Rattle.rules.specs.Base.{bounded, got};
 ghost use Rattle.rules.specs.Products.{just};
-ghost use Rattle.rules.specs.Replacing.{asProduct, bindings, replaceProduct};
-ghost use Rattle.rules.specs.Trees.{Ty, Binding};
+ghost use Rattle.rules.specs.Replacing.{Look, asProduct, replaceProduct};
+ghost use Rattle.rules.specs.Trees.{Ty};
 ghost use Rattle.rules.specs.Values.{productValue};
 ghost use Rattle.laws.specs.NameTable.{Good};
 ghost use Rattle.products.specs.Told.{Tree, given, told, answer, treeOf, heldIn};
@@ -102,50 +104,42 @@ fn put_in(pool: &[u8], table: &[u32], acc: Product, f: Factor, v: &[u32], at: us
     multiplied(left.product, more.product, pool, table)
 }
 
-// A factor of a bound variable is replaced in the product; any other stays.
+// A factor whose name becomes a type is replaced in the product; any other stays.
 fn replace_factor(
     pool: &[u8],
     table: &[u32],
     acc: Product,
     f: Factor,
+    places: &[u32],
     v: &[u32],
-    b: usize,
-    e: usize,
 ) -> Tried
     requires { ⌜ Good (now pool) (now table) ⌝ }
     requires { ⌜ ((a : Tree) × Whole (now pool) (now table) acc a) ⌝ }
     requires { ⌜ Fine (names (now pool) (now table)) (heldIn (now table)) f ⌝ }
-    requires { ⌜ ((bs : List (Binding ℕ)) × Lent (now pool) (now table) (now v) b e bs) ⌝ }
-    ensures { λ r. ⌜ ((a : Tree) (bs : List (Binding ℕ)) → Whole (now (pool .entry)) (now (table .entry)) acc a → Lent (now (pool .entry)) (now (table .entry)) (now (v .entry)) b e bs → told r ≡ answer (putIn (names (now (pool .entry)) (now (table .entry))) (atomLooked (bindings (names (now (pool .entry)) (now (table .entry))) bs) (treeOf f)) (treeOf f) a)) ⌝ }
+    requires { ⌜ ((look : Look ℕ) × Lent (now pool) (now table) (now places) (now v) look) ⌝ }
+    ensures { λ r. ⌜ ((a : Tree) (look : Look ℕ) → Whole (now (pool .entry)) (now (table .entry)) acc a → Lent (now (pool .entry)) (now (table .entry)) (now (places .entry)) (now (v .entry)) look → told r ≡ answer (putIn (names (now (pool .entry)) (now (table .entry))) (atomLooked look (treeOf f)) (treeOf f) a)) ⌝ }
 {
-    if f.kind != 11 {
-        return made(acc);
-    }
-    match look_up(v, b, e, Open::Var(f.name)) {
-        Found::At(t, _) => put_in(pool, table, acc, f, v, t),
-        Found::Nothing => made(acc),
+    match open_of(f) {
+        Alone::Of(o) => match look_up(places, v, o) {
+            Found::At(t, _) => put_in(pool, table, acc, f, v, t),
+            Found::Nothing => made(acc),
+        },
+        Alone::Not => made(acc),
     }
 }
 
 // Replaces in a product, for each factor in stored order.
-pub fn replace_factors(
-    pool: &[u8],
-    table: &[u32],
-    p: Product,
-    v: &[u32],
-    b: usize,
-    e: usize,
-) -> Tried
+pub fn replace_factors(pool: &[u8], table: &[u32], p: Product, places: &[u32], v: &[u32]) -> Tried
     requires { ⌜ Good (now pool) (now table) ⌝ }
     requires { ⌜ ((a : Tree) × Whole (now pool) (now table) p a) ⌝ }
-    requires { ⌜ ((bs : List (Binding ℕ)) × Lent (now pool) (now table) (now v) b e bs) ⌝ }
-    ensures { λ r. ⌜ ((a : Tree) (bs : List (Binding ℕ)) → Whole (now (pool .entry)) (now (table .entry)) p a → Lent (now (pool .entry)) (now (table .entry)) (now (v .entry)) b e bs → told r ≡ answer (replaceProduct (names (now (pool .entry)) (now (table .entry))) bounded (bindings (names (now (pool .entry)) (now (table .entry))) bs) a)) ⌝ }
+    requires { ⌜ ((look : Look ℕ) × Lent (now pool) (now table) (now places) (now v) look) ⌝ }
+    ensures { λ r. ⌜ ((a : Tree) (look : Look ℕ) → Whole (now (pool .entry)) (now (table .entry)) p a → Lent (now (pool .entry)) (now (table .entry)) (now (places .entry)) (now (v .entry)) look → told r ≡ answer (replaceProduct (names (now (pool .entry)) (now (table .entry))) bounded look a)) ⌝ }
 {
     let mut acc = p;
     let mut i = 0;
     while i < p.len {
         let f = factor_at(p, i);
-        let t = replace_factor(pool, table, acc, f, v, b, e);
+        let t = replace_factor(pool, table, acc, f, places, v);
         let checked = t.checked;
         let Checked::Good = checked else {
             return t;

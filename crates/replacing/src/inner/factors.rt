@@ -14,9 +14,9 @@ ghost use Rattle.products.specs.Told.{valueIn, treeOf, productOf, factorAt};
 ghost use Rattle.products.specs.Kinds.{Kind};
 ghost use Rattle.products.specs.Held.{Sound};
 ghost use Rattle.records.specs.Holds.{openOf};
-ghost use Rattle.replacing.specs.Alone.{toldAlone, picked};
+ghost use Rattle.replacing.specs.Alone.{toldAlone, openIn, picked};
 
-// The variable of a product that is one variable to the power 1.
+// The open name that was asked for, if there is one.
 pub enum Alone {
     Of(Open),
     Not,
@@ -51,6 +51,19 @@ pub fn factor_at(p: Product, i: usize) -> Factor
     ensures { λ r. ⌜ r ≡ factorAt p i ⌝ }
 {
     p.factors[i]
+}
+
+// The open name of a factor; a base dimension has none.
+pub fn open_of(f: Factor) -> Alone
+    ensures { λ r. ⌜ toldAlone r ≡ openIn (treeOf f) ⌝ }
+{
+    let kind = f.kind;
+    match kind {
+        11 => Alone::Of(Open::Var(f.name)),
+        12 => Alone::Of(Open::Par(f.name)),
+        15 => Alone::Of(Open::Quant(f.name)),
+        _ => Alone::Not,
+    }
 }
 
 fn lone(f: Factor) -> Alone

@@ -10,7 +10,7 @@ use rules::Refusal;
 ghost use mathlib.Core.List.{List};
 ghost use Prim.Native.Nat.{ℕ, _≤_, _/_};
 ghost use lib.ListN.{length};
-ghost use Rattle.rules.specs.Trees.{Binding};
+ghost use Rattle.rules.specs.Replacing.{Look};
 ghost use Rattle.laws.specs.NameTable.{Good};
 ghost use Rattle.products.specs.Told.{Tree};
 ghost use Rattle.replacing.specs.Well.{Lent};
@@ -23,20 +23,19 @@ fn replace_equal_scalar(
     table: &[u32],
     s: &[u32],
     at: usize,
+    places: &[u32],
     v: &[u32],
-    b: usize,
-    e: usize,
     dst: &mut [u32],
     out: usize,
 ) -> Went
     requires { ⌜ Good (now pool) (now table) ⌝ }
     requires { ⌜ ((p : Tree) × ScalarHeld (now pool) (now table) (now s) p at) ⌝ }
-    requires { ⌜ ((bs : List (Binding ℕ)) × Lent (now pool) (now table) (now v) b e bs) ⌝ }
+    requires { ⌜ ((look : Look ℕ) × Lent (now pool) (now table) (now places) (now v) look) ⌝ }
     requires { ⌜ Room (now s) at out ⌝ }
-    ensures { λ r. ⌜ ScalarReplaced (now (pool .entry)) (now (table .entry)) (now (s .entry)) (now (v .entry)) b e (now (dst .entry)) (now (dst .exit)) at out r ⌝ }
+    ensures { λ r. ⌜ ScalarReplaced (now (pool .entry)) (now (table .entry)) (now (s .entry)) (now (places .entry)) (now (v .entry)) (now (dst .entry)) (now (dst .exit)) at out r ⌝ }
 {
     match view_at(s, at) {
-        View::Dim(n) => replace_dim(pool, table, s, at + 1, n, false, v, b, e, dst, out),
+        View::Dim(n) => replace_dim(pool, table, s, at + 1, n, false, places, v, dst, out),
         _ => Went::Stop(Refusal::Malformed),
     }
 }
@@ -47,26 +46,36 @@ pub fn replace_line(
     table: &[u32],
     s: &[u32],
     at: usize,
+    places: &[u32],
     v: &[u32],
-    b: usize,
-    e: usize,
     dst: &mut [u32],
     out: usize,
 ) -> Went
     requires { ⌜ Good (now pool) (now table) ⌝ }
     requires { ⌜ ((x : Line) × HeldLine (now pool) (now table) (now s) x at) ⌝ }
-    requires { ⌜ ((bs : List (Binding ℕ)) × Lent (now pool) (now table) (now v) b e bs) ⌝ }
+    requires { ⌜ ((look : Look ℕ) × Lent (now pool) (now table) (now places) (now v) look) ⌝ }
     requires { ⌜ Room (now s) at out ⌝ }
-    ensures { λ r. ⌜ LineReplaced (now (pool .entry)) (now (table .entry)) (now (s .entry)) (now (v .entry)) b e (now (dst .entry)) (now (dst .exit)) at out r ⌝ }
+    ensures { λ r. ⌜ LineReplaced (now (pool .entry)) (now (table .entry)) (now (s .entry)) (now (places .entry)) (now (v .entry)) (now (dst .entry)) (now (dst .exit)) at out r ⌝ }
 {
     let w = view_at(s, at);
     put_record(dst, out, w);
     match w {
-        View::Equal => replace_list(pool, table, s, at + 1, 2, false, v, b, e, dst, out + 1),
-        View::IsDim => replace_type(pool, table, s, at + 1, v, b, e, dst, out + 1),
-        View::IsScalar => replace_equal_scalar(pool, table, s, at + 1, v, b, e, dst, out + 1),
-        View::HasField(_) => replace_list(pool, table, s, at + 1, 2, false, v, b, e, dst, out + 1),
-        View::Binding(_) => replace_type(pool, table, s, at + 1, v, b, e, dst, out + 1),
+        View::Equal => replace_list(pool, table, s, at + 1, 2, false, places, v, dst, out + 1),
+        View::IsDim => replace_type(pool, table, s, at + 1, places, v, dst, out + 1),
+        View::IsScalar => replace_equal_scalar(pool, table, s, at + 1, places, v, dst, out + 1),
+        View::HasField(_) => replace_list(
+            pool,
+            table,
+            s,
+            at + 1,
+            2,
+            false,
+            places,
+            v,
+            dst,
+            out + 1,
+        ),
+        View::Binding(_) => replace_type(pool, table, s, at + 1, places, v, dst, out + 1),
         _ => Went::Stop(Refusal::Malformed),
     }
 }
@@ -78,24 +87,23 @@ pub fn replace_lines(
     s: &[u32],
     at: usize,
     end: usize,
+    places: &[u32],
     v: &[u32],
-    b: usize,
-    e: usize,
     dst: &mut [u32],
     out: usize,
 ) -> Went
     requires { ⌜ Good (now pool) (now table) ⌝ }
     requires { ⌜ ((xs : List Line) × HeldLines (now pool) (now table) (now s) xs at end) ⌝ }
-    requires { ⌜ ((bs : List (Binding ℕ)) × Lent (now pool) (now table) (now v) b e bs) ⌝ }
+    requires { ⌜ ((look : Look ℕ) × Lent (now pool) (now table) (now places) (now v) look) ⌝ }
     requires { ⌜ end ≤ length (now s) / 4 ⌝ }
     requires { ⌜ Room (now s) at out ⌝ }
-    ensures { λ r. ⌜ LinesReplaced (now (pool .entry)) (now (table .entry)) (now (s .entry)) (now (v .entry)) b e (now (dst .entry)) (now (dst .exit)) at end out r ⌝ }
+    ensures { λ r. ⌜ LinesReplaced (now (pool .entry)) (now (table .entry)) (now (s .entry)) (now (places .entry)) (now (v .entry)) (now (dst .entry)) (now (dst .exit)) at end out r ⌝ }
 {
     if end <= at {
         return Went::To(at, out);
     }
-    match replace_line(pool, table, s, at, v, b, e, dst, out) {
-        Went::To(q, o) => replace_lines(pool, table, s, q, end, v, b, e, dst, o),
+    match replace_line(pool, table, s, at, places, v, dst, out) {
+        Went::To(q, o) => replace_lines(pool, table, s, q, end, places, v, dst, o),
         Went::Stop(k) => Went::Stop(k),
     }
 }

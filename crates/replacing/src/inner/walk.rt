@@ -16,19 +16,18 @@ use records::inner::put_record;
 use records::seen::view_at;
 use rules::Refusal;
 ghost use mathlib.Core.Path.{_≡_};
-ghost use mathlib.Core.List.{List};
 ghost use Prim.Native.Nat.{ℕ, _+_, _*_, _/_, _^_, _≤_, _<_};
 ghost use lib.ListN.{length};
 ghost use lib.Seq.{sets};
 ghost use Rattle.rules.specs.Base.{Got};
-ghost use Rattle.rules.specs.Names.{Bytes};
-ghost use Rattle.rules.specs.Trees.{Ty, Binding};
+ghost use Rattle.rules.specs.Replacing.{Look};
+ghost use Rattle.rules.specs.Trees.{Ty};
 ghost use Rattle.rules.specs.Writing.{words};
 ghost use Rattle.laws.specs.NameTable.{Good};
 ghost use Rattle.products.specs.Told.{Tree};
 ghost use Rattle.records.specs.Holds.{openOf};
 ghost use Rattle.records.specs.Views.{viewAt};
-ghost use Rattle.replacing.specs.Runs.{Run};
+ghost use Rattle.replacing.specs.Places.{Tabled};
 ghost use Rattle.replacing.specs.Well.{Whole, HeldType, HeldDim, Lent};
 ghost use Rattle.replacing.specs.Left.{Room, Row, HeldRow, Ready, headOf, headRecs, OpenReplaced, ProductPut, ProductReplaced, DimReplaced, Replaced, RowReplaced};
 
@@ -38,14 +37,13 @@ pub enum Went {
     Stop(Refusal),
 }
 
-// Writes an open name, or what it is bound to: how many records that is.
-fn replace_open(o: Open, v: &[u32], b: usize, e: usize, dst: &mut [u32], out: usize) -> usize
-    requires { ⌜ ((bs : List (Binding ℕ)) × Run (now v) b e bs) ⌝ }
-    requires { ⌜ e ≤ b + 2048 ⌝ }
+// Writes an open name, or what it becomes: how many records that is.
+fn replace_open(o: Open, places: &[u32], v: &[u32], dst: &mut [u32], out: usize) -> usize
+    requires { ⌜ ((look : Look ℕ) × Tabled (now places) (now v) look) ⌝ }
     requires { ⌜ out ≤ 1000000000 ⌝ }
-    ensures { λ r. ⌜ ((bs : List (Binding ℕ)) (names : List Bytes) → Run (now (v .entry)) b e bs → OpenReplaced names bs (openOf o) (now (dst .entry)) (now (dst .exit)) out r) ⌝ }
+    ensures { λ r. ⌜ ((look : Look ℕ) → Tabled (now (places .entry)) (now (v .entry)) look → OpenReplaced look (openOf o) (now (dst .entry)) (now (dst .exit)) out r) ⌝ }
 {
-    match look_up(v, b, e, o) {
+    match look_up(places, v, o) {
         Found::At(i, j) => {
             copy(v, i, j, dst, out);
             j - i
@@ -81,19 +79,18 @@ fn replace_product(
     table: &[u32],
     p: Product,
     next: usize,
+    places: &[u32],
     v: &[u32],
-    b: usize,
-    e: usize,
     dst: &mut [u32],
     out: usize,
 ) -> Went
     requires { ⌜ Good (now pool) (now table) ⌝ }
     requires { ⌜ ((a : Tree) × Whole (now pool) (now table) p a) ⌝ }
-    requires { ⌜ ((bs : List (Binding ℕ)) × Lent (now pool) (now table) (now v) b e bs) ⌝ }
+    requires { ⌜ ((look : Look ℕ) × Lent (now pool) (now table) (now places) (now v) look) ⌝ }
     requires { ⌜ out ≤ 1000000000 ⌝ }
-    ensures { λ r. ⌜ ((a : Tree) (bs : List (Binding ℕ)) → Whole (now (pool .entry)) (now (table .entry)) p a → Lent (now (pool .entry)) (now (table .entry)) (now (v .entry)) b e bs → ProductReplaced (now (pool .entry)) (now (table .entry)) bs (now (dst .entry)) (now (dst .exit)) next out r a) ⌝ }
+    ensures { λ r. ⌜ ((a : Tree) (look : Look ℕ) → Whole (now (pool .entry)) (now (table .entry)) p a → Lent (now (pool .entry)) (now (table .entry)) (now (places .entry)) (now (v .entry)) look → ProductReplaced (now (pool .entry)) (now (table .entry)) look (now (dst .entry)) (now (dst .exit)) next out r a) ⌝ }
 {
-    put_tried(replace_factors(pool, table, p, v, b, e), next, dst, out)
+    put_tried(replace_factors(pool, table, p, places, v), next, dst, out)
 }
 
 // Writes the product of n factors at a place with its bound variables replaced.
@@ -105,23 +102,22 @@ pub fn replace_dim(
     at: usize,
     n: u32,
     as_type: bool,
+    places: &[u32],
     v: &[u32],
-    b: usize,
-    e: usize,
     dst: &mut [u32],
     out: usize,
 ) -> Went
     requires { ⌜ Good (now pool) (now table) ⌝ }
     requires { ⌜ ((p : Tree) × HeldDim (now pool) (now table) (now s) p at n) ⌝ }
-    requires { ⌜ ((bs : List (Binding ℕ)) × Lent (now pool) (now table) (now v) b e bs) ⌝ }
+    requires { ⌜ ((look : Look ℕ) × Lent (now pool) (now table) (now places) (now v) look) ⌝ }
     requires { ⌜ at ≤ 1000000000 ⌝ }
     requires { ⌜ out ≤ 1000000000 ⌝ }
-    ensures { λ r. ⌜ ((p : Tree) (bs : List (Binding ℕ)) → HeldDim (now (pool .entry)) (now (table .entry)) (now (s .entry)) p at n → Lent (now (pool .entry)) (now (table .entry)) (now (v .entry)) b e bs → DimReplaced (now (pool .entry)) (now (table .entry)) bs as_type (now (dst .entry)) (now (dst .exit)) (at + n) out r p) ⌝ }
+    ensures { λ r. ⌜ ((p : Tree) (look : Look ℕ) → HeldDim (now (pool .entry)) (now (table .entry)) (now (s .entry)) p at n → Lent (now (pool .entry)) (now (table .entry)) (now (places .entry)) (now (v .entry)) look → DimReplaced (now (pool .entry)) (now (table .entry)) look as_type (now (dst .entry)) (now (dst .exit)) (at + n) out r p) ⌝ }
 {
     let k = n as usize;
     let p = load(s, at, k);
     match picked(p, as_type) {
-        Alone::Of(o) => match look_up(v, b, e, o) {
+        Alone::Of(o) => match look_up(places, v, o) {
             Found::At(i, j) => {
                 copy(v, i, j, dst, out);
                 Went::To(at + k, out + (j - i))
@@ -131,7 +127,7 @@ pub fn replace_dim(
                 Went::To(at + k, out + 1 + k)
             }
         },
-        Alone::Not => replace_product(pool, table, p, at + k, v, b, e, dst, out),
+        Alone::Not => replace_product(pool, table, p, at + k, places, v, dst, out),
     }
 }
 
@@ -154,46 +150,45 @@ pub fn replace_type(
     table: &[u32],
     s: &[u32],
     at: usize,
+    places: &[u32],
     v: &[u32],
-    b: usize,
-    e: usize,
     dst: &mut [u32],
     out: usize,
 ) -> Went
     requires { ⌜ Good (now pool) (now table) ⌝ }
     requires { ⌜ ((t : Ty ℕ) × HeldType (now pool) (now table) (now s) t at) ⌝ }
-    requires { ⌜ ((bs : List (Binding ℕ)) × Lent (now pool) (now table) (now v) b e bs) ⌝ }
+    requires { ⌜ ((look : Look ℕ) × Lent (now pool) (now table) (now places) (now v) look) ⌝ }
     requires { ⌜ Room (now s) at out ⌝ }
-    ensures { λ r. ⌜ Replaced (now (pool .entry)) (now (table .entry)) (now (s .entry)) (now (v .entry)) b e (now (dst .entry)) (now (dst .exit)) at out r ⌝ }
+    ensures { λ r. ⌜ Replaced (now (pool .entry)) (now (table .entry)) (now (s .entry)) (now (places .entry)) (now (v .entry)) (now (dst .entry)) (now (dst .exit)) at out r ⌝ }
 {
     let w = view_at(s, at);
     match w {
         View::Opened(o) => {
-            let n = replace_open(o, v, b, e, dst, out);
+            let n = replace_open(o, places, v, dst, out);
             Went::To(at + 1, out + n)
         }
         View::Basic(_) => {
             put_record(dst, out, w);
             Went::To(at + 1, out + 1)
         }
-        View::Dim(n) => replace_dim(pool, table, s, at + 1, n, true, v, b, e, dst, out),
+        View::Dim(n) => replace_dim(pool, table, s, at + 1, n, true, places, v, dst, out),
         View::Function(n) => {
             put_record(dst, out, w);
-            match replace_list(pool, table, s, at + 1, n, false, v, b, e, dst, out + 1) {
-                Went::To(q, o) => replace_type(pool, table, s, q, v, b, e, dst, o),
+            match replace_list(pool, table, s, at + 1, n, false, places, v, dst, out + 1) {
+                Went::To(q, o) => replace_type(pool, table, s, q, places, v, dst, o),
                 Went::Stop(k) => Went::Stop(k),
             }
         }
         View::Struct(_, n, m) => {
             put_record(dst, out, w);
-            match replace_list(pool, table, s, at + 1, n, false, v, b, e, dst, out + 1) {
-                Went::To(q, o) => replace_list(pool, table, s, q, m, true, v, b, e, dst, o),
+            match replace_list(pool, table, s, at + 1, n, false, places, v, dst, out + 1) {
+                Went::To(q, o) => replace_list(pool, table, s, q, m, true, places, v, dst, o),
                 Went::Stop(k) => Went::Stop(k),
             }
         }
         View::List => {
             put_record(dst, out, w);
-            replace_type(pool, table, s, at + 1, v, b, e, dst, out + 1)
+            replace_type(pool, table, s, at + 1, places, v, dst, out + 1)
         }
         _ => Went::Stop(Refusal::Malformed),
     }
@@ -207,25 +202,24 @@ pub fn replace_list(
     at: usize,
     n: u32,
     fields: bool,
+    places: &[u32],
     v: &[u32],
-    b: usize,
-    e: usize,
     dst: &mut [u32],
     out: usize,
 ) -> Went
     requires { ⌜ Good (now pool) (now table) ⌝ }
     requires { ⌜ ((row : Row) × HeldRow (now pool) (now table) (now s) row at n fields) ⌝ }
-    requires { ⌜ ((bs : List (Binding ℕ)) × Lent (now pool) (now table) (now v) b e bs) ⌝ }
+    requires { ⌜ ((look : Look ℕ) × Lent (now pool) (now table) (now places) (now v) look) ⌝ }
     requires { ⌜ at ≤ length (now s) / 4 ⌝ }
     requires { ⌜ Room (now s) at out ⌝ }
-    ensures { λ r. ⌜ RowReplaced (now (pool .entry)) (now (table .entry)) (now (s .entry)) (now (v .entry)) b e (now (dst .entry)) (now (dst .exit)) at n fields out r ⌝ }
+    ensures { λ r. ⌜ RowReplaced (now (pool .entry)) (now (table .entry)) (now (s .entry)) (now (places .entry)) (now (v .entry)) (now (dst .entry)) (now (dst .exit)) at n fields out r ⌝ }
 {
     if n == 0 {
         return Went::To(at, out);
     }
     let h = put_head(s, at, fields, dst, out);
-    match replace_type(pool, table, s, at + h, v, b, e, dst, out + h) {
-        Went::To(q, o) => replace_list(pool, table, s, q, n - 1, fields, v, b, e, dst, o),
+    match replace_type(pool, table, s, at + h, places, v, dst, out + h) {
+        Went::To(q, o) => replace_list(pool, table, s, q, n - 1, fields, places, v, dst, o),
         Went::Stop(k) => Went::Stop(k),
     }
 }

@@ -1,10 +1,9 @@
 -- `replace_factors` meets its contract: so many factors are done, and doing the rest gives the whole. Assumes nothing.
 use mathlib.Core.Path.{sym, ap, _∙_}
-use mathlib.Core.List.{List}
 use Prim.Native.Nat.{ℕ, _≤_, _-_}
 use native.Mathlib.Omega.{arith}
 use borrow.Author.Needs.{needs}
-use Rattle.rules.specs.Trees.{Binding}
+use Rattle.rules.specs.Replacing.{Look}
 use Rattle.products.specs.Told.{Tree, answer}
 use Rattle.replacing.specs.Well.{Whole, Lent}
 use Rattle.replacing.specs.InProducts.{because, taken, Going, fine-at, going-start, going-stop, going-on, going-end}
@@ -12,26 +11,23 @@ use Rattle.replacing.proofs.inner.dims.replace_factors.Statement.{state
 use Rattle.replacing.proofs.inner.dims.replace_factors.Tie as tie
 
 abbrev Inv-loop : tie.InvT-loop
-Inv-loop pool table p v b e acc₀ i₀ acc i =
-    (i ≤ p .len) × ((a : Tree) (bs : List (Binding ℕ)) → Whole pool table p a → Lent pool table v b e bs → Going pool table p a bs acc i)
+Inv-loop pool table p places v acc₀ i₀ acc i =
+    (i ≤ p .len) × ((a : Tree) (look : Look ℕ) → Whole pool table p a → Lent pool table places v look → Going pool table p a look acc i)
 
 abbrev μ-loop : tie.MeasureT-loop
-μ-loop pool table p v b e acc₀ i₀ acc i = p .len - i
+μ-loop pool table p places v acc₀ i₀ acc i = p .len - i
 
--- src/inner/dims.rt:147:5
 loop-holds : tie.Need-loop-holds Inv-loop μ-loop
-loop-holds c = (omega arith, λ a bs w l. going-start (c .before .before .before .args .pool .now) (c .before .before .before .args .table .now) (c .before .before .before .args .p) a bs w)
+loop-holds c = (omega arith, λ a look w l. going-start (c .before .before .before .before .args .pool .now) (c .before .before .before .before .args .table .now) (c .before .before .before .before .args .p) a look w)
 
--- src/inner/dims.rt:148:17
 factor-at-requires : tie.Need-factor-at-requires Inv-loop μ-loop
 factor-at-requires c κs =
-    let s = c .before .before .before .before .before .before in
+    let s = c .before .before .before .before .before .before .before in
     omega (arith, taken (s .args .pool .now) (s .args .table .now) (s .args .p) (s .pre .1 .0 .0) (s .pre .1 .0 .1) .well .few)
 
--- src/inner/dims.rt:149:17
 replace-factor-requires : tie.Need-replace-factor-requires Inv-loop μ-loop
 replace-factor-requires c κs =
-    let s = c .before .before .before .before .before .before .before in
+    let s = c .before .before .before .before .before .before .before .before in
     let n = c .before .before .before .loop in
     let g = n .inv .1 (s .pre .1 .0 .0) (s .pre .1 .1 .0) (s .pre .1 .0 .1) (s .pre .1 .1 .1) in
     (s .pre .0, ((g .tree, g .whole), (rw (c .factor-at .ensures) (fine-at (s .args .pool .now) (s .args .table .now) (s .args .p) (s .pre .1 .0 .0) (s .pre .1 .1 .0) (s .pre .1 .0 .1) (n .i) (c .before .if1 .taken)), s .pre .1 .1)))
@@ -39,52 +35,45 @@ replace-factor-requires c κs =
 enum-told : tie.Need-enum-told Inv-loop μ-loop
 enum-told c = search needs
 
--- src/inner/dims.rt:152:13
 enum-told-2 : tie.Need-enum-told-2 Inv-loop μ-loop
 enum-told-2 c = search needs
 
--- src/inner/dims.rt:152:13
 returns : tie.Need-returns Inv-loop μ-loop
-returns c = λ a bs w l.
-    let s = c .before .before .before .before .before .before .before .before .before .before .args in
+returns c = λ a look w l.
+    let s = c .before .before .before .before .before .before .before .before .before .before .before .args in
     let n = c .before .before .before .before .before .before .loop in
-    let g = n .inv .1 a bs w l in
-    let h = rw (c .before .before .before .factor-at .ensures) at (c .before .before .replace-factor .ensures (g .tree) bs (g .whole) l) in
-    going-stop (s .pool .now) (s .table .now) (s .p) a bs w (n .acc) (n .i) (c .before .before .before .before .if1 .taken) g (c .before .before .replace-factor .result) h (because (c .enum-told2 .given .1))
+    let g = n .inv .1 a look w l in
+    let h = rw (c .before .before .before .factor-at .ensures) at (c .before .before .replace-factor .ensures (g .tree) look (g .whole) l) in
+    going-stop (s .pool .now) (s .table .now) (s .p) a look w (n .acc) (n .i) (c .before .before .before .before .if1 .taken) g (c .before .before .replace-factor .result) h (because (c .enum-told2 .given .1))
 
--- src/inner/dims.rt:155:9
 add-i : tie.Need-add-i Inv-loop μ-loop
 add-i c =
-    let s = c .before .before .before .before .before .before .before .before .before .before .before in
+    let s = c .before .before .before .before .before .before .before .before .before .before .before .before in
     omega (arith, taken (s .args .pool .now) (s .args .table .now) (s .args .p) (s .pre .1 .0 .0) (s .pre .1 .0 .1) .well .few)
 
--- src/inner/dims.rt:147:5
 loop-less : tie.Need-loop-less Inv-loop μ-loop
 loop-less c = omega arith
 
--- src/inner/dims.rt:147:5
 loop-again : tie.Need-loop-again Inv-loop μ-loop
 loop-again c = (
   omega arith,
-  λ a bs w l.
-      let s = c .before .before .before .before .before .before .before .before .before .before .before .args in
+  λ a look w l.
+      let s = c .before .before .before .before .before .before .before .before .before .before .before .before .args in
       let n = c .before .before .before .before .before .before .before .loop in
-      let g = n .inv .1 a bs w l in
-      let h = rw (c .before .before .before .before .factor-at .ensures) at (c .before .before .before .replace-factor .ensures (g .tree) bs (g .whole) l) in
-      going-on (s .pool .now) (s .table .now) (s .p) a bs w (n .acc) (n .i) (c .before .before .before .before .before .if1 .taken) g (c .before .before .before .replace-factor .result) h (l .good) (c .before .enum-told .given .1),
+      let g = n .inv .1 a look w l in
+      let h = rw (c .before .before .before .before .factor-at .ensures) at (c .before .before .before .replace-factor .ensures (g .tree) look (g .whole) l) in
+      going-on (s .pool .now) (s .table .now) (s .p) a look w (n .acc) (n .i) (c .before .before .before .before .before .if1 .taken) g (c .before .before .before .replace-factor .result) h (l .good) (c .before .enum-told .given .1),
 )
 
--- src/inner/dims.rt:157:5
 made-requires : tie.Need-made-requires Inv-loop μ-loop
 made-requires c κs = tt
 
--- src/inner/dims.rt:132:1
 returns-2 : tie.Need-returns-2 Inv-loop μ-loop
-returns-2 c = λ a bs w l.
-    let s = c .before .before .before .before .before .before .before .args in
+returns-2 c = λ a look w l.
+    let s = c .before .before .before .before .before .before .before .before .args in
     let n = c .before .before .before .loop in
-    let g = n .inv .1 a bs w l in
-    c .made .ensures (g .tree) (g .whole .is) ∙ ap answer (sym (going-end (s .pool .now) (s .table .now) (s .p) a bs w (n .acc) (n .i) (c .before .if1 .left) g))
+    let g = n .inv .1 a look w l in
+    c .made .ensures (g .tree) (g .whole .is) ∙ ap answer (sym (going-end (s .pool .now) (s .table .now) (s .p) a look w (n .acc) (n .i) (c .before .if1 .left) g))
 
 pub replace-factors-spec : {M : Type 1} → statement M
 replace-factors-spec =

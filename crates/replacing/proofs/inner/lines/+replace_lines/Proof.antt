@@ -13,75 +13,66 @@ use Rattle.replacing.proofs.inner.lines.replace_line.Reads as replace-l
 use Rattle.replacing.proofs.inner.lines.+replace_lines.{statement}
 use Rattle.replacing.proofs.inner.lines.+replace_lines.Tie.{close}
 
-abbrev μ-replace-lines : Measures 5 replace-lines-kinds.ps ℕ
+abbrev μ-replace-lines : Measures 6 replace-lines-kinds.ps ℕ
 μ-replace-lines κs a = a .1 .1 .1 .1 .0 - a .1 .1 .1 .0
 
-abbrev replace-lines-at : ℕ → In 5 replace-lines-kinds.ps
+abbrev replace-lines-at : ℕ → In 6 replace-lines-kinds.ps
 replace-lines-at t =
-    and 5 replace-lines-kinds.ps (is 5 replace-lines-kinds.ps μ-replace-lines t) replace-lines.Pre
+    and 6 replace-lines-kinds.ps (is 6 replace-lines-kinds.ps μ-replace-lines t) replace-lines.Pre
 
-abbrev replace-lines-below : ℕ → In 5 replace-lines-kinds.ps
+abbrev replace-lines-below : ℕ → In 6 replace-lines-kinds.ps
 replace-lines-below t =
     and
-    5
+    6
     replace-lines-kinds.ps
-    (falls 5 replace-lines-kinds.ps _<_ μ-replace-lines t)
+    (falls 6 replace-lines-kinds.ps _<_ μ-replace-lines t)
     replace-lines.Pre
 
 abbrev L : ℕ → replace-lines-lts.Claims
 L t = (replace-line-reads.Asked, replace-line-reads.Learnt, replace-lines-below t, replace-lines.Post)
 
--- src/inner/lines.rt:95:9
 replace-lines-returns : (t : ℕ) → replace-lines-lts.Need-returns (L t) (replace-lines-at t) replace-lines.Post
 replace-lines-returns t c =
-    let S = c .before .before .before .before .before .before in
-    let a = S .args in
-    lines-done (a .pool .now) (a .table .now) (a .s .now) (a .v .now) (a .b) (a .e) (a .at) (a .end) (a .out) (c .if1 .taken)
-
--- src/inner/lines.rt:97:11
-replace-lines-replace-line-requires : (t : ℕ) → replace-lines-lts.Need-replace-line-requires (L t) (replace-lines-at t) replace-lines.Post
-replace-lines-replace-line-requires t c κs =
     let S = c .before .before .before .before .before .before .before in
     let a = S .args in
-    (S .pre .1 .0, (lines-asks (a .pool .now) (a .table .now) (a .s .now) (a .v .now) (a .b) (a .e) (a .at) (a .end) (a .out) (S .pre .1 .1 .0 .0) (S .pre .1 .1 .0 .1) (before (c .before .if1 .left)), (S .pre .1 .1 .1 .0, S .pre .1 .1 .1 .1 .1)))
+    lines-done (a .pool .now) (a .table .now) (a .s .now) (a .places .now) (a .v .now) (a .at) (a .end) (a .out) (c .if1 .taken)
 
--- src/inner/lines.rt:98:18
+replace-lines-replace-line-requires : (t : ℕ) → replace-lines-lts.Need-replace-line-requires (L t) (replace-lines-at t) replace-lines.Post
+replace-lines-replace-line-requires t c κs =
+    let S = c .before .before .before .before .before .before .before .before in
+    let a = S .args in
+    (S .pre .1 .0, (lines-asks (a .pool .now) (a .table .now) (a .s .now) (a .places .now) (a .v .now) (a .at) (a .end) (a .out) (S .pre .1 .1 .0 .0) (S .pre .1 .1 .0 .1) (before (c .before .if1 .left)), (S .pre .1 .1 .1 .0, S .pre .1 .1 .1 .1 .1)))
+
 replace-lines-enum-known-q : (t : ℕ) → replace-lines-lts.Need-enum-known-q (L t) (replace-lines-at t) replace-lines.Post
 replace-lines-enum-known-q t c = search needs
 
--- src/inner/lines.rt:98:27
 replace-lines-replace-lines-requires : (t : ℕ) → replace-lines-lts.Need-replace-lines-requires (L t) (replace-lines-at t) replace-lines.Post
 replace-lines-replace-lines-requires t c κs =
-    let S = c .before .before .before .before .before .before .before .before .before .before .before .before .before .before in
+    let S = c .before .before .before .before .before .before .before .before .before .before .before .before .before .before .before in
     let a = S .args in
-    let h = lines-next (a .pool .now) (a .table .now) (a .s .now) (a .v .now) (a .b) (a .e) (a .at) (a .end) (a .out) (S .pre .1 .1 .1 .1 .1) (S .pre .1 .1 .1 .0 .0) (S .pre .1 .1 .1 .0 .1) (S .pre .1 .1 .0 .0) (S .pre .1 .1 .0 .1) (before (c .before .before .before .before .before .before .before .before .if1 .left)) (c .before .before .before .before .before .before .replace-line .ensures) (c .before .before .q .given .1) in
+    let h = lines-next (a .pool .now) (a .table .now) (a .s .now) (a .places .now) (a .v .now) (a .at) (a .end) (a .out) (S .pre .1 .1 .1 .1 .1) (S .pre .1 .1 .1 .0 .0) (S .pre .1 .1 .1 .0 .1) (S .pre .1 .1 .0 .0) (S .pre .1 .1 .0 .1) (before (c .before .before .before .before .before .before .before .before .if1 .left)) (c .before .before .before .before .before .before .replace-line .ensures) (c .before .before .q .given .1) in
     (omega (arith, S .pre .0, h .1, h .2), (S .pre .1 .0, (h .0, (S .pre .1 .1 .1 .0, (S .pre .1 .1 .1 .1 .0, h .3)))))
 
--- src/inner/lines.rt:99:20
 replace-lines-enum-known-k : (t : ℕ) → replace-lines-lts.Need-enum-known-k (L t) (replace-lines-at t) replace-lines.Post
 replace-lines-enum-known-k t c = search needs
 
--- src/inner/lines.rt:75:1
 replace-lines-same-length : (t : ℕ) → replace-lines-lts.Need-same-length (L t) (replace-lines-at t) replace-lines.Post
-replace-lines-same-length t c = c .before .before .replace-lines .kept .1 .1 .1 .1 .1 .1 .1 .1 .0 ∙ c .before .before .before .before .before .before .before .before .before .replace-line .kept .1 .1 .1 .1 .1 .1 .1 .0
+replace-lines-same-length t c = c .before .before .replace-lines .kept .1 .1 .1 .1 .1 .1 .1 .0 ∙ c .before .before .before .before .before .before .before .before .before .replace-line .kept .1 .1 .1 .1 .1 .1 .0
 
--- src/inner/lines.rt:75:1
 replace-lines-returns-2 : (t : ℕ) → replace-lines-lts.Need-returns-2 (L t) (replace-lines-at t) replace-lines.Post
 replace-lines-returns-2 t c =
-    let S = c .before .before .before .before .before .before .before .before .before .before .before .before .before .before .before .before .before in
+    let S = c .before .before .before .before .before .before .before .before .before .before .before .before .before .before .before .before .before .before in
     let a = S .args in
-    lines-here (a .pool .now) (a .table .now) (a .s .now) (a .v .now) (a .b) (a .e) (a .at) (a .end) (a .out) (before (c .before .before .before .before .before .before .before .before .before .before .before .if1 .left)) (c .before .before .before .before .before .before .before .before .before .replace-line .ensures) (c .before .before .before .before .before .q .given .1) (c .before .before .replace-lines .ensures)
+    lines-here (a .pool .now) (a .table .now) (a .s .now) (a .places .now) (a .v .now) (a .at) (a .end) (a .out) (before (c .before .before .before .before .before .before .before .before .before .before .before .if1 .left)) (c .before .before .before .before .before .before .before .before .before .replace-line .ensures) (c .before .before .before .before .before .q .given .1) (c .before .before .replace-lines .ensures)
 
--- src/inner/lines.rt:75:1
 replace-lines-same-length-2 : (t : ℕ) → replace-lines-lts.Need-same-length-2 (L t) (replace-lines-at t) replace-lines.Post
-replace-lines-same-length-2 t c = c .before .before .before .before .before .replace-line .kept .1 .1 .1 .1 .1 .1 .1 .0
+replace-lines-same-length-2 t c = c .before .before .before .before .before .replace-line .kept .1 .1 .1 .1 .1 .1 .0
 
--- src/inner/lines.rt:75:1
 replace-lines-returns-3 : (t : ℕ) → replace-lines-lts.Need-returns-3 (L t) (replace-lines-at t) replace-lines.Post
 replace-lines-returns-3 t c =
-    let S = c .before .before .before .before .before .before .before .before .before .before .before .before .before in
+    let S = c .before .before .before .before .before .before .before .before .before .before .before .before .before .before in
     let a = S .args in
-    lines-stop (a .pool .now) (a .table .now) (a .s .now) (a .v .now) (a .b) (a .e) (a .at) (a .end) (a .out) (before (c .before .before .before .before .before .before .before .if1 .left)) (c .before .before .before .before .before .replace-line .ensures) (c .before .k .given .1)
+    lines-stop (a .pool .now) (a .table .now) (a .s .now) (a .places .now) (a .v .now) (a .at) (a .end) (a .out) (before (c .before .before .before .before .before .before .before .if1 .left)) (c .before .before .before .before .before .replace-line .ensures) (c .before .k .given .1)
 
 pub +replace-lines-spec : {M : Type 1} → statement M
 +replace-lines-spec = close μ-replace-lines λ t. replace-lines-lts.spec (L t)

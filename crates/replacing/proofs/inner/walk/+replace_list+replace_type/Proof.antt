@@ -3,7 +3,6 @@ use mathlib.Core.Path.{_∙_}
 use native.Mathlib.Omega.{arith}
 use borrow.Author.Needs.{needs}
 use lib.ListN.{length}
-use mathlib.Core.List.{[]}
 use Rattle.records.specs.ByView.{in-reach}
 use Rattle.replacing.proofs.Steps.{open-here, basic-here, dim-here, list-here, fn-here, fn-stop, struct-here, struct-stop, other-here, row-done, row-here, row-stop, list-asks, dim-asks, fn-asks, struct-asks, fn-next, struct-next, row-asks, row-next}
 use Prim.Native.Nat.{ℕ, _<_, _≤_, _+_, _*_, _/_, _-_}
@@ -23,34 +22,34 @@ use Rattle.replacing.proofs.inner.walk.replace_open.Reads as replace-op
 use Rattle.replacing.proofs.inner.walk.+replace_list+replace_type.{statement}
 use Rattle.replacing.proofs.inner.walk.+replace_list+replace_type.Tie.{close}
 
-abbrev μ-replace-list : Measures 5 replace-list-kinds.ps ℕ
+abbrev μ-replace-list : Measures 6 replace-list-kinds.ps ℕ
 μ-replace-list κs a = (length (a .1 .1 .0 .now) / 4 - a .1 .1 .1 .0) * 2 + 1
 
-abbrev μ-replace-type : Measures 5 replace-type-kinds.ps ℕ
+abbrev μ-replace-type : Measures 6 replace-type-kinds.ps ℕ
 μ-replace-type κs a = (length (a .1 .1 .0 .now) / 4 - a .1 .1 .1 .0) * 2
 
-abbrev replace-list-at : ℕ → In 5 replace-list-kinds.ps
+abbrev replace-list-at : ℕ → In 6 replace-list-kinds.ps
 replace-list-at t =
-    and 5 replace-list-kinds.ps (is 5 replace-list-kinds.ps μ-replace-list t) replace-list.Pre
+    and 6 replace-list-kinds.ps (is 6 replace-list-kinds.ps μ-replace-list t) replace-list.Pre
 
-abbrev replace-list-below : ℕ → In 5 replace-list-kinds.ps
+abbrev replace-list-below : ℕ → In 6 replace-list-kinds.ps
 replace-list-below t =
     and
-    5
+    6
     replace-list-kinds.ps
-    (falls 5 replace-list-kinds.ps _<_ μ-replace-list t)
+    (falls 6 replace-list-kinds.ps _<_ μ-replace-list t)
     replace-list.Pre
 
-abbrev replace-type-at : ℕ → In 5 replace-type-kinds.ps
+abbrev replace-type-at : ℕ → In 6 replace-type-kinds.ps
 replace-type-at t =
-    and 5 replace-type-kinds.ps (is 5 replace-type-kinds.ps μ-replace-type t) replace-type.Pre
+    and 6 replace-type-kinds.ps (is 6 replace-type-kinds.ps μ-replace-type t) replace-type.Pre
 
-abbrev replace-type-below : ℕ → In 5 replace-type-kinds.ps
+abbrev replace-type-below : ℕ → In 6 replace-type-kinds.ps
 replace-type-below t =
     and
-    5
+    6
     replace-type-kinds.ps
-    (falls 5 replace-type-kinds.ps _<_ μ-replace-type t)
+    (falls 6 replace-type-kinds.ps _<_ μ-replace-type t)
     replace-type.Pre
 
 abbrev L : ℕ → replace-list-lts.Claims
@@ -66,326 +65,263 @@ here t S = in-reach (S .args .s .now) (S .pre .1 .1 .0 .0) (S .args .at) (S .pre
 space : (t : ℕ) (S : replace-type-lts.Start (Y t) (replace-type-at t) replace-type.Post) → S .args .out + (length (S .args .s .now) / 4 - S .args .at) * 2048 ≤ 1_000_000_000
 space t S = S .pre .1 .1 .1 .1 .small
 
--- src/inner/walk.rt:224:9
 replace-list-returns : (t : ℕ) → replace-list-lts.Need-returns (L t) (replace-list-at t) replace-list.Post
 replace-list-returns t c =
-    let S = c .before .before .before .before .before .before in
+    let S = c .before .before .before .before .before .before .before in
     let a = S .args in
-    row-done (a .pool .now) (a .table .now) (a .s .now) (a .v .now) (a .b) (a .e) (a .at) (a .out) (a .n) (a .fields) (c .if1 .taken)
+    row-done (a .pool .now) (a .table .now) (a .s .now) (a .places .now) (a .v .now) (a .at) (a .out) (a .n) (a .fields) (c .if1 .taken)
 
--- src/inner/walk.rt:226:9
 replace-list-put-head-requires : (t : ℕ) → replace-list-lts.Need-put-head-requires (L t) (replace-list-at t) replace-list.Post
-replace-list-put-head-requires t c κs = omega (arith, c .before .before .before .before .before .before .before .pre .1 .1 .1 .1 .1 .small)
+replace-list-put-head-requires t c κs = omega (arith, c .before .before .before .before .before .before .before .before .pre .1 .1 .1 .1 .1 .small)
 
--- src/inner/walk.rt:227:40
 replace-list-add-replace-type : (t : ℕ) → replace-list-lts.Need-add-replace-type (L t) (replace-list-at t) replace-list.Post
 replace-list-add-replace-type t c =
-    let S = c .before .before .before .before .before .before .before .before .before .before in
+    let S = c .before .before .before .before .before .before .before .before .before .before .before in
     let a = S .args in
-    let h = row-asks (a .pool .now) (a .table .now) (a .s .now) (a .v .now) (a .b) (a .e) (a .at) (a .out) (S .pre .1 .1 .1 .1 .1) (S .pre .1 .1 .1 .0 .0) (S .pre .1 .1 .1 .0 .1) (a .n) (a .fields) (c .before .before .before .before .if1 .left) (c .before .before .put-head .ensures .0) (S .pre .1 .1 .0 .0) (S .pre .1 .1 .0 .1) in
+    let h = row-asks (a .pool .now) (a .table .now) (a .s .now) (a .places .now) (a .v .now) (a .at) (a .out) (S .pre .1 .1 .1 .1 .1) (S .pre .1 .1 .1 .0 .0) (S .pre .1 .1 .1 .0 .1) (a .n) (a .fields) (c .before .before .before .before .if1 .left) (c .before .before .put-head .ensures .0) (S .pre .1 .1 .0 .0) (S .pre .1 .1 .0 .1) in
     omega (arith, h .inside, h .few)
 
--- src/inner/walk.rt:227:62
 replace-list-add-replace-type-2 : (t : ℕ) → replace-list-lts.Need-add-replace-type-2 (L t) (replace-list-at t) replace-list.Post
 replace-list-add-replace-type-2 t c =
-    let S = c .before .before .before .before .before .before .before .before .before .before .before in
+    let S = c .before .before .before .before .before .before .before .before .before .before .before .before in
     let a = S .args in
-    let h = row-asks (a .pool .now) (a .table .now) (a .s .now) (a .v .now) (a .b) (a .e) (a .at) (a .out) (S .pre .1 .1 .1 .1 .1) (S .pre .1 .1 .1 .0 .0) (S .pre .1 .1 .1 .0 .1) (a .n) (a .fields) (c .before .before .before .before .before .if1 .left) (c .before .before .before .put-head .ensures .0) (S .pre .1 .1 .0 .0) (S .pre .1 .1 .0 .1) in
+    let h = row-asks (a .pool .now) (a .table .now) (a .s .now) (a .places .now) (a .v .now) (a .at) (a .out) (S .pre .1 .1 .1 .1 .1) (S .pre .1 .1 .1 .0 .0) (S .pre .1 .1 .1 .0 .1) (a .n) (a .fields) (c .before .before .before .before .before .if1 .left) (c .before .before .before .put-head .ensures .0) (S .pre .1 .1 .0 .0) (S .pre .1 .1 .0 .1) in
     omega (arith, h .few, S .pre .1 .1 .1 .1 .1 .small)
 
--- src/inner/walk.rt:227:11
 replace-list-replace-type-requires : (t : ℕ) → replace-list-lts.Need-replace-type-requires (L t) (replace-list-at t) replace-list.Post
 replace-list-replace-type-requires t c κs =
-    let S = c .before .before .before .before .before .before .before .before .before .before .before in
+    let S = c .before .before .before .before .before .before .before .before .before .before .before .before in
     let a = S .args in
-    let h = row-asks (a .pool .now) (a .table .now) (a .s .now) (a .v .now) (a .b) (a .e) (a .at) (a .out) (S .pre .1 .1 .1 .1 .1) (S .pre .1 .1 .1 .0 .0) (S .pre .1 .1 .1 .0 .1) (a .n) (a .fields) (c .before .before .before .before .before .if1 .left) (c .before .before .before .put-head .ensures .0) (S .pre .1 .1 .0 .0) (S .pre .1 .1 .0 .1) in
+    let h = row-asks (a .pool .now) (a .table .now) (a .s .now) (a .places .now) (a .v .now) (a .at) (a .out) (S .pre .1 .1 .1 .1 .1) (S .pre .1 .1 .1 .0 .0) (S .pre .1 .1 .1 .0 .1) (a .n) (a .fields) (c .before .before .before .before .before .if1 .left) (c .before .before .before .put-head .ensures .0) (S .pre .1 .1 .0 .0) (S .pre .1 .1 .0 .1) in
     (omega (arith, S .pre .0, h .inside), (S .pre .1 .0, (h .type, (S .pre .1 .1 .1 .0, h .space))))
 
--- src/inner/walk.rt:228:18
 replace-list-enum-known-q : (t : ℕ) → replace-list-lts.Need-enum-known-q (L t) (replace-list-at t) replace-list.Post
 replace-list-enum-known-q t c = search needs
 
--- src/inner/walk.rt:228:59
 replace-list-sub-replace-list : (t : ℕ) → replace-list-lts.Need-sub-replace-list (L t) (replace-list-at t) replace-list.Post
 replace-list-sub-replace-list t c = omega arith
 
--- src/inner/walk.rt:228:27
 replace-list-replace-list-requires : (t : ℕ) → replace-list-lts.Need-replace-list-requires (L t) (replace-list-at t) replace-list.Post
 replace-list-replace-list-requires t c κs =
-    let S = c .before .before .before .before .before .before .before .before .before .before .before .before .before .before .before .before .before .before in
+    let S = c .before .before .before .before .before .before .before .before .before .before .before .before .before .before .before .before .before .before .before in
     let a = S .args in
-    let h = row-next (a .pool .now) (a .table .now) (a .s .now) (a .v .now) (a .b) (a .e) (a .at) (a .out) (S .pre .1 .1 .1 .1 .1) (S .pre .1 .1 .1 .0 .0) (S .pre .1 .1 .1 .0 .1) (a .n) (a .fields) (c .before .before .before .before .before .before .before .before .before .before .before .before .if1 .left) (c .before .before .before .before .before .before .before .before .before .before .put-head .ensures .0) (S .pre .1 .1 .0 .0) (S .pre .1 .1 .0 .1) (c .before .before .before .before .before .before .replace-type .ensures) (c .before .before .q .given .1) in
+    let h = row-next (a .pool .now) (a .table .now) (a .s .now) (a .places .now) (a .v .now) (a .at) (a .out) (S .pre .1 .1 .1 .1 .1) (S .pre .1 .1 .1 .0 .0) (S .pre .1 .1 .1 .0 .1) (a .n) (a .fields) (c .before .before .before .before .before .before .before .before .before .before .before .before .if1 .left) (c .before .before .before .before .before .before .before .before .before .before .put-head .ensures .0) (S .pre .1 .1 .0 .0) (S .pre .1 .1 .0 .1) (c .before .before .before .before .before .before .replace-type .ensures) (c .before .before .q .given .1) in
     (omega (arith, S .pre .0, h .1, h .2), (S .pre .1 .0, (h .0, (S .pre .1 .1 .1 .0, (h .2, h .3)))))
 
--- src/inner/walk.rt:229:20
 replace-list-enum-known-k : (t : ℕ) → replace-list-lts.Need-enum-known-k (L t) (replace-list-at t) replace-list.Post
 replace-list-enum-known-k t c = search needs
 
--- src/inner/walk.rt:203:1
 replace-list-same-length : (t : ℕ) → replace-list-lts.Need-same-length (L t) (replace-list-at t) replace-list.Post
-replace-list-same-length t c = c .before .before .replace-list .kept .1 .1 .1 .1 .1 .1 .1 .1 .1 .0 ∙ c .before .before .before .before .before .before .before .before .before .replace-type .kept .1 .1 .1 .1 .1 .1 .1 .0 ∙ c .before .before .before .before .before .before .before .before .before .before .before .before .before .put-head .kept .1 .1 .1 .0
+replace-list-same-length t c = c .before .before .replace-list .kept .1 .1 .1 .1 .1 .1 .1 .1 .0 ∙ c .before .before .before .before .before .before .before .before .before .replace-type .kept .1 .1 .1 .1 .1 .1 .0 ∙ c .before .before .before .before .before .before .before .before .before .before .before .before .before .put-head .kept .1 .1 .1 .0
 
--- src/inner/walk.rt:203:1
 replace-list-returns-2 : (t : ℕ) → replace-list-lts.Need-returns-2 (L t) (replace-list-at t) replace-list.Post
 replace-list-returns-2 t c =
-    let S = c .before .before .before .before .before .before .before .before .before .before .before .before .before .before .before .before .before .before .before .before .before in
+    let S = c .before .before .before .before .before .before .before .before .before .before .before .before .before .before .before .before .before .before .before .before .before .before in
     let a = S .args in
-    row-here (a .pool .now) (a .table .now) (a .s .now) (a .v .now) (a .b) (a .e) (a .at) (a .out) (a .n) (a .fields) _ _ (c .before .before .before .before .before .before .before .before .before .before .before .before .before .before .before .if1 .left) (c .before .before .before .before .before .before .before .before .before .before .before .before .before .put-head .ensures .0) (c .before .before .before .before .before .before .before .before .before .before .before .before .before .put-head .ensures .1) (c .before .before .before .before .before .before .before .before .before .replace-type .ensures) (c .before .before .before .before .before .q .given .1) (c .before .before .replace-list .ensures)
+    row-here (a .pool .now) (a .table .now) (a .s .now) (a .places .now) (a .v .now) (a .at) (a .out) (a .n) (a .fields) _ _ (c .before .before .before .before .before .before .before .before .before .before .before .before .before .before .before .if1 .left) (c .before .before .before .before .before .before .before .before .before .before .before .before .before .put-head .ensures .0) (c .before .before .before .before .before .before .before .before .before .before .before .before .before .put-head .ensures .1) (c .before .before .before .before .before .before .before .before .before .replace-type .ensures) (c .before .before .before .before .before .q .given .1) (c .before .before .replace-list .ensures)
 
--- src/inner/walk.rt:203:1
 replace-list-same-length-2 : (t : ℕ) → replace-list-lts.Need-same-length-2 (L t) (replace-list-at t) replace-list.Post
-replace-list-same-length-2 t c = c .before .before .before .before .before .replace-type .kept .1 .1 .1 .1 .1 .1 .1 .0 ∙ c .before .before .before .before .before .before .before .before .before .put-head .kept .1 .1 .1 .0
+replace-list-same-length-2 t c = c .before .before .before .before .before .replace-type .kept .1 .1 .1 .1 .1 .1 .0 ∙ c .before .before .before .before .before .before .before .before .before .put-head .kept .1 .1 .1 .0
 
--- src/inner/walk.rt:203:1
 replace-list-returns-3 : (t : ℕ) → replace-list-lts.Need-returns-3 (L t) (replace-list-at t) replace-list.Post
 replace-list-returns-3 t c =
-    let S = c .before .before .before .before .before .before .before .before .before .before .before .before .before .before .before .before .before in
+    let S = c .before .before .before .before .before .before .before .before .before .before .before .before .before .before .before .before .before .before in
     let a = S .args in
-    row-stop (a .pool .now) (a .table .now) (a .s .now) (a .v .now) (a .b) (a .e) (a .at) (a .out) (a .n) (a .fields) _ _ (c .before .before .before .before .before .before .before .before .before .before .before .if1 .left) (c .before .before .before .before .before .before .before .before .before .put-head .ensures .0) (c .before .before .before .before .before .before .before .before .before .put-head .ensures .1) (c .before .before .before .before .before .replace-type .ensures) (c .before .k .given .1)
+    row-stop (a .pool .now) (a .table .now) (a .s .now) (a .places .now) (a .v .now) (a .at) (a .out) (a .n) (a .fields) _ _ (c .before .before .before .before .before .before .before .before .before .before .before .if1 .left) (c .before .before .before .before .before .before .before .before .before .put-head .ensures .0) (c .before .before .before .before .before .before .before .before .before .put-head .ensures .1) (c .before .before .before .before .before .replace-type .ensures) (c .before .k .given .1)
 
--- src/inner/walk.rt:169:9
 replace-type-view-at-requires : (t : ℕ) → replace-type-lts.Need-view-at-requires (Y t) (replace-type-at t) replace-type.Post
 replace-type-view-at-requires t c κs = tt
 
--- src/inner/walk.rt:171:22
 replace-type-enum-known-w : (t : ℕ) → replace-type-lts.Need-enum-known-w (Y t) (replace-type-at t) replace-type.Post
 replace-type-enum-known-w t c = search needs
 
--- src/inner/walk.rt:172:17
 replace-type-replace-open-requires : (t : ℕ) → replace-type-lts.Need-replace-open-requires (Y t) (replace-type-at t) replace-type.Post
 replace-type-replace-open-requires t c κs =
-    let l = c .before .before .before .before .before .before .before .before .before .before .pre .1 .1 .1 .0 in
-    ((l .0, l .1 .run), (l .1 .short, omega (arith, here t (c .before .before .before .before .before .before .before .before .before .before), space t (c .before .before .before .before .before .before .before .before .before .before))))
+    let l = c .before .before .before .before .before .before .before .before .before .before .before .pre .1 .1 .1 .0 in
+    ((l .0, l .1 .tabled), (omega (arith, here t (c .before .before .before .before .before .before .before .before .before .before .before), space t (c .before .before .before .before .before .before .before .before .before .before .before))))
 
--- src/inner/walk.rt:173:22
+replace-type-add-t25 : (t : ℕ) → replace-type-lts.Need-add-t25 (Y t) (replace-type-at t) replace-type.Post
+replace-type-add-t25 t c = omega (arith, here t (c .before .before .before .before .before .before .before .before .before .before .before .before .before .before), space t (c .before .before .before .before .before .before .before .before .before .before .before .before .before .before))
+
 replace-type-add-t26 : (t : ℕ) → replace-type-lts.Need-add-t26 (Y t) (replace-type-at t) replace-type.Post
-replace-type-add-t26 t c = omega (arith, here t (c .before .before .before .before .before .before .before .before .before .before .before .before .before), space t (c .before .before .before .before .before .before .before .before .before .before .before .before .before))
+replace-type-add-t26 t c = omega (arith, here t (c .before .before .before .before .before .before .before .before .before .before .before .before .before .before), space t (c .before .before .before .before .before .before .before .before .before .before .before .before .before .before), c .before .before .replace-open .ensures (c .before .before .before .before .before .before .before .before .before .before .before .before .before .before .pre .1 .1 .1 .0 .0) (c .before .before .before .before .before .before .before .before .before .before .before .before .before .before .pre .1 .1 .1 .0 .1 .tabled) .short)
 
--- src/inner/walk.rt:173:30
-replace-type-add-t27 : (t : ℕ) → replace-type-lts.Need-add-t27 (Y t) (replace-type-at t) replace-type.Post
-replace-type-add-t27 t c = omega (arith, here t (c .before .before .before .before .before .before .before .before .before .before .before .before .before), space t (c .before .before .before .before .before .before .before .before .before .before .before .before .before), c .before .before .replace-open .ensures (c .before .before .before .before .before .before .before .before .before .before .before .before .before .pre .1 .1 .1 .0 .0) [] (c .before .before .before .before .before .before .before .before .before .before .before .before .before .pre .1 .1 .1 .0 .1 .run) .short)
-
--- src/inner/walk.rt:176:24
 replace-type-enum-told : (t : ℕ) → replace-type-lts.Need-enum-told (Y t) (replace-type-at t) replace-type.Post
 replace-type-enum-told t c = search needs
 
--- src/inner/walk.rt:176:13
 replace-type-put-record-requires : (t : ℕ) → replace-type-lts.Need-put-record-requires (Y t) (replace-type-at t) replace-type.Post
-replace-type-put-record-requires t c κs = omega (arith, here t (c .before .before .before .before .before .before .before .before .before), space t (c .before .before .before .before .before .before .before .before .before))
+replace-type-put-record-requires t c κs = omega (arith, here t (c .before .before .before .before .before .before .before .before .before .before), space t (c .before .before .before .before .before .before .before .before .before .before))
 
--- src/inner/walk.rt:177:22
+replace-type-add-t30 : (t : ℕ) → replace-type-lts.Need-add-t30 (Y t) (replace-type-at t) replace-type.Post
+replace-type-add-t30 t c = omega (arith, here t (c .before .before .before .before .before .before .before .before .before .before .before .before .before), space t (c .before .before .before .before .before .before .before .before .before .before .before .before .before))
+
 replace-type-add-t31 : (t : ℕ) → replace-type-lts.Need-add-t31 (Y t) (replace-type-at t) replace-type.Post
-replace-type-add-t31 t c = omega (arith, here t (c .before .before .before .before .before .before .before .before .before .before .before .before), space t (c .before .before .before .before .before .before .before .before .before .before .before .before))
+replace-type-add-t31 t c = omega (arith, here t (c .before .before .before .before .before .before .before .before .before .before .before .before .before), space t (c .before .before .before .before .before .before .before .before .before .before .before .before .before))
 
--- src/inner/walk.rt:177:30
-replace-type-add-t32 : (t : ℕ) → replace-type-lts.Need-add-t32 (Y t) (replace-type-at t) replace-type.Post
-replace-type-add-t32 t c = omega (arith, here t (c .before .before .before .before .before .before .before .before .before .before .before .before), space t (c .before .before .before .before .before .before .before .before .before .before .before .before))
-
--- src/inner/walk.rt:179:19
 replace-type-enum-known-w-2 : (t : ℕ) → replace-type-lts.Need-enum-known-w-2 (Y t) (replace-type-at t) replace-type.Post
 replace-type-enum-known-w-2 t c = search needs
 
--- src/inner/walk.rt:179:53
 replace-type-add-replace-dim : (t : ℕ) → replace-type-lts.Need-add-replace-dim (Y t) (replace-type-at t) replace-type.Post
-replace-type-add-replace-dim t c = omega (arith, here t (c .before .before .before .before .before .before .before .before .before), space t (c .before .before .before .before .before .before .before .before .before))
+replace-type-add-replace-dim t c = omega (arith, here t (c .before .before .before .before .before .before .before .before .before .before), space t (c .before .before .before .before .before .before .before .before .before .before))
 
--- src/inner/walk.rt:179:25
 replace-type-replace-dim-requires : (t : ℕ) → replace-type-lts.Need-replace-dim-requires (Y t) (replace-type-at t) replace-type.Post
 replace-type-replace-dim-requires t c κs =
-    let S = c .before .before .before .before .before .before .before .before .before .before in
+    let S = c .before .before .before .before .before .before .before .before .before .before .before in
     let a = S .args in
-    let h = dim-asks (a .pool .now) (a .table .now) (a .s .now) (a .v .now) (a .b) (a .e) (a .at) (a .out) (S .pre .1 .1 .1 .1) (S .pre .1 .1 .1 .0 .0) (S .pre .1 .1 .1 .0 .1) (S .pre .1 .1 .0) (c .before .before .before .before .view-at .ensures) (c .before .before .w2 .given .1) in
+    let h = dim-asks (a .pool .now) (a .table .now) (a .s .now) (a .places .now) (a .v .now) (a .at) (a .out) (S .pre .1 .1 .1 .1) (S .pre .1 .1 .1 .0 .0) (S .pre .1 .1 .1 .0 .1) (S .pre .1 .1 .0) (c .before .before .before .before .view-at .ensures) (c .before .before .w2 .given .1) in
     (S .pre .1 .0, (h, (S .pre .1 .1 .1 .0, (omega (arith, here t S, S .pre .1 .1 .1 .1 .near), omega (arith, here t S, space t S)))))
 
--- src/inner/walk.rt:180:24
 replace-type-enum-known-w-3 : (t : ℕ) → replace-type-lts.Need-enum-known-w-3 (Y t) (replace-type-at t) replace-type.Post
 replace-type-enum-known-w-3 t c = search needs
 
--- src/inner/walk.rt:181:13
 replace-type-put-record-requires-2 : (t : ℕ) → replace-type-lts.Need-put-record-requires-2 (Y t) (replace-type-at t) replace-type.Post
-replace-type-put-record-requires-2 t c κs = omega (arith, here t (c .before .before .before .before .before .before .before .before .before .before), space t (c .before .before .before .before .before .before .before .before .before .before))
+replace-type-put-record-requires-2 t c κs = omega (arith, here t (c .before .before .before .before .before .before .before .before .before .before .before), space t (c .before .before .before .before .before .before .before .before .before .before .before))
 
--- src/inner/walk.rt:182:48
 replace-type-add-replace-list : (t : ℕ) → replace-type-lts.Need-add-replace-list (Y t) (replace-type-at t) replace-type.Post
-replace-type-add-replace-list t c = omega (arith, here t (c .before .before .before .before .before .before .before .before .before .before .before .before .before), space t (c .before .before .before .before .before .before .before .before .before .before .before .before .before))
+replace-type-add-replace-list t c = omega (arith, here t (c .before .before .before .before .before .before .before .before .before .before .before .before .before .before), space t (c .before .before .before .before .before .before .before .before .before .before .before .before .before .before))
 
--- src/inner/walk.rt:182:80
 replace-type-add-replace-list-2 : (t : ℕ) → replace-type-lts.Need-add-replace-list-2 (Y t) (replace-type-at t) replace-type.Post
-replace-type-add-replace-list-2 t c = omega (arith, here t (c .before .before .before .before .before .before .before .before .before .before .before .before .before .before), space t (c .before .before .before .before .before .before .before .before .before .before .before .before .before .before))
+replace-type-add-replace-list-2 t c = omega (arith, here t (c .before .before .before .before .before .before .before .before .before .before .before .before .before .before .before), space t (c .before .before .before .before .before .before .before .before .before .before .before .before .before .before .before))
 
--- src/inner/walk.rt:182:19
 replace-type-replace-list-requires : (t : ℕ) → replace-type-lts.Need-replace-list-requires (Y t) (replace-type-at t) replace-type.Post
 replace-type-replace-list-requires t c κs =
-    let S = c .before .before .before .before .before .before .before .before .before .before .before .before .before .before in
+    let S = c .before .before .before .before .before .before .before .before .before .before .before .before .before .before .before in
     let a = S .args in
-    let h = fn-asks (a .pool .now) (a .table .now) (a .s .now) (a .v .now) (a .b) (a .e) (a .at) (a .out) (S .pre .1 .1 .1 .1) (S .pre .1 .1 .1 .0 .0) (S .pre .1 .1 .1 .0 .1) (S .pre .1 .1 .0) (c .before .before .before .before .before .before .before .before .view-at .ensures) (c .before .before .before .before .before .before .w3 .given .1) in
+    let h = fn-asks (a .pool .now) (a .table .now) (a .s .now) (a .places .now) (a .v .now) (a .at) (a .out) (S .pre .1 .1 .1 .1) (S .pre .1 .1 .1 .0 .0) (S .pre .1 .1 .1 .0 .1) (S .pre .1 .1 .0) (c .before .before .before .before .before .before .before .before .view-at .ensures) (c .before .before .before .before .before .before .w3 .given .1) in
     (omega (arith, S .pre .0, h .1, h .2, here t S), (S .pre .1 .0, (h .0, (S .pre .1 .1 .1 .0, (h .2, h .3)))))
 
--- src/inner/walk.rt:183:26
 replace-type-enum-known-q : (t : ℕ) → replace-type-lts.Need-enum-known-q (Y t) (replace-type-at t) replace-type.Post
 replace-type-enum-known-q t c = search needs
 
--- src/inner/walk.rt:183:35
 replace-type-replace-type-requires : (t : ℕ) → replace-type-lts.Need-replace-type-requires (Y t) (replace-type-at t) replace-type.Post
 replace-type-replace-type-requires t c κs =
-    let S = c .before .before .before .before .before .before .before .before .before .before .before .before .before .before .before .before .before .before .before .before .before in
+    let S = c .before .before .before .before .before .before .before .before .before .before .before .before .before .before .before .before .before .before .before .before .before .before in
     let a = S .args in
-    let h = fn-next (a .pool .now) (a .table .now) (a .s .now) (a .v .now) (a .b) (a .e) (a .at) (a .out) (S .pre .1 .1 .1 .1) (S .pre .1 .1 .1 .0 .0) (S .pre .1 .1 .1 .0 .1) (S .pre .1 .1 .0) (c .before .before .before .before .before .before .before .before .before .before .before .before .before .before .before .view-at .ensures) (c .before .before .before .before .before .before .before .before .before .before .before .before .before .w3 .given .1) (c .before .before .before .before .before .before .replace-list .ensures) (c .before .before .q .given .1) in
+    let h = fn-next (a .pool .now) (a .table .now) (a .s .now) (a .places .now) (a .v .now) (a .at) (a .out) (S .pre .1 .1 .1 .1) (S .pre .1 .1 .1 .0 .0) (S .pre .1 .1 .1 .0 .1) (S .pre .1 .1 .0) (c .before .before .before .before .before .before .before .before .before .before .before .before .before .before .before .view-at .ensures) (c .before .before .before .before .before .before .before .before .before .before .before .before .before .w3 .given .1) (c .before .before .before .before .before .before .replace-list .ensures) (c .before .before .q .given .1) in
     (omega (arith, S .pre .0, h .1, h .2, here t S), (S .pre .1 .0, (h .0, (S .pre .1 .1 .1 .0, h .3))))
 
--- src/inner/walk.rt:184:28
 replace-type-enum-known-k : (t : ℕ) → replace-type-lts.Need-enum-known-k (Y t) (replace-type-at t) replace-type.Post
 replace-type-enum-known-k t c = search needs
 
--- src/inner/walk.rt:187:25
 replace-type-enum-known-w-4 : (t : ℕ) → replace-type-lts.Need-enum-known-w-4 (Y t) (replace-type-at t) replace-type.Post
 replace-type-enum-known-w-4 t c = search needs
 
--- src/inner/walk.rt:188:13
 replace-type-put-record-requires-3 : (t : ℕ) → replace-type-lts.Need-put-record-requires-3 (Y t) (replace-type-at t) replace-type.Post
-replace-type-put-record-requires-3 t c κs = omega (arith, here t (c .before .before .before .before .before .before .before .before .before .before), space t (c .before .before .before .before .before .before .before .before .before .before))
+replace-type-put-record-requires-3 t c κs = omega (arith, here t (c .before .before .before .before .before .before .before .before .before .before .before), space t (c .before .before .before .before .before .before .before .before .before .before .before))
 
--- src/inner/walk.rt:189:48
 replace-type-add-replace-list-3 : (t : ℕ) → replace-type-lts.Need-add-replace-list-3 (Y t) (replace-type-at t) replace-type.Post
-replace-type-add-replace-list-3 t c = omega (arith, here t (c .before .before .before .before .before .before .before .before .before .before .before .before .before), space t (c .before .before .before .before .before .before .before .before .before .before .before .before .before))
+replace-type-add-replace-list-3 t c = omega (arith, here t (c .before .before .before .before .before .before .before .before .before .before .before .before .before .before), space t (c .before .before .before .before .before .before .before .before .before .before .before .before .before .before))
 
--- src/inner/walk.rt:189:80
 replace-type-add-replace-list-4 : (t : ℕ) → replace-type-lts.Need-add-replace-list-4 (Y t) (replace-type-at t) replace-type.Post
-replace-type-add-replace-list-4 t c = omega (arith, here t (c .before .before .before .before .before .before .before .before .before .before .before .before .before .before), space t (c .before .before .before .before .before .before .before .before .before .before .before .before .before .before))
+replace-type-add-replace-list-4 t c = omega (arith, here t (c .before .before .before .before .before .before .before .before .before .before .before .before .before .before .before), space t (c .before .before .before .before .before .before .before .before .before .before .before .before .before .before .before))
 
--- src/inner/walk.rt:189:19
 replace-type-replace-list-requires-2 : (t : ℕ) → replace-type-lts.Need-replace-list-requires-2 (Y t) (replace-type-at t) replace-type.Post
 replace-type-replace-list-requires-2 t c κs =
-    let S = c .before .before .before .before .before .before .before .before .before .before .before .before .before .before in
+    let S = c .before .before .before .before .before .before .before .before .before .before .before .before .before .before .before in
     let a = S .args in
-    let h = struct-asks (a .pool .now) (a .table .now) (a .s .now) (a .v .now) (a .b) (a .e) (a .at) (a .out) (S .pre .1 .1 .1 .1) (S .pre .1 .1 .1 .0 .0) (S .pre .1 .1 .1 .0 .1) (S .pre .1 .1 .0) (c .before .before .before .before .before .before .before .before .view-at .ensures) (c .before .before .before .before .before .before .w4 .given .1) in
+    let h = struct-asks (a .pool .now) (a .table .now) (a .s .now) (a .places .now) (a .v .now) (a .at) (a .out) (S .pre .1 .1 .1 .1) (S .pre .1 .1 .1 .0 .0) (S .pre .1 .1 .1 .0 .1) (S .pre .1 .1 .0) (c .before .before .before .before .before .before .before .before .view-at .ensures) (c .before .before .before .before .before .before .w4 .given .1) in
     (omega (arith, S .pre .0, h .1, h .2, here t S), (S .pre .1 .0, (h .0, (S .pre .1 .1 .1 .0, (h .2, h .3)))))
 
--- src/inner/walk.rt:190:26
 replace-type-enum-known-q-2 : (t : ℕ) → replace-type-lts.Need-enum-known-q-2 (Y t) (replace-type-at t) replace-type.Post
 replace-type-enum-known-q-2 t c = search needs
 
--- src/inner/walk.rt:190:35
 replace-type-replace-list-requires-3 : (t : ℕ) → replace-type-lts.Need-replace-list-requires-3 (Y t) (replace-type-at t) replace-type.Post
 replace-type-replace-list-requires-3 t c κs =
-    let S = c .before .before .before .before .before .before .before .before .before .before .before .before .before .before .before .before .before .before .before .before .before in
+    let S = c .before .before .before .before .before .before .before .before .before .before .before .before .before .before .before .before .before .before .before .before .before .before in
     let a = S .args in
-    let h = struct-next (a .pool .now) (a .table .now) (a .s .now) (a .v .now) (a .b) (a .e) (a .at) (a .out) (S .pre .1 .1 .1 .1) (S .pre .1 .1 .1 .0 .0) (S .pre .1 .1 .1 .0 .1) (S .pre .1 .1 .0) (c .before .before .before .before .before .before .before .before .before .before .before .before .before .before .before .view-at .ensures) (c .before .before .before .before .before .before .before .before .before .before .before .before .before .w4 .given .1) (c .before .before .before .before .before .before .replace-list2 .ensures) (c .before .before .q2 .given .1) in
+    let h = struct-next (a .pool .now) (a .table .now) (a .s .now) (a .places .now) (a .v .now) (a .at) (a .out) (S .pre .1 .1 .1 .1) (S .pre .1 .1 .1 .0 .0) (S .pre .1 .1 .1 .0 .1) (S .pre .1 .1 .0) (c .before .before .before .before .before .before .before .before .before .before .before .before .before .before .before .view-at .ensures) (c .before .before .before .before .before .before .before .before .before .before .before .before .before .w4 .given .1) (c .before .before .before .before .before .before .replace-list2 .ensures) (c .before .before .q2 .given .1) in
     (omega (arith, S .pre .0, h .1, h .2, here t S), (S .pre .1 .0, (h .0, (S .pre .1 .1 .1 .0, (h .2, h .3)))))
 
--- src/inner/walk.rt:191:28
 replace-type-enum-known-k-2 : (t : ℕ) → replace-type-lts.Need-enum-known-k-2 (Y t) (replace-type-at t) replace-type.Post
 replace-type-enum-known-k-2 t c = search needs
 
--- src/inner/walk.rt:195:24
 replace-type-enum-told-2 : (t : ℕ) → replace-type-lts.Need-enum-told-2 (Y t) (replace-type-at t) replace-type.Post
 replace-type-enum-told-2 t c = search needs
 
--- src/inner/walk.rt:195:13
 replace-type-put-record-requires-4 : (t : ℕ) → replace-type-lts.Need-put-record-requires-4 (Y t) (replace-type-at t) replace-type.Post
-replace-type-put-record-requires-4 t c κs = omega (arith, here t (c .before .before .before .before .before .before .before .before .before), space t (c .before .before .before .before .before .before .before .before .before))
+replace-type-put-record-requires-4 t c κs = omega (arith, here t (c .before .before .before .before .before .before .before .before .before .before), space t (c .before .before .before .before .before .before .before .before .before .before))
 
--- src/inner/walk.rt:196:42
 replace-type-add-replace-type : (t : ℕ) → replace-type-lts.Need-add-replace-type (Y t) (replace-type-at t) replace-type.Post
-replace-type-add-replace-type t c = omega (arith, here t (c .before .before .before .before .before .before .before .before .before .before .before .before), space t (c .before .before .before .before .before .before .before .before .before .before .before .before))
+replace-type-add-replace-type t c = omega (arith, here t (c .before .before .before .before .before .before .before .before .before .before .before .before .before), space t (c .before .before .before .before .before .before .before .before .before .before .before .before .before))
 
--- src/inner/walk.rt:196:64
 replace-type-add-replace-type-2 : (t : ℕ) → replace-type-lts.Need-add-replace-type-2 (Y t) (replace-type-at t) replace-type.Post
-replace-type-add-replace-type-2 t c = omega (arith, here t (c .before .before .before .before .before .before .before .before .before .before .before .before .before), space t (c .before .before .before .before .before .before .before .before .before .before .before .before .before))
+replace-type-add-replace-type-2 t c = omega (arith, here t (c .before .before .before .before .before .before .before .before .before .before .before .before .before .before), space t (c .before .before .before .before .before .before .before .before .before .before .before .before .before .before))
 
--- src/inner/walk.rt:196:13
 replace-type-replace-type-requires-2 : (t : ℕ) → replace-type-lts.Need-replace-type-requires-2 (Y t) (replace-type-at t) replace-type.Post
 replace-type-replace-type-requires-2 t c κs =
-    let S = c .before .before .before .before .before .before .before .before .before .before .before .before .before in
+    let S = c .before .before .before .before .before .before .before .before .before .before .before .before .before .before in
     let a = S .args in
-    let h = list-asks (a .pool .now) (a .table .now) (a .s .now) (a .v .now) (a .b) (a .e) (a .at) (a .out) (S .pre .1 .1 .1 .1) (S .pre .1 .1 .1 .0 .0) (S .pre .1 .1 .1 .0 .1) (S .pre .1 .1 .0) (c .before .before .before .before .before .before .before .view-at .ensures) (c .before .before .before .before .before .enum-told2 .given .1) in
+    let h = list-asks (a .pool .now) (a .table .now) (a .s .now) (a .places .now) (a .v .now) (a .at) (a .out) (S .pre .1 .1 .1 .1) (S .pre .1 .1 .1 .0 .0) (S .pre .1 .1 .1 .0 .1) (S .pre .1 .1 .0) (c .before .before .before .before .before .before .before .view-at .ensures) (c .before .before .before .before .before .enum-told2 .given .1) in
     (omega (arith, S .pre .0, h .1, h .2, here t S), (S .pre .1 .0, (h .0, (S .pre .1 .1 .1 .0, h .3))))
 
--- src/inner/walk.rt:152:1
 replace-type-same-length : (t : ℕ) → replace-type-lts.Need-same-length (Y t) (replace-type-at t) replace-type.Post
-replace-type-same-length t c = c .before .before .replace-open .kept .1 .1 .1 .1 .0
+replace-type-same-length t c = c .before .before .replace-open .kept .1 .1 .1 .0
 
--- src/inner/walk.rt:152:1
 replace-type-returns : (t : ℕ) → replace-type-lts.Need-returns (Y t) (replace-type-at t) replace-type.Post
 replace-type-returns t c =
-    let a = c .before .before .before .before .before .before .before .before .before .before .before .before .before .args in
-    open-here (a .pool .now) (a .table .now) (a .s .now) (a .v .now) (a .b) (a .e) (a .at) (a .out) (c .before .before .before .before .before .before .before .view-at .ensures) (c .before .before .before .before .before .w .given .1) (c .before .before .replace-open .ensures)
+    let a = c .before .before .before .before .before .before .before .before .before .before .before .before .before .before .args in
+    open-here (a .pool .now) (a .table .now) (a .s .now) (a .places .now) (a .v .now) (a .at) (a .out) (c .before .before .before .before .before .before .before .view-at .ensures) (c .before .before .before .before .before .w .given .1) (c .before .before .replace-open .ensures)
 
--- src/inner/walk.rt:152:1
 replace-type-same-length-2 : (t : ℕ) → replace-type-lts.Need-same-length-2 (Y t) (replace-type-at t) replace-type.Post
 replace-type-same-length-2 t c = c .before .before .put-record .kept .0
 
--- src/inner/walk.rt:152:1
 replace-type-returns-2 : (t : ℕ) → replace-type-lts.Need-returns-2 (Y t) (replace-type-at t) replace-type.Post
 replace-type-returns-2 t c =
-    let a = c .before .before .before .before .before .before .before .before .before .before .before .before .args in
-    basic-here (a .pool .now) (a .table .now) (a .s .now) (a .v .now) (a .b) (a .e) (a .at) (a .out) (c .before .before .before .before .before .before .view-at .ensures) (c .before .before .before .before .enum-told .given .1) (c .before .before .put-record .ensures)
+    let a = c .before .before .before .before .before .before .before .before .before .before .before .before .before .args in
+    basic-here (a .pool .now) (a .table .now) (a .s .now) (a .places .now) (a .v .now) (a .at) (a .out) (c .before .before .before .before .before .before .view-at .ensures) (c .before .before .before .before .enum-told .given .1) (c .before .before .put-record .ensures)
 
--- src/inner/walk.rt:152:1
 replace-type-same-length-3 : (t : ℕ) → replace-type-lts.Need-same-length-3 (Y t) (replace-type-at t) replace-type.Post
-replace-type-same-length-3 t c = c .before .before .replace-dim .kept .1 .1 .1 .1 .1 .1 .1 .1 .1 .0
+replace-type-same-length-3 t c = c .before .before .replace-dim .kept .1 .1 .1 .1 .1 .1 .1 .1 .0
 
--- src/inner/walk.rt:152:1
 replace-type-returns-3 : (t : ℕ) → replace-type-lts.Need-returns-3 (Y t) (replace-type-at t) replace-type.Post
 replace-type-returns-3 t c =
-    let a = c .before .before .before .before .before .before .before .before .before .before .before .before .before .args in
-    dim-here (a .pool .now) (a .table .now) (a .s .now) (a .v .now) (a .b) (a .e) (a .at) (a .out) (c .before .before .before .before .before .before .before .view-at .ensures) (c .before .before .before .before .before .w2 .given .1) (c .before .before .replace-dim .ensures)
+    let a = c .before .before .before .before .before .before .before .before .before .before .before .before .before .before .args in
+    dim-here (a .pool .now) (a .table .now) (a .s .now) (a .places .now) (a .v .now) (a .at) (a .out) (c .before .before .before .before .before .before .before .view-at .ensures) (c .before .before .before .before .before .w2 .given .1) (c .before .before .replace-dim .ensures)
 
--- src/inner/walk.rt:152:1
 replace-type-same-length-4 : (t : ℕ) → replace-type-lts.Need-same-length-4 (Y t) (replace-type-at t) replace-type.Post
-replace-type-same-length-4 t c = c .before .before .replace-type .kept .1 .1 .1 .1 .1 .1 .1 .0 ∙ c .before .before .before .before .before .before .before .before .before .replace-list .kept .1 .1 .1 .1 .1 .1 .1 .1 .1 .0 ∙ c .before .before .before .before .before .before .before .before .before .before .before .before .before .put-record2 .kept .0
+replace-type-same-length-4 t c = c .before .before .replace-type .kept .1 .1 .1 .1 .1 .1 .0 ∙ c .before .before .before .before .before .before .before .before .before .replace-list .kept .1 .1 .1 .1 .1 .1 .1 .1 .0 ∙ c .before .before .before .before .before .before .before .before .before .before .before .before .before .put-record2 .kept .0
 
--- src/inner/walk.rt:152:1
 replace-type-returns-4 : (t : ℕ) → replace-type-lts.Need-returns-4 (Y t) (replace-type-at t) replace-type.Post
 replace-type-returns-4 t c =
-    let a = c .before .before .before .before .before .before .before .before .before .before .before .before .before .before .before .before .before .before .before .before .before .before .before .before .args in
-    fn-here (a .pool .now) (a .table .now) (a .s .now) (a .v .now) (a .b) (a .e) (a .at) (a .out) {d = a .dst .now} (c .before .before .before .before .before .before .before .before .before .before .before .before .before .before .before .before .before .before .view-at .ensures) (c .before .before .before .before .before .before .before .before .before .before .before .before .before .before .before .before .w3 .given .1) (c .before .before .before .before .before .before .before .before .before .before .before .before .before .put-record2 .ensures) (c .before .before .before .before .before .before .before .before .before .replace-list .ensures) (c .before .before .before .before .before .q .given .1) (c .before .before .replace-type .ensures)
+    let a = c .before .before .before .before .before .before .before .before .before .before .before .before .before .before .before .before .before .before .before .before .before .before .before .before .before .args in
+    fn-here (a .pool .now) (a .table .now) (a .s .now) (a .places .now) (a .v .now) (a .at) (a .out) {d = a .dst .now} (c .before .before .before .before .before .before .before .before .before .before .before .before .before .before .before .before .before .before .view-at .ensures) (c .before .before .before .before .before .before .before .before .before .before .before .before .before .before .before .before .w3 .given .1) (c .before .before .before .before .before .before .before .before .before .before .before .before .before .put-record2 .ensures) (c .before .before .before .before .before .before .before .before .before .replace-list .ensures) (c .before .before .before .before .before .q .given .1) (c .before .before .replace-type .ensures)
 
--- src/inner/walk.rt:152:1
 replace-type-same-length-5 : (t : ℕ) → replace-type-lts.Need-same-length-5 (Y t) (replace-type-at t) replace-type.Post
-replace-type-same-length-5 t c = c .before .before .before .before .before .replace-list .kept .1 .1 .1 .1 .1 .1 .1 .1 .1 .0 ∙ c .before .before .before .before .before .before .before .before .before .put-record2 .kept .0
+replace-type-same-length-5 t c = c .before .before .before .before .before .replace-list .kept .1 .1 .1 .1 .1 .1 .1 .1 .0 ∙ c .before .before .before .before .before .before .before .before .before .put-record2 .kept .0
 
--- src/inner/walk.rt:152:1
 replace-type-returns-5 : (t : ℕ) → replace-type-lts.Need-returns-5 (Y t) (replace-type-at t) replace-type.Post
 replace-type-returns-5 t c =
-    let a = c .before .before .before .before .before .before .before .before .before .before .before .before .before .before .before .before .before .before .before .before .args in
-    fn-stop (a .pool .now) (a .table .now) (a .s .now) (a .v .now) (a .b) (a .e) (a .at) (a .out) (c .before .before .before .before .before .before .before .before .before .before .before .before .before .before .view-at .ensures) (c .before .before .before .before .before .before .before .before .before .before .before .before .w3 .given .1) (c .before .before .before .before .before .replace-list .ensures) (c .before .k .given .1)
+    let a = c .before .before .before .before .before .before .before .before .before .before .before .before .before .before .before .before .before .before .before .before .before .args in
+    fn-stop (a .pool .now) (a .table .now) (a .s .now) (a .places .now) (a .v .now) (a .at) (a .out) (c .before .before .before .before .before .before .before .before .before .before .before .before .before .before .view-at .ensures) (c .before .before .before .before .before .before .before .before .before .before .before .before .w3 .given .1) (c .before .before .before .before .before .replace-list .ensures) (c .before .k .given .1)
 
--- src/inner/walk.rt:152:1
 replace-type-same-length-6 : (t : ℕ) → replace-type-lts.Need-same-length-6 (Y t) (replace-type-at t) replace-type.Post
-replace-type-same-length-6 t c = c .before .before .replace-list3 .kept .1 .1 .1 .1 .1 .1 .1 .1 .1 .0 ∙ c .before .before .before .before .before .before .before .before .before .replace-list2 .kept .1 .1 .1 .1 .1 .1 .1 .1 .1 .0 ∙ c .before .before .before .before .before .before .before .before .before .before .before .before .before .put-record3 .kept .0
+replace-type-same-length-6 t c = c .before .before .replace-list3 .kept .1 .1 .1 .1 .1 .1 .1 .1 .0 ∙ c .before .before .before .before .before .before .before .before .before .replace-list2 .kept .1 .1 .1 .1 .1 .1 .1 .1 .0 ∙ c .before .before .before .before .before .before .before .before .before .before .before .before .before .put-record3 .kept .0
 
--- src/inner/walk.rt:152:1
 replace-type-returns-6 : (t : ℕ) → replace-type-lts.Need-returns-6 (Y t) (replace-type-at t) replace-type.Post
 replace-type-returns-6 t c =
-    let a = c .before .before .before .before .before .before .before .before .before .before .before .before .before .before .before .before .before .before .before .before .before .before .before .before .args in
-    struct-here (a .pool .now) (a .table .now) (a .s .now) (a .v .now) (a .b) (a .e) (a .at) (a .out) {d = a .dst .now} (c .before .before .before .before .before .before .before .before .before .before .before .before .before .before .before .before .before .before .view-at .ensures) (c .before .before .before .before .before .before .before .before .before .before .before .before .before .before .before .before .w4 .given .1) (c .before .before .before .before .before .before .before .before .before .before .before .before .before .put-record3 .ensures) (c .before .before .before .before .before .before .before .before .before .replace-list2 .ensures) (c .before .before .before .before .before .q2 .given .1) (c .before .before .replace-list3 .ensures)
+    let a = c .before .before .before .before .before .before .before .before .before .before .before .before .before .before .before .before .before .before .before .before .before .before .before .before .before .args in
+    struct-here (a .pool .now) (a .table .now) (a .s .now) (a .places .now) (a .v .now) (a .at) (a .out) {d = a .dst .now} (c .before .before .before .before .before .before .before .before .before .before .before .before .before .before .before .before .before .before .view-at .ensures) (c .before .before .before .before .before .before .before .before .before .before .before .before .before .before .before .before .w4 .given .1) (c .before .before .before .before .before .before .before .before .before .before .before .before .before .put-record3 .ensures) (c .before .before .before .before .before .before .before .before .before .replace-list2 .ensures) (c .before .before .before .before .before .q2 .given .1) (c .before .before .replace-list3 .ensures)
 
--- src/inner/walk.rt:152:1
 replace-type-same-length-7 : (t : ℕ) → replace-type-lts.Need-same-length-7 (Y t) (replace-type-at t) replace-type.Post
-replace-type-same-length-7 t c = c .before .before .before .before .before .replace-list2 .kept .1 .1 .1 .1 .1 .1 .1 .1 .1 .0 ∙ c .before .before .before .before .before .before .before .before .before .put-record3 .kept .0
+replace-type-same-length-7 t c = c .before .before .before .before .before .replace-list2 .kept .1 .1 .1 .1 .1 .1 .1 .1 .0 ∙ c .before .before .before .before .before .before .before .before .before .put-record3 .kept .0
 
--- src/inner/walk.rt:152:1
 replace-type-returns-7 : (t : ℕ) → replace-type-lts.Need-returns-7 (Y t) (replace-type-at t) replace-type.Post
 replace-type-returns-7 t c =
-    let a = c .before .before .before .before .before .before .before .before .before .before .before .before .before .before .before .before .before .before .before .before .args in
-    struct-stop (a .pool .now) (a .table .now) (a .s .now) (a .v .now) (a .b) (a .e) (a .at) (a .out) (c .before .before .before .before .before .before .before .before .before .before .before .before .before .before .view-at .ensures) (c .before .before .before .before .before .before .before .before .before .before .before .before .w4 .given .1) (c .before .before .before .before .before .replace-list2 .ensures) (c .before .k2 .given .1)
+    let a = c .before .before .before .before .before .before .before .before .before .before .before .before .before .before .before .before .before .before .before .before .before .args in
+    struct-stop (a .pool .now) (a .table .now) (a .s .now) (a .places .now) (a .v .now) (a .at) (a .out) (c .before .before .before .before .before .before .before .before .before .before .before .before .before .before .view-at .ensures) (c .before .before .before .before .before .before .before .before .before .before .before .before .w4 .given .1) (c .before .before .before .before .before .replace-list2 .ensures) (c .before .k2 .given .1)
 
--- src/inner/walk.rt:152:1
 replace-type-same-length-8 : (t : ℕ) → replace-type-lts.Need-same-length-8 (Y t) (replace-type-at t) replace-type.Post
-replace-type-same-length-8 t c = c .before .before .replace-type2 .kept .1 .1 .1 .1 .1 .1 .1 .0 ∙ c .before .before .before .before .before .before .put-record4 .kept .0
+replace-type-same-length-8 t c = c .before .before .replace-type2 .kept .1 .1 .1 .1 .1 .1 .0 ∙ c .before .before .before .before .before .before .put-record4 .kept .0
 
--- src/inner/walk.rt:152:1
 replace-type-returns-8 : (t : ℕ) → replace-type-lts.Need-returns-8 (Y t) (replace-type-at t) replace-type.Post
 replace-type-returns-8 t c =
-    let a = c .before .before .before .before .before .before .before .before .before .before .before .before .before .before .before .before .args in
-    list-here (a .pool .now) (a .table .now) (a .s .now) (a .v .now) (a .b) (a .e) (a .at) (a .out) (c .before .before .before .before .before .before .before .before .before .before .view-at .ensures) (c .before .before .before .before .before .before .before .before .enum-told2 .given .1) (c .before .before .before .before .before .before .put-record4 .ensures) (c .before .before .replace-type2 .ensures)
+    let a = c .before .before .before .before .before .before .before .before .before .before .before .before .before .before .before .before .before .args in
+    list-here (a .pool .now) (a .table .now) (a .s .now) (a .places .now) (a .v .now) (a .at) (a .out) (c .before .before .before .before .before .before .before .before .before .before .view-at .ensures) (c .before .before .before .before .before .before .before .before .enum-told2 .given .1) (c .before .before .before .before .before .before .put-record4 .ensures) (c .before .before .replace-type2 .ensures)
 
--- src/inner/walk.rt:152:1
 replace-type-returns-9 : (t : ℕ) → replace-type-lts.Need-returns-9 (Y t) (replace-type-at t) replace-type.Post
 replace-type-returns-9 t c =
-    let a = c .before .before .before .before .before .before .before .args in
-    other-here (a .pool .now) (a .table .now) (a .s .now) (a .v .now) (a .b) (a .e) (a .at) (a .out) (c .before .view-at .ensures) (c .match .keys7)
+    let a = c .before .before .before .before .before .before .before .before .args in
+    other-here (a .pool .now) (a .table .now) (a .s .now) (a .places .now) (a .v .now) (a .at) (a .out) (c .before .view-at .ensures) (c .match .keys7)
 
 pub +replace-list+replace-type-spec : {M : Type 1} → statement M
 +replace-list+replace-type-spec = close μ-replace-list μ-replace-type (λ t. replace-list-lts.spec (L t)
@@ -410,12 +346,12 @@ pub +replace-list+replace-type-spec : {M : Type 1} → statement M
     (replace-type-view-at-requires t)
     (replace-type-enum-known-w t)
     (replace-type-replace-open-requires t)
+    (replace-type-add-t25 t)
     (replace-type-add-t26 t)
-    (replace-type-add-t27 t)
     (replace-type-enum-told t)
     (replace-type-put-record-requires t)
+    (replace-type-add-t30 t)
     (replace-type-add-t31 t)
-    (replace-type-add-t32 t)
     (replace-type-enum-known-w-2 t)
     (replace-type-add-replace-dim t)
     (replace-type-replace-dim-requires t)

@@ -4,24 +4,20 @@ use borrow.Author.Needs.{needs}
 use Rattle.replacing.proofs.inner.walk.replace_product.Statement.{statement}
 use Rattle.replacing.proofs.inner.walk.replace_product.Tie as tie
 
--- src/inner/walk.rt:96:15
 replace-factors-requires : tie.Need-replace-factors-requires
 replace-factors-requires c κs = search needs
 
--- src/inner/walk.rt:96:5
 put-tried-requires : tie.Need-put-tried-requires
 put-tried-requires c κs =
-    let a = c .before .before .before .before .before .before .pre .1 .0 in
-    let l = c .before .before .before .before .before .before .pre .1 .1 .0 in
-    ((_, replaced-ready (c .before .before .before .before .before .before .args .pool .now) (c .before .before .before .before .before .before .args .table .now) (c .before .replace-factors .result) (a .0) (l .0) (a .1) (l .1) (c .before .replace-factors .ensures (a .0) (l .0) (a .1) (l .1))), c .before .before .before .before .before .before .pre .1 .1 .1)
+    let a = c .before .before .before .before .before .before .before .pre .1 .0 in
+    let l = c .before .before .before .before .before .before .before .pre .1 .1 .0 in
+    ((_, replaced-ready (c .before .before .before .before .before .before .before .args .pool .now) (c .before .before .before .before .before .before .before .args .table .now) (c .before .replace-factors .result) (a .0) (l .0) (a .1) (l .1) (c .before .replace-factors .ensures (a .0) (l .0) (a .1) (l .1))), c .before .before .before .before .before .before .before .pre .1 .1 .1)
 
--- src/inner/walk.rt:79:1
 same-length : tie.Need-same-length
 same-length c = search needs
 
--- src/inner/walk.rt:79:1
 returns : tie.Need-returns
-returns c = λ a bs w l. c .before .before .put-tried .ensures _ (replaced-ready (c .before .before .before .before .before .before .before .before .before .args .pool .now) (c .before .before .before .before .before .before .before .before .before .args .table .now) (c .before .before .before .before .replace-factors .result) a bs w l (c .before .before .before .before .replace-factors .ensures a bs w l))
+returns c = λ a look w l. c .before .before .put-tried .ensures _ (replaced-ready (c .before .before .before .before .before .before .before .before .before .before .args .pool .now) (c .before .before .before .before .before .before .before .before .before .before .args .table .now) (c .before .before .before .before .replace-factors .result) a look w l (c .before .before .before .before .replace-factors .ensures a look w l))
 
 pub replace-product-spec : {M : Type 1} → statement M
 replace-product-spec =

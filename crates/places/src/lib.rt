@@ -1,0 +1,2 @@
+// The table of places of a list of bindings: what `replacing` looks names up in.
+pub mod inner;
