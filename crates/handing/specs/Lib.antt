@@ -1,0 +1,4 @@
+pub mod Tables
+pub mod Stored
+pub mod Said
+pub mod Bounds
