@@ -1,0 +1,2 @@
+// The steps of the calls on schemes, past the check of 10.
+pub mod checks;

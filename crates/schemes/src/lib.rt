@@ -1,0 +1,2 @@
+// The public calls on schemes: quantify, generalise, instantiate.
+pub mod inner;
