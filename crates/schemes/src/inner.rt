@@ -1,2 +1,3 @@
 // The steps of the calls on schemes, past the check of 10.
 pub mod checks;
+pub mod making;
