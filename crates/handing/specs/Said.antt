@@ -29,7 +29,7 @@ use Rattle.handing.specs.Tables.{quantPlaces, quantTypes, quant-places-l
 use Rattle.handing.specs.Stored.{QuantAt, quant-at}
 
 -- a renaming puts in one record
-renamed-few : (f : tree.Open ℕ → Option (tree.Open ℕ)) (o : tree.Open ℕ) (t : Ty ℕ) → renamed f o ≡ some t → size t ≤ 2048
+pub renamed-few : (f : tree.Open ℕ → Option (tree.Open ℕ)) (o : tree.Open ℕ) (t : Ty ℕ) → renamed f o ≡ some t → size t ≤ 2048
 unfolding size
 renamed-few f o t e = go (f o) e
   where
@@ -44,7 +44,7 @@ says v w none a b = a refl
 says v w (some u) a b = let (at, (e, h)) = b u refl in record { at = at; word = e; held = h }
 
 -- past the end of a table words count as 0
-past : (l : List ℕ) (i : ℕ) → length l ≤ i → getD l i 0 ≡ 0
+pub past : (l : List ℕ) (i : ℕ) → length l ≤ i → getD l i 0 ≡ 0
 past [] i h = refl
 past (a ∷ l) zero h = absurd (omega arith)
 past (a ∷ l) (suc i) h = past l i (omega arith)
@@ -85,7 +85,7 @@ module _ (ν : Names ℕ) (names : List ℕ) (small : All (λ x. x < 256) names)
   quant-tabled = record { says = quant-says; few = renamed-few (allOf ν 0 names) }
 
 -- what a renaming puts in is well formed where its new names are
-renamed-good : (pool table : List ℕ) (f : tree.Open ℕ → Option (tree.Open ℕ)) → ((o u : tree.Open ℕ) → f o ≡ some u → GoodTy pool table (opened u)) → LooksGood pool table (renamed f)
+pub renamed-good : (pool table : List ℕ) (f : tree.Open ℕ → Option (tree.Open ℕ)) → ((o u : tree.Open ℕ) → f o ≡ some u → GoodTy pool table (opened u)) → LooksGood pool table (renamed f)
 renamed-good pool table f h o t e = go (f o) refl e
   where
     go : (s : Option (tree.Open ℕ)) → f o ≡ s → andThen s (λ u. some (opened u)) ≡ some t → GoodTy pool table t

@@ -38,7 +38,7 @@ module _ {N : Type 0} where
   there-in (v ∷ vs) (suc i) x e = List·Memᴰ·tail (there-in vs i x e)
 
   -- what comes back is a variable that was handed
-  back-is : (vs : List N) (o u : Open N) → back vs o ≡ some u → (i : ℕ) × ((x : N) × ((o ≡ quant i) × ((u ≡ var x) × (getElem? vs i ≡ some x))))
+  pub back-is : (vs : List N) (o u : Open N) → back vs o ≡ some u → (i : ℕ) × ((x : N) × ((o ≡ quant i) × ((u ≡ var x) × (getElem? vs i ≡ some x))))
   unfolding back
   back-is vs (var x) u e = absurd (some≢none (sym e))
   back-is vs (par x) u e = absurd (some≢none (sym e))

@@ -31,6 +31,15 @@ module _ {N : Type 0} (held : N → Bool) where
   unfolding own
   own-held x h = rw h
 
+  -- a name that is renamed is held
+  pub own-known : (x : N) {u : Open N} → own (var x) ≡ some u → held x ≡ true
+  unfolding own
+  own-known x {u} e = go (held x) refl e
+    where
+      go : (b : Bool) → held x ≡ b → onlyIf b (var x) ≡ some u → held x ≡ true
+      go true i k = i
+      go false i k = absurd (some≢none (sym k))
+
   pub own-is : (o u : Open N) → own o ≡ some u → (x : N) × ((o ≡ var x) × (u ≡ o))
   unfolding own
   own-is (var x) u e = go (held x) e
