@@ -1,9 +1,9 @@
 -- The tables by which handed names are put back, and each held name becomes itself. Assumes nothing.
-use mathlib.Core.Path.{_≡_, refl, sym, ap, subst, _∙_}
+use mathlib.Core.Path.{_≡_, refl, sym, ap, _∙_}
 use mathlib.Core.Bool.{Bool, true, false, cond}
 use mathlib.Core.List.{List, [], _∷_}
 use mathlib.Core.Option.{Option, none, some}
-use Prim.Native.Nat.{ℕ, zero, suc, _+_, _*_, _/_, _≤_, _<_}
+use Prim.Native.Nat.{ℕ, zero, suc, _+_, _*_, _≤_, _<_}
 use native.Mathlib.Nat.{zero-add}
 use native.Mathlib.Omega.{arith}
 use native.Mathlib.Decide.{decLt}
@@ -12,20 +12,20 @@ use lib.Dec.{ltb}
 use lib.ListN.{length, set, getD, getElem?, replicate, length-replicate, getD-replicate}
 use lib.Seq.{getD-set-same, getD-set-other}
 use Rattle.rules.specs.Base.{all, andThen, onlyIf}
-use Rattle.rules.specs.Names.{tableOf, numbersOf, isHeld}
+use Rattle.rules.specs.Names.{tableOf, isHeld}
 use Rattle.rules.specs.Schemes.{renamed, back}
 use Rattle.rules.specs.Trees as tree
 use Rattle.rules.specs.Trees.{opened}
 use Rattle.rules.specs.WellFormed.{goodTy, goodOpen}
-use Rattle.rules.specs.Writing.{rec, words}
-use Rattle.laws.specs.Lists.{All, some≢none}
+use Rattle.rules.specs.Writing.{rec}
+use Rattle.laws.specs.Lists.{All}
 use Rattle.laws.specs.NameTable.{held-is}
 use Rattle.renaming.specs.Again.{there-in, back-is}
 use Rattle.renaming.specs.Own.{own, own-is, own-known}
 use Rattle.records.specs.Holds.{Holds, viewOpen}
 use Rattle.records.specs.Views.{plain, viewOf, viewAt}
 use Rattle.records.specs.declared.View.the-variants as view
-use Rattle.replacing.specs.Places.{wordOf, SaysAt, Tabled}
+use Rattle.replacing.specs.Places.{wordOf, SaysAt}
 use Rattle.replacing.specs.Well.{GoodTy, Lent}
 use Rattle.handing.specs.Tables.{backPlaces, ownPlaces, ownTypes, back-places-long, own-places-long, own-types-long}
 use Rattle.handing.specs.Stored.{view-far, view-here}

@@ -10,7 +10,7 @@ use lib.Seq.{sets}
 use Rattle.rules.specs.Base.{andThen, collect}
 use Rattle.rules.specs.Schemes.{renamed}
 use Rattle.rules.specs.Trees as tree
-use Rattle.rules.specs.Trees.{Ty, opened, size}
+use Rattle.rules.specs.Trees.{Ty, opened}
 use Rattle.rules.specs.Writing.{Rec, words, writeBound}
 use Rattle.laws.specs.Lists.{some≢none}
 use Rattle.records.specs.Holds.{Holds, Shows, viewOpen, openOf}

@@ -2,25 +2,25 @@
 use mathlib.Core.Path.{_≡_, refl, sym, ap, _∙_}
 use mathlib.Core.Bool.{Bool, true, false}
 use mathlib.Core.Logic.{_⊎_, inl, inr}
-use mathlib.Core.List.{List, [], _∷_, _++_, List·Memᴰ·tail}
+use mathlib.Core.List.{List, [], _∷_, List·Memᴰ·tail}
 use mathlib.Core.Option.{Option, none, some}
-use Prim.Native.Nat.{ℕ, zero, suc, _+_, _*_, _/_, _≤_, _<_}
+use Prim.Native.Nat.{ℕ, suc, _+_, _*_, _/_, _≤_, _<_}
 use native.Mathlib.Omega.{arith}
 use native.Mathlib.Decide.{decLt}
-use lib.ListN.{length, set, getD, getElem?, length-set}
+use lib.ListN.{length, set, getD, length-set}
 use lib.Seq.{sets, length-sets, getD-set-same, getD-set-other}
 use Rattle.rules.specs.Base.{isYes, all}
 use Rattle.rules.specs.Trees as tree
 use Rattle.rules.specs.Trees.{Names}
-use Rattle.rules.specs.Writing.{Rec, rec, words}
-use Rattle.laws.specs.Lists.{All, in-head, some≢none, yes-is, no-is}
+use Rattle.rules.specs.Writing.{rec, words}
+use Rattle.laws.specs.Lists.{All, in-head, yes-is, no-is}
 use Rattle.renaming.specs.InTurn.{firstOf}
 use Rattle.records.specs.Views.{plain, viewOf, viewAt}
 use Rattle.records.specs.Buffers.{stored}
 use Rattle.records.specs.Places.{recAt, view-some, view-none}
 use Rattle.records.specs.Holds.{viewOpen}
 use Rattle.records.specs.declared.View.the-variants as view
-use Rattle.handing.specs.Tables.{quantPlaces, quantTypes, backPlaces, ownPlaces, ownTypes, quant-places-long, quant-types-long, back-places-long, own-places-long, own-types-long}
+use Rattle.handing.specs.Tables.{quantPlaces, quantTypes, quant-places-long, quant-types-long}
 
 -- ══ A record that was stored, and the others ══
 

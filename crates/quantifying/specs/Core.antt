@@ -1,7 +1,7 @@
 -- A scheme that was written from the start of the work buffer is what quantifying makes, or it is too long. Assumes nothing.
-use mathlib.Core.Path.{_≡_, refl, sym, ap, subst, _∙_}
-use mathlib.Core.List.{List, [], _∷_, _++_, map, append-assoc}
-use Prim.Native.Nat.{ℕ, suc, _+_, _*_, _/_, _≤_, _<_}
+use mathlib.Core.Path.{_≡_, refl, sym, ap, _∙_}
+use mathlib.Core.List.{List, [], _∷_, _++_, map}
+use Prim.Native.Nat.{ℕ, _+_, _*_, _≤_, _<_}
 use native.Mathlib.Omega.{arith}
 use lib.ListN.{length, take, drop, length-append, length-map}
 use lib.Seq.{sets, sets-eq, length-sets, take-at}
@@ -17,8 +17,7 @@ use Rattle.laws.specs.Size.{size-ty}
 use Rattle.laws.specs.Sized.{sized-kept, sized-long}
 use Rattle.records.specs.Buffers.{words-length}
 use Rattle.records.specs.Stores.{sets-append}
-use Rattle.lending.specs.Told.{told, Front, Made}
-use Rattle.lending.specs.declared.Answer.{Answer}
+use Rattle.lending.specs.Told.{Front, Made}
 use Rattle.lending.specs.declared.Answer.the-variants.{Records, Refused}
 
 -- records that were written from the start, where they fit, stand at the front

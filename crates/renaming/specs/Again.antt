@@ -1,16 +1,16 @@
 -- Instantiating what quantifying gave, with the same names, gives the type back, with single variables read as variables. Assumes nothing.
 use mathlib.Core.Path.{_≡_, refl, sym, ap, _∙_}
 use mathlib.Core.Bool.{Bool, true, false}
-use mathlib.Core.Option.{Option, none, some, Option·getD}
+use mathlib.Core.Option.{Option, none, some}
 use mathlib.Core.Logic.{_⊎_, inl, inr}
-use mathlib.Core.List.{List, [], _∷_, List·Memᴰ, List·Memᴰ·tail, map}
+use mathlib.Core.List.{List, [], _∷_, List·Memᴰ, List·Memᴰ·tail}
 use Prim.Native.Nat.{ℕ, zero, suc, _+_, _≤_}
 use native.Mathlib.Omega.{arith}
 use native.Mathlib.Decide.{decLe}
 use borrow.Author.Tests.{eq-eqb}
 use lib.Dec.{eqb}
 use lib.ListN.{length, getElem?}
-use Rattle.rules.specs.Base.{Got, got, refused, bounded, _>>=_, _>>_, need, isYes, andThen, sized}
+use Rattle.rules.specs.Base.{got, refused, bounded, isYes, andThen, sized}
 use Rattle.rules.specs.Trees.{Open, var, quant, par, Names, Ty, opened, orderAtom, opens, size, depth}
 use Rattle.rules.specs.Contents.{unmixed}
 use Rattle.rules.specs.Products.{just}
@@ -19,7 +19,7 @@ use Rattle.rules.specs.Replacing.{asProduct, replaceTy}
 use Rattle.rules.specs.Schemes.{Scheme, scheme, renamed, renamedBounds, back, quantify, putBack, instantiate, schemeLimited}
 use Rattle.rules.specs.WellFormed.{goodOpen, goodTy}
 use Rattle.laws.specs.Order.{Lawful, Tells}
-use Rattle.laws.specs.Lists.{All, all-nil, all-cons, in-head, some≢none, got≢refused, is-yes, bound-step}
+use Rattle.laws.specs.Lists.{All, all-nil, all-cons, in-head, some≢none, got≢refused, is-yes}
 use Rattle.laws.specs.Sized.{sized-kept, sized-deep, sized-same, sized-small}
 use Rattle.laws.specs.GoodProducts.{goodAtom}
 use Rattle.laws.specs.KeepsGood.{GoodTy, ty-kept}

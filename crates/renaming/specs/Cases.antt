@@ -3,9 +3,9 @@
 use mathlib.Core.Path.{_≡_, refl}
 use mathlib.Core.List.{List, [], _∷_}
 use Prim.Native.Nat.{ℕ}
-use Rattle.rules.specs.Base.{Got, got, refused, _>>=_, bounded}
-use Rattle.rules.specs.Exponents.{frac, one}
-use Rattle.rules.specs.Trees.{Open, var, par, free, _↑_, Names, Ty, opened, dim}
+use Rattle.rules.specs.Base.{Got, got, _>>=_, bounded}
+use Rattle.rules.specs.Exponents.{one}
+use Rattle.rules.specs.Trees.{Open, var, par, free, _↑_, Ty, opened, dim}
 use Rattle.rules.specs.Names.{tableOf, numbersOf}
 use Rattle.rules.specs.Products.{just}
 use Rattle.rules.specs.Schemes.{quantify, instantiate}

@@ -1,7 +1,7 @@
 -- One factor taken out of a product in order, and one put in, in bounded arithmetic: neither is refused. A product in order is its factors.
 -- Assumes nothing.
 use mathlib.Core.Path.{_≡_, refl, sym, ap, _∙_}
-use mathlib.Core.Bool.{true, false}
+use mathlib.Core.Bool.{true}
 use mathlib.Core.Logic.{_⊎_, inl, inr}
 use mathlib.Core.List.{[], _∷_, List·Memᴰ, List·Memᴰ·head, List·Memᴰ·tail, List·Memᴰ·cases-cons, List·Memᴰ·not-nil}
 use Prim.Native.Nat.{ℕ, suc, _≤_, Ordering, Ordering·lt, Ordering·eq, Ordering·gt}
@@ -10,16 +10,16 @@ use borrow.Author.Tests.{le-leb}
 use lib.Dec.{eqb}
 use lib.IntN.{natAbs}
 use lib.ListN.{length}
-use Rattle.rules.specs.Base.{got, bounded, within}
-use Rattle.rules.specs.Exponents.{Exp, frac, nought, one, gcd, neg, mul, inRange, goodExp, goodStored, sum, times, isZero}
+use Rattle.rules.specs.Base.{got, bounded}
+use Rattle.rules.specs.Exponents.{Exp, frac, nought, one, gcd, neg, mul, inRange, goodExp, goodStored, sum, times}
 use Rattle.rules.specs.Trees.{Open, Atom, free, Factor, _↑_, Product, Names, orderAtom}
 use Rattle.rules.specs.Products.{put, just, inverse, mergeOne, merge, multiply, divide, raise}
 use Rattle.rules.specs.WellFormed.{atomOf}
-use Rattle.laws.specs.Order.{Lawful, self, after}
-use Rattle.laws.specs.Lists.{All, all-cons, in-head, and-left, every-all}
-use Rattle.laws.specs.Fractions.{plus-neg, mul-one′, mul-comm′, neg-zero}
+use Rattle.laws.specs.Order.{Lawful, self}
+use Rattle.laws.specs.Lists.{All, in-head, and-left, every-all}
+use Rattle.laws.specs.Fractions.{plus-neg, mul-one′, mul-comm′}
 use Rattle.laws.specs.Ranges.{good-lowest, stored-good, stored-not-zero}
-use Rattle.laws.specs.Sorted.{Before, Sorted, merge-sorted}
+use Rattle.laws.specs.Sorted.{Sorted, merge-sorted}
 
 -- ══ Exponents ══
 
@@ -41,7 +41,7 @@ times-one e h =
     rw (z, good-range e g)
 
 module _ {N : Type 0} (ν : Names N) where
-  raise-just : (o : Open N) (e : Exp) → goodStored e ≡ true → raise ν bounded (just o) e ≡ got (free o ↑ e ∷ [])
+  pub raise-just : (o : Open N) (e : Exp) → goodStored e ≡ true → raise ν bounded (just o) e ≡ got (free o ↑ e ∷ [])
   unfolding raise
   raise-just o e h = rw (times-one e h) (rw (stored-not-zero e h, put))
 

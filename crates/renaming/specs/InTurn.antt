@@ -3,20 +3,19 @@ use mathlib.Core.Path.{_≡_, refl, sym, ap, _∙_}
 use mathlib.Core.Bool.{Bool, true, false}
 use mathlib.Core.Option.{Option, none, some, Option·getD}
 use mathlib.Core.Logic.{_⊎_, inl, inr}
-use mathlib.Core.List.{List, [], _∷_, List·Memᴰ, map}
-use Prim.Native.Nat.{ℕ, zero, suc, _+_, _≤_, _<_}
+use mathlib.Core.List.{List, [], _∷_, List·Memᴰ}
+use Prim.Native.Nat.{ℕ, suc, _+_, _≤_, _<_}
 use native.Mathlib.Omega.{arith}
 use borrow.Author.Tests.{ltb-true, lt-ltb}
 use lib.ListN.{length, getElem?}
 use Rattle.rules.specs.Base.{Got, got, refused, bounded, _>>=_, isYes, onlyIf, andThen}
 use Rattle.rules.specs.Trees.{Open, var, quant, par, Names, Ty, opened, orderAtom, opens}
 use Rattle.rules.specs.Contents.{unmixed}
-use Rattle.rules.specs.Products.{just}
 use Rattle.rules.specs.Replacing.{asProduct, replaceTy}
 use Rattle.rules.specs.Schemes.{scheme, renamed, renamedBounds, quantifies, quantifyFrom, quantify, schemeLimited}
 use Rattle.rules.specs.WellFormed.{goodOpen, goodTy}
 use Rattle.laws.specs.Order.{Lawful, Tells}
-use Rattle.laws.specs.Lists.{All, all-nil, all-cons, all-every, every-all, some≢none, yes-is, in-head}
+use Rattle.laws.specs.Lists.{All, all-nil, all-cons, all-every, every-all, some≢none, yes-is}
 use Rattle.laws.specs.Contents.{not-mixed}
 use Rattle.laws.specs.GoodProducts.{goodAtom}
 use Rattle.laws.specs.KeepsGood.{GoodTy, ty-kept}

@@ -7,3 +7,5 @@ pub mod Own
 pub mod Sizes
 pub mod Again
 pub mod Cases
+pub mod Shorter
+pub mod PutBack

@@ -3,12 +3,12 @@ use mathlib.Core.Path.{_≡_, refl, sym, ap, _∙_}
 use mathlib.Core.Bool.{Bool, true, _&&_}
 use mathlib.Core.Option.{Option, none, some, Option·getD}
 use mathlib.Core.Logic.{_⊎_, inl, inr}
-use mathlib.Core.List.{List, [], _∷_, List·Memᴰ, Memᴰ·append-left, Memᴰ·append-right}
+use mathlib.Core.List.{Memᴰ·append-left, Memᴰ·append-right}
 use Prim.Native.Nat.{ℕ}
 use Rattle.rules.specs.Base.{got, bounded, exact, collect}
 use Rattle.rules.specs.Trees.{Open, free, Product, Names, Ty, opened, basic, dim, fn, struct, list, Tys, nil, cons, Fields, noFields, field, orderAtom, openOfFactor, opens, opensTys, opensFields}
 use Rattle.rules.specs.Products.{just, single}
-use Rattle.rules.specs.Replacing.{Look, asProduct, replaceFactors, replaceProduct, replaceDim, replaceTy, replaceTys, replaceFields}
+use Rattle.rules.specs.Replacing.{Look, replaceFactors, replaceProduct, replaceDim, replaceTy, replaceTys, replaceFields}
 use Rattle.rules.specs.WellFormed.{goodProduct, goodTy, goodTys, goodFields}
 use Rattle.laws.specs.Order.{Lawful, Tells}
 use Rattle.laws.specs.Lists.{and-left, and-right, All, all-nil, all-cons, all-append, in-head, one-step, two-steps, Every}

@@ -2,13 +2,12 @@
 use mathlib.Core.Path.{_≡_, refl, sym, ap, _∙_}
 use mathlib.Core.Bool.{Bool, true, false, _&&_}
 use mathlib.Core.Option.{Option, none, some, Option·getD}
-use mathlib.Core.Logic.{_⊎_, inl, inr}
-use mathlib.Core.List.{List·Memᴰ, Memᴰ·append-left, Memᴰ·append-right}
+use mathlib.Core.Logic.{inl}
+use mathlib.Core.List.{Memᴰ·append-left, Memᴰ·append-right}
 use Prim.Native.Nat.{ℕ}
 use Rattle.rules.specs.Base.{got, bounded, collect, onlyIf, andThen}
-use Rattle.rules.specs.Exponents.{Exp-dec}
 use Rattle.rules.specs.Trees.{Open, var, quant, par, free, base, Factor, _↑_, Product, Names, Ty, opened, basic, dim, fn, struct, list, Tys, nil, cons, Fields, noFields, field, orderAtom, openOfFactor, opens, opensTys, opensFields}
-use Rattle.rules.specs.Products.{just, single}
+use Rattle.rules.specs.Products.{single}
 use Rattle.rules.specs.Plain.{plain, plainDim, plainTys, plainFields}
 use Rattle.rules.specs.Replacing.{asProduct, replaceProduct, replaceDim, replaceTy, replaceTys, replaceFields}
 use Rattle.rules.specs.Schemes.{renamed}
@@ -18,7 +17,7 @@ use Rattle.laws.specs.Lists.{and-left, and-right, All, in-head, some≢none}
 use Rattle.laws.specs.GoodProducts.{goodAtom, good-product}
 use Rattle.laws.specs.RuleCases.{single-is}
 use Rattle.renaming.specs.Factors.{same-factors}
-use Rattle.renaming.specs.Products.{moved, movedFactor, Renames, Renamed, product-renamed}
+use Rattle.renaming.specs.Products.{moved, movedFactor, Renames, product-renamed}
 
 module _ {N : Type 0} (held : N → Bool) where
   -- a variable that is held is renamed by itself

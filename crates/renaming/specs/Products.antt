@@ -9,7 +9,7 @@ use Prim.Native.Nat.{ℕ, _≤_, Ordering·lt, Ordering·eq}
 use native.Mathlib.Omega.{arith}
 use lib.ListN.{length}
 use Rattle.rules.specs.Base.{got, bounded, collect}
-use Rattle.rules.specs.Exponents.{Exp, goodStored}
+use Rattle.rules.specs.Exponents.{Exp}
 use Rattle.rules.specs.Trees.{Open, Atom, free, base, Factor, _↑_, Product, Names, opened, orderAtom, openOfFactor}
 use Rattle.rules.specs.Products.{just}
 use Rattle.rules.specs.Replacing.{asProduct, replaceFactors, replaceProduct}

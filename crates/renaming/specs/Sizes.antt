@@ -1,11 +1,10 @@
 -- Depth and size of a type whose open names were renamed. Assumes nothing.
-use mathlib.Core.Path.{_≡_, refl, sym, ap, ap₂, _∙_}
+use mathlib.Core.Path.{_≡_, refl, sym, ap, _∙_}
 use mathlib.Core.Bool.{Bool, true, _&&_}
 use mathlib.Core.Option.{Option, none, some, Option·getD}
-use mathlib.Core.List.{List, Memᴰ·append-left, Memᴰ·append-right}
-use Prim.Native.Nat.{ℕ, suc, _+_, _≤_, max}
+use mathlib.Core.List.{Memᴰ·append-left, Memᴰ·append-right}
+use Prim.Native.Nat.{ℕ, _≤_}
 use native.Mathlib.Omega.{arith}
-use lib.ListN.{length}
 use Rattle.rules.specs.Base.{got, bounded, Limits, collect, andThen}
 use Rattle.rules.specs.Trees.{Open, Product, Names, Ty, opened, basic, dim, fn, struct, list, Tys, nil, cons, Fields, noFields, field, orderAtom, openOfFactor, opens, opensTys, opensFields, size, sizeTys, sizeFields, depth, depthTys, depthFields}
 use Rattle.rules.specs.Products.{single}

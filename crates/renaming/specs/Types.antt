@@ -1,5 +1,5 @@
 -- Renaming a type twice is renaming it once; renaming each variable by itself reads single variables as variables. Assumes nothing.
-use mathlib.Core.Path.{_≡_, refl, sym, ap, ap₂, _∙_, subst}
+use mathlib.Core.Path.{_≡_, refl, sym, ap, _∙_}
 use mathlib.Core.Bool.{Bool, true, _&&_}
 use mathlib.Core.Option.{Option, none, some, Option·getD}
 use mathlib.Core.Logic.{_⊎_, inl, inr}
@@ -7,22 +7,19 @@ use mathlib.Core.List.{[], _∷_, List·Memᴰ, List·Memᴰ·head, List·Memᴰ
 use Prim.Native.Nat.{ℕ}
 use native.Mathlib.Omega.{arith}
 use lib.ListN.{length}
-use Rattle.rules.specs.Base.{got, bounded, collect, _>>=_}
+use Rattle.rules.specs.Base.{got, bounded, collect}
 use Rattle.rules.specs.Exponents.{Exp, one, Exp-dec}
 use Rattle.rules.specs.Trees.{Open, var, quant, par, free, base, Factor, _↑_, Product, Names, Ty, opened, basic, dim, fn, struct, list, Tys, nil, cons, Fields, noFields, field, orderAtom, openOfFactor, opens, opensTys, opensFields}
 use Rattle.rules.specs.Products.{just, single}
-use Rattle.rules.specs.Plain.{plain, plainDim, plainTys, plainFields}
 use Rattle.rules.specs.Replacing.{asProduct, replaceFactors, replaceProduct, replaceDim, replaceTy, replaceTys, replaceFields}
 use Rattle.rules.specs.Schemes.{renamed}
-use Rattle.rules.specs.WellFormed.{goodOpen, goodProduct, goodTy, goodTys, goodFields}
+use Rattle.rules.specs.WellFormed.{goodProduct, goodTy, goodTys, goodFields}
 use Rattle.laws.specs.Order.{Lawful, Tells}
 use Rattle.laws.specs.Lists.{and-left, and-right, All, in-head, some≢none, got≢refused, collect-to}
-use Rattle.laws.specs.GoodProducts.{goodAtom, good-product}
-use Rattle.laws.specs.KeepsGood.{GoodTy, product-kept}
+use Rattle.laws.specs.GoodProducts.{goodAtom}
 use Rattle.laws.specs.RuleCases.{single-is}
 use Rattle.renaming.specs.Factors.{same-factors}
 use Rattle.renaming.specs.Products.{moved, movedFactor, moved-none, moved-some, Renames, Moved, Renamed, product-renamed, renamed-good, renamed-names}
-use Rattle.renaming.specs.Occurring.{ty-occurs}
 
 module _ {N : Type 0} where
   -- renamed by f, then by g

@@ -1,9 +1,9 @@
 -- The calls on schemes past the check of 10: where their checks refuse, so do they; where these are met, they are what is made. Assumes nothing.
 use mathlib.Core.Path.{_≡_, refl, sym, ap, subst, _∙_}
-use mathlib.Core.Bool.{Bool, true, false}
-use mathlib.Core.List.{List, [], _∷_, _++_}
+use mathlib.Core.Bool.{true}
+use mathlib.Core.List.{List, [], _∷_}
 use mathlib.Core.Option.{Option, none, some}
-use Prim.Native.Nat.{ℕ, _+_, _*_, _/_, _≤_, _<_}
+use Prim.Native.Nat.{ℕ, _+_, _/_, _≤_, _<_}
 use native.Mathlib.Omega.{arith}
 use borrow.Author.Tests.{ltb-true}
 use lib.ListN.{length, getD, replicate}
@@ -15,8 +15,7 @@ use Rattle.rules.specs.Replacing.{replaceTy}
 use Rattle.rules.specs.Refusals.{numberOf}
 use Rattle.rules.specs.Schemes.{Scheme, scheme, schemeLimited, renamed, renamedBounds, quantify}
 use Rattle.rules.specs.Trees as tree
-use Rattle.rules.specs.Trees.{Names, Ty, orderAtom, opens, size, depth}
-use Rattle.rules.specs.WellFormed.{goodTy}
+use Rattle.rules.specs.Trees.{Names, Ty, orderAtom, opens, size}
 use Rattle.rules.specs.Writing.{Rec, words, writeScheme}
 use Rattle.rules.specs.declared.Refusal.{Refusal}
 use Rattle.rules.specs.declared.Refusal.the-variants.{TooLarge}
@@ -43,7 +42,7 @@ use Rattle.lending.specs.Handed.{as-written, unwritten}
 use Rattle.lending.specs.Told.{Made, handed}
 use Rattle.lending.specs.declared.Answer.{Answer}
 use Rattle.lending.specs.declared.Answer.the-variants.{Refused}
-use Rattle.handing.specs.Bounds.{Rename, orAll, boundsOf, allBounds, BoundsAt}
+use Rattle.handing.specs.Bounds.{Rename, allBounds, BoundsAt}
 use Rattle.quantifying.specs.Core.{made-refused}
 use Rattle.quantifying.specs.Ready.{Ready, quantifiedAs}
 use Rattle.schemes.specs.Entry.{restChecked, entered, bounds-long, names-long, row-then, stops, checked as all-checked, Entered}

@@ -1,9 +1,8 @@
 -- `inner::tables::quantify_names` meets its contract. Assumes nothing.
 use mathlib.Core.Path.{_≡_, refl, ap, _∙_}
-use Prim.Native.Nat.{ℕ, _+_, _-_, _≤_}
+use Prim.Native.Nat.{ℕ, _-_, _≤_}
 use native.Mathlib.Omega.{arith}
 use lib.ListN.{length, drop}
-use borrow.Author.Needs.{needs}
 use denote.Ref.{now}
 use Rattle.handing.specs.Tables.{quantPlaces, quantTypes, quant-places, quant-types, no-quant-places, no-quant-types, quant-places-long, quant-types-long}
 use Rattle.handing.proofs.inner.tables.quantify_names.Statement.{statement}

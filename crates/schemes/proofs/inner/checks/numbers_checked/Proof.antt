@@ -1,5 +1,5 @@
 -- `inner::checks::numbers_checked` meets its contract. Assumes nothing.
-use mathlib.Core.Path.{sym, ap, _∙_}
+use mathlib.Core.Path.{sym, _∙_}
 use denote.Ref.{now}
 use Rattle.rules.specs.Names.{tableOf, namesOf}
 use Rattle.schemes.specs.Entry.{numbers-told}
