@@ -1,3 +1,4 @@
 pub mod Entry
 pub mod Whole
 pub mod Determined
+pub mod Generalised

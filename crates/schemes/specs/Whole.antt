@@ -103,7 +103,7 @@ module _ (pool table ws : List ℕ) where
 
 -- ══ Quantifying ══
 
-bind-twice : {A B C : Type 0} (m : Got A) (f : A → Got B) (g : B → Got C) → (m >>= f >>= g) ≡ (m >>= λ a. f a >>= g)
+pub bind-twice : {A B C : Type 0} (m : Got A) (f : A → Got B) (g : B → Got C) → (m >>= f >>= g) ≡ (m >>= λ a. f a >>= g)
 bind-twice (got a) f g = refl
 bind-twice (refused n) f g = refl
 
