@@ -1,12 +1,12 @@
 -- Generalising a concrete type is quantifying its sorted names in one walk; of the bounds those stay whose names are renamed. Assumes nothing.
 use mathlib.Core.Path.{_≡_, refl, sym, ap, _∙_}
-use mathlib.Core.Bool.{Bool, true, false, _||_}
+use mathlib.Core.Bool.{Bool, true, false}
 use mathlib.Core.List.{List, [], _∷_, _++_, map, List·Memᴰ·tail}
-use mathlib.Core.Option.{Option, none, some, Option·getD}
+use mathlib.Core.Option.{Option, none, some}
 use Prim.Native.Nat.{ℕ, suc, _≤_}
 use native.Mathlib.Omega.{arith}
 use lib.ListN.{length}
-use Rattle.rules.specs.Base.{Got, got, _>>=_, bounded, any, keep, collect, isYes}
+use Rattle.rules.specs.Base.{got, _>>=_, bounded, any, keep, collect, isYes}
 use Rattle.rules.specs.Contents.{among, sort, namesIn, unmixed}
 use Rattle.rules.specs.Names.{tableOf, numbersOf, isHeld}
 use Rattle.rules.specs.Replacing.{replaceTy}
@@ -14,12 +14,12 @@ use Rattle.rules.specs.Schemes.{scheme, concrete, schemeLimited, renamed, renam
 use Rattle.rules.specs.Trees as tree
 use Rattle.rules.specs.Trees.{Names, Ty, opens}
 use Rattle.rules.specs.WellFormed.{goodTy}
-use Rattle.rules.specs.Writing.{Rec, wordOf, writeScheme}
-use Rattle.laws.specs.Lists.{All, in-head, is-yes, yes-is, no-is, is-no}
+use Rattle.rules.specs.Writing.{wordOf, writeScheme}
+use Rattle.laws.specs.Lists.{All, in-head, is-yes, is-no}
 use Rattle.laws.specs.NameTable.{Good}
 use Rattle.products.specs.Held.{law}
 use Rattle.renaming.specs.InTurn.{firstOf, allOf, quantify-once}
-use Rattle.handing.specs.Bounds.{Rename, orAll, boundsOf, allBounds}
+use Rattle.handing.specs.Bounds.{Rename, orAll, allBounds}
 use Rattle.quantifying.specs.Ready.{quantifiedAs}
 use Rattle.schemes.specs.Whole.{tells, bind-twice}
 

@@ -2,3 +2,5 @@ pub mod Entry
 pub mod Whole
 pub mod Determined
 pub mod Generalised
+pub mod GivenScheme
+pub mod Wholes
