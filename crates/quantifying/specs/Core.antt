@@ -72,7 +72,8 @@ module _ (n : ℕ) (bs : List (Open ℕ)) where
     too-long w h = made-refused (limitedScheme R) TooLarge w (rw (e, sized-long (1 + (size u + length bs)) (depth u) (scheme n u bs) h))
 
     -- the head, the type and the bounds were written one after another
-    pub made-scheme : (d d₁ d₂ d₃ : List ℕ) (out r : ℕ) → 16384 ≤ length d → d₁ ≡ sets d (0 * 4) (words (rec 26 n 0 0 ∷ [])) → out ≡ 1 + size u → d₂ ≡ sets d₁ (1 * 4) (words (writeTy u)) → r ≡ out + length bs → d₃ ≡ sets d₂ (out * 4) (words (map writeBound bs)) → r ≤ 2048 → Made (limitedScheme R) d₃ (Records r)
+    pub made-scheme : (d d₁ d₂ d₃ : List ℕ) (out r : ℕ) → 16384 ≤ length d → d₁ ≡ sets d (0 * 4) (words (rec 26 n 0 0 ∷ [])) → out ≡ 1 + size u
+        → d₂ ≡ sets d₁ (1 * 4) (words (writeTy u)) → r ≡ out + length bs → d₃ ≡ sets d₂ (out * 4) (words (map writeBound bs)) → r ≤ 2048 → Made (limitedScheme R) d₃ (Records r)
     unfolding schemeLimited writeScheme
     made-scheme d d₁ d₂ d₃ out r room h₁ o h₂ q h₃ le =
         let s = size-ty u in

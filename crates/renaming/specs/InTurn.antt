@@ -259,7 +259,8 @@ module _ {N : Type 0} (ν : Names N) (law : Lawful (orderAtom ν)) (held : N →
           go (some y) j l = let z : opened y ≡ w = cc in rw (sym z) (all-cons (Becomes P (quantifies ν i v)) (o, (p, rw j)) (all-nil (Becomes P (quantifies ν i v))))
 
       go : (u : Ty N) → replaceTy ν bounded (renamed (quantifies ν i v)) t ≡ got u → replaceTy ν bounded (renamed (allOf ν (suc i) vs)) u ≡ replaceTy ν bounded (renamed (allOf ν i (v ∷ vs))) t
-          → (goodTy ν held q u ≡ true → All (Becomes P (quantifies ν i v)) (opens u) → quantifyFrom ν bounded (suc i) vs u (renamedBounds (quantifies ν i v) bs) ≡ (replaceTy ν bounded (renamed (allOf ν (suc i) vs)) u >>= λ w. got (w, renamedBounds (allOf ν (suc i) vs) (renamedBounds (quantifies ν i v) bs))))
+          → (goodTy ν held q u ≡ true → All (Becomes P (quantifies ν i v)) (opens u) → quantifyFrom ν bounded (suc i) vs u (renamedBounds (quantifies ν i v) bs) ≡
+          (replaceTy ν bounded (renamed (allOf ν (suc i) vs)) u >>= λ w. got (w, renamedBounds (allOf ν (suc i) vs) (renamedBounds (quantifies ν i v) bs))))
           → quantifyFrom ν bounded i (v ∷ vs) t bs ≡ (replaceTy ν bounded (renamed (allOf ν i (v ∷ vs))) t >>= λ w. got (w, renamedBounds (allOf ν i (v ∷ vs)) bs))
       go u a b again =
           rw a (again (ty-kept ν law held q (renamed (quantifies ν i v)) good-turn t g .holds u a) (ty-occurs ν law held q tells (renamed (quantifies ν i v)) good-turn P (Becomes P (quantifies ν i v)) becomes becomes-put t u g a k)

@@ -66,11 +66,13 @@ module _ {N : Type 0} (ν : Names N) (law : Lawful (orderAtom ν)) (held : N →
     ty-occurs (dim p) u′ g e h = dim-occurs (single p) p u′ refl g e h
     ty-occurs (fn ps r) u′ g e h =
         let s = two-steps (replaceTys ν bounded look ps) (λ _. replaceTy ν bounded look r) fn u′ e in
-        rw (sym (s .both)) (all-append Q (opensTys (s .first)) (tys-occur ps (s .first) (and-left (goodTys ν held q ps) _ g) (s .gave) (λ o m. h o (Memᴰ·append-left (opens r) m))) (ty-occurs r (s .second) (and-right (goodTys ν held q ps) _ g) (s .then) (λ o m. h o (Memᴰ·append-right (opensTys ps) m))))
+        rw (sym (s .both)) (all-append Q (opensTys (s .first)) (tys-occur ps (s .first) (and-left (goodTys ν held q ps) _ g) (s .gave) (λ o m. h o
+        (Memᴰ·append-left (opens r) m))) (ty-occurs r (s .second) (and-right (goodTys ν held q ps) _ g) (s .then) (λ o m. h o (Memᴰ·append-right (opensTys ps) m))))
     ty-occurs (struct n as′ fs) u′ g e h =
         let s = two-steps (replaceTys ν bounded look as′) (λ _. replaceFields ν bounded look fs) (struct n) u′ e in
         let ga = and-left (held n && goodTys ν held q as′ && goodFields ν held q fs) _ g in
-        rw (sym (s .both)) (all-append Q (opensTys (s .first)) (tys-occur as′ (s .first) (and-right (held n) _ (and-left (held n && goodTys ν held q as′) _ ga)) (s .gave) (λ o m. h o (Memᴰ·append-left (opensFields fs) m))) (fields-occur fs (s .second) (and-right (held n && goodTys ν held q as′) _ ga) (s .then) (λ o m. h o (Memᴰ·append-right (opensTys as′) m))))
+        rw (sym (s .both)) (all-append Q (opensTys (s .first)) (tys-occur as′ (s .first) (and-right (held n) _ (and-left (held n && goodTys ν held q as′) _ ga)) (s .gave) (λ o m. h o
+        (Memᴰ·append-left (opensFields fs) m))) (fields-occur fs (s .second) (and-right (held n && goodTys ν held q as′) _ ga) (s .then) (λ o m. h o (Memᴰ·append-right (opensTys as′) m))))
     ty-occurs (list u) u′ g e h = let s = one-step (replaceTy ν bounded look u) list u′ e in rw (sym (s .is)) (ty-occurs u (s .value) g (s .gave) h)
 
     tys-occur : (us us′ : Tys N) → goodTys ν held q us ≡ true → replaceTys ν bounded look us ≡ got us′ → All P (opensTys us) → All Q (opensTys us′)
@@ -83,4 +85,5 @@ module _ {N : Type 0} (ν : Names N) (law : Lawful (orderAtom ν)) (held : N →
     fields-occur noFields fs′ g e h = let z : noFields ≡ fs′ = cc in rw (sym z) (all-nil Q)
     fields-occur (field n u fs) fs′ g e h =
         let s = two-steps (replaceTy ν bounded look u) (λ _. replaceFields ν bounded look fs) (field n) fs′ e in
-        rw (sym (s .both)) (all-append Q (opens (s .first)) (ty-occurs u (s .first) (and-right (held n) _ (and-left (held n && goodTy ν held q u) _ g)) (s .gave) (λ o m. h o (Memᴰ·append-left (opensFields fs) m))) (fields-occur fs (s .second) (and-right (held n && goodTy ν held q u) _ g) (s .then) (λ o m. h o (Memᴰ·append-right (opens u) m))))
+        rw (sym (s .both)) (all-append Q (opens (s .first)) (ty-occurs u (s .first) (and-right (held n) _ (and-left (held n && goodTy ν held q u) _ g)) (s .gave) (λ o m. h o
+        (Memᴰ·append-left (opensFields fs) m))) (fields-occur fs (s .second) (and-right (held n && goodTy ν held q u) _ g) (s .then) (λ o m. h o (Memᴰ·append-right (opens u) m))))

@@ -73,7 +73,8 @@ module _ (pool table s : List ℕ) where
       small (scheme n t bs) (v, (e, (g, c))) few = rw (scheme-opens (scheme n t bs) (v, (e, (g, c)))) (names-small pool table n (opens t) (ty-known (numbers pool table) (holding pool table) n t (g .good)) few)
 
   -- what the code's checks say
-  pub scheme-checked : (bounds names : List ℕ) → length bounds ≤ 8192 → length names ≤ 2048 → lentTable pool table ≡ got tt → Words32 s → (x y : Checked) → toldChecked x ≡ schemeCall pool table s → toldChecked y ≡ restChecked pool table s bounds names (toldChecked x) → (entered pool table s bounds names (schemeGiven (tableOf pool table) s) opensScheme >> got (tt {0})) ≡ toldChecked y
+  pub scheme-checked : (bounds names : List ℕ) → length bounds ≤ 8192 → length names ≤ 2048 → lentTable pool table ≡ got tt → Words32 s → (x y : Checked) → toldChecked x ≡ schemeCall pool table s
+      → toldChecked y ≡ restChecked pool table s bounds names (toldChecked x) → (entered pool table s bounds names (schemeGiven (tableOf pool table) s) opensScheme >> got (tt {0})) ≡ toldChecked y
   unfolding schemeCall
   scheme-checked bounds names h k l w x y e g =
       sym (g ∙ ap (restChecked pool table s bounds names) e ∙ all-checked pool table s bounds names (schemeGiven (tableOf pool table) s) opensScheme h k l (λ sc i. scheme-opens sc (scheme-is pool table s w sc i)))

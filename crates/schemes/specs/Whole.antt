@@ -116,7 +116,8 @@ module _ (pool table ws bounds names : List ℕ) where
   quantify-whole = row-then (λ t. apart (tableOf pool table) (opens t)) quantifiedFrom (shortLists _ >> shortNumbers names) (tableKept (tableOf pool table)) (typeGiven (tableOf pool table) ws) (boundsGiven (tableOf pool table) bounds) (numbersGiven (tableOf pool table) names)
 
   -- what the code's checks say
-  pub quantify-checked : length bounds ≤ 8192 → length names ≤ 2048 → lentTable pool table ≡ got tt → Words32 ws → (x y : Checked) → toldChecked x ≡ typeCall pool table ws → toldChecked y ≡ restChecked pool table ws bounds names (toldChecked x) → (entered pool table ws bounds names (typeGiven (tableOf pool table) ws) opens >> got (tt {0})) ≡ toldChecked y
+  pub quantify-checked : length bounds ≤ 8192 → length names ≤ 2048 → lentTable pool table ≡ got tt → Words32 ws → (x y : Checked) → toldChecked x ≡ typeCall pool table ws
+      → toldChecked y ≡ restChecked pool table ws bounds names (toldChecked x) → (entered pool table ws bounds names (typeGiven (tableOf pool table) ws) opens >> got (tt {0})) ≡ toldChecked y
   unfolding typeCall
   quantify-checked h k l w x y e g =
       sym (g ∙ ap (restChecked pool table ws bounds names) e ∙ all-checked pool table ws bounds names (typeGiven (tableOf pool table) ws) opens h k l (λ t i.

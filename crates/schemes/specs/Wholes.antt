@@ -23,7 +23,8 @@ module _ (pool table given : List ℕ) where
   pub generalise-whole : (bounds : List ℕ) → Whole pool table given bounds [] (schemeGiven (tableOf pool table) given) opensScheme generalisedFrom (generalised (tableOf pool table) given bounds)
   unfolding generalised entered shortNumbers numbersGiven all
   generalise-whole bounds =
-      ap (λ (x : Got (Unit {0})). x >> (tableKept (tableOf pool table) >> (schemeGiven (tableOf pool table) given >>= λ s. boundsGiven (tableOf pool table) bounds >>= λ bs. got (tt {0}) >> (apart (tableOf pool table) (opensScheme s) >> generalisedFrom s bs)))) (sym (then-nothing (shortLists (given ∷ bounds ∷ []))))
+      ap (λ (x : Got (Unit {0})). x >> (tableKept (tableOf pool table) >> (schemeGiven (tableOf pool table) given >>= λ s. boundsGiven (tableOf pool table) bounds >>= λ bs. got
+      (tt {0}) >> (apart (tableOf pool table) (opensScheme s) >> generalisedFrom s bs)))) (sym (then-nothing (shortLists (given ∷ bounds ∷ []))))
       ∙ row-then (λ s. apart (tableOf pool table) (opensScheme s)) generalisedFrom (shortLists (given ∷ bounds ∷ []) >> got (tt {0})) (tableKept (tableOf pool table)) (schemeGiven (tableOf pool table) given) (boundsGiven (tableOf pool table) bounds) (got (tt {0}))
 
   abbrev pub instantiatedFrom : List ℕ → Scheme ℕ → List (Open ℕ) → Got (List Rec)

@@ -48,7 +48,8 @@ slice-aggregate-replace-type-2 c = search needs
 
 -- src/inner/quantifying.rt:36:11
 replace-type-requires : tie.Need-replace-type-requires
-replace-type-requires c κs = let (t, (bs, y)) = c .before .before .before .before .before .before .before .before .before .before .before .before .before .before .before .before .before .before .pre in (y .good, ((t, y .type), ((_, lent (c .before .before .before .before .before .before .before .before .before) t bs y), y .room)))
+replace-type-requires c κs = let (t, (bs, y)) = c .before .before .before .before .before .before .before .before .before .before .before .before .before .before .before .before .before .before .pre in
+    (y .good, ((t, y .type), ((_, lent (c .before .before .before .before .before .before .before .before .before) t bs y), y .room)))
 
 -- src/inner/quantifying.rt:37:21
 enum-known-out : tie.Need-enum-known-out
@@ -78,8 +79,17 @@ put-bounds-requires : tie.Need-put-bounds-requires
 put-bounds-requires c κs =
     let (t, (bs, y)) = c .before .before .before .before .before .before .before .before .before .before .before .before .before .before .before .before .before .before .before .before .before .before .before .before .before .before .before .before .pre in
     let o = c .before .before .before .if1 .left in
-    let a = c .before .before .before .before .before .before .before .before .before .before .before .before .before .before .before .before .before .before .before .before .before .before .before .before .before .before .before .before .args in
-    ((bs, y .listed), (((handed (now (a .pool)) (now (a .table)) (now (a .names))), lent (c .before .before .before .before .before .before .before .before .before .before .before .before .before .before .before .before .before .before .before) t bs y .tabled), (y .bounds-short, (omega arith, omega (arith, o, y .bounds-short)))))
+    let a = c .before .before .before .before .before .before .before .before .before .before .before .before .before .before .before .before .before .before .before .before .before .before .before .before .before .before .before .before .args in (
+      (bs, y .listed),
+      (
+        (
+          (handed (now (a .pool)) (now (a .table)) (now (a .names))),
+          lent
+              (c .before .before .before .before .before .before .before .before .before .before .before .before .before .before .before .before .before .before .before) t bs y .tabled,
+        ),
+        (y .bounds-short, (omega arith, omega (arith, o, y .bounds-short))),
+      ),
+    )
 
 -- src/inner/quantifying.rt:48:20
 enum-known-k : tie.Need-enum-known-k
@@ -107,7 +117,8 @@ returns-3 c = λ t bs y.
     let l = lent (c .before .before .before .before .before .before .before .before .before .before .before .before .before .before .before .before .before .before .before .before .before .before .before) t bs y in
     let k = came _ _ _ t _ _ _ (c .before .before .before .before .before .before .before .before .before .out .given .1) (c .before .before .before .before .before .before .before .before .before .before .before .before .before .replace-type .ensures t _ (y .type) l) in
     let a = c .before .before .before .before .before .before .before .before .before .before .before .before .before .before .before .before .before .before .before .before .before .before .before .before .before .before .before .before .before .before .before .before .args in
-    all-made _ _ _ _ t bs (y .flat) (now (a .work)) _ _ _ _ k _ _ (y .work-long) (c .before .before .before .before .before .before .before .before .before .before .before .before .before .before .before .before .before .before .before .put-record .ensures) (c .before .before .before .put-bounds .ensures bs (handed (now (a .pool)) (now (a .table)) (now (a .names))) (y .listed) (l .tabled)) (c .if2 .left)
+    all-made _ _ _ _ t bs (y .flat) (now (a .work)) _ _ _ _ k _ _ (y .work-long) (c .before .before .before .before .before .before .before .before .before .before .before .before .before .before .before .before .before .before .before .put-record .ensures)
+    (c .before .before .before .put-bounds .ensures bs (handed (now (a .pool)) (now (a .table)) (now (a .names))) (y .listed) (l .tabled)) (c .if2 .left)
 
 -- src/inner/quantifying.rt:19:1
 same-length-4 : tie.Need-same-length-4

@@ -23,7 +23,8 @@ word c = record { word = λ i. c .before .before .before .before .before .before
 entry : (c : tie.After-rest-checked) →
     let a = c .before .before .before .before .before .before .before .before .before .before .args in
     (entered (now (a .pool)) (now (a .table)) (now (a .words)) (now (a .bounds)) (now (a .names)) (typeGiven (tableOf (now (a .pool)) (now (a .table))) (now (a .words))) opens >> got (tt {0})) ≡ toldChecked (c .rest-checked .result)
-entry c = quantify-checked _ _ _ _ _ (c .before .before .before .if1 .left) (c .before .before .if2 .left) (c .before .before .before .before .before .before .before .before .before .before .pre .0) (word (c .before)) (c .before .is-type .result) (c .rest-checked .result) (c .before .is-type .ensures) (c .rest-checked .ensures)
+entry c = quantify-checked _ _ _ _ _ (c .before .before .before .if1 .left) (c .before .before .if2 .left) (c .before .before .before .before .before .before .before .before .before .before .pre .0)
+    (word (c .before)) (c .before .is-type .result) (c .rest-checked .result) (c .before .is-type .ensures) (c .rest-checked .ensures)
 
 -- what was given, where they are met
 met : (c : tie.After-rest-checked) → toldChecked (c .rest-checked .result) ≡ got tt →
@@ -72,8 +73,10 @@ returns-3 : tie.Need-returns-3
 returns-3 c =
     let w = c .before .before .before .before .before .before in
     let (t, (bs, (e, n))) = met w (ap toldChecked (c .before .before .before .before .enum-told .given .1)) in
-    let y = quantify-ready _ _ _ _ _ (word (w .before)) (now (c .before .before .before .before .before .before .before .before .before .before .before .before .before .before .before .before .args .work)) (c .before .before .before .before .before .before .before .before .before .before .before .before .before .before .before .before .pre .1) t bs n in
-    met-made _ _ _ _ _ _ _ _ _ (quantify-whole _ _ _ _ _) _ _ t bs e (quantify-met _ _ _ _ _ (word (w .before)) (now (c .before .before .before .before .before .before .before .before .before .before .before .before .before .before .before .before .args .work)) (c .before .before .before .before .before .before .before .before .before .before .before .before .before .before .before .before .pre .1) t bs n _ _ (c .before .before .quantify-at .ensures t bs y))
+    let y = quantify-ready _ _ _ _ _ (word (w .before)) (now (c .before .before .before .before .before .before .before .before .before .before .before .before .before .before .before .before .args .work))
+    (c .before .before .before .before .before .before .before .before .before .before .before .before .before .before .before .before .pre .1) t bs n in
+    met-made _ _ _ _ _ _ _ _ _ (quantify-whole _ _ _ _ _) _ _ t bs e (quantify-met _ _ _ _ _ (word (w .before)) (now (c .before .before .before .before .before .before .before .before .before .before .before .before .before .before .before .before .args .work))
+    (c .before .before .before .before .before .before .before .before .before .before .before .before .before .before .before .before .pre .1) t bs n _ _ (c .before .before .quantify-at .ensures t bs y))
 
 -- src/inner/making.rt:19:1
 returns-4 : tie.Need-returns-4
