@@ -1,0 +1,61 @@
+-- `inner::tables::quantify_name` meets its contract. Assumes nothing.
+use mathlib.Core.Path.{ap, _∙_}
+use mathlib.Core.List.{List}
+use Prim.Native.Nat.{ℕ, _+_}
+use lib.ListN.{set}
+use borrow.Author.Needs.{needs}
+use Rattle.handing.proofs.inner.tables.quantify_name.Statement.{statement}
+use Rattle.handing.proofs.inner.tables.quantify_name.Tie as tie
+
+-- src/inner/tables.rt:20:21
+add-put : tie.Need-add-put
+add-put c = search needs
+
+-- src/inner/tables.rt:20:5
+put-requires : tie.Need-put-requires
+put-requires c κs = search needs
+
+-- src/inner/tables.rt:21:17
+add-put-2 : tie.Need-add-put-2
+add-put-2 c = search needs
+
+-- src/inner/tables.rt:21:27
+add-put-3 : tie.Need-add-put-3
+add-put-3 c = search needs
+
+-- src/inner/tables.rt:21:5
+put-requires-2 : tie.Need-put-requires-2
+put-requires-2 c κs = search needs
+
+-- src/inner/tables.rt:22:5
+put-record-requires : tie.Need-put-record-requires
+put-record-requires c κs = search needs
+
+-- src/inner/tables.rt:15:1
+same-length : tie.Need-same-length
+same-length c = search needs
+
+-- src/inner/tables.rt:15:1
+same-length-2 : tie.Need-same-length-2
+same-length-2 c = search needs
+
+-- src/inner/tables.rt:15:1
+returns : tie.Need-returns
+returns c =
+    let a = c .before .before .before .before .before .before .before .before .before .before .before .before .before .before .args in
+    let p = c .before .before .before .before .before .before in
+    (p .put2 .ensures ∙ ap (λ (l : List ℕ). set l (256 + a .x) (a .x + 1)) (p .before .before .before .before .put .ensures), c .before .before .put-record .ensures)
+
+pub quantify-name-spec : {M : Type 1} → statement M
+quantify-name-spec =
+    tie.close
+    (tie.spec
+    add-put
+    put-requires
+    add-put-2
+    add-put-3
+    put-requires-2
+    put-record-requires
+    same-length
+    same-length-2
+    returns)

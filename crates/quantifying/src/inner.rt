@@ -1,0 +1,2 @@
+// Work whose callers know that the lists are well formed and the handed names held.
+pub mod quantifying;

@@ -1,0 +1,2 @@
+// A type and bounds with handed names quantified.
+pub mod inner;

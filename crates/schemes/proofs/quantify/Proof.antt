@@ -1,0 +1,67 @@
+-- `quantify` meets its contract. Assumes nothing.
+use mathlib.Core.Path.{_∙_}
+use denote.Ref.{now}
+use Rattle.lending.specs.Lent.{Long, long, short}
+use Rattle.schemes.specs.Whole.{quantify-short, quantify-called}
+use borrow.Author.Needs.{needs}
+use Rattle.schemes.proofs.quantify.Statement.{statement}
+use Rattle.schemes.proofs.quantify.Tie as tie
+
+-- src/lib.rt:25:9
+lent-requires : tie.Need-lent-requires
+lent-requires c κs = search needs
+
+-- src/lib.rt:26:9
+same-length : tie.Need-same-length
+same-length c = search needs
+
+-- src/lib.rt:26:9
+same-length-2 : tie.Need-same-length-2
+same-length-2 c = search needs
+
+-- src/lib.rt:26:9
+returns : tie.Need-returns
+returns c = quantify-short _ _ _ _ _ _ _ (short _ _ _ _ (c .before .lent .result) (c .before .lent .ensures) (c .if1 .taken))
+
+-- the buffers are long enough
+enough : (c : tie.Else1) →
+    let a = c .before .before .before .before .before .before .before .before .before .before .before .args in
+    Long (now (a .pool)) (now (a .table)) (now (a .result)) (now (a .work))
+enough c = long _ _ _ _ (c .before .lent .result) (c .before .lent .ensures) (c .if1 .left)
+
+-- src/lib.rt:28:9
+make-quantified-requires : tie.Need-make-quantified-requires
+make-quantified-requires c κs = let l = enough (c .before) in (l .table-met, l .work-long)
+
+-- src/lib.rt:29:5
+hand-over-requires : tie.Need-hand-over-requires
+hand-over-requires c κs = let m = c .before .before .before .before in ((_, m .make-quantified .ensures), enough (m .before .before) .result-long)
+
+-- src/lib.rt:14:1
+same-length-3 : tie.Need-same-length-3
+same-length-3 c = search needs
+
+-- src/lib.rt:14:1
+same-length-4 : tie.Need-same-length-4
+same-length-4 c = search needs
+
+-- src/lib.rt:14:1
+returns-2 : tie.Need-returns-2
+returns-2 c =
+    let h = c .before .before .before .before in
+    let m = h .before .before .before .before .before in
+    h .hand-over .ensures _ (m .make-quantified .ensures) ∙ quantify-called _ _ _ _ _ _ _ (m .make-quantified .last .1 .1 .1 .1 .1 .0) (m .make-quantified .kept .1 .1 .1 .1 .1 .0) (enough (m .before .before) .met)
+
+pub quantify-spec : {M : Type 1} → statement M
+quantify-spec =
+    tie.close
+    (tie.spec
+    lent-requires
+    same-length
+    same-length-2
+    returns
+    make-quantified-requires
+    hand-over-requires
+    same-length-3
+    same-length-4
+    returns-2)
