@@ -2,7 +2,7 @@
 use mathlib.Core.Path.{_≡_, sym, _∙_}
 use mathlib.Core.List.{List}
 use Prim.Native.Nat.{ℕ}
-use Rattle.rules.specs.Calls.{quantifyCall}
+use Rattle.rules.specs.Calls.{quantifyCall, instantiateCall}
 use Rattle.lending.specs.Determined.{OneResult, one-result}
 use Rattle.lending.specs.Told.{writtenAs}
 use Rattle.lending.specs.declared.Answer.{Answer}
@@ -10,3 +10,6 @@ use Rattle.lending.specs.declared.Answer.{Answer}
 module _ (pool table result work : List ℕ) (a b : Answer) (result₁ result₂ work₁ work₂ : List ℕ) where
   pub quantify-determined : (type bounds names : List ℕ) → writtenAs a result₁ work₁ ≡ quantifyCall pool table type bounds names result work → writtenAs b result₂ work₂ ≡ quantifyCall pool table type bounds names result work → OneResult a b result₁ result₂ work₁ work₂
   quantify-determined type bounds names h k = one-result a b result₁ result₂ work₁ work₂ (h ∙ sym k)
+
+  pub instantiate-determined : (given names : List ℕ) → writtenAs a result₁ work₁ ≡ instantiateCall pool table given names result work → writtenAs b result₂ work₂ ≡ instantiateCall pool table given names result work → OneResult a b result₁ result₂ work₁ work₂
+  instantiate-determined given names h k = one-result a b result₁ result₂ work₁ work₂ (h ∙ sym k)

@@ -4,3 +4,4 @@ pub mod Determined
 pub mod Generalised
 pub mod GivenScheme
 pub mod Wholes
+pub mod Instantiated

@@ -1,13 +1,14 @@
 // The public calls on schemes.
 pub mod inner;
 
+use inner::instantiated::make_instantiated;
 use inner::making::make_quantified;
 use lending::Answer;
 use lending::inner::hand_over;
 use lending::lent;
 use rules::Refusal;
 ghost use mathlib.Core.Path.{_≡_};
-ghost use Rattle.rules.specs.Calls.{quantifyCall};
+ghost use Rattle.rules.specs.Calls.{quantifyCall, instantiateCall};
 ghost use Rattle.lending.specs.Told.{writtenAs};
 
 // The type and bounds with the handed names quantified, as a scheme in the result buffer; the work buffer is left all zero.
@@ -26,5 +27,23 @@ pub fn quantify(
         return Answer::Refused(Refusal::ShortBuffer);
     }
     let made = make_quantified(pool, table, words, bounds, names, work);
+    hand_over(made, result, work)
+}
+
+// The type and bounds of a scheme with the handed names put back, in the result buffer; the work buffer is left all zero.
+pub fn instantiate(
+    pool: &[u8],
+    table: &[u32],
+    given: &[u32],
+    names: &[u32],
+    result: &mut [u32],
+    work: &mut [u32],
+) -> Answer
+    ensures { λ r. ⌜ writtenAs r (now (result .exit)) (now (work .exit)) ≡ instantiateCall (now (pool .entry)) (now (table .entry)) (now (given .entry)) (now (names .entry)) (now (result .entry)) (now (work .entry)) ⌝ }
+{
+    if !lent(pool, table, result, work) {
+        return Answer::Refused(Refusal::ShortBuffer);
+    }
+    let made = make_instantiated(pool, table, given, names, work);
     hand_over(made, result, work)
 }
