@@ -5,8 +5,8 @@ use mathlib.Core.List.{List, _++_, map}
 use Prim.Native.Nat.{ℕ, _+_, _*_, _≤_, _<_}
 use native.Mathlib.Omega.{arith}
 use lib.Dec.{eqb}
-use borrow.Author.Tests.{eqb-true, eqb-false, eq-eqb, ne-eqb}
-use lib.ListN.{length, getD, replicate, length-append, length-map, length-replicate}
+use borrow.Author.Tests.{eq-eqb, ne-eqb}
+use lib.ListN.{length, getD, replicate, length-append, length-map}
 use lib.Seq.{sets}
 use Rattle.rules.specs.Base.{Got, got, refused, _>>=_, _>>_, need, bounded}
 use Rattle.rules.specs.Names.{tableOf, isHeld}
@@ -27,7 +27,7 @@ use Rattle.records.specs.Holds.{Shows}
 use Rattle.records.specs.Views.{viewAt, from}
 use Rattle.records.specs.declared.View.{View}
 use Rattle.records.specs.declared.View.the-variants as view
-use Rattle.replacing.specs.Left.{Left, Room}
+use Rattle.replacing.specs.Left.{Left}
 use Rattle.replacing.specs.Well.{names as numbers, GoodTy, HeldType, Lent}
 use Rattle.replacing.specs.Written.{ty-fits}
 use Rattle.replacing.specs.declared.inner.walk.Went.{Went}
@@ -39,6 +39,11 @@ use Rattle.handing.specs.Back.{back-lent, own-lent}
 use Rattle.handing.specs.Bounds.{allBounds, BoundsAt, PutAll}
 use Rattle.handing.specs.Tables.{backPlaces, ownPlaces, ownTypes}
 use Rattle.quantifying.specs.Core.{made-refused, made-records, written-after}
+
+-- the head of a scheme
+abbrev pub headOf : Scheme ℕ → View
+headOf (concrete t) = view.Concrete
+headOf (scheme n t bs) = view.Scheme n
 
 module _ (pool table names : List ℕ) where
   -- quantified variables put back, then each held variable read by itself
@@ -77,11 +82,6 @@ module _ (pool table names : List ℕ) where
     pub work-long : 16384 ≤ length work
     pub slim : (u : Ty ℕ) → putType t ≡ got u → Slim bs u
 
-  -- the head of a scheme
-  abbrev pub headOf : Scheme ℕ → View
-  headOf (concrete t) = view.Concrete
-  headOf (scheme n t bs) = view.Scheme n
-
   pub record ReadyScheme (s work : List ℕ) (sc : Scheme ℕ) : Type 0 where
     pub head : Shows s 0 (headOf sc)
     pub rest : (n : ℕ) (t : Ty ℕ) (bs : List (Open ℕ)) → sc ≡ scheme n t bs → n ≡ length names → Ready s work t bs
@@ -92,10 +92,12 @@ module _ (pool table names : List ℕ) (n : ℕ) (good : Good pool table) (e : n
   few : getD table 0 0 ≤ 256
   few = good-laid good .few
 
-  pub back-tables : (p v : List ℕ) → All (λ x. x < getD table 0 0) names → length names ≤ 2048 → p ≡ backPlaces 0 names (replicate 2560 0) → v ≡ ownTypes n (replicate 1024 0) → Lent pool table p v (renamed (back names))
+  pub back-tables : (p v : List ℕ) → All (λ x. x < getD table 0 0) names → length names ≤ 2048
+      → p ≡ backPlaces 0 names (replicate 2560 0) → v ≡ ownTypes n (replicate 1024 0) → Lent pool table p v (renamed (back names))
   back-tables p v known short a b = rw (a, b, e) (back-lent pool table few names known short)
 
-  pub own-tables : (p v : List ℕ) → p ≡ ownPlaces n (replicate 256 0) → v ≡ ownTypes n (replicate 1024 0) → Lent pool table p v (renamed (own (isHeld (tableOf pool table))))
+  pub own-tables : (p v : List ℕ) → p ≡ ownPlaces n (replicate 256 0) → v ≡ ownTypes n (replicate 1024 0)
+      → Lent pool table p v (renamed (own (isHeld (tableOf pool table))))
   own-tables p v a b = rw (a, b, e) (own-lent pool table few)
 
 -- ══ What a walk from the start of a buffer leaves ══
@@ -123,8 +125,12 @@ module _ (d d′ : List ℕ) (nx : ℕ) (R : Got (Ty ℕ)) where
   stopped {x} {k} i left = go R refl (subst (λ (y : Went). Left size writeTy d d′ nx 0 y R) i left)
     where
       go : (Q : Got (Ty ℕ)) → R ≡ Q → Left size writeTy d d′ nx 0 (Stop k) R → R ≡ refused (numberOf k)
-      go (got u) e l = absurd (let s = subst (λ (Q : Got (Ty ℕ)). Left size writeTy d d′ nx 0 (Stop k) Q) e l .says in let p = s .0 in let z : _≡_ {A = ℕ} 0 1 = cc in omega arith)
-      go (refused j) e l = let s : numberOf k ≡ j = subst (λ (Q : Got (Ty ℕ)). Left size writeTy d d′ nx 0 (Stop k) Q) e l .says in e ∙ ap refused (sym s)
+      go (got u) e l = absurd (
+          let s = subst (λ (Q : Got (Ty ℕ)). Left size writeTy d d′ nx 0 (Stop k) Q) e l .says in
+          let p = s .0 in let z : _≡_ {A = ℕ} 0 1 = cc in omega arith)
+      go (refused j) e l =
+          let s : numberOf k ≡ j = subst (λ (Q : Got (Ty ℕ)). Left size writeTy d d′ nx 0 (Stop k) Q) e l .says in
+          e ∙ ap refused (sym s)
 
 -- ══ The answers ══
 
@@ -181,22 +187,28 @@ module _ (pool table names s work : List ℕ) (sc : Scheme ℕ) (y : ReadyScheme
   counts n v = go sc refl
     where
       go : (x : Scheme ℕ) → sc ≡ x → Counts n
-      go (concrete t) e = absurd (let z : view.Concrete ≡ view.Scheme n = sym (ap (headOf pool table names) e) ∙ sym (y .head) ∙ v in let x : _≡_ {A = ℕ} 0 1 = cc in omega arith)
+      go (concrete t) e = absurd (
+          let z : view.Concrete ≡ view.Scheme n = sym (ap (headOf) e) ∙ sym (y .head) ∙ v in
+          let x : _≡_ {A = ℕ} 0 1 = cc in
+          omega arith)
       go (scheme m t bs) e =
-          let z : view.Scheme m ≡ view.Scheme n = sym (ap (headOf pool table names) e) ∙ sym (y .head) ∙ v in
+          let z : view.Scheme m ≡ view.Scheme n = sym (ap (headOf) e) ∙ sym (y .head) ∙ v in
           let k : m ≡ n = cc in
           record { type = t; bounds = bs; is = e ∙ ap (λ (i : ℕ). scheme i t bs) k }
 
-  pub other-refused : (w : List ℕ) → ((n : ℕ) → viewAt s 0 ≡ view.Scheme n → ⊥) → Made (instantiatedAs pool table names sc) w (Refused WrongCount)
+  pub other-refused : (w : List ℕ) → ((n : ℕ) → viewAt s 0 ≡ view.Scheme n → ⊥)
+      → Made (instantiatedAs pool table names sc) w (Refused WrongCount)
   other-refused w f = go sc refl
     where
       go : (x : Scheme ℕ) → sc ≡ x → Made (instantiatedAs pool table names sc) w (Refused WrongCount)
       go (concrete t) e = made-refused (instantiatedAs pool table names sc) WrongCount w (ap (instantiatedAs pool table names) e)
-      go (scheme m t bs) e = absurd (f m (y .head ∙ ap (headOf pool table names) e))
+      go (scheme m t bs) e = absurd (f m (y .head ∙ ap (headOf) e))
 
   module _ (n : ℕ) (c : Counts n) where
     pub wrong-count : (w : List ℕ) → (n ≡ length names → ⊥) → Made (instantiatedAs pool table names sc) w (Refused WrongCount)
-    wrong-count w f = made-refused (instantiatedAs pool table names sc) WrongCount w (ap (instantiatedAs pool table names) (c .is) ∙ rw (ne-eqb n (length names) f))
+    wrong-count w f = made-refused (instantiatedAs pool table names sc) WrongCount w (ap (instantiatedAs pool table names) (c .is)
+        ∙ rw (ne-eqb n (length names) f))
 
-    pub right-count : (w : List ℕ) (r : Answer) → n ≡ length names → Made (putBackAs pool table names (c .type) (c .bounds)) w r → Made (instantiatedAs pool table names sc) w r
+    pub right-count : (w : List ℕ) (r : Answer) → n ≡ length names
+        → Made (putBackAs pool table names (c .type) (c .bounds)) w r → Made (instantiatedAs pool table names sc) w r
     right-count w r e m = subst (λ (x : Got (List Rec)). Made x w r) (sym (ap (instantiatedAs pool table names) (c .is) ∙ rw (eq-eqb n (length names) e))) m

@@ -53,7 +53,8 @@ withBounds cs w = got (w, cs)
 abbrev writes : Ty ℕ × List (tree.Open ℕ) → Got (List Rec)
 writes r = got (writeTy (r .0) ++ map writeBound (r .1))
 
-written-out : (R : Got (Ty ℕ)) (f : Ty ℕ → Got (Ty ℕ)) (cs : List (tree.Open ℕ)) → (R >>= λ u. f u >>= λ w. got (writeTy w ++ map writeBound cs)) ≡ ((R >>= λ u. f u >>= withBounds cs) >>= writes)
+written-out : (R : Got (Ty ℕ)) (f : Ty ℕ → Got (Ty ℕ)) (cs : List (tree.Open ℕ))
+    → (R >>= λ u. f u >>= λ w. got (writeTy w ++ map writeBound cs)) ≡ ((R >>= λ u. f u >>= withBounds cs) >>= writes)
 written-out (refused k) f cs = refl
 written-out (got u) f cs = go (f u)
   where
@@ -63,7 +64,8 @@ written-out (got u) f cs = go (f u)
 
 -- ══ A scheme that was given ══
 
-module _ (pool table s names : List ℕ) (w : Words32 s) (sc : Scheme ℕ) (none : List (tree.Open ℕ)) (n : Entered pool table s [] names (schemeGiven (tableOf pool table) s) opensScheme sc none) where
+module _ (pool table s names : List ℕ) (w : Words32 s) (sc : Scheme ℕ) (none : List (tree.Open ℕ))
+    (n : Entered pool table s [] names (schemeGiven (tableOf pool table) s) opensScheme sc none) where
   abbrev ν : Names ℕ
   ν = numbersOf (tableOf pool table)
 
@@ -93,8 +95,10 @@ module _ (pool table s names : List ℕ) (w : Words32 s) (sc : Scheme ℕ) (none
     short : size t + length bs ≤ 2047
     short = let m = bounds-many s bs (1 + size t) behind in let k = n .words-short in omega arith
 
-    backed : (u : Ty ℕ) → replaceTy ν bounded (renamed (back names)) t ≡ got u → Back ν (law pool table) held 4_294_967_296 (tells pool table 4_294_967_296 (n .good)) names known few t bs (type-good .good) (omega (arith, short)) (type-good .deep) u
-    backed u e = put-back ν (law pool table) held 4_294_967_296 (tells pool table 4_294_967_296 (n .good)) names known few t bs (type-good .good) (omega (arith, short)) (type-good .deep) u e
+    backed : (u : Ty ℕ) → replaceTy ν bounded (renamed (back names)) t ≡ got u
+        → Back ν (law pool table) held 4_294_967_296 (tells pool table 4_294_967_296 (n .good)) names known few t bs (type-good .good) (omega (arith, short)) (type-good .deep) u
+    backed u e =
+        put-back ν (law pool table) held 4_294_967_296 (tells pool table 4_294_967_296 (n .good)) names known few t bs (type-good .good) (omega (arith, short)) (type-good .deep) u e
 
     slim : (u : Ty ℕ) → replaceTy ν bounded (renamed (back names)) t ≡ got u → Slim pool table names bs u
     slim u e =
@@ -125,13 +129,14 @@ module _ (pool table s names : List ℕ) (w : Words32 s) (sc : Scheme ℕ) (none
     -- two walks and the bounds are what instantiating says
     put-made : putBackAs pool table names t bs ≡ (putBack ν bounded names t bs >>= λ r. got (writeTy (r .0) ++ map writeBound (r .1)))
     put-made =
-        rw (all-renamed (back names) bs, put-back-twice ν (law pool table) held 4_294_967_296 (tells pool table 4_294_967_296 (n .good)) names known few t bs (type-good .good) (omega (arith, short)) (type-good .deep))
+        let p = put-back-twice ν (law pool table) held 4_294_967_296 (tells pool table 4_294_967_296 (n .good)) names known few t bs (type-good .good) (omega (arith, short)) (type-good .deep) in
+        rw (all-renamed (back names) bs, p)
         (written-out (replaceTy ν bounded (renamed (back names)) t) (λ u. replaceTy ν bounded (renamed (own held)) u) (renamedBounds (back names) bs))
 
   pub instantiate-ready : (work : List ℕ) → 16384 ≤ length work → ReadyScheme pool table names s work sc
   instantiate-ready work room = record { head = go sc its; rest = λ m t bs e h. ready t bs (e ∙ ap (λ (i : ℕ). scheme i t bs) h) work room }
     where
-      go : (x : Scheme ℕ) → GoodScheme pool table s x → Shows s 0 (headOf pool table names x)
+      go : (x : Scheme ℕ) → GoodScheme pool table s x → Shows s 0 (headOf x)
       go (concrete t) (v, g) = v
       go (scheme m t bs) (v, g) = v
 
@@ -143,20 +148,26 @@ module _ (pool table s names : List ℕ) (w : Words32 s) (sc : Scheme ℕ) (none
       go (concrete t) e = refl
       go (scheme m t bs) e = more (eqb m (length names)) refl
         where
-          more : (b : Bool) → eqb m (length names) ≡ b → (need b 9 >> putBackAs pool table names t bs) ≡ ((need b 9 >> putBack ν bounded names t bs) >>= λ r. got (writeTy (r .0) ++ map writeBound (r .1)))
+          more : (b : Bool) → eqb m (length names) ≡ b
+              → (need b 9 >> putBackAs pool table names t bs) ≡ ((need b 9 >> putBack ν bounded names t bs) >>= λ r. got (writeTy (r .0) ++ map writeBound (r .1)))
           more true h = put-made t bs (e ∙ ap (λ (i : ℕ). scheme i t bs) (eqb-true m (length names) h))
           more false h = refl
 
-  pub instantiate-met : (w′ : List ℕ) (r : Answer) → Made (instantiatedAs pool table names sc) w′ r → Made (instantiatedFrom pool table s names sc none) w′ r
+  pub instantiate-met : (w′ : List ℕ) (r : Answer) → Made (instantiatedAs pool table names sc) w′ r
+      → Made (instantiatedFrom pool table s names sc none) w′ r
   instantiate-met w′ r k = subst (λ (m : Got (List Rec)). Made m w′ r) instantiate-made k
 
 -- ══ The call ══
 
 module _ (pool table result work s names : List ℕ) where
-  pub instantiate-short : lent pool table result work ≡ refused 10 → record { answer = refused 10; result = result; work = work } ≡ instantiateCall pool table s names result work
+  pub instantiate-short : lent pool table result work ≡ refused 10
+      → record { answer = refused 10; result = result; work = work } ≡ instantiateCall pool table s names result work
   unfolding instantiateCall
   instantiate-short e = unwritten (lent pool table result work) (instantiated (tableOf pool table) s names) result work e
 
-  pub instantiate-called : (w : List ℕ) → length w ≡ length work → lent pool table result work ≡ got tt → handed (instantiated (tableOf pool table) s names) result w ≡ instantiateCall pool table s names result work
+  pub instantiate-called : (w : List ℕ) → length w ≡ length work → lent pool table result work ≡ got tt
+      → handed (instantiated (tableOf pool table) s names) result w ≡ instantiateCall pool table s names result work
   unfolding instantiateCall
-  instantiate-called w n e = handed-on pool table result work (instantiated (tableOf pool table) s names) w n ∙ as-written (lent pool table result work) (instantiated (tableOf pool table) s names) result work e
+  instantiate-called w n e =
+      handed-on pool table result work (instantiated (tableOf pool table) s names) w n
+      ∙ as-written (lent pool table result work) (instantiated (tableOf pool table) s names) result work e

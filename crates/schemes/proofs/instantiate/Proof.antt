@@ -47,7 +47,10 @@ same-length-4 c = search needs
 
 -- src/lib.rt:34:1
 returns-2 : tie.Need-returns-2
-returns-2 c = c .before .before .before .before .hand-over .ensures _ (c .before .before .before .before .before .before .before .before .before .make-instantiated .ensures) ∙ instantiate-called _ _ _ _ _ _ (c .before .before .before .before .before .before .before .before .before .make-instantiated .last .1 .1 .1 .1 .0) (c .before .before .before .before .before .before .before .before .before .make-instantiated .kept .1 .1 .1 .1 .0) (enough (c .before .before .before .before .before .before .before .before .before .before .before) .met)
+returns-2 c =
+    let m = (c .before .before .before .before .before .before .before .before .before) in
+    c .before .before .before .before .hand-over .ensures _ (m .make-instantiated .ensures)
+    ∙ instantiate-called _ _ _ _ _ _ (m .make-instantiated .last .1 .1 .1 .1 .0) (m .make-instantiated .kept .1 .1 .1 .1 .0) (enough (m .before .before) .met)
 
 pub instantiate-spec : {M : Type 1} → statement M
 instantiate-spec =

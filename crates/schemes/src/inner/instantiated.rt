@@ -30,7 +30,14 @@ pub fn make_instantiated(
         return Answer::Refused(Refusal::TooLarge);
     }
     let none = [0u32; 0];
-    match rest_checked(is_scheme(pool, table, given), pool, table, given, &none, names) {
+    match rest_checked(
+        is_scheme(pool, table, given),
+        pool,
+        table,
+        given,
+        &none,
+        names,
+    ) {
         Checked::Good => instantiate_scheme(pool, table, given, names, work),
         Checked::Refused(r) => Answer::Refused(r),
     }

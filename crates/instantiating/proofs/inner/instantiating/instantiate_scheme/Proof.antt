@@ -10,8 +10,6 @@ use Rattle.instantiating.proofs.inner.instantiating.instantiate_scheme.
 }
 use Rattle.instantiating.proofs.inner.instantiating.instantiate_scheme.Tie as tie
 
-
-
 -- src/inner/instantiating.rt:51:11
 view-at-requires : tie.Need-view-at-requires
 view-at-requires c κs = search needs
@@ -26,7 +24,10 @@ cast-if1 c = search needs
 
 -- src/inner/instantiating.rt:54:17
 put-back-requires : tie.Need-put-back-requires
-put-back-requires c κs = let (sc, y) = c .before .before .before .before .before .before .before .before .before .before .before .pre in let k = counts _ _ _ _ _ sc y _ (sym (c .before .before .before .before .before .view-at .ensures) ∙ c .before .before .before .n .given .1) in (_, (_, y .rest _ _ _ (k .is) (c .before .if1 .taken)))
+put-back-requires c κs =
+    let (sc, y) = c .before .before .before .before .before .before .before .before .before .before .before .pre in
+    let k = counts _ _ _ _ _ sc y _ (sym (c .before .before .before .before .before .view-at .ensures) ∙ c .before .before .before .n .given .1) in
+    (_, (_, y .rest _ _ _ (k .is) (c .before .if1 .taken)))
 
 -- src/inner/instantiating.rt:41:1
 same-length : tie.Need-same-length
@@ -34,7 +35,9 @@ same-length c = search needs
 
 -- src/inner/instantiating.rt:41:1
 returns : tie.Need-returns
-returns c = λ sc y. let k = counts _ _ _ _ _ sc y _ (sym (c .before .before .before .before .before .before .before .before .view-at .ensures) ∙ c .before .before .before .before .before .before .n .given .1) in right-count _ _ _ _ _ sc y _ k _ _ (c .before .before .before .before .if1 .taken) (c .before .before .put-back .ensures _ _ (y .rest _ _ _ (k .is) (c .before .before .before .before .if1 .taken)))
+returns c = λ sc y.
+    let k = counts _ _ _ _ _ sc y _ (sym (c .before .before .before .before .before .before .before .before .view-at .ensures) ∙ c .before .before .before .before .before .before .n .given .1) in
+    right-count _ _ _ _ _ sc y _ k _ _ (c .before .before .before .before .if1 .taken) (c .before .before .put-back .ensures _ _ (y .rest _ _ _ (k .is) (c .before .before .before .before .if1 .taken)))
 
 -- src/inner/instantiating.rt:41:1
 returns-2 : tie.Need-returns-2

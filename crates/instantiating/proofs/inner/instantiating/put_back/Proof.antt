@@ -1,7 +1,7 @@
 -- `inner::instantiating::put_back` meets its contract. Assumes nothing.
 use mathlib.Core.Path.{sym, subst}
 use mathlib.Core.List.{List}
-use Prim.Native.Nat.{ℕ, _+_}
+use Prim.Native.Nat.{ℕ, _+_, _≤_}
 use native.Mathlib.Omega.{arith}
 use denote.Ref.{now}
 use lib.ListN.{length, replicate, length-replicate}
@@ -10,7 +10,7 @@ use Rattle.rules.specs.Schemes.{renamed, back}
 use Rattle.rules.specs.Trees.{Ty, Open, size}
 use Rattle.laws.specs.NameTable.{good-laid}
 use Rattle.renaming.specs.Own.{own}
-use Rattle.replacing.specs.Well.{Lent}
+use Rattle.replacing.specs.Well.{HeldType, Lent}
 use Rattle.handing.specs.Bounds.{BoundsAt}
 use Rattle.quantifying.specs.Ready.{at-in}
 use Rattle.instantiating.specs.Ready.{putType, readType, Ready, back-tables, own-tables, Came, came, stopped, first-stopped, first-held, second-stopped, few-out, all-made}
@@ -29,18 +29,38 @@ owns : (c : tie.After-keep-names) (t : Ty ℕ) (bs : List (Open ℕ)) →
     Ready (now (a .pool)) (now (a .table)) (now (a .names)) (now (a .s)) (now (a .work)) t bs → Lent (now (a .pool)) (now (a .table)) (c .keep-names .last .1 .0) (c .keep-names .last .1 .1 .0) (renamed (own (isHeld (tableOf (now (a .pool)) (now (a .table))))))
 owns c t bs y = own-tables _ _ (now (c .before .before .before .before .before .before .before .before .before .before .before .before .args .names)) _ (y .good) (c .before .before .before .count .ensures) _ _ (c .keep-names .ensures .0) (c .keep-names .ensures .1)
 
+-- the list between the walks
+long : 8192 ≤ length (replicate {A = ℕ} 8192 0)
+long = let l = length-replicate {A = ℕ} 8192 0 in omega arith
+
 -- what the first walk left
 once : (c : tie.After-at) (t : Ty ℕ) (bs : List (Open ℕ)) →
     let a = c .before .before .before .before .before .before .before .before .before .before .before .before .before .before .before .before .before .before .before .before .before .args in
-    Ready (now (a .pool)) (now (a .table)) (now (a .names)) (now (a .s)) (now (a .work)) t bs → Came (replicate 8192 0) (c .before .before .before .replace-type .last .1 .1 .1 .1 .1 .1 .0) (1 + size t) (putType (now (a .pool)) (now (a .table)) (now (a .names)) t) (c .at .given .0 .0) (c .at .given .0 .1 .0)
+    Ready (now (a .pool)) (now (a .table)) (now (a .names)) (now (a .s)) (now (a .work)) t bs → Came (replicate 8192 0) (c .before .before .before .replace-type .last .1 .1 .1 .1 .1 .1 .0) (1 + size t)
+    (putType (now (a .pool)) (now (a .table)) (now (a .names)) t) (c .at .given .0 .0) (c .at .given .0 .1 .0)
 once c t bs y = came _ _ _ _ (c .at .given .1) (c .before .before .before .replace-type .ensures t _ (y .type) (backs (c .before .before .before .before .before .before .before .before .before) t bs y))
 
--- and the second
+again : (c : tie.After-at) (t : Ty ℕ) (bs : List (Open ℕ)) →
+    let a = c .before .before .before .before .before .before .before .before .before .before .before .before .before .before .before .before .before .before .before .before .before .args in
+    (y : Ready (now (a .pool)) (now (a .table)) (now (a .names)) (now (a .s)) (now (a .work)) t bs) →
+    HeldType (now (a .pool)) (now (a .table)) (c .before .before .before .replace-type .last .1 .1 .1 .1 .1 .1 .0) (once c t bs y .value) 0
+again c t bs y = first-held _ _ _ _ _ t bs y _ _ _ _ _ long (once c t bs y)
+
+-- it stopped reading where the bounds begin
+place : (c : tie.After-at) (t : Ty ℕ) (bs : List (Open ℕ)) →
+    let a = c .before .before .before .before .before .before .before .before .before .before .before .before .before .before .before .before .before .before .before .before .before .args in
+    Ready (now (a .pool)) (now (a .table)) (now (a .names)) (now (a .s)) (now (a .work)) t bs → BoundsAt (now (a .s)) bs (c .at .given .0 .0)
+place c t bs y = subst (BoundsAt _ bs) (sym (once c t bs y .next)) (y .listed)
+
+-- what the second walk left
 twice : (c : tie.After-out) (t : Ty ℕ) (bs : List (Open ℕ)) →
     let a = c .before .before .before .before .before .before .before .before .before .before .before .before .before .before .before .before .before .before .before .before .before .before .before .before .before .before .before .before .before .before .before .args in
     (y : Ready (now (a .pool)) (now (a .table)) (now (a .names)) (now (a .s)) (now (a .work)) t bs) → let u = once (c .before .before .before .before .before .before .before .before .before .before) t bs y .value in
     Came (now (a .work)) (c .before .before .before .before .replace-type2 .last .1 .1 .1 .1 .1 .1 .0) (0 + size u) (readType (now (a .pool)) (now (a .table)) (now (a .names)) u) (c .out .given .0 .0) (c .out .given .0 .1 .0)
-twice c t bs y = came _ _ _ _ (c .out .given .1) (c .before .before .before .before .replace-type2 .ensures _ _ (first-held _ _ _ _ _ t bs y _ _ _ _ _ (let l = length-replicate {A = ℕ} 8192 0 in omega arith) (once (c .before .before .before .before .before .before .before .before .before .before) t bs y)) (owns (c .before .before .before .before .before .before .before .before .before .before .before .before .before .before .before .before .before .before .before) t bs y))
+twice c t bs y =
+    let f = (c .before .before .before .before .before .before .before .before .before .before) in
+    let k = f .before .before .before .before .before .before .before .before .before in
+    came _ _ _ _ (c .out .given .1) (c .before .before .before .before .replace-type2 .ensures _ _ (again f t bs y) (owns k t bs y))
 
 -- src/inner/instantiating.rt:28:27
 slice-aggregate-put-names-back : tie.Need-slice-aggregate-put-names-back
@@ -80,7 +100,10 @@ slice-aggregate-replace-type-3 c = search needs
 
 -- src/inner/instantiating.rt:31:11
 replace-type-requires : tie.Need-replace-type-requires
-replace-type-requires c κs = let (t, (bs, y)) = c .before .before .before .before .before .before .before .before .before .before .before .before .before .before .before .before .before .pre in (y .good, ((t, y .type), ((_, backs (c .before .before .before .before .before) t bs y), record { near = omega (arith, y .short); small = omega (arith, y .short) })))
+replace-type-requires c κs =
+    let k = (c .before .before .before .before .before) in
+    let (t, (bs, y)) = k .before .before .before .before .before .before .before .before .before .before .before .before .pre in
+    (y .good, ((t, y .type), ((_, backs k t bs y), record { near = omega (arith, y .short); small = omega (arith, y .short) })))
 
 -- src/inner/instantiating.rt:32:18
 enum-known-at : tie.Need-enum-known-at
@@ -100,10 +123,13 @@ slice-aggregate-replace-type-6 c = search needs
 
 -- src/inner/instantiating.rt:32:34
 replace-type-requires-2 : tie.Need-replace-type-requires-2
-replace-type-requires-2 c κs = let (t, (bs, y)) = c .before .before .before .before .before .before .before .before .before .before .before .before .before .before .before .before .before .before .before .before .before .before .before .before .before .before .pre in let k = once (c .before .before .before .before .before) t bs y in
-    let l = c .before .before .before .before .before .before .before .before .replace-type .kept .1 .1 .1 .1 .1 .1 .0 in
+replace-type-requires-2 c κs =
+    let f = (c .before .before .before .before .before) in
+    let k = f .before .before .before .before .before .before .before .before .before in
+    let (t, (bs, y)) = k .before .before .before .before .before .before .before .before .before .before .before .before .pre in
+    let l = f .before .before .before .replace-type .kept .1 .1 .1 .1 .1 .1 .0 in
     let m = length-replicate {A = ℕ} 8192 0 in
-    (y .good, ((_, first-held _ _ _ _ _ t bs y _ _ _ _ _ (let l = length-replicate {A = ℕ} 8192 0 in omega arith) k), ((_, owns (c .before .before .before .before .before .before .before .before .before .before .before .before .before .before) t bs y), record { near = omega (arith, l, m); small = omega (arith, l, m) })))
+    (y .good, ((_, again f t bs y), ((_, owns k t bs y), record { near = omega (arith, l, m); small = omega (arith, l, m) })))
 
 -- src/inner/instantiating.rt:33:25
 enum-known-out : tie.Need-enum-known-out
@@ -119,9 +145,14 @@ slice-aggregate-put-bounds-2 c = search needs
 
 -- src/inner/instantiating.rt:33:49
 put-bounds-requires : tie.Need-put-bounds-requires
-put-bounds-requires c κs = let (t, (bs, y)) = c .before .before .before .before .before .before .before .before .before .before .before .before .before .before .before .before .before .before .before .before .before .before .before .before .before .before .before .before .before .before .before .before .before .before .before .pre in let k = once (c .before .before .before .before .before .before .before .before .before .before .before .before .before .before) t bs y in
-    let f = few-out _ _ _ _ _ t bs y _ _ _ _ _ (let l = length-replicate {A = ℕ} 8192 0 in omega arith) k _ _ _ _ (twice (c .before .before .before .before) t bs y) in
-    ((bs, subst (BoundsAt (now (c .before .before .before .before .before .before .before .before .before .before .before .before .before .before .before .before .before .before .before .before .before .before .before .before .before .before .before .before .before .before .before .before .before .before .before .args .s)) bs) (sym (k .next)) (y .listed)), ((back (now (c .before .before .before .before .before .before .before .before .before .before .before .before .before .before .before .before .before .before .before .before .before .before .before .before .before .before .before .before .before .before .before .before .before .before .before .args .names)), backs (c .before .before .before .before .before .before .before .before .before .before .before .before .before .before .before .before .before .before .before .before .before .before .before) t bs y .tabled), (y .short, (omega (arith, k .next, y .inside), omega (arith, f, y .short)))))
+put-bounds-requires c κs =
+    let o = (c .before .before .before .before) in
+    let f = o .before .before .before .before .before .before .before .before .before .before in
+    let k = f .before .before .before .before .before .before .before .before .before in
+    let (t, (bs, y)) = k .before .before .before .before .before .before .before .before .before .before .before .before .pre in
+    let n = once f t bs y in
+    let m = few-out _ _ _ _ _ t bs y _ _ _ _ _ long n _ _ _ _ (twice o t bs y) in
+    ((bs, place f t bs y), ((back (now (k .before .before .before .before .before .before .before .before .before .before .before .before .args .names)), backs k t bs y .tabled), (y .short, (omega (arith, n .next, y .inside), omega (arith, m, y .short)))))
 
 -- src/inner/instantiating.rt:34:24
 enum-known-k : tie.Need-enum-known-k
@@ -137,8 +168,13 @@ same-length c = search needs
 
 -- src/inner/instantiating.rt:21:1
 returns : tie.Need-returns
-returns c = λ t bs y. let k = once (c .before .before .before .before .before .before .before .before .before .before .before .before .before .before .before .before .before) t bs y in
-    all-made _ _ _ _ _ t bs y _ _ _ _ _ (let l = length-replicate {A = ℕ} 8192 0 in omega arith) k _ _ _ _ (twice (c .before .before .before .before .before .before .before) t bs y) _ _ (c .before .before .put-bounds .ensures bs (back (now (c .before .before .before .before .before .before .before .before .before .before .before .before .before .before .before .before .before .before .before .before .before .before .before .before .before .before .before .before .before .before .before .before .before .before .before .before .before .before .args .names))) (subst (BoundsAt (now (c .before .before .before .before .before .before .before .before .before .before .before .before .before .before .before .before .before .before .before .before .before .before .before .before .before .before .before .before .before .before .before .before .before .before .before .before .before .before .args .s)) bs) (sym (k .next)) (y .listed)) (backs (c .before .before .before .before .before .before .before .before .before .before .before .before .before .before .before .before .before .before .before .before .before .before .before .before .before .before) t bs y .tabled))
+returns c = λ t bs y.
+    let o = (c .before .before .before .before .before .before .before) in
+    let f = o .before .before .before .before .before .before .before .before .before .before in
+    let k = f .before .before .before .before .before .before .before .before .before in
+    let names = now (k .before .before .before .before .before .before .before .before .before .before .before .before .args .names) in
+    all-made _ _ _ _ _ t bs y _ _ _ _ _ long (once f t bs y) _ _ _ _ (twice o t bs y) _ _
+    (c .before .before .put-bounds .ensures bs (back names) (place f t bs y) (backs k t bs y .tabled))
 
 -- src/inner/instantiating.rt:21:1
 same-length-2 : tie.Need-same-length-2
@@ -146,12 +182,17 @@ same-length-2 c = search needs
 
 -- src/inner/instantiating.rt:21:1
 returns-2 : tie.Need-returns-2
-returns-2 c = λ t bs y. let k = once (c .before .before .before .before .before .before .before .before .before .before .before) t bs y in
-    second-stopped _ _ _ _ _ t bs y _ _ _ _ _ (let l = length-replicate {A = ℕ} 8192 0 in omega arith) k _ _ (stopped _ _ _ _ (c .before .k .given .1) (c .before .before .before .before .before .replace-type2 .ensures _ _ (first-held _ _ _ _ _ t bs y _ _ _ _ _ (let l = length-replicate {A = ℕ} 8192 0 in omega arith) k) (owns (c .before .before .before .before .before .before .before .before .before .before .before .before .before .before .before .before .before .before .before .before) t bs y)))
+returns-2 c = λ t bs y.
+    let f = (c .before .before .before .before .before .before .before .before .before .before .before) in
+    let k = f .before .before .before .before .before .before .before .before .before in
+    second-stopped _ _ _ _ _ t bs y _ _ _ _ _ long (once f t bs y) _ _
+    (stopped _ _ _ _ (c .before .k .given .1) (c .before .before .before .before .before .replace-type2 .ensures _ _ (again f t bs y) (owns k t bs y)))
 
 -- src/inner/instantiating.rt:21:1
 returns-3 : tie.Need-returns-3
-returns-3 c = λ t bs y. first-stopped _ _ _ _ _ t bs y _ _ (stopped _ _ _ _ (c .before .k2 .given .1) (c .before .before .before .before .replace-type .ensures t _ (y .type) (backs (c .before .before .before .before .before .before .before .before .before .before) t bs y)))
+returns-3 c = λ t bs y.
+    let k = (c .before .before .before .before .before .before .before .before .before .before) in
+    first-stopped _ _ _ _ _ t bs y _ _ (stopped _ _ _ _ (c .before .k2 .given .1) (c .before .before .before .before .replace-type .ensures t _ (y .type) (backs k t bs y)))
 
 pub put-back-spec : {M : Type 1} → statement M
 put-back-spec =

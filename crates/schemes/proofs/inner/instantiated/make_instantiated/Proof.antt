@@ -27,8 +27,10 @@ word c = record { word = λ i. c .before .before .before .before .shared-slice-k
 -- what the checks say
 entry : (c : tie.After-rest-checked) →
     let a = c .before .before .before .before .before .before .before .before .before .args in
-    (entered (now (a .pool)) (now (a .table)) (now (a .given)) [] (now (a .names)) (schemeGiven (tableOf (now (a .pool)) (now (a .table))) (now (a .given))) opensScheme >> got (tt {0})) ≡ toldChecked (c .rest-checked .result)
-entry c = scheme-checked _ _ _ [] _ (omega arith) (c .before .before .before .if1 .left) (c .before .before .before .before .before .before .before .before .before .pre .0) (word (c .before .before)) (c .before .before .is-scheme .result) (c .rest-checked .result) (c .before .before .is-scheme .ensures) (c .rest-checked .ensures)
+    (entered (now (a .pool)) (now (a .table)) (now (a .given)) [] (now (a .names)) (schemeGiven (tableOf (now (a .pool)) (now (a .table))) (now (a .given))) opensScheme >> got (tt {0}))
+    ≡ toldChecked (c .rest-checked .result)
+entry c = scheme-checked _ _ _ [] _ (omega arith) (c .before .before .before .if1 .left) (c .before .before .before .before .before .before .before .before .before .pre .0) (word (c .before .before))
+    (c .before .before .is-scheme .result) (c .rest-checked .result) (c .before .before .is-scheme .ensures) (c .rest-checked .ensures)
 
 -- what was given, where they are met
 met : (c : tie.After-rest-checked) → toldChecked (c .rest-checked .result) ≡ got tt →
@@ -59,7 +61,10 @@ enum-told c = search needs
 
 -- src/inner/instantiated.rt:34:26
 instantiate-scheme-requires : tie.Need-instantiate-scheme-requires
-instantiate-scheme-requires c κs = let (sc, (bs, (e, n))) = met (c .before .before .before) (ap toldChecked (c .before .enum-told .given .1)) in (sc, instantiate-ready _ _ _ _ (word (c .before .before .before .before .before)) sc bs n _ (c .before .before .before .before .before .before .before .before .before .before .before .before .pre .1))
+instantiate-scheme-requires c κs =
+    let w = (c .before .before .before) in
+    let (sc, (bs, (e, n))) = met w (ap toldChecked (c .before .enum-told .given .1)) in
+    (sc, instantiate-ready _ _ _ _ (word (w .before .before)) sc bs n _ (c .before .before .before .before .before .before .before .before .before .before .before .before .pre .1))
 
 -- src/inner/instantiated.rt:35:26
 enum-known-r : tie.Need-enum-known-r
@@ -71,9 +76,13 @@ same-length c = search needs
 
 -- src/inner/instantiated.rt:18:1
 returns-2 : tie.Need-returns-2
-returns-2 c = let (sc, (bs, (e, n))) = met (c .before .before .before .before .before .before) (ap toldChecked (c .before .before .before .before .enum-told .given .1)) in 
-    let y = instantiate-ready _ _ _ _ (word (c .before .before .before .before .before .before .before .before)) sc bs n (now (c .before .before .before .before .before .before .before .before .before .before .before .before .before .before .before .args .work)) (c .before .before .before .before .before .before .before .before .before .before .before .before .before .before .before .pre .1) in
-    met-made _ _ _ _ _ _ _ _ _ (instantiate-whole _ _ _ _) _ _ sc bs e (instantiate-met _ _ _ _ (word (c .before .before .before .before .before .before .before .before)) sc bs n _ _ (c .before .before .instantiate-scheme .ensures sc y))
+returns-2 c =
+    let w = (c .before .before .before .before .before .before) in
+    let (sc, (bs, (e, n))) = met w (ap toldChecked (c .before .before .before .before .enum-told .given .1)) in
+    let s = w .before .before .before .before .before .before .before .before .before in
+    let k = word (w .before .before) in
+    let y = instantiate-ready _ _ _ _ k sc bs n (now (s .args .work)) (s .pre .1) in
+    met-made _ _ _ _ _ _ _ _ _ (instantiate-whole _ _ _ _) _ _ sc bs e (instantiate-met _ _ _ _ k sc bs n _ _ (c .before .before .instantiate-scheme .ensures sc y))
 
 -- src/inner/instantiated.rt:18:1
 returns-3 : tie.Need-returns-3
