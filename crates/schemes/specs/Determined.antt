@@ -2,7 +2,7 @@
 use mathlib.Core.Path.{_≡_, sym, _∙_}
 use mathlib.Core.List.{List}
 use Prim.Native.Nat.{ℕ}
-use Rattle.rules.specs.Calls.{quantifyCall, generaliseCall}
+use Rattle.rules.specs.Calls.{quantifyCall, generaliseCall, instantiateCall}
 use Rattle.lending.specs.Determined.{OneResult, one-result}
 use Rattle.lending.specs.Told.{writtenAs}
 use Rattle.lending.specs.declared.Answer.{Answer}
@@ -13,3 +13,6 @@ module _ (pool table result work : List ℕ) (a b : Answer) (result₁ result₂
 
   pub generalise-determined : (given bounds : List ℕ) → writtenAs a result₁ work₁ ≡ generaliseCall pool table given bounds result work → writtenAs b result₂ work₂ ≡ generaliseCall pool table given bounds result work → OneResult a b result₁ result₂ work₁ work₂
   generalise-determined given bounds h k = one-result a b result₁ result₂ work₁ work₂ (h ∙ sym k)
+
+  pub instantiate-determined : (given names : List ℕ) → writtenAs a result₁ work₁ ≡ instantiateCall pool table given names result work → writtenAs b result₂ work₂ ≡ instantiateCall pool table given names result work → OneResult a b result₁ result₂ work₁ work₂
+  instantiate-determined given names h k = one-result a b result₁ result₂ work₁ work₂ (h ∙ sym k)

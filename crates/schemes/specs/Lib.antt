@@ -5,3 +5,4 @@ pub mod Generalised
 pub mod GivenScheme
 pub mod Wholes
 pub mod Generalising
+pub mod Instantiated

@@ -68,7 +68,7 @@ module _ (pool table ws bounds names : List ℕ) {A : Type 0} (m : Got A) (os : 
 -- ══ Bounds that were given ══
 
 module _ (pool table : List ℕ) where
-  chain-bounds : (q : ℕ) (s : List ℕ) (at : ℕ) (bs : List (tree.Open ℕ)) → Chain (GoodBound pool table q s) (length s / 4) bs at → BoundsAt s bs at
+  pub chain-bounds : (q : ℕ) (s : List ℕ) (at : ℕ) (bs : List (tree.Open ℕ)) → Chain (GoodBound pool table q s) (length s / 4) bs at → BoundsAt s bs at
   unfolding BoundsAt
   chain-bounds q s at [] c = c
   chain-bounds q s at (o ∷ bs) (e, (g, c)) = (g .held, chain-bounds q s (at + 1) bs (rw (g .past) at c))

@@ -1,0 +1,2 @@
+// Making what instantiating a scheme gives.
+pub mod inner;
