@@ -5,10 +5,11 @@ NUMBAT is a checkout of numbat at e8abf32b97. The harness is built from it in DI
 `serve` (default target/bin/serve, which `rt check serve` makes) and compares every answer with numbat's, or with our own reading of document 01
 where numbat has no counterpart. A difference counts as explained when model.py, which has document 01's rules, answers as `serve` did, and
 with the fewest of numbat's deviations switched on as numbat did; each deviation is a number of docs/DIFFERENCES.md. Any other fails the run."""
-import ast, itertools, os, re, subprocess, sys, time
+import ast, itertools, os, re, subprocess, sys, tempfile, time
 from collections import Counter
 HERE = os.path.dirname(os.path.abspath(__file__))
 sys.path.insert(0, HERE)
+import edges
 import model
 sys.setrecursionlimit(30000)
 
@@ -71,12 +72,23 @@ class Tally:
             self.paper += int(f[3])
             for into, text in ((self.rules, f[6]), (self.calls, f[7]), (self.refusals, f[8])):
                 into.update(ast.literal_eval(text))
-        else:
+        elif f[0] != 'S':
             self.bad.append((0, '\t'.join(f), '', ''))
 
 
+def run_edges(harness, serve, tally):
+    with tempfile.NamedTemporaryFile() as f:
+        f.write(b''.join(q.bytes() for _, q in edges.cases(LAST)))
+        f.flush()
+        take([harness, 'check', serve, f.name], tally, 'the edge cases')
+
+
 def run(harness, serve, kind, seed, count, tally):
-    p = subprocess.Popen([harness, 'compare', serve, kind, str(seed), str(count), str(CALLS)], stdout=subprocess.PIPE, text=True)
+    take([harness, 'compare', serve, kind, str(seed), str(count), str(CALLS)], tally, '%s, seed %d' % (kind, seed))
+
+
+def take(command, tally, what):
+    p = subprocess.Popen(command, stdout=subprocess.PIPE, text=True, errors='replace')
     counted = False
     for line in p.stdout:
         f = line.rstrip('\n').split('\t')
@@ -87,7 +99,7 @@ def run(harness, serve, kind, seed, count, tally):
             break
     p.wait()
     if not counted and not tally.bad:
-        tally.bad.append((0, 'the harness ended early on %s, seed %d' % (kind, seed), '', ''))
+        tally.bad.append((0, 'the harness ended early on ' + what, '', ''))
 
 
 def options(argv):
@@ -112,7 +124,8 @@ def main():
     harness, kinds = out.split()[-1], o['--kinds'].split(',')
     share = sum(SHARE[k] for k in kinds)
     left, first, seed = int(o['--cases']), int(o['--seed']), int(o['--seed'])
-    tallies = {k: Tally() for k in kinds}
+    tallies = {k: Tally() for k in ['edges'] + kinds}
+    run_edges(harness, o['--serve'], tallies['edges'])
     seconds = Counter()
     # a seed gives 100,000 cases at most, shared out among the kinds
     while left > 0 and not any(t.bad for t in tallies.values()):

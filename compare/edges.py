@@ -124,6 +124,8 @@ def limits():
         yield 'records', of('solve (eq (var x) %s) (eq (var y) (list (bool)))' % f)
         yield 'records', of('replace %s (bind y (list (bool)))' % f)
         yield 'records, then 6', of('replaceset (set (eq (bool) %s) (scalar (v y 1 1))) (bind y (list (bool)))' % f)
+    for n in (1018, 1019, 1020):    # 2,046, 2,048 and 2,050 records at the end of the second round
+        yield 'records, exactly', of('solve (eq (var x) (fn (%s) (var y))) (eq (var y) (list (bool))) (eq (par a) (par b))' % ' '.join(['(var y)'] * n))
     for n in (2044, 2045, 2046, 2047, 2048, 2049):
         q = of('solve (eq (var x) (bool))')
         q.lists[0] = [20, 0, 0, 0, 7, n - 3, 0, 0] + [4, 0, 0, 0] * (n - 2)

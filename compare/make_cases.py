@@ -29,7 +29,7 @@ def plain(q):
     for e in q.table[1:q.table[0] + 1] if q.table else []:
         names.append(bytes(q.pool[at:e]))
         at = e
-    good = len(q.table) == len(names) + 1 and at == len(q.pool) and len(set(names)) == len(names) and len(names) <= 256
+    good = len(q.table) == len(names) + 1 == (q.table or [0])[0] + 1 and at == len(q.pool) and len(set(names)) == len(names) and len(names) <= 256
     if not good or any(not 1 <= len(n) <= 48 or re.search(rb'[^!-~]', n) for n in names):
         return None
     return [n.decode() for n in names]
@@ -98,7 +98,7 @@ def main():
             if n is None:
                 sys.exit('not explained: ' + line[:1000])
             who, case = 'difference ' + ' and '.join(map(str, n)), f[2]
-        if not r[4] & 1:    # what stands behind the set is not the list's to say
+        if not r[4] & 1 or len(r[5]) > q.result:    # what stands behind the set, or past the buffer, is not the list's to say
             continue
         c = lines('%s: %s%s' % (who, why, ': ' + case if case else ''), q, names, r)
         if len(c) > (LONG if 'random' in why else LONGEST) and (why != 'added to a long set' or count.get('long', 0) == 2):

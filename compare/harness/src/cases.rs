@@ -6,7 +6,7 @@ use crate::random::Random;
 use crate::records::{self, Names};
 use crate::span::{ByteIndex, Span};
 use crate::type_variable::TypeVariable;
-use crate::typechecker::constraints::Constraint;
+use crate::typechecker::constraints::{Constraint, access};
 use crate::typechecker::qualified_type::{Bound, QualifiedType};
 use crate::typechecker::type_scheme::TypeScheme;
 use crate::typed_ast::{DType, DTypeFactor, StructInfo, StructKind, Type};
@@ -246,6 +246,30 @@ impl Gen {
                     records::write(&t, &mut nm, &mut l[k]);
                 }
             }
+            25 => {
+                let cs = self.cons();
+                for c in &cs { records::write_con(c, &mut nm, &mut l[0]) }
+                // numbat's own answer, sometimes with a mistake, or bindings by chance
+                let mut set = access::set_of(cs);
+                let own = std::panic::catch_unwind(std::panic::AssertUnwindSafe(|| set.solve().ok())).ok().flatten();
+                let (mut bs, mut bounds) = match own {
+                    Some((s, b)) if self.r.chance(75) => (s.0, b.into_iter().map(|v| crate::text::var(&v)).collect::<Vec<_>>()),
+                    _ => ((0..self.r.below(3)).map(|_| (TypeVariable::new(self.var().as_str()), self.ty(1, 0))).collect(), (0..self.r.below(3)).map(|_| self.any()).collect()),
+                };
+                if !bs.is_empty() && self.r.chance(15) { let i = self.r.below(bs.len()); bs.remove(i); }
+                if !bs.is_empty() && self.r.chance(10) { let i = self.r.below(bs.len()); bs[i].1 = self.ty(1, 0) }
+                if self.r.chance(15) { let n = self.any(); bounds.push(n) }
+                if !self.r.chance(3) { bounds.sort(); bounds.dedup() }
+                for n in &bounds { l[3].extend([25, nm.of(n), 0, 0]) }
+                self.r.shuffle(&mut bs);
+                if !self.r.chance(3) { bs.dedup_by(|a, b| a.0 == b.0) }
+                for (v, t) in &bs {
+                    // records that no entry points to are not looked at
+                    if self.r.chance(20) { l[2].extend([99, 7, 7, 7]) }
+                    l[1].extend([nm.of(&crate::text::var(v)), l[2].len() as u32 / 4]);
+                    records::write(t, &mut nm, &mut l[2]);
+                }
+            }
             26 => {
                 let t = if limits { let t = self.ty(2, 0); let n = 55 + self.r.below(12); self.nest(n, t) } else { self.ty(2, 0) };
                 records::write(&t, &mut nm, &mut l[0]);
@@ -261,6 +285,7 @@ impl Gen {
     }
     const CALLS: [u32; 40] = [23, 23, 23, 23, 23, 23, 23, 23, 23, 23, 23, 23, 20, 20, 20, 21, 21, 21, 22, 22, 22, 17, 18, 19, 5, 6, 7, 8, 9, 10, 11, 12, 13, 26, 26, 27, 27, 28, 28, 23];
     fn call(&mut self) -> u32 {
+        if self.calls >> 25 & 1 == 1 && self.r.chance(10) { return 25; }
         loop {
             let c = *self.r.pick(&Self::CALLS);
             if self.calls >> c & 1 == 1 { return c; }

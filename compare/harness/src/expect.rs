@@ -275,6 +275,15 @@ fn listed(q: &Request, nm: &Names) -> Option<Expected> {
             if mixed(|o| for c in &cs { o.con(c) }) { return Some(rule(11, refuse(4), text)); }
             solve(access::set_of(cs), &mut out, text)
         }
+        25 => {
+            let cs = records::set(a, nm)?;
+            let bs = entries(b, c, nm)?;
+            let bounds = records::bounds(d, nm)?;
+            let bounds: Vec<String> = bounds.iter().map(text::var).collect();
+            if bounds.windows(2).any(|p| p[0].as_bytes() >= p[1].as_bytes()) { return None; }
+            if mixed(|o| { for c in &cs { o.con(c) } bind_opens(o, &bs) }) { return Some(paper(refuse(4))); }
+            paper(judged(&cs, &Substitution(bs), &bounds))
+        }
         26 => {
             let t = records::ty(a, nm)?;
             let bs = records::bounds(b, nm)?;
@@ -328,6 +337,67 @@ fn scheme_said(r: Result<TypeScheme, String>, out: &mut Names, text: String) -> 
             let w = records::words(|o| records::write_scheme(&s, out, o));
             numbat(say(w.len() as u32 / 4, 0, w), text)
         }
+    }
+}
+/// the judge's entries: pairs of a variable and the place of its type
+fn entries(pairs: &[u32], types: &[u32], nm: &Names) -> Option<Vec<(TypeVariable, Type)>> {
+    let mut v: Vec<(TypeVariable, Type)> = vec![];
+    if types.len() % 4 != 0 { return None; }
+    for p in pairs.chunks_exact(2) {
+        let x = TypeVariable::new(nm.get(p[0])?);
+        if v.iter().any(|(y, _)| *y == x) { return None; }
+        let mut r = Reader::new(types, nm, 0)?;
+        r.at = p[1] as usize;
+        if r.at * 4 >= types.len() { return None; }
+        v.push((x, r.ty(1)?));
+    }
+    Some(v)
+}
+/// document 01, 'Judge': numbat puts the bindings in, all at once; what is true then is our own reading
+fn judged(cs: &[Constraint], bs: &Substitution, bounds: &[String]) -> Reply {
+    for c in cs {
+        num_rational::reset();
+        let mut s = access::set_of(vec![c.clone()]);
+        let r = guard(|| s.apply(bs));
+        if wide() || r.is_err() { return refuse(7); }
+        if let Ok(Err(_)) = r { return say(0, 0, vec![]); }
+        let d = &access::constraints_of(&s)[0];
+        let mut z = Size::default();
+        records::size_con(d, &mut z);
+        if z.over() { return refuse(8); }
+        if !holds(d, bounds) { return say(0, 0, vec![]); }
+    }
+    say(1, 0, vec![])
+}
+/// a single variable to the power 1 as the variable, and no fields
+fn read_plainly(t: &Type) -> Type {
+    match t {
+        Type::Dimension(d) => match &d.factors()[..] {
+            [(crate::typed_ast::DTypeFactor::TVar(v), e)] if *e.numer() == 1 && *e.denom() == 1 => Type::TVar(v.clone()),
+            _ => t.clone(),
+        },
+        Type::Fn(p, r) => Type::Fn(p.iter().map(read_plainly).collect(), Box::new(read_plainly(r))),
+        Type::List(e) => Type::List(Box::new(read_plainly(e))),
+        Type::Struct(i) => {
+            let mut j = (**i).clone();
+            j.fields = Default::default();
+            if let crate::typed_ast::StructKind::Instance(a) = &i.kind { j.kind = crate::typed_ast::StructKind::Instance(a.iter().map(read_plainly).collect()) }
+            Type::Struct(Box::new(j))
+        }
+        _ => t.clone(),
+    }
+}
+fn holds(c: &Constraint, bounds: &[String]) -> bool {
+    let means = |a: &Type, b: &Type| read_plainly(a) == read_plainly(b);
+    match c {
+        Constraint::Equal(a, b) => means(a, b),
+        Constraint::IsDType(t) => {
+            let mut o = Opens::default();
+            o.ty(t);
+            matches!(t, Type::Dimension(_) | Type::TVar(_) | Type::TPar(_)) && o.vars.iter().chain(&o.pars).all(|n| bounds.contains(n))
+        }
+        Constraint::EqualScalar(d) => d.factors().is_empty(),
+        Constraint::HasField(s, f, t) => match s { Type::Struct(i) => i.fields.get(f.as_str()).is_some_and(|(_, u)| means(u, t)), _ => false },
     }
 }
 fn mixed(f: impl FnOnce(&mut Opens)) -> bool { let mut o = Opens::default(); f(&mut o); o.mixed() }
