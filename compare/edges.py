@@ -214,18 +214,18 @@ def schemes():
     yield 'a name is both', of('quantify (fn ((var x)) (par x)) (bounds) (names x)')
     yield 'a name is both', of('instantiate (scheme 1 (fn ((var x)) (par x)) (bounds)) (names y)')
     for k in (3, 4294967295):
-        yield 'a number that is not held', Request(26, ('x',), [[4, 0, 0, 0], [], [k]])
-        yield 'a number that is not held', Request(28, ('x',), [[26, 0, 1, 0, 4, 0, 0, 0], [k]])
-    yield 'many names', Request(26, ('x',), [[1, 0, 0, 0], [], [0] * 2048])
-    yield 'many names', Request(26, ('x',), [[1, 0, 0, 0], [], [0] * 2049])
-    yield 'many names', Request(28, ('x',), [[26, 2048, 0, 0, 14, 2047, 0, 0], [0] * 2048])
-    yield 'many names', Request(28, ('x',), [[26, 2049, 0, 0, 14, 2048, 0, 0], [0] * 2049])
+        yield 'a number that is not held', Request(25, ('x',), [[4, 0, 0, 0], [], [k]])
+        yield 'a number that is not held', Request(27, ('x',), [[26, 0, 1, 0, 4, 0, 0, 0], [k]])
+    yield 'many names', Request(25, ('x',), [[1, 0, 0, 0], [], [0] * 2048])
+    yield 'many names', Request(25, ('x',), [[1, 0, 0, 0], [], [0] * 2049])
+    yield 'many names', Request(27, ('x',), [[26, 2048, 0, 0, 14, 2047, 0, 0], [0] * 2048])
+    yield 'many names', Request(27, ('x',), [[26, 2049, 0, 0, 14, 2048, 0, 0], [0] * 2049])
 
 
 def cases(last=24):
     out = [(why, of(line)) for why, line in rules()]
     # the same with other numbers: the first name isn't number 0
     out += [(why + ', other numbers', of(line, order=('L', 'f', 'y', 'b', 'P', 'a', 'x'))) for why, line in rules() if line.split()[0] in ('solve', 'vars', 'replaceset')]
-    for part in (values(), names(), limits(), malformed()) + ((schemes(),) if last >= 28 else ()):
+    for part in (values(), names(), limits(), malformed()) + ((schemes(),) if last >= 25 else ()):
         out += list(part)
     return [(why, q) for why, q in out if q.call <= last and max(map(len, q.lists)) <= 10240]

@@ -6,7 +6,7 @@ import model
 CALLS = {'check_table': 1, 'name_of': 2, 'enter': 3, 'compare': 4, 'exp add': 5, 'exp mul': 6, 'exp neg': 7, 'exp div': 8,
          'prod mul': 9, 'prod div': 10, 'prod inv': 11, 'prod pow': 12, 'is_set': 13, 'is_type': 14, 'is_scheme': 15, 'is_bindings': 16,
          'contains': 17, 'closed': 18, 'vars': 19, 'add': 20, 'replace': 21, 'replaceset': 22, 'solve': 23, 'lent': 24,
-         'judge': 25, 'quantify': 26, 'generalize': 27, 'instantiate': 28}
+         'quantify': 25, 'generalize': 26, 'instantiate': 27, 'judge': 28}
 RESULT_WAS, WORK_WAS = 0xaaaaaaaa, 0x55555555
 
 

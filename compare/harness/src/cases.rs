@@ -214,9 +214,9 @@ impl Gen {
                 if call == 17 { let n = self.any(); q.x = nm.of(&n) }
                 q.y = self.r.below(2) as u32;
             }
-            15 | 27 | 28 => {
+            15 | 26 | 27 => {
                 let n = *self.r.pick(&[0usize, 1, 1, 2, 3]);
-                let concrete = self.r.chance(if call == 27 { 85 } else { 5 });
+                let concrete = self.r.chance(if call == 26 { 85 } else { 5 });
                 let mut t = self.ty(2, if concrete { 0 } else { n });
                 if limits { let k = 55 + self.r.below(12); t = self.nest(k, t) }
                 let s = if concrete { TypeScheme::Concrete(t) } else {
@@ -224,8 +224,8 @@ impl Gen {
                     TypeScheme::Quantified(n, QualifiedType::new(t, bs.into_iter().map(|v| Bound::IsDim(Type::TVar(v))).collect()))
                 };
                 records::write_scheme(&s, &mut nm, &mut l[0]);
-                if call == 27 { for _ in 0..self.r.below(4) { let v = self.any(); records::write_bound(&TypeVariable::new(v.as_str()), &mut nm, &mut l[1]) } }
-                if call == 28 { let k = if self.r.chance(93) { if concrete { 0 } else { n } } else { self.r.below(4) }; for _ in 0..k { let v = if self.r.chance(70) { self.var() } else { self.r.pick(&["u", "w"]).to_string() }; l[1].push(nm.of(&v)) } }
+                if call == 26 { for _ in 0..self.r.below(4) { let v = self.any(); records::write_bound(&TypeVariable::new(v.as_str()), &mut nm, &mut l[1]) } }
+                if call == 27 { let k = if self.r.chance(93) { if concrete { 0 } else { n } } else { self.r.below(4) }; for _ in 0..k { let v = if self.r.chance(70) { self.var() } else { self.r.pick(&["u", "w"]).to_string() }; l[1].push(nm.of(&v)) } }
             }
             20 => {
                 for c in &if limits { self.large() } else { let mut c = self.cons(); c.pop(); c } { records::write_con(c, &mut nm, &mut l[0]) }
@@ -246,7 +246,7 @@ impl Gen {
                     records::write(&t, &mut nm, &mut l[k]);
                 }
             }
-            25 => {
+            28 => {
                 let cs = self.cons();
                 for c in &cs { records::write_con(c, &mut nm, &mut l[0]) }
                 // numbat's own answer, sometimes with a mistake, or bindings by chance
@@ -270,7 +270,7 @@ impl Gen {
                     records::write(t, &mut nm, &mut l[2]);
                 }
             }
-            26 => {
+            25 => {
                 let t = if limits { let t = self.ty(2, 0); let n = 55 + self.r.below(12); self.nest(n, t) } else { self.ty(2, 0) };
                 records::write(&t, &mut nm, &mut l[0]);
                 for _ in 0..self.r.below(4) { let v = self.any(); records::write_bound(&TypeVariable::new(v.as_str()), &mut nm, &mut l[1]) }
@@ -283,9 +283,9 @@ impl Gen {
         q.table = nm.table();
         (q, nm)
     }
-    const CALLS: [u32; 40] = [23, 23, 23, 23, 23, 23, 23, 23, 23, 23, 23, 23, 20, 20, 20, 21, 21, 21, 22, 22, 22, 17, 18, 19, 5, 6, 7, 8, 9, 10, 11, 12, 13, 26, 26, 27, 27, 28, 28, 23];
+    const CALLS: [u32; 40] = [23, 23, 23, 23, 23, 23, 23, 23, 23, 23, 23, 23, 20, 20, 20, 21, 21, 21, 22, 22, 22, 17, 18, 19, 5, 6, 7, 8, 9, 10, 11, 12, 13, 25, 25, 26, 26, 27, 27, 23];
     fn call(&mut self) -> u32 {
-        if self.calls >> 25 & 1 == 1 && self.r.chance(10) { return 25; }
+        if self.calls >> 28 & 1 == 1 && self.r.chance(10) { return 28; }
         loop {
             let c = *self.r.pick(&Self::CALLS);
             if self.calls >> c & 1 == 1 { return c; }

@@ -112,7 +112,7 @@ fn plain(q: &Request) -> Expected {
         _ => {}
     }
     // 10
-    let uses_result = matches!(q.call, 19 | 20 | 21 | 22 | 23 | 26 | 27 | 28);
+    let uses_result = matches!(q.call, 19 | 20 | 21 | 22 | 23 | 25 | 26 | 27);
     let uses_work = matches!(q.call, 21 | 22 | 23 | 25 | 26 | 27 | 28);
     let set_words = if q.call == 20 { a.clone() } else { vec![] };
     let no = |n: u32| { let mut r = refuse(n); r.words = set_words.clone(); if (9..=12).contains(&q.call) { r.words = blank(&[]) } paper(r) };
@@ -122,10 +122,10 @@ fn plain(q: &Request) -> Expected {
     let long = match q.call {
         13..=19 | 23 => a.len() > 8192,
         20 => q.x > 2048 || b.len() > 8192,
-        21 | 22 | 27 => a.len() > 8192 || b.len() > 8192,
-        25 => a.len() > 8192 || b.len() / 2 > 2048 || c.len() > 8192 || d.len() > 8192,
-        26 => a.len() > 8192 || b.len() > 8192 || c.len() > 2048,
-        28 => a.len() > 8192 || b.len() > 2048,
+        21 | 22 | 26 => a.len() > 8192 || b.len() > 8192,
+        28 => a.len() > 8192 || b.len() / 2 > 2048 || c.len() > 8192 || d.len() > 8192,
+        25 => a.len() > 8192 || b.len() > 8192 || c.len() > 2048,
+        27 => a.len() > 8192 || b.len() > 2048,
         _ => false,
     };
     if long { return no(8); }
@@ -275,7 +275,7 @@ fn listed(q: &Request, nm: &Names) -> Option<Expected> {
             if mixed(|o| for c in &cs { o.con(c) }) { return Some(rule(11, refuse(4), text)); }
             solve(access::set_of(cs), &mut out, text)
         }
-        25 => {
+        28 => {
             let cs = records::set(a, nm)?;
             let bs = entries(b, c, nm)?;
             let bounds = records::bounds(d, nm)?;
@@ -284,7 +284,7 @@ fn listed(q: &Request, nm: &Names) -> Option<Expected> {
             if mixed(|o| { for c in &cs { o.con(c) } bind_opens(o, &bs) }) { return Some(paper(refuse(4))); }
             paper(judged(&cs, &Substitution(bs), &bounds))
         }
-        26 => {
+        25 => {
             let t = records::ty(a, nm)?;
             let bs = records::bounds(b, nm)?;
             let vs: Vec<_> = c.iter().map(|k| nm.get(*k).map(|n| TypeVariable::new(n))).collect::<Option<_>>()?;
@@ -294,7 +294,7 @@ fn listed(q: &Request, nm: &Names) -> Option<Expected> {
             num_rational::reset();
             scheme_said(guard(|| q.quantify(&vs)), &mut out, text)
         }
-        27 => {
+        26 => {
             let mut s = records::scheme(a, nm)?;
             let bs = records::bounds(b, nm)?;
             let text = format!("generalize {} {}", text::scheme(&s), text::bounds(&bs));
@@ -303,7 +303,7 @@ fn listed(q: &Request, nm: &Names) -> Option<Expected> {
             let r = guard(|| { s.generalize(&bs); s });
             scheme_said(r, &mut out, text)
         }
-        28 => {
+        27 => {
             let s = records::scheme(a, nm)?;
             let vs: Vec<_> = b.iter().map(|k| nm.get(*k).map(|n| TypeVariable::new(n))).collect::<Option<_>>()?;
             let text = format!("instantiate {} (names{})", text::scheme(&s), vs.iter().map(|v| format!(" {}", text::var(v))).collect::<String>());

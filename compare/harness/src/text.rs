@@ -85,8 +85,8 @@ pub fn answer(call: u32, r: &Reply, nm: &Names) -> Option<String> {
         20 => ["?", "satisfied", "violated", "unknown"][(r.value as usize).min(3)].into(),
         21 => format!("ok {}", ty(&records::ty(w, nm)?)),
         22 => all("ok".into(), &records::set(w, nm)?, con),
-        26 | 27 => format!("ok {}", scheme(&records::scheme(w, nm)?)),
-        28 => {
+        25 | 26 => format!("ok {}", scheme(&records::scheme(w, nm)?)),
+        27 => {
             let mut rd = Reader::new(w, nm, 0)?;
             let t = rd.ty(1)?;
             let mut bs = vec![];
