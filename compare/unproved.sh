@@ -13,8 +13,8 @@ cp "$crates"/serve/src/*.rt "$tmp/src/"
 sed 's/^fn main()/#[no_mangle]\npub extern "C" fn serve_all()/' "$tmp/src/main.rt" > "$tmp/src/lib.rt"
 rm "$tmp/src/main.rt"
 set -- --toolchain "$own/toolchain" --staticlib "$tmp/libserve.a" "$tmp/src/lib.rt" --crate-name serve --lib "std=$kit/libs/std/src/lib.rt"
-for d in rules laws renaming places handing quantifying exponents names products records queries comparing entries adding loading meaning replacing lending replacing_calls satisfying rounds finishing ending solving judging schemes calling; do
-  [ -f "$crates/$d/src/lib.rt" ] && set -- "$@" --lib "$d=$crates/$d/src/lib.rt"
+for d in "$crates"/*; do
+  [ -f "$d/src/lib.rt" ] && set -- "$@" --lib "$(basename "$d")=$d/src/lib.rt"
 done
 for d in libc io; do set -- "$@" --lib "$d=$kit/libs/$d/src/lib.rt"; done
 "$own/bin/rattle-cases" "$@" >"$tmp/said" 2>&1 || { cat "$tmp/said" >&2; exit 1; }

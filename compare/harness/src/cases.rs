@@ -235,7 +235,13 @@ impl Gen {
             }
             16 | 21 | 22 => {
                 if call == 21 {
-                    let t = if limits { match self.r.below(3) { 0 => { let t = self.ty(1, 0); let n = 55 + self.r.below(9); self.nest(n, t) } 1 => { let n = 990 + self.r.below(60); let y = self.tv("y"); Type::Fn(vec![y.clone(); n], Box::new(y)) } _ => { let n = self.r.below(64); Type::Dimension(self.long(n, 0, Some("x"))) } } } else { self.ty(2, 0) };
+                    let t = if !limits { self.ty(2, 0) } else {
+                        match self.r.below(3) {
+                            0 => { let t = self.ty(1, 0); let n = 55 + self.r.below(9); self.nest(n, t) }
+                            1 => { let n = 990 + self.r.below(60); let y = self.tv("y"); Type::Fn(vec![y.clone(); n], Box::new(y)) }
+                            _ => { let n = self.r.below(64); Type::Dimension(self.long(n, 0, Some("x"))) }
+                        }
+                    };
                     records::write(&t, &mut nm, &mut l[0]);
                 } else if call == 22 { let cs = if limits { self.large() } else { let n = self.r.below(4); (0..n).map(|_| self.con()).collect() }; for c in &cs { records::write_con(c, &mut nm, &mut l[0]) } }
                 let k = if call == 16 { 0 } else { 1 };

@@ -32,7 +32,10 @@ pub fn judge(q: &Request, e: &Expected, r: &Reply, k: &mut Counts, out: &mut imp
     let flags = r.flags == e.reply.flags || e.stopped.is_some();
     if e.from == From::Paper || e.text.is_empty() || !flags {
         k.wrong += 1;
-        writeln!(out, "W\t{}\t{}\texpected {:?}\tserve {:?}\trequest x {} y {} result {:?} work {:?} pool {} table {:?} lists {:?}", q.call, e.text, short(&e.reply), short(r), q.x, q.y, q.result, q.work, q.pool_lent(), &q.table[..q.table.len().min(20)], q.lists.iter().map(|l| (l.len(), &l[..l.len().min(40)])).collect::<Vec<_>>()).unwrap();
+        let lists: Vec<_> = q.lists.iter().map(|l| (l.len(), &l[..l.len().min(40)])).collect();
+        let table = &q.table[..q.table.len().min(20)];
+        writeln!(out, "W\t{}\t{}\texpected {:?}\tserve {:?}\trequest x {} y {} result {:?} work {:?} pool {} table {table:?} lists {lists:?}",
+            q.call, e.text, short(&e.reply), short(r), q.x, q.y, q.result, q.work, q.pool_lent()).unwrap();
         return;
     }
     // adding: whichever verdict it is, what stands in the buffer must follow from it
