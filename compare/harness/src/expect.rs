@@ -68,6 +68,15 @@ pub fn table_of(names: &[Vec<u8>]) -> Names {
     nm
 }
 
+/// adding: a list that is longer than its count stands behind the set; is the buffer as before behind what is answered?
+pub fn set_alone(q: &Request, r: &Reply) -> bool {
+    let room = q.result.1 as usize;
+    let mut buffer: Vec<u32> = q.lists[0].iter().copied().take(room).collect();
+    buffer.resize(room, q.result.0);
+    let n = r.words.len().min(room);
+    if r.refusal == 0 { buffer[..n].copy_from_slice(&r.words[..n]) }
+    buffer[n..].iter().all(|w| *w == q.result.0)
+}
 /// the whole answer, with the flags for the buffers
 pub fn expect(q: &Request) -> Expected {
     let mut e = plain(q);
@@ -78,15 +87,7 @@ pub fn expect(q: &Request) -> Expected {
     // what the program shows past the end of a short result buffer is 0
     let room = q.result.1 as usize;
     for w in e.reply.words.iter_mut().skip(room) { *w = 0 }
-    // adding: a list that is longer than its count stands behind the set
-    let mut rest = 1;
-    if q.call == 20 {
-        let mut buffer: Vec<u32> = q.lists[0].iter().copied().take(room).collect();
-        buffer.resize(room, q.result.0);
-        let n = e.reply.words.len().min(room);
-        if e.reply.refusal == 0 { buffer[..n].copy_from_slice(&e.reply.words[..n]) }
-        if buffer[n..].iter().any(|w| *w != q.result.0) { rest = 0 }
-    }
+    let rest = if q.call == 20 { set_alone(q, &e.reply) as u32 } else { 1 };
     e.reply.flags = rest | if zero || empty || q.work.0 == 0 { 2 } else { 0 } | if !zero || empty || q.work.0 == 0 { 4 } else { 0 };
     e
 }

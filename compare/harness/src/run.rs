@@ -3,7 +3,7 @@
 //! harness dump KIND SEED COUNT CALLS: the requests of such cases. harness check SERVE FILE: the requests of a file; for each a line
 //! S<tab>who answered<tab>case, or a line D or W as above.
 use crate::cases::Gen;
-use crate::expect::{Expected, From, expect, names_of};
+use crate::expect::{Expected, From, expect, names_of, set_alone};
 use crate::records::Names;
 use crate::text;
 use crate::wire::{Reply, Request, Serve};
@@ -29,7 +29,8 @@ pub fn judge(q: &Request, e: &Expected, r: &Reply, k: &mut Counts, out: &mut imp
     }
     let nm = names(q);
     let mine = text::answer(q.call, r, &nm).unwrap_or_else(|| format!("UNREADABLE {r:?}"));
-    let flags = r.flags == e.reply.flags || e.stopped.is_some();
+    // adding: what stands behind the set depends on the verdict, which may differ
+    let flags = r.flags == e.reply.flags || e.stopped.is_some() || q.call == 20 && r.refusal == 0 && r.flags == 4 | set_alone(q, r) as u32;
     if e.from == From::Paper || e.text.is_empty() || !flags {
         k.wrong += 1;
         let lists: Vec<_> = q.lists.iter().map(|l| (l.len(), &l[..l.len().min(40)])).collect();
