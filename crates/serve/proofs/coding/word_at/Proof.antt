@@ -69,7 +69,10 @@ add-result-3 c = search needs
 
 returns-3 : tie.Need-returns-3
 unfolding wordAt
-returns-3 c = simp (le-ltb _ _ (c .before .before .before .before .before .before .before .before .before .if1 .left), le-ltb _ _ (c .before .before .before .before .before .before .before .before .if2 .left), c .before .before .before .before .before .before .wide .ensures .0, c .before .before .before .before .wide2 .ensures .0, c .before .before .wide3 .ensures .0, c .wide4 .ensures .0)
+returns-3 c =
+    let e = c .before .before .before .before .before .before .before .before in
+    let w = c .before .before .before .before .before .before in
+    simp (le-ltb _ _ (e .before .if1 .left), le-ltb _ _ (e .if2 .left), w .wide .ensures .0, c .before .before .before .before .wide2 .ensures .0, c .before .before .wide3 .ensures .0, c .wide4 .ensures .0)
 
 pub word-at-spec : {M : Type 1} → statement M
 word-at-spec =

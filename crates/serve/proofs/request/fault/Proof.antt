@@ -29,11 +29,15 @@ parts-requires c κs = fits _ (rw (c .before .before .excess .ensures) at (c .be
 
 returns-4 : tie.Need-returns-4
 unfolding faultOf
-returns-4 c = simp (le-ltb _ _ (c .before .before .before .before .before .before .before .if1 .left), le-ltb _ _ (c .before .before .before .before .before .if2 .left), le-ltb _ _ (rw (c .before .before .before .before .excess .ensures) at (c .before .before .before .if3 .left)), eq-eqb _ _ (c .if4 .taken ∙ c .before .parts .ensures))
+returns-4 c =
+    let x = c .before .before .before .before in
+    simp (le-ltb _ _ (x .before .before .before .if1 .left), le-ltb _ _ (x .before .if2 .left), le-ltb _ _ (rw (x .excess .ensures) at (c .before .before .before .if3 .left)), eq-eqb _ _ (c .if4 .taken ∙ c .before .parts .ensures))
 
 returns-5 : tie.Need-returns-5
 unfolding faultOf
-returns-5 c = simp (le-ltb _ _ (c .before .before .before .before .before .before .before .if1 .left), le-ltb _ _ (c .before .before .before .before .before .if2 .left), le-ltb _ _ (rw (c .before .before .before .before .excess .ensures) at (c .before .before .before .if3 .left)), ne-eqb _ _ (λ e. c .if4 .left (e ∙ sym (c .before .parts .ensures))))
+returns-5 c =
+    let x = c .before .before .before .before in
+    simp (le-ltb _ _ (x .before .before .before .if1 .left), le-ltb _ _ (x .before .if2 .left), le-ltb _ _ (rw (x .excess .ensures) at (c .before .before .before .if3 .left)), ne-eqb _ _ (λ e. c .if4 .left (e ∙ sym (c .before .parts .ensures))))
 
 pub fault-spec : {M : Type 1} → statement M
 fault-spec =
