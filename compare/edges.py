@@ -1,0 +1,231 @@
+"""Edge cases of every call: the examples K1 to K14, each refusal with its neighbour that is none, each limit with one less, and what mutants have
+been seen to get wrong. `cases(last)` gives (what it is about, request) for the calls up to a number."""
+from requests import Request, of
+
+TOP = 2147483647
+K = [('K1', 'solve'), ('K2', 'solve (eq (var x) (bool))'), ('K3', 'solve (eq (var x) (dim (v x 2 1)))'), ('K4', 'solve (eq (list (var x)) (var x))'),
+     ('K5', 'solve (scalar (v x 2 1) (b L -3 1))'), ('K6', 'solve (eq (var x) (dim (v y 1 1) (v z 1 1))) (eq (var y) (bool))'),
+     ('K7', 'solve (isdim (par a))'), ('K8', 'solve (isdim (dim (v x 1 1) (v y -1 1)))'), ('K9', 'solve (eq (dim (v x 1 1)) (bool))'),
+     ('K10', 'solve (eq (dim (v x 1 1) (v y 1 1)) (dim (v x 1 1) (v z 1 1))) (eq (var x) (bool))'),
+     ('K11', 'solve (eq (var x) (par x))'), ('K12', 'solve (eq (struct P ((var x)) ()) (struct P ((bool)) ()))'), ('K13', 'solve (scalar (b L 1 1))'),
+     ('K14', 'solve (scalar (v x 1 2) (v y 2147483647 1))'), ('K14 with x^1', 'solve (scalar (v x 1 1) (v y 2147483647 1))')]
+
+
+def nest(n, t):
+    return '(list ' * n + t + ')' * n
+
+
+def dims(n, off=0, power='1 1'):
+    return ' '.join('(b D%02d %s)' % (i + off, power) for i in range(n))
+
+
+def rules():
+    """lines of all calls on types and sets"""
+    yield from K
+    for c in ('(eq (bool) (bool))', '(eq (bool) (str))', '(eq (str) (date))', '(eq (list (bool)) (list (str)))', '(eq (var x) (var x))', '(eq (var x) (var y))',
+              '(eq (par a) (par b))', '(eq (par a) (var x))', '(eq (fn ((var x)) (bool)) (fn ((bool)) (var y)))', '(eq (fn ((var x) (var y)) (var z)) (fn ((bool) (str)) (date)))',
+              '(eq (fn () (var x)) (fn ((bool)) (var x)))', '(eq (struct P () ()) (struct Q () ()))', '(eq (struct P ((var x) (var y)) ()) (struct P ((bool) (str)) ()))',
+              '(eq (struct P ((var x)) ((f (var x)))) (struct P ((var x)) ((g (var x)))))', '(eq (struct P () ((f (var x)))) (struct P () ((f (bool)))))',
+              '(eq (dim (v x 1 1)) (dim (v y 1 1)))', '(eq (dim (v x 2 1)) (dim (v y 1 1)))', '(eq (dim (b L 1 1)) (dim (b L 1 1) (b M 1 1)))', '(eq (dim) (dim))',
+              '(eq (var x) (dim (v x 1 1) (b L 1 1)))', '(eq (dim (v x 1 1) (b L 1 1)) (var x))', '(eq (var x) (struct P ((var x)) ()))', '(eq (var x) (struct P () ((f (var x)))))',
+              '(isdim (dim))', '(isdim (bool))', '(isdim (var x))', '(isdim (par a))', '(isdim (dim (v x 1 1) (p a 1 1)))', '(isdim (list (var x)))', '(scalar)', '(scalar (b L 1 1))',
+              '(scalar (p a 1 1))', '(scalar (v x 3 2) (v y -1 2) (p a 1 1) (b L 2 3))', '(hasfield (struct P () ((f (bool)))) f (bool))', '(hasfield (struct P () ((f (bool)))) f (str))',
+              '(hasfield (struct P () ((f (bool)))) g (bool))', '(hasfield (struct P () ((f (var x)))) f (bool))', '(hasfield (var x) f (bool))', '(hasfield (bool) f (var y))'):
+        yield 'a constraint alone', 'solve ' + c
+        yield 'added', 'add ' + c
+        yield 'added to a set', 'add (eq (var w) (bool)) (isdim (var v)) ' + c
+        yield 'well formed', 'is_set ' + c
+    for s in ('(isdim (var x)) (isdim (var x)) (isdim (var b)) (isdim (par a))', '(isdim (var x)) (isdim (bool))', '(eq (var x) (list (var y))) (eq (var y) (bool))',
+              '(eq (var x) (dim (v y 1 1))) (eq (var y) (bool))', '(eq (var y) (dim (v x 2 1))) (eq (var x) (bool))', '(eq (var x) (bool)) (eq (var y) (dim (v x 2 1)))',
+              '(eq (var x) (dim (v y 2 1) (b L 1 1))) (eq (var y) (dim (v z 1 2) (b L 1 1))) (isdim (var z))', '(scalar (v x 1 1) (v y -1 1)) (scalar (v x 2 1) (b L -2 1))',
+              '(scalar (v x 1 1)) (eq (list (var x)) (list (bool)))', '(eq (var x) (var y)) (eq (var y) (var z)) (eq (var z) (str))', '(eq (var b) (fn ((var x)) (var y))) (eq (var b) (fn ((bool)) (list (var x))))',
+              '(eq (var x) (dim (v y 2147483647 1))) (eq (var y) (dim (v z 2 1)))', '(eq (var z) (list (var x))) (eq (var x) (list (var x)))', '(eq (var x) (bool)) (eq (var x) (str))',
+              '(eq (list (var b)) (var b)) (eq (var x) (bool))', '(eq (var x) (bool)) (scalar (v x 1 1))', '(eq (var x) (dim (b L 1 1))) (scalar (v x 1 1) (b L -1 1))'):
+        yield 'a set', 'solve ' + s
+    types = ('(var x)', '(par a)', '(bool)', '(dim)', '(dim (v x 1 1))', '(dim (v x 2 1))', '(dim (v x 1 1) (v y -1 1) (p a 2 1) (b L -1 3))', '(list (var x))', '(fn ((var x) (par a)) (var y))',
+             '(fn () (bool))', '(struct P ((var y)) ((f (par a)) (g (var x))))', '(struct P ((dim (v z 1 1))) ())', '(struct P () ((f (var z)) (g (var y))))', '(fn ((var z) (var y) (var x)) (par b))')
+    binds = ('', '(bind x (bool))', '(bind x (dim (v y 2 1)))', '(bind x (var y)) (bind y (var x))', '(bind x (dim (v y 1 1) (b L 1 1))) (bind y (dim (v x 1 1)))', '(bind x (str)) (bind x (bool))',
+             '(bind y (bool)) (bind x (dim (b M 1 2)))', '(bind x (par b))', '(bind z (bool)) (bind x (list (var x)))', '(bind x (dim))', '(bind a (bool))')
+    for t in types:
+        yield 'closed', 'closed ' + t
+        yield 'a type', 'is_type ' + t
+        for p in (0, 1):
+            yield 'variables', 'vars %s %d' % (t, p)
+            for n in ('x', 'a', 'y'):
+                yield 'contains', 'contains %s %s %d' % (t, n, p)
+        for b in binds:
+            yield 'replaced in a type', 'replace %s %s' % (t, b)
+            yield 'bindings', 'is_bindings ' + b
+            yield 'replaced in a set', 'replaceset (set (eq %s (bool)) (scalar (v x 1 1)) (scalar (v x 1 1) (v y 2 1)) (hasfield %s f (var x)) (isdim (dim (v x 1 1)))) %s' % (t, t, b)
+    yield 'a name is both', 'closed (fn ((var x)) (par x))'
+    yield 'a name is both', 'contains (fn ((var x)) (par x)) x 0'
+    yield 'a name is both', 'vars (dim (v x 1 1) (p x 1 1)) 1'
+    yield 'a name is both', 'replace (par x) (bind x (bool))'
+    yield 'a name is both, in two bindings', 'replace (bool) (bind x (par y)) (bind y (bool))'
+    yield 'a name is both, in a set', 'solve (eq (var x) (bool)) (isdim (dim (p x 1 1)))'
+    yield 'a base dimension may have a variable\'s name', 'solve (eq (var x) (dim (b x 1 1)))'
+
+
+def values():
+    ends = ((TOP, 1), (-TOP, 1), (1, TOP), (-1, TOP), (TOP - 1, TOP), (1, 1), (1, 2), (-1, 2), (0, 1), (46341, 1), (1, 46341), (1, 65536), (1, 32768), (3, 2))
+    for op in ('add', 'mul', 'div', 'neg'):
+        for x in ends:
+            for y in ends if op != 'neg' else ((1, 1),):
+                yield 'exponents', Request({'add': 5, 'mul': 6, 'neg': 7, 'div': 8}[op], (), [[x[0] & 0xffffffff, x[1], y[0] & 0xffffffff, y[1]]])
+    for bad in ([0x80000000, 1, 1, 1], [1, 1, 0x80000000, 1], [1, 0, 1, 1], [2, 2, 1, 1], [1, 0x80000000, 1, 1], [0, 2, 1, 1]):
+        for call in (5, 6, 7, 8):
+            yield 'no exponent', Request(call, (), [bad])
+    for l in ('prod mul (dim (v x 1 1)) (dim (v x -1 1))', 'prod mul (dim (v x 1 2)) (dim (v x 1 2))', 'prod mul (dim (v x 2147483647 1)) (dim (v x 1 1))', 'prod div (dim (p a 1 1)) (dim (b L 1 1))',
+              'prod inv (dim (v x 2 3) (q 0 1 1) (p a -1 1) (b L 1 1))', 'prod pow (dim (v x 2 3) (b L 1 1)) 3 2', 'prod pow (dim (v x 2 3)) 0 1', 'prod pow (dim (v x 46341 1)) 46341 1',
+              'prod mul (dim (q 1 1 1) (b L 1 1)) (dim (v y 1 1) (q 0 1 1) (p b 1 1))', 'prod mul (dim) (dim)'):
+        yield 'products', of(l)
+    for n, m, off in ((64, 0, 0), (63, 1, 63), (64, 1, 64), (32, 32, 32), (33, 32, 33), (64, 64, 0)):
+        yield 'products at 64 factors', of('prod mul (dim %s) (dim %s)' % (dims(n), dims(m, off)))
+        yield 'products at 64 factors', of('prod div (dim %s) (dim %s)' % (dims(n), dims(m, off)))
+    yield '7 before 8', of('prod mul (dim %s) (dim (b D63 1 1) (b E 1 1))' % dims(64, 0, '2147483647 1'))
+    for x, words in ((65, []), (1, [11, 9, 1, 1]), (1, [11, 0, 0, 1]), (2, [13, 0, 1, 1, 11, 1, 1, 1]), (2, [11, 0, 1, 1, 11, 0, 1, 1]), (1, [14, 0, 1, 1]), (1, [15, 4000000000, 1, 1]), (0, [9, 9, 9, 9])):
+        for call in (9, 10, 11, 12):
+            yield 'no product', Request(call, ('x', 'L'), [words, [1, 1]], x=x, y=0)
+
+
+def names():
+    full = ['n%03d' % i for i in range(256)]
+    long = ['%02d' % (i % 100) + chr(65 + i // 100) + 'z' * 45 for i in range(170)]    # 8,160 bytes
+    letters = lambda s: [[], list(s.encode() if isinstance(s, str) else s)]
+    for table, tries in (([], ('', 'x', 'a' * 48, 'a' * 49)), (['x', 'y'], ('x', 'y', 'z', 'xy', '')), (full, ('n000', 'n255', 'new', '')),
+                         (long, ('a' * 32, 'a' * 33, 'b', long[0], long[169])), (long + ['q' * 32], ('b', 'q' * 32))):
+        for t in tries:
+            yield 'entering', Request(3, table, letters(t))
+        for x in (0, 1, max(0, len(table) - 1), len(table), 256, 4294967295):
+            yield 'asking for a name', Request(2, table, x=x)
+        yield 'a table', Request(1, table)
+    for t in ([257] + list(range(1, 257)), [1, 0], [1, 49], [1, 48], [2, 1, 1], [2, 2, 1], [2, 1, 2], [1, 8193], [4294967295], [3, 1, 2, 3], [0, 7]):
+        for call in (1, 2, 3, 14):
+            yield 'a table', Request(call, pool=b'xxyyz' + b'q' * 60, table=t, lists=[[4, 0, 0, 0], [120]])
+    for a in ('', 'a', 'b', 'ab', 'aa', 'b' * 48, '\u00e9'):
+        for b in ('', 'a', 'b', 'ab', 'aa', 'b' * 47 + 'a'):
+            yield 'comparing', Request(4, (), [list(a.encode()), list(b.encode())])
+    for pool, table in ((8191, 257), (8192, 256), (8192, 257), (9000, 300), (0, 0)):
+        for call in (1, 2, 3, 13, 17, 18, 19, 20, 23, 24, 9):
+            yield 'pool and table lent', Request(call, pool=bytes(pool), table=[0] * table, whole=0, lists=[[], [120]])
+
+
+def limits():
+    for n in (62, 63, 64):
+        for b in ('(bool)', '(list (bool))', '(fn ((bool)) (bool))'):
+            yield 'nesting', of('replace %s (bind x %s)' % (nest(n, '(var x)'), b))
+            yield 'nesting', of('replaceset (set (isdim %s)) (bind x %s)' % (nest(n, '(var x)'), b))
+            yield 'nesting', of('solve (eq (var x) %s) (eq (var y) %s)' % (nest(n, '(var y)'), b))
+        for call in ('closed %s', 'is_type %s', 'is_set (isdim %s)', 'is_set (eq (bool) %s)', 'is_set (hasfield %s f (bool))', 'is_bindings (bind x %s)', 'add (isdim %s)', 'solve (isdim %s)'):
+            yield 'nesting of what is given', of(call % nest(n, '(bool)'))
+            yield 'nesting of what is given', of(call % ('(struct P () ((f %s)))' % nest(n - 1, '(bool)')))
+    for n in (1020, 1021, 1022, 1023):
+        f = '(fn (%s) (var y))' % ' '.join(['(var y)'] * n)
+        yield 'records', of('solve (eq (var x) %s) (eq (var y) (list (bool)))' % f)
+        yield 'records', of('replace %s (bind y (list (bool)))' % f)
+        yield 'records, then 6', of('replaceset (set (eq (bool) %s) (scalar (v y 1 1))) (bind y (list (bool)))' % f)
+    for n in (1018, 1019, 1020):    # 2,046, 2,048 and 2,050 records at the end of the second round
+        yield 'records, exactly', of('solve (eq (var x) (fn (%s) (var y))) (eq (var y) (list (bool))) (eq (par a) (par b))' % ' '.join(['(var y)'] * n))
+    for n in (2044, 2045, 2046, 2047, 2048, 2049):
+        q = of('solve (eq (var x) (bool))')
+        q.lists[0] = [20, 0, 0, 0, 7, n - 3, 0, 0] + [4, 0, 0, 0] * (n - 2)
+        yield 'a long list', q
+        for c in ('(eq (var x) (bool))', '(eq (bool) (bool))', '(eq (bool) (str))', '(scalar)'):
+            p = of('add (bool) ' + c) if False else of('add ' + c)
+            p.lists[0], p.x = [21, 0, 0, 0, 4, 0, 0, 0] * (n // 2) + ([] if n % 2 == 0 else [22, 0, 0, 0]), n
+            yield 'added to a long set', p
+            s = of('add ' + c)
+            s.lists[0], s.x = [21, 0, 0, 0, 7, n - 3, 0, 0] + [4, 0, 0, 0] * (n - 2), n
+            yield 'added to a long set', s
+    for extra in (0, 1, 3, 4):
+        q = of('solve')
+        q.lists[0] = [21, 0, 0, 0, 4, 0, 0, 0] * 1024 + [0] * extra
+        yield 'length of a list', q
+        yield 'length of a list', Request(23, ('x',), [[21, 0, 0, 0, 4, 0, 0, 0][:8 - extra]])
+    a, b = dims(33), dims(32, 33)
+    for p in ('(v x 1 1)', '(v x 2 1)', '(v x 1 1) (v y 1 1)'):
+        yield '64 factors', of('replace (dim %s %s) (bind x (dim %s))' % (p, a, b))
+        yield '64 factors', of('replace (dim %s %s) (bind x (dim %s))' % (p, dims(32), b))
+        yield '64 factors', of('solve (eq (var x) (dim %s)) (scalar %s %s)' % (b, p, a))
+    yield '6 before 7', of('replace (dim (v w 1 1) (v x 1 1) (v y -2147483647 1)) (bind w (dim (v y 2147483647 1))) (bind x (dim (v y 2147483647 1))) (bind y (bool))')
+    for r in (0, 8191, 8192, 8193):
+        for l in ('solve (eq (var x) (bool))', 'replace (var x) (bind x (bool))', 'replaceset (set (eq (var x) (bool))) (bind x (bool))', 'vars (var x) 0', 'add (eq (var x) (bool))', 'closed (bool)'):
+            yield 'the result buffer', of(l, result=r)
+    for w in (0, 8192, 16383, 16384, 16385, 20000):
+        for l in ('solve (eq (var x) (bool))', 'solve (scalar (b L 1 1))', 'replace (var x) (bind x (bool))', 'replace (par x) (bind x (bool))', 'replaceset (set) ', 'is_set', 'vars (var x) 0'):
+            yield 'the work buffer', of(l, work=w)
+    yield 'what is lent', Request(24, result=8191)
+    yield 'what is lent', Request(24, work=16383)
+    yield 'what is lent', Request(24)
+    # the order of refusals: 10, 8, 1, 4
+    for call in (21, 22, 23):
+        for work, n, bad, mixed in ((16383, 8196, 1, 1), (16384, 8196, 1, 1), (16384, 0, 1, 1), (16384, 0, 0, 1), (16384, 0, 0, 0)):
+            words = ([20, 0, 0, 0] if call != 21 else []) + [7, 1, 0, 0, 1, 0, 0, 0, 2, 0 if mixed else 1, 0, 0] + ([4, 0, 0, 0] if call != 21 else []) + ([99, 0, 0, 0] if bad else [])
+            yield 'the order of refusals', Request(call, ('x', 'a'), [words + [0] * max(0, n - len(words)), []], work=work)
+
+
+def malformed():
+    good = {14: [8, 0, 1, 2, 7, 1, 0, 0, 1, 1, 0, 0, 10, 0, 0, 0, 2, 2, 0, 0, 9, 3, 0, 0, 3, 3, 0, 0, 11, 1, 1, 1, 12, 2, 3, 2, 13, 4, 4294967295, 1, 9, 4, 0, 0, 6, 0, 0, 0],
+            13: [20, 0, 0, 0, 1, 1, 0, 0, 4, 0, 0, 0, 21, 0, 0, 0, 3, 1, 0, 0, 11, 1, 2, 1, 22, 0, 0, 0, 3, 1, 0, 0, 12, 2, 1, 2, 23, 3, 0, 0, 8, 0, 0, 1, 9, 3, 0, 0, 5, 0, 0, 0, 1, 1, 0, 0],
+            15: [26, 2, 0, 0, 7, 1, 0, 0, 14, 1, 0, 0, 3, 2, 0, 0, 15, 0, 1, 1, 15, 1, 1, 1, 25, 1, 1, 0, 25, 2, 0, 0],
+            16: [24, 1, 0, 0, 4, 0, 0, 0, 24, 1, 0, 0, 3, 1, 0, 0, 11, 4, 1, 3]}
+    names = ('P', 'x', 'a', 'f', 'g')
+    also = {14: (17, 18, 19, 21), 13: (22, 23), 15: (), 16: ()}
+    for call, words in good.items():
+        for c in (call,) + also[call]:
+            yield 'well formed', Request(c, names, [words], x=1)
+        for i in range(len(words)):
+            for v in (words[i] + 1, words[i] - 1, 0, 5, 4294967295, 0x80000000):
+                if v & 0xffffffff != words[i]:
+                    for c in (call,) + (also[call][-1:] if i % 3 == 0 else ()):
+                        yield 'one word is wrong', Request(c, names, [words[:i] + [v & 0xffffffff] + words[i + 1:]], x=1)
+        for i in range(0, len(words) + 1):
+            yield 'cut off', Request(call, names, [words[:i]])
+    yield 'a field twice', Request(14, names, [[8, 0, 0, 2, 9, 3, 0, 0, 4, 0, 0, 0, 9, 3, 0, 0, 4, 0, 0, 0]])
+    yield 'two types', Request(14, names, [[4, 0, 0, 0, 4, 0, 0, 0]])
+    yield 'no type', Request(14, names, [[]])
+    for kind in list(range(0, 28)) + [4294967295]:
+        for call in (13, 14, 15, 16, 23):
+            yield 'kinds', Request(call, names, [[kind, 0, 0, 0, 4, 0, 0, 0, 4, 0, 0, 0][:4 + 4 * (kind % 3)]])
+
+
+def schemes():
+    types = ('(var x)', '(par a)', '(bool)', '(dim (v x 1 1))', '(dim (v x 2 1) (v y -1 1) (p a 1 1))', '(fn ((var y) (par a)) (var x))', '(struct P ((var y)) ((f (var x)) (g (var y))))', '(list (dim (p a 1 1)))')
+    for t in types:
+        for b in ('', 'x', 'x a x', 'y w'):
+            for n in ('', 'x', 'a', 'x y', 'y x', 'x x', 'w x a'):
+                yield 'quantifying', of('quantify %s (bounds %s) (names %s)' % (t, b, n))
+            yield 'generalising', of('generalize %s (bounds %s)' % (t, b))
+    for s in ('(scheme 0 (dim (v x 1 1)) (bounds))', '(scheme 1 (q 0) (bounds (q 0)))', '(scheme 2 (fn ((q 1) (q 0)) (dim (q 0 1 1) (q 1 -1 1))) (bounds (q 1) x))', '(scheme 2 (dim (q 0 2 1) (q 1 -1 1)) (bounds))',
+              '(scheme 1 (dim (v x 1 1) (q 0 1 1)) (bounds))', '(scheme 1 (dim (v x -1 1) (q 0 1 1)) (bounds))', '(scheme 3 (bool) (bounds (q 2)))', '(concrete (bool))', '(scheme 2 (dim (v x 2147483647 1) (q 0 2147483647 1) (q 1 -2147483647 1)) (bounds))',
+              '(scheme 1 (dim (v x 2147483647 1) (q 0 1 1)) (bounds))', '(scheme 1 (struct P ((q 0)) ((f (dim (q 0 1 2) (b L 1 1))))) (bounds))'):
+        for n in ('', 'x', 'y', 'x x', 'x y', 'x y z', 'a'):
+            yield 'instantiating', of('instantiate %s (names %s)' % (s, n))
+        yield 'generalising a scheme', of('generalize %s (bounds x)' % s)
+        yield 'a scheme', of('is_scheme ' + s)
+    for n in (2045, 2046):
+        q = of('quantify (bool) (bounds) (names)')
+        q.lists[0] = [7, n, 0, 0] + [4, 0, 0, 0] * (n + 1)
+        yield 'records of a scheme', q
+        g = of('generalize (bool) (bounds)')
+        g.lists[0] = [26, 0, 1, 0, 7, n - 1, 0, 0] + [4, 0, 0, 0] * n
+        yield 'records of a scheme', g
+    yield 'a name is both', of('generalize (fn ((var x)) (par x)) (bounds)')
+    yield 'a name is both', of('quantify (fn ((var x)) (par x)) (bounds) (names x)')
+    yield 'a name is both', of('instantiate (scheme 1 (fn ((var x)) (par x)) (bounds)) (names y)')
+    for k in (3, 4294967295):
+        yield 'a number that is not held', Request(25, ('x',), [[4, 0, 0, 0], [], [k]])
+        yield 'a number that is not held', Request(27, ('x',), [[26, 0, 1, 0, 4, 0, 0, 0], [k]])
+    yield 'many names', Request(25, ('x',), [[1, 0, 0, 0], [], [0] * 2048])
+    yield 'many names', Request(25, ('x',), [[1, 0, 0, 0], [], [0] * 2049])
+    yield 'many names', Request(27, ('x',), [[26, 2048, 0, 0, 14, 2047, 0, 0], [0] * 2048])
+    yield 'many names', Request(27, ('x',), [[26, 2049, 0, 0, 14, 2048, 0, 0], [0] * 2049])
+
+
+def cases(last=24):
+    out = [(why, of(line)) for why, line in rules()]
+    # the same with other numbers: the first name isn't number 0
+    out += [(why + ', other numbers', of(line, order=('L', 'f', 'y', 'b', 'P', 'a', 'x'))) for why, line in rules() if line.split()[0] in ('solve', 'vars', 'replaceset')]
+    for part in (values(), names(), limits(), malformed()) + ((schemes(),) if last >= 25 else ()):
+        out += list(part)
+    return [(why, q) for why, q in out if q.call <= last and max(map(len, q.lists)) <= 10240]

@@ -1,0 +1,83 @@
+#!/usr/bin/env python3
+"""Time and stack of the compiled calls at their limits: extremes.py [SERVE]. A call's stack is what `serve` needs for it beyond what it needs for comparing
+two names; its time is that of a request, with reading, clearing the buffers and answering."""
+import os, resource, subprocess, sys
+HERE = os.path.dirname(os.path.abspath(__file__))
+sys.path.insert(0, HERE)
+import requests
+from requests import Request, of
+from edges import dims, nest
+
+
+def cases():
+    yield 'compare two names', Request(4, (), [[97], [98]])
+    yield 'solve the empty set', of('solve')
+    v = ['v%03d' % i for i in range(250)]
+    words = [w for i in range(682) for w in (20, 0, 0, 0, 1, i % 250, 0, 0, 1, (i * 7 + 1) % 250, 0, 0)]
+    yield 'solve 682 equalities of 250 variables', Request(23, v, [words])
+    yield 'solve functions of 670 parameters', Request(23, ('x',), [[20, 0, 0, 0, 7, 670, 0, 0] + [1, 0, 0, 0] * 671 + [7, 670, 0, 0] + [4, 0, 0, 0] * 671])
+    yield 'solve functions of 680 parameters, struct by struct', Request(23, ('x', 'P'), [[20, 0, 0, 0, 7, 680, 0, 0] + [8, 1, 0, 0] * 681 + [7, 680, 0, 0] + [8, 1, 0, 0] * 680 + [4, 0, 0, 0]])
+    yield 'solve: a function of 2,038 parameters takes a binding', Request(23, ('x', 'y'), [[20, 0, 0, 0, 1, 0, 0, 0, 7, 2038, 0, 0] + [1, 1, 0, 0] * 2039 + [20, 0, 0, 0, 1, 1, 0, 0, 4, 0, 0, 0]])
+    yield 'solve 16 equalities of 62 nested lists', of('solve ' + ' '.join('(eq %s %s)' % (nest(62, '(var x)'), nest(62, '(var y)')) for _ in range(16)))
+    yield 'solve a chain of 200 functions', Request(23, v, [[w for i in range(200) for w in (20, 0, 0, 0, 1, i, 0, 0, 7, 1, 0, 0, 1, i + 1, 0, 0, 4, 0, 0, 0)]])
+    yield 'solve 31 products of 64 factors', of('solve ' + ' '.join('(scalar (v x%02d 1 2) %s)' % (i, dims(63, i % 5, '3 7')) for i in range(31)))
+    yield 'solve products that pass 64 factors', of('solve (eq (var x) (dim %s)) ' % dims(64) + ' '.join('(scalar (v x 1 1) %s)' % dims(60, i % 4, '-1 1') for i in range(30)))
+    yield 'solve is-dimension of 64 variables, 30 times', of('solve ' + ' '.join('(isdim (dim %s))' % ' '.join('(v y%02d 1 1)' % j for j in range(64)) for _ in range(30)))
+    yield 'replace in a function of 2,040 parameters', Request(21, ('x',), [[7, 2040, 0, 0] + [1, 0, 0, 0] * 2041, [24, 0, 0, 0, 4, 0, 0, 0]])
+    yield 'replace in a struct of 2,040 arguments', Request(21, ('x', 'P'), [[8, 1, 2040, 0] + [1, 0, 0, 0] * 2040, [24, 0, 0, 0, 4, 0, 0, 0]])
+    yield 'replace in 63 nested lists', of('replace %s (bind x (bool))' % nest(63, '(var x)'))
+    yield 'replace 64 factors by products of 28', of('replace (dim %s) %s' % (' '.join('(v z%02d 1 1)' % i for i in range(64)), ' '.join('(bind z%02d (dim %s))' % (i, dims(28)) for i in range(64))))
+    yield 'replace in a set of 2,048 records, 1,024 bindings', Request(22, ('x', 'y'), [[21, 0, 0, 0, 1, 0, 0, 0] * 1024, [24, 1, 0, 0, 4, 0, 0, 0] * 1023 + [24, 0, 0, 0, 4, 0, 0, 0]])
+    yield 'replace where nothing fits: 2,048 parameters by 2,040 records', Request(21, ('x',), [[7, 2046, 0, 0] + [1, 0, 0, 0] * 2047, [24, 0, 0, 0, 7, 2040, 0, 0] + [4, 0, 0, 0] * 2041])
+    full = ['n%03d' % i for i in range(256)]
+    yield 'check a full table', Request(1, ['%02d' % (i % 100) + chr(65 + i // 100) + 'z' * 29 for i in range(256)])
+    yield 'enter into a table of 255 names', Request(3, full[:255], [[], list(b'another')])
+    yield 'a type nested 64 deep', of('closed ' + nest(63, '(bool)'))
+    yield 'variables of a type with 255 names', Request(19, full, [[7, 254, 0, 0] + [w for i in range(255) for w in (1, 254 - i, 0, 0)]], y=1)
+    yield 'add to a set of 2,040 records', Request(20, ('x',), [[21, 0, 0, 0, 1, 0, 0, 0] * 1020, [21, 0, 0, 0, 1, 0, 0, 0]], x=2040)
+    yield 'multiply two products of 64 factors', of('prod mul (dim %s) (dim %s)' % (dims(64, 0, '3 7'), dims(64, 0, '5 11')))
+
+
+def cpu(serve, data):
+    """the processor time that the program took"""
+    before = resource.getrusage(resource.RUSAGE_CHILDREN)
+    subprocess.run([serve], input=data, stdout=subprocess.PIPE)
+    after = resource.getrusage(resource.RUSAGE_CHILDREN)
+    return after.ru_utime - before.ru_utime + after.ru_stime - before.ru_stime
+
+
+def runs(serve, data, stack):
+    def limit():
+        resource.setrlimit(resource.RLIMIT_STACK, (stack, stack))
+    p = subprocess.run([serve], input=data, stdout=subprocess.PIPE, preexec_fn=limit)
+    return p.returncode == 0 and len(p.stdout) > 0
+
+
+def stack_of(serve, data):
+    low, high = 64 << 10, 64 << 20
+    while high - low > 4096:
+        mid = (low + high) // 2
+        if runs(serve, data, mid):
+            high = mid
+        else:
+            low = mid
+    return high
+
+
+def main():
+    serve = sys.argv[1] if len(sys.argv) > 1 else os.path.join(HERE, '../target/bin/serve')
+    base = None
+    print('| call | records | refusal | rounds | time of a request | stack |\n|---|---|---|---|---|---|')
+    for what, q in cases():
+        one = q.bytes()
+        r = requests.replies(subprocess.run([serve], input=one, stdout=subprocess.PIPE).stdout)[0]
+        n = 20
+        best = min((cpu(serve, one * (n + 1)) - cpu(serve, one)) / n for _ in range(3))
+        s = stack_of(serve, one)
+        base = base or s
+        print('| %s | %d | %d | %d | %.2f ms | %d KB |' % (what, len(q.lists[0]) // 4, r[0], r[3], best * 1000, (s - base) // 1024), flush=True)
+    print('\nThe program itself needs %d KB.' % (base // 1024))
+
+
+if __name__ == '__main__':
+    main()

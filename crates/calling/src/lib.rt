@@ -1,0 +1,47 @@
+// Every public call by its number, on what is lent. The programs that serve and that replay calls share this; docs/SERVE.md has the numbers.
+pub mod lists;
+pub mod named;
+pub mod told;
+pub mod values;
+pub mod words;
+
+use lists::listed;
+use named::compared;
+use named::entered;
+use named::named;
+use told::Told;
+use values::exponent;
+use values::product;
+
+// The number of a call, and the two words that some calls take beside their lists.
+pub struct Asked {
+    pub call: u32,
+    pub x: u32,
+    pub y: u32,
+}
+
+// The calls have the numbers 1 to this.
+pub const LAST: u32 = 24;
+
+// The call that is asked for. What it says stands at the front of the result buffer, in `words` words.
+pub fn called(
+    q: Asked,
+    pool: &mut [u8],
+    table: &mut [u32],
+    a: &[u32],
+    b: &[u32],
+    c: &[u32],
+    d: &[u32],
+    result: &mut [u32],
+    work: &mut [u32],
+) -> Told {
+    let call = q.call;
+    match call {
+        2 => named(pool, table, q.x, result),
+        3 => entered(pool, table, b, result),
+        4 => compared(a, b),
+        5 | 6 | 7 | 8 => exponent(call, a),
+        9 | 10 | 11 | 12 => product(q, a, b, pool, table, result),
+        _ => listed(q, pool, table, a, b, c, d, result, work),
+    }
+}

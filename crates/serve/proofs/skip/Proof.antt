@@ -1,0 +1,49 @@
+-- `skip` is safe and ends. Assumes nothing.
+use borrow.Author.Needs.{needs}
+use Rattle.serve.proofs.skip.Statement.{statement}
+use Rattle.serve.proofs.skip.Tie as tie
+
+abbrev Inv-loop : tie.InvT-loop
+Inv-loop n left₀ left = Unit {0}
+
+abbrev μ-loop : tie.MeasureT-loop
+μ-loop n left₀ left = left
+
+loop-holds : tie.Need-loop-holds Inv-loop μ-loop
+loop-holds c = search needs
+
+drop-block-requires : tie.Need-drop-block-requires Inv-loop μ-loop
+drop-block-requires c κs = search needs
+
+returns : tie.Need-returns Inv-loop μ-loop
+returns c = search needs
+
+sub-left : tie.Need-sub-left Inv-loop μ-loop
+sub-left c = search needs
+
+loop-less : tie.Need-loop-less Inv-loop μ-loop
+loop-less c = search needs
+
+loop-again : tie.Need-loop-again Inv-loop μ-loop
+loop-again c = search needs
+
+drop-block-requires-2 : tie.Need-drop-block-requires-2 Inv-loop μ-loop
+drop-block-requires-2 c κs = search needs
+
+returns-2 : tie.Need-returns-2 Inv-loop μ-loop
+returns-2 c = search needs
+
+pub skip-spec : {M : Type 1} → statement M
+skip-spec =
+    tie.close
+    (tie.spec
+    Inv-loop
+    μ-loop
+    loop-holds
+    drop-block-requires
+    returns
+    sub-left
+    loop-less
+    loop-again
+    drop-block-requires-2
+    returns-2)

@@ -1,0 +1,3 @@
+-- What the contracts of this program cite.
+pub mod Requests
+pub mod Replies
