@@ -1,6 +1,7 @@
 pub mod Order
 pub mod Integers
 pub mod Gcd
+pub mod Twos
 pub mod Fractions
 pub mod Exact
 pub mod Size
