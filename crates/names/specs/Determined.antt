@@ -3,6 +3,7 @@
 use mathlib.Core.Path.{_≡_, refl, ap}
 use mathlib.Core.List.{List}
 use Prim.Native.Nat.{ℕ}
+use Rattle.rules.specs.declared.Was.{Was}
 use Rattle.laws.specs.Numbers.{number-injective}
 use Rattle.names.specs.declared.Order.{Order}
 use Rattle.names.specs.declared.Order.the-variants.{Less, Same, More}
@@ -30,9 +31,9 @@ checked-tells (checked.the-variants.Refused r) checked.the-variants.Good e = cc
 checked-tells (checked.the-variants.Refused r) (checked.the-variants.Refused s) e = ap checked.the-variants.Refused (number-injective r s (cc))
 
 pub answer-tells : (a b : Answer) → toldAnswer a ≡ toldAnswer b → a ≡ b
-answer-tells (Number i) (Number j) e = cc
-answer-tells (Number i) (Refused s) e = cc
-answer-tells (Refused r) (Number j) e = cc
+answer-tells (Number i v) (Number j w) e = let p : _≡_ {A = ℕ × Was} (i, v) (j, w) = cc in ap (λ (q : ℕ × Was). Number (q .0) (q .1)) p
+answer-tells (Number i v) (Refused s) e = cc
+answer-tells (Refused r) (Number j w) e = cc
 answer-tells (Refused r) (Refused s) e = ap Refused (number-injective r s (cc))
 
 -- of entering: the answer, and all that pool and table hold afterwards

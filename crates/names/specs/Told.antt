@@ -6,6 +6,7 @@ use Prim.Native.Nat.{ℕ, Ordering, Ordering·lt, Ordering·eq, Ordering·gt}
 use Rattle.rules.specs.Base.{Got, got, refused}
 use Rattle.rules.specs.Refusals.{numberOf}
 use Rattle.rules.specs.Names.{Bytes, Entered}
+use Rattle.rules.specs.declared.Was.{Was}
 use Rattle.names.specs.declared.Order.{Order}
 use Rattle.names.specs.declared.Order.the-variants.{Less, Same, More}
 use Rattle.names.specs.declared.Answer.{Answer}
@@ -28,8 +29,8 @@ abbrev pub toldChecked : Checked → Got (Unit {0})
 toldChecked checked.the-variants.Good = got tt
 toldChecked (checked.the-variants.Refused r) = refused (numberOf r)
 
-abbrev pub toldAnswer : Answer → Got ℕ
-toldAnswer (Number i) = got i
+abbrev pub toldAnswer : Answer → Got (ℕ × Was)
+toldAnswer (Number i w) = got (i, w)
 toldAnswer (Refused r) = refused (numberOf r)
 
 -- an answer, with what pool and table hold afterwards
