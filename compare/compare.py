@@ -19,7 +19,7 @@ SHARE = {'small': 400, 'rich': 250, 'structs': 130, 'wide': 120, 'shared': 50, '
 # calls that are there: bit n is call n
 LAST = int(re.search(r'LAST: u32 = (\d+)', open(os.path.join(HERE, '../crates/calling/src/lib.rt')).read()).group(1))
 CALLS = sum(1 << n for n in range(1, LAST + 1))
-NUMBER = {'params': 1, 'args': 2, 'dups': 3, 'onevar': 4, 'inst': 5, 'isdim': 7, 'shared': 11, 'big': 12}
+NUMBER = {'params': 1, 'args': 2, 'dups': 3, 'inst': 5, 'isdim': 7, 'shared': 11, 'big': 12}
 
 
 def paper(case, deviations):

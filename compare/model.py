@@ -1,10 +1,9 @@
 #!/usr/bin/env python3
-"""The rules of document 01 once more, in Python, answering cases that are written as lines of text: with DEV empty as the document stands, with
+"""The rules of document 01, with request W-205, once more, in Python, answering cases that are written as lines of text: with DEV empty as the document stands, with
 deviations of numbat switched on as numbat does. Used to say which difference of docs/DIFFERENCES.md explains a case, never as the
 only judge of one. It leaves well-formedness, buffers and the order of refusals at entry to the harness.
   params   closed does not count parameters; is-dimension/equal of closed types with parameters decided at once
   args     contains, variables, closed ignore the arguments of structs
-  onevar   adding: a product of one variable to the power 1 is compatible with every kind
   unwrap   6 while replacing in the bindings is a panic
   wide     no refusal 7 (exponents are i128)
   big      no refusal 8
@@ -176,7 +175,7 @@ def add(c):
         a, b = c[1], c[2]
         if closed(a) and closed(b): return 'satisfied' if a == b else 'violated'
         if a[0] == b[0] == 'fn' and len(a[1]) != len(b[1]): return 'violated'
-        if a[0] != b[0] and not {a[0], b[0]} & {'var', 'par', 'q'} and not ('onevar' in DEV and (onevar(a) or onevar(b))): return 'violated'
+        if a[0] != b[0] and not {a[0], b[0]} & {'var', 'par', 'q'} and not (onevar(a) or onevar(b)): return 'violated'
         return 'unknown'
     if c[0] == 'isdim':
         if closed(c[1]): return 'satisfied' if c[1][0] == 'dim' else 'violated'

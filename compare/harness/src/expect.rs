@@ -149,7 +149,7 @@ fn enter(q: &Request) -> Reply {
     w.extend([0, n + 1]);
     let e = (end + name.len()) as u32;
     if q.table.get(n as usize + 1).copied().unwrap_or(0) != e { w.extend([n + 1, e]) }
-    say(n, 0, w)
+    say(n, 1, w)
 }
 fn exponent(q: &Request) -> Expected {
     let w = |i: usize| q.lists[0].get(i).copied().unwrap_or(0);

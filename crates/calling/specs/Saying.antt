@@ -4,6 +4,8 @@ use mathlib.Core.Bool.{Bool, true, false}
 use Prim.Native.Nat.{ℕ, Ordering, Ordering·lt, Ordering·eq, Ordering·gt, _+_, _*_, _%_}
 use lib.Dec.{ltb}
 use Rattle.rules.specs.Base.{Got, got, refused}
+use Rattle.rules.specs.declared.Was.{Was}
+use Rattle.rules.specs.declared.Was.the-variants.{New, Known}
 use Rattle.rules.specs.Adding.{Added, satisfied, violated, unknown}
 use Rattle.rules.specs.Calls.{Solved, solved, unsolved, refusedAfter}
 use Rattle.calling.specs.declared.told.Told.{Told}
@@ -44,9 +46,14 @@ abbrev pub askedAs : Got Bool → Told
 askedAs (got b) = saidAs (yesWord b) 0 0
 askedAs (refused n) = refusedAs n 0 0
 
--- a name's number
-abbrev pub numberAs : Got ℕ → ℕ → Told
-numberAs (got n) words = saidAs n 0 words
+-- known 0, new 1
+abbrev pub wasWord : Was → ℕ
+wasWord New = 1
+wasWord Known = 0
+
+-- a name's number, and new or known
+abbrev pub numberAs : Got (ℕ × Was) → ℕ → Told
+numberAs (got (n, was)) words = saidAs n (wasWord was) words
 numberAs (refused n) words = refusedAs n 0 words
 
 -- less 1, same 2, more 3

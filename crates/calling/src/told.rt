@@ -2,6 +2,7 @@
 use adding::Added;
 use names::Checked;
 use rules::Refusal;
+use rules::Was;
 use solving::Outcome;
 use solving::Solution;
 ghost use mathlib.Core.Path.{_≡_};
@@ -13,7 +14,7 @@ ghost use Rattle.lending.specs.Told as lending;
 ghost use Rattle.adding.specs.Told.{toldAdded};
 ghost use Rattle.solving.specs.Told as solving;
 ghost use Rattle.rules.specs.Calls.{solved, unsolved};
-ghost use Rattle.calling.specs.Saying.{word, fours, sum, yesWord, saidAs, refusedAs, checkedAs, askedAs, numberAs, orderAs, countedAs, writtenAs, addedAs, solvedAs};
+ghost use Rattle.calling.specs.Saying.{word, fours, sum, yesWord, saidAs, refusedAs, checkedAs, askedAs, numberAs, orderAs, countedAs, writtenAs, addedAs, solvedAs, wasWord};
 
 // The refusal's number or 0, what the call says, completed rounds, and how many words at the front of the result buffer are the answer's.
 pub struct Told {
@@ -87,12 +88,21 @@ pub fn asked(a: queries::Answer) -> Told
     }
 }
 
-// The number of a name that was entered; so many words say what that changed.
+fn was_word(was: Was) -> u32
+    ensures { λ r. ⌜ r ≡ wasWord was ⌝ }
+{
+    match was {
+        Was::New => 1,
+        Was::Known => 0,
+    }
+}
+
+// The number of a name that was entered, with 1 for new and 0 for known; so many words say what that changed.
 pub fn numbered(a: names::Answer, words: usize) -> Told
     ensures { λ r. ⌜ r ≡ numberAs (toldAnswer a) words ⌝ }
 {
     match a {
-        names::Answer::Number(n) => said(n, 0, words),
+        names::Answer::Number(n, was) => said(n, was_word(was), words),
         names::Answer::Refused(why) => refused(why, 0, words),
     }
 }

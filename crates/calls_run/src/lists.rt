@@ -3,6 +3,7 @@ use cases::next_line;
 use cases::number_from;
 use names::Answer;
 use names::enter;
+use rules::Was;
 ghost use Prim.Native.Nat.{_≤_, _<_};
 ghost use lib.ListN.{length};
 
@@ -77,14 +78,17 @@ fn name_end(s: &[u8], at: usize) -> usize
     i
 }
 
-fn is_number(got: Answer, number: u32) -> bool {
+fn is_new(got: Answer, number: u32) -> bool {
     match got {
-        Answer::Number(n) => n == number,
+        Answer::Number(n, was) => match was {
+            Was::New => n == number,
+            Was::Known => false,
+        },
         Answer::Refused(_) => false,
     }
 }
 
-// Enters the names that stand behind a line's first word. Does each get the next number?
+// Enters the names that stand behind a line's first word. Is each new, with the next number?
 pub fn enter_names(s: &[u8], at: usize, pool: &mut [u8], table: &mut [u32]) -> bool {
     if s.len() <= at {
         return false;
@@ -97,7 +101,7 @@ pub fn enter_names(s: &[u8], at: usize, pool: &mut [u8], table: &mut [u32]) -> b
         }
         let start = i + 1;
         let end = name_end(s, start);
-        if !is_number(enter(pool, table, &s[start..end]), number) {
+        if !is_new(enter(pool, table, &s[start..end]), number) {
             return false;
         }
         number = std::num::wrapping_add_u32(number, 1);

@@ -5,21 +5,18 @@ use mathlib.Core.List.{List}
 use Prim.Native.Nat.{ℕ, _+_, _*_, _≤_, _<_}
 use native.Mathlib.Omega.{arith}
 use lib.ListN.{length}
-use Rattle.rules.specs.Base.{got, bounded}
+use Rattle.rules.specs.Base.{Got, got, refused, bounded}
 use Rattle.rules.specs.Trees.{Names, Con, Binding}
 use Rattle.rules.specs.Names.{tableOf, numbersOf, isHeld}
 use Rattle.rules.specs.Solving.{accepted, stopped, run, enough, solve}
 use Rattle.rules.specs.Calls.{Solved, refusedAfter, solvedOf, setGiven, solveCall}
+use Rattle.rules.specs.Ceiling.{variablesOf, ceilingOf, Ceiling, ceilingCall}
 use Rattle.laws.specs.NameTable.{Good}
 use Rattle.laws.specs.ReadLists.{Words}
 use Rattle.ending.specs.Runs.{roundsOf, bindingRounds}
-use Rattle.ending.specs.Sets.{Admitted, start, variablesOf, same-from, never-out, rounds-few, rounds-most, binding-most, bindings-same}
+use Rattle.ending.specs.Sets.{Admitted, start, same-from, never-out, rounds-few, rounds-most, binding-most, bindings-same}
 use Rattle.ending.specs.Tables.{table-known}
-use Rattle.ending.specs.Calls.{roundsIn, rounds-told, stop-told, call-answers}
-
--- V + 6,144 x (V + 1)
-abbrev pub ceilingOf : ℕ → ℕ
-ceilingOf v = v + 6_144 * (v + 1)
+use Rattle.ending.specs.Calls.{roundsIn, rounds-told, stop-told, call-answers, ceiling-of, no-ceiling}
 
 -- ══ A well formed set of at most 2,048 records, over a well formed table ══
 
@@ -80,3 +77,21 @@ call-ends pool table set result work small = call-answers pool table set result 
           by-variables = λ ds e. let same : cs ≡ ds = cc in rw (told, ← same) (ceiling good admitted);
           numbered = λ k e. ends good admitted .0 k (stop-told (solve ν bounded cs) 0 k e);
         }
+
+-- ══ The call that gives the ceiling, on the same words ══
+
+-- what solving answers, against what that call gives
+pub record Under (pool table set : List ℕ) (c : Got Ceiling) (s : Solved) : Type 0 where
+  -- the rounds that solving reports, accepted or refused, never pass the ceiling,
+  pub rounds : (m : Ceiling) → c ≡ got m → roundsIn s ≤ m .rounds
+  -- and its binding rounds alone never pass the number of variables
+  pub binding : (m : Ceiling) → c ≡ got m → (cs : List (Con ℕ)) → setGiven (tableOf pool table) set ≡ got cs → bindingRounds (numbersOf (tableOf pool table)) bounded enough (start cs) ≤ m .variables
+  -- where no ceiling is given, solving completes no round
+  pub none : (n : ℕ) → c ≡ refused n → roundsIn s ≡ 0
+
+pub call-ceiling : (pool table set result work : List ℕ) → Words set → Under pool table set (ceilingCall pool table set) (solveCall pool table set result work .answer)
+call-ceiling pool table set result work small = record {
+  rounds = λ m e. let g = ceiling-of pool table set small m e in rw (g .is) (call-ends pool table set result work small .by-variables (g .cons) (g .given));
+  binding = λ m e cs i. let g = ceiling-of pool table set small m e in let same : g .cons ≡ cs = cc (g .given) in rw (g .is, ← same) (bindings-at-most (g .good) (g .admitted));
+  none = no-ceiling pool table set result work;
+}

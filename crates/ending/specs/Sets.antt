@@ -8,8 +8,9 @@ use native.Mathlib.Omega.{arith}
 use lib.ListN.{length}
 use Rattle.rules.specs.Base.{bounded, all, collect, sumOf}
 use Rattle.rules.specs.Trees.{Open, var, quant, par, Names, cons, Con, equal, isDim, isScalar, hasField, Binding, orderAtom, opens, opensCon, sizeCon}
-use Rattle.rules.specs.Contents.{variablesIn, sort}
+use Rattle.rules.specs.Contents.{variablesIn}
 use Rattle.rules.specs.WellFormed.{goodTy, goodCon, goodOpen}
+use Rattle.rules.specs.Ceiling.{variablesOf}
 use Rattle.rules.specs.Rounds.{State}
 use Rattle.rules.specs.Solving.{accepted, stopped, run, enough, solve}
 use Rattle.laws.specs.Lists.{and-left, and-right, in-head, Every, every-left, every-right, every-as}
@@ -85,11 +86,6 @@ module _ {N : Type 0} where
   -- where solving starts
   abbrev pub start : List (Con N) → State N
   start cs = record { cons = cs; binds = [] }
-
-module _ {N : Type 0} (ν : Names N) where
-  -- the distinct variables of a set
-  unfoldable pub variablesOf : List (Con N) → List N
-  variablesOf cs = sort ν (variablesIn (collect opensCon cs))
 
 module _ {N : Type 0} {ν : Names N} {held : N → Bool} (known : Known ν held) {cs : List (Con N)} (admitted : Admitted ν held cs) where
   over-start : (xs : List N) → Every (In xs) (collect opensCon cs) → Over ν xs (start cs)

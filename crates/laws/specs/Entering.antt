@@ -14,6 +14,8 @@ use lib.ListN.{length, take, drop, getD, set, length-drop, length-append, length
 use lib.Seq.{take-nil, take-take, take-at, drop-at, take-append-seam, length-take-le, take-suc-set, getD-set-same, getD-set-other, getD-take, drop-drop, drop-set-lt}
 use Rattle.rules.specs.Base.{Got, got, refused, need, _>>_, any, isNone}
 use Rattle.rules.specs.Names.{Bytes, Table, isHeld, nameAsked, tableOf, cut, namesOf, used, lengthsGood, sameBytes, distinct, tableGood, tableGiven, lentTable, numberOf, hasRoom, unchanged, enterNew, enterKnown, enterChecks, enterChecked, enter}
+use Rattle.rules.specs.declared.Was.{Was}
+use Rattle.rules.specs.declared.Was.the-variants.{New, Known}
 use Rattle.laws.specs.Checks.{need-passed, first-passed, next-passed}
 use Rattle.laws.specs.Lists.{and-left, and-right}
 use Rattle.laws.specs.NameTable.{endsOf, startAt, lengths-step, same-yes, same-no, used-is, used-within, Laid, length-names, Good, good-laid, good-distinct, good-is, given-good, good-given, Asked, search-any, search-found, room-is, new-is}
@@ -210,7 +212,7 @@ pub record Missing (pool table : List ℕ) (name : Bytes) : Type 0 where
 
 pub data Case (pool table : List ℕ) (name : Bytes) : Type 0 where
   stopped : (k : ℕ) → enterChecks pool table name ≡ refused k → enter pool table name ≡ unchanged pool table (refused k) → Case pool table name
-  known : (i : ℕ) → Asked pool table i name → enter pool table name ≡ unchanged pool table (got i) → Case pool table name
+  known : (i : ℕ) → Asked pool table i name → enter pool table name ≡ unchanged pool table (got (i, Known)) → Case pool table name
   full : Good pool table → any (sameBytes name) (namesOf (tableOf pool table)) ≡ false → Missing pool table name → enter pool table name ≡ unchanged pool table (refused 3) → Case pool table name
   new : Enters pool table name → enter pool table name ≡ enterNew pool table name → Case pool table name
 
@@ -310,12 +312,12 @@ pub record SameFront (pool table pool′ table′ : List ℕ) : Type 0 where
   pub pools : take 8192 pool ≡ take 8192 pool′
   pub tables : take 257 table ≡ take 257 table′
 
-answerFrom : Option ℕ → Bool → ℕ → Got ℕ
-answerFrom (some i) b c = got i
+answerFrom : Option ℕ → Bool → ℕ → Got (ℕ × Was)
+answerFrom (some i) b c = got (i, Known)
 answerFrom none false c = refused 3
-answerFrom none true c = got c
+answerFrom none true c = got (c, New)
 
-answerOf : Got (Unit {0}) → Table → Bytes → Got ℕ
+answerOf : Got (Unit {0}) → Table → Bytes → Got (ℕ × Was)
 answerOf (refused k) t name = refused k
 answerOf (got u) t name = answerFrom (numberOf 0 name (namesOf t)) (hasRoom t name) (t .count)
 
@@ -348,5 +350,5 @@ module _ {pool table pool′ table′ : List ℕ} (s : SameFront pool table pool
   unfolding enter enterChecks
   same-answer name =
       checked-answer pool table name (enterChecks pool table name)
-      ∙ ap₂ {C = Got ℕ} (λ g t. answerOf (g >> need (leb 1 (length name) && leb (length name) 48) 2) t name) same-given same-table
+      ∙ ap₂ {C = Got (ℕ × Was)} (λ g t. answerOf (g >> need (leb 1 (length name) && leb (length name) 48) 2) t name) same-given same-table
       ∙ sym (checked-answer pool′ table′ name (enterChecks pool′ table′ name))

@@ -13,6 +13,7 @@ use lib.ListN.{length, take, drop, getD, set, length-take, length-drop, drop-of-
 use lib.Seq.{drop-cons, getD-take, getD-drop, take-take, take-add, drop-at, length-take-le}
 use Rattle.rules.specs.Base.{got, need, _>>_, list-dec, any, isNone}
 use Rattle.rules.specs.Names.{Bytes, tableOf, isHeld, held, cut, namesOf, used, lengthsGood, sameBytes, distinct, tableGood, tableGiven, lentTable, numberOf, numbered, nameAsked, hasRoom, enterNew, startIn}
+use Rattle.rules.specs.declared.Was.the-variants.{New}
 use Rattle.laws.specs.Lists.{and-left, and-right, is-yes, is-no, yes-is}
 use Rattle.laws.specs.Checks.{need-passed, first-passed, next-passed}
 use Rattle.laws.specs.Order.{Tells}
@@ -389,13 +390,13 @@ module _ {pool table : List ℕ} (laid : Laid pool table) (name : Bytes) where
   room-is = ap (λ (u : ℕ). ltb (getD table 0 0) 256 && leb (u + length name) 8192) (used-is table (laid .words) (laid .few))
 
   pub new-is : enterNew pool table name ≡ record {
-    answer = got (getD table 0 0);
+    answer = got (getD table 0 0, New);
     pool = take (startAt table (getD table 0 0)) pool ++ name ++ drop (startAt table (getD table 0 0) + length name) pool;
     table = set (set table 0 (suc (getD table 0 0))) (suc (getD table 0 0)) (startAt table (getD table 0 0) + length name);
   }
   unfolding enterNew tableOf endsOf
   new-is = ap (λ (free : ℕ). record {
-    answer = got (getD table 0 0);
+    answer = got (getD table 0 0, New);
     pool = take free pool ++ name ++ drop (free + length name) pool;
     table = set (set table 0 (suc (getD table 0 0))) (suc (getD table 0 0)) (free + length name);
   }) (used-is table (laid .words) (laid .few))

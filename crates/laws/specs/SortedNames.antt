@@ -113,6 +113,14 @@ module _ {N : Type 0} (ν : Names N) (P : N → Type 0) (tells : Tells P (ν .or
   of-sort [] ps z k = k
   of-sort (x ∷ xs) ps z k = of-sorted x (sort ν xs) (ps .0) (sort-every ν P xs (ps .1)) z (⊎-elim (λ e. inl e) (λ i. inr (of-sort xs (ps .1) z i)) k)
 
+  -- a name that isn't there makes one more
+  pub sorted-more : (x : N) (ys : List N) → P x → Every P ys → (In x ys → ⊥) → length (sorted ν x ys) ≡ suc (length ys)
+  unfolding sorted
+  sorted-more x [] p ps f = refl
+  sorted-more x (y ∷ ys) p ps f =
+      by-order ν (λ l. length l ≡ suc (suc (length ys))) x y ys (λ e. refl) (λ e. absurd (f (inl (tells .same x y p (ps .0) e))))
+      (λ e. omega (arith, sorted-more x ys p (ps .1) (λ i. f (inr i))))
+
   pub sort-to : (xs : List N) → Every P xs → (z : N) → List·Memᴰ z xs → List·Memᴰ z (sort ν xs)
   sort-to xs p z m = in-member (sort ν xs) (of-sort xs p z (member-in xs m))
 

@@ -10,6 +10,7 @@ use Rattle.rules.specs.Names.{Bytes, orderBytes, tableGiven, nameAsked, partAsk
 use Rattle.rules.specs.Numbers as numbers
 use Rattle.rules.specs.Numbers.{refusalIn, number}
 use Rattle.rules.specs.Refusals.{numberOf}
+use Rattle.rules.specs.declared.Was.{Was}
 use Rattle.laws.specs.Numbers.{number-injective}
 use Rattle.names.specs.declared.Order.{Order}
 use Rattle.names.specs.declared.Order.the-variants.{Less, Same, More}
@@ -37,9 +38,9 @@ checked-tells (checked.the-variants.Refused r) checked.the-variants.Good e = cc
 checked-tells (checked.the-variants.Refused r) (checked.the-variants.Refused s) e = ap checked.the-variants.Refused (number-injective r s (cc))
 
 pub answer-tells : (a b : Answer) → toldAnswer a ≡ toldAnswer b → a ≡ b
-answer-tells (Number i) (Number j) e = cc
-answer-tells (Number i) (Refused s) e = cc
-answer-tells (Refused r) (Number j) e = cc
+answer-tells (Number i v) (Number j w) e = let p : _≡_ {A = ℕ × Was} (i, v) (j, w) = cc in ap (λ (q : ℕ × Was). Number (q .0) (q .1)) p
+answer-tells (Number i v) (Refused s) e = cc
+answer-tells (Refused r) (Number j w) e = cc
 answer-tells (Refused r) (Refused s) e = ap Refused (number-injective r s (cc))
 
 -- of entering: the answer, and all that pool and table hold afterwards
@@ -58,7 +59,7 @@ numberChecked checked.the-variants.Good = 0
 numberChecked (checked.the-variants.Refused r) = numberOf r
 
 abbrev pub numberAnswer : Answer → ℕ
-numberAnswer (Number i) = 0
+numberAnswer (Number i w) = 0
 numberAnswer (Refused r) = numberOf r
 
 pub checked-in : (a : Checked) → numberChecked a ≡ refusalIn (toldChecked a)
@@ -68,7 +69,7 @@ checked-in (checked.the-variants.Refused r) = refl
 
 answer-in : (a : Answer) → numberAnswer a ≡ refusalIn (toldAnswer a)
 unfolding refusalIn
-answer-in (Number i) = refl
+answer-in (Number i w) = refl
 answer-in (Refused r) = refl
 
 asked-in : (g : Got Bytes) → refusalIn (refusalOf g) ≡ refusalIn g

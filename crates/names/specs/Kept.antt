@@ -1,6 +1,6 @@
 -- The promises of entering are kept, by the cases in which entering ends.
 -- Assumes nothing.
-use mathlib.Core.Path.{_≡_, sym, _∙_, ap}
+use mathlib.Core.Path.{_≡_, refl, sym, _∙_, ap}
 use mathlib.Core.Logic.{⊎-elim}
 use mathlib.Core.Bool.{false}
 use mathlib.Core.List.{List, [], _∷_}
@@ -10,6 +10,8 @@ use lib.ListN.{length, take, drop, getD, List·getD-append}
 use lib.Seq.{getD-at}
 use Rattle.rules.specs.Base.{Got, got, refused, any}
 use Rattle.rules.specs.Names.{Bytes, orderBytes, numbered, sameBytes, tableOf, namesOf, tableGiven, nameAsked, partFrom, partAsked, Entered, unchanged, enterChecks, enterNew, enter}
+use Rattle.rules.specs.declared.Was.{Was}
+use Rattle.rules.specs.declared.Was.the-variants.{New, Known}
 use Rattle.laws.specs.Order.{self}
 use Rattle.laws.specs.ByteOrder.{bytes-lawful}
 use Rattle.laws.specs.NameTable.{Good, good-laid, good-given, length-names, good-distinct, distinct-same, held-tells, Asked, asked-name, name-asked, search-none, free-is, startAt, partOf, start-in, part-length, name-is, placed, new-is}
@@ -51,6 +53,10 @@ module _ (pool table : List ℕ) where
 
 -- ══ Entering ══
 
+-- one answer: one number, and new or known alike
+one-answer : {i j : ℕ} {v w : Was} → _≡_ {A = Got (ℕ × Was)} (got (i, v)) (got (j, w)) → (i ≡ j) × (v ≡ w)
+one-answer {i} {j} {v} {w} e = let p : _≡_ {A = ℕ × Was} (i, v) (j, w) = cc in (ap (λ q. q .0) p, ap (λ q. q .1) p)
+
 module _ (pool table : List ℕ) (name : Bytes) where
   -- what is to be shown where the answer is the number i
   record Success (i : ℕ) (after : Entered) : Type 0 where
@@ -64,7 +70,7 @@ module _ (pool table : List ℕ) (name : Bytes) where
   unheld g n j h = let a = asked-name h in search-none name (namesOf (tableOf pool table)) n j (omega (arith, a .held, length-names (good-laid g))) (a .name)
 
   -- a new name gets the next number
-  new-number : Enters pool table name → enterNew pool table name .answer ≡ got (getD table 0 0)
+  new-number : Enters pool table name → enterNew pool table name .answer ≡ got (getD table 0 0, New)
   new-number en = ap (λ r. r .answer) (new-is (good-laid (en .good)) name)
 
   new-success : Enters pool table name → Success (getD table 0 0) (enterNew pool table name)
@@ -85,14 +91,14 @@ module _ (pool table : List ℕ) (name : Bytes) where
       ∙ ap (λ (ns : List Bytes). got (getD ns j [])) (names-with en)
       ∙ ap got (List·getD-append (namesOf (tableOf pool table)) (name ∷ []) [] j (omega (arith, a .held)) ∙ a .name)
 
-  success : (i : ℕ) → enter pool table name .answer ≡ got i → Success i (enter pool table name)
-  success i h = go (enter-case pool table name)
+  success : (i : ℕ) (w : Was) → enter pool table name .answer ≡ got (i, w) → Success i (enter pool table name)
+  success i w h = go (enter-case pool table name)
     where
       go : Case pool table name → Success i (enter pool table name)
       go (stopped k z e) = let y : _≡_ {A = ℕ} 0 1 = cc (ap (λ r. r .answer) e) in absurd (omega arith)
       go (full g a m e) = let y : _≡_ {A = ℕ} 0 1 = cc (ap (λ r. r .answer) e) in absurd (omega arith)
-      go (known k a e) = let y : k ≡ i = cc (ap (λ r. r .answer) e) in rw (e, ← y) (record { wellFormed = good-given (a .good); named = asked-is a })
-      go (new en e) = let y : getD table 0 0 ≡ i = cc (ap (λ r. r .answer) e, new-number en) in rw (e, ← y) (new-success en)
+      go (known k a e) = let y = one-answer (sym (ap (λ r. r .answer) e) ∙ h) in rw (e, ← y .0) (record { wellFormed = good-given (a .good); named = asked-is a })
+      go (new en e) = let y = one-answer (sym (new-number en) ∙ sym (ap (λ r. r .answer) e) ∙ h) in rw (e, ← y .0) (new-success en)
 
   kept : (j : ℕ) (n : Bytes) → nameAsked pool table j ≡ got n → nameAsked (enter pool table name .pool) (enter pool table name .table) j ≡ got n
   kept j n h = go (enter-case pool table name)
@@ -103,14 +109,42 @@ module _ (pool table : List ℕ) (name : Bytes) where
       go (known k a e) = rw e h
       go (new en e) = rw e (new-keeps en j n h)
 
-  again : (i : ℕ) → nameAsked pool table i ≡ got name → enter pool table name ≡ unchanged pool table (got i)
+  again : (i : ℕ) → nameAsked pool table i ≡ got name → enter pool table name ≡ unchanged pool table (got (i, Known))
   again i h = go (enter-case pool table name)
     where
-      go : Case pool table name → enter pool table name ≡ unchanged pool table (got i)
+      go : Case pool table name → enter pool table name ≡ unchanged pool table (got (i, Known))
       go (stopped k z e) = let y : _≡_ {A = ℕ} 0 1 = cc (pass-checks pool table name (held-passes pool table (asked-name h))) in absurd (omega arith)
       go (full g n m e) = absurd (unheld g n i h)
       go (known k b e) = rw (no-name-twice pool table k i name (asked-is b) h) at e
       go (new en e) = absurd (unheld (en .good) (en .new) i h)
+
+  -- what new and known mean, where the answer is the number i
+  record Said (i : ℕ) (w : Was) : Type 0 where
+    knownOnly : w ≡ Known → nameAsked pool table i ≡ got name
+    newOnly : w ≡ New → Unheld pool table name × (i ≡ tableOf pool table .count)
+    newAlways : Unheld pool table name → w ≡ New
+
+  said : (i : ℕ) (w : Was) → enter pool table name .answer ≡ got (i, w) → Said i w
+  unfolding tableOf
+  said i w h = go (enter-case pool table name)
+    where
+      go : Case pool table name → Said i w
+      go (stopped k z e) = let y : _≡_ {A = ℕ} 0 1 = cc (ap (λ r. r .answer) e) in absurd (omega arith)
+      go (full g a m e) = let y : _≡_ {A = ℕ} 0 1 = cc (ap (λ r. r .answer) e) in absurd (omega arith)
+      go (known k a e) =
+          let y = one-answer (sym (ap (λ r. r .answer) e) ∙ h) in
+          record {
+            knownOnly = λ _. rw (y .0) at (asked-is a);
+            newOnly = λ n. let z : _≡_ {A = ℕ} 0 1 = cc (y .1) in absurd (omega arith);
+            newAlways = λ u. absurd (u k (asked-is a));
+          }
+      go (new en e) =
+          let y = one-answer (sym (new-number en) ∙ sym (ap (λ r. r .answer) e) ∙ h) in
+          record {
+            knownOnly = λ n. let z : _≡_ {A = ℕ} 0 1 = cc (y .1) in absurd (omega arith);
+            newOnly = λ _. (unheld (en .good) (en .new), sym (y .0));
+            newAlways = λ _. sym (y .1);
+          }
 
   without-room : enterChecks pool table name ≡ got tt → Unheld pool table name → NoRoom pool table name → enter pool table name ≡ unchanged pool table (refused 3)
   unfolding tableOf
@@ -137,13 +171,13 @@ module _ (pool table : List ℕ) (name : Bytes) where
   refusal : (k : ℕ) → enter pool table name .answer ≡ refused k → enter pool table name ≡ unchanged pool table (refused k)
   refusal k h = go (enter-case pool table name)
     where
-      as-told : (a : Got ℕ) → enter pool table name ≡ unchanged pool table a → enter pool table name ≡ unchanged pool table (refused k)
+      as-told : (a : Got (ℕ × Was)) → enter pool table name ≡ unchanged pool table a → enter pool table name ≡ unchanged pool table (refused k)
       as-told a e = e ∙ ap (unchanged pool table) (sym (ap (λ r. r .answer) e) ∙ h)
 
       go : Case pool table name → enter pool table name ≡ unchanged pool table (refused k)
       go (stopped j z e) = as-told (refused j) e
       go (full g n m e) = as-told (refused 3) e
-      go (known j b e) = as-told (got j) e
+      go (known j b e) = as-told (got (j, Known)) e
       go (new en e) = let y : _≡_ {A = ℕ} 0 1 = cc (ap (λ r. r .answer) e, new-number en) in absurd (omega arith)
 
   behind-pool : drop 8192 (enter pool table name .pool) ≡ drop 8192 pool
@@ -164,19 +198,27 @@ module _ (pool table : List ℕ) (name : Bytes) where
       go (known j b e) = ap (λ r. drop 257 (r .table)) e
       go (new en e) = ap (λ r. drop 257 (r .table)) e ∙ table-behind en
 
-  pub promises-kept : Promises pool table name
-  promises-kept = record {
-    wellFormed = λ i h. success i h .wellFormed;
-    named = λ i h. success i h .named;
-    noOther = λ i n h k. cc (success i h .named);
-    kept = kept;
-    again = again;
-    withoutRoom = without-room;
-    only = only;
-    refusal = refusal;
-    behindPool = behind-pool;
-    behindTable = behind-table;
-  }
+pub promises-kept : (pool table : List ℕ) (name : Bytes) → Promises pool table name
+promises-kept pool table name =
+    let s = success pool table name in
+    let d = said pool table name in
+    record {
+      wellFormed = λ i w h. s i w h .wellFormed;
+      named = λ i w h. s i w h .named;
+      noOther = λ i w n h k. cc (s i w h .named);
+      kept = kept pool table name;
+      again = again pool table name;
+      knownOnly = λ i h. d i Known h .knownOnly refl;
+      newOnly = λ i h. d i New h .newOnly refl;
+      newAlways = λ i w h. d i w h .newAlways;
+      -- it is then held
+      twice = λ i w h. again (enter pool table name .pool) (enter pool table name .table) name i (s i w h .named);
+      withoutRoom = without-room pool table name;
+      only = only pool table name;
+      refusal = refusal pool table name;
+      behindPool = behind-pool pool table name;
+      behindTable = behind-table pool table name;
+    }
 
 -- ══ What lies behind is not read ══
 

@@ -1,6 +1,6 @@
 -- What entering a name promises. A name without room is refused, never replaced by another.
 -- `nameAsked pool table i ≡ got n` reads: the number i has the name n. `enter pool table name` is the answer, and what pool and table hold
--- afterwards; the contract of the code is an equation with it. Each promise is proved in Kept, for every pool, table and name.
+-- afterwards; the contract of the code is an equation with it. The answer is a number with new or known, or a refusal. Each promise is proved in Kept, for every pool, table and name.
 -- Assumes nothing.
 use mathlib.Core.Path.{_≡_}
 use mathlib.Core.Logic.{_⊎_}
@@ -9,6 +9,8 @@ use Prim.Native.Nat.{ℕ, _-_, _≤_, _<_, Ordering·eq}
 use lib.ListN.{length, take, drop, getD}
 use Rattle.rules.specs.Base.{got, refused}
 use Rattle.rules.specs.Names.{Bytes, tableOf, held, used, namesOf, numbersOf, tableGiven, nameAsked, partAsked, unchanged, enterChecks, enter}
+use Rattle.rules.specs.declared.Was.{Was}
+use Rattle.rules.specs.declared.Was.the-variants.{New, Known}
 
 module _ (pool table : List ℕ) (name : Bytes) where
   -- no number has this name
@@ -21,15 +23,24 @@ module _ (pool table : List ℕ) (name : Bytes) where
 
   pub record Promises : Type 0 where
     -- where the answer is a number, pool and table pass every check afterwards,
-    pub wellFormed : (i : ℕ) → enter pool table name .answer ≡ got i → tableGiven (enter pool table name .pool) (enter pool table name .table) ≡ got tt
+    pub wellFormed : (i : ℕ) (w : Was) → enter pool table name .answer ≡ got (i, w) → tableGiven (enter pool table name .pool) (enter pool table name .table) ≡ got tt
     -- that number has the entered name,
-    pub named : (i : ℕ) → enter pool table name .answer ≡ got i → nameAsked (enter pool table name .pool) (enter pool table name .table) i ≡ got name
+    pub named : (i : ℕ) (w : Was) → enter pool table name .answer ≡ got (i, w) → nameAsked (enter pool table name .pool) (enter pool table name .table) i ≡ got name
     -- and no other
-    pub noOther : (i : ℕ) (n : Bytes) → enter pool table name .answer ≡ got i → nameAsked (enter pool table name .pool) (enter pool table name .table) i ≡ got n → n ≡ name
+    pub noOther : (i : ℕ) (w : Was) (n : Bytes) → enter pool table name .answer ≡ got (i, w) → nameAsked (enter pool table name .pool) (enter pool table name .table) i ≡ got n → n ≡ name
     -- every number keeps the name that it had
     pub kept : (j : ℕ) (n : Bytes) → nameAsked pool table j ≡ got n → nameAsked (enter pool table name .pool) (enter pool table name .table) j ≡ got n
-    -- a name that is held gets its number again, also when the table is full, and nothing changes
-    pub again : (i : ℕ) → nameAsked pool table i ≡ got name → enter pool table name ≡ unchanged pool table (got i)
+    -- a name that is held gets its number again and is said to be known, also when the table is full, and nothing changes
+    pub again : (i : ℕ) → nameAsked pool table i ≡ got name → enter pool table name ≡ unchanged pool table (got (i, Known))
+    -- 'known' means just this
+    pub knownOnly : (i : ℕ) → enter pool table name .answer ≡ got (i, Known) → nameAsked pool table i ≡ got name
+    -- 'new' is said of a name that no number had, which gets the next number,
+    pub newOnly : (i : ℕ) → enter pool table name .answer ≡ got (i, New) → Unheld × (i ≡ tableOf pool table .count)
+    -- and of every such name that gets one
+    pub newAlways : (i : ℕ) (w : Was) → enter pool table name .answer ≡ got (i, w) → Unheld → w ≡ New
+    -- once it is entered, entering it again says known with the same number, and nothing changes
+    pub twice : (i : ℕ) (w : Was) → enter pool table name .answer ≡ got (i, w)
+        → enter (enter pool table name .pool) (enter pool table name .table) name ≡ unchanged (enter pool table name .pool) (enter pool table name .table) (got (i, Known))
     -- a new name without room is refused with 3,
     pub withoutRoom : enterChecks pool table name ≡ got tt → Unheld → NoRoom → enter pool table name ≡ unchanged pool table (refused 3)
     -- and a 3 means just this

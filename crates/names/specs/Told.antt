@@ -10,6 +10,7 @@ use Rattle.rules.specs.Base.{Got, got, refused}
 use Rattle.rules.specs.Refusals.{numberOf}
 use Rattle.rules.specs.Names.{Bytes, PoolPart, Entered, tableOf, namesOf}
 use Rattle.laws.specs.NameTable.{startAt}
+use Rattle.rules.specs.declared.Was.{Was}
 use Rattle.names.specs.declared.Order.{Order}
 use Rattle.names.specs.declared.Order.the-variants.{Less, Same, More}
 use Rattle.names.specs.declared.Answer.{Answer}
@@ -32,8 +33,8 @@ abbrev pub toldChecked : Checked → Got (Unit {0})
 toldChecked checked.the-variants.Good = got tt
 toldChecked (checked.the-variants.Refused r) = refused (numberOf r)
 
-abbrev pub toldAnswer : Answer → Got ℕ
-toldAnswer (Number i) = got i
+abbrev pub toldAnswer : Answer → Got (ℕ × Was)
+toldAnswer (Number i w) = got (i, w)
 toldAnswer (Refused r) = refused (numberOf r)
 
 -- an answer, with what pool and table hold afterwards

@@ -6,6 +6,7 @@ use rules::NAME_BYTES;
 use rules::NAMES;
 use rules::POOL_BYTES;
 use rules::Refusal;
+use rules::Was;
 ghost use mathlib.Core.Path.{_≡_};
 ghost use mathlib.Core.Bool.{_&&_};
 ghost use mathlib.Core.List.{_++_};
@@ -186,7 +187,7 @@ fn enter_new(pool: &mut [u8], table: &mut [u32], name: &[u8]) -> Answer
     copy(&mut pool[free..], name);
     table[0] = n + 1;
     table[k + 1] = (free + name.len()) as u32;
-    Answer::Number(n)
+    Answer::Number(n, Was::New)
 }
 
 // A name is entered into a table that is well formed.
@@ -201,7 +202,7 @@ pub fn enter_good(pool: &mut [u8], table: &mut [u32], name: &[u8]) -> Answer
         return Answer::Refused(Refusal::NameLength);
     }
     match search(pool, table, 0, name) {
-        Found::At(i) => Answer::Number(i),
+        Found::At(i) => Answer::Number(i, Was::Known),
         Found::Nothing => enter_new(pool, table, name),
     }
 }

@@ -2,15 +2,16 @@
 use rules::POOL_BYTES;
 use rules::Refusal;
 use rules::TABLE_WORDS;
+use rules::Was;
 ghost use mathlib.Core.Path.{_≡_};
 ghost use Rattle.rules.specs.Names.{orderBytes, tableGiven, nameAsked, partAsked, enter};
 ghost use Rattle.names.specs.Told.{toldOrder, toldChecked, refusalOf, IsPart, entered};
 
 pub mod inner;
 
-// What entering answers: the name's number, or why it has none.
+// What entering answers: the name's number and whether it is new, or why it has none.
 pub enum Answer {
-    Number(u32),
+    Number(u32, Was),
     Refused(Refusal),
 }
 
@@ -95,7 +96,7 @@ pub fn name_of<'a, 'b>(pool: &'a [u8], table: &'b [u32], number: u32) -> &'a [u8
     }
 }
 
-// The number of a name, which is entered if it is not held.
+// The number of a name, which is entered if it is not held, and so new.
 pub fn enter(pool: &mut [u8], table: &mut [u32], name: &[u8]) -> Answer
     ensures { λ r. ⌜ entered r (now (pool .exit)) (now (table .exit)) ≡ enter (now (pool .entry)) (now (table .entry)) (now (name .entry)) ⌝ }
 {

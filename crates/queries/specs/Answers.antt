@@ -12,8 +12,7 @@ use Rattle.rules.specs.Names.{tableOf, namesOf, lentTable}
 use Rattle.rules.specs.Contents.{closed, contains, containsName, variables, unmixed, sort, namesIn}
 use Rattle.rules.specs.Calls.{lentResult, typeGiven, numbersGiven, apart, Listed, listing, resultAfter, aloneGiven, typeCall, containsCall, closedCall, variablesCall}
 use Rattle.laws.specs.NameTable.{Good, good-laid}
-use Rattle.laws.specs.Checks.{passed}
-use Rattle.laws.specs.Lists.{clash}
+use Rattle.laws.specs.Checks.{passed, stopped}
 use Rattle.laws.specs.ReadLists.{Every}
 use Rattle.laws.specs.KnownNames.{Known, ty-known}
 use Rattle.records.specs.Found.{Words32}
@@ -28,11 +27,6 @@ use Rattle.laws.specs.Contents.{same-eqb, contains-eqb}
 use Rattle.queries.specs.GoodOpens.{names-held, names-small}
 
 -- ══ A row of checks, and what comes after ══
-
-stopped : {A B : Type 0} (a : Got (Unit {0})) (m : Got A) (f : A → Got B) (n : ℕ) → (a >> m >> got (tt {0})) ≡ refused n → (a >>= λ _. m >>= f) ≡ refused n
-stopped (got u) (got x) f n e = clash (sym e)
-stopped (got u) (refused k) f n e = cc
-stopped (refused k) m f n e = cc
 
 -- a refusal leaves the result buffer as it is
 abbrev unlisted : ℕ → List ℕ → Listed

@@ -72,7 +72,7 @@ fn chosen(k: Kind, o: Open) -> Name
 }
 
 // The name of that kind which the record at a place gives.
-fn name_at(s: &[u32], i: usize, k: Kind) -> Name
+pub fn name_at(s: &[u32], i: usize, k: Kind) -> Name
     ensures { λ r. ⌜ toldName r ≡ choose k (opensView (viewAt (now (s .entry)) i)) ⌝ }
 {
     match opens_at(s, i) {

@@ -10,6 +10,7 @@ use Rattle.rules.specs.Writing.{Rec, rec, words}
 use Rattle.rules.specs.Adding.{satisfied, violated, unknown}
 use Rattle.rules.specs.Names.{tableOf}
 use Rattle.rules.specs.Calls.{setCall, typeCall, schemeCall, containsCall, closedCall, variablesCall, replacedType, replacedSet, replaceTypeCall, addedTo, addCall, Solved, solved, unsolved, refusedAfter, solvedOf, solvedWords, solvedSet, quantified, generalised, instantiated, Entry, judgedSet}
+use Rattle.rules.specs.Ceiling.{variablesOf, ceilingFor, ceilingCall}
 use Rattle.rules.specs.Rules.{rules}
 use Rattle.rules.specs.Examples.{pool, table, result, work, minus, x, y, z, a, L, P}
 
@@ -328,6 +329,27 @@ solving : map solves (
     ∷ []
 unfolding rules pool table
 solving = refl
+
+-- W-208, V: none; x twice and y are two; a parameter is none; x as variable and parameter is one, where solving is 4; a type is no set
+ceilings : map (λ (rs : List Rec). ceilingCall pool table (words rs)) (
+    []
+    ∷ (eq ∷ v x ∷ seq ∷ v y ∷ eq ∷ v y ∷ v x ∷ [])
+    ∷ (eq ∷ dims 2 ∷ fv x 1 ∷ fp a 1 ∷ rec 2 a 0 0 ∷ [])
+    ∷ (eq ∷ v x ∷ rec 2 x 0 0 ∷ [])
+    ∷ (v x ∷ [])
+    ∷ [])
+    ≡ got (record { variables = 0; rounds = 6_144 })
+    ∷ got (record { variables = 2; rounds = 18_434 })
+    ∷ got (record { variables = 1; rounds = 12_289 })
+    ∷ got (record { variables = 1; rounds = 12_289 })
+    ∷ refused 1
+    ∷ []
+unfolding rules pool table variablesOf ceilingCall
+ceilings = refl
+
+-- 'with at most 256 names that is 1,579,264'
+highest : ceilingFor 256 .rounds ≡ 1_579_264
+highest = refl
 
 -- ══ Schemes ══
 

@@ -10,6 +10,8 @@ use Rattle.rules.specs.Base.{Got, got, refused, _>>=_}
 use Rattle.rules.specs.Exponents.{Exp, frac, nought, one}
 use Rattle.rules.specs.Trees.{var, quant, par, free, base, _↑_}
 use Rattle.rules.specs.Names.{Entered, enter, hasRoom, nameAsked}
+use Rattle.rules.specs.declared.Was.{Was}
+use Rattle.rules.specs.declared.Was.the-variants.{New, Known}
 use Rattle.rules.specs.Values.{sumCall, timesCall, negationCall, quotientCall, FactorValue, ProductValue, multiplyCall, divideCall, inverseCall, raiseCall}
 use Rattle.rules.specs.Rules.{rules}
 use Rattle.rules.specs.Examples.{pool, table, x, y, a, L}
@@ -55,16 +57,16 @@ quotients = refl
 -- ══ Names ══
 
 -- what is seen of entering: the answer, the pool's first ten bytes, the table's first ten words
-abbrev seen : Entered → Got ℕ × List ℕ × List ℕ
+abbrev seen : Entered → Got (ℕ × Was) × List ℕ × List ℕ
 seen e = (e .answer, take 10 (e .pool), take 10 (e .table))
 
-abbrev before : Got ℕ → Got ℕ × List ℕ × List ℕ
+abbrev before : Got (ℕ × Was) → Got (ℕ × Was) × List ℕ × List ℕ
 before g = (g, 120 ∷ 121 ∷ 122 ∷ 97 ∷ 76 ∷ 80 ∷ 0 ∷ 0 ∷ 0 ∷ 0 ∷ [], 6 ∷ 1 ∷ 2 ∷ 3 ∷ 4 ∷ 5 ∷ 6 ∷ 0 ∷ 0 ∷ 0 ∷ [])
 
--- z is held as 2; 'hi' gets 6, at the first free byte; no byte and 49 bytes are 2
+-- z is held as 2 and known; 'hi' is new and gets 6, at the first free byte; no byte and 49 bytes are 2
 entered : map (λ (n : List ℕ). seen (enter pool table n)) ((122 ∷ []) ∷ (104 ∷ 105 ∷ []) ∷ [] ∷ replicate 49 65 ∷ [])
-    ≡ before (got 2)
-    ∷ (got 6, 120 ∷ 121 ∷ 122 ∷ 97 ∷ 76 ∷ 80 ∷ 104 ∷ 105 ∷ 0 ∷ 0 ∷ [], 7 ∷ 1 ∷ 2 ∷ 3 ∷ 4 ∷ 5 ∷ 6 ∷ 8 ∷ 0 ∷ 0 ∷ [])
+    ≡ before (got (2, Known))
+    ∷ (got (6, New), 120 ∷ 121 ∷ 122 ∷ 97 ∷ 76 ∷ 80 ∷ 104 ∷ 105 ∷ 0 ∷ 0 ∷ [], 7 ∷ 1 ∷ 2 ∷ 3 ∷ 4 ∷ 5 ∷ 6 ∷ 8 ∷ 0 ∷ 0 ∷ [])
     ∷ before (refused 2)
     ∷ before (refused 2)
     ∷ []
@@ -72,7 +74,7 @@ unfolding rules pool table
 entered = refl
 
 -- a name of 48 bytes is good
-longest : enter pool table (replicate 48 65) .answer ≡ got 6
+longest : enter pool table (replicate 48 65) .answer ≡ got (6, New)
 unfolding rules pool table
 longest = refl
 
@@ -87,8 +89,8 @@ fullPool = upTo 0 256 ++ replicate 7936 0
 abbrev fullTable : List ℕ
 fullTable = 256 ∷ upTo 1 256
 
--- a known name is found in it, an unknown one is 3
-whenFull : map (λ (n : List ℕ). enter fullPool fullTable n .answer) ((255 ∷ []) ∷ (65 ∷ 66 ∷ []) ∷ []) ≡ got 255 ∷ refused 3 ∷ []
+-- in it a known name is found and said to be known, an unknown one is 3
+whenFull : map (λ (n : List ℕ). enter fullPool fullTable n .answer) ((255 ∷ []) ∷ (65 ∷ 66 ∷ []) ∷ []) ≡ got (255, Known) ∷ refused 3 ∷ []
 unfolding rules upTo
 whenFull = refl
 

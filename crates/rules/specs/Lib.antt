@@ -20,6 +20,7 @@ pub mod Refusals
 pub mod Values
 pub mod Calls
 pub mod Numbers
+pub mod Ceiling
 pub mod Rules
 pub mod Examples
 pub mod CasesOfValues

@@ -1,4 +1,4 @@
--- Document 01, 'Names': the pool, the table, entering a name and asking for one.
+-- Document 01, 'Names': the pool, the table, entering a name and asking for one. Document 02, W-204: entering says whether a name is new.
 -- Assumes nothing.
 use mathlib.Core.Bool.{Bool, true, false, not, _&&_}
 use mathlib.Core.List.{List, [], _∷_, _++_}
@@ -9,6 +9,8 @@ use lib.Dec.{leb, ltb}
 use lib.ListN.{length, take, drop, getD, set}
 use Rattle.rules.specs.Base.{isYes, list-dec, any, Got, got, refused, _>>=_, _>>_, need}
 use Rattle.rules.specs.Trees.{Names}
+use Rattle.rules.specs.declared.Was.{Was}
+use Rattle.rules.specs.declared.Was.the-variants.{New, Known}
 
 abbrev pub Bytes : Type 0
 Bytes = List ℕ
@@ -93,9 +95,9 @@ unfoldable pub numberOf : ℕ → Bytes → List Bytes → Option ℕ
 numberOf i n [] = none
 numberOf i n (m ∷ ms) = elim (sameBytes n m) [ true ↦ some i | false ↦ numberOf (suc i) n ms ]
 
--- what entering answers, and what pool and table hold afterwards
+-- what entering answers, and what pool and table hold afterwards. W-204: 'the answer carries the number and new or known'
 pub record Entered : Type 0 where
-  pub answer : Got ℕ
+  pub answer : Got (ℕ × Was)
   pub pool : List ℕ
   pub table : List ℕ
 
@@ -118,13 +120,13 @@ unfoldable pub hasRoom : Table → Bytes → Bool
 hasRoom t name = ltb (t .count) 256 && leb (used 0 (held t) + length name) 8192
 
 -- 'a refusal changes nothing'
-abbrev pub unchanged : List ℕ → List ℕ → Got ℕ → Entered
+abbrev pub unchanged : List ℕ → List ℕ → Got (ℕ × Was) → Entered
 unchanged pool table a = record { answer = a; pool = pool; table = table }
 
 -- 'a new name is copied in at the first free pool byte', and gets the next number
 unfoldable pub enterNew : List ℕ → List ℕ → Bytes → Entered
 enterNew pool table name = record {
-  answer = got count;
+  answer = got (count, New);
   pool = take free pool ++ name ++ drop (free + length name) pool;
   table = set (set table 0 (suc count)) (suc count) (free + length name);
 }
@@ -135,9 +137,9 @@ enterNew pool table name = record {
     free : ℕ
     free = used 0 (held (tableOf pool table))
 
--- 'equal bytes get the same number, also when the table is full'; else 3, or the name is new
+-- 'equal bytes get the same number, also when the table is full', and W-204 'says known' there too; else 3, or the name is new
 unfoldable pub enterKnown : Option ℕ → Bool → List ℕ → List ℕ → Bytes → Entered
-enterKnown (some i) room pool table name = unchanged pool table (got i)
+enterKnown (some i) room pool table name = unchanged pool table (got (i, Known))
 enterKnown none false pool table name = unchanged pool table (refused 3)
 enterKnown none true pool table name = enterNew pool table name
 

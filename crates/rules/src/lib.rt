@@ -21,6 +21,12 @@ pub const POOL_BYTES: usize = 8192;
 
 pub const TABLE_WORDS: usize = 257;
 
+// What a name was before it was entered: nowhere in the table, or held there.
+pub enum Was {
+    New,
+    Known,
+}
+
 // Why a call gives no answer.
 pub enum Refusal {
     Malformed,

@@ -6,6 +6,9 @@ use Rattle.calling.proofs.told.numbered.Tie as tie
 enum-known-a : tie.Need-enum-known-a
 enum-known-a c = search needs
 
+was-word-requires : tie.Need-was-word-requires
+was-word-requires c κs = search needs
+
 said-requires : tie.Need-said-requires
 said-requires c κs = search needs
 
@@ -16,7 +19,7 @@ refused-requires : tie.Need-refused-requires
 refused-requires c κs = search needs
 
 returns : tie.Need-returns
-returns c = rw (c .before .before .a .given .1) (cc)
+returns c = rw (c .before .before .before .a .given .1) (cc)
 
 returns-2 : tie.Need-returns-2
 returns-2 c = rw (c .before .before .a2 .given .1) (cc)
@@ -24,4 +27,4 @@ returns-2 c = rw (c .before .before .a2 .given .1) (cc)
 pub numbered-spec : {M : Type 1} → statement M
 numbered-spec =
     tie.close
-    (tie.spec enum-known-a said-requires enum-known-a-2 refused-requires returns returns-2)
+    (tie.spec enum-known-a was-word-requires said-requires enum-known-a-2 refused-requires returns returns-2)

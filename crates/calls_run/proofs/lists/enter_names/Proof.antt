@@ -52,8 +52,8 @@ part-enter-end c = search needs
 enter-requires : tie.Need-enter-requires Inv-loop μ-loop
 enter-requires c κs = search needs
 
-is-number-requires : tie.Need-is-number-requires Inv-loop μ-loop
-is-number-requires c κs = search needs
+is-new-requires : tie.Need-is-new-requires Inv-loop μ-loop
+is-new-requires c κs = search needs
 
 same-length-3 : tie.Need-same-length-3 Inv-loop μ-loop
 same-length-3 c = search needs
@@ -101,7 +101,7 @@ enter-names-spec =
     part-enter-start
     part-enter-end
     enter-requires
-    is-number-requires
+    is-new-requires
     same-length-3
     same-length-4
     returns-3

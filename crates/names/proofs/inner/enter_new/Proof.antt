@@ -12,6 +12,7 @@ use lib.ListN.{length, take, drop, getD, set, length-drop, length-set, drop-of-l
 use lib.Seq.{take-all, drop-drop}
 use denote.Ref.{now}
 use Rattle.rules.specs.declared.Refusal.the-variants.{NoRoom}
+use Rattle.rules.specs.declared.Was.the-variants.{New}
 use Rattle.rules.specs.Names.{tableOf, hasRoom, enterKnown}
 use Rattle.laws.specs.NameTable.{startAt, Good, good-laid, used-within, room-is, new-is}
 use Rattle.names.specs.declared.Answer.the-variants.{Number, Refused}
@@ -46,7 +47,7 @@ module _ {p t : List ℕ} (g : Good p t) (n : List ℕ) where
     no-bytes h = rw (room-is (good-laid g) n, ← number, lt-ltb k 256 few, lt-leb (startAt t k + length n) 8192 h)
 
     stored : (y : List ℕ) → startAt t k + length n ≤ 8192 → y ≡ n ++ drop (length n) (take (length p - startAt t k) (drop (startAt t k) p))
-        → entered (Number (getD t 0 0)) (take (startAt t k) p ++ (y ++ drop (length p - startAt t k) (drop (startAt t k) p))) (set (set t 0 (getD t 0 0 + 1)) (k + 1) (startAt t k + length n))
+        → entered (Number (getD t 0 0) New) (take (startAt t k) p ++ (y ++ drop (length p - startAt t k) (drop (startAt t k) p))) (set (set t 0 (getD t 0 0 + 1)) (k + 1) (startAt t k + length n))
         ≡ enterKnown none (hasRoom (tableOf p t) n) p t n
     unfolding enterKnown
     stored y h e =
