@@ -6,7 +6,7 @@ use mathlib.Core.Option.{Option, none, some}
 use Prim.Native.Nat.{ℕ}
 use borrow.Author.Tests.{eq-eqb, ne-eqb}
 use lib.Dec.{eqb}
-use Rattle.rules.specs.Adding.{countsDiffer, kindsDiffer}
+use Rattle.rules.specs.Adding.{countsDiffer, solid, kindsDiffer}
 use Rattle.rules.specs.Trees.{Ty, opened, basic, dim, fn, struct, list, Tys, count}
 use Rattle.rules.specs.Trees as tree
 use Rattle.rules.specs.Views as rules
@@ -102,30 +102,64 @@ module _ (a b : Shape) where
   pub unlike-counts : (a .kind ≡ 0 → ⊥) → (b .kind ≡ 0 → ⊥) → a .kind ≡ b .kind → not (eqb (a .parameters) (b .parameters)) ≡ unlike a b
   unlike-counts f g h = sym (rw (ne-eqb (a .kind) 0 f, ne-eqb (b .kind) 0 g, eq-eqb (a .kind) (b .kind) h))
 
+-- a side of an equality: a dimension that is one variable to the power 1 has no kind of its own
+abbrev pub shapeBy : Option ℕ → Shape → Shape
+shapeBy none a = a
+shapeBy (some x) a = shape 0 0
+
+abbrev pub shapeIn : Ty ℕ → Shape
+shapeIn t = shapeBy (rules.asPower t) (shapeTy t)
+
 -- the same of types: what adding asks
 abbrev pub differs : Ty ℕ → Ty ℕ → Bool
-differs l r = countsDiffer (rules.fnOf l) (rules.fnOf r) || kindsDiffer (rules.openOf l) (rules.openOf r) (rules.kind l) (rules.kind r)
-
--- where the second is open
-unlike-open : (a c d : Bool) → unlikeBy a true c d ≡ false
-unlike-open true c d = refl
-unlike-open false c d = refl
-
-module _ (q : Option (tree.Open ℕ)) (f : Option (Tys ℕ × Ty ℕ)) (o : tree.Open ℕ) (j k : ℕ) where
-  differs-open : (countsDiffer f none || kindsDiffer q (some o) j k) ≡ false
-  unfolding countsDiffer kindsDiffer
-  differs-open = go f q
-    where
-      go : (f : Option (Tys ℕ × Ty ℕ)) (q : Option (tree.Open ℕ)) → (countsDiffer f none || kindsDiffer q (some o) j k) ≡ false
-      go none none = refl
-      go none (some p) = refl
-      go (some g) none = refl
-      go (some g) (some p) = refl
+differs l r = countsDiffer (rules.fnOf l) (rules.fnOf r) || kindsDiffer l r
 
 -- kind 7 is that of functions
 abbrev Fits : ℕ → Option (Tys ℕ × Ty ℕ) → ℕ → Type 0
 Fits k none n = (eqb k 7 ≡ false) × (n ≡ 0)
 Fits k (some f) n = (k ≡ 7) × (n ≡ count (f .0))
+
+-- a side that counts as a variable or a parameter, and one that doesn't
+record Free (t : Ty ℕ) : Type 0 where
+  pub kindless : eqb (shapeIn t .kind) 0 ≡ true
+  pub loose : solid t ≡ false
+  pub no-function : rules.fnOf t ≡ none
+
+record Firm (t : Ty ℕ) : Type 0 where
+  pub kinded : eqb (shapeIn t .kind) 0 ≡ false
+  pub shut : solid t ≡ true
+  pub kind : rules.kind t ≡ shapeIn t .kind
+  pub fits : Fits (shapeIn t .kind) (rules.fnOf t) (shapeIn t .parameters)
+
+data Sort (t : Ty ℕ) : Type 0 where
+  free : Free t → Sort t
+  firm : Firm t → Sort t
+
+product-sort : (p : tree.Product ℕ) (o : Option ℕ) → rules.asPower (dim p) ≡ o → Sort (dim p)
+unfolding solid
+product-sort p none e = firm (record { kinded = rw e; shut = rw e; kind = rw e; fits = rw e (refl, refl) })
+product-sort p (some x) e = free (record { kindless = rw e; loose = rw e; no-function = refl })
+
+sort : (t : Ty ℕ) → Sort t
+unfolding solid
+sort (opened o) = free (record { kindless = refl; loose = refl; no-function = refl })
+sort (basic tree.boolean) = firm (record { kinded = refl; shut = refl; kind = refl; fits = (refl, refl) })
+sort (basic tree.string) = firm (record { kinded = refl; shut = refl; kind = refl; fits = (refl, refl) })
+sort (basic tree.datetime) = firm (record { kinded = refl; shut = refl; kind = refl; fits = (refl, refl) })
+sort (dim p) = product-sort p (rules.asPower (dim p)) refl
+sort (fn ps r) = firm (record { kinded = refl; shut = refl; kind = refl; fits = (refl, refl) })
+sort (struct x as′ fs) = firm (record { kinded = refl; shut = refl; kind = refl; fits = (refl, refl) })
+sort (list t) = firm (record { kinded = refl; shut = refl; kind = refl; fits = (refl, refl) })
+
+-- where the second counts as open
+unlike-open : (a c d : Bool) → unlikeBy a true c d ≡ false
+unlike-open true c d = refl
+unlike-open false c d = refl
+
+counts-open : (f : Option (Tys ℕ × Ty ℕ)) → countsDiffer f none ≡ false
+unfolding countsDiffer
+counts-open none = refl
+counts-open (some g) = refl
 
 told-kinds : (b : Bool) → unlikeBy false false b false ≡ not b
 told-kinds true = refl
@@ -141,43 +175,11 @@ compared j k m n none (some g) a b = rw (b .0, a .0) refl
 compared j k m n (some f) none a b = rw (a .0, other k (b .0)) refl
 compared j k m n (some f) (some g) a b = rw (a .0, b .0, a .1, b .1) (sym (or-false (not (eqb (count (f .0)) (count (g .0))))))
 
--- a type that isn't open
-record Solid (t : Ty ℕ) : Type 0 where
-  pub shut : rules.openOf t ≡ none
-  pub kind : rules.kind t ≡ shapeTy t .kind
-  pub some : eqb (shapeTy t .kind) 0 ≡ false
-  pub fits : Fits (shapeTy t .kind) (rules.fnOf t) (shapeTy t .parameters)
-
-data Sort (t : Ty ℕ) : Type 0 where
-  free : (o : tree.Open ℕ) → t ≡ opened o → Sort t
-  solid : Solid t → Sort t
-
-known : (t : Ty ℕ) → rules.openOf t ≡ none → rules.kind t ≡ shapeTy t .kind → eqb (shapeTy t .kind) 0 ≡ false → Fits (shapeTy t .kind) (rules.fnOf t) (shapeTy t .parameters) → Sort t
-known t a b c d = solid (record { shut = a; kind = b; some = c; fits = d })
-
-sort : (t : Ty ℕ) → Sort t
-sort (opened o) = free o refl
-sort (basic tree.boolean) = known (basic tree.boolean) refl refl refl (refl, refl)
-sort (basic tree.string) = known (basic tree.string) refl refl refl (refl, refl)
-sort (basic tree.datetime) = known (basic tree.datetime) refl refl refl (refl, refl)
-sort (dim p) = known (dim p) refl refl refl (refl, refl)
-sort (fn ps r) = known (fn ps r) refl refl refl (refl, refl)
-sort (struct x as′ fs) = known (struct x as′ fs) refl refl refl (refl, refl)
-sort (list t) = known (list t) refl refl refl (refl, refl)
-
-left-open : (o : tree.Open ℕ) (r : Ty ℕ) → unlike (shapeTy (opened o)) (shapeTy r) ≡ differs (opened o) r
-unfolding countsDiffer kindsDiffer
-left-open o r = refl
-
-both-solid : (l r : Ty ℕ) → Fits (shapeTy l .kind) (rules.fnOf l) (shapeTy l .parameters) → Fits (shapeTy r .kind) (rules.fnOf r) (shapeTy r .parameters)
-    → unlikeBy false false (eqb (shapeTy l .kind) (shapeTy r .kind)) (not (eqb (shapeTy l .parameters) (shapeTy r .parameters))) ≡ (countsDiffer (rules.fnOf l) (rules.fnOf r) || kindsDiffer {N = ℕ} none none (shapeTy l .kind) (shapeTy r .kind))
-unfolding kindsDiffer
-both-solid l r a b = compared (shapeTy l .kind) (shapeTy r .kind) (shapeTy l .parameters) (shapeTy r .parameters) (rules.fnOf l) (rules.fnOf r) a b
-
-pub unlike-differs : (l r : Ty ℕ) → unlike (shapeTy l) (shapeTy r) ≡ differs l r
+pub unlike-differs : (l r : Ty ℕ) → unlike (shapeIn l) (shapeIn r) ≡ differs l r
+unfolding kindsDiffer countsDiffer
 unlike-differs l r = go (sort l) (sort r)
   where
-    go : Sort l → Sort r → unlike (shapeTy l) (shapeTy r) ≡ differs l r
-    go (free o e) v = rw e (left-open o r)
-    go (solid a) (free o e) = rw e (unlike-open (eqb (shapeTy l .kind) 0) (eqb (shapeTy l .kind) 0) (not (eqb (shapeTy l .parameters) 0)) ∙ sym (differs-open (rules.openOf l) (rules.fnOf l) o (rules.kind l) (rules.kindOpen o)))
-    go (solid a) (solid b) = rw (a .some, b .some, a .shut, b .shut, a .kind, b .kind) (both-solid l r (a .fits) (b .fits))
+    go : Sort l → Sort r → unlike (shapeIn l) (shapeIn r) ≡ differs l r
+    go (free a) v = rw (a .kindless, a .loose, a .no-function) refl
+    go (firm a) (free b) = rw (b .kindless, a .shut, b .loose, b .no-function, counts-open (rules.fnOf l)) (unlike-open (eqb (shapeIn l .kind) 0) (eqb (shapeIn l .kind) (shapeIn r .kind)) (not (eqb (shapeIn l .parameters) (shapeIn r .parameters))))
+    go (firm a) (firm b) = rw (a .kinded, b .kinded, a .shut, b .shut, a .kind, b .kind) (compared (shapeIn l .kind) (shapeIn r .kind) (shapeIn l .parameters) (shapeIn r .parameters) (rules.fnOf l) (rules.fnOf r) (a .fits) (b .fits))

@@ -10,6 +10,7 @@ use Rattle.rules.specs.Adding.{Added, satisfied, unknown, satisfiedIf, violated
 use Rattle.rules.specs.Base.{isNil, isYes, collect}
 use Rattle.rules.specs.Contents.{closed, variablesIn}
 use Rattle.rules.specs.Names.{Bytes, numbered}
+use Rattle.rules.specs.Views.{asPower}
 use Rattle.rules.specs.Trees.{Open, Ty, dim, Con, equal, isDim, isScalar, hasField, Product, opens, openOfFactor, size, sizeCon, ty-dec}
 use Rattle.laws.specs.Lists.{true≢false}
 use Rattle.records.specs.Views.{viewAt}
@@ -19,7 +20,10 @@ use Rattle.records.specs.declared.View.the-variants as view
 use Rattle.queries.specs.Scans.{opensView, opensIn}
 use Rattle.queries.specs.ScanLaws.{opens-none, names-step, type-opens}
 use Rattle.queries.specs.declared.Kind.the-variants.{Variables}
-use Rattle.adding.specs.Shapes.{shapeOf, unlike, differs, shape-held, dimension, unlike-differs}
+use Rattle.queries.specs.declared.Name.{Name}
+use Rattle.queries.specs.declared.Name.the-variants.{Of, Nothing}
+use Rattle.satisfying.specs.Parts.{named}
+use Rattle.adding.specs.Shapes.{shape, shapeOf, shapeIn, unlike, differs, shape-held, dimension, unlike-differs}
 use Rattle.adding.specs.declared.inner.Shape.{Shape}
 
 -- ══ Equal ══
@@ -41,9 +45,17 @@ module _ (names : List Bytes) (l r : Ty ℕ) {v : Added} (b : Bool) where
   unfolding addEqual
   equal-open e h q = rw (e, ← q) h
 
+-- the shape of a side: it is one variable to the power 1, or its first record tells
+module _ (t : Ty ℕ) (n : Name) (e : named n ≡ asPower t) where
+  pub told-power : {x : ℕ} → n ≡ Of x → shape 0 0 ≡ shapeIn t
+  told-power i = sym (rw (sym e ∙ ap named i) refl)
+
+  pub told-shape : (s : List ℕ) (at : ℕ) {a : Shape} → Holds s t at → n ≡ Nothing → a ≡ shapeOf (viewAt s at) → a ≡ shapeIn t
+  told-shape s at h i p = p ∙ shape-held s t at h ∙ sym (rw (sym e ∙ ap named i) refl)
+
 -- the shapes that the code compares are those of the types
-pub told-unlike : (s : List ℕ) (at k : ℕ) (l r : Ty ℕ) (x y : Shape) (b : Bool) → Holds s l at → Holds s r k → x ≡ shapeOf (viewAt s at) → y ≡ shapeOf (viewAt s k) → b ≡ unlike x y → b ≡ differs l r
-told-unlike s at k l r x y b h g p q e = e ∙ ap₂ unlike (p ∙ shape-held s l at h) (q ∙ shape-held s r k g) ∙ unlike-differs l r
+pub told-unlike : (l r : Ty ℕ) (x y : Shape) (b : Bool) → x ≡ shapeIn l → y ≡ shapeIn r → b ≡ unlike x y → b ≡ differs l r
+told-unlike l r x y b p q e = e ∙ ap₂ unlike p q ∙ unlike-differs l r
 
 -- ══ Is-dimension ══
 

@@ -2,6 +2,7 @@
 use super::Added;
 use comparing::inner::same_types;
 use names::Checked;
+use queries::Name;
 use queries::inner::closed_at;
 use queries::inner::end_of;
 use records::Atom;
@@ -18,6 +19,7 @@ use rules::RECORD_WORDS;
 use rules::RECORDS;
 use rules::Refusal;
 use rules::TABLE_WORDS;
+use satisfying::inner::binding::as_power;
 ghost use mathlib.Core.Path.{_≡_};
 ghost use mathlib.Core.Bool.{_&&_};
 ghost use mathlib.Core.List.{List, [], _∷_};
@@ -35,7 +37,7 @@ ghost use Rattle.records.specs.Good.{There, GoodCon};
 ghost use Rattle.records.specs.Views.{kindOfBasic};
 ghost use Rattle.records.specs.Holds.{Holds, HoldsProduct, HoldsCon, openOf, atomOf};
 ghost use Rattle.adding.specs.Told.{toldVerdict, toldAdded, addedAs};
-ghost use Rattle.adding.specs.Shapes.{shapeOf, unlike};
+ghost use Rattle.adding.specs.Shapes.{shapeOf, shapeIn, unlike};
 ghost use Rattle.adding.specs.Tests.{Two};
 ghost use Rattle.adding.specs.Entry.{checks, lentBuffer, oneGiven, told};
 ghost use Rattle.adding.specs.Stored.{Ready, addedWith};
@@ -114,6 +116,19 @@ fn shape_of(v: View) -> Shape
     }
 }
 
+// The shape of a side of an equality: a dimension that is one variable to the power 1 counts as a variable.
+fn shape_at(s: &[u32], at: usize) -> Shape
+    ensures { λ r. ⌜ ((t : Ty ℕ) → Holds (now (s .entry)) t at → r ≡ shapeIn t) ⌝ }
+{
+    match as_power(s, at) {
+        Name::Of(_) => Shape {
+            kind: 0,
+            parameters: 0,
+        },
+        Name::Nothing => shape_of(view_at(s, at)),
+    }
+}
+
 // Two kinds neither of which is open, or two counts of parameters, that differ.
 fn is_unlike(a: Shape, b: Shape) -> bool
     ensures { λ r. ⌜ r ≡ unlike a b ⌝ }
@@ -145,7 +160,7 @@ fn test_equal(s: &[u32], at: usize) -> Verdict
     if both(closed_at(s, at), closed_at(s, k)) {
         satisfied_if(same_types(s, at, s, k))
     } else {
-        violated_if(is_unlike(shape_of(view_at(s, at)), shape_of(view_at(s, k))))
+        violated_if(is_unlike(shape_at(s, at), shape_at(s, k)))
     }
 }
 

@@ -6,6 +6,7 @@ pub mod Fractions
 pub mod Exact
 pub mod Size
 pub mod Untouched
+pub mod Counts
 pub mod Checks
 pub mod ByteOrder
 pub mod NameTable

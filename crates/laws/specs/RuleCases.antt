@@ -84,7 +84,7 @@ module _ {N : Type 0} where
   product-of (struct n as′ fs) p e = absurd (some≢none (sym e))
   product-of (list t) p e = absurd (some≢none (sym e))
 
-  fn-of : (t : Ty N) (f : Tys N × Ty N) → fnOf t ≡ some f → t ≡ fn (f .0) (f .1)
+  pub fn-of : (t : Ty N) (f : Tys N × Ty N) → fnOf t ≡ some f → t ≡ fn (f .0) (f .1)
   fn-of (opened o) f e = absurd (some≢none (sym e))
   fn-of (basic b) f e = absurd (some≢none (sym e))
   fn-of (dim q) f e = absurd (some≢none (sym e))

@@ -30,7 +30,7 @@ module _ {N : Type 0} (look : Look N) where
   unbound-single (base n ↑ e ∷ []) o h e′ = cc
 
 module _ {N : Type 0} (ν : Names N) (l : Limits) (look : Look N) where
-  factors-same : (p acc : Product N) → Unbound look (collect openOfFactor p) → replaceFactors ν l look p acc ≡ got acc
+  pub factors-same : (p acc : Product N) → Unbound look (collect openOfFactor p) → replaceFactors ν l look p acc ≡ got acc
   unfolding replaceFactors collect
   factors-same [] acc h = refl
   factors-same (base n ↑ e ∷ p) acc h = factors-same p acc h

@@ -12,6 +12,7 @@ use Rattle.rules.specs.Exponents.{frac}
 use Rattle.rules.specs.Trees.{Factor, _↑_, Product, Ty, opened, basic, dim, fn, struct, list}
 use Rattle.rules.specs.Plain.{plain}
 use Rattle.rules.specs.Writing.{signed}
+use Rattle.laws.specs.Counts.{plain-count}
 use Rattle.records.specs.Views.{viewAt}
 use Rattle.records.specs.Holds.{openOf, basicOf, atomOf, HoldsProduct, HoldsFactor, HoldsFactors, Holds}
 use Rattle.records.specs.ByView.{by-view}
@@ -23,7 +24,7 @@ use Rattle.records.specs.declared.View.the-variants as view
 use Rattle.records.proofs.View as views
 use Rattle.loading.specs.Loaded.{holds-at}
 use Rattle.meaning.specs.Heads.{Decides, SaysFactor, TellsFactors, headOf, headAtom, reads}
-use Rattle.meaning.specs.HeadLaws.{plain-count, same-heads, same-atoms, factor-is, same-words, words-are}
+use Rattle.meaning.specs.HeadLaws.{same-heads, same-atoms, factor-is, same-words, words-are}
 use Rattle.meaning.specs.declared.inner.Head.{Head}
 
 -- ══ Heads ══
@@ -77,11 +78,11 @@ module _ (s : List ℕ) (at : ℕ) {v : View} (e : v ≡ viewAt s at) where
 
   pub fn-read : {n m : ℕ} → v ≡ view.Function n → m ≡ n → Read (record { kind = 7; name = 0; many = m + 1 })
   unfolding plain
-  fn-read {m = m} k h t i = by-view s (λ t. record { kind = 7; name = 0; many = m + 1 } ≡ reads t) t at i (sym e ∙ k) (λ ps u c x y. ap (λ (n : ℕ). record { kind = 7; name = 0; many = n + 1 }) (h ∙ sym c ∙ sym (plain-count ps)))
+  fn-read {m = m} k h t i = by-view s (λ t. record { kind = 7; name = 0; many = m + 1 } ≡ reads t) t at i (sym e ∙ k) (λ ps u c x y. ap (λ (n : ℕ). record { kind = 7; name = 0; many = n + 1 }) (h ∙ sym c ∙ sym (plain-count ps false)))
 
   pub struct-read : {x n f m : ℕ} → v ≡ view.Struct x n f → m ≡ n → Read (record { kind = 8; name = x; many = m })
   unfolding plain
-  struct-read {x = x} {m = m} k h t i = by-view s (λ t. record { kind = 8; name = x; many = m } ≡ reads t) t at i (sym e ∙ k) (λ ps fs c c₂ a b. ap (λ (n : ℕ). record { kind = 8; name = x; many = n }) (h ∙ sym c ∙ sym (plain-count ps)))
+  struct-read {x = x} {m = m} k h t i = by-view s (λ t. record { kind = 8; name = x; many = m } ≡ reads t) t at i (sym e ∙ k) (λ ps fs c c₂ a b. ap (λ (n : ℕ). record { kind = 8; name = x; many = n }) (h ∙ sym c ∙ sym (plain-count ps false)))
 
   pub list-read : v ≡ view.List → Read (record { kind = 10; name = 0; many = 1 })
   unfolding plain

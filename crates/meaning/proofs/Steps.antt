@@ -13,10 +13,10 @@ use Rattle.rules.specs.Trees as tree
 use Rattle.rules.specs.Trees.{Product, Ty, opened, basic, dim, fn, struct, list, Tys, nil, cons, count, size, sizeTys}
 use Rattle.rules.specs.Plain.{plain, plainDim}
 use Rattle.rules.specs.Meaning.{means}
+use Rattle.laws.specs.Counts.{plain-count}
 use Rattle.records.specs.Holds.{HoldsProduct, HoldsFactors, Holds, HoldsTys}
 use Rattle.records.specs.ByView.{product-in, ends-in, size-pos}
 use Rattle.meaning.specs.Heads.{Decides, headOpen, headOf, reads, andLast, parts, meansAll}
-use Rattle.meaning.specs.HeadLaws.{plain-count}
 use Rattle.meaning.specs.Means.{heads-differ, by-factors, by-parts}
 use Rattle.meaning.specs.declared.inner.Head.{Head}
 
@@ -96,8 +96,8 @@ unfolding plain count
 read-count (opened o) f = refl
 read-count (basic b) f = refl
 read-count (dim p) f = count-dim (single p) p f
-read-count (fn ps r) f = let e = count-last ps r in let i = plain-count ps in omega arith
-read-count (struct n as′ fs) f = sym (plain-count as′)
+read-count (fn ps r) f = let e = count-last ps r in let i = plain-count ps false in omega arith
+read-count (struct n as′ fs) f = sym (plain-count as′ false)
 read-count (list t) f = refl
 
 parts-count : (x : Ty ℕ) (a : Head) → a ≡ reads x → (a .kind ≡ 3 → ⊥) → count (parts x) ≡ a .many

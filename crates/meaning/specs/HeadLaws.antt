@@ -2,15 +2,15 @@
 use mathlib.Core.Path.{_≡_, refl, sym, ap, ap₂, _∙_}
 use mathlib.Core.Bool.{true, false}
 use mathlib.Core.List.{List, [], _∷_}
-use Prim.Native.Nat.{ℕ, suc}
+use Prim.Native.Nat.{ℕ}
 use native.Mathlib.Omega.{arith}
 use lib.ListN.{length, getD}
 use Rattle.rules.specs.Base.{isYes}
 use Rattle.rules.specs.Exponents.{Exp, frac, Exp-dec, one}
 use Rattle.rules.specs.Products.{single}
 use Rattle.rules.specs.Trees as tree
-use Rattle.rules.specs.Trees.{Factor, _↑_, Product, dim, Tys, nil, cons, count}
-use Rattle.rules.specs.Plain.{plain, plainDim, plainTys}
+use Rattle.rules.specs.Trees.{Factor, _↑_, Product, dim}
+use Rattle.rules.specs.Plain.{plain, plainDim}
 use Rattle.rules.specs.Writing.{twos, signed}
 use Rattle.records.specs.Views.{viewAt}
 use Rattle.records.specs.Holds.{atomOf, viewAtom, HoldsFactors}
@@ -57,13 +57,6 @@ module _ (s : List ℕ) (at : ℕ) where
   unfolding HoldsFactors
   says-one [] h e = absurd (omega arith)
   says-one (f ∷ p) h e = says s f at (h .0)
-
--- ══ Counts ══
-
-pub plain-count : (ts : Tys ℕ) → count (plainTys ts false) ≡ count ts
-unfolding plain count
-plain-count nil = refl
-plain-count (cons t ts) = ap suc (plain-count ts)
 
 -- ══ Factors ══
 

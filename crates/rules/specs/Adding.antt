@@ -1,17 +1,17 @@
--- Document 01, 'Adding and rounds', its first paragraph: what adding a constraint answers.
+-- Document 01, 'Adding and rounds', its first paragraph, as request W-205 changes it: what adding a constraint answers.
 -- Assumes nothing.
 use mathlib.Core.Bool.{Bool, true, false, not, _&&_, _||_}
 use mathlib.Core.List.{List, [], _∷_, _++_}
 use mathlib.Core.Option.{Option, none, some}
-use Prim.Native.Nat.{ℕ}
 use lib.Dec.{eqb}
-use Rattle.rules.specs.Base.{Got, got, bounded, within, isYes, isNil, collect, sumOf}
-use Rattle.rules.specs.Trees.{Open, Names, Ty, Tys, Con, equal, isDim, isScalar, hasField, ty-dec, count, openOfFactor, sizeCon}
-use Rattle.rules.specs.Views.{openOf, fnOf, kind}
+use Rattle.rules.specs.Base.{Got, got, bounded, within, isYes, isNone, isNil, collect, sumOf}
+use Rattle.rules.specs.Trees.{Names, Ty, Tys, Con, equal, isDim, isScalar, hasField, ty-dec, count, openOfFactor, sizeCon}
+use Rattle.rules.specs.Views.{openOf, asPower, fnOf, kind}
 use Rattle.rules.specs.Contents.{closed, variablesIn}
 
 pub data Added : Type 0 where
   satisfied violated unknown : Added
+  deriving Discrete as Added-discrete
 
 abbrev pub satisfiedIf : Bool → Added
 satisfiedIf true = satisfied
@@ -28,17 +28,19 @@ module _ {N : Type 0} where
   countsDiffer (some f) none = false
   countsDiffer (some f) (some g) = not (eqb (count (f .0)) (count (g .0)))
 
+  -- neither a variable nor a parameter; 'a dimension that is one variable to the power 1 counts as a variable here' (W-205)
+  unfoldable pub solid : Ty N → Bool
+  solid t = isNone (openOf t) && isNone (asPower t)
+
   -- 'two types of different kinds neither of which is a variable or a parameter'
-  unfoldable pub kindsDiffer : Option (Open N) → Option (Open N) → ℕ → ℕ → Bool
-  kindsDiffer (some o) q j k = false
-  kindsDiffer none (some q) j k = false
-  kindsDiffer none none j k = not (eqb j k)
+  unfoldable pub kindsDiffer : Ty N → Ty N → Bool
+  kindsDiffer l r = solid l && solid r && not (eqb (kind l) (kind r))
 
 module _ {N : Type 0} (ν : Names N) where
   -- 'closed equalities: Satisfied if the records are equal, else Violated'; other equalities by counts and kinds
   unfoldable pub addEqual : Bool → Ty N → Ty N → Added
   addEqual true l r = satisfiedIf (isYes (ty-dec ν l r))
-  addEqual false l r = violatedIf (countsDiffer (fnOf l) (fnOf r) || kindsDiffer (openOf l) (openOf r) (kind l) (kind r))
+  addEqual false l r = violatedIf (countsDiffer (fnOf l) (fnOf r) || kindsDiffer l r)
 
   -- 'closed is-dimension: by kind 3'
   unfoldable pub addDim : Bool → Ty N → Added

@@ -12,8 +12,9 @@ use Rattle.rules.specs.Base.{Got, got, refused, isYes, list-dec, all, co
 use Rattle.rules.specs.Trees.{Binding, _≔_}
 use Rattle.rules.specs.Names.{tableOf}
 use Rattle.rules.specs.Writing.{Rec, rec, words, writeTy}
+use Rattle.rules.specs.Adding.{Added, violated, unknown, Added-discrete}
 use Rattle.rules.specs.Solving.{Answer, accepted, remaining, stopped}
-use Rattle.rules.specs.Calls.{Solved, solved, unsolved, refusedAfter, Solution, solvedSet, solveCall, Entry, judgeCall}
+use Rattle.rules.specs.Calls.{Solved, solved, unsolved, refusedAfter, Solution, solvedSet, solveCall, AddedTo, addCall, Entry, judgeCall}
 use Rattle.rules.specs.Rules.{rules}
 
 -- the names, by their numbers
@@ -53,9 +54,11 @@ work = replicate 16384 9
 abbrev pub minus : ℕ → ℕ
 minus n = 4_294_967_296 - n
 
--- a set; what solving it answers; the records at the front of the result buffer; what the judge says of an accepted answer
+-- a set; what adding it to the empty set answers, 1 where it isn't exactly one constraint; what solving it answers; the records at the
+-- front of the result buffer; what the judge says of an accepted answer
 pub record Example : Type 0 where
   pub set : List Rec
+  pub added : Got Added
   pub answer : Solved
   pub records : List Rec
   pub judged : Option Bool
@@ -64,31 +67,37 @@ pub record Example : Type 0 where
 pub examples : List Example
 examples =
     -- K1: the empty set
-    record { set = []; answer = solved 0 0 0; records = []; judged = some true }
+    record { set = []; added = refused 1; answer = solved 0 0 0; records = []; judged = some true }
     -- K2: x = boolean
-    ∷ record { set = rec 20 0 0 0 ∷ rec 1 x 0 0 ∷ rec 4 0 0 0 ∷ []; answer = solved 2 0 1; records = rec 24 x 0 0 ∷ rec 4 0 0 0 ∷ []; judged = some true }
+    ∷ record { set = rec 20 0 0 0 ∷ rec 1 x 0 0 ∷ rec 4 0 0 0 ∷ []; added = got unknown; answer = solved 2 0 1; records = rec 24 x 0 0 ∷ rec 4 0 0 0 ∷ []; judged = some true }
     -- K3: x = dimension x^2
-    ∷ record { set = rec 20 0 0 0 ∷ rec 1 x 0 0 ∷ rec 3 1 0 0 ∷ rec 11 x 2 1 ∷ []; answer = solved 2 0 3; records = rec 24 x 0 0 ∷ rec 3 0 0 0 ∷ []; judged = some true }
+    ∷ record { set = rec 20 0 0 0 ∷ rec 1 x 0 0 ∷ rec 3 1 0 0 ∷ rec 11 x 2 1 ∷ []; added = got unknown; answer = solved 2 0 3; records = rec 24 x 0 0 ∷ rec 3 0 0 0 ∷ []; judged = some true }
     -- K4: list of x = x
-    ∷ record { set = rec 20 0 0 0 ∷ rec 10 0 0 0 ∷ rec 1 x 0 0 ∷ rec 1 x 0 0 ∷ []; answer = unsolved 4 0; records = rec 20 0 0 0 ∷ rec 10 0 0 0 ∷ rec 1 x 0 0 ∷ rec 1 x 0 0 ∷ []; judged = none }
+    ∷ record { set = rec 20 0 0 0 ∷ rec 10 0 0 0 ∷ rec 1 x 0 0 ∷ rec 1 x 0 0 ∷ []; added = got unknown; answer = unsolved 4 0; records = rec 20 0 0 0 ∷ rec 10 0 0 0 ∷ rec 1 x 0 0 ∷ rec 1 x 0 0 ∷ []; judged = none }
     -- K5: equal-scalar x^2 L^-3
-    ∷ record { set = rec 22 0 0 0 ∷ rec 3 2 0 0 ∷ rec 11 x 2 1 ∷ rec 13 L (minus 3) 1 ∷ []; answer = solved 3 0 1; records = rec 24 x 0 0 ∷ rec 3 1 0 0 ∷ rec 13 L 3 2 ∷ []; judged = some true }
+    ∷ record { set = rec 22 0 0 0 ∷ rec 3 2 0 0 ∷ rec 11 x 2 1 ∷ rec 13 L (minus 3) 1 ∷ []; added = got unknown; answer = solved 3 0 1; records = rec 24 x 0 0 ∷ rec 3 1 0 0 ∷ rec 13 L 3 2 ∷ []; judged = some true }
     -- K6: x = y z, then y = boolean
-    ∷ record { set = rec 20 0 0 0 ∷ rec 1 x 0 0 ∷ rec 3 2 0 0 ∷ rec 11 y 1 1 ∷ rec 11 z 1 1 ∷ rec 20 0 0 0 ∷ rec 1 y 0 0 ∷ rec 4 0 0 0 ∷ []; answer = refusedAfter 6 1; records = []; judged = none }
+    ∷ record { set = rec 20 0 0 0 ∷ rec 1 x 0 0 ∷ rec 3 2 0 0 ∷ rec 11 y 1 1 ∷ rec 11 z 1 1 ∷ rec 20 0 0 0 ∷ rec 1 y 0 0 ∷ rec 4 0 0 0 ∷ []; added = refused 1; answer = refusedAfter 6 1; records = []; judged = none }
     -- K7: is-dimension a
-    ∷ record { set = rec 21 0 0 0 ∷ rec 2 a 0 0 ∷ []; answer = solved 0 1 0; records = rec 25 a 0 0 ∷ []; judged = some true }
+    ∷ record { set = rec 21 0 0 0 ∷ rec 2 a 0 0 ∷ []; added = got unknown; answer = solved 0 1 0; records = rec 25 a 0 0 ∷ []; judged = some true }
     -- K8: is-dimension x y^-1
-    ∷ record { set = rec 21 0 0 0 ∷ rec 3 2 0 0 ∷ rec 11 x 1 1 ∷ rec 11 y (minus 1) 1 ∷ []; answer = solved 0 2 1; records = rec 25 x 0 0 ∷ rec 25 y 0 0 ∷ []; judged = some true }
-    -- K9: dimension x = boolean
-    ∷ record { set = rec 20 0 0 0 ∷ rec 3 1 0 0 ∷ rec 11 x 1 1 ∷ rec 4 0 0 0 ∷ []; answer = solved 2 0 1; records = rec 24 x 0 0 ∷ rec 4 0 0 0 ∷ []; judged = some true }
+    ∷ record { set = rec 21 0 0 0 ∷ rec 3 2 0 0 ∷ rec 11 x 1 1 ∷ rec 11 y (minus 1) 1 ∷ []; added = got unknown; answer = solved 0 2 1; records = rec 25 x 0 0 ∷ rec 25 y 0 0 ∷ []; judged = some true }
+    -- K9: dimension x = boolean; added, it is Unknown (W-205)
+    ∷ record { set = rec 20 0 0 0 ∷ rec 3 1 0 0 ∷ rec 11 x 1 1 ∷ rec 4 0 0 0 ∷ []; added = got unknown; answer = solved 2 0 1; records = rec 24 x 0 0 ∷ rec 4 0 0 0 ∷ []; judged = some true }
     -- K10: x y = x z, then x = boolean
-    ∷ record { set = rec 20 0 0 0 ∷ rec 3 2 0 0 ∷ rec 11 x 1 1 ∷ rec 11 y 1 1 ∷ rec 3 2 0 0 ∷ rec 11 x 1 1 ∷ rec 11 z 1 1 ∷ rec 20 0 0 0 ∷ rec 1 x 0 0 ∷ rec 4 0 0 0 ∷ []; answer = solved 5 0 3; records = rec 24 x 0 0 ∷ rec 4 0 0 0 ∷ rec 24 y 0 0 ∷ rec 3 1 0 0 ∷ rec 11 z 1 1 ∷ []; judged = some false }
+    ∷ record {
+      set = rec 20 0 0 0 ∷ rec 3 2 0 0 ∷ rec 11 x 1 1 ∷ rec 11 y 1 1 ∷ rec 3 2 0 0 ∷ rec 11 x 1 1 ∷ rec 11 z 1 1 ∷ rec 20 0 0 0 ∷ rec 1 x 0 0 ∷ rec 4 0 0 0 ∷ [];
+      added = refused 1;
+      answer = solved 5 0 3;
+      records = rec 24 x 0 0 ∷ rec 4 0 0 0 ∷ rec 24 y 0 0 ∷ rec 3 1 0 0 ∷ rec 11 z 1 1 ∷ [];
+      judged = some false;
+    }
     -- K11: x used as a parameter too
-    ∷ record { set = rec 20 0 0 0 ∷ rec 1 x 0 0 ∷ rec 2 x 0 0 ∷ []; answer = refusedAfter 4 0; records = []; judged = none }
+    ∷ record { set = rec 20 0 0 0 ∷ rec 1 x 0 0 ∷ rec 2 x 0 0 ∷ []; added = got unknown; answer = refusedAfter 4 0; records = []; judged = none }
     -- K12: struct P of x = P of boolean
-    ∷ record { set = rec 20 0 0 0 ∷ rec 8 P 1 0 ∷ rec 1 x 0 0 ∷ rec 8 P 1 0 ∷ rec 4 0 0 0 ∷ []; answer = solved 2 0 2; records = rec 24 x 0 0 ∷ rec 4 0 0 0 ∷ []; judged = some true }
+    ∷ record { set = rec 20 0 0 0 ∷ rec 8 P 1 0 ∷ rec 1 x 0 0 ∷ rec 8 P 1 0 ∷ rec 4 0 0 0 ∷ []; added = got unknown; answer = solved 2 0 2; records = rec 24 x 0 0 ∷ rec 4 0 0 0 ∷ []; judged = some true }
     -- K13: equal-scalar L
-    ∷ record { set = rec 22 0 0 0 ∷ rec 3 1 0 0 ∷ rec 13 L 1 1 ∷ []; answer = unsolved 3 0; records = rec 22 0 0 0 ∷ rec 3 1 0 0 ∷ rec 13 L 1 1 ∷ []; judged = none }
+    ∷ record { set = rec 22 0 0 0 ∷ rec 3 1 0 0 ∷ rec 13 L 1 1 ∷ []; added = got violated; answer = unsolved 3 0; records = rec 22 0 0 0 ∷ rec 3 1 0 0 ∷ rec 13 L 1 1 ∷ []; judged = none }
     ∷ []
 
 -- the same answer
@@ -129,13 +138,23 @@ agreed (some v) (refused n) = false
 agreed none (got w) = false
 agreed none (refused n) = true
 
--- answer, result buffer (the records, then what was there), work buffer (zero), and the judge's verdict
+-- what adding answers and, as none of them is Satisfied, that all n records are stored in front of what was in the buffer
+addedAs : List Rec → Got Added → AddedTo → Bool
+addedAs s e r = go e (r .answer)
+  where
+    go : Got Added → Got (Added × ℕ) → Bool
+    go (got v) (got w) = isYes (Added-discrete v (w .0)) && eqb (w .1) (length s) && sameWords (r .buffer) (words s ++ drop (length (words s)) result)
+    go (got v) (refused m) = false
+    go (refused n) (got w) = false
+    go (refused n) (refused m) = eqb n m && sameWords (r .buffer) result
+
+-- what adding leaves; answer, result buffer (the records, then what was there), work buffer (zero), and the judge's verdict
 pub agrees : Example → Bool
-agrees e = same (solveCall pool table (words (e .set)) result work) && agreed (e .judged) (judgedBy (e .set) (solvedSet (tableOf pool table) (words (e .set))))
+agrees e = addedAs (e .set) (e .added) (addCall pool table result 0 (words (e .set))) && same (solveCall pool table (words (e .set)) result work) && agreed (e .judged) (judgedBy (e .set) (solvedSet (tableOf pool table) (words (e .set))))
   where
     same : Solution → Bool
     same s = sameSolved (s .answer) (e .answer) && sameWords (s .result) (words (e .records) ++ drop (length (words (e .records))) result) && all (eqb 0) (s .work) && eqb (length (s .work)) 16384
 
 pub K1-to-K13 : all agrees examples ≡ true
-unfolding rules pool table result work examples sameSolved sameWords entriesFrom typeOf judgedBy agreed agrees
+unfolding rules pool table result work examples sameSolved sameWords entriesFrom typeOf judgedBy agreed addedAs agrees
 K1-to-K13 = refl

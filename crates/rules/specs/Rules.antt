@@ -9,7 +9,7 @@ use Rattle.rules.specs.Names.{orderBytes, numbered, tableOf, cut, namesO
 use Rattle.rules.specs.Contents.{closed, variablesIn, parametersIn, namesIn, among, contains, containsName, fieldIn, sorted, sort, variables, unmixed}
 use Rattle.rules.specs.Plain.{plainDim, plain}
 use Rattle.rules.specs.Replacing.{asProduct, replaceFactors, replaceProduct, replaceDim, replaceTy, replaceCon, replaceBinding, find, bindings}
-use Rattle.rules.specs.Adding.{countsDiffer, kindsDiffer, addEqual, addDim, addTest, stored, add}
+use Rattle.rules.specs.Adding.{countsDiffer, solid, kindsDiffer, addEqual, addDim, addTest, stored, add}
 use Rattle.rules.specs.Rounds.{pairs, asProducts, variableLeft, functions, lists, bindTo, firstRules, structs, dimensions, byKind, dimensionParts, otherSide, fieldStep, trySatisfy, taken, sizeState, depthState, limited, firstStep, perform, performed, round}
 use Rattle.rules.specs.Solving.{boundOf, finished, finish, after, run, solve}
 use Rattle.rules.specs.Schemes.{renamedBounds, schemeLimited, back, quantifies, quantifyFrom, quantify, generalise, putBack, instantiate}
@@ -22,5 +22,5 @@ use Rattle.rules.specs.Values.{sumCall, timesCall, negationCall, quotien
 use Rattle.rules.specs.Calls.{lentResult, lentWork, lent, shortLists, shortNumbers, only, listGiven, tableKept, setGiven, typeGiven, bindingsGiven, boundsGiven, goodScheme, schemeGiven, numbersGiven, apart, opensBinding, opensScheme, over, resultAfter, workAfter, writing, listing, aloneGiven, setCall, typeCall, schemeCall, bindingsCall, containsCall, closedCall, variablesCall, replacedType, replacedSet, replaceTypeCall, replaceSetCall, bufferAfter, addedTo, addCall, solvedOf, solvedWords, solvedSet, solveCall, quantified, generalised, instantiated, quantifyCall, generaliseCall, instantiateCall, differ, typeAt, bindingOf, entriesGiven, risingBounds, judgedSet, judgeCall}
 
 unfoldable pub rules : Type 0
-unfolding ℕ-discrete any all keep list-dec each collect ℤ-dec Exp-dec gcdIn gcd lowest inRange goodExp goodStored neg plus mul inverted sum times negation quotient open-dec product-dec ty-dec orderOpen orderAtom opens size depth count countFields opensCon sizeCon depthCon sizeBinding depthBinding inverse single mergeOne merge multiply divide raise orderBytes numbered tableOf cut namesOf used lengthsGood sameBytes distinct tableGood numberOf lentTable tableGiven enterChecks hasRoom enterNew enterKnown enterChecked enter nameAsked closed variablesIn parametersIn namesIn among contains containsName fieldIn sorted sort variables unmixed plainDim plain asProduct replaceFactors replaceProduct replaceDim replaceTy replaceCon replaceBinding find bindings countsDiffer kindsDiffer addEqual addDim addTest stored add pairs asProducts variableLeft functions lists bindTo firstRules structs dimensions byKind dimensionParts otherSide fieldStep trySatisfy taken sizeState depthState limited firstStep perform performed round boundOf finished finish after run solve renamedBounds schemeLimited back quantifies quantifyFrom quantify generalise putBack instantiate means amongBounds holds inProducts productsOf failed judgeCon judge twos bySign signed writeFactor writeProduct writeTy writeCon writeBinding writeBound writeScheme words readFactors readTys readFields readTy readCon readBinding readBound readAll records schemeOf rising goodOpen goodFactor goodProduct goodTy goodCon goodBinding sumCall timesCall negationCall quotientCall kindOf numberIn atomIn valueOf factorIn factorsIn productValue productIn productGiven multiplyCall divideCall inverseCall raiseCall lentResult lentWork lent shortLists shortNumbers only listGiven tableKept setGiven typeGiven bindingsGiven boundsGiven goodScheme schemeGiven numbersGiven apart opensBinding opensScheme over resultAfter workAfter writing listing aloneGiven setCall typeCall schemeCall bindingsCall containsCall closedCall variablesCall replacedType replacedSet replaceTypeCall replaceSetCall bufferAfter addedTo addCall solvedOf solvedWords solvedSet solveCall quantified generalised instantiated quantifyCall generaliseCall instantiateCall differ typeAt bindingOf entriesGiven risingBounds judgedSet judgeCall
+unfolding ℕ-discrete any all keep list-dec each collect ℤ-dec Exp-dec gcdIn gcd lowest inRange goodExp goodStored neg plus mul inverted sum times negation quotient open-dec product-dec ty-dec orderOpen orderAtom opens size depth count countFields opensCon sizeCon depthCon sizeBinding depthBinding inverse single mergeOne merge multiply divide raise orderBytes numbered tableOf cut namesOf used lengthsGood sameBytes distinct tableGood numberOf lentTable tableGiven enterChecks hasRoom enterNew enterKnown enterChecked enter nameAsked closed variablesIn parametersIn namesIn among contains containsName fieldIn sorted sort variables unmixed plainDim plain asProduct replaceFactors replaceProduct replaceDim replaceTy replaceCon replaceBinding find bindings countsDiffer solid kindsDiffer addEqual addDim addTest stored add pairs asProducts variableLeft functions lists bindTo firstRules structs dimensions byKind dimensionParts otherSide fieldStep trySatisfy taken sizeState depthState limited firstStep perform performed round boundOf finished finish after run solve renamedBounds schemeLimited back quantifies quantifyFrom quantify generalise putBack instantiate means amongBounds holds inProducts productsOf failed judgeCon judge twos bySign signed writeFactor writeProduct writeTy writeCon writeBinding writeBound writeScheme words readFactors readTys readFields readTy readCon readBinding readBound readAll records schemeOf rising goodOpen goodFactor goodProduct goodTy goodCon goodBinding sumCall timesCall negationCall quotientCall kindOf numberIn atomIn valueOf factorIn factorsIn productValue productIn productGiven multiplyCall divideCall inverseCall raiseCall lentResult lentWork lent shortLists shortNumbers only listGiven tableKept setGiven typeGiven bindingsGiven boundsGiven goodScheme schemeGiven numbersGiven apart opensBinding opensScheme over resultAfter workAfter writing listing aloneGiven setCall typeCall schemeCall bindingsCall containsCall closedCall variablesCall replacedType replacedSet replaceTypeCall replaceSetCall bufferAfter addedTo addCall solvedOf solvedWords solvedSet solveCall quantified generalised instantiated quantifyCall generaliseCall instantiateCall differ typeAt bindingOf entriesGiven risingBounds judgedSet judgeCall
 rules = Unit {0}

@@ -47,7 +47,7 @@ module _ {N : Type 0} (ν : Names N) (law : Lawful (orderAtom ν)) (held : N →
   True = Holds ν law held q tells bs bounds σg
 
   abbrev Equal : Ty N → Ty N → Type 0
-  Equal = Equals ν law held q tells bs bounds σg
+  Equal = Equals ν bs bounds
 
   abbrev worth : Product N → Product N
   worth = valued ν (valueOf σ)
@@ -99,7 +99,7 @@ module _ {N : Type 0} (ν : Names N) (law : Lawful (orderAtom ν)) (held : N →
   pairs-equal nil (cons u us) n h = absurd (omega arith)
   pairs-equal (cons t ts) nil n h = absurd (omega arith)
   pairs-equal (cons t ts) (cons u us) n h =
-      let a = equals ν law held q tells bs bounds σg t u (h (equal t u) in-head) in
+      let a = equals ν bs bounds t u (h (equal t u) in-head) in
       let b = pairs-equal ts us (ap pred n) (λ c m. h c (List·Memᴰ·tail m)) in
       record { left = cons (a .left) (b .left); right = cons (a .right) (b .right); putLeft = rw (a .putLeft, b .putLeft); putRight = rw (a .putRight, b .putRight); same = ap₂ cons (a .same) (b .same) }
 
@@ -119,7 +119,7 @@ module _ {N : Type 0} (ν : Names N) (law : Lawful (orderAtom ν)) (held : N →
   divided-equal : (d e r : Product N) → goodProduct ν held q d ≡ true → goodProduct ν held q e ≡ true → All Fit (collect openOfFactor d) → All Fit (collect openOfFactor e) → divide ν bounded d e ≡ got r → goodProduct ν held q r ≡ true → All Fit (collect openOfFactor r) → True (isScalar r) → Equal (dim d) (dim e)
   divided-equal d e r g h f k i m n t =
       let w : r ≡ mergeE ν d (inverse e) = divide-value ν d e r i in
-      let z : got (worth r) ≡ got [] = sym (put-product ν law held q tells σ σg r m n) ∙ scalar ν law held q tells bs bounds σg r t in
+      let z : got (worth r) ≡ got [] = sym (put-product ν law held q tells σ σg r m n) ∙ scalar ν bs bounds r t in
       let y : worth r ≡ [] = cc in
       dims-equal d e g h f k (valued-divided ν law tells (valueOf σ) vp d e (good-proper ν law held q d g .each) (good-proper ν law held q e h) (ap worth (sym w) ∙ y))
 
@@ -168,7 +168,7 @@ module _ {N : Type 0} (ν : Names N) (law : Lawful (orderAtom ν)) (held : N →
   variable-bounded : (y : N) → True (isDim (opened (var y))) → All Bounded (opens (named-by (var y)))
   unfolding replaceTy holds amongBounds
   variable-bounded y h =
-      let d = dimensional ν law held q tells bs bounds σg (opened (var y)) h in
+      let d = dimensional ν bs bounds (opened (var y)) h in
       let z : named-by (var y) ≡ d .type = cc (d .putIn) in
       rw z (all-among (opens (d .type)) (and-right (not (isNone (productOf (d .type))) || not (isNone (openOf (d .type)))) _ (d .holding)))
 
@@ -200,13 +200,13 @@ module _ {N : Type 0} (ν : Names N) (law : Lawful (orderAtom ν)) (held : N →
       let b : All Bounded (collect openOfFactor (worth p)) =
       each-opens Bounded (worth p) (valued-on Bounded ν (valueOf σ) p (λ m. (tt, tt)) (λ o m.
       becomes-bounded o (f o m) (λ y e. h (isDim (opened (var y))) (map-to (λ x. isDim (opened (var x))) (namesIn (collect openOfFactor p)) y (naming (collect openOfFactor p) o y m e))) (λ y e. n y (rw e at m)))) in
-      dimensional-holds ν law held q tells bs bounds σg (dim p) (record { type = d .type; putIn = d .putIn; holding = dim-alike ν bounds (d .type) (dim (worth p)) (d .reads true) (among-all (collect openOfFactor (worth p)) b) })
+      dimensional-holds ν bs bounds (dim p) (record { type = d .type; putIn = d .putIn; holding = dim-alike ν bounds (d .type) (dim (worth p)) (d .reads true) (among-all (collect openOfFactor (worth p)) b) })
 
   -- ══ The rules ══
 
   sides-true : (c : Con N) (s t : Ty N) → Sides c s t → Equal s t → True c
-  sides-true c s t (inl i) e = rw i (equals-holds ν law held q tells bs bounds σg s t e)
-  sides-true c s t (inr i) e = rw i (equals-holds ν law held q tells bs bounds σg t s (turned ν law held q tells bs bounds σg s t e))
+  sides-true c s t (inl i) e = rw i (equals-holds ν bs bounds s t e)
+  sides-true c s t (inr i) e = rw i (equals-holds ν bs bounds t s (turned ν bs bounds s t e))
 
   bind-equal : (x : N) (side t : Ty N) → Reads x side → TrueBind x t → Equal side t
   bind-equal x side t r b =
@@ -216,14 +216,14 @@ module _ {N : Type 0} (ν : Names N) (law : Lawful (orderAtom ν)) (held : N →
   functions-equal : (ps qs : Tys N) (r r′ : Ty N) → count ps ≡ count qs → All True (equal r r′ ∷ pairs ps qs) → Equal (fn ps r) (fn qs r′)
   unfolding replaceTy plain
   functions-equal ps qs r r′ n h =
-      let a = equals ν law held q tells bs bounds σg r r′ (h (equal r r′) in-head) in
+      let a = equals ν bs bounds r r′ (h (equal r r′) in-head) in
       let b = pairs-equal ps qs n (λ c m. h c (List·Memᴰ·tail m)) in
       record { left = fn (b .left) (a .left); right = fn (b .right) (a .right); putLeft = rw (b .putLeft, a .putLeft); putRight = rw (b .putRight, a .putRight); same = ap₂ fn (b .same) (a .same) }
 
   lists-equal : (t u : Ty N) → All True (equal t u ∷ []) → Equal (list t) (list u)
   unfolding replaceTy plain
   lists-equal t u h =
-      let a = equals ν law held q tells bs bounds σg t u (h (equal t u) in-head) in
+      let a = equals ν bs bounds t u (h (equal t u) in-head) in
       record { left = list (a .left); right = list (a .right); putLeft = rw (a .putLeft); putRight = rw (a .putRight); same = ap list (a .same) }
 
   fields-value : (n : N) (ts : Tys N) (fs : Fields N) → GoodTy ν law held q (struct n ts fs) → All Fit (inProducts (struct n ts fs)) → (gs : Fields N) × (replaceFields ν exact σ fs ≡ got gs)
@@ -241,7 +241,7 @@ module _ {N : Type 0} (ν : Names N) (law : Lawful (orderAtom ν)) (held : N →
   field-true : (n m : N) (ts : Tys N) (fs : Fields N) (t u : Ty N) → opens (struct m ts fs) ≡ [] → fieldIn ν n fs ≡ some u → True (equal u t) → True (hasField n (struct m ts fs) t)
   unfolding replaceCon holds opens
   field-true n m ts fs t u c i h =
-      let a = equals ν law held q tells bs bounds σg u t h in
+      let a = equals ν bs bounds u t h in
       let e : opens u ≡ [] = none-in (opens u) (λ o j. List·Memᴰ·not-nil (subst (λ (os : List (Open N)). List·Memᴰ o os) c (Memᴰ·append-right (opensTys ts) (field-occurs ν n fs u i o j)))) in
       let z : got u ≡ got (a .left) = sym (closed-same ν exact σ u e) ∙ a .putLeft in
       let y : u ≡ a .left = cc in
@@ -254,7 +254,7 @@ module _ {N : Type 0} (ν : Names N) (law : Lawful (orderAtom ν)) (held : N →
   first-true : (x : N) (k : Exp) (p r : Product N) → goodProduct ν held q (free (var x) ↑ k ∷ p) ≡ true → All Fit (collect openOfFactor (free (var x) ↑ k ∷ p)) → each (otherSide bounded k) p ≡ got r → TrueBind x (dim r) → True (isScalar (free (var x) ↑ k ∷ p))
   unfolding collect goodTy asProduct
   first-true x k p r g f e b =
-      scalar-holds ν law held q tells bs bounds σg (free (var x) ↑ k ∷ p)
+      scalar-holds ν bs bounds (free (var x) ↑ k ∷ p)
       (put-product ν law held q tells σ σg (free (var x) ↑ k ∷ p) g f
       ∙ ap got (power-scalar x k p r g (b .good) (others-below ν k p .gives r e)
       (worth-kept ν law held q tells σ σg x (dim r) (b .good) (b .respected) (b .fits) (λ o i. absurd (some≢none (ap productOf i))) r refl (f (var x) in-head))))
@@ -301,7 +301,7 @@ module _ {N : Type 0} (ν : Names N) (law : Lawful (orderAtom ν)) (held : N →
       sides-true c (struct m as′ fs) (struct m bs′ gs) (inl i) (structs-equal m as′ bs′ fs gs k (x .0) (x .1) (y .0) (y .1) (λ d m. h d m .holding))
   rule-true c s (as-product x d i m e) n g f p a =
       let h : All TrueCon (equal (dim (just (var x))) (dim d) ∷ []) = subst (After (All TrueCon) TrueBind) e a in
-      sides-true c (opened (var x)) (dim d) i (variable-equal x d (equals ν law held q tells bs bounds σg (dim (just (var x))) (dim d) (h _ in-head .holding)))
+      sides-true c (opened (var x)) (dim d) i (variable-equal x d (equals ν bs bounds (dim (just (var x))) (dim d) (h _ in-head .holding)))
   rule-true c s (two-dimensions d e r k i j) n g f p a =
       let h : All TrueCon (isScalar r ∷ []) = subst (After (All TrueCon) TrueBind) j a in
       let t = h (isScalar r) in-head in
@@ -311,7 +311,7 @@ module _ {N : Type 0} (ν : Names N) (law : Lawful (orderAtom ν)) (held : N →
   rule-true c s (dimension d i e) n g f p a =
       let h : All TrueCon (parts d) = subst (After (All TrueCon) TrueBind) e a in
       rw i (dimension-true d (good-dim d (subst (λ (b : Con N). goodCon ν held q b ≡ true) i g)) (subst (λ (b : Con N). All Fit (productsOf b)) i f) (subst (λ (b : Con N). (y : N) → List·Memᴰ (par y) (opensCon b) → find ν bs y ≡ none) i p) (λ b m. h b m .holding))
-  rule-true c s (no-factor i e) n g f p a = rw i (scalar-holds ν law held q tells bs bounds σg [] nothing)
+  rule-true c s (no-factor i e) n g f p a = rw i (scalar-holds ν bs bounds [] nothing)
   rule-true c s (first-factor x k d r z i e) n g f p a =
       let h : TrueBind x (dim r) = subst (After (All TrueCon) TrueBind) e a in
       rw i (first-true x k d r (subst (λ (b : Con N). goodCon ν held q b ≡ true) i g) (subst (λ (b : Con N). All Fit (productsOf b)) i f) z h)

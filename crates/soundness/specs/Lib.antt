@@ -1,4 +1,7 @@
 pub mod Soundness
+pub mod Violated
+pub mod Excepted
+pub mod Unmet
 pub mod Claims
 pub mod Instances
 pub mod Judged

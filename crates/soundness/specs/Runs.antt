@@ -99,7 +99,7 @@ module _ {N : Type 0} (ν : Names N) (held : N → Bool) (ord : Ordered ν held)
 
     opened-true : (o : Open N) (y : N) → nameOf o ≡ some y → bindings ν bs o ≡ none → List·Memᴰ y ns → True (isDim (opened o))
     unfolding replaceTy holds amongBounds opens namesIn collect all among
-    opened-true o y e i m = dimensional-holds ν law held 0 tells bs ns σg (opened o) (record { type = opened o; putIn = rw i; holding = rw (e, is-any (λ z. isYes (ν .same y z)) ns y m (is-yes (ν .same y y) refl)) })
+    opened-true o y e i m = dimensional-holds ν bs ns (opened o) (record { type = opened o; putIn = rw i; holding = rw (e, is-any (λ z. isYes (ν .same y z)) ns y m (is-yes (ν .same y y) refl)) })
 
     end-con : (s : State N) → KeptAll s → Ended ν bs ns s → (c : Con N) → List·Memᴰ c (s .cons) → True c
     unfolding bindings

@@ -20,6 +20,52 @@ use Rattle.laws.specs.KeepsGood.{GoodTy}
 use Rattle.soundness.specs.Alike.{alike-same, means-same, same-means, dim-alike, field-alike}
 use Rattle.soundness.specs.Putting.{Fitting, Respected, product-same, Same, put-product, ty-put}
 
+-- ══ What a true constraint comes to ══
+
+module _ {N : Type 0} (ν : Names N) (bs : List (Binding N)) (bounds : List N) where
+  pub record Equals (s t : Ty N) : Type 0 where
+    pub left : Ty N
+    pub right : Ty N
+    pub putLeft : replaceTy ν exact (bindings ν bs) s ≡ got left
+    pub putRight : replaceTy ν exact (bindings ν bs) t ≡ got right
+    pub same : plain left false ≡ plain right false
+
+  pub equals : (s t : Ty N) → TrueUnder ν bs bounds (equal s t) → Equals s t
+  unfolding replaceCon holds
+  equals s t h =
+      let w = two-steps (replaceTy ν exact (bindings ν bs) s) (λ _. replaceTy ν exact (bindings ν bs) t) equal (h .replaced) (h .putIn) in
+      record { left = w .first; right = w .second; putLeft = w .gave; putRight = w .then; same = same-means ν (w .first) (w .second) (subst (λ (c : Con N). holds ν bounds c ≡ true) (sym (w .both)) (h .holding)) }
+
+  pub equals-holds : (s t : Ty N) → Equals s t → TrueUnder ν bs bounds (equal s t)
+  unfolding replaceCon holds
+  equals-holds s t e = record { replaced = equal (e .left) (e .right); putIn = rw (e .putLeft, e .putRight); holding = means-same ν (e .left) (e .right) (e .same) }
+
+  pub turned : (s t : Ty N) → Equals s t → Equals t s
+  turned s t e = record { left = e .right; right = e .left; putLeft = e .putRight; putRight = e .putLeft; same = sym (e .same) }
+
+  pub record Dimensional (t : Ty N) : Type 0 where
+    pub type : Ty N
+    pub putIn : replaceTy ν exact (bindings ν bs) t ≡ got type
+    pub holding : holds ν bounds (isDim type) ≡ true
+
+  pub dimensional : (t : Ty N) → TrueUnder ν bs bounds (isDim t) → Dimensional t
+  unfolding replaceCon
+  dimensional t h = let w = one-step (replaceTy ν exact (bindings ν bs) t) isDim (h .replaced) (h .putIn) in record { type = w .value; putIn = w .gave; holding = subst (λ (c : Con N). holds ν bounds c ≡ true) (sym (w .is)) (h .holding) }
+
+  pub dimensional-holds : (t : Ty N) → Dimensional t → TrueUnder ν bs bounds (isDim t)
+  unfolding replaceCon
+  dimensional-holds t d = record { replaced = isDim (d .type); putIn = rw (d .putIn); holding = d .holding }
+
+  pub scalar : (p : Product N) → TrueUnder ν bs bounds (isScalar p) → replaceProduct ν exact (bindings ν bs) p ≡ got []
+  unfolding replaceCon holds
+  scalar p h =
+      let w = one-step (replaceProduct ν exact (bindings ν bs) p) isScalar (h .replaced) (h .putIn) in
+      w .gave ∙ ap got (is-nil (w .value) (subst (λ (c : Con N). holds ν bounds c ≡ true) (sym (w .is)) (h .holding)))
+
+  pub scalar-holds : (p : Product N) → replaceProduct ν exact (bindings ν bs) p ≡ got [] → TrueUnder ν bs bounds (isScalar p)
+  unfolding replaceCon holds
+  scalar-holds p e = record { replaced = isScalar []; putIn = rw e; holding = refl }
+
 module _ {N : Type 0} (ν : Names N) (law : Lawful (orderAtom ν)) (held : N → Bool) (q : ℕ) (tells : Tells (λ a. goodAtom ν held q a ≡ true) (orderAtom ν))
     (bs : List (Binding N)) (bounds : List N) (σg : (o : Open N) (t : Ty N) → bindings ν bs o ≡ some t → GoodTy ν law held q t) where
   abbrev σ : Look N
@@ -33,51 +79,6 @@ module _ {N : Type 0} (ν : Names N) (law : Lawful (orderAtom ν)) (held : N →
 
   abbrev pub Respects : N → Ty N → Type 0
   Respects = Respected ν law held q tells σ σg
-
-  -- ══ What a true constraint comes to ══
-
-  pub record Equals (s t : Ty N) : Type 0 where
-    pub left : Ty N
-    pub right : Ty N
-    pub putLeft : replaceTy ν exact σ s ≡ got left
-    pub putRight : replaceTy ν exact σ t ≡ got right
-    pub same : plain left false ≡ plain right false
-
-  pub equals : (s t : Ty N) → Holds (equal s t) → Equals s t
-  unfolding replaceCon holds
-  equals s t h =
-      let w = two-steps (replaceTy ν exact σ s) (λ _. replaceTy ν exact σ t) equal (h .replaced) (h .putIn) in
-      record { left = w .first; right = w .second; putLeft = w .gave; putRight = w .then; same = same-means ν (w .first) (w .second) (subst (λ (c : Con N). holds ν bounds c ≡ true) (sym (w .both)) (h .holding)) }
-
-  pub equals-holds : (s t : Ty N) → Equals s t → Holds (equal s t)
-  unfolding replaceCon holds
-  equals-holds s t e = record { replaced = equal (e .left) (e .right); putIn = rw (e .putLeft, e .putRight); holding = means-same ν (e .left) (e .right) (e .same) }
-
-  pub turned : (s t : Ty N) → Equals s t → Equals t s
-  turned s t e = record { left = e .right; right = e .left; putLeft = e .putRight; putRight = e .putLeft; same = sym (e .same) }
-
-  pub record Dimensional (t : Ty N) : Type 0 where
-    pub type : Ty N
-    pub putIn : replaceTy ν exact σ t ≡ got type
-    pub holding : holds ν bounds (isDim type) ≡ true
-
-  pub dimensional : (t : Ty N) → Holds (isDim t) → Dimensional t
-  unfolding replaceCon
-  dimensional t h = let w = one-step (replaceTy ν exact σ t) isDim (h .replaced) (h .putIn) in record { type = w .value; putIn = w .gave; holding = subst (λ (c : Con N). holds ν bounds c ≡ true) (sym (w .is)) (h .holding) }
-
-  pub dimensional-holds : (t : Ty N) → Dimensional t → Holds (isDim t)
-  unfolding replaceCon
-  dimensional-holds t d = record { replaced = isDim (d .type); putIn = rw (d .putIn); holding = d .holding }
-
-  pub scalar : (p : Product N) → Holds (isScalar p) → replaceProduct ν exact σ p ≡ got []
-  unfolding replaceCon holds
-  scalar p h =
-      let w = one-step (replaceProduct ν exact σ p) isScalar (h .replaced) (h .putIn) in
-      w .gave ∙ ap got (is-nil (w .value) (subst (λ (c : Con N). holds ν bounds c ≡ true) (sym (w .is)) (h .holding)))
-
-  pub scalar-holds : (p : Product N) → replaceProduct ν exact σ p ≡ got [] → Holds (isScalar p)
-  unfolding replaceCon holds
-  scalar-holds p e = record { replaced = isScalar []; putIn = rw e; holding = refl }
 
   -- ══ A replaced constraint ══
 
@@ -93,12 +94,12 @@ module _ {N : Type 0} (ν : Names N) (law : Lawful (orderAtom ν)) (held : N →
 
     equal-back : (s u s′ u′ : Ty N) → Like s s′ → Like u u′ → Holds (equal s′ u′) → Holds (equal s u)
     equal-back s u s′ u′ a b h =
-        let e = equals s′ u′ h in
+        let e = equals ν bs bounds s′ u′ h in
         let i : got (e .left) ≡ got (a .right) = sym (e .putLeft) ∙ a .putRight in
         let j : got (e .right) ≡ got (b .right) = sym (e .putRight) ∙ b .putRight in
         let i′ : e .left ≡ a .right = cc in
         let j′ : e .right ≡ b .right = cc in
-        equals-holds s u (record {
+        equals-holds ν bs bounds s u (record {
           left = a .left;
           right = b .left;
           putLeft = a .putLeft;
@@ -108,10 +109,10 @@ module _ {N : Type 0} (ν : Names N) (law : Lawful (orderAtom ν)) (held : N →
 
     dim-back : (u u′ : Ty N) → Like u u′ → Holds (isDim u′) → Holds (isDim u)
     dim-back u u′ a h =
-        let d = dimensional u′ h in
+        let d = dimensional ν bs bounds u′ h in
         let i : got (d .type) ≡ got (a .right) = sym (d .putIn) ∙ a .putRight in
         let j : d .type ≡ a .right = cc in
-        dimensional-holds u (record { type = a .left; putIn = a .putLeft; holding = dim-alike ν bounds (a .left) (d .type) (a .alike ∙ ap (λ (w : Ty N). plain w true) (sym j)) (d .holding) })
+        dimensional-holds ν bs bounds u (record { type = a .left; putIn = a .putLeft; holding = dim-alike ν bounds (a .left) (d .type) (a .alike ∙ ap (λ (w : Ty N). plain w true) (sym j)) (d .holding) })
 
     field-back : (n : N) (s u s′ u′ : Ty N) → Like s s′ → Like u u′ → Holds (hasField n s′ u′) → Holds (hasField n s u)
     unfolding replaceCon
@@ -129,7 +130,7 @@ module _ {N : Type 0} (ν : Names N) (law : Lawful (orderAtom ν)) (held : N →
 
     scalar-back : (p s : Product N) → goodProduct ν held q p ≡ true → goodProduct ν held q s ≡ true → All FitsIn (collect openOfFactor p) → All FitsIn (collect openOfFactor s) → replaceProduct ν exact τ p ≡ got s → Holds (isScalar s) → Holds (isScalar p)
     scalar-back p s g g′ f f′ e h =
-        scalar-holds p (put-product ν law held q tells σ σg p g f ∙ ap got (sym (product-same ν law held q tells σ σg x t tg r tf te p s g f e)) ∙ sym (put-product ν law held q tells σ σg s g′ f′) ∙ scalar s h)
+        scalar-holds ν bs bounds p (put-product ν law held q tells σ σg p g f ∙ ap got (sym (product-same ν law held q tells σ σg x t tg r tf te p s g f e)) ∙ sym (put-product ν law held q tells σ σg s g′ f′) ∙ scalar ν bs bounds s h)
 
     pub con-back : (c d : Con N) → goodCon ν held q c ≡ true → goodCon ν held q d ≡ true → All FitsIn (productsOf c) → All FitsIn (productsOf d) → replaceCon ν exact τ c ≡ got d → Holds d → Holds c
     unfolding replaceCon goodCon productsOf inProducts

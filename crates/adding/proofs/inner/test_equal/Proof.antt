@@ -1,9 +1,8 @@
 -- `inner::test_equal` meets its contract. Assumes nothing.
-use mathlib.Core.Path.{sym, ap, ap₂, _∙_}
+use mathlib.Core.Path.{sym, ap₂, _∙_}
 use mathlib.Core.Bool.{_&&_}
 use borrow.Author.Needs.{needs}
 use denote.Ref.{now}
-use Rattle.adding.specs.Shapes.{shapeOf}
 use Rattle.adding.specs.Tests.{two-right, equal-closed, equal-open, told-unlike}
 use Rattle.adding.proofs.inner.test_equal.Statement.{statement}
 use Rattle.adding.proofs.inner.test_equal.Tie as tie
@@ -32,17 +31,11 @@ same-types-requires c κs =
 satisfied-if-requires : tie.Need-satisfied-if-requires
 satisfied-if-requires c κs = search needs
 
-view-at-requires : tie.Need-view-at-requires
-view-at-requires c κs = search needs
+shape-at-requires : tie.Need-shape-at-requires
+shape-at-requires c κs = search needs
 
-shape-of-requires : tie.Need-shape-of-requires
-shape-of-requires c κs = search needs
-
-view-at-requires-2 : tie.Need-view-at-requires-2
-view-at-requires-2 c κs = search needs
-
-shape-of-requires-2 : tie.Need-shape-of-requires-2
-shape-of-requires-2 c κs = search needs
+shape-at-requires-2 : tie.Need-shape-at-requires-2
+shape-at-requires-2 c κs = search needs
 
 is-unlike-requires : tie.Need-is-unlike-requires
 is-unlike-requires c κs = search needs
@@ -61,15 +54,13 @@ returns c =
 
 returns-2 : tie.Need-returns-2
 returns-2 c =
-    let v = c .before .before .before .before .before in
+    let v = c .before .before .before in
     let b = v .before .before in
     let a = b .before .before .before .before .before .args in
     λ names l r t.
     let g = two-right (now (a .s)) (a .at) _ l r t (b .before .before .before .end-of .ensures l (t .left)) in
     let e = sym (b .both .ensures ∙ ap₂ _&&_ (b .before .before .closed-at .ensures l (t .left)) (b .before .closed-at2 .ensures r g)) ∙ v .before .if1 .left in
-    let x = c .before .before .before .before .shape-of .ensures ∙ ap shapeOf (v .view-at .ensures) in
-    let y = c .before .before .shape-of2 .ensures ∙ ap shapeOf (c .before .before .before .view-at2 .ensures) in
-    equal-open names l r (c .before .is-unlike .result) e (c .violated-if .ensures) (told-unlike (now (a .s)) (a .at) _ l r _ _ _ (t .left) g x y (c .before .is-unlike .ensures))
+    equal-open names l r (c .before .is-unlike .result) e (c .violated-if .ensures) (told-unlike l r _ _ _ (v .shape-at .ensures l (t .left)) (c .before .before .shape-at2 .ensures r g) (c .before .is-unlike .ensures))
 
 pub test-equal-spec : {M : Type 1} → statement M
 test-equal-spec =
@@ -81,10 +72,8 @@ test-equal-spec =
     both-requires
     same-types-requires
     satisfied-if-requires
-    view-at-requires
-    shape-of-requires
-    view-at-requires-2
-    shape-of-requires-2
+    shape-at-requires
+    shape-at-requires-2
     is-unlike-requires
     violated-if-requires
     returns
