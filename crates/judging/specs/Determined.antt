@@ -1,9 +1,11 @@
--- A verdict with its work buffer is told in one way: two that are told the same coincide. Assumes nothing.
-use mathlib.Core.Path.{_≡_, refl, ap}
+-- The contract leaves no choice: two results that it allows coincide; and the verdict has the number of its outcome. Assumes nothing.
+use mathlib.Core.Path.{_≡_, refl, sym, ap, _∙_}
 use mathlib.Core.List.{List}
 use Prim.Native.Nat.{ℕ}
 use native.Mathlib.Omega.{arith}
-use Rattle.rules.specs.Calls.{Judged}
+use Rattle.rules.specs.Calls.{Entry, Judged, judgeCall}
+use Rattle.rules.specs.Numbers.{refusalIn, number, judged}
+use Rattle.rules.specs.Refusals.{numberOf}
 use Rattle.laws.specs.Numbers.{number-injective}
 use Rattle.trials.specs.Told.{told}
 use Rattle.trials.specs.declared.Verdict.{Verdict}
@@ -27,3 +29,23 @@ pub record OneResult (a b : Verdict) (work work′ : List ℕ) : Type 0 where
 
 pub one-result : (a b : Verdict) (work work′ : List ℕ) → judgedAs a work ≡ judgedAs b work′ → OneResult a b work work′
 one-result a b work work′ e = record { verdicts = verdict-injective a b (ap (λ (j : Judged). j .answer) e); works = ap (λ (j : Judged). j .work) e }
+
+-- the number of a verdict: 0, or that of the refusal
+abbrev pub numberVerdict : Verdict → ℕ
+numberVerdict Yes = 0
+numberVerdict No = 0
+numberVerdict (Refused r) = numberOf r
+
+verdict-in : (a : Verdict) → numberVerdict a ≡ refusalIn (told a)
+unfolding refusalIn
+verdict-in Yes = refl
+verdict-in No = refl
+verdict-in (Refused r) = refl
+
+module _ (pool table set : List ℕ) (entries : List Entry) (types bounds work : List ℕ) where
+  pub judge-determined : (p q : Verdict) (c d : List ℕ) → judgedAs p c ≡ judgeCall pool table set entries types bounds work → judgedAs q d ≡ judgeCall pool table set entries types bounds work → OneResult p q c d
+  judge-determined p q c d h k = one-result p q c d (h ∙ sym k)
+
+  pub judge-numbered : (p : Verdict) (c : List ℕ) → judgedAs p c ≡ judgeCall pool table set entries types bounds work → numberVerdict p ≡ number (judged (judgeCall pool table set entries types bounds work))
+  unfolding number
+  judge-numbered p c h = verdict-in p ∙ ap (λ (j : Judged). refusalIn (j .answer)) h

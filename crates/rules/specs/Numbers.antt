@@ -1,4 +1,4 @@
--- Document 01, 'Refusal numbers': the number of every outcome of every public call, 0 where it answers.
+-- Document 01, 'Refusal numbers': the number of every outcome of every public call, 0 where it answers. Those of document 02's calls, too.
 -- Assumes nothing.
 use mathlib.Core.Bool.{Bool}
 use Prim.Native.Nat.{ℕ, Ordering}
@@ -7,6 +7,8 @@ use Rattle.rules.specs.Exponents.{Exp}
 use Rattle.rules.specs.Trees.{Product}
 use Rattle.rules.specs.Names.{Bytes, Entered}
 use Rattle.rules.specs.Calls.{Written, Listed, AddedTo, Solved, solved, unsolved, refusedAfter, Solution, Judged}
+use Rattle.rules.specs.Batches.{Batch}
+use Rattle.rules.specs.Ceiling.{Ceiling}
 
 -- what the calls come to, by the kind of their answer
 pub data Outcome : Type 0 where
@@ -22,6 +24,8 @@ pub data Outcome : Type 0 where
   written : Written → Outcome
   solution : Solution → Outcome
   judged : Judged → Outcome
+  most : Got Ceiling → Outcome
+  batch : Batch → Outcome
 
 unfoldable pub refusalIn : {A : Type 0} → Got A → ℕ
 refusalIn (got a) = 0
@@ -47,3 +51,5 @@ number (added a) = refusalIn (a .answer)
 number (written w) = refusalIn (w .answer)
 number (solution s) = refusalOf (s .answer)
 number (judged j) = refusalIn (j .answer)
+number (most g) = refusalIn g
+number (batch b) = refusalIn (b .answer)

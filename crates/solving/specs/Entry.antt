@@ -1,11 +1,11 @@
 -- The checks of a set past that of 10, and what is known where they are met; and the whole call. Assumes nothing.
-use mathlib.Core.Path.{_≡_, refl, sym}
-use mathlib.Core.Bool.{true, and-eq-true-iff, _&&_}
+use mathlib.Core.Path.{_≡_, refl, sym, _∙_}
+use mathlib.Core.Bool.{Bool, true, false, and-eq-true-iff, _&&_}
 use mathlib.Core.List.{List, [], _∷_, map}
-use Prim.Native.Nat.{ℕ, _+_, _*_, _/_, _-_, _≤_}
+use Prim.Native.Nat.{ℕ, _+_, _*_, _/_, _-_, _≤_, _<_}
 use native.Mathlib.Nat.{add-zero}
 use native.Mathlib.Omega.{arith}
-use borrow.Author.Tests.{leb-true}
+use borrow.Author.Tests.{leb-true, le-leb, lt-leb}
 use lib.Dec.{leb}
 use lib.ListN.{length, replicate}
 use lib.Seq.{sets, slice}
@@ -69,6 +69,28 @@ module _ {A B : Type 0} (u : A → Got (Unit {0})) (v : A → B) where
   unmet (got x) (got y) (got z) (refused i) w n l h e = cc
   unmet (got x) (got y) (got z) (got a) w n l h e = rw (← h a refl, e)
 
+-- ══ Is a set well formed, where the table's check was made before ══
+
+pub long-table : (pool table : List ℕ) → lentTable pool table ≡ got tt → (8192 ≤ length pool) × (257 ≤ length table)
+unfolding lentTable
+long-table pool table l =
+    let b = and-eq-true-iff (leb 8192 (length pool)) (leb 257 (length table)) .0 (need-passed (leb 8192 (length pool) && leb 257 (length table)) 10 l) in
+    (leb-true 8192 (length pool) (b .0), leb-true 257 (length table) (b .1))
+
+module _ (pool table ws : List ℕ) (good : Bool) (l : lentTable pool table ≡ got tt) (g : good ≡ tableGood (tableOf pool table)) where
+  pub too-long : 8192 < length ws → refused 8 ≡ setCall pool table ws
+  unfolding setCall aloneGiven shortLists all
+  too-long h = sym (rw (l, lt-leb (length ws) 8192 h))
+
+  module _ (h : length ws ≤ 8192) where
+    pub bad-table : good ≡ false → refused 1 ≡ setCall pool table ws
+    unfolding setCall aloneGiven shortLists tableKept all
+    bad-table b = sym (rw (l, le-leb (length ws) 8192 h, sym g ∙ b))
+
+    pub alone : good ≡ true → aloneGiven pool table ws ≡ got tt
+    unfolding aloneGiven shortLists tableKept all
+    alone b = rw (l, le-leb (length ws) 8192 h, sym g ∙ b)
+
 -- ══ The checks of this call ══
 
 module _ (pool table ws : List ℕ) where
@@ -101,11 +123,10 @@ module _ (pool table ws : List ℕ) where
     set-short s = leb-true (length ws) 8192 (and-left (leb (length ws) 8192) true (need-passed (leb (length ws) 8192 && true) 8 s))
 
     table-good : lentTable pool table ≡ got tt → tableKept (tableOf pool table) ≡ got tt → Good pool table
-    unfolding tableKept lentTable
+    unfolding tableKept
     table-good l k =
-        let n = need-passed (leb 8192 (length pool) && leb 257 (length table)) 10 l in
-        let b = and-eq-true-iff (leb 8192 (length pool)) (leb 257 (length table)) .0 n in
-        record { bytes = leb-true 8192 (length pool) (b .0); words = leb-true 257 (length table) (b .1); good = need-passed (tableGood (tableOf pool table)) 1 k }
+        let b = long-table pool table l in
+        record { bytes = b .0; words = b .1; good = need-passed (tableGood (tableOf pool table)) 1 k }
 
     pub came-in : lentTable pool table ≡ got tt → entered ≡ got tt → Entered
     unfolding setCall aloneGiven solvedSet

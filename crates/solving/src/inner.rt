@@ -6,7 +6,7 @@ use finishing::inner::finish;
 use names::Checked;
 use queries::inner::is_unmixed;
 use records::inner::copy;
-use records::is_set;
+use records::inner::set_good;
 use rounds::inner::Turn;
 use rounds::inner::round;
 use rules::RECORD_WORDS;
@@ -16,8 +16,8 @@ ghost use mathlib.Core.List.{List};
 ghost use Prim.Native.Nat.{ℕ, _≤_};
 ghost use lib.ListN.{length};
 ghost use Rattle.rules.specs.Base.{got, bounded};
-ghost use Rattle.rules.specs.Calls.{solvedSet};
-ghost use Rattle.rules.specs.Names.{tableOf, lentTable};
+ghost use Rattle.rules.specs.Calls.{setCall, solvedSet};
+ghost use Rattle.rules.specs.Names.{tableOf, tableGood, lentTable};
 ghost use Rattle.rules.specs.Solving.{solve};
 ghost use Rattle.rules.specs.Trees.{Con};
 ghost use Rattle.laws.specs.NameTable.{Good};
@@ -102,11 +102,36 @@ fn run_alone(pool: &[u8], table: &[u32], n: usize, result: &mut [u32], work: &mu
     run(pool, table, n, result, work, &mut next)
 }
 
+// Is the set well formed (8, 1)? Whether the table is good is handed on, so that one check of it serves many sets.
+fn is_set(pool: &[u8], table: &[u32], good: bool, words: &[u32]) -> Checked
+    requires { ⌜ lentTable (now pool) (now table) ≡ got tt ⌝ }
+    requires { ⌜ good ≡ tableGood (tableOf (now pool) (now table)) ⌝ }
+    ensures { λ r. ⌜ toldChecked r ≡ setCall (now (pool .entry)) (now (table .entry)) (now (words .entry)) ⌝ }
+{
+    if RECORD_WORDS < words.len() {
+        return Checked::Refused(Refusal::TooLarge);
+    }
+    if !good {
+        return Checked::Refused(Refusal::Malformed);
+    }
+    let held = set_good(pool, table, words);
+    if words.len() % 4 != 0 {
+        return Checked::Refused(Refusal::Malformed);
+    }
+    if held {
+        Checked::Good
+    } else {
+        Checked::Refused(Refusal::Malformed)
+    }
+}
+
 // Is the set well formed (8, 1), and is no name both a variable and a parameter (4)?
-fn enter(pool: &[u8], table: &[u32], words: &[u32]) -> Checked
+fn enter(pool: &[u8], table: &[u32], good: bool, words: &[u32]) -> Checked
+    requires { ⌜ lentTable (now pool) (now table) ≡ got tt ⌝ }
+    requires { ⌜ good ≡ tableGood (tableOf (now pool) (now table)) ⌝ }
     ensures { λ r. ⌜ toldChecked r ≡ entered (now (pool .entry)) (now (table .entry)) (now (words .entry)) ⌝ }
 {
-    match is_set(pool, table, words) {
+    match is_set(pool, table, good, words) {
         Checked::Good => {
             if is_unmixed(words, 0, words.len() / 4) {
                 Checked::Good
@@ -118,20 +143,22 @@ fn enter(pool: &[u8], table: &[u32], words: &[u32]) -> Checked
     }
 }
 
-// All that solving does past the check of 10, but for clearing the work buffer.
+// All that solving does past the check of 10 and that of the table, but for clearing the work buffer.
 pub fn solve_set(
     pool: &[u8],
     table: &[u32],
+    good: bool,
     words: &[u32],
     result: &mut [u32],
     work: &mut [u32],
 ) -> Solution
     requires { ⌜ lentTable (now pool) (now table) ≡ got tt ⌝ }
+    requires { ⌜ good ≡ tableGood (tableOf (now pool) (now table)) ⌝ }
     requires { ⌜ 8192 ≤ length (now result) ⌝ }
     requires { ⌜ 16384 ≤ length (now work) ⌝ }
     ensures { λ r. ⌜ Answered (solvedSet (tableOf (now (pool .entry)) (now (table .entry))) (now (words .entry))) (now (result .entry)) (now (result .exit)) r ⌝ }
 {
-    match enter(pool, table, words) {
+    match enter(pool, table, good, words) {
         Checked::Good => {
             let n = words.len() / 4;
             copy(words, 0, n, work, 0);

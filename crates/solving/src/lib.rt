@@ -5,6 +5,7 @@ use inner::solve_set;
 use inner::stopped;
 use lending::inner::clear;
 use lending::lent;
+use names::inner::is_good;
 use rules::Refusal;
 ghost use mathlib.Core.Path.{_≡_};
 ghost use Rattle.rules.specs.Calls.{solveCall};
@@ -49,7 +50,8 @@ pub fn solve(
     if !lent(pool, table, result, work) {
         return stopped(Refusal::ShortBuffer, 0);
     }
-    let s = solve_set(pool, table, words, result, work);
+    let good = is_good(pool, table);
+    let s = solve_set(pool, table, good, words, result, work);
     clear(work);
     s
 }

@@ -2,7 +2,7 @@
 use borrow.Author.Needs.{needs}
 use denote.Ref.{now}
 use Rattle.lending.specs.Lent.{Long, long, short}
-use Rattle.solving.specs.Entry.{call-short, called}
+use Rattle.solving.specs.Entry.{call-short, called, long-table}
 use Rattle.solving.proofs.solve.Statement.{statement}
 use Rattle.solving.proofs.solve.Tie as tie
 
@@ -29,8 +29,14 @@ enough : (c : tie.Else1) →
     Long (now (a .pool)) (now (a .table)) (now (a .result)) (now (a .work))
 enough c = long _ _ _ _ (c .before .lent .result) (c .before .lent .ensures) (c .if1 .left)
 
+is-good-requires : tie.Need-is-good-requires
+is-good-requires c κs = long-table _ _ (enough c .table-met)
+
 solve-set-requires : tie.Need-solve-set-requires
-solve-set-requires c κs = let l = enough (c .before .before) in (l .table-met, (l .result-long, l .work-long))
+solve-set-requires c κs =
+    let g = c .before .before in
+    let l = enough (g .before) in
+    (l .table-met, (g .is-good .ensures, (l .result-long, l .work-long)))
 
 clear-requires : tie.Need-clear-requires
 clear-requires c κs = search needs
@@ -45,7 +51,7 @@ returns-2 : tie.Need-returns-2
 returns-2 c =
     let z = c .before .before in
     let s = z .before .before .before .before .before .before in
-    called _ _ _ _ _ (s .solve-set .last .1 .1 .1 .1 .0) _ _ _ (s .solve-set .kept .1 .1 .1 .1 .0) (enough (s .before .before .before) .met) (s .solve-set .ensures) (z .clear .ensures)
+    called _ _ _ _ _ (s .solve-set .last .1 .1 .1 .1 .1 .0) _ _ _ (s .solve-set .kept .1 .1 .1 .1 .1 .0) (enough (s .before .before .before .before) .met) (s .solve-set .ensures) (z .clear .ensures)
 
 pub solve-spec : {M : Type 1} → statement M
 solve-spec =
@@ -56,6 +62,7 @@ solve-spec =
     same-length
     same-length-2
     returns
+    is-good-requires
     solve-set-requires
     clear-requires
     same-length-3

@@ -16,34 +16,26 @@ bounds-good-requires : tie.Need-bounds-good-requires
 bounds-good-requires c κs = search needs
 
 returns : tie.Need-returns
-returns c =
-    let S = c .before .before .before .before .before in
-    not-whole (S .args .pool .now) (S .args .table .now) (S .args .bounds .now) (c .before .bounds-good .result) (c .before .bounds-good .ensures) (c .if1 .taken)
+returns c = not-whole (c .before .before .before .before .before .args .pool .now) (c .before .before .before .before .before .args .table .now) (c .before .before .before .before .before .args .bounds .now) (c .before .bounds-good .result) (c .before .bounds-good .ensures) (c .if1 .taken)
 
 returns-2 : tie.Need-returns-2
-returns-2 c =
-    let S = c .before .before .before .before .before .before in
-    not-good (S .args .pool .now) (S .args .table .now) (S .args .bounds .now) (c .before .if1 .left) (subst (Chained (GoodBound (S .args .pool .now) (S .args .table .now) 0 (S .args .bounds .now)) (length (S .args .bounds .now) / 4) 0) (not-true (c .before .before .bounds-good .result) (c .if2 .taken)) (c .before .before .bounds-good .ensures))
+returns-2 c = not-good (c .before .before .before .before .before .before .args .pool .now) (c .before .before .before .before .before .before .args .table .now) (c .before .before .before .before .before .before .args .bounds .now) (c .before .if1 .left) (subst (Chained (GoodBound (c .before .before .before .before .before .before .args .pool .now) (c .before .before .before .before .before .before .args .table .now) 0 (c .before .before .before .before .before .before .args .bounds .now)) (length (c .before .before .before .before .before .before .args .bounds .now) / 4) 0) (not-true (c .before .before .bounds-good .result) (c .if2 .taken)) (c .before .before .bounds-good .ensures))
 
 rise-requires : tie.Need-rise-requires
-rise-requires c κs =
-    let S = c .before .before .before .before .before .before in
-    (S .pre .0, subst (Chained (GoodBound (S .args .pool .now) (S .args .table .now) 0 (S .args .bounds .now)) (length (S .args .bounds .now) / 4) 0) (not-false (c .before .before .bounds-good .result) (c .if2 .left)) (c .before .before .bounds-good .ensures))
+rise-requires c κs = (c .before .before .before .before .before .before .pre .0, subst (Chained (GoodBound (c .before .before .before .before .before .before .args .pool .now) (c .before .before .before .before .before .before .args .table .now) 0 (c .before .before .before .before .before .before .args .bounds .now)) (length (c .before .before .before .before .before .before .args .bounds .now) / 4) 0) (not-false (c .before .before .bounds-good .result) (c .if2 .left)) (c .before .before .bounds-good .ensures))
 
 returns-3 : tie.Need-returns-3
 returns-3 c =
-    let S = c .before .before .before .before .before .before .before .before in
-    let (os, h) = subst (Chained (GoodBound (S .args .pool .now) (S .args .table .now) 0 (S .args .bounds .now)) (length (S .args .bounds .now) / 4) 0) (not-false (c .before .before .before .before .bounds-good .result) (c .before .before .if2 .left)) (c .before .before .before .before .bounds-good .ensures) in
-    not-rising (S .args .pool .now) (S .args .table .now) (S .args .bounds .now) (c .before .before .before .if1 .left) os h (sym (c .before .rise .ensures os h) ∙ not-true (c .before .rise .result) (c .if3 .taken))
+    let (os, h) = subst (Chained (GoodBound (c .before .before .before .before .before .before .before .before .args .pool .now) (c .before .before .before .before .before .before .before .before .args .table .now) 0 (c .before .before .before .before .before .before .before .before .args .bounds .now)) (length (c .before .before .before .before .before .before .before .before .args .bounds .now) / 4) 0) (not-false (c .before .before .before .before .bounds-good .result) (c .before .before .if2 .left)) (c .before .before .before .before .bounds-good .ensures) in
+    not-rising (c .before .before .before .before .before .before .before .before .args .pool .now) (c .before .before .before .before .before .before .before .before .args .table .now) (c .before .before .before .before .before .before .before .before .args .bounds .now) (c .before .before .before .if1 .left) os h (sym (c .before .rise .ensures os h) ∙ not-true (c .before .rise .result) (c .if3 .taken))
 
 mark-all-requires : tie.Need-mark-all-requires
 mark-all-requires c κs = search needs
 
 returns-4 : tie.Need-returns-4
 returns-4 c =
-    let S = c .before .before .before .before .before .before .before .before .before .before in
-    let (os, h) = subst (Chained (GoodBound (S .args .pool .now) (S .args .table .now) 0 (S .args .bounds .now)) (length (S .args .bounds .now) / 4) 0) (not-false (c .before .before .before .before .before .before .bounds-good .result) (c .before .before .before .before .if2 .left)) (c .before .before .before .before .before .before .bounds-good .ensures) in
-    (map wordOf os, (are-rising (S .args .pool .now) (S .args .table .now) (S .args .bounds .now) (c .before .before .before .before .before .if1 .left) os h (sym (c .before .before .before .rise .ensures os h) ∙ not-false (c .before .before .before .rise .result) (c .before .before .if3 .left)), c .mark-all .ensures _ _ os [] h (rw (S .pre .1) marks-none)))
+    let (os, h) = subst (Chained (GoodBound (c .before .before .before .before .before .before .before .before .before .before .args .pool .now) (c .before .before .before .before .before .before .before .before .before .before .args .table .now) 0 (c .before .before .before .before .before .before .before .before .before .before .args .bounds .now)) (length (c .before .before .before .before .before .before .before .before .before .before .args .bounds .now) / 4) 0) (not-false (c .before .before .before .before .before .before .bounds-good .result) (c .before .before .before .before .if2 .left)) (c .before .before .before .before .before .before .bounds-good .ensures) in
+    (map wordOf os, (are-rising (c .before .before .before .before .before .before .before .before .before .before .args .pool .now) (c .before .before .before .before .before .before .before .before .before .before .args .table .now) (c .before .before .before .before .before .before .before .before .before .before .args .bounds .now) (c .before .before .before .before .before .if1 .left) os h (sym (c .before .before .before .rise .ensures os h) ∙ not-false (c .before .before .before .rise .result) (c .before .before .if3 .left)), c .mark-all .ensures _ _ os [] h (rw (c .before .before .before .before .before .before .before .before .before .before .pre .1) marks-none)))
 
 pub bounds-given-spec : {M : Type 1} → statement M
 bounds-given-spec =

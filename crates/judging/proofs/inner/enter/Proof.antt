@@ -7,27 +7,19 @@ use Rattle.judging.proofs.inner.enter.Statement.{statement}
 use Rattle.judging.proofs.inner.enter.Tie as tie
 
 returns : tie.Need-returns
-returns c = λ es m.
-    let S = c .before .before .before .before .before .before in
-    types-long (S .args .pool .now) (S .args .table .now) (S .args .set .now) (S .args .types .now) (S .args .bounds .now) es (c .if1 .taken)
+returns c = λ es m. types-long (c .before .before .before .before .before .before .args .pool .now) (c .before .before .before .before .before .before .args .table .now) (c .before .before .before .before .before .before .args .set .now) (c .before .before .before .before .before .before .args .types .now) (c .before .before .before .before .before .before .args .bounds .now) es (c .if1 .taken)
 
 returns-2 : tie.Need-returns-2
-returns-2 c = λ es m.
-    let S = c .before .before .before .before .before .before .before in
-    bounds-long (S .args .pool .now) (S .args .table .now) (S .args .set .now) (S .args .types .now) (S .args .bounds .now) es (c .if2 .taken)
+returns-2 c = λ es m. bounds-long (c .before .before .before .before .before .before .before .args .pool .now) (c .before .before .before .before .before .before .before .args .table .now) (c .before .before .before .before .before .before .before .args .set .now) (c .before .before .before .before .before .before .before .args .types .now) (c .before .before .before .before .before .before .before .args .bounds .now) es (c .if2 .taken)
 
 returns-3 : tie.Need-returns-3
-returns-3 c = λ es m.
-    let S = c .before .before .before .before .before .before .before .before in
-    many-long (S .args .pool .now) (S .args .table .now) (S .args .set .now) (S .args .types .now) (S .args .bounds .now) es (omega (arith, m, c .if3 .taken))
+returns-3 c = λ es m. many-long (c .before .before .before .before .before .before .before .before .args .pool .now) (c .before .before .before .before .before .before .before .before .args .table .now) (c .before .before .before .before .before .before .before .before .args .set .now) (c .before .before .before .before .before .before .before .before .args .types .now) (c .before .before .before .before .before .before .before .before .args .bounds .now) es (omega (arith, m, c .if3 .taken))
 
 is-set-requires : tie.Need-is-set-requires
 is-set-requires c κs = search needs
 
 returns-4 : tie.Need-returns-4
-returns-4 c = λ es m.
-    let S = c .before .before .before .before .before .before .before .before .before in
-    c .is-set .ensures ∙ set-told (S .args .pool .now) (S .args .table .now) (S .args .set .now) (S .args .types .now) (S .args .bounds .now) es (S .pre) (c .before .before .before .if1 .left) (c .before .before .if2 .left) (omega (arith, m, c .before .if3 .left))
+returns-4 c = λ es m. c .is-set .ensures ∙ set-told (c .before .before .before .before .before .before .before .before .before .args .pool .now) (c .before .before .before .before .before .before .before .before .before .args .table .now) (c .before .before .before .before .before .before .before .before .before .args .set .now) (c .before .before .before .before .before .before .before .before .before .args .types .now) (c .before .before .before .before .before .before .before .before .before .args .bounds .now) es (c .before .before .before .before .before .before .before .before .before .pre) (c .before .before .before .if1 .left) (c .before .before .if2 .left) (omega (arith, m, c .before .if3 .left))
 
 pub enter-spec : {M : Type 1} → statement M
 enter-spec = tie.close (tie.spec returns returns-2 returns-3 is-set-requires returns-4)

@@ -17,59 +17,52 @@ fill-requires : tie.Need-fill-requires
 fill-requires c κs = search needs
 
 returns : tie.Need-returns
-returns c = λ cs es n h.
-    let S = c .before .before .before .before .before .before .before .before .before .before in
-    no-entries (S .args .pool .now) (S .args .table .now) (S .args .set .now) (S .args .types .now) cs es n h (c .before .before .fill .ensures) (S .args .bounds .now) (not-true (c .before .before .fill .result) (c .if1 .taken))
+returns c = λ cs es n h. no-entries (c .before .before .before .before .before .before .before .before .before .before .args .pool .now) (c .before .before .before .before .before .before .before .before .before .before .args .table .now) (c .before .before .before .before .before .before .before .before .before .before .args .set .now) (c .before .before .before .before .before .before .before .before .before .before .args .types .now) cs es n h (c .before .before .fill .ensures) (c .before .before .before .before .before .before .before .before .before .before .args .bounds .now) (not-true (c .before .before .fill .result) (c .if1 .taken))
 
 bounds-given-requires : tie.Need-bounds-given-requires
 bounds-given-requires c κs = search needs
 
 returns-2 : tie.Need-returns-2
 returns-2 c = λ cs es n h.
-    let S = c .before .before .before .before .before .before .before .before .before .before .before .before .before in
-    let (bs, b) = are-bound (S .args .pool .now) (S .args .table .now) (S .args .set .now) (S .args .types .now) cs es n h (c .before .before .before .before .before .fill .ensures) (not-false (c .before .before .before .before .before .fill .result) (c .before .before .before .if1 .left)) in
-    no-bounds (S .args .pool .now) (S .args .table .now) (S .args .set .now) (S .args .types .now) cs es n (record { word = λ i. c .before .before .before .before .before .before .before .before .before .before .shared-slice-known3 .given i .fits }) (S .args .bounds .now) bs (b .given) (subst (BoundsGiven (S .args .pool .now) (S .args .table .now) (S .args .bounds .now) (c .before .bounds-given .last .1 .1 .1 .0)) (not-true (c .before .bounds-given .result) (c .if2 .taken)) (c .before .bounds-given .ensures))
+    let (bs, b) = are-bound (c .before .before .before .before .before .before .before .before .before .before .before .before .before .args .pool .now) (c .before .before .before .before .before .before .before .before .before .before .before .before .before .args .table .now) (c .before .before .before .before .before .before .before .before .before .before .before .before .before .args .set .now) (c .before .before .before .before .before .before .before .before .before .before .before .before .before .args .types .now) cs es n h (c .before .before .before .before .before .fill .ensures) (not-false (c .before .before .before .before .before .fill .result) (c .before .before .before .if1 .left)) in
+    no-bounds (c .before .before .before .before .before .before .before .before .before .before .before .before .before .args .pool .now) (c .before .before .before .before .before .before .before .before .before .before .before .before .before .args .table .now) (c .before .before .before .before .before .before .before .before .before .before .before .before .before .args .set .now) (c .before .before .before .before .before .before .before .before .before .before .before .before .before .args .types .now) cs es n (record { word = λ i. c .before .before .before .before .before .before .before .before .before .before .shared-slice-known3 .given i .fits }) (c .before .before .before .before .before .before .before .before .before .before .before .before .before .args .bounds .now) bs (b .given) (subst (BoundsGiven (c .before .before .before .before .before .before .before .before .before .before .before .before .before .args .pool .now) (c .before .before .before .before .before .before .before .before .before .before .before .before .before .args .table .now) (c .before .before .before .before .before .before .before .before .before .before .before .before .before .args .bounds .now) (c .before .bounds-given .last .1 .1 .1 .0)) (not-true (c .before .bounds-given .result) (c .if2 .taken)) (c .before .bounds-given .ensures))
 
 slice-aggregate-apart : tie.Need-slice-aggregate-apart
 slice-aggregate-apart c = search needs
 
 apart-requires : tie.Need-apart-requires
 apart-requires c κs =
-    let S = c .before .before .before .before .before .before .before .before .before .before .before .before .before .before in
-    let (cs, n) = S .pre .0 in
-    let (es, h) = S .pre .1 .0 in
-    let (bs, b) = are-bound (S .args .pool .now) (S .args .table .now) (S .args .set .now) (S .args .types .now) cs es n h (c .before .before .before .before .before .before .fill .ensures) (not-false (c .before .before .before .before .before .before .fill .result) (c .before .before .before .before .if1 .left)) in
-    (bs, (namesOf (tableOf (S .args .pool .now) (S .args .table .now)), tabled (S .args .pool .now) (S .args .table .now) (S .args .types .now) _ es bs b (n .good) (n .types-short) (c .before .before .before .before .before .before .fill .kept .1 .1 .1 .1 .1 .1 .0)))
+    let (cs, n) = c .before .before .before .before .before .before .before .before .before .before .before .before .before .before .pre .0 in
+    let (es, h) = c .before .before .before .before .before .before .before .before .before .before .before .before .before .before .pre .1 .0 in
+    let (bs, b) = are-bound (c .before .before .before .before .before .before .before .before .before .before .before .before .before .before .args .pool .now) (c .before .before .before .before .before .before .before .before .before .before .before .before .before .before .args .table .now) (c .before .before .before .before .before .before .before .before .before .before .before .before .before .before .args .set .now) (c .before .before .before .before .before .before .before .before .before .before .before .before .before .before .args .types .now) cs es n h (c .before .before .before .before .before .before .fill .ensures) (not-false (c .before .before .before .before .before .before .fill .result) (c .before .before .before .before .if1 .left)) in
+    (bs, (namesOf (tableOf (c .before .before .before .before .before .before .before .before .before .before .before .before .before .before .args .pool .now) (c .before .before .before .before .before .before .before .before .before .before .before .before .before .before .args .table .now)), tabled (c .before .before .before .before .before .before .before .before .before .before .before .before .before .before .args .pool .now) (c .before .before .before .before .before .before .before .before .before .before .before .before .before .before .args .table .now) (c .before .before .before .before .before .before .before .before .before .before .before .before .before .before .args .types .now) _ es bs b (n .good) (n .types-short) (c .before .before .before .before .before .before .fill .kept .1 .1 .1 .1 .1 .1 .0)))
 
 returns-3 : tie.Need-returns-3
 returns-3 c = λ cs es n h.
-    let S = c .before .before .before .before .before .before .before .before .before .before .before .before .before .before .before .before in
-    let (bs, b) = are-bound (S .args .pool .now) (S .args .table .now) (S .args .set .now) (S .args .types .now) cs es n h (c .before .before .before .before .before .before .before .before .fill .ensures) (not-false (c .before .before .before .before .before .before .before .before .fill .result) (c .before .before .before .before .before .before .if1 .left)) in
-    let (xs, (r, m)) = subst (BoundsGiven (S .args .pool .now) (S .args .table .now) (S .args .bounds .now) (c .before .before .before .before .bounds-given .last .1 .1 .1 .0)) (not-false (c .before .before .before .before .bounds-given .result) (c .before .before .before .if2 .left)) (c .before .before .before .before .bounds-given .ensures) in
-    both (S .args .pool .now) (S .args .table .now) (S .args .set .now) (S .args .types .now) cs es n (record { word = λ i. c .before .before .before .before .before .before .before .before .before .before .before .before .before .shared-slice-known3 .given i .fits }) (S .args .bounds .now) bs (b .given) xs r (c .before .apart .ensures bs (namesOf (tableOf (S .args .pool .now) (S .args .table .now))) (tabled (S .args .pool .now) (S .args .table .now) (S .args .types .now) _ es bs b (n .good) (n .types-short) (c .before .before .before .before .before .before .before .before .fill .kept .1 .1 .1 .1 .1 .1 .0)) (small (S .args .pool .now) (S .args .table .now) (S .args .set .now) (S .args .types .now) cs es n (record { word = λ i. c .before .before .before .before .before .before .before .before .before .before .before .before .before .shared-slice-known3 .given i .fits }) bs (b .good))) (not-true (c .before .apart .result) (c .if3 .taken))
+    let (bs, b) = are-bound (c .before .before .before .before .before .before .before .before .before .before .before .before .before .before .before .before .args .pool .now) (c .before .before .before .before .before .before .before .before .before .before .before .before .before .before .before .before .args .table .now) (c .before .before .before .before .before .before .before .before .before .before .before .before .before .before .before .before .args .set .now) (c .before .before .before .before .before .before .before .before .before .before .before .before .before .before .before .before .args .types .now) cs es n h (c .before .before .before .before .before .before .before .before .fill .ensures) (not-false (c .before .before .before .before .before .before .before .before .fill .result) (c .before .before .before .before .before .before .if1 .left)) in
+    let (xs, (r, m)) = subst (BoundsGiven (c .before .before .before .before .before .before .before .before .before .before .before .before .before .before .before .before .args .pool .now) (c .before .before .before .before .before .before .before .before .before .before .before .before .before .before .before .before .args .table .now) (c .before .before .before .before .before .before .before .before .before .before .before .before .before .before .before .before .args .bounds .now) (c .before .before .before .before .bounds-given .last .1 .1 .1 .0)) (not-false (c .before .before .before .before .bounds-given .result) (c .before .before .before .if2 .left)) (c .before .before .before .before .bounds-given .ensures) in
+    both (c .before .before .before .before .before .before .before .before .before .before .before .before .before .before .before .before .args .pool .now) (c .before .before .before .before .before .before .before .before .before .before .before .before .before .before .before .before .args .table .now) (c .before .before .before .before .before .before .before .before .before .before .before .before .before .before .before .before .args .set .now) (c .before .before .before .before .before .before .before .before .before .before .before .before .before .before .before .before .args .types .now) cs es n (record { word = λ i. c .before .before .before .before .before .before .before .before .before .before .before .before .before .shared-slice-known3 .given i .fits }) (c .before .before .before .before .before .before .before .before .before .before .before .before .before .before .before .before .args .bounds .now) bs (b .given) xs r (c .before .apart .ensures bs (namesOf (tableOf (c .before .before .before .before .before .before .before .before .before .before .before .before .before .before .before .before .args .pool .now) (c .before .before .before .before .before .before .before .before .before .before .before .before .before .before .before .before .args .table .now))) (tabled (c .before .before .before .before .before .before .before .before .before .before .before .before .before .before .before .before .args .pool .now) (c .before .before .before .before .before .before .before .before .before .before .before .before .before .before .before .before .args .table .now) (c .before .before .before .before .before .before .before .before .before .before .before .before .before .before .before .before .args .types .now) _ es bs b (n .good) (n .types-short) (c .before .before .before .before .before .before .before .before .fill .kept .1 .1 .1 .1 .1 .1 .0)) (small (c .before .before .before .before .before .before .before .before .before .before .before .before .before .before .before .before .args .pool .now) (c .before .before .before .before .before .before .before .before .before .before .before .before .before .before .before .before .args .table .now) (c .before .before .before .before .before .before .before .before .before .before .before .before .before .before .before .before .args .set .now) (c .before .before .before .before .before .before .before .before .before .before .before .before .before .before .before .before .args .types .now) cs es n (record { word = λ i. c .before .before .before .before .before .before .before .before .before .before .before .before .before .shared-slice-known3 .given i .fits }) bs (b .good))) (not-true (c .before .apart .result) (c .if3 .taken))
 
 slice-aggregate-try-all : tie.Need-slice-aggregate-try-all
 slice-aggregate-try-all c = search needs
 
 try-all-requires : tie.Need-try-all-requires
 try-all-requires c κs =
-    let S = c .before .before .before .before .before .before .before .before .before .before .before .before .before .before .before .before .before .before .before in
-    let (cs, n) = S .pre .0 in
-    let (es, h) = S .pre .1 .0 in
-    let (bs, b) = are-bound (S .args .pool .now) (S .args .table .now) (S .args .set .now) (S .args .types .now) cs es n h (c .before .before .before .before .before .before .before .before .before .before .before .fill .ensures) (not-false (c .before .before .before .before .before .before .before .before .before .before .before .fill .result) (c .before .before .before .before .before .before .before .before .before .if1 .left)) in
-    let (xs, (r, m)) = subst (BoundsGiven (S .args .pool .now) (S .args .table .now) (S .args .bounds .now) (c .before .before .before .before .before .before .before .bounds-given .last .1 .1 .1 .0)) (not-false (c .before .before .before .before .before .before .before .bounds-given .result) (c .before .before .before .before .before .before .if2 .left)) (c .before .before .before .before .before .before .before .bounds-given .ensures) in
-    (n .good, ((cs, set-there (S .args .pool .now) (S .args .table .now) (S .args .set .now) (S .args .types .now) cs es n (record { word = λ i. c .before .before .before .before .before .before .before .before .before .before .before .before .before .before .before .before .shared-slice-known3 .given i .fits })), ((bs, put (S .args .pool .now) (S .args .table .now) (S .args .types .now) _ es bs b (n .good) (n .types-short) (c .before .before .before .before .before .before .before .before .before .before .before .fill .kept .1 .1 .1 .1 .1 .1 .0)), ((xs, m), (n .short, omega (arith, S .pre .1 .1))))))
+    let (cs, n) = c .before .before .before .before .before .before .before .before .before .before .before .before .before .before .before .before .before .before .before .pre .0 in
+    let (es, h) = c .before .before .before .before .before .before .before .before .before .before .before .before .before .before .before .before .before .before .before .pre .1 .0 in
+    let (bs, b) = are-bound (c .before .before .before .before .before .before .before .before .before .before .before .before .before .before .before .before .before .before .before .args .pool .now) (c .before .before .before .before .before .before .before .before .before .before .before .before .before .before .before .before .before .before .before .args .table .now) (c .before .before .before .before .before .before .before .before .before .before .before .before .before .before .before .before .before .before .before .args .set .now) (c .before .before .before .before .before .before .before .before .before .before .before .before .before .before .before .before .before .before .before .args .types .now) cs es n h (c .before .before .before .before .before .before .before .before .before .before .before .fill .ensures) (not-false (c .before .before .before .before .before .before .before .before .before .before .before .fill .result) (c .before .before .before .before .before .before .before .before .before .if1 .left)) in
+    let (xs, (r, m)) = subst (BoundsGiven (c .before .before .before .before .before .before .before .before .before .before .before .before .before .before .before .before .before .before .before .args .pool .now) (c .before .before .before .before .before .before .before .before .before .before .before .before .before .before .before .before .before .before .before .args .table .now) (c .before .before .before .before .before .before .before .before .before .before .before .before .before .before .before .before .before .before .before .args .bounds .now) (c .before .before .before .before .before .before .before .bounds-given .last .1 .1 .1 .0)) (not-false (c .before .before .before .before .before .before .before .bounds-given .result) (c .before .before .before .before .before .before .if2 .left)) (c .before .before .before .before .before .before .before .bounds-given .ensures) in
+    (n .good, ((cs, set-there (c .before .before .before .before .before .before .before .before .before .before .before .before .before .before .before .before .before .before .before .args .pool .now) (c .before .before .before .before .before .before .before .before .before .before .before .before .before .before .before .before .before .before .before .args .table .now) (c .before .before .before .before .before .before .before .before .before .before .before .before .before .before .before .before .before .before .before .args .set .now) (c .before .before .before .before .before .before .before .before .before .before .before .before .before .before .before .before .before .before .before .args .types .now) cs es n (record { word = λ i. c .before .before .before .before .before .before .before .before .before .before .before .before .before .before .before .before .shared-slice-known3 .given i .fits })), ((bs, put (c .before .before .before .before .before .before .before .before .before .before .before .before .before .before .before .before .before .before .before .args .pool .now) (c .before .before .before .before .before .before .before .before .before .before .before .before .before .before .before .before .before .before .before .args .table .now) (c .before .before .before .before .before .before .before .before .before .before .before .before .before .before .before .before .before .before .before .args .types .now) _ es bs b (n .good) (n .types-short) (c .before .before .before .before .before .before .before .before .before .before .before .fill .kept .1 .1 .1 .1 .1 .1 .0)), ((xs, m), (n .short, omega (arith, c .before .before .before .before .before .before .before .before .before .before .before .before .before .before .before .before .before .before .before .pre .1 .1))))))
 
 same-length : tie.Need-same-length
 same-length c = search needs
 
 returns-4 : tie.Need-returns-4
 returns-4 c = λ cs es n h.
-    let S = c .before .before .before .before .before .before .before .before .before .before .before .before .before .before .before .before .before .before .before .before .before .before in
-    let (bs, b) = are-bound (S .args .pool .now) (S .args .table .now) (S .args .set .now) (S .args .types .now) cs es n h (c .before .before .before .before .before .before .before .before .before .before .before .before .before .before .fill .ensures) (not-false (c .before .before .before .before .before .before .before .before .before .before .before .before .before .before .fill .result) (c .before .before .before .before .before .before .before .before .before .before .before .before .if1 .left)) in
-    let (xs, (r, m)) = subst (BoundsGiven (S .args .pool .now) (S .args .table .now) (S .args .bounds .now) (c .before .before .before .before .before .before .before .before .before .before .bounds-given .last .1 .1 .1 .0)) (not-false (c .before .before .before .before .before .before .before .before .before .before .bounds-given .result) (c .before .before .before .before .before .before .before .before .before .if2 .left)) (c .before .before .before .before .before .before .before .before .before .before .bounds-given .ensures) in
-    c .before .before .try-all .ensures cs bs xs (set-there (S .args .pool .now) (S .args .table .now) (S .args .set .now) (S .args .types .now) cs es n (record { word = λ i. c .before .before .before .before .before .before .before .before .before .before .before .before .before .before .before .before .before .before .before .shared-slice-known3 .given i .fits })) (put (S .args .pool .now) (S .args .table .now) (S .args .types .now) _ es bs b (n .good) (n .types-short) (c .before .before .before .before .before .before .before .before .before .before .before .before .before .before .fill .kept .1 .1 .1 .1 .1 .1 .0)) m
-    ∙ not-both (S .args .pool .now) (S .args .table .now) (S .args .set .now) (S .args .types .now) cs es n (record { word = λ i. c .before .before .before .before .before .before .before .before .before .before .before .before .before .before .before .before .before .before .before .shared-slice-known3 .given i .fits }) (S .args .bounds .now) bs (b .given) xs r (c .before .before .before .before .before .before .before .apart .ensures bs (namesOf (tableOf (S .args .pool .now) (S .args .table .now))) (tabled (S .args .pool .now) (S .args .table .now) (S .args .types .now) _ es bs b (n .good) (n .types-short) (c .before .before .before .before .before .before .before .before .before .before .before .before .before .before .fill .kept .1 .1 .1 .1 .1 .1 .0)) (small (S .args .pool .now) (S .args .table .now) (S .args .set .now) (S .args .types .now) cs es n (record { word = λ i. c .before .before .before .before .before .before .before .before .before .before .before .before .before .before .before .before .before .before .before .shared-slice-known3 .given i .fits }) bs (b .good))) (not-false (c .before .before .before .before .before .before .before .apart .result) (c .before .before .before .before .before .before .if3 .left))
+    let (bs, b) = are-bound (c .before .before .before .before .before .before .before .before .before .before .before .before .before .before .before .before .before .before .before .before .before .before .args .pool .now) (c .before .before .before .before .before .before .before .before .before .before .before .before .before .before .before .before .before .before .before .before .before .before .args .table .now) (c .before .before .before .before .before .before .before .before .before .before .before .before .before .before .before .before .before .before .before .before .before .before .args .set .now) (c .before .before .before .before .before .before .before .before .before .before .before .before .before .before .before .before .before .before .before .before .before .before .args .types .now) cs es n h (c .before .before .before .before .before .before .before .before .before .before .before .before .before .before .fill .ensures) (not-false (c .before .before .before .before .before .before .before .before .before .before .before .before .before .before .fill .result) (c .before .before .before .before .before .before .before .before .before .before .before .before .if1 .left)) in
+    let (xs, (r, m)) = subst (BoundsGiven (c .before .before .before .before .before .before .before .before .before .before .before .before .before .before .before .before .before .before .before .before .before .before .args .pool .now) (c .before .before .before .before .before .before .before .before .before .before .before .before .before .before .before .before .before .before .before .before .before .before .args .table .now) (c .before .before .before .before .before .before .before .before .before .before .before .before .before .before .before .before .before .before .before .before .before .before .args .bounds .now) (c .before .before .before .before .before .before .before .before .before .before .bounds-given .last .1 .1 .1 .0)) (not-false (c .before .before .before .before .before .before .before .before .before .before .bounds-given .result) (c .before .before .before .before .before .before .before .before .before .if2 .left)) (c .before .before .before .before .before .before .before .before .before .before .bounds-given .ensures) in
+    c .before .before .try-all .ensures cs bs xs (set-there (c .before .before .before .before .before .before .before .before .before .before .before .before .before .before .before .before .before .before .before .before .before .before .args .pool .now) (c .before .before .before .before .before .before .before .before .before .before .before .before .before .before .before .before .before .before .before .before .before .before .args .table .now) (c .before .before .before .before .before .before .before .before .before .before .before .before .before .before .before .before .before .before .before .before .before .before .args .set .now) (c .before .before .before .before .before .before .before .before .before .before .before .before .before .before .before .before .before .before .before .before .before .before .args .types .now) cs es n (record { word = λ i. c .before .before .before .before .before .before .before .before .before .before .before .before .before .before .before .before .before .before .before .shared-slice-known3 .given i .fits })) (put (c .before .before .before .before .before .before .before .before .before .before .before .before .before .before .before .before .before .before .before .before .before .before .args .pool .now) (c .before .before .before .before .before .before .before .before .before .before .before .before .before .before .before .before .before .before .before .before .before .before .args .table .now) (c .before .before .before .before .before .before .before .before .before .before .before .before .before .before .before .before .before .before .before .before .before .before .args .types .now) _ es bs b (n .good) (n .types-short) (c .before .before .before .before .before .before .before .before .before .before .before .before .before .before .fill .kept .1 .1 .1 .1 .1 .1 .0)) m
+    ∙ not-both (c .before .before .before .before .before .before .before .before .before .before .before .before .before .before .before .before .before .before .before .before .before .before .args .pool .now) (c .before .before .before .before .before .before .before .before .before .before .before .before .before .before .before .before .before .before .before .before .before .before .args .table .now) (c .before .before .before .before .before .before .before .before .before .before .before .before .before .before .before .before .before .before .before .before .before .before .args .set .now) (c .before .before .before .before .before .before .before .before .before .before .before .before .before .before .before .before .before .before .before .before .before .before .args .types .now) cs es n (record { word = λ i. c .before .before .before .before .before .before .before .before .before .before .before .before .before .before .before .before .before .before .before .shared-slice-known3 .given i .fits }) (c .before .before .before .before .before .before .before .before .before .before .before .before .before .before .before .before .before .before .before .before .before .before .args .bounds .now) bs (b .given) xs r (c .before .before .before .before .before .before .before .apart .ensures bs (namesOf (tableOf (c .before .before .before .before .before .before .before .before .before .before .before .before .before .before .before .before .before .before .before .before .before .before .args .pool .now) (c .before .before .before .before .before .before .before .before .before .before .before .before .before .before .before .before .before .before .before .before .before .before .args .table .now))) (tabled (c .before .before .before .before .before .before .before .before .before .before .before .before .before .before .before .before .before .before .before .before .before .before .args .pool .now) (c .before .before .before .before .before .before .before .before .before .before .before .before .before .before .before .before .before .before .before .before .before .before .args .table .now) (c .before .before .before .before .before .before .before .before .before .before .before .before .before .before .before .before .before .before .before .before .before .before .args .types .now) _ es bs b (n .good) (n .types-short) (c .before .before .before .before .before .before .before .before .before .before .before .before .before .before .fill .kept .1 .1 .1 .1 .1 .1 .0)) (small (c .before .before .before .before .before .before .before .before .before .before .before .before .before .before .before .before .before .before .before .before .before .before .args .pool .now) (c .before .before .before .before .before .before .before .before .before .before .before .before .before .before .before .before .before .before .before .before .before .before .args .table .now) (c .before .before .before .before .before .before .before .before .before .before .before .before .before .before .before .before .before .before .before .before .before .before .args .set .now) (c .before .before .before .before .before .before .before .before .before .before .before .before .before .before .before .before .before .before .before .before .before .before .args .types .now) cs es n (record { word = λ i. c .before .before .before .before .before .before .before .before .before .before .before .before .before .before .before .before .before .before .before .shared-slice-known3 .given i .fits }) bs (b .good))) (not-false (c .before .before .before .before .before .before .before .apart .result) (c .before .before .before .before .before .before .if3 .left))
 
 pub judge-rest-spec : {M : Type 1} → statement M
 judge-rest-spec =

@@ -14,10 +14,9 @@ enum-told c = search needs
 
 judge-rest-requires : tie.Need-judge-rest-requires
 judge-rest-requires c κs =
-    let S = c .before .before .before .before .before .before .before .before .before .before in
-    let (es, h) = S .pre .1 .0 in
-    let i = came-in (S .args .pool .now) (S .args .table .now) (S .args .set .now) (S .args .types .now) (S .args .bounds .now) es (S .pre .0) (sym (c .before .before .before .enter .ensures es (h .many)) ∙ ap toldChecked (c .before .enum-told .given .1)) in
-    ((i .cons, i .known), ((es, h), S .pre .1 .1))
+    let (es, h) = c .before .before .before .before .before .before .before .before .before .before .pre .1 .0 in
+    let i = came-in (c .before .before .before .before .before .before .before .before .before .before .args .pool .now) (c .before .before .before .before .before .before .before .before .before .before .args .table .now) (c .before .before .before .before .before .before .before .before .before .before .args .set .now) (c .before .before .before .before .before .before .before .before .before .before .args .types .now) (c .before .before .before .before .before .before .before .before .before .before .args .bounds .now) es (c .before .before .before .before .before .before .before .before .before .before .pre .0) (sym (c .before .before .before .enter .ensures es (h .many)) ∙ ap toldChecked (c .before .enum-told .given .1)) in
+    ((i .cons, i .known), ((es, h), c .before .before .before .before .before .before .before .before .before .before .pre .1 .1))
 
 enum-known-k : tie.Need-enum-known-k
 enum-known-k c = search needs
@@ -27,14 +26,11 @@ same-length c = search needs
 
 returns : tie.Need-returns
 returns c = λ es h.
-    let S = c .before .before .before .before .before .before .before .before .before .before .before .before .before in
-    let i = came-in (S .args .pool .now) (S .args .table .now) (S .args .set .now) (S .args .types .now) (S .args .bounds .now) es (S .pre .0) (sym (c .before .before .before .before .before .before .enter .ensures es (h .many)) ∙ ap toldChecked (c .before .before .before .before .enum-told .given .1)) in
+    let i = came-in (c .before .before .before .before .before .before .before .before .before .before .before .before .before .args .pool .now) (c .before .before .before .before .before .before .before .before .before .before .before .before .before .args .table .now) (c .before .before .before .before .before .before .before .before .before .before .before .before .before .args .set .now) (c .before .before .before .before .before .before .before .before .before .before .before .before .before .args .types .now) (c .before .before .before .before .before .before .before .before .before .before .before .before .before .args .bounds .now) es (c .before .before .before .before .before .before .before .before .before .before .before .before .before .pre .0) (sym (c .before .before .before .before .before .before .enter .ensures es (h .many)) ∙ ap toldChecked (c .before .before .before .before .enum-told .given .1)) in
     c .before .before .judge-rest .ensures (i .cons) es (i .known) h ∙ sym (i .rest)
 
 returns-2 : tie.Need-returns-2
-returns-2 c = λ es h.
-    let S = c .before .before .before .before .before .before .before .before .before .before in
-    sym (kept-out (S .args .pool .now) (S .args .table .now) (S .args .set .now) (S .args .types .now) (S .args .bounds .now) es _ (sym (c .before .before .before .enter .ensures es (h .many)) ∙ ap toldChecked (c .before .k .given .1)))
+returns-2 c = λ es h. sym (kept-out (c .before .before .before .before .before .before .before .before .before .before .args .pool .now) (c .before .before .before .before .before .before .before .before .before .before .args .table .now) (c .before .before .before .before .before .before .before .before .before .before .args .set .now) (c .before .before .before .before .before .before .before .before .before .before .args .types .now) (c .before .before .before .before .before .before .before .before .before .before .args .bounds .now) es _ (sym (c .before .before .before .enter .ensures es (h .many)) ∙ ap toldChecked (c .before .k .given .1)))
 
 pub judge-set-spec : {M : Type 1} → statement M
 judge-set-spec =

@@ -36,7 +36,7 @@ run-alone-requires c κs =
     let e = y .before .before in
     let p = e .before .before .before .before .before .before .before .before .pre in
     let x = entry e in
-    (x .good, ((x .set, begun _ _ _ (word (e .before .before)) x _ _ (p .1 .1) (y .copy .ensures)), (p .1 .0, omega (arith, y .copy .kept .1 .1 .1 .0, p .1 .1))))
+    (x .good, ((x .set, begun _ _ _ (word (e .before .before)) x _ _ (p .1 .1 .1) (y .copy .ensures)), (p .1 .1 .0, omega (arith, y .copy .kept .1 .1 .1 .0, p .1 .1 .1))))
 
 enum-known-r : tie.Need-enum-known-r
 enum-known-r c = search needs
@@ -57,7 +57,7 @@ returns c =
     let e = y .before .before in
     let p = e .before .before .before .before .before .before .before .before .pre in
     let x = entry e in
-    answers-as _ _ _ _ _ (x .all) (r .run-alone .ensures (x .set) (begun _ _ _ (word (e .before .before)) x _ _ (p .1 .1) (y .copy .ensures)))
+    answers-as _ _ _ _ _ (x .all) (r .run-alone .ensures (x .set) (begun _ _ _ (word (e .before .before)) x _ _ (p .1 .1 .1) (y .copy .ensures)))
 
 returns-2 : tie.Need-returns-2
 returns-2 c =

@@ -1,0 +1,5 @@
+pub mod Told
+pub mod Steps
+pub mod Checks
+pub mod Promise
+pub mod Determined
