@@ -13,6 +13,7 @@ pub mod Solving
 pub mod Schemes
 pub mod Meaning
 pub mod Judging
+pub mod Choices
 pub mod Writing
 pub mod Reading
 pub mod WellFormed
