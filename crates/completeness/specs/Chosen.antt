@@ -1,22 +1,21 @@
 -- What a product comes to under a choice, one parameter or base dimension at a time: a worth.
 -- Assumes nothing.
 use mathlib.Core.Path.{_≡_, refl, ap, ap₂, _∙_, sym}
-use mathlib.Core.Bool.{Bool, true, false, _&&_}
+use mathlib.Core.Bool.{Bool, true, false}
 use mathlib.Core.Option.{Option, none, some}
-use mathlib.Core.List.{List, [], _∷_, _++_}
-use Prim.Native.Nat.{ℕ, Ordering, Ordering·lt, Ordering·eq, Ordering·gt}
+use mathlib.Core.List.{[], _∷_, _++_}
+use Prim.Native.Nat.{ℕ, Ordering·lt, Ordering·eq}
 use native.Mathlib.Omega.{arith}
 use borrow.Author.Tests.{leb-true, le-leb, eqb-true, eq-eqb}
-use lib.Dec.{leb, eqb}
+use lib.Dec.{leb}
 use lib.IntN.{natAbs}
 use Rattle.rules.specs.Base.{isYes, all}
-use Rattle.rules.specs.Exponents.{Exp, frac, gcd, nought, one, isZero, plus, mul}
-use Rattle.rules.specs.Trees.{Open, var, quant, par, Atom, free, base, Factor, _↑_, Product, Names, dim, Con, equal, isScalar, orderOpen, orderAtom}
+use Rattle.rules.specs.Exponents.{Exp, frac, gcd, nought, one, plus, mul}
+use Rattle.rules.specs.Trees.{var, quant, par, Atom, free, base, _↑_, Product, Names, Con, orderOpen, orderAtom}
 use Rattle.rules.specs.Choices.{Fixed, parameter, baseDimension, Fixed-discrete, Part, _to_, Dimension, rationalPart, Choice, Rational, power, scaled, chosenFor, comesTo, MakesTrue}
-use Rattle.rules.specs.WellFormed.{atomOf}
-use Rattle.laws.specs.Order.{Lawful, Tells, self}
-use Rattle.laws.specs.Lists.{true≢false, some≢none, and-left, and-right, and-both, is-yes, is-no, no-is, yes-is, Every, every-append}
-use Rattle.laws.specs.Fractions.{Lowest, Terms, lowest-terms, terms-lowest, coprime-terms, nought-lowest, one-lowest, plus-in-lowest, mul-in-lowest, plus-assoc, plus-nought, nought-plus, plus-mul, nought-mul, mul-comm′, mul-one′}
+use Rattle.laws.specs.Order.{Lawful, self}
+use Rattle.laws.specs.Lists.{some≢none, and-left, and-right, and-both, no-is, yes-is, Every, every-append}
+use Rattle.laws.specs.Fractions.{Lowest, lowest-terms, terms-lowest, coprime-terms, nought-lowest, one-lowest, plus-in-lowest, mul-in-lowest, plus-assoc, plus-nought, nought-plus, plus-mul, nought-mul, mul-comm′, mul-one′}
 use Rattle.laws.specs.Powers.{Sound}
 use Rattle.laws.specs.Sorted.{Before}
 use Rattle.laws.specs.GoodProducts.{goodAtom, good-proper}

@@ -3,21 +3,21 @@
 use mathlib.Core.Path.{_≡_, refl, ap, ap₂, _∙_, sym}
 use mathlib.Core.Bool.{Bool, true, false}
 use mathlib.Core.Logic.{_⊎_, inl, inr}
-use mathlib.Core.List.{List, [], _∷_, _++_, List·Memᴰ, List·Memᴰ·tail, List·Memᴰ·cases-cons, List·Memᴰ·not-nil}
+use mathlib.Core.List.{List, [], _∷_, List·Memᴰ, List·Memᴰ·tail, List·Memᴰ·cases-cons, List·Memᴰ·not-nil}
 use Prim.Native.Nat.{ℕ}
 use native.Mathlib.Omega.{arith}
 use Rattle.rules.specs.Base.{isYes, all, collect}
 use Rattle.rules.specs.Exponents.{Exp, plus, mul}
-use Rattle.rules.specs.Trees.{Open, var, quant, par, Atom, free, base, _↑_, Product, Names, Ty, dim, Binding, _≔_, orderAtom, opens, openOfFactor}
+use Rattle.rules.specs.Trees.{var, quant, par, Atom, free, base, _↑_, Product, Names, Ty, dim, Binding, _≔_, orderAtom, opens}
 use Rattle.rules.specs.Views.{productOf}
-use Rattle.rules.specs.Choices.{Fixed, Dimension, rationalPart, Choice, Rational, power, Same, scaled, chosenFor, comesTo, orChosen, completed}
+use Rattle.rules.specs.Choices.{Fixed, Dimension, rationalPart, Choice, Rational, power, Same, chosenFor, comesTo, orChosen, completed}
 use Rattle.rules.specs.Rounds.{State}
 use Rattle.laws.specs.Order.{Lawful}
-use Rattle.laws.specs.Lists.{All, all-nil, in-head, yes-is, no-is}
+use Rattle.laws.specs.Lists.{in-head, yes-is, no-is}
 use Rattle.laws.specs.GoodProducts.{goodAtom, good-proper}
 use Rattle.completeness.specs.Worth.{worth}
 use Rattle.completeness.specs.Shapes.{Good, ShapedType, RightBound}
-use Rattle.completeness.specs.Rounds.{Unbound, Kept, AllRight}
+use Rattle.completeness.specs.Rounds.{Kept}
 use Rattle.completeness.specs.Chosen.{measured, good-worth, reduced-all, comes-reduced}
 
 -- ══ A variable is bound or open ══

@@ -1,8 +1,8 @@
 -- Examples on words, over the names of rules' Examples: each part of the statement is needed.
 -- Assumes nothing.
 use mathlib.Core.Path.{_≡_, refl, sym, subst}
-use mathlib.Core.Bool.{Bool, true, false}
-use mathlib.Core.List.{List, [], _∷_, List·Memᴰ, List·Memᴰ·eq-of-singleton}
+use mathlib.Core.Bool.{false}
+use mathlib.Core.List.{List, [], _∷_, List·Memᴰ·eq-of-singleton}
 use Prim.Native.Nat.{ℕ, zero, suc}
 use lib.IntN.{pos, negsuc}
 use native.Mathlib.Omega.{arith}
@@ -11,12 +11,12 @@ use Rattle.rules.specs.Base.{got, bounded, all}
 use Rattle.rules.specs.Exponents.{frac, nought, one}
 use Rattle.rules.specs.Trees.{var, par, free, base, _↑_, dim, basic, boolean, Con, equal, isScalar, Binding, _≔_}
 use Rattle.rules.specs.Names.{tableOf, numbersOf, isHeld}
-use Rattle.rules.specs.Writing.{Rec, rec, words}
+use Rattle.rules.specs.Writing.{rec, words}
 use Rattle.rules.specs.Solving.{accepted, solve}
 use Rattle.rules.specs.Calls.{setGiven, solved, unsolved, refusedAfter, solveCall}
 use Rattle.rules.specs.Rules.{rules}
-use Rattle.rules.specs.Examples.{x, y, z, L, pool, table, result, work, minus}
-use Rattle.rules.specs.Choices.{parameter, baseDimension, _to_, rationalPart, Choice, Rational, power, scaled, chosenFor, comesTo, dimensional, MakesTrue, MakesAllTrue, Choosing, completed}
+use Rattle.rules.specs.Examples.{x, y, z, L, pool, table, result, work}
+use Rattle.rules.specs.Choices.{baseDimension, _to_, Choice, Rational, power, scaled, chosenFor, comesTo, dimensional, MakesTrue, MakesAllTrue, Choosing, completed}
 use Rattle.laws.specs.Lists.{in-head}
 use Rattle.laws.specs.ByteOrder.{numbered-lawful}
 use Rattle.laws.specs.NameTable.{Good}

@@ -4,12 +4,12 @@ use mathlib.Core.Path.{_≡_, refl, ap, _∙_, sym}
 use mathlib.Core.Bool.{Bool, true}
 use mathlib.Core.Logic.{_⊎_, inl, inr}
 use mathlib.Core.Option.{Option, none, some}
-use mathlib.Core.List.{List, [], _∷_, List·Memᴰ, List·Memᴰ·tail}
+use mathlib.Core.List.{List, [], _∷_, List·Memᴰ·tail}
 use Prim.Native.Nat.{ℕ}
 use Rattle.rules.specs.Base.{Got, got, refused, _>>=_, bounded, each}
 use Rattle.rules.specs.Exponents.{Exp, neg, inverted, times, timesInverse, quotient}
-use Rattle.rules.specs.Trees.{Open, var, quant, par, free, base, Factor, _↑_, Product, Names, Ty, dim, Con, equal, isScalar, Binding, _≔_, orderAtom}
-use Rattle.rules.specs.Products.{single, multiply, divide, raise}
+use Rattle.rules.specs.Trees.{Open, var, quant, par, free, base, Factor, _↑_, Product, Names, Ty, dim, Con, isScalar, Binding, _≔_, orderAtom}
+use Rattle.rules.specs.Products.{single}
 use Rattle.rules.specs.Replacing.{Look, asProduct, replaceFactors, replaceProduct, replaceDim, replaceTy, replaceCon, replaceBinding, bindings}
 use Rattle.rules.specs.Rounds.{Step, bind, split, done, stuck, State, firstRules, orTry, dimensions, byKind, otherSide, trySatisfy, taken, firstStep, sizeState, depthState, limited, perform, performed, round}
 use Rattle.laws.specs.Order.{Lawful, Tells}
@@ -20,7 +20,7 @@ use Rattle.laws.specs.GoodProducts.{goodAtom}
 use Rattle.laws.specs.Occurs.{one-bound}
 use Rattle.laws.specs.Turns.{Found, found}
 use Rattle.completeness.specs.Shapes.{Shaped, scalar-of, equality-of, ShapedType}
-use Rattle.completeness.specs.Moves.{Move, move-shape}
+use Rattle.completeness.specs.Moves.{move-shape}
 use Rattle.completeness.specs.Rounds.{Kept, moved}
 
 -- where it refuses, it is with a number of P

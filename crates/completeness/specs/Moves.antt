@@ -2,14 +2,14 @@
 -- Assumes nothing.
 use mathlib.Core.Path.{_≡_, refl, ap, ap₂, _∙_, sym}
 use mathlib.Core.Bool.{Bool, true, false}
-use mathlib.Core.Logic.{_⊎_, inl, inr}
+use mathlib.Core.Logic.{inl, inr}
 use mathlib.Core.Option.{Option, none, some}
-use mathlib.Core.List.{List, [], _∷_, List·Memᴰ, List·Memᴰ·tail, Memᴰ·append-left, Memᴰ·append-right}
+use mathlib.Core.List.{[], _∷_, List·Memᴰ, List·Memᴰ·tail, Memᴰ·append-left, Memᴰ·append-right}
 use Prim.Native.Nat.{ℕ, _<_, Ordering·lt, Ordering·eq}
 use native.Mathlib.Omega.{arith}
-use Rattle.rules.specs.Base.{got, bounded, exact, each, collect, sumOf}
-use Rattle.rules.specs.Exponents.{Exp, nought, one, isZero, neg, plus, mul, inverted}
-use Rattle.rules.specs.Trees.{Open, var, Atom, free, base, Factor, _↑_, Product, Names, Ty, opened, dim, Con, equal, isDim, isScalar, hasField, orderAtom, opens, opensCon, openOfFactor}
+use Rattle.rules.specs.Base.{got, bounded, each, collect, sumOf}
+use Rattle.rules.specs.Exponents.{Exp, nought, isZero, neg, plus, mul, inverted}
+use Rattle.rules.specs.Trees.{Open, var, Atom, free, base, Factor, _↑_, Product, Names, Ty, dim, Con, equal, isDim, isScalar, hasField, orderAtom, opens, opensCon, openOfFactor}
 use Rattle.rules.specs.Choices.{dimensional}
 use Rattle.rules.specs.Contents.{contains}
 use Rattle.rules.specs.Products.{just, inverse, divide}
@@ -17,10 +17,9 @@ use Rattle.rules.specs.Rounds.{Step, bind, split, done, stuck, otherSide}
 use Rattle.rules.specs.WellFormed.{atomOf, goodProduct, goodTy, goodCon}
 use Rattle.laws.specs.Order.{Lawful, Tells, self}
 use Rattle.laws.specs.Lists.{true≢false, and-left, and-right, All, all-nil, all-cons, in-head, Every, every-as}
-use Rattle.laws.specs.Fractions.{Lowest, neg-lowest, mul-in-lowest, plus-comm, plus-neg, neg-neg, inverted-lowest, inverted-none, mul-inverted, mul-assoc′, mul-one′}
-use Rattle.laws.specs.ExactProducts.{mergeE, raiseE, divide-value}
+use Rattle.laws.specs.Fractions.{Lowest, neg-lowest, mul-in-lowest, neg-neg, inverted-lowest, inverted-none, mul-inverted, mul-assoc′, mul-one′}
+use Rattle.laws.specs.ExactProducts.{mergeE, divide-value}
 use Rattle.laws.specs.ExactSolve.{others-below}
-use Rattle.laws.specs.Powers.{Proper}
 use Rattle.laws.specs.GoodProducts.{goodAtom, good-product, good-proper, divide-good}
 use Rattle.laws.specs.Evaluation.{rest-proper, other-raised}
 use Rattle.laws.specs.KeepsGood.{other-side-good}
@@ -99,7 +98,6 @@ module _ {N : Type 0} where
   weight (hasField n s t) = 1
 
 module _ {N : Type 0} (ν : Names N) (law : Lawful (orderAtom ν)) (held : N → Bool) where
-
   pub move-shape : (c : Con N) (s : Step N) → Shaped ν held c → Move ν c s → After (All (Shaped ν held)) (λ x t. ShapedType ν held t) s
   move-shape c s h (same-sides p i e) = rw e tt
   move-shape c s h (no-factors i e) = rw e tt
@@ -196,9 +194,10 @@ module _ {N : Type 0} (ν : Names N) (law : Lawful (orderAtom ν)) (held : N →
       let W : mul (worth g q) k ≡ neg (worth g p) =
       sym (worth-raise ν law tells g low q k (hq .each) lk)
       ∙ ap (worth g) (other-raised ν law tells k (inv .0) lk (inv .1) p q (hp .each) (others-below ν k p .gives q n))
-      ∙ worth-inverse ν law tells g low p hp in
-      (λ e. cancel G (worth g q) k (inv .0) lG lq lk (inv .1) (negative (mul G k) (worth g p) (mul-in-lowest G k lG lk) lp e ∙ sym W),
-      λ e. adds-up (mul G k) (worth g p) (mul-in-lowest G k lG lk) lp (ap (λ (y : Exp). mul y k) e ∙ W))
+      ∙ worth-inverse ν law tells g low p hp in (
+        λ e. cancel G (worth g q) k (inv .0) lG lq lk (inv .1) (negative (mul G k) (worth g p) (mul-in-lowest G k lG lk) lp e ∙ sym W),
+        λ e. adds-up (mul G k) (worth g p) (mul-in-lowest G k lG lk) lp (ap (λ (y : Exp). mul y k) e ∙ W),
+      )
 
   pub move-right : (c : Con N) (s : Step N) → Shaped ν held c → Move ν c s → Follows c s
   unfolding worth

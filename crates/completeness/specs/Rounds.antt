@@ -1,10 +1,9 @@
 -- What every round keeps in a set of dimensions: the shapes, that bound variables occur nowhere else, and which choices make all true.
 -- Assumes nothing.
-use mathlib.Core.Path.{_≡_, refl, ap, _∙_, sym, subst}
+use mathlib.Core.Path.{_≡_, ap, _∙_, sym, subst}
 use mathlib.Core.Bool.{Bool, true}
 use mathlib.Core.Logic.{_⊎_, inl, inr}
 use mathlib.Core.List.{List, [], _∷_, _++_, List·Memᴰ, List·Memᴰ·append-cases, List·Memᴰ·eq-of-singleton, Memᴰ·append-left, Memᴰ·append-right}
-use Prim.Native.Nat.{ℕ}
 use Rattle.rules.specs.Base.{got, bounded, each}
 use Rattle.rules.specs.Exponents.{Exp}
 use Rattle.rules.specs.Trees.{Open, var, Atom, Product, Names, Ty, dim, Con, Binding, _≔_, orderAtom, opens, opensCon}
@@ -12,7 +11,7 @@ use Rattle.rules.specs.Replacing.{Look, replaceTy, replaceCon, replaceBinding, 
 use Rattle.rules.specs.Rounds.{Step, bind, split, done, State}
 use Rattle.rules.specs.WellFormed.{goodTy}
 use Rattle.laws.specs.Order.{Lawful, Tells}
-use Rattle.laws.specs.Lists.{All, all-append, in-head, one-step, Came, Went, each-came, each-went}
+use Rattle.laws.specs.Lists.{All, all-append, in-head, one-step, Came, each-came, each-went}
 use Rattle.laws.specs.Fractions.{Lowest}
 use Rattle.laws.specs.Exact.{ty-below}
 use Rattle.laws.specs.ExactSolve.{con-below}
@@ -278,9 +277,10 @@ module _ {N : Type 0} (ν : Names N) (law : Lawful (orderAtom ν)) (held : N →
         back-binds r y t m = let w = binding-went ν (bindings ν (b .x ≔ dim (b .d) ∷ [])) (s .binds) (b .older) (b .replacedBinds) y t m in bind-iff (new-right r) y t (w .0) m (w .2) .1 (r .binds-right y (w .0) (older-stays s s′ k b y (w .0) (w .1)))
 
     split-right : (s s′ : State N) → K s → Split ν bounded s s′ → AllRight g s ⇔ AllRight g s′
-    split-right s s′ k b =
-        (λ r. let p = parts .0 (r .cons-right) in record { cons-right = rw (b .joined) (all-append (Right g) (b .rest) (p .1) (iff .0 (p .0))); binds-right = rw (b .same) (r .binds-right) },
-        λ r. record { cons-right = parts .1 (iff .1 (λ c m. there r c (Memᴰ·append-right (b .rest) m)), λ c m. there r c (Memᴰ·append-left (b .new) m)); binds-right = rw (sym (b .same)) (r .binds-right) })
+    split-right s s′ k b = (
+      λ r. let p = parts .0 (r .cons-right) in record { cons-right = rw (b .joined) (all-append (Right g) (b .rest) (p .1) (iff .0 (p .0))); binds-right = rw (b .same) (r .binds-right) },
+      λ r. record { cons-right = parts .1 (iff .1 (λ c m. there r c (Memᴰ·append-right (b .rest) m)), λ c m. there r c (Memᴰ·append-left (b .new) m)); binds-right = rw (sym (b .same)) (r .binds-right) },
+    )
       where
         iff : Right g (b .found .con) ⇔ All (Right g) (b .new)
         iff = follows s k (split (b .new)) (b .rest) (b .found)
@@ -292,9 +292,10 @@ module _ {N : Type 0} (ν : Names N) (law : Lawful (orderAtom ν)) (held : N →
         there r c m = r .cons-right c (subst (λ (l : List (Con N)). List·Memᴰ c l) (sym (b .joined)) m)
 
     taken-right : (s s′ : State N) → K s → Taken ν bounded s s′ → AllRight g s ⇔ AllRight g s′
-    taken-right s s′ k b =
-        (λ r. record { cons-right = parts .0 (r .cons-right) .1; binds-right = rw (b .same) (r .binds-right) },
-        λ r. record { cons-right = parts .1 (follows s k done (s′ .cons) (b .found), r .cons-right); binds-right = rw (sym (b .same)) (r .binds-right) })
+    taken-right s s′ k b = (
+      λ r. record { cons-right = parts .0 (r .cons-right) .1; binds-right = rw (b .same) (r .binds-right) },
+      λ r. record { cons-right = parts .1 (follows s k done (s′ .cons) (b .found), r .cons-right); binds-right = rw (sym (b .same)) (r .binds-right) },
+    )
       where
         parts : All (Right g) (s .cons) ⇔ (Right g (b .found .con) × All (Right g) (s′ .cons))
         parts = apart-right s k done (s′ .cons) (b .found) g

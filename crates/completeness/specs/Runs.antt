@@ -1,8 +1,7 @@
 -- How a run on a set of dimensions ends: refused with 7 or 8, with a constraint that no choice makes true, or with bindings alone.
 -- Assumes nothing.
 use mathlib.Core.Path.{_≡_, refl, ap, _∙_, sym}
-use mathlib.Core.Bool.{Bool, true, false, not}
-use mathlib.Core.Logic.{_⊎_, inl, inr}
+use mathlib.Core.Bool.{Bool, true, not}
 use mathlib.Core.Option.{Option, none, some}
 use mathlib.Core.List.{List, [], _∷_, List·Memᴰ, List·Memᴰ·tail}
 use Prim.Native.Nat.{ℕ, zero, suc, _<_}
@@ -10,7 +9,7 @@ use native.Mathlib.Omega.{arith}
 use borrow.Author.Tests.{ltb-true}
 use Rattle.rules.specs.Base.{Got, got, refused, bounded, onlyIf, _orElse_, andThen, isYes, isNone, each, keep, sumOf}
 use Rattle.rules.specs.Exponents.{Exp, nought, isZero}
-use Rattle.rules.specs.Trees.{Open, var, quant, par, Atom, free, base, _↑_, Product, Names, Ty, dim, Con, equal, isScalar, Binding, ty-dec, orderAtom}
+use Rattle.rules.specs.Trees.{var, quant, par, Atom, free, base, _↑_, Product, Names, Ty, dim, Con, equal, isScalar, ty-dec, orderAtom}
 use Rattle.rules.specs.Views.{asVar, asPower}
 use Rattle.rules.specs.Contents.{contains}
 use Rattle.rules.specs.Products.{divide}
@@ -20,7 +19,7 @@ use Rattle.rules.specs.WellFormed.{goodOpen}
 use Rattle.rules.specs.Choices.{Fixed, Choice, Rational}
 use Rattle.laws.specs.Order.{Lawful, Tells}
 use Rattle.laws.specs.ByteOrder.{atom-lawful}
-use Rattle.laws.specs.Lists.{true≢false, some≢none, got≢refused, All, all-nil, all-cons, in-head, one-step, bound-step}
+use Rattle.laws.specs.Lists.{true≢false, some≢none, All, all-nil, all-cons, in-head, one-step, bound-step}
 use Rattle.laws.specs.Fractions.{Lowest}
 use Rattle.laws.specs.Exact.{OfLimits}
 use Rattle.laws.specs.GoodProducts.{goodAtom, atom-tells, good-product, good-proper}

@@ -1,26 +1,25 @@
 -- Constraints and bindings of dimensions alone: replacing keeps their shape, and keeps what they are worth.
 -- Assumes nothing.
 use mathlib.Core.Path.{_≡_, refl, ap, ap₂, _∙_, sym}
-use mathlib.Core.Bool.{Bool, true, false, _&&_}
+use mathlib.Core.Bool.{Bool, true, false}
 use mathlib.Core.Logic.{_⊎_, inl, inr}
 use mathlib.Core.Option.{Option, none, some, Option·getD}
 use mathlib.Core.List.{[], _∷_}
-use Prim.Native.Nat.{ℕ}
 use native.Mathlib.Omega.{arith}
-use Rattle.rules.specs.Base.{Got, got, refused, _>>=_, bounded, isNone}
-use Rattle.rules.specs.Exponents.{Exp, nought, one, neg, plus, mul}
-use Rattle.rules.specs.Trees.{Open, var, quant, par, Atom, free, base, _↑_, Product, Names, Ty, opened, basic, dim, fn, struct, list, Con, equal, isDim, isScalar, hasField, Binding, _≔_, orderAtom}
+use Rattle.rules.specs.Base.{got, bounded, isNone}
+use Rattle.rules.specs.Exponents.{Exp, nought, neg, plus, mul}
+use Rattle.rules.specs.Trees.{Open, var, Atom, free, base, _↑_, Product, Names, Ty, opened, basic, dim, fn, struct, list, Con, equal, isDim, isScalar, hasField, _≔_, orderAtom}
 use Rattle.rules.specs.Views.{productOf}
 use Rattle.rules.specs.Choices.{dimensional}
 use Rattle.rules.specs.Products.{just, single, inverse, multiply, divide, raise}
-use Rattle.rules.specs.Replacing.{Look, asProduct, replaceFactors, replaceProduct, replaceDim, replaceTy, replaceCon, replaceBinding, bindings}
+use Rattle.rules.specs.Replacing.{Look, asProduct, replaceFactors, replaceProduct, replaceDim, replaceTy, replaceCon, bindings}
 use Rattle.rules.specs.WellFormed.{goodProduct, goodTy, goodCon}
 use Rattle.laws.specs.Order.{Lawful, Tells}
-use Rattle.laws.specs.Lists.{true≢false, and-left, and-right, and-both, Every, one-step, two-steps}
+use Rattle.laws.specs.Lists.{true≢false, and-both, Every, one-step, two-steps}
 use Rattle.laws.specs.Value.{Gives, gives, next, weaken, together, its-own}
 use Rattle.laws.specs.Fractions.{Lowest, neg-lowest, mul-in-lowest, plus-comm, plus-assoc, plus-nought, plus-neg}
-use Rattle.laws.specs.ExactProducts.{mergeE, raiseE, multiply-value, divide-value, raise-value}
-use Rattle.laws.specs.Powers.{Sound, Proper, inverse-proper, raise-proper}
+use Rattle.laws.specs.ExactProducts.{multiply-value, divide-value, raise-value}
+use Rattle.laws.specs.Powers.{Proper, inverse-proper}
 use Rattle.laws.specs.GoodProducts.{goodAtom, GoodFactor, good-product, product-good, good-proper, multiply-good, divide-good, raise-good}
 use Rattle.laws.specs.Ranges.{stored-good, good-lowest}
 use Rattle.laws.specs.KeepsGood.{product-kept}

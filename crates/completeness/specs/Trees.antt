@@ -1,27 +1,25 @@
 -- The theorems for trees: from how a run ends to choices.
 -- Assumes nothing.
-use mathlib.Core.Path.{_≡_, refl, ap₂, _∙_, sym, subst}
-use mathlib.Core.Bool.{Bool, true, false, not, _&&_}
-use mathlib.Core.Logic.{_⊎_, inl, inr}
+use mathlib.Core.Path.{_≡_, refl, ap₂, sym, subst}
+use mathlib.Core.Bool.{Bool, true, not}
 use mathlib.Core.List.{List, [], List·Memᴰ, List·Memᴰ·not-nil}
-use Prim.Native.Nat.{ℕ, _≤_}
+use Prim.Native.Nat.{ℕ}
 use native.Mathlib.Omega.{arith}
-use lib.ListN.{length}
 use Rattle.rules.specs.Base.{bounded, all, isNone}
 use Rattle.rules.specs.Exponents.{Exp}
-use Rattle.rules.specs.Trees.{Atom, Product, Names, Ty, dim, Con, equal, isDim, isScalar, hasField, Binding, _≔_, orderAtom, opensCon}
+use Rattle.rules.specs.Trees.{Atom, Product, Names, Ty, dim, Con, equal, isDim, isScalar, hasField, Binding, _≔_, orderAtom}
 use Rattle.rules.specs.Views.{productOf}
 use Rattle.rules.specs.Rounds.{State}
-use Rattle.rules.specs.Solving.{Answer, accepted, remaining, stopped, run, enough, solve}
-use Rattle.rules.specs.WellFormed.{goodProduct, goodTy, goodCon}
-use Rattle.rules.specs.Choices.{Fixed, Choice, Rational, Same, comesTo, dimensional, MakesTrue, MakesAllTrue, Choosing, completed}
+use Rattle.rules.specs.Solving.{Answer, accepted, remaining, stopped, enough, solve}
+use Rattle.rules.specs.WellFormed.{goodTy, goodCon}
+use Rattle.rules.specs.Choices.{Fixed, Choice, Rational, Same, comesTo, dimensional, MakesAllTrue, Choosing, completed}
 use Rattle.laws.specs.Order.{Lawful, Tells}
 use Rattle.laws.specs.ByteOrder.{atom-lawful}
 use Rattle.laws.specs.Exact.{OfLimits}
 use Rattle.laws.specs.Fractions.{Lowest}
 use Rattle.laws.specs.Lists.{true≢false, and-left, and-right, not-true, All, all-nil, all-is}
-use Rattle.completeness.specs.Shapes.{Good, Shaped, scalar-of, equality-of, ShapedType, product-of, Right}
-use Rattle.completeness.specs.Rounds.{Unbound, Kept, AllRight}
+use Rattle.completeness.specs.Shapes.{Shaped, scalar-of, equality-of, product-of, Right}
+use Rattle.completeness.specs.Rounds.{Kept, AllRight}
 use Rattle.completeness.specs.Weights.{weights-few}
 use Rattle.completeness.specs.Chosen.{measured, measured-lowest, makes-right}
 use Rattle.completeness.specs.Runs.{Outcome, limits, refuted, settled, run-outcome}

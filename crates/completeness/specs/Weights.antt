@@ -1,23 +1,22 @@
 -- In a set of dimensions every round takes weight away, so there are at most two rounds a constraint.
 -- Assumes nothing.
 use mathlib.Core.Path.{_≡_, refl, ap, ap₂, _∙_, sym}
-use mathlib.Core.Bool.{Bool, true}
+use mathlib.Core.Bool.{Bool}
 use mathlib.Core.Option.{Option, none, some}
 use mathlib.Core.List.{List, [], _∷_, _++_, List·Memᴰ, List·Memᴰ·tail}
-use Prim.Native.Nat.{ℕ, _+_, _<_, _≤_}
+use Prim.Native.Nat.{_+_, _<_, _≤_}
 use native.Mathlib.Omega.{arith}
 use lib.ListN.{length}
-use Rattle.rules.specs.Base.{Got, got, refused, _>>=_, bounded, each, sumOf}
-use Rattle.rules.specs.Trees.{Names, Con, equal, isDim, isScalar, hasField, Binding, _≔_, orderAtom}
+use Rattle.rules.specs.Base.{Got, got, refused, bounded, each, sumOf}
+use Rattle.rules.specs.Trees.{Names, Con, equal, isDim, isScalar, hasField, _≔_, orderAtom}
 use Rattle.rules.specs.Replacing.{Look, replaceTy, replaceProduct, replaceCon, replaceBinding, bindings}
 use Rattle.rules.specs.Rounds.{Step, bind, split, done, stuck, State, trySatisfy, taken, firstStep, sizeState, depthState, limited, perform, performed, round}
-use Rattle.laws.specs.Order.{Lawful, Tells}
+use Rattle.laws.specs.Order.{Lawful}
 use Rattle.laws.specs.Lists.{got≢refused, some≢none, in-head, one-step, two-steps, each-parts, bound-step}
 use Rattle.laws.specs.Sized.{sized-same}
-use Rattle.laws.specs.GoodProducts.{goodAtom}
-use Rattle.laws.specs.RuleCases.{After, rule}
-use Rattle.laws.specs.Turns.{Found, found}
-use Rattle.completeness.specs.Moves.{Move, move, weight, move-weight}
+use Rattle.laws.specs.RuleCases.{rule}
+use Rattle.laws.specs.Turns.{found}
+use Rattle.completeness.specs.Moves.{move, weight, move-weight}
 use Rattle.completeness.specs.Rounds.{Kept}
 
 module _ {N : Type 0} where

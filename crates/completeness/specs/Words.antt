@@ -2,7 +2,7 @@
 -- Assumes nothing.
 use mathlib.Core.Path.{_≡_, refl, ap, _∙_, sym, subst}
 use mathlib.Core.Bool.{Bool, true, false, _&&_}
-use mathlib.Core.Logic.{_⊎_, inl, inr}
+use mathlib.Core.Logic.{inl, inr}
 use mathlib.Core.Option.{Option, none, some}
 use mathlib.Core.List.{List, [], _∷_}
 use Prim.Native.Nat.{ℕ, zero, suc, _*_, _<_, _≤_}
@@ -11,7 +11,7 @@ use borrow.Author.Tests.{ltb-true, leb-true}
 use lib.Dec.{leb}
 use lib.ListN.{length, getD}
 use Rattle.rules.specs.Base.{Got, got, refused, _>>_, need, orRefuse, bounded, all, collect, sumOf}
-use Rattle.rules.specs.Trees.{Names, Con, Binding, opensCon, sizeBinding, sizeCon}
+use Rattle.rules.specs.Trees.{Names, Con, opensCon, sizeBinding, sizeCon}
 use Rattle.rules.specs.Names.{Table, tableOf, tableGood, numbersOf, isHeld, lentTable}
 use Rattle.rules.specs.Contents.{unmixed}
 use Rattle.rules.specs.Writing.{Rec, rec}
@@ -19,14 +19,14 @@ use Rattle.rules.specs.Reading.{Reader, readCon, readAll, records}
 use Rattle.rules.specs.WellFormed.{goodCon}
 use Rattle.rules.specs.Solving.{Answer, accepted, remaining, stopped, solve}
 use Rattle.rules.specs.Choices.{dimensional, Choosing}
-use Rattle.rules.specs.Calls.{lentResult, lentWork, lent, shortLists, tableKept, listGiven, setGiven, apart, resultAfter, Solved, solved, unsolved, refusedAfter, solvedOf, solvedWords, solvedSet, solveCall}
+use Rattle.rules.specs.Calls.{lentResult, lentWork, lent, shortLists, tableKept, listGiven, setGiven, apart, resultAfter, solved, unsolved, refusedAfter, solvedOf, solvedWords, solvedSet, solveCall}
 use Rattle.laws.specs.Order.{Lawful, Tells}
 use Rattle.laws.specs.Checks.{need-passed}
 use Rattle.laws.specs.Exact.{OfLimits}
 use Rattle.laws.specs.ByteOrder.{numbered-lawful}
 use Rattle.laws.specs.NameTable.{Good, count-is, held-tells}
 use Rattle.laws.specs.Lists.{some≢none, got≢refused, and-left, and-right, bound-step}
-use Rattle.completeness.specs.Claims.{_⇔_, DimensionSet, AllChoices, Excepted, Unsolved, Told, Complete}
+use Rattle.completeness.specs.Claims.{_⇔_, DimensionSet, Excepted, Unsolved, Told, Complete}
 use Rattle.completeness.specs.Limits.{Refuses, fine, onward}
 use Rattle.completeness.specs.Trees.{only-limits, none-left, all-choices, some-choice}
 
@@ -71,9 +71,10 @@ set-read t ws cs e =
     let b = bound-step (orRefuse 1 (readAll readCon (length (a .0)) (a .0))) _ cs (a .2) in
     let c = bound-step (need (all (goodCon (numbersOf t) (isHeld t) 0) (b .0)) 1) _ cs (b .2) in
     let z : b .0 ≡ cs = cc (c .2) in
-    let good = need-passed (all (goodCon (numbersOf t) (isHeld t) 0) (b .0)) 1 (c .1) in
-    (subst (λ (l : List (Con ℕ)). all (goodCon (numbersOf t) (isHeld t) 0) l ≡ true) z good,
-    subst (λ (l : List (Con ℕ)). length l * 4 ≤ length ws) z (omega (arith, all-few readCon (length (a .0)) (a .0) (b .0) (or-refused 1 _ (b .0) (b .1)), records-few ws (a .0) (or-refused 1 (records ws) (a .0) (a .1)))))
+    let good = need-passed (all (goodCon (numbersOf t) (isHeld t) 0) (b .0)) 1 (c .1) in (
+      subst (λ (l : List (Con ℕ)). all (goodCon (numbersOf t) (isHeld t) 0) l ≡ true) z good,
+      subst (λ (l : List (Con ℕ)). length l * 4 ≤ length ws) z (omega (arith, all-few readCon (length (a .0)) (a .0) (b .0) (or-refused 1 _ (b .0) (b .1)), records-few ws (a .0) (or-refused 1 (records ws) (a .0) (a .1)))),
+    )
 
 -- ══ The checks at entry ══
 

@@ -2,24 +2,16 @@
 -- Assumes nothing.
 use mathlib.Core.Path.{_≡_, refl, ap, ap₂, _∙_, sym}
 use mathlib.Core.Bool.{Bool, true, false}
-use mathlib.Core.Option.{Option, none, some}
 use mathlib.Core.List.{[], _∷_}
-use Prim.Native.Nat.{ℕ, Ordering, Ordering·lt, Ordering·eq, Ordering·gt}
-use Rattle.rules.specs.Base.{got, bounded}
+use Prim.Native.Nat.{Ordering, Ordering·lt, Ordering·eq, Ordering·gt}
 use Rattle.rules.specs.Exponents.{Exp, nought, one, isZero, neg, plus, mul}
-use Rattle.rules.specs.Trees.{Open, Atom, free, base, _↑_, Product, Names, Ty, orderAtom}
-use Rattle.rules.specs.Products.{put, inverse, multiply, divide, raise}
-use Rattle.rules.specs.Replacing.{Look, asProduct, replaceFactors, replaceProduct}
-use Rattle.rules.specs.WellFormed.{goodProduct}
+use Rattle.rules.specs.Trees.{Atom, _↑_, Product, Names, orderAtom}
+use Rattle.rules.specs.Products.{put, inverse}
 use Rattle.laws.specs.Order.{Lawful, Tells}
 use Rattle.laws.specs.Lists.{Every}
-use Rattle.laws.specs.Value.{Gives, gives, next, together, its-own}
 use Rattle.laws.specs.Fractions.{Lowest, nought-lowest, one-lowest, neg-lowest, plus-in-lowest, mul-in-lowest, plus-comm, plus-assoc, plus-nought, plus-neg, mul-assoc′, mul-plus, mul-one′, zero-is-nought, mul-nought, nought-mul, nought-plus, plus-mul, mul-neg}
-use Rattle.laws.specs.ExactProducts.{mergeE, mergeOneE, raiseE, multiply-value, divide-value, raise-value}
-use Rattle.laws.specs.Powers.{Sound, Proper, inverse-proper, inverse-is, raise-proper}
-use Rattle.laws.specs.GoodProducts.{goodAtom, GoodFactor, good-product, product-good, good-proper, multiply-good, divide-good, raise-good}
-use Rattle.laws.specs.Ranges.{stored-good, good-lowest}
-use Rattle.laws.specs.KeepsGood.{GoodTy, dimension-good}
+use Rattle.laws.specs.ExactProducts.{mergeE, mergeOneE, raiseE}
+use Rattle.laws.specs.Powers.{Sound, Proper, inverse-is}
 
 -- ══ Fractions ══
 

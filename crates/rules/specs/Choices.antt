@@ -11,7 +11,7 @@ use lib.Dec.{leb, eqb}
 use lib.IntN.{pos, negsuc, natAbs}
 use Rattle.rules.specs.Base.{isYes, all, isNone}
 use Rattle.rules.specs.Exponents.{Exp, frac, nought, one, gcdIn, gcd, lowest, plus, mul}
-use Rattle.rules.specs.Trees.{Open, var, quant, par, Atom, free, base, _↑_, Product, dim, Con, equal, isDim, isScalar, hasField, Binding, _≔_}
+use Rattle.rules.specs.Trees.{var, quant, par, Atom, free, base, _↑_, Product, dim, Con, equal, isDim, isScalar, hasField, Binding, _≔_}
 use Rattle.rules.specs.Views.{productOf}
 
 -- ══ Dimensions and choices ══
