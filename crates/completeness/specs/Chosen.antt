@@ -95,7 +95,8 @@ module _ {N : Type 0} (same : Discrete N) (u : Fixed N) where
       go : power same u (d ++ e) ≡ plus (power same u d) (power same u e) → power same u (v to x ∷ (d ++ e)) ≡ plus (power same u (v to x ∷ d)) (power same u e)
       go r =
           at-part (λ y. y ≡ plus (power same u (v to x ∷ d)) (power same u e)) v x (d ++ e)
-          (λ i. ap (plus x) r ∙ sym (plus-assoc x (power same u d) (power same u e) (h .0) (power-lowest d (h .1)) (power-lowest e k)) ∙ ap (λ (y : Exp). plus y (power same u e)) (sym (power-here v x d i)))
+          (λ i. ap (plus x) r ∙ sym (plus-assoc x (power same u d) (power same u e) (h .0) (power-lowest d (h .1)) (power-lowest e k))
+          ∙ ap (λ (y : Exp). plus y (power same u e)) (sym (power-here v x d i)))
           (λ n. r ∙ ap (λ (y : Exp). plus y (power same u e)) (sym (power-there v x d n)))
 
   power-scaled : (d : Dimension N) (k : Exp) → Every Reduced d → Lowest k → power same u (scaled d k) ≡ mul (power same u d) k
@@ -181,10 +182,13 @@ module _ {N : Type 0} (ν : Names N) (law : Lawful (ν .order)) (c : Choice N) w
   later-worth : (Held : Atom N → Type 0) (a : Atom N) (u : Fixed N) (p : Product N) → fixedOf a ≡ some u → Before ν a p → Every (Sound Held) p → worth (measured (ν .same) c u) p ≡ nought
   unfolding worth
   later-worth Held a u [] e h k = refl
-  later-worth Held a u (b ↑ j ∷ p) e h k = ap₂ plus (ap (λ (x : Exp). mul x j) (later-power a b u e (h .0)) ∙ nought-mul j (k .0 .1)) (later-worth Held a u p e (h .1) (k .1)) ∙ plus-nought nought nought-lowest
+  later-worth Held a u (b ↑ j ∷ p) e h k =
+      ap₂ plus (ap (λ (x : Exp). mul x j) (later-power a b u e (h .0)) ∙ nought-mul j (k .0 .1)) (later-worth Held a u p e (h .1) (k .1))
+      ∙ plus-nought nought nought-lowest
 
   -- the first power stands alone
-  pub first-worth : (Held : Atom N → Type 0) (a : Atom N) (u : Fixed N) (k : Exp) (p : Product N) → fixedOf a ≡ some u → Before ν a p → Every (Sound Held) (a ↑ k ∷ p) → worth (measured (ν .same) c u) (a ↑ k ∷ p) ≡ k
+  pub first-worth : (Held : Atom N → Type 0) (a : Atom N) (u : Fixed N) (k : Exp) (p : Product N) → fixedOf a ≡ some u → Before ν a p → Every (Sound Held) (a ↑ k ∷ p)
+      → worth (measured (ν .same) c u) (a ↑ k ∷ p) ≡ k
   unfolding worth
   first-worth Held a u k p e h s =
       ap₂ plus (ap (λ (x : Exp). mul x k) (own-power a u e) ∙ mul-comm′ one k ∙ mul-one′ k (s .0 .1)) (later-worth Held a u p e h (s .1)) ∙ plus-nought k (s .0 .1)

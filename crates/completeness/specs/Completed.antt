@@ -35,7 +35,8 @@ module _ {N : Type 0} (same : Discrete N) where
     by-binding [] x f g = g (λ t m. List·Memᴰ·not-nil m)
     by-binding (y ≔ u ∷ bs) x f g = go (isYes (same x y)) refl (by-binding bs x)
       where
-        go : (b : Bool) → isYes (same x y) ≡ b → (((t : Ty N) → List·Memᴰ (x ≔ t) bs → P x (orChosen c (productOf t) x)) → (OpenIn bs x → P x (c x)) → P x (completed same bs c x)) → P x (completed same (y ≔ u ∷ bs) c x)
+        go : (b : Bool) → isYes (same x y) ≡ b → (((t : Ty N) → List·Memᴰ (x ≔ t) bs → P x (orChosen c (productOf t) x)) → (OpenIn bs x → P x (c x)) → P x (completed same bs c x))
+            → P x (completed same (y ≔ u ∷ bs) c x)
         go true i r = rw (i, completed) (f u (let e : x ≡ y = yes-is (same x y) i in rw e in-head))
         go false i r = rw (i, completed) (r (λ t m. f t (List·Memᴰ·tail m)) (λ n. g (λ t m. other n t (List·Memᴰ·cases-cons m))))
           where
@@ -105,7 +106,8 @@ module _ {N : Type 0} (ν : Names N) (law : Lawful (orderAtom ν)) (held : N →
         go t i h = rw (h .is) (right (h .product) (rw (h .is) at i))
 
     -- where the bindings are true, each bound variable is what its product comes to
-    pub right-bound : ((u : Fixed N) (x : N) (t : Ty N) → List·Memᴰ (x ≔ t) (s .binds) → RightBound (measured same c u) x t) → (x : N) (p : Product N) → List·Memᴰ (x ≔ dim p) (s .binds) → Same same (c x) (comesTo c p)
+    pub right-bound : ((u : Fixed N) (x : N) (t : Ty N) → List·Memᴰ (x ≔ t) (s .binds) → RightBound (measured same c u) x t)
+        → (x : N) (p : Product N) → List·Memᴰ (x ≔ dim p) (s .binds) → Same same (c x) (comesTo c p)
     unfolding chosenFor
     right-bound f x p m u = f u x (dim p) m ∙ sym (good-worth same c r ν law held u p (bound-good x p m))
 
@@ -117,8 +119,11 @@ module _ {N : Type 0} (ν : Names N) (law : Lawful (orderAtom ν)) (held : N →
         go t m h = rw (h .is) (f x (h .product) (rw (h .is) at m))
 
   -- the open variables decide
-  pub open-decide : (c d : Choice N) → Rational c → Rational d → ((x : N) → OpenIn (s .binds) x → Same same (c x) (d x)) → (x : N) → Same same (completed same (s .binds) c x) (completed same (s .binds) d x)
-  open-decide c d rc rd f x = by-binding same c (λ y e. Same same e (completed same (s .binds) d x)) (s .binds) x (λ t m. go t m (k .binds-shaped x t m)) (λ n u. f x n u ∙ ap (power same u) (sym (open-gets d x n)))
+  pub open-decide : (c d : Choice N) → Rational c → Rational d → ((x : N) → OpenIn (s .binds) x → Same same (c x) (d x))
+      → (x : N) → Same same (completed same (s .binds) c x) (completed same (s .binds) d x)
+  open-decide c d rc rd f x =
+      by-binding same c (λ y e. Same same e (completed same (s .binds) d x)) (s .binds) x
+      (λ t m. go t m (k .binds-shaped x t m)) (λ n u. f x n u ∙ ap (power same u) (sym (open-gets d x n)))
     where
       alike : (p : Product N) → List·Memᴰ (x ≔ dim p) (s .binds) → Same same (comesTo c p) (completed same (s .binds) d x)
       alike p m u =

@@ -101,7 +101,8 @@ open-two-given = record { well-formed = refl; dimensions = refl; few = omega ari
 
 -- whatever is chosen for y and z, it is completed to one that makes it true
 pub any-completes : (c : Choice ℕ) → Rational c → MakesAllTrue same (completed same open-two-bindings c) open-two
-any-completes c r = all-choices (numbersOf (tableOf pool table)) (isHeld (tableOf pool table)) (numbered-lawful _) (held-apart pool table good-table) open-two open-two-given open-two-bindings [] 1 open-two-solved .completes c r .1
+any-completes c r =
+    all-choices (numbersOf (tableOf pool table)) (isHeld (tableOf pool table)) (numbered-lawful _) (held-apart pool table good-table) open-two open-two-given open-two-bindings [] 1 open-two-solved .completes c r .1
 
 -- y is L, everything else nothing
 pub y-is-L : Choice ℕ

@@ -66,7 +66,8 @@ module _ {N : Type 0} (ν : Names N) (x : N) (d : Product N) where
   factors-limited (base n ↑ e ∷ p) acc = factors-limited p acc
   factors-limited (free o ↑ e ∷ p) acc = go (one-bound ν x (dim d) o) (λ acc′. factors-limited p acc′)
     where
-      go : ((o ≡ var x) × (look o ≡ some (dim d))) ⊎ ((o ≡ var x → ⊥) × (look o ≡ none)) → ((acc′ : Product N) → Limited (replaceFactors ν bounded look p acc′)) → Limited (replaceFactors ν bounded look (free o ↑ e ∷ p) acc)
+      go : ((o ≡ var x) × (look o ≡ some (dim d))) ⊎ ((o ≡ var x → ⊥) × (look o ≡ none)) → ((acc′ : Product N) → Limited (replaceFactors ν bounded look p acc′))
+          → Limited (replaceFactors ν bounded look (free o ↑ e ∷ p) acc)
       go (inr i) f = rw (i .1, replaceFactors) (f acc)
       go (inl i) f =
           rw (i .1, replaceFactors)
@@ -90,7 +91,9 @@ module _ {N : Type 0} (ν : Names N) (x : N) (d : Product N) where
   con-limited : (held : N → Bool) (c : Con N) → Shaped ν held c → Limited (replaceCon ν bounded look c)
   unfolding replaceCon
   con-limited held c (scalar-of p h e) = rw e (onward (product-limited p) (λ q i. fine))
-  con-limited held c (equality-of p q h k e) = rw e (onward (type-limited held (dim p) (record { product = p; good = h; is = refl })) (λ s i. onward (type-limited held (dim q) (record { product = q; good = k; is = refl })) (λ t j. fine)))
+  con-limited held c (equality-of p q h k e) =
+      rw e (onward (type-limited held (dim p) (record { product = p; good = h; is = refl })) (λ s i.
+      onward (type-limited held (dim q) (record { product = q; good = k; is = refl })) (λ t j. fine)))
 
   binding-limited : (held : N → Bool) (b : Binding N) → ((y : N) (t : Ty N) → b ≡ y ≔ t → ShapedType ν held t) → Limited (replaceBinding ν bounded look b)
   unfolding replaceBinding

@@ -134,7 +134,9 @@ module _ {N : Type 0} (ν : Names N) (law : Lawful (orderAtom ν)) (held : N →
     move-open c s h (divided p q r k i e) f =
         let f′ : All P (opensCon (equal (dim p) (dim q))) = rw i at f in
         let w : r ≡ mergeE ν p (inverse q) = divide-value ν p q r k in
-        let on : Every (OnFactor P) (mergeE ν p (inverse q)) = merge-on P ν p (inverse q) (opens-each P p (λ o m. f′ o (Memᴰ·append-left (opens (dim q)) m))) (inverse-on P ν q (opens-each P q (λ o m. f′ o (Memᴰ·append-right (opens (dim p)) m)))) in
+        let left : Every (OnFactor P) p = opens-each P p (λ o m. f′ o (Memᴰ·append-left (opens (dim q)) m)) in
+        let right : Every (OnFactor P) q = opens-each P q (λ o m. f′ o (Memᴰ·append-right (opens (dim p)) m)) in
+        let on : Every (OnFactor P) (mergeE ν p (inverse q)) = merge-on P ν p (inverse q) left (inverse-on P ν q right) in
         rw e (all-cons (λ d. All P (opensCon d)) (rw w (each-opens P (mergeE ν p (inverse q)) on)) (all-nil (λ d. All P (opensCon d))))
     move-open c s h (side-bound x d (inl i) a e) f =
         let f′ : All P (opensCon (equal (dim (just (var x))) (dim d))) = rw i at f in
@@ -171,7 +173,8 @@ module _ (a b : Exp) (p : Lowest a) (q : Lowest b) where
   adds-up : a ≡ neg b → plus a b ≡ nought
   adds-up h = ap (plus a) (sym (neg-neg b)) ∙ same-difference a (neg b) p (neg-lowest b q) h
 
-module _ {N : Type 0} (ν : Names N) (law : Lawful (orderAtom ν)) (held : N → Bool) (tells : Tells (λ a. goodAtom ν held 0 a ≡ true) (orderAtom ν)) (g : Atom N → Exp) (low : (a : Atom N) → Lowest (g a)) where
+module _ {N : Type 0} (ν : Names N) (law : Lawful (orderAtom ν)) (held : N → Bool) (tells : Tells (λ a. goodAtom ν held 0 a ≡ true) (orderAtom ν))
+    (g : Atom N → Exp) (low : (a : Atom N) → Lowest (g a)) where
   -- what a move leaves is as true as the constraint was
   abbrev pub Follows : Con N → Step N → Type 0
   Follows c (bind x t) = Right g c ⇔ RightBound g x t
@@ -179,7 +182,8 @@ module _ {N : Type 0} (ν : Names N) (law : Lawful (orderAtom ν)) (held : N →
   Follows c done = Right g c
   Follows c stuck = Unit {0}
 
-  first-right : (x : N) (k : Exp) (p q : Product N) → Good ν held (free (var x) ↑ k ∷ p) → Good ν held q → each (otherSide bounded k) p ≡ got q → (worth g (free (var x) ↑ k ∷ p) ≡ nought) ⇔ (g (free (var x)) ≡ worth g q)
+  first-right : (x : N) (k : Exp) (p q : Product N) → Good ν held (free (var x) ↑ k ∷ p) → Good ν held q → each (otherSide bounded k) p ≡ got q
+      → (worth g (free (var x) ↑ k ∷ p) ≡ nought) ⇔ (g (free (var x)) ≡ worth g q)
   unfolding worth
   first-right x k p q h m n =
       let whole = good-proper ν law held 0 (free (var x) ↑ k ∷ p) h in

@@ -102,7 +102,8 @@ module _ {N : Type 0} (ν : Names N) (law : Lawful (orderAtom ν)) (held : N →
       record {
         cons-shaped = rw (b .joined) (all-append (Shaped ν held) (b .rest) (rest-shaped s k (split (b .new)) (b .rest) (b .found)) (move-shape ν law held (b .found .con) (split (b .new)) h m));
         binds-shaped = rw (b .same) (k .binds-shaped);
-        cons-open = rw (b .joined, b .same) (all-append (λ c. All (Unbound (s .binds)) (opensCon c)) (b .rest) (rest-open s k (split (b .new)) (b .rest) (b .found)) (move-open ν law held (Unbound (s .binds)) (b .found .con) (split (b .new)) h m (k .cons-open (b .found .con) (b .found .given))));
+        cons-open = rw (b .joined, b .same) (all-append (λ c. All (Unbound (s .binds)) (opensCon c)) (b .rest) (rest-open s k (split (b .new)) (b .rest) (b .found))
+            (move-open ν law held (Unbound (s .binds)) (b .found .con) (split (b .new)) h m (k .cons-open (b .found .con) (b .found .given))));
         binds-open = rw (b .same) (k .binds-open);
         once = rw (b .same) (k .once);
       }
@@ -131,7 +132,9 @@ module _ {N : Type 0} (ν : Names N) (law : Lawful (orderAtom ν)) (held : N →
     appended : s′ .binds ≡ older ++ (x ≔ dim d ∷ [])
 
   dimensioned : (s s′ : State N) → K s → Bound ν bounded s s′ → Dimensioned s s′
-  dimensioned s s′ k b = go (b .t) (move-shape ν law held (b .found .con) (bind (b .x) (b .t)) (k .cons-shaped (b .found .con) (b .found .given)) (moved s k (bind (b .x) (b .t)) (b .rest) (b .found))) (b .found) (b .replaced) (b .replacedBinds) (b .appended)
+  dimensioned s s′ k b =
+      go (b .t) (move-shape ν law held (b .found .con) (bind (b .x) (b .t)) (k .cons-shaped (b .found .con) (b .found .given)) (moved s k (bind (b .x) (b .t)) (b .rest) (b .found)))
+      (b .found) (b .replaced) (b .replacedBinds) (b .appended)
     where
       go : (t : Ty N) → ShapedType ν held t → Found ν bounded (s .cons) (bind (b .x) t) (b .rest) → each (replaceCon ν bounded (bindings ν (b .x ≔ t ∷ []))) (b .rest) ≡ got (s′ .cons)
           → each (replaceBinding ν bounded (bindings ν (b .x ≔ t ∷ []))) (s .binds) ≡ got (b .older) → s′ .binds ≡ b .older ++ (b .x ≔ t ∷ []) → Dimensioned s s′
@@ -205,7 +208,9 @@ module _ {N : Type 0} (ν : Names N) (law : Lawful (orderAtom ν)) (held : N →
         shaped y t′ (inr i) = record { product = b .d; good = b .good; is = i .1 }
 
         opened : (c c′ : Con N) → List·Memᴰ c (s .cons) → replaceCon ν bounded look c ≡ got c′ → All (Unbound (s′ .binds)) (opensCon c′)
-        opened c c′ m e = con-on ν law held 0 tells (b .x) (dim (b .d)) (dim-good (b .d) (b .good)) (Unbound (s′ .binds)) c c′ (shaped-good ν held c (k .cons-shaped c m)) (con-below ν look c .gives c′ e) (λ o i n. still-unbound o (k .cons-open c m o i) n) type-unbound
+        opened c c′ m e =
+            con-on ν law held 0 tells (b .x) (dim (b .d)) (dim-good (b .d) (b .good)) (Unbound (s′ .binds)) c c′ (shaped-good ν held c (k .cons-shaped c m))
+            (con-below ν look c .gives c′ e) (λ o i n. still-unbound o (k .cons-open c m o i) n) type-unbound
 
         bind-opened : (y : N) (t′ : Ty N) → Was y t′ → All (Unbound (s′ .binds)) (opens t′)
         bind-opened y t′ (inl i) =
@@ -248,7 +253,8 @@ module _ {N : Type 0} (ν : Names N) (law : Lawful (orderAtom ν)) (held : N →
         con-iff : RightBound g (b .x) (dim (b .d)) → (c c′ : Con N) → List·Memᴰ c (b .rest) → replaceCon ν bounded (bindings ν (b .x ≔ dim (b .d) ∷ [])) c ≡ got c′ → Right g c ⇔ Right g c′
         con-iff h c c′ m e = con-right ν law held tells g low (b .x) (b .d) (b .good) h c c′ (k .cons-shaped c (b .found .kept c m)) e
 
-        bind-iff : RightBound g (b .x) (dim (b .d)) → (y : N) (t t′ : Ty N) → List·Memᴰ (y ≔ t) (s .binds) → replaceTy ν bounded (bindings ν (b .x ≔ dim (b .d) ∷ [])) t ≡ got t′ → RightBound g y t ⇔ RightBound g y t′
+        bind-iff : RightBound g (b .x) (dim (b .d)) → (y : N) (t t′ : Ty N) → List·Memᴰ (y ≔ t) (s .binds) → replaceTy ν bounded (bindings ν (b .x ≔ dim (b .d) ∷ [])) t ≡ got t′
+            → RightBound g y t ⇔ RightBound g y t′
         bind-iff h y t t′ m e = bound-right ν law held tells g low (b .x) (b .d) (b .good) h y t t′ (k .binds-shaped y t m) e
 
         on : AllRight g s → All (Right g) (s′ .cons)
@@ -271,10 +277,17 @@ module _ {N : Type 0} (ν : Names N) (law : Lawful (orderAtom ν)) (held : N →
         new-right r = r .binds-right (b .x) (dim (b .d)) (new-bound s s′ k b)
 
         back : AllRight g s′ → All (Right g) (s .cons)
-        back r = parts .1 (iff .1 (new-right r), λ c m. let w = each-went (replaceCon ν bounded (bindings ν (b .x ≔ dim (b .d) ∷ []))) (b .rest) (s′ .cons) (b .replaced) c m in con-iff (new-right r) c (w .to) m (w .by) .1 (r .cons-right (w .to) (w .within)))
+        back r = parts .1 (
+          iff .1 (new-right r),
+          λ c m.
+              let w = each-went (replaceCon ν bounded (bindings ν (b .x ≔ dim (b .d) ∷ []))) (b .rest) (s′ .cons) (b .replaced) c m in
+              con-iff (new-right r) c (w .to) m (w .by) .1 (r .cons-right (w .to) (w .within)),
+        )
 
         back-binds : AllRight g s′ → (y : N) (t : Ty N) → List·Memᴰ (y ≔ t) (s .binds) → RightBound g y t
-        back-binds r y t m = let w = binding-went ν (bindings ν (b .x ≔ dim (b .d) ∷ [])) (s .binds) (b .older) (b .replacedBinds) y t m in bind-iff (new-right r) y t (w .0) m (w .2) .1 (r .binds-right y (w .0) (older-stays s s′ k b y (w .0) (w .1)))
+        back-binds r y t m =
+            let w = binding-went ν (bindings ν (b .x ≔ dim (b .d) ∷ [])) (s .binds) (b .older) (b .replacedBinds) y t m in
+            bind-iff (new-right r) y t (w .0) m (w .2) .1 (r .binds-right y (w .0) (older-stays s s′ k b y (w .0) (w .1)))
 
     split-right : (s s′ : State N) → K s → Split ν bounded s s′ → AllRight g s ⇔ AllRight g s′
     split-right s s′ k b = (

@@ -96,7 +96,10 @@ module _ {N : Type 0} (ν : Names N) where
     where
       go : (o : Option (Step N)) → Moving o → orTry o (byKind ν bounded (dim p) (dim q)) ≡ got stuck → ⊥
       go (some s) f i = f (cc)
-      go none f i = let o = one-step (divide ν bounded p q) (λ r. split (isScalar r ∷ [])) stuck i in let j : split (isScalar (o .value) ∷ []) ≡ stuck = o .is in let z : _≡_ {A = ℕ} 0 1 = cc in omega arith
+      go none f i =
+          let o = one-step (divide ν bounded p q) (λ r. split (isScalar r ∷ [])) stuck i in
+          let j : split (isScalar (o .value) ∷ []) ≡ stuck = o .is in
+          let z : _≡_ {A = ℕ} 0 1 = cc in omega arith
 
 -- what is left over: a product whose first factor is a parameter or a base dimension
 module _ {N : Type 0} (ν : Names N) (held : N → Bool) (ord : Lawful (ν .order)) where
@@ -116,7 +119,10 @@ module _ {N : Type 0} (ν : Names N) (held : N → Bool) (ord : Lawful (ν .orde
   scalar-stuck : (c : Choice N) (p : Product N) → Good ν held p → trySatisfy ν bounded (isScalar p) ≡ got stuck → AllPowers c (isScalar p) → ⊥
   unfolding trySatisfy goodOpen
   scalar-stuck c [] h e f = let z : _≡_ {A = ℕ} 0 1 = cc in omega arith
-  scalar-stuck c (free (var x) ↑ k ∷ p) h e f = let o = one-step (each (otherSide bounded k) p) (λ q. bind x (dim q)) stuck e in let j : bind x (dim (o .value)) ≡ stuck = o .is in let z : _≡_ {A = ℕ} 0 1 = cc in omega arith
+  scalar-stuck c (free (var x) ↑ k ∷ p) h e f =
+      let o = one-step (each (otherSide bounded k) p) (λ q. bind x (dim q)) stuck e in
+      let j : bind x (dim (o .value)) ≡ stuck = o .is in
+      let z : _≡_ {A = ℕ} 0 1 = cc in omega arith
   scalar-stuck c (free (quant i) ↑ k ∷ p) h e f = omega (arith, ltb-true i 0 (good-product ν law held 0 (free (quant i) ↑ k ∷ p) h .each .0 .0))
   scalar-stuck c (free (par x) ↑ k ∷ p) h e f = fixed-first c (free (par x)) _ k p refl h (f _)
   scalar-stuck c (base n ↑ k ∷ p) h e f = fixed-first c (base n) _ k p refl h (f _)
@@ -172,7 +178,8 @@ module _ {N : Type 0} (ν : Names N) (held : N → Bool) (ord : Lawful (ν .orde
   run-outcome zero k s h w = absurd (omega arith)
   run-outcome (suc f) k s h w = go (round ν bounded s) refl (λ s′. run-outcome f (suc k) s′)
     where
-      go : (r : Got (Option (State N))) → round ν bounded s ≡ r → ((s′ : State N) → Kept ν held s′ → sumOf weight (s′ .cons) < f → Outcome s′ (run ν bounded f (suc k) s′)) → Outcome s (after ν r k s (λ s′. run ν bounded f (suc k) s′))
+      go : (r : Got (Option (State N))) → round ν bounded s ≡ r → ((s′ : State N) → Kept ν held s′ → sumOf weight (s′ .cons) < f → Outcome s′ (run ν bounded f (suc k) s′))
+          → Outcome s (after ν r k s (λ s′. run ν bounded f (suc k) s′))
       go (refused n) e again = limits n k (round-limited ν (law ν held ord) held tells s h .only n e) refl
       go (got none) e again = finish-outcome k s h e
       go (got (some s′)) e again =

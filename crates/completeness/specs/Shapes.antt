@@ -1,21 +1,21 @@
 -- Constraints and bindings of dimensions alone: replacing keeps their shape, and keeps what they are worth.
 -- Assumes nothing.
 use mathlib.Core.Path.{_≡_, refl, ap, ap₂, _∙_, sym}
-use mathlib.Core.Bool.{Bool, true, false}
+use mathlib.Core.Bool.{Bool, true}
 use mathlib.Core.Logic.{_⊎_, inl, inr}
 use mathlib.Core.Option.{Option, none, some, Option·getD}
 use mathlib.Core.List.{[], _∷_}
 use native.Mathlib.Omega.{arith}
-use Rattle.rules.specs.Base.{got, bounded, isNone}
+use Rattle.rules.specs.Base.{got, bounded}
 use Rattle.rules.specs.Exponents.{Exp, nought, neg, plus, mul}
-use Rattle.rules.specs.Trees.{Open, var, Atom, free, base, _↑_, Product, Names, Ty, opened, basic, dim, fn, struct, list, Con, equal, isDim, isScalar, hasField, _≔_, orderAtom}
+use Rattle.rules.specs.Trees.{Open, var, Atom, free, base, _↑_, Product, Names, Ty, dim, Con, equal, isDim, isScalar, hasField, _≔_, orderAtom}
 use Rattle.rules.specs.Views.{productOf}
 use Rattle.rules.specs.Choices.{dimensional}
 use Rattle.rules.specs.Products.{just, single, inverse, multiply, divide, raise}
 use Rattle.rules.specs.Replacing.{Look, asProduct, replaceFactors, replaceProduct, replaceDim, replaceTy, replaceCon, bindings}
 use Rattle.rules.specs.WellFormed.{goodProduct, goodTy, goodCon}
 use Rattle.laws.specs.Order.{Lawful, Tells}
-use Rattle.laws.specs.Lists.{true≢false, and-both, Every, one-step, two-steps}
+use Rattle.laws.specs.Lists.{and-both, Every, one-step, two-steps}
 use Rattle.laws.specs.Value.{Gives, gives, next, weaken, together, its-own}
 use Rattle.laws.specs.Fractions.{Lowest, neg-lowest, mul-in-lowest, plus-comm, plus-assoc, plus-nought, plus-neg}
 use Rattle.laws.specs.ExactProducts.{multiply-value, divide-value, raise-value}
@@ -51,14 +51,6 @@ module _ {N : Type 0} (ν : Names N) (held : N → Bool) where
   unfolding dimensional
   shaped-dimensional c (scalar-of p h e) = rw e
   shaped-dimensional c (equality-of p q h k e) = rw e
-
-  pub product-of : (t : Ty N) → isNone (productOf t) ≡ false → (p : Product N) × (t ≡ dim p)
-  product-of (opened o) e = absurd (true≢false e)
-  product-of (basic b) e = absurd (true≢false e)
-  product-of (dim p) e = (p, refl)
-  product-of (fn ps r) e = absurd (true≢false e)
-  product-of (struct n as′ fs) e = absurd (true≢false e)
-  product-of (list t) e = absurd (true≢false e)
 
 -- ══ Truth, where each atom is worth a fraction ══
 
@@ -119,7 +111,8 @@ module _ {N : Type 0} (ν : Names N) (law : Lawful (orderAtom ν)) (held : N →
 there-and-back : (w x : Exp) → Lowest w → Lowest x → plus (plus w (neg x)) x ≡ w
 there-and-back w x p q = plus-assoc w (neg x) x p (neg-lowest x q) q ∙ ap (plus w) (plus-comm (neg x) x ∙ plus-neg x q) ∙ plus-nought w p
 
-module _ {N : Type 0} (ν : Names N) (law : Lawful (orderAtom ν)) (held : N → Bool) (tells : Tells (λ a. goodAtom ν held 0 a ≡ true) (orderAtom ν)) (g : Atom N → Exp) (low : (a : Atom N) → Lowest (g a)) where
+module _ {N : Type 0} (ν : Names N) (law : Lawful (orderAtom ν)) (held : N → Bool) (tells : Tells (λ a. goodAtom ν held 0 a ≡ true) (orderAtom ν))
+    (g : Atom N → Exp) (low : (a : Atom N) → Lowest (g a)) where
   abbrev Held : Atom N → Type 0
   Held a = goodAtom ν held 0 a ≡ true
 
@@ -168,7 +161,8 @@ module _ {N : Type 0} (ν : Names N) (law : Lawful (orderAtom ν)) (held : N →
     factors-worth (base n ↑ e ∷ p) acc h k = factors-worth p acc (h .1) k
     factors-worth (free o ↑ e ∷ p) acc h k = go (one-bound ν x (dim d) o) (λ acc′ i. factors-worth p acc′ (h .1) i)
       where
-        go : ((o ≡ var x) × (look-up o ≡ some (dim d))) ⊎ ((o ≡ var x → ⊥) × (look-up o ≡ none)) → ((acc′ : Product N) → Good ν held acc′ → Gives (replaceFactors ν bounded look-up p acc′) (λ r. worth g r ≡ worth g acc′))
+        go : ((o ≡ var x) × (look-up o ≡ some (dim d))) ⊎ ((o ≡ var x → ⊥) × (look-up o ≡ none))
+            → ((acc′ : Product N) → Good ν held acc′ → Gives (replaceFactors ν bounded look-up p acc′) (λ r. worth g r ≡ worth g acc′))
             → Gives (replaceFactors ν bounded look-up (free o ↑ e ∷ p) acc) (λ r. worth g r ≡ worth g acc)
         go (inr i) f = rw (i .1, replaceFactors) (f acc k)
         go (inl i) f =

@@ -1,7 +1,8 @@
 -- The theorems for trees: from how a run ends to choices.
 -- Assumes nothing.
 use mathlib.Core.Path.{_≡_, refl, ap₂, sym, subst}
-use mathlib.Core.Bool.{Bool, true, not}
+use mathlib.Core.Bool.{Bool, true, false, not}
+use mathlib.Core.Option.{Option, none, some}
 use mathlib.Core.List.{List, [], List·Memᴰ, List·Memᴰ·not-nil}
 use Prim.Native.Nat.{ℕ}
 use native.Mathlib.Omega.{arith}
@@ -17,14 +18,22 @@ use Rattle.laws.specs.Order.{Lawful, Tells}
 use Rattle.laws.specs.ByteOrder.{atom-lawful}
 use Rattle.laws.specs.Exact.{OfLimits}
 use Rattle.laws.specs.Fractions.{Lowest}
+use Rattle.laws.specs.RuleCases.{product-of}
 use Rattle.laws.specs.Lists.{true≢false, and-left, and-right, not-true, All, all-nil, all-is}
-use Rattle.completeness.specs.Shapes.{Shaped, scalar-of, equality-of, product-of, Right}
+use Rattle.completeness.specs.Shapes.{Shaped, scalar-of, equality-of, Right}
 use Rattle.completeness.specs.Rounds.{Kept, AllRight}
 use Rattle.completeness.specs.Weights.{weights-few}
 use Rattle.completeness.specs.Chosen.{measured, measured-lowest, makes-right}
 use Rattle.completeness.specs.Runs.{Outcome, limits, refuted, settled, run-outcome}
 use Rattle.completeness.specs.Completed.{completed-rational, completed-right, right-bound, right-completed, open-decide}
 use Rattle.completeness.specs.Claims.{DimensionSet, AllChoices, Five, Stopped, _⇔_}
+
+a-product : {N : Type 0} (t : Ty N) → isNone (productOf t) ≡ false → (p : Product N) × (t ≡ dim p)
+a-product {N} t h = go (productOf t) refl h
+  where
+    go : (o : Option (Product N)) → productOf t ≡ o → isNone o ≡ false → (p : Product N) × (t ≡ dim p)
+    go none i h = absurd (true≢false h)
+    go (some p) i h = (p, product-of t p i)
 
 module _ {N : Type 0} (ν : Names N) (held : N → Bool) where
   equality-shaped : (s t : Ty N) → (p : Product N) × (s ≡ dim p) → (q : Product N) × (t ≡ dim q) → goodTy ν held 0 s ≡ true → goodTy ν held 0 t ≡ true → Shaped ν held (equal s t)
@@ -38,8 +47,8 @@ module _ {N : Type 0} (ν : Names N) (held : N → Bool) where
   shape-of (hasField n s t) h d = absurd (true≢false (sym d))
   shape-of (equal s t) h d =
       equality-shaped s t
-      (product-of ν held s (not-true (isNone (productOf s)) (and-left (not (isNone (productOf s))) _ d)))
-      (product-of ν held t (not-true (isNone (productOf t)) (and-right (not (isNone (productOf s))) _ d)))
+      (a-product s (not-true (isNone (productOf s)) (and-left (not (isNone (productOf s))) _ d)))
+      (a-product t (not-true (isNone (productOf t)) (and-right (not (isNone (productOf s))) _ d)))
       (and-left (goodTy ν held 0 s) _ h) (and-right (goodTy ν held 0 s) _ h)
 
 module _ {N : Type 0} (ν : Names N) (held : N → Bool) (ord : Lawful (ν .order)) (apart : Tells (λ n. held n ≡ true) (ν .order)) (cs : List (Con N)) (given : DimensionSet ν held cs) where
@@ -107,7 +116,10 @@ module _ {N : Type 0} (ν : Names N) (held : N → Bool) (ord : Lawful (ν .orde
         makes c r =
             let d = completed same (s .binds) c in
             let rd = completed-rational ν law held s k c r in
-            right-start d rd (λ u. iff (measured same d u) (measured-lowest same d rd u) .1 (record { cons-right = rw none (all-nil (Right (measured same d u))); binds-right = completed-right ν law held s k c r u }))
+            right-start d rd (λ u. iff (measured same d u) (measured-lowest same d rd u) .1 (record {
+              cons-right = rw none (all-nil (Right (measured same d u)));
+              binds-right = completed-right ν law held s k c r u;
+            }))
 
         bound-so : (c : Choice N) → Rational c → MakesAllTrue same c cs → (x : N) (p : Product N) → List·Memᴰ (x ≔ dim p) (s .binds) → Same same (c x) (comesTo c p)
         bound-so c r f = right-bound ν law held s k c r (λ u. iff (measured same c u) (measured-lowest same c r u) .0 (start-right c r f u) .binds-right)

@@ -88,7 +88,8 @@ module _ {N : Type 0} (ν : Names N) where
   limited-same s s′ e = ap (λ (u : State N). u .cons) (sized-same (sizeState s) (depthState s) s bounded s′ e)
 
 module _ {N : Type 0} (ν : Names N) (law : Lawful (orderAtom ν)) (held : N → Bool) where
-  performed-lighter : (s s′ : State N) (step : Step N) (rest : List (Con N)) → Weighed ν (s .cons) (step, rest) → (step ≡ stuck → ⊥) → Kept ν held s → perform ν bounded (s .binds) step rest ≡ got s′ → sumOf weight (s′ .cons) < sumOf weight (s .cons)
+  performed-lighter : (s s′ : State N) (step : Step N) (rest : List (Con N)) → Weighed ν (s .cons) (step, rest) → (step ≡ stuck → ⊥) → Kept ν held s → perform ν bounded (s .binds) step rest ≡ got s′
+      → sumOf weight (s′ .cons) < sumOf weight (s .cons)
   unfolding perform
   performed-lighter s s′ (bind x t) rest w n k e =
       let a = bound-step (each (replaceCon ν bounded (bindings ν (x ≔ t ∷ []))) rest) _ s′ e in

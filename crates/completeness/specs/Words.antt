@@ -73,7 +73,8 @@ set-read t ws cs e =
     let z : b .0 ≡ cs = cc (c .2) in
     let good = need-passed (all (goodCon (numbersOf t) (isHeld t) 0) (b .0)) 1 (c .1) in (
       subst (λ (l : List (Con ℕ)). all (goodCon (numbersOf t) (isHeld t) 0) l ≡ true) z good,
-      subst (λ (l : List (Con ℕ)). length l * 4 ≤ length ws) z (omega (arith, all-few readCon (length (a .0)) (a .0) (b .0) (or-refused 1 _ (b .0) (b .1)), records-few ws (a .0) (or-refused 1 (records ws) (a .0) (a .1)))),
+      subst (λ (l : List (Con ℕ)). length l * 4 ≤ length ws) z
+          (omega (arith, all-few readCon (length (a .0)) (a .0) (b .0) (or-refused 1 _ (b .0) (b .1)), records-few ws (a .0) (or-refused 1 (records ws) (a .0) (a .1)))),
     )
 
 -- ══ The checks at entry ══
@@ -180,7 +181,9 @@ module _ (pool table set : List ℕ) (cs : List (Con ℕ)) (read : setGiven (tab
       where
         go : (m : Got (Answer ℕ)) → call ≡ m → ((n k : ℕ) → solvedOf m ≡ refusedAfter n k → Excepted n → ⊥) → Unsolved (solvedOf m) ⇔ (Choosing (ν .same) cs → ⊥)
         go (refused n) i f = absurd (f n 0 refl (call-refuses .only n i))
-        go (got (accepted bs ns k)) i f = let p = passed (accepted bs ns k) i in (λ u. absurd u, λ n. absurd (n (some-choice ν held (p .lawful) (p .tells) cs (p .given) bs (all-choices ν held (p .lawful) (p .tells) cs (p .given) bs ns k (sym (p .is))))))
+        go (got (accepted bs ns k)) i f =
+            let p = passed (accepted bs ns k) i in
+            (λ u. absurd u, λ n. absurd (n (some-choice ν held (p .lawful) (p .tells) cs (p .given) bs (all-choices ν held (p .lawful) (p .tells) cs (p .given) bs ns k (sym (p .is))))))
         go (got (remaining rs k)) i f = let p = passed (remaining rs k) i in (λ u. none-left ν held (p .lawful) (p .tells) cs (p .given) rs k (sym (p .is)), λ n. tt)
         go (got (stopped n k)) i f = absurd (f n k refl (stopped-excepted n k i))
 

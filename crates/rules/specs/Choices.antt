@@ -142,6 +142,7 @@ unfolding ℕ-discrete power scaled chosenFor comesTo completed plus mul lowest 
 completed-case = (refl, refl)
 
 -- 2/4 and 1/0 are no rational powers
-rational-cases : (rationalPart {N = ℕ} (parameter 0 to frac (pos 2) 4) ≡ false) × (rationalPart {N = ℕ} (parameter 0 to frac (pos 1) 0) ≡ false) × (rationalPart {N = ℕ} (parameter 0 to frac (negsuc 2) 4) ≡ true)
+rational-cases : (rationalPart {N = ℕ} (parameter 0 to frac (pos 2) 4) ≡ false) × (rationalPart {N = ℕ} (parameter 0 to frac (pos 1) 0) ≡ false)
+    × (rationalPart {N = ℕ} (parameter 0 to frac (negsuc 2) 4) ≡ true)
 unfolding rationalPart gcd gcdIn
 rational-cases = (refl, refl, refl)
