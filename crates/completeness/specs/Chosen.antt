@@ -68,7 +68,8 @@ module _ {N : Type 0} where
 -- ══ One parameter or base dimension ══
 
 module _ {N : Type 0} (same : Discrete N) (u : Fixed N) where
-  at-part : (P : Exp → Type 0) (v : Fixed N) (e : Exp) (d : Dimension N) → ((u ≡ v) → P (plus e (power same u d))) → (¬ (u ≡ v) → P (power same u d)) → P (power same u (v to e ∷ d))
+  -- one part more: it counts, or it is of another
+  pub at-part : (P : Exp → Type 0) (v : Fixed N) (e : Exp) (d : Dimension N) → ((u ≡ v) → P (plus e (power same u d))) → (¬ (u ≡ v) → P (power same u d)) → P (power same u (v to e ∷ d))
   unfolding power
   at-part P v e d f g = go (isYes (Fixed-discrete same u v)) refl
     where

@@ -1,31 +1,49 @@
 -- Examples on words, over the names of rules' Examples: each part of the statement is needed.
 -- Assumes nothing.
-use mathlib.Core.Path.{_≡_, refl, sym, subst}
-use mathlib.Core.Bool.{false}
+use mathlib.Core.Path.{_≡_, refl, _∙_, sym, subst}
+use mathlib.Core.Bool.{Bool, false}
 use mathlib.Core.List.{List, [], _∷_, List·Memᴰ·eq-of-singleton}
 use Prim.Native.Nat.{ℕ, zero, suc}
-use lib.IntN.{pos, negsuc}
+use native.Mathlib.Nat.{eq-one-of-dvd-one}
+use lib.IntN.{ℤ, pos, negsuc, natAbs, _+ℤ_, _*ℤ_}
 use native.Mathlib.Omega.{arith}
 use native.Mathlib.Bridge.{le-by-compare, IsLe}
 use Rattle.rules.specs.Base.{got, bounded, all}
-use Rattle.rules.specs.Exponents.{frac, nought, one}
-use Rattle.rules.specs.Trees.{var, par, free, base, _↑_, dim, basic, boolean, Con, equal, isScalar, Binding, _≔_}
+use Rattle.rules.specs.Exponents.{Exp, frac, nought, one, lowest, plus}
+use Rattle.rules.specs.Trees.{Names, var, par, free, base, _↑_, dim, basic, boolean, Con, equal, isScalar, Binding, _≔_}
 use Rattle.rules.specs.Names.{tableOf, numbersOf, isHeld}
 use Rattle.rules.specs.Writing.{rec, words}
 use Rattle.rules.specs.Solving.{accepted, solve}
 use Rattle.rules.specs.Calls.{setGiven, solved, unsolved, refusedAfter, solveCall}
 use Rattle.rules.specs.Rules.{rules}
 use Rattle.rules.specs.Examples.{x, y, z, L, pool, table, result, work}
-use Rattle.rules.specs.Choices.{baseDimension, _to_, Choice, Rational, power, scaled, chosenFor, comesTo, dimensional, MakesTrue, MakesAllTrue, Choosing, completed}
-use Rattle.laws.specs.Lists.{in-head}
+use Rattle.rules.specs.Choices.{Fixed, baseDimension, Part, _to_, Dimension, Choice, Rational, power, scaled, chosenFor, comesTo, dimensional, MakesTrue, MakesAllTrue, Choosing, completed}
+use Rattle.laws.specs.Gcd.{is-gcd}
+use Rattle.laws.specs.Fractions.{coprime-terms}
+use Rattle.laws.specs.Lists.{in-head, Every}
 use Rattle.laws.specs.ByteOrder.{numbered-lawful}
 use Rattle.laws.specs.NameTable.{Good}
-use Rattle.completeness.specs.Claims.{DimensionSet, Complete}
+use Rattle.completeness.specs.Claims.{DimensionSet, AllChoices, Complete}
 use Rattle.completeness.specs.Completeness.{all-choices, refused-then-none}
 use Rattle.completeness.specs.Words.{held-apart}
+use Rattle.completeness.specs.Chosen.{at-part}
 
 abbrev same : Discrete ℕ
 same = numbersOf (tableOf pool table) .same
+
+abbrev names : Names ℕ
+names = numbersOf (tableOf pool table)
+
+abbrev held : ℕ → Bool
+held = isHeld (tableOf pool table)
+
+good-table : Good pool table
+unfolding rules pool table IsLe
+good-table = record { bytes = le-by-compare 8192 8192 tt; words = le-by-compare 257 257 tt; good = refl }
+
+-- what an accepted set's bindings say
+told : (cs : List (Con ℕ)) (bs : List (Binding ℕ)) (k : ℕ) → DimensionSet names held cs → solve names bounded cs ≡ accepted bs [] k → AllChoices names cs bs
+told cs bs k given accepts = all-choices names held (numbered-lawful _) (held-apart pool table good-table) cs given bs [] k accepts
 
 -- ══ K13, equal-scalar L: 5, and no choice makes it true ══
 
@@ -87,22 +105,17 @@ open-two-answer : solveCall pool table open-two-words result work .answer ≡ so
 unfolding rules pool table result work
 open-two-answer = refl
 
-open-two-solved : solve (numbersOf (tableOf pool table)) bounded open-two ≡ accepted open-two-bindings [] 1
+open-two-solved : solve names bounded open-two ≡ accepted open-two-bindings [] 1
 unfolding rules pool table
 open-two-solved = refl
 
-good-table : Good pool table
-unfolding rules pool table IsLe
-good-table = record { bytes = le-by-compare 8192 8192 tt; words = le-by-compare 257 257 tt; good = refl }
-
-open-two-given : DimensionSet (numbersOf (tableOf pool table)) (isHeld (tableOf pool table)) open-two
+open-two-given : DimensionSet names held open-two
 unfolding rules pool table dimensional
 open-two-given = record { well-formed = refl; dimensions = refl; few = omega arith }
 
 -- whatever is chosen for y and z, it is completed to one that makes it true
 pub any-completes : (c : Choice ℕ) → Rational c → MakesAllTrue same (completed same open-two-bindings c) open-two
-any-completes c r =
-    all-choices (numbersOf (tableOf pool table)) (isHeld (tableOf pool table)) (numbered-lawful _) (held-apart pool table good-table) open-two open-two-given open-two-bindings [] 1 open-two-solved .completes c r .1
+any-completes c r = told open-two open-two-bindings 1 open-two-given open-two-solved .completes c r .1
 
 -- y is L, everything else nothing
 pub y-is-L : Choice ℕ
@@ -120,6 +133,48 @@ choices-differ = (refl, refl)
 pub not-any : MakesAllTrue same y-is-L open-two → ⊥
 unfolding rules pool table power scaled chosenFor comesTo MakesTrue y-is-L
 not-any f = let e : one ≡ nought = f (isScalar (free (var x) ↑ one ∷ free (var y) ↑ one ∷ free (var z) ↑ one ∷ [])) in-head (baseDimension L) in let i : _≡_ {A = ℕ} 0 1 = cc in omega arith
+
+-- ══ K5, equal-scalar x^2 L^-3: x is L^(3/2), and whole powers alone wouldn't do ══
+
+abbrev k5 : List (Con ℕ)
+k5 = isScalar (free (var x) ↑ frac (pos 2) 1 ∷ base L ↑ frac (negsuc 2) 1 ∷ []) ∷ []
+
+abbrev k5-bindings : List (Binding ℕ)
+k5-bindings = x ≔ dim (base L ↑ frac (pos 3) 2 ∷ []) ∷ []
+
+k5-solved : solve names bounded k5 ≡ accepted k5-bindings [] 1
+unfolding rules pool table
+k5-solved = refl
+
+k5-given : DimensionSet names held k5
+unfolding rules pool table dimensional
+k5-given = record { well-formed = refl; dimensions = refl; few = omega arith }
+
+abbrev pub Whole : Exp → Type 0
+Whole e = (n : ℤ) × (e ≡ frac n 1)
+
+abbrev pub WholePart : Part ℕ → Type 0
+WholePart (u to e) = Whole e
+
+whole-sum : (a b : Exp) → Whole a → Whole b → Whole (plus a b)
+unfolding plus
+whole-sum a b (n, i) (m, j) = (n *ℤ pos 1 +ℤ m *ℤ pos 1, rw (i, j) (own (n *ℤ pos 1 +ℤ m *ℤ pos 1)))
+  where
+    own : (k : ℤ) → lowest k 1 ≡ frac k 1
+    own k = coprime-terms k 1 (omega arith) (eq-one-of-dvd-one (is-gcd (natAbs k) 1 .right)) .own
+
+whole-power : (u : Fixed ℕ) (d : Dimension ℕ) → Every WholePart d → Whole (power same u d)
+unfolding power
+whole-power u [] h = (pos 0, refl)
+whole-power u (v to e ∷ d) h = at-part same u Whole v e d (λ i. whole-sum e (power same u d) (h .0) (whole-power u d (h .1))) (λ i. whole-power u d (h .1))
+
+pub whole-none : (c : Choice ℕ) → Rational c → ((v : ℕ) → Every WholePart (c v)) → MakesAllTrue same c k5 → ⊥
+unfolding rules pool table power scaled chosenFor comesTo
+whole-none c r w f =
+    let e : power same (baseDimension L) (c x) ≡ frac (pos 3) 2 = told k5 k5-bindings 1 k5-given k5-solved .bound-so c r f x (base L ↑ frac (pos 3) 2 ∷ []) in-head (baseDimension L) in
+    let n = whole-power (baseDimension L) (c x) (w x) in
+    let i : frac (n .0) 1 ≡ frac (pos 3) 2 = sym (n .1) ∙ e in
+    let j : _≡_ {A = ℕ} 1 2 = cc in omega arith
 
 -- ══ K14, equal-scalar x^(1/2) y^2147483647: 7, though there is a choice ══
 
