@@ -22,6 +22,7 @@ pub data Fixed (N : Type 0) : Type 0 where
   baseDimension : N → Fixed N
   deriving Discrete as Fixed-discrete
 
+-- one of them with its power
 infix 80 _to_
 pub data Part (N : Type 0) : Type 0 where
   _to_ : Fixed N → Exp → Part N
@@ -38,6 +39,7 @@ rationalPart (u to frac n d) = leb 1 d && eqb (gcd (natAbs n) d) 1
 abbrev pub Choice : Type 0 → Type 0
 Choice N = N → Dimension N
 
+-- all its powers are rational
 abbrev pub Rational : {N : Type 0} → Choice N → Type 0
 Rational {N} c = (x : N) → all rationalPart (c x) ≡ true
 
@@ -82,6 +84,7 @@ module _ {N : Type 0} where
   dimensional (hasField n s t) = false
 
 module _ {N : Type 0} (same : Discrete N) (c : Choice N) where
+  -- two sides come to the same; a side that is no dimension comes to nothing that could agree
   abbrev pub Agree : Option (Product N) → Option (Product N) → Type 0
   Agree (some p) (some q) = Same same (comesTo c p) (comesTo c q)
   Agree (some p) none = ⊥
@@ -106,6 +109,7 @@ pub record Choosing {N : Type 0} (same : Discrete N) (cs : List (Con N)) : Type 
 
 -- ══ A choice of the open variables, and bindings ══
 
+-- what a product comes to, where there is one
 abbrev pub orChosen : {N : Type 0} → Choice N → Option (Product N) → N → Dimension N
 orChosen c none x = c x
 orChosen c (some p) x = comesTo c p
