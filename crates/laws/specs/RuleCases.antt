@@ -76,7 +76,7 @@ module _ {N : Type 0} where
   as-var (struct n as′ fs) x e = absurd (some≢none (sym e))
   as-var (list t) x e = absurd (some≢none (sym e))
 
-  product-of : (t : Ty N) (p : Product N) → productOf t ≡ some p → t ≡ dim p
+  pub product-of : (t : Ty N) (p : Product N) → productOf t ≡ some p → t ≡ dim p
   product-of (opened o) p e = absurd (some≢none (sym e))
   product-of (basic b) p e = absurd (some≢none (sym e))
   product-of (dim q) p e = cc
