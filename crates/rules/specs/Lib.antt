@@ -19,6 +19,7 @@ pub mod WellFormed
 pub mod Refusals
 pub mod Values
 pub mod Calls
+pub mod Offices
 pub mod Rules
 pub mod Examples
 pub mod CasesOfValues

@@ -1,0 +1,17 @@
+pub mod Over
+pub mod Options
+pub mod Products
+pub mod Sizes
+pub mod Contents
+pub mod Replacing
+pub mod Views
+pub mod Adding
+pub mod Rounds
+pub mod Solving
+pub mod Schemes
+pub mod Judging
+pub mod WellFormed
+pub mod Reading
+pub mod ReadSchemes
+pub mod Naming
+pub mod Writing
