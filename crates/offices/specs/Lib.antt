@@ -15,3 +15,8 @@ pub mod Reading
 pub mod ReadSchemes
 pub mod Naming
 pub mod Writing
+pub mod Both
+pub mod Given
+pub mod Queries
+pub mod Results
+pub mod Changes

@@ -57,7 +57,7 @@ module _ (t t′ : Table) where
   ends-alike (concrete u) (concrete u′) (b ∷ bs) [] e f = cc
   ends-alike (concrete u) (concrete u′) (b ∷ bs) (b′ ∷ bs′) e f = refl
 
-  same-length : (rs rs′ : List Rec) → Alike t t′ rs rs′ → length rs ≡ length rs′
+  pub same-length : (rs rs′ : List Rec) → Alike t t′ rs rs′ → length rs ≡ length rs′
   same-length rs rs′ e = sym (length-map rs (seen t)) ∙ ap length e ∙ length-map rs′ (seen t′)
 
   ended-alike : (v v′ : Scheme ℕ × List Rec) → mapScheme (nameNo t) (v .0) ≡ mapScheme (nameNo t′) (v′ .0) → Alike t t′ (v .1) (v′ .1) → mapOption (mapScheme (nameNo t)) (ended v) ≡ mapOption (mapScheme (nameNo t′)) (ended v′)

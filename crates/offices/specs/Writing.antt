@@ -171,23 +171,23 @@ module _ (t : Table) where
 -- ══ Written alike ══
 
 module _ (t t′ : Table) where
-  pub type-written : (u u′ : Ty ℕ) → mapTy (nameNo t) u ≡ mapTy (nameNo t′) u′ → ReadAlike t t′ (words (writeTy u)) (words (writeTy u′))
-  type-written u u′ e = words-alike t t′ _ _ (ty-seen t u ∙ ap tySeen e ∙ sym (ty-seen t′ u′))
+  pub type-written : (u u′ : Ty ℕ) → mapTy (nameNo t) u ≡ mapTy (nameNo t′) u′ → map (seen t) (writeTy u) ≡ map (seen t′) (writeTy u′)
+  type-written u u′ e = ty-seen t u ∙ ap tySeen e ∙ sym (ty-seen t′ u′)
 
-  pub set-written : (cs cs′ : List (Con ℕ)) → map (mapCon (nameNo t)) cs ≡ map (mapCon (nameNo t′)) cs′ → ReadAlike t t′ (words (collect writeCon cs)) (words (collect writeCon cs′))
-  set-written cs cs′ e = words-alike t t′ _ _ (set-seen t cs ∙ ap (collect conSeen) e ∙ sym (set-seen t′ cs′))
+  pub set-written : (cs cs′ : List (Con ℕ)) → map (mapCon (nameNo t)) cs ≡ map (mapCon (nameNo t′)) cs′ → map (seen t) (collect writeCon cs) ≡ map (seen t′) (collect writeCon cs′)
+  set-written cs cs′ e = set-seen t cs ∙ ap (collect conSeen) e ∙ sym (set-seen t′ cs′)
 
-  pub scheme-written : (s s′ : Scheme ℕ) → mapScheme (nameNo t) s ≡ mapScheme (nameNo t′) s′ → ReadAlike t t′ (words (writeScheme s)) (words (writeScheme s′))
-  scheme-written s s′ e = words-alike t t′ _ _ (scheme-seen t s ∙ ap schemeSeen e ∙ sym (scheme-seen t′ s′))
+  pub scheme-written : (s s′ : Scheme ℕ) → mapScheme (nameNo t) s ≡ mapScheme (nameNo t′) s′ → map (seen t) (writeScheme s) ≡ map (seen t′) (writeScheme s′)
+  scheme-written s s′ e = scheme-seen t s ∙ ap schemeSeen e ∙ sym (scheme-seen t′ s′)
 
-  pub opened-written : (u u′ : Ty ℕ) (os os′ : List (Open ℕ)) → mapTy (nameNo t) u ≡ mapTy (nameNo t′) u′ → map (mapOpen (nameNo t)) os ≡ map (mapOpen (nameNo t′)) os′ → ReadAlike t t′ (words (writeTy u ++ map writeBound os)) (words (writeTy u′ ++ map writeBound os′))
-  opened-written u u′ os os′ e f = words-alike t t′ _ _ (both t u os ∙ ap₂ (λ v ps. tySeen v ++ map boundSeen ps) e f ∙ sym (both t′ u′ os′))
+  pub opened-written : (u u′ : Ty ℕ) (os os′ : List (Open ℕ)) → mapTy (nameNo t) u ≡ mapTy (nameNo t′) u′ → map (mapOpen (nameNo t)) os ≡ map (mapOpen (nameNo t′)) os′ → map (seen t) (writeTy u ++ map writeBound os) ≡ map (seen t′) (writeTy u′ ++ map writeBound os′)
+  opened-written u u′ os os′ e f = both t u os ∙ ap₂ (λ v ps. tySeen v ++ map boundSeen ps) e f ∙ sym (both t′ u′ os′)
     where
       both : (t : Table) (u : Ty ℕ) (os : List (Open ℕ)) → map (seen t) (writeTy u ++ map writeBound os) ≡ tySeen (mapTy (nameNo t) u) ++ map boundSeen (map (mapOpen (nameNo t)) os)
       both t u os = map-append (seen t) (writeTy u) (map writeBound os) ∙ ap₂ (λ (a b : List Seen). a ++ b) (ty-seen t u) (bounds-seen t os)
 
-  pub answer-written : (bs bs′ : List (Binding ℕ)) (ns ns′ : List ℕ) → map (mapBinding (nameNo t)) bs ≡ map (mapBinding (nameNo t′)) bs′ → map (nameNo t) ns ≡ map (nameNo t′) ns′ → ReadAlike t t′ (words (collect writeBinding bs ++ map (λ n. writeBound (var n)) ns)) (words (collect writeBinding bs′ ++ map (λ n. writeBound (var n)) ns′))
-  answer-written bs bs′ ns ns′ e f = words-alike t t′ _ _ (both t bs ns ∙ ap₂ (λ cs ms. collect bindingSeen cs ++ map (λ n. boundSeen (var n)) ms) e f ∙ sym (both t′ bs′ ns′))
+  pub answer-written : (bs bs′ : List (Binding ℕ)) (ns ns′ : List ℕ) → map (mapBinding (nameNo t)) bs ≡ map (mapBinding (nameNo t′)) bs′ → map (nameNo t) ns ≡ map (nameNo t′) ns′ → map (seen t) (collect writeBinding bs ++ map (λ n. writeBound (var n)) ns) ≡ map (seen t′) (collect writeBinding bs′ ++ map (λ n. writeBound (var n)) ns′)
+  answer-written bs bs′ ns ns′ e f = both t bs ns ∙ ap₂ (λ cs ms. collect bindingSeen cs ++ map (λ n. boundSeen (var n)) ms) e f ∙ sym (both t′ bs′ ns′)
     where
       both : (t : Table) (bs : List (Binding ℕ)) (ns : List ℕ) → map (seen t) (collect writeBinding bs ++ map (λ n. writeBound (var n)) ns) ≡ collect bindingSeen (map (mapBinding (nameNo t)) bs) ++ map (λ n. boundSeen (var n)) (map (nameNo t) ns)
       both t bs ns = map-append (seen t) (collect writeBinding bs) (map (λ n. writeBound (var n)) ns) ∙ ap₂ (λ (a b : List Seen). a ++ b) (bindings-seen t bs) (names-seen t ns)

@@ -4,15 +4,17 @@ use mathlib.Core.Path.{_≡_}
 use mathlib.Core.Bool.{Bool, true, false, _&&_, _||_}
 use mathlib.Core.List.{List, [], _∷_, map}
 use mathlib.Core.Option.{Option, none, some}
-use Prim.Native.Nat.{ℕ}
+use Prim.Native.Nat.{ℕ, _+_, _*_}
 use native.Mathlib.Decide.{ℕ-discrete}
 use lib.Dec.{eqb}
-use lib.ListN.{getD}
+use lib.ListN.{length, take, getD}
 use Rattle.rules.specs.Base.{Got, got, refused, list-dec, any}
 use Rattle.rules.specs.Trees.{Open, var, quant, par, Atom, free, base, Factor, _↑_, Product, Ty, opened, basic, dim, fn, struct, list, Tys, nil, cons, Fields, noFields, field, Con, equal, isDim, isScalar, hasField, Binding, _≔_, Names}
-use Rattle.rules.specs.Names.{Bytes, orderBytes, Table, namesOf, isHeld}
+use Rattle.rules.specs.Names.{Bytes, orderBytes, Table, tableOf, namesOf, isHeld}
 use Rattle.rules.specs.Schemes.{Scheme, concrete, scheme}
+use Rattle.rules.specs.Adding.{Added}
 use Rattle.rules.specs.Solving.{Answer, accepted, remaining, stopped}
+use Rattle.rules.specs.Calls.{Written, Listed, Solved, solved, unsolved, refusedAfter, Solution, AddedTo, Entry, setCall, typeCall, schemeCall, bindingsCall, containsCall, closedCall, variablesCall, replaceTypeCall, replaceSetCall, addCall, solveCall, quantifyCall, generaliseCall, instantiateCall, judgeCall}
 
 -- ══ Other names in place of names, in every tree ══
 
@@ -132,3 +134,81 @@ pub record ReadAlike (t t′ : Table) (ws ws′ : List ℕ) : Type 0 where
 
 pub record NumbersAlike (t t′ : Table) (ns ns′ : List ℕ) : Type 0 where
   pub names : map (nameNo t) ns ≡ map (nameNo t′) ns′
+
+-- ══ Calls that answer alike ══
+
+-- the records at the front of a buffer, as many as were answered
+abbrev pub front : Got ℕ → List ℕ → List ℕ
+front (got n) buffer = take (n * 4) buffer
+front (refused k) buffer = []
+
+-- the same count or refusal, and records that read alike
+pub record WrittenAlike (t t′ : Table) (w w′ : Written) : Type 0 where
+  pub answer : w .answer ≡ w′ .answer
+  pub records : ReadAlike t t′ (front (w .answer) (w .result)) (front (w′ .answer) (w′ .result))
+
+abbrev pub frontListed : Got ℕ → List ℕ → List ℕ
+frontListed (got n) buffer = take n buffer
+frontListed (refused k) buffer = []
+
+-- the same count or refusal, and the same names in the same order
+pub record ListedAlike (t t′ : Table) (w w′ : Listed) : Type 0 where
+  pub answer : w .answer ≡ w′ .answer
+  pub numbers : NumbersAlike t t′ (frontListed (w .answer) (w .result)) (frontListed (w′ .answer) (w′ .result))
+
+abbrev pub frontSolved : Solved → List ℕ → List ℕ
+frontSolved (solved m n k) buffer = take ((m + n) * 4) buffer
+frontSolved (unsolved m k) buffer = take (m * 4) buffer
+frontSolved (refusedAfter n k) buffer = []
+
+-- the same refusal, completed rounds and counts; bindings and bounds, or what remains, read alike, in the same order
+pub record SolvedAlike (t t′ : Table) (s s′ : Solution) : Type 0 where
+  pub answer : s .answer ≡ s′ .answer
+  pub records : ReadAlike t t′ (frontSolved (s .answer) (s .result)) (frontSolved (s′ .answer) (s′ .result))
+
+abbrev pub frontAdded : Got (Added × ℕ) → List ℕ → List ℕ
+frontAdded (got r) buffer = take ((r .1) * 4) buffer
+frontAdded (refused k) buffer = []
+
+-- the same answer and count, and the sets afterwards read alike
+pub record AddedAlike (t t′ : Table) (a a′ : AddedTo) : Type 0 where
+  pub answer : a .answer ≡ a′ .answer
+  pub records : ReadAlike t t′ (frontAdded (a .answer) (a .buffer)) (frontAdded (a′ .answer) (a′ .buffer))
+
+-- buffers of the same lengths are lent
+pub record LentAlike (result result′ work work′ : List ℕ) : Type 0 where
+  pub results : length result ≡ length result′
+  pub works : length work ≡ length work′
+
+-- variables of entries that are alike, each with the same place
+pub record EntriesAlike (t t′ : Table) (es es′ : List Entry) : Type 0 where
+  pub variables : NumbersAlike t t′ (map (λ e. e .variable) es) (map (λ e. e .variable) es′)
+  pub places : map (λ e. e .place) es ≡ map (λ e. e .place) es′
+
+-- the promise for two lendings of pool and table: lists that read alike are answered alike, by every call
+pub record CallsAlike (pool table pool′ table′ : List ℕ) : Type 0 where
+  pub set : (ws ws′ : List ℕ) → ReadAlike (tableOf pool table) (tableOf pool′ table′) ws ws′ → setCall pool table ws ≡ setCall pool′ table′ ws′
+  pub type : (ws ws′ : List ℕ) → ReadAlike (tableOf pool table) (tableOf pool′ table′) ws ws′ → typeCall pool table ws ≡ typeCall pool′ table′ ws′
+  pub scheme : (ws ws′ : List ℕ) → ReadAlike (tableOf pool table) (tableOf pool′ table′) ws ws′ → schemeCall pool table ws ≡ schemeCall pool′ table′ ws′
+  pub bindings : (ws ws′ : List ℕ) → ReadAlike (tableOf pool table) (tableOf pool′ table′) ws ws′ → bindingsCall pool table ws ≡ bindingsCall pool′ table′ ws′
+  pub contains : (ws ws′ : List ℕ) (x x′ : ℕ) (b : Bool) → ReadAlike (tableOf pool table) (tableOf pool′ table′) ws ws′ → nameNo (tableOf pool table) x ≡ nameNo (tableOf pool′ table′) x′
+    → containsCall pool table ws x b ≡ containsCall pool′ table′ ws′ x′ b
+  pub closed : (ws ws′ : List ℕ) → ReadAlike (tableOf pool table) (tableOf pool′ table′) ws ws′ → closedCall pool table ws ≡ closedCall pool′ table′ ws′
+  pub variables : (ws ws′ : List ℕ) (b : Bool) (result result′ : List ℕ) → ReadAlike (tableOf pool table) (tableOf pool′ table′) ws ws′ → length result ≡ length result′
+    → ListedAlike (tableOf pool table) (tableOf pool′ table′) (variablesCall pool table ws b result) (variablesCall pool′ table′ ws′ b result′)
+  pub replaceType : (ws ws′ bs bs′ result result′ work work′ : List ℕ) → ReadAlike (tableOf pool table) (tableOf pool′ table′) ws ws′ → ReadAlike (tableOf pool table) (tableOf pool′ table′) bs bs′ → LentAlike result result′ work work′
+    → WrittenAlike (tableOf pool table) (tableOf pool′ table′) (replaceTypeCall pool table ws bs result work) (replaceTypeCall pool′ table′ ws′ bs′ result′ work′)
+  pub replaceSet : (ws ws′ bs bs′ result result′ work work′ : List ℕ) → ReadAlike (tableOf pool table) (tableOf pool′ table′) ws ws′ → ReadAlike (tableOf pool table) (tableOf pool′ table′) bs bs′ → LentAlike result result′ work work′
+    → WrittenAlike (tableOf pool table) (tableOf pool′ table′) (replaceSetCall pool table ws bs result work) (replaceSetCall pool′ table′ ws′ bs′ result′ work′)
+  pub add : (buffer buffer′ : List ℕ) (n : ℕ) (c c′ : List ℕ) → ReadAlike (tableOf pool table) (tableOf pool′ table′) (take (n * 4) buffer) (take (n * 4) buffer′) → ReadAlike (tableOf pool table) (tableOf pool′ table′) c c′ → length buffer ≡ length buffer′
+    → AddedAlike (tableOf pool table) (tableOf pool′ table′) (addCall pool table buffer n c) (addCall pool′ table′ buffer′ n c′)
+  pub solve : (ws ws′ result result′ work work′ : List ℕ) → ReadAlike (tableOf pool table) (tableOf pool′ table′) ws ws′ → LentAlike result result′ work work′
+    → SolvedAlike (tableOf pool table) (tableOf pool′ table′) (solveCall pool table ws result work) (solveCall pool′ table′ ws′ result′ work′)
+  pub quantify : (ws ws′ bs bs′ ns ns′ result result′ work work′ : List ℕ) → ReadAlike (tableOf pool table) (tableOf pool′ table′) ws ws′ → ReadAlike (tableOf pool table) (tableOf pool′ table′) bs bs′ → NumbersAlike (tableOf pool table) (tableOf pool′ table′) ns ns′ → LentAlike result result′ work work′
+    → WrittenAlike (tableOf pool table) (tableOf pool′ table′) (quantifyCall pool table ws bs ns result work) (quantifyCall pool′ table′ ws′ bs′ ns′ result′ work′)
+  pub generalise : (ws ws′ bs bs′ result result′ work work′ : List ℕ) → ReadAlike (tableOf pool table) (tableOf pool′ table′) ws ws′ → ReadAlike (tableOf pool table) (tableOf pool′ table′) bs bs′ → LentAlike result result′ work work′
+    → WrittenAlike (tableOf pool table) (tableOf pool′ table′) (generaliseCall pool table ws bs result work) (generaliseCall pool′ table′ ws′ bs′ result′ work′)
+  pub instantiate : (ws ws′ ns ns′ result result′ work work′ : List ℕ) → ReadAlike (tableOf pool table) (tableOf pool′ table′) ws ws′ → NumbersAlike (tableOf pool table) (tableOf pool′ table′) ns ns′ → LentAlike result result′ work work′
+    → WrittenAlike (tableOf pool table) (tableOf pool′ table′) (instantiateCall pool table ws ns result work) (instantiateCall pool′ table′ ws′ ns′ result′ work′)
+  pub judge : (ws ws′ : List ℕ) (es es′ : List Entry) (ts ts′ bs bs′ work work′ : List ℕ) → ReadAlike (tableOf pool table) (tableOf pool′ table′) ws ws′ → EntriesAlike (tableOf pool table) (tableOf pool′ table′) es es′ → ReadAlike (tableOf pool table) (tableOf pool′ table′) ts ts′ → ReadAlike (tableOf pool table) (tableOf pool′ table′) bs bs′ → length work ≡ length work′
+    → judgeCall pool table ws es ts bs work .answer ≡ judgeCall pool′ table′ ws′ es′ ts′ bs′ work′ .answer

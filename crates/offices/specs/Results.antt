@@ -1,0 +1,57 @@
+-- What stands at the front of a result buffer after a call.
+-- Assumes nothing.
+use mathlib.Core.Path.{_≡_, refl, ap, sym, _∙_}
+use mathlib.Core.List.{List, [], _∷_, _++_, map}
+use Prim.Native.Nat.{ℕ, suc, _*_}
+use lib.ListN.{length, length-map, take, drop}
+use Rattle.rules.specs.Base.{Got, got, refused, _>>=_, _>>_}
+use Rattle.rules.specs.Names.{Table}
+use Rattle.rules.specs.Writing.{Rec, words}
+use Rattle.rules.specs.Calls.{over, resultAfter, Written, writing, Listed, listing}
+use Rattle.rules.specs.Offices.{nameNo, readBack, ReadAlike, NumbersAlike, WrittenAlike, ListedAlike, front, frontListed}
+use Rattle.laws.specs.Size.{words-length}
+use Rattle.offices.specs.Both.{Both, Pair, neither, both, pair}
+use Rattle.offices.specs.Reading.{seen}
+use Rattle.offices.specs.ReadSchemes.{same-length}
+use Rattle.offices.specs.Writing.{words-alike}
+
+take-front : (ws rest : List ℕ) → take (length ws) (ws ++ rest) ≡ ws
+take-front [] rest = refl
+take-front (w ∷ ws) rest = ap (λ (l : List ℕ). w ∷ l) (take-front ws rest)
+
+-- what was written stands at the front
+pub front-over : (ws buffer : List ℕ) → take (length ws) (over ws buffer) ≡ ws
+unfolding over
+front-over ws buffer = take-front ws (drop (length ws) buffer)
+
+pub records-front : (rs : List Rec) (buffer : List ℕ) → take (length rs * 4) (over (words rs) buffer) ≡ words rs
+records-front rs buffer = ap (λ (n : ℕ). take n (over (words rs) buffer)) (sym (words-length rs)) ∙ front-over (words rs) buffer
+
+module _ (t t′ : Table) where
+  -- nothing reads as nothing
+  pub nothing : ReadAlike t t′ [] []
+  unfolding readBack
+  nothing = record { words = refl }
+
+  pub fronts : (rs rs′ : List Rec) (b b′ : List ℕ) → map (seen t) rs ≡ map (seen t′) rs′ → ReadAlike t t′ (take (length rs * 4) (over (words rs) b)) (take (length rs′ * 4) (over (words rs′) b′))
+  fronts rs rs′ b b′ e = rw (records-front rs b, records-front rs′ b′) (words-alike t t′ rs rs′ e)
+
+  pub writing-alike : (room : Got (Unit {0})) (m m′ : Got (List Rec)) (result result′ work work′ : List ℕ) → Both (map (seen t)) (map (seen t′)) m m′ → WrittenAlike t t′ (writing room m result work) (writing room m′ result′ work′)
+  unfolding writing resultAfter
+  writing-alike (refused n) m m′ result result′ work work′ b = record { answer = refl; records = nothing }
+  writing-alike (got u) m m′ result result′ work work′ b = go (pair m m′ b)
+    where
+      go : {m m′ : Got (List Rec)} → Pair (map (seen t)) (map (seen t′)) m m′ → WrittenAlike t t′ (writing (got u) m result work) (writing (got u) m′ result′ work′)
+      go (neither n) = record { answer = refl; records = nothing }
+      go (both rs rs′ e) = record { answer = ap got (same-length t t′ rs rs′ e); records = fronts rs rs′ result result′ e }
+
+  pub listing-alike : (m m′ : Got (List ℕ)) (result result′ : List ℕ) → Both (map (nameNo t)) (map (nameNo t′)) m m′ → ListedAlike t t′ (listing m result) (listing m′ result′)
+  unfolding listing resultAfter
+  listing-alike m m′ result result′ b = go (pair m m′ b)
+    where
+      go : {m m′ : Got (List ℕ)} → Pair (map (nameNo t)) (map (nameNo t′)) m m′ → ListedAlike t t′ (listing m result) (listing m′ result′)
+      go (neither n) = record { answer = refl; numbers = record { names = refl } }
+      go (both ns ns′ e) = record {
+        answer = ap got (sym (length-map ns (nameNo t)) ∙ ap length e ∙ length-map ns′ (nameNo t′));
+        numbers = record { names = ap (map (nameNo t)) (front-over ns result) ∙ e ∙ sym (ap (map (nameNo t′)) (front-over ns′ result′)) };
+      }
