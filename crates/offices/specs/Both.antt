@@ -71,6 +71,9 @@ equal-answers {A} {m} {m′} b = go (pair m m′ b)
     go (neither n) = refl
     go (both a a′ e) = ap got e
 
+pub same-both : {A : Type 0} {m m′ : Got A} → m ≡ m′ → Both (λ a. a) (λ a. a) m m′
+same-both e = record { is = ap (mapGot (λ a. a)) e }
+
 -- a check that comes out the same
 pub checked : {C C′ D : Type 0} {h : C → D} {h′ : C′ → D} {m m′ : Got (Unit {0})} {n : Got C} {n′ : Got C′} → m ≡ m′ → Both h h′ n n′ → Both h h′ (m >> n) (m′ >> n′)
 checked {m} {m′} e b = rw e (hence {g = λ (u : Unit {0}). u} {g′ = λ (u : Unit {0}). u} {m = m′} {m′ = m′} (record { is = refl }) (λ u u′ i. b))

@@ -20,3 +20,4 @@ pub mod Given
 pub mod Queries
 pub mod Results
 pub mod Changes
+pub mod Solves

@@ -33,8 +33,8 @@ module _ (t t′ : Table) where
   unfolding readBack
   nothing = record { words = refl }
 
-  pub fronts : (rs rs′ : List Rec) (b b′ : List ℕ) → map (seen t) rs ≡ map (seen t′) rs′ → ReadAlike t t′ (take (length rs * 4) (over (words rs) b)) (take (length rs′ * 4) (over (words rs′) b′))
-  fronts rs rs′ b b′ e = rw (records-front rs b, records-front rs′ b′) (words-alike t t′ rs rs′ e)
+  pub fronts : (rs rs′ : List Rec) (n n′ : ℕ) (b b′ : List ℕ) → length rs ≡ n → length rs′ ≡ n′ → map (seen t) rs ≡ map (seen t′) rs′ → ReadAlike t t′ (take (n * 4) (over (words rs) b)) (take (n′ * 4) (over (words rs′) b′))
+  fronts rs rs′ n n′ b b′ i i′ e = rw (← i, ← i′, records-front rs b, records-front rs′ b′) (words-alike t t′ rs rs′ e)
 
   pub writing-alike : (room : Got (Unit {0})) (m m′ : Got (List Rec)) (result result′ work work′ : List ℕ) → Both (map (seen t)) (map (seen t′)) m m′ → WrittenAlike t t′ (writing room m result work) (writing room m′ result′ work′)
   unfolding writing resultAfter
@@ -43,7 +43,7 @@ module _ (t t′ : Table) where
     where
       go : {m m′ : Got (List Rec)} → Pair (map (seen t)) (map (seen t′)) m m′ → WrittenAlike t t′ (writing (got u) m result work) (writing (got u) m′ result′ work′)
       go (neither n) = record { answer = refl; records = nothing }
-      go (both rs rs′ e) = record { answer = ap got (same-length t t′ rs rs′ e); records = fronts rs rs′ result result′ e }
+      go (both rs rs′ e) = record { answer = ap got (same-length t t′ rs rs′ e); records = fronts rs rs′ (length rs) (length rs′) result result′ refl refl e }
 
   pub listing-alike : (m m′ : Got (List ℕ)) (result result′ : List ℕ) → Both (map (nameNo t)) (map (nameNo t′)) m m′ → ListedAlike t t′ (listing m result) (listing m′ result′)
   unfolding listing resultAfter

@@ -12,7 +12,7 @@ use Rattle.rules.specs.Base.{Got, got, refused, list-dec, any}
 use Rattle.rules.specs.Trees.{Open, var, quant, par, Atom, free, base, Factor, _↑_, Product, Ty, opened, basic, dim, fn, struct, list, Tys, nil, cons, Fields, noFields, field, Con, equal, isDim, isScalar, hasField, Binding, _≔_, Names}
 use Rattle.rules.specs.Names.{Bytes, orderBytes, Table, tableOf, namesOf, isHeld}
 use Rattle.rules.specs.Schemes.{Scheme, concrete, scheme}
-use Rattle.rules.specs.Adding.{Added}
+use Rattle.rules.specs.Adding.{Added, satisfied, violated, unknown}
 use Rattle.rules.specs.Solving.{Answer, accepted, remaining, stopped}
 use Rattle.rules.specs.Calls.{Written, Listed, Solved, solved, unsolved, refusedAfter, Solution, AddedTo, Entry, setCall, typeCall, schemeCall, bindingsCall, containsCall, closedCall, variablesCall, replaceTypeCall, replaceSetCall, addCall, solveCall, quantifyCall, generaliseCall, instantiateCall, judgeCall}
 
@@ -166,14 +166,19 @@ pub record SolvedAlike (t t′ : Table) (s s′ : Solution) : Type 0 where
   pub answer : s .answer ≡ s′ .answer
   pub records : ReadAlike t t′ (frontSolved (s .answer) (s .result)) (frontSolved (s′ .answer) (s′ .result))
 
-abbrev pub frontAdded : Got (Added × ℕ) → List ℕ → List ℕ
-frontAdded (got r) buffer = take ((r .1) * 4) buffer
-frontAdded (refused k) buffer = []
+-- the set after adding: its n records from before and, where it was stored, the constraint behind them
+abbrev pub frontAdded : Got (Added × ℕ) → ℕ → List ℕ → List ℕ → List ℕ
+frontAdded (got r) n c buffer = elim (r .0) [
+  | satisfied ↦ take (n * 4) buffer
+  | violated ↦ take (n * 4 + length c) buffer
+  | unknown ↦ take (n * 4 + length c) buffer
+]
+frontAdded (refused k) n c buffer = take (n * 4) buffer
 
 -- the same answer and count, and the sets afterwards read alike
-pub record AddedAlike (t t′ : Table) (a a′ : AddedTo) : Type 0 where
+pub record AddedAlike (t t′ : Table) (n : ℕ) (c c′ : List ℕ) (a a′ : AddedTo) : Type 0 where
   pub answer : a .answer ≡ a′ .answer
-  pub records : ReadAlike t t′ (frontAdded (a .answer) (a .buffer)) (frontAdded (a′ .answer) (a′ .buffer))
+  pub records : ReadAlike t t′ (frontAdded (a .answer) n c (a .buffer)) (frontAdded (a′ .answer) n c′ (a′ .buffer))
 
 -- buffers of the same lengths are lent
 pub record LentAlike (result result′ work work′ : List ℕ) : Type 0 where
@@ -201,7 +206,7 @@ pub record CallsAlike (pool table pool′ table′ : List ℕ) : Type 0 where
   pub replaceSet : (ws ws′ bs bs′ result result′ work work′ : List ℕ) → ReadAlike (tableOf pool table) (tableOf pool′ table′) ws ws′ → ReadAlike (tableOf pool table) (tableOf pool′ table′) bs bs′ → LentAlike result result′ work work′
     → WrittenAlike (tableOf pool table) (tableOf pool′ table′) (replaceSetCall pool table ws bs result work) (replaceSetCall pool′ table′ ws′ bs′ result′ work′)
   pub add : (buffer buffer′ : List ℕ) (n : ℕ) (c c′ : List ℕ) → ReadAlike (tableOf pool table) (tableOf pool′ table′) (take (n * 4) buffer) (take (n * 4) buffer′) → ReadAlike (tableOf pool table) (tableOf pool′ table′) c c′ → length buffer ≡ length buffer′
-    → AddedAlike (tableOf pool table) (tableOf pool′ table′) (addCall pool table buffer n c) (addCall pool′ table′ buffer′ n c′)
+    → AddedAlike (tableOf pool table) (tableOf pool′ table′) n c c′ (addCall pool table buffer n c) (addCall pool′ table′ buffer′ n c′)
   pub solve : (ws ws′ result result′ work work′ : List ℕ) → ReadAlike (tableOf pool table) (tableOf pool′ table′) ws ws′ → LentAlike result result′ work work′
     → SolvedAlike (tableOf pool table) (tableOf pool′ table′) (solveCall pool table ws result work) (solveCall pool′ table′ ws′ result′ work′)
   pub quantify : (ws ws′ bs bs′ ns ns′ result result′ work work′ : List ℕ) → ReadAlike (tableOf pool table) (tableOf pool′ table′) ws ws′ → ReadAlike (tableOf pool table) (tableOf pool′ table′) bs bs′ → NumbersAlike (tableOf pool table) (tableOf pool′ table′) ns ns′ → LentAlike result result′ work work′
