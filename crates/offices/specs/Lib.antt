@@ -21,3 +21,5 @@ pub mod Queries
 pub mod Results
 pub mod Changes
 pub mod Solves
+pub mod Adds
+pub mod Judges

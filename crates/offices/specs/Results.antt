@@ -15,7 +15,7 @@ use Rattle.offices.specs.Reading.{seen}
 use Rattle.offices.specs.ReadSchemes.{same-length}
 use Rattle.offices.specs.Writing.{words-alike}
 
-take-front : (ws rest : List ℕ) → take (length ws) (ws ++ rest) ≡ ws
+pub take-front : (ws rest : List ℕ) → take (length ws) (ws ++ rest) ≡ ws
 take-front [] rest = refl
 take-front (w ∷ ws) rest = ap (λ (l : List ℕ). w ∷ l) (take-front ws rest)
 

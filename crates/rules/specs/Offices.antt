@@ -1,17 +1,18 @@
 -- Document 02, W-207: a second office on the same names. Lists with names in place of numbers, and what each office enters.
 -- Assumes nothing.
 use mathlib.Core.Path.{_≡_}
-use mathlib.Core.Bool.{Bool, true, false, _&&_, _||_}
+use mathlib.Core.Bool.{Bool, true, false, not, _&&_, _||_}
 use mathlib.Core.List.{List, [], _∷_, map}
 use mathlib.Core.Option.{Option, none, some}
 use Prim.Native.Nat.{ℕ, _+_, _*_}
 use native.Mathlib.Decide.{ℕ-discrete}
-use lib.Dec.{eqb}
+use lib.Dec.{eqb, ltb}
 use lib.ListN.{length, take, getD}
-use Rattle.rules.specs.Base.{Got, got, refused, list-dec, any}
+use Rattle.rules.specs.Base.{Got, got, refused, list-dec, any, all, collect}
 use Rattle.rules.specs.Trees.{Open, var, quant, par, Atom, free, base, Factor, _↑_, Product, Ty, opened, basic, dim, fn, struct, list, Tys, nil, cons, Fields, noFields, field, Con, equal, isDim, isScalar, hasField, Binding, _≔_, Names}
-use Rattle.rules.specs.Names.{Bytes, orderBytes, Table, tableOf, namesOf, isHeld}
+use Rattle.rules.specs.Names.{Bytes, orderBytes, Table, tableOf, namesOf, isHeld, enter}
 use Rattle.rules.specs.Schemes.{Scheme, concrete, scheme}
+use Rattle.rules.specs.Writing.{Rec, rec, words}
 use Rattle.rules.specs.Adding.{Added, satisfied, violated, unknown}
 use Rattle.rules.specs.Solving.{Answer, accepted, remaining, stopped}
 use Rattle.rules.specs.Calls.{Written, Listed, Solved, solved, unsolved, refusedAfter, Solution, AddedTo, Entry, setCall, typeCall, schemeCall, bindingsCall, containsCall, closedCall, variablesCall, replaceTypeCall, replaceSetCall, addCall, solveCall, quantifyCall, generaliseCall, instantiateCall, judgeCall}
@@ -191,29 +192,142 @@ pub record EntriesAlike (t t′ : Table) (es es′ : List Entry) : Type 0 where
   pub places : map (λ e. e .place) es ≡ map (λ e. e .place) es′
 
 -- the promise for two lendings of pool and table: lists that read alike are answered alike, by every call
-pub record CallsAlike (pool table pool′ table′ : List ℕ) : Type 0 where
-  pub set : (ws ws′ : List ℕ) → ReadAlike (tableOf pool table) (tableOf pool′ table′) ws ws′ → setCall pool table ws ≡ setCall pool′ table′ ws′
-  pub type : (ws ws′ : List ℕ) → ReadAlike (tableOf pool table) (tableOf pool′ table′) ws ws′ → typeCall pool table ws ≡ typeCall pool′ table′ ws′
-  pub scheme : (ws ws′ : List ℕ) → ReadAlike (tableOf pool table) (tableOf pool′ table′) ws ws′ → schemeCall pool table ws ≡ schemeCall pool′ table′ ws′
-  pub bindings : (ws ws′ : List ℕ) → ReadAlike (tableOf pool table) (tableOf pool′ table′) ws ws′ → bindingsCall pool table ws ≡ bindingsCall pool′ table′ ws′
-  pub contains : (ws ws′ : List ℕ) (x x′ : ℕ) (b : Bool) → ReadAlike (tableOf pool table) (tableOf pool′ table′) ws ws′ → nameNo (tableOf pool table) x ≡ nameNo (tableOf pool′ table′) x′
-    → containsCall pool table ws x b ≡ containsCall pool′ table′ ws′ x′ b
-  pub closed : (ws ws′ : List ℕ) → ReadAlike (tableOf pool table) (tableOf pool′ table′) ws ws′ → closedCall pool table ws ≡ closedCall pool′ table′ ws′
-  pub variables : (ws ws′ : List ℕ) (b : Bool) (result result′ : List ℕ) → ReadAlike (tableOf pool table) (tableOf pool′ table′) ws ws′ → length result ≡ length result′
-    → ListedAlike (tableOf pool table) (tableOf pool′ table′) (variablesCall pool table ws b result) (variablesCall pool′ table′ ws′ b result′)
-  pub replaceType : (ws ws′ bs bs′ result result′ work work′ : List ℕ) → ReadAlike (tableOf pool table) (tableOf pool′ table′) ws ws′ → ReadAlike (tableOf pool table) (tableOf pool′ table′) bs bs′ → LentAlike result result′ work work′
-    → WrittenAlike (tableOf pool table) (tableOf pool′ table′) (replaceTypeCall pool table ws bs result work) (replaceTypeCall pool′ table′ ws′ bs′ result′ work′)
-  pub replaceSet : (ws ws′ bs bs′ result result′ work work′ : List ℕ) → ReadAlike (tableOf pool table) (tableOf pool′ table′) ws ws′ → ReadAlike (tableOf pool table) (tableOf pool′ table′) bs bs′ → LentAlike result result′ work work′
-    → WrittenAlike (tableOf pool table) (tableOf pool′ table′) (replaceSetCall pool table ws bs result work) (replaceSetCall pool′ table′ ws′ bs′ result′ work′)
-  pub add : (buffer buffer′ : List ℕ) (n : ℕ) (c c′ : List ℕ) → ReadAlike (tableOf pool table) (tableOf pool′ table′) (take (n * 4) buffer) (take (n * 4) buffer′) → ReadAlike (tableOf pool table) (tableOf pool′ table′) c c′ → length buffer ≡ length buffer′
-    → AddedAlike (tableOf pool table) (tableOf pool′ table′) n c c′ (addCall pool table buffer n c) (addCall pool′ table′ buffer′ n c′)
-  pub solve : (ws ws′ result result′ work work′ : List ℕ) → ReadAlike (tableOf pool table) (tableOf pool′ table′) ws ws′ → LentAlike result result′ work work′
-    → SolvedAlike (tableOf pool table) (tableOf pool′ table′) (solveCall pool table ws result work) (solveCall pool′ table′ ws′ result′ work′)
-  pub quantify : (ws ws′ bs bs′ ns ns′ result result′ work work′ : List ℕ) → ReadAlike (tableOf pool table) (tableOf pool′ table′) ws ws′ → ReadAlike (tableOf pool table) (tableOf pool′ table′) bs bs′ → NumbersAlike (tableOf pool table) (tableOf pool′ table′) ns ns′ → LentAlike result result′ work work′
-    → WrittenAlike (tableOf pool table) (tableOf pool′ table′) (quantifyCall pool table ws bs ns result work) (quantifyCall pool′ table′ ws′ bs′ ns′ result′ work′)
-  pub generalise : (ws ws′ bs bs′ result result′ work work′ : List ℕ) → ReadAlike (tableOf pool table) (tableOf pool′ table′) ws ws′ → ReadAlike (tableOf pool table) (tableOf pool′ table′) bs bs′ → LentAlike result result′ work work′
-    → WrittenAlike (tableOf pool table) (tableOf pool′ table′) (generaliseCall pool table ws bs result work) (generaliseCall pool′ table′ ws′ bs′ result′ work′)
-  pub instantiate : (ws ws′ ns ns′ result result′ work work′ : List ℕ) → ReadAlike (tableOf pool table) (tableOf pool′ table′) ws ws′ → NumbersAlike (tableOf pool table) (tableOf pool′ table′) ns ns′ → LentAlike result result′ work work′
-    → WrittenAlike (tableOf pool table) (tableOf pool′ table′) (instantiateCall pool table ws ns result work) (instantiateCall pool′ table′ ws′ ns′ result′ work′)
-  pub judge : (ws ws′ : List ℕ) (es es′ : List Entry) (ts ts′ bs bs′ work work′ : List ℕ) → ReadAlike (tableOf pool table) (tableOf pool′ table′) ws ws′ → EntriesAlike (tableOf pool table) (tableOf pool′ table′) es es′ → ReadAlike (tableOf pool table) (tableOf pool′ table′) ts ts′ → ReadAlike (tableOf pool table) (tableOf pool′ table′) bs bs′ → length work ≡ length work′
-    → judgeCall pool table ws es ts bs work .answer ≡ judgeCall pool′ table′ ws′ es′ ts′ bs′ work′ .answer
+module _ (pool table pool′ table′ : List ℕ) where
+  abbrev pub Lists : List ℕ → List ℕ → Type 0
+  Lists = ReadAlike (tableOf pool table) (tableOf pool′ table′)
+
+  abbrev pub Numbers : List ℕ → List ℕ → Type 0
+  Numbers = NumbersAlike (tableOf pool table) (tableOf pool′ table′)
+
+  abbrev pub Writes : Written → Written → Type 0
+  Writes = WrittenAlike (tableOf pool table) (tableOf pool′ table′)
+
+  pub record CallsAlike : Type 0 where
+    -- is a list well formed
+    pub set : (ws ws′ : List ℕ) → Lists ws ws′ → setCall pool table ws ≡ setCall pool′ table′ ws′
+    pub type : (ws ws′ : List ℕ) → Lists ws ws′ → typeCall pool table ws ≡ typeCall pool′ table′ ws′
+    pub scheme : (ws ws′ : List ℕ) → Lists ws ws′ → schemeCall pool table ws ≡ schemeCall pool′ table′ ws′
+    pub bindings : (ws ws′ : List ℕ) → Lists ws ws′ → bindingsCall pool table ws ≡ bindingsCall pool′ table′ ws′
+    -- contains, closed, variables
+    pub contains : (ws ws′ : List ℕ) (x x′ : ℕ) (b : Bool) → Lists ws ws′ → nameNo (tableOf pool table) x ≡ nameNo (tableOf pool′ table′) x′
+      → containsCall pool table ws x b ≡ containsCall pool′ table′ ws′ x′ b
+    pub closed : (ws ws′ : List ℕ) → Lists ws ws′ → closedCall pool table ws ≡ closedCall pool′ table′ ws′
+    pub variables : (ws ws′ : List ℕ) (b : Bool) (result result′ : List ℕ) → Lists ws ws′ → length result ≡ length result′
+      → ListedAlike (tableOf pool table) (tableOf pool′ table′) (variablesCall pool table ws b result) (variablesCall pool′ table′ ws′ b result′)
+    -- replacing
+    pub replaceType : (ws ws′ bs bs′ result result′ work work′ : List ℕ) → Lists ws ws′ → Lists bs bs′ → LentAlike result result′ work work′
+      → Writes (replaceTypeCall pool table ws bs result work) (replaceTypeCall pool′ table′ ws′ bs′ result′ work′)
+    pub replaceSet : (ws ws′ bs bs′ result result′ work work′ : List ℕ) → Lists ws ws′ → Lists bs bs′ → LentAlike result result′ work work′
+      → Writes (replaceSetCall pool table ws bs result work) (replaceSetCall pool′ table′ ws′ bs′ result′ work′)
+    -- adding and solving
+    pub add : (buffer buffer′ : List ℕ) (n : ℕ) (c c′ : List ℕ) → Lists (take (n * 4) buffer) (take (n * 4) buffer′) → Lists c c′ → length buffer ≡ length buffer′
+      → AddedAlike (tableOf pool table) (tableOf pool′ table′) n c c′ (addCall pool table buffer n c) (addCall pool′ table′ buffer′ n c′)
+    pub solve : (ws ws′ result result′ work work′ : List ℕ) → Lists ws ws′ → LentAlike result result′ work work′
+      → SolvedAlike (tableOf pool table) (tableOf pool′ table′) (solveCall pool table ws result work) (solveCall pool′ table′ ws′ result′ work′)
+    -- schemes
+    pub quantify : (ws ws′ bs bs′ ns ns′ result result′ work work′ : List ℕ) → Lists ws ws′ → Lists bs bs′ → Numbers ns ns′ → LentAlike result result′ work work′
+      → Writes (quantifyCall pool table ws bs ns result work) (quantifyCall pool′ table′ ws′ bs′ ns′ result′ work′)
+    pub generalise : (ws ws′ bs bs′ result result′ work work′ : List ℕ) → Lists ws ws′ → Lists bs bs′ → LentAlike result result′ work work′
+      → Writes (generaliseCall pool table ws bs result work) (generaliseCall pool′ table′ ws′ bs′ result′ work′)
+    pub instantiate : (ws ws′ ns ns′ result result′ work work′ : List ℕ) → Lists ws ws′ → Numbers ns ns′ → LentAlike result result′ work work′
+      → Writes (instantiateCall pool table ws ns result work) (instantiateCall pool′ table′ ws′ ns′ result′ work′)
+    -- the judge
+    pub judge : (ws ws′ : List ℕ) (es es′ : List Entry) (ts ts′ bs bs′ work work′ : List ℕ)
+      → Lists ws ws′ → EntriesAlike (tableOf pool table) (tableOf pool′ table′) es es′ → Lists ts ts′ → Lists bs bs′ → length work ≡ length work′
+      → judgeCall pool table ws es ts bs work .answer ≡ judgeCall pool′ table′ ws′ es′ ts′ bs′ work′ .answer
+
+-- ══ Two offices ══
+
+pub data Office : Type 0 where
+  here there : Office
+
+abbrev pub sameOffice : Office → Office → Bool
+sameOffice here here = true
+sameOffice here there = false
+sameOffice there here = false
+sameOffice there there = true
+
+-- an office enters a name
+pub record Entering : Type 0 where
+  pub by : Office
+  pub name : Bytes
+
+-- the pool and the table that both offices are lent
+pub record Shared : Type 0 where
+  pub pool : List ℕ
+  pub table : List ℕ
+
+abbrev pub tableIn : Shared → Table
+tableIn s = tableOf (s .pool) (s .table)
+
+-- after an entry, and after a history: entries in the order in which they were made, by either office
+unfoldable pub entered : Shared → Bytes → Shared
+entered s n = record { pool = enter (s .pool) (s .table) n .pool; table = enter (s .pool) (s .table) n .table }
+
+unfoldable pub afterAll : Shared → List Entering → Shared
+afterAll s [] = s
+afterAll s (e ∷ es) = afterAll (entered s (e .name)) es
+
+-- the names that an office entered, in turn
+unfoldable pub namesBy : Office → List Entering → List Bytes
+namesBy o [] = []
+namesBy o (e ∷ es) = elim (sameOffice o (e .by)) [ true ↦ e .name ∷ namesBy o es | false ↦ namesBy o es ]
+
+-- what it was answered, in turn
+unfoldable pub answersTo : Office → Shared → List Entering → List (Got ℕ)
+answersTo o s [] = []
+answersTo o s (e ∷ es) = elim (sameOffice o (e .by)) [
+  | true ↦ enter (s .pool) (s .table) (e .name) .answer ∷ answersTo o (entered s (e .name)) es
+  | false ↦ answersTo o (entered s (e .name)) es
+]
+
+-- it met no 3
+abbrev pub noThree : Got ℕ → Bool
+noThree (got n) = true
+noThree (refused k) = not (eqb k 3)
+
+unfoldable pub hadRoom : List (Got ℕ) → Bool
+hadRoom as′ = all noThree as′
+
+-- the numbers that it was given, in turn
+abbrev pub numberIn : Got ℕ → List ℕ
+numberIn (got n) = n ∷ []
+numberIn (refused k) = []
+
+unfoldable pub given : List (Got ℕ) → List ℕ
+given as′ = collect numberIn as′
+
+-- a list that an office writes with its numbers: where a draft has 0, 1, .. at the place of a name, it writes the first, second, .. number that it
+-- was given. All other words it writes as it likes
+unfoldable pub fill : List ℕ → Rec → Rec
+fill ns (rec k a b c) = elim (namesOne k b) [ true ↦ rec k (getD ns a 0) b c | false ↦ rec k a b c ]
+
+unfoldable pub written : List ℕ → List Rec → List ℕ
+written ns draft = words (map (fill ns) draft)
+
+-- a draft that names only the first n numbers
+unfoldable pub ownRec : ℕ → Rec → Bool
+ownRec n (rec k a b c) = elim (namesOne k b) [ true ↦ ltb a n | false ↦ true ]
+
+unfoldable pub own : ℕ → List Rec → Bool
+own n draft = all (ownRec n) draft
+
+-- what an office may rely on, after each of two histories, whatever the other office entered and met in them
+module _ (o : Office) (s s′ : Shared) (es es′ : List Entering) where
+  abbrev pub T : Table
+  T = tableIn (afterAll s es)
+
+  abbrev pub T′ : Table
+  T′ = tableIn (afterAll s′ es′)
+
+  pub record Unmoved : Type 0 where
+    -- at each of its entries it met the same refusal, or a number of the same name
+    pub answers : map (mapGot (nameNo T)) (answersTo o s es) ≡ map (mapGot (nameNo T′)) (answersTo o s′ es′)
+    -- a list that it writes with its numbers reads alike,
+    pub lists : (draft : List Rec) → own (length (given (answersTo o s es))) draft ≡ true
+      → ReadAlike T T′ (written (given (answersTo o s es)) draft) (written (given (answersTo o s′ es′)) draft)
+    -- and so do its numbers handed beside lists
+    pub numbers : (is : List ℕ) → all (λ i. ltb i (length (given (answersTo o s es)))) is ≡ true
+      → NumbersAlike T T′ (map (λ i. getD (given (answersTo o s es)) i 0) is) (map (λ i. getD (given (answersTo o s′ es′)) i 0) is)
+    -- and every call answers them alike
+    pub calls : CallsAlike (afterAll s es .pool) (afterAll s es .table) (afterAll s′ es′ .pool) (afterAll s′ es′ .table)

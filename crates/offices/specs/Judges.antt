@@ -1,0 +1,109 @@
+-- The judge: sets, entries and bounds that read alike get the same verdict.
+-- Assumes nothing.
+use mathlib.Core.Path.{_≡_, refl, ap, ap₂, sym, _∙_}
+use mathlib.Core.Bool.{Bool, true, false, not, _&&_}
+use mathlib.Core.Option.{Option, none, some}
+use mathlib.Core.List.{List, [], _∷_, _++_, map}
+use Prim.Native.Nat.{ℕ, zero, suc}
+use native.Mathlib.Omega.{arith}
+use lib.Dec.{eqb}
+use lib.ListN.{length, length-map, drop}
+use Rattle.rules.specs.Base.{Got, got, refused, _>>=_, _>>_, need, orRefuse, bounded, andThen, any, each, collect}
+use Rattle.rules.specs.Trees.{Ty, Con, Binding, _≔_, opensCon}
+use Rattle.rules.specs.Names.{Table, tableOf, namesOf, numbersOf, isHeld, lentTable}
+use Rattle.rules.specs.Contents.{among}
+use Rattle.rules.specs.Writing.{Rec, wordOf}
+use Rattle.rules.specs.Reading.{records, readTy}
+use Rattle.rules.specs.WellFormed.{goodTy, rising}
+use Rattle.rules.specs.Judging.{judge}
+use Rattle.rules.specs.Calls.{lentWork, shortLists, shortNumbers, tableKept, boundsGiven, numbersGiven, apart, opensBinding, Entry, differ, typeAt, bindingOf, entriesGiven, risingBounds, judgedSet, judgeCall}
+use Rattle.rules.specs.Offices.{Name, byBytes, nameNo, mapTy, mapCon, mapBinding, mapOption, ReadAlike, NumbersAlike, EntriesAlike}
+use Rattle.laws.specs.Contents.{same-eqb}
+use Rattle.laws.specs.NameTable.{Good}
+use Rattle.offices.specs.Both.{Both, hence, alike, there, needed, same-both, equal-answers, checked, two-checks}
+use Rattle.offices.specs.Contents.{among-map}
+use Rattle.offices.specs.WellFormed.{rising-map, good-ty}
+use Rattle.offices.specs.Judging.{judge-map}
+use Rattle.offices.specs.Naming.{isNamed, held-named, keeps}
+use Rattle.offices.specs.Reading.{Seen, seen, records-alike, Cases, neither, both, cases, ty-agree}
+use Rattle.offices.specs.Given.{Alike, ν, ν′, as-long, as-many, short, few, kept-alike, lent-table, lent-work, set-given, names-given, numbers-given, apart-alike, set-opens, binding-opens, joined}
+
+dropped : (t : Table) (i : ℕ) (rs : List Rec) → map (seen t) (drop i rs) ≡ drop i (map (seen t) rs)
+dropped t zero rs = refl
+dropped t (suc i) [] = refl
+dropped t (suc i) (r ∷ rs) = dropped t i rs
+
+-- no name twice, over names themselves
+differNamed : List Name → Bool
+differNamed [] = true
+differNamed (x ∷ xs) = not (among byBytes x xs) && differNamed xs
+
+differ-map : {pool table : List ℕ} (good : Good pool table) (ns : List ℕ) → differNamed (map (nameNo (tableOf pool table)) ns) ≡ differ ns
+unfolding differ differNamed
+differ-map good [] = refl
+differ-map {pool} {table} good (n ∷ ns) = rw (among-map _ byBytes (nameNo (tableOf pool table)) (keeps good) n ns, same-eqb (namesOf (tableOf pool table)) n ns, differ-map good ns)
+
+module _ {pool table pool′ table′ : List ℕ} (good : Good pool table) (good′ : Good pool′ table′) where
+  first-alike : (rs rs′ : List Rec) → map (seen (tableOf pool table)) rs ≡ map (seen (tableOf pool′ table′)) rs′
+    → mapOption (mapTy (ν good good′)) (andThen (readTy 64 rs) (λ r. some (r .0))) ≡ mapOption (mapTy (ν′ good good′)) (andThen (readTy 64 rs′) (λ r. some (r .0)))
+  first-alike rs rs′ e = go (cases (tableOf pool table) (tableOf pool′ table′) _ _ (readTy 64 rs) (readTy 64 rs′) (ty-agree (tableOf pool table) (tableOf pool′ table′) 64 .agree rs rs′ e .is))
+    where
+      go : {x x′ : Option (Ty ℕ × List Rec)} → Cases (tableOf pool table) (tableOf pool′ table′) (mapTy (ν good good′)) (mapTy (ν′ good good′)) x x′ → mapOption (mapTy (ν good good′)) (andThen x (λ r. some (r .0))) ≡ mapOption (mapTy (ν′ good good′)) (andThen x′ (λ r. some (r .0)))
+      go neither = refl
+      go (both v v′ i j) = ap some i
+
+  type-at : (rs rs′ : List Rec) (i : ℕ) → map (seen (tableOf pool table)) rs ≡ map (seen (tableOf pool′ table′)) rs′ → Both (mapTy (ν good good′)) (mapTy (ν′ good good′)) (typeAt (tableOf pool table) rs i) (typeAt (tableOf pool′ table′) rs′ i)
+  unfolding typeAt
+  type-at rs rs′ i e =
+      hence (there 1 (andThen (readTy 64 (drop i rs)) (λ r. some (r .0))) (andThen (readTy 64 (drop i rs′)) (λ r. some (r .0))) (first-alike (drop i rs) (drop i rs′) (dropped (tableOf pool table) i rs ∙ ap (drop i) e ∙ sym (dropped (tableOf pool′ table′) i rs′)))) (λ u u′ j.
+      hence (needed 1 (sym (good-ty _ byBytes (ν good good′) (keeps good) _ isNamed (held-named (tableOf pool table)) 0 u) ∙ ap (goodTy byBytes isNamed 0) j ∙ good-ty _ byBytes (ν′ good good′) (keeps good′) _ isNamed (held-named (tableOf pool′ table′)) 0 u′)) (λ x y l. alike j))
+
+  binding-of : (rs rs′ : List Rec) (e e′ : Entry) → map (seen (tableOf pool table)) rs ≡ map (seen (tableOf pool′ table′)) rs′ → ν good good′ (e .variable) ≡ ν′ good good′ (e′ .variable) → e .place ≡ e′ .place
+    → Both (mapBinding (ν good good′)) (mapBinding (ν′ good good′)) (bindingOf (tableOf pool table) rs e) (bindingOf (tableOf pool′ table′) rs′ e′)
+  unfolding bindingOf mapBinding
+  binding-of rs rs′ e e′ h i p =
+      checked (numbers-given good good′ (e .variable ∷ []) (e′ .variable ∷ []) (rw i))
+      (rw p (hence (type-at rs rs′ (e′ .place) h) (λ u u′ j. alike (rw (i, j)))))
+
+  all-bindings : (rs rs′ : List Rec) → map (seen (tableOf pool table)) rs ≡ map (seen (tableOf pool′ table′)) rs′ → (es es′ : List Entry) → map (ν good good′) (map (λ e. e .variable) es) ≡ map (ν′ good good′) (map (λ e. e .variable) es′) → map (λ e. e .place) es ≡ map (λ e. e .place) es′
+    → Both (map (mapBinding (ν good good′))) (map (mapBinding (ν′ good good′))) (each (bindingOf (tableOf pool table) rs) es) (each (bindingOf (tableOf pool′ table′) rs′) es′)
+  unfolding each
+  all-bindings rs rs′ h [] [] i p = alike refl
+  all-bindings rs rs′ h [] (e ∷ es) i p = absurd (let z : _≡_ {A = ℕ} 0 1 = cc in omega arith)
+  all-bindings rs rs′ h (e ∷ es) [] i p = absurd (let z : _≡_ {A = ℕ} 0 1 = cc in omega arith)
+  all-bindings rs rs′ h (e ∷ es) (e′ ∷ es′) i p =
+      hence (binding-of rs rs′ e e′ h (cc) (cc)) (λ b b′ j. hence (all-bindings rs rs′ h es es′ (cc) (cc)) (λ bs bs′ k. alike (rw (j, k))))
+
+  entries-given : (es es′ : List Entry) (ts ts′ : List ℕ) → EntriesAlike (tableOf pool table) (tableOf pool′ table′) es es′ → Alike good good′ ts ts′
+    → Both (map (mapBinding (ν good good′))) (map (mapBinding (ν′ good good′))) (entriesGiven (tableOf pool table) es ts) (entriesGiven (tableOf pool′ table′) es′ ts′)
+  unfolding entriesGiven
+  entries-given es es′ ts ts′ e f =
+      hence (there 1 (records ts) (records ts′) (records-alike (tableOf pool table) (tableOf pool′ table′) ts ts′ f)) (λ rs rs′ h.
+      hence (needed 1 (sym (differ-map good (map (λ e. e .variable) es)) ∙ ap differNamed (e .variables .names) ∙ differ-map good′ (map (λ e. e .variable) es′))) (λ x y l.
+      all-bindings rs rs′ h es es′ (e .variables .names) (e .places)))
+
+  rising-given : (bs bs′ : List ℕ) → Alike good good′ bs bs′ → Both (map (ν good good′)) (map (ν′ good good′)) (risingBounds (tableOf pool table) bs) (risingBounds (tableOf pool′ table′) bs′)
+  unfolding risingBounds
+  rising-given bs bs′ e =
+      hence (names-given good good′ bs bs′ e) (λ os os′ j.
+      hence (needed 1 (sym (rising-map (ν good good′) _ (byBytes .order) (keeps good .ordered) (map wordOf os)) ∙ ap (rising (byBytes .order)) j ∙ rising-map (ν′ good good′) _ (byBytes .order) (keeps good′ .ordered) (map wordOf os′))) (λ x y l. alike j))
+
+  judged : (bs bs′ : List (Binding ℕ)) (ns ns′ : List ℕ) (cs cs′ : List (Con ℕ)) → map (mapBinding (ν good good′)) bs ≡ map (mapBinding (ν′ good good′)) bs′ → map (ν good good′) ns ≡ map (ν′ good good′) ns′ → map (mapCon (ν good good′)) cs ≡ map (mapCon (ν′ good good′)) cs′
+    → judge (numbersOf (tableOf pool table)) bounded bs ns cs ≡ judge (numbersOf (tableOf pool′ table′)) bounded bs′ ns′ cs′
+  judged bs bs′ ns ns′ cs cs′ e f g = sym (judge-map _ byBytes (ν good good′) (keeps good) bounded bs ns cs) ∙ middle e f g ∙ judge-map _ byBytes (ν′ good good′) (keeps good′) bounded bs′ ns′ cs′
+    where
+      middle : {a a′ : List (Binding Name)} {b b′ : List Name} {c c′ : List (Con Name)} → a ≡ a′ → b ≡ b′ → c ≡ c′ → judge byBytes bounded a b c ≡ judge byBytes bounded a′ b′ c′
+      middle e f g = rw (e, f, g)
+
+  pub judge-alike : (ws ws′ : List ℕ) (es es′ : List Entry) (ts ts′ bs bs′ work work′ : List ℕ) → Alike good good′ ws ws′ → EntriesAlike (tableOf pool table) (tableOf pool′ table′) es es′ → Alike good good′ ts ts′ → Alike good good′ bs bs′ → length work ≡ length work′
+    → judgeCall pool table ws es ts bs work .answer ≡ judgeCall pool′ table′ ws′ es′ ts′ bs′ work′ .answer
+  unfolding judgeCall judgedSet
+  judge-alike ws ws′ es es′ ts ts′ bs bs′ work work′ e en f g r = equal-answers
+      (checked (two-checks (lent-table good good′) (lent-work work work′ r))
+      (checked (two-checks (short (ws ∷ ts ∷ bs ∷ []) (ws′ ∷ ts′ ∷ bs′ ∷ []) (rw (as-long e, as-long f, as-long g))) (few es es′ (sym (length-map es (λ e. e .place)) ∙ ap length (en .places) ∙ length-map es′ (λ e. e .place))))
+      (checked (kept-alike good good′)
+      (hence (set-given good good′ ws ws′ e) (λ cs cs′ i.
+      hence (entries-given es es′ ts ts′ en f) (λ xs xs′ j.
+      hence (rising-given bs bs′ g) (λ ns ns′ k.
+      checked (apart-alike good good′ _ _ (joined good good′ (collect opensCon cs) (collect opensCon cs′) (collect opensBinding xs) (collect opensBinding xs′) (set-opens good good′ cs cs′ i) (binding-opens good good′ xs xs′ j)))
+      (same-both (judged xs xs′ ns ns′ cs cs′ j k i)))))))))
