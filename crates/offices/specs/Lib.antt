@@ -23,3 +23,7 @@ pub mod Changes
 pub mod Solves
 pub mod Adds
 pub mod Judges
+pub mod Histories
+pub mod ByNames
+pub mod Offices
+pub mod Cases
