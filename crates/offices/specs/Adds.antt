@@ -70,12 +70,12 @@ module _ {pool table pool′ table′ : List ℕ} (good : Good pool table) (good
   stored-front buffer c n h = take-both (take (n * 4) buffer) c (drop (length c) (drop (n * 4) buffer)) (n * 4) (length-take-le (n * 4) buffer h)
 
   stored-alike : (buffer buffer′ : List ℕ) (n : ℕ) (c c′ : List ℕ) → Alike good good′ (take (n * 4) buffer) (take (n * 4) buffer′) → Alike good good′ c c′ → n * 4 ≤ length buffer → n * 4 ≤ length buffer′
-    → Alike good good′ (take (n * 4 + length c) (take (n * 4) buffer ++ over c (drop (n * 4) buffer))) (take (n * 4 + length c′) (take (n * 4) buffer′ ++ over c′ (drop (n * 4) buffer′)))
+      → Alike good good′ (take (n * 4 + length c) (take (n * 4) buffer ++ over c (drop (n * 4) buffer))) (take (n * 4 + length c′) (take (n * 4) buffer′ ++ over c′ (drop (n * 4) buffer′)))
   stored-alike buffer buffer′ n c c′ e f h h′ = rw (stored-front buffer c n h, stored-front buffer′ c′ n h′)
       (joined-alike (tableOf pool table) (tableOf pool′ table′) n (take (n * 4) buffer) (take (n * 4) buffer′) c c′ (length-take-le (n * 4) buffer h) (length-take-le (n * 4) buffer′ h′) e f)
 
   fronts : (buffer buffer′ : List ℕ) (n : ℕ) (c c′ : List ℕ) → Alike good good′ (take (n * 4) buffer) (take (n * 4) buffer′) → Alike good good′ c c′ → (a : Got (Added × ℕ)) → ((r : Added × ℕ) → a ≡ got r → (n * 4 ≤ length buffer) × (n * 4 ≤ length buffer′))
-    → Alike good good′ (frontAdded a n c (bufferAfter a (n * 4) c buffer)) (frontAdded a n c′ (bufferAfter a (n * 4) c′ buffer′))
+      → Alike good good′ (frontAdded a n c (bufferAfter a (n * 4) c buffer)) (frontAdded a n c′ (bufferAfter a (n * 4) c′ buffer′))
   unfolding bufferAfter
   fronts buffer buffer′ n c c′ e f (refused k) h = e
   fronts buffer buffer′ n c c′ e f (got r) h = go (r .0) (h r refl)
@@ -86,7 +86,7 @@ module _ {pool table pool′ table′ : List ℕ} (good : Good pool table) (good
       go unknown h = stored-alike buffer buffer′ n c c′ e f (h .0) (h .1)
 
   pub add-alike : (buffer buffer′ : List ℕ) (n : ℕ) (c c′ : List ℕ) → Alike good good′ (take (n * 4) buffer) (take (n * 4) buffer′) → Alike good good′ c c′ → length buffer ≡ length buffer′
-    → AddedAlike (tableOf pool table) (tableOf pool′ table′) n c c′ (addCall pool table buffer n c) (addCall pool′ table′ buffer′ n c′)
+      → AddedAlike (tableOf pool table) (tableOf pool′ table′) n c c′ (addCall pool table buffer n c) (addCall pool′ table′ buffer′ n c′)
   unfolding addCall
   add-alike buffer buffer′ n c c′ e f r =
       let s = answered buffer buffer′ n c c′ e f r in

@@ -45,11 +45,11 @@ module _ (pool table : List ℕ) (good : tableGiven pool table ≡ got tt) where
   variables-by-names = variables-map _ byBytes _ kept
 
   pub replace-type-by-names : (bs : List (Binding ℕ)) (u : Ty ℕ) → replaceTy byBytes bounded (bindings byBytes (map (mapBinding named) bs)) (mapTy named u)
-    ≡ mapGot (mapTy named) (replaceTy numbers bounded (bindings numbers bs) u)
+      ≡ mapGot (mapTy named) (replaceTy numbers bounded (bindings numbers bs) u)
   replace-type-by-names bs u = ty-map _ byBytes _ kept bounded _ _ (looks-map _ byBytes _ kept bs) u .is
 
   pub replace-set-by-names : (bs : List (Binding ℕ)) (cs : List (Con ℕ)) → each (replaceCon byBytes bounded (bindings byBytes (map (mapBinding named) bs))) (map (mapCon named) cs)
-    ≡ mapGot (map (mapCon named)) (each (replaceCon numbers bounded (bindings numbers bs)) cs)
+      ≡ mapGot (map (mapCon named)) (each (replaceCon numbers bounded (bindings numbers bs)) cs)
   replace-set-by-names bs cs = each-over _ _ _ _ (con-map _ byBytes _ kept bounded _ _ (looks-map _ byBytes _ kept bs)) cs .is
 
   pub add-by-names : (cs : List (Con ℕ)) (c : Con ℕ) → add byBytes (map (mapCon named) cs) (mapCon named c) ≡ mapGot (mapAdded named) (add numbers cs c)
@@ -62,7 +62,7 @@ module _ (pool table : List ℕ) (good : tableGiven pool table ≡ got tt) where
   solve-by-names = solve-map _ byBytes _ kept bounded
 
   pub quantify-by-names : (ns : List ℕ) (u : Ty ℕ) (os : List (Open ℕ)) → quantify byBytes bounded (map named ns) (mapTy named u) (map (mapOpen named) os)
-    ≡ mapGot (mapScheme named) (quantify numbers bounded ns u os)
+      ≡ mapGot (mapScheme named) (quantify numbers bounded ns u os)
   quantify-by-names ns u os = quantify-map _ byBytes _ kept bounded ns u os .is
 
   pub generalise-by-names : (ns : List ℕ) (s : Scheme ℕ) → generalise byBytes bounded (map named ns) (mapScheme named s) ≡ mapGot (mapScheme named) (generalise numbers bounded ns s)
@@ -72,7 +72,7 @@ module _ (pool table : List ℕ) (good : tableGiven pool table ≡ got tt) where
   instantiate-by-names ns s = instantiate-map _ byBytes _ kept bounded ns s .is
 
   pub judge-by-names : (bs : List (Binding ℕ)) (ns : List ℕ) (cs : List (Con ℕ)) → judge byBytes bounded (map (mapBinding named) bs) (map named ns) (map (mapCon named) cs)
-    ≡ judge numbers bounded bs ns cs
+      ≡ judge numbers bounded bs ns cs
   judge-by-names = judge-map _ byBytes _ kept bounded
 
   pub closed-by-names : (u : Ty ℕ) → closed (mapTy named u) ≡ closed u

@@ -29,14 +29,14 @@ use Rattle.offices.specs.Given.{Alike, ν, ν′, as-long, as-many, shor
 module _ {pool table pool′ table′ : List ℕ} (good : Good pool table) (good′ : Good pool′ table′) where
   -- a type or a set in which bindings are put in
   type-replaced : (u u′ : Ty ℕ) (bs bs′ : List (Binding ℕ)) → mapTy (ν good good′) u ≡ mapTy (ν′ good good′) u′ → map (mapBinding (ν good good′)) bs ≡ map (mapBinding (ν′ good good′)) bs′
-    → Both (mapTy (ν good good′)) (mapTy (ν′ good good′)) (replaceTy (numbersOf (tableOf pool table)) bounded (bindings (numbersOf (tableOf pool table)) bs) u) (replaceTy (numbersOf (tableOf pool′ table′)) bounded (bindings (numbersOf (tableOf pool′ table′)) bs′) u′)
+      → Both (mapTy (ν good good′)) (mapTy (ν′ good good′)) (replaceTy (numbersOf (tableOf pool table)) bounded (bindings (numbersOf (tableOf pool table)) bs) u) (replaceTy (numbersOf (tableOf pool′ table′)) bounded (bindings (numbersOf (tableOf pool′ table′)) bs′) u′)
   type-replaced u u′ bs bs′ e f = through
       (ty-map _ byBytes (ν good good′) (keeps good) bounded _ (bindings byBytes (map (mapBinding (ν good good′)) bs)) (looks-map _ byBytes (ν good good′) (keeps good) bs) u)
       (ty-map _ byBytes (ν′ good good′) (keeps good′) bounded _ (bindings byBytes (map (mapBinding (ν′ good good′)) bs′)) (looks-map _ byBytes (ν′ good good′) (keeps good′) bs′) u′)
       (ap₂ (λ (cs : List (Binding Name)) (v : Ty Name). replaceTy byBytes bounded (bindings byBytes cs) v) f e)
 
   set-replaced : (cs cs′ : List (Con ℕ)) (bs bs′ : List (Binding ℕ)) → map (mapCon (ν good good′)) cs ≡ map (mapCon (ν′ good good′)) cs′ → map (mapBinding (ν good good′)) bs ≡ map (mapBinding (ν′ good good′)) bs′
-    → Both (map (mapCon (ν good good′))) (map (mapCon (ν′ good good′))) (each (replaceCon (numbersOf (tableOf pool table)) bounded (bindings (numbersOf (tableOf pool table)) bs)) cs) (each (replaceCon (numbersOf (tableOf pool′ table′)) bounded (bindings (numbersOf (tableOf pool′ table′)) bs′)) cs′)
+      → Both (map (mapCon (ν good good′))) (map (mapCon (ν′ good good′))) (each (replaceCon (numbersOf (tableOf pool table)) bounded (bindings (numbersOf (tableOf pool table)) bs)) cs) (each (replaceCon (numbersOf (tableOf pool′ table′)) bounded (bindings (numbersOf (tableOf pool′ table′)) bs′)) cs′)
   set-replaced cs cs′ bs bs′ e f = through
       (each-over _ _ _ _ (con-map _ byBytes (ν good good′) (keeps good) bounded _ (bindings byBytes (map (mapBinding (ν good good′)) bs)) (looks-map _ byBytes (ν good good′) (keeps good) bs)) cs)
       (each-over _ _ _ _ (con-map _ byBytes (ν′ good good′) (keeps good′) bounded _ (bindings byBytes (map (mapBinding (ν′ good good′)) bs′)) (looks-map _ byBytes (ν′ good good′) (keeps good′) bs′)) cs′)
@@ -52,7 +52,7 @@ module _ {pool table pool′ table′ : List ℕ} (good : Good pool table) (good
   limited-set cs cs′ e = through (limited-map (ν good good′) bounded (record { cons = cs; binds = [] })) (limited-map (ν′ good good′) bounded (record { cons = cs′; binds = [] })) (ap (λ (ds : List (Con Name)). limited bounded (record { cons = ds; binds = [] })) e)
 
   pub replace-type : (ws ws′ bs bs′ result result′ work work′ : List ℕ) → Alike good good′ ws ws′ → Alike good good′ bs bs′ → LentAlike result result′ work work′
-    → WrittenAlike (tableOf pool table) (tableOf pool′ table′) (replaceTypeCall pool table ws bs result work) (replaceTypeCall pool′ table′ ws′ bs′ result′ work′)
+      → WrittenAlike (tableOf pool table) (tableOf pool′ table′) (replaceTypeCall pool table ws bs result work) (replaceTypeCall pool′ table′ ws′ bs′ result′ work′)
   unfolding replaceTypeCall replacedType
   replace-type ws ws′ bs bs′ result result′ work work′ e f r = rw (lent-alike good good′ result result′ work work′ r)
       (writing-alike (tableOf pool table) (tableOf pool′ table′) (lent pool′ table′ result′ work′) _ _ result result′ work work′
@@ -65,7 +65,7 @@ module _ {pool table pool′ table′ : List ℕ} (good : Good pool table) (good
       hence (sized-type v v′ k) (λ w w′ l. alike (type-written (tableOf pool table) (tableOf pool′ table′) w w′ l))))))))))
 
   pub replace-set : (ws ws′ bs bs′ result result′ work work′ : List ℕ) → Alike good good′ ws ws′ → Alike good good′ bs bs′ → LentAlike result result′ work work′
-    → WrittenAlike (tableOf pool table) (tableOf pool′ table′) (replaceSetCall pool table ws bs result work) (replaceSetCall pool′ table′ ws′ bs′ result′ work′)
+      → WrittenAlike (tableOf pool table) (tableOf pool′ table′) (replaceSetCall pool table ws bs result work) (replaceSetCall pool′ table′ ws′ bs′ result′ work′)
   unfolding replaceSetCall replacedSet
   replace-set ws ws′ bs bs′ result result′ work work′ e f r = rw (lent-alike good good′ result result′ work work′ r)
       (writing-alike (tableOf pool table) (tableOf pool′ table′) (lent pool′ table′ result′ work′) _ _ result result′ work work′
@@ -78,7 +78,7 @@ module _ {pool table pool′ table′ : List ℕ} (good : Good pool table) (good
       hence (limited-set ds ds′ k) (λ s s′ l. alike (set-written (tableOf pool table) (tableOf pool′ table′) (s .cons) (s′ .cons) (ap (λ z. z .cons) l)))))))))))
 
   pub quantify-alike : (ws ws′ bs bs′ ns ns′ result result′ work work′ : List ℕ) → Alike good good′ ws ws′ → Alike good good′ bs bs′ → NumbersAlike (tableOf pool table) (tableOf pool′ table′) ns ns′ → LentAlike result result′ work work′
-    → WrittenAlike (tableOf pool table) (tableOf pool′ table′) (quantifyCall pool table ws bs ns result work) (quantifyCall pool′ table′ ws′ bs′ ns′ result′ work′)
+      → WrittenAlike (tableOf pool table) (tableOf pool′ table′) (quantifyCall pool table ws bs ns result work) (quantifyCall pool′ table′ ws′ bs′ ns′ result′ work′)
   unfolding quantifyCall quantified
   quantify-alike ws ws′ bs bs′ ns ns′ result result′ work work′ e f n r = rw (lent-alike good good′ result result′ work work′ r)
       (writing-alike (tableOf pool table) (tableOf pool′ table′) (lent pool′ table′ result′ work′) _ _ result result′ work work′
@@ -95,7 +95,7 @@ module _ {pool table pool′ table′ : List ℕ} (good : Good pool table) (good
       quantified-alike e f g = rw (e, f, g)
 
   pub generalise-alike : (ws ws′ bs bs′ result result′ work work′ : List ℕ) → Alike good good′ ws ws′ → Alike good good′ bs bs′ → LentAlike result result′ work work′
-    → WrittenAlike (tableOf pool table) (tableOf pool′ table′) (generaliseCall pool table ws bs result work) (generaliseCall pool′ table′ ws′ bs′ result′ work′)
+      → WrittenAlike (tableOf pool table) (tableOf pool′ table′) (generaliseCall pool table ws bs result work) (generaliseCall pool′ table′ ws′ bs′ result′ work′)
   unfolding generaliseCall generalised
   generalise-alike ws ws′ bs bs′ result result′ work work′ e f r = rw (lent-alike good good′ result result′ work work′ r)
       (writing-alike (tableOf pool table) (tableOf pool′ table′) (lent pool′ table′ result′ work′) _ _ result result′ work work′
@@ -108,7 +108,7 @@ module _ {pool table pool′ table′ : List ℕ} (good : Good pool table) (good
       alike (scheme-written (tableOf pool table) (tableOf pool′ table′) z z′ k)))))))))
 
   pub instantiate-alike : (ws ws′ ns ns′ result result′ work work′ : List ℕ) → Alike good good′ ws ws′ → NumbersAlike (tableOf pool table) (tableOf pool′ table′) ns ns′ → LentAlike result result′ work work′
-    → WrittenAlike (tableOf pool table) (tableOf pool′ table′) (instantiateCall pool table ws ns result work) (instantiateCall pool′ table′ ws′ ns′ result′ work′)
+      → WrittenAlike (tableOf pool table) (tableOf pool′ table′) (instantiateCall pool table ws ns result work) (instantiateCall pool′ table′ ws′ ns′ result′ work′)
   unfolding instantiateCall instantiated
   instantiate-alike ws ws′ ns ns′ result result′ work work′ e n r = rw (lent-alike good good′ result result′ work work′ r)
       (writing-alike (tableOf pool table) (tableOf pool′ table′) (lent pool′ table′ result′ work′) _ _ result result′ work work′

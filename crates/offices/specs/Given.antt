@@ -66,8 +66,10 @@ scheme-good : {pool table : List ℕ} (good : Good pool table) (s : Scheme ℕ) 
 unfolding goodNamed goodScheme mapScheme
 scheme-good {pool} {table} good (concrete u) = good-ty _ byBytes (nameNo (tableOf pool table)) (keeps good) _ isNamed (held-named (tableOf pool table)) 0 u
 scheme-good {pool} {table} good (scheme n u bs) =
-    rw (good-ty _ byBytes (nameNo (tableOf pool table)) (keeps good) _ isNamed (held-named (tableOf pool table)) n u,
-    all-map (mapOpen (nameNo (tableOf pool table))) (goodOpen (numbersOf (tableOf pool table)) (isHeld (tableOf pool table)) n) (goodOpen byBytes isNamed n) (good-open _ byBytes (nameNo (tableOf pool table)) (keeps good) _ isNamed (held-named (tableOf pool table)) n) bs)
+    rw (
+      good-ty _ byBytes (nameNo (tableOf pool table)) (keeps good) _ isNamed (held-named (tableOf pool table)) n u,
+      all-map (mapOpen (nameNo (tableOf pool table))) (goodOpen (numbersOf (tableOf pool table)) (isHeld (tableOf pool table)) n) (goodOpen byBytes isNamed n) (good-open _ byBytes (nameNo (tableOf pool table)) (keeps good) _ isNamed (held-named (tableOf pool table)) n) bs,
+    )
 
 opens-scheme : {N M : Type 0} (f : N → M) (s : Scheme N) → opensScheme (mapScheme f s) ≡ map (mapOpen f) (opensScheme s)
 unfolding opensScheme mapScheme

@@ -127,7 +127,7 @@ module _ (o : Office) (s : Shared) (e : Entering) (es : List Entering) where
   names-other h = rw (namesBy, h)
 
 one-more : (o : Office) (s : Shared) (e : Entering) (es : List Entering) → GoodIn s → sameOffice o (e .by) ≡ true → (hadRoom (answersTo o (entered s (e .name)) es) ≡ true → map (mapGot (nameNo (tableIn (afterAll (entered s (e .name)) es)))) (answersTo o (entered s (e .name)) es) ≡ map answerFor (namesBy o es))
-  → hadRoom (answersTo o s (e ∷ es)) ≡ true → map (mapGot (nameNo (tableIn (afterAll (entered s (e .name)) es)))) (answersTo o s (e ∷ es)) ≡ map answerFor (namesBy o (e ∷ es))
+    → hadRoom (answersTo o s (e ∷ es)) ≡ true → map (mapGot (nameNo (tableIn (afterAll (entered s (e .name)) es)))) (answersTo o s (e ∷ es)) ≡ map answerFor (namesBy o (e ∷ es))
 unfolding hadRoom all
 one-more o s e es g q r h =
     let a = enter (s .pool) (s .table) (e .name) .answer in
@@ -144,6 +144,6 @@ all-named o [] s g h = refl
 all-named o (e ∷ es) s g h = go (sameOffice o (e .by)) refl (all-named o es (entered s (e .name)) (grown-entry s g (e .name) .good))
   where
     go : (b : Bool) → sameOffice o (e .by) ≡ b → (hadRoom (answersTo o (entered s (e .name)) es) ≡ true → map (mapGot (nameNo (tableIn (afterAll (entered s (e .name)) es)))) (answersTo o (entered s (e .name)) es) ≡ map answerFor (namesBy o es))
-      → map (mapGot (nameNo (tableIn (afterAll (entered s (e .name)) es)))) (answersTo o s (e ∷ es)) ≡ map answerFor (namesBy o (e ∷ es))
+        → map (mapGot (nameNo (tableIn (afterAll (entered s (e .name)) es)))) (answersTo o s (e ∷ es)) ≡ map answerFor (namesBy o (e ∷ es))
     go false q r = rw (answers-other o s e es q, names-other o s e es q) (r (rw (answers-other o s e es q) at h))
     go true q r = one-more o s e es g q r h

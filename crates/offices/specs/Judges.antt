@@ -45,7 +45,7 @@ differ-map {pool} {table} good (n ∷ ns) = rw (among-map _ byBytes (nameNo (tab
 
 module _ {pool table pool′ table′ : List ℕ} (good : Good pool table) (good′ : Good pool′ table′) where
   first-alike : (rs rs′ : List Rec) → map (seen (tableOf pool table)) rs ≡ map (seen (tableOf pool′ table′)) rs′
-    → mapOption (mapTy (ν good good′)) (andThen (readTy 64 rs) (λ r. some (r .0))) ≡ mapOption (mapTy (ν′ good good′)) (andThen (readTy 64 rs′) (λ r. some (r .0)))
+      → mapOption (mapTy (ν good good′)) (andThen (readTy 64 rs) (λ r. some (r .0))) ≡ mapOption (mapTy (ν′ good good′)) (andThen (readTy 64 rs′) (λ r. some (r .0)))
   first-alike rs rs′ e = go (cases (tableOf pool table) (tableOf pool′ table′) _ _ (readTy 64 rs) (readTy 64 rs′) (ty-agree (tableOf pool table) (tableOf pool′ table′) 64 .agree rs rs′ e .is))
     where
       go : {x x′ : Option (Ty ℕ × List Rec)} → Cases (tableOf pool table) (tableOf pool′ table′) (mapTy (ν good good′)) (mapTy (ν′ good good′)) x x′ → mapOption (mapTy (ν good good′)) (andThen x (λ r. some (r .0))) ≡ mapOption (mapTy (ν′ good good′)) (andThen x′ (λ r. some (r .0)))
@@ -59,14 +59,14 @@ module _ {pool table pool′ table′ : List ℕ} (good : Good pool table) (good
       hence (needed 1 (sym (good-ty _ byBytes (ν good good′) (keeps good) _ isNamed (held-named (tableOf pool table)) 0 u) ∙ ap (goodTy byBytes isNamed 0) j ∙ good-ty _ byBytes (ν′ good good′) (keeps good′) _ isNamed (held-named (tableOf pool′ table′)) 0 u′)) (λ x y l. alike j))
 
   binding-of : (rs rs′ : List Rec) (e e′ : Entry) → map (seen (tableOf pool table)) rs ≡ map (seen (tableOf pool′ table′)) rs′ → ν good good′ (e .variable) ≡ ν′ good good′ (e′ .variable) → e .place ≡ e′ .place
-    → Both (mapBinding (ν good good′)) (mapBinding (ν′ good good′)) (bindingOf (tableOf pool table) rs e) (bindingOf (tableOf pool′ table′) rs′ e′)
+      → Both (mapBinding (ν good good′)) (mapBinding (ν′ good good′)) (bindingOf (tableOf pool table) rs e) (bindingOf (tableOf pool′ table′) rs′ e′)
   unfolding bindingOf mapBinding
   binding-of rs rs′ e e′ h i p =
       checked (numbers-given good good′ (e .variable ∷ []) (e′ .variable ∷ []) (rw i))
       (rw p (hence (type-at rs rs′ (e′ .place) h) (λ u u′ j. alike (rw (i, j)))))
 
   all-bindings : (rs rs′ : List Rec) → map (seen (tableOf pool table)) rs ≡ map (seen (tableOf pool′ table′)) rs′ → (es es′ : List Entry) → map (ν good good′) (map (λ e. e .variable) es) ≡ map (ν′ good good′) (map (λ e. e .variable) es′) → map (λ e. e .place) es ≡ map (λ e. e .place) es′
-    → Both (map (mapBinding (ν good good′))) (map (mapBinding (ν′ good good′))) (each (bindingOf (tableOf pool table) rs) es) (each (bindingOf (tableOf pool′ table′) rs′) es′)
+      → Both (map (mapBinding (ν good good′))) (map (mapBinding (ν′ good good′))) (each (bindingOf (tableOf pool table) rs) es) (each (bindingOf (tableOf pool′ table′) rs′) es′)
   unfolding each
   all-bindings rs rs′ h [] [] i p = alike refl
   all-bindings rs rs′ h [] (e ∷ es) i p = absurd (let z : _≡_ {A = ℕ} 0 1 = cc in omega arith)
@@ -75,7 +75,7 @@ module _ {pool table pool′ table′ : List ℕ} (good : Good pool table) (good
       hence (binding-of rs rs′ e e′ h (cc) (cc)) (λ b b′ j. hence (all-bindings rs rs′ h es es′ (cc) (cc)) (λ bs bs′ k. alike (rw (j, k))))
 
   entries-given : (es es′ : List Entry) (ts ts′ : List ℕ) → EntriesAlike (tableOf pool table) (tableOf pool′ table′) es es′ → Alike good good′ ts ts′
-    → Both (map (mapBinding (ν good good′))) (map (mapBinding (ν′ good good′))) (entriesGiven (tableOf pool table) es ts) (entriesGiven (tableOf pool′ table′) es′ ts′)
+      → Both (map (mapBinding (ν good good′))) (map (mapBinding (ν′ good good′))) (entriesGiven (tableOf pool table) es ts) (entriesGiven (tableOf pool′ table′) es′ ts′)
   unfolding entriesGiven
   entries-given es es′ ts ts′ e f =
       hence (there 1 (records ts) (records ts′) (records-alike (tableOf pool table) (tableOf pool′ table′) ts ts′ f)) (λ rs rs′ h.
@@ -89,14 +89,14 @@ module _ {pool table pool′ table′ : List ℕ} (good : Good pool table) (good
       hence (needed 1 (sym (rising-map (ν good good′) _ (byBytes .order) (keeps good .ordered) (map wordOf os)) ∙ ap (rising (byBytes .order)) j ∙ rising-map (ν′ good good′) _ (byBytes .order) (keeps good′ .ordered) (map wordOf os′))) (λ x y l. alike j))
 
   judged : (bs bs′ : List (Binding ℕ)) (ns ns′ : List ℕ) (cs cs′ : List (Con ℕ)) → map (mapBinding (ν good good′)) bs ≡ map (mapBinding (ν′ good good′)) bs′ → map (ν good good′) ns ≡ map (ν′ good good′) ns′ → map (mapCon (ν good good′)) cs ≡ map (mapCon (ν′ good good′)) cs′
-    → judge (numbersOf (tableOf pool table)) bounded bs ns cs ≡ judge (numbersOf (tableOf pool′ table′)) bounded bs′ ns′ cs′
+      → judge (numbersOf (tableOf pool table)) bounded bs ns cs ≡ judge (numbersOf (tableOf pool′ table′)) bounded bs′ ns′ cs′
   judged bs bs′ ns ns′ cs cs′ e f g = sym (judge-map _ byBytes (ν good good′) (keeps good) bounded bs ns cs) ∙ middle e f g ∙ judge-map _ byBytes (ν′ good good′) (keeps good′) bounded bs′ ns′ cs′
     where
       middle : {a a′ : List (Binding Name)} {b b′ : List Name} {c c′ : List (Con Name)} → a ≡ a′ → b ≡ b′ → c ≡ c′ → judge byBytes bounded a b c ≡ judge byBytes bounded a′ b′ c′
       middle e f g = rw (e, f, g)
 
   pub judge-alike : (ws ws′ : List ℕ) (es es′ : List Entry) (ts ts′ bs bs′ work work′ : List ℕ) → Alike good good′ ws ws′ → EntriesAlike (tableOf pool table) (tableOf pool′ table′) es es′ → Alike good good′ ts ts′ → Alike good good′ bs bs′ → length work ≡ length work′
-    → judgeCall pool table ws es ts bs work .answer ≡ judgeCall pool′ table′ ws′ es′ ts′ bs′ work′ .answer
+      → judgeCall pool table ws es ts bs work .answer ≡ judgeCall pool′ table′ ws′ es′ ts′ bs′ work′ .answer
   unfolding judgeCall judgedSet
   judge-alike ws ws′ es es′ ts ts′ bs bs′ work work′ e en f g r = equal-answers
       (checked (two-checks (lent-table good good′) (lent-work work work′ r))

@@ -92,7 +92,7 @@ module _ (t t′ : Table) (ns ns′ : List ℕ) (e : map (nameNo t) ns ≡ map (
 -- two histories in which an office entered the same names in the same order and met no 3, whatever the other office entered and met, and
 -- whatever was held before: what it was given has the same names, what it writes reads alike, and every call answers it alike
 pub unmoved : (o : Office) (s s′ : Shared) (es es′ : List Entering) → tableGiven (s .pool) (s .table) ≡ got tt → tableGiven (s′ .pool) (s′ .table) ≡ got tt
-  → namesBy o es ≡ namesBy o es′ → hadRoom (answersTo o s es) ≡ true → hadRoom (answersTo o s′ es′) ≡ true → Unmoved o s s′ es es′
+    → namesBy o es ≡ namesBy o es′ → hadRoom (answersTo o s es) ≡ true → hadRoom (answersTo o s′ es′) ≡ true → Unmoved o s s′ es es′
 unfolding written
 unmoved o s s′ es es′ g g′ same h h′ =
     let answers = all-named o es s (given-good g) h ∙ ap (map answerFor) same ∙ sym (all-named o es′ s′ (given-good g′) h′) in

@@ -105,4 +105,3 @@ module _ {N M : Type 0} (ν : Names N) (μ : Names M) (f : N → M) (keeps : Kee
     unfolding raise
     raise-map [] k = gives refl
     raise-map (a ↑ e ∷ p) k = next (same-over (times l e k)) (λ s s′ i. next (raise-map p k) (λ q q′ j. gives (rw (i, j) (put-map f a s q))))
-

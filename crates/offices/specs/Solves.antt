@@ -82,7 +82,7 @@ module _ {pool table pool′ table′ : List ℕ} (good : Good pool table) (good
   same (both a a′ e) = same-answers a a′ e
 
   pub solve-alike : (ws ws′ result result′ work work′ : List ℕ) → Alike good good′ ws ws′ → LentAlike result result′ work work′
-    → SolvedAlike (tableOf pool table) (tableOf pool′ table′) (solveCall pool table ws result work) (solveCall pool′ table′ ws′ result′ work′)
+      → SolvedAlike (tableOf pool table) (tableOf pool′ table′) (solveCall pool table ws result work) (solveCall pool′ table′ ws′ result′ work′)
   unfolding solveCall
   solve-alike ws ws′ result result′ work work′ e r =
       let s = same (pair _ _ (checked (lent-alike good good′ result result′ work work′ r) (solved-set ws ws′ e))) in

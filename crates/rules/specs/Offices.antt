@@ -210,31 +210,31 @@ module _ (pool table pool′ table′ : List ℕ) where
     pub bindings : (ws ws′ : List ℕ) → Lists ws ws′ → bindingsCall pool table ws ≡ bindingsCall pool′ table′ ws′
     -- contains, closed, variables
     pub contains : (ws ws′ : List ℕ) (x x′ : ℕ) (b : Bool) → Lists ws ws′ → nameNo (tableOf pool table) x ≡ nameNo (tableOf pool′ table′) x′
-      → containsCall pool table ws x b ≡ containsCall pool′ table′ ws′ x′ b
+        → containsCall pool table ws x b ≡ containsCall pool′ table′ ws′ x′ b
     pub closed : (ws ws′ : List ℕ) → Lists ws ws′ → closedCall pool table ws ≡ closedCall pool′ table′ ws′
     pub variables : (ws ws′ : List ℕ) (b : Bool) (result result′ : List ℕ) → Lists ws ws′ → length result ≡ length result′
-      → ListedAlike (tableOf pool table) (tableOf pool′ table′) (variablesCall pool table ws b result) (variablesCall pool′ table′ ws′ b result′)
+        → ListedAlike (tableOf pool table) (tableOf pool′ table′) (variablesCall pool table ws b result) (variablesCall pool′ table′ ws′ b result′)
     -- replacing
     pub replaceType : (ws ws′ bs bs′ result result′ work work′ : List ℕ) → Lists ws ws′ → Lists bs bs′ → LentAlike result result′ work work′
-      → Writes (replaceTypeCall pool table ws bs result work) (replaceTypeCall pool′ table′ ws′ bs′ result′ work′)
+        → Writes (replaceTypeCall pool table ws bs result work) (replaceTypeCall pool′ table′ ws′ bs′ result′ work′)
     pub replaceSet : (ws ws′ bs bs′ result result′ work work′ : List ℕ) → Lists ws ws′ → Lists bs bs′ → LentAlike result result′ work work′
-      → Writes (replaceSetCall pool table ws bs result work) (replaceSetCall pool′ table′ ws′ bs′ result′ work′)
+        → Writes (replaceSetCall pool table ws bs result work) (replaceSetCall pool′ table′ ws′ bs′ result′ work′)
     -- adding and solving
     pub add : (buffer buffer′ : List ℕ) (n : ℕ) (c c′ : List ℕ) → Lists (take (n * 4) buffer) (take (n * 4) buffer′) → Lists c c′ → length buffer ≡ length buffer′
-      → AddedAlike (tableOf pool table) (tableOf pool′ table′) n c c′ (addCall pool table buffer n c) (addCall pool′ table′ buffer′ n c′)
+        → AddedAlike (tableOf pool table) (tableOf pool′ table′) n c c′ (addCall pool table buffer n c) (addCall pool′ table′ buffer′ n c′)
     pub solve : (ws ws′ result result′ work work′ : List ℕ) → Lists ws ws′ → LentAlike result result′ work work′
-      → SolvedAlike (tableOf pool table) (tableOf pool′ table′) (solveCall pool table ws result work) (solveCall pool′ table′ ws′ result′ work′)
+        → SolvedAlike (tableOf pool table) (tableOf pool′ table′) (solveCall pool table ws result work) (solveCall pool′ table′ ws′ result′ work′)
     -- schemes
     pub quantify : (ws ws′ bs bs′ ns ns′ result result′ work work′ : List ℕ) → Lists ws ws′ → Lists bs bs′ → Numbers ns ns′ → LentAlike result result′ work work′
-      → Writes (quantifyCall pool table ws bs ns result work) (quantifyCall pool′ table′ ws′ bs′ ns′ result′ work′)
+        → Writes (quantifyCall pool table ws bs ns result work) (quantifyCall pool′ table′ ws′ bs′ ns′ result′ work′)
     pub generalise : (ws ws′ bs bs′ result result′ work work′ : List ℕ) → Lists ws ws′ → Lists bs bs′ → LentAlike result result′ work work′
-      → Writes (generaliseCall pool table ws bs result work) (generaliseCall pool′ table′ ws′ bs′ result′ work′)
+        → Writes (generaliseCall pool table ws bs result work) (generaliseCall pool′ table′ ws′ bs′ result′ work′)
     pub instantiate : (ws ws′ ns ns′ result result′ work work′ : List ℕ) → Lists ws ws′ → Numbers ns ns′ → LentAlike result result′ work work′
-      → Writes (instantiateCall pool table ws ns result work) (instantiateCall pool′ table′ ws′ ns′ result′ work′)
+        → Writes (instantiateCall pool table ws ns result work) (instantiateCall pool′ table′ ws′ ns′ result′ work′)
     -- the judge
     pub judge : (ws ws′ : List ℕ) (es es′ : List Entry) (ts ts′ bs bs′ work work′ : List ℕ)
-      → Lists ws ws′ → EntriesAlike (tableOf pool table) (tableOf pool′ table′) es es′ → Lists ts ts′ → Lists bs bs′ → length work ≡ length work′
-      → judgeCall pool table ws es ts bs work .answer ≡ judgeCall pool′ table′ ws′ es′ ts′ bs′ work′ .answer
+        → Lists ws ws′ → EntriesAlike (tableOf pool table) (tableOf pool′ table′) es es′ → Lists ts ts′ → Lists bs bs′ → length work ≡ length work′
+        → judgeCall pool table ws es ts bs work .answer ≡ judgeCall pool′ table′ ws′ es′ ts′ bs′ work′ .answer
 
 -- ══ Two offices ══
 
@@ -325,9 +325,9 @@ module _ (o : Office) (s s′ : Shared) (es es′ : List Entering) where
     pub answers : map (mapGot (nameNo T)) (answersTo o s es) ≡ map (mapGot (nameNo T′)) (answersTo o s′ es′)
     -- a list that it writes with its numbers reads alike,
     pub lists : (draft : List Rec) → own (length (given (answersTo o s es))) draft ≡ true
-      → ReadAlike T T′ (written (given (answersTo o s es)) draft) (written (given (answersTo o s′ es′)) draft)
+        → ReadAlike T T′ (written (given (answersTo o s es)) draft) (written (given (answersTo o s′ es′)) draft)
     -- and so do its numbers handed beside lists
     pub numbers : (is : List ℕ) → all (λ i. ltb i (length (given (answersTo o s es)))) is ≡ true
-      → NumbersAlike T T′ (map (λ i. getD (given (answersTo o s es)) i 0) is) (map (λ i. getD (given (answersTo o s′ es′)) i 0) is)
+        → NumbersAlike T T′ (map (λ i. getD (given (answersTo o s es)) i 0) is) (map (λ i. getD (given (answersTo o s′ es′)) i 0) is)
     -- and every call answers them alike
     pub calls : CallsAlike (afterAll s es .pool) (afterAll s es .table) (afterAll s′ es′ .pool) (afterAll s′ es′ .table)
