@@ -15,6 +15,10 @@ use Rattle.rules.specs.Names.{Bytes, orderBytes, numbered, Table, tableOf, name
 use Rattle.rules.specs.Offices.{Keeps, Name, named, stray, bytesIn, byBytes, nameIf, nameNo}
 use Rattle.laws.specs.NameTable.{Good, good-laid, good-distinct, length-names, held-is, distinct-same, search-any, search-found, search-none}
 
+-- numbers as the rules see them: told apart as numbers, in the order of their names' bytes
+abbrev pub numbers : List ℕ → List ℕ → Names ℕ
+numbers pool table = numbersOf (tableOf pool table)
+
 abbrev pub isNamed : Name → Bool
 isNamed (named n) = true
 isNamed (stray i) = false
@@ -67,6 +71,6 @@ module _ {pool table : List ℕ} (good : Good pool table) where
       go false e = sym (List·getD-eq-default (namesOf (tableOf pool table)) [] (past i e))
 
   -- numbers of a good table may be read as names
-  pub keeps : Keeps (numbersOf (tableOf pool table)) byBytes (nameNo (tableOf pool table))
+  pub keeps : Keeps (numbers pool table) byBytes (nameNo (tableOf pool table))
   unfolding byBytes numbered
   keeps = record { back = numberIn; returns = returns; ordered = λ a b. rw (bytes-are a, bytes-are b) }
