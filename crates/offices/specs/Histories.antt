@@ -9,10 +9,10 @@ use borrow.Author.Tests.{lt-ltb, ltb-true, leb-true}
 use lib.Dec.{eqb, leb, ltb}
 use lib.ListN.{length, length-append, getD, List·getD-append}
 use lib.Seq.{getD-at}
-use Rattle.rules.specs.Base.{Got, got, refused, _>>_, need, all, collect}
+use Rattle.rules.specs.Base.{Got, got, refused, all}
 use Rattle.rules.specs.Names.{Bytes, Table, tableOf, namesOf, isHeld, tableGiven, enterChecks, enterChecked, enterNew, enter, unchanged}
 use Rattle.rules.specs.Writing.{Rec, rec, words}
-use Rattle.rules.specs.Offices.{Name, named, nameIf, nameNo, mapGot, Office, sameOffice, Entering, Shared, tableIn, entered, afterAll, namesBy, answersTo, noThree, hadRoom, numberIn, given, fill, written, ownRec, own, namesOne, wordIf, ReadAlike, NumbersAlike}
+use Rattle.rules.specs.Offices.{Name, named, nameIf, nameNo, mapGot, Office, sameOffice, Entering, Shared, tableIn, entered, afterAll, namesBy, answersTo, answerFor, noThree, hadRoom, numberIn, given, fill, written, ownRec, own, namesOne, wordIf, ReadAlike, NumbersAlike}
 use Rattle.laws.specs.Lists.{and-left, and-right}
 use Rattle.laws.specs.NameTable.{Good, good-laid, good-given, length-names, held-is, new-is}
 use Rattle.laws.specs.Entering.{Enters, Case, stopped, known, full, new, enter-case, count-with, names-with, good-with, pass-checks, Passed}
@@ -56,10 +56,6 @@ pub good-after : (es : List Entering) (s : Shared) → GoodIn s → GoodIn (afte
 good-after es s g = grown-all es s g .good
 
 -- ══ One entry ══
-
--- what an entry that meets no 3 is answered: 2 for a name of no byte or of over 48, else a number of that name
-abbrev pub answerFor : Bytes → Got Name
-answerFor n = need (leb 1 (length n) && leb (length n) 48) 2 >> got (named n)
 
 data Stands (t : Table) : Got ℕ → Got Name → Type 0 where
   refusal : (k : ℕ) → Stands t (refused k) (refused k)

@@ -11,7 +11,7 @@ use lib.ListN.{length, getD}
 use Rattle.rules.specs.Base.{Got, got, refused, all, collect}
 use Rattle.rules.specs.Names.{Table, tableGiven}
 use Rattle.rules.specs.Writing.{Rec, rec, words}
-use Rattle.rules.specs.Offices.{Name, nameNo, namesOne, mapGot, CallsAlike, Office, Entering, Shared, tableIn, afterAll, namesBy, answersTo, hadRoom, numberIn, given, fill, written, ownRec, own, Unmoved}
+use Rattle.rules.specs.Offices.{Name, nameNo, namesOne, mapGot, CallsAlike, Office, Entering, Shared, tableIn, afterAll, namesBy, answersTo, answerFor, hadRoom, numberIn, given, fill, written, ownRec, own, Unmoved}
 use Rattle.laws.specs.Lists.{and-left, and-right}
 use Rattle.laws.specs.NameTable.{Good, given-good}
 use Rattle.offices.specs.Over.{collect-over}
@@ -22,7 +22,7 @@ use Rattle.offices.specs.Changes.{replace-type, replace-set, quantify-al
 use Rattle.offices.specs.Adds.{add-alike}
 use Rattle.offices.specs.Solves.{solve-alike}
 use Rattle.offices.specs.Judges.{judge-alike}
-use Rattle.offices.specs.Histories.{answerFor, good-after, all-named}
+use Rattle.offices.specs.Histories.{good-after, all-named}
 
 -- ══ Lists that read alike are answered alike ══
 
@@ -98,6 +98,7 @@ unmoved o s s′ es es′ g g′ same h h′ =
     let answers = all-named o es s (given-good g) h ∙ ap (map answerFor) same ∙ sym (all-named o es′ s′ (given-good g′) h′) in
     let names = sym (given-names (nameNo (tableIn (afterAll s es))) (answersTo o s es)) ∙ ap (collect givenName) answers ∙ given-names (nameNo (tableIn (afterAll s′ es′))) (answersTo o s′ es′) in
     record {
+      names = all-named o es s (given-good g) h;
       answers = answers;
       lists = λ draft i. words-alike (tableIn (afterAll s es)) (tableIn (afterAll s′ es′)) _ _ (draft-alike (tableIn (afterAll s es)) (tableIn (afterAll s′ es′)) (given (answersTo o s es)) (given (answersTo o s′ es′)) names draft i);
       numbers = λ is i. record { names = handed-alike (nameNo (tableIn (afterAll s es))) (nameNo (tableIn (afterAll s′ es′))) (given (answersTo o s es)) (given (answersTo o s′ es′)) is names i };

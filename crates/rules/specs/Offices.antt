@@ -6,9 +6,9 @@ use mathlib.Core.List.{List, [], _∷_, map}
 use mathlib.Core.Option.{Option, none, some}
 use Prim.Native.Nat.{ℕ, _+_, _*_}
 use native.Mathlib.Decide.{ℕ-discrete}
-use lib.Dec.{eqb, ltb}
+use lib.Dec.{eqb, leb, ltb}
 use lib.ListN.{length, take, getD}
-use Rattle.rules.specs.Base.{Got, got, refused, list-dec, any, all, collect}
+use Rattle.rules.specs.Base.{Got, got, refused, _>>_, need, list-dec, any, all, collect}
 use Rattle.rules.specs.Trees.{Open, var, quant, par, Atom, free, base, Factor, _↑_, Product, Ty, opened, basic, dim, fn, struct, list, Tys, nil, cons, Fields, noFields, field, Con, equal, isDim, isScalar, hasField, Binding, _≔_, Names}
 use Rattle.rules.specs.Names.{Bytes, orderBytes, Table, tableOf, namesOf, isHeld, enter}
 use Rattle.rules.specs.Schemes.{Scheme, concrete, scheme}
@@ -281,6 +281,10 @@ answersTo o s (e ∷ es) = elim (sameOffice o (e .by)) [
   | false ↦ answersTo o (entered s (e .name)) es
 ]
 
+-- what an entry that meets no 3 is answered: 2 for a name of no byte or of over 48, else a number of that name
+abbrev pub answerFor : Bytes → Got Name
+answerFor n = need (leb 1 (length n) && leb (length n) 48) 2 >> got (named n)
+
 -- it met no 3
 abbrev pub noThree : Got ℕ → Bool
 noThree (got n) = true
@@ -321,7 +325,9 @@ module _ (o : Office) (s s′ : Shared) (es es′ : List Entering) where
   T′ = tableIn (afterAll s′ es′)
 
   pub record Unmoved : Type 0 where
-    -- at each of its entries it met the same refusal, or a number of the same name
+    -- what it was given are numbers of the names that it entered, also after all later entries,
+    pub names : map (mapGot (nameNo T)) (answersTo o s es) ≡ map answerFor (namesBy o es)
+    -- so at each entry it met the same refusal, or a number of the same name
     pub answers : map (mapGot (nameNo T)) (answersTo o s es) ≡ map (mapGot (nameNo T′)) (answersTo o s′ es′)
     -- a list that it writes with its numbers reads alike,
     pub lists : (draft : List Rec) → own (length (given (answersTo o s es))) draft ≡ true
