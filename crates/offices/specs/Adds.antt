@@ -14,7 +14,7 @@ use Rattle.rules.specs.Trees.{Con, sizeCon}
 use Rattle.rules.specs.Names.{Table, tableOf, numbersOf, lentTable}
 use Rattle.rules.specs.Adding.{Added, satisfied, violated, unknown, add}
 use Rattle.rules.specs.Calls.{lentResult, shortLists, only, tableKept, setGiven, over, AddedTo, bufferAfter, addedTo, addCall}
-use Rattle.rules.specs.Offices.{Name, byBytes, Word, mapCon, readBack, ReadAlike, AddedAlike, frontAdded}
+use Rattle.rules.specs.Offices.{nameNo, Name, byBytes, Word, mapCon, readBack, ReadAlike, AddedAlike, frontAdded}
 use Rattle.laws.specs.Checks.{need-passed, first-passed, next-passed}
 use Rattle.laws.specs.Lists.{bound-step}
 use Rattle.laws.specs.NameTable.{Good}
@@ -23,7 +23,7 @@ use Rattle.offices.specs.Sizes.{size-cons}
 use Rattle.offices.specs.Adding.{mapAdded, add-map}
 use Rattle.offices.specs.Naming.{keeps}
 use Rattle.offices.specs.Results.{take-front}
-use Rattle.offices.specs.Given.{Alike, ν, ν′, as-long, short, only-alike, kept-alike, lent-table, lent-result, set-given}
+use Rattle.offices.specs.Given.{Alike, as-long, short, only-alike, kept-alike, lent-table, lent-result, set-given}
 
 -- whole records in front of others are read back by themselves
 back-append : (t : Table) (n : ℕ) (xs ys : List ℕ) → length xs ≡ n * 4 → readBack t (xs ++ ys) ≡ readBack t xs ++ readBack t ys
@@ -54,39 +54,56 @@ room pool table buffer n c r e =
     omega (arith, z, w)
 
 module _ {pool table pool′ table′ : List ℕ} (good : Good pool table) (good′ : Good pool′ table′) where
-  answered : (buffer buffer′ : List ℕ) (n : ℕ) (c c′ : List ℕ) → Alike good good′ (take (n * 4) buffer) (take (n * 4) buffer′) → Alike good good′ c c′ → length buffer ≡ length buffer′ → addedTo pool table buffer n c ≡ addedTo pool′ table′ buffer′ n c′
+  -- the two tables, and the names of their numbers
+  abbrev T₁ : Table
+  T₁ = tableOf pool table
+
+  abbrev T₂ : Table
+  T₂ = tableOf pool′ table′
+
+  abbrev ν₁ : ℕ → Name
+  ν₁ = nameNo T₁
+
+  abbrev ν₂ : ℕ → Name
+  ν₂ = nameNo T₂
+
+  answered : (buffer buffer′ : List ℕ) (n : ℕ) (c c′ : List ℕ) → Alike good good′ (take (n * 4) buffer) (take (n * 4) buffer′) → Alike good good′ c c′ → length buffer ≡ length buffer′
+      → addedTo pool table buffer n c ≡ addedTo pool′ table′ buffer′ n c′
   unfolding addedTo
   answered buffer buffer′ n c c′ e f r = equal-answers
       (checked (two-checks (lent-table good good′) (lent-result buffer buffer′ r))
       (checked (two-checks {a = need (leb n 2048) 8} refl (short (c ∷ []) (c′ ∷ []) (rw (as-long f))))
       (checked (kept-alike good good′)
       (hence (set-given good good′ (take (n * 4) buffer) (take (n * 4) buffer′) e) (λ cs cs′ i.
-      hence (hence (set-given good good′ c c′ f) (only-alike (mapCon (ν good good′)) (mapCon (ν′ good good′)))) (λ d d′ j.
-      hence (through (add-map _ byBytes (ν good good′) (keeps good) cs d) (add-map _ byBytes (ν′ good good′) (keeps good′) cs′ d′) (ap₂ (λ (x : List (Con Name)) (y : Con Name). add byBytes x y) i j)) (λ q q′ k.
-      alike (ap₂ (λ (a : Added) (m : ℕ). (a, m)) (ap (λ v. v .0) k) (sym (size-cons (ν good good′) (q .1)) ∙ ap (λ v. sumOf sizeCon (v .1)) k ∙ size-cons (ν′ good good′) (q′ .1))))))))))
+      hence (hence (set-given good good′ c c′ f) (only-alike (mapCon ν₁) (mapCon ν₂))) (λ d d′ j.
+      hence (through (add-map _ byBytes ν₁ (keeps good) cs d) (add-map _ byBytes ν₂ (keeps good′) cs′ d′) (ap₂ (λ (x : List (Con Name)) (y : Con Name). add byBytes x y) i j)) (λ q q′ k.
+      alike (ap₂ (λ (a : Added) (m : ℕ). (a, m)) (ap (λ v. v .0) k) (sym (size-cons ν₁ (q .1)) ∙ ap (λ v. sumOf sizeCon (v .1)) k ∙ size-cons ν₂ (q′ .1))))))))))
 
   stored-front : (buffer c : List ℕ) (n : ℕ) → n * 4 ≤ length buffer → take (n * 4 + length c) (take (n * 4) buffer ++ over c (drop (n * 4) buffer)) ≡ take (n * 4) buffer ++ c
   unfolding over
   stored-front buffer c n h = take-both (take (n * 4) buffer) c (drop (length c) (drop (n * 4) buffer)) (n * 4) (length-take-le (n * 4) buffer h)
 
-  stored-alike : (buffer buffer′ : List ℕ) (n : ℕ) (c c′ : List ℕ) → Alike good good′ (take (n * 4) buffer) (take (n * 4) buffer′) → Alike good good′ c c′ → n * 4 ≤ length buffer → n * 4 ≤ length buffer′
+  stored-alike : (buffer buffer′ : List ℕ) (n : ℕ) (c c′ : List ℕ) → Alike good good′ (take (n * 4) buffer) (take (n * 4) buffer′) → Alike good good′ c c′ → n * 4 ≤ length buffer
+      → n * 4 ≤ length buffer′
       → Alike good good′ (take (n * 4 + length c) (take (n * 4) buffer ++ over c (drop (n * 4) buffer))) (take (n * 4 + length c′) (take (n * 4) buffer′ ++ over c′ (drop (n * 4) buffer′)))
   stored-alike buffer buffer′ n c c′ e f h h′ = rw (stored-front buffer c n h, stored-front buffer′ c′ n h′)
-      (joined-alike (tableOf pool table) (tableOf pool′ table′) n (take (n * 4) buffer) (take (n * 4) buffer′) c c′ (length-take-le (n * 4) buffer h) (length-take-le (n * 4) buffer′ h′) e f)
+      (joined-alike T₁ T₂ n (take (n * 4) buffer) (take (n * 4) buffer′) c c′ (length-take-le (n * 4) buffer h) (length-take-le (n * 4) buffer′ h′) e f)
 
-  fronts : (buffer buffer′ : List ℕ) (n : ℕ) (c c′ : List ℕ) → Alike good good′ (take (n * 4) buffer) (take (n * 4) buffer′) → Alike good good′ c c′ → (a : Got (Added × ℕ)) → ((r : Added × ℕ) → a ≡ got r → (n * 4 ≤ length buffer) × (n * 4 ≤ length buffer′))
+  fronts : (buffer buffer′ : List ℕ) (n : ℕ) (c c′ : List ℕ) → Alike good good′ (take (n * 4) buffer) (take (n * 4) buffer′) → Alike good good′ c c′ → (a : Got (Added × ℕ))
+      → ((r : Added × ℕ) → a ≡ got r → (n * 4 ≤ length buffer) × (n * 4 ≤ length buffer′))
       → Alike good good′ (frontAdded a n c (bufferAfter a (n * 4) c buffer)) (frontAdded a n c′ (bufferAfter a (n * 4) c′ buffer′))
   unfolding bufferAfter
   fronts buffer buffer′ n c c′ e f (refused k) h = e
   fronts buffer buffer′ n c c′ e f (got r) h = go (r .0) (h r refl)
     where
-      go : (a : Added) → (n * 4 ≤ length buffer) × (n * 4 ≤ length buffer′) → Alike good good′ (frontAdded (got (a, r .1)) n c (bufferAfter (got (a, r .1)) (n * 4) c buffer)) (frontAdded (got (a, r .1)) n c′ (bufferAfter (got (a, r .1)) (n * 4) c′ buffer′))
+      go : (a : Added) → (n * 4 ≤ length buffer) × (n * 4 ≤ length buffer′)
+          → Alike good good′ (frontAdded (got (a, r .1)) n c (bufferAfter (got (a, r .1)) (n * 4) c buffer)) (frontAdded (got (a, r .1)) n c′ (bufferAfter (got (a, r .1)) (n * 4) c′ buffer′))
       go satisfied h = e
       go violated h = stored-alike buffer buffer′ n c c′ e f (h .0) (h .1)
       go unknown h = stored-alike buffer buffer′ n c c′ e f (h .0) (h .1)
 
   pub add-alike : (buffer buffer′ : List ℕ) (n : ℕ) (c c′ : List ℕ) → Alike good good′ (take (n * 4) buffer) (take (n * 4) buffer′) → Alike good good′ c c′ → length buffer ≡ length buffer′
-      → AddedAlike (tableOf pool table) (tableOf pool′ table′) n c c′ (addCall pool table buffer n c) (addCall pool′ table′ buffer′ n c′)
+      → AddedAlike T₁ T₂ n c c′ (addCall pool table buffer n c) (addCall pool′ table′ buffer′ n c′)
   unfolding addCall
   add-alike buffer buffer′ n c c′ e f r =
       let s = answered buffer buffer′ n c c′ e f r in

@@ -39,7 +39,8 @@ module _ {A A′ B : Type 0} {g : A → B} {g′ : A′ → B} where
       alike : (n n′ : ℕ) → n ≡ n′ → Pair g g′ (refused n) (refused n′)
       alike n n′ e = rw (← e) (neither n)
 
-  pub hence : {C C′ D : Type 0} {h : C → D} {h′ : C′ → D} {m : Got A} {m′ : Got A′} {k : A → Got C} {k′ : A′ → Got C′} → Both g g′ m m′ → ((a : A) (a′ : A′) → g a ≡ g′ a′ → Both h h′ (k a) (k′ a′)) → Both h h′ (m >>= k) (m′ >>= k′)
+  pub hence : {C C′ D : Type 0} {h : C → D} {h′ : C′ → D} {m : Got A} {m′ : Got A′} {k : A → Got C} {k′ : A′ → Got C′} → Both g g′ m m′
+      → ((a : A) (a′ : A′) → g a ≡ g′ a′ → Both h h′ (k a) (k′ a′)) → Both h h′ (m >>= k) (m′ >>= k′)
   hence {C} {C′} {D} {h} {h′} {m} {m′} {k} {k′} b s = go (pair m m′ b)
     where
       go : {m : Got A} {m′ : Got A′} → Pair g g′ m m′ → Both h h′ (m >>= k) (m′ >>= k′)

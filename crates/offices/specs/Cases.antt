@@ -56,12 +56,6 @@ three-sooner : answersTo here almostFull (enters here (65 ∷ 66 ∷ []) ∷ [])
 unfolding rules upTo entered answersTo
 three-sooner = refl
 
--- and on other names: alone the office enters 'AB' and has no room for byte 255; where the other office came first with byte 255, it is the other way about
-three-elsewhere : answersTo here almostFull (enters here (65 ∷ 66 ∷ []) ∷ enters here (255 ∷ []) ∷ []) ∷ answersTo here almostFull (enters there (255 ∷ []) ∷ enters here (65 ∷ 66 ∷ []) ∷ enters here (255 ∷ []) ∷ []) ∷ []
-  ≡ (got 255 ∷ refused 3 ∷ []) ∷ (refused 3 ∷ got 255 ∷ []) ∷ []
-unfolding rules upTo entered answersTo
-three-elsewhere = refl
-
 -- a stray number, which the office was not given, is 1 until the other office enters a name
 abbrev strays : List ℕ
 strays = words (rec 20 0 0 0 ∷ rec 1 6 0 0 ∷ rec 4 0 0 0 ∷ [])

@@ -145,7 +145,8 @@ module _ {N M : Type 0} (ν : Names N) (μ : Names M) (f : N → M) (keeps : Kee
   field-in x noFields = refl
   field-in x (field n t fs) = go (isYes (ν .same x n)) refl (same-map x n) (field-in x fs)
     where
-      go : (b : Bool) → isYes (ν .same x n) ≡ b → isYes (μ .same (f x) (f n)) ≡ isYes (ν .same x n) → fieldIn μ (f x) (mapFields f fs) ≡ mapOption (mapTy f) (fieldIn ν x fs) → fieldIn μ (f x) (field (f n) (mapTy f t) (mapFields f fs)) ≡ mapOption (mapTy f) (fieldIn ν x (field n t fs))
+      go : (b : Bool) → isYes (ν .same x n) ≡ b → isYes (μ .same (f x) (f n)) ≡ isYes (ν .same x n) → fieldIn μ (f x) (mapFields f fs) ≡ mapOption (mapTy f) (fieldIn ν x fs)
+          → fieldIn μ (f x) (field (f n) (mapTy f t) (mapFields f fs)) ≡ mapOption (mapTy f) (fieldIn ν x (field n t fs))
       go true e r k = rw (fieldIn, r, e)
       go false e r k = rw (fieldIn, r, e, k)
 

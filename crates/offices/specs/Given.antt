@@ -216,6 +216,7 @@ module _ {pool table pool′ table′ : List ℕ} (good : Good pool table) (good
   pub names-given : (ws ws′ : List ℕ) → Alike ws ws′ → Both (λ os. map ν (map wordOf os)) (λ os. map ν′ (map wordOf os)) (boundsGiven (tableOf pool table) ws) (boundsGiven (tableOf pool′ table′) ws′)
   names-given ws ws′ e = go (boundsGiven (tableOf pool table) ws) refl (boundsGiven (tableOf pool′ table′) ws′) refl (pair _ _ (bounds-given ws ws′ e))
     where
-      go : (m : Got (List (Open ℕ))) → boundsGiven (tableOf pool table) ws ≡ m → (m′ : Got (List (Open ℕ))) → boundsGiven (tableOf pool′ table′) ws′ ≡ m′ → Pair (map (mapOpen ν)) (map (mapOpen ν′)) m m′ → Both (λ os. map ν (map wordOf os)) (λ os. map ν′ (map wordOf os)) m m′
+      go : (m : Got (List (Open ℕ))) → boundsGiven (tableOf pool table) ws ≡ m → (m′ : Got (List (Open ℕ))) → boundsGiven (tableOf pool′ table′) ws′ ≡ m′
+          → Pair (map (mapOpen ν)) (map (mapOpen ν′)) m m′ → Both (λ os. map ν (map wordOf os)) (λ os. map ν′ (map wordOf os)) m m′
       go m p m′ q (neither n) = record { is = refl }
       go m p m′ q (both os os′ i) = alike (bounds-named (tableOf pool table) os (bounds-good (tableOf pool table) ws os p) ∙ ap (map nameIn) i ∙ sym (bounds-named (tableOf pool′ table′) os′ (bounds-good (tableOf pool′ table′) ws′ os′ q)))

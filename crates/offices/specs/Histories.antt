@@ -12,7 +12,8 @@ use lib.Seq.{getD-at}
 use Rattle.rules.specs.Base.{Got, got, refused, all}
 use Rattle.rules.specs.Names.{Bytes, Table, tableOf, namesOf, isHeld, tableGiven, enterChecks, enterChecked, enterNew, enter, unchanged}
 use Rattle.rules.specs.Writing.{Rec, rec, words}
-use Rattle.rules.specs.Offices.{Name, named, nameIf, nameNo, mapGot, Office, sameOffice, Entering, Shared, tableIn, entered, afterAll, namesBy, answersTo, answerFor, noThree, hadRoom, numberIn, given, fill, written, ownRec, own, namesOne, wordIf, ReadAlike, NumbersAlike}
+use Rattle.rules.specs.Offices.{Name, named, nameIf, nameNo, mapGot, Office, sameOffice, Entering, Shared, tableIn, entered, afterAll, namesBy}
+use Rattle.rules.specs.Offices.{answersTo, answerFor, noThree, hadRoom, numberIn, given, fill, written, ownRec, own, namesOne, wordIf, ReadAlike, NumbersAlike}
 use Rattle.laws.specs.Lists.{and-left, and-right}
 use Rattle.laws.specs.NameTable.{Good, good-laid, good-given, length-names, held-is, new-is}
 use Rattle.laws.specs.Entering.{Enters, Case, stopped, known, full, new, enter-case, count-with, names-with, good-with, pass-checks, Passed}
@@ -82,7 +83,8 @@ entry-refused : (s : Shared) → GoodIn s → (n : Bytes) → (leb 1 (length n) 
 unfolding enter enterChecked enterChecks
 entry-refused s g n e = rw (enter, enterChecked, good-given g, e)
 
-entry-passed : (s : Shared) → GoodIn s → (n : Bytes) → (leb 1 (length n) && leb (length n) 48) ≡ true → noThree (enter (s .pool) (s .table) n .answer) ≡ true → Stands (tableIn (entered s n)) (enter (s .pool) (s .table) n .answer) (got (named n))
+entry-passed : (s : Shared) → GoodIn s → (n : Bytes) → (leb 1 (length n) && leb (length n) 48) ≡ true → noThree (enter (s .pool) (s .table) n .answer) ≡ true
+    → Stands (tableIn (entered s n)) (enter (s .pool) (s .table) n .answer) (got (named n))
 unfolding entered
 entry-passed s g n t h = go (enter-case (s .pool) (s .table) n)
   where
@@ -94,7 +96,8 @@ entry-passed s g n t h = go (enter-case (s .pool) (s .table) n)
     go (known i a e) = rw (entered, e) (number i n (omega (arith, a .held, length-names (good-laid g))) (a .name))
     go (full q a m e) = absurd (let y : true ≡ false = sym h ∙ ap (λ r. noThree (r .answer)) e in let z : _≡_ {A = ℕ} 0 1 = cc in omega arith)
     go (new en e) = rw (entered, e, new-number (s .pool) (s .table) n en)
-        (number (getD (s .table) 0 0) n (rw (names-with en, length-append (namesOf (tableIn s)) (n ∷ [])) (omega (arith, length-names (good-laid g)))) (ap (λ (ns : List Bytes). getD ns (getD (s .table) 0 0) []) (names-with en) ∙ getD-at (namesOf (tableIn s)) n [] [] (getD (s .table) 0 0) (length-names (good-laid g))))
+        (number (getD (s .table) 0 0) n (rw (names-with en, length-append (namesOf (tableIn s)) (n ∷ [])) (omega (arith, length-names (good-laid g))))
+        (ap (λ (ns : List Bytes). getD ns (getD (s .table) 0 0) []) (names-with en) ∙ getD-at (namesOf (tableIn s)) n [] [] (getD (s .table) 0 0) (length-names (good-laid g))))
 
 entry-stands : (s : Shared) → GoodIn s → (n : Bytes) → noThree (enter (s .pool) (s .table) n .answer) ≡ true → Stands (tableIn (entered s n)) (enter (s .pool) (s .table) n .answer) (answerFor n)
 entry-stands s g n h = go (leb 1 (length n) && leb (length n) 48) refl
@@ -122,7 +125,8 @@ module _ (o : Office) (s : Shared) (e : Entering) (es : List Entering) where
   unfolding namesBy
   names-other h = rw (namesBy, h)
 
-one-more : (o : Office) (s : Shared) (e : Entering) (es : List Entering) → GoodIn s → sameOffice o (e .by) ≡ true → (hadRoom (answersTo o (entered s (e .name)) es) ≡ true → map (mapGot (nameNo (tableIn (afterAll (entered s (e .name)) es)))) (answersTo o (entered s (e .name)) es) ≡ map answerFor (namesBy o es))
+one-more : (o : Office) (s : Shared) (e : Entering) (es : List Entering) → GoodIn s → sameOffice o (e .by) ≡ true
+    → (hadRoom (answersTo o (entered s (e .name)) es) ≡ true → map (mapGot (nameNo (tableIn (afterAll (entered s (e .name)) es)))) (answersTo o (entered s (e .name)) es) ≡ map answerFor (namesBy o es))
     → hadRoom (answersTo o s (e ∷ es)) ≡ true → map (mapGot (nameNo (tableIn (afterAll (entered s (e .name)) es)))) (answersTo o s (e ∷ es)) ≡ map answerFor (namesBy o (e ∷ es))
 unfolding hadRoom all
 one-more o s e es g q r h =
@@ -134,12 +138,14 @@ one-more o s e es g q r h =
     rw (answers-own o s e es q, names-own o s e es q) (ap₂ (λ (x : Got Name) (xs : List (Got Name)). x ∷ xs) n (r (and-right (noThree a) _ k)))
 
 -- what an office was answered, read with the names at the end, is what its names are answered
-pub all-named : (o : Office) (es : List Entering) (s : Shared) → GoodIn s → hadRoom (answersTo o s es) ≡ true → map (mapGot (nameNo (tableIn (afterAll s es)))) (answersTo o s es) ≡ map answerFor (namesBy o es)
+pub all-named : (o : Office) (es : List Entering) (s : Shared) → GoodIn s → hadRoom (answersTo o s es) ≡ true
+    → map (mapGot (nameNo (tableIn (afterAll s es)))) (answersTo o s es) ≡ map answerFor (namesBy o es)
 unfolding afterAll answersTo namesBy
 all-named o [] s g h = refl
 all-named o (e ∷ es) s g h = go (sameOffice o (e .by)) refl (all-named o es (entered s (e .name)) (grown-entry s g (e .name) .good))
   where
-    go : (b : Bool) → sameOffice o (e .by) ≡ b → (hadRoom (answersTo o (entered s (e .name)) es) ≡ true → map (mapGot (nameNo (tableIn (afterAll (entered s (e .name)) es)))) (answersTo o (entered s (e .name)) es) ≡ map answerFor (namesBy o es))
+    go : (b : Bool) → sameOffice o (e .by) ≡ b
+        → (hadRoom (answersTo o (entered s (e .name)) es) ≡ true → map (mapGot (nameNo (tableIn (afterAll (entered s (e .name)) es)))) (answersTo o (entered s (e .name)) es) ≡ map answerFor (namesBy o es))
         → map (mapGot (nameNo (tableIn (afterAll (entered s (e .name)) es)))) (answersTo o s (e ∷ es)) ≡ map answerFor (namesBy o (e ∷ es))
     go false q r = rw (answers-other o s e es q, names-other o s e es q) (r (rw (answers-other o s e es q) at h))
     go true q r = one-more o s e es g q r h

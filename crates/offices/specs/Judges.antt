@@ -26,7 +26,7 @@ use Rattle.offices.specs.WellFormed.{rising-map, good-ty}
 use Rattle.offices.specs.Judging.{judge-map}
 use Rattle.offices.specs.Naming.{isNamed, held-named, keeps}
 use Rattle.offices.specs.Reading.{Seen, seen, records-alike, Cases, neither, both, cases, ty-agree}
-use Rattle.offices.specs.Given.{Alike, ν, ν′, as-long, as-many, short, few, kept-alike, lent-table, lent-work, set-given, names-given, numbers-given, apart-alike, set-opens, binding-opens, joined}
+use Rattle.offices.specs.Given.{Alike, as-long, as-many, short, few, kept-alike, lent-table, lent-work, set-given, names-given, numbers-given, apart-alike, set-opens, binding-opens, joined}
 
 dropped : (t : Table) (i : ℕ) (rs : List Rec) → map (seen t) (drop i rs) ≡ drop i (map (seen t) rs)
 dropped t zero rs = refl
@@ -44,29 +44,43 @@ differ-map good [] = refl
 differ-map {pool} {table} good (n ∷ ns) = rw (among-map _ byBytes (nameNo (tableOf pool table)) (keeps good) n ns, same-eqb (namesOf (tableOf pool table)) n ns, differ-map good ns)
 
 module _ {pool table pool′ table′ : List ℕ} (good : Good pool table) (good′ : Good pool′ table′) where
-  first-alike : (rs rs′ : List Rec) → map (seen (tableOf pool table)) rs ≡ map (seen (tableOf pool′ table′)) rs′
-      → mapOption (mapTy (ν good good′)) (andThen (readTy 64 rs) (λ r. some (r .0))) ≡ mapOption (mapTy (ν′ good good′)) (andThen (readTy 64 rs′) (λ r. some (r .0)))
-  first-alike rs rs′ e = go (cases (tableOf pool table) (tableOf pool′ table′) _ _ (readTy 64 rs) (readTy 64 rs′) (ty-agree (tableOf pool table) (tableOf pool′ table′) 64 .agree rs rs′ e .is))
+  -- the two tables, and the names of their numbers
+  abbrev T₁ : Table
+  T₁ = tableOf pool table
+
+  abbrev T₂ : Table
+  T₂ = tableOf pool′ table′
+
+  abbrev ν₁ : ℕ → Name
+  ν₁ = nameNo T₁
+
+  abbrev ν₂ : ℕ → Name
+  ν₂ = nameNo T₂
+
+  first-alike : (rs rs′ : List Rec) → map (seen T₁) rs ≡ map (seen T₂) rs′
+      → mapOption (mapTy ν₁) (andThen (readTy 64 rs) (λ r. some (r .0))) ≡ mapOption (mapTy ν₂) (andThen (readTy 64 rs′) (λ r. some (r .0)))
+  first-alike rs rs′ e = go (cases T₁ T₂ _ _ (readTy 64 rs) (readTy 64 rs′) (ty-agree T₁ T₂ 64 .agree rs rs′ e .is))
     where
-      go : {x x′ : Option (Ty ℕ × List Rec)} → Cases (tableOf pool table) (tableOf pool′ table′) (mapTy (ν good good′)) (mapTy (ν′ good good′)) x x′ → mapOption (mapTy (ν good good′)) (andThen x (λ r. some (r .0))) ≡ mapOption (mapTy (ν′ good good′)) (andThen x′ (λ r. some (r .0)))
+      go : {x x′ : Option (Ty ℕ × List Rec)} → Cases T₁ T₂ (mapTy ν₁) (mapTy ν₂) x x′ → mapOption (mapTy ν₁) (andThen x (λ r. some (r .0))) ≡ mapOption (mapTy ν₂) (andThen x′ (λ r. some (r .0)))
       go neither = refl
       go (both v v′ i j) = ap some i
 
-  type-at : (rs rs′ : List Rec) (i : ℕ) → map (seen (tableOf pool table)) rs ≡ map (seen (tableOf pool′ table′)) rs′ → Both (mapTy (ν good good′)) (mapTy (ν′ good good′)) (typeAt (tableOf pool table) rs i) (typeAt (tableOf pool′ table′) rs′ i)
+  type-at : (rs rs′ : List Rec) (i : ℕ) → map (seen T₁) rs ≡ map (seen T₂) rs′ → Both (mapTy ν₁) (mapTy ν₂) (typeAt T₁ rs i) (typeAt T₂ rs′ i)
   unfolding typeAt
   type-at rs rs′ i e =
-      hence (there 1 (andThen (readTy 64 (drop i rs)) (λ r. some (r .0))) (andThen (readTy 64 (drop i rs′)) (λ r. some (r .0))) (first-alike (drop i rs) (drop i rs′) (dropped (tableOf pool table) i rs ∙ ap (drop i) e ∙ sym (dropped (tableOf pool′ table′) i rs′)))) (λ u u′ j.
-      hence (needed 1 (sym (good-ty _ byBytes (ν good good′) (keeps good) _ isNamed (held-named (tableOf pool table)) 0 u) ∙ ap (goodTy byBytes isNamed 0) j ∙ good-ty _ byBytes (ν′ good good′) (keeps good′) _ isNamed (held-named (tableOf pool′ table′)) 0 u′)) (λ x y l. alike j))
+      hence (there 1 (andThen (readTy 64 (drop i rs)) (λ r. some (r .0))) (andThen (readTy 64 (drop i rs′)) (λ r. some (r .0))) (first-alike (drop i rs) (drop i rs′) (dropped T₁ i rs ∙ ap (drop i) e ∙ sym (dropped T₂ i rs′)))) (λ u u′ j.
+      hence (needed 1 (sym (good-ty _ byBytes ν₁ (keeps good) _ isNamed (held-named T₁) 0 u) ∙ ap (goodTy byBytes isNamed 0) j ∙ good-ty _ byBytes ν₂ (keeps good′) _ isNamed (held-named T₂) 0 u′)) (λ x y l. alike j))
 
-  binding-of : (rs rs′ : List Rec) (e e′ : Entry) → map (seen (tableOf pool table)) rs ≡ map (seen (tableOf pool′ table′)) rs′ → ν good good′ (e .variable) ≡ ν′ good good′ (e′ .variable) → e .place ≡ e′ .place
-      → Both (mapBinding (ν good good′)) (mapBinding (ν′ good good′)) (bindingOf (tableOf pool table) rs e) (bindingOf (tableOf pool′ table′) rs′ e′)
+  binding-of : (rs rs′ : List Rec) (e e′ : Entry) → map (seen T₁) rs ≡ map (seen T₂) rs′ → ν₁ (e .variable) ≡ ν₂ (e′ .variable) → e .place ≡ e′ .place
+      → Both (mapBinding ν₁) (mapBinding ν₂) (bindingOf T₁ rs e) (bindingOf T₂ rs′ e′)
   unfolding bindingOf mapBinding
   binding-of rs rs′ e e′ h i p =
       checked (numbers-given good good′ (e .variable ∷ []) (e′ .variable ∷ []) (rw i))
       (rw p (hence (type-at rs rs′ (e′ .place) h) (λ u u′ j. alike (rw (i, j)))))
 
-  all-bindings : (rs rs′ : List Rec) → map (seen (tableOf pool table)) rs ≡ map (seen (tableOf pool′ table′)) rs′ → (es es′ : List Entry) → map (ν good good′) (map (λ e. e .variable) es) ≡ map (ν′ good good′) (map (λ e. e .variable) es′) → map (λ e. e .place) es ≡ map (λ e. e .place) es′
-      → Both (map (mapBinding (ν good good′))) (map (mapBinding (ν′ good good′))) (each (bindingOf (tableOf pool table) rs) es) (each (bindingOf (tableOf pool′ table′) rs′) es′)
+  all-bindings : (rs rs′ : List Rec) → map (seen T₁) rs ≡ map (seen T₂) rs′ → (es es′ : List Entry) → map ν₁ (map (λ e. e .variable) es) ≡ map ν₂ (map (λ e. e .variable) es′)
+      → map (λ e. e .place) es ≡ map (λ e. e .place) es′
+      → Both (map (mapBinding ν₁)) (map (mapBinding ν₂)) (each (bindingOf T₁ rs) es) (each (bindingOf T₂ rs′) es′)
   unfolding each
   all-bindings rs rs′ h [] [] i p = alike refl
   all-bindings rs rs′ h [] (e ∷ es) i p = absurd (let z : _≡_ {A = ℕ} 0 1 = cc in omega arith)
@@ -74,28 +88,29 @@ module _ {pool table pool′ table′ : List ℕ} (good : Good pool table) (good
   all-bindings rs rs′ h (e ∷ es) (e′ ∷ es′) i p =
       hence (binding-of rs rs′ e e′ h (cc) (cc)) (λ b b′ j. hence (all-bindings rs rs′ h es es′ (cc) (cc)) (λ bs bs′ k. alike (rw (j, k))))
 
-  entries-given : (es es′ : List Entry) (ts ts′ : List ℕ) → EntriesAlike (tableOf pool table) (tableOf pool′ table′) es es′ → Alike good good′ ts ts′
-      → Both (map (mapBinding (ν good good′))) (map (mapBinding (ν′ good good′))) (entriesGiven (tableOf pool table) es ts) (entriesGiven (tableOf pool′ table′) es′ ts′)
+  entries-given : (es es′ : List Entry) (ts ts′ : List ℕ) → EntriesAlike T₁ T₂ es es′ → Alike good good′ ts ts′
+      → Both (map (mapBinding ν₁)) (map (mapBinding ν₂)) (entriesGiven T₁ es ts) (entriesGiven T₂ es′ ts′)
   unfolding entriesGiven
   entries-given es es′ ts ts′ e f =
-      hence (there 1 (records ts) (records ts′) (records-alike (tableOf pool table) (tableOf pool′ table′) ts ts′ f)) (λ rs rs′ h.
+      hence (there 1 (records ts) (records ts′) (records-alike T₁ T₂ ts ts′ f)) (λ rs rs′ h.
       hence (needed 1 (sym (differ-map good (map (λ e. e .variable) es)) ∙ ap differNamed (e .variables .names) ∙ differ-map good′ (map (λ e. e .variable) es′))) (λ x y l.
       all-bindings rs rs′ h es es′ (e .variables .names) (e .places)))
 
-  rising-given : (bs bs′ : List ℕ) → Alike good good′ bs bs′ → Both (map (ν good good′)) (map (ν′ good good′)) (risingBounds (tableOf pool table) bs) (risingBounds (tableOf pool′ table′) bs′)
+  rising-given : (bs bs′ : List ℕ) → Alike good good′ bs bs′ → Both (map ν₁) (map ν₂) (risingBounds T₁ bs) (risingBounds T₂ bs′)
   unfolding risingBounds
   rising-given bs bs′ e =
       hence (names-given good good′ bs bs′ e) (λ os os′ j.
-      hence (needed 1 (sym (rising-map (ν good good′) _ (byBytes .order) (keeps good .ordered) (map wordOf os)) ∙ ap (rising (byBytes .order)) j ∙ rising-map (ν′ good good′) _ (byBytes .order) (keeps good′ .ordered) (map wordOf os′))) (λ x y l. alike j))
+      hence (needed 1 (sym (rising-map ν₁ _ (byBytes .order) (keeps good .ordered) (map wordOf os)) ∙ ap (rising (byBytes .order)) j ∙ rising-map ν₂ _ (byBytes .order) (keeps good′ .ordered) (map wordOf os′))) (λ x y l. alike j))
 
-  judged : (bs bs′ : List (Binding ℕ)) (ns ns′ : List ℕ) (cs cs′ : List (Con ℕ)) → map (mapBinding (ν good good′)) bs ≡ map (mapBinding (ν′ good good′)) bs′ → map (ν good good′) ns ≡ map (ν′ good good′) ns′ → map (mapCon (ν good good′)) cs ≡ map (mapCon (ν′ good good′)) cs′
-      → judge (numbersOf (tableOf pool table)) bounded bs ns cs ≡ judge (numbersOf (tableOf pool′ table′)) bounded bs′ ns′ cs′
-  judged bs bs′ ns ns′ cs cs′ e f g = sym (judge-map _ byBytes (ν good good′) (keeps good) bounded bs ns cs) ∙ middle e f g ∙ judge-map _ byBytes (ν′ good good′) (keeps good′) bounded bs′ ns′ cs′
+  judged : (bs bs′ : List (Binding ℕ)) (ns ns′ : List ℕ) (cs cs′ : List (Con ℕ)) → map (mapBinding ν₁) bs ≡ map (mapBinding ν₂) bs′ → map ν₁ ns ≡ map ν₂ ns′ → map (mapCon ν₁) cs ≡ map (mapCon ν₂) cs′
+      → judge (numbersOf T₁) bounded bs ns cs ≡ judge (numbersOf T₂) bounded bs′ ns′ cs′
+  judged bs bs′ ns ns′ cs cs′ e f g = sym (judge-map _ byBytes ν₁ (keeps good) bounded bs ns cs) ∙ middle e f g ∙ judge-map _ byBytes ν₂ (keeps good′) bounded bs′ ns′ cs′
     where
       middle : {a a′ : List (Binding Name)} {b b′ : List Name} {c c′ : List (Con Name)} → a ≡ a′ → b ≡ b′ → c ≡ c′ → judge byBytes bounded a b c ≡ judge byBytes bounded a′ b′ c′
       middle e f g = rw (e, f, g)
 
-  pub judge-alike : (ws ws′ : List ℕ) (es es′ : List Entry) (ts ts′ bs bs′ work work′ : List ℕ) → Alike good good′ ws ws′ → EntriesAlike (tableOf pool table) (tableOf pool′ table′) es es′ → Alike good good′ ts ts′ → Alike good good′ bs bs′ → length work ≡ length work′
+  pub judge-alike : (ws ws′ : List ℕ) (es es′ : List Entry) (ts ts′ bs bs′ work work′ : List ℕ) → Alike good good′ ws ws′ → EntriesAlike T₁ T₂ es es′ → Alike good good′ ts ts′
+      → Alike good good′ bs bs′ → length work ≡ length work′
       → judgeCall pool table ws es ts bs work .answer ≡ judgeCall pool′ table′ ws′ es′ ts′ bs′ work′ .answer
   unfolding judgeCall judgedSet
   judge-alike ws ws′ es es′ ts ts′ bs bs′ work work′ e en f g r = equal-answers

@@ -42,7 +42,8 @@ module _ {pool table : List ℕ} (good : Good pool table) where
   pub found : (i : ℕ) → i < length (namesOf (tableOf pool table)) → numberOf 0 (getD (namesOf (tableOf pool table)) i []) (namesOf (tableOf pool table)) ≡ some i
   found i h = go (numberOf 0 (getD (namesOf (tableOf pool table)) i []) (namesOf (tableOf pool table))) refl
     where
-      go : (o : Option ℕ) → numberOf 0 (getD (namesOf (tableOf pool table)) i []) (namesOf (tableOf pool table)) ≡ o → numberOf 0 (getD (namesOf (tableOf pool table)) i []) (namesOf (tableOf pool table)) ≡ some i
+      go : (o : Option ℕ) → numberOf 0 (getD (namesOf (tableOf pool table)) i []) (namesOf (tableOf pool table)) ≡ o
+          → numberOf 0 (getD (namesOf (tableOf pool table)) i []) (namesOf (tableOf pool table)) ≡ some i
       go none e = absurd (search-none (getD (namesOf (tableOf pool table)) i []) (namesOf (tableOf pool table)) (search-any 0 (getD (namesOf (tableOf pool table)) i []) (namesOf (tableOf pool table)) ∙ ap (λ (o : Option ℕ). not (isNone o)) e) i h refl)
       go (some j) e =
           let f = search-found 0 j (getD (namesOf (tableOf pool table)) i []) (namesOf (tableOf pool table)) e in

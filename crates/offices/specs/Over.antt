@@ -13,7 +13,8 @@ use Rattle.rules.specs.Offices.{mapGot, mapOption}
 pub record Over {A B : Type 0} (g : A → B) (m : Got A) (n : Got B) : Type 0 where
   pub is : n ≡ mapGot g m
 
-pub next : {A B C D : Type 0} {g : A → B} {h : C → D} {m : Got A} {n : Got B} {k : A → Got C} {j : B → Got D} → Over g m n → ((a : A) (b : B) → b ≡ g a → Over h (k a) (j b)) → Over h (m >>= k) (n >>= j)
+pub next : {A B C D : Type 0} {g : A → B} {h : C → D} {m : Got A} {n : Got B} {k : A → Got C} {j : B → Got D} → Over g m n → ((a : A) (b : B) → b ≡ g a → Over h (k a) (j b))
+    → Over h (m >>= k) (n >>= j)
 next {g} {h} {m} {n} {k} {j} o s = rw (o .is) (go m)
   where
     go : (m : Got _) → Over h (m >>= k) (mapGot g m >>= j)

@@ -75,12 +75,15 @@ module _ {N M : Type 0} (ν : Names N) (μ : Names M) (f : N → M) (keeps : Kee
     abbrev pub Products : Got (Product N) → Got (Product M) → Type 0
     Products = Over (map (mapFactor f))
 
-    one-map : (a : Atom N) (e : Exp) (p : Product N) (m : Product N → Got (Product N)) (n : Product M → Got (Product M)) → ((q : Product N) → Products (m q) (n (map (mapFactor f) q))) → (q : Product N) → Products (mergeOne ν l a e p m q) (mergeOne μ l (mapAtom f a) e (map (mapFactor f) p) n (map (mapFactor f) q))
+    one-map : (a : Atom N) (e : Exp) (p : Product N) (m : Product N → Got (Product N)) (n : Product M → Got (Product M)) → ((q : Product N) → Products (m q) (n (map (mapFactor f) q)))
+        → (q : Product N) → Products (mergeOne ν l a e p m q) (mergeOne μ l (mapAtom f a) e (map (mapFactor f) p) n (map (mapFactor f) q))
     unfolding mergeOne
     one-map a e p m n h [] = gives refl
     one-map a e p m n h (b ↑ d ∷ q) = go (orderAtom ν a b) refl (order-atom a b) (one-map a e p m n h q)
       where
-        go : (o : Ordering) → orderAtom ν a b ≡ o → orderAtom μ (mapAtom f a) (mapAtom f b) ≡ orderAtom ν a b → Products (mergeOne ν l a e p m q) (mergeOne μ l (mapAtom f a) e (map (mapFactor f) p) n (map (mapFactor f) q)) → Products (mergeOne ν l a e p m (b ↑ d ∷ q)) (mergeOne μ l (mapAtom f a) e (map (mapFactor f) p) n (map (mapFactor f) (b ↑ d ∷ q)))
+        go : (o : Ordering) → orderAtom ν a b ≡ o → orderAtom μ (mapAtom f a) (mapAtom f b) ≡ orderAtom ν a b
+            → Products (mergeOne ν l a e p m q) (mergeOne μ l (mapAtom f a) e (map (mapFactor f) p) n (map (mapFactor f) q))
+            → Products (mergeOne ν l a e p m (b ↑ d ∷ q)) (mergeOne μ l (mapAtom f a) e (map (mapFactor f) p) n (map (mapFactor f) (b ↑ d ∷ q)))
         go Ordering·lt i r k = rw (r, mergeOne, i) (next (h (b ↑ d ∷ q)) (λ s s′ j. gives (rw j)))
         go Ordering·eq i r k = rw (r, mergeOne, i) (next (same-over (sum l e d)) (λ s s′ j. rw j (next (h q) (λ t t′ j. gives (rw j (put-map f a s t))))))
         go Ordering·gt i r k = rw (r, mergeOne, i) (next k (λ s s′ j. gives (rw j)))

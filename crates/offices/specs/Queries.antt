@@ -7,18 +7,32 @@ use Prim.Native.Nat.{ℕ}
 use lib.ListN.{length, length-map, take, drop}
 use Rattle.rules.specs.Base.{Got, got, refused, _>>=_, _>>_}
 use Rattle.rules.specs.Trees.{Ty, opens}
-use Rattle.rules.specs.Names.{tableOf, numbersOf, lentTable}
+use Rattle.rules.specs.Names.{Table, tableOf, numbersOf, lentTable}
 use Rattle.rules.specs.Contents.{closed, containsName, variables}
-use Rattle.rules.specs.Calls.{lentResult, tableKept, shortLists, setGiven, typeGiven, schemeGiven, bindingsGiven, numbersGiven, apart, over, resultAfter, Listed, listing, aloneGiven, setCall, typeCall, schemeCall, bindingsCall, containsCall, closedCall, variablesCall}
+use Rattle.rules.specs.Calls.{lentResult, tableKept, shortLists, setGiven, typeGiven, schemeGiven, bindingsGiven, numbersGiven, apart, over}
+use Rattle.rules.specs.Calls.{resultAfter, Listed, listing, aloneGiven, setCall, typeCall, schemeCall, bindingsCall, containsCall, closedCall, variablesCall}
 use Rattle.rules.specs.Offices.{Name, byBytes, nameNo, mapTy, ReadAlike, NumbersAlike, ListedAlike, frontListed}
 use Rattle.laws.specs.NameTable.{Good}
 use Rattle.offices.specs.Both.{Both, Pair, neither, both, pair, hence, alike, equal-answers, checked}
 use Rattle.offices.specs.Contents.{closed-map, contains-name, variables-map}
 use Rattle.offices.specs.Naming.{keeps}
 use Rattle.offices.specs.Results.{listing-alike}
-use Rattle.offices.specs.Given.{Alike, ν, ν′, as-long, as-many, short, kept-alike, lent-table, set-given, lent-result, type-given, scheme-given, bindings-given, numbers-given, apart-alike, opens-alike}
+use Rattle.offices.specs.Given.{Alike, as-long, as-many, short, kept-alike, lent-table, set-given, lent-result, type-given, scheme-given, bindings-given, numbers-given, apart-alike, opens-alike}
 
 module _ {pool table pool′ table′ : List ℕ} (good : Good pool table) (good′ : Good pool′ table′) where
+  -- the two tables, and the names of their numbers
+  abbrev T₁ : Table
+  T₁ = tableOf pool table
+
+  abbrev T₂ : Table
+  T₂ = tableOf pool′ table′
+
+  abbrev ν₁ : ℕ → Name
+  ν₁ = nameNo T₁
+
+  abbrev ν₂ : ℕ → Name
+  ν₂ = nameNo T₂
+
   pub alone : (ws ws′ : List ℕ) → Alike good good′ ws ws′ → aloneGiven pool table ws ≡ aloneGiven pool′ table′ ws′
   unfolding aloneGiven
   alone ws ws′ e = rw (lent-table good good′, short (ws ∷ []) (ws′ ∷ []) (rw (as-long e)), kept-alike good good′)
@@ -39,10 +53,10 @@ module _ {pool table pool′ table′ : List ℕ} (good : Good pool table) (good
   unfolding bindingsCall
   bindings-alike ws ws′ e = equal-answers (hence (checked (alone ws ws′ e) (bindings-given good good′ ws ws′ e)) (λ a b i. alike refl))
 
-  contained : (b : Bool) (x x′ : ℕ) (u u′ : Ty ℕ) → ν good good′ x ≡ ν′ good good′ x′ → mapTy (ν good good′) u ≡ mapTy (ν′ good good′) u′ → containsName (numbersOf (tableOf pool table)) b x u ≡ containsName (numbersOf (tableOf pool′ table′)) b x′ u′
-  contained b x x′ u u′ e f = sym (contains-name _ byBytes (ν good good′) (keeps good) b x u) ∙ ap₂ (λ (y : Name) (v : Ty Name). containsName byBytes b y v) e f ∙ contains-name _ byBytes (ν′ good good′) (keeps good′) b x′ u′
+  contained : (b : Bool) (x x′ : ℕ) (u u′ : Ty ℕ) → ν₁ x ≡ ν₂ x′ → mapTy ν₁ u ≡ mapTy ν₂ u′ → containsName (numbersOf T₁) b x u ≡ containsName (numbersOf T₂) b x′ u′
+  contained b x x′ u u′ e f = sym (contains-name _ byBytes ν₁ (keeps good) b x u) ∙ ap₂ (λ (y : Name) (v : Ty Name). containsName byBytes b y v) e f ∙ contains-name _ byBytes ν₂ (keeps good′) b x′ u′
 
-  pub contains-alike : (ws ws′ : List ℕ) (x x′ : ℕ) (b : Bool) → Alike good good′ ws ws′ → ν good good′ x ≡ ν′ good good′ x′ → containsCall pool table ws x b ≡ containsCall pool′ table′ ws′ x′ b
+  pub contains-alike : (ws ws′ : List ℕ) (x x′ : ℕ) (b : Bool) → Alike good good′ ws ws′ → ν₁ x ≡ ν₂ x′ → containsCall pool table ws x b ≡ containsCall pool′ table′ ws′ x′ b
   unfolding containsCall
   contains-alike ws ws′ x x′ b e f = equal-answers (checked (alone ws ws′ e) (hence (type-given good good′ ws ws′ e) (λ u u′ i.
       checked (numbers-given good good′ (x ∷ []) (x′ ∷ []) (rw f)) (checked (apart-alike good good′ (opens u) (opens u′) (opens-alike good good′ u u′ i)) (alike (contained b x x′ u u′ f i))))))
@@ -50,14 +64,15 @@ module _ {pool table pool′ table′ : List ℕ} (good : Good pool table) (good
   pub closed-alike : (ws ws′ : List ℕ) → Alike good good′ ws ws′ → closedCall pool table ws ≡ closedCall pool′ table′ ws′
   unfolding closedCall
   closed-alike ws ws′ e = equal-answers (checked (alone ws ws′ e) (hence (type-given good good′ ws ws′ e) (λ u u′ i.
-      checked (apart-alike good good′ (opens u) (opens u′) (opens-alike good good′ u u′ i)) (alike (sym (closed-map (ν good good′) u) ∙ ap closed i ∙ closed-map (ν′ good good′) u′)))))
+      checked (apart-alike good good′ (opens u) (opens u′) (opens-alike good good′ u u′ i)) (alike (sym (closed-map ν₁ u) ∙ ap closed i ∙ closed-map ν₂ u′)))))
 
-  pub variables-alike : (ws ws′ : List ℕ) (b : Bool) (result result′ : List ℕ) → Alike good good′ ws ws′ → length result ≡ length result′ → ListedAlike (tableOf pool table) (tableOf pool′ table′) (variablesCall pool table ws b result) (variablesCall pool′ table′ ws′ b result′)
+  pub variables-alike : (ws ws′ : List ℕ) (b : Bool) (result result′ : List ℕ) → Alike good good′ ws ws′ → length result ≡ length result′
+      → ListedAlike T₁ T₂ (variablesCall pool table ws b result) (variablesCall pool′ table′ ws′ b result′)
   unfolding variablesCall
-  variables-alike ws ws′ b result result′ e r = listing-alike (tableOf pool table) (tableOf pool′ table′) _ _ result result′
+  variables-alike ws ws′ b result result′ e r = listing-alike T₁ T₂ _ _ result result′
       (checked (checks r) (checked (alone ws ws′ e) (hence (type-given good good′ ws ws′ e) (λ u u′ i.
       checked (apart-alike good good′ (opens u) (opens u′) (opens-alike good good′ u u′ i))
-      (alike (sym (variables-map _ byBytes (ν good good′) (keeps good) b u) ∙ ap (variables byBytes b) i ∙ variables-map _ byBytes (ν′ good good′) (keeps good′) b u′))))))
+      (alike (sym (variables-map _ byBytes ν₁ (keeps good) b u) ∙ ap (variables byBytes b) i ∙ variables-map _ byBytes ν₂ (keeps good′) b u′))))))
     where
       checks : length result ≡ length result′ → (lentTable pool table >> lentResult result) ≡ (lentTable pool′ table′ >> lentResult result′)
       checks r = rw (lent-table good good′, lent-result result result′ r)

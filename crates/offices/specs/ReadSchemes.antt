@@ -14,7 +14,8 @@ use Rattle.rules.specs.Writing.{Rec, rec}
 use Rattle.rules.specs.Reading
 use Rattle.rules.specs.Reading.{Reader, give, unused, pick, readTy, readBound, readAll, schemeOf}
 use Rattle.rules.specs.Offices.{Word, number, nameNo, namesOne, wordIf, mapOpen, mapTy, mapScheme, mapOption}
-use Rattle.offices.specs.Reading.{Seen, seen, Alike, SameWord, Agree, Readers, Tables, end, row, Cases, neither, both, cases, give-agree, unused-agree, pick-agree, then-agree, number-at, ty-agree, bound-agree, all-agree, unlike, head, tail, plain}
+use Rattle.offices.specs.Reading.{Seen, seen, Alike, SameWord, Agree, Readers, Tables, end, row, Cases, neither, both}
+use Rattle.offices.specs.Reading.{cases, give-agree, unused-agree, pick-agree, then-agree, number-at, ty-agree, bound-agree, all-agree, unlike, head, tail, plain}
 
 -- a scheme's first record and its type
 abbrev formTable : ℕ → List (ℕ × Reader (Scheme ℕ))
@@ -47,7 +48,8 @@ module _ (t t′ : Table) where
   unfolding namesOne any
   head-rows k b c n n′ w = row t t′ _ _ (λ e. unused-agree t t′ _ _ (c ∷ []) (pick-agree t t′ _ _ b (formTable n) (formTable n′) (form-rows b n n′ (number-at t t′ k b n n′ 26 e refl w)))) end
 
-  ends-alike : (s s′ : Scheme ℕ) (bs bs′ : List (Open ℕ)) → mapScheme (nameNo t) s ≡ mapScheme (nameNo t′) s′ → map (mapOpen (nameNo t)) bs ≡ map (mapOpen (nameNo t′)) bs′ → mapOption (mapScheme (nameNo t)) (ends s bs) ≡ mapOption (mapScheme (nameNo t′)) (ends s′ bs′)
+  ends-alike : (s s′ : Scheme ℕ) (bs bs′ : List (Open ℕ)) → mapScheme (nameNo t) s ≡ mapScheme (nameNo t′) s′ → map (mapOpen (nameNo t)) bs ≡ map (mapOpen (nameNo t′)) bs′
+      → mapOption (mapScheme (nameNo t)) (ends s bs) ≡ mapOption (mapScheme (nameNo t′)) (ends s′ bs′)
   unfolding mapScheme
   ends-alike (scheme n u os) (scheme n′ u′ os′) bs bs′ e f = cc
   ends-alike (scheme n u os) (concrete u′) bs bs′ e f = cc
@@ -60,16 +62,19 @@ module _ (t t′ : Table) where
   pub same-length : (rs rs′ : List Rec) → Alike t t′ rs rs′ → length rs ≡ length rs′
   same-length rs rs′ e = sym (length-map rs (seen t)) ∙ ap length e ∙ length-map rs′ (seen t′)
 
-  ended-alike : (v v′ : Scheme ℕ × List Rec) → mapScheme (nameNo t) (v .0) ≡ mapScheme (nameNo t′) (v′ .0) → Alike t t′ (v .1) (v′ .1) → mapOption (mapScheme (nameNo t)) (ended v) ≡ mapOption (mapScheme (nameNo t′)) (ended v′)
+  ended-alike : (v v′ : Scheme ℕ × List Rec) → mapScheme (nameNo t) (v .0) ≡ mapScheme (nameNo t′) (v′ .0) → Alike t t′ (v .1) (v′ .1)
+      → mapOption (mapScheme (nameNo t)) (ended v) ≡ mapOption (mapScheme (nameNo t′)) (ended v′)
   ended-alike v v′ e f = rw (same-length (v .1) (v′ .1) f) (go (readAll readBound (length (v′ .1)) (v .1)) (readAll readBound (length (v′ .1)) (v′ .1)) (all-agree t t′ readBound (bound-agree t t′) (length (v′ .1)) (v .1) (v′ .1) f))
     where
-      go : (o o′ : Option (List (Open ℕ))) → mapOption (map (mapOpen (nameNo t))) o ≡ mapOption (map (mapOpen (nameNo t′))) o′ → mapOption (mapScheme (nameNo t)) (andThen o (λ bs. ends (v .0) bs)) ≡ mapOption (mapScheme (nameNo t′)) (andThen o′ (λ bs. ends (v′ .0) bs))
+      go : (o o′ : Option (List (Open ℕ))) → mapOption (map (mapOpen (nameNo t))) o ≡ mapOption (map (mapOpen (nameNo t′))) o′
+          → mapOption (mapScheme (nameNo t)) (andThen o (λ bs. ends (v .0) bs)) ≡ mapOption (mapScheme (nameNo t′)) (andThen o′ (λ bs. ends (v′ .0) bs))
       go none none h = refl
       go none (some bs′) h = cc
       go (some bs) none h = cc
       go (some bs) (some bs′) h = ends-alike (v .0) (v′ .0) bs bs′ e (cc)
 
-  one-scheme : (k k′ n n′ b b′ c c′ : ℕ) (rs rs′ : List Rec) → k ≡ k′ → b ≡ b′ → c ≡ c′ → wordIf (namesOne k b) t n ≡ wordIf (namesOne k′ b′) t′ n′ → Alike t t′ rs rs′ → Agree t t′ (mapScheme (nameNo t)) (mapScheme (nameNo t′)) (pick k (headTable n b c) rs) (pick k′ (headTable n′ b′ c′) rs′)
+  one-scheme : (k k′ n n′ b b′ c c′ : ℕ) (rs rs′ : List Rec) → k ≡ k′ → b ≡ b′ → c ≡ c′ → wordIf (namesOne k b) t n ≡ wordIf (namesOne k′ b′) t′ n′ → Alike t t′ rs rs′
+      → Agree t t′ (mapScheme (nameNo t)) (mapScheme (nameNo t′)) (pick k (headTable n b c) rs) (pick k′ (headTable n′ b′ c′) rs′)
   one-scheme k k′ n n′ b b′ c c′ rs rs′ ek eb ec w h = rw (← ek, ← eb, ← ec) (pick-agree t t′ _ _ k (headTable n b c) (headTable n′ b c) (head-rows k b c n n′ (rw (← ek, ← eb) at w)) .agree rs rs′ h)
 
   pub scheme-alike : (rs rs′ : List Rec) → Alike t t′ rs rs′ → mapOption (mapScheme (nameNo t)) (schemeOf rs) ≡ mapOption (mapScheme (nameNo t′)) (schemeOf rs′)
@@ -81,6 +86,7 @@ module _ (t t′ : Table) where
       let x = head e in
       go (cases t t′ _ _ (pick k (headTable n b c) rs) (pick k′ (headTable n′ b′ c′) rs′) (one-scheme k k′ n n′ b b′ c c′ rs rs′ (plain (ap (λ r. r .0) x)) (plain (ap (λ r. r .2) x)) (plain (ap (λ r. r .3) x)) (ap (λ r. r .1) x) (tail e) .is))
     where
-      go : {o o′ : Option (Scheme ℕ × List Rec)} → Cases t t′ (mapScheme (nameNo t)) (mapScheme (nameNo t′)) o o′ → mapOption (mapScheme (nameNo t)) (andThen o ended) ≡ mapOption (mapScheme (nameNo t′)) (andThen o′ ended)
+      go : {o o′ : Option (Scheme ℕ × List Rec)} → Cases t t′ (mapScheme (nameNo t)) (mapScheme (nameNo t′)) o o′
+          → mapOption (mapScheme (nameNo t)) (andThen o ended) ≡ mapOption (mapScheme (nameNo t′)) (andThen o′ ended)
       go neither = refl
       go (both v v′ i j) = ended-alike v v′ i j

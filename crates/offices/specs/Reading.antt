@@ -11,12 +11,14 @@ use lib.Dec.{eqb}
 use lib.ListN.{length, length-map}
 use Rattle.rules.specs.Base.{all, any, andThen}
 use Rattle.rules.specs.Exponents.{frac}
-use Rattle.rules.specs.Trees.{Open, var, quant, par, free, base, Factor, _↑_, Product, Ty, opened, basic, dim, fn, struct, list, Tys, nil, cons, Fields, noFields, field, Con, equal, isDim, isScalar, hasField, Binding, _≔_, boolean, string, datetime}
+use Rattle.rules.specs.Trees.{Open, var, quant, par, free, base, Factor, _↑_, Product, Ty, opened, basic, dim, fn, struct, list}
+use Rattle.rules.specs.Trees.{Tys, nil, cons, Fields, noFields, field, Con, equal, isDim, isScalar, hasField, Binding, _≔_, boolean, string, datetime}
 use Rattle.rules.specs.Names.{Table}
 use Rattle.rules.specs.Schemes.{Scheme, concrete, scheme}
 use Rattle.rules.specs.Writing.{Rec, rec, signed}
 use Rattle.rules.specs.Reading
-use Rattle.rules.specs.Reading.{Reader, pass, give, unused, pick, next, factorTable, factorKinds, readFactors, readTys, fieldName, readFields, readDim, readFn, readStruct, readList, typeTable, typeKinds, readTy, readScalar, scalarTable, scalarKinds, readEqual, readIsDim, readHasField, conTable, conKinds, readCon, readBoundTo, bindingTable, bindingKinds, readBinding, boundTable, boundKinds, readBound, readAll, records, schemeOf}
+use Rattle.rules.specs.Reading.{Reader, pass, give, unused, pick, next, factorTable, factorKinds, readFactors, readTys, fieldName, readFields, readDim, readFn, readStruct, readList, typeTable, typeKinds, readTy}
+use Rattle.rules.specs.Reading.{readScalar, scalarTable, scalarKinds, readEqual, readIsDim, readHasField, conTable, conKinds, readCon, readBoundTo, bindingTable, bindingKinds, readBinding, boundTable, boundKinds, readBound, readAll, records, schemeOf}
 use Rattle.rules.specs.Offices.{Word, number, name, Name, nameNo, namesOne, wordIf, readBack, ReadAlike, mapOpen, mapFactor, mapTy, mapTys, mapFields, mapCon, mapBinding, mapScheme, mapOption}
 
 -- a record with a name in place of its number
@@ -59,7 +61,8 @@ records-seen t (k ∷ a ∷ []) = refl
 records-seen t (k ∷ a ∷ b ∷ []) = refl
 records-seen t (k ∷ a ∷ b ∷ c ∷ ws) = go (records ws) refl (records-seen t ws)
   where
-    go : (o : Option (List Rec)) → records ws ≡ o → mapOption (map (seen t)) (records ws) ≡ grouped (readBack t ws) → mapOption (map (seen t)) (records (k ∷ a ∷ b ∷ c ∷ ws)) ≡ before (seen t (rec k a b c)) (grouped (readBack t ws))
+    go : (o : Option (List Rec)) → records ws ≡ o → mapOption (map (seen t)) (records ws) ≡ grouped (readBack t ws)
+        → mapOption (map (seen t)) (records (k ∷ a ∷ b ∷ c ∷ ws)) ≡ before (seen t (rec k a b c)) (grouped (readBack t ws))
     go none e h = rw (← h, records, e)
     go (some rs) e h = rw (← h, records, e)
 
@@ -135,7 +138,8 @@ module _ (t t′ : Table) where
         go true e r = rw (pick, e) (here (eqb-true k j e))
         go false e r = rw (pick, e) r
 
-    one-record : (f : ℕ → ℕ → ℕ → ℕ → Reader A) → ((k a a′ b c : ℕ) → SameWord k b a a′ → Readers (f k a b c) (f k a′ b c)) → (k k′ a a′ b b′ c c′ : ℕ) (rs rs′ : List Rec) → k ≡ k′ → b ≡ b′ → c ≡ c′ → wordIf (namesOne k b) t a ≡ wordIf (namesOne k′ b′) t′ a′ → Alike rs rs′ → Agree (f k a b c rs) (f k′ a′ b′ c′ rs′)
+    one-record : (f : ℕ → ℕ → ℕ → ℕ → Reader A) → ((k a a′ b c : ℕ) → SameWord k b a a′ → Readers (f k a b c) (f k a′ b c)) → (k k′ a a′ b b′ c c′ : ℕ) (rs rs′ : List Rec) → k ≡ k′ → b ≡ b′
+        → c ≡ c′ → wordIf (namesOne k b) t a ≡ wordIf (namesOne k′ b′) t′ a′ → Alike rs rs′ → Agree (f k a b c rs) (f k′ a′ b′ c′ rs′)
     one-record f s k k′ a a′ b b′ c c′ rs rs′ ek eb ec w h = rw (← ek, ← eb, ← ec) (s k a a′ b c (rw (← ek, ← eb) at w) .agree rs rs′ h)
 
     pub next-agree : (f : ℕ → ℕ → ℕ → ℕ → Reader A) → ((k a a′ b c : ℕ) → SameWord k b a a′ → Readers (f k a b c) (f k a′ b c)) → Readers (next f) (next f)
@@ -305,6 +309,7 @@ module _ (t t′ : Table) where
     all-agree (suc n) (x ∷ rs) [] e = absurd (unlike (sym e))
     all-agree (suc n) (x ∷ rs) (y ∷ rs′) e = rw (read-step n x rs, read-step n y rs′) (go (cases g g′ (r (x ∷ rs)) (r (y ∷ rs′)) (reads .agree (x ∷ rs) (y ∷ rs′) e .is)) (all-agree n))
       where
-        go : {o o′ : Option (A × List Rec)} → Cases g g′ o o′ → ((rs rs′ : List Rec) → Alike rs rs′ → mapOption (map g) (readAll r n rs) ≡ mapOption (map g′) (readAll r n rs′)) → mapOption (map g) (andThen o (λ v. before (v .0) (readAll r n (v .1)))) ≡ mapOption (map g′) (andThen o′ (λ v. before (v .0) (readAll r n (v .1))))
+        go : {o o′ : Option (A × List Rec)} → Cases g g′ o o′ → ((rs rs′ : List Rec) → Alike rs rs′ → mapOption (map g) (readAll r n rs) ≡ mapOption (map g′) (readAll r n rs′))
+            → mapOption (map g) (andThen o (λ v. before (v .0) (readAll r n (v .1)))) ≡ mapOption (map g′) (andThen o′ (λ v. before (v .0) (readAll r n (v .1))))
         go neither h = refl
         go (both v v′ i j) h = before-alike (v .0) (v′ .0) (readAll r n (v .1)) (readAll r n (v′ .1)) i (h (v .1) (v′ .1) j)

@@ -20,7 +20,9 @@ module _ {N M : Type 0} (ν : Names N) (μ : Names M) (f : N → M) (keeps : Kee
   factors-map (base n ↑ e ∷ p) acc = factors-map p acc
   factors-map (free o ↑ e ∷ p) acc = go (look o) refl (looks o) (factors-map p)
     where
-      go : (t : Option (Ty N)) → look o ≡ t → look′ (mapOpen f o) ≡ mapOption (mapTy f) (look o) → ((acc : Product N) → Over (map (mapFactor f)) (replaceFactors ν l look p acc) (replaceFactors μ l look′ (map (mapFactor f) p) (map (mapFactor f) acc))) → Over (map (mapFactor f)) (replaceFactors ν l look (free o ↑ e ∷ p) acc) (replaceFactors μ l look′ (map (mapFactor f) (free o ↑ e ∷ p)) (map (mapFactor f) acc))
+      go : (t : Option (Ty N)) → look o ≡ t → look′ (mapOpen f o) ≡ mapOption (mapTy f) (look o)
+          → ((acc : Product N) → Over (map (mapFactor f)) (replaceFactors ν l look p acc) (replaceFactors μ l look′ (map (mapFactor f) p) (map (mapFactor f) acc)))
+          → Over (map (mapFactor f)) (replaceFactors ν l look (free o ↑ e ∷ p) acc) (replaceFactors μ l look′ (map (mapFactor f) (free o ↑ e ∷ p)) (map (mapFactor f) acc))
       go none q r h = rw (r, replaceFactors, q) (h acc)
       go (some t) q r h =
           rw (r, replaceFactors, q)
@@ -82,7 +84,8 @@ module _ {N M : Type 0} (ν : Names N) (μ : Names M) (f : N → M) (keeps : Kee
   find-map [] x = refl
   find-map (y ≔ t ∷ bs) x = go (isYes (ν .same x y)) refl (same-map ν μ f keeps x y) (find-map bs x)
     where
-      go : (b : Bool) → isYes (ν .same x y) ≡ b → isYes (μ .same (f x) (f y)) ≡ isYes (ν .same x y) → find μ (map (mapBinding f) bs) (f x) ≡ mapOption (mapTy f) (find ν bs x) → find μ (f y ≔ mapTy f t ∷ map (mapBinding f) bs) (f x) ≡ mapOption (mapTy f) (find ν (y ≔ t ∷ bs) x)
+      go : (b : Bool) → isYes (ν .same x y) ≡ b → isYes (μ .same (f x) (f y)) ≡ isYes (ν .same x y) → find μ (map (mapBinding f) bs) (f x) ≡ mapOption (mapTy f) (find ν bs x)
+          → find μ (f y ≔ mapTy f t ∷ map (mapBinding f) bs) (f x) ≡ mapOption (mapTy f) (find ν (y ≔ t ∷ bs) x)
       go true e r k = rw (find, r, e)
       go false e r k = rw (find, r, e, k)
 

@@ -33,10 +33,12 @@ module _ (t t′ : Table) where
   unfolding readBack
   nothing = record { words = refl }
 
-  pub fronts : (rs rs′ : List Rec) (n n′ : ℕ) (b b′ : List ℕ) → length rs ≡ n → length rs′ ≡ n′ → map (seen t) rs ≡ map (seen t′) rs′ → ReadAlike t t′ (take (n * 4) (over (words rs) b)) (take (n′ * 4) (over (words rs′) b′))
+  pub fronts : (rs rs′ : List Rec) (n n′ : ℕ) (b b′ : List ℕ) → length rs ≡ n → length rs′ ≡ n′ → map (seen t) rs ≡ map (seen t′) rs′
+      → ReadAlike t t′ (take (n * 4) (over (words rs) b)) (take (n′ * 4) (over (words rs′) b′))
   fronts rs rs′ n n′ b b′ i i′ e = rw (← i, ← i′, records-front rs b, records-front rs′ b′) (words-alike t t′ rs rs′ e)
 
-  pub writing-alike : (room : Got (Unit {0})) (m m′ : Got (List Rec)) (result result′ work work′ : List ℕ) → Both (map (seen t)) (map (seen t′)) m m′ → WrittenAlike t t′ (writing room m result work) (writing room m′ result′ work′)
+  pub writing-alike : (room : Got (Unit {0})) (m m′ : Got (List Rec)) (result result′ work work′ : List ℕ) → Both (map (seen t)) (map (seen t′)) m m′
+      → WrittenAlike t t′ (writing room m result work) (writing room m′ result′ work′)
   unfolding writing resultAfter
   writing-alike (refused n) m m′ result result′ work work′ b = record { answer = refl; records = nothing }
   writing-alike (got u) m m′ result result′ work work′ b = go (pair m m′ b)

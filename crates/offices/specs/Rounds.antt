@@ -8,12 +8,14 @@ use Prim.Native.Nat.{ℕ}
 use lib.Dec.{eqb}
 use Rattle.rules.specs.Base.{Got, got, _>>=_, Limits, isYes, _orElse_, onlyIf, andThen, each, collect}
 use Rattle.rules.specs.Exponents.{Exp, neg, quotient}
-use Rattle.rules.specs.Trees.{Open, var, quant, par, free, base, Factor, _↑_, Product, Names, Ty, opened, basic, dim, fn, struct, list, Tys, nil, cons, Fields, Con, equal, isDim, isScalar, hasField, Binding, _≔_, ty-dec, count, openOfFactor}
+use Rattle.rules.specs.Trees.{Open, var, quant, par, free, base, Factor, _↑_, Product, Names, Ty, opened, basic, dim, fn}
+use Rattle.rules.specs.Trees.{struct, list, Tys, nil, cons, Fields, Con, equal, isDim, isScalar, hasField, Binding, _≔_, ty-dec, count, openOfFactor}
 use Rattle.rules.specs.Views.{productOf, fnOf, structOf, listOf, variable, asVar, asPower}
 use Rattle.rules.specs.Contents.{closed, contains, fieldIn, namesIn}
 use Rattle.rules.specs.Products.{divide}
 use Rattle.rules.specs.Replacing.{replaceCon, replaceBinding, bindings}
-use Rattle.rules.specs.Rounds.{Step, bind, split, done, stuck, State, pairs, asProducts, variableLeft, functions, lists, bindTo, firstRules, structs, dimensions, byKind, orTry, dimensionParts, otherSide, fieldStep, trySatisfy, taken, sizeState, depthState, limited, firstStep, perform, performed, round}
+use Rattle.rules.specs.Rounds.{Step, bind, split, done, stuck, State, pairs, asProducts, variableLeft, functions, lists, bindTo, firstRules, structs}
+use Rattle.rules.specs.Rounds.{dimensions, byKind, orTry, dimensionParts, otherSide, fieldStep, trySatisfy, taken, sizeState, depthState, limited, firstStep, perform, performed, round}
 use Rattle.rules.specs.Offices.{Keeps, mapOpen, mapAtom, mapFactor, mapTy, mapTys, mapFields, mapCon, mapBinding, mapOption}
 use Rattle.offices.specs.Over.{Over, next, gives, same-over, sized-over, each-over}
 use Rattle.offices.specs.Options.{then-map, or-map, getD-map}
@@ -77,7 +79,8 @@ module _ {N M : Type 0} (f : N → M) where
   abbrev pub mapTaken : Step N × List (Con N) → Step M × List (Con M)
   mapTaken v = (mapStep (v .0), map (mapCon f) (v .1))
 
-  taken-map : (s : Step N) (c : Con N) (cs : List (Con N)) (more : Unit {0} → Got (Option (Step N × List (Con N)))) (more′ : Unit {0} → Got (Option (Step M × List (Con M)))) → Over (mapOption mapTaken) (more tt) (more′ tt) → Over (mapOption mapTaken) (taken s c cs more) (taken (mapStep s) (mapCon f c) (map (mapCon f) cs) more′)
+  taken-map : (s : Step N) (c : Con N) (cs : List (Con N)) (more : Unit {0} → Got (Option (Step N × List (Con N)))) (more′ : Unit {0} → Got (Option (Step M × List (Con M))))
+      → Over (mapOption mapTaken) (more tt) (more′ tt) → Over (mapOption mapTaken) (taken s c cs more) (taken (mapStep s) (mapCon f c) (map (mapCon f) cs) more′)
   unfolding taken
   taken-map (bind x t) c cs more more′ h = gives refl
   taken-map (split new) c cs more more′ h = gives refl
@@ -97,7 +100,8 @@ module _ {N M : Type 0} (ν : Names N) (μ : Names M) (f : N → M) (keeps : Kee
   equal-records : (s t : Ty N) → onlyIf (isYes (ty-dec μ (mapTy f s) (mapTy f t))) done ≡ mapOption (mapStep f) (onlyIf (isYes (ty-dec ν s t)) done)
   equal-records s t = rw (ty-same ν μ f keeps s t) (only-map (mapStep f) (isYes (ty-dec ν s t)) done)
 
-  five : (a b c d e : Option (Step N)) → (mapOption (mapStep f) a orElse mapOption (mapStep f) b orElse mapOption (mapStep f) c orElse mapOption (mapStep f) d orElse mapOption (mapStep f) e) ≡ mapOption (mapStep f) (a orElse b orElse c orElse d orElse e)
+  five : (a b c d e : Option (Step N))
+      → (mapOption (mapStep f) a orElse mapOption (mapStep f) b orElse mapOption (mapStep f) c orElse mapOption (mapStep f) d orElse mapOption (mapStep f) e) ≡ mapOption (mapStep f) (a orElse b orElse c orElse d orElse e)
   five a b c d e = rw (or-map (mapStep f) d e, or-map (mapStep f) c (d orElse e), or-map (mapStep f) b (c orElse d orElse e), or-map (mapStep f) a (b orElse c orElse d orElse e))
 
   first-rules : (s t : Ty N) → firstRules μ (mapTy f s) (mapTy f t) ≡ mapOption (mapStep f) (firstRules ν s t)
@@ -124,7 +128,8 @@ module _ {N M : Type 0} (ν : Names N) (μ : Names M) (f : N → M) (keeps : Kee
       (then-map (mapTy f) (mapStep f) (fieldIn ν n (v .2)) _ _ (λ u. refl))))))
 
 module _ {N M : Type 0} (ν : Names N) (μ : Names M) (f : N → M) (keeps : Keeps ν μ f) (l : Limits) where
-  dimensions-map : (d : Product N) (o : Option (Product N)) (x : Option N) → Over (mapStep f) (dimensions ν l d o x) (dimensions μ l (map (mapFactor f) d) (mapOption (map (mapFactor f)) o) (mapOption f x))
+  dimensions-map : (d : Product N) (o : Option (Product N)) (x : Option N)
+      → Over (mapStep f) (dimensions ν l d o x) (dimensions μ l (map (mapFactor f) d) (mapOption (map (mapFactor f)) o) (mapOption f x))
   unfolding dimensions mapCon
   dimensions-map d (some e) x = next (divide-map ν μ f keeps l d e) (λ q q′ i. gives (rw i))
   dimensions-map d none x = gives (as-products f x d)

@@ -61,7 +61,8 @@ module _ {N M : Type 0} (f : N → M) where
     bounds-map [] = refl
     bounds-map (o ∷ bs) = rw (renames o, getD-map (mapOpen f) (r o) o, bounds-map bs)
 
-  pub limited-map : {A B : Type 0} (g : A → B) (l : Limits) (n : ℕ) (t : Ty N) (bs : List (Open N)) (a : A) → Over g (schemeLimited l n t bs a) (schemeLimited l n (mapTy f t) (map (mapOpen f) bs) (g a))
+  pub limited-map : {A B : Type 0} (g : A → B) (l : Limits) (n : ℕ) (t : Ty N) (bs : List (Open N)) (a : A)
+      → Over g (schemeLimited l n t bs a) (schemeLimited l n (mapTy f t) (map (mapOpen f) bs) (g a))
   unfolding schemeLimited
   limited-map g l n t bs a = rw (size-map f t, depth-map f t, length-map) (sized-over g l (n + (size t + length bs)) (depth t) a)
 

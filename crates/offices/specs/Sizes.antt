@@ -5,7 +5,8 @@ use mathlib.Core.List.{List, [], _∷_, _++_, map, map-append}
 use Prim.Native.Nat.{ℕ, suc, _+_, max}
 use lib.ListN.{length, length-map}
 use Rattle.rules.specs.Base.{collect, sumOf, maxOf}
-use Rattle.rules.specs.Trees.{Open, var, quant, par, free, base, Factor, _↑_, Product, Ty, opened, basic, dim, fn, struct, list, Tys, nil, cons, Fields, noFields, field, Con, equal, isDim, isScalar, hasField, Binding, _≔_, openOfFactor, opens, opensTys, opensFields, size, sizeTys, sizeFields, depth, depthTys, depthFields, count, countFields, opensCon, sizeCon, depthCon, sizeBinding, depthBinding}
+use Rattle.rules.specs.Trees.{Open, var, quant, par, free, base, Factor, _↑_, Product, Ty, opened, basic, dim, fn, struct, list, Tys, nil, cons, Fields, noFields, field, Con}
+use Rattle.rules.specs.Trees.{equal, isDim, isScalar, hasField, Binding, _≔_, openOfFactor, opens, opensTys, opensFields, size, sizeTys, sizeFields, depth, depthTys, depthFields, count, countFields, opensCon, sizeCon, depthCon, sizeBinding, depthBinding}
 use Rattle.rules.specs.Rounds.{State, sizeState, depthState}
 use Rattle.rules.specs.Calls.{opensBinding}
 use Rattle.rules.specs.Offices.{mapOpen, mapAtom, mapFactor, mapTy, mapTys, mapFields, mapCon, mapBinding}

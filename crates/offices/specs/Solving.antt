@@ -51,7 +51,8 @@ module _ {N M : Type 0} (ν : Names N) (μ : Names M) (f : N → M) (keeps : Kee
   unfolding finish
   finish-map k s = rw (others-map f (s .cons)) (finished-map (keep (λ c. isNone (boundOf c)) (s .cons)) k s)
 
-  answered : (g : Got (Option (State N))) (k : ℕ) (s : State N) (more : State N → Answer N) (more′ : State M → Answer M) → ((s : State N) → more′ (mapState f s) ≡ mapAnswer f (more s)) → after μ (mapGot (mapOption (mapState f)) g) k (mapState f s) more′ ≡ mapAnswer f (after ν g k s more)
+  answered : (g : Got (Option (State N))) (k : ℕ) (s : State N) (more : State N → Answer N) (more′ : State M → Answer M) → ((s : State N) → more′ (mapState f s) ≡ mapAnswer f (more s))
+      → after μ (mapGot (mapOption (mapState f)) g) k (mapState f s) more′ ≡ mapAnswer f (after ν g k s more)
   unfolding after mapAnswer
   answered (refused n) k s more more′ e = refl
   answered (got none) k s more more′ e = finish-map k s

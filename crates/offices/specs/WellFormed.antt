@@ -8,7 +8,8 @@ use lib.Dec.{leb}
 use lib.ListN.{length, length-map}
 use Rattle.rules.specs.Base.{all}
 use Rattle.rules.specs.Exponents.{goodStored}
-use Rattle.rules.specs.Trees.{Open, var, quant, par, Atom, free, base, Factor, _↑_, Product, Names, Ty, opened, basic, dim, fn, struct, list, Tys, nil, cons, Fields, noFields, field, Con, equal, isDim, isScalar, hasField, Binding, _≔_, orderAtom}
+use Rattle.rules.specs.Trees.{Open, var, quant, par, Atom, free, base, Factor, _↑_, Product, Names, Ty, opened, basic, dim, fn}
+use Rattle.rules.specs.Trees.{struct, list, Tys, nil, cons, Fields, noFields, field, Con, equal, isDim, isScalar, hasField, Binding, _≔_, orderAtom}
 use Rattle.rules.specs.WellFormed.{rising, atomOf, fieldNames, isLt, goodOpen, goodFactor, goodProduct, goodTy, goodTys, goodFields, goodCon, goodBinding}
 use Rattle.rules.specs.Offices.{Keeps, mapOpen, mapAtom, mapFactor, mapTy, mapTys, mapFields, mapCon, mapBinding}
 use Rattle.offices.specs.Products.{order-atom}

@@ -6,7 +6,8 @@ use Prim.Native.Nat.{ℕ}
 use lib.ListN.{length, length-map}
 use Rattle.rules.specs.Base.{any, collect}
 use Rattle.rules.specs.Exponents.{frac}
-use Rattle.rules.specs.Trees.{Open, var, quant, par, free, base, Factor, _↑_, Product, Ty, opened, basic, dim, fn, struct, list, Tys, nil, cons, Fields, noFields, field, Con, equal, isDim, isScalar, hasField, Binding, _≔_, count, countFields, boolean, string, datetime}
+use Rattle.rules.specs.Trees.{Open, var, quant, par, free, base, Factor, _↑_, Product, Ty, opened, basic, dim, fn, struct, list, Tys}
+use Rattle.rules.specs.Trees.{nil, cons, Fields, noFields, field, Con, equal, isDim, isScalar, hasField, Binding, _≔_, count, countFields, boolean, string, datetime}
 use Rattle.rules.specs.Names.{Table}
 use Rattle.rules.specs.Schemes.{Scheme, concrete, scheme}
 use Rattle.rules.specs.Views.{kindOpen, kindBasic}
@@ -180,14 +181,17 @@ module _ (t t′ : Table) where
   pub scheme-written : (s s′ : Scheme ℕ) → mapScheme (nameNo t) s ≡ mapScheme (nameNo t′) s′ → map (seen t) (writeScheme s) ≡ map (seen t′) (writeScheme s′)
   scheme-written s s′ e = scheme-seen t s ∙ ap schemeSeen e ∙ sym (scheme-seen t′ s′)
 
-  pub opened-written : (u u′ : Ty ℕ) (os os′ : List (Open ℕ)) → mapTy (nameNo t) u ≡ mapTy (nameNo t′) u′ → map (mapOpen (nameNo t)) os ≡ map (mapOpen (nameNo t′)) os′ → map (seen t) (writeTy u ++ map writeBound os) ≡ map (seen t′) (writeTy u′ ++ map writeBound os′)
+  pub opened-written : (u u′ : Ty ℕ) (os os′ : List (Open ℕ)) → mapTy (nameNo t) u ≡ mapTy (nameNo t′) u′ → map (mapOpen (nameNo t)) os ≡ map (mapOpen (nameNo t′)) os′
+      → map (seen t) (writeTy u ++ map writeBound os) ≡ map (seen t′) (writeTy u′ ++ map writeBound os′)
   opened-written u u′ os os′ e f = both t u os ∙ ap₂ (λ v ps. tySeen v ++ map boundSeen ps) e f ∙ sym (both t′ u′ os′)
     where
       both : (t : Table) (u : Ty ℕ) (os : List (Open ℕ)) → map (seen t) (writeTy u ++ map writeBound os) ≡ tySeen (mapTy (nameNo t) u) ++ map boundSeen (map (mapOpen (nameNo t)) os)
       both t u os = map-append (seen t) (writeTy u) (map writeBound os) ∙ ap₂ (λ (a b : List Seen). a ++ b) (ty-seen t u) (bounds-seen t os)
 
-  pub answer-written : (bs bs′ : List (Binding ℕ)) (ns ns′ : List ℕ) → map (mapBinding (nameNo t)) bs ≡ map (mapBinding (nameNo t′)) bs′ → map (nameNo t) ns ≡ map (nameNo t′) ns′ → map (seen t) (collect writeBinding bs ++ map (λ n. writeBound (var n)) ns) ≡ map (seen t′) (collect writeBinding bs′ ++ map (λ n. writeBound (var n)) ns′)
+  pub answer-written : (bs bs′ : List (Binding ℕ)) (ns ns′ : List ℕ) → map (mapBinding (nameNo t)) bs ≡ map (mapBinding (nameNo t′)) bs′ → map (nameNo t) ns ≡ map (nameNo t′) ns′
+      → map (seen t) (collect writeBinding bs ++ map (λ n. writeBound (var n)) ns) ≡ map (seen t′) (collect writeBinding bs′ ++ map (λ n. writeBound (var n)) ns′)
   answer-written bs bs′ ns ns′ e f = both t bs ns ∙ ap₂ (λ cs ms. collect bindingSeen cs ++ map (λ n. boundSeen (var n)) ms) e f ∙ sym (both t′ bs′ ns′)
     where
-      both : (t : Table) (bs : List (Binding ℕ)) (ns : List ℕ) → map (seen t) (collect writeBinding bs ++ map (λ n. writeBound (var n)) ns) ≡ collect bindingSeen (map (mapBinding (nameNo t)) bs) ++ map (λ n. boundSeen (var n)) (map (nameNo t) ns)
+      both : (t : Table) (bs : List (Binding ℕ)) (ns : List ℕ)
+          → map (seen t) (collect writeBinding bs ++ map (λ n. writeBound (var n)) ns) ≡ collect bindingSeen (map (mapBinding (nameNo t)) bs) ++ map (λ n. boundSeen (var n)) (map (nameNo t) ns)
       both t bs ns = map-append (seen t) (collect writeBinding bs) (map (λ n. writeBound (var n)) ns) ∙ ap₂ (λ (a b : List Seen). a ++ b) (bindings-seen t bs) (names-seen t ns)

@@ -9,13 +9,15 @@ use native.Mathlib.Decide.{ℕ-discrete}
 use lib.Dec.{eqb, leb, ltb}
 use lib.ListN.{length, take, getD}
 use Rattle.rules.specs.Base.{Got, got, refused, _>>_, need, list-dec, any, all, collect}
-use Rattle.rules.specs.Trees.{Open, var, quant, par, Atom, free, base, Factor, _↑_, Product, Ty, opened, basic, dim, fn, struct, list, Tys, nil, cons, Fields, noFields, field, Con, equal, isDim, isScalar, hasField, Binding, _≔_, Names}
+use Rattle.rules.specs.Trees.{Open, var, quant, par, Atom, free, base, Factor, _↑_, Product, Ty, opened, basic, dim, fn}
+use Rattle.rules.specs.Trees.{struct, list, Tys, nil, cons, Fields, noFields, field, Con, equal, isDim, isScalar, hasField, Binding, _≔_, Names}
 use Rattle.rules.specs.Names.{Bytes, orderBytes, Table, tableOf, namesOf, isHeld, enter}
 use Rattle.rules.specs.Schemes.{Scheme, concrete, scheme}
 use Rattle.rules.specs.Writing.{Rec, rec, words}
 use Rattle.rules.specs.Adding.{Added, satisfied, violated, unknown}
 use Rattle.rules.specs.Solving.{Answer, accepted, remaining, stopped}
-use Rattle.rules.specs.Calls.{Written, Listed, Solved, solved, unsolved, refusedAfter, Solution, AddedTo, Entry, setCall, typeCall, schemeCall, bindingsCall, containsCall, closedCall, variablesCall, replaceTypeCall, replaceSetCall, addCall, solveCall, quantifyCall, generaliseCall, instantiateCall, judgeCall}
+use Rattle.rules.specs.Calls.{Written, Listed, Solved, solved, unsolved, refusedAfter, Solution, AddedTo, Entry, setCall, typeCall, schemeCall}
+use Rattle.rules.specs.Calls.{bindingsCall, containsCall, closedCall, variablesCall, replaceTypeCall, replaceSetCall, addCall, solveCall, quantifyCall, generaliseCall, instantiateCall, judgeCall}
 
 -- ══ Other names in place of names, in every tree ══
 
