@@ -13,7 +13,7 @@ use Rattle.rules.specs.Base.{Got, got, refused, all}
 use Rattle.rules.specs.Names.{Bytes, Table, tableOf, namesOf, isHeld, tableGiven, enterChecks, enterChecked, enterNew, enter, unchanged}
 use Rattle.rules.specs.Writing.{Rec, rec, words}
 use Rattle.rules.specs.Offices.{Name, named, nameIf, nameNo, mapGot, Office, sameOffice, Entering, Shared, tableIn, entered, afterAll, namesBy}
-use Rattle.rules.specs.Offices.{answersTo, answerFor, noThree, hadRoom, numberIn, given, fill, written, ownRec, own, namesOne, wordIf, ReadAlike, NumbersAlike}
+use Rattle.rules.specs.Offices.{answersTo, answerFor, noThree, hadRoom}
 use Rattle.laws.specs.Lists.{and-left, and-right}
 use Rattle.laws.specs.NameTable.{Good, good-laid, good-given, length-names, held-is, new-is}
 use Rattle.laws.specs.Entering.{Enters, Case, stopped, known, full, new, enter-case, count-with, names-with, good-with, pass-checks, Passed}

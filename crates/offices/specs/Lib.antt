@@ -1,3 +1,6 @@
+pub mod Offices
+pub mod ByNames
+pub mod Cases
 pub mod Over
 pub mod Options
 pub mod Products
@@ -17,13 +20,11 @@ pub mod Naming
 pub mod Writing
 pub mod Both
 pub mod Given
-pub mod Queries
 pub mod Results
+pub mod Values
+pub mod Queries
 pub mod Changes
-pub mod Solves
 pub mod Adds
+pub mod Solves
 pub mod Judges
 pub mod Histories
-pub mod ByNames
-pub mod Offices
-pub mod Cases

@@ -11,12 +11,13 @@ use lib.ListN.{length, getD}
 use Rattle.rules.specs.Base.{Got, got, refused, all, collect}
 use Rattle.rules.specs.Names.{Table, tableGiven}
 use Rattle.rules.specs.Writing.{Rec, rec, words}
-use Rattle.rules.specs.Offices.{Name, nameNo, namesOne, mapGot, CallsAlike, Office, Entering, Shared, tableIn, afterAll, namesBy, answersTo, answerFor, hadRoom, numberIn, given, fill, written, ownRec, own, Unmoved}
+use Rattle.rules.specs.Offices.{Name, nameNo, namesOne, mapGot, CallsAlike, Office, Entering, Shared, tableIn, afterAll, namesBy, answersTo, answerFor, hadRoom, givenNumber, given, fill, written, ownRec, own, Unmoved}
 use Rattle.laws.specs.Lists.{and-left, and-right}
 use Rattle.laws.specs.NameTable.{Good, given-good}
 use Rattle.offices.specs.Over.{collect-over}
 use Rattle.offices.specs.Reading.{seen}
 use Rattle.offices.specs.Writing.{words-alike}
+use Rattle.offices.specs.Values.{asked-alike, multiply-alike, divide-alike, inverse-alike, raise-alike}
 use Rattle.offices.specs.Queries.{set-alike, type-alike, scheme-alike, bindings-alike, contains-alike, closed-alike, variables-alike}
 use Rattle.offices.specs.Changes.{replace-type, replace-set, quantify-alike, generalise-alike, instantiate-alike}
 use Rattle.offices.specs.Adds.{add-alike}
@@ -28,6 +29,11 @@ use Rattle.offices.specs.Histories.{good-after, all-named}
 
 numbering′ : {pool table pool′ table′ : List ℕ} → Good pool table → Good pool′ table′ → CallsAlike pool table pool′ table′
 numbering′ g g′ = record {
+  asked = asked-alike g g′;
+  multiply = multiply-alike g g′;
+  divide = divide-alike g g′;
+  inverse = inverse-alike g g′;
+  raise = raise-alike g g′;
   set = set-alike g g′;
   type = type-alike g g′;
   scheme = scheme-alike g g′;
@@ -57,9 +63,9 @@ givenName (refused k) = []
 
 given-names : (f : ℕ → Name) (as′ : List (Got ℕ)) → collect givenName (map (mapGot f) as′) ≡ map f (given as′)
 unfolding given givenName
-given-names f as′ = collect-over (mapGot f) f numberIn givenName one as′
+given-names f as′ = collect-over (mapGot f) f givenNumber givenName one as′
   where
-    one : (a : Got ℕ) → givenName (mapGot f a) ≡ map f (numberIn a)
+    one : (a : Got ℕ) → givenName (mapGot f a) ≡ map f (givenNumber a)
     one (got n) = refl
     one (refused k) = refl
 

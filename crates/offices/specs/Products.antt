@@ -26,7 +26,7 @@ module _ {N M : Type 0} (f : N → M) where
       go true q = rw (q, put)
       go false q = rw (q, put)
 
-  inverse-map : (p : Product N) → inverse (map (mapFactor f) p) ≡ map (mapFactor f) (inverse p)
+  pub inverse-map : (p : Product N) → inverse (map (mapFactor f) p) ≡ map (mapFactor f) (inverse p)
   unfolding inverse
   inverse-map [] = refl
   inverse-map (a ↑ e ∷ p) = rw (inverse-map p)

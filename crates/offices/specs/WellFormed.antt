@@ -43,7 +43,7 @@ module _ {N M : Type 0} (ν : Names N) (μ : Names M) (f : N → M) (keeps : Kee
   good-factor (free o ↑ e) = rw (good-open o)
   good-factor (base n ↑ e) = rw (holds n)
 
-  good-product : (p : Product N) → goodProduct μ held′ q (map (mapFactor f) p) ≡ goodProduct ν held q p
+  pub good-product : (p : Product N) → goodProduct μ held′ q (map (mapFactor f) p) ≡ goodProduct ν held q p
   unfolding goodProduct
   good-product p = rw (all-map (mapFactor f) (goodFactor ν held q) (goodFactor μ held′ q) good-factor p, atoms-map f p, rising-map (mapAtom f) (orderAtom ν) (orderAtom μ) (order-atom ν μ f keeps) (map atomOf p), length-map)
 

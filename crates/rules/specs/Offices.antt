@@ -9,10 +9,12 @@ use native.Mathlib.Decide.{ℕ-discrete}
 use lib.Dec.{eqb, leb, ltb}
 use lib.ListN.{length, take, getD}
 use Rattle.rules.specs.Base.{Got, got, refused, _>>_, need, list-dec, any, all, collect}
+use Rattle.rules.specs.Exponents.{Exp}
 use Rattle.rules.specs.Trees.{Open, var, quant, par, Atom, free, base, Factor, _↑_, Product, Ty, opened, basic, dim, fn}
 use Rattle.rules.specs.Trees.{struct, list, Tys, nil, cons, Fields, noFields, field, Con, equal, isDim, isScalar, hasField, Binding, _≔_, Names}
-use Rattle.rules.specs.Names.{Bytes, orderBytes, Table, tableOf, namesOf, isHeld, enter}
+use Rattle.rules.specs.Names.{Bytes, orderBytes, Table, tableOf, namesOf, isHeld, nameAsked, enter}
 use Rattle.rules.specs.Schemes.{Scheme, concrete, scheme}
+use Rattle.rules.specs.Values.{ProductValue, productIn, multiplyCall, divideCall, inverseCall, raiseCall}
 use Rattle.rules.specs.Writing.{Rec, rec, words}
 use Rattle.rules.specs.Adding.{Added, satisfied, violated, unknown}
 use Rattle.rules.specs.Solving.{Answer, accepted, remaining, stopped}
@@ -193,7 +195,14 @@ pub record EntriesAlike (t t′ : Table) (es es′ : List Entry) : Type 0 where
   pub variables : NumbersAlike t t′ (map (λ e. e .variable) es) (map (λ e. e .variable) es′)
   pub places : map (λ e. e .place) es ≡ map (λ e. e .place) es′
 
--- the promise for two lendings of pool and table: lists that read alike are answered alike, by every call
+-- product values that read alike, and answers of the calls on them: the same refusal, or the same factors in the same order
+pub record ValuesAlike (t t′ : Table) (v v′ : ProductValue) : Type 0 where
+  pub product : mapOption (map (mapFactor (nameNo t))) (productIn v) ≡ mapOption (map (mapFactor (nameNo t′))) (productIn v′)
+
+pub record ProductsAlike (t t′ : Table) (p p′ : Got (Product ℕ)) : Type 0 where
+  pub product : mapGot (map (mapFactor (nameNo t))) p ≡ mapGot (map (mapFactor (nameNo t′))) p′
+
+-- the promise for two lendings of pool and table: lists, numbers and products that read alike are answered alike, by every call that takes names
 module _ (pool table pool′ table′ : List ℕ) where
   abbrev pub Lists : List ℕ → List ℕ → Type 0
   Lists = ReadAlike (tableOf pool table) (tableOf pool′ table′)
@@ -204,7 +213,19 @@ module _ (pool table pool′ table′ : List ℕ) where
   abbrev pub Writes : Written → Written → Type 0
   Writes = WrittenAlike (tableOf pool table) (tableOf pool′ table′)
 
+  abbrev pub Values : ProductValue → ProductValue → Type 0
+  Values = ValuesAlike (tableOf pool table) (tableOf pool′ table′)
+
+  abbrev pub Products : Got (Product ℕ) → Got (Product ℕ) → Type 0
+  Products = ProductsAlike (tableOf pool table) (tableOf pool′ table′)
+
   pub record CallsAlike : Type 0 where
+    -- asking for a name; products by value
+    pub asked : (i i′ : ℕ) → nameNo (tableOf pool table) i ≡ nameNo (tableOf pool′ table′) i′ → nameAsked pool table i ≡ nameAsked pool′ table′ i′
+    pub multiply : (v v′ w w′ : ProductValue) → Values v v′ → Values w w′ → Products (multiplyCall pool table v w) (multiplyCall pool′ table′ v′ w′)
+    pub divide : (v v′ w w′ : ProductValue) → Values v v′ → Values w w′ → Products (divideCall pool table v w) (divideCall pool′ table′ v′ w′)
+    pub inverse : (v v′ : ProductValue) → Values v v′ → Products (inverseCall pool table v) (inverseCall pool′ table′ v′)
+    pub raise : (v v′ : ProductValue) (k : Exp) → Values v v′ → Products (raiseCall pool table v k) (raiseCall pool′ table′ v′ k)
     -- is a list well formed
     pub set : (ws ws′ : List ℕ) → Lists ws ws′ → setCall pool table ws ≡ setCall pool′ table′ ws′
     pub type : (ws ws′ : List ℕ) → Lists ws ws′ → typeCall pool table ws ≡ typeCall pool′ table′ ws′
@@ -296,12 +317,12 @@ unfoldable pub hadRoom : List (Got ℕ) → Bool
 hadRoom as′ = all noThree as′
 
 -- the numbers that it was given, in turn
-abbrev pub numberIn : Got ℕ → List ℕ
-numberIn (got n) = n ∷ []
-numberIn (refused k) = []
+abbrev pub givenNumber : Got ℕ → List ℕ
+givenNumber (got n) = n ∷ []
+givenNumber (refused k) = []
 
 unfoldable pub given : List (Got ℕ) → List ℕ
-given as′ = collect numberIn as′
+given as′ = collect givenNumber as′
 
 -- a list that an office writes with its numbers: where a draft has 0, 1, .. at the place of a name, it writes the first, second, .. number that it
 -- was given. All other words it writes as it likes
