@@ -1,16 +1,16 @@
 -- Adding a constraint with other names in the set and in it.
 -- Assumes nothing.
-use mathlib.Core.Path.{_≡_, refl, ap, sym}
+use mathlib.Core.Path.{_≡_, refl}
 use mathlib.Core.Bool.{Bool, true, false, _&&_}
 use mathlib.Core.Option.{Option, none, some}
 use mathlib.Core.List.{List, [], _∷_, _++_, map, map-append}
 use Prim.Native.Nat.{ℕ}
-use Rattle.rules.specs.Base.{Got, bounded, isYes, isNil, collect, sumOf}
-use Rattle.rules.specs.Trees.{Open, Names, Ty, Tys, Con, equal, isDim, isScalar, hasField, openOfFactor, count, ty-dec, sizeCon}
+use Rattle.rules.specs.Base.{bounded, collect, sumOf}
+use Rattle.rules.specs.Trees.{Open, Names, Ty, Tys, Con, equal, isDim, isScalar, hasField, openOfFactor, sizeCon}
 use Rattle.rules.specs.Views.{openOf, fnOf, kind}
 use Rattle.rules.specs.Contents.{closed, variablesIn}
 use Rattle.rules.specs.Adding.{Added, satisfied, violated, unknown, countsDiffer, kindsDiffer, addEqual, addDim, addTest, stored, add}
-use Rattle.rules.specs.Offices.{Keeps, mapOpen, mapFactor, mapTy, mapTys, mapCon, mapOption}
+use Rattle.rules.specs.Offices.{Keeps, mapOpen, mapTy, mapCon, mapOption}
 use Rattle.offices.specs.Over.{Over, gives, within-over}
 use Rattle.offices.specs.Sizes.{product-opens, count-map, size-cons}
 use Rattle.offices.specs.Contents.{nil-map, variables-in, closed-map, ty-same}

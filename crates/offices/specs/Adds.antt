@@ -1,8 +1,7 @@
 -- Adding: sets and constraints that read alike are answered alike.
 -- Assumes nothing.
 use mathlib.Core.Path.{_≡_, refl, ap, ap₂, sym, _∙_}
-use mathlib.Core.Bool.{Bool, true, _&&_}
-use mathlib.Core.List.{List, [], _∷_, _++_, map, append-assoc}
+use mathlib.Core.List.{List, [], _∷_, _++_, append-assoc}
 use Prim.Native.Nat.{ℕ, zero, suc, _+_, _*_, _≤_}
 use native.Mathlib.Omega.{arith}
 use borrow.Author.Tests.{leb-true}
@@ -11,16 +10,16 @@ use lib.ListN.{length, length-append, take, drop}
 use lib.Seq.{length-take-le}
 use Rattle.rules.specs.Base.{Got, got, refused, _>>=_, _>>_, need, sumOf}
 use Rattle.rules.specs.Trees.{Con, sizeCon}
-use Rattle.rules.specs.Names.{Table, tableOf, numbersOf, lentTable}
+use Rattle.rules.specs.Names.{Table, tableOf, lentTable}
 use Rattle.rules.specs.Adding.{Added, satisfied, violated, unknown, add}
-use Rattle.rules.specs.Calls.{lentResult, shortLists, only, tableKept, setGiven, over, AddedTo, bufferAfter, addedTo, addCall}
+use Rattle.rules.specs.Calls.{lentResult, shortLists, over, bufferAfter, addedTo, addCall}
 use Rattle.rules.specs.Offices.{nameNo, Name, byBytes, Word, mapCon, readBack, ReadAlike, AddedAlike, frontAdded}
 use Rattle.laws.specs.Checks.{need-passed, first-passed, next-passed}
 use Rattle.laws.specs.Lists.{bound-step}
 use Rattle.laws.specs.NameTable.{Good}
-use Rattle.offices.specs.Both.{Both, hence, alike, through, checked, two-checks, equal-answers}
+use Rattle.offices.specs.Both.{hence, alike, through, checked, two-checks, equal-answers}
 use Rattle.offices.specs.Sizes.{size-cons}
-use Rattle.offices.specs.Adding.{mapAdded, add-map}
+use Rattle.offices.specs.Adding.{add-map}
 use Rattle.offices.specs.Naming.{keeps}
 use Rattle.offices.specs.Results.{take-front}
 use Rattle.offices.specs.Given.{Alike, as-long, short, only-alike, kept-alike, lent-table, lent-result, set-given}

@@ -4,14 +4,14 @@ use mathlib.Core.Path.{_≡_, refl}
 use mathlib.Core.Bool.{Bool, true, false, not}
 use mathlib.Core.List.{List, [], _∷_, _++_, map}
 use Prim.Native.Nat.{ℕ, zero, suc}
-use lib.ListN.{replicate, length}
-use Rattle.rules.specs.Base.{Got, got, refused, isNone}
-use Rattle.rules.specs.Names.{Bytes, tableOf, namesOf, numberOf}
+use lib.ListN.{replicate}
+use Rattle.rules.specs.Base.{got, refused, isNone}
+use Rattle.rules.specs.Names.{Bytes, namesOf, numberOf}
 use Rattle.rules.specs.Writing.{Rec, rec, words}
 use Rattle.rules.specs.Calls.{Solved, solved, refusedAfter, setCall, solveCall}
 use Rattle.rules.specs.Rules.{rules}
 use Rattle.rules.specs.Examples.{pool, table, result, work, x}
-use Rattle.rules.specs.Offices.{Name, named, stray, nameNo, Word, number, name, namesOne, readBack, Office, here, there, Entering, Shared, tableIn, entered, afterAll, answersTo, given, fill, written}
+use Rattle.rules.specs.Offices.{stray, nameNo, number, name, namesOne, readBack, Office, here, there, Entering, Shared, tableIn, entered, afterAll, answersTo, given, fill, written}
 
 abbrev enters : Office → Bytes → Entering
 enters o n = record { by = o; name = n }

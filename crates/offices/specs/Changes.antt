@@ -1,28 +1,26 @@
 -- Replacing and the scheme calls: lists that read alike are answered alike.
 -- Assumes nothing.
-use mathlib.Core.Path.{_≡_, refl, ap, ap₂, sym, _∙_}
-use mathlib.Core.List.{List, [], _∷_, _++_, map}
+use mathlib.Core.Path.{_≡_, ap, ap₂}
+use mathlib.Core.List.{List, [], _∷_, map}
 use Prim.Native.Nat.{ℕ}
-use lib.ListN.{length}
-use Rattle.rules.specs.Base.{Got, got, refused, _>>=_, _>>_, bounded, sized, each, collect}
-use Rattle.rules.specs.Trees.{Open, var, Ty, Con, Binding, opens, opensCon, size, depth}
+use Rattle.rules.specs.Base.{_>>=_, _>>_, bounded, sized, each, collect}
+use Rattle.rules.specs.Trees.{Open, Ty, Con, Binding, opens, opensCon, size, depth}
 use Rattle.rules.specs.Names.{Table, tableOf, numbersOf}
 use Rattle.rules.specs.Replacing.{replaceTy, replaceCon, bindings}
-use Rattle.rules.specs.Rounds.{State, limited}
+use Rattle.rules.specs.Rounds.{limited}
 use Rattle.rules.specs.Schemes.{Scheme, quantify, generalise, instantiate}
-use Rattle.rules.specs.Writing.{Rec, wordOf, writeTy, writeCon, writeBound, writeScheme}
-use Rattle.rules.specs.Calls.{lent, shortLists, shortNumbers, tableKept, apart, opensBinding, opensScheme, replacedType}
+use Rattle.rules.specs.Writing.{wordOf}
+use Rattle.rules.specs.Calls.{lent, opensBinding, replacedType}
 use Rattle.rules.specs.Calls.{replacedSet, replaceTypeCall, replaceSetCall, quantified, generalised, instantiated, quantifyCall, generaliseCall, instantiateCall}
-use Rattle.rules.specs.Offices.{nameNo, Name, byBytes, mapOpen, mapTy, mapCon, mapBinding, mapScheme, ReadAlike, NumbersAlike, LentAlike, WrittenAlike}
+use Rattle.rules.specs.Offices.{nameNo, Name, byBytes, mapTy, mapCon, mapBinding, NumbersAlike, LentAlike, WrittenAlike}
 use Rattle.laws.specs.NameTable.{Good}
-use Rattle.offices.specs.Over.{Over, next, gives, each-over, sized-over}
+use Rattle.offices.specs.Over.{Over, each-over, sized-over}
 use Rattle.offices.specs.Both.{Both, hence, alike, through, checked, two-checks}
 use Rattle.offices.specs.Sizes.{size-map, depth-map, mapState}
 use Rattle.offices.specs.Replacing.{ty-map, con-map, looks-map}
 use Rattle.offices.specs.Rounds.{limited-map}
-use Rattle.offices.specs.Schemes.{mapOpened, quantify-map, generalise-map, instantiate-map}
+use Rattle.offices.specs.Schemes.{quantify-map, generalise-map, instantiate-map}
 use Rattle.offices.specs.Naming.{keeps}
-use Rattle.offices.specs.Reading.{seen}
 use Rattle.offices.specs.Writing.{type-written, set-written, scheme-written, opened-written}
 use Rattle.offices.specs.Results.{writing-alike}
 use Rattle.offices.specs.Given.{Alike, as-long, as-many, short, few, kept-alike, lent-alike, set-given, type-given, scheme-given}

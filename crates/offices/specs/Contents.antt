@@ -1,15 +1,14 @@
 -- What is asked of names, open names and trees: the same answer with other names in them.
 -- Assumes nothing.
 use mathlib.Core.Path.{_≡_, refl, ap, sym, _∙_}
-use mathlib.Core.Bool.{Bool, true, false, not, _&&_, _||_}
-use mathlib.Core.Option.{Option, none, some}
-use mathlib.Core.List.{List, [], _∷_, _++_, map}
-use Prim.Native.Nat.{ℕ, Ordering, Ordering·lt, Ordering·eq, Ordering·gt}
-use Rattle.rules.specs.Base.{isYes, any, all, keep, collect, toList, isNil}
-use Rattle.rules.specs.Trees.{Open, var, quant, par, Atom, free, base, Factor, _↑_, Product, Names, Ty, opened, basic, dim, fn, struct, list, Tys, nil, cons, Fields, noFields, field, open-dec, ty-dec, opens}
+use mathlib.Core.Bool.{Bool, true, false, not}
+use mathlib.Core.List.{List, [], _∷_, map}
+use Prim.Native.Nat.{Ordering, Ordering·lt, Ordering·eq, Ordering·gt}
+use Rattle.rules.specs.Base.{isYes, any, all, keep, toList, isNil}
+use Rattle.rules.specs.Trees.{Open, var, quant, par, free, base, Factor, _↑_, Product, Names, Ty, opened, basic, dim, fn, struct, list, Tys, nil, cons, Fields, noFields, field, open-dec, ty-dec, opens}
 use Rattle.rules.specs.Views.{variable, parameter, nameOf}
 use Rattle.rules.specs.Contents.{closed, variablesIn, parametersIn, namesIn, among, contains, containsName, fieldIn, sorted, sort, variables, unmixed}
-use Rattle.rules.specs.Offices.{Keeps, mapOpen, mapAtom, mapFactor, mapTy, mapTys, mapFields, mapOption}
+use Rattle.rules.specs.Offices.{Keeps, mapOpen, mapFactor, mapTy, mapTys, mapFields, mapOption}
 use Rattle.laws.specs.Lists.{is-yes, is-no}
 use Rattle.offices.specs.Over.{collect-over}
 use Rattle.offices.specs.Sizes.{opens-map}

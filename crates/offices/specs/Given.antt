@@ -2,33 +2,32 @@
 -- Assumes nothing.
 use mathlib.Core.Path.{_≡_, refl, ap, ap₂, sym, _∙_}
 use mathlib.Core.Bool.{Bool, true, _&&_}
-use mathlib.Core.Option.{Option, none, some}
 use mathlib.Core.List.{List, [], _∷_, _++_, map, map-append}
 use Prim.Native.Nat.{ℕ, suc}
 use native.Mathlib.Omega.{arith}
 use borrow.Author.Tests.{le-leb, ltb-true}
 use lib.Dec.{leb}
 use lib.ListN.{length, length-map}
-use Rattle.rules.specs.Base.{Got, got, refused, _>>=_, _>>_, need, orRefuse, all, collect}
+use Rattle.rules.specs.Base.{Got, got, _>>=_, _>>_, need, orRefuse, all, collect}
 use Rattle.rules.specs.Trees.{Open, var, quant, par, Ty, Con, Binding, opens, opensCon}
-use Rattle.rules.specs.Names.{Table, tableOf, tableGood, numbersOf, isHeld, lentTable}
+use Rattle.rules.specs.Names.{Table, tableOf, numbersOf, isHeld, lentTable}
 use Rattle.rules.specs.Contents.{unmixed}
 use Rattle.rules.specs.Schemes.{Scheme, concrete, scheme}
-use Rattle.rules.specs.Writing.{Rec, wordOf}
+use Rattle.rules.specs.Writing.{wordOf}
 use Rattle.rules.specs.Reading.{Reader, records, readAll, readTy, readCon, readBinding, readBound, schemeOf}
 use Rattle.rules.specs.WellFormed.{goodTy, goodCon, goodOpen, goodBinding}
 use Rattle.rules.specs.Calls.{lentResult, lentWork, lent, shortLists, shortNumbers, only, listGiven, tableKept, setGiven, typeGiven, bindingsGiven, boundsGiven, goodScheme, schemeGiven, numbersGiven, apart, opensBinding, opensScheme}
-use Rattle.rules.specs.Offices.{Keeps, Name, stray, byBytes, nameNo, readBack, ReadAlike, NumbersAlike, LentAlike, mapOpen, mapTy, mapCon, mapBinding, mapScheme, mapGot, mapOption}
+use Rattle.rules.specs.Offices.{Name, stray, byBytes, nameNo, readBack, ReadAlike, NumbersAlike, LentAlike, mapOpen, mapTy, mapCon, mapBinding, mapScheme}
 use Rattle.laws.specs.Checks.{need-passed, first-passed, next-passed}
 use Rattle.laws.specs.Lists.{and-left, and-right, bound-step}
 use Rattle.laws.specs.NameTable.{Good}
 use Rattle.offices.specs.Over.{Over, gives, collect-over}
-use Rattle.offices.specs.Both.{Both, Pair, neither, both, pair, hence, alike, there, through, needed, equal-answers}
+use Rattle.offices.specs.Both.{Both, Pair, neither, both, pair, hence, alike, there, through, needed}
 use Rattle.offices.specs.Contents.{all-map, unmixed-map}
 use Rattle.offices.specs.Sizes.{opens-map, opens-con, opens-binding}
 use Rattle.offices.specs.WellFormed.{good-open, good-ty, good-con, good-binding}
-use Rattle.offices.specs.Reading.{seen, Readers, records-alike, ty-agree, con-agree, binding-agree, bound-agree, all-agree}
-use Rattle.offices.specs.ReadSchemes.{same-length, scheme-alike}
+use Rattle.offices.specs.Reading.{same-length, Readers, records-alike, ty-agree, con-agree, binding-agree, bound-agree, all-agree}
+use Rattle.offices.specs.ReadSchemes.{scheme-alike}
 use Rattle.offices.specs.Naming.{isNamed, held-named, keeps}
 
 -- ══ Lengths ══

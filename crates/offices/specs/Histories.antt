@@ -1,25 +1,21 @@
 -- What an office was given, after any history of entries by both offices: numbers whose names are those that it entered.
 -- Assumes nothing.
 use mathlib.Core.Path.{_≡_, refl, ap, ap₂, sym, _∙_}
-use mathlib.Core.Bool.{Bool, true, false, not, _&&_}
+use mathlib.Core.Bool.{Bool, true, false, _&&_}
 use mathlib.Core.List.{List, [], _∷_, _++_, map, append-nil, append-assoc}
-use Prim.Native.Nat.{ℕ, zero, suc, _<_, _≤_}
+use Prim.Native.Nat.{ℕ, _<_}
 use native.Mathlib.Omega.{arith}
-use borrow.Author.Tests.{lt-ltb, ltb-true, leb-true}
-use lib.Dec.{eqb, leb, ltb}
+use borrow.Author.Tests.{lt-ltb, leb-true}
+use lib.Dec.{leb}
 use lib.ListN.{length, length-append, getD, List·getD-append}
 use lib.Seq.{getD-at}
 use Rattle.rules.specs.Base.{Got, got, refused, all}
-use Rattle.rules.specs.Names.{Bytes, Table, tableOf, namesOf, isHeld, tableGiven, enterChecks, enterChecked, enterNew, enter, unchanged}
-use Rattle.rules.specs.Writing.{Rec, rec, words}
-use Rattle.rules.specs.Offices.{Name, named, nameIf, nameNo, mapGot, Office, sameOffice, Entering, Shared, tableIn, entered, afterAll, namesBy}
+use Rattle.rules.specs.Names.{Bytes, Table, namesOf, isHeld, enterChecks, enterChecked, enterNew, enter}
+use Rattle.rules.specs.Offices.{Name, named, nameNo, mapGot, Office, sameOffice, Entering, Shared, tableIn, entered, afterAll, namesBy}
 use Rattle.rules.specs.Offices.{answersTo, answerFor, noThree, hadRoom}
 use Rattle.laws.specs.Lists.{and-left, and-right}
 use Rattle.laws.specs.NameTable.{Good, good-laid, good-given, length-names, held-is, new-is}
-use Rattle.laws.specs.Entering.{Enters, Case, stopped, known, full, new, enter-case, count-with, names-with, good-with, pass-checks, Passed}
-use Rattle.offices.specs.Over.{collect-over}
-use Rattle.offices.specs.Reading.{Seen, seen}
-use Rattle.offices.specs.Writing.{words-alike}
+use Rattle.laws.specs.Entering.{Enters, Case, stopped, known, full, new, enter-case, names-with, good-with, pass-checks, Passed}
 
 abbrev pub GoodIn : Shared → Type 0
 GoodIn s = Good (s .pool) (s .table)

@@ -1,23 +1,22 @@
 -- The judge: sets, entries and bounds that read alike get the same verdict.
 -- Assumes nothing.
-use mathlib.Core.Path.{_≡_, refl, ap, ap₂, sym, _∙_}
-use mathlib.Core.Bool.{Bool, true, false, not, _&&_}
-use mathlib.Core.Option.{Option, none, some}
-use mathlib.Core.List.{List, [], _∷_, _++_, map}
+use mathlib.Core.Path.{_≡_, refl, ap, sym, _∙_}
+use mathlib.Core.Bool.{Bool, true, not, _&&_}
+use mathlib.Core.Option.{Option, some}
+use mathlib.Core.List.{List, [], _∷_, map}
 use Prim.Native.Nat.{ℕ, zero, suc}
 use native.Mathlib.Omega.{arith}
-use lib.Dec.{eqb}
 use lib.ListN.{length, length-map, drop}
-use Rattle.rules.specs.Base.{Got, got, refused, _>>=_, _>>_, need, orRefuse, bounded, andThen, any, each, collect}
-use Rattle.rules.specs.Trees.{Ty, Con, Binding, _≔_, opensCon}
-use Rattle.rules.specs.Names.{Table, tableOf, namesOf, numbersOf, isHeld, lentTable}
+use Rattle.rules.specs.Base.{_>>=_, _>>_, bounded, andThen, each, collect}
+use Rattle.rules.specs.Trees.{Ty, Con, Binding, opensCon}
+use Rattle.rules.specs.Names.{Table, tableOf, namesOf, numbersOf}
 use Rattle.rules.specs.Contents.{among}
 use Rattle.rules.specs.Writing.{Rec, wordOf}
 use Rattle.rules.specs.Reading.{records, readTy}
 use Rattle.rules.specs.WellFormed.{goodTy, rising}
 use Rattle.rules.specs.Judging.{judge}
-use Rattle.rules.specs.Calls.{lentWork, shortLists, shortNumbers, tableKept, boundsGiven, numbersGiven, apart, opensBinding, Entry, differ, typeAt, bindingOf, entriesGiven, risingBounds, judgedSet, judgeCall}
-use Rattle.rules.specs.Offices.{Name, byBytes, nameNo, mapTy, mapCon, mapBinding, mapOption, ReadAlike, NumbersAlike, EntriesAlike}
+use Rattle.rules.specs.Calls.{opensBinding, Entry, differ, typeAt, bindingOf, entriesGiven, risingBounds, judgedSet, judgeCall}
+use Rattle.rules.specs.Offices.{Name, byBytes, nameNo, mapTy, mapCon, mapBinding, mapOption, EntriesAlike}
 use Rattle.laws.specs.Contents.{same-eqb}
 use Rattle.laws.specs.NameTable.{Good}
 use Rattle.offices.specs.Both.{Both, hence, alike, there, needed, same-both, equal-answers, checked, two-checks}
@@ -25,8 +24,8 @@ use Rattle.offices.specs.Contents.{among-map}
 use Rattle.offices.specs.WellFormed.{rising-map, good-ty}
 use Rattle.offices.specs.Judging.{judge-map}
 use Rattle.offices.specs.Naming.{isNamed, held-named, keeps}
-use Rattle.offices.specs.Reading.{Seen, seen, records-alike, Cases, neither, both, cases, ty-agree}
-use Rattle.offices.specs.Given.{Alike, as-long, as-many, short, few, kept-alike, lent-table, lent-work, set-given, names-given, numbers-given, apart-alike, set-opens, binding-opens, joined}
+use Rattle.offices.specs.Reading.{seen, records-alike, Cases, neither, both, cases, ty-agree}
+use Rattle.offices.specs.Given.{Alike, as-long, short, few, kept-alike, lent-table, lent-work, set-given, names-given, numbers-given, apart-alike, set-opens, binding-opens, joined}
 
 dropped : (t : Table) (i : ℕ) (rs : List Rec) → map (seen t) (drop i rs) ≡ drop i (map (seen t) rs)
 dropped t zero rs = refl

@@ -1,19 +1,18 @@
 -- The judge with other names in the set, the bindings and the bounds: the same verdict.
 -- Assumes nothing.
-use mathlib.Core.Path.{_≡_, refl, ap, sym}
-use mathlib.Core.Bool.{Bool, true, false, not, _&&_, _||_}
-use mathlib.Core.Option.{Option, none, some}
+use mathlib.Core.Path.{_≡_, refl, ap}
+use mathlib.Core.Bool.{Bool, true, false}
 use mathlib.Core.List.{List, [], _∷_, map}
-use Rattle.rules.specs.Base.{Got, got, refused, _>>=_, Limits, sized, isYes, andThen, isNone, isNil, all}
-use Rattle.rules.specs.Trees.{Names, Ty, Con, equal, isDim, isScalar, hasField, Binding, opens, ty-dec, sizeCon, depthCon}
+use Rattle.rules.specs.Base.{Got, got, _>>=_, Limits, andThen}
+use Rattle.rules.specs.Trees.{Names, Ty, Con, equal, isDim, isScalar, hasField, Binding, opens, sizeCon, depthCon}
 use Rattle.rules.specs.Views.{openOf, productOf, structOf}
 use Rattle.rules.specs.Contents.{fieldIn, namesIn, among}
 use Rattle.rules.specs.Plain.{plain}
-use Rattle.rules.specs.Replacing.{replaceCon, bindings}
+use Rattle.rules.specs.Replacing.{bindings}
 use Rattle.rules.specs.Meaning.{means, amongBounds, holds}
 use Rattle.rules.specs.Judging.{failed, judgeCon, judge}
-use Rattle.rules.specs.Offices.{Keeps, mapOpen, mapFactor, mapTy, mapCon, mapBinding, mapOption}
-use Rattle.offices.specs.Over.{Over, next, gives, sized-over, over-same}
+use Rattle.rules.specs.Offices.{Keeps, mapOpen, mapFactor, mapTy, mapCon, mapBinding}
+use Rattle.offices.specs.Over.{next, gives, sized-over, over-same}
 use Rattle.offices.specs.Options.{then-map, none-map, and-map}
 use Rattle.offices.specs.Sizes.{opens-map, size-con, depth-con}
 use Rattle.offices.specs.Contents.{nil-map, names-in, all-map, ty-same, among-map, field-in}

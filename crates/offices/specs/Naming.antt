@@ -3,15 +3,14 @@
 use mathlib.Core.Path.{_≡_, refl, ap, sym, _∙_}
 use mathlib.Core.Bool.{Bool, true, false, not}
 use mathlib.Core.Option.{Option, none, some, Option·getD}
-use mathlib.Core.List.{List, [], _∷_}
-use Prim.Native.Nat.{ℕ, _<_, _≤_, Ordering}
+use mathlib.Core.List.{List, []}
+use Prim.Native.Nat.{ℕ, _<_, _≤_}
 use native.Mathlib.Omega.{arith}
-use borrow.Author.Tests.{ltb-true, ltb-false, lt-ltb}
-use lib.Dec.{ltb}
+use borrow.Author.Tests.{ltb-true, ltb-false}
 use lib.ListN.{length, getD, List·getD-eq-default}
-use Rattle.rules.specs.Base.{any, isNone}
+use Rattle.rules.specs.Base.{isNone}
 use Rattle.rules.specs.Trees.{Names}
-use Rattle.rules.specs.Names.{Bytes, orderBytes, numbered, Table, tableOf, namesOf, numbersOf, isHeld, numberOf, sameBytes}
+use Rattle.rules.specs.Names.{numbered, Table, tableOf, namesOf, numbersOf, isHeld, numberOf}
 use Rattle.rules.specs.Offices.{Keeps, Name, named, stray, bytesIn, byBytes, nameIf, nameNo}
 use Rattle.laws.specs.NameTable.{Good, good-laid, good-distinct, length-names, held-is, distinct-same, search-any, search-found, search-none}
 

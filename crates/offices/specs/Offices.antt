@@ -10,7 +10,7 @@ use lib.Dec.{ltb}
 use lib.ListN.{length, getD}
 use Rattle.rules.specs.Base.{Got, got, refused, all, collect}
 use Rattle.rules.specs.Names.{Table, tableGiven}
-use Rattle.rules.specs.Writing.{Rec, rec, words}
+use Rattle.rules.specs.Writing.{Rec, rec}
 use Rattle.rules.specs.Offices.{Name, nameNo, namesOne, mapGot, CallsAlike, Office, Entering, Shared, tableIn, afterAll, namesBy, answersTo, answerFor, hadRoom, givenNumber, given, fill, written, ownRec, own, Unmoved}
 use Rattle.laws.specs.Lists.{and-left, and-right}
 use Rattle.laws.specs.NameTable.{Good, given-good}

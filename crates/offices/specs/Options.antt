@@ -1,9 +1,9 @@
 -- What may be there, beside the same with other names.
 -- Assumes nothing.
 use mathlib.Core.Path.{_≡_, refl}
-use mathlib.Core.Bool.{Bool}
+use mathlib.Core.Bool.{Bool, true, false}
 use mathlib.Core.Option.{Option, none, some, Option·getD}
-use Rattle.rules.specs.Base.{andThen, and′, _orElse_, isNone}
+use Rattle.rules.specs.Base.{onlyIf, andThen, and′, _orElse_, isNone}
 use Rattle.rules.specs.Offices.{mapOption}
 
 module _ {A B C D : Type 0} (g : A → B) (h : C → D) where
@@ -27,3 +27,7 @@ module _ {A B : Type 0} (g : A → B) where
   pub and-map : (x : Option A) (p : A → Bool) (q : B → Bool) → ((a : A) → q (g a) ≡ p a) → and′ (mapOption g x) q ≡ and′ x p
   and-map none p q e = refl
   and-map (some a) p q e = e a
+
+pub only-map : {A B : Type 0} (g : A → B) (b : Bool) (a : A) → onlyIf b (g a) ≡ mapOption g (onlyIf b a)
+only-map g true a = refl
+only-map g false a = refl

@@ -1,13 +1,12 @@
 -- Answers that may be refusals, beside the same answers with other names: the same refusal, or the same value with other names.
 -- Assumes nothing.
-use mathlib.Core.Path.{_≡_, refl, ap, sym}
+use mathlib.Core.Path.{_≡_, refl, ap}
 use mathlib.Core.Bool.{Bool, true, false}
-use mathlib.Core.List.{List, [], _∷_, _++_, map, map-append}
-use mathlib.Core.Option.{Option, none, some}
+use mathlib.Core.List.{List, [], _∷_, map, map-append}
 use Prim.Native.Nat.{ℕ}
 use lib.Dec.{leb}
-use Rattle.rules.specs.Base.{Got, got, refused, _>>=_, Limits, bounded, exact, within, allow, sized, need, each, collect, onlyIf, andThen}
-use Rattle.rules.specs.Offices.{mapGot, mapOption}
+use Rattle.rules.specs.Base.{Got, got, refused, _>>=_, Limits, bounded, exact, within, allow, sized, each, collect}
+use Rattle.rules.specs.Offices.{mapGot}
 
 -- n is m, with g over its value
 pub record Over {A B : Type 0} (g : A → B) (m : Got A) (n : Got B) : Type 0 where

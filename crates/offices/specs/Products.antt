@@ -1,22 +1,18 @@
 -- Products with other names in them: every step on them does the same.
 -- Assumes nothing.
-use mathlib.Core.Path.{_≡_, refl, ap, sym}
+use mathlib.Core.Path.{_≡_, refl}
 use mathlib.Core.Bool.{Bool, true, false}
-use mathlib.Core.Option.{Option, none, some}
-use mathlib.Core.List.{List, [], _∷_, map}
-use Prim.Native.Nat.{ℕ, Ordering, Ordering·lt, Ordering·eq, Ordering·gt}
+use mathlib.Core.List.{[], _∷_, map}
+use Prim.Native.Nat.{Ordering, Ordering·lt, Ordering·eq, Ordering·gt}
 use lib.ListN.{length, length-map}
-use Rattle.rules.specs.Base.{Got, got, refused, _>>=_, Limits, within, onlyIf, isYes}
+use Rattle.rules.specs.Base.{Got, _>>=_, Limits, within, onlyIf, isYes}
 use Rattle.rules.specs.Exponents.{Exp, Exp-dec, one, isZero, sum, times}
-use Rattle.rules.specs.Trees.{Open, var, quant, par, Atom, free, base, Factor, _↑_, Product, Names, Ty, opened, basic, dim, fn, struct, list, orderOpen, orderAtom}
+use Rattle.rules.specs.Trees.{Open, var, quant, par, Atom, free, base, _↑_, Product, Names, Ty, opened, basic, dim, fn, struct, list, orderOpen, orderAtom}
 use Rattle.rules.specs.Products.{put, inverse, single, mergeOne, merge, multiply, divide, raise}
 use Rattle.rules.specs.Replacing.{asProduct}
 use Rattle.rules.specs.Offices.{Keeps, mapOpen, mapAtom, mapFactor, mapTy, mapOption}
+use Rattle.offices.specs.Options.{only-map}
 use Rattle.offices.specs.Over.{Over, next, gives, same-over, within-over}
-
-pub only-map : {A B : Type 0} (g : A → B) (b : Bool) (a : A) → onlyIf b (g a) ≡ mapOption g (onlyIf b a)
-only-map g true a = refl
-only-map g false a = refl
 
 module _ {N M : Type 0} (f : N → M) where
   put-map : (a : Atom N) (e : Exp) (p : Product N) → put (mapAtom f a) e (map (mapFactor f) p) ≡ map (mapFactor f) (put a e p)

@@ -2,22 +2,22 @@
 -- Assumes nothing.
 use mathlib.Core.Path.{_≡_, refl, ap, ap₂, sym, _∙_}
 use mathlib.Core.Bool.{Bool}
-use mathlib.Core.List.{List, [], _∷_, _++_, map}
+use mathlib.Core.List.{List, [], _∷_}
 use Prim.Native.Nat.{ℕ}
-use lib.ListN.{length, length-map, take, drop}
-use Rattle.rules.specs.Base.{Got, got, refused, _>>=_, _>>_}
+use lib.ListN.{length}
+use Rattle.rules.specs.Base.{_>>=_, _>>_}
 use Rattle.rules.specs.Trees.{Ty, opens}
 use Rattle.rules.specs.Names.{Table, tableOf, numbersOf, lentTable}
 use Rattle.rules.specs.Contents.{closed, containsName, variables}
-use Rattle.rules.specs.Calls.{lentResult, tableKept, shortLists, setGiven, typeGiven, schemeGiven, bindingsGiven, numbersGiven, apart, over}
-use Rattle.rules.specs.Calls.{resultAfter, Listed, listing, aloneGiven, setCall, typeCall, schemeCall, bindingsCall, containsCall, closedCall, variablesCall}
-use Rattle.rules.specs.Offices.{Name, byBytes, nameNo, mapTy, ReadAlike, NumbersAlike, ListedAlike, frontListed}
+use Rattle.rules.specs.Calls.{lentResult}
+use Rattle.rules.specs.Calls.{aloneGiven, setCall, typeCall, schemeCall, bindingsCall, containsCall, closedCall, variablesCall}
+use Rattle.rules.specs.Offices.{Name, byBytes, nameNo, mapTy, ListedAlike}
 use Rattle.laws.specs.NameTable.{Good}
-use Rattle.offices.specs.Both.{Both, Pair, neither, both, pair, hence, alike, equal-answers, checked}
+use Rattle.offices.specs.Both.{hence, alike, equal-answers, checked}
 use Rattle.offices.specs.Contents.{closed-map, contains-name, variables-map}
 use Rattle.offices.specs.Naming.{keeps}
 use Rattle.offices.specs.Results.{listing-alike}
-use Rattle.offices.specs.Given.{Alike, as-long, as-many, short, kept-alike, lent-table, set-given, lent-result, type-given, scheme-given, bindings-given, numbers-given, apart-alike, opens-alike}
+use Rattle.offices.specs.Given.{Alike, as-long, short, kept-alike, lent-table, set-given, lent-result, type-given, scheme-given, bindings-given, numbers-given, apart-alike, opens-alike}
 
 module _ {pool table pool′ table′ : List ℕ} (good : Good pool table) (good′ : Good pool′ table′) where
   -- the two tables, and the names of their numbers

@@ -4,17 +4,16 @@ use mathlib.Core.Path.{_≡_, refl, ap, sym, _∙_}
 use mathlib.Core.Option.{Option, none, some}
 use mathlib.Core.List.{List, [], _∷_, map}
 use Prim.Native.Nat.{ℕ}
-use native.Mathlib.Omega.{arith}
-use lib.ListN.{length, length-map}
+use lib.ListN.{length}
 use Rattle.rules.specs.Base.{any, andThen}
-use Rattle.rules.specs.Trees.{Open, Ty}
+use Rattle.rules.specs.Trees.{Open}
 use Rattle.rules.specs.Names.{Table}
 use Rattle.rules.specs.Schemes.{Scheme, concrete, scheme}
 use Rattle.rules.specs.Writing.{Rec, rec}
 use Rattle.rules.specs.Reading
 use Rattle.rules.specs.Reading.{Reader, give, unused, pick, readTy, readBound, readAll, schemeOf}
-use Rattle.rules.specs.Offices.{Word, number, nameNo, namesOne, wordIf, mapOpen, mapTy, mapScheme, mapOption}
-use Rattle.offices.specs.Reading.{Seen, seen, Alike, SameWord, Agree, Readers, Tables, end, row, Cases, neither, both}
+use Rattle.rules.specs.Offices.{nameNo, namesOne, wordIf, mapOpen, mapScheme, mapOption}
+use Rattle.offices.specs.Reading.{same-length, seen, Alike, SameWord, Agree, Tables, end, row, Cases, neither, both}
 use Rattle.offices.specs.Reading.{cases, give-agree, unused-agree, pick-agree, then-agree, number-at, ty-agree, bound-agree, all-agree, unlike, head, tail, plain}
 
 -- a scheme's first record and its type
@@ -59,12 +58,9 @@ module _ (t t′ : Table) where
   ends-alike (concrete u) (concrete u′) (b ∷ bs) [] e f = cc
   ends-alike (concrete u) (concrete u′) (b ∷ bs) (b′ ∷ bs′) e f = refl
 
-  pub same-length : (rs rs′ : List Rec) → Alike t t′ rs rs′ → length rs ≡ length rs′
-  same-length rs rs′ e = sym (length-map rs (seen t)) ∙ ap length e ∙ length-map rs′ (seen t′)
-
   ended-alike : (v v′ : Scheme ℕ × List Rec) → mapScheme (nameNo t) (v .0) ≡ mapScheme (nameNo t′) (v′ .0) → Alike t t′ (v .1) (v′ .1)
       → mapOption (mapScheme (nameNo t)) (ended v) ≡ mapOption (mapScheme (nameNo t′)) (ended v′)
-  ended-alike v v′ e f = rw (same-length (v .1) (v′ .1) f) (go (readAll readBound (length (v′ .1)) (v .1)) (readAll readBound (length (v′ .1)) (v′ .1)) (all-agree t t′ readBound (bound-agree t t′) (length (v′ .1)) (v .1) (v′ .1) f))
+  ended-alike v v′ e f = rw (same-length t t′ (v .1) (v′ .1) f) (go (readAll readBound (length (v′ .1)) (v .1)) (readAll readBound (length (v′ .1)) (v′ .1)) (all-agree t t′ readBound (bound-agree t t′) (length (v′ .1)) (v .1) (v′ .1) f))
     where
       go : (o o′ : Option (List (Open ℕ))) → mapOption (map (mapOpen (nameNo t))) o ≡ mapOption (map (mapOpen (nameNo t′))) o′
           → mapOption (mapScheme (nameNo t)) (andThen o (λ bs. ends (v .0) bs)) ≡ mapOption (mapScheme (nameNo t′)) (andThen o′ (λ bs. ends (v′ .0) bs))

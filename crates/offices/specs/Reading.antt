@@ -10,16 +10,13 @@ use borrow.Author.Tests.{eqb-true}
 use lib.Dec.{eqb}
 use lib.ListN.{length, length-map}
 use Rattle.rules.specs.Base.{all, any, andThen}
-use Rattle.rules.specs.Exponents.{frac}
-use Rattle.rules.specs.Trees.{Open, var, quant, par, free, base, Factor, _↑_, Product, Ty, opened, basic, dim, fn, struct, list}
-use Rattle.rules.specs.Trees.{Tys, nil, cons, Fields, noFields, field, Con, equal, isDim, isScalar, hasField, Binding, _≔_, boolean, string, datetime}
+use Rattle.rules.specs.Trees.{Ty}
 use Rattle.rules.specs.Names.{Table}
-use Rattle.rules.specs.Schemes.{Scheme, concrete, scheme}
-use Rattle.rules.specs.Writing.{Rec, rec, signed}
+use Rattle.rules.specs.Writing.{Rec, rec}
 use Rattle.rules.specs.Reading
-use Rattle.rules.specs.Reading.{Reader, pass, give, unused, pick, next, factorTable, factorKinds, readFactors, readTys, fieldName, readFields, readDim, readFn, readStruct, readList, typeTable, typeKinds, readTy}
-use Rattle.rules.specs.Reading.{readScalar, scalarTable, scalarKinds, readEqual, readIsDim, readHasField, conTable, conKinds, readCon, readBoundTo, bindingTable, bindingKinds, readBinding, boundTable, boundKinds, readBound, readAll, records, schemeOf}
-use Rattle.rules.specs.Offices.{Word, number, name, Name, nameNo, namesOne, wordIf, readBack, ReadAlike, mapOpen, mapFactor, mapTy, mapTys, mapFields, mapCon, mapBinding, mapScheme, mapOption}
+use Rattle.rules.specs.Reading.{Reader, pass, give, unused, pick, next, factorTable, factorKinds, readFactors, readTys, fieldName, readFields, typeTable, typeKinds, readTy}
+use Rattle.rules.specs.Reading.{scalarTable, scalarKinds, conTable, conKinds, readCon, bindingTable, bindingKinds, readBinding, boundTable, boundKinds, readBound, readAll, records}
+use Rattle.rules.specs.Offices.{Word, number, name, Name, nameNo, namesOne, wordIf, readBack, ReadAlike, mapOpen, mapFactor, mapTy, mapTys, mapFields, mapCon, mapBinding, mapOption}
 
 -- a record with a name in place of its number
 abbrev pub Seen : Type 0
@@ -74,6 +71,9 @@ module _ (t t′ : Table) where
 
   abbrev pub Alike : List Rec → List Rec → Type 0
   Alike rs rs′ = map (seen t) rs ≡ map (seen t′) rs′
+
+  pub same-length : (rs rs′ : List Rec) → Alike rs rs′ → length rs ≡ length rs′
+  same-length rs rs′ e = sym (length-map rs (seen t)) ∙ ap length e ∙ length-map rs′ (seen t′)
 
   -- two words that hold the same name, or the same number
   abbrev pub SameWord : ℕ → ℕ → ℕ → ℕ → Type 0

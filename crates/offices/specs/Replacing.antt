@@ -1,16 +1,16 @@
 -- Replacing with other names in types and bindings: the same, with other names in what comes out.
 -- Assumes nothing.
-use mathlib.Core.Path.{_≡_, refl, ap, sym}
+use mathlib.Core.Path.{_≡_, refl}
 use mathlib.Core.Bool.{Bool, true, false}
 use mathlib.Core.Option.{Option, none, some, Option·getD}
 use mathlib.Core.List.{List, [], _∷_, map}
-use Rattle.rules.specs.Base.{Got, got, refused, _>>=_, Limits, isYes}
-use Rattle.rules.specs.Trees.{Open, var, quant, par, free, base, Factor, _↑_, Product, Names, Ty, opened, basic, dim, fn, struct, list, Tys, nil, cons, Fields, noFields, field, Con, equal, isDim, isScalar, hasField, Binding, _≔_}
-use Rattle.rules.specs.Products.{single, multiply, divide, raise}
-use Rattle.rules.specs.Replacing.{Look, asProduct, replaceFactors, replaceProduct, replaceDim, replaceTy, replaceTys, replaceFields, replaceCon, replaceBinding, find, bindings}
-use Rattle.rules.specs.Offices.{Keeps, mapOpen, mapAtom, mapFactor, mapTy, mapTys, mapFields, mapCon, mapBinding, mapOption}
+use Rattle.rules.specs.Base.{got, _>>=_, Limits, isYes}
+use Rattle.rules.specs.Trees.{Open, var, quant, par, free, base, _↑_, Product, Names, Ty, opened, basic, dim, fn, struct, list, Tys, nil, cons, Fields, noFields, field, Con, equal, isDim, isScalar, hasField, Binding, _≔_}
+use Rattle.rules.specs.Products.{single}
+use Rattle.rules.specs.Replacing.{Look, replaceFactors, replaceProduct, replaceDim, replaceTy, replaceTys, replaceFields, replaceCon, replaceBinding, find, bindings}
+use Rattle.rules.specs.Offices.{Keeps, mapOpen, mapFactor, mapTy, mapTys, mapFields, mapCon, mapBinding, mapOption}
 use Rattle.offices.specs.Over.{Over, next, gives}
-use Rattle.offices.specs.Products.{Products, multiply-map, divide-map, raise-map, product-map, single-map}
+use Rattle.offices.specs.Products.{multiply-map, divide-map, raise-map, product-map, single-map}
 use Rattle.offices.specs.Contents.{same-map}
 
 module _ {N M : Type 0} (ν : Names N) (μ : Names M) (f : N → M) (keeps : Keeps ν μ f) (l : Limits) (look : Look N) (look′ : Look M) (looks : (o : Open N) → look′ (mapOpen f o) ≡ mapOption (mapTy f) (look o)) where

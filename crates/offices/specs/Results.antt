@@ -2,17 +2,16 @@
 -- Assumes nothing.
 use mathlib.Core.Path.{_≡_, refl, ap, sym, _∙_}
 use mathlib.Core.List.{List, [], _∷_, _++_, map}
-use Prim.Native.Nat.{ℕ, suc, _*_}
+use Prim.Native.Nat.{ℕ, _*_}
 use lib.ListN.{length, length-map, take, drop}
 use Rattle.rules.specs.Base.{Got, got, refused, _>>=_, _>>_}
 use Rattle.rules.specs.Names.{Table}
 use Rattle.rules.specs.Writing.{Rec, words}
-use Rattle.rules.specs.Calls.{over, resultAfter, Written, writing, Listed, listing}
-use Rattle.rules.specs.Offices.{nameNo, readBack, ReadAlike, NumbersAlike, WrittenAlike, ListedAlike, front, frontListed}
+use Rattle.rules.specs.Calls.{over, resultAfter, writing, listing}
+use Rattle.rules.specs.Offices.{nameNo, readBack, ReadAlike, WrittenAlike, ListedAlike, front}
 use Rattle.laws.specs.Size.{words-length}
 use Rattle.offices.specs.Both.{Both, Pair, neither, both, pair}
-use Rattle.offices.specs.Reading.{seen}
-use Rattle.offices.specs.ReadSchemes.{same-length}
+use Rattle.offices.specs.Reading.{same-length, seen}
 use Rattle.offices.specs.Writing.{words-alike}
 
 pub take-front : (ws rest : List ℕ) → take (length ws) (ws ++ rest) ≡ ws

@@ -1,25 +1,23 @@
 -- A rule and a round with other names in the constraints and bindings: the same step, with other names in what comes out.
 -- Assumes nothing.
-use mathlib.Core.Path.{_≡_, refl, ap, sym}
+use mathlib.Core.Path.{_≡_, refl}
 use mathlib.Core.Bool.{Bool, true, false, not, _&&_}
-use mathlib.Core.Option.{Option, none, some, Option·getD}
+use mathlib.Core.Option.{Option, none, some}
 use mathlib.Core.List.{List, [], _∷_, _++_, map, map-append}
-use Prim.Native.Nat.{ℕ}
 use lib.Dec.{eqb}
-use Rattle.rules.specs.Base.{Got, got, _>>=_, Limits, isYes, _orElse_, onlyIf, andThen, each, collect}
+use Rattle.rules.specs.Base.{Got, _>>=_, Limits, isYes, _orElse_, onlyIf, collect}
 use Rattle.rules.specs.Exponents.{Exp, neg, quotient}
 use Rattle.rules.specs.Trees.{Open, var, quant, par, free, base, Factor, _↑_, Product, Names, Ty, opened, basic, dim, fn}
 use Rattle.rules.specs.Trees.{struct, list, Tys, nil, cons, Fields, Con, equal, isDim, isScalar, hasField, Binding, _≔_, ty-dec, count, openOfFactor}
 use Rattle.rules.specs.Views.{productOf, fnOf, structOf, listOf, variable, asVar, asPower}
 use Rattle.rules.specs.Contents.{closed, contains, fieldIn, namesIn}
-use Rattle.rules.specs.Products.{divide}
-use Rattle.rules.specs.Replacing.{replaceCon, replaceBinding, bindings}
+use Rattle.rules.specs.Replacing.{bindings}
 use Rattle.rules.specs.Rounds.{Step, bind, split, done, stuck, State, pairs, asProducts, variableLeft, functions, lists, bindTo, firstRules, structs}
 use Rattle.rules.specs.Rounds.{dimensions, byKind, orTry, dimensionParts, otherSide, fieldStep, trySatisfy, taken, sizeState, depthState, limited, firstStep, perform, performed, round}
-use Rattle.rules.specs.Offices.{Keeps, mapOpen, mapAtom, mapFactor, mapTy, mapTys, mapFields, mapCon, mapBinding, mapOption}
+use Rattle.rules.specs.Offices.{Keeps, mapOpen, mapFactor, mapTy, mapTys, mapCon, mapBinding, mapOption}
 use Rattle.offices.specs.Over.{Over, next, gives, same-over, sized-over, each-over}
-use Rattle.offices.specs.Options.{then-map, or-map, getD-map}
-use Rattle.offices.specs.Products.{only-map, divide-map}
+use Rattle.offices.specs.Options.{only-map, then-map, or-map, getD-map}
+use Rattle.offices.specs.Products.{divide-map}
 use Rattle.offices.specs.Sizes.{product-opens, count-map, mapState, size-state, depth-state}
 use Rattle.offices.specs.Contents.{names-in, closed-map, same-map, ty-same, contains-map, field-in}
 use Rattle.offices.specs.Views.{mapFn, mapStruct, product-of, fn-of, struct-of, list-of, variable-of, as-var, as-power}

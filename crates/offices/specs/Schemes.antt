@@ -1,23 +1,22 @@
 -- The scheme calls' definitions with other names in types, bounds and handed names.
 -- Assumes nothing.
-use mathlib.Core.Path.{_≡_, refl, ap, sym}
+use mathlib.Core.Path.{_≡_, refl}
 use mathlib.Core.Bool.{Bool, true, false}
-use mathlib.Core.Option.{Option, none, some, Option·getD}
+use mathlib.Core.Option.{Option, none, some}
 use mathlib.Core.List.{List, [], _∷_, map}
 use Prim.Native.Nat.{ℕ, zero, suc, _+_}
 use lib.Dec.{eqb}
 use lib.ListN.{length, length-map, getElem?}
-use Rattle.rules.specs.Base.{Got, got, refused, _>>=_, _>>_, need, Limits, sized, isYes, onlyIf, andThen, keep}
+use Rattle.rules.specs.Base.{_>>=_, _>>_, need, Limits, isYes, keep}
 use Rattle.rules.specs.Trees.{Open, var, quant, par, Product, Names, Ty, opened, basic, dim, fn, struct, list, Tys, nil, cons, Fields, noFields, field, opens, size, depth}
 use Rattle.rules.specs.Contents.{sort, namesIn, among}
 use Rattle.rules.specs.Products.{single}
 use Rattle.rules.specs.Plain.{plainDim, plain, plainTys, plainFields}
-use Rattle.rules.specs.Replacing.{Look, replaceTy}
 use Rattle.rules.specs.Schemes.{Scheme, concrete, scheme, renamed, renamedBounds, schemeLimited, back, quantifies, quantifyFrom, quantify, generalise, putBack, instantiate}
 use Rattle.rules.specs.Offices.{Keeps, mapOpen, mapFactor, mapTy, mapTys, mapFields, mapScheme, mapOption}
 use Rattle.offices.specs.Over.{Over, next, gives, same-over, sized-over}
-use Rattle.offices.specs.Options.{then-map, getD-map}
-use Rattle.offices.specs.Products.{only-map, single-map}
+use Rattle.offices.specs.Options.{only-map, then-map, getD-map}
+use Rattle.offices.specs.Products.{single-map}
 use Rattle.offices.specs.Sizes.{opens-map, size-map, depth-map}
 use Rattle.offices.specs.Contents.{names-in, same-map, among-map, sort-map, keep-map}
 use Rattle.offices.specs.Replacing.{ty-map}

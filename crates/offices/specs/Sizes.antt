@@ -1,15 +1,14 @@
 -- Open names, sizes and depths of trees with other names in them.
 -- Assumes nothing.
-use mathlib.Core.Path.{_≡_, refl, ap, sym}
-use mathlib.Core.List.{List, [], _∷_, _++_, map, map-append}
-use Prim.Native.Nat.{ℕ, suc, _+_, max}
-use lib.ListN.{length, length-map}
+use mathlib.Core.Path.{_≡_, refl}
+use mathlib.Core.List.{List, [], _∷_, map, map-append}
+use lib.ListN.{length-map}
 use Rattle.rules.specs.Base.{collect, sumOf, maxOf}
-use Rattle.rules.specs.Trees.{Open, var, quant, par, free, base, Factor, _↑_, Product, Ty, opened, basic, dim, fn, struct, list, Tys, nil, cons, Fields, noFields, field, Con}
-use Rattle.rules.specs.Trees.{equal, isDim, isScalar, hasField, Binding, _≔_, openOfFactor, opens, opensTys, opensFields, size, sizeTys, sizeFields, depth, depthTys, depthFields, count, countFields, opensCon, sizeCon, depthCon, sizeBinding, depthBinding}
+use Rattle.rules.specs.Trees.{Open, free, base, Factor, _↑_, Product, Ty, opened, basic, dim, fn, struct, list, Tys, nil, cons, Fields, noFields, field, Con}
+use Rattle.rules.specs.Trees.{equal, isDim, isScalar, hasField, Binding, _≔_, openOfFactor, opens, opensTys, opensFields, size, sizeTys, sizeFields, depth, depthTys, depthFields, count, opensCon, sizeCon, depthCon, sizeBinding, depthBinding}
 use Rattle.rules.specs.Rounds.{State, sizeState, depthState}
 use Rattle.rules.specs.Calls.{opensBinding}
-use Rattle.rules.specs.Offices.{mapOpen, mapAtom, mapFactor, mapTy, mapTys, mapFields, mapCon, mapBinding}
+use Rattle.rules.specs.Offices.{mapOpen, mapFactor, mapTy, mapTys, mapFields, mapCon, mapBinding}
 use Rattle.offices.specs.Over.{collect-over}
 
 module _ {N M : Type 0} (f : N → M) where

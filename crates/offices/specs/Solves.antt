@@ -2,15 +2,15 @@
 -- Assumes nothing.
 use mathlib.Core.Path.{_≡_, refl, ap, ap₂, sym, _∙_}
 use mathlib.Core.List.{List, [], _∷_, _++_, map}
-use Prim.Native.Nat.{ℕ, _+_, _*_}
+use Prim.Native.Nat.{ℕ, _+_}
 use native.Mathlib.Omega.{arith}
-use lib.ListN.{length, length-map, length-append, take}
-use Rattle.rules.specs.Base.{Got, got, refused, _>>_, bounded, collect, sumOf}
-use Rattle.rules.specs.Trees.{var, Con, Binding, opensCon, sizeCon, sizeBinding}
-use Rattle.rules.specs.Names.{Table, tableOf, numbersOf}
+use lib.ListN.{length, length-map, length-append}
+use Rattle.rules.specs.Base.{Got, got, _>>_, bounded, collect, sumOf}
+use Rattle.rules.specs.Trees.{var, Binding, opensCon, sizeCon, sizeBinding}
+use Rattle.rules.specs.Names.{Table, tableOf}
 use Rattle.rules.specs.Solving.{Answer, accepted, remaining, stopped, solve}
-use Rattle.rules.specs.Writing.{words, writeCon, writeBinding, writeBound}
-use Rattle.rules.specs.Calls.{lent, shortLists, tableKept, apart, over, resultAfter, Solved, solved, unsolved, refusedAfter, solvedOf, solvedWords, solvedSet, solveCall}
+use Rattle.rules.specs.Writing.{writeBinding, writeBound}
+use Rattle.rules.specs.Calls.{resultAfter, solved, unsolved, refusedAfter, solvedOf, solvedWords, solvedSet, solveCall}
 use Rattle.rules.specs.Offices.{Name, byBytes, nameNo, mapCon, mapBinding, mapAnswer, ReadAlike, LentAlike, SolvedAlike, frontSolved}
 use Rattle.laws.specs.NameTable.{Good}
 use Rattle.laws.specs.Size.{size-binding, set-length}
@@ -18,7 +18,6 @@ use Rattle.offices.specs.Both.{Both, Pair, neither, both, pair, hence, a
 use Rattle.offices.specs.Sizes.{size-cons, size-bindings}
 use Rattle.offices.specs.Solving.{solve-map}
 use Rattle.offices.specs.Naming.{keeps}
-use Rattle.offices.specs.Reading.{seen}
 use Rattle.offices.specs.Writing.{set-written, answer-written}
 use Rattle.offices.specs.Results.{nothing, fronts}
 use Rattle.offices.specs.Given.{Alike, as-long, short, kept-alike, lent-alike, set-given, apart-alike, set-opens}

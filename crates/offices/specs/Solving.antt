@@ -1,16 +1,16 @@
 -- Solving with other names in the set: the same rounds, and the same answer with other names in it.
 -- Assumes nothing.
-use mathlib.Core.Path.{_≡_, refl, ap, sym}
+use mathlib.Core.Path.{_≡_, refl}
 use mathlib.Core.Option.{Option, none, some}
 use mathlib.Core.List.{List, [], _∷_, map}
 use Prim.Native.Nat.{ℕ, zero, suc}
-use Rattle.rules.specs.Base.{Got, got, refused, Limits, andThen, keep, collect, toList, isNone}
+use Rattle.rules.specs.Base.{Got, got, refused, Limits, keep, collect, toList, isNone}
 use Rattle.rules.specs.Trees.{Names, Con, equal, isDim, isScalar, hasField}
 use Rattle.rules.specs.Views.{openOf, nameOf}
 use Rattle.rules.specs.Rounds.{State, round}
-use Rattle.rules.specs.Solving.{Answer, accepted, remaining, stopped, boundOf, finished, finish, after, enough, run, solve}
-use Rattle.rules.specs.Offices.{Keeps, mapOpen, mapTy, mapCon, mapBinding, mapAnswer, mapGot, mapOption}
-use Rattle.offices.specs.Over.{Over, collect-over}
+use Rattle.rules.specs.Solving.{Answer, boundOf, finished, finish, after, enough, run, solve}
+use Rattle.rules.specs.Offices.{Keeps, mapOpen, mapCon, mapAnswer, mapGot, mapOption}
+use Rattle.offices.specs.Over.{collect-over}
 use Rattle.offices.specs.Options.{then-map, none-map}
 use Rattle.offices.specs.Sizes.{mapState}
 use Rattle.offices.specs.Contents.{keep-map, sort-map}

@@ -1,11 +1,9 @@
 -- What a type is, seen from outside, with other names in it.
 -- Assumes nothing.
 use mathlib.Core.Path.{_≡_, refl}
-use mathlib.Core.Option.{Option, none, some}
 use mathlib.Core.List.{map}
-use Prim.Native.Nat.{ℕ}
 use Rattle.rules.specs.Base.{andThen}
-use Rattle.rules.specs.Trees.{Open, var, quant, par, Product, Ty, opened, basic, dim, fn, struct, list, Tys, Fields}
+use Rattle.rules.specs.Trees.{Open, var, quant, par, Ty, opened, basic, dim, fn, struct, list, Tys, Fields}
 use Rattle.rules.specs.Products.{single}
 use Rattle.rules.specs.Views.{openOf, productOf, fnOf, structOf, listOf, variable, nameOf, kindOpen, kind, asVar, asPower}
 use Rattle.rules.specs.Offices.{mapOpen, mapFactor, mapTy, mapTys, mapFields, mapOption}

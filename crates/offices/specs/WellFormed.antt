@@ -1,16 +1,13 @@
 -- Well formed trees with other names in them, where the same names are held.
 -- Assumes nothing.
-use mathlib.Core.Path.{_≡_, refl, ap, sym}
-use mathlib.Core.Bool.{Bool, true, false, _&&_}
+use mathlib.Core.Path.{_≡_, refl}
+use mathlib.Core.Bool.{Bool}
 use mathlib.Core.List.{List, [], _∷_, map}
 use Prim.Native.Nat.{ℕ, Ordering}
-use lib.Dec.{leb}
-use lib.ListN.{length, length-map}
-use Rattle.rules.specs.Base.{all}
-use Rattle.rules.specs.Exponents.{goodStored}
-use Rattle.rules.specs.Trees.{Open, var, quant, par, Atom, free, base, Factor, _↑_, Product, Names, Ty, opened, basic, dim, fn}
+use lib.ListN.{length-map}
+use Rattle.rules.specs.Trees.{Open, var, quant, par, free, base, Factor, _↑_, Product, Names, Ty, opened, basic, dim, fn}
 use Rattle.rules.specs.Trees.{struct, list, Tys, nil, cons, Fields, noFields, field, Con, equal, isDim, isScalar, hasField, Binding, _≔_, orderAtom}
-use Rattle.rules.specs.WellFormed.{rising, atomOf, fieldNames, isLt, goodOpen, goodFactor, goodProduct, goodTy, goodTys, goodFields, goodCon, goodBinding}
+use Rattle.rules.specs.WellFormed.{rising, atomOf, fieldNames, goodOpen, goodFactor, goodProduct, goodTy, goodTys, goodFields, goodCon, goodBinding}
 use Rattle.rules.specs.Offices.{Keeps, mapOpen, mapAtom, mapFactor, mapTy, mapTys, mapFields, mapCon, mapBinding}
 use Rattle.offices.specs.Products.{order-atom}
 use Rattle.offices.specs.Contents.{all-map}

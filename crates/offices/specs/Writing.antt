@@ -12,7 +12,7 @@ use Rattle.rules.specs.Names.{Table}
 use Rattle.rules.specs.Schemes.{Scheme, concrete, scheme}
 use Rattle.rules.specs.Views.{kindOpen, kindBasic}
 use Rattle.rules.specs.Writing.{Rec, rec, twos, wordOf, writeFactor, writeProduct, writeTy, writeTys, writeFields, writeCon, writeBinding, writeBound, writeScheme, words}
-use Rattle.rules.specs.Offices.{Word, number, name, Name, nameNo, namesOne, wordIf, readBack, ReadAlike, mapOpen, mapFactor, mapTy, mapTys, mapFields, mapCon, mapBinding, mapScheme}
+use Rattle.rules.specs.Offices.{Word, number, name, Name, nameNo, namesOne, readBack, ReadAlike, mapOpen, mapFactor, mapTy, mapTys, mapFields, mapCon, mapBinding, mapScheme}
 use Rattle.offices.specs.Over.{collect-over}
 use Rattle.offices.specs.Sizes.{count-map}
 use Rattle.offices.specs.Reading.{Seen, seen}
