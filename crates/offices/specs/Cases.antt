@@ -4,14 +4,14 @@ use mathlib.Core.Path.{_≡_, refl}
 use mathlib.Core.Bool.{Bool, true, false, not}
 use mathlib.Core.List.{List, [], _∷_, _++_, map}
 use Prim.Native.Nat.{ℕ, zero, suc}
-use lib.ListN.{replicate}
+use lib.ListN.{replicate, take}
 use Rattle.rules.specs.Base.{got, refused, isNone}
 use Rattle.rules.specs.Names.{Bytes, namesOf, numberOf}
 use Rattle.rules.specs.Writing.{Rec, rec, words}
 use Rattle.rules.specs.Calls.{Solved, solved, refusedAfter, setCall, solveCall}
 use Rattle.rules.specs.Rules.{rules}
 use Rattle.rules.specs.Examples.{pool, table, result, work, x}
-use Rattle.rules.specs.Offices.{stray, nameNo, number, name, namesOne, readBack, Office, here, there, Entering, Shared, tableIn, entered, afterAll, answersTo, given, fill, written}
+use Rattle.rules.specs.Offices.{named, nameNo, Word, number, name, namesOne, readBack, Office, here, there, Entering, Shared, tableIn, entered, afterAll, answersTo, fill, written}
 
 abbrev enters : Office → Bytes → Entering
 enters o n = record { by = o; name = n }
@@ -42,6 +42,27 @@ reads-alike : readBack (tableIn (afterAll empty (enters here (120 ∷ []) ∷ []
     ≡ readBack (tableIn (afterAll empty (enters there (121 ∷ []) ∷ enters here (120 ∷ []) ∷ []))) (written (1 ∷ []) draft)
 unfolding rules entered afterAll readBack namesOne nameNo written fill
 reads-alike = refl
+
+-- bounds come in the order of bytes, 'a' before 'b', also where the other office came first with 'b', so that the numbers are the other way about
+abbrev bounds : Shared → List Rec → List Word
+bounds s rs = readBack (tableIn s) (take 8 (solveCall (s .pool) (s .table) (words rs) result work .result))
+
+abbrev alone : Shared
+alone = afterAll empty (enters here (97 ∷ []) ∷ enters here (98 ∷ []) ∷ [])
+
+abbrev second : Shared
+second = afterAll empty (enters there (98 ∷ []) ∷ enters here (97 ∷ []) ∷ enters here (98 ∷ []) ∷ [])
+
+-- is-dimension of 'b', then of 'a'
+abbrev twoBounds : List Rec
+twoBounds = rec 21 0 0 0 ∷ rec 1 1 0 0 ∷ rec 21 0 0 0 ∷ rec 1 0 0 0 ∷ []
+
+bounds-by-bytes : bounds alone twoBounds ∷ bounds second (map (fill (1 ∷ 0 ∷ [])) twoBounds) ∷ []
+    ≡ (number 25 ∷ name (named (97 ∷ [])) ∷ number 0 ∷ number 0 ∷ number 25 ∷ name (named (98 ∷ [])) ∷ number 0 ∷ number 0 ∷ [])
+    ∷ (number 25 ∷ name (named (97 ∷ [])) ∷ number 0 ∷ number 0 ∷ number 25 ∷ name (named (98 ∷ [])) ∷ number 0 ∷ number 0 ∷ [])
+    ∷ []
+unfolding rules result work entered afterAll readBack namesOne nameNo fill
+bounds-by-bytes = refl
 
 -- 255 names of one byte each, and room for one more
 upTo : ℕ → ℕ → List ℕ

@@ -3,7 +3,7 @@
 use mathlib.Core.Path.{_≡_, ap, ap₂}
 use mathlib.Core.List.{List, [], _∷_, map}
 use Prim.Native.Nat.{ℕ}
-use Rattle.rules.specs.Base.{_>>=_, _>>_, bounded, sized, each, collect}
+use Rattle.rules.specs.Base.{bounded, sized, each, collect}
 use Rattle.rules.specs.Trees.{Open, Ty, Con, Binding, opens, opensCon, size, depth}
 use Rattle.rules.specs.Names.{Table, tableOf, numbersOf}
 use Rattle.rules.specs.Replacing.{replaceTy, replaceCon, bindings}

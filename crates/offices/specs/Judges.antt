@@ -7,7 +7,7 @@ use mathlib.Core.List.{List, [], _∷_, map}
 use Prim.Native.Nat.{ℕ, zero, suc}
 use native.Mathlib.Omega.{arith}
 use lib.ListN.{length, length-map, drop}
-use Rattle.rules.specs.Base.{_>>=_, _>>_, bounded, andThen, each, collect}
+use Rattle.rules.specs.Base.{bounded, andThen, each, collect}
 use Rattle.rules.specs.Trees.{Ty, Con, Binding, opensCon}
 use Rattle.rules.specs.Names.{Table, tableOf, namesOf, numbersOf}
 use Rattle.rules.specs.Contents.{among}

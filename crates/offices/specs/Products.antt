@@ -5,7 +5,7 @@ use mathlib.Core.Bool.{Bool, true, false}
 use mathlib.Core.List.{[], _∷_, map}
 use Prim.Native.Nat.{Ordering, Ordering·lt, Ordering·eq, Ordering·gt}
 use lib.ListN.{length, length-map}
-use Rattle.rules.specs.Base.{Got, _>>=_, Limits, within, onlyIf, isYes}
+use Rattle.rules.specs.Base.{Got, Limits, within, isYes}
 use Rattle.rules.specs.Exponents.{Exp, Exp-dec, one, isZero, sum, times}
 use Rattle.rules.specs.Trees.{Open, var, quant, par, Atom, free, base, _↑_, Product, Names, Ty, opened, basic, dim, fn, struct, list, orderOpen, orderAtom}
 use Rattle.rules.specs.Products.{put, inverse, single, mergeOne, merge, multiply, divide, raise}

@@ -1,6 +1,6 @@
 -- Schemes that read alike are read as schemes that are alike once numbers are replaced by names; or neither is read.
 -- Assumes nothing.
-use mathlib.Core.Path.{_≡_, refl, ap, sym, _∙_}
+use mathlib.Core.Path.{_≡_, refl, ap, sym}
 use mathlib.Core.Option.{Option, none, some}
 use mathlib.Core.List.{List, [], _∷_, map}
 use Prim.Native.Nat.{ℕ}
@@ -13,7 +13,7 @@ use Rattle.rules.specs.Writing.{Rec, rec}
 use Rattle.rules.specs.Reading
 use Rattle.rules.specs.Reading.{Reader, give, unused, pick, readTy, readBound, readAll, schemeOf}
 use Rattle.rules.specs.Offices.{nameNo, namesOne, wordIf, mapOpen, mapScheme, mapOption}
-use Rattle.offices.specs.Reading.{same-length, seen, Alike, SameWord, Agree, Tables, end, row, Cases, neither, both}
+use Rattle.offices.specs.Reading.{same-length, Alike, SameWord, Agree, Tables, end, row, Cases, neither, both}
 use Rattle.offices.specs.Reading.{cases, give-agree, unused-agree, pick-agree, then-agree, number-at, ty-agree, bound-agree, all-agree, unlike, head, tail, plain}
 
 -- a scheme's first record and its type

@@ -8,7 +8,7 @@ use Rattle.rules.specs.Base.{Got, got, refused, _>>=_, _>>_}
 use Rattle.rules.specs.Names.{Table}
 use Rattle.rules.specs.Writing.{Rec, words}
 use Rattle.rules.specs.Calls.{over, resultAfter, writing, listing}
-use Rattle.rules.specs.Offices.{nameNo, readBack, ReadAlike, WrittenAlike, ListedAlike, front}
+use Rattle.rules.specs.Offices.{nameNo, readBack, ReadAlike, WrittenAlike, ListedAlike}
 use Rattle.laws.specs.Size.{words-length}
 use Rattle.offices.specs.Both.{Both, Pair, neither, both, pair}
 use Rattle.offices.specs.Reading.{same-length, seen}

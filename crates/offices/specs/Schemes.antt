@@ -7,7 +7,7 @@ use mathlib.Core.List.{List, [], _∷_, map}
 use Prim.Native.Nat.{ℕ, zero, suc, _+_}
 use lib.Dec.{eqb}
 use lib.ListN.{length, length-map, getElem?}
-use Rattle.rules.specs.Base.{_>>=_, _>>_, need, Limits, isYes, keep}
+use Rattle.rules.specs.Base.{need, Limits, isYes, keep}
 use Rattle.rules.specs.Trees.{Open, var, quant, par, Product, Names, Ty, opened, basic, dim, fn, struct, list, Tys, nil, cons, Fields, noFields, field, opens, size, depth}
 use Rattle.rules.specs.Contents.{sort, namesIn, among}
 use Rattle.rules.specs.Products.{single}

@@ -4,7 +4,7 @@ use mathlib.Core.Path.{_≡_, refl}
 use mathlib.Core.List.{List, [], _∷_, map, map-append}
 use lib.ListN.{length-map}
 use Rattle.rules.specs.Base.{collect, sumOf, maxOf}
-use Rattle.rules.specs.Trees.{Open, free, base, Factor, _↑_, Product, Ty, opened, basic, dim, fn, struct, list, Tys, nil, cons, Fields, noFields, field, Con}
+use Rattle.rules.specs.Trees.{free, base, Factor, _↑_, Product, Ty, opened, basic, dim, fn, struct, list, Tys, nil, cons, Fields, noFields, field, Con}
 use Rattle.rules.specs.Trees.{equal, isDim, isScalar, hasField, Binding, _≔_, openOfFactor, opens, opensTys, opensFields, size, sizeTys, sizeFields, depth, depthTys, depthFields, count, opensCon, sizeCon, depthCon, sizeBinding, depthBinding}
 use Rattle.rules.specs.Rounds.{State, sizeState, depthState}
 use Rattle.rules.specs.Calls.{opensBinding}

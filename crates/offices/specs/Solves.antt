@@ -5,7 +5,7 @@ use mathlib.Core.List.{List, [], _∷_, _++_, map}
 use Prim.Native.Nat.{ℕ, _+_}
 use native.Mathlib.Omega.{arith}
 use lib.ListN.{length, length-map, length-append}
-use Rattle.rules.specs.Base.{Got, got, _>>_, bounded, collect, sumOf}
+use Rattle.rules.specs.Base.{Got, got, bounded, collect, sumOf}
 use Rattle.rules.specs.Trees.{var, Binding, opensCon, sizeCon, sizeBinding}
 use Rattle.rules.specs.Names.{Table, tableOf}
 use Rattle.rules.specs.Solving.{Answer, accepted, remaining, stopped, solve}
