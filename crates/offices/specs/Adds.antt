@@ -2,7 +2,7 @@
 -- Assumes nothing.
 use mathlib.Core.Path.{_≡_, refl, ap, ap₂, sym, _∙_}
 use mathlib.Core.List.{List, [], _∷_, _++_, append-assoc}
-use Prim.Native.Nat.{ℕ, zero, suc, _+_, _*_, _≤_}
+use Prim.Native.Nat.{ℕ, _+_, _*_, _≤_}
 use native.Mathlib.Omega.{arith}
 use borrow.Author.Tests.{leb-true}
 use lib.Dec.{leb}
@@ -13,7 +13,7 @@ use Rattle.rules.specs.Trees.{Con, sizeCon}
 use Rattle.rules.specs.Names.{Table, tableOf, lentTable}
 use Rattle.rules.specs.Adding.{Added, satisfied, violated, unknown, add}
 use Rattle.rules.specs.Calls.{lentResult, shortLists, over, bufferAfter, addedTo, addCall}
-use Rattle.rules.specs.Offices.{nameNo, Name, byBytes, Word, mapCon, readBack, ReadAlike, AddedAlike, frontAdded}
+use Rattle.rules.specs.Offices.{nameNo, Name, byBytes, mapCon, AddedAlike, frontAdded}
 use Rattle.laws.specs.Checks.{need-passed, first-passed, next-passed}
 use Rattle.laws.specs.Lists.{bound-step}
 use Rattle.laws.specs.NameTable.{Good}
@@ -21,21 +21,8 @@ use Rattle.offices.specs.Both.{hence, alike, through, checked, two-check
 use Rattle.offices.specs.Sizes.{size-cons}
 use Rattle.offices.specs.Adding.{add-map}
 use Rattle.offices.specs.Naming.{keeps}
-use Rattle.offices.specs.Results.{take-front}
+use Rattle.offices.specs.Results.{take-front, joined-alike}
 use Rattle.offices.specs.Given.{Alike, as-long, short, only-alike, kept-alike, lent-table, lent-result, set-given}
-
--- whole records in front of others are read back by themselves
-back-append : (t : Table) (n : ℕ) (xs ys : List ℕ) → length xs ≡ n * 4 → readBack t (xs ++ ys) ≡ readBack t xs ++ readBack t ys
-unfolding readBack
-back-append t n [] ys e = refl
-back-append t n (k ∷ []) ys e = absurd (omega arith)
-back-append t n (k ∷ a ∷ []) ys e = absurd (omega arith)
-back-append t n (k ∷ a ∷ b ∷ []) ys e = absurd (omega arith)
-back-append t zero (k ∷ a ∷ b ∷ c ∷ xs) ys e = absurd (omega arith)
-back-append t (suc n) (k ∷ a ∷ b ∷ c ∷ xs) ys e = rw (back-append t n xs ys (omega arith))
-
-joined-alike : (t t′ : Table) (n : ℕ) (xs xs′ ys ys′ : List ℕ) → length xs ≡ n * 4 → length xs′ ≡ n * 4 → ReadAlike t t′ xs xs′ → ReadAlike t t′ ys ys′ → ReadAlike t t′ (xs ++ ys) (xs′ ++ ys′)
-joined-alike t t′ n xs xs′ ys ys′ h h′ e f = record { words = back-append t n xs ys h ∙ ap₂ (λ (a b : List Word). a ++ b) (e .words) (f .words) ∙ sym (back-append t′ n xs′ ys′ h′) }
 
 take-both : (xs ys rest : List ℕ) (n : ℕ) → length xs ≡ n → take (n + length ys) (xs ++ (ys ++ rest)) ≡ xs ++ ys
 take-both xs ys rest n e =

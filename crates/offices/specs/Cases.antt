@@ -39,7 +39,7 @@ abbrev draft : List Rec
 draft = rec 20 0 0 0 ∷ rec 1 0 0 0 ∷ rec 4 0 0 0 ∷ []
 
 reads-alike : readBack (tableIn (afterAll empty (enters here (120 ∷ []) ∷ []))) (words draft)
-    ≡ readBack (tableIn (afterAll empty (enters there (121 ∷ []) ∷ enters here (120 ∷ []) ∷ []))) (written (1 ∷ []) draft)
+    ≡ readBack (tableIn (afterAll empty (enters there (121 ∷ []) ∷ enters here (120 ∷ []) ∷ []))) (written (1 ∷ []) draft [])
 unfolding rules entered afterAll readBack namesOne nameNo written fill
 reads-alike = refl
 

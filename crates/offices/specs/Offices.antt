@@ -3,20 +3,22 @@
 use mathlib.Core.Path.{_≡_, refl, ap, sym, _∙_}
 use mathlib.Core.Bool.{Bool, true, false}
 use mathlib.Core.List.{List, [], _∷_, map}
-use Prim.Native.Nat.{ℕ, zero, suc, _<_}
+use Prim.Native.Nat.{ℕ, zero, suc, _*_, _<_}
 use native.Mathlib.Omega.{arith}
 use borrow.Author.Tests.{ltb-true}
 use lib.Dec.{ltb}
-use lib.ListN.{length, getD}
+use lib.ListN.{length, length-map, getD}
 use Rattle.rules.specs.Base.{Got, got, refused, all, collect}
 use Rattle.rules.specs.Names.{Table, tableGiven}
-use Rattle.rules.specs.Writing.{Rec, rec}
-use Rattle.rules.specs.Offices.{Name, nameNo, namesOne, mapGot, CallsAlike, Office, Entering, Shared, tableIn, afterAll, namesBy, answersTo, answerFor, hadRoom, givenNumber, given, fill, written, ownRec, own, Unmoved}
+use Rattle.rules.specs.Writing.{Rec, rec, words}
+use Rattle.rules.specs.Offices.{Name, nameNo, namesOne, mapGot, ReadAlike, CallsAlike, Office, Entering, Shared, tableIn, afterAll, namesBy, answersTo, answerFor, hadRoom, givenNumber, given, fill, written, ownRec, own, Unmoved}
 use Rattle.laws.specs.Lists.{and-left, and-right}
 use Rattle.laws.specs.NameTable.{Good, given-good}
+use Rattle.laws.specs.Size.{words-length}
 use Rattle.offices.specs.Over.{collect-over}
 use Rattle.offices.specs.Reading.{seen}
 use Rattle.offices.specs.Writing.{words-alike}
+use Rattle.offices.specs.Results.{joined-alike, rest-alike}
 use Rattle.offices.specs.Values.{asked-alike, multiply-alike, divide-alike, inverse-alike, raise-alike}
 use Rattle.offices.specs.Queries.{set-alike, type-alike, scheme-alike, bindings-alike, contains-alike, closed-alike, variables-alike}
 use Rattle.offices.specs.Changes.{replace-type, replace-set, quantify-alike, generalise-alike, instantiate-alike}
@@ -95,18 +97,24 @@ module _ (t t′ : Table) (ns ns′ : List ℕ) (e : map (nameNo t) ns ≡ map (
   draft-alike [] h = refl
   draft-alike (r ∷ rs) h = rw (record-alike r (and-left (ownRec (length ns) r) _ h), draft-alike rs (and-right (ownRec (length ns) r) _ h))
 
+  written-length : (ms : List ℕ) (rs : List Rec) → length (words (map (fill ms) rs)) ≡ length rs * 4
+  written-length ms rs = words-length (map (fill ms) rs) ∙ ap (λ (n : ℕ). n * 4) (length-map rs (fill ms))
+
+  written-alike : (rs : List Rec) (rest : List ℕ) → own (length ns) rs ≡ true → length rest < 4 → ReadAlike t t′ (written ns rs rest) (written ns′ rs rest)
+  unfolding written
+  written-alike rs rest h l = joined-alike t t′ (length rs) _ _ rest rest (written-length ns rs) (written-length ns′ rs) (words-alike t t′ _ _ (draft-alike rs h)) (rest-alike t t′ rest l)
+
 -- two histories in which an office entered the same names in the same order and met no 3, whatever the other office entered and met, and
 -- whatever was held before: what it was given has the same names, what it writes reads alike, and every call answers it alike
 pub unmoved : (o : Office) (s s′ : Shared) (es es′ : List Entering) → tableGiven (s .pool) (s .table) ≡ got tt → tableGiven (s′ .pool) (s′ .table) ≡ got tt
     → namesBy o es ≡ namesBy o es′ → hadRoom (answersTo o s es) ≡ true → hadRoom (answersTo o s′ es′) ≡ true → Unmoved o s s′ es es′
-unfolding written
 unmoved o s s′ es es′ g g′ same h h′ =
     let answers = all-named o es s (given-good g) h ∙ ap (map answerFor) same ∙ sym (all-named o es′ s′ (given-good g′) h′) in
     let names = sym (given-names (nameNo (tableIn (afterAll s es))) (answersTo o s es)) ∙ ap (collect givenName) answers ∙ given-names (nameNo (tableIn (afterAll s′ es′))) (answersTo o s′ es′) in
     record {
       names = all-named o es s (given-good g) h;
       answers = answers;
-      lists = λ draft i. words-alike (tableIn (afterAll s es)) (tableIn (afterAll s′ es′)) _ _ (draft-alike (tableIn (afterAll s es)) (tableIn (afterAll s′ es′)) (given (answersTo o s es)) (given (answersTo o s′ es′)) names draft i);
+      lists = λ draft rest i j. written-alike (tableIn (afterAll s es)) (tableIn (afterAll s′ es′)) (given (answersTo o s es)) (given (answersTo o s′ es′)) names draft rest i (ltb-true (length rest) 4 j);
       numbers = λ is i. record { names = handed-alike (nameNo (tableIn (afterAll s es))) (nameNo (tableIn (afterAll s′ es′))) (given (answersTo o s es)) (given (answersTo o s′ es′)) is names i };
       calls = numbering′ (good-after es s (given-good g)) (good-after es′ s′ (given-good g′));
     }

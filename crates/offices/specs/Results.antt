@@ -1,14 +1,15 @@
 -- What stands at the front of a result buffer after a call.
 -- Assumes nothing.
-use mathlib.Core.Path.{_≡_, refl, ap, sym, _∙_}
+use mathlib.Core.Path.{_≡_, refl, ap, ap₂, sym, _∙_}
 use mathlib.Core.List.{List, [], _∷_, _++_, map}
-use Prim.Native.Nat.{ℕ, _*_}
+use Prim.Native.Nat.{ℕ, zero, suc, _*_, _<_}
+use native.Mathlib.Omega.{arith}
 use lib.ListN.{length, length-map, take, drop}
 use Rattle.rules.specs.Base.{Got, got, refused, _>>=_, _>>_}
 use Rattle.rules.specs.Names.{Table}
 use Rattle.rules.specs.Writing.{Rec, words}
 use Rattle.rules.specs.Calls.{over, resultAfter, writing, listing}
-use Rattle.rules.specs.Offices.{nameNo, readBack, ReadAlike, WrittenAlike, ListedAlike}
+use Rattle.rules.specs.Offices.{Word, nameNo, readBack, ReadAlike, WrittenAlike, ListedAlike}
 use Rattle.laws.specs.Size.{words-length}
 use Rattle.offices.specs.Both.{Both, Pair, neither, both, pair}
 use Rattle.offices.specs.Reading.{same-length, seen}
@@ -25,6 +26,28 @@ front-over ws buffer = take-front ws (drop (length ws) buffer)
 
 pub records-front : (rs : List Rec) (buffer : List ℕ) → take (length rs * 4) (over (words rs) buffer) ≡ words rs
 records-front rs buffer = ap (λ (n : ℕ). take n (over (words rs) buffer)) (sym (words-length rs)) ∙ front-over (words rs) buffer
+
+-- whole records in front of others are read back by themselves
+back-append : (t : Table) (n : ℕ) (xs ys : List ℕ) → length xs ≡ n * 4 → readBack t (xs ++ ys) ≡ readBack t xs ++ readBack t ys
+unfolding readBack
+back-append t n [] ys e = refl
+back-append t n (k ∷ []) ys e = absurd (omega arith)
+back-append t n (k ∷ a ∷ []) ys e = absurd (omega arith)
+back-append t n (k ∷ a ∷ b ∷ []) ys e = absurd (omega arith)
+back-append t zero (k ∷ a ∷ b ∷ c ∷ xs) ys e = absurd (omega arith)
+back-append t (suc n) (k ∷ a ∷ b ∷ c ∷ xs) ys e = rw (back-append t n xs ys (omega arith))
+
+pub joined-alike : (t t′ : Table) (n : ℕ) (xs xs′ ys ys′ : List ℕ) → length xs ≡ n * 4 → length xs′ ≡ n * 4 → ReadAlike t t′ xs xs′ → ReadAlike t t′ ys ys′ → ReadAlike t t′ (xs ++ ys) (xs′ ++ ys′)
+joined-alike t t′ n xs xs′ ys ys′ h h′ e f = record { words = back-append t n xs ys h ∙ ap₂ (λ (a b : List Word). a ++ b) (e .words) (f .words) ∙ sym (back-append t′ n xs′ ys′ h′) }
+
+-- words that are no whole record stay as they are
+pub rest-alike : (t t′ : Table) (ws : List ℕ) → length ws < 4 → ReadAlike t t′ ws ws
+unfolding readBack
+rest-alike t t′ [] h = record { words = refl }
+rest-alike t t′ (k ∷ []) h = record { words = refl }
+rest-alike t t′ (k ∷ a ∷ []) h = record { words = refl }
+rest-alike t t′ (k ∷ a ∷ b ∷ []) h = record { words = refl }
+rest-alike t t′ (k ∷ a ∷ b ∷ c ∷ ws) h = absurd (omega arith)
 
 module _ (t t′ : Table) where
   -- nothing reads as nothing

@@ -2,7 +2,7 @@
 -- Assumes nothing.
 use mathlib.Core.Path.{_≡_}
 use mathlib.Core.Bool.{Bool, true, false, not, _&&_, _||_}
-use mathlib.Core.List.{List, [], _∷_, map}
+use mathlib.Core.List.{List, [], _∷_, _++_, map}
 use mathlib.Core.Option.{Option, none, some}
 use Prim.Native.Nat.{ℕ, _+_, _*_}
 use native.Mathlib.Decide.{ℕ-discrete}
@@ -325,12 +325,12 @@ unfoldable pub given : List (Got ℕ) → List ℕ
 given as′ = collect givenNumber as′
 
 -- a list that an office writes with its numbers: where a draft has 0, 1, .. at the place of a name, it writes the first, second, .. number that it
--- was given. All other words it writes as it likes
+-- was given. All other words it writes as it likes, also behind the last whole record
 unfoldable pub fill : List ℕ → Rec → Rec
 fill ns (rec k a b c) = elim (namesOne k b) [ true ↦ rec k (getD ns a 0) b c | false ↦ rec k a b c ]
 
-unfoldable pub written : List ℕ → List Rec → List ℕ
-written ns draft = words (map (fill ns) draft)
+unfoldable pub written : List ℕ → List Rec → List ℕ → List ℕ
+written ns draft rest = words (map (fill ns) draft) ++ rest
 
 -- a draft that names only the first n numbers
 unfoldable pub ownRec : ℕ → Rec → Bool
@@ -353,8 +353,8 @@ module _ (o : Office) (s s′ : Shared) (es es′ : List Entering) where
     -- so at each entry it met the same refusal, or a number of the same name
     pub answers : map (mapGot (nameNo T)) (answersTo o s es) ≡ map (mapGot (nameNo T′)) (answersTo o s′ es′)
     -- a list that it writes with its numbers reads alike,
-    pub lists : (draft : List Rec) → own (length (given (answersTo o s es))) draft ≡ true
-        → ReadAlike T T′ (written (given (answersTo o s es)) draft) (written (given (answersTo o s′ es′)) draft)
+    pub lists : (draft : List Rec) (rest : List ℕ) → own (length (given (answersTo o s es))) draft ≡ true → ltb (length rest) 4 ≡ true
+        → ReadAlike T T′ (written (given (answersTo o s es)) draft rest) (written (given (answersTo o s′ es′)) draft rest)
     -- and so do its numbers handed beside lists
     pub numbers : (is : List ℕ) → all (λ i. ltb i (length (given (answersTo o s es)))) is ≡ true
         → NumbersAlike T T′ (map (λ i. getD (given (answersTo o s es)) i 0) is) (map (λ i. getD (given (answersTo o s′ es′)) i 0) is)
