@@ -27,4 +27,5 @@ pub mod Changes
 pub mod Adds
 pub mod Solves
 pub mod Judges
+pub mod Own
 pub mod Histories

@@ -14,7 +14,7 @@ use Rattle.rules.specs.Trees.{Open, var, quant, par, Atom, free, base, F
 use Rattle.rules.specs.Trees.{struct, list, Tys, nil, cons, Fields, noFields, field, Con, equal, isDim, isScalar, hasField, Binding, _≔_, Names}
 use Rattle.rules.specs.Names.{Bytes, orderBytes, Table, tableOf, namesOf, isHeld, nameAsked, enter}
 use Rattle.rules.specs.Schemes.{Scheme, concrete, scheme}
-use Rattle.rules.specs.Values.{ProductValue, productIn, multiplyCall, divideCall, inverseCall, raiseCall}
+use Rattle.rules.specs.Values.{FactorValue, ProductValue, productIn, multiplyCall, divideCall, inverseCall, raiseCall}
 use Rattle.rules.specs.Writing.{Rec, rec, words}
 use Rattle.rules.specs.Adding.{Added, satisfied, violated, unknown}
 use Rattle.rules.specs.Solving.{Answer, accepted, remaining, stopped}
@@ -339,6 +339,19 @@ ownRec n (rec k a b c) = elim (namesOne k b) [ true ↦ ltb a n | false ↦ true
 unfoldable pub own : ℕ → List Rec → Bool
 own n draft = all (ownRec n) draft
 
+-- the same for a product by value; places past its count are not looked at
+unfoldable pub fillFactor : List ℕ → FactorValue → FactorValue
+fillFactor ns f = elim (namesOne (f .kind) 0) [ true ↦ record { kind = f .kind; name = getD ns (f .name) 0; exp = f .exp } | false ↦ f ]
+
+unfoldable pub fillValue : List ℕ → ProductValue → ProductValue
+fillValue ns v = record { factors = map (fillFactor ns) (v .factors); len = v .len }
+
+unfoldable pub ownFactor : ℕ → FactorValue → Bool
+ownFactor n f = elim (namesOne (f .kind) 0) [ true ↦ ltb (f .name) n | false ↦ true ]
+
+unfoldable pub ownValue : ℕ → ProductValue → Bool
+ownValue n v = all (ownFactor n) (take (v .len) (v .factors))
+
 -- what an office may rely on, after each of two histories, whatever the other office entered and met in them
 module _ (o : Office) (s s′ : Shared) (es es′ : List Entering) where
   abbrev pub T : Table
@@ -355,6 +368,9 @@ module _ (o : Office) (s s′ : Shared) (es es′ : List Entering) where
     -- a list that it writes with its numbers reads alike,
     pub lists : (draft : List Rec) (rest : List ℕ) → own (length (given (answersTo o s es))) draft ≡ true → ltb (length rest) 4 ≡ true
         → ReadAlike T T′ (written (given (answersTo o s es)) draft rest) (written (given (answersTo o s′ es′)) draft rest)
+    -- so does a product by value,
+    pub values : (v : ProductValue) → ownValue (length (given (answersTo o s es))) v ≡ true
+        → ValuesAlike T T′ (fillValue (given (answersTo o s es)) v) (fillValue (given (answersTo o s′ es′)) v)
     -- and so do its numbers handed beside lists
     pub numbers : (is : List ℕ) → all (λ i. ltb i (length (given (answersTo o s es)))) is ≡ true
         → NumbersAlike T T′ (map (λ i. getD (given (answersTo o s es)) i 0) is) (map (λ i. getD (given (answersTo o s′ es′)) i 0) is)
