@@ -11,7 +11,8 @@ use Rattle.rules.specs.Calls.{lent, over, resultAfter, Solved, solvedOf, solved
 use Rattle.rules.specs.Names.{Table, tableOf}
 use Rattle.rules.specs.Solving.{Answer}
 use Rattle.rules.specs.Batches.{cutSets, eachSolved, answeredWords, fourWords, recordsOf, batchLent, batchFits, writtenOver, batchCall}
-use Rattle.batches.specs.Steps.{wordsOf, fourOf, manyOf, answer-long, four-long}
+use Rattle.laws.specs.Answers.{wordsOf, manyOf, answer-long, four-long}
+use Rattle.batches.specs.Steps.{fourOf}
 
 -- ══ Parts one behind another ══
 

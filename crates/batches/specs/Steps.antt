@@ -5,28 +5,19 @@ use Prim.Native.Nat.{ℕ, zero, suc, _+_, _*_, _-_, _≤_, _<_, zero-le}
 use native.Mathlib.Nat.{zero-add}
 use native.Mathlib.Numerals.{add-one}
 use native.Mathlib.Omega.{arith}
-use lib.ListN.{length, take, drop, getD, length-append, length-map, take-append-drop, drop-of-length-le, length-drop}
+use lib.ListN.{length, take, drop, getD, length-append, take-append-drop, drop-of-length-le, length-drop}
 use lib.Seq.{sets, sets-eq, length-sets, drop-cons, drop-drop, drop-append-le, length-take-le}
 use Rattle.rules.specs.Base.{Got, got, refused, collect, sumOf}
-use Rattle.rules.specs.Calls.{Solved, solved, unsolved, refusedAfter, solvedOf, solvedWords, solvedSet, over, resultAfter}
+use Rattle.rules.specs.Calls.{Solved, solvedOf, solvedWords, solvedSet, over, resultAfter}
 use Rattle.rules.specs.Names.{Table}
-use Rattle.rules.specs.Solving.{Answer, accepted, remaining, stopped}
-use Rattle.rules.specs.Trees.{var, Binding, sizeBinding}
-use Rattle.rules.specs.Writing.{writeBinding, writeBound, writeCon}
-use Rattle.laws.specs.Size.{size-binding, set-length}
-use Rattle.records.specs.Buffers.{words-length}
+use Rattle.rules.specs.Solving.{Answer}
+use Rattle.laws.specs.Answers.{wordsOf, manyOf, answer-long, four-long}
 use Rattle.records.specs.Stores.{sets-append}
-use Rattle.rules.specs.Batches.{cutSets, eachSolved, answeredWords, fourWords, recordsOf}
+use Rattle.rules.specs.Batches.{cutSets, eachSolved, answeredWords, fourWords}
 
--- the words of a set's answer, its four words, and how many records it has
-abbrev pub wordsOf : Got (Answer ℕ) → List ℕ
-wordsOf a = answeredWords (solvedWords a)
-
+-- a set's four words
 abbrev pub fourOf : Got (Answer ℕ) → List ℕ
 fourOf a = fourWords (solvedOf a)
-
-abbrev pub manyOf : Got (Answer ℕ) → ℕ
-manyOf a = recordsOf (solvedOf a)
 
 -- a set's answer was written from a word on
 pub record Written (a : Got (Answer ℕ)) (s : Solved) (result result′ : List ℕ) (at : ℕ) : Type 0 where
@@ -67,29 +58,7 @@ over-is : (ws b : List ℕ) → length ws ≤ length b → sets b 0 ws ≡ over 
 unfolding over
 over-is ws b h = sets-eq ws b 0 (omega arith) ∙ ap (λ (k : ℕ). ws ++ drop k b) (zero-add (length ws))
 
-pub four-long : (s : Solved) → length (fourWords s) ≡ 4
-unfolding fourWords
-four-long (solved b n k) = refl
-four-long (unsolved n k) = refl
-four-long (refusedAfter r k) = refl
-
 -- ══ One answer ══
-
-bindings-length : (bs : List (Binding ℕ)) → length (collect writeBinding bs) ≡ sumOf sizeBinding bs
-unfolding collect
-bindings-length [] = refl
-bindings-length (b ∷ bs) = length-append (writeBinding b) (collect writeBinding bs) ∙ ap₂ _+_ (size-binding b) (bindings-length bs)
-
-records-length : (bs : List (Binding ℕ)) (ns : List ℕ) → length (collect writeBinding bs ++ map (λ n. writeBound (var n)) ns) ≡ sumOf sizeBinding bs + length ns
-records-length bs ns = length-append (collect writeBinding bs) (map (λ n. writeBound (var n)) ns) ∙ ap₂ _+_ (bindings-length bs) (length-map ns (λ n. writeBound (var n)))
-
--- four words a record
-pub answer-long : (a : Got (Answer ℕ)) → length (wordsOf a) ≡ manyOf a * 4
-unfolding solvedOf solvedWords answeredWords recordsOf
-answer-long (refused n) = refl
-answer-long (got (accepted bs ns k)) = words-length (collect writeBinding bs ++ map (λ n. writeBound (var n)) ns) ∙ ap (λ (n : ℕ). n * 4) (records-length bs ns)
-answer-long (got (remaining cs k)) = words-length (collect writeCon cs) ∙ ap (λ (n : ℕ). n * 4) (set-length cs)
-answer-long (got (stopped n k)) = refl
 
 -- what was written into a part of the buffer that has the room of one answer: k words from the place `at` on
 module _ (a : Got (Answer ℕ)) (result part : List ℕ) (at k : ℕ) (room : at + k ≤ length result) (small : k ≤ 8192) where

@@ -5,6 +5,7 @@ pub mod Twos
 pub mod Fractions
 pub mod Exact
 pub mod Size
+pub mod Answers
 pub mod Untouched
 pub mod Counts
 pub mod Checks

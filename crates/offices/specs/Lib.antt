@@ -26,6 +26,7 @@ pub mod Queries
 pub mod Changes
 pub mod Adds
 pub mod Solves
+pub mod Batches
 pub mod Judges
 pub mod Own
 pub mod Histories

@@ -17,6 +17,7 @@ use Rattle.offices.specs.Queries.{set-alike, type-alike, scheme-alike, b
 use Rattle.offices.specs.Changes.{replace-type, replace-set, quantify-alike, generalise-alike, instantiate-alike}
 use Rattle.offices.specs.Adds.{add-alike}
 use Rattle.offices.specs.Solves.{solve-alike}
+use Rattle.offices.specs.Batches.{batch-alike, ceiling-alike}
 use Rattle.offices.specs.Judges.{judge-alike}
 use Rattle.offices.specs.Histories.{good-after, all-named}
 
@@ -40,6 +41,8 @@ numbering′ g g′ = record {
   replaceSet = replace-set g g′;
   add = add-alike g g′;
   solve = solve-alike g g′;
+  batch = batch-alike g g′;
+  ceiling = ceiling-alike g g′;
   quantify = quantify-alike g g′;
   generalise = generalise-alike g g′;
   instantiate = instantiate-alike g g′;

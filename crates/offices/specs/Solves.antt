@@ -13,7 +13,7 @@ use Rattle.rules.specs.Writing.{writeBinding, writeBound}
 use Rattle.rules.specs.Calls.{resultAfter, solved, unsolved, refusedAfter, solvedOf, solvedWords, solvedSet, solveCall}
 use Rattle.rules.specs.Offices.{Name, byBytes, nameNo, mapCon, mapBinding, mapAnswer, ReadAlike, LentAlike, SolvedAlike, frontSolved}
 use Rattle.laws.specs.NameTable.{Good}
-use Rattle.laws.specs.Size.{size-binding, set-length}
+use Rattle.laws.specs.Size.{set-length, bindings-length}
 use Rattle.offices.specs.Both.{Both, Pair, neither, both, pair, hence, alike, checked}
 use Rattle.offices.specs.Sizes.{size-cons, size-bindings}
 use Rattle.offices.specs.Solving.{solve-map}
@@ -21,11 +21,6 @@ use Rattle.offices.specs.Naming.{keeps}
 use Rattle.offices.specs.Writing.{set-written, answer-written}
 use Rattle.offices.specs.Results.{nothing, fronts}
 use Rattle.offices.specs.Given.{Alike, as-long, short, kept-alike, lent-alike, set-given, apart-alike, set-opens}
-
-bindings-length : (bs : List (Binding ℕ)) → length (collect writeBinding bs) ≡ sumOf sizeBinding bs
-unfolding collect
-bindings-length [] = refl
-bindings-length (b ∷ bs) = simp (length-append, size-binding b, bindings-length bs)
 
 answer-length : (bs : List (Binding ℕ)) (ns : List ℕ) → length (collect writeBinding bs ++ map (λ n. writeBound (var n)) ns) ≡ sumOf sizeBinding bs + length ns
 answer-length bs ns = simp (length-append, bindings-length bs, length-map ns (λ n. writeBound (var n)))
@@ -44,7 +39,7 @@ module _ {pool table pool′ table′ : List ℕ} (good : Good pool table) (good
   abbrev ν₂ : ℕ → Name
   ν₂ = nameNo T₂
 
-  solved-set : (ws ws′ : List ℕ) → Alike good good′ ws ws′ → Both (mapAnswer ν₁) (mapAnswer ν₂) (solvedSet T₁ ws) (solvedSet T₂ ws′)
+  pub solved-set : (ws ws′ : List ℕ) → Alike good good′ ws ws′ → Both (mapAnswer ν₁) (mapAnswer ν₂) (solvedSet T₁ ws) (solvedSet T₂ ws′)
   unfolding solvedSet
   solved-set ws ws′ e =
       checked (short (ws ∷ []) (ws′ ∷ []) (rw (as-long e)))
@@ -53,9 +48,9 @@ module _ {pool table pool′ table′ : List ℕ} (good : Good pool table) (good
       checked (apart-alike good good′ (collect opensCon cs) (collect opensCon cs′) (set-opens good good′ cs cs′ i))
       (alike (sym (solve-map _ byBytes ν₁ (keeps good) bounded cs) ∙ ap (solve byBytes bounded) i ∙ solve-map _ byBytes ν₂ (keeps good′) bounded cs′)))))
 
-  record Same (m m′ : Got (Answer ℕ)) : Type 0 where
-    answer : solvedOf m ≡ solvedOf m′
-    records : (b b′ : List ℕ) → ReadAlike T₁ T₂ (frontSolved (solvedOf m) (resultAfter (solvedWords m) b)) (frontSolved (solvedOf m′) (resultAfter (solvedWords m′) b′))
+  pub record Same (m m′ : Got (Answer ℕ)) : Type 0 where
+    pub answer : solvedOf m ≡ solvedOf m′
+    pub records : (b b′ : List ℕ) → ReadAlike T₁ T₂ (frontSolved (solvedOf m) (resultAfter (solvedWords m) b)) (frontSolved (solvedOf m′) (resultAfter (solvedWords m′) b′))
 
   same-answers : (a a′ : Answer ℕ) → mapAnswer ν₁ a ≡ mapAnswer ν₂ a′ → Same (got a) (got a′)
   unfolding solvedOf solvedWords resultAfter mapAnswer
@@ -88,7 +83,7 @@ module _ {pool table pool′ table′ : List ℕ} (good : Good pool table) (good
       let z : k ≡ k′ = cc in
       record { answer = ap₂ refusedAfter x z; records = λ b b′. nothing T₁ T₂ }
 
-  same : {m m′ : Got (Answer ℕ)} → Pair (mapAnswer ν₁) (mapAnswer ν₂) m m′ → Same m m′
+  pub same : {m m′ : Got (Answer ℕ)} → Pair (mapAnswer ν₁) (mapAnswer ν₂) m m′ → Same m m′
   unfolding solvedOf
   same (neither n) = record { answer = refl; records = λ b b′. nothing T₁ T₂ }
   same (both a a′ e) = same-answers a a′ e

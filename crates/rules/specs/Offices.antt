@@ -19,6 +19,8 @@ use Rattle.rules.specs.Writing.{Rec, rec, words}
 use Rattle.rules.specs.Adding.{Added, satisfied, violated, unknown}
 use Rattle.rules.specs.Solving.{Answer, accepted, remaining, stopped}
 use Rattle.rules.specs.Calls.{Written, Listed, Solved, solved, unsolved, refusedAfter, Solution, AddedTo, Entry, setCall, typeCall, schemeCall}
+use Rattle.rules.specs.Batches.{Batch, batchCall}
+use Rattle.rules.specs.Ceiling.{ceilingCall}
 use Rattle.rules.specs.Calls.{bindingsCall, containsCall, closedCall, variablesCall, replaceTypeCall, replaceSetCall, addCall, solveCall, quantifyCall, generaliseCall, instantiateCall, judgeCall}
 
 -- ══ Other names in place of names, in every tree ══
@@ -190,6 +192,17 @@ pub record LentAlike (result result′ work work′ : List ℕ) : Type 0 where
   pub results : length result ≡ length result′
   pub works : length work ≡ length work′
 
+-- four words a set, where the batch is answered
+abbrev pub frontTold : Got ℕ → ℕ → List ℕ → List ℕ
+frontTold (got m) n buffer = take (n * 4) buffer
+frontTold (refused k) n buffer = []
+
+-- a batch of n sets (W-201): the same count or refusal, the same four words for each set, and records that read alike
+pub record BatchAlike (t t′ : Table) (n : ℕ) (b b′ : Batch) : Type 0 where
+  pub answer : b .answer ≡ b′ .answer
+  pub told : frontTold (b .answer) n (b .answers) ≡ frontTold (b′ .answer) n (b′ .answers)
+  pub records : ReadAlike t t′ (front (b .answer) (b .result)) (front (b′ .answer) (b′ .result))
+
 -- variables of entries that are alike, each with the same place
 pub record EntriesAlike (t t′ : Table) (es es′ : List Entry) : Type 0 where
   pub variables : NumbersAlike t t′ (map (λ e. e .variable) es) (map (λ e. e .variable) es′)
@@ -247,6 +260,10 @@ module _ (pool table pool′ table′ : List ℕ) where
         → AddedAlike (tableOf pool table) (tableOf pool′ table′) n c c′ (addCall pool table buffer n c) (addCall pool′ table′ buffer′ n c′)
     pub solve : (ws ws′ result result′ work work′ : List ℕ) → Lists ws ws′ → LentAlike result result′ work work′
         → SolvedAlike (tableOf pool table) (tableOf pool′ table′) (solveCall pool table ws result work) (solveCall pool′ table′ ws′ result′ work′)
+    pub batch : (ws ws′ lengths result result′ answers answers′ work work′ : List ℕ) → Lists ws ws′ → LentAlike result result′ work work′ → length answers ≡ length answers′
+        → BatchAlike (tableOf pool table) (tableOf pool′ table′) (length lengths) (batchCall pool table ws lengths result answers work) (batchCall pool′ table′ ws′ lengths result′ answers′ work′)
+    -- the ceiling on rounds
+    pub ceiling : (ws ws′ : List ℕ) → Lists ws ws′ → ceilingCall pool table ws ≡ ceilingCall pool′ table′ ws′
     -- schemes
     pub quantify : (ws ws′ bs bs′ ns ns′ result result′ work work′ : List ℕ) → Lists ws ws′ → Lists bs bs′ → Numbers ns ns′ → LentAlike result result′ work work′
         → Writes (quantifyCall pool table ws bs ns result work) (quantifyCall pool′ table′ ws′ bs′ ns′ result′ work′)
