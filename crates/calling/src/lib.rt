@@ -21,7 +21,7 @@ pub struct Asked {
 }
 
 // The calls have the numbers 1 to this.
-pub const LAST: u32 = 24;
+pub const LAST: u32 = 27;
 
 // The call that is asked for. What it says stands at the front of the result buffer, in `words` words.
 pub fn called(

@@ -23,6 +23,9 @@ use records::is_type;
 use replacing_calls::replace_in_set;
 use replacing_calls::replace_in_type;
 use rules::Refusal;
+use schemes::generalise;
+use schemes::instantiate;
+use schemes::quantify;
 use solving::solve;
 
 // The result buffer begins with the set.
@@ -79,6 +82,9 @@ pub fn listed(
         22 => written(replace_in_set(pool, table, a, b, result, work)),
         23 => solution(solve(pool, table, a, result, work)),
         24 => lent_told(pool, table, result, work),
+        25 => written(quantify(pool, table, a, b, c, result, work)),
+        26 => written(generalise(pool, table, a, b, result, work)),
+        27 => written(instantiate(pool, table, a, b, result, work)),
         _ => looked(q, pool, table, a),
     }
 }
