@@ -29,6 +29,9 @@ def cases():
     yield 'replace 64 factors by products of 28', of('replace (dim %s) %s' % (' '.join('(v z%02d 1 1)' % i for i in range(64)), ' '.join('(bind z%02d (dim %s))' % (i, dims(28)) for i in range(64))))
     yield 'replace in a set of 2,048 records, 1,024 bindings', Request(22, ('x', 'y'), [[21, 0, 0, 0, 1, 0, 0, 0] * 1024, [24, 1, 0, 0, 4, 0, 0, 0] * 1023 + [24, 0, 0, 0, 4, 0, 0, 0]])
     yield 'replace where nothing fits: 2,048 parameters by 2,040 records', Request(21, ('x',), [[7, 2046, 0, 0] + [1, 0, 0, 0] * 2047, [24, 0, 0, 0, 7, 2040, 0, 0] + [4, 0, 0, 0] * 2041])
+    yield 'quantify a function of 2,040 parameters', Request(25, ('x',), [[7, 2040, 0, 0] + [1, 0, 0, 0] * 2041, [], [0]])
+    yield 'instantiate a function of 2,040 parameters', Request(27, ('x',), [[26, 1, 0, 0, 7, 2040, 0, 0] + [14, 0, 0, 0] * 2041, [0]])
+    yield 'generalise a function of 255 names', Request(26, ['n%03d' % i for i in range(256)], [[26, 0, 1, 0, 7, 254, 0, 0] + [w for i in range(255) for w in (1, 254 - i, 0, 0)], []])
     full = ['n%03d' % i for i in range(256)]
     yield 'check a full table', Request(1, ['%02d' % (i % 100) + chr(65 + i // 100) + 'z' * 29 for i in range(256)])
     yield 'enter into a table of 255 names', Request(3, full[:255], [[], list(b'another')])
