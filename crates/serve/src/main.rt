@@ -18,6 +18,7 @@ use reply::no_request;
 use request::BODY;
 use request::HEAD;
 use request::Header;
+use request::LARGE;
 use request::LIST;
 use request::RESULT;
 use request::TORN;
@@ -33,8 +34,10 @@ ghost use Rattle.serve.specs.Requests.{Fits};
 // At most this many requests are served: a loop has to end.
 const REQUESTS: u64 = 1000000000000;
 
-// What is written of one answer.
+// What is written of one answer, and of one with a large result buffer.
 const OUT: usize = 163840;
+
+const LARGE_OUT: usize = 2228224;
 
 // What is dropped at a time of a request that can't be served.
 const BLOCK: usize = 4096;
@@ -61,6 +64,46 @@ fn answered(
     answer(t, h, result, work, out)
 }
 
+// The same, with a result buffer of the usual size still to be made.
+fn with_result(
+    h: Header,
+    pool: &mut [u8],
+    table: &mut [u32],
+    a: &[u32],
+    b: &[u32],
+    c: &[u32],
+    d: &[u32],
+    work: &mut [u32],
+    out: &mut [u8],
+) -> usize
+    requires { ⌜ h .result ≤ 9216 ⌝ }
+{
+    let of_result = h.resultwas;
+    let mut result = [of_result; RESULT];
+    let r = h.result as usize;
+    answered(h, pool, table, a, b, c, d, &mut result[0..r], work, out)
+}
+
+// The same, with a large one.
+fn with_large_result(
+    h: Header,
+    pool: &mut [u8],
+    table: &mut [u32],
+    a: &[u32],
+    b: &[u32],
+    c: &[u32],
+    d: &[u32],
+    work: &mut [u32],
+    out: &mut [u8],
+) -> usize
+    requires { ⌜ Fits h ⌝ }
+{
+    let of_result = h.resultwas;
+    let mut result = [of_result; LARGE];
+    let r = h.result as usize;
+    answered(h, pool, table, a, b, c, d, &mut result[0..r], work, out)
+}
+
 // The same, with the result and the work buffer still to be made.
 fn with_buffers(
     h: Header,
@@ -74,24 +117,14 @@ fn with_buffers(
 ) -> usize
     requires { ⌜ Fits h ⌝ }
 {
-    let of_result = h.resultwas;
     let of_work = h.workwas;
-    let mut result = [of_result; RESULT];
     let mut work = [of_work; WORK];
-    let r = h.result as usize;
     let w = h.work as usize;
-    answered(
-        h,
-        pool,
-        table,
-        a,
-        b,
-        c,
-        d,
-        &mut result[0..r],
-        &mut work[0..w],
-        out,
-    )
+    if 9216 < h.result {
+        with_large_result(h, pool, table, a, b, c, d, &mut work[0..w], out)
+    } else {
+        with_result(h, pool, table, a, b, c, d, &mut work[0..w], out)
+    }
 }
 
 // The same, with the last two lists still to be taken from the request.
@@ -202,6 +235,24 @@ fn say_fault(fault: u32) -> bool {
     write_front(&out, n)
 }
 
+// Writes the answer to a request with this body. Is there more to come?
+fn serve_usual(h: Header, body: &[u8]) -> bool
+    requires { ⌜ Fits h ⌝ }
+{
+    let mut out = [0u8; OUT];
+    let m = with_names(h, body, &mut out);
+    write_front(&out, m)
+}
+
+// The same, where the result buffer is large.
+fn serve_large(h: Header, body: &[u8]) -> bool
+    requires { ⌜ Fits h ⌝ }
+{
+    let mut out = [0u8; LARGE_OUT];
+    let m = with_names(h, body, &mut out);
+    write_front(&out, m)
+}
+
 // Reads a request's body, and writes the answer. Is there more to come?
 fn serve_body(h: Header) -> bool
     requires { ⌜ Fits h ⌝ }
@@ -211,9 +262,11 @@ fn serve_body(h: Header) -> bool
         say_fault(TORN);
         return false;
     }
-    let mut out = [0u8; OUT];
-    let m = with_names(h, &body, &mut out);
-    write_front(&out, m)
+    if 9216 < h.result {
+        serve_large(h, &body)
+    } else {
+        serve_usual(h, &body)
+    }
 }
 
 // Reads n bytes, of one block at the most, and drops them. Were there so many?
