@@ -78,9 +78,9 @@ pub fn set_alone(q: &Request, r: &Reply) -> bool {
     buffer[n..].iter().all(|w| *w == q.result.0)
 }
 /// the whole answer, with the flags for the buffers
-pub fn expect(q: &Request) -> Expected {
-    let mut e = plain(q);
-    let uses_work = matches!(q.call, 21 | 22 | 23 | 25 | 26 | 27 | 28);
+pub fn expect(q: &Request) -> Expected { flagged(q, plain(q)) }
+fn flagged(q: &Request, mut e: Expected) -> Expected {
+    let uses_work = matches!(q.call, 21 | 22 | 23 | 25 | 26 | 27 | 28 | 30);
     let ten = e.reply.refusal == 10;
     let zero = uses_work && !ten;
     let empty = q.work.1 == 0;
@@ -121,7 +121,7 @@ fn plain(q: &Request) -> Expected {
     if uses_result && q.result.1 < 8192 || uses_work && q.work.1 < 16384 { return no(10); }
     // 8
     let long = match q.call {
-        13..=19 | 23 => a.len() > 8192,
+        13..=19 | 23 | 29 => a.len() > 8192,
         20 => q.x > 2048 || b.len() > 8192,
         21 | 22 | 26 => a.len() > 8192 || b.len() > 8192,
         28 => a.len() > 8192 || b.len() / 2 > 2048 || c.len() > 8192 || d.len() > 8192,
@@ -171,7 +171,7 @@ fn value(l: &[u32], n: u32, nm: &Names) -> Option<DType> {
     let mut w = l.to_vec();
     w.resize(256, 0);
     let mut r = Reader::new(&w, nm, 1 << 32)?;
-    r.product(n)
+    r.value(n)
 }
 fn sized(t: &Type) -> bool { let mut z = Size::default(); records::size(t, 1, &mut z); z.over() }
 
@@ -282,8 +282,17 @@ fn listed(q: &Request, nm: &Names) -> Option<Expected> {
             let bounds = records::bounds(d, nm)?;
             let bounds: Vec<String> = bounds.iter().map(text::var).collect();
             if bounds.windows(2).any(|p| p[0].as_bytes() >= p[1].as_bytes()) { return None; }
-            if mixed(|o| { for c in &cs { o.con(c) } bind_opens(o, &bs) }) { return Some(paper(refuse(4))); }
-            paper(judged(&cs, &Substitution(bs), &bounds))
+            let text = format!("judge (set{}){} (bounds{})", cs.iter().map(|c| format!(" {}", text::con(c))).collect::<String>(), binds(&bs), bounds.iter().map(|n| format!(" {n}")).collect::<String>());
+            let reply = if mixed(|o| { for c in &cs { o.con(c) } bind_opens(o, &bs) }) { refuse(4) } else { judged(&cs, &Substitution(bs), &bounds) };
+            Expected { text, ..paper(reply) }
+        }
+        29 => {
+            let cs = records::set(a, nm)?;
+            let mut o = Opens::default();
+            for c in &cs { o.con(c) }
+            let v = o.vars.len() as u32;
+            let text = format!("ceiling{}", cs.iter().map(|c| format!(" {}", text::con(c))).collect::<String>());
+            Expected { text, ..paper(say(v, v + 6144 * (v + 1), vec![])) }
         }
         25 => {
             let t = records::ty(a, nm)?;
@@ -326,6 +335,42 @@ fn listed(q: &Request, nm: &Names) -> Option<Expected> {
         }
         _ => paper(refuse(98)),
     })
+}
+/// how many words at the front of the result buffer are the buffer of a batch's answers
+fn answers_room(q: &Request) -> usize { q.x.min(512).min(q.result.1) as usize }
+/// a batch: the requests that solve its sets one by one, or why there are none
+pub fn singles(q: &Request) -> Result<Vec<Request>, u32> {
+    let (sets, lengths, n) = (&q.lists[0], &q.lists[1], answers_room(q));
+    let room = q.result.1 as usize - n;
+    if q.pool_lent() < 8192 || q.table_lent() < 257 || room < 8192 * lengths.len() || n < 4 * lengths.len() || q.work.1 < 16384 { return Err(10); }
+    if lengths.len() > 64 { return Err(8); }
+    if lengths.iter().map(|l| *l as u64).sum::<u64>() * 4 != sets.len() as u64 { return Err(1); }
+    let mut at = 0;
+    Ok(lengths.iter().map(|l| {
+        let end = at + 4 * *l as usize;
+        let mut one = Request { call: 23, x: 0, y: 0, result: (q.result.0, 8192), ..q.clone() };
+        one.lists = [sets[at..end].to_vec(), vec![], vec![], vec![]];
+        at = end;
+        one
+    }).collect())
+}
+/// what a batch should be answered, from the answers to its sets alone
+pub fn batch(q: &Request, alone: Result<Vec<Reply>, u32>) -> Expected {
+    let reply = match alone {
+        Err(k) => refuse(k),
+        Ok(rs) => {
+            let mut answers = vec![q.result.0; answers_room(q)];
+            let mut records: Vec<u32> = vec![];
+            for (i, r) in rs.iter().enumerate() {
+                answers[4 * i..4 * i + 4].copy_from_slice(&[r.refusal, r.rounds, r.value, r.more]);
+                records.extend(&r.words);
+            }
+            let n = records.len() as u32 / 4;
+            answers.extend(records);
+            say(n, 0, answers)
+        }
+    };
+    flagged(q, paper(reply))
 }
 fn scheme_said(r: Result<TypeScheme, String>, out: &mut Names, text: String) -> Expected {
     match r {
@@ -449,7 +494,7 @@ fn solve(set: ConstraintSet, out: &mut Names, text: String) -> Expected {
         }
         (Ok(Stop::Finished), Ok(Ok((s, bs)))) => {
             assert!(s.0 == *bound && access::bounds(&last) == bs && access::remaining(&last).is_empty(), "answer: {text}");
-            let mut w = records::words(|o| for (v, t) in &s.0 { o.extend([24, out.of(&text::var(v)), 0, 0]); records::write(t, out, o) });
+            let mut w = records::words(|o| for (v, t) in &s.0 { records::write_binding(v, t, out, o) });
             let n = w.len() as u32 / 4;
             for v in &bs { records::write_bound(v, out, &mut w) }
             numbat(Reply { refusal: 0, value: n, more: bs.len() as u32, rounds: rounds as u32, flags: 0, words: w }, text)

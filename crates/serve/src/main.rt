@@ -84,6 +84,23 @@ fn with_result(
     answered(h, pool, table, a, b, c, d, &mut result[0..r], work, out)
 }
 
+// Large arrays come from functions of their own: a caller is then checked without them being written out.
+fn large_result(word: u32) -> [u32; LARGE] {
+    [word; LARGE]
+}
+
+fn large_out() -> [u8; LARGE_OUT] {
+    [0; LARGE_OUT]
+}
+
+fn usual_out() -> [u8; OUT] {
+    [0; OUT]
+}
+
+fn empty_body() -> [u8; BODY] {
+    [0; BODY]
+}
+
 // The same, with a large one.
 fn with_large_result(
     h: Header,
@@ -98,8 +115,7 @@ fn with_large_result(
 ) -> usize
     requires { ⌜ Fits h ⌝ }
 {
-    let of_result = h.resultwas;
-    let mut result = [of_result; LARGE];
+    let mut result = large_result(h.resultwas);
     let r = h.result as usize;
     answered(h, pool, table, a, b, c, d, &mut result[0..r], work, out)
 }
@@ -239,7 +255,7 @@ fn say_fault(fault: u32) -> bool {
 fn serve_usual(h: Header, body: &[u8]) -> bool
     requires { ⌜ Fits h ⌝ }
 {
-    let mut out = [0u8; OUT];
+    let mut out = usual_out();
     let m = with_names(h, body, &mut out);
     write_front(&out, m)
 }
@@ -248,7 +264,7 @@ fn serve_usual(h: Header, body: &[u8]) -> bool
 fn serve_large(h: Header, body: &[u8]) -> bool
     requires { ⌜ Fits h ⌝ }
 {
-    let mut out = [0u8; LARGE_OUT];
+    let mut out = large_out();
     let m = with_names(h, body, &mut out);
     write_front(&out, m)
 }
@@ -257,7 +273,7 @@ fn serve_large(h: Header, body: &[u8]) -> bool
 fn serve_body(h: Header) -> bool
     requires { ⌜ Fits h ⌝ }
 {
-    let mut body = [0u8; BODY];
+    let mut body = empty_body();
     if !read_front(&mut body, h.body as usize) {
         say_fault(TORN);
         return false;

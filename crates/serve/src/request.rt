@@ -78,18 +78,22 @@ fn over(n: u32, most: u32) -> u32
     if most < n { 1 } else { 0 }
 }
 
-// The most words of a result buffer: a large one is not shown whole.
-fn room(show: u32) -> u32
-    ensures { λ r. ⌜ r ≡ roomOf show ⌝ }
+// The same of a result buffer: a large one is not shown whole.
+fn over_result(n: u32, show: u32) -> u32
+    ensures { λ r. ⌜ (r ≡ overBy n (roomOf show)) × (r ≤ 1) ⌝ }
 {
-    if show == 0 { 533504 } else { 9216 }
+    if show == 0 {
+        over(n, 533504)
+    } else {
+        over(n, 9216)
+    }
 }
 
 // How many words of a head are over their room. The words show and whole are no or yes.
 fn excess(h: Header) -> u32
     ensures { λ r. ⌜ r ≡ excessOf h ⌝ }
 {
-    let buffers = over(h.result, room(h.show))
+    let buffers = over_result(h.result, h.show)
         + over(h.work, 20480)
         + over(h.pool, 9216)
         + over(h.table, 512);
