@@ -1,11 +1,11 @@
 #!/usr/bin/env python3
-"""The edge cases through every build that the kit makes of `serve`: builds.py [SERVE]. At -O0, at -O3 and with LLVM's assumptions checked it must write what
+"""The edge cases through every build that the kit makes of `serve`: builds.py [SERVE] [--lengths]. At -O0, at -O3 and with LLVM's assumptions checked it must write what
 the proved program SERVE (default target/bin/serve) writes. The interpreter, which the kit runs first, stops at 10,000,000 steps, too few for these cases;
 `rt try serve` runs it on the stored requests."""
 import glob, os, re, shutil, subprocess, sys, tempfile
 HERE = os.path.dirname(os.path.abspath(__file__))
 sys.path.insert(0, HERE)
-import edges
+import edges, requests
 ROOT = os.path.dirname(HERE)
 KIT = os.path.dirname(os.path.dirname(os.path.realpath(shutil.which('rt'))))
 OWN = os.path.join(KIT, 'on', os.uname().machine)
@@ -32,7 +32,8 @@ def chunks(serve, cases):
 
 
 def main():
-    serve = sys.argv[1] if len(sys.argv) > 1 else ROOT + '/target/bin/serve'
+    args = requests.switches(sys.argv[1:])
+    serve = args[0] if args else ROOT + '/target/bin/serve'
     last = int(re.search(r'LAST: u32 = (\d+)', open(ROOT + '/crates/calling/src/lib.rt').read()).group(1))
     cases = edges.cases(last)
     failed = n = 0

@@ -8,7 +8,7 @@ use crate::typechecker::constraints::{Constraint, ConstraintSet, ConstraintSolve
 use crate::typechecker::qualified_type::{Bound, QualifiedType};
 use crate::typechecker::substitutions::{ApplySubstitution, Substitution};
 use crate::typechecker::type_scheme::{TypeScheme, access::instantiate_with};
-use crate::typed_ast::{DType, Type};
+use crate::typed_ast::{DType, DTypeFactor, StructKind, Type};
 use crate::wire::{Reply, Request};
 use std::cell::{Cell, RefCell};
 use std::panic::{AssertUnwindSafe, catch_unwind};
@@ -399,19 +399,67 @@ fn entries(pairs: &[u32], types: &[u32], nm: &Names) -> Option<Vec<(TypeVariable
     }
     Some(v)
 }
-/// document 01, 'Judge': numbat puts the bindings in, all at once; what is true then is our own reading
+/// document 01, 'Replacing', step by step, so that the first 6, 7 or 8 met is known: numbat's own products, all bindings at once
+struct Put<'a>(&'a [(TypeVariable, Type)]);
+impl Put<'_> {
+    fn bound(&self, v: &TypeVariable) -> Option<&Type> { self.0.iter().find(|(x, _)| x == v).map(|(_, t)| t) }
+    fn step(f: impl FnOnce() -> DType) -> Result<DType, u32> { match guard(f) { Ok(d) if !wide() => Ok(d), _ => Err(7) } }
+    fn product(&self, d: &DType) -> Result<DType, u32> {
+        let mut acc = d.clone();
+        for (f, p) in records::stored_order(d) {
+            let DTypeFactor::TVar(v) = &f else { continue };
+            let Some(t) = self.bound(v) else { continue };
+            let one = |v: &TypeVariable| DType::from_factors(Arc::new(vec![(DTypeFactor::TVar(v.clone()), Exponent::from_integer(1))]));
+            let b = match t { Type::Dimension(b) => b.clone(), Type::TVar(w) => one(w), _ => return Err(6) };
+            acc = Self::step(|| acc.divide(&one(v).power(p)))?;
+            let b = Self::step(|| b.power(p))?;
+            acc = Self::step(|| acc.multiply(&b))?;
+            if acc.factors().len() > 64 { return Err(8); }
+        }
+        Ok(acc)
+    }
+    fn all(&self, ts: &[Type]) -> Result<Vec<Type>, u32> { ts.iter().map(|t| self.ty(t)).collect() }
+    fn ty(&self, t: &Type) -> Result<Type, u32> {
+        Ok(match t {
+            Type::TVar(v) => self.bound(v).unwrap_or(t).clone(),
+            Type::Dimension(d) => match &d.factors()[..] {
+                [(DTypeFactor::TVar(v), e)] if *e == Exponent::from_integer(1) => self.bound(v).unwrap_or(t).clone(),
+                _ => Type::Dimension(self.product(d)?),
+            },
+            Type::Fn(p, r) => { let p = self.all(p)?; Type::Fn(p, Box::new(self.ty(r)?)) }
+            Type::List(e) => Type::List(Box::new(self.ty(e)?)),
+            Type::Struct(i) => {
+                let mut j = (**i).clone();
+                if let StructKind::Instance(a) = &i.kind { j.kind = StructKind::Instance(self.all(a)?) }
+                let mut names: Vec<_> = j.fields.keys().cloned().collect();
+                names.sort_by(|a, b| a.as_bytes().cmp(b.as_bytes()));
+                for n in names { j.fields[&n].1 = self.ty(&i.fields[&n].1)? }
+                Type::Struct(Box::new(j))
+            }
+            _ => t.clone(),
+        })
+    }
+    fn con(&self, c: &Constraint) -> Result<Constraint, u32> {
+        Ok(match c {
+            Constraint::Equal(a, b) => { let a = self.ty(a)?; Constraint::Equal(a, self.ty(b)?) }
+            Constraint::IsDType(t) => Constraint::IsDType(self.ty(t)?),
+            Constraint::EqualScalar(d) => Constraint::EqualScalar(self.product(d)?),
+            Constraint::HasField(s, f, t) => { let s = self.ty(s)?; Constraint::HasField(s, f.clone(), self.ty(t)?) }
+        })
+    }
+}
+/// document 01, 'Judge': what is put in agrees with numbat, where numbat puts it in; what is true then is our own reading
 fn judged(cs: &[Constraint], bs: &Substitution, bounds: &[String]) -> Reply {
     for c in cs {
         num_rational::reset();
+        let d = match Put(&bs.0).con(c) { Err(6) => return say(0, 0, vec![]), Err(k) => return refuse(k), Ok(d) => d };
         let mut s = access::set_of(vec![c.clone()]);
         let r = guard(|| s.apply(bs));
-        if wide() || r.is_err() { return refuse(7); }
-        if let Ok(Err(_)) = r { return say(0, 0, vec![]); }
-        let d = &access::constraints_of(&s)[0];
+        assert!(matches!(r, Ok(Ok(()))) && access::constraints_of(&s)[0] == d, "put in: {}", text::con(c));
         let mut z = Size::default();
-        records::size_con(d, &mut z);
+        records::size_con(&d, &mut z);
         if z.over() { return refuse(8); }
-        if !holds(d, bounds) { return say(0, 0, vec![]); }
+        if !holds(&d, bounds) { return say(0, 0, vec![]); }
     }
     say(1, 0, vec![])
 }
@@ -419,7 +467,7 @@ fn judged(cs: &[Constraint], bs: &Substitution, bounds: &[String]) -> Reply {
 fn read_plainly(t: &Type) -> Type {
     match t {
         Type::Dimension(d) => match &d.factors()[..] {
-            [(crate::typed_ast::DTypeFactor::TVar(v), e)] if *e.numer() == 1 && *e.denom() == 1 => Type::TVar(v.clone()),
+            [(DTypeFactor::TVar(v), e)] if *e.numer() == 1 && *e.denom() == 1 => Type::TVar(v.clone()),
             _ => t.clone(),
         },
         Type::Fn(p, r) => Type::Fn(p.iter().map(read_plainly).collect(), Box::new(read_plainly(r))),
@@ -427,7 +475,7 @@ fn read_plainly(t: &Type) -> Type {
         Type::Struct(i) => {
             let mut j = (**i).clone();
             j.fields = Default::default();
-            if let crate::typed_ast::StructKind::Instance(a) = &i.kind { j.kind = crate::typed_ast::StructKind::Instance(a.iter().map(read_plainly).collect()) }
+            if let StructKind::Instance(a) = &i.kind { j.kind = StructKind::Instance(a.iter().map(read_plainly).collect()) }
             Type::Struct(Box::new(j))
         }
         _ => t.clone(),

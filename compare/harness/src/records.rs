@@ -64,12 +64,15 @@ fn rank(f: &DTypeFactor) -> (u8, u64, &str) {
         DTypeFactor::BaseDimension(n) => (3, 0, n),
     }
 }
+pub fn stored_order(d: &DType) -> Vec<(DTypeFactor, Exponent)> {
+    let mut fs: Vec<_> = d.factors().to_vec();
+    fs.sort_by(|a, b| rank(&a.0).cmp(&rank(&b.0)));
+    fs
+}
 /// the factors of a product that passes by value: these are no records
 pub fn factors(d: &DType, nm: &mut Names) -> Vec<u32> {
-    let mut fs: Vec<_> = d.factors().iter().collect();
-    fs.sort_by(|a, b| rank(&a.0).cmp(&rank(&b.0)));
     let mut o = vec![];
-    for (f, e) in fs {
+    for (f, e) in &stored_order(d) {
         let (k, n) = match f {
             DTypeFactor::TVar(TypeVariable::Named(n)) => (11, nm.of(n)),
             DTypeFactor::TVar(TypeVariable::Quantified(i)) => (15, *i as u32),

@@ -87,7 +87,12 @@ pub fn main(args: &[String]) -> i32 {
                 for q in &qs { q.bytes(&mut bytes) }
                 let rs = s.ask(bytes, n);
                 if rs.len() != n { writeln!(out, "W\tserve ended: {} answers to {n} requests", rs.len()).unwrap(); out.flush().unwrap(); return 1; }
-                for (q, r) in qs.iter().zip(&rs) { let e = expected(q, &mut alone, &mut k, &mut out); judge(q, &e, r, &mut k, &mut out) }
+                for (q, r) in qs.iter().zip(&rs) {
+                    let e = expected(q, &mut alone, &mut k, &mut out);
+                    judge(q, &e, r, &mut k, &mut out);
+                    // a false length is 1, whatever else; the judge doesn't look at every record, and a batch answers set by set
+                    if kind == "lengths" && r.refusal != 1 && !matches!(q.call, 28 | 30) { k.wrong += 1; writeln!(out, "W\t{}\t{}\ta false length passes", q.call, e.text).unwrap() }
+                }
             }
             if !s.stop() || !alone.stop() { writeln!(out, "W\tserve did not end as it should").unwrap(); return 1; }
             report(&k, &mut out);
