@@ -342,6 +342,25 @@ def sheets():
         yield 'several sets over no table', Request(30, pool=bytes(pool), table=[0] * table, whole=0, lists=[[], [0, 0]], x=8, result=16392)
 
 
+def kinds_differ():
+    """W-205: where kinds differ, one variable to the power 1 counts as a variable, on either side"""
+    for t in ('(bool)', '(list (var y))', '(fn () (bool))', '(struct P () ())', '(var y)', '(par b)'):
+        for d in ('(dim (v x 1 1))', '(dim (v x 2 1))', '(dim (v x 1 1) (v y 1 1))', '(dim (p a 1 1))', '(dim)'):
+            yield 'a dimension and another kind', of('add (eq %s %s)' % (d, t))
+            yield 'a dimension and another kind', of('add (eq (var w) (bool)) (eq %s %s)' % (t, d))
+
+
+def same_meaning():
+    """for the judge one variable to the power 1 means that variable, and a struct means its name and arguments"""
+    for a, b, bind in (('(dim (v x 1 1))', '(var x)', ''), ('(list (dim (v x 1 1)))', '(list (var x))', ''), ('(dim (v x 2 1))', '(var x)', ''), ('(dim (v x 1 1))', '(dim (v x 1 1))', ''), ('(var y)', '(var x)', '(bind y (dim (v x 1 1)))'),
+                       ('(fn ((var y)) (bool))', '(fn ((var x)) (bool))', '(bind y (dim (v x 1 1)))'), ('(dim (v x 1 1) (v y 1 1))', '(dim (v x 1 1) (v y 1 1))', ''), ('(dim (v x 1 1) (v y 1 1))', '(var x)', ''), ('(dim (p a 1 1))', '(par a)', ''),
+                       ('(dim (b L 1 1))', '(var x)', ''), ('(struct P ((bool)) ((f (str))))', '(struct P ((bool)) ())', ''), ('(struct P () ((f (var x)) (g (bool))))', '(struct P () ())', ''), ('(struct P ((bool)) ())', '(struct P ((bool) (str)) ())', ''),
+                       ('(struct P ((bool)) ((f (str))))', '(struct P ((bool) (str)) ((f (str))))', ''), ('(struct P ((bool)) ((f (str))))', '(struct P ((str)) ((f (str))))', ''), ('(list (struct P ((var x)) ((f (date)))))', '(list (struct P ((bool)) ()))', '(bind x (bool))')):
+        yield 'meaning the same', of('judge (set (eq %s %s)) %s (bounds)' % (a, b, bind))
+        yield 'meaning the same', of('judge (set (eq %s %s)) %s (bounds)' % (b, a, bind))
+        yield 'meaning the same', of('judge (set (hasfield (struct Q () ((f %s) (g (bool)))) f %s)) %s (bounds)' % (a, b, bind))
+
+
 def false_lengths():
     """one record says a false length (W-206): always 1"""
     names = ('P', 'x', 'a', 'f', 'g')
@@ -368,7 +387,7 @@ def cases(last=24):
     out = [(why, of(line)) for why, line in rules()]
     # the same with other numbers: the first name isn't number 0
     out += [(why + ', other numbers', of(line, order=('L', 'f', 'y', 'b', 'P', 'a', 'x'))) for why, line in rules() if line.split()[0] in ('solve', 'vars', 'replaceset')]
-    parts = [values(), names(), limits(), malformed()] + [schemes()] * (last >= 25) + [judge()] * (last >= 28) + [sheets()] * (last >= 29) + [false_lengths()] * requests.LENGTHS
+    parts = [values(), names(), limits(), malformed()] + [schemes()] * (last >= 25) + [judge()] * (last >= 28) + [sheets()] * (last >= 29) + [kinds_differ(), same_meaning()] + [false_lengths()] * requests.LENGTHS
     for part in parts:
         out += list(part)
     return [(why, q) for why, q in out if q.call <= last and max(map(len, q.lists)) <= 10240]
