@@ -361,6 +361,21 @@ def same_meaning():
         yield 'meaning the same', of('judge (set (hasfield (struct Q () ((f %s) (g (bool)))) f %s)) %s (bounds)' % (a, b, bind))
 
 
+def parameters_stay():
+    for t in ('(fn ((q 0)) (par a))', '(dim (q 0 1 1) (p a 1 1))', '(dim (p a 1 1))', '(struct P ((par x)) ((f (q 0)) (g (par a))))', '(fn ((par a) (var y)) (dim (v y 1 1) (p x 2 1)))'):
+        for n in ('x', 'a', 'y'):
+            yield 'instantiating beside parameters', of('instantiate (scheme 1 %s (bounds a (q 0))) (names %s)' % (t, n))
+
+
+def new_records():
+    """constraints that a split makes, alone over 2,048 records: 3 a parameter"""
+    for n in (680, 681, 682, 683):
+        f = lambda w: [7, n, 0, 0] + w * (n + 1)
+        yield 'records of new constraints', Request(23, ('x', 'P'), [[20, 0, 0, 0] + f([1, 0, 0, 0]) + f([4, 0, 0, 0])])
+        yield 'records of new constraints', Request(23, ('x', 'P'), [[20, 0, 0, 0] + f([8, 1, 0, 0]) + f([5, 0, 0, 0])])
+        yield 'records of new constraints', Request(23, ('x', 'P'), [[20, 0, 0, 0, 8, 1, n, 0] + [1, 0, 0, 0] * n + [8, 1, n, 0] + [6, 0, 0, 0] * n])
+
+
 def false_lengths():
     """one record says a false length (W-206): always 1"""
     names = ('P', 'x', 'a', 'f', 'g')
@@ -387,7 +402,7 @@ def cases(last=24):
     out = [(why, of(line)) for why, line in rules()]
     # the same with other numbers: the first name isn't number 0
     out += [(why + ', other numbers', of(line, order=('L', 'f', 'y', 'b', 'P', 'a', 'x'))) for why, line in rules() if line.split()[0] in ('solve', 'vars', 'replaceset')]
-    parts = [values(), names(), limits(), malformed()] + [schemes()] * (last >= 25) + [judge()] * (last >= 28) + [sheets()] * (last >= 29) + [kinds_differ(), same_meaning()] + [false_lengths()] * requests.LENGTHS
+    parts = [values(), names(), limits(), malformed()] + [schemes()] * (last >= 25) + [judge()] * (last >= 28) + [sheets()] * (last >= 29) + [kinds_differ(), same_meaning(), parameters_stay(), new_records()] + [false_lengths()] * requests.LENGTHS
     for part in parts:
         out += list(part)
     return [(why, q) for why, q in out if q.call <= last and max(map(len, q.lists)) <= 10240]

@@ -10,7 +10,11 @@ ROOT = os.path.dirname(HERE)
 
 
 def answers(program, data):
-    return subprocess.run([program], input=data, stdout=subprocess.PIPE, stderr=subprocess.DEVNULL, timeout=600).stdout
+    """what it writes: of a program that doesn't end, what it wrote in two minutes"""
+    try:
+        return subprocess.run([program], input=data, stdout=subprocess.PIPE, stderr=subprocess.DEVNULL, timeout=120).stdout
+    except subprocess.TimeoutExpired as e:
+        return e.stdout or b''
 
 
 def edit(path):

@@ -78,7 +78,7 @@ class Request:
 def replies(data):
     """each answer: refusal, value, more, rounds, flags, words"""
     out, at = [], 0
-    while at < len(data):
+    while at + 28 <= len(data):
         size, *head, n = struct.unpack_from('<7I', data, at)
         out.append((*head, array('I', data[at + 28:at + 28 + 4 * n]).tolist()))
         at += size
