@@ -9,11 +9,13 @@ use calling::called;
 use calling::named::POOL;
 use calling::named::TABLE;
 use coding::bytes_from;
+use coding::put_words;
 use coding::words_from;
 use libc::STDIN_FILENO;
 use libc::STDOUT_FILENO;
 use reply::answer;
 use reply::answer_alone;
+use reply::answer_head;
 use reply::no_request;
 use request::BODY;
 use request::HEAD;
@@ -34,10 +36,11 @@ ghost use Rattle.serve.specs.Requests.{Fits};
 // At most this many requests are served: a loop has to end.
 const REQUESTS: u64 = 1000000000000;
 
-// What is written of one answer, and of one with a large result buffer.
+// What is written of one answer, or of a piece of one with a large result buffer.
 const OUT: usize = 163840;
 
-const LARGE_OUT: usize = 2228224;
+// The words of a piece.
+const PIECE: usize = 32768;
 
 // What is dropped at a time of a request that can't be served.
 const BLOCK: usize = 4096;
@@ -62,6 +65,46 @@ fn answered(
     };
     let t = called(q, pool, table, a, b, c, d, result, work);
     answer(t, h, result, work, out)
+}
+
+// Writes the words from a place on, a piece at a time; the last piece is left in out: how many bytes. More than out has, where writing failed.
+fn pieces(words: &[u32], n: usize, out: &mut [u8]) -> usize {
+    let mut i = 0;
+    while i < words.len() {
+        if n < i + PIECE {
+            return put_words(out, 0, &words[i..], n - i);
+        }
+        let m = put_words(out, 0, &words[i..], PIECE);
+        if !write_front(out, m) {
+            return 1000000;
+        }
+        i += PIECE;
+    }
+    0
+}
+
+// The call, and its answer where the result buffer is large: all but its last piece is written.
+fn answered_in_pieces(
+    h: Header,
+    pool: &mut [u8],
+    table: &mut [u32],
+    a: &[u32],
+    b: &[u32],
+    c: &[u32],
+    d: &[u32],
+    result: &mut [u32],
+    work: &mut [u32],
+    out: &mut [u8],
+) -> usize {
+    let q = Asked {
+        call: h.call,
+        x: h.x,
+        y: h.y,
+    };
+    let t = called(q, pool, table, a, b, c, d, result, work);
+    let m = answer_head(t, h, result, work, out);
+    write_front(out, m);
+    pieces(result, t.words, out)
 }
 
 // The same, with a result buffer of the usual size still to be made.
@@ -89,10 +132,6 @@ fn large_result(word: u32) -> [u32; LARGE] {
     [word; LARGE]
 }
 
-fn large_out() -> [u8; LARGE_OUT] {
-    [0; LARGE_OUT]
-}
-
 fn usual_out() -> [u8; OUT] {
     [0; OUT]
 }
@@ -117,7 +156,7 @@ fn with_large_result(
 {
     let mut result = large_result(h.resultwas);
     let r = h.result as usize;
-    answered(h, pool, table, a, b, c, d, &mut result[0..r], work, out)
+    answered_in_pieces(h, pool, table, a, b, c, d, &mut result[0..r], work, out)
 }
 
 // The same, with the result and the work buffer still to be made.
@@ -251,24 +290,6 @@ fn say_fault(fault: u32) -> bool {
     write_front(&out, n)
 }
 
-// Writes the answer to a request with this body. Is there more to come?
-fn serve_usual(h: Header, body: &[u8]) -> bool
-    requires { ⌜ Fits h ⌝ }
-{
-    let mut out = usual_out();
-    let m = with_names(h, body, &mut out);
-    write_front(&out, m)
-}
-
-// The same, where the result buffer is large.
-fn serve_large(h: Header, body: &[u8]) -> bool
-    requires { ⌜ Fits h ⌝ }
-{
-    let mut out = large_out();
-    let m = with_names(h, body, &mut out);
-    write_front(&out, m)
-}
-
 // Reads a request's body, and writes the answer. Is there more to come?
 fn serve_body(h: Header) -> bool
     requires { ⌜ Fits h ⌝ }
@@ -278,11 +299,9 @@ fn serve_body(h: Header) -> bool
         say_fault(TORN);
         return false;
     }
-    if 9216 < h.result {
-        serve_large(h, &body)
-    } else {
-        serve_usual(h, &body)
-    }
+    let mut out = usual_out();
+    let m = with_names(h, &body, &mut out);
+    write_front(&out, m)
 }
 
 // Reads n bytes, of one block at the most, and drops them. Were there so many?
