@@ -39,7 +39,7 @@ read-con (isDim t) rest f h =
     next-back (conKinds (readTy 64)) 21 (sizeCon (isDim t)) 0 0 0 (writeTy t ++ rest) rest _ (omega arith) (rw (read-ty t 63 rest f h)) (head-length (writeTy t) rest (sizeCon (isDim t)) (size-con (isDim t)))
 read-con (isScalar p) rest f h =
     let one : next scalarKinds (writeProduct p ++ rest) ≡ some (isScalar p, rest) =
-      next-back scalarKinds 3 (suc (length p)) (length p) 0 0 (map writeFactor p ++ rest) rest _ (omega arith) (rw (read-factors p rest f)) (head-length (map writeFactor p) rest (suc (length p)) (ap suc (length-map p writeFactor))) in
+    next-back scalarKinds 3 (suc (length p)) (length p) 0 0 (map writeFactor p ++ rest) rest _ (omega arith) (rw (read-factors p rest f)) (head-length (map writeFactor p) rest (suc (length p)) (ap suc (length-map p writeFactor))) in
     next-back (conKinds (readTy 64)) 22 (sizeCon (isScalar p)) 0 0 0 (writeProduct p ++ rest) rest _ (omega arith) one (head-length (writeProduct p) rest (sizeCon (isScalar p)) (size-con (isScalar p)))
 read-con (hasField n s t) rest f h =
     next-back (conKinds (readTy 64)) 23 (sizeCon (hasField n s t)) n 0 0 ((writeTy s ++ writeTy t) ++ rest) rest _ (omega arith)
@@ -137,11 +137,13 @@ scalar-read : (rs : List Rec) → Small rs → Body 22 0 rs (next scalarKinds rs
 scalar-read [] h = nothing
 scalar-read (rec u a b c ∷ rs) h =
     let r : Reads (scalarKinds (kindIn u) a b c rs) (Product-begins (kindIn u) a b c rs) =
-      picked (kindIn u) rs (scalarTable a b c) ((λ e. plain (b ∷ c ∷ []) (readScalar a) rs (λ z. rw (e, z .0, z .1 .0) (factors-there a rs (h .1)))), tt) in
-    record { holds = λ x rest e.
-      let i = lasting-read (lengthIn u) (suc (length rs)) (scalarKinds (kindIn u) a b c rs) r .holds x rest e in
-      let g = i .0 in
-      scalar-begins (rec u a b c ∷ rs) rest x (g .product) (g .is) (begun u a b c rs (writeProduct (g .product)) rest (g .begins) (i .1)) }
+    picked (kindIn u) rs (scalarTable a b c) ((λ e. plain (b ∷ c ∷ []) (readScalar a) rs (λ z. rw (e, z .0, z .1 .0) (factors-there a rs (h .1)))), tt) in
+    record {
+      holds = λ x rest e.
+          let i = lasting-read (lengthIn u) (suc (length rs)) (scalarKinds (kindIn u) a b c rs) r .holds x rest e in
+          let g = i .0 in
+          scalar-begins (rec u a b c ∷ rs) rest x (g .product) (g .is) (begun u a b c rs (writeProduct (g .product)) rest (g .begins) (i .1));
+    }
 
 field-read : (n : ℕ) (rs : List Rec) → Small rs → Body 23 n rs (readHasField (readTy 64) n rs)
 unfolding writeCon

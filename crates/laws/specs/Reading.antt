@@ -107,9 +107,9 @@ mutual
   read-fields noFields d rest f h = refl
   read-fields (field n t fs) d rest f h =
       let one : next (fieldKinds (readTy d)) (rec (head 9 (suc (size t))) n 0 0 ∷ (writeTy t ++ (writeFields fs ++ rest))) ≡ some ((n, t), writeFields fs ++ rest) =
-        next-back (fieldKinds (readTy d)) 9 (suc (size t)) n 0 0 (writeTy t ++ (writeFields fs ++ rest)) (writeFields fs ++ rest) _ (omega arith)
-        (rw (lift t d (writeFields fs ++ rest) (omega arith) (λ e k. read-ty t e (writeFields fs ++ rest) (f .0) k)))
-        (head-length (writeTy t) (writeFields fs ++ rest) (suc (size t)) (ap suc (size-ty t))) in
+      next-back (fieldKinds (readTy d)) 9 (suc (size t)) n 0 0 (writeTy t ++ (writeFields fs ++ rest)) (writeFields fs ++ rest) _ (omega arith)
+      (rw (lift t d (writeFields fs ++ rest) (omega arith) (λ e k. read-ty t e (writeFields fs ++ rest) (f .0) k)))
+      (head-length (writeTy t) (writeFields fs ++ rest) (suc (size t)) (ap suc (size-ty t))) in
       rw (append-assoc (writeTy t) (writeFields fs) rest, one, read-fields fs d rest (f .1) (omega arith))
 
 -- ══ Well formed types can be written ══

@@ -157,7 +157,7 @@ field-read : (ty : Reader (Ty ℕ)) → Types-read ty → (s : List Rec) → Sma
 field-read ty r [] h = nothing
 field-read ty r (rec u a b c ∷ rs) h = first-read writeField (fieldKinds ty) u a b c rs (picked (kindIn u) rs (fieldTable ty a b c) (
   (λ e. plain (b ∷ c ∷ []) (readField ty a) rs (λ z.
-    then (r rs (h .1)) (λ t s i. given (record { body = writeTy t; is = rw (e, z .0, z .1 .0, size-ty t) refl; stands = i .0; small = i .1 })))),
+      then (r rs (h .1)) (λ t s i. given (record { body = writeTy t; is = rw (e, z .0, z .1 .0, size-ty t) refl; stands = i .0; small = i .1 })))),
   tt,
 ))
 
