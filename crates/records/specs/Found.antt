@@ -13,9 +13,9 @@ use Rattle.rules.specs.Reading.{Reader, pass, give, unused, next, factorTable, 
 use Rattle.laws.specs.Written.{Reads, nothing, given, then, picked, lasting-read, unsigned}
 use Rattle.laws.specs.Written as laws
 use Rattle.records.specs.Views.{plain, shapeOf, viewOf, longOf, longAt, from}
-use Rattle.records.specs.Places.{_&_, from-length, first}
-use Rattle.records.specs.Holds.{Shows, Long, HoldsFactor, HoldsFactors, HoldsProduct, Holds, HoldsTys, HoldsFields, HoldsCon, HoldsBinding, BodyFactor, body-factor, Body, body-holds, BodyCon, body-con, BodyBinding, body-binding}
-use Rattle.records.specs.ByView.{body-in, ends-in, factors-in, con-body-in, binding-body-in}
+use Rattle.records.specs.Places.{_&_, recAt, long-some, from-length, first}
+use Rattle.records.specs.Holds.{Shows, Long, HoldsFactor, HoldsFactors, HoldsProduct, Holds, HoldsTys, HoldsFields, HoldsCon, HoldsBinding, BodyFactor, body-factor, holds-long, Body, body-holds, BodyCon, body-con, BodyBinding, body-binding}
+use Rattle.records.specs.ByView.{in-reach, body-in, ends-in, factors-in, con-body-in, binding-body-in}
 use Rattle.records.specs.declared.View.{View}
 use Rattle.records.specs.declared.View.the-variants as view
 
@@ -356,3 +356,10 @@ module _ (s : List ℕ) where
     pub binding-found : (at : ℕ) → Reads (readBinding (from s at)) (FoundBinding at)
     unfolding readBinding
     binding-found at = binding-first at (from s at) refl
+
+-- a length that stands in a word of 32 bits is at most 65,535
+pub held-short : (s : List ℕ) → Words32 s → (t : Ty ℕ) (at : ℕ) → Holds s t at → size t ≤ 65_535
+unfolding longOf lengthIn
+held-short s w t at h =
+    let l : longAt s at ≡ longOf (recAt s at) = long-some s at (in-reach s t at h) in
+    omega (arith, l, holds-long s t at h, w .word (at * 4))
