@@ -46,6 +46,10 @@ mutual
   records-broken (k ∷ a ∷ b ∷ []) h = refl
   records-broken (k ∷ a ∷ b ∷ c ∷ ws) h = rw (records-broken ws (λ e. h (omega arith)), records)
 
+pub from-start : (s : List ℕ) → from s 0 ≡ recs s
+unfolding from
+from-start s = refl
+
 -- ══ One part after another is read ══
 
 module _ {A : Type 0} (r : Reader A) where

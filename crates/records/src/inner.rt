@@ -52,6 +52,14 @@ pub fn put_record(dst: &mut [u32], out: usize, v: View, n: usize)
     put(dst, i + 3, w.c);
 }
 
+// Writes the record that says v and is a part by itself.
+pub fn put_one(dst: &mut [u32], out: usize, v: View)
+    requires { ⌜ out < 2 ^ 60 ⌝ }
+    ensures { λ _. ⌜ now (dst .exit) ≡ sets (now (dst .entry)) (out * 4) (words (recOf v 1 ∷ [])) ⌝ }
+{
+    put_record(dst, out, v, 1);
+}
+
 // Copies the records from b up to e, as far as the buffer goes.
 pub fn copy(v: &[u32], b: usize, e: usize, dst: &mut [u32], out: usize)
     requires { ⌜ b ≤ e ⌝ }

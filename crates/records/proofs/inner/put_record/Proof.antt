@@ -50,7 +50,7 @@ returns c =
     let a = c .before .before .before .before .before .before .before .before .before .before .before .before .before .before .before .before .before .before .before .args in
     let w = c .before .before .before .before .before .before .before .before .before .before .before .before .before .before .before .before .before .words-of .result in
     let e : rec (c .before .before .before .before .before .before .before .before .before .before .before .before .before .before .before .head-of .result) (w .a) (w .b) (w .c) ≡ recOf (a .v) (fit (a .n)) =
-      ap (λ (x : ℕ). rec x (w .a) (w .b) (w .c)) (c .before .before .before .before .before .before .before .before .before .before .before .before .before .before .before .head-of .ensures) ∙ ap (lengthened (fit (a .n))) (c .before .before .before .before .before .before .before .before .before .before .before .before .before .before .before .before .before .words-of .ensures) in
+    ap (λ (x : ℕ). rec x (w .a) (w .b) (w .c)) (c .before .before .before .before .before .before .before .before .before .before .before .before .before .before .before .head-of .ensures) ∙ ap (lengthened (fit (a .n))) (c .before .before .before .before .before .before .before .before .before .before .before .before .before .before .before .before .before .words-of .ensures) in
     four (a .dst .now) _ _ _ _ (a .out * 4) _ _ _ _ (c .before .before .before .before .before .before .before .before .before .before .before .before .before .before .put .ensures) (c .before .before .before .before .before .before .before .before .before .before .put2 .ensures) (c .before .before .before .before .before .before .put3 .ensures) (c .before .before .put4 .ensures)
     ∙ ap (λ (r : Rec). sets (a .dst .now) (a .out * 4) (words (r ∷ []))) e
 
