@@ -14,6 +14,7 @@ use Rattle.rules.specs.Base.{all}
 use Rattle.rules.specs.Writing.{Rec, rec, head, kindIn, lengthIn, words}
 use Rattle.laws.specs.Heads.{head-back, kind-head, length-head}
 use Rattle.laws.specs.Written.{Zeros}
+use Rattle.records.specs.Cut.{fit, cutRec, cut-head}
 use Rattle.records.specs.Views.{either, plain, pick, viewOf, shapeOf, recOpen, recFactor, recBound, kindOfBasic, bareOf, lengthened, recOf, longOf, recs, from, viewAt, longAt, boundTable, schemeTable, typeTable, otherTable}
 use Rattle.records.specs.declared.Open as names
 use Rattle.records.specs.declared.Atom as atoms
@@ -121,6 +122,13 @@ by-plain r (w ∷ ws) v f = go (eqb w 0) refl (by-plain r ws v)
 
 kept : (u : ℕ) {k : ℕ} → kindIn u ≡ k → head k (lengthIn u) ≡ u
 kept u e = ap (λ (k : ℕ). head k (lengthIn u)) (sym e) ∙ head-back u
+
+-- and is cut in its length alone
+pub cut-view : (v : View) (n : ℕ) → cutRec (recOf v n) ≡ recOf v (fit n)
+cut-view v n = go (bareOf v) (bare-kind v)
+  where
+    go : (r : Rec) → kindOf r < 65_536 → cutRec (lengthened n r) ≡ lengthened (fit n) r
+    go (rec k a b c) h = cut-head k n a b c h
 
 -- a view that some record says: no bound is a parameter
 abbrev pub IsBound : names.Open → Type 0

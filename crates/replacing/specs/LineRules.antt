@@ -1,13 +1,13 @@
 -- Lines: constraints and bindings, one after another, and what replacing in them leaves. Assumes nothing: these are definitions, and that each line has its size in records, one or more.
 use mathlib.Core.Path.{_≡_}
-use mathlib.Core.List.{List}
+use mathlib.Core.List.{List, _++_}
 use Prim.Native.Nat.{ℕ, _+_, _≤_}
 use native.Mathlib.Omega.{arith}
 use lib.ListN.{length}
 use Rattle.rules.specs.Base.{Got, got, _>>=_, bounded, each, collect, sumOf}
 use Rattle.rules.specs.Replacing.{Look, replaceProduct, replaceCon, replaceBinding}
 use Rattle.rules.specs.Trees.{Con, equal, isDim, isScalar, hasField, Binding, _≔_, sizeCon, sizeBinding}
-use Rattle.rules.specs.Writing.{Rec, writeProduct, writeCon, writeBinding}
+use Rattle.rules.specs.Writing.{Rec, writeProduct, writeTy, writeCon, writeBinding}
 use Rattle.laws.specs.Lists.{Every}
 use Rattle.laws.specs.Size.{size-con, size-binding}
 use Rattle.products.specs.Told.{Tree}
@@ -76,6 +76,21 @@ module _ (pool table : List ℕ) where
   abbrev pub ScalarReplaced : List ℕ → List ℕ → List ℕ → List ℕ → List ℕ → ℕ → ℕ → Went → Type 0
   ScalarReplaced s places v d d′ at out r =
       (p : Tree) (look : Look ℕ) → ScalarHeld s p at → Lent pool table places v look → Left sizeProduct writeProduct d d′ (at + sizeProduct p) out r (replaceProduct (names pool table) bounded look p)
+
+  -- the records of a line behind its first
+  abbrev pub partsOf : Line → List Rec
+  partsOf (con (equal l r)) = writeTy l ++ writeTy r
+  partsOf (con (isDim t)) = writeTy t
+  partsOf (con (isScalar p)) = writeProduct p
+  partsOf (con (hasField n l r)) = writeTy l ++ writeTy r
+  partsOf (binding (x ≔ t)) = writeTy t
+
+  abbrev pub partsSize : Line → ℕ
+  partsSize x = length (partsOf x)
+
+  abbrev pub PartsReplaced : List ℕ → List ℕ → List ℕ → List ℕ → List ℕ → ℕ → ℕ → Went → Type 0
+  PartsReplaced s places v d d′ at out r =
+      (x : Line) (look : Look ℕ) → HeldLine s x at → Lent pool table places v look → Left partsSize partsOf d d′ (at + sizeLine x) (out + 1) r (replaceLine look x)
 
   abbrev pub LineReplaced : List ℕ → List ℕ → List ℕ → List ℕ → List ℕ → ℕ → ℕ → Went → Type 0
   LineReplaced s places v d d′ at out r =
