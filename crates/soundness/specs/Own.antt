@@ -211,14 +211,24 @@ mutual
   pass-ty (basic boolean) at rest = from rest (suc at) (at + 1) (omega arith)
   pass-ty (basic string) at rest = from rest (suc at) (at + 1) (omega arith)
   pass-ty (basic datetime) at rest = from rest (suc at) (at + 1) (omega arith)
-  pass-ty (dim p) at rest = pass-over 3 (suc (length p)) (length p) 0 0 at (map writeFactor p ++ rest) (omega arith) ∙ pass-factors p (suc at) rest ∙ from rest (suc at + length p) (at + suc (length p)) (omega arith)
+  pass-ty (dim p) at rest =
+      pass-over 3 (suc (length p)) (length p) 0 0 at (map writeFactor p ++ rest) (omega arith)
+      ∙ pass-factors p (suc at) rest
+      ∙ from rest (suc at + length p) (at + suc (length p)) (omega arith)
   pass-ty (fn ps r) at rest =
       rw (append-assoc (writeTys ps) (writeTy r) rest)
-      (pass-over 7 (size (fn ps r)) (count ps) 0 0 at (writeTys ps ++ (writeTy r ++ rest)) (omega arith) ∙ pass-tys ps (suc at) (writeTy r ++ rest) ∙ pass-ty r (suc at + sizeTys ps) rest ∙ from rest (suc at + sizeTys ps + size r) (at + size (fn ps r)) (omega arith))
+      (pass-over 7 (size (fn ps r)) (count ps) 0 0 at (writeTys ps ++ (writeTy r ++ rest)) (omega arith)
+      ∙ pass-tys ps (suc at) (writeTy r ++ rest) ∙ pass-ty r (suc at + sizeTys ps) rest
+      ∙ from rest (suc at + sizeTys ps + size r) (at + size (fn ps r)) (omega arith))
   pass-ty (struct n as′ fs) at rest =
       rw (append-assoc (writeTys as′) (writeFields fs) rest)
-      (pass-over 8 (size (struct n as′ fs)) n (count as′) (countFields fs) at (writeTys as′ ++ (writeFields fs ++ rest)) (omega arith) ∙ pass-tys as′ (suc at) (writeFields fs ++ rest) ∙ pass-fields fs (suc at + sizeTys as′) rest ∙ from rest (suc at + sizeTys as′ + sizeFields fs) (at + size (struct n as′ fs)) (omega arith))
-  pass-ty (list t) at rest = pass-over 10 (size (list t)) 0 0 0 at (writeTy t ++ rest) (omega arith) ∙ pass-ty t (suc at) rest ∙ from rest (suc at + size t) (at + suc (size t)) (omega arith)
+      (pass-over 8 (size (struct n as′ fs)) n (count as′) (countFields fs) at (writeTys as′ ++ (writeFields fs ++ rest)) (omega arith)
+      ∙ pass-tys as′ (suc at) (writeFields fs ++ rest) ∙ pass-fields fs (suc at + sizeTys as′) rest
+      ∙ from rest (suc at + sizeTys as′ + sizeFields fs) (at + size (struct n as′ fs)) (omega arith))
+  pass-ty (list t) at rest =
+      pass-over 10 (size (list t)) 0 0 0 at (writeTy t ++ rest) (omega arith)
+      ∙ pass-ty t (suc at) rest
+      ∙ from rest (suc at + size t) (at + suc (size t)) (omega arith)
 
   pass-tys : (ts : Tys ℕ) (at : ℕ) (rest : List Rec) → pointed at (words (writeTys ts ++ rest)) ≡ pointed (at + sizeTys ts) (words rest)
   pass-tys nil at rest = from rest at (at + 0) (omega arith)
@@ -230,7 +240,9 @@ mutual
   pass-fields noFields at rest = from rest at (at + 0) (omega arith)
   pass-fields (field n t fs) at rest =
       rw (append-assoc (writeTy t) (writeFields fs) rest)
-      (pass-over 9 (suc (size t)) n 0 0 at (writeTy t ++ (writeFields fs ++ rest)) (omega arith) ∙ pass-ty t (suc at) (writeFields fs ++ rest) ∙ pass-fields fs (suc at + size t) rest ∙ from rest (suc at + size t + sizeFields fs) (at + sizeFields (field n t fs)) (omega arith))
+      (pass-over 9 (suc (size t)) n 0 0 at (writeTy t ++ (writeFields fs ++ rest)) (omega arith)
+      ∙ pass-ty t (suc at) (writeFields fs ++ rest) ∙ pass-fields fs (suc at + size t) rest
+      ∙ from rest (suc at + size t + sizeFields fs) (at + sizeFields (field n t fs)) (omega arith))
 
 -- the entries of bindings that are written from a place on
 entriesFrom : ℕ → List (Binding ℕ) → List Entry
@@ -240,7 +252,9 @@ entriesFrom at (x ≔ t ∷ bs) = record { variable = x; place = suc at } ∷ en
 pointed-is : (bs : List (Binding ℕ)) (at : ℕ) → pointed at (words (collect writeBinding bs)) ≡ entriesFrom at bs
 unfolding pointed words collect writeBinding entriesFrom
 pointed-is [] at = refl
-pointed-is (x ≔ t ∷ bs) at = taken (sizeBinding (x ≔ t)) x at (writeTy t ++ collect writeBinding bs) ∙ ap (λ (es : List Entry). record { variable = x; place = suc at } ∷ es) (pass-ty t (suc at) (collect writeBinding bs) ∙ pointed-is bs (suc at + size t))
+pointed-is (x ≔ t ∷ bs) at =
+    taken (sizeBinding (x ≔ t)) x at (writeTy t ++ collect writeBinding bs)
+    ∙ ap (λ (es : List Entry). record { variable = x; place = suc at } ∷ es) (pass-ty t (suc at) (collect writeBinding bs) ∙ pointed-is bs (suc at + size t))
 
 entries-few : (bs : List (Binding ℕ)) (at : ℕ) → length (entriesFrom at bs) ≤ sumOf sizeBinding bs
 unfolding entriesFrom sizeBinding
