@@ -47,6 +47,11 @@ pub left-made : {A : Type 0} {m : A → ℕ} {ws : A → List Rec} {d d′ : Lis
     → Left m ws d d′ next out (To q o) R
 left-made {d = d} a e p c b = record { says = rw e (rw (p, c), b) }
 
+-- the same, with records that are short enough to be written as they are
+pub left-put : {A : Type 0} {m : A → ℕ} {ws : A → List Rec} {d d′ : List ℕ} {next out q o : ℕ} {R : Got A} (a : A) → R ≡ got a → q ≡ next → o ≡ out + m a → cut (ws a) ≡ ws a → d′ ≡ sets d (out * 4) (words (ws a))
+    → Left m ws d d′ next out (To q o) R
+left-put {d = d} {out = out} a e p c k b = left-made a e p c (b ∙ ap (λ (l : List Rec). sets d (out * 4) (words l)) (sym k))
+
 pub left-stop : {A : Type 0} {m : A → ℕ} {ws : A → List Rec} {d d′ : List ℕ} {next out : ℕ} {k : Refusal} {R : Got A} → R ≡ refused (numberOf k) → Left m ws d d′ next out (Stop k) R
 left-stop e = record { says = rw e refl }
 
