@@ -90,8 +90,8 @@ module _ {A B : Type 0} (m : A → ℕ) (ws : A → List Rec) (m′ : B → ℕ)
       let g : out + 1 + m a ≡ out + m′ (f a) = omega (arith, hm a e) in
       let n : out + 1 + m a - out ≡ m′ (f a) = omega (arith, hm a e) in
       let p : d′ ≡ sets d₁ (out * 4) (words (cutRec (recOf v (m′ (f a))) ∷ [])) =
-        q ∙ ap (λ (x : Went). sets d₁ (out * 4) (words (beforeRecs x v out))) (h .0)
-        ∙ ap (λ (x : ℕ). sets d₁ (out * 4) (words (recOf v (fit x) ∷ []))) n ∙ ap (λ (x : Rec). sets d₁ (out * 4) (words (x ∷ []))) (sym (cut-view v (m′ (f a)))) in
+      q ∙ ap (λ (x : Went). sets d₁ (out * 4) (words (beforeRecs x v out))) (h .0)
+      ∙ ap (λ (x : ℕ). sets d₁ (out * 4) (words (recOf v (fit x) ∷ []))) n ∙ ap (λ (x : Rec). sets d₁ (out * 4) (words (x ∷ []))) (sym (cut-view v (m′ (f a)))) in
       (h .0 ∙ ap (To next) g, writes-before d d₁ d′ (cutRec (recOf v (m′ (f a)))) (cut (ws a)) out (h .1) p ∙ ap (λ (l : List Rec). sets d (out * 4) (words (cut l))) (sym (hw a e)))
   under-of (refused k) e h q = h
 

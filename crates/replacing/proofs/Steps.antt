@@ -106,7 +106,7 @@ module _ (pool table s places v : List ℕ) where
     unfolding size replaceTy
     basic-here {d} {d′} {w} {k = k} p q x t look h l =
         let y : d′ ≡ sets d (out * 4) (words (writeTy (basic (basicOf k)))) =
-          x ∙ ap (λ (u : View). sets d (out * 4) (words (recOf u 1 ∷ []))) q ∙ ap (λ (z : List Rec). sets d (out * 4) (words z)) (basic-rec k) in
+        x ∙ ap (λ (u : View). sets d (out * 4) (words (recOf u 1 ∷ []))) q ∙ ap (λ (z : List Rec). sets d (out * 4) (words z)) (basic-rec k) in
         by-view s (Leaves look d d′ (To (at + 1) (out + 1))) t at (h .held) (sym p ∙ q) (λ g.
         left-put (basic (basicOf k)) refl refl refl (short-ty (basic (basicOf k)) (omega arith)) y) (h .good)
 
@@ -144,7 +144,7 @@ module _ (pool table s places v : List ℕ) where
         let R = j u look (record { held = subst (Holds s u) (sym (m .read)) hu; good = good .1 }) l in
         let R′ : Left size writeTy d₂ d₃ (at + suc (sizeTys ps + size u)) (out + 1 + sizeTys qs) r (Ty′ look u) = rw (i, oo) at R in
         let B : Left (λ (a : Ty ℕ). sizeTys qs + size a) (λ (a : Ty ℕ). writeTys qs ++ writeTy a) d d₃ (at + suc (sizeTys ps + size u)) (out + 1) r (Ty′ look u >>= λ a. got a) =
-          left-on size writeTy (λ (a : Ty ℕ). sizeTys qs + size a) (λ (a : Ty ℕ). writeTys qs ++ writeTy a) (λ (a : Ty ℕ). a) (sizeTys qs) (writeTys qs) (size-tys qs) (Ty′ look u) (λ a x. refl) (λ a x. refl) d d₂ d₃ (at + suc (sizeTys ps + size u)) (out + 1) r (m .buffer) R′ in
+        left-on size writeTy (λ (a : Ty ℕ). sizeTys qs + size a) (λ (a : Ty ℕ). writeTys qs ++ writeTy a) (λ (a : Ty ℕ). a) (sizeTys qs) (writeTys qs) (size-tys qs) (Ty′ look u) (λ a x. refl) (λ a x. refl) d d₂ d₃ (at + suc (sizeTys ps + size u)) (out + 1) r (m .buffer) R′ in
         rw (m .is)
         (left-under (λ (a : Ty ℕ). sizeTys qs + size a) (λ (a : Ty ℕ). writeTys qs ++ writeTy a) size writeTy (fn qs) (view.Function (count qs)) (Ty′ look u) (λ a x. omega arith) (λ a x. refl) d d₃ d′ (at + suc (sizeTys ps + size u)) out r
         (subst (Left (λ (a : Ty ℕ). sizeTys qs + size a) (λ (a : Ty ℕ). writeTys qs ++ writeTy a) d d₃ (at + suc (sizeTys ps + size u)) (out + 1) r) (got-same (Ty′ look u)) B)
@@ -171,7 +171,7 @@ module _ (pool table s places v : List ℕ) where
         let R = left-fields look fs (j (fields fs) look (record { held = subst (HoldsFields s fs) (sym (mm .read)) hf; good = good .1; many = c₂; kind = refl }) l) in
         let R′ : Left sizeFields writeFields d₂ d₃ (at + suc (sizeTys as′ + sizeFields fs)) (out + 1 + sizeTys qs) r (Fields′ look fs) = rw (i, oo) at R in
         let B : Left (λ (a : Fields ℕ). sizeTys qs + sizeFields a) (λ (a : Fields ℕ). writeTys qs ++ writeFields a) d d₃ (at + suc (sizeTys as′ + sizeFields fs)) (out + 1) r (Fields′ look fs >>= λ a. got a) =
-          left-on sizeFields writeFields (λ (a : Fields ℕ). sizeTys qs + sizeFields a) (λ (a : Fields ℕ). writeTys qs ++ writeFields a) (λ (a : Fields ℕ). a) (sizeTys qs) (writeTys qs) (size-tys qs) (Fields′ look fs) (λ a u. refl) (λ a u. refl) d d₂ d₃ (at + suc (sizeTys as′ + sizeFields fs)) (out + 1) r (mm .buffer) R′ in
+        left-on sizeFields writeFields (λ (a : Fields ℕ). sizeTys qs + sizeFields a) (λ (a : Fields ℕ). writeTys qs ++ writeFields a) (λ (a : Fields ℕ). a) (sizeTys qs) (writeTys qs) (size-tys qs) (Fields′ look fs) (λ a u. refl) (λ a u. refl) d d₂ d₃ (at + suc (sizeTys as′ + sizeFields fs)) (out + 1) r (mm .buffer) R′ in
         rw (mm .is)
         (left-under (λ (a : Fields ℕ). sizeTys qs + sizeFields a) (λ (a : Fields ℕ). writeTys qs ++ writeFields a) size writeTy (struct x qs) (view.Struct x (count qs) m) (Fields′ look fs) (λ a u. omega arith)
         (λ a u. ap (λ (e : ℕ). recOf (view.Struct x (count qs) e) (size (struct x qs a)) ∷ (writeTys qs ++ writeFields a)) (fields-count pool table look fs .holds a u ∙ c₂)) d d₃ d′ (at + suc (sizeTys as′ + sizeFields fs)) out r
@@ -230,7 +230,7 @@ module _ (pool table s places v : List ℕ) where
           let n′ : o - out ≡ suc (size u) = omega (arith, oo) in
           let w′ : d₂ ≡ sets d₁ (out * 4) (words (cutRec (recOf (view.Field x) (suc (size u))) ∷ [])) = field-head d₁ d₂ out (suc (size u)) (viewAt s at) f (h .kind) (h .held .0) (rw n′ at w) in
           let f′ : d₂ ≡ sets d (out * 4) (words (cut (rec (head 9 (suc (size u))) x 0 0 ∷ writeTy u))) =
-            writes-before d d₁ d₂ (cutRec (recOf (view.Field x) (suc (size u)))) (cut (writeTy u)) out (m .buffer ∙ ap (λ (a : ℕ). sets d (a * 4) (words (cut (writeTy u)))) o₁) w′ in
+          writes-before d d₁ d₂ (cutRec (recOf (view.Field x) (suc (size u)))) (cut (writeTy u)) out (m .buffer ∙ ap (λ (a : ℕ). sets d (a * 4) (words (cut (writeTy u)))) o₁) w′ in
           let R = left-fields look fs (j (fields fs) look (record { held = subst (HoldsFields s fs) (sym at′) (h .held .2); good = good .1; many = omega (arith, h .many); kind = h .kind }) l) in
           let R′ : Left sizeFields writeFields d₂ d′ (at + suc (size t + sizeFields fs)) (out + suc (size u)) r (Fields′ look fs) = rw (i, oo) at R in
           rw (m .is)

@@ -1,135 +1,150 @@
+-- `replace_parts` meets its contract. Assumes nothing.
+use native.Mathlib.Omega.{arith}
 use borrow.Author.Needs.{needs}
+use Rattle.replacing.proofs.LineSteps.{line-here, room-next, equal-asks, has-asks, is-asks, binding-asks, scalar-asks, equal-here, has-here, is-here, binding-here, scalar-here, unlined-here}
 use Rattle.replacing.proofs.inner.lines.replace_parts.Statement.{statement}
 use Rattle.replacing.proofs.inner.lines.replace_parts.Tie as tie
-use Rattle.replacing.proofs.inner.lines.replace_parts.Reads as reads
-use Rattle.replacing.proofs.inner.lines.replace_parts.Lts as lts
-use Rattle.replacing.proofs.inner.lines.replace_equal_scalar.Reads as replace-equal-scalar-reads
-use Rattle.replacing.proofs.inner.walk.replace_list.Reads as replace-list-reads
-use Rattle.replacing.proofs.inner.walk.replace_type.Reads as replace-type-reads
 
--- src/inner/lines.rt:65:53
 enum-told : tie.Need-enum-told
 enum-told c = search needs
 
--- src/inner/lines.rt:65:53
 add-replace-list : tie.Need-add-replace-list
-add-replace-list c = ?
+add-replace-list c =
+    let S = c .before .before .before .before .before .before .before .before in
+    let a = S .args in
+    omega (arith, line-here (a .s .now) (S .pre .1 .0 .0) (a .at) (S .pre .1 .0 .1 .held), S .pre .1 .1 .1 .1 .small)
 
--- src/inner/lines.rt:65:87
 add-replace-list-2 : tie.Need-add-replace-list-2
 add-replace-list-2 c = search needs
 
--- src/inner/lines.rt:65:24
 replace-list-requires : tie.Need-replace-list-requires
-replace-list-requires c κs = ?
+replace-list-requires c κs =
+    let S = c .before .before .before .before .before .before .before .before .before in
+    let a = S .args in
+    (S .pre .0, (equal-asks (a .pool .now) (a .table .now) (a .s .now) (a .places .now) (a .v .now) (a .at) (a .out) (S .pre .1 .1 .1 .1) (S .pre .1 .0 .0) (S .pre .1 .0 .1) (S .pre .1 .1 .0) (c .before .enum-told .given .1), (S .pre .1 .1 .1 .0, (omega (arith, line-here (a .s .now) (S .pre .1 .0 .0) (a .at) (S .pre .1 .0 .1 .held)), room-next (a .pool .now) (a .table .now) (a .s .now) (a .places .now) (a .v .now) (a .at) (a .out) (S .pre .1 .1 .1 .1) (S .pre .1 .0 .0) (S .pre .1 .0 .1) (S .pre .1 .1 .0)))))
 
--- src/inner/lines.rt:66:53
 enum-told-2 : tie.Need-enum-told-2
 enum-told-2 c = search needs
 
--- src/inner/lines.rt:66:53
 add-replace-type : tie.Need-add-replace-type
-add-replace-type c = ?
+add-replace-type c =
+    let S = c .before .before .before .before .before .before .before .before in
+    let a = S .args in
+    omega (arith, line-here (a .s .now) (S .pre .1 .0 .0) (a .at) (S .pre .1 .0 .1 .held), S .pre .1 .1 .1 .1 .small)
 
--- src/inner/lines.rt:66:77
 add-replace-type-2 : tie.Need-add-replace-type-2
 add-replace-type-2 c = search needs
 
--- src/inner/lines.rt:66:24
 replace-type-requires : tie.Need-replace-type-requires
-replace-type-requires c κs = ?
+replace-type-requires c κs =
+    let S = c .before .before .before .before .before .before .before .before .before in
+    let a = S .args in
+    (S .pre .0, (is-asks (a .pool .now) (a .table .now) (a .s .now) (a .places .now) (a .v .now) (a .at) (a .out) (S .pre .1 .1 .1 .1) (S .pre .1 .0 .0) (S .pre .1 .0 .1) (S .pre .1 .1 .0) (c .before .enum-told2 .given .1), (S .pre .1 .1 .1 .0, room-next (a .pool .now) (a .table .now) (a .s .now) (a .places .now) (a .v .now) (a .at) (a .out) (S .pre .1 .1 .1 .1) (S .pre .1 .0 .0) (S .pre .1 .0 .1) (S .pre .1 .1 .0))))
 
--- src/inner/lines.rt:67:64
 enum-told-3 : tie.Need-enum-told-3
 enum-told-3 c = search needs
 
--- src/inner/lines.rt:67:64
 add-replace-equal-scalar : tie.Need-add-replace-equal-scalar
-add-replace-equal-scalar c = ?
+add-replace-equal-scalar c =
+    let S = c .before .before .before .before .before .before .before .before in
+    let a = S .args in
+    omega (arith, line-here (a .s .now) (S .pre .1 .0 .0) (a .at) (S .pre .1 .0 .1 .held), S .pre .1 .1 .1 .1 .small)
 
--- src/inner/lines.rt:67:88
 add-replace-equal-scalar-2 : tie.Need-add-replace-equal-scalar-2
 add-replace-equal-scalar-2 c = search needs
 
--- src/inner/lines.rt:67:27
 replace-equal-scalar-requires : tie.Need-replace-equal-scalar-requires
-replace-equal-scalar-requires c κs = ?
+replace-equal-scalar-requires c κs =
+    let S = c .before .before .before .before .before .before .before .before .before in
+    let a = S .args in
+    (S .pre .0, (scalar-asks (a .pool .now) (a .table .now) (a .s .now) (a .places .now) (a .v .now) (a .at) (a .out) (S .pre .1 .1 .1 .1) (S .pre .1 .0 .0) (S .pre .1 .0 .1) (S .pre .1 .1 .0) (c .before .enum-told3 .given .1), (S .pre .1 .1 .1 .0, room-next (a .pool .now) (a .table .now) (a .s .now) (a .places .now) (a .v .now) (a .at) (a .out) (S .pre .1 .1 .1 .1) (S .pre .1 .0 .0) (S .pre .1 .0 .1) (S .pre .1 .1 .0))))
 
--- src/inner/lines.rt:69:42
 enum-told-4 : tie.Need-enum-told-4
 enum-told-4 c = search needs
 
--- src/inner/lines.rt:69:42
 add-replace-list-3 : tie.Need-add-replace-list-3
-add-replace-list-3 c = ?
+add-replace-list-3 c =
+    let S = c .before .before .before .before .before .before .before .before in
+    let a = S .args in
+    omega (arith, line-here (a .s .now) (S .pre .1 .0 .0) (a .at) (S .pre .1 .0 .1 .held), S .pre .1 .1 .1 .1 .small)
 
--- src/inner/lines.rt:69:76
 add-replace-list-4 : tie.Need-add-replace-list-4
 add-replace-list-4 c = search needs
 
--- src/inner/lines.rt:69:13
 replace-list-requires-2 : tie.Need-replace-list-requires-2
-replace-list-requires-2 c κs = ?
+replace-list-requires-2 c κs =
+    let S = c .before .before .before .before .before .before .before .before .before in
+    let a = S .args in
+    (S .pre .0, (has-asks (a .pool .now) (a .table .now) (a .s .now) (a .places .now) (a .v .now) (a .at) (a .out) (S .pre .1 .1 .1 .1) (S .pre .1 .0 .0) (S .pre .1 .0 .1) (S .pre .1 .1 .0) (c .before .enum-told4 .given .1), (S .pre .1 .1 .1 .0, (omega (arith, line-here (a .s .now) (S .pre .1 .0 .0) (a .at) (S .pre .1 .0 .1 .held)), room-next (a .pool .now) (a .table .now) (a .s .now) (a .places .now) (a .v .now) (a .at) (a .out) (S .pre .1 .1 .1 .1) (S .pre .1 .0 .0) (S .pre .1 .0 .1) (S .pre .1 .1 .0)))))
 
--- src/inner/lines.rt:71:58
 enum-told-5 : tie.Need-enum-told-5
 enum-told-5 c = search needs
 
--- src/inner/lines.rt:71:58
 add-replace-type-3 : tie.Need-add-replace-type-3
-add-replace-type-3 c = ?
+add-replace-type-3 c =
+    let S = c .before .before .before .before .before .before .before .before in
+    let a = S .args in
+    omega (arith, line-here (a .s .now) (S .pre .1 .0 .0) (a .at) (S .pre .1 .0 .1 .held), S .pre .1 .1 .1 .1 .small)
 
--- src/inner/lines.rt:71:82
 add-replace-type-4 : tie.Need-add-replace-type-4
 add-replace-type-4 c = search needs
 
--- src/inner/lines.rt:71:29
 replace-type-requires-2 : tie.Need-replace-type-requires-2
-replace-type-requires-2 c κs = ?
+replace-type-requires-2 c κs =
+    let S = c .before .before .before .before .before .before .before .before .before in
+    let a = S .args in
+    (S .pre .0, (binding-asks (a .pool .now) (a .table .now) (a .s .now) (a .places .now) (a .v .now) (a .at) (a .out) (S .pre .1 .1 .1 .1) (S .pre .1 .0 .0) (S .pre .1 .0 .1) (S .pre .1 .1 .0) (c .before .enum-told5 .given .1), (S .pre .1 .1 .1 .0, room-next (a .pool .now) (a .table .now) (a .s .now) (a .places .now) (a .v .now) (a .at) (a .out) (S .pre .1 .1 .1 .1) (S .pre .1 .0 .0) (S .pre .1 .0 .1) (S .pre .1 .1 .0))))
 
--- src/inner/lines.rt:46:1
 same-length : tie.Need-same-length
 same-length c = search needs
 
--- src/inner/lines.rt:46:1
 returns : tie.Need-returns
-returns c = ?
+returns c =
+    let S = c .before .before .before .before .before .before .before .before .before .before .before .before in
+    let a = S .args in
+    equal-here (a .pool .now) (a .table .now) (a .s .now) (a .places .now) (a .v .now) (a .at) (a .out) (S .pre .1 .1 .0) (c .before .before .before .before .enum-told .given .1) (c .before .before .replace-list .ensures)
 
--- src/inner/lines.rt:46:1
 same-length-2 : tie.Need-same-length-2
 same-length-2 c = search needs
 
--- src/inner/lines.rt:46:1
 returns-2 : tie.Need-returns-2
-returns-2 c = ?
+returns-2 c =
+    let S = c .before .before .before .before .before .before .before .before .before .before .before .before in
+    let a = S .args in
+    is-here (a .pool .now) (a .table .now) (a .s .now) (a .places .now) (a .v .now) (a .at) (a .out) (S .pre .1 .1 .0) (c .before .before .before .before .enum-told2 .given .1) (c .before .before .replace-type .ensures)
 
--- src/inner/lines.rt:46:1
 same-length-3 : tie.Need-same-length-3
 same-length-3 c = search needs
 
--- src/inner/lines.rt:46:1
 returns-3 : tie.Need-returns-3
-returns-3 c = ?
+returns-3 c =
+    let S = c .before .before .before .before .before .before .before .before .before .before .before .before in
+    let a = S .args in
+    scalar-here (a .pool .now) (a .table .now) (a .s .now) (a .places .now) (a .v .now) (a .at) (a .out) (S .pre .1 .1 .0) (c .before .before .before .before .enum-told3 .given .1) (c .before .before .replace-equal-scalar .ensures)
 
--- src/inner/lines.rt:46:1
 same-length-4 : tie.Need-same-length-4
 same-length-4 c = search needs
 
--- src/inner/lines.rt:46:1
 returns-4 : tie.Need-returns-4
-returns-4 c = ?
+returns-4 c =
+    let S = c .before .before .before .before .before .before .before .before .before .before .before .before in
+    let a = S .args in
+    has-here (a .pool .now) (a .table .now) (a .s .now) (a .places .now) (a .v .now) (a .at) (a .out) (S .pre .1 .1 .0) (c .before .before .before .before .enum-told4 .given .1) (c .before .before .replace-list2 .ensures)
 
--- src/inner/lines.rt:46:1
 same-length-5 : tie.Need-same-length-5
 same-length-5 c = search needs
 
--- src/inner/lines.rt:46:1
 returns-5 : tie.Need-returns-5
-returns-5 c = ?
+returns-5 c =
+    let S = c .before .before .before .before .before .before .before .before .before .before .before .before in
+    let a = S .args in
+    binding-here (a .pool .now) (a .table .now) (a .s .now) (a .places .now) (a .v .now) (a .at) (a .out) (S .pre .1 .1 .0) (c .before .before .before .before .enum-told5 .given .1) (c .before .before .replace-type2 .ensures)
 
--- src/inner/lines.rt:46:1
 returns-6 : tie.Need-returns-6
-returns-6 c = ?
+returns-6 c =
+    let S = c .before .before .before .before .before .before .before in
+    let a = S .args in
+    unlined-here (a .pool .now) (a .table .now) (a .s .now) (a .places .now) (a .v .now) (a .at) (a .out) (S .pre .1 .1 .0) (c .match .keys6)
 
 pub replace-parts-spec : {M : Type 1} → statement M
 replace-parts-spec =
