@@ -1,11 +1,12 @@
 #!/usr/bin/env python3
-"""The edge cases through every build that the kit makes of `serve`: builds.py [SERVE]. At -O0, at -O3 and with LLVM's assumptions checked it must write what
-the proved program SERVE (default target/bin/serve) writes. The interpreter, which the kit runs first, stops at 10,000,000 steps, too few for these cases;
+"""The edge cases through every build that the kit makes of `serve`: builds.py [SERVE] [--lengths]. At -O0, at -O3 and with LLVM's assumptions checked it must write what
+the proved program SERVE (default target/bin/serve) writes. They have 64 MB of stack: unlike the proved program, those that are not optimised copy the large buffers
+about, and the usual 8 MB are too few where 64 sets have room. The interpreter, which the kit runs first, stops at 10,000,000 steps, too few for these cases;
 `rt try serve` runs it on the stored requests."""
-import glob, os, re, shutil, subprocess, sys, tempfile
+import glob, os, re, resource, shutil, subprocess, sys, tempfile
 HERE = os.path.dirname(os.path.abspath(__file__))
 sys.path.insert(0, HERE)
-import edges
+import edges, requests
 ROOT = os.path.dirname(HERE)
 KIT = os.path.dirname(os.path.dirname(os.path.realpath(shutil.which('rt'))))
 OWN = os.path.join(KIT, 'on', os.uname().machine)
@@ -17,6 +18,10 @@ def words():
     for lib in sorted(glob.glob(ROOT + '/crates/*/src/lib.rt')):
         out += ['--lib', '%s=%s' % (lib.split('/')[-3], lib)]
     return out + [w for d in ('libc', 'io') for w in ('--lib', '%s=%s/libs/%s/src/lib.rt' % (d, KIT, d))]
+
+
+def more_stack():
+    resource.setrlimit(resource.RLIMIT_STACK, (64 << 20, resource.getrlimit(resource.RLIMIT_STACK)[1]))
 
 
 def chunks(serve, cases):
@@ -32,7 +37,8 @@ def chunks(serve, cases):
 
 
 def main():
-    serve = sys.argv[1] if len(sys.argv) > 1 else ROOT + '/target/bin/serve'
+    args = requests.switches(sys.argv[1:])
+    serve = args[0] if args else ROOT + '/target/bin/serve'
     last = int(re.search(r'LAST: u32 = (\d+)', open(ROOT + '/crates/calling/src/lib.rt').read()).group(1))
     cases = edges.cases(last)
     failed = n = 0
@@ -41,7 +47,7 @@ def main():
             n += 1
             open(tmp + '/in', 'wb').write(data)
             open(tmp + '/out', 'wb').write(want)
-            said = subprocess.run([OWN + '/bin/rattle-cases', '--toolchain', OWN + '/toolchain', '--stdin', tmp + '/in', '--stdout', tmp + '/out'] + words(), stdout=subprocess.PIPE, stderr=subprocess.STDOUT, text=True).stdout
+            said = subprocess.run([OWN + '/bin/rattle-cases', '--toolchain', OWN + '/toolchain', '--stdin', tmp + '/in', '--stdout', tmp + '/out'] + words(), stdout=subprocess.PIPE, stderr=subprocess.STDOUT, text=True, preexec_fn=more_stack).stdout
             for line in said.splitlines():
                 if 'native program' in line:
                     print('part %d: %s' % (n, line[:160]), flush=True)

@@ -1,21 +1,23 @@
 #!/usr/bin/env python3
-"""The compiled calls against numbat: compare.py NUMBAT [--cases N] [--seed S] [--kinds A,B] [--serve FILE] [--build DIR] [--log FILE]
+"""The compiled calls against numbat: compare.py NUMBAT [--cases N] [--seed S] [--kinds A,B] [--serve FILE] [--build DIR] [--log FILE] [--lengths]
 
 NUMBAT is a checkout of numbat at e8abf32b97. The harness is built from it in DIR (default target/compare), sends random requests of each kind to
 `serve` (default target/bin/serve, which `rt check serve` makes) and compares every answer with numbat's, or with our own reading of document 01
 where numbat has no counterpart. A difference counts as explained when model.py, which has document 01's rules, answers as `serve` did, and
-with the fewest of numbat's deviations switched on as numbat did; each deviation is a number of docs/DIFFERENCES.md. Any other fails the run."""
+with the fewest of numbat's deviations switched on as numbat did; each deviation is a number of docs/DIFFERENCES.md. Any other fails the run.
+With --lengths word 0 of each record carries the length of its part (W-206), and there is a kind of cases with false lengths."""
 import ast, itertools, os, re, subprocess, sys, tempfile, time
 from collections import Counter
 HERE = os.path.dirname(os.path.abspath(__file__))
 sys.path.insert(0, HERE)
 import edges
 import model
+import requests
 sys.setrecursionlimit(30000)
 
 KINDS = ['small', 'rich', 'structs', 'wide', 'shared', 'limits', 'damaged', 'names']
 # the share of each kind in a thousand cases
-SHARE = {'small': 400, 'rich': 250, 'structs': 130, 'wide': 120, 'shared': 50, 'limits': 1, 'damaged': 29, 'names': 20}
+SHARE = {'lengths': 30, 'small': 400, 'rich': 250, 'structs': 130, 'wide': 120, 'shared': 50, 'limits': 1, 'damaged': 29, 'names': 20}
 # calls that are there: bit n is call n
 LAST = int(re.search(r'LAST: u32 = (\d+)', open(os.path.join(HERE, '../crates/calling/src/lib.rt')).read()).group(1))
 CALLS = sum(1 << n for n in range(1, LAST + 1))
@@ -76,15 +78,19 @@ class Tally:
             self.bad.append((0, '\t'.join(f), '', ''))
 
 
+def switch():
+    return ['--lengths'] * requests.LENGTHS
+
+
 def run_edges(harness, serve, tally):
     with tempfile.NamedTemporaryFile() as f:
         f.write(b''.join(q.bytes() for _, q in edges.cases(LAST)))
         f.flush()
-        take([harness, 'check', serve, f.name], tally, 'the edge cases')
+        take([harness] + switch() + ['check', serve, f.name], tally, 'the edge cases')
 
 
 def run(harness, serve, kind, seed, count, tally):
-    take([harness, 'compare', serve, kind, str(seed), str(count), str(CALLS)], tally, '%s, seed %d' % (kind, seed))
+    take([harness] + switch() + ['compare', serve, kind, str(seed), str(count), str(CALLS)], tally, '%s, seed %d' % (kind, seed))
 
 
 def take(command, tally, what):
@@ -103,7 +109,8 @@ def take(command, tally, what):
 
 
 def options(argv):
-    o = {'--cases': '100000', '--seed': '1', '--kinds': ','.join(KINDS), '--serve': os.path.join(HERE, '../target/bin/serve'), '--build': os.path.join(HERE, '../target/compare'), '--log': ''}
+    argv = requests.switches(argv)
+    o = {'--cases': '100000', '--seed': '1', '--kinds': ','.join(KINDS + ['lengths'] * requests.LENGTHS), '--serve': os.path.join(HERE, '../target/bin/serve'), '--build': os.path.join(HERE, '../target/compare'), '--log': ''}
     args = []
     i = 0
     while i < len(argv):

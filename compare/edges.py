@@ -1,5 +1,6 @@
 """Edge cases of every call: the examples K1 to K14, each refusal with its neighbour that is none, each limit with one less, and what mutants have
 been seen to get wrong. `cases(last)` gives (what it is about, request) for the calls up to a number."""
+import requests
 from requests import Request, of
 
 TOP = 2147483647
@@ -164,13 +165,18 @@ def limits():
             yield 'the order of refusals', Request(call, ('x', 'a'), [words + [0] * max(0, n - len(words)), []], work=work)
 
 
+# a good list for each call that asks whether it is well formed, and what else takes such a list
+GOOD = {14: [8, 0, 1, 2, 7, 1, 0, 0, 1, 1, 0, 0, 10, 0, 0, 0, 2, 2, 0, 0, 9, 3, 0, 0, 3, 3, 0, 0, 11, 1, 1, 1, 12, 2, 3, 2, 13, 4, 4294967295, 1, 9, 4, 0, 0, 6, 0, 0, 0],
+        13: [20, 0, 0, 0, 1, 1, 0, 0, 4, 0, 0, 0, 21, 0, 0, 0, 3, 1, 0, 0, 11, 1, 2, 1, 22, 0, 0, 0, 3, 1, 0, 0, 12, 2, 1, 2, 23, 3, 0, 0, 8, 0, 0, 1, 9, 3, 0, 0, 5, 0, 0, 0, 1, 1, 0, 0],
+        15: [26, 2, 0, 0, 7, 1, 0, 0, 14, 1, 0, 0, 3, 2, 0, 0, 15, 0, 1, 1, 15, 1, 1, 1, 25, 1, 1, 0, 25, 2, 0, 0],
+        16: [24, 1, 0, 0, 4, 0, 0, 0, 24, 1, 0, 0, 3, 1, 0, 0, 11, 4, 1, 3]}
+ALSO = {14: (17, 18, 19, 21), 13: (22, 23), 15: (), 16: ()}
+
+
 def malformed():
-    good = {14: [8, 0, 1, 2, 7, 1, 0, 0, 1, 1, 0, 0, 10, 0, 0, 0, 2, 2, 0, 0, 9, 3, 0, 0, 3, 3, 0, 0, 11, 1, 1, 1, 12, 2, 3, 2, 13, 4, 4294967295, 1, 9, 4, 0, 0, 6, 0, 0, 0],
-            13: [20, 0, 0, 0, 1, 1, 0, 0, 4, 0, 0, 0, 21, 0, 0, 0, 3, 1, 0, 0, 11, 1, 2, 1, 22, 0, 0, 0, 3, 1, 0, 0, 12, 2, 1, 2, 23, 3, 0, 0, 8, 0, 0, 1, 9, 3, 0, 0, 5, 0, 0, 0, 1, 1, 0, 0],
-            15: [26, 2, 0, 0, 7, 1, 0, 0, 14, 1, 0, 0, 3, 2, 0, 0, 15, 0, 1, 1, 15, 1, 1, 1, 25, 1, 1, 0, 25, 2, 0, 0],
-            16: [24, 1, 0, 0, 4, 0, 0, 0, 24, 1, 0, 0, 3, 1, 0, 0, 11, 4, 1, 3]}
+    good = GOOD
     names = ('P', 'x', 'a', 'f', 'g')
-    also = {14: (17, 18, 19, 21), 13: (22, 23), 15: (), 16: ()}
+    also = ALSO
     for call, words in good.items():
         for c in (call,) + also[call]:
             yield 'well formed', Request(c, names, [words], x=1)
@@ -222,10 +228,181 @@ def schemes():
     yield 'many names', Request(27, ('x',), [[26, 2049, 0, 0, 14, 2048, 0, 0], [0] * 2049])
 
 
+# the constraints of a set by itself, for the judge too
+ALONE = ('(eq (bool) (bool))', '(eq (bool) (str))', '(eq (var x) (var x))', '(eq (var x) (var y))', '(eq (par a) (par b))', '(eq (par a) (var x))', '(eq (list (var x)) (list (bool)))',
+         '(eq (fn ((var x)) (var y)) (fn ((bool)) (var y)))', '(eq (fn () (var x)) (fn ((bool)) (var x)))', '(eq (struct P ((var x)) ((f (var x)))) (struct P ((bool)) ((g (str)))))',
+         '(eq (struct P ((var x)) ()) (struct Q ((var x)) ()))', '(eq (dim (v x 1 1)) (bool))', '(eq (dim (v x 1 1)) (var y))', '(eq (dim (v x 2 1)) (dim (v y 1 1)))', '(eq (list (dim (v x 1 1))) (list (var y)))',
+         '(eq (dim (p a 1 1)) (par a))', '(eq (dim) (dim))', '(isdim (dim))', '(isdim (bool))', '(isdim (var x))', '(isdim (par a))', '(isdim (dim (v x 1 1) (p a 1 1) (b L 1 1)))', '(isdim (list (var x)))',
+         '(scalar)', '(scalar (b L 1 1))', '(scalar (v x 1 1))', '(scalar (v x 2 1) (v y -1 1))', '(scalar (v x 1 1) (b L -1 1))', '(hasfield (struct P () ((f (bool)))) f (bool))',
+         '(hasfield (struct P () ((f (var x)))) f (var y))', '(hasfield (struct P () ((f (bool)))) g (bool))', '(hasfield (var x) f (bool))')
+BINDS = ('', '(bind x (bool))', '(bind x (var y))', '(bind y (dim (v x 2 1)))', '(bind x (dim (b L 1 1)))', '(bind x (dim (v y 1 2)))', '(bind x (var y)) (bind y (var x))', '(bind x (struct P () ((f (bool)))))',
+         '(bind x (dim)) (bind y (dim))', '(bind y (bool)) (bind x (par a))', '(bind x (dim (v x 1 1)))', '(bind x (str)) (bind y (str))')
+
+
+def judge():
+    yield 'the judge on K1', of('judge (set) (bounds)')
+    yield 'the judge on K2', of('judge (set (eq (var x) (bool))) (bind x (bool)) (bounds)')
+    yield 'the judge on K2, no', of('judge (set (eq (var x) (bool))) (bind x (str)) (bounds)')
+    yield 'the judge on K3', of('judge (set (eq (var x) (dim (v x 2 1)))) (bind x (dim)) (bounds)')
+    yield 'the judge on K5', of('judge (set (scalar (v x 2 1) (b L -3 1))) (bind x (dim (b L 3 2))) (bounds)')
+    yield 'the judge on K8', of('judge (set (isdim (dim (v x 1 1) (v y -1 1)))) (bounds x y)')
+    yield 'the judge on K10', of('judge (set (eq (dim (v x 1 1) (v y 1 1)) (dim (v x 1 1) (v z 1 1))) (eq (var x) (bool))) (bind y (var z)) (bind x (bool)) (bounds)')
+    for c in ALONE:
+        for b in BINDS:
+            yield 'judged', of('judge (set %s) %s (bounds %s)' % (c, b, 'a x y' if len(b) % 2 else ''))
+    for s in ('(isdim (var x))', '(isdim (par a))', '(isdim (dim (v x 1 1) (p a 1 1)))'):
+        for b in ('', 'x', 'a', 'a x', 'a w x', 'x a', 'x x', 'a b'):
+            yield 'bounds of the judge', of('judge (set %s) (bounds %s)' % (s, b))
+    far, many = '(bind y (dim (v z %d 1)))' % TOP, dims(40, 30)
+    for s, b in (('(eq (bool) (str)) (scalar (v y 2 1))', far), ('(scalar (v y 2 1)) (eq (bool) (str))', far), ('(eq (var x) (bool)) (scalar (v y 2 1))', far + ' (bind x (bool))'),
+                 ('(eq (dim (v y 2 1)) (dim (v x 2 1)))', far + ' (bind x (bool))'), ('(eq (dim (v x 2 1)) (dim (v y 2 1)))', far + ' (bind x (bool))'),
+                 ('(scalar (v x 1 1) %s)' % dims(30), '(bind x (dim %s))' % many), ('(scalar (v x 1 1) (v y 2 1) %s)' % dims(30), far + ' (bind x (dim %s))' % many),
+                 ('(eq (bool) (dim (v x 1 1) (v w 2 1)))', '(bind x (bool)) (bind w (dim (v z %d 1)))' % TOP), ('(hasfield (dim (v x 2 1)) f (dim (v y 2 1)))', far + ' (bind x (bool))')):
+        yield 'the first failure, 7 or 8', of('judge (set %s) %s (bounds)' % (s, b))
+    for n in (62, 63, 64):
+        yield 'nesting in the judge', of('judge (set (isdim %s)) (bind x (list (bool))) (bounds)' % nest(n, '(var x)'))
+        yield 'nesting in the judge', of('judge (set (eq (var x) (var x))) (bind x %s) (bounds)' % nest(n, '(bool)'))
+    for n in (1019, 1020, 1021, 1022, 1023):
+        q = of('judge (set (isdim (var x))) (bind x (list (bool))) (bounds)')
+        q.lists[0] = [21, 0, 0, 0, 7, n, 0, 0] + [1, 0, 0, 0] * (n + 1)
+        yield 'records in the judge', q
+    k2, t = [20, 0, 0, 0, 1, 0, 0, 0, 4, 0, 0, 0], [99, 7, 7, 7, 4, 0, 0, 0, 3, 1, 0, 0, 11, 0, 1, 1, 8, 2, 0, 1, 9, 2, 0, 0, 4, 0, 0, 0]
+    names = ('x', 'y', 'P')
+    for e in ([0, 1], [0, 0], [0, 2], [0, 3], [0, 4], [0, 5], [0, 6], [0, 7], [0, 8], [0, 4294967295], [0, 1, 1, 1], [0, 1, 0, 1], [0, 1, 0, 2], [1, 0], [3, 1], [256, 1], [4294967295, 1], [0, 1, 1], [0, 1, 1, 6, 2, 4], [0]):
+        yield 'places', Request(28, names, [k2, e, t, []])
+    for types in (t + [4], t + [4, 0], t[:-1], [], [4, 0, 0], [10, 0, 0, 0]):
+        yield 'a list of types', Request(28, names, [k2, [0, 1] if len(types) > 8 else [0, 0], types, []])
+    for d in ([25, 0, 0, 0], [25, 0, 1, 0], [25, 0, 0, 1], [25, 3, 0, 0], [24, 0, 0, 0], [25, 0, 0], [25, 0, 0, 0, 25, 1, 0, 0], [25, 1, 0, 0, 25, 0, 0, 0], [25, 0, 0, 0] * 2, [25, 0, 0, 0, 4, 0, 0, 0]):
+        yield 'bounds of the judge', Request(28, names, [k2, [0, 1], t, d])
+    for s, e, w, d in (([2, 0, 0, 0], [0, 1], t, []), ([1, 0, 0, 0], [0, 0], [2, 0, 0, 0], []), ([1, 0, 0, 0], [0, 0], [2, 1, 0, 0], []), ([1, 0, 0, 0], [0, 0, 1, 0], [2, 1, 0, 0], []), ([1, 0, 0, 0], [1, 0], [2, 0, 0, 0], []),
+                       ([1, 0, 0, 0], [], [2, 0, 0, 0], []), ([1, 0, 0, 0], [], [], [25, 1, 0, 0])):
+        yield 'a name is both, for the judge', Request(28, names, [[21, 0, 0, 0] + s, e, w, d])
+    many = ['n%03d' % i for i in range(256)]
+    for n in (256, 2048, 2049, 5120):
+        yield 'many entries', Request(28, many, [k2, [w for i in range(n) for w in (i % 256, 0)], [4, 0, 0, 0], []])
+        yield 'many entries', Request(28, many, [k2, [w for i in range(n) for w in (i, 0)], [4, 0, 0, 0], []])
+    for n in (2048, 2049):
+        yield 'long lists of the judge', Request(28, many, [k2, [0, 0], [4, 0, 0, 0] * n, []])
+        yield 'long lists of the judge', Request(28, many, [k2, [0, 0], [4, 0, 0, 0], [25, 0, 0, 0] * n])
+        yield 'long lists of the judge', Request(28, many, [[21, 0, 0, 0, 7, n - 3, 0, 0] + [4, 0, 0, 0] * (n - 2), [0, 0], [4, 0, 0, 0], []])
+    for w in (0, 16383, 16384, 20000):
+        yield 'what the judge is lent', Request(28, names, [k2, [0, 1], t, []], work=w)
+        yield 'what the judge is lent', Request(28, names, [k2, [0, 0], t, []], work=w, result=0)
+    for pool, table in ((8191, 257), (8192, 256), (8192, 257)):
+        yield 'what the judge is lent', Request(28, pool=bytes(pool), table=[0] * table, whole=0)
+
+
+def sheets():
+    """the ceiling, and several sets in one call"""
+    for c in ALONE:
+        yield 'the ceiling', of('ceiling ' + c)
+    many = ['n%03d' % i for i in range(256)]
+    for s in ('', '(eq (var x) (var y)) (scalar (v z 1 1) (v x 2 1) (p a 1 1) (b y 1 1))', '(eq (var x) (par x))', '(hasfield (struct P ((var x)) ((f (var y)))) f (fn ((var z) (var x)) (dim (v w 1 2))))'):
+        yield 'the ceiling', of('ceiling ' + s)
+    for n in (255, 256):
+        yield 'the ceiling of many variables', Request(29, many, [[20, 0, 0, 0, 7, n - 1, 0, 0] + [w for i in range(n) for w in (1, i, 0, 0)] + [4, 0, 0, 0]])
+    for n in (2048, 2049):
+        yield 'the ceiling of a long list', Request(29, ('x',), [[21, 0, 0, 0, 7, n - 3, 0, 0] + [1, 0, 0, 0] * (n - 2)])
+    for l in ([20, 0, 0, 0, 1, 0, 0, 0], [99, 0, 0, 0], [21, 0, 0, 0, 1, 1, 0, 0], [21, 0, 0]):
+        yield 'the ceiling of what is no set', Request(29, ('x',), [l])
+    for pool, table in ((8191, 257), (8192, 256), (8192, 257)):
+        yield 'what the ceiling is lent', Request(29, pool=bytes(pool), table=[0] * table, whole=0, result=0, work=0)
+    sets = ['(set)', '(set (eq (var x) (bool)))', '(set (eq (list (var x)) (var x)))', '(set (isdim (dim (v x 1 1) (v y -1 1))))', '(set (eq (var x) (par x)))', '(set (eq (var x) (dim (v x 2 1))))',
+            '(set (eq (var y) (dim (v x 2 1))) (eq (var x) (bool)))', '(set (scalar (v x 1 2) (v y 2147483647 1)))']
+    yield 'several sets', of('batch')
+    for i, s in enumerate(sets):
+        yield 'several sets', of('batch ' + s)
+        yield 'several sets', of('batch %s %s' % (s, sets[i - 1]))
+        yield 'several sets', of('batch %s %s %s' % (s, sets[i - 3], s))
+    yield 'several sets', of('batch ' + ' '.join(sets))
+    two, k2 = 'batch %s %s' % (sets[3], sets[1]), [20, 0, 0, 0, 1, 0, 0, 0, 4, 0, 0, 0]
+    for n in (0, 1, 7, 8, 9, 12):
+        yield 'room for answers', of(two, x=n, result=n + 16384)
+    for n in (8, 9, 16390, 16391, 16392, 16400):
+        yield 'room for several sets', of(two, result=n)
+    for n in (0, 16383, 16384):
+        yield 'work for several sets', of(two, work=n)
+    for lengths in ([], [3], [6], [7], [3, 2], [3, 3], [4, 3], [2, 4], [0, 6], [6, 0], [0, 6, 0], [5, 1], [3, 3, 4294967295], [1073741824, 6], [4294967295, 7], [2147483648, 2147483648, 6]):
+        q = Request(30, ('x',), [k2 + k2, lengths], x=4 * len(lengths), result=4 * len(lengths) + 8192 * len(lengths))
+        yield 'lengths', q
+        if len(lengths) == 2:
+            yield 'lengths', Request(30, ('x',), [k2 + k2 + [0], lengths], x=8, result=q.result)
+    for bad in ([99, 0, 0, 0], [20, 0, 0, 0, 1, 1, 0, 0, 4, 0, 0, 0], [1, 0, 0, 0], [22, 0, 0, 0, 4, 0, 0, 0], [26, 0, 0, 0, 4, 0, 0, 0]):
+        yield 'one of several is no set', Request(30, ('x',), [k2 + bad + k2, [3, len(bad) // 4, 3]], x=12, result=12 + 24576)
+    long = [21, 0, 0, 0, 7, 2046, 0, 0] + [1, 0, 0, 0] * 2047
+    yield 'one of several is too long', Request(30, ('x',), [k2 + long + k2, [3, 2049, 3]], x=12, result=12 + 24576)
+    yield 'one of several is too long', Request(30, ('x',), [k2 + [21, 0, 0, 0, 7, 2045, 0, 0] + [1, 0, 0, 0] * 2046 + k2, [3, 2048, 3]], x=12, result=12 + 24576)
+    for n in (63, 64, 65):
+        yield 'sets in one call', Request(30, ('x',), [k2 * n, [3] * n], x=4 * n, result=8196 * n)
+        yield 'sets in one call', Request(30, ('x',), [k2 * n, [3] * n], x=4 * n, result=8196 * n - 1)
+    yield 'sets in one call', Request(30, ('x',), [k2 * 64, [3] * 64], x=512, result=533504)
+    for t in ([1, 0], [2, 2, 1], [257]):
+        yield 'several sets over no table', Request(30, pool=b'xy', table=t, lists=[k2 + k2, [3, 3]], x=8, result=16392)
+    for pool, table in ((8191, 257), (8192, 256), (8192, 257)):
+        yield 'several sets over no table', Request(30, pool=bytes(pool), table=[0] * table, whole=0, lists=[[], [0, 0]], x=8, result=16392)
+
+
+def kinds_differ():
+    """W-205: where kinds differ, one variable to the power 1 counts as a variable, on either side"""
+    for t in ('(bool)', '(list (var y))', '(fn () (bool))', '(struct P () ())', '(var y)', '(par b)'):
+        for d in ('(dim (v x 1 1))', '(dim (v x 2 1))', '(dim (v x 1 1) (v y 1 1))', '(dim (p a 1 1))', '(dim)'):
+            yield 'a dimension and another kind', of('add (eq %s %s)' % (d, t))
+            yield 'a dimension and another kind', of('add (eq (var w) (bool)) (eq %s %s)' % (t, d))
+
+
+def same_meaning():
+    """for the judge one variable to the power 1 means that variable, and a struct means its name and arguments"""
+    for a, b, bind in (('(dim (v x 1 1))', '(var x)', ''), ('(list (dim (v x 1 1)))', '(list (var x))', ''), ('(dim (v x 2 1))', '(var x)', ''), ('(dim (v x 1 1))', '(dim (v x 1 1))', ''), ('(var y)', '(var x)', '(bind y (dim (v x 1 1)))'),
+                       ('(fn ((var y)) (bool))', '(fn ((var x)) (bool))', '(bind y (dim (v x 1 1)))'), ('(dim (v x 1 1) (v y 1 1))', '(dim (v x 1 1) (v y 1 1))', ''), ('(dim (v x 1 1) (v y 1 1))', '(var x)', ''), ('(dim (p a 1 1))', '(par a)', ''),
+                       ('(dim (b L 1 1))', '(var x)', ''), ('(struct P ((bool)) ((f (str))))', '(struct P ((bool)) ())', ''), ('(struct P () ((f (var x)) (g (bool))))', '(struct P () ())', ''), ('(struct P ((bool)) ())', '(struct P ((bool) (str)) ())', ''),
+                       ('(struct P ((bool)) ((f (str))))', '(struct P ((bool) (str)) ((f (str))))', ''), ('(struct P ((bool)) ((f (str))))', '(struct P ((str)) ((f (str))))', ''), ('(list (struct P ((var x)) ((f (date)))))', '(list (struct P ((bool)) ()))', '(bind x (bool))')):
+        yield 'meaning the same', of('judge (set (eq %s %s)) %s (bounds)' % (a, b, bind))
+        yield 'meaning the same', of('judge (set (eq %s %s)) %s (bounds)' % (b, a, bind))
+        yield 'meaning the same', of('judge (set (hasfield (struct Q () ((f %s) (g (bool)))) f %s)) %s (bounds)' % (a, b, bind))
+
+
+def parameters_stay():
+    for t in ('(fn ((q 0)) (par a))', '(dim (q 0 1 1) (p a 1 1))', '(dim (p a 1 1))', '(struct P ((par x)) ((f (q 0)) (g (par a))))', '(fn ((par a) (var y)) (dim (v y 1 1) (p x 2 1)))'):
+        for n in ('x', 'a', 'y'):
+            yield 'instantiating beside parameters', of('instantiate (scheme 1 %s (bounds a (q 0))) (names %s)' % (t, n))
+
+
+def new_records():
+    """constraints that a split makes, alone over 2,048 records: 3 a parameter"""
+    for n in (680, 681, 682, 683):
+        f = lambda w: [7, n, 0, 0] + w * (n + 1)
+        yield 'records of new constraints', Request(23, ('x', 'P'), [[20, 0, 0, 0] + f([1, 0, 0, 0]) + f([4, 0, 0, 0])])
+        yield 'records of new constraints', Request(23, ('x', 'P'), [[20, 0, 0, 0] + f([8, 1, 0, 0]) + f([5, 0, 0, 0])])
+        yield 'records of new constraints', Request(23, ('x', 'P'), [[20, 0, 0, 0, 8, 1, n, 0] + [1, 0, 0, 0] * n + [8, 1, n, 0] + [6, 0, 0, 0] * n])
+
+
+def false_lengths():
+    """one record says a false length (W-206): always 1"""
+    names = ('P', 'x', 'a', 'f', 'g')
+    for call, words in GOOD.items():
+        right = Request(call, names, [words]).sent()[0]
+        for i in range(0, len(right), 4):
+            for by in (1, -1, 2048, -(right[i] // 65536)):
+                for c in (call,) + ALSO[call]:
+                    q = Request(c, names, [right[:i] + [right[i] + by * 65536 & 0xffffffff] + right[i + 1:]], x=1)
+                    q.ready = True
+                    yield 'a false length', q
+    for i, (call, lists) in enumerate(((21, [[1, 1, 0, 0], [24, 1, 0, 0, 4, 0, 0, 0]]), (25, [[1, 1, 0, 0], [25, 1, 0, 0], [1]]), (26, [[26, 0, 1, 0, 1, 1, 0, 0], [25, 1, 0, 0]]), (27, [[26, 1, 0, 0, 14, 0, 0, 0, 25, 0, 1, 0], [1]]),
+                                       (20, [[21, 0, 0, 0, 1, 1, 0, 0], [21, 0, 0, 0, 1, 1, 0, 0]]), (28, [[21, 0, 0, 0, 1, 1, 0, 0], [1, 0], [10, 0, 0, 0, 4, 0, 0, 0], [25, 1, 0, 0]]), (29, [[21, 0, 0, 0, 1, 1, 0, 0]]),
+                                       (30, [[21, 0, 0, 0, 1, 1, 0, 0] * 2, [2, 2]]))):
+        for k in requests.RECORDS[call]:
+            for at in range(0, len(lists[k]), 4):
+                q = Request(call, names, lists, x=2 if call == 20 else 8, result=8192 if call != 30 else 16392)
+                q.lists, q.ready = [list(l) for l in q.sent()], True
+                q.lists[k][at] += 65536
+                yield 'a false length', q
+
+
 def cases(last=24):
     out = [(why, of(line)) for why, line in rules()]
     # the same with other numbers: the first name isn't number 0
     out += [(why + ', other numbers', of(line, order=('L', 'f', 'y', 'b', 'P', 'a', 'x'))) for why, line in rules() if line.split()[0] in ('solve', 'vars', 'replaceset')]
-    for part in (values(), names(), limits(), malformed()) + ((schemes(),) if last >= 25 else ()):
+    parts = [values(), names(), limits(), malformed()] + [schemes()] * (last >= 25) + [judge()] * (last >= 28) + [sheets()] * (last >= 29) + [kinds_differ(), same_meaning(), parameters_stay(), new_records()] + [false_lengths()] * requests.LENGTHS
+    for part in parts:
         out += list(part)
     return [(why, q) for why, q in out if q.call <= last and max(map(len, q.lists)) <= 10240]

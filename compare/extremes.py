@@ -1,6 +1,6 @@
 #!/usr/bin/env python3
-"""Time and stack of the compiled calls at their limits: extremes.py [SERVE]. A call's stack is what `serve` needs for it beyond what it needs for comparing
-two names; its time is that of a request, with reading, clearing the buffers and answering."""
+"""Time and stack of the compiled calls at their limits: extremes.py [SERVE] [--lengths]. A call's stack is what `serve` needs for it beyond what it needs for comparing
+two names with a result buffer of that kind (the usual or the large one); its time is that of a request, with reading, clearing the buffers and answering."""
 import os, resource, subprocess, sys
 HERE = os.path.dirname(os.path.abspath(__file__))
 sys.path.insert(0, HERE)
@@ -38,6 +38,18 @@ def cases():
     yield 'a type nested 64 deep', of('closed ' + nest(63, '(bool)'))
     yield 'variables of a type with 255 names', Request(19, full, [[7, 254, 0, 0] + [w for i in range(255) for w in (1, 254 - i, 0, 0)]], y=1)
     yield 'add to a set of 2,040 records', Request(20, ('x',), [[21, 0, 0, 0, 1, 0, 0, 0] * 1020, [21, 0, 0, 0, 1, 0, 0, 0]], x=2040)
+    fn = [7, 2040, 0, 0] + [1, 0, 0, 0] * 2041
+    yield 'judge a function of 2,040 parameters', Request(28, ('x',), [[21, 0, 0, 0] + fn, [0, 0], [4, 0, 0, 0], []])
+    yield 'judge 682 equalities of 250 variables', Request(28, v, [words, [w for i in range(250) for w in (i, 0)], [4, 0, 0, 0], []])
+    yield 'judge 682 equalities of two types of 1,021 records', Request(28, v, [[20, 0, 0, 0, 1, 0, 0, 0, 1, 1, 0, 0] * 682, [0, 0, 1, 0], [7, 1019, 0, 0] + [4, 0, 0, 0] * 1020, []])
+    yield 'judge 31 products of 64 factors', of('judge (set %s) %s (bounds)' % (' '.join('(scalar %s)' % ' '.join('(v z%02d 1 1)' % i for i in range(64)) for _ in range(31)), ' '.join('(bind z%02d (dim %s))' % (i, dims(28, 0, '%d 1' % (1 - 2 * (i % 2)))) for i in range(64))))
+    yield 'judge 5,120 entries', Request(28, full, [[], [w for i in range(5120) for w in (i, 0)], [4, 0, 0, 0], []])
+    yield 'judge 256 entries, the last of which is one of the others', Request(28, full, [[], [w for i in list(range(255)) + [0] for w in (i, 0)], [4, 0, 0, 0], []])
+    yield 'the ceiling of 256 variables', Request(29, full, [[20, 0, 0, 0, 7, 255, 0, 0] + [w for i in range(256) for w in (1, i, 0, 0)] + [4, 0, 0, 0]])
+    double = [w for i in range(7) for w in (20, 0, 0, 0, 1, i, 0, 0, 7, 1, 0, 0, 1, i + 1, 0, 0, 1, i + 1, 0, 0)]
+    yield '64 sets in one call, each of 7 doublings', Request(30, v, [double * 64, [35] * 64], x=256, result=256 + 64 * 8192)
+    yield '1 set of 2,046 records by that call', Request(30, v, [words, [2046]], x=4, result=8196)
+    yield '2 sets by that call, one of 2,046 records', Request(30, v, [words + words[:1500], [2046, 375]], x=8, result=16392)
     yield 'multiply two products of 64 factors', of('prod mul (dim %s) (dim %s)' % (dims(64, 0, '3 7'), dims(64, 0, '5 11')))
 
 
@@ -68,8 +80,10 @@ def stack_of(serve, data):
 
 
 def main():
-    serve = sys.argv[1] if len(sys.argv) > 1 else os.path.join(HERE, '../target/bin/serve')
-    base = None
+    args = requests.switches(sys.argv[1:])
+    serve = args[0] if args else os.path.join(HERE, '../target/bin/serve')
+    # what comparing two names needs
+    base = {large: stack_of(serve, Request(4, (), [[97], [98]], result=9217 if large else 9216).bytes()) for large in (False, True)}
     print('| call | records | refusal | rounds | time of a request | stack |\n|---|---|---|---|---|---|')
     for what, q in cases():
         one = q.bytes()
@@ -77,9 +91,8 @@ def main():
         n = 20
         best = min((cpu(serve, one * (n + 1)) - cpu(serve, one)) / n for _ in range(3))
         s = stack_of(serve, one)
-        base = base or s
-        print('| %s | %d | %d | %d | %.2f ms | %d KB |' % (what, len(q.lists[0]) // 4, r[0], r[3], best * 1000, (s - base) // 1024), flush=True)
-    print('\nThe program itself needs %d KB.' % (base // 1024))
+        print('| %s | %d | %d | %d | %.2f ms | %d KB |' % (what, len(q.lists[0]) // 4, r[0], r[3], best * 1000, (s - base[q.result > 9216]) // 1024), flush=True)
+    print('\nThe program itself needs %d KB, with a large result buffer %d KB.' % (base[False] // 1024, base[True] // 1024))
 
 
 if __name__ == '__main__':

@@ -1,5 +1,5 @@
 #!/usr/bin/env python3
-"""Wrong code must be noticed: mutants.py [--serve FILE] [NAME..]
+"""Wrong code must be noticed: mutants.py [--serve FILE] [--lengths] [NAME..]
 Each must-fail edit of code that `serve` reaches is put into a copy of crates/, compiled unproved (unproved.sh) and sent the edge cases; a mutant
 is noticed at the first case that it answers otherwise than the real program. Prints a line for each: the edit, and how many cases it took."""
 import glob, os, re, shutil, subprocess, sys, tempfile
@@ -10,7 +10,11 @@ ROOT = os.path.dirname(HERE)
 
 
 def answers(program, data):
-    return subprocess.run([program], input=data, stdout=subprocess.PIPE, stderr=subprocess.DEVNULL, timeout=600).stdout
+    """what it writes: of a program that doesn't end, what it wrote in two minutes"""
+    try:
+        return subprocess.run([program], input=data, stdout=subprocess.PIPE, stderr=subprocess.DEVNULL, timeout=120).stdout
+    except subprocess.TimeoutExpired as e:
+        return e.stdout or b''
 
 
 def edit(path):
@@ -32,7 +36,7 @@ def reached(crate):
 
 
 def main():
-    args = sys.argv[1:]
+    args = requests.switches(sys.argv[1:])
     serve = os.path.join(ROOT, 'target/bin/serve')
     if '--serve' in args:
         i = args.index('--serve')

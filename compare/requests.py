@@ -6,8 +6,43 @@ import model
 CALLS = {'check_table': 1, 'name_of': 2, 'enter': 3, 'compare': 4, 'exp add': 5, 'exp mul': 6, 'exp neg': 7, 'exp div': 8,
          'prod mul': 9, 'prod div': 10, 'prod inv': 11, 'prod pow': 12, 'is_set': 13, 'is_type': 14, 'is_scheme': 15, 'is_bindings': 16,
          'contains': 17, 'closed': 18, 'vars': 19, 'add': 20, 'replace': 21, 'replaceset': 22, 'solve': 23, 'lent': 24,
-         'quantify': 25, 'generalize': 26, 'instantiate': 27, 'judge': 28}
+         'quantify': 25, 'generalize': 26, 'instantiate': 27, 'judge': 28, 'ceiling': 29, 'batch': 30}
 RESULT_WAS, WORK_WAS = 0xaaaaaaaa, 0x55555555
+
+# ---- word 0 of a record: the only place that knows its form
+
+LENGTHS = False    # it carries the length of its part (W-206)
+# which lists of a call are records
+RECORDS = {**{n: (0,) for n in (13, 14, 15, 16, 17, 18, 19, 23, 27, 29, 30)}, **{n: (0, 1) for n in (20, 21, 22, 25, 26)}, 28: (0, 2, 3)}
+
+
+def switches(argv):
+    """the other words, with --lengths taken as a switch"""
+    global LENGTHS
+    LENGTHS = LENGTHS or '--lengths' in argv
+    return [a for a in argv if a != '--lengths']
+
+
+def head(kind, n):
+    """word 0 of a record of this kind whose part has so many records"""
+    return kind + 65536 * n & 0xffffffff if LENGTHS else kind
+
+
+def inner(kind, a, b, c, behind):
+    """how many parts, of those that stand behind it, belong to a record"""
+    return {3: a, 7: a + 1, 8: b + c, 9: 1, 10: 1, 20: 2, 21: 1, 22: 1, 23: 2, 24: 1, 26: behind}.get(kind, 0)
+
+
+def measured(ws):
+    """a list that was written with kinds alone, as it is sent. A part that is cut off goes as far as the list"""
+    out, parts = list(ws), []
+    for i in range(len(ws) // 4 * 4 - 4, -1, -4):
+        n = min(inner(*ws[i:i + 4], len(parts)), len(parts))
+        own = 1 + sum(parts[len(parts) - n:])
+        del parts[len(parts) - n:]
+        parts.append(own)
+        out[i] = head(ws[i], own)
+    return out
 
 
 class Request:
@@ -23,10 +58,17 @@ class Request:
         self.table = ends if table is None else table
         self.lists = [list(l) for l in lists] + [[]] * (4 - len(lists))
         self.result, self.work, self.whole, self.work_was = result, work, whole, work_was
+        self.ready = False    # the lists are as they are sent
+
+    def sent(self):
+        """the lists as they are sent"""
+        if self.ready or not LENGTHS:
+            return self.lists
+        return [measured(l) if i in RECORDS.get(self.call, ()) else l for i, l in enumerate(self.lists)]
 
     def bytes(self):
         body = bytes(self.pool) + bytes(-len(self.pool) % 4)
-        for ws in [self.table] + self.lists:
+        for ws in [self.table] + self.sent():
             body += array('I', ws).tobytes()
         a, b, c, d = map(len, self.lists)
         return struct.pack('<16I', len(body), self.call, self.x & 0xffffffff, self.y & 0xffffffff, RESULT_WAS, self.result, self.work_was, self.work,
@@ -36,7 +78,7 @@ class Request:
 def replies(data):
     """each answer: refusal, value, more, rounds, flags, words"""
     out, at = [], 0
-    while at < len(data):
+    while at + 28 <= len(data):
         size, *head, n = struct.unpack_from('<7I', data, at)
         out.append((*head, array('I', data[at + 28:at + 28 + 4 * n]).tolist()))
         at += size
@@ -61,7 +103,7 @@ def unpack(data):
     for n in (h[9], h[10], h[11], h[13], h[14]):
         parts.append(array('I', data[at:at + 4 * n]).tolist())
         at += 4 * n
-    q.table, q.lists = parts[0], parts[1:]
+    q.table, q.lists, q.ready = parts[0], parts[1:], True
     return q
 
 
@@ -137,8 +179,19 @@ def of(line, order=(), **more):
         c, p = 'prod ' + a[0], w.factors(model.rd(a[1])[1])
         q = [int(n) & 0xffffffff for n in a[2:]] if a[0] == 'pow' else w.factors(model.rd(a[2])[1]) if len(a) > 2 else []
         lists, x, y = [p, q], len(p) // 4, 0 if a[0] == 'pow' else len(q) // 4
-    elif c in ('solve', 'is_set'):
+    elif c in ('solve', 'is_set', 'ceiling'):
         lists = [w.set(a)]
+    elif c == 'judge':    # the set, bindings, bounds
+        lists = [w.set(a[0][1:]), [], [], []]
+        for b in a[1:-1]:
+            lists[1] += [w.number(b[1]), len(lists[2]) // 4]
+            lists[2] += w.type(model.rd(b[2]))
+        lists[3] = w.bounds(a[-1])
+    elif c == 'batch':    # sets
+        sets = [w.set(s[1:]) for s in a]
+        lists = [[n for s in sets for n in s], [len(s) // 4 for s in sets]]
+        x = 4 * len(sets)
+        more.setdefault('result', x + 8192 * len(sets))
     elif c == 'is_bindings':
         lists = [w.bindings(a)]
     elif c == 'is_scheme':

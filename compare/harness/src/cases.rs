@@ -1,6 +1,7 @@
 //! Random requests. The kinds: small (few names that often meet), rich (many names, some that differ little), structs (arguments and fields that don't
 //! agree), wide (powers near the ends of the range), shared (names that are variable and parameter), limits (sizes near the limits),
-//! damaged (words, lengths and tables that are wrong in one place or two), names (tables and names alone).
+//! damaged (words, lengths and tables that are wrong in one place or two), names (tables and names alone), lengths (one record of a good request says a
+//! false length, where records carry it).
 use crate::arithmetic::Exponent;
 use crate::random::Random;
 use crate::records::{self, Names};
@@ -13,7 +14,6 @@ use crate::typed_ast::{DType, DTypeFactor, StructInfo, StructKind, Type};
 use crate::wire::Request;
 use std::sync::Arc;
 
-pub const KINDS: [&str; 8] = ["small", "rich", "structs", "wide", "shared", "limits", "damaged", "names"];
 pub struct Gen { pub r: Random, v: Vec<String>, p: Vec<String>, b: Vec<String>, f: Vec<String>, structs: bool, wide: bool, rich: bool, kind: String, pub calls: u32 }
 fn list(s: &[&str]) -> Vec<String> { s.iter().map(|s| s.to_string()).collect() }
 fn span() -> Span { Span { start: ByteIndex(0), end: ByteIndex(0), code_source_id: 0 } }
@@ -207,7 +207,24 @@ impl Gen {
                 q.x = l[0].len() as u32 / 4;
                 if call == 12 { let e = if self.r.chance(10) { Exponent::new(0, 1) } else { self.power() }; l[1].extend(records::signed(&e)) } else if call != 11 { l[1] = records::factors(&y, &mut nm); q.y = l[1].len() as u32 / 4 }
             }
-            13 | 23 => { let cs = if limits { self.large() } else { self.cons() }; for c in &cs { records::write_con(c, &mut nm, &mut l[0]) } }
+            30 => {
+                let n = *self.r.pick(&[0, 1, 2, 2, 2, 3, 3, 4, 5, 8, 63, 64, 65]);
+                for _ in 0..n {
+                    let cs = if limits && self.r.chance(20) { self.large() } else if n > 60 { let n = self.r.below(3); (0..n).map(|_| self.con()).collect() } else { self.cons() };
+                    let at = l[0].len();
+                    for c in &cs { records::write_con(c, &mut nm, &mut l[0]) }
+                    // a set that is refused doesn't stop the others
+                    if self.r.chance(6) { l[0].extend([99, 0, 0, 0]) }
+                    l[1].push((l[0].len() - at) as u32 / 4);
+                }
+                if n > 0 && self.r.chance(4) { let i = self.r.below(n); l[1][i] = l[1][i].wrapping_add(*self.r.pick(&[1, 2, 1 << 30, u32::MAX])) }
+                // what is lent is sometimes more than asked, or too short by one word
+                q.x = 4 * n as u32 + *self.r.pick(&[0, 0, 0, 0, 1, 4, 9]);
+                if q.x > 0 && self.r.chance(3) { q.x = 4 * n as u32 - (n > 0) as u32 }
+                q.result.1 = q.x + 8192 * n as u32 + *self.r.pick(&[0, 0, 0, 0, 1, 500]);
+                if self.r.chance(3) { q.result.1 -= 1.min(q.result.1) }
+            }
+            13 | 23 | 29 => { let cs = if limits { self.large() } else { self.cons() }; for c in &cs { records::write_con(c, &mut nm, &mut l[0]) } }
             14 | 17 | 18 | 19 => {
                 let t = if limits { let t = self.ty(2, 0); let n = 55 + self.r.below(12); self.nest(n, t) } else { self.ty(2, 0) };
                 records::write(&t, &mut nm, &mut l[0]);
@@ -248,8 +265,7 @@ impl Gen {
                 for _ in 0..*self.r.pick(&[0, 1, 1, 1, 2, 3]) {
                     let v = self.var();
                     let t = if limits && self.r.chance(50) { let n = self.r.below(66); Type::Dimension(self.long(n, 20, None)) } else { self.ty(1, 0) };
-                    l[k].extend([24, nm.of(&v), 0, 0]);
-                    records::write(&t, &mut nm, &mut l[k]);
+                    records::write_binding(&TypeVariable::new(v.as_str()), &t, &mut nm, &mut l[k]);
                 }
             }
             28 => {
@@ -266,7 +282,7 @@ impl Gen {
                 if !bs.is_empty() && self.r.chance(10) { let i = self.r.below(bs.len()); bs[i].1 = self.ty(1, 0) }
                 if self.r.chance(15) { let n = self.any(); bounds.push(n) }
                 if !self.r.chance(3) { bounds.sort(); bounds.dedup() }
-                for n in &bounds { l[3].extend([25, nm.of(n), 0, 0]) }
+                for n in &bounds { records::write_bound(&TypeVariable::new(n.as_str()), &mut nm, &mut l[3]) }
                 self.r.shuffle(&mut bs);
                 if !self.r.chance(3) { bs.dedup_by(|a, b| a.0 == b.0) }
                 for (v, t) in &bs {
@@ -292,6 +308,8 @@ impl Gen {
     const CALLS: [u32; 40] = [23, 23, 23, 23, 23, 23, 23, 23, 23, 23, 23, 23, 20, 20, 20, 21, 21, 21, 22, 22, 22, 17, 18, 19, 5, 6, 7, 8, 9, 10, 11, 12, 13, 25, 25, 26, 26, 27, 27, 23];
     fn call(&mut self) -> u32 {
         if self.calls >> 28 & 1 == 1 && self.r.chance(10) { return 28; }
+        if self.calls >> 29 & 1 == 1 && self.r.chance(2) { return 29; }
+        if self.calls >> 30 & 1 == 1 && self.r.chance(2) { return 30; }
         loop {
             let c = *self.r.pick(&Self::CALLS);
             if self.calls >> c & 1 == 1 { return c; }
@@ -301,8 +319,31 @@ impl Gen {
         match self.kind.as_str() {
             "names" => self.naming(),
             "damaged" => self.damaged(),
+            "lengths" => self.false_length(),
             _ => { let c = self.call(); let (q, _) = self.request(c); if q.table.len() > 257 || q.pool.len() > 8192 || q.lists.iter().any(|l| l.len() > 10240) { return self.next(); } q }
         }
+    }
+    /// which lists of a call are records
+    pub fn record_lists(call: u32) -> &'static [usize] {
+        match call { 13..=19 | 23 | 27 | 29 | 30 => &[0], 20 | 21 | 22 | 25 | 26 => &[0, 1], 28 => &[0, 2, 3], _ => &[] }
+    }
+    fn change_length(&mut self, l: &mut [u32]) {
+        let i = self.r.below(l.len() / 4) * 4;
+        let by = *self.r.pick(&[1u32, 1, u32::MAX, u32::MAX, 2, 7, 2048, 65535]);
+        l[i] = l[i].wrapping_add(by.wrapping_mul(65_536));
+    }
+    fn false_length(&mut self) -> Request {
+        let k = *self.r.pick(&["small", "small", "rich", "structs", "wide"]);
+        let mut g = Gen::new(k, self.r.next(), self.calls);
+        let c = if self.r.chance(30) { *self.r.pick(&[13, 14, 15, 16]) } else { g.call() };
+        let (mut q, _) = g.request(c);
+        let full: Vec<usize> = Self::record_lists(c).iter().copied().filter(|i| q.lists[*i].len() > 3).collect();
+        if full.is_empty() { return self.false_length(); }
+        let i = *self.r.pick(&full);
+        let mut l = std::mem::take(&mut q.lists[i]);
+        self.change_length(&mut l);
+        q.lists[i] = l;
+        q
     }
     fn naming(&mut self) -> Request {
         let mut q = Request::new(*self.r.pick(&[1, 2, 3, 3, 3, 3, 4]));
@@ -366,7 +407,7 @@ impl Gen {
             if m < 60 && !full.is_empty() {
                 let l = &mut q.lists[*self.r.pick(&full)];
                 let i = self.r.below(l.len());
-                match self.r.below(9) {
+                match self.r.below(if records::lengths() { 11 } else { 9 }) {
                     0 => l[i] = self.r.below(30) as u32,
                     1 => l[i] = l[i].wrapping_add(1),
                     2 => l[i] = l[i].wrapping_sub(1),
@@ -375,7 +416,8 @@ impl Gen {
                     5 => { l.pop(); }
                     6 => { l.truncate(i / 4 * 4) }
                     7 => { let w: Vec<u32> = l[i / 4 * 4..(i / 4 * 4 + 4).min(l.len())].to_vec(); l.extend(w) }
-                    _ => { let j = self.r.below(l.len()); l.swap(i, j) }
+                    8 => { let j = self.r.below(l.len()); l.swap(i, j) }
+                    _ => if l.len() > 3 { let j = (i / 4 * 4).min(l.len() - 4); l[j] = l[j].wrapping_add(*self.r.pick(&[65_536, 0u32.wrapping_sub(65_536), 131_072])) },
                 }
             } else if m < 75 { self.shorten(&mut q) } else if m < 88 { self.damage_table(&mut q) } else if m < 93 { q.x = self.r.next() as u32 } else if m < 96 && !full.is_empty() {
                 let l = &mut q.lists[*self.r.pick(&full)];

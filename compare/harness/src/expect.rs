@@ -8,7 +8,7 @@ use crate::typechecker::constraints::{Constraint, ConstraintSet, ConstraintSolve
 use crate::typechecker::qualified_type::{Bound, QualifiedType};
 use crate::typechecker::substitutions::{ApplySubstitution, Substitution};
 use crate::typechecker::type_scheme::{TypeScheme, access::instantiate_with};
-use crate::typed_ast::{DType, Type};
+use crate::typed_ast::{DType, DTypeFactor, StructKind, Type};
 use crate::wire::{Reply, Request};
 use std::cell::{Cell, RefCell};
 use std::panic::{AssertUnwindSafe, catch_unwind};
@@ -78,9 +78,9 @@ pub fn set_alone(q: &Request, r: &Reply) -> bool {
     buffer[n..].iter().all(|w| *w == q.result.0)
 }
 /// the whole answer, with the flags for the buffers
-pub fn expect(q: &Request) -> Expected {
-    let mut e = plain(q);
-    let uses_work = matches!(q.call, 21 | 22 | 23 | 25 | 26 | 27 | 28);
+pub fn expect(q: &Request) -> Expected { flagged(q, plain(q)) }
+fn flagged(q: &Request, mut e: Expected) -> Expected {
+    let uses_work = matches!(q.call, 21 | 22 | 23 | 25 | 26 | 27 | 28 | 30);
     let ten = e.reply.refusal == 10;
     let zero = uses_work && !ten;
     let empty = q.work.1 == 0;
@@ -121,7 +121,7 @@ fn plain(q: &Request) -> Expected {
     if uses_result && q.result.1 < 8192 || uses_work && q.work.1 < 16384 { return no(10); }
     // 8
     let long = match q.call {
-        13..=19 | 23 => a.len() > 8192,
+        13..=19 | 23 | 29 => a.len() > 8192,
         20 => q.x > 2048 || b.len() > 8192,
         21 | 22 | 26 => a.len() > 8192 || b.len() > 8192,
         28 => a.len() > 8192 || b.len() / 2 > 2048 || c.len() > 8192 || d.len() > 8192,
@@ -171,7 +171,7 @@ fn value(l: &[u32], n: u32, nm: &Names) -> Option<DType> {
     let mut w = l.to_vec();
     w.resize(256, 0);
     let mut r = Reader::new(&w, nm, 1 << 32)?;
-    r.product(n)
+    r.value(n)
 }
 fn sized(t: &Type) -> bool { let mut z = Size::default(); records::size(t, 1, &mut z); z.over() }
 
@@ -282,8 +282,17 @@ fn listed(q: &Request, nm: &Names) -> Option<Expected> {
             let bounds = records::bounds(d, nm)?;
             let bounds: Vec<String> = bounds.iter().map(text::var).collect();
             if bounds.windows(2).any(|p| p[0].as_bytes() >= p[1].as_bytes()) { return None; }
-            if mixed(|o| { for c in &cs { o.con(c) } bind_opens(o, &bs) }) { return Some(paper(refuse(4))); }
-            paper(judged(&cs, &Substitution(bs), &bounds))
+            let text = format!("judge (set{}){} (bounds{})", cs.iter().map(|c| format!(" {}", text::con(c))).collect::<String>(), binds(&bs), bounds.iter().map(|n| format!(" {n}")).collect::<String>());
+            let reply = if mixed(|o| { for c in &cs { o.con(c) } bind_opens(o, &bs) }) { refuse(4) } else { judged(&cs, &Substitution(bs), &bounds) };
+            Expected { text, ..paper(reply) }
+        }
+        29 => {
+            let cs = records::set(a, nm)?;
+            let mut o = Opens::default();
+            for c in &cs { o.con(c) }
+            let v = o.vars.len() as u32;
+            let text = format!("ceiling{}", cs.iter().map(|c| format!(" {}", text::con(c))).collect::<String>());
+            Expected { text, ..paper(say(v, v + 6144 * (v + 1), vec![])) }
         }
         25 => {
             let t = records::ty(a, nm)?;
@@ -327,6 +336,42 @@ fn listed(q: &Request, nm: &Names) -> Option<Expected> {
         _ => paper(refuse(98)),
     })
 }
+/// how many words at the front of the result buffer are the buffer of a batch's answers
+fn answers_room(q: &Request) -> usize { q.x.min(512).min(q.result.1) as usize }
+/// a batch: the requests that solve its sets one by one, or why there are none
+pub fn singles(q: &Request) -> Result<Vec<Request>, u32> {
+    let (sets, lengths, n) = (&q.lists[0], &q.lists[1], answers_room(q));
+    let room = q.result.1 as usize - n;
+    if q.pool_lent() < 8192 || q.table_lent() < 257 || room < 8192 * lengths.len() || n < 4 * lengths.len() || q.work.1 < 16384 { return Err(10); }
+    if lengths.len() > 64 { return Err(8); }
+    if lengths.iter().map(|l| *l as u64).sum::<u64>() * 4 != sets.len() as u64 { return Err(1); }
+    let mut at = 0;
+    Ok(lengths.iter().map(|l| {
+        let end = at + 4 * *l as usize;
+        let mut one = Request { call: 23, x: 0, y: 0, result: (q.result.0, 8192), ..q.clone() };
+        one.lists = [sets[at..end].to_vec(), vec![], vec![], vec![]];
+        at = end;
+        one
+    }).collect())
+}
+/// what a batch should be answered, from the answers to its sets alone
+pub fn batch(q: &Request, alone: Result<Vec<Reply>, u32>) -> Expected {
+    let reply = match alone {
+        Err(k) => refuse(k),
+        Ok(rs) => {
+            let mut answers = vec![q.result.0; answers_room(q)];
+            let mut records: Vec<u32> = vec![];
+            for (i, r) in rs.iter().enumerate() {
+                answers[4 * i..4 * i + 4].copy_from_slice(&[r.refusal, r.rounds, r.value, r.more]);
+                records.extend(&r.words);
+            }
+            let n = records.len() as u32 / 4;
+            answers.extend(records);
+            say(n, 0, answers)
+        }
+    };
+    flagged(q, paper(reply))
+}
 fn scheme_said(r: Result<TypeScheme, String>, out: &mut Names, text: String) -> Expected {
     match r {
         _ if wide() => rule(10, refuse(7), text),
@@ -354,19 +399,67 @@ fn entries(pairs: &[u32], types: &[u32], nm: &Names) -> Option<Vec<(TypeVariable
     }
     Some(v)
 }
-/// document 01, 'Judge': numbat puts the bindings in, all at once; what is true then is our own reading
+/// document 01, 'Replacing', step by step, so that the first 6, 7 or 8 met is known: numbat's own products, all bindings at once
+struct Put<'a>(&'a [(TypeVariable, Type)]);
+impl Put<'_> {
+    fn bound(&self, v: &TypeVariable) -> Option<&Type> { self.0.iter().find(|(x, _)| x == v).map(|(_, t)| t) }
+    fn step(f: impl FnOnce() -> DType) -> Result<DType, u32> { match guard(f) { Ok(d) if !wide() => Ok(d), _ => Err(7) } }
+    fn product(&self, d: &DType) -> Result<DType, u32> {
+        let mut acc = d.clone();
+        for (f, p) in records::stored_order(d) {
+            let DTypeFactor::TVar(v) = &f else { continue };
+            let Some(t) = self.bound(v) else { continue };
+            let one = |v: &TypeVariable| DType::from_factors(Arc::new(vec![(DTypeFactor::TVar(v.clone()), Exponent::from_integer(1))]));
+            let b = match t { Type::Dimension(b) => b.clone(), Type::TVar(w) => one(w), _ => return Err(6) };
+            acc = Self::step(|| acc.divide(&one(v).power(p)))?;
+            let b = Self::step(|| b.power(p))?;
+            acc = Self::step(|| acc.multiply(&b))?;
+            if acc.factors().len() > 64 { return Err(8); }
+        }
+        Ok(acc)
+    }
+    fn all(&self, ts: &[Type]) -> Result<Vec<Type>, u32> { ts.iter().map(|t| self.ty(t)).collect() }
+    fn ty(&self, t: &Type) -> Result<Type, u32> {
+        Ok(match t {
+            Type::TVar(v) => self.bound(v).unwrap_or(t).clone(),
+            Type::Dimension(d) => match &d.factors()[..] {
+                [(DTypeFactor::TVar(v), e)] if *e == Exponent::from_integer(1) => self.bound(v).unwrap_or(t).clone(),
+                _ => Type::Dimension(self.product(d)?),
+            },
+            Type::Fn(p, r) => { let p = self.all(p)?; Type::Fn(p, Box::new(self.ty(r)?)) }
+            Type::List(e) => Type::List(Box::new(self.ty(e)?)),
+            Type::Struct(i) => {
+                let mut j = (**i).clone();
+                if let StructKind::Instance(a) = &i.kind { j.kind = StructKind::Instance(self.all(a)?) }
+                let mut names: Vec<_> = j.fields.keys().cloned().collect();
+                names.sort_by(|a, b| a.as_bytes().cmp(b.as_bytes()));
+                for n in names { j.fields[&n].1 = self.ty(&i.fields[&n].1)? }
+                Type::Struct(Box::new(j))
+            }
+            _ => t.clone(),
+        })
+    }
+    fn con(&self, c: &Constraint) -> Result<Constraint, u32> {
+        Ok(match c {
+            Constraint::Equal(a, b) => { let a = self.ty(a)?; Constraint::Equal(a, self.ty(b)?) }
+            Constraint::IsDType(t) => Constraint::IsDType(self.ty(t)?),
+            Constraint::EqualScalar(d) => Constraint::EqualScalar(self.product(d)?),
+            Constraint::HasField(s, f, t) => { let s = self.ty(s)?; Constraint::HasField(s, f.clone(), self.ty(t)?) }
+        })
+    }
+}
+/// document 01, 'Judge': what is put in agrees with numbat, where numbat puts it in; what is true then is our own reading
 fn judged(cs: &[Constraint], bs: &Substitution, bounds: &[String]) -> Reply {
     for c in cs {
         num_rational::reset();
+        let d = match Put(&bs.0).con(c) { Err(6) => return say(0, 0, vec![]), Err(k) => return refuse(k), Ok(d) => d };
         let mut s = access::set_of(vec![c.clone()]);
         let r = guard(|| s.apply(bs));
-        if wide() || r.is_err() { return refuse(7); }
-        if let Ok(Err(_)) = r { return say(0, 0, vec![]); }
-        let d = &access::constraints_of(&s)[0];
+        assert!(matches!(r, Ok(Ok(()))) && access::constraints_of(&s)[0] == d, "put in: {}", text::con(c));
         let mut z = Size::default();
-        records::size_con(d, &mut z);
+        records::size_con(&d, &mut z);
         if z.over() { return refuse(8); }
-        if !holds(d, bounds) { return say(0, 0, vec![]); }
+        if !holds(&d, bounds) { return say(0, 0, vec![]); }
     }
     say(1, 0, vec![])
 }
@@ -374,7 +467,7 @@ fn judged(cs: &[Constraint], bs: &Substitution, bounds: &[String]) -> Reply {
 fn read_plainly(t: &Type) -> Type {
     match t {
         Type::Dimension(d) => match &d.factors()[..] {
-            [(crate::typed_ast::DTypeFactor::TVar(v), e)] if *e.numer() == 1 && *e.denom() == 1 => Type::TVar(v.clone()),
+            [(DTypeFactor::TVar(v), e)] if *e.numer() == 1 && *e.denom() == 1 => Type::TVar(v.clone()),
             _ => t.clone(),
         },
         Type::Fn(p, r) => Type::Fn(p.iter().map(read_plainly).collect(), Box::new(read_plainly(r))),
@@ -382,7 +475,7 @@ fn read_plainly(t: &Type) -> Type {
         Type::Struct(i) => {
             let mut j = (**i).clone();
             j.fields = Default::default();
-            if let crate::typed_ast::StructKind::Instance(a) = &i.kind { j.kind = crate::typed_ast::StructKind::Instance(a.iter().map(read_plainly).collect()) }
+            if let StructKind::Instance(a) = &i.kind { j.kind = StructKind::Instance(a.iter().map(read_plainly).collect()) }
             Type::Struct(Box::new(j))
         }
         _ => t.clone(),
@@ -449,7 +542,7 @@ fn solve(set: ConstraintSet, out: &mut Names, text: String) -> Expected {
         }
         (Ok(Stop::Finished), Ok(Ok((s, bs)))) => {
             assert!(s.0 == *bound && access::bounds(&last) == bs && access::remaining(&last).is_empty(), "answer: {text}");
-            let mut w = records::words(|o| for (v, t) in &s.0 { o.extend([24, out.of(&text::var(v)), 0, 0]); records::write(t, out, o) });
+            let mut w = records::words(|o| for (v, t) in &s.0 { records::write_binding(v, t, out, o) });
             let n = w.len() as u32 / 4;
             for v in &bs { records::write_bound(v, out, &mut w) }
             numbat(Reply { refusal: 0, value: n, more: bs.len() as u32, rounds: rounds as u32, flags: 0, words: w }, text)

@@ -9,6 +9,7 @@ use crate::typechecker::type_scheme::TypeScheme;
 use crate::typed_ast::{DType, DTypeFactor, StructInfo, StructKind, Type};
 use std::collections::HashMap;
 use std::sync::Arc;
+use std::sync::atomic::{AtomicBool, Ordering};
 
 pub const TOP: i128 = 2_147_483_647;
 
@@ -31,6 +32,27 @@ impl Names {
     }
 }
 
+// ---- word 0 of a record: the only place that knows its form
+
+static LENGTHS: AtomicBool = AtomicBool::new(false);
+/// word 0 carries the length of its part (W-206)
+pub fn use_lengths() { LENGTHS.store(true, Ordering::Relaxed) }
+pub fn lengths() -> bool { LENGTHS.load(Ordering::Relaxed) }
+/// word 0 of a record of this kind whose part has so many records
+pub fn head(kind: u32, len: usize) -> u32 { if lengths() { kind.wrapping_add(65_536u32.wrapping_mul(len as u32)) } else { kind } }
+/// its kind, and the length that it says
+pub fn opened(word: u32) -> (u32, Option<usize>) { if lengths() { (word % 65_536, Some((word / 65_536) as usize)) } else { (word, None) } }
+/// a record, and what its part has behind it
+fn part(o: &mut Vec<u32>, r: [u32; 4], inner: impl FnOnce(&mut Vec<u32>)) {
+    let at = o.len();
+    o.extend(r);
+    inner(o);
+    o[at] = head(r[0], (o.len() - at) / 4);
+}
+fn leaf(o: &mut Vec<u32>, r: [u32; 4]) { part(o, r, |_| {}) }
+/// a part whose record was read, and whose end is not reached yet
+pub struct Begun { at: usize, len: Option<usize> }
+
 // ---- writing
 
 pub fn signed(e: &Exponent) -> [u32; 2] { [*e.numer() as i64 as u32, *e.denom() as i64 as u32] }
@@ -42,11 +64,15 @@ fn rank(f: &DTypeFactor) -> (u8, u64, &str) {
         DTypeFactor::BaseDimension(n) => (3, 0, n),
     }
 }
-pub fn factors(d: &DType, nm: &mut Names) -> Vec<u32> {
-    let mut fs: Vec<_> = d.factors().iter().collect();
+pub fn stored_order(d: &DType) -> Vec<(DTypeFactor, Exponent)> {
+    let mut fs: Vec<_> = d.factors().to_vec();
     fs.sort_by(|a, b| rank(&a.0).cmp(&rank(&b.0)));
+    fs
+}
+/// the factors of a product that passes by value: these are no records
+pub fn factors(d: &DType, nm: &mut Names) -> Vec<u32> {
     let mut o = vec![];
-    for (f, e) in fs {
+    for (f, e) in &stored_order(d) {
         let (k, n) = match f {
             DTypeFactor::TVar(TypeVariable::Named(n)) => (11, nm.of(n)),
             DTypeFactor::TVar(TypeVariable::Quantified(i)) => (15, *i as u32),
@@ -60,54 +86,54 @@ pub fn factors(d: &DType, nm: &mut Names) -> Vec<u32> {
 }
 fn product(d: &DType, nm: &mut Names, o: &mut Vec<u32>) {
     let fs = factors(d, nm);
-    o.extend([3, fs.len() as u32 / 4, 0, 0]);
-    o.extend(fs);
+    part(o, [3, fs.len() as u32 / 4, 0, 0], |o| for f in fs.chunks_exact(4) { leaf(o, [f[0], f[1], f[2], f[3]]) });
 }
 pub fn write(t: &Type, nm: &mut Names, o: &mut Vec<u32>) {
     match t {
-        Type::TVar(TypeVariable::Named(n)) => o.extend([1, nm.of(n), 0, 0]),
-        Type::TVar(TypeVariable::Quantified(i)) => o.extend([14, *i as u32, 0, 0]),
-        Type::TPar(n) => o.extend([2, nm.of(n), 0, 0]),
+        Type::TVar(TypeVariable::Named(n)) => leaf(o, [1, nm.of(n), 0, 0]),
+        Type::TVar(TypeVariable::Quantified(i)) => leaf(o, [14, *i as u32, 0, 0]),
+        Type::TPar(n) => leaf(o, [2, nm.of(n), 0, 0]),
         Type::Dimension(d) => product(d, nm, o),
-        Type::Boolean => o.extend([4, 0, 0, 0]),
-        Type::String => o.extend([5, 0, 0, 0]),
-        Type::DateTime => o.extend([6, 0, 0, 0]),
-        Type::Fn(p, r) => {
-            o.extend([7, p.len() as u32, 0, 0]);
-            for t in p { write(t, nm, o) }
-            write(r, nm, o)
-        }
-        Type::List(e) => { o.extend([10, 0, 0, 0]); write(e, nm, o) }
+        Type::Boolean => leaf(o, [4, 0, 0, 0]),
+        Type::String => leaf(o, [5, 0, 0, 0]),
+        Type::DateTime => leaf(o, [6, 0, 0, 0]),
+        Type::Fn(p, r) => part(o, [7, p.len() as u32, 0, 0], |o| { for t in p { write(t, nm, o) } write(r, nm, o) }),
+        Type::List(e) => part(o, [10, 0, 0, 0], |o| write(e, nm, o)),
         Type::Struct(i) => {
             let StructKind::Instance(args) = &i.kind else { unreachable!() };
             let mut fs: Vec<_> = i.fields.iter().collect();
             fs.sort_by(|a, b| a.0.as_bytes().cmp(b.0.as_bytes()));
-            o.extend([8, nm.of(&i.name), args.len() as u32, fs.len() as u32]);
-            for t in args { write(t, nm, o) }
-            for (n, (_, t)) in fs { o.extend([9, nm.of(n), 0, 0]); write(t, nm, o) }
+            part(o, [8, nm.of(&i.name), args.len() as u32, fs.len() as u32], |o| {
+                for t in args { write(t, nm, o) }
+                for (n, (_, t)) in fs { let k = nm.of(n); part(o, [9, k, 0, 0], |o| write(t, nm, o)) }
+            })
         }
     }
 }
 pub fn write_con(c: &Constraint, nm: &mut Names, o: &mut Vec<u32>) {
     match c {
-        Constraint::Equal(a, b) => { o.extend([20, 0, 0, 0]); write(a, nm, o); write(b, nm, o) }
-        Constraint::IsDType(t) => { o.extend([21, 0, 0, 0]); write(t, nm, o) }
-        Constraint::EqualScalar(d) => { o.extend([22, 0, 0, 0]); product(d, nm, o) }
-        Constraint::HasField(s, f, t) => { o.extend([23, nm.of(f), 0, 0]); write(s, nm, o); write(t, nm, o) }
+        Constraint::Equal(a, b) => part(o, [20, 0, 0, 0], |o| { write(a, nm, o); write(b, nm, o) }),
+        Constraint::IsDType(t) => part(o, [21, 0, 0, 0], |o| write(t, nm, o)),
+        Constraint::EqualScalar(d) => part(o, [22, 0, 0, 0], |o| product(d, nm, o)),
+        Constraint::HasField(s, f, t) => { let k = nm.of(f); part(o, [23, k, 0, 0], |o| { write(s, nm, o); write(t, nm, o) }) }
     }
 }
+pub fn write_binding(v: &TypeVariable, t: &Type, nm: &mut Names, o: &mut Vec<u32>) {
+    let TypeVariable::Named(n) = v else { unreachable!() };
+    let k = nm.of(n);
+    part(o, [24, k, 0, 0], |o| write(t, nm, o))
+}
 pub fn write_bound(v: &TypeVariable, nm: &mut Names, o: &mut Vec<u32>) {
-    match v { TypeVariable::Named(n) => o.extend([25, nm.of(n), 0, 0]), TypeVariable::Quantified(i) => o.extend([25, *i as u32, 1, 0]) }
+    match v { TypeVariable::Named(n) => leaf(o, [25, nm.of(n), 0, 0]), TypeVariable::Quantified(i) => leaf(o, [25, *i as u32, 1, 0]) }
 }
 pub fn bound_var(b: &Bound) -> &TypeVariable { let Bound::IsDim(t) = b; match t { Type::TVar(v) => v, _ => unreachable!() } }
 pub fn write_scheme(s: &TypeScheme, nm: &mut Names, o: &mut Vec<u32>) {
     match s {
-        TypeScheme::Concrete(t) => { o.extend([26, 0, 1, 0]); write(t, nm, o) }
-        TypeScheme::Quantified(n, q) => {
-            o.extend([26, *n as u32, 0, 0]);
+        TypeScheme::Concrete(t) => part(o, [26, 0, 1, 0], |o| write(t, nm, o)),
+        TypeScheme::Quantified(n, q) => part(o, [26, *n as u32, 0, 0], |o| {
             write(&q.inner, nm, o);
             for b in q.bounds.iter() { write_bound(bound_var(b), nm, o) }
-        }
+        }),
     }
 }
 pub fn words(f: impl FnOnce(&mut Vec<u32>)) -> Vec<u32> { let mut o = vec![]; f(&mut o); o }
@@ -120,12 +146,22 @@ fn span() -> Span { Span { start: ByteIndex(0), end: ByteIndex(0), code_source_i
 impl<'a> Reader<'a> {
     pub fn new(w: &'a [u32], nm: &'a Names, count: u64) -> Option<Self> { if w.len() % 4 == 0 { Some(Reader { w, at: 0, nm, count }) } else { None } }
     pub fn end(&self) -> bool { self.at * 4 == self.w.len() }
+    /// the four words that stand here
     fn take(&mut self) -> Option<[u32; 4]> {
         let i = self.at * 4;
         if i >= self.w.len() { return None; }
         self.at += 1;
         Some([self.w[i], self.w[i + 1], self.w[i + 2], self.w[i + 3]])
     }
+    /// the record that begins a part here; `shut` holds the length that it says against the part's end
+    fn begin(&mut self) -> Option<(Begun, [u32; 4])> {
+        let at = self.at;
+        let [w, a, b, c] = self.take()?;
+        let (kind, len) = opened(w);
+        Some((Begun { at, len }, [kind, a, b, c]))
+    }
+    fn shut(&self, p: Begun) -> Option<()> { if p.len.is_none_or(|n| n == self.at - p.at) { Some(()) } else { None } }
+    fn alone(&mut self) -> Option<[u32; 4]> { let (p, r) = self.begin()?; self.shut(p)?; Some(r) }
     fn name(&self, k: u32) -> Option<&'a str> { self.nm.get(k) }
     fn index(&self, k: u32) -> Option<usize> { if (k as u64) < self.count { Some(k as usize) } else { None } }
     pub fn factor(&self, r: [u32; 4]) -> Option<(DTypeFactor, Exponent)> {
@@ -141,6 +177,14 @@ impl<'a> Reader<'a> {
     pub fn product(&mut self, n: u32) -> Option<DType> {
         if n > 64 { return None; }
         let mut v = vec![];
+        for _ in 0..n { let r = self.alone()?; v.push(self.factor(r)?) }
+        rising(&v)?;
+        Some(DType::from_factors(Arc::new(v)))
+    }
+    /// a product that passes by value: its factors are no records
+    pub fn value(&mut self, n: u32) -> Option<DType> {
+        if n > 64 { return None; }
+        let mut v = vec![];
         for _ in 0..n { let r = self.take()?; v.push(self.factor(r)?) }
         rising(&v)?;
         Some(DType::from_factors(Arc::new(v)))
@@ -153,9 +197,9 @@ impl<'a> Reader<'a> {
     /// a type that begins here, `depth` deep
     pub fn ty(&mut self, depth: usize) -> Option<Type> {
         if depth > 64 { return None; }
-        let [k, a, b, c] = self.take()?;
+        let (p, [k, a, b, c]) = self.begin()?;
         let none = |x: u32| if x == 0 { Some(()) } else { None };
-        Some(match k {
+        let t = match k {
             1 => { none(b)?; none(c)?; Type::TVar(TypeVariable::new(self.name(a)?)) }
             2 => { none(b)?; none(c)?; Type::TPar(self.name(a)?.into()) }
             3 => { none(b)?; none(c)?; Type::Dimension(self.product(a)?) }
@@ -167,39 +211,46 @@ impl<'a> Reader<'a> {
                 let mut fields = indexmap::IndexMap::new();
                 let mut last: Option<&str> = None;
                 for _ in 0..c {
-                    let [k, n, x, y] = self.take()?;
+                    let (p, [k, n, x, y]) = self.begin()?;
                     if k != 9 { return None; }
                     none(x)?; none(y)?;
                     let n = self.name(n)?;
                     if last.is_some_and(|l| l.as_bytes() >= n.as_bytes()) { return None; }
                     last = Some(n);
                     fields.insert(n.into(), (span(), self.ty(depth + 1)?));
+                    self.shut(p)?;
                 }
                 Type::Struct(Box::new(StructInfo { definition_span: span(), name: name.into(), kind: StructKind::Instance(args), fields }))
             }
             10 => { none(a)?; none(b)?; none(c)?; Type::List(Box::new(self.ty(depth + 1)?)) }
             14 => { none(b)?; none(c)?; Type::TVar(TypeVariable::Quantified(self.index(a)?)) }
             _ => return None,
-        })
+        };
+        self.shut(p)?;
+        Some(t)
     }
     pub fn con(&mut self) -> Option<Constraint> {
-        let [k, a, b, c] = self.take()?;
+        let (p, [k, a, b, c]) = self.begin()?;
         if b != 0 || c != 0 || (k != 23 && a != 0) { return None; }
-        Some(match k {
+        let con = match k {
             20 => { let l = self.ty(1)?; Constraint::Equal(l, self.ty(1)?) }
             21 => Constraint::IsDType(self.ty(1)?),
             22 => match self.ty(1)? { Type::Dimension(d) => Constraint::EqualScalar(d), _ => return None },
             23 => { let f = self.name(a)?; let s = self.ty(1)?; Constraint::HasField(s, f.into(), self.ty(1)?) }
             _ => return None,
-        })
+        };
+        self.shut(p)?;
+        Some(con)
     }
     pub fn binding(&mut self) -> Option<(TypeVariable, Type)> {
-        let [k, a, b, c] = self.take()?;
+        let (p, [k, a, b, c]) = self.begin()?;
         if k != 24 || b != 0 || c != 0 { return None; }
-        Some((TypeVariable::new(self.name(a)?), self.ty(1)?))
+        let r = (TypeVariable::new(self.name(a)?), self.ty(1)?);
+        self.shut(p)?;
+        Some(r)
     }
     pub fn bound(&mut self, indexed: bool) -> Option<TypeVariable> {
-        let [k, a, b, c] = self.take()?;
+        let [k, a, b, c] = self.alone()?;
         if k != 25 || c != 0 { return None; }
         match b { 0 => Some(TypeVariable::new(self.name(a)?)), 1 if indexed => Some(TypeVariable::Quantified(self.index(a)?)), _ => None }
     }
@@ -236,13 +287,14 @@ pub fn ty(w: &[u32], nm: &Names) -> Option<Type> {
 }
 pub fn scheme(w: &[u32], nm: &Names) -> Option<TypeScheme> {
     let mut r = Reader::new(w, nm, 0)?;
-    let [k, a, b, c] = r.take()?;
+    let (p, [k, a, b, c]) = r.begin()?;
     if k != 26 || c != 0 || b > 1 || (b == 1 && a != 0) { return None; }
     r.count = a as u64;
     let t = r.ty(1)?;
-    if b == 1 { return if r.end() { Some(TypeScheme::Concrete(t)) } else { None }; }
+    if b == 1 { r.shut(p)?; return if r.end() { Some(TypeScheme::Concrete(t)) } else { None }; }
     let mut bs = vec![];
     while !r.end() { bs.push(Bound::IsDim(Type::TVar(r.bound(true)?))) }
+    r.shut(p)?;
     Some(TypeScheme::Quantified(a as usize, QualifiedType::new(t, bs.into_iter().collect())))
 }
 

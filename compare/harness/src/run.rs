@@ -1,9 +1,10 @@
 //! harness compare SERVE KIND SEED COUNT CALLS: COUNT random cases of a kind. Lines to standard output:
 //! D<tab>call<tab>case<tab>numbat's answer<tab>serve's answer: a difference for the model to explain; W: a wrong answer; then a line of counts.
+//! With --lengths before these words, word 0 of a record carries the length of its part (W-206).
 //! harness dump KIND SEED COUNT CALLS: the requests of such cases. harness check SERVE FILE: the requests of a file; for each a line
 //! S<tab>who answered<tab>case, or a line D or W as above.
 use crate::cases::Gen;
-use crate::expect::{Expected, From, expect, names_of, set_alone};
+use crate::expect::{Expected, From, batch, expect, names_of, set_alone, singles};
 use crate::records::Names;
 use crate::text;
 use crate::wire::{Reply, Request, Serve};
@@ -53,18 +54,31 @@ pub fn judge(q: &Request, e: &Expected, r: &Reply, k: &mut Counts, out: &mut imp
     let theirs = match e.stopped { Some(s) => s.to_string(), None => text::answer(q.call, &e.reply, &nm).unwrap_or_else(|| "?".into()) };
     writeln!(out, "D\t{}\t{}\t{theirs}\t{mine}", q.call, e.text).unwrap();
 }
+/// what a request should be answered. A batch is held against its sets asked alone, of a second `serve`; these are compared too
+fn expected(q: &Request, alone: &mut Serve, k: &mut Counts, out: &mut impl Write) -> Expected {
+    if q.call != 30 { return expect(q); }
+    let rs = singles(q).map(|qs| {
+        let mut bytes = vec![];
+        for q in &qs { q.bytes(&mut bytes) }
+        let rs = alone.ask(bytes, qs.len());
+        for (q, r) in qs.iter().zip(&rs) { judge(q, &expect(q), r, k, out) }
+        rs
+    });
+    batch(q, rs)
+}
 fn short(r: &Reply) -> Reply { let mut r = r.clone(); r.words.truncate(40); r }
 pub fn report(k: &Counts, out: &mut impl Write) {
     writeln!(out, "C\t{}\t{}\t{}\t{}\t{}\t{:?}\t{:?}\t{:?}", k.total, k.numbat, k.paper, k.asked, k.wrong, k.rules, k.calls, k.refusals).unwrap();
 }
 pub fn main(args: &[String]) -> i32 {
     let mut out = std::io::BufWriter::new(std::io::stdout().lock());
-    let a: Vec<&str> = args.iter().map(|s| s.as_str()).collect();
+    let mut a: Vec<&str> = args.iter().map(|s| s.as_str()).collect();
+    if a.first() == Some(&"--lengths") { crate::records::use_lengths(); a.remove(0); }
     match a[..] {
         ["compare", serve, kind, seed, count, calls] => {
             let (seed, count, calls): (u64, u64, u32) = (seed.parse().unwrap(), count.parse().unwrap(), calls.parse().unwrap());
             let mut g = Gen::new(kind, seed, calls);
-            let mut s = Serve::start(serve);
+            let (mut s, mut alone) = (Serve::start(serve), Serve::start(serve));
             let mut k = Counts::default();
             while k.total < count {
                 let n = (count - k.total).min(400) as usize;
@@ -73,9 +87,14 @@ pub fn main(args: &[String]) -> i32 {
                 for q in &qs { q.bytes(&mut bytes) }
                 let rs = s.ask(bytes, n);
                 if rs.len() != n { writeln!(out, "W\tserve ended: {} answers to {n} requests", rs.len()).unwrap(); out.flush().unwrap(); return 1; }
-                for (q, r) in qs.iter().zip(&rs) { let e = expect(q); judge(q, &e, r, &mut k, &mut out) }
+                for (q, r) in qs.iter().zip(&rs) {
+                    let e = expected(q, &mut alone, &mut k, &mut out);
+                    judge(q, &e, r, &mut k, &mut out);
+                    // a false length is 1, whatever else; the judge doesn't look at every record, and a batch answers set by set
+                    if kind == "lengths" && r.refusal != 1 && !matches!(q.call, 28 | 30) { k.wrong += 1; writeln!(out, "W\t{}\t{}\ta false length passes", q.call, e.text).unwrap() }
+                }
             }
-            if !s.stop() { writeln!(out, "W\tserve did not end as it should").unwrap(); return 1; }
+            if !s.stop() || !alone.stop() { writeln!(out, "W\tserve did not end as it should").unwrap(); return 1; }
             report(&k, &mut out);
             out.flush().unwrap();
             (k.wrong > 0) as i32
@@ -92,11 +111,11 @@ pub fn main(args: &[String]) -> i32 {
             let data = std::fs::read(file).expect("the file of requests");
             let (mut at, mut qs) = (0, vec![]);
             while at < data.len() { let (q, n) = Request::from(&data[at..]); qs.push(q); at += n }
-            let mut s = Serve::start(serve);
+            let (mut s, mut alone) = (Serve::start(serve), Serve::start(serve));
             let rs = s.ask(data, qs.len());
             let mut k = Counts::default();
             for (q, r) in qs.iter().zip(&rs) {
-                let e = expect(q);
+                let e = expected(q, &mut alone, &mut k, &mut std::io::sink());
                 let before = k.asked + k.wrong;
                 judge(q, &e, r, &mut k, &mut out);
                 if k.asked + k.wrong == before {
@@ -106,6 +125,7 @@ pub fn main(args: &[String]) -> i32 {
             }
             if rs.len() != qs.len() { writeln!(out, "W\tserve ended: {} answers to {} requests", rs.len(), qs.len()).unwrap(); k.wrong += 1 }
             s.stop();
+            alone.stop();
             report(&k, &mut out);
             out.flush().unwrap();
             (k.wrong > 0) as i32

@@ -78,7 +78,7 @@ pub fn answer(call: u32, r: &Reply, nm: &Names) -> Option<String> {
             let n = r.value as usize * 4;
             if n > w.len() { return None; }
             let mut rd = Reader::new(&w[..n], nm, 1 << 32)?;
-            format!("ok {}", dim("dim", &rd.product(r.value)?))
+            format!("ok {}", dim("dim", &rd.value(r.value)?))
         }
         17 | 18 => (if r.value == 1 { "true" } else { "false" }).into(),
         19 => all("vars".into(), w, |k| nm.get(*k).unwrap_or("?").to_string()),

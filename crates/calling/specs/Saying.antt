@@ -8,6 +8,7 @@ use Rattle.rules.specs.declared.Was.{Was}
 use Rattle.rules.specs.declared.Was.the-variants.{New, Known}
 use Rattle.rules.specs.Adding.{Added, satisfied, violated, unknown}
 use Rattle.rules.specs.Calls.{Solved, solved, unsolved, refusedAfter}
+use Rattle.rules.specs.Ceiling.{Ceiling}
 use Rattle.calling.specs.declared.told.Told.{Told}
 
 abbrev pub pick : {A : Type 0} → Bool → A → A → A
@@ -84,3 +85,16 @@ abbrev pub solvedAs : Solved → Told
 solvedAs (solved b n k) = record { refusal = 0; value = word b; more = word n; rounds = k; words = fours (sum b n) }
 solvedAs (unsolved n k) = record { refusal = 5; value = word n; more = 0; rounds = k; words = fours n }
 solvedAs (refusedAfter n k) = refusedAs n k 0
+
+-- distinct variables, and the ceiling on rounds
+abbrev pub mostAs : Ceiling → Told
+mostAs c = saidAs (c .variables) (c .rounds) 0
+
+abbrev pub ceilingAs : Got Ceiling → Told
+ceilingAs (got c) = mostAs c
+ceilingAs (refused n) = refusedAs n 0 0
+
+-- how many records of all sets together, behind the words of their answers
+abbrev pub batchedAs : Got ℕ → ℕ → Told
+batchedAs (got n) answers = saidAs (word n) 0 (sum answers (fours n))
+batchedAs (refused n) answers = refusedAs n 0 0

@@ -1,6 +1,7 @@
 // Every public call by its number, on what is lent. The programs that serve and that replay calls share this; docs/SERVE.md has the numbers.
 pub mod lists;
 pub mod named;
+pub mod sheets;
 pub mod told;
 pub mod values;
 pub mod words;
@@ -9,6 +10,7 @@ use lists::listed;
 use named::compared;
 use named::entered;
 use named::named;
+use sheets::sheet;
 use told::Told;
 use values::exponent;
 use values::product;
@@ -21,7 +23,7 @@ pub struct Asked {
 }
 
 // The calls have the numbers 1 to this.
-pub const LAST: u32 = 27;
+pub const LAST: u32 = 30;
 
 // The call that is asked for. What it says stands at the front of the result buffer, in `words` words.
 pub fn called(
@@ -42,6 +44,7 @@ pub fn called(
         4 => compared(a, b),
         5 | 6 | 7 | 8 => exponent(call, a),
         9 | 10 | 11 | 12 => product(q, a, b, pool, table, result),
+        28 | 29 | 30 => sheet(q, pool, table, a, b, c, d, result, work),
         _ => listed(q, pool, table, a, b, c, d, result, work),
     }
 }

@@ -1,10 +1,12 @@
 // What a call says, in words.
 use adding::Added;
+use ceiling::Most;
 use names::Checked;
 use rules::Refusal;
 use rules::Was;
 use solving::Outcome;
 use solving::Solution;
+use trials::Verdict;
 ghost use mathlib.Core.Path.{_≡_};
 ghost use Rattle.rules.specs.Refusals.{numberOf};
 ghost use Rattle.names.specs.Told.{toldChecked, toldAnswer, toldOrder};
@@ -13,8 +15,10 @@ ghost use Rattle.queries.specs.Told as queries;
 ghost use Rattle.lending.specs.Told as lending;
 ghost use Rattle.adding.specs.Told.{toldAdded};
 ghost use Rattle.solving.specs.Told as solving;
+ghost use Rattle.trials.specs.Told as trials;
+ghost use Rattle.ceiling.specs.Told as ceiling;
 ghost use Rattle.rules.specs.Calls.{solved, unsolved};
-ghost use Rattle.calling.specs.Saying.{word, fours, sum, yesWord, saidAs, refusedAs, checkedAs, askedAs, numberAs, orderAs, countedAs, writtenAs, addedAs, solvedAs, wasWord};
+ghost use Rattle.calling.specs.Saying.{word, fours, sum, yesWord, saidAs, refusedAs, checkedAs, askedAs, numberAs, orderAs, countedAs, writtenAs, addedAs, solvedAs, wasWord, mostAs, ceilingAs, batchedAs};
 
 // The refusal's number or 0, what the call says, completed rounds, and how many words at the front of the result buffer are the answer's.
 pub struct Told {
@@ -187,5 +191,41 @@ pub fn solution(s: Solution) -> Told
         Outcome::Solved(b, n) => accepted(b, n, rounds),
         Outcome::Unsolved(n) => remaining(n, rounds),
         Outcome::Refused(why) => refused(why, rounds, 0),
+    }
+}
+
+pub fn judged(v: Verdict) -> Told
+    ensures { λ r. ⌜ r ≡ askedAs (trials.told v) ⌝ }
+{
+    match v {
+        Verdict::Yes => said(1, 0, 0),
+        Verdict::No => said(0, 0, 0),
+        Verdict::Refused(why) => refused(why, 0, 0),
+    }
+}
+
+fn most(m: Most) -> Told
+    ensures { λ r. ⌜ r ≡ mostAs (ceiling.toldMost m) ⌝ }
+{
+    said(m.variables, m.rounds, 0)
+}
+
+// Distinct variables, and the ceiling on rounds.
+pub fn limited(a: ceiling::Answer) -> Told
+    ensures { λ r. ⌜ r ≡ ceilingAs (ceiling.told a) ⌝ }
+{
+    match a {
+        ceiling::Answer::Given(m) => most(m),
+        ceiling::Answer::Refused(why) => refused(why, 0, 0),
+    }
+}
+
+// How many records there are of all sets together, behind so many words of their answers.
+pub fn batched(a: lending::Answer, answers: usize) -> Told
+    ensures { λ r. ⌜ r ≡ batchedAs (lending.told a) answers ⌝ }
+{
+    match a {
+        lending::Answer::Records(n) => said(short(n), 0, both(answers, words_of(n))),
+        lending::Answer::Refused(why) => refused(why, 0, 0),
     }
 }

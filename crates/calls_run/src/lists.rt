@@ -112,7 +112,7 @@ pub fn enter_names(s: &[u8], at: usize, pool: &mut [u8], table: &mut [u32]) -> b
 
 // The seven numbers of what is asked.
 pub fn asks_from(s: &[u8], at: usize) -> Asks
-    ensures { λ r. ⌜ (r .pool ≤ 8200) × (r .table ≤ 260) × (r .result ≤ 8200) × (r .work ≤ 16400) ⌝ }
+    ensures { λ r. ⌜ (r .pool ≤ 8200) × (r .table ≤ 260) × (r .result ≤ 41472) × (r .work ≤ 16400) ⌝ }
 {
     let call = number_from(s, at);
     let x = number_from(s, call.next);
@@ -127,7 +127,7 @@ pub fn asks_from(s: &[u8], at: usize) -> Asks
         y: y.word,
         pool: within(pool.word, 8200),
         table: within(table.word, 260),
-        result: within(result.word, 8200),
+        result: within(result.word, 41472),
         work: within(work.word, 16400),
     }
 }

@@ -23,6 +23,13 @@ ghost use lib.ListN.{length};
 // The list is read in blocks, at most this many.
 const BLOCKS: usize = 32;
 
+// Room for the answers of five sets; an array of this size comes from a function of its own, so that its callers are checked without it being written out.
+const RESULT: usize = 41472;
+
+fn result_before() -> [u32; RESULT] {
+    [RESULT_BEFORE; RESULT]
+}
+
 // Does the call answer, and leave the buffers, as stored?
 fn answers(
     q: Asked,
@@ -58,7 +65,7 @@ fn buffers_hold(
     let gives = gives_from(s, lines.gives);
     let r = asks.result;
     let w = asks.work;
-    let mut result = [RESULT_BEFORE; 8200];
+    let mut result = result_before();
     let mut work = [WORK_BEFORE; 16400];
     let q = Asked {
         call: asks.call,

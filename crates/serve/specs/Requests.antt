@@ -39,10 +39,14 @@ headOf s = record {
 abbrev pub overBy : ℕ → ℕ → ℕ
 overBy n most = pick (ltb most n) 1 0
 
+-- the most words of a result buffer: a large one is not shown whole
+abbrev pub roomOf : ℕ → ℕ
+roomOf show = pick (eqb show 0) 533504 9216
+
 -- how many words of a head are over their room
 unfoldable pub excessOf : Header → ℕ
 excessOf h =
-    (overBy (h .result) 9216 + overBy (h .work) 20480 + overBy (h .pool) 9216 + overBy (h .table) 512) +
+    (overBy (h .result) (roomOf (h .show)) + overBy (h .work) 20480 + overBy (h .pool) 9216 + overBy (h .table) 512) +
     (overBy (h .a) 10240 + overBy (h .b) 10240 + overBy (h .c) 10240 + overBy (h .d) 10240) +
     overBy (h .body) 98304 + overBy (h .show) 1 + overBy (h .whole) 1
 
@@ -56,11 +60,11 @@ partsOf h = filledTo (h .pool) + (h .table + h .a + h .b + h .c + h .d) * 4
 
 -- 2: no call has this number; 3: something is over its room; 4: the body is not as long as its parts; 0: it can be served
 unfoldable pub faultOf : Header → ℕ
-faultOf h = pick (ltb (h .call) 1) 2 (pick (ltb 27 (h .call)) 2 (pick (ltb 0 (excessOf h)) 3 (pick (eqb (h .body) (partsOf h)) 0 4)))
+faultOf h = pick (ltb (h .call) 1) 2 (pick (ltb 30 (h .call)) 2 (pick (ltb 0 (excessOf h)) 3 (pick (eqb (h .body) (partsOf h)) 0 4)))
 
 -- everything has room
 pub record Fits (h : Header) : Type 0 where
-  pub result : h .result ≤ 9216
+  pub result : h .result ≤ 533504
   pub work : h .work ≤ 20480
   pub pool : h .pool ≤ 9216
   pub table : h .table ≤ 512
@@ -77,10 +81,17 @@ under n most = go (ltb most n) refl
     go true e h = absurd (omega arith)
     go false e h = ltb-false most n e
 
+within : (n show : ℕ) → n ≤ roomOf show → n ≤ 533504
+within n show = go (eqb show 0)
+  where
+    go : (t : Bool) → n ≤ pick t 533504 9216 → n ≤ 533504
+    go true l = l
+    go false l = omega arith
+
 pub fits : (h : Header) → excessOf h ≤ 0 → Fits h
 unfolding excessOf
 fits h e = record {
-  result = under (h .result) 9216 (omega arith);
+  result = within (h .result) (h .show) (under (h .result) (roomOf (h .show)) (omega arith));
   work = under (h .work) 20480 (omega arith);
   pool = under (h .pool) 9216 (omega arith);
   table = under (h .table) 512 (omega arith);
@@ -104,6 +115,6 @@ served h = first (ltb (h .call) 1)
     second true z = absurd (omega arith)
     second false z = third (ltb 0 (excessOf h)) refl z
 
-    first : (t : Bool) → _≡_ {A = ℕ} (pick t 2 (pick (ltb 27 (h .call)) 2 (pick (ltb 0 (excessOf h)) 3 (pick (eqb (h .body) (partsOf h)) 0 4)))) 0 → Fits h
+    first : (t : Bool) → _≡_ {A = ℕ} (pick t 2 (pick (ltb 30 (h .call)) 2 (pick (ltb 0 (excessOf h)) 3 (pick (eqb (h .body) (partsOf h)) 0 4)))) 0 → Fits h
     first true z = absurd (omega arith)
-    first false z = second (ltb 27 (h .call)) z
+    first false z = second (ltb 30 (h .call)) z

@@ -59,7 +59,7 @@ pub fn bytes_from(s: &[u8], n: usize, out: &mut [u8]) {
 }
 
 // A place past which nothing is written: far behind the end of every buffer here.
-const FAR: usize = 1000000;
+const FAR: usize = 10000000;
 
 // Puts a word at a place, and says where the next goes.
 pub fn put_word(out: &mut [u8], at: usize, w: u32) -> usize {

@@ -9,15 +9,18 @@ use calling::called;
 use calling::named::POOL;
 use calling::named::TABLE;
 use coding::bytes_from;
+use coding::put_words;
 use coding::words_from;
 use libc::STDIN_FILENO;
 use libc::STDOUT_FILENO;
 use reply::answer;
 use reply::answer_alone;
+use reply::answer_head;
 use reply::no_request;
 use request::BODY;
 use request::HEAD;
 use request::Header;
+use request::LARGE;
 use request::LIST;
 use request::RESULT;
 use request::TORN;
@@ -33,8 +36,11 @@ ghost use Rattle.serve.specs.Requests.{Fits};
 // At most this many requests are served: a loop has to end.
 const REQUESTS: u64 = 1000000000000;
 
-// What is written of one answer.
+// What is written of one answer, or of a piece of one with a large result buffer.
 const OUT: usize = 163840;
+
+// The words of a piece.
+const PIECE: usize = 32768;
 
 // What is dropped at a time of a request that can't be served.
 const BLOCK: usize = 4096;
@@ -61,6 +67,98 @@ fn answered(
     answer(t, h, result, work, out)
 }
 
+// Writes the words from a place on, a piece at a time; the last piece is left in out: how many bytes. More than out has, where writing failed.
+fn pieces(words: &[u32], n: usize, out: &mut [u8]) -> usize {
+    let mut i = 0;
+    while i < words.len() {
+        if n < i + PIECE {
+            return put_words(out, 0, &words[i..], n - i);
+        }
+        let m = put_words(out, 0, &words[i..], PIECE);
+        if !write_front(out, m) {
+            return 1000000;
+        }
+        i += PIECE;
+    }
+    0
+}
+
+// The call, and its answer where the result buffer is large: all but its last piece is written.
+fn answered_in_pieces(
+    h: Header,
+    pool: &mut [u8],
+    table: &mut [u32],
+    a: &[u32],
+    b: &[u32],
+    c: &[u32],
+    d: &[u32],
+    result: &mut [u32],
+    work: &mut [u32],
+    out: &mut [u8],
+) -> usize {
+    let q = Asked {
+        call: h.call,
+        x: h.x,
+        y: h.y,
+    };
+    let t = called(q, pool, table, a, b, c, d, result, work);
+    let m = answer_head(t, h, result, work, out);
+    write_front(out, m);
+    pieces(result, t.words, out)
+}
+
+// The same, with a result buffer of the usual size still to be made.
+fn with_result(
+    h: Header,
+    pool: &mut [u8],
+    table: &mut [u32],
+    a: &[u32],
+    b: &[u32],
+    c: &[u32],
+    d: &[u32],
+    work: &mut [u32],
+    out: &mut [u8],
+) -> usize
+    requires { ⌜ h .result ≤ 9216 ⌝ }
+{
+    let of_result = h.resultwas;
+    let mut result = [of_result; RESULT];
+    let r = h.result as usize;
+    answered(h, pool, table, a, b, c, d, &mut result[0..r], work, out)
+}
+
+// Large arrays come from functions of their own: a caller is then checked without them being written out.
+fn large_result(word: u32) -> [u32; LARGE] {
+    [word; LARGE]
+}
+
+fn usual_out() -> [u8; OUT] {
+    [0; OUT]
+}
+
+fn empty_body() -> [u8; BODY] {
+    [0; BODY]
+}
+
+// The same, with a large one.
+fn with_large_result(
+    h: Header,
+    pool: &mut [u8],
+    table: &mut [u32],
+    a: &[u32],
+    b: &[u32],
+    c: &[u32],
+    d: &[u32],
+    work: &mut [u32],
+    out: &mut [u8],
+) -> usize
+    requires { ⌜ Fits h ⌝ }
+{
+    let mut result = large_result(h.resultwas);
+    let r = h.result as usize;
+    answered_in_pieces(h, pool, table, a, b, c, d, &mut result[0..r], work, out)
+}
+
 // The same, with the result and the work buffer still to be made.
 fn with_buffers(
     h: Header,
@@ -74,24 +172,14 @@ fn with_buffers(
 ) -> usize
     requires { ⌜ Fits h ⌝ }
 {
-    let of_result = h.resultwas;
     let of_work = h.workwas;
-    let mut result = [of_result; RESULT];
     let mut work = [of_work; WORK];
-    let r = h.result as usize;
     let w = h.work as usize;
-    answered(
-        h,
-        pool,
-        table,
-        a,
-        b,
-        c,
-        d,
-        &mut result[0..r],
-        &mut work[0..w],
-        out,
-    )
+    if 9216 < h.result {
+        with_large_result(h, pool, table, a, b, c, d, &mut work[0..w], out)
+    } else {
+        with_result(h, pool, table, a, b, c, d, &mut work[0..w], out)
+    }
 }
 
 // The same, with the last two lists still to be taken from the request.
@@ -206,12 +294,12 @@ fn say_fault(fault: u32) -> bool {
 fn serve_body(h: Header) -> bool
     requires { ⌜ Fits h ⌝ }
 {
-    let mut body = [0u8; BODY];
+    let mut body = empty_body();
     if !read_front(&mut body, h.body as usize) {
         say_fault(TORN);
         return false;
     }
-    let mut out = [0u8; OUT];
+    let mut out = usual_out();
     let m = with_names(h, &body, &mut out);
     write_front(&out, m)
 }

@@ -72,6 +72,20 @@ pub fn answer(t: Told, h: Header, result: &[u32], work: &[u32], out: &mut [u8]) 
     close(out, end)
 }
 
+// The bytes of so many words behind a place. No count here is near the bound.
+fn behind(at: usize, words: usize) -> usize
+    requires { ⌜ at ≤ 1000 ⌝ }
+{
+    if words < 1000000 { at + words * 4 } else { at }
+}
+
+// The head of an answer whose words follow in pieces.
+pub fn answer_head(t: Told, h: Header, result: &[u32], work: &[u32], out: &mut [u8]) -> usize {
+    put_told(t, flags(t, h, result, work), out);
+    put_word(out, 0, short(behind(28, t.words)));
+    28
+}
+
 // The same where no call was made.
 pub fn answer_alone(t: Told, out: &mut [u8]) -> usize {
     let at = put_told(t, 0, out);

@@ -3,9 +3,10 @@ use crate::coding::word_at;
 use calling::LAST;
 ghost use mathlib.Core.Path.{_≡_};
 ghost use Prim.Native.Nat.{_≤_};
-ghost use Rattle.serve.specs.Requests.{headOf, overBy, excessOf, filledTo, partsOf, faultOf, Fits};
+ghost use Rattle.serve.specs.Requests.{headOf, overBy, roomOf, excessOf, filledTo, partsOf, faultOf, Fits};
 
 // How much there is room for: bytes of a head and of a body, words of a list and of the two buffers. `calling` has the pool's and the table's.
+// A larger result buffer, for the answers of 64 sets, is made for requests that ask for it.
 pub const HEAD: usize = 64;
 
 pub const BODY: usize = 98304;
@@ -13,6 +14,8 @@ pub const BODY: usize = 98304;
 pub const LIST: usize = 10240;
 
 pub const RESULT: usize = 9216;
+
+pub const LARGE: usize = 533504;
 
 pub const WORK: usize = 20480;
 
@@ -75,11 +78,22 @@ fn over(n: u32, most: u32) -> u32
     if most < n { 1 } else { 0 }
 }
 
+// The same of a result buffer: a large one is not shown whole.
+fn over_result(n: u32, show: u32) -> u32
+    ensures { λ r. ⌜ (r ≡ overBy n (roomOf show)) × (r ≤ 1) ⌝ }
+{
+    if show == 0 {
+        over(n, 533504)
+    } else {
+        over(n, 9216)
+    }
+}
+
 // How many words of a head are over their room. The words show and whole are no or yes.
 fn excess(h: Header) -> u32
     ensures { λ r. ⌜ r ≡ excessOf h ⌝ }
 {
-    let buffers = over(h.result, 9216)
+    let buffers = over_result(h.result, h.show)
         + over(h.work, 20480)
         + over(h.pool, 9216)
         + over(h.table, 512);
