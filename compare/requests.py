@@ -11,7 +11,7 @@ RESULT_WAS, WORK_WAS = 0xaaaaaaaa, 0x55555555
 
 # ---- word 0 of a record: the only place that knows its form
 
-LENGTHS = False    # it carries the length of its part (W-206)
+LENGTHS = True    # it carries the length of its part (W-206)
 # which lists of a call are records
 RECORDS = {**{n: (0,) for n in (13, 14, 15, 16, 17, 18, 19, 23, 27, 29, 30)}, **{n: (0, 1) for n in (20, 21, 22, 25, 26)}, 28: (0, 2, 3)}
 
