@@ -10,7 +10,7 @@ use borrow.Author.Tests.{eqb-true, eq-eqb}
 use lib.Dec.{eqb}
 use lib.ListN.{length, length-append}
 use Rattle.rules.specs.Writing.{Rec, rec, head, kindIn, lengthIn}
-use Rattle.rules.specs.Reading.{Reader, onlyIf, lasting, next}
+use Rattle.rules.specs.Reading.{Reader, ifSo, lasting, next}
 
 pub kind-head : (k n : ℕ) → k < 65_536 → kindIn (head k n) ≡ k
 unfolding head kindIn

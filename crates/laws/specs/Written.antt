@@ -11,7 +11,7 @@ use lib.Dec.{eqb, ltb, eqb→eq}
 use Rattle.rules.specs.Base.{all}
 use Rattle.rules.specs.Trees.{var, quant, par, free, base, Factor, Ty, opened, basic, dim, fn, struct, list, Tys, Fields, boolean, string, datetime, size, count, countFields}
 use Rattle.rules.specs.Writing.{Rec, rec, head, kindIn, lengthIn, twos, signed, bySign, writeFactor, writeProduct, writeTy, writeTys, writeFields}
-use Rattle.rules.specs.Reading.{Reader, pass, give, unused, pick, onlyIf, lasting, next, factorTable, factorKinds, readFactors, readTys, readFields, readField, fieldTable, fieldKinds, readDim, readFn, readStruct, readList, typeTable, typeKinds, readTy}
+use Rattle.rules.specs.Reading.{Reader, pass, give, unused, pick, ifSo, lasting, next, factorTable, factorKinds, readFactors, readTys, readFields, readField, fieldTable, fieldKinds, readDim, readFn, readStruct, readList, typeTable, typeKinds, readTy}
 use Rattle.laws.specs.Lists.{Every, all-every, all-is}
 use Rattle.laws.specs.Heads.{head-back}
 use Rattle.laws.specs.Size.{size-ty}
@@ -83,7 +83,7 @@ pub lasting-read : {A : Type 0} {P : A → List Rec → Type 0} (n m : ℕ) (o :
 lasting-read n m none h = nothing
 lasting-read {A} {P} n m (some r) h = go (eqb (n + length (r .1)) m) refl
   where
-    go : (b : Bool) → eqb (n + length (r .1)) m ≡ b → Reads (onlyIf b (some r)) (λ a rest. P a rest × (n + length rest ≡ m))
+    go : (b : Bool) → eqb (n + length (r .1)) m ≡ b → Reads (ifSo b (some r)) (λ a rest. P a rest × (n + length rest ≡ m))
     go true e = given (h .holds (r .0) (r .1) refl, eqb-true (n + length (r .1)) m e)
     go false e = nothing
 

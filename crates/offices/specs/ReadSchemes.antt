@@ -13,7 +13,7 @@ use Rattle.rules.specs.Names.{Table}
 use Rattle.rules.specs.Schemes.{Scheme, concrete, scheme}
 use Rattle.rules.specs.Writing.{Rec, rec, kindIn, lengthIn}
 use Rattle.rules.specs.Reading
-use Rattle.rules.specs.Reading.{Reader, give, unused, pick, onlyIf, readTy, readBound, readAll, schemeOf}
+use Rattle.rules.specs.Reading.{Reader, give, unused, pick, ifSo, readTy, readBound, readAll, schemeOf}
 use Rattle.rules.specs.Offices.{nameNo, namesOne, wordIf, mapOpen, mapScheme, mapOption}
 use Rattle.offices.specs.Reading.{same-length, Alike, SameWord, Agree, Tables, end, row, Cases, neither, both}
 use Rattle.offices.specs.Reading.{cases, give-agree, unused-agree, pick-agree, then-agree, number-at, ty-agree, bound-agree, all-agree, unlike, head, tail, plain}
@@ -36,7 +36,7 @@ ended r = andThen (readAll readBound (length (r .1)) (r .1)) (λ bs. ends (r .0)
 
 -- a scheme of m records that says to be n long
 abbrev whole : ℕ → ℕ → Option (Scheme ℕ × List Rec) → Option (Scheme ℕ)
-whole n m o = onlyIf (eqb n m) (andThen o ended)
+whole n m o = ifSo (eqb n m) (andThen o ended)
 
 scheme-step : (w n b c : ℕ) (rs : List Rec) → schemeOf (rec w n b c ∷ rs) ≡ whole (lengthIn w) (suc (length rs)) (pick (kindIn w) (headTable n b c) rs)
 unfolding schemeOf
@@ -83,12 +83,12 @@ module _ (t t′ : Table) where
       → mapOption (mapScheme (nameNo t)) (whole n m o) ≡ mapOption (mapScheme (nameNo t′)) (whole n m o′)
   whole-alike n m neither = go (eqb n m)
     where
-      go : (b : Bool) → mapOption (mapScheme (nameNo t)) (onlyIf b none) ≡ mapOption (mapScheme (nameNo t′)) (onlyIf b none)
+      go : (b : Bool) → mapOption (mapScheme (nameNo t)) (ifSo b none) ≡ mapOption (mapScheme (nameNo t′)) (ifSo b none)
       go true = refl
       go false = refl
   whole-alike n m (both v v′ i j) = go (eqb n m)
     where
-      go : (b : Bool) → mapOption (mapScheme (nameNo t)) (onlyIf b (ended v)) ≡ mapOption (mapScheme (nameNo t′)) (onlyIf b (ended v′))
+      go : (b : Bool) → mapOption (mapScheme (nameNo t)) (ifSo b (ended v)) ≡ mapOption (mapScheme (nameNo t′)) (ifSo b (ended v′))
       go true = ended-alike v v′ i j
       go false = refl
 

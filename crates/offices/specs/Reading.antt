@@ -14,7 +14,7 @@ use Rattle.rules.specs.Trees.{Ty}
 use Rattle.rules.specs.Names.{Table}
 use Rattle.rules.specs.Writing.{Rec, rec, kindIn, lengthIn}
 use Rattle.rules.specs.Reading
-use Rattle.rules.specs.Reading.{Reader, pass, give, unused, pick, onlyIf, lasting, next, factorTable, factorKinds, readFactors, readTys, fieldTable, fieldKinds, readFields, typeTable, typeKinds, readTy}
+use Rattle.rules.specs.Reading.{Reader, pass, give, unused, pick, ifSo, lasting, next, factorTable, factorKinds, readFactors, readTys, fieldTable, fieldKinds, readFields, typeTable, typeKinds, readTy}
 use Rattle.rules.specs.Reading.{scalarTable, scalarKinds, conTable, conKinds, readCon, bindingTable, bindingKinds, readBinding, boundTable, boundKinds, readBound, readAll, records}
 use Rattle.rules.specs.Offices.{Word, number, name, Name, nameNo, namesOne, wordIf, readBack, ReadAlike, mapOpen, mapFactor, mapTy, mapTys, mapFields, mapCon, mapBinding, mapOption}
 
@@ -150,7 +150,7 @@ module _ (t t′ : Table) where
     lasting-agree : (n n′ m m′ : ℕ) (x x′ : Option (A × List Rec)) → n ≡ n′ → m ≡ m′ → Agree x x′ → Agree (lasting n m x) (lasting n′ m′ x′)
     lasting-agree n n′ m m′ x x′ en em h = go (cases x x′ (h .is))
       where
-        by : (b : Bool) (v v′ : A × List Rec) → g (v .0) ≡ g′ (v′ .0) → Alike (v .1) (v′ .1) → Agree (onlyIf b (some v)) (onlyIf b (some v′))
+        by : (b : Bool) (v v′ : A × List Rec) → g (v .0) ≡ g′ (v′ .0) → Alike (v .1) (v′ .1) → Agree (ifSo b (some v)) (ifSo b (some v′))
         by true v v′ i f = record { is = rw (i, f) }
         by false v v′ i f = record { is = refl }
 

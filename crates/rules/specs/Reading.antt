@@ -36,14 +36,14 @@ abbrev pub pick : {A : Type 0} → ℕ → List (ℕ × Reader A) → Reader A
 pick k [] = λ s. none
 pick k (x ∷ xs) = elim (eqb k (x .0)) [ true ↦ x .1 | false ↦ pick k xs ]
 
-abbrev pub onlyIf : {A : Type 0} → Bool → Option A → Option A
-onlyIf true o = o
-onlyIf false o = none
+abbrev pub ifSo : {A : Type 0} → Bool → Option A → Option A
+ifSo true o = o
+ifSo false o = none
 
 -- W-206: of m records, a part that says to be n long was read, and takes n
 abbrev pub lasting : {A : Type 0} → ℕ → ℕ → Option (A × List Rec) → Option (A × List Rec)
 lasting n m none = none
-lasting n m (some r) = onlyIf (eqb (n + length (r .1)) m) (some r)
+lasting n m (some r) = ifSo (eqb (n + length (r .1)) m) (some r)
 
 -- a part, by the kind, a, b, c of its first record; 'a list with a false length isn't well formed'
 abbrev pub next : {A : Type 0} → (ℕ → ℕ → ℕ → ℕ → Reader A) → Reader A
@@ -212,7 +212,7 @@ records (w ∷ a ∷ b ∷ c ∷ ws) = elim (records ws) [ none ↦ none | some 
 -- a scheme takes all records: its type, then its bounds; so its length is that of the list
 unfoldable pub schemeOf : List Rec → Option (Scheme ℕ)
 schemeOf [] = none
-schemeOf (rec w n b c ∷ rs) = onlyIf (eqb (lengthIn w) (suc (length rs))) (andThen (pick (kindIn w) (schemeTable n b c) rs) (λ r.
+schemeOf (rec w n b c ∷ rs) = ifSo (eqb (lengthIn w) (suc (length rs))) (andThen (pick (kindIn w) (schemeTable n b c) rs) (λ r.
     andThen (readAll readBound (length (r .1)) (r .1)) (λ bs. withBounds (r .0) bs)))
   where
     schemeTable : ℕ → ℕ → ℕ → List (ℕ × Reader (Scheme ℕ))
