@@ -1,5 +1,5 @@
 #!/usr/bin/env python3
-"""The edge cases through every build that the kit makes of `serve`: builds.py [SERVE] [--lengths]. At -O0, at -O3 and with LLVM's assumptions checked it must write what
+"""The edge cases through every build that the kit makes of `serve`: builds.py [SERVE]. At -O0, at -O3 and with LLVM's assumptions checked it must write what
 the proved program SERVE (default target/bin/serve) writes. They have 64 MB of stack: unlike the proved program, those that are not optimised copy the large buffers
 about, and the usual 8 MB are too few where 64 sets have room. The interpreter, which the kit runs first, stops at 10,000,000 steps, too few for these cases;
 `rt try serve` runs it on the stored requests."""
@@ -37,7 +37,7 @@ def chunks(serve, cases):
 
 
 def main():
-    args = requests.switches(sys.argv[1:])
+    args = sys.argv[1:]
     serve = args[0] if args else ROOT + '/target/bin/serve'
     last = int(re.search(r'LAST: u32 = (\d+)', open(ROOT + '/crates/calling/src/lib.rt').read()).group(1))
     cases = edges.cases(last)

@@ -1,11 +1,10 @@
 #!/usr/bin/env python3
-"""The compiled calls against numbat: compare.py NUMBAT [--cases N] [--seed S] [--kinds A,B] [--serve FILE] [--build DIR] [--log FILE] [--lengths]
+"""The compiled calls against numbat: compare.py NUMBAT [--cases N] [--seed S] [--kinds A,B] [--serve FILE] [--build DIR] [--log FILE]
 
 NUMBAT is a checkout of numbat at e8abf32b97. The harness is built from it in DIR (default target/compare), sends random requests of each kind to
 `serve` (default target/bin/serve, which `rt check serve` makes) and compares every answer with numbat's, or with our own reading of document 01
 where numbat has no counterpart. A difference counts as explained when model.py, which has document 01's rules, answers as `serve` did, and
-with the fewest of numbat's deviations switched on as numbat did; each deviation is a number of docs/DIFFERENCES.md. Any other fails the run.
-With --lengths word 0 of each record carries the length of its part (W-206), and there is a kind of cases with false lengths."""
+with the fewest of numbat's deviations switched on as numbat did; each deviation is a number of docs/DIFFERENCES.md. Any other fails the run."""
 import ast, itertools, os, re, subprocess, sys, tempfile, time
 from collections import Counter
 HERE = os.path.dirname(os.path.abspath(__file__))
@@ -78,19 +77,15 @@ class Tally:
             self.bad.append((0, '\t'.join(f), '', ''))
 
 
-def switch():
-    return ['--lengths'] * requests.LENGTHS
-
-
 def run_edges(harness, serve, tally):
     with tempfile.NamedTemporaryFile() as f:
         f.write(b''.join(q.bytes() for _, q in edges.cases(LAST)))
         f.flush()
-        take([harness] + switch() + ['check', serve, f.name], tally, 'the edge cases')
+        take([harness] + ['check', serve, f.name], tally, 'the edge cases')
 
 
 def run(harness, serve, kind, seed, count, tally):
-    take([harness] + switch() + ['compare', serve, kind, str(seed), str(count), str(CALLS)], tally, '%s, seed %d' % (kind, seed))
+    take([harness] + ['compare', serve, kind, str(seed), str(count), str(CALLS)], tally, '%s, seed %d' % (kind, seed))
 
 
 def take(command, tally, what):
@@ -109,8 +104,8 @@ def take(command, tally, what):
 
 
 def options(argv):
-    argv = requests.switches(argv)
-    o = {'--cases': '100000', '--seed': '1', '--kinds': ','.join(KINDS + ['lengths'] * requests.LENGTHS), '--serve': os.path.join(HERE, '../target/bin/serve'), '--build': os.path.join(HERE, '../target/compare'), '--log': ''}
+    argv = argv
+    o = {'--cases': '100000', '--seed': '1', '--kinds': ','.join(KINDS + ['lengths']), '--serve': os.path.join(HERE, '../target/bin/serve'), '--build': os.path.join(HERE, '../target/compare'), '--log': ''}
     args = []
     i = 0
     while i < len(argv):

@@ -402,7 +402,7 @@ def cases(last=24):
     out = [(why, of(line)) for why, line in rules()]
     # the same with other numbers: the first name isn't number 0
     out += [(why + ', other numbers', of(line, order=('L', 'f', 'y', 'b', 'P', 'a', 'x'))) for why, line in rules() if line.split()[0] in ('solve', 'vars', 'replaceset')]
-    parts = [values(), names(), limits(), malformed()] + [schemes()] * (last >= 25) + [judge()] * (last >= 28) + [sheets()] * (last >= 29) + [kinds_differ(), same_meaning(), parameters_stay(), new_records()] + [false_lengths()] * requests.LENGTHS
+    parts = [values(), names(), limits(), malformed()] + [schemes()] * (last >= 25) + [judge()] * (last >= 28) + [sheets()] * (last >= 29) + [kinds_differ(), same_meaning(), parameters_stay(), new_records()] + [false_lengths()]
     for part in parts:
         out += list(part)
     return [(why, q) for why, q in out if q.call <= last and max(map(len, q.lists)) <= 10240]

@@ -1,5 +1,5 @@
 #!/usr/bin/env python3
-"""Time and stack of the compiled calls at their limits: extremes.py [SERVE] [--lengths]. A call's stack is what `serve` needs for it beyond what it needs for comparing
+"""Time and stack of the compiled calls at their limits: extremes.py [SERVE]. A call's stack is what `serve` needs for it beyond what it needs for comparing
 two names with a result buffer of that kind (the usual or the large one); its time is that of a request, with reading, clearing the buffers and answering."""
 import os, resource, subprocess, sys
 HERE = os.path.dirname(os.path.abspath(__file__))
@@ -80,7 +80,7 @@ def stack_of(serve, data):
 
 
 def main():
-    args = requests.switches(sys.argv[1:])
+    args = sys.argv[1:]
     serve = args[0] if args else os.path.join(HERE, '../target/bin/serve')
     # what comparing two names needs
     base = {large: stack_of(serve, Request(4, (), [[97], [98]], result=9217 if large else 9216).bytes()) for large in (False, True)}

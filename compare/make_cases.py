@@ -1,5 +1,5 @@
 #!/usr/bin/env python3
-"""The list of cases of calls_run: make_cases.py HARNESS SERVE [--lengths] > crates/calls_run/stdin
+"""The list of cases of calls_run: make_cases.py HARNESS SERVE > crates/calls_run/stdin
 HARNESS is what build.sh made from a checkout of numbat, SERVE the program `serve`. Edge cases (edges.py) and random ones (fixed seeds) are asked of
 `serve`; an answer is stored only if numbat gives the same, or our own reading of document 01 where numbat has no counterpart, or if it differs from
 numbat's by a known difference, by the rule for it or as model.py confirms. The comment of a case says which. crates/calls_run/README.md has the form."""
@@ -75,20 +75,20 @@ def chosen(harness):
         if n % k == 0:
             yield why, q
     for kind, n in RANDOM:    # of the calls that numbat has
-        data = subprocess.run([harness] + compare.switch() + ['dump', kind, '2026', str(n), str(compare.CALLS & (1 << 28) - 1)], stdout=subprocess.PIPE, check=True).stdout
+        data = subprocess.run([harness] + ['dump', kind, '2026', str(n), str(compare.CALLS & (1 << 28) - 1)], stdout=subprocess.PIPE, check=True).stdout
         for d in requests.split(data):
             yield 'random, ' + kind, requests.unpack(d)
 
 
 def main():
-    harness, serve = requests.switches(sys.argv[1:])
+    harness, serve = sys.argv[1:]
     cases = [(why, q, plain(q)) for why, q in chosen(harness)]
     cases = [c for c in cases if c[2] is not None]
     data = b''.join(q.bytes() for _, q, _ in cases)
     with tempfile.NamedTemporaryFile() as f:
         f.write(data)
         f.flush()
-        said = subprocess.run([harness] + compare.switch() + ['check', serve, f.name], stdout=subprocess.PIPE, text=True).stdout.splitlines()
+        said = subprocess.run([harness] + ['check', serve, f.name], stdout=subprocess.PIPE, text=True).stdout.splitlines()
     answers = requests.replies(subprocess.run([serve], input=data, stdout=subprocess.PIPE).stdout)
     out, count = [], {}
     for (why, q, names), r, line in zip(cases, answers, said):

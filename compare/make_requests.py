@@ -1,5 +1,5 @@
 #!/usr/bin/env python3
-"""The requests that `serve` is run on in the gate: make_requests.py SERVE [--lengths]. Writes crates/serve/stdin, and SERVE's answers to stdout there, once these
+"""The requests that `serve` is run on in the gate: make_requests.py SERVE. Writes crates/serve/stdin, and SERVE's answers to stdout there, once these
 are as said here: K2; what is no request, each of the four ways, with the next one served; a name that is entered; a short work buffer; the judge on K2, the
 ceiling, two sets at once."""
 import os, struct, subprocess, sys
@@ -16,7 +16,7 @@ def wrong(*words):
 
 
 def main():
-    serve, = requests.switches(sys.argv[1:])
+    serve, = sys.argv[1:]
     k2 = 'solve (eq (var x) (bool))'
     torn = of(k2).bytes()[:90]
     # a request, and what its answer says: refusal, value, more, rounds, flags

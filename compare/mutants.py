@@ -1,5 +1,5 @@
 #!/usr/bin/env python3
-"""Wrong code must be noticed: mutants.py [--serve FILE] [--lengths] [NAME..]
+"""Wrong code must be noticed: mutants.py [--serve FILE] [NAME..]
 Each must-fail edit of code that `serve` reaches is put into a copy of crates/, compiled unproved (unproved.sh) and sent the edge cases; a mutant
 is noticed at the first case that it answers otherwise than the real program. Prints a line for each: the edit, and how many cases it took."""
 import glob, os, re, shutil, subprocess, sys, tempfile
@@ -36,7 +36,7 @@ def reached(crate):
 
 
 def main():
-    args = requests.switches(sys.argv[1:])
+    args = sys.argv[1:]
     serve = os.path.join(ROOT, 'target/bin/serve')
     if '--serve' in args:
         i = args.index('--serve')

@@ -11,21 +11,13 @@ RESULT_WAS, WORK_WAS = 0xaaaaaaaa, 0x55555555
 
 # ---- word 0 of a record: the only place that knows its form
 
-LENGTHS = False    # it carries the length of its part (W-206)
 # which lists of a call are records
 RECORDS = {**{n: (0,) for n in (13, 14, 15, 16, 17, 18, 19, 23, 27, 29, 30)}, **{n: (0, 1) for n in (20, 21, 22, 25, 26)}, 28: (0, 2, 3)}
 
 
-def switches(argv):
-    """the other words, with --lengths taken as a switch"""
-    global LENGTHS
-    LENGTHS = LENGTHS or '--lengths' in argv
-    return [a for a in argv if a != '--lengths']
-
-
 def head(kind, n):
     """word 0 of a record of this kind whose part has so many records"""
-    return kind + 65536 * n & 0xffffffff if LENGTHS else kind
+    return kind + 65536 * n & 0xffffffff
 
 
 def inner(kind, a, b, c, behind):
@@ -62,7 +54,7 @@ class Request:
 
     def sent(self):
         """the lists as they are sent"""
-        if self.ready or not LENGTHS:
+        if self.ready:
             return self.lists
         return [measured(l) if i in RECORDS.get(self.call, ()) else l for i, l in enumerate(self.lists)]
 

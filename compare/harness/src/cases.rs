@@ -407,7 +407,7 @@ impl Gen {
             if m < 60 && !full.is_empty() {
                 let l = &mut q.lists[*self.r.pick(&full)];
                 let i = self.r.below(l.len());
-                match self.r.below(if records::lengths() { 11 } else { 9 }) {
+                match self.r.below(11) {
                     0 => l[i] = self.r.below(30) as u32,
                     1 => l[i] = l[i].wrapping_add(1),
                     2 => l[i] = l[i].wrapping_sub(1),

@@ -9,7 +9,6 @@ use crate::typechecker::type_scheme::TypeScheme;
 use crate::typed_ast::{DType, DTypeFactor, StructInfo, StructKind, Type};
 use std::collections::HashMap;
 use std::sync::Arc;
-use std::sync::atomic::{AtomicBool, Ordering};
 
 pub const TOP: i128 = 2_147_483_647;
 
@@ -34,14 +33,10 @@ impl Names {
 
 // ---- word 0 of a record: the only place that knows its form
 
-static LENGTHS: AtomicBool = AtomicBool::new(false);
-/// word 0 carries the length of its part (W-206)
-pub fn use_lengths() { LENGTHS.store(true, Ordering::Relaxed) }
-pub fn lengths() -> bool { LENGTHS.load(Ordering::Relaxed) }
 /// word 0 of a record of this kind whose part has so many records
-pub fn head(kind: u32, len: usize) -> u32 { if lengths() { kind.wrapping_add(65_536u32.wrapping_mul(len as u32)) } else { kind } }
+pub fn head(kind: u32, len: usize) -> u32 { kind.wrapping_add(65_536u32.wrapping_mul(len as u32)) }
 /// its kind, and the length that it says
-pub fn opened(word: u32) -> (u32, Option<usize>) { if lengths() { (word % 65_536, Some((word / 65_536) as usize)) } else { (word, None) } }
+pub fn opened(word: u32) -> (u32, usize) { (word % 65_536, (word / 65_536) as usize) }
 /// a record, and what its part has behind it
 fn part(o: &mut Vec<u32>, r: [u32; 4], inner: impl FnOnce(&mut Vec<u32>)) {
     let at = o.len();
@@ -51,7 +46,7 @@ fn part(o: &mut Vec<u32>, r: [u32; 4], inner: impl FnOnce(&mut Vec<u32>)) {
 }
 fn leaf(o: &mut Vec<u32>, r: [u32; 4]) { part(o, r, |_| {}) }
 /// a part whose record was read, and whose end is not reached yet
-pub struct Begun { at: usize, len: Option<usize> }
+pub struct Begun { at: usize, len: usize }
 
 // ---- writing
 
@@ -160,7 +155,7 @@ impl<'a> Reader<'a> {
         let (kind, len) = opened(w);
         Some((Begun { at, len }, [kind, a, b, c]))
     }
-    fn shut(&self, p: Begun) -> Option<()> { if p.len.is_none_or(|n| n == self.at - p.at) { Some(()) } else { None } }
+    fn shut(&self, p: Begun) -> Option<()> { if p.len == self.at - p.at { Some(()) } else { None } }
     fn alone(&mut self) -> Option<[u32; 4]> { let (p, r) = self.begin()?; self.shut(p)?; Some(r) }
     fn name(&self, k: u32) -> Option<&'a str> { self.nm.get(k) }
     fn index(&self, k: u32) -> Option<usize> { if (k as u64) < self.count { Some(k as usize) } else { None } }

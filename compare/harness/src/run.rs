@@ -1,6 +1,5 @@
 //! harness compare SERVE KIND SEED COUNT CALLS: COUNT random cases of a kind. Lines to standard output:
 //! D<tab>call<tab>case<tab>numbat's answer<tab>serve's answer: a difference for the model to explain; W: a wrong answer; then a line of counts.
-//! With --lengths before these words, word 0 of a record carries the length of its part (W-206).
 //! harness dump KIND SEED COUNT CALLS: the requests of such cases. harness check SERVE FILE: the requests of a file; for each a line
 //! S<tab>who answered<tab>case, or a line D or W as above.
 use crate::cases::Gen;
@@ -72,8 +71,7 @@ pub fn report(k: &Counts, out: &mut impl Write) {
 }
 pub fn main(args: &[String]) -> i32 {
     let mut out = std::io::BufWriter::new(std::io::stdout().lock());
-    let mut a: Vec<&str> = args.iter().map(|s| s.as_str()).collect();
-    if a.first() == Some(&"--lengths") { crate::records::use_lengths(); a.remove(0); }
+    let a: Vec<&str> = args.iter().map(|s| s.as_str()).collect();
     match a[..] {
         ["compare", serve, kind, seed, count, calls] => {
             let (seed, count, calls): (u64, u64, u32) = (seed.parse().unwrap(), count.parse().unwrap(), calls.parse().unwrap());

@@ -58,8 +58,8 @@ kind-basic tree.datetime = refl
 -- the first record has the type's shape
 pub shape-held : (s : List ℕ) (t : Ty ℕ) (at : ℕ) → Holds s t at → shapeOf (viewAt s at) ≡ shapeTy t
 unfolding Holds HoldsProduct
-shape-held s (opened o) at h = rw h
-shape-held s (basic b) at h = rw (h, kind-basic b)
+shape-held s (opened o) at h = rw (h .0)
+shape-held s (basic b) at h = rw (h .0, kind-basic b)
 shape-held s (dim p) at h = rw (h .0)
 shape-held s (fn ps r) at h = rw (h .0)
 shape-held s (struct x as′ fs) at h = rw (h .0)

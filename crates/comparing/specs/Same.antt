@@ -15,8 +15,8 @@ use Rattle.rules.specs.Names.{Bytes, numbered}
 use Rattle.rules.specs.Trees.{_↑_, Product, Ty, opened, basic, dim, fn, struct, list, Tys, nil, cons, Fields, noFields, field, size, sizeTys, sizeFields, ty-dec}
 use Rattle.rules.specs.Writing.{words, writeTy}
 use Rattle.laws.specs.Lists.{is-yes, is-no}
-use Rattle.records.specs.Views.{viewAt, viewOf}
-use Rattle.records.specs.Places.{view-some, recAt}
+use Rattle.records.specs.Views.{viewAt, longAt, longOf, viewOf}
+use Rattle.records.specs.Places.{view-some, long-some, recAt}
 use Rattle.records.specs.Holds.{HoldsFactors, HoldsProduct, Holds, HoldsTys, HoldsFields}
 use Rattle.records.specs.Held.{held-words}
 use Rattle.records.specs.Parsed.{only}
@@ -42,7 +42,7 @@ same-next s i t j n w e = record { each = λ d l. go d l (ltb d n) refl }
 module _ (s t : List ℕ) where
   -- n records from `at` on say in s what those from k on say in t
   abbrev Alike : ℕ → ℕ → ℕ → Type 0
-  Alike at k n = (i : ℕ) → i < n → viewAt s (at + i) ≡ viewAt t (k + i)
+  Alike at k n = (i : ℕ) → i < n → (viewAt s (at + i) ≡ viewAt t (k + i)) × (longAt s (at + i) ≡ longAt t (k + i))
 
   -- m of them, past the first j
   part : (at k n j m : ℕ) → j + m ≤ n → Alike at k n → Alike (at + j) (k + j) m
@@ -52,30 +52,34 @@ module _ (s t : List ℕ) where
       rw (p, q) (a (j + i) (omega arith))
 
   shown : (at k n : ℕ) → 0 < n → Alike at k n → viewAt t k ≡ viewAt s at
-  shown at k n h a = rw (add-zero at, add-zero k) at (sym (a 0 h))
+  shown at k n h a = rw (add-zero at, add-zero k) at (sym (a 0 h .0))
+
+  long : (at k n : ℕ) → 0 < n → Alike at k n → longAt t k ≡ longAt s at
+  long at k n h a = rw (add-zero at, add-zero k) at (sym (a 0 h .1))
 
   factors-too : (p : Product ℕ) (at k : ℕ) → Alike at k (length p) → HoldsFactors s p at → HoldsFactors t p k
   unfolding HoldsFactors
   factors-too [] at k a h = tt
   factors-too (f ↑ frac n d ∷ p) at k a h =
-      ((shown at k (suc (length p)) (omega arith) a ∙ h .0 .0, h .0 .1), factors-too p (at + 1) (k + 1) (part at k (suc (length p)) 1 (length p) (omega arith) a) (h .1))
+      ((shown at k (suc (length p)) (omega arith) a ∙ h .0 .0, h .0 .1, long at k (suc (length p)) (omega arith) a ∙ h .0 .2), factors-too p (at + 1) (k + 1) (part at k (suc (length p)) 1 (length p) (omega arith) a) (h .1))
 
   mutual
     unfolding Holds HoldsProduct size
 
     -- what a place holds, another holds whose records say the same
     pub held-too : (x : Ty ℕ) (at k : ℕ) → Alike at k (size x) → Holds s x at → Holds t x k
-    held-too (opened o) at k a h = shown at k 1 (omega arith) a ∙ h
-    held-too (basic b) at k a h = shown at k 1 (omega arith) a ∙ h
+    held-too (opened o) at k a h = (shown at k 1 (omega arith) a ∙ h .0, long at k 1 (omega arith) a ∙ h .1)
+    held-too (basic b) at k a h = (shown at k 1 (omega arith) a ∙ h .0, long at k 1 (omega arith) a ∙ h .1)
     held-too (dim p) at k a h =
         let n : ℕ = size (dim p) in
-        (shown at k n (omega arith) a ∙ h .0, factors-too p (at + 1) (k + 1) (part at k n 1 (length p) (omega arith) a) (h .1))
+        (shown at k n (omega arith) a ∙ h .0, factors-too p (at + 1) (k + 1) (part at k n 1 (length p) (omega arith) a) (h .1), long at k n (omega arith) a ∙ h .2)
     held-too (fn ps r) at k a h =
         let n : ℕ = size (fn ps r) in
         let rest = part at k n 1 (sizeTys ps + size r) (omega arith) a in (
           shown at k n (omega arith) a ∙ h .0,
           tys-too ps (at + 1) (k + 1) (part at k n 1 (sizeTys ps) (omega arith) a) (h .1),
           held-too r (at + 1 + sizeTys ps) (k + 1 + sizeTys ps) (part (at + 1) (k + 1) (sizeTys ps + size r) (sizeTys ps) (size r) (omega arith) rest) (h .2),
+          long at k n (omega arith) a ∙ h .3,
         )
     held-too (struct x as′ fs) at k a h =
         let n : ℕ = size (struct x as′ fs) in
@@ -83,10 +87,11 @@ module _ (s t : List ℕ) where
           shown at k n (omega arith) a ∙ h .0,
           tys-too as′ (at + 1) (k + 1) (part at k n 1 (sizeTys as′) (omega arith) a) (h .1),
           fields-too fs (at + 1 + sizeTys as′) (k + 1 + sizeTys as′) (part (at + 1) (k + 1) (sizeTys as′ + sizeFields fs) (sizeTys as′) (sizeFields fs) (omega arith) rest) (h .2),
+          long at k n (omega arith) a ∙ h .3,
         )
     held-too (list x) at k a h =
         let n : ℕ = size (list x) in
-        (shown at k n (omega arith) a ∙ h .0, held-too x (at + 1) (k + 1) (part at k n 1 (size x) (omega arith) a) (h .1))
+        (shown at k n (omega arith) a ∙ h .0, held-too x (at + 1) (k + 1) (part at k n 1 (size x) (omega arith) a) (h .1), long at k n (omega arith) a ∙ h .2)
 
     tys-too : (xs : Tys ℕ) (at k : ℕ) → Alike at k (sizeTys xs) → HoldsTys s xs at → HoldsTys t xs k
     tys-too nil at k a h = tt
@@ -104,11 +109,15 @@ module _ (s t : List ℕ) where
           shown at k n (omega arith) a ∙ h .0,
           held-too u (at + 1) (k + 1) (part at k n 1 (size u) (omega arith) a) (h .1),
           fields-too fs (at + 1 + size u) (k + 1 + size u) (part (at + 1) (k + 1) (size u + sizeFields fs) (size u) (sizeFields fs) (omega arith) rest) (h .2),
+          long at k n (omega arith) a ∙ h .3,
         )
 
   -- records of equal words say the same
   alike : (at k n : ℕ) → at + n ≤ length s / 4 → k + n ≤ length t / 4 → SameWords s (at * 4) t (k * 4) (n * 4) → Alike at k n
-  alike at k n p q w i l = view-some s (at + i) (omega arith) ∙ ap viewOf same ∙ sym (view-some t (k + i) (omega arith))
+  alike at k n p q w i l = (
+    view-some s (at + i) (omega arith) ∙ ap viewOf same ∙ sym (view-some t (k + i) (omega arith)),
+    long-some s (at + i) (omega arith) ∙ ap longOf same ∙ sym (long-some t (k + i) (omega arith)),
+  )
     where
       word : (j : ℕ) → j < 4 → getD s ((at + i) * 4 + j) 0 ≡ getD t ((k + i) * 4 + j) 0
       word j h =

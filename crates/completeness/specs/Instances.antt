@@ -12,7 +12,8 @@ use Rattle.rules.specs.Base.{got, bounded, all}
 use Rattle.rules.specs.Exponents.{Exp, frac, nought, one, lowest, plus}
 use Rattle.rules.specs.Trees.{Names, var, par, free, base, _↑_, dim, basic, boolean, Con, equal, isScalar, Binding, _≔_}
 use Rattle.rules.specs.Names.{tableOf, numbersOf, isHeld}
-use Rattle.rules.specs.Writing.{rec, words}
+use Rattle.rules.specs.Writing.{rec}
+use Rattle.rules.specs.Lengths.{sizedWords, counting}
 use Rattle.rules.specs.Solving.{accepted, solve}
 use Rattle.rules.specs.Calls.{setGiven, solved, unsolved, refusedAfter, solveCall}
 use Rattle.rules.specs.Rules.{rules}
@@ -51,14 +52,14 @@ abbrev k13 : List (Con ℕ)
 k13 = isScalar (base L ↑ one ∷ []) ∷ []
 
 abbrev k13-words : List ℕ
-k13-words = words (rec 22 0 0 0 ∷ rec 3 1 0 0 ∷ rec 13 L 1 1 ∷ [])
+k13-words = sizedWords (rec 22 0 0 0 ∷ rec 3 1 0 0 ∷ rec 13 L 1 1 ∷ [])
 
 k13-read : setGiven (tableOf pool table) k13-words ≡ got k13
-unfolding rules pool table
+unfolding rules counting pool table
 k13-read = refl
 
 k13-answer : solveCall pool table k13-words result work .answer ≡ unsolved 3 0
-unfolding rules pool table result work
+unfolding rules counting pool table result work
 k13-answer = refl
 
 pub k13-none : Choosing same k13 → ⊥
@@ -71,14 +72,14 @@ abbrev two-things : List (Con ℕ)
 two-things = equal (dim (free (par L) ↑ one ∷ [])) (dim (base L ↑ one ∷ [])) ∷ []
 
 abbrev two-things-words : List ℕ
-two-things-words = words (rec 20 0 0 0 ∷ rec 3 1 0 0 ∷ rec 12 L 1 1 ∷ rec 3 1 0 0 ∷ rec 13 L 1 1 ∷ [])
+two-things-words = sizedWords (rec 20 0 0 0 ∷ rec 3 1 0 0 ∷ rec 12 L 1 1 ∷ rec 3 1 0 0 ∷ rec 13 L 1 1 ∷ [])
 
 two-things-read : setGiven (tableOf pool table) two-things-words ≡ got two-things
-unfolding rules pool table
+unfolding rules counting pool table
 two-things-read = refl
 
 two-things-answer : solveCall pool table two-things-words result work .answer ≡ unsolved 4 1
-unfolding rules pool table result work
+unfolding rules counting pool table result work
 two-things-answer = refl
 
 pub two-things-none : Choosing same two-things → ⊥
@@ -91,18 +92,18 @@ abbrev open-two : List (Con ℕ)
 open-two = isScalar (free (var x) ↑ one ∷ free (var y) ↑ one ∷ free (var z) ↑ one ∷ []) ∷ []
 
 abbrev open-two-words : List ℕ
-open-two-words = words (rec 22 0 0 0 ∷ rec 3 3 0 0 ∷ rec 11 x 1 1 ∷ rec 11 y 1 1 ∷ rec 11 z 1 1 ∷ [])
+open-two-words = sizedWords (rec 22 0 0 0 ∷ rec 3 3 0 0 ∷ rec 11 x 1 1 ∷ rec 11 y 1 1 ∷ rec 11 z 1 1 ∷ [])
 
 -- x is bound to y^-1 z^-1
 abbrev open-two-bindings : List (Binding ℕ)
 open-two-bindings = x ≔ dim (free (var y) ↑ frac (negsuc 0) 1 ∷ free (var z) ↑ frac (negsuc 0) 1 ∷ []) ∷ []
 
 open-two-read : setGiven (tableOf pool table) open-two-words ≡ got open-two
-unfolding rules pool table
+unfolding rules counting pool table
 open-two-read = refl
 
 open-two-answer : solveCall pool table open-two-words result work .answer ≡ solved 4 0 1
-unfolding rules pool table result work
+unfolding rules counting pool table result work
 open-two-answer = refl
 
 open-two-solved : solve names bounded open-two ≡ accepted open-two-bindings [] 1
@@ -182,14 +183,14 @@ abbrev k14 : List (Con ℕ)
 k14 = isScalar (free (var x) ↑ frac (pos 1) 2 ∷ free (var y) ↑ frac (pos 2_147_483_647) 1 ∷ []) ∷ []
 
 abbrev k14-words : List ℕ
-k14-words = words (rec 22 0 0 0 ∷ rec 3 2 0 0 ∷ rec 11 x 1 2 ∷ rec 11 y 2_147_483_647 1 ∷ [])
+k14-words = sizedWords (rec 22 0 0 0 ∷ rec 3 2 0 0 ∷ rec 11 x 1 2 ∷ rec 11 y 2_147_483_647 1 ∷ [])
 
 k14-read : setGiven (tableOf pool table) k14-words ≡ got k14
-unfolding rules pool table
+unfolding rules counting pool table
 k14-read = refl
 
 k14-answer : solveCall pool table k14-words result work .answer ≡ refusedAfter 7 0
-unfolding rules pool table result work
+unfolding rules counting pool table result work
 k14-answer = refl
 
 -- nothing for every variable
@@ -209,14 +210,14 @@ abbrev k9 : List (Con ℕ)
 k9 = equal (dim (free (var x) ↑ one ∷ [])) (basic boolean) ∷ []
 
 abbrev k9-words : List ℕ
-k9-words = words (rec 20 0 0 0 ∷ rec 3 1 0 0 ∷ rec 11 x 1 1 ∷ rec 4 0 0 0 ∷ [])
+k9-words = sizedWords (rec 20 0 0 0 ∷ rec 3 1 0 0 ∷ rec 11 x 1 1 ∷ rec 4 0 0 0 ∷ [])
 
 k9-read : setGiven (tableOf pool table) k9-words ≡ got k9
-unfolding rules pool table
+unfolding rules counting pool table
 k9-read = refl
 
 k9-answer : solveCall pool table k9-words result work .answer ≡ solved 2 0 1
-unfolding rules pool table result work
+unfolding rules counting pool table result work
 k9-answer = refl
 
 k9-none : Choosing same k9 → ⊥

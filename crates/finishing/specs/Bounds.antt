@@ -46,12 +46,12 @@ use Rattle.finishing.specs.Others.{con-some, cons-length, others-few, se
 
 -- ══ Bounds written one after another ══
 
-bound-rec : (x : ℕ) → recOf (view.Bound (Var x)) ≡ boundRec x
+bound-rec : (x : ℕ) → recOf (view.Bound (Var x)) 1 ≡ boundRec x
 unfolding writeBound
 bound-rec x = refl
 
 -- what is left to write falls by one
-pub bound-step : (names d d′ : List ℕ) (k out i : ℕ) {R : List ℕ} → i < k → k ≤ length names → d′ ≡ sets d ((out + i) * 4) (words (recOf (view.Bound (Var (getD names i 0))) ∷ []))
+pub bound-step : (names d d′ : List ℕ) (k out i : ℕ) {R : List ℕ} → i < k → k ≤ length names → d′ ≡ sets d ((out + i) * 4) (words (recOf (view.Bound (Var (getD names i 0))) 1 ∷ []))
     → sets d ((out + i) * 4) (words (map boundRec (slice i k names))) ≡ R → sets d′ ((out + (i + 1)) * 4) (words (map boundRec (slice (i + 1) k names))) ≡ R
 bound-step names d d′ k out i {R} lt le e h =
     let r : Rec = boundRec (getD names i 0) in

@@ -63,10 +63,10 @@ saysDim view.Bad = false
 module _ (s : List ℕ) where
   dim-said : (t : tree.Ty ℕ) (at : ℕ) → Holds s t at → saysNamed (viewAt s at) ≡ isBound (isDim t)
   unfolding Holds HoldsProduct boundOf
-  dim-said (opened (tree.var x)) at h = rw h
-  dim-said (opened (tree.quant i)) at h = rw h
-  dim-said (opened (tree.par x)) at h = rw h
-  dim-said (basic b) at h = rw h
+  dim-said (opened (tree.var x)) at h = rw (h .0)
+  dim-said (opened (tree.quant i)) at h = rw (h .0)
+  dim-said (opened (tree.par x)) at h = rw (h .0)
+  dim-said (basic b) at h = rw (h .0)
   dim-said (dim p) at h = rw (h .0)
   dim-said (fn ps r) at h = rw (h .0)
   dim-said (struct n as′ fs) at h = rw (h .0)

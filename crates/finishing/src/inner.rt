@@ -5,7 +5,7 @@ use queries::inner::list_names;
 use records::Open;
 use records::View;
 use records::inner::copy;
-use records::inner::put_record;
+use records::inner::put_one;
 use records::seen::view_at;
 use rounds::inner::con_end;
 use rules::NAMES;
@@ -103,7 +103,7 @@ fn put_bounds(names: &[u32], k: usize, dst: &mut [u32], out: usize)
 {
     let mut i = 0;
     while i < k {
-        put_record(dst, out + i, View::Bound(Open::Var(names[i])));
+        put_one(dst, out + i, View::Bound(Open::Var(names[i])));
         i += 1;
     }
 }

@@ -11,24 +11,22 @@ use borrow.Author.Tests.{lt-ltb, le-ltb}
 use lib.Dec.{ltb}
 use lib.ListN.{length, set, getD, getElem?, replicate, length-replicate, getD-replicate}
 use lib.Seq.{getD-set-same, getD-set-other}
-use Rattle.rules.specs.Base.{all, andThen, onlyIf}
+use Rattle.rules.specs.Base.{andThen, onlyIf}
 use Rattle.rules.specs.Names.{tableOf, isHeld}
 use Rattle.rules.specs.Schemes.{renamed, back}
 use Rattle.rules.specs.Trees as tree
 use Rattle.rules.specs.Trees.{opened}
 use Rattle.rules.specs.WellFormed.{goodTy, goodOpen}
-use Rattle.rules.specs.Writing.{rec}
+use Rattle.rules.specs.Writing.{head}
 use Rattle.laws.specs.Lists.{All}
 use Rattle.laws.specs.NameTable.{held-is}
 use Rattle.renaming.specs.Again.{there-in, back-is}
 use Rattle.renaming.specs.Own.{own, own-is, own-known}
-use Rattle.records.specs.Holds.{Holds, viewOpen}
-use Rattle.records.specs.Views.{plain, viewOf, viewAt}
-use Rattle.records.specs.declared.View.the-variants as view
+use Rattle.records.specs.Holds.{Holds}
 use Rattle.replacing.specs.Places.{wordOf, SaysAt}
 use Rattle.replacing.specs.Well.{GoodTy, Lent}
 use Rattle.handing.specs.Tables.{backPlaces, ownPlaces, ownTypes, back-places-long, own-places-long, own-types-long}
-use Rattle.handing.specs.Stored.{view-far, view-here}
+use Rattle.handing.specs.Stored.{held-far, held-here}
 use Rattle.handing.specs.Said.{renamed-few, renamed-good, past}
 
 -- ══ Words and types ══
@@ -70,17 +68,17 @@ unfolding ownPlaces
 own-rest zero d x h = refl
 own-rest (suc m) d x h = getD-set-other (ownPlaces m d) m x (m + 1) 0 (λ e. omega arith) ∙ own-rest m d x (omega arith)
 
-own-type : (n : ℕ) (d : List ℕ) (x : ℕ) → n * 4 ≤ length d → x < n → viewAt (ownTypes n d) x ≡ view.Opened (viewOpen (tree.var x))
-unfolding ownTypes viewOf plain all
+own-type : (n : ℕ) (d : List ℕ) (x : ℕ) → n * 4 ≤ length d → x < n → Holds (ownTypes n d) (opened (tree.var x)) x
+unfolding ownTypes
 own-type zero d x h l = absurd (omega arith)
 own-type (suc m) d x h l = go (decLt x m) (λ i. own-type m d x (omega arith) i)
   where
-    go : Dec (x < m) → (x < m → viewAt (ownTypes m d) x ≡ view.Opened (viewOpen (tree.var x))) → viewAt (ownTypes (suc m) d) x ≡ view.Opened (viewOpen (tree.var x))
-    go (yes i) r = view-far (ownTypes m d) m 1 m 0 0 x (λ e. omega arith) ∙ r i
+    go : Dec (x < m) → (x < m → Holds (ownTypes m d) (opened (tree.var x)) x) → Holds (ownTypes (suc m) d) (opened (tree.var x)) x
+    go (yes i) r = held-far (ownTypes m d) m (head 1 1) m 0 0 x (tree.var x) (λ e. omega arith) (r i)
     go (no i) r =
         let e : x ≡ m = omega arith in
         let k = own-types-long m d in
-        rw e (view-here (ownTypes m d) m 1 m 0 0 (omega arith))
+        rw e (held-here (ownTypes m d) m (head 1 1) m 0 0 (tree.var m) refl (omega arith))
 
 -- ══ The renamings ══
 
@@ -95,7 +93,7 @@ module _ (pool table : List ℕ) (few : getD table 0 0 ≤ 256) where
   types-near = let l = own-types-long held (replicate 1024 0) in let n = length-replicate {A = ℕ} 1024 0 in omega arith
 
   -- the type of a held name
-  own-there : (x : ℕ) → x < held → viewAt ownedTypes x ≡ view.Opened (viewOpen (tree.var x))
+  own-there : (x : ℕ) → x < held → Holds ownedTypes (opened (tree.var x)) x
   own-there x l = own-type held (replicate 1024 0) x (let n = length-replicate {A = ℕ} 1024 0 in omega arith) l
 
   zeros : (n j : ℕ) → getD {A = ℕ} (replicate n 0) j 0 ≡ 0

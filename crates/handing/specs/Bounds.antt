@@ -14,7 +14,7 @@ use Rattle.rules.specs.Trees.{Ty, opened}
 use Rattle.rules.specs.Writing.{Rec, words, writeBound}
 use Rattle.laws.specs.Lists.{some≢none}
 use Rattle.records.specs.Holds.{Holds, Shows, viewOpen, openOf}
-use Rattle.records.specs.Views.{viewAt, recBound}
+use Rattle.records.specs.Views.{viewAt, recOf}
 use Rattle.records.specs.declared.Open.{Open}
 use Rattle.records.specs.declared.Open.the-variants.{Var, Quant, Par}
 use Rattle.records.specs.declared.View.the-variants as view
@@ -58,7 +58,7 @@ open-view (tree.quant i) = refl
 open-view (tree.par x) = refl
 
 -- a bound's record, as the trees write it
-pub bound-rec : (o : Open) → recBound o ≡ writeBound (openOf o)
+pub bound-rec : (o : Open) → recOf (view.Bound o) 1 ≡ writeBound (openOf o)
 unfolding writeBound
 bound-rec (Var x) = refl
 bound-rec (Quant i) = refl
@@ -67,11 +67,11 @@ bound-rec (Par x) = refl
 module _ (v : List ℕ) (i : ℕ) where
   pub named : (u : Open) → viewAt v i ≡ view.Opened u → NamesAt v i (openOf u)
   unfolding Holds
-  named u e = record { name = λ o h. let z : view.Opened u ≡ view.Opened (viewOpen o) = sym e ∙ h in let y : u ≡ viewOpen o = cc in ap openOf y ∙ open-view o }
+  named u e = record { name = λ o h. let z : view.Opened u ≡ view.Opened (viewOpen o) = sym e ∙ h .0 in let y : u ≡ viewOpen o = cc in ap openOf y ∙ open-view o }
 
   pub unnamed : (r : tree.Open ℕ) → ((u : Open) → viewAt v i ≡ view.Opened u → ⊥) → NamesAt v i r
   unfolding Holds
-  unnamed r n = record { name = λ o h. absurd (n (viewOpen o) h) }
+  unnamed r n = record { name = λ o h. absurd (n (viewOpen o) (h .0)) }
 
 module _ (f : Rename) (o : tree.Open ℕ) (all : Bool) where
   -- what was found is the new name
@@ -152,7 +152,7 @@ module _ (f : Rename) (o : tree.Open ℕ) (all : Bool) (d : List ℕ) (out : ℕ
   abbrev pub Put : List ℕ → ℕ → Type 0
   Put d′ n = (n ≡ length (boundsOf all f o)) × (d′ ≡ sets d (out * 4) (words (map writeBound (boundsOf all f o))))
 
-  pub written-one : (r : Open) (d′ : List ℕ) → boundsOf all f o ≡ openOf r ∷ [] → d′ ≡ sets d (out * 4) (words (recBound r ∷ [])) → Put d′ 1
+  pub written-one : (r : Open) (d′ : List ℕ) → boundsOf all f o ≡ openOf r ∷ [] → d′ ≡ sets d (out * 4) (words (recOf (view.Bound r) 1 ∷ [])) → Put d′ 1
   written-one r d′ e h = rw e (refl, h ∙ ap (λ (x : Rec). sets d (out * 4) (words (x ∷ []))) (bound-rec r))
 
   pub written-none : boundsOf all f o ≡ [] → Put d 0

@@ -18,9 +18,7 @@ use Rattle.rules.specs.Trees.{Names, Ty, opened, size}
 use Rattle.laws.specs.Lists.{All, some≢none}
 use Rattle.renaming.specs.InTurn.{firstOf, allOf, At, first-at, all-good}
 use Rattle.renaming.specs.Again.{there-in}
-use Rattle.records.specs.Holds.{Holds, viewOpen}
-use Rattle.records.specs.Views.{viewAt}
-use Rattle.records.specs.declared.View.the-variants as view
+use Rattle.records.specs.Holds.{Holds}
 use Rattle.rules.specs.Names.{tableOf, numbersOf, isHeld}
 use Rattle.rules.specs.WellFormed.{goodTy}
 use Rattle.replacing.specs.Places.{wordOf, SaysAt, Tabled}
@@ -38,7 +36,7 @@ renamed-few f o t e = go (f o) e
     go (some u) k = let z : opened u ≡ t = cc in rw (sym z) (omega arith)
 
 -- a word that is 0, or one more than a place where the new name stands
-says : (v : List ℕ) (w : ℕ) (s : Option (tree.Open ℕ)) → (s ≡ none → w ≡ 0) → ((u : tree.Open ℕ) → s ≡ some u → (at : ℕ) × ((w ≡ at + 1) × (viewAt v at ≡ view.Opened (viewOpen u)))) → SaysAt v w (andThen s (λ u. some (opened u)))
+says : (v : List ℕ) (w : ℕ) (s : Option (tree.Open ℕ)) → (s ≡ none → w ≡ 0) → ((u : tree.Open ℕ) → s ≡ some u → (at : ℕ) × ((w ≡ at + 1) × Holds v (opened u) at)) → SaysAt v w (andThen s (λ u. some (opened u)))
 unfolding Holds
 says v w none a b = a refl
 says v w (some u) a b = let (at, (e, h)) = b u refl in record { at = at; word = e; held = h }

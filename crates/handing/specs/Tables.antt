@@ -5,7 +5,7 @@ use Prim.Native.Nat.{ℕ, zero, suc, _+_, _*_, _<_}
 use native.Mathlib.Omega.{arith}
 use lib.ListN.{length, set, getD, drop, drop-of-length-le, length-set}
 use lib.Seq.{sets, length-sets, drop-cons}
-use Rattle.rules.specs.Writing.{words, rec}
+use Rattle.rules.specs.Writing.{words, rec, head}
 
 -- handed names, as variables and as parameters
 unfoldable pub quantPlaces : List ℕ → List ℕ → List ℕ
@@ -15,7 +15,7 @@ quantPlaces (x ∷ xs) d = set (set (quantPlaces xs d) x (x + 1)) (256 + x) (x +
 -- quantified variables from i on
 unfoldable pub quantTypes : ℕ → List ℕ → List ℕ → List ℕ
 quantTypes i [] d = d
-quantTypes i (x ∷ xs) d = sets (quantTypes (suc i) xs d) (x * 4) (words (rec 14 i 0 0 ∷ []))
+quantTypes i (x ∷ xs) d = sets (quantTypes (suc i) xs d) (x * 4) (words (rec (head 14 1) i 0 0 ∷ []))
 
 unfoldable pub backPlaces : ℕ → List ℕ → List ℕ → List ℕ
 backPlaces i [] d = d
@@ -28,7 +28,7 @@ ownPlaces (suc x) d = set (ownPlaces x d) x (x + 1)
 
 unfoldable pub ownTypes : ℕ → List ℕ → List ℕ
 ownTypes zero d = d
-ownTypes (suc x) d = sets (ownTypes x d) (x * 4) (words (rec 1 x 0 0 ∷ []))
+ownTypes (suc x) d = sets (ownTypes x d) (x * 4) (words (rec (head 1 1) x 0 0 ∷ []))
 
 -- ══ One name more ══
 
@@ -41,7 +41,7 @@ module _ (names : List ℕ) (i j : ℕ) (e : i ≡ j + 1) (h : j < length names)
   unfolding quantPlaces
   quant-places d p p′ a b = b ∙ rw (more, a)
 
-  pub quant-types : (d v v′ : List ℕ) → v ≡ quantTypes i (drop i names) d → v′ ≡ sets v (getD names j 0 * 4) (words (rec 14 j 0 0 ∷ [])) → v′ ≡ quantTypes j (drop j names) d
+  pub quant-types : (d v v′ : List ℕ) → v ≡ quantTypes i (drop i names) d → v′ ≡ sets v (getD names j 0 * 4) (words (rec (head 14 1) j 0 0 ∷ [])) → v′ ≡ quantTypes j (drop j names) d
   unfolding quantTypes
   quant-types d v v′ a b = let k : i ≡ suc j = omega arith in b ∙ rw (more, a, k)
 
@@ -75,9 +75,9 @@ module _ (x : ℕ) where
   unfolding ownPlaces
   own-places d p p′ a b = b ∙ ap (λ (l : List ℕ). set l x (x + 1)) a ∙ ap (λ (n : ℕ). ownPlaces n d) (sym next-one)
 
-  pub own-types : (d v v′ : List ℕ) → v ≡ ownTypes x d → v′ ≡ sets v (x * 4) (words (rec 1 x 0 0 ∷ [])) → v′ ≡ ownTypes (x + 1) d
+  pub own-types : (d v v′ : List ℕ) → v ≡ ownTypes x d → v′ ≡ sets v (x * 4) (words (rec (head 1 1) x 0 0 ∷ [])) → v′ ≡ ownTypes (x + 1) d
   unfolding ownTypes
-  own-types d v v′ a b = b ∙ ap (λ (l : List ℕ). sets l (x * 4) (words (rec 1 x 0 0 ∷ []))) a ∙ ap (λ (n : ℕ). ownTypes n d) (sym next-one)
+  own-types d v v′ a b = b ∙ ap (λ (l : List ℕ). sets l (x * 4) (words (rec (head 1 1) x 0 0 ∷ []))) a ∙ ap (λ (n : ℕ). ownTypes n d) (sym next-one)
 
 -- ══ Their lengths ══
 
@@ -89,7 +89,7 @@ quant-places-long (x ∷ xs) d = let r = quant-places-long xs d in simp length-s
 pub quant-types-long : (i : ℕ) (xs d : List ℕ) → length (quantTypes i xs d) ≡ length d
 unfolding quantTypes
 quant-types-long i [] d = refl
-quant-types-long i (x ∷ xs) d = length-sets (quantTypes (suc i) xs d) (x * 4) (words (rec 14 i 0 0 ∷ [])) ∙ quant-types-long (suc i) xs d
+quant-types-long i (x ∷ xs) d = length-sets (quantTypes (suc i) xs d) (x * 4) (words (rec (head 14 1) i 0 0 ∷ [])) ∙ quant-types-long (suc i) xs d
 
 pub back-places-long : (i : ℕ) (xs d : List ℕ) → length (backPlaces i xs d) ≡ length d
 unfolding backPlaces
@@ -104,4 +104,4 @@ own-places-long (suc x) d = let r = own-places-long x d in simp length-set r
 pub own-types-long : (x : ℕ) (d : List ℕ) → length (ownTypes x d) ≡ length d
 unfolding ownTypes
 own-types-long zero d = refl
-own-types-long (suc x) d = length-sets (ownTypes x d) (x * 4) (words (rec 1 x 0 0 ∷ [])) ∙ own-types-long x d
+own-types-long (suc x) d = length-sets (ownTypes x d) (x * 4) (words (rec (head 1 1) x 0 0 ∷ [])) ∙ own-types-long x d

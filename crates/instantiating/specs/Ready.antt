@@ -28,6 +28,7 @@ use Rattle.records.specs.Views.{viewAt, from}
 use Rattle.records.specs.declared.View.{View}
 use Rattle.records.specs.declared.View.the-variants as view
 use Rattle.replacing.specs.Left.{Left}
+use Rattle.replacing.specs.LineLaws.{type-left}
 use Rattle.replacing.specs.Well.{names as numbers, GoodTy, HeldType, Lent}
 use Rattle.replacing.specs.Written.{ty-fits}
 use Rattle.replacing.specs.declared.inner.walk.Went.{Went}
@@ -108,7 +109,7 @@ module _ (d d′ : List ℕ) (nx : ℕ) (R : Got (Ty ℕ)) where
     pub is : R ≡ got value
     pub next : at ≡ nx
     pub many : out ≡ size value
-    pub buffer : d′ ≡ sets d (0 * 4) (words (writeTy value))
+    pub buffer : size value ≤ 65_535 → d′ ≡ sets d (0 * 4) (words (writeTy value))
 
   pub came : {x : Went} {at out : ℕ} → x ≡ To at out → Left size writeTy d d′ nx 0 x R → Came at out
   came {x} {at} {out} i left = go R refl (subst (λ (y : Went). Left size writeTy d d′ nx 0 y R) i left)
@@ -118,7 +119,7 @@ module _ (d d′ : List ℕ) (nx : ℕ) (R : Got (Ty ℕ)) where
           let s = subst (λ (Q : Got (Ty ℕ)). Left size writeTy d d′ nx 0 (To at out) Q) e l .says in
           let m : out ≡ 0 + size u = let p = s .0 in cc in
           let k : at ≡ nx = let p = s .0 in cc in
-          record { value = u; is = e; next = k; many = omega (arith, m); buffer = s .1 }
+          record { value = u; is = e; next = k; many = omega (arith, m); buffer = type-left R l u e }
       go (refused k) e l = absurd (subst (λ (Q : Got (Ty ℕ)). Left size writeTy d d′ nx 0 (To at out) Q) e l .says)
 
   pub stopped : {x : Went} {k : Refusal} → x ≡ Stop k → Left size writeTy d d′ nx 0 x R → R ≡ refused (numberOf k)
@@ -152,7 +153,7 @@ module _ (pool table names s work : List ℕ) (t : Ty ℕ) (bs : List (Open ℕ)
           let f = its .few in
           let k = size-ty (c .value) in
           held d₁ (c .value) 0 (from d (0 + length (writeTy (c .value)))) (ty-fits (numbers pool table) (isHeld (tableOf pool table)) 4_294_967_296 (c .value) (its .well))
-          (ap (λ (x : List ℕ). from x 0) (c .buffer) ∙ stored d (writeTy (c .value)) 0 (omega arith));
+          (ap (λ (x : List ℕ). from x 0) (c .buffer (omega arith)) ∙ stored d (writeTy (c .value)) 0 (omega arith));
       good = its .well;
     }
 
@@ -172,7 +173,7 @@ module _ (pool table names s work : List ℕ) (t : Ty ℕ) (bs : List (Open ℕ)
           let j = length-map (newBounds pool table names bs) writeBound in
           let f = few-out in
           made-records Whole (writeTy (b .value) ++ map writeBound (newBounds pool table names bs)) work w₂ r (rw (c .is, b .is)) (y .work-long)
-          (written-after work w₁ w₂ out′ (writeTy (b .value)) (map writeBound (newBounds pool table names bs)) (omega arith) (b .buffer) (p .buffer)) (omega arith) (omega arith)
+          (written-after work w₁ w₂ out′ (writeTy (b .value)) (map writeBound (newBounds pool table names bs)) (omega arith) (b .buffer (omega arith)) (p .buffer)) (omega arith) (omega arith)
 
 -- ══ The count ══
 

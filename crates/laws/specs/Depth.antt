@@ -4,14 +4,19 @@ use mathlib.Core.Option.{Option}
 use mathlib.Core.List.{List, [], _∷_}
 use Prim.Native.Nat.{ℕ, zero, suc, _≤_}
 use native.Mathlib.Omega.{arith}
+use lib.ListN.{length}
 use Rattle.rules.specs.Trees.{var, quant, par, Ty, opened, basic, boolean, string, datetime, depth, depthTys, depthFields}
-use Rattle.rules.specs.Writing.{Rec, rec}
-use Rattle.rules.specs.Reading.{Reader, give, next, readFactors, readTys, readFields, fieldName, readDim, readFn, readStruct, readList, typeTable, readTy}
-use Rattle.laws.specs.Written.{Reads, nothing, given, then, picked, plain}
+use Rattle.rules.specs.Writing.{Rec, rec, kindIn, lengthIn}
+use Rattle.rules.specs.Reading.{Reader, give, lasting, next, readFactors, readTys, readFields, readField, fieldTable, fieldKinds, readDim, readFn, readStruct, readList, typeTable, typeKinds, readTy}
+use Rattle.laws.specs.Written.{Reads, nothing, given, then, picked, plain, lasting-read}
 
 -- whatever was read
 any-read : {A : Type 0} (o : Option (A × List Rec)) → Reads o (λ a rest. Unit {0})
 any-read o = record { holds = λ a rest e. tt }
+
+-- whatever length it says
+lasts-too : {A : Type 0} (u : ℕ) (P : A → Type 0) (o : Option (A × List Rec)) (rs : List Rec) → Reads o (λ a rest. P a) → Reads (lasting (lengthIn u) (suc (length rs)) o) (λ a rest. P a)
+lasts-too u P o rs h = record { holds = λ a rest e. lasting-read (lengthIn u) (suc (length rs)) o h .holds a rest e .0 }
 
 module _ (d : ℕ) (ty : Reader (Ty ℕ)) (r : (s : List Rec) → Reads (ty s) (λ t rest. depth t ≤ d)) where
   tys-deep : (n : ℕ) (s : List Rec) → Reads (readTys ty n s) (λ ts rest. depthTys ts ≤ d)
@@ -19,10 +24,15 @@ module _ (d : ℕ) (ty : Reader (Ty ℕ)) (r : (s : List Rec) → Reads (ty s) (
   tys-deep zero s = given (omega arith)
   tys-deep (suc n) s = then (r s) (λ t s′ h. then (tys-deep n s′) (λ ts s″ k. given (omega arith)))
 
+  field-deep : (s : List Rec) → Reads (next (fieldKinds ty) s) (λ f rest. depth (f .1) ≤ d)
+  field-deep [] = nothing
+  field-deep (rec u a b c ∷ rs) = lasts-too u (λ f. depth (f .1) ≤ d) (fieldKinds ty (kindIn u) a b c rs) rs
+      (picked (kindIn u) rs (fieldTable ty a b c) ((λ e. plain (b ∷ c ∷ []) (readField ty a) rs (λ z. then (r rs) (λ t s h. given h))), tt))
+
   fields-deep : (n : ℕ) (s : List Rec) → Reads (readFields ty n s) (λ fs rest. depthFields fs ≤ d)
   unfolding readFields depth
   fields-deep zero s = given (omega arith)
-  fields-deep (suc n) s = then (any-read (next fieldName s)) (λ x s′ u. then (r s′) (λ t s″ h. then (fields-deep n s″) (λ fs s‴ k. given (omega arith))))
+  fields-deep (suc n) s = then (field-deep s) (λ f s′ h. then (fields-deep n s′) (λ fs s″ k. given (omega arith)))
 
   fn-deep : (n : ℕ) (s : List Rec) → Reads (readFn ty n s) (λ t rest. depth t ≤ suc d)
   unfolding depth
@@ -47,7 +57,7 @@ pub depth-read : (d : ℕ) (s : List Rec) → Reads (readTy d s) (λ t rest. dep
 unfolding readTy depth
 depth-read zero s = nothing
 depth-read (suc d) [] = nothing
-depth-read (suc d) (rec k a b c ∷ rs) = picked k rs (typeTable (readTy d) a b c) (
+depth-read (suc d) (rec u a b c ∷ rs) = lasts-too u (λ t. depth t ≤ suc d) (typeKinds (readTy d) (kindIn u) a b c rs) rs (picked (kindIn u) rs (typeTable (readTy d) a b c) (
   (λ e. plain (b ∷ c ∷ []) (give (opened (var a))) rs (λ z. leaf-deep d (opened (var a)) rs (omega arith))),
   (
     (λ e. plain (b ∷ c ∷ []) (give (opened (par a))) rs (λ z. leaf-deep d (opened (par a)) rs (omega arith))),
@@ -74,4 +84,4 @@ depth-read (suc d) (rec k a b c ∷ rs) = picked k rs (typeTable (readTy d) a b 
       ),
     ),
   ),
-)
+))

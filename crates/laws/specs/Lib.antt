@@ -16,6 +16,7 @@ pub mod Sorted
 pub mod SortedNames
 pub mod ExactProducts
 pub mod Powers
+pub mod Heads
 pub mod Written
 pub mod Reading
 pub mod ReadLists

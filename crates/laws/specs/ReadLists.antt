@@ -3,17 +3,19 @@
 -- Assumes nothing.
 use mathlib.Core.Path.{_≡_, refl, ap, _∙_, sym, subst}
 use mathlib.Core.Option.{Option, none, some}
-use mathlib.Core.List.{List, [], _∷_, _++_, append-assoc}
+use mathlib.Core.List.{List, [], _∷_, _++_, map, append-assoc}
 use Prim.Native.Nat.{ℕ, zero, suc, _≤_, _<_}
 use native.Mathlib.Omega.{arith}
-use lib.ListN.{length, length-append}
+use lib.ListN.{length, length-append, length-map}
 use Rattle.rules.specs.Base.{all, collect}
-use Rattle.rules.specs.Trees.{Open, var, quant, par, Con, equal, isDim, isScalar, hasField, Binding, _≔_, depthCon, depthBinding}
-use Rattle.rules.specs.Writing.{Rec, rec, words, writeProduct, writeTy, writeCon, writeBinding, writeBound}
-use Rattle.rules.specs.Reading.{Reader, give, pick, next, readTy, scalarTable, scalarKinds, conTable, readEqual, readIsDim, readScalar, readHasField, readBoundTo, readCon, bindingTable, readBinding, boundTable, readBound, readAll, records}
+use Rattle.rules.specs.Trees.{Open, var, quant, par, Product, Con, equal, isDim, isScalar, hasField, Binding, _≔_, sizeCon, sizeBinding, depthCon, depthBinding}
+use Rattle.rules.specs.Writing.{Rec, rec, head, kindIn, lengthIn, words, writeFactor, writeProduct, writeTy, writeCon, writeBinding, writeBound}
+use Rattle.rules.specs.Reading.{Reader, give, pick, next, readTy, scalarTable, scalarKinds, conTable, conKinds, readEqual, readIsDim, readScalar, readHasField, readBoundTo, readCon, bindingTable, bindingKinds, readBinding, boundTable, boundKinds, readBound, readAll, records}
 pub use Rattle.laws.specs.Lists.{Every}
 use Rattle.laws.specs.Reading.{FitsProduct, Fits, read-factors, read-ty}
-use Rattle.laws.specs.Written.{Reads, nothing, given, then, picked, plain, Small, Is, after, factors-read, ty-read}
+use Rattle.laws.specs.Written.{Reads, nothing, given, then, picked, plain, Small, Is, Begins, begun, lasting-read, first-read, after, factors-read, ty-read}
+use Rattle.laws.specs.Heads.{next-back, head-length}
+use Rattle.laws.specs.Size.{size-con, size-binding}
 
 -- ══ Written, then read ══
 
@@ -29,14 +31,25 @@ FitsBinding (x ≔ t) = Fits t
 
 pub read-con : (c : Con ℕ) (rest : List Rec) → FitsCon c → depthCon c ≤ 64 → readCon (writeCon c ++ rest) ≡ some (c, rest)
 unfolding readCon writeCon writeProduct all depthCon
-read-con (equal l r) rest f h = rw (append-assoc (writeTy l) (writeTy r) rest, read-ty l 63 (writeTy r ++ rest) (f .0) (omega arith), read-ty r 63 rest (f .1) (omega arith))
-read-con (isDim t) rest f h = rw (read-ty t 63 rest f h)
-read-con (isScalar p) rest f h = rw (read-factors p rest f)
-read-con (hasField n s t) rest f h = rw (append-assoc (writeTy s) (writeTy t) rest, read-ty s 63 (writeTy t ++ rest) (f .0) (omega arith), read-ty t 63 rest (f .1) (omega arith))
+read-con (equal l r) rest f h =
+    next-back (conKinds (readTy 64)) 20 (sizeCon (equal l r)) 0 0 0 ((writeTy l ++ writeTy r) ++ rest) rest _ (omega arith)
+    (rw (append-assoc (writeTy l) (writeTy r) rest, read-ty l 63 (writeTy r ++ rest) (f .0) (omega arith), read-ty r 63 rest (f .1) (omega arith)))
+    (head-length (writeTy l ++ writeTy r) rest (sizeCon (equal l r)) (size-con (equal l r)))
+read-con (isDim t) rest f h =
+    next-back (conKinds (readTy 64)) 21 (sizeCon (isDim t)) 0 0 0 (writeTy t ++ rest) rest _ (omega arith) (rw (read-ty t 63 rest f h)) (head-length (writeTy t) rest (sizeCon (isDim t)) (size-con (isDim t)))
+read-con (isScalar p) rest f h =
+    let one : next scalarKinds (writeProduct p ++ rest) ≡ some (isScalar p, rest) =
+    next-back scalarKinds 3 (suc (length p)) (length p) 0 0 (map writeFactor p ++ rest) rest _ (omega arith) (rw (read-factors p rest f)) (head-length (map writeFactor p) rest (suc (length p)) (ap suc (length-map p writeFactor))) in
+    next-back (conKinds (readTy 64)) 22 (sizeCon (isScalar p)) 0 0 0 (writeProduct p ++ rest) rest _ (omega arith) one (head-length (writeProduct p) rest (sizeCon (isScalar p)) (size-con (isScalar p)))
+read-con (hasField n s t) rest f h =
+    next-back (conKinds (readTy 64)) 23 (sizeCon (hasField n s t)) n 0 0 ((writeTy s ++ writeTy t) ++ rest) rest _ (omega arith)
+    (rw (append-assoc (writeTy s) (writeTy t) rest, read-ty s 63 (writeTy t ++ rest) (f .0) (omega arith), read-ty t 63 rest (f .1) (omega arith)))
+    (head-length (writeTy s ++ writeTy t) rest (sizeCon (hasField n s t)) (size-con (hasField n s t)))
 
 pub read-binding : (b : Binding ℕ) (rest : List Rec) → FitsBinding b → depthBinding b ≤ 64 → readBinding (writeBinding b ++ rest) ≡ some (b, rest)
 unfolding readBinding writeBinding all depthBinding
-read-binding (x ≔ t) rest f h = rw (read-ty t 63 rest f h)
+read-binding (x ≔ t) rest f h =
+    next-back bindingKinds 24 (sizeBinding (x ≔ t)) x 0 0 (writeTy t ++ rest) rest _ (omega arith) (rw (read-ty t 63 rest f h)) (head-length (writeTy t) rest (sizeBinding (x ≔ t)) (size-binding (x ≔ t)))
 
 -- a bound outside or inside a scheme: a name or an index
 abbrev pub IsBound : Open ℕ → Type 0
@@ -46,8 +59,8 @@ IsBound (par x) = ⊥
 
 pub read-bound : (o : Open ℕ) (rest : List Rec) → IsBound o → readBound (writeBound o ∷ rest) ≡ some (o, rest)
 unfolding readBound writeBound all
-read-bound (var x) rest h = refl
-read-bound (quant i) rest h = refl
+read-bound (var x) rest h = next-back boundKinds 25 1 x 0 0 rest rest _ (omega arith) refl (omega arith)
+read-bound (quant i) rest h = next-back boundKinds 25 1 i 1 0 rest rest _ (omega arith) refl (omega arith)
 read-bound (par x) rest h = absurd h
 
 -- one more read in front of what is read behind it
@@ -84,68 +97,102 @@ words-back (rec k a b c ∷ rs) = rw (words-back rs)
 -- ══ Read, so it stands there ══
 
 -- the records of a constraint follow the record that begins it
-abbrev Body : Rec → List Rec → Option (Con ℕ × List Rec) → Type 0
-Body r rs o = Reads o (λ c rest. Is (r ∷ rs) (writeCon c) rest)
+abbrev Body : ℕ → ℕ → List Rec → Option (Con ℕ × List Rec) → Type 0
+Body k a rs o = Reads o (λ c rest. Begins k a 0 0 rs (writeCon c) rest)
 
-equal-read : (rs : List Rec) → Small rs → Body (rec 20 0 0 0) rs (readEqual (readTy 64) rs)
+equal-read : (rs : List Rec) → Small rs → Body 20 0 rs (readEqual (readTy 64) rs)
 unfolding writeCon
 equal-read rs h =
     then (ty-read 64 rs h) (λ l s i.
     then (ty-read 64 s (i .1)) (λ r s′ j.
-    given (ap (rec 20 0 0 0 ∷_) (after rs s (writeTy l) (writeTy r) s′ (i .0) (j .0)), j .1)))
+    let n : suc (length (writeTy l ++ writeTy r)) ≡ sizeCon (equal l r) = size-con (equal l r) in
+    given (record { body = writeTy l ++ writeTy r; is = rw n refl; stands = after rs s (writeTy l) (writeTy r) s′ (i .0) (j .0); small = j .1 })))
 
-dim-read : (rs : List Rec) → Small rs → Body (rec 21 0 0 0) rs (readIsDim (readTy 64) rs)
+dim-read : (rs : List Rec) → Small rs → Body 21 0 rs (readIsDim (readTy 64) rs)
 unfolding writeCon
-dim-read rs h = then (ty-read 64 rs h) (λ t s i. given (ap (rec 21 0 0 0 ∷_) (i .0), i .1))
+dim-read rs h =
+    then (ty-read 64 rs h) (λ t s i.
+    let n : suc (length (writeTy t)) ≡ sizeCon (isDim t) = size-con (isDim t) in
+    given (record { body = writeTy t; is = rw n refl; stands = i .0; small = i .1 }))
 
-factors-there : (a : ℕ) (rs : List Rec) → Small rs → Reads (readScalar a rs) (λ c rest. Is (rec 22 0 0 0 ∷ rec 3 a 0 0 ∷ rs) (writeCon c) rest)
-unfolding writeCon writeProduct
-factors-there a rs h = then (factors-read a rs h) (λ p s i. given (rw (i .1) (ap (λ v. rec 22 0 0 0 ∷ rec 3 a 0 0 ∷ v) (i .0 .0)), i .0 .1))
+-- an equal-scalar is read by its product
+pub record Product-begins (k a b c : ℕ) (rs : List Rec) (x : Con ℕ) (rest : List Rec) : Type 0 where
+  pub product : Product ℕ
+  pub is : x ≡ isScalar product
+  pub begins : Begins k a b c rs (writeProduct product) rest
 
-scalar-read : (rs : List Rec) → Small rs → Body (rec 22 0 0 0) rs (next scalarKinds rs)
+factors-there : (a : ℕ) (rs : List Rec) → Small rs → Reads (readScalar a rs) (Product-begins 3 a 0 0 rs)
+unfolding writeProduct
+factors-there a rs h =
+    then (factors-read a rs h) (λ p s i.
+    given (record { product = p; is = refl; begins = record { body = map writeFactor p; is = rw (length-map p writeFactor, i .1) refl; stands = i .0 .0; small = i .0 .1 } }))
+
+scalar-begins : (s rest : List Rec) (x : Con ℕ) (p : Product ℕ) → x ≡ isScalar p → Is s (writeProduct p) rest → Begins 22 0 0 0 s (writeCon x) rest
+unfolding writeCon
+scalar-begins s rest x p e i =
+    let n : suc (length (writeProduct p)) ≡ sizeCon (isScalar p) = size-con (isScalar p) in
+    rw e (record { body = writeProduct p; is = rw n refl; stands = i .0; small = i .1 })
+
+scalar-read : (rs : List Rec) → Small rs → Body 22 0 rs (next scalarKinds rs)
 scalar-read [] h = nothing
-scalar-read (rec k a b c ∷ rs) h = picked k rs (scalarTable a b c) ((λ e. plain (b ∷ c ∷ []) (readScalar a) rs (λ z. rw (e, z .0, z .1 .0) (factors-there a rs (h .1)))), tt)
+scalar-read (rec u a b c ∷ rs) h =
+    let r : Reads (scalarKinds (kindIn u) a b c rs) (Product-begins (kindIn u) a b c rs) =
+    picked (kindIn u) rs (scalarTable a b c) ((λ e. plain (b ∷ c ∷ []) (readScalar a) rs (λ z. rw (e, z .0, z .1 .0) (factors-there a rs (h .1)))), tt) in
+    record {
+      holds = λ x rest e.
+          let i = lasting-read (lengthIn u) (suc (length rs)) (scalarKinds (kindIn u) a b c rs) r .holds x rest e in
+          let g = i .0 in
+          scalar-begins (rec u a b c ∷ rs) rest x (g .product) (g .is) (begun u a b c rs (writeProduct (g .product)) rest (g .begins) (i .1));
+    }
 
-field-read : (n : ℕ) (rs : List Rec) → Small rs → Body (rec 23 n 0 0) rs (readHasField (readTy 64) n rs)
+field-read : (n : ℕ) (rs : List Rec) → Small rs → Body 23 n rs (readHasField (readTy 64) n rs)
 unfolding writeCon
 field-read n rs h =
     then (ty-read 64 rs h) (λ l s i.
     then (ty-read 64 s (i .1)) (λ r s′ j.
-    given (ap (rec 23 n 0 0 ∷_) (after rs s (writeTy l) (writeTy r) s′ (i .0) (j .0)), j .1)))
+    let m : suc (length (writeTy l ++ writeTy r)) ≡ sizeCon (hasField n l r) = size-con (hasField n l r) in
+    given (record { body = writeTy l ++ writeTy r; is = rw m refl; stands = after rs s (writeTy l) (writeTy r) s′ (i .0) (j .0); small = j .1 })))
 
-pub con-read : (s : List Rec) → Small s → Reads (readCon s) (λ c rest. Is s (writeCon c) rest)
-unfolding readCon
-con-read [] h = nothing
-con-read (rec k a b c ∷ rs) h = picked k rs (conTable (readTy 64) a b c) (
-  (λ e. plain (a ∷ b ∷ c ∷ []) (readEqual (readTy 64)) rs (λ z. rw (e, z .0, z .1 .0, z .1 .1 .0) (equal-read rs (h .1)))),
+first-con : (k a b c : ℕ) (rs : List Rec) → Small rs → Reads (conKinds (readTy 64) k a b c rs) (λ x rest. Begins k a b c rs (writeCon x) rest)
+first-con k a b c rs h = picked k rs (conTable (readTy 64) a b c) (
+  (λ e. plain (a ∷ b ∷ c ∷ []) (readEqual (readTy 64)) rs (λ z. rw (e, z .0, z .1 .0, z .1 .1 .0) (equal-read rs h))),
   (
-    (λ e. plain (a ∷ b ∷ c ∷ []) (readIsDim (readTy 64)) rs (λ z. rw (e, z .0, z .1 .0, z .1 .1 .0) (dim-read rs (h .1)))),
+    (λ e. plain (a ∷ b ∷ c ∷ []) (readIsDim (readTy 64)) rs (λ z. rw (e, z .0, z .1 .0, z .1 .1 .0) (dim-read rs h))),
     (
-      (λ e. plain (a ∷ b ∷ c ∷ []) (next scalarKinds) rs (λ z. rw (e, z .0, z .1 .0, z .1 .1 .0) (scalar-read rs (h .1)))),
-      ((λ e. plain (b ∷ c ∷ []) (readHasField (readTy 64) a) rs (λ z. rw (e, z .0, z .1 .0) (field-read a rs (h .1)))), tt),
+      (λ e. plain (a ∷ b ∷ c ∷ []) (next scalarKinds) rs (λ z. rw (e, z .0, z .1 .0, z .1 .1 .0) (scalar-read rs h))),
+      ((λ e. plain (b ∷ c ∷ []) (readHasField (readTy 64) a) rs (λ z. rw (e, z .0, z .1 .0) (field-read a rs h))), tt),
     ),
   ),
 )
 
-bound-to : (x : ℕ) (rs : List Rec) → Small rs → Reads (readBoundTo x rs) (λ b rest. Is (rec 24 x 0 0 ∷ rs) (writeBinding b) rest)
+pub con-read : (s : List Rec) → Small s → Reads (readCon s) (λ c rest. Is s (writeCon c) rest)
+unfolding readCon
+con-read [] h = nothing
+con-read (rec u a b c ∷ rs) h = first-read writeCon (conKinds (readTy 64)) u a b c rs (first-con (kindIn u) a b c rs (h .1))
+
+bound-to : (x : ℕ) (rs : List Rec) → Small rs → Reads (readBoundTo x rs) (λ b rest. Begins 24 x 0 0 rs (writeBinding b) rest)
 unfolding writeBinding
-bound-to x rs h = then (ty-read 64 rs h) (λ t s i. given (ap (rec 24 x 0 0 ∷_) (i .0), i .1))
+bound-to x rs h =
+    then (ty-read 64 rs h) (λ t s i.
+    let n : suc (length (writeTy t)) ≡ sizeBinding (x ≔ t) = size-binding (x ≔ t) in
+    given (record { body = writeTy t; is = rw n refl; stands = i .0; small = i .1 }))
 
 pub binding-read : (s : List Rec) → Small s → Reads (readBinding s) (λ b rest. Is s (writeBinding b) rest)
 unfolding readBinding
 binding-read [] h = nothing
-binding-read (rec k a b c ∷ rs) h = picked k rs (bindingTable a b c) ((λ e. plain (b ∷ c ∷ []) (readBoundTo a) rs (λ z. rw (e, z .0, z .1 .0) (bound-to a rs (h .1)))), tt)
+binding-read (rec u a b c ∷ rs) h = first-read writeBinding bindingKinds u a b c rs
+    (picked (kindIn u) rs (bindingTable a b c) ((λ e. plain (b ∷ c ∷ []) (readBoundTo a) rs (λ z. rw (e, z .0, z .1 .0) (bound-to a rs (h .1)))), tt))
 
 pub bound-read : (s : List Rec) → Small s → Reads (readBound s) (λ o rest. Is s (writeBound o ∷ []) rest)
 unfolding readBound writeBound
 bound-read [] h = nothing
-bound-read (rec k a b c ∷ rs) h = picked k rs ((25, pick b (boundTable a c)) ∷ []) (
+bound-read (rec u a b c ∷ rs) h = first-read (λ o. writeBound o ∷ []) boundKinds u a b c rs (picked (kindIn u) rs ((25, pick b (boundTable a c)) ∷ []) (
   (λ e. picked b rs (boundTable a c) (
-    (λ f. plain (c ∷ []) (give (var a)) rs (λ z. given (rw (e, f, z .0) refl, h .1))),
-    ((λ f. plain (c ∷ []) (give (quant a)) rs (λ z. given (rw (e, f, z .0) refl, h .1))), tt),
+    (λ f. plain (c ∷ []) (give (var a)) rs (λ z. given (record { body = []; is = rw (e, f, z .0) refl; stands = refl; small = h .1 }))),
+    ((λ f. plain (c ∷ []) (give (quant a)) rs (λ z. given (record { body = []; is = rw (e, f, z .0) refl; stands = refl; small = h .1 }))), tt),
   )),
   tt,
-)
+))
 
 -- a list that was read: the records are those of its parts, one after another
 module _ {A : Type 0} (w : A → List Rec) where

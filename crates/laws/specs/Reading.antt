@@ -3,20 +3,22 @@
 use mathlib.Core.Path.{_≡_, refl, ap}
 use mathlib.Core.Option.{some}
 use mathlib.Core.List.{List, [], _∷_, _++_, map, append-assoc}
-use Prim.Native.Nat.{ℕ, zero, suc, _≤_, _-_}
+use Prim.Native.Nat.{ℕ, zero, suc, _+_, _≤_, _-_}
 use native.Mathlib.Omega.{arith}
 use borrow.Author.Tests.{lt-ltb, le-ltb, leb-true}
 use mathlib.Core.Bool.{Bool, true, not, _&&_}
 use lib.Dec.{leb}
 use lib.IntN.{ℤ, pos, negsuc, natAbs}
-use lib.ListN.{length}
+use lib.ListN.{length, length-map}
 use Rattle.rules.specs.Base.{all}
 use Rattle.rules.specs.Exponents.{frac, top, inRange, goodExp, isZero, goodStored}
-use Rattle.rules.specs.Trees.{var, quant, par, free, base, _↑_, Product, Names, Ty, opened, basic, dim, fn, struct, list, Tys, nil, cons, Fields, noFields, field, boolean, string, datetime, depth, depthTys, depthFields, count, countFields, orderAtom}
-use Rattle.rules.specs.Writing.{Rec, twos, bySign, signed, writeFactor, writeProduct, writeTy, writeTys, writeFields}
-use Rattle.rules.specs.Reading.{readFactors, readTys, readFields, readTy}
+use Rattle.rules.specs.Trees.{var, quant, par, free, base, Factor, _↑_, Product, Names, Ty, opened, basic, dim, fn, struct, list, Tys, nil, cons, Fields, noFields, field, boolean, string, datetime, size, depth, depthTys, depthFields, count, countFields, orderAtom}
+use Rattle.rules.specs.Writing.{Rec, rec, head, twos, bySign, signed, writeFactor, writeProduct, writeTy, writeTys, writeFields}
+use Rattle.rules.specs.Reading.{factorKinds, next, readFactors, readTys, fieldKinds, readFields, typeKinds, readTy}
 use Rattle.rules.specs.WellFormed.{atomOf, rising, goodOpen, goodFactor, goodProduct, goodTy, goodTys, goodFields}
 use Rattle.laws.specs.Lists.{and-left, and-right}
+use Rattle.laws.specs.Heads.{next-back, head-length}
+use Rattle.laws.specs.Size.{size-ty}
 
 -- numerators that a word can hold
 abbrev pub FitsProduct : Product ℕ → Type 0
@@ -45,13 +47,18 @@ unfolding signed bySign twos
 sign (pos n) h = rw (lt-ltb n 2147483648 (omega arith))
 sign (negsuc n) h = rw (le-ltb (4294967295 - n) 2147483648 (omega arith)) (ap negsuc (omega arith))
 
+-- a factor alone; its numerator comes back
+factor-back : (f : Factor ℕ) (rest : List Rec) → FitsProduct (f ∷ []) → next factorKinds (writeFactor f ∷ rest) ≡ some (f, rest)
+unfolding writeFactor
+factor-back (free (var x) ↑ frac n d) rest h = next-back factorKinds 11 1 x (twos n) d rest rest _ (omega arith) (rw (sign n (h .0))) (omega arith)
+factor-back (free (quant x) ↑ frac n d) rest h = next-back factorKinds 15 1 x (twos n) d rest rest _ (omega arith) (rw (sign n (h .0))) (omega arith)
+factor-back (free (par x) ↑ frac n d) rest h = next-back factorKinds 12 1 x (twos n) d rest rest _ (omega arith) (rw (sign n (h .0))) (omega arith)
+factor-back (base x ↑ frac n d) rest h = next-back factorKinds 13 1 x (twos n) d rest rest _ (omega arith) (rw (sign n (h .0))) (omega arith)
+
 pub read-factors : (p : Product ℕ) (rest : List Rec) → FitsProduct p → readFactors (length p) (map writeFactor p ++ rest) ≡ some (p, rest)
-unfolding readFactors writeFactor
+unfolding readFactors
 read-factors [] rest h = refl
-read-factors (free (var x) ↑ frac n d ∷ p) rest h = rw (sign n (h .0), read-factors p rest (h .1))
-read-factors (free (quant x) ↑ frac n d ∷ p) rest h = rw (sign n (h .0), read-factors p rest (h .1))
-read-factors (free (par x) ↑ frac n d ∷ p) rest h = rw (sign n (h .0), read-factors p rest (h .1))
-read-factors (base x ↑ frac n d ∷ p) rest h = rw (sign n (h .0), read-factors p rest (h .1))
+read-factors (a ↑ frac n d ∷ p) rest h = rw (factor-back (a ↑ frac n d) (map writeFactor p ++ rest) (h .0, tt), read-factors p rest (h .1))
 
 pub deep : (t : Ty ℕ) → 1 ≤ depth t
 unfolding depth
@@ -70,18 +77,26 @@ mutual
   unfolding readTy readTys readFields writeTy writeProduct count countFields all depth
 
   pub read-ty : (t : Ty ℕ) (d : ℕ) (rest : List Rec) → Fits t → depth t ≤ suc d → readTy (suc d) (writeTy t ++ rest) ≡ some (t, rest)
-  read-ty (opened (var x)) d rest f h = refl
-  read-ty (opened (quant x)) d rest f h = refl
-  read-ty (opened (par x)) d rest f h = refl
-  read-ty (basic boolean) d rest f h = refl
-  read-ty (basic string) d rest f h = refl
-  read-ty (basic datetime) d rest f h = refl
-  read-ty (dim p) d rest f h = rw (read-factors p rest f)
+  read-ty (opened (var x)) d rest f h = next-back (typeKinds (readTy d)) 1 1 x 0 0 rest rest _ (omega arith) refl (omega arith)
+  read-ty (opened (quant x)) d rest f h = next-back (typeKinds (readTy d)) 14 1 x 0 0 rest rest _ (omega arith) refl (omega arith)
+  read-ty (opened (par x)) d rest f h = next-back (typeKinds (readTy d)) 2 1 x 0 0 rest rest _ (omega arith) refl (omega arith)
+  read-ty (basic boolean) d rest f h = next-back (typeKinds (readTy d)) 4 1 0 0 0 rest rest _ (omega arith) refl (omega arith)
+  read-ty (basic string) d rest f h = next-back (typeKinds (readTy d)) 5 1 0 0 0 rest rest _ (omega arith) refl (omega arith)
+  read-ty (basic datetime) d rest f h = next-back (typeKinds (readTy d)) 6 1 0 0 0 rest rest _ (omega arith) refl (omega arith)
+  read-ty (dim p) d rest f h =
+      next-back (typeKinds (readTy d)) 3 (suc (length p)) (length p) 0 0 (map writeFactor p ++ rest) rest _ (omega arith) (rw (read-factors p rest f))
+      (head-length (map writeFactor p) rest (suc (length p)) (ap suc (length-map p writeFactor)))
   read-ty (fn ps r) d rest f h =
-      rw (append-assoc (writeTys ps) (writeTy r) rest, read-tys ps d (writeTy r ++ rest) (f .0) (omega arith), lift r d rest (omega arith) (λ e k. read-ty r e rest (f .1) k))
+      next-back (typeKinds (readTy d)) 7 (size (fn ps r)) (count ps) 0 0 ((writeTys ps ++ writeTy r) ++ rest) rest _ (omega arith)
+      (rw (append-assoc (writeTys ps) (writeTy r) rest, read-tys ps d (writeTy r ++ rest) (f .0) (omega arith), lift r d rest (omega arith) (λ e k. read-ty r e rest (f .1) k)))
+      (head-length (writeTys ps ++ writeTy r) rest (size (fn ps r)) (size-ty (fn ps r)))
   read-ty (struct n as′ fs) d rest f h =
-      rw (append-assoc (writeTys as′) (writeFields fs) rest, read-tys as′ d (writeFields fs ++ rest) (f .0) (omega arith), read-fields fs d rest (f .1) (omega arith))
-  read-ty (list t) d rest f h = rw (lift t d rest (omega arith) (λ e k. read-ty t e rest f k))
+      next-back (typeKinds (readTy d)) 8 (size (struct n as′ fs)) n (count as′) (countFields fs) ((writeTys as′ ++ writeFields fs) ++ rest) rest _ (omega arith)
+      (rw (append-assoc (writeTys as′) (writeFields fs) rest, read-tys as′ d (writeFields fs ++ rest) (f .0) (omega arith), read-fields fs d rest (f .1) (omega arith)))
+      (head-length (writeTys as′ ++ writeFields fs) rest (size (struct n as′ fs)) (size-ty (struct n as′ fs)))
+  read-ty (list t) d rest f h =
+      next-back (typeKinds (readTy d)) 10 (size (list t)) 0 0 0 (writeTy t ++ rest) rest _ (omega arith)
+      (rw (lift t d rest (omega arith) (λ e k. read-ty t e rest f k))) (head-length (writeTy t) rest (size (list t)) (size-ty (list t)))
 
   pub read-tys : (ts : Tys ℕ) (d : ℕ) (rest : List Rec) → FitsTys ts → depthTys ts ≤ d → readTys (readTy d) (count ts) (writeTys ts ++ rest) ≡ some (ts, rest)
   read-tys nil d rest f h = refl
@@ -91,7 +106,11 @@ mutual
   pub read-fields : (fs : Fields ℕ) (d : ℕ) (rest : List Rec) → FitsFields fs → depthFields fs ≤ d → readFields (readTy d) (countFields fs) (writeFields fs ++ rest) ≡ some (fs, rest)
   read-fields noFields d rest f h = refl
   read-fields (field n t fs) d rest f h =
-      rw (append-assoc (writeTy t) (writeFields fs) rest, lift t d (writeFields fs ++ rest) (omega arith) (λ e k. read-ty t e (writeFields fs ++ rest) (f .0) k), read-fields fs d rest (f .1) (omega arith))
+      let one : next (fieldKinds (readTy d)) (rec (head 9 (suc (size t))) n 0 0 ∷ (writeTy t ++ (writeFields fs ++ rest))) ≡ some ((n, t), writeFields fs ++ rest) =
+      next-back (fieldKinds (readTy d)) 9 (suc (size t)) n 0 0 (writeTy t ++ (writeFields fs ++ rest)) (writeFields fs ++ rest) _ (omega arith)
+      (rw (lift t d (writeFields fs ++ rest) (omega arith) (λ e k. read-ty t e (writeFields fs ++ rest) (f .0) k)))
+      (head-length (writeTy t) (writeFields fs ++ rest) (suc (size t)) (ap suc (size-ty t))) in
+      rw (append-assoc (writeTy t) (writeFields fs) rest, one, read-fields fs d rest (f .1) (omega arith))
 
 -- ══ Well formed types can be written ══
 

@@ -2,7 +2,7 @@
 -- Assumes nothing.
 use mathlib.Core.Path.{_≡_, refl, ap, ap₂, _∙_, sym, subst}
 use mathlib.Core.List.{List, [], _∷_, _++_, map}
-use Prim.Native.Nat.{ℕ, zero, suc, _+_, _*_, _<_}
+use Prim.Native.Nat.{ℕ, zero, suc, _+_, _*_, _<_, _≤_}
 use native.Mathlib.Nat.{add-zero}
 use native.Mathlib.Omega.{arith}
 use lib.ListN.{length, drop}
@@ -10,10 +10,11 @@ use lib.Seq.{sets}
 use Rattle.rules.specs.Exponents.{Exp, frac}
 use Rattle.rules.specs.Trees.{Atom, Factor, _↑_, Product}
 use Rattle.rules.specs.Values.{valueOf}
-use Rattle.rules.specs.Writing.{Rec, rec, twos, signed, words, writeFactor, writeProduct}
+use Rattle.rules.specs.Writing.{Rec, rec, head, twos, signed, words, writeFactor, writeProduct}
 use Rattle.records.specs.Holds.{atomOf, viewAtom, HoldsFactor, HoldsFactors}
 use Rattle.records.specs.ByView.{atom-back}
-use Rattle.records.specs.Views.{viewAt}
+use Rattle.records.specs.Cut.{fit, fits}
+use Rattle.records.specs.Views.{viewAt, recOf}
 use Rattle.records.specs.Stores.{sets-append}
 use Rattle.products.specs.Kinds.{Kind, variable, parameter, dimension, quantified}
 use Rattle.records.specs.declared.Atom as atoms
@@ -82,9 +83,12 @@ pub write-turn : (d d′ : List ℕ) (o m : ℕ) (p q : Product ℕ) (f : Factor
 write-turn d d′ o m p q f v e i j k h = rw (← e, k, i) (sym (write-first d o (writeFactor f) (map writeFactor q)) ∙ ap (λ (l : Product ℕ). sets d (o * 4) (words (map writeFactor l))) (sym j) ∙ h)
 
 -- the head and the factors
-pub write-whole : (d d′ d″ : List ℕ) (o n : ℕ) (p : Product ℕ) → length p ≡ n → d′ ≡ sets d (o * 4) (words (rec 3 n 0 0 ∷ [])) → d″ ≡ sets d′ ((o + 1) * 4) (words (map writeFactor p)) → d″ ≡ sets d (o * 4) (words (writeProduct p))
+pub write-whole : (d d′ d″ : List ℕ) (o n : ℕ) (p : Product ℕ) → length p ≡ n → n ≤ 64 → d′ ≡ sets d (o * 4) (words (recOf (view.Dim n) (fit (n + 1)) ∷ [])) → d″ ≡ sets d′ ((o + 1) * 4) (words (map writeFactor p)) → d″ ≡ sets d (o * 4) (words (writeProduct p))
 unfolding writeProduct
-write-whole d d′ d″ o n p h i j = j ∙ rw (i, h) (sym (write-first d o (rec 3 n 0 0) (map writeFactor p)))
+write-whole d d′ d″ o n p h l i j =
+    let m : n + 1 ≡ suc n = omega arith in
+    let f : fit (suc n) ≡ suc n = fits (suc n) (omega arith) in
+    j ∙ rw (i, h, m, f) (sym (write-first d o (rec (head 3 (suc n)) n 0 0) (map writeFactor p)))
 
 pub write-none : (d : List ℕ) (o : ℕ) → sets d o (words (map writeFactor [])) ≡ d
 unfolding words

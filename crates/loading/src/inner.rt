@@ -6,6 +6,7 @@ use products::inner::put;
 use records::Atom;
 use records::Open;
 use records::View;
+use records::inner::put_one;
 use records::inner::put_record;
 use records::seen::view_at;
 ghost use mathlib.Core.Path.{_≡_};
@@ -73,7 +74,7 @@ pub fn load(s: &[u32], at: usize, n: usize) -> Product
 // The record that a factor is.
 fn view_of(f: Factor) -> View
     requires { ⌜ Kind (f .kind) ⌝ }
-    ensures { λ r. ⌜ recOf r ≡ writeFactor (treeOf f) ⌝ }
+    ensures { λ r. ⌜ recOf r 1 ≡ writeFactor (treeOf f) ⌝ }
 {
     let name = f.name;
     let num = f.exp.num_word();
@@ -94,11 +95,11 @@ pub fn store(p: Product, dst: &mut [u32], out: usize)
     ensures { λ _. ⌜ now (dst .exit) ≡ sets (now (dst .entry)) (out * 4) (words (writeProduct (productOf p))) ⌝ }
 {
     let n = p.len;
-    put_record(dst, out, View::Dim(n as u32));
+    put_record(dst, out, View::Dim(n as u32), n + 1);
     let mut i = 0;
     while i < n {
         let f = p.factors[i];
-        put_record(dst, out + 1 + i, view_of(f));
+        put_one(dst, out + 1 + i, view_of(f));
         i = i + 1;
     }
 }

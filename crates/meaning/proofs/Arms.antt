@@ -55,8 +55,8 @@ no-factor e k = miss unfactored 7 tt (subst (Tagged unfactored) e k)
 
 pub no-type : {v : View} (s : List ℕ) (at : ℕ) (t : Ty ℕ) → Holds s t at → v ≡ viewAt s at → Tagged untyped v → ⊥
 unfolding Holds HoldsProduct
-no-type s at (opened o) h e k = miss untyped 0 tt (subst (Tagged untyped) (e ∙ h) k)
-no-type s at (basic b) h e k = miss untyped 1 tt (subst (Tagged untyped) (e ∙ h) k)
+no-type s at (opened o) h e k = miss untyped 0 tt (subst (Tagged untyped) (e ∙ h .0) k)
+no-type s at (basic b) h e k = miss untyped 1 tt (subst (Tagged untyped) (e ∙ h .0) k)
 no-type s at (dim p) h e k = miss untyped 2 tt (subst (Tagged untyped) (e ∙ h .0) k)
 no-type s at (fn ps r) h e k = miss untyped 3 tt (subst (Tagged untyped) (e ∙ h .0) k)
 no-type s at (struct n as′ fs) h e k = miss untyped 4 tt (subst (Tagged untyped) (e ∙ h .0) k)

@@ -175,7 +175,7 @@ module _ (s : List ℕ) where
 
     pub none-among : (m : List Bool) → Tagged unopened v → DimTrue s at m false
     unfolding holds Holds HoldsProduct
-    none-among m k (opened o) names xs h i j = absurd (miss unopened 0 tt (subst (Tagged unopened) (p ∙ h) k))
+    none-among m k (opened o) names xs h i j = absurd (miss unopened 0 tt (subst (Tagged unopened) (p ∙ h .0) k))
     none-among m k (basic b) names xs h i j = refl
     none-among m k (dim l) names xs h i j = absurd (miss unopened 2 tt (subst (Tagged unopened) (p ∙ h .0) k))
     none-among m k (fn ps r) names xs h i j = refl

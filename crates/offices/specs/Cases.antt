@@ -9,7 +9,8 @@ use Rattle.rules.specs.Base.{Got, got, refused}
 use Rattle.rules.specs.Names.{Bytes, enter}
 use Rattle.rules.specs.declared.Was.{Was}
 use Rattle.rules.specs.declared.Was.the-variants.{New, Known}
-use Rattle.rules.specs.Writing.{Rec, rec, words}
+use Rattle.rules.specs.Writing.{Rec, rec, head, words}
+use Rattle.rules.specs.Lengths.{sized, sizedWords, counting}
 use Rattle.rules.specs.Calls.{Solved, solved, refusedAfter, setCall, solveCall}
 use Rattle.rules.specs.Rules.{rules}
 use Rattle.rules.specs.Examples.{pool, table, result, work, x}
@@ -38,11 +39,11 @@ numbers-differ = refl
 
 -- the list 'x is boolean', written with those numbers, reads alike
 abbrev draft : List Rec
-draft = rec 20 0 0 0 ∷ rec 1 0 0 0 ∷ rec 4 0 0 0 ∷ []
+draft = sized (rec 20 0 0 0 ∷ rec 1 0 0 0 ∷ rec 4 0 0 0 ∷ [])
 
 reads-alike : readBack (tableIn (afterAll empty (enters here (120 ∷ []) ∷ []))) (words draft)
     ≡ readBack (tableIn (afterAll empty (enters there (121 ∷ []) ∷ enters here (120 ∷ []) ∷ []))) (written (1 ∷ []) draft [])
-unfolding rules entered afterAll readBack namesOne nameNo written fill
+unfolding rules counting entered afterAll readBack namesOne nameNo written fill
 reads-alike = refl
 
 -- bounds come in the order of bytes, 'a' before 'b', also where the other office came first with 'b', so that the numbers are the other way about
@@ -57,13 +58,13 @@ second = afterAll empty (enters there (98 ∷ []) ∷ enters here (97 ∷ []) �
 
 -- is-dimension of 'b', then of 'a'
 abbrev twoBounds : List Rec
-twoBounds = rec 21 0 0 0 ∷ rec 1 1 0 0 ∷ rec 21 0 0 0 ∷ rec 1 0 0 0 ∷ []
+twoBounds = sized (rec 21 0 0 0 ∷ rec 1 1 0 0 ∷ rec 21 0 0 0 ∷ rec 1 0 0 0 ∷ [])
 
 bounds-by-bytes : bounds alone twoBounds ∷ bounds second (map (fill (1 ∷ 0 ∷ [])) twoBounds) ∷ []
-    ≡ (number 25 ∷ name (named (97 ∷ [])) ∷ number 0 ∷ number 0 ∷ number 25 ∷ name (named (98 ∷ [])) ∷ number 0 ∷ number 0 ∷ [])
-    ∷ (number 25 ∷ name (named (97 ∷ [])) ∷ number 0 ∷ number 0 ∷ number 25 ∷ name (named (98 ∷ [])) ∷ number 0 ∷ number 0 ∷ [])
+    ≡ (number (head 25 1) ∷ name (named (97 ∷ [])) ∷ number 0 ∷ number 0 ∷ number (head 25 1) ∷ name (named (98 ∷ [])) ∷ number 0 ∷ number 0 ∷ [])
+    ∷ (number (head 25 1) ∷ name (named (97 ∷ [])) ∷ number 0 ∷ number 0 ∷ number (head 25 1) ∷ name (named (98 ∷ [])) ∷ number 0 ∷ number 0 ∷ [])
     ∷ []
-unfolding rules result work entered afterAll readBack namesOne nameNo fill
+unfolding rules counting result work entered afterAll readBack namesOne nameNo fill
 bounds-by-bytes = refl
 
 -- 255 names of one byte each, and room for one more
@@ -81,7 +82,7 @@ three-sooner = refl
 
 -- a stray number, which the office was not given, is 1 until the other office enters a name
 abbrev strays : List ℕ
-strays = words (rec 20 0 0 0 ∷ rec 1 6 0 0 ∷ rec 4 0 0 0 ∷ [])
+strays = sizedWords (rec 20 0 0 0 ∷ rec 1 6 0 0 ∷ rec 4 0 0 0 ∷ [])
 
 abbrev shared : Shared
 shared = record { pool = pool; table = table }
@@ -90,7 +91,7 @@ abbrev later : Shared
 later = afterAll shared (enters there (113 ∷ []) ∷ [])
 
 stray-number : setCall pool table strays ∷ setCall (later .pool) (later .table) strays ∷ [] ≡ refused 1 ∷ got tt ∷ []
-unfolding rules pool table entered afterAll
+unfolding rules counting pool table entered afterAll
 stray-number = refl
 
 -- the check of 4 is within one set: x is a variable of one office's set and a parameter of the other's, and both are accepted; together they are 4
@@ -101,8 +102,8 @@ abbrev parameterSet : List Rec
 parameterSet = rec 21 0 0 0 ∷ rec 2 x 0 0 ∷ []
 
 abbrev answered : List Rec → Solved
-answered rs = solveCall pool table (words rs) result work .answer
+answered rs = solveCall pool table (sizedWords rs) result work .answer
 
 within-one-set : map answered (variableSet ∷ parameterSet ∷ (variableSet ++ parameterSet) ∷ []) ≡ solved 2 0 1 ∷ solved 0 1 0 ∷ refusedAfter 4 0 ∷ []
-unfolding rules pool table result work
+unfolding rules counting pool table result work
 within-one-set = refl

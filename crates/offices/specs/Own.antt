@@ -12,7 +12,7 @@ use lib.ListN.{length, length-map, getD, take}
 use Rattle.rules.specs.Base.{all, any, andThen, onlyIf, _orElse_}
 use Rattle.rules.specs.Trees.{Atom, free, base, var, quant, par, Factor, _↑_, Product}
 use Rattle.rules.specs.Names.{Table}
-use Rattle.rules.specs.Writing.{Rec, rec, words}
+use Rattle.rules.specs.Writing.{Rec, rec, kindIn, words}
 use Rattle.rules.specs.Values.{FactorValue, ProductValue, atomIn, factorIn, factorsIn, productIn}
 use Rattle.rules.specs.Offices.{Name, nameNo, namesOne, mapAtom, mapFactor, mapOption, ReadAlike, ValuesAlike, fill, written, ownRec, own, fillFactor, fillValue, ownFactor, ownValue}
 use Rattle.laws.specs.Lists.{and-left, and-right}
@@ -37,9 +37,9 @@ module _ (f f′ : ℕ → Name) where
 module _ (t t′ : Table) (ns ns′ : List ℕ) (e : map (nameNo t) ns ≡ map (nameNo t′) ns′) where
   record-alike : (r : Rec) → ownRec (length ns) r ≡ true → seen t (fill ns r) ≡ seen t′ (fill ns′ r)
   unfolding ownRec fill
-  record-alike (rec k a b c) h = go (namesOne k b) refl
+  record-alike (rec w a b c) h = go (namesOne (kindIn w) b) refl
     where
-      go : (x : Bool) → namesOne k b ≡ x → seen t (fill ns (rec k a b c)) ≡ seen t′ (fill ns′ (rec k a b c))
+      go : (x : Bool) → namesOne (kindIn w) b ≡ x → seen t (fill ns (rec w a b c)) ≡ seen t′ (fill ns′ (rec w a b c))
       go true q = rw (fill, q, q, at-alike (nameNo t) (nameNo t′) ns ns′ a e (ltb-true a (length ns) (rw (ownRec, q) at h)))
       go false q = rw (fill, q, q)
 

@@ -1,17 +1,19 @@
 -- Schemes that read alike are read as schemes that are alike once numbers are replaced by names; or neither is read.
 -- Assumes nothing.
 use mathlib.Core.Path.{_≡_, refl, ap, sym}
+use mathlib.Core.Bool.{Bool, true, false}
 use mathlib.Core.Option.{Option, none, some}
 use mathlib.Core.List.{List, [], _∷_, map}
-use Prim.Native.Nat.{ℕ}
+use Prim.Native.Nat.{ℕ, suc}
+use lib.Dec.{eqb}
 use lib.ListN.{length}
 use Rattle.rules.specs.Base.{any, andThen}
 use Rattle.rules.specs.Trees.{Open}
 use Rattle.rules.specs.Names.{Table}
 use Rattle.rules.specs.Schemes.{Scheme, concrete, scheme}
-use Rattle.rules.specs.Writing.{Rec, rec}
+use Rattle.rules.specs.Writing.{Rec, rec, kindIn, lengthIn}
 use Rattle.rules.specs.Reading
-use Rattle.rules.specs.Reading.{Reader, give, unused, pick, readTy, readBound, readAll, schemeOf}
+use Rattle.rules.specs.Reading.{Reader, give, unused, pick, ifSo, readTy, readBound, readAll, schemeOf}
 use Rattle.rules.specs.Offices.{nameNo, namesOne, wordIf, mapOpen, mapScheme, mapOption}
 use Rattle.offices.specs.Reading.{same-length, Alike, SameWord, Agree, Tables, end, row, Cases, neither, both}
 use Rattle.offices.specs.Reading.{cases, give-agree, unused-agree, pick-agree, then-agree, number-at, ty-agree, bound-agree, all-agree, unlike, head, tail, plain}
@@ -32,9 +34,13 @@ ends (concrete t) (o ∷ os) = none
 abbrev ended : Scheme ℕ × List Rec → Option (Scheme ℕ)
 ended r = andThen (readAll readBound (length (r .1)) (r .1)) (λ bs. ends (r .0) bs)
 
-scheme-step : (k n b c : ℕ) (rs : List Rec) → schemeOf (rec k n b c ∷ rs) ≡ andThen (pick k (headTable n b c) rs) ended
+-- a scheme of m records that says to be n long
+abbrev whole : ℕ → ℕ → Option (Scheme ℕ × List Rec) → Option (Scheme ℕ)
+whole n m o = ifSo (eqb n m) (andThen o ended)
+
+scheme-step : (w n b c : ℕ) (rs : List Rec) → schemeOf (rec w n b c ∷ rs) ≡ whole (lengthIn w) (suc (length rs)) (pick (kindIn w) (headTable n b c) rs)
 unfolding schemeOf
-scheme-step k n b c rs = refl
+scheme-step w n b c rs = refl
 
 module _ (t t′ : Table) where
   form-rows : (b n n′ : ℕ) → n ≡ n′ → Tables t t′ (mapScheme (nameNo t)) (mapScheme (nameNo t′)) b (formTable n) (formTable n′)
@@ -73,16 +79,27 @@ module _ (t t′ : Table) where
       → Agree t t′ (mapScheme (nameNo t)) (mapScheme (nameNo t′)) (pick k (headTable n b c) rs) (pick k′ (headTable n′ b′ c′) rs′)
   one-scheme k k′ n n′ b b′ c c′ rs rs′ ek eb ec w h = rw (← ek, ← eb, ← ec) (pick-agree t t′ _ _ k (headTable n b c) (headTable n′ b c) (head-rows k b c n n′ (rw (← ek, ← eb) at w)) .agree rs rs′ h)
 
+  whole-alike : (n m : ℕ) {o o′ : Option (Scheme ℕ × List Rec)} → Cases t t′ (mapScheme (nameNo t)) (mapScheme (nameNo t′)) o o′
+      → mapOption (mapScheme (nameNo t)) (whole n m o) ≡ mapOption (mapScheme (nameNo t′)) (whole n m o′)
+  whole-alike n m neither = go (eqb n m)
+    where
+      go : (b : Bool) → mapOption (mapScheme (nameNo t)) (ifSo b none) ≡ mapOption (mapScheme (nameNo t′)) (ifSo b none)
+      go true = refl
+      go false = refl
+  whole-alike n m (both v v′ i j) = go (eqb n m)
+    where
+      go : (b : Bool) → mapOption (mapScheme (nameNo t)) (ifSo b (ended v)) ≡ mapOption (mapScheme (nameNo t′)) (ifSo b (ended v′))
+      go true = ended-alike v v′ i j
+      go false = refl
+
   pub scheme-alike : (rs rs′ : List Rec) → Alike t t′ rs rs′ → mapOption (mapScheme (nameNo t)) (schemeOf rs) ≡ mapOption (mapScheme (nameNo t′)) (schemeOf rs′)
   unfolding schemeOf
   scheme-alike [] [] e = refl
   scheme-alike [] (x ∷ rs′) e = absurd (unlike e)
   scheme-alike (x ∷ rs) [] e = absurd (unlike (sym e))
-  scheme-alike (rec k n b c ∷ rs) (rec k′ n′ b′ c′ ∷ rs′) e =
+  scheme-alike (rec w n b c ∷ rs) (rec w′ n′ b′ c′ ∷ rs′) e =
       let x = head e in
-      go (cases t t′ _ _ (pick k (headTable n b c) rs) (pick k′ (headTable n′ b′ c′) rs′) (one-scheme k k′ n n′ b b′ c c′ rs rs′ (plain (ap (λ r. r .0) x)) (plain (ap (λ r. r .2) x)) (plain (ap (λ r. r .3) x)) (ap (λ r. r .1) x) (tail e) .is))
-    where
-      go : {o o′ : Option (Scheme ℕ × List Rec)} → Cases t t′ (mapScheme (nameNo t)) (mapScheme (nameNo t′)) o o′
-          → mapOption (mapScheme (nameNo t)) (andThen o ended) ≡ mapOption (mapScheme (nameNo t′)) (andThen o′ ended)
-      go neither = refl
-      go (both v v′ i j) = ended-alike v v′ i j
+      let i : w ≡ w′ = plain (ap (λ r. r .0) x) in
+      rw (ap lengthIn i, same-length t t′ rs rs′ (tail e))
+      (whole-alike (lengthIn w′) (suc (length rs′)) (cases t t′ _ _ (pick (kindIn w) (headTable n b c) rs) (pick (kindIn w′) (headTable n′ b′ c′) rs′)
+      (one-scheme (kindIn w) (kindIn w′) n n′ b b′ c c′ rs rs′ (ap kindIn i) (plain (ap (λ r. r .2) x)) (plain (ap (λ r. r .3) x)) (ap (λ r. r .1) x) (tail e) .is)))

@@ -4,7 +4,7 @@ use mathlib.Core.Path.{_≡_, refl, ap, sym, _∙_}
 use mathlib.Core.Bool.{Bool, true, false}
 use mathlib.Core.Option.{Option, none, some}
 use mathlib.Core.List.{List, [], _∷_, map}
-use Prim.Native.Nat.{ℕ, zero, suc}
+use Prim.Native.Nat.{ℕ, zero, suc, _+_}
 use native.Mathlib.Omega.{arith}
 use borrow.Author.Tests.{eqb-true}
 use lib.Dec.{eqb}
@@ -12,9 +12,9 @@ use lib.ListN.{length, length-map}
 use Rattle.rules.specs.Base.{all, any, andThen}
 use Rattle.rules.specs.Trees.{Ty}
 use Rattle.rules.specs.Names.{Table}
-use Rattle.rules.specs.Writing.{Rec, rec}
+use Rattle.rules.specs.Writing.{Rec, rec, kindIn, lengthIn}
 use Rattle.rules.specs.Reading
-use Rattle.rules.specs.Reading.{Reader, pass, give, unused, pick, next, factorTable, factorKinds, readFactors, readTys, fieldName, readFields, typeTable, typeKinds, readTy}
+use Rattle.rules.specs.Reading.{Reader, pass, give, unused, pick, ifSo, lasting, next, factorTable, factorKinds, readFactors, readTys, fieldTable, fieldKinds, readFields, typeTable, typeKinds, readTy}
 use Rattle.rules.specs.Reading.{scalarTable, scalarKinds, conTable, conKinds, readCon, bindingTable, bindingKinds, readBinding, boundTable, boundKinds, readBound, readAll, records}
 use Rattle.rules.specs.Offices.{Word, number, name, Name, nameNo, namesOne, wordIf, readBack, ReadAlike, mapOpen, mapFactor, mapTy, mapTys, mapFields, mapCon, mapBinding, mapOption}
 
@@ -23,7 +23,7 @@ abbrev pub Seen : Type 0
 Seen = Word × Word × Word × Word
 
 abbrev pub seen : Table → Rec → Seen
-seen t (rec k a b c) = (number k, wordIf (namesOne k b) t a, number b, number c)
+seen t (rec w a b c) = (number w, wordIf (namesOne (kindIn w) b) t a, number b, number c)
 
 pub unlike : {x : Seen} {xs : List Seen} → [] ≡ x ∷ xs → ⊥
 unlike e = let z : _≡_ {A = ℕ} 0 1 = cc in omega arith
@@ -36,6 +36,10 @@ head e = cc
 
 pub plain : {m n : ℕ} → number m ≡ number n → m ≡ n
 plain e = cc
+
+-- a field alone
+abbrev mapField : Table → ℕ × Ty ℕ → Name × Ty Name
+mapField t f = (nameNo t (f .0), mapTy (nameNo t) (f .1))
 
 -- ══ Words as records ══
 
@@ -142,16 +146,30 @@ module _ (t t′ : Table) where
         → c ≡ c′ → wordIf (namesOne k b) t a ≡ wordIf (namesOne k′ b′) t′ a′ → Alike rs rs′ → Agree (f k a b c rs) (f k′ a′ b′ c′ rs′)
     one-record f s k k′ a a′ b b′ c c′ rs rs′ ek eb ec w h = rw (← ek, ← eb, ← ec) (s k a a′ b c (rw (← ek, ← eb) at w) .agree rs rs′ h)
 
+    -- what was read lasts as long as it says in both, or in neither
+    lasting-agree : (n n′ m m′ : ℕ) (x x′ : Option (A × List Rec)) → n ≡ n′ → m ≡ m′ → Agree x x′ → Agree (lasting n m x) (lasting n′ m′ x′)
+    lasting-agree n n′ m m′ x x′ en em h = go (cases x x′ (h .is))
+      where
+        by : (b : Bool) (v v′ : A × List Rec) → g (v .0) ≡ g′ (v′ .0) → Alike (v .1) (v′ .1) → Agree (ifSo b (some v)) (ifSo b (some v′))
+        by true v v′ i f = record { is = rw (i, f) }
+        by false v v′ i f = record { is = refl }
+
+        go : {x x′ : Option (A × List Rec)} → Cases x x′ → Agree (lasting n m x) (lasting n′ m′ x′)
+        go neither = record { is = refl }
+        go (both v v′ i f) = rw (en, em, same-length (v .1) (v′ .1) f) (by (eqb (n′ + length (v′ .1)) m′) v v′ i f)
+
     pub next-agree : (f : ℕ → ℕ → ℕ → ℕ → Reader A) → ((k a a′ b c : ℕ) → SameWord k b a a′ → Readers (f k a b c) (f k a′ b c)) → Readers (next f) (next f)
     next-agree f s = record { agree = go }
       where
         go : (rs rs′ : List Rec) → Alike rs rs′ → Agree (next f rs) (next f rs′)
         go [] [] e = record { is = refl }
-        go [] (rec k a b c ∷ rs) e = absurd (unlike e)
-        go (rec k a b c ∷ rs) [] e = absurd (unlike (sym e))
-        go (rec k a b c ∷ rs) (rec k′ a′ b′ c′ ∷ rs′) e =
+        go [] (rec w a b c ∷ rs) e = absurd (unlike e)
+        go (rec w a b c ∷ rs) [] e = absurd (unlike (sym e))
+        go (rec w a b c ∷ rs) (rec w′ a′ b′ c′ ∷ rs′) e =
             let x = head e in
-            one-record f s k k′ a a′ b b′ c c′ rs rs′ (plain (ap (λ r. r .0) x)) (plain (ap (λ r. r .2) x)) (plain (ap (λ r. r .3) x)) (ap (λ r. r .1) x) (tail e)
+            let i : w ≡ w′ = plain (ap (λ r. r .0) x) in
+            lasting-agree (lengthIn w) (lengthIn w′) (suc (length rs)) (suc (length rs′)) (f (kindIn w) a b c rs) (f (kindIn w′) a′ b′ c′ rs′) (ap lengthIn i) (ap suc (same-length rs rs′ (tail e)))
+            (one-record f s (kindIn w) (kindIn w′) a a′ b b′ c c′ rs rs′ (ap kindIn i) (plain (ap (λ r. r .2) x)) (plain (ap (λ r. r .3) x)) (ap (λ r. r .1) x) (tail e))
 
   module _ {A B C D : Type 0} {g g′ : A → B} {h h′ : C → D} where
     pub then-agree : {m m′ : Reader A} {k k′ : A → Reader C} → Readers g g′ m m′ → ((a a′ : A) → g a ≡ g′ a′ → Readers h h′ (k a) (k′ a′)) → Readers h h′ (Reading._>>=_ m k) (Reading._>>=_ m′ k′)
@@ -194,17 +212,17 @@ module _ (t t′ : Table) where
     tys-agree zero = give-agree _ _ refl
     tys-agree (suc n) = then-agree reads (λ u u′ i. then-agree (tys-agree n) (λ us us′ j. give-agree _ _ (rw (i, j))))
 
-    field-rows : (k a a′ b c : ℕ) → SameWord k b a a′ → Tables (nameNo t) (nameNo t′) k ((9, unused (b ∷ c ∷ []) (give a)) ∷ []) ((9, unused (b ∷ c ∷ []) (give a′)) ∷ [])
+    field-rows : (k a a′ b c : ℕ) → SameWord k b a a′ → Tables (mapField t) (mapField t′) k (fieldTable ty a b c) (fieldTable ty a′ b c)
     unfolding namesOne any
-    field-rows k a a′ b c w = row _ _ (λ e. unused-agree _ _ (b ∷ c ∷ []) (give-agree _ _ (name-at k b a a′ 9 e refl w))) end
+    field-rows k a a′ b c w = row _ _ (λ e. unused-agree _ _ (b ∷ c ∷ []) (then-agree reads (λ u u′ i. give-agree _ _ (rw (name-at k b a a′ 9 e refl w, i))))) end
 
-    field-agree : Readers (nameNo t) (nameNo t′) (next fieldName) (next fieldName)
-    field-agree = next-agree _ _ fieldName (λ k a a′ b c w. pick-agree _ _ k ((9, unused (b ∷ c ∷ []) (give a)) ∷ []) ((9, unused (b ∷ c ∷ []) (give a′)) ∷ []) (field-rows k a a′ b c w))
+    field-agree : Readers (mapField t) (mapField t′) (next (fieldKinds ty)) (next (fieldKinds ty))
+    field-agree = next-agree _ _ (fieldKinds ty) (λ k a a′ b c w. pick-agree _ _ k (fieldTable ty a b c) (fieldTable ty a′ b c) (field-rows k a a′ b c w))
 
     fields-agree : (n : ℕ) → Readers (mapFields (nameNo t)) (mapFields (nameNo t′)) (readFields ty n) (readFields ty n)
     unfolding readFields mapTy
     fields-agree zero = give-agree _ _ refl
-    fields-agree (suc n) = then-agree field-agree (λ x x′ i. then-agree reads (λ u u′ j. then-agree (fields-agree n) (λ us us′ l. give-agree _ _ (rw (i, j, l)))))
+    fields-agree (suc n) = then-agree field-agree (λ f f′ i. then-agree (fields-agree n) (λ us us′ l. give-agree _ _ (rw (ap (λ r. r .0) i, ap (λ r. r .1) i, l))))
 
     type-rows : (k a a′ b c : ℕ) → SameWord k b a a′ → Tables (mapTy (nameNo t)) (mapTy (nameNo t′)) k (typeTable ty a b c) (typeTable ty a′ b c)
     unfolding namesOne any mapTy

@@ -106,7 +106,7 @@ module _ {N M : Type 0} (f : N → M) where
   depth-con (isScalar p) = refl
   depth-con (hasField n s t) = rw (depth-map s, depth-map t)
 
-  size-binding : (b : Binding N) → sizeBinding (mapBinding f b) ≡ sizeBinding b
+  pub size-binding : (b : Binding N) → sizeBinding (mapBinding f b) ≡ sizeBinding b
   unfolding sizeBinding mapBinding
   size-binding (x ≔ t) = rw (size-map t)
 

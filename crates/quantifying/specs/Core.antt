@@ -1,7 +1,7 @@
 -- A scheme that was written from the start of the work buffer is what quantifying makes, or it is too long. Assumes nothing.
 use mathlib.Core.Path.{_≡_, refl, sym, ap, _∙_}
 use mathlib.Core.List.{List, [], _∷_, _++_, map}
-use Prim.Native.Nat.{ℕ, _+_, _*_, _≤_, _<_}
+use Prim.Native.Nat.{ℕ, suc, _+_, _*_, _≤_, _<_}
 use native.Mathlib.Omega.{arith}
 use lib.ListN.{length, take, drop, length-append, length-map}
 use lib.Seq.{sets, sets-eq, length-sets, take-at}
@@ -9,14 +9,16 @@ use Rattle.rules.specs.Base.{Got, got, refused, _>>=_, bounded, sized}
 use Rattle.rules.specs.Refusals.{numberOf}
 use Rattle.rules.specs.Schemes.{Scheme, scheme, schemeLimited}
 use Rattle.rules.specs.Trees.{Open, Ty, size, depth}
-use Rattle.rules.specs.Writing.{Rec, rec, words, writeTy, writeBound, writeScheme}
+use Rattle.rules.specs.Writing.{Rec, rec, head, words, writeTy, writeBound, writeScheme}
 use Rattle.rules.specs.declared.Refusal.{Refusal}
 use Rattle.rules.specs.declared.Refusal.the-variants.{TooLarge}
 use Rattle.laws.specs.Lists.{clash}
 use Rattle.laws.specs.Size.{size-ty}
 use Rattle.laws.specs.Sized.{sized-kept, sized-long}
 use Rattle.records.specs.Buffers.{words-length}
+use Rattle.records.specs.Cut.{fit, fits}
 use Rattle.records.specs.Stores.{sets-append}
+use Rattle.replacing.specs.Writes.{writes, writes-before}
 use Rattle.lending.specs.Told.{Front, Made}
 use Rattle.lending.specs.declared.Answer.the-variants.{Records, Refused}
 
@@ -71,15 +73,15 @@ module _ (n : ℕ) (bs : List (Open ℕ)) where
     unfolding schemeLimited
     too-long w h = made-refused (limitedScheme R) TooLarge w (rw (e, sized-long (1 + (size u + length bs)) (depth u) (scheme n u bs) h))
 
-    -- the head, the type and the bounds were written one after another
-    pub made-scheme : (d d₁ d₂ d₃ : List ℕ) (out r : ℕ) → 16384 ≤ length d → d₁ ≡ sets d (0 * 4) (words (rec 26 n 0 0 ∷ [])) → out ≡ 1 + size u
-        → d₂ ≡ sets d₁ (1 * 4) (words (writeTy u)) → r ≡ out + length bs → d₃ ≡ sets d₂ (out * 4) (words (map writeBound bs)) → r ≤ 2048 → Made (limitedScheme R) d₃ (Records r)
+    -- the type and the bounds were written one after another, then the head, which says how many they are
+    pub made-scheme : (d d₁ d₂ d₃ : List ℕ) (out r : ℕ) → 16384 ≤ length d → out ≡ 1 + size u → d₁ ≡ sets d (1 * 4) (words (writeTy u)) → r ≡ out + length bs
+        → d₂ ≡ sets d₁ (out * 4) (words (map writeBound bs)) → r ≤ 2048 → d₃ ≡ sets d₂ (0 * 4) (words (rec (head 26 (fit r)) n 0 0 ∷ [])) → Made (limitedScheme R) d₃ (Records r)
     unfolding schemeLimited writeScheme
-    made-scheme d d₁ d₂ d₃ out r room h₁ o h₂ q h₃ le =
-        let s = size-ty u in
-        let w₂ : d₂ ≡ sets d 0 (words ((rec 26 n 0 0 ∷ []) ++ writeTy u)) = written-after d d₁ d₂ 1 (rec 26 n 0 0 ∷ []) (writeTy u) refl h₁ h₂ in
-        let l = length-append (rec 26 n 0 0 ∷ []) (writeTy u) in
-        let w₃ : d₃ ≡ sets d 0 (words (((rec 26 n 0 0 ∷ []) ++ writeTy u) ++ map writeBound bs)) = written-after d d₂ d₃ out ((rec 26 n 0 0 ∷ []) ++ writeTy u) (map writeBound bs) (omega arith) w₂ h₃ in
+    made-scheme d d₁ d₂ d₃ out r room o h₁ q h₂ le h₃ =
+        let rs : List Rec = writeTy u ++ map writeBound bs in
+        let w₂ : d₂ ≡ sets d (1 * 4) (words rs) = writes d d₁ d₂ (writeTy u) (map writeBound bs) (size u) 1 (size-ty u) h₁ (h₂ ∙ ap (λ (m : ℕ). sets d₁ (m * 4) (words (map writeBound bs))) o) in
+        let m : fit r ≡ suc (size u + length bs) = fits r (omega arith) ∙ omega arith in
+        let w₃ : d₃ ≡ sets d 0 (words (rec (head 26 (suc (size u + length bs))) n 0 0 ∷ rs)) = writes-before d d₂ d₃ (rec (head 26 (fit r)) n 0 0) rs 0 w₂ h₃ ∙ ap (λ (j : ℕ). sets d 0 (words (rec (head 26 j) n 0 0 ∷ rs))) m in
         let k = scheme-length u in
         made-records (limitedScheme R) (writeScheme (scheme n u bs)) d d₃ r
         (rw (e, sized-kept (1 + (size u + length bs)) (depth u) (scheme n u bs) (omega arith) flat))

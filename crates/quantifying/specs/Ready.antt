@@ -13,14 +13,16 @@ use Rattle.rules.specs.Replacing.{replaceTy}
 use Rattle.rules.specs.Refusals.{numberOf}
 use Rattle.rules.specs.Schemes.{renamed}
 use Rattle.rules.specs.Trees.{Ty, Open, size, depth}
-use Rattle.rules.specs.Writing.{Rec, rec, words, writeTy}
+use Rattle.rules.specs.Writing.{Rec, rec, head, words, writeTy}
 use Rattle.rules.specs.declared.Refusal.{Refusal}
 use Rattle.rules.specs.declared.Refusal.the-variants.{TooLarge}
 use Rattle.laws.specs.Lists.{All, in-head}
 use Rattle.laws.specs.NameTable.{Good}
 use Rattle.renaming.specs.InTurn.{allOf}
 use Rattle.renaming.specs.Sizes.{renamed-deep}
+use Rattle.records.specs.Cut.{fit}
 use Rattle.replacing.specs.Left.{Left, Room}
+use Rattle.replacing.specs.LineLaws.{type-left}
 use Rattle.replacing.specs.Well.{HeldType, Lent}
 use Rattle.replacing.specs.declared.inner.walk.Went.{Went}
 use Rattle.replacing.specs.declared.inner.walk.Went.the-variants.{To, Stop}
@@ -66,7 +68,7 @@ module _ (pool table names : List ℕ) (t : Ty ℕ) (d d′ : List ℕ) (nx : �
     pub value : Ty ℕ
     pub is : renamedType pool table names t ≡ got value
     pub many : out ≡ 1 + size value
-    pub buffer : d′ ≡ sets d (1 * 4) (words (writeTy value))
+    pub buffer : size value ≤ 65_535 → d′ ≡ sets d (1 * 4) (words (writeTy value))
     pub flat : depth value ≡ depth t
 
   pub came : {x : Went} {q out : ℕ} → x ≡ To q out → Left size writeTy d d′ nx 1 x (renamedType pool table names t) → Came out
@@ -76,7 +78,7 @@ module _ (pool table names : List ℕ) (t : Ty ℕ) (d d′ : List ℕ) (nx : �
       go (got u) e l =
           let s = subst (λ (R : Got (Ty ℕ)). Left size writeTy d d′ nx 1 (To q out) R) e l .says in
           let m : out ≡ 1 + size u = let p = s .0 in cc in
-          record { value = u; is = e; many = m; buffer = s .1; flat = renamed-deep (numbersOf (tableOf pool table)) bounded (handed pool table names) t u e }
+          record { value = u; is = e; many = m; buffer = type-left (renamedType pool table names t) l u e; flat = renamed-deep (numbersOf (tableOf pool table)) bounded (handed pool table names) t u e }
       go (refused k) e l = absurd (subst (λ (R : Got (Ty ℕ)). Left size writeTy d d′ nx 1 (To q out) R) e l .says)
 
   -- or stopped
@@ -94,7 +96,7 @@ pub tables : (pool table names p v : List ℕ) → All (λ x. x < 256) names →
 tables pool table names p v small few a b = rw (a, b) (quant-lent pool table names small few)
 
 -- the answers, from what the walk and the bounds left
-module _ (pool table names : List ℕ) (all : Bool) (t : Ty ℕ) (bs : List (Open ℕ)) (flat : depth t ≤ 64) (d d₁ d₂ : List ℕ) (nx out : ℕ) (c : Came pool table names t d₁ d₂ nx out) where
+module _ (pool table names : List ℕ) (all : Bool) (t : Ty ℕ) (bs : List (Open ℕ)) (flat : depth t ≤ 64) (d d₁ : List ℕ) (nx out : ℕ) (c : Came pool table names t d d₁ nx out) where
   abbrev new : List (Open ℕ)
   new = allBounds all (handed pool table names) bs
 
@@ -104,8 +106,11 @@ module _ (pool table names : List ℕ) (all : Bool) (t : Ty ℕ) (bs : List (Ope
   pub type-long : (w : List ℕ) → 2048 < out → Made (quantifiedAs pool table names all t bs) w (Refused TooLarge)
   type-long w h = too-long (length names) new (renamedType pool table names t) (c .value) (c .is) shallow w (let e = c .many in omega arith)
 
-  pub all-long : (d₃ w : List ℕ) (r : ℕ) → PutAll d₂ d₃ out r new → 2048 < r → Made (quantifiedAs pool table names all t bs) w (Refused TooLarge)
-  all-long d₃ w r p h = too-long (length names) new (renamedType pool table names t) (c .value) (c .is) shallow w (let e = c .many in let f = p .next in omega arith)
+  pub all-long : (d₂ w : List ℕ) (r : ℕ) → PutAll d₁ d₂ out r new → 2048 < r → Made (quantifiedAs pool table names all t bs) w (Refused TooLarge)
+  all-long d₂ w r p h = too-long (length names) new (renamedType pool table names t) (c .value) (c .is) shallow w (let e = c .many in let f = p .next in omega arith)
 
-  pub all-made : (d₃ : List ℕ) (r : ℕ) → 16384 ≤ length d → d₁ ≡ sets d (0 * 4) (words (rec 26 (length names) 0 0 ∷ [])) → PutAll d₂ d₃ out r new → r ≤ 2048 → Made (quantifiedAs pool table names all t bs) d₃ (Records r)
-  all-made d₃ r room h p le = made-scheme (length names) new (renamedType pool table names t) (c .value) (c .is) shallow d d₁ d₂ d₃ out r room h (c .many) (c .buffer) (p .next) (p .buffer) le
+  pub all-made : (d₂ d₃ : List ℕ) (r : ℕ) → 16384 ≤ length d → PutAll d₁ d₂ out r new → r ≤ 2048 → d₃ ≡ sets d₂ (0 * 4) (words (rec (head 26 (fit r)) (length names) 0 0 ∷ [])) → Made (quantifiedAs pool table names all t bs) d₃ (Records r)
+  all-made d₂ d₃ r room p le h =
+      let m = c .many in
+      let q = p .next in
+      made-scheme (length names) new (renamedType pool table names t) (c .value) (c .is) shallow d d₁ d₂ d₃ out r room (c .many) (c .buffer (omega arith)) (p .next) (p .buffer) le h

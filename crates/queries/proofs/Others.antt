@@ -8,7 +8,6 @@ use Rattle.records.specs.declared.View.{View}
 use Rattle.records.specs.declared.View.the-variants as view
 use Rattle.records.proofs.View as views
 use Rattle.queries.specs.Scans.{opensView}
-use Rattle.queries.specs.Ends.{partsOf}
 
 -- the view has one of these tags
 abbrev pub Tagged : List ℕ → View → Type 0
@@ -36,26 +35,3 @@ none-opened (view.Bound o) k = refl
 none-opened (view.Scheme n) k = refl
 none-opened view.Concrete k = refl
 none-opened view.Bad k = refl
-
--- no part stands below the other records
-abbrev single : List ℕ
-single = 0 ∷ 1 ∷ 7 ∷ 8 ∷ 9 ∷ 10 ∷ 11 ∷ 12 ∷ 13 ∷ 14 ∷ 15 ∷ 16 ∷ []
-
-pub no-parts : (v : View) → Tagged single v → partsOf v ≡ 0
-no-parts (view.Opened o) k = refl
-no-parts (view.Basic b) k = refl
-no-parts (view.Dim n) k = absurd (miss single 2 tt k)
-no-parts (view.Function n) k = absurd (miss single 3 tt k)
-no-parts (view.Struct x n m) k = absurd (miss single 4 tt k)
-no-parts view.List k = absurd (miss single 5 tt k)
-no-parts (view.Field x) k = absurd (miss single 6 tt k)
-no-parts (view.Factor a n d) k = refl
-no-parts view.Equal k = refl
-no-parts view.IsDim k = refl
-no-parts view.IsScalar k = refl
-no-parts (view.HasField x) k = refl
-no-parts (view.Binding x) k = refl
-no-parts (view.Bound o) k = refl
-no-parts (view.Scheme n) k = refl
-no-parts view.Concrete k = refl
-no-parts view.Bad k = refl

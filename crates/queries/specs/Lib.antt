@@ -1,8 +1,6 @@
 pub mod Scans
 pub mod Marks
-pub mod Ends
 pub mod ScanLaws
-pub mod EndLaws
 pub mod MarkLaws
 pub mod SortMarks
 pub mod GoodOpens

@@ -105,8 +105,8 @@ module _ (s : List ℕ) where
     unfolding Holds HoldsProduct size opens opensFrom
 
     pub ty-opens : (t : Ty ℕ) (at : ℕ) → Holds s t at → opensFrom s (size t) at ≡ opens t
-    ty-opens (opened o) at h = one at 0 h ∙ rw (open-back o)
-    ty-opens (basic b) at h = one at 0 h
+    ty-opens (opened o) at h = one at 0 (h .0) ∙ rw (open-back o)
+    ty-opens (basic b) at h = one at 0 (h .0)
     ty-opens (dim p) at h = product-opens p at h
     ty-opens (fn ps r) at h = one at (sizeTys ps + size r) (h .0) ∙ two (at + 1) (sizeTys ps) (size r) (tys-opens ps (at + 1) (h .1)) (ty-opens r (at + 1 + sizeTys ps) (h .2))
     ty-opens (struct n as′ fs) at h =

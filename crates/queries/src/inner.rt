@@ -9,6 +9,7 @@ use records::Atom;
 use records::Open;
 use records::View;
 use records::inner::put;
+use records::seen::length_at;
 use records::seen::view_at;
 use rules::NAMES;
 ghost use mathlib.Core.Path.{_≡_};
@@ -29,7 +30,6 @@ ghost use Rattle.records.specs.Holds.{openOf, atomOf, Holds};
 ghost use Rattle.records.specs.Good.{numbers};
 ghost use Rattle.queries.specs.Scans.{toldOpens, toldName, opensAtom, opensView, opensIn, choose};
 ghost use Rattle.queries.specs.Marks.{Marks, Small, disjoint, picked, Held, HeldName, Least, Filled, firstBy, firstOf};
-ghost use Rattle.queries.specs.Ends.{partsOf};
 
 fn atom_opens(a: Atom) -> Opens
     ensures { λ r. ⌜ toldOpens r ≡ opensAtom (atomOf a) ⌝ }
@@ -192,32 +192,12 @@ pub fn is_unmixed(s: &[u32], b: usize, e: usize) -> bool
     apart(s, b, e, s, 0, 0)
 }
 
-// How many parts stand right below a record.
-fn parts(v: View) -> usize
-    ensures { λ r. ⌜ r ≡ partsOf v ⌝ }
-{
-    match v {
-        View::Dim(n) => wide(n),
-        View::Function(n) => wide(n) + 1,
-        View::Struct(_, n, m) => wide(n) + wide(m),
-        View::List => 1,
-        View::Field(_) => 1,
-        _ => 0,
-    }
-}
-
-// Where the type at a place ends: when no part is left to come.
+// Where the type at a place ends.
 pub fn end_of(s: &[u32], at: usize) -> usize
     requires { ⌜ ((t : Ty ℕ) × Holds (now s) t at) ⌝ }
     ensures { λ r. ⌜ ((t : Ty ℕ) → Holds (now (s .entry)) t at → r ≡ at + size t) ⌝ }
 {
-    let mut left = 1;
-    let mut i = at;
-    while 0 < left {
-        left = left - 1 + parts(view_at(s, i));
-        i += 1;
-    }
-    i
+    at + length_at(s, at)
 }
 
 // Is x a variable of the type at a place?

@@ -11,10 +11,10 @@ use Rattle.rules.specs.Trees.{Ty, Con, equal, isDim, isScalar, hasField, Bindin
 use Rattle.rules.specs.WellFormed as rules
 use Rattle.laws.specs.Lists.{and-left as both-left, and-right as both-right}
 use Rattle.records.specs.Views.{viewAt}
-use Rattle.records.specs.Holds.{openOf, viewOpen, HoldsProduct, Holds, HoldsCon, HoldsBinding}
-use Rattle.records.specs.ByView.{ArmsCon, con-by-view}
+use Rattle.records.specs.Holds.{openOf, viewOpen, Holds, BodyCon, BodyBinding}
+use Rattle.records.specs.ByView.{ArmsCon, con-by-body}
 use Rattle.records.specs.Parsed.{only, only-con, only-binding}
-use Rattle.records.specs.Good.{Ends, holding, goodOpen, goodTy, goodCon, goodBinding, GoodDim, GoodTy, GoodProduct, GoodTwo, GoodCon, GoodBinding, GoodBound, Chain, Chained}
+use Rattle.records.specs.Good.{Ends, holding, goodOpen, goodTy, goodCon, goodBinding, GoodDim, GoodTy, PartsProduct, GoodProduct, GoodTwo, PartsCon, GoodCon, PartsBinding, GoodBinding, PartsBound, GoodBound, Chain, Chained}
 use Rattle.records.specs.declared.Open as names
 use Rattle.records.specs.declared.View.{View}
 use Rattle.records.specs.declared.View.the-variants as view
@@ -26,17 +26,15 @@ module _ (pool table : List ℕ) (q : ℕ) (s : List ℕ) where
   module _ (at : ℕ) where
     -- ══ A product ══
 
-    pub product-dim : (n : ℕ) → viewAt s at ≡ view.Dim n → (r : Ended) → Ends (GoodDim pool table q s (at + 1) n) r → Ends (GoodProduct pool table q s at) r
-    unfolding HoldsProduct
-    product-dim n v (At e) (p, g) = (p, record { held = (rw (g .many) v, g .held); past = omega (arith, g .many, g .past); good = g .good })
+    pub product-dim : (n : ℕ) → viewAt s at ≡ view.Dim n → (r : Ended) → Ends (GoodDim pool table q s (at + 1) n) r → Ends (PartsProduct pool table q s at) r
+    product-dim n v (At e) (p, g) = (p, record { shows = rw (g .many) v; held = g .held; past = omega (arith, g .many, g .past); good = g .good })
     product-dim n v Bad bad = λ p e g.
-        let i : view.Dim (length p) ≡ view.Dim n = sym (g .held .0) ∙ v in
+        let i : view.Dim (length p) ≡ view.Dim n = sym (g .shows) ∙ v in
         let j : length p ≡ n = cc in
-        bad p (at + 1 + n) (record { held = g .held .1; many = j; past = refl; good = g .good })
+        bad p (at + 1 + n) (record { held = g .held; many = j; past = refl; good = g .good })
 
-    pub product-other : ((n : ℕ) → viewAt s at ≡ view.Dim n → ⊥) → Ends (GoodProduct pool table q s at) Bad
-    unfolding HoldsProduct
-    product-other f p e g = f (length p) (g .held .0)
+    pub product-other : ((n : ℕ) → viewAt s at ≡ view.Dim n → ⊥) → Ends (PartsProduct pool table q s at) Bad
+    product-other f p e g = f (length p) (g .shows)
 
     -- ══ Two types ══
 
@@ -66,11 +64,11 @@ module _ (pool table : List ℕ) (q : ℕ) (s : List ℕ) where
     abbrev NoCon : Con ℕ → Type 0
     NoCon c = depthCon c ≤ 64 → goodCon pool table q c ≡ true → ⊥
 
-    con-none : {v : View} → viewAt s at ≡ v → ArmsCon s NoCon at v → Ends (GoodCon pool table q s at) Bad
-    con-none w a c e g = con-by-view s NoCon c at (g .held) w a (g .deep) (g .good)
+    con-none : {v : View} → viewAt s at ≡ v → ArmsCon s NoCon at v → Ends (PartsCon pool table q s at) Bad
+    con-none w a c e g = con-by-body s NoCon c at (g .held) w a (g .deep) (g .good)
 
-    pub con-equal : viewAt s at ≡ view.Equal → (r : Ended) → Ends (GoodTwo pool table q s (at + 1)) r → Ends (GoodCon pool table q s at) r
-    unfolding HoldsCon sizeCon depthCon rules.goodCon
+    pub con-equal : viewAt s at ≡ view.Equal → (r : Ended) → Ends (GoodTwo pool table q s (at + 1)) r → Ends (PartsCon pool table q s at) r
+    unfolding BodyCon sizeCon depthCon rules.goodCon
     con-equal v (At e) ((l, r), g) = (
       equal l r,
       record {
@@ -90,26 +88,26 @@ module _ (pool table : List ℕ) (q : ℕ) (s : List ℕ) where
       goodRight = both-right (goodTy pool table q l) (goodTy pool table q r) g;
     }))
 
-    pub con-dim : viewAt s at ≡ view.IsDim → (r : Ended) → Ends (GoodTy pool table q s 64 (at + 1)) r → Ends (GoodCon pool table q s at) r
-    unfolding HoldsCon sizeCon depthCon rules.goodCon
+    pub con-dim : viewAt s at ≡ view.IsDim → (r : Ended) → Ends (GoodTy pool table q s 64 (at + 1)) r → Ends (PartsCon pool table q s at) r
+    unfolding BodyCon sizeCon depthCon rules.goodCon
     con-dim v (At e) (t, g) = (isDim t, record { held = (v, g .held); past = omega (arith, g .past); deep = g .deep; good = g .good })
     con-dim v Bad bad = con-none v (λ t h k g. bad t (at + 1 + size t) (record { held = h; past = refl; deep = k; good = g }))
 
-    pub con-scalar : viewAt s at ≡ view.IsScalar → (r : Ended) → Ends (GoodProduct pool table q s (at + 1)) r → Ends (GoodCon pool table q s at) r
-    unfolding HoldsCon sizeCon size depthCon rules.goodCon
+    pub con-scalar : viewAt s at ≡ view.IsScalar → (r : Ended) → Ends (GoodProduct pool table q s (at + 1)) r → Ends (PartsCon pool table q s at) r
+    unfolding BodyCon sizeCon size depthCon rules.goodCon
     con-scalar v (At e) (p, g) = (isScalar p, record { held = (v, g .held); past = omega (arith, g .past); deep = omega arith; good = g .good })
     con-scalar v Bad bad = con-none v (λ p h k g. bad p (at + 1 + suc (length p)) (record { held = h; past = refl; good = g }))
 
     module _ (x : ℕ) (v : viewAt s at ≡ view.HasField x) where
-      pub con-field-name : holding pool table x ≡ false → Ends (GoodCon pool table q s at) Bad
+      pub con-field-name : holding pool table x ≡ false → Ends (PartsCon pool table q s at) Bad
       unfolding rules.goodCon
       con-field-name t = con-none v (λ l r h i k g.
           let H : Bool = holding pool table x in
           let L : Bool = goodTy pool table q l in
           false-true (sym t ∙ both-left H L (both-left (H && L) (goodTy pool table q r) g)))
 
-      pub con-field : holding pool table x ≡ true → (r : Ended) → Ends (GoodTwo pool table q s (at + 1)) r → Ends (GoodCon pool table q s at) r
-      unfolding HoldsCon sizeCon depthCon rules.goodCon
+      pub con-field : holding pool table x ≡ true → (r : Ended) → Ends (GoodTwo pool table q s (at + 1)) r → Ends (PartsCon pool table q s at) r
+      unfolding BodyCon sizeCon depthCon rules.goodCon
       con-field t (At e) ((l, r), g) =
           let H : Bool = holding pool table x in
           let L : Bool = goodTy pool table q l in (
@@ -157,40 +155,40 @@ module _ (pool table : List ℕ) (q : ℕ) (s : List ℕ) where
     con-others view.Concrete k = tt
     con-others view.Bad k = tt
 
-    pub con-other : (v : View) → viewAt s at ≡ v → Tagged noCons v → Ends (GoodCon pool table q s at) Bad
+    pub con-other : (v : View) → viewAt s at ≡ v → Tagged noCons v → Ends (PartsCon pool table q s at) Bad
     con-other v e k = con-none e (con-others v k)
 
     -- ══ A binding, and a bound ══
 
-    pub binding-other : ((x : ℕ) → viewAt s at ≡ view.Binding x → ⊥) → Ends (GoodBinding pool table q s at) Bad
-    unfolding HoldsBinding
+    pub binding-other : ((x : ℕ) → viewAt s at ≡ view.Binding x → ⊥) → Ends (PartsBinding pool table q s at) Bad
+    unfolding BodyBinding
     binding-other f (x ≔ t) e g = f x (g .held .0)
 
     module _ (x : ℕ) (v : viewAt s at ≡ view.Binding x) where
       same-name : (y : ℕ) → viewAt s at ≡ view.Binding y → y ≡ x
       same-name y w = let i : view.Binding y ≡ view.Binding x = sym w ∙ v in cc
 
-      pub binding-name : holding pool table x ≡ false → Ends (GoodBinding pool table q s at) Bad
-      unfolding HoldsBinding rules.goodBinding
+      pub binding-name : holding pool table x ≡ false → Ends (PartsBinding pool table q s at) Bad
+      unfolding BodyBinding rules.goodBinding
       binding-name t (y ≔ u) e g = false-true (sym t ∙ subst (λ (w : ℕ). holding pool table w ≡ true) (same-name y (g .held .0)) (both-left (holding pool table y) (goodTy pool table q u) (g .good)))
 
-      binding-none : ((t : Ty ℕ) (e : ℕ) → GoodTy pool table q s 64 (at + 1) t e → ⊥) → Ends (GoodBinding pool table q s at) Bad
-      unfolding HoldsBinding depthBinding rules.goodBinding
+      binding-none : ((t : Ty ℕ) (e : ℕ) → GoodTy pool table q s 64 (at + 1) t e → ⊥) → Ends (PartsBinding pool table q s at) Bad
+      unfolding BodyBinding depthBinding rules.goodBinding
       binding-none bad (y ≔ u) e g = bad u (at + 1 + size u) (record { held = g .held .1; past = refl; deep = g .deep; good = both-right (holding pool table y) (goodTy pool table q u) (g .good) })
 
-      pub binding-type : holding pool table x ≡ true → (r : Ended) → Ends (GoodTy pool table q s 64 (at + 1)) r → Ends (GoodBinding pool table q s at) r
-      unfolding HoldsBinding sizeBinding depthBinding rules.goodBinding
+      pub binding-type : holding pool table x ≡ true → (r : Ended) → Ends (GoodTy pool table q s 64 (at + 1)) r → Ends (PartsBinding pool table q s at) r
+      unfolding BodyBinding sizeBinding depthBinding rules.goodBinding
       binding-type t (At e) (u, g) = (x ≔ u, record { held = (v, g .held); past = omega (arith, g .past); deep = g .deep; good = both (holding pool table x) (goodTy pool table q u) t (g .good) })
       binding-type t Bad bad = binding-none bad
 
-    pub bound-other : ((o : names.Open) → viewAt s at ≡ view.Bound o → ⊥) → Ends (GoodBound pool table q s at) Bad
+    pub bound-other : ((o : names.Open) → viewAt s at ≡ view.Bound o → ⊥) → Ends (PartsBound pool table q s at) Bad
     bound-other f o e g = f (viewOpen o) (g .held)
 
     module _ (o : names.Open) (v : viewAt s at ≡ view.Bound o) where
-      pub bound-good : goodOpen pool table q (openOf o) ≡ true → Ends (GoodBound pool table q s at) (At (at + 1))
+      pub bound-good : goodOpen pool table q (openOf o) ≡ true → Ends (PartsBound pool table q s at) (At (at + 1))
       bound-good t = (openOf o, record { held = rw (open-there o) v; past = refl; good = t })
 
-      pub bound-fail : goodOpen pool table q (openOf o) ≡ false → Ends (GoodBound pool table q s at) Bad
+      pub bound-fail : goodOpen pool table q (openOf o) ≡ false → Ends (PartsBound pool table q s at) Bad
       bound-fail t p e g =
           let i : view.Bound (viewOpen p) ≡ view.Bound (viewOpen (openOf o)) = sym (g .held) ∙ rw (open-there o) v in
           let j : viewOpen p ≡ viewOpen (openOf o) = cc in

@@ -4,10 +4,10 @@ use mathlib.Core.Bool.{Bool, true, false, not, _&&_}
 use mathlib.Core.List.{List, [], _∷_, map}
 use Prim.Native.Nat.{ℕ, suc, _+_, _-_, _≤_, _<_}
 use native.Mathlib.Omega.{arith}
-use borrow.Author.Tests.{ltb-true, le-leb, leb-true}
+use borrow.Author.Tests.{ltb-true, le-leb, leb-true, eqb-true, eqb-false, eq-eqb, ne-eqb}
 use denote.Enum.Declared
 use types.Run.{OneOf, miss}
-use lib.Dec.{T, leb}
+use lib.Dec.{T, leb, eqb}
 use mir.Val.{hasKey}
 use lib.ListN.{length, getD}
 use Rattle.rules.specs.Base.{all}
@@ -20,11 +20,11 @@ use Rattle.rules.specs.WellFormed as rules
 use Rattle.rules.specs.WellFormed.{rising, fieldNames}
 use Rattle.laws.specs.Written.{unsigned}
 use Rattle.laws.specs.Lists.{and-left as both-left, and-right as both-right}
-use Rattle.records.specs.Views.{viewAt}
-use Rattle.records.specs.Holds.{openOf, viewOpen, atomOf, viewAtom, basicOf, viewBasic, HoldsFactors, HoldsProduct, Holds, HoldsTys, HoldsFields}
-use Rattle.records.specs.ByView.{Arms, by-view, factor-by-view}
+use Rattle.records.specs.Views.{viewAt, longAt}
+use Rattle.records.specs.Holds.{openOf, viewOpen, atomOf, viewAtom, basicOf, viewBasic, Long, HoldsFactor, HoldsFactors, Holds, HoldsTys, HoldsFields, Body}
+use Rattle.records.specs.ByView.{Arms, by-body, factor-by-view}
 use Rattle.records.specs.Parsed.{only, only-tys}
-use Rattle.records.specs.Good.{Ends, HeldOpen, HeldAtom, numbers, holding, follows, risingFrom, atomFollows, atomsFrom, goodOpen, goodAtom, goodFactors, goodProduct, goodTy, goodTys, goodFields, GoodFactors, GoodDim, GoodTy, GoodTys, GoodFields}
+use Rattle.records.specs.Good.{Ends, HeldOpen, HeldAtom, numbers, holding, follows, risingFrom, atomFollows, atomsFrom, goodOpen, goodAtom, goodFactors, goodProduct, goodTy, goodTys, goodFields, GoodFactors, GoodDim, PartsTy, GoodTy, GoodTys, GoodField, GoodFields}
 use Rattle.records.specs.declared.Atom as atoms
 use Rattle.records.specs.declared.Open as names
 use Rattle.records.specs.declared.Basic as basics
@@ -43,6 +43,24 @@ false-true e = absurd (let z : _≡_ {A = ℕ} 0 1 = cc in omega arith)
 
 pub both : (a b : Bool) → a ≡ true → b ≡ true → (a && b) ≡ true
 both a b p q = rw (p, q)
+
+-- ══ Lengths ══
+
+pub ends-before : (s : List ℕ) (at e : ℕ) → e < at → false ≡ eqb (at + longAt s at) e
+ends-before s at e h = sym (ne-eqb (at + longAt s at) e (λ q. omega arith))
+
+pub ends-there : (s : List ℕ) (at e : ℕ) → at ≤ e → (l : ℕ) → l ≡ longAt s at → eqb l (e - at) ≡ eqb (at + longAt s at) e
+ends-there s at e h l q = go (eqb (at + longAt s at) e) refl
+  where
+    go : (b : Bool) → eqb (at + longAt s at) e ≡ b → eqb l (e - at) ≡ b
+    go true x = eq-eqb l (e - at) (omega (arith, eqb-true (at + longAt s at) e x))
+    go false x = ne-eqb l (e - at) (λ y. eqb-false (at + longAt s at) e x (omega arith))
+
+pub one-long : {m l : ℕ} {r f : Bool} → m ≡ l → m ≡ 1 → r ≡ f → r ≡ (eqb l 1 && f)
+one-long {m} {l} p q e = rw (eq-eqb l 1 (sym p ∙ q)) e
+
+pub not-long : {m l : ℕ} (f : Bool) → m ≡ l → (m ≡ 1 → ⊥) → false ≡ (eqb l 1 && f)
+not-long {m} {l} f p q = rw (ne-eqb l 1 (λ e. q (p ∙ e)))
 
 -- ══ There and back ══
 
@@ -117,6 +135,9 @@ module _ (pool table : List ℕ) where
   module _ (q : ℕ) (s : List ℕ) where
     -- ══ Factors ══
 
+    factor-long : (f : Factor ℕ) (at : ℕ) → HoldsFactor s f at → Long s at 1
+    factor-long (a ↑ frac n d) at h = h .2
+
     module _ (at n : ℕ) (l : left.Left) where
       abbrev Factors : Ended → Type 0
       Factors r = Ends (GoodFactors pool table q s at n l) r
@@ -140,8 +161,17 @@ module _ (pool table : List ℕ) where
         abbrev F : Bool
         F = atomFollows pool table l (atomOf a)
 
+        abbrev L : Bool
+        L = eqb (longAt s at) 1
+
+        abbrev Fine : Bool
+        Fine = A && S && F
+
         abbrev Test : Bool
-        Test = A && S && F
+        Test = L && Fine
+
+        pub factors-held : Test ≡ true → HeldAtom table a
+        factors-held t = held-atom q a (both-left A S (both-left (A && S) F (both-right L Fine t)))
 
         record Apart (p : Product ℕ) (e : ℕ) : Type 0 where
           test : Test ≡ true
@@ -160,7 +190,7 @@ module _ (pool table : List ℕ) where
             let y : (F && R) ≡ true = sym (rises-atom l a (map rules.atomOf p)) ∙ w in
             let many : suc (length p) ≡ n = g .many in
             record {
-              test = both (A && S) F u (both-left F R y);
+              test = both L Fine (eq-eqb (longAt s at) 1 (factor-long f at (g .held .0))) (both (A && S) F u (both-left F R y));
               rest = record { held = g .held .1; many = omega arith; past = omega (arith, g .past); good = both-right (G x) (goodFactors pool table q p) k; rises = both-right F R y };
             }
 
@@ -178,14 +208,15 @@ module _ (pool table : List ℕ) where
             let x : Factor ℕ = atomOf a ↑ frac (signed num) den in
             let G : Factor ℕ → Bool = rules.goodFactor (numbers pool table) (holding pool table) q in
             let R : Bool = atomsFrom pool table (left.the-variants.Atom a) (map rules.atomOf p) in
-            let gx : G x ≡ true = factor-good q (atomOf a) (frac (signed num) den) ∙ both-left (A && S) F t in (
+            let fine : Fine ≡ true = both-right L Fine t in
+            let gx : G x ≡ true = factor-good q (atomOf a) (frac (signed num) den) ∙ both-left (A && S) F fine in (
               x ∷ p,
               record {
-                held = ((rw (atom-there a, unsigned num w) v, ap signed (unsigned num w)), g .held);
+                held = ((rw (atom-there a, unsigned num w) v, ap signed (unsigned num w), eqb-true (longAt s at) 1 (both-left L Fine t)), g .held);
                 many = omega (arith, g .many);
                 past = omega (arith, g .past);
                 good = both (G x) (goodFactors pool table q p) gx (g .good);
-                rises = rises-atom l a (map rules.atomOf p) ∙ both F R (both-right (A && S) F t) (g .rises);
+                rises = rises-atom l a (map rules.atomOf p) ∙ both F R (both-right (A && S) F fine) (g .rises);
               },
             )
         factors-step w t Bad bad = none-left bad
@@ -279,7 +310,7 @@ module _ (pool table : List ℕ) where
 
         record ApartField (t : Ty ℕ) (fs : Fields ℕ) (e : ℕ) : Type 0 where
           test : (H && W) ≡ true
-          type : GoodTy pool table q s d (at + 1) t (at + 1 + size t)
+          type : GoodField pool table q s d at t (at + 1 + size t)
           rest : GoodFields pool table q s d (at + 1 + size t) (n - 1) (before.the-variants.Name x) fs e
 
         apart-field : (y : ℕ) (t : Ty ℕ) (fs : Fields ℕ) (e : ℕ) → GoodFields pool table q s d at n b (field y t fs) e → ApartField t fs e
@@ -297,7 +328,7 @@ module _ (pool table : List ℕ) where
             let many : suc (countFields fs) ≡ n = g .many in
             record {
               test = both H W (both-left H T′ ht) (both-left W S′ y);
-              type = record { held = g .held .1; past = refl; deep = omega (arith, g .deep); good = both-right H T′ ht };
+              type = record { type = record { held = g .held .1; past = refl; deep = omega (arith, g .deep); good = both-right H T′ ht }; long = g .held .3 };
               rest = record {
                 held = g .held .2;
                 many = omega arith;
@@ -313,21 +344,21 @@ module _ (pool table : List ℕ) where
         fields-fail t noFields e g = z (sym (g .many))
         fields-fail t (field y u fs) e g = false-true (sym t ∙ apart-field y u fs e g .test)
 
-        pub fields-type : Ends (GoodTy pool table q s d (at + 1)) Bad → Fields′ Bad
+        pub fields-type : Ends (GoodField pool table q s d at) Bad → Fields′ Bad
         unfolding countFields
         fields-type bad noFields e g = z (sym (g .many))
         fields-type bad (field y u fs) e g = bad u (at + 1 + size u) (apart-field y u fs e g .type)
 
-        fields-left : (m : ℕ) (t : Ty ℕ) → GoodTy pool table q s d (at + 1) t m → ((fs : Fields ℕ) (e : ℕ) → GoodFields pool table q s d m (n - 1) (before.the-variants.Name x) fs e → ⊥) → Fields′ Bad
+        fields-left : (m : ℕ) (t : Ty ℕ) → GoodField pool table q s d at t m → ((fs : Fields ℕ) (e : ℕ) → GoodFields pool table q s d m (n - 1) (before.the-variants.Name x) fs e → ⊥) → Fields′ Bad
         unfolding countFields
         fields-left m t h bad noFields e g = z (sym (g .many))
         fields-left m t h bad (field y u fs) e g =
             let a = apart-field y u fs e g in
-            let i : size u ≡ size t = ap size (only s u t (at + 1) (a .type .held) (h .held)) in
-            let k : at + 1 + size u ≡ m = omega (arith, h .past) in
+            let i : size u ≡ size t = ap size (only s u t (at + 1) (a .type .type .held) (h .type .held)) in
+            let k : at + 1 + size u ≡ m = omega (arith, h .type .past) in
             bad fs e (subst (λ (w : ℕ). GoodFields pool table q s d w (n - 1) (before.the-variants.Name x) fs e) k (a .rest))
 
-        pub fields-step : (m : ℕ) → (H && W) ≡ true → Ends (GoodTy pool table q s d (at + 1)) (At m) → (r : Ended) → Ends (GoodFields pool table q s d m (n - 1) (before.the-variants.Name x)) r → Fields′ r
+        pub fields-step : (m : ℕ) → (H && W) ≡ true → Ends (GoodField pool table q s d at) (At m) → (r : Ended) → Ends (GoodFields pool table q s d m (n - 1) (before.the-variants.Name x)) r → Fields′ r
         unfolding Holds rules.goodTy sizeFields depthFields countFields
         fields-step m t (u, h) (At e) (fs, g) =
             let T′ : Bool = goodTy pool table q u in
@@ -335,11 +366,11 @@ module _ (pool table : List ℕ) where
             let S′ : Bool = risingFrom pool table (before.the-variants.Name x) (fieldNames fs) in (
               field x u fs,
               record {
-                held = (v, h .held, subst (HoldsFields s fs) (h .past) (g .held));
+                held = (v, h .type .held, subst (HoldsFields s fs) (h .type .past) (g .held), h .long);
                 many = omega (arith, g .many);
-                past = omega (arith, h .past, g .past);
-                deep = omega (arith, h .deep, g .deep);
-                good = both (H && T′) R (both H T′ (both-left H W t) (h .good)) (g .good);
+                past = omega (arith, h .type .past, g .past);
+                deep = omega (arith, h .type .deep, g .deep);
+                good = both (H && T′) R (both H T′ (both-left H W t) (h .type .good)) (g .good);
                 rises = rises-name b x (fieldNames fs) ∙ both W S′ (both-right H W t) (g .rises);
               },
             )
@@ -358,21 +389,21 @@ module _ (pool table : List ℕ) where
 
     module _ (d at : ℕ) where
       abbrev Type′ : Ended → Type 0
-      Type′ r = Ends (GoodTy pool table q s d at) r
+      Type′ r = Ends (PartsTy pool table q s d at) r
 
       -- no type that is held here is nested little enough and well formed
       abbrev No : Ty ℕ → Type 0
       No t = depth t ≤ d → goodTy pool table q t ≡ true → ⊥
 
       type-none : {v : View} → viewAt s at ≡ v → Arms s No at v → Type′ Bad
-      type-none w a t e g = by-view s No t at (g .held) w a (g .deep) (g .good)
+      type-none w a t e g = by-body s No t at (g .held) w a (g .deep) (g .good)
 
       pub type-shallow : d ≡ 0 → Type′ Bad
       type-shallow z t e g = omega (arith, g .deep, depth-pos t)
 
       module _ (z : (d ≡ 0) → ⊥) where
         pub type-open : (o : names.Open) → viewAt s at ≡ view.Opened o → goodOpen pool table q (openOf o) ≡ true → Type′ (At (at + 1))
-        unfolding Holds size depth rules.goodTy
+        unfolding Body size depth rules.goodTy
         type-open o v t = (opened (openOf o), record { held = rw (open-there o) v; past = refl; deep = omega arith; good = t })
 
         pub type-open-fail : (o : names.Open) → viewAt s at ≡ view.Opened o → goodOpen pool table q (openOf o) ≡ false → Type′ Bad
@@ -380,17 +411,17 @@ module _ (pool table : List ℕ) where
         type-open-fail o v t = type-none v (λ k g. false-true (sym t ∙ g))
 
         pub type-basic : (b : basics.Basic) → viewAt s at ≡ view.Basic b → Type′ (At (at + 1))
-        unfolding Holds size depth rules.goodTy
+        unfolding Body size depth rules.goodTy
         type-basic b v = (basic (basicOf b), record { held = rw (basic-there b) v; past = refl; deep = omega arith; good = refl })
 
         pub type-dim : (n : ℕ) → viewAt s at ≡ view.Dim n → (r : Ended) → Ends (GoodDim pool table q s (at + 1) n) r → Type′ r
-        unfolding Holds HoldsProduct size depth rules.goodTy
+        unfolding Body size depth rules.goodTy
         type-dim n v (At e) (p, g) =
             (dim p, record { held = (rw (g .many) v, g .held); past = omega (arith, g .many, g .past); deep = omega arith; good = g .good })
         type-dim n v Bad bad = type-none v (λ p m h k g. bad p (at + 1 + n) (record { held = h; many = m; past = refl; good = g }))
 
         pub type-list : viewAt s at ≡ view.List → (r : Ended) → Ends (GoodTy pool table q s (d - 1) (at + 1)) r → Type′ r
-        unfolding Holds size depth rules.goodTy
+        unfolding Body size depth rules.goodTy
         type-list v (At e) (t, g) = (list t, record { held = (v, g .held); past = omega (arith, g .past); deep = omega (arith, g .deep); good = g .good })
         type-list v Bad bad = type-none v (λ t h k g. bad t (at + 1 + size t) (record { held = h; past = refl; deep = omega arith; good = g }))
 
@@ -407,7 +438,7 @@ module _ (pool table : List ℕ) where
             bad r (m + size r) (record { held = subst (Holds s r) l i; past = refl; deep = omega arith; good = both-right (goodTys pool table q qs) (goodTy pool table q r) g }))
 
         pub type-fn : (n m : ℕ) → viewAt s at ≡ view.Function n → Ends (GoodTys pool table q s (d - 1) (at + 1) n) (At m) → (r : Ended) → Ends (GoodTy pool table q s (d - 1) m) r → Type′ r
-        unfolding Holds size depth rules.goodTy
+        unfolding Body size depth rules.goodTy
         type-fn n m v (ps, f) (At e) (t, g) = (
           fn ps t,
           record {
@@ -454,7 +485,7 @@ module _ (pool table : List ℕ) where
               bad fs (m + sizeFields fs) (record { held = subst (HoldsFields s fs) w k; many = j; past = refl; deep = omega arith; good = parts bs fs g .fields; rises = parts bs fs g .rises }))
 
           pub type-struct : (m : ℕ) → holding pool table x ≡ true → Ends (GoodTys pool table q s (d - 1) (at + 1) n) (At m) → (r : Ended) → Ends (GoodFields pool table q s (d - 1) m c before.the-variants.Start) r → Type′ r
-          unfolding Holds size depth rules.goodTy
+          unfolding Body size depth rules.goodTy
           type-struct m t (as′, f) (At e) (fs, g) =
               let H : Bool = holding pool table x in
               let A : Bool = goodTys pool table q as′ in

@@ -12,7 +12,7 @@ use Rattle.records.specs.Views.{viewAt}
 use Rattle.records.specs.ByView.{ends-in}
 use Rattle.records.specs.declared.View.the-variants as view
 use Rattle.records.specs.Parsed.{only}
-use Rattle.records.specs.Good.{Ends, There, GoodTy, GoodBound, GoodScheme, Chain, Chained}
+use Rattle.records.specs.Good.{Ends, There, GoodTy, GoodBound, PartsScheme, Chain, Chained}
 use Rattle.records.specs.declared.inner.Ended.the-variants.{At, Bad}
 
 module _ (pool table : List ℕ) (q : ℕ) (s : List ℕ) (at : ℕ) where
@@ -32,7 +32,7 @@ module _ (pool table : List ℕ) (q : ℕ) (s : List ℕ) (at : ℕ) where
 
 module _ (pool table s : List ℕ) where
   abbrev Scheme′ : Bool → Type 0
-  Scheme′ b = There (GoodScheme pool table s) b
+  Scheme′ b = There (PartsScheme pool table s) b
 
   unlike : {A : Type 0} (n : ℕ) → viewAt s 0 ≡ view.Concrete → viewAt s 0 ≡ view.Scheme n → A
   unlike n v w =

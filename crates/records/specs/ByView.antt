@@ -11,7 +11,7 @@ use Rattle.rules.specs.Schemes.{Scheme}
 use Rattle.rules.specs.Writing.{twos, signed}
 use Rattle.records.specs.Views.{viewAt}
 use Rattle.records.specs.Places.{seen-in}
-use Rattle.records.specs.Holds.{openOf, viewOpen, atomOf, viewAtom, basicOf, viewBasic, HoldsFactor, HoldsFactors, HoldsProduct, Holds, HoldsTys, HoldsFields, HoldsCon, HoldsBinding}
+use Rattle.records.specs.Holds.{openOf, viewOpen, atomOf, viewAtom, basicOf, viewBasic, HoldsFactor, HoldsFactors, HoldsProduct, Holds, HoldsTys, HoldsFields, HoldsCon, HoldsBinding, Body, BodyCon, BodyBinding, holds-body, con-body, binding-body}
 use Rattle.records.specs.declared.View.{View}
 use Rattle.records.specs.declared.View.the-variants as view
 
@@ -61,14 +61,17 @@ module _ (s : List ℕ) where
   Arms P at view.Bad = Unit {0}
 
   -- each arm of a match on the view gets its tree
+  pub by-body : (P : Ty ℕ → Type 0) (t : Ty ℕ) (at : ℕ) {v : View} → Body s t at → viewAt s at ≡ v → Arms P at v → P t
+  unfolding Body
+  by-body P (opened o) at h e a = subst (λ (x : tree.Open ℕ). P (opened x)) (open-back o) (subst (Arms P at) (sym e ∙ h) a)
+  by-body P (basic b) at h e a = subst (λ (x : tree.Basic). P (basic x)) (basic-back b) (subst (Arms P at) (sym e ∙ h) a)
+  by-body P (dim p) at h e a = subst (Arms P at) (sym e ∙ h .0) a p refl (h .1)
+  by-body P (fn ps r) at h e a = subst (Arms P at) (sym e ∙ h .0) a ps r refl (h .1) (h .2)
+  by-body P (struct n as′ fs) at h e a = subst (Arms P at) (sym e ∙ h .0) a as′ fs refl refl (h .1) (h .2)
+  by-body P (list t) at h e a = subst (Arms P at) (sym e ∙ h .0) a t (h .1)
+
   pub by-view : (P : Ty ℕ → Type 0) (t : Ty ℕ) (at : ℕ) {v : View} → Holds s t at → viewAt s at ≡ v → Arms P at v → P t
-  unfolding Holds HoldsProduct
-  by-view P (opened o) at h e a = subst (λ (x : tree.Open ℕ). P (opened x)) (open-back o) (subst (Arms P at) (sym e ∙ h) a)
-  by-view P (basic b) at h e a = subst (λ (x : tree.Basic). P (basic x)) (basic-back b) (subst (Arms P at) (sym e ∙ h) a)
-  by-view P (dim p) at h e a = subst (Arms P at) (sym e ∙ h .0) a p refl (h .1)
-  by-view P (fn ps r) at h e a = subst (Arms P at) (sym e ∙ h .0) a ps r refl (h .1) (h .2)
-  by-view P (struct n as′ fs) at h e a = subst (Arms P at) (sym e ∙ h .0) a as′ fs refl refl (h .1) (h .2)
-  by-view P (list t) at h e a = subst (Arms P at) (sym e ∙ h .0) a t (h .1)
+  by-view P t at h e a = by-body P t at (holds-body s t at h) e a
 
   -- the same of a factor, a product, a field, a constraint, a binding, a bound, a scheme
   abbrev pub ArmsFactor : (Factor ℕ → Type 0) → View → Type 0
@@ -114,19 +117,22 @@ module _ (s : List ℕ) where
   ArmsCon P at view.Concrete = Unit {0}
   ArmsCon P at view.Bad = Unit {0}
 
+  pub con-by-body : (P : Con ℕ → Type 0) (c : Con ℕ) (at : ℕ) {v : View} → BodyCon s c at → viewAt s at ≡ v → ArmsCon P at v → P c
+  unfolding BodyCon
+  con-by-body P (equal l r) at h e a = subst (ArmsCon P at) (sym e ∙ h .0) a l r (h .1) (h .2)
+  con-by-body P (isDim t) at h e a = subst (ArmsCon P at) (sym e ∙ h .0) a t (h .1)
+  con-by-body P (isScalar p) at h e a = subst (ArmsCon P at) (sym e ∙ h .0) a p (h .1)
+  con-by-body P (hasField x l r) at h e a = subst (ArmsCon P at) (sym e ∙ h .0) a l r (h .1) (h .2)
+
   pub con-by-view : (P : Con ℕ → Type 0) (c : Con ℕ) (at : ℕ) {v : View} → HoldsCon s c at → viewAt s at ≡ v → ArmsCon P at v → P c
-  unfolding HoldsCon
-  con-by-view P (equal l r) at h e a = subst (ArmsCon P at) (sym e ∙ h .0) a l r (h .1) (h .2)
-  con-by-view P (isDim t) at h e a = subst (ArmsCon P at) (sym e ∙ h .0) a t (h .1)
-  con-by-view P (isScalar p) at h e a = subst (ArmsCon P at) (sym e ∙ h .0) a p (h .1)
-  con-by-view P (hasField x l r) at h e a = subst (ArmsCon P at) (sym e ∙ h .0) a l r (h .1) (h .2)
+  con-by-view P c at h e a = con-by-body P c at (con-body s c at h) e a
 
   -- ══ A tree that is held lies within ══
 
   pub in-reach : (t : Ty ℕ) (at : ℕ) → Holds s t at → at < length s / 4
   unfolding Holds HoldsProduct
-  in-reach (opened o) at h = seen-in s at h tt
-  in-reach (basic b) at h = seen-in s at h tt
+  in-reach (opened o) at h = seen-in s at (h .0) tt
+  in-reach (basic b) at h = seen-in s at (h .0) tt
   in-reach (dim p) at h = seen-in s at (h .0) tt
   in-reach (fn ps r) at h = seen-in s at (h .0) tt
   in-reach (struct n as′ fs) at h = seen-in s at (h .0) tt
@@ -149,8 +155,8 @@ module _ (s : List ℕ) where
     unfolding Holds HoldsProduct size
 
     pub ends-in : (t : Ty ℕ) (at : ℕ) → Holds s t at → at + size t ≤ length s / 4
-    ends-in (opened o) at h = omega (arith, seen-in s at h tt)
-    ends-in (basic b) at h = omega (arith, seen-in s at h tt)
+    ends-in (opened o) at h = omega (arith, seen-in s at (h .0) tt)
+    ends-in (basic b) at h = omega (arith, seen-in s at (h .0) tt)
     ends-in (dim p) at h = product-in p at h
     ends-in (fn ps r) at h = omega (arith, ends-in r (at + 1 + sizeTys ps) (h .2))
     ends-in (struct n as′ fs) at h =
@@ -168,13 +174,32 @@ module _ (s : List ℕ) where
         let k : at + 1 + size t ≤ length s / 4 = ends-in t (at + 1) (h .1) in
         omega (arith, fields-in fs (at + 1 + size t) k (h .2))
 
+  pub body-in : (t : Ty ℕ) (at : ℕ) → Body s t at → at + size t ≤ length s / 4
+  unfolding Body size
+  body-in (opened o) at h = omega (arith, seen-in s at h tt)
+  body-in (basic b) at h = omega (arith, seen-in s at h tt)
+  body-in (dim p) at h =
+      let k : at < length s / 4 = seen-in s at (h .0) tt in
+      omega (arith, factors-in p (at + 1) (omega arith) (h .1))
+  body-in (fn ps r) at h = omega (arith, ends-in r (at + 1 + sizeTys ps) (h .2))
+  body-in (struct n as′ fs) at h =
+      let k : at < length s / 4 = seen-in s at (h .0) tt in
+      omega (arith, fields-in fs (at + 1 + sizeTys as′) (tys-in as′ (at + 1) (omega arith) (h .1)) (h .2))
+  body-in (list t) at h = omega (arith, ends-in t (at + 1) (h .1))
+
+  pub con-body-in : (c : Con ℕ) (at : ℕ) → BodyCon s c at → at + sizeCon c ≤ length s / 4
+  unfolding BodyCon sizeCon size
+  con-body-in (equal l r) at h = omega (arith, ends-in r (at + 1 + size l) (h .2))
+  con-body-in (isDim t) at h = omega (arith, ends-in t (at + 1) (h .1))
+  con-body-in (isScalar p) at h = omega (arith, product-in p (at + 1) (h .1))
+  con-body-in (hasField n l r) at h = omega (arith, ends-in r (at + 1 + size l) (h .2))
+
   pub con-in : (c : Con ℕ) (at : ℕ) → HoldsCon s c at → at + sizeCon c ≤ length s / 4
-  unfolding HoldsCon sizeCon size
-  con-in (equal l r) at h = omega (arith, ends-in r (at + 1 + size l) (h .2))
-  con-in (isDim t) at h = omega (arith, ends-in t (at + 1) (h .1))
-  con-in (isScalar p) at h = omega (arith, product-in p (at + 1) (h .1))
-  con-in (hasField n l r) at h = omega (arith, ends-in r (at + 1 + size l) (h .2))
+  con-in c at h = con-body-in c at (con-body s c at h)
+
+  pub binding-body-in : (b : Binding ℕ) (at : ℕ) → BodyBinding s b at → at + sizeBinding b ≤ length s / 4
+  unfolding BodyBinding sizeBinding
+  binding-body-in (x ≔ t) at h = omega (arith, ends-in t (at + 1) (h .1))
 
   pub binding-in : (b : Binding ℕ) (at : ℕ) → HoldsBinding s b at → at + sizeBinding b ≤ length s / 4
-  unfolding HoldsBinding sizeBinding
-  binding-in (x ≔ t) at h = omega (arith, ends-in t (at + 1) (h .1))
+  binding-in b at h = binding-body-in b at (binding-body s b at h)

@@ -12,7 +12,7 @@ use Rattle.names.specs.Told.{toldChecked}
 use Rattle.names.specs.declared.Checked.{Checked}
 use Rattle.records.specs.declared.View.{View}
 use Rattle.records.specs.declared.Words.{Words}
-use Rattle.records.specs.Views.{toldWords, recOf}
+use Rattle.records.specs.Views.{toldWords, bareOf}
 
 module _ (pool table ws : List ℕ) where
   -- `entry`
@@ -56,7 +56,7 @@ module _ (pool table ws : List ℕ) where
   is-bindings-numbered p h = checked-in p ∙ ap refusalIn h
 
 -- `words_of`
-pub words-of-determined : (v : View) (p q : Words) → toldWords p ≡ recOf v → toldWords q ≡ recOf v → p ≡ q
+pub words-of-determined : (v : View) (p q : Words) → toldWords p ≡ bareOf v → toldWords q ≡ bareOf v → p ≡ q
 words-of-determined v p q h k = same (p .kind) (q .kind) (p .a) (q .a) (p .b) (q .b) (p .c) (q .c) (h ∙ sym k)
   where
     same : (k k′ a a′ b b′ c c′ : ℕ) → rec k a b c ≡ rec k′ a′ b′ c′ → _≡_ {A = Words} (record { kind = k; a = a; b = b; c = c }) (record { kind = k′; a = a′; b = b′; c = c′ })

@@ -14,7 +14,7 @@ use Rattle.rules.specs.Reading.{Reader, readAll, records}
 use Rattle.rules.specs.Calls.{listGiven, only}
 use Rattle.laws.specs.Lists.{and-left as both-left, and-right as both-right}
 use Rattle.records.specs.Views.{recs, from}
-use Rattle.records.specs.Places.{recAt, from-none, from-some}
+use Rattle.records.specs.Places.{recAt, recs-length, from-none, from-some}
 use Rattle.rules.specs.Reading.{readTy, readCon, readBinding}
 use Rattle.rules.specs.Trees.{size, sizeCon, sizeBinding}
 use Rattle.laws.specs.Written.{Reads}
@@ -45,14 +45,6 @@ mutual
   records-broken (k ∷ a ∷ []) h = refl
   records-broken (k ∷ a ∷ b ∷ []) h = refl
   records-broken (k ∷ a ∷ b ∷ c ∷ ws) h = rw (records-broken ws (λ e. h (omega arith)), records)
-
-pub recs-length : (s : List ℕ) → length (recs s) ≡ length s / 4
-unfolding recs
-recs-length [] = refl
-recs-length (k ∷ []) = omega arith
-recs-length (k ∷ a ∷ []) = omega arith
-recs-length (k ∷ a ∷ b ∷ []) = omega arith
-recs-length (k ∷ a ∷ b ∷ c ∷ ws) = omega (arith, recs-length ws)
 
 pub from-start : (s : List ℕ) → from s 0 ≡ recs s
 unfolding from

@@ -3,6 +3,7 @@ use mathlib.Core.Path.{_≡_}
 use mathlib.Core.Bool.{Bool, true, false}
 use mathlib.Core.List.{List, [], _∷_, map}
 use Prim.Native.Nat.{ℕ, suc, _+_, _/_, _≤_, _<_}
+use lib.Dec.{eqb}
 use lib.ListN.{length, getD}
 use Rattle.rules.specs.Base.{all}
 use Rattle.rules.specs.Trees as tree
@@ -11,7 +12,8 @@ use Rattle.rules.specs.Schemes.{Scheme, concrete, scheme}
 use Rattle.rules.specs.Names.{tableOf, numbersOf, isHeld}
 use Rattle.rules.specs.WellFormed as rules
 use Rattle.rules.specs.WellFormed.{isLt, rising, fieldNames}
-use Rattle.records.specs.Holds.{atomOf, Shows, HoldsFactors, HoldsProduct, Holds, HoldsTys, HoldsFields, HoldsCon, HoldsBinding, HoldsBound}
+use Rattle.records.specs.Holds.{atomOf, viewOpen, Shows, Long, HoldsFactors, HoldsProduct, Holds, HoldsTys, HoldsFields, HoldsCon, HoldsBinding, HoldsBound, Body, BodyCon, BodyBinding}
+use Rattle.records.specs.Views.{longAt}
 use Rattle.records.specs.declared.Atom.{Atom}
 use Rattle.records.specs.declared.Atom.the-variants as atoms
 use Rattle.records.specs.declared.Open as names
@@ -25,6 +27,15 @@ use Rattle.records.specs.declared.inner.Left as left
 abbrev pub Ends : {A : Type 0} → (A → ℕ → Type 0) → Ended → Type 0
 Ends {A} P (At e) = (a : A) × P a e
 Ends {A} P Bad = (a : A) (e : ℕ) → P a e → ⊥
+
+-- the end of a part, if its first record says so
+abbrev pub endIf : Bool → ℕ → Ended
+endIf true e = At e
+endIf false e = Bad
+
+abbrev pub closedAt : List ℕ → ℕ → Ended → Ended
+closedAt s at (At e) = endIf (eqb (at + longAt s at) e) e
+closedAt s at Bad = Bad
 
 -- the names of an open name or an atom are held
 abbrev pub HeldOpen : List ℕ → names.Open → Type 0
@@ -120,12 +131,24 @@ module _ (pool table : List ℕ) where
         pub deep : depth t ≤ d
         pub good : goodTy t ≡ true
 
+      -- but for the length that its first record says
+      pub record PartsTy (d at : ℕ) (t : Ty ℕ) (e : ℕ) : Type 0 where
+        pub held : Body s t at
+        pub past : e ≡ at + size t
+        pub deep : depth t ≤ d
+        pub good : goodTy t ≡ true
+
       pub record GoodTys (d at n : ℕ) (ts : Tys ℕ) (e : ℕ) : Type 0 where
         pub held : HoldsTys s ts at
         pub many : count ts ≡ n
         pub past : e ≡ at + sizeTys ts
         pub deep : depthTys ts ≤ d
         pub good : goodTys ts ≡ true
+
+      -- the type of a field whose record is at a place
+      pub record GoodField (d at : ℕ) (t : Ty ℕ) (e : ℕ) : Type 0 where
+        pub type : GoodTy d (at + 1) t e
+        pub long : Long s at (suc (size t))
 
       -- n fields from `at` up to e, after the name b
       pub record GoodFields (d at n : ℕ) (b : before.Before) (fs : Fields ℕ) (e : ℕ) : Type 0 where
@@ -139,6 +162,12 @@ module _ (pool table : List ℕ) where
       -- a product with its head
       pub record GoodProduct (at : ℕ) (p : Product ℕ) (e : ℕ) : Type 0 where
         pub held : HoldsProduct s p at
+        pub past : e ≡ at + suc (length p)
+        pub good : goodProduct p ≡ true
+
+      pub record PartsProduct (at : ℕ) (p : Product ℕ) (e : ℕ) : Type 0 where
+        pub shows : Shows s at (view.Dim (length p))
+        pub held : HoldsFactors s p (at + 1)
         pub past : e ≡ at + suc (length p)
         pub good : goodProduct p ≡ true
 
@@ -158,6 +187,18 @@ module _ (pool table : List ℕ) where
         pub deep : depthCon c ≤ 64
         pub good : goodCon c ≡ true
 
+      pub record PartsCon (at : ℕ) (c : Con ℕ) (e : ℕ) : Type 0 where
+        pub held : BodyCon s c at
+        pub past : e ≡ at + sizeCon c
+        pub deep : depthCon c ≤ 64
+        pub good : goodCon c ≡ true
+
+      pub record PartsBinding (at : ℕ) (b : Binding ℕ) (e : ℕ) : Type 0 where
+        pub held : BodyBinding s b at
+        pub past : e ≡ at + sizeBinding b
+        pub deep : depthBinding b ≤ 64
+        pub good : goodBinding b ≡ true
+
       pub record GoodBinding (at : ℕ) (b : Binding ℕ) (e : ℕ) : Type 0 where
         pub held : HoldsBinding s b at
         pub past : e ≡ at + sizeBinding b
@@ -167,6 +208,11 @@ module _ (pool table : List ℕ) where
       -- a bound as it is read: a variable's name or an index
       pub record GoodBound (at : ℕ) (o : tree.Open ℕ) (e : ℕ) : Type 0 where
         pub held : HoldsBound s o at
+        pub past : e ≡ at + 1
+        pub good : goodOpen o ≡ true
+
+      pub record PartsBound (at : ℕ) (o : tree.Open ℕ) (e : ℕ) : Type 0 where
+        pub held : Shows s at (view.Bound (viewOpen o))
         pub past : e ≡ at + 1
         pub good : goodOpen o ≡ true
 
@@ -190,6 +236,11 @@ There {A} P true = (a : A) × P a
 There {A} P false = (a : A) → P a → ⊥
 
 -- a scheme takes all records: its type, then its bounds
+abbrev pub PartsScheme : List ℕ → List ℕ → List ℕ → Scheme ℕ → Type 0
+PartsScheme pool table s (concrete t) = Shows s 0 view.Concrete × GoodTy pool table 0 s 64 1 t (length s / 4)
+PartsScheme pool table s (scheme n t bs) = Shows s 0 (view.Scheme n) × ((e : ℕ) × (GoodTy pool table n s 64 1 t e × Chain (GoodBound pool table n s) (length s / 4) bs e))
+
+-- and its length is that of the list
 abbrev pub GoodScheme : List ℕ → List ℕ → List ℕ → Scheme ℕ → Type 0
-GoodScheme pool table s (concrete t) = Shows s 0 view.Concrete × GoodTy pool table 0 s 64 1 t (length s / 4)
-GoodScheme pool table s (scheme n t bs) = Shows s 0 (view.Scheme n) × ((e : ℕ) × (GoodTy pool table n s 64 1 t e × Chain (GoodBound pool table n s) (length s / 4) bs e))
+GoodScheme pool table s (concrete t) = Shows s 0 view.Concrete × GoodTy pool table 0 s 64 1 t (length s / 4) × Long s 0 (length s / 4)
+GoodScheme pool table s (scheme n t bs) = Shows s 0 (view.Scheme n) × ((e : ℕ) × (GoodTy pool table n s 64 1 t e × Chain (GoodBound pool table n s) (length s / 4) bs e)) × Long s 0 (length s / 4)

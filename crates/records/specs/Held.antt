@@ -10,30 +10,31 @@ use Rattle.rules.specs.Base.{all}
 use Rattle.rules.specs.Exponents.{frac}
 use Rattle.rules.specs.Trees as tree
 use Rattle.rules.specs.Trees.{Factor, _↑_, Product, Ty, opened, basic, dim, fn, struct, list, Tys, nil, cons, Fields, noFields, field, Con, equal, isDim, isScalar, hasField, Binding, _≔_, size, sizeTys, sizeFields, sizeCon, sizeBinding, count, countFields}
-use Rattle.rules.specs.Writing.{Rec, rec, twos, writeFactor, writeProduct, writeTy, writeTys, writeFields, writeCon, writeBinding, words}
+use Rattle.rules.specs.Writing.{Rec, rec, head, twos, writeFactor, writeProduct, writeTy, writeTys, writeFields, writeCon, writeBinding, words}
 use Rattle.laws.specs.Size.{size-ty, size-tys}
+use Rattle.laws.specs.Heads.{length-head}
 use Rattle.laws.specs.Reading.{FitsProduct, Fits, FitsTys, FitsFields, sign}
-use Rattle.records.specs.Views.{plain, viewOf, recOf, from}
-use Rattle.records.specs.Places.{Says, seen, first, past, words-from}
-use Rattle.records.specs.Holds.{viewOpen, viewAtom, viewBasic, Shows, HoldsFactors, HoldsProduct, Holds, HoldsTys, HoldsFields, HoldsCon, HoldsBinding}
+use Rattle.records.specs.Views.{viewOf, longOf, recOf, viewAt, longAt, from}
+use Rattle.records.specs.Places.{Says, Written, seen, rec-view, rec-long, first, past, words-from}
+use Rattle.records.specs.Holds.{viewOpen, viewAtom, viewBasic, Shows, Long, HoldsFactors, HoldsProduct, Holds, HoldsTys, HoldsFields, HoldsCon, HoldsBinding}
 use Rattle.records.specs.ByView.{in-reach}
 use Rattle.records.specs.declared.View.{View}
 use Rattle.records.specs.declared.View.the-variants as view
 
 -- the written record of each is the one that says its view
-rec-open : (o : tree.Open ℕ) → writeTy (opened o) ≡ recOf (view.Opened (viewOpen o)) ∷ []
+rec-open : (o : tree.Open ℕ) → writeTy (opened o) ≡ recOf (view.Opened (viewOpen o)) 1 ∷ []
 unfolding writeTy
 rec-open (tree.var x) = refl
 rec-open (tree.quant i) = refl
 rec-open (tree.par x) = refl
 
-rec-basic : (b : tree.Basic) → writeTy (basic b) ≡ recOf (view.Basic (viewBasic b)) ∷ []
+rec-basic : (b : tree.Basic) → writeTy (basic b) ≡ recOf (view.Basic (viewBasic b)) 1 ∷ []
 unfolding writeTy
 rec-basic tree.boolean = refl
 rec-basic tree.string = refl
 rec-basic tree.datetime = refl
 
-rec-factor : (a : tree.Atom ℕ) (n : lib.IntN.ℤ) (d : ℕ) → writeFactor (a ↑ frac n d) ≡ recOf (view.Factor (viewAtom a) (twos n) d)
+rec-factor : (a : tree.Atom ℕ) (n : lib.IntN.ℤ) (d : ℕ) → writeFactor (a ↑ frac n d) ≡ recOf (view.Factor (viewAtom a) (twos n) d) 1
 unfolding writeFactor
 rec-factor (tree.free (tree.var x)) n d = refl
 rec-factor (tree.free (tree.quant i)) n d = refl
@@ -47,8 +48,8 @@ module _ (s : List ℕ) where
   abbrev pub Stands : List Rec → ℕ → ℕ → Type 0
   Stands rs at n = from s at ≡ rs ++ from s (at + n)
 
-  one : (at : ℕ) {v : View} {r : Rec} → Shows s at v → Says v → r ≡ recOf v → Stands (r ∷ []) at 1
-  one at e a q = seen s at e a ∙ ap (λ (x : Rec). x ∷ from s (at + 1)) (sym q)
+  one : (at : ℕ) {v : View} {n : ℕ} {r : Rec} → Shows s at v → Long s at n → Says v → r ≡ recOf v n → Stands (r ∷ []) at 1
+  one at e l a q = seen s at e l a ∙ ap (λ (x : Rec). x ∷ from s (at + 1)) (sym q)
 
   joined : (rs qs : List Rec) (at n m k : ℕ) → Stands rs at n → Stands qs (at + n) m → k ≡ n + m → Stands (rs ++ qs) at k
   joined rs qs at n m k p q e =
@@ -59,27 +60,27 @@ module _ (s : List ℕ) where
   unfolding HoldsFactors
   factors-written [] at h = rw (add-zero at)
   factors-written (a ↑ frac n d ∷ p) at h =
-      joined (writeFactor (a ↑ frac n d) ∷ []) (map writeFactor p) at 1 (length p) (suc (length p)) (one at (h .0 .0) tt (rec-factor a n d)) (factors-written p (at + 1) (h .1)) (omega arith)
+      joined (writeFactor (a ↑ frac n d) ∷ []) (map writeFactor p) at 1 (length p) (suc (length p)) (one at (h .0 .0) (h .0 .2) tt (rec-factor a n d)) (factors-written p (at + 1) (h .1)) (omega arith)
 
   pub product-written : (p : Product ℕ) (at : ℕ) → HoldsProduct s p at → Stands (writeProduct p) at (suc (length p))
   unfolding HoldsProduct writeProduct
   product-written p at h =
-      joined (rec 3 (length p) 0 0 ∷ []) (map writeFactor p) at 1 (length p) (suc (length p)) (one at (h .0) tt refl) (factors-written p (at + 1) (h .1)) (omega arith)
+      joined (rec (head 3 (suc (length p))) (length p) 0 0 ∷ []) (map writeFactor p) at 1 (length p) (suc (length p)) (one at (h .0) (h .2) tt refl) (factors-written p (at + 1) (h .1)) (omega arith)
 
   mutual
     unfolding Holds size writeTy
 
     pub written : (t : Ty ℕ) (at : ℕ) → Holds s t at → Stands (writeTy t) at (size t)
-    written (opened o) at h = seen s at h tt ∙ ap (_++ from s (at + 1)) (sym (rec-open o))
-    written (basic b) at h = seen s at h tt ∙ ap (_++ from s (at + 1)) (sym (rec-basic b))
+    written (opened o) at h = seen s at (h .0) (h .1) tt ∙ ap (_++ from s (at + 1)) (sym (rec-open o))
+    written (basic b) at h = seen s at (h .0) (h .1) tt ∙ ap (_++ from s (at + 1)) (sym (rec-basic b))
     written (dim p) at h = product-written p at h
     written (fn ps r) at h =
-        joined (rec 7 (count ps) 0 0 ∷ []) (writeTys ps ++ writeTy r) at 1 (sizeTys ps + size r) (size (fn ps r)) (one at (h .0) tt refl)
+        joined (rec (head 7 (size (fn ps r))) (count ps) 0 0 ∷ []) (writeTys ps ++ writeTy r) at 1 (sizeTys ps + size r) (size (fn ps r)) (one at (h .0) (h .3) tt refl)
         (joined (writeTys ps) (writeTy r) (at + 1) (sizeTys ps) (size r) (sizeTys ps + size r) (tys-written ps (at + 1) (h .1)) (written r (at + 1 + sizeTys ps) (h .2)) refl) (omega arith)
     written (struct n as′ fs) at h =
-        joined (rec 8 n (count as′) (countFields fs) ∷ []) (writeTys as′ ++ writeFields fs) at 1 (sizeTys as′ + sizeFields fs) (size (struct n as′ fs)) (one at (h .0) tt refl)
+        joined (rec (head 8 (size (struct n as′ fs))) n (count as′) (countFields fs) ∷ []) (writeTys as′ ++ writeFields fs) at 1 (sizeTys as′ + sizeFields fs) (size (struct n as′ fs)) (one at (h .0) (h .3) tt refl)
         (joined (writeTys as′) (writeFields fs) (at + 1) (sizeTys as′) (sizeFields fs) (sizeTys as′ + sizeFields fs) (tys-written as′ (at + 1) (h .1)) (fields-written fs (at + 1 + sizeTys as′) (h .2)) refl) (omega arith)
-    written (list t) at h = joined (rec 10 0 0 0 ∷ []) (writeTy t) at 1 (size t) (size (list t)) (one at (h .0) tt refl) (written t (at + 1) (h .1)) (omega arith)
+    written (list t) at h = joined (rec (head 10 (size (list t))) 0 0 0 ∷ []) (writeTy t) at 1 (size t) (size (list t)) (one at (h .0) (h .2) tt refl) (written t (at + 1) (h .1)) (omega arith)
 
     pub tys-written : (ts : Tys ℕ) (at : ℕ) → HoldsTys s ts at → Stands (writeTys ts) at (sizeTys ts)
     tys-written nil at h = rw (add-zero at)
@@ -88,24 +89,24 @@ module _ (s : List ℕ) where
     pub fields-written : (fs : Fields ℕ) (at : ℕ) → HoldsFields s fs at → Stands (writeFields fs) at (sizeFields fs)
     fields-written noFields at h = rw (add-zero at)
     fields-written (field n t fs) at h =
-        joined (rec 9 n 0 0 ∷ []) (writeTy t ++ writeFields fs) at 1 (size t + sizeFields fs) (sizeFields (field n t fs)) (one at (h .0) tt refl)
+        joined (rec (head 9 (suc (size t))) n 0 0 ∷ []) (writeTy t ++ writeFields fs) at 1 (size t + sizeFields fs) (sizeFields (field n t fs)) (one at (h .0) (h .3) tt refl)
         (joined (writeTy t) (writeFields fs) (at + 1) (size t) (sizeFields fs) (size t + sizeFields fs) (written t (at + 1) (h .1)) (fields-written fs (at + 1 + size t) (h .2)) refl) (omega arith)
 
   pub con-written : (c : Con ℕ) (at : ℕ) → HoldsCon s c at → Stands (writeCon c) at (sizeCon c)
   unfolding HoldsCon sizeCon writeCon size
   con-written (equal l r) at h =
-      joined (rec 20 0 0 0 ∷ []) (writeTy l ++ writeTy r) at 1 (size l + size r) (suc (size l + size r)) (one at (h .0) tt refl)
+      joined (rec (head 20 (sizeCon (equal l r))) 0 0 0 ∷ []) (writeTy l ++ writeTy r) at 1 (size l + size r) (suc (size l + size r)) (one at (h .0) (h .3) tt refl)
       (joined (writeTy l) (writeTy r) (at + 1) (size l) (size r) (size l + size r) (written l (at + 1) (h .1)) (written r (at + 1 + size l) (h .2)) refl) (omega arith)
-  con-written (isDim t) at h = joined (rec 21 0 0 0 ∷ []) (writeTy t) at 1 (size t) (suc (size t)) (one at (h .0) tt refl) (written t (at + 1) (h .1)) (omega arith)
+  con-written (isDim t) at h = joined (rec (head 21 (sizeCon (isDim t))) 0 0 0 ∷ []) (writeTy t) at 1 (size t) (suc (size t)) (one at (h .0) (h .2) tt refl) (written t (at + 1) (h .1)) (omega arith)
   con-written (isScalar p) at h =
-      joined (rec 22 0 0 0 ∷ []) (writeProduct p) at 1 (suc (length p)) (suc (suc (length p))) (one at (h .0) tt refl) (product-written p (at + 1) (h .1)) (omega arith)
+      joined (rec (head 22 (sizeCon (isScalar p))) 0 0 0 ∷ []) (writeProduct p) at 1 (suc (length p)) (suc (suc (length p))) (one at (h .0) (h .2) tt refl) (product-written p (at + 1) (h .1)) (omega arith)
   con-written (hasField n l r) at h =
-      joined (rec 23 n 0 0 ∷ []) (writeTy l ++ writeTy r) at 1 (size l + size r) (suc (size l + size r)) (one at (h .0) tt refl)
+      joined (rec (head 23 (sizeCon (hasField n l r))) n 0 0 ∷ []) (writeTy l ++ writeTy r) at 1 (size l + size r) (suc (size l + size r)) (one at (h .0) (h .3) tt refl)
       (joined (writeTy l) (writeTy r) (at + 1) (size l) (size r) (size l + size r) (written l (at + 1) (h .1)) (written r (at + 1 + size l) (h .2)) refl) (omega arith)
 
   pub binding-written : (b : Binding ℕ) (at : ℕ) → HoldsBinding s b at → Stands (writeBinding b) at (sizeBinding b)
   unfolding HoldsBinding sizeBinding writeBinding
-  binding-written (x ≔ t) at h = joined (rec 24 x 0 0 ∷ []) (writeTy t) at 1 (size t) (suc (size t)) (one at (h .0) tt refl) (written t (at + 1) (h .1)) (omega arith)
+  binding-written (x ≔ t) at h = joined (rec (head 24 (sizeBinding (x ≔ t))) x 0 0 ∷ []) (writeTy t) at 1 (size t) (suc (size t)) (one at (h .0) (h .2) tt refl) (written t (at + 1) (h .1)) (omega arith)
 
   -- the words at the place are those of the type
   pub held-words : (t : Ty ℕ) (at : ℕ) → Holds s t at → slice (at * 4) ((at + size t) * 4) s ≡ words (writeTy t)
@@ -115,39 +116,24 @@ module _ (s : List ℕ) where
 
   -- ══ Written, so held ══
 
-  shown : (at : ℕ) (r : Rec) (rs : List Rec) {v : View} → from s at ≡ r ∷ rs → viewOf r ≡ v → Shows s at v
-  shown at r rs e q = first s at r rs e .view ∙ q
-
-  open-shown : (o : tree.Open ℕ) (at : ℕ) (rest : List Rec) → from s at ≡ writeTy (opened o) ++ rest → Shows s at (view.Opened (viewOpen o))
-  unfolding writeTy viewOf plain all
-  open-shown (tree.var x) at rest e = shown at (rec 1 x 0 0) rest e refl
-  open-shown (tree.quant i) at rest e = shown at (rec 14 i 0 0) rest e refl
-  open-shown (tree.par x) at rest e = shown at (rec 2 x 0 0) rest e refl
-
-  basic-shown : (b : tree.Basic) (at : ℕ) (rest : List Rec) → from s at ≡ writeTy (basic b) ++ rest → Shows s at (view.Basic (viewBasic b))
-  unfolding writeTy viewOf plain all
-  basic-shown tree.boolean at rest e = shown at (rec 4 0 0 0) rest e refl
-  basic-shown tree.string at rest e = shown at (rec 5 0 0 0) rest e refl
-  basic-shown tree.datetime at rest e = shown at (rec 6 0 0 0) rest e refl
-
-  factor-shown : (a : tree.Atom ℕ) (n : lib.IntN.ℤ) (d at : ℕ) (rest : List Rec) → from s at ≡ writeFactor (a ↑ frac n d) ∷ rest → Shows s at (view.Factor (viewAtom a) (twos n) d)
-  unfolding writeFactor viewOf plain all
-  factor-shown (tree.free (tree.var x)) n d at rest e = shown at (rec 11 x (twos n) d) rest e refl
-  factor-shown (tree.free (tree.quant i)) n d at rest e = shown at (rec 15 i (twos n) d) rest e refl
-  factor-shown (tree.free (tree.par x)) n d at rest e = shown at (rec 12 x (twos n) d) rest e refl
-  factor-shown (tree.base x) n d at rest e = shown at (rec 13 x (twos n) d) rest e refl
+  -- the record that says v and is n long stands first
+  pub shown : (at n : ℕ) (v : View) (r : Rec) (rs : List Rec) → from s at ≡ r ∷ rs → r ≡ recOf v n → Written v → Shows s at v × Long s at n × (rs ≡ from s (at + 1))
+  shown at n v r rs e q a =
+      let f = first s at (recOf v n) rs (e ∙ ap (λ (x : Rec). x ∷ rs) q) in
+      (f .view ∙ rec-view v n a, f .long ∙ rec-long v n, f .rest)
 
   factors-held : (p : Product ℕ) (at : ℕ) (rest : List Rec) → FitsProduct p → from s at ≡ map writeFactor p ++ rest → HoldsFactors s p at
   unfolding HoldsFactors
   factors-held [] at rest f e = tt
   factors-held (a ↑ frac n d ∷ p) at rest f e =
-      ((factor-shown a n d at (map writeFactor p ++ rest) e, sign n (f .0)), factors-held p (at + 1) rest (f .1) (sym (first s at (writeFactor (a ↑ frac n d)) (map writeFactor p ++ rest) e .rest)))
+      let (u, v, w) = shown at 1 (view.Factor (viewAtom a) (twos n) d) (writeFactor (a ↑ frac n d)) (map writeFactor p ++ rest) e (rec-factor a n d) tt in
+      ((u, sign n (f .0), v), factors-held p (at + 1) rest (f .1) (sym w))
 
   pub product-held : (p : Product ℕ) (at : ℕ) (rest : List Rec) → FitsProduct p → from s at ≡ writeProduct p ++ rest → HoldsProduct s p at
-  unfolding HoldsProduct writeProduct viewOf plain all
+  unfolding HoldsProduct writeProduct
   product-held p at rest f e =
-      let q = first s at (rec 3 (length p) 0 0) (map writeFactor p ++ rest) e in
-      (q .view, factors-held p (at + 1) rest f (sym (q .rest)))
+      let (u, v, w) = shown at (suc (length p)) (view.Dim (length p)) _ (map writeFactor p ++ rest) e refl tt in
+      (u, factors-held p (at + 1) rest f (sym w), v)
 
   -- two parts, the first of n records
   pub parted : (a b rest : List Rec) (at n : ℕ) → length a ≡ n → from s at ≡ (a ++ b) ++ rest → (from s at ≡ a ++ (b ++ rest)) × (from s (at + n) ≡ b ++ rest)
@@ -156,23 +142,23 @@ module _ (s : List ℕ) where
       (q, sym (past s a (b ++ rest) at q ∙ ap (λ (k : ℕ). from s (at + k)) l))
 
   mutual
-    unfolding Holds size writeTy viewOf plain all
+    unfolding Holds size writeTy
 
     pub held : (t : Ty ℕ) (at : ℕ) (rest : List Rec) → Fits t → from s at ≡ writeTy t ++ rest → Holds s t at
-    held (opened o) at rest f e = open-shown o at rest e
-    held (basic b) at rest f e = basic-shown b at rest e
+    held (opened o) at rest f e = let (u, v, w) = shown at 1 (view.Opened (viewOpen o)) _ rest (e ∙ ap (_++ rest) (rec-open o)) refl tt in (u, v)
+    held (basic b) at rest f e = let (u, v, w) = shown at 1 (view.Basic (viewBasic b)) _ rest (e ∙ ap (_++ rest) (rec-basic b)) refl tt in (u, v)
     held (dim p) at rest f e = product-held p at rest f e
     held (fn ps r) at rest f e =
-        let q = first s at (rec 7 (count ps) 0 0) ((writeTys ps ++ writeTy r) ++ rest) e in
-        let (u, v) = parted (writeTys ps) (writeTy r) rest (at + 1) (sizeTys ps) (size-tys ps) (sym (q .rest)) in
-        (q .view, tys-held ps (at + 1) (writeTy r ++ rest) (f .0) u, held r (at + 1 + sizeTys ps) rest (f .1) v)
+        let (x, y, z) = shown at (size (fn ps r)) (view.Function (count ps)) _ ((writeTys ps ++ writeTy r) ++ rest) e refl tt in
+        let (u, v) = parted (writeTys ps) (writeTy r) rest (at + 1) (sizeTys ps) (size-tys ps) (sym z) in
+        (x, tys-held ps (at + 1) (writeTy r ++ rest) (f .0) u, held r (at + 1 + sizeTys ps) rest (f .1) v, y)
     held (struct n as′ fs) at rest f e =
-        let q = first s at (rec 8 n (count as′) (countFields fs)) ((writeTys as′ ++ writeFields fs) ++ rest) e in
-        let (u, v) = parted (writeTys as′) (writeFields fs) rest (at + 1) (sizeTys as′) (size-tys as′) (sym (q .rest)) in
-        (q .view, tys-held as′ (at + 1) (writeFields fs ++ rest) (f .0) u, fields-held fs (at + 1 + sizeTys as′) rest (f .1) v)
+        let (x, y, z) = shown at (size (struct n as′ fs)) (view.Struct n (count as′) (countFields fs)) _ ((writeTys as′ ++ writeFields fs) ++ rest) e refl tt in
+        let (u, v) = parted (writeTys as′) (writeFields fs) rest (at + 1) (sizeTys as′) (size-tys as′) (sym z) in
+        (x, tys-held as′ (at + 1) (writeFields fs ++ rest) (f .0) u, fields-held fs (at + 1 + sizeTys as′) rest (f .1) v, y)
     held (list t) at rest f e =
-        let q = first s at (rec 10 0 0 0) (writeTy t ++ rest) e in
-        (q .view, held t (at + 1) rest f (sym (q .rest)))
+        let (x, y, z) = shown at (size (list t)) view.List _ (writeTy t ++ rest) e refl tt in
+        (x, held t (at + 1) rest f (sym z), y)
 
     pub tys-held : (ts : Tys ℕ) (at : ℕ) (rest : List Rec) → FitsTys ts → from s at ≡ writeTys ts ++ rest → HoldsTys s ts at
     tys-held nil at rest f e = tt
@@ -183,6 +169,6 @@ module _ (s : List ℕ) where
     pub fields-held : (fs : Fields ℕ) (at : ℕ) (rest : List Rec) → FitsFields fs → from s at ≡ writeFields fs ++ rest → HoldsFields s fs at
     fields-held noFields at rest f e = tt
     fields-held (field n t fs) at rest f e =
-        let q = first s at (rec 9 n 0 0) ((writeTy t ++ writeFields fs) ++ rest) e in
-        let (u, v) = parted (writeTy t) (writeFields fs) rest (at + 1) (size t) (size-ty t) (sym (q .rest)) in
-        (q .view, held t (at + 1) (writeFields fs ++ rest) (f .0) u, fields-held fs (at + 1 + size t) rest (f .1) v)
+        let (x, y, z) = shown at (suc (size t)) (view.Field n) _ ((writeTy t ++ writeFields fs) ++ rest) e refl tt in
+        let (u, v) = parted (writeTy t) (writeFields fs) rest (at + 1) (size t) (size-ty t) (sym z) in
+        (x, held t (at + 1) (writeFields fs ++ rest) (f .0) u, fields-held fs (at + 1 + size t) rest (f .1) v, y)

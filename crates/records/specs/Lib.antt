@@ -1,4 +1,5 @@
 pub mod Views
+pub mod Cut
 pub mod Stores
 pub mod Buffers
 pub mod Places
@@ -8,6 +9,7 @@ pub mod Held
 pub mod Parsed
 pub mod Found
 pub mod Good
+pub mod Closing
 pub mod Moves
 pub mod Given
 pub mod Whole

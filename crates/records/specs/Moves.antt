@@ -22,4 +22,4 @@ module _ (pool table : List ℕ) (q : ℕ) (s : List ℕ) (at : ℕ) where
   binding-moves (x ≔ t) e g = (omega (arith, g .past), omega (arith, g .past, binding-in s (x ≔ t) at (g .held)))
 
   pub bound-moves : (a : tree.Open ℕ) (e : ℕ) → GoodBound pool table q s at a e → (at < e) × (e ≤ length s / 4)
-  bound-moves a e g = (omega (arith, g .past), omega (arith, g .past, seen-in s at (g .held) tt))
+  bound-moves a e g = (omega (arith, g .past), omega (arith, g .past, seen-in s at (g .held .0) tt))

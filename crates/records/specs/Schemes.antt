@@ -3,60 +3,61 @@ use mathlib.Core.Path.{_≡_, refl, sym, ap, subst, _∙_}
 use mathlib.Core.Bool.{Bool, true, false, _&&_}
 use mathlib.Core.Option.{Option, none, some}
 use mathlib.Core.List.{List, [], _∷_}
-use Prim.Native.Nat.{ℕ, _+_, _*_, _/_, _%_, _≤_}
+use Prim.Native.Nat.{ℕ, suc, _+_, _/_, _%_, _≤_, _<_}
 use native.Mathlib.Omega.{arith}
-use borrow.Author.Tests.{eqb-true, eqb-false}
+use borrow.Author.Tests.{eq-eqb, eqb-true, eqb-false}
 use lib.Dec.{eqb}
-use lib.ListN.{length, drop, length-drop}
+use lib.ListN.{length}
 use Rattle.rules.specs.Base.{Got, got, refused, _>>_, need, all}
 use Rattle.rules.specs.Trees as tree
 use Rattle.rules.specs.Trees.{Ty, size}
 use Rattle.rules.specs.Names.{tableOf}
 use Rattle.rules.specs.Schemes.{Scheme, concrete, scheme}
-use Rattle.rules.specs.Writing.{Rec, rec}
+use Rattle.rules.specs.Writing.{Rec, rec, head, kindIn, lengthIn}
 use Rattle.rules.specs.Reading.{Reader, pass, give, unused, pick, next, boundTable, boundKinds, readBound, readTy, readAll, schemeOf}
 use Rattle.rules.specs.Calls.{aloneGiven, schemeGiven, schemeCall, goodScheme}
 use Rattle.laws.specs.Lists.{and-left as both-left, and-right as both-right}
+use Rattle.laws.specs.Heads.{kind-head, length-head}
 use Rattle.laws.specs.Written.{Reads, nothing, given, then, picked}
 use Rattle.laws.specs.Written as laws
-use Rattle.records.specs.Views.{plain, viewOf, recs, from}
-use Rattle.records.specs.Places.{_&_, first, seen, from-none}
-use Rattle.records.specs.Holds.{viewOpen, Shows}
+use Rattle.records.specs.Views.{plain, shapeOf, longOf, longAt, recs, from}
+use Rattle.records.specs.Places.{_&_, from-length, first, seen-in, rec-view, seen, from-none}
+use Rattle.records.specs.Holds.{viewOpen, Shows, Long, HoldsBound}
 use Rattle.records.specs.ByView.{ends-in}
-use Rattle.records.specs.Parsed.{read}
-use Rattle.records.specs.Found.{Words32, Found, found, here}
+use Rattle.records.specs.Parsed.{by-first, read}
+use Rattle.records.specs.Found.{Words32, Found, found, here, long-found, by-next}
 use Rattle.records.specs.Moves.{bound-moves}
-use Rattle.records.specs.Given.{records-whole, records-broken, recs-length, absurd-some, Reader-of, chain-read, read-chain}
+use Rattle.records.specs.Given.{records-whole, records-broken, absurd-some, Reader-of, chain-read, read-chain}
 use Rattle.records.specs.Good.{Chain, There, goodOpen, goodTy, GoodBound, GoodScheme}
 use Rattle.records.specs.declared.View.the-variants as view
-
--- how many records there are from a place on
-from-length : (s : List ℕ) (at : ℕ) → length s / 4 ≤ at + length (from s at)
-unfolding from
-from-length s at = rw (recs-length (drop (at * 4) s), length-drop (at * 4) s) (omega arith)
 
 module _ (s : List ℕ) where
   -- ══ Bounds ══
 
-  bound-read : (o : tree.Open ℕ) (at : ℕ) → Shows s at (view.Bound (viewOpen o)) → readBound (from s at) ≡ some (o, from s (at + 1))
-  unfolding readBound viewOf plain all
-  bound-read (tree.var x) at h = rw (seen s at h tt)
-  bound-read (tree.quant i) at h = rw (seen s at h tt)
+  bound-read : (o : tree.Open ℕ) (at : ℕ) → HoldsBound s o at → readBound (from s at) ≡ some (o, from s (at + 1))
+  unfolding readBound plain all
+  bound-read (tree.var x) at h = by-first s boundKinds 25 1 x 0 0 at (tree.var x) (omega arith) (seen s at (h .0) (h .1) tt) refl (omega arith) (omega (arith, seen-in s at (h .0) tt))
+  bound-read (tree.quant i) at h = by-first s boundKinds 25 1 i 1 0 at (tree.quant i) (omega arith) (seen s at (h .0) (h .1) tt) refl (omega arith) (omega (arith, seen-in s at (h .0) tt))
   bound-read (tree.par x) at h =
-      let f = first s at (rec 25 x 0 0) (from s (at + 1)) (seen s at h tt) in
-      let e : view.Bound (viewOpen (tree.par x)) ≡ view.Bound (viewOpen (tree.var x)) = sym h ∙ f .view in
+      let f = first s at (rec (head 25 1) x 0 0) (from s (at + 1)) (seen s at (h .0) (h .1) tt) in
+      let e : view.Bound (viewOpen (tree.par x)) ≡ view.Bound (viewOpen (tree.var x)) = sym (h .0) ∙ f .view ∙ rec-view (view.Bound (viewOpen (tree.var x))) 1 tt in
       let z : _≡_ {A = ℕ} 0 1 = cc in
       absurd (omega arith)
 
-  bound-first : (at : ℕ) (l : List Rec) → from s at ≡ l → Reads (next boundKinds l) (λ o rest. Shows s at (view.Bound (viewOpen o)) × (rest ≡ from s (at + 1)))
-  unfolding viewOf plain all
-  bound-first at [] e = nothing
-  bound-first at (rec k a b c ∷ rs) e = picked k rs ((25, pick b (boundTable a c)) ∷ []) (
+  bound-shape : (at k a b c : ℕ) (rs : List Rec) → from s at ≡ rec k a b c ∷ rs → Reads (boundKinds (kindIn k) a b c rs) (λ o rest. Shows s at (view.Bound (viewOpen o)) × (rest ≡ from s (at + 1)))
+  unfolding shapeOf plain all
+  bound-shape at k a b c rs e = picked (kindIn k) rs ((25, pick b (boundTable a c)) ∷ []) (
       (λ q. picked b rs (boundTable a c) (
       (λ p. laws.plain (c ∷ []) (give (tree.var a)) rs (λ z. given (here s at k a b c rs e (rw (q, p, z .0)))))
       & (λ p. laws.plain (c ∷ []) (give (tree.quant a)) rs (λ z. given (here s at k a b c rs e (rw (q, p, z .0)))))
       & tt))
       & tt)
+
+  bound-first : (at : ℕ) (l : List Rec) → from s at ≡ l → Reads (next boundKinds l) (λ o rest. HoldsBound s o at × (rest ≡ from s (at + 1)))
+  bound-first at [] e = nothing
+  bound-first at (rec k a b c ∷ rs) e = by-next s boundKinds k a b c rs (bound-shape at k a b c rs e) (λ o rest i l.
+      let n : at + 1 ≤ length s / 4 = omega (arith, first s at (rec k a b c) rs e .inside) in
+      ((i .0, long-found s at k a b c 1 rs rest e l (i .1) n), i .1))
 
   pub bound-reader : (pool table : List ℕ) (q : ℕ) → Reader-of s readBound (goodOpen pool table q) (GoodBound pool table q s)
   unfolding readBound
@@ -70,15 +71,23 @@ module _ (s : List ℕ) where
   -- ══ A scheme ══
 
   module _ (pool table : List ℕ) where
+    abbrev N : ℕ
+    N = length s / 4
+
     scheme-yes : (sc : Scheme ℕ) → GoodScheme pool table s sc → (schemeOf (recs s) ≡ some sc) × (goodScheme (tableOf pool table) sc ≡ true)
     unfolding schemeOf goodScheme readAll all from recs
-    scheme-yes (concrete t) (v, g) =
-        let r : readTy 64 (from s 1) ≡ some (t, from s (length s / 4)) = read s t 64 1 (g .held) (g .deep) ∙ ap (λ (k : ℕ). some (t, from s k)) (sym (g .past)) in
-        (rw (seen s 0 v tt, r, from-none s (length s / 4) (omega arith)) refl, g .good)
-    scheme-yes (scheme n t bs) (v, (e, (g, c))) =
+    scheme-yes (concrete t) (v, g, l) =
+        let r : readTy 64 (from s 1) ≡ some (t, from s N) = read s t 64 1 (g .held) (g .deep) ∙ ap (λ (k : ℕ). some (t, from s k)) (sym (g .past)) in
+        let i : 0 < N = seen-in s 0 v tt in
+        let m : N ≡ suc (length (from s 1)) = omega (arith, from-length s 1 (omega arith)) in
+        (rw (seen s 0 v l tt, length-head 26 N (omega arith), kind-head 26 N (omega arith), eq-eqb N (suc (length (from s 1))) m, r, from-none s N (omega arith)) refl, g .good)
+    scheme-yes (scheme n t bs) (v, (e, (g, c)), l) =
         let r : readTy 64 (from s 1) ≡ some (t, from s e) = read s t 64 1 (g .held) (g .deep) ∙ ap (λ (k : ℕ). some (t, from s k)) (sym (g .past)) in
-        let (p, h) = chain-read s readBound (goodOpen pool table n) (GoodBound pool table n s) (bound-reader pool table n) bs (length (from s e)) e c (from-length s e) in
-        (rw (seen s 0 v tt, r, p) refl, rw (g .good, h))
+        let i : 0 < N = seen-in s 0 v tt in
+        let m : N ≡ suc (length (from s 1)) = omega (arith, from-length s 1 (omega arith)) in
+        let w : e ≤ N = omega (arith, g .past, ends-in s t 1 (g .held)) in
+        let (p, h) = chain-read s readBound (goodOpen pool table n) (GoodBound pool table n s) (bound-reader pool table n) bs (length (from s e)) e c (omega (arith, from-length s e w)) in
+        (rw (seen s 0 v l tt, length-head 26 N (omega arith), kind-head 26 N (omega arith), eq-eqb N (suc (length (from s 1))) m, r, p) refl, rw (g .good, h))
 
     -- what stands before the bounds
     data Head : Scheme ℕ → List Rec → Type 0 where
@@ -95,9 +104,9 @@ module _ (s : List ℕ) where
       abbrev heads : ℕ → ℕ → ℕ → ℕ → Reader (Scheme ℕ)
       heads k n b c = pick k ((26, unused (c ∷ []) (pick b ((0, quantified n) ∷ (1, unused (n ∷ []) simple) ∷ []))) ∷ [])
 
-      head-found : (k n b c : ℕ) (rs : List Rec) → from s 0 ≡ rec k n b c ∷ rs → Reads (heads k n b c rs) Head
-      unfolding viewOf plain all
-      head-found k n b c rs e = picked k rs ((26, unused (c ∷ []) (pick b ((0, quantified n) ∷ (1, unused (n ∷ []) simple) ∷ []))) ∷ []) (
+      head-found : (k n b c : ℕ) (rs : List Rec) → from s 0 ≡ rec k n b c ∷ rs → Reads (heads (kindIn k) n b c rs) Head
+      unfolding shapeOf plain all
+      head-found k n b c rs e = picked (kindIn k) rs ((26, unused (c ∷ []) (pick b ((0, quantified n) ∷ (1, unused (n ∷ []) simple) ∷ []))) ∷ []) (
           (λ q. laws.plain (c ∷ []) (pick b ((0, quantified n) ∷ (1, unused (n ∷ []) simple) ∷ [])) rs (λ z. picked b rs ((0, quantified n) ∷ (1, unused (n ∷ []) simple) ∷ []) (
           (λ p. let (u, v) = here s 0 k n b c rs e (rw (q, p, z .0)) in rw v (then (found s w 64 1) (λ t rest i. given (bounded n t rest u i))))
           & (λ p. laws.plain (n ∷ []) simple rs (λ y. let (u, v) = here s 0 k n b c rs e (rw (q, p, z .0, y .0)) in rw v (then (found s w 64 1) (λ t rest i. given (alone t rest u i)))))
@@ -111,39 +120,53 @@ module _ (s : List ℕ) where
 
       -- a scheme that was read, and is well formed, is there
       abbrev Right : Scheme ℕ → Type 0
-      Right sc = goodScheme (tableOf pool table) sc ≡ true → GoodScheme pool table s sc
+      Right sc = goodScheme (tableOf pool table) sc ≡ true → Long s 0 N → GoodScheme pool table s sc
 
       right-bounds : (n : ℕ) (t : Ty ℕ) (rest : List Rec) (bs : List (tree.Open ℕ)) → Shows s 0 (view.Scheme n) → Found s 64 1 t rest → readAll readBound (length rest) rest ≡ some bs → Right (scheme n t bs)
       unfolding goodScheme
-      right-bounds n t rest bs u f p g =
+      right-bounds n t rest bs u f p g l =
           let T′ : Bool = goodTy pool table n t in
           let B : Bool = all (goodOpen pool table n) bs in
-          (u, (1 + size t, (record { held = f .held; past = refl; deep = f .deep; good = both-left T′ B g }, whole-bounds n t rest bs f p (both-right T′ B g))))
+          (u, (1 + size t, (record { held = f .held; past = refl; deep = f .deep; good = both-left T′ B g }, whole-bounds n t rest bs f p (both-right T′ B g))), l)
 
       right-alone : (t : Ty ℕ) (rest : List Rec) → Shows s 0 view.Concrete → Found s 64 1 t rest → readAll readBound (length rest) rest ≡ some [] → Right (concrete t)
       unfolding goodScheme all
-      right-alone t rest u f p g = (u, record { held = f .held; past = sym (whole-bounds 0 t rest [] f p refl); deep = f .deep; good = g })
+      right-alone t rest u f p g l = (u, record { held = f .held; past = sym (whole-bounds 0 t rest [] f p refl); deep = f .deep; good = g }, l)
 
-      module _ (k n b c : ℕ) (rs : List Rec) where
+      module _ (k n b c : ℕ) (rs : List Rec) (l : eqb (lengthIn k) (suc (length rs)) ≡ true) where
         is : {sc sd : Scheme ℕ} → schemeOf (rec k n b c ∷ rs) ≡ some sc → schemeOf (rec k n b c ∷ rs) ≡ some sd → Right sc → Right sd
         is {sc} {sd} p q r = let e : some sc ≡ some sd = sym p ∙ q in let i : sc ≡ sd = cc in subst Right i r
 
-        finish : {sc : Scheme ℕ} {rest : List Rec} → Head sc rest → heads k n b c rs ≡ some (sc, rest) → (o : Option (List (tree.Open ℕ))) → readAll readBound (length rest) rest ≡ o → (sd : Scheme ℕ) → schemeOf (rec k n b c ∷ rs) ≡ some sd → Right sd
+        finish : {sc : Scheme ℕ} {rest : List Rec} → Head sc rest → heads (kindIn k) n b c rs ≡ some (sc, rest) → (o : Option (List (tree.Open ℕ))) → readAll readBound (length rest) rest ≡ o → (sd : Scheme ℕ) → schemeOf (rec k n b c ∷ rs) ≡ some sd → Right sd
         unfolding schemeOf
-        finish (bounded m t rest u f) p none q sd e = absurd-some {a = sd} (sym (rw (p, q)) ∙ e)
-        finish (bounded m t rest u f) p (some bs) q sd e = is {sc = scheme m t bs} (rw (p, q)) e (right-bounds m t rest bs u f q)
-        finish (alone t rest u f) p none q sd e = absurd-some {a = sd} (sym (rw (p, q)) ∙ e)
-        finish (alone t rest u f) p (some []) q sd e = is {sc = concrete t} (rw (p, q)) e (right-alone t rest u f q)
-        finish (alone t rest u f) p (some (o ∷ os)) q sd e = absurd-some {a = sd} (sym (rw (p, q)) ∙ e)
+        finish (bounded m t rest u f) p none q sd e = absurd-some {a = sd} (sym (rw (l, p, q)) ∙ e)
+        finish (bounded m t rest u f) p (some bs) q sd e = is {sc = scheme m t bs} (rw (l, p, q)) e (right-bounds m t rest bs u f q)
+        finish (alone t rest u f) p none q sd e = absurd-some {a = sd} (sym (rw (l, p, q)) ∙ e)
+        finish (alone t rest u f) p (some []) q sd e = is {sc = concrete t} (rw (l, p, q)) e (right-alone t rest u f q)
+        finish (alone t rest u f) p (some (o ∷ os)) q sd e = absurd-some {a = sd} (sym (rw (l, p, q)) ∙ e)
 
-      scheme-found : (l : List Rec) → from s 0 ≡ l → (sd : Scheme ℕ) → schemeOf l ≡ some sd → Right sd
+      -- the length of the whole list
+      whole-long : (k n b c : ℕ) (rs : List Rec) → from s 0 ≡ rec k n b c ∷ rs → eqb (lengthIn k) (suc (length rs)) ≡ true → Long s 0 N
+      unfolding longOf
+      whole-long k n b c rs e l =
+          let f = first s 0 (rec k n b c) rs e in
+          let m : longAt s 0 ≡ lengthIn k = f .long in
+          let y : length rs ≡ length (from s 1) = ap length (f .rest) in
+          let i : 0 < N = f .inside in
+          m ∙ omega (arith, eqb-true (lengthIn k) (suc (length rs)) l, y, from-length s 1 (omega arith))
+
+      scheme-found : (l : List Rec) → from s 0 ≡ l → (sd : Scheme ℕ) → schemeOf l ≡ some sd → goodScheme (tableOf pool table) sd ≡ true → GoodScheme pool table s sd
       unfolding schemeOf
-      scheme-found [] e sd h = absurd-some h
-      scheme-found (rec k n b c ∷ rs) e sd h = go (heads k n b c rs) refl
+      scheme-found [] e sd h g = absurd-some h
+      scheme-found (rec k n b c ∷ rs) e sd h g = lasting (eqb (lengthIn k) (suc (length rs))) refl
         where
-          go : (o : Option (Scheme ℕ × List Rec)) → heads k n b c rs ≡ o → Right sd
-          go none p = absurd-some {a = sd} (sym (rw p) ∙ h)
-          go (some (sc, rest)) p = finish k n b c rs (head-found k n b c rs e .holds sc rest p) p (readAll readBound (length rest) rest) refl sd h
+          go : eqb (lengthIn k) (suc (length rs)) ≡ true → (o : Option (Scheme ℕ × List Rec)) → heads (kindIn k) n b c rs ≡ o → Right sd
+          go l none p = absurd-some {a = sd} (sym (rw (l, p)) ∙ h)
+          go l (some (sc, rest)) p = finish k n b c rs l (head-found k n b c rs e .holds sc rest p) p (readAll readBound (length rest) rest) refl sd h
+
+          lasting : (x : Bool) → eqb (lengthIn k) (suc (length rs)) ≡ x → GoodScheme pool table s sd
+          lasting true l = go l (heads (kindIn k) n b c rs) refl g (whole-long k n b c rs e l)
+          lasting false l = absurd-some {a = sd} (sym (rw l) ∙ h)
 
 module _ (pool table ws : List ℕ) (e : aloneGiven pool table ws ≡ got (tt {0})) (w : Words32 ws) where
   abbrev tested : Got (Unit {0})

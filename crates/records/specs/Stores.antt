@@ -2,10 +2,11 @@
 use mathlib.Core.Path.{_≡_, refl, sym, ap, _∙_}
 use mathlib.Core.List.{List, [], _∷_, _++_}
 use Prim.Native.Nat.{ℕ, suc, _+_, _<_, _≤_}
+use native.Mathlib.Omega.{arith}
 use native.Mathlib.Nat.{add-zero, add-suc, suc-add}
 use native.Mathlib.Numerals.{add-one, add-two, add-three}
 use lib.ListN.{length, getD, set}
-use lib.Seq.{sets, slice, slice-cons}
+use lib.Seq.{sets, slice, slice-cons, set-comm}
 use Rattle.rules.specs.Writing.{rec, words}
 
 -- four stores in a row write a record
@@ -28,3 +29,14 @@ sets-none i (a ∷ vs) = sets-none (suc i) vs
 pub sets-append : (a b d : List ℕ) (i : ℕ) → sets d i (a ++ b) ≡ sets (sets d i a) (i + length a) b
 sets-append [] b d i = rw (add-zero i)
 sets-append (x ∷ a) b d i = rw (add-suc i (length a), ← suc-add i (length a)) (sets-append a b (set d i x) (suc i))
+
+set-sets : (b d : List ℕ) (i j x : ℕ) → i < j → set (sets d j b) i x ≡ sets (set d i x) j b
+set-sets [] d i j x h = refl
+set-sets (y ∷ b) d i j x h = set-sets b (set d j y) i (suc j) x (omega arith) ∙ ap (λ (e : List ℕ). sets e (suc j) b) (set-comm d j i y x (λ e. omega arith))
+
+-- what stands before may be stored last
+pub sets-before : (a b d : List ℕ) (i : ℕ) → sets (sets d (i + length a) b) i a ≡ sets d i (a ++ b)
+sets-before [] b d i = rw (add-zero i)
+sets-before (x ∷ a) b d i =
+    let e : i + suc (length a) ≡ suc i + length a = omega arith in
+    rw e (ap (λ (f : List ℕ). sets f (suc i) a) (set-sets b d i (suc i + length a) x (omega arith)) ∙ sets-before a b (set d i x) (suc i))

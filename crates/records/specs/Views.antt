@@ -1,4 +1,4 @@
--- What one record says: its view, with the words that it doesn't use tested.
+-- What one record says: its view, with the words that it doesn't use tested, and the length of the part that it begins.
 -- Assumes nothing.
 use mathlib.Core.Bool.{Bool, true, false}
 use mathlib.Core.List.{List, [], _∷_}
@@ -6,7 +6,7 @@ use Prim.Native.Nat.{ℕ, _*_}
 use lib.Dec.{eqb}
 use lib.ListN.{drop}
 use Rattle.rules.specs.Base.{all}
-use Rattle.rules.specs.Writing.{Rec, rec}
+use Rattle.rules.specs.Writing.{Rec, rec, head, kindIn, lengthIn}
 use Rattle.records.specs.declared.Open.{Open}
 use Rattle.records.specs.declared.Open.the-variants.{Var, Quant, Par}
 use Rattle.records.specs.declared.Atom.{Atom}
@@ -67,10 +67,17 @@ otherTable a b c =
     ∷ (26, plain (c ∷ []) (pick b (schemeTable a)))
     ∷ []
 
-unfoldable pub viewOf : Rec → View
-viewOf (rec k a b c) = pick k (typeTable a b c (otherTable a b c))
+unfoldable pub shapeOf : ℕ → ℕ → ℕ → ℕ → View
+shapeOf k a b c = pick k (typeTable a b c (otherTable a b c))
 
--- the record that says a view
+unfoldable pub viewOf : Rec → View
+unfolding shapeOf
+viewOf (rec w a b c) = shapeOf (kindIn w) a b c
+
+unfoldable pub longOf : Rec → ℕ
+longOf (rec w a b c) = lengthIn w
+
+-- the record that says a view, with its kind alone in word 0
 abbrev pub recOpen : Open → Rec
 recOpen (Var x) = rec 1 x 0 0
 recOpen (Quant i) = rec 14 i 0 0
@@ -95,24 +102,31 @@ kindOfBasic Boolean = 4
 kindOfBasic Text = 5
 kindOfBasic Datetime = 6
 
-abbrev pub recOf : View → Rec
-recOf (view.Opened o) = recOpen o
-recOf (view.Basic b) = rec (kindOfBasic b) 0 0 0
-recOf (view.Dim n) = rec 3 n 0 0
-recOf (view.Function n) = rec 7 n 0 0
-recOf (view.Struct x n m) = rec 8 x n m
-recOf view.List = rec 10 0 0 0
-recOf (view.Field x) = rec 9 x 0 0
-recOf (view.Factor f n d) = recFactor f n d
-recOf view.Equal = rec 20 0 0 0
-recOf view.IsDim = rec 21 0 0 0
-recOf view.IsScalar = rec 22 0 0 0
-recOf (view.HasField x) = rec 23 x 0 0
-recOf (view.Binding x) = rec 24 x 0 0
-recOf (view.Bound o) = recBound o
-recOf (view.Scheme n) = rec 26 n 0 0
-recOf view.Concrete = rec 26 0 1 0
-recOf view.Bad = rec 0 0 0 0
+abbrev pub bareOf : View → Rec
+bareOf (view.Opened o) = recOpen o
+bareOf (view.Basic b) = rec (kindOfBasic b) 0 0 0
+bareOf (view.Dim n) = rec 3 n 0 0
+bareOf (view.Function n) = rec 7 n 0 0
+bareOf (view.Struct x n m) = rec 8 x n m
+bareOf view.List = rec 10 0 0 0
+bareOf (view.Field x) = rec 9 x 0 0
+bareOf (view.Factor f n d) = recFactor f n d
+bareOf view.Equal = rec 20 0 0 0
+bareOf view.IsDim = rec 21 0 0 0
+bareOf view.IsScalar = rec 22 0 0 0
+bareOf (view.HasField x) = rec 23 x 0 0
+bareOf (view.Binding x) = rec 24 x 0 0
+bareOf (view.Bound o) = recBound o
+bareOf (view.Scheme n) = rec 26 n 0 0
+bareOf view.Concrete = rec 26 0 1 0
+bareOf view.Bad = rec 0 0 0 0
+
+-- and with the length of a part of n records
+abbrev pub lengthened : ℕ → Rec → Rec
+lengthened n (rec k a b c) = rec (head k n) a b c
+
+abbrev pub recOf : View → ℕ → Rec
+recOf v n = lengthened n (bareOf v)
 
 abbrev pub toldWords : Words → Rec
 toldWords w = rec (w .kind) (w .a) (w .b) (w .c)
@@ -136,3 +150,11 @@ viewFirst (r ∷ rs) = viewOf r
 -- what the record at a place says; Bad where there is none
 unfoldable pub viewAt : List ℕ → ℕ → View
 viewAt s at = viewFirst (from s at)
+
+abbrev pub longFirst : List Rec → ℕ
+longFirst [] = 0
+longFirst (r ∷ rs) = longOf r
+
+-- and how long the part is that it begins; 0 where there is none
+unfoldable pub longAt : List ℕ → ℕ → ℕ
+longAt s at = longFirst (from s at)

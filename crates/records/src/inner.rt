@@ -2,6 +2,8 @@
 use super::Atom;
 use super::Open;
 use super::View;
+use super::seen::head_of;
+use super::seen::length_at;
 use super::seen::view_at;
 use super::seen::words_of;
 use exponents::Exponent;
@@ -16,15 +18,17 @@ ghost use lib.ListN.{length, set, getD};
 ghost use lib.Seq.{sets, slice};
 ghost use Rattle.rules.specs.Writing.{words};
 ghost use mathlib.Core.Bool.{_&&_};
+ghost use lib.Dec.{eqb};
 ghost use Rattle.rules.specs.Exponents.{goodStored, frac};
 ghost use Rattle.rules.specs.Trees.{orderAtom, orderOpen};
 ghost use Rattle.rules.specs.Writing.{signed};
 ghost use Rattle.rules.specs.WellFormed.{isLt};
 ghost use Rattle.laws.specs.NameTable.{Good};
 ghost use Rattle.names.specs.Told.{toldOrder};
-ghost use Rattle.records.specs.Views.{recOf};
+ghost use Rattle.records.specs.Cut.{fit};
+ghost use Rattle.records.specs.Views.{recOf, longAt};
 ghost use Rattle.records.specs.Holds.{openOf, atomOf};
-ghost use Rattle.records.specs.Good.{Ends, HeldOpen, HeldAtom, HeldBefore, HeldLeft, numbers, holding, follows, atomFollows, goodOpen, goodAtom, GoodFactors, GoodDim, GoodTy, GoodTys, GoodFields, GoodProduct, GoodTwo, GoodCon, GoodBinding, GoodBound, Chained, There, GoodScheme};
+ghost use Rattle.records.specs.Good.{Ends, closedAt, HeldOpen, HeldAtom, HeldBefore, HeldLeft, numbers, holding, follows, atomFollows, goodOpen, goodAtom, GoodFactors, GoodDim, PartsTy, GoodTy, GoodTys, GoodFields, PartsProduct, GoodProduct, GoodTwo, PartsCon, GoodCon, PartsBinding, GoodBinding, PartsBound, GoodBound, Chained, There, PartsScheme, GoodScheme};
 
 // Sets a word of a buffer, where there is one at i.
 pub fn put(dst: &mut [u32], i: usize, w: u32)
@@ -35,17 +39,25 @@ pub fn put(dst: &mut [u32], i: usize, w: u32)
     }
 }
 
-// Writes the record that says v, as far as the buffer goes.
-pub fn put_record(dst: &mut [u32], out: usize, v: View)
+// Writes the record that says v and begins a part of n records, as far as the buffer goes.
+pub fn put_record(dst: &mut [u32], out: usize, v: View, n: usize)
     requires { ⌜ out < 2 ^ 60 ⌝ }
-    ensures { λ _. ⌜ now (dst .exit) ≡ sets (now (dst .entry)) (out * 4) (words (recOf v ∷ [])) ⌝ }
+    ensures { λ _. ⌜ now (dst .exit) ≡ sets (now (dst .entry)) (out * 4) (words (recOf v (fit n) ∷ [])) ⌝ }
 {
     let w = words_of(v);
     let i = out * 4;
-    put(dst, i, w.kind);
+    put(dst, i, head_of(w.kind, n));
     put(dst, i + 1, w.a);
     put(dst, i + 2, w.b);
     put(dst, i + 3, w.c);
+}
+
+// Writes the record that says v and is a part by itself.
+pub fn put_one(dst: &mut [u32], out: usize, v: View)
+    requires { ⌜ out < 2 ^ 60 ⌝ }
+    ensures { λ _. ⌜ now (dst .exit) ≡ sets (now (dst .entry)) (out * 4) (words (recOf v 1 ∷ [])) ⌝ }
+{
+    put_record(dst, out, v, 1);
 }
 
 // Copies the records from b up to e, as far as the buffer goes.
@@ -209,6 +221,32 @@ fn name_good(pool: &[u8], table: &[u32], b: Before, x: u32) -> bool
     }
 }
 
+// Does the record at a place say that its part ends at e?
+fn closes(s: &[u32], at: usize, e: usize) -> bool
+    ensures { λ r. ⌜ r ≡ eqb (at + longAt (now (s .entry)) at) e ⌝ }
+{
+    if e < at {
+        return false;
+    }
+    length_at(s, at) == e - at
+}
+
+// The end of a part, if its first record says so.
+fn closed(s: &[u32], at: usize, r: Ended) -> Ended
+    ensures { λ e. ⌜ e ≡ closedAt (now (s .entry)) at r ⌝ }
+{
+    match r {
+        Ended::At(e) => {
+            if closes(s, at, e) {
+                Ended::At(e)
+            } else {
+                Ended::Bad
+            }
+        }
+        Ended::Bad => Ended::Bad,
+    }
+}
+
 // Is a factor well formed, and does it come after the one before?
 fn factor_good(pool: &[u8], table: &[u32], q: u32, l: Left, a: Atom, num: u32, den: u32) -> bool
     requires { ⌜ Good (now pool) (now table) ⌝ }
@@ -226,6 +264,29 @@ fn factor_good(pool: &[u8], table: &[u32], q: u32, l: Left, a: Atom, num: u32, d
     }
 }
 
+// The same of a factor's record, which is one record long.
+fn factor_here(
+    pool: &[u8],
+    table: &[u32],
+    q: u32,
+    s: &[u32],
+    at: usize,
+    l: Left,
+    a: Atom,
+    num: u32,
+    den: u32,
+) -> bool
+    requires { ⌜ Good (now pool) (now table) ⌝ }
+    requires { ⌜ HeldLeft (now table) l ⌝ }
+    ensures { λ r. ⌜ r ≡ (eqb (longAt (now (s .entry)) at) 1 && (goodAtom (now (pool .entry)) (now (table .entry)) q (atomOf a) && goodStored (frac (signed num) den) && atomFollows (now (pool .entry)) (now (table .entry)) l (atomOf a))) ⌝ }
+{
+    if length_at(s, at) == 1 {
+        factor_good(pool, table, q, l, a, num, den)
+    } else {
+        false
+    }
+}
+
 // Where n factors end that follow the factor l.
 fn factors_end(pool: &[u8], table: &[u32], q: u32, s: &[u32], at: usize, n: u32, l: Left) -> Ended
     requires { ⌜ Good (now pool) (now table) ⌝ }
@@ -237,7 +298,7 @@ fn factors_end(pool: &[u8], table: &[u32], q: u32, s: &[u32], at: usize, n: u32,
     }
     match view_at(s, at) {
         View::Factor(a, num, den) => {
-            if factor_good(pool, table, q, l, a, num, den) {
+            if factor_here(pool, table, q, s, at, l, a, num, den) {
                 factors_end(pool, table, q, s, at + 1, n - 1, Left::Atom(a))
             } else {
                 Ended::Bad
@@ -262,6 +323,14 @@ fn dim_end(pool: &[u8], table: &[u32], q: u32, s: &[u32], at: usize, n: u32) -> 
 pub fn type_end(pool: &[u8], table: &[u32], q: u32, s: &[u32], at: usize, deep: usize) -> Ended
     requires { ⌜ Good (now pool) (now table) ⌝ }
     ensures { λ r. ⌜ Ends (GoodTy (now (pool .entry)) (now (table .entry)) q (now (s .entry)) deep at) r ⌝ }
+{
+    closed(s, at, type_parts(pool, table, q, s, at, deep))
+}
+
+// Where its parts end, whatever length its first record says.
+fn type_parts(pool: &[u8], table: &[u32], q: u32, s: &[u32], at: usize, deep: usize) -> Ended
+    requires { ⌜ Good (now pool) (now table) ⌝ }
+    ensures { λ r. ⌜ Ends (PartsTy (now (pool .entry)) (now (table .entry)) q (now (s .entry)) deep at) r ⌝ }
 {
     if deep == 0 {
         return Ended::Bad;
@@ -330,7 +399,7 @@ fn fields_end(
     match view_at(s, at) {
         View::Field(x) => {
             if name_good(pool, table, b, x) {
-                match type_end(pool, table, q, s, at + 1, deep) {
+                match closed(s, at, type_end(pool, table, q, s, at + 1, deep)) {
                     Ended::At(e) => {
                         fields_end(pool, table, q, s, e, n - 1, deep, Before::Name(x))
                     }
@@ -348,6 +417,14 @@ fn fields_end(
 pub fn product_end(pool: &[u8], table: &[u32], q: u32, s: &[u32], at: usize) -> Ended
     requires { ⌜ Good (now pool) (now table) ⌝ }
     ensures { λ r. ⌜ Ends (GoodProduct (now (pool .entry)) (now (table .entry)) q (now (s .entry)) at) r ⌝ }
+{
+    closed(s, at, product_parts(pool, table, q, s, at))
+}
+
+// Where its parts end, whatever length its first record says.
+fn product_parts(pool: &[u8], table: &[u32], q: u32, s: &[u32], at: usize) -> Ended
+    requires { ⌜ Good (now pool) (now table) ⌝ }
+    ensures { λ r. ⌜ Ends (PartsProduct (now (pool .entry)) (now (table .entry)) q (now (s .entry)) at) r ⌝ }
 {
     match view_at(s, at) {
         View::Dim(n) => dim_end(pool, table, q, s, at + 1, n),
@@ -371,6 +448,14 @@ pub fn con_end(pool: &[u8], table: &[u32], s: &[u32], at: usize) -> Ended
     requires { ⌜ Good (now pool) (now table) ⌝ }
     ensures { λ r. ⌜ Ends (GoodCon (now (pool .entry)) (now (table .entry)) 0 (now (s .entry)) at) r ⌝ }
 {
+    closed(s, at, con_parts(pool, table, s, at))
+}
+
+// Where its parts end, whatever length its first record says.
+fn con_parts(pool: &[u8], table: &[u32], s: &[u32], at: usize) -> Ended
+    requires { ⌜ Good (now pool) (now table) ⌝ }
+    ensures { λ r. ⌜ Ends (PartsCon (now (pool .entry)) (now (table .entry)) 0 (now (s .entry)) at) r ⌝ }
+{
     match view_at(s, at) {
         View::Equal => two_end(pool, table, s, at + 1),
         View::IsDim => type_end(pool, table, 0, s, at + 1, 64),
@@ -391,6 +476,14 @@ pub fn binding_end(pool: &[u8], table: &[u32], s: &[u32], at: usize) -> Ended
     requires { ⌜ Good (now pool) (now table) ⌝ }
     ensures { λ r. ⌜ Ends (GoodBinding (now (pool .entry)) (now (table .entry)) 0 (now (s .entry)) at) r ⌝ }
 {
+    closed(s, at, binding_parts(pool, table, s, at))
+}
+
+// Where its parts end, whatever length its first record says.
+fn binding_parts(pool: &[u8], table: &[u32], s: &[u32], at: usize) -> Ended
+    requires { ⌜ Good (now pool) (now table) ⌝ }
+    ensures { λ r. ⌜ Ends (PartsBinding (now (pool .entry)) (now (table .entry)) 0 (now (s .entry)) at) r ⌝ }
+{
     match view_at(s, at) {
         View::Binding(x) => {
             if is_held(table, x) {
@@ -407,6 +500,14 @@ pub fn binding_end(pool: &[u8], table: &[u32], s: &[u32], at: usize) -> Ended
 pub fn bound_end(pool: &[u8], table: &[u32], q: u32, s: &[u32], at: usize) -> Ended
     requires { ⌜ Good (now pool) (now table) ⌝ }
     ensures { λ r. ⌜ Ends (GoodBound (now (pool .entry)) (now (table .entry)) q (now (s .entry)) at) r ⌝ }
+{
+    closed(s, at, bound_parts(pool, table, q, s, at))
+}
+
+// Where its parts end, whatever length its first record says.
+fn bound_parts(pool: &[u8], table: &[u32], q: u32, s: &[u32], at: usize) -> Ended
+    requires { ⌜ Good (now pool) (now table) ⌝ }
+    ensures { λ r. ⌜ Ends (PartsBound (now (pool .entry)) (now (table .entry)) q (now (s .entry)) at) r ⌝ }
 {
     match view_at(s, at) {
         View::Bound(o) => {
@@ -480,10 +581,22 @@ pub fn type_good(pool: &[u8], table: &[u32], s: &[u32], at: usize) -> bool
     }
 }
 
-// Are all records a scheme, well formed?
+// Are all records a scheme, well formed? Its length is that of the list.
 pub fn scheme_good(pool: &[u8], table: &[u32], s: &[u32]) -> bool
     requires { ⌜ Good (now pool) (now table) ⌝ }
     ensures { λ r. ⌜ There (GoodScheme (now (pool .entry)) (now (table .entry)) (now (s .entry))) r ⌝ }
+{
+    if length_at(s, 0) == s.len() / 4 {
+        scheme_parts(pool, table, s)
+    } else {
+        false
+    }
+}
+
+// The same, whatever length its first record says.
+fn scheme_parts(pool: &[u8], table: &[u32], s: &[u32]) -> bool
+    requires { ⌜ Good (now pool) (now table) ⌝ }
+    ensures { λ r. ⌜ There (PartsScheme (now (pool .entry)) (now (table .entry)) (now (s .entry))) r ⌝ }
 {
     match view_at(s, 0) {
         View::Concrete => type_good(pool, table, s, 1),

@@ -1,4 +1,5 @@
-// What one record says, and the record that says it. No other code looks at the kind of a record.
+// What one record says, and the record that says it. No other code looks at word 0 of a record: it holds the kind, and the length of the part that the
+// record begins.
 use super::Atom;
 use super::Basic;
 use super::Open;
@@ -6,8 +7,10 @@ use super::View;
 use super::Words;
 ghost use mathlib.Core.Path.{_≡_};
 ghost use mathlib.Core.List.{[], _∷_};
-ghost use Rattle.rules.specs.Writing.{rec};
-ghost use Rattle.records.specs.Views.{plain, pick, boundTable, schemeTable, otherTable, viewOf, viewAt, toldWords, recOpen, recFree, recFactor, recBound, kindOfBasic, recOf};
+ghost use Prim.Native.Nat.{_<_};
+ghost use Rattle.rules.specs.Writing.{rec, head, kindIn, lengthIn};
+ghost use Rattle.records.specs.Cut.{fit};
+ghost use Rattle.records.specs.Views.{plain, pick, boundTable, schemeTable, otherTable, shapeOf, viewAt, toldWords, recOpen, recFree, recFactor, recBound, kindOfBasic, bareOf, longAt};
 
 // The view, where the two words that the record doesn't use are 0.
 fn plain_two(b: u32, c: u32, v: View) -> View
@@ -83,9 +86,32 @@ fn other_shape(kind: u32, a: u32, b: u32, c: u32) -> View
     }
 }
 
+// The two halves of word 0, and word 0 of both; a length that doesn't fit is left out.
+fn kind_in(w: u32) -> u32
+    ensures { λ r. ⌜ r ≡ kindIn w ⌝ }
+{
+    w % 65536
+}
+
+fn length_in(w: u32) -> u32
+    ensures { λ r. ⌜ r ≡ lengthIn w ⌝ }
+{
+    w / 65536
+}
+
+pub fn head_of(kind: u32, n: usize) -> u32
+    requires { ⌜ kind < 65536 ⌝ }
+    ensures { λ r. ⌜ r ≡ head kind (fit n) ⌝ }
+{
+    if n <= 65535 {
+        return kind + 65536 * (n as u32);
+    }
+    kind
+}
+
 // What the words of a record say.
 fn shape(kind: u32, a: u32, b: u32, c: u32) -> View
-    ensures { λ r. ⌜ r ≡ viewOf (rec kind a b c) ⌝ }
+    ensures { λ r. ⌜ r ≡ shapeOf kind a b c ⌝ }
 {
     match kind {
         1 => plain_two(b, c, View::Opened(Open::Var(a))),
@@ -110,7 +136,17 @@ pub fn view_at(s: &[u32], at: usize) -> View
         return View::Bad;
     }
     let i = at * 4;
-    shape(s[i], s[i + 1], s[i + 2], s[i + 3])
+    shape(kind_in(s[i]), s[i + 1], s[i + 2], s[i + 3])
+}
+
+// How long the part is that the record at a place begins, 0 where there is none.
+pub fn length_at(s: &[u32], at: usize) -> usize
+    ensures { λ r. ⌜ r ≡ longAt (now (s .entry)) at ⌝ }
+{
+    if s.len() / 4 <= at {
+        return 0;
+    }
+    length_in(s[at * 4]) as usize
 }
 
 fn open_words(o: Open) -> Words
@@ -226,7 +262,7 @@ fn lone(kind: u32, a: u32) -> Words
 
 // The record that says v.
 pub fn words_of(v: View) -> Words
-    ensures { λ r. ⌜ toldWords r ≡ recOf v ⌝ }
+    ensures { λ r. ⌜ toldWords r ≡ bareOf v ⌝ }
 {
     match v {
         View::Opened(o) => open_words(o),

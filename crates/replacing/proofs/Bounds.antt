@@ -75,7 +75,7 @@ module _ (pool table s : List ℕ) (at : ℕ) where
     as-other k x t h = go t (h .held)
       where
         go : (t : Ty ℕ) → Holds s t at → Says t
-        go (opened o) i = absurd (untagged v flat 0 tt k (view.Opened (viewOpen o)) refl (e ∙ i))
+        go (opened o) i = absurd (untagged v flat 0 tt k (view.Opened (viewOpen o)) refl (e ∙ i .0))
         go (basic b) i = x
         go (dim p) i = absurd (untagged v flat 2 tt k (view.Dim (length p)) refl (e ∙ i .0))
         go (fn ps u) i = x

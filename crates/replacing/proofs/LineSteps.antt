@@ -12,12 +12,13 @@ use Rattle.rules.specs.Names.{tableOf, isHeld}
 use Rattle.rules.specs.Replacing.{Look, replaceProduct, replaceDim, replaceTy, replaceTys, replaceCon, replaceBinding}
 use Rattle.rules.specs.Trees.{Ty, dim, Tys, nil, cons, Con, equal, isDim, isScalar, hasField, Binding, _≔_, size, sizeTys, sizeCon, sizeBinding, count}
 use Rattle.rules.specs.WellFormed.{goodTy, goodCon, goodBinding}
-use Rattle.rules.specs.Writing.{Rec, rec, words, writeProduct, writeTy, writeTys, writeCon, writeBinding}
+use Rattle.rules.specs.Writing.{Rec, words, writeProduct, writeTy, writeTys}
 use Rattle.rules.specs.declared.Refusal.{Refusal}
 use Rattle.laws.specs.GoodProducts.{good-product}
-use Rattle.laws.specs.Value.{Gives, gives, next}
+use Rattle.laws.specs.Value.{Gives, gives, next, its-own}
 use Rattle.products.specs.Told.{Tree}
 use Rattle.products.specs.Held.{law}
+use Rattle.records.specs.Cut.{cut}
 use Rattle.records.specs.Views.{recOf, viewAt}
 use Rattle.records.specs.Places.{seen-in}
 use Rattle.records.specs.Holds.{Holds, HoldsProduct, HoldsCon, HoldsBinding}
@@ -28,15 +29,14 @@ use Rattle.records.specs.declared.View.the-variants as view
 use Rattle.replacing.specs.Well as well
 use Rattle.replacing.specs.Well.{GoodTy, GoodCon, GoodBinding, HeldDim, Lent}
 use Rattle.replacing.specs.InProducts.{product-kept}
-use Rattle.replacing.specs.Writes.{writes}
-use Rattle.replacing.specs.Left.{Left, LeftOf, Room, types, sizeRow, writeRow, HeldRow, Replaced, RowReplaced, ProductReplaced, DimReplaced, sizeProduct}
-use Rattle.replacing.specs.LineRules.{Line, con, binding, sizeLine, writeLine, HoldsLine, GoodLine, HeldLine, HeldLines, ScalarHeld, replaceLine, ScalarReplaced, LineReplaced, LinesReplaced, line-length, line-some}
+use Rattle.replacing.specs.Left.{Left, LeftOf, Room, Behind, beforeRecs, types, sizeRow, writeRow, HeldRow, Replaced, RowReplaced, ProductReplaced, DimReplaced, sizeProduct}
+use Rattle.replacing.specs.LineRules.{Line, con, binding, sizeLine, writeLine, headLine, partsOf, partsSize, parts-size, line-parts, HoldsLine, GoodLine, HeldLine, HeldLines, ScalarHeld, replaceLine, ScalarReplaced, PartsReplaced, LineReplaced, LinesReplaced, line-length, line-some}
 use Rattle.replacing.specs.declared.inner.walk.Went.{Went}
 use Rattle.replacing.specs.declared.inner.walk.Went.the-variants.{To, Stop}
 use Rattle.replacing.proofs.Others.{Tagged, untagged}
-use Rattle.replacing.proofs.Lefts.{went, stopped, left-made, left-stop, left-back, left-on, room-on}
+use Rattle.replacing.proofs.Lefts.{went, stopped, left-made, left-stop, left-as, left-back, left-on, left-under, left-behind, room-on}
 use Rattle.replacing.proofs.Sizes.{both, ty-size}
-use Rattle.replacing.proofs.Steps.{kept, AType, ARow}
+use Rattle.replacing.proofs.Steps.{AType, ARow}
 
 -- ══ Where a line begins ══
 
@@ -85,33 +85,36 @@ module _ (s : List ℕ) where
   line-in (con c) at h = con-in s c at h
   line-in (binding x) at h = binding-in s x at h
 
+  pub line-says : (x : Line) (at : ℕ) → HoldsLine s x at → viewAt s at ≡ headLine x
+  unfolding HoldsCon HoldsBinding
+  line-says (con (equal l r)) at h = h .0
+  line-says (con (isDim t)) at h = h .0
+  line-says (con (isScalar p)) at h = h .0
+  line-says (con (hasField x l r)) at h = h .0
+  line-says (binding (x ≔ t)) at h = h .0
+
   -- the place of a line is within
   pub line-here : (x : Line) (at : ℕ) → HoldsLine s x at → at < length s / 4
-  unfolding HoldsCon HoldsBinding
-  line-here (con (equal l r)) at h = seen-in s at (h .0) tt
-  line-here (con (isDim t)) at h = seen-in s at (h .0) tt
-  line-here (con (isScalar p)) at h = seen-in s at (h .0) tt
-  line-here (con (hasField x l r)) at h = seen-in s at (h .0) tt
-  line-here (binding (x ≔ t)) at h = seen-in s at (h .0) tt
+  line-here x at h = let i = line-in x at h in omega (arith, line-some x)
 
--- ══ Two types behind a head ══
+-- ══ Two types as parts ══
 
-module _ (f : Ty ℕ → Ty ℕ → Line) (w : Rec) (hm : (l r : Ty ℕ) → sizeLine (f l r) ≡ suc (size l + size r)) (hw : (l r : Ty ℕ) → writeLine (f l r) ≡ w ∷ (writeTy l ++ writeTy r))
-    (d d₁ d′ : List ℕ) (next out : ℕ) (q : Went) where
+module _ (f : Ty ℕ → Ty ℕ → Line) (hm : (l r : Ty ℕ) → partsSize (f l r) ≡ size l + size r) (hw : (l r : Ty ℕ) → partsOf (f l r) ≡ writeTy l ++ writeTy r)
+    (d d′ : List ℕ) (next out : ℕ) (q : Went) where
   abbrev Pair : Got (Ty ℕ) → Got (Ty ℕ) → Got (Tys ℕ)
   Pair R S = R >>= λ l. (S >>= λ r. got nil >>= λ ts. got (cons r ts)) >>= λ ts. got (cons l ts)
 
-  two-of : (R S : Got (Ty ℕ)) → d₁ ≡ sets d (out * 4) (words (w ∷ [])) → LeftOf sizeTys writeTys d₁ d′ next (out + 1) q (Pair R S) → LeftOf sizeLine writeLine d d′ next out q (R >>= λ l. S >>= λ r. got (f l r))
+  two-of : (R S : Got (Ty ℕ)) → LeftOf sizeTys writeTys d d′ next out q (Pair R S) → LeftOf partsSize partsOf d d′ next out q (R >>= λ l. S >>= λ r. got (f l r))
   unfolding sizeTys writeTys
-  two-of (refused k) S p h = h
-  two-of (got l) (refused k) p h = h
-  two-of (got l) (got r) p h =
-      let g : out + 1 + (size l + (size r + 0)) ≡ out + sizeLine (f l r) = omega (arith, hm l r) in
-      let z : writeTy l ++ (writeTy r ++ []) ≡ writeTy l ++ writeTy r = ap (writeTy l ++_) (append-nil (writeTy r)) in
-      (h .0 ∙ ap (To next) g, writes d d₁ d′ (w ∷ []) (writeTy l ++ (writeTy r ++ [])) 1 out refl p (h .1) ∙ ap (λ (x : List Rec). sets d (out * 4) (words (w ∷ x))) z ∙ ap (λ (x : List Rec). sets d (out * 4) (words x)) (sym (hw l r)))
+  two-of (refused k) S h = h
+  two-of (got l) (refused k) h = h
+  two-of (got l) (got r) h =
+      let g : out + (size l + (size r + 0)) ≡ out + partsSize (f l r) = omega (arith, hm l r) in
+      let z : writeTy l ++ (writeTy r ++ []) ≡ partsOf (f l r) = ap (writeTy l ++_) (append-nil (writeTy r)) ∙ sym (hw l r) in
+      (h .0 ∙ ap (To next) g, h .1 ∙ ap (λ (x : List Rec). sets d (out * 4) (words (cut x))) z)
 
-  two : (R S : Got (Ty ℕ)) → d₁ ≡ sets d (out * 4) (words (w ∷ [])) → Left sizeTys writeTys d₁ d′ next (out + 1) q (Pair R S) → Left sizeLine writeLine d d′ next out q (R >>= λ l. S >>= λ r. got (f l r))
-  two R S p h = record { says = two-of R S p (h .says) }
+  two : (R S : Got (Ty ℕ)) → Left sizeTys writeTys d d′ next out q (Pair R S) → Left partsSize partsOf d d′ next out q (R >>= λ l. S >>= λ r. got (f l r))
+  two R S h = record { says = two-of R S (h .says) }
 
 assoc : {A : Type 0} (R S : Got (Ty ℕ)) (f : Ty ℕ → Ty ℕ → A) (g : A → Line) → (R >>= λ l. S >>= λ r. got (g (f l r))) ≡ ((R >>= λ l. S >>= λ r. got (f l r)) >>= λ c. got (g c))
 assoc (refused k) S f g = refl
@@ -121,6 +124,10 @@ assoc (got l) (got r) f g = refl
 assoc-one : {A B : Type 0} (R : Got A) (f : A → B) (g : B → Line) → (R >>= λ l. got (g (f l))) ≡ ((R >>= λ l. got (f l)) >>= λ c. got (g c))
 assoc-one (refused k) f g = refl
 assoc-one (got l) f g = refl
+
+itself : {A : Type 0} (R : Got A) → (R >>= λ a. got a) ≡ R
+itself (refused k) = refl
+itself (got a) = refl
 
 module _ (pool table s places v : List ℕ) where
   abbrev Ty′ : Look ℕ → Ty ℕ → Got (Ty ℕ)
@@ -153,69 +160,88 @@ module _ (pool table s places v : List ℕ) where
   unfolding Holds goodTy count
   pair-row l r at hl hr gl gr = record { held = (hl, (hr, tt)); good = rw (gl, gr); many = refl; kind = refl }
 
+  -- the first record stays, but for its length
+  head-kept : (look : Look ℕ) (x : Line) → Gives (replaceLine pool table look x) (λ y. headLine y ≡ headLine x)
+  unfolding replaceCon replaceBinding
+  head-kept look (con (equal l r)) = next (next (its-own (Ty′ look l)) (λ l′ i. next (its-own (Ty′ look r)) (λ r′ j. gives refl))) (λ c k. gives k)
+  head-kept look (con (isDim t)) = next (next (its-own (Ty′ look t)) (λ t′ i. gives refl)) (λ c k. gives k)
+  head-kept look (con (isScalar p)) = next (next (its-own (replaceProduct (well.names pool table) bounded look p)) (λ p′ i. gives refl)) (λ c k. gives k)
+  head-kept look (con (hasField n l r)) = next (next (its-own (Ty′ look l)) (λ l′ i. next (its-own (Ty′ look r)) (λ r′ j. gives refl))) (λ c k. gives k)
+  head-kept look (binding (n ≔ t)) = next (next (its-own (Ty′ look t)) (λ t′ i. gives refl)) (λ c k. gives k)
+
   module _ (at out : ℕ) where
     abbrev Leaves : Look ℕ → List ℕ → List ℕ → Went → Line → Type 0
-    Leaves look d d′ r x = GoodLine pool table x → Left sizeLine writeLine d d′ (at + sizeLine x) out r (replaceLine pool table look x)
+    Leaves look d d′ r x = GoodLine pool table x → Left partsSize partsOf d d′ (at + sizeLine x) (out + 1) r (replaceLine pool table look x)
 
-    pair-line : (f : Ty ℕ → Ty ℕ → Con ℕ) (w : Rec) (hm : (l r : Ty ℕ) → sizeCon (f l r) ≡ suc (size l + size r)) (hw : (l r : Ty ℕ) → writeCon (f l r) ≡ w ∷ (writeTy l ++ writeTy r))
-        (d d₁ d′ : List ℕ) (q : Went) (look : Look ℕ) (l r : Ty ℕ) → d₁ ≡ sets d (out * 4) (words (w ∷ [])) → HeldRow pool table s (types (cons l (cons r nil))) (at + 1) 2 false → Lent pool table places v look
-        → RowReplaced pool table s places v d₁ d′ (at + 1) 2 false (out + 1) q → Left sizeLine writeLine d d′ (at + suc (size l + size r)) out q ((Ty′ look l >>= λ l′. Ty′ look r >>= λ r′. got (f l′ r′)) >>= λ c. got (con c))
+    pair-line : (f : Ty ℕ → Ty ℕ → Con ℕ) (hm : (l r : Ty ℕ) → partsSize (con (f l r)) ≡ size l + size r) (hw : (l r : Ty ℕ) → partsOf (con (f l r)) ≡ writeTy l ++ writeTy r)
+        (d d′ : List ℕ) (q : Went) (look : Look ℕ) (l r : Ty ℕ) → HeldRow pool table s (types (cons l (cons r nil))) (at + 1) 2 false → Lent pool table places v look
+        → RowReplaced pool table s places v d d′ (at + 1) 2 false (out + 1) q → Left partsSize partsOf d d′ (at + suc (size l + size r)) (out + 1) q ((Ty′ look l >>= λ l′. Ty′ look r >>= λ r′. got (f l′ r′)) >>= λ c. got (con c))
     unfolding replaceTy sizeTys
-    pair-line f w hm hw d d₁ d′ q look l r p h lent k =
-        let R = left-back sizeTys writeTys sizeRow writeRow types (λ a. refl) (λ a. refl) d₁ d′ (at + 1 + (size l + (size r + 0))) (out + 1) q (replaceTys (well.names pool table) bounded look (cons l (cons r nil))) (k (types (cons l (cons r nil))) look h lent) in
+    pair-line f hm hw d d′ q look l r h lent k =
+        let R = left-back sizeTys writeTys sizeRow writeRow types (λ a. refl) (λ a. refl) d d′ (at + 1 + (size l + (size r + 0))) (out + 1) q (replaceTys (well.names pool table) bounded look (cons l (cons r nil))) (k (types (cons l (cons r nil))) look h lent) in
         let i : at + 1 + (size l + (size r + 0)) ≡ at + suc (size l + size r) = omega arith in
-        let R′ : Left sizeTys writeTys d₁ d′ (at + suc (size l + size r)) (out + 1) q (replaceTys (well.names pool table) bounded look (cons l (cons r nil))) = rw i at R in
-        rw (← assoc (Ty′ look l) (Ty′ look r) f con) (two (λ x y. con (f x y)) w hm hw d d₁ d′ (at + suc (size l + size r)) out q (Ty′ look l) (Ty′ look r) p R′)
+        let R′ : Left sizeTys writeTys d d′ (at + suc (size l + size r)) (out + 1) q (replaceTys (well.names pool table) bounded look (cons l (cons r nil))) = rw i at R in
+        rw (← assoc (Ty′ look l) (Ty′ look r) f con) (two (λ x y. con (f x y)) hm hw d d′ (at + suc (size l + size r)) (out + 1) q (Ty′ look l) (Ty′ look r) R′)
 
-    pub equal-here : {d d₁ d′ : List ℕ} {w : View} {q : Went} → w ≡ viewAt s at → w ≡ view.Equal → d₁ ≡ sets d (out * 4) (words (recOf w ∷ []))
-        → RowReplaced pool table s places v d₁ d′ (at + 1) 2 false (out + 1) q → LineReplaced pool table s places v d d′ at out q
-    unfolding sizeCon writeCon replaceCon
-    equal-here {d} {d₁} {d′} {w} {q} p z y k x look h lent =
+    pub equal-here : {d d′ : List ℕ} {w : View} {q : Went} → w ≡ viewAt s at → w ≡ view.Equal → RowReplaced pool table s places v d d′ (at + 1) 2 false (out + 1) q → PartsReplaced pool table s places v d d′ at out q
+    unfolding sizeCon replaceCon
+    equal-here {d} {d′} {q = q} p z k x look h lent =
         line-by-view s (Leaves look d d′ q) x at (h .held) (sym p ∙ z) (λ l r hl hr g.
         let gs = equal-good l r g in
-        pair-line equal (rec 20 0 0 0) (λ i j. refl) (λ i j. refl) d d₁ d′ q look l r (kept d d₁ out w view.Equal y z) (pair-row l r (at + 1) hl hr (gs .0) (gs .1)) lent k) (h .good)
+        pair-line equal (λ i j. refl) (λ i j. refl) d d′ q look l r (pair-row l r (at + 1) hl hr (gs .0) (gs .1)) lent k) (h .good)
 
-    pub has-here : {d d₁ d′ : List ℕ} {w : View} {n : ℕ} {q : Went} → w ≡ viewAt s at → w ≡ view.HasField n → d₁ ≡ sets d (out * 4) (words (recOf w ∷ []))
-        → RowReplaced pool table s places v d₁ d′ (at + 1) 2 false (out + 1) q → LineReplaced pool table s places v d d′ at out q
-    unfolding sizeCon writeCon replaceCon
-    has-here {d} {d₁} {d′} {w} {n} {q} p z y k x look h lent =
+    pub has-here : {d d′ : List ℕ} {w : View} {n : ℕ} {q : Went} → w ≡ viewAt s at → w ≡ view.HasField n → RowReplaced pool table s places v d d′ (at + 1) 2 false (out + 1) q → PartsReplaced pool table s places v d d′ at out q
+    unfolding sizeCon replaceCon
+    has-here {d} {d′} {n = n} {q} p z k x look h lent =
         line-by-view s (Leaves look d d′ q) x at (h .held) (sym p ∙ z) (λ l r hl hr g.
         let gs = field-good n l r g in
-        pair-line (hasField n) (rec 23 n 0 0) (λ i j. refl) (λ i j. refl) d d₁ d′ q look l r (kept d d₁ out w (view.HasField n) y z) (pair-row l r (at + 1) hl hr (gs .0) (gs .1)) lent k) (h .good)
+        pair-line (hasField n) (λ i j. refl) (λ i j. refl) d d′ q look l r (pair-row l r (at + 1) hl hr (gs .0) (gs .1)) lent k) (h .good)
 
-    pub is-here : {d d₁ d′ : List ℕ} {w : View} {q : Went} → w ≡ viewAt s at → w ≡ view.IsDim → d₁ ≡ sets d (out * 4) (words (recOf w ∷ []))
-        → Replaced pool table s places v d₁ d′ (at + 1) (out + 1) q → LineReplaced pool table s places v d d′ at out q
-    unfolding sizeCon writeCon replaceCon
-    is-here {d} {d₁} {d′} {w} {q} p z y k x look h lent =
+    pub is-here : {d d′ : List ℕ} {w : View} {q : Went} → w ≡ viewAt s at → w ≡ view.IsDim → Replaced pool table s places v d d′ (at + 1) (out + 1) q → PartsReplaced pool table s places v d d′ at out q
+    unfolding sizeCon replaceCon
+    is-here {d} {d′} {q = q} p z k x look h lent =
         line-by-view s (Leaves look d d′ q) x at (h .held) (sym p ∙ z) (λ t ht g.
         let i : at + 1 + size t ≡ at + suc (size t) = omega arith in
         rw (← assoc-one (Ty′ look t) isDim con)
-        (left-on size writeTy sizeLine writeLine (λ a. con (isDim a)) 1 (rec 21 0 0 0 ∷ []) refl (Ty′ look t) (λ a u. omega arith) (λ a u. refl) d d₁ d′ (at + suc (size t)) out q (kept d d₁ out w view.IsDim y z)
+        (left-as size writeTy partsSize partsOf (λ a. con (isDim a)) (λ a. refl) (λ a. refl) d d′ (at + suc (size t)) (out + 1) q (Ty′ look t)
         (rw i at (k t look (record { held = ht; good = dim-good t g }) lent)))) (h .good)
 
-    pub binding-here : {d d₁ d′ : List ℕ} {w : View} {n : ℕ} {q : Went} → w ≡ viewAt s at → w ≡ view.Binding n → d₁ ≡ sets d (out * 4) (words (recOf w ∷ []))
-        → Replaced pool table s places v d₁ d′ (at + 1) (out + 1) q → LineReplaced pool table s places v d d′ at out q
-    unfolding sizeBinding writeBinding replaceBinding
-    binding-here {d} {d₁} {d′} {w} {n} {q} p z y k x look h lent =
+    pub binding-here : {d d′ : List ℕ} {w : View} {n : ℕ} {q : Went} → w ≡ viewAt s at → w ≡ view.Binding n → Replaced pool table s places v d d′ (at + 1) (out + 1) q → PartsReplaced pool table s places v d d′ at out q
+    unfolding sizeBinding replaceBinding
+    binding-here {d} {d′} {n = n} {q} p z k x look h lent =
         line-by-view s (Leaves look d d′ q) x at (h .held) (sym p ∙ z) (λ t ht g.
         let i : at + 1 + size t ≡ at + suc (size t) = omega arith in
         rw (← assoc-one (Ty′ look t) (n ≔_) binding)
-        (left-on size writeTy sizeLine writeLine (λ a. binding (n ≔ a)) 1 (rec 24 n 0 0 ∷ []) refl (Ty′ look t) (λ a u. omega arith) (λ a u. refl) d d₁ d′ (at + suc (size t)) out q (kept d d₁ out w (view.Binding n) y z)
+        (left-as size writeTy partsSize partsOf (λ a. binding (n ≔ a)) (λ a. refl) (λ a. refl) d d′ (at + suc (size t)) (out + 1) q (Ty′ look t)
         (rw i at (k t look (record { held = ht; good = binding-good n t g }) lent)))) (h .good)
 
-    pub scalar-here : {d d₁ d′ : List ℕ} {w : View} {q : Went} → w ≡ viewAt s at → w ≡ view.IsScalar → d₁ ≡ sets d (out * 4) (words (recOf w ∷ []))
-        → ScalarReplaced pool table s places v d₁ d′ (at + 1) (out + 1) q → LineReplaced pool table s places v d d′ at out q
-    unfolding sizeCon size writeCon replaceCon
-    scalar-here {d} {d₁} {d′} {w} {q} p z y k x look h lent =
+    pub scalar-here : {d d′ : List ℕ} {w : View} {q : Went} → w ≡ viewAt s at → w ≡ view.IsScalar → ScalarReplaced pool table s places v d d′ (at + 1) (out + 1) q → PartsReplaced pool table s places v d d′ at out q
+    unfolding sizeCon size replaceCon
+    scalar-here {d} {d′} {q = q} p z k x look h lent =
         line-by-view s (Leaves look d d′ q) x at (h .held) (sym p ∙ z) (λ a ha g.
         let i : at + 1 + suc (length a) ≡ at + suc (suc (length a)) = omega arith in
         let R = replaceProduct (well.names pool table) bounded look a in
         rw (← assoc-one R isScalar con)
-        (left-on sizeProduct writeProduct sizeLine writeLine (λ a. con (isScalar a)) 1 (rec 22 0 0 0 ∷ []) refl R (λ a u. omega arith) (λ a u. refl) d d₁ d′ (at + suc (suc (length a))) out q (kept d d₁ out w view.IsScalar y z)
+        (left-as sizeProduct writeProduct partsSize partsOf (λ a. con (isScalar a)) (λ a. refl) (λ a. refl) d d′ (at + suc (suc (length a))) (out + 1) q R
         (rw i at (k a look (record { held = ha; good = scalar-good a g }) lent)))) (h .good)
 
-    pub unlined-here : {d d′ : List ℕ} {w : View} {q : Went} → w ≡ viewAt s at → Tagged (unlined s) w → LineReplaced pool table s places v d d′ at out q
+    pub unlined-here : {d d′ : List ℕ} {w : View} {q : Went} → w ≡ viewAt s at → Tagged (unlined s) w → PartsReplaced pool table s places v d d′ at out q
     unlined-here p k x look h lent = absurd (no-line s x at (h .held) p k)
+
+    -- ══ The first record, before its parts ══
+
+    -- the parts, and the record before them, are the line
+    pub line-done : {d d₁ d′ : List ℕ} {w : View} {q q′ : Went} → w ≡ viewAt s at → PartsReplaced pool table s places v d d₁ at out q
+        → (q′ ≡ q) × (d′ ≡ sets d₁ (out * 4) (words (beforeRecs q w out))) → LineReplaced pool table s places v d d′ at out q′
+    line-done {d} {d₁} {d′} {w} {q} {q′} p k b x look h lent =
+        let R = replaceLine pool table look x in
+        let same : w ≡ headLine x = p ∙ line-says s x at (h .held) in
+        let hw : (y : Line) → R ≡ got y → writeLine y ≡ recOf w (sizeLine y) ∷ partsOf y =
+        λ y e. line-parts y ∙ ap (λ (u : View). recOf u (sizeLine y) ∷ partsOf y) (head-kept look x .holds y e ∙ sym same) in
+        rw (b .0, ← itself R) (left-under partsSize partsOf sizeLine writeLine (λ y. y) w R (λ y e. parts-size y) hw d d₁ d′ (at + sizeLine x) out q (k x look h lent) (b .1))
+
+    pub parts-behind : (x : Line) (look : Look ℕ) → HeldLine pool table s x at → Lent pool table places v look → {d d′ : List ℕ} {q : Went} → PartsReplaced pool table s places v d d′ at out q → Behind q out
+    parts-behind x look h lent k = left-behind out (omega arith) (k x look h lent)
 
     -- ══ What the calls ask ══
 

@@ -24,6 +24,7 @@ use Rattle.names.specs.declared.Checked.the-variants.{Good as Well′, Refused 
 use Rattle.records.specs.Views.{recOf}
 use Rattle.records.specs.Holds.{openOf, HoldsFactors}
 use Rattle.records.specs.ByView.{ends-in}
+use Rattle.records.specs.Cut.{short-ty, short-product}
 use Rattle.records.specs.Held.{held-words}
 use Rattle.records.specs.declared.Open as names
 use Rattle.records.specs.declared.View.the-variants as view
@@ -42,7 +43,7 @@ use Rattle.replacing.specs.declared.inner.bound.Found.{Found}
 use Rattle.replacing.specs.declared.inner.bound.Found.the-variants.{At}
 use Rattle.replacing.specs.declared.inner.walk.Went.{Went}
 use Rattle.replacing.specs.declared.inner.walk.Went.the-variants.{To, Stop}
-use Rattle.replacing.proofs.Lefts.{left-made, left-stop, left-as}
+use Rattle.replacing.proofs.Lefts.{left-put, left-stop, left-as}
 
 -- ══ What was found, copied ══
 
@@ -86,7 +87,7 @@ module _ (look : Look ℕ) (o : tree.Open ℕ) (d d′ : List ℕ) (out : ℕ) w
       record { many = ap size (sym q); short = omega arith; buffer = h ∙ ap (λ (t : Ty ℕ). sets d (out * 4) (words (writeTy t))) (sym q) }
 
 -- the record of an open name
-pub open-rec : (o : names.Open) → recOf (view.Opened o) ∷ [] ≡ writeTy (opened (openOf o))
+pub open-rec : (o : names.Open) → recOf (view.Opened o) 1 ∷ [] ≡ writeTy (opened (openOf o))
 unfolding writeTy
 open-rec (names.the-variants.Var x) = refl
 open-rec (names.the-variants.Quant i) = refl
@@ -103,7 +104,7 @@ module _ (t : Tried) where
       let x = done t m (h .is) e in
       let s = h .sound (x .tree) (x .is) in
       let l = length-product (t .product) (s .0 .long) (s .0 .few) in
-      left-made (x .tree) (x .is) refl (omega (arith, ap length (s .1), l)) (b ∙ ap (λ (p : Tree). sets d (out * 4) (words (writeProduct p))) (sym (s .1)))
+      left-put (x .tree) (x .is) refl (omega (arith, ap length (s .1), l)) (short-product (x .tree) (omega (arith, ap length (s .1), l, s .0 .few))) (b ∙ ap (λ (p : Tree). sets d (out * 4) (words (writeProduct p))) (sym (s .1)))
 
   pub put-stop : {d d′ : List ℕ} {next out : ℕ} (m : Got Tree) (k : Refusal) → Ready t m → t .checked ≡ Because k → ProductPut d d′ next out (Stop k) m
   put-stop m k h e = left-stop (told-stop t m k (h .is) e)
@@ -138,13 +139,13 @@ module _ (pool table : List ℕ) where
         → DimReplaced pool table look f d d′ next out (To next (out + (j - i))) p
     unfolding replaceDim
     dim-bound q k h =
-        left-made (k .type) (rw (alone-is q, k .is)) refl (ap (out +_) (k .long)) (h ∙ ap (sets d (out * 4)) (k .holds))
+        left-put (k .type) (rw (alone-is q, k .is)) refl (ap (out +_) (k .long)) (short-ty (k .type) (omega (arith, k .few, k .long))) (h ∙ ap (sets d (out * 4)) (k .holds))
 
     pub dim-kept : {o : names.Open} {n : ℕ} → a ≡ Of o → look (openOf o) ≡ none → length p ≡ n → d′ ≡ sets d (out * 4) (words (writeProduct (productOf P)))
         → DimReplaced pool table look f d d′ next out (To next (out + 1 + n)) p
     unfolding replaceDim size writeTy
     dim-kept q k l h =
-        left-made (dim p) (rw (alone-is q, k)) refl (omega (arith, l)) (h ∙ ap (λ (x : Tree). sets d (out * 4) (words (writeProduct x))) (sym (taken pool table P p w .is)))
+        left-put (dim p) (rw (alone-is q, k)) refl (omega (arith, l)) (short-product p (omega (arith, good-product (well.names pool table) (law pool table) (isHeld (tableOf pool table)) 4_294_967_296 p (w .good) .few))) (h ∙ ap (λ (x : Tree). sets d (out * 4) (words (writeProduct x))) (sym (taken pool table P p w .is)))
 
     pub dim-replaced : {r : Went} → a ≡ Not → ProductReplaced pool table look d d′ next out r p → DimReplaced pool table look f d d′ next out r p
     unfolding replaceDim size writeTy

@@ -14,6 +14,7 @@ use Rattle.rules.specs.Writing.{Rec, words, writeProduct, writeTy, writeTys, wr
 use Rattle.products.specs.Told.{Tree, told, answer, productOf}
 use Rattle.products.specs.Held.{Sound}
 use Rattle.products.specs.declared.Tried.{Tried}
+use Rattle.records.specs.Cut.{fit, cut}
 use Rattle.records.specs.Views.{recOf}
 use Rattle.records.specs.Holds.{HoldsTys, HoldsFields}
 use Rattle.records.specs.declared.View.{View}
@@ -33,9 +34,9 @@ Stops (To q o) k = ⊥
 Stops (Stop r) k = numberOf r ≡ k
 
 -- what a step leaves. A value: its records, m of them, stand in d from the place `out` on, as far as d goes, and the next source place is `next`.
--- A refusal: its number, and nothing is said of the buffer
+-- A length that doesn't fit a word is left out: such a list is refused by whoever asked. A refusal: its number, and nothing is said of the buffer
 abbrev pub LeftOf : {A : Type 0} (m : A → ℕ) (ws : A → List Rec) → List ℕ → List ℕ → ℕ → ℕ → Went → Got A → Type 0
-LeftOf m ws d d′ next out r (got a) = (r ≡ To next (out + m a)) × (d′ ≡ sets d (out * 4) (words (ws a)))
+LeftOf m ws d d′ next out r (got a) = (r ≡ To next (out + m a)) × (d′ ≡ sets d (out * 4) (words (cut (ws a))))
 LeftOf m ws d d′ next out r (refused k) = Stops r k
 
 -- the same under a name that doesn't compute, so that a lemma's arguments are read off it
@@ -92,9 +93,19 @@ abbrev pub headOf : Bool → ℕ
 headOf true = 1
 headOf false = 0
 
-abbrev pub headRecs : Bool → View → List Rec
-headRecs true v = recOf v ∷ []
-headRecs false v = []
+abbrev pub headRecs : Bool → View → ℕ → List Rec
+headRecs true v n = recOf v n ∷ []
+headRecs false v n = []
+
+-- a walk that went on went past the record before
+abbrev pub Behind : Went → ℕ → Type 0
+Behind (To q o) out = out ≤ o
+Behind (Stop k) out = Unit {0}
+
+-- the record v before what a walk wrote, as long as that goes; none where it stopped
+abbrev pub beforeRecs : Went → View → ℕ → List Rec
+beforeRecs (To q o) v out = recOf v (fit (o - out)) ∷ []
+beforeRecs (Stop k) v out = []
 
 module _ (pool table : List ℕ) where
   abbrev pub GoodRow : Row → Type 0

@@ -1,18 +1,22 @@
--- A set of constraints, and a list of bindings, as lines. Assumes nothing.
-use mathlib.Core.Path.{_≡_, refl, sym, ap, ap₂, subst}
+-- A set of constraints, and a list of bindings, as lines; what is left in a buffer where it is short. Assumes nothing.
+use mathlib.Core.Path.{_≡_, refl, sym, ap, ap₂, subst, _∙_}
 use mathlib.Core.Bool.{true, and-eq-true-iff}
 use mathlib.Core.List.{List, [], _∷_, _++_, map}
-use Prim.Native.Nat.{ℕ, _+_}
+use Prim.Native.Nat.{ℕ, _+_, _*_, _≤_}
 use native.Mathlib.Omega.{arith}
+use lib.Seq.{sets}
 use Rattle.rules.specs.Base.{Got, got, refused, _>>=_, bounded, all, each, collect, sumOf}
 use Rattle.rules.specs.Names.{tableOf, isHeld}
 use Rattle.rules.specs.Replacing.{Look, replaceCon, replaceBinding}
-use Rattle.rules.specs.Trees.{Con, Binding, sizeCon, sizeBinding}
+use Rattle.rules.specs.Trees.{Ty, Con, Binding, size, sizeCon, sizeBinding}
 use Rattle.rules.specs.WellFormed.{goodCon, goodBinding}
-use Rattle.rules.specs.Writing.{Rec, writeCon, writeBinding}
+use Rattle.rules.specs.Writing.{Rec, words, writeTy, writeCon, writeBinding}
+use Rattle.records.specs.Cut.{cut, short-ty, short-con, short-binding, short-all}
 use Rattle.records.specs.Holds.{HoldsCon, HoldsBinding}
 use Rattle.replacing.specs.Runs.{HoldsAll}
 use Rattle.replacing.specs.Well.{names}
+use Rattle.replacing.specs.declared.inner.walk.Went.{Went}
+use Rattle.replacing.specs.Left.{Left}
 use Rattle.replacing.specs.LineRules.{Line, con, binding, sizeLine, writeLine, HoldsLine, EachGood, HeldLines, replaceLine}
 
 -- what holds of all lines of one kind
@@ -104,3 +108,26 @@ module _ (pool table s : List ℕ) where
   lines-join (x ∷ xs) ys at m e a b =
       let h = lines-join xs ys (at + sizeLine x) m e (record { held = a .held .1; good = a .good .1; ends = omega (arith, a .ends) }) b in
       record { held = (a .held .0, h .held); good = (a .good .0, h .good); ends = omega (arith, h .ends) }
+
+-- ══ What is left, where its lengths fit ══
+
+-- a value of at most 65,535 records stands as the rules write it
+module _ {A : Type 0} {m : A → ℕ} {ws : A → List Rec} (short : (a : A) → m a ≤ 65_535 → cut (ws a) ≡ ws a) {d d′ : List ℕ} {next out : ℕ} {r : Went} where
+  pub left-short : (R : Got A) → Left m ws d d′ next out r R → (a : A) → R ≡ got a → m a ≤ 65_535 → d′ ≡ sets d (out * 4) (words (ws a))
+  left-short R l a e h =
+      let k = subst (Left m ws d d′ next out r) e l in
+      k .says .1 ∙ ap (λ (w : List Rec). sets d (out * 4) (words w)) (short a h)
+
+short-line : (x : Line) → sizeLine x ≤ 65_535 → cut (writeLine x) ≡ writeLine x
+short-line (con c) h = short-con c h
+short-line (binding x) h = short-binding x h
+
+pub short-lines : (xs : List Line) → sumOf sizeLine xs ≤ 65_535 → cut (collect writeLine xs) ≡ collect writeLine xs
+short-lines xs h = short-all sizeLine writeLine short-line xs h
+
+module _ {d d′ : List ℕ} {next out : ℕ} {r : Went} where
+  pub type-left : (R : Got (Ty ℕ)) → Left size writeTy d d′ next out r R → (t : Ty ℕ) → R ≡ got t → size t ≤ 65_535 → d′ ≡ sets d (out * 4) (words (writeTy t))
+  type-left R l t e h = left-short short-ty R l t e h
+
+  pub lines-left : (R : Got (List Line)) → Left (sumOf sizeLine) (collect writeLine) d d′ next out r R → (xs : List Line) → R ≡ got xs → sumOf sizeLine xs ≤ 65_535 → d′ ≡ sets d (out * 4) (words (collect writeLine xs))
+  lines-left R l xs e h = left-short short-lines R l xs e h

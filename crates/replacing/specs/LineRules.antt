@@ -1,17 +1,20 @@
--- Lines: constraints and bindings, one after another, and what replacing in them leaves. Assumes nothing: these are definitions, and that each line has its size in records, one or more.
-use mathlib.Core.Path.{_≡_}
-use mathlib.Core.List.{List}
+-- Lines: constraints and bindings, one after another, and what replacing in them leaves. Assumes nothing: these are definitions, and that each line has its size in records, one or more: its first, and its parts.
+use mathlib.Core.Path.{_≡_, refl}
+use mathlib.Core.List.{List, _∷_, _++_}
 use Prim.Native.Nat.{ℕ, _+_, _≤_}
 use native.Mathlib.Omega.{arith}
 use lib.ListN.{length}
 use Rattle.rules.specs.Base.{Got, got, _>>=_, bounded, each, collect, sumOf}
 use Rattle.rules.specs.Replacing.{Look, replaceProduct, replaceCon, replaceBinding}
-use Rattle.rules.specs.Trees.{Con, equal, isDim, isScalar, hasField, Binding, _≔_, sizeCon, sizeBinding}
-use Rattle.rules.specs.Writing.{Rec, writeProduct, writeCon, writeBinding}
+use Rattle.rules.specs.Trees.{Con, equal, isDim, isScalar, hasField, Binding, _≔_, size, sizeCon, sizeBinding}
+use Rattle.rules.specs.Writing.{Rec, writeProduct, writeTy, writeCon, writeBinding}
 use Rattle.laws.specs.Lists.{Every}
 use Rattle.laws.specs.Size.{size-con, size-binding}
 use Rattle.products.specs.Told.{Tree}
+use Rattle.records.specs.Views.{recOf}
 use Rattle.records.specs.Holds.{HoldsProduct, HoldsCon, HoldsBinding}
+use Rattle.records.specs.declared.View.{View}
+use Rattle.records.specs.declared.View.the-variants as view
 use Rattle.replacing.specs.Runs.{HoldsAll}
 use Rattle.replacing.specs.declared.inner.walk.Went.{Went}
 use Rattle.replacing.specs.Well.{names, GoodProduct, GoodCon, GoodBinding, Lent}
@@ -41,6 +44,44 @@ line-some (con (isDim t)) = omega arith
 line-some (con (isScalar p)) = omega arith
 line-some (con (hasField n l r)) = omega arith
 line-some (binding (x ≔ t)) = omega arith
+
+-- what the first record of a line says, and the records behind it
+abbrev pub headLine : Line → View
+headLine (con (equal l r)) = view.Equal
+headLine (con (isDim t)) = view.IsDim
+headLine (con (isScalar p)) = view.IsScalar
+headLine (con (hasField n l r)) = view.HasField n
+headLine (binding (x ≔ t)) = view.Binding x
+
+abbrev pub partsOf : Line → List Rec
+partsOf (con (equal l r)) = writeTy l ++ writeTy r
+partsOf (con (isDim t)) = writeTy t
+partsOf (con (isScalar p)) = writeProduct p
+partsOf (con (hasField n l r)) = writeTy l ++ writeTy r
+partsOf (binding (x ≔ t)) = writeTy t
+
+abbrev pub partsSize : Line → ℕ
+partsSize (con (equal l r)) = size l + size r
+partsSize (con (isDim t)) = size t
+partsSize (con (isScalar p)) = sizeProduct p
+partsSize (con (hasField n l r)) = size l + size r
+partsSize (binding (x ≔ t)) = size t
+
+pub parts-size : (x : Line) → sizeLine x ≡ 1 + partsSize x
+unfolding sizeCon size sizeBinding
+parts-size (con (equal l r)) = omega arith
+parts-size (con (isDim t)) = omega arith
+parts-size (con (isScalar p)) = omega arith
+parts-size (con (hasField n l r)) = omega arith
+parts-size (binding (x ≔ t)) = omega arith
+
+pub line-parts : (x : Line) → writeLine x ≡ recOf (headLine x) (sizeLine x) ∷ partsOf x
+unfolding writeCon writeBinding
+line-parts (con (equal l r)) = refl
+line-parts (con (isDim t)) = refl
+line-parts (con (isScalar p)) = refl
+line-parts (con (hasField n l r)) = refl
+line-parts (binding (x ≔ t)) = refl
 
 abbrev pub HoldsLine : List ℕ → Line → ℕ → Type 0
 HoldsLine s (con c) at = HoldsCon s c at
@@ -76,6 +117,11 @@ module _ (pool table : List ℕ) where
   abbrev pub ScalarReplaced : List ℕ → List ℕ → List ℕ → List ℕ → List ℕ → ℕ → ℕ → Went → Type 0
   ScalarReplaced s places v d d′ at out r =
       (p : Tree) (look : Look ℕ) → ScalarHeld s p at → Lent pool table places v look → Left sizeProduct writeProduct d d′ (at + sizeProduct p) out r (replaceProduct (names pool table) bounded look p)
+
+  -- the parts of a line, one record further on: the first record is written when their size is known
+  abbrev pub PartsReplaced : List ℕ → List ℕ → List ℕ → List ℕ → List ℕ → ℕ → ℕ → Went → Type 0
+  PartsReplaced s places v d d′ at out r =
+      (x : Line) (look : Look ℕ) → HeldLine s x at → Lent pool table places v look → Left partsSize partsOf d d′ (at + sizeLine x) (out + 1) r (replaceLine look x)
 
   abbrev pub LineReplaced : List ℕ → List ℕ → List ℕ → List ℕ → List ℕ → ℕ → ℕ → Went → Type 0
   LineReplaced s places v d d′ at out r =

@@ -12,17 +12,17 @@ use Rattle.rules.specs.Base.{all, collect, sumOf}
 use lib.IntN.{natAbs}
 use Rattle.rules.specs.Exponents.{frac, top, gcd, inRange, isZero, goodExp, goodStored}
 use Rattle.rules.specs.Names.{tableOf, isHeld}
-use Rattle.rules.specs.Trees.{free, base, _↑_, Product, Ty, opened, basic, dim, fn, struct, list, Tys, nil, cons, Fields, noFields, field, Con, equal, isDim, isScalar, hasField, Binding, _≔_, Names, size, orderAtom}
+use Rattle.rules.specs.Trees.{free, base, _↑_, Product, Ty, opened, basic, dim, fn, struct, list, Tys, nil, cons, Fields, noFields, field, Con, equal, isDim, isScalar, hasField, Binding, _≔_, Names, size, sizeCon, sizeBinding, orderAtom}
 use Rattle.rules.specs.WellFormed.{goodOpen, goodFactor, goodProduct, goodTy, goodTys, goodFields, goodCon, goodBinding, rising, atomOf, fieldNames}
-use Rattle.rules.specs.Writing.{Rec, rec, words, writeProduct, writeTy, writeCon, writeBinding}
+use Rattle.rules.specs.Writing.{Rec, words, writeProduct, writeTy, writeCon, writeBinding}
 use Rattle.laws.specs.Lists.{and-left as both-left, and-right as both-right}
 use Rattle.laws.specs.Reading.{FitsProduct, Fits, FitsTys, FitsFields}
 use Rattle.laws.specs.Size.{size-ty}
-use Rattle.records.specs.Views.{plain, viewOf, from}
-use Rattle.records.specs.Places.{first}
+use Rattle.records.specs.Views.{from}
 use Rattle.records.specs.Buffers.{stored}
 use Rattle.records.specs.Holds.{HoldsCon, HoldsBinding}
-use Rattle.records.specs.Held.{held, product-held, parted}
+use Rattle.records.specs.Held.{held, product-held, parted, shown}
+use Rattle.records.specs.declared.View.the-variants as view
 use Rattle.replacing.specs.Runs.{HoldsAll}
 use Rattle.replacing.specs.Well as well
 use Rattle.replacing.specs.LineRules.{Line, con, binding, sizeLine, writeLine, HoldsLine, GoodLine, EachGood, HeldLines, line-length}
@@ -80,29 +80,32 @@ module _ (pool table : List ℕ) where
   known′ = isHeld (tableOf pool table)
 
   module _ (s : List ℕ) where
+    abbrev fitting : (t : Ty ℕ) → goodTy (well.names pool table) known′ 4_294_967_296 t ≡ true → Fits t
+    fitting = ty-fits (well.names pool table) known′ 4_294_967_296
+
     con-held : (c : Con ℕ) (at : ℕ) (rest : List Rec) → well.GoodCon pool table c → from s at ≡ writeCon c ++ rest → HoldsCon s c at
-    unfolding HoldsCon writeCon goodCon viewOf plain all
+    unfolding HoldsCon writeCon goodCon
     con-held (equal l r) at rest g e =
-        let f = first s at (rec 20 0 0 0) ((writeTy l ++ writeTy r) ++ rest) e in
-        let (u, v) = parted s (writeTy l) (writeTy r) rest (at + 1) (size l) (size-ty l) (sym (f .rest)) in
-        (f .view, held s l (at + 1) (writeTy r ++ rest) (ty-fits (well.names pool table) known′ 4_294_967_296 l (both-left (goodTy _ _ _ l) (goodTy _ _ _ r) g)) u, held s r (at + 1 + size l) rest (ty-fits (well.names pool table) known′ 4_294_967_296 r (both-right (goodTy _ _ _ l) (goodTy _ _ _ r) g)) v)
+        let (x, y, z) = shown s at (sizeCon (equal l r)) view.Equal _ ((writeTy l ++ writeTy r) ++ rest) e refl tt in
+        let (u, v) = parted s (writeTy l) (writeTy r) rest (at + 1) (size l) (size-ty l) (sym z) in
+        (x, held s l (at + 1) (writeTy r ++ rest) (fitting l (both-left (goodTy _ _ _ l) (goodTy _ _ _ r) g)) u, held s r (at + 1 + size l) rest (fitting r (both-right (goodTy _ _ _ l) (goodTy _ _ _ r) g)) v, y)
     con-held (isDim t) at rest g e =
-        let f = first s at (rec 21 0 0 0) (writeTy t ++ rest) e in
-        (f .view, held s t (at + 1) rest (ty-fits (well.names pool table) known′ 4_294_967_296 t g) (sym (f .rest)))
+        let (x, y, z) = shown s at (sizeCon (isDim t)) view.IsDim _ (writeTy t ++ rest) e refl tt in
+        (x, held s t (at + 1) rest (fitting t g) (sym z), y)
     con-held (isScalar p) at rest g e =
-        let f = first s at (rec 22 0 0 0) (writeProduct p ++ rest) e in
-        (f .view, product-held s p (at + 1) rest (product-fits (well.names pool table) known′ 4_294_967_296 p g) (sym (f .rest)))
+        let (x, y, z) = shown s at (sizeCon (isScalar p)) view.IsScalar _ (writeProduct p ++ rest) e refl tt in
+        (x, product-held s p (at + 1) rest (product-fits (well.names pool table) known′ 4_294_967_296 p g) (sym z), y)
     con-held (hasField n l r) at rest g e =
-        let f = first s at (rec 23 n 0 0) ((writeTy l ++ writeTy r) ++ rest) e in
-        let (u, v) = parted s (writeTy l) (writeTy r) rest (at + 1) (size l) (size-ty l) (sym (f .rest)) in
+        let (x, y, z) = shown s at (sizeCon (hasField n l r)) (view.HasField n) _ ((writeTy l ++ writeTy r) ++ rest) e refl tt in
+        let (u, v) = parted s (writeTy l) (writeTy r) rest (at + 1) (size l) (size-ty l) (sym z) in
         let a = both-left (known′ n && goodTy _ _ _ l) (goodTy _ _ _ r) g in
-        (f .view, held s l (at + 1) (writeTy r ++ rest) (ty-fits (well.names pool table) known′ 4_294_967_296 l (both-right (known′ n) (goodTy _ _ _ l) a)) u, held s r (at + 1 + size l) rest (ty-fits (well.names pool table) known′ 4_294_967_296 r (both-right (known′ n && goodTy _ _ _ l) (goodTy _ _ _ r) g)) v)
+        (x, held s l (at + 1) (writeTy r ++ rest) (fitting l (both-right (known′ n) (goodTy _ _ _ l) a)) u, held s r (at + 1 + size l) rest (fitting r (both-right (known′ n && goodTy _ _ _ l) (goodTy _ _ _ r) g)) v, y)
 
     binding-held : (x : Binding ℕ) (at : ℕ) (rest : List Rec) → well.GoodBinding pool table x → from s at ≡ writeBinding x ++ rest → HoldsBinding s x at
-    unfolding HoldsBinding writeBinding goodBinding viewOf plain all
+    unfolding HoldsBinding writeBinding goodBinding
     binding-held (n ≔ t) at rest g e =
-        let f = first s at (rec 24 n 0 0) (writeTy t ++ rest) e in
-        (f .view, held s t (at + 1) rest (ty-fits (well.names pool table) known′ 4_294_967_296 t (both-right (known′ n) (goodTy _ _ _ t) g)) (sym (f .rest)))
+        let (x, y, z) = shown s at (sizeBinding (n ≔ t)) (view.Binding n) _ (writeTy t ++ rest) e refl tt in
+        (x, held s t (at + 1) rest (fitting t (both-right (known′ n) (goodTy _ _ _ t) g)) (sym z), y)
 
     line-held : (x : Line) (at : ℕ) (rest : List Rec) → GoodLine pool table x → from s at ≡ writeLine x ++ rest → HoldsLine s x at
     line-held (con c) at rest g e = con-held c at rest g e

@@ -22,6 +22,7 @@ use Rattle.laws.specs.Size.{size-ty}
 use Rattle.laws.specs.Sized.{sized-same, sized-small}
 use Rattle.products.specs.Held.{law}
 use Rattle.records.specs.Buffers.{stored, words-length}
+use Rattle.records.specs.Cut.{cut, short-ty}
 use Rattle.records.specs.Found.{Words32}
 use Rattle.records.specs.Good as records
 use Rattle.records.specs.Good.{numbers, holding}
@@ -33,7 +34,7 @@ use Rattle.replacing.specs.Flat.{depthLine, goodLine, PlainLines, state-limited
 use Rattle.replacing.specs.Given.{row, given-type, given-set, given-bindings}
 use Rattle.replacing.specs.Kept.{plain-kept, plain-written}
 use Rattle.replacing.specs.Left.{Left, Room}
-use Rattle.replacing.specs.LineLaws.{cons-each, lines-write}
+use Rattle.replacing.specs.LineLaws.{cons-each, lines-write, left-short, short-lines}
 use Rattle.replacing.specs.LineRules.{Line, con, sizeLine, writeLine, HeldLines, replaceLine}
 use Rattle.replacing.specs.Runs.{looked-good}
 use Rattle.replacing.specs.Well.{HeldType, Listed}
@@ -72,19 +73,20 @@ module _ {A : Type 0} (long deep : A → ℕ) (write : A → List Rec) (lengths 
   written a (got b) rs e = let z : write b ≡ rs = cc in (b, (refl, z))
   written a (refused k) rs e = clash e
 
-  module _ (d d′ : List ℕ) (nx : ℕ) (room : 16384 ≤ length d) where
+  -- a short value is written with its own lengths
+  module _ (short : (a : A) → long a ≤ 65_535 → cut (write a) ≡ write a) (d d′ : List ℕ) (nx : ℕ) (room : 16384 ≤ length d) where
     -- the walk came to its end
     pub record Came (R : Got A) (n : ℕ) : Type 0 where
       pub value : A
       pub is : R ≡ got value
       pub many : n ≡ long value
-      pub buffer : d′ ≡ sets d 0 (words (write value))
+      pub buffer : long value ≤ 2048 → d′ ≡ sets d 0 (words (write value))
 
     pub came : {x : Went} {q n : ℕ} (R : Got A) → x ≡ To q n → Left long write d d′ nx 0 x R → Came R n
     came {x} {q} {n} R i left = go R (subst (λ (y : Went). Left long write d d′ nx 0 y R) i left)
       where
         go : (R : Got A) → Left long write d d′ nx 0 (To q n) R → Came R n
-        go (got a) l = let p = l .says .0 in let m : n ≡ 0 + long a = cc in record { value = a; is = refl; many = omega (arith, m); buffer = l .says .1 }
+        go (got a) l = let p = l .says .0 in let m : n ≡ 0 + long a = cc in record { value = a; is = refl; many = omega (arith, m); buffer = λ h. left-short short (got a) l a refl (omega arith) }
         go (refused k) l = absurd (l .says)
 
     pub made-to : (R : Got A) (n : ℕ) (r : Answer) (c : Came R n) → told r ≡ counted long deep (c .value) → Made (limitedTo R) d′ r
@@ -93,7 +95,7 @@ module _ {A : Type 0} (long deep : A → ℕ) (write : A → List Rec) (lengths 
       front = λ rs e.
           let (b, (g, w)) = written a (sized bounded (long a) (deep a) a) rs (sym (ap limitedTo (c .is)) ∙ e) in
           let k : a ≡ b = sized-same (long a) (deep a) a bounded b g in
-          subst (λ (x : List Rec). Front x d′) (ap write k ∙ w) (front d d′ (write a) room (c .buffer) (let le = sized-small (long a) (deep a) a b g in omega (arith, lengths a)));
+          subst (λ (x : List Rec). Front x d′) (ap write k ∙ w) (let le = sized-small (long a) (deep a) a b g in front d d′ (write a) room (c .buffer le) (omega (arith, lengths a)));
     }
       where
         a : A
@@ -169,12 +171,12 @@ module _ (pool table : List ℕ) where
           laws.ty-kept (numbers pool table) (law pool table) (holding pool table) 0 (bindings (numbers pool table) bs)
           (λ o t q. looked-good (numbers pool table) (holding pool table) 0 bs o t (binds-good (n .two)) q) t (type-is pool table ws w t (n .one) .good) .holds u e
 
-      pub type-stands : (d d′ : List ℕ) (nx m : ℕ) (space : 16384 ≤ length d) → (c : Came size depth writeTy size-ty d d′ nx space (replaceTy (numbers pool table) bounded (bindings (numbers pool table) bs) t) m) → TypeStands pool table d′ m (c .value)
+      pub type-stands : (d d′ : List ℕ) (nx m : ℕ) (space : 16384 ≤ length d) → (c : Came size depth writeTy size-ty short-ty d d′ nx space (replaceTy (numbers pool table) bounded (bindings (numbers pool table) bs) t) m) → TypeStands pool table d′ m (c .value)
       type-stands d d′ nx m space c = record {
         many = c .many;
         held = λ le.
             let i = size-ty (c .value) in
-            held d′ (c .value) 0 (from d (0 + length (writeTy (c .value)))) (ty-fits (numbers pool table) (holding pool table) 0 (c .value) (type-kept (c .value) (c .is))) (ap (λ (x : List ℕ). from x 0) (c .buffer) ∙ stored d (writeTy (c .value)) 0 (omega arith));
+            held d′ (c .value) 0 (from d (0 + length (writeTy (c .value)))) (ty-fits (numbers pool table) (holding pool table) 0 (c .value) (type-kept (c .value) (c .is))) (ap (λ (x : List ℕ). from x 0) (c .buffer le) ∙ stored d (writeTy (c .value)) 0 (omega arith));
         good = type-kept (c .value) (c .is);
       }
 
@@ -194,8 +196,8 @@ module _ (pool table : List ℕ) where
           plain-kept pool table (bindings (numbers pool table) bs) (λ o t q. looked-good (numbers pool table) (holding pool table) 0 bs o t (binds-good (n .two)) q) (map con cs)
           (cons-good cs (row ws HoldsCon sizeCon (goodCon (numbers pool table) (holding pool table) 0) (records.GoodCon pool table 0 ws) (λ at a e g. (g .held, g .past, g .good)) (length ws / 4) 0 cs (set-is pool table ws w cs (n .one)) .right)) .holds xs e
 
-      pub lines-stand : (d d′ : List ℕ) (nx m : ℕ) (space : 16384 ≤ length d) → (c : Came (sumOf sizeLine) (maxOf depthLine) (collect writeLine) (all-length pool table) d d′ nx space (each (replaceLine pool table (bindings (numbers pool table) bs)) (map con cs)) m) → LinesStand pool table d′ m (c .value)
+      pub lines-stand : (d d′ : List ℕ) (nx m : ℕ) (space : 16384 ≤ length d) → (c : Came (sumOf sizeLine) (maxOf depthLine) (collect writeLine) (all-length pool table) short-lines d d′ nx space (each (replaceLine pool table (bindings (numbers pool table) bs)) (map con cs)) m) → LinesStand pool table d′ m (c .value)
       lines-stand d d′ nx m space c = record {
         many = c .many;
-        held = λ le. subst (PlainLines pool table d′ (c .value) 0) (omega (arith, c .many)) (plain-written pool table d d′ 0 (c .value) (set-kept (c .value) (c .is)) (c .buffer) (omega arith));
+        held = λ le. subst (PlainLines pool table d′ (c .value) 0) (omega (arith, c .many)) (plain-written pool table d d′ 0 (c .value) (set-kept (c .value) (c .is)) (c .buffer le) (omega arith));
       }

@@ -13,7 +13,7 @@ use Rattle.rules.specs.Replacing.{Look, bindings, replaceCon, replaceBinding}
 use Rattle.rules.specs.Rounds.{State, perform}
 use Rattle.rules.specs.Trees.{Open, Ty, Con, Binding, _≔_, size}
 use Rattle.rules.specs.WellFormed.{goodTy, goodBinding}
-use Rattle.rules.specs.Writing.{words}
+use Rattle.rules.specs.Writing.{Rec, words}
 use Rattle.rules.specs.declared.Refusal.{Refusal}
 use Rattle.laws.specs.Lists.{One, one-step, and-both, clash}
 use Rattle.laws.specs.NameTable.{Good}
@@ -22,7 +22,8 @@ use Rattle.records.specs.Good.{numbers, holding}
 use Rattle.replacing.specs.Flat.{goodLine, PlainLines, stateLines}
 use Rattle.replacing.specs.Kept.{plain-held, plain-written, plain-kept}
 use Rattle.replacing.specs.Left.{Left, Room}
-use Rattle.replacing.specs.LineLaws.{cons-each, bindings-each}
+use Rattle.replacing.specs.LineLaws.{cons-each, bindings-each, short-lines}
+use Rattle.records.specs.Cut.{cut}
 use Rattle.replacing.specs.LineRules.{Line, con, binding, sizeLine, writeLine, HeldLines, replaceLine}
 use Rattle.replacing.specs.Runs.{HoldsAll, looked-good, looked-short}
 use Rattle.replacing.specs.Well.{names, Listed, Lent}
@@ -40,7 +41,7 @@ pub record Came (R : Got (List Line)) (d d′ : List ℕ) (out o : ℕ) : Type 0
   pub lines : List Line
   pub is : R ≡ got lines
   pub many : o ≡ out + sumOf sizeLine lines
-  pub buffer : d′ ≡ sets d (out * 4) (words (collect writeLine lines))
+  pub buffer : d′ ≡ sets d (out * 4) (words (cut (collect writeLine lines)))
 
 module _ {d d′ : List ℕ} {nx out : ℕ} {r : Went} (R : Got (List Line)) (left : Left (sumOf sizeLine) (collect writeLine) d d′ nx out r R) where
   pub came : {q o : ℕ} → r ≡ To q o → Came R d d′ out o
@@ -158,12 +159,12 @@ module _ (pool table next : List ℕ) (b q m : ℕ) (cs : List (Con ℕ)) (x : �
       rebinds-is = rw (new-cons .gave, new-binds .gave)
 
       module _ (w w₁ w₂ w₃ : List ℕ) (n o : ℕ) (space : 8192 ≤ length w) (wide : 8192 ≤ length next) (i : n ≡ 0 + sumOf sizeLine ys) (j : o ≡ n + sumOf sizeLine zs)
-          (e₁ : w₁ ≡ sets w 0 (words (collect writeLine ys))) (e₂ : w₂ ≡ sets w₁ (n * 4) (words (collect writeLine zs))) (e₃ : w₃ ≡ sets w₂ (o * 4) (slice (b * 4) (q * 4) next)) where
+          (e₁ : w₁ ≡ sets w 0 (words (cut (collect writeLine ys)))) (e₂ : w₂ ≡ sets w₁ (n * 4) (words (cut (collect writeLine zs)))) (e₃ : w₃ ≡ sets w₂ (o * 4) (slice (b * 4) (q * 4) next)) where
         n₁ : length w₁ ≡ length w
-        n₁ = ap length e₁ ∙ length-sets w 0 (words (collect writeLine ys))
+        n₁ = ap length e₁ ∙ length-sets w 0 (words (cut (collect writeLine ys)))
 
         n₂ : length w₂ ≡ length w
-        n₂ = ap length e₂ ∙ length-sets w₁ (n * 4) (words (collect writeLine zs)) ∙ n₁
+        n₂ = ap length e₂ ∙ length-sets w₁ (n * 4) (words (cut (collect writeLine zs))) ∙ n₁
 
         all-long : o + (q - b) ≡ sumOf sizeLine (stateLines rebound)
         all-long =
@@ -178,11 +179,13 @@ module _ (pool table next : List ℕ) (b q m : ℕ) (cs : List (Con ℕ)) (x : �
           lines = record {
             many = all-long;
             held = λ k.
-                let c₁ = plain-written pool table w w₁ 0 ys (plain-kept pool table look bound-good (map con cs) (h .cons .good) .holds ys e) e₁ (omega arith) in
+                let y₁ : w₁ ≡ sets w 0 (words (collect writeLine ys)) = e₁ ∙ ap (λ (l : List Rec). sets w 0 (words l)) (short-lines ys (omega arith)) in
+                let y₂ : w₂ ≡ sets w₁ (n * 4) (words (collect writeLine zs)) = e₂ ∙ ap (λ (l : List Rec). sets w₁ (n * 4) (words l)) (short-lines zs (omega arith)) in
+                let c₁ = plain-written pool table w w₁ 0 ys (plain-kept pool table look bound-good (map con cs) (h .cons .good) .holds ys e) y₁ (omega arith) in
                 let c₁′ : PlainLines pool table w₁ ys 0 n = rw (← i) at c₁ in
-                let c₂ = kept-before pool table w₁ w₂ n (words (collect writeLine zs)) e₂ ys 0 n c₁′ (omega (arith, n₁)) (omega arith) in
+                let c₂ = kept-before pool table w₁ w₂ n (words (collect writeLine zs)) y₂ ys 0 n c₁′ (omega (arith, n₁)) (omega arith) in
                 let c₃ = kept-before pool table w₂ w₃ o (slice (b * 4) (q * 4) next) e₃ ys 0 n c₂ (omega (arith, n₂)) (omega arith) in
-                let b₂ = plain-written pool table w₁ w₂ n zs (plain-kept pool table look bound-good (map binding bs) (h .binds .good) .holds zs f) e₂ (omega (arith, n₁)) in
+                let b₂ = plain-written pool table w₁ w₂ n zs (plain-kept pool table look bound-good (map binding bs) (h .binds .good) .holds zs f) y₂ (omega (arith, n₁)) in
                 let b₂′ : PlainLines pool table w₂ zs n o = rw (← j) at b₂ in
                 let b₃ = kept-before pool table w₂ w₃ o (slice (b * 4) (q * 4) next) e₃ zs n o b₂′ (omega (arith, n₂)) (omega arith) in
                 let x₃ = copied pool table next w₂ w₃ (map binding one) b q o (h .new) (omega (arith, in-order, h .short)) (omega (arith, n₂)) e₃ in

@@ -1,9 +1,7 @@
 // One round on constraints and bindings that stand one after another in a buffer.
 use places::inner::fill;
-use queries::inner::end_of;
-use records::View;
 use records::inner::copy;
-use records::seen::view_at;
+use records::seen::length_at;
 use replacing::inner::flat::lines_flat;
 use replacing::inner::lines::replace_lines;
 use replacing::inner::walk::Went;
@@ -40,13 +38,7 @@ pub fn con_end(s: &[u32], at: usize) -> usize
     requires { ⌜ ((c : Con ℕ) × HoldsCon (now s) c at) ⌝ }
     ensures { λ r. ⌜ ((c : Con ℕ) → HoldsCon (now (s .entry)) c at → r ≡ at + sizeCon c) ⌝ }
 {
-    match view_at(s, at) {
-        View::Equal => end_of(s, end_of(s, at + 1)),
-        View::IsDim => end_of(s, at + 1),
-        View::IsScalar => end_of(s, at + 1),
-        View::HasField(_) => end_of(s, end_of(s, at + 1)),
-        _ => at,
-    }
+    at + length_at(s, at)
 }
 
 // Copies the constraints beside the one from `at` up to e, and from q on the bindings.
@@ -251,9 +243,9 @@ fn take_turn(
     requires { ⌜ Good (now pool) (now table) ⌝ }
     requires { ⌜ ((st : State ℕ) × StateHeld (now pool) (now table) (now work) n m st) ⌝ }
     requires { ⌜ 8192 ≤ length (now work) ⌝ }
-    requires { ⌜ length (now work) ≤ 1000000 ⌝ }
+    requires { ⌜ length (now work) ≤ 100000 ⌝ }
     requires { ⌜ 8192 ≤ length (now next) ⌝ }
-    requires { ⌜ length (now next) ≤ 1000000 ⌝ }
+    requires { ⌜ length (now next) ≤ 100000 ⌝ }
     ensures { λ r. ⌜ ((st : State ℕ) → StateHeld (now (pool .entry)) (now (table .entry)) (now (work .entry)) n m st → Turned (now (pool .entry)) (now (table .entry)) (now (work .entry)) (now (work .exit)) r (round (numbers (now (pool .entry)) (now (table .entry))) bounded st)) ⌝ }
 {
     let mut at = 0;

@@ -12,6 +12,7 @@ use Rattle.rules.specs.Base.{Got, got, refused, isYes, list-dec, all, co
 use Rattle.rules.specs.Trees.{Binding, _≔_}
 use Rattle.rules.specs.Names.{tableOf}
 use Rattle.rules.specs.Writing.{Rec, rec, words, writeTy}
+use Rattle.rules.specs.Lengths.{sizedWords, counting}
 use Rattle.rules.specs.Adding.{Added, violated, unknown, Added-discrete}
 use Rattle.rules.specs.Solving.{Answer, accepted, remaining, stopped}
 use Rattle.rules.specs.Calls.{Solved, solved, unsolved, refusedAfter, Solution, solvedSet, solveCall, AddedTo, addCall, Entry, judgeCall}
@@ -127,7 +128,7 @@ typeOf (v ≔ t) = writeTy t
 -- the judge on the solver's own answer: refused where there is none
 judgedBy : List Rec → Got (Answer ℕ) → Got Bool
 judgedBy s (refused n) = refused n
-judgedBy s (got (accepted bs ns k)) = judgeCall pool table (words s) (entriesFrom 0 bs) (words (collect typeOf bs)) (collect (λ n. words (rec 25 n 0 0 ∷ [])) ns) work .answer
+judgedBy s (got (accepted bs ns k)) = judgeCall pool table (sizedWords s) (entriesFrom 0 bs) (words (collect typeOf bs)) (collect (λ n. sizedWords (rec 25 n 0 0 ∷ [])) ns) work .answer
 judgedBy s (got (remaining cs k)) = refused 5
 judgedBy s (got (stopped n k)) = refused n
 
@@ -143,18 +144,18 @@ addedAs : List Rec → Got Added → AddedTo → Bool
 addedAs s e r = go e (r .answer)
   where
     go : Got Added → Got (Added × ℕ) → Bool
-    go (got v) (got w) = isYes (Added-discrete v (w .0)) && eqb (w .1) (length s) && sameWords (r .buffer) (words s ++ drop (length (words s)) result)
+    go (got v) (got w) = isYes (Added-discrete v (w .0)) && eqb (w .1) (length s) && sameWords (r .buffer) (sizedWords s ++ drop (length (sizedWords s)) result)
     go (got v) (refused m) = false
     go (refused n) (got w) = false
     go (refused n) (refused m) = eqb n m && sameWords (r .buffer) result
 
 -- what adding leaves; answer, result buffer (the records, then what was there), work buffer (zero), and the judge's verdict
 pub agrees : Example → Bool
-agrees e = addedAs (e .set) (e .added) (addCall pool table result 0 (words (e .set))) && same (solveCall pool table (words (e .set)) result work) && agreed (e .judged) (judgedBy (e .set) (solvedSet (tableOf pool table) (words (e .set))))
+agrees e = addedAs (e .set) (e .added) (addCall pool table result 0 (sizedWords (e .set))) && same (solveCall pool table (sizedWords (e .set)) result work) && agreed (e .judged) (judgedBy (e .set) (solvedSet (tableOf pool table) (sizedWords (e .set))))
   where
     same : Solution → Bool
-    same s = sameSolved (s .answer) (e .answer) && sameWords (s .result) (words (e .records) ++ drop (length (words (e .records))) result) && all (eqb 0) (s .work) && eqb (length (s .work)) 16384
+    same s = sameSolved (s .answer) (e .answer) && sameWords (s .result) (sizedWords (e .records) ++ drop (length (sizedWords (e .records))) result) && all (eqb 0) (s .work) && eqb (length (s .work)) 16384
 
 pub K1-to-K13 : all agrees examples ≡ true
-unfolding rules pool table result work examples sameSolved sameWords entriesFrom typeOf judgedBy agreed addedAs agrees
+unfolding rules counting pool table result work examples sameSolved sameWords entriesFrom typeOf judgedBy agreed addedAs agrees
 K1-to-K13 = refl

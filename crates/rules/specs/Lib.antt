@@ -25,6 +25,7 @@ pub mod Ceiling
 pub mod Numbers
 pub mod Offices
 pub mod Rules
+pub mod Lengths
 pub mod Examples
 pub mod CasesOfValues
 pub mod CasesOfLists

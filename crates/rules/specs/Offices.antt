@@ -15,7 +15,7 @@ use Rattle.rules.specs.Trees.{struct, list, Tys, nil, cons, Fields, noFi
 use Rattle.rules.specs.Names.{Bytes, orderBytes, Table, tableOf, namesOf, isHeld, nameAsked, enter}
 use Rattle.rules.specs.Schemes.{Scheme, concrete, scheme}
 use Rattle.rules.specs.Values.{FactorValue, ProductValue, productIn, multiplyCall, divideCall, inverseCall, raiseCall}
-use Rattle.rules.specs.Writing.{Rec, rec, words}
+use Rattle.rules.specs.Writing.{Rec, rec, kindIn, words}
 use Rattle.rules.specs.Adding.{Added, satisfied, violated, unknown}
 use Rattle.rules.specs.Solving.{Answer, accepted, remaining, stopped}
 use Rattle.rules.specs.Calls.{Written, Listed, Solved, solved, unsolved, refusedAfter, Solution, AddedTo, Entry, setCall, typeCall, schemeCall}
@@ -130,10 +130,10 @@ wordIf false t a = number a
 -- 'read back with names in place of numbers': record by record; words that are no whole record stay numbers
 unfoldable pub readBack : Table → List ℕ → List Word
 readBack t [] = []
-readBack t (k ∷ []) = number k ∷ []
-readBack t (k ∷ a ∷ []) = number k ∷ number a ∷ []
-readBack t (k ∷ a ∷ b ∷ []) = number k ∷ number a ∷ number b ∷ []
-readBack t (k ∷ a ∷ b ∷ c ∷ ws) = number k ∷ wordIf (namesOne k b) t a ∷ number b ∷ number c ∷ readBack t ws
+readBack t (w ∷ []) = number w ∷ []
+readBack t (w ∷ a ∷ []) = number w ∷ number a ∷ []
+readBack t (w ∷ a ∷ b ∷ []) = number w ∷ number a ∷ number b ∷ []
+readBack t (w ∷ a ∷ b ∷ c ∷ ws) = number w ∷ wordIf (namesOne (kindIn w) b) t a ∷ number b ∷ number c ∷ readBack t ws
 
 -- two lists, each over its own table, that read alike; and numbers of names that do
 pub record ReadAlike (t t′ : Table) (ws ws′ : List ℕ) : Type 0 where
@@ -348,14 +348,14 @@ given as′ = collect givenNumber as′
 -- a list that an office writes with its numbers: where a draft has 0, 1, .. at the place of a name, it writes the first, second, .. number that it
 -- was given. All other words it writes as it likes, also behind the last whole record
 unfoldable pub fill : List ℕ → Rec → Rec
-fill ns (rec k a b c) = elim (namesOne k b) [ true ↦ rec k (getD ns a 0) b c | false ↦ rec k a b c ]
+fill ns (rec w a b c) = elim (namesOne (kindIn w) b) [ true ↦ rec w (getD ns a 0) b c | false ↦ rec w a b c ]
 
 unfoldable pub written : List ℕ → List Rec → List ℕ → List ℕ
 written ns draft rest = words (map (fill ns) draft) ++ rest
 
 -- a draft that names only the first n numbers
 unfoldable pub ownRec : ℕ → Rec → Bool
-ownRec n (rec k a b c) = elim (namesOne k b) [ true ↦ ltb a n | false ↦ true ]
+ownRec n (rec w a b c) = elim (namesOne (kindIn w) b) [ true ↦ ltb a n | false ↦ true ]
 
 unfoldable pub own : ℕ → List Rec → Bool
 own n draft = all (ownRec n) draft

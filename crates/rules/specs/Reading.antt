@@ -1,16 +1,16 @@
 -- Document 01, 'Records': how records are read back as trees. A type nested over the limit isn't read.
 -- Assumes nothing.
-use mathlib.Core.Bool.{true, false}
+use mathlib.Core.Bool.{Bool, true, false}
 use mathlib.Core.List.{List, [], _∷_}
 use mathlib.Core.Option.{Option, none, some}
-use Prim.Native.Nat.{ℕ, zero, suc}
+use Prim.Native.Nat.{ℕ, zero, suc, _+_}
 use lib.Dec.{eqb}
 use lib.ListN.{length}
 use Rattle.rules.specs.Base.{all, andThen}
 use Rattle.rules.specs.Exponents.{frac}
 use Rattle.rules.specs.Trees.{Open, var, quant, par, free, base, Factor, _↑_, Product, Ty, opened, basic, dim, fn, struct, list, Tys, nil, cons, Fields, noFields, field, Con, equal, isDim, isScalar, hasField, Binding, _≔_, boolean, string, datetime}
 use Rattle.rules.specs.Schemes.{Scheme, concrete, scheme}
-use Rattle.rules.specs.Writing.{Rec, rec, signed}
+use Rattle.rules.specs.Writing.{Rec, rec, kindIn, lengthIn, signed}
 
 -- what was read, and what is left; none where the records are not of that form
 abbrev pub Reader : Type 0 → Type 0
@@ -36,9 +36,19 @@ abbrev pub pick : {A : Type 0} → ℕ → List (ℕ × Reader A) → Reader A
 pick k [] = λ s. none
 pick k (x ∷ xs) = elim (eqb k (x .0)) [ true ↦ x .1 | false ↦ pick k xs ]
 
+abbrev pub ifSo : {A : Type 0} → Bool → Option A → Option A
+ifSo true o = o
+ifSo false o = none
+
+-- W-206: of m records, a part that says to be n long was read, and takes n
+abbrev pub lasting : {A : Type 0} → ℕ → ℕ → Option (A × List Rec) → Option (A × List Rec)
+lasting n m none = none
+lasting n m (some r) = ifSo (eqb (n + length (r .1)) m) (some r)
+
+-- a part, by the kind, a, b, c of its first record; 'a list with a false length isn't well formed'
 abbrev pub next : {A : Type 0} → (ℕ → ℕ → ℕ → ℕ → Reader A) → Reader A
 next f [] = none
-next f (rec k a b c ∷ rs) = f k a b c rs
+next f (rec w a b c ∷ rs) = lasting (lengthIn w) (suc (length rs)) (f (kindIn w) a b c rs)
 
 abbrev pub factorTable : ℕ → ℕ → ℕ → List (ℕ × Reader (Factor ℕ))
 factorTable a b c =
@@ -65,16 +75,22 @@ readTys ty (suc n) = do
   ts ← readTys ty n
   give (cons t ts)
 
-abbrev pub fieldName : ℕ → ℕ → ℕ → ℕ → Reader ℕ
-fieldName k a b c = pick k ((9, unused (b ∷ c ∷ []) (give a)) ∷ [])
+-- a field: its name, and its type behind it
+abbrev pub readField : Reader (Ty ℕ) → ℕ → Reader (ℕ × Ty ℕ)
+readField ty x = ty >>= λ t. give (x, t)
+
+abbrev pub fieldTable : Reader (Ty ℕ) → ℕ → ℕ → ℕ → List (ℕ × Reader (ℕ × Ty ℕ))
+fieldTable ty a b c = (9, unused (b ∷ c ∷ []) (readField ty a)) ∷ []
+
+abbrev pub fieldKinds : Reader (Ty ℕ) → ℕ → ℕ → ℕ → ℕ → Reader (ℕ × Ty ℕ)
+fieldKinds ty k a b c = pick k (fieldTable ty a b c)
 
 unfoldable pub readFields : Reader (Ty ℕ) → ℕ → Reader (Fields ℕ)
 readFields ty zero = give noFields
 readFields ty (suc n) = do
-  x ← next fieldName
-  t ← ty
+  f ← next (fieldKinds ty)
   fs ← readFields ty n
-  give (field x t fs)
+  give (field (f .0) (f .1) fs)
 
 abbrev pub readDim : ℕ → Reader (Ty ℕ)
 readDim n = readFactors n >>= λ p. give (dim p)
@@ -188,17 +204,20 @@ readAll r (suc n) (x ∷ xs) = elim (r (x ∷ xs)) [
 
 unfoldable pub records : List ℕ → Option (List Rec)
 records [] = some []
-records (k ∷ []) = none
-records (k ∷ a ∷ []) = none
-records (k ∷ a ∷ b ∷ []) = none
-records (k ∷ a ∷ b ∷ c ∷ ws) = elim (records ws) [ none ↦ none | some rs ↦ some (rec k a b c ∷ rs) ]
+records (w ∷ []) = none
+records (w ∷ a ∷ []) = none
+records (w ∷ a ∷ b ∷ []) = none
+records (w ∷ a ∷ b ∷ c ∷ ws) = elim (records ws) [ none ↦ none | some rs ↦ some (rec w a b c ∷ rs) ]
 
--- a scheme takes all records: its type, then its bounds
+-- a scheme takes all records: its type, then its bounds; so its length is that of the list
 unfoldable pub schemeOf : List Rec → Option (Scheme ℕ)
 schemeOf [] = none
-schemeOf (rec k n b c ∷ rs) = andThen (pick k ((26, unused (c ∷ []) (pick b ((0, readTy 64 >>= λ t. give (scheme n t [])) ∷ (1, unused (n ∷ []) (readTy 64 >>= λ t. give (concrete t))) ∷ []))) ∷ []) rs) (λ r.
-    andThen (readAll readBound (length (r .1)) (r .1)) (λ bs. withBounds (r .0) bs))
+schemeOf (rec w n b c ∷ rs) = ifSo (eqb (lengthIn w) (suc (length rs))) (andThen (pick (kindIn w) (schemeTable n b c) rs) (λ r.
+    andThen (readAll readBound (length (r .1)) (r .1)) (λ bs. withBounds (r .0) bs)))
   where
+    schemeTable : ℕ → ℕ → ℕ → List (ℕ × Reader (Scheme ℕ))
+    schemeTable n b c = (26, unused (c ∷ []) (pick b ((0, readTy 64 >>= λ t. give (scheme n t [])) ∷ (1, unused (n ∷ []) (readTy 64 >>= λ t. give (concrete t))) ∷ []))) ∷ []
+
     withBounds : Scheme ℕ → List (Open ℕ) → Option (Scheme ℕ)
     withBounds (scheme n t os) bs = some (scheme n t bs)
     withBounds (concrete t) [] = some (concrete t)

@@ -19,7 +19,7 @@ use Rattle.rules.specs.Trees as tree
 use Rattle.rules.specs.Trees.{var, Names, Product, Ty, opened, basic, dim, fn, struct, list, Tys, Fields, Con, equal, isScalar, size, sizeCon, count, sizeTys}
 use Rattle.rules.specs.Views.{productOf, fnOf, structOf, listOf, variable, asVar}
 use Rattle.rules.specs.WellFormed.{goodTy}
-use Rattle.rules.specs.Writing.{rec, words, twos, writeFactor, writeProduct, writeTy, writeCon}
+use Rattle.rules.specs.Writing.{Rec, rec, head, words, twos, writeFactor, writeProduct, writeTy, writeCon}
 use Rattle.laws.specs.GoodProducts.{divide-good}
 use Rattle.products.specs.Told.{Tree, told, answer, productOf as treeIn}
 use Rattle.products.specs.Held.{law, Well}
@@ -27,7 +27,8 @@ use Rattle.products.specs.Places.{length-product}
 use Rattle.products.specs.declared.Product as code
 use Rattle.products.specs.declared.Tried as tried
 use Rattle.names.specs.declared.Checked.the-variants.{Good as Well′, Refused as Because}
-use Rattle.records.specs.Views.{viewAt}
+use Rattle.records.specs.Cut.{fit}
+use Rattle.records.specs.Views.{viewAt, recOf}
 use Rattle.records.specs.Holds.{HoldsFactors, Holds, HoldsTys}
 use Rattle.records.specs.ByView.{by-view}
 use Rattle.records.specs.declared.Open as names
@@ -45,7 +46,7 @@ use Rattle.satisfying.specs.Parts.{named, Fits, Put, Wrote, Tried, Tried
 use Rattle.satisfying.specs.Stepped.{Stepped}
 use Rattle.satisfying.specs.declared.Step.{Step}
 use Rattle.satisfying.specs.declared.Step.the-variants.{Split, Stuck, Refused}
-use Rattle.satisfying.proofs.Laws.{put-one, put-on, put-as, elsewhere, tried-none}
+use Rattle.satisfying.proofs.Laws.{put-one, headed, put-on, put-as, elsewhere, tried-none}
 
 -- ══ Steps ══
 
@@ -164,18 +165,20 @@ pub products-none : {d : List ℕ} {out : ℕ} (x : Name) (p : Product ℕ) → 
 unfolding asProducts
 products-none x p e = step-stuck (ap (λ (x : Name). got (asProducts (named x) p)) e)
 
-pub products-put : {d d₁ d₂ d₃ d₄ : List ℕ} {out r y : ℕ} (x : Name) (p : Product ℕ) → x ≡ Of y
-    → d₁ ≡ sets d (out * 4) (words (rec 20 0 0 0 ∷ [])) → d₂ ≡ sets d₁ ((out + 1) * 4) (words (rec 3 1 0 0 ∷ [])) → d₃ ≡ sets d₂ ((out + 2) * 4) (words (rec 11 y 1 1 ∷ []))
+pub products-put : {d d₁ d₂ d₃ d₄ : List ℕ} {out r y : ℕ} (x : Name) (p : Product ℕ) → x ≡ Of y → (n : ℕ) → n ≡ suc (2 + size (dim p)) → n ≤ 65_535
+    → d₁ ≡ sets d (out * 4) (words (recOf view.Equal (fit n) ∷ [])) → d₂ ≡ sets d₁ ((out + 1) * 4) (words (recOf (view.Dim 1) (fit 2) ∷ [])) → d₃ ≡ sets d₂ ((out + 2) * 4) (words (rec (head 11 1) y 1 1 ∷ []))
     → Put d₃ d₄ (out + 3) r (size (dim p)) (writeTy (dim p)) → Stepped d d₄ out (Split r) (got (asProducts (named x) p))
 unfolding asProducts collect writeCon writeTy writeProduct writeFactor twos sizeCon size
-products-put {d} {d₁} {d₂} {d₃} {d₄} {out} {r} {y} x p e h i j k =
+products-put {d} {d₁} {d₂} {d₃} {d₄} {out} {r} {y} x p e n z l h i j k =
+    let h′ = headed d d₁ out view.Equal n (suc (2 + size (dim p))) z (omega arith) h in
+    let i′ = headed d₁ d₂ (out + 1) (view.Dim 1) 2 2 refl (omega arith) i in
     let a : out + 1 + 1 ≡ out + 2 = omega arith in
     let b : out + 2 + 1 ≡ out + 3 = omega arith in
-    let q₁ : Put d d₁ out (out + 1) 1 (rec 20 0 0 0 ∷ []) = put-one h in
-    let q₂ : Put d₁ d₂ (out + 1) (out + 2) 1 (rec 3 1 0 0 ∷ []) = record { past = sym a; buffer = i } in
-    let q₃ : Put d₂ d₃ (out + 2) (out + 3) 1 (rec 11 y 1 1 ∷ []) = record { past = sym b; buffer = j } in
+    let q₁ : Put d d₁ out (out + 1) 1 (rec (head 20 (suc (2 + size (dim p)))) 0 0 0 ∷ []) = put-one h′ in
+    let q₂ : Put d₁ d₂ (out + 1) (out + 2) 1 (rec (head 3 2) 1 0 0 ∷ []) = record { past = sym a; buffer = i′ } in
+    let q₃ : Put d₂ d₃ (out + 2) (out + 3) 1 (rec (head 11 1) y 1 1 ∷ []) = record { past = sym b; buffer = j } in
     step-split (equal (dim (just (var y))) (dim p) ∷ []) (ap (λ (x : Name). got (asProducts (named x) p)) e)
-    (put-as (omega arith) (sym (append-nil (rec 20 0 0 0 ∷ rec 3 1 0 0 ∷ rec 11 y 1 1 ∷ writeProduct p))) (put-on {rs = rec 20 0 0 0 ∷ []} refl q₁ (put-on {rs = rec 3 1 0 0 ∷ []} refl q₂ (put-on {rs = rec 11 y 1 1 ∷ []} refl q₃ k))))
+    (put-as (omega arith) (sym (append-nil (rec (head 20 (suc (2 + size (dim p)))) 0 0 0 ∷ rec (head 3 2) 1 0 0 ∷ rec (head 11 1) y 1 1 ∷ writeProduct p))) (put-on {rs = rec (head 20 (suc (2 + size (dim p)))) 0 0 0 ∷ []} refl q₁ (put-on {rs = rec (head 3 2) 1 0 0 ∷ []} refl q₂ (put-on {rs = rec (head 11 1) y 1 1 ∷ []} refl q₃ k))))
 
 -- the variable that was found is the type's
 pub products-as : {d d′ : List ℕ} {out : ℕ} {r : Step} {R : Got (rules.Step ℕ)} {o m : Option ℕ} (p : Product ℕ) → R ≡ got (asProducts m p) → o ≡ m → Stepped d d′ out r (got (asProducts o p)) → Stepped d d′ out r R
@@ -184,7 +187,7 @@ products-as {d} {d′} {out} {r} p e q h = subst (Stepped d d′ out r) (ap (λ 
 -- ══ Dimensions divided ══
 
 module _ (t : tried.Tried) where
-  pub scalar-put : {d d₁ d₂ : List ℕ} {out : ℕ} (m : Got Tree) → Ready t m → t .checked ≡ Well′ → d₁ ≡ sets d (out * 4) (words (rec 22 0 0 0 ∷ [])) → d₂ ≡ sets d₁ ((out + 1) * 4) (words (writeProduct (treeIn (t .product)))) → Stepped d d₂ out (Split (out + 2 + t .product .len)) (asScalar m)
+  pub scalar-put : {d d₁ d₂ : List ℕ} {out : ℕ} (m : Got Tree) → Ready t m → t .checked ≡ Well′ → d₁ ≡ sets d (out * 4) (words (recOf view.IsScalar (fit (2 + t .product .len)) ∷ [])) → d₂ ≡ sets d₁ ((out + 1) * 4) (words (writeProduct (treeIn (t .product)))) → Stepped d d₂ out (Split (out + 2 + t .product .len)) (asScalar m)
   unfolding collect writeCon sizeCon size
   scalar-put {d} {d₁} {d₂} {out} m h e i j =
       let x = done t m (h .is) e in
@@ -192,7 +195,9 @@ module _ (t : tried.Tried) where
       let l = length-product (t .product) (s .0 .long) (s .0 .few) in
       let k : length (x .tree) ≡ t .product .len = ap length (s .1) ∙ l in
       let w : Put d₁ d₂ (out + 1) (out + 2 + t .product .len) (suc (length (x .tree))) (writeProduct (x .tree)) = record { past = omega arith; buffer = j ∙ ap (λ (p : Tree). sets d₁ ((out + 1) * 4) (words (writeProduct p))) (sym (s .1)) } in
-      step-split (isScalar (x .tree) ∷ []) (ap asScalar (x .is)) (put-as (omega arith) (sym (append-nil (rec 22 0 0 0 ∷ writeProduct (x .tree)))) (put-on {rs = rec 22 0 0 0 ∷ []} refl (put-one i) w))
+      let H : Rec = rec (head 22 (suc (suc (length (x .tree))))) 0 0 0 in
+      let i′ : d₁ ≡ sets d (out * 4) (words (H ∷ [])) = headed d d₁ out view.IsScalar (2 + t .product .len) (suc (suc (length (x .tree)))) (omega arith) (omega (arith, s .0 .few)) i in
+      step-split (isScalar (x .tree) ∷ []) (ap asScalar (x .is)) (put-as (omega arith) (sym (append-nil (H ∷ writeProduct (x .tree)))) (put-on {rs = H ∷ []} refl (put-one i′) w))
 
   pub scalar-stop : {d d₁ : List ℕ} {out : ℕ} (m : Got Tree) (k : Refusal) → Ready t m → t .checked ≡ Because k → Stepped d d₁ out (Refused k) (asScalar m)
   scalar-stop {d} {d₁} {out} m k h e = subst (λ (m : Got Tree). Stepped d d₁ out (Refused k) (asScalar m)) (sym (told-stop t m k (h .is) e)) (record { says = refl })

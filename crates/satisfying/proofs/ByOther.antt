@@ -1,5 +1,5 @@
 -- The rules for constraints other than equalities, each with what its case knows. Assumes nothing.
-use mathlib.Core.Path.{_≡_, refl, sym, ap, subst, _∙_}
+use mathlib.Core.Path.{_≡_, refl, sym, ap, ap₂, subst, _∙_}
 use mathlib.Core.Bool.{Bool, true, false}
 use mathlib.Core.List.{List, [], _∷_, map}
 use mathlib.Core.Option.{Option, none, some, Option·getD}
@@ -18,7 +18,7 @@ use Rattle.rules.specs.Rounds as rules
 use Rattle.rules.specs.Rounds.{otherSide, fieldStep, trySatisfy}
 use Rattle.rules.specs.Trees.{var, quant, par, Atom, free, base, Factor, _↑_, Product, Ty, opened, struct, Tys, Fields, noFields, field, Con, equal, isDim, isScalar, size, sizeCon, sizeBinding, countFields, hasField}
 use Rattle.rules.specs.Views.{structOf}
-use Rattle.rules.specs.Writing.{rec, words, twos, signed, writeFactor, writeProduct, writeTy, writeCon, writeBinding}
+use Rattle.rules.specs.Writing.{rec, head, words, twos, signed, writeFactor, writeProduct, writeTy, writeCon, writeBinding}
 use Rattle.laws.specs.Lists.{each-parts, and-left, and-right, Every}
 use Rattle.laws.specs.RuleCases.{parts}
 use Rattle.exponents.specs.Answers.{expOf, told}
@@ -27,6 +27,7 @@ use Rattle.exponents.specs.declared.Power as power
 use Rattle.loading.specs.Loaded.{write-first}
 use Rattle.names.specs.declared.Checked.{Checked}
 use Rattle.names.specs.declared.Checked.the-variants.{Good, Refused as Because}
+use Rattle.records.specs.Cut.{fit}
 use Rattle.records.specs.Views.{viewAt, recOf}
 use Rattle.records.specs.Holds.{openOf, atomOf, viewAtom, HoldsFactors, HoldsProduct, Holds, HoldsFields, HoldsCon}
 use Rattle.records.specs.ByView.{con-by-view, factor-by-view}
@@ -36,7 +37,6 @@ use Rattle.rules.specs.WellFormed.{goodTy, goodCon}
 use Rattle.laws.specs.GoodProducts.{GoodFactor, good-product}
 use Rattle.laws.specs.Ranges.{stored-good}
 use Rattle.products.specs.Held.{law}
-use Rattle.replacing.specs.Left.{Room}
 use Rattle.laws.specs.Weaker.{ty-weaker}
 use Rattle.replacing.specs.Well.{HeldType}
 use Rattle.satisfying.specs.Parts.{Fits, Put, Wrote, FactorsPut, FactorsLeft, isDimOf, GoodPowers, FactorsHeld, ProductHeld, FieldsHeld, boundTo}
@@ -51,7 +51,7 @@ use Rattle.replacing.specs.declared.inner.bound.Found.the-variants.{At, Nothing
 use Rattle.replacing.proofs.Others.{Tagged, untagged}
 use Rattle.satisfying.specs.declared.Step.{Step}
 use Rattle.satisfying.specs.declared.Step.the-variants.{Bind, Done, Stuck, Refused}
-use Rattle.satisfying.proofs.Laws.{put-one, put-on, wrote-cons, wrote-none, notFactor, notDim}
+use Rattle.satisfying.proofs.Laws.{put-one, headed, put-on, wrote-cons, wrote-none, notFactor, notDim}
 use Rattle.satisfying.proofs.ByKinds.{named-same}
 
 abbrev notField : List ℕ
@@ -59,12 +59,12 @@ notField = 0 ∷ 1 ∷ 2 ∷ 3 ∷ 4 ∷ 5 ∷ 7 ∷ 8 ∷ 9 ∷ 10 ∷ 11 ∷ 1
 
 -- ══ Is-dimension ══
 
-pub is-dim-put : {d d₁ d₂ : List ℕ} {out : ℕ} (x : ℕ) → d₁ ≡ sets d (out * 4) (words (rec 21 0 0 0 ∷ [])) → d₂ ≡ sets d₁ ((out + 1) * 4) (words (rec 1 x 0 0 ∷ [])) → Wrote d d₂ out (out + 2) (isDimOf x)
+pub is-dim-put : {d d₁ d₂ : List ℕ} {out : ℕ} (x : ℕ) → d₁ ≡ sets d (out * 4) (words (recOf view.IsDim (fit 2) ∷ [])) → d₂ ≡ sets d₁ ((out + 1) * 4) (words (rec (head 1 1) x 0 0 ∷ [])) → Wrote d d₂ out (out + 2) (isDimOf x)
 unfolding collect writeCon writeTy sizeCon size
 is-dim-put {d} {d₁} {d₂} {out} x h k =
     let e : out + 2 ≡ out + 1 + 1 = omega arith in
-    let q : Put d₁ d₂ (out + 1) (out + 2) 1 (rec 1 x 0 0 ∷ []) = record { past = e; buffer = k } in
-    put-on {rs = rec 21 0 0 0 ∷ []} {qs = rec 1 x 0 0 ∷ []} refl (put-one h) q
+    let q : Put d₁ d₂ (out + 1) (out + 2) 1 (rec (head 1 1) x 0 0 ∷ []) = record { past = e; buffer = k } in
+    put-on {rs = rec (head 21 2) 0 0 0 ∷ []} {qs = rec (head 1 1) x 0 0 ∷ []} refl (put-one (headed d d₁ out view.IsDim 2 2 refl (omega arith) h)) q
 
 module _ {d d′ : List ℕ} {out r : ℕ} (e : Exp) where
   pub var-part : {o : opens.Open} {x : ℕ} → o ≡ opens.the-variants.Var x → Wrote d d′ out r (isDimOf x) → Wrote d d′ out r (parts (free (openOf o) ↑ e ∷ []))
@@ -157,7 +157,7 @@ parts-all s {d} {d₁} {d₂} {out} {m} {r} {a = a} {j} f w v = subst (λ (p : P
 
 -- ══ The other factors ══
 
-factor-rec : (a : atoms.Atom) (n : lib.IntN.ℤ) (d : ℕ) → recOf (view.Factor a (twos n) d) ≡ writeFactor (atomOf a ↑ frac n d)
+factor-rec : (a : atoms.Atom) (n : lib.IntN.ℤ) (d : ℕ) → recOf (view.Factor a (twos n) d) 1 ≡ writeFactor (atomOf a ↑ frac n d)
 unfolding writeFactor
 factor-rec (atoms.the-variants.Free (opens.the-variants.Var x)) n d = refl
 factor-rec (atoms.the-variants.Free (opens.the-variants.Quant x)) n d = refl
@@ -176,14 +176,14 @@ module _ (s : List ℕ) {d d₁ : List ℕ} {out : ℕ} (k : Exp) {p : Product �
       let e : quotient bounded (neg j) k ≡ refused (numberOf why) = sym t ∙ ap told q in
       rw (f .is, e) (record { says = refl })
 
-  pub others-put : {d₂ : List ℕ} (e : Exponent) {w : ℕ} {r : Checked} → P ≡ power.the-variants.Value e → w ≡ twos (e .num) → d₁ ≡ sets d (out * 4) (words (recOf (view.Factor a w (e .den)) ∷ [])) → FactorsPut d₁ d₂ (out + 1) r (each (otherSide bounded k) (f .rest)) → FactorsPut d d₂ out r (each (otherSide bounded k) p)
+  pub others-put : {d₂ : List ℕ} (e : Exponent) {w : ℕ} {r : Checked} → P ≡ power.the-variants.Value e → w ≡ twos (e .num) → d₁ ≡ sets d (out * 4) (words (recOf (view.Factor a w (e .den)) 1 ∷ [])) → FactorsPut d₁ d₂ (out + 1) r (each (otherSide bounded k) (f .rest)) → FactorsPut d d₂ out r (each (otherSide bounded k) p)
   unfolding each otherSide
   others-put {d₂} e {w} {r} q v b h =
       let i : quotient bounded (neg j) k ≡ got (expOf e) = sym t ∙ ap told q in
-      let c : recOf (view.Factor a w (e .den)) ≡ writeFactor (atomOf a ↑ expOf e) = ap (λ (m : ℕ). recOf (view.Factor a m (e .den))) v ∙ factor-rec a (e .num) (e .den) in
+      let c : recOf (view.Factor a w (e .den)) 1 ≡ writeFactor (atomOf a ↑ expOf e) = ap (λ (m : ℕ). recOf (view.Factor a m (e .den)) 1) v ∙ factor-rec a (e .num) (e .den) in
       rw (f .is, i) (go (each (otherSide bounded k) (f .rest)) r c (h .says))
     where
-      go : (m : Got (Product ℕ)) (r : Checked) → recOf (view.Factor a w (e .den)) ≡ writeFactor (atomOf a ↑ expOf e) → FactorsLeft d₁ d₂ (out + 1) r m → FactorsPut d d₂ out r (m >>= λ ys. got (atomOf a ↑ expOf e ∷ ys))
+      go : (m : Got (Product ℕ)) (r : Checked) → recOf (view.Factor a w (e .den)) 1 ≡ writeFactor (atomOf a ↑ expOf e) → FactorsLeft d₁ d₂ (out + 1) r m → FactorsPut d d₂ out r (m >>= λ ys. got (atomOf a ↑ expOf e ∷ ys))
       go (got q) Good c l =
           record { says = l ∙ rw (b, c) (sym (write-first d out (writeFactor (atomOf a ↑ expOf e)) (map writeFactor q))) }
       go (got q) (Because why) c l = absurd l
@@ -196,20 +196,22 @@ each-long f [] ys e = let q : [] ≡ ys = cc in ap length (sym q)
 each-long f (x ∷ xs) ys e = let t = each-parts f x xs ys e in ap length (sym (t .both)) ∙ ap suc (each-long f xs (t .second) (t .then))
 
 module _ {d d₂ d₃ : List ℕ} {out : ℕ} (x : ℕ) (f : Factor ℕ → Got (Factor ℕ)) (p : Product ℕ) {n : ℕ} (l : length p ≡ n) (c : Checked) (h : FactorsPut d₂ d₃ (out + 2) c (each f p)) where
-  pub solved : {d₁ : List ℕ} → c ≡ Good → d₁ ≡ sets d (out * 4) (words (rec 24 x 0 0 ∷ [])) → d₂ ≡ sets d₁ ((out + 1) * 4) (words (rec 3 n 0 0 ∷ [])) → Stepped d d₃ out (Bind (out + 2 + n)) (boundTo x (each f p))
+  pub solved : {d₁ : List ℕ} → c ≡ Good → n ≤ 30_000 → d₁ ≡ sets d (out * 4) (words (recOf (view.Binding x) (fit (2 + n)) ∷ [])) → d₂ ≡ sets d₁ ((out + 1) * 4) (words (recOf (view.Dim n) (fit (1 + n)) ∷ [])) → Stepped d d₃ out (Bind (out + 2 + n)) (boundTo x (each f p))
   unfolding writeBinding writeTy writeProduct sizeBinding size
-  solved {d₁} e i j = go (each f p) refl (subst (λ (c : Checked). FactorsLeft d₂ d₃ (out + 2) c (each f p)) e (h .says))
+  solved {d₁} e few i j = go (each f p) refl (subst (λ (c : Checked). FactorsLeft d₂ d₃ (out + 2) c (each f p)) e (h .says))
     where
       go : (m : Got (Product ℕ)) → each f p ≡ m → FactorsLeft d₂ d₃ (out + 2) Good m → Stepped d d₃ out (Bind (out + 2 + n)) (boundTo x m)
       go (refused k) q w = absurd w
       go (got ys) q w =
           let y : length ys ≡ n = each-long f p ys q ∙ l in
           let a : out + 1 + 1 ≡ out + 2 = omega arith in
-          let b₁ : Put d d₁ out (out + 1) 1 (rec 24 x 0 0 ∷ []) = put-one i in
-          let b₂ : Put d₁ d₂ (out + 1) (out + 2) 1 (rec 3 n 0 0 ∷ []) = record { past = sym a; buffer = j } in
+          let b₁ : Put d d₁ out (out + 1) 1 (rec (head 24 (2 + n)) x 0 0 ∷ []) = put-one (headed d d₁ out (view.Binding x) (2 + n) (2 + n) refl (omega arith) i) in
+          let b₂ : Put d₁ d₂ (out + 1) (out + 2) 1 (rec (head 3 (1 + n)) n 0 0 ∷ []) = record { past = sym a; buffer = headed d₁ d₂ (out + 1) (view.Dim n) (1 + n) (1 + n) refl (omega arith) j } in
           let b₃ : Put d₂ d₃ (out + 2) (out + 2 + n) n (map writeFactor ys) = record { past = refl; buffer = w } in
-          let b : Put d d₃ out (out + 2 + n) (1 + (1 + n)) (rec 24 x 0 0 ∷ rec 3 n 0 0 ∷ map writeFactor ys) = put-on {rs = rec 24 x 0 0 ∷ []} refl b₁ (put-on {rs = rec 3 n 0 0 ∷ []} refl b₂ b₃) in
-          record { says = (ap Bind (omega arith), b .buffer ∙ ap (λ (m : ℕ). sets d (out * 4) (words (rec 24 x 0 0 ∷ rec 3 m 0 0 ∷ map writeFactor ys))) (sym y)) }
+          let b : Put d d₃ out (out + 2 + n) (1 + (1 + n)) (rec (head 24 (2 + n)) x 0 0 ∷ rec (head 3 (1 + n)) n 0 0 ∷ map writeFactor ys) = put-on {rs = rec (head 24 (2 + n)) x 0 0 ∷ []} refl b₁ (put-on {rs = rec (head 3 (1 + n)) n 0 0 ∷ []} refl b₂ b₃) in
+          let z₁ : 2 + n ≡ suc (suc (length ys)) = omega arith in
+          let z₂ : 1 + n ≡ suc (length ys) = omega arith in
+          record { says = (ap Bind (omega arith), b .buffer ∙ ap₂ (λ (k l : ℕ). sets d (out * 4) (words (rec (head 24 k) x 0 0 ∷ rec (head 3 l) n 0 0 ∷ map writeFactor ys))) z₁ z₂ ∙ ap (λ (m : ℕ). sets d (out * 4) (words (rec (head 24 (suc (suc (length ys)))) x 0 0 ∷ rec (head 3 (suc (length ys))) m 0 0 ∷ map writeFactor ys))) (sym y)) }
 
   pub unsolved : (why : Refusal) → c ≡ Because why → Stepped d d₃ out (Refused why) (boundTo x (each f p))
   unsolved why e = go (each f p) (subst (λ (c : Checked). FactorsLeft d₂ d₃ (out + 2) c (each f p)) e (h .says))
@@ -377,9 +379,6 @@ module _ (pool table s : List ℕ) (at : ℕ) (c : Con ℕ) (h : HeldCon pool ta
       go (isDim t) i = seen-in s at (i .0) tt
       go (isScalar p) i = seen-in s at (i .0) tt
       go (hasField x l r) i = seen-in s at (i .0) tt
-
-  pub con-fits : {out : ℕ} → Room s at out → Fits s out
-  con-fits r = let i = con-here in record { near = r .near; small = omega (arith, r .small) }
 
 -- what is said of a constraint, under its own name
 pub stepped-as : {d d′ : List ℕ} {out : ℕ} {r : Step} (names : List Bytes) {c : Con ℕ} (x : Con ℕ) → c ≡ x → Stepped d d′ out r (trySatisfy (numbered names) bounded x) → Stepped d d′ out r (trySatisfy (numbered names) bounded c)

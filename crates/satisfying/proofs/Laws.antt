@@ -3,7 +3,7 @@ use mathlib.Core.Path.{_≡_, refl, sym, ap, subst, _∙_}
 use mathlib.Core.Bool.{true, false, not}
 use mathlib.Core.List.{List, [], _∷_, _++_, append-nil}
 use mathlib.Core.Option.{Option, none, some}
-use Prim.Native.Nat.{ℕ, _+_, _*_}
+use Prim.Native.Nat.{ℕ, suc, _+_, _*_, _≤_}
 use native.Mathlib.Nat.{add-zero}
 use native.Mathlib.Omega.{arith}
 use lib.ListN.{length}
@@ -18,8 +18,8 @@ use Rattle.rules.specs.Exponents.{Exp, frac, Exp-dec, one}
 use Rattle.rules.specs.Trees as tree
 use Rattle.rules.specs.Trees.{free, _↑_, ty-dec, Product, Ty, opened, basic, dim, fn, struct, list, Tys, nil, cons, Con, equal, _≔_, size, sizeTys, sizeCon, sizeBinding, count, countFields}
 use Rattle.rules.specs.Views.{productOf, fnOf, structOf, listOf, variable, asVar, asPower}
-use Rattle.rules.specs.Writing.{signed, twos, Rec, rec, words, writeTy, writeCon, writeBinding}
-use Rattle.records.specs.Holds.{openOf, atomOf, viewAtom, HoldsFactors, viewOpen, viewBasic, HoldsProduct, Holds, HoldsTys}
+use Rattle.rules.specs.Writing.{signed, twos, Rec, rec, head, words, writeTy, writeCon, writeBinding}
+use Rattle.records.specs.Holds.{openOf, atomOf, viewAtom, HoldsFactors, viewOpen, viewBasic, HoldsProduct, Holds, HoldsTys, holds-long}
 use Rattle.records.specs.ByView.{by-view, factor-by-view, size-pos, ends-in}
 use Rattle.records.specs.declared.Open as names
 use Rattle.records.specs.declared.Atom as atoms
@@ -31,7 +31,8 @@ use Rattle.rules.specs.Products.{single}
 use Rattle.rules.specs.Rounds as rules
 use Rattle.rules.specs.Rounds.{bindTo, firstRules, pairs}
 use Rattle.laws.specs.Size.{size-ty, size-con}
-use Rattle.records.specs.Views.{viewAt}
+use Rattle.records.specs.Cut.{fit, fits}
+use Rattle.records.specs.Views.{viewAt, longAt, recOf}
 use Rattle.records.specs.Held.{held-words}
 use Rattle.records.specs.declared.View.{View}
 use Rattle.records.specs.declared.View.the-variants as view
@@ -46,6 +47,17 @@ use Rattle.satisfying.specs.declared.Step.the-variants.{Bind, Split, Don
 pub put-one : {d d₁ : List ℕ} {out : ℕ} {r : Rec} → d₁ ≡ sets d (out * 4) (words (r ∷ [])) → Put d d₁ out (out + 1) 1 (r ∷ [])
 put-one h = record { past = refl; buffer = h }
 
+-- a record whose part is short enough for its length
+pub headed : (d d₁ : List ℕ) (out : ℕ) (v : View) (n m : ℕ) → n ≡ m → m ≤ 65_535 → d₁ ≡ sets d (out * 4) (words (recOf v (fit n) ∷ [])) → d₁ ≡ sets d (out * 4) (words (recOf v m ∷ []))
+headed d d₁ out v n m e h b = b ∙ ap (λ (k : ℕ). sets d (out * 4) (words (recOf v k ∷ []))) (ap fit e ∙ fits m h)
+
+-- types that are held in a list that is not too long are short
+pub short-two : (s : List ℕ) (t u : Ty ℕ) (i j : ℕ) → Holds s t i → Holds s u j → length s ≤ 100_000 → suc (size t + size u) ≤ 65_535
+short-two s t u i j h k l = omega (arith, ends-in s t i h, ends-in s u j k)
+
+pub said-short : (s : List ℕ) (t : Ty ℕ) (i : ℕ) → Holds s t i → length s ≤ 100_000 → {n : ℕ} → n ≡ longAt s i → (n ≡ size t) × (n ≤ 25_000)
+said-short s t i h l e = let q = e ∙ holds-long s t i h in (q, omega (arith, q, ends-in s t i h))
+
 pub put-on : {d d₁ d₂ : List ℕ} {out m r n k : ℕ} {rs qs : List Rec} → length rs ≡ n → Put d d₁ out m n rs → Put d₁ d₂ m r k qs → Put d d₂ out r (n + k) (rs ++ qs)
 put-on {d} {d₁} {d₂} {out} {n = n} {k} {rs} {qs} l p q =
     record { past = omega (arith, p .past, q .past); buffer = writes d d₁ d₂ rs qs n out l (p .buffer) (subst (λ (m : ℕ). d₂ ≡ sets d₁ (m * 4) (words qs)) (p .past) (q .buffer)) }
@@ -59,9 +71,12 @@ type-put s at {d} {d′} {out} t h e b p =
     record { past = p; buffer = b ∙ ap (sets d (out * 4)) (ap (λ (k : ℕ). slice (at * 4) (k * 4) s) e ∙ held-words s t at h) }
 
 -- two types after the head of an equality
-pub equal-put : {d d₁ d₂ d₃ : List ℕ} {out o r : ℕ} (t u : Ty ℕ) → d₁ ≡ sets d (out * 4) (words (rec 20 0 0 0 ∷ [])) → Put d₁ d₂ (out + 1) o (size t) (writeTy t) → Put d₂ d₃ o r (size u) (writeTy u) → Wrote d d₃ out r (equal t u ∷ [])
+pub equal-put : {d d₁ d₂ d₃ : List ℕ} {out o r : ℕ} (t u : Ty ℕ) (n : ℕ) → n ≡ suc (size t + size u) → n ≤ 65_535 → d₁ ≡ sets d (out * 4) (words (recOf view.Equal (fit n) ∷ [])) → Put d₁ d₂ (out + 1) o (size t) (writeTy t) → Put d₂ d₃ o r (size u) (writeTy u) → Wrote d d₃ out r (equal t u ∷ [])
 unfolding collect writeCon sizeCon
-equal-put t u h p q = put-as (omega arith) (sym (append-nil (rec 20 0 0 0 ∷ (writeTy t ++ writeTy u)))) (put-on {rs = rec 20 0 0 0 ∷ []} {qs = writeTy t ++ writeTy u} refl (put-one h) (put-on (size-ty t) p q))
+equal-put {d} {d₁} {out = out} t u n e l h p q =
+    let H : Rec = rec (head 20 (suc (size t + size u))) 0 0 0 in
+    let h′ : d₁ ≡ sets d (out * 4) (words (H ∷ [])) = headed d d₁ out view.Equal n (suc (size t + size u)) e (omega arith) h in
+    put-as (omega arith) (sym (append-nil (H ∷ (writeTy t ++ writeTy u)))) (put-on {rs = H ∷ []} {qs = writeTy t ++ writeTy u} refl (put-one h′) (put-on (size-ty t) p q))
 
 -- constraints, and then others
 pub wrote-cons : {d d₁ d₂ : List ℕ} {out m r : ℕ} (c : Con ℕ) (cs : List (Con ℕ)) → Wrote d d₁ out m (c ∷ []) → Wrote d₁ d₂ m r cs → Wrote d d₂ out r (c ∷ cs)
@@ -133,8 +148,8 @@ tagOf (list t) = 5
 -- a type whose tag is none of those that the record may have isn't there
 pub elsewhere : (s : List ℕ) (t : Ty ℕ) (at : ℕ) {w : View} (ks : List ℕ) → T (not (hasKey ks (tagOf t))) → Holds s t at → w ≡ viewAt s at → Tagged ks w → ⊥
 unfolding Holds HoldsProduct
-elsewhere s (opened o) at {w} ks m h e k = untagged w ks 0 m k (view.Opened (viewOpen o)) refl (e ∙ h)
-elsewhere s (basic b) at {w} ks m h e k = untagged w ks 1 m k (view.Basic (viewBasic b)) refl (e ∙ h)
+elsewhere s (opened o) at {w} ks m h e k = untagged w ks 0 m k (view.Opened (viewOpen o)) refl (e ∙ h .0)
+elsewhere s (basic b) at {w} ks m h e k = untagged w ks 1 m k (view.Basic (viewBasic b)) refl (e ∙ h .0)
 elsewhere s (dim p) at {w} ks m h e k = untagged w ks 2 m k (view.Dim (length p)) refl (e ∙ h .0)
 elsewhere s (fn ps r) at {w} ks m h e k = untagged w ks 3 m k (view.Function (count ps)) refl (e ∙ h .0)
 elsewhere s (struct n as′ fs) at {w} ks m h e k = untagged w ks 4 m k (view.Struct n (count as′) (countFields fs)) refl (e ∙ h .0)
@@ -311,10 +326,11 @@ module _ {d : List ℕ} {out : ℕ} (names : List Bytes) (x : Name) (t : Ty ℕ)
   unfolding bindTo
   bind-contained q c = subst (λ (x : Name). Tried d d out Stuck (bindTo (numbered names) (named x) t)) (sym q) (rw c (record { says = (refl, refl) }))
 
-  pub bind-put : {d₁ d₂ : List ℕ} {y r : ℕ} → x ≡ Of y → contains (numbered names) y t ≡ false → d₁ ≡ sets d (out * 4) (words (rec 24 y 0 0 ∷ [])) → Put d₁ d₂ (out + 1) r (size t) (writeTy t) → Tried d d₂ out (Bind r) (bindTo (numbered names) (named x) t)
+  pub bind-put : {d₁ d₂ : List ℕ} {y r : ℕ} → x ≡ Of y → contains (numbered names) y t ≡ false → (n : ℕ) → n ≡ suc (size t) → n ≤ 65_535 → d₁ ≡ sets d (out * 4) (words (recOf (view.Binding y) (fit n) ∷ [])) → Put d₁ d₂ (out + 1) r (size t) (writeTy t) → Tried d d₂ out (Bind r) (bindTo (numbered names) (named x) t)
   unfolding bindTo writeBinding sizeBinding
-  bind-put {d₁} {d₂} {y} {r} q c h p =
-      let w : Put d d₂ out r (1 + size t) (rec 24 y 0 0 ∷ writeTy t) = put-on refl (put-one h) p in
+  bind-put {d₁} {d₂} {y} {r} q c n e l i p =
+      let h : d₁ ≡ sets d (out * 4) (words (rec (head 24 (suc (size t))) y 0 0 ∷ [])) = headed d d₁ out (view.Binding y) n (suc (size t)) e (omega arith) i in
+      let w : Put d d₂ out r (1 + size t) (rec (head 24 (suc (size t))) y 0 0 ∷ writeTy t) = put-on refl (put-one h) p in
       subst (λ (x : Name). Tried d d₂ out (Bind r) (bindTo (numbered names) (named x) t)) (sym q) (rw c (record { says = (ap Bind (omega (arith, w .past)), w .buffer) }))
 
 abbrev notStuck : List ℕ

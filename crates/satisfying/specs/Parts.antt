@@ -29,12 +29,12 @@ named Nothing = none
 
 -- places stay small
 pub record Fits (s : List ℕ) (out : ℕ) : Type 0 where
-  pub near : length s ≤ 4_000_000_000
+  pub near : length s ≤ 100_000
   pub small : out < 1_000_000_000
 
 -- room for types from i and from j on, pairwise, each pair with its head
 pub record PairRoom (s : List ℕ) (i j out : ℕ) : Type 0 where
-  pub near : length s ≤ 4_000_000_000
+  pub near : length s ≤ 100_000
   pub small : out + (length s / 4 - i) * 2 + (length s / 4 - j) ≤ 900_000_000_000
 
 -- these n records stand in d from the place `out` on, as far as d goes, and r is the place past them

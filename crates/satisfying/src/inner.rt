@@ -19,7 +19,6 @@ ghost use Rattle.rules.specs.Rounds.{trySatisfy};
 ghost use Rattle.rules.specs.Trees.{Ty, Con, equal};
 ghost use Rattle.laws.specs.NameTable.{Good};
 ghost use Rattle.records.specs.Good.{numbers};
-ghost use Rattle.replacing.specs.Left.{Room};
 ghost use Rattle.replacing.specs.Well.{HeldType};
 ghost use Rattle.satisfying.specs.Parts.{Fits};
 ghost use Rattle.satisfying.specs.Stepped.{HeldCon, Stepped};
@@ -58,7 +57,7 @@ pub fn try_satisfy(
 ) -> Step
     requires { ⌜ Good (now pool) (now table) ⌝ }
     requires { ⌜ ((c : Con ℕ) × HeldCon (now pool) (now table) (now s) c at) ⌝ }
-    requires { ⌜ Room (now s) at out ⌝ }
+    requires { ⌜ Fits (now s) out ⌝ }
     ensures { λ r. ⌜ ((c : Con ℕ) → HeldCon (now (pool .entry)) (now (table .entry)) (now (s .entry)) c at → Stepped (now (dst .entry)) (now (dst .exit)) out r (trySatisfy (numbers (now (pool .entry)) (now (table .entry))) bounded c)) ⌝ }
 {
     match view_at(s, at) {

@@ -2,7 +2,7 @@
 use mathlib.Core.Path.{_≡_, refl, sym, ap, subst, _∙_}
 use mathlib.Core.Bool.{true, false}
 use mathlib.Core.List.{List, [], _∷_, _++_, map, append-assoc}
-use Prim.Native.Nat.{ℕ, _+_, _*_, _/_, _≤_, _<_}
+use Prim.Native.Nat.{ℕ, suc, _+_, _*_, _/_, _≤_, _<_}
 use native.Mathlib.Nat.{zero-add}
 use native.Mathlib.Omega.{arith}
 use borrow.Author.Tests.{ltb-true}
@@ -17,7 +17,7 @@ use Rattle.rules.specs.Schemes.{Scheme, concrete, scheme, generalise}
 use Rattle.rules.specs.Trees as tree
 use Rattle.rules.specs.Trees.{Ty, opens, size}
 use Rattle.rules.specs.WellFormed as rules
-use Rattle.rules.specs.Writing.{Rec, rec, words, writeTy, writeBound, writeScheme}
+use Rattle.rules.specs.Writing.{Rec, rec, head, words, writeTy, writeBound, writeScheme}
 use Rattle.laws.specs.KnownNames.{ty-known}
 use Rattle.laws.specs.Lists.{All, every-all}
 use Rattle.laws.specs.NameTable.{good-laid}
@@ -58,20 +58,22 @@ module _ (pool table s : List ℕ) where
   bounds-written q n at (o ∷ bs) (e, (g, c)) =
       let (a, b) = bounds-written q n e bs c in
       let p = g .past in
-      let r : from s at ≡ writeBound o ∷ from s (at + 1) = seen s at (g .held) tt ∙ ap (λ (x : Rec). x ∷ from s (at + 1)) (bound-rec (viewOpen o) ∙ ap writeBound (open-view o)) in
+      let r : from s at ≡ writeBound o ∷ from s (at + 1) = seen s at (g .held .0) (g .held .1) tt ∙ ap (λ (x : Rec). x ∷ from s (at + 1)) (bound-rec (viewOpen o) ∙ ap writeBound (open-view o)) in
       (r ∙ ap (λ (k : ℕ). writeBound o ∷ from s k) (sym p) ∙ ap (writeBound o ∷_) a, omega arith)
 
   -- the words of all records, and how many these are
   pub scheme-words : (n : ℕ) (t : Ty ℕ) (bs : List (tree.Open ℕ)) → GoodScheme pool table s (scheme n t bs) → (length s / 4 ≡ length (writeScheme (scheme n t bs))) × (slice 0 (length s / 4 * 4) s ≡ words (writeScheme (scheme n t bs)))
   unfolding writeScheme
-  scheme-words n t bs (v, (e, (g, c))) =
+  scheme-words n t bs (v, (e, (g, c)), m) =
       let (a, b) = bounds-written n (length s / 4) e bs c in
       let p = g .past in
       let rs : List Rec = writeTy t ++ map writeBound bs in
       let h : from s 1 ≡ rs ++ from s (length s / 4) = written s t 1 (g .held) ∙ ap (λ (k : ℕ). writeTy t ++ from s k) (sym p) ∙ ap (writeTy t ++_) a ∙ sym (append-assoc (writeTy t) (map writeBound bs) (from s (length s / 4))) in
-      let z : from s 0 ≡ (rec 26 n 0 0 ∷ rs) ++ from s (length s / 4) = seen s 0 v tt ∙ ap (rec 26 n 0 0 ∷_) h in
-      let l : length s / 4 ≡ length (rec 26 n 0 0 ∷ rs) = omega (arith, length-append (writeTy t) (map writeBound bs), size-ty t, length-map bs writeBound) in
-      (l, ap (λ (k : ℕ). slice 0 (k * 4) s) (l ∙ sym (zero-add (length (rec 26 n 0 0 ∷ rs)))) ∙ words-from s (rec 26 n 0 0 ∷ rs) (from s (length s / 4)) 0 (omega arith) z)
+      let j : length s / 4 ≡ suc (size t + length bs) = omega arith in
+      let f : Rec = rec (head 26 (suc (size t + length bs))) n 0 0 in
+      let z : from s 0 ≡ (f ∷ rs) ++ from s (length s / 4) = seen s 0 v (m ∙ j) tt ∙ ap (f ∷_) h in
+      let l : length s / 4 ≡ length (f ∷ rs) = omega (arith, length-append (writeTy t) (map writeBound bs), size-ty t, length-map bs writeBound) in
+      (l, ap (λ (k : ℕ). slice 0 (k * 4) s) (l ∙ sym (zero-add (length (f ∷ rs)))) ∙ words-from s (f ∷ rs) (from s (length s / 4)) 0 (omega arith) z)
 
 -- ══ Bounds that were given hold no index ══
 

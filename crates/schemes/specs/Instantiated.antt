@@ -87,10 +87,10 @@ module _ (pool table s names : List ℕ) (w : Words32 s) (sc : Scheme ℕ) (none
     counted = subst (GoodScheme pool table s) i its
 
     type-good : GoodTy pool table (length names) s 64 1 t (1 + size t)
-    type-good = let (v, (e, (g, c))) = counted in subst (GoodTy pool table (length names) s 64 1 t) (g .past) g
+    type-good = let (v, (e, (g, c)), m) = counted in subst (GoodTy pool table (length names) s 64 1 t) (g .past) g
 
     behind : BoundsAt s bs (1 + size t)
-    behind = let (v, (e, (g, c))) = counted in subst (BoundsAt s bs) (g .past) (chain-bounds pool table (length names) s e bs c)
+    behind = let (v, (e, (g, c)), m) = counted in subst (BoundsAt s bs) (g .past) (chain-bounds pool table (length names) s e bs c)
 
     short : size t + length bs ≤ 2047
     short = let m = bounds-many s bs (1 + size t) behind in let k = n .words-short in omega arith
@@ -137,8 +137,8 @@ module _ (pool table s names : List ℕ) (w : Words32 s) (sc : Scheme ℕ) (none
   instantiate-ready work room = record { head = go sc its; rest = λ m t bs e h. ready t bs (e ∙ ap (λ (i : ℕ). scheme i t bs) h) work room }
     where
       go : (x : Scheme ℕ) → GoodScheme pool table s x → Shows s 0 (headOf x)
-      go (concrete t) (v, g) = v
-      go (scheme m t bs) (v, g) = v
+      go (concrete t) g = g .0
+      go (scheme m t bs) g = g .0
 
   instantiate-made : instantiatedAs pool table names sc ≡ instantiatedFrom pool table s names sc none
   unfolding instantiate

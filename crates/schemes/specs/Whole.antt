@@ -71,7 +71,7 @@ module _ (pool table : List ℕ) where
   pub chain-bounds : (q : ℕ) (s : List ℕ) (at : ℕ) (bs : List (tree.Open ℕ)) → Chain (GoodBound pool table q s) (length s / 4) bs at → BoundsAt s bs at
   unfolding BoundsAt
   chain-bounds q s at [] c = c
-  chain-bounds q s at (o ∷ bs) (e, (g, c)) = (g .held, chain-bounds q s (at + 1) bs (rw (g .past) at c))
+  chain-bounds q s at (o ∷ bs) (e, (g, c)) = (g .held .0, chain-bounds q s (at + 1) bs (rw (g .past) at c))
 
   pub given-bounds : (bounds : List ℕ) (bs : List (tree.Open ℕ)) → boundsGiven (tableOf pool table) bounds ≡ got bs → BoundsAt bounds bs 0
   unfolding boundsGiven

@@ -10,7 +10,7 @@ use lib.ListN.{length, take, drop}
 use Rattle.rules.specs.Base.{Got, got, refused, _>>_, bounded, onlyIf, toList, all, collect, sumOf}
 use Rattle.rules.specs.Trees.{var, Names, Ty, Con, Binding, _≔_, opensCon, sizeBinding}
 use Rattle.rules.specs.Names.{tableOf, numbersOf, isHeld}
-use Rattle.rules.specs.Writing.{words, writeBinding, writeBound}
+use Rattle.rules.specs.Writing.{kindIn, words, writeBinding, writeBound}
 use Rattle.rules.specs.Calls.{lentWork, shortLists, shortNumbers, setGiven, entriesGiven, risingBounds, over, solveCall, Entry, judgeCall}
 use Rattle.rules.specs.Contents.{contains, unmixed}
 use Rattle.rules.specs.WellFormed.{rising, goodCon, goodBinding}
@@ -88,10 +88,10 @@ boundsIn result records bounds = take (bounds * 4) (drop (records * 4) result)
 -- stands. The first record has the place `at`
 unfoldable pub pointed : ℕ → List ℕ → List Entry
 pointed at [] = []
-pointed at (k ∷ []) = []
-pointed at (k ∷ a ∷ []) = []
-pointed at (k ∷ a ∷ b ∷ []) = []
-pointed at (k ∷ a ∷ b ∷ c ∷ ws) = toList (onlyIf (eqb k 24) (record { variable = a; place = suc at })) ++ pointed (suc at) ws
+pointed at (w ∷ []) = []
+pointed at (w ∷ a ∷ []) = []
+pointed at (w ∷ a ∷ b ∷ []) = []
+pointed at (w ∷ a ∷ b ∷ c ∷ ws) = toList (onlyIf (eqb (kindIn w) 24) (record { variable = a; place = suc at })) ++ pointed (suc at) ws
 
 -- an accepted answer: the constraints that were read, the bindings and bounds that were written, and what they are worth
 pub record SoundAnswer (pool table set result work : List ℕ) (records bounds rounds : ℕ) : Type 0 where

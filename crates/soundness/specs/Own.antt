@@ -4,27 +4,28 @@ use mathlib.Core.Path.{_≡_, refl, ap, _∙_, sym, subst}
 use mathlib.Core.Bool.{Bool, true, false}
 use mathlib.Core.Option.{Option, none, some}
 use mathlib.Core.List.{List, [], _∷_, _++_, map, append-assoc, List·Memᴰ}
-use Prim.Native.Nat.{ℕ, zero, suc, _+_, _*_, _≤_}
+use Prim.Native.Nat.{ℕ, zero, suc, _+_, _*_, _<_, _≤_}
 use native.Mathlib.Numerals.{add-one}
 use native.Mathlib.Omega.{arith}
-use borrow.Author.Tests.{eqb-true, le-leb, leb-true}
+use borrow.Author.Tests.{eqb-true, ne-eqb, le-leb, leb-true}
 use lib.Dec.{eqb, leb}
 use lib.ListN.{length, take, drop, length-map}
 use lib.Seq.{take-at, drop-at, drop-drop}
 use Rattle.rules.specs.Base.{Got, got, refused, _>>_, need, orRefuse, bounded, any, all, each, collect, toList, sumOf, maxOf}
 use Rattle.rules.specs.Exponents.{frac}
 use Rattle.rules.specs.Trees.{var, quant, par, free, base, _↑_, Product, Names, Ty, opened, basic, boolean, string, datetime, dim, fn, struct, list, Tys, nil, cons, Fields, noFields, field, Con, equal, isDim, isScalar, hasField, Binding, _≔_}
-use Rattle.rules.specs.Trees.{size, sizeTys, sizeFields, sizeCon, sizeBinding, depth, depthBinding}
+use Rattle.rules.specs.Trees.{size, sizeTys, sizeFields, sizeCon, sizeBinding, depth, depthBinding, count, countFields}
 use Rattle.rules.specs.Contents.{sort}
 use Rattle.rules.specs.Names.{Table, tableOf, numbersOf, isHeld}
 use Rattle.rules.specs.Replacing.{replaceCon, replaceBinding, bindings}
 use Rattle.rules.specs.Rounds.{Step, bind, split, done, stuck, State, sizeState, depthState, limited, firstStep, perform, performed, round}
 use Rattle.rules.specs.Solving.{Answer, accepted, boundOf, finished, finish, after, run, enough, solve}
-use Rattle.rules.specs.Writing.{Rec, rec, words, wordOf, writeFactor, writeProduct, writeTy, writeTys, writeFields, writeBinding, writeBound}
+use Rattle.rules.specs.Writing.{Rec, rec, head, kindIn, words, wordOf, writeFactor, writeProduct, writeTy, writeTys, writeFields, writeBinding, writeBound}
 use Rattle.rules.specs.Reading.{Reader, readCon, readBound, readAll, records}
 use Rattle.rules.specs.WellFormed.{rising, goodOpen, goodTy, goodCon, goodBinding}
 use Rattle.rules.specs.Calls.{lentWork, shortLists, shortNumbers, listGiven, setGiven, boundsGiven, numbersGiven, over, Entry, differ, typeAt, bindingOf, entriesGiven, risingBounds, solveCall}
 use Rattle.laws.specs.Checks.{need-passed}
+use Rattle.laws.specs.Heads.{kind-head}
 use Rattle.laws.specs.Lists.{some≢none, and-left, and-right, one-step, bound-step, Every, All, all-every, is-all, map-from, any-is}
 use Rattle.laws.specs.Reading.{read-ty, good-fits}
 use Rattle.laws.specs.ReadLists.{IsBound, read-bound, read-all, words-back}
@@ -182,8 +183,17 @@ module _ (rest : List Rec) where
   from : (m n : ℕ) → m ≡ n → pointed m (words rest) ≡ pointed n (words rest)
   from m n e = ap (λ (k : ℕ). pointed k (words rest)) e
 
+-- a record of another kind is passed over, and one that begins a binding is taken, whatever its length
+pass-over : (k n a b c at : ℕ) (rs : List Rec) → k < 24 → pointed at (words (rec (head k n) a b c ∷ rs)) ≡ pointed (suc at) (words rs)
+unfolding pointed words
+pass-over k n a b c at rs h = rw (kind-head k n (omega arith), ne-eqb k 24 (λ e. omega arith))
+
+taken : (n a at : ℕ) (rs : List Rec) → pointed at (words (rec (head 24 n) a 0 0 ∷ rs)) ≡ record { variable = a; place = suc at } ∷ pointed (suc at) (words rs)
+unfolding pointed words
+taken n a at rs = rw (kind-head 24 n (omega arith))
+
 pass-factors : (p : Product ℕ) (at : ℕ) (rest : List Rec) → pointed at (words (map writeFactor p ++ rest)) ≡ pointed (at + length p) (words rest)
-unfolding pointed words writeFactor
+unfolding pointed words writeFactor head kindIn
 pass-factors [] at rest = from rest at (at + 0) (omega arith)
 pass-factors (free (var x) ↑ frac n d ∷ p) at rest = pass-factors p (suc at) rest ∙ from rest (suc at + length p) (at + suc (length p)) (omega arith)
 pass-factors (free (quant x) ↑ frac n d ∷ p) at rest = pass-factors p (suc at) rest ∙ from rest (suc at + length p) (at + suc (length p)) (omega arith)
@@ -192,7 +202,7 @@ pass-factors (base x ↑ frac n d ∷ p) at rest = pass-factors p (suc at) rest 
 
 -- no record of a type begins a binding
 mutual
-  unfolding pointed words writeTy writeProduct size
+  unfolding pointed words writeTy writeProduct size head kindIn
 
   pass-ty : (t : Ty ℕ) (at : ℕ) (rest : List Rec) → pointed at (words (writeTy t ++ rest)) ≡ pointed (at + size t) (words rest)
   pass-ty (opened (var x)) at rest = from rest (suc at) (at + 1) (omega arith)
@@ -201,14 +211,24 @@ mutual
   pass-ty (basic boolean) at rest = from rest (suc at) (at + 1) (omega arith)
   pass-ty (basic string) at rest = from rest (suc at) (at + 1) (omega arith)
   pass-ty (basic datetime) at rest = from rest (suc at) (at + 1) (omega arith)
-  pass-ty (dim p) at rest = pass-factors p (suc at) rest ∙ from rest (suc at + length p) (at + suc (length p)) (omega arith)
+  pass-ty (dim p) at rest =
+      pass-over 3 (suc (length p)) (length p) 0 0 at (map writeFactor p ++ rest) (omega arith)
+      ∙ pass-factors p (suc at) rest
+      ∙ from rest (suc at + length p) (at + suc (length p)) (omega arith)
   pass-ty (fn ps r) at rest =
       rw (append-assoc (writeTys ps) (writeTy r) rest)
-      (pass-tys ps (suc at) (writeTy r ++ rest) ∙ pass-ty r (suc at + sizeTys ps) rest ∙ from rest (suc at + sizeTys ps + size r) (at + size (fn ps r)) (omega arith))
+      (pass-over 7 (size (fn ps r)) (count ps) 0 0 at (writeTys ps ++ (writeTy r ++ rest)) (omega arith)
+      ∙ pass-tys ps (suc at) (writeTy r ++ rest) ∙ pass-ty r (suc at + sizeTys ps) rest
+      ∙ from rest (suc at + sizeTys ps + size r) (at + size (fn ps r)) (omega arith))
   pass-ty (struct n as′ fs) at rest =
       rw (append-assoc (writeTys as′) (writeFields fs) rest)
-      (pass-tys as′ (suc at) (writeFields fs ++ rest) ∙ pass-fields fs (suc at + sizeTys as′) rest ∙ from rest (suc at + sizeTys as′ + sizeFields fs) (at + size (struct n as′ fs)) (omega arith))
-  pass-ty (list t) at rest = pass-ty t (suc at) rest ∙ from rest (suc at + size t) (at + suc (size t)) (omega arith)
+      (pass-over 8 (size (struct n as′ fs)) n (count as′) (countFields fs) at (writeTys as′ ++ (writeFields fs ++ rest)) (omega arith)
+      ∙ pass-tys as′ (suc at) (writeFields fs ++ rest) ∙ pass-fields fs (suc at + sizeTys as′) rest
+      ∙ from rest (suc at + sizeTys as′ + sizeFields fs) (at + size (struct n as′ fs)) (omega arith))
+  pass-ty (list t) at rest =
+      pass-over 10 (size (list t)) 0 0 0 at (writeTy t ++ rest) (omega arith)
+      ∙ pass-ty t (suc at) rest
+      ∙ from rest (suc at + size t) (at + suc (size t)) (omega arith)
 
   pass-tys : (ts : Tys ℕ) (at : ℕ) (rest : List Rec) → pointed at (words (writeTys ts ++ rest)) ≡ pointed (at + sizeTys ts) (words rest)
   pass-tys nil at rest = from rest at (at + 0) (omega arith)
@@ -220,7 +240,9 @@ mutual
   pass-fields noFields at rest = from rest at (at + 0) (omega arith)
   pass-fields (field n t fs) at rest =
       rw (append-assoc (writeTy t) (writeFields fs) rest)
-      (pass-ty t (suc at) (writeFields fs ++ rest) ∙ pass-fields fs (suc at + size t) rest ∙ from rest (suc at + size t + sizeFields fs) (at + sizeFields (field n t fs)) (omega arith))
+      (pass-over 9 (suc (size t)) n 0 0 at (writeTy t ++ (writeFields fs ++ rest)) (omega arith)
+      ∙ pass-ty t (suc at) (writeFields fs ++ rest) ∙ pass-fields fs (suc at + size t) rest
+      ∙ from rest (suc at + size t + sizeFields fs) (at + sizeFields (field n t fs)) (omega arith))
 
 -- the entries of bindings that are written from a place on
 entriesFrom : ℕ → List (Binding ℕ) → List Entry
@@ -230,7 +252,9 @@ entriesFrom at (x ≔ t ∷ bs) = record { variable = x; place = suc at } ∷ en
 pointed-is : (bs : List (Binding ℕ)) (at : ℕ) → pointed at (words (collect writeBinding bs)) ≡ entriesFrom at bs
 unfolding pointed words collect writeBinding entriesFrom
 pointed-is [] at = refl
-pointed-is (x ≔ t ∷ bs) at = ap (λ (es : List Entry). record { variable = x; place = suc at } ∷ es) (pass-ty t (suc at) (collect writeBinding bs) ∙ pointed-is bs (suc at + size t))
+pointed-is (x ≔ t ∷ bs) at =
+    taken (sizeBinding (x ≔ t)) x at (writeTy t ++ collect writeBinding bs)
+    ∙ ap (λ (es : List Entry). record { variable = x; place = suc at } ∷ es) (pass-ty t (suc at) (collect writeBinding bs) ∙ pointed-is bs (suc at + size t))
 
 entries-few : (bs : List (Binding ℕ)) (at : ℕ) → length (entriesFrom at bs) ≤ sumOf sizeBinding bs
 unfolding entriesFrom sizeBinding

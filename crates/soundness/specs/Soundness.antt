@@ -6,6 +6,7 @@ use mathlib.Core.List.{List, [], _∷_}
 use Prim.Native.Nat.{ℕ}
 use Rattle.rules.specs.Base.{got, bounded}
 use Rattle.rules.specs.Trees.{Names, Con, Binding}
+use Rattle.rules.specs.Writing.{head, kindIn}
 use Rattle.rules.specs.Solving.{accepted, solve}
 use Rattle.rules.specs.Meaning.{Solves, Premise}
 use Rattle.rules.specs.Judging.{judge}
@@ -89,9 +90,9 @@ k5-solved = demand-3 names held ordered k5 k5-given k5-bindings [] 1 k5-accepted
 pub k8-solved : Solves names k8 [] k8-bounds
 k8-solved = demand-3 names held ordered k8 k8-given [] k8-bounds 1 k8-accepted k8-premise
 
--- K2's whole answer, (24,0,0,0)(4,0,0,0), is proposed by one entry: the variable 0, its type at the place 1
-pub k2-entries : pointed 0 (24 ∷ 0 ∷ 0 ∷ 0 ∷ 4 ∷ 0 ∷ 0 ∷ 0 ∷ []) ≡ record { variable = 0; place = 1 } ∷ []
-unfolding pointed
+-- K2's whole answer, (24,0,0,0)(4,0,0,0) with the lengths 2 and 1, is proposed by one entry: the variable 0, its type at the place 1
+pub k2-entries : pointed 0 (head 24 2 ∷ 0 ∷ 0 ∷ 0 ∷ head 4 1 ∷ 0 ∷ 0 ∷ 0 ∷ []) ≡ record { variable = 0; place = 1 } ∷ []
+unfolding pointed head kindIn
 k2-entries = refl
 
 -- K10 doesn't meet the premise; it is accepted, but its answer is no solution

@@ -18,7 +18,7 @@ use Rattle.rules.specs.Refusals.{numberOf}
 use Rattle.rules.specs.Replacing.{replaceCon, bindings}
 use Rattle.rules.specs.Trees.{Open, Ty, Con, Binding, sizeCon, depthCon, opensCon}
 use Rattle.rules.specs.WellFormed.{goodTy, goodCon}
-use Rattle.rules.specs.Writing.{words}
+use Rattle.rules.specs.Writing.{Rec, words}
 use Rattle.rules.specs.declared.Refusal.{Refusal}
 use Rattle.laws.specs.KeepsGood as laws
 use Rattle.laws.specs.KnownNames.{con-known}
@@ -26,6 +26,7 @@ use Rattle.laws.specs.Lists.{true≢false, clash}
 use Rattle.laws.specs.NameTable.{Good, good-laid}
 use Rattle.laws.specs.Sized.{sized-kept, sized-long, sized-deep}
 use Rattle.products.specs.Held.{law}
+use Rattle.records.specs.Cut.{short-con}
 use Rattle.records.specs.Good.{numbers, holding}
 use Rattle.records.specs.Holds.{HoldsCon}
 use Rattle.queries.specs.GoodOpens.{names-small}
@@ -134,14 +135,14 @@ module _ (pool table : List ℕ) where
       pub is : replaced ≡ got made
       pub read : q ≡ at + sizeCon c
       pub many : n ≡ sizeCon made
-      pub buffer : w′ ≡ sets w 0 (words (writeLine (con made)))
+      pub buffer : sizeCon made ≤ 2048 → w′ ≡ sets w 0 (words (writeLine (con made)))
 
     module _ {w w′ : List ℕ} (at : ℕ) {r : Went} (left : Left sizeLine writeLine w w′ (at + sizeLine (con c)) 0 r (replaceLine pool table (bindings (numbers pool table) bs) (con c))) where
       pub came : {q n : ℕ} → r ≡ To q n → Came w w′ at q n
       came {q} {n} e = go replaced refl (subst (λ (y : Went). Left sizeLine writeLine w w′ (at + sizeLine (con c)) 0 y (replaced >>= λ d. got (con d))) e left)
         where
           go : (R : Got (Con ℕ)) → replaced ≡ R → Left sizeLine writeLine w w′ (at + sizeLine (con c)) 0 (To q n) (R >>= λ d. got (con d)) → Came w w′ at q n
-          go (got d) i l = let p = l .says .0 in let j : n ≡ 0 + sizeCon d = cc in let k : q ≡ at + sizeCon c = cc in record { made = d; is = i; read = k; many = omega (arith, j); buffer = l .says .1 }
+          go (got d) i l = let p = l .says .0 in let j : n ≡ 0 + sizeCon d = cc in let k : q ≡ at + sizeCon c = cc in record { made = d; is = i; read = k; many = omega (arith, j); buffer = λ h. l .says .1 ∙ ap (λ (rs : List Rec). sets w 0 (words rs)) (short-con d (omega arith)) }
           go (refused k) i l = absurd (l .says)
 
       pub stops : {k : Refusal} → r ≡ Stop k → replaced ≡ refused (numberOf k)
@@ -159,7 +160,7 @@ module _ (pool table : List ℕ) where
         many = k .many;
         held = λ le.
             let z : 0 + sumOf sizeLine (con (k .made) ∷ []) ≡ n = omega (arith, k .many) in
-            rw z at (plain-written pool table w w′ 0 (con (k .made) ∷ []) (and-eq-true-iff (goodLine pool table (con (k .made))) true .1 (good, refl)) (k .buffer ∙ ap (λ rs. sets w 0 (words rs)) (sym (append-nil (writeLine (con (k .made)))))) (omega arith));
+            rw z at (plain-written pool table w w′ 0 (con (k .made) ∷ []) (and-eq-true-iff (goodLine pool table (con (k .made))) true .1 (good, refl)) (k .buffer le ∙ ap (λ rs. sets w 0 (words rs)) (sym (append-nil (writeLine (con (k .made)))))) (omega arith));
         good = good;
       }
         where

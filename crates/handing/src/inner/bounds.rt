@@ -1,7 +1,7 @@
 // Bounds written with their names renamed.
 use records::Open;
 use records::View;
-use records::inner::put_record;
+use records::inner::put_one;
 use records::seen::view_at;
 use replacing::inner::bound::Found;
 use replacing::inner::bound::look_up;
@@ -38,12 +38,12 @@ fn put_bound(o: Open, places: &[u32], v: &[u32], all: bool, dst: &mut [u32], out
 {
     match look_up(places, v, o) {
         Found::At(i, _) => {
-            put_record(dst, out, View::Bound(name_at(v, i, o)));
+            put_one(dst, out, View::Bound(name_at(v, i, o)));
             1
         }
         Found::Nothing => {
             if all {
-                put_record(dst, out, View::Bound(o));
+                put_one(dst, out, View::Bound(o));
                 1
             } else {
                 0

@@ -2,24 +2,24 @@
 use records::Open;
 use records::View;
 use records::inner::put;
-use records::inner::put_record;
+use records::inner::put_one;
 ghost use mathlib.Core.Path.{_≡_};
 ghost use mathlib.Core.List.{[], _∷_};
 ghost use Prim.Native.Nat.{ℕ, _+_, _*_, _≤_, _<_};
 ghost use lib.ListN.{length, set, getD};
 ghost use lib.Seq.{sets};
-ghost use Rattle.rules.specs.Writing.{words, rec};
+ghost use Rattle.rules.specs.Writing.{words, rec, head};
 ghost use Rattle.handing.specs.Tables.{quantPlaces, quantTypes, backPlaces, ownPlaces, ownTypes};
 
 // The variable and the parameter x become quantified variable i.
 fn quantify_name(x: u32, i: u32, places: &mut [u32], v: &mut [u32])
     requires { ⌜ x < 256 ⌝ }
-    ensures { λ _. ⌜ (now (places .exit) ≡ set (set (now (places .entry)) x (x + 1)) (256 + x) (x + 1)) × (now (v .exit) ≡ sets (now (v .entry)) (x * 4) (words (rec 14 i 0 0 ∷ []))) ⌝ }
+    ensures { λ _. ⌜ (now (places .exit) ≡ set (set (now (places .entry)) x (x + 1)) (256 + x) (x + 1)) × (now (v .exit) ≡ sets (now (v .entry)) (x * 4) (words (rec (head 14 1) i 0 0 ∷ []))) ⌝ }
 {
     let at = x as usize;
     put(places, at, x + 1);
     put(places, 256 + at, x + 1);
-    put_record(v, at, View::Opened(Open::Quant(i)));
+    put_one(v, at, View::Opened(Open::Quant(i)));
 }
 
 // Each handed name becomes the quantified variable of its first place.
@@ -57,7 +57,7 @@ pub fn keep_names(n: u32, places: &mut [u32], v: &mut [u32])
     while x < n {
         let at = x as usize;
         put(places, at, x + 1);
-        put_record(v, at, View::Opened(Open::Var(x)));
+        put_one(v, at, View::Opened(Open::Var(x)));
         x += 1;
     }
 }

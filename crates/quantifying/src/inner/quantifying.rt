@@ -32,7 +32,6 @@ pub fn quantify_at(
     let mut places = [0u32; 512];
     let mut v = [0u32; 1024];
     quantify_names(names, &mut places, &mut v);
-    put_record(work, 0, View::Scheme(names.len() as u32));
     match replace_type(pool, table, s, at, &places, &v, work, 1) {
         Went::To(_, out) => {
             if RECORDS < out {
@@ -42,6 +41,7 @@ pub fn quantify_at(
             if RECORDS < n {
                 Answer::Refused(Refusal::TooLarge)
             } else {
+                put_record(work, 0, View::Scheme(names.len() as u32), n);
                 Answer::Records(n)
             }
         }

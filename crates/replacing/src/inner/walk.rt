@@ -12,6 +12,7 @@ use products::Tried;
 use records::Open;
 use records::View;
 use records::inner::copy;
+use records::inner::put_one;
 use records::inner::put_record;
 use records::seen::view_at;
 use rules::Refusal;
@@ -26,10 +27,11 @@ ghost use Rattle.rules.specs.Writing.{words};
 ghost use Rattle.laws.specs.NameTable.{Good};
 ghost use Rattle.products.specs.Told.{Tree};
 ghost use Rattle.records.specs.Holds.{openOf};
+ghost use Rattle.records.specs.Cut.{fit};
 ghost use Rattle.records.specs.Views.{viewAt};
 ghost use Rattle.replacing.specs.Places.{Tabled};
 ghost use Rattle.replacing.specs.Well.{Whole, HeldType, HeldDim, Lent};
-ghost use Rattle.replacing.specs.Left.{Room, Row, HeldRow, Ready, headOf, headRecs, OpenReplaced, ProductPut, ProductReplaced, DimReplaced, Replaced, RowReplaced};
+ghost use Rattle.replacing.specs.Left.{Room, Row, HeldRow, Ready, headOf, headRecs, Behind, beforeRecs, OpenReplaced, ProductPut, ProductReplaced, DimReplaced, Replaced, RowReplaced};
 
 // The next place in the source and in the buffer, or why the walk stopped.
 pub enum Went {
@@ -49,7 +51,7 @@ fn replace_open(o: Open, places: &[u32], v: &[u32], dst: &mut [u32], out: usize)
             j - i
         }
         Found::Nothing => {
-            put_record(dst, out, View::Opened(o));
+            put_one(dst, out, View::Opened(o));
             1
         }
     }
@@ -131,16 +133,35 @@ pub fn replace_dim(
     }
 }
 
-// Writes the record that stands before the type of a field; a type has none.
-fn put_head(s: &[u32], at: usize, fields: bool, dst: &mut [u32], out: usize) -> usize
+// How many records stand before a type in a row: a field has one.
+fn heads(fields: bool) -> usize
+    ensures { λ r. ⌜ r ≡ headOf fields ⌝ }
+{
+    if fields { 1 } else { 0 }
+}
+
+// Writes the record that stands before the type of a field, with which it is n records long; a type has none.
+fn put_head(s: &[u32], at: usize, fields: bool, dst: &mut [u32], out: usize, n: usize)
     requires { ⌜ out < 2 ^ 60 ⌝ }
-    ensures { λ r. ⌜ (r ≡ headOf fields) × (now (dst .exit) ≡ sets (now (dst .entry)) (out * 4) (words (headRecs fields (viewAt (now (s .entry)) at)))) ⌝ }
+    ensures { λ _. ⌜ now (dst .exit) ≡ sets (now (dst .entry)) (out * 4) (words (headRecs fields (viewAt (now (s .entry)) at) (fit n))) ⌝ }
 {
     if fields {
-        put_record(dst, out, view_at(s, at));
-        1
-    } else {
-        0
+        put_record(dst, out, view_at(s, at), n);
+    }
+}
+
+// Writes the record v before parts that were written behind it, once it is known how far they go.
+pub fn put_before(r: Went, v: View, dst: &mut [u32], out: usize) -> Went
+    requires { ⌜ out < 2 ^ 60 ⌝ }
+    requires { ⌜ Behind r out ⌝ }
+    ensures { λ q. ⌜ (q ≡ r) × (now (dst .exit) ≡ sets (now (dst .entry)) (out * 4) (words (beforeRecs r v out))) ⌝ }
+{
+    match r {
+        Went::To(q, o) => {
+            put_record(dst, out, v, o - out);
+            Went::To(q, o)
+        }
+        Went::Stop(k) => Went::Stop(k),
     }
 }
 
@@ -168,27 +189,31 @@ pub fn replace_type(
             Went::To(at + 1, out + n)
         }
         View::Basic(_) => {
-            put_record(dst, out, w);
+            put_one(dst, out, w);
             Went::To(at + 1, out + 1)
         }
         View::Dim(n) => replace_dim(pool, table, s, at + 1, n, true, places, v, dst, out),
         View::Function(n) => {
-            put_record(dst, out, w);
             match replace_list(pool, table, s, at + 1, n, false, places, v, dst, out + 1) {
-                Went::To(q, o) => replace_type(pool, table, s, q, places, v, dst, o),
+                Went::To(q, o) => {
+                    let r = replace_type(pool, table, s, q, places, v, dst, o);
+                    put_before(r, w, dst, out)
+                }
                 Went::Stop(k) => Went::Stop(k),
             }
         }
         View::Struct(_, n, m) => {
-            put_record(dst, out, w);
             match replace_list(pool, table, s, at + 1, n, false, places, v, dst, out + 1) {
-                Went::To(q, o) => replace_list(pool, table, s, q, m, true, places, v, dst, o),
+                Went::To(q, o) => {
+                    let r = replace_list(pool, table, s, q, m, true, places, v, dst, o);
+                    put_before(r, w, dst, out)
+                }
                 Went::Stop(k) => Went::Stop(k),
             }
         }
         View::List => {
-            put_record(dst, out, w);
-            replace_type(pool, table, s, at + 1, places, v, dst, out + 1)
+            let r = replace_type(pool, table, s, at + 1, places, v, dst, out + 1);
+            put_before(r, w, dst, out)
         }
         _ => Went::Stop(Refusal::Malformed),
     }
@@ -217,9 +242,12 @@ pub fn replace_list(
     if n == 0 {
         return Went::To(at, out);
     }
-    let h = put_head(s, at, fields, dst, out);
+    let h = heads(fields);
     match replace_type(pool, table, s, at + h, places, v, dst, out + h) {
-        Went::To(q, o) => replace_list(pool, table, s, q, n - 1, fields, places, v, dst, o),
+        Went::To(q, o) => {
+            put_head(s, at, fields, dst, out, o - out);
+            replace_list(pool, table, s, q, n - 1, fields, places, v, dst, o)
+        }
         Went::Stop(k) => Went::Stop(k),
     }
 }

@@ -9,6 +9,7 @@ use records::Atom;
 use records::Open;
 use records::View;
 use records::inner::put_record;
+use records::seen::length_at;
 use records::seen::view_at;
 ghost use mathlib.Core.Path.{_≡_};
 ghost use mathlib.Core.List.{List, [], _∷_};
@@ -88,7 +89,7 @@ fn bind_to(x: Name, s: &[u32], at: usize, dst: &mut [u32], out: usize) -> Step
     if contains_at(s, at, y) {
         return Step::Stuck;
     }
-    put_record(dst, out, View::Binding(y));
+    put_record(dst, out, View::Binding(y), 1 + length_at(s, at));
     Step::Bind(put_type(s, at, dst, out + 1))
 }
 

@@ -14,7 +14,9 @@ use queries::Name;
 use records::Atom;
 use records::Open;
 use records::View;
+use records::inner::put_one;
 use records::inner::put_record;
+use records::seen::length_at;
 use records::seen::view_at;
 ghost use mathlib.Core.Path.{_≡_};
 ghost use mathlib.Core.List.{_∷_};
@@ -118,9 +120,9 @@ fn as_products(x: Name, s: &[u32], at: usize, dst: &mut [u32], out: usize) -> St
     let Name::Of(y) = x else {
         return Step::Stuck;
     };
-    put_record(dst, out, View::Equal);
-    put_record(dst, out + 1, View::Dim(1));
-    put_record(dst, out + 2, View::Factor(Atom::Free(Open::Var(y)), 1, 1));
+    put_record(dst, out, View::Equal, 3 + length_at(s, at));
+    put_record(dst, out + 1, View::Dim(1), 2);
+    put_one(dst, out + 2, View::Factor(Atom::Free(Open::Var(y)), 1, 1));
     Step::Split(put_type(s, at, dst, out + 3))
 }
 
@@ -150,7 +152,7 @@ fn put_scalar(t: Tried, dst: &mut [u32], out: usize) -> Step
         Checked::Good => {
             let p = t.product;
             let n = p.len;
-            put_record(dst, out, View::IsScalar);
+            put_record(dst, out, View::IsScalar, 2 + n);
             store(p, dst, out + 1);
             Step::Split(out + 2 + n)
         }

@@ -12,6 +12,7 @@ use queries::inner::end_of;
 use records::Atom;
 use records::Open;
 use records::View;
+use records::inner::put_one;
 use records::inner::put_record;
 use records::seen::view_at;
 use replacing::inner::bound::Found;
@@ -42,8 +43,8 @@ fn put_is_dim(x: u32, dst: &mut [u32], out: usize) -> usize
     requires { ⌜ out ≤ 20000000000 ⌝ }
     ensures { λ r. ⌜ Wrote (now (dst .entry)) (now (dst .exit)) out r (isDimOf x) ⌝ }
 {
-    put_record(dst, out, View::IsDim);
-    put_record(dst, out + 1, View::Opened(Open::Var(x)));
+    put_record(dst, out, View::IsDim, 2);
+    put_one(dst, out + 1, View::Opened(Open::Var(x)));
     out + 2
 }
 
@@ -123,7 +124,7 @@ fn put_others(k: Exponent, s: &[u32], at: usize, n: u32, dst: &mut [u32], out: u
     match other_power(num, den, k) {
         Power::Refused(why) => Checked::Refused(why),
         Power::Value(e) => {
-            put_record(dst, out, View::Factor(a, e.num_word(), e.den));
+            put_one(dst, out, View::Factor(a, e.num_word(), e.den));
             put_others(k, s, at + 1, n - 1, dst, out + 1)
         }
     }
@@ -133,13 +134,14 @@ fn put_others(k: Exponent, s: &[u32], at: usize, n: u32, dst: &mut [u32], out: u
 fn solve_for(x: u32, k: Exponent, s: &[u32], at: usize, n: u32, dst: &mut [u32], out: usize) -> Step
     requires { ⌜ goodExp (expOf k) ≡ true ⌝ }
     requires { ⌜ ((p : Tree) × FactorsHeld (now s) p at n) ⌝ }
-    requires { ⌜ (at + n ≤ 10000000000) × (out ≤ 1000000000) ⌝ }
+    requires { ⌜ (at + n ≤ 30000) × (out ≤ 1000000000) ⌝ }
     ensures { λ r. ⌜ ((p : Tree) → FactorsHeld (now (s .entry)) p at n → Stepped (now (dst .entry)) (now (dst .exit)) out r (boundTo x (each (otherSide bounded (expOf k)) p))) ⌝ }
 {
-    put_record(dst, out, View::Binding(x));
-    put_record(dst, out + 1, View::Dim(n));
+    let m = n as usize;
+    put_record(dst, out, View::Binding(x), 2 + m);
+    put_record(dst, out + 1, View::Dim(n), 1 + m);
     match put_others(k, s, at, n, dst, out + 2) {
-        Checked::Good => Step::Bind(out + 2 + n as usize),
+        Checked::Good => Step::Bind(out + 2 + m),
         Checked::Refused(why) => Step::Refused(why),
     }
 }
@@ -156,7 +158,7 @@ fn first_factor(
 ) -> Step
     requires { ⌜ goodExp (expOf k) ≡ true ⌝ }
     requires { ⌜ ((p : Tree) × FactorsHeld (now s) p at n) ⌝ }
-    requires { ⌜ (at + n ≤ 10000000000) × (out ≤ 1000000000) ⌝ }
+    requires { ⌜ (at + n ≤ 30000) × (out ≤ 1000000000) ⌝ }
     ensures { λ r. ⌜ ((p : Tree) (names : List Bytes) → FactorsHeld (now (s .entry)) p at n → Stepped (now (dst .entry)) (now (dst .exit)) out r (trySatisfy (numbered names) bounded (isScalar (atomOf a ↑ expOf k ∷ p)))) ⌝ }
 {
     let Atom::Free(o) = a else {

@@ -3,6 +3,7 @@ use queries::inner::end_of;
 use records::View;
 use records::inner::copy;
 use records::inner::put_record;
+use records::seen::length_at;
 ghost use mathlib.Core.Path.{_≡_};
 ghost use mathlib.Core.List.{[], _∷_};
 ghost use Prim.Native.Nat.{ℕ, _+_, _/_, _≤_};
@@ -16,7 +17,7 @@ ghost use Rattle.satisfying.specs.Parts.{PairRoom, Put, Wrote};
 // Writes the type at a place, and says where that ends.
 pub fn put_type(s: &[u32], at: usize, dst: &mut [u32], out: usize) -> usize
     requires { ⌜ ((t : Ty ℕ) × Holds (now s) t at) ⌝ }
-    requires { ⌜ (length (now s) ≤ 4000000000) × (out ≤ 1000000000000) ⌝ }
+    requires { ⌜ (length (now s) ≤ 100000) × (out ≤ 1000000000000) ⌝ }
     ensures { λ r. ⌜ ((t : Ty ℕ) → Holds (now (s .entry)) t at → Put (now (dst .entry)) (now (dst .exit)) out r (size t) (writeTy t)) ⌝ }
 {
     let e = end_of(s, at);
@@ -28,10 +29,11 @@ pub fn put_type(s: &[u32], at: usize, dst: &mut [u32], out: usize) -> usize
 pub fn put_equal(s: &[u32], left: usize, right: usize, dst: &mut [u32], out: usize) -> usize
     requires { ⌜ ((t : Ty ℕ) × Holds (now s) t left) ⌝ }
     requires { ⌜ ((u : Ty ℕ) × Holds (now s) u right) ⌝ }
-    requires { ⌜ (length (now s) ≤ 4000000000) × (out ≤ 900000000000) ⌝ }
+    requires { ⌜ (length (now s) ≤ 100000) × (out ≤ 900000000000) ⌝ }
     ensures { λ r. ⌜ ((t u : Ty ℕ) → Holds (now (s .entry)) t left → Holds (now (s .entry)) u right → Wrote (now (dst .entry)) (now (dst .exit)) out r (equal t u ∷ [])) ⌝ }
 {
-    put_record(dst, out, View::Equal);
+    let n = 1 + length_at(s, left) + length_at(s, right);
+    put_record(dst, out, View::Equal, n);
     let o = put_type(s, left, dst, out + 1);
     put_type(s, right, dst, o)
 }

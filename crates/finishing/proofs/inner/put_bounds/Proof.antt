@@ -21,8 +21,8 @@ abbrev μ-loop : tie.MeasureT-loop
 loop-holds : tie.Need-loop-holds Inv-loop μ-loop
 loop-holds c = let a = c .before .before .args in (refl, (omega arith, ap (λ (j : ℕ). sets (a .dst .now) (j * 4) (words (map boundRec (take (a .k) (a .names .now))))) (let z : a .out + 0 ≡ a .out = omega arith in z)))
 
-add-put-record : tie.Need-add-put-record Inv-loop μ-loop
-add-put-record c = omega arith
+add-put-one : tie.Need-add-put-one Inv-loop μ-loop
+add-put-one c = omega arith
 
 mul-t11 : tie.Need-mul-t11 Inv-loop μ-loop
 mul-t11 c = omega arith
@@ -30,8 +30,8 @@ mul-t11 c = omega arith
 shared-slice-read-t13 : tie.Need-shared-slice-read-t13 Inv-loop μ-loop
 shared-slice-read-t13 c = omega arith
 
-put-record-requires : tie.Need-put-record-requires Inv-loop μ-loop
-put-record-requires c κs = omega arith
+put-one-requires : tie.Need-put-one-requires Inv-loop μ-loop
+put-one-requires c κs = omega arith
 
 add-i : tie.Need-add-i Inv-loop μ-loop
 add-i c = omega arith
@@ -44,7 +44,7 @@ loop-again c =
     let p = c .before .before in
     let l = p .before .before .before in
     let a = l .before .before .before .before .args in
-    (p .put-record .kept .0 ∙ l .before .loop .inv .0, (omega arith, bound-step (a .names .now) (l .before .loop .dst) _ (a .k) (a .out) (l .before .loop .i) (l .loop-test .taken) (l .before .before .before .before .pre .0) (p .put-record .ensures) (l .before .loop .inv .1 .1)))
+    (p .put-one .kept .0 ∙ l .before .loop .inv .0, (omega arith, bound-step (a .names .now) (l .before .loop .dst) _ (a .k) (a .out) (l .before .loop .i) (l .loop-test .taken) (l .before .before .before .before .pre .0) (p .put-one .ensures) (l .before .loop .inv .1 .1)))
 
 same-length : tie.Need-same-length Inv-loop μ-loop
 same-length c = c .before .loop .inv .0
@@ -63,10 +63,10 @@ put-bounds-spec =
     Inv-loop
     μ-loop
     loop-holds
-    add-put-record
+    add-put-one
     mul-t11
     shared-slice-read-t13
-    put-record-requires
+    put-one-requires
     add-i
     loop-less
     loop-again

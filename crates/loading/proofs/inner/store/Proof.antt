@@ -26,6 +26,9 @@ abbrev μ-loop : tie.MeasureT-loop
 cast-t11 : tie.Need-cast-t11 Inv-loop μ-loop
 cast-t11 c = omega (arith, c .before .before .pre .0 .few)
 
+add-put-record : tie.Need-add-put-record Inv-loop μ-loop
+add-put-record c = omega (arith, c .before .before .pre .0 .few)
+
 put-record-requires : tie.Need-put-record-requires Inv-loop μ-loop
 put-record-requires c κs = omega (arith, c .before .before .pre .1)
 
@@ -46,17 +49,17 @@ mul-f c = omega (arith, within c)
 element-copy-out-f : tie.Need-element-copy-out-f Inv-loop μ-loop
 element-copy-out-f c = omega (arith, within c)
 
-add-put-record : tie.Need-add-put-record Inv-loop μ-loop
-add-put-record c = omega (arith, within (c .before .before))
+add-put-one : tie.Need-add-put-one Inv-loop μ-loop
+add-put-one c = omega (arith, within (c .before .before))
 
-add-put-record-2 : tie.Need-add-put-record-2 Inv-loop μ-loop
-add-put-record-2 c = omega (arith, within (c .before .before))
+add-put-one-2 : tie.Need-add-put-one-2 Inv-loop μ-loop
+add-put-one-2 c = omega (arith, within (c .before .before))
 
 view-of-requires : tie.Need-view-of-requires Inv-loop μ-loop
 view-of-requires c κs = c .before .before .before .before .before .before .before .before .before .pre .0 .kind _ (within (c .before .before) .0)
 
-put-record-requires-2 : tie.Need-put-record-requires-2 Inv-loop μ-loop
-put-record-requires-2 c κs = omega (arith, within (c .before .before .before))
+put-one-requires : tie.Need-put-one-requires Inv-loop μ-loop
+put-one-requires c κs = omega (arith, within (c .before .before .before))
 
 add-i : tie.Need-add-i Inv-loop μ-loop
 add-i c = omega (arith, within (c .before .before .before .before .before .before))
@@ -69,7 +72,7 @@ loop-again c =
     let t = c .before .before .before .before .before .before in
     let l = t .before in
     let s = l .before .before .before .before .before .before in
-    let r = c .before .before .put-record2 in
+    let r = c .before .before .put-one in
     let i = l .loop .i in
     let P = productOf (s .args .t1) in
     let e : s .args .out + 1 + i + 1 ≡ s .args .out + 1 + (i + 1) = omega arith in
@@ -90,7 +93,7 @@ returns c =
     let done : drop (l .loop .i) P ≡ [] = ap (λ (k : ℕ). drop k P) i ∙ at-end (s .args .t1) (s .pre .0 .long) (s .pre .0 .few) in
     let o = (s .args .out + 1 + l .loop .i) * 4 in
     let w = sym (ap (λ (p : Tree). sets (l .loop .dst) o (words (map writeFactor p))) done ∙ write-none (l .loop .dst) o) ∙ l .loop .inv .2 in
-    write-whole (now (s .args .dst)) (r .last .0) (l .loop .dst) (s .args .out) (s .args .t1 .len) P (length-product (s .args .t1) (s .pre .0 .long) (s .pre .0 .few)) (r .ensures) w
+    write-whole (now (s .args .dst)) (r .last .0) (l .loop .dst) (s .args .out) (s .args .t1 .len) P (length-product (s .args .t1) (s .pre .0 .long) (s .pre .0 .few)) (s .pre .0 .few) (r .ensures) w
 
 pub store-spec : {M : Type 1} → statement M
 store-spec =
@@ -99,14 +102,15 @@ store-spec =
     Inv-loop
     μ-loop
     cast-t11
+    add-put-record
     put-record-requires
     loop-holds
     mul-f
     element-copy-out-f
-    add-put-record
-    add-put-record-2
+    add-put-one
+    add-put-one-2
     view-of-requires
-    put-record-requires-2
+    put-one-requires
     add-i
     loop-less
     loop-again

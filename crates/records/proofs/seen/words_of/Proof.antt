@@ -1,5 +1,5 @@
 -- `words_of` meets its contract: by the view. Assumes nothing.
-use Rattle.records.specs.Views.{recOf}
+use Rattle.records.specs.Views.{bareOf}
 use Rattle.rules.specs.Writing.{rec}
 use Prim.Native.Nat.{ℕ}
 use mathlib.Core.Path.{sym, ap, _∙_}
@@ -107,55 +107,55 @@ lone-requires-12 : tie.Need-lone-requires-12
 lone-requires-12 c κs = search needs
 
 returns : tie.Need-returns
-returns c = c .open-words .ensures ∙ sym (ap recOf (c .before .before .v .given .1))
+returns c = c .open-words .ensures ∙ sym (ap bareOf (c .before .before .v .given .1))
 
 returns-2 : tie.Need-returns-2
-returns-2 c = c .lone .ensures ∙ ap (λ (k : ℕ). rec k 0 0 0) (c .before .basic-kind .ensures) ∙ sym (ap recOf (c .before .before .before .v2 .given .1))
+returns-2 c = c .lone .ensures ∙ ap (λ (k : ℕ). rec k 0 0 0) (c .before .basic-kind .ensures) ∙ sym (ap bareOf (c .before .before .before .v2 .given .1))
 
 returns-3 : tie.Need-returns-3
-returns-3 c = c .lone2 .ensures ∙ sym (ap recOf (c .before .before .v3 .given .1))
+returns-3 c = c .lone2 .ensures ∙ sym (ap bareOf (c .before .before .v3 .given .1))
 
 returns-4 : tie.Need-returns-4
-returns-4 c = c .lone3 .ensures ∙ sym (ap recOf (c .before .before .v4 .given .1))
+returns-4 c = c .lone3 .ensures ∙ sym (ap bareOf (c .before .before .v4 .given .1))
 
 returns-5 : tie.Need-returns-5
-returns-5 c = sym (ap recOf (c .before .v5 .given .1))
+returns-5 c = sym (ap bareOf (c .before .v5 .given .1))
 
 returns-6 : tie.Need-returns-6
-returns-6 c = c .lone4 .ensures ∙ sym (ap recOf (c .before .enum-told .given .1))
+returns-6 c = c .lone4 .ensures ∙ sym (ap bareOf (c .before .enum-told .given .1))
 
 returns-7 : tie.Need-returns-7
-returns-7 c = c .lone5 .ensures ∙ sym (ap recOf (c .before .before .v6 .given .1))
+returns-7 c = c .lone5 .ensures ∙ sym (ap bareOf (c .before .before .v6 .given .1))
 
 returns-8 : tie.Need-returns-8
-returns-8 c = c .factor-words .ensures ∙ sym (ap recOf (c .before .before .v7 .given .1))
+returns-8 c = c .factor-words .ensures ∙ sym (ap bareOf (c .before .before .v7 .given .1))
 
 returns-9 : tie.Need-returns-9
-returns-9 c = c .lone6 .ensures ∙ sym (ap recOf (c .before .enum-told2 .given .1))
+returns-9 c = c .lone6 .ensures ∙ sym (ap bareOf (c .before .enum-told2 .given .1))
 
 returns-10 : tie.Need-returns-10
-returns-10 c = c .lone7 .ensures ∙ sym (ap recOf (c .before .enum-told3 .given .1))
+returns-10 c = c .lone7 .ensures ∙ sym (ap bareOf (c .before .enum-told3 .given .1))
 
 returns-11 : tie.Need-returns-11
-returns-11 c = c .lone8 .ensures ∙ sym (ap recOf (c .before .enum-told4 .given .1))
+returns-11 c = c .lone8 .ensures ∙ sym (ap bareOf (c .before .enum-told4 .given .1))
 
 returns-12 : tie.Need-returns-12
-returns-12 c = c .lone9 .ensures ∙ sym (ap recOf (c .before .before .v8 .given .1))
+returns-12 c = c .lone9 .ensures ∙ sym (ap bareOf (c .before .before .v8 .given .1))
 
 returns-13 : tie.Need-returns-13
-returns-13 c = c .lone10 .ensures ∙ sym (ap recOf (c .before .before .v9 .given .1))
+returns-13 c = c .lone10 .ensures ∙ sym (ap bareOf (c .before .before .v9 .given .1))
 
 returns-14 : tie.Need-returns-14
-returns-14 c = c .bound-words .ensures ∙ sym (ap recOf (c .before .before .v10 .given .1))
+returns-14 c = c .bound-words .ensures ∙ sym (ap bareOf (c .before .before .v10 .given .1))
 
 returns-15 : tie.Need-returns-15
-returns-15 c = c .lone11 .ensures ∙ sym (ap recOf (c .before .before .v11 .given .1))
+returns-15 c = c .lone11 .ensures ∙ sym (ap bareOf (c .before .before .v11 .given .1))
 
 returns-16 : tie.Need-returns-16
-returns-16 c = sym (ap recOf (c .enum-told5 .given .1))
+returns-16 c = sym (ap bareOf (c .enum-told5 .given .1))
 
 returns-17 : tie.Need-returns-17
-returns-17 c = c .lone12 .ensures ∙ sym (ap recOf (c .before .enum-told6 .given .1))
+returns-17 c = c .lone12 .ensures ∙ sym (ap bareOf (c .before .enum-told6 .given .1))
 
 pub words-of-spec : {M : Type 1} → statement M
 words-of-spec =

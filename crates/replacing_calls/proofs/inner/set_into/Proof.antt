@@ -6,6 +6,7 @@ use denote.Ref.{now}
 use Rattle.rules.specs.Base.{sumOf, maxOf, collect}
 use Rattle.records.specs.Found.{Words32}
 use Rattle.replacing.specs.Flat.{depthLine}
+use Rattle.replacing.specs.LineLaws.{short-lines}
 use Rattle.replacing.specs.LineRules.{con, sizeLine, writeLine}
 use Rattle.replacing.specs.Written.{all-length}
 use Rattle.replacing_calls.specs.Made.{set-asks, set-made, lines-stand, came, made-to, made-stop}
@@ -52,7 +53,7 @@ set-fits-requires c κs =
     let a = c .before .before .before .before .before .before .before .before .before .before .before .before .before .before .before .before .before .args in
     let g = set-asks _ _ _ _ (word b) (binds-word b) bs cs n in
     let l = c .before .before .before .before .before .before .before .before .before .before .fill .ensures _ _ bs (n .good) (g .1 .0) in
-    let k = came (sumOf sizeLine) (maxOf depthLine) (collect writeLine) (all-length (now (a .pool)) (now (a .table))) _ _ _ space _ (c .before .before .k .given .1) (c .before .before .before .before .before .before .replace-lines .ensures (map con cs) _ (g .0) l) in
+    let k = came (sumOf sizeLine) (maxOf depthLine) (collect writeLine) (all-length (now (a .pool)) (now (a .table))) short-lines _ _ _ space _ (c .before .before .k .given .1) (c .before .before .before .before .before .before .replace-lines .ensures (map con cs) _ (g .0) l) in
     (n .good, (k .value, lines-stand _ _ _ _ (word b) (binds-word b) bs cs n _ _ _ _ space k))
 
 enum-known-k-2 : tie.Need-enum-known-k-2
@@ -68,9 +69,9 @@ returns c = λ cs bs n.
     let a = c .before .before .before .before .before .before .before .before .before .before .before .before .before .before .before .before .before .before .args in
     let g = set-asks _ _ _ _ (word b) (binds-word b) bs cs n in
     let l = c .before .before .before .before .before .before .before .before .before .before .before .fill .ensures _ _ bs (n .good) (g .1 .0) in
-    let k = came (sumOf sizeLine) (maxOf depthLine) (collect writeLine) (all-length (now (a .pool)) (now (a .table))) _ _ _ space _ (c .before .before .before .k .given .1) (c .before .before .before .before .before .before .before .replace-lines .ensures (map con cs) _ (g .0) l) in
+    let k = came (sumOf sizeLine) (maxOf depthLine) (collect writeLine) (all-length (now (a .pool)) (now (a .table))) short-lines _ _ _ space _ (c .before .before .before .k .given .1) (c .before .before .before .before .before .before .before .replace-lines .ensures (map con cs) _ (g .0) l) in
     set-made _ _ cs bs _ _
-    (made-to (sumOf sizeLine) (maxOf depthLine) (collect writeLine) (all-length (now (a .pool)) (now (a .table))) _ _ _ space _ _ _ k (c .set-fits .ensures (k .value) (lines-stand _ _ _ _ (word b) (binds-word b) bs cs n _ _ _ _ space k)))
+    (made-to (sumOf sizeLine) (maxOf depthLine) (collect writeLine) (all-length (now (a .pool)) (now (a .table))) short-lines _ _ _ space _ _ _ k (c .set-fits .ensures (k .value) (lines-stand _ _ _ _ (word b) (binds-word b) bs cs n _ _ _ _ space k)))
 
 same-length-2 : tie.Need-same-length-2
 same-length-2 c = search needs
@@ -83,7 +84,7 @@ returns-2 c = λ cs bs n.
     let g = set-asks _ _ _ _ (word b) (binds-word b) bs cs n in
     let l = c .before .before .before .before .before .before .before .before .before .fill .ensures _ _ bs (n .good) (g .1 .0) in
     set-made _ _ cs bs _ _
-    (made-stop (sumOf sizeLine) (maxOf depthLine) (collect writeLine) (all-length (now (a .pool)) (now (a .table))) _ _ _ space _ (c .before .k2 .given .1) (c .before .before .before .before .before .replace-lines .ensures (map con cs) _ (g .0) l))
+    (made-stop (sumOf sizeLine) (maxOf depthLine) (collect writeLine) (all-length (now (a .pool)) (now (a .table))) short-lines _ _ _ space _ (c .before .k2 .given .1) (c .before .before .before .before .before .replace-lines .ensures (map con cs) _ (g .0) l))
 
 pub set-into-spec : {M : Type 1} → statement M
 set-into-spec =

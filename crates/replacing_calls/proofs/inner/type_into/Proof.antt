@@ -4,6 +4,7 @@ use denote.Ref.{now}
 use Rattle.rules.specs.Trees.{size, depth}
 use Rattle.rules.specs.Writing.{writeTy}
 use Rattle.laws.specs.Size.{size-ty}
+use Rattle.records.specs.Cut.{short-ty}
 use Rattle.records.specs.Found.{Words32}
 use Rattle.replacing_calls.specs.Made.{type-asks, type-stands, came, made-to, made-stop}
 use borrow.Author.Needs.{needs}
@@ -56,8 +57,8 @@ returns c = λ t bs n.
     let space = c .before .before .before .before .before .before .before .before .before .before .before .before .before .before .before .before .before .before .pre .1 in
     let g = type-asks _ _ _ _ (word b) (binds-word b) bs t n in
     let l = c .before .before .before .before .before .before .before .before .before .before .before .fill .ensures _ _ bs (n .good) (g .1 .0) in
-    let k = came size depth writeTy size-ty _ _ _ space _ (c .before .before .before .n .given .1) (c .before .before .before .before .before .before .before .replace-type .ensures t _ (g .0) l) in
-    made-to size depth writeTy size-ty _ _ _ space _ _ _ k (c .type-fits .ensures (k .value) (type-stands _ _ _ _ (word b) (binds-word b) bs t n _ _ _ _ space k))
+    let k = came size depth writeTy size-ty short-ty _ _ _ space _ (c .before .before .before .n .given .1) (c .before .before .before .before .before .before .before .replace-type .ensures t _ (g .0) l) in
+    made-to size depth writeTy size-ty short-ty _ _ _ space _ _ _ k (c .type-fits .ensures (k .value) (type-stands _ _ _ _ (word b) (binds-word b) bs t n _ _ _ _ space k))
 
 same-length-2 : tie.Need-same-length-2
 same-length-2 c = search needs
@@ -68,7 +69,7 @@ returns-2 c = λ t bs n.
     let space = c .before .before .before .before .before .before .before .before .before .before .before .before .before .before .before .before .pre .1 in
     let g = type-asks _ _ _ _ (word b) (binds-word b) bs t n in
     let l = c .before .before .before .before .before .before .before .before .before .fill .ensures _ _ bs (n .good) (g .1 .0) in
-    made-stop size depth writeTy size-ty _ _ _ space _ (c .before .k .given .1) (c .before .before .before .before .before .replace-type .ensures t _ (g .0) l)
+    made-stop size depth writeTy size-ty short-ty _ _ _ space _ (c .before .k .given .1) (c .before .before .before .before .before .replace-type .ensures t _ (g .0) l)
 
 pub type-into-spec : {M : Type 1} → statement M
 type-into-spec =

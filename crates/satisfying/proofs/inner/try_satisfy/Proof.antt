@@ -5,7 +5,7 @@ use Prim.Native.Nat.{_-_}
 use Rattle.rules.specs.Names.{namesOf, tableOf}
 use Rattle.rules.specs.Rounds.{trySatisfy}
 use Rattle.replacing.specs.Well.{HeldType}
-use Rattle.satisfying.proofs.ByOther.{equal-con, is-dim-con, is-scalar-con, has-field-con, no-con, con-here, con-fits, stepped-as}
+use Rattle.satisfying.proofs.ByOther.{equal-con, is-dim-con, is-scalar-con, has-field-con, no-con, con-here, stepped-as}
 use borrow.Author.Needs.{needs}
 use Rattle.satisfying.proofs.inner.try_satisfy.Statement.{statement}
 use Rattle.satisfying.proofs.inner.try_satisfy.Tie as tie
@@ -40,7 +40,7 @@ equal-requires c κs =
     let a = c .before .before .before .before .before .before .before .before .before .args in
     let h = c .before .before .before .before .before .before .before .before .before .pre .1 .0 in
     let g = equal-con (a .pool .now) (a .table .now) (a .s .now) (a .at) (h .0) (h .1) (sym (c .before .before .before .before .view-at .ensures) ∙ c .before .before .enum-told .given .1) in
-    (c .before .before .before .before .before .before .before .before .before .pre .0, ((g .l, g .left), ((g .r, subst (HeldType (a .pool .now) (a .table .now) (a .s .now) (g .r)) (sym (c .before .end-of .ensures (g .l) (g .left .held))) (g .right)), con-fits (a .pool .now) (a .table .now) (a .s .now) (a .at) (h .0) (h .1) (c .before .before .before .before .before .before .before .before .before .pre .1 .1))))
+    (c .before .before .before .before .before .before .before .before .before .pre .0, ((g .l, g .left), ((g .r, subst (HeldType (a .pool .now) (a .table .now) (a .s .now) (g .r)) (sym (c .before .end-of .ensures (g .l) (g .left .held))) (g .right)), c .before .before .before .before .before .before .before .before .before .pre .1 .1)))
 
 enum-told-2 : tie.Need-enum-told-2
 enum-told-2 c = search needs
@@ -56,7 +56,7 @@ is-dimension-requires c κs =
     let a = c .before .before .before .before .before .before .before .before .args in
     let h = c .before .before .before .before .before .before .before .before .pre .1 .0 in
     let g = is-dim-con (a .pool .now) (a .table .now) (a .s .now) (a .at) (h .0) (h .1) (sym (c .before .before .before .view-at .ensures) ∙ c .before .enum-told2 .given .1) in
-    ((g .0, g .2), con-fits (a .pool .now) (a .table .now) (a .s .now) (a .at) (h .0) (h .1) (c .before .before .before .before .before .before .before .before .pre .1 .1))
+    ((g .0, g .2), c .before .before .before .before .before .before .before .before .pre .1 .1)
 
 enum-told-3 : tie.Need-enum-told-3
 enum-told-3 c = search needs
@@ -72,7 +72,7 @@ equal-scalar-requires c κs =
     let a = c .before .before .before .before .before .before .before .before .args in
     let h = c .before .before .before .before .before .before .before .before .pre .1 .0 in
     let g = is-scalar-con (a .pool .now) (a .table .now) (a .s .now) (a .at) (h .0) (h .1) (sym (c .before .before .before .view-at .ensures) ∙ c .before .enum-told3 .given .1) in
-    ((g .0, g .2), con-fits (a .pool .now) (a .table .now) (a .s .now) (a .at) (h .0) (h .1) (c .before .before .before .before .before .before .before .before .pre .1 .1))
+    ((g .0, g .2), c .before .before .before .before .before .before .before .before .pre .1 .1)
 
 enum-known-x : tie.Need-enum-known-x
 enum-known-x c = search needs
@@ -88,7 +88,7 @@ has-field-requires c κs =
     let a = c .before .before .before .before .before .before .before .before .before .args in
     let h = c .before .before .before .before .before .before .before .before .before .pre .1 .0 in
     let g = has-field-con (a .pool .now) (a .table .now) (a .s .now) (a .at) (h .0) (h .1) (sym (c .before .before .before .before .view-at .ensures) ∙ c .before .before .x .given .1) in
-    ((g .0, g .2, g .3), con-fits (a .pool .now) (a .table .now) (a .s .now) (a .at) (h .0) (h .1) (c .before .before .before .before .before .before .before .before .before .pre .1 .1))
+    ((g .0, g .2, g .3), c .before .before .before .before .before .before .before .before .before .pre .1 .1)
 
 same-length : tie.Need-same-length
 same-length c = search needs

@@ -22,16 +22,16 @@ name-at-requires : tie.Need-name-at-requires
 name-at-requires c κs = search needs
 
 -- src/inner/bounds.rt:48:13
-put-record-requires : tie.Need-put-record-requires
-put-record-requires c κs = search needs
+put-one-requires : tie.Need-put-one-requires
+put-one-requires c κs = search needs
 
 -- src/inner/bounds.rt:52:16
 enum-told : tie.Need-enum-told
 enum-told c = search needs
 
 -- src/inner/bounds.rt:53:17
-put-record-requires-2 : tie.Need-put-record-requires-2
-put-record-requires-2 c κs = search needs
+put-one-requires-2 : tie.Need-put-one-requires-2
+put-one-requires-2 c κs = search needs
 
 -- src/inner/bounds.rt:34:1
 same-length : tie.Need-same-length
@@ -43,7 +43,7 @@ returns c = λ f l.
     let u = c .before .before .before .before .before .before .before .before in
     let a = u .before .before .before .before .args in
     let k = found (renamed f (openOf (a .o))) (u .look-up .ensures (renamed f) l) (c .before .before .before .before .before .before .i .given .1) in
-    written-one f (openOf (a .o)) (a .all) _ (a .out) (c .before .before .before .name-at .result) _ (bound-found f (openOf (a .o)) (a .all) _ _ _ _ k (c .before .before .before .name-at .ensures)) (c .before .before .put-record .ensures)
+    written-one f (openOf (a .o)) (a .all) _ (a .out) (c .before .before .before .name-at .result) _ (bound-found f (openOf (a .o)) (a .all) _ _ _ _ k (c .before .before .before .name-at .ensures)) (c .before .before .put-one .ensures)
 
 -- src/inner/bounds.rt:34:1
 same-length-2 : tie.Need-same-length-2
@@ -55,7 +55,7 @@ returns-2 c = λ f l.
     let u = c .before .before .before .before .before .before .before in
     let a = u .before .before .before .before .args in
     let e = not-found (a .v .now) (renamed f (openOf (a .o))) (u .look-up .ensures (renamed f) l) (c .before .before .before .before .before .enum-told .given .1) in
-    written-one f (openOf (a .o)) (a .all) _ (a .out) (a .o) _ (bound-kept f (openOf (a .o)) (a .all) e ∙ ap (λ (b : Bool). ifAll b (openOf (a .o))) (c .before .before .before .before .if1 .taken)) (c .before .before .put-record2 .ensures)
+    written-one f (openOf (a .o)) (a .all) _ (a .out) (a .o) _ (bound-kept f (openOf (a .o)) (a .all) e ∙ ap (λ (b : Bool). ifAll b (openOf (a .o))) (c .before .before .before .before .if1 .taken)) (c .before .before .put-one2 .ensures)
 
 -- src/inner/bounds.rt:34:1
 returns-3 : tie.Need-returns-3
@@ -72,9 +72,9 @@ put-bound-spec =
     look-up-requires
     enum-known-i
     name-at-requires
-    put-record-requires
+    put-one-requires
     enum-told
-    put-record-requires-2
+    put-one-requires-2
     same-length
     returns
     same-length-2

@@ -34,8 +34,8 @@ put-requires : tie.Need-put-requires Inv-loop μ-loop
 put-requires c κs = search needs
 
 -- src/inner/tables.rt:60:9
-put-record-requires : tie.Need-put-record-requires Inv-loop μ-loop
-put-record-requires c κs = search needs
+put-one-requires : tie.Need-put-one-requires Inv-loop μ-loop
+put-one-requires c κs = search needs
 
 -- src/inner/tables.rt:61:9
 add-x : tie.Need-add-x Inv-loop μ-loop
@@ -49,7 +49,7 @@ loop-less c = omega arith
 loop-again : tie.Need-loop-again Inv-loop μ-loop
 loop-again c =
     let l = c .before .before .before .before .before .before .before .before .before .loop in
-    (omega arith, (own-places (l .x) _ _ _ (l .inv .1 .0) (c .before .before .before .before .before .before .put .ensures), own-types (l .x) _ _ _ (l .inv .1 .1) (c .before .before .put-record .ensures)))
+    (omega arith, (own-places (l .x) _ _ _ (l .inv .1 .0) (c .before .before .before .before .before .before .put .ensures), own-types (l .x) _ _ _ (l .inv .1 .1) (c .before .before .put-one .ensures)))
 
 -- src/inner/tables.rt:52:1
 same-length : tie.Need-same-length Inv-loop μ-loop
@@ -77,7 +77,7 @@ keep-names-spec =
     cast-at
     add-put
     put-requires
-    put-record-requires
+    put-one-requires
     add-x
     loop-less
     loop-again

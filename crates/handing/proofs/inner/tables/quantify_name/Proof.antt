@@ -28,8 +28,8 @@ put-requires-2 : tie.Need-put-requires-2
 put-requires-2 c κs = search needs
 
 -- src/inner/tables.rt:22:5
-put-record-requires : tie.Need-put-record-requires
-put-record-requires c κs = search needs
+put-one-requires : tie.Need-put-one-requires
+put-one-requires c κs = search needs
 
 -- src/inner/tables.rt:15:1
 same-length : tie.Need-same-length
@@ -44,7 +44,7 @@ returns : tie.Need-returns
 returns c =
     let a = c .before .before .before .before .before .before .before .before .before .before .before .before .before .before .args in
     let p = c .before .before .before .before .before .before in
-    (p .put2 .ensures ∙ ap (λ (l : List ℕ). set l (256 + a .x) (a .x + 1)) (p .before .before .before .before .put .ensures), c .before .before .put-record .ensures)
+    (p .put2 .ensures ∙ ap (λ (l : List ℕ). set l (256 + a .x) (a .x + 1)) (p .before .before .before .before .put .ensures), c .before .before .put-one .ensures)
 
 pub quantify-name-spec : {M : Type 1} → statement M
 quantify-name-spec =
@@ -55,7 +55,7 @@ quantify-name-spec =
     add-put-2
     add-put-3
     put-requires-2
-    put-record-requires
+    put-one-requires
     same-length
     same-length-2
     returns)

@@ -18,115 +18,85 @@ lent : (c : tie.After-quantify-names) (t : Ty ℕ) (bs : List (Open ℕ)) →
     Lent (now (a .pool)) (now (a .table)) (c .quantify-names .last .1 .0) (c .quantify-names .last .1 .1 .0) (renamed (handed (now (a .pool)) (now (a .table)) (now (a .names))))
 lent c t bs y = tables _ _ _ _ _ (y .names-small) (y .names-few) (c .quantify-names .ensures .0) (c .quantify-names .ensures .1)
 
--- src/inner/quantifying.rt:34:27
 slice-aggregate-quantify-names : tie.Need-slice-aggregate-quantify-names
 slice-aggregate-quantify-names c = search needs
 
--- src/inner/quantifying.rt:34:40
 slice-aggregate-quantify-names-2 : tie.Need-slice-aggregate-quantify-names-2
 slice-aggregate-quantify-names-2 c = search needs
 
--- src/inner/quantifying.rt:34:5
 quantify-names-requires : tie.Need-quantify-names-requires
 quantify-names-requires c κs = let (t, (bs, y)) = c .before .before .before .before .before .before .before .before .pre in (y .names-few, λ i h. y .names-small _ (at-in _ i h))
 
--- src/inner/quantifying.rt:35:38
-cast-t22 : tie.Need-cast-t22
-cast-t22 c = search needs
-
--- src/inner/quantifying.rt:35:5
-put-record-requires : tie.Need-put-record-requires
-put-record-requires c κs = search needs
-
--- src/inner/quantifying.rt:36:44
 slice-aggregate-replace-type : tie.Need-slice-aggregate-replace-type
 slice-aggregate-replace-type c = search needs
 
--- src/inner/quantifying.rt:36:53
 slice-aggregate-replace-type-2 : tie.Need-slice-aggregate-replace-type-2
 slice-aggregate-replace-type-2 c = search needs
 
--- src/inner/quantifying.rt:36:11
 replace-type-requires : tie.Need-replace-type-requires
-replace-type-requires c κs = let (t, (bs, y)) = c .before .before .before .before .before .before .before .before .before .before .before .before .before .before .before .before .before .before .pre in
-    (y .good, ((t, y .type), ((_, lent (c .before .before .before .before .before .before .before .before .before) t bs y), y .room)))
+replace-type-requires c κs = let (t, (bs, y)) = c .before .before .before .before .before .before .before .before .before .before .before .before .before .before .pre in
+    (y .good, ((t, y .type), ((_, lent (c .before .before .before .before .before) t bs y), y .room)))
 
--- src/inner/quantifying.rt:37:21
 enum-known-out : tie.Need-enum-known-out
 enum-known-out c = search needs
 
--- src/inner/quantifying.rt:39:17
 same-length : tie.Need-same-length
 same-length c = search needs
 
--- src/inner/quantifying.rt:39:17
 returns : tie.Need-returns
 returns c = λ t bs y.
-    let l = lent (c .before .before .before .before .before .before .before .before .before .before .before .before .before .before .before .before) t bs y in
+    let l = lent (c .before .before .before .before .before .before .before .before .before .before .before .before) t bs y in
     let k = came _ _ _ t _ _ _ (c .before .before .out .given .1) (c .before .before .before .before .before .before .replace-type .ensures t _ (y .type) l) in
-    type-long _ _ _ _ t bs (y .flat) (c .before .before .before .before .before .before .before .before .before .before .before .before .before .before .before .before .before .before .before .before .before .before .before .before .before .args .work .now) _ _ _ _ k _ (c .if1 .taken)
+    type-long _ _ _ _ t bs (y .flat) _ _ _ _ k _ (c .if1 .taken)
 
--- src/inner/quantifying.rt:41:43
 slice-aggregate-put-bounds : tie.Need-slice-aggregate-put-bounds
 slice-aggregate-put-bounds c = search needs
 
--- src/inner/quantifying.rt:41:52
 slice-aggregate-put-bounds-2 : tie.Need-slice-aggregate-put-bounds-2
 slice-aggregate-put-bounds-2 c = search needs
 
--- src/inner/quantifying.rt:41:17
 put-bounds-requires : tie.Need-put-bounds-requires
 put-bounds-requires c κs =
-    let (t, (bs, y)) = c .before .before .before .before .before .before .before .before .before .before .before .before .before .before .before .before .before .before .before .before .before .before .before .before .before .before .before .before .pre in
+    let (t, (bs, y)) = c .before .before .before .before .before .before .before .before .before .before .before .before .before .before .before .before .before .before .before .before .before .before .before .before .pre in
     let o = c .before .before .before .if1 .left in
-    let a = c .before .before .before .before .before .before .before .before .before .before .before .before .before .before .before .before .before .before .before .before .before .before .before .before .before .before .before .before .args in (
-      (bs, y .listed),
-      (
-        (
-          (handed (now (a .pool)) (now (a .table)) (now (a .names))),
-          lent
-              (c .before .before .before .before .before .before .before .before .before .before .before .before .before .before .before .before .before .before .before) t bs y .tabled,
-        ),
-        (y .bounds-short, (omega arith, omega (arith, o, y .bounds-short))),
-      ),
-    )
+    let a = c .before .before .before .before .before .before .before .before .before .before .before .before .before .before .before .before .before .before .before .before .before .before .before .before .args in
+    ((bs, y .listed), (((handed (now (a .pool)) (now (a .table)) (now (a .names))), lent (c .before .before .before .before .before .before .before .before .before .before .before .before .before .before .before) t bs y .tabled), (y .bounds-short, (omega arith, omega (arith, o, y .bounds-short)))))
 
--- src/inner/quantifying.rt:48:20
+cast-t41 : tie.Need-cast-t41
+cast-t41 c = let (t, (bs, y)) = c .before .before .before .before .before .before .before .before .before .before .before .before .before .before .before .before .before .before .before .before .before .before .before .before .before .before .before .before .before .pre in omega (arith, y .names-few)
+
+put-record-requires : tie.Need-put-record-requires
+put-record-requires c κs = search needs
+
 enum-known-k : tie.Need-enum-known-k
 enum-known-k c = search needs
 
--- src/inner/quantifying.rt:19:1
 same-length-2 : tie.Need-same-length-2
 same-length-2 c = search needs
 
--- src/inner/quantifying.rt:19:1
 returns-2 : tie.Need-returns-2
 returns-2 c = λ t bs y.
-    let l = lent (c .before .before .before .before .before .before .before .before .before .before .before .before .before .before .before .before .before .before .before .before .before .before .before) t bs y in
+    let l = lent (c .before .before .before .before .before .before .before .before .before .before .before .before .before .before .before .before .before .before .before) t bs y in
     let k = came _ _ _ t _ _ _ (c .before .before .before .before .before .before .before .before .before .out .given .1) (c .before .before .before .before .before .before .before .before .before .before .before .before .before .replace-type .ensures t _ (y .type) l) in
-    let a = c .before .before .before .before .before .before .before .before .before .before .before .before .before .before .before .before .before .before .before .before .before .before .before .before .before .before .before .before .before .before .before .before .args in
-    all-long _ _ _ _ t bs (y .flat) (now (a .work)) _ _ _ _ k _ _ _ (c .before .before .before .put-bounds .ensures bs (handed (now (a .pool)) (now (a .table)) (now (a .names))) (y .listed) (l .tabled)) (c .if2 .taken)
+    let a = c .before .before .before .before .before .before .before .before .before .before .before .before .before .before .before .before .before .before .before .before .before .before .before .before .before .before .before .before .args in
+    all-long _ _ _ _ t bs (y .flat) _ _ _ _ k _ _ _ (c .before .before .before .put-bounds .ensures bs (handed (now (a .pool)) (now (a .table)) (now (a .names))) (y .listed) (l .tabled)) (c .if2 .taken)
 
--- src/inner/quantifying.rt:19:1
 same-length-3 : tie.Need-same-length-3
 same-length-3 c = search needs
 
--- src/inner/quantifying.rt:19:1
 returns-3 : tie.Need-returns-3
 returns-3 c = λ t bs y.
     let l = lent (c .before .before .before .before .before .before .before .before .before .before .before .before .before .before .before .before .before .before .before .before .before .before .before) t bs y in
-    let k = came _ _ _ t _ _ _ (c .before .before .before .before .before .before .before .before .before .out .given .1) (c .before .before .before .before .before .before .before .before .before .before .before .before .before .replace-type .ensures t _ (y .type) l) in
+    let k = came _ _ _ t _ _ _ (c .before .before .before .before .before .before .before .before .before .before .before .before .before .out .given .1) (c .before .before .before .before .before .before .before .before .before .before .before .before .before .before .before .before .before .replace-type .ensures t _ (y .type) l) in
     let a = c .before .before .before .before .before .before .before .before .before .before .before .before .before .before .before .before .before .before .before .before .before .before .before .before .before .before .before .before .before .before .before .before .args in
-    all-made _ _ _ _ t bs (y .flat) (now (a .work)) _ _ _ _ k _ _ (y .work-long) (c .before .before .before .before .before .before .before .before .before .before .before .before .before .before .before .before .before .before .before .put-record .ensures)
-    (c .before .before .before .put-bounds .ensures bs (handed (now (a .pool)) (now (a .table)) (now (a .names))) (y .listed) (l .tabled)) (c .if2 .left)
+    all-made _ _ _ _ t bs (y .flat) _ _ _ _ k _ _ _ (y .work-long)
+    (c .before .before .before .before .before .before .before .put-bounds .ensures bs (handed (now (a .pool)) (now (a .table)) (now (a .names))) (y .listed) (l .tabled)) (c .before .before .before .before .if2 .left) (c .before .before .put-record .ensures)
 
--- src/inner/quantifying.rt:19:1
 same-length-4 : tie.Need-same-length-4
 same-length-4 c = search needs
 
--- src/inner/quantifying.rt:19:1
 returns-4 : tie.Need-returns-4
-returns-4 c = λ t bs y. stopped _ _ _ t _ _ _ _ bs _ (c .before .k .given .1) (c .before .before .before .before .before .replace-type .ensures t _ (y .type) (lent (c .before .before .before .before .before .before .before .before .before .before .before .before .before .before .before) t bs y))
+returns-4 c = λ t bs y. stopped _ _ _ t _ _ _ _ bs _ (c .before .k .given .1) (c .before .before .before .before .before .replace-type .ensures t _ (y .type) (lent (c .before .before .before .before .before .before .before .before .before .before .before) t bs y))
 
 pub quantify-at-spec : {M : Type 1} → statement M
 quantify-at-spec =
@@ -135,8 +105,6 @@ quantify-at-spec =
     slice-aggregate-quantify-names
     slice-aggregate-quantify-names-2
     quantify-names-requires
-    cast-t22
-    put-record-requires
     slice-aggregate-replace-type
     slice-aggregate-replace-type-2
     replace-type-requires
@@ -146,6 +114,8 @@ quantify-at-spec =
     slice-aggregate-put-bounds
     slice-aggregate-put-bounds-2
     put-bounds-requires
+    cast-t41
+    put-record-requires
     enum-known-k
     same-length-2
     returns-2

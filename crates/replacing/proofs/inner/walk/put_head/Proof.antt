@@ -1,32 +1,26 @@
 -- `put_head` meets its contract. Assumes nothing.
-use mathlib.Core.Path.{sym, ap, _∙_}
+use mathlib.Core.Path.{_∙_}
 use Rattle.rules.specs.Writing.{words}
-use Rattle.replacing.specs.Left.{headOf}
 use borrow.Author.Needs.{needs}
 use Rattle.replacing.proofs.inner.walk.put_head.Statement.{statement}
 use Rattle.replacing.proofs.inner.walk.put_head.Tie as tie
 
--- src/inner/walk.rt:144:30
 view-at-requires : tie.Need-view-at-requires
 view-at-requires c κs = search needs
 
--- src/inner/walk.rt:144:9
 put-record-requires : tie.Need-put-record-requires
 put-record-requires c κs = search needs
 
--- src/inner/walk.rt:139:1
 same-length : tie.Need-same-length
 same-length c = search needs
 
--- src/inner/walk.rt:139:1
 returns : tie.Need-returns
 unfolding words
-returns c = (ap headOf (sym (c .before .before .before .before .before .if1 .taken)), c .before .before .put-record .ensures ∙ rw (c .before .before .before .before .before .if1 .taken, c .before .before .before .view-at .ensures))
+returns c = c .before .before .put-record .ensures ∙ rw (c .before .before .before .before .before .if1 .taken, c .before .before .before .view-at .ensures)
 
--- src/inner/walk.rt:139:1
 returns-2 : tie.Need-returns-2
 unfolding words
-returns-2 c = (ap headOf (sym (c .if1 .left)), rw (c .if1 .left))
+returns-2 c = rw (c .if1 .left)
 
 pub put-head-spec : {M : Type 1} → statement M
 put-head-spec =

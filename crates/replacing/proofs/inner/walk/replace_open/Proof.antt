@@ -37,8 +37,8 @@ sub-result c =
 enum-told : tie.Need-enum-told
 enum-told c = search needs
 
-put-record-requires : tie.Need-put-record-requires
-put-record-requires c κs = search needs
+put-one-requires : tie.Need-put-one-requires
+put-one-requires c κs = search needs
 
 same-length : tie.Need-same-length
 same-length c = search needs
@@ -56,7 +56,7 @@ returns-2 : tie.Need-returns-2
 returns-2 c = λ look l.
     let u = c .before .before .before .before .before .before in
     let a = u .before .before .before .before .args in
-    open-kept look (openOf (a .o)) _ _ (a .out) (not-found (a .v .now) (look (openOf (a .o))) (u .look-up .ensures look l) (c .before .before .before .before .enum-told .given .1)) (c .before .before .put-record .ensures ∙ ap (λ (r : List Rec). sets (a .dst .now) (a .out * 4) (words r)) (open-rec (a .o)))
+    open-kept look (openOf (a .o)) _ _ (a .out) (not-found (a .v .now) (look (openOf (a .o))) (u .look-up .ensures look l) (c .before .before .before .before .enum-told .given .1)) (c .before .before .put-one .ensures ∙ ap (λ (r : List Rec). sets (a .dst .now) (a .out * 4) (words r)) (open-rec (a .o)))
 
 pub replace-open-spec : {M : Type 1} → statement M
 replace-open-spec =
@@ -67,7 +67,7 @@ replace-open-spec =
     copy-requires
     sub-result
     enum-told
-    put-record-requires
+    put-one-requires
     same-length
     returns
     same-length-2

@@ -12,6 +12,9 @@ enum-known-checked c = search needs
 enum-told : tie.Need-enum-told
 enum-told c = search needs
 
+add-put-record : tie.Need-add-put-record
+add-put-record c = let h = c .before .before .before .before .before .pre .0 in omega (arith, ready-product (c .before .before .before .before .before .args .t) (h .0) (h .1) (c .before .before .enum-told .given .1) .few)
+
 put-record-requires : tie.Need-put-record-requires
 put-record-requires c κs = search needs
 
@@ -23,8 +26,8 @@ store-requires c κs =
     let h = c .before .before .before .before .before .before .before .before .before .pre .0 in
     (ready-product (c .before .before .before .before .before .before .before .before .before .args .t) (h .0) (h .1) (c .before .before .before .before .before .before .enum-told .given .1), omega (arith, c .before .before .before .before .before .before .before .before .before .pre .1))
 
-add-t15 : tie.Need-add-t15
-add-t15 c = omega (arith, c .before .before .before .before .before .before .before .before .before .before .before .before .pre .1)
+add-t13 : tie.Need-add-t13
+add-t13 c = omega (arith, c .before .before .before .before .before .before .before .before .before .before .before .before .pre .1)
 
 add-t16 : tie.Need-add-t16
 add-t16 c =
@@ -46,10 +49,11 @@ put-scalar-spec =
     (tie.spec
     enum-known-checked
     enum-told
+    add-put-record
     put-record-requires
     add-store
     store-requires
-    add-t15
+    add-t13
     add-t16
     returns
     same-length

@@ -11,7 +11,7 @@ use Rattle.satisfying.proofs.inner.others.put_others.Reads as put-other
 use Rattle.satisfying.proofs.inner.others.put_others.Kinds as put-others-kinds
 use Rattle.satisfying.proofs.inner.others.+put_others.Lts-put_others as put-others-lts
 use Rattle.exponents.proofs.Exponent.num_word.Reads as num-word-reads
-use Rattle.records.proofs.inner.put_record.Reads as put-record-reads
+use Rattle.records.proofs.inner.put_one.Reads as put-one-reads
 use Rattle.records.proofs.seen.view_at.Reads as view-at-reads
 use Rattle.satisfying.proofs.inner.others.other_power.Reads as other-power-reads
 use Rattle.satisfying.proofs.inner.others.+put_others.{statement}
@@ -29,7 +29,7 @@ put-others-below t =
     and 2 put-others-kinds.ps (falls 2 put-others-kinds.ps _<_ μ-put-others t) put-others.Pre
 
 abbrev L : ℕ → put-others-lts.Claims
-L t = (view-at-reads.Asked, view-at-reads.Learnt, other-power-reads.Asked, other-power-reads.Learnt, num-word-reads.Asked, num-word-reads.Learnt, put-record-reads.Asked, put-record-reads.Learnt, put-others-below t, put-others.Post)
+L t = (view-at-reads.Asked, view-at-reads.Learnt, other-power-reads.Asked, other-power-reads.Learnt, num-word-reads.Asked, num-word-reads.Learnt, put-one-reads.Asked, put-one-reads.Learnt, put-others-below t, put-others.Post)
 
 put-others-returns : (t : ℕ) → put-others-lts.Need-returns (L t) (put-others-at t) put-others.Post
 put-others-returns t c = λ p h. others-none (expOf (c .before .before .before .args .k)) p (h .many) (c .if1 .taken)
@@ -58,8 +58,8 @@ put-others-enum-known-e t c = search needs
 put-others-num-word-requires : (t : ℕ) → put-others-lts.Need-num-word-requires (L t) (put-others-at t) put-others.Post
 put-others-num-word-requires t c κs = search needs
 
-put-others-put-record-requires : (t : ℕ) → put-others-lts.Need-put-record-requires (L t) (put-others-at t) put-others.Post
-put-others-put-record-requires t c κs = omega (arith, c .before .before .before .before .before .before .before .before .before .before .before .before .before .pre .1 .1 .1)
+put-others-put-one-requires : (t : ℕ) → put-others-lts.Need-put-one-requires (L t) (put-others-at t) put-others.Post
+put-others-put-one-requires t c κs = omega (arith, c .before .before .before .before .before .before .before .before .before .before .before .before .before .pre .1 .1 .1)
 
 put-others-add-put-others : (t : ℕ) → put-others-lts.Need-add-put-others (L t) (put-others-at t) put-others.Post
 put-others-add-put-others t c = omega (arith, c .before .before .before .before .before .before .before .before .before .before .before .before .before .before .before .before .pre .1 .1 .1)
@@ -83,13 +83,13 @@ put-others-returns-3 t c =
     others-stop (c .before .before .before .before .before .before .before .before .before .before .before .args .s .now) (expOf (c .before .before .before .before .before .before .before .before .before .before .before .args .k)) (c .before .before .before .before .before .a .given .0 .0) f (c .before .before .before .other-power .result) (c .before .before .before .other-power .ensures) (c .before .why .given .0 .0) (c .before .why .given .1)
 
 put-others-same-length : (t : ℕ) → put-others-lts.Need-same-length (L t) (put-others-at t) put-others.Post
-put-others-same-length t c = c .before .before .put-others .kept .1 .1 .1 .1 .0 ∙ c .before .before .before .before .before .before .put-record .kept .0
+put-others-same-length t c = c .before .before .put-others .kept .1 .1 .1 .1 .0 ∙ c .before .before .before .before .before .before .put-one .kept .0
 
 put-others-returns-4 : (t : ℕ) → put-others-lts.Need-returns-4 (L t) (put-others-at t) put-others.Post
 put-others-returns-4 t c =
     λ p h.
     let f = first-of (c .before .before .before .before .before .before .before .before .before .before .before .before .before .before .before .before .before .before .before .before .args .s .now) p (c .before .before .before .before .before .before .before .before .before .before .before .before .before .before .before .before .before .before .before .before .args .at) (h .held) (h .many) (c .before .before .before .before .before .before .before .before .before .before .before .before .before .before .before .before .before .if1 .left) (sym (c .before .before .before .before .before .before .before .before .before .before .before .before .before .before .before .before .view-at .ensures) ∙ c .before .before .before .before .before .before .before .before .before .before .before .before .before .before .a .given .1) in
-    others-put (c .before .before .before .before .before .before .before .before .before .before .before .before .before .before .before .before .before .before .before .before .args .s .now) (expOf (c .before .before .before .before .before .before .before .before .before .before .before .before .before .before .before .before .before .before .before .before .args .k)) (c .before .before .before .before .before .before .before .before .before .before .before .before .before .before .a .given .0 .0) f (c .before .before .before .before .before .before .before .before .before .before .before .before .other-power .result) (c .before .before .before .before .before .before .before .before .before .before .before .before .other-power .ensures) (c .before .before .before .before .before .before .before .before .before .before .e .given .0 .0) (c .before .before .before .before .before .before .before .before .before .before .e .given .1) (c .before .before .before .before .before .before .before .num-word .ensures) (c .before .before .before .before .before .before .put-record .ensures) (c .before .before .put-others .ensures (f .rest) (rest-held (c .before .before .before .before .before .before .before .before .before .before .before .before .before .before .before .before .before .before .before .before .args .s .now) f (h .powers) (c .before .before .before .before .before .before .before .before .before .before .before .before .before .before .before .before .before .before .before .before .args .at + 1) (c .before .before .before .before .before .before .before .before .before .before .before .before .before .before .before .before .before .before .before .before .args .n - 1) refl (omega arith)))
+    others-put (c .before .before .before .before .before .before .before .before .before .before .before .before .before .before .before .before .before .before .before .before .args .s .now) (expOf (c .before .before .before .before .before .before .before .before .before .before .before .before .before .before .before .before .before .before .before .before .args .k)) (c .before .before .before .before .before .before .before .before .before .before .before .before .before .before .a .given .0 .0) f (c .before .before .before .before .before .before .before .before .before .before .before .before .other-power .result) (c .before .before .before .before .before .before .before .before .before .before .before .before .other-power .ensures) (c .before .before .before .before .before .before .before .before .before .before .e .given .0 .0) (c .before .before .before .before .before .before .before .before .before .before .e .given .1) (c .before .before .before .before .before .before .before .num-word .ensures) (c .before .before .before .before .before .before .put-one .ensures) (c .before .before .put-others .ensures (f .rest) (rest-held (c .before .before .before .before .before .before .before .before .before .before .before .before .before .before .before .before .before .before .before .before .args .s .now) f (h .powers) (c .before .before .before .before .before .before .before .before .before .before .before .before .before .before .before .before .before .before .before .before .args .at + 1) (c .before .before .before .before .before .before .before .before .before .before .before .before .before .before .before .before .before .before .before .before .args .n - 1) refl (omega arith)))
 
 pub +put-others-spec : {M : Type 1} → statement M
 +put-others-spec = close μ-put-others λ t. put-others-lts.spec (L t)
@@ -103,7 +103,7 @@ pub +put-others-spec : {M : Type 1} → statement M
     (put-others-enum-known-why t)
     (put-others-enum-known-e t)
     (put-others-num-word-requires t)
-    (put-others-put-record-requires t)
+    (put-others-put-one-requires t)
     (put-others-add-put-others t)
     (put-others-sub-put-others t)
     (put-others-add-put-others-2 t)

@@ -1,4 +1,6 @@
 -- `put_is_dim` meets its contract. Assumes nothing.
+use mathlib.Core.Path.{refl}
+use native.Mathlib.Omega.{arith}
 use Rattle.satisfying.proofs.ByOther.{is-dim-put}
 use borrow.Author.Needs.{needs}
 use Rattle.satisfying.proofs.inner.others.put_is_dim.Statement.{statement}
@@ -7,11 +9,11 @@ use Rattle.satisfying.proofs.inner.others.put_is_dim.Tie as tie
 put-record-requires : tie.Need-put-record-requires
 put-record-requires c κs = search needs
 
-add-put-record : tie.Need-add-put-record
-add-put-record c = search needs
+add-put-one : tie.Need-add-put-one
+add-put-one c = search needs
 
-put-record-requires-2 : tie.Need-put-record-requires-2
-put-record-requires-2 c κs = search needs
+put-one-requires : tie.Need-put-one-requires
+put-one-requires c κs = search needs
 
 add-result : tie.Need-add-result
 add-result c = search needs
@@ -20,15 +22,15 @@ same-length : tie.Need-same-length
 same-length c = search needs
 
 returns : tie.Need-returns
-returns c = is-dim-put (c .before .before .before .before .before .before .before .before .before .args .x) (c .before .before .before .before .before .before .put-record .ensures) (c .before .before .put-record2 .ensures)
+returns c = is-dim-put (c .before .before .before .before .before .before .before .before .before .args .x) (c .before .before .before .before .before .before .put-record .ensures) (c .before .before .put-one .ensures)
 
 pub put-is-dim-spec : {M : Type 1} → statement M
 put-is-dim-spec =
     tie.close
     (tie.spec
     put-record-requires
-    add-put-record
-    put-record-requires-2
+    add-put-one
+    put-one-requires
     add-result
     same-length
     returns)
