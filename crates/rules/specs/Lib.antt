@@ -24,8 +24,10 @@ pub mod Batches
 pub mod Ceiling
 pub mod Numbers
 pub mod Offices
+pub mod Rescue
 pub mod Rules
 pub mod Lengths
 pub mod Examples
 pub mod CasesOfValues
 pub mod CasesOfLists
+pub mod CasesOfRescue
