@@ -25,9 +25,11 @@ pub mod Ceiling
 pub mod Numbers
 pub mod Offices
 pub mod Rescue
+pub mod Compaction
 pub mod Rules
 pub mod Lengths
 pub mod Examples
 pub mod CasesOfValues
 pub mod CasesOfLists
 pub mod CasesOfRescue
+pub mod CasesOfCompaction

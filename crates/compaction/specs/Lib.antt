@@ -1,0 +1,11 @@
+pub mod Marks
+pub mod Moves
+pub mod Checks
+pub mod Told
+pub mod Called
+pub mod Determined
+pub mod Kept
+pub mod HeldNames
+pub mod Alike
+pub mod Promise
+pub mod Twice
