@@ -33,11 +33,11 @@ dropped t (suc i) [] = refl
 dropped t (suc i) (r ∷ rs) = dropped t i rs
 
 -- no name twice, over names themselves
-differNamed : List Name → Bool
+pub differNamed : List Name → Bool
 differNamed [] = true
 differNamed (x ∷ xs) = not (among byBytes x xs) && differNamed xs
 
-differ-map : {pool table : List ℕ} (good : Good pool table) (ns : List ℕ) → differNamed (map (nameNo (tableOf pool table)) ns) ≡ differ ns
+pub differ-map : {pool table : List ℕ} (good : Good pool table) (ns : List ℕ) → differNamed (map (nameNo (tableOf pool table)) ns) ≡ differ ns
 unfolding differ differNamed
 differ-map good [] = refl
 differ-map {pool} {table} good (n ∷ ns) = rw (among-map _ byBytes (nameNo (tableOf pool table)) (keeps good) n ns, same-eqb (namesOf (tableOf pool table)) n ns, differ-map good ns)
@@ -64,7 +64,7 @@ module _ {pool table pool′ table′ : List ℕ} (good : Good pool table) (good
       go neither = refl
       go (both v v′ i j) = ap some i
 
-  type-at : (rs rs′ : List Rec) (i : ℕ) → map (seen T₁) rs ≡ map (seen T₂) rs′ → Both (mapTy ν₁) (mapTy ν₂) (typeAt T₁ rs i) (typeAt T₂ rs′ i)
+  pub type-at : (rs rs′ : List Rec) (i : ℕ) → map (seen T₁) rs ≡ map (seen T₂) rs′ → Both (mapTy ν₁) (mapTy ν₂) (typeAt T₁ rs i) (typeAt T₂ rs′ i)
   unfolding typeAt
   type-at rs rs′ i e =
       hence (there 1 (andThen (readTy 64 (drop i rs)) (λ r. some (r .0))) (andThen (readTy 64 (drop i rs′)) (λ r. some (r .0))) (first-alike (drop i rs) (drop i rs′) (dropped T₁ i rs ∙ ap (drop i) e ∙ sym (dropped T₂ i rs′)))) (λ u u′ j.

@@ -1,0 +1,12 @@
+pub mod Steps
+pub mod StepLists
+pub mod Entry
+pub mod Used
+pub mod Entered
+pub mod Issued
+pub mod StepPuts
+pub mod StepSizes
+pub mod StepLoop
+pub mod Lines
+pub mod Running
+pub mod Cases
