@@ -1,0 +1,4 @@
+pub mod Digits
+pub mod Scanned
+pub mod Names
+pub mod Numbers

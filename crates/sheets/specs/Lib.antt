@@ -1,0 +1,13 @@
+pub mod Grammar
+pub mod TextReading
+pub mod TextWriting
+pub mod Sheets
+pub mod Cases
+pub mod Spelling
+pub mod Meanings
+pub mod ReadBack
+pub mod TypesBack
+pub mod LinesBack
+pub mod Lengths
+pub mod Given
+pub mod Promise

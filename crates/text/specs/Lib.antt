@@ -1,0 +1,6 @@
+pub mod Determined
+pub mod Factors
+pub mod Lines
+pub mod Told
+pub mod Types
+pub mod Whole
