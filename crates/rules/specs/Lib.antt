@@ -26,10 +26,13 @@ pub mod Numbers
 pub mod Offices
 pub mod Rescue
 pub mod Compaction
+pub mod Elimination
 pub mod Rules
+pub mod Engine
 pub mod Lengths
 pub mod Examples
 pub mod CasesOfValues
 pub mod CasesOfLists
 pub mod CasesOfRescue
 pub mod CasesOfCompaction
+pub mod CasesOfElimination

@@ -1,0 +1,5 @@
+pub mod Sevens
+pub mod Told
+pub mod Doing
+pub mod Grids
+pub mod Machine
