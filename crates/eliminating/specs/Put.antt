@@ -23,7 +23,7 @@ use Rattle.records.specs.declared.View.the-variants as view
 use Rattle.records.specs.Cut.{fit, fits}
 use Rattle.records.specs.Stores.{sets-append, sets-before}
 use Rattle.laws.specs.Contents.{collect-append}
-use Rattle.elimination.specs.declared.grids.Columns.{Columns}
+use Rattle.elimination.specs.declared.inner.grids.Columns.{Columns}
 use Rattle.elimination.specs.Machine.{colsIn, Laid, laid-few, pairValues}
 use Rattle.agreement.specs.Rows.{factors-few}
 use Rattle.laying.specs.Atoms.{cols-long}

@@ -17,17 +17,17 @@ use Rattle.laws.specs.NameTable.{Good}
 use Rattle.laws.specs.ByteOrder.{numbered-lawful, atom-lawful}
 use Rattle.rules.specs.WellFormed.{goodProduct, goodCon}
 use Rattle.rules.specs.Names.{tableOf, namesOf}
-use Rattle.elimination.specs.declared.grids.Turned.{Turned}
+use Rattle.elimination.specs.declared.inner.grids.Turned.{Turned}
 use Rattle.agreement.specs.Laid.{padded-rows}
 use Rattle.laws.specs.Checks.{need-passed}
-use Rattle.elimination.specs.declared.grids.Grid.{Grid}
+use Rattle.elimination.specs.declared.inner.grids.Grid.{Grid}
 use Rattle.agreement.specs.Agreement.{scalars, fitting-refuses, held-apart}
 use Rattle.laying.specs.Lines.{Fitting, paddedRows}
 use Rattle.laying.specs.Columns.{Known, ListedAs, vars, pars, bases}
 use Rattle.laying.specs.Fitted.{known, fits-then, fits-so, listed-columns}
 use Rattle.records.specs.Good.{Chain, GoodCon, numbers, holding}
-use Rattle.elimination.specs.declared.grids.Columns.{Columns}
-use Rattle.elimination.specs.declared.grids.Machine.{Machine}
+use Rattle.elimination.specs.declared.inner.grids.Columns.{Columns}
+use Rattle.elimination.specs.declared.inner.grids.Machine.{Machine}
 use Rattle.rules.specs.Elimination.{Row, eliminate, Settled, settledBy, scalarOf, columns, isVariable, fits, fitting, eliminated}
 use Rattle.elimination.specs.Grids.{rowsIn}
 use Rattle.elimination.specs.Machine.{colsIn, pairValues, Laid, Running, rest, endOr, Ended, names-long}

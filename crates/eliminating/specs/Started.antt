@@ -7,7 +7,7 @@ use native.Mathlib.Omega.{arith}
 use lib.ListN.{length, take, drop}
 use Rattle.rules.specs.Base.{Got, got, refused, _>>=_}
 use Rattle.rules.specs.Trees.{Atom}
-use Rattle.elimination.specs.declared.grids.Machine.{Machine}
+use Rattle.elimination.specs.declared.inner.grids.Machine.{Machine}
 use Rattle.rules.specs.Elimination.{Row, Reduced, eliminate}
 use Rattle.elimination.specs.Grids.{rowsIn, WideGrid}
 use Rattle.elimination.specs.Machine.{Running, rest, whole, behind, pairValues}

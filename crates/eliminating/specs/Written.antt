@@ -16,8 +16,8 @@ use Rattle.rules.specs.declared.Refusal.{Refusal}
 use Rattle.rules.specs.declared.Refusal.the-variants.{OutOfRange, TooLarge}
 use Rattle.eliminating.specs.declared.inner.Reduced.{Reduced}
 use Rattle.laws.specs.Size.{words-length, size-con, size-binding, set-length, bindings-length}
-use Rattle.elimination.specs.declared.grids.Columns.{Columns}
-use Rattle.elimination.specs.declared.grids.Machine.{Machine}
+use Rattle.elimination.specs.declared.inner.grids.Columns.{Columns}
+use Rattle.elimination.specs.declared.inner.grids.Machine.{Machine}
 use Rattle.rules.specs.Elimination.{Row, Value, _gets_, factors, boundBy, Settled, settledBy, eliminatedOf, eliminatedWords, allBound, someLeft}
 use Rattle.elimination.specs.Grids.{rowsIn, grid-long}
 use Rattle.elimination.specs.Machine.{colsIn, Laid, laid-few, pairValues, Running}

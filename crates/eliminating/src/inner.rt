@@ -1,12 +1,12 @@
 // The rows that are left, and the values that were found, as records.
 use super::Outcome;
-use elimination::grids::Columns;
-use elimination::grids::Grid;
-use elimination::grids::Machine;
-use elimination::grids::eliminate;
-use elimination::grids::row_at;
-use elimination::rows::Row;
-use elimination::rows::power_at;
+use elimination::inner::grids::Columns;
+use elimination::inner::grids::Grid;
+use elimination::inner::grids::Machine;
+use elimination::inner::grids::eliminate;
+use elimination::inner::grids::row_at;
+use elimination::inner::rows::Row;
+use elimination::inner::rows::power_at;
 use exponents::Exponent;
 use laying::inner::atom_at;
 use laying::inner::blank;

@@ -13,7 +13,7 @@ use Rattle.rules.specs.Exponents.{Exp, nought, goodExp, sum}
 use Rattle.laws.specs.Lists.{Every}
 use Rattle.exponents.specs.declared.Exponent.{Exponent}
 use Rattle.exponents.specs.Answers.{expOf}
-use Rattle.elimination.specs.declared.rows.Row.{Row}
+use Rattle.elimination.specs.declared.inner.rows.Row.{Row}
 use Rattle.rules.specs.Elimination as Rows
 use Rattle.rules.specs.Elimination.{plusRow}
 use Rattle.elimination.specs.Told.{rowIn, Wide}

@@ -12,9 +12,9 @@ use lib.Seq.{take-suc-set, drop-cons, length-take-le, getD-take, getD-drop}
 use Rattle.rules.specs.Base.{Got, got, refused, _>>=_, each}
 use Rattle.rules.specs.Exponents.{nought, isZero}
 use Rattle.laws.specs.Lists.{Every}
-use Rattle.elimination.specs.declared.rows.Row.{Row}
-use Rattle.elimination.specs.declared.grids.Grid.{Grid}
-use Rattle.elimination.specs.declared.grids.TriedGrid.{TriedGrid}
+use Rattle.elimination.specs.declared.inner.rows.Row.{Row}
+use Rattle.elimination.specs.declared.inner.grids.Grid.{Grid}
+use Rattle.elimination.specs.declared.inner.grids.TriedGrid.{TriedGrid}
 use Rattle.rules.specs.Elimination as Rows
 use Rattle.elimination.specs.Told.{rowIn, Wide}
 

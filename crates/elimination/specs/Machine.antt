@@ -12,10 +12,10 @@ use Rattle.rules.specs.Base.{Got, got, refused, _>>=_, each}
 use Rattle.rules.specs.Exponents.{Exp, nought, isZero}
 use Rattle.rules.specs.Trees.{var, par, Atom, free, base}
 use Rattle.laws.specs.Lists.{true≢false}
-use Rattle.elimination.specs.declared.grids.Columns.{Columns}
-use Rattle.elimination.specs.declared.grids.Grid.{Grid}
-use Rattle.elimination.specs.declared.grids.Machine.{Machine}
-use Rattle.elimination.specs.declared.grids.Turned.{Turned}
+use Rattle.elimination.specs.declared.inner.grids.Columns.{Columns}
+use Rattle.elimination.specs.declared.inner.grids.Grid.{Grid}
+use Rattle.elimination.specs.declared.inner.grids.Machine.{Machine}
+use Rattle.elimination.specs.declared.inner.grids.Turned.{Turned}
 use Rattle.rules.specs.Elimination.{Row, Value, _gets_, solvedFor, putInRow, putInValue, Fate, gone, stays, binds, atColumn, oneFurther, fate, turned, Reduced, eliminate}
 use Rattle.elimination.specs.Grids.{rowsIn, WideGrid, grid-long, First}
 

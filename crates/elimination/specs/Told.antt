@@ -9,8 +9,8 @@ use Rattle.rules.specs.Base.{Got, got, refused, bounded, each}
 use Rattle.rules.specs.Exponents.{Exp, neg, goodExp, quotient}
 use Rattle.laws.specs.Lists.{Every}
 use Rattle.exponents.specs.Answers.{expOf}
-use Rattle.elimination.specs.declared.rows.Row.{Row}
-use Rattle.elimination.specs.declared.rows.Tried.{Tried}
+use Rattle.elimination.specs.declared.inner.rows.Row.{Row}
+use Rattle.elimination.specs.declared.inner.rows.Tried.{Tried}
 use Rattle.rules.specs.Elimination as Rows
 
 unfoldable pub rowIn : Row → Rows.Row

@@ -26,8 +26,8 @@ use Rattle.records.specs.declared.Open.{Open}
 use Rattle.records.specs.declared.Open.the-variants.{Var, Quant, Par}
 use Rattle.records.specs.declared.Atom.{Atom}
 use Rattle.records.specs.declared.Atom.the-variants.{Free, Base}
-use Rattle.elimination.specs.declared.rows.Row.{Row}
-use Rattle.elimination.specs.declared.grids.Columns.{Columns}
+use Rattle.elimination.specs.declared.inner.rows.Row.{Row}
+use Rattle.elimination.specs.declared.inner.grids.Columns.{Columns}
 use Rattle.elimination.specs.Machine.{atomsFrom, namesIn, colsIn, Laid, names-long}
 use Rattle.rules.specs.Elimination as Rows
 use Rattle.rules.specs.Elimination.{atomNames, powerIn, rowOf}

@@ -18,7 +18,7 @@ use Rattle.records.specs.declared.View.{View}
 use Rattle.records.specs.declared.View.the-variants as view
 use Rattle.queries.specs.Scans.{opensIn}
 use Rattle.queries.specs.Marks.{Filled}
-use Rattle.elimination.specs.declared.grids.Columns.{Columns}
+use Rattle.elimination.specs.declared.inner.grids.Columns.{Columns}
 use Rattle.elimination.specs.Machine.{namesIn, Laid}
 use Rattle.laying.specs.declared.inner.Listed.{Listed}
 

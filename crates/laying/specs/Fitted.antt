@@ -26,7 +26,7 @@ use Rattle.rules.specs.Names.{tableOf}
 use Rattle.laws.specs.NameTable.{count-is}
 use Rattle.laws.specs.ReadLists as Below
 use Rattle.queries.specs.Scans.{opensIn}
-use Rattle.elimination.specs.declared.grids.Columns.{Columns}
+use Rattle.elimination.specs.declared.inner.grids.Columns.{Columns}
 use Rattle.rules.specs.Elimination.{columns, fits, isVariable}
 use Rattle.elimination.specs.Machine.{atomsFrom, namesIn, colsIn, Laid}
 use Rattle.laying.specs.Atoms.{powerOf}

@@ -18,12 +18,12 @@ use Rattle.records.specs.Views.{viewAt}
 use Rattle.records.specs.Holds.{HoldsFactors, HoldsProduct, HoldsCon}
 use Rattle.records.specs.declared.View.{View}
 use Rattle.records.specs.declared.View.the-variants as view
-use Rattle.elimination.specs.declared.rows.Row.{Row}
+use Rattle.elimination.specs.declared.inner.rows.Row.{Row}
 use Rattle.rules.specs.Elimination as Rows
 use Rattle.rules.specs.Elimination.{rowOf, scalarOf}
 use Rattle.elimination.specs.Told.{rowIn, Wide}
 use Rattle.elimination.specs.Grids.{rowsIn, WideGrid, grid-long}
-use Rattle.elimination.specs.declared.grids.Grid.{Grid}
+use Rattle.elimination.specs.declared.inner.grids.Grid.{Grid}
 use Rattle.laying.specs.declared.inner.Lines.{Lines}
 use Rattle.laying.specs.Atoms.{powerOf, HeldGood, RowIs}
 

@@ -1,9 +1,9 @@
 // The work on words that hold a set.
-use elimination::grids::Columns;
-use elimination::grids::Grid;
-use elimination::grids::with_row;
-use elimination::rows::Row;
-use elimination::rows::with_power;
+use elimination::inner::grids::Columns;
+use elimination::inner::grids::Grid;
+use elimination::inner::grids::with_row;
+use elimination::inner::rows::Row;
+use elimination::inner::rows::with_power;
 use exponents::Exponent;
 use queries::Kind;
 use queries::Name;

@@ -25,9 +25,9 @@ use Rattle.laws.specs.Lists.{and-left, All, all-nil, Every, bound-step, all-is,
 use Rattle.soundness.specs.Claims.{Ordered, Once, YesOrLimits}
 use Rattle.soundness.specs.Words.{numbers-ordered}
 use Rattle.ending.specs.Ending.{ends}
-use Rattle.lines.specs.Steps.{LineStep, whole, lineGiven}
-use Rattle.lines.specs.Lines.{constraints, settled, settledSet, agreedSet, lineType, fresh, lineLent, lineShort, checkLineCall}
-use Rattle.lines.specs.Running.{ran, runLine}
+use Rattle.rules.specs.Steps.{LineStep, whole, lineGiven}
+use Rattle.rules.specs.Lines.{constraints, settled, settledSet, agreedSet, lineType, fresh, lineLent, lineShort, checkLineCall}
+use Rattle.rules.specs.Running.{ran, runLine}
 use Rattle.line_theorems.specs.Claims.{closedLine, MeetsLimit}
 use Rattle.line_theorems.specs.Read.{once, line-read, names-apart}
 use Rattle.line_theorems.specs.Formed.{FormedStep}

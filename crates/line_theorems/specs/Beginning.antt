@@ -11,8 +11,8 @@ use Rattle.rules.specs.Products.{put}
 use Rattle.laws.specs.Fractions.{Lowest, one-lowest, neg-lowest}
 use Rattle.laws.specs.Lists.{All, all-nil, all-cons, in-head, Every}
 use Rattle.soundness.specs.Claims.{Ordered}
-use Rattle.lines.specs.Steps.{Two, adds, subtracts, multiplies, divides, compares, LineStep, constant, reference, raises, joins, chooses, takes}
-use Rattle.lines.specs.Lines.{its, issuedByTwo, issued, constraints}
+use Rattle.rules.specs.Steps.{Two, adds, subtracts, multiplies, divides, compares, LineStep, constant, reference, raises, joins, chooses, takes}
+use Rattle.rules.specs.Lines.{its, issuedByTwo, issued, constraints}
 use Rattle.line_theorems.specs.Stacks.{Ready}
 use Rattle.line_theorems.specs.Shut.{Never, Shut}
 use Rattle.line_theorems.specs.Flow.{Side, shut, pair, Term, side, half, two, dimension, equality, Differs, Flow, end, beside, define}

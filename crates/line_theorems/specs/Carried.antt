@@ -15,8 +15,8 @@ use Rattle.laws.specs.Fractions.{Lowest}
 use Rattle.laws.specs.Lists.{All, all-nil, all-cons, all-append, in-head, Every, all-every}
 use Rattle.laws.specs.ExactProducts.{raiseE}
 use Rattle.soundness.specs.Claims.{Ordered}
-use Rattle.lines.specs.Steps.{Two, adds, subtracts, multiplies, divides, compares, LineStep, constant, reference, raises, joins, chooses, gives, raised, joined, chosen, takes}
-use Rattle.lines.specs.Lines.{its, issuedByTwo, issued, constraints}
+use Rattle.rules.specs.Steps.{Two, adds, subtracts, multiplies, divides, compares, LineStep, constant, reference, raises, joins, chooses, gives, raised, joined, chosen, takes}
+use Rattle.rules.specs.Lines.{its, issuedByTwo, issued, constraints}
 use Rattle.line_theorems.specs.Matching.{Matches, Fact, Bound, sides, closed-reads, dimension-of, of-closed, of-same, of-power, of-product, of-quotient, same-true, closed-true, dimension-true, power-true, product-true, quotient-true}
 use Rattle.line_theorems.specs.Stacks.{Ready, Stacked, by-two, by-choice, two-bound}
 use Rattle.line_theorems.specs.Beginning.{firsts, seconds}

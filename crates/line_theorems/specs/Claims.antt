@@ -17,9 +17,9 @@ use Rattle.rules.specs.Judging.{judge}
 use Rattle.rules.specs.Names.{Table, tableOf, numbersOf}
 use Rattle.rules.specs.Writing.{words, writeTy}
 use Rattle.rules.specs.Calls.{over, Written}
-use Rattle.lines.specs.Steps.{LineStep, constant, reference, raises, joins, chooses, lineGiven}
-use Rattle.lines.specs.Lines.{its, constraints, lastOf, checkLineCall}
-use Rattle.lines.specs.Running.{ran, runLine}
+use Rattle.rules.specs.Steps.{LineStep, constant, reference, raises, joins, chooses, lineGiven}
+use Rattle.rules.specs.Lines.{its, constraints, lastOf, checkLineCall}
+use Rattle.rules.specs.Running.{ran, runLine}
 
 module _ {N : Type 0} where
   -- 'a line whose references have closed types'

@@ -9,7 +9,7 @@ use Rattle.rules.specs.Exponents.{Exp}
 use Rattle.rules.specs.Trees.{var, free, _↑_, Product, Names, Ty, opened, dim, Con, equal, isDim, size, depth, sizeCon, depthCon}
 use Rattle.laws.specs.Fractions.{Lowest}
 use Rattle.laws.specs.Lists.{All}
-use Rattle.lines.specs.Lines.{twoFactors}
+use Rattle.rules.specs.Lines.{twoFactors}
 use Rattle.line_theorems.specs.Shut.{Shut, ShutCon}
 
 -- ══ Two answers that go side by side ══

@@ -15,8 +15,8 @@ use Rattle.rules.specs.Rules.{rules}
 use Rattle.laws.specs.Order.{after}
 use Rattle.laws.specs.Lists.{and-both, All, all-nil, all-cons, all-append, in-head, Every, every-as, every-all}
 use Rattle.soundness.specs.Claims.{Ordered, Once}
-use Rattle.lines.specs.Steps.{Two, adds, subtracts, multiplies, divides, compares, LineStep, constant, reference, raises, joins, chooses, Deed, gives, raised, joined, chosen, takes}
-use Rattle.lines.specs.Lines.{its, twoFactors, issuedByTwo, issued, constraints}
+use Rattle.rules.specs.Steps.{Two, adds, subtracts, multiplies, divides, compares, LineStep, constant, reference, raises, joins, chooses, Deed, gives, raised, joined, chosen, takes}
+use Rattle.rules.specs.Lines.{its, twoFactors, issuedByTwo, issued, constraints}
 
 one-stored : goodStored one ≡ true
 unfolding rules

@@ -9,10 +9,10 @@ use native.Mathlib.Omega.{arith}
 use Rattle.rules.specs.Base.{got}
 use Rattle.rules.specs.Trees.{var, opened, dim}
 use Rattle.rules.specs.Names.{tableOf, numbersOf}
-use Rattle.lines.specs.Steps.{LineStep, constant, reference, adds, divides, joins, lineGiven}
-use Rattle.lines.specs.Lines.{checkLineCall}
-use Rattle.lines.specs.Running.{notDimension, ran, fault, runLine}
-use Rattle.lines.specs.Cases.{lines, pool, table, result, work, placed, types, earlier, lent, c, r, op, to, k, h}
+use Rattle.rules.specs.Steps.{LineStep, constant, reference, adds, divides, joins, lineGiven}
+use Rattle.rules.specs.Lines.{checkLineCall}
+use Rattle.rules.specs.Running.{notDimension, ran, fault, runLine}
+use Rattle.rules.specs.CasesOfLines.{lines, pool, table, result, work, placed, types, earlier, lent, c, r, op, to, k, h}
 use Rattle.line_theorems.specs.Claims.{closedLine, RunsTo}
 use Rattle.line_theorems.specs.Promise.{accepted-line, runs-to-its-end}
 

@@ -25,8 +25,8 @@ use Rattle.laws.specs.Lists.{some≢none, All, all-nil, all-cons, all-append, i
 use Rattle.soundness.specs.Claims.{Ordered, Once, YesOrLimits}
 use Rattle.soundness.specs.Soundness.{solved-form, yes-solves}
 use Rattle.soundness.specs.Judged.{solution-judged}
-use Rattle.lines.specs.Steps.{LineStep, whole}
-use Rattle.lines.specs.Lines.{its, twoFactors, constraints, lastOf, settled, agreed, settledSet, agreedSet, lineType}
+use Rattle.rules.specs.Steps.{LineStep, whole}
+use Rattle.rules.specs.Lines.{its, twoFactors, constraints, lastOf, settled, agreed, settledSet, agreedSet, lineType}
 use Rattle.line_theorems.specs.Shut.{Never}
 use Rattle.line_theorems.specs.Flow.{Alike, neither, both, Side, shut, pair, Term, side, half, two, Line, closed, dimension, equality, Differs, Flow, end, beside, define, flow-size}
 use Rattle.line_theorems.specs.Lockstep.{Binds, unbound, binds, Answers, accepts, remains, stops, solves-alike}

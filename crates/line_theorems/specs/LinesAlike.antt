@@ -27,8 +27,8 @@ use Rattle.offices.specs.Writing.{type-written}
 use Rattle.offices.specs.Results.{writing-alike}
 use Rattle.offices.specs.Given.{Alike, as-long, as-many, short, few, kept-alike, lent-alike}
 use Rattle.offices.specs.Judges.{differNamed, differ-map, type-at}
-use Rattle.lines.specs.Steps.{LineStep, constant, reference, raises, whole, StepWords, four, stepWords, StepKind, isConstant, isReference, isRaise, isChoose, isTwo, stepNumbers, stepKind, zeros, numberAt, constantAt, referenceTo, raiseBy, stepOf, stepGiven, lineGiven}
-use Rattle.lines.specs.Lines.{lineType, namesOfStep, fresh, lineLent, lineShort, checkedLine, checkLineCall}
+use Rattle.rules.specs.Steps.{LineStep, constant, reference, raises, whole, StepWords, four, stepWords, StepKind, isConstant, isReference, isRaise, isChoose, isTwo, stepNumbers, stepKind, zeros, numberAt, constantAt, referenceTo, raiseBy, stepOf, stepGiven, lineGiven}
+use Rattle.rules.specs.Lines.{lineType, namesOfStep, fresh, lineLent, lineShort, checkedLine, checkLineCall}
 use Rattle.line_theorems.specs.Renamed.{mapStep, whole-map, step-names, type-map}
 
 -- fresh, over names themselves

@@ -35,7 +35,7 @@ use Rattle.soundness.specs.Finds.{find-member}
 use Rattle.soundness.specs.Alike.{means-same}
 use Rattle.soundness.specs.Putting.{put-dim}
 use Rattle.soundness.specs.Truth.{equals, equals-holds, dimensional, dimensional-holds}
-use Rattle.lines.specs.Lines.{its, twoFactors}
+use Rattle.rules.specs.Lines.{its, twoFactors}
 use Rattle.line_theorems.specs.Shut.{Never}
 
 -- ══ Closed types ══

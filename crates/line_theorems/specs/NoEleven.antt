@@ -23,8 +23,8 @@ use Rattle.laws.specs.Lists.{All, in-head, Every, is-all}
 use Rattle.laws.specs.Occurs.{products-occur}
 use Rattle.soundness.specs.Claims.{Ordered, Once, Given, YesOrLimits}
 use Rattle.soundness.specs.Soundness.{solved-form, own-answer}
-use Rattle.lines.specs.Steps.{Two, adds, subtracts, multiplies, divides, compares, LineStep, constant, reference, raises, joins, chooses, Deed, gives, raised, joined, chosen, takes, whole}
-use Rattle.lines.specs.Lines.{its, twoFactors, issuedByTwo, issued, constraints, lastOf, agreed, settledSet, agreedSet, lineType}
+use Rattle.rules.specs.Steps.{Two, adds, subtracts, multiplies, divides, compares, LineStep, constant, reference, raises, joins, chooses, Deed, gives, raised, joined, chosen, takes, whole}
+use Rattle.rules.specs.Lines.{its, twoFactors, issuedByTwo, issued, constraints, lastOf, agreed, settledSet, agreedSet, lineType}
 use Rattle.line_theorems.specs.Stacks.{Ready}
 use Rattle.line_theorems.specs.Beginning.{firsts, seconds, Lent}
 use Rattle.line_theorems.specs.Formed.{FormedStep}

@@ -18,8 +18,8 @@ use Rattle.rules.specs.WellFormed.{goodTy}
 use Rattle.rules.specs.Calls.{typeAt, lentResult, lentWork, lent, tableKept, writing}
 use Rattle.laws.specs.Checks.{first-passed}
 use Rattle.laws.specs.NameTable.{given-good}
-use Rattle.lines.specs.Steps.{LineStep, constant, reference, StepWords, four, stepWords, StepKind, isConstant, isReference, isRaise, isChoose, isTwo, stepNumbers, stepKind, zeros, numberAt, constantAt, referenceTo, raiseBy, stepOf, stepGiven, whole, lineGiven}
-use Rattle.lines.specs.Lines.{lineType, fresh, lineLent, lineShort, checkedLine, checkLineCall}
+use Rattle.rules.specs.Steps.{LineStep, constant, reference, StepWords, four, stepWords, StepKind, isConstant, isReference, isRaise, isChoose, isTwo, stepNumbers, stepKind, zeros, numberAt, constantAt, referenceTo, raiseBy, stepOf, stepGiven, whole, lineGiven}
+use Rattle.rules.specs.Lines.{lineType, fresh, lineLent, lineShort, checkedLine, checkLineCall}
 use Rattle.line_theorems.specs.Claims.{SameOrder}
 
 module _ (t t′ : Table) (s : SameOrder t t′) where

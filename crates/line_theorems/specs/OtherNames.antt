@@ -20,8 +20,8 @@ use Rattle.rules.specs.Calls.{lent, shortLists, shortNumbers, tableKept, differ
 use Rattle.laws.specs.Checks.{need-passed}
 use Rattle.laws.specs.Lists.{and-left, All, all-is, all-cons, all-nil, in-head, bound-step}
 use Rattle.soundness.specs.Claims.{Ordered, Once, YesOrLimits}
-use Rattle.lines.specs.Steps.{LineStep, lineGiven}
-use Rattle.lines.specs.Lines.{constraints, settledSet, fresh, lineLent, lineShort, checkedLine, lineType, checkLineCall}
+use Rattle.rules.specs.Steps.{LineStep, lineGiven}
+use Rattle.rules.specs.Lines.{constraints, settledSet, fresh, lineLent, lineShort, checkedLine, lineType, checkLineCall}
 use Rattle.line_theorems.specs.Claims.{closedLine}
 use Rattle.line_theorems.specs.Read.{once, line-read}
 use Rattle.line_theorems.specs.Beginning.{firsts, seconds, Lent}

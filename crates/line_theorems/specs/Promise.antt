@@ -15,9 +15,9 @@ use Rattle.rules.specs.Calls.{differ, Written}
 use Rattle.rules.specs.Offices.{ReadAlike, NumbersAlike, LentAlike, WrittenAlike}
 use Rattle.laws.specs.NameTable.{given-good}
 use Rattle.soundness.specs.Claims.{YesOrLimits}
-use Rattle.lines.specs.Steps.{LineStep, lineGiven}
-use Rattle.lines.specs.Lines.{constraints, settledSet, fresh, lineLent, lineShort, checkLineCall}
-use Rattle.lines.specs.Running.{ran, runLine}
+use Rattle.rules.specs.Steps.{LineStep, lineGiven}
+use Rattle.rules.specs.Lines.{constraints, settledSet, fresh, lineLent, lineShort, checkLineCall}
+use Rattle.rules.specs.Running.{ran, runLine}
 use Rattle.line_theorems.specs.Claims.{closedLine, RunsTo, AcceptedLine, MeetsLimit, SameOrder}
 use Rattle.line_theorems.specs.Words as Words
 use Rattle.line_theorems.specs.OtherNames as Other

@@ -20,7 +20,7 @@ use Rattle.laws.specs.Lists.{All, all-cons, in-head, is-yes, is-no, all-every, 
 use Rattle.laws.specs.ExactProducts.{mergeE, raiseE, multiply-value, raise-value}
 use Rattle.laws.specs.Occurs.{each-opens, opens-each, merge-on, raise-on, as-product-is}
 use Rattle.laws.specs.Untouched.{Unbound, ty-same, factors-same}
-use Rattle.lines.specs.Lines.{twoFactors}
+use Rattle.rules.specs.Lines.{twoFactors}
 use Rattle.line_theorems.specs.Shut.{Never, Shut, shut-same, shut-con}
 use Rattle.line_theorems.specs.Flow.{Alike, neither, both, hence, Side, shut, pair, Term, side, half, two, Line, closed, dimension, equality, Differs, Flow, end, beside, define}
 

@@ -21,7 +21,7 @@ use Rattle.rules.specs.Calls.{typeAt, differ}
 use Rattle.laws.specs.Checks.{need-passed}
 use Rattle.laws.specs.Lists.{true≢false, some≢none, and-left, and-right, not-true, Every, all-every, all-is, is-any, bound-step, each-came, each-parts}
 use Rattle.soundness.specs.Claims.{Ordered, Once}
-use Rattle.lines.specs.Steps.{LineStep, constant, reference, raises, joins, chooses, whole, StepWords, four, stepWords, StepKind, isConstant, isReference, isRaise, isChoose, isTwo, stepNumbers, stepKind, zeros, numberAt, constantAt, referenceTo, raiseBy, stepOf, stepGiven, lineGiven}
+use Rattle.rules.specs.Steps.{LineStep, constant, reference, raises, joins, chooses, whole, StepWords, four, stepWords, StepKind, isConstant, isReference, isRaise, isChoose, isTwo, stepNumbers, stepKind, zeros, numberAt, constantAt, referenceTo, raiseBy, stepOf, stepGiven, lineGiven}
 use Rattle.line_theorems.specs.Formed.{FormedStep, Apart}
 
 pub is-there : {A : Type 0} (n : ℕ) (o : Option A) (a : A) → orRefuse n o ≡ got a → o ≡ some a

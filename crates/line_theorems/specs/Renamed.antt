@@ -22,8 +22,8 @@ use Rattle.offices.specs.Contents.{unmixed-map}
 use Rattle.offices.specs.Replacing.{ty-map, looks-map}
 use Rattle.offices.specs.Solving.{solve-map}
 use Rattle.offices.specs.Judging.{judge-map}
-use Rattle.lines.specs.Steps.{adds, subtracts, multiplies, divides, compares, LineStep, constant, reference, raises, joins, chooses, Deed, gives as given, raised, joined, chosen, operands, takes, whole}
-use Rattle.lines.specs.Lines.{its, twoFactors, issuedByTwo, issued, constraints, lastOf, settled, agreed, settledSet, agreedSet, lineType, namesOfFactor, namesOfTy, namesOfTys, namesOfFields, namesOfStep}
+use Rattle.rules.specs.Steps.{adds, subtracts, multiplies, divides, compares, LineStep, constant, reference, raises, joins, chooses, Deed, gives as given, raised, joined, chosen, operands, takes, whole}
+use Rattle.rules.specs.Lines.{its, twoFactors, issuedByTwo, issued, constraints, lastOf, settled, agreed, settledSet, agreedSet, lineType, namesOfFactor, namesOfTy, namesOfTys, namesOfFields, namesOfStep}
 
 module _ {N M : Type 0} (f : N → M) where
   abbrev pub mapStep : LineStep N → LineStep M

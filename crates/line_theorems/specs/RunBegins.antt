@@ -26,9 +26,9 @@ use Rattle.laws.specs.Lists.{All, all-nil, all-cons, in-head, Every}
 use Rattle.laws.specs.Occurs.{each-opens, opens-each, merge-on, raise-on, inverse-on}
 use Rattle.soundness.specs.Alike.{same-means}
 use Rattle.soundness.specs.Claims.{Ordered}
-use Rattle.lines.specs.Steps.{Two, adds, subtracts, multiplies, divides, compares, LineStep, constant, reference, raises, joins, chooses, gives, raised, joined, chosen, takes}
-use Rattle.lines.specs.Lines.{its, twoFactors, issuedByTwo, issued, constraints}
-use Rattle.lines.specs.Running.{Fault, Ran, ran, fault, _>>=_, asks, orFault, exactly, dimensionOf, alike, isCondition, sameDimensions, ofDimensions, doesTwo, does, runFrom}
+use Rattle.rules.specs.Steps.{Two, adds, subtracts, multiplies, divides, compares, LineStep, constant, reference, raises, joins, chooses, gives, raised, joined, chosen, takes}
+use Rattle.rules.specs.Lines.{its, twoFactors, issuedByTwo, issued, constraints}
+use Rattle.rules.specs.Running.{Fault, Ran, ran, fault, _>>=_, asks, orFault, exactly, dimensionOf, alike, isCondition, sameDimensions, ofDimensions, doesTwo, does, runFrom}
 use Rattle.line_theorems.specs.Shut.{Never, Shut}
 use Rattle.line_theorems.specs.Stacks.{Ready}
 use Rattle.line_theorems.specs.Formed.{FormedStep, Apart, pushed, popped}

@@ -25,7 +25,7 @@ use Rattle.laws.specs.Powers.{Proper, raise-one, raise-proper, merge-comm}
 use Rattle.laws.specs.Lists.{All, all-nil, all-cons, all-append, in-head, yes-is, got≢refused}
 use Rattle.laws.specs.Occurs.{each-opens, opens-each, merge-on, raise-on}
 use Rattle.soundness.specs.Claims.{typeOf}
-use Rattle.lines.specs.Lines.{twoFactors}
+use Rattle.rules.specs.Lines.{twoFactors}
 use Rattle.line_theorems.specs.Shut.{Never, Shut, equal-shut, shut-same, shut-con}
 use Rattle.line_theorems.specs.Truly.{Truly, Parts, try-true}
 use Rattle.line_theorems.specs.Lockstep.{defines}

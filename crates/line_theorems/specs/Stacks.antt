@@ -19,9 +19,9 @@ use Rattle.laws.specs.Lists.{true≢false, and-left, and-right, All, Every, all
 use Rattle.laws.specs.Fractions.{Lowest}
 use Rattle.laws.specs.ExactProducts.{mergeE, raiseE, multiply-exact, divide-exact, raise-exact}
 use Rattle.soundness.specs.Claims.{Ordered}
-use Rattle.lines.specs.Steps.{Two, adds, subtracts, multiplies, divides, compares, LineStep, constant, reference, raises, joins, chooses, Deed, gives, raised, joined, chosen, operands, takes, whole}
-use Rattle.lines.specs.Lines.{its, issuedByTwo, issued, constraints, lastOf}
-use Rattle.lines.specs.Running.{ran, dimensionOf, alike, isCondition, sameDimensions, ofDimensions, doesTwo, does, runFrom}
+use Rattle.rules.specs.Steps.{Two, adds, subtracts, multiplies, divides, compares, LineStep, constant, reference, raises, joins, chooses, Deed, gives, raised, joined, chosen, operands, takes, whole}
+use Rattle.rules.specs.Lines.{its, issuedByTwo, issued, constraints, lastOf}
+use Rattle.rules.specs.Running.{ran, dimensionOf, alike, isCondition, sameDimensions, ofDimensions, doesTwo, does, runFrom}
 use Rattle.line_theorems.specs.Matching.{Matches, Fact, Bound, of-closed, of-same, mean-same, is-boolean, dimension-of, of-power, of-product, of-quotient}
 
 module _ {N : Type 0} where

@@ -30,9 +30,9 @@ use Rattle.soundness.specs.Claims.{Ordered, Given}
 use Rattle.soundness.specs.Words.{numbers-ordered}
 use Rattle.soundness.specs.Soundness.{solved-form, yes-solves}
 use Rattle.soundness.specs.Alike.{means-same}
-use Rattle.lines.specs.Steps.{LineStep, constant, reference, raises, joins, chooses, whole, lineGiven}
-use Rattle.lines.specs.Lines.{its, constraints, lastOf, settled, agreed, settledSet, agreedSet, lineType, fresh, lineLent, lineShort, checkedLine, checkLineCall}
-use Rattle.lines.specs.Running.{runLine}
+use Rattle.rules.specs.Steps.{LineStep, constant, reference, raises, joins, chooses, whole, lineGiven}
+use Rattle.rules.specs.Lines.{its, constraints, lastOf, settled, agreed, settledSet, agreedSet, lineType, fresh, lineLent, lineShort, checkedLine, checkLineCall}
+use Rattle.rules.specs.Running.{runLine}
 use Rattle.line_theorems.specs.Claims.{closedStep, closedLine, RunsTo, AcceptedLine}
 use Rattle.line_theorems.specs.Read.{is-there, line-read, names-apart}
 use Rattle.line_theorems.specs.Formed.{FormedStep, Apart, constraints-formed}

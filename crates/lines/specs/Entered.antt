@@ -11,11 +11,11 @@ use Rattle.rules.specs.Writing.{Rec, writeTy}
 use Rattle.rules.specs.Calls.{tableKept}
 use Rattle.laws.specs.Lists.{clash}
 use Rattle.records.specs.Found.{Words32}
-use Rattle.lines.specs.Steps.{LineStep, lineGiven}
+use Rattle.rules.specs.Steps.{LineStep, lineGiven}
 use Rattle.lines.specs.StepLists.{isGiven}
 use Rattle.lines.specs.Entry.{line-read}
 use Rattle.lines.specs.Used.{freshWords, fresh-words}
-use Rattle.lines.specs.Lines.{fresh, lineShort, lineType, checkedLine}
+use Rattle.rules.specs.Lines.{fresh, lineShort, lineType, checkedLine}
 
 -- the steps of a line that passed every check at entry
 unfoldable pub lineEntered : Table → List ℕ → List ℕ → List ℕ → List ℕ → Got (List (LineStep ℕ))

@@ -26,9 +26,9 @@ use Rattle.records.specs.Given.{records-whole, records-broken}
 use Rattle.records.specs.Found.{Words32}
 use Rattle.records.specs.Good.{GoodTy}
 use Rattle.entries.specs.Given.{type-there, type-is}
-use Rattle.lines.specs.Steps.{adds, subtracts, multiplies, divides, compares, LineStep, constant, reference, raises, joins, chooses, whole, StepWords, four, isConstant, isReference, isRaise, stepKind, zeros, numberAt, constantAt, referenceTo, raiseBy, stepOf, stepGiven, lineGiven}
+use Rattle.rules.specs.Steps.{adds, subtracts, multiplies, divides, compares, LineStep, constant, reference, raises, joins, chooses, whole, StepWords, four, isConstant, isReference, isRaise, stepKind, zeros, numberAt, constantAt, referenceTo, raiseBy, stepOf, stepGiven, lineGiven}
 use Rattle.lines.specs.StepLists.{isGiven, fourOf, stepsFrom, operandsOf, wholeFrom, unknown, steps-whole, steps-broken, whole-words}
-use Rattle.lines.specs.Lines.{lineLent, lineShort}
+use Rattle.rules.specs.Lines.{lineLent, lineShort}
 
 -- ══ 10 ══
 

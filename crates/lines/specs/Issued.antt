@@ -25,8 +25,8 @@ use Rattle.records.specs.declared.Atom.the-variants as atoms
 use Rattle.records.specs.declared.Basic.the-variants as basics
 use Rattle.records.specs.declared.View.the-variants as view
 use Rattle.replacing.specs.Writes.{writes}
-use Rattle.lines.specs.Steps.{Two, adds, subtracts, multiplies, divides, compares, gives, raised, chosen}
-use Rattle.lines.specs.Lines.{its, dimensions, twoFactors, issuedByTwo, issued}
+use Rattle.rules.specs.Steps.{Two, adds, subtracts, multiplies, divides, compares, gives, raised, chosen}
+use Rattle.rules.specs.Lines.{its, dimensions, twoFactors, issuedByTwo, issued}
 
 module _ (d d₁ d₂ d₃ : List ℕ) (out : ℕ) where
   three : (a b c : Rec) → d₁ ≡ sets d (out * 4) (words (a ∷ [])) → d₂ ≡ sets d₁ ((out + 1) * 4) (words (b ∷ [])) → d₃ ≡ sets d₂ ((out + 2) * 4) (words (c ∷ [])) → d₃ ≡ sets d (out * 4) (words (a ∷ b ∷ c ∷ []))

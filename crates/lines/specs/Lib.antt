@@ -1,4 +1,3 @@
-pub mod Steps
 pub mod StepLists
 pub mod Entry
 pub mod Used
@@ -7,6 +6,3 @@ pub mod Issued
 pub mod StepPuts
 pub mod StepSizes
 pub mod StepLoop
-pub mod Lines
-pub mod Running
-pub mod Cases

@@ -18,7 +18,7 @@ use Rattle.laws.specs.Checks.{next-passed}
 use Rattle.laws.specs.Lists.{bound-step, each-parts}
 use Rattle.records.specs.Views.{recs, from}
 use Rattle.records.specs.Places.{recAt, from-some, from-none}
-use Rattle.lines.specs.Steps.{Two, LineStep, constant, reference, raises, joins, chooses, operands, whole, StepWords, four, stepWords, StepKind, isConstant, isReference, isRaise, isChoose, isTwo, stepNumbers, stepKind, zeros, numberAt, constantAt, referenceTo, raiseBy, stepOf, stepGiven, lineGiven}
+use Rattle.rules.specs.Steps.{Two, LineStep, constant, reference, raises, joins, chooses, operands, whole, StepWords, four, stepWords, StepKind, isConstant, isReference, isRaise, isChoose, isTwo, stepNumbers, stepKind, zeros, numberAt, constantAt, referenceTo, raiseBy, stepOf, stepGiven, lineGiven}
 
 -- of a value is said only that there is one
 abbrev pub isGiven : {A : Type 0} → Got A → Got (Unit {0})

@@ -22,8 +22,8 @@ use Rattle.records.specs.Views.{recs}
 use Rattle.records.specs.Places.{from-none}
 use Rattle.records.specs.Found.{Words32}
 use Rattle.replacing.specs.Writes.{writes}
-use Rattle.lines.specs.Steps.{LineStep, constant, reference, raises, joins, chooses, Deed, operands, takes, whole, stepGiven}
-use Rattle.lines.specs.Lines.{issued, constraints}
+use Rattle.rules.specs.Steps.{LineStep, constant, reference, raises, joins, chooses, Deed, operands, takes, whole, stepGiven}
+use Rattle.rules.specs.Lines.{issued, constraints}
 use Rattle.lines.specs.StepLists.{stepsFrom, operandsOf, of-number}
 use Rattle.lines.specs.Entry.{this, steps-some}
 use Rattle.lines.specs.StepPuts.{deedBy, Says, step-says}

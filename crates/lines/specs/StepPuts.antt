@@ -19,10 +19,10 @@ use Rattle.records.specs.Views.{recs}
 use Rattle.records.specs.Holds.{Holds}
 use Rattle.records.specs.Found.{Words32}
 use Rattle.entries.specs.Given.{type-is}
-use Rattle.lines.specs.Steps.{Two, adds, subtracts, multiplies, divides, compares, LineStep, constant, reference, raises, joins, chooses, Deed, gives, raised, joined, chosen, four, StepKind, isConstant, isReference, isRaise, isChoose, isTwo, stepNumbers, stepKind, zeros, numberAt, constantAt, referenceTo, raiseBy, stepOf, stepGiven}
+use Rattle.rules.specs.Steps.{Two, adds, subtracts, multiplies, divides, compares, LineStep, constant, reference, raises, joins, chooses, Deed, gives, raised, joined, chosen, four, StepKind, isConstant, isReference, isRaise, isChoose, isTwo, stepNumbers, stepKind, zeros, numberAt, constantAt, referenceTo, raiseBy, stepOf, stepGiven}
 use Rattle.lines.specs.StepLists.{unknown}
 use Rattle.lines.specs.Entry.{number-is}
-use Rattle.lines.specs.Lines.{issuedByTwo, issued}
+use Rattle.rules.specs.Lines.{issuedByTwo, issued}
 use Rattle.lines.specs.Issued.{PowerIs, subtracts-as-adds}
 
 -- ══ The number of a step with two operands ══

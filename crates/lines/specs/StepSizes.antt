@@ -12,8 +12,8 @@ use Rattle.rules.specs.Products.{put}
 use Rattle.rules.specs.Writing.{signed}
 use Rattle.records.specs.Views.{longAt}
 use Rattle.records.specs.Holds.{Holds, holds-long}
-use Rattle.lines.specs.Steps.{Two, adds, subtracts, multiplies, divides, compares, LineStep, constant, reference, raises, joins, chooses, isTwo, stepKind, stepNumbers}
-use Rattle.lines.specs.Lines.{its, dimensions, twoFactors, issuedByTwo, issued}
+use Rattle.rules.specs.Steps.{Two, adds, subtracts, multiplies, divides, compares, LineStep, constant, reference, raises, joins, chooses, isTwo, stepKind, stepNumbers}
+use Rattle.rules.specs.Lines.{its, dimensions, twoFactors, issuedByTwo, issued}
 use Rattle.lines.specs.Issued.{long-two, word-zero, word-nonzero}
 use Rattle.lines.specs.StepPuts.{deedBy, Says, by-constant, by-reference, by-raise, by-choose, by-two, is-multiplies, is-divides, number-of}
 

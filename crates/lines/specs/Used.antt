@@ -31,10 +31,10 @@ use Rattle.records.specs.Found.{Words32}
 use Rattle.records.specs.declared.View.{View}
 use Rattle.records.specs.declared.View.the-variants as view
 use Rattle.entries.specs.Given.{type-is}
-use Rattle.lines.specs.Steps.{LineStep, constant, reference, raises, joins, chooses, StepWords, four, StepKind, isConstant, isReference, isRaise, isChoose, isTwo, stepNumbers, stepKind, zeros, numberAt, constantAt, referenceTo, raiseBy, stepOf, stepGiven}
+use Rattle.rules.specs.Steps.{LineStep, constant, reference, raises, joins, chooses, StepWords, four, StepKind, isConstant, isReference, isRaise, isChoose, isTwo, stepNumbers, stepKind, zeros, numberAt, constantAt, referenceTo, raiseBy, stepOf, stepGiven}
 use Rattle.lines.specs.StepLists.{unknown, stepsFrom}
 use Rattle.lines.specs.Entry.{number-is, this, steps-some}
-use Rattle.lines.specs.Lines.{namesOfFactor, namesOfTy, namesOfTys, namesOfFields, namesOfStep, fresh}
+use Rattle.rules.specs.Lines.{namesOfFactor, namesOfTy, namesOfTys, namesOfFields, namesOfStep, fresh}
 
 -- ══ Records one by one ══
 

@@ -28,8 +28,8 @@ ghost use Rattle.rules.specs.Calls.{typeAt};
 ghost use Rattle.laws.specs.NameTable.{Good};
 ghost use Rattle.names.specs.Told.{toldChecked};
 ghost use Rattle.records.specs.Views.{recs};
-ghost use Rattle.lines.specs.Steps.{four, isConstant, isReference, isRaise, zeros, constantAt, referenceTo, raiseBy, stepOf, stepGiven, lineGiven};
-ghost use Rattle.lines.specs.Lines.{lineLent, lineShort};
+ghost use Rattle.rules.specs.Steps.{four, isConstant, isReference, isRaise, zeros, constantAt, referenceTo, raiseBy, stepOf, stepGiven, lineGiven};
+ghost use Rattle.rules.specs.Lines.{lineLent, lineShort};
 ghost use Rattle.lines.specs.Entered.{lineEntered, namesChecked};
 ghost use Rattle.lines.specs.StepLists.{isGiven, stepsFrom, operandsOf, wholeFrom};
 

@@ -10,7 +10,7 @@ use borrow.Author.Tests.{eqb-false}
 use lib.Dec.{eqb}
 use Rattle.rules.specs.Names.{Bytes}
 use Rattle.rules.specs.Trees.{var, par, boolean, string, datetime}
-use Rattle.sheets.specs.Grammar.{Place, here, bad, Rule, ascii, column, columnOf, pick, chosen, TyAt, deepAt, opened, dimension, keyword, function, listed, structure, types, type, tooDeep, deepTypes}
+use Rattle.rules.specs.Grammar.{Place, here, bad, Rule, ascii, column, columnOf, pick, chosen, TyAt, deepAt, opened, dimension, keyword, function, listed, structure, types, type, tooDeep, deepTypes}
 use Rattle.reading.specs.Points.{Reads, Any, columnAt, in-turn}
 use Rattle.reading.specs.Factors.{byteOf, refusedFrom, pick-other, choose-this, choose-none}
 use Rattle.reading.specs.Signs.{KeywordRead, OpenRead}

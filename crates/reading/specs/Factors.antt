@@ -12,7 +12,7 @@ use lib.ListN.{length, drop, getD, drop-of-length-le, length-drop}
 use lib.Seq.{drop-cons}
 use Rattle.rules.specs.Names.{Bytes}
 use Rattle.rules.specs.Trees.{Atom, free, base, var, par}
-use Rattle.sheets.specs.Grammar.{Place, here, beyond, Parsed, read, bad, Rule, give, sign, skip, skipFrom, ifSign, column, columnOf, left, leftIn, pick, chosen, choose, NameAt, name, PowerAt, power, noPower, FactorAt, TyAt, dimAt, marks, markedWith, factor, moreFactors, factors, dimension, _>>=_, _>>_}
+use Rattle.rules.specs.Grammar.{Place, here, beyond, Parsed, read, bad, Rule, give, sign, skip, skipFrom, ifSign, column, columnOf, left, leftIn, pick, chosen, choose, NameAt, name, PowerAt, power, noPower, FactorAt, TyAt, dimAt, marks, markedWith, factor, moreFactors, factors, dimension, _>>=_, _>>_}
 use Rattle.scanning.specs.Scanned.{placeIn, nameIn}
 use Rattle.scanning.specs.Names.{NameRead}
 use Rattle.reading.specs.Points.{Reads, PointIn, MarkRead, Any, marked, leftAt, columnAt, from, standing, begins, beginsAt, in-turn, given, if-sign, if-no-sign, begins-end}

@@ -12,8 +12,8 @@ use lib.Dec.{eqb}
 use lib.ListN.{length, drop, getD, drop-of-length-le}
 use lib.Seq.{drop-cons}
 use Rattle.rules.specs.Names.{Bytes}
-use Rattle.sheets.specs.Grammar.{Place, here, beyond, Parsed, read, bad, Rule, pass, give, skip, skipFrom, spell, spellFrom, starts, either, ifSign, column, columnOf, digits, digitsAt}
-use Rattle.sheets.specs.Grammar as Grammar
+use Rattle.rules.specs.Grammar.{Place, here, beyond, Parsed, read, bad, Rule, pass, give, skip, skipFrom, spell, spellFrom, starts, either, ifSign, column, columnOf, digits, digitsAt}
+use Rattle.rules.specs.Grammar as Grammar
 use Rattle.scanning.specs.Scanned.{placeIn, Skipped}
 use Rattle.scanning.specs.Numbers.{NumberRead}
 use Rattle.reading.specs.declared.inner.Point.{Point}

@@ -7,7 +7,7 @@ use Prim.Native.Nat.{ℕ, suc, _+_, _≤_, _<_, min}
 use lib.IntN.{ℤ, pos, negℤ}
 use lib.ListN.{length}
 use Rattle.rules.specs.Names.{Bytes}
-use Rattle.sheets.specs.Grammar.{Rule, give, sign, ifSign, column, digits, PowerAt, signedBy, power, _>>=_, _>>_}
+use Rattle.rules.specs.Grammar.{Rule, give, sign, ifSign, column, digits, PowerAt, signedBy, power, _>>=_, _>>_}
 use Rattle.reading.specs.Points.{Reads, PointIn, Any, Same, Capped, marked, columnAt, beginsAt, in-turn, given, if-sign, if-no-sign}
 use Rattle.reading.specs.declared.inner.Point.{Point}
 

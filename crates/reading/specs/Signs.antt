@@ -9,7 +9,7 @@ use lib.Dec.{eqb}
 use lib.ListN.{length, drop, length-drop}
 use Rattle.rules.specs.Names.{Bytes}
 use Rattle.rules.specs.Trees.{Open, Basic}
-use Rattle.sheets.specs.Grammar.{Place, here, beyond, Parsed, read, bad, Rule, give, skip, spell, spellFrom, column, NameAt, name, TyAt, openAt, basicAt, _>>=_, _>>_}
+use Rattle.rules.specs.Grammar.{Place, here, beyond, Parsed, read, bad, Rule, give, skip, spell, spellFrom, column, NameAt, name, TyAt, openAt, basicAt, _>>=_, _>>_}
 use Rattle.scanning.specs.Scanned.{placeIn, Skipped}
 use Rattle.reading.specs.Points.{Reads, PointIn, Any, marked, leftAt, columnAt, in-turn, given, skip-is}
 use Rattle.reading.specs.declared.inner.Point.{Point}

@@ -6,7 +6,7 @@ use mathlib.Core.List.{List, [], _∷_}
 use Prim.Native.Nat.{ℕ, zero, suc, _+_, _-_, _≤_, _<_}
 use native.Mathlib.Omega.{arith}
 use Rattle.rules.specs.Names.{Bytes}
-use Rattle.sheets.specs.Grammar.{Place, here, bad, Rule, give, ascii, sign, ifSign, column, left, NameAt, name, TyAt, TysAt, nilAt, consAt, FieldsAt, noneAt, fieldAt, fnAt, listAt, structAt, moreTys, tys, function, listed, fieldName, moreFields, fields, structure, _>>=_, _>>_}
+use Rattle.rules.specs.Grammar.{Place, here, bad, Rule, give, ascii, sign, ifSign, column, left, NameAt, name, TyAt, TysAt, nilAt, consAt, FieldsAt, noneAt, fieldAt, fnAt, listAt, structAt, moreTys, tys, function, listed, fieldName, moreFields, fields, structure, _>>=_, _>>_}
 use Rattle.reading.specs.Points.{Reads, PointIn, MarkRead, Any, marked, leftAt, columnAt, beginsAt, in-turn, given, if-sign, if-no-sign}
 use Rattle.reading.specs.Factors.{begun, left-there}
 use Rattle.reading.specs.Signs.{spelled}

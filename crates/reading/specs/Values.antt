@@ -15,8 +15,8 @@ use Rattle.laws.specs.Integers.{natAbs-neg}
 use Rattle.laws.specs.Gcd.{is-gcd, coprime}
 use Rattle.laws.specs.Twos.{gcd-one}
 use Rattle.laws.specs.Ranges.{Good, is-good}
-use Rattle.sheets.specs.Grammar.{PowerAt, signedBy}
-use Rattle.sheets.specs.TextReading.{powerOf}
+use Rattle.rules.specs.Grammar.{PowerAt, signedBy}
+use Rattle.rules.specs.TextReading.{powerOf}
 use Rattle.reading.specs.Powers.{Typed}
 use Rattle.reading.specs.declared.inner.Point.{Point}
 

@@ -1,4 +1,7 @@
 // Each rule goes on from a point of a line: what was refused stays refused, and behind a type nested 65 deep everything passes.
+pub mod factors;
+pub mod signs;
+
 use exponents::Exponent;
 use exponents::inner::quotient_of;
 use scanning::inner::Number;
@@ -10,7 +13,7 @@ ghost use lib.IntN.{pos};
 ghost use lib.ListN.{length};
 ghost use Rattle.rules.specs.Exponents.{lowest, top};
 ghost use Rattle.exponents.specs.Answers.{expOf};
-ghost use Rattle.sheets.specs.Grammar.{column, digits, power};
+ghost use Rattle.rules.specs.Grammar.{column, digits, power};
 ghost use Rattle.reading.specs.Points.{PointIn, Reads, MarkRead, beginsAt, columnAt, Any, Same, Capped};
 ghost use Rattle.reading.specs.Powers.{minusThere, denominatorThere, Typed};
 ghost use Rattle.reading.specs.declared.inner.Point.the-variants as point;

@@ -1,7 +1,5 @@
 // The rules of the grammar, held against a line.
-pub mod factors;
 pub mod inner;
-pub mod signs;
 
 use exponents::Exponent;
 use exponents::Power;

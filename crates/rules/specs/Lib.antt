@@ -27,8 +27,15 @@ pub mod Offices
 pub mod Rescue
 pub mod Compaction
 pub mod Elimination
+pub mod Grammar
+pub mod TextReading
+pub mod TextWriting
+pub mod Steps
+pub mod Lines
+pub mod Running
 pub mod Rules
 pub mod Engine
+pub mod Sheets
 pub mod Lengths
 pub mod Examples
 pub mod CasesOfValues
@@ -36,3 +43,5 @@ pub mod CasesOfLists
 pub mod CasesOfRescue
 pub mod CasesOfCompaction
 pub mod CasesOfElimination
+pub mod CasesOfSheets
+pub mod CasesOfLines

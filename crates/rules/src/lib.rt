@@ -1,4 +1,4 @@
-// What all code shares: the refusals of document 01 and its limits.
+// What all code shares: the refusals of document 01, with 11 and 12 of document 02, and the limits.
 ghost use mathlib.Core.Path.{_≡_};
 ghost use Rattle.rules.specs.Refusals.{numberOf};
 
@@ -39,10 +39,12 @@ pub enum Refusal {
     TooLarge,
     WrongCount,
     ShortBuffer,
+    NotConfirmed,
+    NotGrammar,
 }
 
 impl Refusal {
-    // Its number in document 01.
+    // Its number in the documents.
     pub fn number(self) -> u32
         ensures { λ r. ⌜ r ≡ numberOf self ⌝ }
     {
@@ -57,6 +59,8 @@ impl Refusal {
             Refusal::TooLarge => 8,
             Refusal::WrongCount => 9,
             Refusal::ShortBuffer => 10,
+            Refusal::NotConfirmed => 11,
+            Refusal::NotGrammar => 12,
         }
     }
 }

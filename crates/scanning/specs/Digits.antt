@@ -8,7 +8,7 @@ use native.Mathlib.Omega.{arith}
 use borrow.Author.Tests.{leb-true}
 use lib.Dec.{leb}
 use Rattle.laws.specs.Lists.{and-right, some≢none}
-use Rattle.sheets.specs.Grammar.{between, isDigit, hexIn, hexOf}
+use Rattle.rules.specs.Grammar.{between, isDigit, hexIn, hexOf}
 use Rattle.scanning.specs.declared.Hex.{Hex}
 use Rattle.scanning.specs.declared.Hex.the-variants as hex
 

@@ -8,7 +8,7 @@ use lib.ListN.{length, set, length-append}
 use lib.Seq.{sets}
 use Rattle.records.specs.Stores.{sets-append}
 use Rattle.rules.specs.Names.{Bytes}
-use Rattle.sheets.specs.Grammar.{Place, here, Parsed, read, bad, more}
+use Rattle.rules.specs.Grammar.{Place, here, Parsed, read, bad, more}
 use Rattle.scanning.specs.Scanned.{placeIn, nameIn, ByteThen, end-name}
 use Rattle.scanning.specs.declared.inner.Name.{Name}
 use Rattle.scanning.specs.declared.inner.Name.the-variants as name

@@ -11,7 +11,7 @@ use lib.Dec.{ltb}
 use lib.ListN.{length, drop, getD, drop-of-length-le}
 use lib.Seq.{drop-cons}
 use Rattle.rules.specs.Names.{Bytes}
-use Rattle.sheets.specs.Grammar.{here, Parsed, read, bad, isDigit, digitsFrom, digitsAt}
+use Rattle.rules.specs.Grammar.{here, Parsed, read, bad, isDigit, digitsFrom, digitsAt}
 use Rattle.scanning.specs.Scanned.{placeIn}
 use Rattle.scanning.specs.declared.inner.Number.{Number}
 use Rattle.scanning.specs.declared.inner.Number.the-variants as number

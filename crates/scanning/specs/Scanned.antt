@@ -11,7 +11,7 @@ use borrow.Author.Tests.{eq-eqb, ne-eqb}
 use lib.ListN.{length, drop, getD, drop-of-length-le}
 use lib.Seq.{drop-cons}
 use Rattle.rules.specs.Names.{Bytes}
-use Rattle.sheets.specs.Grammar.{Place, here, Parsed, read, bad, isBlank, isPlain, isDigit, hexOf, whole, slashed, half, more, nameFrom, skipFrom, spellFrom}
+use Rattle.rules.specs.Grammar.{Place, here, Parsed, read, bad, isBlank, isPlain, isDigit, hexOf, whole, slashed, half, more, nameFrom, skipFrom, spellFrom}
 use Rattle.scanning.specs.declared.inner.Spelt.{Spelt}
 use Rattle.scanning.specs.declared.inner.Spelt.the-variants as ended
 use Rattle.scanning.specs.declared.inner.Letter.{Letter}

@@ -8,7 +8,7 @@ use spelling::within;
 ghost use mathlib.Core.Path.{_≡_};
 ghost use Prim.Native.Nat.{suc, _+_, _*_, _≤_, _<_, min};
 ghost use lib.ListN.{length, drop, getD};
-ghost use Rattle.sheets.specs.Grammar.{spellFrom};
+ghost use Rattle.rules.specs.Grammar.{spellFrom};
 ghost use Rattle.scanning.specs.Scanned.{Skipped, spelt, Goes};
 ghost use Rattle.scanning.specs.Names.{NameScanned};
 ghost use Rattle.scanning.specs.Numbers.{NumberScanned};

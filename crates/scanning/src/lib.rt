@@ -1,7 +1,7 @@
 // A line of a sheet from left to right: blanks, signs, the bytes of names.
 use spelling::within;
 ghost use mathlib.Core.Path.{_≡_};
-ghost use Rattle.sheets.specs.Grammar.{isBlank, hexOf};
+ghost use Rattle.rules.specs.Grammar.{isBlank, hexOf};
 ghost use Rattle.scanning.specs.Digits.{toldHex};
 
 pub mod inner;

@@ -16,8 +16,8 @@ use Rattle.rules.specs.Names.{Bytes, tableOf, numbersOf, isHeld}
 use Rattle.rules.specs.WellFormed.{goodOpen, goodFactor, goodProduct, goodTy, goodTys, goodFields, goodCon}
 use Rattle.laws.specs.Lists.{Every, every-append, and-left, and-right, all-is, all-every, not-true}
 use Rattle.laws.specs.NameTable.{Good}
-use Rattle.sheets.specs.Grammar.{ascii, isPlain, isDigit}
-use Rattle.sheets.specs.TextWriting.{hexDigit, escaped, nameText, decimal, numeratorText, denominatorText, powerText, openText, factorText, moreFactorsText, factorsText, dimensionText, basicText, tyText, tysText, moreTysText, argumentsText, fieldsText, moreFieldsText, conText, setText}
+use Rattle.rules.specs.Grammar.{ascii, isPlain, isDigit}
+use Rattle.rules.specs.TextWriting.{hexDigit, escaped, nameText, decimal, numeratorText, denominatorText, powerText, openText, factorText, moreFactorsText, factorsText, dimensionText, basicText, tyText, tysText, moreTysText, argumentsText, fieldsText, moreFieldsText, conText, setText}
 use Rattle.sheets.specs.Spelling.{IsByte}
 use Rattle.sheets.specs.Meanings
 use Rattle.sheets.specs.TypesBack.{plain-no}

@@ -1,8 +1,3 @@
-pub mod Grammar
-pub mod TextReading
-pub mod TextWriting
-pub mod Sheets
-pub mod Cases
 pub mod Spelling
 pub mod Meanings
 pub mod ReadBack

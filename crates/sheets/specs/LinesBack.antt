@@ -13,10 +13,10 @@ use Rattle.rules.specs.Names.{Bytes, tableOf, numbersOf, isHeld}
 use Rattle.rules.specs.WellFormed.{goodOpen, goodTy, goodCon, goodProduct}
 use Rattle.laws.specs.Lists.{Every, and-left, and-right}
 use Rattle.laws.specs.NameTable.{Good}
-use Rattle.sheets.specs.Grammar.{here, Parsed, read, pass, give, _>>_, isBlank, isPlain, isDigit, skipFrom, skip, spellFrom, spell, ended, nameFrom, type, TyAt, typed, constraint, signsAt, line, ConAt, isDimAt, equalAt}
-use Rattle.sheets.specs.Grammar as G
-use Rattle.sheets.specs.TextReading.{told, meant, lineRead}
-use Rattle.sheets.specs.TextWriting.{nameText, openText, dimensionText, tyText, conText}
+use Rattle.rules.specs.Grammar.{here, Parsed, read, pass, give, _>>_, isBlank, isPlain, isDigit, skipFrom, skip, spellFrom, spell, ended, nameFrom, type, TyAt, typed, constraint, signsAt, line, ConAt, isDimAt, equalAt}
+use Rattle.rules.specs.Grammar as G
+use Rattle.rules.specs.TextReading.{told, meant, lineRead}
+use Rattle.rules.specs.TextWriting.{nameText, openText, dimensionText, tyText, conText}
 use Rattle.sheets.specs.Spelling.{Finds, found, then, IsByte}
 use Rattle.sheets.specs.Meanings
 use Rattle.sheets.specs.ReadBack.{Stops, as′, blank-type, name-found, Dimension, dimension-found}

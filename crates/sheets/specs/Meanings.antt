@@ -23,9 +23,9 @@ use Rattle.laws.specs.Fractions.{Terms, lowest-terms}
 use Rattle.laws.specs.Ranges.{good-lowest}
 use Rattle.laws.specs.Sorted.{Before, Sorted, sorted}
 use Rattle.laws.specs.ByteOrder.{numbered-lawful, atom-lawful}
-use Rattle.sheets.specs.Grammar.{NameAt, PowerAt, FactorAt, TyAt, openAt, basicAt, dimAt, fnAt, listAt, structAt, TysAt, nilAt, consAt, FieldsAt, noneAt, fieldAt, ConAt, equalAt, isDimAt, isScalarAt, hasFieldAt}
-use Rattle.sheets.specs.TextReading.{Sofar, Told, told, counted, enterName, named, openNamed, atomNamed, powerOf, multiplied, factorsOf, productOf, rises, tyOf, tysOf, fieldsOf, conOf}
-use Rattle.sheets.specs.TextWriting.{namesIn}
+use Rattle.rules.specs.Grammar.{NameAt, PowerAt, FactorAt, TyAt, openAt, basicAt, dimAt, fnAt, listAt, structAt, TysAt, nilAt, consAt, FieldsAt, noneAt, fieldAt, ConAt, equalAt, isDimAt, isScalarAt, hasFieldAt}
+use Rattle.rules.specs.TextReading.{Sofar, Told, told, counted, enterName, named, openNamed, atomNamed, powerOf, multiplied, factorsOf, productOf, rises, tyOf, tysOf, fieldsOf, conOf}
+use Rattle.rules.specs.TextWriting.{namesIn}
 use Rattle.sheets.specs.Spelling.{IsByte, IsPower}
 
 every-take : (n : ℕ) (l : Bytes) → Every IsByte l → Every IsByte (take n l)

@@ -20,9 +20,9 @@ use Rattle.rules.specs.Calls.{lent, lentResult, lentWork, shortLists, tableKept
 use Rattle.laws.specs.Lists.{Every, every-left, every-right, and-left, and-right}
 use Rattle.laws.specs.NameTable.{Good}
 use Rattle.laws.specs.ReadLists.{Words}
-use Rattle.sheets.specs.Grammar.{linesOf, inFront, skipFrom, signsAt, line}
-use Rattle.sheets.specs.TextReading.{Sofar, Told, told, refusedAt, meant, lineRead, Sheet, sheet, refusedIn, with, nextLine, linesRead, unread, sheetRead, ReadAnswer, wasRead, notRead, TextRead, handed, fromEntry, sheetGiven, readTextCall}
-use Rattle.sheets.specs.TextWriting.{conText, setText, namesIn, textOf, writeTextCall}
+use Rattle.rules.specs.Grammar.{linesOf, inFront, skipFrom, signsAt, line}
+use Rattle.rules.specs.TextReading.{Sofar, Told, told, refusedAt, meant, lineRead, Sheet, sheet, refusedIn, with, nextLine, linesRead, unread, sheetRead, ReadAnswer, wasRead, notRead, TextRead, handed, fromEntry, sheetGiven, readTextCall}
+use Rattle.rules.specs.TextWriting.{conText, setText, namesIn, textOf, writeTextCall}
 use Rattle.sheets.specs.Spelling.{IsByte}
 use Rattle.sheets.specs.Meanings
 use Rattle.sheets.specs.LinesBack.{line-back}

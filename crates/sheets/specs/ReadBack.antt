@@ -18,9 +18,9 @@ use Rattle.rules.specs.WellFormed.{goodOpen, goodFactor, goodProduct, goodTy, g
 use Rattle.laws.specs.Lists.{Every, and-left, and-right, yes-is, true≢false}
 use Rattle.laws.specs.NameTable.{Good, held-is}
 use Rattle.laws.specs.Reading.{deep}
-use Rattle.sheets.specs.Grammar.{here, Parsed, read, Rule, pass, give, _>>=_, _>>_, isBlank, isPlain, isDigit, skipFrom, skip, spellFrom, spell, sign, mark, starts, ifSign, whole, nameFrom, name, NameAt, power, noPower, PowerAt, dimAt, factor, FactorAt, moreFactors, dimension, moreTys, tys, function, listed, moreFields, fields, structure, type, TyAt, nilAt, noneAt, typed, constraint, signsAt, line, ConAt}
-use Rattle.sheets.specs.Grammar as G
-use Rattle.sheets.specs.TextWriting.{nameText, numeratorText, denominatorText, powerText, openText, factorText, moreFactorsText, factorsText, dimensionText, tyText, tysText, moreTysText, argumentsText, fieldsText, moreFieldsText, conText}
+use Rattle.rules.specs.Grammar.{here, Parsed, read, Rule, pass, give, _>>=_, _>>_, isBlank, isPlain, isDigit, skipFrom, skip, spellFrom, spell, sign, mark, starts, ifSign, whole, nameFrom, name, NameAt, power, noPower, PowerAt, dimAt, factor, FactorAt, moreFactors, dimension, moreTys, tys, function, listed, moreFields, fields, structure, type, TyAt, nilAt, noneAt, typed, constraint, signsAt, line, ConAt}
+use Rattle.rules.specs.Grammar as G
+use Rattle.rules.specs.TextWriting.{nameText, numeratorText, denominatorText, powerText, openText, factorText, moreFactorsText, factorsText, dimensionText, tyText, tysText, moreTysText, argumentsText, fieldsText, moreFieldsText, conText}
 use Rattle.sheets.specs.Spelling.{Finds, found, then, Comes, IsByte, NameEnds, name-back, IsPower, power-back}
 use Rattle.sheets.specs.Meanings
 

@@ -13,8 +13,8 @@ use Rattle.rules.specs.Base.{collect}
 use Rattle.rules.specs.Names.{Bytes}
 use Rattle.rules.specs.Exponents.{top}
 use Rattle.laws.specs.Lists.{Every}
-use Rattle.sheets.specs.Grammar.{here, Parsed, read, Rule, pass, isPlain, isDigit, isBlank, skipFrom, skip, starts, sign, spell, spellFrom, ifSign, give, _>>=_, _>>_, PowerAt, signedBy, power, digitsAt, digits, hexOf, whole, slashed, half, more, nameFrom, digitsFrom}
-use Rattle.sheets.specs.TextWriting.{hexDigit, escaped, nameText, decimal, numeratorText, denominatorText, powerText}
+use Rattle.rules.specs.Grammar.{here, Parsed, read, Rule, pass, isPlain, isDigit, isBlank, skipFrom, skip, starts, sign, spell, spellFrom, ifSign, give, _>>=_, _>>_, PowerAt, signedBy, power, digitsAt, digits, hexOf, whole, slashed, half, more, nameFrom, digitsFrom}
+use Rattle.rules.specs.TextWriting.{hexDigit, escaped, nameText, decimal, numeratorText, denominatorText, powerText}
 
 -- a rule finds something of which P holds, and this is left
 pub record Finds {A : Type 0} (m : Parsed A) (P : A → Type 0) (rest : Bytes) : Type 0 where

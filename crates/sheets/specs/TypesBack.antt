@@ -18,8 +18,8 @@ use Rattle.laws.specs.NameTable.{Good}
 use Rattle.laws.specs.Reading.{deep}
 use Rattle.laws.specs.ByteOrder.{numbered-lawful, atom-lawful}
 use Rattle.laws.specs.Sorted.{Sorted, sorted}
-use Rattle.sheets.specs.Grammar.{here, Parsed, pass, give, _>>=_, _>>_, Rule, isBlank, isPlain, isDigit, skipFrom, skip, spellFrom, spell, sign, starts, ifSign, whole, nameFrom, name, dimension, moreTys, tys, function, listed, moreFields, fields, structure, type, TyAt, dimAt, TysAt, nilAt, FieldsAt, noneAt, fieldAt, fieldName, NameAt}
-use Rattle.sheets.specs.TextWriting.{escaped, nameText, openText, dimensionText, tyText, tysText, moreTysText, argumentsText, fieldsText, moreFieldsText}
+use Rattle.rules.specs.Grammar.{here, Parsed, pass, give, _>>=_, _>>_, Rule, isBlank, isPlain, isDigit, skipFrom, skip, spellFrom, spell, sign, starts, ifSign, whole, nameFrom, name, dimension, moreTys, tys, function, listed, moreFields, fields, structure, type, TyAt, dimAt, TysAt, nilAt, FieldsAt, noneAt, fieldAt, fieldName, NameAt}
+use Rattle.rules.specs.TextWriting.{escaped, nameText, openText, dimensionText, tyText, tysText, moreTysText, argumentsText, fieldsText, moreFieldsText}
 use Rattle.sheets.specs.Spelling.{Finds, found, then, IsByte, NameEnds}
 use Rattle.sheets.specs.Meanings
 use Rattle.sheets.specs.ReadBack.{Stops, ListStops, as′, blank-type, name-found, Dimension, dimension-found}

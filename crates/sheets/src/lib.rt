@@ -1,1 +1,1 @@
-// Definitions of sheets as text, and theorems about them, stand in specs/; there is no code.
+// Theorems about sheets as text stand in specs/; there is no code.

@@ -14,8 +14,8 @@ use Rattle.rules.specs.Base.{collect, isYes}
 use Rattle.rules.specs.Exponents.{frac, one as one′, Exp-dec}
 use Rattle.rules.specs.Writing.{signed, bySign}
 use Rattle.laws.specs.Contents.{collect-append}
-use Rattle.sheets.specs.Grammar.{isPlain}
-use Rattle.sheets.specs.TextWriting.{hexDigit, escaped, nameText, decimal, numeratorText, denominatorText, powerText}
+use Rattle.rules.specs.Grammar.{isPlain}
+use Rattle.rules.specs.TextWriting.{hexDigit, escaped, nameText, decimal, numeratorText, denominatorText, powerText}
 use Rattle.records.specs.Stores.{sets-append}
 use Rattle.rules.specs.Names.{Bytes}
 

@@ -7,7 +7,7 @@ ghost use Prim.Native.Nat.{_+_, _%_, _≤_, _<_, _^_};
 ghost use lib.ListN.{length, set};
 ghost use Rattle.rules.specs.Exponents.{frac};
 ghost use Rattle.rules.specs.Writing.{signed};
-ghost use Rattle.sheets.specs.TextWriting.{hexDigit, escaped, nameText, decimal, numeratorText, denominatorText, powerText};
+ghost use Rattle.rules.specs.TextWriting.{hexDigit, escaped, nameText, decimal, numeratorText, denominatorText, powerText};
 ghost use Rattle.spelling.specs.Puts.{Put};
 
 // Sets a byte of a buffer, where there is one at i.

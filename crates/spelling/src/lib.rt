@@ -2,7 +2,7 @@
 ghost use mathlib.Core.Path.{_≡_};
 ghost use mathlib.Core.Bool.{_&&_};
 ghost use lib.Dec.{leb};
-ghost use Rattle.sheets.specs.Grammar.{isPlain};
+ghost use Rattle.rules.specs.Grammar.{isPlain};
 
 pub mod inner;
 

@@ -7,7 +7,7 @@ use Rattle.rules.specs.Numbers.{listed, refusalIn, number}
 use Rattle.rules.specs.Refusals.{numberOf}
 use Rattle.laws.specs.Lists.{got≢refused}
 use Rattle.laws.specs.Numbers.{number-injective}
-use Rattle.sheets.specs.TextWriting.{writeTextCall}
+use Rattle.rules.specs.TextWriting.{writeTextCall}
 use Rattle.text.specs.declared.Answer.{Answer}
 use Rattle.text.specs.declared.Answer.the-variants.{Bytes, Refused}
 use Rattle.text.specs.Told.{told, listedAs}

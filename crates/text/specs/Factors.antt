@@ -24,8 +24,8 @@ use Rattle.records.specs.Good.{HeldOpen, HeldAtom}
 use Rattle.records.specs.declared.Atom as atoms
 use Rattle.records.specs.declared.Open as opens
 use Rattle.records.specs.declared.View.the-variants as view
-use Rattle.sheets.specs.Grammar.{ascii}
-use Rattle.sheets.specs.TextWriting.{nameText, powerText, openText, factorText, moreFactorsText, factorsText, dimensionText, namesIn}
+use Rattle.rules.specs.Grammar.{ascii}
+use Rattle.rules.specs.TextWriting.{nameText, powerText, openText, factorText, moreFactorsText, factorsText, dimensionText, namesIn}
 use Rattle.sheets.specs.Meanings as Meanings
 use Rattle.sheets.specs.Lengths.{factor-short, name-short, all-short}
 use Rattle.spelling.specs.Puts.{Put, nothing, after}

@@ -18,8 +18,8 @@ use Rattle.records.specs.Holds.{Holds, HoldsProduct, HoldsCon, con-long}
 use Rattle.records.specs.ByView.{con-by-view, ArmsCon, con-in}
 use Rattle.records.specs.Good.{Chain, GoodCon}
 use Rattle.records.specs.declared.View.the-variants as view
-use Rattle.sheets.specs.Grammar.{ascii}
-use Rattle.sheets.specs.TextWriting.{nameText, tyText, conText, setText, dimensionText, namesIn}
+use Rattle.rules.specs.Grammar.{ascii}
+use Rattle.rules.specs.TextWriting.{nameText, tyText, conText, setText, dimensionText, namesIn}
 use Rattle.sheets.specs.Lengths.{ty-short, set-fits}
 use Rattle.spelling.specs.Puts.{Put, nothing, after}
 use Rattle.text.specs.Types.{nameOf, isGood, TypeAt, PutType, EndOf, held-short}

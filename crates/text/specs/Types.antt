@@ -21,8 +21,8 @@ use Rattle.records.specs.declared.Open as opens
 use Rattle.records.specs.declared.Basic as basics
 use Rattle.records.specs.declared.View.{View}
 use Rattle.records.specs.declared.View.the-variants as view
-use Rattle.sheets.specs.Grammar.{ascii}
-use Rattle.sheets.specs.TextWriting.{nameText, openText, basicText, dimensionText, tyText, tysText, moreTysText, argumentsText, fieldsText, moreFieldsText, namesIn}
+use Rattle.rules.specs.Grammar.{ascii}
+use Rattle.rules.specs.TextWriting.{nameText, openText, basicText, dimensionText, tyText, tysText, moreTysText, argumentsText, fieldsText, moreFieldsText, namesIn}
 use Rattle.sheets.specs.Meanings as Meanings
 use Rattle.sheets.specs.Lengths.{ty-short, types-short, parameters-short, fields-short, name-short}
 use Rattle.spelling.specs.Puts.{Put, nothing, after}

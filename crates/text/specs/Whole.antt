@@ -21,7 +21,7 @@ use Rattle.records.specs.Found.{Words32}
 use Rattle.records.specs.Good.{Chain, GoodCon}
 use Rattle.records.specs.Whole.{entry-good, set-is}
 use Rattle.sheets.specs.Lengths.{set-fits}
-use Rattle.sheets.specs.TextWriting.{setText, textOf, writeTextCall, namesIn}
+use Rattle.rules.specs.TextWriting.{setText, textOf, writeTextCall, namesIn}
 use Rattle.spelling.specs.Puts.{Put}
 use Rattle.text.specs.Lines.{LinesAt, PutLines}
 

@@ -23,7 +23,7 @@ ghost use Rattle.laws.specs.NameTable.{Good};
 ghost use Rattle.records.specs.Holds.{openOf, atomOf, basicOf, Holds, HoldsTys};
 ghost use Rattle.records.specs.Good.{HeldOpen, HeldAtom};
 ghost use Rattle.spelling.specs.Puts.{Put};
-ghost use Rattle.sheets.specs.TextWriting.{basicText, openText, factorText, dimensionText, tyText, conText, setText, namesIn};
+ghost use Rattle.rules.specs.TextWriting.{basicText, openText, factorText, dimensionText, tyText, conText, setText, namesIn};
 ghost use Rattle.text.specs.Factors.{Factors, Named, atomText, star, fromFactors};
 ghost use Rattle.text.specs.Lines.{named, SaysEqual, SaysHas, ConAt, LinesAt};
 ghost use Rattle.text.specs.Types.{comma, bracket, label, head, between, fromTys, fromFields, SaysFn, SaysStruct, SaysList, TypeAt, TypesAt, FieldsAt};

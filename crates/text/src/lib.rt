@@ -6,7 +6,7 @@ use names::Checked;
 use records::is_set;
 use rules::Refusal;
 ghost use mathlib.Core.Path.{_≡_};
-ghost use Rattle.sheets.specs.TextWriting.{writeTextCall};
+ghost use Rattle.rules.specs.TextWriting.{writeTextCall};
 ghost use Rattle.text.specs.Told.{listedAs};
 
 // 173 bytes for each of 2,048 records.

@@ -17,7 +17,7 @@ ghost use Rattle.rules.specs.Calls.{differ};
 ghost use Rattle.records.specs.Views.{viewAt};
 ghost use Rattle.records.specs.Holds.{openOf, atomOf};
 ghost use Rattle.queries.specs.Scans.{toldName};
-ghost use Rattle.lines.specs.Steps.{stepKind, stepNumbers};
+ghost use Rattle.rules.specs.Steps.{stepKind, stepNumbers};
 ghost use Rattle.lines.specs.StepLists.{stepsFrom};
 ghost use Rattle.lines.specs.Used.{namesAtom, namesView, namesIn, namesAt, namesBy, namesWord, freshWords};
 

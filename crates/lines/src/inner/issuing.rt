@@ -22,8 +22,8 @@ ghost use Rattle.rules.specs.Names.{tableOf, numbersOf};
 ghost use Rattle.rules.specs.Writing.{words, writeTy, writeCon, twos, signed};
 ghost use Rattle.laws.specs.NameTable.{Good};
 ghost use Rattle.records.specs.Holds.{Holds};
-ghost use Rattle.lines.specs.Steps.{Two, adds, compares, gives, raised, chosen};
-ghost use Rattle.lines.specs.Lines.{its, dimensions, twoFactors, issuedByTwo, issued};
+ghost use Rattle.rules.specs.Steps.{Two, adds, compares, gives, raised, chosen};
+ghost use Rattle.rules.specs.Lines.{its, dimensions, twoFactors, issuedByTwo, issued};
 ghost use Rattle.lines.specs.Issued.{pairOf, PowerIs};
 
 // That x is a dimension: two records.

@@ -5,7 +5,7 @@ use mathlib.Core.Bool.{Bool}
 use lib.IntN.{pos}
 use Rattle.rules.specs.Base.{got}
 use Rattle.rules.specs.Exponents.{neg, goodExp, lowest}
-use Rattle.sheets.specs.Grammar.{signedBy}
+use Rattle.rules.specs.Grammar.{signedBy}
 use Rattle.laws.specs.Fractions.{lowest-neg}
 use Rattle.reading.specs.Values.{value-large, value-zero, value-under, value-there, lowest-good}
 use borrow.Author.Needs.{needs}

@@ -4,7 +4,7 @@ use native.Mathlib.Omega.{arith}
 use borrow.Author.Tests.{leb-true}
 use lib.Dec.{leb}
 use Rattle.laws.specs.Lists.{and-left}
-use Rattle.sheets.specs.Grammar.{hexOf, isDigit}
+use Rattle.rules.specs.Grammar.{hexOf, isDigit}
 use borrow.Author.Needs.{needs}
 use Rattle.scanning.proofs.hex_of.Statement.{statement}
 use Rattle.scanning.proofs.hex_of.Tie as tie

@@ -1,6 +1,6 @@
 -- `is_blank` meets its contract. Assumes nothing.
 use borrow.Author.Tests.{eq-eqb, ne-eqb}
-use Rattle.sheets.specs.Grammar.{isBlank}
+use Rattle.rules.specs.Grammar.{isBlank}
 use Rattle.scanning.proofs.is_blank.Statement.{statement}
 use Rattle.scanning.proofs.is_blank.Tie as tie
 use Rattle.scanning.proofs.is_blank.Reads as reads

@@ -1,7 +1,7 @@
 -- `is_plain` meets its contract. Assumes nothing.
 use mathlib.Core.Path.{sym, _∙_}
 use borrow.Author.Tests.{eq-eqb, ne-eqb}
-use Rattle.sheets.specs.Grammar.{isPlain, isDigit}
+use Rattle.rules.specs.Grammar.{isPlain, isDigit}
 use borrow.Author.Needs.{needs}
 use Rattle.spelling.proofs.is_plain.Statement.{statement}
 use Rattle.spelling.proofs.is_plain.Tie as tie

@@ -1,7 +1,7 @@
 -- `inner::operands_of` meets its contract. Assumes nothing.
 use mathlib.Core.Path.{sym}
 use native.Mathlib.Omega.{arith}
-use Rattle.lines.specs.Steps.{stepKind}
+use Rattle.rules.specs.Steps.{stepKind}
 use Rattle.lines.specs.StepLists.{taken-none, taken-two, taken-unknown}
 use Rattle.lines.proofs.inner.operands_of.Statement.{statement}
 use Rattle.lines.proofs.inner.operands_of.Tie as tie

@@ -3,7 +3,7 @@ use borrow.Author.Tests.{lt-leb, le-leb}
 use lib.ListN.{length}
 use Rattle.rules.specs.Base.{all}
 use Rattle.rules.specs.Calls.{shortLists, shortNumbers}
-use Rattle.lines.specs.Lines.{lineShort}
+use Rattle.rules.specs.Lines.{lineShort}
 use Rattle.lines.proofs.inner.short.Statement.{statement}
 use Rattle.lines.proofs.inner.short.Tie as tie
 

@@ -7,7 +7,7 @@ use Rattle.rules.specs.Base.{each}
 use Rattle.rules.specs.Names.{tableOf}
 use Rattle.names.specs.Told.{toldChecked}
 use Rattle.records.specs.Views.{recs}
-use Rattle.lines.specs.Steps.{stepGiven}
+use Rattle.rules.specs.Steps.{stepGiven}
 use Rattle.lines.specs.StepLists.{isGiven, stepsFrom}
 use Rattle.lines.specs.Entry.{steps-on, steps-off, steps-none}
 use borrow.Author.Needs.{needs}

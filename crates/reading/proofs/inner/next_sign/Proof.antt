@@ -1,7 +1,7 @@
 -- `inner::next_sign` meets its contract. Assumes nothing.
 use mathlib.Core.Path.{refl}
 use Rattle.reading.specs.Points.{sign-there, passes, stays, column-past}
-use Rattle.sheets.specs.Grammar.{column}
+use Rattle.rules.specs.Grammar.{column}
 use borrow.Author.Needs.{needs}
 use Rattle.reading.proofs.inner.next_sign.Statement.{statement}
 use Rattle.reading.proofs.inner.next_sign.Tie as tie

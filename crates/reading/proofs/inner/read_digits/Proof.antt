@@ -1,7 +1,7 @@
 -- `inner::read_digits` meets its contract. Assumes nothing.
 use mathlib.Core.Path.{refl}
 use Rattle.reading.specs.Points.{passes, stays, digits-past}
-use Rattle.sheets.specs.Grammar.{digits}
+use Rattle.rules.specs.Grammar.{digits}
 use borrow.Author.Needs.{needs}
 use Rattle.reading.proofs.inner.read_digits.Statement.{statement}
 use Rattle.reading.proofs.inner.read_digits.Tie as tie

@@ -7,7 +7,7 @@ use borrow.Author.Tests.{leb-true, not-true, not-false}
 use lib.Dec.{leb}
 use lib.ListN.{length, getD}
 use Rattle.laws.specs.Lists.{and-left, and-right}
-use Rattle.sheets.specs.Grammar.{isDigit}
+use Rattle.rules.specs.Grammar.{isDigit}
 use Rattle.scanning.specs.Numbers.{Counting, counting, one-more, Stop, stop-end, stop-other, whole, nothing-there}
 use Rattle.scanning.proofs.inner.scan_digits.Statement.{statement}
 use Rattle.scanning.proofs.inner.scan_digits.Tie as tie

@@ -4,7 +4,7 @@ use Prim.Native.Nat.{suc, _-_, _≤_}
 use native.Mathlib.Omega.{arith}
 use borrow.Author.Tests.{not-true, not-false}
 use lib.ListN.{length, drop}
-use Rattle.sheets.specs.Grammar.{skipFrom}
+use Rattle.rules.specs.Grammar.{skipFrom}
 use Rattle.scanning.specs.Scanned.{Skipped, sign-step, blank-step, end-step}
 use Rattle.scanning.proofs.inner.skip_blanks.Statement.{statement}
 use Rattle.scanning.proofs.inner.skip_blanks.Tie as tie

@@ -3,7 +3,7 @@ use mathlib.Core.Path.{_≡_, refl, sym, _∙_}
 use Prim.Native.Nat.{suc, _-_, _≤_}
 use native.Mathlib.Omega.{arith}
 use lib.ListN.{length, drop}
-use Rattle.sheets.specs.Grammar.{spellFrom}
+use Rattle.rules.specs.Grammar.{spellFrom}
 use Rattle.scanning.specs.Scanned.{spelt-whole, spelt-end, spelt-other, spelt-step}
 use Rattle.scanning.proofs.inner.spell.Statement.{statement}
 use Rattle.scanning.proofs.inner.spell.Tie as tie

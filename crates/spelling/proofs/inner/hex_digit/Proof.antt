@@ -1,6 +1,6 @@
 -- `inner::hex_digit` meets its contract. Assumes nothing.
 use borrow.Author.Tests.{lt-ltb, le-ltb}
-use Rattle.sheets.specs.TextWriting.{hexDigit}
+use Rattle.rules.specs.TextWriting.{hexDigit}
 use borrow.Author.Needs.{needs}
 use Rattle.spelling.proofs.inner.hex_digit.Statement.{statement}
 use Rattle.spelling.proofs.inner.hex_digit.Tie as tie

@@ -5,7 +5,7 @@ use native.Mathlib.Omega.{arith}
 use lib.ListN.{length, take, getD}
 use lib.Seq.{take-length}
 use Rattle.sheets.specs.Lengths.{byte-short}
-use Rattle.sheets.specs.TextWriting.{nameText}
+use Rattle.rules.specs.TextWriting.{nameText}
 use Rattle.spelling.specs.Puts.{Put, no-name, name-more}
 use Rattle.spelling.proofs.inner.put_name.Statement.{statement}
 use Rattle.spelling.proofs.inner.put_name.Tie as tie

@@ -1,6 +1,6 @@
 -- `inner::put_open` meets its contract: by the case. Assumes nothing.
 use native.Mathlib.Omega.{arith}
-use Rattle.sheets.specs.TextWriting.{openText}
+use Rattle.rules.specs.TextWriting.{openText}
 use Rattle.spelling.specs.Puts.{nothing, after}
 use borrow.Author.Needs.{needs}
 use Rattle.text.proofs.inner.put_open.Statement.{statement}

@@ -1,0 +1,3 @@
+// Rows of powers and the grid of them, for callers that know their widths.
+pub mod grids;
+pub mod rows;
