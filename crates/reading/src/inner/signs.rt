@@ -1,6 +1,6 @@
 // Signs of several bytes, and the types without a type inside.
-use crate::inner::factors::read_name;
 use crate::inner::Point;
+use crate::inner::factors::read_name;
 use crate::inner::mark;
 use crate::inner::next_sign;
 use scanning::inner::Spelt;
