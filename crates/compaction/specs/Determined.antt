@@ -3,7 +3,7 @@ use mathlib.Core.Path.{_≡_, refl, sym, ap, _∙_}
 use mathlib.Core.List.{List}
 use Prim.Native.Nat.{ℕ}
 use native.Mathlib.Omega.{arith}
-use Rattle.rules.specs.Numbers.{refusalIn}
+use Rattle.rules.specs.Numbers.{refusalIn, number, compacted}
 use Rattle.rules.specs.Refusals.{numberOf}
 use Rattle.laws.specs.Numbers.{number-injective}
 use Rattle.compaction.specs.declared.Compacted.{Compacted}
@@ -45,5 +45,6 @@ module _ (pool table sets lengths : List ℕ) where
         lists = ap (λ (x : rules.Compacted). x .sets) same;
       }
 
-  pub compact-numbered : (p : Compacted) (a c e : List ℕ) → compactedAs p a c e ≡ compactCall pool table sets lengths → numberCompacted p ≡ refusalIn (compactCall pool table sets lengths .answer)
+  pub compact-numbered : (p : Compacted) (a c e : List ℕ) → compactedAs p a c e ≡ compactCall pool table sets lengths → numberCompacted p ≡ number (compacted (compactCall pool table sets lengths))
+  unfolding number
   compact-numbered p a c e h = answer-in p ∙ ap (λ (x : rules.Compacted). refusalIn (x .answer)) h

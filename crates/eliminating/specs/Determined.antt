@@ -6,6 +6,7 @@ use mathlib.Core.List.{List}
 use Prim.Native.Nat.{ℕ}
 use native.Mathlib.Omega.{arith}
 use Rattle.laws.specs.Numbers.{number-injective}
+use Rattle.rules.specs.Numbers.{number, eliminated, refusalEliminated}
 use Rattle.rules.specs.Elimination.{Eliminated, allBound, someLeft, refusedWith, Elimination, eliminateCall}
 use Rattle.eliminating.specs.declared.Outcome.{Outcome}
 use Rattle.eliminating.specs.declared.Outcome.the-variants.{Bound, Left, Refused}
@@ -22,19 +23,13 @@ told-injective (Refused r) (Bound y) e = let n : _≡_ {A = ℕ} 0 1 = cc in abs
 told-injective (Refused r) (Left y) e = let n : _≡_ {A = ℕ} 0 1 = cc in absurd (omega arith)
 told-injective (Refused r) (Refused s) e = ap Refused (number-injective r s cc)
 
--- document 01's numbers: 'no rule applies and a constraint remains': 5 (to stand in `rules/specs/Numbers`)
-unfoldable pub refusalOf : Eliminated → ℕ
-refusalOf (allBound n) = 0
-refusalOf (someLeft n) = 5
-refusalOf (refusedWith n) = n
-
 pub record OneResult (a b : Outcome) (result result′ work work′ : List ℕ) : Type 0 where
   pub outcomes : a ≡ b
   pub results : result ≡ result′
   pub works : work ≡ work′
 
-outcome-in : (a : Outcome) → numberOutcome a ≡ refusalOf (told a)
-unfolding refusalOf
+outcome-in : (a : Outcome) → numberOutcome a ≡ refusalEliminated (told a)
+unfolding refusalEliminated
 outcome-in (Bound n) = refl
 outcome-in (Left n) = refl
 outcome-in (Refused r) = refl
@@ -50,5 +45,6 @@ module _ (pool table set result work : List ℕ) where
         works = ap (λ (s : Elimination). s .work) e;
       }
 
-  pub eliminate-numbered : (p : Outcome) (a c : List ℕ) → eliminationAs p a c ≡ eliminateCall pool table set result work → numberOutcome p ≡ refusalOf (eliminateCall pool table set result work .answer)
-  eliminate-numbered p a c h = outcome-in p ∙ ap (λ (s : Elimination). refusalOf (s .answer)) h
+  pub eliminate-numbered : (p : Outcome) (a c : List ℕ) → eliminationAs p a c ≡ eliminateCall pool table set result work → numberOutcome p ≡ number (eliminated (eliminateCall pool table set result work))
+  unfolding number
+  eliminate-numbered p a c h = outcome-in p ∙ ap (λ (s : Elimination). refusalEliminated (s .answer)) h

@@ -2,7 +2,7 @@
 use mathlib.Core.Path.{_≡_, refl, sym, ap, _∙_}
 use mathlib.Core.List.{List}
 use Prim.Native.Nat.{ℕ}
-use Rattle.rules.specs.Numbers.{refusalIn}
+use Rattle.rules.specs.Numbers.{refusalIn, number, rescued}
 use Rattle.rules.specs.Refusals.{numberOf}
 use Rattle.laws.specs.Lists.{got≢refused}
 use Rattle.laws.specs.Numbers.{number-injective}
@@ -36,5 +36,6 @@ module _ (pool table file kept skipped : List ℕ) where
       let e = h ∙ sym i in
       (told-injective p q (ap (λ (r : Rescued). r .answer) e), ap (λ (r : Rescued). r .kept) e, ap (λ (r : Rescued). r .skipped) e)
 
-  pub rescue-numbered : (p : Answer) (k m : List ℕ) → rescuedAs p k m ≡ rescueCall pool table file kept skipped → numberAnswer p ≡ refusalIn (rescueCall pool table file kept skipped .answer)
+  pub rescue-numbered : (p : Answer) (k m : List ℕ) → rescuedAs p k m ≡ rescueCall pool table file kept skipped → numberAnswer p ≡ number (rescued (rescueCall pool table file kept skipped))
+  unfolding number
   rescue-numbered p k m h = answer-in p ∙ ap (λ (r : Rescued). refusalIn (r .answer)) h

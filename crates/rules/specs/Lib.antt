@@ -30,6 +30,7 @@ pub mod Elimination
 pub mod Grammar
 pub mod TextReading
 pub mod TextWriting
+pub mod Reports
 pub mod Steps
 pub mod Lines
 pub mod Running
@@ -45,3 +46,4 @@ pub mod CasesOfCompaction
 pub mod CasesOfElimination
 pub mod CasesOfSheets
 pub mod CasesOfLines
+pub mod CasesOfReports
