@@ -11,12 +11,13 @@ ghost use mathlib.Core.Path.{_≡_};
 ghost use mathlib.Core.Bool.{_&&_};
 ghost use mathlib.Core.List.{_++_};
 ghost use mathlib.Core.Option.{none};
-ghost use Prim.Native.Nat.{_≤_, _<_};
+ghost use Prim.Native.Nat.{_+_, _≤_, _<_};
 ghost use lib.Dec.{leb, ltb};
 ghost use lib.ListN.{length, getD, drop};
-ghost use Rattle.rules.specs.Names.{tableOf, namesOf, numbersOf, numberOf, lengthsGood, distinct, tableGood, hasRoom, enterKnown, enterChecked};
+ghost use Rattle.rules.specs.Names.{tableOf, namesOf, numbersOf, numberOf, sameBytes, lengthsGood, distinct, tableGood, hasRoom, enterKnown, enterChecked};
 ghost use Rattle.laws.specs.NameTable.{startAt, endsOf, Laid, Good};
-ghost use Rattle.rules.specs.Base.{need};
+ghost use Rattle.rules.specs.Base.{need, any};
+ghost use Rattle.names.specs.Digests.{withByte, digestOf, nameIn, Digests};
 ghost use Rattle.names.specs.Told.{toldOrder, toldFound, IsPart, heldPart, entered};
 
 // What a search answers: a number, or nothing.
@@ -124,22 +125,112 @@ pub fn search(pool: &[u8], table: &[u32], from: usize, name: &[u8]) -> Found
     Found::Nothing
 }
 
-// Is no name held twice?
-fn all_distinct(pool: &[u8], table: &[u32]) -> bool
+// A digest with one byte more.
+fn with_byte(d: u64, b: u8) -> u64
+    requires { ⌜ d < 4294967296 ⌝ }
+    ensures { λ r. ⌜ (r ≡ withByte d b) × (r < 4294967296) ⌝ }
+{
+    (d * 257 + b as u64) % 4294967296
+}
+
+// A number that equal names share: names with different ones needn't be compared.
+fn digest(name: &[u8]) -> u32
+    ensures { λ r. ⌜ r ≡ digestOf (now (name .entry)) ⌝ }
+{
+    let mut d: u64 = 0;
+    let mut i = 0;
+    while i < name.len() {
+        d = with_byte(d, name[i]);
+        i = i + 1;
+    }
+    d as u32
+}
+
+// The digests of all names, by their numbers.
+fn put_digests(pool: &[u8], table: &[u32], digests: &mut [u32])
     requires { ⌜ Laid (now pool) (now table) ⌝ }
+    requires { ⌜ 256 ≤ length (now digests) ⌝ }
+    ensures { λ _. ⌜ Digests (now (pool .entry)) (now (table .entry)) (now (digests .exit)) (getD (now (table .entry)) 0 0) ⌝ }
+{
+    let n = wide(table[0]);
+    let mut k = 0;
+    while k < n {
+        let d = digest(name_at(pool, table, k));
+        digests[k] = d;
+        k = k + 1;
+    }
+}
+
+// Are the names of two numbers the same, byte by byte?
+fn same_names(pool: &[u8], table: &[u32], i: usize, j: usize) -> bool
+    requires { ⌜ Laid (now pool) (now table) ⌝ }
+    requires { ⌜ i < getD (now table) 0 0 ⌝ }
+    requires { ⌜ j < getD (now table) 0 0 ⌝ }
+    ensures { λ r. ⌜ r ≡ sameBytes (nameIn (now (pool .entry)) (now (table .entry)) i) (nameIn (now (pool .entry)) (now (table .entry)) j) ⌝ }
+{
+    match compare(name_at(pool, table, i), name_at(pool, table, j)) {
+        Order::Same => true,
+        Order::Less | Order::More => false,
+    }
+}
+
+// Do two numbers have the same name? Their digests, if they differ, say no.
+fn same_held(pool: &[u8], table: &[u32], digests: &[u32], i: usize, j: usize) -> bool
+    requires { ⌜ Laid (now pool) (now table) ⌝ }
+    requires { ⌜ Digests (now pool) (now table) (now digests) (getD (now table) 0 0) ⌝ }
+    requires { ⌜ i < getD (now table) 0 0 ⌝ }
+    requires { ⌜ j < getD (now table) 0 0 ⌝ }
+    ensures { λ r. ⌜ r ≡ sameBytes (nameIn (now (pool .entry)) (now (table .entry)) i) (nameIn (now (pool .entry)) (now (table .entry)) j) ⌝ }
+{
+    if digests[i] != digests[j] {
+        return false;
+    }
+    same_names(pool, table, i, j)
+}
+
+// Has a later number the name with the number k?
+fn held_again(pool: &[u8], table: &[u32], digests: &[u32], k: usize) -> bool
+    requires { ⌜ Laid (now pool) (now table) ⌝ }
+    requires { ⌜ Digests (now pool) (now table) (now digests) (getD (now table) 0 0) ⌝ }
+    requires { ⌜ k < getD (now table) 0 0 ⌝ }
+    ensures { λ r. ⌜ r ≡ any (sameBytes (nameIn (now (pool .entry)) (now (table .entry)) k)) (drop (k + 1) (namesOf (tableOf (now (pool .entry)) (now (table .entry))))) ⌝ }
+{
+    let n = wide(table[0]);
+    let mut j = k + 1;
+    while j < n {
+        if same_held(pool, table, digests, k, j) {
+            return true;
+        }
+        j = j + 1;
+    }
+    false
+}
+
+// Is no name held twice? By their digests.
+fn none_again(pool: &[u8], table: &[u32], digests: &[u32]) -> bool
+    requires { ⌜ Laid (now pool) (now table) ⌝ }
+    requires { ⌜ Digests (now pool) (now table) (now digests) (getD (now table) 0 0) ⌝ }
     ensures { λ r. ⌜ r ≡ distinct (namesOf (tableOf (now (pool .entry)) (now (table .entry)))) ⌝ }
 {
     let n = wide(table[0]);
     let mut k = 0;
     while k < n {
-        match search(pool, table, k + 1, name_at(pool, table, k)) {
-            Found::At(_) => return false,
-            Found::Nothing => {
-                k = k + 1;
-            }
+        if held_again(pool, table, digests, k) {
+            return false;
         }
+        k = k + 1;
     }
     true
+}
+
+// Is no name held twice?
+fn all_distinct(pool: &[u8], table: &[u32]) -> bool
+    requires { ⌜ Laid (now pool) (now table) ⌝ }
+    ensures { λ r. ⌜ r ≡ distinct (namesOf (tableOf (now (pool .entry)) (now (table .entry)))) ⌝ }
+{
+    let mut digests = [0u32; NAMES];
+    put_digests(pool, table, &mut digests);
+    none_again(pool, table, &digests)
 }
 
 // Is the table well formed?

@@ -1,40 +1,19 @@
 -- `names::inner::search` meets its contract. The invariant: the names from k on decide, and the first of them begins at start.
 -- Assumes nothing.
 use mathlib.Core.Path.{_≡_, refl, sym, _∙_, ap}
-use mathlib.Core.Logic.{⊎-elim}
-use mathlib.Core.Bool.{true, false}
-use mathlib.Core.List.{[], _∷_}
-use Prim.Native.Nat.{ℕ, suc, _-_, _≤_, _<_, Ordering·eq}
+use mathlib.Core.List.{_∷_}
+use Prim.Native.Nat.{ℕ, suc, _-_, _≤_, _<_}
 use native.Mathlib.Numerals.{add-one}
 use native.Mathlib.Omega.{arith}
 use borrow.Author.Needs.{needs}
 use lib.ListN.{drop, getD}
 use denote.Ref.{now}
-use denote.Enum.Declared as Declared
-use types.Run.{OneOf}
-use Rattle.rules.specs.Names.{Bytes, orderBytes, sameBytes, tableOf, namesOf, numberOf}
-use Rattle.laws.specs.Order.{self}
-use Rattle.laws.specs.ByteOrder.{bytes-same, bytes-lawful}
-use Rattle.laws.specs.NameTable.{startAt, partOf, placed, names-step, names-end, same-yes, same-no, search-hit, search-miss}
-use Rattle.names.specs.declared.Order.{Order}
-use Rattle.names.specs.declared.Order.the-variants.{Less, Same, More}
+use Rattle.rules.specs.Names.{orderBytes, tableOf, namesOf, numberOf}
+use Rattle.laws.specs.NameTable.{startAt, partOf, placed, names-step, names-end, search-hit, search-miss}
 use Rattle.names.specs.Told.{toldOrder}
-use Rattle.names.proofs.Order as order
+use Rattle.names.proofs.Compared.{hit, missed}
 use Rattle.names.proofs.inner.search.Statement.{statement}
 use Rattle.names.proofs.inner.search.Tie as tie
-
--- what a comparison says
-module _ (n m : Bytes) where
-  hit : toldOrder Same ≡ orderBytes n m → sameBytes n m ≡ true
-  hit e = same-yes n m (bytes-same n m (sym e))
-
-  unequal : (orderBytes n m ≡ Ordering·eq → ⊥) → sameBytes n m ≡ false
-  unequal f = same-no n m (λ e. f (ap (orderBytes n) (sym e) ∙ self bytes-lawful n))
-
-  missed : (o : Order) → toldOrder o ≡ orderBytes n m → OneOf (0 ∷ 2 ∷ []) (Declared.tagOf order.the-type o) → sameBytes n m ≡ false
-  missed Less e t = unequal (λ h. let z : _≡_ {A = ℕ} 0 1 = cc in omega arith)
-  missed More e t = unequal (λ h. let z : _≡_ {A = ℕ} 0 1 = cc in omega arith)
-  missed Same e t = ⊎-elim (λ h. absurd (omega arith)) (λ h. absurd (omega arith)) t
 
 abbrev Inv-loop : tie.InvT-loop
 Inv-loop pool table from name n k₀ start₀ k start =
