@@ -50,6 +50,10 @@ def cases():
     yield '64 sets in one call, each of 7 doublings', Request(30, v, [double * 64, [35] * 64], x=256, result=256 + 64 * 8192)
     yield '1 set of 2,046 records by that call', Request(30, v, [words, [2046]], x=4, result=8196)
     yield '2 sets by that call, one of 2,046 records', Request(30, v, [words + words[:1500], [2046, 375]], x=8, result=16392)
+    yield 'a line that is a reference of 2,040 parameters', Request(31, ('x', 'v'), [[2, 0, 0, 0], fn, [0], [1]])
+    km = [3, 1, 0, 0, 13, 128, 1, 1]
+    yield 'a line of 128 steps', Request(31, v[:129], [[1, 0, 0, 0] + [7, 0, 1, 1] * 127, km, [], list(range(128))])
+    yield 'a line of 64 summands', Request(31, v[:129], [[1, 0, 0, 0] * 64 + [3, 0, 0, 0] * 63, km, [], list(range(127))])
     yield 'multiply two products of 64 factors', of('prod mul (dim %s) (dim %s)' % (dims(64, 0, '3 7'), dims(64, 0, '5 11')))
 
 

@@ -56,9 +56,8 @@ def lines(comment, q, names, r):
     return '\n'.join(out) + '\n'
 
 
-def in_blocks(cases):
-    """the reader takes blocks; empty lines fill a block up, so that no case lies across the end of one"""
-    text = ''
+def in_blocks(cases, text=''):
+    """the reader takes blocks; empty lines fill a block up, so that no case lies across the end of one. These come behind the text"""
     for c in cases:
         left = BLOCK - len(text) % BLOCK
         if left < len(c) + 1:

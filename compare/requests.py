@@ -6,13 +6,13 @@ import model
 CALLS = {'check_table': 1, 'name_of': 2, 'enter': 3, 'compare': 4, 'exp add': 5, 'exp mul': 6, 'exp neg': 7, 'exp div': 8,
          'prod mul': 9, 'prod div': 10, 'prod inv': 11, 'prod pow': 12, 'is_set': 13, 'is_type': 14, 'is_scheme': 15, 'is_bindings': 16,
          'contains': 17, 'closed': 18, 'vars': 19, 'add': 20, 'replace': 21, 'replaceset': 22, 'solve': 23, 'lent': 24,
-         'quantify': 25, 'generalize': 26, 'instantiate': 27, 'judge': 28, 'ceiling': 29, 'batch': 30}
+         'quantify': 25, 'generalize': 26, 'instantiate': 27, 'judge': 28, 'ceiling': 29, 'batch': 30, 'line': 31}
 RESULT_WAS, WORK_WAS = 0xaaaaaaaa, 0x55555555
 
 # ---- word 0 of a record: the only place that knows its form
 
 # which lists of a call are records
-RECORDS = {**{n: (0,) for n in (13, 14, 15, 16, 17, 18, 19, 23, 27, 29, 30)}, **{n: (0, 1) for n in (20, 21, 22, 25, 26)}, 28: (0, 2, 3)}
+RECORDS = {**{n: (0,) for n in (13, 14, 15, 16, 17, 18, 19, 23, 27, 29, 30)}, **{n: (0, 1) for n in (20, 21, 22, 25, 26)}, 28: (0, 2, 3), 31: (1,)}
 
 
 def head(kind, n):

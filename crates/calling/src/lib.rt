@@ -6,12 +6,14 @@ pub mod told;
 pub mod values;
 pub mod words;
 
+use line_calls::check_line;
 use lists::listed;
 use named::compared;
 use named::entered;
 use named::named;
 use sheets::sheet;
 use told::Told;
+use told::written;
 use values::exponent;
 use values::product;
 
@@ -23,7 +25,7 @@ pub struct Asked {
 }
 
 // The calls have the numbers 1 to this.
-pub const LAST: u32 = 30;
+pub const LAST: u32 = 31;
 
 // The call that is asked for. What it says stands at the front of the result buffer, in `words` words.
 pub fn called(
@@ -45,6 +47,7 @@ pub fn called(
         5 | 6 | 7 | 8 => exponent(call, a),
         9 | 10 | 11 | 12 => product(q, a, b, pool, table, result),
         28 | 29 | 30 => sheet(q, pool, table, a, b, c, d, result, work),
+        31 => written(check_line(pool, table, a, b, c, d, result, work)),
         _ => listed(q, pool, table, a, b, c, d, result, work),
     }
 }

@@ -29,7 +29,7 @@ fn work_after(call: u32, refusal: u32) -> u32 {
         return WORK_BEFORE;
     }
     match call {
-        21 | 22 | 23 | 25 | 26 | 27 | 28 | 30 => 0,
+        21 | 22 | 23 | 25 | 26 | 27 | 28 | 30 | 31 => 0,
         _ => WORK_BEFORE,
     }
 }

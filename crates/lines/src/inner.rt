@@ -1,7 +1,5 @@
 // The parts of the check of a line: what is looked at before its constraints are written.
 pub mod fresh;
-pub mod issuing;
-pub mod stepping;
 
 use exponents::Exponent;
 use fresh::all_held;
@@ -37,7 +35,7 @@ ghost use Rattle.lines.specs.StepLists.{isGiven, stepsFrom, operandsOf, 
 const STEP_WORDS: usize = 512;
 
 // Is everything that is lent long enough, and is there a name for each step?
-fn room(
+pub fn room(
     pool: &[u8],
     table: &[u32],
     steps: &[u32],
@@ -234,7 +232,7 @@ fn steps_good(pool: &[u8], table: &[u32], types: &[u32], lines: &[u32], steps: &
 }
 
 // How many operands a step takes.
-fn operands_of(k: u32) -> usize
+pub fn operands_of(k: u32) -> usize
     ensures { λ r. ⌜ r ≡ operandsOf k ⌝ }
 {
     match k {

@@ -91,7 +91,13 @@ fn run(
 }
 
 // The same with a buffer of its own for the next state.
-fn run_alone(pool: &[u8], table: &[u32], n: usize, result: &mut [u32], work: &mut [u32]) -> Solution
+pub fn run_alone(
+    pool: &[u8],
+    table: &[u32],
+    n: usize,
+    result: &mut [u32],
+    work: &mut [u32],
+) -> Solution
     requires { ⌜ Good (now pool) (now table) ⌝ }
     requires { ⌜ ((cs : List (Con ℕ)) × Begun (now pool) (now table) (now work) n cs) ⌝ }
     requires { ⌜ 8192 ≤ length (now result) ⌝ }

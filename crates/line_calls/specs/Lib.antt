@@ -1,0 +1,5 @@
+pub mod Standing
+pub mod Typed
+pub mod Settled
+pub mod Whole
+pub mod Determined

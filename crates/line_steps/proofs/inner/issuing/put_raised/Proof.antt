@@ -1,0 +1,46 @@
+-- `inner::issuing::put_raised` meets its contract. Assumes nothing.
+use Rattle.line_steps.specs.Issued.{raised-put}
+use borrow.Author.Needs.{needs}
+use Rattle.line_steps.proofs.inner.issuing.put_raised.Statement.{statement}
+use Rattle.line_steps.proofs.inner.issuing.put_raised.Tie as tie
+
+put-record-requires : tie.Need-put-record-requires
+put-record-requires c κs = search needs
+
+add-put-one : tie.Need-add-put-one
+add-put-one c = search needs
+
+put-one-requires : tie.Need-put-one-requires
+put-one-requires c κs = search needs
+
+add-put-record : tie.Need-add-put-record
+add-put-record c = search needs
+
+put-record-requires-2 : tie.Need-put-record-requires-2
+put-record-requires-2 c κs = search needs
+
+add-put-one-2 : tie.Need-add-put-one-2
+add-put-one-2 c = search needs
+
+put-one-requires-2 : tie.Need-put-one-requires-2
+put-one-requires-2 c κs = search needs
+
+same-length : tie.Need-same-length
+same-length c = search needs
+
+returns : tie.Need-returns
+returns c = raised-put _ _ _ _ _ _ (c .before .before .before .before .before .before .before .before .before .before .put-one .ensures) _ _ _ _ (c .before .before .before .before .before .before .before .before .before .before .before .before .before .before .put-record .ensures) (c .before .before .before .before .before .before .put-record2 .ensures) (c .before .before .put-one2 .ensures)
+
+pub put-raised-spec : {M : Type 1} → statement M
+put-raised-spec =
+    tie.close
+    (tie.spec
+    put-record-requires
+    add-put-one
+    put-one-requires
+    add-put-record
+    put-record-requires-2
+    add-put-one-2
+    put-one-requires-2
+    same-length
+    returns)

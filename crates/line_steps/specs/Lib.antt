@@ -1,0 +1,4 @@
+pub mod Issued
+pub mod StepPuts
+pub mod StepSizes
+pub mod StepLoop
