@@ -1,16 +1,23 @@
--- The contract leaves no choice: two answers that it allows coincide; and the answer has the number of its outcome. Assumes nothing.
+-- The contracts leave no choice: two results that one of them allows coincide; and each answer has the number of its outcome. Assumes nothing.
 use mathlib.Core.Path.{_≡_, refl, sym, ap, _∙_}
 use mathlib.Core.List.{List}
 use Prim.Native.Nat.{ℕ}
+use native.Mathlib.Omega.{arith}
 use Rattle.rules.specs.Calls.{Listed}
 use Rattle.rules.specs.Numbers.{listed, refusalIn, number}
 use Rattle.rules.specs.Refusals.{numberOf}
 use Rattle.laws.specs.Lists.{got≢refused}
 use Rattle.laws.specs.Numbers.{number-injective}
+use Rattle.rules.specs.TextReading.{ReadAnswer, wasRead, notRead, TextRead, readTextCall}
 use Rattle.rules.specs.TextWriting.{writeTextCall}
+use Rattle.sheet_reading.specs.Given.{toldSheet, readAs}
+use Rattle.sheet_reading.specs.declared.Sheet.{Sheet}
+use Rattle.sheet_reading.specs.declared.Sheet.the-variants as sheet
 use Rattle.text.specs.declared.Answer.{Answer}
 use Rattle.text.specs.declared.Answer.the-variants.{Bytes, Refused}
 use Rattle.text.specs.Told.{told, listedAs}
+
+-- ══ Writing ══
 
 told-injective : (p q : Answer) → told p ≡ told q → p ≡ q
 told-injective (Bytes m) (Bytes n) e = ap Bytes (cc)
@@ -38,3 +45,55 @@ module _ (pool table set text : List ℕ) where
   pub write-text-numbered : (p : Answer) (a : List ℕ) → listedAs p a ≡ writeTextCall pool table set text → numberAnswer p ≡ number (listed (writeTextCall pool table set text))
   unfolding number
   write-text-numbered p a h = answer-in p ∙ ap (λ (l : Listed). refusalIn (l .answer)) h
+
+-- ══ Reading ══
+
+sheet-injective : (p q : Sheet) → toldSheet p ≡ toldSheet q → p ≡ q
+sheet-injective (sheet.Read n c k) (sheet.Read m d j) e =
+    let x : n ≡ m = cc in
+    let y : c ≡ d = cc in
+    let z : k ≡ j = cc in
+    rw (x, y, z) refl
+sheet-injective (sheet.Read n c k) (sheet.Refused s l q) e = let z : _≡_ {A = ℕ} 0 1 = cc in absurd (omega arith)
+sheet-injective (sheet.Refused r l q) (sheet.Read m d j) e = let z : _≡_ {A = ℕ} 0 1 = cc in absurd (omega arith)
+sheet-injective (sheet.Refused r l q) (sheet.Refused s m p) e =
+    let x : r ≡ s = number-injective r s (cc) in
+    let y : l ≡ m = cc in
+    let z : q ≡ p = cc in
+    rw (x, y, z) refl
+
+pub record OneReading (r s : Sheet) (p p′ t t′ e e′ w w′ : List ℕ) : Type 0 where
+  pub answers : r ≡ s
+  pub pools : p ≡ p′
+  pub tables : t ≡ t′
+  pub results : e ≡ e′
+  pub works : w ≡ w′
+
+-- the number of an answer: 0, or that of the refusal
+abbrev pub numberSheet : Sheet → ℕ
+numberSheet (sheet.Read n c k) = 0
+numberSheet (sheet.Refused r l q) = numberOf r
+
+abbrev pub refusalRead : ReadAnswer → ℕ
+refusalRead (wasRead n c k) = 0
+refusalRead (notRead n l q) = n
+
+sheet-in : (r : Sheet) → numberSheet r ≡ refusalRead (toldSheet r)
+sheet-in (sheet.Read n c k) = refl
+sheet-in (sheet.Refused r l q) = refl
+
+module _ (pool table text result work : List ℕ) where
+  pub read-text-determined : (r s : Sheet) (p p′ t t′ e e′ w w′ : List ℕ) → readAs r p t e w ≡ readTextCall pool table text result work → readAs s p′ t′ e′ w′ ≡ readTextCall pool table text result work
+      → OneReading r s p p′ t t′ e e′ w w′
+  read-text-determined r s p p′ t t′ e e′ w w′ h k =
+      let i : readAs r p t e w ≡ readAs s p′ t′ e′ w′ = h ∙ sym k in
+      record {
+        answers = sheet-injective r s (ap (λ (x : TextRead). x .answer) i);
+        pools = ap (λ (x : TextRead). x .pool) i;
+        tables = ap (λ (x : TextRead). x .table) i;
+        results = ap (λ (x : TextRead). x .result) i;
+        works = ap (λ (x : TextRead). x .work) i;
+      }
+
+  pub read-text-numbered : (r : Sheet) (p t e w : List ℕ) → readAs r p t e w ≡ readTextCall pool table text result work → numberSheet r ≡ refusalRead (readTextCall pool table text result work .answer)
+  read-text-numbered r p t e w h = sheet-in r ∙ ap (λ (x : TextRead). refusalRead (x .answer)) h

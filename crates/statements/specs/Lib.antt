@@ -1,0 +1,3 @@
+pub mod Shapes
+pub mod Statements
+pub mod Answers

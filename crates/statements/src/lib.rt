@@ -1,0 +1,2 @@
+// Lines of text, read and entered in one pass.
+pub mod inner;

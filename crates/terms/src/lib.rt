@@ -1,0 +1,2 @@
+// Names, powers and dimensions of a line of text, read and entered in one pass.
+pub mod inner;
