@@ -1,3 +1,1 @@
--- What the contracts of this crate cite.
-pub mod Saying
-pub mod Same
+-- This crate needs no definition of its own: what the calls come to stands in saying.

@@ -1,28 +1,18 @@
 // Every public call by its number, on what is lent. The programs that serve and that replay calls share this; docs/SERVE.md has the numbers.
-pub mod lists;
 pub mod named;
 pub mod sheets;
-pub mod told;
-pub mod values;
-pub mod words;
 
+use calling_lists::listed;
+use calling_values::exponent;
+use calling_values::product;
 use line_calls::check_line;
-use lists::listed;
 use named::compared;
 use named::entered;
 use named::named;
+use saying::Asked;
+use saying::told::Told;
+use saying::told::written;
 use sheets::sheet;
-use told::Told;
-use told::written;
-use values::exponent;
-use values::product;
-
-// The number of a call, and the two words that some calls take beside their lists.
-pub struct Asked {
-    pub call: u32,
-    pub x: u32,
-    pub y: u32,
-}
 
 // The calls have the numbers 1 to this.
 pub const LAST: u32 = 31;
@@ -48,6 +38,6 @@ pub fn called(
         9 | 10 | 11 | 12 => product(q, a, b, pool, table, result),
         28 | 29 | 30 => sheet(q, pool, table, a, b, c, d, result, work),
         31 => written(check_line(pool, table, a, b, c, d, result, work)),
-        _ => listed(q, pool, table, a, b, c, d, result, work),
+        _ => listed(q, pool, table, a, b, c, result, work),
     }
 }

@@ -1,23 +1,21 @@
 // The calls on names.
-use crate::told::Told;
-use crate::told::checked;
-use crate::told::numbered;
-use crate::told::ordered;
-use crate::told::refused;
-use crate::told::said;
-use crate::words::byte_word;
-use crate::words::fill;
-use crate::words::fill_bytes;
-use crate::words::fill_low;
-use crate::words::fill_words;
-use crate::words::put;
-use crate::words::put_change;
-use crate::words::wide;
-use crate::words::word_of;
 use names::check_number;
 use names::compare;
 use names::enter;
 use names::name_of;
+use saying::told::Told;
+use saying::told::checked;
+use saying::told::numbered;
+use saying::told::ordered;
+use saying::told::short;
+use saying::words::byte_word;
+use saying::words::fill;
+use saying::words::fill_bytes;
+use saying::words::fill_low;
+use saying::words::fill_words;
+use saying::words::put;
+use saying::words::wide;
+use saying::words::word_of;
 ghost use Prim.Native.Nat.{_≤_};
 ghost use lib.ListN.{length};
 
@@ -58,6 +56,19 @@ pub fn compared(a: &[u32], b: &[u32]) -> Told {
     let mut right = [0u8; NAME];
     fill_low(b, &mut right);
     ordered(compare(&left[0..n], &right[0..m]))
+}
+
+// Puts a place and its new value at the place `next`, where it is not as it was; where the next goes.
+fn put_change(out: &mut [u32], next: usize, i: usize, before: u32, after: u32) -> usize {
+    if before == after {
+        return next;
+    }
+    if 1000000 < next {
+        return next;
+    }
+    put(out, next, short(i));
+    put(out, next + 1, after);
+    next + 2
 }
 
 // The bytes of the pool that are not as before.

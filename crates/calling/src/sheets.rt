@@ -1,15 +1,15 @@
 // The calls on whole sets beside solving: the judge, the ceiling on rounds, and several sets at once.
-use crate::Asked;
-use crate::told::Told;
-use crate::told::batched;
-use crate::told::judged;
-use crate::told::limited;
-use crate::words::fill;
-use crate::words::word_of;
 use batches::solve_all;
 use ceiling::ceiling;
 use entries::Entry;
 use judging::judge;
+use saying::Asked;
+use saying::told::Told;
+use saying::told::batched;
+use saying::told::judged;
+use saying::told::limited;
+use saying::words::fill;
+use saying::words::word_of;
 use trials::Verdict;
 ghost use mathlib.Core.Path.{_≡_};
 ghost use Prim.Native.Nat.{_≤_};

@@ -1,7 +1,7 @@
 // Are an answer and the buffers as stored?
 use crate::lists::Gives;
-use calling::told::Told;
-use calling::words::all_from;
+use saying::told::Told;
+use saying::words::all_from;
 
 // What the words of the result buffer and of the work buffer are before a call.
 pub const RESULT_BEFORE: u32 = 2863311530;

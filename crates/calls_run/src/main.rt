@@ -2,7 +2,6 @@
 mod compare;
 mod lists;
 
-use calling::Asked;
 use calling::called;
 use cases::Tally;
 use cases::next_line;
@@ -17,6 +16,7 @@ use lists::enter_names;
 use lists::gives_from;
 use lists::lines_of;
 use lists::words_from;
+use saying::Asked;
 ghost use Prim.Native.Nat.{_≤_, _<_};
 ghost use lib.ListN.{length};
 

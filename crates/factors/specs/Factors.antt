@@ -8,8 +8,8 @@ use Rattle.rules.specs.Exponents.{Exp, frac}
 use Rattle.rules.specs.Values.{FactorValue, ProductValue}
 use Rattle.rules.specs.Writing.{twos, signed}
 use Rattle.products.specs.Told.{Answer}
-use Rattle.calling.specs.Saying.{word, saidAs, refusedAs}
-use Rattle.calling.specs.declared.told.Told.{Told}
+use Rattle.saying.specs.Saying.{word, saidAs, refusedAs}
+use Rattle.saying.specs.declared.told.Told.{Told}
 
 -- ══ In: words that are missing count as 0 ══
 

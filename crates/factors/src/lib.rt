@@ -1,10 +1,10 @@
 // Products for callers that lend them as words: four for each factor.
 pub mod inner;
 
-use calling::told::Told;
-use calling::told::refused;
-use calling::told::said;
-use calling::told::short;
+use saying::told::Told;
+use saying::told::refused;
+use saying::told::said;
+use saying::told::short;
 use inner::factor_at;
 use inner::put_factors;
 use names::Checked;

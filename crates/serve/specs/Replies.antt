@@ -3,9 +3,9 @@ use mathlib.Core.Bool.{Bool}
 use mathlib.Core.List.{List}
 use Prim.Native.Nat.{ℕ, _+_}
 use lib.ListN.{drop}
-use Rattle.calling.specs.Saying.{pick}
-use Rattle.calling.specs.Same.{same}
-use Rattle.calling.specs.declared.told.Told.{Told}
+use Rattle.saying.specs.Saying.{pick}
+use Rattle.saying.specs.Same.{same}
+use Rattle.saying.specs.declared.told.Told.{Told}
 
 -- no request: all ones in the place of the refusal, and what is wrong
 abbrev pub faultAs : ℕ → Told

@@ -8,7 +8,7 @@ use native.Mathlib.Omega.{arith}
 use borrow.Author.Tests.{ltb-false}
 use lib.Dec.{leb, ltb, eqb}
 use lib.ListN.{length, getD}
-use Rattle.calling.specs.Saying.{pick}
+use Rattle.saying.specs.Saying.{pick}
 use Rattle.serve.specs.declared.request.Header.{Header}
 
 -- the word whose four bytes stand at a place; 0 past the end

@@ -1,9 +1,9 @@
 // Words as bytes, the lowest first.
-use calling::words::byte_word;
-use calling::words::low;
-use calling::words::put;
-use calling::words::put_byte;
-use calling::words::word_of;
+use saying::words::byte_word;
+use saying::words::low;
+use saying::words::put;
+use saying::words::put_byte;
+use saying::words::word_of;
 ghost use mathlib.Core.Path.{_≡_};
 ghost use Prim.Native.Nat.{_≤_, _<_};
 ghost use Rattle.serve.specs.Requests.{wordAt};

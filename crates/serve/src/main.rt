@@ -4,7 +4,6 @@ mod coding;
 mod reply;
 mod request;
 
-use calling::Asked;
 use calling::called;
 use calling::named::POOL;
 use calling::named::TABLE;
@@ -28,6 +27,7 @@ use request::WORK;
 use request::fault;
 use request::filled;
 use request::header_from;
+use saying::Asked;
 ghost use mathlib.Core.Path.{_≡_};
 ghost use Prim.Native.Nat.{_≤_};
 ghost use lib.ListN.{length};

@@ -2,9 +2,9 @@
 use crate::coding::put_word;
 use crate::coding::put_words;
 use crate::request::Header;
-use calling::told::Told;
-use calling::told::short;
-use calling::words::all_from;
+use saying::told::Told;
+use saying::told::short;
+use saying::words::all_from;
 ghost use mathlib.Core.Path.{_≡_};
 ghost use Prim.Native.Nat.{_≤_};
 ghost use Rattle.serve.specs.Replies.{faultAs, flagOf, flagsOf};

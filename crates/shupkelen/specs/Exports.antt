@@ -13,8 +13,8 @@ use Rattle.rules.specs.Batches.{Batch}
 use Rattle.rules.specs.Rescue.{Rescued}
 use Rattle.rules.specs.Compaction.{Compacted}
 use Rattle.rules.specs.Elimination.{Elimination}
-use Rattle.calling.specs.Saying.{orderAs, askedAs, numberAs, countedAs, writtenAs, addedAs, solvedAs, ceilingAs}
-use Rattle.calling.specs.declared.told.Told.{Told}
+use Rattle.saying.specs.Saying.{orderAs, askedAs, numberAs, countedAs, writtenAs, addedAs, solvedAs, ceilingAs}
+use Rattle.saying.specs.declared.told.Told.{Told}
 use Rattle.products.specs.Told as products
 use Rattle.factors.specs.Factors.{toldOf, writtenOf}
 use Rattle.wording.specs.Words.{answerWords, placeAs, countAs, countsAs, powerAs, eliminatedAs}

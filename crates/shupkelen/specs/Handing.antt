@@ -9,7 +9,7 @@ use Rattle.rules.specs.Numbers.{refusalIn}
 use Rattle.names.specs.Told.{refusalOf}
 use Rattle.products.specs.Told.{Answer}
 use Rattle.factors.specs.Factors.{toldOf, writtenOf}
-use Rattle.calling.specs.declared.told.Told.{Told}
+use Rattle.saying.specs.declared.told.Told.{Told}
 use Rattle.wording.specs.Words.{answerWords}
 use Rattle.shupkelen.specs.Exports.{out, handed}
 

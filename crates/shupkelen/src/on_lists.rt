@@ -1,7 +1,7 @@
 // The calls that only look at lists of records.
-use calling::told::asked;
-use calling::told::counted;
-use calling::told::limited;
+use saying::told::asked;
+use saying::told::counted;
+use saying::told::limited;
 use ceiling::ceiling;
 use lending::lent;
 use queries::closed;

@@ -1,6 +1,6 @@
 // The calls on names.
-use calling::told::numbered;
-use calling::told::ordered;
+use saying::told::numbered;
+use saying::told::ordered;
 use names::check_number;
 use names::check_table;
 use names::compare;

@@ -1,10 +1,10 @@
 // The calls that write records: adding, replacing, solving and schemes.
 use adding::add;
 use batches::solve_all;
-use calling::told::added;
-use calling::told::judged;
-use calling::told::solution;
-use calling::told::written;
+use saying::told::added;
+use saying::told::judged;
+use saying::told::solution;
+use saying::told::written;
 use eliminating::eliminate;
 use pairs::judge_pairs;
 use replacing_calls::replace_in_set;

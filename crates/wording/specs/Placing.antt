@@ -12,7 +12,7 @@ use Rattle.rules.specs.Names.{Bytes, PoolPart, tableOf, namesOf, tableGiven, na
 use Rattle.rules.specs.Numbers.{refusalIn}
 use Rattle.laws.specs.NameTable.{Good, good-laid, given-good, name-asked, start-in, startAt}
 use Rattle.names.specs.Told.{refusalOf}
-use Rattle.calling.specs.Saying.{word, saidAs, refusedAs}
+use Rattle.saying.specs.Saying.{word, saidAs, refusedAs}
 use Rattle.wording.specs.Words.{placeAs}
 
 -- the end of the name before

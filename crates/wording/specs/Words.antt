@@ -1,5 +1,5 @@
 -- What a caller in another language is given: the refusal's number is returned, and what is said goes as words to the front of a lent list.
--- The answers of calls that the program `serve` doesn't have are told here; those of the others in `calling`. Assumes nothing: these are definitions.
+-- The answers of calls that the program `serve` doesn't have are told here; those of the others in `saying`. Assumes nothing: these are definitions.
 use mathlib.Core.List.{List, [], _∷_}
 use Prim.Native.Nat.{ℕ}
 use lib.ListN.{length}
@@ -10,8 +10,8 @@ use Rattle.rules.specs.Writing.{twos}
 use Rattle.rules.specs.Elimination.{Eliminated, allBound, someLeft, refusedWith}
 use Rattle.rules.specs.Names.{Bytes, PoolPart}
 use Rattle.rules.specs.Numbers.{refusalIn}
-use Rattle.calling.specs.Saying.{word, saidAs, refusedAs}
-use Rattle.calling.specs.declared.told.Told.{Told}
+use Rattle.saying.specs.Saying.{word, saidAs, refusedAs}
+use Rattle.saying.specs.declared.told.Told.{Told}
 
 -- what is said, a second number, completed rounds: three words, as far as there is room; how many words a result has isn't said again
 unfoldable pub answerWords : Told → List ℕ → List ℕ

@@ -1,8 +1,8 @@
-// The answers of the calls that `calling` does not tell.
-use calling::told::Told;
-use calling::told::refused;
-use calling::told::said;
-use calling::told::short;
+// The answers of the calls that `saying` does not tell.
+use saying::told::Told;
+use saying::told::refused;
+use saying::told::said;
+use saying::told::short;
 use compaction::Compacted;
 use eliminating::Outcome;
 use exponents::Exponent;

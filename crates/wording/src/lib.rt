@@ -2,7 +2,7 @@
 pub mod answers;
 pub mod places;
 
-use calling::told::Told;
+use saying::told::Told;
 use names::Checked;
 use records::inner::put;
 ghost use mathlib.Core.Path.{_≡_};

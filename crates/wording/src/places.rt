@@ -1,8 +1,8 @@
 // Where a name stands in the pool.
-use calling::told::Told;
-use calling::told::refused;
-use calling::told::said;
-use calling::told::short;
+use saying::told::Told;
+use saying::told::refused;
+use saying::told::said;
+use saying::told::short;
 use names::Checked;
 use names::check_number;
 use names::name_of;

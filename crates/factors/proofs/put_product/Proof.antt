@@ -2,7 +2,7 @@
 use mathlib.Core.Path.{refl, ap, _∙_}
 use Prim.Native.Nat.{ℕ}
 use Rattle.products.specs.Told.{told, given}
-use Rattle.calling.specs.Saying.{saidAs}
+use Rattle.saying.specs.Saying.{saidAs}
 use borrow.Author.Needs.{needs}
 use Rattle.factors.proofs.put_product.Statement.{statement}
 use Rattle.factors.proofs.put_product.Tie as tie

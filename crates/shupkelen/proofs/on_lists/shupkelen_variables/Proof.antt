@@ -1,5 +1,5 @@
 -- `on_lists::shupkelen_variables` meets its contract. Assumes nothing.
-use Rattle.calling.specs.Saying.{countedAs}
+use Rattle.saying.specs.Saying.{countedAs}
 use Rattle.rules.specs.Calls.{Listed}
 use Rattle.shupkelen.specs.Handing.{handed-as}
 use borrow.Author.Needs.{needs}

@@ -1,5 +1,5 @@
 -- `on_names::shupkelen_enter` meets its contract. Assumes nothing.
-use Rattle.calling.specs.Saying.{numberAs}
+use Rattle.saying.specs.Saying.{numberAs}
 use Rattle.rules.specs.Names.{Entered}
 use Rattle.shupkelen.specs.Handing.{handed-as}
 use borrow.Author.Needs.{needs}

@@ -1,6 +1,6 @@
 -- `on_names::shupkelen_name_of` meets its contract. Assumes nothing.
 use mathlib.Core.Path.{refl}
-use Rattle.calling.specs.declared.told.Told.{Told}
+use Rattle.saying.specs.declared.told.Told.{Told}
 use Rattle.shupkelen.specs.Handing.{handed-as}
 use borrow.Author.Needs.{needs}
 use Rattle.shupkelen.proofs.on_names.shupkelen_name_of.Statement.{statement}

@@ -1,5 +1,5 @@
 -- `on_sets::shupkelen_add` meets its contract. Assumes nothing.
-use Rattle.calling.specs.Saying.{addedAs}
+use Rattle.saying.specs.Saying.{addedAs}
 use Rattle.rules.specs.Calls.{AddedTo}
 use Rattle.shupkelen.specs.Handing.{handed-as}
 use borrow.Author.Needs.{needs}

@@ -1,5 +1,5 @@
 -- `on_sets::shupkelen_generalise` meets its contract. Assumes nothing.
-use Rattle.calling.specs.Saying.{writtenAs}
+use Rattle.saying.specs.Saying.{writtenAs}
 use Rattle.rules.specs.Calls.{Written}
 use Rattle.shupkelen.specs.Handing.{handed-as}
 use borrow.Author.Needs.{needs}

@@ -1,5 +1,5 @@
 -- `on_sets::shupkelen_judge` meets its contract. Assumes nothing.
-use Rattle.calling.specs.Saying.{askedAs}
+use Rattle.saying.specs.Saying.{askedAs}
 use Rattle.rules.specs.Calls.{Judged}
 use Rattle.shupkelen.specs.Handing.{handed-as}
 use borrow.Author.Needs.{needs}

@@ -1,5 +1,5 @@
 -- `on_sets::shupkelen_solve` meets its contract. Assumes nothing.
-use Rattle.calling.specs.Saying.{solvedAs}
+use Rattle.saying.specs.Saying.{solvedAs}
 use Rattle.rules.specs.Calls.{Solution}
 use Rattle.shupkelen.specs.Handing.{handed-as}
 use borrow.Author.Needs.{needs}

@@ -5,7 +5,7 @@ use Prim.Native.Nat.{ℕ}
 use borrow.Author.Needs.{needs}
 use lib.ListN.{length}
 use denote.Ref.{now}
-use Rattle.calling.specs.Saying.{word}
+use Rattle.saying.specs.Saying.{word}
 use Rattle.wording.specs.Placing.{placed-held, placed-nowhere}
 use Rattle.wording.proofs.places.placed.Statement.{statement}
 use Rattle.wording.proofs.places.placed.Tie as tie

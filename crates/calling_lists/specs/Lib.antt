@@ -1,0 +1,2 @@
+-- Laws for the proofs of this crate; its contracts cite the definitions of saying.
+pub mod Arms
