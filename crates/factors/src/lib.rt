@@ -1,16 +1,16 @@
 // Products for callers that lend them as words: four for each factor.
 pub mod inner;
 
-use saying::told::Told;
-use saying::told::refused;
-use saying::told::said;
-use saying::told::short;
 use inner::factor_at;
 use inner::put_factors;
 use names::Checked;
 use products::Product;
 use products::Tried;
 use rules::FACTORS;
+use saying::told::Told;
+use saying::told::refused;
+use saying::told::said;
+use saying::told::short;
 ghost use mathlib.Core.Path.{_≡_};
 ghost use Rattle.products.specs.Told.{given, told};
 ghost use Rattle.factors.specs.Factors.{productAt, toldOf, writtenOf};

@@ -1,7 +1,4 @@
 // The calls that only look at lists of records.
-use saying::told::asked;
-use saying::told::counted;
-use saying::told::limited;
 use ceiling::ceiling;
 use lending::lent;
 use queries::closed;
@@ -12,6 +9,9 @@ use records::is_scheme;
 use records::is_set;
 use records::is_type;
 use rules::Refusal;
+use saying::told::asked;
+use saying::told::counted;
+use saying::told::limited;
 use wording::hand;
 use wording::number;
 ghost use mathlib.Core.Path.{_≡_};

@@ -1,10 +1,10 @@
 // The calls on names.
-use saying::told::numbered;
-use saying::told::ordered;
 use names::check_number;
 use names::check_table;
 use names::compare;
 use names::enter;
+use saying::told::numbered;
+use saying::told::ordered;
 use wording::hand;
 use wording::number;
 use wording::places::placed;

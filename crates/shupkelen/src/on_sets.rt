@@ -1,14 +1,14 @@
 // The calls that write records: adding, replacing, solving and schemes.
 use adding::add;
 use batches::solve_all;
-use saying::told::added;
-use saying::told::judged;
-use saying::told::solution;
-use saying::told::written;
 use eliminating::eliminate;
 use pairs::judge_pairs;
 use replacing_calls::replace_in_set;
 use replacing_calls::replace_in_type;
+use saying::told::added;
+use saying::told::judged;
+use saying::told::solution;
+use saying::told::written;
 use schemes::generalise;
 use schemes::instantiate;
 use schemes::quantify;

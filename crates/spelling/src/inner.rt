@@ -79,7 +79,7 @@ pub fn put_name(dst: &mut [u8], out: usize, name: &[u8]) -> usize
 }
 
 // Puts a number in decimal digits, at most k of them.
-fn put_digits(dst: &mut [u8], out: usize, k: usize, n: u32) -> usize
+pub fn put_digits(dst: &mut [u8], out: usize, k: usize, n: u32) -> usize
     requires { ⌜ k ≤ 10 ⌝ }
     requires { ⌜ out < 2 ^ 59 ⌝ }
     ensures { λ r. ⌜ Put (now (dst .entry)) out (decimal k n) (now (dst .exit)) r ⌝ }

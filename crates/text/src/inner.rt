@@ -29,7 +29,7 @@ ghost use Rattle.text.specs.Lines.{named, SaysEqual, SaysHas, ConAt, Lin
 ghost use Rattle.text.specs.Types.{comma, bracket, label, head, between, fromTys, fromFields, SaysFn, SaysStruct, SaysList, TypeAt, TypesAt, FieldsAt};
 
 // Puts the name with a number.
-fn put_held(pool: &[u8], table: &[u32], dst: &mut [u8], out: usize, x: u32) -> usize
+pub fn put_held(pool: &[u8], table: &[u32], dst: &mut [u8], out: usize, x: u32) -> usize
     requires { ⌜ Good (now pool) (now table) ⌝ }
     requires { ⌜ x < getD (now table) 0 0 ⌝ }
     requires { ⌜ out < 2 ^ 57 ⌝ }
@@ -39,7 +39,7 @@ fn put_held(pool: &[u8], table: &[u32], dst: &mut [u8], out: usize, x: u32) -> u
 }
 
 // Puts a variable or a parameter, with its mark.
-fn put_open(pool: &[u8], table: &[u32], dst: &mut [u8], out: usize, o: Open) -> usize
+pub fn put_open(pool: &[u8], table: &[u32], dst: &mut [u8], out: usize, o: Open) -> usize
     requires { ⌜ Good (now pool) (now table) ⌝ }
     requires { ⌜ HeldOpen (now table) o ⌝ }
     requires { ⌜ out < 2 ^ 56 ⌝ }
@@ -232,7 +232,14 @@ fn past(s: &[u32], at: usize, n: usize) -> usize
 }
 
 // Puts the type at a place.
-fn write_type(pool: &[u8], table: &[u32], s: &[u32], at: usize, dst: &mut [u8], out: usize) -> usize
+pub fn write_type(
+    pool: &[u8],
+    table: &[u32],
+    s: &[u32],
+    at: usize,
+    dst: &mut [u8],
+    out: usize,
+) -> usize
     requires { ⌜ Good (now pool) (now table) ⌝ }
     requires { ⌜ ((t : Ty ℕ) × TypeAt (now pool) (now table) (now s) at out t) ⌝ }
     ensures { λ r. ⌜ ((t : Ty ℕ) → TypeAt (now (pool .entry)) (now (table .entry)) (now (s .entry)) at out t → Put (now (dst .entry)) out (tyText (namesIn (tableOf (now (pool .entry)) (now (table .entry)))) t) (now (dst .exit)) r) ⌝ }
@@ -421,7 +428,14 @@ fn write_has(
 }
 
 // Puts the constraint at a place.
-fn write_con(pool: &[u8], table: &[u32], s: &[u32], at: usize, dst: &mut [u8], out: usize) -> usize
+pub fn write_con(
+    pool: &[u8],
+    table: &[u32],
+    s: &[u32],
+    at: usize,
+    dst: &mut [u8],
+    out: usize,
+) -> usize
     requires { ⌜ Good (now pool) (now table) ⌝ }
     requires { ⌜ ((c : Con ℕ) × ConAt (now pool) (now table) (now s) at out c) ⌝ }
     ensures { λ r. ⌜ ((c : Con ℕ) → ConAt (now (pool .entry)) (now (table .entry)) (now (s .entry)) at out c → Put (now (dst .entry)) out (conText (namesIn (tableOf (now (pool .entry)) (now (table .entry)))) c) (now (dst .exit)) r) ⌝ }

@@ -1,14 +1,14 @@
 // The answers of the calls that `saying` does not tell.
-use saying::told::Told;
-use saying::told::refused;
-use saying::told::said;
-use saying::told::short;
 use compaction::Compacted;
 use eliminating::Outcome;
 use exponents::Exponent;
 use exponents::Power;
 use rescue::Counts;
 use rules::Refusal;
+use saying::told::Told;
+use saying::told::refused;
+use saying::told::said;
+use saying::told::short;
 ghost use mathlib.Core.Path.{_≡_};
 ghost use Rattle.exponents.specs.Answers.{expOf};
 ghost use Rattle.exponents.specs.Answers as exponents;

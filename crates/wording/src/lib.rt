@@ -2,9 +2,9 @@
 pub mod answers;
 pub mod places;
 
-use saying::told::Told;
 use names::Checked;
 use records::inner::put;
+use saying::told::Told;
 ghost use mathlib.Core.Path.{_≡_};
 ghost use Rattle.rules.specs.Numbers.{refusalIn};
 ghost use Rattle.names.specs.Told.{toldChecked};

@@ -1,12 +1,12 @@
 // Where a name stands in the pool.
-use saying::told::Told;
-use saying::told::refused;
-use saying::told::said;
-use saying::told::short;
 use names::Checked;
 use names::check_number;
 use names::name_of;
 use replacing::inner::bound::word_at;
+use saying::told::Told;
+use saying::told::refused;
+use saying::told::said;
+use saying::told::short;
 ghost use mathlib.Core.Path.{_≡_};
 ghost use Rattle.rules.specs.Names.{nameAsked, partAsked};
 ghost use Rattle.laws.specs.NameTable.{startAt};
