@@ -8,7 +8,7 @@ from pathlib import Path
 ROOT = Path(__file__).resolve().parent.parent
 WING = "Theorems"
 WIDTH, HEIGHT, GAP, DROP = 112, 22, 14, 58
-COLOURS = ["#dbe9f6", "#e6f2d9", "#fdebd0", "#f6dbe3", "#e8e0f5", "#d9f2ee", "#f7f3cf", "#e3e3e3", "#f9dcc4", "#d7e3fc", "#e2f0cb", "#ffe5ec", "#ece4db", "#cfe8e8", "#f5d6f0"]
+COLOURS = ["#dbe9f6", "#e6f2d9", "#fdebd0", "#f6dbe3", "#e8e0f5", "#d9f2ee", "#f7f3cf", "#e3e3e3", "#f9dcc4", "#d7e3fc", "#e2f0cb", "#ffe5ec", "#ece4db", "#cfe8e8", "#f5d6f0", "#d9c9a8"]
 
 
 def used():

@@ -4,11 +4,11 @@ use mathlib.Core.List.{List}
 use Prim.Native.Nat.{ℕ}
 use native.Mathlib.Omega.{arith}
 use Rattle.rules.specs.Calls.{Listed}
-use Rattle.rules.specs.Numbers.{listed, refusalIn, number}
+use Rattle.rules.specs.Numbers.{listed, refusalIn, number, refusalRead, textRead}
 use Rattle.rules.specs.Refusals.{numberOf}
 use Rattle.laws.specs.Lists.{got≢refused}
 use Rattle.laws.specs.Numbers.{number-injective}
-use Rattle.rules.specs.TextReading.{ReadAnswer, wasRead, notRead, TextRead, readTextCall}
+use Rattle.rules.specs.TextReading.{TextRead, readTextCall}
 use Rattle.rules.specs.TextWriting.{writeTextCall}
 use Rattle.sheet_reading.specs.Given.{toldSheet, readAs}
 use Rattle.sheet_reading.specs.declared.Sheet.{Sheet}
@@ -74,11 +74,8 @@ abbrev pub numberSheet : Sheet → ℕ
 numberSheet (sheet.Read n c k) = 0
 numberSheet (sheet.Refused r l q) = numberOf r
 
-abbrev pub refusalRead : ReadAnswer → ℕ
-refusalRead (wasRead n c k) = 0
-refusalRead (notRead n l q) = n
-
 sheet-in : (r : Sheet) → numberSheet r ≡ refusalRead (toldSheet r)
+unfolding refusalRead
 sheet-in (sheet.Read n c k) = refl
 sheet-in (sheet.Refused r l q) = refl
 
@@ -95,5 +92,6 @@ module _ (pool table text result work : List ℕ) where
         works = ap (λ (x : TextRead). x .work) i;
       }
 
-  pub read-text-numbered : (r : Sheet) (p t e w : List ℕ) → readAs r p t e w ≡ readTextCall pool table text result work → numberSheet r ≡ refusalRead (readTextCall pool table text result work .answer)
+  pub read-text-numbered : (r : Sheet) (p t e w : List ℕ) → readAs r p t e w ≡ readTextCall pool table text result work → numberSheet r ≡ number (textRead (readTextCall pool table text result work))
+  unfolding number
   read-text-numbered r p t e w h = sheet-in r ∙ ap (λ (x : TextRead). refusalRead (x .answer)) h
