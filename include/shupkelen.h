@@ -9,8 +9,8 @@
  *   What is returned. The number of the refusal (enum shupkelen_refusal), 0 where there is none; only shupkelen_compare returns its answer.
  *
  *   answer. SHUPKELEN_ANSWER_WORDS words: value, more, rounds. Each call below says what value and more mean; rounds is 0 but for
- *   shupkelen_solve. On a refusal all three are written too: 0, but for the rounds that were completed, and for 5, where value counts the
- *   records that remain. Of a shorter slice only the words that it has are written.
+ *   shupkelen_solve and shupkelen_read_text. On a refusal all three are written too: 0, but for the rounds that were completed, for 5 of a set, where
+ *   value counts the records that remain, and for shupkelen_read_text, which says where. Of a shorter slice only the words that it has are written.
  *
  *   pool, table. A name table: SHUPKELEN_POOL_BYTES bytes or more, SHUPKELEN_TABLE_WORDS words or more. An empty one is all zero. Word 0 of the
  *   table counts its names, word k + 1 is where the name with number k ends in the pool.
@@ -155,6 +155,12 @@ uint32_t shupkelen_eliminate(const uint8_t *pool, size_t pool_len, const uint32_
  * not looked at. bounds: records of bounds. value: 1 yes, 0 no. 10, 8, 1, 4, then 7, 8. */
 uint32_t shupkelen_judge(const uint8_t *pool, size_t pool_len, const uint32_t *table, size_t table_len, const uint32_t *set, size_t set_len, const uint32_t *entries, size_t entries_len, const uint32_t *types, size_t types_len, const uint32_t *bounds, size_t bounds_len, uint32_t *work, size_t work_len, uint32_t *answer, size_t answer_len);
 
+/* Checks a whole calculation line (W-211). steps: its steps, four words each, in postfix order: the step's number (1 constant, 2 reference, 3 add, 4 subtract, 5 multiply,
+ * 6 divide, 7 raise, 8 compare, 9 choose), then a, b, c, 0 where unused: the place in types (1) or in lines (2), or in b and c the fraction (7). types: records of types; lines:
+ * the places, in records, of the earlier lines' types there; names: the numbers of names lent for the steps, one each or more. result: the type of the last step. value: its
+ * records. 10, 8, 1, 4, 3, then 5, 6, 7, 8, 4, 11; on 5 nothing remains to be told: value is 0, result unchanged. */
+uint32_t shupkelen_check_line(const uint8_t *pool, size_t pool_len, const uint32_t *table, size_t table_len, const uint32_t *steps, size_t steps_len, const uint32_t *types, size_t types_len, const uint32_t *lines, size_t lines_len, const uint32_t *names, size_t names_len, uint32_t *result, size_t result_len, uint32_t *work, size_t work_len, uint32_t *answer, size_t answer_len);
+
 /* ---- Schemes: names are words, a number each ---- */
 
 /* result: a scheme (quantify, generalise); the type, then the bounds, of a scheme with names put back (instantiate). value: its records. 10, 8, 1, 4, 9, then 6, 7, 8. */
@@ -175,7 +181,10 @@ uint32_t shupkelen_compact(uint8_t *pool, size_t pool_len, uint32_t *table, size
 /* text: SHUPKELEN_TEXT_BYTES bytes or more, begins with the set as text, a line a constraint. value: its bytes. 10, 8, 1. */
 uint32_t shupkelen_write_text(const uint8_t *pool, size_t pool_len, const uint32_t *table, size_t table_len, const uint32_t *set, size_t set_len, uint8_t *text, size_t text_len, uint32_t *answer, size_t answer_len);
 
-/* shupkelen_read_text (W-202) and shupkelen_check_line (W-211) come here. */
+/* Reads text, any bytes, as a set (docs/GRAMMAR.md), and enters the names that are new. result: the set. value: its records; more: its constraints; rounds: new names. On a refusal
+ * value is the line and more the column, both from 1 and in bytes (of 4 GB or more their low 32 bits), 0 and 0 where no line is at fault; pool, table and result are unchanged.
+ * 10, 1, then 12, 1, 2, 3, 7 or 8 of the first line that is refused. */
+uint32_t shupkelen_read_text(uint8_t *pool, size_t pool_len, uint32_t *table, size_t table_len, const uint8_t *text, size_t text_len, uint32_t *result, size_t result_len, uint32_t *work, size_t work_len, uint32_t *answer, size_t answer_len);
 
 #ifdef __cplusplus
 }

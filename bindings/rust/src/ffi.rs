@@ -106,6 +106,11 @@ extern "C" {
         entries_len: usize, types: *const u32, types_len: usize, bounds: *const u32, bounds_len: usize, work: *mut u32, work_len: usize,
         answer: *mut u32, answer_len: usize,
     ) -> u32;
+    pub fn shupkelen_check_line(
+        pool: *const u8, pool_len: usize, table: *const u32, table_len: usize, steps: *const u32, steps_len: usize, types: *const u32,
+        types_len: usize, lines: *const u32, lines_len: usize, names: *const u32, names_len: usize, result: *mut u32, result_len: usize,
+        work: *mut u32, work_len: usize, answer: *mut u32, answer_len: usize,
+    ) -> u32;
     pub fn shupkelen_quantify(
         pool: *const u8, pool_len: usize, table: *const u32, table_len: usize, words: *const u32, words_len: usize, bounds: *const u32,
         bounds_len: usize, names: *const u32, names_len: usize, result: *mut u32, result_len: usize, work: *mut u32, work_len: usize,
@@ -130,5 +135,9 @@ extern "C" {
     pub fn shupkelen_write_text(
         pool: *const u8, pool_len: usize, table: *const u32, table_len: usize, set: *const u32, set_len: usize, text: *mut u8, text_len: usize,
         answer: *mut u32, answer_len: usize,
+    ) -> u32;
+    pub fn shupkelen_read_text(
+        pool: *mut u8, pool_len: usize, table: *mut u32, table_len: usize, text: *const u8, text_len: usize, result: *mut u32, result_len: usize,
+        work: *mut u32, work_len: usize, answer: *mut u32, answer_len: usize,
     ) -> u32;
 }

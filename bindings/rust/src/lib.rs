@@ -325,6 +325,40 @@ impl From<Stopped> for Refusal {
     }
 }
 
+/// A sheet that was read: the records of its set, how many constraints they are, and how many names were new.
+#[derive(Clone, Copy, Debug, PartialEq, Eq)]
+pub struct Sheet<'a> {
+    pub records: &'a [u32],
+    pub constraints: u32,
+    pub new_names: u32,
+}
+
+/// Why a sheet was not read, with the line and the column, both counted from 1 in bytes; 0 and 0 where no line is at fault.
+#[derive(Clone, Copy, Debug, PartialEq, Eq)]
+pub struct Unread {
+    pub refusal: Refusal,
+    pub line: u32,
+    pub column: u32,
+}
+
+impl fmt::Display for Unread {
+    fn fmt(&self, f: &mut fmt::Formatter<'_>) -> fmt::Result {
+        write!(f, "line {}, column {}: {}", self.line, self.column, self.refusal)
+    }
+}
+
+impl Error for Unread {
+    fn source(&self) -> Option<&(dyn Error + 'static)> {
+        Some(&self.refusal)
+    }
+}
+
+impl From<Unread> for Refusal {
+    fn from(u: Unread) -> Refusal {
+        u.refusal
+    }
+}
+
 /// What a constraint is, when it is added.
 #[derive(Clone, Copy, Debug, PartialEq, Eq)]
 pub enum Added {
@@ -387,6 +421,48 @@ impl Solver {
     pub fn judge(&mut self, names: &NameTable, set: &[u32], entries: &[(u32, u32)], types: &[u32], bounds: &[u32]) -> Result<bool, Refusal> {
         let pairs: Vec<u32> = entries.iter().flat_map(|&(v, p)| [v, p]).collect();
         said(raw::judge(&names.pool, &names.table, set, &pairs, types, bounds, &mut self.work)).map(|t| t.value == 1)
+    }
+
+    /// Reads a sheet as a set and enters its new names, or changes no name (W-202).
+    ///
+    /// ```
+    /// use shupkelen::{NameTable, Refusal, Solver};
+    /// let (mut names, mut solver) = (NameTable::new(), Solver::new());
+    /// let sheet = solver.read_text(&mut names, b"?x ~ Bool\n?y: DType\n").unwrap();
+    /// assert_eq!((sheet.constraints, sheet.new_names), (2, 2));
+    /// assert_eq!(names.write_text(sheet.records).unwrap(), b"?x ~ Bool\n?y: DType\n");
+    /// let unread = solver.read_text(&mut names, b"?new ~ Bool\n?: DType").unwrap_err();
+    /// assert_eq!((unread.refusal, unread.line, unread.column), (Refusal::NameLength, 2, 2));
+    /// assert_eq!(names.len(), 2);
+    /// ```
+    pub fn read_text(&mut self, names: &mut NameTable, text: &[u8]) -> Result<Sheet<'_>, Unread> {
+        let t = raw::read_text(&mut names.pool, &mut names.table, text, &mut self.result, &mut self.work);
+        match good(t.refusal) {
+            Ok(()) => Ok(Sheet { records: &self.result[..t.value as usize * 4], constraints: t.more, new_names: t.rounds }),
+            Err(refusal) => Err(Unread { refusal, line: t.value, column: t.more }),
+        }
+    }
+
+    /// The type of a calculation line's last step (W-211). Steps are four words each; `lines` has the places of the earlier lines' types in `types`;
+    /// `lent` are numbers of names for the steps, one each or more.
+    ///
+    /// ```
+    /// use shupkelen::{kind, record, NameTable, Refusal, Solver};
+    /// let (mut names, mut solver) = (NameTable::new(), Solver::new());
+    /// let km = names.enter(b"km").unwrap().number;
+    /// let lent: Vec<u32> = [&b"a"[..], b"b", b"c"].iter().map(|n| names.enter(n).unwrap().number).collect();
+    /// let types = [record(kind::DIMENSION, 2, 1, 0, 0), record(kind::BASE_FACTOR, 1, km, 1, 1), record(kind::BOOLEAN, 1, 0, 0, 0)].concat();
+    /// // a constant in km times another
+    /// let steps = [[1, 0, 0, 0], [1, 0, 0, 0], [5, 0, 0, 0]].concat();
+    /// let squared = [record(kind::DIMENSION, 2, 1, 0, 0), record(kind::BASE_FACTOR, 1, km, 2, 1)].concat();
+    /// assert_eq!(solver.check_line(&names, &steps, &types, &[], &lent), Ok(&squared[..]));
+    /// // and times a boolean
+    /// let steps = [[1, 2, 0, 0], [1, 0, 0, 0], [5, 0, 0, 0]].concat();
+    /// assert_eq!(solver.check_line(&names, &steps, &types, &[], &lent), Err(Refusal::NotDimension));
+    /// ```
+    pub fn check_line(&mut self, names: &NameTable, steps: &[u32], types: &[u32], lines: &[u32], lent: &[u32]) -> Result<&[u32], Refusal> {
+        let t = raw::check_line(&names.pool, &names.table, steps, types, lines, lent, &mut self.result, &mut self.work);
+        self.records(t)
     }
 
     fn records(&self, t: raw::Told) -> Result<&[u32], Refusal> {

@@ -152,6 +152,13 @@ pub fn judge(pool: &[u8], table: &[u32], set: &[u32], entries: &[u32], types: &[
     ask!(shupkelen_judge, &pool, &table, &set, &entries, &types, &bounds, mut work)
 }
 
+#[allow(clippy::too_many_arguments)]
+pub fn check_line(
+    pool: &[u8], table: &[u32], steps: &[u32], types: &[u32], lines: &[u32], names: &[u32], result: &mut [u32], work: &mut [u32],
+) -> Told {
+    ask!(shupkelen_check_line, &pool, &table, &steps, &types, &lines, &names, mut result, mut work)
+}
+
 pub fn quantify(pool: &[u8], table: &[u32], words: &[u32], bounds: &[u32], names: &[u32], result: &mut [u32], work: &mut [u32]) -> Told {
     ask!(shupkelen_quantify, &pool, &table, &words, &bounds, &names, mut result, mut work)
 }
@@ -174,4 +181,9 @@ pub fn compact(pool: &mut [u8], table: &mut [u32], sets: &mut [u32], lengths: &[
 
 pub fn write_text(pool: &[u8], table: &[u32], set: &[u32], text: &mut [u8]) -> Told {
     ask!(shupkelen_write_text, &pool, &table, &set, mut text)
+}
+
+/// On a refusal `value` is the line, `more` the column; otherwise `rounds` counts new names.
+pub fn read_text(pool: &mut [u8], table: &mut [u32], text: &[u8], result: &mut [u32], work: &mut [u32]) -> Told {
+    ask!(shupkelen_read_text, mut pool, mut table, &text, mut result, mut work)
 }

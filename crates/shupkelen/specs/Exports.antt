@@ -11,13 +11,14 @@ use Rattle.rules.specs.Calls.{Listed, AddedTo, Written, Solution, Judged}
 use Rattle.rules.specs.Ceiling.{Ceiling}
 use Rattle.rules.specs.Batches.{Batch}
 use Rattle.rules.specs.Rescue.{Rescued}
+use Rattle.rules.specs.TextReading.{TextRead}
 use Rattle.rules.specs.Compaction.{Compacted}
 use Rattle.rules.specs.Elimination.{Elimination}
 use Rattle.saying.specs.Saying.{orderAs, askedAs, numberAs, countedAs, writtenAs, addedAs, solvedAs, ceilingAs}
 use Rattle.saying.specs.declared.told.Told.{Told}
 use Rattle.products.specs.Told as products
 use Rattle.factors.specs.Factors.{toldOf, writtenOf}
-use Rattle.wording.specs.Words.{answerWords, placeAs, countAs, countsAs, powerAs, eliminatedAs}
+use Rattle.wording.specs.Words.{answerWords, placeAs, countAs, countsAs, powerAs, eliminatedAs, sheetAs}
 
 pub record Out (B : Type 0) : Type 0 where
   pub number : ℕ
@@ -98,3 +99,7 @@ compactedOut c answer = handed (countAs (c .answer)) answer (c .pool, (c .table,
 -- bytes of the text; the text buffer
 abbrev pub textOut : Listed → List ℕ → Out (List ℕ)
 textOut l answer = handed (countAs (l .answer)) answer (l .result)
+
+-- records, constraints and new names, or the line and the column of the refusal; pool, table, result and work buffer
+abbrev pub textReadOut : TextRead → List ℕ → Out (List ℕ × (List ℕ × (List ℕ × List ℕ)))
+textReadOut t answer = handed (sheetAs (t .answer)) answer (t .pool, (t .table, (t .result, t .work)))

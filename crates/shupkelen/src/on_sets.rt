@@ -2,6 +2,7 @@
 use adding::add;
 use batches::solve_all;
 use eliminating::eliminate;
+use line_calls::check_line;
 use pairs::judge_pairs;
 use replacing_calls::replace_in_set;
 use replacing_calls::replace_in_type;
@@ -19,6 +20,7 @@ ghost use mathlib.Core.Path.{_≡_};
 ghost use Rattle.rules.specs.Calls.{addCall, replaceTypeCall, replaceSetCall, solveCall, judgeCall, quantifyCall, generaliseCall, instantiateCall};
 ghost use Rattle.rules.specs.Batches.{batchCall};
 ghost use Rattle.rules.specs.Elimination.{eliminateCall};
+ghost use Rattle.rules.specs.Lines.{checkLineCall};
 ghost use Rattle.pairs.specs.Pairs.{entriesIn};
 ghost use Rattle.shupkelen.specs.Exports.{out, addedOut, writtenOut, solvedOut, batchOut, judgedOut, eliminatedOut};
 
@@ -148,6 +150,28 @@ pub extern "C" fn shupkelen_judge(
 {
     hand(
         judged(judge_pairs(pool, table, set, entries, types, bounds, work)),
+        answer,
+    )
+}
+
+// Checks a whole calculation line: the type of its last step.
+#[no_mangle]
+pub extern "C" fn shupkelen_check_line(
+    pool: &[u8],
+    table: &[u32],
+    steps: &[u32],
+    types: &[u32],
+    lines: &[u32],
+    names: &[u32],
+    result: &mut [u32],
+    work: &mut [u32],
+    answer: &mut [u32],
+) -> u32
+    ensures { λ r. ⌜ out r (now (answer .exit)) (now (result .exit), now (work .exit)) ≡
+        writtenOut (checkLineCall (now (pool .entry)) (now (table .entry)) (now (steps .entry)) (now (types .entry)) (now (lines .entry)) (now (names .entry)) (now (result .entry)) (now (work .entry))) (now (answer .entry)) ⌝ }
+{
+    hand(
+        written(check_line(pool, table, steps, types, lines, names, result, work)),
         answer,
     )
 }

@@ -10,6 +10,7 @@ use Rattle.rules.specs.Writing.{twos}
 use Rattle.rules.specs.Elimination.{Eliminated, allBound, someLeft, refusedWith}
 use Rattle.rules.specs.Names.{Bytes, PoolPart}
 use Rattle.rules.specs.Numbers.{refusalIn}
+use Rattle.rules.specs.TextReading.{ReadAnswer, wasRead, notRead}
 use Rattle.saying.specs.Saying.{word, saidAs, refusedAs}
 use Rattle.saying.specs.declared.told.Told.{Told}
 
@@ -44,3 +45,12 @@ eliminatedAs (refusedWith n) = refusedAs n 0 0
 -- where a name stands in the pool: its first byte, and how many
 abbrev pub placeAs : Got Bytes → PoolPart → Told
 placeAs g p = record { refusal = refusalIn g; value = p .start; more = word (length (p .bytes)); rounds = 0; words = 0 }
+
+-- three counts as words
+abbrev pub counts : ℕ → ℕ → ℕ → ℕ → Told
+counts refusal value more rounds = record { refusal = refusal; value = word value; more = word more; rounds = word rounds; words = 0 }
+
+-- a sheet's records, constraints and new names; or the line and the column of the refusal
+abbrev pub sheetAs : ReadAnswer → Told
+sheetAs (wasRead n c k) = counts 0 n c k
+sheetAs (notRead n l q) = counts n l q 0

@@ -9,6 +9,7 @@ use saying::told::Told;
 use saying::told::refused;
 use saying::told::said;
 use saying::told::short;
+use sheet_reading::Sheet;
 ghost use mathlib.Core.Path.{_≡_};
 ghost use Rattle.exponents.specs.Answers.{expOf};
 ghost use Rattle.exponents.specs.Answers as exponents;
@@ -16,7 +17,8 @@ ghost use Rattle.eliminating.specs.Told as eliminating;
 ghost use Rattle.rescue.specs.Told as rescue;
 ghost use Rattle.compaction.specs.Told as compaction;
 ghost use Rattle.text.specs.Told as text;
-ghost use Rattle.wording.specs.Words.{countAs, countsAs, powerWords, powerAs, eliminatedAs};
+ghost use Rattle.sheet_reading.specs.Given.{toldSheet};
+ghost use Rattle.wording.specs.Words.{countAs, countsAs, powerWords, powerAs, eliminatedAs, counts, sheetAs};
 ghost use Rattle.rules.specs.Base.{got};
 ghost use Rattle.rules.specs.Elimination.{someLeft};
 
@@ -92,5 +94,27 @@ pub fn spelt(a: text::Answer) -> Told
     match a {
         text::Answer::Bytes(n) => said(short(n), 0, 0),
         text::Answer::Refused(why) => refused(why, 0, 0),
+    }
+}
+
+fn three(refusal: u32, value: usize, more: usize, rounds: usize) -> Told
+    ensures { λ r. ⌜ r ≡ counts refusal value more rounds ⌝ }
+{
+    Told {
+        refusal,
+        value: short(value),
+        more: short(more),
+        rounds: short(rounds),
+        words: 0,
+    }
+}
+
+// Records, constraints and new names of a sheet; on a refusal the line and the column.
+pub fn sheet(s: Sheet) -> Told
+    ensures { λ r. ⌜ r ≡ sheetAs (toldSheet s) ⌝ }
+{
+    match s {
+        Sheet::Read(records, constraints, fresh) => three(0, records, constraints, fresh),
+        Sheet::Refused(why, line, column) => three(why.number(), line, column, 0),
     }
 }
