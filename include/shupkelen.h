@@ -182,7 +182,7 @@ uint32_t shupkelen_compact(uint8_t *pool, size_t pool_len, uint32_t *table, size
 uint32_t shupkelen_write_text(const uint8_t *pool, size_t pool_len, const uint32_t *table, size_t table_len, const uint32_t *set, size_t set_len, uint8_t *text, size_t text_len, uint32_t *answer, size_t answer_len);
 
 /* Reads text, any bytes, as a set (docs/GRAMMAR.md), and enters the names that are new. result: the set. value: its records; more: its constraints; rounds: new names. On a refusal
- * value is the line and more the column, both from 1 and in bytes (of 4 GB or more their low 32 bits), 0 and 0 where no line is at fault; pool, table and result are unchanged.
+ * value is the line, from 1, and more the column, in bytes from 1 (of 2^32 or more their low 32 bits), 0 and 0 where no line is at fault; pool, table and result are unchanged.
  * 10, 1, then 12, 1, 2, 3, 7 or 8 of the first line that is refused. */
 uint32_t shupkelen_read_text(uint8_t *pool, size_t pool_len, uint32_t *table, size_t table_len, const uint8_t *text, size_t text_len, uint32_t *result, size_t result_len, uint32_t *work, size_t work_len, uint32_t *answer, size_t answer_len);
 
