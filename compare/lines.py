@@ -218,7 +218,10 @@ def compared(serve, cases):
     """each case with its request and its answer, once that is as said here"""
     asked = [(why, line, *line.request(), known) for why, line, known in cases]
     out, seen = [], {}
-    for (why, line, q, w, known), r in zip(asked, told(serve, asked)):
+    replies = told(serve, asked)
+    if len(replies) != len(asked):
+        sys.exit('%d answers to %d requests' % (len(replies), len(asked)))
+    for (why, line, q, w, known), r in zip(asked, replies):
         want = line.expected() if known is None else known
         ws = requests.measured(w.type(want)) if isinstance(want, tuple) else []
         gives = (want if isinstance(want, int) else 0, len(ws) // 4, 0, 0)

@@ -23,7 +23,7 @@
  *
  *   Order of refusals at entry: 10, 8, 1, 4, 9. Stack: up to 1 MB (docs/CALLERS.md).
  *
- * That each function does on every input what is said here, and exactly what, is proved: crates/shupkelen/src has the contracts, and
+ * What each function does on every input is proved; this file says it in words. crates/shupkelen/src has the contracts, and
  * docs/CONTRACTS.md says which definition each call equals. This file is compared with that source by bindings/rust/tests/declarations.rs.
  */
 #ifndef SHUPKELEN_H
@@ -42,11 +42,11 @@ enum shupkelen_refusal {
     SHUPKELEN_MALFORMED = 1,      /* a table, list, product or exponent that is not well formed */
     SHUPKELEN_NAME_LENGTH = 2,    /* a name of no byte, or of over 48 */
     SHUPKELEN_NO_ROOM = 3,        /* no room for a name; also a number that no name has */
-    SHUPKELEN_MIXED = 4,          /* one name is both a variable and a parameter */
+    SHUPKELEN_MIXED = 4,          /* one name is both a variable and a parameter; a name lent for a line is given twice or used in it */
     SHUPKELEN_UNSOLVED = 5,       /* no rule applies and constraints remain */
     SHUPKELEN_NOT_DIMENSION = 6,  /* a type that is no dimension would enter a product */
     SHUPKELEN_OUT_OF_RANGE = 7,   /* an exponent out of range */
-    SHUPKELEN_TOO_LARGE = 8,      /* over 2,048 records, 64 nestings, 64 factors, or 64 sets */
+    SHUPKELEN_TOO_LARGE = 8,      /* over 2,048 records, names or entries, 64 nestings, 64 factors, 64 sets or 128 steps; a set that the second engine doesn't take */
     SHUPKELEN_WRONG_COUNT = 9,    /* as many names as the scheme has must be handed */
     SHUPKELEN_SHORT_BUFFER = 10,  /* a lent buffer is too short */
     SHUPKELEN_NOT_CONFIRMED = 11, /* the judge does not confirm a line */
@@ -132,7 +132,7 @@ uint32_t shupkelen_ceiling(const uint8_t *pool, size_t pool_len, const uint32_t 
 /* ---- Sets ---- */
 
 /* buffer: SHUPKELEN_LIST_WORDS words or more, whose first count records are a set. constraint: one constraint, which is tested, and stored behind the set unless
- * it is satisfied. value: 1 Satisfied, 2 Violated, 3 Unknown; more: the records of the set then. 10, 8, 1; a refusal leaves the buffer as it was. */
+ * it is satisfied. value: 1 Satisfied, 2 Violated, 3 Unknown; more: the records of the set then. 10, 8, 1, then 8 where the constraint has no room; a refusal leaves the buffer as it was. */
 uint32_t shupkelen_add(const uint8_t *pool, size_t pool_len, const uint32_t *table, size_t table_len, uint32_t *buffer, size_t buffer_len, size_t count, const uint32_t *constraint, size_t constraint_len, uint32_t *answer, size_t answer_len);
 
 /* words: a type; set: a set. result: the same with the bindings put in. value: its records. 10, 8, 1, 4, then 6, 7, 8. */
@@ -148,11 +148,13 @@ uint32_t shupkelen_solve(const uint8_t *pool, size_t pool_len, const uint32_t *t
  * back. value: these records together. 10, 8, 1; a refused set does not stop those after it. */
 uint32_t shupkelen_solve_all(const uint8_t *pool, size_t pool_len, const uint32_t *table, size_t table_len, const uint32_t *sets, size_t sets_len, const uint32_t *lengths, size_t lengths_len, uint32_t *result, size_t result_len, uint32_t *answers, size_t answers_len, uint32_t *work, size_t work_len, uint32_t *answer, size_t answer_len);
 
-/* The second engine, for sets of dimensions of up to 24 names (W-209). result: the bindings; on 5 what remains. value: their records. 10, 8, 1, 4, then 5, 6, 7, 8. */
+/* The second engine, for sets of equal-scalar constraints alone: up to 24 of them, over up to 24 variables and up to 24 parameters and base dimensions (W-209).
+ * result: the bindings; on 5 what remains. value: their records. 10, 8, 1, 4, then 8 where the set is no such set, 5, 7. */
 uint32_t shupkelen_eliminate(const uint8_t *pool, size_t pool_len, const uint32_t *table, size_t table_len, const uint32_t *set, size_t set_len, uint32_t *result, size_t result_len, uint32_t *work, size_t work_len, uint32_t *answer, size_t answer_len);
 
 /* Is this a solution of the set, whoever proposed it? entries: pairs of words, a variable's number and the place, in records, of its type in types; an odd last word is
- * not looked at. bounds: records of bounds. value: 1 yes, 0 no. 10, 8, 1, 4, then 7, 8. */
+ * not looked at. bounds: records of bounds. value: 1 yes, 0 no. 10, 8, 1, 4, then 7, 8. Over 2,048 pairs are refused (8, where it is not 10), but only after time that
+ * grows with the square of their number. */
 uint32_t shupkelen_judge(const uint8_t *pool, size_t pool_len, const uint32_t *table, size_t table_len, const uint32_t *set, size_t set_len, const uint32_t *entries, size_t entries_len, const uint32_t *types, size_t types_len, const uint32_t *bounds, size_t bounds_len, uint32_t *work, size_t work_len, uint32_t *answer, size_t answer_len);
 
 /* Checks a whole calculation line (W-211). steps: its steps, four words each, in postfix order: the step's number (1 constant, 2 reference, 3 add, 4 subtract, 5 multiply,

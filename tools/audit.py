@@ -21,7 +21,7 @@ def public(item):
     """Is `crate::function` a public function of that crate?"""
     crate, name = item.split("::", 1)
     name = name.split("::")[-1]
-    return any(re.search(r"pub fn " + re.escape(name) + r"\b", f.read_text(encoding="utf-8")) for f in (CRATES / crate / "src").rglob("*.rt"))
+    return any(re.search(r'pub (?:extern "C" )?fn ' + re.escape(name) + r'\b', f.read_text(encoding="utf-8")) for f in (CRATES / crate / "src").rglob("*.rt"))
 
 
 def main():

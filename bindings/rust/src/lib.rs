@@ -123,11 +123,11 @@ impl fmt::Display for Refusal {
             Refusal::Malformed => "malformed table, list, product or exponent",
             Refusal::NameLength => "a name has 1 to 48 bytes",
             Refusal::NoRoom => "no room for the name, or no name has the number",
-            Refusal::Mixed => "one name is both a variable and a parameter",
+            Refusal::Mixed => "one name is both a variable and a parameter, or a name lent for a line is not fresh",
             Refusal::Unsolved => "no rule applies and constraints remain",
             Refusal::NotDimension => "a type that is no dimension would enter a product",
             Refusal::OutOfRange => "an exponent is out of range",
-            Refusal::TooLarge => "over 2,048 records, 64 nestings, 64 factors or 64 sets",
+            Refusal::TooLarge => "over a limit of size: records, nestings, factors, sets, steps, or what the second engine takes",
             Refusal::WrongCount => "the scheme has another count of names",
             Refusal::ShortBuffer => "a lent buffer is too short",
             Refusal::NotConfirmed => "the judge does not confirm the line",
@@ -139,7 +139,7 @@ impl fmt::Display for Refusal {
 
 impl Error for Refusal {}
 
-// What was told, where nothing was refused. The archive returns 0 to 12 alone: that is part of what is proved of it.
+// What was told, where nothing was refused. The archive returns 0 to 12 alone: every number is that of a `Refusal` of crates/rules.
 fn said(t: raw::Told) -> Result<raw::Told, Refusal> {
     good(t.refusal).map(|()| t)
 }
@@ -333,7 +333,7 @@ pub struct Sheet<'a> {
     pub new_names: u32,
 }
 
-/// Why a sheet was not read, with the line and the column, both counted from 1 in bytes; 0 and 0 where no line is at fault.
+/// Why a sheet was not read, with the line, counted from 1, and the column, counted in bytes from 1; 0 and 0 where no line is at fault.
 #[derive(Clone, Copy, Debug, PartialEq, Eq)]
 pub struct Unread {
     pub refusal: Refusal,
@@ -487,7 +487,7 @@ impl Solver {
         self.records(t)
     }
 
-    /// A scheme generalised.
+    /// A concrete scheme with all open names of its type quantified, and of the bounds those of names that the type contains; any other scheme is unchanged.
     pub fn generalise(&mut self, names: &NameTable, scheme: &[u32], bounds: &[u32]) -> Result<&[u32], Refusal> {
         let t = raw::generalise(&names.pool, &names.table, scheme, bounds, &mut self.result, &mut self.work);
         self.records(t)
