@@ -13,39 +13,30 @@ enough : (c : tie.Else1) →
     Long (now (a .pool)) (now (a .table)) (now (a .result)) (now (a .work))
 enough c = long _ _ _ _ (c .before .lent .result) (c .before .lent .ensures) (c .if1 .left)
 
--- src/lib.rt:44:9
 lent-requires : tie.Need-lent-requires
 lent-requires c κs = search needs
 
--- src/lib.rt:45:9
 same-length : tie.Need-same-length
 same-length c = search needs
 
--- src/lib.rt:45:9
 same-length-2 : tie.Need-same-length-2
 same-length-2 c = search needs
 
--- src/lib.rt:45:9
 returns : tie.Need-returns
 returns c = instantiate-short _ _ _ _ _ _ (short _ _ _ _ (c .before .lent .result) (c .before .lent .ensures) (c .if1 .taken))
 
--- src/lib.rt:47:9
 make-instantiated-requires : tie.Need-make-instantiated-requires
 make-instantiated-requires c κs = let l = enough (c .before) in (l .table-met, l .work-long)
 
--- src/lib.rt:48:5
 hand-over-requires : tie.Need-hand-over-requires
 hand-over-requires c κs = ((_, c .before .before .before .before .make-instantiated .ensures), enough (c .before .before .before .before .before .before) .result-long)
 
--- src/lib.rt:34:1
 same-length-3 : tie.Need-same-length-3
 same-length-3 c = search needs
 
--- src/lib.rt:34:1
 same-length-4 : tie.Need-same-length-4
 same-length-4 c = search needs
 
--- src/lib.rt:34:1
 returns-2 : tie.Need-returns-2
 returns-2 c =
     let m = (c .before .before .before .before .before .before .before .before .before) in

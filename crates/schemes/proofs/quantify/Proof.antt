@@ -7,19 +7,15 @@ use borrow.Author.Needs.{needs}
 use Rattle.schemes.proofs.quantify.Statement.{statement}
 use Rattle.schemes.proofs.quantify.Tie as tie
 
--- src/lib.rt:25:9
 lent-requires : tie.Need-lent-requires
 lent-requires c κs = search needs
 
--- src/lib.rt:26:9
 same-length : tie.Need-same-length
 same-length c = search needs
 
--- src/lib.rt:26:9
 same-length-2 : tie.Need-same-length-2
 same-length-2 c = search needs
 
--- src/lib.rt:26:9
 returns : tie.Need-returns
 returns c = quantify-short _ _ _ _ _ _ _ (short _ _ _ _ (c .before .lent .result) (c .before .lent .ensures) (c .if1 .taken))
 
@@ -29,23 +25,18 @@ enough : (c : tie.Else1) →
     Long (now (a .pool)) (now (a .table)) (now (a .result)) (now (a .work))
 enough c = long _ _ _ _ (c .before .lent .result) (c .before .lent .ensures) (c .if1 .left)
 
--- src/lib.rt:28:9
 make-quantified-requires : tie.Need-make-quantified-requires
 make-quantified-requires c κs = let l = enough (c .before) in (l .table-met, l .work-long)
 
--- src/lib.rt:29:5
 hand-over-requires : tie.Need-hand-over-requires
 hand-over-requires c κs = let m = c .before .before .before .before in ((_, m .make-quantified .ensures), enough (m .before .before) .result-long)
 
--- src/lib.rt:14:1
 same-length-3 : tie.Need-same-length-3
 same-length-3 c = search needs
 
--- src/lib.rt:14:1
 same-length-4 : tie.Need-same-length-4
 same-length-4 c = search needs
 
--- src/lib.rt:14:1
 returns-2 : tie.Need-returns-2
 returns-2 c =
     let h = c .before .before .before .before in

@@ -9,31 +9,25 @@ use Rattle.spelling.proofs.is_plain.Reads as reads
 use Rattle.spelling.proofs.is_plain.Lts as lts
 use Rattle.spelling.proofs.within.Reads as within-reads
 
--- src/lib.rt:20:8
 within-requires : tie.Need-within-requires
 within-requires c κs = search needs
 
--- src/lib.rt:21:9
 returns : tie.Need-returns
 unfolding isPlain isDigit
 returns c = rw (sym (c .before .within .ensures) ∙ c .if1 .taken)
 
--- src/lib.rt:23:8
 within-requires-2 : tie.Need-within-requires-2
 within-requires-2 c κs = search needs
 
--- src/lib.rt:24:9
 returns-2 : tie.Need-returns-2
 unfolding isPlain isDigit
 returns-2 c =
     let b1 = c .before .before in
     rw (sym (b1 .before .within .ensures) ∙ b1 .if1 .left, sym (c .before .within2 .ensures) ∙ c .if2 .taken)
 
--- src/lib.rt:26:8
 within-requires-3 : tie.Need-within-requires-3
 within-requires-3 c κs = search needs
 
--- src/lib.rt:27:9
 returns-3 : tie.Need-returns-3
 unfolding isPlain isDigit
 returns-3 c =
@@ -41,7 +35,6 @@ returns-3 c =
     let b1 = b2 .before .before in
     rw (sym (b1 .before .within .ensures) ∙ b1 .if1 .left, sym (b2 .before .within2 .ensures) ∙ b2 .if2 .left, sym (c .before .within3 .ensures) ∙ c .if3 .taken)
 
--- src/lib.rt:30:9
 returns-4 : tie.Need-returns-4
 unfolding isPlain isDigit
 returns-4 c =
@@ -50,11 +43,9 @@ returns-4 c =
     let b1 = b2 .before .before in
     rw (sym (b1 .before .within .ensures) ∙ b1 .if1 .left, sym (b2 .before .within2 .ensures) ∙ b2 .if2 .left, sym (b3 .before .within3 .ensures) ∙ b3 .if3 .left, eq-eqb _ 95 (c .if4 .taken))
 
--- src/lib.rt:32:5
 within-requires-4 : tie.Need-within-requires-4
 within-requires-4 c κs = search needs
 
--- src/lib.rt:17:1
 returns-5 : tie.Need-returns-5
 unfolding isPlain isDigit
 returns-5 c =

@@ -13,21 +13,17 @@ use Rattle.text.proofs.write_text.Lts as lts
 use Rattle.records.proofs.is_set.Reads as is-set-reads
 use Rattle.text.proofs.inner.write_lines.Reads as write-lines-reads
 
--- src/lib.rt:26:9
 returns : tie.Need-returns
 returns c =
     let s = c .before .before .before .before .before in
     sym (text-short (s .args .pool .now) (s .args .table .now) (s .args .set .now) (s .args .text .now) (omega (arith, c .if1 .taken)))
 
--- src/lib.rt:28:11
 is-set-requires : tie.Need-is-set-requires
 is-set-requires c κs = search needs
 
--- src/lib.rt:29:73
 enum-told : tie.Need-enum-told
 enum-told c = search needs
 
--- src/lib.rt:29:40
 write-lines-requires : tie.Need-write-lines-requires
 write-lines-requires c κs =
     let s = c .before .before .before .before .before .before .before .before .before in
@@ -35,15 +31,12 @@ write-lines-requires c κs =
     let x = set-in (s .args .pool .now) (s .args .table .now) (s .args .set .now) (s .args .text .now) room (record { word = λ i. c .before .before .before .before .before .before .shared-slice-known3 .given i .fits }) (sym (c .before .before .before .is-set .ensures) ∙ ap toldChecked (c .before .enum-told .given .1)) in
     (x .1 .good, (x .0, x .1 .lines))
 
--- src/lib.rt:30:26
 enum-known-r : tie.Need-enum-known-r
 enum-known-r c = search needs
 
--- src/lib.rt:22:1
 same-length : tie.Need-same-length
 same-length c = search needs
 
--- src/lib.rt:22:1
 returns-2 : tie.Need-returns-2
 returns-2 c =
     let s = c .before .before .before .before .before .before .before .before .before .before .before .before in
@@ -51,7 +44,6 @@ returns-2 c =
     let x = set-in (s .args .pool .now) (s .args .table .now) (s .args .set .now) (s .args .text .now) room (record { word = λ i. c .before .before .before .before .before .before .before .before .before .shared-slice-known3 .given i .fits }) (sym (c .before .before .before .before .before .before .is-set .ensures) ∙ ap toldChecked (c .before .before .before .before .enum-told .given .1)) in
     text-given (s .args .pool .now) (s .args .table .now) (s .args .set .now) (s .args .text .now) room x (c .before .before .write-lines .ensures)
 
--- src/lib.rt:22:1
 returns-3 : tie.Need-returns-3
 returns-3 c =
     let s = c .before .before .before .before .before .before .before .before .before in

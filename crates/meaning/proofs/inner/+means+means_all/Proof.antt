@@ -52,27 +52,21 @@ here t S = in-reach (S .args .s .now) (S .pre .1 .0 .0) (S .args .at) (S .pre .1
 there : (t : ℕ) (S : means-lts.Start (T t) (means-at t) means.Post) → S .args .k < length (S .args .t .now) / 4
 there t S = in-reach (S .args .t .now) (S .pre .1 .1 .0) (S .args .k) (S .pre .1 .1 .1)
 
--- src/inner.rt:221:9
 means-head-at-requires : (t : ℕ) → means-lts.Need-head-at-requires (T t) (means-at t) means.Post
 means-head-at-requires t c κs = c .before .before .pre .1 .0
 
--- src/inner.rt:222:9
 means-head-at-requires-2 : (t : ℕ) → means-lts.Need-head-at-requires-2 (T t) (means-at t) means.Post
 means-head-at-requires-2 t c κs = c .before .before .before .pre .1 .1
 
--- src/inner.rt:223:8
 means-same-head-requires : (t : ℕ) → means-lts.Need-same-head-requires (T t) (means-at t) means.Post
 means-same-head-requires t c κs = tt
 
--- src/inner.rt:226:29
 means-add-same-factors : (t : ℕ) → means-lts.Need-add-same-factors (T t) (means-at t) means.Post
 means-add-same-factors t c = omega (arith, here t (c .before .before .before .before .before .before .before .before))
 
--- src/inner.rt:226:40
 means-add-same-factors-2 : (t : ℕ) → means-lts.Need-add-same-factors-2 (T t) (means-at t) means.Post
 means-add-same-factors-2 t c = omega (arith, there t (c .before .before .before .before .before .before .before .before))
 
--- src/inner.rt:226:13
 means-same-factors-requires : (t : ℕ) → means-lts.Need-same-factors-requires (T t) (means-at t) means.Post
 means-same-factors-requires t c κs =
     let h = c .before .before .before in
@@ -85,15 +79,12 @@ means-same-factors-requires t c κs =
     let y = factors (a .t .now) (S .pre .1 .1 .0) (a .k) (l .result) (S .pre .1 .1 .1) (e ∙ r .ensures (S .pre .1 .1 .0) (S .pre .1 .1 .1)) (c .if2 .taken) in
     (x .inside, y .inside)
 
--- src/inner.rt:228:26
 means-add-means-all : (t : ℕ) → means-lts.Need-add-means-all (T t) (means-at t) means.Post
 means-add-means-all t c = omega (arith, here t (c .before .before .before .before .before .before .before .before))
 
--- src/inner.rt:228:37
 means-add-means-all-2 : (t : ℕ) → means-lts.Need-add-means-all-2 (T t) (means-at t) means.Post
 means-add-means-all-2 t c = omega (arith, there t (c .before .before .before .before .before .before .before .before))
 
--- src/inner.rt:228:13
 means-means-all-requires : (t : ℕ) → means-lts.Need-means-all-requires (T t) (means-at t) means.Post
 means-means-all-requires t c κs =
     let h = c .before .before .before in
@@ -106,7 +97,6 @@ means-means-all-requires t c κs =
     let y = parts-row (a .t .now) (S .pre .1 .1 .0) (a .k) (l .result) (S .pre .1 .1 .1) (e ∙ r .ensures (S .pre .1 .1 .0) (S .pre .1 .1 .1)) (c .if2 .left) in
     (omega (arith, S .pre .0, here t S), (x, y))
 
--- src/inner.rt:216:1
 means-returns : (t : ℕ) → means-lts.Need-returns (T t) (means-at t) means.Post
 means-returns t c =
     let h = c .before .before .before .before in
@@ -117,7 +107,6 @@ means-returns t c =
     let r = h .before .head-at2 in
     same-products (a .s .now) (a .at) (a .t .now) (a .k) (l .result) (r .result) (l .ensures) (r .ensures) e (c .same-factors .result) (c .before .if2 .taken) (c .same-factors .ensures)
 
--- src/inner.rt:216:1
 means-returns-2 : (t : ℕ) → means-lts.Need-returns-2 (T t) (means-at t) means.Post
 means-returns-2 t c =
     let h = c .before .before .before .before in
@@ -128,7 +117,6 @@ means-returns-2 t c =
     let r = h .before .head-at2 in
     same-parts (a .s .now) (a .at) (a .t .now) (a .k) (l .result) (r .result) (l .ensures) (r .ensures) e (c .means-all .result) (c .before .if2 .left) (c .means-all .ensures)
 
--- src/inner.rt:216:1
 means-returns-3 : (t : ℕ) → means-lts.Need-returns-3 (T t) (means-at t) means.Post
 means-returns-3 t c =
     let h = c .before in
@@ -137,13 +125,11 @@ means-returns-3 t c =
     let r = h .before .head-at2 in
     other-heads (a .s .now) (a .at) (a .t .now) (a .k) (l .result) (r .result) (l .ensures) (r .ensures) (rw (c .if1 .left) at (h .same-head .ensures))
 
--- src/inner.rt:242:9
 means-all-returns : (t : ℕ) → means-all-lts.Need-returns (A t) (means-all-at t) means-all.Post
 means-all-returns t c =
     let a = c .before .before .before .args in
     all-done (a .s .now) (a .at) (a .t .now) (a .k) (a .n) (c .if1 .taken)
 
--- src/inner.rt:244:8
 means-all-means-requires : (t : ℕ) → means-all-lts.Need-means-requires (A t) (means-all-at t) means-all.Post
 means-all-means-requires t c κs =
     let S = c .before .before .before in
@@ -152,25 +138,21 @@ means-all-means-requires t c κs =
     let y = row-head (a .t .now) (a .k) (a .n) (c .if1 .left) (S .pre .1 .1) in
     (omega (arith, S .pre .0), (x, y))
 
--- src/inner.rt:245:22
 means-all-end-of-requires : (t : ℕ) → means-all-lts.Need-end-of-requires (A t) (means-all-at t) means-all.Post
 means-all-end-of-requires t c κs =
     let S = c .before .before .before .before .before in
     let a = S .args in
     row-head (a .s .now) (a .at) (a .n) (c .before .before .if1 .left) (S .pre .1 .0)
 
--- src/inner.rt:245:40
 means-all-end-of-requires-2 : (t : ℕ) → means-all-lts.Need-end-of-requires-2 (A t) (means-all-at t) means-all.Post
 means-all-end-of-requires-2 t c κs =
     let S = c .before .before .before .before .before .before in
     let a = S .args in
     row-head (a .t .now) (a .k) (a .n) (c .before .before .before .if1 .left) (S .pre .1 .1)
 
--- src/inner.rt:245:54
 means-all-sub-means-all : (t : ℕ) → means-all-lts.Need-sub-means-all (A t) (means-all-at t) means-all.Post
 means-all-sub-means-all t c = omega arith
 
--- src/inner.rt:245:9
 means-all-means-all-requires : (t : ℕ) → means-all-lts.Need-means-all-requires (A t) (means-all-at t) means-all.Post
 means-all-means-all-requires t c κs =
     let e = c .before .before .before .before in
@@ -180,7 +162,6 @@ means-all-means-all-requires t c κs =
     let y = row-next (a .t .now) (a .k) (a .n) (e .if1 .left) (c .end-of2 .result) (c .end-of2 .ensures) (S .pre .1 .1) in
     (omega (arith, S .pre .0, x .1, x .2), (x .0, y .0))
 
--- src/inner.rt:236:1
 means-all-returns-2 : (t : ℕ) → means-all-lts.Need-returns-2 (A t) (means-all-at t) means-all.Post
 means-all-returns-2 t c =
     let f = c .before in
@@ -188,7 +169,6 @@ means-all-returns-2 t c =
     let a = m .before .before .before .before .args in
     all-on (a .s .now) (a .at) (a .t .now) (a .k) (a .n) (m .before .if1 .left) (f .before .end-of .result) (f .end-of2 .result) (c .means-all .result) (f .before .end-of .ensures) (f .end-of2 .ensures) (rw (f .before .before .if2 .taken) at (m .means .ensures)) (c .means-all .ensures)
 
--- src/inner.rt:236:1
 means-all-returns-3 : (t : ℕ) → means-all-lts.Need-returns-3 (A t) (means-all-at t) means-all.Post
 means-all-returns-3 t c =
     let m = c .before in

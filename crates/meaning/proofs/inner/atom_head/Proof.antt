@@ -7,23 +7,18 @@ use borrow.Author.Needs.{needs}
 use Rattle.meaning.proofs.inner.atom_head.Statement.{statement}
 use Rattle.meaning.proofs.inner.atom_head.Tie as tie
 
--- src/inner.rt:71:20
 enum-known-a : tie.Need-enum-known-a
 enum-known-a c = search needs
 
--- src/inner.rt:71:26
 open-head-requires : tie.Need-open-head-requires
 open-head-requires c κs = search needs
 
--- src/inner.rt:72:20
 enum-known-a-2 : tie.Need-enum-known-a-2
 enum-known-a-2 c = search needs
 
--- src/inner.rt:67:1
 returns : tie.Need-returns
 returns c = c .open-head .ensures ∙ ap (λ (a : Atom). headAtom (atomOf a)) (sym (c .before .before .a .given .1))
 
--- src/inner.rt:67:1
 returns-2 : tie.Need-returns-2
 returns-2 c = ap (λ (a : Atom). headAtom (atomOf a)) (sym (c .before .a2 .given .1))
 

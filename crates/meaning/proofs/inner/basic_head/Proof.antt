@@ -8,27 +8,21 @@ use borrow.Author.Needs.{needs}
 use Rattle.meaning.proofs.inner.basic_head.Statement.{statement}
 use Rattle.meaning.proofs.inner.basic_head.Tie as tie
 
--- src/inner.rt:84:27
 enum-told : tie.Need-enum-told
 enum-told c = search needs
 
--- src/inner.rt:89:24
 enum-told-2 : tie.Need-enum-told-2
 enum-told-2 c = search needs
 
--- src/inner.rt:94:28
 enum-told-3 : tie.Need-enum-told-3
 enum-told-3 c = search needs
 
--- src/inner.rt:80:1
 returns : tie.Need-returns
 returns c = ap (λ (b : Basic). headOf (basic (basicOf b))) (sym (c .enum-told .given .1))
 
--- src/inner.rt:80:1
 returns-2 : tie.Need-returns-2
 returns-2 c = ap (λ (b : Basic). headOf (basic (basicOf b))) (sym (c .enum-told2 .given .1))
 
--- src/inner.rt:80:1
 returns-3 : tie.Need-returns-3
 returns-3 c = ap (λ (b : Basic). headOf (basic (basicOf b))) (sym (c .enum-told3 .given .1))
 

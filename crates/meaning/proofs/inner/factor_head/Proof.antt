@@ -7,27 +7,21 @@ use borrow.Author.Needs.{needs}
 use Rattle.meaning.proofs.inner.factor_head.Statement.{statement}
 use Rattle.meaning.proofs.inner.factor_head.Tie as tie
 
--- src/inner.rt:130:9
 from-words-requires : tie.Need-from-words-requires
 from-words-requires c κs = search needs
 
--- src/inner.rt:131:8
 is-one-requires : tie.Need-is-one-requires
 is-one-requires c κs = search needs
 
--- src/inner.rt:132:9
 power-one-head-requires : tie.Need-power-one-head-requires
 power-one-head-requires c κs = search needs
 
--- src/inner.rt:134:9
 dim-head-requires : tie.Need-dim-head-requires
 dim-head-requires c κs = search needs
 
--- src/inner.rt:127:1
 returns : tie.Need-returns
 returns c = c .power-one-head .ensures ∙ power-one _ _ (ap (λ (e : Exp). isYes (Exp-dec e one)) (sym (c .before .before .before .from-words .ensures)) ∙ sym (c .before .before .is-one .ensures) ∙ c .before .if1 .taken)
 
--- src/inner.rt:127:1
 returns-2 : tie.Need-returns-2
 returns-2 c = c .dim-head .ensures ∙ power-other _ _ (ap (λ (e : Exp). isYes (Exp-dec e one)) (sym (c .before .before .before .from-words .ensures)) ∙ sym (c .before .before .is-one .ensures) ∙ c .before .if1 .left)
 

@@ -7,27 +7,21 @@ use borrow.Author.Needs.{needs}
 use Rattle.meaning.proofs.inner.open_head.Statement.{statement}
 use Rattle.meaning.proofs.inner.open_head.Tie as tie
 
--- src/inner.rt:49:19
 enum-known-o : tie.Need-enum-known-o
 enum-known-o c = search needs
 
--- src/inner.rt:54:21
 enum-known-o-2 : tie.Need-enum-known-o-2
 enum-known-o-2 c = search needs
 
--- src/inner.rt:59:19
 enum-known-o-3 : tie.Need-enum-known-o-3
 enum-known-o-3 c = search needs
 
--- src/inner.rt:45:1
 returns : tie.Need-returns
 returns c = ap (λ (o : Open). headOpen (openOf o)) (sym (c .before .o .given .1))
 
--- src/inner.rt:45:1
 returns-2 : tie.Need-returns-2
 returns-2 c = ap (λ (o : Open). headOpen (openOf o)) (sym (c .before .o2 .given .1))
 
--- src/inner.rt:45:1
 returns-3 : tie.Need-returns-3
 returns-3 c = ap (λ (o : Open). headOpen (openOf o)) (sym (c .before .o3 .given .1))
 

@@ -10,39 +10,30 @@ use Rattle.meaning.proofs.inner.product_head.Statement.{statement}
 use Rattle.meaning.proofs.inner.product_head.Tie as tie
 use Rattle.meaning.proofs.inner.product_head.Reads as reads
 
--- src/inner.rt:143:15
 view-at-requires : tie.Need-view-at-requires
 view-at-requires c κs = search needs
 
--- src/inner.rt:144:26
 enum-known-a : tie.Need-enum-known-a
 enum-known-a c = search needs
 
--- src/inner.rt:144:42
 factor-head-requires : tie.Need-factor-head-requires
 factor-head-requires c κs = search needs
 
--- src/inner.rt:145:18
 dim-head-requires : tie.Need-dim-head-requires
 dim-head-requires c κs = search needs
 
--- src/inner.rt:148:18
 wide-requires : tie.Need-wide-requires
 wide-requires c κs = search needs
 
--- src/inner.rt:148:9
 dim-head-requires-2 : tie.Need-dim-head-requires-2
 dim-head-requires-2 c κs = search needs
 
--- src/inner.rt:139:1
 returns : tie.Need-returns
 returns c = λ p h e. c .factor-head .ensures ∙ ap (λ (q : Product ℕ). reads (dim q)) (sym (one-factor _ _ p h (e ∙ c .before .before .before .before .before .if1 .taken) (c .before .before .before .before .view-at .ensures) (c .before .before .a .given .1)))
 
--- src/inner.rt:139:1
 returns-2 : tie.Need-returns-2
 returns-2 c = λ p h e. absurd (no-factor (c .before .before .view-at .ensures ∙ says-one _ _ p h (e ∙ c .before .before .before .if1 .taken) .is) (c .before .match .keys2))
 
--- src/inner.rt:139:1
 returns-3 : tie.Need-returns-3
 returns-3 c = λ p h e. c .dim-head2 .ensures ∙ ap headDim (c .before .wide .ensures ∙ sym e) ∙ not-one p (λ k. c .before .before .if1 .left (sym e ∙ k))
 

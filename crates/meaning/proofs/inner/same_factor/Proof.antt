@@ -4,43 +4,33 @@ use borrow.Author.Needs.{needs}
 use Rattle.meaning.proofs.inner.same_factor.Statement.{statement}
 use Rattle.meaning.proofs.inner.same_factor.Tie as tie
 
--- src/inner.rt:184:22
 enum-known-v : tie.Need-enum-known-v
 enum-known-v c = search needs
 
--- src/inner.rt:185:9
 returns : tie.Need-returns
 returns c = λ f g h k. absurd (unsaid (c .before .args .v) f h (c .match .keys2))
 
--- src/inner.rt:187:22
 enum-known-w : tie.Need-enum-known-w
 enum-known-w c = search needs
 
--- src/inner.rt:188:9
 returns-2 : tie.Need-returns-2
 returns-2 c = λ f g h k. absurd (unsaid (c .before .before .before .before .args .w) g k (c .match2 .keys2))
 
--- src/inner.rt:192:30
 atom-head-requires : tie.Need-atom-head-requires
 atom-head-requires c κs = search needs
 
--- src/inner.rt:192:44
 atom-head-requires-2 : tie.Need-atom-head-requires-2
 atom-head-requires-2 c κs = search needs
 
--- src/inner.rt:192:13
 same-head-requires : tie.Need-same-head-requires
 same-head-requires c κs = search needs
 
--- src/inner.rt:192:13
 returns-3 : tie.Need-returns-3
 returns-3 c = by-atoms (c .before .before .before .before .before .before .before .before .before .v .given .1) (c .before .before .before .before .before .before .w .given .1) (c .same-head .result) (c .before .before .before .before .if1 .taken) (c .before .before .before .if2 .taken) (rw (c .before .before .atom-head .ensures, c .before .atom-head2 .ensures) at (c .same-head .ensures))
 
--- src/inner.rt:181:1
 returns-4 : tie.Need-returns-4
 returns-4 c = den-differs (c .before .before .before .before .before .before .v .given .1) (c .before .before .before .w .given .1) (c .if2 .left)
 
--- src/inner.rt:181:1
 returns-5 : tie.Need-returns-5
 returns-5 c = num-differs (c .before .before .before .before .before .v .given .1) (c .before .before .w .given .1) (c .if1 .left)
 

@@ -15,39 +15,30 @@ Inv-loop s at t k n i₀ i = (i ≤ n) × ((p q : Product ℕ) → HoldsFactors 
 abbrev μ-loop : tie.MeasureT-loop
 μ-loop s at t k n i₀ i = n - i
 
--- src/inner.rt:205:5
 loop-holds : tie.Need-loop-holds Inv-loop μ-loop
 loop-holds c = (omega arith, λ p q h j l m e. e)
 
--- src/inner.rt:206:35
 add-view-at : tie.Need-add-view-at Inv-loop μ-loop
 add-view-at c = omega arith
 
--- src/inner.rt:206:24
 view-at-requires : tie.Need-view-at-requires Inv-loop μ-loop
 view-at-requires c κs = tt
 
--- src/inner.rt:206:55
 add-view-at-2 : tie.Need-add-view-at-2 Inv-loop μ-loop
 add-view-at-2 c = omega arith
 
--- src/inner.rt:206:44
 view-at-requires-2 : tie.Need-view-at-requires-2 Inv-loop μ-loop
 view-at-requires-2 c κs = tt
 
--- src/inner.rt:206:12
 same-factor-requires : tie.Need-same-factor-requires Inv-loop μ-loop
 same-factor-requires c κs = tt
 
--- src/inner.rt:207:13
 add-i : tie.Need-add-i Inv-loop μ-loop
 add-i c = omega arith
 
--- src/inner.rt:205:5
 loop-less : tie.Need-loop-less Inv-loop μ-loop
 loop-less c = omega arith
 
--- src/inner.rt:205:5
 loop-again : tie.Need-loop-again Inv-loop μ-loop
 loop-again c =
     let b = c .before .before in
@@ -61,7 +52,6 @@ loop-again c =
           l .loop .inv .1 p q h j m n (factors-on (a .s .now) (a .at) (a .t .now) (a .k) i (b .before .view-at .result) (b .view-at2 .result) (b .before .view-at .ensures) (b .view-at2 .ensures) p q h j x y (rw (c .if1 .taken) at (c .before .same-factor .ensures)) e),
     )
 
--- src/inner.rt:209:13
 returns : tie.Need-returns Inv-loop μ-loop
 returns c p q h j m n e =
     let b = c .before .before in
@@ -72,7 +62,6 @@ returns c p q h j m n e =
     let y : i < length q = omega arith in
     factors-stop (a .s .now) (a .at) (a .t .now) (a .k) i (b .before .view-at .result) (b .view-at2 .result) (b .before .view-at .ensures) (b .view-at2 .ensures) p q h j x y (rw (c .if1 .left) at (c .before .same-factor .ensures)) e
 
--- src/inner.rt:199:1
 returns-2 : tie.Need-returns-2 Inv-loop μ-loop
 returns-2 c p q h j m n =
     let l = c .before in

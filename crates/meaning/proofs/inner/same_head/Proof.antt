@@ -5,15 +5,12 @@ use Rattle.meaning.proofs.Arms.{by-many}
 use Rattle.meaning.proofs.inner.same_head.Statement.{statement}
 use Rattle.meaning.proofs.inner.same_head.Tie as tie
 
--- src/inner.rt:39:13
 returns : tie.Need-returns
 returns c = let a = c .before .before .before .before .before .before .before .before .args in by-many (a .a) (a .b) (c .before .before .before .before .before .if1 .taken) (c .before .before .if2 .taken)
 
--- src/inner.rt:34:1
 returns-2 : tie.Need-returns-2
 returns-2 c = λ e. c .if2 .left (ap (λ (h : Head). h .name) e)
 
--- src/inner.rt:34:1
 returns-3 : tie.Need-returns-3
 returns-3 c = λ e. c .if1 .left (ap (λ (h : Head). h .kind) e)
 

@@ -25,7 +25,6 @@ abbrev put-digits-below : ℕ → In 1 put-digits-kinds.ps
 put-digits-below t =
     and 1 put-digits-kinds.ps (falls 1 put-digits-kinds.ps _<_ μ-put-digits t) put-digits.Pre
 
--- src/inner.rt:88:9
 put-digits-returns : (t : ℕ) → put-digits-lts.Need-returns (
   low-digit-reads.Asked,
   low-digit-reads.Learnt,
@@ -36,7 +35,6 @@ put-digits-returns : (t : ℕ) → put-digits-lts.Need-returns (
 ) (put-digits-at t) put-digits.Post
 put-digits-returns t c = no-digits _ _ _ _ (c .if1 .taken)
 
--- src/inner.rt:91:35
 put-digits-low-digit-requires : (t : ℕ) → put-digits-lts.Need-low-digit-requires (
   low-digit-reads.Asked,
   low-digit-reads.Learnt,
@@ -47,7 +45,6 @@ put-digits-low-digit-requires : (t : ℕ) → put-digits-lts.Need-low-digit-requ
 ) (put-digits-at t) put-digits.Post
 put-digits-low-digit-requires t c κs = tt
 
--- src/inner.rt:91:9
 put-digits-put-byte-requires : (t : ℕ) → put-digits-lts.Need-put-byte-requires (
   low-digit-reads.Asked,
   low-digit-reads.Learnt,
@@ -58,7 +55,6 @@ put-digits-put-byte-requires : (t : ℕ) → put-digits-lts.Need-put-byte-requir
 ) (put-digits-at t) put-digits.Post
 put-digits-put-byte-requires t c κs = omega arith
 
--- src/inner.rt:91:9
 put-digits-same-length : (t : ℕ) → put-digits-lts.Need-same-length (
   low-digit-reads.Asked,
   low-digit-reads.Learnt,
@@ -69,7 +65,6 @@ put-digits-same-length : (t : ℕ) → put-digits-lts.Need-same-length (
 ) (put-digits-at t) put-digits.Post
 put-digits-same-length t c = search needs
 
--- src/inner.rt:91:9
 put-digits-returns-2 : (t : ℕ) → put-digits-lts.Need-returns-2 (
   low-digit-reads.Asked,
   low-digit-reads.Learnt,
@@ -84,7 +79,6 @@ put-digits-returns-2 t c =
     let i = l .before .before in
     one-digit _ _ (i .before .if1 .left) (i .if2 .taken) (rw (l .low-digit .ensures) at (p .put-byte .ensures))
 
--- src/inner.rt:93:34
 put-digits-sub-put-digits : (t : ℕ) → put-digits-lts.Need-sub-put-digits (
   low-digit-reads.Asked,
   low-digit-reads.Learnt,
@@ -95,7 +89,6 @@ put-digits-sub-put-digits : (t : ℕ) → put-digits-lts.Need-sub-put-digits (
 ) (put-digits-at t) put-digits.Post
 put-digits-sub-put-digits t c = omega arith
 
--- src/inner.rt:93:9
 put-digits-put-digits-requires : (t : ℕ) → put-digits-lts.Need-put-digits-requires (
   low-digit-reads.Asked,
   low-digit-reads.Learnt,
@@ -106,7 +99,6 @@ put-digits-put-digits-requires : (t : ℕ) → put-digits-lts.Need-put-digits-re
 ) (put-digits-at t) put-digits.Post
 put-digits-put-digits-requires t c κs = omega arith
 
--- src/inner.rt:94:22
 put-digits-low-digit-requires-2 : (t : ℕ) → put-digits-lts.Need-low-digit-requires-2 (
   low-digit-reads.Asked,
   low-digit-reads.Learnt,
@@ -117,7 +109,6 @@ put-digits-low-digit-requires-2 : (t : ℕ) → put-digits-lts.Need-low-digit-re
 ) (put-digits-at t) put-digits.Post
 put-digits-low-digit-requires-2 t c κs = tt
 
--- src/inner.rt:94:5
 put-digits-put-byte-requires-2 : (t : ℕ) → put-digits-lts.Need-put-byte-requires-2 (
   low-digit-reads.Asked,
   low-digit-reads.Learnt,
@@ -131,7 +122,6 @@ put-digits-put-byte-requires-2 t c κs =
     let a = q .before .before .before .before .before .args in
     omega (arith, q .put-digits .ensures .behind, digits-short (a .k - 1) (a .n / 10))
 
--- src/inner.rt:82:1
 put-digits-same-length-2 : (t : ℕ) → put-digits-lts.Need-same-length-2 (
   low-digit-reads.Asked,
   low-digit-reads.Learnt,
@@ -142,7 +132,6 @@ put-digits-same-length-2 : (t : ℕ) → put-digits-lts.Need-same-length-2 (
 ) (put-digits-at t) put-digits.Post
 put-digits-same-length-2 t c = search needs
 
--- src/inner.rt:82:1
 put-digits-returns-3 : (t : ℕ) → put-digits-lts.Need-returns-3 (
   low-digit-reads.Asked,
   low-digit-reads.Learnt,

@@ -7,20 +7,16 @@ use Rattle.spelling.proofs.inner.hex_digit.Tie as tie
 use Rattle.spelling.proofs.inner.hex_digit.Reads as reads
 use Rattle.spelling.proofs.inner.hex_digit.Lts as lts
 
--- src/inner.rt:50:17
 add-result : tie.Need-add-result
 add-result c = search needs
 
--- src/inner.rt:50:33
 add-result-2 : tie.Need-add-result-2
 add-result-2 c = search needs
 
--- src/inner.rt:46:1
 returns : tie.Need-returns
 unfolding hexDigit
 returns c = rw (lt-ltb (c .before .args .n) 10 (c .if1 .taken))
 
--- src/inner.rt:46:1
 returns-2 : tie.Need-returns-2
 unfolding hexDigit
 returns-2 c = rw (le-ltb (c .before .args .n) 10 (c .if1 .left))

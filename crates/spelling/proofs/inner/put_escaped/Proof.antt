@@ -10,50 +10,39 @@ use Rattle.spelling.proofs.inner.hex_digit.Reads as hex-digit-reads
 use Rattle.spelling.proofs.inner.put_byte.Reads as put-byte-reads
 use Rattle.spelling.proofs.is_plain.Reads as is-plain-reads
 
--- src/inner.rt:58:8
 is-plain-requires : tie.Need-is-plain-requires
 is-plain-requires c κs = search needs
 
--- src/inner.rt:59:9
 put-byte-requires : tie.Need-put-byte-requires
 put-byte-requires c κs = search needs
 
--- src/inner.rt:59:9
 same-length : tie.Need-same-length
 same-length c = search needs
 
--- src/inner.rt:59:9
 returns : tie.Need-returns
 returns c =
     let p = c .before .before in
     let t = p .before .before in
     plain (sym (t .before .is-plain .ensures) ∙ t .if1 .taken) (p .put-byte .ensures)
 
--- src/inner.rt:61:9
 put-byte-requires-2 : tie.Need-put-byte-requires-2
 put-byte-requires-2 c κs = search needs
 
--- src/inner.rt:62:30
 hex-digit-requires : tie.Need-hex-digit-requires
 hex-digit-requires c κs = search needs
 
--- src/inner.rt:62:9
 put-byte-requires-3 : tie.Need-put-byte-requires-3
 put-byte-requires-3 c κs = search needs
 
--- src/inner.rt:63:22
 hex-digit-requires-2 : tie.Need-hex-digit-requires-2
 hex-digit-requires-2 c κs = search needs
 
--- src/inner.rt:63:5
 put-byte-requires-4 : tie.Need-put-byte-requires-4
 put-byte-requires-4 c κs = search needs
 
--- src/inner.rt:54:1
 same-length-2 : tie.Need-same-length-2
 same-length-2 c = search needs
 
--- src/inner.rt:54:1
 returns-2 : tie.Need-returns-2
 returns-2 c =
     let p4 = c .before .before in

@@ -20,27 +20,21 @@ Inv-loop dst₀ out name i₀ o₀ dst i o =
 abbrev μ-loop : tie.MeasureT-loop
 μ-loop dst₀ out name i₀ o₀ dst i o = length name - i
 
--- src/inner.rt:74:5
 loop-holds : tie.Need-loop-holds Inv-loop μ-loop
 loop-holds c = (omega arith, omega arith, refl, no-name _ _ (c .before .before .args .name .now))
 
--- src/inner.rt:75:33
 shared-slice-read-put-escaped : tie.Need-shared-slice-read-put-escaped Inv-loop μ-loop
 shared-slice-read-put-escaped c = omega arith
 
--- src/inner.rt:75:9
 put-escaped-requires : tie.Need-put-escaped-requires Inv-loop μ-loop
 put-escaped-requires c κs = omega arith
 
--- src/inner.rt:76:13
 add-i : tie.Need-add-i Inv-loop μ-loop
 add-i c = omega arith
 
--- src/inner.rt:74:5
 loop-less : tie.Need-loop-less Inv-loop μ-loop
 loop-less c = omega arith
 
--- src/inner.rt:74:5
 loop-again : tie.Need-loop-again Inv-loop μ-loop
 loop-again c =
     let p = c .before .before in
@@ -52,11 +46,9 @@ loop-again c =
       name-more (a .name .now) (l .i) (omega arith) (l .inv .3) (p .put-escaped .ensures),
     )
 
--- src/inner.rt:67:1
 same-length : tie.Need-same-length Inv-loop μ-loop
 same-length c = c .before .loop .inv .2
 
--- src/inner.rt:67:1
 returns : tie.Need-returns Inv-loop μ-loop
 returns c =
     let l = c .before .loop in

@@ -18,27 +18,21 @@ Inv-loop dst₀ out text i₀ o₀ dst i o =
 abbrev μ-loop : tie.MeasureT-loop
 μ-loop dst₀ out text i₀ o₀ dst i o = length text - i
 
--- src/inner.rt:38:5
 loop-holds : tie.Need-loop-holds Inv-loop μ-loop
 loop-holds c = (omega arith, omega arith, refl, nothing _ _)
 
--- src/inner.rt:39:30
 shared-slice-read-put-byte : tie.Need-shared-slice-read-put-byte Inv-loop μ-loop
 shared-slice-read-put-byte c = omega arith
 
--- src/inner.rt:39:9
 put-byte-requires : tie.Need-put-byte-requires Inv-loop μ-loop
 put-byte-requires c κs = omega arith
 
--- src/inner.rt:40:13
 add-i : tie.Need-add-i Inv-loop μ-loop
 add-i c = omega arith
 
--- src/inner.rt:38:5
 loop-less : tie.Need-loop-less Inv-loop μ-loop
 loop-less c = omega arith
 
--- src/inner.rt:38:5
 loop-again : tie.Need-loop-again Inv-loop μ-loop
 loop-again c =
     let p = c .before .before in
@@ -50,11 +44,9 @@ loop-again c =
       text-more (a .text .now) (l .i) (omega arith) (l .inv .3) (p .put-byte .ensures),
     )
 
--- src/inner.rt:32:1
 same-length : tie.Need-same-length Inv-loop μ-loop
 same-length c = c .before .loop .inv .2
 
--- src/inner.rt:32:1
 returns : tie.Need-returns Inv-loop μ-loop
 returns c =
     let l = c .before .loop in

@@ -34,25 +34,20 @@ put-bounds-below t =
 abbrev L : ℕ → put-bounds-lts.Claims
 L t = (view-at-reads.Asked, view-at-reads.Learnt, put-bound-reads.Asked, put-bound-reads.Learnt, put-bounds-below t, put-bounds.Post)
 
--- src/inner/bounds.rt:78:11
 put-bounds-view-at-requires : (t : ℕ) → put-bounds-lts.Need-view-at-requires (L t) (put-bounds-at t) put-bounds.Post
 put-bounds-view-at-requires t c κs = tt
 
--- src/inner/bounds.rt:79:21
 put-bounds-enum-known-o : (t : ℕ) → put-bounds-lts.Need-enum-known-o (L t) (put-bounds-at t) put-bounds.Post
 put-bounds-enum-known-o t c = search needs
 
--- src/inner/bounds.rt:80:17
 put-bounds-put-bound-requires : (t : ℕ) → put-bounds-lts.Need-put-bound-requires (L t) (put-bounds-at t) put-bounds.Post
 put-bounds-put-bound-requires t c κs =
     let S = c .before .before .before .before .before .before .before .before .before in
     (S .pre .1 .1 .0, omega (arith, S .pre .1 .1 .1 .1 .1))
 
--- src/inner/bounds.rt:81:27
 put-bounds-add-put-bounds : (t : ℕ) → put-bounds-lts.Need-add-put-bounds (L t) (put-bounds-at t) put-bounds.Post
 put-bounds-add-put-bounds t c = omega (arith, c .before .before .before .before .before .before .before .before .before .before .before .before .pre .1 .1 .1 .1 .0)
 
--- src/inner/bounds.rt:81:56
 put-bounds-add-put-bounds-2 : (t : ℕ) → put-bounds-lts.Need-add-put-bounds-2 (L t) (put-bounds-at t) put-bounds.Post
 put-bounds-add-put-bounds-2 t c =
     let S = c .before .before .before .before .before .before .before .before .before .before .before .before .before in
@@ -60,7 +55,6 @@ put-bounds-add-put-bounds-2 t c =
     let n = c .before .before .before .put-bound .ensures f l .0 in
     omega (arith, S .pre .1 .1 .1 .1 .1, n, few (S .args .all) f (openOf (c .before .before .before .before .before .before .o .given .0 .0)))
 
--- src/inner/bounds.rt:81:13
 put-bounds-put-bounds-requires : (t : ℕ) → put-bounds-lts.Need-put-bounds-requires (L t) (put-bounds-at t) put-bounds.Post
 put-bounds-put-bounds-requires t c κs =
     let S = c .before .before .before .before .before .before .before .before .before .before .before .before .before in
@@ -72,11 +66,9 @@ put-bounds-put-bounds-requires t c κs =
     let n = c .before .before .before .put-bound .ensures f l .0 in
     (omega (arith, S .pre .0, lt), ((cs, k), (S .pre .1 .1 .0, (S .pre .1 .1 .1 .0, (omega (arith, S .pre .1 .1 .1 .0, lt), omega (arith, S .pre .1 .1 .1 .1 .1, lt, n, few (a .all) f (openOf (c .before .before .before .before .before .before .o .given .0 .0))))))))
 
--- src/inner/bounds.rt:63:1
 put-bounds-same-length : (t : ℕ) → put-bounds-lts.Need-same-length (L t) (put-bounds-at t) put-bounds.Post
 put-bounds-same-length t c = c .before .before .put-bounds .kept .1 .1 .1 .1 .1 .0 ∙ c .before .before .before .before .before .before .put-bound .kept .1 .1 .1 .1 .0
 
--- src/inner/bounds.rt:63:1
 put-bounds-returns : (t : ℕ) → put-bounds-lts.Need-returns (L t) (put-bounds-at t) put-bounds.Post
 unfolding collect
 put-bounds-returns t c = λ bs f h l.
@@ -88,7 +80,6 @@ put-bounds-returns t c = λ bs f h l.
     let p = c .before .before .before .before .before .before .put-bound .ensures f l in
     rw q (put-more _ _ _ (a .out) _ _ (boundsOf (a .all) f (openOf o)) (allBounds (a .all) f cs) (p .0) (p .1) (c .before .before .put-bounds .ensures cs f k l))
 
--- src/inner/bounds.rt:63:1
 put-bounds-returns-2 : (t : ℕ) → put-bounds-lts.Need-returns-2 (L t) (put-bounds-at t) put-bounds.Post
 unfolding collect
 put-bounds-returns-2 t c = λ bs f h l.

@@ -8,19 +8,15 @@ use borrow.Author.Needs.{needs}
 use Rattle.handing.proofs.inner.bounds.name_at.Statement.{statement}
 use Rattle.handing.proofs.inner.bounds.name_at.Tie as tie
 
--- src/inner/bounds.rt:27:11
 view-at-requires : tie.Need-view-at-requires
 view-at-requires c κs = search needs
 
--- src/inner/bounds.rt:28:22
 enum-known-u : tie.Need-enum-known-u
 enum-known-u c = search needs
 
--- src/inner/bounds.rt:24:1
 returns : tie.Need-returns
 returns c = named _ _ _ (sym (c .before .before .before .view-at .ensures) ∙ c .before .u .given .1)
 
--- src/inner/bounds.rt:24:1
 returns-2 : tie.Need-returns-2
 returns-2 c = unnamed _ _ _ (λ u e. untagged (c .before .view-at .result) (1 ∷ 2 ∷ 3 ∷ 4 ∷ 5 ∷ 6 ∷ 7 ∷ 8 ∷ 9 ∷ 10 ∷ 11 ∷ 12 ∷ 13 ∷ 14 ∷ 15 ∷ 16 ∷ []) 0 tt (c .match .keys2) (view.Opened u) refl (c .before .view-at .ensures ∙ e))
 

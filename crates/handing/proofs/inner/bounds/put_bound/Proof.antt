@@ -9,35 +9,27 @@ use borrow.Author.Needs.{needs}
 use Rattle.handing.proofs.inner.bounds.put_bound.Statement.{statement}
 use Rattle.handing.proofs.inner.bounds.put_bound.Tie as tie
 
--- src/inner/bounds.rt:46:11
 look-up-requires : tie.Need-look-up-requires
 look-up-requires c κs = search needs
 
--- src/inner/bounds.rt:47:19
 enum-known-i : tie.Need-enum-known-i
 enum-known-i c = search needs
 
--- src/inner/bounds.rt:48:46
 name-at-requires : tie.Need-name-at-requires
 name-at-requires c κs = search needs
 
--- src/inner/bounds.rt:48:13
 put-one-requires : tie.Need-put-one-requires
 put-one-requires c κs = search needs
 
--- src/inner/bounds.rt:52:16
 enum-told : tie.Need-enum-told
 enum-told c = search needs
 
--- src/inner/bounds.rt:53:17
 put-one-requires-2 : tie.Need-put-one-requires-2
 put-one-requires-2 c κs = search needs
 
--- src/inner/bounds.rt:34:1
 same-length : tie.Need-same-length
 same-length c = search needs
 
--- src/inner/bounds.rt:34:1
 returns : tie.Need-returns
 returns c = λ f l.
     let u = c .before .before .before .before .before .before .before .before in
@@ -45,11 +37,9 @@ returns c = λ f l.
     let k = found (renamed f (openOf (a .o))) (u .look-up .ensures (renamed f) l) (c .before .before .before .before .before .before .i .given .1) in
     written-one f (openOf (a .o)) (a .all) _ (a .out) (c .before .before .before .name-at .result) _ (bound-found f (openOf (a .o)) (a .all) _ _ _ _ k (c .before .before .before .name-at .ensures)) (c .before .before .put-one .ensures)
 
--- src/inner/bounds.rt:34:1
 same-length-2 : tie.Need-same-length-2
 same-length-2 c = search needs
 
--- src/inner/bounds.rt:34:1
 returns-2 : tie.Need-returns-2
 returns-2 c = λ f l.
     let u = c .before .before .before .before .before .before .before in
@@ -57,7 +47,6 @@ returns-2 c = λ f l.
     let e = not-found (a .v .now) (renamed f (openOf (a .o))) (u .look-up .ensures (renamed f) l) (c .before .before .before .before .before .enum-told .given .1) in
     written-one f (openOf (a .o)) (a .all) _ (a .out) (a .o) _ (bound-kept f (openOf (a .o)) (a .all) e ∙ ap (λ (b : Bool). ifAll b (openOf (a .o))) (c .before .before .before .before .if1 .taken)) (c .before .before .put-one2 .ensures)
 
--- src/inner/bounds.rt:34:1
 returns-3 : tie.Need-returns-3
 returns-3 c = λ f l.
     let u = c .before .before .before in

@@ -16,50 +16,39 @@ Inv-loop n places₀ v₀ x₀ places v x =
 abbrev μ-loop : tie.MeasureT-loop
 μ-loop n places₀ v₀ x₀ places v x = n - x
 
--- src/inner/tables.rt:57:5
 loop-holds : tie.Need-loop-holds Inv-loop μ-loop
 unfolding ownPlaces ownTypes
 loop-holds c = (omega arith, (refl, refl))
 
--- src/inner/tables.rt:58:18
 cast-at : tie.Need-cast-at Inv-loop μ-loop
 cast-at c = omega arith
 
--- src/inner/tables.rt:59:25
 add-put : tie.Need-add-put Inv-loop μ-loop
 add-put c = omega arith
 
--- src/inner/tables.rt:59:9
 put-requires : tie.Need-put-requires Inv-loop μ-loop
 put-requires c κs = search needs
 
--- src/inner/tables.rt:60:9
 put-one-requires : tie.Need-put-one-requires Inv-loop μ-loop
 put-one-requires c κs = search needs
 
--- src/inner/tables.rt:61:9
 add-x : tie.Need-add-x Inv-loop μ-loop
 add-x c = omega arith
 
--- src/inner/tables.rt:57:5
 loop-less : tie.Need-loop-less Inv-loop μ-loop
 loop-less c = omega arith
 
--- src/inner/tables.rt:57:5
 loop-again : tie.Need-loop-again Inv-loop μ-loop
 loop-again c =
     let l = c .before .before .before .before .before .before .before .before .before .loop in
     (omega arith, (own-places (l .x) _ _ _ (l .inv .1 .0) (c .before .before .before .before .before .before .put .ensures), own-types (l .x) _ _ _ (l .inv .1 .1) (c .before .before .put-one .ensures)))
 
--- src/inner/tables.rt:52:1
 same-length : tie.Need-same-length Inv-loop μ-loop
 same-length c = let l = c .before .loop in ap length (l .inv .1 .0) ∙ own-places-long (l .x) (c .before .before .before .before .args .places .now)
 
--- src/inner/tables.rt:52:1
 same-length-2 : tie.Need-same-length-2 Inv-loop μ-loop
 same-length-2 c = let l = c .before .loop in ap length (l .inv .1 .1) ∙ own-types-long (l .x) (c .before .before .before .before .args .v .now)
 
--- src/inner/tables.rt:52:1
 returns : tie.Need-returns Inv-loop μ-loop
 returns c =
     let l = c .before .loop in

@@ -16,50 +16,39 @@ Inv-loop names places₀ i₀ places i =
 abbrev μ-loop : tie.MeasureT-loop
 μ-loop names places₀ i₀ places i = i
 
--- src/inner/tables.rt:45:5
 loop-holds : tie.Need-loop-holds Inv-loop μ-loop
 loop-holds c = let n = c .before .before .args .names .now in (omega arith, no-back-places n (length n) refl _)
 
--- src/inner/tables.rt:46:9
 sub-i : tie.Need-sub-i Inv-loop μ-loop
 sub-i c = omega arith
 
--- src/inner/tables.rt:47:21
 add-put : tie.Need-add-put Inv-loop μ-loop
 add-put c = omega arith
 
--- src/inner/tables.rt:47:30
 mul-put : tie.Need-mul-put Inv-loop μ-loop
 mul-put c = omega arith
 
--- src/inner/tables.rt:47:30
 shared-slice-read-put : tie.Need-shared-slice-read-put Inv-loop μ-loop
 shared-slice-read-put c = omega arith
 
--- src/inner/tables.rt:47:30
 add-put-2 : tie.Need-add-put-2 Inv-loop μ-loop
 add-put-2 c = let i = c .before .before .before .loop .i in let h = c .before .before .before .before .before .before .pre .1 (i - 1) (omega arith) in omega arith
 
--- src/inner/tables.rt:47:9
 put-requires : tie.Need-put-requires Inv-loop μ-loop
 put-requires c κs = search needs
 
--- src/inner/tables.rt:45:5
 loop-less : tie.Need-loop-less Inv-loop μ-loop
 loop-less c = omega arith
 
--- src/inner/tables.rt:45:5
 loop-again : tie.Need-loop-again Inv-loop μ-loop
 loop-again c =
     let l = c .before .before .before .before .before .before .loop in
     let n = c .before .before .before .before .before .before .before .before .before .args .names .now in
     (omega arith, back-places n (l .i) (l .i - 1) (omega arith) (omega arith) _ _ _ (l .inv .1) (c .before .before .put .ensures))
 
--- src/inner/tables.rt:39:1
 same-length : tie.Need-same-length Inv-loop μ-loop
 same-length c = let l = c .before .loop in ap length (l .inv .1) ∙ back-places-long (l .i) _ _
 
--- src/inner/tables.rt:39:1
 returns : tie.Need-returns Inv-loop μ-loop
 returns c =
     let l = c .before .loop in

@@ -7,39 +7,30 @@ use borrow.Author.Needs.{needs}
 use Rattle.handing.proofs.inner.tables.quantify_name.Statement.{statement}
 use Rattle.handing.proofs.inner.tables.quantify_name.Tie as tie
 
--- src/inner/tables.rt:20:21
 add-put : tie.Need-add-put
 add-put c = search needs
 
--- src/inner/tables.rt:20:5
 put-requires : tie.Need-put-requires
 put-requires c κs = search needs
 
--- src/inner/tables.rt:21:17
 add-put-2 : tie.Need-add-put-2
 add-put-2 c = search needs
 
--- src/inner/tables.rt:21:27
 add-put-3 : tie.Need-add-put-3
 add-put-3 c = search needs
 
--- src/inner/tables.rt:21:5
 put-requires-2 : tie.Need-put-requires-2
 put-requires-2 c κs = search needs
 
--- src/inner/tables.rt:22:5
 put-one-requires : tie.Need-put-one-requires
 put-one-requires c κs = search needs
 
--- src/inner/tables.rt:15:1
 same-length : tie.Need-same-length
 same-length c = search needs
 
--- src/inner/tables.rt:15:1
 same-length-2 : tie.Need-same-length-2
 same-length-2 c = search needs
 
--- src/inner/tables.rt:15:1
 returns : tie.Need-returns
 returns c =
     let a = c .before .before .before .before .before .before .before .before .before .before .before .before .before .before .args in

@@ -15,35 +15,27 @@ Inv-loop names places₀ v₀ i₀ places v i =
 abbrev μ-loop : tie.MeasureT-loop
 μ-loop names places₀ v₀ i₀ places v i = i
 
--- src/inner/tables.rt:32:5
 loop-holds : tie.Need-loop-holds Inv-loop μ-loop
 loop-holds c = let n = c .before .before .before .args .names .now in (omega arith, (no-quant-places n (length n) refl _, no-quant-types n (length n) refl _))
 
--- src/inner/tables.rt:33:9
 sub-i : tie.Need-sub-i Inv-loop μ-loop
 sub-i c = omega arith
 
--- src/inner/tables.rt:34:23
 mul-quantify-name : tie.Need-mul-quantify-name Inv-loop μ-loop
 mul-quantify-name c = omega arith
 
--- src/inner/tables.rt:34:23
 shared-slice-read-quantify-name : tie.Need-shared-slice-read-quantify-name Inv-loop μ-loop
 shared-slice-read-quantify-name c = omega arith
 
--- src/inner/tables.rt:34:33
 cast-quantify-name : tie.Need-cast-quantify-name Inv-loop μ-loop
 cast-quantify-name c = omega arith
 
--- src/inner/tables.rt:34:9
 quantify-name-requires : tie.Need-quantify-name-requires Inv-loop μ-loop
 quantify-name-requires c κs = let i = c .before .before .before .before .loop .i in c .before .before .before .before .before .before .before .before .pre .1 (i - 1) (omega arith)
 
--- src/inner/tables.rt:32:5
 loop-less : tie.Need-loop-less Inv-loop μ-loop
 loop-less c = omega arith
 
--- src/inner/tables.rt:32:5
 loop-again : tie.Need-loop-again Inv-loop μ-loop
 loop-again c =
     let l = c .before .before .before .before .before .before .before .before .before .loop in
@@ -51,15 +43,12 @@ loop-again c =
     let n = c .before .before .before .before .before .before .before .before .before .before .before .before .before .args .names .now in
     (omega arith, (quant-places n (l .i) (l .i - 1) (omega arith) (omega arith) _ _ _ (l .inv .1 .0) (q .ensures .0), quant-types n (l .i) (l .i - 1) (omega arith) (omega arith) _ _ _ (l .inv .1 .1) (q .ensures .1)))
 
--- src/inner/tables.rt:26:1
 same-length : tie.Need-same-length Inv-loop μ-loop
 same-length c = let l = c .before .loop in ap length (l .inv .1 .0) ∙ quant-places-long _ _
 
--- src/inner/tables.rt:26:1
 same-length-2 : tie.Need-same-length-2 Inv-loop μ-loop
 same-length-2 c = let l = c .before .loop in ap length (l .inv .1 .1) ∙ quant-types-long (l .i) _ _
 
--- src/inner/tables.rt:26:1
 returns : tie.Need-returns Inv-loop μ-loop
 returns c =
     let l = c .before .loop in

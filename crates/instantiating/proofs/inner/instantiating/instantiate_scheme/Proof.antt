@@ -10,40 +10,32 @@ use Rattle.instantiating.proofs.inner.instantiating.instantiate_scheme.
 }
 use Rattle.instantiating.proofs.inner.instantiating.instantiate_scheme.Tie as tie
 
--- src/inner/instantiating.rt:51:11
 view-at-requires : tie.Need-view-at-requires
 view-at-requires c κs = search needs
 
--- src/inner/instantiating.rt:52:22
 enum-known-n : tie.Need-enum-known-n
 enum-known-n c = search needs
 
--- src/inner/instantiating.rt:53:16
 cast-if1 : tie.Need-cast-if1
 cast-if1 c = search needs
 
--- src/inner/instantiating.rt:54:17
 put-back-requires : tie.Need-put-back-requires
 put-back-requires c κs =
     let (sc, y) = c .before .before .before .before .before .before .before .before .before .before .before .pre in
     let k = counts _ _ _ _ _ sc y _ (sym (c .before .before .before .before .before .view-at .ensures) ∙ c .before .before .before .n .given .1) in
     (_, (_, y .rest _ _ _ (k .is) (c .before .if1 .taken)))
 
--- src/inner/instantiating.rt:41:1
 same-length : tie.Need-same-length
 same-length c = search needs
 
--- src/inner/instantiating.rt:41:1
 returns : tie.Need-returns
 returns c = λ sc y.
     let k = counts _ _ _ _ _ sc y _ (sym (c .before .before .before .before .before .before .before .before .view-at .ensures) ∙ c .before .before .before .before .before .before .n .given .1) in
     right-count _ _ _ _ _ sc y _ k _ _ (c .before .before .before .before .if1 .taken) (c .before .before .put-back .ensures _ _ (y .rest _ _ _ (k .is) (c .before .before .before .before .if1 .taken)))
 
--- src/inner/instantiating.rt:41:1
 returns-2 : tie.Need-returns-2
 returns-2 c = λ sc y. wrong-count _ _ _ _ _ sc y _ (counts _ _ _ _ _ sc y _ (sym (c .before .before .before .before .view-at .ensures) ∙ c .before .before .n .given .1)) _ (c .if1 .left)
 
--- src/inner/instantiating.rt:41:1
 returns-3 : tie.Need-returns-3
 returns-3 c = λ sc y. other-refused _ _ _ _ _ sc y _ (λ n v. untagged (c .before .view-at .result) (0 ∷ 1 ∷ 2 ∷ 3 ∷ 4 ∷ 5 ∷ 6 ∷ 7 ∷ 8 ∷ 9 ∷ 10 ∷ 11 ∷ 12 ∷ 13 ∷ 15 ∷ 16 ∷ []) 14 tt (c .match .keys2) (view.Scheme n) refl (c .before .view-at .ensures ∙ v))
 

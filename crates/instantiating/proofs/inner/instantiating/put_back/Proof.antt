@@ -62,66 +62,51 @@ twice c t bs y =
     let k = f .before .before .before .before .before .before .before .before .before in
     came _ _ _ _ (c .out .given .1) (c .before .before .before .before .replace-type2 .ensures _ _ (again f t bs y) (owns k t bs y))
 
--- src/inner/instantiating.rt:28:27
 slice-aggregate-put-names-back : tie.Need-slice-aggregate-put-names-back
 slice-aggregate-put-names-back c = search needs
 
--- src/inner/instantiating.rt:28:5
 put-names-back-requires : tie.Need-put-names-back-requires
 put-names-back-requires c κs = let (t, (bs, y)) = c .before .before .before .before .before .before .pre in (y .names-few, λ i h. let k = y .names-held _ (at-in _ i h) in let f = good-laid (y .good) .few in omega arith)
 
--- src/inner/instantiating.rt:29:16
 count-requires : tie.Need-count-requires
 count-requires c κs = search needs
 
--- src/inner/instantiating.rt:29:30
 slice-aggregate-keep-names : tie.Need-slice-aggregate-keep-names
 slice-aggregate-keep-names c = search needs
 
--- src/inner/instantiating.rt:29:40
 slice-aggregate-keep-names-2 : tie.Need-slice-aggregate-keep-names-2
 slice-aggregate-keep-names-2 c = search needs
 
--- src/inner/instantiating.rt:29:5
 keep-names-requires : tie.Need-keep-names-requires
 keep-names-requires c κs = let (t, (bs, y)) = c .before .before .before .before .before .before .before .before .before .before .before .pre in let f = good-laid (y .good) .few in let e = c .before .before .count .ensures in omega arith
 
--- src/inner/instantiating.rt:31:43
 slice-aggregate-replace-type : tie.Need-slice-aggregate-replace-type
 slice-aggregate-replace-type c = search needs
 
--- src/inner/instantiating.rt:31:52
 slice-aggregate-replace-type-2 : tie.Need-slice-aggregate-replace-type-2
 slice-aggregate-replace-type-2 c = search needs
 
--- src/inner/instantiating.rt:31:56
 slice-aggregate-replace-type-3 : tie.Need-slice-aggregate-replace-type-3
 slice-aggregate-replace-type-3 c = search needs
 
--- src/inner/instantiating.rt:31:11
 replace-type-requires : tie.Need-replace-type-requires
 replace-type-requires c κs =
     let k = (c .before .before .before .before .before) in
     let (t, (bs, y)) = k .before .before .before .before .before .before .before .before .before .before .before .before .pre in
     (y .good, ((t, y .type), ((_, backs k t bs y), record { near = omega (arith, y .short); small = omega (arith, y .short) })))
 
--- src/inner/instantiating.rt:32:18
 enum-known-at : tie.Need-enum-known-at
 enum-known-at c = search needs
 
--- src/inner/instantiating.rt:32:60
 slice-aggregate-replace-type-4 : tie.Need-slice-aggregate-replace-type-4
 slice-aggregate-replace-type-4 c = search needs
 
--- src/inner/instantiating.rt:32:71
 slice-aggregate-replace-type-5 : tie.Need-slice-aggregate-replace-type-5
 slice-aggregate-replace-type-5 c = search needs
 
--- src/inner/instantiating.rt:32:77
 slice-aggregate-replace-type-6 : tie.Need-slice-aggregate-replace-type-6
 slice-aggregate-replace-type-6 c = search needs
 
--- src/inner/instantiating.rt:32:34
 replace-type-requires-2 : tie.Need-replace-type-requires-2
 replace-type-requires-2 c κs =
     let f = (c .before .before .before .before .before) in
@@ -131,19 +116,15 @@ replace-type-requires-2 c κs =
     let m = length-replicate {A = ℕ} 8192 0 in
     (y .good, ((_, again f t bs y), ((_, owns k t bs y), record { near = omega (arith, l, m); small = omega (arith, l, m) })))
 
--- src/inner/instantiating.rt:33:25
 enum-known-out : tie.Need-enum-known-out
 enum-known-out c = search needs
 
--- src/inner/instantiating.rt:33:67
 slice-aggregate-put-bounds : tie.Need-slice-aggregate-put-bounds
 slice-aggregate-put-bounds c = sym (c .before .before .before .before .before .before .before .before .before .before .before .before .before .before .before .before .before .before .before .before .before .before .before .before .before .before .put-names-back .kept .1 .0)
 
--- src/inner/instantiating.rt:33:76
 slice-aggregate-put-bounds-2 : tie.Need-slice-aggregate-put-bounds-2
 slice-aggregate-put-bounds-2 c = search needs
 
--- src/inner/instantiating.rt:33:49
 put-bounds-requires : tie.Need-put-bounds-requires
 put-bounds-requires c κs =
     let o = (c .before .before .before .before) in
@@ -154,19 +135,15 @@ put-bounds-requires c κs =
     let m = few-out _ _ _ _ _ t bs y _ _ _ _ _ long n _ _ _ _ (twice o t bs y) in
     ((bs, place f t bs y), ((back (now (k .before .before .before .before .before .before .before .before .before .before .before .before .args .names)), backs k t bs y .tabled), (y .short, (omega (arith, n .next, y .inside), omega (arith, m, y .short)))))
 
--- src/inner/instantiating.rt:34:24
 enum-known-k : tie.Need-enum-known-k
 enum-known-k c = search needs
 
--- src/inner/instantiating.rt:36:20
 enum-known-k-2 : tie.Need-enum-known-k-2
 enum-known-k-2 c = search needs
 
--- src/inner/instantiating.rt:21:1
 same-length : tie.Need-same-length
 same-length c = search needs
 
--- src/inner/instantiating.rt:21:1
 returns : tie.Need-returns
 returns c = λ t bs y.
     let o = (c .before .before .before .before .before .before .before) in
@@ -176,11 +153,9 @@ returns c = λ t bs y.
     all-made _ _ _ _ _ t bs y _ _ _ _ _ long (once f t bs y) _ _ _ _ (twice o t bs y) _ _
     (c .before .before .put-bounds .ensures bs (back names) (place f t bs y) (backs k t bs y .tabled))
 
--- src/inner/instantiating.rt:21:1
 same-length-2 : tie.Need-same-length-2
 same-length-2 c = search needs
 
--- src/inner/instantiating.rt:21:1
 returns-2 : tie.Need-returns-2
 returns-2 c = λ t bs y.
     let f = (c .before .before .before .before .before .before .before .before .before .before .before) in
@@ -188,7 +163,6 @@ returns-2 c = λ t bs y.
     second-stopped _ _ _ _ _ t bs y _ _ _ _ _ long (once f t bs y) _ _
     (stopped _ _ _ _ (c .before .k .given .1) (c .before .before .before .before .before .replace-type2 .ensures _ _ (again f t bs y) (owns k t bs y)))
 
--- src/inner/instantiating.rt:21:1
 returns-3 : tie.Need-returns-3
 returns-3 c = λ t bs y.
     let k = (c .before .before .before .before .before .before .before .before .before .before) in

@@ -27,28 +27,23 @@ field-at-below t =
 abbrev A : ℕ → field-at-lts.Claims
 A t = (view-at-reads.Asked, view-at-reads.Learnt, end-of-reads.Asked, end-of-reads.Learnt, field-at-below t, field-at.Post)
 
--- src/inner/truth.rt:101:9
 field-at-returns : (t : ℕ) → field-at-lts.Need-returns (A t) (field-at-at t) field-at.Post
 field-at-returns t c =
     let a = c .before .before .args in
     sought-none (a .s .now) (a .at) (a .n) (a .x) (c .if1 .taken)
 
--- src/inner/truth.rt:103:26
 field-at-view-at-requires : (t : ℕ) → field-at-lts.Need-view-at-requires (A t) (field-at-at t) field-at.Post
 field-at-view-at-requires t c κs = tt
 
--- src/inner/truth.rt:103:21
 field-at-enum-known-y : (t : ℕ) → field-at-lts.Need-enum-known-y (A t) (field-at-at t) field-at.Post
 field-at-enum-known-y t c = search needs
 
--- src/inner/truth.rt:104:9
 field-at-returns-2 : (t : ℕ) → field-at-lts.Need-returns-2 (A t) (field-at-at t) field-at.Post
 field-at-returns-2 t c =
     let v = c .before in
     let a = v .before .before .before .args in
     sought-unsaid (a .s .now) (a .at) (a .n) (a .x) (v .before .if1 .left) (v .view-at .ensures) (c .match .keys2)
 
--- src/inner/truth.rt:107:26
 field-at-add-t8 : (t : ℕ) → field-at-lts.Need-add-t8 (A t) (field-at-at t) field-at.Post
 field-at-add-t8 t c =
     let e = c .before .before .before .before .before in
@@ -56,14 +51,12 @@ field-at-add-t8 t c =
     let h = field-type (S .args .s .now) (S .args .at) (S .args .n) (S .args .x) (e .if1 .left) (S .pre .1) in
     omega (arith, in-reach (S .args .s .now) (h .0) (S .args .at + 1) (h .1))
 
--- src/inner/truth.rt:107:9
 field-at-returns-3 : (t : ℕ) → field-at-lts.Need-returns-3 (A t) (field-at-at t) field-at.Post
 field-at-returns-3 t c =
     let v = c .before .before .before .before in
     let a = v .before .before .before .args in
     sought-hit (a .s .now) (a .at) (a .n) (a .x) (v .before .if1 .left) (v .view-at .ensures) (c .before .before .y .given .1) (c .if2 .taken)
 
--- src/inner/truth.rt:109:27
 field-at-add-end-of : (t : ℕ) → field-at-lts.Need-add-end-of (A t) (field-at-at t) field-at.Post
 field-at-add-end-of t c =
     let e = c .before .before .before .before .before in
@@ -71,25 +64,21 @@ field-at-add-end-of t c =
     let h = field-type (S .args .s .now) (S .args .at) (S .args .n) (S .args .x) (e .if1 .left) (S .pre .1) in
     omega (arith, in-reach (S .args .s .now) (h .0) (S .args .at + 1) (h .1))
 
--- src/inner/truth.rt:109:17
 field-at-end-of-requires : (t : ℕ) → field-at-lts.Need-end-of-requires (A t) (field-at-at t) field-at.Post
 field-at-end-of-requires t c κs =
     let e = c .before .before .before .before .before in
     let S = e .before .before in
     field-type (S .args .s .now) (S .args .at) (S .args .n) (S .args .x) (e .if1 .left) (S .pre .1)
 
--- src/inner/truth.rt:109:36
 field-at-sub-field-at : (t : ℕ) → field-at-lts.Need-sub-field-at (A t) (field-at-at t) field-at.Post
 field-at-sub-field-at t c = omega arith
 
--- src/inner/truth.rt:109:5
 field-at-field-at-requires : (t : ℕ) → field-at-lts.Need-field-at-requires (A t) (field-at-at t) field-at.Post
 field-at-field-at-requires t c κs =
     let e = c .before .before .before .before .before .before in
     let S = e .before .before in
     (omega (arith, S .pre .0), field-next (S .args .s .now) (S .args .at) (S .args .n) (S .args .x) (c .end-of .result) (e .if1 .left) (c .end-of .ensures) (S .pre .1))
 
--- src/inner/truth.rt:96:1
 field-at-returns-4 : (t : ℕ) → field-at-lts.Need-returns-4 (A t) (field-at-at t) field-at.Post
 field-at-returns-4 t c =
     let f = c .before in

@@ -24,30 +24,25 @@ past-below t = and 1 past-kinds.ps (falls 1 past-kinds.ps _<_ μ-past t) past.Pr
 abbrev A : ℕ → past-lts.Claims
 A t = (end-of-reads.Asked, end-of-reads.Learnt, past-below t, past.Post)
 
--- src/inner/truth.rt:90:9
 past-returns : (t : ℕ) → past-lts.Need-returns (A t) (past-at t) past.Post
 past-returns t c =
     let a = c .before .before .args in
     past-done (a .s .now) (a .at) (a .n) (c .if1 .taken)
 
--- src/inner/truth.rt:92:13
 past-end-of-requires : (t : ℕ) → past-lts.Need-end-of-requires (A t) (past-at t) past.Post
 past-end-of-requires t c κs =
     let S = c .before .before in
     row-head (S .args .s .now) (S .args .at) (S .args .n) (c .if1 .left) (S .pre .1)
 
--- src/inner/truth.rt:92:28
 past-sub-past : (t : ℕ) → past-lts.Need-sub-past (A t) (past-at t) past.Post
 past-sub-past t c = omega arith
 
--- src/inner/truth.rt:92:5
 past-past-requires : (t : ℕ) → past-lts.Need-past-requires (A t) (past-at t) past.Post
 past-past-requires t c κs =
     let S = c .before .before .before in
     let x = row-next (S .args .s .now) (S .args .at) (S .args .n) (c .before .if1 .left) (c .end-of .result) (c .end-of .ensures) (S .pre .1) in
     (omega (arith, S .pre .0), x .0)
 
--- src/inner/truth.rt:85:1
 past-returns-2 : (t : ℕ) → past-lts.Need-returns-2 (A t) (past-at t) past.Post
 past-returns-2 t c =
     let e = c .before in

@@ -11,19 +11,15 @@ use borrow.Author.Needs.{needs}
 use Rattle.meaning.proofs.inner.truth.among_bounds.Statement.{statement}
 use Rattle.meaning.proofs.inner.truth.among_bounds.Tie as tie
 
--- src/inner/truth.rt:57:18
 end-of-requires : tie.Need-end-of-requires
 end-of-requires c κs = search needs
 
--- src/inner/truth.rt:57:5
 marks-requires : tie.Need-marks-requires
 marks-requires c κs = search needs
 
--- src/inner/truth.rt:58:5
 is-within-requires : tie.Need-is-within-requires
 is-within-requires c κs = (c .before .marks .ensures [] marks-none .long, c .before .before .before .before .before .pre .1)
 
--- src/inner/truth.rt:51:1
 returns : tie.Need-returns
 returns c =
     let d = c .before .before in

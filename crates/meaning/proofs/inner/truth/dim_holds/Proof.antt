@@ -4,41 +4,33 @@ use borrow.Author.Needs.{needs}
 use Rattle.meaning.proofs.inner.truth.dim_holds.Statement.{statement}
 use Rattle.meaning.proofs.inner.truth.dim_holds.Tie as tie
 
--- src/inner/truth.rt:67:11
 view-at-requires : tie.Need-view-at-requires
 view-at-requires c κs = search needs
 
--- src/inner/truth.rt:68:28
 enum-told : tie.Need-enum-told
 enum-told c = search needs
 
--- src/inner/truth.rt:68:28
 among-bounds-requires : tie.Need-among-bounds-requires
 among-bounds-requires c κs = search needs
 
--- src/inner/truth.rt:69:25
 enum-told-2 : tie.Need-enum-told-2
 enum-told-2 c = search needs
 
--- src/inner/truth.rt:69:25
 among-bounds-requires-2 : tie.Need-among-bounds-requires-2
 among-bounds-requires-2 c κs = search needs
 
--- src/inner/truth.rt:62:1
 returns : tie.Need-returns
 returns c =
     let v = c .before .before .before in
     let a = v .before .before .args in
     open-among (a .s .now) (a .at) (v .view-at .ensures) (a .bounds .now) (c .among-bounds .result) (c .before .enum-told .given .1) (c .among-bounds .ensures)
 
--- src/inner/truth.rt:62:1
 returns-2 : tie.Need-returns-2
 returns-2 c =
     let v = c .before .before .before in
     let a = v .before .before .args in
     dim-among (a .s .now) (a .at) (v .view-at .ensures) (a .bounds .now) (c .among-bounds2 .result) (c .before .enum-told2 .given .1) (c .among-bounds2 .ensures)
 
--- src/inner/truth.rt:62:1
 returns-3 : tie.Need-returns-3
 returns-3 c =
     let v = c .before in

@@ -6,29 +6,24 @@ use borrow.Author.Needs.{needs}
 use Rattle.meaning.proofs.inner.truth.field_holds.Statement.{statement}
 use Rattle.meaning.proofs.inner.truth.field_holds.Tie as tie
 
--- src/inner/truth.rt:117:33
 view-at-requires : tie.Need-view-at-requires
 view-at-requires c κs = search needs
 
--- src/inner/truth.rt:117:25
 enum-known-n : tie.Need-enum-known-n
 enum-known-n c = search needs
 
--- src/inner/truth.rt:118:9
 returns : tie.Need-returns
 returns c =
     let v = c .before in
     let a = v .before .before .args in
     field-unsaid (a .s .now) (a .at) (a .x) (v .view-at .ensures) (c .match .keys2)
 
--- src/inner/truth.rt:120:44
 add-past : tie.Need-add-past
 add-past c =
     let S = c .before .before .before .before .before in
     let h = first (S .args .s .now) (S .args .at) (S .pre) in
     omega (arith, in-reach (S .args .s .now) (h .0) (S .args .at) (h .1))
 
--- src/inner/truth.rt:120:36
 past-requires : tie.Need-past-requires
 past-requires c κs =
     let v = c .before .before .before in
@@ -36,7 +31,6 @@ past-requires c κs =
     let a = S .args in
     struct-row (a .s .now) (a .at) (a .x) (v .view-at .ensures) (c .before .n .given .1) (S .pre)
 
--- src/inner/truth.rt:120:24
 field-at-requires : tie.Need-field-at-requires
 field-at-requires c κs =
     let n = c .before .before in
@@ -45,15 +39,12 @@ field-at-requires c κs =
     let a = S .args in
     struct-fields (a .s .now) (a .at) (a .x) (v .view-at .ensures) (n .n .given .1) (S .pre) (c .past .result) (c .past .ensures)
 
--- src/inner/truth.rt:120:19
 enum-known-i : tie.Need-enum-known-i
 enum-known-i c = search needs
 
--- src/inner/truth.rt:121:9
 enum-told : tie.Need-enum-told
 enum-told c = search needs
 
--- src/inner/truth.rt:121:9
 returns-2 : tie.Need-returns-2
 returns-2 c =
     let f = c .before .before in
@@ -62,11 +53,9 @@ returns-2 c =
     let a = v .before .before .args in
     field-nowhere (a .s .now) (a .at) (a .x) (v .view-at .ensures) (n .n .given .1) (f .before .past .result) (f .before .past .ensures) (f .field-at .result) (f .field-at .ensures) (c .enum-told .given .1)
 
--- src/inner/truth.rt:123:20
 end-of-requires : tie.Need-end-of-requires
 end-of-requires c κs = search needs
 
--- src/inner/truth.rt:123:5
 means-requires : tie.Need-means-requires
 means-requires c κs =
     let i = c .before .before in
@@ -79,7 +68,6 @@ means-requires c κs =
       second (a .s .now) (a .at) (c .end-of .result) (c .end-of .ensures) (S .pre),
     )
 
--- src/inner/truth.rt:113:1
 returns-3 : tie.Need-returns-3
 returns-3 c =
     let e = c .before in

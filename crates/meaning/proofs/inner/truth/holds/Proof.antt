@@ -6,27 +6,22 @@ use borrow.Author.Needs.{needs}
 use Rattle.meaning.proofs.inner.truth.holds.Statement.{statement}
 use Rattle.meaning.proofs.inner.truth.holds.Tie as tie
 
--- src/inner/truth.rt:132:11
 view-at-requires : tie.Need-view-at-requires
 view-at-requires c κs = search needs
 
--- src/inner/truth.rt:133:33
 enum-told : tie.Need-enum-told
 enum-told c = search needs
 
--- src/inner/truth.rt:133:33
 add-means : tie.Need-add-means
 add-means c =
     let S = c .before .before .before .before in
     omega (arith, con-reach (S .args .s .now) (S .pre .0 .0) (S .args .at) (S .pre .0 .1))
 
--- src/inner/truth.rt:133:54
 add-end-of : tie.Need-add-end-of
 add-end-of c =
     let S = c .before .before .before .before in
     omega (arith, con-reach (S .args .s .now) (S .pre .0 .0) (S .args .at) (S .pre .0 .1))
 
--- src/inner/truth.rt:133:44
 end-of-requires : tie.Need-end-of-requires
 end-of-requires c κs =
     let v = c .before .before in
@@ -34,7 +29,6 @@ end-of-requires c κs =
     let a = S .args in
     first (a .s .now) (a .at + 1) (equal-asks (a .s .now) (a .at) (v .view-at .ensures) (c .enum-told .given .1) (S .pre .0))
 
--- src/inner/truth.rt:133:24
 means-requires : tie.Need-means-requires
 means-requires c κs =
     let v = c .before .before .before in
@@ -43,17 +37,14 @@ means-requires c κs =
     let two = equal-asks (a .s .now) (a .at) (v .view-at .ensures) (c .before .enum-told .given .1) (S .pre .0) in
     (first (a .s .now) (a .at + 1) two, second (a .s .now) (a .at + 1) (c .end-of .result) (c .end-of .ensures) two)
 
--- src/inner/truth.rt:134:37
 enum-told-2 : tie.Need-enum-told-2
 enum-told-2 c = search needs
 
--- src/inner/truth.rt:134:37
 add-dim-holds : tie.Need-add-dim-holds
 add-dim-holds c =
     let S = c .before .before .before .before in
     omega (arith, con-reach (S .args .s .now) (S .pre .0 .0) (S .args .at) (S .pre .0 .1))
 
--- src/inner/truth.rt:134:24
 dim-holds-requires : tie.Need-dim-holds-requires
 dim-holds-requires c κs =
     let v = c .before .before in
@@ -61,31 +52,25 @@ dim-holds-requires c κs =
     let a = S .args in
     (dim-asks (a .s .now) (a .at) (v .view-at .ensures) (c .enum-told2 .given .1) (S .pre .0), S .pre .1)
 
--- src/inner/truth.rt:135:43
 enum-told-3 : tie.Need-enum-told-3
 enum-told-3 c = search needs
 
--- src/inner/truth.rt:135:43
 add-scalar-holds : tie.Need-add-scalar-holds
 add-scalar-holds c =
     let S = c .before .before .before .before in
     omega (arith, con-reach (S .args .s .now) (S .pre .0 .0) (S .args .at) (S .pre .0 .1))
 
--- src/inner/truth.rt:135:27
 scalar-holds-requires : tie.Need-scalar-holds-requires
 scalar-holds-requires c κs = search needs
 
--- src/inner/truth.rt:136:24
 enum-known-x : tie.Need-enum-known-x
 enum-known-x c = search needs
 
--- src/inner/truth.rt:136:45
 add-field-holds : tie.Need-add-field-holds
 add-field-holds c =
     let S = c .before .before .before .before .before in
     omega (arith, con-reach (S .args .s .now) (S .pre .0 .0) (S .args .at) (S .pre .0 .1))
 
--- src/inner/truth.rt:136:30
 field-holds-requires : tie.Need-field-holds-requires
 field-holds-requires c κs =
     let v = c .before .before .before in
@@ -93,7 +78,6 @@ field-holds-requires c κs =
     let a = S .args in
     has-field-asks (a .s .now) (a .at) (v .view-at .ensures) (c .before .x .given .1) (S .pre .0)
 
--- src/inner/truth.rt:127:1
 returns : tie.Need-returns
 returns c =
     let e = c .before in
@@ -101,28 +85,24 @@ returns c =
     let a = v .before .before .args in
     equal-true (a .s .now) (a .at) (v .view-at .ensures) (a .bounds .now) (c .means .result) (e .end-of .result) (e .before .enum-told .given .1) (e .end-of .ensures) (c .means .ensures)
 
--- src/inner/truth.rt:127:1
 returns-2 : tie.Need-returns-2
 returns-2 c =
     let v = c .before .before .before in
     let a = v .before .before .args in
     dim-true (a .s .now) (a .at) (v .view-at .ensures) (a .bounds .now) (c .dim-holds .result) (c .before .enum-told2 .given .1) (c .dim-holds .ensures)
 
--- src/inner/truth.rt:127:1
 returns-3 : tie.Need-returns-3
 returns-3 c =
     let v = c .before .before .before in
     let a = v .before .before .args in
     scalar-true (a .s .now) (a .at) (v .view-at .ensures) (a .bounds .now) (c .scalar-holds .result) (c .before .enum-told3 .given .1) (c .scalar-holds .ensures)
 
--- src/inner/truth.rt:127:1
 returns-4 : tie.Need-returns-4
 returns-4 c =
     let v = c .before .before .before .before in
     let a = v .before .before .args in
     field-true (a .s .now) (a .at) (v .view-at .ensures) (a .bounds .now) (c .field-holds .result) (c .before .before .x .given .1) (c .field-holds .ensures)
 
--- src/inner/truth.rt:127:1
 returns-5 : tie.Need-returns-5
 returns-5 c =
     let v = c .before in

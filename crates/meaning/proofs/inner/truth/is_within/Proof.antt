@@ -14,44 +14,35 @@ Inv-loop v b i₀ i = (i ≤ 256) × Within v b i
 abbrev μ-loop : tie.MeasureT-loop
 μ-loop v b i₀ i = 256 - i
 
--- src/inner/truth.rt:41:5
 loop-holds : tie.Need-loop-holds Inv-loop μ-loop
 loop-holds c = (omega arith, λ x l e. absurd (omega arith))
 
--- src/inner/truth.rt:42:17
 element-copy-out-only : tie.Need-element-copy-out-only Inv-loop μ-loop
 element-copy-out-only c = omega arith
 
--- src/inner/truth.rt:42:23
 element-copy-out-only-2 : tie.Need-element-copy-out-only-2 Inv-loop μ-loop
 element-copy-out-only-2 c = omega arith
 
--- src/inner/truth.rt:42:12
 only-requires : tie.Need-only-requires Inv-loop μ-loop
 only-requires c κs = tt
 
--- src/inner/truth.rt:43:13
 returns : tie.Need-returns Inv-loop μ-loop
 returns c =
     let l = c .before .before .before .before .before in
     λ w. only-hit _ _ (sym (c .before .only .ensures) ∙ c .if1 .taken) (w (l .loop .i) (omega arith))
 
--- src/inner/truth.rt:45:9
 add-i : tie.Need-add-i Inv-loop μ-loop
 add-i c = omega arith
 
--- src/inner/truth.rt:41:5
 loop-less : tie.Need-loop-less Inv-loop μ-loop
 loop-less c = omega arith
 
--- src/inner/truth.rt:41:5
 loop-again : tie.Need-loop-again Inv-loop μ-loop
 loop-again c =
     let l = c .before .before .before .before .before in
     let a = l .before .args in
     (omega arith, within-on (now (a .v)) (now (a .b)) (l .loop .i) (l .loop .inv .1) (only-miss _ _ (sym (c .before .only .ensures) ∙ c .if1 .left)))
 
--- src/inner/truth.rt:35:1
 returns-2 : tie.Need-returns-2 Inv-loop μ-loop
 returns-2 c = λ x l e. c .before .loop .inv .1 x (omega arith) e
 

@@ -2,11 +2,9 @@
 use Rattle.meaning.proofs.inner.truth.only.Statement.{statement}
 use Rattle.meaning.proofs.inner.truth.only.Tie as tie
 
--- src/inner/truth.rt:28:1
 returns : tie.Need-returns
 returns c = rw (c .if1 .taken)
 
--- src/inner/truth.rt:28:1
 returns-2 : tie.Need-returns-2
 returns-2 c = rw (c .if1 .left)
 

@@ -4,22 +4,18 @@ use borrow.Author.Needs.{needs}
 use Rattle.meaning.proofs.inner.truth.scalar_holds.Statement.{statement}
 use Rattle.meaning.proofs.inner.truth.scalar_holds.Tie as tie
 
--- src/inner/truth.rt:78:11
 view-at-requires : tie.Need-view-at-requires
 view-at-requires c κs = search needs
 
--- src/inner/truth.rt:79:19
 enum-known-n : tie.Need-enum-known-n
 enum-known-n c = search needs
 
--- src/inner/truth.rt:75:1
 returns : tie.Need-returns
 returns c =
     let v = c .before .before .before in
     let a = v .before .before .args in
     scalar-read (a .s .now) (a .at) (v .view-at .ensures) (c .before .n .given .1)
 
--- src/inner/truth.rt:75:1
 returns-2 : tie.Need-returns-2
 returns-2 c =
     let v = c .before in

@@ -11,19 +11,15 @@ use borrow.Author.Needs.{needs}
 use Rattle.replacing.proofs.inner.dims.just.Statement.{statement}
 use Rattle.replacing.proofs.inner.dims.just.Tie as tie
 
--- src/inner/dims.rt:50:9
 scalar-requires : tie.Need-scalar-requires
 scalar-requires c κs = search needs
 
--- src/inner/dims.rt:50:28
 free-factor-requires : tie.Need-free-factor-requires
 free-factor-requires c κs = search needs
 
--- src/inner/dims.rt:50:5
 put-requires : tie.Need-put-requires
 put-requires c κs = omega (arith, given-len (c .before .scalar .result) [] (c .before .scalar .ensures))
 
--- src/inner/dims.rt:47:1
 returns : tie.Need-returns
 returns c = ap given (c .put .ensures) ∙ put-given (c .before .before .scalar .result) (c .before .free-factor .result) [] (free (openOf (c .before .before .before .args .o)) ↑ one) (c .before .before .scalar .ensures) (c .before .free-factor .ensures)
 

@@ -3,7 +3,6 @@ use Rattle.replacing.specs.InProducts.{fine-told}
 use Rattle.replacing.proofs.inner.dims.made.Statement.{statement}
 use Rattle.replacing.proofs.inner.dims.made.Tie as tie
 
--- src/inner/dims.rt:53:1
 returns : tie.Need-returns
 returns c = λ t h. fine-told (c .args .product) t h
 

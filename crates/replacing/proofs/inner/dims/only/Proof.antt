@@ -9,15 +9,12 @@ use borrow.Author.Needs.{needs}
 use Rattle.replacing.proofs.inner.dims.only.Statement.{statement}
 use Rattle.replacing.proofs.inner.dims.only.Tie as tie
 
--- src/inner/dims.rt:43:9
 scalar-requires : tie.Need-scalar-requires
 scalar-requires c κs = search needs
 
--- src/inner/dims.rt:43:5
 put-requires : tie.Need-put-requires
 put-requires c κs = omega (arith, given-len (c .scalar .result) [] (c .scalar .ensures))
 
--- src/inner/dims.rt:39:1
 returns : tie.Need-returns
 returns c = ap given (c .put .ensures) ∙ put-given (c .before .scalar .result) (c .before .before .args .f) [] (treeOf (c .before .before .args .f)) (c .before .scalar .ensures) (value-back (c .before .before .args .f) (c .before .before .pre))
 

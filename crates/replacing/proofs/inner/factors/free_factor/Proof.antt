@@ -9,29 +9,23 @@ use borrow.Author.Needs.{needs}
 use Rattle.replacing.proofs.inner.factors.free_factor.Statement.{statement}
 use Rattle.replacing.proofs.inner.factors.free_factor.Tie as tie
 
--- src/inner/factors.rt:30:19
 enum-known-o : tie.Need-enum-known-o
 enum-known-o c = search needs
 
--- src/inner/factors.rt:35:21
 enum-known-o-2 : tie.Need-enum-known-o-2
 enum-known-o-2 c = search needs
 
--- src/inner/factors.rt:40:19
 enum-known-o-3 : tie.Need-enum-known-o-3
 enum-known-o-3 c = search needs
 
--- src/inner/factors.rt:26:1
 returns : tie.Need-returns
 unfolding valueOf kindOf numberIn
 returns c = ap (λ (o : Open). valueOf (free (openOf o) ↑ expOf (c .before .before .before .args .exp))) (sym (c .before .o .given .1))
 
--- src/inner/factors.rt:26:1
 returns-2 : tie.Need-returns-2
 unfolding valueOf kindOf numberIn
 returns-2 c = ap (λ (o : Open). valueOf (free (openOf o) ↑ expOf (c .before .before .before .args .exp))) (sym (c .before .o2 .given .1))
 
--- src/inner/factors.rt:26:1
 returns-3 : tie.Need-returns-3
 unfolding valueOf kindOf numberIn
 returns-3 c = ap (λ (o : Open). valueOf (free (openOf o) ↑ expOf (c .before .before .before .args .exp))) (sym (c .before .o3 .given .1))

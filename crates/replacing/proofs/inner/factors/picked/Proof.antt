@@ -3,15 +3,12 @@ use borrow.Author.Needs.{needs}
 use Rattle.replacing.proofs.inner.factors.picked.Statement.{statement}
 use Rattle.replacing.proofs.inner.factors.picked.Tie as tie
 
--- src/inner/factors.rt:91:18
 single-requires : tie.Need-single-requires
 single-requires c κs = search needs
 
--- src/inner/factors.rt:87:1
 returns : tie.Need-returns
 returns c = rw (c .before .if1 .taken) (c .single .ensures)
 
--- src/inner/factors.rt:87:1
 returns-2 : tie.Need-returns-2
 returns-2 c = search needs
 

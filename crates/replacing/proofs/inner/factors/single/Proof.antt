@@ -7,19 +7,15 @@ use borrow.Author.Needs.{needs}
 use Rattle.replacing.proofs.inner.factors.single.Statement.{statement}
 use Rattle.replacing.proofs.inner.factors.single.Tie as tie
 
--- src/inner/factors.rt:79:17
 element-copy-out-f : tie.Need-element-copy-out-f
 element-copy-out-f c = search needs
 
--- src/inner/factors.rt:80:9
 lone-requires : tie.Need-lone-requires
 lone-requires c κs = c .before .before .pre .kind 0 (omega arith)
 
--- src/inner/factors.rt:73:1
 returns : tie.Need-returns
 returns c = c .lone .ensures ∙ ap single (sym (one-factor (c .before .before .before .args .t1) (c .before .before .before .pre) (c .before .before .if1 .taken)))
 
--- src/inner/factors.rt:73:1
 returns-2 : tie.Need-returns-2
 returns-2 c = not-single (c .before .args .t1) (c .before .pre) (c .if1 .left)
 

@@ -5,37 +5,29 @@ use borrow.Author.Needs.{needs}
 use Rattle.replacing.proofs.inner.walk.put_tried.Statement.{statement}
 use Rattle.replacing.proofs.inner.walk.put_tried.Tie as tie
 
--- src/inner/walk.rt:68:26
 enum-known-checked : tie.Need-enum-known-checked
 enum-known-checked c = search needs
 
--- src/inner/walk.rt:70:17
 enum-told : tie.Need-enum-told
 enum-told c = search needs
 
--- src/inner/walk.rt:72:13
 store-requires : tie.Need-store-requires
 store-requires c κs = ((ready-product (c .before .before .before .before .before .args .t) (c .before .before .before .before .before .pre .0 .0) (c .before .before .before .before .before .pre .0 .1) (c .before .before .enum-told .given .1)), c .before .before .before .before .before .pre .1)
 
--- src/inner/walk.rt:73:28
 add-t13 : tie.Need-add-t13
 add-t13 c = search needs
 
--- src/inner/walk.rt:73:28
 add-t14 : tie.Need-add-t14
 add-t14 c =
     let s = (ready-product (c .before .before .before .before .before .before .before .before .args .t) (c .before .before .before .before .before .before .before .before .pre .0 .0) (c .before .before .before .before .before .before .before .before .pre .0 .1) (c .before .before .before .before .before .enum-told .given .1)) in
     omega (arith, s .few)
 
--- src/inner/walk.rt:61:1
 returns : tie.Need-returns
 returns c = λ m h. put-stop (c .before .before .before .before .args .t) m _ h (c .before .checked .given .1)
 
--- src/inner/walk.rt:61:1
 same-length : tie.Need-same-length
 same-length c = search needs
 
--- src/inner/walk.rt:61:1
 returns-2 : tie.Need-returns-2
 returns-2 c = λ m h. put-made (c .before .before .before .before .before .before .before .before .args .t) m h (c .before .before .before .before .before .enum-told .given .1) (c .before .before .store .ensures)
 

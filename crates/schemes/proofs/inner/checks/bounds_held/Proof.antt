@@ -7,19 +7,15 @@ use borrow.Author.Needs.{needs}
 use Rattle.schemes.proofs.inner.checks.bounds_held.Statement.{statement}
 use Rattle.schemes.proofs.inner.checks.bounds_held.Tie as tie
 
--- src/inner/checks.rt:40:9
 returns : tie.Need-returns
 returns c = bounds-broken _ _ _ (c .if1 .taken)
 
--- src/inner/checks.rt:42:8
 bounds-good-requires : tie.Need-bounds-good-requires
 bounds-good-requires c κs = search needs
 
--- src/inner/checks.rt:35:1
 returns-2 : tie.Need-returns-2
 returns-2 c = ap (λ (b : Bool). need b 1) (sym (c .if2 .taken)) ∙ bounds-told _ _ _ (c .before .bounds-good .result) (c .before .before .if1 .left) (c .before .bounds-good .ensures)
 
--- src/inner/checks.rt:35:1
 returns-3 : tie.Need-returns-3
 returns-3 c = ap (λ (b : Bool). need b 1) (sym (c .if2 .left)) ∙ bounds-told _ _ _ (c .before .bounds-good .result) (c .before .before .if1 .left) (c .before .bounds-good .ensures)
 

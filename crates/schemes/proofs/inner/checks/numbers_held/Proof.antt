@@ -16,39 +16,30 @@ Inv-loop table names i₀ i = (i ≤ length names) × (all (λ x. ltb x (getD ta
 abbrev μ-loop : tie.MeasureT-loop
 μ-loop table names i₀ i = length names - i
 
--- src/inner/checks.rt:27:5
 loop-holds : tie.Need-loop-holds Inv-loop μ-loop
 loop-holds c = (omega arith, refl)
 
--- src/inner/checks.rt:28:28
 mul-is-held : tie.Need-mul-is-held Inv-loop μ-loop
 mul-is-held c = omega arith
 
--- src/inner/checks.rt:28:28
 shared-slice-read-is-held : tie.Need-shared-slice-read-is-held Inv-loop μ-loop
 shared-slice-read-is-held c = omega arith
 
--- src/inner/checks.rt:28:13
 is-held-requires : tie.Need-is-held-requires Inv-loop μ-loop
 is-held-requires c κs = search needs
 
--- src/inner/checks.rt:29:13
 returns : tie.Need-returns Inv-loop μ-loop
 returns c = let l = c .before .before .before .before .loop in all-stop _ _ (l .i) (c .before .is-held .result) (c .before .before .before .loop-test .taken) (l .inv .1) (c .before .is-held .ensures) (c .if1 .taken)
 
--- src/inner/checks.rt:31:9
 add-i : tie.Need-add-i Inv-loop μ-loop
 add-i c = omega arith
 
--- src/inner/checks.rt:27:5
 loop-less : tie.Need-loop-less Inv-loop μ-loop
 loop-less c = omega arith
 
--- src/inner/checks.rt:27:5
 loop-again : tie.Need-loop-again Inv-loop μ-loop
 loop-again c = let l = c .before .before .before .before .loop in (omega arith, all-go _ _ (l .i) (c .before .is-held .result) (c .before .before .before .loop-test .taken) (l .inv .1) (c .before .is-held .ensures) (c .if1 .left))
 
--- src/inner/checks.rt:22:1
 returns-2 : tie.Need-returns-2 Inv-loop μ-loop
 returns-2 c = let l = c .before .loop in all-end _ _ (l .i) (c .loop-test .left) (l .inv .1)
 

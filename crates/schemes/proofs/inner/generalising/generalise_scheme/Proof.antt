@@ -8,29 +8,24 @@ use Rattle.replacing.proofs.Others.{untagged}
 use Rattle.schemes.proofs.inner.generalising.generalise_scheme.Statement.{statement}
 use Rattle.schemes.proofs.inner.generalising.generalise_scheme.Tie as tie
 
--- src/inner/generalising.rt:62:26
 view-at-requires : tie.Need-view-at-requires
 view-at-requires c κs = search needs
 
 enum-told : tie.Need-enum-told
 enum-told c = search needs
 
--- src/inner/generalising.rt:64:9
 copy-requires : tie.Need-copy-requires
 copy-requires c κs = search needs
 
--- src/inner/generalising.rt:65:9
 same-length : tie.Need-same-length
 same-length c = search needs
 
--- src/inner/generalising.rt:65:9
 returns : tie.Need-returns
 returns c = λ sc bs g.
     let m = c .before .before .before .before in
     the-scheme _ _ _ _ _ sc bs g
     (λ e. untagged (m .before .view-at .result) (0 ∷ 1 ∷ 2 ∷ 3 ∷ 4 ∷ 5 ∷ 6 ∷ 7 ∷ 8 ∷ 9 ∷ 10 ∷ 11 ∷ 12 ∷ 13 ∷ 14 ∷ 16 ∷ []) 15 tt (m .match .keys2) view.Concrete refl (m .before .view-at .ensures ∙ e)) _ (c .before .before .copy .ensures)
 
--- src/inner/generalising.rt:67:5
 generalise-type-requires : tie.Need-generalise-type-requires
 generalise-type-requires c κs =
     let v = c .before .before .before in
@@ -38,11 +33,9 @@ generalise-type-requires c κs =
     let (t, h) = the-type _ _ _ _ _ sc bs g (sym (v .view-at .ensures) ∙ c .before .enum-told .given .1) in
     (t, (bs, h))
 
--- src/inner/generalising.rt:52:1
 same-length-2 : tie.Need-same-length-2
 same-length-2 c = search needs
 
--- src/inner/generalising.rt:52:1
 returns-2 : tie.Need-returns-2
 returns-2 c = λ sc.
     let y = c .before .before in

@@ -45,48 +45,38 @@ met c e =
     let (sc, (bs, (h, n))) = came-in _ _ _ _ [] _ opensScheme (i .before .if1 .left) (omega arith) (p .0) (entry c ∙ e) in
     (sc, (bs, (h, record { there = scheme-is _ _ _ (word i) sc (n .one); checks = n; work-long = p .1 })))
 
--- src/inner/generalising.rt:83:9
 returns : tie.Need-returns
 returns c = bounds-made _ _ _ _ [] _ _ _ _ (generalise-whole _ _ _ _) _ (c .if1 .taken)
 
--- src/inner/generalising.rt:86:9
 is-scheme-requires : tie.Need-is-scheme-requires
 is-scheme-requires c κs = search needs
 
--- src/inner/generalising.rt:91:9
 slice-aggregate-rest-checked : tie.Need-slice-aggregate-rest-checked
 slice-aggregate-rest-checked c = search needs
 
--- src/inner/generalising.rt:85:11
 rest-checked-requires : tie.Need-rest-checked-requires
 rest-checked-requires c κs = λ e. let q = sym (c .before .is-scheme .ensures) ∙ e in (scheme-table _ _ _ q, scheme-small _ _ _ (word (c .before)) q)
 
--- src/inner/generalising.rt:93:72
 enum-told : tie.Need-enum-told
 enum-told c = search needs
 
--- src/inner/generalising.rt:93:26
 generalise-scheme-requires : tie.Need-generalise-scheme-requires
 generalise-scheme-requires c κs =
     let (sc, (bs, (e, g))) = met (c .before .before .before) (ap toldChecked (c .before .enum-told .given .1)) in
     (sc, (bs, g))
 
--- src/inner/generalising.rt:94:26
 enum-known-r : tie.Need-enum-known-r
 enum-known-r c = search needs
 
--- src/inner/generalising.rt:71:1
 same-length : tie.Need-same-length
 same-length c = search needs
 
--- src/inner/generalising.rt:71:1
 returns-2 : tie.Need-returns-2
 returns-2 c =
     let s = c .before .before in
     let (sc, (bs, (e, g))) = met (s .before .before .before .before) (ap toldChecked (s .before .before .enum-told .given .1)) in
     met-made _ _ _ _ [] _ _ _ _ (generalise-whole _ _ _ _) _ _ sc bs e (s .generalise-scheme .ensures sc bs g)
 
--- src/inner/generalising.rt:71:1
 returns-3 : tie.Need-returns-3
 returns-3 c = unmet-made _ _ _ _ [] _ _ _ _ (generalise-whole _ _ _ _) _ _ (entry (c .before .before .before) ∙ ap toldChecked (c .before .r .given .1))
 

@@ -39,42 +39,33 @@ met : (c : tie.After-rest-checked) → toldChecked (c .rest-checked .result) ≡
     × Entered (now (a .pool)) (now (a .table)) (now (a .given)) [] (now (a .names)) (schemeGiven (tableOf (now (a .pool)) (now (a .table))) (now (a .given))) opensScheme sc bs))
 met c e = came-in _ _ _ [] _ _ opensScheme (omega arith) (c .before .before .before .if1 .left) (c .before .before .before .before .before .before .before .before .before .pre .0) (entry c ∙ e)
 
--- src/inner/instantiated.rt:30:9
 returns : tie.Need-returns
 returns c = names-made _ _ _ _ _ _ _ _ _ (instantiate-whole _ _ _ _) _ (c .if1 .taken)
 
--- src/inner/instantiated.rt:33:24
 is-scheme-requires : tie.Need-is-scheme-requires
 is-scheme-requires c κs = search needs
 
--- src/inner/instantiated.rt:33:75
 slice-aggregate-rest-checked : tie.Need-slice-aggregate-rest-checked
 slice-aggregate-rest-checked c = search needs
 
--- src/inner/instantiated.rt:33:11
 rest-checked-requires : tie.Need-rest-checked-requires
 rest-checked-requires c κs = λ e. let q = sym (c .before .is-scheme .ensures) ∙ e in (scheme-table _ _ _ q, scheme-small _ _ _ (word (c .before)) q)
 
--- src/inner/instantiated.rt:34:72
 enum-told : tie.Need-enum-told
 enum-told c = search needs
 
--- src/inner/instantiated.rt:34:26
 instantiate-scheme-requires : tie.Need-instantiate-scheme-requires
 instantiate-scheme-requires c κs =
     let w = (c .before .before .before) in
     let (sc, (bs, (e, n))) = met w (ap toldChecked (c .before .enum-told .given .1)) in
     (sc, instantiate-ready _ _ _ _ (word (w .before .before)) sc bs n _ (c .before .before .before .before .before .before .before .before .before .before .before .before .pre .1))
 
--- src/inner/instantiated.rt:35:26
 enum-known-r : tie.Need-enum-known-r
 enum-known-r c = search needs
 
--- src/inner/instantiated.rt:18:1
 same-length : tie.Need-same-length
 same-length c = search needs
 
--- src/inner/instantiated.rt:18:1
 returns-2 : tie.Need-returns-2
 returns-2 c =
     let w = (c .before .before .before .before .before .before) in
@@ -84,7 +75,6 @@ returns-2 c =
     let y = instantiate-ready _ _ _ _ k sc bs n (now (s .args .work)) (s .pre .1) in
     met-made _ _ _ _ _ _ _ _ _ (instantiate-whole _ _ _ _) _ _ sc bs e (instantiate-met _ _ _ _ k sc bs n _ _ (c .before .before .instantiate-scheme .ensures sc y))
 
--- src/inner/instantiated.rt:18:1
 returns-3 : tie.Need-returns-3
 returns-3 c = unmet-made _ _ _ _ _ _ _ _ _ (instantiate-whole _ _ _ _) _ _ (entry (c .before .before .before) ∙ ap toldChecked (c .before .r .given .1))
 

@@ -33,42 +33,33 @@ met : (c : tie.After-rest-checked) → toldChecked (c .rest-checked .result) ≡
     × Entered (now (a .pool)) (now (a .table)) (now (a .words)) (now (a .bounds)) (now (a .names)) (typeGiven (tableOf (now (a .pool)) (now (a .table))) (now (a .words))) opens t bs))
 met c e = came-in _ _ _ _ _ _ opens (c .before .before .before .if1 .left) (c .before .before .if2 .left) (c .before .before .before .before .before .before .before .before .before .before .pre .0) (entry c ∙ e)
 
--- src/inner/making.rt:32:9
 returns : tie.Need-returns
 returns c = bounds-made _ _ _ _ _ _ _ _ _ (quantify-whole _ _ _ _ _) _ (c .if1 .taken)
 
--- src/inner/making.rt:35:9
 returns-2 : tie.Need-returns-2
 returns-2 c = names-made _ _ _ _ _ _ _ _ _ (quantify-whole _ _ _ _ _) _ (c .if2 .taken)
 
--- src/inner/making.rt:37:24
 is-type-requires : tie.Need-is-type-requires
 is-type-requires c κs = search needs
 
--- src/inner/making.rt:37:11
 rest-checked-requires : tie.Need-rest-checked-requires
 rest-checked-requires c κs = λ e. let q = sym (c .is-type .ensures) ∙ e in (type-table _ _ _ q, type-small _ _ _ (word c) q)
 
--- src/inner/making.rt:38:82
 enum-told : tie.Need-enum-told
 enum-told c = search needs
 
--- src/inner/making.rt:38:26
 quantify-at-requires : tie.Need-quantify-at-requires
 quantify-at-requires c κs =
     let w = c .before .before .before in
     let (t, (bs, (e, n))) = met w (ap toldChecked (c .before .enum-told .given .1)) in
     (t, (bs, quantify-ready _ _ _ _ _ (word (w .before)) _ (c .before .before .before .before .before .before .before .before .before .before .before .before .before .pre .1) t bs n))
 
--- src/inner/making.rt:39:26
 enum-known-r : tie.Need-enum-known-r
 enum-known-r c = search needs
 
--- src/inner/making.rt:19:1
 same-length : tie.Need-same-length
 same-length c = search needs
 
--- src/inner/making.rt:19:1
 returns-3 : tie.Need-returns-3
 returns-3 c =
     let w = c .before .before .before .before .before .before in
@@ -78,7 +69,6 @@ returns-3 c =
     met-made _ _ _ _ _ _ _ _ _ (quantify-whole _ _ _ _ _) _ _ t bs e (quantify-met _ _ _ _ _ (word (w .before)) (now (c .before .before .before .before .before .before .before .before .before .before .before .before .before .before .before .before .args .work))
     (c .before .before .before .before .before .before .before .before .before .before .before .before .before .before .before .before .pre .1) t bs n _ _ (c .before .before .quantify-at .ensures t bs y))
 
--- src/inner/making.rt:19:1
 returns-4 : tie.Need-returns-4
 returns-4 c = unmet-made _ _ _ _ _ _ _ _ _ (quantify-whole _ _ _ _ _) _ _ (entry (c .before .before .before) ∙ ap toldChecked (c .before .r .given .1))
 
