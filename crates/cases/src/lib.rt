@@ -1,5 +1,7 @@
 // Lists of cases in ASCII: their numbers and lines, and how many cases came out as stored.
 // What stands between two numbers is not looked at.
+#![tactic(auto)]
+
 ghost use Rattle.std.specs.Prelude.{◌≡◌, ◌<◌, ◌≤◌, length, drop};
 ghost use Rattle.cases.specs.Text.{isDigit, digitPlace, digits, shifted, isMinus, numberFrom, nextLine};
 ghost use Rattle.cases.specs.Tallies.{more, tallied};

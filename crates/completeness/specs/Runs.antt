@@ -8,7 +8,7 @@ use mathlib.Core.List.{List, [], ◌∷◌, Memᴰ}
 use Prim.Native.Nat.{ℕ, zero, suc, ◌<◌}
 use native.Mathlib.Omega.{arith}
 use borrow.Author.Tests.{ltb-true}
-use Rattle.rules.specs.Base.{Got, got, refused, bounded, only_if, ◌orElse◌, and_then, is_yes, is_none, each, keep, sum_of}
+use Rattle.rules.specs.Base.{Got, got, refused, bounded, only_if, ◌or_else◌, and_then, is_yes, is_none, each, keep, sum_of}
 use Rattle.rules.specs.Exponents.{Exp, nought, isZero}
 use Rattle.rules.specs.Trees.{var, quant, par, Atom, free, base, ◌↑◌, Product, Names, Ty, dim, Con, equal, is_scalar, ty-dec, orderAtom}
 use Rattle.rules.specs.Views.{asVar, asPower}

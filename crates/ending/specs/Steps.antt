@@ -8,7 +8,7 @@ use mathlib.Core.List.{List, [], ◌∷◌, map, Memᴰ}
 use Rattle.std.proofs.Math.Option.{Option, none as nothing, some, get_or}
 use Prim.Native.Nat.{ℕ, suc, ◌+◌, ◌≤◌, ◌<◌}
 use Rattle.std.proofs.Math.Dec.{eqb}
-use Rattle.rules.specs.Base.{Got, Limits, is_yes, ◌orElse◌, only_if, and_then, collect}
+use Rattle.rules.specs.Base.{Got, Limits, is_yes, ◌or_else◌, only_if, and_then, collect}
 use Rattle.rules.specs.Exponents.{Exp, Exp-dec, one}
 use Rattle.rules.specs.Trees.{Open, var, quant, par, free, base, ◌↑◌, Product, Names, Ty, opened, basic, dim, fn, struct, list, Tys, nil, cons, Fields, noFields, field, Con, equal, isDim, is_scalar, hasField, count, orderAtom, ty-dec, openOfFactor}
 use Rattle.rules.specs.Views.{productOf, fn_of, struct_of, list_of, variable, asVar, asPower}

@@ -7,7 +7,7 @@ use Prim.Native.Nat.{ℕ, zero, suc, ◌<◌, ◌≤◌}
 use native.Mathlib.Nat.{not-suc-le-zero, le_of_suc-le-suc}
 use lib.Dec.{T, eqb}
 use lib.ListN.{length, get_or, drop}
-use Rattle.rules.specs.Base.{◌orElse◌, only_if, any}
+use Rattle.rules.specs.Base.{◌or_else◌, only_if, any}
 use Rattle.rules.specs.Calls.{differ}
 use Rattle.entries.specs.declared.Entry.{Entry}
 use Rattle.entries.specs.Entries.{told, variablesOf, place_of}

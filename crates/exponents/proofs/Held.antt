@@ -52,7 +52,7 @@ pub record Holds (r n : ℤ) : Type 0 where
 pub widened : (n r : ℤ) → mag n < 2147483648 → r ≡ to_z w32 (of_z w32 n) → Holds r n
 widened n r h e =
     let f : SFits w32 n = record { sfits = h } in
-    record { is = ap (λ (z : ℤ). to_z w64 (of_z w64 z)) (e ∙ back w32 n f) ∙ to_z-of_z (sfits_widen tt f) }
+    record { is = ap (λ (z : ℤ). to_z w64 (of_z w64 z)) (e ∙ back w32 n f) ∙ to_z-of_z {w = w64} (sfits_widen tt f) }
 
 -- a magnitude below half a width's power
 pub abs-fits : (w : Width) (z : ℤ) → nat_abs z < 2 ^ hbits w → SFits w z

@@ -1,4 +1,6 @@
 // Exponents: fractions in lowest terms within a range, with operations that take and give back such values.
+#![tactic(auto)]
+
 mod divisor;
 pub mod inner;
 mod signs;
@@ -17,7 +19,7 @@ use rules::Refusal;
 pub const TOP: u64 = 2147483647;
 
 // Any numerator and denominator may stand here; the operations refuse what is not well formed.
-#[derive(Drop)]
+#[derive(Clone, Copy)]
 pub struct Exponent {
     pub num: i32,
     pub den: u32,
@@ -52,12 +54,8 @@ impl Exponent {
 
     // Does nothing; it says that the constants are the rules' zero and one.
     pub fn constants()
-        ensures* { do
-          zn ← (⟦Exponent::ZERO.num⟧).entry
-          zd ← (⟦Exponent::ZERO.den⟧).entry
-          n ← (⟦Exponent::ONE.num⟧).entry
-          d ← (⟦Exponent::ONE.den⟧).entry
-          ⌜ (frac zn zd ≡ nought) × (frac n d ≡ one) ⌝ }
+        ensures zero { frac Exponent.ZERO.num Exponent.ZERO.den ≡ nought }
+        ensures one { frac Exponent.ONE.num Exponent.ONE.den ≡ one }
     {}
 
     pub fn is_one(self) -> bool

@@ -9,7 +9,7 @@ use Rattle.std.proofs.Math.Logic.{inl, inr}
 use mathlib.Core.List.Memᴰ
 use mathlib.Core.List.{List, [], ◌∷◌, map, Memᴰ}
 use Rattle.std.proofs.Math.Dec.{eqb}
-use Rattle.rules.specs.Base.{Got, got, Limits, is_yes, ◌orElse◌, only_if, and_then, each, collect, isNil, to_list}
+use Rattle.rules.specs.Base.{Got, got, Limits, is_yes, ◌or_else◌, only_if, and_then, each, collect, isNil, to_list}
 use Rattle.rules.specs.Exponents.{Exp, Exp-dec, one}
 use Rattle.rules.specs.Trees.{Open, var, quant, par, free, base, ◌↑◌, Product, Names, Ty, opened, basic, dim, fn, struct, list, Tys, Fields, Con, equal, isDim, is_scalar, hasField, ty-dec, open-dec, count, opens, openOfFactor}
 use Rattle.rules.specs.Views.{productOf, fn_of, struct_of, list_of, variable, name_of, asVar, asPower}

@@ -1,4 +1,6 @@
 // Names: parts of a pool of bytes, compared by their bytes, and copied in at the pool's first free byte.
+#![tactic(auto)]
+
 ghost use Rattle.std.specs.Prelude.{◌≡◌};
 ghost use Rattle.rules.specs.Names.{orderBytes, tableGiven, nameAsked, partAsked, enter};
 ghost use Rattle.names.specs.Told.{toldOrder, toldChecked, refusalOf, IsPart, entered};

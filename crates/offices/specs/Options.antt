@@ -2,7 +2,7 @@
 -- Assumes nothing.
 use Rattle.std.specs.Prelude.{◌≡◌, refl, Bool, true, false}
 use Rattle.std.proofs.Math.Option.{Option, none, some, get_or}
-use Rattle.rules.specs.Base.{only_if, and_then, and', ◌orElse◌, is_none}
+use Rattle.rules.specs.Base.{only_if, and_then, and', ◌or_else◌, is_none}
 use Rattle.rules.specs.Offices.{mapOption}
 
 module _ {A B C D : Type 0} (g : A → B) (h : C → D) where

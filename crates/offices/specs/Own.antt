@@ -8,7 +8,7 @@ use Rattle.std.proofs.Math.Option.{Option, some}
 use mathlib.Core.List.{List, [], ◌∷◌, map}
 use Prim.Native.Nat.{ℕ, zero, suc, ◌*◌, ◌<◌}
 use Rattle.std.proofs.lemmas.List.{length-map}
-use Rattle.rules.specs.Base.{all, any, and_then, only_if, ◌orElse◌}
+use Rattle.rules.specs.Base.{all, any, and_then, only_if, ◌or_else◌}
 use Rattle.rules.specs.Trees.{Atom, free, base, var, quant, par, Factor, ◌↑◌, Product}
 use Rattle.rules.specs.Names.{Table}
 use Rattle.rules.specs.Writing.{Rec, rec, kindIn, words}

@@ -7,7 +7,7 @@ use mathlib.Core.List.{[], ◌∷◌}
 use Rattle.std.proofs.Math.Option.{Option, none, some, get_or}
 use borrow.Author.Tests.{ne_eqb}
 use Rattle.std.proofs.Math.ListN.{length}
-use Rattle.rules.specs.Base.{is_yes, only_if, ◌orElse◌}
+use Rattle.rules.specs.Base.{is_yes, only_if, ◌or_else◌}
 use Rattle.rules.specs.Exponents.{Exp-dec, one}
 use Rattle.rules.specs.Products.{single}
 use Rattle.rules.specs.Trees as trees

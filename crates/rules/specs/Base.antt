@@ -53,8 +53,8 @@ is_yes (yes a) = true
 is_yes (no f) = false
 
 -- the first of the two that is there
-infixr 2 ◌orElse◌
-abbrev pub ◌orElse◌ : {A : Type 0} → Option A → Option A → Option A
+infixr 2 ◌or_else◌
+abbrev pub ◌or_else◌ : {A : Type 0} → Option A → Option A → Option A
 none or_else b = b
 some a or_else b = some a
 

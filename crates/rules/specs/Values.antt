@@ -2,7 +2,7 @@
 -- Assumes nothing.
 use Rattle.std.specs.Prelude.{◌&&◌, List, [], ◌∷◌, ◌++◌, map, ℕ, eqb, leb, length, take, replicate}
 use Rattle.std.proofs.Math.Option.{Option, some}
-use Rattle.rules.specs.Base.{Got, got, ◌>>=◌, ◌>>◌, need, orRefuse, and_then, only_if, ◌orElse◌, bounded}
+use Rattle.rules.specs.Base.{Got, got, ◌>>=◌, ◌>>◌, need, orRefuse, and_then, only_if, ◌or_else◌, bounded}
 use Rattle.rules.specs.Exponents.{Exp, nought, goodExp, sum, times, negation, quotient}
 use Rattle.rules.specs.Trees.{var, quant, par, Atom, free, base, Factor, ◌↑◌, Product}
 use Rattle.rules.specs.Names.{table_of, numbersOf, is_held, tableGiven}

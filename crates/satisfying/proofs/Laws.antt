@@ -8,7 +8,7 @@ use native.Mathlib.Nat.{add-zero}
 use native.Mathlib.Omega.{arith}
 use lib.ListN.{length}
 use lib.Seq.{sets, slice}
-use Rattle.rules.specs.Base.{collect, sum_of, and_then, ◌orElse◌, is_yes}
+use Rattle.rules.specs.Base.{collect, sum_of, and_then, ◌or_else◌, is_yes}
 use denote.Enum.Declared
 use types.Run.{OneOf, miss}
 use Rattle.satisfying.specs.contracts.Step as steps

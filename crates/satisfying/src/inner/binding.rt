@@ -1,6 +1,6 @@
 // The rules 2 and 3: a variable that the other side doesn't contain is bound to it.
 ghost use Rattle.std.specs.Prelude.{◌≡◌, List, [], ◌∷◌, ℕ};
-ghost use Rattle.rules.specs.Base.{and_then, ◌orElse◌};
+ghost use Rattle.rules.specs.Base.{and_then, ◌or_else◌};
 ghost use Rattle.rules.specs.Exponents.{frac};
 ghost use Rattle.rules.specs.Names.{Bytes, numbered};
 ghost use Rattle.rules.specs.Products.{single};

@@ -1,0 +1,22 @@
+-- `exponents::Exponent::divide` meets its contract.
+-- Assumes nothing.
+use mathlib.Core.Path.{◌≡◌, sym, ◌∙◌}
+use mathlib.Core.Bool.{◌&&◌, true, and-eq-true_iff}
+use borrow.Author.Rules.{rules}
+use Rattle.rules.specs.Exponents.{goodExp}
+use Rattle.rules.specs.Values.{quotientCall}
+use Rattle.exponents.specs.Answers.{expOf}
+use Rattle.exponents.proofs.Exponent.divide.Goals as goal
+
+pub quotient_of-requires : goal.quotient_of-requires
+quotient_of-requires c = let tested : (goodExp (expOf c.args.self) && goodExp (expOf c.args.other)) ≡ true = sym c.well_formed_with.ensures ∙ c.if-well_formed_with.true in
+    (and-eq-true_iff _ _).0 (tested)
+
+pub returns-then-well_formed_with : goal.returns-then-well_formed_with
+unfolding quotientCall
+returns-then-well_formed_with c = let tested : (goodExp (expOf c.args.self) && goodExp (expOf c.args.other)) ≡ true = sym c.well_formed_with.ensures ∙ c.if-well_formed_with.true in
+    rw (tested) c.quotient_of.ensures
+
+pub returns-else-well_formed_with : goal.returns-else-well_formed_with
+unfolding quotientCall
+returns-else-well_formed_with c = rw (sym c.well_formed_with.ensures ∙ c.if-well_formed_with.false)

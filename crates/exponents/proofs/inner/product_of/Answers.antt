@@ -1,0 +1,40 @@
+-- `exponents::inner::product_of` meets its contract (`Steps`).
+-- Assumes nothing.
+use mathlib.Core.Path.{◌∙◌, ap}
+use native.Mathlib.Nat.{mul-pos}
+use Prim.Native.Nat.{◌*◌}
+use borrow.Author.Rules.{rules}
+use lib.IntN.{ℤ}
+use Rattle.rules.specs.Base.{bounded}
+use Rattle.rules.specs.Exponents.{lowest, ranged, mul, times}
+use Rattle.laws.specs.Ranges.{Good, good}
+use Rattle.exponents.proofs.Held.{Holds, widened}
+use Rattle.exponents.proofs.Steps.{dens-fit, times-fits, times-is}
+use Rattle.exponents.proofs.inner.product_of.Goals as goal
+
+pub overflow_mul-wide : goal.overflow_mul-wide
+overflow_mul-wide c = let left : Good c.args.a.num c.args.a.den = good c.args.a.num c.args.a.den c.requires.0 in
+    let right : Good c.args.b.num c.args.b.den = good c.args.b.num c.args.b.den c.requires.1 in
+    let held : Holds c.wide.result c.args.a.num = widened c.args.a.num _ c.struct_told-1.given.0.1 c.wide.ensures in
+    let held-2 : Holds c.wide-2.result c.args.b.num = widened c.args.b.num _ c.struct_told-2-1.given.0.1 c.wide-2.ensures in
+    times-fits (left) (right) (held) (held-2)
+
+pub overflow_mul-a : goal.overflow_mul-a
+overflow_mul-a c = let left : Good c.args.a.num c.args.a.den = good c.args.a.num c.args.a.den c.requires.0 in
+    let right : Good c.args.b.num c.args.b.den = good c.args.b.num c.args.b.den c.requires.1 in
+    dens-fit (left) (right)
+
+pub reduced-requires : goal.reduced-requires
+reduced-requires c = let left : Good c.args.a.num c.args.a.den = good c.args.a.num c.args.a.den c.requires.0 in
+    let right : Good c.args.b.num c.args.b.den = good c.args.b.num c.args.b.den c.requires.1 in
+    mul-pos (left).positive (right).positive
+
+pub returns : goal.returns
+unfolding times mul
+returns c = let left : Good c.args.a.num c.args.a.den = good c.args.a.num c.args.a.den c.requires.0 in
+    let right : Good c.args.b.num c.args.b.den = good c.args.b.num c.args.b.den c.requires.1 in
+    let held : Holds c.wide.result c.args.a.num = widened c.args.a.num _ c.struct_told-1.given.0.1 c.wide.ensures in
+    let held-2 : Holds c.wide-2.result c.args.b.num = widened c.args.b.num _ c.struct_told-2-1.given.0.1 c.wide-2.ensures in
+    c.reduced.ensures
+    ∙ ap (λ (z : ℤ). ranged bounded (lowest z (c.args.a.den * c.args.b.den)))
+    (times-is (left) (right) (held) (held-2))

@@ -1,0 +1,58 @@
+-- `names::inner::enter_good` meets its contract: the length, then the search. Assumes nothing.
+use mathlib.Core.Path.{◌≡◌, ◌∙◌}
+use mathlib.Core.Bool.{◌&&◌}
+use mathlib.Core.List.{List}
+use mathlib.Core.Option.{Option, none, some}
+use Prim.Native.Nat.{ℕ, ◌≤◌, ◌<◌}
+use native.Mathlib.Omega.{arith}
+use borrow.Author.Rules.{rules}
+use borrow.Author.Tests.{le-leb, lt-leb}
+use lib.Dec.{leb}
+use lib.ListN.{length}
+use Rattle.rules.specs.Base.{need}
+use Rattle.rules.specs.declared.Refusal.TheVariants.{NameLength}
+use Rattle.rules.specs.Names.{table_of, names_of, number_of, hasRoom, enterKnown, enterChecked}
+use Rattle.laws.specs.NameTable.{good-laid}
+use Rattle.names.specs.declared.Answer.TheVariants.{Refused}
+use Rattle.names.specs.Told.{entered}
+use Rattle.names.proofs.inner.enter_good.Goals as goal
+
+module _ (p t n : List ℕ) where
+  empty : length n ≡ 0 → entered (Refused NameLength) p t ≡ enterChecked (need (leb 1 (length n) && leb (length n) 48) 2) p t n
+  unfolding enterChecked
+  empty h = rw (lt-leb 1 (length n) (omega arith))
+
+  too_long : 48 < length n → entered (Refused NameLength) p t ≡ enterChecked (need (leb 1 (length n) && leb (length n) 48) 2) p t n
+  unfolding enterChecked
+  too_long h = rw (le-leb 1 (length n) (omega arith), lt-leb (length n) 48 h)
+
+  searched : (length n ≡ 0 → ⊥) → length n ≤ 48 → (f : Option ℕ) → f ≡ number_of 0 n (names_of (table_of p t))
+      → enterKnown f (hasRoom (table_of p t) n) p t n ≡ enterChecked (need (leb 1 (length n) && leb (length n) 48) 2) p t n
+  unfolding enterChecked
+  searched z h f e = rw (le-leb 1 (length n) (omega arith), le-leb (length n) 48 h, e)
+
+pub returns-then-name-eq0 : goal.returns-then-name-eq0
+returns-then-name-eq0 c =
+    let a = c.args in
+    empty a.pool.now a.table.now a.name.now c.if-name-eq0.true
+
+pub returns-then-name-gt-NAME_BYTES : goal.returns-then-name-gt-NAME_BYTES
+returns-then-name-gt-NAME_BYTES c =
+    let a = c.args in
+    too_long a.pool.now a.table.now a.name.now c.if-name-gt-NAME_BYTES.true
+
+pub search-requires : goal.search-requires
+search-requires c = record { laid = good-laid c.requires; from_bound = omega arith }
+
+pub returns-in-At : goal.returns-in-At
+unfolding enterKnown
+returns-in-At c =
+    let a = c.args in
+    searched a.pool.now a.table.now a.name.now c.if-name-eq0.false c.if-name-gt-NAME_BYTES.false (some c.in-At.i)
+    (rw c.in-At.is at c.search.ensures)
+
+pub returns-in-Nothing : goal.returns-in-Nothing
+returns-in-Nothing c =
+    let a = c.args in
+    c.enter_new.ensures
+    ∙ searched a.pool.now a.table.now a.name.now c.if-name-eq0.false c.if-name-gt-NAME_BYTES.false none (rw c.in-Nothing.is at c.search.ensures)

@@ -1,0 +1,17 @@
+use mathlib.Core.Path.{◌≡◌, refl, sym, ap, ◌∙◌}
+use Prim.Native.Nat.{ℕ, ◌+◌, ◌-◌, ◌≤◌, ◌<◌}
+use native.Mathlib.Numerals.{add-one}
+use native.Mathlib.Omega.{arith}
+use borrow.Author.Rules.{rules}
+use lib.ListN.{length, drop, get_or}
+use Rattle.rules.specs.Base.{any}
+use Rattle.rules.specs.Names.{table_of, names_of, sameBytes}
+use Rattle.laws.specs.NameTable.{length-names}
+use Rattle.names.specs.Digests.{nameIn, one-here, none_here, none-behind}
+use Rattle.names.proofs.inner.held_again.Given as goal
+
+abbrev pub invariant-loop-j : goal.invariant-loop-j
+invariant-loop-j l = (l.j ≤ l.n) × (any (sameBytes (nameIn l.pool l.table l.k)) (drop l.j (names_of (table_of l.pool l.table))) ≡ any (sameBytes (nameIn l.pool l.table l.k)) (drop (l.k + 1) (names_of (table_of l.pool l.table))))
+
+abbrev pub decreases-loop-j : goal.decreases-loop-j
+decreases-loop-j l = l.n - l.j

@@ -1,0 +1,17 @@
+-- `names::inner::order` meets its contract. Assumes nothing.
+use mathlib.Core.Path.{◌∙◌, ap₂}
+use borrow.Author.Rules.{rules}
+use Rattle.rules.specs.Names.{orderBytes, numbered}
+use Rattle.laws.specs.NameTable.{good-laid}
+use Rattle.names.proofs.inner.order.Goals as goal
+
+pub name_at-requires : goal.name_at-requires
+name_at-requires c = record { laid = good-laid c.requires.good; k_bound = rw c.wide.ensures c.requires.i_bound }
+
+pub name_at-requires-2 : goal.name_at-requires-2
+name_at-requires-2 c = record { laid = good-laid c.requires.good; k_bound = rw c.wide-2.ensures c.requires.j_bound }
+
+pub returns : goal.returns
+unfolding numbered
+returns c =
+    rw (c.wide.ensures, c.wide-2.ensures) at (c.compare.ensures ∙ ap₂ orderBytes c.name_at.ensures.bytes c.name_at-2.ensures.bytes)

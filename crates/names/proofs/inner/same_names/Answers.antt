@@ -1,0 +1,12 @@
+-- `names::inner::same_names` meets its contract. Assumes nothing.
+use mathlib.Core.Path.{sym}
+use borrow.Author.Rules.{rules}
+use Rattle.names.proofs.Compared.{hit, missed}
+use borrow.Enum.Refused.{opened}
+use Rattle.names.proofs.inner.same_names.Goals as goal
+
+pub returns-in-Same : goal.returns-in-Same
+returns-in-Same c = sym (hit _ _ (rw (c.in-Same.is, c.name_at-2.ensures.bytes, c.name_at.ensures.bytes) at c.compare.ensures))
+
+pub returns-in-Less : goal.returns-in-Less
+returns-in-Less c = sym (missed _ _ c.compare.result (rw (c.name_at-2.ensures.bytes, c.name_at.ensures.bytes) at c.compare.ensures) (opened c.in-Less.in-Less-own.keys2))

@@ -1,0 +1,54 @@
+-- `names::name_of` meets its contract: a number that passed has a name, and a refusal gives the empty part. Assumes nothing.
+use mathlib.Core.Path.{◌≡◌, refl, subst}
+use mathlib.Core.Bool.{Bool, true, false}
+use mathlib.Core.List.{List, []}
+use Prim.Native.Nat.{ℕ, ◌<◌}
+use native.Mathlib.Omega.{arith}
+use borrow.Author.Rules.{rules}
+use borrow.Author.Tests.{ltb-true}
+use lib.Dec.{ltb}
+use lib.ListN.{get_or}
+use Rattle.rules.specs.Base.{Got, got, refused, ◌>>◌, need}
+use Rattle.rules.specs.Names.{Bytes, table_of, names_of, tableGiven, nameAsked, start_in, partFrom, partAsked}
+use Rattle.laws.specs.NameTable.{Good, good-laid, given-good, name-asked, start-in}
+use Rattle.names.specs.Told.{refusalOf, IsPart, heldPart}
+use Rattle.names.proofs.name_of.Goals as goal
+
+module _ (p t : List ℕ) (i : ℕ) where
+  held : got tt ≡ refusalOf (nameAsked p t i) → Good p t × (i < get_or t 0 0)
+  unfolding nameAsked table_of
+  held h = go (tableGiven p t) refl (ltb i (get_or t 0 0)) refl h
+    where
+      go : (a : Got (Unit {0})) → tableGiven p t ≡ a → (b : Bool) → ltb i (get_or t 0 0) ≡ b → got tt ≡ refusalOf (a >> (need b 3 >> got (get_or (names_of (table_of p t)) i [])))
+          → Good p t × (i < get_or t 0 0)
+      go (refused k) e b f h = let z : ◌≡◌ {A = ℕ} 0 1 = cc in absurd (omega arith)
+      go (got u) e false f h = let z : ◌≡◌ {A = ℕ} 0 1 = cc in absurd (omega arith)
+      go (got u) e true f h = (given-good e, ltb-true i (get_or t 0 0) f)
+
+  named : Good p t → i < get_or t 0 0 → heldPart p t i ≡ partAsked p t i
+  unfolding partAsked partFrom
+  named g h = rw (name-asked g i h, start-in (good-laid g) i h)
+
+nothing : (start : ℕ) (x : Got Bytes) {k : ℕ} → refused k ≡ refusalOf x → record { start = 0; bytes = [] } ≡ partFrom start x
+unfolding partFrom
+nothing start (got n) h = cc
+nothing start (refused k) h = refl
+
+pub name_at-requires : goal.name_at-requires
+name_at-requires c =
+    let a = c.args in
+    let h = held a.pool.now a.table.now a.number (rw c.in-Good.is at c.check_number.ensures) in
+    record { laid = good-laid h.0; k_bound = h.1 }
+
+pub returns-in-Good : goal.returns-in-Good
+returns-in-Good c =
+    let a = c.args in
+    let h = held a.pool.now a.table.now a.number (rw c.in-Good.is at c.check_number.ensures) in
+    subst (IsPart a.pool _) (named a.pool.now a.table.now a.number h.0 h.1) c.name_at.ensures
+
+pub returns-in-Refused : goal.returns-in-Refused
+unfolding partAsked partFrom
+returns-in-Refused c =
+    let a = c.args in
+    let e = nothing (start_in (table_of a.pool.now a.table.now) a.number) (nameAsked a.pool.now a.table.now a.number) (rw c.in-Refused.is at c.check_number.ensures) in
+    subst (IsPart a.pool _) e (record { place = refl; bytes = refl })
