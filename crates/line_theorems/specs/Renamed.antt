@@ -93,7 +93,7 @@ module _ {N M : Type 0} (f : N → M) where
     ty-names (basic b) = refl
     ty-names (dim p) = collect-over (mapFactor f) f namesOfFactor namesOfFactor factor-names p
     ty-names (fn ps r) = rw (tys-names ps, ty-names r, map-append)
-    ty-names (struct n as' fs) = rw (tys-names as', fields-names fs, map-append)
+    ty-names (struct n as' fs) = rw (tys-names as', fields-names fs, map-append f (namesOfTys as'))
     ty-names (list t) = ty-names t
 
     tys-names : (ts : Tys N) → namesOfTys (map_tys f ts) ≡ map f (namesOfTys ts)
@@ -102,7 +102,7 @@ module _ {N M : Type 0} (f : N → M) where
 
     fields-names : (fs : Fields N) → namesOfFields (mapFields f fs) ≡ map f (namesOfFields fs)
     fields-names noFields = refl
-    fields-names (field n t fs) = rw (ty-names t, fields-names fs, map-append)
+    fields-names (field n t fs) = rw (ty-names t, fields-names fs, map-append f (namesOfTy t))
 
   pub step-names : (s : LineStep N) → namesOfStep (map_step s) ≡ map f (namesOfStep s)
   unfolding namesOfStep
