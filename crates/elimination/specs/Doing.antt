@@ -2,7 +2,7 @@
 -- Assumes nothing.
 use Rattle.std.specs.Prelude.{◌≡◌, true, ℕ, zero, suc, ◌+◌, ◌<◌, ◌≤◌, length, take, drop, get_or, set}
 use Rattle.std.proofs.Math.Path.{refl, ap}
-use Rattle.std.proofs.Common.{ap₂, ◌∙◌, sym, arith, length-set, drop_of_length-le, take-suc-set, drop-cons}
+use Rattle.std.proofs.Common.{◌∙◌, sym, arith, length-set, drop_of_length-le, take-suc-set, drop-cons}
 use mathlib.Core.List.{List, [], ◌∷◌, ◌++◌, map, append_assoc}
 use Rattle.std.proofs.Math.Numerals.{add-one}
 use Rattle.std.proofs.Math.Seq.{take_all}

@@ -11,13 +11,12 @@ use Rattle.std.proofs.Math.Seq.{length-take-le}
 use Rattle.rules.specs.Base.{Got, got, refused, ◌>>=◌, each}
 use Rattle.rules.specs.Exponents.{Exp, nought, isZero}
 use Rattle.rules.specs.Trees.{var, par, Atom, free, base}
-use Rattle.laws.specs.Lists.{true≢false}
 use Rattle.elimination.specs.declared.inner.grids.Columns.{Columns}
 use Rattle.elimination.specs.declared.inner.grids.Grid.{Grid}
 use Rattle.elimination.specs.declared.inner.grids.Machine.{Machine}
 use Rattle.elimination.specs.declared.inner.grids.Turned.{Turned}
-use Rattle.rules.specs.Elimination.{Row, Value, ◌gets◌, solvedFor, putInRow, putInValue, Fate, gone, stays, binds, atColumn, oneFurther, fate, turned, Reduced, eliminate}
-use Rattle.elimination.specs.Grids.{rowsIn, WideGrid, grid-long, First}
+use Rattle.rules.specs.Elimination.{Row, Value, ◌gets◌, solvedFor, putInRow, putInValue, gone, stays, binds, atColumn, oneFurther, fate, turned, Reduced, eliminate}
+use Rattle.elimination.specs.Grids.{rowsIn, WideGrid, grid-long}
 
 -- ══ Columns ══
 

@@ -10,12 +10,12 @@ ghost use Rattle.elimination.specs.Machine.{colsIn, Running, rest, droppedOf, ke
 
 use crate::inner::rows::{Row, first_in, put_in, solved_for};
 
-#[derive(Drop)]
+#[derive(Clone, Copy)]
 pub struct Grid {
     pub rows: [Row; 24],
 }
 
-#[derive(Drop)]
+#[derive(Clone, Copy)]
 pub struct TriedGrid {
     pub fits: bool,
     pub grid: Grid,
@@ -70,7 +70,7 @@ pub fn put_in_rows(c: usize, w: Row, g: Grid, s: usize, m: usize) -> TriedGrid
 }
 
 // The names of the columns: so many variables, then parameters, then base dimensions.
-#[derive(Drop)]
+#[derive(Clone, Copy)]
 pub struct Columns {
     pub vars: [u32; 256],
     pub variables: usize,
@@ -82,7 +82,7 @@ pub struct Columns {
 }
 
 // The rows left to do, from `at` on; the rows that stay; the variables that are bound, and their values.
-#[derive(Drop)]
+#[derive(Clone, Copy)]
 pub struct Machine {
     pub rows: Grid,
     pub at: usize,
@@ -94,7 +94,7 @@ pub struct Machine {
     pub found: usize,
 }
 
-#[derive(Drop)]
+#[derive(Clone, Copy)]
 pub struct Turned {
     pub fits: bool,
     pub machine: Machine,

@@ -12,13 +12,13 @@ use exponents::{Exponent, Power};
 // 24 variables, 24 parameters and base dimensions.
 pub const COLUMNS: usize = 48;
 
-#[derive(Drop)]
+#[derive(Clone, Copy)]
 pub struct Row {
     pub powers: [Exponent; 48],
 }
 
 // A row, or that a power has left the range.
-#[derive(Drop)]
+#[derive(Clone, Copy)]
 pub struct Tried {
     pub fits: bool,
     pub row: Row,

@@ -1,0 +1,8 @@
+-- `elimination::grids::dropped` meets its contract. Assumes nothing.
+use mathlib.Core.Path.{refl}
+use Rattle.elimination.specs.Machine.{droppedOf}
+use Rattle.elimination.proofs.inner.grids.dropped.Goals as goal
+
+pub returns : goal.returns
+unfolding droppedOf
+returns c = refl

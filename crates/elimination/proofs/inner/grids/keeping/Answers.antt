@@ -1,0 +1,8 @@
+-- `elimination::grids::keeping` meets its contract. Assumes nothing.
+use mathlib.Core.Path.{refl}
+use Rattle.elimination.specs.Machine.{keepingOf}
+use Rattle.elimination.proofs.inner.grids.keeping.Goals as goal
+
+pub returns : goal.returns
+unfolding keepingOf
+returns c = let w = c.with_row-g in (w.result, (w.ensures.0, w.ensures.1, refl))

@@ -1,0 +1,6 @@
+-- `elimination::grids::row_at` meets its contract. Assumes nothing.
+use Rattle.elimination.specs.Grids.{grid-at}
+use Rattle.elimination.proofs.inner.grids.row_at.Goals as goal
+
+pub returns : goal.returns
+returns c = grid-at c.args.g c.args.i _ c.requires.wide_grid c.requires.i_bound
