@@ -7,14 +7,14 @@ ghost use Rattle.cases.specs.Text.{isDigit, digitPlace, digits, shifted, isMinus
 ghost use Rattle.cases.specs.Tallies.{more, tallied};
 
 // A number as a word, and the place past its last digit.
-#[derive(Drop)]
+#[derive(Clone, Copy)]
 pub struct Number {
     pub word: u32,
     pub next: usize,
 }
 
 // How many cases were run, and how many of them came out as stored.
-#[derive(Drop)]
+#[derive(Clone, Copy)]
 pub struct Tally {
     pub cases: u64,
     pub right: u64,

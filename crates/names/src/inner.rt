@@ -11,7 +11,7 @@ use super::{Answer, Order, compare};
 use rules::{NAME_BYTES, NAMES, POOL_BYTES, Refusal, Was};
 
 // What a search answers: a number, or nothing.
-#[derive(Drop)]
+#[derive(Clone, Copy)]
 pub enum Found {
     At(u32),
     Nothing,

@@ -10,20 +10,20 @@ use rules::{POOL_BYTES, Refusal, TABLE_WORDS, Was};
 pub mod inner;
 
 // What entering answers: the name's number and whether it is new, or why it has none.
-#[derive(Drop)]
+#[derive(Clone, Copy)]
 pub enum Answer {
     Number(u32, Was),
     Refused(Refusal),
 }
 
 // What a check answers.
-#[derive(Drop)]
+#[derive(Clone, Copy)]
 pub enum Checked {
     Good,
     Refused(Refusal),
 }
 
-#[derive(Drop)]
+#[derive(Clone, Copy)]
 pub enum Order {
     Less,
     Same,

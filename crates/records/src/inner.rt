@@ -68,20 +68,20 @@ pub fn copy(v: &[u32], b: usize, e: usize, dst: &mut [u32], out: usize)
 }
 
 // Where a part ends, or that it isn't well formed.
-#[derive(Drop)]
+#[derive(Clone, Copy)]
 pub enum Ended {
     At(usize),
     Bad,
 }
 
 // The name of the field before, and the atom of the factor before.
-#[derive(Drop)]
+#[derive(Clone, Copy)]
 pub enum Before {
     Start,
     Name(u32),
 }
 
-#[derive(Drop)]
+#[derive(Clone, Copy)]
 pub enum Left {
     Start,
     Atom(Atom),

@@ -1,4 +1,6 @@
 // Type records of document 01: what one record says, writing them, and the tests of whole lists.
+#![tactic(auto)]
+
 pub mod inner;
 pub mod seen;
 
@@ -13,7 +15,7 @@ use names::inner::is_good;
 use rules::{POOL_BYTES, RECORD_WORDS, Refusal, TABLE_WORDS};
 
 // An open name: a variable, a quantified variable by its index, a parameter.
-#[derive(Drop)]
+#[derive(Clone, Copy)]
 pub enum Open {
     Var(u32),
     Quant(u32),
@@ -21,13 +23,13 @@ pub enum Open {
 }
 
 // What a factor is a power of.
-#[derive(Drop)]
+#[derive(Clone, Copy)]
 pub enum Atom {
     Free(Open),
     Base(u32),
 }
 
-#[derive(Drop)]
+#[derive(Clone, Copy)]
 pub enum Basic {
     Boolean,
     Text,
@@ -35,7 +37,7 @@ pub enum Basic {
 }
 
 // What one record says. A factor has its numerator and denominator as words.
-#[derive(Drop)]
+#[derive(Clone, Copy)]
 pub enum View {
     Opened(Open),
     Basic(Basic),
@@ -57,7 +59,7 @@ pub enum View {
 }
 
 // The four words of a record.
-#[derive(Drop)]
+#[derive(Clone, Copy)]
 pub struct Words {
     pub kind: u32,
     pub a: u32,

@@ -22,14 +22,14 @@ pub const POOL_BYTES: usize = 8192;
 pub const TABLE_WORDS: usize = 257;
 
 // What a name was before it was entered: nowhere in the table, or held there.
-#[derive(Drop)]
+#[derive(Clone, Copy)]
 pub enum Was {
     New,
     Known,
 }
 
 // Why a call gives no answer.
-#[derive(Drop)]
+#[derive(Clone, Copy)]
 pub enum Refusal {
     Malformed,
     NameLength,

@@ -1,0 +1,12 @@
+-- `inner::bound_end` meets its contract: its parts, and their length. Assumes nothing.
+use Rattle.records.specs.Closing.{bound-closing}
+use Rattle.records.specs.Good.{Ends, GoodBound}
+use mathlib.Core.Path.{sym, subst}
+use borrow.Author.Rules.{rules}
+use Rattle.records.proofs.inner.bound_end.Goals as goal
+
+pub returns : goal.returns
+returns c =
+    let a = c.args in
+    let s = a.s.now in
+    subst (Ends (GoodBound a.pool.now a.table.now a.q s a.at)) (sym c.closed.ensures) (bound-closing a.pool.now a.table.now a.q s a.at c.bound_parts.result c.bound_parts.ensures)

@@ -1,0 +1,12 @@
+-- `inner::con_end` meets its contract: its parts, and their length. Assumes nothing.
+use Rattle.records.specs.Closing.{con-closing}
+use Rattle.records.specs.Good.{Ends, GoodCon}
+use mathlib.Core.Path.{sym, subst}
+use borrow.Author.Rules.{rules}
+use Rattle.records.proofs.inner.con_end.Goals as goal
+
+pub returns : goal.returns
+returns c =
+    let a = c.args in
+    let s = a.s.now in
+    subst (Ends (GoodCon a.pool.now a.table.now 0 s a.at)) (sym c.closed.ensures) (con-closing a.pool.now a.table.now 0 s a.at c.con_parts.result c.con_parts.ensures)

@@ -1,0 +1,41 @@
+-- `inner::con_parts` meets its contract. Assumes nothing.
+use Rattle.rules.specs.Names.{table_of}
+use Rattle.records.proofs.Parts.{con-equal, con-dim, con-scalar, con-field, con-field-name, con-other}
+use Rattle.records.specs.Places.{seen-in}
+use native.Mathlib.Omega.{arith}
+use mathlib.Core.Path.{sym, ◌∙◌}
+use borrow.Author.Rules.{rules}
+use borrow.Enum.Refused.{opened}
+use Rattle.records.proofs.inner.con_parts.Goals as goal
+
+pub overflow_add-at : goal.overflow_add-at
+overflow_add-at c = omega (arith, seen-in c.args.s.now c.args.at (sym c.view_at.ensures ∙ c.in-Equal.is) tt)
+
+pub overflow_add-at-in-IsDim : goal.overflow_add-at-in-IsDim
+overflow_add-at-in-IsDim c = omega (arith, seen-in c.args.s.now c.args.at (sym c.view_at.ensures ∙ c.in-IsDim.is) tt)
+
+pub overflow_add-at-in-IsScalar : goal.overflow_add-at-in-IsScalar
+overflow_add-at-in-IsScalar c = omega (arith, seen-in c.args.s.now c.args.at (sym c.view_at.ensures ∙ c.in-IsScalar.is) tt)
+
+pub overflow_add-at-then-is_held : goal.overflow_add-at-then-is_held
+overflow_add-at-then-is_held c = omega (arith, seen-in c.args.s.now c.args.at (sym c.view_at.ensures ∙ c.in-HasField.is) tt)
+
+pub returns-in-Equal : goal.returns-in-Equal
+returns-in-Equal c = let a = c.args in con-equal a.pool.now a.table.now 0 a.s.now a.at (sym c.view_at.ensures ∙ c.in-Equal.is) c.two_end.result c.two_end.ensures
+
+pub returns-in-IsDim : goal.returns-in-IsDim
+returns-in-IsDim c = let a = c.args in con-dim a.pool.now a.table.now 0 a.s.now a.at (sym c.view_at.ensures ∙ c.in-IsDim.is) c.type_end.result c.type_end.ensures
+
+pub returns-in-IsScalar : goal.returns-in-IsScalar
+returns-in-IsScalar c = let a = c.args in con-scalar a.pool.now a.table.now 0 a.s.now a.at (sym c.view_at.ensures ∙ c.in-IsScalar.is) c.product_end.result c.product_end.ensures
+
+pub returns-then-is_held : goal.returns-then-is_held
+unfolding table_of
+returns-then-is_held c = let a = c.args in con-field a.pool.now a.table.now 0 a.s.now a.at c.in-HasField.x (sym c.view_at.ensures ∙ c.in-HasField.is) (sym c.is_held.ensures ∙ c.if-is_held.true) c.two_end-then-is_held.result c.two_end-then-is_held.ensures
+
+pub returns-else-is_held : goal.returns-else-is_held
+unfolding table_of
+returns-else-is_held c = let a = c.args in con-field-name a.pool.now a.table.now 0 a.s.now a.at c.in-HasField.x (sym c.view_at.ensures ∙ c.in-HasField.is) (sym c.is_held.ensures ∙ c.if-is_held.false)
+
+pub returns-in_default : goal.returns-in_default
+returns-in_default c = let a = c.args in con-other a.pool.now a.table.now 0 a.s.now a.at c.view_at.result (sym c.view_at.ensures) (opened c.in_default.in_default-own.keys5)

@@ -1,0 +1,18 @@
+-- `inner::name_good` meets its contract. Assumes nothing.
+use Rattle.records.proofs.Walks.{held-name}
+use Rattle.rules.specs.Names.{table_of}
+use mathlib.Core.Path.{refl, sym, ◌∙◌}
+use borrow.Author.Rules.{rules}
+use Rattle.records.proofs.inner.name_good.Goals as goal
+
+pub name_follows-requires : goal.name_follows-requires
+unfolding table_of
+name_follows-requires c = record { good = c.requires.good; held_before = c.requires.held_before; x_bound = held-name c.args.pool.now c.args.table.now c.args.x (sym c.is_held.ensures ∙ c.if-is_held.true) }
+
+pub returns-then-is_held : goal.returns-then-is_held
+unfolding table_of
+returns-then-is_held c = rw (sym c.is_held.ensures ∙ c.if-is_held.true) c.name_follows.ensures
+
+pub returns-else-is_held : goal.returns-else-is_held
+unfolding table_of
+returns-else-is_held c = rw (sym c.is_held.ensures ∙ c.if-is_held.false) refl

@@ -1,0 +1,48 @@
+-- `inner::open_order` meets its contract: by the cases. Assumes nothing.
+use Rattle.records.specs.Good.{HeldOpen}
+use Rattle.rules.specs.Trees.{orderOpen}
+use mathlib.Core.Path.{refl, subst}
+use borrow.Author.Rules.{rules}
+use Rattle.records.proofs.inner.open_order.Goals as goal
+
+pub order-requires : goal.order-requires
+order-requires c = let held = HeldOpen c.args.table.now in record { good = c.requires.good; i_bound = subst held c.in-Var.is c.requires.held_open; j_bound = subst held c.in-Var-b.is c.requires.held_open_2 }
+
+pub order-requires-in-Par-b-3 : goal.order-requires-in-Par-b-3
+order-requires-in-Par-b-3 c = let held = HeldOpen c.args.table.now in record { good = c.requires.good; i_bound = subst held c.in-Par.is c.requires.held_open; j_bound = subst held c.in-Par-b-3.is c.requires.held_open_2 }
+
+pub returns-in-Var-b : goal.returns-in-Var-b
+unfolding orderOpen
+returns-in-Var-b c = rw (c.in-Var.is, c.in-Var-b.is) c.order.ensures
+
+pub returns-in-Quant-b : goal.returns-in-Quant-b
+unfolding orderOpen
+returns-in-Quant-b c = rw (c.in-Var.is, c.in-Quant-b.is) refl
+
+pub returns-in-Par-b : goal.returns-in-Par-b
+unfolding orderOpen
+returns-in-Par-b c = rw (c.in-Var.is, c.in-Par-b.is) refl
+
+pub returns-in-Var-b-2 : goal.returns-in-Var-b-2
+unfolding orderOpen
+returns-in-Var-b-2 c = rw (c.in-Quant.is, c.in-Var-b-2.is) refl
+
+pub returns-in-Quant-b-2 : goal.returns-in-Quant-b-2
+unfolding orderOpen
+returns-in-Quant-b-2 c = rw (c.in-Quant.is, c.in-Quant-b-2.is) c.number_order.ensures
+
+pub returns-in-Par-b-2 : goal.returns-in-Par-b-2
+unfolding orderOpen
+returns-in-Par-b-2 c = rw (c.in-Quant.is, c.in-Par-b-2.is) refl
+
+pub returns-in-Var-b-3 : goal.returns-in-Var-b-3
+unfolding orderOpen
+returns-in-Var-b-3 c = rw (c.in-Par.is, c.in-Var-b-3.is) refl
+
+pub returns-in-Quant-b-3 : goal.returns-in-Quant-b-3
+unfolding orderOpen
+returns-in-Quant-b-3 c = rw (c.in-Par.is, c.in-Quant-b-3.is) refl
+
+pub returns-in-Par-b-3 : goal.returns-in-Par-b-3
+unfolding orderOpen
+returns-in-Par-b-3 c = rw (c.in-Par.is, c.in-Par-b-3.is) c.order-in-Par-b-3.ensures

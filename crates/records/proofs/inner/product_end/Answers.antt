@@ -1,0 +1,12 @@
+-- `inner::product_end` meets its contract: its parts, and their length. Assumes nothing.
+use Rattle.records.specs.Closing.{product-closing}
+use Rattle.records.specs.Good.{Ends, GoodProduct}
+use mathlib.Core.Path.{sym, subst}
+use borrow.Author.Rules.{rules}
+use Rattle.records.proofs.inner.product_end.Goals as goal
+
+pub returns : goal.returns
+returns c =
+    let a = c.args in
+    let s = a.s.now in
+    subst (Ends (GoodProduct a.pool.now a.table.now a.q s a.at)) (sym c.closed.ensures) (product-closing a.pool.now a.table.now a.q s a.at c.product_parts.result c.product_parts.ensures)

@@ -1,0 +1,8 @@
+-- `put_one` meets its contract: a length of 1 fits. Assumes nothing.
+use Rattle.records.specs.Cut.{fit}
+use borrow.Author.Rules.{rules}
+use Rattle.records.proofs.inner.put_one.Goals as goal
+
+pub returns : goal.returns
+unfolding fit
+returns c = c.put_record.ensures

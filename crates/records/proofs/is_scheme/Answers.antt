@@ -1,0 +1,18 @@
+-- `is_scheme` meets its contract. Assumes nothing.
+use Rattle.rules.specs.Calls.{schemeCall}
+use Rattle.records.specs.Schemes.{scheme-told}
+use Rattle.records.specs.Whole.{entry-good}
+use Rattle.names.specs.Told.{toldChecked}
+use mathlib.Core.Path.{refl, sym, ap, ◌∙◌}
+use borrow.Author.Rules.{rules}
+use Rattle.records.proofs.is_scheme.Goals as goal
+
+pub scheme_good-requires : goal.scheme_good-requires
+scheme_good-requires c = let a = c.args in (entry-good a.pool.now a.table.now a.words.now (sym (sym (ap toldChecked c.in-Good.is) ∙ c.entry.ensures)))
+
+pub returns-in-Good : goal.returns-in-Good
+returns-in-Good c = let a = c.args in c.listed.ensures ∙ sym (scheme-told a.pool.now a.table.now a.words.now (sym (sym (ap toldChecked c.in-Good.is) ∙ c.entry.ensures)) (record { word = λ i. (c.shared_slice_known-3-1.given i).fits }) c.scheme_good.result c.scheme_good.ensures)
+
+pub returns-in-Refused : goal.returns-in-Refused
+unfolding schemeCall
+returns-in-Refused c = rw (sym c.entry.ensures ∙ ap toldChecked c.in-Refused.is) refl

@@ -1,0 +1,10 @@
+-- `head_of` meets its contract. Assumes nothing.
+use Rattle.records.specs.Cut.{head-fits, head-unfits}
+use borrow.Author.Rules.{rules}
+use Rattle.records.proofs.seen.head_of.Goals as goal
+
+pub returns-then-n-le65535 : goal.returns-then-n-le65535
+returns-then-n-le65535 c = head-fits c.args.kind c.args.n c.if-n-le65535.true
+
+pub returns : goal.returns
+returns c = head-unfits c.args.kind c.args.n c.if-n-le65535.false

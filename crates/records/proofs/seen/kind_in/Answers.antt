@@ -1,0 +1,8 @@
+-- `kind_in` meets its contract. Assumes nothing.
+use Rattle.rules.specs.Writing.{kindIn}
+use mathlib.Core.Path.{refl}
+use Rattle.records.proofs.seen.kind_in.Goals as goal
+
+pub returns : goal.returns
+unfolding kindIn
+returns c = refl
