@@ -15,14 +15,14 @@ use Rattle.rules.specs.Names.{Table, table_of, tableGood, numbersOf, is_held, le
 use Rattle.rules.specs.Contents.{unmixed}
 use Rattle.rules.specs.Reading.{readCon, read_all, records}
 use Rattle.rules.specs.WellFormed.{goodProduct, goodCon}
-use Rattle.rules.specs.Writing.{words, writeCon, writeBinding}
-use Rattle.rules.specs.Solving.{Answer, accepted, remaining, stopped, solve}
-use Rattle.rules.specs.Calls.{lentResult, lentWork, lent, shortLists, tableKept, listGiven, setGiven, apart, resultAfter, workAfter, solvedOf, solvedWords, solvedSet, solveCall, solved, unsolved, refusedAfter}
-use Rattle.laws.specs.Order.{Lawful, Tells}
+use Rattle.rules.specs.Writing.{words, writeBinding}
+use Rattle.rules.specs.Solving.{Answer, solve}
+use Rattle.rules.specs.Calls.{lentResult, lentWork, lent, shortLists, tableKept, listGiven, setGiven, apart, resultAfter, solvedOf, solvedWords, solvedSet, solveCall, solved, unsolved, refusedAfter}
+use Rattle.laws.specs.Order.{Tells}
 use Rattle.laws.specs.ByteOrder.{numbered-lawful, atom-lawful}
 use Rattle.laws.specs.NameTable.{Good, count-is, held_tells}
 use Rattle.laws.specs.Checks.{need-passed}
-use Rattle.laws.specs.Lists.{Every, all-every, all-is, and_left, and_right, bound-step, each-parts, got≢refused}
+use Rattle.laws.specs.Lists.{Every, and_left, and_right, bound-step, each-parts, got≢refused}
 use Rattle.rules.specs.Elimination.{scalarOf, fits, fitting, eliminated, Settled, settled, unsettled, setChecked, eliminatedSet, eliminatedOf, eliminatedWords, eliminateCall, withRounds, Eliminated, allBound, someLeft, refusedWith}
 use Rattle.agreement.specs.Alike.{bracket, same_after}
 use Rattle.agreement.specs.Runs.{answered, append-nil}

@@ -1,7 +1,7 @@
 -- Two answers that stand side by side: both are there and belong together, or both are the same refusal.
 -- Assumes nothing.
 use Rattle.std.specs.Prelude.{◌≡◌, refl, List, [], ◌∷◌, ◌++◌, ℕ, suc, length}
-use Rattle.std.proofs.Common.{ap, sym, subst, arith}
+use Rattle.std.proofs.Common.{ap, subst, arith}
 use Rattle.rules.specs.Base.{Got, got, refused, ◌>>=◌, each}
 use Rattle.laws.specs.Value.{Gives}
 

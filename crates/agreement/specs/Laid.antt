@@ -1,6 +1,6 @@
 -- Products laid out as rows: the columns rise and hold every atom, so a row gives its product back.
 -- Assumes nothing.
-use Rattle.std.specs.Prelude.{◌≡◌, Bool, ◌&&◌, ◌⊎◌, ℕ, zero, suc, ◌+◌, ◌-◌, ◌≤◌, replicate}
+use Rattle.std.specs.Prelude.{◌≡◌, Bool, ◌&&◌, ℕ, zero, suc, ◌+◌, ◌-◌, ◌≤◌, replicate}
 use Rattle.std.proofs.Math.Path.{refl, ap, ap₂}
 use Rattle.std.proofs.Common.{◌∙◌, sym, subst, inl, inr, arith}
 use Rattle.std.proofs.Math.Bool.{true, false, not}
@@ -11,19 +11,17 @@ use borrow.Author.Tests.{leb-true}
 use Rattle.std.proofs.Math.Dec.{leb}
 use Rattle.std.proofs.Math.ListN.{length, length-map}
 use Rattle.rules.specs.Base.{Got, got, refused, ◌>>=◌, bounded, is_yes, keep, collect}
-use Rattle.rules.specs.Exponents.{Exp, nought, isZero, goodStored}
+use Rattle.rules.specs.Exponents.{Exp, nought, isZero}
 use Rattle.rules.specs.Trees.{Atom, Factor, ◌↑◌, Product, Names, is_scalar, orderAtom}
 use Rattle.rules.specs.Products.{put}
-use Rattle.rules.specs.Contents.{sort}
 use Rattle.rules.specs.WellFormed.{atomOf, goodProduct}
-use Rattle.rules.specs.Rounds.{State}
 use Rattle.rules.specs.Solving.{run, solve, enough}
 use Rattle.laws.specs.Lists.{Every, is-yes, is-no, and_left, and_right}
 use Rattle.laws.specs.Order.{Lawful, Tells, self}
 use Rattle.laws.specs.Ranges.{nought-good, stored-good, stored-not-zero}
 use Rattle.laws.specs.Sorted.{Before, Sorted, sooner}
-use Rattle.laws.specs.SortedNames.{In, in-every, every_in, of-sort, sort-rises}
-use Rattle.laws.specs.GoodProducts.{goodAtom, GoodFactor, GoodProduct, good-product, atom-tells}
+use Rattle.laws.specs.SortedNames.{In, in-every, of-sort, sort-rises}
+use Rattle.laws.specs.GoodProducts.{goodAtom, GoodFactor, good-product, atom-tells}
 use Rattle.rules.specs.Elimination.{Row, factors, atomNames, columns, powerIn, row_of, fits, isVariable, eliminate, Settled, settled, unsettled, settledBy, eliminated}
 use Rattle.agreement.specs.Powers.{Good}
 use Rattle.agreement.specs.Rows.{Fit, Rising, factors-kept}

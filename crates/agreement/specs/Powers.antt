@@ -1,13 +1,13 @@
 -- Bounded steps on powers that are 0, 1, or a power and its negative: none of them leaves the range.
 -- Assumes nothing.
-use Rattle.std.specs.Prelude.{◌≡◌, refl, Bool, true, false, ℕ, eqb, nat_abs}
-use Rattle.std.proofs.Common.{ap, ◌∙◌, sym, subst, arith}
+use Rattle.std.specs.Prelude.{◌≡◌, refl, Bool, true, false, eqb, nat_abs}
+use Rattle.std.proofs.Common.{ap, ◌∙◌, sym, subst}
 use Rattle.std.proofs.Math.Bool.{and-eq-true_iff}
 use Rattle.std.proofs.Math.Option.{Option, none, some}
-use Rattle.rules.specs.Base.{Got, got, bounded, allow}
-use Rattle.rules.specs.Exponents.{Exp, frac, gcd, nought, one, in_range, goodExp, isZero, ranged, neg, plus, mul, inverted, sum, times, quotient, timesInverse}
+use Rattle.rules.specs.Base.{got, bounded, allow}
+use Rattle.rules.specs.Exponents.{Exp, frac, gcd, nought, one, in_range, goodExp, isZero, ranged, neg, plus, mul, inverted, sum, times, quotient}
 use Rattle.laws.specs.Lists.{true≢false, allow-same}
-use Rattle.laws.specs.Ranges.{good-lowest, nought-good, neg-good}
+use Rattle.laws.specs.Ranges.{good-lowest, nought-good}
 use Rattle.laws.specs.Fractions.{Lowest, neg-lowest, inverted-lowest, mul-in-lowest, zero-is-nought, neg-zero, nought-mul, mul-nought, plus-nought, nought-plus, plus-neg, mul-one', mul-assoc', mul-comm', mul-inverted, inverted-none}
 
 abbrev pub Good : Exp → Type 0

@@ -1,7 +1,7 @@
 -- Rows and the products that they stand for: each step on rows is the solver's step on the products.
 -- Assumes nothing.
 use Rattle.std.proofs.Math.Path.{◌≡◌, refl, ap, sym}
-use Rattle.std.proofs.Common.{ap₂, ◌∙◌, subst, inl, inr, le-leb}
+use Rattle.std.proofs.Common.{◌∙◌, subst, inl, inr, le-leb}
 use Rattle.std.specs.Prelude.{Bool, ◌⊎◌}
 use Rattle.std.proofs.Math.Bool.{true, false}
 use Rattle.std.proofs.Math.Option
@@ -12,12 +12,11 @@ use native.Mathlib.Omega.{arith}
 use Rattle.std.proofs.Math.ListN.{length, get_or, set}
 use Rattle.rules.specs.Base.{Got, got, refused, ◌>>=◌, bounded, within, each}
 use Rattle.rules.specs.Exponents.{Exp, nought, one, isZero, neg, sum, times, quotient}
-use Rattle.rules.specs.Trees.{Open, var, quant, par, Atom, free, base, Factor, ◌↑◌, Product, Names, Ty, dim, Con, is_scalar, ◌≔◌, orderOpen, orderAtom}
+use Rattle.rules.specs.Trees.{Open, var, quant, par, Atom, free, base, ◌↑◌, Product, Names, dim, is_scalar, ◌≔◌, orderOpen, orderAtom}
 use Rattle.rules.specs.Products.{put, just, single, inverse, mergeOne, merge, multiply, divide, raise}
 use Rattle.rules.specs.Replacing.{Look, asProduct, replaceFactors, replaceProduct, replaceDim, replaceTy, bindings}
-use Rattle.rules.specs.Rounds.{Step, bind, stuck, otherSide, trySatisfy}
-use Rattle.rules.specs.WellFormed.{atomOf}
-use Rattle.laws.specs.Lists.{Every, true≢false}
+use Rattle.rules.specs.Rounds.{bind, stuck, otherSide, trySatisfy}
+use Rattle.laws.specs.Lists.{Every}
 use Rattle.laws.specs.Order.{Lawful, turned, self}
 use Rattle.laws.specs.Value.{together, its_own}
 use Rattle.laws.specs.Ranges.{nought-good, one-good, neg-good, sum-good, times-good, quotient-good}
@@ -26,7 +25,7 @@ use Rattle.laws.specs.SortedNames.{Rises}
 use Rattle.laws.specs.RuleCases.{single-is}
 use Rattle.laws.specs.Occurs.{one-bound}
 use Rattle.rules.specs.Elimination.{Row, solvedFor, timesRow, plusRow, putInRow, Fate, gone, stays, binds, atColumn, oneFurther, fate, factors, atomNames}
-use Rattle.agreement.specs.Alike.{Alike, both, neither, onward, one_more, other-more, same_step, other-is, one-is, other-there, bracket, same_after}
+use Rattle.agreement.specs.Alike.{Alike, both, onward, one_more, other-more, same_step, other-is, other-there, bracket, same_after}
 use Rattle.agreement.specs.Powers.{Good, zero_is, nought-times, times-nought, times-one, sum-nought, nought-sum, sum-neg, nought-quotient, quotient-not-zero}
 
 -- a power is 0, or it isn't

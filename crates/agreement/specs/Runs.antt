@@ -2,25 +2,25 @@
 -- Assumes nothing.
 use Rattle.std.specs.Prelude.{◌≡◌, true, get_or}
 use Rattle.std.proofs.Math.Path.{refl, ap, ap₂, sym}
-use Rattle.std.proofs.Common.{◌∙◌, subst}
+use Rattle.std.proofs.Common.{◌∙◌}
 use Rattle.std.proofs.Math.Option.{Option, none, some}
 use mathlib.Core.List.{List, [], ◌∷◌, ◌++◌, append_assoc, map}
 use Prim.Native.Nat.{ℕ, zero, suc, ◌+◌, ◌*◌, ◌≤◌, ◌<◌, max}
 use native.Mathlib.Omega.{arith}
 use Rattle.std.proofs.Math.ListN.{length}
-use Rattle.rules.specs.Base.{Got, got, refused, ◌>>=◌, bounded, sized, each, keep, collect, and_then, to_list, is_none, sum_of, max_of}
+use Rattle.rules.specs.Base.{Got, got, refused, ◌>>=◌, bounded, each, keep, collect, and_then, is_none, sum_of, max_of}
 use Rattle.rules.specs.Exponents.{nought, isZero}
-use Rattle.rules.specs.Trees.{var, Atom, free, Product, Names, Ty, dim, Con, is_scalar, Binding, ◌≔◌, orderAtom, size, depth, sizeCon, sizeBinding, depthCon, depthBinding}
+use Rattle.rules.specs.Trees.{var, Atom, free, Names, dim, Con, is_scalar, Binding, ◌≔◌, orderAtom, size, depth, sizeCon, sizeBinding, depthCon, depthBinding}
 use Rattle.rules.specs.Contents.{sort}
-use Rattle.rules.specs.Replacing.{Look, replaceProduct, replaceTy, replaceCon, replaceBinding, bindings}
-use Rattle.rules.specs.Rounds.{Step, bind, split, done, stuck, State, trySatisfy, taken, sizeState, depthState, limited, firstStep, perform, performed, round}
+use Rattle.rules.specs.Replacing.{Look, replaceCon, replaceBinding, bindings}
+use Rattle.rules.specs.Rounds.{Step, bind, stuck, State, trySatisfy, taken, sizeState, depthState, limited, firstStep, perform, performed, round}
 use Rattle.rules.specs.Solving.{Answer, accepted, remaining, stopped, boundOf, finished, finish, after, run}
 use Rattle.laws.specs.Lists.{Every, every_append}
 use Rattle.laws.specs.Order.{Lawful}
 use Rattle.laws.specs.Sized.{sized-kept}
 use Rattle.rules.specs.Elimination.{Row, Value, ◌gets◌, solvedFor, putInRow, putInValue, Fate, gone, stays, binds, fate, turned, Reduced, eliminate, factors, boundBy, Settled, settled, unsettled, settledBy}
-use Rattle.agreement.specs.Alike.{Alike, both, neither, onward, other-more, other-is, one-is, other-there, Side, end, beside, each-side, bracket, same_after}
-use Rattle.agreement.specs.Rows.{Fit, Stands, At, factors-few, untouched, Rising, product-row, dimension-row, Does, is-gone, is_stuck, is_bound, does}
+use Rattle.agreement.specs.Alike.{Alike, both, neither, onward, other-more, other-is, other-there, Side, end, beside, each-side, bracket, same_after}
+use Rattle.agreement.specs.Rows.{Fit, At, factors-few, untouched, Rising, product-row, dimension-row, Does, is-gone, is_stuck, is_bound, does}
 
 -- the solver's answer after k rounds, without bounds
 unfoldable pub answered : {N : Type 0} → ℕ → Got (Settled N) → Answer N
