@@ -1,7 +1,7 @@
 -- Bytes put into a buffer, one run after another.
 -- Assumes nothing.
 use Rattle.std.specs.Prelude.{◌≡◌, refl, true, false, List, [], ◌∷◌, ◌++◌, ℕ, zero, suc, ◌+◌, ◌-◌, ◌/◌, ◌%◌, ◌≤◌, ◌<◌, ℤ, length, set, take, get_or}
-use Rattle.std.proofs.Common.{sym, ap, ◌∙◌, append-nil, append_assoc, add-one, arith, lt-ltb, le-ltb, eq-eqb, ne_eqb, length-append, take-suc}
+use Rattle.std.proofs.Common.{sym, ap, ◌∙◌, append-nil, add-one, arith, lt-ltb, le-ltb, eq-eqb, ne_eqb, length-append, take-suc}
 use Rattle.std.proofs.lemmas.List.Edits.{sets}
 use Rattle.rules.specs.Base.{collect, is_yes}
 use Rattle.rules.specs.Exponents.{frac, one as one', Exp-dec}

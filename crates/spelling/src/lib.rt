@@ -1,4 +1,6 @@
 // Names, numbers and powers as text: which bytes stand for themselves, and how all are put into a buffer.
+#![tactic(auto)]
+
 ghost use Rattle.std.specs.Prelude.{◌≡◌, ◌&&◌, leb};
 ghost use Rattle.rules.specs.Grammar.{is_plain};
 
