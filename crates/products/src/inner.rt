@@ -22,7 +22,7 @@ use names::{Checked, Order};
 use rules::{FACTORS, Refusal};
 
 // What becomes of a factor: it stays with a new power, its power is 0, or a refusal.
-#[derive(Drop)]
+#[derive(Clone, Copy)]
 pub enum Joined {
     Keep(Factor),
     Gone,

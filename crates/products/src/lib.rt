@@ -1,4 +1,6 @@
 // Products: at most 64 factors that rise strictly, passed and returned by value.
+#![tactic(auto)]
+
 pub mod inner;
 
 ghost use Rattle.std.specs.Prelude.{◌≡◌};
@@ -14,21 +16,21 @@ use names::{Checked, check_table};
 use rules::Refusal;
 
 // A variable (11), a parameter (12), a base dimension (13) or a quantified variable (15); its name's number or its index; its power.
-#[derive(Drop)]
+#[derive(Clone, Copy)]
 pub struct Factor {
     pub kind: u32,
     pub name: u32,
     pub exp: Exponent,
 }
 
-#[derive(Drop)]
+#[derive(Clone, Copy)]
 pub struct Product {
     pub factors: [Factor; 64],
     pub len: usize,
 }
 
 // A product, or a refusal beside the scalar: an enum can hold no array.
-#[derive(Drop)]
+#[derive(Clone, Copy)]
 pub struct Tried {
     pub checked: Checked,
     pub product: Product,

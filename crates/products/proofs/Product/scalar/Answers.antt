@@ -3,12 +3,8 @@
 use mathlib.Core.Path.{refl}
 use Rattle.rules.specs.Values.{productValue}
 use Rattle.products.specs.Told.{given}
-use Rattle.products.proofs.Product.scalar.Statement.{statement}
-use Rattle.products.proofs.Product.scalar.Tie as tie
+use Rattle.products.proofs.Product.scalar.Goals as goal
 
-returns : tie.Need-returns
+pub returns : goal.returns
 unfolding given productValue
 returns c = refl
-
-pub scalar-spec : {M : Type 1} → statement M
-scalar-spec = tie.close (tie.spec returns)

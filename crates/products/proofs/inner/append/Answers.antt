@@ -1,0 +1,50 @@
+-- `products::inner::append` meets its contract. The invariant: what `q` holds, and which factors are left.
+-- Assumes nothing.
+use mathlib.Core.Path.{◌≡◌, refl, sym, ◌∙◌, ap}
+use mathlib.Core.List.{[], ◌++◌}
+use Prim.Native.Nat.{ℕ, ◌+◌, ◌-◌, ◌≤◌, ◌<◌}
+use native.Mathlib.Omega.{arith}
+use lib.ListN.{drop, length}
+use Rattle.rules.specs.Base.{got}
+use Rattle.rules.specs.Values.{productValue}
+use Rattle.products.specs.Told.{Tree, given, tree_of, productOf, factorAt, put_of}
+use Rattle.products.specs.Kinds.{value-back}
+use Rattle.products.specs.Places.{at_place, at-end}
+use Rattle.products.specs.Steps.{Doing, doing-put, doing-done, got-injective}
+use Rattle.products.proofs.inner.append.Goals as goal
+
+pub loop-i-init : goal.loop-i-init
+loop-i-init c = (omega arith, omega arith, refl, λ acc h. record { acc = acc; is = h; few = omega arith; rest = refl })
+
+pub offset_bounds-p-i : goal.offset_bounds-p-i
+offset_bounds-p-i c = omega (arith, c.requires.sound.few)
+
+pub bounds-p-i : goal.bounds-p-i
+bounds-p-i c = omega (arith, c.requires.sound.few)
+
+pub put-q-requires : goal.put-q-requires
+put-q-requires c = omega (arith, c.requires.sound.few)
+
+pub overflow_add-i : goal.overflow_add-i
+overflow_add-i c = omega (arith, c.requires.sound.few)
+
+pub loop-i-preserved : goal.loop-i-preserved
+unfolding put_of
+loop-i-preserved c =
+    let h : c.loop-i.i < c.args.p.len = omega arith in
+    let f = factorAt c.args.p c.loop-i.i in
+    let e = at_place c.args.p c.requires.sound.long c.requires.sound.few c.loop-i.i h in (
+      omega arith,
+      omega arith,
+      rw c.put-q.ensures (omega arith),
+      λ acc k.
+          let more : length acc + c.loop-i.i < length acc + (c.loop-i.i + 1) = omega arith in
+          rw c.put-q.ensures (doing-put (c.loop-i.invariant.3 acc k) f (tree_of f) _ _ (value-back f (c.requires.sound.kind _ h)) more (ap got e)),
+    )
+
+pub returns : goal.returns
+returns c acc h =
+    let g = c.loop-i.invariant.3 acc h in
+    let i : c.loop-i.i ≡ c.args.p.len = omega arith in
+    let done : drop c.loop-i.i (productOf c.args.p) ≡ [] = ap (λ (k : ℕ). drop k (productOf c.args.p)) i ∙ at-end c.args.p c.requires.sound.long c.requires.sound.few in
+    g.is ∙ ap productValue (sym (got-injective (doing-done g (ap got done))))

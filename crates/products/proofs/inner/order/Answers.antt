@@ -1,0 +1,51 @@
+-- `products::inner::order` meets its contract.
+-- Assumes nothing.
+use mathlib.Core.Path.{◌≡◌, sym, ◌∙◌, ap, ap₂}
+use mathlib.Core.Bool.{cond}
+use Prim.Native.Nat.{compare}
+use borrow.Author.Rules.{rules}
+use borrow.Author.Tests.{eq-eqb, ne_eqb, ltb-true}
+use lib.Dec.{eqb}
+use Rattle.rules.specs.Names.{then, table_of, numbersOf}
+use Rattle.rules.specs.Trees.{orderAtom}
+use Rattle.names.specs.Told.{toldOrder}
+use Rattle.products.specs.Told.{atomAt, heldIn, rank_of}
+use Rattle.products.specs.Kinds.{Fine, held_by, same_rank, order-by}
+use Rattle.products.proofs.inner.order.Goals as goal
+
+pub returns-then-x-eq15 : goal.returns-then-x-eq15
+returns-then-x-eq15 c = let left : Fine (numbersOf (table_of c.args.pool.now c.args.table.now)) (heldIn c.args.table.now) c.args.x = c.requires.fine in
+    let right : Fine (numbersOf (table_of c.args.pool.now c.args.table.now)) (heldIn c.args.table.now) c.args.y = c.requires.fine_2 in
+    let whole : let ν = numbersOf (table_of c.args.pool.now c.args.table.now) in orderAtom ν (atomAt c.args.x) (atomAt c.args.y) ≡ then (compare (rank_of c.args.x.kind) (rank_of c.args.y.kind)) (cond (eqb c.args.x.kind 15) (compare c.args.x.name c.args.y.name) (ν.order c.args.x.name c.args.y.name)) = order-by _ (heldIn c.args.table.now) _ _ _ _ (left).kind (right).kind in
+    let kinds : toldOrder c.order_numbers.result ≡ compare (rank_of c.args.x.kind) (rank_of c.args.y.kind) = c.order_numbers.ensures ∙ ap₂ compare c.rank.ensures c.rank-2.ensures in
+    rw (whole, sym (kinds) ∙ ap toldOrder c.in-Same.is, eq-eqb _ _ c.if-x-eq15.true)
+    c.order_numbers-then-x-eq15.ensures
+
+pub order-requires : goal.order-requires
+order-requires c = let left : Fine (numbersOf (table_of c.args.pool.now c.args.table.now)) (heldIn c.args.table.now) c.args.x = c.requires.fine in
+    let kinds : toldOrder c.order_numbers.result ≡ compare (rank_of c.args.x.kind) (rank_of c.args.y.kind) = c.order_numbers.ensures ∙ ap₂ compare c.rank.ensures c.rank-2.ensures in
+    let right : Fine (numbersOf (table_of c.args.pool.now c.args.table.now)) (heldIn c.args.table.now) c.args.y = c.requires.fine_2 in
+    let other : ¬ (c.args.y.kind ≡ 15) = λ e. c.if-x-eq15.false (same_rank _ _ (left).kind (sym (kinds) ∙ ap toldOrder c.in-Same.is) e) in
+    record { good = c.requires.good; i_bound = ltb-true _ _ (held_by _ _ _ (left) c.if-x-eq15.false); j_bound = ltb-true _ _ (held_by _ _ _ (right) other) }
+
+pub returns-in-Less : goal.returns-in-Less
+returns-in-Less c = let left : Fine (numbersOf (table_of c.args.pool.now c.args.table.now)) (heldIn c.args.table.now) c.args.x = c.requires.fine in
+    let right : Fine (numbersOf (table_of c.args.pool.now c.args.table.now)) (heldIn c.args.table.now) c.args.y = c.requires.fine_2 in
+    let whole : let ν = numbersOf (table_of c.args.pool.now c.args.table.now) in orderAtom ν (atomAt c.args.x) (atomAt c.args.y) ≡ then (compare (rank_of c.args.x.kind) (rank_of c.args.y.kind)) (cond (eqb c.args.x.kind 15) (compare c.args.x.name c.args.y.name) (ν.order c.args.x.name c.args.y.name)) = order-by _ (heldIn c.args.table.now) _ _ _ _ (left).kind (right).kind in
+    let kinds : toldOrder c.order_numbers.result ≡ compare (rank_of c.args.x.kind) (rank_of c.args.y.kind) = c.order_numbers.ensures ∙ ap₂ compare c.rank.ensures c.rank-2.ensures in
+    rw (whole, sym (kinds) ∙ ap toldOrder c.in-Less.is)
+
+pub returns-in-More : goal.returns-in-More
+returns-in-More c = let left : Fine (numbersOf (table_of c.args.pool.now c.args.table.now)) (heldIn c.args.table.now) c.args.x = c.requires.fine in
+    let right : Fine (numbersOf (table_of c.args.pool.now c.args.table.now)) (heldIn c.args.table.now) c.args.y = c.requires.fine_2 in
+    let whole : let ν = numbersOf (table_of c.args.pool.now c.args.table.now) in orderAtom ν (atomAt c.args.x) (atomAt c.args.y) ≡ then (compare (rank_of c.args.x.kind) (rank_of c.args.y.kind)) (cond (eqb c.args.x.kind 15) (compare c.args.x.name c.args.y.name) (ν.order c.args.x.name c.args.y.name)) = order-by _ (heldIn c.args.table.now) _ _ _ _ (left).kind (right).kind in
+    let kinds : toldOrder c.order_numbers.result ≡ compare (rank_of c.args.x.kind) (rank_of c.args.y.kind) = c.order_numbers.ensures ∙ ap₂ compare c.rank.ensures c.rank-2.ensures in
+    rw (whole, sym (kinds) ∙ ap toldOrder c.in-More.is)
+
+pub returns-else-x-eq15 : goal.returns-else-x-eq15
+returns-else-x-eq15 c = let left : Fine (numbersOf (table_of c.args.pool.now c.args.table.now)) (heldIn c.args.table.now) c.args.x = c.requires.fine in
+    let right : Fine (numbersOf (table_of c.args.pool.now c.args.table.now)) (heldIn c.args.table.now) c.args.y = c.requires.fine_2 in
+    let whole : let ν = numbersOf (table_of c.args.pool.now c.args.table.now) in orderAtom ν (atomAt c.args.x) (atomAt c.args.y) ≡ then (compare (rank_of c.args.x.kind) (rank_of c.args.y.kind)) (cond (eqb c.args.x.kind 15) (compare c.args.x.name c.args.y.name) (ν.order c.args.x.name c.args.y.name)) = order-by _ (heldIn c.args.table.now) _ _ _ _ (left).kind (right).kind in
+    let kinds : toldOrder c.order_numbers.result ≡ compare (rank_of c.args.x.kind) (rank_of c.args.y.kind) = c.order_numbers.ensures ∙ ap₂ compare c.rank.ensures c.rank-2.ensures in
+    rw (whole, sym (kinds) ∙ ap toldOrder c.in-Same.is, ne_eqb _ _ c.if-x-eq15.false)
+    c.order.ensures

@@ -1,0 +1,9 @@
+-- `products::inner::refused` meets its contract.
+-- Assumes nothing.
+use borrow.Author.Rules.{rules}
+use Rattle.products.specs.Told.{told, answer}
+use Rattle.products.proofs.inner.refused.Goals as goal
+
+pub returns : goal.returns
+unfolding told answer
+returns c = rw c.scalar-product.ensures
