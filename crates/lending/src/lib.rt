@@ -1,4 +1,6 @@
 // The lent buffers of a call that writes records: are they long enough, and how an answer is handed over.
+#![tactic(auto)]
+
 pub mod inner;
 
 ghost use Rattle.std.specs.Prelude.{◌≡◌};
@@ -8,7 +10,7 @@ ghost use Rattle.rules.specs.Calls.{lent};
 use rules::{POOL_BYTES, RECORD_WORDS, Refusal, TABLE_WORDS, WORK_WORDS};
 
 // How many records were written, or why none were.
-#[derive(Drop)]
+#[derive(Clone, Copy)]
 pub enum Answer {
     Records(usize),
     Refused(Refusal),
