@@ -1,10 +1,10 @@
 -- Word 0 of a record (W-206): kind and length are had back from it, and it is made of them; a part that is read lasts as long as it says.
 -- Assumes nothing.
-use Rattle.std.specs.Prelude.{◌≡◌, refl, Bool, true, false, List, [], ◌∷◌, ◌++◌, ℕ, suc, ◌+◌, ◌<◌, eqb, length}
-use Rattle.std.proofs.Common.{sym, ap, ◌∙◌, arith, eqb-true, eq-eqb, length-append}
-use Rattle.std.proofs.Math.Option.{Option, none, some}
+use Rattle.std.specs.Prelude.{◌≡◌, List, ◌∷◌, ◌++◌, ℕ, suc, ◌+◌, ◌<◌, length}
+use Rattle.std.proofs.Common.{arith, eq-eqb, length-append}
+use Rattle.std.proofs.Math.Option.{some}
 use Rattle.rules.specs.Writing.{Rec, rec, head, kindIn, lengthIn}
-use Rattle.rules.specs.Reading.{Reader, ifSo, lasting, next}
+use Rattle.rules.specs.Reading.{Reader, lasting, next}
 
 pub kind-head : (k n : ℕ) → k < 65_536 → kindIn (head k n) ≡ k
 unfolding head kindIn

@@ -11,7 +11,7 @@ use Rattle.std.proofs.Math.ListN.{length-append}
 use Rattle.std.proofs.lemmas.List.{length-map}
 use Rattle.rules.specs.Base.{all, collect}
 use Rattle.rules.specs.Trees.{Open, var, quant, par, Product, Con, equal, isDim, is_scalar, hasField, Binding, ◌≔◌, sizeCon, sizeBinding, depthCon, depthBinding}
-use Rattle.rules.specs.Writing.{Rec, rec, head, kindIn, lengthIn, words, writeFactor, writeProduct, writeTy, writeCon, writeBinding, writeBound}
+use Rattle.rules.specs.Writing.{Rec, rec, kindIn, lengthIn, words, writeFactor, writeProduct, writeTy, writeCon, writeBinding, writeBound}
 use Rattle.rules.specs.Reading.{Reader, give, pick, next, readTy, scalarTable, scalarKinds, conTable, conKinds, readEqual, readIsDim, readScalar, readHasField, readBoundTo, readCon, bindingTable, bindingKinds, readBinding, boundTable, boundKinds, readBound, read_all, records}
 pub use Rattle.laws.specs.Lists.{Every}
 use Rattle.laws.specs.Reading.{FitsProduct, Fits, read-factors, read-ty}

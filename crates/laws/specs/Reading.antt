@@ -1,6 +1,6 @@
 -- Reading what was written gives it back.
 -- Assumes nothing.
-use Rattle.std.specs.Prelude.{◌≡◌, refl, ℕ, zero, suc, ◌+◌, ◌≤◌, ◌-◌, Bool, true, not, ◌&&◌, leb, ℤ, pos, negsuc, nat_abs, length}
+use Rattle.std.specs.Prelude.{◌≡◌, refl, ℕ, zero, suc, ◌≤◌, ◌-◌, Bool, true, not, ◌&&◌, leb, ℤ, pos, negsuc, nat_abs, length}
 use Rattle.std.proofs.Common.{ap, arith, lt-ltb, le-ltb, leb-true}
 use Rattle.std.proofs.Math.Option.{some}
 use mathlib.Core.List.{List, [], ◌∷◌, ◌++◌, map, append_assoc}

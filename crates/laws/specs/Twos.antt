@@ -7,7 +7,7 @@ use Rattle.std.proofs.Math.Nat.{min-eq_left, min-eq_right, max-eq_left, max-eq_r
 use Rattle.std.proofs.Math.Decide.{dec_le}
 use Rattle.std.specs.Int.Count.{count_trailing_zeros, under}
 use Rattle.rules.specs.Exponents.{gcd}
-use Rattle.laws.specs.Gcd.{IsGcd, one-gcd, is-gcd, gcd-comm, gcd-scale}
+use Rattle.laws.specs.Gcd.{one-gcd, is-gcd, gcd-comm, gcd-scale}
 
 -- m is n without its factors 2
 pub record WithoutTwos (n m : ℕ) : Type 0 where

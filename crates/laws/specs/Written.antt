@@ -6,7 +6,7 @@ use Rattle.std.proofs.Math.Option.{Option, none, some}
 use Prim.Native.Nat.{ℕ, zero, suc, ◌+◌, ◌<◌}
 use Rattle.std.proofs.lemmas.List.{length-map}
 use Rattle.rules.specs.Base.{all}
-use Rattle.rules.specs.Trees.{var, quant, par, free, base, Factor, Ty, opened, basic, dim, fn, struct, list, Tys, Fields, boolean, string, datetime, size, count, countFields}
+use Rattle.rules.specs.Trees.{var, quant, par, Ty, opened, basic, fn, struct, list, boolean, string, datetime, size, count, countFields}
 use Rattle.rules.specs.Writing.{Rec, rec, head, kindIn, lengthIn, twos, signed, by_sign, writeFactor, writeProduct, writeTy, writeTys, writeFields}
 use Rattle.rules.specs.Reading.{Reader, pass, give, unused, pick, ifSo, lasting, next, factorTable, factorKinds, readFactors, readTys, readFields, readField, fieldTable, fieldKinds, readDim, readFn, readStruct, readList, typeTable, typeKinds, readTy}
 use Rattle.laws.specs.Lists.{Every, all-every, all-is}

@@ -1,1 +1,3 @@
+#![tactic(auto)]
+
 // Theorems about the rules stand in specs/; there is no code.

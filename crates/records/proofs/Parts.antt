@@ -14,7 +14,7 @@ use Rattle.records.specs.Views.{viewAt}
 use Rattle.records.specs.Holds.{openOf, viewOpen, Holds, BodyCon, BodyBinding}
 use Rattle.records.specs.ByView.{ArmsCon, con-by-body}
 use Rattle.records.specs.Parsed.{only, only-con, only-binding}
-use Rattle.records.specs.Good.{Ends, holding, goodOpen, goodTy, goodCon, goodBinding, GoodDim, GoodTy, PartsProduct, GoodProduct, GoodTwo, PartsCon, GoodCon, PartsBinding, GoodBinding, PartsBound, GoodBound, Chain, Chained}
+use Rattle.records.specs.Good.{Ends, holding, goodOpen, goodTy, goodCon, GoodDim, GoodTy, PartsProduct, GoodProduct, GoodTwo, PartsCon, GoodCon, PartsBinding, GoodBinding, PartsBound, GoodBound, Chain, Chained}
 use Rattle.records.specs.declared.Open as names
 use Rattle.records.specs.declared.View.{View}
 use Rattle.records.specs.declared.View.TheVariants as view

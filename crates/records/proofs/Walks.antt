@@ -24,7 +24,7 @@ use Rattle.records.specs.Views.{viewAt, longAt}
 use Rattle.records.specs.Holds.{openOf, viewOpen, atomOf, viewAtom, basicOf, viewBasic, Long, HoldsFactor, HoldsFactors, Holds, HoldsTys, HoldsFields, Body}
 use Rattle.records.specs.ByView.{Arms, by-body, factor-by-view}
 use Rattle.records.specs.Parsed.{only, only-tys}
-use Rattle.records.specs.Good.{Ends, HeldOpen, HeldAtom, numbers, holding, follows, risingFrom, atomFollows, atomsFrom, goodOpen, goodAtom, goodFactors, goodProduct, goodTy, goodTys, goodFields, GoodFactors, GoodDim, PartsTy, GoodTy, GoodTys, GoodField, GoodFields}
+use Rattle.records.specs.Good.{Ends, HeldOpen, HeldAtom, numbers, holding, follows, risingFrom, atomFollows, atomsFrom, goodOpen, goodAtom, goodFactors, goodTy, goodTys, goodFields, GoodFactors, GoodDim, PartsTy, GoodTy, GoodTys, GoodField, GoodFields}
 use Rattle.records.specs.declared.Atom as atoms
 use Rattle.records.specs.declared.Open as names
 use Rattle.records.specs.declared.Basic as basics

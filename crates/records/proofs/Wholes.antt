@@ -7,7 +7,7 @@ use native.Mathlib.Omega.{arith}
 use lib.ListN.{length}
 use Rattle.rules.specs.Trees as tree
 use Rattle.rules.specs.Trees.{Ty, size}
-use Rattle.rules.specs.Schemes.{Scheme, concrete, scheme}
+use Rattle.rules.specs.Schemes.{concrete, scheme}
 use Rattle.records.specs.Views.{viewAt}
 use Rattle.records.specs.ByView.{ends-in}
 use Rattle.records.specs.declared.View.TheVariants as view

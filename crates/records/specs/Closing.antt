@@ -1,11 +1,10 @@
 -- A part that was found but for the length that its first record says, and that length. Assumes nothing.
-use Rattle.std.specs.Prelude.{◌≡◌, refl, Bool, true, false, List, ℕ, suc, ◌+◌, ◌/◌, eqb}
+use Rattle.std.specs.Prelude.{◌≡◌, refl, Bool, true, false, List, ℕ, ◌+◌, ◌/◌, eqb}
 use Rattle.std.proofs.Math.Path.{sym}
 use Rattle.std.proofs.Common.{ap, ◌∙◌, arith, eqb-true}
 use Rattle.std.proofs.lemmas.Bool.{eqb-false}
 use Rattle.std.proofs.Math.ListN.{length}
-use Rattle.rules.specs.Trees as tree
-use Rattle.rules.specs.Trees.{Product, Ty, Con, Binding, size, sizeCon, sizeBinding}
+use Rattle.rules.specs.Trees.{Ty, Con, Binding, size, sizeCon, sizeBinding}
 use Rattle.rules.specs.Schemes.{Scheme, concrete, scheme}
 use Rattle.records.specs.Views.{longAt}
 use Rattle.records.specs.Holds.{Long, HoldsProduct, holds-long, holds-body, body-holds, con-long, con-body, body-con, binding-long, binding-body, body-binding}

@@ -1,12 +1,11 @@
 -- Records as code writes them: a length that doesn't fit the word (over 65,535, which no list that goes out has) is left out. Assumes nothing.
-use Rattle.std.specs.Prelude.{◌≡◌, refl, Bool, true, false, List, [], ◌∷◌, ◌++◌, map, ℕ, suc, ◌+◌, ◌*◌, ◌≤◌, ◌<◌, leb, length, get_or}
-use Rattle.std.proofs.Common.{sym, ap, ap₂, ◌∙◌, arith, le-leb, length-append}
+use Rattle.std.specs.Prelude.{◌≡◌, refl, Bool, true, false, List, [], ◌∷◌, ◌++◌, map, ℕ, suc, ◌+◌, ◌*◌, ◌≤◌, ◌<◌, leb, length}
+use Rattle.std.proofs.Common.{ap, ap₂, ◌∙◌, arith, le-leb}
 use Rattle.std.proofs.lemmas.Bool.{lt-leb}
 use Rattle.rules.specs.Writing.{Rec, rec, head, kindIn, lengthIn, writeFactor, writeProduct, writeTy, writeTys, writeFields, writeCon, writeBinding}
 use Rattle.rules.specs.Base.{collect, sum_of}
 use Rattle.rules.specs.Exponents.{frac}
-use Rattle.rules.specs.Trees.{var, quant, par, free, base, boolean, string, datetime, ◌↑◌, Factor, Product, Ty, opened, basic, dim, fn, struct, list, Tys, nil, cons, Fields, noFields, field, Con, equal, isDim, is_scalar, hasField, Binding, ◌≔◌, size, sizeTys, sizeFields, sizeCon, sizeBinding}
-use Rattle.rules.specs.Views.{kindOpen, kindBasic}
+use Rattle.rules.specs.Trees.{var, quant, par, free, base, boolean, string, datetime, ◌↑◌, Product, Ty, opened, basic, dim, fn, struct, list, Tys, nil, cons, Fields, noFields, field, Con, equal, isDim, is_scalar, hasField, Binding, ◌≔◌, size, sizeTys, sizeFields, sizeCon, sizeBinding}
 use Rattle.laws.specs.Heads.{kind-head, length-head}
 
 abbrev pub fitIf : Bool → ℕ → ℕ

@@ -10,7 +10,7 @@ use Rattle.rules.specs.Base.{all}
 use Rattle.rules.specs.Trees as tree
 use Rattle.rules.specs.Trees.{Factor, Product, Ty, opened, basic, Tys, Fields, Con, equal, isDim, is_scalar, hasField, Binding, ◌≔◌, size, sizeTys, sizeFields, sizeCon, sizeBinding, depth, depthTys, depthFields, depthCon, depthBinding, count, countFields}
 use Rattle.rules.specs.Writing.{Rec, rec, kindIn, lengthIn, twos, signed}
-use Rattle.rules.specs.Reading.{Reader, pass, give, unused, next, factorTable, factorKinds, readFactors, readTys, readFields, readField, fieldTable, fieldKinds, readDim, readFn, readStruct, readList, typeTable, typeKinds, readTy, readCon, conTable, conKinds, scalarTable, scalarKinds, readBinding, bindingTable, bindingKinds}
+use Rattle.rules.specs.Reading.{Reader, pass, give, next, factorTable, factorKinds, readFactors, readTys, readFields, readField, fieldTable, fieldKinds, readDim, readFn, readStruct, readList, typeTable, typeKinds, readTy, readCon, conTable, conKinds, scalarTable, scalarKinds, readBinding, bindingTable, bindingKinds}
 use Rattle.laws.specs.Written.{Reads, nothing, given, then, picked, lasting-read, unsigned}
 use Rattle.laws.specs.Written as laws
 use Rattle.records.specs.Views.{plain, shape_of, view_of, longOf, longAt, from}

@@ -4,15 +4,13 @@ use Rattle.std.proofs.Math.Path.{refl}
 use Rattle.std.proofs.Common.{sym, ap, ◌∙◌, add-zero, arith}
 use mathlib.Core.List.{List, [], ◌∷◌, ◌++◌, map, append_assoc}
 use Rattle.std.proofs.Math.Seq.{slice}
-use Rattle.rules.specs.Base.{all}
 use Rattle.rules.specs.Exponents.{frac}
 use Rattle.rules.specs.Trees as tree
 use Rattle.rules.specs.Trees.{Factor, ◌↑◌, Product, Ty, opened, basic, dim, fn, struct, list, Tys, nil, cons, Fields, noFields, field, Con, equal, isDim, is_scalar, hasField, Binding, ◌≔◌, size, sizeTys, sizeFields, sizeCon, sizeBinding, count, countFields}
 use Rattle.rules.specs.Writing.{Rec, rec, head, twos, writeFactor, writeProduct, writeTy, writeTys, writeFields, writeCon, writeBinding, words}
 use Rattle.laws.specs.Size.{size-ty, size-tys}
-use Rattle.laws.specs.Heads.{length-head}
 use Rattle.laws.specs.Reading.{FitsProduct, Fits, FitsTys, FitsFields, sign}
-use Rattle.records.specs.Views.{view_of, longOf, recOf, viewAt, longAt, from}
+use Rattle.records.specs.Views.{recOf, from}
 use Rattle.records.specs.Places.{Says, Written, seen, rec-view, rec-long, first, past, words-from}
 use Rattle.records.specs.Holds.{viewOpen, viewAtom, viewBasic, Shows, Long, HoldsFactors, HoldsProduct, Holds, HoldsTys, HoldsFields, HoldsCon, HoldsBinding}
 use Rattle.records.specs.ByView.{in_reach}

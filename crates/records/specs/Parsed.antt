@@ -16,8 +16,8 @@ use Rattle.rules.specs.Writing.{Rec, rec, head, twos}
 use Rattle.rules.specs.Reading.{Reader, next, factorKinds, readFactors, readTys, fieldKinds, readFields, typeKinds, readTy, scalarKinds, conKinds, readCon, bindingKinds, readBinding}
 use Rattle.records.specs.Views.{from}
 use Rattle.records.specs.Places.{from-length, seen-in, seen}
-use Rattle.records.specs.Holds.{viewOpen, viewAtom, viewBasic, Shows, Long, HoldsFactor, HoldsFactors, HoldsProduct, Holds, HoldsTys, HoldsFields, HoldsCon, HoldsBinding, Body, BodyCon, BodyBinding, con-body, binding-body}
-use Rattle.records.specs.ByView.{open-back, basic-back, by-body, con-by-body, factors-in, product-in, ends-in, con-in, binding-in}
+use Rattle.records.specs.Holds.{viewOpen, viewBasic, Shows, Long, HoldsFactor, HoldsFactors, HoldsProduct, Holds, HoldsTys, HoldsFields, HoldsCon, HoldsBinding, Body, BodyCon, BodyBinding, con-body, binding-body}
+use Rattle.records.specs.ByView.{open-back, basic-back, by-body, con-by-body, product-in, ends-in, con-in, binding-in}
 use Rattle.records.specs.declared.View.TheVariants as view
 
 -- a limit that leaves room for one level

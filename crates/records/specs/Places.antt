@@ -16,7 +16,7 @@ use Rattle.rules.specs.Writing.{Rec, rec, head, kindIn, lengthIn, words}
 use Rattle.laws.specs.Heads.{head-back, kind-head, length-head}
 use Rattle.laws.specs.Written.{Zeros}
 use Rattle.records.specs.Cut.{fit, cutRec, cut-head}
-use Rattle.records.specs.Views.{either, plain, pick, view_of, shape_of, recOpen, recFactor, recBound, kindOfBasic, bareOf, lengthened, recOf, longOf, recs, from, viewAt, longAt, boundTable, schemeTable, typeTable, otherTable}
+use Rattle.records.specs.Views.{either, plain, pick, view_of, recOpen, recFactor, recBound, kindOfBasic, bareOf, lengthened, recOf, longOf, recs, from, viewAt, longAt, boundTable, schemeTable, typeTable, otherTable}
 use Rattle.records.specs.declared.Open as names
 use Rattle.records.specs.declared.Atom as atoms
 use Rattle.records.specs.declared.Basic as basics

@@ -1,6 +1,6 @@
 -- Reports by computation, over the names of Examples (x, y, z, a, L, P): each finding of a sheet, as it is printed.
 -- Assumes nothing.
-use Rattle.std.specs.Prelude.{◌≡◌, refl, List, [], ◌∷◌, ◌++◌, ℕ, zero, suc, replicate}
+use Rattle.std.specs.Prelude.{◌≡◌, refl, List, [], ◌∷◌, ◌++◌, replicate}
 use Prim.Native.String.{String}
 use Rattle.rules.specs.Base.{collect}
 use Rattle.rules.specs.Names.{Bytes, table_of}

@@ -1,7 +1,6 @@
 -- Sheets by computation, over the names of rules' Examples (x, y, z, a, L, P): every production, every refusal with its line and column.
 -- Assumes nothing.
 use Rattle.std.specs.Prelude.{◌≡◌, refl, List, [], ◌∷◌, ◌++◌, map, ℕ, zero, suc, pos, negsuc, length, replicate, take}
-use Rattle.std.proofs.Math.Option.{Option, none, some}
 use Prim.Native.String.{String}
 use Rattle.rules.specs.Base.{Got, got, refused, collect, ◌>>=◌}
 use Rattle.rules.specs.Exponents.{frac, one}
@@ -12,8 +11,8 @@ use Rattle.rules.specs.Writing.{Rec, rec, words, writeCon}
 use Rattle.rules.specs.Lengths.{sized, sizedWords, counting}
 use Rattle.rules.specs.Examples.{x, y, z, a, L, P, pool, table, result, work}
 use Rattle.rules.specs.Rules.{rules}
-use Rattle.rules.specs.Grammar.{ascii, lines_of}
-use Rattle.rules.specs.TextReading.{Sofar, Told, told, refusedAt, lineRead, Sheet, sheet, refusedIn, sheetRead, ReadAnswer, wasRead, notRead, readTextCall}
+use Rattle.rules.specs.Grammar.{ascii}
+use Rattle.rules.specs.TextReading.{Sofar, Told, told, refusedAt, lineRead, Sheet, sheet, refusedIn, sheetRead, wasRead, notRead, readTextCall}
 use Rattle.rules.specs.TextWriting.{decimal, setText, namesIn, text_of}
 use Rattle.rules.specs.Sheets.{sheets}
 

@@ -4,7 +4,7 @@ use Rattle.std.specs.Prelude.{Bool, true, false, not, ◌&&◌, List, [], ◌∷
 use Rattle.std.proofs.Math.Option.{Option, none, some}
 use Prim.Native.Nat.{ℕ, zero, suc, ◌+◌, ◌-◌, compare, Ordering}
 use Rattle.std.proofs.Math.Decide.{ℕ_discrete}
-use Rattle.rules.specs.Base.{is_yes, list-dec, any, Got, got, refused, ◌>>=◌, ◌>>◌, need}
+use Rattle.rules.specs.Base.{is_yes, list-dec, any, Got, got, refused, ◌>>◌, need}
 use Rattle.rules.specs.Trees.{Names}
 use Rattle.rules.specs.declared.Was.{Was}
 use Rattle.rules.specs.declared.Was.TheVariants.{New, Known}

@@ -1,6 +1,6 @@
 -- What is told of the sheets of an edition, byte by byte: 'accepted' stands only where the solver accepted a sheet and the judge says yes.
 -- Assumes nothing.
-use Rattle.std.specs.Prelude.{Bool, true, false, ◌&&◌, ◌||◌, List, [], ◌∷◌, ◌++◌, map, ℕ, zero, suc, ◌+◌, ◌-◌, min, eqb, leb, ltb, length, take, drop, replicate, get_or}
+use Rattle.std.specs.Prelude.{Bool, true, false, ◌&&◌, ◌||◌, List, [], ◌∷◌, ◌++◌, map, ℕ, ◌-◌, eqb, leb, ltb, length, take, drop, replicate, get_or}
 use Rattle.rules.specs.Base.{Got, got, refused, bounded, collect, sum_of}
 use Rattle.rules.specs.Trees.{var, Names, Con, Binding, ◌≔◌}
 use Rattle.rules.specs.Names.{Bytes, Table, table_of, numbersOf}

@@ -1,4 +1,6 @@
 // What all code shares: the refusals of document 01, with 11 and 12 of document 02, and the limits.
+#![tactic(auto)]
+
 ghost use Rattle.std.specs.Prelude.{◌≡◌};
 ghost use Rattle.rules.specs.Refusals.{number_of};
 

@@ -1,7 +1,6 @@
 -- `cases::digit_from` meets its contract. The invariant: what is left from i on decides.
 -- Assumes nothing.
-use Rattle.std.proofs.Common.{◌≡◌, ◌-◌, length, drop, sym, refl, ◌∙◌, rules}
-use Rattle.cases.specs.Text.{digitPlace}
+use Rattle.std.proofs.Common.{sym, refl, ◌∙◌, rules}
 use Rattle.cases.specs.Steps.{place_end, place_here, place-on}
 use Rattle.cases.proofs.digit_from.Goals as goal
 

@@ -1,6 +1,5 @@
-use Rattle.std.proofs.Common.{◌≡◌, ◌-◌, length, drop, sym, refl, ◌∙◌, rules}
+use Rattle.std.proofs.Common.{◌≡◌, ◌-◌, length, drop}
 use Rattle.cases.specs.Text.{digitPlace}
-use Rattle.cases.specs.Steps.{place_end, place_here, place-on}
 use Rattle.cases.proofs.digit_from.Given as goal
 
 abbrev pub invariant-loop-i : goal.invariant-loop-i

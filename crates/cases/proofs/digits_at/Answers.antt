@@ -1,7 +1,6 @@
 -- `cases::digits_at` meets its contract. The invariant: what is left from i on, put to the word, decides.
 -- Assumes nothing.
-use Rattle.std.proofs.Common.{◌≡◌, ℕ, ◌+◌, ◌-◌, length, drop, sym, refl, ap, ◌∙◌, rules}
-use borrow.Author.Tests.{not-true, not-false}
+use Rattle.std.proofs.Common.{ℕ, ◌+◌, drop, sym, refl, ap, ◌∙◌, rules}
 use Rattle.cases.specs.Text.{digits}
 use Rattle.cases.specs.Steps.{digit_low, digits-end, digits-stop, digits-on}
 use Rattle.cases.proofs.digits_at.Goals as goal

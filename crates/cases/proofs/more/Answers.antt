@@ -1,6 +1,6 @@
 -- `cases::more` meets its contract.
 -- Assumes nothing.
-use Rattle.std.proofs.Common.{rules, le-ltb, lt-ltb}
+use Rattle.std.proofs.Common.{le-ltb, lt-ltb}
 use Rattle.cases.proofs.more.Goals as goal
 
 pub returns-then-n-lt1000000 : goal.returns-then-n-lt1000000

@@ -1,6 +1,5 @@
-use Rattle.std.proofs.Common.{◌≡◌, ◌-◌, length, drop, sym, refl, ◌∙◌, rules, eq-eqb, ne_eqb}
+use Rattle.std.proofs.Common.{◌≡◌, ◌-◌, length, drop}
 use Rattle.cases.specs.Text.{lineEnd}
-use Rattle.cases.specs.Steps.{line-end, line-here, line_on}
 use Rattle.cases.proofs.next_line.Given as goal
 
 abbrev pub invariant-loop-i : goal.invariant-loop-i

@@ -1,6 +1,5 @@
 -- `names::check_table` meets its contract: each return is a case of the definition. Assumes nothing.
 use mathlib.Core.Path.{sym, ◌∙◌}
-use borrow.Author.Rules.{rules}
 use borrow.Author.Tests.{le-leb, lt-leb}
 use Rattle.rules.specs.Names.{lentTable, tableGiven}
 use Rattle.names.proofs.check_table.Goals as goal

@@ -4,7 +4,6 @@ use Rattle.records.specs.Whole.{bindings-told}
 use Rattle.records.specs.Whole.{entry-good}
 use Rattle.names.specs.Told.{toldChecked}
 use mathlib.Core.Path.{refl, sym, ap, ◌∙◌}
-use borrow.Author.Rules.{rules}
 use Rattle.records.proofs.is_bindings.Goals as goal
 
 pub bindings_good-requires : goal.bindings_good-requires

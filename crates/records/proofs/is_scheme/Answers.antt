@@ -4,7 +4,6 @@ use Rattle.records.specs.Schemes.{scheme-told}
 use Rattle.records.specs.Whole.{entry-good}
 use Rattle.names.specs.Told.{toldChecked}
 use mathlib.Core.Path.{refl, sym, ap, ◌∙◌}
-use borrow.Author.Rules.{rules}
 use Rattle.records.proofs.is_scheme.Goals as goal
 
 pub scheme_good-requires : goal.scheme_good-requires

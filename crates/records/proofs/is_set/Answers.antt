@@ -4,7 +4,6 @@ use Rattle.records.specs.Whole.{set_told}
 use Rattle.records.specs.Whole.{entry-good}
 use Rattle.names.specs.Told.{toldChecked}
 use mathlib.Core.Path.{refl, sym, ap, ◌∙◌}
-use borrow.Author.Rules.{rules}
 use Rattle.records.proofs.is_set.Goals as goal
 
 pub set_good-requires : goal.set_good-requires

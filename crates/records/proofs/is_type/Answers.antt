@@ -4,7 +4,6 @@ use Rattle.records.specs.Whole.{type-told}
 use Rattle.records.specs.Whole.{entry-good}
 use Rattle.names.specs.Told.{toldChecked}
 use mathlib.Core.Path.{refl, sym, ap, ◌∙◌}
-use borrow.Author.Rules.{rules}
 use Rattle.records.proofs.is_type.Goals as goal
 
 pub type_good-requires : goal.type_good-requires

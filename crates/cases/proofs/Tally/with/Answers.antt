@@ -1,6 +1,5 @@
 -- `cases::Tally::with` meets its contract.
 -- Assumes nothing.
-use Rattle.std.proofs.Common.{rules}
 use Rattle.cases.proofs.Tally.with.Goals as goal
 
 pub returns-then-right : goal.returns-then-right

@@ -2,7 +2,6 @@
 -- Assumes nothing.
 use mathlib.Core.Path.{◌≡◌, sym, ◌∙◌}
 use mathlib.Core.Bool.{◌&&◌, true, and-eq-true_iff}
-use borrow.Author.Rules.{rules}
 use Rattle.rules.specs.Exponents.{goodExp}
 use Rattle.rules.specs.Values.{sumCall}
 use Rattle.exponents.specs.Answers.{expOf}

@@ -1,7 +1,6 @@
 -- `exponents::Exponent::is_stored` meets its contract.
 -- Assumes nothing.
 use mathlib.Core.Path.{sym, ◌∙◌}
-use borrow.Author.Rules.{rules}
 use Rattle.rules.specs.Exponents.{goodStored}
 use Rattle.exponents.proofs.Exponent.is_stored.Goals as goal
 

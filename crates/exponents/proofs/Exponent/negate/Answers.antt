@@ -1,7 +1,6 @@
 -- `exponents::Exponent::negate` meets its contract.
 -- Assumes nothing.
 use mathlib.Core.Path.{◌≡◌, sym, ◌∙◌, ap}
-use borrow.Author.Rules.{rules}
 use mathlib.Core.Bool.{true}
 use Rattle.rules.specs.Base.{got}
 use Rattle.rules.specs.Exponents.{goodExp}

@@ -1,7 +1,6 @@
 -- `exponents::Exponent::num_word` meets its contract.
 -- Assumes nothing.
 use mathlib.Core.Path.{◌∙◌, ap}
-use borrow.Author.Rules.{rules}
 use mir.Syntax.{w32}
 use Rattle.rules.specs.Writing.{twos}
 use Rattle.exponents.proofs.Held.{back}

@@ -2,7 +2,6 @@
 -- Assumes nothing.
 use mathlib.Core.Path.{◌≡◌, sym, ◌∙◌, ap}
 use native.Mathlib.Omega.{arith}
-use borrow.Author.Rules.{rules}
 use lib.IntN.{nat_abs}
 use Rattle.exponents.proofs.Held.{widened}
 use Rattle.exponents.proofs.Steps.{bad-num, bad-none, bad-den, by-gcd}

@@ -1,7 +1,6 @@
 -- `exponents::Exponent::well_formed_with` meets its contract.
 -- Assumes nothing.
 use mathlib.Core.Path.{sym, ◌∙◌}
-use borrow.Author.Rules.{rules}
 use Rattle.exponents.proofs.Exponent.well_formed_with.Goals as goal
 
 pub returns-then-well_formed : goal.returns-then-well_formed

@@ -3,7 +3,6 @@
 use mathlib.Core.Path.{◌≡◌, sym, ap, ◌∙◌}
 use Prim.Native.Nat.{ℕ, ◌*◌, ◌%◌, ◌^◌}
 use native.Mathlib.Omega.{arith}
-use borrow.Author.Rules.{rules}
 use Rattle.rules.specs.Exponents.{gcd}
 use Rattle.laws.specs.Gcd.{gcd-comm, gcd-end}
 use Rattle.laws.specs.Twos.{gcd-one, gcd-shifted, gcd-shifted-right, gcd-fits}

@@ -1,7 +1,7 @@
 -- `exponents::divisor::of_odd` meets its contract. The invariant: x and y are odd, with the greatest common divisor of a and b.
 -- The measure is their sum. Assumes nothing.
 use mathlib.Core.Path.{◌≡◌, refl, sym, ◌∙◌, ap, ap₂, subst}
-use Prim.Native.Nat.{ℕ, ◌+◌, ◌-◌, ◌%◌, min, max}
+use Prim.Native.Nat.{ℕ, ◌-◌, ◌%◌, min, max}
 use native.Mathlib.Omega.{arith}
 use Rattle.rules.specs.Exponents.{gcd}
 use Rattle.laws.specs.Twos.{WithoutTwos, gcd-odd-step, gcd-self, min-odd, without-le}

@@ -1,8 +1,6 @@
-use mathlib.Core.Path.{◌≡◌, refl, sym, ◌∙◌, ap, ap₂, subst}
-use Prim.Native.Nat.{ℕ, ◌+◌, ◌-◌, ◌%◌, min, max}
-use native.Mathlib.Omega.{arith}
+use mathlib.Core.Path.{◌≡◌}
+use Prim.Native.Nat.{◌+◌, ◌%◌}
 use Rattle.rules.specs.Exponents.{gcd}
-use Rattle.laws.specs.Twos.{WithoutTwos, gcd-odd-step, gcd-self, min-odd, without-le}
 use Rattle.exponents.proofs.divisor.of_odd.Given as goal
 
 abbrev pub invariant-loop-x : goal.invariant-loop-x

@@ -3,7 +3,6 @@
 use mathlib.Core.Path.{◌∙◌, ap}
 use native.Mathlib.Nat.{mul-pos}
 use Prim.Native.Nat.{◌*◌}
-use borrow.Author.Rules.{rules}
 use lib.IntN.{ℤ}
 use Rattle.rules.specs.Base.{bounded}
 use Rattle.rules.specs.Exponents.{lowest, ranged, mul, times}

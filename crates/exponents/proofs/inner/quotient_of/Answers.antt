@@ -1,7 +1,6 @@
 -- `exponents::inner::quotient_of` meets its contract.
 -- Assumes nothing.
 use mathlib.Core.Path.{sym, ◌∙◌}
-use borrow.Author.Rules.{rules}
 use Rattle.rules.specs.Exponents.{quotient}
 use Rattle.laws.specs.Ranges.{inverted-good}
 use Rattle.exponents.specs.Answers.{expOf}

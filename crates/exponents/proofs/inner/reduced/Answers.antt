@@ -3,7 +3,6 @@
 use mathlib.Core.Path.{◌≡◌, sym, ◌∙◌, ap}
 use Prim.Native.Nat.{ℕ, ◌/◌, ◌<◌}
 use native.Mathlib.Omega.{arith}
-use borrow.Author.Rules.{rules}
 use lib.IntN.{nat_abs}
 use mir.Syntax.{w64}
 use mir.Facts.{to_z-of_z}

@@ -1,12 +1,10 @@
 -- `names::inner::digest` meets its contract. The invariant: what is left to take in gives the digest of all. Assumes nothing.
-use mathlib.Core.Path.{◌≡◌, refl, sym, ap, ◌∙◌}
-use Prim.Native.Nat.{ℕ, ◌-◌, ◌≤◌, ◌<◌}
+use mathlib.Core.Path.{refl, sym, ap, ◌∙◌}
 use native.Mathlib.Numerals.{add-one}
 use native.Mathlib.Omega.{arith}
-use borrow.Author.Rules.{rules}
-use lib.ListN.{length, drop, get_or, drop_of_length-le}
+use lib.ListN.{drop_of_length-le}
 use lib.Seq.{drop-cons}
-use Rattle.names.specs.Digests.{digestFrom, digestOf}
+use Rattle.names.specs.Digests.{digestFrom}
 use Rattle.names.proofs.inner.digest.Goals as goal
 
 pub loop-i-init : goal.loop-i-init

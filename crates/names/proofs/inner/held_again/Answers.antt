@@ -1,14 +1,11 @@
 -- `names::inner::held_again` meets its contract. The invariant: the names from j on decide. Assumes nothing.
-use mathlib.Core.Path.{◌≡◌, refl, sym, ap, ◌∙◌}
-use Prim.Native.Nat.{ℕ, ◌+◌, ◌-◌, ◌≤◌, ◌<◌}
-use native.Mathlib.Numerals.{add-one}
+use mathlib.Core.Path.{refl, sym, ◌∙◌}
+use Prim.Native.Nat.{◌<◌}
 use native.Mathlib.Omega.{arith}
-use borrow.Author.Rules.{rules}
-use lib.ListN.{length, drop, get_or}
-use Rattle.rules.specs.Base.{any}
-use Rattle.rules.specs.Names.{table_of, names_of, sameBytes}
+use lib.ListN.{length, get_or}
+use Rattle.rules.specs.Names.{table_of, names_of}
 use Rattle.laws.specs.NameTable.{length-names}
-use Rattle.names.specs.Digests.{nameIn, one-here, none_here, none-behind}
+use Rattle.names.specs.Digests.{one-here, none_here, none-behind}
 use Rattle.names.proofs.inner.held_again.Goals as goal
 
 pub loop-j-init : goal.loop-j-init

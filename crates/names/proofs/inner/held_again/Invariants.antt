@@ -1,13 +1,9 @@
-use mathlib.Core.Path.{◌≡◌, refl, sym, ap, ◌∙◌}
-use Prim.Native.Nat.{ℕ, ◌+◌, ◌-◌, ◌≤◌, ◌<◌}
-use native.Mathlib.Numerals.{add-one}
-use native.Mathlib.Omega.{arith}
-use borrow.Author.Rules.{rules}
-use lib.ListN.{length, drop, get_or}
+use mathlib.Core.Path.{◌≡◌}
+use Prim.Native.Nat.{◌+◌, ◌-◌, ◌≤◌}
+use lib.ListN.{drop}
 use Rattle.rules.specs.Base.{any}
 use Rattle.rules.specs.Names.{table_of, names_of, sameBytes}
-use Rattle.laws.specs.NameTable.{length-names}
-use Rattle.names.specs.Digests.{nameIn, one-here, none_here, none-behind}
+use Rattle.names.specs.Digests.{nameIn}
 use Rattle.names.proofs.inner.held_again.Given as goal
 
 abbrev pub invariant-loop-j : goal.invariant-loop-j

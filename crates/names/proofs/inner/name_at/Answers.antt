@@ -4,7 +4,6 @@ use Prim.Native.Nat.{ℕ, suc, ◌≤◌, ◌<◌}
 use native.Mathlib.Numerals.{add-one}
 use native.Mathlib.Omega.{arith}
 use lib.ListN.{length, get_or}
-use borrow.Author.Rules.{rules}
 use Rattle.laws.specs.NameTable.{placed, name-is}
 use Rattle.names.proofs.inner.name_at.Goals as goal
 

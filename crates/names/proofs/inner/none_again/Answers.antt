@@ -1,15 +1,14 @@
 -- `names::inner::none_again` meets its contract. The invariant: the names from k on decide. Assumes nothing.
 use mathlib.Core.Path.{◌≡◌, refl, sym, ◌∙◌, ap}
 use mathlib.Core.List.{[], ◌∷◌}
-use Prim.Native.Nat.{ℕ, ◌+◌, ◌-◌, ◌≤◌, ◌<◌}
+use Prim.Native.Nat.{ℕ, ◌+◌, ◌<◌}
 use native.Mathlib.Numerals.{add-one}
 use native.Mathlib.Omega.{arith}
-use borrow.Author.Rules.{rules}
-use lib.ListN.{length, drop, get_or}
+use lib.ListN.{drop, get_or}
 use lib.Seq.{drop-cons}
 use Rattle.rules.specs.Names.{table_of, names_of, distinct}
 use Rattle.laws.specs.NameTable.{length-names, names-end}
-use Rattle.names.specs.Digests.{nameIn, repeated, fresh}
+use Rattle.names.specs.Digests.{repeated, fresh}
 use Rattle.names.proofs.inner.none_again.Goals as goal
 
 pub loop-k-init : goal.loop-k-init

@@ -1,14 +1,7 @@
-use mathlib.Core.Path.{◌≡◌, refl, sym, ◌∙◌, ap}
-use mathlib.Core.List.{[], ◌∷◌}
-use Prim.Native.Nat.{ℕ, ◌+◌, ◌-◌, ◌≤◌, ◌<◌}
-use native.Mathlib.Numerals.{add-one}
-use native.Mathlib.Omega.{arith}
-use borrow.Author.Rules.{rules}
-use lib.ListN.{length, drop, get_or}
-use lib.Seq.{drop-cons}
+use mathlib.Core.Path.{◌≡◌}
+use Prim.Native.Nat.{◌-◌, ◌≤◌}
+use lib.ListN.{drop}
 use Rattle.rules.specs.Names.{table_of, names_of, distinct}
-use Rattle.laws.specs.NameTable.{length-names, names-end}
-use Rattle.names.specs.Digests.{nameIn, repeated, fresh}
 use Rattle.names.proofs.inner.none_again.Given as goal
 
 abbrev pub invariant-loop-k : goal.invariant-loop-k

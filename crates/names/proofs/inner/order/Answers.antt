@@ -1,6 +1,5 @@
 -- `names::inner::order` meets its contract. Assumes nothing.
 use mathlib.Core.Path.{◌∙◌, ap₂}
-use borrow.Author.Rules.{rules}
 use Rattle.rules.specs.Names.{orderBytes, numbered}
 use Rattle.laws.specs.NameTable.{good-laid}
 use Rattle.names.proofs.inner.order.Goals as goal

@@ -1,11 +1,8 @@
 -- `names::inner::put_digests` meets its contract. The invariant: the digests of the first k names stand there. Assumes nothing.
-use mathlib.Core.Path.{◌≡◌, refl, sym, ap, ◌∙◌}
-use Prim.Native.Nat.{ℕ, ◌+◌, ◌-◌, ◌≤◌, ◌<◌}
-use native.Mathlib.Numerals.{add-one}
+use mathlib.Core.Path.{◌≡◌, refl, ◌∙◌}
 use native.Mathlib.Omega.{arith}
-use borrow.Author.Rules.{rules}
-use lib.ListN.{length, get_or, set, length-set}
-use Rattle.names.specs.Digests.{Digests, digests-none, digests-more}
+use lib.ListN.{get_or, length-set}
+use Rattle.names.specs.Digests.{digests-none, digests-more}
 use Rattle.names.proofs.inner.put_digests.Goals as goal
 
 pub loop-k-init : goal.loop-k-init

@@ -1,6 +1,5 @@
 -- `names::inner::same_held` meets its contract. Assumes nothing.
 use mathlib.Core.Path.{sym}
-use borrow.Author.Rules.{rules}
 use Rattle.names.specs.Digests.{apart}
 use Rattle.names.proofs.inner.same_held.Goals as goal
 

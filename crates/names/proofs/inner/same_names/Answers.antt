@@ -1,6 +1,5 @@
 -- `names::inner::same_names` meets its contract. Assumes nothing.
 use mathlib.Core.Path.{sym}
-use borrow.Author.Rules.{rules}
 use Rattle.names.proofs.Compared.{hit, missed}
 use borrow.Enum.Refused.{opened}
 use Rattle.names.proofs.inner.same_names.Goals as goal

@@ -2,13 +2,12 @@
 -- Assumes nothing.
 use mathlib.Core.Path.{◌≡◌, refl, sym, ◌∙◌, ap}
 use mathlib.Core.List.{◌∷◌}
-use Prim.Native.Nat.{ℕ, suc, ◌-◌, ◌≤◌, ◌<◌}
+use Prim.Native.Nat.{ℕ, suc, ◌≤◌, ◌<◌}
 use native.Mathlib.Numerals.{add-one}
 use native.Mathlib.Omega.{arith}
-use borrow.Author.Rules.{rules}
 use lib.ListN.{drop, get_or}
 use Rattle.rules.specs.Names.{orderBytes, table_of, names_of, number_of}
-use Rattle.laws.specs.NameTable.{start_at, part_of, placed, names-step, names-end, search-hit, search-miss}
+use Rattle.laws.specs.NameTable.{part_of, placed, names-step, names-end, search-hit, search-miss}
 use Rattle.names.specs.Told.{toldOrder}
 use Rattle.names.proofs.Compared.{hit, missed}
 use borrow.Enum.Refused.{opened}

@@ -1,14 +1,8 @@
-use mathlib.Core.Path.{◌≡◌, refl, sym, ◌∙◌, ap}
-use mathlib.Core.List.{◌∷◌}
-use Prim.Native.Nat.{ℕ, suc, ◌-◌, ◌≤◌, ◌<◌}
-use native.Mathlib.Numerals.{add-one}
-use native.Mathlib.Omega.{arith}
-use borrow.Author.Rules.{rules}
-use lib.ListN.{drop, get_or}
-use Rattle.rules.specs.Names.{orderBytes, table_of, names_of, number_of}
-use Rattle.laws.specs.NameTable.{start_at, part_of, placed, names-step, names-end, search-hit, search-miss}
-use Rattle.names.specs.Told.{toldOrder}
-use Rattle.names.proofs.Compared.{hit, missed}
+use mathlib.Core.Path.{◌≡◌}
+use Prim.Native.Nat.{◌-◌, ◌≤◌}
+use lib.ListN.{drop}
+use Rattle.rules.specs.Names.{table_of, names_of, number_of}
+use Rattle.laws.specs.NameTable.{start_at}
 use Rattle.names.proofs.inner.search.Given as goal
 
 abbrev pub invariant-loop-k : goal.invariant-loop-k

@@ -3,7 +3,6 @@ use mathlib.Core.Path.{◌≡◌, refl, ◌∙◌}
 use mathlib.Core.List.{List}
 use Prim.Native.Nat.{ℕ, zero, suc}
 use lib.ListN.{get_or}
-use borrow.Author.Rules.{rules}
 use Rattle.laws.specs.NameTable.{start_at}
 use Rattle.names.proofs.inner.start_of.Goals as goal
 

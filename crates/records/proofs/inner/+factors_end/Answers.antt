@@ -6,7 +6,6 @@ use borrow.Author.Rules.{rules}
 use native.Mathlib.Omega.{arith}
 use mathlib.Core.List.{[], ◌∷◌}
 use mathlib.Core.Path.{refl, sym, ◌∙◌}
-use Prim.Native.Nat.{ℕ, ◌<◌}
 use borrow.Enum.Refused.{opened}
 use Rattle.records.proofs.inner.+factors_end.Goals as goal
 

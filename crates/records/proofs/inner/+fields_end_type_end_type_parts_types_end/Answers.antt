@@ -6,12 +6,10 @@ use Rattle.records.specs.Good.{Ends, GoodTy, GoodField, GoodTys, holding, follow
 use Rattle.records.specs.Places.{seen-in}
 use Rattle.laws.specs.Lists.{and_left as both_left}
 use Rattle.rules.specs.Names.{table_of}
-use borrow.Author.Rules.{rules}
 use native.Mathlib.Omega.{arith}
 use mathlib.Core.List.{[], ◌∷◌}
-use Prim.Native.Nat.{◌+◌, ◌-◌, ◌*◌, ◌^◌}
+use Prim.Native.Nat.{◌+◌, ◌-◌}
 use mathlib.Core.Path.{refl, sym, subst, ◌∙◌}
-use Prim.Native.Nat.{ℕ, ◌<◌}
 use borrow.Enum.Refused.{opened}
 use Rattle.records.proofs.inner.+fields_end_type_end_type_parts_types_end.Goals as goal
 

@@ -2,7 +2,6 @@
 use Rattle.records.specs.Good.{HeldLeft}
 use Rattle.rules.specs.WellFormed.{is_lt}
 use mathlib.Core.Path.{ap, subst, ◌∙◌}
-use borrow.Author.Rules.{rules}
 use Rattle.records.proofs.inner.atom_follows.Goals as goal
 
 pub atom_order-requires : goal.atom_order-requires

@@ -1,6 +1,5 @@
 -- `inner::atom_good` meets its contract: by the case. Assumes nothing.
 use Rattle.rules.specs.Names.{table_of}
-use borrow.Author.Rules.{rules}
 use Rattle.records.proofs.inner.atom_good.Goals as goal
 
 pub returns-in-Free : goal.returns-in-Free

@@ -2,7 +2,6 @@
 use Rattle.records.specs.Good.{HeldAtom}
 use Rattle.rules.specs.Trees.{orderAtom}
 use mathlib.Core.Path.{refl, subst}
-use borrow.Author.Rules.{rules}
 use Rattle.records.proofs.inner.atom_order.Goals as goal
 
 pub open_order-requires : goal.open_order-requires

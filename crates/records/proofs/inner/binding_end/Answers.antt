@@ -2,7 +2,6 @@
 use Rattle.records.specs.Closing.{binding-closing}
 use Rattle.records.specs.Good.{Ends, GoodBinding}
 use mathlib.Core.Path.{sym, subst}
-use borrow.Author.Rules.{rules}
 use Rattle.records.proofs.inner.binding_end.Goals as goal
 
 pub returns : goal.returns

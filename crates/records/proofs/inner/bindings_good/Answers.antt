@@ -2,12 +2,10 @@
 use Rattle.records.specs.Good.{Ends, GoodBinding, Chained}
 use Rattle.records.proofs.Parts.{chain-done, chain-fail, chain-step, one-binding}
 use Rattle.records.specs.Moves.{binding-moves}
-use mathlib.Core.Bool.{Bool, true, false}
-use lib.ListN.{length}
-use Prim.Native.Nat.{ℕ, ◌-◌, ◌/◌, ◌≤◌}
-use borrow.Author.Rules.{rules}
+use mathlib.Core.Bool.{true, false}
+use Prim.Native.Nat.{ℕ}
 use native.Mathlib.Omega.{arith}
-use mathlib.Core.Path.{◌≡◌, refl, subst}
+use mathlib.Core.Path.{refl, subst}
 use Rattle.records.proofs.inner.bindings_good.Goals as goal
 
 pub loop-at-init : goal.loop-at-init

@@ -2,7 +2,6 @@
 use Rattle.records.specs.Closing.{bound-closing}
 use Rattle.records.specs.Good.{Ends, GoodBound}
 use mathlib.Core.Path.{sym, subst}
-use borrow.Author.Rules.{rules}
 use Rattle.records.proofs.inner.bound_end.Goals as goal
 
 pub returns : goal.returns

@@ -2,7 +2,6 @@
 use mathlib.Core.Bool.{Bool}
 use mathlib.Core.Path.{sym, ap, ◌∙◌}
 use Rattle.records.specs.Good.{endIf, closedAt}
-use borrow.Author.Rules.{rules}
 use Rattle.records.proofs.inner.closed.Goals as goal
 
 pub returns-then-closes : goal.returns-then-closes

@@ -1,6 +1,5 @@
 -- `inner::closes` meets its contract. Assumes nothing.
 use Rattle.records.proofs.Walks.{ends-before, ends_there}
-use borrow.Author.Rules.{rules}
 use Rattle.records.proofs.inner.closes.Goals as goal
 
 pub returns-then-e-at : goal.returns-then-e-at

@@ -2,7 +2,6 @@
 use Rattle.records.specs.Closing.{con-closing}
 use Rattle.records.specs.Good.{Ends, GoodCon}
 use mathlib.Core.Path.{sym, subst}
-use borrow.Author.Rules.{rules}
 use Rattle.records.proofs.inner.con_end.Goals as goal
 
 pub returns : goal.returns

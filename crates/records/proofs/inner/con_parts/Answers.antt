@@ -4,7 +4,6 @@ use Rattle.records.proofs.Parts.{con-equal, con-dim, con-scalar, con-field, con-
 use Rattle.records.specs.Places.{seen-in}
 use native.Mathlib.Omega.{arith}
 use mathlib.Core.Path.{sym, ◌∙◌}
-use borrow.Author.Rules.{rules}
 use borrow.Enum.Refused.{opened}
 use Rattle.records.proofs.inner.con_parts.Goals as goal
 

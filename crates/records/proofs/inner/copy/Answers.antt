@@ -1,9 +1,7 @@
 -- `copy` meets its contract: the loop says what is left to store. Assumes nothing.
-use borrow.Author.Rules.{rules}
-use Prim.Native.Nat.{ℕ, ◌≤◌, ◌+◌, ◌*◌, ◌-◌}
+use Prim.Native.Nat.{ℕ, ◌*◌}
 use mathlib.Core.Path.{◌≡◌, refl, sym, ap, ◌∙◌}
 use native.Mathlib.Omega.{arith}
-use lib.ListN.{length}
 use lib.Seq.{sets, slice, slice_empty}
 use Rattle.records.specs.Stores.{copy_step}
 use Rattle.records.proofs.inner.copy.Goals as goal

@@ -1,10 +1,7 @@
-use borrow.Author.Rules.{rules}
-use Prim.Native.Nat.{ℕ, ◌≤◌, ◌+◌, ◌*◌, ◌-◌}
-use mathlib.Core.Path.{◌≡◌, refl, sym, ap, ◌∙◌}
-use native.Mathlib.Omega.{arith}
+use Prim.Native.Nat.{◌≤◌, ◌+◌, ◌*◌, ◌-◌}
+use mathlib.Core.Path.{◌≡◌}
 use lib.ListN.{length}
-use lib.Seq.{sets, slice, slice_empty}
-use Rattle.records.specs.Stores.{copy_step}
+use lib.Seq.{sets, slice}
 use Rattle.records.proofs.inner.copy.Given as goal
 
 abbrev pub invariant-loop-i : goal.invariant-loop-i

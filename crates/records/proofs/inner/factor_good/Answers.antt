@@ -2,7 +2,6 @@
 use Rattle.records.proofs.Walks.{held-atom}
 use Rattle.rules.specs.Exponents.{goodStored}
 use mathlib.Core.Path.{refl, sym, ap, ◌∙◌}
-use borrow.Author.Rules.{rules}
 use Rattle.records.proofs.inner.factor_good.Goals as goal
 
 pub atom_follows-requires : goal.atom_follows-requires

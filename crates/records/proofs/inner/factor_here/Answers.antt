@@ -1,6 +1,5 @@
 -- `inner::factor_here` meets its contract. Assumes nothing.
 use Rattle.records.proofs.Walks.{one-long, not-long}
-use borrow.Author.Rules.{rules}
 use Rattle.records.proofs.inner.factor_here.Goals as goal
 
 pub returns-then-length_at-eq1 : goal.returns-then-length_at-eq1

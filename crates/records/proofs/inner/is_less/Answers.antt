@@ -1,5 +1,4 @@
 -- `inner::is_less` meets its contract: by the case. Assumes nothing.
-use borrow.Author.Rules.{rules}
 use mathlib.Core.Path.{sym, ap}
 use Rattle.rules.specs.WellFormed.{is_lt}
 use Rattle.names.specs.Told.{toldOrder}

@@ -2,7 +2,6 @@
 use Rattle.records.specs.Good.{HeldBefore}
 use Rattle.rules.specs.WellFormed.{is_lt}
 use mathlib.Core.Path.{ap, subst, ◌∙◌}
-use borrow.Author.Rules.{rules}
 use Rattle.records.proofs.inner.name_follows.Goals as goal
 
 pub order-requires : goal.order-requires

@@ -2,7 +2,6 @@
 use Rattle.records.proofs.Walks.{held-name}
 use Rattle.rules.specs.Names.{table_of}
 use mathlib.Core.Path.{refl, sym, ◌∙◌}
-use borrow.Author.Rules.{rules}
 use Rattle.records.proofs.inner.name_good.Goals as goal
 
 pub name_follows-requires : goal.name_follows-requires

@@ -2,7 +2,6 @@
 use Rattle.rules.specs.WellFormed.{goodOpen}
 use Rattle.rules.specs.Names.{table_of}
 use mathlib.Core.Path.{refl}
-use borrow.Author.Rules.{rules}
 use Rattle.records.proofs.inner.open_good.Goals as goal
 
 pub returns-in-Var : goal.returns-in-Var

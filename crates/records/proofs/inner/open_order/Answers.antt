@@ -2,7 +2,6 @@
 use Rattle.records.specs.Good.{HeldOpen}
 use Rattle.rules.specs.Trees.{orderOpen}
 use mathlib.Core.Path.{refl, subst}
-use borrow.Author.Rules.{rules}
 use Rattle.records.proofs.inner.open_order.Goals as goal
 
 pub order-requires : goal.order-requires

@@ -2,7 +2,6 @@
 use Rattle.records.specs.Closing.{product-closing}
 use Rattle.records.specs.Good.{Ends, GoodProduct}
 use mathlib.Core.Path.{sym, subst}
-use borrow.Author.Rules.{rules}
 use Rattle.records.proofs.inner.product_end.Goals as goal
 
 pub returns : goal.returns

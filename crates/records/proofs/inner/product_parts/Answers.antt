@@ -6,7 +6,6 @@ use Rattle.records.specs.Places.{seen-in}
 use native.Mathlib.Omega.{arith}
 use mathlib.Core.List.{[], ◌∷◌}
 use mathlib.Core.Path.{refl, sym, ◌∙◌}
-use borrow.Author.Rules.{rules}
 use borrow.Enum.Refused.{opened}
 use Rattle.records.proofs.inner.product_parts.Goals as goal
 

@@ -1,5 +1,4 @@
 -- `put` meets its contract. Assumes nothing.
-use borrow.Author.Rules.{rules}
 use mathlib.Core.Path.{sym}
 use lib.Seq.{set_out}
 use Rattle.records.proofs.inner.put.Goals as goal

@@ -1,6 +1,5 @@
 -- `put_one` meets its contract: a length of 1 fits. Assumes nothing.
 use Rattle.records.specs.Cut.{fit}
-use borrow.Author.Rules.{rules}
 use Rattle.records.proofs.inner.put_one.Goals as goal
 
 pub returns : goal.returns

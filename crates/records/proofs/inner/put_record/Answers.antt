@@ -8,7 +8,6 @@ use lib.Seq.{sets}
 use Prim.Native.Nat.{ℕ, ◌*◌, ◌<◌}
 use mathlib.Core.List.{[], ◌∷◌}
 use mathlib.Core.Path.{◌≡◌, sym, ap, subst, ◌∙◌}
-use borrow.Author.Rules.{rules}
 use Rattle.records.proofs.inner.put_record.Goals as goal
 
 pub head_of-requires : goal.head_of-requires

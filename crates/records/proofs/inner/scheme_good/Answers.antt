@@ -1,7 +1,6 @@
 -- `inner::scheme_good` meets its contract: its parts, and their length. Assumes nothing.
 use Rattle.records.specs.Closing.{scheme-closing, scheme-open}
 use mathlib.Core.Path.{sym, ◌∙◌}
-use borrow.Author.Rules.{rules}
 use Rattle.records.proofs.inner.scheme_good.Goals as goal
 
 pub returns-then-length_at-s : goal.returns-then-length_at-s

@@ -5,7 +5,6 @@ use Rattle.records.specs.declared.View.TheVariants as view
 use Rattle.records.specs.Good.{Ends, GoodTy}
 use mathlib.Core.List.{[], ◌∷◌}
 use mathlib.Core.Path.{refl, sym, subst, ◌∙◌}
-use borrow.Author.Rules.{rules}
 use borrow.Enum.Refused.{opened}
 use Rattle.records.proofs.inner.scheme_parts.Goals as goal
 

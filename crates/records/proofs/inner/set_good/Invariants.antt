@@ -1,12 +1,8 @@
-use Rattle.records.specs.Good.{Ends, GoodCon, Chained}
-use Rattle.records.proofs.Parts.{chain-done, chain-fail, chain-step, one-con}
-use Rattle.records.specs.Moves.{con-moves}
-use mathlib.Core.Bool.{Bool, true, false}
+use Rattle.records.specs.Good.{GoodCon, Chained}
+use mathlib.Core.Bool.{Bool}
 use lib.ListN.{length}
-use Prim.Native.Nat.{ℕ, ◌-◌, ◌/◌, ◌≤◌}
-use borrow.Author.Rules.{rules}
-use native.Mathlib.Omega.{arith}
-use mathlib.Core.Path.{◌≡◌, refl, subst}
+use Prim.Native.Nat.{◌-◌, ◌/◌, ◌≤◌}
+use mathlib.Core.Path.{◌≡◌}
 use Rattle.records.proofs.inner.set_good.Given as goal
 
 abbrev pub invariant-loop-at : goal.invariant-loop-at

@@ -2,7 +2,6 @@
 use Rattle.records.specs.Good.{Ends, GoodTy}
 use Rattle.records.proofs.Parts.{two-step, two-fail}
 use mathlib.Core.Path.{subst}
-use borrow.Author.Rules.{rules}
 use Rattle.records.proofs.inner.two_end.Goals as goal
 
 pub returns-in-At : goal.returns-in-At

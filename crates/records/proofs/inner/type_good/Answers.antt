@@ -2,7 +2,6 @@
 use Rattle.records.proofs.Wholes.{type-whole, type-not-whole, type-bad}
 use Rattle.records.specs.Good.{Ends, GoodTy}
 use mathlib.Core.Path.{subst}
-use borrow.Author.Rules.{rules}
 use Rattle.records.proofs.inner.type_good.Goals as goal
 
 pub returns-then-e-s : goal.returns-then-e-s

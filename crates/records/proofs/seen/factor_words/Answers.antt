@@ -3,7 +3,6 @@ use Rattle.records.specs.declared.Atom.{Atom}
 -- `factor_words` meets its contract. Assumes nothing.
 use Rattle.records.specs.Views.{recFactor}
 use mathlib.Core.Path.{sym, ap, ◌∙◌}
-use borrow.Author.Rules.{rules}
 use Rattle.records.proofs.seen.factor_words.Goals as goal
 
 pub returns-in-Free : goal.returns-in-Free

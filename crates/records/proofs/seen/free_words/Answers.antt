@@ -2,7 +2,6 @@
 use Rattle.records.specs.Views.{recFree}
 use Rattle.records.specs.declared.Open.{Open}
 use mathlib.Core.Path.{sym, ap}
-use borrow.Author.Rules.{rules}
 use Rattle.records.proofs.seen.free_words.Goals as goal
 
 pub returns-in-Var : goal.returns-in-Var

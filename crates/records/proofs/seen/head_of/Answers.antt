@@ -1,6 +1,5 @@
 -- `head_of` meets its contract. Assumes nothing.
 use Rattle.records.specs.Cut.{head-fits, head-unfits}
-use borrow.Author.Rules.{rules}
 use Rattle.records.proofs.seen.head_of.Goals as goal
 
 pub returns-then-n-le65535 : goal.returns-then-n-le65535

@@ -2,7 +2,6 @@
 use Rattle.records.specs.Places.{long-none, long-some}
 use Rattle.records.specs.Views.{longOf}
 use mathlib.Core.Path.{sym, ◌∙◌}
-use borrow.Author.Rules.{rules}
 use Rattle.records.proofs.seen.length_at.Goals as goal
 
 pub returns-then-s-at : goal.returns-then-s-at

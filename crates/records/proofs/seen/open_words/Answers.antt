@@ -1,7 +1,6 @@
 -- `open_words` meets its contract: by the case. Assumes nothing.
 use Rattle.records.specs.Views.{recOpen}
 use mathlib.Core.Path.{sym, ap}
-use borrow.Author.Rules.{rules}
 use Rattle.records.proofs.seen.open_words.Goals as goal
 
 pub returns-in-Var : goal.returns-in-Var

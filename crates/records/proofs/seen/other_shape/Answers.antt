@@ -1,5 +1,4 @@
 -- `other_shape` meets its contract: by the kind. Assumes nothing.
-use borrow.Author.Rules.{rules}
 use mathlib.Core.Path.{ap, ◌∙◌}
 use mathlib.Core.List.{[], ◌∷◌}
 use Rattle.records.specs.Views.{plain}

@@ -1,5 +1,4 @@
 -- `plain_three` meets its contract. Assumes nothing.
-use borrow.Author.Rules.{rules}
 use borrow.Author.Tests.{eq-eqb, ne_eqb}
 use Rattle.rules.specs.Base.{all}
 use Rattle.records.specs.Views.{plain}

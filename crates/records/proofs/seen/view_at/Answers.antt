@@ -4,7 +4,6 @@ use Rattle.records.specs.Views.{shape_of, view_of}
 use mathlib.Core.Path.{sym, ap, ◌∙◌}
 use Prim.Native.Nat.{ℕ, ◌+◌, ◌*◌}
 use lib.ListN.{get_or}
-use borrow.Author.Rules.{rules}
 use Rattle.records.proofs.seen.view_at.Goals as goal
 
 pub returns-then-s-at : goal.returns-then-s-at

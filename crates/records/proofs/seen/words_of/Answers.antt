@@ -3,7 +3,6 @@ use Rattle.records.specs.Views.{bareOf}
 use Rattle.rules.specs.Writing.{rec}
 use Prim.Native.Nat.{ℕ}
 use mathlib.Core.Path.{sym, ap, ◌∙◌}
-use borrow.Author.Rules.{rules}
 use Rattle.records.proofs.seen.words_of.Goals as goal
 
 pub returns-in-Opened : goal.returns-in-Opened
