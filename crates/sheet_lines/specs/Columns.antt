@@ -15,7 +15,7 @@ use Rattle.rules.specs.Grammar.{Place, here, beyond, Parsed, read, bad, Rule, pa
 use Rattle.rules.specs.Grammar.{columnOf, column, starts, either, ifSign, pick, chosen, choose, left, ended, end_at, is_plain, isDigit, hexOf, Half, whole}
 use Rattle.rules.specs.Grammar.{slashed, half, more, nameFrom, NameAt, name, digitsFrom, digitsAt, digits, PowerAt, signedBy, power, noPower, FactorAt, TyAt}
 use Rattle.rules.specs.Grammar.{open_at, basicAt, dimAt, fn_at, listAt, struct_at, deepAt, TysAt, nilAt, consAt, FieldsAt, noneAt, field_at, markedWith, marks}
-use Rattle.rules.specs.Grammar.{factor, moreFactors, factors, dimension, opened, keyword, moreTys, tys, function, listed, fieldName, moreFields, fields}
+use Rattle.rules.specs.Grammar.{factor, moreFactors, factors, dimension, opened, moreTys, tys, function, listed, fieldName, moreFields, fields}
 use Rattle.rules.specs.Grammar.{structure, types, tooDeep, deepTypes, type, ConAt, equalAt, isDimAt, isScalarAt, hasFieldAt, afterType, afterDimension, typed}
 use Rattle.rules.specs.Grammar.{hasField, constraint, signsAt, line, ◌>>=◌, ◌>>◌}
 use Rattle.laws.specs.Lists.{Every}

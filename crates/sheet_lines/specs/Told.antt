@@ -2,13 +2,13 @@
 -- Assumes nothing.
 use Rattle.std.specs.Prelude.{◌≡◌, Bool, ℕ, suc, ◌+◌, ◌≤◌, length}
 use Rattle.std.proofs.Math.Path.{refl}
-use Rattle.std.proofs.Common.{subst, arith}
+use Rattle.std.proofs.Common.{subst}
 use Rattle.std.proofs.Math.Bool.{true, false}
 use mathlib.Core.List.{List, [], ◌∷◌}
 use Rattle.std.proofs.Math.Option.{Option, none, some}
 use Rattle.std.proofs.Math.Dec.{leb}
 use Rattle.rules.specs.Base.{Got, got, refused, need, bounded}
-use Rattle.rules.specs.Trees.{Open, var, quant, par, Atom, free, base, Product, Ty, opened, basic, dim, fn, struct, list, Tys, nil, cons, Fields, noFields, field, Con, equal, isDim, is_scalar, hasField}
+use Rattle.rules.specs.Trees.{Open, var, quant, par, Atom, free, base, Product, opened, basic, dim, fn, struct, list, nil, cons, noFields, field, Con, equal, isDim, is_scalar, hasField}
 use Rattle.rules.specs.Products.{put, multiply}
 use Rattle.rules.specs.Names.{Bytes, Entered}
 use Rattle.rules.specs.WellFormed.{is_lt}

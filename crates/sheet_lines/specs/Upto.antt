@@ -12,7 +12,7 @@ use Rattle.rules.specs.Names.{Bytes}
 use Rattle.rules.specs.Trees.{Con, equal, isDim, is_scalar, hasField}
 use Rattle.rules.specs.Writing.{words, writeCon}
 use Rattle.rules.specs.Grammar.{lines_of}
-use Rattle.rules.specs.TextReading.{Sofar, Told, told, refusedAt, lineRead, Sheet, sheet, refusedIn, with, nextLine, lines_read, unread, sheetRead}
+use Rattle.rules.specs.TextReading.{Sofar, Told, told, refusedAt, lineRead, sheet, refusedIn, with, nextLine, lines_read, unread, sheetRead}
 use Rattle.laws.specs.Contents.{collect-append}
 use Rattle.laws.specs.Size.{words_append, words-length}
 use Rattle.records.specs.Stores.{sets-append}
