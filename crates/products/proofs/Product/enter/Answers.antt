@@ -1,8 +1,7 @@
 -- `products::Product::enter` meets its contract.
 -- Assumes nothing.
 use mathlib.Core.Path.{◌≡◌, sym, ◌∙◌, ap}
-use borrow.Author.Rules.{rules}
-use lib.ListN.{length, length-map}
+use lib.ListN.{length}
 use Rattle.names.specs.Told.{toldChecked}
 use Rattle.rules.specs.Base.{got}
 use Rattle.rules.specs.Names.{tableGiven}

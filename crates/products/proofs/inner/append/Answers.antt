@@ -1,16 +1,16 @@
 -- `products::inner::append` meets its contract. The invariant: what `q` holds, and which factors are left.
 -- Assumes nothing.
 use mathlib.Core.Path.{◌≡◌, refl, sym, ◌∙◌, ap}
-use mathlib.Core.List.{[], ◌++◌}
-use Prim.Native.Nat.{ℕ, ◌+◌, ◌-◌, ◌≤◌, ◌<◌}
+use mathlib.Core.List.{[]}
+use Prim.Native.Nat.{ℕ, ◌+◌, ◌<◌}
 use native.Mathlib.Omega.{arith}
 use lib.ListN.{drop, length}
 use Rattle.rules.specs.Base.{got}
 use Rattle.rules.specs.Values.{productValue}
-use Rattle.products.specs.Told.{Tree, given, tree_of, productOf, factorAt, put_of}
+use Rattle.products.specs.Told.{tree_of, productOf, factorAt, put_of}
 use Rattle.products.specs.Kinds.{value-back}
 use Rattle.products.specs.Places.{at_place, at-end}
-use Rattle.products.specs.Steps.{Doing, doing-put, doing-done, got-injective}
+use Rattle.products.specs.Steps.{doing-put, doing-done, got-injective}
 use Rattle.products.proofs.inner.append.Goals as goal
 
 pub loop-i-init : goal.loop-i-init

@@ -1,14 +1,11 @@
-use mathlib.Core.Path.{◌≡◌, refl, sym, ◌∙◌, ap}
-use mathlib.Core.List.{[], ◌++◌}
-use Prim.Native.Nat.{ℕ, ◌+◌, ◌-◌, ◌≤◌, ◌<◌}
-use native.Mathlib.Omega.{arith}
+use mathlib.Core.Path.{◌≡◌}
+use mathlib.Core.List.{◌++◌}
+use Prim.Native.Nat.{◌+◌, ◌-◌, ◌≤◌}
 use lib.ListN.{drop, length}
 use Rattle.rules.specs.Base.{got}
 use Rattle.rules.specs.Values.{productValue}
-use Rattle.products.specs.Told.{Tree, given, tree_of, productOf, factorAt, put_of}
-use Rattle.products.specs.Kinds.{value-back}
-use Rattle.products.specs.Places.{at_place, at-end}
-use Rattle.products.specs.Steps.{Doing, doing-put, doing-done, got-injective}
+use Rattle.products.specs.Told.{Tree, given, productOf}
+use Rattle.products.specs.Steps.{Doing}
 use Rattle.products.proofs.inner.append.Given as goal
 
 abbrev pub invariant-loop-i : goal.invariant-loop-i

@@ -7,11 +7,9 @@ use mathlib.Core.Logic.{⊎_elim}
 use Prim.Native.Nat.{Ordering}
 use Prim.Native.Nat.{ℕ, suc, ◌+◌, ◌-◌, ◌≤◌, ◌<◌}
 use native.Mathlib.Omega.{arith}
-use borrow.Author.Rules.{rules}
-use borrow.Author.Tests.{not-true, not-false}
 use denote.Enum.Declared as Declared
 use types.Run.{OneOf}
-use lib.ListN.{length, length-map}
+use lib.ListN.{length}
 use Rattle.rules.specs.Names.{table_of, numbersOf}
 use Rattle.rules.specs.Trees.{Names, orderAtom}
 use Rattle.names.specs.declared.Order.{Order}

@@ -2,7 +2,7 @@
 -- Assumes nothing.
 use mathlib.Core.Path.{◌≡◌, sym, ◌∙◌, ap}
 use mathlib.Core.List.{[]}
-use Prim.Native.Nat.{ℕ, ◌-◌, ◌≤◌, ◌<◌}
+use Prim.Native.Nat.{ℕ, ◌≤◌, ◌<◌}
 use native.Mathlib.Omega.{arith}
 use lib.ListN.{drop}
 use Rattle.rules.specs.Base.{got}
@@ -14,7 +14,7 @@ use Rattle.laws.specs.Ranges.{stored-good}
 use Rattle.products.specs.Told.{Tree, atomAt, productOf, factorAt, withExp}
 use Rattle.products.specs.Kinds.{value-back}
 use Rattle.products.specs.Places.{at_place, at-end}
-use Rattle.products.specs.Steps.{Doing, doing-start, doing-len, doing-put, doing-done, got-injective, inverse-turn, inverse-done}
+use Rattle.products.specs.Steps.{doing-start, doing-len, doing-put, doing-done, got-injective, inverse-turn, inverse-done}
 use Rattle.products.proofs.inner.inverted.Goals as goal
 
 pub loop-i-init : goal.loop-i-init

@@ -1,7 +1,6 @@
 -- `products::inner::is_named` meets its contract.
 -- Assumes nothing.
 use mathlib.Core.Path.{sym, ◌∙◌}
-use borrow.Author.Rules.{rules}
 use native.Mathlib.Omega.{arith}
 use Rattle.products.specs.Kinds.{named-held, named-index, no_kind}
 use Rattle.products.proofs.inner.is_named.Goals as goal

@@ -1,7 +1,6 @@
 -- `products::inner::is_sound` meets its contract.
 -- Assumes nothing.
 use mathlib.Core.Path.{sym, ◌∙◌}
-use borrow.Author.Rules.{rules}
 use Rattle.products.specs.Kinds.{fine-by}
 use Rattle.products.proofs.inner.is_sound.Goals as goal
 

@@ -1,7 +1,6 @@
 -- `products::inner::keep` meets its contract.
 -- Assumes nothing.
 use mathlib.Core.Path.{sym, ◌∙◌}
-use borrow.Author.Rules.{rules}
 use Rattle.products.proofs.inner.keep.Goals as goal
 
 pub returns-in-Refused : goal.returns-in-Refused

@@ -1,28 +1,24 @@
 -- `products::inner::multiplied` meets its contract. The invariant: what `out` holds, and that merging the rest completes the merge.
 -- Assumes nothing.
 use mathlib.Core.Path.{◌≡◌, sym, ◌∙◌, ap}
-use mathlib.Core.List.{[], ◌∷◌, ◌++◌, append_assoc}
-use mathlib.Core.Logic.{◌⊎◌, inl, inr, ⊎_elim}
-use Prim.Native.Nat.{ℕ, ◌+◌, ◌-◌, ◌≤◌, ◌<◌}
+use mathlib.Core.List.{[], ◌++◌, append_assoc}
+use mathlib.Core.Logic.{◌⊎◌, inl, inr}
+use Prim.Native.Nat.{ℕ, ◌+◌, ◌≤◌, ◌<◌}
 use native.Mathlib.Omega.{arith}
-use borrow.Author.Rules.{rules}
-use borrow.Author.Tests.{ltb-true, ltb-false}
 use lib.ListN.{drop, length-append, length-drop}
 use Rattle.rules.specs.Base.{Got, got, bounded}
 use Rattle.rules.specs.Exponents.{Exp}
 use Rattle.rules.specs.Names.{table_of, numbersOf}
 use Rattle.rules.specs.Products.{merge}
-use Rattle.rules.specs.Trees.{Names, orderAtom}
 use Rattle.laws.specs.Ranges.{stored-good}
 use Rattle.exponents.specs.Answers.{told as toldPower}
 use Rattle.names.specs.Told.{toldOrder}
-use Rattle.products.specs.declared.Factor.{Factor}
 use Rattle.products.specs.declared.Product.{Product}
-use Rattle.products.specs.Told.{Tree, atomAt, tree_of, productOf, factorAt, answer}
+use Rattle.products.specs.Told.{atomAt, tree_of, productOf, factorAt, answer}
 use Rattle.products.specs.Kinds.{value-back}
 use Rattle.products.specs.Places.{at_place, at-end, length-product, given-len}
 use Rattle.products.specs.Held.{well-sound}
-use Rattle.products.specs.Steps.{Doing, doing-start, doing-len, doing-put, doing-skip, doing-stop, doing_end, joined, kept-over, kept-gone, kept-keep, turn-less, turn_more, turn-same, merge-left, multiply-got, multiply-refused}
+use Rattle.products.specs.Steps.{doing-start, doing-len, doing-put, doing-skip, doing-stop, doing_end, joined, kept-over, kept-gone, kept-keep, turn-less, turn_more, turn-same, merge-left, multiply-got, multiply-refused}
 use Rattle.products.proofs.inner.multiplied.Goals as goal
 use Rattle.products.proofs.inner.multiplied.Goals.{in-Gone, in-Keep, then-loop-i-test+else-j-n, else-loop-i-test}
 
@@ -165,11 +161,12 @@ loop-i-preserved c =
     let most : c.loop-i.i + c.loop-i.j ≤ c.loop-i.i + 1 + (c.loop-i.j + 1) = omega arith in (
       omega (arith, turning),
       omega (arith, turning),
-      elim c.match-keep.branch
-          [ in-Gone w ↦ rw w.out-is (doing-skip c.loop-i.invariant.2 _ _ most (met ∙ kept-gone (factorAt c.args.a c.loop-i.i) (merge (numbersOf (table_of c.args.pool.now c.args.table.now)) bounded (drop (c.loop-i.i + 1) (productOf c.args.a)) (drop (c.loop-i.j + 1) (productOf c.args.b))) p (sym c.keep.ensures ∙ w.in-Gone.is)))
-          | in-Keep w ↦
+      elim c.match-keep.branch [
+        | in-Gone w ↦ rw w.out-is (doing-skip c.loop-i.invariant.2 _ _ most (met ∙ kept-gone (factorAt c.args.a c.loop-i.i) (merge (numbersOf (table_of c.args.pool.now c.args.table.now)) bounded (drop (c.loop-i.i + 1) (productOf c.args.a)) (drop (c.loop-i.j + 1) (productOf c.args.b))) p (sym c.keep.ensures ∙ w.in-Gone.is)))
+        | in-Keep w ↦
             let j = kept-keep (factorAt c.args.a c.loop-i.i) (merge (numbersOf (table_of c.args.pool.now c.args.table.now)) bounded (drop (c.loop-i.i + 1) (productOf c.args.a)) (drop (c.loop-i.j + 1) (productOf c.args.b))) p _ (c.requires.well.each _ turning.left).kind (sym c.keep.ensures ∙ w.in-Keep.is) in
-            rw (w.out-is, w.put-out-in-Keep.ensures) (doing-put c.loop-i.invariant.2 _ _ _ _ j.value more (met ∙ j.is)) ],
+            rw (w.out-is, w.put-out-in-Keep.ensures) (doing-put c.loop-i.invariant.2 _ _ _ _ j.value more (met ∙ j.is))
+      ],
     )
 
 pub append-requires : goal.append-requires
@@ -192,13 +189,14 @@ returns c =
     let A = drop c.loop-i.i (productOf c.args.a) in
     let B = drop c.loop-i.j (productOf c.args.b) in
     let ended : (A ≡ []) ⊎ (B ≡ []) =
-    elim c.loop-i-test.branch
-        [ then-loop-i-test+else-j-n w ↦
+    elim c.loop-i-test.branch [
+      | then-loop-i-test+else-j-n w ↦
           let h : c.loop-i.j ≡ c.args.b.len = omega (arith, w.if-j-n.false) in
           inr (ap (λ (k : ℕ). drop k (productOf c.args.b)) h ∙ at-end c.args.b c.requires.well_2.long c.requires.well_2.few)
-        | else-loop-i-test w ↦
+      | else-loop-i-test w ↦
           let h : c.loop-i.i ≡ c.args.a.len = omega (arith, w.loop-i-test.false) in
-          inl (ap (λ (k : ℕ). drop k (productOf c.args.a)) h ∙ at-end c.args.a c.requires.well.long c.requires.well.few) ] in
+          inl (ap (λ (k : ℕ). drop k (productOf c.args.a)) h ∙ at-end c.args.a c.requires.well.long c.requires.well.few)
+    ] in
     let two' = c.append-2.ensures (g.acc ++ A) (c.append.ensures g.acc g.is) in
     let whole = doing_end g (A ++ B) (merge-left (numbersOf (table_of c.args.pool.now c.args.table.now)) A B ended) ∙ ap got (sym (append_assoc g.acc A B)) in
     c.counted.ensures ((g.acc ++ A) ++ B) two' ∙ sym (ap answer (multiply-got (numbersOf (table_of c.args.pool.now c.args.table.now)) _ _ ((g.acc ++ A) ++ B) whole))

@@ -2,11 +2,9 @@
 -- Assumes nothing.
 use mathlib.Core.Path.{◌≡◌, sym, ◌∙◌, ap}
 use mathlib.Core.List.{[]}
-use mathlib.Core.Logic.{⊎_elim}
 use mathlib.Core.Option.{none}
-use Prim.Native.Nat.{ℕ, ◌+◌, ◌-◌, ◌≤◌, ◌<◌}
+use Prim.Native.Nat.{ℕ, ◌+◌, ◌≤◌, ◌<◌}
 use native.Mathlib.Omega.{arith}
-use borrow.Author.Rules.{rules}
 use lib.ListN.{drop}
 use Rattle.rules.specs.Base.{Got, got, bounded}
 use Rattle.rules.specs.Exponents.{Exp}
@@ -18,7 +16,7 @@ use Rattle.laws.specs.Ranges.{stored-good}
 use Rattle.exponents.specs.Answers.{expOf, told as toldPower}
 use Rattle.products.specs.Told.{Tree, atomAt, productOf, factorAt, told, answer}
 use Rattle.products.specs.Places.{at_place, at-end}
-use Rattle.products.specs.Steps.{Doing, doing-start, doing-len, doing-put, doing-skip, doing-stop, doing-done, joined, kept-over, kept-gone, kept-keep, raise-turn, raise-done}
+use Rattle.products.specs.Steps.{doing-start, doing-len, doing-put, doing-skip, doing-stop, doing-done, joined, kept-over, kept-gone, kept-keep, raise-turn, raise-done}
 use Rattle.products.proofs.inner.raised.Goals as goal
 use Rattle.products.proofs.inner.raised.Goals.{in-Gone, in-Keep}
 
@@ -77,11 +75,12 @@ loop-i-preserved c = let within : (c.loop-i.i < c.args.a.len) × (c.args.a.len �
     let most : c.loop-i.i ≤ c.loop-i.i + 1 = omega arith in (
       omega (arith, within),
       λ ν.
-          elim c.match-keep.branch
-              [ in-Gone w ↦ rw w.out-is (doing-skip (c.loop-i.invariant.1 ν) _ _ most (turn ν ∙ kept-gone x (rest ν) c.product_of.result (sym c.keep.ensures ∙ w.in-Gone.is)))
-              | in-Keep w ↦
+          elim c.match-keep.branch [
+            | in-Gone w ↦ rw w.out-is (doing-skip (c.loop-i.invariant.1 ν) _ _ most (turn ν ∙ kept-gone x (rest ν) c.product_of.result (sym c.keep.ensures ∙ w.in-Gone.is)))
+            | in-Keep w ↦
                 let j = kept-keep x (rest ν) c.product_of.result _ (c.requires.sound.kind _ (within).0) (sym c.keep.ensures ∙ w.in-Keep.is) in
-                rw (w.out-is, w.put-out.ensures) (doing-put (c.loop-i.invariant.1 ν) _ _ _ _ j.value more (turn ν ∙ j.is)) ],
+                rw (w.out-is, w.put-out.ensures) (doing-put (c.loop-i.invariant.1 ν) _ _ _ _ j.value more (turn ν ∙ j.is))
+          ],
     )
 
 pub returns : goal.returns

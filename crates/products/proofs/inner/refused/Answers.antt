@@ -1,6 +1,5 @@
 -- `products::inner::refused` meets its contract.
 -- Assumes nothing.
-use borrow.Author.Rules.{rules}
 use Rattle.products.specs.Told.{told, answer}
 use Rattle.products.proofs.inner.refused.Goals as goal
 
