@@ -38,8 +38,8 @@ unfolding picked
 of-picked [] i k e = clash (sym e)
 of-picked (true ∷ m) i zero e = inl (add-zero i)
 of-picked (false ∷ m) i zero e = clash (sym e)
-of-picked (true ∷ m) i (suc k) e = let q : suc i + k ≡ i + suc k = omega arith in inr (rw (← q) (of-picked m (suc i) k e))
-of-picked (false ∷ m) i (suc k) e = let q : suc i + k ≡ i + suc k = omega arith in rw (← q) (of-picked m (suc i) k e)
+of-picked (true ∷ m) i (suc k) e = let q : suc i + k ≡ i + suc k = omega arith in inr (subst (λ (z : ℕ). In z (picked (suc i) m)) q (of-picked m (suc i) k e))
+of-picked (false ∷ m) i (suc k) e = let q : suc i + k ≡ i + suc k = omega arith in subst (λ (z : ℕ). In z (picked (suc i) m)) q (of-picked m (suc i) k e)
 
 picked_of : (m : List Bool) (i y : ℕ) → In y (picked i m) → (k : ℕ) × (y ≡ i + k) × (get_or m k false ≡ true)
 unfolding picked

@@ -1,4 +1,6 @@
 // Contains, closed and variables of document 01, and the check for refusal 4.
+#![tactic(auto)]
+
 ghost use Rattle.std.specs.Prelude.{◌≡◌};
 ghost use Rattle.rules.specs.Calls.{containsCall, closedCall, variablesCall};
 ghost use Rattle.queries.specs.Told.{told, listedAs, kind_of};
@@ -12,7 +14,7 @@ use rules::{RECORD_WORDS, Refusal};
 pub mod inner;
 
 // Which names are asked for: those of variables, of parameters, or of both.
-#[derive(Drop)]
+#[derive(Clone, Copy)]
 pub enum Kind {
     Variables,
     Parameters,
@@ -20,27 +22,27 @@ pub enum Kind {
 }
 
 // The open name that one record stands for.
-#[derive(Drop)]
+#[derive(Clone, Copy)]
 pub enum Opens {
     One(Open),
     Nothing,
 }
 
-#[derive(Drop)]
+#[derive(Clone, Copy)]
 pub enum Name {
     Of(u32),
     Nothing,
 }
 
 // Yes or no, or why there is no answer.
-#[derive(Drop)]
+#[derive(Clone, Copy)]
 pub enum Answer {
     Said(bool),
     Refused(Refusal),
 }
 
 // How many names were written, or why none.
-#[derive(Drop)]
+#[derive(Clone, Copy)]
 pub enum Count {
     Names(usize),
     Refused(Refusal),

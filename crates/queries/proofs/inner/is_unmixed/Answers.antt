@@ -6,19 +6,15 @@ use Rattle.rules.specs.Names.{numbered}
 use Rattle.rules.specs.Contents.{unmixed}
 use Rattle.queries.specs.Scans.{opensIn}
 use Rattle.queries.specs.ScanLaws.{opens-none}
-use Rattle.queries.proofs.inner.is_unmixed.Statement.{statement}
-use Rattle.queries.proofs.inner.is_unmixed.Tie as tie
+use Rattle.queries.proofs.inner.is_unmixed.Goals as goal
 
-apart-requires : tie.Need-apart-requires
-apart-requires c κs =
-    let a = c.before.args in
-    rw (opens-none a.s.now 0 0 (omega arith), append-nil (opensIn a.s.now a.b a.e)) c.before.requires
+pub apart-requires : goal.apart-requires
+apart-requires c =
+    let a = c.args in
+    rw (opens-none a.s.now 0 0 (omega arith), append-nil (opensIn a.s.now a.b a.e)) c.requires
 
-returns : tie.Need-returns
+pub returns : goal.returns
 returns c =
-    let a = c.before.before.args in
+    let a = c.args in
     let os = opensIn a.s.now a.b a.e in
     λ names. c.apart.ensures names ∙ ap (unmixed (numbered names)) (ap (os ++◌) (opens-none a.s.now 0 0 (omega arith)) ∙ append-nil os)
-
-pub is-unmixed-spec : {M : Type 1} → statement M
-is-unmixed-spec = tie.close (tie.spec apart-requires returns)

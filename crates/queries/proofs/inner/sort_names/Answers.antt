@@ -1,0 +1,77 @@
+-- `inner::sort_names` meets its contract. The invariant: the names written, then those that are left. Assumes nothing.
+use native.Mathlib.Omega.{arith}
+use lib.ListN.{get_or}
+use Rattle.rules.specs.Names.{table_of, names_of}
+use Rattle.laws.specs.ByteOrder.{numbered-lawful}
+use Rattle.laws.specs.NameTable.{held_tells}
+use Rattle.records.specs.Good.{numbers}
+use Rattle.queries.specs.SortMarks.{sorting_start, sorting-end, sorting-less, sorting-few, sorting_step}
+use Rattle.queries.proofs.inner.sort_names.Goals as goal
+
+pub loop-x-init : goal.loop-x-init
+loop-x-init c =
+    let a = c.args in
+    let g = c.requires.good in
+    let h = c.requires.held in
+    let law = numbered-lawful (names_of (table_of a.pool.now a.table.now)) in
+    let nu = numbers a.pool.now a.table.now in
+    let n = get_or a.table.now 0 0 in
+    sorting_start nu law n (held_tells g) a.m a.out.now h
+
+pub least-requires : goal.least-requires
+least-requires c = record { good = c.requires.good; held = c.loop-x.invariant.held }
+
+pub shape_of-out-in_default : goal.shape_of-out-in_default
+shape_of-out-in_default c = c.loop-x.invariant.same
+
+pub returns-in_default : goal.returns-in_default
+returns-in_default c =
+    let a = c.args in
+    let g = c.requires.good in
+    let h = c.requires.held in
+    let law = numbered-lawful (names_of (table_of a.pool.now a.table.now)) in
+    let nu = numbers a.pool.now a.table.now in
+    let n = get_or a.table.now 0 0 in
+    sorting-end nu law n (held_tells g) a.m a.out.now c.loop-x.left c.loop-x.out c.loop-x.k h.long c.loop-x.invariant (rw c.in_default.is at c.least.ensures)
+
+pub bounds-left-i : goal.bounds-left-i
+bounds-left-i c =
+    let a = c.args in
+    let g = c.requires.good in
+    let h = c.requires.held in
+    let law = numbered-lawful (names_of (table_of a.pool.now a.table.now)) in
+    let nu = numbers a.pool.now a.table.now in
+    let n = get_or a.table.now 0 0 in
+    let l = (rw c.in-Of.is at c.least.ensures) in
+    rw c.wide-i.ensures l.0
+
+pub overflow_add-k : goal.overflow_add-k
+overflow_add-k c =
+    let a = c.args in
+    let g = c.requires.good in
+    let h = c.requires.held in
+    let law = numbered-lawful (names_of (table_of a.pool.now a.table.now)) in
+    let nu = numbers a.pool.now a.table.now in
+    let n = get_or a.table.now 0 0 in
+    let f = sorting-few nu law n (held_tells g) a.m a.out.now c.loop-x.left c.loop-x.out c.loop-x.k h.long c.loop-x.invariant _ (rw c.in-Of.is at c.least.ensures) in
+    omega (arith, f)
+
+pub loop-x-smaller : goal.loop-x-smaller
+loop-x-smaller c =
+    let a = c.args in
+    let g = c.requires.good in
+    let h = c.requires.held in
+    let law = numbered-lawful (names_of (table_of a.pool.now a.table.now)) in
+    let nu = numbers a.pool.now a.table.now in
+    let n = get_or a.table.now 0 0 in
+    rw c.wide-i.ensures (sorting-less nu law n (held_tells g) a.m a.out.now c.loop-x.left c.loop-x.out c.loop-x.k h.long c.loop-x.invariant _ (rw c.in-Of.is at c.least.ensures))
+
+pub loop-x-preserved : goal.loop-x-preserved
+loop-x-preserved c =
+    let a = c.args in
+    let g = c.requires.good in
+    let h = c.requires.held in
+    let law = numbered-lawful (names_of (table_of a.pool.now a.table.now)) in
+    let nu = numbers a.pool.now a.table.now in
+    let n = get_or a.table.now 0 0 in
+    rw (c.put.ensures, c.wide-i.ensures) (sorting_step nu law n (held_tells g) a.m a.out.now c.loop-x.left c.loop-x.out c.loop-x.k h.long c.loop-x.invariant _ (rw c.in-Of.is at c.least.ensures) c.requires.in_bounds)

@@ -1,0 +1,12 @@
+use lib.ListN.{length, get_or}
+use Rattle.rules.specs.Contents.{sort}
+use Rattle.records.specs.Good.{numbers}
+use Rattle.queries.specs.Marks.{picked}
+use Rattle.queries.specs.SortMarks.{Sorting}
+use Rattle.queries.proofs.inner.sort_names.Given as goal
+
+abbrev pub invariant-loop-x : goal.invariant-loop-x
+invariant-loop-x l = Sorting (numbers l.pool l.table) (get_or l.table 0 0) l.initial.left l.initial.out l.left l.out l.k
+
+abbrev pub decreases-loop-x : goal.decreases-loop-x
+decreases-loop-x l = length (sort (numbers l.pool l.table) (picked 0 l.left))
