@@ -1,12 +1,12 @@
 -- A name read letter by letter, and its bytes at the front of a buffer.
 -- Assumes nothing.
-use Rattle.std.specs.Prelude.{◌≡◌, refl, List, [], ◌∷◌, ◌++◌, ℕ, suc, ◌+◌, ◌≤◌, ◌<◌, length, set}
+use Rattle.std.specs.Prelude.{◌≡◌, refl, List, [], ◌∷◌, ◌++◌, ℕ, suc, ◌+◌, ◌≤◌, length, set}
 use Rattle.std.proofs.Common.{sym, ap, ◌∙◌, arith, length-append}
 use Rattle.std.proofs.lemmas.List.Edits.{sets}
 use Rattle.records.specs.Stores.{sets-append}
 use Rattle.rules.specs.Names.{Bytes}
-use Rattle.rules.specs.Grammar.{Place, here, Parsed, read, bad, more}
-use Rattle.scanning.specs.Scanned.{place_in, nameIn, ByteThen, end-name}
+use Rattle.rules.specs.Grammar.{Place, Parsed, read, bad, more}
+use Rattle.scanning.specs.Scanned.{place_in, nameIn, ByteThen}
 use Rattle.scanning.specs.declared.inner.Name.{Name}
 use Rattle.scanning.specs.declared.inner.Name.TheVariants as name
 

@@ -1,9 +1,9 @@
 -- Digits read one by one, and their number with a cap on it.
 -- Assumes nothing.
-use Rattle.std.specs.Prelude.{◌≡◌, refl, Bool, true, false, List, [], ◌∷◌, ℕ, suc, ◌+◌, ◌-◌, ◌*◌, ◌≤◌, ◌<◌, min, ltb, length, drop, get_or}
-use Rattle.std.proofs.Common.{sym, ap, ◌∙◌, add-one, arith, ltb-true, ltb-false, drop_of_length-le, drop-cons}
+use Rattle.std.specs.Prelude.{◌≡◌, refl, Bool, true, false, ℕ, suc, ◌+◌, ◌-◌, ◌*◌, ◌≤◌, ◌<◌, min, ltb, length, drop, get_or}
+use Rattle.std.proofs.Common.{◌∙◌, add-one, arith, ltb-true, ltb-false, drop_of_length-le, drop-cons}
 use Rattle.rules.specs.Names.{Bytes}
-use Rattle.rules.specs.Grammar.{here, Parsed, read, bad, isDigit, digitsFrom, digitsAt}
+use Rattle.rules.specs.Grammar.{Parsed, read, bad, isDigit, digitsFrom, digitsAt}
 use Rattle.scanning.specs.Scanned.{place_in}
 use Rattle.scanning.specs.declared.inner.Number.{Number}
 use Rattle.scanning.specs.declared.inner.Number.TheVariants as number

@@ -10,14 +10,14 @@ use spelling::inner::put;
 use spelling::{is_plain, within};
 
 // Where a sign ends, or the first byte that doesn't fit.
-#[derive(Drop)]
+#[derive(Clone, Copy)]
 pub enum Spelt {
     To(usize),
     Bad(usize),
 }
 
 // What a name goes on with: a byte, and the place behind it; nothing; or a byte that doesn't fit.
-#[derive(Drop)]
+#[derive(Clone, Copy)]
 pub enum Letter {
     Byte(u8, usize),
     Ends,
@@ -25,14 +25,14 @@ pub enum Letter {
 }
 
 // Where a name ends and how many bytes it has, or the first byte that doesn't fit.
-#[derive(Drop)]
+#[derive(Clone, Copy)]
 pub enum Name {
     To(usize, usize),
     Bad(usize),
 }
 
 // Where digits end and their number, in which 2,147,483,648 stands for all that is larger; or the first byte that doesn't fit.
-#[derive(Drop)]
+#[derive(Clone, Copy)]
 pub enum Number {
     To(usize, u64),
     Bad(usize),

@@ -1,4 +1,6 @@
 // A line of a sheet from left to right: blanks, signs, the bytes of names.
+#![tactic(auto)]
+
 ghost use Rattle.std.specs.Prelude.{◌≡◌};
 ghost use Rattle.rules.specs.Grammar.{isBlank, hexOf};
 ghost use Rattle.scanning.specs.Digits.{toldHex};
@@ -21,7 +23,7 @@ pub fn is_blank(b: u8) -> bool
 }
 
 // A hex digit's value, if a byte is one.
-#[derive(Drop)]
+#[derive(Clone, Copy)]
 pub enum Hex {
     Digit(u8),
     Nothing,
