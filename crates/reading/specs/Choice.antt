@@ -6,7 +6,7 @@ use Prim.Native.Char.{Char, code}
 use Rattle.std.proofs.lemmas.Bool.{eqb-false}
 use Rattle.rules.specs.Names.{Bytes}
 use Rattle.rules.specs.Trees.{var, par, boolean, string, datetime}
-use Rattle.rules.specs.Grammar.{Place, here, bad, Rule, ascii, column, columnOf, pick, chosen, TyAt, deepAt, opened, dimension, keyword, function, listed, structure, types, type, tooDeep, deepTypes}
+use Rattle.rules.specs.Grammar.{here, bad, Rule, column, columnOf, pick, chosen, TyAt, deepAt, opened, dimension, keyword, function, listed, structure, types, type, tooDeep, deepTypes}
 use Rattle.reading.specs.Points.{Reads, columnAt, in-turn}
 use Rattle.reading.specs.Factors.{byte_of, refusedFrom, pick_other, choose-this, choose-none}
 use Rattle.reading.specs.declared.inner.Point.{Point}

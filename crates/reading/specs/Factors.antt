@@ -1,16 +1,16 @@
 -- Names, factors and dimensions from point to point.
 -- Assumes nothing.
 use Rattle.std.specs.Prelude.{◌≡◌, refl, Bool, true, false, leb, length, drop, get_or}
-use Rattle.std.proofs.Common.{sym, ap, ◌∙◌, true≢false, arith, eq-eqb, ne_eqb, leb-true, leb-false, drop_of_length-le, length-drop, drop-cons}
+use Rattle.std.proofs.Common.{sym, ap, ◌∙◌, true≢false, arith, ne_eqb, leb-true, leb-false, drop_of_length-le, length-drop, drop-cons}
 use mathlib.Core.List.{List, [], ◌∷◌}
-use Prim.Native.Nat.{ℕ, zero, suc, ◌+◌, ◌-◌, ◌≤◌, ◌<◌}
+use Prim.Native.Nat.{ℕ, zero, suc, ◌-◌, ◌≤◌, ◌<◌}
 use Prim.Native.Char.{Char, code}
 use Rattle.rules.specs.Names.{Bytes}
 use Rattle.rules.specs.Trees.{Atom, free, base, var, par}
-use Rattle.rules.specs.Grammar.{Place, here, beyond, Parsed, read, bad, Rule, give, sign, skip, skipFrom, ifSign, column, columnOf, left, leftIn, pick, chosen, choose, NameAt, name, PowerAt, power, noPower, FactorAt, TyAt, dimAt, marks, markedWith, factor, moreFactors, factors, dimension, ◌>>=◌, ◌>>◌}
+use Rattle.rules.specs.Grammar.{Place, here, beyond, read, bad, Rule, give, sign, skip, skipFrom, ifSign, column, columnOf, left, pick, chosen, choose, NameAt, name, PowerAt, power, noPower, FactorAt, TyAt, dimAt, marks, markedWith, factor, moreFactors, factors, dimension, ◌>>=◌, ◌>>◌}
 use Rattle.scanning.specs.Scanned.{place_in, nameIn}
 use Rattle.scanning.specs.Names.{NameRead}
-use Rattle.reading.specs.Points.{Reads, PointIn, MarkRead, Any, marked, left_at, columnAt, from, standing, begins, beginsAt, in-turn, given, if-sign, if-no-sign, begins-end}
+use Rattle.reading.specs.Points.{Reads, PointIn, MarkRead, Any, marked, left_at, columnAt, from, begins, beginsAt, in-turn, given, if-sign, if-no-sign}
 use Rattle.reading.specs.declared.inner.Point.{Point}
 use Rattle.reading.specs.declared.inner.Point.TheVariants as point
 

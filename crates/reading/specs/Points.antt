@@ -1,12 +1,11 @@
 -- A rule of the grammar from a point of a line on, and what it reads.
 -- Assumes nothing.
-use Rattle.std.specs.Prelude.{◌≡◌, Bool, true, false, List, [], ◌∷◌, ℕ, suc, ◌+◌, ◌-◌, ◌≤◌, ◌<◌, min, eqb, length, drop, get_or}
+use Rattle.std.specs.Prelude.{◌≡◌, Bool, true, false, [], ◌∷◌, ℕ, suc, ◌+◌, ◌-◌, ◌≤◌, ◌<◌, min, eqb, length, get_or}
 use Rattle.std.proofs.Math.Path.{refl, sym}
 use Rattle.std.proofs.Common.{ap, ◌∙◌, true≢false, add-one, arith, eq-eqb, ne_eqb, drop_of_length-le, drop-cons}
 use Prim.Native.Char.{Char, code}
 use Rattle.rules.specs.Names.{Bytes}
-use Rattle.rules.specs.Grammar.{Place, here, beyond, Parsed, read, bad, Rule, pass, give, skip, skipFrom, spell, spellFrom, starts, either, ifSign, column, columnOf, digits, digitsAt}
-use Rattle.rules.specs.Grammar as Grammar
+use Rattle.rules.specs.Grammar.{Place, here, beyond, Parsed, read, bad, Rule, pass, give, skip, spell, spellFrom, starts, ifSign, column, digits, digitsAt}
 use Rattle.scanning.specs.Scanned.{place_in, Skipped}
 use Rattle.scanning.specs.Numbers.{NumberRead}
 use Rattle.reading.specs.declared.inner.Point.{Point}

@@ -1,7 +1,7 @@
 -- A power, sign by sign.
 -- Assumes nothing.
-use Rattle.std.specs.Prelude.{◌≡◌, refl, Bool, true, false, List, [], ◌∷◌, ℕ, suc, ◌+◌, ◌≤◌, ◌<◌, min, ℤ, pos, neg_ℤ, length}
-use Rattle.std.proofs.Common.{sym, ap, ◌∙◌}
+use Rattle.std.specs.Prelude.{◌≡◌, refl, Bool, true, false, ℕ}
+use Rattle.std.proofs.Common.{sym, ap}
 use Rattle.rules.specs.Names.{Bytes}
 use Rattle.rules.specs.Grammar.{Rule, give, sign, ifSign, column, digits, PowerAt, signedBy, power, ◌>>=◌, ◌>>◌}
 use Rattle.reading.specs.Points.{Reads, PointIn, Any, Same, Capped, marked, columnAt, beginsAt, in-turn, given, if-sign, if-no-sign}

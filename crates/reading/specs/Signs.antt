@@ -1,13 +1,13 @@
 -- Signs of several bytes, and the types without a type inside.
 -- Assumes nothing.
-use Rattle.std.specs.Prelude.{◌≡◌, refl, Bool, true, false, List, [], ◌∷◌, ℕ, zero, suc, ◌+◌, ◌-◌, ◌≤◌, ◌<◌, eqb, length, drop}
-use Rattle.std.proofs.Common.{sym, ap, ◌∙◌, arith}
+use Rattle.std.specs.Prelude.{◌≡◌, refl, Bool, true, false, [], ◌∷◌, ℕ, suc, ◌+◌, ◌≤◌, eqb, length, drop}
+use Rattle.std.proofs.Common.{sym, arith}
 use Rattle.std.proofs.Math.ListN.{length-drop}
 use Rattle.rules.specs.Names.{Bytes}
 use Rattle.rules.specs.Trees.{Open, Basic}
 use Rattle.rules.specs.Grammar.{Place, here, beyond, Parsed, read, bad, Rule, give, skip, spell, spellFrom, column, NameAt, name, TyAt, open_at, basicAt, ◌>>=◌, ◌>>◌}
 use Rattle.scanning.specs.Scanned.{place_in, Skipped}
-use Rattle.reading.specs.Points.{Reads, PointIn, Any, marked, left_at, columnAt, in-turn, given, skip_is}
+use Rattle.reading.specs.Points.{Reads, Any, marked, columnAt, in-turn, given, skip_is}
 use Rattle.reading.specs.declared.inner.Point.{Point}
 use Rattle.reading.specs.declared.inner.Point.TheVariants as point
 

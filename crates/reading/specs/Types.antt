@@ -1,10 +1,10 @@
 -- Types from point to point, whatever the rule for the types inside, and what is known of a type by what is known of its parts.
 -- Assumes nothing.
-use Rattle.std.specs.Prelude.{◌≡◌, refl, Bool, true, false, List, [], ◌∷◌}
-use Rattle.std.proofs.Common.{sym, ap, ◌∙◌, arith}
-use Prim.Native.Nat.{ℕ, zero, suc, ◌+◌, ◌-◌, ◌≤◌, ◌<◌}
+use Rattle.std.specs.Prelude.{◌≡◌, refl, true, false}
+use Rattle.std.proofs.Common.{◌∙◌, arith}
+use Prim.Native.Nat.{ℕ, zero, suc, ◌≤◌, ◌<◌}
 use Rattle.rules.specs.Names.{Bytes}
-use Rattle.rules.specs.Grammar.{Place, here, beyond, Parsed, read, bad, pass, Rule, give, ascii, sign, ifSign, column, left, NameAt, name, TyAt, TysAt, nilAt, consAt, FieldsAt, noneAt, field_at, fn_at, listAt, struct_at, moreTys, tys, function, listed, fieldName, moreFields, fields, structure, ◌>>=◌, ◌>>◌}
+use Rattle.rules.specs.Grammar.{Place, beyond, Parsed, read, bad, pass, Rule, give, ascii, sign, ifSign, column, left, NameAt, name, TyAt, TysAt, nilAt, consAt, FieldsAt, noneAt, field_at, fn_at, listAt, struct_at, moreTys, tys, function, listed, fieldName, moreFields, fields, structure, ◌>>=◌, ◌>>◌}
 use Rattle.scanning.specs.Scanned.{place_in}
 use Rattle.reading.specs.Points.{Reads, from, PointIn, MarkRead, Any, marked, left_at, columnAt, beginsAt, in-turn, given, if-sign, if-no-sign}
 use Rattle.reading.specs.Factors.{begun, left_there}

@@ -1,12 +1,12 @@
 -- What a power is worth, by the numbers that the code has of it.
 -- Assumes nothing.
-use Rattle.std.specs.Prelude.{◌≡◌, refl, Bool, true, false, ◌&&◌, ℕ, zero, suc, ◌*◌, ◌/◌, ◌≤◌, ◌<◌, min, ltb, ℤ, pos, neg_ℤ, nat_abs, ◌*ℤ◌}
+use Rattle.std.specs.Prelude.{◌≡◌, refl, Bool, true, false, ◌&&◌, ℕ, zero, suc, ◌*◌, ◌/◌, ◌≤◌, ◌<◌, min, ℤ, pos, nat_abs}
 use Rattle.std.proofs.Common.{sym, ap, ap₂, ◌∙◌, mul-one, one-mul, div-le_self, mul-zero, arith}
 use Rattle.std.proofs.Math.Nat.{mul-div_cancel'}
 use borrow.Author.Tests.{leb-true, leb-false, le-leb, lt-leb, lt-ltb}
 use Rattle.std.proofs.Math.Dec.{leb}
 use Rattle.rules.specs.Base.{Got, got, refused, bounded, allow}
-use Rattle.rules.specs.Exponents.{Exp, frac, lowest, gcd, top, in_range, goodExp, mul, inverted, times, quotient, timesInverse, ranged}
+use Rattle.rules.specs.Exponents.{Exp, frac, lowest, gcd, top, in_range, goodExp, mul, inverted, times, quotient}
 use Rattle.rules.specs.Writing.{signed, by_sign}
 use Rattle.laws.specs.Integers.{natAbs-neg}
 use Rattle.laws.specs.Gcd.{is-gcd, coprime}

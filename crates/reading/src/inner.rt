@@ -15,7 +15,7 @@ use exponents::inner::quotient_of;
 use scanning::inner::{Number, scan_digits, skip_blanks};
 
 // How far a line is read: up to a place, up to a type nested 65 deep, or to the first byte that fits nothing.
-#[derive(Drop)]
+#[derive(Clone, Copy)]
 pub enum Point {
     At(usize),
     Past,
@@ -23,21 +23,21 @@ pub enum Point {
 }
 
 // Digits: where they end, and their number, in which 2,147,483,648 stands for all that is larger.
-#[derive(Drop)]
+#[derive(Clone, Copy)]
 pub struct Counted {
     pub end: Point,
     pub number: u64,
 }
 
 // A minus that may stand there, and where it ends.
-#[derive(Drop)]
+#[derive(Clone, Copy)]
 pub struct Minus {
     pub end: Point,
     pub there: bool,
 }
 
 // A power as it was typed: the points of its "^" and of its end, its numbers as digits have them.
-#[derive(Drop)]
+#[derive(Clone, Copy)]
 pub struct Power {
     pub sign: Point,
     pub end: Point,

@@ -1,4 +1,6 @@
 // The rules of the grammar, held against a line.
+#![tactic(auto)]
+
 pub mod inner;
 
 ghost use Rattle.std.specs.Prelude.{◌≡◌};
