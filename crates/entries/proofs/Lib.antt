@@ -1,3 +1,2 @@
 pub mod Filling
 pub mod Turns
-pub mod Walk

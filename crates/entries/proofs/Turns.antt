@@ -5,6 +5,7 @@ use mathlib.Core.List.{List, [], ◌∷◌}
 use mathlib.Core.Option.{Option, none, some}
 use Prim.Native.Nat.{ℕ, zero, suc, ◌<◌, ◌≤◌}
 use native.Mathlib.Nat.{not-suc-le-zero, le_of_suc-le-suc}
+use borrow.Author.Tests.{eq-eqb, ne_eqb}
 use lib.Dec.{T, eqb}
 use lib.ListN.{length, get_or, drop}
 use Rattle.rules.specs.Base.{◌or_else◌, only_if, any}
@@ -29,6 +30,13 @@ yes-is false p o h = absurd h
 no-is : (c : Bool) (p : ℕ) (o : Option ℕ) → T (not c) → (only_if c p or_else o) ≡ o
 no-is true p o h = absurd h
 no-is false p o h = refl
+
+-- two numbers as the test of their equality has them
+pub same : (a b : ℕ) → a ≡ b → T (eqb a b)
+same a b e = rw (eq-eqb a b e) tt
+
+pub other : (a b : ℕ) → (a ≡ b → ⊥) → T (not (eqb a b))
+other a b e = rw (ne_eqb a b e) tt
 
 -- the entry at i is for x
 pub found_here : (ys : List Entry) (i : ℕ) (d : Entry) (x : ℕ) → i < length ys → T (eqb (get_or ys i d).variable x) → lookUp (drop i ys) x ≡ some (get_or ys i d).place

@@ -1,4 +1,4 @@
-// The work on entries. Every function with a `&[Entry]` among its locals is proved by a walk of its code, so these are few and thin.
+// The work on entries.
 ghost use Rattle.std.specs.Prelude.{◌≡◌, not, ◌<◌};
 ghost use Rattle.rules.specs.Calls.{differ};
 ghost use Rattle.laws.specs.NameTable.{Good};
@@ -46,7 +46,7 @@ pub fn repeats(entries: &[Entry]) -> bool
 }
 
 // One number for each name: 0, or one more than the place of its entry. A place takes all of 32 bits, so these are wider.
-#[derive(Drop)]
+#[derive(Clone, Copy)]
 pub struct Slots {
     pub at: [u64; NAMES],
 }
