@@ -1,0 +1,14 @@
+use mathlib.Core.Path.{◌≡◌}
+use Prim.Native.Nat.{◌-◌, ◌≤◌}
+use lib.ListN.{length, drop}
+use Rattle.rules.specs.Base.{got}
+use Rattle.records.specs.Holds.{HoldsFactors}
+use Rattle.products.specs.Told.{Tree}
+use Rattle.products.specs.Steps.{Doing}
+use Rattle.loading.proofs.inner.load.Given as goal
+
+abbrev pub invariant-loop-i : goal.invariant-loop-i
+invariant-loop-i l = (l.i ≤ l.n) × (l.out.len ≡ l.i) × ((p : Tree) → HoldsFactors l.s p l.at → length p ≡ l.n → Doing (got (drop l.i p)) (got p) l.i l.out)
+
+abbrev pub decreases-loop-i : goal.decreases-loop-i
+decreases-loop-i l = l.n - l.i

@@ -1,0 +1,24 @@
+-- `loading::inner::view_of` meets its contract.
+-- Assumes nothing.
+use Rattle.rules.specs.Values.{atomIn}
+use Rattle.rules.specs.Writing.{writeFactor}
+use Rattle.loading.specs.Loaded.{last-kind}
+use Rattle.loading.proofs.inner.view_of.Goals as goal
+
+pub returns-in-11 : goal.returns-in-11
+unfolding writeFactor atomIn
+returns-in-11 c = rw (c.in-11.is, c.num_word-num.ensures)
+
+pub returns-in-12 : goal.returns-in-12
+unfolding writeFactor atomIn
+returns-in-12 c = rw (c.in-12.is, c.num_word-num.ensures)
+
+pub returns-in-15 : goal.returns-in-15
+unfolding writeFactor atomIn
+returns-in-15 c = rw (c.in-15.is, c.num_word-num.ensures)
+
+pub returns-in_default : goal.returns-in_default
+unfolding writeFactor atomIn
+returns-in_default c =
+    let r = c.in_default.in_default-own.rest in
+    rw (last-kind c.requires r.0.0.1 r.0.1 r.1, c.num_word-num.ensures)
