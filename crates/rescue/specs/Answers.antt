@@ -14,7 +14,7 @@ use Rattle.laws.specs.Checks.{need-passed, first-passed, next-passed}
 use Rattle.laws.specs.Lists.{and_left, and_right}
 use Rattle.laws.specs.NameTable.{Good}
 use Rattle.laws.specs.Size.{words-length}
-use Rattle.rules.specs.Rescue.{Piece, Rescued, words_in, piecesIn, keptIn, placesIn, rescueGiven, rescueCall}
+use Rattle.rules.specs.Rescue.{Piece, words_in, piecesIn, keptIn, placesIn, rescueGiven, rescueCall}
 use Rattle.rescue.specs.Told.{rescuedAs, keptBytes, Walked, Noted, Took}
 use Rattle.rescue.specs.Steps.{bytes-length, over-is, torn-behind, torn-few}
 use Rattle.rescue.specs.declared.Counts.{Counts}

@@ -1,4 +1,6 @@
 // Rescue of damaged set files: what is well formed is kept, and each place that is skipped is named.
+#![tactic(auto)]
+
 pub mod inner;
 
 ghost use Rattle.std.specs.Prelude.{◌≡◌};
@@ -10,13 +12,13 @@ use names::Checked;
 use rules::Refusal;
 
 // How many records are kept, and how many places skipped.
-#[derive(Drop)]
+#[derive(Clone, Copy)]
 pub struct Counts {
     pub kept: usize,
     pub skipped: usize,
 }
 
-#[derive(Drop)]
+#[derive(Clone, Copy)]
 pub enum Answer {
     Rescued(Counts),
     Refused(Refusal),

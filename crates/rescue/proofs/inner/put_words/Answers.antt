@@ -1,0 +1,35 @@
+-- `inner::put_words` meets its contract: the loop says what is left to write. Assumes nothing.
+use mathlib.Core.List.{[]}
+use Prim.Native.Nat.{ℕ}
+use mathlib.Core.Path.{◌≡◌, refl, sym, ap, ◌∙◌}
+use native.Mathlib.Omega.{arith}
+use lib.Seq.{sets, slice, slice_empty}
+use Rattle.rules.specs.Rescue.{bytes_of}
+use Rattle.rescue.specs.Steps.{bytes-step, no_bytes}
+use Rattle.rescue.proofs.inner.put_words.Goals as goal
+
+pub loop-i-init : goal.loop-i-init
+loop-i-init c = (omega arith, omega arith, omega arith, refl, refl)
+
+pub loop-i-preserved : goal.loop-i-preserved
+loop-i-preserved c =
+    let a = c.args in
+    let l = c.loop-i in
+    let p = c.put_word in (
+      omega arith,
+      omega arith,
+      omega arith,
+      p.auto.dst ∙ l.invariant.3,
+      bytes-step a.s.now l.dst p.new.dst l.i l.o a.e (omega arith) (omega arith) p.ensures l.invariant.4,
+    )
+
+pub shape_of-dst : goal.shape_of-dst
+shape_of-dst c = c.loop-i.invariant.3
+
+pub returns : goal.returns
+returns c =
+    let l = c.loop-i in
+    let a = c.args in
+    let e : l.i ≡ a.e = omega arith in
+    let none : bytes_of (slice l.i a.e a.s.now) ≡ [] = ap (λ (k : ℕ). bytes_of (slice k a.e a.s.now)) e ∙ ap bytes_of (slice_empty a.e a.s.now) ∙ no_bytes in
+    sym (ap (sets l.dst l.o) none) ∙ l.invariant.4

@@ -1,0 +1,15 @@
+-- `inner::take_words` meets its contract: what was filled are the words of the file. Assumes nothing.
+use mathlib.Core.Path.{ap, ◌∙◌}
+use native.Mathlib.Omega.{arith}
+use lib.ListN.{length, take}
+use Prim.Native.Nat.{◌/◌, ◌-◌}
+use Rattle.rules.specs.Rescue.{words_in}
+use Rattle.rescue.specs.Steps.{words-in-length}
+use Rattle.rescue.specs.Answers.{front}
+use Rattle.rescue.proofs.inner.take_words.Goals as goal
+
+pub take_pieces-requires : goal.take_pieces-requires
+take_pieces-requires c =
+    let file = c.args.file.now in
+    let n = length file / 4 - 0 in
+    record { good = c.requires.good; file_len_bound = c.requires.file_len_bound; s_value = ap (take n) c.fill.ensures ∙ front _ (words_in file) n (omega (arith, words-in-length file)) (omega (arith, c.requires.file_len_bound)) }
