@@ -1,4 +1,6 @@
 // A ceiling on the rounds that solving a set takes, to set a watchdog by.
+#![tactic(auto)]
+
 ghost use Rattle.std.specs.Prelude.{◌≡◌};
 ghost use Rattle.rules.specs.Ceiling.{ceilingCall};
 ghost use Rattle.ceiling.specs.Told.{told};
@@ -11,14 +13,14 @@ use rules::Refusal;
 pub mod inner;
 
 // How many distinct variables a set has, which binding rounds don't pass, and what all rounds together don't pass.
-#[derive(Drop)]
+#[derive(Clone, Copy)]
 pub struct Most {
     pub variables: u32,
     pub rounds: u32,
 }
 
 // The ceiling, or why there is none.
-#[derive(Drop)]
+#[derive(Clone, Copy)]
 pub enum Answer {
     Given(Most),
     Refused(Refusal),
