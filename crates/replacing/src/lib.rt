@@ -1,2 +1,4 @@
 // Replacing: bound variables of types, constraints and bindings replaced by the types that they are bound to.
+#![tactic(auto)]
+
 pub mod inner;

@@ -11,7 +11,7 @@ use queries::inner::end_of;
 use records::Open;
 
 // The places of a type that was found, from its first record up to its end.
-#[derive(Drop)]
+#[derive(Clone, Copy)]
 pub enum Found {
     At(usize, usize),
     Nothing,

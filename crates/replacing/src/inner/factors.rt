@@ -15,7 +15,7 @@ use products::{Factor, Product};
 use records::Open;
 
 // The open name that was asked for, if there is one.
-#[derive(Drop)]
+#[derive(Clone, Copy)]
 pub enum Alone {
     Of(Open),
     Not,

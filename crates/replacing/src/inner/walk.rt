@@ -26,7 +26,7 @@ use records::{Open, View};
 use rules::Refusal;
 
 // The next place in the source and in the buffer, or why the walk stopped.
-#[derive(Drop)]
+#[derive(Clone, Copy)]
 pub enum Went {
     To(usize, usize),
     Stop(Refusal),
