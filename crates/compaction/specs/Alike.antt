@@ -5,7 +5,7 @@ use Rattle.std.proofs.Common.{sym, ap, ◌∙◌, arith, lt-ltb, ltb-true, eq-eq
 use Rattle.std.proofs.Math.Bool.{◌&&◌, or-true}
 use mathlib.Core.List.{List, [], ◌∷◌}
 use Rattle.std.proofs.Math.Dec.{eqb}
-use Rattle.rules.specs.Names.{Bytes, Table, table_of, names_of, is_held, held}
+use Rattle.rules.specs.Names.{Bytes, Table, table_of, names_of, is_held}
 use Rattle.rules.specs.Offices.{named, Word, number, name, nameNo, namesOne, wordIf, readBack, ReadAlike}
 use Rattle.rules.specs.Writing.{rec, kindIn}
 use Rattle.laws.specs.NameTable.{Good, good-laid, length-names, held-is}

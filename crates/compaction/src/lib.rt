@@ -1,4 +1,6 @@
 // Room back in the name table: names that occur in no set are dropped, and the sets are renumbered.
+#![tactic(auto)]
+
 pub mod inner;
 
 ghost use Rattle.std.specs.Prelude.{◌≡◌};
@@ -12,7 +14,7 @@ use names::inner::{count, is_good};
 use rules::{NAMES, POOL_BYTES, Refusal, TABLE_WORDS};
 
 // How many names were kept, or why nothing was changed.
-#[derive(Drop)]
+#[derive(Clone, Copy)]
 pub enum Compacted {
     Kept(usize),
     Refused(Refusal),

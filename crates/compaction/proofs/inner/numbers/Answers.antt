@@ -1,0 +1,22 @@
+-- `inner::numbers` meets its contract. Assumes nothing.
+use native.Mathlib.Omega.{arith}
+use Rattle.compaction.specs.Marks.{marks, numbered-none, numbered_more, numbered-all}
+use Rattle.compaction.proofs.inner.numbers.Goals as goal
+
+pub loop-i-init : goal.loop-i-init
+loop-i-init c = (omega arith, numbered-none _ _ c.requires.to_len)
+
+pub number_of-requires : goal.number_of-requires
+number_of-requires c = c.requires.m_len
+
+pub offset_bounds-to-wide : goal.offset_bounds-to-wide
+offset_bounds-to-wide c = omega (arith, c.wide.ensures)
+
+pub bounds-to-wide : goal.bounds-to-wide
+bounds-to-wide c = omega (arith, c.wide.ensures)
+
+pub loop-i-preserved : goal.loop-i-preserved
+loop-i-preserved c = let l = c.loop-i in (omega arith, numbered_more (marks c.args.m.now) l.to l.i c.wide.result c.number_of.result c.wide.ensures c.loop-i-test.true l.invariant.1 c.number_of.ensures)
+
+pub returns : goal.returns
+returns c = let l = c.loop-i in numbered-all (marks c.args.m.now) l.to l.i c.loop-i-test.false l.invariant.1
