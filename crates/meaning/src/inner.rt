@@ -16,7 +16,7 @@ use records::seen::view_at;
 use records::{Atom, Basic, Open, View};
 
 // What is compared of a type before its parts: its kind as document 01 numbers it, its name, and how many parts follow.
-#[derive(Drop)]
+#[derive(Clone, Copy)]
 pub struct Head {
     pub kind: u32,
     pub name: u32,

@@ -16,7 +16,7 @@ use records::seen::view_at;
 use rules::NAMES;
 
 // Where the type of a field stands.
-#[derive(Drop)]
+#[derive(Clone, Copy)]
 pub enum Place {
     At(usize),
     Nowhere,
