@@ -12,7 +12,7 @@ use Rattle.rules.specs.Schemes.{renamed}
 use Rattle.rules.specs.Trees as tree
 use Rattle.rules.specs.Trees.{Names, Ty, opened, size}
 use Rattle.laws.specs.Lists.{All, some≢none}
-use Rattle.renaming.specs.InTurn.{first_of, all_of, At, first-at, all-good}
+use Rattle.renaming.specs.InTurn.{first_of, all_of, first-at, all-good}
 use Rattle.renaming.specs.Again.{there-in}
 use Rattle.records.specs.Holds.{Holds}
 use Rattle.rules.specs.Names.{table_of, numbersOf, is_held}

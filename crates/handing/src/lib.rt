@@ -1,2 +1,4 @@
 // The tables by which handed names are quantified, or put back.
+#![tactic(auto)]
+
 pub mod inner;
