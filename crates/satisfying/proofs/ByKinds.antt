@@ -17,7 +17,7 @@ use Rattle.rules.specs.Rounds as rules
 use Rattle.rules.specs.Rounds.{pairs, asProducts, variableLeft, functions, lists, structs, dimensions, by_kind, orTry}
 use Rattle.rules.specs.Trees as tree
 use Rattle.rules.specs.Trees.{var, Names, Product, Ty, opened, basic, dim, fn, struct, list, Tys, Fields, Con, equal, is_scalar, size, sizeCon, count, sizeTys}
-use Rattle.rules.specs.Views.{productOf, fn_of, struct_of, list_of, variable, asVar}
+use Rattle.rules.specs.Views.{productOf, fn_of, struct_of, list_of, asVar}
 use Rattle.rules.specs.WellFormed.{goodTy}
 use Rattle.rules.specs.Writing.{Rec, rec, head, words, twos, writeFactor, writeProduct, writeTy, writeCon}
 use Rattle.laws.specs.GoodProducts.{divide-good}

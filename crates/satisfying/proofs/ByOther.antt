@@ -3,7 +3,7 @@ use mathlib.Core.Path.{◌≡◌, refl, sym, ap, ap₂, subst, ◌∙◌}
 use mathlib.Core.Bool.{Bool, true, false}
 use mathlib.Core.List.{List, [], ◌∷◌, map}
 use mathlib.Core.Option.{Option, none, some, get_or}
-use Prim.Native.Nat.{ℕ, suc, ◌+◌, ◌-◌, ◌*◌, ◌/◌, ◌≤◌, ◌<◌}
+use Prim.Native.Nat.{ℕ, suc, ◌+◌, ◌*◌, ◌/◌, ◌≤◌, ◌<◌}
 use native.Mathlib.Omega.{arith}
 use borrow.Author.Tests.{eq-eqb, ne_eqb}
 use lib.ListN.{length}
@@ -39,7 +39,7 @@ use Rattle.laws.specs.Ranges.{stored-good}
 use Rattle.products.specs.Held.{law}
 use Rattle.laws.specs.Weaker.{ty-weaker}
 use Rattle.replacing.specs.Well.{HeldType}
-use Rattle.satisfying.specs.Parts.{Fits, Put, Wrote, FactorsPut, FactorsLeft, isDimOf, GoodPowers, FactorsHeld, ProductHeld, FieldsHeld, boundTo}
+use Rattle.satisfying.specs.Parts.{Put, Wrote, FactorsPut, FactorsLeft, isDimOf, GoodPowers, FactorsHeld, ProductHeld, FieldsHeld, boundTo}
 use Rattle.satisfying.specs.Stepped.{HeldCon, Stepped}
 use Rattle.records.specs.declared.Open as opens
 use Rattle.records.specs.declared.Atom as atoms

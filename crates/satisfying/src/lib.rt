@@ -1,11 +1,13 @@
 // What the first rule that fits does with a constraint.
+#![tactic(auto)]
+
 pub mod inner;
 
 use rules::Refusal;
 
 // A variable bound, other constraints in the place of this one, it alone taken away, no rule, or a refusal.
 // The number is the place past the records that were written.
-#[derive(Drop)]
+#[derive(Clone, Copy)]
 pub enum Step {
     Bind(usize),
     Split(usize),
