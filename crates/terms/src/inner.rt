@@ -11,14 +11,14 @@ use records::inner::put_record;
 use rules::{RECORDS, Refusal};
 
 // How a sheet stands: new names and records so far; or refused, and the place in the line that is told.
-#[derive(Drop)]
+#[derive(Clone, Copy)]
 pub enum Stand {
     Going(usize, usize),
     Refused(Refusal, usize),
 }
 
 // Where a line is read to, and how the sheet stands then.
-#[derive(Drop)]
+#[derive(Clone, Copy)]
 pub struct Reached {
     pub at: Point,
     pub stand: Stand,

@@ -19,7 +19,7 @@ use rules::{NAME_BYTES, Refusal, Was};
 use scanning::inner::{Name, scan_name};
 
 // Where a name ends, how the sheet stands, and the name's number; 0 where it has none.
-#[derive(Drop)]
+#[derive(Clone, Copy)]
 pub struct Named {
     pub at: Point,
     pub stand: Stand,

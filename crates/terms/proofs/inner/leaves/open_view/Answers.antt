@@ -1,0 +1,8 @@
+-- `inner::leaves::open_view` meets its contract. Assumes nothing.
+use Rattle.terms.proofs.inner.leaves.open_view.Goals as goal
+
+pub returns-then-par : goal.returns-then-par
+returns-then-par c = rw c.if-par.true
+
+pub returns-else-par : goal.returns-else-par
+returns-else-par c = rw c.if-par.false

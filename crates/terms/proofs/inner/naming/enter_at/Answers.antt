@@ -1,0 +1,23 @@
+-- `inner::naming::enter_at` meets its contract. Assumes nothing.
+use mathlib.Core.Path.{refl}
+use native.Mathlib.Omega.{arith}
+use Rattle.rules.specs.TextReading.{named}
+use Rattle.laws.specs.NameTable.{good-laid}
+use Rattle.reading.specs.Factors.{name-bad}
+use Rattle.terms.specs.Effects.{kept_same, roomy, ends-bad}
+use Rattle.terms.specs.Naming.{front_of, named-done}
+use Rattle.terms.proofs.inner.naming.enter_at.Goals as goal
+
+pub stand_after-requires : goal.stand_after-requires
+stand_after-requires c =
+    omega (arith, (good-laid c.requires.good).few, c.requires.room.names)
+
+pub returns-in-Bad : goal.returns-in-Bad
+returns-in-Bad c =
+    λ dst. ends-bad named (kept_same c.requires.good (roomy c.requires.room)) (name-bad (rw c.in-Bad.is at c.scan_name.ensures))
+
+pub returns-in-To : goal.returns-in-To
+returns-in-To c =
+    let name = rw c.in-To.is at c.scan_name.ensures in
+    λ dst. rw (c.stand_after.ensures, c.number_told.ensures)
+    (named-done _ _ _ _ _ _ _ c.requires.room dst c.requires.good name c.enter_front-a.result (c.enter_front-a.ensures name.bytes (front_of name refl)))
