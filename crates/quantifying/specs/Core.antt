@@ -8,9 +8,9 @@ use native.Mathlib.Omega.{arith}
 use Rattle.std.proofs.Math.ListN.{length, length-append, length-map}
 use Rattle.std.proofs.Math.Seq.{sets, length-sets}
 use Rattle.std.proofs.lemmas.List.Edits.{sets-eq}
-use Rattle.rules.specs.Base.{Got, got, refused, ◌>>=◌, bounded, sized}
+use Rattle.rules.specs.Base.{Got, got, refused, ◌>>=◌, bounded}
 use Rattle.rules.specs.Refusals.{number_of}
-use Rattle.rules.specs.Schemes.{Scheme, scheme, schemeLimited}
+use Rattle.rules.specs.Schemes.{scheme, schemeLimited}
 use Rattle.rules.specs.Trees.{Open, Ty, size, depth}
 use Rattle.rules.specs.Writing.{Rec, rec, head, words, writeTy, writeBound, writeScheme}
 use Rattle.rules.specs.declared.Refusal.{Refusal}

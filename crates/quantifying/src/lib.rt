@@ -1,2 +1,4 @@
 // A type and bounds with handed names quantified.
+#![tactic(auto)]
+
 pub mod inner;
