@@ -1,2 +1,4 @@
 // The table of places of a list of bindings: what `replacing` looks names up in.
+#![tactic(auto)]
+
 pub mod inner;

@@ -1,0 +1,17 @@
+use mathlib.Core.Path.{◌≡◌}
+use mathlib.Core.List.{List, map}
+use Prim.Native.Nat.{ℕ, ◌≤◌, ◌-◌}
+use lib.ListN.{drop}
+use Rattle.rules.specs.Trees.{Open}
+use Rattle.rules.specs.WellFormed.{rising}
+use Rattle.rules.specs.Writing.{word_of}
+use Rattle.records.specs.Good.{numbers}
+use Rattle.proposals.specs.Bounds.{BoundsThere}
+use Rattle.proposals.proofs.inner.bounds.rise.Given as goal
+
+abbrev pub invariant-loop-i : goal.invariant-loop-i
+invariant-loop-i l =
+    (1 ≤ l.i) × ((os : List (Open ℕ)) → BoundsThere l.pool l.table l.s os → rising (numbers l.pool l.table).order (map word_of os) ≡ rising (numbers l.pool l.table).order (drop (l.i - 1) (map word_of os)))
+
+abbrev pub decreases-loop-i : goal.decreases-loop-i
+decreases-loop-i l = l.n - l.i
