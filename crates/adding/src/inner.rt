@@ -29,7 +29,7 @@ use rules::{POOL_BYTES, RECORD_WORDS, RECORDS, Refusal, TABLE_WORDS};
 use satisfying::inner::binding::as_power;
 
 // What the test of a constraint says.
-#[derive(Drop)]
+#[derive(Clone, Copy)]
 pub enum Verdict {
     Satisfied,
     Violated,
@@ -37,7 +37,7 @@ pub enum Verdict {
 }
 
 // A type's kind, 0 for an open name, and a function's count of parameters.
-#[derive(Drop)]
+#[derive(Clone, Copy)]
 pub struct Shape {
     pub kind: u32,
     pub parameters: u32,

@@ -1,4 +1,6 @@
 // The public call of adding: a constraint is tested and, unless it is satisfied, stored behind the set.
+#![tactic(auto)]
+
 pub mod inner;
 
 ghost use Rattle.std.specs.Prelude.{◌≡◌};
@@ -10,7 +12,7 @@ use names::Checked;
 use rules::Refusal;
 
 // What adding answers, with the count of records of the set afterwards; or why it adds nothing.
-#[derive(Drop)]
+#[derive(Clone, Copy)]
 pub enum Added {
     Satisfied(usize),
     Violated(usize),
