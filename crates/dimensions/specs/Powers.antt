@@ -10,7 +10,7 @@ use Rattle.rules.specs.Grammar.{Place, beyond, Parsed, read, bad, Rule, pass, gi
 use Rattle.rules.specs.Refusals.{number_of}
 use Rattle.rules.specs.declared.Refusal.{Refusal}
 use Rattle.rules.specs.Writing.{Rec, words}
-use Rattle.rules.specs.TextReading.{Step, told, refusedAt, placed, powerOf}
+use Rattle.rules.specs.TextReading.{Step, refusedAt, placed, powerOf}
 use Rattle.laws.specs.Ranges.{neg-good}
 use Rattle.laws.specs.Fractions.{lowest-neg}
 use Rattle.exponents.specs.Answers.{expOf}

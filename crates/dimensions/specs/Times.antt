@@ -18,7 +18,6 @@ use Rattle.rules.specs.Values.{productValue, value_of, kind_of, number_in, atomI
 use Rattle.rules.specs.WellFormed.{goodProduct}
 use Rattle.rules.specs.Writing.{Rec, words}
 use Rattle.rules.specs.declared.Refusal.{Refusal}
-use Rattle.laws.specs.NameTable.{Good}
 use Rattle.laws.specs.Ranges.{is-stored}
 use Rattle.laws.specs.GoodProducts.{GoodProduct, product-good, multiply_good}
 use Rattle.exponents.specs.Answers.{expOf}

@@ -30,7 +30,7 @@ use terms::inner::naming::read_named;
 use terms::inner::{Stand, place_of};
 
 // What a factor is a power of: the kind of its record, and the name's number.
-#[derive(Drop)]
+#[derive(Clone, Copy)]
 pub struct Atomic {
     pub at: Point,
     pub stand: Stand,
@@ -39,7 +39,7 @@ pub struct Atomic {
 }
 
 // A power, or 1 where there is none.
-#[derive(Drop)]
+#[derive(Clone, Copy)]
 pub struct Powered {
     pub at: Point,
     pub stand: Stand,
@@ -47,7 +47,7 @@ pub struct Powered {
 }
 
 // A product with one factor more, or as it was.
-#[derive(Drop)]
+#[derive(Clone, Copy)]
 pub struct Multiplied {
     pub stand: Stand,
     pub product: Product,
@@ -94,14 +94,14 @@ fn enter_atom(line: &[u8], p: Point, s: Stand, pool: &mut [u8], table: &mut [u32
 }
 
 // 7 at the power's sign, unless the sheet is refused already.
-fn power_stand(s: Stand, at: usize, v: Power) -> Stand
-    ensures { result ≡ powerStand s at v }
+fn power_stand(s: Stand, at: usize, v: &Power) -> Stand
+    ensures { result ≡ powerStand s at v.now }
 {
     match s {
         Stand::Refused(r, c) => Stand::Refused(r, c),
         Stand::Going(k, n) => match v {
             Power::Value(_) => Stand::Going(k, n),
-            Power::Refused(why) => Stand::Refused(why, at),
+            Power::Refused(why) => Stand::Refused(*why, at),
         },
     }
 }
@@ -127,7 +127,7 @@ fn enter_power(line: &[u8], p: Point, s: Stand) -> Powered
         let at = e.end;
         return Powered {
             at,
-            stand: power_stand(s, place_of(c), v),
+            stand: power_stand(s, place_of(c), &v),
             exp: exp_in(v),
         };
     }

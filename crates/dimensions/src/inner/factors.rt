@@ -14,7 +14,7 @@ use reading::inner::{Point, mark, next_is, next_sign};
 use terms::inner::{Stand, place_of};
 
 // Where factors end, how the sheet stands, and the product so far.
-#[derive(Drop)]
+#[derive(Clone, Copy)]
 pub struct Factored {
     pub at: Point,
     pub stand: Stand,

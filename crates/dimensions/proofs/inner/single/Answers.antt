@@ -1,0 +1,20 @@
+-- `inner::single` meets its contract. Assumes nothing.
+use mathlib.Core.Path.{sym, ◌∙◌}
+use mathlib.Core.List.{[]}
+use native.Mathlib.Omega.{arith}
+use Rattle.products.specs.Places.{given-len}
+use Rattle.dimensions.specs.Times.{single-zero, single-put}
+use Rattle.dimensions.proofs.inner.single.Goals as goal
+
+pub returns-then-is_zero : goal.returns-then-is_zero
+returns-then-is_zero c =
+    let a = c.args in
+    single-zero a.kind a.name a.exp _ (sym c.is_zero.ensures ∙ c.if-is_zero.true) c.scalar-none.ensures
+
+pub put-requires : goal.put-requires
+put-requires c = omega (arith, given-len _ [] c.scalar-none.ensures)
+
+pub returns : goal.returns
+returns c =
+    let a = c.args in
+    single-put a.kind a.name a.exp _ _ (sym c.is_zero.ensures ∙ c.if-is_zero.false) c.requires c.scalar-none.ensures c.put.ensures
