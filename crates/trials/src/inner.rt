@@ -18,7 +18,7 @@ use replacing::inner::walk::Went;
 use rules::{NAMES, RECORDS, Refusal};
 
 // What is said of one constraint, and where it ends.
-#[derive(Drop)]
+#[derive(Clone, Copy)]
 struct Trial {
     verdict: Verdict,
     next: usize,

@@ -1,0 +1,18 @@
+use mathlib.Core.Path.{◌≡◌, refl, ◌∙◌}
+use mathlib.Core.List.{List}
+use Prim.Native.Nat.{ℕ, ◌-◌, ◌≤◌}
+use native.Mathlib.Omega.{arith}
+use borrow.Author.Rules.{rules}
+use lib.ListN.{length}
+use Rattle.rules.specs.Trees.{Con, Binding}
+use Rattle.queries.specs.Marks.{Marks}
+use Rattle.trials.specs.Trials.{SetThere, Put, Going, going_start, first, further, going-stop, going_on, going_end}
+use Rattle.trials.proofs.Others.{not_yes}
+use Rattle.trials.proofs.inner.try_all.Given as goal
+
+abbrev pub invariant-loop-at : goal.invariant-loop-at
+invariant-loop-at l =
+    (length l.work ≡ length l.initial.work) × ((l.at ≤ l.n) × ((cs : List (Con ℕ)) (bs : List (Binding ℕ)) (xs : List ℕ) → SetThere l.pool l.table l.set cs → Put l.pool l.table l.places l.types bs → Marks l.bounds xs → Going l.pool l.table l.set bs xs cs l.at))
+
+abbrev pub decreases-loop-at : goal.decreases-loop-at
+decreases-loop-at l = l.n - l.at
