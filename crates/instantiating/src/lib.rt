@@ -1,2 +1,4 @@
 // Making what instantiating a scheme gives.
+#![tactic(auto)]
+
 pub mod inner;
