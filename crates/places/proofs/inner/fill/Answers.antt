@@ -1,13 +1,10 @@
 -- `inner::fill` meets its contract: of each name it is known what the bindings so far say. Assumes nothing.
-use mathlib.Core.Path.{◌≡◌, refl, ap, ◌∙◌}
-use mathlib.Core.List.{List}
-use Prim.Native.Nat.{ℕ, ◌-◌}
+use mathlib.Core.Path.{refl, ap, ◌∙◌}
+use Prim.Native.Nat.{ℕ}
 use native.Mathlib.Omega.{arith}
 use lib.ListN.{length, length-replicate}
 use Rattle.rules.specs.Names.{names_of, table_of}
-use Rattle.rules.specs.Trees.{Binding}
-use Rattle.replacing.specs.Runs.{Run}
-use Rattle.places.specs.Filling.{Going, going_start, first, further, going_on, going_end, filled}
+use Rattle.places.specs.Filling.{going_start, first, further, going_on, going_end, filled}
 use Rattle.places.proofs.inner.fill.Goals as goal
 
 pub loop-i-init : goal.loop-i-init
@@ -34,7 +31,7 @@ loop-i-smaller c =
 
 pub loop-i-preserved : goal.loop-i-preserved
 loop-i-preserved c =
-    let n = c.note.auto.places.0 in
+    let n = c.note.auto.places in
     (n ∙ c.loop-i.invariant.0, (n ∙ c.loop-i.invariant.1.0, λ bs r. going_on c.args.v.now (c.loop-i.invariant.1.1 bs r) c.loop-i-test.true c.loop-i.invariant.1.0 c.note.ensures c.end_of-i.ensures))
 
 pub returns : goal.returns

@@ -1,12 +1,10 @@
-use mathlib.Core.Path.{◌≡◌, refl, ap, ◌∙◌}
+use mathlib.Core.Path.{◌≡◌}
 use mathlib.Core.List.{List}
 use Prim.Native.Nat.{ℕ, ◌-◌}
-use native.Mathlib.Omega.{arith}
-use lib.ListN.{length, length-replicate}
-use Rattle.rules.specs.Names.{names_of, table_of}
+use lib.ListN.{length}
 use Rattle.rules.specs.Trees.{Binding}
 use Rattle.replacing.specs.Runs.{Run}
-use Rattle.places.specs.Filling.{Going, going_start, first, further, going_on, going_end, filled}
+use Rattle.places.specs.Filling.{Going}
 use Rattle.places.proofs.inner.fill.Given as goal
 
 abbrev pub invariant-loop-i : goal.invariant-loop-i

@@ -6,7 +6,6 @@ use lib.ListN.{get_or, set}
 use Rattle.records.specs.declared.View.TheVariants as view
 use Rattle.replacing.proofs.Others.{untagged}
 use Rattle.places.specs.Filling.{noted-first, noted-before}
-use borrow.Author.Rules.{rules}
 use borrow.Enum.Refused.{opened}
 use Rattle.places.proofs.inner.note.Goals as goal
 

@@ -1,7 +1,6 @@
 -- `inner::stopped` meets its contract. Assumes nothing.
 use mathlib.Core.Path.{sym, ◌∙◌}
 use Rattle.trials.specs.Trials.{six, not-six}
-use borrow.Author.Rules.{rules}
 use Rattle.trials.proofs.inner.stopped.Goals as goal
 
 pub returns-then-number-eq6 : goal.returns-then-number-eq6

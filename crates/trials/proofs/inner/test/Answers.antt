@@ -1,7 +1,6 @@
 -- `inner::test` meets its contract. Assumes nothing.
 use mathlib.Core.Path.{sym, ap, ◌∙◌}
 use mathlib.Core.List.{[], ◌∷◌}
-use borrow.Author.Tests.{not-true, not-false}
 use Rattle.rules.specs.Base.{got}
 use Rattle.replacing.specs.LineRules.{con}
 use Rattle.trials.specs.Trials.{long, there, deep, stands, flat}

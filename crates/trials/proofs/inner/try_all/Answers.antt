@@ -1,13 +1,7 @@
 -- `inner::try_all` meets its contract: what is left of the set decides. Assumes nothing.
-use mathlib.Core.Path.{◌≡◌, refl, ◌∙◌}
-use mathlib.Core.List.{List}
-use Prim.Native.Nat.{ℕ, ◌-◌, ◌≤◌}
+use mathlib.Core.Path.{refl, ◌∙◌}
 use native.Mathlib.Omega.{arith}
-use borrow.Author.Rules.{rules}
-use lib.ListN.{length}
-use Rattle.rules.specs.Trees.{Con, Binding}
-use Rattle.queries.specs.Marks.{Marks}
-use Rattle.trials.specs.Trials.{SetThere, Put, Going, going_start, first, further, going-stop, going_on, going_end}
+use Rattle.trials.specs.Trials.{going_start, first, further, going-stop, going_on, going_end}
 use Rattle.trials.proofs.Others.{not_yes}
 use borrow.Enum.Refused.{opened}
 use Rattle.trials.proofs.inner.try_all.Goals as goal
@@ -47,7 +41,7 @@ loop-at-preserved c =
     let g₀ = c.loop-at.invariant.1.1 cs₀ bs₀ xs₀ h₀ l₀ m₀ in
     let f₀ = first _ _ _ bs₀ xs₀ cs₀ _ c.loop-at-test.true g₀ in
     let z = further _ _ _ bs₀ xs₀ cs₀ _ c.loop-at-test.true g₀ (c.try_con-t.ensures f₀.one bs₀ xs₀ f₀.there l₀ m₀) c.in-Yes.is in (
-      c.try_con-t.auto.work.0 ∙ c.loop-at.invariant.0,
+      c.try_con-t.auto.work ∙ c.loop-at.invariant.0,
       (
         z.1,
         λ cs bs xs h l m.

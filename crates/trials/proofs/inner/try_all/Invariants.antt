@@ -1,13 +1,10 @@
-use mathlib.Core.Path.{◌≡◌, refl, ◌∙◌}
+use mathlib.Core.Path.{◌≡◌}
 use mathlib.Core.List.{List}
 use Prim.Native.Nat.{ℕ, ◌-◌, ◌≤◌}
-use native.Mathlib.Omega.{arith}
-use borrow.Author.Rules.{rules}
 use lib.ListN.{length}
 use Rattle.rules.specs.Trees.{Con, Binding}
 use Rattle.queries.specs.Marks.{Marks}
-use Rattle.trials.specs.Trials.{SetThere, Put, Going, going_start, first, further, going-stop, going_on, going_end}
-use Rattle.trials.proofs.Others.{not_yes}
+use Rattle.trials.specs.Trials.{SetThere, Put, Going}
 use Rattle.trials.proofs.inner.try_all.Given as goal
 
 abbrev pub invariant-loop-at : goal.invariant-loop-at

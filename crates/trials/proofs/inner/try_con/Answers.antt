@@ -3,7 +3,6 @@ use mathlib.Core.List.{[]}
 use native.Mathlib.Omega.{arith}
 use Rattle.replacing.specs.LineRules.{con}
 use Rattle.trials.specs.Trials.{came, stops, written, tried, refused-tried}
-use borrow.Author.Rules.{rules}
 use Rattle.trials.proofs.inner.try_con.Goals as goal
 
 pub replace_line-requires : goal.replace_line-requires
