@@ -11,7 +11,7 @@ use Rattle.rules.specs.Base.{got, ◌>>=◌, bounded, any, keep, collect, is_yes
 use Rattle.rules.specs.Contents.{among, sort, namesIn, unmixed}
 use Rattle.rules.specs.Names.{table_of, numbersOf, is_held}
 use Rattle.rules.specs.Replacing.{replaceTy}
-use Rattle.rules.specs.Schemes.{scheme, concrete, schemeLimited, renamed, renamedBounds, quantify, generalise}
+use Rattle.rules.specs.Schemes.{scheme, concrete, schemeLimited, renamed, renamedBounds, generalise}
 use Rattle.rules.specs.Trees as tree
 use Rattle.rules.specs.Trees.{Names, Ty, opens}
 use Rattle.rules.specs.WellFormed.{goodTy}

@@ -11,7 +11,7 @@ use Rattle.rules.specs.Names.{table_of, lentTable, numbersOf, is_held}
 use Rattle.rules.specs.Reading.{readBound}
 use Rattle.rules.specs.Replacing.{replaceTy}
 use Rattle.rules.specs.Refusals.{number_of}
-use Rattle.rules.specs.Schemes.{Scheme, scheme, schemeLimited, renamed, renamedBounds, quantify}
+use Rattle.rules.specs.Schemes.{scheme, schemeLimited, renamed, renamedBounds, quantify}
 use Rattle.rules.specs.Trees as tree
 use Rattle.rules.specs.Trees.{Names, Ty, orderAtom, opens, size}
 use Rattle.rules.specs.Writing.{Rec, words, writeScheme}

@@ -1,4 +1,6 @@
 // The public calls on schemes.
+#![tactic(auto)]
+
 pub mod inner;
 
 ghost use Rattle.std.specs.Prelude.{◌≡◌};
