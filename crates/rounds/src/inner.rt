@@ -22,7 +22,7 @@ use satisfying::Step;
 use satisfying::inner::try_satisfy;
 
 // The state after a round: where its constraints end, and where its bindings end; or that no rule applies; or why the round stops.
-#[derive(Drop)]
+#[derive(Clone, Copy)]
 pub enum Turn {
     Next(usize, usize),
     End,
