@@ -6,9 +6,8 @@ use Rattle.std.proofs.Math.Bool.{true, false}
 use mathlib.Core.List.{List}
 use Rattle.rules.specs.Base.{Got, got, refused, ◌>>=◌, ◌>>◌, need, all}
 use Rattle.rules.specs.Names.{Table, table_of, tableGood, numbersOf, is_held}
-use Rattle.rules.specs.Writing.{Rec, writeTy}
+use Rattle.rules.specs.Writing.{writeTy}
 use Rattle.rules.specs.Calls.{tableKept}
-use Rattle.laws.specs.Lists.{clash}
 use Rattle.records.specs.Found.{Words32}
 use Rattle.rules.specs.Steps.{LineStep, lineGiven}
 use Rattle.lines.specs.StepLists.{isGiven}

@@ -15,7 +15,7 @@ use Rattle.rules.specs.Names.{Table, table_of, numbersOf, is_held}
 use Rattle.rules.specs.WellFormed as rules
 use Rattle.rules.specs.Writing.{Rec, signed}
 use Rattle.rules.specs.Reading.{readTy}
-use Rattle.rules.specs.Calls.{lent, shortLists, shortNumbers, type_at}
+use Rattle.rules.specs.Calls.{lent, type_at}
 use Rattle.laws.specs.Checks.{next-passed}
 use Rattle.laws.specs.Lists.{clash, bound-step}
 use Rattle.records.specs.Views.{recs, from}
@@ -26,7 +26,7 @@ use Rattle.records.specs.Good.{GoodTy}
 use Rattle.entries.specs.Given.{type-there, type-is}
 use Rattle.rules.specs.Steps.{adds, subtracts, multiplies, divides, compares, LineStep, constant, reference, raises, joins, chooses, whole, StepWords, four, isConstant, isReference, isRaise, stepKind, zeros, number_at, constantAt, referenceTo, raiseBy, step_of, stepGiven, lineGiven}
 use Rattle.lines.specs.StepLists.{isGiven, fourOf, stepsFrom, operandsOf, wholeFrom, unknown, steps-whole, steps-broken, whole_words}
-use Rattle.rules.specs.Lines.{lineLent, lineShort}
+use Rattle.rules.specs.Lines.{lineLent}
 
 -- ══ 10 ══
 

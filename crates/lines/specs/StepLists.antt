@@ -1,6 +1,6 @@
 -- The steps of a line one by one from a place on, and how many operands their words ask for. Assumes nothing.
-use Rattle.std.specs.Prelude.{◌≡◌, refl, Bool, true, false, not, ◌&&◌, ℕ, zero, suc, ◌+◌, ◌-◌, ◌/◌, ◌%◌, ◌<◌, ◌≤◌, eqb, leb, length}
-use Rattle.std.proofs.Common.{sym, ◌∙◌, arith, ne_eqb}
+use Rattle.std.specs.Prelude.{◌≡◌, refl, Bool, true, false, not, ◌&&◌, ℕ, zero, suc, ◌-◌, ◌%◌, ◌<◌, ◌≤◌, eqb, leb, length}
+use Rattle.std.proofs.Common.{sym, arith, ne_eqb}
 use Rattle.std.proofs.Math.Path.{ap}
 use mathlib.Core.List.{List, [], ◌∷◌, map}
 use Rattle.std.proofs.Math.Option.{Option, none, some}
@@ -13,8 +13,7 @@ use Rattle.rules.specs.Calls.{type_at}
 use Rattle.laws.specs.Checks.{next-passed}
 use Rattle.laws.specs.Lists.{bound-step, each-parts}
 use Rattle.records.specs.Views.{recs, from}
-use Rattle.records.specs.Places.{recAt, from_some, from-none}
-use Rattle.rules.specs.Steps.{Two, LineStep, constant, reference, raises, joins, chooses, operands, whole, StepWords, four, stepWords, StepKind, isConstant, isReference, isRaise, isChoose, isTwo, stepNumbers, stepKind, zeros, number_at, constantAt, referenceTo, raiseBy, step_of, stepGiven, lineGiven}
+use Rattle.rules.specs.Steps.{LineStep, constant, reference, raises, joins, chooses, operands, whole, StepWords, four, stepWords, StepKind, isConstant, isReference, isRaise, isChoose, isTwo, stepNumbers, stepKind, zeros, number_at, constantAt, referenceTo, raiseBy, step_of, stepGiven}
 
 -- of a value is said only that there is one
 abbrev pub isGiven : {A : Type 0} → Got A → Got (Unit {0})

@@ -1,20 +1,20 @@
 -- The names that a line uses, found in its records one by one. Assumes nothing.
 use Rattle.std.specs.Prelude.{◌≡◌, Bool, true, false, not, ◌&&◌, ◌||◌, eqb, ltb, length, get_or, drop}
 use Rattle.std.proofs.Math.Path.{refl, ap}
-use Rattle.std.proofs.Common.{sym, ap₂, subst, ◌∙◌, add-zero, add-one, drop-cons}
+use Rattle.std.proofs.Common.{sym, ap₂, ◌∙◌, add-zero, add-one, drop-cons}
 use mathlib.Core.List.{List, [], ◌∷◌, ◌++◌, append_assoc}
 use Rattle.std.proofs.Math.Option.{Option, none, some}
 use Prim.Native.Nat.{ℕ, zero, suc, ◌+◌, ◌*◌, ◌-◌, ◌/◌, ◌<◌, ◌≤◌}
 use native.Mathlib.Omega.{arith}
 use borrow.Author.Tests.{eq-eqb, ne_eqb, ltb-true, ltb-false}
-use Rattle.rules.specs.Base.{Got, got, refused, ◌>>=◌, ◌>>◌, need, orRefuse, any, all, each, collect, to_list}
+use Rattle.rules.specs.Base.{got, ◌>>=◌, ◌>>◌, need, orRefuse, any, all, each, collect, to_list}
 use Rattle.rules.specs.Exponents.{frac, goodExp}
 use Rattle.rules.specs.Trees as tree
 use Rattle.rules.specs.Trees.{◌↑◌, Product, Ty, opened, basic, dim, fn, struct, list, Tys, nil, cons, Fields, noFields, field, size, sizeTys, sizeFields}
 use Rattle.rules.specs.Views.{name_of}
 use Rattle.rules.specs.Contents.{closed}
 use Rattle.rules.specs.Names.{Table, table_of}
-use Rattle.rules.specs.Writing.{Rec, lengthIn, signed}
+use Rattle.rules.specs.Writing.{lengthIn, signed}
 use Rattle.rules.specs.Calls.{type_at, differ}
 use Rattle.laws.specs.Checks.{next-passed}
 use Rattle.laws.specs.Lists.{bound-step, each-parts}

@@ -1,0 +1,28 @@
+-- `inner::enter_line` meets its contract. Assumes nothing.
+use mathlib.Core.Path.{sym, ap, ◌∙◌}
+use mathlib.Core.Bool.{Bool}
+use Rattle.rules.specs.Base.{need}
+use Rattle.names.specs.Told.{toldChecked}
+use Rattle.lines.specs.Entered.{enter-long, enter-table, enter-form, enter-names}
+use Rattle.lines.proofs.inner.enter_line.Goals as goal
+
+pub returns-then-not-short : goal.returns-then-not-short
+returns-then-not-short c = enter-long c.args.pool.now c.args.table.now c.args.steps.now c.args.types.now c.args.lines.now c.args.names.now (ap (λ (b : Bool). need b 8) (sym c.if-not-short.true) ∙ c.short.ensures)
+
+pub is_good-requires : goal.is_good-requires
+is_good-requires c = c.requires
+
+pub returns-then-not-is_good : goal.returns-then-not-is_good
+returns-then-not-is_good c = enter-table c.args.pool.now c.args.table.now c.args.steps.now c.args.types.now c.args.lines.now c.args.names.now (ap (λ (b : Bool). need b 8) (sym c.if-not-short.false) ∙ c.short.ensures) (sym c.is_good.ensures ∙ c.if-not-is_good.true)
+
+pub line_good-requires : goal.line_good-requires
+line_good-requires c = record { bytes = c.requires.in_bounds; words = c.requires.in_bounds_2; good = (sym c.is_good.ensures ∙ c.if-not-is_good.false) }
+
+pub names_good-requires : goal.names_good-requires
+names_good-requires c = c.requires.in_bounds_2
+
+pub returns-in-Good : goal.returns-in-Good
+returns-in-Good c = c.names_good.ensures ∙ enter-names c.args.pool.now c.args.table.now c.args.steps.now c.args.types.now c.args.lines.now c.args.names.now (ap (λ (b : Bool). need b 8) (sym c.if-not-short.false) ∙ c.short.ensures) (sym c.is_good.ensures ∙ c.if-not-is_good.false) (record { word = λ i. (c.shared_slice_known-4-1.given i).fits }) (sym c.line_good.ensures ∙ ap toldChecked c.in-Good.is)
+
+pub returns-in-Refused : goal.returns-in-Refused
+returns-in-Refused c = enter-form c.args.pool.now c.args.table.now c.args.steps.now c.args.types.now c.args.lines.now c.args.names.now (ap (λ (b : Bool). need b 8) (sym c.if-not-short.false) ∙ c.short.ensures) (sym c.is_good.ensures ∙ c.if-not-is_good.false) _ (sym c.line_good.ensures ∙ ap toldChecked c.in-Refused.is)

@@ -1,0 +1,10 @@
+-- `inner::raise_step` meets its contract. Assumes nothing.
+use mathlib.Core.Path.{◌∙◌}
+use Rattle.lines.specs.Entry.{raise-made, raise-not}
+use Rattle.lines.proofs.inner.raise_step.Goals as goal
+
+pub returns-then-a-eq0 : goal.returns-then-a-eq0
+returns-then-a-eq0 c = λ t rs lines. c.or_malformed.ensures ∙ c.raise_here.ensures t rs lines ∙ raise-made t rs lines _ _ _ c.if-a-eq0.true
+
+pub returns-else-a-eq0 : goal.returns-else-a-eq0
+returns-else-a-eq0 c = λ t rs lines. raise-not t rs lines _ _ _ c.if-a-eq0.false

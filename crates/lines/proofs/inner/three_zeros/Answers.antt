@@ -1,0 +1,9 @@
+-- `inner::three_zeros` meets its contract. Assumes nothing.
+use Rattle.lines.specs.Entry.{zeros-next, zeros-not}
+use Rattle.lines.proofs.inner.three_zeros.Goals as goal
+
+pub returns-then-a-eq0 : goal.returns-then-a-eq0
+returns-then-a-eq0 c = zeros-next _ _ c.two_zeros.result c.if-a-eq0.true c.two_zeros.ensures
+
+pub returns-else-a-eq0 : goal.returns-else-a-eq0
+returns-else-a-eq0 c = zeros-not _ _ c.if-a-eq0.false
