@@ -1,4 +1,6 @@
 // The public calls of replacing: a type or a set with its bound variables replaced, written to a result buffer.
+#![tactic(auto)]
+
 pub mod inner;
 
 ghost use Rattle.std.specs.Prelude.{◌≡◌};
