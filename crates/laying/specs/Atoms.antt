@@ -2,8 +2,8 @@
 -- Assumes nothing.
 use Rattle.std.specs.Prelude.{◌≡◌, Bool, true, false, cond, eqb, length, take, drop, get_or, set, replicate}
 use Rattle.std.proofs.Math.Path.{refl}
-use Rattle.std.proofs.Common.{ap, ◌∙◌, sym, subst, arith, add-one, eqb-true, eq-eqb, length-append, drop_of_length-le, drop-cons, length-take-le, take-suc, take_all, get_or-take, get_or-append-add}
-use mathlib.Core.List.{List, [], ◌∷◌, ◌++◌, map, append_assoc}
+use Rattle.std.proofs.Common.{ap, ◌∙◌, sym, arith, add-one, eqb-true, eq-eqb, length-append, drop_of_length-le, length-take-le, take-suc, get_or-take, get_or-append-add}
+use mathlib.Core.List.{List, [], ◌∷◌, ◌++◌, append_assoc}
 use Prim.Native.Nat.{ℕ, zero, suc, ◌+◌, ◌-◌, ◌≤◌, ◌<◌}
 use Rattle.std.proofs.lemmas.List.{length-replicate, length-map, set_at}
 use Rattle.std.proofs.Math.ListN.{get_or-append}
@@ -18,7 +18,7 @@ use Rattle.laws.specs.Lists.{Every, is-yes, is-no, true≢false}
 use Rattle.records.specs.Views.{viewAt}
 use Rattle.records.specs.Holds.{openOf, viewOpen, atomOf, viewAtom, HoldsFactor, HoldsFactors}
 use Rattle.records.specs.declared.View.TheVariants as view
-use Rattle.loading.specs.Loaded.{At, holds_at}
+use Rattle.loading.specs.Loaded.{holds_at}
 use Rattle.records.specs.declared.Open.{Open}
 use Rattle.records.specs.declared.Open.TheVariants.{Var, Quant, Par}
 use Rattle.records.specs.declared.Atom.{Atom}

@@ -2,13 +2,13 @@
 -- Assumes nothing.
 use Rattle.std.specs.Prelude.{◌≡◌, length}
 use Rattle.std.proofs.Math.Path.{refl, ap, ap₂, sym}
-use Rattle.std.proofs.Common.{◌∙◌, subst}
+use Rattle.std.proofs.Common.{◌∙◌}
 use mathlib.Core.List.{List, [], ◌∷◌, ◌++◌, map, append_assoc}
-use Prim.Native.Nat.{ℕ, zero, suc, ◌+◌, ◌-◌, ◌≤◌, ◌<◌}
+use Prim.Native.Nat.{ℕ, zero, suc, ◌+◌, ◌-◌, ◌≤◌}
 use native.Mathlib.Omega.{arith}
 use Rattle.rules.specs.Base.{collect}
 use Rattle.rules.specs.Exponents.{frac}
-use Rattle.rules.specs.Trees.{Open, var, quant, par, Atom, free, base, Factor, ◌↑◌, Product, Con, is_scalar, size, sizeCon}
+use Rattle.rules.specs.Trees.{var, quant, par, free, base, Factor, ◌↑◌, Product, is_scalar, size, sizeCon}
 use Rattle.rules.specs.WellFormed.{atomOf}
 use Rattle.records.specs.Views.{viewAt}
 use Rattle.records.specs.Holds.{HoldsFactor, HoldsFactors, HoldsProduct, HoldsCon}

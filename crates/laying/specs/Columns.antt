@@ -1,8 +1,8 @@
 -- The columns of a set: its variables, parameters and base dimensions, each sorted.
 -- Assumes nothing.
-use Rattle.std.specs.Prelude.{◌≡◌, Bool, true, false, List, [], ◌∷◌, ◌++◌, map, length, take, drop, get_or}
+use Rattle.std.specs.Prelude.{◌≡◌, Bool, true, false, List, [], ◌∷◌, ◌++◌, length, take, drop}
 use Rattle.std.proofs.Math.Path.{refl}
-use Rattle.std.proofs.Common.{ap, ap₂, ◌∙◌, sym, subst, append_assoc, length-append, length-drop}
+use Rattle.std.proofs.Common.{ap, ap₂, ◌∙◌, length-append, length-drop}
 use Prim.Native.Nat.{ℕ, zero, suc, ◌+◌, ◌-◌, ◌≤◌, ◌<◌}
 use native.Mathlib.Omega.{arith}
 use Rattle.std.proofs.Math.Seq.{take-append_seam}

@@ -1,6 +1,6 @@
 -- A set that was read, laid out: what is known of its records, its columns, and whether it fits.
 -- Assumes nothing.
-use Rattle.std.specs.Prelude.{◌≡◌, refl, Bool, false, ◌&&◌, ℕ, ◌+◌, ◌≤◌, ◌<◌, get_or}
+use Rattle.std.specs.Prelude.{◌≡◌, ◌&&◌, ℕ, ◌+◌, ◌≤◌, ◌<◌, get_or}
 use Rattle.std.proofs.Math.Path.{ap, ap₂, sym, subst}
 use Rattle.std.proofs.Common.{◌∙◌}
 use Rattle.std.proofs.Math.Bool.{true, not}
@@ -9,12 +9,12 @@ use native.Mathlib.Omega.{arith}
 use borrow.Author.Tests.{leb-true, le-leb, ltb-true}
 use Rattle.std.proofs.Math.Dec.{leb}
 use Rattle.std.proofs.Math.ListN.{length}
-use Rattle.rules.specs.Base.{got, keep, collect}
+use Rattle.rules.specs.Base.{keep, collect}
 use Rattle.rules.specs.Exponents.{goodExp}
-use Rattle.rules.specs.Trees.{Open, var, quant, par, Atom, free, base, Factor, ◌↑◌, Product, Names, Con, equal, isDim, is_scalar, hasField, opensCon, sizeCon}
+use Rattle.rules.specs.Trees.{Open, var, quant, par, Atom, free, base, Factor, ◌↑◌, Product, Names, Con, equal, isDim, is_scalar, hasField, opensCon}
 use Rattle.rules.specs.Contents.{sort, variablesIn, parametersIn}
-use Rattle.rules.specs.WellFormed.{atomOf, goodOpen, goodProduct, goodCon}
-use Rattle.laws.specs.Lists.{Every, every-as, and_left, and_right, true≢false}
+use Rattle.rules.specs.WellFormed.{atomOf, goodOpen, goodCon}
+use Rattle.laws.specs.Lists.{Every, every-as, and_left, and_right}
 use Rattle.laws.specs.Order.{Lawful}
 use Rattle.laws.specs.ByteOrder.{numbered-lawful, atom-lawful}
 use Rattle.laws.specs.Ranges.{stored-good}
@@ -26,13 +26,12 @@ use Rattle.queries.specs.declared.Kind.TheVariants.{Variables, Parameters}
 use Rattle.rules.specs.Names.{table_of}
 use Rattle.laws.specs.NameTable.{count-is}
 use Rattle.laws.specs.ReadLists as Below
-use Rattle.queries.specs.Scans.{opensIn}
 use Rattle.elimination.specs.declared.inner.grids.Columns.{Columns}
 use Rattle.rules.specs.Elimination.{columns, fits, isVariable}
-use Rattle.elimination.specs.Machine.{atomsFrom, namesIn, colsIn, Laid}
+use Rattle.elimination.specs.Machine.{atomsFrom, namesIn, colsIn}
 use Rattle.laying.specs.Atoms.{powerOf}
 use Rattle.laying.specs.Lines.{Plain, Lined}
-use Rattle.laying.specs.Columns.{vars, pars, bases, basesIn, Known, ListedAs}
+use Rattle.laying.specs.Columns.{vars, pars, bases, Known, ListedAs}
 use Rattle.laying.specs.Sorting.{varsOf, parsOf, basesOf, Named, in_turn, in-turn, from-names, variables-kept, others-kept, set-variables, set-parameters}
 use Rattle.laying.specs.Bases.{set-bases}
 

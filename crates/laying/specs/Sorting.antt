@@ -1,20 +1,19 @@
 -- The columns of a set are its variables, then its parameters, then its base dimensions, each sorted.
 -- Assumes nothing.
-use Rattle.std.specs.Prelude.{◌≡◌, Bool, true, false, not, length}
+use Rattle.std.specs.Prelude.{◌≡◌, not, length}
 use Rattle.std.proofs.Math.Path.{refl, ap, ap₂, sym}
 use Rattle.std.proofs.Common.{◌∙◌}
-use mathlib.Core.List.{List, [], ◌∷◌, ◌++◌, map, append_assoc}
+use mathlib.Core.List.{List, [], ◌∷◌, ◌++◌, map}
 use Prim.Native.Nat.{ℕ, suc, ◌+◌, Ordering}
 use native.Mathlib.Omega.{arith}
-use Rattle.std.proofs.lemmas.List.{length-map}
 use Rattle.rules.specs.Base.{keep, collect, to_list}
-use Rattle.rules.specs.Trees.{Open, var, quant, par, Atom, free, base, Factor, ◌↑◌, Product, Names, Con, is_scalar, orderOpen, orderAtom, openOfFactor, opens, opensCon, dim}
+use Rattle.rules.specs.Trees.{var, quant, par, Atom, free, base, ◌↑◌, Product, Names, is_scalar, orderOpen, orderAtom, openOfFactor, opens, opensCon}
 use Rattle.rules.specs.Views.{variable, parameter}
 use Rattle.rules.specs.Contents.{sorted, sort, variablesIn, parametersIn}
 use Rattle.rules.specs.WellFormed.{atomOf}
 use Rattle.laws.specs.Lists.{Every}
 use Rattle.laws.specs.Contents.{collect-append}
-use Rattle.rules.specs.Elimination.{atomNames, isVariable, columns}
+use Rattle.rules.specs.Elimination.{atomNames, isVariable}
 use Rattle.elimination.specs.Machine.{atomsFrom}
 
 module _ {N : Type 0} where

@@ -167,7 +167,7 @@ fn count_of(v: View) -> usize
 }
 
 // The rows of a set, or that it isn't one of at most 24 equal-scalar constraints.
-#[derive(Drop)]
+#[derive(Clone, Copy)]
 pub struct Lines {
     pub fits: bool,
     pub grid: Grid,
@@ -263,7 +263,7 @@ fn list_bases(pool: &[u8], table: &[u32], s: &[u32], e: usize, out: &mut [u32]) 
 }
 
 // The columns of a set, or that there are too many names.
-#[derive(Drop)]
+#[derive(Clone, Copy)]
 pub struct Listed {
     pub fits: bool,
     pub columns: Columns,

@@ -1,0 +1,7 @@
+-- `inner::base_of` meets its contract. Assumes nothing.
+use mathlib.Core.Path.{ap, sym}
+use Rattle.laying.specs.Columns.{basesAtom}
+use Rattle.laying.proofs.inner.base_of.Goals as goal
+
+pub returns-in-Base : goal.returns-in-Base
+returns-in-Base c = sym (ap basesAtom c.in-Base.is)

@@ -1,0 +1,7 @@
+-- `inner::blank` meets its contract. Assumes nothing.
+use mathlib.Core.Path.{refl}
+use Rattle.laying.specs.Lines.{wide-copies}
+use Rattle.laying.proofs.inner.blank.Goals as goal
+
+pub returns : goal.returns
+returns c = wide-copies _ c.zeros-r.result refl c.zeros-r.ensures.wide
