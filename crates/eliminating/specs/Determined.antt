@@ -6,7 +6,7 @@ use Rattle.std.proofs.Math.Path.{ap}
 use Rattle.std.proofs.Common.{sym, ◌∙◌, arith}
 use Rattle.laws.specs.Numbers.{number-injective}
 use Rattle.rules.specs.Numbers.{number, eliminated, refusalEliminated}
-use Rattle.rules.specs.Elimination.{Eliminated, allBound, someLeft, refusedWith, Elimination, eliminateCall}
+use Rattle.rules.specs.Elimination.{Elimination, eliminateCall}
 use Rattle.eliminating.specs.declared.Outcome.{Outcome}
 use Rattle.eliminating.specs.declared.Outcome.TheVariants.{Bound, Left, Refused}
 use Rattle.eliminating.specs.Told.{told, numberOutcome, eliminationAs}

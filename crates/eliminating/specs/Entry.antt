@@ -1,13 +1,13 @@
 -- The checks of a set past that of 10, and what is known where they are met; and the whole call. Assumes nothing.
-use Rattle.std.specs.Prelude.{◌≡◌, refl, Bool, false, ◌&&◌, List, [], ◌∷◌, ℕ, ◌/◌, ◌≤◌, leb, length, replicate}
-use Rattle.std.proofs.Common.{sym, ◌∙◌, arith}
+use Rattle.std.specs.Prelude.{◌≡◌, refl, ◌&&◌, List, [], ◌∷◌, ℕ, ◌/◌, ◌≤◌, leb, length, replicate}
+use Rattle.std.proofs.Common.{arith}
 use Rattle.std.proofs.Math.Path.{ap}
 use Rattle.std.proofs.Math.Bool.{true}
 use borrow.Author.Tests.{leb-true}
 use Rattle.rules.specs.Base.{Got, got, refused, ◌>>=◌, ◌>>◌, need, all, collect}
 use Rattle.rules.specs.Calls.{shortLists, tableKept, setGiven, apart, aloneGiven, setCall, lent, resultAfter, workAfter}
 use Rattle.rules.specs.Contents.{unmixed}
-use Rattle.rules.specs.Names.{table_of, numbersOf, lentTable}
+use Rattle.rules.specs.Names.{table_of, lentTable}
 use Rattle.rules.specs.Trees.{Con, opensCon}
 use Rattle.rules.specs.declared.Refusal.TheVariants.{ShortBuffer}
 use Rattle.laws.specs.Checks.{need-passed, passed}

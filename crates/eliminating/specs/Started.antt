@@ -1,11 +1,11 @@
 -- A machine that has all its rows to do.
 -- Assumes nothing.
-use Rattle.std.specs.Prelude.{◌≡◌, refl, List, [], ◌∷◌, ◌++◌, ℕ, ◌+◌, ◌≤◌, length, take, drop}
-use Rattle.std.proofs.Common.{ap, ◌∙◌, arith}
+use Rattle.std.specs.Prelude.{◌≡◌, refl, List, [], ℕ, ◌≤◌, length, take}
+use Rattle.std.proofs.Common.{arith}
 use Rattle.rules.specs.Base.{Got, got, refused, ◌>>=◌}
 use Rattle.rules.specs.Trees.{Atom}
 use Rattle.elimination.specs.declared.inner.grids.Machine.{Machine}
-use Rattle.rules.specs.Elimination.{Row, Reduced, eliminate}
+use Rattle.rules.specs.Elimination.{Reduced, eliminate}
 use Rattle.elimination.specs.Grids.{rowsIn, WideGrid}
 use Rattle.elimination.specs.Machine.{Running, rest, whole, behind, pairValues}
 

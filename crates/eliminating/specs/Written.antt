@@ -4,8 +4,7 @@ use Rattle.std.specs.Prelude.{◌≡◌, refl, length, take, drop}
 use Rattle.std.proofs.Math.Path.{ap}
 use Rattle.std.proofs.Common.{◌∙◌, sym, arith, zero-add, length-append, length-take-le}
 use mathlib.Core.List.{List, [], ◌∷◌, ◌++◌, map}
-use Prim.Native.Nat.{ℕ, zero, suc, ◌+◌, ◌*◌, ◌≤◌, ◌<◌}
-use Rattle.std.proofs.lemmas.List.{length-map}
+use Prim.Native.Nat.{ℕ, ◌*◌, ◌≤◌, ◌<◌}
 use Rattle.std.proofs.lemmas.List.Edits.{sets-eq}
 use Rattle.rules.specs.Base.{Got, got, refused, collect}
 use Rattle.rules.specs.Calls.{over, resultAfter}

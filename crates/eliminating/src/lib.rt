@@ -1,4 +1,6 @@
 // The public call of the second engine: a set of equal-scalar constraints solved by rows of powers (W-209).
+#![tactic(auto)]
+
 pub mod inner;
 
 ghost use Rattle.std.specs.Prelude.{◌≡◌};
