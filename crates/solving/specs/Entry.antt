@@ -17,7 +17,6 @@ use Rattle.rules.specs.Refusals.{number_of}
 use Rattle.rules.specs.Solving.{Answer, solve}
 use Rattle.rules.specs.Trees.{Con, opensCon, sizeCon}
 use Rattle.rules.specs.WellFormed.{goodCon}
-use Rattle.rules.specs.Writing.{words}
 use Rattle.rules.specs.declared.Refusal.{Refusal}
 use Rattle.rules.specs.declared.Refusal.TheVariants.{ShortBuffer}
 use Rattle.laws.specs.Checks.{need-passed, passed}

@@ -1,4 +1,6 @@
 // The public call of solving: bindings and bounds, or what remains, for a set of constraints.
+#![tactic(auto)]
+
 pub mod inner;
 
 ghost use Rattle.std.specs.Prelude.{◌≡◌};
@@ -12,7 +14,7 @@ use names::inner::is_good;
 use rules::Refusal;
 
 // How many records of bindings and of bounds were written; how many records of constraints remain (5); or why there is no answer.
-#[derive(Drop)]
+#[derive(Clone, Copy)]
 pub enum Outcome {
     Solved(usize, usize),
     Unsolved(usize),
@@ -33,7 +35,7 @@ impl Outcome {
 }
 
 // What solving answers, with the number of completed rounds.
-#[derive(Drop)]
+#[derive(Clone, Copy)]
 pub struct Solution {
     pub outcome: Outcome,
     pub rounds: u32,

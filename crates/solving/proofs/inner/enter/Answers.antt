@@ -1,0 +1,29 @@
+-- `inner::enter` meets its contract. Assumes nothing.
+use mathlib.Core.Path.{sym, ap, ◌∙◌}
+use Rattle.rules.specs.Names.{table_of, names_of}
+use Rattle.names.specs.Told.{toldChecked}
+use Rattle.solving.specs.Entry.{entry-small}
+use Rattle.solving.proofs.inner.enter.Goals as goal
+
+pub is_unmixed-requires : goal.is_unmixed-requires
+is_unmixed-requires c =
+    entry-small _ _ _ (record { word = λ i. (c.shared_slice_known-3-1.given i).fits }) (sym c.is_set.ensures ∙ ap toldChecked c.in-Good.is)
+
+pub returns-then-is_unmixed : goal.returns-then-is_unmixed
+returns-then-is_unmixed c =
+    let a = c.args in
+    let q = sym c.is_set.ensures ∙ ap toldChecked c.in-Good.is in
+    let u = sym (c.is_unmixed.ensures (names_of (table_of a.pool.now a.table.now))) ∙ c.if-is_unmixed.true in
+    sym (rw (q, u))
+
+pub returns-else-is_unmixed : goal.returns-else-is_unmixed
+returns-else-is_unmixed c =
+    let a = c.args in
+    let q = sym c.is_set.ensures ∙ ap toldChecked c.in-Good.is in
+    let u = sym (c.is_unmixed.ensures (names_of (table_of a.pool.now a.table.now))) ∙ c.if-is_unmixed.false in
+    sym (rw (q, u))
+
+pub returns-in-Refused : goal.returns-in-Refused
+returns-in-Refused c =
+    let q = sym c.is_set.ensures ∙ ap toldChecked c.in-Refused.is in
+    sym (rw q)
