@@ -1,4 +1,6 @@
 // The judge: are all constraints of a set true once the bindings of a lent slice of entries are put in, all at once?
+#![tactic(auto)]
+
 pub mod inner;
 
 ghost use Rattle.std.specs.Prelude.{◌≡◌};
@@ -11,7 +13,7 @@ use entries::inner::{repeats, slots_of};
 use inner::judge_slots;
 use trials::Verdict;
 
-// Yes, no or the refusal; the work buffer is left all zero. Nothing but this function has a `&[Entry]`, so its proof is a walk of three calls.
+// Yes, no or the refusal; the work buffer is left all zero.
 pub fn judge(
     pool: &[u8],
     table: &[u32],
