@@ -5,7 +5,7 @@ use Rattle.std.proofs.Common.{sym, ap, ap₂, ◌∙◌, arith, length-append}
 use Rattle.std.proofs.Math.Path.{subst}
 use mathlib.Core.List.{List, [], ◌∷◌, ◌++◌}
 use Rattle.std.proofs.Math.Option.{Option, none, some}
-use Rattle.rules.specs.Base.{refused, need}
+use Rattle.rules.specs.Base.{need}
 use Rattle.rules.specs.Names.{Bytes}
 use Rattle.rules.specs.Refusals.{number_of}
 use Rattle.rules.specs.WellFormed.{is_lt}

@@ -23,7 +23,6 @@ use Rattle.terms.specs.Stands.{place_of}
 use Rattle.terms.specs.Effects.{Lent, lent, Halted, Ready, Kept, Effect, Writes, Done, NotBad, not-bad, kept_same, kept-last, kept_then, halted-on}
 use Rattle.terms.specs.Inside.{inside-spelled}
 use Rattle.terms.specs.declared.inner.Stand.{Stand}
-use Rattle.terms.specs.declared.inner.Stand.TheVariants as stand
 use Rattle.phrases.specs.Parts.{TysTold, tys-none, tys-more}
 use Rattle.phrases.specs.Members.{nameBefore, fieldStep, FieldTold, FieldsTold, fields-none, fields-more, kept_if, stoppedAt, never_on}
 

@@ -1,2 +1,4 @@
 // Types of a line of text, read and entered in one pass.
+#![tactic(auto)]
+
 pub mod inner;

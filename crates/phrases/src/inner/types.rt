@@ -20,7 +20,7 @@ use terms::inner::naming::read_named;
 use terms::inner::{Reached, Stand, count, place_of, put_head};
 
 // Types or fields in a row: where they end, how the sheet stands, and how many they are.
-#[derive(Drop)]
+#[derive(Clone, Copy)]
 pub struct Row {
     pub at: Point,
     pub stand: Stand,
@@ -28,7 +28,7 @@ pub struct Row {
 }
 
 // A field: where it ends, how the sheet stands, and the name that comes before the next field's.
-#[derive(Drop)]
+#[derive(Clone, Copy)]
 pub struct Member {
     pub at: Point,
     pub stand: Stand,

@@ -1,0 +1,25 @@
+use Prim.Native.Nat.{◌≤◌}
+use lib.ListN.{get_or}
+-- `inner::rises` meets its contract. Assumes nothing.
+use mathlib.Core.Path.{sym, ap, subst, ◌∙◌}
+use native.Mathlib.Omega.{arith}
+use borrow.Author.Tests.{ltb-true, ltb-false}
+use Rattle.rules.specs.WellFormed.{is_lt}
+use Rattle.records.specs.Good.{HeldBefore}
+use Rattle.phrases.proofs.inner.rises.Goals as goal
+
+pub order-requires : goal.order-requires
+order-requires c =
+    record { good = c.requires.good; i_bound = subst (HeldBefore c.args.table.now) c.in-Name.is c.requires.held_before; j_bound = ltb-true _ _ (sym c.is_held.ensures ∙ c.if-is_held.true) }
+
+pub returns-in-Start : goal.returns-in-Start
+returns-in-Start c = λ h. rw c.in-Start.is
+
+pub returns-then-is_held : goal.returns-then-is_held
+returns-then-is_held c = λ h. rw c.in-Name.is (c.is_less.ensures ∙ ap is_lt c.order.ensures)
+
+pub returns-else-is_held : goal.returns-else-is_held
+returns-else-is_held c =
+    let a = c.args in
+    let w : get_or a.table.now 0 0 ≤ a.x = ltb-false _ _ (sym c.is_held.ensures ∙ c.if-is_held.false) in
+    λ h. absurd (omega arith)

@@ -1,0 +1,364 @@
+-- The functions of types call one another and meet their contracts: types are nested less deep, and the bytes of a line end. Assumes nothing.
+use mathlib.Core.Path.{sym, ◌∙◌}
+use mathlib.Core.List.{[]}
+use native.Mathlib.Omega.{arith}
+use Rattle.rules.specs.Grammar.{type}
+use Rattle.reading.specs.Choice.{by-function, by-list, by-structure}
+use Rattle.terms.specs.Effects.{kept_then, kept_above, kept-count, ready-count, ready_on, ready-next}
+use Rattle.terms.specs.Inside.{inside-column, inside-spelled}
+use Rattle.phrases.specs.Parts.{from-counted, list_done, function-done}
+use Rattle.phrases.specs.Members.{held-later, ready-tested, field-by, structure-done}
+use Rattle.phrases.specs.Rows.{tys-start, tys-turn, tys-fall, tys-done, fields-start, fields-turn, fields-fall, fields-done, some-params, no-params, some-types, no-types, some-fields, no_fields, done-by, type-zero, type-some}
+use Rattle.phrases.proofs.inner.types.+enter_arguments_enter_field_enter_fields_enter_function_enter_list_enter_members_enter_params_enter_structure_enter_type_enter_types.Goals as goal
+
+pub enter_arguments-next_is-requires : goal.enter_arguments-next_is-requires
+enter_arguments-next_is-requires t c =
+    c.requires.within
+
+pub enter_arguments-mark-a-requires : goal.enter_arguments-mark-a-requires
+enter_arguments-mark-a-requires t c =
+    c.requires.within
+
+pub enter_arguments-enter_types-ts-requires : goal.enter_arguments-enter_types-ts-requires
+enter_arguments-enter_types-ts-requires t c =
+    (omega (arith, c.decreases), ready_on (inside-spelled _) c.mark-a.ensures.reads c.requires)
+
+pub enter_arguments-mark-requires : goal.enter_arguments-mark-requires
+enter_arguments-mark-requires t c =
+    c.enter_types-ts.ensures.reads.within
+
+pub enter_arguments-returns-then-next_is : goal.enter_arguments-returns-then-next_is
+enter_arguments-returns-then-next_is t c =
+    some-types (type _) (sym c.if-next_is.true ∙ c.next_is.ensures) c.mark-a.ensures.reads
+    c.enter_types-ts.ensures c.mark.ensures.reads
+
+pub enter_arguments-returns : goal.enter_arguments-returns
+enter_arguments-returns t c =
+    no-types (type _) c.requires (sym c.if-next_is.false ∙ c.next_is.ensures)
+
+pub enter_field-next_sign-q-requires : goal.enter_field-next_sign-q-requires
+enter_field-next_sign-q-requires t c =
+    c.requires.ready.within
+
+pub enter_field-read_named-x-requires : goal.enter_field-read_named-x-requires
+enter_field-read_named-x-requires t c =
+    ready_on inside-column c.next_sign-q.ensures c.requires.ready
+
+pub enter_field-rises-requires : goal.enter_field-rises-requires
+enter_field-rises-requires t c =
+    let k = (c.read_named-x.ensures []).kept in
+    record { good = k.good; held_before = held-later c.args.table.now c.read_named-x.new.table c.args.before k.held c.requires.held_before }
+
+pub enter_field-count-counted-requires : goal.enter_field-count-counted-requires
+enter_field-count-counted-requires t c =
+    record { k_bound = omega arith; few = (λ k n e. ((ready-tested c.rises.result c.place_of-at.result (ready-next (c.read_named-x.ensures [])) c.pass_if-tested.ensures).room k n e).records) }
+
+pub enter_field-mark-c-requires : goal.enter_field-mark-c-requires
+enter_field-mark-c-requires t c =
+    (c.read_named-x.ensures []).reads.within
+
+pub enter_field-enter_type-t-requires : goal.enter_field-enter_type-t-requires
+enter_field-enter_type-t-requires t c =
+    (omega (arith, c.decreases), ready_on (inside-spelled _) c.mark-c.ensures.reads (ready-count 1 _ (ready-tested c.rises.result c.place_of-at.result (ready-next (c.read_named-x.ensures [])) c.pass_if-tested.ensures) c.count-counted.ensures))
+
+pub enter_field-put_head-requires : goal.enter_field-put_head-requires
+enter_field-put_head-requires t c =
+    kept_above
+    (kept_then (kept-count 1 _ (ready-tested c.rises.result c.place_of-at.result (ready-next (c.read_named-x.ensures [])) c.pass_if-tested.ensures) c.count-counted.ensures _) c.enter_type-t.ensures.kept)
+
+pub enter_field-before_next-requires : goal.enter_field-before_next-requires
+enter_field-before_next-requires t c =
+    c.enter_type-t.ensures.kept.good.words
+
+pub enter_field-returns : goal.enter_field-returns
+enter_field-returns t c =
+    field-by (type _) c.args.before c.requires.ready c.next_sign-q.ensures (c.read_named-x.ensures _)
+    c.place_of-at.ensures c.rises.ensures c.pass_if-tested.ensures c.count-counted.ensures
+    c.mark-c.ensures.reads c.enter_type-t.ensures c.before_next.ensures _ c.put_head.ensures
+
+pub enter_fields-enter_field-first-requires : goal.enter_fields-enter_field-first-requires
+enter_fields-enter_field-first-requires t c =
+    (omega (arith, c.decreases), (c.requires, tt))
+
+pub enter_fields-loop-before-init : goal.enter_fields-loop-before-init
+enter_fields-loop-before-init t c =
+    fields-start (type _) (ready-next c.enter_field-first.ensures.done) (omega arith) c.enter_field-first.ensures.held
+
+pub enter_fields-next_is-requires : goal.enter_fields-next_is-requires
+enter_fields-next_is-requires t c = c.loop-before.invariant.ready.within
+
+pub enter_fields-mark-a-requires : goal.enter_fields-mark-a-requires
+enter_fields-mark-a-requires t c =
+    c.loop-before.invariant.ready.within
+
+pub enter_fields-enter_field-f-requires : goal.enter_fields-enter_field-f-requires
+enter_fields-enter_field-f-requires t c =
+    (omega (arith, c.decreases), (ready_on (inside-spelled _) c.mark-a.ensures.reads c.loop-before.invariant.ready, c.loop-before.invariant.held))
+
+pub enter_fields-loop-before-smaller : goal.enter_fields-loop-before-smaller
+enter_fields-loop-before-smaller t c =
+    fields-fall c.loop-before.invariant (sym c.loop-before-test.true ∙ c.next_is.ensures) c.mark-a.ensures
+    c.enter_field-f.ensures.done
+
+pub enter_fields-loop-before-preserved : goal.enter_fields-loop-before-preserved
+enter_fields-loop-before-preserved t c =
+    rw c.one_more-n.ensures
+    (fields-turn c.loop-before.invariant (sym c.loop-before-test.true ∙ c.next_is.ensures) c.mark-a.ensures
+    c.enter_field-f.ensures.done c.enter_field-f.ensures.held)
+
+pub enter_fields-returns : goal.enter_fields-returns
+enter_fields-returns t c =
+    fields-done (type _) c.enter_field-first.ensures.done c.loop-before.invariant (sym c.loop-before-test.false ∙ c.next_is.ensures)
+
+pub enter_function-next_sign-q-requires : goal.enter_function-next_sign-q-requires
+enter_function-next_sign-q-requires t c =
+    c.requires.within
+
+pub enter_function-count-counted-requires : goal.enter_function-count-counted-requires
+enter_function-count-counted-requires t c =
+    record { k_bound = omega arith; few = (λ k n e. (c.requires.room k n e).records) }
+
+pub enter_function-sign-a-requires : goal.enter_function-sign-a-requires
+enter_function-sign-a-requires t c =
+    c.next_sign-q.ensures.within
+
+pub enter_function-mark-b-requires : goal.enter_function-mark-b-requires
+enter_function-mark-b-requires t c = c.sign-a.ensures.within
+
+pub enter_function-mark-c-requires : goal.enter_function-mark-c-requires
+enter_function-mark-c-requires t c = c.mark-b.ensures.reads.within
+
+pub enter_function-enter_params-ps-requires : goal.enter_function-enter_params-ps-requires
+enter_function-enter_params-ps-requires t c = (
+  omega (arith, c.decreases),
+  ready_on (inside-spelled _) c.mark-c.ensures.reads
+      (ready_on (inside-spelled _) c.mark-b.ensures.reads (ready_on (inside-spelled _) c.sign-a.ensures (ready_on inside-column c.next_sign-q.ensures (ready-count 1 _ c.requires c.count-counted.ensures)))),
+)
+
+pub enter_function-mark-f-requires : goal.enter_function-mark-f-requires
+enter_function-mark-f-requires t c =
+    c.enter_params-ps.ensures.reads.within
+
+pub enter_function-sign-g-requires : goal.enter_function-sign-g-requires
+enter_function-sign-g-requires t c =
+    c.mark-f.ensures.reads.within
+
+pub enter_function-enter_type-t-requires : goal.enter_function-enter_type-t-requires
+enter_function-enter_type-t-requires t c =
+    (omega (arith, c.decreases), ready_on (inside-spelled _) c.sign-g.ensures (ready_on (inside-spelled _) c.mark-f.ensures.reads (ready-next c.enter_params-ps.ensures)))
+
+pub enter_function-mark-at-requires : goal.enter_function-mark-at-requires
+enter_function-mark-at-requires t c =
+    c.enter_type-t.ensures.reads.within
+
+pub enter_function-put_head-requires : goal.enter_function-put_head-requires
+enter_function-put_head-requires t c =
+    kept_above
+    (kept_then (kept-count 1 _ c.requires c.count-counted.ensures _) (kept_then c.enter_params-ps.ensures.kept c.enter_type-t.ensures.kept))
+
+pub enter_function-returns : goal.enter_function-returns
+enter_function-returns t c =
+    function-done (type _) c.requires c.next_sign-q.ensures c.sign-a.ensures c.mark-b.ensures.reads
+    c.mark-c.ensures.reads
+    (from-counted c.next_sign-q.result c.args.s c.place_of.ensures c.count-counted.ensures c.enter_params-ps.ensures)
+    c.mark-f.ensures.reads c.sign-g.ensures c.enter_type-t.ensures c.mark-at.ensures.reads _
+    c.put_head.ensures
+
+pub enter_list-next_sign-q-requires : goal.enter_list-next_sign-q-requires
+enter_list-next_sign-q-requires t c =
+    c.requires.within
+
+pub enter_list-count-counted-requires : goal.enter_list-count-counted-requires
+enter_list-count-counted-requires t c =
+    record { k_bound = omega arith; few = (λ k n e. (c.requires.room k n e).records) }
+
+pub enter_list-sign-a-requires : goal.enter_list-sign-a-requires
+enter_list-sign-a-requires t c =
+    c.next_sign-q.ensures.within
+
+pub enter_list-mark-b-requires : goal.enter_list-mark-b-requires
+enter_list-mark-b-requires t c = c.sign-a.ensures.within
+
+pub enter_list-enter_type-t-requires : goal.enter_list-enter_type-t-requires
+enter_list-enter_type-t-requires t c =
+    (omega (arith, c.decreases), ready_on (inside-spelled _) c.mark-b.ensures.reads (ready_on (inside-spelled _) c.sign-a.ensures (ready_on inside-column c.next_sign-q.ensures (ready-count 1 _ c.requires c.count-counted.ensures))))
+
+pub enter_list-mark-at-requires : goal.enter_list-mark-at-requires
+enter_list-mark-at-requires t c =
+    c.enter_type-t.ensures.reads.within
+
+pub enter_list-put_head-requires : goal.enter_list-put_head-requires
+enter_list-put_head-requires t c =
+    kept_above (kept_then (kept-count 1 _ c.requires c.count-counted.ensures _) c.enter_type-t.ensures.kept)
+
+pub enter_list-returns : goal.enter_list-returns
+enter_list-returns t c =
+    list_done (type _) c.requires c.next_sign-q.ensures c.sign-a.ensures c.mark-b.ensures.reads
+    (from-counted c.next_sign-q.result c.args.s c.place_of.ensures c.count-counted.ensures c.enter_type-t.ensures)
+    c.mark-at.ensures.reads _ c.put_head.ensures
+
+pub enter_members-next_is-requires : goal.enter_members-next_is-requires
+enter_members-next_is-requires t c =
+    c.requires.within
+
+pub enter_members-mark-a-requires : goal.enter_members-mark-a-requires
+enter_members-mark-a-requires t c =
+    c.requires.within
+
+pub enter_members-enter_fields-fs-requires : goal.enter_members-enter_fields-fs-requires
+enter_members-enter_fields-fs-requires t c =
+    (omega (arith, c.decreases), ready_on (inside-spelled _) c.mark-a.ensures.reads c.requires)
+
+pub enter_members-mark-requires : goal.enter_members-mark-requires
+enter_members-mark-requires t c =
+    c.enter_fields-fs.ensures.reads.within
+
+pub enter_members-returns-then-next_is : goal.enter_members-returns-then-next_is
+enter_members-returns-then-next_is t c =
+    some-fields (type _) (sym c.if-next_is.true ∙ c.next_is.ensures) c.mark-a.ensures.reads
+    c.enter_fields-fs.ensures c.mark.ensures.reads
+
+pub enter_members-returns : goal.enter_members-returns
+enter_members-returns t c =
+    no_fields (type _) c.requires (sym c.if-next_is.false ∙ c.next_is.ensures)
+
+pub enter_params-next_is-requires : goal.enter_params-next_is-requires
+enter_params-next_is-requires t c =
+    c.requires.within
+
+pub enter_params-returns-then-next_is : goal.enter_params-returns-then-next_is
+enter_params-returns-then-next_is t c =
+    no-params (type _) c.requires (sym c.if-next_is.true ∙ c.next_is.ensures)
+
+pub enter_params-enter_types-requires : goal.enter_params-enter_types-requires
+enter_params-enter_types-requires t c =
+    (omega (arith, c.decreases), c.requires)
+
+pub enter_params-returns : goal.enter_params-returns
+enter_params-returns t c =
+    some-params (type _) (sym c.if-next_is.false ∙ c.next_is.ensures) c.enter_types.ensures
+
+pub enter_structure-next_sign-q-requires : goal.enter_structure-next_sign-q-requires
+enter_structure-next_sign-q-requires t c =
+    c.requires.within
+
+pub enter_structure-count-counted-requires : goal.enter_structure-count-counted-requires
+enter_structure-count-counted-requires t c =
+    record { k_bound = omega arith; few = (λ k n e. (c.requires.room k n e).records) }
+
+pub enter_structure-mark-a-requires : goal.enter_structure-mark-a-requires
+enter_structure-mark-a-requires t c =
+    c.next_sign-q.ensures.within
+
+pub enter_structure-read_named-x-requires : goal.enter_structure-read_named-x-requires
+enter_structure-read_named-x-requires t c =
+    ready_on (inside-spelled _) c.mark-a.ensures.reads
+    (ready_on inside-column c.next_sign-q.ensures (ready-count 1 _ c.requires c.count-counted.ensures))
+
+pub enter_structure-enter_arguments-ts-requires : goal.enter_structure-enter_arguments-ts-requires
+enter_structure-enter_arguments-ts-requires t c =
+    (omega (arith, c.decreases), ready-next (c.read_named-x.ensures []))
+
+pub enter_structure-enter_members-fs-requires : goal.enter_structure-enter_members-fs-requires
+enter_structure-enter_members-fs-requires t c =
+    (omega (arith, c.decreases), ready-next c.enter_arguments-ts.ensures)
+
+pub enter_structure-put_head-requires : goal.enter_structure-put_head-requires
+enter_structure-put_head-requires t c =
+    kept_above
+    (kept_then (kept-count 1 _ c.requires c.count-counted.ensures _) (kept_then (c.read_named-x.ensures _).kept (kept_then c.enter_arguments-ts.ensures.kept c.enter_members-fs.ensures.kept)))
+
+pub enter_structure-returns : goal.enter_structure-returns
+enter_structure-returns t c =
+    structure-done (type _) c.requires c.next_sign-q.ensures c.mark-a.ensures.reads
+    (from-counted c.next_sign-q.result c.args.s c.place_of.ensures c.count-counted.ensures (c.read_named-x.ensures _))
+    c.enter_arguments-ts.ensures c.enter_members-fs.ensures _ c.put_head.ensures
+
+pub enter_type-next_sign-q-requires : goal.enter_type-next_sign-q-requires
+enter_type-next_sign-q-requires t c =
+    c.requires.within
+
+pub enter_type-returns-then-d-eq0 : goal.enter_type-returns-then-d-eq0
+enter_type-returns-then-d-eq0 t c =
+    type-zero _ c.if-d-eq0.true c.next_sign-q.ensures
+    (c.too_deep.ensures _ _ _ (ready_on inside-column c.next_sign-q.ensures c.requires))
+
+pub enter_type-overflow_sub-d : goal.enter_type-overflow_sub-d
+enter_type-overflow_sub-d t c =
+    omega (arith, c.if-d-eq0.false)
+
+pub enter_type-enter_function-requires : goal.enter_type-enter_function-requires
+enter_type-enter_function-requires t c =
+    (omega (arith, c.decreases, c.if-d-eq0.false), ready_on inside-column c.next_sign-q.ensures c.requires)
+
+pub enter_type-returns-then-b-eq70 : goal.enter_type-returns-then-b-eq70
+enter_type-returns-then-b-eq70 t c =
+    type-some _ c.if-d-eq0.false c.next_sign-q.ensures
+    (done-by (by-function _ (sym c.byte_at-b.ensures ∙ c.if-b-eq70.true)) c.enter_function.ensures)
+
+pub enter_type-overflow_sub-d-then-b-eq76 : goal.enter_type-overflow_sub-d-then-b-eq76
+enter_type-overflow_sub-d-then-b-eq76 t c =
+    omega (arith, c.if-d-eq0.false)
+
+pub enter_type-enter_list-requires : goal.enter_type-enter_list-requires
+enter_type-enter_list-requires t c =
+    (omega (arith, c.decreases, c.if-d-eq0.false), ready_on inside-column c.next_sign-q.ensures c.requires)
+
+pub enter_type-returns-then-b-eq76 : goal.enter_type-returns-then-b-eq76
+enter_type-returns-then-b-eq76 t c =
+    type-some _ c.if-d-eq0.false c.next_sign-q.ensures
+    (done-by (by-list _ (sym c.byte_at-b.ensures ∙ c.if-b-eq76.true)) c.enter_list.ensures)
+
+pub enter_type-overflow_sub-d-then-b-eq64 : goal.enter_type-overflow_sub-d-then-b-eq64
+enter_type-overflow_sub-d-then-b-eq64 t c =
+    omega (arith, c.if-d-eq0.false)
+
+pub enter_type-enter_structure-requires : goal.enter_type-enter_structure-requires
+enter_type-enter_structure-requires t c =
+    (omega (arith, c.decreases, c.if-d-eq0.false), ready_on inside-column c.next_sign-q.ensures c.requires)
+
+pub enter_type-returns-then-b-eq64 : goal.enter_type-returns-then-b-eq64
+enter_type-returns-then-b-eq64 t c =
+    type-some _ c.if-d-eq0.false c.next_sign-q.ensures
+    (done-by (by-structure _ (sym c.byte_at-b.ensures ∙ c.if-b-eq64.true)) c.enter_structure.ensures)
+
+pub enter_type-enter_leaf-requires : goal.enter_type-enter_leaf-requires
+enter_type-enter_leaf-requires t c =
+    ready_on inside-column c.next_sign-q.ensures c.requires
+
+pub enter_type-returns : goal.enter_type-returns
+enter_type-returns t c =
+    type-some _ c.if-d-eq0.false c.next_sign-q.ensures
+    (c.enter_leaf.ensures _ (λ e. c.if-b-eq70.false (c.byte_at-b.ensures ∙ e)) (λ e. c.if-b-eq76.false (c.byte_at-b.ensures ∙ e)) (λ e. c.if-b-eq64.false (c.byte_at-b.ensures ∙ e)))
+
+pub enter_types-enter_type-first-requires : goal.enter_types-enter_type-first-requires
+enter_types-enter_type-first-requires t c =
+    (omega (arith, c.decreases), c.requires)
+
+pub enter_types-loop-a-init : goal.enter_types-loop-a-init
+enter_types-loop-a-init t c =
+    tys-start (type _) (ready-next c.enter_type-first.ensures) (omega arith)
+
+pub enter_types-next_is-requires : goal.enter_types-next_is-requires
+enter_types-next_is-requires t c = c.loop-a.invariant.ready.within
+
+pub enter_types-mark-a-requires : goal.enter_types-mark-a-requires
+enter_types-mark-a-requires t c =
+    c.loop-a.invariant.ready.within
+
+pub enter_types-enter_type-t-requires : goal.enter_types-enter_type-t-requires
+enter_types-enter_type-t-requires t c =
+    (omega (arith, c.decreases), ready_on (inside-spelled _) c.mark-a.ensures.reads c.loop-a.invariant.ready)
+
+pub enter_types-loop-a-smaller : goal.enter_types-loop-a-smaller
+enter_types-loop-a-smaller t c =
+    tys-fall c.loop-a.invariant (sym c.loop-a-test.true ∙ c.next_is.ensures) c.mark-a.ensures c.enter_type-t.ensures
+
+pub enter_types-loop-a-preserved : goal.enter_types-loop-a-preserved
+enter_types-loop-a-preserved t c =
+    rw c.one_more-n.ensures
+    (tys-turn c.loop-a.invariant (sym c.loop-a-test.true ∙ c.next_is.ensures) c.mark-a.ensures c.enter_type-t.ensures)
+
+pub enter_types-returns : goal.enter_types-returns
+enter_types-returns t c =
+    tys-done (type _) c.enter_type-first.ensures c.loop-a.invariant (sym c.loop-a-test.false ∙ c.next_is.ensures)
