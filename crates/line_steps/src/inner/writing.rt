@@ -12,7 +12,7 @@ use rules::RECORDS;
 const STEPS: usize = 128;
 
 // What was written: so many records; or no set, since it would pass 2,048 records.
-#[derive(Drop)]
+#[derive(Clone, Copy)]
 pub enum Put {
     Records(usize),
     TooLarge,
