@@ -1,6 +1,6 @@
 -- Batches by computation, over the names of rules' Examples. Assumes nothing.
 use Rattle.std.specs.Prelude.{◌≡◌, refl, List, [], ◌∷◌, ◌++◌, ℕ, take, replicate}
-use Rattle.rules.specs.Base.{Got, got, refused}
+use Rattle.rules.specs.Base.{got, refused}
 use Rattle.rules.specs.Batches.{cutSets, fourWords, recordsOf, answeredWords, eachSolved, batchLent, batchFits, writtenOver, batchCall}
 use Rattle.rules.specs.Examples.{x, L, pool, table, work}
 use Rattle.rules.specs.Lengths.{sizedWords, counting}

@@ -6,12 +6,8 @@ use borrow.Author.Tests.{le-leb, lt-leb, leb-true, eqb-true}
 use Rattle.rules.specs.Base.{Got, got, refused, ◌>>=◌, ◌>>◌, need, sum_of}
 use Rattle.rules.specs.Calls.{lentWork, workAfter}
 use Rattle.rules.specs.Names.{lentTable, table_of}
-use Rattle.rules.specs.Refusals.{number_of}
-use Rattle.rules.specs.declared.Refusal.{Refusal}
-use Rattle.laws.specs.Checks.{need-passed, first-passed, next-passed}
 use Rattle.laws.specs.Lists.{clash, not-true, not-false}
-use Rattle.lending.specs.declared.Answer.{Answer}
-use Rattle.lending.specs.declared.Answer.TheVariants.{Records, Refused}
+use Rattle.lending.specs.declared.Answer.TheVariants.{Records}
 use Rattle.rules.specs.Batches.{batchLent, batchFits, batchCall, writtenOver}
 use Rattle.batches.specs.Told.{batchAs}
 use Rattle.batches.specs.Steps.{Begun, Finished}

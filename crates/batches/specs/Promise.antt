@@ -1,9 +1,9 @@
 -- What a batch promises: each set is answered as `solve` answers it by itself, whatever the other sets are. Assumes nothing.
 use Rattle.std.specs.Prelude.{◌≡◌, refl, drop}
 use Rattle.std.proofs.Math.Path.{sym, ap, ap₂}
-use Rattle.std.proofs.Common.{◌∙◌, suc-mul, add_comm, arith, drop-drop}
+use Rattle.std.proofs.Common.{◌∙◌, arith, drop-drop}
 use mathlib.Core.List.{List, [], ◌∷◌, ◌++◌, append_assoc, map}
-use Prim.Native.Nat.{ℕ, zero, suc, ◌+◌, ◌*◌, ◌<◌}
+use Prim.Native.Nat.{ℕ, zero, suc, ◌*◌, ◌<◌}
 use Rattle.std.proofs.Math.ListN.{length, take, get_or}
 use Rattle.std.proofs.Math.Seq.{take_at, drop_at}
 use Rattle.rules.specs.Base.{Got, got, refused, collect, sum_of}

@@ -1,9 +1,9 @@
 -- One set after another: what a step leaves, and what is left to do. Assumes nothing.
 use Rattle.std.specs.Prelude.{◌≡◌, refl}
 use Rattle.std.proofs.Math.Path.{sym, ap, ap₂}
-use Rattle.std.proofs.Common.{subst, ◌∙◌, zero-add, add-one, drop_of_length-le, length-drop, drop-cons, length-take-le}
+use Rattle.std.proofs.Common.{◌∙◌, zero-add, add-one, drop_of_length-le, length-drop, drop-cons, length-take-le}
 use mathlib.Core.List.{List, [], ◌∷◌, ◌++◌, append_assoc, append-nil, map}
-use Prim.Native.Nat.{ℕ, zero, suc, ◌+◌, ◌*◌, ◌-◌, ◌≤◌, ◌<◌, zero-le}
+use Prim.Native.Nat.{ℕ, suc, ◌+◌, ◌*◌, ◌-◌, ◌≤◌, ◌<◌, zero-le}
 use native.Mathlib.Omega.{arith}
 use Rattle.std.proofs.Math.ListN.{length, take, drop, get_or, length-append, take-append-drop}
 use Rattle.std.proofs.Math.Seq.{sets, length-sets, drop-drop}

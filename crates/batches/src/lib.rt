@@ -1,4 +1,6 @@
 // The public call of batches: several sets over one name table, solved one after another.
+#![tactic(auto)]
+
 pub mod inner;
 
 ghost use Rattle.std.specs.Prelude.{◌≡◌};
