@@ -20,14 +20,14 @@ use terms::inner::naming::read_named;
 use terms::inner::{Reached, Stand, count, place_of, put_head};
 
 // What a line did: new names and records so far, and its constraints, 0 or 1; or why it was refused, and the place that is told.
-#[derive(Drop)]
+#[derive(Clone, Copy)]
 pub enum Line {
     Going(usize, usize, usize),
     Refused(Refusal, usize),
 }
 
 // Where a line is read to, how the sheet stands then, and how many constraints the line had.
-#[derive(Drop)]
+#[derive(Clone, Copy)]
 pub struct Stated {
     pub at: Point,
     pub stand: Stand,

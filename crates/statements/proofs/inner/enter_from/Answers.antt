@@ -1,0 +1,24 @@
+-- `inner::enter_from` meets its contract. Assumes nothing.
+use mathlib.Core.Path.{sym, ◌∙◌}
+use Rattle.statements.specs.Statements.{comment-done, signs-done}
+use Rattle.statements.proofs.inner.enter_from.Goals as goal
+
+pub next_is-requires : goal.next_is-requires
+next_is-requires c =
+    c.requires.ready.within
+
+pub sign-requires : goal.sign-requires
+sign-requires c =
+    c.requires.ready.within
+
+pub returns-then-next_is : goal.returns-then-next_is
+returns-then-next_is c =
+    comment-done c.requires.i_in_bounds c.requires.ready (sym c.if-next_is.true ∙ c.next_is.ensures) c.sign.ensures
+
+pub enter_constraint-c-requires : goal.enter_constraint-c-requires
+enter_constraint-c-requires c =
+    c.requires.ready
+
+pub returns : goal.returns
+returns c =
+    signs-done c.requires.i_in_bounds (sym c.if-next_is.false ∙ c.next_is.ensures) c.enter_constraint-c.ensures
