@@ -1,4 +1,6 @@
 // The judge for callers that lend their entries as pairs of words: the same answer, with no slice of structs.
+#![tactic(auto)]
+
 pub mod inner;
 
 ghost use Rattle.std.specs.Prelude.{◌≡◌};
