@@ -1,4 +1,6 @@
 // What a call by its number says, in words, and the words and bytes of buffers: the calls behind their numbers share this.
+#![tactic(auto)]
+
 pub mod told;
 pub mod words;
 

@@ -1,0 +1,5 @@
+-- `accepted` meets its contract. Assumes nothing.
+use Rattle.saying.proofs.told.accepted.Goals as goal
+
+pub returns : goal.returns
+returns c = cc

@@ -1,0 +1,8 @@
+-- `numbered` meets its contract. Assumes nothing.
+use Rattle.saying.proofs.told.numbered.Goals as goal
+
+pub returns-in-Number : goal.returns-in-Number
+returns-in-Number c = rw c.in-Number.is (cc)
+
+pub returns-in-Refused : goal.returns-in-Refused
+returns-in-Refused c = rw c.in-Refused.is (cc)

@@ -1,0 +1,5 @@
+-- `refused` meets its contract. Assumes nothing.
+use Rattle.saying.proofs.told.refused.Goals as goal
+
+pub returns : goal.returns
+returns c = cc
