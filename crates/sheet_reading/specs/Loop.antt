@@ -1,24 +1,23 @@
 -- The loop over a sheet's lines, and what is put back where a line is refused.
 -- Assumes nothing.
-use Rattle.std.specs.Prelude.{◌≡◌, refl, List, [], ◌∷◌, ◌++◌, ℕ, suc, ◌+◌, ◌*◌, ◌≤◌, ◌<◌, length, take, drop, get_or}
-use Rattle.std.proofs.Common.{sym, ap, subst, ◌∙◌, add-one, arith, length-take-le}
+use Rattle.std.specs.Prelude.{◌≡◌, refl, List, ℕ, suc, ◌+◌, ◌*◌, ◌≤◌, ◌<◌, length, take, drop}
+use Rattle.std.proofs.Common.{sym, ap, ◌∙◌, add-one, arith, length-take-le}
 use Rattle.std.proofs.lemmas.List.Edits.{sets}
 use Rattle.rules.specs.Names.{Bytes}
 use Rattle.rules.specs.Calls.{over}
 use Rattle.rules.specs.Refusals.{number_of}
 use Rattle.rules.specs.Writing.{Rec, words}
-use Rattle.rules.specs.TextReading.{Sofar, refusedAt, lineRead, refusedIn, unread, sheetRead}
+use Rattle.rules.specs.TextReading.{refusedAt, lineRead, refusedIn, sheetRead}
 use Rattle.rules.specs.declared.Refusal.{Refusal}
 use Rattle.laws.specs.NameTable.{Good}
-use Rattle.terms.specs.Effects.{Lent, lent, sofar, Room, Roomy, Kept, kept_same, kept_then}
-use Rattle.terms.specs.declared.inner.Stand.{Stand}
+use Rattle.terms.specs.Effects.{Lent, lent, sofar, Roomy, Kept, kept_same, kept_then}
 use Rattle.terms.specs.declared.inner.Stand.TheVariants as stand
 use Rattle.sheet_lines.specs.Copies.{put-back}
 use Rattle.sheet_lines.specs.Cut.{Cut, line_at, line-length}
 use Rattle.sheet_lines.specs.Told.{refused-in}
 use Rattle.sheet_lines.specs.Upto.{LineAdds, Upto, Whole}
 use Rattle.sheet_lines.specs.Upto as upto
-use Rattle.statements.specs.Statements.{LineTold, LineDone}
+use Rattle.statements.specs.Statements.{LineDone}
 use Rattle.sheet_reading.specs.declared.Sheet.{Sheet}
 use Rattle.sheet_reading.specs.declared.Sheet.TheVariants as sheet
 
