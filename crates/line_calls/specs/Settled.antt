@@ -16,7 +16,7 @@ use Rattle.rules.specs.Calls as calls
 use Rattle.rules.specs.Calls.{over, resultAfter, solvedOf, solvedWords}
 use Rattle.rules.specs.Lines.{settled, agreed, settledSet, agreedSet}
 use Rattle.rules.specs.declared.Refusal.{Refusal}
-use Rattle.rules.specs.declared.Refusal.TheVariants.{Mixed, Unsolved}
+use Rattle.rules.specs.declared.Refusal.TheVariants.{Mixed}
 use Rattle.laws.specs.Lists.{is_all}
 use Rattle.laws.specs.NameTable.{Good}
 use Rattle.soundness.specs.Words.{numbers-ordered}

@@ -33,7 +33,7 @@ use Rattle.trials.specs.Told as trials
 use Rattle.trials.specs.Trials.{Put}
 use Rattle.trials.specs.declared.Verdict.{Verdict}
 use Rattle.trials.specs.declared.Verdict.TheVariants as verdict
-use Rattle.lending.specs.Told.{told, Front, Made}
+use Rattle.lending.specs.Told.{Front, Made}
 use Rattle.lending.specs.declared.Answer.{Answer}
 use Rattle.lending.specs.declared.Answer.TheVariants.{Records, Refused}
 use Rattle.line_calls.specs.Standing.{SetStands, FoundStands}

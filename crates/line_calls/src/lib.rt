@@ -1,4 +1,6 @@
 // Document 02, W-211: the public call that checks a whole calculation line.
+#![tactic(auto)]
+
 pub mod inner;
 
 ghost use Rattle.std.specs.Prelude.{◌≡◌};

@@ -1,0 +1,37 @@
+-- `inner::confirm` meets its contract. Assumes nothing.
+use mathlib.Core.List.{[], map}
+use native.Mathlib.Omega.{arith}
+use Rattle.rules.specs.Trees.{var}
+use Rattle.queries.specs.MarkLaws.{marks-none}
+use Rattle.line_calls.specs.Typed.{judged-yes, judged-no, judged-refused, put-in, marked}
+use Rattle.line_calls.proofs.inner.confirm.Goals as goal
+
+pub try_all-requires : goal.try_all-requires
+try_all-requires c =
+    let (cs, h) = c.requires.by_index in
+    let (bs, (ns, f)) = c.requires.by_index_2 in
+    record {
+      good = c.requires.good;
+      by_index = (cs, h.there);
+      by_index_2 = (bs, put-in _ _ f (c.fill.ensures _ _ bs c.requires.good f.listed));
+      by_index_3 = (ns, marked ns (c.mark_all.ensures c.args.pool.now c.args.table.now (map (λ n. var n) ns) [] f.bounds marks-none));
+      set_len_bound = h.short;
+      in_bounds = omega (arith, c.requires.in_bounds);
+    }
+
+pub put_type-requires : goal.put_type-requires
+put_type-requires c =
+    let (bs, (ns, f)) = c.requires.by_index_2 in
+    (_, (c.fill.ensures _ _ bs c.requires.good f.listed).tabled)
+
+pub returns-in-Yes : goal.returns-in-Yes
+returns-in-Yes c = λ cs bs ns h f.
+    judged-yes _ _ cs bs ns _ (c.try_all.ensures cs bs ns h.there (put-in _ _ f (c.fill.ensures _ _ bs c.requires.good f.listed)) (marked ns (c.mark_all.ensures c.args.pool.now c.args.table.now (map (λ n. var n) ns) [] f.bounds marks-none))) _ _ _ c.in-Yes.is (omega (arith, c.try_all.auto.work, c.requires.in_bounds)) (c.put_type.ensures _ (c.fill.ensures _ _ bs c.requires.good f.listed).tabled)
+
+pub returns-in-No : goal.returns-in-No
+returns-in-No c = λ cs bs ns h f.
+    judged-no _ _ cs bs ns _ (c.try_all.ensures cs bs ns h.there (put-in _ _ f (c.fill.ensures _ _ bs c.requires.good f.listed)) (marked ns (c.mark_all.ensures c.args.pool.now c.args.table.now (map (λ n. var n) ns) [] f.bounds marks-none))) _ c.in-No.is
+
+pub returns-in-Refused : goal.returns-in-Refused
+returns-in-Refused c = λ cs bs ns h f.
+    judged-refused _ _ cs bs ns _ (c.try_all.ensures cs bs ns h.there (put-in _ _ f (c.fill.ensures _ _ bs c.requires.good f.listed)) (marked ns (c.mark_all.ensures c.args.pool.now c.args.table.now (map (λ n. var n) ns) [] f.bounds marks-none))) _ _ c.in-Refused.is

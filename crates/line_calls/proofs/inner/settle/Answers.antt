@@ -1,0 +1,51 @@
+-- `inner::settle` meets its contract. Assumes nothing.
+use mathlib.Core.Path.{◌≡◌, ◌∙◌}
+use mathlib.Core.Bool.{true}
+use Prim.Native.Nat.{ℕ}
+use native.Mathlib.Omega.{arith}
+use lib.ListN.{length, length-replicate}
+use Rattle.line_calls.specs.Standing.{set-small, begun}
+use Rattle.line_calls.specs.Settled.{accepts, remains, stops, mixed-made, refused-settled, found-well, judged-settled}
+use Rattle.line_calls.proofs.inner.settle.Goals as goal
+
+pub is_unmixed-requires : goal.is_unmixed-requires
+is_unmixed-requires c =
+    let (cs, h) = c.requires.by_index in
+    set-small _ _ _ cs h c.requires.good
+
+pub returns-then-not-is_unmixed : goal.returns-then-not-is_unmixed
+returns-then-not-is_unmixed c = λ cs h.
+    mixed-made _ _ _ cs h _ c.is_unmixed.ensures (c.if-not-is_unmixed.true) _
+
+pub run_alone-s-requires : goal.run_alone-s-requires
+run_alone-s-requires c =
+    let (cs, h) = c.requires.by_index in
+    record { good = c.requires.good; by_index = (cs, begun _ _ _ cs h _ _ c.requires.in_bounds c.copy.ensures); in_bounds = omega arith; in_bounds_2 = omega (arith, c.copy.auto.dst, c.requires.in_bounds) }
+
+pub confirm-requires : goal.confirm-requires
+confirm-requires c =
+    let unmixed-set : c.is_unmixed.result ≡ true = c.if-not-is_unmixed.false in
+    let long : length c.run_alone-s.new.res ≡ 8192 = c.run_alone-s.auto.res ∙ length-replicate {A = ℕ} 8192 0 in
+    let (cs, h) = c.requires.by_index in
+    let a = accepts _ _ _ _ (c.run_alone-s.ensures cs (begun _ _ _ cs h _ _ c.requires.in_bounds c.copy.ensures)) c.in-Solved.is in
+    record {
+      good = c.requires.good;
+      by_index = (cs, h);
+      by_index_2 = (a.bs, (a.ns, found-well _ _ _ cs h 0 c.is_unmixed.ensures unmixed-set c.requires.good a long));
+      in_bounds = omega (arith, c.run_alone-s.auto.work, c.copy.auto.dst, c.requires.in_bounds);
+    }
+
+pub returns-in-Solved : goal.returns-in-Solved
+returns-in-Solved c = λ cs h.
+    let unmixed-set : c.is_unmixed.result ≡ true = c.if-not-is_unmixed.false in
+    let long : length c.run_alone-s.new.res ≡ 8192 = c.run_alone-s.auto.res ∙ length-replicate {A = ℕ} 8192 0 in
+    let a = accepts _ _ _ _ (c.run_alone-s.ensures cs (begun _ _ _ cs h _ _ c.requires.in_bounds c.copy.ensures)) c.in-Solved.is in
+    judged-settled _ _ _ cs h _ c.is_unmixed.ensures unmixed-set c.requires.good a _ _ (c.confirm.ensures cs a.bs a.ns h (found-well _ _ _ cs h 0 c.is_unmixed.ensures unmixed-set c.requires.good a long))
+
+pub returns-in-Unsolved : goal.returns-in-Unsolved
+returns-in-Unsolved c = λ cs h.
+    refused-settled _ _ _ cs h _ c.is_unmixed.ensures c.if-not-is_unmixed.false _ _ (remains _ _ _ _ (c.run_alone-s.ensures cs (begun _ _ _ cs h _ _ c.requires.in_bounds c.copy.ensures)) c.in-Unsolved.is)
+
+pub returns-in-Refused : goal.returns-in-Refused
+returns-in-Refused c = λ cs h.
+    refused-settled _ _ _ cs h _ c.is_unmixed.ensures c.if-not-is_unmixed.false _ _ (stops _ _ _ _ (c.run_alone-s.ensures cs (begun _ _ _ cs h _ _ c.requires.in_bounds c.copy.ensures)) c.in-Refused.is)

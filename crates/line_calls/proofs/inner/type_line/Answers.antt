@@ -1,0 +1,60 @@
+-- `inner::type_line` meets its contract. Assumes nothing.
+use mathlib.Core.Path.{subst}
+use mathlib.Core.List.{[]}
+use Prim.Native.Nat.{ℕ}
+use native.Mathlib.Omega.{arith}
+use lib.ListN.{replicate, length-replicate}
+use Rattle.rules.specs.Names.{table_of, numbersOf}
+use Rattle.rules.specs.Lines.{constraints}
+use Rattle.line_steps.specs.StepLoop.{Issues, Wrote}
+use Rattle.line_calls.specs.Whole.{line-is, step-there, names-enough, names-held, set-written, type-made, large-made}
+use Rattle.line_calls.proofs.inner.type_line.Goals as goal
+
+pub put_line-requires : goal.put_line-requires
+put_line-requires c =
+    let (ss, h) = c.requires.by_index in
+    record {
+      good = c.requires.good;
+      by_index = (ss, line-is _ _ _ _ _ _ c.requires.good ss h);
+      types_len_bound = h.types-short;
+      steps_in_bounds = names-enough _ _ _ _ _ _ c.requires.good ss h;
+      steps_len_bound = h.few;
+      by_index_2 = names-held _ _ _ _ _ _ c.requires.good ss h;
+    }
+
+pub overflow_sub-v : goal.overflow_sub-v
+overflow_sub-v c =
+    let (ss, h) = c.requires.by_index in
+    step-there _ _ _ _ _ _ c.requires.good ss h
+
+pub bounds-names-steps : goal.bounds-names-steps
+bounds-names-steps c =
+    let (ss, h) = c.requires.by_index in
+    omega (arith, step-there _ _ _ _ _ _ c.requires.good ss h, names-enough _ _ _ _ _ _ c.requires.good ss h)
+
+pub overflow_mul-e : goal.overflow_mul-e
+overflow_mul-e c =
+    let (ss, h) = c.requires.by_index in
+    let wrote : Wrote (constraints (numbersOf (table_of c.args.pool.now c.args.table.now)) c.args.names.now [] ss) (replicate 8192 0) c.put_line.new.dst c.in-Records.n = subst (Issues _ _ _) c.in-Records.is (c.put_line.ensures ss (line-is _ _ _ _ _ _ c.requires.good ss h)) in
+    omega (arith, wrote.within)
+
+pub slice_bounds-settle-end : goal.slice_bounds-settle-end
+slice_bounds-settle-end c =
+    let (ss, h) = c.requires.by_index in
+    let wrote : Wrote (constraints (numbersOf (table_of c.args.pool.now c.args.table.now)) c.args.names.now [] ss) (replicate 8192 0) c.put_line.new.dst c.in-Records.n = subst (Issues _ _ _) c.in-Records.is (c.put_line.ensures ss (line-is _ _ _ _ _ _ c.requires.good ss h)) in
+    omega (arith, wrote.within, c.put_line.auto.dst)
+
+pub settle-requires : goal.settle-requires
+settle-requires c =
+    let (ss, h) = c.requires.by_index in
+    let wrote : Wrote (constraints (numbersOf (table_of c.args.pool.now c.args.table.now)) c.args.names.now [] ss) (replicate 8192 0) c.put_line.new.dst c.in-Records.n = subst (Issues _ _ _) c.in-Records.is (c.put_line.ensures ss (line-is _ _ _ _ _ _ c.requires.good ss h)) in
+    record { good = c.requires.good; by_index = (_, set-written _ _ _ _ _ _ c.requires.good ss h (replicate 8192 0) _ _ (omega (arith, length-replicate {A = ℕ} 8192 0)) wrote); in_bounds = c.requires.in_bounds }
+
+pub returns-in-Records : goal.returns-in-Records
+returns-in-Records c = λ ss h.
+    let wrote : Wrote (constraints (numbersOf (table_of c.args.pool.now c.args.table.now)) c.args.names.now [] ss) (replicate 8192 0) c.put_line.new.dst c.in-Records.n = subst (Issues _ _ _) c.in-Records.is (c.put_line.ensures ss (line-is _ _ _ _ _ _ c.requires.good ss h)) in
+    type-made _ _ _ _ _ _ c.requires.good ss h _ _ (c.settle.ensures _ (set-written _ _ _ _ _ _ c.requires.good ss h (replicate 8192 0) _ _ (omega (arith, length-replicate {A = ℕ} 8192 0)) wrote))
+
+pub returns-in-TooLarge : goal.returns-in-TooLarge
+returns-in-TooLarge c = λ ss h.
+    large-made _ _ _ _ _ _ c.requires.good ss h _ (subst (Issues _ _ _) c.in-TooLarge.is (c.put_line.ensures ss (line-is _ _ _ _ _ _ c.requires.good ss h)))
