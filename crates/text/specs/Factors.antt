@@ -1,23 +1,22 @@
 -- Names, factors and dimensions as they are put into a buffer.
 -- Assumes nothing.
-use Rattle.std.specs.Prelude.{◌≡◌, Bool, ◌&&◌, ℕ, zero, suc, ◌+◌, ◌-◌, ◌*◌, ◌/◌, ◌≤◌, ◌<◌, ◌^◌, ltb, length, get_or}
+use Rattle.std.specs.Prelude.{◌≡◌, Bool, ℕ, ◌+◌, ◌-◌, ◌*◌, ◌/◌, ◌≤◌, ◌<◌, ◌^◌, length, get_or}
 use Rattle.std.proofs.Math.Path.{refl}
-use Rattle.std.proofs.Common.{sym, ap, ◌∙◌, arith, ltb-true, length-append}
+use Rattle.std.proofs.Common.{sym, ◌∙◌, arith, ltb-true}
 use Rattle.std.proofs.Math.Bool.{true, false}
-use mathlib.Core.List.{List, [], ◌∷◌, ◌++◌, append_assoc}
-use Rattle.rules.specs.Base.{all}
-use Rattle.rules.specs.Exponents.{Exp, frac, goodStored}
+use mathlib.Core.List.{List, [], ◌∷◌, ◌++◌}
+use Rattle.rules.specs.Exponents.{Exp, frac}
 use Rattle.rules.specs.Names.{Bytes, table_of, numbersOf, is_held}
-use Rattle.rules.specs.Trees.{Open, var, quant, par, Atom, free, base, Factor, ◌↑◌, Product}
+use Rattle.rules.specs.Trees.{Atom, free, base, Factor, ◌↑◌, Product}
 use Rattle.rules.specs.WellFormed.{goodOpen, goodFactor}
 use Rattle.rules.specs.Writing.{signed, twos}
-use Rattle.laws.specs.Lists.{Every, and_left, and_right}
+use Rattle.laws.specs.Lists.{Every, and_left}
 use Rattle.laws.specs.NameTable.{Good, held-is}
 use Rattle.records.specs.Views.{viewAt}
 use Rattle.records.specs.Places.{seen-in}
-use Rattle.records.specs.Holds.{viewOpen, viewAtom, atomOf, HoldsFactor, HoldsFactors}
-use Rattle.records.specs.ByView.{factor-by-view, ArmsFactor}
-use Rattle.records.specs.Good.{HeldOpen, HeldAtom}
+use Rattle.records.specs.Holds.{viewAtom, atomOf, HoldsFactor, HoldsFactors}
+use Rattle.records.specs.ByView.{factor-by-view}
+use Rattle.records.specs.Good.{HeldAtom}
 use Rattle.records.specs.declared.Atom as atoms
 use Rattle.records.specs.declared.Open as opens
 use Rattle.records.specs.declared.View.TheVariants as view

@@ -1,13 +1,13 @@
 -- Constraints as they are put into a buffer, each with its line feed.
 -- Assumes nothing.
-use Rattle.std.specs.Prelude.{◌≡◌, refl, Bool, false, ◌&&◌, ℕ, zero, suc, ◌+◌, ◌-◌, ◌*◌, ◌/◌, ◌≤◌, ◌<◌, ◌^◌, length, get_or}
+use Rattle.std.specs.Prelude.{◌≡◌, refl, Bool, ◌&&◌, ℕ, suc, ◌+◌, ◌-◌, ◌*◌, ◌/◌, ◌≤◌, ◌<◌, ◌^◌, length, get_or}
 use Rattle.std.proofs.Common.{sym, ◌∙◌, ltb-true}
 use Rattle.std.proofs.Math.Path.{ap, subst}
 use Rattle.std.proofs.Math.Bool.{true}
 use mathlib.Core.List.{List, [], ◌∷◌, ◌++◌, append_assoc}
 use native.Mathlib.Omega.{arith}
 use Rattle.std.proofs.Math.ListN.{length-append}
-use Rattle.rules.specs.Base.{all, collect, sum_of}
+use Rattle.rules.specs.Base.{all, collect}
 use Rattle.rules.specs.Names.{Bytes, table_of, numbersOf, is_held}
 use Rattle.rules.specs.Trees.{Product, Ty, dim, Con, equal, isDim, is_scalar, hasField, size, sizeCon}
 use Rattle.rules.specs.WellFormed.{goodTy, goodCon}
@@ -15,11 +15,11 @@ use Rattle.laws.specs.Lists.{and_left, and_right}
 use Rattle.laws.specs.NameTable.{Good, held-is}
 use Rattle.records.specs.Views.{viewAt, longAt}
 use Rattle.records.specs.Holds.{Holds, HoldsProduct, HoldsCon, con-long}
-use Rattle.records.specs.ByView.{con-by-view, ArmsCon, con-in}
+use Rattle.records.specs.ByView.{con-by-view, con-in}
 use Rattle.records.specs.Good.{Chain, GoodCon}
 use Rattle.records.specs.declared.View.TheVariants as view
 use Rattle.rules.specs.Grammar.{ascii}
-use Rattle.rules.specs.TextWriting.{nameText, tyText, conText, setText, dimensionText, namesIn}
+use Rattle.rules.specs.TextWriting.{nameText, tyText, conText, setText}
 use Rattle.sheets.specs.Lengths.{ty-short, set-fits}
 use Rattle.spelling.specs.Puts.{Put, nothing, after}
 use Rattle.text.specs.Types.{name_of, isGood, TypeAt, PutType, EndOf, held-short}

@@ -8,14 +8,13 @@ use mathlib.Core.List.{List, [], ◌∷◌, ◌++◌, append_assoc}
 use native.Mathlib.Omega.{arith}
 use Rattle.std.proofs.Math.ListN.{get_or, length-append}
 use Rattle.rules.specs.Names.{Bytes, table_of, numbersOf, is_held}
-use Rattle.rules.specs.Trees.{Product, Ty, opened, basic, dim, fn, struct, list, Tys, nil, cons, Fields, noFields, field, size, sizeTys, sizeFields, count, countFields}
-use Rattle.rules.specs.WellFormed.{goodOpen, goodTy, goodTys, goodFields, goodProduct}
-use Rattle.laws.specs.Lists.{Every, and_left, and_right}
+use Rattle.rules.specs.Trees.{Product, Ty, dim, fn, struct, list, Tys, nil, cons, Fields, noFields, field, size, sizeTys, sizeFields, count, countFields}
+use Rattle.rules.specs.WellFormed.{goodOpen, goodTy, goodTys, goodFields}
+use Rattle.laws.specs.Lists.{and_left, and_right}
 use Rattle.laws.specs.NameTable.{Good, held-is}
 use Rattle.records.specs.Views.{viewAt}
-use Rattle.records.specs.Places.{seen-in}
 use Rattle.records.specs.Holds.{openOf, basicOf, Holds, HoldsTys, HoldsFields, HoldsFactors}
-use Rattle.records.specs.ByView.{by-view, Arms, in_reach, ends-in, size-pos}
+use Rattle.records.specs.ByView.{by-view, in_reach, size-pos}
 use Rattle.records.specs.Good.{HeldOpen}
 use Rattle.records.specs.declared.Open as opens
 use Rattle.records.specs.declared.Basic as basics
@@ -26,7 +25,7 @@ use Rattle.rules.specs.TextWriting.{nameText, openText, basicText, dimensionText
 use Rattle.sheets.specs.Meanings as Meanings
 use Rattle.sheets.specs.Lengths.{ty-short, types-short, parameters-short, fields-short, name-short}
 use Rattle.spelling.specs.Puts.{Put, nothing, after}
-use Rattle.text.specs.Factors.{Factors, Named}
+use Rattle.text.specs.Factors.{Factors}
 
 -- what stands between types, and in front of the first
 abbrev pub comma : Bool → Bytes

@@ -1,5 +1,5 @@
 -- What the call answers, from the lines that were put. Assumes nothing.
-use Rattle.std.specs.Prelude.{◌≡◌, Bool, false, ◌&&◌, ℕ, ◌+◌, ◌*◌, ◌/◌, ◌≤◌, ◌<◌, ◌^◌, drop}
+use Rattle.std.specs.Prelude.{◌≡◌, Bool, false, ◌&&◌, ℕ, ◌+◌, ◌/◌, ◌≤◌, ◌<◌, drop}
 use Rattle.std.proofs.Math.Path.{refl}
 use Rattle.std.proofs.Common.{sym, ap, ◌∙◌, zero-add, arith}
 use Rattle.std.proofs.Math.Bool.{true}
@@ -12,7 +12,7 @@ use Rattle.rules.specs.Base.{Got, got, refused, ◌>>=◌, ◌>>◌, need, all, 
 use Rattle.rules.specs.Names.{Bytes, table_of, numbersOf, is_held, lentTable}
 use Rattle.rules.specs.Trees.{Con, sizeCon}
 use Rattle.rules.specs.WellFormed.{goodCon}
-use Rattle.rules.specs.Calls.{Listed, listing, resultAfter, over, aloneGiven, shortLists, tableKept, setGiven, setCall}
+use Rattle.rules.specs.Calls.{listing, resultAfter, over, aloneGiven, shortLists, tableKept, setGiven, setCall}
 use Rattle.laws.specs.Checks.{passed, need-passed}
 use Rattle.laws.specs.Lists.{clash, and_left}
 use Rattle.laws.specs.NameTable.{Good}
@@ -21,7 +21,6 @@ use Rattle.records.specs.Good.{Chain, GoodCon}
 use Rattle.records.specs.Whole.{entry-good, set_is}
 use Rattle.sheets.specs.Lengths.{set-fits}
 use Rattle.rules.specs.TextWriting.{setText, text_of, writeTextCall, namesIn}
-use Rattle.spelling.specs.Puts.{Put}
 use Rattle.text.specs.Lines.{LinesAt, PutLines}
 
 -- ══ A row of checks ══

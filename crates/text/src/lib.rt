@@ -1,4 +1,6 @@
 // Sheets as text: a set of constraints as lines, written and read.
+#![tactic(auto)]
+
 pub mod inner;
 
 ghost use Rattle.std.specs.Prelude.{◌≡◌};
@@ -20,7 +22,7 @@ use sheet_reading::inner::read_given;
 pub const TEXT_BYTES: usize = 354304;
 
 // How many bytes were written, or why none were.
-#[derive(Drop)]
+#[derive(Clone, Copy)]
 pub enum Answer {
     Bytes(usize),
     Refused(Refusal),
