@@ -1,11 +1,16 @@
 // Rescues damaged set files. Its arguments are a name table file (8,192 bytes of pool, then 257 words, low byte first) and pairs of a set file and
 // the file to write. It writes what is kept, and prints how many records that are and each place that was skipped.
-ghost use Rattle.std.specs.Prelude.{◌≤◌, length};
+#![tactic(auto)]
 
-use libc::STDOUT_FILENO;
-use rescue::inner::fill;
-use rescue::{Answer, Counts, rescue};
+ghost use Rattle.std.specs.Prelude.{◌≤◌, length, IfOk};
+
+use anyhow::{Context, Result, bail};
+use filling::fill;
+use rescue::{Answer, Counts, inner, rescue};
 use rules::{POOL_BYTES, RECORDS, TABLE_WORDS};
+use std::process::ExitCode;
+use std::rt::Files;
+use std::{env, fs, io};
 
 // The pool and the table.
 const NAMES_BYTES: usize = 9220;
@@ -17,26 +22,12 @@ const KEPT_BYTES: usize = 32768;
 
 const PLACES: usize = 2049;
 
-// At most this many arguments are looked at: a loop has to end.
-const ARGUMENTS: usize = 1000000;
-
-// Opens the file that an argument names, to read or to write, or says why it can't.
-fn open(i: usize, writing: bool) -> i32 {
-    let mut path = io::buffer();
-    let n = os::arg(i, &mut path);
-    if os::errno() != 0 {
-        os::fail(b"argument");
-        return -1;
-    }
-    let fd = if writing {
-        os::open_overwrite(&path[..n])
-    } else {
-        os::open_read(&path[..n])
-    };
-    if fd < 0 {
-        os::fail(&path[..n]);
-    }
-    fd
+// The front of a file, as far as the buffer goes. How many bytes are it?
+fn read_front(files: &impl Files, path: &str, buf: &mut [u8]) -> io::Result<usize>
+    ensures { IfOk result (λ n. n ≤ length buf.new) }
+{
+    let mut file = fs::open(files, path)?;
+    fill(&mut file, buf)
 }
 
 fn least(a: usize, b: usize) -> usize
@@ -45,83 +36,98 @@ fn least(a: usize, b: usize) -> usize
     if a < b { a } else { b }
 }
 
-// A number and what it counts.
-fn line(n: u64, what: &[u8]) {
-    io::print_decimal(STDOUT_FILENO, n);
-    io::write_all(STDOUT_FILENO, what);
-}
-
-fn wide(x: u32) -> u64 {
-    x as u64
-}
-
 // The first m places, each on a line.
-fn print_places(skipped: &[u32], m: usize)
+fn print_places(rt: &impl Print, skipped: &[u32], m: usize) -> io::Result<()>
     requires { m ≤ length skipped.now }
 {
-    let mut j = 0;
-    while j < m {
-        line(wide(skipped[j]), b"\n");
-        j += 1;
+    for place in &skipped[..m] {
+        println!(rt; "{place}")?;
     }
+    Ok(())
 }
 
-// Writes what is kept to the file that an argument names, and prints the counts and the places.
-fn tell(i: usize, kept: &[u8], skipped: &[u32], c: Counts) {
-    let fd = open(i, true);
-    if fd < 0 {
-        return;
-    }
+// Writes what is kept to a file, and prints the counts and the places.
+fn tell<R: Files + Print>(
+    rt: &R,
+    to: Option<&String>,
+    kept: &[u8],
+    skipped: &[u32],
+    c: Counts,
+) -> Result<()> {
+    let Some(path) = to else {
+        bail!("no file to write is named");
+    };
     let n = least(least(c.kept, RECORDS) * 16, kept.len());
-    io::write_all(fd, &kept[0..n]);
-    libc::close(fd);
-    line(c.kept as u64, b" records kept\n");
-    line(c.skipped as u64, b" places skipped\n");
-    print_places(skipped, least(c.skipped, skipped.len()));
+    fs::write(rt, path.as_str(), &kept[..n]).context(format_args!("{path}"))?;
+    println!(rt; "{} records kept", c.kept)?;
+    println!(rt; "{} places skipped", c.skipped)?;
+    print_places(rt, skipped, least(c.skipped, skipped.len()))?;
+    Ok(())
 }
 
-// Rescues the file that an argument names, and writes what is kept to the next.
-fn rescue_one(i: usize, pool: &[u8], table: &[u32])
-    requires { i ≤ 1000000 }
-{
-    let fd = open(i, false);
-    if fd < 0 {
-        return;
-    }
+// Rescues a file, and writes what is kept to the next.
+fn rescue_one<R: Files + Print>(
+    rt: &R,
+    from: &str,
+    to: Option<&String>,
+    pool: &[u8],
+    table: &[u32],
+) -> Result<()> {
     let mut file = [0u8; FILE_BYTES];
-    let n = io::read_full(fd, &mut file);
-    libc::close(fd);
+    let n = read_front(rt, from, &mut file).context(format_args!("{from}"))?;
     let mut kept = [0u8; KEPT_BYTES];
     let mut skipped = [0u32; PLACES];
     match rescue(pool, table, &file[..n], &mut kept, &mut skipped) {
-        Answer::Rescued(c) => tell(i + 1, &kept, &skipped, c),
-        Answer::Refused(r) => line(r.number() as u64, b" is the refusal\n"),
+        Answer::Rescued(c) => tell(rt, to, &kept, &skipped, c)?,
+        Answer::Refused(r) => println!(rt; "{} is the refusal", r.number())?,
     }
+    Ok(())
 }
 
-// Rescues each file that the arguments name.
-fn rescue_all(pool: &[u8], table: &[u32]) {
-    let count = least(os::arg_count(), ARGUMENTS);
-    let mut i = 2;
-    while i < count {
-        rescue_one(i, pool, table);
-        i += 2;
+// Rescues each file that the arguments name. One that can't be read, or whose file can't be written, is said and passed over. Was there none?
+fn rescue_all<R: Files + Print + Eprint>(
+    rt: &R,
+    paths: &[String],
+    pool: &[u8],
+    table: &[u32],
+) -> Result<bool> {
+    let mut good = true;
+    for pair in paths.chunks(2) {
+        let Some(from) = pair.first() else {
+            continue;
+        };
+        if let Err(error) = rescue_one(rt, from.as_str(), pair.get(1), pool, table) {
+            eprintln!(rt; "{error:#}")?;
+            good = false;
+        }
     }
+    Ok(good)
 }
 
-fn main() {
-    let fd = open(1, false);
-    if fd < 0 {
-        return;
-    }
-    let mut names = [0u8; NAMES_BYTES];
-    let n = io::read_full(fd, &mut names);
-    libc::close(fd);
-    if n < NAMES_BYTES {
-        io::write_all(libc::STDERR_FILENO, b"the name table is short\n");
-        return;
-    }
+// The same, with the table still to be taken from behind the pool.
+fn rescue_named<R: Files + Print + Eprint>(rt: &R, paths: &[String], names: &[u8]) -> Result<bool>
+    requires { 8192 ≤ length names.now }
+{
     let mut table = [0u32; TABLE_WORDS];
-    fill(&names[POOL_BYTES..NAMES_BYTES], &mut table);
-    rescue_all(&names[0..POOL_BYTES], &table);
+    inner::fill(&names[POOL_BYTES..], &mut table);
+    rescue_all(rt, paths, &names[..POOL_BYTES], &table)
+}
+
+fn main(rt: HostRuntime) -> Result<ExitCode> {
+    let alloc = rt.alloc();
+    let mut arguments = env::args(&rt)?.skip(1);
+    let Some(path) = arguments.next() else {
+        bail!("no name table is named");
+    };
+    let paths = arguments.collect::<Vec<String>>(alloc)?;
+    let mut names = [0u8; NAMES_BYTES];
+    let n = read_front(&rt, path.as_str(), &mut names).context(format_args!("{path}"))?;
+    if n < NAMES_BYTES {
+        bail!("the name table is short");
+    }
+    if rescue_named(&rt, &paths, &names)? {
+        Ok(ExitCode::SUCCESS)
+    } else {
+        Ok(ExitCode::FAILURE)
+    }
 }
