@@ -1,4 +1,6 @@
 // What is told of the sheets of an edition: bytes as they are shown, refusals in words, a refused line with a mark.
+#![tactic(auto)]
+
 pub mod inner;
 
 ghost use Rattle.std.specs.Prelude.{◌≡◌, ◌&&◌, leb, ltb};
