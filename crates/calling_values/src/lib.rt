@@ -1,4 +1,6 @@
 // The calls on exponents and products by their numbers, 5 to 12. Both pass by value.
+#![tactic(auto)]
+
 pub mod inner;
 
 ghost use Rattle.std.specs.Prelude.{◌≡◌};
