@@ -1,4 +1,6 @@
 // Products for callers that lend them as words: four for each factor.
+#![tactic(auto)]
+
 pub mod inner;
 
 ghost use Rattle.std.specs.Prelude.{◌≡◌};

@@ -1,0 +1,7 @@
+-- `inner::factor_at` meets its contract. Assumes nothing.
+use Rattle.factors.specs.Factors.{factorAt}
+use Rattle.factors.proofs.inner.factor_at.Goals as goal
+
+pub returns : goal.returns
+unfolding factorAt
+returns c = cc
