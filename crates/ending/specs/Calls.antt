@@ -10,7 +10,7 @@ use Rattle.rules.specs.Trees.{Con, opensCon}
 use Rattle.rules.specs.Names.{Table, table_of, tableGood, numbersOf, is_held, lentTable}
 use Rattle.rules.specs.Contents.{unmixed}
 use Rattle.rules.specs.WellFormed.{goodCon}
-use Rattle.rules.specs.Writing.{words, writeCon}
+use Rattle.rules.specs.Writing.{writeCon}
 use Rattle.rules.specs.Reading.{readCon, read_all, records}
 use Rattle.rules.specs.Solving.{Answer, accepted, remaining, stopped, solve}
 use Rattle.rules.specs.Calls.{lent, lentResult, lentWork, shortLists, listGiven, tableKept, setGiven, apart, aloneGiven, Solved, solved, unsolved, refusedAfter, solvedOf, solvedSet, solveCall}

@@ -5,7 +5,7 @@ use Rattle.std.proofs.Common.{◌∙◌}
 use mathlib.Core.List.{List, [], ◌∷◌, Memᴰ}
 use native.Mathlib.Omega.{arith}
 use Rattle.rules.specs.Base.{bounded, all, collect, sum_of}
-use Rattle.rules.specs.Trees.{Open, var, quant, par, Names, cons, Con, equal, isDim, is_scalar, hasField, Binding, orderAtom, opens, opensCon, sizeCon}
+use Rattle.rules.specs.Trees.{Open, var, quant, par, Names, Con, equal, isDim, is_scalar, hasField, Binding, orderAtom, opens, opensCon, sizeCon}
 use Rattle.rules.specs.Contents.{variablesIn}
 use Rattle.rules.specs.WellFormed.{goodTy, goodCon, goodOpen}
 use Rattle.rules.specs.Ceiling.{variablesOf}

@@ -4,7 +4,7 @@ use Rattle.std.specs.Prelude.{◌≡◌, refl, true, not, List, [], ◌∷◌, �
 use Rattle.std.proofs.Common.{ap, ◌∙◌, sym, arith, eq-eqb}
 use Rattle.std.proofs.Math.Path.{subst}
 use Rattle.std.proofs.Math.Option.{Option, none, some}
-use Rattle.rules.specs.Base.{Got, got, ◌>>◌, need, orRefuse, and_then, any, all, each}
+use Rattle.rules.specs.Base.{Got, got, need, orRefuse, and_then, any, all, each}
 use Rattle.rules.specs.Exponents.{frac, goodExp}
 use Rattle.rules.specs.Trees.{Ty}
 use Rattle.rules.specs.Contents.{closed}

@@ -10,7 +10,6 @@ use Rattle.rules.specs.Base.{exact, collect}
 use Rattle.rules.specs.Exponents.{Exp, one, neg, isZero}
 use Rattle.rules.specs.Trees.{var, Atom, free, ◌↑◌, Product, Names, Ty, basic, dim, boolean, Con, equal, isDim, orderAtom, opens}
 use Rattle.rules.specs.Views.{productOf}
-use Rattle.rules.specs.Contents.{closed}
 use Rattle.rules.specs.Plain.{plain}
 use Rattle.rules.specs.Products.{put, inverse, multiply, divide, raise}
 use Rattle.rules.specs.Meaning.{means}

@@ -7,7 +7,7 @@ use Rattle.std.proofs.Math.Option.{Option, none, some}
 use Rattle.std.proofs.lemmas.List.{map-append}
 use Rattle.rules.specs.Base.{bounded, is_none, collect, sum_of}
 use Rattle.rules.specs.Trees.{Names, Ty, Tys, Con, equal, isDim, is_scalar, hasField, openOfFactor, sizeCon}
-use Rattle.rules.specs.Views.{openOf, asPower, fn_of, kind}
+use Rattle.rules.specs.Views.{openOf, asPower, fn_of}
 use Rattle.rules.specs.Contents.{closed, variablesIn}
 use Rattle.rules.specs.Adding.{Added, satisfied, violated, unknown, countsDiffer, solid, kindsDiffer, addEqual, addDim, addTest, stored, add}
 use Rattle.rules.specs.Offices.{Keeps, mapOpen, mapTy, mapCon, mapOption}

@@ -5,7 +5,7 @@ use Rattle.std.proofs.Math.Path.{refl, ap}
 use Rattle.std.proofs.Common.{ap₂, sym, ◌∙◌, arith, leb-true, length-append, length-take-le}
 use mathlib.Core.List.{List, [], ◌∷◌, ◌++◌, append_assoc}
 use Rattle.std.proofs.Math.ListN.{length}
-use Rattle.rules.specs.Base.{Got, got, refused, ◌>>=◌, ◌>>◌, need, sum_of}
+use Rattle.rules.specs.Base.{Got, got, refused, ◌>>◌, need, sum_of}
 use Rattle.rules.specs.Trees.{Con, sizeCon}
 use Rattle.rules.specs.Names.{Table, table_of, lentTable}
 use Rattle.rules.specs.Adding.{Added, satisfied, violated, unknown, add}

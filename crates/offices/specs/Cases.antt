@@ -1,6 +1,6 @@
 -- Small histories by computation: what one office may not rely on, so that the exceptions in the promise are needed.
 -- Assumes nothing.
-use Rattle.std.specs.Prelude.{◌≡◌, refl, Bool, true, false, List, [], ◌∷◌, ◌++◌, map, ℕ, zero, suc, replicate, take}
+use Rattle.std.specs.Prelude.{◌≡◌, refl, List, [], ◌∷◌, ◌++◌, map, ℕ, zero, suc, replicate, take}
 use Rattle.rules.specs.Base.{Got, got, refused}
 use Rattle.rules.specs.Names.{Bytes, enter}
 use Rattle.rules.specs.declared.Was.{Was}

@@ -6,7 +6,7 @@ use Rattle.std.proofs.Common.{ap₂, sym, ◌∙◌, arith}
 use mathlib.Core.List.{List, [], ◌∷◌, ◌++◌, map, map-append}
 use borrow.Author.Tests.{le-leb, ltb-true}
 use Rattle.std.proofs.lemmas.List.{length-map}
-use Rattle.rules.specs.Base.{Got, got, ◌>>=◌, ◌>>◌, need, orRefuse, all, collect}
+use Rattle.rules.specs.Base.{Got, got, ◌>>◌, need, orRefuse, all, collect}
 use Rattle.rules.specs.Trees.{Open, var, quant, par, Ty, Con, Binding, opens, opensCon}
 use Rattle.rules.specs.Names.{Table, table_of, numbersOf, is_held, lentTable}
 use Rattle.rules.specs.Contents.{unmixed}

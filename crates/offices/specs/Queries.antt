@@ -4,7 +4,7 @@ use Rattle.std.specs.Prelude.{◌≡◌, refl, Bool, List, [], ◌∷◌, ℕ}
 use Rattle.std.proofs.Math.Path.{ap}
 use Rattle.std.proofs.Common.{ap₂, sym, ◌∙◌}
 use Rattle.std.proofs.Math.ListN.{length}
-use Rattle.rules.specs.Base.{◌>>=◌, ◌>>◌}
+use Rattle.rules.specs.Base.{◌>>◌}
 use Rattle.rules.specs.Trees.{Ty, opens}
 use Rattle.rules.specs.Names.{Table, table_of, numbersOf, lentTable}
 use Rattle.rules.specs.Contents.{closed, containsName, variables}

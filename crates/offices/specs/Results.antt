@@ -4,7 +4,7 @@ use Rattle.std.specs.Prelude.{◌≡◌, List, [], ◌∷◌, ◌++◌, map, ℕ
 use Rattle.std.proofs.Math.Path.{refl, ap, sym}
 use Rattle.std.proofs.Common.{ap₂, ◌∙◌, arith}
 use Rattle.std.proofs.Math.ListN.{length, length-map}
-use Rattle.rules.specs.Base.{Got, got, refused, ◌>>=◌, ◌>>◌}
+use Rattle.rules.specs.Base.{Got, got, refused}
 use Rattle.rules.specs.Names.{Table}
 use Rattle.rules.specs.Writing.{Rec, words}
 use Rattle.rules.specs.Calls.{over, resultAfter, writing, listing}

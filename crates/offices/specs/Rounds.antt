@@ -6,7 +6,7 @@ use Rattle.std.proofs.Math.Bool.{true, false}
 use Rattle.std.proofs.Math.Option.{Option, none, some}
 use mathlib.Core.List.{List, [], ◌∷◌, ◌++◌, map, map-append}
 use Rattle.std.proofs.Math.Dec.{eqb}
-use Rattle.rules.specs.Base.{Got, ◌>>=◌, Limits, is_yes, ◌or_else◌, only_if, collect}
+use Rattle.rules.specs.Base.{Got, Limits, is_yes, ◌or_else◌, only_if, collect}
 use Rattle.rules.specs.Exponents.{Exp, neg, quotient}
 use Rattle.rules.specs.Trees.{Open, var, quant, par, free, base, Factor, ◌↑◌, Product, Names, Ty, opened, basic, dim, fn}
 use Rattle.rules.specs.Trees.{struct, list, Tys, nil, cons, Fields, Con, equal, isDim, is_scalar, hasField, Binding, ◌≔◌, ty-dec, count, openOfFactor}

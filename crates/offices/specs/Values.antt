@@ -4,7 +4,7 @@ use Rattle.std.specs.Prelude.{◌≡◌, Bool, true, false, ℕ, get_or}
 use Rattle.std.proofs.Math.Path.{refl, ap, sym}
 use Rattle.std.proofs.Common.{ap₂, ◌∙◌}
 use mathlib.Core.List.{List, [], map}
-use Rattle.rules.specs.Base.{Got, got, refused, ◌>>=◌, ◌>>◌, need, bounded}
+use Rattle.rules.specs.Base.{Got, got, refused, ◌>>◌, need, bounded}
 use Rattle.rules.specs.Exponents.{Exp, goodExp}
 use Rattle.rules.specs.Trees.{Product}
 use Rattle.rules.specs.Names.{Bytes, Table, table_of, names_of, numbersOf, is_held, tableGiven, nameAsked}

@@ -1,1 +1,3 @@
+#![tactic(auto)]
+
 // Theorems about two offices that share one table of names stand in specs/; there is no code.

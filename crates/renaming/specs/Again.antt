@@ -1,7 +1,7 @@
 -- Instantiating what quantifying gave, with the same names, gives the type back, with single variables read as variables. Assumes nothing.
 use Rattle.std.proofs.Math.Path.{◌≡◌, refl, sym, ap}
 use Rattle.std.proofs.Common.{◌∙◌}
-use Rattle.std.specs.Prelude.{Bool, ◌⊎◌, eqb}
+use Rattle.std.specs.Prelude.{Bool, ◌⊎◌}
 use Rattle.std.proofs.Math.Bool.{true, false}
 use Rattle.std.proofs.Math.Option.{Option, none, some}
 use Rattle.std.proofs.Math.Logic.{inl, inr}
@@ -11,7 +11,7 @@ use native.Mathlib.Omega.{arith}
 use Rattle.std.proofs.Math.Decide.{dec_le}
 use borrow.Author.Tests.{eq-eqb}
 use Rattle.std.proofs.Math.ListN.{length, get_elem?}
-use Rattle.rules.specs.Base.{got, refused, bounded, is_yes, and_then, sized}
+use Rattle.rules.specs.Base.{got, bounded, is_yes, and_then, sized}
 use Rattle.rules.specs.Trees.{Open, var, quant, par, Names, Ty, opened, orderAtom, opens, size, depth}
 use Rattle.rules.specs.Contents.{unmixed}
 use Rattle.rules.specs.Products.{just}

@@ -1,7 +1,7 @@
 -- Which open names occur in a type after replacing by any look. Assumes nothing.
 use Rattle.std.specs.Prelude.{◌≡◌, refl, Bool, true, ◌&&◌, ◌⊎◌, ℕ}
 use Rattle.std.proofs.Math.Path.{sym}
-use Rattle.std.proofs.Common.{ap, ◌∙◌, inl, inr}
+use Rattle.std.proofs.Common.{◌∙◌, inl, inr}
 use Rattle.std.proofs.Math.Option.{Option, none, some, get_or}
 use mathlib.Core.List.Memᴰ
 use Rattle.rules.specs.Base.{got, bounded, exact, collect}

@@ -11,7 +11,7 @@ use native.Mathlib.Omega.{arith}
 use Rattle.rules.specs.Base.{got, ◌>>=◌, bounded, within}
 use Rattle.rules.specs.Exponents.{Exp, neg, goodStored, isZero, sum}
 use Rattle.rules.specs.Trees.{Open, var, quant, Atom, free, base, Factor, ◌↑◌, Product, Names, Ty, opened, basic, dim, fn, struct, list, Tys, nil, cons, Fields, noFields, field, orderOpen, orderAtom, size, sizeTys, sizeFields}
-use Rattle.rules.specs.Products.{put, just, single, inverse, mergeOne, merge, multiply, divide, raise}
+use Rattle.rules.specs.Products.{put, just, single, inverse, mergeOne, merge, multiply, divide}
 use Rattle.rules.specs.Replacing.{asProduct, replaceFactors, replaceProduct, replaceDim, replaceTy, replaceTys, replaceFields}
 use Rattle.rules.specs.Schemes.{renamed, back}
 use Rattle.rules.specs.WellFormed.{atomOf, goodProduct, goodTy, goodTys, goodFields}

@@ -1,10 +1,10 @@
 -- A set that passed the checks at entry: its constraints are well formed, nested at most 64 deep, and written they are its words again.
 -- Assumes nothing.
-use Rattle.std.specs.Prelude.{◌≡◌, refl, Bool, true, false, ◌&&◌, List, [], ◌∷◌, ℕ, zero, suc, ◌+◌, ◌*◌, ◌≤◌, max, leb, length}
+use Rattle.std.specs.Prelude.{◌≡◌, refl, true, ◌&&◌, List, [], ◌∷◌, ℕ, zero, suc, ◌*◌, ◌≤◌, leb, length}
 use Rattle.std.proofs.Common.{sym, ap, ◌∙◌, arith, leb-true}
 use Rattle.std.proofs.Math.Option.{Option, none, some}
-use Rattle.rules.specs.Base.{Got, got, refused, ◌>>=◌, ◌>>◌, need, orRefuse, all, collect, sum_of}
-use Rattle.rules.specs.Trees.{Con, equal, isDim, is_scalar, hasField, sizeCon, depthCon}
+use Rattle.rules.specs.Base.{got, ◌>>◌, need, orRefuse, all, collect, sum_of}
+use Rattle.rules.specs.Trees.{Con, sizeCon, depthCon}
 use Rattle.rules.specs.Names.{table_of, tableGood, numbersOf, is_held, lentTable}
 use Rattle.rules.specs.WellFormed.{goodCon}
 use Rattle.rules.specs.Writing.{Rec, rec, kindIn, lengthIn, words, writeCon}

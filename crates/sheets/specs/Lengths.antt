@@ -1,22 +1,20 @@
 -- What is written of a set has at most 173 bytes a record, and no line feed but those that end its lines.
 -- Assumes nothing.
-use Rattle.std.specs.Prelude.{◌≡◌, Bool, true, false, not, ◌&&◌, ℕ, zero, suc, ◌+◌, ◌-◌, ◌*◌, ◌/◌, ◌%◌, ◌≤◌, ◌<◌, leb, ltb, eqb, ℤ, pos, negsuc, length}
+use Rattle.std.specs.Prelude.{◌≡◌, Bool, true, false, not, ◌&&◌, ℕ, zero, suc, ◌+◌, ◌-◌, ◌*◌, ◌/◌, ◌%◌, ◌≤◌, ltb, eqb, ℤ, pos, negsuc, length}
 use Rattle.std.proofs.Math.Path.{refl}
-use Rattle.std.proofs.Common.{ap, ◌∙◌}
 use mathlib.Core.List.{List, [], ◌∷◌, ◌++◌}
 use native.Mathlib.Omega.{arith}
-use borrow.Author.Tests.{leb-true, ltb-true, ltb-false, ne_eqb}
+use borrow.Author.Tests.{ltb-true, ne_eqb}
 use Rattle.std.proofs.Math.ListN.{length-append}
 use Rattle.rules.specs.Base.{all, collect, is_yes, sum_of}
 use Rattle.rules.specs.Exponents.{Exp, frac, one, Exp-dec}
-use Rattle.rules.specs.Trees.{var, quant, par, free, base, Factor, ◌↑◌, Product, Basic, boolean, string, datetime, Ty, opened, basic, dim, fn, struct, list, Tys, nil, cons, Fields, noFields, field, Con, equal, isDim, is_scalar, hasField, size, sizeTys, sizeFields, sizeCon}
+use Rattle.rules.specs.Trees.{var, quant, par, free, base, Factor, ◌↑◌, Product, boolean, string, datetime, Ty, opened, basic, dim, fn, struct, list, Tys, nil, cons, Fields, noFields, field, Con, equal, isDim, is_scalar, hasField, size, sizeTys, sizeFields, sizeCon}
 use Rattle.rules.specs.Names.{Bytes, table_of, numbersOf, is_held}
 use Rattle.rules.specs.WellFormed.{goodOpen, goodFactor, goodProduct, goodTy, goodTys, goodFields, goodCon}
-use Rattle.laws.specs.Lists.{Every, every_append, and_left, and_right, all-is, all-every, not-true}
+use Rattle.laws.specs.Lists.{Every, every_append, and_left, and_right, not-true}
 use Rattle.laws.specs.NameTable.{Good}
 use Rattle.rules.specs.Grammar.{ascii, is_plain, isDigit}
-use Rattle.rules.specs.TextWriting.{hexDigit, escaped, nameText, decimal, numeratorText, denominatorText, powerText, openText, factorText, moreFactorsText, factorsText, dimensionText, basicText, tyText, tysText, moreTysText, argumentsText, fieldsText, moreFieldsText, conText, setText}
-use Rattle.sheets.specs.Spelling.{IsByte}
+use Rattle.rules.specs.TextWriting.{hexDigit, escaped, nameText, decimal, numeratorText, denominatorText, powerText, openText, factorText, moreFactorsText, factorsText, dimensionText, tyText, tysText, moreTysText, argumentsText, fieldsText, moreFieldsText, conText, setText}
 use Rattle.sheets.specs.Meanings
 use Rattle.sheets.specs.TypesBack.{plain-no}
 

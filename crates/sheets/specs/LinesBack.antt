@@ -1,13 +1,13 @@
 -- Every written line is read back as its constraint.
 -- Assumes nothing.
-use Rattle.std.specs.Prelude.{◌≡◌, Bool, true, false, ◌&&◌, List, [], ◌∷◌, ◌++◌, ℕ, suc, ◌+◌, ◌≤◌, max, ltb}
+use Rattle.std.specs.Prelude.{◌≡◌, Bool, true, ◌&&◌, List, [], ◌∷◌, ◌++◌, ℕ, suc, ◌+◌, ◌≤◌}
 use Rattle.std.proofs.Math.Path.{refl}
-use Rattle.std.proofs.Common.{sym, ap, ◌∙◌, append_assoc, append-nil, arith}
-use Rattle.std.proofs.Math.Option.{Option, none, some}
+use Rattle.std.proofs.Common.{append-nil, arith}
+use Rattle.std.proofs.Math.Option.{Option, some}
 use borrow.Author.Tests.{ltb-true}
 use Rattle.rules.specs.Trees.{var, quant, par, boolean, string, datetime, Product, Ty, opened, basic, dim, fn, struct, list, Con, equal, isDim, is_scalar, hasField, sizeCon, depth, depthCon}
 use Rattle.rules.specs.Names.{Bytes, table_of, numbersOf, is_held}
-use Rattle.rules.specs.WellFormed.{goodOpen, goodTy, goodCon, goodProduct}
+use Rattle.rules.specs.WellFormed.{goodOpen, goodTy, goodCon}
 use Rattle.laws.specs.Lists.{Every, and_left, and_right}
 use Rattle.laws.specs.NameTable.{Good}
 use Rattle.rules.specs.Grammar.{here, Parsed, read, pass, give, ◌>>◌, isBlank, is_plain, isDigit, skipFrom, skip, spellFrom, spell, ended, nameFrom, type, TyAt, typed, constraint, signsAt, line, ConAt, isDimAt, equalAt}
@@ -16,8 +16,8 @@ use Rattle.rules.specs.TextReading.{told, meant, lineRead}
 use Rattle.rules.specs.TextWriting.{nameText, openText, dimensionText, tyText, conText}
 use Rattle.sheets.specs.Spelling.{Finds, found, then, IsByte}
 use Rattle.sheets.specs.Meanings
-use Rattle.sheets.specs.ReadBack.{Stops, as', blank-type, name-found, Dimension, dimension-found}
-use Rattle.sheets.specs.TypesBack.{paren-stops, TyFound, ty-found, begins-dimension}
+use Rattle.sheets.specs.ReadBack.{Stops, as', blank-type, name-found, dimension-found}
+use Rattle.sheets.specs.TypesBack.{paren-stops, ty-found, begins-dimension}
 
 -- ══ What follows a type in a line ══
 

@@ -1,6 +1,6 @@
 -- What was read of a written line means what was written: names are known, powers are reduced, factors come in order, and only records are counted.
 -- Assumes nothing.
-use Rattle.std.specs.Prelude.{◌≡◌, Bool, true, false, not, ◌&&◌, leb, ℤ, nat_abs, length, get_or, take, drop}
+use Rattle.std.specs.Prelude.{◌≡◌, true, not, ◌&&◌, ℤ, length, get_or, take, drop}
 use Rattle.std.proofs.Math.Path.{refl, ap}
 use Rattle.std.proofs.Common.{sym, ◌∙◌, arith}
 use mathlib.Core.List.{List, [], ◌∷◌, ◌++◌, append_assoc, append-nil, map}
@@ -8,21 +8,21 @@ use Rattle.std.proofs.Math.Option.{Option, none, some}
 use Prim.Native.Nat.{ℕ, zero, suc, ◌+◌, ◌-◌, ◌≤◌, ◌<◌, Ordering}
 use borrow.Author.Tests.{le-leb, leb-true, ltb-true}
 use Rattle.std.proofs.Math.ListN.{length-append}
-use Rattle.rules.specs.Base.{Got, got, bounded, within, need, all, is_none}
-use Rattle.rules.specs.Exponents.{Exp, frac, top, gcd, lowest, in_range, goodExp, goodStored, isZero}
-use Rattle.rules.specs.Trees.{Open, var, quant, par, Atom, free, base, Factor, ◌↑◌, Product, Names, Basic, Ty, opened, basic, dim, fn, struct, list, Tys, nil, cons, Fields, noFields, field, Con, equal, isDim, is_scalar, hasField, size, sizeTys, sizeFields, sizeCon, orderAtom}
+use Rattle.rules.specs.Base.{got, bounded, all, is_none}
+use Rattle.rules.specs.Exponents.{Exp, frac, in_range, goodExp, goodStored, isZero}
+use Rattle.rules.specs.Trees.{Open, Atom, Factor, ◌↑◌, Product, Names, Basic, Ty, opened, basic, dim, fn, struct, list, Tys, nil, cons, Fields, noFields, field, Con, equal, isDim, is_scalar, hasField, size, sizeTys, sizeFields, sizeCon, orderAtom}
 use Rattle.rules.specs.Products.{put, mergeOne, merge, multiply}
 use Rattle.rules.specs.Names.{Bytes, names_of, table_of, numbersOf, is_held, number_of, unchanged, enterChecked, enterKnown}
 use Rattle.rules.specs.WellFormed.{is_lt, atomOf, rising, goodFactor, goodProduct}
-use Rattle.rules.specs.declared.Was.TheVariants.{New, Known}
-use Rattle.laws.specs.Lists.{Every, every_append, every-left, every-right, and_left, and_right, not-true, all-is, all-every}
-use Rattle.laws.specs.NameTable.{Good, good-laid, Placed, placed, part_of, name-is, part_length, length-names, held-is, start_at, Found, search-none, search-any, search-found, distinct-same, good-distinct}
-use Rattle.laws.specs.Fractions.{Terms, lowest-terms}
+use Rattle.rules.specs.declared.Was.TheVariants.{Known}
+use Rattle.laws.specs.Lists.{Every, every-right, and_left, and_right, not-true, all-is, all-every}
+use Rattle.laws.specs.NameTable.{Good, good-laid, placed, name-is, part_length, length-names, held-is, start_at, search-none, search-any, search-found, distinct-same, good-distinct}
+use Rattle.laws.specs.Fractions.{lowest-terms}
 use Rattle.laws.specs.Ranges.{good-lowest}
-use Rattle.laws.specs.Sorted.{Before, Sorted, sorted}
+use Rattle.laws.specs.Sorted.{Sorted, sorted}
 use Rattle.laws.specs.ByteOrder.{numbered-lawful, atom-lawful}
 use Rattle.rules.specs.Grammar.{NameAt, PowerAt, FactorAt, TyAt, open_at, basicAt, dimAt, fn_at, listAt, struct_at, TysAt, nilAt, consAt, FieldsAt, noneAt, field_at, ConAt, equalAt, isDimAt, isScalarAt, hasFieldAt}
-use Rattle.rules.specs.TextReading.{Sofar, Told, told, counted, enterName, named, openNamed, atomNamed, powerOf, multiplied, factorsOf, productOf, rises, ty_of, tys_of, fields_of, conOf}
+use Rattle.rules.specs.TextReading.{Sofar, told, counted, enterName, named, openNamed, atomNamed, powerOf, multiplied, factorsOf, productOf, rises, ty_of, tys_of, fields_of, conOf}
 use Rattle.rules.specs.TextWriting.{namesIn}
 use Rattle.sheets.specs.Spelling.{IsByte, IsPower}
 

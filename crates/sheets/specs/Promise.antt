@@ -1,7 +1,7 @@
 -- What W-202 promises, of the definitions: every well formed set is written, in 173 bytes a record, and read back to the same records;
 -- a refused sheet changes nothing; the first bad line is told, and nothing behind it is looked at.
 -- Assumes nothing.
-use Rattle.std.specs.Prelude.{◌≡◌, Bool, true, false, ◌&&◌, ℕ, zero, suc, ◌+◌, ◌*◌, ◌/◌, ◌≤◌, leb, eqb, take, drop, replicate}
+use Rattle.std.specs.Prelude.{◌≡◌, Bool, true, false, ℕ, suc, ◌+◌, ◌*◌, ◌/◌, ◌≤◌, eqb, take, drop, replicate}
 use Rattle.std.proofs.Math.Path.{refl, ap}
 use Rattle.std.proofs.Common.{sym, ◌∙◌, arith, take_at}
 use mathlib.Core.List.{List, [], ◌∷◌, ◌++◌, append_assoc, append-nil}
@@ -10,15 +10,14 @@ use Rattle.std.proofs.Math.ListN.{length}
 use Rattle.rules.specs.Base.{Got, got, refused, need, all, collect, sum_of}
 use Rattle.rules.specs.Base as Base
 use Rattle.rules.specs.Trees.{Con, sizeCon}
-use Rattle.rules.specs.Names.{Bytes, table_of, tableGood, numbersOf, is_held, lentTable}
+use Rattle.rules.specs.Names.{Bytes, table_of, numbersOf, is_held, lentTable}
 use Rattle.rules.specs.WellFormed.{goodCon}
-use Rattle.rules.specs.Writing.{words, writeCon}
-use Rattle.rules.specs.Calls.{lent, lentResult, lentWork, shortLists, tableKept, setGiven, setCall, over, resultAfter, workAfter, listing}
+use Rattle.rules.specs.Calls.{lent, lentResult, lentWork, shortLists, tableKept, setCall, over, resultAfter, workAfter, listing}
 use Rattle.laws.specs.Lists.{Every, every-left, every-right, and_left, and_right}
 use Rattle.laws.specs.NameTable.{Good}
 use Rattle.laws.specs.ReadLists.{Words}
 use Rattle.rules.specs.Grammar.{lines_of, inFront, skipFrom, signsAt, line}
-use Rattle.rules.specs.TextReading.{Sofar, Told, told, refusedAt, meant, lineRead, Sheet, sheet, refusedIn, with, nextLine, lines_read, unread, sheetRead, ReadAnswer, wasRead, notRead, TextRead, handed, fromEntry, sheetGiven, readTextCall}
+use Rattle.rules.specs.TextReading.{Sofar, Told, told, refusedAt, meant, lineRead, Sheet, sheet, refusedIn, with, nextLine, lines_read, unread, sheetRead, wasRead, notRead, TextRead, handed, fromEntry, sheetGiven, readTextCall}
 use Rattle.rules.specs.TextWriting.{conText, setText, namesIn, text_of, writeTextCall}
 use Rattle.sheets.specs.Spelling.{IsByte}
 use Rattle.sheets.specs.Meanings

@@ -1,27 +1,24 @@
 -- Every written line is read back: the grammar finds a tree in it that means what was written.
 -- Assumes nothing.
-use Rattle.std.specs.Prelude.{◌≡◌, Bool, not, ◌&&◌, leb, ltb, ℤ, pos, nat_abs, length, get_or}
+use Rattle.std.specs.Prelude.{◌≡◌, Bool, not, ◌&&◌, leb, ltb, ℤ, nat_abs, length}
 use Rattle.std.proofs.Math.Path.{refl, ap}
-use Rattle.std.proofs.Common.{sym, ◌∙◌}
 use Rattle.std.proofs.Math.Bool.{true, false}
-use mathlib.Core.List.{List, [], ◌∷◌, ◌++◌, append_assoc, append-nil}
-use Rattle.std.proofs.Math.Option.{Option, none, some}
-use Prim.Native.Nat.{ℕ, zero, suc, ◌+◌, ◌-◌, ◌≤◌, ◌<◌, max}
+use mathlib.Core.List.{List, [], ◌∷◌, ◌++◌, append_assoc}
+use Prim.Native.Nat.{ℕ, zero, suc, ◌≤◌}
 use native.Mathlib.Omega.{arith}
-use borrow.Author.Tests.{le-leb, leb-true, ltb-true}
+use borrow.Author.Tests.{leb-true, ltb-true}
 use Rattle.std.proofs.Math.ListN.{length-append}
 use Rattle.rules.specs.Base.{is_yes}
 use Rattle.rules.specs.Exponents.{Exp, frac, one, top, Exp-dec, in_range, goodExp, goodStored, isZero}
-use Rattle.rules.specs.Trees.{Open, var, quant, par, Atom, free, base, Factor, ◌↑◌, Product, Basic, boolean, string, datetime, Ty, opened, basic, dim, fn, struct, list, Tys, nil, cons, Fields, noFields, field, Con, equal, isDim, is_scalar, hasField, count, countFields, depth, depthTys, depthFields, depthCon}
+use Rattle.rules.specs.Trees.{var, quant, par, Atom, free, base, Factor, ◌↑◌, Product}
 use Rattle.rules.specs.Names.{Bytes, table_of, numbersOf, is_held}
-use Rattle.rules.specs.WellFormed.{goodOpen, goodFactor, goodProduct, goodTy, goodTys, goodFields, goodCon, rising, fieldNames}
-use Rattle.laws.specs.Lists.{Every, and_left, and_right, yes-is, true≢false}
-use Rattle.laws.specs.NameTable.{Good, held-is}
-use Rattle.laws.specs.Reading.{deep}
+use Rattle.rules.specs.WellFormed.{goodOpen, goodFactor}
+use Rattle.laws.specs.Lists.{Every, and_left, and_right, yes-is}
+use Rattle.laws.specs.NameTable.{Good}
 use Rattle.rules.specs.Grammar.{here, Parsed, read, Rule, pass, give, ◌>>=◌, ◌>>◌, isBlank, is_plain, isDigit, skipFrom, skip, spellFrom, spell, sign, mark, starts, ifSign, whole, nameFrom, name, NameAt, power, noPower, PowerAt, dimAt, factor, FactorAt, moreFactors, dimension, moreTys, tys, function, listed, moreFields, fields, structure, type, TyAt, nilAt, noneAt, typed, constraint, signsAt, line, ConAt}
 use Rattle.rules.specs.Grammar as G
-use Rattle.rules.specs.TextWriting.{nameText, numeratorText, denominatorText, powerText, openText, factorText, moreFactorsText, factorsText, dimensionText, tyText, tysText, moreTysText, argumentsText, fieldsText, moreFieldsText, conText}
-use Rattle.sheets.specs.Spelling.{Finds, found, then, Comes, IsByte, NameEnds, name_back, IsPower, power-back}
+use Rattle.rules.specs.TextWriting.{nameText, numeratorText, denominatorText, powerText, openText, factorText, moreFactorsText, factorsText, dimensionText}
+use Rattle.sheets.specs.Spelling.{Finds, found, then, IsByte, NameEnds, name_back, power-back}
 use Rattle.sheets.specs.Meanings
 
 -- what follows a factor: no name and no power goes on

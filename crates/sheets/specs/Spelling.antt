@@ -1,15 +1,15 @@
 -- Names and powers that were written are read back.
 -- Assumes nothing.
-use Rattle.std.specs.Prelude.{◌≡◌, refl, Bool, true, false, ◌&&◌, List, [], ◌∷◌, ◌++◌, ℕ, zero, suc, ◌+◌, ◌-◌, ◌*◌, ◌/◌, ◌%◌, ◌^◌, ◌≤◌, ◌<◌, ltb, leb, eqb, ℤ, pos, negsuc, nat_abs}
-use Rattle.std.proofs.Common.{sym, ap, ◌∙◌, append_assoc, arith, lt-ltb, le-ltb, le-leb, ltb-true, ltb-false, ne_eqb, eqb-true}
+use Rattle.std.specs.Prelude.{◌≡◌, refl, Bool, true, false, [], ◌∷◌, ◌++◌, ℕ, zero, suc, ◌+◌, ◌-◌, ◌*◌, ◌/◌, ◌%◌, ◌^◌, ◌≤◌, ◌<◌, ltb, eqb, ℤ, pos, negsuc, nat_abs}
+use Rattle.std.proofs.Common.{sym, ap, ◌∙◌, append_assoc, arith, le-leb, ltb-true, ltb-false, ne_eqb, eqb-true}
 use Rattle.std.proofs.Math.Option.{some}
 use Rattle.std.proofs.lemmas.Bool.{lt-leb}
 use Rattle.rules.specs.Base.{collect}
 use Rattle.rules.specs.Names.{Bytes}
 use Rattle.rules.specs.Exponents.{top}
 use Rattle.laws.specs.Lists.{Every}
-use Rattle.rules.specs.Grammar.{here, Parsed, read, Rule, pass, is_plain, isDigit, isBlank, skipFrom, skip, starts, sign, spell, spellFrom, ifSign, give, ◌>>=◌, ◌>>◌, PowerAt, signedBy, power, digitsAt, digits, hexOf, whole, slashed, half, more, nameFrom, digitsFrom}
-use Rattle.rules.specs.TextWriting.{hexDigit, escaped, nameText, decimal, numeratorText, denominatorText, powerText}
+use Rattle.rules.specs.Grammar.{here, Parsed, read, Rule, pass, is_plain, isDigit, isBlank, skipFrom, skip, starts, sign, spell, spellFrom, ifSign, give, ◌>>=◌, ◌>>◌, PowerAt, signedBy, power, digitsAt, digits, hexOf, whole, more, nameFrom, digitsFrom}
+use Rattle.rules.specs.TextWriting.{hexDigit, escaped, nameText, decimal, numeratorText, denominatorText}
 
 -- a rule finds something of which P holds, and this is left
 pub record Finds {A : Type 0} (m : Parsed A) (P : A → Type 0) (rest : Bytes) : Type 0 where

@@ -1,24 +1,22 @@
 -- Every written type is read back.
 -- Assumes nothing.
-use Rattle.std.specs.Prelude.{◌≡◌, Bool, true, false, ◌&&◌, leb, ltb, eqb, length}
+use Rattle.std.specs.Prelude.{◌≡◌, Bool, true, false, ◌&&◌, eqb, length}
 use Rattle.std.proofs.Math.Path.{refl}
 use Rattle.std.proofs.Common.{sym, ap, ◌∙◌}
-use mathlib.Core.List.{List, [], ◌∷◌, ◌++◌, append_assoc, map}
-use Rattle.std.proofs.Math.Option.{Option, none, some}
-use Prim.Native.Nat.{ℕ, zero, suc, ◌+◌, ◌≤◌, max}
+use mathlib.Core.List.{List, [], ◌∷◌, ◌++◌, append_assoc}
+use Rattle.std.proofs.Math.Option.{none, some}
+use Prim.Native.Nat.{ℕ, zero, suc, ◌≤◌}
 use native.Mathlib.Omega.{arith}
-use borrow.Author.Tests.{leb-true, ltb-true, ne_eqb}
+use borrow.Author.Tests.{ltb-true, ne_eqb}
 use Rattle.std.proofs.Math.ListN.{length-append}
-use Rattle.rules.specs.Base.{all, collect}
-use Rattle.rules.specs.Trees.{var, quant, par, Factor, Product, Names, Basic, boolean, string, datetime, Ty, opened, basic, dim, fn, struct, list, Tys, nil, cons, Fields, noFields, field, count, countFields, depth, depthTys, depthFields, orderAtom}
-use Rattle.rules.specs.Names.{Bytes, names_of, table_of, numbersOf, is_held}
-use Rattle.rules.specs.WellFormed.{goodOpen, goodFactor, goodProduct, goodTy, goodTys, goodFields, rising, is_lt, fieldNames, atomOf}
-use Rattle.laws.specs.Lists.{Every, and_left, and_right, all-is, all-every, true≢false}
+use Rattle.rules.specs.Base.{collect}
+use Rattle.rules.specs.Trees.{var, quant, par, Product, Names, Basic, boolean, string, datetime, Ty, opened, basic, dim, fn, struct, list, Tys, nil, cons, Fields, noFields, field, count, countFields, depth, depthTys, depthFields}
+use Rattle.rules.specs.Names.{Bytes, table_of, numbersOf, is_held}
+use Rattle.rules.specs.WellFormed.{goodOpen, goodTy, goodTys, goodFields, rising, is_lt, fieldNames}
+use Rattle.laws.specs.Lists.{Every, and_left, and_right, true≢false}
 use Rattle.laws.specs.NameTable.{Good}
 use Rattle.laws.specs.Reading.{deep}
-use Rattle.laws.specs.ByteOrder.{numbered-lawful, atom-lawful}
-use Rattle.laws.specs.Sorted.{Sorted, sorted}
-use Rattle.rules.specs.Grammar.{here, Parsed, pass, give, ◌>>=◌, ◌>>◌, Rule, isBlank, is_plain, isDigit, skipFrom, skip, spellFrom, spell, sign, starts, ifSign, whole, nameFrom, name, dimension, moreTys, tys, function, listed, moreFields, fields, structure, type, TyAt, dimAt, TysAt, nilAt, FieldsAt, noneAt, field_at, fieldName, NameAt}
+use Rattle.rules.specs.Grammar.{here, give, ◌>>=◌, ◌>>◌, Rule, isBlank, is_plain, isDigit, skipFrom, skip, spellFrom, spell, sign, starts, ifSign, nameFrom, dimension, moreTys, tys, function, listed, moreFields, fields, structure, type, TyAt, TysAt, nilAt, FieldsAt, noneAt, field_at, fieldName, NameAt}
 use Rattle.rules.specs.TextWriting.{escaped, nameText, openText, dimensionText, tyText, tysText, moreTysText, argumentsText, fieldsText, moreFieldsText}
 use Rattle.sheets.specs.Spelling.{Finds, found, then, IsByte, NameEnds}
 use Rattle.sheets.specs.Meanings

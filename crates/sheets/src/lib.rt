@@ -1,1 +1,3 @@
+#![tactic(auto)]
+
 // Theorems about sheets as text stand in specs/; there is no code.

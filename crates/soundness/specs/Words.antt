@@ -8,7 +8,6 @@ use Rattle.rules.specs.Base.{Got, got, refused, ◌>>◌, need, orRefuse, bounde
 use Rattle.rules.specs.Trees.{Con, Binding, opensCon, sizeBinding}
 use Rattle.rules.specs.Names.{Table, table_of, tableGood, numbersOf, is_held, lentTable}
 use Rattle.rules.specs.Contents.{unmixed}
-use Rattle.rules.specs.Writing.{words}
 use Rattle.rules.specs.Reading.{readCon, read_all, records}
 use Rattle.rules.specs.WellFormed.{goodCon}
 use Rattle.rules.specs.Solving.{Answer, accepted, remaining, stopped, solve}

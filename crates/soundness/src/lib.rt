@@ -1,1 +1,3 @@
+#![tactic(auto)]
+
 // Theorems about what solving and judging answer stand in specs/; there is no code.
