@@ -1,18 +1,18 @@
 -- Bindings, bounds and what remains, each as a line of a report.
 -- Assumes nothing.
-use Rattle.std.specs.Prelude.{◌≡◌, refl, Bool, true, false, ◌&&◌, List, [], ◌∷◌, ◌++◌, ℕ, suc, ◌+◌, ◌-◌, ◌*◌, ◌/◌, ◌≤◌, ◌<◌, ◌^◌, length}
+use Rattle.std.specs.Prelude.{◌≡◌, true, List, [], ℕ, suc, ◌+◌, ◌-◌, ◌*◌, ◌/◌, ◌≤◌, ◌<◌, ◌^◌, length}
 use Rattle.std.proofs.Math.Path.{sym, ap, subst}
 use Rattle.std.proofs.Common.{◌∙◌, ltb-true}
 use native.Mathlib.Omega.{arith}
 use Rattle.std.proofs.Math.ListN.{get_or, length-append}
-use Rattle.rules.specs.Names.{Bytes, table_of, numbersOf, is_held}
+use Rattle.rules.specs.Names.{Bytes, table_of, is_held}
 use Rattle.rules.specs.Trees.{var, Ty, Con, equal, isDim, is_scalar, hasField, Binding, ◌≔◌, size, sizeCon, sizeBinding}
 use Rattle.rules.specs.WellFormed.{goodOpen, goodBinding}
 use Rattle.rules.specs.Grammar.{ascii}
-use Rattle.rules.specs.TextWriting.{nameText, openText, tyText, conText, namesIn}
+use Rattle.rules.specs.TextWriting.{nameText, openText}
 use Rattle.laws.specs.Lists.{and_left, and_right}
 use Rattle.laws.specs.NameTable.{Good, held-is}
-use Rattle.records.specs.Views.{viewAt, longAt}
+use Rattle.records.specs.Views.{viewAt}
 use Rattle.records.specs.Holds.{Holds, HoldsBinding, con-long, binding-long}
 use Rattle.records.specs.ByView.{binding-in}
 use Rattle.records.specs.Good.{HeldOpen, GoodCon, GoodBinding, GoodBound}
@@ -23,7 +23,7 @@ use Rattle.spelling.specs.Puts.{Put, after}
 use Rattle.text.specs.Types.{name_of, isGood, held-short, TypeAt, PutType}
 use Rattle.text.specs.Lines.{ConAt, PutCon, con-short}
 use Rattle.rules.specs.Reports.{bindingLine, boundLine, remainingLine}
-use Rattle.telling.specs.Rows.{RowAt, PutRow, RowsAt, PutRows, Lined}
+use Rattle.telling.specs.Rows.{RowAt, PutRow, RowsAt, Lined}
 
 -- a name without its mark
 abbrev pub bareText : (ℕ → Bytes) → opens.Open → Bytes
