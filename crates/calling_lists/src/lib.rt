@@ -1,4 +1,6 @@
 // The calls on lists of records by their numbers: 1, 13 to 27.
+#![tactic(auto)]
+
 ghost use Rattle.std.specs.Prelude.{◌≡◌, length};
 ghost use Rattle.std.proofs.lemmas.List.Edits.{sets};
 ghost use Rattle.rules.specs.Calls.{lent, addCall};
