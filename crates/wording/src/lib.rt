@@ -1,6 +1,8 @@
 // What a caller in another language is given: the refusal's number is returned, and what is said goes as words to the front of a lent list.
+#![tactic(auto)]
+
 pub mod answers;
-pub mod places;
+pub mod placing;
 
 ghost use Rattle.std.specs.Prelude.{◌≡◌};
 ghost use Rattle.rules.specs.Numbers.{refusalIn};
