@@ -1,8 +1,8 @@
 -- The whole report of a sheet, from its parts.
 -- Assumes nothing.
-use Rattle.std.specs.Prelude.{◌≡◌, refl, ℕ, ◌+◌, ◌-◌, ◌*◌, ◌≤◌, ◌<◌, ◌^◌, length}
-use Rattle.std.proofs.Common.{sym, ap, subst, ◌∙◌, arith}
-use mathlib.Core.List.{List, [], ◌∷◌, ◌++◌, map, append_assoc}
+use Rattle.std.specs.Prelude.{◌≡◌, ℕ, ◌+◌, ◌-◌, ◌*◌, ◌≤◌, ◌^◌, length}
+use Rattle.std.proofs.Common.{subst, arith}
+use mathlib.Core.List.{List, ◌++◌, map, append_assoc}
 use Rattle.std.proofs.Math.ListN.{length-append}
 use Rattle.std.proofs.lemmas.List.{length-map}
 use Rattle.rules.specs.Base.{collect}
@@ -16,7 +16,7 @@ use Rattle.spelling.specs.Puts.{Put, after}
 use Rattle.text.specs.Types.{name_of}
 use Rattle.rules.specs.Reports.{Finding, unread, agrees, denied, unjudged, remains, stops, shown, amount, lineShown, refusedText, bindingLine, boundLine, remainingLine, findingText, reportText}
 use Rattle.reports.specs.Pieces.{refused-short, line-short}
-use Rattle.telling.specs.Rows.{RowsAt, chain-on, rows_short}
+use Rattle.telling.specs.Rows.{chain-on, rows_short}
 use Rattle.telling.specs.Lines.{BindingHere, BindingsAt, binding-lined, BoundHere, BoundsAt, bound-lined, ConHere, LeftsAt, left-lined}
 
 -- ══ Parts ══
