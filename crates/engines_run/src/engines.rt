@@ -2,7 +2,7 @@
 use rules::Refusal;
 
 // The number of an outcome (0, 5, or the refusal's), the records of bindings or of what remains, and those of bounds.
-#[derive(Drop)]
+#[derive(Clone, Copy)]
 pub struct Told {
     pub number: u32,
     pub records: usize,

@@ -1,4 +1,6 @@
 // Runs both engines on the listed sets and on generated ones, and compares what they answer and all that the buffers hold afterwards.
+#![tactic(auto)]
+
 mod engines;
 mod sets;
 
@@ -6,14 +8,18 @@ ghost use Rattle.std.specs.Prelude.{◌≤◌, ◌<◌, length};
 
 use cases::{Tally, next_line};
 use engines::{eliminated, solved};
-use libc::{STDIN_FILENO, STDOUT_FILENO};
+use filling::fill;
 use sets::{enter_letters, two_lines, words_from};
+use std::io;
 
 // How many sets are generated: two lines of three factors, each power one of five.
 const GENERATED: u32 = 15625;
 
+// The list is read as far as this.
+const LIST: usize = 65536;
+
 // How both engines' outcomes compare: all alike; or the second answers 8 alone, since the set doesn't fit it.
-#[derive(Drop)]
+#[derive(Clone, Copy)]
 pub enum Seen {
     Alike,
     Unfit,
@@ -32,6 +38,10 @@ fn result_before() -> [u32; 8192] {
 
 fn work_before() -> [u32; 16384] {
     [1431655765; 16384]
+}
+
+fn list_room() -> [u8; LIST] {
+    [0; LIST]
 }
 
 // Does the first list begin with the second?
@@ -92,39 +102,47 @@ fn is_set(letter: u8) -> bool {
 }
 
 // The tally with the set of a line. The comment of a set that differs, which stands from before up to it, is written.
-fn with_set(t: Tally, pool: &[u8], table: &[u32], s: &[u8], before: usize, at: usize) -> Tally
+fn with_set(
+    rt: &impl Print,
+    t: Tally,
+    pool: &[u8],
+    table: &[u32],
+    s: &[u8],
+    before: usize,
+    at: usize,
+) -> io::Result<Tally>
     requires { (before ≤ at) × (at < length s.now) }
 {
     let mut words = [0u32; 8200];
     let n = words_from(s, at, &mut words);
     let right = as_listed(s[at], both(pool, table, &words[0..n]));
     if !right {
-        io::write_all(STDOUT_FILENO, &s[before..at]);
+        rt.write_all(&s[before..at])?;
     }
-    t.with(right)
+    Ok(t.with(right))
 }
 
 // The sets of a list, added to those before it.
-fn run(pool: &[u8], table: &[u32], s: &[u8], tally: Tally) -> Tally {
+fn run(rt: &impl Print, pool: &[u8], table: &[u32], s: &[u8], tally: Tally) -> io::Result<Tally> {
     let mut t = tally;
     let mut before = 0;
     let mut at = 0;
     while at < s.len() {
         let next = next_line(s, at);
         if is_set(s[at]) {
-            t = with_set(t, pool, table, s, before, at);
+            t = with_set(rt, t, pool, table, s, before, at)?;
         }
         before = at;
         at = next;
     }
-    t
+    Ok(t)
 }
 
 // Reads the list and runs it.
-fn run_listed(pool: &[u8], table: &[u32]) -> Tally {
-    let mut buf = io::large_buffer();
-    let n = io::read_full(STDIN_FILENO, &mut buf);
-    run(pool, table, &buf[..n], Tally::none())
+fn run_listed<R: Input + Print>(rt: &R, pool: &[u8], table: &[u32]) -> io::Result<Tally> {
+    let mut buf = list_room();
+    let n = fill(&mut rt.reader(), &mut buf)?;
+    run(rt, pool, table, &buf[..n], Tally::none())
 }
 
 // The generated set of this number.
@@ -144,19 +162,20 @@ fn run_generated(pool: &[u8], table: &[u32], tally: Tally) -> Tally {
 }
 
 // Writes how many sets were run.
-fn report(what: &[u8], t: Tally) {
-    io::write_all(STDOUT_FILENO, what);
-    io::print_decimal(STDOUT_FILENO, t.cases);
-    io::write_all(STDOUT_FILENO, b" sets, ");
-    io::print_decimal(STDOUT_FILENO, t.right);
-    io::write_all(STDOUT_FILENO, b" as they must be\n");
+fn report(rt: &impl Print, what: &str, t: Tally) -> io::Result<()> {
+    println!(rt; "{what}: {} sets, {} as they must be", t.cases, t.right)
 }
 
-fn main() {
+fn main(rt: HostRuntime) -> io::Result<()> {
     let mut pool = [0u8; 8192];
     let mut table = [0u32; 257];
     if enter_letters(&letters(), &mut pool, &mut table) {
-        report(b"listed: ", run_listed(&pool, &table));
-        report(b"generated: ", run_generated(&pool, &table, Tally::none()));
+        report(&rt, "listed", run_listed(&rt, &pool, &table)?)?;
+        report(
+            &rt,
+            "generated",
+            run_generated(&pool, &table, Tally::none()),
+        )?;
     }
+    Ok(())
 }
