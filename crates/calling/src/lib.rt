@@ -1,4 +1,6 @@
 // Every public call by its number, on what is lent. The programs that serve and that replay calls share this; docs/SERVE.md has the numbers.
+#![tactic(auto)]
+
 pub mod named;
 pub mod sheets;
 
