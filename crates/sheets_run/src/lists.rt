@@ -6,7 +6,7 @@ use names::{Answer, enter};
 use rules::Was;
 
 // How much is lent of the four buffers: bytes of the pool, words of the others; and what the table's first word becomes, if not 0.
-#[derive(Drop)]
+#[derive(Clone, Copy)]
 pub struct Lent {
     pub pool: usize,
     pub table: usize,
@@ -16,7 +16,7 @@ pub struct Lent {
 }
 
 // What is given: 0 with records, constraints and new names; or the refusal with its line and column.
-#[derive(Drop)]
+#[derive(Clone, Copy)]
 pub struct Gives {
     pub refusal: u32,
     pub first: u32,
@@ -25,7 +25,7 @@ pub struct Gives {
 }
 
 // Where a case's lines begin. Only a sheet that is read has the last three.
-#[derive(Drop)]
+#[derive(Clone, Copy)]
 pub struct Lines {
     pub lent: usize,
     pub text: usize,
@@ -36,14 +36,14 @@ pub struct Lines {
 }
 
 // How far a list is read, and how many words are filled.
-#[derive(Drop)]
+#[derive(Clone, Copy)]
 pub struct Filled {
     pub next: usize,
     pub count: usize,
 }
 
 // Was a name new, and where does the next one begin?
-#[derive(Drop)]
+#[derive(Clone, Copy)]
 pub struct Entered {
     pub new: bool,
     pub next: usize,

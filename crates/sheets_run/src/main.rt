@@ -1,4 +1,6 @@
 // Reads the listed sheets, writes what was read, and compares the answers and what each buffer holds afterwards with what is stored.
+#![tactic(auto)]
+
 mod compare;
 mod lists;
 
@@ -8,17 +10,25 @@ use cases::{Tally, next_line};
 use compare::{
     RESULT_BEFORE, WORK_BEFORE, all_from, answer_holds, begins, same_bytes, same_text, work_after,
 };
-use libc::{STDIN_FILENO, STDOUT_FILENO};
+use filling::fill;
 use lists::{enter_names, gives_from, lent_from, lines_of, runs_from, to_bytes};
+use std::io;
+use std::io::Read;
 use text::{Answer, TEXT_BYTES, read_text, write_text};
 
 // The list is read in blocks, at most this many.
 const BLOCKS: usize = 16;
 
+const BLOCK: usize = 65536;
+
 // Room for the longest text of the list.
 const TEXT: usize = 102400;
 
 // Arrays of these sizes come from functions of their own, so that their callers are checked without them being written out.
+fn block_room() -> [u8; BLOCK] {
+    [0; BLOCK]
+}
+
 fn text_room() -> [u8; TEXT] {
     [0; TEXT]
 }
@@ -178,14 +188,14 @@ fn holds(s: &[u8], at: usize) -> bool {
 }
 
 // The tally with one case more. The comment of a case that differs, which stands from before up to it, is written.
-fn with_case(t: Tally, s: &[u8], before: usize, at: usize) -> Tally
+fn with_case(rt: &impl Print, t: Tally, s: &[u8], before: usize, at: usize) -> io::Result<Tally>
     requires { (before ≤ at) × (at < length s.now) }
 {
     let right = holds(s, at);
     if !right {
-        io::write_all(STDOUT_FILENO, &s[before..at]);
+        rt.write_all(&s[before..at])?;
     }
-    t.with(right)
+    Ok(t.with(right))
 }
 
 // Does a line with this first letter begin a case?
@@ -194,43 +204,33 @@ fn is_case(letter: u8) -> bool {
 }
 
 // The cases of a block, added to those before it.
-fn run(s: &[u8], tally: Tally) -> Tally {
+fn run(rt: &impl Print, s: &[u8], tally: Tally) -> io::Result<Tally> {
     let mut t = tally;
     let mut before = 0;
     let mut at = 0;
     while at < s.len() {
         let next = next_line(s, at);
         if is_case(s[at]) {
-            t = with_case(t, s, before, at);
+            t = with_case(rt, t, s, before, at)?;
         }
         before = at;
         at = next;
     }
-    t
+    Ok(t)
 }
 
 // Reads the next block and runs it.
-fn run_next(tally: Tally) -> Tally {
-    let mut buf = io::large_buffer();
-    let n = io::read_full(STDIN_FILENO, &mut buf);
-    run(&buf[0..n], tally)
+fn run_next<P: Print, R: Read>(rt: &P, input: &mut R, tally: Tally) -> io::Result<Tally> {
+    let mut buf = block_room();
+    let n = fill(input, &mut buf)?;
+    run(rt, &buf[..n], tally)
 }
 
-// Writes how many cases were run.
-fn report(t: Tally) {
-    io::write_all(STDOUT_FILENO, b"sheets: ");
-    io::print_decimal(STDOUT_FILENO, t.cases);
-    io::write_all(STDOUT_FILENO, b" cases, ");
-    io::print_decimal(STDOUT_FILENO, t.right);
-    io::write_all(STDOUT_FILENO, b" as stored\n");
-}
-
-fn main() {
+fn main(rt: HostRuntime) -> io::Result<()> {
+    let mut input = rt.reader();
     let mut t = Tally::none();
-    let mut i = 0;
-    while i < BLOCKS {
-        t = run_next(t);
-        i += 1;
+    for _ in 0..BLOCKS {
+        t = run_next(&rt, &mut input, t)?;
     }
-    report(t);
+    println!(rt; "sheets: {} cases, {} as stored", t.cases, t.right)
 }
