@@ -54,7 +54,7 @@ fn entries_from(b: &[u32], n: usize) -> [Entry; ENTRIES]
     es
 }
 
-// The judge on the first n entries of an array. Nothing else here has a `&[Entry]`: its proof is a walk of one call.
+// The judge on the first n entries of an array.
 fn judge_first(
     pool: &[u8],
     table: &[u32],

@@ -7,7 +7,7 @@ ghost use Rattle.shupkelen.specs.Exports.{out, orderWord, placeOut, enteredOut};
 
 use names::{check_number, check_table, compare, enter};
 use saying::told::{numbered, ordered};
-use wording::places::placed;
+use wording::placing::placed;
 use wording::{hand, number};
 
 // 1 less, 2 same, 3 more: the bytes of two names, first to last, a prefix before what it begins.
