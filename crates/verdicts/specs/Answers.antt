@@ -1,7 +1,7 @@
 -- Which report is told, by the answer's words and the verdict: it is that of the finding.
 -- Assumes nothing.
-use Rattle.std.specs.Prelude.{◌≡◌, refl, Bool, true, false, List, ℕ, ◌+◌, ◌-◌, ◌*◌, ◌≤◌, ◌<◌, ◌^◌, length}
-use Rattle.std.proofs.Common.{sym, ap, subst, ◌∙◌, arith}
+use Rattle.std.specs.Prelude.{◌≡◌, Bool, List, ℕ, ◌+◌, ◌≤◌, ◌<◌, ◌^◌, length}
+use Rattle.std.proofs.Common.{arith}
 use Rattle.rules.specs.Base.{Got, got, refused, bounded}
 use Rattle.rules.specs.Names.{Bytes}
 use Rattle.rules.specs.Trees.{Names, Con, Binding}
