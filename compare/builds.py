@@ -1,6 +1,6 @@
 #!/usr/bin/env python3
 """The edge cases through every build that the kit makes of `serve`: builds.py [SERVE]. At -O0, at -O3 and with LLVM's assumptions checked it must write what
-the proved program SERVE (default target/bin/serve) writes. They have 64 MB of stack: unlike the proved program, those that are not optimised copy the large buffers
+the proved program SERVE (default crates/serve/out/serve) writes. They have 64 MB of stack: unlike the proved program, those that are not optimised copy the large buffers
 about, and the usual 8 MB are too few where 64 sets have room. The interpreter, which the kit runs first, stops at 10,000,000 steps, too few for these cases;
 `rt try serve` runs it on the stored requests."""
 import glob, os, re, resource, shutil, subprocess, sys, tempfile
@@ -38,7 +38,7 @@ def chunks(serve, cases):
 
 def main():
     args = sys.argv[1:]
-    serve = args[0] if args else ROOT + '/target/bin/serve'
+    serve = args[0] if args else ROOT + '/crates/serve/out/serve'
     last = int(re.search(r'LAST: u32 = (\d+)', open(ROOT + '/crates/calling/src/lib.rt').read()).group(1))
     cases = edges.cases(last)
     failed = n = 0

@@ -2,7 +2,7 @@
 """The compiled calls against numbat: compare.py NUMBAT [--cases N] [--seed S] [--kinds A,B] [--serve FILE] [--build DIR] [--log FILE]
 
 NUMBAT is a checkout of numbat at e8abf32b97. The harness is built from it in DIR (default target/compare), sends random requests of each kind to
-`serve` (default target/bin/serve, which `rt check serve` makes) and compares every answer with numbat's, or with our own reading of document 01
+`serve` (default crates/serve/out/serve, which `rt check` in crates/serve makes) and compares every answer with numbat's, or with our own reading of document 01
 where numbat has no counterpart. A difference counts as explained when model.py, which has document 01's rules, answers as `serve` did, and
 with the fewest of numbat's deviations switched on as numbat did; each deviation is a number of docs/DIFFERENCES.md. Any other fails the run."""
 import ast, itertools, os, re, subprocess, sys, tempfile, time
@@ -105,7 +105,7 @@ def take(command, tally, what):
 
 def options(argv):
     argv = argv
-    o = {'--cases': '100000', '--seed': '1', '--kinds': ','.join(KINDS + ['lengths']), '--serve': os.path.join(HERE, '../target/bin/serve'), '--build': os.path.join(HERE, '../target/compare'), '--log': ''}
+    o = {'--cases': '100000', '--seed': '1', '--kinds': ','.join(KINDS + ['lengths']), '--serve': os.path.join(HERE, '../crates/serve/out/serve'), '--build': os.path.join(HERE, '../target/compare'), '--log': ''}
     args = []
     i = 0
     while i < len(argv):

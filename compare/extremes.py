@@ -85,7 +85,7 @@ def stack_of(serve, data):
 
 def main():
     args = sys.argv[1:]
-    serve = args[0] if args else os.path.join(HERE, '../target/bin/serve')
+    serve = args[0] if args else os.path.join(HERE, '../crates/serve/out/serve')
     # what comparing two names needs
     base = {large: stack_of(serve, Request(4, (), [[97], [98]], result=9217 if large else 9216).bytes()) for large in (False, True)}
     print('| call | records | refusal | rounds | time of a request | stack |\n|---|---|---|---|---|---|')

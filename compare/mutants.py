@@ -37,7 +37,7 @@ def reached(crate):
 
 def main():
     args = sys.argv[1:]
-    serve = os.path.join(ROOT, 'target/bin/serve')
+    serve = os.path.join(ROOT, 'crates/serve/out/serve')
     if '--serve' in args:
         i = args.index('--serve')
         serve = args[i + 1]

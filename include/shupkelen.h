@@ -1,4 +1,4 @@
-/* Shupkelen: numbat's type and dimension constraint solver, proved, as a static library for x86-64 Linux (rt staticlib shupkelen).
+/* Shupkelen: numbat's type and dimension constraint solver, proved, as a static library for x86-64 Linux (rt lib in crates/shupkelen).
  *
  * What every call has in common
  *

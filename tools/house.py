@@ -14,7 +14,7 @@ COLOURS = ["#dbe9f6", "#e6f2d9", "#fdebd0", "#f6dbe3", "#e8e0f5", "#d9f2ee", "#f
 def used():
     """crate: the crates of this house that it uses, without those that follow from others."""
     lines = [l.split("#")[0].strip() for l in (ROOT / "crates.txt").read_text(encoding="utf-8").splitlines()]
-    listed = {l.split(":")[0].strip(): l.split(":")[1].split() for l in lines if ":" in l}
+    listed = {l.split(":")[0].split()[0]: l.split(":")[1].split() for l in lines if ":" in l}
     uses = {c: [u for u in us if u in listed] for c, us in listed.items()}
     below = {}
 
