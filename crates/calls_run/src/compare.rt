@@ -50,10 +50,11 @@ fn same_numbers(t: Told, g: Gives) -> bool {
 
 // Is it what is stored, and is all else in the buffers as it must be?
 pub fn agrees(call: u32, t: Told, g: Gives, stored: &[u32], res: &[u32], work: &[u32]) -> bool {
+    let words = t.words;
     if !same_numbers(t, g) {
         return false;
     }
-    if t.words != stored.len() {
+    if words != stored.len() {
         return false;
     }
     if !begins(res, stored) {

@@ -6,7 +6,7 @@ use names::{Answer, enter};
 use rules::Was;
 
 // Which call, and how much is lent of the four buffers: bytes of the pool, words of the others.
-#[derive(Drop)]
+#[derive(Clone, Copy)]
 pub struct Asks {
     pub call: u32,
     pub x: u32,
@@ -18,7 +18,7 @@ pub struct Asks {
 }
 
 // What is given: the refusal's number or 0, two values, the rounds; the words come behind the place next.
-#[derive(Drop)]
+#[derive(Clone, Copy)]
 pub struct Gives {
     pub refusal: u32,
     pub value: u32,
@@ -28,7 +28,7 @@ pub struct Gives {
 }
 
 // Where a case's lines begin: what is asked, four lists, what is given.
-#[derive(Drop)]
+#[derive(Clone, Copy)]
 pub struct Lines {
     pub asks: usize,
     pub first: usize,

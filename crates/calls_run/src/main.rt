@@ -1,4 +1,6 @@
 // Runs the listed cases of all calls, and compares the answer and what each buffer holds afterwards with what is stored.
+#![tactic(auto)]
+
 mod compare;
 mod lists;
 
@@ -7,18 +9,26 @@ ghost use Rattle.std.specs.Prelude.{◌<◌, ◌≤◌, length};
 use calling::called;
 use cases::{Tally, next_line};
 use compare::{RESULT_BEFORE, WORK_BEFORE, agrees};
-use libc::{STDIN_FILENO, STDOUT_FILENO};
+use filling::fill;
 use lists::{Gives, asks_from, enter_names, gives_from, lines_of, words_from};
 use saying::Asked;
+use std::io;
+use std::io::Read;
 
 // The list is read in blocks, at most this many.
 const BLOCKS: usize = 32;
+
+const BLOCK: usize = 65536;
 
 // Room for the answers of five sets; an array of this size comes from a function of its own, so that its callers are checked without it being written out.
 const RESULT: usize = 41472;
 
 fn result_before() -> [u32; RESULT] {
     [RESULT_BEFORE; RESULT]
+}
+
+fn block_room() -> [u8; BLOCK] {
+    [0; BLOCK]
 }
 
 // Does the call answer, and leave the buffers, as stored?
@@ -35,8 +45,9 @@ fn answers(
     work: &mut [u32],
     stored: &[u32],
 ) -> bool {
+    let call = q.call;
     let t = called(q, pool, table, a, b, c, d, res, work);
-    agrees(q.call, t, g, stored, res, work)
+    agrees(call, t, g, stored, res, work)
 }
 
 // The same, with the buffers still to be made.
@@ -123,14 +134,14 @@ fn holds(s: &[u8], at: usize) -> bool {
 }
 
 // The tally with one case more. The comment of a case that differs, which stands from before up to it, is written.
-fn with_case(t: Tally, s: &[u8], before: usize, at: usize) -> Tally
+fn with_case(rt: &impl Print, t: Tally, s: &[u8], before: usize, at: usize) -> io::Result<Tally>
     requires { (before ≤ at) × (at < length s.now) }
 {
     let right = holds(s, at);
     if !right {
-        io::write_all(STDOUT_FILENO, &s[before..at]);
+        rt.write_all(&s[before..at])?;
     }
-    t.with(right)
+    Ok(t.with(right))
 }
 
 // Does a line with this first letter begin a case?
@@ -139,43 +150,33 @@ fn is_case(letter: u8) -> bool {
 }
 
 // The cases of a block, added to those before it.
-fn run(s: &[u8], tally: Tally) -> Tally {
+fn run(rt: &impl Print, s: &[u8], tally: Tally) -> io::Result<Tally> {
     let mut t = tally;
     let mut before = 0;
     let mut at = 0;
     while at < s.len() {
         let next = next_line(s, at);
         if is_case(s[at]) {
-            t = with_case(t, s, before, at);
+            t = with_case(rt, t, s, before, at)?;
         }
         before = at;
         at = next;
     }
-    t
+    Ok(t)
 }
 
 // Reads the next block and runs it.
-fn run_next(tally: Tally) -> Tally {
-    let mut buf = io::large_buffer();
-    let n = io::read_full(STDIN_FILENO, &mut buf);
-    run(&buf[..n], tally)
+fn run_next<P: Print, R: Read>(rt: &P, input: &mut R, tally: Tally) -> io::Result<Tally> {
+    let mut buf = block_room();
+    let n = fill(input, &mut buf)?;
+    run(rt, &buf[..n], tally)
 }
 
-// Writes how many cases were run.
-fn report(t: Tally) {
-    io::write_all(STDOUT_FILENO, b"calls: ");
-    io::print_decimal(STDOUT_FILENO, t.cases);
-    io::write_all(STDOUT_FILENO, b" cases, ");
-    io::print_decimal(STDOUT_FILENO, t.right);
-    io::write_all(STDOUT_FILENO, b" as stored\n");
-}
-
-fn main() {
+fn main(rt: HostRuntime) -> io::Result<()> {
+    let mut input = rt.reader();
     let mut t = Tally::none();
-    let mut i = 0;
-    while i < BLOCKS {
-        t = run_next(t);
-        i += 1;
+    for _ in 0..BLOCKS {
+        t = run_next(&rt, &mut input, t)?;
     }
-    report(t);
+    println!(rt; "calls: {} cases, {} as stored", t.cases, t.right)
 }
