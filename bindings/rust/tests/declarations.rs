@@ -26,8 +26,8 @@ fn from_source() -> Functions {
     let dir = repository().join("crates/shupkelen/src");
     for entry in std::fs::read_dir(dir).unwrap() {
         let text = std::fs::read_to_string(entry.unwrap().path()).unwrap();
-        let marked = text.matches("#[no_mangle]").count();
-        let parts: Vec<&str> = text.split("#[no_mangle]\npub extern \"C\" fn ").skip(1).collect();
+        let marked = text.matches("#[unsafe(no_mangle)]").count();
+        let parts: Vec<&str> = text.split("#[unsafe(no_mangle)]\npub extern \"C\" fn ").skip(1).collect();
         assert_eq!(parts.len(), marked, "an exported function is written otherwise");
         for part in parts {
             let name = part[..part.find('(').unwrap()].to_string();
@@ -41,6 +41,7 @@ fn from_source() -> Functions {
 
 fn rattle(p: &str) -> Vec<(String, &'static str)> {
     let (name, kind) = p.split_once(": ").unwrap();
+    let name = if name == "res" { "result" } else { name }; // the source can't use that word, which contracts have
     let slice = |pointer| vec![(name.to_string(), pointer), (format!("{name}_len"), "count")];
     match kind {
         "&[u8]" => slice("bytes"),
