@@ -1,5 +1,7 @@
 // Serves requests from standard input: one public call each, on what is lent in the request; the answer goes to standard output.
 // docs/SERVE.md has the form of requests and answers.
+#![tactic(auto)]
+
 mod coding;
 mod reply;
 mod request;
@@ -10,10 +12,12 @@ ghost use Rattle.serve.specs.Requests.{Fits};
 use calling::called;
 use calling::named::{POOL, TABLE};
 use coding::{bytes_from, put_words, words_from};
-use libc::{STDIN_FILENO, STDOUT_FILENO};
+use filling::fill;
 use reply::{answer, answer_alone, answer_head, no_request};
 use request::{BODY, HEAD, Header, LARGE, LIST, RESULT, TORN, WORK, fault, filled, header_from};
 use saying::Asked;
+use std::io;
+use std::io::{Read, Write};
 
 // At most this many requests are served: a loop has to end.
 const REQUESTS: u64 = 1000000000000;
@@ -49,24 +53,31 @@ fn answered(
     answer(t, h, res, work, out)
 }
 
-// Writes the words from a place on, a piece at a time; the last piece is left in out: how many bytes. More than out has, where writing failed.
-fn pieces(words: &[u32], n: usize, out: &mut [u8]) -> usize {
+// Writes the n bytes at the front of a buffer.
+fn write_front(to: &mut impl Write, buf: &[u8], n: usize) -> io::Result<()> {
+    if buf.len() < n {
+        return Err(io::Error::other("an answer is longer than its buffer"));
+    }
+    to.write_all(&buf[..n])
+}
+
+// Writes the first n words, a piece at a time; the last piece is left in out: how many bytes.
+fn pieces(to: &mut impl Write, words: &[u32], n: usize, out: &mut [u8]) -> io::Result<usize> {
     let mut i = 0;
     while i < words.len() {
         if n < i + PIECE {
-            return put_words(out, 0, &words[i..], n - i);
+            return Ok(put_words(out, 0, &words[i..], n - i));
         }
         let m = put_words(out, 0, &words[i..], PIECE);
-        if !write_front(out, m) {
-            return 1000000;
-        }
+        write_front(to, out, m)?;
         i += PIECE;
     }
-    0
+    Ok(0)
 }
 
 // The call, and its answer where the result buffer is large: all but its last piece is written.
 fn answered_in_pieces(
+    to: &mut impl Write,
     h: Header,
     pool: &mut [u8],
     table: &mut [u32],
@@ -77,16 +88,17 @@ fn answered_in_pieces(
     res: &mut [u32],
     work: &mut [u32],
     out: &mut [u8],
-) -> usize {
+) -> io::Result<usize> {
     let q = Asked {
         call: h.call,
         x: h.x,
         y: h.y,
     };
     let t = called(q, pool, table, a, b, c, d, res, work);
+    let words = t.words;
     let m = answer_head(t, h, res, work, out);
-    write_front(out, m);
-    pieces(res, t.words, out)
+    write_front(to, out, m)?;
+    pieces(to, res, words, out)
 }
 
 // The same, with a result buffer of the usual size still to be made.
@@ -124,6 +136,7 @@ fn empty_body() -> [u8; BODY] {
 
 // The same, with a large one.
 fn with_large_result(
+    to: &mut impl Write,
     h: Header,
     pool: &mut [u8],
     table: &mut [u32],
@@ -133,16 +146,17 @@ fn with_large_result(
     d: &[u32],
     work: &mut [u32],
     out: &mut [u8],
-) -> usize
+) -> io::Result<usize>
     requires { Fits h }
 {
     let mut result = large_result(h.resultwas);
     let r = h.result as usize;
-    answered_in_pieces(h, pool, table, a, b, c, d, &mut result[0..r], work, out)
+    answered_in_pieces(to, h, pool, table, a, b, c, d, &mut result[0..r], work, out)
 }
 
 // The same, with the result and the work buffer still to be made.
 fn with_buffers(
+    to: &mut impl Write,
     h: Header,
     pool: &mut [u8],
     table: &mut [u32],
@@ -151,21 +165,22 @@ fn with_buffers(
     c: &[u32],
     d: &[u32],
     out: &mut [u8],
-) -> usize
+) -> io::Result<usize>
     requires { Fits h }
 {
     let of_work = h.workwas;
     let mut work = [of_work; WORK];
     let w = h.work as usize;
     if 9216 < h.result {
-        with_large_result(h, pool, table, a, b, c, d, &mut work[0..w], out)
+        with_large_result(to, h, pool, table, a, b, c, d, &mut work[0..w], out)
     } else {
-        with_result(h, pool, table, a, b, c, d, &mut work[0..w], out)
+        Ok(with_result(h, pool, table, a, b, c, d, &mut work[0..w], out))
     }
 }
 
 // The same, with the last two lists still to be taken from the request.
 fn with_later(
+    to: &mut impl Write,
     h: Header,
     body: &[u8],
     from: usize,
@@ -174,7 +189,7 @@ fn with_later(
     a: &[u32],
     b: &[u32],
     out: &mut [u8],
-) -> usize
+) -> io::Result<usize>
     requires fits { Fits h }
     requires from_bound { from ≤ 500000 }
 {
@@ -184,18 +199,19 @@ fn with_later(
     words_from(body, from, n, &mut c);
     let mut d = [0u32; LIST];
     words_from(body, from + n * 4, m, &mut d);
-    with_buffers(h, pool, table, a, b, &c[0..n], &d[0..m], out)
+    with_buffers(to, h, pool, table, a, b, &c[0..n], &d[0..m], out)
 }
 
 // The same, with all four lists still to be taken from the request.
 fn with_lists(
+    to: &mut impl Write,
     h: Header,
     body: &[u8],
     from: usize,
     pool: &mut [u8],
     table: &mut [u32],
     out: &mut [u8],
-) -> usize
+) -> io::Result<usize>
     requires fits { Fits h }
     requires from_bound { from ≤ 100000 }
 {
@@ -206,6 +222,7 @@ fn with_lists(
     let mut b = [0u32; LIST];
     words_from(body, from + n * 4, m, &mut b);
     with_later(
+        to,
         h,
         body,
         from + n * 4 + m * 4,
@@ -230,7 +247,7 @@ fn lent_of(sent: u32, whole: u32, least: usize, most: usize) -> usize
 }
 
 // The same, with the name table still to be taken from the request.
-fn with_names(h: Header, body: &[u8], out: &mut [u8]) -> usize
+fn with_names(to: &mut impl Write, h: Header, body: &[u8], out: &mut [u8]) -> io::Result<usize>
     requires { Fits h }
 {
     let p = lent_of(h.pool, h.whole, 8192, POOL);
@@ -241,6 +258,7 @@ fn with_names(h: Header, body: &[u8], out: &mut [u8]) -> usize
     let from = filled(h.pool);
     words_from(body, from, h.table as usize, &mut table);
     with_lists(
+        to,
         h,
         body,
         from + h.table as usize * 4,
@@ -251,93 +269,92 @@ fn with_names(h: Header, body: &[u8], out: &mut [u8]) -> usize
 }
 
 // Reads n bytes to the front of a buffer. Were there so many?
-fn read_front(buf: &mut [u8], n: usize) -> bool
+fn read_front(from: &mut impl Read, buf: &mut [u8], n: usize) -> io::Result<bool>
     requires { n ≤ length buf.old }
 {
-    io::read_full(STDIN_FILENO, &mut buf[0..n]) == n
-}
-
-// Writes the n bytes at the front of a buffer.
-fn write_front(buf: &[u8], n: usize) -> bool {
-    if buf.len() < n {
-        return false;
-    }
-    io::write_all(STDOUT_FILENO, &buf[0..n])
+    Ok(fill(from, &mut buf[..n])? == n)
 }
 
 // Says that this was no request.
-fn say_fault(fault: u32) -> bool {
+fn say_fault(to: &mut impl Write, fault: u32) -> io::Result<()> {
     let mut out = [0u8; HEAD];
     let n = answer_alone(no_request(fault), &mut out);
-    write_front(&out, n)
+    write_front(to, &out, n)
 }
 
 // Reads a request's body, and writes the answer. Is there more to come?
-fn serve_body(h: Header) -> bool
+fn serve_body<R: Read, W: Write>(from: &mut R, to: &mut W, h: Header) -> io::Result<bool>
     requires { Fits h }
 {
     let mut body = empty_body();
-    if !read_front(&mut body, h.body as usize) {
-        say_fault(TORN);
-        return false;
+    if !read_front(from, &mut body, h.body as usize)? {
+        say_fault(to, TORN)?;
+        return Ok(false);
     }
     let mut out = usual_out();
-    let m = with_names(h, &body, &mut out);
-    write_front(&out, m)
+    let m = with_names(to, h, &body, &mut out)?;
+    write_front(to, &out, m)?;
+    Ok(true)
 }
 
 // Reads n bytes, of one block at the most, and drops them. Were there so many?
-fn drop_block(n: usize) -> bool
+fn drop_block(from: &mut impl Read, n: usize) -> io::Result<bool>
     requires { n ≤ 4096 }
 {
     let mut buf = [0u8; BLOCK];
-    read_front(&mut buf, n)
+    read_front(from, &mut buf, n)
 }
 
 // Reads past n bytes. Were there so many?
-fn skip(n: usize) -> bool {
+fn skip(from: &mut impl Read, n: usize) -> io::Result<bool> {
     let mut left = n;
     while BLOCK < left {
-        if !drop_block(BLOCK) {
-            return false;
+        if !drop_block(from, BLOCK)? {
+            return Ok(false);
         }
         left -= BLOCK;
     }
-    drop_block(left)
+    drop_block(from, left)
 }
 
 // Passes over a request that can't be served, and says so. Is there more to come?
-fn pass(h: Header, fault: u32) -> bool {
-    if skip(h.body as usize) {
-        say_fault(fault)
+fn pass<R: Read, W: Write>(from: &mut R, to: &mut W, h: Header, fault: u32) -> io::Result<bool> {
+    if skip(from, h.body as usize)? {
+        say_fault(to, fault)?;
+        Ok(true)
     } else {
-        say_fault(TORN);
-        false
+        say_fault(to, TORN)?;
+        Ok(false)
     }
 }
 
 // Serves one request. Is there more to come?
-fn serve_next() -> bool {
+fn serve_next<R: Read, W: Write>(from: &mut R, to: &mut W) -> io::Result<bool> {
     let mut head = [0u8; HEAD];
-    let got = io::read_full(STDIN_FILENO, &mut head);
+    let got = fill(from, &mut head)?;
     if got == 0 {
-        return false;
+        return Ok(false);
     }
     if got < HEAD {
-        say_fault(TORN);
-        return false;
+        say_fault(to, TORN)?;
+        return Ok(false);
     }
     let h = header_from(&head);
     let f = fault(h);
-    if f == 0 { serve_body(h) } else { pass(h, f) }
+    if f == 0 {
+        serve_body(from, to, h)
+    } else {
+        pass(from, to, h, f)
+    }
 }
 
-fn main() {
-    let mut left = REQUESTS;
-    while 0 < left {
-        if !serve_next() {
-            return;
+fn main(rt: HostRuntime) -> io::Result<()> {
+    let mut from = rt.reader();
+    let mut to = io::writer(&rt);
+    for _ in 0..REQUESTS {
+        if !serve_next(&mut from, &mut to)? {
+            break;
         }
-        left -= 1;
     }
+    Ok(())
 }

@@ -28,8 +28,8 @@ fn flag(is: bool, number: u32) -> u32
 }
 
 // 1: the result buffer is as before behind the answer. 2: the work buffer is all zero. 4: it is as before.
-fn flags(t: Told, h: Header, res: &[u32], work: &[u32]) -> u32
-    ensures { result ≡ flags_of t.words h.resultwas h.workwas res.now work.now }
+fn flags(t: &Told, h: Header, res: &[u32], work: &[u32]) -> u32
+    ensures { result ≡ flags_of t.now.words h.resultwas h.workwas res.now work.now }
 {
     let rest = flag(all_from(res, t.words, h.resultwas), 1);
     let zero = flag(all_from(work, 0, 0), 2);
@@ -38,7 +38,7 @@ fn flags(t: Told, h: Header, res: &[u32], work: &[u32]) -> u32
 }
 
 // The answer without its length.
-fn put_told(t: Told, flags: u32, out: &mut [u8]) -> usize {
+fn put_told(t: &Told, flags: u32, out: &mut [u8]) -> usize {
     let a = put_word(out, 4, t.refusal);
     let b = put_word(out, a, t.value);
     let c = put_word(out, b, t.more);
@@ -64,7 +64,7 @@ fn close(out: &mut [u8], at: usize) -> usize {
 
 // What a call said, and what the buffers hold: how many bytes.
 pub fn answer(t: Told, h: Header, res: &[u32], work: &[u32], out: &mut [u8]) -> usize {
-    let at = put_told(t, flags(t, h, res, work), out);
+    let at = put_told(&t, flags(&t, h, res, work), out);
     let next = put_words(out, at, res, t.words);
     let end = put_shown(h, res, work, next, out);
     close(out, end)
@@ -79,13 +79,13 @@ fn behind(at: usize, words: usize) -> usize
 
 // The head of an answer whose words follow in pieces.
 pub fn answer_head(t: Told, h: Header, res: &[u32], work: &[u32], out: &mut [u8]) -> usize {
-    put_told(t, flags(t, h, res, work), out);
+    put_told(&t, flags(&t, h, res, work), out);
     put_word(out, 0, short(behind(28, t.words)));
     28
 }
 
 // The same where no call was made.
 pub fn answer_alone(t: Told, out: &mut [u8]) -> usize {
-    let at = put_told(t, 0, out);
+    let at = put_told(&t, 0, out);
     close(out, at)
 }

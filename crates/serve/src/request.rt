@@ -29,7 +29,7 @@ pub const TOO_LONG: u32 = 3;
 pub const UNTRUE: u32 = 4;
 
 // The words of a head, in their order.
-#[derive(Drop)]
+#[derive(Clone, Copy)]
 pub struct Header {
     pub body: u32,
     pub call: u32,

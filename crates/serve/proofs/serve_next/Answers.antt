@@ -1,0 +1,7 @@
+-- `serve_next` is safe and ends: only a request without a fault is served. Assumes nothing.
+use mathlib.Core.Path.{sym, ◌∙◌}
+use Rattle.serve.specs.Requests.{served}
+use Rattle.serve.proofs.serve_next.Goals as goal
+
+pub serve_body-requires : goal.serve_body-requires
+serve_body-requires g c = served _ (sym c.fault-f.ensures ∙ c.if-f-eq0.true)
