@@ -1,6 +1,6 @@
 #!/usr/bin/env python3
 """Wrong code must be noticed: mutants.py [--serve FILE] [NAME..]
-Each must-fail edit of code that `serve` reaches is put into a copy of crates/, compiled unproved (unproved.sh) and sent the edge cases; a mutant
+Each must-fail edit of code that `serve` reaches is put into a copy of crates/, run unproved (unproved.sh) and sent the edge cases; a mutant
 is noticed at the first case that it answers otherwise than the real program. Prints a line for each: the edit, and how many cases it took."""
 import glob, os, re, shutil, subprocess, sys, tempfile
 HERE = os.path.dirname(os.path.abspath(__file__))
@@ -10,9 +10,9 @@ ROOT = os.path.dirname(HERE)
 
 
 def answers(program, data):
-    """what it writes: of a program that doesn't end, what it wrote in two minutes"""
+    """what it writes: of a program that doesn't end, what it wrote in ten minutes"""
     try:
-        return subprocess.run([program], input=data, stdout=subprocess.PIPE, stderr=subprocess.DEVNULL, timeout=120).stdout
+        return subprocess.run([program], input=data, stdout=subprocess.PIPE, stderr=subprocess.DEVNULL, timeout=600).stdout
     except subprocess.TimeoutExpired as e:
         return e.stdout or b''
 
@@ -65,7 +65,11 @@ def main():
             if p.returncode:
                 print('%s/%s: does not compile: %s' % (crate, name, p.stderr.strip().split('\n')[0][:200]), flush=True)
                 continue
-            got = requests.replies(answers(os.path.join(tmp, 'mutant'), data))
+            said = answers(os.path.join(tmp, 'mutant'), data)
+            if not said:
+                print('%s/%s: does not compile or writes nothing' % (crate, name), flush=True)
+                continue
+            got = requests.replies(said)
             at = next((i for i, (a, b) in enumerate(zip(real, got)) if a != b), None)
             if at is None and len(got) < len(real):
                 at = len(got)
