@@ -1,20 +1,12 @@
 #!/usr/bin/env python3
 """Wrong code must be noticed: mutants.py [--serve FILE] [NAME..]
-Each must-fail edit of code that `serve` reaches is put into a copy of crates/, run unproved (unproved.sh) and sent the edge cases; a mutant
-is noticed at the first case that it answers otherwise than the real program. Prints a line for each: the edit, and how many cases it took."""
+Each must-fail edit of code that `serve` reaches is put into a copy of crates/ and sent the edge cases, unproved (`rt try`), in parts; a mutant is noticed
+where a part is answered otherwise than the real program answers it. Prints a line for each edit."""
 import glob, os, re, shutil, subprocess, sys, tempfile
 HERE = os.path.dirname(os.path.abspath(__file__))
 sys.path.insert(0, HERE)
-import edges, requests
+import builds, edges
 ROOT = os.path.dirname(HERE)
-
-
-def answers(program, data):
-    """what it writes: of a program that doesn't end, what it wrote in ten minutes"""
-    try:
-        return subprocess.run([program], input=data, stdout=subprocess.PIPE, stderr=subprocess.DEVNULL, timeout=600).stdout
-    except subprocess.TimeoutExpired as e:
-        return e.stdout or b''
 
 
 def edit(path):
@@ -35,6 +27,21 @@ def reached(crate):
     return seen
 
 
+def tried(crate, file, old, new, parts):
+    """the status of `rt try` on `serve` with this line changed: 0 where each part is answered as it should be, 4 to 6 where one isn't"""
+    with tempfile.TemporaryDirectory() as tmp:
+        for d in glob.glob(os.path.join(ROOT, 'crates/*/src')):
+            shutil.copytree(d, os.path.join(tmp, 'crates', d.split('/')[-2], 'src'))
+        shutil.copy(os.path.join(ROOT, 'crates.txt'), tmp)
+        target = os.path.join(tmp, 'crates', crate, file)
+        with open(target) as f:
+            text = f.read()
+        assert text.count(old) == 1, (crate, file, old)
+        with open(target, 'w') as f:
+            f.write(text.replace(old, new))
+        return subprocess.run(['rt', 'try', '--cases', parts], stdout=subprocess.DEVNULL, stderr=subprocess.DEVNULL, cwd=os.path.join(tmp, 'crates/serve')).returncode
+
+
 def main():
     args = sys.argv[1:]
     serve = os.path.join(ROOT, 'crates/serve/out/serve')
@@ -45,41 +52,21 @@ def main():
     text = open(os.path.join(ROOT, 'crates/calling/src/lib.rt')).read()
     last = int(re.search(r'LAST: u32 = (\d+)', text).group(1))
     cases = edges.cases(last)
-    data = b''.join(q.bytes() for _, q in cases)
-    real = requests.replies(answers(serve, data))
-    assert len(real) == len(cases)
-    unnoticed = 0
-    for path in sorted(glob.glob(os.path.join(ROOT, 'crates/*/must-fail/*.edit'))):
-        crate, name = path.split('/')[-3], os.path.basename(path)[:-5]
-        file, old, new = edit(path)
-        if not file.startswith('src/') or crate not in reached('serve') or (args and name not in args):
-            continue
-        with tempfile.TemporaryDirectory() as tmp:
-            for d in glob.glob(os.path.join(ROOT, 'crates/*/src')):
-                shutil.copytree(d, os.path.join(tmp, 'crates', d.split('/')[-2], 'src'))
-            target = os.path.join(tmp, 'crates', crate, file)
-            s = open(target).read()
-            assert s.count(old) == 1, path
-            open(target, 'w').write(s.replace(old, new))
-            p = subprocess.run(['sh', os.path.join(HERE, 'unproved.sh'), os.path.join(tmp, 'crates'), os.path.join(tmp, 'mutant')], stderr=subprocess.PIPE, text=True)
-            if p.returncode:
-                print('%s/%s: does not compile: %s' % (crate, name, p.stderr.strip().split('\n')[0][:200]), flush=True)
+    unnoticed = n = 0
+    with tempfile.TemporaryDirectory() as parts:
+        for data, want in builds.chunks(serve, cases):
+            n += 1
+            builds.put(parts, n, data, want)
+        for path in sorted(glob.glob(os.path.join(ROOT, 'crates/*/must-fail/*.edit'))):
+            crate, name = path.split('/')[-3], os.path.basename(path)[:-5]
+            file, old, new = edit(path)
+            if not file.startswith('src/') or crate not in reached('serve') or (args and name not in args):
                 continue
-            said = answers(os.path.join(tmp, 'mutant'), data)
-            if not said:
-                print('%s/%s: does not compile or writes nothing' % (crate, name), flush=True)
-                continue
-            got = requests.replies(said)
-            at = next((i for i, (a, b) in enumerate(zip(real, got)) if a != b), None)
-            if at is None and len(got) < len(real):
-                at = len(got)
-            if at is None:
-                unnoticed += 1
-                print('%s/%s: NOT NOTICED by %d cases' % (crate, name, len(cases)), flush=True)
-            else:
-                told = sum(a != b for a, b in zip(real, got)) + len(real) - len(got)
-                print('%s/%s: noticed at case %d (%s), by %d of %d' % (crate, name, at + 1, cases[at][0], told, len(cases)), flush=True)
-    print('not noticed: %d' % unnoticed)
+            status = tried(crate, file, old, new, parts)
+            unnoticed += status == 0
+            said = {0: 'NOT NOTICED', 4: 'noticed', 5: 'noticed', 6: 'noticed'}.get(status, 'does not compile')
+            print('%s/%s: %s' % (crate, name, said), flush=True)
+    print('%d cases in %d parts; not noticed: %d' % (len(cases), n, unnoticed))
 
 
 if __name__ == '__main__':
