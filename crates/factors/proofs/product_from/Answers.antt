@@ -10,9 +10,6 @@ pub loop-i-init : goal.loop-i-init
 unfolding first_of
 loop-i-init c = (omega arith, scalar-long _ c.scalar-p.ensures, refl)
 
-pub bounds-p-i : goal.bounds-p-i
-bounds-p-i c = let h = c.loop-i.invariant.1 in omega (arith, h)
-
 pub loop-i-preserved : goal.loop-i-preserved
 loop-i-preserved c =
     (omega arith, length-set c.loop-i.p.factors c.loop-i.i _ ∙ c.loop-i.invariant.1, read-on c.args.words.now c.loop-i.p.factors c.loop-i.i _ (let h = c.loop-i.invariant.1 in omega (arith, h)) c.factor_at-f.ensures c.loop-i.invariant.2)

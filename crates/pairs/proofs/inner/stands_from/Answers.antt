@@ -1,12 +1,9 @@
 -- `inner::stands_from` meets its contract: what is left from the word k on says the same. Assumes nothing.
-use mathlib.Core.Path.{refl, sym, ◌∙◌}
+use mathlib.Core.Path.{sym, ◌∙◌}
 use native.Mathlib.Omega.{arith}
 use borrow.Author.Tests.{eq-eqb, ne_eqb}
 use Rattle.pairs.specs.Turns.{stands_here, stands-later, stands-nowhere}
 use Rattle.pairs.proofs.inner.stands_from.Goals as goal
-
-pub loop-k-init : goal.loop-k-init
-loop-k-init c = (omega arith, refl)
 
 pub returns-then-v-pairs : goal.returns-then-v-pairs
 returns-then-v-pairs c =

@@ -1,18 +1,8 @@
 -- `inner::tell_answer` meets its contract: by the answer's first word. Assumes nothing.
-use native.Mathlib.Omega.{arith}
 use Rattle.text.specs.Types.{name_of}
 use Rattle.trials.specs.Told.{told}
-use Rattle.verdicts.specs.Answers.{answer-room, solved-there, left_there, tells-solved, tells-left, tells-stopped}
+use Rattle.verdicts.specs.Answers.{tells-solved, tells-left, tells-stopped}
 use Rattle.verdicts.proofs.inner.tell_answer.Goals as goal
-
-pub tell_judged-requires : goal.tell_judged-requires
-tell_judged-requires c =
-    let a = c.args in
-    let w = c.requires.by_index in record {
-      good = c.requires.good;
-      by_index = solved-there a.pool.now a.table.now a.s.now a.at a.out a.name.now a.refusal a.rounds a.first
-          a.second c.if-refusal-eq0.true w.0 w.1;
-    }
 
 pub returns-then-refusal-eq0 : goal.returns-then-refusal-eq0
 returns-then-refusal-eq0 c =
@@ -20,30 +10,11 @@ returns-then-refusal-eq0 c =
     tells-solved a.pool.now a.table.now a.s.now a.at a.out a.name.now a.refusal a.rounds a.first a.second
     a.constraints a.new (told a.verdict) _ _ _ c.if-refusal-eq0.true c.tell_judged.ensures
 
-pub tell_remaining-requires : goal.tell_remaining-requires
-tell_remaining-requires c =
-    let a = c.args in
-    let w = c.requires.by_index in record {
-      good = c.requires.good;
-      by_index = left_there a.pool.now a.table.now a.s.now a.at a.out a.name.now a.refusal a.rounds a.first a.second
-          c.if-refusal-eq5.true w.0 w.1;
-    }
-
 pub returns-then-refusal-eq5 : goal.returns-then-refusal-eq5
 returns-then-refusal-eq5 c =
     let a = c.args in
     tells-left a.pool.now a.table.now a.s.now a.at a.out a.name.now a.refusal a.rounds a.first a.second
     a.constraints a.new (told a.verdict) _ _ _ c.if-refusal-eq5.true (c.tell_remaining.ensures a.constraints a.new)
-
-pub tell_stopped-requires : goal.tell_stopped-requires
-tell_stopped-requires c =
-    let a = c.args in
-    let w = c.requires.by_index in
-    omega (
-      arith,
-      answer-room a.pool.now a.table.now a.s.now a.at a.out a.name.now a.refusal a.rounds a.first
-          a.second w.0 w.1,
-    )
 
 pub returns : goal.returns
 returns c =

@@ -1,6 +1,0 @@
--- `on_lists::shupkelen_closed` meets its contract. Assumes nothing.
-use borrow.Author.Rules.{rules}
-use Rattle.shupkelen.proofs.on_lists.shupkelen_closed.Goals as goal
-
-pub returns : goal.returns
-returns c = cc

@@ -1,6 +1,0 @@
--- `on_names::shupkelen_check_table` meets its contract. Assumes nothing.
-use borrow.Author.Rules.{rules}
-use Rattle.shupkelen.proofs.on_names.shupkelen_check_table.Goals as goal
-
-pub returns : goal.returns
-returns c = cc

@@ -1,8 +1,0 @@
--- `answers::powered` meets its contract. Assumes nothing.
-use Rattle.wording.proofs.answers.powered.Goals as goal
-
-pub returns-in-Value : goal.returns-in-Value
-returns-in-Value c = rw c.in-Value.is (cc)
-
-pub returns-in-Refused : goal.returns-in-Refused
-returns-in-Refused c = rw c.in-Refused.is (cc)
