@@ -1,4 +1,4 @@
--- How long the answer of solving is, as words. Assumes nothing.
+-- How long the answer of solving is, as words.
 use Rattle.std.specs.Prelude.{◌≡◌, refl, List, ◌++◌, map, ℕ, ◌+◌, ◌*◌, length}
 use Rattle.std.proofs.Common.{ap, ap₂, ◌∙◌, length-append}
 use Rattle.std.proofs.lemmas.List.{length-map}

@@ -1,5 +1,4 @@
 -- The order of names is lawful: byte strings, the numbers of a list of names, and the atoms of a product over them.
--- Assumes nothing.
 use Rattle.std.specs.Prelude.{◌≡◌, ◌⊎◌, true, false, List, [], ◌∷◌, get_or}
 use Rattle.std.proofs.Math.Path.{refl}
 use Rattle.std.proofs.Common.{sym, ◌∙◌, ap, inl, inr, arith, eqb-true, leb-false, eq-eqb}

@@ -1,5 +1,4 @@
 -- Reading and replacing keep how many types there are.
--- Assumes nothing.
 use Rattle.std.specs.Prelude.{◌≡◌, Bool}
 use Rattle.std.proofs.Math.Path.{refl, ap, subst}
 use Rattle.std.proofs.Common.{sym}

@@ -1,12 +1,29 @@
 -- What is read with a nesting limit is nested no deeper.
--- Assumes nothing.
 use Rattle.std.proofs.Math.Option.{Option}
 use Rattle.std.specs.Prelude.{List, [], ◌∷◌, length}
 use Prim.Native.Nat.{ℕ, zero, suc, ◌≤◌}
 use Rattle.std.proofs.Common.{arith}
 use Rattle.rules.specs.Trees.{var, quant, par, Ty, opened, basic, boolean, string, datetime, depth, depthTys, depthFields}
 use Rattle.rules.specs.Writing.{Rec, rec, kindIn, lengthIn}
-use Rattle.rules.specs.Reading.{Reader, give, lasting, next, readFactors, readTys, readFields, readField, fieldTable, fieldKinds, readDim, readFn, readStruct, readList, typeTable, typeKinds, readTy}
+use Rattle.rules.specs.Reading.{
+  Reader,
+  give,
+  lasting,
+  next,
+  readFactors,
+  readTys,
+  readFields,
+  readField,
+  fieldTable,
+  fieldKinds,
+  readDim,
+  readFn,
+  readStruct,
+  readList,
+  typeTable,
+  typeKinds,
+  readTy,
+}
 use Rattle.laws.specs.Written.{Reads, nothing, given, then, picked, plain, lasting-read}
 
 -- whatever was read

@@ -1,8 +1,23 @@
 -- What entering a new name does to a table: one name more, all others as they were, and the table stays well formed.
--- Assumes nothing.
 use Rattle.std.specs.Prelude.{◌≡◌, ◌⊎◌, Bool, ◌&&◌, ◌||◌, ℕ, zero, suc, ◌+◌, ◌-◌, ◌≤◌, ◌<◌, ltb, take, drop, set}
 use Rattle.std.proofs.Math.Path.{refl, sym, ap, ap₂}
-use Rattle.std.proofs.Common.{◌∙◌, inl, inr, arith, length-append, take-take, take_at, drop_at, length-take-le, take-suc-set, get_or-set_same, get_or-set_other, get_or-take, drop-drop, drop-set-lt}
+use Rattle.std.proofs.Common.{
+  ◌∙◌,
+  inl,
+  inr,
+  arith,
+  length-append,
+  take-take,
+  take_at,
+  drop_at,
+  length-take-le,
+  take-suc-set,
+  get_or-set_same,
+  get_or-set_other,
+  get_or-take,
+  drop-drop,
+  drop-set-lt,
+}
 use Rattle.std.proofs.Math.Bool.{true, false, not}
 use mathlib.Core.List.{List, [], ◌∷◌, ◌++◌, append_assoc}
 use Rattle.std.proofs.Math.Option.{Option, none, some}
@@ -12,12 +27,56 @@ use Rattle.std.proofs.Math.Dec.{leb}
 use Rattle.std.proofs.Math.ListN.{length, get_or, length-drop, length-set}
 use Rattle.std.proofs.Math.Seq.{take-nil, take-append_seam}
 use Rattle.rules.specs.Base.{Got, got, refused, need, ◌>>◌, any, is_none}
-use Rattle.rules.specs.Names.{Bytes, Table, is_held, nameAsked, table_of, cut, names_of, used, lengthsGood, sameBytes, distinct, tableGood, tableGiven, lentTable, number_of, hasRoom, unchanged, enterNew, enterKnown, enterChecks, enterChecked, enter}
+use Rattle.rules.specs.Names.{
+  Bytes,
+  Table,
+  is_held,
+  nameAsked,
+  table_of,
+  cut,
+  names_of,
+  used,
+  lengthsGood,
+  sameBytes,
+  distinct,
+  tableGood,
+  tableGiven,
+  lentTable,
+  number_of,
+  hasRoom,
+  unchanged,
+  enterNew,
+  enterKnown,
+  enterChecks,
+  enterChecked,
+  enter,
+}
 use Rattle.rules.specs.declared.Was.{Was}
 use Rattle.rules.specs.declared.Was.TheVariants.{New, Known}
 use Rattle.laws.specs.Checks.{need-passed, first-passed, next-passed}
 use Rattle.laws.specs.Lists.{and_left, and_right}
-use Rattle.laws.specs.NameTable.{endsOf, start_at, lengths-step, same-yes, same-no, used-is, used-within, Laid, length-names, Good, good-laid, good-distinct, good-is, given-good, good-given, Asked, search-any, search-found, room-is, new_is}
+use Rattle.laws.specs.NameTable.{
+  endsOf,
+  start_at,
+  lengths-step,
+  same-yes,
+  same-no,
+  used-is,
+  used-within,
+  Laid,
+  length-names,
+  Good,
+  good-laid,
+  good-distinct,
+  good-is,
+  given-good,
+  good-given,
+  Asked,
+  search-any,
+  search-found,
+  room-is,
+  new_is,
+}
 
 -- ══ One end more ══
 

@@ -1,5 +1,4 @@
 -- Where the bounded rules give a value, the exact rules give the same; where they refuse other than by 7 or 8, the exact rules refuse alike.
--- Assumes nothing.
 use Rattle.std.specs.Prelude.{◌≡◌, Bool, true, false, ◌⊎◌, length, leb}
 use Rattle.std.proofs.Math.Path.{refl}
 use Rattle.std.proofs.Common.{ap, ◌∙◌, inl, inr}
@@ -8,7 +7,29 @@ use mathlib.Core.List.{[], ◌∷◌}
 use Prim.Native.Nat.{ℕ, Ordering}
 use Rattle.rules.specs.Base.{Got, got, refused, ◌>>=◌, bounded, exact, within, sized, allow}
 use Rattle.rules.specs.Exponents.{Exp, ranged, in_range, plus, mul, sum, times}
-use Rattle.rules.specs.Trees.{Open, Atom, free, base, ◌↑◌, Product, Names, Ty, opened, basic, dim, fn, struct, list, Tys, nil, cons, Fields, noFields, field, orderAtom}
+use Rattle.rules.specs.Trees.{
+  Open,
+  Atom,
+  free,
+  base,
+  ◌↑◌,
+  Product,
+  Names,
+  Ty,
+  opened,
+  basic,
+  dim,
+  fn,
+  struct,
+  list,
+  Tys,
+  nil,
+  cons,
+  Fields,
+  noFields,
+  field,
+  orderAtom,
+}
 use Rattle.rules.specs.Products.{inverse, single, mergeOne, merge, multiply, divide, raise}
 use Rattle.rules.specs.Replacing.{Look, asProduct, replaceFactors, replaceProduct, replaceDim, replaceTy, replaceTys, replaceFields}
 

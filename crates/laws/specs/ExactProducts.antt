@@ -1,5 +1,4 @@
 -- The exact product and power of products, as functions: exact arithmetic always gives a value, and the bounded rules give that value or a refusal.
--- Assumes nothing.
 use Rattle.std.specs.Prelude.{◌≡◌}
 use Rattle.std.proofs.Math.Path.{refl}
 use mathlib.Core.List.{[], ◌∷◌}

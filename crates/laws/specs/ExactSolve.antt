@@ -1,15 +1,59 @@
 -- Where the bounded solver answers without 7 and 8, the exact solver answers the same.
--- Assumes nothing.
 use Rattle.std.specs.Prelude.{◌≡◌, refl}
 use Rattle.std.proofs.Math.Option.{Option, none, some}
 use mathlib.Core.List.{List, [], ◌∷◌}
 use Prim.Native.Nat.{ℕ, zero, suc}
 use Rattle.rules.specs.Base.{Got, got, refused, bounded, exact, each}
 use Rattle.rules.specs.Exponents.{Exp, neg, inverted, timesInverse, quotient}
-use Rattle.rules.specs.Trees.{var, quant, par, free, base, Factor, ◌↑◌, Product, Names, Ty, opened, basic, dim, fn, struct, list, Con, equal, isDim, is_scalar, hasField, Binding, ◌≔◌}
+use Rattle.rules.specs.Trees.{
+  var,
+  quant,
+  par,
+  free,
+  base,
+  Factor,
+  ◌↑◌,
+  Product,
+  Names,
+  Ty,
+  opened,
+  basic,
+  dim,
+  fn,
+  struct,
+  list,
+  Con,
+  equal,
+  isDim,
+  is_scalar,
+  hasField,
+  Binding,
+  ◌≔◌,
+}
 use Rattle.rules.specs.Views.{productOf, asVar}
 use Rattle.rules.specs.Replacing.{Look, replaceCon, replaceBinding, replaceProduct, bindings}
-use Rattle.rules.specs.Rounds.{Step, bind, split, done, stuck, State, firstRules, orTry, dimensions, otherSide, taken, performed, by_kind, trySatisfy, firstStep, sizeState, depthState, limited, perform, round}
+use Rattle.rules.specs.Rounds.{
+  Step,
+  bind,
+  split,
+  done,
+  stuck,
+  State,
+  firstRules,
+  orTry,
+  dimensions,
+  otherSide,
+  taken,
+  performed,
+  by_kind,
+  trySatisfy,
+  firstStep,
+  sizeState,
+  depthState,
+  limited,
+  perform,
+  round,
+}
 use Rattle.rules.specs.Solving.{Answer, accepted, remaining, stopped, after, run}
 use Rattle.laws.specs.Exact.{Below, same, next, sized-below, times_below, divide-below, factors-below, ty_below}
 

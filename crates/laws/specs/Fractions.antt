@@ -1,5 +1,4 @@
 -- Exact arithmetic of fractions: lowest terms are unique, and the fractions in lowest terms are a field.
--- Assumes nothing.
 use Rattle.std.specs.Prelude.{◌≡◌, refl, true, ℕ, zero, suc, ◌*◌, ◌/◌, ◌<◌, ℤ, negsuc, neg_ℤ, nat_abs, ◌+ℤ◌, ◌*ℤ◌}
 use Rattle.std.proofs.Common.{ap, ◌∙◌, sym, subst, mul_comm, mul_assoc, mul_left_comm, mul-one, mul-pos, div-one, arith, eqb-true}
 use Rattle.std.proofs.Math.Path.{ap₂}

@@ -1,9 +1,18 @@
 -- What the greatest common divisor of the rules is: the one number that divides both and that every common divisor divides.
--- Assumes nothing.
 use Rattle.std.specs.Prelude.{◌≡◌, refl, ℕ, zero, suc, ◌+◌, ◌*◌, ◌/◌, ◌%◌, ◌<◌}
 use Rattle.std.proofs.Common.{ap, ap₂, ◌∙◌, sym, mul-add, mul_assoc, mul-one, mul-zero, mod-lt, mul-pos, arith}
 use Rattle.std.specs.Int.{◌∣◌}
-use Rattle.std.proofs.Math.Nat.{div-add-mod, mul-div-mul_left, dvd_refl, dvd-zero, dvd-mod_iff, dvd_antisymm, mul-div_cancel', pos_of_dvd_of_pos, eq_of_mul-eq-mul_left}
+use Rattle.std.proofs.Math.Nat.{
+  div-add-mod,
+  mul-div-mul_left,
+  dvd_refl,
+  dvd-zero,
+  dvd-mod_iff,
+  dvd_antisymm,
+  mul-div_cancel',
+  pos_of_dvd_of_pos,
+  eq_of_mul-eq-mul_left,
+}
 use Rattle.rules.specs.Exponents.{gcdIn, gcd}
 
 -- g divides both, and whatever divides both divides g

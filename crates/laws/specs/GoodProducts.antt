@@ -1,5 +1,4 @@
 -- Well formed products: what the test says, and that the bounded steps give well formed products again.
--- Assumes nothing.
 use Rattle.std.specs.Prelude.{◌≡◌, Bool, leb}
 use Rattle.std.proofs.Math.Path.{refl, ap}
 use Rattle.std.proofs.Common.{◌∙◌, arith}

@@ -1,5 +1,4 @@
 -- Replacing by well formed types, and each rule, give well formed types and constraints again.
--- Assumes nothing.
 use Rattle.std.specs.Prelude.{◌≡◌, Bool, ◌&&◌, ◌⊎◌, ℕ, suc, length}
 use Rattle.std.proofs.Math.Path.{refl, ap}
 use Rattle.std.proofs.Common.{◌∙◌, sym, inl, inr, arith}
@@ -8,7 +7,40 @@ use Rattle.std.proofs.Math.Option.{Option, none, some, get_or}
 use mathlib.Core.List.{List, [], ◌∷◌, map, cons≢nil, Memᴰ}
 use Rattle.rules.specs.Base.{got, refused, bounded, each, is_yes}
 use Rattle.rules.specs.Exponents.{Exp, nought, one, isZero, in_range, neg, mul, inverted, times, goodStored, quotient}
-use Rattle.rules.specs.Trees.{Open, var, quant, par, Atom, free, base, ◌↑◌, Product, Names, Ty, opened, basic, dim, fn, struct, list, Tys, nil, cons, Fields, noFields, field, Con, equal, isDim, is_scalar, hasField, Binding, ◌≔◌, orderAtom, opens}
+use Rattle.rules.specs.Trees.{
+  Open,
+  var,
+  quant,
+  par,
+  Atom,
+  free,
+  base,
+  ◌↑◌,
+  Product,
+  Names,
+  Ty,
+  opened,
+  basic,
+  dim,
+  fn,
+  struct,
+  list,
+  Tys,
+  nil,
+  cons,
+  Fields,
+  noFields,
+  field,
+  Con,
+  equal,
+  isDim,
+  is_scalar,
+  hasField,
+  Binding,
+  ◌≔◌,
+  orderAtom,
+  opens,
+}
 use Rattle.rules.specs.Contents.{fieldIn}
 use Rattle.rules.specs.Products.{just, single}
 use Rattle.rules.specs.Replacing.{Look, asProduct, replaceFactors, replaceProduct, replaceDim, replaceTy, replaceTys, replaceFields, replaceCon, replaceBinding}
@@ -17,10 +49,40 @@ use Rattle.rules.specs.WellFormed.{atomOf, fieldNames, goodOpen, goodProduct, go
 use Rattle.laws.specs.Order.{Lawful}
 use Rattle.laws.specs.Value.{Gives, gives, refuses, next, weaken, together, its_own}
 use Rattle.laws.specs.Sorted.{sorted, sorted_rises}
-use Rattle.laws.specs.Fractions.{Lowest, neg-lowest, mul-in-lowest, inverted-lowest, mul-comm', mul-assoc', mul-one', mul-inverted, zero-is-nought, neg-zero, nought-mul}
+use Rattle.laws.specs.Fractions.{
+  Lowest,
+  neg-lowest,
+  mul-in-lowest,
+  inverted-lowest,
+  mul-comm',
+  mul-assoc',
+  mul-one',
+  mul-inverted,
+  zero-is-nought,
+  neg-zero,
+  nought-mul,
+}
 use Rattle.laws.specs.Ranges.{good-lowest, one-good, stored-good, stored-not-zero, is-stored, neg-good, quotient-good}
 use Rattle.laws.specs.GoodProducts.{goodAtom, GoodFactor, good-product, product-good, multiply_good, divide-good, raise-good}
-use Rattle.laws.specs.RuleCases.{Reads, Sides, After, Rule, none-applies, equal-records, binds, two-functions, two-lists, two-structs, as-product, two-dimensions, dimension, no-factor, first-factor, closed-struct, part_of}
+use Rattle.laws.specs.RuleCases.{
+  Reads,
+  Sides,
+  After,
+  Rule,
+  none-applies,
+  equal-records,
+  binds,
+  two-functions,
+  two-lists,
+  two-structs,
+  as-product,
+  two-dimensions,
+  dimension,
+  no-factor,
+  first-factor,
+  closed-struct,
+  part_of,
+}
 use Rattle.laws.specs.Lists.{true≢false, some≢none, got≢refused, allow-same, and_left, and_right, and_both, All, all_nil, all_cons, Every, every-all}
 use Rattle.laws.specs.KnownNames.{product-known}
 

@@ -1,10 +1,42 @@
 -- The open names of what is well formed are well formed.
--- Assumes nothing.
 use Rattle.std.specs.Prelude.{◌≡◌, Bool, true, ◌&&◌, ℕ, leb, length}
 use mathlib.Core.List.{List, [], ◌∷◌, map}
 use Rattle.rules.specs.Base.{all, collect}
 use Rattle.rules.specs.Exponents.{goodStored}
-use Rattle.rules.specs.Trees.{Open, free, base, ◌↑◌, Product, Names, Ty, opened, basic, dim, fn, struct, list, Tys, nil, cons, Fields, noFields, field, Con, equal, isDim, is_scalar, hasField, Binding, ◌≔◌, orderAtom, openOfFactor, opens, opensTys, opensFields, opensCon}
+use Rattle.rules.specs.Trees.{
+  Open,
+  free,
+  base,
+  ◌↑◌,
+  Product,
+  Names,
+  Ty,
+  opened,
+  basic,
+  dim,
+  fn,
+  struct,
+  list,
+  Tys,
+  nil,
+  cons,
+  Fields,
+  noFields,
+  field,
+  Con,
+  equal,
+  isDim,
+  is_scalar,
+  hasField,
+  Binding,
+  ◌≔◌,
+  orderAtom,
+  openOfFactor,
+  opens,
+  opensTys,
+  opensFields,
+  opensCon,
+}
 use Rattle.rules.specs.WellFormed.{rising, atomOf, fieldNames, goodOpen, goodFactor, goodProduct, goodTy, goodTys, goodFields, goodCon, goodBinding}
 use Rattle.rules.specs.Calls.{opensBinding}
 use Rattle.laws.specs.Lists.{and_left, and_right, Every}

@@ -36,3 +36,4 @@ pub mod Turns
 pub mod Evaluation
 pub mod KeepsGood
 pub mod Occurs
+pub mod Theorems

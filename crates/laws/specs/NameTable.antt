@@ -1,5 +1,4 @@
 -- What a table of names holds: its ends and starts, its names one by one, and the bytes in use.
--- Assumes nothing.
 use Rattle.std.specs.Prelude.{◌≡◌, Bool, true, false, not, ◌&&◌, ◌||◌}
 use Rattle.std.proofs.Math.Path.{refl, sym, ap, ap₂}
 use Rattle.std.proofs.Common.{◌∙◌, arith, length-take, length-drop, drop_of_length-le, drop-cons, take-take, take-add, drop_at, length-take-le}
@@ -13,7 +12,27 @@ use Rattle.std.proofs.Math.Dec.{leb, ltb}
 use Rattle.std.proofs.Math.ListN.{length, take, drop, get_or, set}
 use Rattle.std.proofs.Math.Seq.{get_or-take, get_or-drop}
 use Rattle.rules.specs.Base.{got, need, ◌>>◌, list-dec, any, is_none}
-use Rattle.rules.specs.Names.{Bytes, table_of, is_held, held, cut, names_of, used, lengthsGood, sameBytes, distinct, tableGood, tableGiven, lentTable, number_of, numbered, nameAsked, hasRoom, enterNew, start_in}
+use Rattle.rules.specs.Names.{
+  Bytes,
+  table_of,
+  is_held,
+  held,
+  cut,
+  names_of,
+  used,
+  lengthsGood,
+  sameBytes,
+  distinct,
+  tableGood,
+  tableGiven,
+  lentTable,
+  number_of,
+  numbered,
+  nameAsked,
+  hasRoom,
+  enterNew,
+  start_in,
+}
 use Rattle.rules.specs.declared.Was.TheVariants.{New}
 use Rattle.laws.specs.Lists.{and_left, and_right, is-yes, is-no, yes-is}
 use Rattle.laws.specs.Checks.{need-passed, first-passed, next-passed}

@@ -1,10 +1,22 @@
 -- The numbers of the refusals tell them apart.
--- Assumes nothing.
-use Rattle.std.specs.Prelude.{◌≡◌, refl, List, [], ◌∷◌, ℕ, ◌-◌, get_or}
+use Rattle.std.specs.Prelude.{Result, Ok, Err, Option, None, Some, ◌≡◌, refl, List, [], ◌∷◌, ℕ, ◌-◌, get_or}
 use Rattle.std.proofs.Common.{ap, ◌∙◌, sym}
 use Rattle.rules.specs.declared.Refusal.{Refusal}
-use Rattle.rules.specs.declared.Refusal.TheVariants.{Malformed, NameLength, NoRoom, Mixed, Unsolved, NotDimension, OutOfRange, TooLarge, WrongCount, ShortBuffer, NotConfirmed, NotGrammar}
-use Rattle.rules.specs.Refusals.{number_of}
+use Rattle.rules.specs.declared.Refusal.TheVariants.{
+  Malformed,
+  NameLength,
+  NoRoom,
+  Mixed,
+  Unsolved,
+  NotDimension,
+  OutOfRange,
+  TooLarge,
+  WrongCount,
+  ShortBuffer,
+  NotConfirmed,
+  NotGrammar,
+}
+use Rattle.rules.specs.Refusals.{number_of, told, toldBy, toldOption, toldOptionBy}
 
 -- in the order of their numbers, from 1
 refusals : List Refusal
@@ -30,3 +42,30 @@ found NotGrammar = refl
 
 pub number-injective : (r s : Refusal) → number_of r ≡ number_of s → r ≡ s
 number-injective r s e = sym (found r) ∙ ap refusalOf e ∙ found s
+
+-- two answers that say the same are the same, if values that stand for the same are
+module _ {A B : Type 0} (f : A → B) (one : (a b : A) → f a ≡ f b → a ≡ b) where
+  pub toldBy-injective : (p q : Result A Refusal) → toldBy f p ≡ toldBy f q → p ≡ q
+  toldBy-injective (Ok a) (Ok b) e = ap Ok (one a b (cc))
+  toldBy-injective (Ok a) (Err s) e = cc
+  toldBy-injective (Err r) (Ok b) e = cc
+  toldBy-injective (Err r) (Err s) e = ap Err (number-injective r s (cc))
+
+pub told-injective : {A : Type 0} (p q : Result A Refusal) → told p ≡ told q → p ≡ q
+told-injective (Ok a) (Ok b) e = ap Ok (cc)
+told-injective (Ok a) (Err s) e = cc
+told-injective (Err r) (Ok b) e = cc
+told-injective (Err r) (Err s) e = ap Err (number-injective r s (cc))
+
+module _ {A B : Type 0} (f : A → B) (one : (a b : A) → f a ≡ f b → a ≡ b) where
+  pub toldOptionBy-injective : (p q : Option A) → toldOptionBy f p ≡ toldOptionBy f q → p ≡ q
+  toldOptionBy-injective None None e = refl
+  toldOptionBy-injective None (Some b) e = cc
+  toldOptionBy-injective (Some a) None e = cc
+  toldOptionBy-injective (Some a) (Some b) e = ap Some (one a b (cc))
+
+pub toldOption-injective : {A : Type 0} (p q : Option A) → toldOption p ≡ toldOption q → p ≡ q
+toldOption-injective None None e = refl
+toldOption-injective None (Some b) e = cc
+toldOption-injective (Some a) None e = cc
+toldOption-injective (Some a) (Some b) e = ap Some (cc)

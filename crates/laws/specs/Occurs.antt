@@ -1,5 +1,4 @@
 -- Which open names occur, at all or in dimension products, after a rule and after replacing one variable.
--- Assumes nothing.
 use Rattle.std.specs.Prelude.{◌≡◌, Bool, ◌&&◌, ◌⊎◌, ℕ}
 use Rattle.std.proofs.Math.Path.{refl, ap, sym}
 use Rattle.std.proofs.Common.{◌∙◌}
@@ -10,7 +9,44 @@ use mathlib.Core.List.Memᴰ
 use mathlib.Core.List.{List, [], ◌∷◌, ◌++◌, Memᴰ}
 use Rattle.rules.specs.Base.{got, Limits, exact, each, collect, is_yes}
 use Rattle.rules.specs.Exponents.{Exp, quotient, neg}
-use Rattle.rules.specs.Trees.{Open, var, quant, par, Atom, free, base, Factor, ◌↑◌, Product, Names, Ty, opened, basic, dim, fn, struct, list, Tys, nil, cons, Fields, noFields, field, Con, equal, isDim, is_scalar, hasField, ◌≔◌, orderAtom, opens, opensTys, opensFields, openOfFactor, opensCon}
+use Rattle.rules.specs.Trees.{
+  Open,
+  var,
+  quant,
+  par,
+  Atom,
+  free,
+  base,
+  Factor,
+  ◌↑◌,
+  Product,
+  Names,
+  Ty,
+  opened,
+  basic,
+  dim,
+  fn,
+  struct,
+  list,
+  Tys,
+  nil,
+  cons,
+  Fields,
+  noFields,
+  field,
+  Con,
+  equal,
+  isDim,
+  is_scalar,
+  hasField,
+  ◌≔◌,
+  orderAtom,
+  opens,
+  opensTys,
+  opensFields,
+  openOfFactor,
+  opensCon,
+}
 use Rattle.rules.specs.Views.{variable}
 use Rattle.rules.specs.Contents.{fieldIn}
 use Rattle.rules.specs.Products.{just, single, inverse, multiply, divide, raise}
@@ -22,7 +58,25 @@ use Rattle.laws.specs.Order.{Lawful, Tells}
 use Rattle.laws.specs.Sorted.{merge-each, raise-each, inverse-each}
 use Rattle.laws.specs.ExactProducts.{mergeE, raiseE, merge-exact, raise-exact}
 use Rattle.laws.specs.GoodProducts.{goodAtom, good-proper}
-use Rattle.laws.specs.Lists.{and_left, and_right, All, all_nil, all_cons, all_append, append-parts, in_head, some≢none, got≢refused, yes-is, no-is, two_steps, one-step, each-parts, bound-step, Every}
+use Rattle.laws.specs.Lists.{
+  and_left,
+  and_right,
+  All,
+  all_nil,
+  all_cons,
+  all_append,
+  append-parts,
+  in_head,
+  some≢none,
+  got≢refused,
+  yes-is,
+  no-is,
+  two_steps,
+  one-step,
+  each-parts,
+  bound-step,
+  Every,
+}
 use Rattle.laws.specs.RuleCases.{single-is}
 use Rattle.laws.specs.KeepsGood.{GoodTy, dimension-good}
 use Rattle.laws.specs.Evaluation.{valued, value_of, meantBy, orSelf, Fit, Fits, replace-exact}

@@ -1,5 +1,4 @@
 -- What is asked of an order of names, or of the atoms of a product.
--- Assumes nothing.
 use Rattle.std.specs.Prelude.{◌≡◌, refl}
 use Rattle.std.proofs.Common.{sym, ◌∙◌, ap}
 use Prim.Native.Nat.{Ordering}

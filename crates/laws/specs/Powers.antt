@@ -1,5 +1,4 @@
 -- Products in exact arithmetic: a product is its powers, atom by atom. Products are a commutative group, raising is a homomorphism.
--- Assumes nothing.
 use Rattle.std.specs.Prelude.{◌≡◌, Bool, false}
 use Rattle.std.proofs.Math.Path.{refl, ap, ap₂, sym}
 use Rattle.std.proofs.Common.{◌∙◌, subst, arith}
@@ -12,7 +11,29 @@ use Rattle.rules.specs.Trees.{Atom, Atom-discrete, Factor, ◌↑◌, Product, N
 use Rattle.rules.specs.Products.{put, inverse}
 use Rattle.laws.specs.Lists.{Every}
 use Rattle.laws.specs.Order.{Lawful, Tells, self, after}
-use Rattle.laws.specs.Fractions.{Lowest, nought-lowest, one-lowest, neg-lowest, plus-in-lowest, mul-in-lowest, plus_comm, plus_assoc, plus-nought, plus-neg, mul-assoc', mul-plus, mul-one', zero-is-nought, neg-zero, mul-nought, nought-mul, nought-plus, plus-mul, mul-neg, neg-neg}
+use Rattle.laws.specs.Fractions.{
+  Lowest,
+  nought-lowest,
+  one-lowest,
+  neg-lowest,
+  plus-in-lowest,
+  mul-in-lowest,
+  plus_comm,
+  plus_assoc,
+  plus-nought,
+  plus-neg,
+  mul-assoc',
+  mul-plus,
+  mul-one',
+  zero-is-nought,
+  neg-zero,
+  mul-nought,
+  nought-mul,
+  nought-plus,
+  plus-mul,
+  mul-neg,
+  neg-neg,
+}
 use Rattle.laws.specs.Sorted.{Before, Sorted, sooner, beside, merge-sorted, raise-behind, raise-sorted, inverse-sorted, merge-each, raise-each, inverse-each}
 use Rattle.laws.specs.ExactProducts.{mergeE, mergeOneE, raiseE, merge-exact, raise-exact, sum-exact, times-exact}
 

@@ -1,5 +1,4 @@
 -- Well formed exponents: what the test says, and that the bounded steps give well formed exponents again.
--- Assumes nothing.
 use Rattle.std.specs.Prelude.{◌≡◌, Bool, true, false, not, ◌&&◌, ℕ, zero, suc, ◌<◌, ◌≤◌, eqb, ℤ, pos, negsuc, neg_ℤ, nat_abs}
 use Rattle.std.proofs.Math.Path.{refl}
 use Rattle.std.proofs.Common.{ap, ◌∙◌, subst, arith}
@@ -8,7 +7,29 @@ use Rattle.std.proofs.Math.Option.{Option, none, some}
 use borrow.Author.Tests.{leb-true, le-leb, eqb-true, eq-eqb}
 use Rattle.std.proofs.Math.Dec.{leb}
 use Rattle.rules.specs.Base.{Got, got, bounded, allow, need, ◌>>◌}
-use Rattle.rules.specs.Exponents.{Exp, frac, gcdIn, gcd, nought, one, top, in_range, goodExp, isZero, goodStored, ranged, neg, plus, mul, inverted, sum, times, negation, quotient, timesInverse}
+use Rattle.rules.specs.Exponents.{
+  Exp,
+  frac,
+  gcdIn,
+  gcd,
+  nought,
+  one,
+  top,
+  in_range,
+  goodExp,
+  isZero,
+  goodStored,
+  ranged,
+  neg,
+  plus,
+  mul,
+  inverted,
+  sum,
+  times,
+  negation,
+  quotient,
+  timesInverse,
+}
 use Rattle.rules.specs.Values.{sumCall, timesCall, negationCall, quotientCall}
 use Rattle.laws.specs.Lists.{not-true}
 use Rattle.laws.specs.Integers.{natAbs-neg}

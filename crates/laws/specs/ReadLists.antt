@@ -1,6 +1,5 @@
 -- Constraints, bindings, bounds and whole lists: what was written is read back, and what was read is what stands there.
 -- So a list of words holds one list of trees at the most.
--- Assumes nothing.
 use Rattle.std.specs.Prelude.{◌≡◌, length}
 use Rattle.std.proofs.Math.Path.{refl, ap}
 use Rattle.std.proofs.Common.{◌∙◌, sym, subst, arith}
@@ -10,9 +9,50 @@ use Prim.Native.Nat.{ℕ, zero, suc, ◌≤◌, ◌<◌}
 use Rattle.std.proofs.Math.ListN.{length-append}
 use Rattle.std.proofs.lemmas.List.{length-map}
 use Rattle.rules.specs.Base.{all, collect}
-use Rattle.rules.specs.Trees.{Open, var, quant, par, Product, Con, equal, isDim, is_scalar, hasField, Binding, ◌≔◌, sizeCon, sizeBinding, depthCon, depthBinding}
+use Rattle.rules.specs.Trees.{
+  Open,
+  var,
+  quant,
+  par,
+  Product,
+  Con,
+  equal,
+  isDim,
+  is_scalar,
+  hasField,
+  Binding,
+  ◌≔◌,
+  sizeCon,
+  sizeBinding,
+  depthCon,
+  depthBinding,
+}
 use Rattle.rules.specs.Writing.{Rec, rec, kindIn, lengthIn, words, writeFactor, writeProduct, writeTy, writeCon, writeBinding, writeBound}
-use Rattle.rules.specs.Reading.{Reader, give, pick, next, readTy, scalarTable, scalarKinds, conTable, conKinds, readEqual, readIsDim, readScalar, readHasField, readBoundTo, readCon, bindingTable, bindingKinds, readBinding, boundTable, boundKinds, readBound, read_all, records}
+use Rattle.rules.specs.Reading.{
+  Reader,
+  give,
+  pick,
+  next,
+  readTy,
+  scalarTable,
+  scalarKinds,
+  conTable,
+  conKinds,
+  readEqual,
+  readIsDim,
+  readScalar,
+  readHasField,
+  readBoundTo,
+  readCon,
+  bindingTable,
+  bindingKinds,
+  readBinding,
+  boundTable,
+  boundKinds,
+  readBound,
+  read_all,
+  records,
+}
 pub use Rattle.laws.specs.Lists.{Every}
 use Rattle.laws.specs.Reading.{FitsProduct, Fits, read-factors, read-ty}
 use Rattle.laws.specs.Written.{Reads, nothing, given, then, picked, plain, Small, Is, Begins, begun, lasting-read, first_read, after, factors-read, ty-read}

@@ -1,5 +1,4 @@
 -- Reading what was written gives it back.
--- Assumes nothing.
 use Rattle.std.specs.Prelude.{◌≡◌, refl, ℕ, zero, suc, ◌≤◌, ◌-◌, Bool, true, not, ◌&&◌, leb, ℤ, pos, negsuc, nat_abs, length}
 use Rattle.std.proofs.Common.{ap, arith, lt-ltb, le-ltb, leb-true}
 use Rattle.std.proofs.Math.Option.{some}
@@ -7,7 +6,40 @@ use mathlib.Core.List.{List, [], ◌∷◌, ◌++◌, map, append_assoc}
 use Rattle.std.proofs.lemmas.List.{length-map}
 use Rattle.rules.specs.Base.{all}
 use Rattle.rules.specs.Exponents.{frac, top, in_range, goodExp, isZero, goodStored}
-use Rattle.rules.specs.Trees.{var, quant, par, free, base, Factor, ◌↑◌, Product, Names, Ty, opened, basic, dim, fn, struct, list, Tys, nil, cons, Fields, noFields, field, boolean, string, datetime, size, depth, depthTys, depthFields, count, countFields, orderAtom}
+use Rattle.rules.specs.Trees.{
+  var,
+  quant,
+  par,
+  free,
+  base,
+  Factor,
+  ◌↑◌,
+  Product,
+  Names,
+  Ty,
+  opened,
+  basic,
+  dim,
+  fn,
+  struct,
+  list,
+  Tys,
+  nil,
+  cons,
+  Fields,
+  noFields,
+  field,
+  boolean,
+  string,
+  datetime,
+  size,
+  depth,
+  depthTys,
+  depthFields,
+  count,
+  countFields,
+  orderAtom,
+}
 use Rattle.rules.specs.Writing.{Rec, rec, head, twos, by_sign, signed, writeFactor, writeProduct, writeTy, writeTys, writeFields}
 use Rattle.rules.specs.Reading.{factorKinds, next, readFactors, readTys, fieldKinds, readFields, typeKinds, readTy}
 use Rattle.rules.specs.WellFormed.{atomOf, rising, goodOpen, goodFactor, goodProduct, goodTy, goodTys, goodFields}

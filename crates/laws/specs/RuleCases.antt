@@ -1,5 +1,4 @@
 -- Which rule a step comes from: the cases of a step, each with what its rule knows.
--- Assumes nothing.
 use Rattle.std.specs.Prelude.{◌≡◌, Bool, not, ◌&&◌, ◌⊎◌}
 use Rattle.std.proofs.Math.Path.{refl, sym}
 use Rattle.std.proofs.Common.{ap, ◌∙◌, eqb→eq}
@@ -11,12 +10,78 @@ use mathlib.Core.List.{List, [], ◌∷◌, map, Memᴰ}
 use Rattle.std.proofs.Math.Dec.{eqb}
 use Rattle.rules.specs.Base.{Got, got, Limits, is_yes, ◌or_else◌, only_if, and_then, each, collect, isNil, to_list}
 use Rattle.rules.specs.Exponents.{Exp, Exp-dec, one}
-use Rattle.rules.specs.Trees.{Open, var, quant, par, free, base, ◌↑◌, Product, Names, Ty, opened, basic, dim, fn, struct, list, Tys, Fields, Con, equal, isDim, is_scalar, hasField, ty-dec, open-dec, count, opens, openOfFactor}
+use Rattle.rules.specs.Trees.{
+  Open,
+  var,
+  quant,
+  par,
+  free,
+  base,
+  ◌↑◌,
+  Product,
+  Names,
+  Ty,
+  opened,
+  basic,
+  dim,
+  fn,
+  struct,
+  list,
+  Tys,
+  Fields,
+  Con,
+  equal,
+  isDim,
+  is_scalar,
+  hasField,
+  ty-dec,
+  open-dec,
+  count,
+  opens,
+  openOfFactor,
+}
 use Rattle.rules.specs.Views.{productOf, fn_of, struct_of, list_of, variable, name_of, asVar, asPower}
 use Rattle.rules.specs.Contents.{closed, contains, fieldIn, namesIn}
 use Rattle.rules.specs.Products.{just, single, divide}
-use Rattle.rules.specs.Rounds.{Step, bind, split, done, stuck, pairs, asProducts, variableLeft, functions, lists, bindTo, firstRules, structs, dimensions, by_kind, orTry, dimensionParts, otherSide, fieldStep, trySatisfy}
-use Rattle.laws.specs.Lists.{true≢false, some≢none, and_left, and_right, not-true, yes-is, is-yes, any-is, is_any, in_head, one-step, Origin, collect-from, collect-to, map-from}
+use Rattle.rules.specs.Rounds.{
+  Step,
+  bind,
+  split,
+  done,
+  stuck,
+  pairs,
+  asProducts,
+  variableLeft,
+  functions,
+  lists,
+  bindTo,
+  firstRules,
+  structs,
+  dimensions,
+  by_kind,
+  orTry,
+  dimensionParts,
+  otherSide,
+  fieldStep,
+  trySatisfy,
+}
+use Rattle.laws.specs.Lists.{
+  true≢false,
+  some≢none,
+  and_left,
+  and_right,
+  not-true,
+  yes-is,
+  is-yes,
+  any-is,
+  is_any,
+  in_head,
+  one-step,
+  Origin,
+  collect-from,
+  collect-to,
+  map-from,
+}
 
 module _ {N : Type 0} where
   -- a side that names a variable: the variable itself, or the product of it to the power 1
@@ -39,7 +104,7 @@ module _ {N : Type 0} where
   After P Q stuck = Unit {0}
 
 module _ {N : Type 0} (ν : Names N) (l : Limits) where
-  -- the rules, in the words of document 01
+  -- the rules, in words
   pub data Rule (c : Con N) (s : Step N) : Type 0 where
     none-applies : s ≡ stuck → Rule c s
     equal-records : (t : Ty N) → c ≡ equal t t → s ≡ done → Rule c s

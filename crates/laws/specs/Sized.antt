@@ -1,5 +1,4 @@
 -- Over 2,048 records, or nested over 64, is 8: what keeps both limits passes unchanged.
--- Assumes nothing.
 use Rattle.std.specs.Prelude.{◌≡◌, refl, Bool, true, false, ℕ, ◌≤◌, ◌<◌, leb}
 use Rattle.std.proofs.Common.{le-leb, leb-true}
 use Rattle.std.proofs.lemmas.Bool.{lt-leb}

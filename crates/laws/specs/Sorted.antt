@@ -1,5 +1,4 @@
 -- Merging, raising and inverting keep products in order, and keep what holds of each factor.
--- Assumes nothing.
 use Rattle.std.specs.Prelude.{◌≡◌, Bool, true, false}
 use Rattle.std.proofs.Math.Path.{refl}
 use Rattle.std.proofs.Common.{sym, ◌∙◌}

@@ -1,4 +1,4 @@
--- Sorting gives the rising list of the names that occur, so it depends on nothing else. Assumes nothing.
+-- Sorting gives the rising list of the names that occur, so it depends on nothing else.
 use Rattle.std.specs.Prelude.{◌≡◌, true, ◌⊎◌}
 use Rattle.std.proofs.Math.Path.{refl}
 use Rattle.std.proofs.Common.{sym, ap₂, subst, ◌∙◌}

@@ -1,5 +1,4 @@
 -- What a round did: it bound a variable, put constraints in another's place, or took one away. And how a run ended.
--- Assumes nothing.
 use Rattle.std.proofs.Math.Path.{◌≡◌, refl, ap}
 use Rattle.std.proofs.Common.{◌∙◌, sym, inl, inr, arith}
 use Rattle.std.proofs.Math.Option.{Option, none, some}

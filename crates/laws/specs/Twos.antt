@@ -1,9 +1,49 @@
 -- Factors 2: what is left of a number without them, and what they do to a greatest common divisor.
--- Assumes nothing.
 use Rattle.std.specs.Prelude.{◌≡◌, refl, ℕ, zero, suc, ◌+◌, ◌-◌, ◌*◌, ◌/◌, ◌%◌, ◌^◌, ◌≤◌, ◌<◌, min, max}
-use Rattle.std.proofs.Common.{ap, ap₂, ◌∙◌, sym, subst, add-mul, mul-le-mul_left, mul-le-mul_right, one-mul, le_trans, lt_of_not-le, not-le_of_lt, lt_of_le_of_lt, mul_assoc, mul_comm, mul_left_comm, mul-one, zero-mul, pow-suc, mod-eq_of_lt, div-one, arith, pow-add, pow_pos, pow_mono}
+use Rattle.std.proofs.Common.{
+  ap,
+  ap₂,
+  ◌∙◌,
+  sym,
+  subst,
+  add-mul,
+  mul-le-mul_left,
+  mul-le-mul_right,
+  one-mul,
+  le_trans,
+  lt_of_not-le,
+  not-le_of_lt,
+  lt_of_le_of_lt,
+  mul_assoc,
+  mul_comm,
+  mul_left_comm,
+  mul-one,
+  zero-mul,
+  pow-suc,
+  mod-eq_of_lt,
+  div-one,
+  arith,
+  pow-add,
+  pow_pos,
+  pow_mono,
+}
 use Rattle.std.specs.Int.{◌∣◌}
-use Rattle.std.proofs.Math.Nat.{min-eq_left, min-eq_right, max-eq_left, max-eq_right, eq-one_of_dvd-one, le_of_dvd, div-div-eq-div-mul, div-add-mod, mul-div_cancel', dvd-mul_right, dvd-mul_right_of_dvd, dvd_refl, dvd-sub, dvd-add}
+use Rattle.std.proofs.Math.Nat.{
+  min-eq_left,
+  min-eq_right,
+  max-eq_left,
+  max-eq_right,
+  eq-one_of_dvd-one,
+  le_of_dvd,
+  div-div-eq-div-mul,
+  div-add-mod,
+  mul-div_cancel',
+  dvd-mul_right,
+  dvd-mul_right_of_dvd,
+  dvd_refl,
+  dvd-sub,
+  dvd-add,
+}
 use Rattle.std.proofs.Math.Decide.{dec_le}
 use Rattle.std.specs.Int.Count.{count_trailing_zeros, under}
 use Rattle.rules.specs.Exponents.{gcd}

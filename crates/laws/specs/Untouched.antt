@@ -1,12 +1,38 @@
 -- A type none of whose open names is bound stays as it is.
--- Assumes nothing.
 use Rattle.std.specs.Prelude.{◌≡◌, Bool, true, false}
 use Rattle.std.proofs.Math.Path.{refl}
 use Rattle.std.proofs.Math.Option.{Option, none, some}
 use mathlib.Core.List.{List, [], ◌∷◌}
 use Rattle.rules.specs.Base.{got, Limits, collect, only_if, is_yes}
 use Rattle.rules.specs.Exponents.{Exp-dec, one}
-use Rattle.rules.specs.Trees.{Open, var, quant, par, free, base, ◌↑◌, Product, Names, Ty, opened, basic, dim, fn, struct, list, Tys, nil, cons, Fields, noFields, field, opens, opensTys, opensFields, openOfFactor}
+use Rattle.rules.specs.Trees.{
+  Open,
+  var,
+  quant,
+  par,
+  free,
+  base,
+  ◌↑◌,
+  Product,
+  Names,
+  Ty,
+  opened,
+  basic,
+  dim,
+  fn,
+  struct,
+  list,
+  Tys,
+  nil,
+  cons,
+  Fields,
+  noFields,
+  field,
+  opens,
+  opensTys,
+  opensFields,
+  openOfFactor,
+}
 use Rattle.rules.specs.Products.{single}
 use Rattle.rules.specs.Replacing.{Look, replaceFactors, replaceProduct, replaceDim, replaceTy, replaceTys, replaceFields}
 use Rattle.laws.specs.Lists.{Every, every-left, every-right}

@@ -1,5 +1,4 @@
 -- What a step gives: where there is a value, it is as stated.
--- Assumes nothing.
 use Rattle.std.specs.Prelude.{◌≡◌, refl, Bool, true, false, ℕ}
 use Rattle.std.proofs.Common.{subst, arith}
 use Rattle.rules.specs.Base.{Got, got, refused, ◌>>=◌, allow}

@@ -1,5 +1,4 @@
 -- What was read is what is written there: the records that were read are those of the tree.
--- Assumes nothing.
 use Rattle.std.specs.Prelude.{◌≡◌, refl, Bool, true, false, List, [], ◌∷◌, ◌++◌, map, length, eqb, ltb}
 use Rattle.std.proofs.Common.{ap, ◌∙◌, sym, subst, append_assoc, arith, length-append, eqb→eq, eqb-true}
 use Rattle.std.proofs.Math.Option.{Option, none, some}
@@ -8,7 +7,31 @@ use Rattle.std.proofs.lemmas.List.{length-map}
 use Rattle.rules.specs.Base.{all}
 use Rattle.rules.specs.Trees.{var, quant, par, Ty, opened, basic, fn, struct, list, boolean, string, datetime, size, count, countFields}
 use Rattle.rules.specs.Writing.{Rec, rec, head, kindIn, lengthIn, twos, signed, by_sign, writeFactor, writeProduct, writeTy, writeTys, writeFields}
-use Rattle.rules.specs.Reading.{Reader, pass, give, unused, pick, ifSo, lasting, next, factorTable, factorKinds, readFactors, readTys, readFields, readField, fieldTable, fieldKinds, readDim, readFn, readStruct, readList, typeTable, typeKinds, readTy}
+use Rattle.rules.specs.Reading.{
+  Reader,
+  pass,
+  give,
+  unused,
+  pick,
+  ifSo,
+  lasting,
+  next,
+  factorTable,
+  factorKinds,
+  readFactors,
+  readTys,
+  readFields,
+  readField,
+  fieldTable,
+  fieldKinds,
+  readDim,
+  readFn,
+  readStruct,
+  readList,
+  typeTable,
+  typeKinds,
+  readTy,
+}
 use Rattle.laws.specs.Lists.{Every, all-every, all-is}
 use Rattle.laws.specs.Heads.{head-back}
 use Rattle.laws.specs.Size.{size-ty}

@@ -1,3 +1,54 @@
+// Laws of the rules by themselves. The lemmas stand in specs/, where the proofs of other crates cite them; here each main law is the contract of
+// a function that does nothing.
 #![tactic(auto)]
 
-// Theorems about the rules stand in specs/; there is no code.
+ghost use Rattle.laws.specs.Theorems.{ClosedStays, ReplacingKeepsGood, ReplacedIsGone};
+ghost use Rattle.laws.specs.Theorems.{BoundedIsExact, ExponentField, ProductGroup};
+ghost use Rattle.laws.specs.Theorems.{WrittenIsRead, ReadIsWritten, ReadIsShallow};
+
+/// A type in which nothing is open stays as it is when names are replaced, whatever the limits (`closed_same`).
+pub fn closed_types_stay<N>()
+    ensures { ClosedStays N }
+{}
+
+/// Replacing by well formed types makes of a well formed type or constraint a well formed one, or refuses (`ty_kept`, `con-kept`).
+pub fn replacing_keeps_well_formed<N>()
+    ensures { ReplacingKeepsGood N }
+{}
+
+/// A variable that is replaced by a type in which it does not occur is gone (`ty-on`, `con-on`).
+pub fn replaced_variable_is_gone<N>()
+    ensures { ReplacedIsGone N }
+{}
+
+/// Where bounded arithmetic, replacing and solving answer, the exact ones answer the same (`sum_below`, `ty_below`, `run-below` and their like).
+pub fn bounded_answers_are_exact<N>()
+    ensures { BoundedIsExact N }
+{}
+
+/// Exponents in lowest terms are a field (`plus_comm` to `mul-plus`).
+pub fn exponents_are_a_field()
+    ensures { ExponentField }
+{}
+
+/// Products are a commutative group with powers; multiplying adds the powers of each atom, and the powers decide the product (`merge-power` to
+/// `raise-mul`, `by-powers`).
+pub fn products_are_a_group<N>()
+    ensures { ProductGroup N }
+{}
+
+/// What was written is read back, so that words hold one set at the most (`read-con`, `read_set`, `words_back`, `one_set`).
+pub fn written_is_read_back()
+    ensures { WrittenIsRead }
+{}
+
+/// What was read is what stands there: a record's length is that of its part, and a list with a false length is no list (`ty-read`, `con-read`,
+/// `binding-read`, `bound-read`, `all_read`, `taken`).
+pub fn read_is_what_stands()
+    ensures { ReadIsWritten }
+{}
+
+/// What is read with a nesting limit is no deeper than the limit (`depth-read`).
+pub fn read_is_within_the_limit()
+    ensures { ReadIsShallow }
+{}

@@ -1,5 +1,4 @@
--- Document 01, 'Adding and rounds', its first paragraph, as request W-205 changes it: what adding a constraint answers.
--- Assumes nothing.
+-- What adding a constraint answers, as request W-205 has it.
 use Rattle.std.specs.Prelude.{Bool, true, false, not, ◌&&◌, ◌||◌, List, [], ◌∷◌, ◌++◌, eqb}
 use Rattle.std.proofs.Math.Option.{Option, none, some}
 use Rattle.rules.specs.Base.{Got, got, bounded, within, is_yes, is_none, isNil, collect, sum_of}

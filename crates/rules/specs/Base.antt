@@ -1,11 +1,10 @@
 -- What every rule uses: an answer that may be a refusal, the two kinds of limits, and a few functions on lists.
--- Assumes nothing.
 use Rattle.std.specs.Prelude.{◌≡◌, refl, Bool, true, false, ◌&&◌, ◌||◌, ℕ, ◌+◌, max, leb}
 use Rattle.std.proofs.Common.{sym}
 use mathlib.Core.List.{List, [], ◌∷◌, ◌++◌, cons≢nil}
 use Rattle.std.proofs.Math.Option.{Option, none, some}
 
--- a value, or the number of a refusal of document 01
+-- a value, or the number of a refusal
 pub data Got (A : Type 0) : Type 0 where
   got : A → Got A
   refused : ℕ → Got A
@@ -15,7 +14,7 @@ abbrev pub ◌>>=◌ : {A B : Type 0} → Got A → (A → Got B) → Got B
 got a >>= f = f a
 refused n >>= f = refused n
 
--- the bounded rules of document 01, or the same rules in exact arithmetic: without a range of exponents (7) and limits of size (8).
+-- the bounded rules, or the same rules in exact arithmetic: without a range of exponents (7) and limits of size (8).
 -- Dividing by 0 is 7 in both; no stored power is 0, so no rule does it
 pub data Limits : Type 0 where
   bounded exact : Limits

@@ -1,5 +1,4 @@
--- Document 02, W-201: several sets over one name table, back to back, solved in one call.
--- Assumes nothing.
+-- W-201: several sets over one name table, back to back, solved in one call.
 use Rattle.std.specs.Prelude.{List, [], ◌∷◌, map, ℕ, ◌+◌, ◌*◌, eqb, leb, length, take, drop}
 use Rattle.rules.specs.Base.{Got, got, refused, ◌>>=◌, ◌>>◌, need, collect, sum_of}
 use Rattle.rules.specs.Names.{Table, table_of, lentTable}

@@ -1,6 +1,5 @@
--- Document 01, 'Refusal numbers': every public call on lists as one function, from all that is lent to the whole outcome: the answer or
+-- Every public call on lists as one function, from all that is lent to the whole outcome: the answer or
 -- the refusal, and what each lent buffer holds afterwards. Names, exponents and products have their calls in Names and Values.
--- Assumes nothing.
 use Rattle.std.specs.Prelude.{Bool, true, not, ◌&&◌, List, [], ◌∷◌, ◌++◌, map, ℕ, ◌*◌, eqb, leb, length, take, drop, replicate}
 use Rattle.std.proofs.Math.Option.{some}
 use Rattle.rules.specs.Base.{Got, got, refused, ◌>>=◌, ◌>>◌, need, orRefuse, bounded, sized, and_then, any, all, each, collect, sum_of}

@@ -1,4 +1,4 @@
--- Compaction by computation, over the names of rules' Examples: x y z a L P. Assumes nothing.
+-- Compaction by computation, over the names of rules' Examples: x y z a L P.
 use Rattle.std.specs.Prelude.{◌≡◌, refl, List, [], ◌∷◌, ◌++◌, ℕ, take, replicate}
 use Rattle.rules.specs.Base.{got, refused}
 use Rattle.rules.specs.Batches.{cutSets}
@@ -8,7 +8,23 @@ use Rattle.rules.specs.Names.{enter}
 use Rattle.rules.specs.Offices.{namesOne}
 use Rattle.rules.specs.Rules.{rules}
 use Rattle.rules.specs.Writing.{rec}
-use Rattle.rules.specs.Compaction.{Compacted, compactCall, compactIf, compactChecks, squeezed, eachGiven, poolOf, endsOver, endsFrom, joined, keptFrom, renumbered, newNumber, keeps, occurs}
+use Rattle.rules.specs.Compaction.{
+  Compacted,
+  compactCall,
+  compactIf,
+  compactChecks,
+  squeezed,
+  eachGiven,
+  poolOf,
+  endsOver,
+  endsFrom,
+  joined,
+  keptFrom,
+  renumbered,
+  newNumber,
+  keeps,
+  occurs,
+}
 
 -- y = scalar; z has the field P, which is x
 abbrev first : List ℕ
@@ -18,7 +34,8 @@ abbrev second : List ℕ
 second = sizedWords (rec 23 5 0 0 ∷ rec 1 2 0 0 ∷ rec 2 2 0 0 ∷ [])
 
 unfoldable group : Type 0
-unfolding rules counting pool table namesOne cutSets compactCall compactIf compactChecks squeezed eachGiven poolOf endsOver endsFrom joined keptFrom renumbered newNumber keeps occurs
+unfolding rules counting pool table namesOne cutSets compactCall compactIf compactChecks squeezed eachGiven poolOf endsOver endsFrom joined keptFrom
+    renumbered newNumber keeps occurs
 group = Unit {0}
 
 abbrev both : Compacted
@@ -58,6 +75,7 @@ unfolding group
 refusals = refl
 
 -- entering goes on at the first freed byte with the next number
-goes_on : take 5 (enter both.pool both.table (65 ∷ 66 ∷ [])).pool ++ take 6 (enter both.pool both.table (65 ∷ 66 ∷ [])).table ≡ 121 ∷ 122 ∷ 80 ∷ 65 ∷ 66 ∷ 4 ∷ 1 ∷ 2 ∷ 3 ∷ 5 ∷ 0 ∷ []
+goes_on : take 5 (enter both.pool both.table (65 ∷ 66 ∷ [])).pool ++ take 6 (enter both.pool both.table (65 ∷ 66 ∷ [])).table
+    ≡ 121 ∷ 122 ∷ 80 ∷ 65 ∷ 66 ∷ 4 ∷ 1 ∷ 2 ∷ 3 ∷ 5 ∷ 0 ∷ []
 unfolding group
 goes_on = refl

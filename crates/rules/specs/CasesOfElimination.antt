@@ -1,5 +1,4 @@
 -- Small sets, by computation: what the second engine answers, and what solving answers.
--- Assumes nothing.
 use Rattle.std.specs.Prelude.{◌≡◌, refl, true, false, List, [], ◌∷◌, ◌++◌, map, replicate, pos, negsuc}
 use Prim.Native.Nat.{ℕ, zero, suc, compare}
 use Rattle.std.proofs.Math.Decide.{ℕ_discrete}
@@ -87,7 +86,9 @@ unfolding engine pool table sets solves plain
 alike = refl
 
 -- another kind of constraint, and a 25th row, are 8; what is malformed is 1 first, and a name of two kinds is 4
-kinds : eliminatedSet (table_of pool table) (words (collect writeCon (is_scalar (fv x 1 ∷ []) ∷ isDim (opened (var x)) ∷ []))) ∷ eliminates (replicate 24 []) ∷ eliminates (replicate 25 []) ∷ eliminates ((fv x 1 ∷ fv x 1 ∷ []) ∷ replicate 25 []) ∷ eliminates ((fv x 1 ∷ fp x 1 ∷ []) ∷ replicate 25 []) ∷ []
+kinds : eliminatedSet (table_of pool table) (words (collect writeCon (is_scalar (fv x 1 ∷ []) ∷ isDim (opened (var x)) ∷ [])))
+    ∷ eliminates (replicate 24 []) ∷ eliminates (replicate 25 []) ∷ eliminates ((fv x 1 ∷ fv x 1 ∷ []) ∷ replicate 25 [])
+    ∷ eliminates ((fv x 1 ∷ fp x 1 ∷ []) ∷ replicate 25 []) ∷ []
     ≡ refused 8 ∷ got (settled []) ∷ refused 8 ∷ refused 1 ∷ refused 4 ∷ []
 unfolding engine pool table
 kinds = refl
@@ -105,6 +106,8 @@ row f zero = []
 row f (suc n) = f n ∷ row f n
 
 -- 24 variables, 24 parameters and base dimensions; one of either more is too many
-limits : map (λ (n : ℕ). fits plain-names (row (λ i. fv i 1) n ∷ [])) (23 ∷ 24 ∷ 25 ∷ []) ++ map (λ (n : ℕ). fits plain-names (row (λ i. fv i 1) 24 ∷ row (λ i. fp i 1) 10 ∷ row (λ i. fb i 1) n ∷ [])) (13 ∷ 14 ∷ 15 ∷ []) ≡ true ∷ true ∷ false ∷ true ∷ true ∷ false ∷ []
+limits : map (λ (n : ℕ). fits plain-names (row (λ i. fv i 1) n ∷ [])) (23 ∷ 24 ∷ 25 ∷ [])
+    ++ map (λ (n : ℕ). fits plain-names (row (λ i. fv i 1) 24 ∷ row (λ i. fp i 1) 10 ∷ row (λ i. fb i 1) n ∷ [])) (13 ∷ 14 ∷ 15 ∷ [])
+    ≡ true ∷ true ∷ false ∷ true ∷ true ∷ false ∷ []
 unfolding engine plain-names row
 limits = refl

@@ -1,5 +1,4 @@
 -- Lines by computation: each kind of step, each refusal with its number, and the run of the same line.
--- Assumes nothing.
 use Rattle.std.specs.Prelude.{◌≡◌, refl, List, [], ◌∷◌, ◌++◌, map, ℕ, zero, suc, ◌+◌, pos, negsuc, length, replicate, take}
 use Rattle.rules.specs.Base.{Got, got, refused, ◌>>=◌, collect}
 use Rattle.rules.specs.Exponents.{frac}
@@ -7,13 +6,71 @@ use Rattle.rules.specs.Trees.{var, par, base, Factor, ◌↑◌, Ty, opened, bas
 use Rattle.rules.specs.Names.{table_of, numbersOf}
 use Rattle.rules.specs.Writing.{Rec, words, writeTy}
 use Rattle.rules.specs.Rules.{rules}
-use Rattle.rules.specs.Steps.{adds, LineStep, constant, raises, joins, chooses, takes, whole, stepWords, stepKind, zeros, number_at, constantAt, referenceTo, raiseBy, step_of, stepGiven, lineGiven}
-use Rattle.rules.specs.Lines.{twoFactors, issuedByTwo, issued, constraints, last_of, settled, agreed, settledSet, agreedSet, lineType, namesOfTy, namesOfStep, fresh, lineLent, lineShort, checkedLine, checkLineCall}
-use Rattle.rules.specs.Running.{Fault, missing, notDimension, unequal, notBoolean, powers, Ran, ran, fault, dimensionOf, alike, isCondition, sameDimensions, ofDimensions, doesTwo, does, run_from, runLine}
+use Rattle.rules.specs.Steps.{
+  adds,
+  LineStep,
+  constant,
+  raises,
+  joins,
+  chooses,
+  takes,
+  whole,
+  stepWords,
+  stepKind,
+  zeros,
+  number_at,
+  constantAt,
+  referenceTo,
+  raiseBy,
+  step_of,
+  stepGiven,
+  lineGiven,
+}
+use Rattle.rules.specs.Lines.{
+  twoFactors,
+  issuedByTwo,
+  issued,
+  constraints,
+  last_of,
+  settled,
+  agreed,
+  settledSet,
+  agreedSet,
+  lineType,
+  namesOfTy,
+  namesOfStep,
+  fresh,
+  lineLent,
+  lineShort,
+  checkedLine,
+  checkLineCall,
+}
+use Rattle.rules.specs.Running.{
+  Fault,
+  missing,
+  notDimension,
+  unequal,
+  notBoolean,
+  powers,
+  Ran,
+  ran,
+  fault,
+  dimensionOf,
+  alike,
+  isCondition,
+  sameDimensions,
+  ofDimensions,
+  doesTwo,
+  does,
+  run_from,
+  runLine,
+}
 
 -- every definition of the three files under one name
 unfoldable pub lines : Type 0
-unfolding rules takes whole stepWords stepKind zeros number_at constantAt referenceTo raiseBy step_of stepGiven lineGiven twoFactors issuedByTwo issued constraints last_of settled agreed settledSet agreedSet lineType namesOfTy namesOfStep fresh lineLent lineShort checkedLine checkLineCall dimensionOf alike isCondition sameDimensions ofDimensions doesTwo does run_from runLine
+unfolding rules takes whole stepWords stepKind zeros number_at constantAt referenceTo raiseBy step_of stepGiven lineGiven twoFactors issuedByTwo issued
+    constraints last_of settled agreed settledSet agreedSet lineType namesOfTy namesOfStep fresh lineLent lineShort checkedLine checkLineCall dimensionOf
+    alike isCondition sameDimensions ofDimensions doesTwo does run_from runLine
 lines = Unit {0}
 
 -- ══ Names: k (kilometre), h (hour), m (money), P and Q (records), x (open), f (a field), and a to g, which are lent ══
@@ -69,7 +126,8 @@ payee n t = struct n nil (field f t noFields)
 abbrev bool : Ty ℕ
 bool = basic boolean
 
--- kilometres, hours, money, a boolean, the scalar, the variable x, kilometres squared, P with field f, Q with field f, the parameter x, hours^M, P without fields
+-- kilometres, hours, money, a boolean, the scalar, the variable x, kilometres squared, P with field f, Q with field f, the parameter x, hours^M, P without
+-- fields
 abbrev pub kinds : List (Ty ℕ)
 kinds =
     dim (to k 1 ∷ [])
@@ -186,16 +244,19 @@ bad =
     ∷ (c 3 ∷ c 7 ∷ c 8 ∷ op 9 ∷ [])
     ∷ []
 
-refusals : map check bad ≡ refused 5 ∷ refused 5 ∷ refused 6 ∷ refused 5 ∷ refused 5 ∷ refused 5 ∷ refused 6 ∷ refused 5 ∷ refused 5 ∷ refused 5 ∷ refused 5 ∷ []
+refusals : map check bad
+    ≡ refused 5 ∷ refused 5 ∷ refused 6 ∷ refused 5 ∷ refused 5 ∷ refused 5 ∷ refused 6 ∷ refused 5 ∷ refused 5 ∷ refused 5 ∷ refused 5 ∷ []
 unfolding lines pool table placed
 refusals = refl
 
-faults : map run bad ≡ map (λ (f : Fault). fault f) (unequal ∷ unequal ∷ notDimension ∷ notDimension ∷ notDimension ∷ notDimension ∷ notDimension ∷ notBoolean ∷ unequal ∷ notDimension ∷ unequal ∷ [])
+faults : map run bad ≡ map (λ (f : Fault). fault f) (unequal ∷ unequal ∷ notDimension ∷ notDimension ∷ notDimension ∷ notDimension ∷ notDimension
+    ∷ notBoolean ∷ unequal ∷ notDimension ∷ unequal ∷ [])
 unfolding lines pool table placed ranOf
 faults = refl
 
 -- a missing operand is found first: a boolean alone, then add; nothing, then raise
-missing-found : map (runLine (numbersOf (table_of pool table))) ((constant bool ∷ joins adds ∷ []) ∷ (raises (frac (pos 1) 1) ∷ []) ∷ (chooses ∷ []) ∷ []) ≡ replicate 3 (fault missing)
+missing-found : map (runLine (numbersOf (table_of pool table))) ((constant bool ∷ joins adds ∷ []) ∷ (raises (frac (pos 1) 1) ∷ []) ∷ (chooses ∷ []) ∷ [])
+    ≡ replicate 3 (fault missing)
 unfolding lines pool table
 missing-found = refl
 
@@ -212,17 +273,21 @@ powered =
     ∷ (c 10 ∷ c 1 ∷ op 5 ∷ [])
     ∷ []
 
-raised-to : map check powered ≡ of (dim []) ∷ of (dim (to k 1 ∷ [])) ∷ of (dim (to k 4 ∷ [])) ∷ refused 7 ∷ of (dim (under k 2_147_483_646 ∷ [])) ∷ refused 7 ∷ []
+raised-to : map check powered
+    ≡ of (dim []) ∷ of (dim (to k 1 ∷ [])) ∷ of (dim (to k 4 ∷ [])) ∷ refused 7 ∷ of (dim (under k 2_147_483_646 ∷ [])) ∷ refused 7 ∷ []
 unfolding lines pool table placed
 raised-to = refl
 
 -- the run is in exact powers
-raised-run : map run powered ≡ map (λ (t : Ty ℕ). ran (t ∷ [])) (dim [] ∷ dim (to k 1 ∷ []) ∷ dim (to k 4 ∷ []) ∷ dim (under k 4_294_967_293 ∷ []) ∷ dim (under k 2_147_483_646 ∷ []) ∷ dim (to h 2_147_483_648 ∷ []) ∷ [])
+raised-run : map run powered
+    ≡ map (λ (t : Ty ℕ). ran (t ∷ [])) (dim [] ∷ dim (to k 1 ∷ []) ∷ dim (to k 4 ∷ []) ∷ dim (under k 4_294_967_293 ∷ []) ∷ dim (under k 2_147_483_646 ∷ [])
+    ∷ dim (to h 2_147_483_648 ∷ []) ∷ [])
 unfolding lines pool table placed ranOf
 raised-run = refl
 
--- fractions that are no exponent of document 01: 0/2, 2/4, 1/0, -2147483648
-no-exponent : map check ((c 0 ∷ raise 0 2 ∷ []) ∷ (c 0 ∷ raise 2 4 ∷ []) ∷ (c 0 ∷ raise 1 0 ∷ []) ∷ (c 0 ∷ raise 2_147_483_648 1 ∷ []) ∷ []) ≡ refused 1 ∷ refused 1 ∷ refused 1 ∷ refused 1 ∷ []
+-- fractions that are no exponent of the rules: 0/2, 2/4, 1/0, -2147483648
+no-exponent : map check ((c 0 ∷ raise 0 2 ∷ []) ∷ (c 0 ∷ raise 2 4 ∷ []) ∷ (c 0 ∷ raise 1 0 ∷ []) ∷ (c 0 ∷ raise 2_147_483_648 1 ∷ []) ∷ [])
+    ≡ refused 1 ∷ refused 1 ∷ refused 1 ∷ refused 1 ∷ []
 unfolding lines pool table placed
 no-exponent = refl
 
@@ -236,7 +301,8 @@ arms = refl
 -- ══ Open references ══
 
 -- x + kilometres is kilometres; x alone is x; x compared with itself is boolean; x as a condition of x and x; the variable and the parameter x: 4
-open-lines : map check ((r 5 ∷ c 0 ∷ op 3 ∷ []) ∷ (r 5 ∷ []) ∷ (r 5 ∷ r 5 ∷ op 8 ∷ []) ∷ (r 5 ∷ r 5 ∷ r 5 ∷ op 9 ∷ []) ∷ (r 5 ∷ r 9 ∷ op 3 ∷ []) ∷ []) ≡ of (dim (to k 1 ∷ [])) ∷ of (opened (var x)) ∷ of bool ∷ of bool ∷ refused 4 ∷ []
+open-lines : map check ((r 5 ∷ c 0 ∷ op 3 ∷ []) ∷ (r 5 ∷ []) ∷ (r 5 ∷ r 5 ∷ op 8 ∷ []) ∷ (r 5 ∷ r 5 ∷ r 5 ∷ op 9 ∷ []) ∷ (r 5 ∷ r 9 ∷ op 3 ∷ []) ∷ [])
+    ≡ of (dim (to k 1 ∷ [])) ∷ of (opened (var x)) ∷ of bool ∷ of bool ∷ refused 4 ∷ []
 unfolding lines pool table placed
 open-lines = refl
 
@@ -290,8 +356,10 @@ lent-names : map (λ (names : List ℕ). lending names (c 0 ∷ c 0 ∷ op 3 ∷
     ∷ (13 ∷ 13 ∷ 9 ∷ [])
     ∷ (x ∷ h ∷ f ∷ [])
     ∷ [])
-    ++ lending (f ∷ []) (c 7 ∷ []) ∷ lending (P ∷ []) (r 7 ∷ []) ∷ lending (x ∷ []) (r 5 ∷ []) ∷ lending (x ∷ []) (r 9 ∷ []) ∷ lending (7 ∷ 7 ∷ []) (c 0 ∷ c 0 ∷ []) ∷ []
-    ≡ got 2 ∷ refused 10 ∷ refused 4 ∷ refused 4 ∷ refused 3 ∷ refused 4 ∷ refused 3 ∷ refused 4 ∷ got 2 ∷ refused 4 ∷ refused 4 ∷ refused 4 ∷ refused 4 ∷ refused 1 ∷ []
+    ++ lending (f ∷ []) (c 7 ∷ []) ∷ lending (P ∷ []) (r 7 ∷ []) ∷ lending (x ∷ []) (r 5 ∷ []) ∷ lending (x ∷ []) (r 9 ∷ [])
+    ∷ lending (7 ∷ 7 ∷ []) (c 0 ∷ c 0 ∷ []) ∷ []
+    ≡ got 2 ∷ refused 10 ∷ refused 4 ∷ refused 4 ∷ refused 3 ∷ refused 4 ∷ refused 3 ∷ refused 4 ∷ got 2 ∷ refused 4 ∷ refused 4 ∷ refused 4 ∷ refused 4
+    ∷ refused 1 ∷ []
 unfolding lines pool table placed result work
 lent-names = refl
 
@@ -303,7 +371,8 @@ up_from i zero = []
 up_from i (suc n) = i ∷ up_from (suc i) n
 
 -- a line of n steps that is well formed: a boolean raised again and again. Under the names lent here 128 steps come as far as 3, 129 are 8
-long : map (λ (n : ℕ). (checkLineCall pool table (c 0 ++ collect (λ s. s) (replicate n (raise 1 1))) types earlier (up_from 7 200) result work).answer) (127 ∷ 128 ∷ []) ≡ refused 3 ∷ refused 8 ∷ []
+long : map (λ (n : ℕ). (checkLineCall pool table (c 0 ++ collect (λ s. s) (replicate n (raise 1 1))) types earlier (up_from 7 200) result work).answer) (127
+    ∷ 128 ∷ []) ≡ refused 3 ∷ refused 8 ∷ []
 unfolding lines pool table placed result work up_from
 long = refl
 
@@ -323,7 +392,8 @@ params (suc n) = cons bool (params n)
 
 -- chosen beside itself: with 400 parameters the line has that type, with 1,015 its set has 2,050 records: 8
 abbrev chosen-large : ℕ → Got (List Rec)
-chosen-large n = checkedLine (table_of pool table) (1 ∷ 0 ∷ 0 ∷ 0 ∷ 1 ∷ 1 ∷ 0 ∷ 0 ∷ 1 ∷ 1 ∷ 0 ∷ 0 ∷ op 9) (words (writeTy bool ++ writeTy (fn (params n) bool))) [] lent
+chosen-large n = checkedLine (table_of pool table) (1 ∷ 0 ∷ 0 ∷ 0 ∷ 1 ∷ 1 ∷ 0 ∷ 0 ∷ 1 ∷ 1 ∷ 0 ∷ 0
+    ∷ op 9) (words (writeTy bool ++ writeTy (fn (params n) bool))) [] lent
 
 large : map (λ (n : ℕ). chosen-large n >>= λ rs. got (length rs)) (400 ∷ 1015 ∷ []) ≡ got 402 ∷ refused 8 ∷ []
 unfolding lines pool table params
@@ -359,7 +429,8 @@ factors i (suc n) = to i 1 ∷ factors (suc i) n
 
 -- the scalar times a product of 64 factors: the judge puts the operands in by the order of their names, so that in the second lending 64 factors stand
 -- beside a variable: 8. In three steps, and only the judge's 8 shows it (crates/line_theorems/specs/Promise: `lent-names`)
-by_order : map (λ (names : List ℕ). checkedLine (table_of many manyEnds) (1 ∷ 0 ∷ 0 ∷ 0 ∷ 1 ∷ 1 ∷ 0 ∷ 0 ∷ op 5) (words (writeTy (dim []) ++ writeTy (dim (factors 0 64)))) [] names) ((64 ∷ 65 ∷ 66 ∷ []) ∷ (65 ∷ 64 ∷ 66 ∷ []) ∷ [])
+by_order : map (λ (names : List ℕ). checkedLine (table_of many manyEnds) (1 ∷ 0 ∷ 0 ∷ 0 ∷ 1 ∷ 1 ∷ 0 ∷ 0
+    ∷ op 5) (words (writeTy (dim []) ++ writeTy (dim (factors 0 64)))) [] names) ((64 ∷ 65 ∷ 66 ∷ []) ∷ (65 ∷ 64 ∷ 66 ∷ []) ∷ [])
     ≡ of (dim (factors 0 64)) ∷ refused 8 ∷ []
 unfolding lines many manyEnds bytes factors
 by_order = refl

@@ -1,12 +1,36 @@
--- Small cases of the calls on lists, by computation: each refusal, and each place where document 01 had to be read one way.
--- Assumes nothing.
+-- Small cases of the calls on lists, by computation: each refusal, and each place where the rules had to be read one way.
 use Rattle.std.specs.Prelude.{◌≡◌, refl, Bool, true, false, List, [], ◌∷◌, ◌++◌, map, ℕ, zero, suc, ◌+◌, ◌*◌, length, replicate, take, drop}
 use Rattle.rules.specs.Base.{Got, got, refused, ◌>>=◌}
 use Rattle.rules.specs.Writing.{Rec, rec, head, words}
 use Rattle.rules.specs.Lengths.{sized, sizedWords, counting}
 use Rattle.rules.specs.Adding.{satisfied, violated, unknown}
 use Rattle.rules.specs.Names.{table_of}
-use Rattle.rules.specs.Calls.{setCall, typeCall, schemeCall, bindingsCall, containsCall, closedCall, variablesCall, replacedType, replacedSet, replaceTypeCall, addedTo, addCall, Solved, solved, unsolved, refusedAfter, solvedOf, solvedWords, solvedSet, quantified, generalised, instantiated, Entry, judgedSet}
+use Rattle.rules.specs.Calls.{
+  setCall,
+  typeCall,
+  schemeCall,
+  bindingsCall,
+  containsCall,
+  closedCall,
+  variablesCall,
+  replacedType,
+  replacedSet,
+  replaceTypeCall,
+  addedTo,
+  addCall,
+  Solved,
+  solved,
+  unsolved,
+  refusedAfter,
+  solvedOf,
+  solvedWords,
+  solvedSet,
+  quantified,
+  generalised,
+  instantiated,
+  Entry,
+  judgedSet,
+}
 use Rattle.rules.specs.Ceiling.{variablesOf, ceilingFor, ceilingCall}
 use Rattle.rules.specs.Rules.{rules}
 use Rattle.rules.specs.Examples.{pool, table, result, work, minus, x, y, z, a, L, P}
@@ -46,12 +70,14 @@ abbrev is_type : List Rec → Got (Unit {0})
 is_type rs = typeCall pool table (sizedWords rs)
 
 -- lengths: over 8,192 words is 8, also where they aren't whole records; any other length that isn't a multiple of four is 1
-lengths : map (λ (n : ℕ). setCall pool table (replicate n 0)) (0 ∷ 1 ∷ 5 ∷ 8192 ∷ 8193 ∷ 8196 ∷ []) ≡ got tt ∷ refused 1 ∷ refused 1 ∷ refused 1 ∷ refused 8 ∷ refused 8 ∷ []
+lengths : map (λ (n : ℕ). setCall pool table (replicate n 0)) (0 ∷ 1 ∷ 5 ∷ 8192 ∷ 8193 ∷ 8196 ∷ [])
+    ≡ got tt ∷ refused 1 ∷ refused 1 ∷ refused 1 ∷ refused 8 ∷ refused 8 ∷ []
 unfolding rules counting pool table
 lengths = refl
 
 -- 10 comes before 8, 8 before 1
-entry : setCall (replicate 8191 0) table (replicate 8193 0) ∷ setCall pool (replicate 256 0) [] ∷ setCall pool (257 ∷ replicate 256 0) (replicate 8193 0) ∷ setCall pool (257 ∷ replicate 256 0) [] ∷ [] ≡ refused 10 ∷ refused 10 ∷ refused 8 ∷ refused 1 ∷ []
+entry : setCall (replicate 8191 0) table (replicate 8193 0) ∷ setCall pool (replicate 256 0) [] ∷ setCall pool (257 ∷ replicate 256 0) (replicate 8193 0)
+    ∷ setCall pool (257 ∷ replicate 256 0) [] ∷ [] ≡ refused 10 ∷ refused 10 ∷ refused 8 ∷ refused 1 ∷ []
 unfolding rules counting pool table
 entry = refl
 
@@ -72,7 +98,8 @@ badRecords : map is_type (
     ∷ (bool ∷ bool ∷ [])
     ∷ []
     ∷ [])
-    ≡ got tt ∷ refused 1 ∷ refused 1 ∷ refused 1 ∷ refused 1 ∷ refused 1 ∷ refused 1 ∷ refused 1 ∷ refused 1 ∷ got tt ∷ refused 1 ∷ refused 1 ∷ refused 1 ∷ refused 1 ∷ []
+    ≡ got tt ∷ refused 1 ∷ refused 1 ∷ refused 1 ∷ refused 1 ∷ refused 1 ∷ refused 1 ∷ refused 1 ∷ refused 1 ∷ got tt ∷ refused 1 ∷ refused 1 ∷ refused 1
+    ∷ refused 1 ∷ []
 unfolding rules counting pool table
 badRecords = refl
 
@@ -100,7 +127,8 @@ unfolding rules counting pool table
 nested = refl
 
 -- has-field takes any type for its struct; equal-scalar takes kind 3 only; a binding or a bound isn't a constraint
-sets : map is_set ((rec 23 x 0 0 ∷ bool ∷ v y ∷ []) ∷ (rec 22 0 0 0 ∷ dims 0 ∷ []) ∷ (rec 22 0 0 0 ∷ v x ∷ []) ∷ (rec 24 x 0 0 ∷ bool ∷ []) ∷ (rec 25 x 0 0 ∷ []) ∷ (eq ∷ bool ∷ []) ∷ []) ≡ got tt ∷ got tt ∷ refused 1 ∷ refused 1 ∷ refused 1 ∷ refused 1 ∷ []
+sets : map is_set ((rec 23 x 0 0 ∷ bool ∷ v y ∷ []) ∷ (rec 22 0 0 0 ∷ dims 0 ∷ []) ∷ (rec 22 0 0 0 ∷ v x ∷ []) ∷ (rec 24 x 0 0 ∷ bool ∷ [])
+    ∷ (rec 25 x 0 0 ∷ []) ∷ (eq ∷ bool ∷ []) ∷ []) ≡ got tt ∷ got tt ∷ refused 1 ∷ refused 1 ∷ refused 1 ∷ refused 1 ∷ []
 unfolding rules counting pool table
 sets = refl
 
@@ -109,7 +137,7 @@ nestedIn : map (λ (n : ℕ). is_set (rec 21 0 0 0 ∷ replicate n seq ++ bool �
 unfolding rules counting pool table
 nestedIn = refl
 
--- W-206: K2's records as document 02 has them
+-- W-206: K2's records with their lengths
 secondExample : sized (eq ∷ v x ∷ bool ∷ []) ≡ rec (20 + 3 * 65_536) 0 0 0 ∷ rec (1 + 65_536) x 0 0 ∷ rec (4 + 65_536) 0 0 0 ∷ []
 unfolding rules counting
 secondExample = refl
@@ -121,7 +149,8 @@ longer zero (rec w a b c ∷ rs) = rec (w + 65_536) a b c ∷ rs
 longer (suc n) (r ∷ rs) = r ∷ longer n rs
 
 -- each false length makes a list malformed: of a constraint, a function, a struct, its field, a list, a product, its factors, leaves
-falseLengths : map (λ (n : ℕ). setCall pool table (words (longer n (sized (eq ∷ rec 7 1 0 0 ∷ rec 8 P 1 1 ∷ v x ∷ rec 9 y 0 0 ∷ seq ∷ bool ∷ dims 2 ∷ fv y 1 ∷ fb L 1 ∷ v z ∷ []))))) (11 ∷ 0 ∷ 1 ∷ 2 ∷ 3 ∷ 4 ∷ 5 ∷ 6 ∷ 7 ∷ 8 ∷ 9 ∷ 10 ∷ [])
+falseLengths : map (λ (n : ℕ). setCall pool table (words (longer n (sized (eq ∷ rec 7 1 0 0 ∷ rec 8 P 1 1 ∷ v x ∷ rec 9 y 0 0 ∷ seq ∷ bool ∷ dims 2 ∷ fv y 1
+    ∷ fb L 1 ∷ v z ∷ []))))) (11 ∷ 0 ∷ 1 ∷ 2 ∷ 3 ∷ 4 ∷ 5 ∷ 6 ∷ 7 ∷ 8 ∷ 9 ∷ 10 ∷ [])
     ++ map (λ (n : ℕ). schemeCall pool table (words (longer n (sized (rec 26 1 0 0 ∷ rec 14 0 0 0 ∷ rec 25 0 1 0 ∷ []))))) (3 ∷ 0 ∷ 1 ∷ 2 ∷ [])
     ++ map (λ (n : ℕ). bindingsCall pool table (words (longer n (sized (rec 24 x 0 0 ∷ dims 0 ∷ []))))) (2 ∷ 0 ∷ 1 ∷ [])
     ≡ got tt ∷ replicate 11 (refused 1) ++ got tt ∷ replicate 3 (refused 1) ++ got tt ∷ replicate 2 (refused 1)
@@ -129,7 +158,8 @@ unfolding rules counting pool table longer
 falseLengths = refl
 
 -- records without lengths, as they were before
-noLengths : map (λ (rs : List Rec). setCall pool table (words rs)) ((eq ∷ v x ∷ bool ∷ []) ∷ (rec (head 20 3) 0 0 0 ∷ v x ∷ rec (head 4 1) 0 0 0 ∷ []) ∷ []) ≡ refused 1 ∷ refused 1 ∷ []
+noLengths : map (λ (rs : List Rec). setCall pool table (words rs)) ((eq ∷ v x ∷ bool ∷ []) ∷ (rec (head 20 3) 0 0 0 ∷ v x ∷ rec (head 4 1) 0 0 0 ∷ []) ∷ [])
+    ≡ refused 1 ∷ refused 1 ∷ []
 unfolding rules pool table
 noLengths = refl
 
@@ -166,17 +196,21 @@ abbrev both : List Rec
 both = rec 8 P 1 1 ∷ v x ∷ rec 9 y 0 0 ∷ rec 2 a 0 0 ∷ []
 
 -- arguments and fields are looked into; the names of structs and fields are neither; parameters where asked; a number not held is 1
-contained : map (λ (c : ℕ × Bool). containsCall pool table (sizedWords both) c.0 c.1) ((x, false) ∷ (a, false) ∷ (a, true) ∷ (y, true) ∷ (P, true) ∷ (6, true) ∷ []) ≡ got true ∷ got false ∷ got true ∷ got false ∷ got false ∷ refused 1 ∷ []
+contained : map (λ (c : ℕ × Bool). containsCall pool table (sizedWords both) c.0 c.1) ((x, false) ∷ (a, false) ∷ (a, true) ∷ (y, true) ∷ (P, true)
+    ∷ (6, true) ∷ []) ≡ got true ∷ got false ∷ got true ∷ got false ∷ got false ∷ refused 1 ∷ []
 unfolding rules counting pool table
 contained = refl
 
 -- a parameter opens a type, a base dimension doesn't; 4 is checked here too
-closes : map (λ (rs : List Rec). closedCall pool table (sizedWords rs)) (both ∷ (rec 2 a 0 0 ∷ []) ∷ (dims 1 ∷ fb L 1 ∷ []) ∷ (dims 1 ∷ fp a 1 ∷ []) ∷ (seq ∷ bool ∷ []) ∷ (rec 7 1 0 0 ∷ v x ∷ rec 2 x 0 0 ∷ []) ∷ []) ≡ got false ∷ got false ∷ got true ∷ got false ∷ got true ∷ refused 4 ∷ []
+closes : map (λ (rs : List Rec). closedCall pool table (sizedWords rs)) (both ∷ (rec 2 a 0 0 ∷ []) ∷ (dims 1 ∷ fb L 1 ∷ []) ∷ (dims 1 ∷ fp a 1 ∷ [])
+    ∷ (seq ∷ bool ∷ []) ∷ (rec 7 1 0 0 ∷ v x ∷ rec 2 x 0 0 ∷ []) ∷ []) ≡ got false ∷ got false ∷ got true ∷ got false ∷ got true ∷ refused 4 ∷ []
 unfolding rules counting pool table
 closes = refl
 
 -- sorted by bytes (a is 97, x 120), once each; past the answer the buffer stays
-listed : take 4 (variablesCall pool table (sizedWords (rec 7 2 0 0 ∷ v y ∷ v x ∷ dims 2 ∷ fv x 1 ∷ fp a 2 ∷ [])) true result).result ++ take 4 (variablesCall pool table (sizedWords (rec 7 2 0 0 ∷ v y ∷ v x ∷ dims 2 ∷ fv x 1 ∷ fp a 2 ∷ [])) false result).result ≡ a ∷ x ∷ y ∷ 7 ∷ x ∷ y ∷ 7 ∷ 7 ∷ []
+listed : take 4 (variablesCall pool table (sizedWords (rec 7 2 0 0 ∷ v y ∷ v x ∷ dims 2 ∷ fv x 1 ∷ fp a 2 ∷ [])) true result).result
+    ++ take 4 (variablesCall pool table (sizedWords (rec 7 2 0 0 ∷ v y ∷ v x ∷ dims 2 ∷ fv x 1 ∷ fp a 2 ∷ [])) false result).result
+    ≡ a ∷ x ∷ y ∷ 7 ∷ x ∷ y ∷ 7 ∷ 7 ∷ []
 unfolding rules counting pool table result
 listed = refl
 
@@ -221,12 +255,17 @@ unfolding rules counting pool table
 replacements = refl
 
 -- x y z^-M with x and y by z^M, z by boolean: in x's turn z^-M z^M cancel, in y's turn nothing does, in z's turn it is 6 before it is 7
-sixFirst : replace (dims 3 ∷ fv x 1 ∷ fv y 1 ∷ fv z (minus 2_147_483_647) ∷ [], rec 24 x 0 0 ∷ dims 1 ∷ fv z 2_147_483_647 ∷ rec 24 y 0 0 ∷ dims 1 ∷ fv z 2_147_483_647 ∷ rec 24 z 0 0 ∷ bool ∷ []) ≡ refused 6
+sixFirst : replace (
+  dims 3 ∷ fv x 1 ∷ fv y 1 ∷ fv z (minus 2_147_483_647) ∷ [],
+  rec 24 x 0 0 ∷ dims 1 ∷ fv z 2_147_483_647 ∷ rec 24 y 0 0 ∷ dims 1
+      ∷ fv z 2_147_483_647 ∷ rec 24 z 0 0 ∷ bool ∷ [],
+) ≡ refused 6
 unfolding rules counting pool table
 sixFirst = refl
 
 -- the product of an equal-scalar is replaced as a product, even at power 1
-scalars : map (λ (b : List Rec). replacedSet (table_of pool table) (sizedWords (rec 22 0 0 0 ∷ dims 1 ∷ fv x 1 ∷ [])) (sizedWords b)) ((rec 24 x 0 0 ∷ bool ∷ []) ∷ (rec 24 x 0 0 ∷ v y ∷ []) ∷ []) ≡ refused 6 ∷ got (sized (rec 22 0 0 0 ∷ dims 1 ∷ fv y 1 ∷ [])) ∷ []
+scalars : map (λ (b : List Rec). replacedSet (table_of pool table) (sizedWords (rec 22 0 0 0 ∷ dims 1 ∷ fv x 1 ∷ [])) (sizedWords b)) ((rec 24 x 0 0 ∷ bool
+    ∷ []) ∷ (rec 24 x 0 0 ∷ v y ∷ []) ∷ []) ≡ refused 6 ∷ got (sized (rec 22 0 0 0 ∷ dims 1 ∷ fv y 1 ∷ [])) ∷ []
 unfolding rules counting pool table
 scalars = refl
 
@@ -235,12 +274,14 @@ abbrev uses : ℕ → List Rec
 uses n = rec 7 n 0 0 ∷ replicate n (v x) ++ bool ∷ []
 
 -- 1,023 times two records and two more are 2,048; 1,024 times are 8; a later 6 comes before that 8
-tooLarge : map (λ (c : List Rec). replace (c, rec 24 x 0 0 ∷ seq ∷ bool ∷ rec 24 y 0 0 ∷ bool ∷ []) >>= λ rs. got (length rs)) (uses 1023 ∷ uses 1024 ∷ (rec 7 1024 0 0 ∷ replicate 1024 (v x) ++ dims 1 ∷ fv y 2 ∷ []) ∷ []) ≡ got 2048 ∷ refused 8 ∷ refused 6 ∷ []
+tooLarge : map (λ (c : List Rec). replace (c, rec 24 x 0 0 ∷ seq ∷ bool ∷ rec 24 y 0 0 ∷ bool ∷ []) >>= λ rs. got (length rs)) (uses 1023 ∷ uses 1024
+    ∷ (rec 7 1024 0 0 ∷ replicate 1024 (v x) ++ dims 1 ∷ fv y 2 ∷ []) ∷ []) ≡ got 2048 ∷ refused 8 ∷ refused 6 ∷ []
 unfolding rules counting pool table
 tooLarge = refl
 
 -- nested 65 deep after replacing: 8
-tooDeep : map (λ (n : ℕ). replace (replicate n seq ++ v x ∷ [], rec 24 x 0 0 ∷ seq ∷ bool ∷ []) >>= λ rs. got (length rs)) (62 ∷ 63 ∷ []) ≡ got 64 ∷ refused 8 ∷ []
+tooDeep : map (λ (n : ℕ). replace (replicate n seq ++ v x ∷ [], rec 24 x 0 0 ∷ seq ∷ bool ∷ []) >>= λ rs. got (length rs)) (62 ∷ 63 ∷ [])
+    ≡ got 64 ∷ refused 8 ∷ []
 unfolding rules counting pool table
 tooDeep = refl
 
@@ -311,11 +352,14 @@ full zero = 9 ∷ []
 full (suc n) = head 21 2 ∷ 0 ∷ 0 ∷ 0 ∷ head 1 1 ∷ x ∷ 0 ∷ 0 ∷ full n
 
 -- what is Satisfied isn't stored, so it is no 8; the buffer stays on a refusal, and what is stored follows the set
-storing : map (λ (c : List Rec). (addCall pool table (full 1024) 2048 (sizedWords c)).answer) ((rec 22 0 0 0 ∷ dims 0 ∷ []) ∷ (rec 21 0 0 0 ∷ v x ∷ []) ∷ []) ≡ got (satisfied, 2048) ∷ refused 8 ∷ []
+storing : map (λ (c : List Rec). (addCall pool table (full 1024) 2048 (sizedWords c)).answer) ((rec 22 0 0 0 ∷ dims 0 ∷ []) ∷ (rec 21 0 0 0 ∷ v x ∷ [])
+    ∷ []) ≡ got (satisfied, 2048) ∷ refused 8 ∷ []
 unfolding rules counting pool table full
 storing = refl
 
-stored : take 13 (addCall pool table result 0 (sizedWords (rec 21 0 0 0 ∷ v x ∷ []))).buffer ++ drop 8188 (addCall pool table (full 1024) 2047 (sizedWords (rec 21 0 0 0 ∷ v x ∷ []))).buffer ≡ head 21 2 ∷ 0 ∷ 0 ∷ 0 ∷ head 1 1 ∷ x ∷ 0 ∷ 0 ∷ 7 ∷ 7 ∷ 7 ∷ 7 ∷ 7 ∷ head 1 1 ∷ x ∷ 0 ∷ 0 ∷ 9 ∷ []
+stored : take 13 (addCall pool table result 0 (sizedWords (rec 21 0 0 0 ∷ v x ∷ []))).buffer
+    ++ drop 8188 (addCall pool table (full 1024) 2047 (sizedWords (rec 21 0 0 0 ∷ v x ∷ []))).buffer
+    ≡ head 21 2 ∷ 0 ∷ 0 ∷ 0 ∷ head 1 1 ∷ x ∷ 0 ∷ 0 ∷ 7 ∷ 7 ∷ 7 ∷ 7 ∷ 7 ∷ head 1 1 ∷ x ∷ 0 ∷ 0 ∷ 9 ∷ []
 unfolding rules counting pool table result full
 stored = refl
 
@@ -403,7 +447,8 @@ unfolding rules counting pool table
 quantifying = refl
 
 -- sorted by bytes: a is 0, x is 1; bounds that the type doesn't contain go, repeats stay; a scheme not concrete is unchanged
-generalising : map (λ (s : List Rec). generalised (table_of pool table) (sizedWords s) (sizedWords (rec 25 x 0 0 ∷ rec 25 y 0 0 ∷ rec 25 x 0 0 ∷ []))) ((rec 26 0 1 0 ∷ rec 7 1 0 0 ∷ v x ∷ rec 2 a 0 0 ∷ []) ∷ (rec 26 1 0 0 ∷ v x ∷ rec 25 0 1 0 ∷ []) ∷ [])
+generalising : map (λ (s : List Rec). generalised (table_of pool table) (sizedWords s) (sizedWords (rec 25 x 0 0 ∷ rec 25 y 0 0 ∷ rec 25 x 0 0
+    ∷ []))) ((rec 26 0 1 0 ∷ rec 7 1 0 0 ∷ v x ∷ rec 2 a 0 0 ∷ []) ∷ (rec 26 1 0 0 ∷ v x ∷ rec 25 0 1 0 ∷ []) ∷ [])
     ≡ got (sized (rec 26 2 0 0 ∷ rec 7 1 0 0 ∷ rec 14 1 0 0 ∷ rec 14 0 0 0 ∷ rec 25 1 1 0 ∷ rec 25 1 1 0 ∷ []))
     ∷ got (sized (rec 26 1 0 0 ∷ v x ∷ rec 25 0 1 0 ∷ []))
     ∷ []
@@ -434,7 +479,8 @@ unfolding rules counting pool table
 instantiating = refl
 
 -- more than 2,048 handed names is 8, before 1
-handed : quantified (table_of pool table) (sizedWords (v x ∷ [])) [] (replicate 2049 9) ∷ quantified (table_of pool table) (sizedWords (v x ∷ [])) [] (replicate 2048 9) ∷ [] ≡ refused 8 ∷ refused 1 ∷ []
+handed : quantified (table_of pool table) (sizedWords (v x ∷ [])) [] (replicate 2049 9)
+    ∷ quantified (table_of pool table) (sizedWords (v x ∷ [])) [] (replicate 2048 9) ∷ [] ≡ refused 8 ∷ refused 1 ∷ []
 unfolding rules counting pool table
 handed = refl
 
@@ -479,6 +525,7 @@ judging : map judges (
     ∷ (rec 21 0 0 0 ∷ bool ∷ [], [], [], [])
     ∷ (rec 23 x 0 0 ∷ rec 8 P 0 1 ∷ rec 9 x 0 0 ∷ v z ∷ v z ∷ [], [], [], [])
     ∷ [])
-    ≡ got true ∷ got false ∷ got false ∷ got true ∷ got false ∷ refused 1 ∷ refused 1 ∷ refused 1 ∷ refused 1 ∷ got true ∷ refused 4 ∷ got false ∷ got false ∷ refused 7 ∷ got true ∷ got false ∷ got true ∷ got true ∷ got false ∷ got false ∷ got true ∷ []
+    ≡ got true ∷ got false ∷ got false ∷ got true ∷ got false ∷ refused 1 ∷ refused 1 ∷ refused 1 ∷ refused 1 ∷ got true ∷ refused 4 ∷ got false ∷ got false
+    ∷ refused 7 ∷ got true ∷ got false ∷ got true ∷ got true ∷ got false ∷ got false ∷ got true ∷ []
 unfolding rules counting pool table
 judging = refl

@@ -1,5 +1,4 @@
 -- Reports by computation, over the names of Examples (x, y, z, a, L, P): each finding of a sheet, as it is printed.
--- Assumes nothing.
 use Rattle.std.specs.Prelude.{◌≡◌, refl, List, [], ◌∷◌, ◌++◌, replicate}
 use Prim.Native.String.{String}
 use Rattle.rules.specs.Base.{collect}
@@ -7,13 +6,34 @@ use Rattle.rules.specs.Names.{Bytes, table_of}
 use Rattle.rules.specs.Examples.{pool, table}
 use Rattle.rules.specs.Grammar.{ascii}
 use Rattle.rules.specs.TextWriting.{namesIn}
-use Rattle.rules.specs.Reports.{unread, finding, lineShown, firstShown, shown, room, reasons, reason, refusedText, findingText, reportText, totalText, lineIn, page_of, editionRead, findingOf, pageText, acceptedIn, editionText}
+use Rattle.rules.specs.Reports.{
+  unread,
+  finding,
+  lineShown,
+  firstShown,
+  shown,
+  room,
+  reasons,
+  reason,
+  refusedText,
+  findingText,
+  reportText,
+  totalText,
+  lineIn,
+  page_of,
+  editionRead,
+  findingOf,
+  pageText,
+  acceptedIn,
+  editionText,
+}
 use Rattle.rules.specs.Rules.{rules}
 use Rattle.rules.specs.Sheets.{sheets}
 
 -- every definition of reports under one name
 unfoldable pub reports : Type 0
-unfolding finding shown firstShown room lineShown reasons reason refusedText findingText reportText totalText lineIn page_of editionRead findingOf pageText acceptedIn editionText
+unfolding finding shown firstShown room lineShown reasons reason refusedText findingText reportText totalText lineIn page_of editionRead findingOf pageText
+    acceptedIn editionText
 reports = Unit {0}
 
 -- an edition of these files, over the names of Examples

@@ -1,4 +1,4 @@
--- Small cases of the rescue, by computation. Assumes nothing.
+-- Small cases of the rescue, by computation.
 use Rattle.std.specs.Prelude.{◌≡◌, refl, List, [], ◌∷◌, ◌++◌, ℕ, replicate, take}
 use Rattle.rules.specs.Base.{got, refused}
 use Rattle.rules.specs.Names.{table_of}
@@ -80,6 +80,7 @@ whole : rescueCall pool table (bytes dimension ++ 1 ∷ []) (replicate 32_768 7)
 unfolding rules counting rescuing pool table
 whole = refl
 
-short : rescueCall pool table (bytes dimension) (replicate 32_768 7) (replicate 9 7) ≡ record { answer = refused 10; kept = replicate 32_768 7; skipped = replicate 9 7 }
+short : rescueCall pool table (bytes dimension) (replicate 32_768 7) (replicate 9 7)
+    ≡ record { answer = refused 10; kept = replicate 32_768 7; skipped = replicate 9 7 }
 unfolding rules counting rescuing pool table
 short = refl

@@ -1,10 +1,33 @@
 -- Sheets by computation, over the names of rules' Examples (x, y, z, a, L, P): every production, every refusal with its line and column.
--- Assumes nothing.
 use Rattle.std.specs.Prelude.{◌≡◌, refl, List, [], ◌∷◌, ◌++◌, map, ℕ, zero, suc, pos, negsuc, length, replicate, take}
 use Prim.Native.String.{String}
 use Rattle.rules.specs.Base.{Got, got, refused, collect, ◌>>=◌}
 use Rattle.rules.specs.Exponents.{frac, one}
-use Rattle.rules.specs.Trees.{var, par, free, base, ◌↑◌, boolean, string, datetime, opened, basic, dim, fn, struct, list, nil, cons, noFields, field, Con, equal, isDim, is_scalar, hasField}
+use Rattle.rules.specs.Trees.{
+  var,
+  par,
+  free,
+  base,
+  ◌↑◌,
+  boolean,
+  string,
+  datetime,
+  opened,
+  basic,
+  dim,
+  fn,
+  struct,
+  list,
+  nil,
+  cons,
+  noFields,
+  field,
+  Con,
+  equal,
+  isDim,
+  is_scalar,
+  hasField,
+}
 use Rattle.rules.specs.Names.{Bytes, table_of}
 use Rattle.rules.specs.Calls.{setGiven}
 use Rattle.rules.specs.Writing.{Rec, rec, words, writeCon}
@@ -144,7 +167,8 @@ outside : map of (
     ∷ "#L: DType"
     ∷ "\"x\": DType"
     ∷ [])
-    ≡ map (bad 12 1) (5 ∷ 7 ∷ 8 ∷ 11 ∷ 3 ∷ 2 ∷ 2 ∷ 1 ∷ 4 ∷ 3 ∷ 10 ∷ 6 ∷ 2 ∷ 2 ∷ 5 ∷ 4 ∷ 5 ∷ 5 ∷ 6 ∷ 8 ∷ 8 ∷ 7 ∷ 4 ∷ 4 ∷ 12 ∷ 8 ∷ 8 ∷ 10 ∷ 16 ∷ 15 ∷ 14 ∷ 1 ∷ 1 ∷ [])
+    ≡ map (bad 12 1) (5 ∷ 7 ∷ 8 ∷ 11 ∷ 3 ∷ 2 ∷ 2 ∷ 1 ∷ 4 ∷ 3 ∷ 10 ∷ 6 ∷ 2 ∷ 2 ∷ 5 ∷ 4 ∷ 5 ∷ 5 ∷ 6 ∷ 8 ∷ 8 ∷ 7 ∷ 4 ∷ 4 ∷ 12 ∷ 8 ∷ 8 ∷ 10 ∷ 16 ∷ 15 ∷ 14 ∷ 1
+    ∷ 1 ∷ [])
 unfolding rules sheets pool table
 outside = refl
 
@@ -177,7 +201,8 @@ leftmost : map of (
     ∷ "@P{x: Bool, : Bool}: DType"
     ∷ "@P{x: ?, a: Bool}: DType"
     ∷ [])
-    ≡ bad 2 1 2 ∷ bad 2 1 3 ∷ bad 2 1 2 ∷ bad 2 1 5 ∷ bad 2 1 17 ∷ bad 7 1 4 ∷ bad 7 1 4 ∷ bad 7 1 4 ∷ bad 7 1 4 ∷ bad 7 1 18 ∷ bad 2 1 3 ∷ bad 1 1 13 ∷ bad 1 1 13 ∷ bad 2 1 13 ∷ bad 2 1 8 ∷ []
+    ≡ bad 2 1 2 ∷ bad 2 1 3 ∷ bad 2 1 2 ∷ bad 2 1 5 ∷ bad 2 1 17 ∷ bad 7 1 4 ∷ bad 7 1 4 ∷ bad 7 1 4 ∷ bad 7 1 4 ∷ bad 7 1 18 ∷ bad 2 1 3 ∷ bad 1 1 13
+    ∷ bad 1 1 13 ∷ bad 2 1 13 ∷ bad 2 1 8 ∷ []
 unfolding rules sheets pool table
 leftmost = refl
 
@@ -206,7 +231,8 @@ unfolding rules sheets pool table
 deep = refl
 
 -- 64 types deep: two records and 62 lists more
-sixtyFour : of_bytes (times 63 "List<" ++ (ascii "Bool" ++ (times 63 ">" ++ ascii ": DType\n"))) ≡ of_bytes (times 63 "List<" ++ (ascii "Bool" ++ (times 63 " >" ++ ascii ": DType")))
+sixtyFour : of_bytes (times 63 "List<" ++ (ascii "Bool" ++ (times 63 ">" ++ ascii ": DType\n")))
+    ≡ of_bytes (times 63 "List<" ++ (ascii "Bool" ++ (times 63 " >" ++ ascii ": DType")))
 unfolding rules sheets pool table
 sixtyFour = refl
 
@@ -233,7 +259,8 @@ abbrev bytes_of : ℕ → Bytes
 bytes_of n = collect (λ (i : ℕ). ascii " * ?\\" ++ decimal 2 i) (up_to 11 n)
 
 -- 64 factors are good; the 65th is 8 at its mark, though it vanishes behind; a 65th factor whose new name finds the table full is 3
-factors64 : map (λ (t : Bytes). ofFull (ascii "[?\\10" ++ (bytes_of 63 ++ t))) (ascii "]: DType" ∷ ascii " * ?x * ?x^(-1)]: DType" ∷ ascii " * ?new]: DType" ∷ [])
+factors64 : map (λ (t : Bytes). ofFull (ascii "[?\\10" ++ (bytes_of 63 ++ t))) (ascii "]: DType" ∷ ascii " * ?x * ?x^(-1)]: DType" ∷ ascii " * ?new]: DType"
+    ∷ [])
     ≡ (1, 0, 66) ∷ (8, 1, 450) ∷ (3, 1, 451) ∷ []
 unfolding rules sheets up_to
 factors64 = refl
@@ -254,7 +281,8 @@ refusal (refusedAt n c) = (n, c)
 abbrev behind : ℕ × String → ℕ × ℕ
 behind p = refusal (lineRead (ascii p.1) (from p.0))
 
--- 8 at the first record past 2,048: a constraint's at the line's first sign, a type's at its first byte, a field's at its name, factors at the closing bracket; 2 and 1 before 8 at one column
+-- 8 at the first record past 2,048: a constraint's at the line's first sign, a type's at its first byte, a field's at its name, factors at the closing
+-- bracket; 2 and 1 before 8 at one column
 full : map behind (
     (2046, "  Bool: DType")
     ∷ (2047, "  Bool: DType")
@@ -273,12 +301,14 @@ full : map behind (
     ∷ (2048, "-- nothing")
     ∷ (2048, "~")
     ∷ [])
-    ≡ (0, 2048) ∷ (8, 3) ∷ (8, 3) ∷ (8, 6) ∷ (8, 1) ∷ (0, 2048) ∷ (8, 7) ∷ (0, 2047) ∷ (8, 1) ∷ (2, 3) ∷ (8, 4) ∷ (8, 7) ∷ (2, 4) ∷ (8, 1) ∷ (0, 2048) ∷ (12, 1) ∷ []
+    ≡ (0, 2048) ∷ (8, 3) ∷ (8, 3) ∷ (8, 6) ∷ (8, 1) ∷ (0, 2048) ∷ (8, 7) ∷ (0, 2047) ∷ (8, 1) ∷ (2, 3) ∷ (8, 4) ∷ (8, 7) ∷ (2, 4) ∷ (8, 1) ∷ (0, 2048)
+    ∷ (12, 1) ∷ []
 unfolding rules sheets pool table
 full = refl
 
 -- at a type nested 65 deep 1 comes before 8
-deepAndFull : refusal (lineRead (times 64 "List<" ++ ascii "Bool") (from 1983)) ∷ refusal (lineRead (times 64 "List<" ++ ascii "Bool") (from 1984)) ∷ [] ≡ (1, 321) ∷ (8, 316) ∷ []
+deepAndFull : refusal (lineRead (times 64 "List<" ++ ascii "Bool") (from 1983)) ∷ refusal (lineRead (times 64 "List<" ++ ascii "Bool") (from 1984)) ∷ []
+    ≡ (1, 321) ∷ (8, 316) ∷ []
 unfolding rules sheets pool table
 deepAndFull = refl
 
@@ -320,7 +350,8 @@ unfolding rules sheets pool table
 writes = refl
 
 -- names whose bytes can't stand for themselves
-escapes : shown (0 ∷ 10 ∷ 255 ∷ 92 ∷ 32 ∷ 95 ∷ replicate 8186 0) (sized (rec 21 0 0 0 ∷ rec 8 0 2 0 ∷ rec 1 1 0 0 ∷ rec 8 2 3 0 ∷ rec 1 3 0 0 ∷ rec 1 4 0 0 ∷ rec 1 5 0 0 ∷ []))
+escapes : shown (0 ∷ 10 ∷ 255 ∷ 92 ∷ 32 ∷ 95
+    ∷ replicate 8186 0) (sized (rec 21 0 0 0 ∷ rec 8 0 2 0 ∷ rec 1 1 0 0 ∷ rec 8 2 3 0 ∷ rec 1 3 0 0 ∷ rec 1 4 0 0 ∷ rec 1 5 0 0 ∷ []))
     ≡ got (ascii "@\\00<?\\0a, @" ++ (255 ∷ ascii "<?\\5c, ?\\20, ?_>>: DType\n"))
 unfolding rules sheets table counting
 escapes = refl
@@ -330,6 +361,7 @@ unfoldable room : List ℕ
 room = replicate 354304 7
 
 -- 10, 8, 1, in this order
-refusedWrites : text_of pool table (replicate 8196 0) (replicate 173 0) ∷ text_of pool table (replicate 8196 0) room ∷ text_of pool table (replicate 4 0) room ∷ [] ≡ refused 10 ∷ refused 8 ∷ refused 1 ∷ []
+refusedWrites : text_of pool table (replicate 8196 0) (replicate 173 0) ∷ text_of pool table (replicate 8196 0) room
+    ∷ text_of pool table (replicate 4 0) room ∷ [] ≡ refused 10 ∷ refused 8 ∷ refused 1 ∷ []
 unfolding rules sheets pool table room
 refusedWrites = refl

@@ -1,5 +1,4 @@
 -- Small cases of the calls on exponents, names and products, by computation.
--- Assumes nothing.
 use Rattle.std.specs.Prelude.{◌≡◌, refl, true, false, List, [], ◌∷◌, ◌++◌, map, ℕ, zero, suc, pos, negsuc, length, replicate, take, drop}
 use Rattle.rules.specs.Base.{Got, got, refused, ◌>>=◌}
 use Rattle.rules.specs.Exponents.{Exp, frac, nought, one}
@@ -30,21 +29,25 @@ sums : map (λ (c : Exp × Exp). sumCall c.0 c.1) (
     ∷ (frac (negsuc 2_147_483_647) 1, one)
     ∷ (one, frac (pos 1) 2_147_483_648)
     ∷ [])
-    ≡ got (frac (pos 5) 6) ∷ got nought ∷ got (frac (pos most) 1) ∷ refused 7 ∷ refused 7 ∷ refused 7 ∷ refused 1 ∷ refused 1 ∷ refused 1 ∷ refused 1 ∷ refused 1 ∷ []
+    ≡ got (frac (pos 5) 6) ∷ got nought ∷ got (frac (pos most) 1) ∷ refused 7 ∷ refused 7 ∷ refused 7 ∷ refused 1 ∷ refused 1 ∷ refused 1 ∷ refused 1
+    ∷ refused 1 ∷ []
 unfolding rules
 sums = refl
 
-products : map (λ (c : Exp × Exp). timesCall c.0 c.1) ((frac (pos 2) 3, frac (negsuc 2) 4) ∷ (nought, frac (pos 5) 7) ∷ (frac (pos most) 2, frac (pos 2) 1) ∷ (frac (pos 1) most, frac (pos 1) 2) ∷ (frac (pos 2) 2, one) ∷ [])
+products : map (λ (c : Exp × Exp). timesCall c.0 c.1) ((frac (pos 2) 3, frac (negsuc 2) 4) ∷ (nought, frac (pos 5) 7) ∷ (frac (pos most) 2, frac (pos 2) 1)
+    ∷ (frac (pos 1) most, frac (pos 1) 2) ∷ (frac (pos 2) 2, one) ∷ [])
     ≡ got (frac (negsuc 0) 2) ∷ got nought ∷ got (frac (pos most) 1) ∷ refused 7 ∷ refused 1 ∷ []
 unfolding rules
 products = refl
 
-negations : map negationCall (frac (pos 1) 2 ∷ nought ∷ frac (negsuc 2_147_483_646) 1 ∷ frac (negsuc 2_147_483_647) 1 ∷ []) ≡ got (frac (negsuc 0) 2) ∷ got nought ∷ got (frac (pos most) 1) ∷ refused 1 ∷ []
+negations : map negationCall (frac (pos 1) 2 ∷ nought ∷ frac (negsuc 2_147_483_646) 1 ∷ frac (negsuc 2_147_483_647) 1 ∷ [])
+    ≡ got (frac (negsuc 0) 2) ∷ got nought ∷ got (frac (pos most) 1) ∷ refused 1 ∷ []
 unfolding rules
 negations = refl
 
 -- by 0: 7; a malformed exponent comes first
-quotients : map (λ (c : Exp × Exp). quotientCall c.0 c.1) ((frac (pos 1) 2, frac (negsuc 2) 4) ∷ (one, nought) ∷ (nought, nought) ∷ (frac (pos 2) 4, nought) ∷ (frac (pos most) 1, frac (pos 1) 2) ∷ (nought, frac (negsuc 1) 3) ∷ [])
+quotients : map (λ (c : Exp × Exp). quotientCall c.0 c.1) ((frac (pos 1) 2, frac (negsuc 2) 4) ∷ (one, nought) ∷ (nought, nought) ∷ (frac (pos 2) 4, nought)
+    ∷ (frac (pos most) 1, frac (pos 1) 2) ∷ (nought, frac (negsuc 1) 3) ∷ [])
     ≡ got (frac (negsuc 1) 3) ∷ refused 7 ∷ refused 7 ∷ refused 1 ∷ refused 7 ∷ got nought ∷ []
 unfolding rules
 quotients = refl
@@ -90,7 +93,8 @@ unfolding rules up_to
 whenFull = refl
 
 -- 'fewer free pool bytes than its length': with 32 bytes free a name of 32 has room and one of 33 has none; with 256 names held none has
-room : map (λ (n : ℕ). hasRoom (record { count = 1; ends = 8160 ∷ []; pool = [] }) (replicate n 65)) (32 ∷ 33 ∷ []) ++ hasRoom (record { count = 256; ends = up_to 1 256; pool = [] }) (65 ∷ []) ∷ [] ≡ true ∷ false ∷ false ∷ []
+room : map (λ (n : ℕ). hasRoom (record { count = 1; ends = 8160 ∷ []; pool = [] }) (replicate n 65)) (32 ∷ 33 ∷ [])
+    ++ hasRoom (record { count = 256; ends = up_to 1 256; pool = [] }) (65 ∷ []) ∷ [] ≡ true ∷ false ∷ false ∷ []
 unfolding rules up_to
 room = refl
 
@@ -129,13 +133,16 @@ abbrev value : List FactorValue → ProductValue
 value fs = record { factors = fs ++ replicate 64 (power 9 9 nought); len = length fs }
 
 -- x a^2 L^-1 times x^-1 L: parameters come before base dimensions, and zeros are dropped
-multiplied : multiplyCall pool table (value (power 11 x one ∷ power 12 a (frac (pos 2) 1) ∷ power 13 L (frac (negsuc 0) 1) ∷ [])) (value (power 11 x (frac (negsuc 0) 1) ∷ power 13 L one ∷ []))
+multiplied : multiplyCall pool table (value (power 11 x one ∷ power 12 a (frac (pos 2) 1) ∷ power 13 L (frac (negsuc 0) 1)
+    ∷ [])) (value (power 11 x (frac (negsuc 0) 1) ∷ power 13 L one ∷ []))
     ≡ got (free (par a) ↑ frac (pos 2) 1 ∷ [])
 unfolding rules pool table
 multiplied = refl
 
 -- the order: named variables, quantified variables, parameters, base dimensions (L comes before a by its byte, and stands behind it)
-ordered : multiplyCall pool table (value (power 13 L one ∷ [])) (value (power 12 a one ∷ [])) ∷ multiplyCall pool table (value (power 12 a one ∷ [])) (value (power 15 3 one ∷ [])) ∷ multiplyCall pool table (value (power 15 3 one ∷ [])) (value (power 11 y one ∷ [])) ∷ []
+ordered : multiplyCall pool table (value (power 13 L one ∷ [])) (value (power 12 a one ∷ []))
+    ∷ multiplyCall pool table (value (power 12 a one ∷ [])) (value (power 15 3 one ∷ []))
+    ∷ multiplyCall pool table (value (power 15 3 one ∷ [])) (value (power 11 y one ∷ [])) ∷ []
     ≡ got (free (par a) ↑ one ∷ base L ↑ one ∷ [])
     ∷ got (free (quant 3) ↑ one ∷ free (par a) ↑ one ∷ [])
     ∷ got (free (var y) ↑ one ∷ free (quant 3) ↑ one ∷ [])
@@ -174,16 +181,19 @@ sixtyFour : map (λ (c : ProductValue × ProductValue). multiplyCall pool table 
 unfolding rules pool table many
 sixtyFour = refl
 
-raised : map (λ (e : Exp). raiseCall pool table (value (power 11 x (frac (pos 3) 2) ∷ power 13 L one ∷ [])) e) (frac (pos 2) 3 ∷ nought ∷ frac (pos most) 1 ∷ frac (pos 2) 4 ∷ [])
+raised : map (λ (e : Exp). raiseCall pool table (value (power 11 x (frac (pos 3) 2) ∷ power 13 L one ∷ [])) e) (frac (pos 2) 3 ∷ nought ∷ frac (pos most) 1
+    ∷ frac (pos 2) 4 ∷ [])
     ≡ got (free (var x) ↑ one ∷ base L ↑ frac (pos 2) 3 ∷ []) ∷ got [] ∷ refused 7 ∷ refused 1 ∷ []
 unfolding rules pool table
 raised = refl
 
-divided : divideCall pool table (value (power 11 x one ∷ [])) (value (power 11 x one ∷ power 11 y (frac (pos 1) 2) ∷ [])) ≡ got (free (var y) ↑ frac (negsuc 0) 2 ∷ [])
+divided : divideCall pool table (value (power 11 x one ∷ [])) (value (power 11 x one ∷ power 11 y (frac (pos 1) 2) ∷ []))
+    ≡ got (free (var y) ↑ frac (negsuc 0) 2 ∷ [])
 unfolding rules pool table
 divided = refl
 
 -- 10, then 1 for the table
-lentFirst : multiplyCall (replicate 8191 0) table (value (power 14 x one ∷ [])) (value []) ∷ multiplyCall pool (257 ∷ replicate 256 1) (value []) (value []) ∷ [] ≡ refused 10 ∷ refused 1 ∷ []
+lentFirst : multiplyCall (replicate 8191 0) table (value (power 14 x one ∷ [])) (value []) ∷ multiplyCall pool (257 ∷ replicate 256 1) (value []) (value [])
+    ∷ [] ≡ refused 10 ∷ refused 1 ∷ []
 unfolding rules pool table
 lentFirst = refl

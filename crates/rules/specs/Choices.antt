@@ -1,6 +1,5 @@
--- Document 02, W-210: choices of dimensions for the variables, and when a choice makes a constraint true. Nothing of the solver and nothing
+-- W-210: choices of dimensions for the variables, and when a choice makes a constraint true. Nothing of the solver and nothing
 -- of replacing is used.
--- Assumes nothing.
 use Rattle.std.specs.Prelude.{◌≡◌, refl, Bool, true, false, not, ◌&&◌, ℕ, zero, suc, leb, eqb, pos, negsuc, nat_abs}
 use mathlib.Core.List.{List, [], ◌∷◌, ◌++◌, Memᴰ}
 use Rattle.std.proofs.Math.Option.{Option, none, some}
@@ -136,8 +135,10 @@ unfolding ℕ_discrete power scaled chosenFor comesTo plus mul lowest gcd gcdIn 
 cases = (refl, refl, refl)
 
 -- 0 bound to y^2 L: completed, it is L^5, and 1 stays as chosen
-completed-case : (power ℕ_discrete (baseDimension 7) (completed ℕ_discrete (0 ≔ dim (free (var 1) ↑ frac (pos 2) 1 ∷ base 7 ↑ one ∷ []) ∷ []) some-choice 0) ≡ frac (pos 5) 1)
-    × (power ℕ_discrete (baseDimension 7) (completed ℕ_discrete (0 ≔ dim (free (var 1) ↑ frac (pos 2) 1 ∷ base 7 ↑ one ∷ []) ∷ []) some-choice 1) ≡ frac (pos 2) 1)
+completed-case : (power ℕ_discrete (baseDimension 7) (completed ℕ_discrete (0 ≔ dim (free (var 1) ↑ frac (pos 2) 1 ∷ base 7 ↑ one ∷ []) ∷ []) some-choice 0)
+    ≡ frac (pos 5) 1)
+    × (power ℕ_discrete (baseDimension 7) (completed ℕ_discrete (0 ≔ dim (free (var 1) ↑ frac (pos 2) 1 ∷ base 7 ↑ one ∷ []) ∷ []) some-choice 1)
+    ≡ frac (pos 2) 1)
 unfolding ℕ_discrete power scaled chosenFor comesTo completed plus mul lowest gcd gcdIn some-choice
 completed-case = (refl, refl)
 

@@ -1,5 +1,4 @@
--- Document 02, W-213: room back in the name table. Names that occur in no set are dropped, the others move up and the sets are renumbered.
--- Assumes nothing.
+-- W-213: room back in the name table. Names that occur in no set are dropped, the others move up and the sets are renumbered.
 use Rattle.std.specs.Prelude.{Bool, true, false, ◌&&◌, ◌||◌, List, [], ◌∷◌, ◌++◌, ℕ, zero, suc, ◌+◌, ◌*◌, ◌-◌, eqb, leb, ltb, length, replicate}
 use Rattle.rules.specs.Base.{Got, got, refused, ◌>>◌, need, all, collect, sum_of}
 use Rattle.rules.specs.Batches.{cutSets}

@@ -1,5 +1,4 @@
--- Document 01, 'Records': closed, contains, variables. All look into arguments and fields.
--- Assumes nothing.
+-- Closed, contains, variables. All look into arguments and fields.
 use Rattle.std.specs.Prelude.{Bool, true, false, not, List, [], ◌∷◌}
 use Rattle.std.proofs.Math.Option.{Option, none, some}
 use Prim.Native.Nat.{Ordering}

@@ -1,10 +1,33 @@
--- Document 02, W-209: a plain second engine for dimensions. Sets of equal-scalar constraints alone are laid out as rows of powers, over
+-- W-209: a plain second engine for dimensions. Sets of equal-scalar constraints alone are laid out as rows of powers, over
 -- columns in the order of factors, and eliminated row by row; the counts are limits of the call, not of the rules for rows.
--- Assumes nothing.
 use Rattle.std.specs.Prelude.{Bool, true, false, not, ◌&&◌, List, [], ◌∷◌, ◌++◌, map, ℕ, zero, suc, leb, length, get_or, set}
 use Rattle.rules.specs.Base.{Got, got, refused, ◌>>=◌, ◌>>◌, need, bounded, is_yes, keep, each, collect, sum_of}
 use Rattle.rules.specs.Exponents.{Exp, nought, isZero, neg, sum, times, quotient}
-use Rattle.rules.specs.Trees.{var, quant, par, Atom, Atom-discrete, free, base, ◌↑◌, Product, Names, dim, Con, equal, isDim, is_scalar, hasField, Binding, ◌≔◌, open-dec, orderAtom, opensCon, sizeCon, sizeBinding}
+use Rattle.rules.specs.Trees.{
+  var,
+  quant,
+  par,
+  Atom,
+  Atom-discrete,
+  free,
+  base,
+  ◌↑◌,
+  Product,
+  Names,
+  dim,
+  Con,
+  equal,
+  isDim,
+  is_scalar,
+  hasField,
+  Binding,
+  ◌≔◌,
+  open-dec,
+  orderAtom,
+  opensCon,
+  sizeCon,
+  sizeBinding,
+}
 use Rattle.rules.specs.Products.{put}
 use Rattle.rules.specs.Names.{Table, table_of, numbersOf}
 use Rattle.rules.specs.Contents.{sort}

@@ -1,8 +1,35 @@
 -- Every definition of W-209 under one name, with those of the other requests: for proofs by computation.
--- Assumes nothing.
 use Rattle.rules.specs.Rules.{rules}
-use Rattle.rules.specs.Elimination.{solvedFor, timesRow, plusRow, putInRow, putInValue, atColumn, oneFurther, fate, turned, eliminate, factors, boundBy, settledBy, scalarOf, columns, powerIn, row_of, fits, eliminated, eliminatedOf, eliminatedWords, setChecked, fitting, eliminatedSet, eliminateCall, withRounds}
+use Rattle.rules.specs.Elimination.{
+  solvedFor,
+  timesRow,
+  plusRow,
+  putInRow,
+  putInValue,
+  atColumn,
+  oneFurther,
+  fate,
+  turned,
+  eliminate,
+  factors,
+  boundBy,
+  settledBy,
+  scalarOf,
+  columns,
+  powerIn,
+  row_of,
+  fits,
+  eliminated,
+  eliminatedOf,
+  eliminatedWords,
+  setChecked,
+  fitting,
+  eliminatedSet,
+  eliminateCall,
+  withRounds,
+}
 
 unfoldable pub engine : Type 0
-unfolding rules solvedFor timesRow plusRow putInRow putInValue atColumn oneFurther fate turned eliminate factors boundBy settledBy scalarOf columns powerIn row_of fits eliminated eliminatedOf eliminatedWords setChecked fitting eliminatedSet eliminateCall withRounds
+unfolding rules solvedFor timesRow plusRow putInRow putInValue atColumn oneFurther fate turned eliminate factors boundBy settledBy scalarOf columns powerIn
+    row_of fits eliminated eliminatedOf eliminatedWords setChecked fitting eliminatedSet eliminateCall withRounds
 engine = Unit {0}

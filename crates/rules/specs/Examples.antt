@@ -1,5 +1,4 @@
--- K1 to K13 of document 01, 'Examples on both sides', as one table under a single claim. K14 and others stand in CasesOfLists.
--- Assumes nothing.
+-- K1 to K13, the examples that came with the rules, as one table under a single claim. K14 and others stand in CasesOfLists.
 use Rattle.std.specs.Prelude.{◌≡◌, refl, Bool, true, false, ◌&&◌, List, [], ◌∷◌, ◌++◌, ℕ, ◌+◌, ◌-◌, eqb, length, replicate, drop}
 use Rattle.std.specs.Bool.{beq}
 use Rattle.std.proofs.Math.Option.{Option, none, some}
@@ -66,24 +65,74 @@ examples =
     -- K1: the empty set
     record { set = []; added = refused 1; answer = solved 0 0 0; records = []; judged = some true }
     -- K2: x = boolean
-    ∷ record { set = rec 20 0 0 0 ∷ rec 1 x 0 0 ∷ rec 4 0 0 0 ∷ []; added = got unknown; answer = solved 2 0 1; records = rec 24 x 0 0 ∷ rec 4 0 0 0 ∷ []; judged = some true }
+    ∷ record {
+      set = rec 20 0 0 0 ∷ rec 1 x 0 0 ∷ rec 4 0 0 0 ∷ [];
+      added = got unknown;
+      answer = solved 2 0 1;
+      records = rec 24 x 0 0 ∷ rec 4 0 0 0
+          ∷ [];
+      judged = some true;
+    }
     -- K3: x = dimension x^2
-    ∷ record { set = rec 20 0 0 0 ∷ rec 1 x 0 0 ∷ rec 3 1 0 0 ∷ rec 11 x 2 1 ∷ []; added = got unknown; answer = solved 2 0 3; records = rec 24 x 0 0 ∷ rec 3 0 0 0 ∷ []; judged = some true }
+    ∷ record {
+      set = rec 20 0 0 0 ∷ rec 1 x 0 0 ∷ rec 3 1 0 0 ∷ rec 11 x 2 1 ∷ [];
+      added = got unknown;
+      answer = solved 2 0 3;
+      records = rec 24 x 0 0
+          ∷ rec 3 0 0 0 ∷ [];
+      judged = some true;
+    }
     -- K4: list of x = x
-    ∷ record { set = rec 20 0 0 0 ∷ rec 10 0 0 0 ∷ rec 1 x 0 0 ∷ rec 1 x 0 0 ∷ []; added = got unknown; answer = unsolved 4 0; records = rec 20 0 0 0 ∷ rec 10 0 0 0 ∷ rec 1 x 0 0 ∷ rec 1 x 0 0 ∷ []; judged = none }
+    ∷ record {
+      set = rec 20 0 0 0 ∷ rec 10 0 0 0 ∷ rec 1 x 0 0 ∷ rec 1 x 0 0 ∷ [];
+      added = got unknown;
+      answer = unsolved 4 0;
+      records = rec 20 0 0 0
+          ∷ rec 10 0 0 0 ∷ rec 1 x 0 0 ∷ rec 1 x 0 0 ∷ [];
+      judged = none;
+    }
     -- K5: equal-scalar x^2 L^-3
-    ∷ record { set = rec 22 0 0 0 ∷ rec 3 2 0 0 ∷ rec 11 x 2 1 ∷ rec 13 L (minus 3) 1 ∷ []; added = got unknown; answer = solved 3 0 1; records = rec 24 x 0 0 ∷ rec 3 1 0 0 ∷ rec 13 L 3 2 ∷ []; judged = some true }
+    ∷ record {
+      set = rec 22 0 0 0 ∷ rec 3 2 0 0 ∷ rec 11 x 2 1 ∷ rec 13 L (minus 3) 1
+          ∷ [];
+      added = got unknown;
+      answer = solved 3 0 1;
+      records = rec 24 x 0 0 ∷ rec 3 1 0 0 ∷ rec 13 L 3 2 ∷ [];
+      judged = some true;
+    }
     -- K6: x = y z, then y = boolean
-    ∷ record { set = rec 20 0 0 0 ∷ rec 1 x 0 0 ∷ rec 3 2 0 0 ∷ rec 11 y 1 1 ∷ rec 11 z 1 1 ∷ rec 20 0 0 0 ∷ rec 1 y 0 0 ∷ rec 4 0 0 0 ∷ []; added = refused 1; answer = refusedAfter 6 1; records = []; judged = none }
+    ∷ record {
+      set = rec 20 0 0 0 ∷ rec 1 x 0 0 ∷ rec 3 2 0 0 ∷ rec 11 y 1 1 ∷ rec 11 z 1 1 ∷ rec 20 0 0 0 ∷ rec 1 y 0 0 ∷ rec 4 0 0 0
+          ∷ [];
+      added = refused 1;
+      answer = refusedAfter 6 1;
+      records = [];
+      judged = none;
+    }
     -- K7: is-dimension a
     ∷ record { set = rec 21 0 0 0 ∷ rec 2 a 0 0 ∷ []; added = got unknown; answer = solved 0 1 0; records = rec 25 a 0 0 ∷ []; judged = some true }
     -- K8: is-dimension x y^-1
-    ∷ record { set = rec 21 0 0 0 ∷ rec 3 2 0 0 ∷ rec 11 x 1 1 ∷ rec 11 y (minus 1) 1 ∷ []; added = got unknown; answer = solved 0 2 1; records = rec 25 x 0 0 ∷ rec 25 y 0 0 ∷ []; judged = some true }
+    ∷ record {
+      set = rec 21 0 0 0 ∷ rec 3 2 0 0 ∷ rec 11 x 1 1 ∷ rec 11 y (minus 1) 1
+          ∷ [];
+      added = got unknown;
+      answer = solved 0 2 1;
+      records = rec 25 x 0 0 ∷ rec 25 y 0 0 ∷ [];
+      judged = some true;
+    }
     -- K9: dimension x = boolean; added, it is Unknown (W-205)
-    ∷ record { set = rec 20 0 0 0 ∷ rec 3 1 0 0 ∷ rec 11 x 1 1 ∷ rec 4 0 0 0 ∷ []; added = got unknown; answer = solved 2 0 1; records = rec 24 x 0 0 ∷ rec 4 0 0 0 ∷ []; judged = some true }
+    ∷ record {
+      set = rec 20 0 0 0 ∷ rec 3 1 0 0 ∷ rec 11 x 1 1 ∷ rec 4 0 0 0 ∷ [];
+      added = got unknown;
+      answer = solved 2 0 1;
+      records = rec 24 x 0 0
+          ∷ rec 4 0 0 0 ∷ [];
+      judged = some true;
+    }
     -- K10: x y = x z, then x = boolean
     ∷ record {
-      set = rec 20 0 0 0 ∷ rec 3 2 0 0 ∷ rec 11 x 1 1 ∷ rec 11 y 1 1 ∷ rec 3 2 0 0 ∷ rec 11 x 1 1 ∷ rec 11 z 1 1 ∷ rec 20 0 0 0 ∷ rec 1 x 0 0 ∷ rec 4 0 0 0 ∷ [];
+      set = rec 20 0 0 0 ∷ rec 3 2 0 0 ∷ rec 11 x 1 1 ∷ rec 11 y 1 1 ∷ rec 3 2 0 0 ∷ rec 11 x 1 1 ∷ rec 11 z 1 1 ∷ rec 20 0 0 0 ∷ rec 1 x 0 0 ∷ rec 4 0 0 0
+          ∷ [];
       added = refused 1;
       answer = solved 5 0 3;
       records = rec 24 x 0 0 ∷ rec 4 0 0 0 ∷ rec 24 y 0 0 ∷ rec 3 1 0 0 ∷ rec 11 z 1 1 ∷ [];
@@ -92,9 +141,23 @@ examples =
     -- K11: x used as a parameter too
     ∷ record { set = rec 20 0 0 0 ∷ rec 1 x 0 0 ∷ rec 2 x 0 0 ∷ []; added = got unknown; answer = refusedAfter 4 0; records = []; judged = none }
     -- K12: struct P of x = P of boolean
-    ∷ record { set = rec 20 0 0 0 ∷ rec 8 P 1 0 ∷ rec 1 x 0 0 ∷ rec 8 P 1 0 ∷ rec 4 0 0 0 ∷ []; added = got unknown; answer = solved 2 0 2; records = rec 24 x 0 0 ∷ rec 4 0 0 0 ∷ []; judged = some true }
+    ∷ record {
+      set = rec 20 0 0 0 ∷ rec 8 P 1 0 ∷ rec 1 x 0 0 ∷ rec 8 P 1 0 ∷ rec 4 0 0 0
+          ∷ [];
+      added = got unknown;
+      answer = solved 2 0 2;
+      records = rec 24 x 0 0 ∷ rec 4 0 0 0 ∷ [];
+      judged = some true;
+    }
     -- K13: equal-scalar L
-    ∷ record { set = rec 22 0 0 0 ∷ rec 3 1 0 0 ∷ rec 13 L 1 1 ∷ []; added = got violated; answer = unsolved 3 0; records = rec 22 0 0 0 ∷ rec 3 1 0 0 ∷ rec 13 L 1 1 ∷ []; judged = none }
+    ∷ record {
+      set = rec 22 0 0 0 ∷ rec 3 1 0 0 ∷ rec 13 L 1 1 ∷ [];
+      added = got violated;
+      answer = unsolved 3 0;
+      records = rec 22 0 0 0 ∷ rec 3 1 0 0
+          ∷ rec 13 L 1 1 ∷ [];
+      judged = none;
+    }
     ∷ []
 
 -- the same answer
@@ -147,10 +210,12 @@ addedAs s e r = go e r.answer
 
 -- what adding leaves; answer, result buffer (the records, then what was there), work buffer (zero), and the judge's verdict
 pub agrees : Example → Bool
-agrees e = addedAs e.set e.added (addCall pool table result 0 (sizedWords e.set)) && same (solveCall pool table (sizedWords e.set) result work) && agreed e.judged (judgedBy e.set (solvedSet (table_of pool table) (sizedWords e.set)))
+agrees e = addedAs e.set e.added (addCall pool table result 0 (sizedWords e.set)) && same (solveCall pool table (sizedWords e.set) result work)
+    && agreed e.judged (judgedBy e.set (solvedSet (table_of pool table) (sizedWords e.set)))
   where
     same : Solution → Bool
-    same s = sameSolved s.answer e.answer && same_words s.result (sizedWords e.records ++ drop (length (sizedWords e.records)) result) && all (eqb 0) s.work && eqb (length s.work) 16384
+    same s = sameSolved s.answer e.answer && same_words s.result (sizedWords e.records ++ drop (length (sizedWords e.records)) result) && all (eqb 0) s.work
+        && eqb (length s.work) 16384
 
 pub K1-to-K13 : all agrees examples ≡ true
 unfolding rules counting pool table result work examples sameSolved same_words entriesFrom type_of judgedBy agreed addedAs agrees

@@ -1,5 +1,4 @@
--- Document 01, 'Exponent and product steps', and the line on exponents of 'Records': fractions in lowest terms.
--- Assumes nothing.
+-- Exponents: fractions in lowest terms, within a range.
 use Rattle.std.proofs.Common.{sym, ap}
 use Rattle.std.specs.Prelude.{Bool, not, ◌&&◌, ℕ, zero, suc, ◌*◌, ◌/◌, ◌%◌, leb, eqb, ℤ, pos, negsuc, neg_ℤ, nat_abs, ◌+ℤ◌, ◌*ℤ◌}
 use Rattle.std.proofs.Math.Option.{Option, none, some}
@@ -22,6 +21,12 @@ unfolding ℕ_discrete
 unfoldable pub Exp-dec : Discrete Exp
 unfolding ℤ-dec ℕ_discrete
 Exp-dec = Exp-discrete ℤ-dec ℕ_discrete
+
+abbrev pub numerator : Exp → ℤ
+numerator (frac n d) = n
+
+abbrev pub denominator : Exp → ℕ
+denominator (frac n d) = d
 
 -- the exponents zero and one
 abbrev pub nought : Exp

@@ -1,5 +1,4 @@
--- Document 01, 'Judge': are all constraints true once all bindings are put in, at once?
--- Assumes nothing.
+-- Are all constraints true once all bindings are put in, at once?
 use Rattle.std.specs.Prelude.{Bool, true, false, List, [], ◌∷◌, eqb}
 use Rattle.rules.specs.Base.{Got, got, refused, ◌>>=◌, Limits, sized}
 use Rattle.rules.specs.Trees.{Names, Con, Binding, sizeCon, depthCon}

@@ -1,11 +1,38 @@
--- Document 02, W-211: the constraints that the steps of a line issue, and the call that checks a whole line.
--- Assumes nothing.
+-- W-211: the constraints that the steps of a line issue, and the call that checks a whole line.
 use Rattle.std.specs.Prelude.{Bool, true, false, not, ◌&&◌, List, [], ◌∷◌, ◌++◌, ℕ, ◌*◌, eqb, leb, length}
 use Rattle.std.proofs.Math.Option.{Option, none, some}
 use Prim.Native.Nat.{Ordering}
 use Rattle.rules.specs.Base.{Got, got, refused, ◌>>=◌, ◌>>◌, need, orRefuse, bounded, any, all, collect, to_list, sum_of}
 use Rattle.rules.specs.Exponents.{Exp, one, neg}
-use Rattle.rules.specs.Trees.{var, free, base, Factor, ◌↑◌, Product, Names, Ty, opened, basic, dim, fn, struct, list, Tys, nil, cons, Fields, noFields, field, boolean, Con, equal, isDim, Binding, opensCon, sizeCon}
+use Rattle.rules.specs.Trees.{
+  var,
+  free,
+  base,
+  Factor,
+  ◌↑◌,
+  Product,
+  Names,
+  Ty,
+  opened,
+  basic,
+  dim,
+  fn,
+  struct,
+  list,
+  Tys,
+  nil,
+  cons,
+  Fields,
+  noFields,
+  field,
+  boolean,
+  Con,
+  equal,
+  isDim,
+  Binding,
+  opensCon,
+  sizeCon,
+}
 use Rattle.rules.specs.Views.{name_of}
 use Rattle.rules.specs.Contents.{unmixed}
 use Rattle.rules.specs.Products.{put}
@@ -15,7 +42,27 @@ use Rattle.rules.specs.Judging.{judge}
 use Rattle.rules.specs.Names.{Table, table_of, numbersOf, is_held}
 use Rattle.rules.specs.Writing.{Rec, writeTy}
 use Rattle.rules.specs.Calls.{lent, shortLists, shortNumbers, tableKept, differ, Written, writing}
-use Rattle.rules.specs.Steps.{Two, adds, subtracts, multiplies, divides, compares, LineStep, constant, reference, raises, joins, chooses, Deed, gives, raised, joined, chosen, takes, lineGiven}
+use Rattle.rules.specs.Steps.{
+  Two,
+  adds,
+  subtracts,
+  multiplies,
+  divides,
+  compares,
+  LineStep,
+  constant,
+  reference,
+  raises,
+  joins,
+  chooses,
+  Deed,
+  gives,
+  raised,
+  joined,
+  chosen,
+  takes,
+  lineGiven,
+}
 
 -- ══ What a step issues ══
 

@@ -1,17 +1,44 @@
--- Demand 3 and document 01, 'Judge': what it means that constraints are true once all bindings are put in. Nothing of the solver is used.
--- Assumes nothing.
+-- What it means that constraints are true once all bindings are put in. Nothing of the solver is used.
 use Rattle.std.specs.Prelude.{◌≡◌, Bool, true, false, not, ◌&&◌, ◌||◌}
 use Rattle.std.proofs.Math.Option.{some}
 use mathlib.Core.List.{List, [], ◌++◌, Memᴰ}
 use Rattle.rules.specs.Base.{got, exact, is_yes, and_then, and', all, collect, is_none, isNil}
-use Rattle.rules.specs.Trees.{Open, var, Product, Names, Ty, opened, basic, dim, fn, struct, list, Tys, nil, cons, Fields, noFields, field, Con, equal, isDim, is_scalar, hasField, Binding, ty-dec, opens, openOfFactor}
+use Rattle.rules.specs.Trees.{
+  Open,
+  var,
+  Product,
+  Names,
+  Ty,
+  opened,
+  basic,
+  dim,
+  fn,
+  struct,
+  list,
+  Tys,
+  nil,
+  cons,
+  Fields,
+  noFields,
+  field,
+  Con,
+  equal,
+  isDim,
+  is_scalar,
+  hasField,
+  Binding,
+  ty-dec,
+  opens,
+  openOfFactor,
+}
 use Rattle.rules.specs.Views.{openOf, productOf, struct_of}
 use Rattle.rules.specs.Contents.{fieldIn, namesIn, among}
 use Rattle.rules.specs.Plain.{plain}
 use Rattle.rules.specs.Replacing.{asProduct, replaceCon, find, bindings}
 
 module _ {N : Type 0} (ν : Names N) where
-  -- 'two types mean the same when they are equal after reading a single variable to the power 1 as the variable and comparing structs by name and arguments only'
+  -- 'two types mean the same when they are equal after reading a single variable to the power 1 as the variable and comparing structs by name and
+  -- arguments only'
   unfoldable pub means : Ty N → Ty N → Bool
   means s t = is_yes (ty-dec ν (plain s false) (plain t false))
 

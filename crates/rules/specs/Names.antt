@@ -1,5 +1,4 @@
--- Document 01, 'Names': the pool, the table, entering a name and asking for one. Document 02, W-204: entering says whether a name is new.
--- Assumes nothing.
+-- The pool, the table, entering a name and asking for one. W-204: entering says whether a name is new.
 use Rattle.std.specs.Prelude.{Bool, true, false, not, ◌&&◌, List, [], ◌∷◌, ◌++◌, leb, ltb, length, take, drop, get_or, set}
 use Rattle.std.proofs.Math.Option.{Option, none, some}
 use Prim.Native.Nat.{ℕ, zero, suc, ◌+◌, ◌-◌, compare, Ordering}

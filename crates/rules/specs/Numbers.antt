@@ -1,5 +1,4 @@
--- Document 01, 'Refusal numbers': the number of every outcome of every public call, 0 where it answers. Those of document 02's calls, too.
--- Assumes nothing.
+-- The number of every outcome of every public call, 0 where it answers.
 use Rattle.std.specs.Prelude.{Bool}
 use Prim.Native.Nat.{ℕ, Ordering}
 use Rattle.rules.specs.Base.{Got, got, refused}

@@ -1,5 +1,4 @@
--- Document 02, W-207: a second office on the same names. Lists with names in place of numbers, and what each office enters.
--- Assumes nothing.
+-- W-207: a second office on the same names. Lists with names in place of numbers, and what each office enters.
 use Rattle.std.specs.Prelude.{◌≡◌, Bool, true, false, not, ◌&&◌, ◌||◌, List, [], ◌∷◌, ◌++◌, map, ℕ, ◌+◌, ◌*◌, eqb, leb, ltb, length, take, get_or}
 use Rattle.std.proofs.Math.Option.{Option, none, some}
 use Rattle.std.proofs.Math.Decide.{ℕ_discrete}
@@ -16,7 +15,20 @@ use Rattle.rules.specs.Solving.{Answer, accepted, remaining, stopped}
 use Rattle.rules.specs.Calls.{Written, Listed, Solved, solved, unsolved, refusedAfter, Solution, AddedTo, Entry, setCall, typeCall, schemeCall}
 use Rattle.rules.specs.Batches.{Batch, batchCall}
 use Rattle.rules.specs.Ceiling.{ceilingCall}
-use Rattle.rules.specs.Calls.{bindingsCall, containsCall, closedCall, variablesCall, replaceTypeCall, replaceSetCall, addCall, solveCall, quantifyCall, generaliseCall, instantiateCall, judgeCall}
+use Rattle.rules.specs.Calls.{
+  bindingsCall,
+  containsCall,
+  closedCall,
+  variablesCall,
+  replaceTypeCall,
+  replaceSetCall,
+  addCall,
+  solveCall,
+  quantifyCall,
+  generaliseCall,
+  instantiateCall,
+  judgeCall,
+}
 
 -- ══ Other names in place of names, in every tree ══
 
@@ -251,16 +263,19 @@ module _ (pool table pool' table' : List ℕ) where
     pub replaceSet : (ws ws' bs bs' result result' work work' : List ℕ) → Lists ws ws' → Lists bs bs' → LentAlike result result' work work'
         → Writes (replaceSetCall pool table ws bs result work) (replaceSetCall pool' table' ws' bs' result' work')
     -- adding and solving
-    pub add : (buffer buffer' : List ℕ) (n : ℕ) (c c' : List ℕ) → Lists (take (n * 4) buffer) (take (n * 4) buffer') → Lists c c' → length buffer ≡ length buffer'
+    pub add : (buffer buffer' : List ℕ) (n : ℕ) (c c' : List ℕ) → Lists (take (n * 4) buffer) (take (n * 4) buffer') → Lists c c' → length buffer
+        ≡ length buffer'
         → AddedAlike (table_of pool table) (table_of pool' table') n c c' (addCall pool table buffer n c) (addCall pool' table' buffer' n c')
     pub solve : (ws ws' result result' work work' : List ℕ) → Lists ws ws' → LentAlike result result' work work'
         → SolvedAlike (table_of pool table) (table_of pool' table') (solveCall pool table ws result work) (solveCall pool' table' ws' result' work')
-    pub batch : (ws ws' lengths result result' answers answers' work work' : List ℕ) → Lists ws ws' → LentAlike result result' work work' → length answers ≡ length answers'
+    pub batch : (ws ws' lengths result result' answers answers' work work' : List ℕ) → Lists ws ws' → LentAlike result result' work work' → length answers
+        ≡ length answers'
         → BatchAlike (table_of pool table) (table_of pool' table') (length lengths) (batchCall pool table ws lengths result answers work) (batchCall pool' table' ws' lengths result' answers' work')
     -- the ceiling on rounds
     pub ceiling : (ws ws' : List ℕ) → Lists ws ws' → ceilingCall pool table ws ≡ ceilingCall pool' table' ws'
     -- schemes
-    pub quantify : (ws ws' bs bs' ns ns' result result' work work' : List ℕ) → Lists ws ws' → Lists bs bs' → Numbers ns ns' → LentAlike result result' work work'
+    pub quantify : (ws ws' bs bs' ns ns' result result' work work' : List ℕ) → Lists ws ws' → Lists bs bs' → Numbers ns ns'
+        → LentAlike result result' work work'
         → Writes (quantifyCall pool table ws bs ns result work) (quantifyCall pool' table' ws' bs' ns' result' work')
     pub generalise : (ws ws' bs bs' result result' work work' : List ℕ) → Lists ws ws' → Lists bs bs' → LentAlike result result' work work'
         → Writes (generaliseCall pool table ws bs result work) (generaliseCall pool' table' ws' bs' result' work')

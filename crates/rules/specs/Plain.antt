@@ -1,5 +1,4 @@
--- Reading a product that is one variable to the power 1 as that variable, at every depth (document 01, 'Schemes' and 'Judge').
--- Assumes nothing.
+-- Reading a product that is one variable to the power 1 as that variable, at every depth.
 use Rattle.std.specs.Prelude.{Bool, true, false}
 use Rattle.std.proofs.Math.Option.{Option, none, some}
 use Rattle.rules.specs.Trees.{Open, Product, Ty, opened, basic, dim, fn, struct, list, Tys, nil, cons, Fields, noFields, field}

@@ -1,5 +1,4 @@
--- Document 01, 'Exponent and product steps': multiplying, dividing and raising products of factors.
--- Assumes nothing.
+-- Multiplying, dividing and raising products of factors.
 use Rattle.std.specs.Prelude.{true, false, [], ◌∷◌, length}
 use Rattle.std.proofs.Math.Option.{Option, none}
 use Prim.Native.Nat.{Ordering}

@@ -1,10 +1,42 @@
--- Document 01, 'Records': how records are read back as trees. A type nested over the limit isn't read.
--- Assumes nothing.
+-- How records are read back as trees. A type nested over the limit isn't read.
 use Rattle.std.specs.Prelude.{Bool, true, false, List, [], ◌∷◌, ℕ, zero, suc, ◌+◌, eqb, length}
 use Rattle.std.proofs.Math.Option.{Option, none, some}
 use Rattle.rules.specs.Base.{all, and_then}
 use Rattle.rules.specs.Exponents.{frac}
-use Rattle.rules.specs.Trees.{Open, var, quant, par, free, base, Factor, ◌↑◌, Product, Ty, opened, basic, dim, fn, struct, list, Tys, nil, cons, Fields, noFields, field, Con, equal, isDim, is_scalar, hasField, Binding, ◌≔◌, boolean, string, datetime}
+use Rattle.rules.specs.Trees.{
+  Open,
+  var,
+  quant,
+  par,
+  free,
+  base,
+  Factor,
+  ◌↑◌,
+  Product,
+  Ty,
+  opened,
+  basic,
+  dim,
+  fn,
+  struct,
+  list,
+  Tys,
+  nil,
+  cons,
+  Fields,
+  noFields,
+  field,
+  Con,
+  equal,
+  isDim,
+  is_scalar,
+  hasField,
+  Binding,
+  ◌≔◌,
+  boolean,
+  string,
+  datetime,
+}
 use Rattle.rules.specs.Schemes.{Scheme, concrete, scheme}
 use Rattle.rules.specs.Writing.{Rec, rec, kindIn, lengthIn, signed}
 
@@ -212,7 +244,11 @@ schemeOf (rec w n b c ∷ rs) = ifSo (eqb (lengthIn w) (suc (length rs))) (and_t
     and_then (read_all readBound (length r.1) r.1) (λ bs. withBounds r.0 bs)))
   where
     schemeTable : ℕ → ℕ → ℕ → List (ℕ × Reader (Scheme ℕ))
-    schemeTable n b c = (26, unused (c ∷ []) (pick b ((0, readTy 64 >>= λ t. give (scheme n t [])) ∷ (1, unused (n ∷ []) (readTy 64 >>= λ t. give (concrete t))) ∷ []))) ∷ []
+    schemeTable n b c = (
+      26,
+      unused (c
+          ∷ []) (pick b ((0, readTy 64 >>= λ t. give (scheme n t [])) ∷ (1, unused (n ∷ []) (readTy 64 >>= λ t. give (concrete t))) ∷ [])),
+    ) ∷ []
 
     withBounds : Scheme ℕ → List (Open ℕ) → Option (Scheme ℕ)
     withBounds (scheme n t os) bs = some (scheme n t bs)

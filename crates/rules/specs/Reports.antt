@@ -1,5 +1,4 @@
 -- What is told of the sheets of an edition, byte by byte: 'accepted' stands only where the solver accepted a sheet and the judge says yes.
--- Assumes nothing.
 use Rattle.std.specs.Prelude.{Bool, true, false, ◌&&◌, ◌||◌, List, [], ◌∷◌, ◌++◌, map, ℕ, ◌-◌, eqb, leb, ltb, length, take, drop, replicate, get_or}
 use Rattle.rules.specs.Base.{Got, got, refused, bounded, collect, sum_of}
 use Rattle.rules.specs.Trees.{var, Names, Con, Binding, ◌≔◌}
@@ -80,7 +79,8 @@ room b = roomBy (leb 128 b && ltb b 192)
 unfoldable pub lineShown : ℕ → Bytes → Bytes
 unfolding firstShown
 lineShown column line =
-    ascii "  " ++ (front ++ (map shown (take 120 (drop first line)) ++ (ascii "\n  " ++ (replicate (length front) 32 ++ (collect room (take (column - 1 - first) (drop first line)) ++ ascii "^\n")))))
+    ascii "  " ++ (front ++ (map shown (take 120 (drop first line))
+    ++ (ascii "\n  " ++ (replicate (length front) 32 ++ (collect room (take (column - 1 - first) (drop first line)) ++ ascii "^\n")))))
   where
     first : ℕ
     first = firstShown column
@@ -128,7 +128,8 @@ module _ (name_of : ℕ → Bytes) where
 
   -- with how many constraints and new names it has
   unfoldable pub findingText : ℕ → ℕ → Finding → Bytes
-  findingText cs new (unread n l c line) = refusedText n ++ (ascii ", line " ++ (amount l ++ (ascii ", column " ++ (amount c ++ (ascii "\n" ++ lineShown c line)))))
+  findingText cs new (unread n l c line) = refusedText n
+      ++ (ascii ", line " ++ (amount l ++ (ascii ", column " ++ (amount c ++ (ascii "\n" ++ lineShown c line)))))
   findingText cs new (agrees bs ns k) =
       ascii "accepted, " ++ (amount cs ++ (ascii " constraints, " ++ (amount k ++ (ascii " rounds, " ++ (amount new ++ (ascii " new names, the judge says yes\n"
       ++ (collect bindingLine bs ++ collect boundLine ns)))))))

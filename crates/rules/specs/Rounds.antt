@@ -1,10 +1,44 @@
--- Document 01, 'Adding and rounds': which rule applies to a constraint, and one round.
--- Assumes nothing.
+-- Which rule applies to a constraint, and one round.
 use Rattle.std.specs.Prelude.{true, false, not, ◌&&◌, List, [], ◌∷◌, ◌++◌, map, ℕ, ◌+◌, max, eqb}
 use Rattle.std.proofs.Math.Option.{Option, none, some, get_or}
 use Rattle.rules.specs.Base.{Got, got, ◌>>=◌, Limits, sized, is_yes, ◌or_else◌, only_if, and_then, each, collect, sum_of, max_of}
 use Rattle.rules.specs.Exponents.{Exp, neg, quotient}
-use Rattle.rules.specs.Trees.{var, quant, par, free, base, Factor, ◌↑◌, Product, Names, Ty, opened, basic, dim, fn, struct, list, Tys, nil, cons, Fields, Con, equal, isDim, is_scalar, hasField, Binding, ◌≔◌, ty-dec, count, openOfFactor, sizeCon, depthCon, sizeBinding, depthBinding}
+use Rattle.rules.specs.Trees.{
+  var,
+  quant,
+  par,
+  free,
+  base,
+  Factor,
+  ◌↑◌,
+  Product,
+  Names,
+  Ty,
+  opened,
+  basic,
+  dim,
+  fn,
+  struct,
+  list,
+  Tys,
+  nil,
+  cons,
+  Fields,
+  Con,
+  equal,
+  isDim,
+  is_scalar,
+  hasField,
+  Binding,
+  ◌≔◌,
+  ty-dec,
+  count,
+  openOfFactor,
+  sizeCon,
+  depthCon,
+  sizeBinding,
+  depthBinding,
+}
 use Rattle.rules.specs.Views.{productOf, fn_of, struct_of, list_of, variable, asVar, asPower}
 use Rattle.rules.specs.Contents.{closed, contains, fieldIn, namesIn}
 use Rattle.rules.specs.Products.{just, divide}

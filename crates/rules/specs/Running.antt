@@ -1,5 +1,4 @@
--- Document 02, W-211: the run of a line on types alone, in exact powers. It knows neither the constraints nor the solver.
--- Assumes nothing.
+-- W-211: the run of a line on types alone, in exact powers. It knows neither the constraints nor the solver.
 use Rattle.std.specs.Prelude.{Bool, true, false, List, [], ◌∷◌, ℕ}
 use Rattle.std.proofs.Math.Option.{Option, none, some}
 use Rattle.rules.specs.Base.{Got, got, refused, exact}

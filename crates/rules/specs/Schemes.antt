@@ -1,5 +1,4 @@
--- Document 01, 'Schemes': quantifying, generalising, instantiating.
--- Assumes nothing.
+-- Quantifying, generalising, instantiating.
 use Rattle.std.specs.Prelude.{true, List, [], ◌∷◌, map, ℕ, suc, ◌+◌, eqb, length}
 use Rattle.std.proofs.Math.Option.{Option, none, some, get_or}
 use Rattle.std.proofs.Math.ListN.{get_elem?}

@@ -1,5 +1,4 @@
--- Document 01, 'Adding and rounds': round after round, and what is answered at the end.
--- Assumes nothing.
+-- Round after round, and what is answered at the end.
 use Rattle.std.specs.Prelude.{List, [], ◌∷◌, ℕ, zero, suc}
 use Rattle.std.proofs.Math.Option.{Option, none, some}
 use Rattle.rules.specs.Base.{Got, got, refused, Limits, and_then, keep, collect, to_list, is_none}

@@ -1,5 +1,4 @@
--- Document 02, W-211: the steps of a calculation line in postfix order, and what makes a line well formed.
--- Assumes nothing.
+-- W-211: the steps of a calculation line in postfix order, and what makes a line well formed.
 use Rattle.std.specs.Prelude.{Bool, true, false, ◌&&◌, List, [], ◌∷◌, ℕ, zero, suc, ◌-◌, eqb, leb}
 use Rattle.std.proofs.Math.Option.{Option, none, some}
 use Rattle.rules.specs.Base.{Got, got, ◌>>=◌, ◌>>◌, need, orRefuse, all, each}
@@ -64,7 +63,7 @@ module _ {N : Type 0} where
 
 -- ══ Steps in words ══
 
--- 'postfix records of 16 bytes': step, a, b, c. They are no records of document 01
+-- 'postfix records of 16 bytes': step, a, b, c. They are no records of the rules
 pub data StepWords : Type 0 where
   four : ℕ → ℕ → ℕ → ℕ → StepWords
 

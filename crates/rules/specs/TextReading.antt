@@ -1,11 +1,39 @@
--- Document 02, W-202: what a line means, and the call that reads a sheet. docs/GRAMMAR.md, 'What a line means' and 'Refusals'.
--- Assumes nothing.
+-- W-202: what a line means, and the call that reads a sheet. docs/GRAMMAR.md, 'What a line means' and 'Refusals'.
 use Rattle.std.specs.Prelude.{true, false, ◌&&◌, List, [], ◌∷◌, ◌++◌, ℕ, suc, ◌+◌, leb, length}
 use Rattle.std.proofs.Math.Option.{Option, none, some}
 use Rattle.rules.specs.Base.{Got, got, refused, need, allow, bounded, collect, sum_of}
 use Rattle.rules.specs.Base as Base
 use Rattle.rules.specs.Exponents.{Exp, frac, lowest, in_range}
-use Rattle.rules.specs.Trees.{Open, var, quant, par, Atom, free, base, Product, Names, Ty, opened, basic, dim, fn, struct, list, Tys, nil, cons, Fields, noFields, field, Con, equal, isDim, is_scalar, hasField, sizeCon}
+use Rattle.rules.specs.Trees.{
+  Open,
+  var,
+  quant,
+  par,
+  Atom,
+  free,
+  base,
+  Product,
+  Names,
+  Ty,
+  opened,
+  basic,
+  dim,
+  fn,
+  struct,
+  list,
+  Tys,
+  nil,
+  cons,
+  Fields,
+  noFields,
+  field,
+  Con,
+  equal,
+  isDim,
+  is_scalar,
+  hasField,
+  sizeCon,
+}
 use Rattle.rules.specs.Products.{put, multiply}
 use Rattle.rules.specs.Names.{Bytes, Entered, table_of, numbersOf, enterChecked}
 use Rattle.rules.specs.WellFormed.{is_lt}
@@ -13,7 +41,35 @@ use Rattle.rules.specs.Writing.{words, writeCon}
 use Rattle.rules.specs.Calls.{lent, tableKept, over, workAfter}
 use Rattle.rules.specs.declared.Was.{Was}
 use Rattle.rules.specs.declared.Was.TheVariants.{New, Known}
-use Rattle.rules.specs.Grammar.{lines_of, Parsed, read, bad, NameAt, PowerAt, FactorAt, TyAt, open_at, basicAt, dimAt, fn_at, listAt, struct_at, deepAt, TysAt, nilAt, consAt, FieldsAt, noneAt, field_at, ConAt, equalAt, isDimAt, isScalarAt, hasFieldAt, line}
+use Rattle.rules.specs.Grammar.{
+  lines_of,
+  Parsed,
+  read,
+  bad,
+  NameAt,
+  PowerAt,
+  FactorAt,
+  TyAt,
+  open_at,
+  basicAt,
+  dimAt,
+  fn_at,
+  listAt,
+  struct_at,
+  deepAt,
+  TysAt,
+  nilAt,
+  consAt,
+  FieldsAt,
+  noneAt,
+  field_at,
+  ConAt,
+  equalAt,
+  isDimAt,
+  isScalarAt,
+  hasFieldAt,
+  line,
+}
 
 -- ══ What a line means ══
 

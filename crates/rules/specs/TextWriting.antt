@@ -1,10 +1,41 @@
--- Document 02, W-202: how a set is written as text, and the call that does so. docs/GRAMMAR.md, 'The writer'.
--- Assumes nothing.
+-- W-202: how a set is written as text, and the call that does so. docs/GRAMMAR.md, 'The writer'.
 use Rattle.std.specs.Prelude.{Bool, true, false, List, [], ◌∷◌, ◌++◌, ℕ, zero, suc, ◌+◌, ◌/◌, ◌%◌, eqb, leb, ltb, ℤ, pos, negsuc, length, get_or}
 use Prim.Native.Char.{code}
 use Rattle.rules.specs.Base.{Got, got, ◌>>=◌, ◌>>◌, need, is_yes, collect}
 use Rattle.rules.specs.Exponents.{Exp, frac, one, Exp-dec}
-use Rattle.rules.specs.Trees.{Open, var, quant, par, free, base, Factor, ◌↑◌, Product, Basic, boolean, string, datetime, Ty, opened, basic, dim, fn, struct, list, Tys, nil, cons, Fields, noFields, field, Con, equal, isDim, is_scalar, hasField}
+use Rattle.rules.specs.Trees.{
+  Open,
+  var,
+  quant,
+  par,
+  free,
+  base,
+  Factor,
+  ◌↑◌,
+  Product,
+  Basic,
+  boolean,
+  string,
+  datetime,
+  Ty,
+  opened,
+  basic,
+  dim,
+  fn,
+  struct,
+  list,
+  Tys,
+  nil,
+  cons,
+  Fields,
+  noFields,
+  field,
+  Con,
+  equal,
+  isDim,
+  is_scalar,
+  hasField,
+}
 use Rattle.rules.specs.Names.{Bytes, Table, table_of, names_of, lentTable}
 use Rattle.rules.specs.Calls.{shortLists, tableKept, setGiven, Listed, listing}
 use Rattle.rules.specs.Grammar.{ascii, is_plain}

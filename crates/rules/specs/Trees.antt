@@ -1,5 +1,4 @@
 -- Types, constraints and bindings as trees, over a type N of names.
--- Assumes nothing.
 use Rattle.std.specs.Prelude.{List, [], ◌∷◌, ◌++◌, length}
 use Prim.Native.Nat.{ℕ, suc, ◌+◌, max, compare, Ordering}
 use Rattle.std.proofs.Math.Decide.{ℕ_discrete}

@@ -1,5 +1,4 @@
--- Document 01, 'An exponent and a product are values with operations that take and give back such values': the calls on them.
--- Assumes nothing.
+-- An exponent and a product are values with operations that take and give back such values: the calls on them.
 use Rattle.std.specs.Prelude.{◌&&◌, List, [], ◌∷◌, ◌++◌, map, ℕ, eqb, leb, length, take, replicate}
 use Rattle.std.proofs.Math.Option.{Option, some}
 use Rattle.rules.specs.Base.{Got, got, ◌>>=◌, ◌>>◌, need, orRefuse, and_then, only_if, ◌or_else◌, bounded}

@@ -1,5 +1,4 @@
 -- What a type is, seen from outside: one function for each kind that a rule asks for.
--- Assumes nothing.
 use Rattle.std.proofs.Math.Option.{Option, none, some}
 use Rattle.std.specs.Prelude.{ℕ}
 use Rattle.rules.specs.Base.{and_then}

@@ -1,10 +1,42 @@
--- Document 01, 'Records': when trees are well formed.
--- Assumes nothing.
+-- When trees are well formed.
 use Rattle.std.specs.Prelude.{Bool, true, false, ◌&&◌, List, [], ◌∷◌, map, leb, ltb, length}
 use Prim.Native.Nat.{ℕ, Ordering}
 use Rattle.rules.specs.Base.{all}
 use Rattle.rules.specs.Exponents.{goodStored}
-use Rattle.rules.specs.Trees.{Open, var, quant, par, Atom, free, base, Factor, ◌↑◌, Product, Names, Ty, opened, basic, dim, fn, struct, list, Tys, nil, cons, Fields, noFields, field, Con, equal, isDim, is_scalar, hasField, Binding, ◌≔◌, orderAtom}
+use Rattle.rules.specs.Trees.{
+  Open,
+  var,
+  quant,
+  par,
+  Atom,
+  free,
+  base,
+  Factor,
+  ◌↑◌,
+  Product,
+  Names,
+  Ty,
+  opened,
+  basic,
+  dim,
+  fn,
+  struct,
+  list,
+  Tys,
+  nil,
+  cons,
+  Fields,
+  noFields,
+  field,
+  Con,
+  equal,
+  isDim,
+  is_scalar,
+  hasField,
+  Binding,
+  ◌≔◌,
+  orderAtom,
+}
 
 abbrev pub is_lt : Ordering → Bool
 is_lt Ordering.lt = true

@@ -1,4 +1,4 @@
-// What all code shares: the refusals of document 01, with 11 and 12 of document 02, and the limits.
+// What all code shares: the refusals with their numbers, and the limits.
 #![tactic(auto)]
 
 ghost use Rattle.std.specs.Prelude.{◌≡◌};
@@ -24,14 +24,14 @@ pub const POOL_BYTES: usize = 8192;
 pub const TABLE_WORDS: usize = 257;
 
 // What a name was before it was entered: nowhere in the table, or held there.
-#[derive(Clone, Copy)]
+#[derive(Clone, Copy, PartialEq, Eq)]
 pub enum Was {
     New,
     Known,
 }
 
 // Why a call gives no answer.
-#[derive(Clone, Copy)]
+#[derive(Clone, Copy, PartialEq, Eq)]
 pub enum Refusal {
     Malformed,
     NameLength,
