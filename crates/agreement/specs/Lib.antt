@@ -1,6 +1,2 @@
-pub mod Alike
-pub mod Powers
-pub mod Rows
-pub mod Runs
-pub mod Laid
-pub mod Agreement
+pub mod Claims
+pub mod Theorems

@@ -1,5 +1,4 @@
 -- The words of the theorems: the sets that W-210 speaks of, and what is said of an accepted answer. Choices stand in rules' Choices.
--- Assumes nothing.
 use Rattle.std.specs.Prelude.{◌≡◌, Bool, true, ◌⊎◌, ℕ, ◌≤◌, length}
 use mathlib.Core.List.{List, ◌++◌, map, Memᴰ}
 use Rattle.rules.specs.Base.{all, collect, sum_of}
@@ -78,4 +77,5 @@ pub record Complete (pool table set result work : List ℕ) (cs : List (Con ℕ)
   pub five : ((n k : ℕ) → (solveCall pool table set result work).answer ≡ refusedAfter n k → Excepted n → ⊥)
       → Unsolved (solveCall pool table set result work).answer ⇔ (Choosing (numbersOf (table_of pool table)).same cs → ⊥)
   -- (b), (c)
-  pub accepts : (records bounds rounds : ℕ) → (solveCall pool table set result work).answer ≡ solved records bounds rounds → Told pool table set result work cs records bounds
+  pub accepts : (records bounds rounds : ℕ) → (solveCall pool table set result work).answer ≡ solved records bounds rounds
+      → Told pool table set result work cs records bounds

@@ -1,12 +1,38 @@
 -- Types whose products are in order and of whose open names P holds.
--- Assumes nothing.
 use Rattle.std.specs.Prelude.{◌≡◌, Bool, true, false, ◌&&◌, ℕ}
 use Rattle.std.proofs.Common.{sym, ap, ◌∙◌, arith}
 use mathlib.Core.List.{[], ◌∷◌, map}
 use Prim.Native.Nat.{Ordering}
 use Rattle.rules.specs.Base.{all, collect}
 use Rattle.rules.specs.Exponents.{goodStored}
-use Rattle.rules.specs.Trees.{Open, var, Atom, free, base, ◌↑◌, Product, Names, Ty, opened, basic, dim, fn, struct, list, Tys, nil, cons, Fields, noFields, field, orderAtom, opens, opensTys, opensFields, openOfFactor}
+use Rattle.rules.specs.Trees.{
+  Open,
+  var,
+  Atom,
+  free,
+  base,
+  ◌↑◌,
+  Product,
+  Names,
+  Ty,
+  opened,
+  basic,
+  dim,
+  fn,
+  struct,
+  list,
+  Tys,
+  nil,
+  cons,
+  Fields,
+  noFields,
+  field,
+  orderAtom,
+  opens,
+  opensTys,
+  opensFields,
+  openOfFactor,
+}
 use Rattle.rules.specs.Products.{just}
 use Rattle.rules.specs.Contents.{contains}
 use Rattle.rules.specs.WellFormed.{rising, atomOf, goodOpen, goodFactor, goodProduct, goodTy, goodTys, goodFields}
@@ -90,7 +116,8 @@ behind ν law x p h = every-as (λ f i z. itself (ap (orderAtom ν (free (var x)
     itself : orderAtom ν (free (var x)) (free (var x)) ≡ Ordering.lt → ⊥
     itself h = let w : Ordering.eq ≡ Ordering.lt = sym (self law (free (var x))) ∙ h in let y : ◌≡◌ {A = ℕ} 0 1 = cc in omega arith
 
-pub apart-atoms : {N : Type 0} {P Q : Open N → Type 0} (x : N) → ((o : Open N) → P o → (var x ≡ o → ⊥) → Q o) → (p : Product N) → Atoms (Named P) p → Atoms (Apart x) p → Atoms (Named Q) p
+pub apart-atoms : {N : Type 0} {P Q : Open N → Type 0} (x : N) → ((o : Open N) → P o → (var x ≡ o → ⊥) → Q o) → (p : Product N) → Atoms (Named P) p
+    → Atoms (Apart x) p → Atoms (Named Q) p
 apart-atoms x h [] a b = tt
 apart-atoms x h (free o ↑ e ∷ p) a b = (h o a.0 (λ z. b.0 (ap free z)), apart-atoms x h p a.1 b.1)
 apart-atoms x h (base n ↑ e ∷ p) a b = (tt, apart-atoms x h p a.1 b.1)

@@ -5,9 +5,5 @@ pub mod Fine
 pub mod Replaced
 pub mod Weights
 pub mod Steps
-pub mod Rounds
-pub mod Runs
-pub mod Sets
-pub mod Tables
-pub mod Calls
-pub mod Ending
+pub mod Counted
+pub mod Theorems

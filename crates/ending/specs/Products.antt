@@ -1,5 +1,4 @@
 -- What products keep: their order and their names; and a factor that is divided away is gone.
--- Assumes nothing.
 use Rattle.std.specs.Prelude.{◌≡◌, Bool, true, false, pos, neg_ℤ, ◌+ℤ◌, ◌*ℤ◌, length}
 use Rattle.std.proofs.Math.Path.{refl}
 use Rattle.std.proofs.Common.{ap, ◌∙◌, arith}
@@ -106,7 +105,8 @@ module _ {N : Type 0} (ν : Names N) (l : Limits) where
   raise-thins [] k = yields end
   raise-thins (a ↑ e ∷ p) k = next (times-yields l e k) (λ s u. next (raise-thins p k) (λ q t. yields (thin-put s t)))
 
-  one-numbered : (a : Atom N) (e : Exp) (p : Product N) (m : Product N → Got (Product N)) → ((q : Product N) → Yields (m q) (λ r. Unit {0})) → (q : Product N) → Yields (mergeOne ν l a e p m q) (λ r. Unit {0})
+  one-numbered : (a : Atom N) (e : Exp) (p : Product N) (m : Product N → Got (Product N)) → ((q : Product N) → Yields (m q) (λ r. Unit {0}))
+      → (q : Product N) → Yields (mergeOne ν l a e p m q) (λ r. Unit {0})
   unfolding mergeOne
   one-numbered a e p m f [] = yields tt
   one-numbered a e p m f (b ↑ d ∷ q) = go (orderAtom ν a b) refl (one-numbered a e p m f q)
@@ -158,7 +158,8 @@ module _ {N : Type 0} (ν : Names N) (law : Lawful (orderAtom ν)) (l : Limits) 
   before_at b [] post a e h = h.0
   before_at b (c ↑ d ∷ pre) post a e h = before_at b pre post a e h.1
 
-  merge-away : (pre post : Product N) (a : Atom N) (e : Exp) → Sorted ν (pre ++ (a ↑ e ∷ post)) → Yields (merge ν l (pre ++ (a ↑ e ∷ post)) (a ↑ neg e ∷ [])) (λ r. r ≡ pre ++ post)
+  merge-away : (pre post : Product N) (a : Atom N) (e : Exp) → Sorted ν (pre ++ (a ↑ e ∷ post))
+      → Yields (merge ν l (pre ++ (a ↑ e ∷ post)) (a ↑ neg e ∷ [])) (λ r. r ≡ pre ++ post)
   unfolding merge mergeOne
   merge-away [] post a e h =
       rw (self law a, mergeOne) (next (sum-yields l e (neg e)) (λ s g. rw (merge-end post)
@@ -167,6 +168,7 @@ module _ {N : Type 0} (ν : Names N) (law : Lawful (orderAtom ν)) (l : Limits) 
       rw (before_at b pre post a e h.0, mergeOne) (next (merge-away pre post a e h.1) (λ r g. yields (ap (b ↑ d ∷◌) g)))
 
   -- of a product in order, divided by one of its factors, the others are left
-  pub divide-away : (pre post : Product N) (a : Atom N) (e : Exp) → Sorted ν (pre ++ (a ↑ e ∷ post)) → Yields (divide ν l (pre ++ (a ↑ e ∷ post)) (a ↑ e ∷ [])) (λ r. r ≡ pre ++ post)
+  pub divide-away : (pre post : Product N) (a : Atom N) (e : Exp) → Sorted ν (pre ++ (a ↑ e ∷ post))
+      → Yields (divide ν l (pre ++ (a ↑ e ∷ post)) (a ↑ e ∷ [])) (λ r. r ≡ pre ++ post)
   unfolding divide multiply inverse
   divide-away pre post a e h = next (merge-away pre post a e h) (λ r g. within-yields l (length r) 64 r g)

@@ -1,5 +1,4 @@
 -- Replacing a variable by a type that doesn't hold it takes it out everywhere, and brings in no other names than the type's.
--- Assumes nothing.
 use Rattle.std.proofs.Math.Path.{◌≡◌, refl}
 use Rattle.std.proofs.Common.{sym, ap, subst, arith}
 use Rattle.std.specs.Prelude.{Bool, true, false, ℕ}
@@ -7,7 +6,33 @@ use mathlib.Core.List.{[], ◌∷◌, ◌++◌, append_assoc}
 use Rattle.std.proofs.Math.Option.{Option, none as nothing, some}
 use Rattle.rules.specs.Base.{got, Limits, is_yes, only_if}
 use Rattle.rules.specs.Exponents.{Exp, Exp-dec, one}
-use Rattle.rules.specs.Trees.{Open, var, quant, par, Atom, free, base, ◌↑◌, Product, Names, Ty, opened, basic, dim, fn, struct, list, Tys, nil, cons, Fields, noFields, field, ◌≔◌, orderAtom}
+use Rattle.rules.specs.Trees.{
+  Open,
+  var,
+  quant,
+  par,
+  Atom,
+  free,
+  base,
+  ◌↑◌,
+  Product,
+  Names,
+  Ty,
+  opened,
+  basic,
+  dim,
+  fn,
+  struct,
+  list,
+  Tys,
+  nil,
+  cons,
+  Fields,
+  noFields,
+  field,
+  ◌≔◌,
+  orderAtom,
+}
 use Rattle.rules.specs.Products.{single}
 use Rattle.rules.specs.Replacing.{asProduct, replaceFactors, replaceProduct, replaceDim, replaceTy, replaceTys, replaceFields, find, bindings}
 use Rattle.laws.specs.Lists.{some≢none, every_append}
@@ -91,7 +116,8 @@ module _ {N : Type 0} (ν : Names N) (law : Lawful (orderAtom ν)) (l : Limits) 
   sorted-end (b ↑ d ∷ pre) post a e h = sorted-end pre post a e h.1
 
   -- `pre` has been looked through, `p` is still to come
-  factors-neat : (pre p : Product N) → Sorted ν (pre ++ p) → Atoms (Named Q) pre → Atoms (Named P) p → Yields (replaceFactors ν l look p (pre ++ p)) (Neat ν (Named Q))
+  factors-neat : (pre p : Product N) → Sorted ν (pre ++ p) → Atoms (Named Q) pre → Atoms (Named P) p
+      → Yields (replaceFactors ν l look p (pre ++ p)) (Neat ν (Named Q))
   unfolding replaceFactors
   factors-neat pre [] h a b = yields (record { sorted = h; atoms = every_append _ pre [] a tt })
   factors-neat pre (base n ↑ e ∷ p) h a b =
@@ -99,7 +125,8 @@ module _ {N : Type 0} (ν : Names N) (law : Lawful (orderAtom ν)) (l : Limits) 
   factors-neat pre (free o ↑ e ∷ p) h a b =
       go (looked o) (λ j. rw append_assoc at (factors-neat (pre ++ (free o ↑ e ∷ [])) p (rw append_assoc h) (every_append _ pre (free o ↑ e ∷ []) a (j, tt)) b.1))
     where
-      go : Looked o → (Q o → Yields (replaceFactors ν l look p (pre ++ (free o ↑ e ∷ p))) (Neat ν (Named Q))) → Yields (replaceFactors ν l look (free o ↑ e ∷ p) (pre ++ (free o ↑ e ∷ p))) (Neat ν (Named Q))
+      go : Looked o → (Q o → Yields (replaceFactors ν l look p (pre ++ (free o ↑ e ∷ p))) (Neat ν (Named Q)))
+          → Yields (replaceFactors ν l look (free o ↑ e ∷ p) (pre ++ (free o ↑ e ∷ p))) (Neat ν (Named Q))
       go (miss q f) r = rw (q, replaceFactors) (r (other o b.0 f))
       go (hit q z) r =
           let w : Atoms (Apart x) p = behind ν law x p (rw (ap free z) (sorted-end pre p (free o) e h)) in

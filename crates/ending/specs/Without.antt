@@ -1,5 +1,4 @@
 -- A list of names without one of them: the others stay, and it is shorter.
--- Assumes nothing.
 use Rattle.std.specs.Prelude.{◌≡◌, ◌⊎◌, ◌≤◌, ◌<◌}
 use Rattle.std.proofs.Math.Path.{refl, sym}
 use Rattle.std.proofs.Common.{◌∙◌, inl, inr}
@@ -39,7 +38,8 @@ module _ {N : Type 0} (ν : Names N) where
   shorter x [] m = absurd (Memᴰ.not-nil m)
   shorter x (z ∷ zs) m = go (ν.same x z) refl (Memᴰ.cases_cons m) (shorter x zs) (no_longer x zs)
     where
-      go : (d : Dec (x ≡ z)) → ν.same x z ≡ d → (x ≡ z) ⊎ Memᴰ x zs → (Memᴰ x zs → length (without x zs) < length zs) → length (without x zs) ≤ length zs → length (without x (z ∷ zs)) < length (z ∷ zs)
+      go : (d : Dec (x ≡ z)) → ν.same x z ≡ d → (x ≡ z) ⊎ Memᴰ x zs → (Memᴰ x zs → length (without x zs) < length zs)
+          → length (without x zs) ≤ length zs → length (without x (z ∷ zs)) < length (z ∷ zs)
       go (yes e) q i r k = rw (q, without) (omega arith)
       go (no f) q (inl i) r k = absurd (f i)
       go (no f) q (inr i) r k = rw (q, without) (omega (arith, r i))

@@ -1,5 +1,4 @@
 -- What a step yields: where it gives a value, the value is as stated; where it refuses, the number is never 0, which is no refusal of document 01.
--- Assumes nothing.
 use Rattle.std.specs.Prelude.{◌≡◌, refl, Bool, true, false, List, [], ◌∷◌, ℕ, suc, ◌≤◌, ◌<◌, T, leb, length}
 use Rattle.std.proofs.Common.{ap, arith, leb→le}
 use Rattle.rules.specs.Base.{Got, got, refused, ◌>>=◌, Limits, bounded, exact, within, allow, each}
@@ -44,7 +43,8 @@ pub bounded-yields : {A : Type 0} {P : A → Type 0} (n m : ℕ) (a : A) → (n 
 bounded-yields n m a p = allowed (leb n m) 8 a (omega arith) (λ t. p (leb→le n m t))
 
 -- one for one
-pub each-yields : {A B : Type 0} {P : A → Type 0} {Q : B → Type 0} (f : A → Got B) → ((a : A) → P a → Yields (f a) Q) → (xs : List A) → Every P xs → Yields (each f xs) (λ ys. Every Q ys × (length ys ≡ length xs))
+pub each-yields : {A B : Type 0} {P : A → Type 0} {Q : B → Type 0} (f : A → Got B) → ((a : A) → P a → Yields (f a) Q) → (xs : List A) → Every P xs
+    → Yields (each f xs) (λ ys. Every Q ys × (length ys ≡ length xs))
 unfolding each
 each-yields f h [] p = yields (tt, refl)
 each-yields f h (x ∷ xs) p = next (h x p.0) (λ y i. next (each-yields f h xs p.1) (λ ys j. yields ((i, j.0), ap suc j.1)))

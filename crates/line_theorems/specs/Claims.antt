@@ -1,5 +1,4 @@
 -- The words of the theorems: an accepted line, and a run to its end.
--- Assumes nothing.
 use Rattle.std.specs.Prelude.{◌≡◌, Bool, true, List, [], ◌∷◌, ◌⊎◌, ℕ, length}
 use Rattle.std.proofs.Math.Option.{some}
 use Rattle.rules.specs.Base.{got, refused, bounded, all}

@@ -1,3 +1,24 @@
+// Two offices that share one table of names: theorems, each the contract of a function that does nothing.
 #![tactic(auto)]
 
-// Theorems about two offices that share one table of names stand in specs/; there is no code.
+ghost use Rattle.offices.specs.Theorems.{ReadAlikeAnsweredAlike, ContainsByName, SolvedByNames, OfficesUnmoved};
+
+/// Lists that read alike with names, over two tables, are answered alike by every call (`numbering`).
+pub fn read_alike_answered_alike()
+    ensures { ReadAlikeAnsweredAlike }
+{}
+
+/// Whether a type contains a name is asked of the name, and not of its number (`contains-alike`).
+pub fn contains_by_name()
+    ensures { ContainsByName }
+{}
+
+/// Solving numbers, read with their names, is solving the names themselves in the order of their bytes (`solve-by-names`).
+pub fn solved_by_names()
+    ensures { SolvedByNames }
+{}
+
+/// Each office's answers, read with names, do not depend on what the other entered (`unmoved`).
+pub fn offices_unmoved()
+    ensures { OfficesUnmoved }
+{}

@@ -1,11 +1,2 @@
-pub mod Factors
-pub mod Products
-pub mod Occurring
-pub mod Types
-pub mod InTurn
-pub mod Own
-pub mod Sizes
-pub mod Again
-pub mod Cases
-pub mod Shorter
-pub mod PutBack
+pub mod Places
+pub mod Theorems

@@ -1,5 +1,4 @@
 -- What is written of a set has at most 173 bytes a record, and no line feed but those that end its lines.
--- Assumes nothing.
 use Rattle.std.specs.Prelude.{◌≡◌, Bool, true, false, not, ◌&&◌, ℕ, zero, suc, ◌+◌, ◌-◌, ◌*◌, ◌/◌, ◌%◌, ◌≤◌, ltb, eqb, ℤ, pos, negsuc, length}
 use Rattle.std.proofs.Math.Path.{refl}
 use mathlib.Core.List.{List, [], ◌∷◌, ◌++◌}
@@ -8,13 +7,68 @@ use borrow.Author.Tests.{ltb-true, ne_eqb}
 use Rattle.std.proofs.Math.ListN.{length-append}
 use Rattle.rules.specs.Base.{all, collect, is_yes, sum_of}
 use Rattle.rules.specs.Exponents.{Exp, frac, one, Exp-dec}
-use Rattle.rules.specs.Trees.{var, quant, par, free, base, Factor, ◌↑◌, Product, boolean, string, datetime, Ty, opened, basic, dim, fn, struct, list, Tys, nil, cons, Fields, noFields, field, Con, equal, isDim, is_scalar, hasField, size, sizeTys, sizeFields, sizeCon}
+use Rattle.rules.specs.Trees.{
+  var,
+  quant,
+  par,
+  free,
+  base,
+  Factor,
+  ◌↑◌,
+  Product,
+  boolean,
+  string,
+  datetime,
+  Ty,
+  opened,
+  basic,
+  dim,
+  fn,
+  struct,
+  list,
+  Tys,
+  nil,
+  cons,
+  Fields,
+  noFields,
+  field,
+  Con,
+  equal,
+  isDim,
+  is_scalar,
+  hasField,
+  size,
+  sizeTys,
+  sizeFields,
+  sizeCon,
+}
 use Rattle.rules.specs.Names.{Bytes, table_of, numbersOf, is_held}
 use Rattle.rules.specs.WellFormed.{goodOpen, goodFactor, goodProduct, goodTy, goodTys, goodFields, goodCon}
 use Rattle.laws.specs.Lists.{Every, every_append, and_left, and_right, not-true}
 use Rattle.laws.specs.NameTable.{Good}
 use Rattle.rules.specs.Grammar.{ascii, is_plain, isDigit}
-use Rattle.rules.specs.TextWriting.{hexDigit, escaped, nameText, decimal, numeratorText, denominatorText, powerText, openText, factorText, moreFactorsText, factorsText, dimensionText, tyText, tysText, moreTysText, argumentsText, fieldsText, moreFieldsText, conText, setText}
+use Rattle.rules.specs.TextWriting.{
+  hexDigit,
+  escaped,
+  nameText,
+  decimal,
+  numeratorText,
+  denominatorText,
+  powerText,
+  openText,
+  factorText,
+  moreFactorsText,
+  factorsText,
+  dimensionText,
+  tyText,
+  tysText,
+  moreTysText,
+  argumentsText,
+  fieldsText,
+  moreFieldsText,
+  conText,
+  setText,
+}
 use Rattle.sheets.specs.Meanings
 use Rattle.sheets.specs.TypesBack.{plain-no}
 
@@ -187,7 +241,8 @@ module _ {pool table : List ℕ} (good : Good pool table) where
   pub all_short : (p : Product ℕ) → Every IsGood p → length (factorsText name_of p) ≤ length p * 173
   all_short p g = (factors-fit p g).short
 
-  dimension-fits : (p : Product ℕ) → goodProduct (numbersOf (table_of pool table)) (is_held (table_of pool table)) 0 p ≡ true → Fits (dimensionText name_of p) (length p * 173 + 2)
+  dimension-fits : (p : Product ℕ) → goodProduct (numbersOf (table_of pool table)) (is_held (table_of pool table)) 0 p ≡ true
+      → Fits (dimensionText name_of p) (length p * 173 + 2)
   unfolding dimensionText all
   dimension-fits p g =
       let h = factors-fit p (Meanings.good-dim good p g).each in
@@ -294,7 +349,8 @@ module _ {pool table : List ℕ} (good : Good pool table) where
   pub fields-short : (fs : Fields ℕ) → fieldsGood fs ≡ true → length (moreFieldsText name_of fs) ≤ sizeFields fs * 173
   fields-short fs g = (more-fields-fit fs g).short
 
-  pub dimension-short : (p : Product ℕ) → goodProduct (numbersOf (table_of pool table)) (is_held (table_of pool table)) 0 p ≡ true → length (dimensionText name_of p) ≤ length p * 173 + 2
+  pub dimension-short : (p : Product ℕ) → goodProduct (numbersOf (table_of pool table)) (is_held (table_of pool table)) 0 p ≡ true
+      → length (dimensionText name_of p) ≤ length p * 173 + 2
   dimension-short p g = (dimension-fits p g).short
 
   -- a line without its line feed
@@ -332,7 +388,8 @@ module _ {pool table : List ℕ} (good : Good pool table) where
   some_size (hasField x s t) = omega arith
 
   -- 173 bytes a record suffice for every set
-  pub set-fits : (cs : List (Con ℕ)) → all (goodCon (numbersOf (table_of pool table)) (is_held (table_of pool table)) 0) cs ≡ true → length (setText name_of cs) ≤ sum_of sizeCon cs * 173
+  pub set-fits : (cs : List (Con ℕ)) → all (goodCon (numbersOf (table_of pool table)) (is_held (table_of pool table)) 0) cs ≡ true
+      → length (setText name_of cs) ≤ sum_of sizeCon cs * 173
   unfolding setText collect all
   set-fits [] g = omega arith
   set-fits (c ∷ cs) g =

@@ -1,5 +1,4 @@
 -- What was read of a written line means what was written: names are known, powers are reduced, factors come in order, and only records are counted.
--- Assumes nothing.
 use Rattle.std.specs.Prelude.{◌≡◌, true, not, ◌&&◌, ℤ, length, get_or, take, drop}
 use Rattle.std.proofs.Math.Path.{refl, ap}
 use Rattle.std.proofs.Common.{sym, ◌∙◌, arith}
@@ -10,19 +9,103 @@ use borrow.Author.Tests.{le-leb, leb-true, ltb-true}
 use Rattle.std.proofs.Math.ListN.{length-append}
 use Rattle.rules.specs.Base.{got, bounded, all, is_none}
 use Rattle.rules.specs.Exponents.{Exp, frac, in_range, goodExp, goodStored, isZero}
-use Rattle.rules.specs.Trees.{Open, Atom, Factor, ◌↑◌, Product, Names, Basic, Ty, opened, basic, dim, fn, struct, list, Tys, nil, cons, Fields, noFields, field, Con, equal, isDim, is_scalar, hasField, size, sizeTys, sizeFields, sizeCon, orderAtom}
+use Rattle.rules.specs.Trees.{
+  Open,
+  Atom,
+  Factor,
+  ◌↑◌,
+  Product,
+  Names,
+  Basic,
+  Ty,
+  opened,
+  basic,
+  dim,
+  fn,
+  struct,
+  list,
+  Tys,
+  nil,
+  cons,
+  Fields,
+  noFields,
+  field,
+  Con,
+  equal,
+  isDim,
+  is_scalar,
+  hasField,
+  size,
+  sizeTys,
+  sizeFields,
+  sizeCon,
+  orderAtom,
+}
 use Rattle.rules.specs.Products.{put, mergeOne, merge, multiply}
 use Rattle.rules.specs.Names.{Bytes, names_of, table_of, numbersOf, is_held, number_of, unchanged, enterChecked, enterKnown}
 use Rattle.rules.specs.WellFormed.{is_lt, atomOf, rising, goodFactor, goodProduct}
 use Rattle.rules.specs.declared.Was.TheVariants.{Known}
 use Rattle.laws.specs.Lists.{Every, every-right, and_left, and_right, not-true, all-is, all-every}
-use Rattle.laws.specs.NameTable.{Good, good-laid, placed, name-is, part_length, length-names, held-is, start_at, search-none, search-any, search-found, distinct-same, good-distinct}
+use Rattle.laws.specs.NameTable.{
+  Good,
+  good-laid,
+  placed,
+  name-is,
+  part_length,
+  length-names,
+  held-is,
+  start_at,
+  search-none,
+  search-any,
+  search-found,
+  distinct-same,
+  good-distinct,
+}
 use Rattle.laws.specs.Fractions.{lowest-terms}
 use Rattle.laws.specs.Ranges.{good-lowest}
 use Rattle.laws.specs.Sorted.{Sorted, sorted}
 use Rattle.laws.specs.ByteOrder.{numbered-lawful, atom-lawful}
-use Rattle.rules.specs.Grammar.{NameAt, PowerAt, FactorAt, TyAt, open_at, basicAt, dimAt, fn_at, listAt, struct_at, TysAt, nilAt, consAt, FieldsAt, noneAt, field_at, ConAt, equalAt, isDimAt, isScalarAt, hasFieldAt}
-use Rattle.rules.specs.TextReading.{Sofar, told, counted, enterName, named, openNamed, atomNamed, powerOf, multiplied, factorsOf, productOf, rises, ty_of, tys_of, fields_of, conOf}
+use Rattle.rules.specs.Grammar.{
+  NameAt,
+  PowerAt,
+  FactorAt,
+  TyAt,
+  open_at,
+  basicAt,
+  dimAt,
+  fn_at,
+  listAt,
+  struct_at,
+  TysAt,
+  nilAt,
+  consAt,
+  FieldsAt,
+  noneAt,
+  field_at,
+  ConAt,
+  equalAt,
+  isDimAt,
+  isScalarAt,
+  hasFieldAt,
+}
+use Rattle.rules.specs.TextReading.{
+  Sofar,
+  told,
+  counted,
+  enterName,
+  named,
+  openNamed,
+  atomNamed,
+  powerOf,
+  multiplied,
+  factorsOf,
+  productOf,
+  rises,
+  ty_of,
+  tys_of,
+  fields_of,
+  conOf,
+}
 use Rattle.rules.specs.TextWriting.{namesIn}
 use Rattle.sheets.specs.Spelling.{IsByte, IsPower}
 
@@ -180,7 +263,8 @@ module _ {pool table : List ℕ} (good : Good pool table) where
 
   -- ══ Part by part ══
 
-  pub factor-means : (a : Atom ℕ) (n : ℤ) (d : ℕ) (w : FactorAt) → AtomMeans a w.atom → IsPower n d w.power → goodStored (frac n d) ≡ true → FactorMeans (a ↑ frac n d) w
+  pub factor-means : (a : Atom ℕ) (n : ℤ) (d : ℕ) (w : FactorAt) → AtomMeans a w.atom → IsPower n d w.power → goodStored (frac n d) ≡ true
+      → FactorMeans (a ↑ frac n d) w
   unfolding multiplied
   factor-means a n d w h k g p j r b l = rw (h j r, power-kept w.power n d k g) (rw (put-kept a n d g, multiply-last ν p a (frac n d) b l))
 
@@ -193,7 +277,8 @@ module _ {pool table : List ℕ} (good : Good pool table) where
   more-factors (a ↑ e) q w ws h k p j r s l =
       rw (h p j r (behind ν p a e q s) (omega (arith, simp length-append at l))) ((rw append_assoc at (k (p ++ (a ↑ e ∷ [])) j r)) s l)
 
-  pub dimension-means : (c e : ℕ) (p : Product ℕ) (ws : List FactorAt) → FactorsMean p ws → Sorted ν p → length p ≤ 64 → (j r q : ℕ) → q ≡ r + suc (length p) → q ≤ 2048
+  pub dimension-means : (c e : ℕ) (p : Product ℕ) (ws : List FactorAt) → FactorsMean p ws → Sorted ν p → length p ≤ 64 → (j r q : ℕ)
+      → q ≡ r + suc (length p) → q ≤ 2048
       → productOf c ws e (state j r) ≡ told p (state j q)
   unfolding productOf
   dimension-means c e p ws h s l j r q k m = rw (counts 1 c j r (r + 1) refl (omega arith), h [] j (r + 1) s l) (rw (counts (length p) e j (r + 1) q (omega arith) m))
@@ -213,7 +298,8 @@ module _ {pool table : List ℕ} (good : Good pool table) where
   fn-means c ps t vs w g h j r q e m =
       rw (counts 1 c j r (r + 1) refl (omega arith), g j (r + 1) (r + 1 + sizeTys ps) refl (omega arith)) (rw (h j (r + 1 + sizeTys ps) q (omega arith) m))
 
-  pub struct-means : (c x : ℕ) (as' : Tys ℕ) (fs : Fields ℕ) (m : NameAt) (vs : TysAt) (ws : FieldsAt) → Held x → m.bytes ≡ name_of x → TysMean as' vs → FieldsMean fs ws → Rises none fs
+  pub struct-means : (c x : ℕ) (as' : Tys ℕ) (fs : Fields ℕ) (m : NameAt) (vs : TysAt) (ws : FieldsAt) → Held x → m.bytes ≡ name_of x
+      → TysMean as' vs → FieldsMean fs ws → Rises none fs
       → TyMeans (struct x as' fs) (struct_at c m vs ws)
   unfolding ty_of size
   struct-means c x as' fs n vs ws b i g h k j r q e m =
@@ -228,7 +314,8 @@ module _ {pool table : List ℕ} (good : Good pool table) where
   rises-pass none n c h j r = refl
   rises-pass (some m) n c h j r = rw h
 
-  pub field-means : (n : ℕ) (t : Ty ℕ) (fs : Fields ℕ) (m : NameAt) (w : TyAt) (ws : FieldsAt) → Held n → m.bytes ≡ name_of n → TyMeans t w → FieldsMean fs ws → FieldsMean (field n t fs) (field_at m w ws)
+  pub field-means : (n : ℕ) (t : Ty ℕ) (fs : Fields ℕ) (m : NameAt) (w : TyAt) (ws : FieldsAt) → Held n → m.bytes ≡ name_of n → TyMeans t w
+      → FieldsMean fs ws → FieldsMean (field n t fs) (field_at m w ws)
   unfolding ty_of size
   field-means n t fs x w ws b i g h y k j r q e m =
       rw (known n b x i j r) (rw (rises-pass y n x.column k.0 j r, counts 1 x.column j r (r + 1) refl (omega arith))
@@ -245,11 +332,13 @@ module _ {pool table : List ℕ} (good : Good pool table) where
   unfolding conOf sizeCon
   isDim-means c t w h j r q e m = rw (counts 1 c j r (r + 1) refl (omega arith), h j (r + 1) q (omega arith) m)
 
-  pub isScalar-means : (c d e : ℕ) (p : Product ℕ) (ws : List FactorAt) → FactorsMean p ws → Sorted ν p → length p ≤ 64 → ConMeans (is_scalar p) (isScalarAt c d ws e)
+  pub isScalar-means : (c d e : ℕ) (p : Product ℕ) (ws : List FactorAt) → FactorsMean p ws → Sorted ν p → length p ≤ 64
+      → ConMeans (is_scalar p) (isScalarAt c d ws e)
   unfolding conOf sizeCon size
   isScalar-means c d e p ws h s l j r q k m = rw (counts 1 c j r (r + 1) refl (omega arith), dimension-means d e p ws h s l j (r + 1) q (omega arith) m)
 
-  pub hasField-means : (c x : ℕ) (s t : Ty ℕ) (n : NameAt) (v w : TyAt) → Held x → n.bytes ≡ name_of x → TyMeans s v → TyMeans t w → ConMeans (hasField x s t) (hasFieldAt c v n w)
+  pub hasField-means : (c x : ℕ) (s t : Ty ℕ) (n : NameAt) (v w : TyAt) → Held x → n.bytes ≡ name_of x → TyMeans s v → TyMeans t w
+      → ConMeans (hasField x s t) (hasFieldAt c v n w)
   unfolding conOf sizeCon
   hasField-means c x s t n v w b i g h j r q e m =
       rw (counts 1 c j r (r + 1) refl (omega arith), g j (r + 1) (r + 1 + size s) refl (omega arith)) (rw (known x b n i j (r + 1 + size s), h j (r + 1 + size s) q (omega arith) m))

@@ -1,5 +1,4 @@
 -- Every written line is read back: the grammar finds a tree in it that means what was written.
--- Assumes nothing.
 use Rattle.std.specs.Prelude.{◌≡◌, Bool, not, ◌&&◌, leb, ltb, ℤ, nat_abs, length}
 use Rattle.std.proofs.Math.Path.{refl, ap}
 use Rattle.std.proofs.Math.Bool.{true, false}
@@ -15,7 +14,55 @@ use Rattle.rules.specs.Names.{Bytes, table_of, numbersOf, is_held}
 use Rattle.rules.specs.WellFormed.{goodOpen, goodFactor}
 use Rattle.laws.specs.Lists.{Every, and_left, and_right, yes-is}
 use Rattle.laws.specs.NameTable.{Good}
-use Rattle.rules.specs.Grammar.{here, Parsed, read, Rule, pass, give, ◌>>=◌, ◌>>◌, isBlank, is_plain, isDigit, skipFrom, skip, spellFrom, spell, sign, mark, starts, ifSign, whole, nameFrom, name, NameAt, power, noPower, PowerAt, dimAt, factor, FactorAt, moreFactors, dimension, moreTys, tys, function, listed, moreFields, fields, structure, type, TyAt, nilAt, noneAt, typed, constraint, signsAt, line, ConAt}
+use Rattle.rules.specs.Grammar.{
+  here,
+  Parsed,
+  read,
+  Rule,
+  pass,
+  give,
+  ◌>>=◌,
+  ◌>>◌,
+  isBlank,
+  is_plain,
+  isDigit,
+  skipFrom,
+  skip,
+  spellFrom,
+  spell,
+  sign,
+  mark,
+  starts,
+  ifSign,
+  whole,
+  nameFrom,
+  name,
+  NameAt,
+  power,
+  noPower,
+  PowerAt,
+  dimAt,
+  factor,
+  FactorAt,
+  moreFactors,
+  dimension,
+  moreTys,
+  tys,
+  function,
+  listed,
+  moreFields,
+  fields,
+  structure,
+  type,
+  TyAt,
+  nilAt,
+  noneAt,
+  typed,
+  constraint,
+  signsAt,
+  line,
+  ConAt,
+}
 use Rattle.rules.specs.Grammar as G
 use Rattle.rules.specs.TextWriting.{nameText, numeratorText, denominatorText, powerText, openText, factorText, moreFactorsText, factorsText, dimensionText}
 use Rattle.sheets.specs.Spelling.{Finds, found, then, IsByte, NameEnds, name_back, power-back}
@@ -82,12 +129,14 @@ module _ {pool table : List ℕ} (good : Good pool table) (bytes : Every IsByte 
   abbrev withPower : ℕ → Atom NameAt → Rule FactorAt
   withPower k a = (ifSign "^" power (give noPower) >>= λ e. give (record { column = k; atom = a; power = e }))
 
-  power-found : (k : ℕ) (w : Atom NameAt) (a : Atom ℕ) (n : ℤ) (d : ℕ) → goodStored (frac n d) ≡ true → Meanings.AtomMeans good a w → (c : ℕ) (rest : Bytes) → FactorStops rest
+  power-found : (k : ℕ) (w : Atom NameAt) (a : Atom ℕ) (n : ℤ) (d : ℕ) → goodStored (frac n d) ≡ true → Meanings.AtomMeans good a w
+      → (c : ℕ) (rest : Bytes) → FactorStops rest
       → Finds (withPower k w (here c (powerText (frac n d) ++ rest))) (Meanings.FactorMeans good (a ↑ frac n d)) rest
   unfolding powerText skip skipFrom isBlank
   power-found k w a n d g h c rest stop = go (is_yes (Exp-dec (frac n d) one)) refl
     where
-      go : (t : Bool) → is_yes (Exp-dec (frac n d) one) ≡ t → Finds (withPower k w (here c (powerText (frac n d) ++ rest))) (Meanings.FactorMeans good (a ↑ frac n d)) rest
+      go : (t : Bool) → is_yes (Exp-dec (frac n d) one) ≡ t
+          → Finds (withPower k w (here c (powerText (frac n d) ++ rest))) (Meanings.FactorMeans good (a ↑ frac n d)) rest
       go true e = rw (e, powerText) (rw (stop.no_power c) (found (
           let z : frac n d ≡ one = yes-is (Exp-dec (frac n d) one) e in
           Meanings.factor-means good a n d (record { column = k; atom = w; power = noPower }) h (record { num = cc; den = cc }) g)))
@@ -100,7 +149,8 @@ module _ {pool table : List ℕ} (good : Good pool table) (bytes : Every IsByte 
   FactorFound f = (c : ℕ) (rest : Bytes) → FactorStops rest → Finds (factor (here c (factorText name_of f ++ rest))) (Meanings.FactorMeans good f) rest
 
   -- a factor's text: mark, name, power
-  factor-text : (m : ℕ) (x : ℕ) (e : Exp) (rest : Bytes) → (m ∷ nameText (name_of x) ++ powerText e) ++ rest ≡ m ∷ (nameText (name_of x) ++ (powerText e ++ rest))
+  factor-text : (m : ℕ) (x : ℕ) (e : Exp) (rest : Bytes)
+      → (m ∷ nameText (name_of x) ++ powerText e) ++ rest ≡ m ∷ (nameText (name_of x) ++ (powerText e ++ rest))
   factor-text m x e rest = ap (λ (l : Bytes). m ∷ l) (append_assoc (nameText (name_of x)) (powerText e) rest)
 
   abbrev pub IsGood : Factor ℕ → Type 0
@@ -187,12 +237,14 @@ module _ {pool table : List ℕ} (good : Good pool table) (bytes : Every IsByte 
       then _ (factor-found f g c (moreFactorsText name_of p ++ (93 ∷ rest)) (factor-stops p rest)) (λ w b m.
       then _ (more-factors-found p (length (moreFactorsText name_of p ++ (93 ∷ rest))) (many-factors p (93 ∷ rest)) k b rest) (λ ws e k. found (Meanings.more-factors good f p w ws m k)))
 
-  bracket-found : (p : Product ℕ) → Every IsGood p → (c : ℕ) (rest : Bytes) → Finds (dimension (here c (91 ∷ (factorsText name_of p ++ (93 ∷ rest))))) (Dimension p) rest
+  bracket-found : (p : Product ℕ) → Every IsGood p → (c : ℕ) (rest : Bytes)
+      → Finds (dimension (here c (91 ∷ (factorsText name_of p ++ (93 ∷ rest))))) (Dimension p) rest
   unfolding dimension factorsText skip skipFrom isBlank spell spellFrom
   bracket-found [] g c rest = found (record { start = _; end = _; factors = _; is = refl; means = Meanings.no-factors good })
   bracket-found (f ∷ p) g c rest =
       rw (append_assoc (factorText name_of f) (moreFactorsText name_of p) (93 ∷ rest), no-bracket f g.0 (suc c) (moreFactorsText name_of p ++ (93 ∷ rest)))
       (then _ (factors-found f p g.0 g.1 (suc c) rest) (λ ws b m. found (record { start = _; end = _; factors = ws; is = refl; means = m })))
 
-  pub dimension-found : (p : Product ℕ) → Every IsGood p → (c : ℕ) (rest : Bytes) → Finds (dimension (here c (dimensionText name_of p ++ rest))) (Dimension p) rest
+  pub dimension-found : (p : Product ℕ) → Every IsGood p → (c : ℕ) (rest : Bytes)
+      → Finds (dimension (here c (dimensionText name_of p ++ rest))) (Dimension p) rest
   dimension-found p g c rest = rw (dimension-text p rest) (bracket-found p g c rest)

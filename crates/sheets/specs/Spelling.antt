@@ -1,6 +1,31 @@
 -- Names and powers that were written are read back.
--- Assumes nothing.
-use Rattle.std.specs.Prelude.{◌≡◌, refl, Bool, true, false, [], ◌∷◌, ◌++◌, ℕ, zero, suc, ◌+◌, ◌-◌, ◌*◌, ◌/◌, ◌%◌, ◌^◌, ◌≤◌, ◌<◌, ltb, eqb, ℤ, pos, negsuc, nat_abs}
+use Rattle.std.specs.Prelude.{
+  ◌≡◌,
+  refl,
+  Bool,
+  true,
+  false,
+  [],
+  ◌∷◌,
+  ◌++◌,
+  ℕ,
+  zero,
+  suc,
+  ◌+◌,
+  ◌-◌,
+  ◌*◌,
+  ◌/◌,
+  ◌%◌,
+  ◌^◌,
+  ◌≤◌,
+  ◌<◌,
+  ltb,
+  eqb,
+  ℤ,
+  pos,
+  negsuc,
+  nat_abs,
+}
 use Rattle.std.proofs.Common.{sym, ap, ◌∙◌, append_assoc, arith, le-leb, ltb-true, ltb-false, ne_eqb, eqb-true}
 use Rattle.std.proofs.Math.Option.{some}
 use Rattle.std.proofs.lemmas.Bool.{lt-leb}
@@ -8,7 +33,36 @@ use Rattle.rules.specs.Base.{collect}
 use Rattle.rules.specs.Names.{Bytes}
 use Rattle.rules.specs.Exponents.{top}
 use Rattle.laws.specs.Lists.{Every}
-use Rattle.rules.specs.Grammar.{here, Parsed, read, Rule, pass, is_plain, isDigit, isBlank, skipFrom, skip, starts, sign, spell, spellFrom, ifSign, give, ◌>>=◌, ◌>>◌, PowerAt, signedBy, power, digitsAt, digits, hexOf, whole, more, nameFrom, digitsFrom}
+use Rattle.rules.specs.Grammar.{
+  here,
+  Parsed,
+  read,
+  Rule,
+  pass,
+  is_plain,
+  isDigit,
+  isBlank,
+  skipFrom,
+  skip,
+  starts,
+  sign,
+  spell,
+  spellFrom,
+  ifSign,
+  give,
+  ◌>>=◌,
+  ◌>>◌,
+  PowerAt,
+  signedBy,
+  power,
+  digitsAt,
+  digits,
+  hexOf,
+  whole,
+  more,
+  nameFrom,
+  digitsFrom,
+}
 use Rattle.rules.specs.TextWriting.{hexDigit, escaped, nameText, decimal, numeratorText, denominatorText}
 
 -- a rule finds something of which P holds, and this is left
@@ -58,7 +112,8 @@ plain_step : (b c : ℕ) (bs : Bytes) → is_plain b ≡ true → nameFrom whole
 unfolding nameFrom
 plain_step b c bs e = rw (e, nameFrom)
 
-slash-step : (h k c : ℕ) (bs : Bytes) → h < 16 → k < 16 → nameFrom whole c (92 ∷ hexDigit h ∷ hexDigit k ∷ bs) ≡ more (h * 16 + k) (nameFrom whole (suc (suc (suc c))) bs)
+slash-step : (h k c : ℕ) (bs : Bytes) → h < 16 → k < 16
+    → nameFrom whole c (92 ∷ hexDigit h ∷ hexDigit k ∷ bs) ≡ more (h * 16 + k) (nameFrom whole (suc (suc (suc c))) bs)
 unfolding nameFrom is_plain isDigit
 slash-step h k c bs p q = rw (hex-back h p, nameFrom) (rw (hex-back k q, nameFrom) refl)
 
@@ -70,7 +125,8 @@ unfolding nameText collect escaped
 name_back [] h c rest stop = rw (stop c) (found refl)
 name_back (b ∷ n) h c rest stop = go (is_plain b) refl (λ d. name_back n h.1 d rest stop)
   where
-    go : (t : Bool) → is_plain b ≡ t → ((d : ℕ) → Comes (nameFrom whole d (nameText n ++ rest)) n rest) → Comes (nameFrom whole c ((escaped b ++ nameText n) ++ rest)) (b ∷ n) rest
+    go : (t : Bool) → is_plain b ≡ t → ((d : ℕ) → Comes (nameFrom whole d (nameText n ++ rest)) n rest)
+        → Comes (nameFrom whole c ((escaped b ++ nameText n) ++ rest)) (b ∷ n) rest
     go true e k = rw e (rw (plain_step b c (nameText n ++ rest) e) (more-finds b (k (suc c))))
     go false e k =
         let both : b / 16 * 16 + b % 16 ≡ b = omega arith in
@@ -157,7 +213,8 @@ ends rest d n c = go (eqb d 1) refl
 abbrev tail : ℕ → Bool → ℕ → Rule PowerAt
 tail c minus n = (ifSign "/" (sign "/" >> digits) (give 1) >>= λ d. sign ")" >> give (record { column = c; numerator = signedBy minus n; denominator = d }))
 
-tail-back : (rest : Bytes) (c : ℕ) (minus : Bool) (n d : ℕ) → d ≤ top → (a : ℕ) → Finds (tail c minus n (here a (ending rest d))) (IsPower (signedBy minus n) d) rest
+tail-back : (rest : Bytes) (c : ℕ) (minus : Bool) (n d : ℕ) → d ≤ top → (a : ℕ)
+    → Finds (tail c minus n (here a (ending rest d))) (IsPower (signedBy minus n) d) rest
 unfolding denominatorText spell spellFrom skip skipFrom isBlank digitsFrom isDigit
 tail-back rest c minus n d h a = go (eqb d 1) refl
   where
@@ -165,7 +222,8 @@ tail-back rest c minus n d h a = go (eqb d 1) refl
     go true e = rw (e, denominatorText) (found (record { num = refl; den = sym (eqb-true d 1 e) }))
     go false e = rw (e, denominatorText) (then _ (number-back d (omega arith) (suc a) (41 ∷ rest) (λ n c. refl)) (λ m b q. found (record { num = refl; den = q })))
 
-pub power-back : (n : ℤ) (d : ℕ) → nat_abs n ≤ top → d ≤ top → (c : ℕ) (rest : Bytes) → Finds (power (here c (94 ∷ 40 ∷ (numeratorText n ++ (denominatorText d ++ (41 ∷ rest)))))) (IsPower n d) rest
+pub power-back : (n : ℤ) (d : ℕ) → nat_abs n ≤ top → d ≤ top → (c : ℕ) (rest : Bytes)
+    → Finds (power (here c (94 ∷ 40 ∷ (numeratorText n ++ (denominatorText d ++ (41 ∷ rest)))))) (IsPower n d) rest
 unfolding power numeratorText spell spellFrom skip skipFrom isBlank
 power-back (pos n) d h k c rest =
     rw (no_minus (suc (suc c)) (decimal 10 n ++ ending rest d) (front (decimal 10 n) (ending rest d) (leads 9 n)))

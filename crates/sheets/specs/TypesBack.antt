@@ -1,5 +1,4 @@
 -- Every written type is read back.
--- Assumes nothing.
 use Rattle.std.specs.Prelude.{◌≡◌, Bool, true, false, ◌&&◌, eqb, length}
 use Rattle.std.proofs.Math.Path.{refl}
 use Rattle.std.proofs.Common.{sym, ap, ◌∙◌}
@@ -10,13 +9,75 @@ use native.Mathlib.Omega.{arith}
 use borrow.Author.Tests.{ltb-true, ne_eqb}
 use Rattle.std.proofs.Math.ListN.{length-append}
 use Rattle.rules.specs.Base.{collect}
-use Rattle.rules.specs.Trees.{var, quant, par, Product, Names, Basic, boolean, string, datetime, Ty, opened, basic, dim, fn, struct, list, Tys, nil, cons, Fields, noFields, field, count, countFields, depth, depthTys, depthFields}
+use Rattle.rules.specs.Trees.{
+  var,
+  quant,
+  par,
+  Product,
+  Names,
+  Basic,
+  boolean,
+  string,
+  datetime,
+  Ty,
+  opened,
+  basic,
+  dim,
+  fn,
+  struct,
+  list,
+  Tys,
+  nil,
+  cons,
+  Fields,
+  noFields,
+  field,
+  count,
+  countFields,
+  depth,
+  depthTys,
+  depthFields,
+}
 use Rattle.rules.specs.Names.{Bytes, table_of, numbersOf, is_held}
 use Rattle.rules.specs.WellFormed.{goodOpen, goodTy, goodTys, goodFields, rising, is_lt, fieldNames}
 use Rattle.laws.specs.Lists.{Every, and_left, and_right, true≢false}
 use Rattle.laws.specs.NameTable.{Good}
 use Rattle.laws.specs.Reading.{deep}
-use Rattle.rules.specs.Grammar.{here, give, ◌>>=◌, ◌>>◌, Rule, isBlank, is_plain, isDigit, skipFrom, skip, spellFrom, spell, sign, starts, ifSign, nameFrom, dimension, moreTys, tys, function, listed, moreFields, fields, structure, type, TyAt, TysAt, nilAt, FieldsAt, noneAt, field_at, fieldName, NameAt}
+use Rattle.rules.specs.Grammar.{
+  here,
+  give,
+  ◌>>=◌,
+  ◌>>◌,
+  Rule,
+  isBlank,
+  is_plain,
+  isDigit,
+  skipFrom,
+  skip,
+  spellFrom,
+  spell,
+  sign,
+  starts,
+  ifSign,
+  nameFrom,
+  dimension,
+  moreTys,
+  tys,
+  function,
+  listed,
+  moreFields,
+  fields,
+  structure,
+  type,
+  TyAt,
+  TysAt,
+  nilAt,
+  FieldsAt,
+  noneAt,
+  field_at,
+  fieldName,
+  NameAt,
+}
 use Rattle.rules.specs.TextWriting.{escaped, nameText, openText, dimensionText, tyText, tysText, moreTysText, argumentsText, fieldsText, moreFieldsText}
 use Rattle.sheets.specs.Spelling.{Finds, found, then, IsByte, NameEnds}
 use Rattle.sheets.specs.Meanings
@@ -144,7 +205,8 @@ module _ {pool table : List ℕ} (good : Good pool table) (bytes : Every IsByte 
   unfolding tyText
   list-text t rest = rw (append_assoc (tyText name_of t) (62 ∷ []) rest)
 
-  fn-text : (ps : Tys ℕ) (r : Ty ℕ) (rest : Bytes) → tyText name_of (fn ps r) ++ rest ≡ 70 ∷ 110 ∷ 91 ∷ 40 ∷ (tysText name_of ps ++ (41 ∷ 32 ∷ 45 ∷ 62 ∷ 32 ∷ (tyText name_of r ++ (93 ∷ rest))))
+  fn-text : (ps : Tys ℕ) (r : Ty ℕ) (rest : Bytes)
+      → tyText name_of (fn ps r) ++ rest ≡ 70 ∷ 110 ∷ 91 ∷ 40 ∷ (tysText name_of ps ++ (41 ∷ 32 ∷ 45 ∷ 62 ∷ 32 ∷ (tyText name_of r ++ (93 ∷ rest))))
   unfolding tyText
   fn-text ps r rest = rw (append_assoc (tysText name_of ps) (41 ∷ 32 ∷ 45 ∷ 62 ∷ 32 ∷ (tyText name_of r ++ (93 ∷ []))) rest, append_assoc (tyText name_of r) (93 ∷ []) rest)
 
@@ -153,11 +215,13 @@ module _ {pool table : List ℕ} (good : Good pool table) (bytes : Every IsByte 
   unfolding tyText
   struct-text x as' fs rest = rw (append_assoc (nameText (name_of x)) (argumentsText name_of as' ++ fieldsText name_of fs) rest, append_assoc (argumentsText name_of as') (fieldsText name_of fs) rest)
 
-  arguments-text : (t : Ty ℕ) (ts : Tys ℕ) (rest : Bytes) → argumentsText name_of (cons t ts) ++ rest ≡ 60 ∷ (tyText name_of t ++ (moreTysText name_of ts ++ (62 ∷ rest)))
+  arguments-text : (t : Ty ℕ) (ts : Tys ℕ) (rest : Bytes)
+      → argumentsText name_of (cons t ts) ++ rest ≡ 60 ∷ (tyText name_of t ++ (moreTysText name_of ts ++ (62 ∷ rest)))
   unfolding tyText
   arguments-text t ts rest = rw (append_assoc (tyText name_of t) (moreTysText name_of ts ++ (62 ∷ [])) rest, append_assoc (moreTysText name_of ts) (62 ∷ []) rest)
 
-  more-text : (t : Ty ℕ) (ts : Tys ℕ) (rest : Bytes) → moreTysText name_of (cons t ts) ++ rest ≡ 44 ∷ 32 ∷ (tyText name_of t ++ (moreTysText name_of ts ++ rest))
+  more-text : (t : Ty ℕ) (ts : Tys ℕ) (rest : Bytes)
+      → moreTysText name_of (cons t ts) ++ rest ≡ 44 ∷ 32 ∷ (tyText name_of t ++ (moreTysText name_of ts ++ rest))
   unfolding tyText
   more-text t ts rest = rw (append_assoc (tyText name_of t) (moreTysText name_of ts) rest)
 
@@ -202,7 +266,8 @@ module _ {pool table : List ℕ} (good : Good pool table) (bytes : Every IsByte 
   basic-found string d c rest s = found (Meanings.basic-means good c string)
   basic-found datetime d c rest s = found (Meanings.basic-means good c datetime)
 
-  pub begins-dimension : (d c : ℕ) (p : Product ℕ) (rest : Bytes) → type (suc d) (here c (dimensionText name_of p ++ rest)) ≡ dimension (here c (dimensionText name_of p ++ rest))
+  pub begins-dimension : (d c : ℕ) (p : Product ℕ) (rest : Bytes)
+      → type (suc d) (here c (dimensionText name_of p ++ rest)) ≡ dimension (here c (dimensionText name_of p ++ rest))
   unfolding type dimensionText skip skipFrom isBlank
   begins-dimension d c p rest = refl
 
@@ -287,7 +352,8 @@ module _ {pool table : List ℕ} (good : Good pool table) (bytes : Every IsByte 
   unfolding nameFrom is_plain isDigit
   colon-ends rest c = refl
 
-  field-name-found : (n c : ℕ) (rest : Bytes) → Meanings.Held good n → Finds (fieldName (here c (nameText (name_of n) ++ (58 ∷ rest)))) (λ m. m.bytes ≡ name_of n) (58 ∷ rest)
+  field-name-found : (n c : ℕ) (rest : Bytes) → Meanings.Held good n
+      → Finds (fieldName (here c (nameText (name_of n) ++ (58 ∷ rest)))) (λ m. m.bytes ≡ name_of n) (58 ∷ rest)
   field-name-found n c rest h = rw (skip-name (name_of n) c rest) (name-found good bytes n c (58 ∷ rest) h (colon-ends rest))
 
   blank-name : (c : ℕ) (t : Bytes) → fieldName (here c (32 ∷ t)) ≡ fieldName (here (suc c) t)
@@ -298,7 +364,8 @@ module _ {pool table : List ℕ} (good : Good pool table) (bytes : Every IsByte 
   abbrev afterName : ℕ → ℕ → NameAt → Rule FieldsAt
   afterName d m x = (sign ":" >> type d >>= λ t. moreFields (type d) m >>= λ fs. give (field_at x t fs))
 
-  after-name-found : (d m n : ℕ) (x : NameAt) (t : Ty ℕ) (fs : Fields ℕ) → Meanings.Held good n → x.bytes ≡ name_of n → TyFound d t → MoreFieldsFound d fs → countFields fs ≤ m
+  after-name-found : (d m n : ℕ) (x : NameAt) (t : Ty ℕ) (fs : Fields ℕ) → Meanings.Held good n → x.bytes ≡ name_of n → TyFound d t
+      → MoreFieldsFound d fs → countFields fs ≤ m
       → (c : ℕ) (rest : Bytes) → ListStops rest → Finds (afterName d m x (here c (58 ∷ 32 ∷ (tyText name_of t ++ (moreFieldsText name_of fs ++ rest))))) (Meanings.FieldsMean good (field n t fs)) rest
   unfolding skip skipFrom isBlank spell spellFrom
   after-name-found d m n x t fs l i f g h c rest s =
@@ -337,7 +404,8 @@ module _ {pool table : List ℕ} (good : Good pool table) (bytes : Every IsByte 
   fields-found d n t fs l f g c rest h =
       rw (fields-text n t fs rest) (then _ (in-braces d n t fs l f g (suc c) (125 ∷ rest) (brace-stops rest)) (λ ws b m. found m))
 
-  struct-found : (d x : ℕ) (as' : Tys ℕ) (fs : Fields ℕ) → Meanings.Held good x → Meanings.Rises good none fs → ArgumentsFound d as' → FieldsFound d fs → TyFound (suc d) (struct x as' fs)
+  struct-found : (d x : ℕ) (as' : Tys ℕ) (fs : Fields ℕ) → Meanings.Held good x → Meanings.Rises good none fs → ArgumentsFound d as'
+      → FieldsFound d fs → TyFound (suc d) (struct x as' fs)
   unfolding type structure skip skipFrom isBlank spell spellFrom
   struct-found d x as' fs l k f g c rest s =
       rw (struct-text x as' fs rest) (then _ (name-found good bytes x (suc c) (argumentsText name_of as' ++ (fieldsText name_of fs ++ rest)) l (struct-ends as' fs rest s)) (λ m b i.

@@ -1,5 +1,4 @@
 -- The words of the theorems: what is asked of names and of a given set, the form of an answer, a constraint that fails.
--- Assumes nothing.
 use Rattle.std.specs.Prelude.{◌≡◌, Bool, true, false, ◌⊎◌, ℕ, suc, ◌*◌, eqb, length, take, drop}
 use mathlib.Core.List.{List, [], ◌∷◌, ◌++◌, map, Memᴰ}
 use Rattle.rules.specs.Base.{Got, got, refused, ◌>>◌, bounded, only_if, to_list, all, collect, sum_of}
@@ -101,7 +100,8 @@ pub record SoundAnswer (pool table set result work : List ℕ) (records bounds r
   pub bound-records : length ns ≡ bounds
   pub form : SolvedForm (numbersOf (table_of pool table)) (is_held (table_of pool table)) bs ns
   pub sound : Premise (numbersOf (table_of pool table)) cs bs → Solves (numbersOf (table_of pool table)) cs bs ns
-  pub judged : Premise (numbersOf (table_of pool table)) cs bs → (entries : List Entry) (types bounds work : List ℕ) → Proposes pool table set bs ns entries types bounds work → YesOrLimits (judgeCall pool table set entries types bounds work).answer
+  pub judged : Premise (numbersOf (table_of pool table)) cs bs → (entries : List Entry) (types bounds work : List ℕ)
+      → Proposes pool table set bs ns entries types bounds work → YesOrLimits (judgeCall pool table set entries types bounds work).answer
 
 -- the verdict was said of these
 pub record JudgedSet (pool table set : List ℕ) (entries : List Entry) (types bounds : List ℕ) (Verdict : List (Con ℕ) → List (Binding ℕ) → List ℕ → Type 0) : Type 0 where

@@ -1,5 +1,4 @@
 -- The words of Violated: the one exception, and a line that adding answered so.
--- Assumes nothing.
 use Rattle.std.specs.Prelude.{◌≡◌, true, List, [], ◌∷◌, ℕ}
 use Rattle.rules.specs.Base.{got}
 use Rattle.rules.specs.Trees.{Names, Ty, Con, equal, Binding}
@@ -22,4 +21,5 @@ pub record OtherFields {N : Type 0} (ν : Names N) (c : Con N) : Type 0 where
 pub record ViolatedLine (pool table con : List ℕ) : Type 0 where
   pub constraint : Con ℕ
   pub read : setGiven (table_of pool table) con ≡ got (constraint ∷ [])
-  pub final : (bs : List (Binding ℕ)) (bounds : List ℕ) → TrueUnder (numbersOf (table_of pool table)) bs bounds constraint → OtherFields (numbersOf (table_of pool table)) constraint
+  pub final : (bs : List (Binding ℕ)) (bounds : List ℕ) → TrueUnder (numbersOf (table_of pool table)) bs bounds constraint
+      → OtherFields (numbersOf (table_of pool table)) constraint

@@ -1,0 +1,6 @@
+pub mod Alike
+pub mod Powers
+pub mod Rows
+pub mod Runs
+pub mod Laid
+pub mod Agreement

@@ -1,0 +1,11 @@
+use Rattle.agreement.proofs.Agreement.{always, unfit-answer, on-fitting, only-7, document-02}
+use Rattle.agreement.proofs.engines_agree.Goals as goal
+
+pub returns : goal.returns
+returns c = λ pool table set result work. record {
+  always = always pool table set result work;
+  unfit-answer = unfit-answer pool table set result work;
+  on-fitting = on-fitting pool table set result work;
+  only-7 = only-7 pool table set result work;
+  alike = document-02 pool table set result work;
+}

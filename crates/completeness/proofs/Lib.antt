@@ -1,0 +1,13 @@
+pub mod Completeness
+pub mod Instances
+pub mod Worth
+pub mod Shapes
+pub mod Moves
+pub mod Rounds
+pub mod Limits
+pub mod Weights
+pub mod Chosen
+pub mod Runs
+pub mod Completed
+pub mod Trees
+pub mod Words

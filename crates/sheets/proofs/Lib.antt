@@ -1,0 +1,3 @@
+pub mod Given
+pub mod LinesBack
+pub mod Promise

@@ -1,0 +1,16 @@
+pub mod Soundness
+pub mod Violated
+pub mod Unmet
+pub mod Instances
+pub mod Judged
+pub mod Form
+pub mod Runs
+pub mod Steps
+pub mod Solved
+pub mod Alike
+pub mod Putting
+pub mod Truth
+pub mod Back
+pub mod Finds
+pub mod Words
+pub mod Own

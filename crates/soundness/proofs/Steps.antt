@@ -1,0 +1,242 @@
+-- Each rule leads from open names that are as they should be to such names again.
+use Rattle.std.proofs.Math.Path.{◌≡◌}
+use Rattle.std.specs.Prelude.{refl, Bool, ◌⊎◌, ℕ}
+use Rattle.std.proofs.Common.{sym, inl, inr}
+use Rattle.std.proofs.Math.Bool.{true}
+use mathlib.Core.List.Memᴰ
+use mathlib.Core.List.{List, [], ◌∷◌, ◌++◌, Memᴰ}
+use Prim.Native.Nat.{Ordering}
+use native.Mathlib.Omega.{arith}
+use Rattle.rules.specs.Base.{bounded, collect}
+use Rattle.rules.specs.Trees.{
+  Open,
+  var,
+  quant,
+  par,
+  free,
+  base,
+  ◌↑◌,
+  Product,
+  Names,
+  Ty,
+  opened,
+  dim,
+  fn,
+  struct,
+  list,
+  Tys,
+  nil,
+  cons,
+  Con,
+  equal,
+  isDim,
+  is_scalar,
+  hasField,
+  orderAtom,
+  opens,
+  opensTys,
+  opensFields,
+  openOfFactor,
+  opensCon,
+}
+use Rattle.rules.specs.Products.{just, inverse}
+use Rattle.rules.specs.Rounds.{Step, pairs}
+use Rattle.rules.specs.WellFormed.{goodProduct, goodCon}
+use Rattle.rules.specs.Meaning.{inProducts, inProductsTys, inProductsFields, productsOf}
+use Rattle.laws.specs.Order.{Lawful, self}
+use Rattle.laws.specs.Sorted.{Before}
+use Rattle.laws.specs.ExactProducts.{mergeE, divide-value}
+use Rattle.laws.specs.GoodProducts.{good-product}
+use Rattle.laws.specs.Lists.{All, all_nil, all_cons, all_append, in_head}
+use Rattle.laws.specs.RuleCases.{
+  Reads,
+  Sides,
+  After,
+  Rule,
+  none-applies,
+  equal-records,
+  binds,
+  two-functions,
+  two-lists,
+  two-structs,
+  as-product,
+  two-dimensions,
+  dimension,
+  no-factor,
+  first-factor,
+  closed-struct,
+  part_of,
+  not-contained,
+}
+use Rattle.laws.specs.Occurs.{each_opens, opens-each, merge_on, inverse-on, other-opens, products-occur, field-occurs}
+
+module _ {N : Type 0} (Parameter : N → Type 0) (keys : List N) where
+  -- an open name of a constraint: a variable is no parameter's name and isn't bound
+  abbrev pub OpenOk : Open N → Type 0
+  OpenOk (var x) = (¬ (Parameter x)) × (¬ (Memᴰ x keys))
+  OpenOk (quant i) = Unit {0}
+  OpenOk (par x) = Parameter x
+
+  -- in an is-dimension, a parameter's name may stand as a variable
+  abbrev pub DimOk : Open N → Type 0
+  DimOk (var x) = ¬ (Memᴰ x keys)
+  DimOk (quant i) = Unit {0}
+  DimOk (par x) = Parameter x
+
+  abbrev pub okFor : Con N → Open N → Type 0
+  okFor (equal s t) = OpenOk
+  okFor (isDim t) = DimOk
+  okFor (is_scalar p) = OpenOk
+  okFor (hasField n s t) = OpenOk
+
+  abbrev pub ConOk : Con N → Type 0
+  ConOk c = All (okFor c) (opensCon c)
+
+  -- a variable that is being bound, and its type
+  pub record BindOk (x : N) (t : Ty N) : Type 0 where
+    pub variable : OpenOk (var x)
+    pub type : All OpenOk (opens t)
+    pub apart : Memᴰ (var x) (opens t) → ⊥
+
+module _ {N : Type 0} where
+  -- the two sides of an equality
+  sides-on : (P : Open N → Type 0) (c : Con N) (s t : Ty N) → Sides c s t → All P (opensCon c) → All P (opens s) × All P (opens t)
+  unfolding opensCon
+  sides-on P c s t (inl i) h = let g : All P (opens s ++ opens t) = rw i at h in (λ o m. g o (Memᴰ.append_left (opens t) m), λ o m. g o (Memᴰ.append_right (opens s) m))
+  sides-on P c s t (inr i) h = let g : All P (opens t ++ opens s) = rw i at h in (λ o m. g o (Memᴰ.append_right (opens t) m), λ o m. g o (Memᴰ.append_left (opens s) m))
+
+  pub sides-in : (P : Open N → Type 0) (c : Con N) (s t : Ty N) → Sides c s t → All P (productsOf c) → All P (inProducts s) × All P (inProducts t)
+  unfolding productsOf
+  sides-in P c s t (inl i) h = let g : All P (inProducts s ++ inProducts t) = rw i at h in (λ o m. g o (Memᴰ.append_left (inProducts t) m), λ o m. g o (Memᴰ.append_right (inProducts s) m))
+  sides-in P c s t (inr i) h = let g : All P (inProducts t ++ inProducts s) = rw i at h in (λ o m. g o (Memᴰ.append_right (inProducts t) m), λ o m. g o (Memᴰ.append_left (inProducts s) m))
+
+  both-sides : (P : Open N → Type 0) (s t : Ty N) → All P (opens s) → All P (opens t) → All P (opensCon (equal s t))
+  unfolding opensCon
+  both-sides P s t h k = all_append P (opens s) h k
+
+  sides-equal : (Parameter : N → Type 0) (keys : List N) (c : Con N) (s t : Ty N) → Sides c s t → ConOk Parameter keys c
+      → All (OpenOk Parameter keys) (opens s) × All (OpenOk Parameter keys) (opens t)
+  sides-equal Parameter keys c s t (inl i) h = let g : ConOk Parameter keys (equal s t) = rw i at h in sides-on (OpenOk Parameter keys) (equal s t) s t (inl refl) g
+  sides-equal Parameter keys c s t (inr i) h = let g : ConOk Parameter keys (equal t s) = rw i at h in sides-on (OpenOk Parameter keys) (equal t s) s t (inr refl) g
+
+module _ {N : Type 0} (ν : Names N) (law : Lawful (orderAtom ν)) (held : N → Bool) (q : ℕ) where
+  -- the first variable of a product stands nowhere else in it
+  before-apart : (a : Open N) (p : Product N) → Before ν (free a) p → Memᴰ a (collect openOfFactor p) → ⊥
+  unfolding collect
+  before-apart a [] h m = Memᴰ.not-nil m
+  before-apart a (base n ↑ e ∷ p) h m = before-apart a p h.1 m
+  before-apart a (free o ↑ e ∷ p) h m = go (Memᴰ.cases_cons m) (before-apart a p h.1)
+    where
+      go : (a ≡ o) ⊎ Memᴰ a (collect openOfFactor p) → (Memᴰ a (collect openOfFactor p) → ⊥) → ⊥
+      go (inl i) r =
+          let s : orderAtom ν (free a) (free o) ≡ Ordering.eq = rw (sym i) (self law (free a)) in
+          let z : ◌≡◌ {A = ℕ} 0 1 = cc h.0 in omega arith
+      go (inr i) r = r i
+
+  module _ (Parameter : N → Type 0) (keys : List N) (unbound : (y : N) → Parameter y → ¬ (Memᴰ y keys)) where
+    abbrev Ok : Open N → Type 0
+    Ok = OpenOk Parameter keys
+
+    abbrev OkCon : Con N → Type 0
+    OkCon = ConOk Parameter keys
+
+    pairs-ok : (ts us : Tys N) → All Ok (opensTys ts) → All Ok (opensTys us) → All OkCon (pairs ts us)
+    unfolding pairs opens
+    pairs-ok nil us h k = all_nil OkCon
+    pairs-ok (cons t ts) nil h k = all_nil OkCon
+    pairs-ok (cons t ts) (cons u us) h k =
+        all_cons OkCon (both-sides Ok t u (λ o m. h o (Memᴰ.append_left (opensTys ts) m)) (λ o m. k o (Memᴰ.append_left (opensTys us) m)))
+        (pairs-ok ts us (λ o m. h o (Memᴰ.append_right (opens t) m)) (λ o m. k o (Memᴰ.append_right (opens u) m)))
+
+    pub rule-open : (c : Con N) (s : Step N) → Rule ν bounded c s → goodCon ν held q c ≡ true → OkCon c → After (All OkCon) (BindOk Parameter keys) s
+    unfolding opens opensCon goodCon collect
+    rule-open c s (none-applies e) g h = rw e tt
+    rule-open c s (equal-records t i e) g h = rw e tt
+    rule-open c s (binds x side t i r n e) g h =
+        let k = sides-equal Parameter keys c side t i h in
+        rw e (record { variable = read x side r k.0; type = k.1; apart = not-contained ν x t n })
+      where
+        read : (x : N) (side : Ty N) → Reads x side → All Ok (opens side) → Ok (var x)
+        read x side (inl j) k = k (var x) (rw j in_head)
+        read x side (inr j) k = k (var x) (rw j in_head)
+    rule-open c s (two-functions ps qs r r' n i e) g h =
+        let k = sides-equal Parameter keys c (fn ps r) (fn qs r') (inl i) h in
+        rw e (all_cons OkCon (both-sides Ok r r' (λ o m. k.0 o (Memᴰ.append_right (opensTys ps) m)) (λ o m. k.1 o (Memᴰ.append_right (opensTys qs) m)))
+        (pairs-ok ps qs (λ o m. k.0 o (Memᴰ.append_left (opens r) m)) (λ o m. k.1 o (Memᴰ.append_left (opens r') m))))
+    rule-open c s (two-lists t u i e) g h = let k = sides-equal Parameter keys c (list t) (list u) (inl i) h in rw e (all_cons OkCon (both-sides Ok t u k.0 k.1) (all_nil OkCon))
+    rule-open c s (two-structs n as' bs fs gs j i e) g h =
+        let k = sides-equal Parameter keys c (struct n as' fs) (struct n bs gs) (inl i) h in
+        rw e (pairs-ok as' bs (λ o m. k.0 o (Memᴰ.append_left (opensFields fs) m)) (λ o m. k.1 o (Memᴰ.append_left (opensFields gs) m)))
+    rule-open c s (as-product x d i j e) g h =
+        let k = sides-equal Parameter keys c (opened (var x)) (dim d) i h in
+        rw e (all_cons OkCon (both-sides Ok (dim (just (var x))) (dim d) k.0 k.1) (all_nil OkCon))
+    rule-open c s (two-dimensions d e r j i z) g h =
+        let k = sides-equal Parameter keys c (dim d) (dim e) (inl i) h in
+        let w : r ≡ mergeE ν d (inverse e) = divide-value ν d e r j in
+        rw z (all_cons OkCon (rw w (each_opens Ok (mergeE ν d (inverse e)) (merge_on Ok ν d (inverse e) (opens-each Ok d k.0) (inverse-on Ok ν e (opens-each Ok e k.1))))) (all_nil OkCon))
+    rule-open c s (dimension p i e) g h =
+        let k : OkCon (isDim (dim p)) = rw i at h in
+        rw e (λ d m. let o = part_of p d m in rw o.1 (all_cons (DimOk Parameter keys) (named o.0 k o.2) (all_nil (DimOk Parameter keys))))
+      where
+        named : {os : List (Open N)} (y : N) → All (DimOk Parameter keys) os → Memᴰ (var y) os ⊎ Memᴰ (par y) os → DimOk Parameter keys (var y)
+        named y k (inl m) = k (var y) m
+        named y k (inr m) = unbound y (k (par y) m)
+    rule-open c s (no-factor i e) g h = rw e tt
+    rule-open c s (first-factor x j p r n i e) g h =
+        let k : OkCon (is_scalar (free (var x) ↑ j ∷ p)) = rw i at h in
+        let b : goodProduct ν held q (free (var x) ↑ j ∷ p) ≡ true = rw i at g in
+        let w = other-opens bounded j p r n in
+        rw e (record {
+          variable = k (var x) in_head;
+          type = rw w (λ o m. k o (Memᴰ.tail m));
+          apart = rw w (before-apart (var x) p (good-product ν law held q (free (var x) ↑ j ∷ p) b).in_order.0);
+        })
+    rule-open c s (closed-struct n m as' fs t u o f i e) g h =
+        let k : OkCon (hasField n (struct m as' fs) t) = rw i at h in
+        rw e (all_cons OkCon (both-sides Ok u t (λ v j. absurd (Memᴰ.not-nil (rw o at (Memᴰ.append_right (opensTys as') (field-occurs ν n fs u f v j))))) (λ v j. k v (Memᴰ.append_right (opensTys as' ++ opensFields fs) j))) (all_nil OkCon))
+
+  -- what stands in dimension products stood there before
+  module _ (P : Open N → Type 0) where
+    abbrev InOk : Con N → Type 0
+    InOk d = All P (productsOf d)
+
+    both-in : (s t : Ty N) → All P (inProducts s) → All P (inProducts t) → InOk (equal s t)
+    unfolding productsOf
+    both-in s t h k = all_append P (inProducts s) h k
+
+    pairs-in : (ts us : Tys N) → All P (inProductsTys ts) → All P (inProductsTys us) → All InOk (pairs ts us)
+    unfolding pairs inProducts
+    pairs-in nil us h k = all_nil InOk
+    pairs-in (cons t ts) nil h k = all_nil InOk
+    pairs-in (cons t ts) (cons u us) h k =
+        all_cons InOk (both-in t u (λ o m. h o (Memᴰ.append_left (inProductsTys ts) m)) (λ o m. k o (Memᴰ.append_left (inProductsTys us) m)))
+        (pairs-in ts us (λ o m. h o (Memᴰ.append_right (inProducts t) m)) (λ o m. k o (Memᴰ.append_right (inProducts u) m)))
+
+    pub rule-in : (c : Con N) (s : Step N) → Rule ν bounded c s → InOk c → After (All InOk) (λ x t. All P (inProducts t)) s
+    unfolding opens inProducts productsOf collect
+    rule-in c s (none-applies e) h = rw e tt
+    rule-in c s (equal-records t i e) h = rw e tt
+    rule-in c s (binds x side t i r n e) h = rw e (sides-in P c side t i h).1
+    rule-in c s (two-functions ps qs r r' n i e) h =
+        let k = sides-in P c (fn ps r) (fn qs r') (inl i) h in
+        rw e (all_cons InOk (both-in r r' (λ o m. k.0 o (Memᴰ.append_right (inProductsTys ps) m)) (λ o m. k.1 o (Memᴰ.append_right (inProductsTys qs) m)))
+        (pairs-in ps qs (λ o m. k.0 o (Memᴰ.append_left (inProducts r) m)) (λ o m. k.1 o (Memᴰ.append_left (inProducts r') m))))
+    rule-in c s (two-lists t u i e) h = let k = sides-in P c (list t) (list u) (inl i) h in rw e (all_cons InOk (both-in t u k.0 k.1) (all_nil InOk))
+    rule-in c s (two-structs n as' bs fs gs j i e) h =
+        let k = sides-in P c (struct n as' fs) (struct n bs gs) (inl i) h in
+        rw e (pairs-in as' bs (λ o m. k.0 o (Memᴰ.append_left (inProductsFields fs) m)) (λ o m. k.1 o (Memᴰ.append_left (inProductsFields gs) m)))
+    rule-in c s (as-product x d i j e) h =
+        let k = sides-in P c (opened (var x)) (dim d) i h in
+        rw e (all_cons InOk (both-in (dim (just (var x))) (dim d) (all_cons P (k.1 (var x) j) (all_nil P)) k.1) (all_nil InOk))
+    rule-in c s (two-dimensions d e r j i z) h =
+        let k = sides-in P c (dim d) (dim e) (inl i) h in
+        let w : r ≡ mergeE ν d (inverse e) = divide-value ν d e r j in
+        rw z (all_cons InOk (rw w (each_opens P (mergeE ν d (inverse e)) (merge_on P ν d (inverse e) (opens-each P d k.0) (inverse-on P ν e (opens-each P e k.1))))) (all_nil InOk))
+    rule-in c s (dimension p i e) h = rw e (λ d m. let o = part_of p d m in rw o.1 (all_nil P))
+    rule-in c s (no-factor i e) h = rw e tt
+    rule-in c s (first-factor x j p r n i e) h =
+        let k : InOk (is_scalar (free (var x) ↑ j ∷ p)) = rw i at h in
+        rw e (rw (other-opens bounded j p r n) (λ o m. k o (Memᴰ.tail m)))
+    rule-in c s (closed-struct n m as' fs t u o f i e) h =
+        let k : InOk (hasField n (struct m as' fs) t) = rw i at h in
+        rw e (all_cons InOk (both-in u t (λ v j. absurd (Memᴰ.not-nil (rw o at (Memᴰ.append_right (opensTys as') (field-occurs ν n fs u f v (products-occur u v j)))))) (λ v j. k v (Memᴰ.append_right (inProducts (struct m as' fs)) j))) (all_nil InOk))
