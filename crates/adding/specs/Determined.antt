@@ -1,6 +1,5 @@
 -- The contract leaves no choice: two results that it allows coincide (`add-determined`). And the answer has document 01's number of
 -- its outcome (`add-numbered`).
--- Assumes nothing.
 use Rattle.std.specs.Prelude.{◌≡◌, refl, List, ℕ}
 use Rattle.std.proofs.Common.{ap, sym, ◌∙◌, arith}
 use Rattle.rules.specs.Adding.{satisfied, violated, unknown}

@@ -1,4 +1,4 @@
--- The checks at entry, in their order, and what is known where they are met. Assumes nothing.
+-- The checks at entry, in their order, and what is known where they are met.
 use Rattle.std.specs.Prelude.{◌≡◌, refl, Bool, true, false, not, List, [], ◌∷◌, ℕ, ◌+◌, ◌*◌, ◌/◌, ◌%◌, ◌≤◌, ◌<◌, leb, length, take}
 use Rattle.std.proofs.Math.Path.{sym, ap}
 use Rattle.std.proofs.Common.{subst, ◌∙◌, arith, length-take-le}

@@ -1,4 +1,4 @@
--- What the first record of a type says of it: its kind, and a function's count of parameters. Assumes nothing.
+-- What the first record of a type says of it: its kind, and a function's count of parameters.
 use Rattle.std.specs.Prelude.{◌≡◌, refl, Bool, true, false, not, ◌||◌, List, ℕ, eqb}
 use Rattle.std.proofs.Common.{sym, ◌∙◌, eq-eqb, ne_eqb}
 use Rattle.std.proofs.Math.Bool.{or-false}

@@ -1,4 +1,4 @@
--- A constraint that is tested, and stored behind the set. Assumes nothing.
+-- A constraint that is tested, and stored behind the set.
 use Rattle.std.specs.Prelude.{◌≡◌, List, [], ◌∷◌, ◌++◌, ℕ, ◌+◌, ◌*◌, ◌/◌, ◌≤◌, ◌<◌, take, drop}
 use Rattle.std.proofs.Math.Path.{refl, ap}
 use Rattle.std.proofs.Common.{sym, ◌∙◌, append_assoc, add-zero, zero-add, arith, drop-drop}

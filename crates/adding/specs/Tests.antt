@@ -1,4 +1,4 @@
--- The test of a constraint, from what the code finds in its records. Assumes nothing.
+-- The test of a constraint, from what the code finds in its records.
 use Rattle.std.specs.Prelude.{◌≡◌, Bool, true, false, ◌&&◌, ℕ, ◌+◌, ◌/◌, ◌<◌, ◌≤◌, eqb, length}
 use Rattle.std.proofs.Math.Path.{refl, ap}
 use Rattle.std.proofs.Common.{sym, ap₂, ◌∙◌, arith}

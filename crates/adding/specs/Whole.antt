@@ -1,4 +1,4 @@
--- The whole call: its checks, then what adding does. Assumes nothing.
+-- The whole call: its checks, then what adding does.
 use Rattle.std.specs.Prelude.{◌≡◌, Bool, List, [], ◌∷◌, ℕ, zero, suc, ◌+◌, ◌*◌, ◌/◌, ◌%◌, ◌≤◌, ◌<◌, ltb, leb, take, get_or}
 use Rattle.std.proofs.Math.Path.{refl, sym}
 use Rattle.std.proofs.Common.{◌∙◌, arith, get_or-take}

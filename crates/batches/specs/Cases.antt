@@ -1,4 +1,4 @@
--- Batches by computation, over the names of rules' Examples. Assumes nothing.
+-- Batches by computation, over the names of rules' Examples.
 use Rattle.std.specs.Prelude.{◌≡◌, refl, List, [], ◌∷◌, ◌++◌, ℕ, take, replicate}
 use Rattle.rules.specs.Base.{got, refused}
 use Rattle.rules.specs.Batches.{cutSets, fourWords, recordsOf, answeredWords, eachSolved, batchLent, batchFits, writtenOver, batchCall}

@@ -1,4 +1,4 @@
--- The checks of a batch, from the lengths of what is lent. Assumes nothing.
+-- The checks of a batch, from the lengths of what is lent.
 use Rattle.std.specs.Prelude.{◌≡◌, refl, Bool, true, false, not, ◌&&◌, List, ℕ, ◌*◌, ◌≤◌, ◌<◌, leb, eqb, length, replicate}
 use Rattle.std.proofs.Math.Path.{sym, ap}
 use Rattle.std.proofs.Common.{◌∙◌}

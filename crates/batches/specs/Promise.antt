@@ -1,4 +1,4 @@
--- What a batch promises: each set is answered as `solve` answers it by itself, whatever the other sets are. Assumes nothing.
+-- What a batch promises: each set is answered as `solve` answers it by itself, whatever the other sets are.
 use Rattle.std.specs.Prelude.{◌≡◌, refl, drop}
 use Rattle.std.proofs.Math.Path.{sym, ap, ap₂}
 use Rattle.std.proofs.Common.{◌∙◌, arith, drop-drop}

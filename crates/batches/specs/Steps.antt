@@ -1,4 +1,4 @@
--- One set after another: what a step leaves, and what is left to do. Assumes nothing.
+-- One set after another: what a step leaves, and what is left to do.
 use Rattle.std.specs.Prelude.{◌≡◌, refl}
 use Rattle.std.proofs.Math.Path.{sym, ap, ap₂}
 use Rattle.std.proofs.Common.{◌∙◌, zero-add, add-one, drop_of_length-le, length-drop, drop-cons, length-take-le}

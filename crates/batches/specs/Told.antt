@@ -1,4 +1,4 @@
--- The answer of a batch with its three buffers as document 02 tells them. Assumes nothing: these are definitions.
+-- The answer of a batch with its three buffers as document 02 tells them.
 use Rattle.std.specs.Prelude.{List, ℕ}
 use Rattle.lending.specs.Told.{told}
 use Rattle.lending.specs.declared.Answer.{Answer}

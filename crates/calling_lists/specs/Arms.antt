@@ -1,4 +1,4 @@
--- What each number of the calls on lists comes to, from what the call itself says. Assumes nothing.
+-- What each number of the calls on lists comes to, from what the call itself says.
 use Rattle.std.specs.Prelude.{◌≡◌, refl, Bool, false, List, ℕ, eqb, length}
 use Rattle.std.proofs.Math.Path.{ap}
 use Rattle.std.proofs.Common.{◌∙◌}

@@ -1,4 +1,4 @@
--- Exponents and products from words and back, and what each number of their calls comes to. Assumes nothing.
+-- Exponents and products from words and back, and what each number of their calls comes to.
 use Rattle.std.proofs.Math.Path.{◌≡◌, refl, ap}
 use Rattle.std.proofs.Common.{sym, ◌∙◌, add-zero, zero-add, add-one, arith, drop_of_length-le, drop-cons, take_all, take-suc-set}
 use Rattle.std.specs.Prelude.{false, List, [], ◌∷◌, ◌++◌, map, ℕ, zero, suc, ◌+◌, ◌*◌, ◌≤◌, ◌<◌, eqb, length, take, drop, get_or, set}

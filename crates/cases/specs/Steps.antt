@@ -1,5 +1,4 @@
 -- What one byte says of the rest of a text: the steps of the loops, and that a line takes at least one byte.
--- Assumes nothing.
 use Rattle.std.specs.Prelude.{◌≡◌, ℕ, suc, ◌+◌, ◌-◌, ◌%◌, ◌<◌, ◌≤◌, Bool, true, false, List, [], ◌∷◌, length, drop, ◌==◌, nat_eq, nat_le, nat_lt, slice_index, refl}
 use Rattle.std.proofs.Common.{add-one, arith, ltb-false, drop_of_length-le}
 use Rattle.std.proofs.Math.Seq.{drop-cons}

@@ -1,5 +1,4 @@
 -- How many cases came out as stored, counted up to a million.
--- Assumes nothing.
 use Rattle.std.specs.Prelude.{ℕ, ◌+◌, Bool, nat_lt}
 use Rattle.cases.specs.Text.{pick}
 use Rattle.cases.specs.declared.Tally.{Tally}

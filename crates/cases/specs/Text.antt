@@ -1,5 +1,4 @@
 -- Numbers and lines of a text. Its bytes are ASCII: 48 to 57 are the digits, 45 is the minus sign, 10 ends a line.
--- Assumes nothing.
 use Rattle.std.specs.Prelude.{ℕ, suc, ◌+◌, ◌-◌, ◌*◌, ◌%◌, Bool, true, false, List, [], ◌∷◌, drop, ◌==◌, nat_le, nat_lt, slice_index}
 use Rattle.cases.specs.declared.Number.{Number}
 

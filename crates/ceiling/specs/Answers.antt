@@ -1,4 +1,4 @@
--- What the call answers, from the count of the pass over the records. Assumes nothing.
+-- What the call answers, from the count of the pass over the records.
 use Rattle.std.specs.Prelude.{◌≡◌, refl, List, ℕ, ◌/◌, ◌≤◌, length, get_or}
 use Rattle.std.proofs.Common.{arith}
 use Rattle.rules.specs.Base.{Got, got, refused, ◌>>=◌, ◌>>◌, collect}

@@ -1,4 +1,4 @@
--- Names that are marked are counted once each, so the count is that of the distinct names. Assumes nothing.
+-- Names that are marked are counted once each, so the count is that of the distinct names.
 use Rattle.std.specs.Prelude.{◌≡◌, Bool, true, false, ltb, length, get_or, set, replicate}
 use Rattle.std.proofs.Math.Path.{refl, ap}
 use Rattle.std.proofs.Common.{sym, ◌∙◌, ⊎_elim, arith, ltb-true, ltb-false}

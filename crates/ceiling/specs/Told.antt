@@ -1,4 +1,4 @@
--- The answers of the code as those of the rules. Assumes nothing: these are definitions.
+-- The answers of the code as those of the rules.
 use Rattle.rules.specs.Base.{Got, got, refused}
 use Rattle.rules.specs.Refusals.{number_of}
 use Rattle.rules.specs.Ceiling.{Ceiling}

@@ -1,4 +1,4 @@
--- Sets read alike before and after: names in place of numbers. Assumes nothing.
+-- Sets read alike before and after: names in place of numbers.
 use Rattle.std.specs.Prelude.{◌≡◌, Bool, true, false, ◌||◌, ℕ, length, get_or}
 use Rattle.std.proofs.Math.Path.{refl, ap₂}
 use Rattle.std.proofs.Common.{sym, ap, ◌∙◌, arith, lt-ltb, ltb-true, eq-eqb}

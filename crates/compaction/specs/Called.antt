@@ -1,4 +1,4 @@
--- The call, from its checks and what its steps leave. Assumes nothing.
+-- The call, from its checks and what its steps leave.
 use Rattle.std.specs.Prelude.{◌≡◌, refl, Bool, false, ◌||◌, List, ℕ, zero, suc, get_or, replicate}
 use Rattle.std.proofs.Common.{ap, ◌∙◌}
 use Rattle.rules.specs.Base.{got, refused}

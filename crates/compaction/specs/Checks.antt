@@ -1,4 +1,4 @@
--- The checks of compaction, set by set. Assumes nothing.
+-- The checks of compaction, set by set.
 use Rattle.std.specs.Prelude.{◌≡◌, Bool, not, ◌&&◌, ℕ, ◌+◌, ◌*◌, ◌-◌, ◌/◌, ◌%◌, ◌≤◌, ◌<◌, length, take, drop, get_or}
 use Rattle.std.proofs.Math.Path.{refl, sym, ap}
 use Rattle.std.proofs.Common.{◌∙◌, arith, add-one, drop-cons, drop-drop, length-take-le}

@@ -1,4 +1,4 @@
--- The contract leaves no choice: two results that it allows coincide; and the answer has the number of its outcome. Assumes nothing.
+-- The contract leaves no choice: two results that it allows coincide; and the answer has the number of its outcome.
 use Rattle.std.specs.Prelude.{◌≡◌, refl, List, ℕ}
 use Rattle.std.proofs.Common.{sym, ◌∙◌, arith}
 use Rattle.std.proofs.Math.Path.{ap}

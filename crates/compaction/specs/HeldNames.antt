@@ -1,4 +1,4 @@
--- A well formed set names held numbers only: every record of it. Assumes nothing.
+-- A well formed set names held numbers only: every record of it.
 use Rattle.std.specs.Prelude.{◌≡◌, Bool, ◌&&◌, ℕ, suc, ◌<◌, length}
 use Rattle.std.proofs.Math.Path.{refl}
 use Rattle.std.proofs.Common.{sym, ap, ◌∙◌, arith}

@@ -1,4 +1,4 @@
--- The table afterwards: well formed, and its names are those that were kept. Assumes nothing.
+-- The table afterwards: well formed, and its names are those that were kept.
 use Rattle.std.proofs.Math.Path.{◌≡◌, refl, sym, ap, ap₂}
 use Rattle.std.proofs.Common.{◌∙◌, add-zero, lt-ltb, le-leb, length-drop, take-append-drop, drop_at}
 use Rattle.std.specs.Prelude.{Bool, ◌&&◌, ◌||◌}

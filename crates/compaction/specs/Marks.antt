@@ -1,4 +1,4 @@
--- Marks at the names that occur, and what is done by them: record by record. Assumes nothing.
+-- Marks at the names that occur, and what is done by them: record by record.
 use Rattle.std.specs.Prelude.{◌≡◌, refl, Bool, true, false, ◌&&◌, ◌||◌, List, [], ◌∷◌, ◌++◌, ℕ, zero, suc, ◌+◌, ◌-◌, ◌≤◌, ◌<◌, eqb, ltb, length, take, drop, get_or, set}
 use Rattle.std.proofs.Common.{sym, ap, ap₂, ◌∙◌, append_assoc, arith, lt-ltb, le-ltb, eqb-true, add-zero, zero-add, suc-add, add-one, length-set, length-drop, take-append-drop, get_or-set_same, get_or-set_other, drop-cons, drop-set-lt, take-add}
 use Rattle.std.proofs.Math.Bool.{or-true, or-false}

@@ -1,4 +1,4 @@
--- Names that move up in the pool, and their ends in the table. Assumes nothing.
+-- Names that move up in the pool, and their ends in the table.
 use Rattle.std.specs.Prelude.{◌≡◌, refl, Bool, true, false, take}
 use Rattle.std.proofs.Math.Path.{sym, ap, ap₂}
 use Rattle.std.proofs.Common.{◌∙◌, arith, add-zero, zero-add, add-one, drop-set-lt, get_or-set_other, take-add, drop_at, length-take-le}

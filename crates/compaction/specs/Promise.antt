@@ -1,4 +1,4 @@
--- What compaction promises, where it isn't refused. Assumes nothing.
+-- What compaction promises, where it isn't refused.
 use Rattle.std.specs.Prelude.{◌≡◌, Bool, true, false, ◌&&◌, ◌||◌, eqb, length, drop, set}
 use Rattle.std.proofs.Math.Path.{refl, ap₂}
 use Rattle.std.proofs.Common.{sym, ap, ◌∙◌, arith}
@@ -17,7 +17,7 @@ use Rattle.rules.specs.declared.Was.TheVariants.{New}
 use Rattle.laws.specs.Lists.{Every, clash}
 use Rattle.laws.specs.NameTable.{Good, good-given, good-laid, length-names, count-is}
 use Rattle.laws.specs.ReadLists.{Words}
-use Rattle.offices.specs.Offices.{numbering}
+use Rattle.offices.proofs.Offices.{numbering}
 use Rattle.rules.specs.Compaction.{Compacted, occurs, keeps, renumbered, keptFrom, joined, eachGiven, compactChecks, compactCall, compactIf, squeezed}
 use Rattle.compaction.specs.Checks.{checks-good, checks-each}
 use Rattle.compaction.specs.HeldNames.{set-held}

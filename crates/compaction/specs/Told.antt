@@ -1,4 +1,4 @@
--- The answer with all that is changed in place, as document 02 tells it. Assumes nothing: these are definitions.
+-- The answer with all that is changed in place, as document 02 tells it.
 use Rattle.std.specs.Prelude.{List, ℕ}
 use Rattle.rules.specs.Base.{Got, got, refused}
 use Rattle.rules.specs.Refusals.{number_of}

@@ -1,4 +1,4 @@
--- Doing it twice is doing it once. Assumes nothing.
+-- Doing it twice is doing it once.
 use Rattle.std.proofs.Math.Path.{◌≡◌, refl, sym, ap, ap₂}
 use Rattle.std.proofs.Common.{◌∙◌, zero-add, add-zero, lt-ltb, ltb-true, eqb-true, eq-eqb, drop_at}
 use Rattle.std.specs.Prelude.{Bool, ◌||◌, ltb, length, take, drop, get_or, replicate}
@@ -17,7 +17,7 @@ use Rattle.rules.specs.Writing.{kindIn}
 use Rattle.laws.specs.Lists.{Every, clash, and_right}
 use Rattle.laws.specs.NameTable.{Good, good-laid, length-names, count-is, held-is}
 use Rattle.laws.specs.ReadLists.{Words}
-use Rattle.offices.specs.Given.{set_given}
+use Rattle.offices.proofs.Given.{set_given}
 use Rattle.rules.specs.Compaction.{Compacted, oneIf, occurs, keeps, newNumber, renumberIf, renumbered, consIf, keptFrom, joined, endsFrom, poolOf, endsOver, eachGiven, compactChecks, compactCall, compactIf, squeezed}
 use Rattle.compaction.specs.Checks.{checks-good, checks-each, checks-row, checks-met}
 use Rattle.compaction.specs.HeldNames.{HeldWords, set-held}

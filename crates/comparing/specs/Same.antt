@@ -1,4 +1,4 @@
--- Equal words hold equal types, and equal types have equal words. Assumes nothing.
+-- Equal words hold equal types, and equal types have equal words.
 use Rattle.std.specs.Prelude.{◌≡◌, refl, Bool, true, false, ℕ, suc, ◌+◌, ◌*◌, ◌/◌, ◌<◌, ◌≤◌, ltb, length, get_or}
 use Rattle.std.proofs.Common.{sym, ap, ◌∙◌, add-zero, arith, ltb-true, ltb-false, get_or-take, get_or-drop}
 use mathlib.Core.List.{List, [], ◌∷◌}

@@ -1,5 +1,4 @@
 -- What a factor is a power of: a mark, and its name, which is entered.
--- Assumes nothing.
 use Rattle.std.specs.Prelude.{◌≡◌, refl, true, List, [], ℕ, ◌<◌, get_or}
 use Rattle.std.proofs.Math.Path.{ap}
 use Rattle.std.proofs.Common.{arith, lt-ltb}

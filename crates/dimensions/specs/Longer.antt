@@ -1,5 +1,4 @@
 -- A product stays well formed while further names are entered.
--- Assumes nothing.
 use Rattle.std.specs.Prelude.{◌≡◌, true, List, [], ℕ, get_or}
 use Rattle.std.proofs.Math.Path.{refl, ap₂}
 use Rattle.std.proofs.Common.{ap, ◌∙◌, arith, ltb-true, lt-ltb}

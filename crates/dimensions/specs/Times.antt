@@ -1,5 +1,4 @@
 -- A product multiplied by one factor.
--- Assumes nothing.
 use Rattle.std.proofs.Math.Path.{◌≡◌, refl, sym, ap}
 use Rattle.std.proofs.Common.{◌∙◌}
 use Rattle.std.specs.Prelude.{Bool, ℕ, suc}

@@ -1,5 +1,4 @@
 -- A dimension: its record and those of the factors that are left, counted and written.
--- Assumes nothing.
 use Rattle.std.specs.Prelude.{◌≡◌, refl, List, []}
 use Rattle.std.proofs.Common.{sym, ◌∙◌, arith}
 use Rattle.std.proofs.Math.Path.{ap}

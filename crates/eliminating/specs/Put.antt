@@ -1,5 +1,4 @@
 -- Records that are written into a buffer, one after another.
--- Assumes nothing.
 use Rattle.std.specs.Prelude.{◌≡◌, true, false, List, [], ◌∷◌, ◌++◌, map, ℕ, zero, suc, ◌+◌, ◌*◌, ◌≤◌, ◌<◌, length, take, drop, get_or, ℤ}
 use Rattle.std.proofs.Math.Path.{refl, ap}
 use Rattle.std.proofs.Common.{ap₂, ◌∙◌, sym, subst, append_assoc, length-append, drop_of_length-le, take_all, length-take-le, get_or-take}
@@ -25,7 +24,7 @@ use Rattle.records.specs.Stores.{sets-append, sets-before}
 use Rattle.laws.specs.Contents.{collect-append}
 use Rattle.elimination.specs.declared.inner.grids.Columns.{Columns}
 use Rattle.elimination.specs.Machine.{colsIn, Laid, laid-few, pairValues}
-use Rattle.agreement.specs.Rows.{factors-few}
+use Rattle.agreement.proofs.Rows.{factors-few}
 use Rattle.laying.specs.Atoms.{cols-long}
 use Rattle.rules.specs.Elimination.{Row, ◌gets◌, factors, boundBy}
 

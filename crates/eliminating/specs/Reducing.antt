@@ -1,5 +1,4 @@
 -- What the rows of a set come to is what the definition says.
--- Assumes nothing.
 use Rattle.std.specs.Prelude.{◌≡◌, Bool, false, ℕ, zero, suc, ◌+◌, ◌≤◌, get_or, ◌&&◌}
 use Rattle.std.proofs.Math.Path.{refl, ap, sym}
 use Rattle.std.proofs.Common.{◌∙◌, subst, arith}
@@ -17,10 +16,10 @@ use Rattle.laws.specs.ByteOrder.{numbered-lawful, atom-lawful}
 use Rattle.rules.specs.WellFormed.{goodProduct, goodCon}
 use Rattle.rules.specs.Names.{table_of, names_of}
 use Rattle.elimination.specs.declared.inner.grids.Turned.{Turned}
-use Rattle.agreement.specs.Laid.{padded-rows}
+use Rattle.agreement.proofs.Laid.{padded-rows}
 use Rattle.laws.specs.Checks.{need-passed}
 use Rattle.elimination.specs.declared.inner.grids.Grid.{Grid}
-use Rattle.agreement.specs.Agreement.{scalars, fitting-refuses, held-apart}
+use Rattle.agreement.proofs.Agreement.{scalars, fitting-refuses, held-apart}
 use Rattle.laying.specs.Lines.{Fitting, paddedRows}
 use Rattle.laying.specs.Columns.{Known, ListedAs, vars, pars, bases}
 use Rattle.laying.specs.Fitted.{known, fits-then, fits-so, listed-columns}

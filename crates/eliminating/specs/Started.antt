@@ -1,5 +1,4 @@
 -- A machine that has all its rows to do.
--- Assumes nothing.
 use Rattle.std.specs.Prelude.{◌≡◌, refl, List, [], ℕ, ◌≤◌, length, take}
 use Rattle.std.proofs.Common.{arith}
 use Rattle.rules.specs.Base.{Got, got, refused, ◌>>=◌}

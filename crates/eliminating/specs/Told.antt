@@ -1,4 +1,4 @@
--- The answer of the second engine with its two buffers. Assumes nothing: these are definitions.
+-- The answer of the second engine with its two buffers.
 use Rattle.std.specs.Prelude.{◌≡◌, List, ℕ}
 use Rattle.rules.specs.Base.{Got}
 use Rattle.rules.specs.Calls.{resultAfter}

@@ -1,5 +1,4 @@
 -- What is written is the answer, and fits the result buffer: at most 24 rows or values, of at most 50 records each.
--- Assumes nothing.
 use Rattle.std.specs.Prelude.{◌≡◌, refl, length, take, drop}
 use Rattle.std.proofs.Math.Path.{ap}
 use Rattle.std.proofs.Common.{◌∙◌, sym, arith, zero-add, length-append, length-take-le}
@@ -20,7 +19,7 @@ use Rattle.elimination.specs.declared.inner.grids.Machine.{Machine}
 use Rattle.rules.specs.Elimination.{Row, Value, ◌gets◌, factors, boundBy, Settled, settledBy, eliminatedOf, eliminatedWords, allBound, someLeft}
 use Rattle.elimination.specs.Grids.{rowsIn, grid-long}
 use Rattle.elimination.specs.Machine.{colsIn, Laid, laid-few, pairValues, Running}
-use Rattle.agreement.specs.Rows.{factors-few}
+use Rattle.agreement.proofs.Rows.{factors-few}
 use Rattle.laying.specs.Atoms.{cols-long}
 use Rattle.eliminating.specs.declared.Outcome.{Outcome}
 use Rattle.eliminating.specs.declared.Outcome.TheVariants.{Bound, Left, Refused}

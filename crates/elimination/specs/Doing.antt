@@ -1,5 +1,4 @@
 -- A loop over columns: what is done so far, and the rest, make the whole.
--- Assumes nothing.
 use Rattle.std.specs.Prelude.{◌≡◌, true, ℕ, zero, suc, ◌+◌, ◌<◌, ◌≤◌, length, take, drop, get_or, set}
 use Rattle.std.proofs.Math.Path.{refl, ap}
 use Rattle.std.proofs.Common.{◌∙◌, sym, arith, length-set, drop_of_length-le, take-suc-set, drop-cons}

@@ -1,5 +1,4 @@
 -- The code's rows as the definitions' rows.
--- Assumes nothing.
 use Rattle.std.specs.Prelude.{◌≡◌, Bool, true, false, map, ℕ, length}
 use Rattle.std.proofs.Common.{ap, ◌∙◌, sym}
 use Rattle.rules.specs.Base.{Got, got, refused, bounded, each}

@@ -1,4 +1,4 @@
--- What the turns of `fill` need: the slots below v fit and stand in the table. Assumes nothing.
+-- What the turns of `fill` need: the slots below v fit and stand in the table.
 use mathlib.Core.Path.{◌≡◌, refl, sym, ap, subst, ◌∙◌}
 use mathlib.Core.Bool.{Bool, true, false}
 use mathlib.Core.List.{List}

@@ -1,4 +1,4 @@
--- How looking up and testing for a repeat go along the entries, by the entry at an index: what the turns of the loops need. Assumes nothing.
+-- How looking up and testing for a repeat go along the entries, by the entry at an index: what the turns of the loops need.
 use mathlib.Core.Path.{◌≡◌, refl}
 use mathlib.Core.Bool.{Bool, true, false, not, ◌&&◌, ◌||◌}
 use mathlib.Core.List.{List, [], ◌∷◌}

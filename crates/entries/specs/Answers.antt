@@ -1,4 +1,4 @@
--- What an answer of `fill` tells its caller: yes, and there are bindings with this table; or no, and the entries are refused. Assumes nothing.
+-- What an answer of `fill` tells its caller: yes, and there are bindings with this table; or no, and the entries are refused.
 use Rattle.std.specs.Prelude.{◌≡◌, refl, Bool, true, false, List, [], ◌∷◌, map, ℕ, drop}
 use Rattle.std.proofs.Common.{sym}
 use Rattle.std.proofs.Math.Option.{Option, none, some}

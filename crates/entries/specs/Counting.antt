@@ -1,4 +1,4 @@
--- As many slots are taken as there are entries just where no variable is named twice and all are below the number of slots. Assumes nothing.
+-- As many slots are taken as there are entries just where no variable is named twice and all are below the number of slots.
 use Rattle.std.specs.Prelude.{◌≡◌, Bool, not, List, [], ◌∷◌, ltb, length, get_or, set}
 use Rattle.std.proofs.Math.Path.{refl, ap}
 use Rattle.std.proofs.Common.{sym, ◌∙◌, add-one, length-set, get_or-set_same, get_or-set_other}

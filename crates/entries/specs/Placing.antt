@@ -1,4 +1,4 @@
--- The slots of given entries are the table of their places; those of others are refused. Assumes nothing.
+-- The slots of given entries are the table of their places; those of others are refused.
 use Rattle.std.specs.Prelude.{◌≡◌, refl, Bool, true, false, not, List, [], ◌∷◌, ℕ, ◌+◌, ◌≤◌, ◌<◌, eqb, length, get_or}
 use Rattle.std.proofs.Common.{sym, ap, subst, ◌∙◌, arith, eqb-true}
 use Rattle.std.proofs.Math.Option.{Option, none, some}

@@ -1,4 +1,4 @@
--- The table of places by variable, and what is promised of it. Assumes nothing: these are definitions.
+-- The table of places by variable, and what is promised of it.
 use Rattle.std.specs.Prelude.{◌≡◌, Bool, true, false, List, ℕ, ◌+◌, ◌%◌, ◌≤◌, ◌<◌, length, get_or}
 use Rattle.std.proofs.Math.Option.{Option, none, some}
 use Rattle.rules.specs.Base.{got, refused}

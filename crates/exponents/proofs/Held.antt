@@ -1,5 +1,4 @@
 -- Signed numbers as the code holds them: their bits, and the number that the bits stand for.
--- Assumes nothing.
 use mathlib.Core.Path.{◌≡◌, refl, sym, ◌∙◌, ap}
 use mathlib.Core.Bool.{true, false}
 use Prim.Native.Nat.{ℕ, suc, ◌<◌, ◌^◌}

@@ -1,5 +1,4 @@
 -- What the code tests and computes, against the rules on exponents.
--- Assumes nothing.
 use mathlib.Core.Path.{◌≡◌, refl, sym, ◌∙◌, ap₂}
 use mathlib.Core.Bool.{Bool, true, false, ◌&&◌}
 use mathlib.Core.Option.{none, some}

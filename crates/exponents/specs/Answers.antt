@@ -1,5 +1,4 @@
 -- Exponents and answers of the code as document 01's exponents and answers.
--- Assumes nothing.
 use Rattle.std.specs.Prelude.{◌≡◌, ℕ, ℤ, pos, negsuc, neg_ℤ}
 use Rattle.std.proofs.Common.{ap, arith}
 use Rattle.rules.specs.Base.{Got, got, refused}

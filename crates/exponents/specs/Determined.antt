@@ -1,6 +1,5 @@
 -- The contracts leave no choice: two results that one of them allows coincide (`..-determined`). And each answer has document 01's number of
 -- its outcome (`..-numbered`). The other public functions of this crate say `r ≡ ..` of the result itself.
--- Assumes nothing.
 use Rattle.std.specs.Prelude.{◌≡◌, refl, ℕ}
 use Rattle.std.proofs.Math.Path.{ap}
 use Rattle.std.proofs.Common.{sym, ◌∙◌}

@@ -1,5 +1,4 @@
 -- A few answers, computed: the calls on exponents are what a reader expects of them.
--- Assumes nothing.
 use Rattle.std.specs.Prelude.{◌≡◌, refl, pos, negsuc}
 use Rattle.rules.specs.Base.{got, refused}
 use Rattle.rules.specs.Exponents.{frac, gcdIn, gcd, lowest, in_range, goodExp, neg, plus, mul, inverted, sum, times, negation, quotient}

@@ -1,4 +1,4 @@
--- Products as words: four for each factor, its kind, its name or index, its numerator in two's complement, its denominator. Assumes nothing: these are definitions.
+-- Products as words: four for each factor, its kind, its name or index, its numerator in two's complement, its denominator.
 use Rattle.std.specs.Prelude.{List, [], ◌∷◌, ◌++◌, ℕ, zero, suc, ◌+◌, ◌*◌, ◌/◌, length, get_or}
 use Rattle.std.proofs.Math.Option.{none, some}
 use Rattle.std.proofs.lemmas.List.Edits.{sets}

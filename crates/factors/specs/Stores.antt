@@ -1,4 +1,4 @@
--- A turn of the loop that reads factors, and of the one that stores them. Assumes nothing.
+-- A turn of the loop that reads factors, and of the one that stores them.
 use Rattle.std.specs.Prelude.{◌≡◌, refl, List, [], ◌∷◌, ◌++◌, map, ℕ, suc, ◌+◌, ◌*◌, ◌/◌, ◌<◌, ◌≤◌, length, get_or, drop, take, set}
 use Rattle.std.proofs.Common.{sym, ap, ◌∙◌, arith, add-one, drop_of_length-le, take-suc-set, take_all, drop-cons}
 use Rattle.std.proofs.lemmas.List.{length-map}

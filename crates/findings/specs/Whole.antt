@@ -1,5 +1,4 @@
 -- The whole report of a sheet, from its parts.
--- Assumes nothing.
 use Rattle.std.specs.Prelude.{◌≡◌, ℕ, ◌+◌, ◌-◌, ◌*◌, ◌≤◌, ◌^◌, length}
 use Rattle.std.proofs.Common.{subst, arith}
 use mathlib.Core.List.{List, ◌++◌, map, append_assoc}

@@ -1,4 +1,4 @@
--- The other arms of a match on a view. Assumes nothing.
+-- The other arms of a match on a view.
 use mathlib.Core.Path.{◌≡◌, refl}
 use mathlib.Core.Bool.{false}
 use mathlib.Core.List.{List, [], ◌∷◌}

@@ -1,4 +1,4 @@
--- Where every constraint is a bound: their names, and bindings and bounds in the result buffer. Assumes nothing.
+-- Where every constraint is a bound: their names, and bindings and bounds in the result buffer.
 use Rattle.std.specs.Prelude.{◌≡◌, true, ℕ, ◌+◌, ◌-◌, ◌*◌, ◌/◌, ◌≤◌, ◌<◌, get_or, take}
 use Rattle.std.proofs.Math.Path.{refl, sym, ap}
 use Rattle.std.proofs.Common.{subst, ◌∙◌, zero-add, add-one}

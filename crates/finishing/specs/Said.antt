@@ -1,4 +1,4 @@
--- What the first two records of a constraint say of it: is it a bound. Assumes nothing.
+-- What the first two records of a constraint say of it: is it a bound.
 use Rattle.std.specs.Prelude.{◌≡◌, Bool, true, false, not, ◌&&◌, List, ℕ, ◌+◌}
 use Rattle.rules.specs.Base.{is_none}
 use Rattle.rules.specs.Solving.{boundOf}

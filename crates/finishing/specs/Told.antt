@@ -1,4 +1,4 @@
--- What is answered and left where no rule applies to a state. Assumes nothing: these are definitions.
+-- What is answered and left where no rule applies to a state.
 use Rattle.std.specs.Prelude.{◌≡◌, List, ◌++◌, map, ℕ, ◌+◌, ◌*◌, length}
 use Rattle.std.proofs.lemmas.List.Edits.{sets}
 use Rattle.rules.specs.Base.{got, keep, collect, to_list, is_none, sum_of}

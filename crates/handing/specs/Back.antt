@@ -1,4 +1,4 @@
--- The tables by which handed names are put back, and each held name becomes itself. Assumes nothing.
+-- The tables by which handed names are put back, and each held name becomes itself.
 use Rattle.std.specs.Prelude.{◌≡◌, Bool, true, false, cond, List, [], ◌∷◌, ℕ, zero, suc, ◌+◌, ◌*◌, ◌≤◌, ◌<◌, ltb, length, set, replicate}
 use Rattle.std.proofs.Math.Path.{refl, ap}
 use Rattle.std.proofs.Common.{sym, ◌∙◌, zero-add, arith, get_or-set_same, get_or-set_other}
@@ -16,8 +16,8 @@ use Rattle.rules.specs.WellFormed.{goodTy, goodOpen}
 use Rattle.rules.specs.Writing.{head}
 use Rattle.laws.specs.Lists.{All}
 use Rattle.laws.specs.NameTable.{held-is}
-use Rattle.renaming.specs.Again.{there-in, back_is}
-use Rattle.renaming.specs.Own.{own, own_is, own-known}
+use Rattle.renaming.proofs.Again.{there-in, back_is}
+use Rattle.renaming.proofs.Own.{own, own_is, own-known}
 use Rattle.records.specs.Holds.{Holds}
 use Rattle.replacing.specs.Places.{word_of, SaysAt}
 use Rattle.replacing.specs.Well.{GoodTy, Lent}

@@ -1,4 +1,4 @@
--- Bounds with their names renamed: those that aren't renamed stay, or are left out. Assumes nothing.
+-- Bounds with their names renamed: those that aren't renamed stay, or are left out.
 use Rattle.std.specs.Prelude.{◌≡◌, Bool, true, false, ℕ, ◌+◌, ◌*◌, ◌/◌, ◌≤◌, ◌<◌, length}
 use Rattle.std.proofs.Math.Path.{refl, sym, ap}
 use Rattle.std.proofs.Common.{◌∙◌, arith, length-append}

@@ -1,4 +1,4 @@
--- The tables are those of the renamings: of handed names by quantified variables, and back; and of each name by itself. Assumes nothing.
+-- The tables are those of the renamings: of handed names by quantified variables, and back; and of each name by itself.
 use Rattle.std.specs.Prelude.{◌≡◌, cond, List, [], ◌∷◌, ◌⊎◌, ℕ, zero, suc, ◌+◌, ◌≤◌, ◌<◌, ltb, length, replicate}
 use Rattle.std.proofs.Math.Path.{refl}
 use Rattle.std.proofs.Common.{sym, ap, ◌∙◌, zero-add, arith, lt-ltb, le-ltb}
@@ -12,8 +12,9 @@ use Rattle.rules.specs.Schemes.{renamed}
 use Rattle.rules.specs.Trees as tree
 use Rattle.rules.specs.Trees.{Names, Ty, opened, size}
 use Rattle.laws.specs.Lists.{All, some≢none}
-use Rattle.renaming.specs.InTurn.{first_of, all_of, first-at, all-good}
-use Rattle.renaming.specs.Again.{there-in}
+use Rattle.renaming.specs.Places.{first_equal, all_of}
+use Rattle.renaming.proofs.InTurn.{first-at, all-good}
+use Rattle.renaming.proofs.Again.{there-in}
 use Rattle.records.specs.Holds.{Holds}
 use Rattle.rules.specs.Names.{table_of, numbersOf, is_held}
 use Rattle.rules.specs.WellFormed.{goodTy}
@@ -51,11 +52,11 @@ module _ (ν : Names ℕ) (names : List ℕ) (small : All (λ x. x < 256) names)
   quantedTypes = quantTypes 0 names (replicate 1024 0)
 
   -- the word of the name x, from the table's word n
-  name-says : (x n : ℕ) → (x < 256 → (get_or quantedPlaces n 0 ≡ get_or quantedPlaces x 0) ⊎ (get_or quantedPlaces n 0 ≡ get_or quantedPlaces (256 + x) 0)) → SaysAt quantedTypes (cond (ltb x 256) (get_or quantedPlaces n 0) 0) (and_then (first_of ν 0 names x) (λ u. some (opened u)))
+  name-says : (x n : ℕ) → (x < 256 → (get_or quantedPlaces n 0 ≡ get_or quantedPlaces x 0) ⊎ (get_or quantedPlaces n 0 ≡ get_or quantedPlaces (256 + x) 0)) → SaysAt quantedTypes (cond (ltb x 256) (get_or quantedPlaces n 0) 0) (and_then (first_equal ν 0 names x) (λ u. some (opened u)))
   unfolding Holds
   name-says x n h = go (dec_lt x 256)
     where
-      not-handed : 256 ≤ x → (s : Option (tree.Open ℕ)) → first_of ν 0 names x ≡ s → SaysAt quantedTypes 0 (and_then s (λ u. some (opened u)))
+      not-handed : 256 ≤ x → (s : Option (tree.Open ℕ)) → first_equal ν 0 names x ≡ s → SaysAt quantedTypes 0 (and_then s (λ u. some (opened u)))
       not-handed l none i = refl
       not-handed l (some u) i = let a = first-at ν 0 names x u i in let b : x < 256 = small x (there-in names a.place x a.there) in absurd (omega arith)
 
@@ -65,9 +66,9 @@ module _ (ν : Names ℕ) (names : List ℕ) (small : All (λ x. x < 256) names)
       handed w l (some u) (a, (b, c)) (inl i) = record { at = x; word = i ∙ a; held = c }
       handed w l (some u) (a, (b, c)) (inr i) = record { at = x; word = i ∙ b; held = c }
 
-      go : Dec (x < 256) → SaysAt quantedTypes (cond (ltb x 256) (get_or quantedPlaces n 0) 0) (and_then (first_of ν 0 names x) (λ u. some (opened u)))
-      go (yes l) = rw (lt-ltb x 256 l) (handed (get_or quantedPlaces n 0) l (first_of ν 0 names x) (quant-at ν (replicate 512 0) (replicate 1024 0) (omega arith) (omega arith) 0 names small x l) (h l))
-      go (no l) = rw (le-ltb x 256 (omega arith)) (not-handed (omega arith) (first_of ν 0 names x) refl)
+      go : Dec (x < 256) → SaysAt quantedTypes (cond (ltb x 256) (get_or quantedPlaces n 0) 0) (and_then (first_equal ν 0 names x) (λ u. some (opened u)))
+      go (yes l) = rw (lt-ltb x 256 l) (handed (get_or quantedPlaces n 0) l (first_equal ν 0 names x) (quant-at ν (replicate 512 0) (replicate 1024 0) (omega arith) (omega arith) 0 names small x l) (h l))
+      go (no l) = rw (le-ltb x 256 (omega arith)) (not-handed (omega arith) (first_equal ν 0 names x) refl)
 
   quant-says : (o : tree.Open ℕ) → SaysAt quantedTypes (word_of quantedPlaces o) (renamed (all_of ν 0 names) o)
   unfolding all_of

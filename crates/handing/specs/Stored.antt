@@ -1,4 +1,4 @@
--- What the tables say of each name. Assumes nothing.
+-- What the tables say of each name.
 use Rattle.std.specs.Prelude.{◌≡◌, Bool, true, false, ◌⊎◌, set}
 use Rattle.std.proofs.Math.Path.{refl, sym, ap}
 use Rattle.std.proofs.Common.{◌∙◌, inl, inr, length-set, get_or-set_same, get_or-set_other}
@@ -16,7 +16,7 @@ use Rattle.rules.specs.Trees as tree
 use Rattle.rules.specs.Trees.{Names, opened}
 use Rattle.rules.specs.Writing.{rec, head, words}
 use Rattle.laws.specs.Lists.{All, in_head, yes-is, no-is}
-use Rattle.renaming.specs.InTurn.{first_of}
+use Rattle.renaming.specs.Places.{first_equal}
 use Rattle.records.specs.Views.{view_of, longOf, recOf}
 use Rattle.records.specs.Buffers.{stored}
 use Rattle.records.specs.Places.{recAt, view-some, long-some, seen-in}
@@ -76,8 +76,8 @@ module _ (ν : Names ℕ) (pd vd : List ℕ) (pl : 512 ≤ length pd) (vl : 1024
   QuantAt none x p v = (get_or p x 0 ≡ get_or pd x 0) × (get_or p (256 + x) 0 ≡ get_or pd (256 + x) 0)
   QuantAt (some u) x p v = (get_or p x 0 ≡ x + 1) × ((get_or p (256 + x) 0 ≡ x + 1) × Holds v (opened u) x)
 
-  pub quant-at : (i : ℕ) (xs : List ℕ) → All (λ y. y < 256) xs → (x : ℕ) → x < 256 → QuantAt (first_of ν i xs x) x (quantPlaces xs pd) (quantTypes i xs vd)
-  unfolding first_of quantPlaces quantTypes
+  pub quant-at : (i : ℕ) (xs : List ℕ) → All (λ y. y < 256) xs → (x : ℕ) → x < 256 → QuantAt (first_equal ν i xs x) x (quantPlaces xs pd) (quantTypes i xs vd)
+  unfolding first_equal quantPlaces quantTypes
   quant-at i [] h x l = (refl, refl)
   quant-at i (y ∷ xs) h x l = go (is_yes (ν.same y x)) refl (quant-at (suc i) xs (λ z m. h z (Memᴰ.tail m)) x l)
     where
@@ -108,6 +108,6 @@ module _ (ν : Names ℕ) (pd vd : List ℕ) (pl : 512 ≤ length pd) (vl : 1024
             (get_or-set_same (set A x (x + 1)) (256 + x) (x + 1) 0 (omega arith), held-here B x (head 14 1) i 0 0 (tree.quant i) refl (omega arith)),
           )
 
-      go : (b : Bool) → is_yes (ν.same y x) ≡ b → QuantAt (first_of ν (suc i) xs x) x A B → QuantAt (first_of ν i (y ∷ xs) x) x (set (set A y (y + 1)) (256 + y) (y + 1)) (sets B (y * 4) (words (rec (head 14 1) i 0 0 ∷ [])))
-      go true j r = rw (j, first_of) (found (yes-is (ν.same y x) j))
-      go false j r = rw (j, first_of) (kept (no-is (ν.same y x) j) (first_of ν (suc i) xs x) r)
+      go : (b : Bool) → is_yes (ν.same y x) ≡ b → QuantAt (first_equal ν (suc i) xs x) x A B → QuantAt (first_equal ν i (y ∷ xs) x) x (set (set A y (y + 1)) (256 + y) (y + 1)) (sets B (y * 4) (words (rec (head 14 1) i 0 0 ∷ [])))
+      go true j r = rw (j, first_equal) (found (yes-is (ν.same y x) j))
+      go false j r = rw (j, first_equal) (kept (no-is (ν.same y x) j) (first_equal ν (suc i) xs x) r)

@@ -1,4 +1,4 @@
--- The words of the tables: places by name, and the types that they point to. A name's type stands at the place of its number. Assumes nothing.
+-- The words of the tables: places by name, and the types that they point to. A name's type stands at the place of its number.
 use Rattle.std.specs.Prelude.{◌≡◌, refl, length, get_or, drop}
 use Rattle.std.proofs.Common.{sym, ◌∙◌, drop_of_length-le, length-set, drop-cons}
 use Rattle.std.proofs.Math.Path.{ap}

@@ -1,4 +1,4 @@
--- What instantiating is given, and what it makes. Assumes nothing.
+-- What instantiating is given, and what it makes.
 use Rattle.std.specs.Prelude.{◌≡◌, refl, true, List, ◌++◌, map, ℕ, ◌+◌, ◌*◌, ◌≤◌, ◌<◌, eqb, length, get_or, replicate}
 use Rattle.std.proofs.Common.{sym, ap, subst, ◌∙◌, arith, eq-eqb, ne_eqb, length-append}
 use Rattle.std.proofs.lemmas.List.{length-map}
@@ -15,7 +15,7 @@ use Rattle.rules.specs.declared.Refusal.TheVariants.{WrongCount}
 use Rattle.laws.specs.Lists.{All}
 use Rattle.laws.specs.NameTable.{Good, good-laid}
 use Rattle.laws.specs.Size.{size-ty}
-use Rattle.renaming.specs.Own.{own}
+use Rattle.renaming.proofs.Own.{own}
 use Rattle.records.specs.Buffers.{stored}
 use Rattle.records.specs.Held.{held}
 use Rattle.records.specs.Holds.{Shows}

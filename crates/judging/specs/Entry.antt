@@ -1,4 +1,4 @@
--- The checks of the judge at entry, and what is known where they are met. Assumes nothing.
+-- The checks of the judge at entry, and what is known where they are met.
 use Rattle.std.specs.Prelude.{◌≡◌, Bool, true, not, ◌&&◌, List, [], ◌∷◌, ◌++◌, map, ℕ, ◌/◌, ◌%◌, ◌≤◌, ◌<◌, eqb, length, replicate}
 use Rattle.std.proofs.Math.Path.{refl, sym}
 use Rattle.std.proofs.Common.{◌∙◌}

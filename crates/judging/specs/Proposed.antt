@@ -1,4 +1,4 @@
--- Entries that were placed, as the walks and the checks ask for them. Assumes nothing.
+-- Entries that were placed, as the walks and the checks ask for them.
 use Rattle.std.specs.Prelude.{◌≡◌, Bool, ℕ, ◌+◌, ◌≤◌, ◌<◌, eqb, length, get_or}
 use Rattle.std.proofs.Math.Path.{refl}
 use Rattle.std.proofs.Common.{ap}

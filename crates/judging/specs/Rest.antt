@@ -1,4 +1,4 @@
--- The judge past its set: entries, bounds, names that are both, then the constraints. Assumes nothing.
+-- The judge past its set: entries, bounds, names that are both, then the constraints.
 use Rattle.std.specs.Prelude.{◌≡◌, Bool, true, false, ℕ, ◌/◌, length}
 use Rattle.std.proofs.Math.Path.{refl, ap}
 use Rattle.std.proofs.Common.{sym}

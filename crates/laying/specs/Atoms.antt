@@ -1,5 +1,4 @@
 -- Atoms of the code and of the trees, and rows with zeros past their columns.
--- Assumes nothing.
 use Rattle.std.specs.Prelude.{◌≡◌, Bool, true, false, cond, eqb, length, take, drop, get_or, set, replicate}
 use Rattle.std.proofs.Math.Path.{refl}
 use Rattle.std.proofs.Common.{ap, ◌∙◌, sym, arith, add-one, eqb-true, eq-eqb, length-append, drop_of_length-le, length-take-le, take-suc, get_or-take, get_or-append-add}

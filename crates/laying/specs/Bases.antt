@@ -1,5 +1,4 @@
 -- The base dimensions that the records of a set name are those of its products.
--- Assumes nothing.
 use Rattle.std.specs.Prelude.{◌≡◌, length}
 use Rattle.std.proofs.Math.Path.{refl, ap, ap₂, sym}
 use Rattle.std.proofs.Common.{◌∙◌}

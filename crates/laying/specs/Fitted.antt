@@ -1,5 +1,4 @@
 -- A set that was read, laid out: what is known of its records, its columns, and whether it fits.
--- Assumes nothing.
 use Rattle.std.specs.Prelude.{◌≡◌, ◌&&◌, ℕ, ◌+◌, ◌≤◌, ◌<◌, get_or}
 use Rattle.std.proofs.Math.Path.{ap, ap₂, sym, subst}
 use Rattle.std.proofs.Common.{◌∙◌}

@@ -1,5 +1,4 @@
 -- The constraints of a set, one after another, as rows.
--- Assumes nothing.
 use Rattle.std.specs.Prelude.{◌≡◌, Bool, false, take, set, replicate}
 use Rattle.std.proofs.Math.Path.{refl, ap, ap₂, sym, subst}
 use Rattle.std.proofs.Common.{◌∙◌, add-one, take-suc-set}

@@ -1,5 +1,4 @@
 -- The columns of a set are its variables, then its parameters, then its base dimensions, each sorted.
--- Assumes nothing.
 use Rattle.std.specs.Prelude.{◌≡◌, not, length}
 use Rattle.std.proofs.Math.Path.{refl, ap, ap₂, sym}
 use Rattle.std.proofs.Common.{◌∙◌}

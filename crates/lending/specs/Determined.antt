@@ -1,6 +1,5 @@
 -- The contracts leave no choice: two results that one of them allows coincide (`..-determined`). And each answer has document 01's number of
 -- its outcome (`..-numbered`). This is the page of the calls that write records, too, whose answer is this crate's.
--- Assumes nothing.
 use Rattle.std.specs.Prelude.{◌≡◌, Bool, List, ℕ}
 use Rattle.std.proofs.Math.Path.{refl, ap}
 use Rattle.std.proofs.Common.{sym, ◌∙◌, arith}

@@ -1,4 +1,4 @@
--- What was made, handed over: its records in the result buffer, and the work buffer all zero. Assumes nothing.
+-- What was made, handed over: its records in the result buffer, and the work buffer all zero.
 use Rattle.std.specs.Prelude.{◌≡◌, refl, List, ◌++◌, ℕ, ◌*◌, ◌≤◌, length, drop, replicate}
 use Rattle.std.proofs.Common.{sym, ap, subst, ◌∙◌, zero-add, arith}
 use Rattle.std.proofs.lemmas.List.Edits.{sets, sets-eq}

@@ -1,4 +1,4 @@
--- The check of 10, from the lengths of what is lent. Assumes nothing.
+-- The check of 10, from the lengths of what is lent.
 use Rattle.std.specs.Prelude.{◌≡◌, refl, Bool, true, false, not, ◌&&◌, List, ℕ, ◌≤◌, ◌<◌, length}
 use Rattle.std.proofs.Math.Path.{sym, ap}
 use Rattle.std.proofs.Common.{◌∙◌}

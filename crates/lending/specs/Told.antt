@@ -1,4 +1,4 @@
--- A call's answer and its two buffers as document 01 tells them. Assumes nothing: these are definitions.
+-- A call's answer and its two buffers as document 01 tells them.
 use Rattle.std.specs.Prelude.{◌≡◌, List, ℕ, ◌*◌, ◌≤◌, length, replicate, take}
 use Rattle.rules.specs.Base.{Got, got, refused, ◌>>=◌}
 use Rattle.rules.specs.Calls.{Written, resultAfter}

@@ -1,6 +1,5 @@
 -- The contract leaves no choice: two results that it allows coincide (`check-line-determined`). And the answer has the papers' number of its
 -- outcome (`check-line-numbered`): 11 where the judge says no.
--- Assumes nothing.
 use Rattle.std.specs.Prelude.{◌≡◌, List, ℕ}
 use Rattle.rules.specs.Lines.{checkLineCall}
 use Rattle.rules.specs.Numbers.{written, number}

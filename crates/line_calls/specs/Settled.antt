@@ -1,4 +1,4 @@
--- What solving leaves for the judge: bindings and bounds, well formed and at the front of a buffer; or a refusal. Assumes nothing.
+-- What solving leaves for the judge: bindings and bounds, well formed and at the front of a buffer; or a refusal.
 use Rattle.std.proofs.Math.Path.{◌≡◌, refl, sym, ap, subst}
 use Rattle.std.proofs.Common.{◌∙◌, arith, le-leb}
 use Rattle.std.specs.Prelude.{Bool, true, false, List, ◌++◌, map, ℕ, ◌/◌, leb}
@@ -19,8 +19,8 @@ use Rattle.rules.specs.declared.Refusal.{Refusal}
 use Rattle.rules.specs.declared.Refusal.TheVariants.{Mixed}
 use Rattle.laws.specs.Lists.{is_all}
 use Rattle.laws.specs.NameTable.{Good}
-use Rattle.soundness.specs.Words.{numbers-ordered}
-use Rattle.soundness.specs.Form.{solved-form}
+use Rattle.soundness.proofs.Words.{numbers-ordered}
+use Rattle.soundness.proofs.Form.{solved-form}
 use Rattle.records.specs.Good.{numbers, holding}
 use Rattle.queries.specs.Scans.{opensIn}
 use Rattle.lending.specs.Told.{Made}

@@ -1,4 +1,4 @@
--- A set, and what solving it found, as they stand in buffers. Assumes nothing.
+-- A set, and what solving it found, as they stand in buffers.
 use Rattle.std.specs.Prelude.{◌≡◌, true, ℕ, ◌+◌, ◌*◌, ◌-◌, ◌/◌, ◌≤◌, take, drop}
 use Rattle.std.proofs.Math.Path.{refl, sym, ap}
 use Rattle.std.proofs.Common.{subst, ◌∙◌, add-zero, length-append, take_at, drop_at}
@@ -19,7 +19,7 @@ use Rattle.laws.specs.KnownNames.{set_known}
 use Rattle.laws.specs.Lists.{and_both, All, Every, all-every}
 use Rattle.laws.specs.Weaker.{binding-weaker}
 use Rattle.laws.specs.Size.{words-length, set-length, bindings-length, words_append}
-use Rattle.ending.specs.Sets.{Admitted}
+use Rattle.ending.proofs.Sets.{Admitted}
 use Rattle.records.specs.Views.{from}
 use Rattle.records.specs.Places.{from-none}
 use Rattle.records.specs.Buffers.{stored}

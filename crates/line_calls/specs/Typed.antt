@@ -1,4 +1,4 @@
--- The type of a variable once the set was solved and judged, and what each answer of the code makes of it. Assumes nothing.
+-- The type of a variable once the set was solved and judged, and what each answer of the code makes of it.
 use Rattle.std.specs.Prelude.{◌≡◌, refl, Bool, List, [], ◌∷◌, ◌++◌, map, ℕ, ◌+◌, ◌*◌, ◌-◌, ◌≤◌, length, take, drop}
 use Rattle.std.proofs.Math.Path.{sym, ap}
 use Rattle.std.proofs.Common.{subst, ◌∙◌, arith, take_at}

@@ -1,4 +1,4 @@
--- The whole call past the check of 10: from the steps in words to the type of the last one. Assumes nothing.
+-- The whole call past the check of 10: from the steps in words to the type of the last one.
 use Rattle.std.specs.Prelude.{◌≡◌, refl, ◌&&◌, List, [], ◌∷◌, ℕ, zero, suc, ◌-◌, ◌*◌, ◌/◌, ◌≤◌, ◌<◌, leb, ltb, length, get_or, take}
 use Rattle.std.proofs.Common.{sym, subst, ◌∙◌, arith}
 use Rattle.std.proofs.Math.Path.{ap}
@@ -22,10 +22,10 @@ use Rattle.laws.specs.Checks.{need-passed, first-passed}
 use Rattle.laws.specs.Lists.{clash, true≢false, and_left, and_right, bound-step, is_all}
 use Rattle.laws.specs.NameTable.{Good, given-good}
 use Rattle.soundness.specs.Claims.{Ordered}
-use Rattle.soundness.specs.Words.{numbers-ordered}
-use Rattle.line_theorems.specs.Formed.{constraints-formed}
-use Rattle.line_theorems.specs.Read as theorems
-use Rattle.line_theorems.specs.Read.{ReadLine, names_apart}
+use Rattle.soundness.proofs.Words.{numbers-ordered}
+use Rattle.line_theorems.proofs.Formed.{constraints-formed}
+use Rattle.line_theorems.proofs.Read as theorems
+use Rattle.line_theorems.proofs.Read.{ReadLine, names_apart}
 use Rattle.records.specs.Good.{numbers, holding}
 use Rattle.lending.specs.Lent.{Long, long}
 use Rattle.lending.specs.Handed.{as_written, unwritten}

@@ -1,4 +1,4 @@
--- The records of a single constraint, one after another. Assumes nothing.
+-- The records of a single constraint, one after another.
 use Rattle.std.specs.Prelude.{◌≡◌, Bool, true, false, eqb, ltb, ℤ, pos, negsuc, nat_abs, length}
 use Rattle.std.proofs.Math.Path.{refl, ap}
 use Rattle.std.proofs.Common.{sym, ◌∙◌, arith, ne_eqb}

@@ -1,4 +1,4 @@
--- The constraints of a line, step by step, with a stack that grows downward. Assumes nothing.
+-- The constraints of a line, step by step, with a stack that grows downward.
 use Rattle.std.specs.Prelude.{◌≡◌, refl, ◌&&◌, ℕ, zero, suc, ◌+◌, ◌*◌, ◌-◌, ◌/◌, ◌<◌, ◌≤◌, leb, get_or, set, drop, replicate}
 use Rattle.std.proofs.Math.Path.{sym, ap, subst}
 use Rattle.std.proofs.Common.{◌∙◌, zero-add, add-one, length-drop, length-set, drop-cons, drop-drop, get_or-drop}

@@ -1,4 +1,4 @@
--- What a step issues, by its words and the operands on the stack. Assumes nothing.
+-- What a step issues, by its words and the operands on the stack.
 use Rattle.std.proofs.Math.Path.{◌≡◌, refl, subst}
 use Rattle.std.proofs.Common.{sym, ap, ◌∙◌, arith}
 use Rattle.std.specs.Prelude.{List, [], ◌∷◌, ℕ, zero, suc, ◌*◌, get_or}

@@ -1,4 +1,4 @@
--- How many records a step issues. Assumes nothing.
+-- How many records a step issues.
 use Rattle.std.specs.Prelude.{◌≡◌, ℕ, ◌+◌, get_or}
 use Rattle.std.proofs.Common.{sym, ◌∙◌, arith}
 use Rattle.std.proofs.Math.Path.{ap, subst}

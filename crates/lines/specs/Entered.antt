@@ -1,4 +1,4 @@
--- All checks of a line before its constraints: 8, 1, 4, 3. Assumes nothing.
+-- All checks of a line before its constraints: 8, 1, 4, 3.
 use Rattle.std.specs.Prelude.{◌≡◌, Bool, ℕ, ltb, get_or}
 use Rattle.std.proofs.Math.Path.{refl, sym}
 use Rattle.std.proofs.Common.{ap, ◌∙◌}

@@ -1,4 +1,4 @@
--- The checks of a line one by one: what each answer says of its definition. Assumes nothing.
+-- The checks of a line one by one: what each answer says of its definition.
 use Rattle.std.specs.Prelude.{◌≡◌, Bool, ◌&&◌, List, [], ◌∷◌, map, eqb, leb, length, get_or, drop}
 use Rattle.std.proofs.Math.Path.{refl, sym}
 use Rattle.std.proofs.Common.{ap, ◌∙◌, arith}

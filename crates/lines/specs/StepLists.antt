@@ -1,4 +1,4 @@
--- The steps of a line one by one from a place on, and how many operands their words ask for. Assumes nothing.
+-- The steps of a line one by one from a place on, and how many operands their words ask for.
 use Rattle.std.specs.Prelude.{◌≡◌, refl, Bool, true, false, not, ◌&&◌, ℕ, zero, suc, ◌-◌, ◌%◌, ◌<◌, ◌≤◌, eqb, leb, length}
 use Rattle.std.proofs.Common.{sym, arith, ne_eqb}
 use Rattle.std.proofs.Math.Path.{ap}

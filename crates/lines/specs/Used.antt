@@ -1,4 +1,4 @@
--- The names that a line uses, found in its records one by one. Assumes nothing.
+-- The names that a line uses, found in its records one by one.
 use Rattle.std.specs.Prelude.{◌≡◌, Bool, true, false, not, ◌&&◌, ◌||◌, eqb, ltb, length, get_or, drop}
 use Rattle.std.proofs.Math.Path.{refl, ap}
 use Rattle.std.proofs.Common.{sym, ap₂, ◌∙◌, add-zero, add-one, drop-cons}

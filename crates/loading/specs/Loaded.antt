@@ -1,5 +1,4 @@
 -- The factors of a product, record by record: those that are held from a place on, and those that are written.
--- Assumes nothing.
 use Rattle.std.specs.Prelude.{◌≡◌, refl, List, [], ◌∷◌, ◌++◌, map, ℕ, zero, suc, ◌+◌, ◌*◌, ◌<◌, ◌≤◌, length, drop}
 use Rattle.std.proofs.Common.{ap, ap₂, ◌∙◌, sym, subst, add-zero, arith}
 use Rattle.std.proofs.lemmas.List.Edits.{sets}

@@ -1,4 +1,4 @@
--- The comparison arm by arm. Assumes nothing.
+-- The comparison arm by arm.
 use mathlib.Core.Path.{◌≡◌, refl, sym, ap, ap₂, subst, ◌∙◌}
 use mathlib.Core.Bool.{Bool, true, false}
 use mathlib.Core.List.{List, [], ◌∷◌}

@@ -1,4 +1,4 @@
--- What the calls of the comparison ask, and what they give, step by step. Assumes nothing.
+-- What the calls of the comparison ask, and what they give, step by step.
 use mathlib.Core.Path.{◌≡◌, refl, sym, ap, subst, ◌∙◌}
 use mathlib.Core.Bool.{Bool, true, false}
 use mathlib.Core.List.{List}

@@ -1,4 +1,4 @@
--- The tests of a held constraint, step by step. Assumes nothing.
+-- The tests of a held constraint, step by step.
 use mathlib.Core.Path.{◌≡◌, refl, sym, subst, ◌∙◌}
 use mathlib.Core.Bool.{Bool, true, false, not, ◌&&◌}
 use mathlib.Core.List.{List, [], ◌∷◌}

@@ -1,4 +1,4 @@
--- The heads of types and factors, arm by arm, and that they tell factors apart. Assumes nothing.
+-- The heads of types and factors, arm by arm, and that they tell factors apart.
 use Rattle.std.specs.Prelude.{◌≡◌, true, false, ℕ, length, get_or}
 use Rattle.std.proofs.Math.Path.{refl}
 use Rattle.std.proofs.Common.{sym, ap, ap₂, ◌∙◌, arith}

@@ -1,4 +1,4 @@
--- What is compared of a type before its parts, and what its parts are. Assumes nothing: these are definitions.
+-- What is compared of a type before its parts, and what its parts are.
 use Rattle.std.specs.Prelude.{◌≡◌, Bool, true, false, ◌&&◌, ℕ, ◌+◌, length}
 use Rattle.rules.specs.Exponents.{frac}
 use Rattle.rules.specs.Trees as tree

@@ -1,4 +1,4 @@
--- How 'mean the same' goes by heads and parts: the laws that each arm of the comparison cites. Assumes nothing.
+-- How 'mean the same' goes by heads and parts: the laws that each arm of the comparison cites.
 use Rattle.std.proofs.Math.Path.{◌≡◌, refl, sym, ap, ap₂}
 use Rattle.std.proofs.Common.{◌∙◌, arith}
 use Rattle.std.specs.Prelude.{Bool, [], ◌∷◌, get_or}

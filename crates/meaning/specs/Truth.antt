@@ -1,4 +1,4 @@
--- What the tests of a held constraint answer. Assumes nothing: these are definitions.
+-- What the tests of a held constraint answer.
 use Rattle.std.specs.Prelude.{◌≡◌, Bool, true, false, List, ℕ, ◌+◌, ◌<◌, get_or}
 use Rattle.std.proofs.Math.Option.{Option, none, some}
 use Rattle.rules.specs.Names.{Bytes, numbered}

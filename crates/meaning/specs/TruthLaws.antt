@@ -1,4 +1,4 @@
--- Bounds as marks, fields by name, and a constraint arm by arm. Assumes nothing.
+-- Bounds as marks, fields by name, and a constraint arm by arm.
 use Rattle.std.specs.Prelude.{◌≡◌, refl, Bool, true, false, List, ℕ, ◌<◌, eqb}
 use Rattle.std.proofs.Common.{sym, ap, subst, ◌∙◌, eqb-true, eq-eqb}
 use Rattle.std.proofs.Math.Option.{some}

@@ -1,5 +1,4 @@
 -- A number that equal names share, so that most pairs of names are told apart without comparing their bytes.
--- Assumes nothing.
 use Rattle.std.specs.Prelude.{◌≡◌, Bool, true, false, ◌||◌, ℕ, ◌+◌, ◌*◌, ◌%◌, ◌≤◌, ◌<◌, length, drop, get_or, set}
 use Rattle.std.proofs.Common.{sym, ap, ◌∙◌, arith, length-set, drop_of_length-le, drop-cons, get_or-set_same, get_or-set_other}
 use mathlib.Core.List.{List, [], ◌∷◌}

@@ -1,5 +1,4 @@
 -- The promises of entering are kept, by the cases in which entering ends.
--- Assumes nothing.
 use Rattle.std.proofs.Math.Path.{◌≡◌, sym, ap}
 use Rattle.std.specs.Prelude.{refl, false, List, [], ◌∷◌, ℕ, ◌<◌, drop, get_or}
 use Rattle.std.proofs.Common.{◌∙◌, arith}

@@ -1,7 +1,6 @@
 -- What entering a name promises. A name without room is refused, never replaced by another.
 -- `nameAsked pool table i ≡ got n` reads: the number i has the name n. `enter pool table name` is the answer, and what pool and table hold
 -- afterwards; the contract of the code is an equation with it. The answer is a number with new or known, or a refusal. Each promise is proved in Kept, for every pool, table and name.
--- Assumes nothing.
 use Rattle.std.specs.Prelude.{◌≡◌, ◌⊎◌, List, [], ℕ, ◌-◌, ◌≤◌, ◌<◌, length, take, drop, get_or}
 use Prim.Native.Nat.{Ordering}
 use Rattle.rules.specs.Base.{got, refused}

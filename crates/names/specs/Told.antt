@@ -1,5 +1,4 @@
 -- The answers of the code as the values of document 01.
--- Assumes nothing.
 use Rattle.std.specs.Prelude.{List, [], ◌≡◌, get_or}
 use Rattle.std.proofs.Math.Option.{Option, none, some}
 use Prim.Native.Nat.{ℕ, ◌+◌, Ordering}

@@ -1,4 +1,4 @@
--- Entries of the judge as pairs of words: a variable, and the place of its type. Assumes nothing: these are definitions.
+-- Entries of the judge as pairs of words: a variable, and the place of its type.
 use Rattle.std.specs.Prelude.{Bool, List, [], ◌∷◌, ℕ, eqb, drop}
 use Rattle.rules.specs.Base.{any}
 use Rattle.rules.specs.Calls.{Entry, differ}

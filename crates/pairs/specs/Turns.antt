@@ -1,4 +1,4 @@
--- How looking up and testing for a repeat go along the pairs: what the turns of the loops need. Assumes nothing.
+-- How looking up and testing for a repeat go along the pairs: what the turns of the loops need.
 use Rattle.std.specs.Prelude.{◌≡◌, true, false, ℕ, suc, ◌+◌, ◌/◌, ◌<◌, ◌≤◌, eqb, get_or, drop}
 use Rattle.std.proofs.Math.Path.{refl}
 use Rattle.std.proofs.Common.{ap, ◌∙◌, arith, add-one, drop-cons}

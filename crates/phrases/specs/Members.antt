@@ -1,5 +1,4 @@
 -- The fields of a structure, and a structure by its parts.
--- Assumes nothing.
 use Rattle.std.specs.Prelude.{◌≡◌, refl, Bool, true, false, ℕ, suc, ◌+◌, ◌≤◌, ◌<◌, min, length, get_or}
 use Rattle.std.proofs.Common.{sym, ap, ap₂, ◌∙◌, arith, length-append}
 use Rattle.std.proofs.Math.Path.{subst}

@@ -1,5 +1,4 @@
 -- A type by its parts: its record is counted at its first byte, its parts are entered behind it, and then the record is written.
--- Assumes nothing.
 use Rattle.std.specs.Prelude.{◌≡◌, refl, List, ◌∷◌, ◌++◌, ℕ, suc, ◌+◌, ◌≤◌, min, length}
 use Rattle.std.proofs.Common.{sym, ap, ap₂, ◌∙◌, arith, length-append}
 use Rattle.std.proofs.Math.Path.{subst}

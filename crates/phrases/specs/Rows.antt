@@ -1,5 +1,4 @@
 -- Types and fields in a row, turn by turn; parts that may be left out; and the type that a first byte decides on.
--- Assumes nothing.
 use Rattle.std.specs.Prelude.{◌≡◌, refl, Bool, true, false, ◌||◌, List, ℕ, suc, ◌+◌, ◌-◌, ◌≤◌, ◌<◌, min, eqb}
 use Rattle.std.proofs.Common.{sym, ap, ap₂, subst, true≢false, arith, ne_eqb}
 use Rattle.std.proofs.Math.Option.{none}

@@ -1,4 +1,4 @@
--- Bindings noted in a table of places, one after another: the first of a variable counts. Assumes nothing.
+-- Bindings noted in a table of places, one after another: the first of a variable counts.
 use Rattle.std.proofs.Math.Path.{◌≡◌, refl}
 use Rattle.std.proofs.Common.{sym, ap, subst, ◌∙◌, get_or-set_same, get_or-set_other}
 use Rattle.std.specs.Prelude.{Bool, ℕ, ◌+◌, ◌≤◌, ◌<◌, eqb, length, get_or, set, replicate}

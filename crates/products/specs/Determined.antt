@@ -1,6 +1,5 @@
 -- The contracts leave no choice: two results that one of them allows coincide (`..-determined`). And each answer has document 01's number of
 -- its outcome (`..-numbered`). And what an answer says.
--- Assumes nothing.
 use Rattle.std.proofs.Math.Path.{◌≡◌, ap, sym}
 use Rattle.std.specs.Prelude.{refl, ℕ, List, [], ◌∷◌, map}
 use Rattle.std.proofs.Common.{ap₂, ◌∙◌, arith}

@@ -1,5 +1,4 @@
 -- The calls on products: what is asked at entry, and the calls once that is given.
--- Assumes nothing.
 use Rattle.std.specs.Prelude.{◌≡◌, refl, false, List, ℕ, length}
 use Rattle.std.proofs.Common.{◌∙◌, arith}
 use Rattle.rules.specs.Base.{Got, got, refused, ◌>>=◌, ◌>>◌, need, bounded}

@@ -1,5 +1,4 @@
 -- Well formed products, factor by factor, and the test of a product.
--- Assumes nothing.
 use Rattle.std.proofs.Math.Path.{◌≡◌, refl, ap, sym}
 use Rattle.std.proofs.Common.{◌∙◌, subst, inl, inr, length-take-le, get_or-take, take-take, take_at, length-append}
 use Rattle.std.specs.Prelude.{Bool, ◌⊎◌, List, [], ◌∷◌, ◌++◌, map, ℕ, zero, suc, ◌+◌, ◌-◌, ◌<◌, ◌≤◌, take, get_or, replicate}

@@ -1,5 +1,4 @@
 -- The kinds of factors: which atoms they are, and the order of factors by kind and name.
--- Assumes nothing.
 use Rattle.std.specs.Prelude.{◌≡◌, Bool, false, cond, ◌&&◌, ◌⊎◌, eqb}
 use Rattle.std.proofs.Math.Path.{refl}
 use Rattle.std.proofs.Common.{ap, ◌∙◌, sym, subst, inl, inr, arith}

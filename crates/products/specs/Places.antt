@@ -1,5 +1,4 @@
 -- A product value, place by place: one factor more, the factors from a place on, and what a well formed product holds.
--- Assumes nothing.
 use Rattle.std.specs.Prelude.{◌≡◌, refl, ℕ, zero, suc, ◌+◌, ◌<◌, ◌≤◌}
 use Rattle.std.proofs.Math.Path.{ap, ap₂, sym, ◌≡⟨◌⟩◌, ◌∎}
 use Rattle.std.proofs.Common.{◌∙◌, add-one, arith, drop_of_length-le, drop-cons, get_or-take}

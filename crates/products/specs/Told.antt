@@ -1,5 +1,4 @@
 -- The code's products and answers as the values of document 01.
--- Assumes nothing.
 use Rattle.std.specs.Prelude.{Bool, true, false, cond, List, map, ℕ, ◌+◌, eqb, ltb, pos, take, get_or, set}
 use Rattle.std.proofs.Math.Option
 use Rattle.std.proofs.Math.Option.{Option, none, some}

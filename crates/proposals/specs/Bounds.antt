@@ -1,4 +1,4 @@
--- Bounds with names, one a record. Assumes nothing.
+-- Bounds with names, one a record.
 use Rattle.std.specs.Prelude.{◌≡◌, true, false, ◌&&◌, length, take}
 use Rattle.std.proofs.Math.Path.{refl}
 use Rattle.std.proofs.Common.{subst, ◌∙◌, add-zero, add-one, arith, length-drop, take-suc}

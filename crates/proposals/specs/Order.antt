@@ -1,4 +1,4 @@
--- The open names of bindings, by variable or in their own order: the same names, where no variable is bound twice. Assumes nothing.
+-- The open names of bindings, by variable or in their own order: the same names, where no variable is bound twice.
 use Rattle.std.proofs.Math.Path.{◌≡◌, refl, sym, ap, ap₂}
 use Rattle.std.proofs.Common.{◌∙◌, arith}
 use Rattle.std.specs.Prelude.{Bool, not, ◌&&◌, eqb}

@@ -1,4 +1,4 @@
--- A scheme that was written from the start of the work buffer is what quantifying makes, or it is too long. Assumes nothing.
+-- A scheme that was written from the start of the work buffer is what quantifying makes, or it is too long.
 use Rattle.std.specs.Prelude.{◌≡◌, refl, take, drop}
 use Rattle.std.proofs.Common.{sym, ◌∙◌, take_at}
 use Rattle.std.proofs.Math.Path.{ap}

@@ -1,4 +1,4 @@
--- What quantifying is given, and what it makes. Assumes nothing.
+-- What quantifying is given, and what it makes.
 use Rattle.std.specs.Prelude.{◌≡◌, refl, Bool, ℕ, zero, suc, ◌+◌, ◌*◌, ◌≤◌, ◌<◌, length, get_or, replicate}
 use Rattle.std.proofs.Common.{subst, arith}
 use mathlib.Core.List.{List, [], ◌∷◌, Memᴰ}
@@ -15,8 +15,8 @@ use Rattle.rules.specs.declared.Refusal.{Refusal}
 use Rattle.rules.specs.declared.Refusal.TheVariants.{TooLarge}
 use Rattle.laws.specs.Lists.{All, in_head}
 use Rattle.laws.specs.NameTable.{Good}
-use Rattle.renaming.specs.InTurn.{all_of}
-use Rattle.renaming.specs.Sizes.{renamed-deep}
+use Rattle.renaming.specs.Places.{all_of}
+use Rattle.renaming.proofs.Sizes.{renamed-deep}
 use Rattle.records.specs.Cut.{fit}
 use Rattle.replacing.specs.Left.{Left, Room}
 use Rattle.replacing.specs.LineLaws.{type-left}

@@ -1,4 +1,4 @@
--- What contains, closed and variables answer, from what the passes over the records find. Assumes nothing.
+-- What contains, closed and variables answer, from what the passes over the records find.
 use Rattle.std.specs.Prelude.{◌≡◌, refl, Bool, true, false, ◌&&◌, List, ℕ, ◌+◌, ◌/◌, ◌≤◌, ◌<◌, eqb, ltb, length, get_or}
 use Rattle.std.proofs.Math.Path.{sym, ap}
 use Rattle.std.proofs.Common.{◌∙◌}

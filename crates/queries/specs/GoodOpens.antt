@@ -1,4 +1,4 @@
--- Names that are held are small enough to be marked. Assumes nothing.
+-- Names that are held are small enough to be marked.
 use Rattle.std.specs.Prelude.{List, ℕ, ◌≤◌, ◌<◌, get_or}
 use Rattle.std.proofs.Common.{arith}
 use borrow.Author.Tests.{ltb-true}

@@ -1,4 +1,4 @@
--- Names as marks: names are below 256, so a set of them is 256 marks. Assumes nothing: these are definitions.
+-- Names as marks: names are below 256, so a set of them is 256 marks.
 use Rattle.std.specs.Prelude.{◌≡◌, Bool, true, false, not, ◌&&◌, List, [], ◌∷◌, ◌⊎◌, eqb, length, get_or}
 use Prim.Native.Nat.{ℕ, suc, ◌<◌, Ordering}
 use Rattle.rules.specs.Base.{any}

@@ -1,4 +1,4 @@
--- Runs of constraints and of bindings: their open names are those of their records, and can be marked. Assumes nothing.
+-- Runs of constraints and of bindings: their open names are those of their records, and can be marked.
 use Rattle.std.specs.Prelude.{◌≡◌, ℕ, ◌+◌, ◌-◌, ◌≤◌, get_or}
 use mathlib.Core.List.{List, [], ◌∷◌}
 use Rattle.std.proofs.Common.{arith}

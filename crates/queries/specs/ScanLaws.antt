@@ -1,4 +1,4 @@
--- The open names of records that hold a tree are those of the tree. Assumes nothing.
+-- The open names of records that hold a tree are those of the tree.
 use Rattle.std.specs.Prelude.{◌≡◌, Bool, true, false, ◌||◌, length}
 use Rattle.std.proofs.Math.Path.{refl, ap}
 use Rattle.std.proofs.Common.{sym, ap₂, ◌∙◌, add-zero}

@@ -1,4 +1,4 @@
--- The open names of the records from a place on: one record after another. Assumes nothing: these are definitions.
+-- The open names of the records from a place on: one record after another.
 use Rattle.std.specs.Prelude.{List, [], ◌∷◌, ◌++◌, ℕ, zero, suc, ◌+◌, ◌-◌}
 use Rattle.rules.specs.Trees as tree
 use Rattle.rules.specs.Contents.{variablesIn, parametersIn, namesIn}

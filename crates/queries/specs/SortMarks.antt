@@ -1,4 +1,4 @@
--- Marked names one by one, the first by name bytes before the others. Assumes nothing.
+-- Marked names one by one, the first by name bytes before the others.
 use Rattle.std.specs.Prelude.{◌≡◌, Bool, true, false, ◌⊎◌, ltb, length, get_or, set, drop}
 use Rattle.std.proofs.Math.Path.{refl, ap}
 use Rattle.std.proofs.Common.{sym, subst, ◌∙◌, inl, inr, ⊎_elim, add-zero, arith, ltb-true, ltb-false, length-set, length-append, get_or-set_other, drop-cons}

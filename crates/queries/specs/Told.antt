@@ -1,4 +1,4 @@
--- The answers of the code as those of document 01. Assumes nothing: these are definitions.
+-- The answers of the code as those of document 01.
 use Rattle.std.specs.Prelude.{Bool, true, false, List, ℕ}
 use Rattle.rules.specs.Base.{Got, got, refused}
 use Rattle.rules.specs.Refusals.{number_of}

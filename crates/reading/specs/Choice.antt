@@ -1,5 +1,4 @@
 -- Which rule a type's first byte decides on.
--- Assumes nothing.
 use Rattle.std.specs.Prelude.{◌≡◌, refl, Bool, true, false, ◌||◌, List, [], ◌∷◌, map, ℕ, zero, suc, ◌<◌, eqb}
 use Rattle.std.proofs.Common.{sym, ap, ◌∙◌, true≢false, arith}
 use Prim.Native.Char.{Char, code}

@@ -1,5 +1,4 @@
 -- Names, factors and dimensions from point to point.
--- Assumes nothing.
 use Rattle.std.specs.Prelude.{◌≡◌, refl, Bool, true, false, leb, length, drop, get_or}
 use Rattle.std.proofs.Common.{sym, ap, ◌∙◌, true≢false, arith, ne_eqb, leb-true, leb-false, drop_of_length-le, length-drop, drop-cons}
 use mathlib.Core.List.{List, [], ◌∷◌}

@@ -1,5 +1,4 @@
 -- A rule of the grammar from a point of a line on, and what it reads.
--- Assumes nothing.
 use Rattle.std.specs.Prelude.{◌≡◌, Bool, true, false, [], ◌∷◌, ℕ, suc, ◌+◌, ◌-◌, ◌≤◌, ◌<◌, min, eqb, length, get_or}
 use Rattle.std.proofs.Math.Path.{refl, sym}
 use Rattle.std.proofs.Common.{ap, ◌∙◌, true≢false, add-one, arith, eq-eqb, ne_eqb, drop_of_length-le, drop-cons}

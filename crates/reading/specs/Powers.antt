@@ -1,5 +1,4 @@
 -- A power, sign by sign.
--- Assumes nothing.
 use Rattle.std.specs.Prelude.{◌≡◌, refl, Bool, true, false, ℕ}
 use Rattle.std.proofs.Common.{sym, ap}
 use Rattle.rules.specs.Names.{Bytes}

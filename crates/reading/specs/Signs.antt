@@ -1,5 +1,4 @@
 -- Signs of several bytes, and the types without a type inside.
--- Assumes nothing.
 use Rattle.std.specs.Prelude.{◌≡◌, refl, Bool, true, false, [], ◌∷◌, ℕ, suc, ◌+◌, ◌≤◌, eqb, length, drop}
 use Rattle.std.proofs.Common.{sym, arith}
 use Rattle.std.proofs.Math.ListN.{length-drop}

@@ -1,5 +1,4 @@
 -- Types from point to point, whatever the rule for the types inside, and what is known of a type by what is known of its parts.
--- Assumes nothing.
 use Rattle.std.specs.Prelude.{◌≡◌, refl, true, false}
 use Rattle.std.proofs.Common.{◌∙◌, arith}
 use Prim.Native.Nat.{ℕ, zero, suc, ◌≤◌, ◌<◌}

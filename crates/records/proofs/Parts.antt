@@ -1,4 +1,4 @@
--- The walkers of products, constraints, bindings and bounds step by step, and parts one after another. Assumes nothing.
+-- The walkers of products, constraints, bindings and bounds step by step, and parts one after another.
 use mathlib.Core.Path.{◌≡◌, refl, sym, ap, subst, ◌∙◌}
 use mathlib.Core.Bool.{Bool, true, false, ◌&&◌}
 use mathlib.Core.List.{List, [], ◌∷◌}

@@ -1,4 +1,4 @@
--- The walkers step by step: what a part that is well formed at a place has, and what shows that there is none. Assumes nothing.
+-- The walkers step by step: what a part that is well formed at a place has, and what shows that there is none.
 use mathlib.Core.Path.{◌≡◌, refl, sym, ap, subst, ◌∙◌}
 use mathlib.Core.Bool.{Bool, true, false, not, ◌&&◌}
 use mathlib.Core.List.{List, [], ◌∷◌, map}

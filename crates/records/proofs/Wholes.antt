@@ -1,4 +1,4 @@
--- A type, and a scheme, that takes all records. Assumes nothing.
+-- A type, and a scheme, that takes all records.
 use mathlib.Core.Path.{◌≡◌, sym, ap, subst, ◌∙◌}
 use mathlib.Core.Bool.{Bool, true, false}
 use mathlib.Core.List.{List}

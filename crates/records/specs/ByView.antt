@@ -1,4 +1,4 @@
--- What a place that holds a tree says, case by case, and that it lies within. Assumes nothing.
+-- What a place that holds a tree says, case by case, and that it lies within.
 use Rattle.std.specs.Prelude.{◌≡◌, ℕ, suc, ◌+◌, ◌/◌, ◌≤◌, ◌<◌}
 use Rattle.std.proofs.Math.Path.{refl, subst}
 use Rattle.std.proofs.Common.{sym, ap, ◌∙◌}

@@ -1,4 +1,4 @@
--- A part that was found but for the length that its first record says, and that length. Assumes nothing.
+-- A part that was found but for the length that its first record says, and that length.
 use Rattle.std.specs.Prelude.{◌≡◌, refl, Bool, true, false, List, ℕ, ◌+◌, ◌/◌, eqb}
 use Rattle.std.proofs.Math.Path.{sym}
 use Rattle.std.proofs.Common.{ap, ◌∙◌, arith, eqb-true}

@@ -1,4 +1,4 @@
--- Records as code writes them: a length that doesn't fit the word (over 65,535, which no list that goes out has) is left out. Assumes nothing.
+-- Records as code writes them: a length that doesn't fit the word (over 65,535, which no list that goes out has) is left out.
 use Rattle.std.specs.Prelude.{◌≡◌, refl, Bool, true, false, List, [], ◌∷◌, ◌++◌, map, ℕ, suc, ◌+◌, ◌*◌, ◌≤◌, ◌<◌, leb, length}
 use Rattle.std.proofs.Common.{ap, ap₂, ◌∙◌, arith, le-leb}
 use Rattle.std.proofs.lemmas.Bool.{lt-leb}

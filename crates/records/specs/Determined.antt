@@ -1,6 +1,5 @@
 -- The contracts leave no choice: two results that one of them allows coincide (`..-determined`). And each answer has document 01's number of
 -- its outcome (`..-numbered`). `view_at` says `r ≡ ..` of the result itself.
--- Assumes nothing.
 use Rattle.std.specs.Prelude.{◌≡◌, List, ℕ}
 use Rattle.std.proofs.Math.Path.{ap}
 use Rattle.std.proofs.Common.{sym, ◌∙◌}

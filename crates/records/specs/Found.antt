@@ -1,4 +1,4 @@
--- What is read at a place is held there. Assumes nothing.
+-- What is read at a place is held there.
 use Rattle.std.specs.Prelude.{◌≡◌, get_or}
 use Rattle.std.proofs.Math.Path.{refl, ap, subst}
 use Rattle.std.proofs.Common.{sym, ◌∙◌, add-zero}

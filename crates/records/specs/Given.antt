@@ -1,4 +1,4 @@
--- Parts one after another are what is read of a list. Assumes nothing.
+-- Parts one after another are what is read of a list.
 use Rattle.std.proofs.Math.Path.{◌≡◌, refl, ap, subst}
 use Rattle.std.proofs.Common.{sym, ◌∙◌, arith, ltb-true, ltb-false, eqb-true}
 use Rattle.std.specs.Prelude.{Bool, ◌&&◌, ltb, eqb}

@@ -1,4 +1,4 @@
--- What the walkers find: a well formed part that is held at a place, and where it ends. Assumes nothing: these are definitions.
+-- What the walkers find: a well formed part that is held at a place, and where it ends.
 use Rattle.std.specs.Prelude.{◌≡◌, Bool, true, false, List, [], ◌∷◌, map, ℕ, suc, ◌+◌, ◌/◌, ◌≤◌, ◌<◌, eqb, length, get_or}
 use Rattle.rules.specs.Base.{all}
 use Rattle.rules.specs.Trees as tree

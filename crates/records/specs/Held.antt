@@ -1,4 +1,4 @@
--- What is held at a place is what is written there. Assumes nothing.
+-- What is held at a place is what is written there.
 use Rattle.std.specs.Prelude.{◌≡◌, ℕ, suc, ◌+◌, ◌*◌, ◌/◌, ◌≤◌, length}
 use Rattle.std.proofs.Math.Path.{refl}
 use Rattle.std.proofs.Common.{sym, ap, ◌∙◌, add-zero, arith}

@@ -1,4 +1,4 @@
--- The words at a place hold this tree. Assumes nothing: these are definitions.
+-- The words at a place hold this tree.
 use Rattle.std.specs.Prelude.{◌≡◌, List, [], ◌∷◌, ℕ, suc, ◌+◌, length}
 use Rattle.rules.specs.Exponents.{frac}
 use Rattle.rules.specs.Trees.{Factor, ◌↑◌, Product, Ty, opened, basic, dim, fn, struct, list, Tys, nil, cons, Fields, noFields, field, Con, equal, isDim, is_scalar, hasField, Binding, ◌≔◌, size, sizeTys, sizeCon, sizeBinding, count, countFields}

@@ -1,4 +1,4 @@
--- A part that was found is not empty, and lies within. Assumes nothing.
+-- A part that was found is not empty, and lies within.
 use Rattle.std.specs.Prelude.{List, ℕ, ◌/◌, ◌≤◌, ◌<◌, length}
 use Rattle.std.proofs.Common.{arith}
 use Rattle.rules.specs.Trees as tree

@@ -1,4 +1,4 @@
--- What is held at a place is what is read there; and so one tree at most is held at a place. Assumes nothing.
+-- What is held at a place is what is read there; and so one tree at most is held at a place.
 use Rattle.std.specs.Prelude.{◌≡◌}
 use Rattle.std.proofs.Math.Path.{refl, sym, ap, ap₂}
 use Rattle.std.proofs.Common.{subst, ◌∙◌, add-zero}

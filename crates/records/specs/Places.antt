@@ -1,4 +1,4 @@
--- The records from a place on, and the one that stands at a place. Assumes nothing.
+-- The records from a place on, and the one that stands at a place.
 use Rattle.std.specs.Prelude.{◌≡◌, Bool, eqb, drop}
 use Rattle.std.proofs.Math.Path.{refl, sym, ap₂}
 use Rattle.std.proofs.Common.{ap, subst, ◌∙◌, add-zero}

@@ -1,4 +1,4 @@
--- The public test of schemes, from what the walkers find. Assumes nothing.
+-- The public test of schemes, from what the walkers find.
 use Rattle.std.proofs.Math.Path.{◌≡◌, refl, sym, ap}
 use Rattle.std.proofs.Common.{subst, ◌∙◌, arith}
 use Rattle.std.proofs.Math.Bool.{Bool, true, false}

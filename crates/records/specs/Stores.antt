@@ -1,4 +1,4 @@
--- Runs of stores into a buffer. Assumes nothing.
+-- Runs of stores into a buffer.
 use Rattle.std.specs.Prelude.{◌≡◌, refl, List, [], ◌∷◌, ◌++◌, ℕ, suc, ◌+◌, ◌<◌, ◌≤◌, length, get_or, set}
 use Rattle.std.proofs.Common.{sym, ap, ◌∙◌, arith, add-zero, add-suc, suc-add, add-one}
 use Rattle.std.proofs.Math.Numerals.{add-two, add-three}

@@ -1,5 +1,4 @@
 -- What one record says: its view, with the words that it doesn't use tested, and the length of the part that it begins.
--- Assumes nothing.
 use Rattle.std.specs.Prelude.{Bool, true, false, List, [], ◌∷◌, ℕ, ◌*◌, eqb, drop}
 use Rattle.rules.specs.Base.{all}
 use Rattle.rules.specs.Writing.{Rec, rec, head, kindIn, lengthIn}

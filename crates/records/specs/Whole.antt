@@ -1,4 +1,4 @@
--- The public tests of lists, from what the walkers find. Assumes nothing.
+-- The public tests of lists, from what the walkers find.
 use Rattle.std.specs.Prelude.{◌≡◌, refl, Bool, ◌&&◌, List, [], ◌∷◌, ℕ, ◌/◌, ◌%◌, eqb, length}
 use borrow.Author.Tests.{leb-true}
 use Rattle.std.proofs.Math.Dec.{leb}

@@ -314,7 +314,7 @@ fn dim_end(pool: &[u8], table: &[u32], q: u32, s: &[u32], at: usize, n: u32) -> 
 }
 
 // Where the type at a place ends, which is nested at most `deep`.
-#[cycle(fields_end_type_end_type_parts_types_end)]
+#[cycle(types)]
 pub fn type_end(pool: &[u8], table: &[u32], q: u32, s: &[u32], at: usize, deep: usize) -> Ended
     requires { Good pool.now table.now }
     ensures { Ends (GoodTy pool.now table.now q s.now deep at) result }
@@ -323,7 +323,7 @@ pub fn type_end(pool: &[u8], table: &[u32], q: u32, s: &[u32], at: usize, deep: 
 }
 
 // Where its parts end, whatever length its first record says.
-#[cycle(fields_end_type_end_type_parts_types_end)]
+#[cycle(types)]
 fn type_parts(pool: &[u8], table: &[u32], q: u32, s: &[u32], at: usize, deep: usize) -> Ended
     requires { Good pool.now table.now }
     ensures { Ends (PartsTy pool.now table.now q s.now deep at) result }
@@ -361,7 +361,7 @@ fn type_parts(pool: &[u8], table: &[u32], q: u32, s: &[u32], at: usize, deep: us
 }
 
 // Where n types end.
-#[cycle(fields_end_type_end_type_parts_types_end)]
+#[cycle(types)]
 fn types_end(pool: &[u8], table: &[u32], q: u32, s: &[u32], at: usize, n: u32, deep: usize) -> Ended
     requires { Good pool.now table.now }
     ensures { Ends (GoodTys pool.now table.now q s.now deep at n) result }
@@ -376,7 +376,7 @@ fn types_end(pool: &[u8], table: &[u32], q: u32, s: &[u32], at: usize, n: u32, d
 }
 
 // Where n fields end that follow the field b.
-#[cycle(fields_end_type_end_type_parts_types_end)]
+#[cycle(types)]
 fn fields_end(
     pool: &[u8],
     table: &[u32],

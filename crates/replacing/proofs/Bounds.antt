@@ -1,4 +1,4 @@
--- A bound type as a product, arm by arm. Assumes nothing.
+-- A bound type as a product, arm by arm.
 use mathlib.Core.Path.{◌≡◌, refl, sym, ap, ◌∙◌}
 use mathlib.Core.List.{List, [], ◌∷◌}
 use Prim.Native.Nat.{ℕ, ◌+◌, ◌≤◌, ◌/◌}

@@ -1,4 +1,4 @@
--- Steps of a walk, one after another, and the room that is left. Assumes nothing.
+-- Steps of a walk, one after another, and the room that is left.
 use mathlib.Core.Path.{◌≡◌, refl, sym, ap, subst, ◌∙◌}
 use mathlib.Core.List.{List, [], ◌∷◌, ◌++◌}
 use Prim.Native.Nat.{ℕ, ◌+◌, ◌-◌, ◌*◌, ◌/◌, ◌≤◌}

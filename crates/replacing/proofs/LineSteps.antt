@@ -1,4 +1,4 @@
--- Replacing in a constraint or a binding, arm by arm, and line after line. Assumes nothing.
+-- Replacing in a constraint or a binding, arm by arm, and line after line.
 use mathlib.Core.Path.{◌≡◌, refl, sym, ap, subst, ◌∙◌}
 use mathlib.Core.Bool.{false}
 use mathlib.Core.List.{List, [], ◌∷◌, ◌++◌, append-nil}

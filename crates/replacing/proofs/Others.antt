@@ -1,4 +1,4 @@
--- The other arms of a match on a view: it has none of the tags that came before. Assumes nothing.
+-- The other arms of a match on a view: it has none of the tags that came before.
 use mathlib.Core.Path.{◌≡◌, subst}
 use mathlib.Core.Bool.{not}
 use mathlib.Core.List.{List, [], ◌∷◌}

@@ -1,4 +1,4 @@
--- What is written of an open name, of a product that was made and of a dimension. Assumes nothing.
+-- What is written of an open name, of a product that was made and of a dimension.
 use mathlib.Core.Path.{◌≡◌, refl, sym, ap, ◌∙◌}
 use mathlib.Core.Bool.{Bool}
 use mathlib.Core.List.{List, [], ◌∷◌}

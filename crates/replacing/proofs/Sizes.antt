@@ -1,4 +1,4 @@
--- The sizes of what replacing makes. Assumes nothing.
+-- The sizes of what replacing makes.
 use mathlib.Core.Path.{◌≡◌, refl, ap}
 use mathlib.Core.Bool.{Bool, true, ◌&&◌, and-eq-true_iff}
 use mathlib.Core.List.{List}

@@ -1,4 +1,4 @@
--- The replacing pair, arm by arm: what each arm leaves, and what each call asks. Assumes nothing.
+-- The replacing pair, arm by arm: what each arm leaves, and what each call asks.
 use mathlib.Core.Path.{◌≡◌, refl, sym, ap, subst, ◌∙◌}
 use mathlib.Core.Bool.{Bool, true, false}
 use mathlib.Core.List.{List, [], ◌∷◌, ◌++◌}

@@ -1,4 +1,4 @@
--- A product that is one variable to the power 1. Assumes nothing.
+-- A product that is one variable to the power 1.
 use Rattle.std.specs.Prelude.{◌≡◌, Bool, ℕ, eqb, drop}
 use Rattle.std.proofs.Math.Path.{refl}
 use Rattle.std.proofs.Common.{sym, ap, ◌∙◌, arith}

@@ -1,4 +1,4 @@
--- Lines without quantified variables: how deep they are nested, and where they end. Assumes nothing.
+-- Lines without quantified variables: how deep they are nested, and where they end.
 use Rattle.std.specs.Prelude.{◌≡◌, refl, Bool, true, ℕ, ◌+◌, ◌≤◌, ◌<◌, max}
 use Rattle.std.proofs.Math.Path.{sym, ap}
 use Rattle.std.proofs.Common.{ap₂, subst, ◌∙◌, arith}

@@ -1,4 +1,4 @@
--- What was given as words is held as the walks ask: a type, a run of bindings, the lines of a set. Assumes nothing.
+-- What was given as words is held as the walks ask: a type, a run of bindings, the lines of a set.
 use Rattle.std.specs.Prelude.{◌≡◌, Bool, true, ℕ, ◌+◌, ◌/◌, ◌≤◌, length}
 use Rattle.std.proofs.Math.Path.{refl, sym, subst}
 use Rattle.std.proofs.Common.{◌∙◌, add-zero, arith}

@@ -1,4 +1,4 @@
--- Replacing in a product, factor by factor. Assumes nothing.
+-- Replacing in a product, factor by factor.
 use Rattle.std.proofs.Math.Path.{◌≡◌, refl, sym, ap}
 use Rattle.std.proofs.Common.{◌∙◌}
 use Rattle.std.specs.Prelude.{true, ℕ, ◌+◌, ◌≤◌, ◌<◌}

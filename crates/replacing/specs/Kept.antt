@@ -1,4 +1,4 @@
--- Lines without quantified variables: the walks take them, replacing keeps them so, and what is written of them is held. Assumes nothing.
+-- Lines without quantified variables: the walks take them, replacing keeps them so, and what is written of them is held.
 use Rattle.std.specs.Prelude.{◌≡◌, true, ℕ, ◌+◌, ◌*◌, ◌/◌, ◌≤◌, length}
 use Rattle.std.proofs.Math.Path.{refl}
 use Rattle.std.proofs.Math.Bool.{and-eq-true_iff}

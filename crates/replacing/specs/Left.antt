@@ -1,4 +1,4 @@
--- What the walks ask and what they leave. Assumes nothing: these are definitions.
+-- What the walks ask and what they leave.
 use Rattle.std.specs.Prelude.{◌≡◌, Bool, true, false, List, [], ◌∷◌, ℕ, suc, ◌+◌, ◌*◌, ◌-◌, ◌/◌, ◌≤◌, length}
 use Rattle.std.proofs.Math.Option.{get_or}
 use Rattle.std.proofs.lemmas.List.Edits.{sets}

@@ -1,4 +1,4 @@
--- A set of constraints, and a list of bindings, as lines; what is left in a buffer where it is short. Assumes nothing.
+-- A set of constraints, and a list of bindings, as lines; what is left in a buffer where it is short.
 use Rattle.std.specs.Prelude.{◌≡◌, true, ℕ, ◌+◌, ◌*◌, ◌≤◌}
 use Rattle.std.proofs.Math.Path.{refl, ap₂, subst}
 use Rattle.std.proofs.Common.{sym, ap, ◌∙◌, arith}

@@ -1,4 +1,4 @@
--- What open names become: a table of places, a word for each name, before a list of words in which the types stand. Assumes nothing.
+-- What open names become: a table of places, a word for each name, before a list of words in which the types stand.
 use Rattle.std.specs.Prelude.{◌≡◌, refl, cond, List, ℕ, ◌+◌, ◌-◌, ◌≤◌, ltb, get_or}
 use Rattle.std.proofs.Common.{sym, ap, subst, arith}
 use Rattle.std.proofs.Math.Option.{Option, none, some}

@@ -1,4 +1,4 @@
--- A run of bindings in a part of a list of words, and what a variable is bound to there. Assumes nothing.
+-- A run of bindings in a part of a list of words, and what a variable is bound to there.
 use Rattle.std.proofs.Math.Path.{◌≡◌, refl}
 use Rattle.std.proofs.Common.{sym, ap, subst, ◌∙◌, eq-eqb, ne_eqb}
 use Rattle.std.specs.Prelude.{Bool, true, false, eqb, length}

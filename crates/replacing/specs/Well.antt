@@ -1,5 +1,4 @@
 -- Well formed trees over a name table, and the places that hold them. An index may be any word: what holds with fewer quantified variables holds here.
--- Assumes nothing: these are definitions.
 use Rattle.std.specs.Prelude.{◌≡◌, true, List, ℕ, ◌+◌, ◌≤◌, length}
 use Rattle.std.proofs.Math.Option.{some}
 use Rattle.rules.specs.Base.{all}

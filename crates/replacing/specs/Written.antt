@@ -1,4 +1,4 @@
--- Lines that were written to a buffer are held there. Assumes nothing.
+-- Lines that were written to a buffer are held there.
 use Rattle.std.specs.Prelude.{◌≡◌, Bool, true, not, ◌&&◌, leb, eqb, length}
 use Rattle.std.proofs.Math.Path.{refl, ap₂}
 use Rattle.std.proofs.Common.{sym, ap, ◌∙◌, arith, leb-true}

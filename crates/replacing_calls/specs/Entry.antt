@@ -1,4 +1,4 @@
--- The checks of a list and its bindings past that of 10, and what is known where they are met. The list is a type or a set. Assumes nothing.
+-- The checks of a list and its bindings past that of 10, and what is known where they are met. The list is a type or a set.
 use Rattle.std.specs.Prelude.{◌≡◌, refl, Bool, false, ◌&&◌, List, [], ◌∷◌, ◌++◌, ℕ, ◌/◌, ◌≤◌, ◌<◌, length}
 use Rattle.std.proofs.Common.{sym}
 use Rattle.std.proofs.Math.Bool.{true}

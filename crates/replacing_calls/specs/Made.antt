@@ -1,4 +1,4 @@
--- What a call of replacing makes, from what its walk leaves in the work buffer. Assumes nothing.
+-- What a call of replacing makes, from what its walk leaves in the work buffer.
 use Rattle.std.specs.Prelude.{◌≡◌, Bool, true, false, ℕ, ◌+◌, ◌*◌, ◌/◌, ◌≤◌, leb, length, take, drop}
 use Rattle.std.proofs.Math.Path.{refl}
 use Rattle.std.proofs.Common.{sym, ap, subst, ◌∙◌, arith, take_at}

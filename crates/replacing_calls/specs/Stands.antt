@@ -1,4 +1,4 @@
--- What was written at the start of the work buffer is at most 2,048 records long and nested at most 64, or refused as 8. Assumes nothing.
+-- What was written at the start of the work buffer is at most 2,048 records long and nested at most 64, or refused as 8.
 use Rattle.std.specs.Prelude.{◌≡◌, Bool, true, false, List, ℕ, ◌≤◌, ◌<◌, leb}
 use Rattle.std.proofs.Common.{sym, ap, subst, ◌∙◌, arith, leb-true, le-leb}
 use Rattle.std.proofs.Math.Decide.{dec_le}

@@ -1,4 +1,4 @@
--- The calls past the check of 10: where their checks refuse, so do they; where these are met, they are what is made. Assumes nothing.
+-- The calls past the check of 10: where their checks refuse, so do they; where these are met, they are what is made.
 use Rattle.std.specs.Prelude.{◌≡◌, List, ◌++◌, ℕ, ◌+◌, ◌/◌, ◌≤◌, ◌<◌, replicate}
 use Rattle.std.proofs.Math.Path.{sym, ap}
 use Rattle.std.proofs.Common.{subst, ◌∙◌}

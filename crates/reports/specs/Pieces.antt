@@ -1,5 +1,4 @@
 -- The pieces of a report as they are put into a buffer, and how long they are.
--- Assumes nothing.
 use Rattle.std.specs.Prelude.{◌≡◌, refl, Bool, true, false, ◌&&◌, List, [], ◌∷◌, ◌++◌, map, ℕ, zero, suc, ◌+◌, ◌-◌, ◌≤◌, ◌<◌, min, eqb, leb, ltb, length, take, drop, get_or, replicate}
 use Rattle.std.proofs.Common.{sym, ap, ◌∙◌, append-nil, add-one, arith, leb-true, leb-false, length-append, length-take, length-drop, take-suc, take_all}
 use Rattle.std.proofs.lemmas.List.{map-append, length-map, length-replicate}

@@ -1,4 +1,4 @@
--- What the call answers, from what its parts leave behind. Assumes nothing.
+-- What the call answers, from what its parts leave behind.
 use Rattle.std.specs.Prelude.{◌≡◌, ◌&&◌, List, ℕ, ◌+◌, ◌/◌, ◌≤◌, length, take, drop}
 use Rattle.std.proofs.Common.{◌∙◌, arith, take_at}
 use borrow.Author.Tests.{leb-true}

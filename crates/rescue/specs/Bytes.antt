@@ -1,4 +1,4 @@
--- Bytes and words, both ways. Assumes nothing.
+-- Bytes and words, both ways.
 use Rattle.std.specs.Prelude.{◌≡◌, refl, List, [], ◌∷◌, ℕ, zero, suc, ◌/◌, ◌%◌, ◌<◌, length, get_or}
 use Rattle.std.proofs.Common.{ap, ap₂, arith}
 use Rattle.rules.specs.Writing.{words}

@@ -1,4 +1,4 @@
--- No rule refuses with 1: past the checks at entry, solving never answers 1. So it never answers 1 to what the rescue keeps. Assumes nothing.
+-- No rule refuses with 1: past the checks at entry, solving never answers 1. So it never answers 1 to what the rescue keeps.
 use Rattle.std.proofs.Math.Path.{◌≡◌, refl}
 use Rattle.std.proofs.Common.{ap}
 use Rattle.std.specs.Prelude.{Bool, true, false, ◌&&◌, leb, length}

@@ -1,4 +1,4 @@
--- W-212 of the call itself: every byte string within the limits is answered, no test of a set answers 1 to what is kept, and a good file comes out the same. Assumes nothing.
+-- W-212 of the call itself: every byte string within the limits is answered, no test of a set answers 1 to what is kept, and a good file comes out the same.
 use Rattle.std.specs.Prelude.{◌≡◌, List, ℕ, ◌/◌, ◌%◌, ◌≤◌}
 use Rattle.std.proofs.Math.Path.{ap}
 use Rattle.std.proofs.Common.{arith}

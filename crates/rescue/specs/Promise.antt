@@ -1,5 +1,5 @@
 -- What W-212 promises: kept and skipped account for every record, in order; what is kept is a well formed set; a good file comes out the same, with an
--- empty list; rescuing what was rescued changes nothing; every byte string is handled. Assumes nothing.
+-- empty list; rescuing what was rescued changes nothing; every byte string is handled.
 use Rattle.std.specs.Prelude.{◌≡◌, Bool, ◌&&◌, ltb, length}
 use Rattle.std.proofs.Math.Path.{refl, sym, ap, subst}
 use Rattle.std.proofs.Common.{ap₂, ◌∙◌, add-zero, arith, ltb-true, ltb-false, eq-eqb, length-append}

@@ -1,4 +1,4 @@
--- What the loops of the rescue leave to do. Assumes nothing.
+-- What the loops of the rescue leave to do.
 use Rattle.std.specs.Prelude.{◌≡◌, Bool, eqb, get_or, drop, set}
 use Rattle.std.proofs.Math.Path.{refl, sym, ap, ap₂}
 use Rattle.std.proofs.Common.{◌∙◌, add-zero, zero-add, add-one, arith, eq-eqb, ne_eqb, drop-cons}

@@ -1,4 +1,4 @@
--- The answers of the code as those of the rules, and what its parts leave behind. Assumes nothing: these are definitions.
+-- The answers of the code as those of the rules, and what its parts leave behind.
 use Rattle.std.specs.Prelude.{◌≡◌, List, ℕ, ◌+◌, ◌≤◌, length}
 use Rattle.std.proofs.lemmas.List.Edits.{sets}
 use Rattle.rules.specs.Base.{Got, got, refused}

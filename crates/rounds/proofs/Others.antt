@@ -1,4 +1,4 @@
--- The other arms of a match: the value has none of the tags that came before. Assumes nothing.
+-- The other arms of a match: the value has none of the tags that came before.
 use mathlib.Core.Path.{◌≡◌, subst}
 use mathlib.Core.List.{[], ◌∷◌}
 use denote.Enum.Declared

@@ -1,4 +1,4 @@
--- The types of a constraint, and where it ends. Assumes nothing.
+-- The types of a constraint, and where it ends.
 use Rattle.std.specs.Prelude.{◌≡◌, List, ℕ, suc, ◌+◌}
 use Rattle.std.proofs.Math.Path.{refl}
 use Rattle.std.proofs.Common.{arith}

@@ -1,4 +1,4 @@
--- A state stands in the first 8,192 words of a buffer, whatever lies behind. Assumes nothing.
+-- A state stands in the first 8,192 words of a buffer, whatever lies behind.
 use Rattle.std.specs.Prelude.{◌≡◌, List, ◌++◌, map, ℕ, ◌+◌, ◌*◌, ◌≤◌, length, take, drop}
 use Rattle.std.proofs.Common.{ap, ◌∙◌, arith, length-append, take-append-drop, take-take, length-take-le}
 use Rattle.std.proofs.Math.Option.{Option, none, some}

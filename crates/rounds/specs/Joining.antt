@@ -1,4 +1,4 @@
--- The other constraints, what is new, and the bindings, one after another. Assumes nothing.
+-- The other constraints, what is new, and the bindings, one after another.
 use Rattle.std.specs.Prelude.{◌≡◌, refl, false, List, [], ◌∷◌, ◌++◌, map, ℕ, ◌+◌, ◌*◌, ◌-◌, ◌≤◌, ◌<◌, length}
 use Rattle.std.proofs.Common.{ap, ◌∙◌, arith}
 use Rattle.std.proofs.lemmas.Bool.{lt-leb}

@@ -1,4 +1,4 @@
--- The limits of a state, and the turns that keep or pass them. Assumes nothing.
+-- The limits of a state, and the turns that keep or pass them.
 use Rattle.std.specs.Prelude.{◌≡◌, refl, Bool, true, false, ◌&&◌, List, map, ℕ, ◌+◌, ◌*◌, ◌-◌, ◌≤◌, ◌<◌, leb, length}
 use Rattle.std.proofs.Common.{sym, ap, subst, ◌∙◌, arith, le-leb, leb-true}
 use Rattle.std.proofs.Math.Option.{Option, none, some}

@@ -1,4 +1,4 @@
--- Lines that stand in a buffer: their words, and what copying and storing leave of them. Assumes nothing.
+-- Lines that stand in a buffer: their words, and what copying and storing leave of them.
 use Rattle.std.specs.Prelude.{◌≡◌, refl, Bool, true, ◌&&◌, ℕ, ◌+◌, ◌*◌, ◌/◌, ◌-◌, ◌≤◌, length}
 use Rattle.std.proofs.Common.{sym, ap, ◌∙◌, add-zero}
 use Rattle.std.proofs.Math.Path.{subst}

@@ -1,4 +1,4 @@
--- What a step wrote, by the answer of the code that tried the rules. Assumes nothing.
+-- What a step wrote, by the answer of the code that tried the rules.
 use Rattle.std.proofs.Math.Path.{◌≡◌, refl}
 use Rattle.std.proofs.Common.{sym, ap, subst, ◌∙◌, append-nil, inl, inr}
 use Rattle.std.specs.Prelude.{true, List, [], ◌∷◌, map, ℕ, suc, ◌+◌, ◌*◌, ◌-◌, ◌≤◌, length}

@@ -1,4 +1,4 @@
--- The first constraint to which a rule applies: what is left of the search. Assumes nothing.
+-- The first constraint to which a rule applies: what is left of the search.
 use Rattle.std.specs.Prelude.{◌≡◌}
 use Rattle.std.proofs.Math.Path.{refl, ap}
 use Rattle.std.proofs.Common.{sym, ◌∙◌}

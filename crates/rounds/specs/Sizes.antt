@@ -1,4 +1,4 @@
--- Replacing by types of at most 2,048 records makes at most 2,048 records of each. Assumes nothing.
+-- Replacing by types of at most 2,048 records makes at most 2,048 records of each.
 use Rattle.std.specs.Prelude.{◌≡◌, refl, Bool, true, ◌&&◌, ℕ, suc, ◌*◌, ◌≤◌, length}
 use mathlib.Core.List.{List, [], ◌∷◌}
 use Rattle.std.proofs.Math.Option.{Option, none, some, get_or}

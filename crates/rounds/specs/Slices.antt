@@ -1,4 +1,4 @@
--- Parts of a list after a run of stores. Assumes nothing.
+-- Parts of a list after a run of stores.
 use Rattle.std.specs.Prelude.{◌≡◌, refl, List, [], ◌∷◌, ◌++◌, ℕ, suc, ◌+◌, ◌-◌, ◌≤◌, length, take, drop, set}
 use Rattle.std.proofs.Common.{sym, ap, ◌∙◌, append_assoc, arith, take-append-drop, drop-set-lt, take-add, take-take, take_at, drop_at, length-take-le}
 use Rattle.std.proofs.lemmas.List.Edits.{sets, sets-eq}

@@ -1,4 +1,4 @@
--- A state that stands in a buffer, and what a round leaves there. Assumes nothing: these are definitions.
+-- A state that stands in a buffer, and what a round leaves there.
 use Rattle.std.specs.Prelude.{◌≡◌, List, map, ℕ, ◌≤◌}
 use Rattle.std.proofs.Math.Option.{Option, none, some}
 use Rattle.rules.specs.Base.{Got, got, refused}

@@ -1,4 +1,4 @@
--- The rules 4 to 8, each with what its case knows. Assumes nothing.
+-- The rules 4 to 8, each with what its case knows.
 use mathlib.Core.Path.{◌≡◌, refl, sym, ap, ap₂, subst, ◌∙◌}
 use mathlib.Core.Bool.{Bool, true, false, ◌&&◌}
 use mathlib.Core.List.{List, [], ◌∷◌, append-nil}

@@ -1,4 +1,4 @@
--- The rules for constraints other than equalities, each with what its case knows. Assumes nothing.
+-- The rules for constraints other than equalities, each with what its case knows.
 use mathlib.Core.Path.{◌≡◌, refl, sym, ap, ap₂, subst, ◌∙◌}
 use mathlib.Core.Bool.{Bool, true, false}
 use mathlib.Core.List.{List, [], ◌∷◌, map}

@@ -1,4 +1,4 @@
--- Records put one after another, rules that are tried one after another, and types seen from outside. Assumes nothing.
+-- Records put one after another, rules that are tried one after another, and types seen from outside.
 use mathlib.Core.Path.{◌≡◌, refl, sym, ap, subst, ◌∙◌}
 use mathlib.Core.Bool.{true, false, not}
 use mathlib.Core.List.{List, [], ◌∷◌, ◌++◌, append-nil}

@@ -1,4 +1,4 @@
--- What the parts of trying the rules ask and leave. Assumes nothing: these are definitions.
+-- What the parts of trying the rules ask and leave.
 use Rattle.std.specs.Prelude.{◌≡◌, true, List, [], ◌∷◌, map, ℕ, ◌+◌, ◌*◌, ◌-◌, ◌/◌, ◌≤◌, ◌<◌, length}
 use Rattle.std.proofs.Math.Option.{Option, none, some}
 use Rattle.std.proofs.lemmas.List.Edits.{sets}

@@ -1,4 +1,4 @@
--- A constraint that a place holds, and what trying the rules on it leaves. Assumes nothing: these are definitions.
+-- A constraint that a place holds, and what trying the rules on it leaves.
 use Rattle.std.specs.Prelude.{◌≡◌, true, List, ℕ, ◌+◌, ◌*◌}
 use Rattle.std.proofs.lemmas.List.Edits.{sets}
 use Rattle.rules.specs.Base.{Got, got, refused, collect, sum_of}

@@ -1,5 +1,5 @@
 -- What each call by its number comes to (docs/SERVE.md): the call's own definition of the rules on the words that were given, what is told of it in words,
--- and what all that is lent holds then. Assumes nothing: these are definitions.
+-- and what all that is lent holds then.
 use Rattle.std.specs.Prelude.{ℕ, zero, suc, List, [], ◌∷◌, ◌++◌, map, length, take, drop, ◌==◌}
 use Rattle.std.proofs.lemmas.List.Edits.{sets}
 use Rattle.rules.specs.Base.{Got, got, refused, collect}

@@ -1,4 +1,4 @@
--- Lists copied to the front of a buffer, as far as it goes. Assumes nothing.
+-- Lists copied to the front of a buffer, as far as it goes.
 use Rattle.std.specs.Prelude.{◌≡◌, ℕ, ◌+◌, ◌%◌, ◌<◌, ◌≤◌, List, length, drop, slice_index, slice_set}
 use Rattle.std.proofs.Common.{sym, ap, ◌∙◌, add-one, drop_of_length-le, drop-cons}
 use Rattle.std.proofs.lemmas.List.Edits.{sets}

@@ -1,4 +1,4 @@
--- The words of a request as what the calls take: exponents, products, names' bytes, the judge's entries. Assumes nothing: these are definitions.
+-- The words of a request as what the calls take: exponents, products, names' bytes, the judge's entries.
 use Rattle.std.specs.Prelude.{ℕ, zero, suc, ◌+◌, ◌*◌, ◌/◌, List, [], ◌∷◌, map, length, take, nat_lt, slice_index}
 use Rattle.rules.specs.Exponents.{Exp, frac}
 use Rattle.rules.specs.Names.{Bytes}

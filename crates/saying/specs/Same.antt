@@ -1,4 +1,4 @@
--- Is a list one word again and again? Assumes nothing.
+-- Is a list one word again and again?
 use Rattle.std.specs.Prelude.{◌≡◌, ℕ, ◌+◌, ◌<◌, ◌≤◌, Bool, true, false, List, [], ◌∷◌, length, drop, ◌==◌, slice_index}
 use Rattle.std.proofs.Common.{add-one, drop_of_length-le}
 use Rattle.std.proofs.Math.Seq.{drop-cons}

@@ -1,5 +1,4 @@
 -- Hex digits as the code tells them.
--- Assumes nothing.
 use Rattle.std.specs.Prelude.{◌≡◌, refl, Bool, true, false, ℕ, ◌-◌, ◌<◌, leb}
 use Rattle.std.proofs.Common.{sym, arith, leb-true}
 use Rattle.std.proofs.Math.Option.{Option, none, some}

@@ -1,5 +1,4 @@
 -- Digits read one by one, and their number with a cap on it.
--- Assumes nothing.
 use Rattle.std.specs.Prelude.{◌≡◌, refl, Bool, true, false, ℕ, suc, ◌+◌, ◌-◌, ◌*◌, ◌≤◌, ◌<◌, min, ltb, length, drop, get_or}
 use Rattle.std.proofs.Common.{◌∙◌, add-one, arith, ltb-true, ltb-false, drop_of_length-le, drop-cons}
 use Rattle.rules.specs.Names.{Bytes}

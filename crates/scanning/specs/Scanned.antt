@@ -1,5 +1,4 @@
 -- What scanning a line says, by places that count from 0.
--- Assumes nothing.
 use Rattle.std.specs.Prelude.{◌≡◌, true, false, [], length, drop, get_or}
 use Rattle.std.proofs.Common.{sym, ap, ◌∙◌, arith, eq-eqb, ne_eqb, drop_of_length-le, drop-cons}
 use Rattle.std.proofs.Math.Option.{none, some}

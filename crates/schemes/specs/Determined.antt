@@ -1,4 +1,4 @@
--- Two results that the contract of a call allows coincide: the answer, and both buffers. Assumes nothing.
+-- Two results that the contract of a call allows coincide: the answer, and both buffers.
 use Rattle.std.specs.Prelude.{◌≡◌, List, ℕ}
 use Rattle.std.proofs.Common.{sym, ◌∙◌}
 use Rattle.rules.specs.Calls.{quantifyCall, generaliseCall, instantiateCall}

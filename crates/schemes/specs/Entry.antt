@@ -1,4 +1,4 @@
--- The checks of the calls on schemes: a first list, bounds, handed numbers, and 4 over the names of the first. Assumes nothing.
+-- The checks of the calls on schemes: a first list, bounds, handed numbers, and 4 over the names of the first.
 use Rattle.std.specs.Prelude.{◌≡◌, Bool, not, ◌&&◌, ltb, length, get_or, drop}
 use Rattle.std.proofs.Math.Path.{refl, sym, ap}
 use Rattle.std.proofs.Common.{◌∙◌, drop_of_length-le}

@@ -1,4 +1,4 @@
--- Generalising a concrete type is quantifying its sorted names in one walk; of the bounds those stay whose names are renamed. Assumes nothing.
+-- Generalising a concrete type is quantifying its sorted names in one walk; of the bounds those stay whose names are renamed.
 use Rattle.std.specs.Prelude.{◌≡◌, Bool, length}
 use Rattle.std.proofs.Math.Path.{refl, sym, ap}
 use Rattle.std.proofs.Common.{◌∙◌, arith}
@@ -19,7 +19,8 @@ use Rattle.rules.specs.Writing.{word_of, writeScheme}
 use Rattle.laws.specs.Lists.{All, in_head, is-yes, is-no}
 use Rattle.laws.specs.NameTable.{Good}
 use Rattle.products.specs.Held.{law}
-use Rattle.renaming.specs.InTurn.{first_of, all_of, quantify-once}
+use Rattle.renaming.specs.Places.{first_equal, all_of}
+use Rattle.renaming.proofs.InTurn.{quantify-once}
 use Rattle.handing.specs.Bounds.{Rename, orAll, allBounds}
 use Rattle.quantifying.specs.Ready.{quantifiedAs}
 use Rattle.schemes.specs.Whole.{tells, bind-twice}
@@ -38,14 +39,14 @@ module _ (ν : Names ℕ) where
       go (no f) = is-no (ν.same x y) (λ e. f (sym e))
 
   -- a name is among those that were handed exactly if it is renamed
-  among_first : (i : ℕ) (ns : List ℕ) (x : ℕ) → among ν x ns ≡ given (first_of ν i ns x)
-  unfolding among any first_of
+  among_first : (i : ℕ) (ns : List ℕ) (x : ℕ) → among ν x ns ≡ given (first_equal ν i ns x)
+  unfolding among any first_equal
   among_first i [] x = refl
   among_first i (n ∷ ns) x = go (is_yes (ν.same n x)) refl (among_first (suc i) ns x)
     where
-      go : (b : Bool) → is_yes (ν.same n x) ≡ b → among ν x ns ≡ given (first_of ν (suc i) ns x) → among ν x (n ∷ ns) ≡ given (first_of ν i (n ∷ ns) x)
-      go true j r = rw (same-turned x n, j, first_of)
-      go false j r = rw (same-turned x n, j, first_of) r
+      go : (b : Bool) → is_yes (ν.same n x) ≡ b → among ν x ns ≡ given (first_equal ν (suc i) ns x) → among ν x (n ∷ ns) ≡ given (first_equal ν i (n ∷ ns) x)
+      go true j r = rw (same-turned x n, j, first_equal)
+      go false j r = rw (same-turned x n, j, first_equal) r
 
   keep-more : (p : ℕ → Bool) (x : ℕ) (xs : List ℕ) (b : Bool) → p x ≡ b → keep p (x ∷ xs) ≡ elim b [ true ↦ x ∷ keep p xs | false ↦ keep p xs ]
   unfolding keep
@@ -59,11 +60,11 @@ module _ (ν : Names ℕ) where
     kept ws = renamedBounds f (map tree.var (keep (λ b. among ν b ns) ws))
 
     -- a bound that is renamed stays, another goes
-    one_kept : (o : tree.Open ℕ) (x : ℕ) (ws : List ℕ) (rest : List (tree.Open ℕ)) → kept ws ≡ rest → kept (x ∷ ws) ≡ orAll (first_of ν 0 ns x) false o ++ rest
+    one_kept : (o : tree.Open ℕ) (x : ℕ) (ws : List ℕ) (rest : List (tree.Open ℕ)) → kept ws ≡ rest → kept (x ∷ ws) ≡ orAll (first_equal ν 0 ns x) false o ++ rest
     unfolding renamedBounds all_of
-    one_kept o x ws rest r = go (first_of ν 0 ns x) refl
+    one_kept o x ws rest r = go (first_equal ν 0 ns x) refl
       where
-        go : (s : Option (tree.Open ℕ)) → first_of ν 0 ns x ≡ s → kept (x ∷ ws) ≡ orAll s false o ++ rest
+        go : (s : Option (tree.Open ℕ)) → first_equal ν 0 ns x ≡ s → kept (x ∷ ws) ≡ orAll s false o ++ rest
         go none i = ap (λ (l : List ℕ). renamedBounds f (map tree.var l)) (keep-more (λ b. among ν b ns) x ws false (among_first 0 ns x ∙ ap given i)) ∙ r
         go (some u) i = ap (λ (l : List ℕ). renamedBounds f (map tree.var l)) (keep-more (λ b. among ν b ns) x ws true (among_first 0 ns x ∙ ap given i)) ∙ rw i (ap (u ∷◌) r)
 

@@ -1,4 +1,4 @@
--- Generalising a scheme that was given: a concrete type by its sorted names, another scheme as it stands. Assumes nothing.
+-- Generalising a scheme that was given: a concrete type by its sorted names, another scheme as it stands.
 use Rattle.std.specs.Prelude.{◌≡◌, true, get_or, take, drop}
 use Rattle.std.proofs.Math.Path.{refl, sym, ap, subst}
 use Rattle.std.proofs.Common.{◌∙◌, zero-add}

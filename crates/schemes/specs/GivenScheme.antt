@@ -1,4 +1,4 @@
--- A scheme that was given: its open names are those of its type, and what the checks say of it. Assumes nothing.
+-- A scheme that was given: its open names are those of its type, and what the checks say of it.
 use Rattle.std.specs.Prelude.{◌≡◌, ℕ, ◌+◌, ◌-◌, ◌/◌, ◌≤◌}
 use Rattle.std.proofs.Math.Path.{refl, sym, ap}
 use Rattle.std.proofs.Common.{◌∙◌}

@@ -1,4 +1,4 @@
--- What instantiating makes of a scheme that was given. Assumes nothing.
+-- What instantiating makes of a scheme that was given.
 use Rattle.std.specs.Prelude.{◌≡◌, Bool, ℕ, ◌+◌, ◌/◌, ◌≤◌, length, get_or}
 use Rattle.std.proofs.Math.Path.{refl, ap}
 use Rattle.std.proofs.Common.{sym, subst, ◌∙◌, arith, lt-ltb, eqb-true}
@@ -20,8 +20,8 @@ use Rattle.laws.specs.Lists.{All}
 use Rattle.laws.specs.NameTable.{held-is}
 use Rattle.laws.specs.Weaker.{ty-weaker}
 use Rattle.products.specs.Held.{law}
-use Rattle.renaming.specs.Own.{own}
-use Rattle.renaming.specs.PutBack.{Back, put-back, put-back-twice}
+use Rattle.renaming.proofs.Own.{own}
+use Rattle.renaming.proofs.PutBack.{Back, put-back, put-back-twice}
 use Rattle.records.specs.Found.{Words32}
 use Rattle.records.specs.Good.{GoodTy, GoodScheme}
 use Rattle.records.specs.Holds.{Shows}

@@ -1,4 +1,4 @@
--- The calls on schemes past the check of 10: where their checks refuse, so do they; where these are met, they are what is made. Assumes nothing.
+-- The calls on schemes past the check of 10: where their checks refuse, so do they; where these are met, they are what is made.
 use Rattle.std.specs.Prelude.{◌≡◌, refl, true, ℕ, ◌+◌, ◌/◌, ◌≤◌, ◌<◌, get_or, replicate}
 use Rattle.std.proofs.Math.Path.{sym, ap}
 use Rattle.std.proofs.Common.{subst, ◌∙◌, arith, ltb-true}
@@ -25,7 +25,8 @@ use Rattle.laws.specs.Order.{Tells}
 use Rattle.names.specs.Told.{toldChecked}
 use Rattle.names.specs.declared.Checked.{Checked}
 use Rattle.products.specs.Held.{law}
-use Rattle.renaming.specs.InTurn.{all_of, quantify-once}
+use Rattle.renaming.specs.Places.{all_of}
+use Rattle.renaming.proofs.InTurn.{quantify-once}
 use Rattle.records.specs.Found.{Words32}
 use Rattle.records.specs.Given.{list-is}
 use Rattle.records.specs.Good.{Chain, goodOpen, GoodBound}

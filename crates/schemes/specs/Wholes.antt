@@ -1,4 +1,4 @@
--- Generalising and instantiating past the check of 10 are their checks, then what they make: one has no handed numbers, the other no bounds. Assumes nothing.
+-- Generalising and instantiating past the check of 10 are their checks, then what they make: one has no handed numbers, the other no bounds.
 use Rattle.std.specs.Prelude.{◌≡◌, refl, ℕ}
 use Rattle.std.proofs.Common.{sym, ◌∙◌}
 use Rattle.std.proofs.Math.Path.{ap}

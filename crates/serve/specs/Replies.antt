@@ -1,4 +1,4 @@
--- What an answer says beside the call's own words. Assumes nothing: these are definitions.
+-- What an answer says beside the call's own words.
 use Rattle.std.specs.Prelude.{Bool, List, ℕ, ◌+◌, drop}
 use Rattle.saying.specs.Saying.{pick}
 use Rattle.saying.specs.Same.{same}

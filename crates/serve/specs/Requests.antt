@@ -1,5 +1,4 @@
 -- The head of a request: sixteen words of four bytes, the lowest first; and what makes it a request that can be served.
--- Assumes nothing.
 use Rattle.std.specs.Prelude.{◌≡◌, refl, Bool, true, false, List, ℕ, ◌+◌, ◌*◌, ◌-◌, ◌/◌, ◌≤◌, ltb, eqb, length, get_or}
 use Rattle.std.proofs.Common.{arith, ltb-false}
 use Rattle.saying.specs.Saying.{pick}

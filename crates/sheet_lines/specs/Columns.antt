@@ -1,5 +1,4 @@
 -- The grammar stays in its line: every place it comes to, and every column it tells, is one of the line's or that of the line's end.
--- Assumes nothing.
 use Rattle.std.specs.Prelude.{◌≡◌, Bool, length}
 use Rattle.std.proofs.Math.Path.{refl}
 use Rattle.std.proofs.Math.Bool.{true, false}

@@ -1,5 +1,4 @@
 -- A list copied to the front of another, and a front put back.
--- Assumes nothing.
 use Rattle.std.specs.Prelude.{◌≡◌, List, ◌++◌, ℕ, suc, ◌+◌, ◌≤◌, ◌<◌, length, take, drop, set, get_or}
 use Rattle.std.proofs.Common.{sym, ap, ◌∙◌, append-nil, add-one, arith, take-append-drop, drop_of_length-le, length-take-le, take-suc, drop-cons}
 use Rattle.std.proofs.lemmas.List.{set_at}

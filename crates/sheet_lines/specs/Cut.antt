@@ -1,5 +1,4 @@
 -- Where a line of a text ends.
--- Assumes nothing.
 use Rattle.std.specs.Prelude.{◌≡◌, refl, List, [], ◌∷◌, ◌++◌, ℕ, suc, ◌+◌, ◌-◌, ◌≤◌, ◌<◌, length, take, drop, get_or}
 use Rattle.std.proofs.Common.{sym, ap, ◌∙◌, append-nil, add-one, arith, ne_eqb, take-append-drop, drop_of_length-le, length-take-le, take_at, take-suc, drop-cons}
 use Rattle.std.proofs.Math.Seq.{slice, slice_empty, length-slice}
@@ -8,7 +7,7 @@ use Rattle.rules.specs.Names.{Bytes}
 use Rattle.rules.specs.Grammar.{lines_of, inFront}
 use Rattle.laws.specs.Lists.{Every, every_append}
 use Rattle.sheets.specs.Lengths.{NotFeed}
-use Rattle.sheets.specs.Promise.{first-line}
+use Rattle.sheets.proofs.Promise.{first-line}
 
 -- the bytes from a place up to r
 abbrev pub line_at : Bytes → ℕ → ℕ → Bytes

@@ -1,5 +1,4 @@
 -- Every refusal of a line is told at a column of the line, or at its end.
--- Assumes nothing.
 use Rattle.std.specs.Prelude.{◌≡◌, Bool, ℕ, suc, ◌+◌, ◌≤◌, length}
 use Rattle.std.proofs.Math.Path.{refl}
 use Rattle.std.proofs.Common.{subst}

@@ -1,5 +1,4 @@
 -- A sheet read line after line: how far it is read, and how it ends.
--- Assumes nothing.
 use Rattle.std.specs.Prelude.{◌≡◌, refl, ℕ, suc, ◌+◌, ◌*◌, ◌≤◌, ◌<◌, drop}
 use Rattle.std.proofs.Common.{sym, ◌∙◌}
 use Rattle.std.proofs.Math.Path.{ap}
@@ -16,7 +15,7 @@ use Rattle.rules.specs.TextReading.{Sofar, Told, told, refusedAt, lineRead, shee
 use Rattle.laws.specs.Contents.{collect-append}
 use Rattle.laws.specs.Size.{words_append, words-length}
 use Rattle.records.specs.Stores.{sets-append}
-use Rattle.sheets.specs.Promise.{read-on}
+use Rattle.sheets.proofs.Promise.{read-on}
 use Rattle.sheet_lines.specs.Cut.{Cut, line_at}
 
 -- what a line did that is read: its constraints are told, and their records written behind those before

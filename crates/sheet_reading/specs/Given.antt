@@ -1,5 +1,4 @@
 -- A sheet whose buffers are long enough: what is answered, from what its parts did.
--- Assumes nothing.
 use Rattle.std.specs.Prelude.{◌≡◌, Bool, true, false, not, ℕ, ◌+◌, ◌*◌, ◌≤◌, length, take, drop}
 use Rattle.std.proofs.Common.{sym, ◌∙◌, zero-add, arith, take_at}
 use Rattle.std.proofs.Math.Path.{ap}

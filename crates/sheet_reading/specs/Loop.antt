@@ -1,5 +1,4 @@
 -- The loop over a sheet's lines, and what is put back where a line is refused.
--- Assumes nothing.
 use Rattle.std.specs.Prelude.{◌≡◌, refl, List, ℕ, suc, ◌+◌, ◌*◌, ◌≤◌, ◌<◌, length, take, drop}
 use Rattle.std.proofs.Common.{sym, ap, ◌∙◌, add-one, arith, length-take-le}
 use Rattle.std.proofs.lemmas.List.Edits.{sets}

@@ -1,5 +1,5 @@
 -- What each exported call leaves behind, from the outcome of the call behind it: the number that is returned, the lent words of the answer, and each
--- other buffer that is lent to be changed. Assumes nothing: these are definitions.
+-- other buffer that is lent to be changed.
 use Rattle.std.specs.Prelude.{Bool, List}
 use Prim.Native.Nat.{ℕ, Ordering}
 use Rattle.rules.specs.Base.{Got}

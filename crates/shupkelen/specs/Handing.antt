@@ -1,5 +1,4 @@
 -- From what the three calls of an exported function promise to what it promises: the call itself, its answer told in words, the words handed over.
--- Assumes nothing.
 use Rattle.std.specs.Prelude.{◌≡◌, refl, List, ℕ}
 use Rattle.std.proofs.Common.{ap, ◌∙◌}
 use Rattle.rules.specs.Base.{Got, got, refused}

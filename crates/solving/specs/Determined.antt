@@ -1,6 +1,5 @@
 -- The contract leaves no choice: two results that it allows coincide (`solve-determined`). And the answer has document 01's number of
 -- its outcome (`solve-numbered`): 5 where constraints remain.
--- Assumes nothing.
 use Rattle.std.specs.Prelude.{◌≡◌, refl, List, ℕ}
 use Rattle.std.proofs.Math.Path.{ap}
 use Rattle.std.proofs.Common.{ap₂, sym, ◌∙◌, arith}

@@ -1,4 +1,4 @@
--- The checks of a set past that of 10, and what is known where they are met; and the whole call. Assumes nothing.
+-- The checks of a set past that of 10, and what is known where they are met; and the whole call.
 use Rattle.std.specs.Prelude.{◌≡◌, Bool, false, ◌&&◌, ℕ, ◌+◌, ◌*◌, ◌/◌, ◌-◌, ◌≤◌, ◌<◌, leb, replicate}
 use Rattle.std.proofs.Math.Path.{refl, sym}
 use Rattle.std.proofs.Common.{◌∙◌, add-zero}
@@ -34,7 +34,7 @@ use Rattle.replacing.specs.Flat.{goodLine, PlainLines}
 use Rattle.replacing.specs.Given.{row, given-set}
 use Rattle.replacing.specs.LineRules.{con}
 use Rattle.replacing.specs.Runs.{HoldsAll}
-use Rattle.ending.specs.Sets.{Admitted}
+use Rattle.ending.proofs.Sets.{Admitted}
 use Rattle.rounds.specs.Lines.{copied}
 use Rattle.solving.specs.declared.Solution.{Solution}
 use Rattle.solving.specs.Told.{refusedAs, solutionAs, Answered}

@@ -1,4 +1,4 @@
--- Round after round: what is left to do is what solving answers. Assumes nothing.
+-- Round after round: what is left to do is what solving answers.
 use Rattle.std.proofs.Math.Path.{◌≡◌, refl, sym, ap, subst}
 use Rattle.std.proofs.Common.{◌∙◌, add-one, arith}
 use mathlib.Core.List.{List}
@@ -13,8 +13,8 @@ use Rattle.rules.specs.Trees.{Con}
 use Rattle.rules.specs.declared.Refusal.{Refusal}
 use Rattle.laws.specs.NameTable.{Good}
 use Rattle.records.specs.Good.{numbers, holding}
-use Rattle.ending.specs.Ending.{ends}
-use Rattle.ending.specs.Sets.{Admitted, start}
+use Rattle.ending.proofs.Ending.{ends}
+use Rattle.ending.proofs.Sets.{Admitted, start}
 use Rattle.rounds.specs.States.{StateHeld, Turned}
 use Rattle.rounds.specs.declared.inner.Turn.{Turn}
 use Rattle.rounds.specs.declared.inner.Turn.TheVariants.{Next, End, Stop}

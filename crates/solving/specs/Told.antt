@@ -1,4 +1,4 @@
--- The answer of solving with its two buffers as document 01 tells them. Assumes nothing: these are definitions.
+-- The answer of solving with its two buffers as document 01 tells them.
 use Rattle.std.specs.Prelude.{◌≡◌, List, ℕ}
 use Rattle.rules.specs.Base.{Got}
 use Rattle.rules.specs.Calls as calls

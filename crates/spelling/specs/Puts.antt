@@ -1,5 +1,4 @@
 -- Bytes put into a buffer, one run after another.
--- Assumes nothing.
 use Rattle.std.specs.Prelude.{◌≡◌, refl, true, false, List, [], ◌∷◌, ◌++◌, ℕ, zero, suc, ◌+◌, ◌-◌, ◌/◌, ◌%◌, ◌≤◌, ◌<◌, ℤ, length, set, take, get_or}
 use Rattle.std.proofs.Common.{sym, ap, ◌∙◌, append-nil, add-one, arith, lt-ltb, le-ltb, eq-eqb, ne_eqb, length-append, take-suc}
 use Rattle.std.proofs.lemmas.List.Edits.{sets}

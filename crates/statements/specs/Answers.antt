@@ -1,5 +1,4 @@
 -- What is answered for a line.
--- Assumes nothing.
 use Rattle.std.specs.Prelude.{◌≡◌, refl, List, ℕ}
 use Rattle.rules.specs.Names.{Bytes}
 use Rattle.rules.specs.Grammar.{column, signsAt}

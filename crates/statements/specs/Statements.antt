@@ -1,5 +1,4 @@
 -- A line by its parts: a constraint's record is counted at the line's first sign, and written when its types are there.
--- Assumes nothing.
 use Rattle.std.proofs.Math.Path.{◌≡◌, ap, ap₂, subst}
 use Rattle.std.specs.Prelude.{refl, Bool, true, false, ℕ, suc, ◌+◌, ◌≤◌, ◌<◌, eqb, length, get_or}
 use Rattle.std.proofs.Common.{sym, ◌∙◌, true≢false, arith, length-append, drop_of_length-le, drop-cons}

@@ -1,5 +1,4 @@
 -- Rules that from a place in a line never go behind a type nested 65 deep: signs, digits, powers.
--- Assumes nothing.
 use Rattle.std.specs.Prelude.{◌≡◌, refl, Bool, true, false, [], ◌∷◌, ℕ, suc, ◌+◌, ◌-◌, ◌*◌, eqb}
 use Rattle.std.proofs.Common.{sym, ap, ◌∙◌, arith}
 use Prim.Native.Char.{Char}

@@ -1,4 +1,4 @@
--- The contracts leave no choice: two results that one of them allows coincide; and each answer has the number of its outcome. Assumes nothing.
+-- The contracts leave no choice: two results that one of them allows coincide; and each answer has the number of its outcome.
 use Rattle.std.specs.Prelude.{◌≡◌, refl, List, ℕ}
 use Rattle.std.proofs.Common.{sym, ◌∙◌, arith}
 use Rattle.std.proofs.Math.Path.{ap}

@@ -1,5 +1,4 @@
 -- Constraints as they are put into a buffer, each with its line feed.
--- Assumes nothing.
 use Rattle.std.specs.Prelude.{◌≡◌, refl, Bool, ◌&&◌, ℕ, suc, ◌+◌, ◌-◌, ◌*◌, ◌/◌, ◌≤◌, ◌<◌, ◌^◌, length, get_or}
 use Rattle.std.proofs.Common.{sym, ◌∙◌, ltb-true}
 use Rattle.std.proofs.Math.Path.{ap, subst}

@@ -1,5 +1,4 @@
 -- The call that reads a sheet: 10, or what is answered past it.
--- Assumes nothing.
 use Rattle.std.specs.Prelude.{◌≡◌, refl, true, ◌&&◌, List, ℕ, ◌≤◌, leb, length}
 use Rattle.std.proofs.Math.Path.{sym, ap}
 use Rattle.std.proofs.Common.{◌∙◌, leb-true}

@@ -1,4 +1,4 @@
--- The answer of the code as that of the rules. Assumes nothing: these are definitions.
+-- The answer of the code as that of the rules.
 use Rattle.std.specs.Prelude.{List, ℕ}
 use Rattle.rules.specs.Base.{Got, got, refused}
 use Rattle.rules.specs.Refusals.{number_of}

@@ -1,4 +1,4 @@
--- What the call answers, from the lines that were put. Assumes nothing.
+-- What the call answers, from the lines that were put.
 use Rattle.std.specs.Prelude.{◌≡◌, Bool, false, ◌&&◌, ℕ, ◌+◌, ◌/◌, ◌≤◌, ◌<◌, drop}
 use Rattle.std.proofs.Math.Path.{refl}
 use Rattle.std.proofs.Common.{sym, ap, ◌∙◌, zero-add, arith}

@@ -223,7 +223,7 @@ fn past(s: &[u32], at: usize, n: usize) -> usize
 }
 
 // Puts the type at a place.
-#[cycle(write_fields_write_function_write_list_write_struct_write_type_write_types)]
+#[cycle(types)]
 pub fn write_type(
     pool: &[u8],
     table: &[u32],
@@ -250,7 +250,7 @@ pub fn write_type(
 }
 
 // Puts the list type at a place.
-#[cycle(write_fields_write_function_write_list_write_struct_write_type_write_types)]
+#[cycle(types)]
 fn write_list(pool: &[u8], table: &[u32], s: &[u32], at: usize, dst: &mut [u8], out: usize) -> usize
     requires good { Good pool.now table.now }
     requires says_list { SaysList s.now at }
@@ -263,7 +263,7 @@ fn write_list(pool: &[u8], table: &[u32], s: &[u32], at: usize, dst: &mut [u8], 
 }
 
 // Puts the n types from a place on, behind others or not.
-#[cycle(write_fields_write_function_write_list_write_struct_write_type_write_types)]
+#[cycle(types)]
 fn write_types(
     pool: &[u8],
     table: &[u32],
@@ -287,7 +287,7 @@ fn write_types(
 }
 
 // Puts the function type at a place, which has n parameters.
-#[cycle(write_fields_write_function_write_list_write_struct_write_type_write_types)]
+#[cycle(types)]
 fn write_function(
     pool: &[u8],
     table: &[u32],
@@ -310,7 +310,7 @@ fn write_function(
 }
 
 // Puts the structure x at a place, which has n parameters and m fields.
-#[cycle(write_fields_write_function_write_list_write_struct_write_type_write_types)]
+#[cycle(types)]
 fn write_struct(
     pool: &[u8],
     table: &[u32],
@@ -335,7 +335,7 @@ fn write_struct(
 }
 
 // Puts the n fields from a place on, behind others or not.
-#[cycle(write_fields_write_function_write_list_write_struct_write_type_write_types)]
+#[cycle(types)]
 fn write_fields(
     pool: &[u8],
     table: &[u32],

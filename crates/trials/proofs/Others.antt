@@ -1,4 +1,4 @@
--- The other arm of a match on a verdict. Assumes nothing.
+-- The other arm of a match on a verdict.
 use mathlib.Core.Path.{◌≡◌, subst}
 use mathlib.Core.List.{[], ◌∷◌}
 use denote.Enum.Declared

@@ -1,4 +1,4 @@
--- One constraint after another: bindings put in, measured, tested. Assumes nothing.
+-- One constraint after another: bindings put in, measured, tested.
 use Rattle.std.specs.Prelude.{◌≡◌, Bool, false, ℕ, ◌+◌, ◌/◌, ◌≤◌, ◌<◌, leb, eqb, length}
 use Rattle.std.proofs.Math.Path.{refl, sym, ap, subst}
 use Rattle.std.proofs.Common.{◌∙◌}

@@ -1,5 +1,4 @@
 -- Which report is told, by the answer's words and the verdict: it is that of the finding.
--- Assumes nothing.
 use Rattle.std.specs.Prelude.{◌≡◌, Bool, List, ℕ, ◌+◌, ◌≤◌, ◌<◌, ◌^◌, length}
 use Rattle.std.proofs.Common.{arith}
 use Rattle.rules.specs.Base.{Got, got, refused, bounded}

@@ -1,4 +1,4 @@
--- A number that is held has its name where the table says; of any other nothing is said. Assumes nothing.
+-- A number that is held has its name where the table says; of any other nothing is said.
 use Rattle.std.proofs.Math.Path.{◌≡◌, refl}
 use Rattle.std.proofs.Common.{sym, ap, ◌∙◌, arith}
 use Rattle.std.specs.Prelude.{Bool, List, [], ℕ, zero, suc, ◌<◌, length}

@@ -1,5 +1,5 @@
 -- What a caller in another language is given: the refusal's number is returned, and what is said goes as words to the front of a lent list.
--- The answers of calls that the program `serve` doesn't have are told here; those of the others in `saying`. Assumes nothing: these are definitions.
+-- The answers of calls that the program `serve` doesn't have are told here; those of the others in `saying`.
 use Rattle.std.specs.Prelude.{List, [], ◌∷◌, ℕ, length}
 use Rattle.std.proofs.lemmas.List.Edits.{sets}
 use Rattle.rules.specs.Base.{Got, got, refused}

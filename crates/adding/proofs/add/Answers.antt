@@ -1,4 +1,4 @@
--- `add` meets its contract. Assumes nothing.
+-- `add` meets its contract.
 use mathlib.Core.Path.{◌≡◌, sym, ap, ◌∙◌}
 use Rattle.rules.specs.Base.{got}
 use Rattle.names.specs.Told.{toldChecked}

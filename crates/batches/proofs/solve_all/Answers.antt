@@ -1,4 +1,4 @@
--- `solve_all` meets its contract. Assumes nothing.
+-- `solve_all` meets its contract.
 use mathlib.Core.Path.{◌≡◌, refl, sym, ap, ◌∙◌}
 use Rattle.rules.specs.Base.{got}
 use Rattle.names.specs.Told.{toldChecked}

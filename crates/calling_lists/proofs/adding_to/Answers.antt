@@ -1,4 +1,4 @@
--- `adding_to` meets its contract. Assumes nothing.
+-- `adding_to` meets its contract.
 use mathlib.Core.Path.{◌≡◌, ap, ◌∙◌}
 use lib.ListN.{length}
 use Prim.Native.Nat.{ℕ}

@@ -1,4 +1,4 @@
--- `lent_told` meets its contract. Assumes nothing.
+-- `lent_told` meets its contract.
 use mathlib.Core.Path.{ap, sym, ◌∙◌}
 use mathlib.Core.Bool.{Bool}
 use Rattle.rules.specs.Base.{need}

@@ -1,4 +1,4 @@
--- `listed` meets its contract: by the number. Assumes nothing.
+-- `listed` meets its contract: by the number.
 use borrow.Author.Tests.{ne_eqb}
 use Rattle.calling_lists.specs.Arms.{list-19, list-20, list-21, list-22, list-23, list-24, list-25, list-26, list-27}
 use Rattle.calling_lists.specs.Arms.{list-looks}

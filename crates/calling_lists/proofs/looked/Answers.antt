@@ -1,4 +1,4 @@
--- `looked` meets its contract: by the number. Assumes nothing.
+-- `looked` meets its contract: by the number.
 use borrow.Author.Tests.{ne_eqb}
 use Rattle.calling_lists.specs.Arms.{look-1, look-13, look-14, look-15, look-16, look-17, look-18}
 use Rattle.calling_lists.proofs.looked.Goals as goal

@@ -1,4 +1,4 @@
--- `exponent` meets its contract: by the number. Assumes nothing.
+-- `exponent` meets its contract: by the number.
 use borrow.Author.Tests.{ne_eqb}
 use Rattle.calling_values.specs.Arms.{exponent-5, exponent-6, exponent-7, exponent-8}
 use Rattle.calling_values.proofs.exponent.Goals as goal

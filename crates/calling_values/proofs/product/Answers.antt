@@ -1,4 +1,4 @@
--- `product` meets its contract: by the number. Assumes nothing.
+-- `product` meets its contract: by the number.
 use borrow.Author.Tests.{ne_eqb}
 use Rattle.calling_values.specs.Arms.{product-9, product-10, product-11, product-12}
 use Rattle.calling_values.proofs.product.Goals as goal

@@ -1,5 +1,4 @@
 -- `calls_run::run` is safe and ends: the next line starts further on.
--- Assumes nothing.
 use native.Mathlib.Omega.{arith}
 use Rattle.cases.specs.Steps.{line-moves}
 use Rattle.calls_run.proofs.run.Goals as goal

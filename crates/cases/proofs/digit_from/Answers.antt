@@ -1,5 +1,4 @@
 -- `cases::digit_from` meets its contract. The invariant: what is left from i on decides.
--- Assumes nothing.
 use Rattle.std.proofs.Common.{sym, refl, ◌∙◌, rules}
 use Rattle.cases.specs.Steps.{place_end, place_here, place-on}
 use Rattle.cases.proofs.digit_from.Goals as goal

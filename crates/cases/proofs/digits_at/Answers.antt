@@ -1,5 +1,4 @@
 -- `cases::digits_at` meets its contract. The invariant: what is left from i on, put to the word, decides.
--- Assumes nothing.
 use Rattle.std.proofs.Common.{ℕ, ◌+◌, drop, sym, refl, ap, ◌∙◌, rules}
 use Rattle.cases.specs.Text.{digits}
 use Rattle.cases.specs.Steps.{digit_low, digits-end, digits-stop, digits-on}

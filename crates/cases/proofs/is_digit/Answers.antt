@@ -1,5 +1,4 @@
 -- `cases::is_digit` meets its contract.
--- Assumes nothing.
 use Rattle.std.proofs.Common.{le-ltb, lt-ltb}
 use Rattle.cases.proofs.is_digit.Goals as goal
 

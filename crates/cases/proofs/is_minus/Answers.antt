@@ -1,5 +1,4 @@
 -- `cases::is_minus` meets its contract.
--- Assumes nothing.
 use Rattle.std.proofs.Common.{◌-◌, arith, eq-eqb, ne_eqb}
 use lib.ListN.{get_or-eq_default}
 use Rattle.cases.proofs.is_minus.Goals as goal

@@ -1,5 +1,4 @@
 -- `cases::more` meets its contract.
--- Assumes nothing.
 use Rattle.std.proofs.Common.{le-ltb, lt-ltb}
 use Rattle.cases.proofs.more.Goals as goal
 

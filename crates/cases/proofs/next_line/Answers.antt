@@ -1,5 +1,4 @@
 -- `cases::next_line` meets its contract. The invariant: what is left from i on decides.
--- Assumes nothing.
 use Rattle.std.proofs.Common.{sym, refl, ◌∙◌, rules, eq-eqb, ne_eqb}
 use Rattle.cases.specs.Steps.{line-end, line-here, line_on}
 use Rattle.cases.proofs.next_line.Goals as goal

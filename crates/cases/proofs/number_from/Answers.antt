@@ -1,5 +1,4 @@
 -- `cases::number_from` meets its contract.
--- Assumes nothing.
 use Rattle.std.proofs.Common.{◌≡◌, ◌-◌, ◌%◌, rules}
 use Rattle.cases.specs.Steps.{wrapped}
 use Rattle.cases.proofs.number_from.Goals as goal

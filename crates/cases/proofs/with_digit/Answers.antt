@@ -1,5 +1,4 @@
 -- `cases::with_digit` meets its contract.
--- Assumes nothing.
 use Rattle.cases.proofs.with_digit.Goals as goal
 
 pub returns : goal.returns

@@ -1,4 +1,4 @@
--- `ceiling` meets its contract: by what the count says. Assumes nothing.
+-- `ceiling` meets its contract: by what the count says.
 use mathlib.Core.Path.{sym, ap, ◌∙◌}
 use Rattle.rules.specs.Base.{got}
 use Rattle.names.specs.Told.{toldChecked}

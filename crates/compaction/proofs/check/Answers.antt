@@ -1,4 +1,4 @@
--- `check` meets its contract. Assumes nothing.
+-- `check` meets its contract.
 use mathlib.Core.Path.{sym, ap, ◌∙◌}
 use mathlib.Core.Bool.{Bool, not}
 use Rattle.rules.specs.Base.{need}

@@ -1,4 +1,4 @@
--- `compact` meets its contract. Assumes nothing.
+-- `compact` meets its contract.
 use native.Mathlib.Omega.{arith}
 use mathlib.Core.Path.{refl, sym, ap, ◌∙◌}
 use Rattle.names.specs.Told.{toldChecked}

@@ -1,4 +1,4 @@
--- `eliminate` meets its contract. Assumes nothing.
+-- `eliminate` meets its contract.
 use mathlib.Core.Path.{refl}
 use Rattle.lending.specs.Lent.{Long, long, short}
 use Rattle.eliminating.specs.Entry.{call-short, called}

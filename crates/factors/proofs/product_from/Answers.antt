@@ -1,4 +1,4 @@
--- `product_from` meets its contract. Assumes nothing.
+-- `product_from` meets its contract.
 use mathlib.Core.Path.{refl, ◌∙◌}
 use native.Mathlib.Omega.{arith}
 use lib.ListN.{length-set}

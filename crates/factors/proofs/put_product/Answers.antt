@@ -1,4 +1,4 @@
--- `put_product` meets its contract. Assumes nothing.
+-- `put_product` meets its contract.
 use mathlib.Core.Path.{refl, ap, ◌∙◌}
 use Prim.Native.Nat.{ℕ}
 use Rattle.products.specs.Told.{told, given}

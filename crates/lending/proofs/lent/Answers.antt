@@ -1,4 +1,4 @@
--- `lent` meets its contract. Assumes nothing.
+-- `lent` meets its contract.
 use Rattle.lending.specs.Lent.{short-pool, short-table, short-result, long_rest}
 use Rattle.lending.proofs.lent.Goals as goal
 

@@ -1,4 +1,4 @@
--- `check_line` meets its contract. Assumes nothing.
+-- `check_line` meets its contract.
 use mathlib.Core.Path.{sym, ap, ◌∙◌}
 use mathlib.Core.Bool.{Bool}
 use Rattle.rules.specs.Base.{need}

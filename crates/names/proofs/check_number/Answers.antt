@@ -1,4 +1,4 @@
--- `names::check_number` meets its contract: each return is a case of the definition. Assumes nothing.
+-- `names::check_number` meets its contract: each return is a case of the definition.
 use mathlib.Core.Path.{◌≡◌, sym, ◌∙◌}
 use mathlib.Core.Bool.{true, false}
 use mathlib.Core.List.{List}

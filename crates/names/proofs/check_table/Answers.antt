@@ -1,4 +1,4 @@
--- `names::check_table` meets its contract: each return is a case of the definition. Assumes nothing.
+-- `names::check_table` meets its contract: each return is a case of the definition.
 use mathlib.Core.Path.{sym, ◌∙◌}
 use borrow.Author.Tests.{le-leb, lt-leb}
 use Rattle.rules.specs.Names.{lentTable, tableGiven}

@@ -1,4 +1,4 @@
--- `names::compare` meets its contract. The invariant: what is left from i on decides. Assumes nothing.
+-- `names::compare` meets its contract. The invariant: what is left from i on decides.
 use mathlib.Core.Path.{◌≡◌, refl, sym, ◌∙◌}
 use mathlib.Core.List.{List}
 use Prim.Native.Nat.{Ordering}

@@ -1,4 +1,4 @@
--- `names::enter` meets its contract: the checks of pool and table, then the work. Assumes nothing.
+-- `names::enter` meets its contract: the checks of pool and table, then the work.
 use mathlib.Core.Path.{◌≡◌, sym, ◌∙◌}
 use mathlib.Core.Bool.{◌&&◌}
 use mathlib.Core.List.{List}

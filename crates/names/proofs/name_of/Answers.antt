@@ -1,4 +1,4 @@
--- `names::name_of` meets its contract: a number that passed has a name, and a refusal gives the empty part. Assumes nothing.
+-- `names::name_of` meets its contract: a number that passed has a name, and a refusal gives the empty part.
 use mathlib.Core.Path.{◌≡◌, refl, subst}
 use mathlib.Core.Bool.{Bool, true, false}
 use mathlib.Core.List.{List, []}

@@ -1,4 +1,4 @@
--- `judge_pairs` meets its contract: the judge's own work is done on slots, which the pairs give. Assumes nothing.
+-- `judge_pairs` meets its contract: the judge's own work is done on slots, which the pairs give.
 use Rattle.pairs.specs.Pairs.{entriesIn}
 use Rattle.pairs.specs.Turns.{count}
 use Rattle.pairs.proofs.judge_pairs.Goals as goal

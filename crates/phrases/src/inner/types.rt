@@ -36,7 +36,7 @@ pub struct Member {
 }
 
 // The type that begins here, and its records.
-#[cycle(enter_arguments_enter_field_enter_fields_enter_function_enter_list_enter_members_enter_params_enter_structure_enter_type_enter_types)]
+#[cycle(types)]
 pub fn enter_type(
     line: &[u8],
     p: Point,
@@ -67,7 +67,7 @@ pub fn enter_type(
 }
 
 // A list of types nested at most d deep.
-#[cycle(enter_arguments_enter_field_enter_fields_enter_function_enter_list_enter_members_enter_params_enter_structure_enter_type_enter_types)]
+#[cycle(types)]
 fn enter_list(
     line: &[u8],
     p: Point,
@@ -93,7 +93,7 @@ fn enter_list(
 }
 
 // A function from and to types nested at most d deep.
-#[cycle(enter_arguments_enter_field_enter_fields_enter_function_enter_list_enter_members_enter_params_enter_structure_enter_type_enter_types)]
+#[cycle(types)]
 fn enter_function(
     line: &[u8],
     p: Point,
@@ -125,7 +125,7 @@ fn enter_function(
 }
 
 // The parameters of a function, if it has any.
-#[cycle(enter_arguments_enter_field_enter_fields_enter_function_enter_list_enter_members_enter_params_enter_structure_enter_type_enter_types)]
+#[cycle(types)]
 fn enter_params(
     line: &[u8],
     p: Point,
@@ -149,7 +149,7 @@ fn enter_params(
 }
 
 // One type or more, each further one behind a comma.
-#[cycle(enter_arguments_enter_field_enter_fields_enter_function_enter_list_enter_members_enter_params_enter_structure_enter_type_enter_types)]
+#[cycle(types)]
 fn enter_types(
     line: &[u8],
     p: Point,
@@ -181,7 +181,7 @@ fn enter_types(
 }
 
 // A structure with arguments and fields nested at most d deep.
-#[cycle(enter_arguments_enter_field_enter_fields_enter_function_enter_list_enter_members_enter_params_enter_structure_enter_type_enter_types)]
+#[cycle(types)]
 fn enter_structure(
     line: &[u8],
     p: Point,
@@ -211,7 +211,7 @@ fn enter_structure(
 }
 
 // The arguments of a structure, if it has any.
-#[cycle(enter_arguments_enter_field_enter_fields_enter_function_enter_list_enter_members_enter_params_enter_structure_enter_type_enter_types)]
+#[cycle(types)]
 fn enter_arguments(
     line: &[u8],
     p: Point,
@@ -243,7 +243,7 @@ fn enter_arguments(
 }
 
 // The fields of a structure, if it has any.
-#[cycle(enter_arguments_enter_field_enter_fields_enter_function_enter_list_enter_members_enter_params_enter_structure_enter_type_enter_types)]
+#[cycle(types)]
 fn enter_members(
     line: &[u8],
     p: Point,
@@ -275,7 +275,7 @@ fn enter_members(
 }
 
 // One field or more, each further one behind a comma.
-#[cycle(enter_arguments_enter_field_enter_fields_enter_function_enter_list_enter_members_enter_params_enter_structure_enter_type_enter_types)]
+#[cycle(types)]
 fn enter_fields(
     line: &[u8],
     p: Point,
@@ -309,7 +309,7 @@ fn enter_fields(
 }
 
 // A field behind the one named before: its name must rise, its record is counted at the name.
-#[cycle(enter_arguments_enter_field_enter_fields_enter_function_enter_list_enter_members_enter_params_enter_structure_enter_type_enter_types)]
+#[cycle(types)]
 fn enter_field(
     line: &[u8],
     p: Point,

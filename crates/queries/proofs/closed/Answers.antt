@@ -1,4 +1,4 @@
--- `closed` meets its contract. Assumes nothing.
+-- `closed` meets its contract.
 use mathlib.Core.Path.{sym, ap, ◌∙◌}
 use Prim.Native.Nat.{ℕ}
 use Rattle.rules.specs.Base.{got}

@@ -1,4 +1,4 @@
--- `contains` meets its contract. Assumes nothing.
+-- `contains` meets its contract.
 use mathlib.Core.Path.{sym, ap, ◌∙◌}
 use Prim.Native.Nat.{ℕ, ◌/◌}
 use Rattle.rules.specs.Base.{got, any}

@@ -1,4 +1,4 @@
--- `variables` meets its contract. Assumes nothing.
+-- `variables` meets its contract.
 use mathlib.Core.Path.{sym, ap, ◌∙◌}
 use Prim.Native.Nat.{ℕ}
 use native.Mathlib.Omega.{arith}

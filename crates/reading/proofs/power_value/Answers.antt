@@ -1,4 +1,4 @@
--- `power_value` meets its contract. Assumes nothing.
+-- `power_value` meets its contract.
 use mathlib.Core.Path.{sym, ap, ◌∙◌}
 use native.Mathlib.Omega.{arith}
 use mathlib.Core.Bool.{Bool}

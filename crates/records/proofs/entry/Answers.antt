@@ -1,4 +1,4 @@
--- `entry` meets its contract. Assumes nothing.
+-- `entry` meets its contract.
 use Rattle.rules.specs.Calls.{aloneGiven, shortLists, tableKept}
 use Rattle.rules.specs.Names.{lentTable}
 use Rattle.rules.specs.Base.{all}

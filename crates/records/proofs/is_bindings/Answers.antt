@@ -1,4 +1,4 @@
--- `is_bindings` meets its contract. Assumes nothing.
+-- `is_bindings` meets its contract.
 use Rattle.rules.specs.Calls.{bindingsCall}
 use Rattle.records.specs.Whole.{bindings-told}
 use Rattle.records.specs.Whole.{entry-good}

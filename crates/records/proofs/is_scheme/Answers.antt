@@ -1,4 +1,4 @@
--- `is_scheme` meets its contract. Assumes nothing.
+-- `is_scheme` meets its contract.
 use Rattle.rules.specs.Calls.{schemeCall}
 use Rattle.records.specs.Schemes.{scheme-told}
 use Rattle.records.specs.Whole.{entry-good}

@@ -1,4 +1,4 @@
--- `is_set` meets its contract. Assumes nothing.
+-- `is_set` meets its contract.
 use Rattle.rules.specs.Calls.{setCall}
 use Rattle.records.specs.Whole.{set_told}
 use Rattle.records.specs.Whole.{entry-good}

@@ -1,4 +1,4 @@
--- `is_type` meets its contract. Assumes nothing.
+-- `is_type` meets its contract.
 use Rattle.rules.specs.Calls.{typeCall}
 use Rattle.records.specs.Whole.{type-told}
 use Rattle.records.specs.Whole.{entry-good}

@@ -1,4 +1,4 @@
--- `listed` meets its contract. Assumes nothing.
+-- `listed` meets its contract.
 use borrow.Author.Tests.{eq-eqb, ne_eqb}
 use Rattle.records.proofs.listed.Goals as goal
 

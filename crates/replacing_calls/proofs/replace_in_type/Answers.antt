@@ -1,4 +1,4 @@
--- `replace_in_type` meets its contract. Assumes nothing.
+-- `replace_in_type` meets its contract.
 use mathlib.Core.Path.{ap, ◌∙◌}
 use mathlib.Core.Bool.{not}
 use Rattle.lending.specs.Lent.{Long, long, short}

@@ -1,4 +1,4 @@
--- `first_shown` meets its contract. Assumes nothing.
+-- `first_shown` meets its contract.
 use native.Mathlib.Omega.{arith}
 use Rattle.rules.specs.Reports.{firstShown}
 use Rattle.reports.proofs.first_shown.Goals as goal

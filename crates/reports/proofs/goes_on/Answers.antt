@@ -1,4 +1,4 @@
--- `goes_on` meets its contract. Assumes nothing.
+-- `goes_on` meets its contract.
 use borrow.Author.Tests.{le-leb, lt-leb}
 use Rattle.reports.proofs.goes_on.Goals as goal
 

@@ -1,4 +1,4 @@
--- `show_byte` meets its contract. Assumes nothing.
+-- `show_byte` meets its contract.
 use borrow.Author.Tests.{lt-ltb, le-ltb, eq-eqb, ne_eqb}
 use Rattle.rules.specs.Reports.{shown}
 use Rattle.reports.proofs.show_byte.Goals as goal

@@ -1,4 +1,4 @@
--- `rescue` meets its contract: by what the checks say, and what was taken. Assumes nothing.
+-- `rescue` meets its contract: by what the checks say, and what was taken.
 use mathlib.Core.Path.{sym, ap, ◌∙◌}
 use Rattle.names.specs.Told.{toldChecked}
 use Rattle.rescue.specs.Answers.{given-good, rescue-refused, rescue-given}

@@ -1,4 +1,4 @@
--- `hex_of` meets its contract. Assumes nothing.
+-- `hex_of` meets its contract.
 use mathlib.Core.Path.{sym, ◌∙◌}
 use native.Mathlib.Omega.{arith}
 use borrow.Author.Tests.{leb-true}

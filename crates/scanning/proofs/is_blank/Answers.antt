@@ -1,4 +1,4 @@
--- `is_blank` meets its contract. Assumes nothing.
+-- `is_blank` meets its contract.
 use borrow.Author.Tests.{eq-eqb, ne_eqb}
 use Rattle.rules.specs.Grammar.{isBlank}
 use Rattle.scanning.proofs.is_blank.Goals as goal

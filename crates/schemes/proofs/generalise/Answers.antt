@@ -1,4 +1,4 @@
--- `generalise` meets its contract. Assumes nothing.
+-- `generalise` meets its contract.
 use mathlib.Core.Path.{ap, ◌∙◌}
 use mathlib.Core.Bool.{not}
 use Rattle.lending.specs.Lent.{Long, long, short}

@@ -1,4 +1,4 @@
--- `quantify` meets its contract. Assumes nothing.
+-- `quantify` meets its contract.
 use mathlib.Core.Path.{ap, ◌∙◌}
 use mathlib.Core.Bool.{not}
 use Rattle.lending.specs.Lent.{Long, long, short}

@@ -1,4 +1,4 @@
--- `pieces` is safe and ends. Assumes nothing.
+-- `pieces` is safe and ends.
 use mathlib.Core.Path.{◌≡◌}
 use Prim.Native.Nat.{◌-◌, ◌≤◌}
 use lib.ListN.{length}

@@ -1,4 +1,4 @@
--- `serve_next` is safe and ends: only a request without a fault is served. Assumes nothing.
+-- `serve_next` is safe and ends: only a request without a fault is served.
 use mathlib.Core.Path.{sym, ◌∙◌}
 use Rattle.serve.specs.Requests.{served}
 use Rattle.serve.proofs.serve_next.Goals as goal

@@ -1,4 +1,4 @@
--- `skip` is safe and ends. Assumes nothing.
+-- `skip` is safe and ends.
 use Rattle.serve.proofs.skip.Given as goal
 
 abbrev pub decreases-loop-left : goal.decreases-loop-left

@@ -1,4 +1,4 @@
--- `solve` meets its contract. Assumes nothing.
+-- `solve` meets its contract.
 use Rattle.lending.specs.Lent.{Long, long, short}
 use Rattle.solving.specs.Entry.{call-short, called, long-table}
 use mathlib.Core.Bool.{not}

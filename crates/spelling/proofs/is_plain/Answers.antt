@@ -1,4 +1,4 @@
--- `is_plain` meets its contract. Assumes nothing.
+-- `is_plain` meets its contract.
 use mathlib.Core.Path.{sym, ◌∙◌}
 use borrow.Author.Tests.{eq-eqb, ne_eqb}
 use Rattle.rules.specs.Grammar.{is_plain, isDigit}

@@ -1,4 +1,4 @@
--- `within` meets its contract. Assumes nothing.
+-- `within` meets its contract.
 use borrow.Author.Tests.{le-leb, lt-leb}
 use Rattle.spelling.proofs.within.Goals as goal
 

@@ -1,4 +1,4 @@
--- `read_text` meets its contract, by what its parts did. Assumes nothing.
+-- `read_text` meets its contract, by what its parts did.
 use native.Mathlib.Omega.{arith}
 use Rattle.lending.specs.Lent.{Long}
 use Rattle.lending.specs.Lent as lent

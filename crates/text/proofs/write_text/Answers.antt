@@ -1,4 +1,4 @@
--- `write_text` meets its contract: by what the lines put. Assumes nothing.
+-- `write_text` meets its contract: by what the lines put.
 use Rattle.text.specs.Whole.{text-short, text-refused, set-in, text-given}
 use Rattle.names.specs.Told.{toldChecked}
 use lib.ListN.{length}

@@ -1,4 +1,4 @@
--- `hand` meets its contract. Assumes nothing.
+-- `hand` meets its contract.
 use mathlib.Core.Path.{refl}
 use Rattle.wording.specs.Words.{answerWords}
 use Rattle.wording.proofs.hand.Goals as goal

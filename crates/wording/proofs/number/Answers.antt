@@ -1,4 +1,4 @@
--- `number` meets its contract. Assumes nothing.
+-- `number` meets its contract.
 use mathlib.Core.Path.{refl}
 use Rattle.rules.specs.Numbers.{refusalIn}
 use Rattle.wording.proofs.number.Goals as goal

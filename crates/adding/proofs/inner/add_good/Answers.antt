@@ -1,4 +1,4 @@
--- `inner::add_good` meets its contract. Assumes nothing.
+-- `inner::add_good` meets its contract.
 use mathlib.Core.Path.{sym, ap, ◌∙◌}
 use Rattle.rules.specs.Names.{numbered}
 use Rattle.adding.specs.Told.{toldVerdict}

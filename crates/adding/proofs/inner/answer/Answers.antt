@@ -1,4 +1,4 @@
--- `inner::answer` meets its contract: by the verdict. Assumes nothing.
+-- `inner::answer` meets its contract: by the verdict.
 use mathlib.Core.Path.{refl}
 use Rattle.adding.proofs.inner.answer.Goals as goal
 

@@ -1,4 +1,4 @@
--- `inner::check` meets its contract. Assumes nothing.
+-- `inner::check` meets its contract.
 use mathlib.Core.Path.{◌≡◌, sym, ap, ◌∙◌}
 use Prim.Native.Nat.{◌*◌}
 use native.Mathlib.Omega.{arith}

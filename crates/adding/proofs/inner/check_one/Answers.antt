@@ -1,4 +1,4 @@
--- `inner::check_one` meets its contract. Assumes nothing.
+-- `inner::check_one` meets its contract.
 use mathlib.Core.Path.{subst}
 use mathlib.Core.Bool.{true, false}
 use Rattle.records.specs.Good.{There}

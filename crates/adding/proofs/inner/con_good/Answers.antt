@@ -1,4 +1,4 @@
--- `inner::con_good` meets its contract. Assumes nothing.
+-- `inner::con_good` meets its contract.
 use mathlib.Core.Path.{subst}
 use Rattle.records.specs.Good.{Ends, GoodCon}
 use Rattle.adding.specs.Entry.{con-whole, con-not-whole, con-bad}

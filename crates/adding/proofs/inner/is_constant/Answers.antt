@@ -1,4 +1,4 @@
--- `inner::is_constant` meets its contract: by the case. Assumes nothing.
+-- `inner::is_constant` meets its contract: by the case.
 use mathlib.Core.Path.{refl}
 use Rattle.rules.specs.Base.{collect}
 use Rattle.rules.specs.Contents.{variablesIn}

@@ -1,4 +1,4 @@
--- `inner::is_unlike` meets its contract. Assumes nothing.
+-- `inner::is_unlike` meets its contract.
 use Rattle.adding.specs.Shapes.{unlike-left, unlike-right, unlike-kinds, unlike-counts}
 use Rattle.adding.proofs.inner.is_unlike.Goals as goal
 

@@ -1,4 +1,4 @@
--- `inner::lent` meets its contract. Assumes nothing.
+-- `inner::lent` meets its contract.
 use borrow.Author.Tests.{le-leb, lt-leb}
 use Rattle.rules.specs.Names.{lentTable}
 use Rattle.rules.specs.Calls.{lentResult}

@@ -1,4 +1,4 @@
--- `inner::shape_at` meets its contract: one variable to the power 1, or what the first record tells. Assumes nothing.
+-- `inner::shape_at` meets its contract: one variable to the power 1, or what the first record tells.
 use mathlib.Core.Path.{ap, ◌∙◌}
 use Rattle.adding.specs.Shapes.{shape_of}
 use Rattle.adding.specs.Tests.{told-power, told-shape}

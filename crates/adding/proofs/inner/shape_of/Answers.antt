@@ -1,4 +1,4 @@
--- `inner::shape_of` meets its contract: by the view. Assumes nothing.
+-- `inner::shape_of` meets its contract: by the view.
 use mathlib.Core.Path.{refl, sym}
 use Rattle.adding.proofs.Others.{no-shape}
 use borrow.Enum.Refused.{opened}

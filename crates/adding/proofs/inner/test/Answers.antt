@@ -1,4 +1,4 @@
--- `inner::test` meets its contract. Assumes nothing.
+-- `inner::test` meets its contract.
 use mathlib.Core.Path.{sym, subst, ◌∙◌}
 use native.Mathlib.Omega.{arith}
 use Rattle.queries.proofs.Others.{Tagged}

@@ -1,4 +1,4 @@
--- `inner::test_dim` meets its contract. Assumes nothing.
+-- `inner::test_dim` meets its contract.
 use mathlib.Core.Path.{sym, ap, ◌∙◌}
 use Rattle.adding.specs.Shapes.{shape_of}
 use Rattle.adding.specs.Tests.{dim-closed, dim-open}

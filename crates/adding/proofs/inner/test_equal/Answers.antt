@@ -1,4 +1,4 @@
--- `inner::test_equal` meets its contract. Assumes nothing.
+-- `inner::test_equal` meets its contract.
 use mathlib.Core.Path.{sym, ap₂, ◌∙◌}
 use mathlib.Core.Bool.{◌&&◌}
 use Rattle.adding.specs.Tests.{two-right, equal-closed, equal-open, told-unlike}

@@ -1,4 +1,4 @@
--- `inner::test_scalar` meets its contract. Assumes nothing.
+-- `inner::test_scalar` meets its contract.
 use native.Mathlib.Omega.{arith}
 use Rattle.rules.specs.Trees.{dim}
 use Rattle.records.specs.ByView.{product-in}

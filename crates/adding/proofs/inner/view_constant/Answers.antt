@@ -1,4 +1,4 @@
--- `inner::view_constant` meets its contract: by the view. Assumes nothing.
+-- `inner::view_constant` meets its contract: by the view.
 use mathlib.Core.Path.{refl}
 use Rattle.rules.specs.Base.{collect}
 use Rattle.rules.specs.Contents.{variablesIn}

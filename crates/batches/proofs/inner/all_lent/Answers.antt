@@ -1,4 +1,4 @@
--- `inner::all_lent` meets its contract. Assumes nothing.
+-- `inner::all_lent` meets its contract.
 use native.Mathlib.Omega.{arith}
 use Rattle.batches.specs.Checks.{short-pool, short-table, short-result, short-answers, long_rest}
 use Rattle.batches.proofs.inner.all_lent.Goals as goal

@@ -1,4 +1,4 @@
--- `inner::fits` meets its contract. Assumes nothing.
+-- `inner::fits` meets its contract.
 use mathlib.Core.Path.{sym, ap, ◌∙◌}
 use Prim.Native.Nat.{ℕ, ◌*◌}
 use borrow.Author.Tests.{eq-eqb, ne_eqb}

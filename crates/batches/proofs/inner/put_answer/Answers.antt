@@ -1,4 +1,4 @@
--- `inner::put_answer` meets its contract. Assumes nothing.
+-- `inner::put_answer` meets its contract.
 use native.Mathlib.Omega.{arith}
 use Rattle.rules.specs.Batches.{recordsOf, fourWords}
 use Rattle.batches.proofs.inner.put_answer.Goals as goal

@@ -1,4 +1,4 @@
--- `inner::put_four` meets its contract. Assumes nothing.
+-- `inner::put_four` meets its contract.
 use Rattle.records.specs.Stores.{four}
 use Rattle.rules.specs.Writing.{words}
 use Rattle.batches.proofs.inner.put_four.Goals as goal

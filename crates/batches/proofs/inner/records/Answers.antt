@@ -1,4 +1,4 @@
--- `inner::records` meets its contract. Assumes nothing.
+-- `inner::records` meets its contract.
 use native.Mathlib.Omega.{arith}
 use Rattle.rules.specs.Batches.{recordsOf}
 use Rattle.batches.proofs.inner.records.Goals as goal

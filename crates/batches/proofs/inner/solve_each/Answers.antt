@@ -1,4 +1,4 @@
--- `inner::solve_each` meets its contract. Assumes nothing.
+-- `inner::solve_each` meets its contract.
 use mathlib.Core.Path.{refl, ◌∙◌}
 use native.Mathlib.Omega.{arith}
 use borrow.Author.Rules.{rules}

@@ -1,4 +1,4 @@
--- `inner::solve_one` meets its contract. Assumes nothing.
+-- `inner::solve_one` meets its contract.
 use Prim.Native.Nat.{◌+◌, ◌-◌}
 use native.Mathlib.Omega.{arith}
 use Rattle.batches.specs.Steps.{one_written, part-long}

@@ -1,4 +1,4 @@
--- `inner::step` meets its contract. Assumes nothing.
+-- `inner::step` meets its contract.
 use mathlib.Core.Path.{ap, ◌∙◌}
 use Prim.Native.Nat.{◌*◌}
 use lib.Seq.{sets}

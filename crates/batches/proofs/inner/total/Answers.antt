@@ -1,4 +1,4 @@
--- `inner::total` meets its contract. The invariant: the sum so far, with those that are left, is the whole. Assumes nothing.
+-- `inner::total` meets its contract. The invariant: the sum so far, with those that are left, is the whole.
 use native.Mathlib.Omega.{arith}
 use lib.ListN.{drop_of_length-le}
 use Rattle.rules.specs.Base.{sum_of}

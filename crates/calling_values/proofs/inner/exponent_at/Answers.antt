@@ -1,4 +1,4 @@
--- `inner::exponent_at` meets its contract. Assumes nothing.
+-- `inner::exponent_at` meets its contract.
 use mathlib.Core.Path.{ap₂, ◌∙◌}
 use Prim.Native.Nat.{ℕ}
 use Rattle.rules.specs.Exponents.{frac}

@@ -1,4 +1,4 @@
--- `inner::factor_at` meets its contract. Assumes nothing.
+-- `inner::factor_at` meets its contract.
 use Rattle.calling_values.proofs.inner.factor_at.Goals as goal
 
 pub returns : goal.returns

@@ -1,4 +1,4 @@
--- `inner::product_from` meets its contract: so many places are from the words. Assumes nothing.
+-- `inner::product_from` meets its contract: so many places are from the words.
 use mathlib.Core.Path.{refl, ◌∙◌}
 use mathlib.Core.List.{[]}
 use native.Mathlib.Omega.{arith}

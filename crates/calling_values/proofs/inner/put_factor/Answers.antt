@@ -1,4 +1,4 @@
--- `inner::put_factor` meets its contract. Assumes nothing.
+-- `inner::put_factor` meets its contract.
 use mathlib.Core.Path.{ap, ◌∙◌}
 use Prim.Native.Nat.{◌+◌}
 use lib.ListN.{set}

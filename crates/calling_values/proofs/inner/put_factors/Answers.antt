@@ -1,4 +1,4 @@
--- `inner::put_factors` meets its contract: the loop says what is left to store. Assumes nothing.
+-- `inner::put_factors` meets its contract: the loop says what is left to store.
 use mathlib.Core.Path.{refl, ◌∙◌}
 use native.Mathlib.Omega.{arith}
 use Rattle.calling_values.specs.Arms.{put_step, put-end}

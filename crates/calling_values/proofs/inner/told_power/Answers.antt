@@ -1,4 +1,4 @@
--- `inner::told_power` meets its contract. Assumes nothing.
+-- `inner::told_power` meets its contract.
 use Rattle.calling_values.proofs.inner.told_power.Goals as goal
 
 pub returns-in-Value : goal.returns-in-Value

@@ -1,4 +1,4 @@
--- `inner::told_product` meets its contract. Assumes nothing.
+-- `inner::told_product` meets its contract.
 use mathlib.Core.Path.{ap, ◌∙◌}
 use Prim.Native.Nat.{ℕ}
 use Rattle.saying.specs.Saying.{saidAs}

@@ -1,5 +1,4 @@
 -- `cases::Tally::with` meets its contract.
--- Assumes nothing.
 use Rattle.cases.proofs.Tally.with.Goals as goal
 
 pub returns-then-right : goal.returns-then-right

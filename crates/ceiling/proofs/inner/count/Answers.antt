@@ -1,4 +1,4 @@
--- `inner::count` meets its contract: by the case. Assumes nothing.
+-- `inner::count` meets its contract: by the case.
 use mathlib.Core.Path.{◌≡◌, sym, ap, ◌∙◌}
 use mathlib.Core.Bool.{false}
 use lib.ListN.{get_or}

@@ -1,4 +1,4 @@
--- `inner::distinct` meets its contract. The invariant: what is marked and counted, with the names of the records from i on. Assumes nothing.
+-- `inner::distinct` meets its contract. The invariant: what is marked and counted, with the names of the records from i on.
 use mathlib.Core.Path.{refl, sym, ap, ◌∙◌}
 use mathlib.Core.List.{[], ◌++◌, append_assoc, append-nil}
 use Prim.Native.Nat.{◌+◌}

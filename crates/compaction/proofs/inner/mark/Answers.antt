@@ -1,4 +1,4 @@
--- `inner::mark` meets its contract. Assumes nothing.
+-- `inner::mark` meets its contract.
 use native.Mathlib.Omega.{arith}
 use mathlib.Core.Path.{refl, sym, ◌∙◌}
 use Rattle.compaction.specs.Marks.{mark-step, mark-end}

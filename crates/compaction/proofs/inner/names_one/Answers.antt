@@ -1,4 +1,4 @@
--- `inner::names_one` meets its contract. Assumes nothing.
+-- `inner::names_one` meets its contract.
 use borrow.Author.Tests.{ne_eqb}
 use Rattle.rules.specs.Base.{any}
 use Rattle.rules.specs.Offices.{namesOne}

@@ -1,4 +1,4 @@
--- `inner::new_word` meets its contract. Assumes nothing.
+-- `inner::new_word` meets its contract.
 use mathlib.Core.Path.{sym, ap, ◌∙◌}
 use mathlib.Core.Bool.{Bool}
 use lib.ListN.{get_or}

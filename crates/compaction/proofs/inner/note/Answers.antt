@@ -1,4 +1,4 @@
--- `inner::note` meets its contract. Assumes nothing.
+-- `inner::note` meets its contract.
 use native.Mathlib.Omega.{arith}
 use Rattle.compaction.specs.Marks.{note-none, note-past, note-put}
 use Rattle.compaction.proofs.inner.note.Goals as goal

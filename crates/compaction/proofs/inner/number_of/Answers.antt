@@ -1,4 +1,4 @@
--- `inner::number_of` meets its contract. Assumes nothing.
+-- `inner::number_of` meets its contract.
 use native.Mathlib.Omega.{arith}
 use mathlib.Core.Path.{◌≡◌, sym, ap, ap₂, ◌∙◌}
 use Prim.Native.Nat.{◌+◌}

@@ -1,4 +1,4 @@
--- `inner::numbers` meets its contract. Assumes nothing.
+-- `inner::numbers` meets its contract.
 use native.Mathlib.Omega.{arith}
 use Rattle.compaction.specs.Marks.{marks, numbered-none, numbered_more, numbered-all}
 use Rattle.compaction.proofs.inner.numbers.Goals as goal

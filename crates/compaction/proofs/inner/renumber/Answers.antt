@@ -1,4 +1,4 @@
--- `inner::renumber` meets its contract. Assumes nothing.
+-- `inner::renumber` meets its contract.
 use native.Mathlib.Omega.{arith}
 use mathlib.Core.Path.{refl, sym, ◌∙◌}
 use lib.ListN.{length-set}

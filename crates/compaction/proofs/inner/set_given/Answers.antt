@@ -1,4 +1,4 @@
--- `inner::set_given` meets its contract. Assumes nothing.
+-- `inner::set_given` meets its contract.
 use Rattle.compaction.specs.Checks.{set-met}
 use Rattle.compaction.proofs.inner.set_given.Goals as goal
 

@@ -1,4 +1,4 @@
--- `inner::sets_given` meets its contract. Assumes nothing.
+-- `inner::sets_given` meets its contract.
 use native.Mathlib.Omega.{arith}
 use mathlib.Core.Path.{refl, ap}
 use mathlib.Core.Bool.{not}

@@ -1,4 +1,4 @@
--- `inner::small` meets its contract. Assumes nothing.
+-- `inner::small` meets its contract.
 use native.Mathlib.Omega.{arith}
 use mathlib.Core.Path.{refl, ◌∙◌}
 use Rattle.compaction.specs.Checks.{few-not, few-step, few-large, few-end}

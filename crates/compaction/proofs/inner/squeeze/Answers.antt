@@ -1,4 +1,4 @@
--- `inner::squeeze` meets its contract. Assumes nothing.
+-- `inner::squeeze` meets its contract.
 use native.Mathlib.Omega.{arith}
 use mathlib.Core.Path.{◌≡◌, refl, ap, ◌∙◌}
 use Prim.Native.Nat.{◌+◌, ◌-◌, ◌<◌}

@@ -1,4 +1,4 @@
--- `inner::wipe_bytes` meets its contract. Assumes nothing.
+-- `inner::wipe_bytes` meets its contract.
 use native.Mathlib.Omega.{arith}
 use mathlib.Core.Path.{refl}
 use lib.ListN.{length-set}

@@ -1,4 +1,4 @@
--- `inner::same_types` meets its contract. Assumes nothing.
+-- `inner::same_types` meets its contract.
 use mathlib.Core.Path.{◌≡◌}
 use Prim.Native.Nat.{◌-◌}
 use native.Mathlib.Omega.{arith}

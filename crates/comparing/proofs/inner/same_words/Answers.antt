@@ -1,4 +1,4 @@
--- `inner::same_words` meets its contract. The invariant: the words so far are the same. Assumes nothing.
+-- `inner::same_words` meets its contract. The invariant: the words so far are the same.
 use mathlib.Core.Path.{◌≡◌}
 use native.Mathlib.Omega.{arith}
 use Rattle.comparing.specs.Same.{same_next}

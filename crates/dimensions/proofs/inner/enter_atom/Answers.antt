@@ -1,4 +1,4 @@
--- `inner::enter_atom` meets its contract. Assumes nothing.
+-- `inner::enter_atom` meets its contract.
 use Rattle.terms.specs.Effects.{ready_on}
 use Rattle.terms.specs.Inside.{inside-column, inside-spelled}
 use Rattle.dimensions.specs.Atoms.{atom-done, no-atom}

@@ -1,4 +1,4 @@
--- `inner::enter_power` meets its contract. Assumes nothing.
+-- `inner::enter_power` meets its contract.
 use mathlib.Core.Path.{sym, ap, ◌∙◌}
 use Rattle.rules.specs.Exponents.{goodExp}
 use Rattle.exponents.specs.Answers.{expOf}

@@ -1,4 +1,4 @@
--- `inner::exp_in` meets its contract. Assumes nothing.
+-- `inner::exp_in` meets its contract.
 use Rattle.dimensions.proofs.inner.exp_in.Goals as goal
 
 pub returns-in-Refused : goal.returns-in-Refused

@@ -1,4 +1,4 @@
--- `inner::kind_for` meets its contract. Assumes nothing.
+-- `inner::kind_for` meets its contract.
 use Rattle.dimensions.specs.Atoms.{forVariable, forParameter, forBase, forNone}
 use Rattle.dimensions.proofs.inner.kind_for.Goals as goal
 

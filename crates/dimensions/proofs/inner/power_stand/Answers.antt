@@ -1,4 +1,4 @@
--- `inner::power_stand` meets its contract. Assumes nothing.
+-- `inner::power_stand` meets its contract.
 use Rattle.dimensions.proofs.inner.power_stand.Goals as goal
 
 pub returns-in-Refused : goal.returns-in-Refused

@@ -1,4 +1,4 @@
--- `inner::single` meets its contract. Assumes nothing.
+-- `inner::single` meets its contract.
 use mathlib.Core.Path.{sym, ◌∙◌}
 use mathlib.Core.List.{[]}
 use native.Mathlib.Omega.{arith}

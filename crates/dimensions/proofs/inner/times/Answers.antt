@@ -1,4 +1,4 @@
--- `inner::times` meets its contract. Assumes nothing.
+-- `inner::times` meets its contract.
 use Rattle.dimensions.specs.Times.{single-well, times-stays, times-done, times-refused}
 use Rattle.dimensions.proofs.inner.times.Goals as goal
 

@@ -1,4 +1,4 @@
--- `inner::eliminate_set` meets its contract. Assumes nothing.
+-- `inner::eliminate_set` meets its contract.
 use mathlib.Core.Path.{sym, ap, ◌∙◌}
 use Rattle.names.specs.Told.{toldChecked}
 use Rattle.records.specs.Found.{Words32}

@@ -1,4 +1,4 @@
--- `inner::enter` meets its contract. Assumes nothing.
+-- `inner::enter` meets its contract.
 use mathlib.Core.Path.{sym, ap, ◌∙◌}
 use Rattle.rules.specs.Names.{table_of, names_of}
 use Rattle.names.specs.Told.{toldChecked}

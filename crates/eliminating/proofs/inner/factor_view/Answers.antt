@@ -1,4 +1,4 @@
--- `inner::factor_view` meets its contract. Assumes nothing.
+-- `inner::factor_view` meets its contract.
 use mathlib.Core.Path.{ap, ◌∙◌}
 use Prim.Native.Nat.{ℕ}
 use Rattle.records.specs.Views.{recOf}

@@ -1,4 +1,4 @@
--- `inner::machine` meets its contract. Assumes nothing.
+-- `inner::machine` meets its contract.
 use mathlib.Core.Path.{refl}
 use Rattle.eliminating.specs.Started.{started}
 use Rattle.eliminating.proofs.inner.machine.Goals as goal

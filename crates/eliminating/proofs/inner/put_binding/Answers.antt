@@ -1,4 +1,4 @@
--- `inner::put_binding` meets its contract: the head is written last. Assumes nothing.
+-- `inner::put_binding` meets its contract: the head is written last.
 use Rattle.eliminating.specs.Put.{put-binding}
 use Rattle.eliminating.proofs.inner.put_binding.Goals as goal
 

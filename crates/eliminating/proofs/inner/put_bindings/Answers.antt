@@ -1,4 +1,4 @@
--- `inner::put_bindings` meets its contract. The invariant: the values so far. Assumes nothing.
+-- `inner::put_bindings` meets its contract. The invariant: the values so far.
 use mathlib.Core.Path.{◌≡◌, refl, ap, ◌∙◌, sym, subst}
 use mathlib.Core.List.{List, [], map}
 use Prim.Native.Nat.{ℕ, ◌≤◌, ◌<◌}

@@ -1,4 +1,4 @@
--- `inner::put_factor` meets its contract. Assumes nothing.
+-- `inner::put_factor` meets its contract.
 use mathlib.Core.Path.{refl, ap, ap₂, ◌∙◌, sym}
 use mathlib.Core.List.{[], ◌∷◌}
 use Prim.Native.Nat.{ℕ, ◌*◌}

@@ -1,4 +1,4 @@
--- `inner::put_factors` meets its contract. The invariant: the factors of the columns so far. Assumes nothing.
+-- `inner::put_factors` meets its contract. The invariant: the factors of the columns so far.
 use mathlib.Core.Path.{refl, ◌∙◌}
 use Prim.Native.Nat.{◌≤◌, ◌<◌}
 use native.Mathlib.Omega.{arith}

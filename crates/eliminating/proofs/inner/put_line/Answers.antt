@@ -1,4 +1,4 @@
--- `inner::put_line` meets its contract: the head is written last. Assumes nothing.
+-- `inner::put_line` meets its contract: the head is written last.
 use Rattle.eliminating.specs.Put.{put-line}
 use Rattle.eliminating.proofs.inner.put_line.Goals as goal
 

@@ -1,4 +1,4 @@
--- `inner::put_lines` meets its contract. The invariant: the rows so far. Assumes nothing.
+-- `inner::put_lines` meets its contract. The invariant: the rows so far.
 use mathlib.Core.Path.{◌≡◌, refl, ap, ◌∙◌, sym, subst}
 use mathlib.Core.List.{[], map}
 use Prim.Native.Nat.{ℕ, ◌≤◌, ◌<◌}

@@ -1,4 +1,4 @@
--- `inner::put_product` meets its contract: the head is written last. Assumes nothing.
+-- `inner::put_product` meets its contract: the head is written last.
 use native.Mathlib.Omega.{arith}
 use Prim.Native.Nat.{◌≤◌}
 use Rattle.elimination.specs.Told.{row_in}

@@ -1,4 +1,4 @@
--- `inner::reduce` meets its contract: columns, rows, machine. Assumes nothing.
+-- `inner::reduce` meets its contract: columns, rows, machine.
 use mathlib.Core.Path.{◌≡◌, refl, ap, ◌∙◌, sym, subst}
 use mathlib.Core.Bool.{Bool, true}
 use mathlib.Core.List.{List}

@@ -1,4 +1,4 @@
--- `inner::tell` meets its contract. Assumes nothing.
+-- `inner::tell` meets its contract.
 use Rattle.eliminating.specs.Written.{told-zero, told-seven, told-eight}
 use Rattle.eliminating.proofs.inner.tell.Goals as goal
 

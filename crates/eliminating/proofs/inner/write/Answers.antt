@@ -1,4 +1,4 @@
--- `inner::write` meets its contract. Assumes nothing.
+-- `inner::write` meets its contract.
 use native.Mathlib.Omega.{arith}
 use Rattle.eliminating.specs.Written.{lines-written, values-written}
 use Rattle.eliminating.proofs.inner.write.Goals as goal

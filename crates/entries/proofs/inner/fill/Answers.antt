@@ -1,4 +1,4 @@
--- `fill` meets its contract. The invariant: the slots below v fit, are counted and stand in the table. Assumes nothing.
+-- `fill` meets its contract. The invariant: the slots below v fit, are counted and stand in the table.
 use mathlib.Core.Path.{sym, ◌∙◌}
 use lib.ListN.{get_or}
 use Rattle.laws.specs.Lists.{true≢false}

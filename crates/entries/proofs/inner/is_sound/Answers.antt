@@ -1,4 +1,4 @@
--- `is_sound` meets its contract. Assumes nothing.
+-- `is_sound` meets its contract.
 use mathlib.Core.Path.{sym, subst, ◌∙◌}
 use Prim.Native.Nat.{◌-◌}
 use native.Mathlib.Omega.{arith}

@@ -1,4 +1,4 @@
--- `note` meets its contract. Assumes nothing.
+-- `note` meets its contract.
 use mathlib.Core.Path.{sym, ap}
 use Rattle.entries.specs.Entries.{toldFound, noted}
 use Rattle.entries.proofs.inner.note.Goals as goal

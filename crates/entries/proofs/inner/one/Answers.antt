@@ -1,4 +1,4 @@
--- `one` meets its contract. Assumes nothing.
+-- `one` meets its contract.
 use Rattle.entries.proofs.Filling.{bit-none, bit-one}
 use Rattle.entries.proofs.inner.one.Goals as goal
 

@@ -1,5 +1,4 @@
 -- `exponents::Exponent::add` meets its contract.
--- Assumes nothing.
 use mathlib.Core.Path.{◌≡◌, sym, ◌∙◌}
 use mathlib.Core.Bool.{◌&&◌, true, and-eq-true_iff}
 use Rattle.rules.specs.Exponents.{goodExp}

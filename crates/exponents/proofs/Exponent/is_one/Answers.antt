@@ -1,5 +1,4 @@
 -- `exponents::Exponent::is_one` meets its contract (`Steps`).
--- Assumes nothing.
 use mathlib.Core.Path.{ap}
 use mir.Syntax.{w32}
 use mir.Val.{of_z}

@@ -1,5 +1,4 @@
 -- `exponents::Exponent::is_stored` meets its contract.
--- Assumes nothing.
 use mathlib.Core.Path.{sym, ◌∙◌}
 use Rattle.rules.specs.Exponents.{goodStored}
 use Rattle.exponents.proofs.Exponent.is_stored.Goals as goal

@@ -1,5 +1,4 @@
 -- `exponents::Exponent::is_zero` meets its contract.
--- Assumes nothing.
 use mathlib.Core.Path.{◌∙◌, ap}
 use Prim.Native.Nat.{ℕ}
 use lib.Dec.{eqb}

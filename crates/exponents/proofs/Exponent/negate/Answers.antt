@@ -1,5 +1,4 @@
 -- `exponents::Exponent::negate` meets its contract.
--- Assumes nothing.
 use mathlib.Core.Path.{◌≡◌, sym, ◌∙◌, ap}
 use mathlib.Core.Bool.{true}
 use Rattle.rules.specs.Base.{got}

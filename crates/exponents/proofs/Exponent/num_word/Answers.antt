@@ -1,5 +1,4 @@
 -- `exponents::Exponent::num_word` meets its contract.
--- Assumes nothing.
 use mathlib.Core.Path.{◌∙◌, ap}
 use mir.Syntax.{w32}
 use Rattle.rules.specs.Writing.{twos}

@@ -1,5 +1,4 @@
 -- `exponents::Exponent::well_formed` meets its contract: each return is a case of the definition (`Steps`).
--- Assumes nothing.
 use mathlib.Core.Path.{◌≡◌, sym, ◌∙◌, ap}
 use native.Mathlib.Omega.{arith}
 use lib.IntN.{nat_abs}

@@ -1,5 +1,4 @@
 -- `exponents::Exponent::well_formed_with` meets its contract.
--- Assumes nothing.
 use mathlib.Core.Path.{sym, ◌∙◌}
 use Rattle.exponents.proofs.Exponent.well_formed_with.Goals as goal
 

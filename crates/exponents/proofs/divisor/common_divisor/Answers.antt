@@ -1,5 +1,4 @@
 -- `exponents::divisor::common_divisor` meets its contract: the common factors 2 go back onto the divisor of what is odd.
--- Assumes nothing.
 use mathlib.Core.Path.{◌≡◌, sym, ap, ◌∙◌}
 use Prim.Native.Nat.{ℕ, ◌*◌, ◌%◌, ◌^◌}
 use native.Mathlib.Omega.{arith}

@@ -1,5 +1,5 @@
 -- `exponents::divisor::of_odd` meets its contract. The invariant: x and y are odd, with the greatest common divisor of a and b.
--- The measure is their sum. Assumes nothing.
+-- The measure is their sum.
 use mathlib.Core.Path.{◌≡◌, refl, sym, ◌∙◌, ap, ap₂, subst}
 use Prim.Native.Nat.{ℕ, ◌-◌, ◌%◌, min, max}
 use native.Mathlib.Omega.{arith}

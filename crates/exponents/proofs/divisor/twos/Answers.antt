@@ -1,5 +1,4 @@
 -- `exponents::divisor::twos` meets its contract.
--- Assumes nothing.
 use native.Mathlib.Omega.{arith}
 use lib.Count.{trailing_le}
 use Rattle.laws.specs.Twos.{trailing, shifts-below}

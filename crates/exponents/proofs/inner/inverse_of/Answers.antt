@@ -1,5 +1,4 @@
 -- `exponents::inner::inverse_of` meets its contract.
--- Assumes nothing.
 use mathlib.Core.Path.{◌≡◌, sym, ◌∙◌, ap}
 use native.Mathlib.Omega.{arith}
 use lib.IntN.{ℤ, nat_abs}

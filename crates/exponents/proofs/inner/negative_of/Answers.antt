@@ -1,5 +1,4 @@
 -- `exponents::inner::negative_of` meets its contract.
--- Assumes nothing.
 use mathlib.Core.Path.{◌≡◌, ap}
 use native.Mathlib.Omega.{arith}
 use lib.IntN.{ℤ, neg_ℤ, +ℤ_idl}

@@ -1,5 +1,4 @@
 -- `exponents::inner::quotient_of` meets its contract.
--- Assumes nothing.
 use mathlib.Core.Path.{sym, ◌∙◌}
 use Rattle.rules.specs.Exponents.{quotient}
 use Rattle.laws.specs.Ranges.{inverted-good}

@@ -1,5 +1,4 @@
 -- `exponents::inner::reduced` meets its contract: each return is a case of the definition (`Steps`).
--- Assumes nothing.
 use mathlib.Core.Path.{◌≡◌, sym, ◌∙◌, ap}
 use Prim.Native.Nat.{ℕ, ◌/◌, ◌<◌}
 use native.Mathlib.Omega.{arith}

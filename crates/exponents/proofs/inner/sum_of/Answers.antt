@@ -1,5 +1,4 @@
 -- `exponents::inner::sum_of` meets its contract (`Steps`).
--- Assumes nothing.
 use mathlib.Core.Path.{◌∙◌, ap}
 use native.Mathlib.Nat.{mul-pos}
 use Prim.Native.Nat.{◌*◌}

@@ -1,5 +1,4 @@
 -- `exponents::signs::magnitude` meets its contract.
--- Assumes nothing.
 use mathlib.Core.Path.{ap}
 use native.Mathlib.Omega.{arith}
 use lib.IntN.{nat_abs}

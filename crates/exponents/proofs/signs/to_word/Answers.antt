@@ -1,5 +1,4 @@
 -- `exponents::signs::to_word` meets its contract.
--- Assumes nothing.
 use mathlib.Core.Path.{◌≡◌, refl, ap, ◌∙◌}
 use Prim.Native.Nat.{ℕ, ◌-◌}
 use native.Mathlib.Omega.{arith}

@@ -1,5 +1,4 @@
 -- `exponents::signs::wide` meets its contract.
--- Assumes nothing.
 use mathlib.Core.Path.{◌∙◌, ap}
 use lib.IntN.{ℤ}
 use mir.Syntax.{w32, w64}

@@ -1,4 +1,4 @@
--- `inner::factor_at` meets its contract. Assumes nothing.
+-- `inner::factor_at` meets its contract.
 use Rattle.factors.specs.Factors.{factorAt}
 use Rattle.factors.proofs.inner.factor_at.Goals as goal
 

@@ -1,4 +1,4 @@
--- `inner::put_factors` meets its contract. Assumes nothing.
+-- `inner::put_factors` meets its contract.
 use mathlib.Core.Path.{◌≡◌, refl, ◌∙◌}
 use native.Mathlib.Omega.{arith}
 use lib.ListN.{length}

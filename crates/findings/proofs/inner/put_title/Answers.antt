@@ -1,4 +1,4 @@
--- `inner::put_title` meets its contract. Assumes nothing.
+-- `inner::put_title` meets its contract.
 use native.Mathlib.Omega.{arith}
 use lib.ListN.{length-map}
 use Rattle.rules.specs.Reports.{shown}

@@ -1,4 +1,4 @@
--- `inner::tell_denied` meets its contract. Assumes nothing.
+-- `inner::tell_denied` meets its contract.
 use native.Mathlib.Omega.{arith}
 use Rattle.findings.specs.Whole.{title-long, titled, denied-put}
 use Rattle.findings.proofs.inner.tell_denied.Goals as goal

@@ -1,4 +1,4 @@
--- `inner::tell_remaining` meets its contract. Assumes nothing.
+-- `inner::tell_remaining` meets its contract.
 use Prim.Native.Nat.{◌+◌, ◌≤◌}
 use lib.ListN.{length}
 use native.Mathlib.Omega.{arith}

@@ -1,4 +1,4 @@
--- `inner::tell_stopped` meets its contract. Assumes nothing.
+-- `inner::tell_stopped` meets its contract.
 use native.Mathlib.Omega.{arith}
 use Rattle.sheets.specs.Lengths.{digits-short}
 use Rattle.reports.specs.Pieces.{refused-short}

@@ -1,4 +1,4 @@
--- `inner::tell_unjudged` meets its contract. Assumes nothing.
+-- `inner::tell_unjudged` meets its contract.
 use native.Mathlib.Omega.{arith}
 use Rattle.reports.specs.Pieces.{refused-short}
 use Rattle.findings.specs.Whole.{title-long, titled, unjudged-put}

@@ -1,4 +1,4 @@
--- `inner::tell_unread` meets its contract. Assumes nothing.
+-- `inner::tell_unread` meets its contract.
 use mathlib.Core.Path.{ap}
 use lib.ListN.{length}
 use native.Mathlib.Omega.{arith}

@@ -1,4 +1,4 @@
--- `inner::accept` meets its contract. Assumes nothing.
+-- `inner::accept` meets its contract.
 use native.Mathlib.Omega.{arith}
 use Rattle.finishing.specs.Bounds.{names-known, binds-in, listed-few, accepted-as}
 use Rattle.finishing.proofs.inner.accept.Goals as goal

@@ -1,4 +1,4 @@
--- `inner::copy_other` meets its contract. Assumes nothing.
+-- `inner::copy_other` meets its contract.
 use mathlib.Core.Path.{sym, ◌∙◌}
 use native.Mathlib.Omega.{arith}
 use Rattle.records.specs.ByView.{con-in}

@@ -1,4 +1,4 @@
--- `inner::copy_others` meets its contract. The invariant: copying what is left completes the whole. Assumes nothing.
+-- `inner::copy_others` meets its contract. The invariant: copying what is left completes the whole.
 use mathlib.Core.Path.{refl, ◌∙◌}
 use native.Mathlib.Omega.{arith}
 use Rattle.finishing.specs.Others.{left-all, left-none, out-few, first, left-next}

@@ -1,4 +1,4 @@
--- `inner::finish` meets its contract. Assumes nothing.
+-- `inner::finish` meets its contract.
 use native.Mathlib.Omega.{arith}
 use Rattle.finishing.specs.Bounds.{binds-in, set, finished-remaining, none-remains, finished-accepted}
 use Rattle.finishing.proofs.inner.finish.Goals as goal

@@ -1,4 +1,4 @@
--- `inner::is_bound` meets its contract. Assumes nothing.
+-- `inner::is_bound` meets its contract.
 use mathlib.Core.Path.{sym, ap, ◌∙◌}
 use mathlib.Core.Bool.{◌&&◌}
 use Prim.Native.Nat.{◌+◌}

@@ -1,4 +1,4 @@
--- `inner::put_bounds` meets its contract. The invariant: writing what is left completes the whole. Assumes nothing.
+-- `inner::put_bounds` meets its contract. The invariant: writing what is left completes the whole.
 use mathlib.Core.Path.{◌≡◌, refl, ap, ◌∙◌}
 use mathlib.Core.List.{map}
 use Prim.Native.Nat.{ℕ, ◌+◌, ◌*◌}

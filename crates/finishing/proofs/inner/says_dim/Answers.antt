@@ -1,4 +1,4 @@
--- `inner::says_dim` meets its contract. Assumes nothing.
+-- `inner::says_dim` meets its contract.
 use Rattle.finishing.proofs.Tags.{undim}
 use borrow.Enum.Refused.{opened}
 use Rattle.finishing.proofs.inner.says_dim.Goals as goal

@@ -1,4 +1,4 @@
--- `inner::says_named` meets its contract. Assumes nothing.
+-- `inner::says_named` meets its contract.
 use mathlib.Core.Path.{sym, ap, ◌∙◌}
 use Rattle.finishing.specs.Said.{saysNamed}
 use Rattle.finishing.proofs.Tags.{unnamed}

@@ -1,4 +1,4 @@
--- `inner::bounds_given` meets its contract. Assumes nothing.
+-- `inner::bounds_given` meets its contract.
 use mathlib.Core.Path.{sym, subst, ◌∙◌}
 use mathlib.Core.List.{[], map}
 use Prim.Native.Nat.{◌/◌}

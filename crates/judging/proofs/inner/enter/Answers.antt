@@ -1,4 +1,4 @@
--- `inner::enter` meets its contract. Assumes nothing.
+-- `inner::enter` meets its contract.
 use mathlib.Core.Path.{◌∙◌}
 use native.Mathlib.Omega.{arith}
 use Rattle.judging.specs.Entry.{types_long, bounds-long, many-long, set_told}

@@ -1,4 +1,4 @@
--- `inner::judge_rest` meets its contract. Assumes nothing.
+-- `inner::judge_rest` meets its contract.
 use mathlib.Core.Path.{subst, ◌∙◌}
 use native.Mathlib.Omega.{arith}
 use Rattle.rules.specs.Names.{table_of, names_of}

@@ -1,4 +1,4 @@
--- `inner::judge_set` meets its contract. Assumes nothing.
+-- `inner::judge_set` meets its contract.
 use mathlib.Core.Path.{sym, ap, ◌∙◌}
 use Rattle.names.specs.Told.{toldChecked}
 use Rattle.judging.specs.Entry.{came-in, kept_out}

@@ -1,4 +1,4 @@
--- `inner::judge_slots` meets its contract. Assumes nothing.
+-- `inner::judge_slots` meets its contract.
 use mathlib.Core.Path.{refl, sym, ap, ◌∙◌}
 use mathlib.Core.Bool.{Bool}
 use Rattle.rules.specs.Base.{need}

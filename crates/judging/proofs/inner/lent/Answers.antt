@@ -1,4 +1,4 @@
--- `inner::lent` meets its contract. Assumes nothing.
+-- `inner::lent` meets its contract.
 use borrow.Author.Tests.{lt-leb, le-leb}
 use lib.ListN.{length}
 use Rattle.rules.specs.Calls.{lentWork}

@@ -1,4 +1,4 @@
--- `inner::atom_at` meets its contract. Assumes nothing.
+-- `inner::atom_at` meets its contract.
 use mathlib.Core.Path.{ap, ◌∙◌, sym}
 use Prim.Native.Nat.{ℕ, ◌-◌}
 use native.Mathlib.Omega.{arith}

@@ -1,4 +1,4 @@
--- `inner::base_at` meets its contract. Assumes nothing.
+-- `inner::base_at` meets its contract.
 use mathlib.Core.Path.{ap, ◌∙◌, sym}
 use Rattle.laying.specs.Columns.{basesView}
 use Rattle.laying.proofs.Tags.{unfactor}

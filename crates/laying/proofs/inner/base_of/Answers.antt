@@ -1,4 +1,4 @@
--- `inner::base_of` meets its contract. Assumes nothing.
+-- `inner::base_of` meets its contract.
 use mathlib.Core.Path.{ap, sym}
 use Rattle.laying.specs.Columns.{basesAtom}
 use Rattle.laying.proofs.inner.base_of.Goals as goal

@@ -1,4 +1,4 @@
--- `inner::blank` meets its contract. Assumes nothing.
+-- `inner::blank` meets its contract.
 use mathlib.Core.Path.{refl}
 use Rattle.laying.specs.Lines.{wide-copies}
 use Rattle.laying.proofs.inner.blank.Goals as goal

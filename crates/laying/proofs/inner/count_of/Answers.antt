@@ -1,4 +1,4 @@
--- `inner::count_of` meets its contract. Assumes nothing.
+-- `inner::count_of` meets its contract.
 use mathlib.Core.Path.{ap, ◌∙◌, sym}
 use Rattle.laying.specs.Lines.{countOf}
 use Rattle.laying.proofs.Tags.{undim}

@@ -1,4 +1,4 @@
--- `inner::lines_of` meets its contract. The invariant: the rows so far, and the constraints to come. Assumes nothing.
+-- `inner::lines_of` meets its contract. The invariant: the rows so far, and the constraints to come.
 use mathlib.Core.Path.{◌≡◌, sym, ◌∙◌, ap, subst}
 use mathlib.Core.List.{List, []}
 use Prim.Native.Nat.{ℕ, ◌+◌, ◌≤◌, ◌<◌}

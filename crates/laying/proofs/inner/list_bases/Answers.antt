@@ -1,4 +1,4 @@
--- `inner::list_bases` meets its contract: by what the marks say. Assumes nothing.
+-- `inner::list_bases` meets its contract: by what the marks say.
 use mathlib.Core.List.{[]}
 use lib.ListN.{get_or}
 use Rattle.rules.specs.Names.{table_of, names_of}

@@ -1,4 +1,4 @@
--- `inner::list_columns` meets its contract. Assumes nothing.
+-- `inner::list_columns` meets its contract.
 use mathlib.Core.Path.{refl}
 use native.Mathlib.Omega.{arith}
 use Rattle.laying.specs.Columns.{listed-well}

@@ -1,4 +1,4 @@
--- `inner::mark_bases` meets its contract. The invariant: what is marked, with the names of the records from i on. Assumes nothing.
+-- `inner::mark_bases` meets its contract. The invariant: what is marked, with the names of the records from i on.
 use mathlib.Core.Path.{refl, sym, ap, ◌∙◌}
 use mathlib.Core.List.{◌++◌, append_assoc, append-nil}
 use Prim.Native.Nat.{◌+◌}

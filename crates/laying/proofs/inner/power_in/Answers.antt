@@ -1,5 +1,4 @@
 -- `inner::power_in` meets its contract. The invariant: the atom isn't among the factors that were passed.
--- Assumes nothing.
 use mathlib.Core.Path.{◌≡◌, refl, sym, ◌∙◌, subst}
 use mathlib.Core.List.{List, [], ◌∷◌}
 use Prim.Native.Nat.{ℕ, ◌+◌, ◌<◌}

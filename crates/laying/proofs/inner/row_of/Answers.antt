@@ -1,4 +1,4 @@
--- `inner::row_of` meets its contract. The invariant: the powers of the columns so far. Assumes nothing.
+-- `inner::row_of` meets its contract. The invariant: the powers of the columns so far.
 use mathlib.Core.Path.{◌≡◌, sym, ◌∙◌, ap, subst}
 use mathlib.Core.List.{List, []}
 use mathlib.Core.Bool.{true}

@@ -1,4 +1,4 @@
--- `inner::same_atom` meets its contract. Assumes nothing.
+-- `inner::same_atom` meets its contract.
 use mathlib.Core.Path.{◌≡◌, ap, ap₂, ◌∙◌, sym}
 use mathlib.Core.Bool.{Bool, false, cond}
 use borrow.Author.Tests.{eq-eqb, ne_eqb}

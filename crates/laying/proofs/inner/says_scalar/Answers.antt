@@ -1,4 +1,4 @@
--- `inner::says_scalar` meets its contract. Assumes nothing.
+-- `inner::says_scalar` meets its contract.
 use Rattle.laying.proofs.Tags.{unscalar}
 use borrow.Enum.Refused.{opened}
 use Rattle.laying.proofs.inner.says_scalar.Goals as goal

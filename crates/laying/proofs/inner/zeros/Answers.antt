@@ -1,4 +1,4 @@
--- `inner::zeros` meets its contract. Assumes nothing.
+-- `inner::zeros` meets its contract.
 use mathlib.Core.Path.{refl}
 use Rattle.elimination.specs.Told.{row_in}
 use Rattle.laying.specs.Atoms.{no-columns}

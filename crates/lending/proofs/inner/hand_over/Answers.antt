@@ -1,4 +1,4 @@
--- `inner::hand_over` meets its contract. Assumes nothing.
+-- `inner::hand_over` meets its contract.
 use native.Mathlib.Omega.{arith}
 use Rattle.lending.specs.Handed.{stood, copied, left}
 use Rattle.lending.proofs.inner.hand_over.Goals as goal

@@ -1,4 +1,4 @@
--- `inner::confirm` meets its contract. Assumes nothing.
+-- `inner::confirm` meets its contract.
 use mathlib.Core.List.{[], map}
 use native.Mathlib.Omega.{arith}
 use Rattle.rules.specs.Trees.{var}

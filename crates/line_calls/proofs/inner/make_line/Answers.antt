@@ -1,4 +1,4 @@
--- `inner::make_line` meets its contract. Assumes nothing.
+-- `inner::make_line` meets its contract.
 use mathlib.Core.Path.{sym, ap, ◌∙◌}
 use Rattle.names.specs.Told.{toldChecked}
 use Rattle.solving.specs.Entry.{long-table}

@@ -1,4 +1,4 @@
--- `inner::put_type` meets its contract. Assumes nothing.
+-- `inner::put_type` meets its contract.
 use native.Mathlib.Omega.{arith}
 use Rattle.line_calls.specs.Typed.{place-known, typed-bound, typed_free}
 use Rattle.line_calls.proofs.inner.put_type.Goals as goal

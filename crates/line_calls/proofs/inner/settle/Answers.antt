@@ -1,4 +1,4 @@
--- `inner::settle` meets its contract. Assumes nothing.
+-- `inner::settle` meets its contract.
 use mathlib.Core.Path.{◌≡◌, ◌∙◌}
 use mathlib.Core.Bool.{true}
 use Prim.Native.Nat.{ℕ}

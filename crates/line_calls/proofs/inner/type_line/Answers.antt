@@ -1,4 +1,4 @@
--- `inner::type_line` meets its contract. Assumes nothing.
+-- `inner::type_line` meets its contract.
 use mathlib.Core.Path.{subst}
 use mathlib.Core.List.{[]}
 use Prim.Native.Nat.{ℕ}

@@ -1,4 +1,4 @@
--- `inner::constant_here` meets its contract. Assumes nothing.
+-- `inner::constant_here` meets its contract.
 use mathlib.Core.Path.{sym, ap, subst, ◌∙◌}
 use Rattle.records.specs.Good.{Ends, GoodTy}
 use mathlib.Core.Bool.{Bool}

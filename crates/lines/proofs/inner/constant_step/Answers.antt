@@ -1,4 +1,4 @@
--- `inner::constant_step` meets its contract. Assumes nothing.
+-- `inner::constant_step` meets its contract.
 use mathlib.Core.Path.{◌∙◌}
 use Rattle.lines.specs.Entry.{constant-made, constant-not}
 use Rattle.lines.proofs.inner.constant_step.Goals as goal

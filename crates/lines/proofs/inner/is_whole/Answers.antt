@@ -1,4 +1,4 @@
--- `inner::is_whole` meets its contract. Assumes nothing.
+-- `inner::is_whole` meets its contract.
 use mathlib.Core.Path.{refl, ◌∙◌}
 use native.Mathlib.Omega.{arith}
 use Rattle.lines.specs.Entry.{whole-on, whole-off, whole-none}

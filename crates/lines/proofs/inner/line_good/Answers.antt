@@ -1,4 +1,4 @@
--- `inner::line_good` meets its contract. Assumes nothing.
+-- `inner::line_good` meets its contract.
 use mathlib.Core.Path.{sym, ap, ◌∙◌}
 use Rattle.names.specs.Told.{toldChecked}
 use Rattle.lines.specs.Entry.{line-torn, line-types, line-whole, line_refused}

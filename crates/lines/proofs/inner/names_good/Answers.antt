@@ -1,4 +1,4 @@
--- `inner::names_good` meets its contract. Assumes nothing.
+-- `inner::names_good` meets its contract.
 use mathlib.Core.Path.{sym, ◌∙◌}
 use Rattle.lines.proofs.inner.names_good.Goals as goal
 

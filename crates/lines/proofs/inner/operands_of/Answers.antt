@@ -1,4 +1,4 @@
--- `inner::operands_of` meets its contract. Assumes nothing.
+-- `inner::operands_of` meets its contract.
 use mathlib.Core.Path.{sym}
 use native.Mathlib.Omega.{arith}
 use Rattle.rules.specs.Steps.{stepKind}

@@ -1,4 +1,4 @@
--- `inner::or_malformed` meets its contract. Assumes nothing.
+-- `inner::or_malformed` meets its contract.
 use Rattle.lines.proofs.inner.or_malformed.Goals as goal
 
 pub returns-then-good : goal.returns-then-good

@@ -1,4 +1,4 @@
--- `inner::raise_here` meets its contract. Assumes nothing.
+-- `inner::raise_here` meets its contract.
 use Rattle.lines.specs.Entry.{raise-told}
 use Rattle.exponents.specs.Answers.{expOf}
 use Rattle.lines.proofs.inner.raise_here.Goals as goal

@@ -1,4 +1,4 @@
--- `inner::raise_step` meets its contract. Assumes nothing.
+-- `inner::raise_step` meets its contract.
 use mathlib.Core.Path.{◌∙◌}
 use Rattle.lines.specs.Entry.{raise-made, raise-not}
 use Rattle.lines.proofs.inner.raise_step.Goals as goal

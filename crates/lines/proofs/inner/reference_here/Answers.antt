@@ -1,4 +1,4 @@
--- `inner::reference_here` meets its contract. Assumes nothing.
+-- `inner::reference_here` meets its contract.
 use mathlib.Core.Path.{◌∙◌}
 use Rattle.lines.specs.Entry.{reference-some, reference-none}
 use Rattle.lines.proofs.inner.reference_here.Goals as goal

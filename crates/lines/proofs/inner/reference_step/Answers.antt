@@ -1,4 +1,4 @@
--- `inner::reference_step` meets its contract. Assumes nothing.
+-- `inner::reference_step` meets its contract.
 use mathlib.Core.Path.{◌∙◌}
 use Rattle.lines.specs.Entry.{reference-made, reference-not}
 use Rattle.lines.proofs.inner.reference_step.Goals as goal

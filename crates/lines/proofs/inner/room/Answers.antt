@@ -1,4 +1,4 @@
--- `inner::room` meets its contract. Assumes nothing.
+-- `inner::room` meets its contract.
 use mathlib.Core.Path.{sym, ap, ◌∙◌}
 use mathlib.Core.Bool.{Bool}
 use Rattle.rules.specs.Base.{need}

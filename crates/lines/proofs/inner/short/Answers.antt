@@ -1,4 +1,4 @@
--- `inner::short` meets its contract. Assumes nothing.
+-- `inner::short` meets its contract.
 use borrow.Author.Tests.{lt-leb, le-leb}
 use lib.ListN.{length}
 use Rattle.rules.specs.Base.{all}

@@ -1,4 +1,4 @@
--- `inner::step_here` meets its contract. Assumes nothing.
+-- `inner::step_here` meets its contract.
 use mathlib.Core.Path.{◌∙◌}
 use native.Mathlib.Omega.{arith}
 use Rattle.lines.specs.Entry.{step-constant, step-reference, step-raise, step-plain, step-low, step-high}

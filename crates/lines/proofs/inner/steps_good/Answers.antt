@@ -1,4 +1,4 @@
--- `inner::steps_good` meets its contract. Assumes nothing.
+-- `inner::steps_good` meets its contract.
 use mathlib.Core.Path.{refl, sym, ap, ◌∙◌}
 use Prim.Native.Nat.{◌/◌, ◌<◌, ◌≤◌}
 use native.Mathlib.Omega.{arith}

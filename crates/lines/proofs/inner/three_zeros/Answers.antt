@@ -1,4 +1,4 @@
--- `inner::three_zeros` meets its contract. Assumes nothing.
+-- `inner::three_zeros` meets its contract.
 use Rattle.lines.specs.Entry.{zeros-next, zeros-not}
 use Rattle.lines.proofs.inner.three_zeros.Goals as goal
 

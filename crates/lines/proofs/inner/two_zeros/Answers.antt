@@ -1,4 +1,4 @@
--- `inner::two_zeros` meets its contract. Assumes nothing.
+-- `inner::two_zeros` meets its contract.
 use Rattle.lines.specs.Entry.{zeros-next, zeros-last, zeros-not}
 use lib.Dec.{eqb}
 use Rattle.lines.proofs.inner.two_zeros.Goals as goal

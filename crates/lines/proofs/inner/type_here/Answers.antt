@@ -1,4 +1,4 @@
--- `inner::type_here` meets its contract. Assumes nothing.
+-- `inner::type_here` meets its contract.
 use mathlib.Core.Path.{sym, ap, subst}
 use Rattle.records.specs.Good.{Ends, GoodTy}
 use Rattle.lines.specs.Entry.{type-yes, type-none}

@@ -1,5 +1,4 @@
 -- `loading::inner::factor_of` meets its contract.
--- Assumes nothing.
 use Rattle.rules.specs.Values.{value_of, kind_of, number_in}
 use Rattle.loading.proofs.inner.factor_of.Goals as goal
 

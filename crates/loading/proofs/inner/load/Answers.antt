@@ -1,5 +1,4 @@
 -- `loading::inner::load` meets its contract. The invariant: what `out` holds, and which factors are left, of each product that is held there.
--- Assumes nothing.
 use mathlib.Core.Path.{◌≡◌, sym, ◌∙◌, ap, subst}
 use mathlib.Core.List.{List, [], ◌∷◌}
 use Prim.Native.Nat.{ℕ, ◌+◌, ◌≤◌, ◌<◌}

@@ -1,5 +1,4 @@
 -- `loading::inner::store` meets its contract. The invariant: writing the factors that are left completes them.
--- Assumes nothing.
 use mathlib.Core.Path.{◌≡◌, refl, sym, ◌∙◌, ap}
 use mathlib.Core.List.{[], map}
 use Prim.Native.Nat.{ℕ, ◌+◌, ◌*◌, ◌≤◌, ◌<◌}

@@ -1,5 +1,4 @@
 -- `loading::inner::view_of` meets its contract.
--- Assumes nothing.
 use Rattle.rules.specs.Values.{atomIn}
 use Rattle.rules.specs.Writing.{writeFactor}
 use Rattle.loading.specs.Loaded.{last-kind}

@@ -1,4 +1,4 @@
--- `means` and `means_all` call one another and meet their contracts: the number of records left falls. Assumes nothing.
+-- `means` and `means_all` call one another and meet their contracts: the number of records left falls.
 use mathlib.Core.Path.{◌∙◌}
 use native.Mathlib.Omega.{arith}
 use Rattle.records.specs.ByView.{in_reach}

@@ -1,4 +1,4 @@
--- `atom_head` meets its contract. Assumes nothing.
+-- `atom_head` meets its contract.
 use mathlib.Core.Path.{ap, sym, ◌∙◌}
 use Rattle.records.specs.Holds.{atomOf}
 use Rattle.records.specs.declared.Atom.{Atom}

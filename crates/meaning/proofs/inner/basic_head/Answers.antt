@@ -1,4 +1,4 @@
--- `basic_head` meets its contract. Assumes nothing.
+-- `basic_head` meets its contract.
 use mathlib.Core.Path.{ap, sym}
 use Rattle.rules.specs.Trees.{basic}
 use Rattle.records.specs.Holds.{basicOf}

@@ -1,4 +1,4 @@
--- `factor_head` meets its contract. Assumes nothing.
+-- `factor_head` meets its contract.
 use mathlib.Core.Path.{◌∙◌, sym, ap}
 use Rattle.rules.specs.Base.{is_yes}
 use Rattle.rules.specs.Exponents.{Exp, Exp-dec, one}

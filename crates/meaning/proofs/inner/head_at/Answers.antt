@@ -1,4 +1,4 @@
--- `head_at` meets its contract. Assumes nothing.
+-- `head_at` meets its contract.
 use native.Mathlib.Omega.{arith}
 use Rattle.records.specs.ByView.{in_reach}
 use Rattle.meaning.proofs.Arms.{open-read, basic-read, dim-read, fn-read, struct-read, list_read, no-type}

@@ -1,4 +1,4 @@
--- `open_head` meets its contract. Assumes nothing.
+-- `open_head` meets its contract.
 use mathlib.Core.Path.{ap, sym}
 use Rattle.records.specs.Holds.{openOf}
 use Rattle.records.specs.declared.Open.{Open}

@@ -1,4 +1,4 @@
--- `power_one_head` meets its contract. Assumes nothing.
+-- `power_one_head` meets its contract.
 use Rattle.meaning.proofs.inner.power_one_head.Goals as goal
 
 pub returns-in-Var : goal.returns-in-Var

@@ -1,4 +1,4 @@
--- `product_head` meets its contract. Assumes nothing.
+-- `product_head` meets its contract.
 use mathlib.Core.Path.{ap, sym, ◌∙◌}
 use Rattle.rules.specs.Trees.{Product, dim}
 use Prim.Native.Nat.{ℕ}

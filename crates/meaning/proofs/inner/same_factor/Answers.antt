@@ -1,4 +1,4 @@
--- `same_factor` meets its contract. Assumes nothing.
+-- `same_factor` meets its contract.
 use Rattle.meaning.proofs.Arms.{num-differs, den-differs, by-atoms, unsaid}
 use borrow.Enum.Refused.{opened}
 use Rattle.meaning.proofs.inner.same_factor.Goals as goal

@@ -1,4 +1,4 @@
--- `same_factors` meets its contract. The invariant: if what is left is the same, so is the whole. Assumes nothing.
+-- `same_factors` meets its contract. The invariant: if what is left is the same, so is the whole.
 use mathlib.Core.Path.{sym, ◌∙◌}
 use Prim.Native.Nat.{◌≤◌, ◌<◌}
 use native.Mathlib.Omega.{arith}

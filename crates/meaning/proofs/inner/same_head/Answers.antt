@@ -1,4 +1,4 @@
--- `same_head` meets its contract. Assumes nothing.
+-- `same_head` meets its contract.
 use mathlib.Core.Path.{ap}
 use Rattle.meaning.specs.declared.inner.Head.{Head}
 use Rattle.meaning.proofs.Arms.{by-many}

@@ -1,5 +1,5 @@
 -- `names::inner::copy` meets its contract. The invariant: dst is what it was with the first i bytes of src at its front. A turn's store is
--- `stored`. Assumes nothing.
+-- `stored`.
 use mathlib.Core.Path.{◌≡◌, refl, sym, ◌∙◌, ap}
 use mathlib.Core.List.{List, ◌++◌}
 use Prim.Native.Nat.{ℕ, suc, ◌+◌, ◌<◌}

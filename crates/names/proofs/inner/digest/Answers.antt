@@ -1,4 +1,4 @@
--- `names::inner::digest` meets its contract. The invariant: what is left to take in gives the digest of all. Assumes nothing.
+-- `names::inner::digest` meets its contract. The invariant: what is left to take in gives the digest of all.
 use mathlib.Core.Path.{refl, sym, ap, ◌∙◌}
 use native.Mathlib.Numerals.{add-one}
 use native.Mathlib.Omega.{arith}

@@ -1,4 +1,4 @@
--- `names::inner::enter_good` meets its contract: the length, then the search. Assumes nothing.
+-- `names::inner::enter_good` meets its contract: the length, then the search.
 use mathlib.Core.Path.{◌≡◌, ◌∙◌}
 use mathlib.Core.Bool.{◌&&◌}
 use mathlib.Core.List.{List}

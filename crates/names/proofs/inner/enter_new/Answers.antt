@@ -1,5 +1,4 @@
 -- `names::inner::enter_new` meets its contract: no number, no bytes, or the tail comes back with the name at its front.
--- Assumes nothing.
 use mathlib.Core.Path.{◌≡◌, sym, ◌∙◌, ap, ◌≡⟨◌⟩◌, ◌∎}
 use mathlib.Core.List.{List, [], ◌++◌, append_assoc, append-nil}
 use mathlib.Core.Option.{none}

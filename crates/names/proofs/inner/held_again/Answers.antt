@@ -1,4 +1,4 @@
--- `names::inner::held_again` meets its contract. The invariant: the names from j on decide. Assumes nothing.
+-- `names::inner::held_again` meets its contract. The invariant: the names from j on decide.
 use mathlib.Core.Path.{refl, sym, ◌∙◌}
 use Prim.Native.Nat.{◌<◌}
 use native.Mathlib.Omega.{arith}

@@ -1,4 +1,4 @@
--- `names::inner::is_good` meets its contract: each return is a part of the test. Assumes nothing.
+-- `names::inner::is_good` meets its contract: each return is a part of the test.
 use mathlib.Core.Path.{sym, ◌∙◌}
 use Prim.Native.Nat.{◌≤◌, ◌<◌}
 use native.Mathlib.Omega.{arith}

@@ -1,4 +1,4 @@
--- `names::inner::name_at` meets its contract. Assumes nothing.
+-- `names::inner::name_at` meets its contract.
 use mathlib.Core.Path.{◌≡◌, sym, ◌∙◌, ap}
 use Prim.Native.Nat.{ℕ, suc, ◌≤◌, ◌<◌}
 use native.Mathlib.Numerals.{add-one}

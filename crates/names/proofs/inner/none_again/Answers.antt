@@ -1,4 +1,4 @@
--- `names::inner::none_again` meets its contract. The invariant: the names from k on decide. Assumes nothing.
+-- `names::inner::none_again` meets its contract. The invariant: the names from k on decide.
 use mathlib.Core.Path.{◌≡◌, refl, sym, ◌∙◌, ap}
 use mathlib.Core.List.{[], ◌∷◌}
 use Prim.Native.Nat.{ℕ, ◌+◌, ◌<◌}

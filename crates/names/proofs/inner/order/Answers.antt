@@ -1,4 +1,4 @@
--- `names::inner::order` meets its contract. Assumes nothing.
+-- `names::inner::order` meets its contract.
 use mathlib.Core.Path.{◌∙◌, ap₂}
 use Rattle.rules.specs.Names.{orderBytes, numbered}
 use Rattle.laws.specs.NameTable.{good-laid}

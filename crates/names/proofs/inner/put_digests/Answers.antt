@@ -1,4 +1,4 @@
--- `names::inner::put_digests` meets its contract. The invariant: the digests of the first k names stand there. Assumes nothing.
+-- `names::inner::put_digests` meets its contract. The invariant: the digests of the first k names stand there.
 use mathlib.Core.Path.{◌≡◌, refl, ◌∙◌}
 use native.Mathlib.Omega.{arith}
 use lib.ListN.{get_or, length-set}

@@ -1,4 +1,4 @@
--- `names::inner::same_held` meets its contract. Assumes nothing.
+-- `names::inner::same_held` meets its contract.
 use mathlib.Core.Path.{sym}
 use Rattle.names.specs.Digests.{apart}
 use Rattle.names.proofs.inner.same_held.Goals as goal

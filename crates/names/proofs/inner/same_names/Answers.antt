@@ -1,4 +1,4 @@
--- `names::inner::same_names` meets its contract. Assumes nothing.
+-- `names::inner::same_names` meets its contract.
 use mathlib.Core.Path.{sym}
 use Rattle.names.proofs.Compared.{hit, missed}
 use borrow.Enum.Refused.{opened}

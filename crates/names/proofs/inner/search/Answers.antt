@@ -1,5 +1,4 @@
 -- `names::inner::search` meets its contract. The invariant: the names from k on decide, and the first of them begins at start.
--- Assumes nothing.
 use mathlib.Core.Path.{◌≡◌, refl, sym, ◌∙◌, ap}
 use mathlib.Core.List.{◌∷◌}
 use Prim.Native.Nat.{ℕ, suc, ◌≤◌, ◌<◌}

@@ -1,4 +1,4 @@
--- `names::inner::start_of` meets its contract. Assumes nothing.
+-- `names::inner::start_of` meets its contract.
 use mathlib.Core.Path.{◌≡◌, refl, ◌∙◌}
 use mathlib.Core.List.{List}
 use Prim.Native.Nat.{ℕ, zero, suc}

@@ -1,4 +1,4 @@
--- `inner::look_up` meets its contract: what is left from the word k on says the same. Assumes nothing.
+-- `inner::look_up` meets its contract: what is left from the word k on says the same.
 use mathlib.Core.Path.{sym, ◌∙◌}
 use native.Mathlib.Omega.{arith}
 use borrow.Author.Tests.{eq-eqb, ne_eqb}

@@ -1,4 +1,4 @@
--- `inner::repeats` meets its contract: what is left from the word k on says the same. Assumes nothing.
+-- `inner::repeats` meets its contract: what is left from the word k on says the same.
 use mathlib.Core.Path.{sym, ap, ◌∙◌}
 use mathlib.Core.Bool.{not}
 use native.Mathlib.Omega.{arith}

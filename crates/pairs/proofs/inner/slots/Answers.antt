@@ -1,4 +1,4 @@
--- `inner::slots` meets its contract: the names below v are noted. Assumes nothing.
+-- `inner::slots` meets its contract: the names below v are noted.
 use mathlib.Core.Path.{◌∙◌}
 use native.Mathlib.Omega.{arith}
 use Rattle.pairs.specs.Turns.{none_yet, one_more}

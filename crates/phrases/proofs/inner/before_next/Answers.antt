@@ -1,6 +1,6 @@
 use Prim.Native.Nat.{◌≤◌}
 use lib.ListN.{get_or}
--- `inner::before_next` meets its contract. Assumes nothing.
+-- `inner::before_next` meets its contract.
 use mathlib.Core.Path.{refl, sym, ◌∙◌}
 use borrow.Author.Tests.{ltb-true, ltb-false}
 use native.Mathlib.Omega.{arith}

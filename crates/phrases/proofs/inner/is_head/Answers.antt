@@ -1,4 +1,4 @@
--- `inner::is_head` meets its contract. Assumes nothing.
+-- `inner::is_head` meets its contract.
 use Rattle.phrases.specs.Rows.{last-head}
 use Rattle.phrases.proofs.inner.is_head.Goals as goal
 

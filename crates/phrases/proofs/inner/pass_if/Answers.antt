@@ -1,4 +1,4 @@
--- `inner::pass_if` meets its contract. Assumes nothing.
+-- `inner::pass_if` meets its contract.
 use Rattle.phrases.proofs.inner.pass_if.Goals as goal
 
 pub returns-in-Going : goal.returns-in-Going

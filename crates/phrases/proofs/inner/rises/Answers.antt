@@ -1,6 +1,6 @@
 use Prim.Native.Nat.{◌≤◌}
 use lib.ListN.{get_or}
--- `inner::rises` meets its contract. Assumes nothing.
+-- `inner::rises` meets its contract.
 use mathlib.Core.Path.{sym, ap, subst, ◌∙◌}
 use native.Mathlib.Omega.{arith}
 use borrow.Author.Tests.{ltb-true, ltb-false}

@@ -1,6 +1,6 @@
 use Prim.Native.Nat.{ℕ}
 use Rattle.reading.specs.Choice.{among, heads}
--- `inner::too_deep` meets its contract. Assumes nothing.
+-- `inner::too_deep` meets its contract.
 use mathlib.Core.Path.{sym, ap, ◌∙◌}
 use Rattle.phrases.specs.Rows.{deep-type, no-deep}
 use Rattle.phrases.proofs.inner.too_deep.Goals as goal

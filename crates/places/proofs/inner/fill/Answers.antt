@@ -1,4 +1,4 @@
--- `inner::fill` meets its contract: of each name it is known what the bindings so far say. Assumes nothing.
+-- `inner::fill` meets its contract: of each name it is known what the bindings so far say.
 use mathlib.Core.Path.{refl, ap, ◌∙◌}
 use Prim.Native.Nat.{ℕ}
 use native.Mathlib.Omega.{arith}

@@ -1,4 +1,4 @@
--- `inner::note` meets its contract. Assumes nothing.
+-- `inner::note` meets its contract.
 use mathlib.Core.Path.{◌≡◌, refl, sym, ap, ◌∙◌}
 use mathlib.Core.List.{[], ◌∷◌}
 use Prim.Native.Nat.{ℕ, ◌+◌}

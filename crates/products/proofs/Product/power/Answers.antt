@@ -1,5 +1,4 @@
 -- `products::Product::power` meets its contract.
--- Assumes nothing.
 use mathlib.Core.Path.{◌≡◌, sym, ◌∙◌, ap}
 use lib.ListN.{length}
 use Rattle.names.specs.Told.{toldChecked}

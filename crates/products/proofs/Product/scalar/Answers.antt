@@ -1,5 +1,4 @@
 -- `products::Product::scalar` meets its contract: 64 unused places are computed.
--- Assumes nothing.
 use mathlib.Core.Path.{refl}
 use Rattle.rules.specs.Values.{productValue}
 use Rattle.products.specs.Told.{given}

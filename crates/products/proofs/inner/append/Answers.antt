@@ -1,5 +1,4 @@
 -- `products::inner::append` meets its contract. The invariant: what `q` holds, and which factors are left.
--- Assumes nothing.
 use mathlib.Core.Path.{◌≡◌, refl, sym, ◌∙◌, ap}
 use mathlib.Core.List.{[]}
 use Prim.Native.Nat.{ℕ, ◌+◌, ◌<◌}

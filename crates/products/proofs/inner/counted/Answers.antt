@@ -1,5 +1,4 @@
 -- `products::inner::counted` meets its contract.
--- Assumes nothing.
 use Prim.Native.Nat.{◌<◌, ◌≤◌}
 use native.Mathlib.Omega.{arith}
 use borrow.Author.Tests.{le-leb, lt-leb}

@@ -1,5 +1,4 @@
 -- `products::inner::divided` meets its contract.
--- Assumes nothing.
 use Rattle.rules.specs.Products.{divide}
 use Rattle.products.specs.Held.{well-sound, inverse-well}
 use Rattle.products.proofs.inner.divided.Goals as goal

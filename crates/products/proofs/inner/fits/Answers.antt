@@ -1,5 +1,4 @@
 -- `products::inner::fits` meets its contract. The invariant: the factors before i are well formed, and `last` is the last of them.
--- Assumes nothing.
 use mathlib.Core.Path.{◌≡◌, refl, sym, ◌∙◌, ap, subst}
 use mathlib.Core.Bool.{false}
 use mathlib.Core.List.{List, [], ◌∷◌}

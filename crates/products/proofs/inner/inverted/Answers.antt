@@ -1,5 +1,4 @@
 -- `products::inner::inverted` meets its contract. The invariant: what `out` holds, and that inverting the rest completes it.
--- Assumes nothing.
 use mathlib.Core.Path.{◌≡◌, sym, ◌∙◌, ap}
 use mathlib.Core.List.{[]}
 use Prim.Native.Nat.{ℕ, ◌≤◌, ◌<◌}

@@ -1,5 +1,4 @@
 -- `products::inner::is_named` meets its contract.
--- Assumes nothing.
 use mathlib.Core.Path.{sym, ◌∙◌}
 use native.Mathlib.Omega.{arith}
 use Rattle.products.specs.Kinds.{named-held, named-index, no_kind}

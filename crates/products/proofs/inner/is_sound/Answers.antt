@@ -1,5 +1,4 @@
 -- `products::inner::is_sound` meets its contract.
--- Assumes nothing.
 use mathlib.Core.Path.{sym, ◌∙◌}
 use Rattle.products.specs.Kinds.{fine-by}
 use Rattle.products.proofs.inner.is_sound.Goals as goal

@@ -1,5 +1,4 @@
 -- `products::inner::keep` meets its contract.
--- Assumes nothing.
 use mathlib.Core.Path.{sym, ◌∙◌}
 use Rattle.products.proofs.inner.keep.Goals as goal
 

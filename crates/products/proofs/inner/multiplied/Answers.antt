@@ -1,5 +1,4 @@
 -- `products::inner::multiplied` meets its contract. The invariant: what `out` holds, and that merging the rest completes the merge.
--- Assumes nothing.
 use mathlib.Core.Path.{◌≡◌, sym, ◌∙◌, ap}
 use mathlib.Core.List.{[], ◌++◌, append_assoc}
 use mathlib.Core.Logic.{◌⊎◌, inl, inr}

@@ -1,5 +1,4 @@
 -- `products::inner::order` meets its contract.
--- Assumes nothing.
 use mathlib.Core.Path.{◌≡◌, sym, ◌∙◌, ap, ap₂}
 use mathlib.Core.Bool.{cond}
 use Prim.Native.Nat.{compare}

@@ -1,5 +1,4 @@
 -- `products::inner::order_numbers` meets its contract.
--- Assumes nothing.
 use mathlib.Core.Path.{sym}
 use native.Mathlib.Omega.{arith}
 use Rattle.laws.specs.ByteOrder.{compare-below, compare-above, compare-equal}

@@ -1,5 +1,4 @@
 -- `products::inner::put` meets its contract. Past the 64th the store is left out, and `set` leaves the list as it is.
--- Assumes nothing.
 use mathlib.Core.Path.{◌≡◌, sym, ◌∙◌, ap}
 use mathlib.Core.List.{List}
 use Prim.Native.Nat.{◌+◌}

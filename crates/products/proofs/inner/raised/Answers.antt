@@ -1,5 +1,4 @@
 -- `products::inner::raised` meets its contract. The invariant: what `out` holds, and that raising the rest completes it.
--- Assumes nothing.
 use mathlib.Core.Path.{◌≡◌, sym, ◌∙◌, ap}
 use mathlib.Core.List.{[]}
 use mathlib.Core.Option.{none}

@@ -1,5 +1,4 @@
 -- `products::inner::rank` meets its contract: each arm is a case of the definition.
--- Assumes nothing.
 use borrow.Author.Tests.{ne_eqb}
 use Rattle.products.specs.Told.{rank_of}
 use Rattle.products.proofs.inner.rank.Goals as goal

@@ -1,5 +1,4 @@
 -- `products::inner::refused` meets its contract.
--- Assumes nothing.
 use Rattle.products.specs.Told.{told, answer}
 use Rattle.products.proofs.inner.refused.Goals as goal
 

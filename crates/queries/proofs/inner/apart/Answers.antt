@@ -1,4 +1,4 @@
--- `inner::apart` meets its contract: by what the marks say. Assumes nothing.
+-- `inner::apart` meets its contract: by what the marks say.
 use mathlib.Core.Path.{◌∙◌}
 use mathlib.Core.List.{[], ◌++◌}
 use Rattle.queries.specs.declared.Kind.TheVariants.{Variables, Parameters}

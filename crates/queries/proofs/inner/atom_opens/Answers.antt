@@ -1,4 +1,4 @@
--- `inner::atom_opens` meets its contract: by the case. Assumes nothing.
+-- `inner::atom_opens` meets its contract: by the case.
 use mathlib.Core.Path.{refl}
 use Rattle.queries.proofs.inner.atom_opens.Goals as goal
 

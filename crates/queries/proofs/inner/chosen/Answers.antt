@@ -1,4 +1,4 @@
--- `inner::chosen` meets its contract: by the case. Assumes nothing.
+-- `inner::chosen` meets its contract: by the case.
 use Rattle.queries.specs.ScanLaws.{choose-quant}
 use mathlib.Core.Path.{refl, sym}
 use Rattle.rules.specs.Base.{collect}

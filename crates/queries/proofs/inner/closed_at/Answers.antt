@@ -1,4 +1,4 @@
--- `inner::closed_at` meets its contract. Assumes nothing.
+-- `inner::closed_at` meets its contract.
 use mathlib.Core.Path.{ap, ◌∙◌}
 use Rattle.rules.specs.Base.{isNil}
 use Rattle.rules.specs.Contents.{closed}

@@ -1,4 +1,4 @@
--- `inner::contains_at` meets its contract. Assumes nothing.
+-- `inner::contains_at` meets its contract.
 use mathlib.Core.Path.{sym, ap, ◌∙◌}
 use lib.Dec.{eqb}
 use Rattle.rules.specs.Base.{any}

@@ -1,4 +1,4 @@
--- `inner::earlier` meets its contract: by the case. Assumes nothing.
+-- `inner::earlier` meets its contract: by the case.
 use mathlib.Core.Path.{refl}
 use Rattle.queries.proofs.inner.earlier.Goals as goal
 

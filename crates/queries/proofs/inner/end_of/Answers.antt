@@ -1,4 +1,4 @@
--- `inner::end_of` meets its contract: the first record says how long the type is. Assumes nothing.
+-- `inner::end_of` meets its contract: the first record says how long the type is.
 use Prim.Native.Nat.{ℕ, ◌+◌}
 use mathlib.Core.Path.{ap, ◌∙◌}
 use native.Mathlib.Omega.{arith}

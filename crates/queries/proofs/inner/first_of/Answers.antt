@@ -1,4 +1,4 @@
--- `inner::first_of` meets its contract: by the case. Assumes nothing.
+-- `inner::first_of` meets its contract: by the case.
 use mathlib.Core.Path.{refl}
 use Rattle.queries.proofs.inner.first_of.Goals as goal
 

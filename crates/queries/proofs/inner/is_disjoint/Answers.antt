@@ -1,4 +1,4 @@
--- `inner::is_disjoint` meets its contract. The invariant: the places from i on decide. Assumes nothing.
+-- `inner::is_disjoint` meets its contract. The invariant: the places from i on decide.
 use mathlib.Core.Path.{refl, sym, ap, ◌∙◌}
 use mathlib.Core.Bool.{not, ◌&&◌}
 use Prim.Native.Nat.{◌+◌, ◌<◌}

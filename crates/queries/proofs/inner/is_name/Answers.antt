@@ -1,4 +1,4 @@
--- `inner::is_name` meets its contract: by the case. Assumes nothing.
+-- `inner::is_name` meets its contract: by the case.
 use mathlib.Core.Path.{refl, sym}
 use Rattle.rules.specs.Base.{any}
 use mathlib.Core.Bool.{or-false}

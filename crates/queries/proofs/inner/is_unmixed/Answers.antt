@@ -1,4 +1,4 @@
--- `inner::is_unmixed` meets its contract: the second run is empty. Assumes nothing.
+-- `inner::is_unmixed` meets its contract: the second run is empty.
 use mathlib.Core.Path.{ap, ◌∙◌}
 use native.Mathlib.Omega.{arith}
 use mathlib.Core.List.{◌++◌, append-nil}

@@ -1,4 +1,4 @@
--- `inner::least` meets its contract. The invariant: the first of the names marked so far. Assumes nothing.
+-- `inner::least` meets its contract. The invariant: the first of the names marked so far.
 use mathlib.Core.Path.{◌≡◌}
 use native.Mathlib.Omega.{arith}
 use lib.ListN.{get_or}

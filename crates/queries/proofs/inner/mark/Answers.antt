@@ -1,4 +1,4 @@
--- `inner::mark` meets its contract: by the case. Assumes nothing.
+-- `inner::mark` meets its contract: by the case.
 use Rattle.queries.specs.MarkLaws.{mark-put, mark-out, mark-none}
 use Rattle.queries.proofs.inner.mark.Goals as goal
 

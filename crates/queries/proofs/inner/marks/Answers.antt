@@ -1,4 +1,4 @@
--- `inner::marks` meets its contract. The invariant: what is marked, with the names of the records from i on. Assumes nothing.
+-- `inner::marks` meets its contract. The invariant: what is marked, with the names of the records from i on.
 use mathlib.Core.Path.{refl, sym, ap, ◌∙◌}
 use Prim.Native.Nat.{◌+◌}
 use mathlib.Core.List.{◌++◌, append_assoc, append-nil}

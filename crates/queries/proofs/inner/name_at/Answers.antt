@@ -1,4 +1,4 @@
--- `inner::name_at` meets its contract. Assumes nothing.
+-- `inner::name_at` meets its contract.
 use mathlib.Core.Path.{sym, ap, ◌∙◌}
 use Rattle.queries.specs.Scans.{choose, toldOpens}
 use Rattle.queries.specs.ScanLaws.{choose-none}

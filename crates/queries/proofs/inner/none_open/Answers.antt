@@ -1,4 +1,4 @@
--- `inner::none_open` meets its contract. The invariant: the records from i on decide. Assumes nothing.
+-- `inner::none_open` meets its contract. The invariant: the records from i on decide.
 use mathlib.Core.Path.{refl, sym, ap, ◌∙◌}
 use Rattle.rules.specs.Base.{isNil}
 use Rattle.queries.specs.Scans.{toldOpens}

@@ -1,4 +1,4 @@
--- `inner::occurs` meets its contract. The invariant: the records from i on decide. Assumes nothing.
+-- `inner::occurs` meets its contract. The invariant: the records from i on decide.
 use mathlib.Core.Path.{refl, sym, ap, ◌∙◌}
 use lib.Dec.{eqb}
 use Rattle.rules.specs.Base.{any}

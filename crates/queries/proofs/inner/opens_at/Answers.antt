@@ -1,4 +1,4 @@
--- `inner::opens_at` meets its contract: by the view of the record. Assumes nothing.
+-- `inner::opens_at` meets its contract: by the view of the record.
 use mathlib.Core.Path.{sym, ap, ◌∙◌}
 use Rattle.queries.specs.Scans.{opensView}
 use Rattle.queries.proofs.Others.{none-opened}

@@ -1,4 +1,4 @@
--- `inner::sort_names` meets its contract. The invariant: the names written, then those that are left. Assumes nothing.
+-- `inner::sort_names` meets its contract. The invariant: the names written, then those that are left.
 use native.Mathlib.Omega.{arith}
 use lib.ListN.{get_or}
 use Rattle.rules.specs.Names.{table_of, names_of}

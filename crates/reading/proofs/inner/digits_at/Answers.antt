@@ -1,4 +1,4 @@
--- `inner::digits_at` meets its contract. Assumes nothing.
+-- `inner::digits_at` meets its contract.
 use Rattle.reading.specs.Points.{digits-there, no-digits}
 use Rattle.reading.proofs.inner.digits_at.Goals as goal
 

@@ -1,4 +1,4 @@
--- `inner::lowest_of` meets its contract. Assumes nothing.
+-- `inner::lowest_of` meets its contract.
 use mathlib.Core.Path.{sym, ap, ◌∙◌}
 use Rattle.reading.specs.Values.{word_good, words-quotient}
 use Rattle.laws.specs.Lists.{got≢refused}

@@ -1,4 +1,4 @@
--- `inner::mark` meets its contract. Assumes nothing.
+-- `inner::mark` meets its contract.
 use native.Mathlib.Omega.{arith}
 use Rattle.reading.specs.Points.{marked, passes, stays, marks-past}
 use Rattle.reading.proofs.inner.mark.Goals as goal

@@ -1,4 +1,4 @@
--- `inner::mark_at` meets its contract. Assumes nothing.
+-- `inner::mark_at` meets its contract.
 use native.Mathlib.Omega.{arith}
 use Rattle.reading.specs.Points.{mark-end, mark-other, mark-there}
 use Rattle.reading.proofs.inner.mark_at.Goals as goal

@@ -1,4 +1,4 @@
--- `inner::next_is` meets its contract. Assumes nothing.
+-- `inner::next_is` meets its contract.
 use native.Mathlib.Omega.{arith}
 use Rattle.reading.specs.Points.{begins-so, begins-not}
 use Rattle.reading.proofs.inner.next_is.Goals as goal

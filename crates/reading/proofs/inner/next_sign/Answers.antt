@@ -1,4 +1,4 @@
--- `inner::next_sign` meets its contract. Assumes nothing.
+-- `inner::next_sign` meets its contract.
 use mathlib.Core.Path.{refl}
 use Rattle.reading.specs.Points.{sign-there, passes, stays, column-past}
 use Rattle.rules.specs.Grammar.{column}

@@ -1,4 +1,4 @@
--- `inner::read_denominator` meets its contract. Assumes nothing.
+-- `inner::read_denominator` meets its contract.
 use mathlib.Core.Path.{sym, ◌∙◌}
 use Rattle.reading.specs.Powers.{with-denominator, without-denominator}
 use Rattle.reading.proofs.inner.read_denominator.Goals as goal

@@ -1,4 +1,4 @@
--- `inner::read_digits` meets its contract. Assumes nothing.
+-- `inner::read_digits` meets its contract.
 use mathlib.Core.Path.{refl}
 use Rattle.reading.specs.Points.{passes, stays, digits-past}
 use Rattle.rules.specs.Grammar.{digits}

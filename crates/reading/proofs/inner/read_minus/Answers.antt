@@ -1,4 +1,4 @@
--- `inner::read_minus` meets its contract. Assumes nothing.
+-- `inner::read_minus` meets its contract.
 use mathlib.Core.Path.{sym, ◌∙◌}
 use Rattle.reading.specs.Powers.{with-minus, without-minus}
 use Rattle.reading.proofs.inner.read_minus.Goals as goal

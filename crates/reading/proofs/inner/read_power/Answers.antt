@@ -1,4 +1,4 @@
--- `inner::read_power` meets its contract. Assumes nothing.
+-- `inner::read_power` meets its contract.
 use Rattle.reading.specs.Powers.{power-read}
 use Rattle.reading.proofs.inner.read_power.Goals as goal
 

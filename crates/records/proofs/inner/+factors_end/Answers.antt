@@ -1,4 +1,4 @@
--- The cycle of `inner::factors_end` meets its contract. Assumes nothing.
+-- The cycle of `inner::factors_end` meets its contract.
 use Rattle.records.proofs.Walks.{untagged, factors-held, factors-none, factors-other, factors-fail, factors-step}
 use Rattle.records.specs.declared.View.TheVariants as view
 use Rattle.records.specs.Places.{seen-in}

@@ -1,4 +1,4 @@
--- `inner::atom_good` meets its contract: by the case. Assumes nothing.
+-- `inner::atom_good` meets its contract: by the case.
 use Rattle.rules.specs.Names.{table_of}
 use Rattle.records.proofs.inner.atom_good.Goals as goal
 

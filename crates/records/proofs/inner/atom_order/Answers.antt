@@ -1,4 +1,4 @@
--- `inner::atom_order` meets its contract: by the cases. Assumes nothing.
+-- `inner::atom_order` meets its contract: by the cases.
 use Rattle.records.specs.Good.{HeldAtom}
 use Rattle.rules.specs.Trees.{orderAtom}
 use mathlib.Core.Path.{refl, subst}

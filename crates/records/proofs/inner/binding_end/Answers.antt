@@ -1,4 +1,4 @@
--- `inner::binding_end` meets its contract: its parts, and their length. Assumes nothing.
+-- `inner::binding_end` meets its contract: its parts, and their length.
 use Rattle.records.specs.Closing.{binding-closing}
 use Rattle.records.specs.Good.{Ends, GoodBinding}
 use mathlib.Core.Path.{sym, subst}

@@ -1,4 +1,4 @@
--- `inner::binding_parts` meets its contract. Assumes nothing.
+-- `inner::binding_parts` meets its contract.
 use Rattle.rules.specs.Names.{table_of}
 use Rattle.records.proofs.Walks.{untagged}
 use Rattle.records.proofs.Parts.{binding-type, binding-name, binding-other}

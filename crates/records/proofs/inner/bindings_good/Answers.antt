@@ -1,4 +1,4 @@
--- `inner::bindings_good` meets its contract. Assumes nothing.
+-- `inner::bindings_good` meets its contract.
 use Rattle.records.specs.Good.{Ends, GoodBinding, Chained}
 use Rattle.records.proofs.Parts.{chain-done, chain-fail, chain-step, one-binding}
 use Rattle.records.specs.Moves.{binding-moves}

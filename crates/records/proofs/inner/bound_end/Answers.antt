@@ -1,4 +1,4 @@
--- `inner::bound_end` meets its contract: its parts, and their length. Assumes nothing.
+-- `inner::bound_end` meets its contract: its parts, and their length.
 use Rattle.records.specs.Closing.{bound-closing}
 use Rattle.records.specs.Good.{Ends, GoodBound}
 use mathlib.Core.Path.{sym, subst}

@@ -1,4 +1,4 @@
--- `inner::bound_parts` meets its contract. Assumes nothing.
+-- `inner::bound_parts` meets its contract.
 use Rattle.records.proofs.Walks.{untagged}
 use Rattle.records.proofs.Parts.{bound-good, bound-fail, bound-other}
 use Rattle.records.specs.declared.View.TheVariants as view

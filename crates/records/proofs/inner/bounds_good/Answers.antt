@@ -1,4 +1,4 @@
--- `inner::bounds_good` meets its contract. Assumes nothing.
+-- `inner::bounds_good` meets its contract.
 use Rattle.records.specs.Good.{Ends, GoodBound, Chained}
 use Rattle.records.proofs.Parts.{chain-done, chain-fail, chain-step, one-bound}
 use Rattle.records.specs.Moves.{bound-moves}

@@ -1,4 +1,4 @@
--- `inner::closed` meets its contract. Assumes nothing.
+-- `inner::closed` meets its contract.
 use mathlib.Core.Bool.{Bool}
 use mathlib.Core.Path.{sym, ap, ◌∙◌}
 use Rattle.records.specs.Good.{endIf, closedAt}

@@ -1,4 +1,4 @@
--- `inner::closes` meets its contract. Assumes nothing.
+-- `inner::closes` meets its contract.
 use Rattle.records.proofs.Walks.{ends-before, ends_there}
 use Rattle.records.proofs.inner.closes.Goals as goal
 

@@ -1,4 +1,4 @@
--- `inner::con_end` meets its contract: its parts, and their length. Assumes nothing.
+-- `inner::con_end` meets its contract: its parts, and their length.
 use Rattle.records.specs.Closing.{con-closing}
 use Rattle.records.specs.Good.{Ends, GoodCon}
 use mathlib.Core.Path.{sym, subst}

@@ -1,4 +1,4 @@
--- `inner::con_parts` meets its contract. Assumes nothing.
+-- `inner::con_parts` meets its contract.
 use Rattle.rules.specs.Names.{table_of}
 use Rattle.records.proofs.Parts.{con-equal, con-dim, con-scalar, con-field, con-field-name, con-other}
 use Rattle.records.specs.Places.{seen-in}

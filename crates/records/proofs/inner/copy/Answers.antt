@@ -1,4 +1,4 @@
--- `copy` meets its contract: the loop says what is left to store. Assumes nothing.
+-- `copy` meets its contract: the loop says what is left to store.
 use Prim.Native.Nat.{ℕ, ◌*◌}
 use mathlib.Core.Path.{◌≡◌, refl, sym, ap, ◌∙◌}
 use native.Mathlib.Omega.{arith}

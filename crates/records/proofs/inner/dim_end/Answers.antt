@@ -1,4 +1,4 @@
--- `inner::dim_end` meets its contract. Assumes nothing.
+-- `inner::dim_end` meets its contract.
 use Rattle.records.proofs.Walks.{dim-many, dim-few}
 use Rattle.records.proofs.inner.dim_end.Goals as goal
 

@@ -1,4 +1,4 @@
--- `inner::factor_good` meets its contract. Assumes nothing.
+-- `inner::factor_good` meets its contract.
 use Rattle.records.proofs.Walks.{held-atom}
 use Rattle.rules.specs.Exponents.{goodStored}
 use mathlib.Core.Path.{refl, sym, ap, ◌∙◌}

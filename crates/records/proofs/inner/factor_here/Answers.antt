@@ -1,4 +1,4 @@
--- `inner::factor_here` meets its contract. Assumes nothing.
+-- `inner::factor_here` meets its contract.
 use Rattle.records.proofs.Walks.{one-long, not-long}
 use Rattle.records.proofs.inner.factor_here.Goals as goal
 

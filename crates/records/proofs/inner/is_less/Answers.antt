@@ -1,4 +1,4 @@
--- `inner::is_less` meets its contract: by the case. Assumes nothing.
+-- `inner::is_less` meets its contract: by the case.
 use mathlib.Core.Path.{sym, ap}
 use Rattle.rules.specs.WellFormed.{is_lt}
 use Rattle.names.specs.Told.{toldOrder}

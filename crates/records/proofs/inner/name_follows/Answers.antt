@@ -1,4 +1,4 @@
--- `inner::name_follows` meets its contract. Assumes nothing.
+-- `inner::name_follows` meets its contract.
 use Rattle.records.specs.Good.{HeldBefore}
 use Rattle.rules.specs.WellFormed.{is_lt}
 use mathlib.Core.Path.{ap, subst, ◌∙◌}

@@ -1,4 +1,4 @@
--- `inner::number_order` meets its contract. Assumes nothing.
+-- `inner::number_order` meets its contract.
 use Rattle.laws.specs.ByteOrder.{compare-below, compare-above, compare-equal}
 use native.Mathlib.Omega.{arith}
 use mathlib.Core.Path.{sym}

@@ -1,4 +1,4 @@
--- `inner::open_good` meets its contract: by the case. Assumes nothing.
+-- `inner::open_good` meets its contract: by the case.
 use Rattle.rules.specs.WellFormed.{goodOpen}
 use Rattle.rules.specs.Names.{table_of}
 use mathlib.Core.Path.{refl}

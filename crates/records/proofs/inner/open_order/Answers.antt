@@ -1,4 +1,4 @@
--- `inner::open_order` meets its contract: by the cases. Assumes nothing.
+-- `inner::open_order` meets its contract: by the cases.
 use Rattle.records.specs.Good.{HeldOpen}
 use Rattle.rules.specs.Trees.{orderOpen}
 use mathlib.Core.Path.{refl, subst}

@@ -1,4 +1,4 @@
--- `inner::product_end` meets its contract: its parts, and their length. Assumes nothing.
+-- `inner::product_end` meets its contract: its parts, and their length.
 use Rattle.records.specs.Closing.{product-closing}
 use Rattle.records.specs.Good.{Ends, GoodProduct}
 use mathlib.Core.Path.{sym, subst}

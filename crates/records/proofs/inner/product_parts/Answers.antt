@@ -1,4 +1,4 @@
--- `inner::product_parts` meets its contract. Assumes nothing.
+-- `inner::product_parts` meets its contract.
 use Rattle.records.proofs.Walks.{untagged}
 use Rattle.records.proofs.Parts.{product-dim, product-other}
 use Rattle.records.specs.declared.View.TheVariants as view

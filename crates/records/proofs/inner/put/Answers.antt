@@ -1,4 +1,4 @@
--- `put` meets its contract. Assumes nothing.
+-- `put` meets its contract.
 use mathlib.Core.Path.{sym}
 use lib.Seq.{set_out}
 use Rattle.records.proofs.inner.put.Goals as goal

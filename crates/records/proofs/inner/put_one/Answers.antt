@@ -1,4 +1,4 @@
--- `put_one` meets its contract: a length of 1 fits. Assumes nothing.
+-- `put_one` meets its contract: a length of 1 fits.
 use Rattle.records.specs.Cut.{fit}
 use Rattle.records.proofs.inner.put_one.Goals as goal
 

@@ -1,4 +1,4 @@
--- `put_record` meets its contract: four stores. Assumes nothing.
+-- `put_record` meets its contract: four stores.
 use Rattle.records.specs.Cut.{fit}
 use Rattle.records.specs.Places.{kind_of, bare-kind}
 use Rattle.records.specs.Stores.{four}

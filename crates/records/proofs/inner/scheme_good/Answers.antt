@@ -1,4 +1,4 @@
--- `inner::scheme_good` meets its contract: its parts, and their length. Assumes nothing.
+-- `inner::scheme_good` meets its contract: its parts, and their length.
 use Rattle.records.specs.Closing.{scheme-closing, scheme-open}
 use mathlib.Core.Path.{sym, ◌∙◌}
 use Rattle.records.proofs.inner.scheme_good.Goals as goal

@@ -1,4 +1,4 @@
--- `inner::scheme_parts` meets its contract. Assumes nothing.
+-- `inner::scheme_parts` meets its contract.
 use Rattle.records.proofs.Wholes.{scheme-concrete, scheme-other, scheme-type, scheme-bounds, type-within}
 use Rattle.records.proofs.Walks.{untagged}
 use Rattle.records.specs.declared.View.TheVariants as view

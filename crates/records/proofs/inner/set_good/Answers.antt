@@ -1,4 +1,4 @@
--- `inner::set_good` meets its contract. Assumes nothing.
+-- `inner::set_good` meets its contract.
 use Rattle.records.specs.Good.{Ends, GoodCon, Chained}
 use Rattle.records.proofs.Parts.{chain-done, chain-fail, chain-step, one-con}
 use Rattle.records.specs.Moves.{con-moves}

@@ -1,4 +1,4 @@
--- `inner::two_end` meets its contract. Assumes nothing.
+-- `inner::two_end` meets its contract.
 use Rattle.records.specs.Good.{Ends, GoodTy}
 use Rattle.records.proofs.Parts.{two-step, two-fail}
 use mathlib.Core.Path.{subst}

@@ -1,4 +1,4 @@
--- `inner::type_good` meets its contract. Assumes nothing.
+-- `inner::type_good` meets its contract.
 use Rattle.records.proofs.Wholes.{type-whole, type-not-whole, type-bad}
 use Rattle.records.specs.Good.{Ends, GoodTy}
 use mathlib.Core.Path.{subst}

@@ -1,4 +1,4 @@
--- `bound_shape` meets its contract: by the kind. Assumes nothing.
+-- `bound_shape` meets its contract: by the kind.
 use borrow.Author.Tests.{ne_eqb}
 use Rattle.records.proofs.seen.bound_shape.Goals as goal
 

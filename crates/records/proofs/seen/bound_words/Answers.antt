@@ -1,4 +1,4 @@
--- `bound_words` meets its contract: by the case. Assumes nothing.
+-- `bound_words` meets its contract: by the case.
 use Rattle.records.specs.Views.{recBound}
 use mathlib.Core.Path.{sym, ap}
 use Rattle.records.proofs.seen.bound_words.Goals as goal

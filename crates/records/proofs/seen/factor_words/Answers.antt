@@ -1,6 +1,6 @@
--- `factor_words` meets its contract: by the case. Assumes nothing.
+-- `factor_words` meets its contract: by the case.
 use Rattle.records.specs.declared.Atom.{Atom}
--- `factor_words` meets its contract. Assumes nothing.
+-- `factor_words` meets its contract.
 use Rattle.records.specs.Views.{recFactor}
 use mathlib.Core.Path.{sym, ap, ◌∙◌}
 use Rattle.records.proofs.seen.factor_words.Goals as goal

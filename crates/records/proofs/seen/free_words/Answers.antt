@@ -1,4 +1,4 @@
--- `free_words` meets its contract: by the case. Assumes nothing.
+-- `free_words` meets its contract: by the case.
 use Rattle.records.specs.Views.{recFree}
 use Rattle.records.specs.declared.Open.{Open}
 use mathlib.Core.Path.{sym, ap}

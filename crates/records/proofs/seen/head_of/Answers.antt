@@ -1,4 +1,4 @@
--- `head_of` meets its contract. Assumes nothing.
+-- `head_of` meets its contract.
 use Rattle.records.specs.Cut.{head-fits, head-unfits}
 use Rattle.records.proofs.seen.head_of.Goals as goal
 

@@ -1,4 +1,4 @@
--- `kind_in` meets its contract. Assumes nothing.
+-- `kind_in` meets its contract.
 use Rattle.rules.specs.Writing.{kindIn}
 use mathlib.Core.Path.{refl}
 use Rattle.records.proofs.seen.kind_in.Goals as goal

@@ -1,4 +1,4 @@
--- `length_at` meets its contract. Assumes nothing.
+-- `length_at` meets its contract.
 use Rattle.records.specs.Places.{long-none, long-some}
 use Rattle.records.specs.Views.{longOf}
 use mathlib.Core.Path.{sym, ◌∙◌}

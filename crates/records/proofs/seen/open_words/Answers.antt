@@ -1,4 +1,4 @@
--- `open_words` meets its contract: by the case. Assumes nothing.
+-- `open_words` meets its contract: by the case.
 use Rattle.records.specs.Views.{recOpen}
 use mathlib.Core.Path.{sym, ap}
 use Rattle.records.proofs.seen.open_words.Goals as goal

@@ -1,4 +1,4 @@
--- `other_shape` meets its contract: by the kind. Assumes nothing.
+-- `other_shape` meets its contract: by the kind.
 use mathlib.Core.Path.{ap, ◌∙◌}
 use mathlib.Core.List.{[], ◌∷◌}
 use Rattle.records.specs.Views.{plain}

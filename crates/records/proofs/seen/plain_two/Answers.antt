@@ -1,4 +1,4 @@
--- `plain_two` meets its contract. Assumes nothing.
+-- `plain_two` meets its contract.
 use borrow.Author.Tests.{eq-eqb, ne_eqb}
 use Rattle.rules.specs.Base.{all}
 use Rattle.records.specs.Views.{plain}

@@ -1,4 +1,4 @@
--- `scheme_shape` meets its contract: by the kind. Assumes nothing.
+-- `scheme_shape` meets its contract: by the kind.
 use borrow.Author.Tests.{ne_eqb}
 use Rattle.records.proofs.seen.scheme_shape.Goals as goal
 

@@ -1,4 +1,4 @@
--- `shape` meets its contract: by the kind. Assumes nothing.
+-- `shape` meets its contract: by the kind.
 use borrow.Author.Tests.{ne_eqb}
 use Rattle.records.specs.Views.{view_of}
 use Rattle.records.proofs.seen.shape.Goals as goal

@@ -1,4 +1,4 @@
--- `view_at` meets its contract. Assumes nothing.
+-- `view_at` meets its contract.
 use Rattle.records.specs.Places.{view-none, view-some}
 use Rattle.records.specs.Views.{shape_of, view_of}
 use mathlib.Core.Path.{sym, ap, ◌∙◌}

@@ -1,4 +1,4 @@
--- `words_of` meets its contract: by the view. Assumes nothing.
+-- `words_of` meets its contract: by the view.
 use Rattle.records.specs.Views.{bareOf}
 use Rattle.rules.specs.Writing.{rec}
 use Prim.Native.Nat.{ℕ}

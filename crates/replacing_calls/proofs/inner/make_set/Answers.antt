@@ -1,4 +1,4 @@
--- `inner::make_set` meets its contract. Assumes nothing.
+-- `inner::make_set` meets its contract.
 use mathlib.Core.Path.{◌≡◌, sym, ap, ◌∙◌}
 use Rattle.rules.specs.Base.{got, ◌>>◌, collect}
 use Rattle.rules.specs.Calls.{setGiven}

@@ -1,4 +1,4 @@
--- `inner::make_type` meets its contract. Assumes nothing.
+-- `inner::make_type` meets its contract.
 use mathlib.Core.Path.{◌≡◌, sym, ap, ◌∙◌}
 use Rattle.rules.specs.Base.{got, ◌>>◌}
 use Rattle.rules.specs.Calls.{typeGiven}

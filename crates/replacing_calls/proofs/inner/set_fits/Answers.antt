@@ -1,4 +1,4 @@
--- `inner::set_fits` meets its contract. Assumes nothing.
+-- `inner::set_fits` meets its contract.
 use Rattle.rules.specs.Base.{sum_of, max_of}
 use Rattle.replacing.specs.Flat.{depthLine}
 use Rattle.replacing.specs.LineRules.{sizeLine}

@@ -1,4 +1,4 @@
--- `inner::set_into` meets its contract. Assumes nothing.
+-- `inner::set_into` meets its contract.
 use mathlib.Core.Path.{refl}
 use mathlib.Core.List.{map}
 use native.Mathlib.Omega.{arith}

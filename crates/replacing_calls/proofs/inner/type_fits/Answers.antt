@@ -1,4 +1,4 @@
--- `inner::type_fits` meets its contract. Assumes nothing.
+-- `inner::type_fits` meets its contract.
 use mathlib.Core.Path.{subst}
 use Rattle.rules.specs.Trees.{size, depth}
 use Rattle.records.specs.Good.{Ends, GoodTy}

@@ -1,4 +1,4 @@
--- `inner::type_into` meets its contract. Assumes nothing.
+-- `inner::type_into` meets its contract.
 use mathlib.Core.Path.{refl}
 use Rattle.rules.specs.Trees.{size, depth}
 use Rattle.rules.specs.Writing.{writeTy}

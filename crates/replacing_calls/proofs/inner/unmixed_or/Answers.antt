@@ -1,4 +1,4 @@
--- `inner::unmixed_or` meets its contract. Assumes nothing.
+-- `inner::unmixed_or` meets its contract.
 use Rattle.replacing_calls.proofs.inner.unmixed_or.Goals as goal
 
 pub returns-then-yes : goal.returns-then-yes

@@ -1,4 +1,4 @@
--- `inner::put_before` meets its contract. Assumes nothing.
+-- `inner::put_before` meets its contract.
 use Rattle.reports.specs.Pieces.{part-is}
 use Rattle.reports.proofs.inner.put_before.Goals as goal
 

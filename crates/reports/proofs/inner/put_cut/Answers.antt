@@ -1,4 +1,4 @@
--- `inner::put_cut` meets its contract. Assumes nothing.
+-- `inner::put_cut` meets its contract.
 use borrow.Author.Tests.{eq-eqb, ne_eqb}
 use Rattle.spelling.specs.Puts.{nothing}
 use Rattle.reports.proofs.inner.put_cut.Goals as goal

@@ -1,4 +1,4 @@
--- `inner::put_high_reason` meets its contract: by the case. Assumes nothing.
+-- `inner::put_high_reason` meets its contract: by the case.
 use native.Mathlib.Omega.{arith}
 use Rattle.rules.specs.Reports.{reasons, reason}
 use Rattle.reports.specs.Pieces.{no-reason}

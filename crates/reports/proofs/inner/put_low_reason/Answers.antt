@@ -1,4 +1,4 @@
--- `inner::put_low_reason` meets its contract: by the case. Assumes nothing.
+-- `inner::put_low_reason` meets its contract: by the case.
 use mathlib.Core.Path.{◌≡◌}
 use Prim.Native.Nat.{◌-◌}
 use native.Mathlib.Omega.{arith}

@@ -1,4 +1,4 @@
--- `inner::put_part` meets its contract. Assumes nothing.
+-- `inner::put_part` meets its contract.
 use Rattle.reports.specs.Pieces.{part-is}
 use Rattle.reports.proofs.inner.put_part.Goals as goal
 

@@ -1,4 +1,4 @@
--- `inner::put_refused` meets its contract. Assumes nothing.
+-- `inner::put_refused` meets its contract.
 use native.Mathlib.Omega.{arith}
 use Rattle.sheets.specs.Lengths.{digits-short}
 use Rattle.reports.specs.Pieces.{refused-put}

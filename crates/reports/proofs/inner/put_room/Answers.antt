@@ -1,4 +1,4 @@
--- `inner::put_room` meets its contract. Assumes nothing.
+-- `inner::put_room` meets its contract.
 use mathlib.Core.Path.{sym, ◌∙◌}
 use Rattle.reports.specs.Pieces.{no_room, a-room}
 use Rattle.reports.proofs.inner.put_room.Goals as goal

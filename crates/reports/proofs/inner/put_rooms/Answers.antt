@@ -1,4 +1,4 @@
--- `inner::put_rooms` meets its contract: there are blanks under the bytes before i. Assumes nothing.
+-- `inner::put_rooms` meets its contract: there are blanks under the bytes before i.
 use mathlib.Core.Path.{◌≡◌, refl, ◌∙◌}
 use native.Mathlib.Omega.{arith}
 use lib.ListN.{length, get_or}

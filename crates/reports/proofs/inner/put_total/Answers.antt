@@ -1,4 +1,4 @@
--- `inner::put_total` meets its contract. Assumes nothing.
+-- `inner::put_total` meets its contract.
 use Prim.Native.Nat.{◌-◌}
 use native.Mathlib.Omega.{arith}
 use Rattle.sheets.specs.Lengths.{digits-short}

@@ -1,4 +1,4 @@
--- `inner::show_line` meets its contract. Assumes nothing.
+-- `inner::show_line` meets its contract.
 use lib.Dec.{eqb}
 use native.Mathlib.Omega.{arith}
 use Rattle.reports.specs.Pieces.{cut_short, under-short, part-short, before-short, few-before, line-put}

@@ -1,4 +1,4 @@
--- `inner::fill` meets its contract: the loop says what is left to store. Assumes nothing.
+-- `inner::fill` meets its contract: the loop says what is left to store.
 use mathlib.Core.Path.{refl, sym, ap, ◌∙◌}
 use native.Mathlib.Omega.{arith}
 use lib.ListN.{set, drop_of_length-le}

@@ -1,4 +1,4 @@
--- `inner::given` meets its contract: check by check. Assumes nothing.
+-- `inner::given` meets its contract: check by check.
 use Rattle.rules.specs.Calls.{tableKept}
 use Rattle.rules.specs.Names.{lentTable}
 use borrow.Author.Tests.{le-leb, lt-leb}

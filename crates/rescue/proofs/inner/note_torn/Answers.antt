@@ -1,4 +1,4 @@
--- `inner::note_torn` meets its contract. Assumes nothing.
+-- `inner::note_torn` meets its contract.
 use native.Mathlib.Omega.{arith}
 use Rattle.rescue.specs.Steps.{torn-none, torn-one}
 use Rattle.rescue.proofs.inner.note_torn.Goals as goal

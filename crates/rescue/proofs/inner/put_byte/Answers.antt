@@ -1,4 +1,4 @@
--- `inner::put_byte` meets its contract. Assumes nothing.
+-- `inner::put_byte` meets its contract.
 use mathlib.Core.Path.{sym}
 use lib.Seq.{set_out}
 use Rattle.rescue.proofs.inner.put_byte.Goals as goal

@@ -1,4 +1,4 @@
--- `inner::put_word` meets its contract: four stores in a row. Assumes nothing.
+-- `inner::put_word` meets its contract: four stores in a row.
 use Rattle.rescue.specs.Steps.{four_bytes}
 use Rattle.rescue.proofs.inner.put_word.Goals as goal
 

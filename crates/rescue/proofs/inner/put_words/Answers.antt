@@ -1,4 +1,4 @@
--- `inner::put_words` meets its contract: the loop says what is left to write. Assumes nothing.
+-- `inner::put_words` meets its contract: the loop says what is left to write.
 use mathlib.Core.List.{[]}
 use Prim.Native.Nat.{ℕ}
 use mathlib.Core.Path.{◌≡◌, refl, sym, ap, ◌∙◌}

@@ -1,4 +1,4 @@
--- `inner::take_pieces` meets its contract: by what its two parts leave behind. Assumes nothing.
+-- `inner::take_pieces` meets its contract: by what its two parts leave behind.
 use mathlib.Core.Path.{ap, subst}
 use native.Mathlib.Omega.{arith}
 use mathlib.Core.List.{List}

@@ -1,4 +1,4 @@
--- `inner::take_words` meets its contract: what was filled are the words of the file. Assumes nothing.
+-- `inner::take_words` meets its contract: what was filled are the words of the file.
 use mathlib.Core.Path.{ap, ◌∙◌}
 use native.Mathlib.Omega.{arith}
 use lib.ListN.{length, take}

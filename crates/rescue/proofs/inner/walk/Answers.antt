@@ -1,4 +1,4 @@
--- `inner::walk` meets its contract: the loop says what is still to be written. Assumes nothing.
+-- `inner::walk` meets its contract: the loop says what is still to be written.
 use Prim.Native.Nat.{ℕ, ◌≤◌, ◌+◌, ◌/◌}
 use mathlib.Core.Path.{refl, ◌∙◌}
 use native.Mathlib.Omega.{arith}

@@ -1,4 +1,4 @@
--- `inner::word_at` meets its contract. Assumes nothing.
+-- `inner::word_at` meets its contract.
 use Rattle.rescue.specs.Steps.{word-is}
 use Rattle.rescue.proofs.inner.word_at.Goals as goal
 

@@ -1,4 +1,4 @@
--- `inner::append` meets its contract. Assumes nothing.
+-- `inner::append` meets its contract.
 use native.Mathlib.Omega.{arith}
 use Rattle.rounds.specs.Joining.{joined_length, order, appended, too_long, append-made}
 use Rattle.rounds.specs.Limits.{over}

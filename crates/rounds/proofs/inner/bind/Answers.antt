@@ -1,4 +1,4 @@
--- `inner::bind` meets its contract. Assumes nothing.
+-- `inner::bind` meets its contract.
 use native.Mathlib.Omega.{arith}
 use Rattle.rounds.specs.Joining.{joined_length, order, bind-parts}
 use Rattle.rounds.specs.Parts.{others}

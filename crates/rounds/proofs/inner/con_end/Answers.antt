@@ -1,4 +1,4 @@
--- `inner::con_end` meets its contract: the first record says how long the constraint is. Assumes nothing.
+-- `inner::con_end` meets its contract: the first record says how long the constraint is.
 use Prim.Native.Nat.{ℕ, ◌+◌}
 use mathlib.Core.Path.{ap, ◌∙◌}
 use native.Mathlib.Omega.{arith}

@@ -1,4 +1,4 @@
--- `inner::fits` meets its contract. Assumes nothing.
+-- `inner::fits` meets its contract.
 use Rattle.rounds.specs.Limits.{too_many, by-depth}
 use Rattle.rounds.proofs.inner.fits.Goals as goal
 

@@ -1,4 +1,4 @@
--- `inner::join` meets its contract. Assumes nothing.
+-- `inner::join` meets its contract.
 use Rattle.rounds.proofs.inner.join.Goals as goal
 
 pub returns : goal.returns

@@ -1,4 +1,4 @@
--- `inner::keep` meets its contract. Assumes nothing.
+-- `inner::keep` meets its contract.
 use native.Mathlib.Omega.{arith}
 use Rattle.rounds.specs.Limits.{within, went_on, no_end, stopped, few, back}
 use Rattle.rounds.specs.Parts.{keeps}

@@ -1,4 +1,4 @@
--- `inner::limit` meets its contract. Assumes nothing.
+-- `inner::limit` meets its contract.
 use mathlib.Core.Path.{sym, ◌∙◌}
 use Rattle.replacing.specs.Flat.{stateLines}
 use Rattle.rounds.specs.Limits.{over, within}

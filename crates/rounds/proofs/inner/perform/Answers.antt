@@ -1,4 +1,4 @@
--- `inner::perform` meets its contract. Assumes nothing.
+-- `inner::perform` meets its contract.
 use mathlib.Core.Path.{refl, ap}
 use mathlib.Core.List.{[]}
 use native.Mathlib.Omega.{arith}

@@ -1,4 +1,4 @@
--- `inner::rebind` meets its contract. Assumes nothing.
+-- `inner::rebind` meets its contract.
 use mathlib.Core.Path.{refl}
 use Rattle.rounds.specs.Rebinding.{one, listed}
 use Rattle.rounds.proofs.inner.rebind.Goals as goal

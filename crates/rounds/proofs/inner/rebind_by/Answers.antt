@@ -1,4 +1,4 @@
--- `inner::rebind_by` meets its contract. Assumes nothing.
+-- `inner::rebind_by` meets its contract.
 use mathlib.Core.Path.{refl}
 use mathlib.Core.List.{map}
 use native.Mathlib.Omega.{arith}

@@ -1,4 +1,4 @@
--- `inner::round` meets its contract. Assumes nothing.
+-- `inner::round` meets its contract.
 use native.Mathlib.Omega.{arith}
 use mathlib.Core.Path.{◌∙◌}
 use lib.Seq.{length-take-le}

@@ -1,4 +1,4 @@
--- `inner::take_turn` meets its contract: what is left of the search decides, and falls. Assumes nothing.
+-- `inner::take_turn` meets its contract: what is left of the search decides, and falls.
 use mathlib.Core.Path.{refl, ap, ◌∙◌}
 use native.Mathlib.Omega.{arith}
 use lib.ListN.{length}

@@ -1,4 +1,4 @@
--- `equal` meets its contract. Assumes nothing.
+-- `equal` meets its contract.
 use Rattle.rules.specs.Names.{numbered, names_of, table_of}
 use Rattle.satisfying.proofs.Laws.{other_step}
 use Rattle.satisfying.proofs.ByKinds.{first_fits, by-kind-fits}

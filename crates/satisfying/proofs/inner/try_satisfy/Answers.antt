@@ -1,4 +1,4 @@
--- `try_satisfy` meets its contract. Assumes nothing.
+-- `try_satisfy` meets its contract.
 use mathlib.Core.Path.{sym, subst, ◌∙◌}
 use native.Mathlib.Omega.{arith}
 use Rattle.rules.specs.Names.{names_of, table_of}

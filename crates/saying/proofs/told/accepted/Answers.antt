@@ -1,4 +1,4 @@
--- `accepted` meets its contract. Assumes nothing.
+-- `accepted` meets its contract.
 use Rattle.saying.proofs.told.accepted.Goals as goal
 
 pub returns : goal.returns

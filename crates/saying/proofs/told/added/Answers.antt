@@ -1,4 +1,4 @@
--- `added` meets its contract. Assumes nothing.
+-- `added` meets its contract.
 use Rattle.saying.proofs.told.added.Goals as goal
 
 pub returns-in-Satisfied : goal.returns-in-Satisfied

@@ -1,4 +1,4 @@
--- `asked` meets its contract. Assumes nothing.
+-- `asked` meets its contract.
 use Rattle.saying.proofs.told.asked.Goals as goal
 
 pub returns-in-Said : goal.returns-in-Said

@@ -1,4 +1,4 @@
--- `batched` meets its contract. Assumes nothing.
+-- `batched` meets its contract.
 use Rattle.saying.proofs.told.batched.Goals as goal
 
 pub returns-in-Records : goal.returns-in-Records

@@ -1,4 +1,4 @@
--- `checked` meets its contract. Assumes nothing.
+-- `checked` meets its contract.
 use Rattle.saying.proofs.told.checked.Goals as goal
 
 pub returns-in-Good : goal.returns-in-Good

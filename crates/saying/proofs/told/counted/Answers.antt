@@ -1,4 +1,4 @@
--- `counted` meets its contract. Assumes nothing.
+-- `counted` meets its contract.
 use Rattle.saying.proofs.told.counted.Goals as goal
 
 pub returns-in-Names : goal.returns-in-Names

@@ -1,4 +1,4 @@
--- `judged` meets its contract. Assumes nothing.
+-- `judged` meets its contract.
 use Rattle.saying.proofs.told.judged.Goals as goal
 
 pub returns-in-Yes : goal.returns-in-Yes

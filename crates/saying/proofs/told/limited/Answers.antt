@@ -1,4 +1,4 @@
--- `limited` meets its contract. Assumes nothing.
+-- `limited` meets its contract.
 use Rattle.saying.proofs.told.limited.Goals as goal
 
 pub returns-in-Given : goal.returns-in-Given

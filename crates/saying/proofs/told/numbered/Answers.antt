@@ -1,4 +1,4 @@
--- `numbered` meets its contract. Assumes nothing.
+-- `numbered` meets its contract.
 use Rattle.saying.proofs.told.numbered.Goals as goal
 
 pub returns-in-Number : goal.returns-in-Number

@@ -1,4 +1,4 @@
--- `ordered` meets its contract. Assumes nothing.
+-- `ordered` meets its contract.
 use Rattle.saying.proofs.told.ordered.Goals as goal
 
 pub returns-in-Less : goal.returns-in-Less

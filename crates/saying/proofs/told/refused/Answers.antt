@@ -1,4 +1,4 @@
--- `refused` meets its contract. Assumes nothing.
+-- `refused` meets its contract.
 use Rattle.saying.proofs.told.refused.Goals as goal
 
 pub returns : goal.returns

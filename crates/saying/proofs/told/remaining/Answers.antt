@@ -1,4 +1,4 @@
--- `remaining` meets its contract. Assumes nothing.
+-- `remaining` meets its contract.
 use Rattle.saying.proofs.told.remaining.Goals as goal
 
 pub returns : goal.returns

@@ -1,4 +1,4 @@
--- `solution` meets its contract. Assumes nothing.
+-- `solution` meets its contract.
 use Rattle.saying.proofs.told.solution.Goals as goal
 
 pub returns-in-Solved : goal.returns-in-Solved

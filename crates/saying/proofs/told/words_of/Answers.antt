@@ -1,4 +1,4 @@
--- `words_of` meets its contract. Assumes nothing.
+-- `words_of` meets its contract.
 use Rattle.std.proofs.Common.{le-ltb, lt-ltb}
 use Rattle.saying.proofs.told.words_of.Goals as goal
 

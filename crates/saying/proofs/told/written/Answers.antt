@@ -1,4 +1,4 @@
--- `written` meets its contract. Assumes nothing.
+-- `written` meets its contract.
 use Rattle.saying.proofs.told.written.Goals as goal
 
 pub returns-in-Records : goal.returns-in-Records

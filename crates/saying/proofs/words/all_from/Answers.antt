@@ -1,4 +1,4 @@
--- `all_from` meets its contract. The invariant: what is left from i on decides. Assumes nothing.
+-- `all_from` meets its contract. The invariant: what is left from i on decides.
 use Rattle.std.proofs.Common.{sym, refl, ◌∙◌, rules, eq-eqb, ne_eqb}
 use Rattle.saying.specs.Same.{same_end, same-on, same_not}
 use Rattle.saying.proofs.words.all_from.Goals as goal

@@ -1,4 +1,4 @@
--- `words::byte_word` meets its contract. Assumes nothing.
+-- `words::byte_word` meets its contract.
 use Rattle.std.proofs.Common.{sym, arith}
 use lib.ListN.{get_or-eq_default}
 use Rattle.saying.proofs.words.byte_word.Goals as goal

@@ -1,4 +1,4 @@
--- `words::fill_bytes` meets its contract: the loop says what is left to store. Assumes nothing.
+-- `words::fill_bytes` meets its contract: the loop says what is left to store.
 use Rattle.std.proofs.Common.{refl, ◌∙◌, arith}
 use Rattle.saying.specs.Fills.{fill_step, fill_end}
 use Rattle.saying.specs.Fills.{fill_step, fill_end}

@@ -1,4 +1,4 @@
--- `words::fill_low` meets its contract: the loop says what is left to store. Assumes nothing.
+-- `words::fill_low` meets its contract: the loop says what is left to store.
 use Rattle.std.proofs.Common.{map, sym, refl, ◌∙◌, arith}
 use lib.ListN.{length-map}
 use Rattle.saying.specs.Fills.{low_byte, fill_step, fill_end}

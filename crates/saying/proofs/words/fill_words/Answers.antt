@@ -1,4 +1,4 @@
--- `words::fill_words` meets its contract: the loop says what is left to store. Assumes nothing.
+-- `words::fill_words` meets its contract: the loop says what is left to store.
 use Rattle.std.proofs.Common.{refl, ◌∙◌, arith}
 use Rattle.saying.specs.Fills.{fill_step, fill_end}
 use Rattle.saying.proofs.words.fill_words.Goals as goal

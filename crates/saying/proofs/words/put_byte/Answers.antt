@@ -1,4 +1,4 @@
--- `words::put_byte` meets its contract. Assumes nothing.
+-- `words::put_byte` meets its contract.
 use Rattle.std.proofs.Common.{sym}
 use lib.Seq.{set_out}
 use Rattle.saying.proofs.words.put_byte.Goals as goal

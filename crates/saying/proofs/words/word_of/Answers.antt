@@ -1,4 +1,4 @@
--- `words::word_of` meets its contract. Assumes nothing.
+-- `words::word_of` meets its contract.
 use Rattle.std.proofs.Common.{sym, arith}
 use lib.ListN.{get_or-eq_default}
 use Rattle.saying.proofs.words.word_of.Goals as goal

@@ -1,4 +1,4 @@
--- `inner::escape_at` meets its contract. Assumes nothing.
+-- `inner::escape_at` meets its contract.
 use mathlib.Core.Path.{sym, ap, ◌∙◌}
 use native.Mathlib.Omega.{arith}
 use Rattle.scanning.specs.Digits.{toldHex, hex-below}

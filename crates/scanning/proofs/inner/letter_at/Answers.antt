@@ -1,4 +1,4 @@
--- `inner::letter_at` meets its contract. Assumes nothing.
+-- `inner::letter_at` meets its contract.
 use mathlib.Core.Path.{sym, ◌∙◌}
 use Rattle.scanning.specs.Scanned.{plain-letter, no-letter}
 use Rattle.scanning.proofs.inner.letter_at.Goals as goal

@@ -1,4 +1,4 @@
--- `inner::scan_digits` meets its contract: what was read so far. Assumes nothing.
+-- `inner::scan_digits` meets its contract: what was read so far.
 use mathlib.Core.Path.{sym, ◌∙◌}
 use native.Mathlib.Omega.{arith}
 use borrow.Author.Tests.{leb-true}

@@ -1,4 +1,4 @@
--- `inner::scan_name` meets its contract: what was read so far. Assumes nothing.
+-- `inner::scan_name` meets its contract: what was read so far.
 use mathlib.Core.Path.{refl, ◌∙◌}
 use native.Mathlib.Omega.{arith}
 use Rattle.scanning.specs.Scanned.{end-name}

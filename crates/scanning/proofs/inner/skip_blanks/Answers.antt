@@ -1,4 +1,4 @@
--- `inner::skip_blanks` meets its contract: what is left to skip. Assumes nothing.
+-- `inner::skip_blanks` meets its contract: what is left to skip.
 use mathlib.Core.Path.{refl, sym, ◌∙◌}
 use native.Mathlib.Omega.{arith}
 use Rattle.scanning.specs.Scanned.{sign-step, blank_step, end_step}

@@ -1,4 +1,4 @@
--- `inner::spell` meets its contract: what is left to spell. Assumes nothing.
+-- `inner::spell` meets its contract: what is left to spell.
 use mathlib.Core.Path.{refl, sym, ◌∙◌}
 use native.Mathlib.Omega.{arith}
 use Rattle.scanning.specs.Scanned.{spelt-whole, spelt-end, spelt-other, spelt-step}

@@ -1,4 +1,4 @@
--- `word_at` meets its contract. Assumes nothing.
+-- `word_at` meets its contract.
 use borrow.Author.Tests.{lt-ltb, le-ltb}
 use Rattle.serve.specs.Requests.{word_at}
 use Rattle.serve.proofs.coding.word_at.Goals as goal

@@ -1,4 +1,4 @@
--- `flags` meets its contract. Assumes nothing.
+-- `flags` meets its contract.
 use Rattle.serve.proofs.reply.flags.Goals as goal
 
 pub returns : goal.returns

@@ -1,4 +1,4 @@
--- `excess` meets its contract. Assumes nothing.
+-- `excess` meets its contract.
 use native.Mathlib.Omega.{arith}
 use Rattle.serve.specs.Requests.{excessOf}
 use Rattle.serve.proofs.request.excess.Goals as goal

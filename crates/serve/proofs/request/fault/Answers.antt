@@ -1,4 +1,4 @@
--- `fault` meets its contract. Assumes nothing.
+-- `fault` meets its contract.
 use mathlib.Core.Path.{sym, ◌∙◌}
 use borrow.Author.Tests.{lt-ltb, le-ltb, eq-eqb, ne_eqb}
 use Rattle.serve.specs.Requests.{faultOf, fits}

@@ -1,4 +1,4 @@
--- `header_from` meets its contract. Assumes nothing.
+-- `header_from` meets its contract.
 use Rattle.serve.proofs.request.header_from.Goals as goal
 
 pub returns : goal.returns

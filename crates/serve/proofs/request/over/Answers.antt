@@ -1,4 +1,4 @@
--- `over` meets its contract. Assumes nothing.
+-- `over` meets its contract.
 use native.Mathlib.Omega.{arith}
 use borrow.Author.Tests.{lt-ltb, le-ltb}
 use Rattle.serve.proofs.request.over.Goals as goal

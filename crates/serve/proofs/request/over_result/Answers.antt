@@ -1,4 +1,4 @@
--- `over_result` meets its contract. Assumes nothing.
+-- `over_result` meets its contract.
 use borrow.Author.Tests.{eq-eqb, ne_eqb}
 use Rattle.serve.proofs.request.over_result.Goals as goal
 

@@ -1,4 +1,4 @@
--- `inner::hold_bytes` meets its contract: the first i elements are held. Assumes nothing.
+-- `inner::hold_bytes` meets its contract: the first i elements are held.
 use mathlib.Core.Path.{refl, ◌∙◌}
 use native.Mathlib.Omega.{arith}
 use lib.ListN.{length-set}

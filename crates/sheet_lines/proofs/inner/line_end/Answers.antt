@@ -1,4 +1,4 @@
--- `inner::line_end` meets its contract: no line feed so far. Assumes nothing.
+-- `inner::line_end` meets its contract: no line feed so far.
 use native.Mathlib.Omega.{arith}
 use Rattle.sheet_lines.specs.Cut.{starts, goes_on, at-feed, at-end}
 use Rattle.sheet_lines.proofs.inner.line_end.Goals as goal

@@ -1,4 +1,4 @@
--- `inner::put_bytes` meets its contract: the first i elements stand at the front. Assumes nothing.
+-- `inner::put_bytes` meets its contract: the first i elements stand at the front.
 use mathlib.Core.Path.{refl, ◌∙◌}
 use native.Mathlib.Omega.{arith}
 use lib.ListN.{length-set}

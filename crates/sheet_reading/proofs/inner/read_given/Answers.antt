@@ -1,4 +1,4 @@
--- `inner::read_given` meets its contract, by what its parts did. Assumes nothing.
+-- `inner::read_given` meets its contract, by what its parts did.
 use mathlib.Core.Bool.{not}
 use mathlib.Core.Path.{ap}
 use native.Mathlib.Omega.{arith}

@@ -1,4 +1,4 @@
--- `inner::read_lines` meets its contract: the lines so far are read. Assumes nothing.
+-- `inner::read_lines` meets its contract: the lines so far are read.
 use native.Mathlib.Omega.{arith}
 use Rattle.sheet_reading.specs.Loop.{begins, counts, goes_on, ends, place_in, stops}
 use Rattle.sheet_reading.proofs.inner.read_lines.Goals as goal

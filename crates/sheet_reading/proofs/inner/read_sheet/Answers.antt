@@ -1,4 +1,4 @@
--- `inner::read_sheet` meets its contract: what was held is put back. Assumes nothing.
+-- `inner::read_sheet` meets its contract: what was held is put back.
 use mathlib.Core.Path.{refl, sym}
 use native.Mathlib.Omega.{arith}
 use Rattle.sheet_reading.specs.Loop.{undone, bytes-held, words-held}

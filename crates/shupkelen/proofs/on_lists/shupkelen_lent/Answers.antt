@@ -1,4 +1,4 @@
--- `on_lists::shupkelen_lent` meets its contract. Assumes nothing.
+-- `on_lists::shupkelen_lent` meets its contract.
 use mathlib.Core.Path.{◌≡◌, refl}
 use mathlib.Core.Bool.{Bool, true, false}
 use Prim.Native.Nat.{ℕ}

@@ -1,4 +1,4 @@
--- `on_names::shupkelen_check_number` meets its contract. Assumes nothing.
+-- `on_names::shupkelen_check_number` meets its contract.
 use mathlib.Core.Path.{ap, ◌∙◌}
 use Rattle.rules.specs.Numbers.{refusalIn}
 use Rattle.shupkelen.specs.Handing.{same_number}

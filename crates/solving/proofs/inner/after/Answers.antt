@@ -1,4 +1,4 @@
--- `inner::after` meets its contract. Assumes nothing.
+-- `inner::after` meets its contract.
 use mathlib.Core.Path.{sym, ap}
 use Rattle.finishing.specs.Told.{toldFinish}
 use Rattle.finishing.specs.declared.Finish.{Finish}

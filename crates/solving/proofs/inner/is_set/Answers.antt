@@ -1,4 +1,4 @@
--- `inner::is_set` meets its contract. Assumes nothing.
+-- `inner::is_set` meets its contract.
 use mathlib.Core.Path.{◌≡◌}
 use mathlib.Core.Bool.{◌&&◌}
 use borrow.Author.Tests.{eq-eqb, ne_eqb}

@@ -1,4 +1,4 @@
--- `inner::run` meets its contract. The invariant: the rounds that are left give the whole answer. Assumes nothing.
+-- `inner::run` meets its contract. The invariant: the rounds that are left give the whole answer.
 use mathlib.Core.Path.{refl, ap, ◌∙◌}
 use native.Mathlib.Omega.{arith}
 use lib.ListN.{length}

@@ -1,4 +1,4 @@
--- `inner::run_alone` meets its contract. Assumes nothing.
+-- `inner::run_alone` meets its contract.
 use native.Mathlib.Omega.{arith}
 use Rattle.solving.proofs.inner.run_alone.Goals as goal
 

@@ -1,4 +1,4 @@
--- `inner::solve_set` meets its contract. Assumes nothing.
+-- `inner::solve_set` meets its contract.
 use mathlib.Core.Path.{sym, ap, ◌∙◌}
 use native.Mathlib.Omega.{arith}
 use Rattle.names.specs.Told.{toldChecked}

@@ -1,4 +1,4 @@
--- `inner::put_digits` meets its contract. Assumes nothing.
+-- `inner::put_digits` meets its contract.
 use native.Mathlib.Omega.{arith}
 use Rattle.sheets.specs.Lengths.{digits-short}
 use Rattle.spelling.specs.Puts.{no-digits, one-digit, more-digits}

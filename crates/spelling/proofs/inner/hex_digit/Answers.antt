@@ -1,4 +1,4 @@
--- `inner::hex_digit` meets its contract. Assumes nothing.
+-- `inner::hex_digit` meets its contract.
 use borrow.Author.Tests.{lt-ltb, le-ltb}
 use Rattle.rules.specs.TextWriting.{hexDigit}
 use Rattle.spelling.proofs.inner.hex_digit.Goals as goal

@@ -1,4 +1,4 @@
--- `inner::put` meets its contract. Assumes nothing.
+-- `inner::put` meets its contract.
 use mathlib.Core.Path.{sym}
 use lib.Seq.{set_out}
 use Rattle.spelling.proofs.inner.put.Goals as goal

@@ -1,4 +1,4 @@
--- `inner::put_denominator` meets its contract. Assumes nothing.
+-- `inner::put_denominator` meets its contract.
 use Rattle.spelling.specs.Puts.{whole, fraction}
 use Rattle.spelling.proofs.inner.put_denominator.Goals as goal
 

@@ -1,4 +1,4 @@
--- `inner::put_escaped` meets its contract. Assumes nothing.
+-- `inner::put_escaped` meets its contract.
 use mathlib.Core.Path.{sym, ◌∙◌}
 use Rattle.spelling.specs.Puts.{plain, slashed}
 use Rattle.spelling.proofs.inner.put_escaped.Goals as goal

@@ -1,4 +1,4 @@
--- `inner::put_numerator` meets its contract. Assumes nothing.
+-- `inner::put_numerator` meets its contract.
 use Rattle.spelling.specs.Puts.{positive, negative}
 use Rattle.spelling.proofs.inner.put_numerator.Goals as goal
 

@@ -1,4 +1,4 @@
--- `inner::put_power` meets its contract. Assumes nothing.
+-- `inner::put_power` meets its contract.
 use mathlib.Core.Path.{sym, ap, ◌∙◌}
 use native.Mathlib.Omega.{arith}
 use Rattle.rules.specs.Base.{is_yes}

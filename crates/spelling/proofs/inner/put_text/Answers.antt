@@ -1,4 +1,4 @@
--- `inner::put_text` meets its contract: the bytes before i are put. Assumes nothing.
+-- `inner::put_text` meets its contract: the bytes before i are put.
 use mathlib.Core.Path.{◌≡◌, refl, ◌∙◌}
 use native.Mathlib.Omega.{arith}
 use lib.ListN.{length}

@@ -1,4 +1,4 @@
--- `inner::answer` meets its contract. Assumes nothing.
+-- `inner::answer` meets its contract.
 use Rattle.statements.proofs.inner.answer.Goals as goal
 
 pub returns-in-Bad : goal.returns-in-Bad

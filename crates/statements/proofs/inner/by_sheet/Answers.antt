@@ -1,4 +1,4 @@
--- `inner::by_sheet` meets its contract. Assumes nothing.
+-- `inner::by_sheet` meets its contract.
 use Rattle.statements.proofs.inner.by_sheet.Goals as goal
 
 pub returns-in-Going : goal.returns-in-Going

@@ -1,4 +1,4 @@
--- `inner::end_at` meets its contract. Assumes nothing.
+-- `inner::end_at` meets its contract.
 use Rattle.rules.specs.Grammar.{end_at}
 use Rattle.reading.specs.Points.{stays}
 use Rattle.statements.specs.Statements.{end-there, end-other, end-past}

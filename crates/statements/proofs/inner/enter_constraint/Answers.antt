@@ -1,4 +1,4 @@
--- `inner::enter_constraint` meets its contract. Assumes nothing.
+-- `inner::enter_constraint` meets its contract.
 use Rattle.statements.specs.Statements.{constraint-done}
 use Rattle.statements.proofs.inner.enter_constraint.Goals as goal
 

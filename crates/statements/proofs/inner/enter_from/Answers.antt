@@ -1,4 +1,4 @@
--- `inner::enter_from` meets its contract. Assumes nothing.
+-- `inner::enter_from` meets its contract.
 use mathlib.Core.Path.{sym, ◌∙◌}
 use Rattle.statements.specs.Statements.{comment-done, signs-done}
 use Rattle.statements.proofs.inner.enter_from.Goals as goal

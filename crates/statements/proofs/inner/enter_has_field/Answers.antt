@@ -1,4 +1,4 @@
--- `inner::enter_has_field` meets its contract. Assumes nothing.
+-- `inner::enter_has_field` meets its contract.
 use native.Mathlib.Omega.{arith}
 use Rattle.terms.specs.Effects.{kept_then, kept_above, kept-count, ready-count, ready_on, ready-next}
 use Rattle.terms.specs.Inside.{inside-column, inside-spelled}

@@ -1,4 +1,4 @@
--- `inner::enter_signs` meets its contract. Assumes nothing.
+-- `inner::enter_signs` meets its contract.
 use Rattle.statements.specs.Statements.{blank-done}
 use Rattle.statements.proofs.inner.enter_signs.Goals as goal
 

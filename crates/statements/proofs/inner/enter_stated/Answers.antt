@@ -1,4 +1,4 @@
--- `inner::enter_stated` meets its contract. Assumes nothing.
+-- `inner::enter_stated` meets its contract.
 use mathlib.Core.Path.{sym, ◌∙◌}
 use Rattle.statements.specs.Statements.{stated-field, stated-type}
 use Rattle.statements.proofs.inner.enter_stated.Goals as goal

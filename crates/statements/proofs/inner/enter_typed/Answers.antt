@@ -1,4 +1,4 @@
--- `inner::enter_typed` meets its contract. Assumes nothing.
+-- `inner::enter_typed` meets its contract.
 use native.Mathlib.Omega.{arith}
 use mathlib.Core.Path.{sym, subst, ◌∙◌}
 use Rattle.terms.specs.Effects.{kept_then, kept_above, kept-count, ready-count, ready_on, ready-next}

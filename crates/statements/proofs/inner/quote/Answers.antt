@@ -1,4 +1,4 @@
--- `inner::quote` meets its contract. Assumes nothing.
+-- `inner::quote` meets its contract.
 use Rattle.rules.specs.Grammar.{ascii, spell}
 use Rattle.reading.specs.Points.{stays}
 use Rattle.statements.specs.Statements.{quote-there, quote-other, quote-end, quote-past}

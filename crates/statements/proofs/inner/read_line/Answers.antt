@@ -1,4 +1,4 @@
--- `inner::read_line` meets its contract. Assumes nothing.
+-- `inner::read_line` meets its contract.
 use mathlib.Core.Path.{refl}
 use native.Mathlib.Omega.{arith}
 use Rattle.terms.specs.Effects.{ready_on, not-past}

@@ -1,4 +1,4 @@
--- `inner::says_scalar` meets its contract. Assumes nothing.
+-- `inner::says_scalar` meets its contract.
 use Rattle.statements.specs.Statements.{says-scalar}
 use Rattle.statements.proofs.inner.says_scalar.Goals as goal
 

@@ -1,4 +1,4 @@
--- `inner::put_bounds` meets its contract: the records left fall. Assumes nothing.
+-- `inner::put_bounds` meets its contract: the records left fall.
 use native.Mathlib.Omega.{arith}
 use Rattle.telling.specs.Lines.{bound-lined}
 use Rattle.telling.specs.Rows.{no_rows, row_first, row_on, row_next, row_put}

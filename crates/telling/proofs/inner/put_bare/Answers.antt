@@ -1,4 +1,4 @@
--- `inner::put_bare` meets its contract: by the case. Assumes nothing.
+-- `inner::put_bare` meets its contract: by the case.
 use native.Mathlib.Omega.{arith}
 use Rattle.spelling.specs.Puts.{nothing}
 use Rattle.telling.proofs.inner.put_bare.Goals as goal

@@ -1,4 +1,4 @@
--- `inner::put_binding` meets its contract: where a binding is held, the record says one. Assumes nothing.
+-- `inner::put_binding` meets its contract: where a binding is held, the record says one.
 use Rattle.records.specs.contracts.View as views
 use Rattle.records.specs.declared.View.{View}
 use Rattle.records.specs.Views.{viewAt}

@@ -1,4 +1,4 @@
--- `inner::put_bound` meets its contract: where a bound is held, the record says one. Assumes nothing.
+-- `inner::put_bound` meets its contract: where a bound is held, the record says one.
 use Rattle.records.specs.contracts.View as views
 use Rattle.records.specs.declared.View.{View}
 use Rattle.records.specs.Views.{viewAt}

@@ -1,4 +1,4 @@
--- `inner::put_left` meets its contract. Assumes nothing.
+-- `inner::put_left` meets its contract.
 use native.Mathlib.Omega.{arith}
 use Rattle.telling.specs.Lines.{left-con, left-little, left-put}
 use Rattle.telling.proofs.inner.put_left.Goals as goal

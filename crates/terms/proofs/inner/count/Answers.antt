@@ -1,4 +1,4 @@
--- `inner::count` meets its contract. Assumes nothing.
+-- `inner::count` meets its contract.
 use native.Mathlib.Omega.{arith}
 use Rattle.terms.specs.Stands.{count_fits, count-over, count-stays}
 use Rattle.terms.proofs.inner.count.Goals as goal

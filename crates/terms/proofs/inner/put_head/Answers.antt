@@ -1,4 +1,4 @@
--- `inner::put_head` meets its contract. Assumes nothing.
+-- `inner::put_head` meets its contract.
 use native.Mathlib.Omega.{arith}
 use Rattle.terms.specs.Stands.{head-put, head-none, head-stays}
 use Rattle.terms.proofs.inner.put_head.Goals as goal

@@ -1,4 +1,4 @@
--- `inner::past` meets its contract: the types left fall. Assumes nothing.
+-- `inner::past` meets its contract: the types left fall.
 use mathlib.Core.List.{[]}
 use Rattle.text.specs.Types.{none-past, first_of, rest_of, some-past}
 use native.Mathlib.Omega.{arith}

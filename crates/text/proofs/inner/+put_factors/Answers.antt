@@ -1,4 +1,4 @@
--- `inner::put_factors` meets its contract. Assumes nothing.
+-- `inner::put_factors` meets its contract.
 use mathlib.Core.Path.{◌≡◌, sym, ◌∙◌, subst}
 use mathlib.Core.List.{List, [], ◌∷◌}
 use denote.Enum.Declared as Declared

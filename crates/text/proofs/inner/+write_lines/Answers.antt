@@ -1,4 +1,4 @@
--- `inner::write_lines` meets its contract: the records left fall. Assumes nothing.
+-- `inner::write_lines` meets its contract: the records left fall.
 use lib.ListN.{length}
 use Prim.Native.Nat.{◌/◌, ◌<◌}
 use Rattle.text.specs.Lines.{no_lines, line-con, line-little, line_on, line-next, line-put}

@@ -1,4 +1,4 @@
--- `inner::put_atom` meets its contract: by the case. Assumes nothing.
+-- `inner::put_atom` meets its contract: by the case.
 use native.Mathlib.Omega.{arith}
 use Rattle.spelling.specs.Puts.{after}
 use Rattle.text.specs.Factors.{atomText}

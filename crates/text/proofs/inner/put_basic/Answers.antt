@@ -1,4 +1,4 @@
--- `inner::put_basic` meets its contract: by the case. Assumes nothing.
+-- `inner::put_basic` meets its contract: by the case.
 use Rattle.text.proofs.inner.put_basic.Goals as goal
 
 pub returns-in-Boolean : goal.returns-in-Boolean

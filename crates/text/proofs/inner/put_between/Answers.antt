@@ -1,4 +1,4 @@
--- `inner::put_between` meets its contract. Assumes nothing.
+-- `inner::put_between` meets its contract.
 use Rattle.spelling.specs.Puts.{after}
 use Rattle.text.specs.Types.{bracket-short}
 use native.Mathlib.Omega.{arith}

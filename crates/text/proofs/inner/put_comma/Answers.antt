@@ -1,4 +1,4 @@
--- `inner::put_comma` meets its contract. Assumes nothing.
+-- `inner::put_comma` meets its contract.
 use Rattle.spelling.specs.Puts.{nothing}
 use Rattle.text.proofs.inner.put_comma.Goals as goal
 

@@ -1,4 +1,4 @@
--- `inner::put_dimension` meets its contract. Assumes nothing.
+-- `inner::put_dimension` meets its contract.
 use native.Mathlib.Omega.{arith}
 use Rattle.text.specs.Factors.{nearer, factors-short, dimension-put}
 use Rattle.text.proofs.inner.put_dimension.Goals as goal

@@ -1,4 +1,4 @@
--- `inner::put_factor` meets its contract. Assumes nothing.
+-- `inner::put_factor` meets its contract.
 use native.Mathlib.Omega.{arith}
 use Rattle.text.specs.Factors.{atom-short, factor-put}
 use Rattle.text.proofs.inner.put_factor.Goals as goal

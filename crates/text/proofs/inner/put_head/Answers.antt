@@ -1,4 +1,4 @@
--- `inner::put_head` meets its contract. Assumes nothing.
+-- `inner::put_head` meets its contract.
 use Rattle.spelling.specs.Puts.{after}
 use Rattle.text.specs.Types.{held-short}
 use native.Mathlib.Omega.{arith}

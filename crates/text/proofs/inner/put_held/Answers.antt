@@ -1,4 +1,4 @@
--- `inner::put_held` meets its contract. Assumes nothing.
+-- `inner::put_held` meets its contract.
 use native.Mathlib.Omega.{arith}
 use Rattle.laws.specs.NameTable.{good-laid}
 use Rattle.sheets.specs.Meanings.{name-length}

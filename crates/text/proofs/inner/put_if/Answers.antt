@@ -1,4 +1,4 @@
--- `inner::put_if` meets its contract. Assumes nothing.
+-- `inner::put_if` meets its contract.
 use Rattle.text.specs.Types.{no-bracket, a-bracket}
 use Rattle.text.proofs.inner.put_if.Goals as goal
 

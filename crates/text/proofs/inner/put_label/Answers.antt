@@ -1,4 +1,4 @@
--- `inner::put_label` meets its contract. Assumes nothing.
+-- `inner::put_label` meets its contract.
 use Rattle.spelling.specs.Puts.{after}
 use Rattle.text.specs.Types.{comma-short, held-short}
 use native.Mathlib.Omega.{arith}

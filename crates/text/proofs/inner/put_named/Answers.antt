@@ -1,4 +1,4 @@
--- `inner::put_named` meets its contract. Assumes nothing.
+-- `inner::put_named` meets its contract.
 use Rattle.spelling.specs.Puts.{after}
 use Rattle.text.specs.Types.{held-short}
 use native.Mathlib.Omega.{arith}

@@ -1,4 +1,4 @@
--- `inner::put_open` meets its contract: by the case. Assumes nothing.
+-- `inner::put_open` meets its contract: by the case.
 use native.Mathlib.Omega.{arith}
 use Rattle.rules.specs.TextWriting.{openText}
 use Rattle.spelling.specs.Puts.{nothing, after}

@@ -1,4 +1,4 @@
--- `inner::put_star` meets its contract. Assumes nothing.
+-- `inner::put_star` meets its contract.
 use Rattle.spelling.specs.Puts.{nothing}
 use Rattle.text.proofs.inner.put_star.Goals as goal
 

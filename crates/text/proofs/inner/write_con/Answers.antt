@@ -1,4 +1,4 @@
--- `inner::write_con` meets its contract: by the case. Assumes nothing.
+-- `inner::write_con` meets its contract: by the case.
 use Rattle.records.specs.contracts.View as views
 use Rattle.records.specs.declared.View.{View}
 use Rattle.records.specs.Holds.{HoldsCon}

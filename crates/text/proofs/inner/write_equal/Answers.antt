@@ -1,4 +1,4 @@
--- `inner::write_equal` meets its contract. Assumes nothing.
+-- `inner::write_equal` meets its contract.
 use Rattle.text.specs.Lines.{con-within, equal-first, equal-little, equal-held, equal-second, equal-put}
 use native.Mathlib.Omega.{arith}
 use Rattle.text.proofs.inner.write_equal.Goals as goal

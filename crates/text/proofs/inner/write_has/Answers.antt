@@ -1,4 +1,4 @@
--- `inner::write_has` meets its contract. Assumes nothing.
+-- `inner::write_has` meets its contract.
 use Rattle.text.specs.Lines.{con-within, con-little, has_first, has-name, has-little, has-held, has-second, has_last, has-put}
 use native.Mathlib.Omega.{arith}
 use Rattle.text.proofs.inner.write_has.Goals as goal

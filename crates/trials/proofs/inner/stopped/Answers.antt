@@ -1,4 +1,4 @@
--- `inner::stopped` meets its contract. Assumes nothing.
+-- `inner::stopped` meets its contract.
 use mathlib.Core.Path.{sym, ◌∙◌}
 use Rattle.trials.specs.Trials.{six, not-six}
 use Rattle.trials.proofs.inner.stopped.Goals as goal

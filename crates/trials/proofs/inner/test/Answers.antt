@@ -1,4 +1,4 @@
--- `inner::test` meets its contract. Assumes nothing.
+-- `inner::test` meets its contract.
 use mathlib.Core.Path.{sym, ap, ◌∙◌}
 use mathlib.Core.List.{[], ◌∷◌}
 use Rattle.rules.specs.Base.{got}

@@ -1,4 +1,4 @@
--- `inner::try_all` meets its contract: what is left of the set decides. Assumes nothing.
+-- `inner::try_all` meets its contract: what is left of the set decides.
 use mathlib.Core.Path.{refl, ◌∙◌}
 use native.Mathlib.Omega.{arith}
 use Rattle.trials.specs.Trials.{going_start, first, further, going-stop, going_on, going_end}

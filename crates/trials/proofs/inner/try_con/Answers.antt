@@ -1,4 +1,4 @@
--- `inner::try_con` meets its contract. Assumes nothing.
+-- `inner::try_con` meets its contract.
 use mathlib.Core.List.{[]}
 use native.Mathlib.Omega.{arith}
 use Rattle.replacing.specs.LineRules.{con}

@@ -1,4 +1,4 @@
--- `inner::tell_answer` meets its contract: by the answer's first word. Assumes nothing.
+-- `inner::tell_answer` meets its contract: by the answer's first word.
 use Rattle.text.specs.Types.{name_of}
 use Rattle.trials.specs.Told.{told}
 use Rattle.verdicts.specs.Answers.{tells-solved, tells-left, tells-stopped}

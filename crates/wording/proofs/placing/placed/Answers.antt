@@ -1,4 +1,4 @@
--- `placing::placed` meets its contract. Assumes nothing.
+-- `placing::placed` meets its contract.
 use mathlib.Core.Path.{ap, ◌∙◌}
 use mathlib.Core.List.{List}
 use Prim.Native.Nat.{ℕ}

@@ -1,4 +1,4 @@
--- `inner::factors::enter_factor` meets its contract. Assumes nothing.
+-- `inner::factors::enter_factor` meets its contract.
 use mathlib.Core.Path.{refl, sym, ◌∙◌}
 use mathlib.Core.List.{[]}
 use Rattle.terms.specs.Effects.{ready_on, ready-next, kept-last, kept-stopped}

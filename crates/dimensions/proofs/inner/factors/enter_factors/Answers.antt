@@ -1,4 +1,4 @@
--- `inner::factors::enter_factors` meets its contract. Assumes nothing.
+-- `inner::factors::enter_factors` meets its contract.
 use mathlib.Core.Path.{sym, ◌∙◌}
 use mathlib.Core.List.{[]}
 use Rattle.terms.specs.Effects.{ready-next, kept_same}

@@ -1,4 +1,4 @@
--- `inner::whole::enter_dimension` meets its contract. Assumes nothing.
+-- `inner::whole::enter_dimension` meets its contract.
 use mathlib.Core.List.{[]}
 use native.Mathlib.Omega.{arith}
 use Rattle.products.specs.Held.{well-sound}

@@ -1,4 +1,4 @@
--- `inner::whole::put_product` meets its contract. Assumes nothing.
+-- `inner::whole::put_product` meets its contract.
 use native.Mathlib.Omega.{arith}
 use Rattle.dimensions.proofs.inner.whole.put_product.Goals as goal
 

@@ -1,5 +1,4 @@
 -- `elimination::grids::binding` meets its contract: each place where a power can leave the range, and the machine afterwards.
--- Assumes nothing.
 use mathlib.Core.Path.{◌≡◌, ap, ◌∙◌, sym, subst}
 use mathlib.Core.Bool.{true}
 use mathlib.Core.List.{List}

@@ -1,4 +1,4 @@
--- `elimination::grids::bound` meets its contract. Assumes nothing.
+-- `elimination::grids::bound` meets its contract.
 use mathlib.Core.Path.{refl}
 use native.Mathlib.Omega.{arith}
 use Rattle.elimination.specs.Machine.{boundOf}

@@ -1,4 +1,4 @@
--- `elimination::grids::dropped` meets its contract. Assumes nothing.
+-- `elimination::grids::dropped` meets its contract.
 use mathlib.Core.Path.{refl}
 use Rattle.elimination.specs.Machine.{droppedOf}
 use Rattle.elimination.proofs.inner.grids.dropped.Goals as goal

@@ -1,5 +1,4 @@
 -- `elimination::grids::eliminate` meets its contract. The invariant: what is left to do is what there was to do.
--- Assumes nothing.
 use mathlib.Core.Path.{refl, ◌∙◌, sym, subst}
 use mathlib.Core.Bool.{Bool, true}
 use native.Mathlib.Omega.{arith}

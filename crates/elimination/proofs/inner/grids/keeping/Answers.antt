@@ -1,4 +1,4 @@
--- `elimination::grids::keeping` meets its contract. Assumes nothing.
+-- `elimination::grids::keeping` meets its contract.
 use mathlib.Core.Path.{refl}
 use Rattle.elimination.specs.Machine.{keepingOf}
 use Rattle.elimination.proofs.inner.grids.keeping.Goals as goal

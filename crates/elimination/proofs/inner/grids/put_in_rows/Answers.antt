@@ -1,5 +1,4 @@
 -- `elimination::grids::put_in_rows` meets its contract. The invariant: the rows so far, and those to come, are all of them.
--- Assumes nothing.
 use mathlib.Core.Path.{◌≡◌, ap, ◌∙◌, sym}
 use mathlib.Core.List.{[]}
 use Prim.Native.Nat.{ℕ, ◌+◌, ◌<◌, ◌≤◌}

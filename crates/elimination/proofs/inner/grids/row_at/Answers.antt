@@ -1,4 +1,4 @@
--- `elimination::grids::row_at` meets its contract. Assumes nothing.
+-- `elimination::grids::row_at` meets its contract.
 use Rattle.elimination.specs.Grids.{grid-at}
 use Rattle.elimination.proofs.inner.grids.row_at.Goals as goal
 

@@ -1,5 +1,4 @@
 -- `elimination::grids::step` meets its contract, by the first power of the row that isn't 0.
--- Assumes nothing.
 use mathlib.Core.Path.{◌≡◌, ap, ◌∙◌, sym, subst}
 use mathlib.Core.Bool.{true}
 use Prim.Native.Nat.{ℕ, ◌<◌, ◌≤◌}

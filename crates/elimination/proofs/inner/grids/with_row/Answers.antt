@@ -1,4 +1,4 @@
--- `elimination::grids::with_row` meets its contract. Assumes nothing.
+-- `elimination::grids::with_row` meets its contract.
 use Rattle.elimination.specs.Grids.{grid-set}
 use Rattle.elimination.proofs.inner.grids.with_row.Goals as goal
 

@@ -1,5 +1,4 @@
 -- `elimination::rows::divided` meets its contract. The invariant: the quotients so far, and those to come, are all of them.
--- Assumes nothing.
 use mathlib.Core.Path.{◌≡◌, ap, ◌∙◌, sym}
 use mathlib.Core.Bool.{true}
 use native.Mathlib.Omega.{arith}

@@ -1,5 +1,4 @@
 -- `elimination::rows::plus_row` meets its contract. The invariant: the sums so far, and those to come, are all of them.
--- Assumes nothing.
 use mathlib.Core.Path.{◌≡◌, ap, ap₂, ◌∙◌, sym}
 use mathlib.Core.Bool.{true}
 use Prim.Native.Nat.{◌<◌}

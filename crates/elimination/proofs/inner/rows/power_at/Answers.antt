@@ -1,4 +1,4 @@
--- `elimination::rows::power_at` meets its contract. Assumes nothing.
+-- `elimination::rows::power_at` meets its contract.
 use Rattle.elimination.specs.Doing.{row_at}
 use Rattle.elimination.proofs.inner.rows.power_at.Goals as goal
 

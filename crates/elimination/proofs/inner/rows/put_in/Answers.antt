@@ -1,4 +1,4 @@
--- `elimination::rows::put_in` meets its contract. Assumes nothing.
+-- `elimination::rows::put_in` meets its contract.
 use mathlib.Core.Path.{◌≡◌, ap, ◌∙◌, sym}
 use lib.ListN.{get_or, set}
 use Rattle.rules.specs.Base.{Got, got, refused, ◌>>=◌}

@@ -1,4 +1,4 @@
--- `elimination::rows::solved_for` meets its contract. Assumes nothing.
+-- `elimination::rows::solved_for` meets its contract.
 use mathlib.Core.Path.{ap₂}
 use Rattle.laws.specs.Ranges.{nought-good}
 use Rattle.rules.specs.Elimination.{solvedFor}

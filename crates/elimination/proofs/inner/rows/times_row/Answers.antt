@@ -1,5 +1,4 @@
 -- `elimination::rows::times_row` meets its contract. The invariant: the products so far, and those to come, are all of them.
--- Assumes nothing.
 use mathlib.Core.Path.{◌≡◌, ap, ◌∙◌, sym}
 use mathlib.Core.Bool.{true}
 use native.Mathlib.Omega.{arith}

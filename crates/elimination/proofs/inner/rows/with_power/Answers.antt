@@ -1,4 +1,4 @@
--- `elimination::rows::with_power` meets its contract. Assumes nothing.
+-- `elimination::rows::with_power` meets its contract.
 use Rattle.elimination.specs.Doing.{row-set}
 use Rattle.elimination.proofs.inner.rows.with_power.Goals as goal
 

@@ -1,4 +1,4 @@
--- `inner::bounds::put_bounds` meets its contract: fewer bounds are left. Assumes nothing.
+-- `inner::bounds::put_bounds` meets its contract: fewer bounds are left.
 use mathlib.Core.Path.{refl, sym, ◌∙◌}
 use mathlib.Core.List.{[], ◌∷◌}
 use native.Mathlib.Omega.{arith}

@@ -1,4 +1,4 @@
--- `inner::bounds::name_at` meets its contract. Assumes nothing.
+-- `inner::bounds::name_at` meets its contract.
 use mathlib.Core.Path.{refl, sym, ◌∙◌}
 use mathlib.Core.List.{[], ◌∷◌}
 use Rattle.records.specs.declared.View.TheVariants as view

@@ -1,4 +1,4 @@
--- `inner::bounds::put_bound` meets its contract. Assumes nothing.
+-- `inner::bounds::put_bound` meets its contract.
 use mathlib.Core.Path.{ap, ◌∙◌}
 use mathlib.Core.Bool.{Bool}
 use Rattle.rules.specs.Schemes.{renamed}

@@ -1,4 +1,4 @@
--- `inner::tables::put_names_back` meets its contract. Assumes nothing.
+-- `inner::tables::put_names_back` meets its contract.
 use mathlib.Core.Path.{◌≡◌, refl, ap, ◌∙◌}
 use Prim.Native.Nat.{ℕ, ◌-◌}
 use native.Mathlib.Omega.{arith}

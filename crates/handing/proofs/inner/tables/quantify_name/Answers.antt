@@ -1,4 +1,4 @@
--- `inner::tables::quantify_name` meets its contract. Assumes nothing.
+-- `inner::tables::quantify_name` meets its contract.
 use mathlib.Core.Path.{ap, ◌∙◌}
 use mathlib.Core.List.{List}
 use Prim.Native.Nat.{ℕ, ◌+◌}

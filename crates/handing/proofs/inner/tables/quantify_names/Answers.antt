@@ -1,4 +1,4 @@
--- `inner::tables::quantify_names` meets its contract. Assumes nothing.
+-- `inner::tables::quantify_names` meets its contract.
 use mathlib.Core.Path.{◌≡◌, refl, ap, ◌∙◌}
 use Prim.Native.Nat.{ℕ, ◌-◌}
 use native.Mathlib.Omega.{arith}

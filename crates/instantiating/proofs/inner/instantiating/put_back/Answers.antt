@@ -1,4 +1,4 @@
--- `inner::instantiating::put_back` meets its contract. Assumes nothing.
+-- `inner::instantiating::put_back` meets its contract.
 use mathlib.Core.Path.{sym, subst}
 use mathlib.Core.List.{List}
 use Prim.Native.Nat.{ℕ, ◌+◌, ◌≤◌}
@@ -8,7 +8,7 @@ use Rattle.rules.specs.Names.{table_of, is_held}
 use Rattle.rules.specs.Schemes.{renamed, back}
 use Rattle.rules.specs.Trees.{Ty, Open, size}
 use Rattle.laws.specs.NameTable.{good-laid}
-use Rattle.renaming.specs.Own.{own}
+use Rattle.renaming.proofs.Own.{own}
 use Rattle.replacing.specs.Well.{HeldType, Lent}
 use Rattle.handing.specs.Bounds.{BoundsAt}
 use Rattle.quantifying.specs.Ready.{at_in}

@@ -1,4 +1,4 @@
--- `inner::issuing::put_boolean` meets its contract. Assumes nothing.
+-- `inner::issuing::put_boolean` meets its contract.
 use Rattle.line_steps.specs.Issued.{boolean-put}
 use Rattle.line_steps.proofs.inner.issuing.put_boolean.Goals as goal
 

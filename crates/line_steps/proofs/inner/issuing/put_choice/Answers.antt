@@ -1,4 +1,4 @@
--- `inner::issuing::put_choice` meets its contract. Assumes nothing.
+-- `inner::issuing::put_choice` meets its contract.
 use Rattle.line_steps.specs.Issued.{choice-put}
 use Rattle.line_steps.proofs.inner.issuing.put_choice.Goals as goal
 

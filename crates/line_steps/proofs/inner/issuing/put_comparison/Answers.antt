@@ -1,4 +1,4 @@
--- `inner::issuing::put_comparison` meets its contract. Assumes nothing.
+-- `inner::issuing::put_comparison` meets its contract.
 use Rattle.line_steps.specs.Issued.{comparison-put}
 use Rattle.line_steps.proofs.inner.issuing.put_comparison.Goals as goal
 

@@ -1,4 +1,4 @@
--- `inner::issuing::put_dimensions` meets its contract. Assumes nothing.
+-- `inner::issuing::put_dimensions` meets its contract.
 use Rattle.line_steps.specs.Issued.{dimensions-put}
 use Rattle.line_steps.proofs.inner.issuing.put_dimensions.Goals as goal
 

@@ -1,4 +1,4 @@
--- `inner::issuing::put_factors` meets its contract. Assumes nothing.
+-- `inner::issuing::put_factors` meets its contract.
 use mathlib.Core.Path.{sym, ap, ◌∙◌}
 use Prim.Native.Nat.{Ordering}
 use Rattle.names.specs.Told.{toldOrder}

@@ -1,4 +1,4 @@
--- `inner::issuing::put_given` meets its contract. Assumes nothing.
+-- `inner::issuing::put_given` meets its contract.
 use native.Mathlib.Omega.{arith}
 use Rattle.line_steps.specs.Issued.{within, given-put}
 use Rattle.line_steps.proofs.inner.issuing.put_given.Goals as goal

@@ -1,4 +1,4 @@
--- `inner::issuing::put_is_dim` meets its contract. Assumes nothing.
+-- `inner::issuing::put_is_dim` meets its contract.
 use Rattle.line_steps.specs.Issued.{dim-put}
 use Rattle.line_steps.proofs.inner.issuing.put_is_dim.Goals as goal
 

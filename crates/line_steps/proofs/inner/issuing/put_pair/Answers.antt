@@ -1,4 +1,4 @@
--- `inner::issuing::put_pair` meets its contract. Assumes nothing.
+-- `inner::issuing::put_pair` meets its contract.
 use Rattle.line_steps.specs.Issued.{pair_put}
 use Rattle.line_steps.proofs.inner.issuing.put_pair.Goals as goal
 

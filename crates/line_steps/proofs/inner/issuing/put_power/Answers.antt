@@ -1,4 +1,4 @@
--- `inner::issuing::put_power` meets its contract. Assumes nothing.
+-- `inner::issuing::put_power` meets its contract.
 use Rattle.line_steps.specs.Issued.{power-none, power-some}
 use Rattle.line_steps.proofs.inner.issuing.put_power.Goals as goal
 

@@ -1,4 +1,4 @@
--- `inner::issuing::put_product` meets its contract. Assumes nothing.
+-- `inner::issuing::put_product` meets its contract.
 use native.Mathlib.Omega.{arith}
 use Rattle.line_steps.specs.Issued.{product-put}
 use Rattle.line_steps.proofs.inner.issuing.put_product.Goals as goal

@@ -1,4 +1,4 @@
--- `inner::issuing::put_raised` meets its contract. Assumes nothing.
+-- `inner::issuing::put_raised` meets its contract.
 use Rattle.line_steps.specs.Issued.{raised-put}
 use Rattle.line_steps.proofs.inner.issuing.put_raised.Goals as goal
 

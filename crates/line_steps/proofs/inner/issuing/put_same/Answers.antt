@@ -1,4 +1,4 @@
--- `inner::issuing::put_same` meets its contract. Assumes nothing.
+-- `inner::issuing::put_same` meets its contract.
 use Rattle.line_steps.specs.Issued.{same-put}
 use Rattle.line_steps.proofs.inner.issuing.put_same.Goals as goal
 

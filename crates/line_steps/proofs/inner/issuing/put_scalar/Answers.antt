@@ -1,4 +1,4 @@
--- `inner::issuing::put_scalar` meets its contract. Assumes nothing.
+-- `inner::issuing::put_scalar` meets its contract.
 use Rattle.line_steps.specs.Issued.{scalar-put}
 use Rattle.line_steps.proofs.inner.issuing.put_scalar.Goals as goal
 

@@ -1,4 +1,4 @@
--- `inner::issuing::put_sum` meets its contract. Assumes nothing.
+-- `inner::issuing::put_sum` meets its contract.
 use Rattle.line_steps.specs.Issued.{sum-put}
 use Rattle.line_steps.proofs.inner.issuing.put_sum.Goals as goal
 

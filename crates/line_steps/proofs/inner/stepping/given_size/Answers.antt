@@ -1,4 +1,4 @@
--- `inner::stepping::given_size` meets its contract. Assumes nothing.
+-- `inner::stepping::given_size` meets its contract.
 use native.Mathlib.Omega.{arith}
 use Rattle.lines.specs.Used.{long-small}
 use Rattle.line_steps.proofs.inner.stepping.given_size.Goals as goal

@@ -1,4 +1,4 @@
--- `inner::stepping::operand` meets its contract. Assumes nothing.
+-- `inner::stepping::operand` meets its contract.
 use Rattle.lines.specs.Used.{past-zero}
 use Rattle.line_steps.proofs.inner.stepping.operand.Goals as goal
 

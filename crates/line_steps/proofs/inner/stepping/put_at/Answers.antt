@@ -1,4 +1,4 @@
--- `inner::stepping::put_at` meets its contract. Assumes nothing.
+-- `inner::stepping::put_at` meets its contract.
 use Prim.Native.Nat.{◌+◌}
 use native.Mathlib.Omega.{arith}
 use Rattle.line_steps.specs.StepPuts.{with_operands}

@@ -1,4 +1,4 @@
--- `inner::stepping::put_step` meets its contract. Assumes nothing.
+-- `inner::stepping::put_step` meets its contract.
 use Rattle.line_steps.specs.StepPuts.{constant-held, reference-held, put-constant, put-reference, put-raise, put-choose, put_both}
 use Rattle.line_steps.proofs.inner.stepping.put_step.Goals as goal
 

@@ -1,4 +1,4 @@
--- `inner::stepping::put_two` meets its contract. Assumes nothing.
+-- `inner::stepping::put_two` meets its contract.
 use Rattle.line_steps.specs.StepPuts.{put-adds, put-subtracts, put-multiplies, put-divides, put-compares}
 use Rattle.line_steps.proofs.inner.stepping.put_two.Goals as goal
 

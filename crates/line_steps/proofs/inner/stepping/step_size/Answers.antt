@@ -1,4 +1,4 @@
--- `inner::stepping::step_size` meets its contract. Assumes nothing.
+-- `inner::stepping::step_size` meets its contract.
 use mathlib.Core.Path.{refl}
 use Rattle.line_steps.specs.StepSizes.{size-constant, size-reference, size-scalar, size-power, size-choose, size-multiplies, size-divides, size-others}
 use Rattle.line_steps.proofs.inner.stepping.step_size.Goals as goal

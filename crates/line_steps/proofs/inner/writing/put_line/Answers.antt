@@ -1,4 +1,4 @@
--- `inner::writing::put_line` meets its contract. Assumes nothing.
+-- `inner::writing::put_line` meets its contract.
 use native.Mathlib.Omega.{arith}
 use Rattle.line_steps.specs.StepLoop.{zeros-held}
 use Rattle.line_steps.proofs.inner.writing.put_line.Goals as goal

@@ -1,4 +1,4 @@
--- `inner::writing::put_steps` meets its contract. Assumes nothing.
+-- `inner::writing::put_steps` meets its contract.
 use Prim.Native.Nat.{◌+◌, ◌*◌, ◌/◌, ◌≤◌, ◌<◌}
 use native.Mathlib.Omega.{arith}
 use lib.ListN.{length, get_or}

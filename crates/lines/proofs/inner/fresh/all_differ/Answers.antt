@@ -1,4 +1,4 @@
--- `inner::fresh::all_differ` meets its contract. Assumes nothing.
+-- `inner::fresh::all_differ` meets its contract.
 use native.Mathlib.Omega.{arith}
 use mathlib.Core.Path.{refl, sym, ap, ◌∙◌}
 use Rattle.rules.specs.Calls.{differ}

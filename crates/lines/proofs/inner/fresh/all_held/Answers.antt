@@ -1,4 +1,4 @@
--- `inner::fresh::all_held` meets its contract. Assumes nothing.
+-- `inner::fresh::all_held` meets its contract.
 use native.Mathlib.Omega.{arith}
 use mathlib.Core.Path.{refl, sym, ap, ◌∙◌}
 use lib.Dec.{ltb}

@@ -1,4 +1,4 @@
--- `inner::fresh::atom_name` meets its contract. Assumes nothing.
+-- `inner::fresh::atom_name` meets its contract.
 use mathlib.Core.Path.{refl, sym, ap, ◌∙◌}
 use Rattle.records.specs.Holds.{atomOf}
 use Rattle.records.specs.declared.Atom.{Atom}

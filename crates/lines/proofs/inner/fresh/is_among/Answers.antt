@@ -1,4 +1,4 @@
--- `inner::fresh::is_among` meets its contract. Assumes nothing.
+-- `inner::fresh::is_among` meets its contract.
 use native.Mathlib.Omega.{arith}
 use mathlib.Core.Path.{refl, sym, ap, ◌∙◌}
 use lib.Dec.{eqb}

@@ -1,4 +1,4 @@
--- `inner::fresh::is_fresh` meets its contract. Assumes nothing.
+-- `inner::fresh::is_fresh` meets its contract.
 use mathlib.Core.Path.{refl, sym, ◌∙◌}
 use Rattle.lines.proofs.inner.fresh.is_fresh.Goals as goal
 

@@ -1,4 +1,4 @@
--- `inner::fresh::is_name` meets its contract. Assumes nothing.
+-- `inner::fresh::is_name` meets its contract.
 use mathlib.Core.Path.{refl, sym}
 use mathlib.Core.Bool.{or-false}
 use Rattle.rules.specs.Base.{any}

@@ -1,4 +1,4 @@
--- `inner::fresh::line_uses` meets its contract. Assumes nothing.
+-- `inner::fresh::line_uses` meets its contract.
 use native.Mathlib.Omega.{arith}
 use mathlib.Core.Path.{refl, sym, ◌∙◌}
 use Rattle.lines.specs.Used.{used-hit, used-miss, used-none}

@@ -1,4 +1,4 @@
--- `inner::fresh::name_here` meets its contract. Assumes nothing.
+-- `inner::fresh::name_here` meets its contract.
 use mathlib.Core.Path.{sym, ap, ◌∙◌}
 use Rattle.lines.specs.Used.{namesView}
 use Rattle.lines.proofs.Others.{none_named}

@@ -1,4 +1,4 @@
--- `inner::fresh::none_used` meets its contract. Assumes nothing.
+-- `inner::fresh::none_used` meets its contract.
 use native.Mathlib.Omega.{arith}
 use mathlib.Core.Path.{refl, sym, ap, ◌∙◌}
 use mathlib.Core.Bool.{not}

@@ -1,4 +1,4 @@
--- `inner::fresh::open_name` meets its contract. Assumes nothing.
+-- `inner::fresh::open_name` meets its contract.
 use mathlib.Core.Path.{refl}
 use Rattle.lines.proofs.inner.fresh.open_name.Goals as goal
 

@@ -1,4 +1,4 @@
--- `inner::fresh::part_uses` meets its contract. Assumes nothing.
+-- `inner::fresh::part_uses` meets its contract.
 use native.Mathlib.Omega.{arith}
 use mathlib.Core.Path.{ap, ◌∙◌}
 use Prim.Native.Nat.{ℕ, ◌+◌}

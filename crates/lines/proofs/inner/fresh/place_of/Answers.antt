@@ -1,4 +1,4 @@
--- `inner::fresh::place_of` meets its contract. Assumes nothing.
+-- `inner::fresh::place_of` meets its contract.
 use Rattle.lines.specs.Used.{past-zero}
 use Rattle.lines.proofs.inner.fresh.place_of.Goals as goal
 

@@ -1,4 +1,4 @@
--- `inner::fresh::step_uses` meets its contract. Assumes nothing.
+-- `inner::fresh::step_uses` meets its contract.
 use mathlib.Core.Path.{sym, ap, ◌∙◌}
 use Prim.Native.Nat.{ℕ}
 use lib.Dec.{eqb}

@@ -1,4 +1,4 @@
--- `inner::fresh::used_in` meets its contract. Assumes nothing.
+-- `inner::fresh::used_in` meets its contract.
 use native.Mathlib.Omega.{arith}
 use mathlib.Core.Path.{refl, sym, ap, ◌∙◌}
 use lib.Dec.{eqb}

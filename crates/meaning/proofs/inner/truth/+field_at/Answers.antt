@@ -1,4 +1,4 @@
--- `field_at` meets its contract: the fields left fall. Assumes nothing.
+-- `field_at` meets its contract: the fields left fall.
 use native.Mathlib.Omega.{arith}
 use Rattle.records.specs.ByView.{in_reach}
 use Rattle.meaning.proofs.Truths.{sought-none, sought-unsaid, sought-hit, sought-on, field-type, field_next}

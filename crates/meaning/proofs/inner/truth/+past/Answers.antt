@@ -1,4 +1,4 @@
--- `past` meets its contract: the types left fall. Assumes nothing.
+-- `past` meets its contract: the types left fall.
 use native.Mathlib.Omega.{arith}
 use Rattle.meaning.proofs.Steps.{row-head, row_next}
 use Rattle.meaning.proofs.Truths.{past-done, past-on}

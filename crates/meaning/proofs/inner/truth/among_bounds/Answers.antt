@@ -1,4 +1,4 @@
--- `among_bounds` meets its contract. Assumes nothing.
+-- `among_bounds` meets its contract.
 use mathlib.Core.Path.{ap, ◌∙◌}
 use mathlib.Core.List.{[]}
 use Prim.Native.Nat.{ℕ}

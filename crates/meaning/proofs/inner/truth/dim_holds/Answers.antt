@@ -1,4 +1,4 @@
--- `dim_holds` meets its contract. Assumes nothing.
+-- `dim_holds` meets its contract.
 use Rattle.meaning.proofs.Truths.{open-among, dim-among, none-among}
 use borrow.Enum.Refused.{opened}
 use Rattle.meaning.proofs.inner.truth.dim_holds.Goals as goal

@@ -1,4 +1,4 @@
--- `field_holds` meets its contract. Assumes nothing.
+-- `field_holds` meets its contract.
 use native.Mathlib.Omega.{arith}
 use Rattle.records.specs.ByView.{in_reach}
 use Rattle.meaning.proofs.Truths.{field-unsaid, struct_row, struct_fields, field-nowhere, field-asks, field-met, second, first}

@@ -1,4 +1,4 @@
--- `holds` meets its contract. Assumes nothing.
+-- `holds` meets its contract.
 use Prim.Native.Nat.{◌+◌}
 use native.Mathlib.Omega.{arith}
 use Rattle.meaning.proofs.Truths.{con-reach, equal-asks, dim-asks, has-field-asks, equal-true, dim-true, scalar-true, field-true, con-unsaid, second, first}

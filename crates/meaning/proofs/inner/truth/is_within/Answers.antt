@@ -1,4 +1,4 @@
--- `is_within` meets its contract. The invariant: below i, what is marked in v is marked in b. Assumes nothing.
+-- `is_within` meets its contract. The invariant: below i, what is marked in v is marked in b.
 use mathlib.Core.Path.{sym, ◌∙◌}
 use native.Mathlib.Omega.{arith}
 use Rattle.meaning.proofs.Truths.{only-hit, only-miss, within_on}

@@ -1,4 +1,4 @@
--- `only` meets its contract. Assumes nothing.
+-- `only` meets its contract.
 use Rattle.meaning.proofs.inner.truth.only.Goals as goal
 
 pub returns-then-b : goal.returns-then-b

@@ -1,4 +1,4 @@
--- `scalar_holds` meets its contract. Assumes nothing.
+-- `scalar_holds` meets its contract.
 use Rattle.meaning.proofs.Truths.{scalar_read, scalar-unsaid}
 use borrow.Enum.Refused.{opened}
 use Rattle.meaning.proofs.inner.truth.scalar_holds.Goals as goal

@@ -1,4 +1,4 @@
--- `inner::leaves::enter_leaf` meets its contract. Assumes nothing.
+-- `inner::leaves::enter_leaf` meets its contract.
 use mathlib.Core.Path.{sym, ◌∙◌}
 use Rattle.dimensions.specs.Whole.{dim-done}
 use Rattle.reading.specs.Choice.{by-var, by-par, by-dimension, by_bool, by-string, by-datetime}

@@ -1,4 +1,4 @@
--- `inner::bounds::mark_all` meets its contract: the first i names are marked. Assumes nothing.
+-- `inner::bounds::mark_all` meets its contract: the first i names are marked.
 use mathlib.Core.Path.{◌∙◌}
 use mathlib.Core.List.{map, append-nil}
 use native.Mathlib.Omega.{arith}

@@ -1,4 +1,4 @@
--- `inner::bounds::name_of` meets its contract. Assumes nothing.
+-- `inner::bounds::name_of` meets its contract.
 use mathlib.Core.Path.{◌≡◌, refl, sym, ap, ◌∙◌}
 use mathlib.Core.List.{[], ◌∷◌}
 use Rattle.rules.specs.Writing.{word_of}

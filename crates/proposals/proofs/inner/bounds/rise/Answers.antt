@@ -1,4 +1,4 @@
--- `inner::bounds::rise` meets its contract: what is left to compare decides. Assumes nothing.
+-- `inner::bounds::rise` meets its contract: what is left to compare decides.
 use mathlib.Core.Path.{◌≡◌, refl, sym, ap, ap₂, ◌∙◌}
 use mathlib.Core.List.{map}
 use Prim.Native.Nat.{◌-◌}

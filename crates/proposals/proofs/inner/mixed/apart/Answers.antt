@@ -1,4 +1,4 @@
--- `inner::mixed::apart` meets its contract. Assumes nothing.
+-- `inner::mixed::apart` meets its contract.
 use mathlib.Core.Path.{◌∙◌}
 use mathlib.Core.List.{[], ◌++◌}
 use Prim.Native.Nat.{◌/◌}

@@ -1,4 +1,4 @@
--- `inner::mixed::mark_one` meets its contract. Assumes nothing.
+-- `inner::mixed::mark_one` meets its contract.
 use Rattle.replacing.specs.Places.{says_some}
 use Rattle.proposals.specs.Mixed.{unbound, bound}
 use Rattle.proposals.proofs.inner.mixed.mark_one.Goals as goal

@@ -1,4 +1,4 @@
--- `inner::mixed::mark_table` meets its contract: the names of the variables below x are marked. Assumes nothing.
+-- `inner::mixed::mark_table` meets its contract: the names of the variables below x are marked.
 use mathlib.Core.Path.{◌≡◌, sym, subst}
 use mathlib.Core.List.{append-nil}
 use Prim.Native.Nat.{ℕ}

@@ -1,4 +1,4 @@
--- `inner::mixed::variable` meets its contract. Assumes nothing.
+-- `inner::mixed::variable` meets its contract.
 use Rattle.rules.specs.Base.{collect}
 use Rattle.rules.specs.Contents.{variablesIn, parametersIn, namesIn}
 use Rattle.proposals.proofs.inner.mixed.variable.Goals as goal

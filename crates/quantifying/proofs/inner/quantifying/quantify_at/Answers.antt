@@ -1,4 +1,4 @@
--- `inner::quantifying::quantify_at` meets its contract. Assumes nothing.
+-- `inner::quantifying::quantify_at` meets its contract.
 use mathlib.Core.List.{List}
 use Prim.Native.Nat.{ℕ}
 use native.Mathlib.Omega.{arith}

@@ -1,4 +1,4 @@
--- `inner::factors::byte_at` meets its contract. Assumes nothing.
+-- `inner::factors::byte_at` meets its contract.
 use native.Mathlib.Omega.{arith}
 use Rattle.reading.specs.Factors.{byte-there, byte-end}
 use Rattle.reading.proofs.inner.factors.byte_at.Goals as goal

@@ -1,4 +1,4 @@
--- `inner::factors::more_factors` meets its contract: what follows from here follows from the start. Assumes nothing.
+-- `inner::factors::more_factors` meets its contract: what follows from here follows from the start.
 use mathlib.Core.Path.{sym, ◌∙◌}
 use Rattle.reading.specs.Factors.{more-here, more-goes, more-less, more-ends}
 use Rattle.reading.proofs.inner.factors.more_factors.Goals as goal

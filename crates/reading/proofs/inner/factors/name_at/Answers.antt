@@ -1,4 +1,4 @@
--- `inner::factors::name_at` meets its contract. Assumes nothing.
+-- `inner::factors::name_at` meets its contract.
 use Rattle.reading.specs.Factors.{name-there, name-bad}
 use Rattle.reading.proofs.inner.factors.name_at.Goals as goal
 

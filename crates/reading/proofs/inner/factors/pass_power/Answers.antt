@@ -1,4 +1,4 @@
--- `inner::factors::pass_power` meets its contract. Assumes nothing.
+-- `inner::factors::pass_power` meets its contract.
 use mathlib.Core.Path.{sym, ◌∙◌}
 use Rattle.reading.specs.Factors.{with-power, without-power}
 use Rattle.reading.proofs.inner.factors.pass_power.Goals as goal

@@ -1,4 +1,4 @@
--- `inner::factors::read_atom` meets its contract. Assumes nothing.
+-- `inner::factors::read_atom` meets its contract.
 use mathlib.Core.Path.{sym, ◌∙◌}
 use Rattle.reading.specs.Factors.{atom-var, atom-par, atom-base, atom-none}
 use Rattle.reading.proofs.inner.factors.read_atom.Goals as goal

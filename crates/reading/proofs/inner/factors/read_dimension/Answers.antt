@@ -1,4 +1,4 @@
--- `inner::factors::read_dimension` meets its contract. Assumes nothing.
+-- `inner::factors::read_dimension` meets its contract.
 use Rattle.reading.specs.Factors.{dimension-read}
 use Rattle.reading.proofs.inner.factors.read_dimension.Goals as goal
 

@@ -1,4 +1,4 @@
--- `inner::factors::read_factor` meets its contract. Assumes nothing.
+-- `inner::factors::read_factor` meets its contract.
 use Rattle.reading.specs.Factors.{factor-read}
 use Rattle.reading.proofs.inner.factors.read_factor.Goals as goal
 

@@ -1,4 +1,4 @@
--- `inner::factors::read_factors` meets its contract. Assumes nothing.
+-- `inner::factors::read_factors` meets its contract.
 use mathlib.Core.Path.{sym, ◌∙◌}
 use Rattle.reading.specs.Factors.{no-factors, some-factors, factors-read}
 use Rattle.reading.proofs.inner.factors.read_factors.Goals as goal

@@ -1,4 +1,4 @@
--- `inner::factors::read_marked` meets its contract. Assumes nothing.
+-- `inner::factors::read_marked` meets its contract.
 use Rattle.reading.specs.Factors.{mark-name}
 use Rattle.reading.proofs.inner.factors.read_marked.Goals as goal
 

@@ -1,4 +1,4 @@
--- `inner::factors::read_name` meets its contract. Assumes nothing.
+-- `inner::factors::read_name` meets its contract.
 use Rattle.rules.specs.Grammar.{name}
 use Rattle.reading.specs.Points.{passes, stays}
 use Rattle.reading.specs.Factors.{noName, name-past}

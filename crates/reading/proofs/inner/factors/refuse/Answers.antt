@@ -1,4 +1,4 @@
--- `inner::factors::refuse` meets its contract. Assumes nothing.
+-- `inner::factors::refuse` meets its contract.
 use mathlib.Core.Path.{refl}
 use Rattle.reading.proofs.inner.factors.refuse.Goals as goal
 

@@ -1,4 +1,4 @@
--- `inner::signs::read_keyword` meets its contract. Assumes nothing.
+-- `inner::signs::read_keyword` meets its contract.
 use Rattle.reading.specs.Signs.{keyword-read}
 use Rattle.reading.proofs.inner.signs.read_keyword.Goals as goal
 

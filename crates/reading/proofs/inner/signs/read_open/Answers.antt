@@ -1,4 +1,4 @@
--- `inner::signs::read_open` meets its contract. Assumes nothing.
+-- `inner::signs::read_open` meets its contract.
 use Rattle.reading.specs.Signs.{open-read}
 use Rattle.reading.proofs.inner.signs.read_open.Goals as goal
 

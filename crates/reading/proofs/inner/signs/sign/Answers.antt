@@ -1,4 +1,4 @@
--- `inner::signs::sign` meets its contract. Assumes nothing.
+-- `inner::signs::sign` meets its contract.
 use Rattle.reading.specs.Points.{passes, stays}
 use Rattle.reading.specs.Signs.{spelled, spelled-past}
 use Rattle.reading.proofs.inner.signs.sign.Goals as goal

@@ -1,4 +1,4 @@
--- `inner::signs::sign_at` meets its contract. Assumes nothing.
+-- `inner::signs::sign_at` meets its contract.
 use Rattle.reading.specs.Signs.{sign-spelt, sign-bad}
 use Rattle.reading.proofs.inner.signs.sign_at.Goals as goal
 

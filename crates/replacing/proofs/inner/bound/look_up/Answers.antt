@@ -1,4 +1,4 @@
--- `look_up` meets its contract. Assumes nothing.
+-- `look_up` meets its contract.
 use mathlib.Core.Path.{sym, ◌∙◌}
 use Rattle.records.specs.Holds.{openOf}
 use Rattle.replacing.specs.Places.{says_none, says_some, says_at}

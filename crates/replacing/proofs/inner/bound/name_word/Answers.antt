@@ -1,4 +1,4 @@
--- `name_word` meets its contract. Assumes nothing.
+-- `name_word` meets its contract.
 use native.Mathlib.Omega.{arith}
 use borrow.Author.Tests.{lt-ltb, le-ltb}
 use Rattle.replacing.proofs.inner.bound.name_word.Goals as goal

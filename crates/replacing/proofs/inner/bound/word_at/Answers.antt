@@ -1,4 +1,4 @@
--- `word_at` meets its contract. Assumes nothing.
+-- `word_at` meets its contract.
 use mathlib.Core.Path.{sym}
 use native.Mathlib.Omega.{arith}
 use lib.ListN.{get_or-eq_default}

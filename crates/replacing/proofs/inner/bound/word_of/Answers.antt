@@ -1,4 +1,4 @@
--- `word_of` meets its contract. Assumes nothing.
+-- `word_of` meets its contract.
 use mathlib.Core.Path.{sym, ap, ◌∙◌}
 use Rattle.records.specs.Holds.{openOf}
 use Rattle.records.specs.declared.Open.{Open}

@@ -1,4 +1,4 @@
--- `as_product` meets its contract. Assumes nothing.
+-- `as_product` meets its contract.
 use native.Mathlib.Omega.{arith}
 use Rattle.rules.specs.Base.{got, refused}
 use Rattle.rules.specs.Products.{just}

@@ -1,4 +1,4 @@
--- `just` meets its contract. Assumes nothing.
+-- `just` meets its contract.
 use mathlib.Core.Path.{ap, ◌∙◌}
 use mathlib.Core.List.{[]}
 use native.Mathlib.Omega.{arith}

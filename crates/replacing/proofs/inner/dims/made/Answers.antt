@@ -1,4 +1,4 @@
--- `made` meets its contract. Assumes nothing.
+-- `made` meets its contract.
 use Rattle.replacing.specs.InProducts.{fine-told}
 use Rattle.replacing.proofs.inner.dims.made.Goals as goal
 

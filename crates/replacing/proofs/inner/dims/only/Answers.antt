@@ -1,4 +1,4 @@
--- `only` meets its contract. Assumes nothing.
+-- `only` meets its contract.
 use mathlib.Core.Path.{ap, ◌∙◌}
 use mathlib.Core.List.{[]}
 use native.Mathlib.Omega.{arith}

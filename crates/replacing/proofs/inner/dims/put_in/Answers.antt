@@ -1,4 +1,4 @@
--- `put_in` meets its contract. Assumes nothing.
+-- `put_in` meets its contract.
 use Rattle.products.specs.Held.{well-sound}
 use Rattle.replacing.specs.InProducts.{because, taken, only-whole, exp-good, first-fresh, second-fresh, third-fresh, put_first, put_second, put-third, put_last}
 use Rattle.replacing.proofs.inner.dims.put_in.Goals as goal

@@ -1,4 +1,4 @@
--- `replace_factor` meets its contract. Assumes nothing.
+-- `replace_factor` meets its contract.
 use mathlib.Core.Path.{sym, ap, ◌∙◌}
 use Rattle.products.specs.Told.{answer}
 use Rattle.records.specs.Holds.{openOf}

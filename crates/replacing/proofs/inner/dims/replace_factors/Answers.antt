@@ -1,4 +1,4 @@
--- `replace_factors` meets its contract: so many factors are done, and doing the rest gives the whole. Assumes nothing.
+-- `replace_factors` meets its contract: so many factors are done, and doing the rest gives the whole.
 use mathlib.Core.Path.{sym, ap, ◌∙◌}
 use native.Mathlib.Omega.{arith}
 use Rattle.products.specs.Told.{answer}

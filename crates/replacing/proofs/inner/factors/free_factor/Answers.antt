@@ -1,4 +1,4 @@
--- `free_factor` meets its contract. Assumes nothing.
+-- `free_factor` meets its contract.
 use mathlib.Core.Path.{sym, ap}
 use Rattle.rules.specs.Trees.{◌↑◌, free}
 use Rattle.rules.specs.Values.{value_of, kind_of, number_in}

@@ -1,4 +1,4 @@
--- `lone` meets its contract. Assumes nothing.
+-- `lone` meets its contract.
 use Rattle.replacing.specs.Alone.{alone-var, alone-quant, alone-other, alone-not}
 use Rattle.replacing.proofs.inner.factors.lone.Goals as goal
 

@@ -1,4 +1,4 @@
--- `open_of` meets its contract. Assumes nothing.
+-- `open_of` meets its contract.
 use Rattle.replacing.specs.Alone.{open-var, open-par, open-quant, open_none}
 use Rattle.replacing.proofs.inner.factors.open_of.Goals as goal
 

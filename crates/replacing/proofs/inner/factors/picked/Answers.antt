@@ -1,4 +1,4 @@
--- `picked` meets its contract. Assumes nothing.
+-- `picked` meets its contract.
 use Rattle.replacing.proofs.inner.factors.picked.Goals as goal
 
 pub returns-then-as_type : goal.returns-then-as_type

@@ -1,4 +1,4 @@
--- `single` meets its contract. Assumes nothing.
+-- `single` meets its contract.
 use mathlib.Core.Path.{sym, ap, ◌∙◌}
 use native.Mathlib.Omega.{arith}
 use Rattle.rules.specs.Products.{single}

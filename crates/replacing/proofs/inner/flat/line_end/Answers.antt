@@ -1,4 +1,4 @@
--- `inner::flat::line_end` meets its contract. Assumes nothing.
+-- `inner::flat::line_end` meets its contract.
 use Rattle.replacing.specs.Flat.{con-ends, binding-ends}
 use Rattle.replacing.proofs.inner.flat.line_end.Goals as goal
 

@@ -1,4 +1,4 @@
--- `inner::flat::lines_flat` meets its contract. Assumes nothing.
+-- `inner::flat::lines_flat` meets its contract.
 use mathlib.Core.Path.{subst}
 use native.Mathlib.Omega.{arith}
 use Rattle.records.specs.Good.{Ends}

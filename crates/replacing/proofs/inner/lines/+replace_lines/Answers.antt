@@ -1,4 +1,4 @@
--- `replace_lines` meets its contract: what is left of the run falls. Assumes nothing.
+-- `replace_lines` meets its contract: what is left of the run falls.
 use native.Mathlib.Omega.{arith}
 use Rattle.replacing.proofs.LineSteps.{before, lines-done, lines-here, lines-stop, lines-asks, lines_next}
 use Rattle.replacing.proofs.inner.lines.+replace_lines.Goals as goal

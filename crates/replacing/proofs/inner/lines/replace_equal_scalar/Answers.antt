@@ -1,4 +1,4 @@
--- `replace_equal_scalar` meets its contract. Assumes nothing.
+-- `replace_equal_scalar` meets its contract.
 use native.Mathlib.Omega.{arith}
 use Rattle.replacing.proofs.LineSteps.{scalar-in, scalar-dim, scalar-done, scalar-other}
 use borrow.Enum.Refused.{opened}

@@ -1,4 +1,4 @@
--- `replace_line` meets its contract. Assumes nothing.
+-- `replace_line` meets its contract.
 use native.Mathlib.Omega.{arith}
 use Rattle.replacing.proofs.LineSteps.{line-done, parts-behind}
 use Rattle.replacing.proofs.inner.lines.replace_line.Goals as goal

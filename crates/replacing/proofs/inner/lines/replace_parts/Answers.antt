@@ -1,4 +1,4 @@
--- `replace_parts` meets its contract. Assumes nothing.
+-- `replace_parts` meets its contract.
 use native.Mathlib.Omega.{arith}
 use Rattle.replacing.proofs.LineSteps.{line-here, room_next, equal-asks, has-asks, is-asks, binding-asks, scalar-asks, equal-here, has_here, is-here, binding-here, scalar-here, unlined-here}
 use borrow.Enum.Refused.{opened}

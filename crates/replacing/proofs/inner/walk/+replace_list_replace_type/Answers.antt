@@ -1,4 +1,4 @@
--- `replace_type` and `replace_list` call one another and meet their contracts: the number of records left falls. Assumes nothing.
+-- `replace_type` and `replace_list` call one another and meet their contracts: the number of records left falls.
 use mathlib.Core.Path.{sym, subst}
 use Rattle.replacing.specs.Left.{Replaced}
 use native.Mathlib.Omega.{arith}

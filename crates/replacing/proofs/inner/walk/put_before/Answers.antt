@@ -1,4 +1,4 @@
--- `put_before` meets its contract. Assumes nothing.
+-- `put_before` meets its contract.
 use mathlib.Core.Path.{sym, ap, subst, ◌∙◌}
 use Prim.Native.Nat.{◌*◌}
 use lib.Seq.{sets}

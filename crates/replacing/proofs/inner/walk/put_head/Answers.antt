@@ -1,4 +1,4 @@
--- `put_head` meets its contract. Assumes nothing.
+-- `put_head` meets its contract.
 use mathlib.Core.Path.{◌∙◌}
 use Rattle.rules.specs.Writing.{words}
 use Rattle.replacing.proofs.inner.walk.put_head.Goals as goal

@@ -1,4 +1,4 @@
--- `put_tried` meets its contract. Assumes nothing.
+-- `put_tried` meets its contract.
 use native.Mathlib.Omega.{arith}
 use Rattle.replacing.proofs.Pieces.{ready-product, put-made, put-stop}
 use Rattle.replacing.proofs.inner.walk.put_tried.Goals as goal

@@ -1,4 +1,4 @@
--- `replace_dim` meets its contract. Assumes nothing.
+-- `replace_dim` meets its contract.
 use native.Mathlib.Omega.{arith}
 use Rattle.products.specs.Held.{well-sound}
 use Rattle.records.specs.Holds.{openOf}

@@ -1,4 +1,4 @@
--- `replace_open` meets its contract. Assumes nothing.
+-- `replace_open` meets its contract.
 use mathlib.Core.Path.{ap, ◌∙◌}
 use mathlib.Core.List.{List}
 use Prim.Native.Nat.{◌*◌}

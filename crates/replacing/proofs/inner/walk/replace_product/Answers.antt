@@ -1,4 +1,4 @@
--- `replace_product` meets its contract. Assumes nothing.
+-- `replace_product` meets its contract.
 use Rattle.replacing.proofs.Pieces.{replaced-ready}
 use Rattle.replacing.proofs.inner.walk.replace_product.Goals as goal
 

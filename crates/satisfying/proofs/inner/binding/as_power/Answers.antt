@@ -1,4 +1,4 @@
--- `as_power` meets its contract. Assumes nothing.
+-- `as_power` meets its contract.
 use mathlib.Core.Path.{sym, ◌∙◌}
 use native.Mathlib.Omega.{arith}
 use Rattle.records.specs.Places.{seen-in}

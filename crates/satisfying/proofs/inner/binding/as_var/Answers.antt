@@ -1,4 +1,4 @@
--- `as_var` meets its contract. Assumes nothing.
+-- `as_var` meets its contract.
 use mathlib.Core.Path.{◌≡◌, sym, ◌∙◌}
 use Rattle.rules.specs.Trees.{Ty}
 use Rattle.rules.specs.Views.{asVar}

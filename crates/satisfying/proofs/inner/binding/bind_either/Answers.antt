@@ -1,4 +1,4 @@
--- `bind_either` meets its contract. Assumes nothing.
+-- `bind_either` meets its contract.
 use Rattle.rules.specs.Names.{numbered}
 use Rattle.rules.specs.Rounds.{bindTo}
 use Rattle.satisfying.specs.Parts.{named}

@@ -1,4 +1,4 @@
--- `bind_to` meets its contract. Assumes nothing.
+-- `bind_to` meets its contract.
 use Prim.Native.Nat.{◌+◌}
 use mathlib.Core.Path.{sym, ◌∙◌}
 use native.Mathlib.Omega.{arith}

@@ -1,4 +1,4 @@
--- `first_rules` meets its contract. Assumes nothing.
+-- `first_rules` meets its contract.
 use mathlib.Core.Path.{sym, ◌∙◌}
 use Rattle.satisfying.proofs.Laws.{first-same, first-variable, first-power, other_step}
 use borrow.Enum.Refused.{opened}

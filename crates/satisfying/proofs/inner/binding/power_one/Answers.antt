@@ -1,4 +1,4 @@
--- `power_one` meets its contract. Assumes nothing.
+-- `power_one` meets its contract.
 use mathlib.Core.Path.{sym, ap, ◌∙◌}
 use Rattle.rules.specs.Base.{is_yes}
 use Rattle.rules.specs.Exponents.{Exp, frac, Exp-dec, one}

@@ -1,4 +1,4 @@
--- `variable` meets its contract. Assumes nothing.
+-- `variable` meets its contract.
 use mathlib.Core.Path.{sym, ap}
 use Rattle.rules.specs.Views.{variable}
 use Rattle.records.specs.Holds.{openOf}

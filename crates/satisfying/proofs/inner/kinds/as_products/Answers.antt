@@ -1,4 +1,4 @@
--- `as_products` meets its contract. Assumes nothing.
+-- `as_products` meets its contract.
 use Rattle.rules.specs.Trees.{dim}
 use Prim.Native.Nat.{◌+◌}
 use Rattle.satisfying.proofs.Laws.{said-short}

@@ -1,4 +1,4 @@
--- `by_kind` meets its contract. Assumes nothing.
+-- `by_kind` meets its contract.
 use mathlib.Core.Path.{sym, ◌∙◌}
 use Rattle.rules.specs.Names.{numbered, names_of, table_of}
 use Rattle.satisfying.proofs.ByKinds.{no_kind, step-stuck}

@@ -1,4 +1,4 @@
--- `dimensions` meets its contract. Assumes nothing.
+-- `dimensions` meets its contract.
 use mathlib.Core.Path.{sym, subst, ◌∙◌}
 use native.Mathlib.Omega.{arith}
 use Rattle.rules.specs.Names.{numbered, names_of, table_of}

@@ -1,4 +1,4 @@
--- `functions` meets its contract. Assumes nothing.
+-- `functions` meets its contract.
 use mathlib.Core.Path.{sym, ◌∙◌}
 use native.Mathlib.Omega.{arith}
 use Rattle.rules.specs.Names.{numbered}

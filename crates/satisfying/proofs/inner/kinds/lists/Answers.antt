@@ -1,4 +1,4 @@
--- `lists` meets its contract. Assumes nothing.
+-- `lists` meets its contract.
 use mathlib.Core.Path.{sym, ◌∙◌}
 use native.Mathlib.Omega.{arith}
 use Rattle.rules.specs.Names.{numbered}

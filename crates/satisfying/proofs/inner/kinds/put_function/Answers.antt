@@ -1,4 +1,4 @@
--- `put_function` meets its contract. Assumes nothing.
+-- `put_function` meets its contract.
 use mathlib.Core.Path.{sym, subst}
 use native.Mathlib.Omega.{arith}
 use Rattle.records.specs.ByView.{ends-in}

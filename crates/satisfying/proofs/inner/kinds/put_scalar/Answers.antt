@@ -1,4 +1,4 @@
--- `put_scalar` meets its contract. Assumes nothing.
+-- `put_scalar` meets its contract.
 use native.Mathlib.Omega.{arith}
 use Rattle.replacing.proofs.Pieces.{ready-product}
 use Rattle.satisfying.proofs.ByKinds.{scalar-put, scalar-stop}

@@ -1,4 +1,4 @@
--- `quotient` meets its contract. Assumes nothing.
+-- `quotient` meets its contract.
 use Rattle.replacing.proofs.Pieces.{loaded, few}
 use Rattle.satisfying.proofs.ByKinds.{quotient-ready, whole-well}
 use Rattle.satisfying.proofs.inner.kinds.quotient.Goals as goal

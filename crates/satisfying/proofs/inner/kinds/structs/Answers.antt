@@ -1,4 +1,4 @@
--- `structs` meets its contract. Assumes nothing.
+-- `structs` meets its contract.
 use mathlib.Core.Path.{sym, ◌∙◌}
 use native.Mathlib.Omega.{arith}
 use Rattle.rules.specs.Names.{numbered}

@@ -1,4 +1,4 @@
--- `variable_left` meets its contract. Assumes nothing.
+-- `variable_left` meets its contract.
 use mathlib.Core.Path.{sym, subst, ◌∙◌}
 use Rattle.rules.specs.Names.{numbered}
 use Rattle.records.specs.Holds.{Holds}

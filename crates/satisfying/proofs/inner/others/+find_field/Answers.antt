@@ -1,4 +1,4 @@
--- `find_field` meets its contract. Assumes nothing.
+-- `find_field` meets its contract.
 use mathlib.Core.Path.{sym, ◌∙◌}
 use native.Mathlib.Omega.{arith}
 use Rattle.records.specs.Places.{seen-in}

@@ -1,4 +1,4 @@
--- `put_others` meets its contract. Assumes nothing.
+-- `put_others` meets its contract.
 use mathlib.Core.Path.{sym, ◌∙◌, refl}
 use native.Mathlib.Omega.{arith}
 use Prim.Native.Nat.{◌+◌, ◌-◌}

@@ -1,4 +1,4 @@
--- `put_parts` meets its contract. Assumes nothing.
+-- `put_parts` meets its contract.
 use mathlib.Core.Path.{sym, ◌∙◌}
 use native.Mathlib.Omega.{arith}
 use Rattle.rules.specs.Exponents.{nought, frac}

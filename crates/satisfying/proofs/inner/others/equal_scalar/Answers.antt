@@ -1,4 +1,4 @@
--- `equal_scalar` meets its contract. Assumes nothing.
+-- `equal_scalar` meets its contract.
 use mathlib.Core.Path.{sym, ap, ◌∙◌}
 use native.Mathlib.Omega.{arith}
 use Prim.Native.Nat.{◌+◌, ◌-◌}

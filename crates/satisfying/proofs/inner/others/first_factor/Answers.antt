@@ -1,4 +1,4 @@
--- `first_factor` meets its contract. Assumes nothing.
+-- `first_factor` meets its contract.
 use Rattle.exponents.specs.Answers.{expOf}
 use Rattle.satisfying.proofs.ByOther.{scalar-var, scalar-quant, scalar-par, scalar-base}
 use Rattle.satisfying.proofs.inner.others.first_factor.Goals as goal

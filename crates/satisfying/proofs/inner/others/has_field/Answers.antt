@@ -1,4 +1,4 @@
--- `has_field` meets its contract. Assumes nothing.
+-- `has_field` meets its contract.
 use mathlib.Core.Path.{sym, subst, ◌∙◌}
 use native.Mathlib.Omega.{arith}
 use Rattle.rules.specs.Names.{numbered}

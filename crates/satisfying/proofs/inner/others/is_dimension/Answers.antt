@@ -1,4 +1,4 @@
--- `is_dimension` meets its contract. Assumes nothing.
+-- `is_dimension` meets its contract.
 use mathlib.Core.Path.{sym, ap, ◌∙◌}
 use native.Mathlib.Omega.{arith}
 use Rattle.records.specs.ByView.{in_reach, factors-in}

@@ -1,4 +1,4 @@
--- `other_power` meets its contract. Assumes nothing.
+-- `other_power` meets its contract.
 use mathlib.Core.Path.{ap, ◌∙◌}
 use Rattle.rules.specs.Base.{bounded}
 use Rattle.rules.specs.Exponents.{Exp, goodExp, neg, quotient}

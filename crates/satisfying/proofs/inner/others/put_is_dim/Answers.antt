@@ -1,4 +1,4 @@
--- `put_is_dim` meets its contract. Assumes nothing.
+-- `put_is_dim` meets its contract.
 use Rattle.satisfying.proofs.ByOther.{is-dim-put}
 use Rattle.satisfying.proofs.inner.others.put_is_dim.Goals as goal
 

@@ -1,4 +1,4 @@
--- `put_open` meets its contract. Assumes nothing.
+-- `put_open` meets its contract.
 use Rattle.satisfying.proofs.ByOther.{var-part, par-part, quant-part}
 use Rattle.satisfying.proofs.inner.others.put_open.Goals as goal
 

@@ -1,4 +1,4 @@
--- `put_part` meets its contract. Assumes nothing.
+-- `put_part` meets its contract.
 use Rattle.satisfying.proofs.ByOther.{free_part, base-part}
 use Rattle.satisfying.proofs.inner.others.put_part.Goals as goal
 

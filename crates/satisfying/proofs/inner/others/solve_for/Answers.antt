@@ -1,4 +1,4 @@
--- `solve_for` meets its contract. Assumes nothing.
+-- `solve_for` meets its contract.
 use native.Mathlib.Omega.{arith}
 use Prim.Native.Nat.{◌≤◌}
 use Rattle.exponents.specs.Answers.{expOf}

@@ -1,4 +1,4 @@
--- `past` meets its contract. Assumes nothing.
+-- `past` meets its contract.
 use mathlib.Core.Path.{sym, subst}
 use native.Mathlib.Omega.{arith}
 use Rattle.records.specs.Holds.{HoldsTys}

@@ -1,4 +1,4 @@
--- `put_equal` meets its contract. Assumes nothing.
+-- `put_equal` meets its contract.
 use Rattle.rules.specs.Trees.{size}
 use mathlib.Core.Path.{◌≡◌}
 use Prim.Native.Nat.{suc, ◌+◌}

@@ -1,4 +1,4 @@
--- `put_type` meets its contract. Assumes nothing.
+-- `put_type` meets its contract.
 use native.Mathlib.Omega.{arith}
 use Rattle.records.specs.ByView.{ends-in}
 use Rattle.satisfying.proofs.Laws.{type_put}

@@ -1,4 +1,4 @@
--- `inner::checks::bounds_held` meets its contract. Assumes nothing.
+-- `inner::checks::bounds_held` meets its contract.
 use mathlib.Core.Path.{sym, ap, ◌∙◌}
 use mathlib.Core.Bool.{Bool}
 use Rattle.rules.specs.Base.{need}

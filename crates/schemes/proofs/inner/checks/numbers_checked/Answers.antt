@@ -1,4 +1,4 @@
--- `inner::checks::numbers_checked` meets its contract. Assumes nothing.
+-- `inner::checks::numbers_checked` meets its contract.
 use mathlib.Core.Path.{sym, ◌∙◌}
 use Rattle.rules.specs.Names.{table_of, names_of}
 use Rattle.schemes.specs.Entry.{numbers-told}

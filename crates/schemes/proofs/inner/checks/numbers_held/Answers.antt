@@ -1,4 +1,4 @@
--- `inner::checks::numbers_held` meets its contract. Assumes nothing.
+-- `inner::checks::numbers_held` meets its contract.
 use mathlib.Core.Path.{ap, refl}
 use mathlib.Core.Bool.{not}
 use native.Mathlib.Omega.{arith}

@@ -1,4 +1,4 @@
--- `inner::checks::rest_checked` meets its contract. Assumes nothing.
+-- `inner::checks::rest_checked` meets its contract.
 use mathlib.Core.Path.{sym, ap, ◌∙◌}
 use Rattle.names.specs.Told.{toldChecked}
 use Rattle.schemes.proofs.inner.checks.rest_checked.Goals as goal

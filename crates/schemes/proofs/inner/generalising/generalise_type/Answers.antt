@@ -1,4 +1,4 @@
--- `inner::generalising::generalise_type` meets its contract. Assumes nothing.
+-- `inner::generalising::generalise_type` meets its contract.
 use mathlib.Core.Path.{sym}
 use native.Mathlib.Omega.{arith}
 use lib.Seq.{length-take-le}

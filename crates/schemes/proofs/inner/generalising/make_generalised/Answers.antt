@@ -1,4 +1,4 @@
--- `inner::generalising::make_generalised` meets its contract. Assumes nothing.
+-- `inner::generalising::make_generalised` meets its contract.
 use mathlib.Core.Path.{◌≡◌, sym, ap, ◌∙◌}
 use mathlib.Core.List.{List, []}
 use Prim.Native.Nat.{ℕ}

@@ -1,4 +1,4 @@
--- `inner::instantiated::make_instantiated` meets its contract. Assumes nothing.
+-- `inner::instantiated::make_instantiated` meets its contract.
 use mathlib.Core.Path.{◌≡◌, sym, ap, ◌∙◌}
 use mathlib.Core.List.{List, []}
 use Prim.Native.Nat.{ℕ}

@@ -1,4 +1,4 @@
--- `inner::making::make_quantified` meets its contract. Assumes nothing.
+-- `inner::making::make_quantified` meets its contract.
 use mathlib.Core.Path.{◌≡◌, sym, ap, ◌∙◌}
 use mathlib.Core.List.{List}
 use Prim.Native.Nat.{ℕ}

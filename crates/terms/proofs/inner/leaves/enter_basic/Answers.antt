@@ -1,4 +1,4 @@
--- `inner::leaves::enter_basic` meets its contract. Assumes nothing.
+-- `inner::leaves::enter_basic` meets its contract.
 use Rattle.terms.specs.Stands.{count-above}
 use Rattle.terms.specs.Leaves.{basic-done}
 use Rattle.terms.proofs.inner.leaves.enter_basic.Goals as goal

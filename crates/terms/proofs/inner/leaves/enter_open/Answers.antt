@@ -1,4 +1,4 @@
--- `inner::leaves::enter_open` meets its contract. Assumes nothing.
+-- `inner::leaves::enter_open` meets its contract.
 use Rattle.terms.specs.Effects.{kept_then, kept_above, kept-count, ready-count, ready_on}
 use Rattle.terms.specs.Inside.{inside-column, inside-spelled}
 use Rattle.terms.specs.Leaves.{open_done}

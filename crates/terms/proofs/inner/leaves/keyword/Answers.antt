@@ -1,4 +1,4 @@
--- `inner::leaves::keyword` meets its contract. Assumes nothing.
+-- `inner::leaves::keyword` meets its contract.
 use Rattle.terms.proofs.inner.leaves.keyword.Goals as goal
 
 pub returns-in-Boolean : goal.returns-in-Boolean

@@ -1,4 +1,4 @@
--- `inner::leaves::open_view` meets its contract. Assumes nothing.
+-- `inner::leaves::open_view` meets its contract.
 use Rattle.terms.proofs.inner.leaves.open_view.Goals as goal
 
 pub returns-then-par : goal.returns-then-par

@@ -1,4 +1,4 @@
--- `inner::naming::enter_at` meets its contract. Assumes nothing.
+-- `inner::naming::enter_at` meets its contract.
 use mathlib.Core.Path.{refl}
 use native.Mathlib.Omega.{arith}
 use Rattle.rules.specs.TextReading.{named}

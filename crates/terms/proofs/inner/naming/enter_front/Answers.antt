@@ -1,4 +1,4 @@
--- `inner::naming::enter_front` meets its contract. Assumes nothing.
+-- `inner::naming::enter_front` meets its contract.
 use mathlib.Core.Path.{refl, sym, ◌∙◌}
 use lib.Seq.{length-take-le}
 use native.Mathlib.Omega.{arith}

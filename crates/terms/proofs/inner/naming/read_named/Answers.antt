@@ -1,4 +1,4 @@
--- `inner::naming::read_named` meets its contract. Assumes nothing.
+-- `inner::naming::read_named` meets its contract.
 use Rattle.rules.specs.Grammar.{name}
 use Rattle.rules.specs.TextReading.{named}
 use Rattle.reading.specs.Points.{Any, stays}

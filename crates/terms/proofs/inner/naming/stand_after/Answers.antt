@@ -1,4 +1,4 @@
--- `inner::naming::stand_after` meets its contract. Assumes nothing.
+-- `inner::naming::stand_after` meets its contract.
 use Rattle.terms.specs.Naming.{after-number}
 use Rattle.terms.proofs.inner.naming.stand_after.Goals as goal
 

@@ -1,4 +1,4 @@
--- `inner::naming::with_new` meets its contract. Assumes nothing.
+-- `inner::naming::with_new` meets its contract.
 use native.Mathlib.Omega.{arith}
 use Rattle.terms.specs.Naming.{new-small}
 use Rattle.terms.proofs.inner.naming.with_new.Goals as goal

@@ -1,4 +1,4 @@
--- The functions of types call one another and meet their contracts: types are nested less deep, and the bytes of a line end. Assumes nothing.
+-- The functions of types call one another and meet their contracts: types are nested less deep, and the bytes of a line end.
 use mathlib.Core.Path.{sym, ◌∙◌}
 use mathlib.Core.List.{[]}
 use native.Mathlib.Omega.{arith}
@@ -9,7 +9,7 @@ use Rattle.terms.specs.Inside.{inside-column, inside-spelled}
 use Rattle.phrases.specs.Parts.{from-counted, list_done, function-done}
 use Rattle.phrases.specs.Members.{held-later, ready-tested, field-by, structure-done}
 use Rattle.phrases.specs.Rows.{tys-start, tys-turn, tys-fall, tys-done, fields-start, fields-turn, fields-fall, fields-done, some-params, no-params, some-types, no-types, some-fields, no_fields, done-by, type-zero, type-some}
-use Rattle.phrases.proofs.inner.types.+enter_arguments_enter_field_enter_fields_enter_function_enter_list_enter_members_enter_params_enter_structure_enter_type_enter_types.Goals as goal
+use Rattle.phrases.proofs.inner.types.+types.Goals as goal
 
 pub enter_arguments-next_is-requires : goal.enter_arguments-next_is-requires
 enter_arguments-next_is-requires t c =

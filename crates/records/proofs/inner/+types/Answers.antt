@@ -1,4 +1,4 @@
--- The walkers of types, lists of types and fields meet their contracts: one cycle. Assumes nothing.
+-- The walkers of types, lists of types and fields meet their contracts: one cycle.
 use Rattle.records.proofs.Walks.{untagged, held-name, types-none, types-fail, types-step, fields-none, fields-other, fields-fail, fields-type, fields-step, type-shallow, type-open, type-open-fail, type-basic, type-dim, type-list, type-fn-fail, type-fn, type-struct-name, type-struct-fail, type-struct, type-other}
 use Rattle.records.specs.declared.View.TheVariants as view
 use Rattle.records.specs.Closing.{type-closing, field-closing}
@@ -11,7 +11,7 @@ use mathlib.Core.List.{[], ◌∷◌}
 use Prim.Native.Nat.{◌+◌, ◌-◌}
 use mathlib.Core.Path.{refl, sym, subst, ◌∙◌}
 use borrow.Enum.Refused.{opened}
-use Rattle.records.proofs.inner.+fields_end_type_end_type_parts_types_end.Goals as goal
+use Rattle.records.proofs.inner.+types.Goals as goal
 
 pub fields_end-returns-then-n-eq0 : goal.fields_end-returns-then-n-eq0
 fields_end-returns-then-n-eq0 t c = let a = c.args in fields-none a.pool.now a.table.now a.q a.s.now a.deep a.at a.n a.b c.if-n-eq0.true

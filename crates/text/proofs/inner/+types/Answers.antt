@@ -1,4 +1,4 @@
--- The writers of types meet their contracts: the records left fall. Assumes nothing.
+-- The writers of types meet their contracts: the records left fall.
 use Rattle.records.specs.contracts.View as views
 use Rattle.records.specs.declared.View.TheVariants as view
 use Rattle.records.specs.declared.View.{View}
@@ -15,7 +15,7 @@ use mathlib.Core.List.{List, [], ◌∷◌}
 use mathlib.Core.Path.{◌≡◌, sym, ◌∙◌, subst}
 use Rattle.text.specs.Types.{within, little, open-held, open-put, basic-put, dim-held, dim-put, list-type, list-last, list_put, fn-types, fn_row, fn-little, fn-result, fn-past, fn-last, fn-put, struct-name, struct_row, struct-types, struct-little, struct_fields, struct-past, struct-last, struct-put, no-types, row_type, row-held, row_in, row_on, row_next, row_put, types-little, no_fields, field-said, field-name, field-held, field-on, field-type, field_next, field_put, fields-little}
 use borrow.Enum.Refused.{opened as keys-opened}
-use Rattle.text.proofs.inner.+write_fields_write_function_write_list_write_struct_write_type_write_types.Goals as goal
+use Rattle.text.proofs.inner.+types.Goals as goal
 
 abbrev rest : List ℕ
 rest = 6 ∷ 7 ∷ 8 ∷ 9 ∷ 10 ∷ 11 ∷ 12 ∷ 13 ∷ 14 ∷ 15 ∷ 16 ∷ []

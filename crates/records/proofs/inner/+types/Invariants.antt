@@ -1,5 +1,5 @@
 use Prim.Native.Nat.{◌+◌, ◌*◌, ◌^◌}
-use Rattle.records.proofs.inner.+fields_end_type_end_type_parts_types_end.Given as goal
+use Rattle.records.proofs.inner.+types.Given as goal
 
 abbrev pub decreases-fields_end : goal.decreases-fields_end
 decreases-fields_end l = l.deep * 2 ^ 34 + (l.n + 1)

@@ -1,6 +1,6 @@
 use lib.ListN.{length}
 use Prim.Native.Nat.{◌+◌, ◌-◌, ◌*◌, ◌/◌}
-use Rattle.text.proofs.inner.+write_fields_write_function_write_list_write_struct_write_type_write_types.Given as goal
+use Rattle.text.proofs.inner.+types.Given as goal
 
 abbrev pub decreases-write_fields : goal.decreases-write_fields
 decreases-write_fields l = (length l.s.now / 4 - l.at) * 4 + 3
