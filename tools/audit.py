@@ -1,48 +1,89 @@
 #!/usr/bin/env python3
-"""Holds docs/AUDIT.md against the source: every file that it names is there, every theorem stands in the file named before it, every function is public.
+"""Holds the pages against the source: README.md and the pages of docs/.
 
-In the page's tables `crate/specs/File` names a file of definitions or theorems, names in back quotes behind it stand in that file, and `crate::function` is a
-public function. Prints each name that isn't found, and how many were looked up; ends with 1 if one is missing."""
+In back quotes `crate/specs/File` or `crate/proofs/File` names a file of definitions, statements or theorems, `crate/edit` a file of that crate's must-fail/,
+`crate::function` a public function, or another item or a module of its source. In AUDIT.md's and README.md's tables the names in back quotes behind a file or
+a function stand in that file, or are public functions of that crate. A table that was measured says so in a line
+    Measured at COMMIT, KIT, MACHINE, DATE, of: CRATE ..
+and has to be measured again once the source of one of these crates has changed since.
+Prints each name that isn't found and each measured line that is too old, and how many were looked up; ends with 1 if there is one."""
 import re
+import subprocess
 import sys
 from pathlib import Path
 
 ROOT = Path(__file__).resolve().parent.parent
 CRATES = ROOT / "crates"
+# what these two say of older forms is no longer there
+PAGES = [ROOT / "README.md"] + [p for p in sorted((ROOT / "docs").glob("*.md")) if not p.name.startswith("PORT")]
+
+
+def source(crate):
+    return "\n".join(f.read_text(encoding="utf-8") for f in sorted((CRATES / crate / "src").rglob("*.rt")))
 
 
 def declared(path, name):
     """Is the name declared in the file: a definition, a theorem, or a field of a record?"""
     text = path.read_text(encoding="utf-8")
-    return re.search(r"^\s*(?:(?:unfoldable|abbrev|pub|data|record)\s+)*" + re.escape(name) + r"\b[^=\n]*(?::| where)", text, re.M) is not None
+    return re.search(r"^\s*(?:(?:unfoldable|abbrev|pub|data|record)\s+)*" + re.escape(name) + r"(?=[\s:])[^=\n]*(?::| where)", text, re.M) is not None
 
 
-def public(item):
-    """Is `crate::function` a public function of that crate?"""
-    crate, name = item.split("::", 1)
-    name = name.split("::")[-1]
-    return any(re.search(r'pub (?:extern "C" )?fn ' + re.escape(name) + r'\b', f.read_text(encoding="utf-8")) for f in (CRATES / crate / "src").rglob("*.rt"))
+def public(crate, name):
+    """Is it a public item of that crate?"""
+    return re.search(r'pub (?:extern "C" |const )?(?:fn|struct|enum|trait|const|mod) ' + re.escape(name) + r"\b", source(crate)) is not None
+
+
+def item(crate, path):
+    """`crate::a::b`: is b an item, a variant or a module of the crate's source?"""
+    return re.search(r"\b" + re.escape(path.split("::")[-1]) + r"\b", source(crate)) is not None
+
+
+def file_of(item):
+    for it in (ROOT / item, CRATES / (item + ".antt"), CRATES / item):
+        if it.exists():
+            return it
+    crate, _, name = item.partition("/")
+    edit = CRATES / crate / "must-fail" / (name + ".edit")
+    return edit if edit.exists() else None
+
+
+def tables(page):
+    """Each row of a page's tables, with what it names that isn't there."""
+    strict = page.name in ("AUDIT.md", "README.md", "THEOREMS.md")
+    for number, line in enumerate(page.read_text(encoding="utf-8").splitlines(), 1):
+        here, crate = None, None
+        for it in re.findall(r"`([^`]+)`", line):
+            word = re.fullmatch(r"[\w.:/'-]+", it) is not None
+            head = re.split(r"::|/", it)[0]
+            if word and "::" in it and (CRATES / head).is_dir():
+                crate, here = head, None
+                good = public(head, it.split("::")[-1]) if strict else item(head, it)
+            elif word and "/" in it and ((CRATES / head).is_dir() or (ROOT / head).exists()):
+                here, crate = file_of(it), head
+                good = here is not None
+            elif word and strict and line.startswith("|") and here is not None and here.suffix == ".antt":
+                good = declared(here, it) or (crate is not None and public(crate, it))
+            elif word and strict and line.startswith("|") and crate is not None and not (CRATES / it).is_dir():
+                good = item(crate, it)
+            else:
+                continue
+            yield None if good else f"{page.relative_to(ROOT)}, line {number}: {it}"
+
+
+def measured(page):
+    for number, line in enumerate(page.read_text(encoding="utf-8").splitlines(), 1):
+        said = re.match(r"Measured at ([0-9a-f]{7,40}), .*, of: ([\w ]+)\.?$", line)
+        if said:
+            paths = [f"crates/{c}/src" for c in said.group(2).split()]
+            same = subprocess.run(["git", "diff", "--quiet", said.group(1), "--", *paths], cwd=ROOT).returncode == 0
+            yield None if same else f"{page.relative_to(ROOT)}, line {number}: measured before the code changed"
 
 
 def main():
-    looked, missing = 0, []
-    for number, line in enumerate((ROOT / "docs" / "AUDIT.md").read_text(encoding="utf-8").splitlines(), 1):
-        if not line.startswith("|"):
-            continue
-        here = None
-        for item in re.findall(r"`([^`]+)`", line):
-            looked += 1
-            if "::" in item:
-                good = public(item)
-            elif "/" in item:
-                here = ROOT / item if (ROOT / item).exists() else CRATES / (item + ".antt")
-                good = here.exists()
-            else:
-                good = here is not None and here.is_file() and declared(here, item)
-            if not good:
-                missing.append(f"line {number}: {item}")
+    said = [s for page in PAGES for s in (*tables(page), *measured(page))]
+    missing = [s for s in said if s is not None]
     print(*missing, sep="\n", end="\n" if missing else "")
-    print(f"{looked} names looked up, {len(missing)} missing")
+    print(f"{len(said)} looked up, {len(missing)} missing")
     return 1 if missing else 0
 
 

@@ -1,8 +1,11 @@
 #!/usr/bin/env python3
 """Draws docs/house.svg: the crates of crates.txt as rooms, grouped as README's table of rooms groups them, with an arrow from each crate to those it uses.
 
-An arrow that follows from others is left out. Users stand above what they use; the wing of theorems stands apart, on the right."""
+An arrow that follows from others is left out. Users stand above what they use; the wing of theorems stands apart, on the right.
+It warns of each crate that crates.txt lists for another whose files don't cite it, and of each that is cited and not listed;
+with --edges it writes crates.txt anew, each crate with what its files cite and no more."""
 import re
+import sys
 from pathlib import Path
 
 ROOT = Path(__file__).resolve().parent.parent
@@ -26,6 +29,29 @@ def used():
         return below[c]
 
     return {c: [u for u in us if not any(u in all_below(v) for v in us if v != u)] for c, us in uses.items()}
+
+
+def edges(write):
+    """What each crate's files cite of the crates that stand before it, beside what crates.txt lists; the kit's own libraries stay as listed."""
+    path = ROOT / "crates.txt"
+    lines = [l for l in path.read_text(encoding="utf-8").splitlines() if ":" in l.split("#")[0]]
+    listed = {l.split(":")[0].split()[0]: (l.split(":")[0], l.split(":")[1].split()) for l in lines}
+    text = {c: "" for c in listed}
+    for c in listed:
+        for f in (ROOT / "crates" / c).rglob("*"):
+            if f.suffix in (".rt", ".antt") and f.relative_to(ROOT / "crates" / c).parts[0] in ("src", "specs", "proofs"):
+                text[c] += re.sub(r"(--|//).*", "", f.read_text(encoding="utf-8"))
+    cites = lambda c, d: re.search(r"\bRattle\.%s\.|\b%s::" % (d, d), text[c]) is not None
+    for c, (head, uses) in listed.items():
+        idle = [d for d in uses if d in listed and not cites(c, d)]
+        asked = [d for d in listed if d != c and d not in uses and re.search(r"\bRattle\.%s\.(specs|proofs)\." % d, text[c])]
+        if write:
+            listed[c] = (head, [d for d in uses if d not in idle] + asked)
+        else:
+            print(*[f"warning: {c} lists {d} and cites nothing of it" for d in idle], sep="\n", end="\n" if idle else "")
+            print(*[f"warning: {c} cites {d} and does not list it" for d in asked], sep="\n", end="\n" if asked else "")
+    if write:
+        path.write_text("".join(head + ":" + "".join(" " + d for d in uses) + "\n" for head, uses in listed.values()), encoding="utf-8")
 
 
 def groups():
@@ -70,6 +96,7 @@ def places(uses, level, wing):
 
 
 def main():
+    edges("--edges" in sys.argv[1:])
     uses, group = used(), groups()
     level = layers(uses)
     wing = {c for c, g in group.items() if g.startswith(WING) and c in uses}
