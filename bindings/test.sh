@@ -10,7 +10,7 @@ mkdir -p target/bindings
 tail -n 1 target/bindings/staticlib.log
 cc -std=c99 -Wall -Wextra -Werror -O2 -Iinclude bindings/c/k2.c crates/shupkelen/out/libshupkelen.a -o target/bindings/k2
 target/bindings/k2 | cmp - bindings/c/k2.out
-echo "C: K2 as in document 01"
+echo "C: K2 as in the rules"
 cd bindings/rust
 CARGO_TARGET_DIR=../../target/bindings cargo test --offline --quiet
 echo "bindings: all tests pass"

@@ -2,8 +2,8 @@
 """The compiled calls against numbat: compare.py NUMBAT [--cases N] [--seed S] [--kinds A,B] [--serve FILE] [--build DIR] [--log FILE]
 
 NUMBAT is a checkout of numbat at e8abf32b97. The harness is built from it in DIR (default target/compare), sends random requests of each kind to
-`serve` (default crates/serve/out/serve, which `rt run` in crates/serve makes) and compares every answer with numbat's, or with our own reading of document 01
-where numbat has no counterpart. A difference counts as explained when model.py, which has document 01's rules, answers as `serve` did, and
+`serve` (default crates/serve/out/serve, which `rt run` in crates/serve makes) and compares every answer with numbat's, or with our own reading of the rules
+where numbat has no counterpart. A difference counts as explained when model.py, which has the rules, answers as `serve` did, and
 with the fewest of numbat's deviations switched on as numbat did; each deviation is a number of docs/DIFFERENCES.md. Any other fails the run."""
 import ast, itertools, os, re, subprocess, sys, tempfile, time
 from collections import Counter

@@ -1,5 +1,5 @@
 #!/usr/bin/env python3
-"""Calculation lines (document 02, W-211) once more: what the steps issue, the judge, and the answer, over the solver of model.py. It makes the line cases of calls_run:
+"""Calculation lines (W-211) once more: what the steps issue, the judge, and the answer, over the solver of model.py. It makes the line cases of calls_run:
 lines.py SERVE crates/calls_run/stdin puts them behind the others, in place of those of before. SERVE is the program `serve`; a case is stored only if it answers what is said
 here, and leaves the buffers so. lines.py SERVE random COUNT SEED compares random lines, some with open references."""
 import os, random, subprocess, sys

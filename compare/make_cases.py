@@ -1,7 +1,7 @@
 #!/usr/bin/env python3
 """The list of cases of calls_run: make_cases.py HARNESS SERVE > crates/calls_run/stdin
 HARNESS is what build.sh made from a checkout of numbat, SERVE the program `serve`. Edge cases (edges.py) and random ones (fixed seeds) are asked of
-`serve`; an answer is stored only if numbat gives the same, or our own reading of document 01 where numbat has no counterpart, or if it differs from
+`serve`; an answer is stored only if numbat gives the same, or our own reading of the rules where numbat has no counterpart, or if it differs from
 numbat's by a known difference, by the rule for it or as model.py confirms. The comment of a case says which. crates/calls_run/README.md has the form."""
 import os, re, subprocess, sys, tempfile
 HERE = os.path.dirname(os.path.abspath(__file__))

@@ -1,7 +1,7 @@
 #!/usr/bin/env python3
 """The list of cases of sheets_run: make_sheets.py > crates/sheets_run/stdin
-Sheets as text, read and written by document 02's W-202. The answers are those of the reader and the writer in this file, which were written from docs/GRAMMAR.md and
-document 01 alone. crates/sheets_run/README.md has the form of the list."""
+Sheets as text, read and written as W-202 asks. The answers are those of the reader and the writer in this file, which were written from docs/GRAMMAR.md and
+the rules alone. crates/sheets_run/README.md has the form of the list."""
 import sys
 from fractions import Fraction
 BLOCK = 65536

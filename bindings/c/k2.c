@@ -1,4 +1,4 @@
-/* K2 of document 01: the set of the one constraint x = boolean. Prints what the solver gives. */
+/* K2 of the rules: the set of the one constraint x = boolean. Prints what the solver gives. */
 #include <stdio.h>
 #include <string.h>
 

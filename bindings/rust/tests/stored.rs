@@ -60,7 +60,7 @@ fn k1_to_k14() {
     }
 }
 
-/// K2's binding is confirmed by the judge, and K10's is not (document 01).
+/// K2's binding is confirmed by the judge, and K10's is not.
 #[test]
 fn the_judge_on_k2_and_k10() {
     let cases = stored();

@@ -1,4 +1,4 @@
-//! What a request should be answered: by our own reading of document 01 where numbat has no counterpart (well-formedness, names, buffers), else by numbat.
+//! What a request should be answered: by our own reading of the rules where numbat has no counterpart (well-formedness, names, buffers), else by numbat.
 use crate::arithmetic::Exponent;
 use crate::records::{self, Names, Opens, Reader, Size};
 use crate::text;
@@ -399,7 +399,7 @@ fn entries(pairs: &[u32], types: &[u32], nm: &Names) -> Option<Vec<(TypeVariable
     }
     Some(v)
 }
-/// document 01, 'Replacing', step by step, so that the first 6, 7 or 8 met is known: numbat's own products, all bindings at once
+/// Replacing, step by step, so that the first 6, 7 or 8 met is known: numbat's own products, all bindings at once
 struct Put<'a>(&'a [(TypeVariable, Type)]);
 impl Put<'_> {
     fn bound(&self, v: &TypeVariable) -> Option<&Type> { self.0.iter().find(|(x, _)| x == v).map(|(_, t)| t) }
@@ -448,7 +448,7 @@ impl Put<'_> {
         })
     }
 }
-/// document 01, 'Judge': what is put in agrees with numbat, where numbat puts it in; what is true then is our own reading
+/// The judge: what is put in agrees with numbat, where numbat puts it in; what is true then is our own reading
 fn judged(cs: &[Constraint], bs: &Substitution, bounds: &[String]) -> Reply {
     for c in cs {
         num_rational::reset();

@@ -1,4 +1,4 @@
-//! Lists of records over a table of names, read into numbat's values and written from them: document 01's 'Records', read independently of the
+//! Lists of records over a table of names, read into numbat's values and written from them: the rules' 'Records', read independently of the
 //! code that is compared. A list that isn't well formed is None.
 use crate::arithmetic::Exponent;
 use crate::span::{ByteIndex, Span};
