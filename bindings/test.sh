@@ -6,8 +6,8 @@ missing() { echo "bindings/test.sh: $*, so nothing was built and nothing tested"
 for tool in rt cc cargo; do command -v $tool >/dev/null || missing "there is no $tool here"; done
 set -e
 mkdir -p target/bindings
-(cd crates/shupkelen && rt lib) > target/bindings/staticlib.log || { tail -n 20 target/bindings/staticlib.log; exit 1; }
-tail -n 1 target/bindings/staticlib.log
+(cd crates/shupkelen && rt lib) > target/bindings/library.log || { tail -n 20 target/bindings/library.log; exit 1; }
+tail -n 1 target/bindings/library.log
 cc -std=c99 -Wall -Wextra -Werror -O2 -Iinclude bindings/c/k2.c crates/shupkelen/out/libshupkelen.a -o target/bindings/k2
 target/bindings/k2 | cmp - bindings/c/k2.out
 echo "C: K2 as in the rules"

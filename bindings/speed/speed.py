@@ -2,7 +2,7 @@
 """speed.py ORACLE [SECONDS]: solving the same sets with the archive and with numbat's own text, in one process, from Rust.
 ORACLE is a folder that builds numbat's solver from its unchanged files: Cargo.toml, src/ with the modules sexp, terms and typechecker, standins/, and orig/ with numbat's
 files. It is copied to target/speed, with bindings/speed/speed.rs in the place of its main function and the archive linked in; nothing of it comes into this repository.
-Each figure is the least processor time of a run, of all runs within SECONDS (default 1) for each set and way. `rt lib` in crates/shupkelen must have written target/staticlib."""
+Each figure is the least processor time of a run, of all runs within SECONDS (default 1) for each set and way. `rt lib` in crates/shupkelen must have written crates/shupkelen/out/libshupkelen.a."""
 import os, re, shutil, subprocess, sys
 HERE = os.path.dirname(os.path.abspath(__file__))
 ROOT = os.path.dirname(os.path.dirname(HERE))
