@@ -12,7 +12,7 @@ ghost use Rattle.reading.specs.declared.inner.Point.TheVariants as point;
 
 use exponents::Exponent;
 use exponents::inner::quotient_of;
-use scanning::inner::{Number, scan_digits, skip_blanks};
+use scanning::inner::{scan_digits, skip_blanks};
 
 // How far a line is read: up to a place, up to a type nested 65 deep, or to the first byte that fits nothing.
 #[derive(Clone, Copy)]
@@ -105,11 +105,11 @@ fn digits_at(line: &[u8], at: usize) -> Counted
 {
     let i = skip_blanks(line, at);
     match scan_digits(line, i) {
-        Number::To(next, n) => Counted {
-            end: Point::At(next),
-            number: n,
+        Ok(n) => Counted {
+            end: Point::At(n.end),
+            number: n.value,
         },
-        Number::Bad(q) => Counted {
+        Err(q) => Counted {
             end: Point::Bad(q),
             number: 0,
         },

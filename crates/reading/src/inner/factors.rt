@@ -6,7 +6,7 @@ ghost use Rattle.reading.specs.Factors.{byte_of, refusedFrom, markName, atom, po
 ghost use Rattle.reading.specs.declared.inner.Point.TheVariants as point;
 
 use crate::inner::{Point, mark, next_is, next_sign, read_power};
-use scanning::inner::{Name, scan_name};
+use scanning::inner::scan_name;
 
 fn name_at(line: &[u8], at: usize) -> Point
     requires { at ≤ length line.now }
@@ -14,8 +14,8 @@ fn name_at(line: &[u8], at: usize) -> Point
 {
     let mut bytes = [0u8; 1];
     match scan_name(line, at, &mut bytes) {
-        Name::To(i, _) => Point::At(i),
-        Name::Bad(q) => Point::Bad(q),
+        Ok(n) => Point::At(n.end),
+        Err(q) => Point::Bad(q),
     }
 }
 

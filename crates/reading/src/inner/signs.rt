@@ -6,7 +6,7 @@ ghost use Rattle.reading.specs.declared.inner.Point.TheVariants as point;
 
 use crate::inner::factors::read_name;
 use crate::inner::{Point, mark, next_sign};
-use scanning::inner::{Spelt, skip_blanks, spell};
+use scanning::inner::{skip_blanks, spell};
 
 fn sign_at(line: &[u8], at: usize, word: &[u8]) -> Point
     requires { at ≤ length line.now }
@@ -14,8 +14,8 @@ fn sign_at(line: &[u8], at: usize, word: &[u8]) -> Point
 {
     let i = skip_blanks(line, at);
     match spell(line, i, word) {
-        Spelt::To(next) => Point::At(next),
-        Spelt::Bad(q) => Point::Bad(q),
+        Ok(next) => Point::At(next),
+        Err(q) => Point::Bad(q),
     }
 }
 

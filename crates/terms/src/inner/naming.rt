@@ -16,7 +16,7 @@ use names::inner::enter_good;
 use reading::inner::Point;
 use reading::inner::factors::read_name;
 use rules::{NAME_BYTES, Refusal, Was};
-use scanning::inner::{Name, scan_name};
+use scanning::inner::scan_name;
 
 // Where a name ends, how the sheet stands, and the name's number; 0 where it has none.
 #[derive(Clone, Copy)]
@@ -85,15 +85,15 @@ fn enter_at(line: &[u8], at: usize, k: usize, n: usize, pool: &mut [u8], table: 
 {
     let mut bytes = [0u8; 48];
     match scan_name(line, at, &mut bytes) {
-        Name::Bad(q) => Named {
+        Err(q) => Named {
             at: Point::Bad(q),
             stand: Stand::Going(k, n),
             number: 0,
         },
-        Name::To(end, long) => {
-            let a = enter_front(&bytes, long, pool, table);
+        Ok(name) => {
+            let a = enter_front(&bytes, name.size, pool, table);
             Named {
-                at: Point::At(end),
+                at: Point::At(name.end),
                 stand: stand_after(at, k, n, a),
                 number: number_told(a),
             }
