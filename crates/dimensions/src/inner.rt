@@ -20,7 +20,7 @@ ghost use Rattle.dimensions.specs.Powers.{powerStand, expIn, powered, ExpTold};
 ghost use Rattle.dimensions.specs.Times.{HeldIf, Timed};
 
 use exponents::{Exponent, Power};
-use names::Checked;
+use names::old::Checked;
 use products::inner::{multiplied, put};
 use products::{Factor, Product};
 use reading::inner::factors::{byte_at, refuse};

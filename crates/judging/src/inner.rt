@@ -5,14 +5,14 @@ ghost use Rattle.rules.specs.Calls.{Entry, judgedSet, judgeCall};
 ghost use Rattle.rules.specs.Names.{table_of, lentTable};
 ghost use Rattle.rules.specs.Trees.{Con};
 ghost use Rattle.laws.specs.NameTable.{Good};
-ghost use Rattle.names.specs.Told.{toldChecked};
+ghost use Rattle.names.specs.Old.{toldChecked};
 ghost use Rattle.trials.specs.Told.{told};
 ghost use Rattle.judging.specs.Told.{judgedAs};
 ghost use Rattle.judging.specs.Entry.{lentAll, Slotted, entered, Entered, BoundsGiven, judgedRest};
 
 use entries::inner::{Slots, fill};
 use lending::inner::clear;
-use names::Checked;
+use names::old::Checked;
 use proposals::inner::bounds::{mark_all, rise};
 use proposals::inner::mixed::apart;
 use records::inner::bounds_good;

@@ -16,7 +16,7 @@ ghost use Rattle.line_calls.specs.Whole.{LineHeld, LineTyped};
 use lending::Answer;
 use line_steps::inner::writing::{Put, put_line};
 use lines::inner::enter_line;
-use names::Checked;
+use names::old::Checked;
 use places::inner::fill;
 use proposals::inner::bounds::mark_all;
 use queries::inner::is_unmixed;

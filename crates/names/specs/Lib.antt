@@ -3,3 +3,4 @@ pub mod Digests
 pub mod Determined
 pub mod Promises
 pub mod Kept
+pub mod Old

@@ -7,8 +7,9 @@ ghost use Rattle.rules.specs.Base.{need, any};
 ghost use Rattle.names.specs.Digests.{withByte, digestOf, nameIn, Digests};
 ghost use Rattle.names.specs.Told.{toldOrder, toldFound, IsPart, heldPart, entered};
 
-use super::{Answer, Order, compare};
+use super::compare;
 use rules::{NAME_BYTES, NAMES, POOL_BYTES, Refusal, Was};
+use std::cmp::Ordering;
 
 // What a search answers: a number, or nothing.
 #[derive(Clone, Copy)]
@@ -59,7 +60,7 @@ pub fn name_at<'a, 'b>(pool: &'a [u8], table: &'b [u32], k: usize) -> &'a [u8]
 }
 
 // The order of two held numbers: that of their names.
-pub fn order(pool: &[u8], table: &[u32], i: u32, j: u32) -> Order
+pub fn order(pool: &[u8], table: &[u32], i: u32, j: u32) -> Ordering
     requires good { Good pool.now table.now }
     requires i_bound { i < get_or table.now 0 0 }
     requires j_bound { j < get_or table.now 0 0 }
@@ -103,11 +104,11 @@ pub fn search(pool: &[u8], table: &[u32], from: usize, name: &[u8]) -> Found
     while k < n {
         let end = wide(table[k + 1]);
         match compare(name, &pool[start..end]) {
-            Order::Same => {
+            Ordering::Equal => {
                 let i = k as u32;
                 return Found::At(i);
             }
-            Order::Less | Order::More => {
+            Ordering::Less | Ordering::Greater => {
                 start = end;
                 k = k + 1;
             }
@@ -160,8 +161,8 @@ fn same_names(pool: &[u8], table: &[u32], i: usize, j: usize) -> bool
     ensures { result ≡ sameBytes (nameIn pool.now table.now i) (nameIn pool.now table.now j) }
 {
     match compare(name_at(pool, table, i), name_at(pool, table, j)) {
-        Order::Same => true,
-        Order::Less | Order::More => false,
+        Ordering::Equal => true,
+        Ordering::Less | Ordering::Greater => false,
     }
 }
 
@@ -245,46 +246,42 @@ fn copy(dst: &mut [u8], src: &[u8])
     requires { length src.now ≤ length dst.old }
     ensures { dst.new ≡ src.now ++ drop (length src.now) dst.old }
 {
-    let mut i = 0;
-    while i < src.len() {
-        dst[i] = src[i];
-        i = i + 1;
-    }
+    dst[..src.len()].copy_from_slice(src);
 }
 
 // A name that is not held: it is copied in at the first free pool byte and gets the next number, or is refused.
-fn enter_new(pool: &mut [u8], table: &mut [u32], name: &[u8]) -> Answer
+fn enter_new(pool: &mut [u8], table: &mut [u32], name: &[u8]) -> Result<(u32, Was), Refusal>
     requires { Good pool.old table.old }
     ensures { entered result pool.new table.new ≡ enterKnown none (hasRoom (table_of pool.old table.old) name.now) pool.old table.old name.now }
 {
     let n = table[0];
     let k = wide(n);
     if NAMES <= k {
-        return Answer::Refused(Refusal::NoRoom); // no number is left
+        return Err(Refusal::NoRoom); // no number is left
     }
     let free = start_of(table, k);
     if POOL_BYTES - free < name.len() {
-        return Answer::Refused(Refusal::NoRoom); // too few bytes are left
+        return Err(Refusal::NoRoom); // too few bytes are left
     }
     copy(&mut pool[free..], name);
     table[0] = n + 1;
     table[k + 1] = (free + name.len()) as u32;
-    Answer::Number(n, Was::New)
+    Ok((n, Was::New))
 }
 
 // A name is entered into a table that is well formed.
-pub fn enter_good(pool: &mut [u8], table: &mut [u32], name: &[u8]) -> Answer
+pub fn enter_good(pool: &mut [u8], table: &mut [u32], name: &[u8]) -> Result<(u32, Was), Refusal>
     requires { Good pool.old table.old }
     ensures { entered result pool.new table.new ≡ enterChecked (need (leb 1 (length name.now) && leb (length name.now) 48) 2) pool.old table.old name.now }
 {
     if name.len() == 0 {
-        return Answer::Refused(Refusal::NameLength);
+        return Err(Refusal::NameLength);
     }
     if NAME_BYTES < name.len() {
-        return Answer::Refused(Refusal::NameLength);
+        return Err(Refusal::NameLength);
     }
     match search(pool, table, 0, name) {
-        Found::At(i) => Answer::Number(i, Was::Known),
+        Found::At(i) => Ok((i, Was::Known)),
         Found::Nothing => enter_new(pool, table, name),
     }
 }

@@ -14,12 +14,12 @@ ghost use Rattle.reading.specs.Choice.{among, heads, deepRuled};
 ghost use Rattle.terms.specs.Effects.{lent, Ready, Writes, Done};
 ghost use Rattle.phrases.specs.Members.{Risen, KeptBefore, keptIf};
 
-use names::Order;
 use names::inner::{is_held, order};
 use reading::inner::Point;
 use reading::inner::factors::{byte_at, refuse};
 use records::inner::Before;
 use rules::Refusal;
+use std::cmp::Ordering;
 use terms::inner::{Reached, Stand, place_of};
 
 // One more; from 4,096 on, which is more than a sheet holds, the count stays.
@@ -29,13 +29,13 @@ fn one_more(n: u32) -> u32
     if n < 4096 { n + 1 } else { 4096 }
 }
 
-fn is_less(o: Order) -> bool
+fn is_less(o: Ordering) -> bool
     ensures { result ≡ is_lt (toldOrder o) }
 {
     match o {
-        Order::Less => true,
-        Order::Same => false,
-        Order::More => false,
+        Ordering::Less => true,
+        Ordering::Equal => false,
+        Ordering::Greater => false,
     }
 }
 

@@ -26,7 +26,7 @@ use Rattle.products.specs.Held.{law, Well}
 use Rattle.products.specs.Places.{length-product}
 use Rattle.products.specs.declared.Product as code
 use Rattle.products.specs.declared.Tried as tried
-use Rattle.names.specs.declared.Checked.TheVariants.{Good as Well', Refused as Because}
+use Rattle.names.specs.declared.old.Checked.TheVariants.{Good as Well', Refused as Because}
 use Rattle.records.specs.Cut.{fit}
 use Rattle.records.specs.Views.{viewAt, recOf}
 use Rattle.records.specs.Holds.{HoldsFactors, Holds, HoldsTys}

@@ -25,8 +25,8 @@ use Rattle.exponents.specs.Answers.{expOf, told}
 use Rattle.exponents.specs.declared.Exponent.{Exponent}
 use Rattle.exponents.specs.declared.Power as power
 use Rattle.loading.specs.Loaded.{write-first}
-use Rattle.names.specs.declared.Checked.{Checked}
-use Rattle.names.specs.declared.Checked.TheVariants.{Good, Refused as Because}
+use Rattle.names.specs.declared.old.Checked.{Checked}
+use Rattle.names.specs.declared.old.Checked.TheVariants.{Good, Refused as Because}
 use Rattle.records.specs.Cut.{fit}
 use Rattle.records.specs.Views.{viewAt, recOf}
 use Rattle.records.specs.Holds.{openOf, atomOf, viewAtom, HoldsFactors, HoldsProduct, Holds, HoldsFields, HoldsCon}

@@ -9,8 +9,8 @@ use Rattle.rules.specs.Refusals.{number_of}
 use Rattle.rules.specs.Rounds as rules
 use Rattle.rules.specs.Trees.{var, ◌↑◌, Ty, opened, dim, Tys, Fields, Con, isDim, is_scalar, Product, count, countFields, sizeTys, sizeCon}
 use Rattle.rules.specs.Writing.{Rec, words, writeCon, writeFactor}
-use Rattle.names.specs.declared.Checked.{Checked}
-use Rattle.names.specs.declared.Checked.TheVariants.{Good, Refused as Because}
+use Rattle.names.specs.declared.old.Checked.{Checked}
+use Rattle.names.specs.declared.old.Checked.TheVariants.{Good, Refused as Because}
 use Rattle.queries.specs.declared.Name.{Name}
 use Rattle.queries.specs.declared.Name.TheVariants.{Of, Nothing}
 use Rattle.records.specs.Holds.{HoldsFactors, HoldsProduct, Holds, HoldsTys, HoldsFields}

@@ -12,7 +12,7 @@ ghost use Rattle.text.specs.Told.{listedAs};
 use inner::write_lines;
 use lending::inner::clear;
 use lending::lent;
-use names::Checked;
+use names::old::Checked;
 use records::is_set;
 use rules::Refusal;
 use sheet_reading::Sheet;

@@ -10,13 +10,13 @@ ghost use Rattle.records.specs.Holds.{openOf, HoldsBound};
 ghost use Rattle.queries.specs.Marks.{Marks};
 ghost use Rattle.proposals.specs.Bounds.{BoundsThere};
 
-use names::Order;
 use names::inner::order;
 use queries::Name;
 use queries::inner::mark;
 use records::seen::view_at;
 use records::{Open, View};
 use rules::NAMES;
+use std::cmp::Ordering;
 
 fn number(o: Open) -> u32
     ensures { result ≡ word_of (openOf o) }
@@ -38,13 +38,13 @@ fn name_of(s: &[u32], at: usize) -> u32
     }
 }
 
-fn is_less(o: Order) -> bool
+fn is_less(o: Ordering) -> bool
     ensures { result ≡ is_lt (toldOrder o) }
 {
     match o {
-        Order::Less => true,
-        Order::Same => false,
-        Order::More => false,
+        Ordering::Less => true,
+        Ordering::Equal => false,
+        Ordering::Greater => false,
     }
 }
 

@@ -19,7 +19,7 @@ use super::super::Step;
 use super::binding::as_var;
 use super::writing::{past, put_equal, put_pairs, put_type};
 use loading::inner::{load, store};
-use names::Checked;
+use names::old::Checked;
 use products::Tried;
 use products::inner::divided;
 use queries::Name;

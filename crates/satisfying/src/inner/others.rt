@@ -21,7 +21,7 @@ use super::super::Step;
 use super::writing::{past, put_equal};
 use exponents::inner::{negative_of, quotient_of};
 use exponents::{Exponent, Power};
-use names::Checked;
+use names::old::Checked;
 use queries::inner::{closed_at, end_of};
 use records::inner::{put_one, put_record};
 use records::seen::view_at;

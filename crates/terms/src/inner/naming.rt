@@ -11,7 +11,6 @@ ghost use Rattle.terms.specs.Naming.{standAfter, numberTold, Front, NumberTold};
 ghost use Rattle.terms.specs.declared.inner.Stand.TheVariants as stand;
 
 use super::Stand;
-use names::Answer;
 use names::inner::enter_good;
 use reading::inner::Point;
 use reading::inner::factors::read_name;
@@ -45,33 +44,38 @@ fn with_new(k: usize, was: Was) -> usize
 }
 
 // How the sheet stands when the name at a place was entered.
-fn stand_after(at: usize, k: usize, n: usize, a: Answer) -> Stand
+fn stand_after(at: usize, k: usize, n: usize, a: Result<(u32, Was), Refusal>) -> Stand
     requires { k ≤ 256 }
     ensures { result ≡ standAfter at k n a }
 {
     match a {
-        Answer::Number(_, was) => Stand::Going(with_new(k, was), n),
-        Answer::Refused(why) => Stand::Refused(why, at),
+        Ok((_, was)) => Stand::Going(with_new(k, was), n),
+        Err(why) => Stand::Refused(why, at),
     }
 }
 
-fn number_told(a: Answer) -> u32
+fn number_told(a: Result<(u32, Was), Refusal>) -> u32
     ensures { result ≡ numberTold a }
 {
     match a {
-        Answer::Number(i, _) => i,
-        Answer::Refused(_) => 0,
+        Ok((i, _)) => i,
+        Err(_) => 0,
     }
 }
 
 // Enters a name by its length and the buffer at whose front its bytes stand, as far as they go in.
-fn enter_front(bytes: &[u8], long: usize, pool: &mut [u8], table: &mut [u32]) -> Answer
+fn enter_front(
+    bytes: &[u8],
+    long: usize,
+    pool: &mut [u8],
+    table: &mut [u32],
+) -> Result<(u32, Was), Refusal>
     requires bytes_len { length bytes.now ≡ 48 }
     requires good { Good pool.old table.old }
     ensures { (n : Bytes) → Front bytes.now long n → entered result pool.new table.new ≡ enterName pool.old table.old n }
 {
     if NAME_BYTES < long {
-        return Answer::Refused(Refusal::NameLength);
+        return Err(Refusal::NameLength);
     }
     enter_good(pool, table, &bytes[..long])
 }

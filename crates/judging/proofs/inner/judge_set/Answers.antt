@@ -1,6 +1,6 @@
 -- `inner::judge_set` meets its contract.
 use mathlib.Core.Path.{sym, ap, ◌∙◌}
-use Rattle.names.specs.Told.{toldChecked}
+use Rattle.names.specs.Old.{toldChecked}
 use Rattle.judging.specs.Entry.{came-in, kept_out}
 use Rattle.judging.proofs.inner.judge_set.Goals as goal
 

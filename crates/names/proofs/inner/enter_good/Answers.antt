@@ -12,16 +12,16 @@ use Rattle.rules.specs.Base.{need}
 use Rattle.rules.specs.declared.Refusal.TheVariants.{NameLength}
 use Rattle.rules.specs.Names.{table_of, names_of, number_of, hasRoom, enterKnown, enterChecked}
 use Rattle.laws.specs.NameTable.{good-laid}
-use Rattle.names.specs.declared.Answer.TheVariants.{Refused}
+use Rattle.std.specs.Prelude.{Ok, Err}
 use Rattle.names.specs.Told.{entered}
 use Rattle.names.proofs.inner.enter_good.Goals as goal
 
 module _ (p t n : List ℕ) where
-  empty : length n ≡ 0 → entered (Refused NameLength) p t ≡ enterChecked (need (leb 1 (length n) && leb (length n) 48) 2) p t n
+  empty : length n ≡ 0 → entered (Err NameLength) p t ≡ enterChecked (need (leb 1 (length n) && leb (length n) 48) 2) p t n
   unfolding enterChecked
   empty h = rw (lt-leb 1 (length n) (omega arith))
 
-  too_long : 48 < length n → entered (Refused NameLength) p t ≡ enterChecked (need (leb 1 (length n) && leb (length n) 48) 2) p t n
+  too_long : 48 < length n → entered (Err NameLength) p t ≡ enterChecked (need (leb 1 (length n) && leb (length n) 48) 2) p t n
   unfolding enterChecked
   too_long h = rw (le-leb 1 (length n) (omega arith), lt-leb (length n) 48 h)
 

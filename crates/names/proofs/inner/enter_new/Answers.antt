@@ -13,7 +13,7 @@ use Rattle.rules.specs.declared.Refusal.TheVariants.{NoRoom}
 use Rattle.rules.specs.declared.Was.TheVariants.{New}
 use Rattle.rules.specs.Names.{table_of, hasRoom, enterKnown}
 use Rattle.laws.specs.NameTable.{start_at, Good, good-laid, used-within, room-is, new_is}
-use Rattle.names.specs.declared.Answer.TheVariants.{Number, Refused}
+use Rattle.std.specs.Prelude.{Ok, Err}
 use Rattle.names.specs.Told.{entered}
 use Rattle.names.proofs.inner.enter_new.Goals as goal
 
@@ -34,17 +34,17 @@ back p n y free h e =
     take free p ++ n ++ drop (free + length n) p ∎
 
 module _ {p t : List ℕ} (g : Good p t) (n : List ℕ) where
-  no_number : 256 ≤ get_or t 0 0 → entered (Refused NoRoom) p t ≡ enterKnown none (hasRoom (table_of p t) n) p t n
+  no_number : 256 ≤ get_or t 0 0 → entered (Err NoRoom) p t ≡ enterKnown none (hasRoom (table_of p t) n) p t n
   unfolding enterKnown
   no_number h = rw (room-is (good-laid g) n, le-ltb (get_or t 0 0) 256 h)
 
   module _ (k : ℕ) (number : k ≡ get_or t 0 0) (few : k < 256) where
-    no_bytes : 8192 < start_at t k + length n → entered (Refused NoRoom) p t ≡ enterKnown none (hasRoom (table_of p t) n) p t n
+    no_bytes : 8192 < start_at t k + length n → entered (Err NoRoom) p t ≡ enterKnown none (hasRoom (table_of p t) n) p t n
     unfolding enterKnown
     no_bytes h = rw (room-is (good-laid g) n, ← number, lt-ltb k 256 few, lt-leb (start_at t k + length n) 8192 h)
 
     stored : (y : List ℕ) → start_at t k + length n ≤ 8192 → y ≡ n ++ drop (length n) (take (length p - start_at t k) (drop (start_at t k) p))
-        → entered (Number (get_or t 0 0) New) (take (start_at t k) p ++ (y ++ drop (length p - start_at t k) (drop (start_at t k) p))) (set (set t 0 (get_or t 0 0 + 1)) (k + 1) (start_at t k + length n))
+        → entered (Ok (get_or t 0 0, New)) (take (start_at t k) p ++ (y ++ drop (length p - start_at t k) (drop (start_at t k) p))) (set (set t 0 (get_or t 0 0 + 1)) (k + 1) (start_at t k + length n))
         ≡ enterKnown none (hasRoom (table_of p t) n) p t n
     unfolding enterKnown
     stored y h e =

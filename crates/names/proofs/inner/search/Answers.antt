@@ -52,11 +52,11 @@ overflow_cast-i c = let below : c.loop-k.k < get_or c.args.table.now 0 0 = rw c.
     let b = below in
     omega (arith, c.requires.laid.few)
 
-pub returns-in-Same : goal.returns-in-Same
-returns-in-Same c = let told : toldOrder c.compare.result ≡ orderBytes c.args.name.now (part_of c.args.pool.now c.args.table.now c.loop-k.k) = rw (c.wide-end.ensures, c.loop-k.invariant.1, add-one c.loop-k.k) at c.compare.ensures in
+pub returns-in-Equal : goal.returns-in-Equal
+returns-in-Equal c = let told : toldOrder c.compare.result ≡ orderBytes c.args.name.now (part_of c.args.pool.now c.args.table.now c.loop-k.k) = rw (c.wide-end.ensures, c.loop-k.invariant.1, add-one c.loop-k.k) at c.compare.ensures in
     let below : c.loop-k.k < get_or c.args.table.now 0 0 = rw c.wide-n.ensures at c.loop-k-test.true in
     let left : let names = names_of (table_of c.args.pool.now c.args.table.now) in number_of c.loop-k.k c.args.name.now (part_of c.args.pool.now c.args.table.now c.loop-k.k ∷ drop (suc c.loop-k.k) names) ≡ number_of c.args.from c.args.name.now (drop c.args.from names) = ap (number_of c.loop-k.k c.args.name.now) (sym (names-step c.requires.laid c.loop-k.k (below))) ∙ c.loop-k.invariant.2 in
-    sym (search-hit _ _ _ _ (hit _ _ (rw c.in-Same.is at (told)))) ∙ left
+    sym (search-hit _ _ _ _ (hit _ _ (rw c.in-Equal.is at (told)))) ∙ left
 
 pub loop-k-preserved : goal.loop-k-preserved
 loop-k-preserved c = let told : toldOrder c.compare.result ≡ orderBytes c.args.name.now (part_of c.args.pool.now c.args.table.now c.loop-k.k) = rw (c.wide-end.ensures, c.loop-k.invariant.1, add-one c.loop-k.k) at c.compare.ensures in
