@@ -1,5 +1,5 @@
 -- A dimension: its record and those of the factors that are left, counted and written.
-use Rattle.std.specs.Prelude.{◌≡◌, refl, List, []}
+use Rattle.std.specs.Prelude.{◌≡◌, refl, List, [], Err, None, Ok, Some}
 use Rattle.std.proofs.Common.{sym, ◌∙◌, arith}
 use Rattle.std.proofs.Math.Path.{ap}
 use Prim.Native.Nat.{ℕ, suc, ◌*◌}
@@ -16,10 +16,8 @@ use Rattle.rules.specs.TextReading as TextReading
 use Rattle.rules.specs.declared.Refusal.{Refusal}
 use Rattle.products.specs.Told.{Tree, productOf}
 use Rattle.products.specs.declared.Product.{Product}
-use Rattle.reading.specs.Points.{Reads, Any, marked, columnAt, in-turn, given}
+use Rattle.reading.specs.Points.{Reads, Any, marked, columnAt, in-turn, given, Point}
 use Rattle.reading.specs.Factors.{factorsThere}
-use Rattle.reading.specs.declared.inner.Point.{Point}
-use Rattle.reading.specs.declared.inner.Point.TheVariants as point
 use Rattle.terms.specs.Stands.{place_of, countOf}
 use Rattle.terms.specs.Effects.{Lent, lent, sofar, counted-going, counted-refused, Ready, Kept, kept_then, kept-last, kept-written, kept-count, ready-kept, Effect, Did, Writes, maps, Halted, halted-on, halted-counted, NotBad, not-bad, Done}
 use Rattle.terms.specs.Inside.{inside-column, inside-spelled}
@@ -49,9 +47,9 @@ told_same {s} {r} {r'} {d} {d'} e f = let a : r' ≡ r = cc in let b : d' ≡ d 
 
 -- the column of a sign where the sheet goes on
 sign-place : {k : ℕ} {s : Stand} (c : Point) → k ≡ columnAt c → NotBad c → Halted c s → (i n : ℕ) → s ≡ stand.Going i n → k ≡ suc (place_of c)
-sign-place (point.At j) e b h i n f = e
-sign-place point.Past e b h i n f = absurd (h i n refl f)
-sign-place (point.Bad j) e b h i n f = absurd b
+sign-place (Ok (Some j)) e b h i n f = e
+sign-place (Ok None) e b h i n f = absurd (h i n refl f)
+sign-place (Err j) e b h i n f = absurd b
 
 written-length : (t : Tree) → length (writeProduct t) ≡ suc (length t)
 unfolding writeProduct

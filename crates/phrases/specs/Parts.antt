@@ -11,10 +11,9 @@ use Rattle.laws.specs.Size.{size-ty, size-tys}
 use Rattle.records.specs.Views.{recOf}
 use Rattle.records.specs.declared.View.{View}
 use Rattle.records.specs.declared.View.TheVariants as view
-use Rattle.reading.specs.Points.{Reads, Any, marked, columnAt}
+use Rattle.reading.specs.Points.{Reads, Any, marked, columnAt, Point}
 use Rattle.reading.specs.Signs.{spelled}
 use Rattle.reading.specs.Types.{paramsThere, listed-read, function-read}
-use Rattle.reading.specs.declared.inner.Point.{Point}
 use Rattle.terms.specs.Stands.{place_of, countOf, headPut}
 use Rattle.terms.specs.Effects.{Lent, lent, Roomy, Halted, Ready, Kept, Did, Effect, Writes, Done, NotBad, not-bad, then, gives, maps, alike, grouped, kept-last, kept_then, kept-written, kept-counted, countedIn, headed, head-long, halted-on, at_sign}
 use Rattle.terms.specs.Inside.{inside-spelled, inside-column}

@@ -15,8 +15,7 @@ ghost use Rattle.terms.specs.Effects.{lent, Ready, Writes, Done};
 ghost use Rattle.phrases.specs.Members.{Risen, KeptBefore, keptIf};
 
 use names::inner::{is_held, order};
-use reading::inner::Point;
-use reading::inner::factors::{byte_at, refuse};
+use reading::inner::{Point, byte_at, refuse};
 use records::inner::Before;
 use rules::Refusal;
 use std::cmp::Ordering;
@@ -119,7 +118,7 @@ fn too_deep(line: &[u8], q: Point, s: Stand) -> Reached
 {
     if is_head(byte_at(line, q)) {
         return Reached {
-            at: Point::Past,
+            at: Ok(None),
             stand: pass_if(false, place_of(q), s),
         };
     }

@@ -1,19 +1,16 @@
 // A line: its constraint's record is counted at its first sign, and written when its types are there.
-ghost use Rattle.std.specs.Prelude.{◌≡◌, ◌<◌, length};
+ghost use Rattle.std.specs.Prelude.{◌≡◌, ◌<◌, Ok, Some, length};
 ghost use Rattle.rules.specs.Grammar.{ascii, spell, typed, hasField, constraint, signsAt};
 ghost use Rattle.rules.specs.TextReading.{conOf};
 ghost use Rattle.rules.specs.Writing.{writeCon};
 ghost use Rattle.laws.specs.NameTable.{Good};
 ghost use Rattle.reading.specs.Points.{PointIn, Reads, Any};
-ghost use Rattle.reading.specs.declared.inner.Point.TheVariants as point;
 ghost use Rattle.terms.specs.Effects.{lent, Roomy, Ready, Writes, Done};
 ghost use Rattle.statements.specs.Statements.{end_of, SaysScalar, stated, meantOf, LineTold, LineDone};
 ghost use Rattle.statements.specs.Answers.{standIn, countIn, bySheet, answer_of};
 
 use phrases::inner::types::enter_type;
-use reading::inner::factors::{byte_at, refuse};
-use reading::inner::signs::sign;
-use reading::inner::{Point, mark, next_is, next_sign};
+use reading::inner::{Point, byte_at, mark, next_is, next_sign, refuse, sign};
 use records::View;
 use rules::Refusal;
 use terms::inner::naming::read_named;
@@ -39,21 +36,16 @@ fn quote(line: &[u8], p: Point) -> Point
     requires { PointIn line.now p }
     ensures { Reads line.now p (spell (ascii "\"")) Any result }
 {
-    match p {
-        Point::At(i) => {
-            if i < line.len() {
-                if line[i] == b'"' {
-                    Point::At(i + 1)
-                } else {
-                    Point::Bad(i)
-                }
-            } else {
-                Point::Bad(i)
-            }
-        }
-        Point::Past => Point::Past,
-        Point::Bad(q) => Point::Bad(q),
+    let Some(i) = p? else {
+        return Ok(None);
+    };
+    if line.len() <= i {
+        return Err(i);
     }
+    if line[i] != b'"' {
+        return Err(i);
+    }
+    Ok(Some(i + 1))
 }
 
 // The end of a line; the first byte of what else follows fits nothing.
@@ -61,17 +53,13 @@ fn end_at(line: &[u8], p: Point) -> Point
     requires { PointIn line.now p }
     ensures { end_of line.now p result }
 {
-    match p {
-        Point::At(i) => {
-            if i < line.len() {
-                Point::Bad(i)
-            } else {
-                Point::At(i)
-            }
-        }
-        Point::Past => Point::Past,
-        Point::Bad(q) => Point::Bad(q),
+    let Some(i) = p? else {
+        return Ok(None);
+    };
+    if i < line.len() {
+        return Err(i);
     }
+    Ok(Some(i))
 }
 
 // Is this byte "=", and did a dimension begin at q?
@@ -213,10 +201,10 @@ fn enter_from(
     dst: &mut [u32],
 ) -> Stated
     requires i_in_bounds { i < length line.now }
-    requires ready { Ready line.now (point.At i) pool.old table.old s }
-    ensures { Done line.now signsAt meantOf (LineTold result.count) (point.At i) (lent pool.old table.old dst.old s) result.at (lent pool.new table.new dst.new result.stand) }
+    requires ready { Ready line.now (Ok (Some i)) pool.old table.old s }
+    ensures { Done line.now signsAt meantOf (LineTold result.count) (Ok (Some i)) (lent pool.old table.old dst.old s) result.at (lent pool.new table.new dst.new result.stand) }
 {
-    let p = Point::At(i);
+    let p = Ok(Some(i));
     if next_is(line, p, b'-') {
         return Stated {
             at: sign(line, p, b"--"),
@@ -247,24 +235,24 @@ fn enter_signs(
     ensures { Done line.now signsAt meantOf (LineTold result.count) p (lent pool.old table.old dst.old s) result.at (lent pool.new table.new dst.new result.stand) }
 {
     match p {
-        Point::At(i) => {
+        Ok(Some(i)) => {
             if i < line.len() {
                 enter_from(line, i, s, pool, table, dst)
             } else {
                 Stated {
-                    at: Point::At(i),
+                    at: p,
                     stand: s,
                     count: 0,
                 }
             }
         }
-        Point::Past => Stated {
-            at: Point::Past,
+        Ok(None) => Stated {
+            at: p,
             stand: s,
             count: 0,
         },
-        Point::Bad(q) => Stated {
-            at: Point::Bad(q),
+        Err(_) => Stated {
+            at: p,
             stand: s,
             count: 0,
         },
@@ -285,9 +273,8 @@ fn answer(p: Point, s: Stand, n: usize) -> Line
     ensures { result ≡ answer_of p s n }
 {
     match p {
-        Point::Bad(q) => Line::Refused(Refusal::NotGrammar, q),
-        Point::At(_) => by_sheet(s, n),
-        Point::Past => by_sheet(s, n),
+        Err(q) => Line::Refused(Refusal::NotGrammar, q),
+        Ok(_) => by_sheet(s, n),
     }
 }
 
@@ -300,7 +287,7 @@ pub fn read_line(line: &[u8], s: Stand, pool: &mut [u8], table: &mut [u32], dst:
     match s {
         Stand::Refused(r, c) => Line::Refused(r, c),
         Stand::Going(_, _) => {
-            let q = next_sign(line, Point::At(0));
+            let q = next_sign(line, Ok(Some(0)));
             let t = enter_signs(line, q, s, pool, table, dst);
             let at = t.at;
             let stand = t.stand;

@@ -1,5 +1,5 @@
 -- A name that was read, and entered where it stands.
-use Rattle.std.specs.Prelude.{Result, Ok, Err, ◌≡◌, Bool, true, false, ◌&&◌, List, [], ◌∷◌, ◌++◌, ℕ, suc, ◌+◌, ◌≤◌, ◌<◌, leb, length, take, drop, get_or}
+use Rattle.std.specs.Prelude.{◌≡◌, Bool, true, false, ◌&&◌, List, [], ◌∷◌, ◌++◌, ℕ, suc, ◌+◌, ◌≤◌, ◌<◌, Result, Ok, Err, Some, leb, length, take, drop, get_or}
 use Rattle.std.proofs.Math.Path.{refl, ap}
 use Rattle.std.proofs.Common.{sym, subst, ◌∙◌, append-nil, arith, length-append, length-take, length-drop, length-set, take_at}
 use Rattle.std.proofs.lemmas.Bool.{lt-leb}
@@ -19,7 +19,6 @@ use Rattle.laws.specs.NameTable.{Good, good-given, good-laid, new_is}
 use Rattle.laws.specs.Entering.{Enters, Case, stopped, known, full, new, enter-case, count-with, names-with, good-with, pool-behind, table-behind}
 use Rattle.names.specs.Told.{entered}
 use Rattle.scanning.specs.Names.{NameRead}
-use Rattle.reading.specs.declared.inner.Point.TheVariants as point
 use Rattle.terms.specs.Effects.{lent, sofar, Room, Kept, Effect, did, stops, Done, not-past}
 use Rattle.terms.specs.declared.inner.Stand.{Stand}
 use Rattle.terms.specs.declared.inner.Stand.TheVariants as stand
@@ -205,7 +204,7 @@ module _ (pool table pool' table' : List ℕ) (at k l : ℕ) (room : Room table 
     named-effect (Err why) e t = stops refl refl (named-is (Err why) e)
 
   pub named-done : {line : Bytes} {i long : ℕ} {d d' : List ℕ} → Good pool table → (r : NameRead line at i long d d') (a : Answer) → entered a pool' table' ≡ enterName pool table r.bytes
-      → Done line name named (NumberTold table' (numberTold a)) (point.At at) (lent pool table dst (stand.Going k l)) (point.At i) (lent pool' table' dst (standAfter at k l a))
+      → Done line name named (NumberTold table' (numberTold a)) (Ok (Some at)) (lent pool table dst (stand.Going k l)) (Ok (Some i)) (lent pool' table' dst (standAfter at k l a))
   unfolding name
   named-done {line} {i} g r a e =
       let t = entry-told r.bytes a e g in

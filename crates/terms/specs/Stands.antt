@@ -1,5 +1,6 @@
 -- How a sheet stands: records counted, and a record written before its parts.
-use Rattle.std.specs.Prelude.{◌≡◌, refl, Bool, true, false, List, [], ◌∷◌, ℕ, ◌+◌, ◌-◌, ◌*◌, ◌≤◌, ◌<◌, leb}
+use Rattle.reading.specs.Points.{Point}
+use Rattle.std.specs.Prelude.{◌≡◌, refl, Bool, true, false, List, [], ◌∷◌, ℕ, ◌+◌, ◌-◌, ◌*◌, ◌≤◌, ◌<◌, leb, Err, None, Ok, Some}
 use Rattle.std.proofs.Common.{sym, ap, ◌∙◌, arith, leb-true, le-leb}
 use Rattle.std.proofs.lemmas.Bool.{lt-leb}
 use Rattle.std.proofs.lemmas.List.Edits.{sets}
@@ -9,15 +10,13 @@ use Rattle.rules.specs.declared.Refusal.TheVariants.{TooLarge}
 use Rattle.records.specs.Cut.{fit, fits}
 use Rattle.records.specs.Views.{recOf}
 use Rattle.records.specs.declared.View.{View}
-use Rattle.reading.specs.declared.inner.Point.{Point}
-use Rattle.reading.specs.declared.inner.Point.TheVariants as point
 use Rattle.terms.specs.declared.inner.Stand.{Stand}
 use Rattle.terms.specs.declared.inner.Stand.TheVariants as stand
 
 abbrev pub place_of : Point → ℕ
-place_of (point.At i) = i
-place_of point.Past = 0
-place_of (point.Bad q) = 0
+place_of (Ok (Some i)) = i
+place_of (Ok None) = 0
+place_of (Err q) = 0
 
 -- at most 2,048 records so far
 abbrev pub Few : Stand → Type 0

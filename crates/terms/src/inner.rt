@@ -29,9 +29,8 @@ pub fn place_of(p: Point) -> usize
     ensures { result ≡ place_of p }
 {
     match p {
-        Point::At(i) => i,
-        Point::Past => 0,
-        Point::Bad(_) => 0,
+        Ok(Some(i)) => i,
+        Ok(None) | Err(_) => 0,
     }
 }
 

@@ -25,9 +25,8 @@ fn is_at(p: Point) -> bool
     ensures { result ≡ is_at p }
 {
     match p {
-        Point::At(_) => true,
-        Point::Past => false,
-        Point::Bad(_) => false,
+        Ok(Some(_)) => true,
+        Ok(None) | Err(_) => false,
     }
 }
 

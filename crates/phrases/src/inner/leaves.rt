@@ -3,8 +3,7 @@ ghost use Rattle.terms.specs.Effects.{lent, Ready};
 ghost use Rattle.phrases.specs.Rows.{LeafDone};
 
 use dimensions::inner::whole::enter_dimension;
-use reading::inner::Point;
-use reading::inner::factors::{byte_at, refuse};
+use reading::inner::{Point, byte_at, refuse};
 use records::Basic;
 use terms::inner::leaves::{enter_basic, enter_open};
 use terms::inner::{Reached, Stand};

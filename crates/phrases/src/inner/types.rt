@@ -11,9 +11,7 @@ ghost use Rattle.phrases.specs.Members.{FieldsTold, FieldDone};
 
 use super::leaves::enter_leaf;
 use super::{before_next, one_more, pass_if, rises, too_deep};
-use reading::inner::factors::byte_at;
-use reading::inner::signs::sign;
-use reading::inner::{Point, mark, next_is, next_sign};
+use reading::inner::{Point, byte_at, mark, next_is, next_sign, sign};
 use records::View;
 use records::inner::Before;
 use terms::inner::naming::read_named;

@@ -10,8 +10,7 @@ ghost use Rattle.terms.specs.Leaves.{mark_of, openView, openRule, word_of, basic
 
 use super::naming::read_named;
 use super::{Reached, Stand, count, place_of, put_head};
-use reading::inner::signs::sign;
-use reading::inner::{Point, mark, next_sign};
+use reading::inner::{Point, mark, next_sign, sign};
 use records::{Basic, Open, View};
 
 fn mark_of(par: bool) -> u8

@@ -1,19 +1,17 @@
 // Names that are read, and entered where they stand.
-ghost use Rattle.std.specs.Prelude.{◌≡◌, List, ℕ, ◌+◌, ◌≤◌, length};
+ghost use Rattle.std.specs.Prelude.{◌≡◌, List, ℕ, ◌+◌, ◌≤◌, Ok, Some, length};
 ghost use Rattle.rules.specs.Grammar.{name};
 ghost use Rattle.rules.specs.Names.{Bytes};
 ghost use Rattle.rules.specs.TextReading.{newIn, enterName, named};
 ghost use Rattle.laws.specs.NameTable.{Good};
 ghost use Rattle.names.specs.Told.{entered};
-ghost use Rattle.reading.specs.declared.inner.Point.TheVariants as point;
 ghost use Rattle.terms.specs.Effects.{lent, Room, Ready, Done};
 ghost use Rattle.terms.specs.Naming.{standAfter, numberTold, Front, NumberTold};
 ghost use Rattle.terms.specs.declared.inner.Stand.TheVariants as stand;
 
 use super::Stand;
 use names::inner::enter_good;
-use reading::inner::Point;
-use reading::inner::factors::read_name;
+use reading::inner::{Point, read_name};
 use rules::{NAME_BYTES, Refusal, Was};
 use scanning::inner::scan_name;
 
@@ -85,19 +83,19 @@ fn enter_at(line: &[u8], at: usize, k: usize, n: usize, pool: &mut [u8], table: 
     requires at_in_bounds { at ≤ length line.now }
     requires good { Good pool.old table.old }
     requires room { Room table.old k n }
-    ensures { (dst : List ℕ) → Done line.now name named (NumberTold table.new result.number) (point.At at) (lent pool.old table.old dst (stand.Going k n)) result.at (lent pool.new table.new dst result.stand) }
+    ensures { (dst : List ℕ) → Done line.now name named (NumberTold table.new result.number) (Ok (Some at)) (lent pool.old table.old dst (stand.Going k n)) result.at (lent pool.new table.new dst result.stand) }
 {
     let mut bytes = [0u8; 48];
     match scan_name(line, at, &mut bytes) {
         Err(q) => Named {
-            at: Point::Bad(q),
+            at: Err(q),
             stand: Stand::Going(k, n),
             number: 0,
         },
         Ok(name) => {
             let a = enter_front(&bytes, name.size, pool, table);
             Named {
-                at: Point::At(name.end),
+                at: Ok(Some(name.end)),
                 stand: stand_after(at, k, n, a),
                 number: number_told(a),
             }
@@ -117,14 +115,14 @@ pub fn read_named(line: &[u8], p: Point, s: Stand, pool: &mut [u8], table: &mut 
             number: 0,
         },
         Stand::Going(k, n) => match p {
-            Point::At(i) => enter_at(line, i, k, n, pool, table),
-            Point::Past => Named {
-                at: Point::Past,
+            Ok(Some(i)) => enter_at(line, i, k, n, pool, table),
+            Ok(None) => Named {
+                at: p,
                 stand: s,
                 number: 0,
             },
-            Point::Bad(q) => Named {
-                at: Point::Bad(q),
+            Err(_) => Named {
+                at: p,
                 stand: s,
                 number: 0,
             },

@@ -1,14 +1,8 @@
 -- `inner::answer` meets its contract.
 use Rattle.statements.proofs.inner.answer.Goals as goal
 
-pub returns-in-Bad : goal.returns-in-Bad
-returns-in-Bad c =
-    rw c.in-Bad.is
+pub returns-in-Err : goal.returns-in-Err
+returns-in-Err c = rw c.in-Err.is
 
-pub returns-in-At : goal.returns-in-At
-returns-in-At c =
-    rw c.in-At.is c.by_sheet.ensures
-
-pub returns-in-Past : goal.returns-in-Past
-returns-in-Past c =
-    rw c.in-Past.is c.by_sheet-in-Past.ensures
+pub returns-in-Ok : goal.returns-in-Ok
+returns-in-Ok c = rw c.in-Ok.is c.by_sheet.ensures
