@@ -48,6 +48,7 @@ pub struct Product<'a> {
     pub at: usize,
     pub count: u32,
     pub ghost near: { length words.now ≤ 100_000 },
+    pub ghost within: { at ≤ 100_000 },
     pub ghost factors: { Factors words.now at count } by { one-product words.now at count },
 }
 

@@ -30,7 +30,11 @@ pub overflow_add-at-in-List : goal.overflow_add-at-in-List
 overflow_add-at-in-List c = omega (arith, near-next _ _ c.args.self.tree c.args.self.near)
 
 pub invariant_of-result : goal.invariant_of-result
-invariant_of-result c = record { near = c.args.self.near; factors = factors-of _ _ c.args.self.tree (sym c.view_at.ensures ∙ c.in-Dim.is) }
+invariant_of-result c = record {
+  near = c.args.self.near;
+  within = omega (arith, near-next _ _ c.args.self.tree c.args.self.near);
+  factors = factors-of _ _ c.args.self.tree (sym c.view_at.ensures ∙ c.in-Dim.is);
+}
 
 pub invariant_of-parameters : goal.invariant_of-parameters
 invariant_of-parameters c = record { near = c.args.self.near; trees = parameters-of _ _ c.args.self.tree (sym c.view_at.ensures ∙ c.in-Function.is) }
@@ -64,7 +68,7 @@ pub returns-in-Basic : goal.returns-in-Basic
 returns-in-Basic c = sym (seen-as _ _ c.args.self.tree (sym c.view_at.ensures ∙ c.in-Basic.is))
 
 pub returns-in-Dim : goal.returns-in-Dim
-returns-in-Dim c = dim-is _ _ c.args.self.tree (sym c.view_at.ensures ∙ c.in-Dim.is) c.result-1.given.1.0
+returns-in-Dim c = dim-is _ _ c.args.self.tree (sym c.view_at.ensures ∙ c.in-Dim.is) c.result-1.given.1.1.0
 
 pub returns-in-Function : goal.returns-in-Function
 returns-in-Function c = function-is _ _ c.args.self.tree

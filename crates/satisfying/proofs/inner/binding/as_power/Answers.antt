@@ -2,7 +2,7 @@
 use mathlib.Core.Path.{sym, ◌∙◌}
 use native.Mathlib.Omega.{arith}
 use Rattle.records.specs.Places.{seen-in}
-use Rattle.satisfying.proofs.Laws.{no-product, power-none, power-many, power_at, power-no-factor}
+use Rattle.satisfying.proofs.Power.{no-product, power-none, power-many, power_at, power-no-factor}
 use borrow.Enum.Refused.{opened}
 use Rattle.satisfying.proofs.inner.binding.as_power.Goals as goal
 

@@ -3,7 +3,7 @@ use mathlib.Core.Path.{sym, ap, ◌∙◌}
 use Rattle.rules.specs.Base.{is_yes}
 use Rattle.rules.specs.Exponents.{Exp, frac, Exp-dec, one}
 use Rattle.rules.specs.Writing.{signed}
-use Rattle.satisfying.proofs.Laws.{power-one, power-other, power-base}
+use Rattle.satisfying.proofs.Power.{power-one, power-other, power-base}
 use Rattle.satisfying.proofs.inner.binding.power_one.Goals as goal
 
 pub returns-then-is_one : goal.returns-then-is_one
