@@ -5,7 +5,6 @@ use Rattle.std.specs.Ordering.{nat_cmp}
 use Rattle.std.proofs.Common.{inl, inr, arith}
 use Rattle.std.proofs.lemmas.Bool.{cases_order, le-ltb, lt-ltb}
 use Rattle.laws.specs.ByteOrder.{compare-equal, compare-below, compare-above}
-use Rattle.std.proofs.Math.Option.{Option, none, some}
 use Prim.Native.Nat.{ℕ, ◌+◌, compare, Ordering}
 use Rattle.std.specs.Borrow.{Bor}
 use Rattle.rules.specs.Base.{Got, got, refused}
@@ -16,8 +15,6 @@ use Rattle.laws.specs.NameTable.{start_at}
 use Rattle.rules.specs.declared.Was.{Was}
 use Rattle.std.specs.declared.cmp.Ordering as std
 use Rattle.std.specs.declared.cmp.Ordering.TheVariants.{Less, Equal, Greater}
-use Rattle.names.specs.declared.inner.Found.{Found}
-use Rattle.names.specs.declared.inner.Found.TheVariants.{At, Nothing}
 
 abbrev pub toldOrder : std.Ordering → Ordering
 toldOrder Less = Ordering.lt
@@ -32,10 +29,6 @@ ordered x y = go (cases_order x y)
     go (inl e) = rw (compare-equal x y e, le-ltb x y (omega arith))
     go (inr (inl h)) = rw (compare-below x y h, lt-ltb x y h)
     go (inr (inr h)) = rw (compare-above x y h, le-ltb x y (omega arith))
-
-abbrev pub toldFound : Found → Option ℕ
-toldFound (At k) = some k
-toldFound Nothing = none
 
 -- an answer, with what pool and table hold afterwards
 abbrev pub entered : Result (ℕ × Was) Refusal → List ℕ → List ℕ → Entered

@@ -12,6 +12,7 @@ use std::cmp::Ordering;
 pub mod inner;
 pub mod old;
 pub mod tables;
+pub mod theorems;
 
 // The order of two names: by bytes, and a name before a longer one that begins with it.
 #[tactic(auto, using(crate::proofs::Compared::compared))]

@@ -1,5 +1,5 @@
--- The contracts leave no choice: two results that one of them allows coincide (`..-determined`). And each answer has the number that the rules give
--- its outcome (`..-numbered`).
+-- The contracts leave no choice: two results that one of them allows coincide (`..-determined`). And each answer has the number that the
+-- rules give to its outcome (`..-numbered`).
 use Rattle.std.specs.Prelude.{Result, ◌≡◌, refl, List, ℕ}
 use Rattle.std.proofs.Math.Path.{ap}
 use Rattle.std.proofs.Common.{sym, ◌∙◌}
@@ -14,6 +14,7 @@ use Rattle.rules.specs.declared.Was.{Was}
 use Rattle.laws.specs.Numbers.{told-injective}
 use Rattle.std.specs.declared.cmp.Ordering.{Ordering}
 use Rattle.std.specs.declared.cmp.Ordering.TheVariants.{Less, Equal, Greater}
+use Rattle.names.specs.Theorems.{OneResult}
 use Rattle.names.specs.Told.{toldOrder, entered, refusalOf, IsPart}
 
 pub order-tells : (a b : Ordering) → toldOrder a ≡ toldOrder b → a ≡ b
@@ -26,12 +27,6 @@ order-tells Equal Greater e = cc
 order-tells Greater Less e = cc
 order-tells Greater Equal e = cc
 order-tells Greater Greater e = refl
-
--- of entering: the answer, and all that pool and table hold afterwards
-pub record OneResult (a b : Result (ℕ × Was) Refusal) (p q t u : List ℕ) : Type 0 where
-  pub answer : a ≡ b
-  pub pool : p ≡ q
-  pub table : t ≡ u
 
 pub entered-tells : (a b : Result (ℕ × Was) Refusal) (p q t u : List ℕ) → entered a p t ≡ entered b q u → OneResult a b p q t u
 entered-tells a b p q t u e = record { answer = told-injective a b (ap (λ r. r.answer) e); pool = ap (λ r. r.pool) e; table = ap (λ r. r.table) e }
