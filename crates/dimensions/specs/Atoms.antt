@@ -17,7 +17,7 @@ use Rattle.reading.specs.Factors.{byte_of, refusedFrom, markName, noAtom, atom, 
 use Rattle.terms.specs.Effects.{lent, Ready, kept_same, kept-last, Effect, maps, Halted, halted-on, Done, reads_on, ends-bad}
 use Rattle.terms.specs.Inside.{inside-column}
 use Rattle.terms.specs.Naming.{NumberTold}
-use Rattle.terms.specs.declared.inner.Stand.{Stand}
+use Rattle.terms.specs.Stands.{Stand}
 
 -- the kind that a mark begins
 pub data KindFor (b : ℕ) : ℕ → Type 0 where

@@ -19,11 +19,10 @@ use Rattle.products.specs.Held.{Well}
 use Rattle.products.specs.declared.Product.{Product}
 use Rattle.reading.specs.Points.{Reads, PointIn, MarkRead, left_at, columnAt, beginsAt, in-turn, given, if-sign, if-no-sign, Point}
 use Rattle.reading.specs.Factors.{atom, powerThere, factorsThere, begun, left_there}
-use Rattle.terms.specs.Stands.{place_of}
+use Rattle.terms.specs.Stands.{place_of, Stand}
 use Rattle.terms.specs.Effects.{Lent, lent, Ready, ready-next, Kept, kept_same, kept-last, kept_then, Effect, then, gives, Halted, halted-on, NotBad, not-bad, at_sign, Done}
 use Rattle.terms.specs.Inside.{inside-column}
-use Rattle.terms.specs.declared.inner.Stand.{Stand}
-use Rattle.terms.specs.declared.inner.Stand.TheVariants as stand
+use Rattle.terms.specs.Stands as stand
 use Rattle.dimensions.specs.Atoms.{AtomTold}
 use Rattle.dimensions.specs.Powers.{powered, ExpTold}
 use Rattle.dimensions.specs.Times.{timesBy, ProductIs, HeldIf}
@@ -61,8 +60,8 @@ pub went_on : {x y : Lent} {k n : ℕ} → Kept x y → y.stand ≡ stand.Going 
 went_on {x} {y} k e = go x.stand refl
   where
     go : (s : Stand) → x.stand ≡ s → WentOn s
-    go (stand.Going i j) p = record { fresh = i; records = j; is = refl }
-    go (stand.Refused r c) p = let h = k.refused r c p in let z : ◌≡◌ {A = ℕ} 0 1 = cc in absurd (omega arith)
+    go (Ok tally) p = record { fresh = tally.names; records = tally.records; is = refl }
+    go (Err stop) p = let h = k.refused stop.why stop.at p in let z : ◌≡◌ {A = ℕ} 0 1 = cc in absurd (omega arith)
 
 -- ══ One factor ══
 

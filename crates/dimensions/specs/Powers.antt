@@ -22,20 +22,19 @@ use Rattle.reading.specs.Points.{Reads, from, standing, beginsAt, columnAt, give
 use Rattle.reading.specs.Powers.{Typed, minusThere, denominatorThere}
 use Rattle.reading.specs.Values.{value_of, typed-value, value-large, value-zero, value-under, value_there, lowest-good}
 use Rattle.reading.specs.Factors.{powerThere}
-use Rattle.terms.specs.Stands.{place_of}
+use Rattle.terms.specs.Stands.{place_of, Stand}
 use Rattle.terms.specs.Effects.{lent, sofar, Ready, kept_same, kept-stopped, Effect, did, stops, gives, halted-on, NotBad, not-bad, at_sign, Inside, unmoved, Done}
 use Rattle.terms.specs.Inside.{inside-column, inside-give, inside-then, inside-if, inside-digits, inside-spelled}
-use Rattle.terms.specs.declared.inner.Stand.{Stand}
-use Rattle.terms.specs.declared.inner.Stand.TheVariants as stand
+use Rattle.terms.specs.Stands as stand
 
 -- what a power does: its worth, or a refusal at its column
 abbrev pub powered : PowerAt → Step Exp
 powered e = placed e.column (powerOf e)
 
 abbrev pub powerStand : Stand → ℕ → Power → Stand
-powerStand (stand.Refused r c) at v = stand.Refused r c
-powerStand (stand.Going k n) at (value.Value e) = stand.Going k n
-powerStand (stand.Going k n) at (value.Refused why) = stand.Refused why at
+powerStand (Err stop) at v = stand.Refused stop.why stop.at
+powerStand (Ok tally) at (value.Value e) = stand.Going tally.names tally.records
+powerStand (Ok tally) at (value.Refused why) = stand.Refused why at
 
 abbrev pub unit : Exponent
 unit = record { num = pos 1; den = 1 }
@@ -164,26 +163,26 @@ inside-power =
 power-effect : (w : PowerAt) (v : Power) (at : ℕ) (pool table dst : List ℕ) (s : Stand) → powerOf w ≡ Answers.told v → w.column ≡ suc at
     → Effect (powered w) (ExpTold (expIn v)) (lent pool table dst s) (lent pool table dst (powerStand s at v))
 unfolding words
-power-effect w (value.Value e) at pool table dst (stand.Going k n) h g =
+power-effect w (value.Value e) at pool table dst (Ok tally) h g =
     did refl refl (record {
       value = expOf e;
       records = [];
-      is = ap (λ (m : Got Exp). placed w.column m (sofar (lent pool table dst (stand.Going k n)) k n)) h;
+      is = ap (λ (m : Got Exp). placed w.column m (sofar (lent pool table dst (stand.Going tally.names tally.records)) tally.names tally.records)) h;
       tells = record { is = refl; none = refl };
       written = refl;
       grown = omega arith;
     })
-power-effect w (value.Refused why) at pool table dst (stand.Going k n) h g =
-    stops refl refl (ap (λ (m : Got Exp). placed w.column m (sofar (lent pool table dst (stand.Going k n)) k n)) h ∙ ap (λ (c : ℕ). refusedAt (number_of why) c) g)
-power-effect w v at pool table dst (stand.Refused r c) h g = unmoved refl
+power-effect w (value.Refused why) at pool table dst (Ok tally) h g =
+    stops refl refl (ap (λ (m : Got Exp). placed w.column m (sofar (lent pool table dst (stand.Going tally.names tally.records)) tally.names tally.records)) h ∙ ap (λ (c : ℕ). refusedAt (number_of why) c) g)
+power-effect w v at pool table dst (Err stop) h g = unmoved refl
 
 power-refused : (s : Stand) (at : ℕ) (v : Power) (r : Refusal) (c : ℕ) → s ≡ stand.Refused r c → powerStand s at v ≡ stand.Refused r c
 power-refused s at v r c e = rw e
 
 power-going : (s : Stand) (at : ℕ) (v : Power) (k n : ℕ) → powerStand s at v ≡ stand.Going k n → s ≡ stand.Going k n
-power-going (stand.Going i m) at (value.Value e) k n q = q
-power-going (stand.Going i m) at (value.Refused why) k n q = let z : ◌≡◌ {A = ℕ} 0 1 = cc in absurd (omega arith)
-power-going (stand.Refused r c) at v k n q = q
+power-going (Ok tally) at (value.Value e) k n q = q
+power-going (Ok tally) at (value.Refused why) k n q = let z : ◌≡◌ {A = ℕ} 0 1 = cc in absurd (omega arith)
+power-going (Err stop) at v k n q = q
 
 module _ {line : Bytes} {p : Point} {pool table : List ℕ} (dst : List ℕ) {s : Stand} (ready : Ready line p pool table s) where
   pub power-done : {q sign : Point} {m : Bool} {n d at : ℕ} {s' : Stand} {o : Exponent} (c : Point) (v : Power) → true ≡ beginsAt line p 94 → Reads line p column (λ (k : ℕ). k ≡ columnAt c) c → Reads line p power (Typed sign m n d) q

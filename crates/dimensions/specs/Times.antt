@@ -31,8 +31,8 @@ use Rattle.products.specs.declared.Factor.{Factor}
 use Rattle.products.specs.declared.Product.{Product}
 use Rattle.products.specs.declared.Tried.{Tried}
 use Rattle.terms.specs.Effects.{lent, sofar, Effect, did, stops, unmoved}
-use Rattle.terms.specs.declared.inner.Stand.{Stand}
-use Rattle.terms.specs.declared.inner.Stand.TheVariants as stand
+use Rattle.terms.specs.Stands.{Stand}
+use Rattle.terms.specs.Stands as stand
 use Rattle.dimensions.specs.Atoms.{AtomHeld}
 
 -- where the sheet goes on, the factor's name is held

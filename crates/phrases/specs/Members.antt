@@ -23,12 +23,11 @@ use Rattle.records.specs.declared.inner.Before.{Before}
 use Rattle.records.specs.declared.inner.Before.TheVariants as before
 use Rattle.reading.specs.Points.{Reads, Any, from, standing, marked, columnAt, in-turn, Point}
 use Rattle.reading.specs.Types.{typesThere, fieldsThere, fieldRule, field-read, structure-read}
-use Rattle.terms.specs.Stands.{place_of, countOf, headPut}
+use Rattle.terms.specs.Stands.{place_of, countOf, headPut, same-going, same-refused, Stand}
 use Rattle.terms.specs.Effects.{Lent, lent, sofar, Halted, Ready, Kept, Effect, Writes, Done, NotBad, not-bad, then, gives, maps, alike, tells-less, grouped, kept_same, kept-last, kept_then, kept-counted, countedIn, halted-on, at_sign}
 use Rattle.terms.specs.Naming.{NumberTold}
 use Rattle.terms.specs.Inside.{inside-column}
-use Rattle.terms.specs.declared.inner.Stand.{Stand}
-use Rattle.terms.specs.declared.inner.Stand.TheVariants as stand
+use Rattle.terms.specs.Stands as stand
 use Rattle.phrases.specs.Parts.{Behind, halted-kept, head_at, head-by, kept-headed, TysTold, fields-long, tys_long}
 
 -- ══ A field's name rises ══
@@ -44,16 +43,16 @@ Risen pool table b x ok = x < get_or table 0 0 → ok ≡ follows pool table b x
 
 -- the sheet goes on, or it is refused at a place
 abbrev pub stoppedAt : Refusal → ℕ → Stand → Stand
-stoppedAt r at (stand.Going k n) = stand.Refused r at
-stoppedAt r at (stand.Refused w c) = stand.Refused w c
+stoppedAt r at (Ok tally) = stand.Refused r at
+stoppedAt r at (Err stop) = stand.Refused stop.why stop.at
 
 abbrev pub keptIf : Bool → Refusal → ℕ → Stand → Stand
 keptIf true r at s = s
 keptIf false r at s = stoppedAt r at s
 
 pub never_on : (r : Refusal) (at : ℕ) (s : Stand) (i n : ℕ) → stoppedAt r at s ≡ stand.Going i n → ⊥
-never_on r at (stand.Going k l) i n q = let z : ◌≡◌ {A = ℕ} 0 1 = cc in omega arith
-never_on r at (stand.Refused w c) i n q = let z : ◌≡◌ {A = ℕ} 0 1 = cc in omega arith
+never_on r at (Ok tally) i n q = let z : ◌≡◌ {A = ℕ} 0 1 = cc in omega arith
+never_on r at (Err stop) i n q = let z : ◌≡◌ {A = ℕ} 0 1 = cc in omega arith
 
 -- only the stand has changed, from what goes on to a refusal
 pub kept_if : {x : Lent} (ok : Bool) (r : Refusal) (at : ℕ) → Kept x x → Kept x (lent x.pool x.table x.dst (keptIf ok r at x.stand))
@@ -75,8 +74,8 @@ kept_if {x} false r at k = record {
 
 pub halted-if : {q : Point} (ok : Bool) (r : Refusal) (at : ℕ) (s : Stand) → Halted q s → Halted q (keptIf ok r at s)
 halted-if true r at s h = h
-halted-if false r at (stand.Going k n) h = λ i j e g. h k n e refl
-halted-if false r at (stand.Refused w c) h = λ i j e g. let z : ◌≡◌ {A = ℕ} 0 1 = cc in omega arith
+halted-if false r at (Ok tally) h = λ i j e g. h tally.names tally.records e refl
+halted-if false r at (Err stop) h = λ i j e g. let z : ◌≡◌ {A = ℕ} 0 1 = cc in omega arith
 
 -- nothing is written
 abbrev pub Nothing : {B : Type 0} → B → List Rec → Type 0
@@ -88,12 +87,11 @@ tested : {x : Lent} (f : Sofar → Bool) (at : ℕ) (ok : Bool) → ((k n : ℕ)
 unfolding words
 tested {x} f at true e = record {
   does = λ k n k' n' p q.
-      let a : k ≡ k' = cc in
-      let b : n ≡ n' = cc in
+      let w = same-going p q in
       record {
         value = tt;
         records = [];
-        is = ap (λ (t : Bool). placed (suc at) (need t 1) (sofar x k n)) (sym (e k n)) ∙ ap₂ (λ (i j : ℕ). told tt (sofar x i j)) a b;
+        is = ap (λ (t : Bool). placed (suc at) (need t 1) (sofar x k n)) (sym (e k n)) ∙ ap₂ (λ (i j : ℕ). told tt (sofar x i j)) w.0 w.1;
         tells = refl;
         written = refl;
         grown = omega arith;
@@ -104,9 +102,8 @@ tested {x} f at false e = record {
   does = λ k n k' n' p q. let o = ap (stoppedAt Malformed at) p in let z : ◌≡◌ {A = ℕ} 0 1 = cc in absurd (omega arith);
   refuses = λ k n c r p q.
       let o = ap (stoppedAt Malformed at) p in
-      let a : Malformed ≡ r = cc in
-      let b : at ≡ c = cc in
-      ap (λ (t : Bool). placed (suc at) (need t 1) (sofar x k n)) (sym (e k n)) ∙ ap₂ (λ (w : Refusal) (i : ℕ). refusedAt (number_of w) (suc i)) a b;
+      let w = same-refused o q in
+      ap (λ (t : Bool). placed (suc at) (need t 1) (sofar x k n)) (sym (e k n)) ∙ ap₂ (λ (v : Refusal) (i : ℕ). refusedAt (number_of v) (suc i)) w.0 w.1;
 }
 
 pub rises-effect : {x : Lent} (b : Before) (v : ℕ) (ok : Bool) (at : ℕ) → Risen x.pool x.table b v ok → v < get_or x.table 0 0

@@ -16,10 +16,9 @@ use Rattle.reading.specs.Points.{Reads, MarkRead, Any, marked, columnAt, beginsA
 use Rattle.reading.specs.Factors.{byte_of, refusedFrom}
 use Rattle.reading.specs.Types.{Onto, onto-here, tys-go, tys-less, tys-end, tys-read, fieldRule, fields_go, fields-less, fields-end, fields_read, paramsThere, with_params, without-params, typesThere, with-types, without-types, fieldsThere, with-fields, without-fields}
 use Rattle.reading.specs.Choice.{ruled, deepRuled, among, heads, deep-there, deep_none, by-none, deep-by, type-by}
-use Rattle.terms.specs.Stands.{place_of}
+use Rattle.terms.specs.Stands.{place_of, same-refused, Stand}
 use Rattle.terms.specs.Effects.{Lent, lent, Halted, Ready, Kept, Effect, Writes, Done, NotBad, not-bad, kept_same, kept-last, kept_then, halted-on}
 use Rattle.terms.specs.Inside.{inside-spelled}
-use Rattle.terms.specs.declared.inner.Stand.{Stand}
 use Rattle.phrases.specs.Parts.{TysTold, tys-none, tys-more}
 use Rattle.phrases.specs.Members.{nameBefore, fieldStep, FieldTold, FieldsTold, fields-none, fields-more, kept_if, stoppedAt, never_on}
 
@@ -179,9 +178,8 @@ deep-effect {x = x} i = record {
   does = λ k n k' n' p q. absurd (never_on Malformed i x.stand k' n' q);
   refuses = λ k n c r p q.
       let o = ap (stoppedAt Malformed i) p in
-      let a : Malformed ≡ r = cc in
-      let b : i ≡ c = cc in
-      ap₂ (λ (w : Refusal) (j : ℕ). refusedAt (number_of w) (suc j)) a b;
+      let w = same-refused o q in
+      ap₂ (λ (v : Refusal) (j : ℕ). refusedAt (number_of v) (suc j)) w.0 w.1;
 }
 
 pub deep-type : {T : Ty ℕ → List Rec → Type 0} {line : Bytes} (q : Point) {x : Lent} → Ready line q x.pool x.table x.stand → true ≡ among (byte_of line q) heads

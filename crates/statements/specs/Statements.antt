@@ -25,12 +25,11 @@ use Rattle.scanning.specs.Scanned.{place_in}
 use Rattle.reading.specs.Points.{Reads, PointIn, Any, standing, marked, columnAt, beginsAt, in-turn, given, if-sign, if-no-sign, spell-end, spell-other, spell-there, Point}
 use Rattle.reading.specs.Factors.{byte_of, refusedFrom, pick_other, choose-this, choose-none}
 use Rattle.reading.specs.Signs.{spelled}
-use Rattle.terms.specs.Stands.{place_of, headPut}
+use Rattle.terms.specs.Stands.{place_of, headPut, same-refused, Stand}
 use Rattle.terms.specs.Effects.{Lent, lent, sofar, Halted, Ready, Kept, Did, Effect, Writes, Done, NotBad, not-bad, then, gives, maps, alike, grouped, kept_same, kept-last, kept_then, kept-counted, countedIn, Inside, halted-on}
 use Rattle.terms.specs.Naming.{NumberTold}
 use Rattle.terms.specs.Inside.{inside-spelled, inside-column}
-use Rattle.terms.specs.declared.inner.Stand.{Stand}
-use Rattle.terms.specs.declared.inner.Stand.TheVariants as stand
+use Rattle.terms.specs.Stands as stand
 use Rattle.phrases.specs.Parts.{Behind, head-by, kept-headed}
 use Rattle.phrases.specs.Rows.{none-halted}
 use Rattle.statements.specs.Shapes.{isDimension, type-dimension}
@@ -163,9 +162,9 @@ byte-stands line (Err q) f h = absurd (omega arith)
 
 -- where the sheet is refused, no record is written
 head-none : (v : View) (s r : Stand) (d : List ℕ) → ((k n : ℕ) → r ≡ stand.Going k n → ⊥) → d ≡ headPut v s r d
-head-none v (stand.Going i j) (stand.Going k n) d h = absurd (h k n refl)
-head-none v (stand.Going i j) (stand.Refused r c) d h = refl
-head-none v (stand.Refused w c) r d h = refl
+head-none v (Ok tally) (Ok tally') d h = absurd (h tally'.names tally'.records refl)
+head-none v (Ok tally) (Err stop) d h = refl
+head-none v (Err stop) r d h = refl
 
 -- only behind a dimension
 scalar-reads : {line : Bytes} {e b r : Point} {Q : ConAt → Type 0} (c : ℕ) (l : TyAt) → isDimension l ≡ true → byte_of line e ≡ 61 → Reads line e (marked 61) Any b
@@ -493,21 +492,10 @@ module _ {line : Bytes} {q : Point} {x y : Lent} {n : ℕ} (x1 : Reads line (Ok 
     effect = record {
       does = λ a b a' b' e f. let z : ◌≡◌ {A = ℕ} 0 1 = cc in absurd (omega arith);
       refuses = λ a b c r e f.
-          let u : NotGrammar ≡ r = cc in
-          let w : j ≡ c = cc in
-          ap (λ (p : Parsed (Option ConAt)). meant p (sofar x a b)) (whole-line x1 o.reads).is ∙ ap₂ (λ (t : Refusal) (l : ℕ). refusedAt (number_of t) (suc l)) u w;
+          let w = same-refused refl f in
+          ap (λ (p : Parsed (Option ConAt)). meant p (sofar x a b)) (whole-line x1 o.reads).is ∙ ap₂ (λ (t : Refusal) (l : ℕ). refusedAt (number_of t) (suc l)) w.0 w.1;
     };
   }
-
--- a sheet that was refused before
-pub line-halted : {line : Bytes} {x : Lent} {r : Refusal} {c : ℕ} (n : ℕ) → Good x.pool x.table → x.stand ≡ stand.Refused r c → LineDone line x x n
-line-halted n g e = record {
-  kept = kept_same g (λ a b q. let z : ◌≡◌ {A = ℕ} 0 1 = cc in absurd (omega arith));
-  effect = record {
-    does = λ a b a' b' p q. let z : ◌≡◌ {A = ℕ} 0 1 = cc in absurd (omega arith);
-    refuses = λ a b d w p q. let z : ◌≡◌ {A = ℕ} 0 1 = cc in absurd (omega arith);
-  };
-}
 
 -- of a line that is refused nothing more is told
 pub line_refused : {line : Bytes} {x y : Lent} {r : Refusal} {c n : ℕ} (i : ℕ) → y.stand ≡ stand.Refused r c → LineDone line x y n → LineDone line x y i

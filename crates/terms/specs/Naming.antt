@@ -20,8 +20,8 @@ use Rattle.laws.specs.Entering.{Enters, Case, stopped, known, full, new, enter-c
 use Rattle.names.specs.Told.{entered}
 use Rattle.scanning.specs.Names.{NameRead}
 use Rattle.terms.specs.Effects.{lent, sofar, Room, Kept, Effect, did, stops, Done, not-past}
-use Rattle.terms.specs.declared.inner.Stand.{Stand}
-use Rattle.terms.specs.declared.inner.Stand.TheVariants as stand
+use Rattle.terms.specs.Stands.{Stand, same-going}
+use Rattle.terms.specs.Stands as stand
 
 -- what entering a name answers
 abbrev pub Answer : Type 0
@@ -172,15 +172,14 @@ module _ (pool table pool' table' : List ℕ) (at k l : ℕ) (room : Room table 
   }
     where
       above : (a : Answer) (i j i' j' : ℕ) → stand.Going k l ≡ stand.Going i j → standAfter at k l a ≡ stand.Going i' j' → j ≤ j'
-      above (Ok x) i j i' j' p q = let u : l ≡ j = cc in let v : l ≡ j' = cc in omega arith
+      above (Ok x) i j i' j' p q = let u = same-going refl p in let v = same-going refl q in omega (arith, u.1, v.1)
       above (Err why) i j i' j' p q = let z : ◌≡◌ {A = ℕ} 0 1 = cc in absurd (omega arith)
 
       roomy : (a : Answer) → Entry pool table pool' table' (told a) → (i j : ℕ) → standAfter at k l a ≡ stand.Going i j → Room table' i j
       roomy (Ok x) t i j q =
-          let u : k + newIn x.1 ≡ i = cc in
-          let v : l ≡ j = cc in
+          let v = same-going refl q in
           let h = t.number x.0 x.1 refl in
-          record { names = omega (arith, h.1, room.names); records = omega (arith, room.records) }
+          record { names = omega (arith, h.1, room.names, v.0); records = omega (arith, room.records, v.1) }
       roomy (Err why) t i j q = let z : ◌≡◌ {A = ℕ} 0 1 = cc in absurd (omega arith)
 
   module _ (n : Bytes) where
