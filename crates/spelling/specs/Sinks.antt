@@ -1,8 +1,9 @@
 -- Sinks of bytes: what they hold, what room they have, and what it means that bytes are put.
-use Rattle.std.specs.Prelude.{◌≡◌, refl, ℕ, ◌-◌, ◌≤◌, ◌<◌, [], ◌++◌, length, drop, Result, Ok, Err, OnOk, OnErr}
+use Rattle.std.specs.Prelude.{◌≡◌, refl, ℕ, ◌-◌, ◌≤◌, ◌<◌, [], ◌++◌, length, drop, Result, Ok, Err, OnOk, OnErr, IsErr}
 use Rattle.std.proofs.Common.{sym, ap, ◌∙◌, arith, append_assoc, append-nil, length-append, length-drop}
 use Rattle.std.proofs.lemmas.List.{drop-drop}
 use Rattle.rules.specs.Names.{Bytes}
+use Rattle.laws.specs.Lists.{true≢false}
 
 -- what a sink holds; its room, that is the bytes that the next ones are written over; and the name of the loan that it is, if it is one
 pub record Place : Type 0 where
@@ -37,5 +38,9 @@ then {E} {F} {p} {q} {s} {a} {b} (Err e) x y = record {
 }
 
 -- where some have no room, more have none
-pub longer : {E : Type 0} {p q : Place} {a b : Bytes} {e : E} → length a ≤ length b → Puts p a (Err e) q → Puts p b (Err e) q
-longer h x = record { puts = tt; rest = tt; full = omega (arith, h, x.full); same = x.same }
+pub longer : {E F : Type 0} {p q : Place} {a b : Bytes} {e : F} (r : Result (Unit {0}) E) → IsErr r → length a ≤ length b → Puts p a (Err e) q → Puts p b r q
+longer (Ok u) i h x = absurd (true≢false (sym i))
+longer (Err f) i h x = record { puts = tt; rest = tt; full = omega (arith, h, x.full); same = x.same }
+
+pub cut : {E F : Type 0} {p q : Place} {a : Bytes} {e : F} (b : Bytes) (r : Result (Unit {0}) E) → IsErr r → Puts p a (Err e) q → Puts p (a ++ b) r q
+cut {E} {F} {p} {q} {a} {e} b r i x = longer r i (let k = length-append a b in omega (arith, k)) x
