@@ -2,6 +2,7 @@
 #![tactic(auto)]
 
 pub mod inner;
+pub mod theorems;
 
 ghost use Rattle.std.specs.Prelude.{◌≡◌, ◌++◌, ◌&&◌, ◌≤◌, map, leb, ltb, eqb, take, drop, replicate, length};
 ghost use Rattle.rules.specs.Base.{collect};

@@ -1,4 +1,4 @@
--- 'accepted' is told of a sheet where the solver accepts its set and the judge says yes, and nowhere else; no name adds a line.
+-- Why 'accepted' is told of a sheet where the solver accepts its set and the judge says yes, and nowhere else; no name adds a line.
 use Rattle.std.specs.Prelude.{◌≡◌, Bool, false, ◌||◌, List, [], ◌∷◌, ◌++◌, map, ℕ, suc, ◌+◌, ◌≤◌, eqb, ltb, length, take, drop}
 use Rattle.std.proofs.Math.Path.{refl}
 use Rattle.std.proofs.Common.{sym, ap, ◌∙◌, arith, ne_eqb, ltb-false}
@@ -15,14 +15,11 @@ use Rattle.rules.specs.TextReading.{Sheet, sheet, refusedIn, sheetRead}
 use Rattle.rules.specs.TextWriting.{namesIn}
 use Rattle.laws.specs.Lists.{Every, true≢false}
 use Rattle.sheets.specs.Lengths.{NotFeed}
+use Rattle.reports.specs.Theorems.{SaysAccepted, Accepted, Honest, HonestPage, AcceptedOn}
 use Rattle.rules.specs.Reports.{Finding, unread, agrees, denied, unjudged, remains, stops, judgedBy, finding, isAccepted, shown, shownBy, refusedText}
 use Rattle.rules.specs.Reports.{findingText, reportText, Content, holding, refusing, Page, page_of, Edition, namesAfter, editionRead, findingOf, constraintsIn, pageText}
 
 -- ══ What the words say ══
-
--- behind a sheet's name, ": " and "accepted"
-abbrev pub SaysAccepted : Bytes → Bytes → Type 0
-SaysAccepted name text = take 8 (drop (length name + 2) text) ≡ ascii "accepted"
 
 behind-name : (name_of : ℕ → Bytes) (name : Bytes) (cs new : ℕ) (f : Finding) → drop (length name + 2) (reportText name_of name cs new f) ≡ findingText name_of cs new f
 unfolding reportText
@@ -63,14 +60,6 @@ module _ (name_of : ℕ → Bytes) (cs new : ℕ) where
 
 -- ══ What is found ══
 
--- the solver accepts, with these bindings and bounds, and the judge says yes to them
-pub record Accepted (ν : Names ℕ) (cs : List (Con ℕ)) (a : Got (Answer ℕ)) : Type 0 where
-  pub binds : List (Binding ℕ)
-  pub bounds : List ℕ
-  pub rounds : ℕ
-  pub solved : a ≡ got (accepted binds bounds rounds)
-  pub judged : judge ν bounded binds bounds cs ≡ got true
-
 module _ (ν : Names ℕ) (cs : List (Con ℕ)) where
   pub found-only : (a : Got (Answer ℕ)) → isAccepted (finding ν cs a) ≡ true → Accepted ν cs a
   unfolding finding
@@ -98,16 +87,6 @@ module _ (name_of : ℕ → Bytes) (name : Bytes) (n new : ℕ) (ν : Names ℕ)
 
 -- ══ A page ══
 
--- a page without a set tells of no acceptance
-abbrev pub Honest : Content → Type 0
-Honest (holding cs) = Unit {0}
-Honest (refusing f) = isAccepted f ≡ false
-
--- the page holds a set that is accepted over this table
-abbrev pub AcceptedOn : Table → Content → Type 0
-AcceptedOn t (holding cs) = Accepted (numbersOf t) cs (solvedSet t (words (collect writeCon cs)))
-AcceptedOn t (refusing f) = ⊥
-
 content-only : (t : Table) (c : Content) → Honest c → isAccepted (findingOf t c) ≡ true → AcceptedOn t c
 unfolding findingOf
 content-only t (holding cs) h e = found-only (numbersOf t) cs (solvedSet t (words (collect writeCon cs))) e
@@ -127,9 +106,6 @@ page-only t p h e = content-only t p.content h (says-only (namesIn t) (constrain
 pub page-there : (t : Table) (p : Page) → AcceptedOn t p.content → SaysAccepted p.name (pageText t p)
 unfolding pageText
 page-there t p x = says-it (namesIn t) (constraintsIn p.content) p.new p.name (findingOf t p.content) (content-there t p.content x)
-
-abbrev pub HonestPage : Page → Type 0
-HonestPage p = Honest p.content
 
 page-honest : (name text : Bytes) (s : Sheet) → HonestPage (page_of name text s)
 unfolding page_of
