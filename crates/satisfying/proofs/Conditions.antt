@@ -1,8 +1,7 @@
 -- What is well formed: the parts of a constraint.
 use Rattle.std.specs.Prelude.{◌≡◌, true, List, [], ◌∷◌, ℕ}
 use Rattle.std.proofs.Common.{arith, sym, subst}
-use Rattle.rules.specs.Exponents.{Exp, goodExp}
-use Rattle.rules.specs.Trees.{Atom, ◌↑◌, Product, Ty, dim, Con, equal, is_scalar}
+use Rattle.rules.specs.Trees.{◌↑◌, Product, Ty, dim, Con, equal, is_scalar}
 use Rattle.rules.specs.WellFormed.{goodTy, goodCon}
 use Rattle.laws.specs.GoodProducts.{GoodFactor, good-product}
 use Rattle.laws.specs.Lists.{and_left, and_right, Every}
@@ -38,6 +37,3 @@ module _ (pool table : List ℕ) where
   pub product-good : (p : Product ℕ) {t : Ty ℕ} → dim p ≡ t → GoodTy pool table t → GoodProduct pool table p
   unfolding goodTy
   product-good p e g = subst (GoodTy pool table) (sym e) g
-
-pub first-power : {a : Atom ℕ} {p q : Product ℕ} {e : Exp} → a ↑ e ∷ p ≡ q → GoodPowers q → (goodExp e ≡ true) × GoodPowers p
-first-power e g = subst GoodPowers (sym e) g

@@ -1,17 +1,38 @@
 -- The rules for constraints other than equalities, each with what its case knows.
-use Rattle.std.specs.Prelude.{◌≡◌, true, false, Bool, List, [], ◌∷◌, ◌++◌, map, ℕ, suc, ◌+◌, ◌/◌, ◌<◌, ◌≤◌, length, Result, Ok, Err, refl}
+use Rattle.std.specs.Prelude.{◌≡◌, true, false, Bool, List, [], ◌∷◌, map, ℕ, suc, ◌+◌, ◌/◌, ◌<◌, ◌≤◌, length, Result, Ok, Err, refl}
 use Rattle.std.proofs.Common.{arith, ap, sym, subst, ◌∙◌, append-nil}
-use Rattle.std.proofs.Math.Option.{Option, none, some, get_or}
+use Rattle.std.proofs.Math.Option.{none, some, get_or}
 use Rattle.rules.specs.Base.{Got, got, refused, ◌>>=◌, bounded, each, collect, and_then, only_if}
 use Rattle.rules.specs.Contents.{closed, fieldIn, namesIn}
 use Rattle.rules.specs.Exponents.{Exp, frac, neg, quotient}
 use Rattle.rules.specs.Names.{Bytes, numbered}
-use Rattle.rules.specs.Refusals.{number_of, toldBy}
+use Rattle.rules.specs.Refusals.{number_of}
 use Rattle.rules.specs.declared.Refusal.{Refusal}
 use Rattle.rules.specs.Rounds as rules
 use Rattle.rules.specs.Rounds.{dimensionParts, otherSide, fieldStep, trySatisfy}
 use Rattle.rules.specs.Trees as tree
-use Rattle.rules.specs.Trees.{var, Atom, free, base, Factor, ◌↑◌, Product, Ty, dim, struct, Tys, Fields, Con, equal, isDim, opened, is_scalar, ◌≔◌, sizeBinding, size}
+use Rattle.rules.specs.Trees.{
+  var,
+  Atom,
+  free,
+  base,
+  Factor,
+  ◌↑◌,
+  Product,
+  Ty,
+  dim,
+  struct,
+  Tys,
+  Fields,
+  Con,
+  equal,
+  isDim,
+  opened,
+  is_scalar,
+  ◌≔◌,
+  sizeBinding,
+  size,
+}
 use Rattle.rules.specs.Views.{productOf, struct_of}
 use Rattle.rules.specs.Writing.{Rec, rec, head, twos, writeFactor, writeProduct, writeTy, writeCon, writeBinding}
 use Rattle.laws.specs.Lists.{each-parts}
@@ -47,7 +68,8 @@ as-one {w} {w'} c p = subst (Writes w w') (append-nil (writeCon c)) p
 abbrev pub Still : Writer → Writer → Product ℕ → Product ℕ → Type 0
 Still w₀ w p p₀ = (w' : Writer) → Writes w w' (collect writeCon (parts p)) → Writes w₀ w' (collect writeCon (parts p₀))
 
-pub still-named : (w₀ w w₁ : Writer) (a : Atom ℕ) (k : Exp) (p q p₀ : Product ℕ) (x : ℕ) → Still w₀ w q p₀ → q ≡ a ↑ k ∷ p → some x ≡ freeName a → Writes w w₁ (collect writeCon (isDimOf x)) → Still w₀ w₁ p p₀
+pub still-named : (w₀ w w₁ : Writer) (a : Atom ℕ) (k : Exp) (p q p₀ : Product ℕ) (x : ℕ) → Still w₀ w q p₀ → q ≡ a ↑ k ∷ p → some x ≡ freeName a
+    → Writes w w₁ (collect writeCon (isDimOf x)) → Still w₀ w₁ p p₀
 unfolding collect namesIn
 still-named w₀ w w₁ a k p q p₀ x s e n v w' r = s w' (subst (λ (q : Product ℕ). Writes w w' (collect writeCon (parts q))) (sym e) (go a n))
   where
@@ -93,7 +115,6 @@ unfolding HoldsFactors
 few-factors s [] at h n = omega arith
 few-factors s (a ↑ frac m d ∷ p) at h n = let k : at < length s / 4 = seen-in s at h.0.0 tt in omega (arith, n, factors-in s p (at + 1) (omega arith) h.1)
 
-
 factor-rec : (a : atoms.Atom) (e : Exponent) → recOf (view.Factor a (twos e.num) e.den) (fit 1) ≡ writeFactor (atomOf a ↑ expOf e)
 unfolding writeFactor fit
 factor-rec (atoms.TheVariants.Free (opens.TheVariants.Var x)) e = refl
@@ -106,11 +127,13 @@ unfolding each
 others-none w k e = rw (← e) (record { same = refl; says = writes-none w })
 
 module _ (k : Exp) (a : atoms.Atom) (j : Exp) {p q : Product ℕ} (e : atomOf a ↑ j ∷ p ≡ q) where
-  pub others-stop : {w : Writer} (why : Refusal) → refused (number_of why) ≡ quotient bounded (neg j) k → FactorsPut w w (Err why) (each (otherSide bounded k) q)
+  pub others-stop : {w : Writer} (why : Refusal) → refused (number_of why) ≡ quotient bounded (neg j) k
+      → FactorsPut w w (Err why) (each (otherSide bounded k) q)
   unfolding each otherSide
   others-stop why i = rw (← e, ← i) (record { same = refl; says = refl })
 
-  pub others-more : {w w₁ w₂ : Writer} (x : Exponent) {m : ℕ} {r : Result (Unit {0}) Refusal} → got (expOf x) ≡ quotient bounded (neg j) k → m ≡ twos x.num → Writes w w₁ (recOf (view.Factor a m x.den) (fit 1) ∷ [])
+  pub others-more : {w w₁ w₂ : Writer} (x : Exponent) {m : ℕ} {r : Result (Unit {0}) Refusal} → got (expOf x) ≡ quotient bounded (neg j) k → m ≡ twos x.num
+      → Writes w w₁ (recOf (view.Factor a m x.den) (fit 1) ∷ [])
       → FactorsPut w₁ w₂ r (each (otherSide bounded k) p) → FactorsPut w w₂ r (each (otherSide bounded k) q)
   unfolding each otherSide
   others-more {w} {w₁} {w₂} x {m} {r} i v b h = rw (← e, ← i) (go (each (otherSide bounded k) p) r h.says)
@@ -130,7 +153,8 @@ each-long f [] ys e = let q : [] ≡ ys = cc in ap length (sym q)
 each-long f (x ∷ xs) ys e = let t = each-parts f x xs ys e in ap length (sym t.both) ∙ ap suc (each-long f xs t.second t.then)
 
 module _ (x : ℕ) (f : Factor ℕ → Got (Factor ℕ)) (p : Product ℕ) where
-  pub solved : {w w₁ w₂ w₃ : Writer} {n : ℕ} (u : Unit {0}) → length p ≡ n → n ≤ 30_000 → Writes w w₁ (recOf (view.Binding x) (fit (2 + n)) ∷ []) → Writes w₁ w₂ (recOf (view.Dim n) (fit (1 + n)) ∷ []) → FactorsPut w₂ w₃ (Ok u) (each f p)
+  pub solved : {w w₁ w₂ w₃ : Writer} {n : ℕ} (u : Unit {0}) → length p ≡ n → n ≤ 30_000 → Writes w w₁ (recOf (view.Binding x) (fit (2 + n)) ∷ [])
+      → Writes w₁ w₂ (recOf (view.Dim n) (fit (1 + n)) ∷ []) → FactorsPut w₂ w₃ (Ok u) (each f p)
       → Applied w w₃ (Ok (Bind w₃.at)) (boundTo x (each f p))
   unfolding writeBinding writeTy writeProduct sizeBinding size
   solved {w} {w₁} {w₂} {w₃} {n} u l few a b h = go (each f p) refl h.says
@@ -140,14 +164,14 @@ module _ (x : ℕ) (f : Factor ℕ → Got (Factor ℕ)) (p : Product ℕ) where
       go (got ys) q v =
           let y : n ≡ length ys = sym (each-long f p ys q ∙ l) in
           let heads = solved-written x y (omega (arith, y)) a b in
-          record { same = h.same ∙ b.same ∙ a.same; says = (refl, writes-then (rec (head 24 (suc (suc (length ys)))) x 0 0 ∷ rec (head 3 (suc (length ys))) (length ys) 0 0 ∷ []) (map writeFactor ys) heads v) }
-
-  pub unsolved : {w w₂ v : Writer} (why : Refusal) → v.words.ghost_name ≡ w.words.ghost_name → FactorsPut w₂ v (Err why) (each f p) → Applied w v (Err why) (boundTo x (each f p))
-  unsolved {w} {w₂} {v} why s h = go (each f p) h.says
-    where
-      go : (m : Got (Product ℕ)) → FactorsLeft w₂ v (Err why) m → Applied w v (Err why) (boundTo x m)
-      go (got ys) l = absurd l
-      go (refused k) l = record { same = s; says = l }
+          record {
+            same = h.same ∙ b.same ∙ a.same;
+            says = (
+              refl,
+              writes-then
+                  (rec (head 24 (suc (suc (length ys)))) x 0 0 ∷ rec (head 3 (suc (length ys))) (length ys) 0 0 ∷ []) (map writeFactor ys) heads v,
+            );
+          }
 
 -- ══ Equal-scalar by its first factor ══
 

@@ -1,37 +1,54 @@
 -- A dimension that is one variable to the power 1, read from its records.
-use mathlib.Core.Path.{◌≡◌, refl, sym, ap, subst, ◌∙◌}
+use mathlib.Core.Path.{◌≡◌, refl, sym, ap, ◌∙◌}
 use mathlib.Core.Bool.{true, false, not}
-use mathlib.Core.List.{List, [], ◌∷◌, ◌++◌, append-nil}
-use mathlib.Core.Option.{Option, none, some}
-use Prim.Native.Nat.{ℕ, suc, ◌+◌, ◌*◌, ◌≤◌}
-use native.Mathlib.Nat.{add-zero}
+use mathlib.Core.List.{List, [], ◌∷◌}
+use mathlib.Core.Option.{Option, none}
+use Prim.Native.Nat.{ℕ, ◌+◌}
 use native.Mathlib.Omega.{arith}
 use lib.ListN.{length}
-use lib.Seq.{sets, slice}
-use Rattle.rules.specs.Base.{collect, sum_of, and_then, ◌or_else◌, is_yes}
+use Rattle.rules.specs.Base.{and_then, is_yes}
 use lib.Dec.{T}
 use mir.Val.{has_key}
 use Rattle.rules.specs.Exponents.{Exp, frac, Exp-dec, one}
 use Rattle.rules.specs.Trees as tree
-use Rattle.rules.specs.Trees.{free, ◌↑◌, ty-dec, Product, Ty, opened, basic, dim, fn, struct, list, Tys, nil, cons, Con, equal, ◌≔◌, size, sizeTys, sizeCon, sizeBinding, count, countFields}
-use Rattle.rules.specs.Views.{productOf, fn_of, struct_of, list_of, variable, asVar, asPower}
-use Rattle.rules.specs.Writing.{signed, twos, Rec, rec, head, words, writeTy, writeCon, writeBinding}
-use Rattle.records.specs.Holds.{openOf, atomOf, viewAtom, HoldsFactors, viewOpen, viewBasic, HoldsProduct, Holds, HoldsTys, holds-long}
-use Rattle.records.specs.ByView.{by-view, factor-by-view, size-pos, ends-in}
+use Rattle.rules.specs.Trees.{
+  free,
+  ◌↑◌,
+  ty-dec,
+  Product,
+  Ty,
+  opened,
+  basic,
+  dim,
+  fn,
+  struct,
+  list,
+  Tys,
+  nil,
+  cons,
+  Con,
+  equal,
+  ◌≔◌,
+  size,
+  sizeTys,
+  sizeCon,
+  sizeBinding,
+  count,
+  countFields,
+}
+use Rattle.rules.specs.Views.{productOf, variable, asPower}
+use Rattle.rules.specs.Writing.{signed, twos}
+use Rattle.records.specs.Holds.{openOf, atomOf, viewAtom, HoldsFactors, viewOpen, viewBasic, HoldsProduct, Holds}
+use Rattle.records.specs.ByView.{by-view, factor-by-view}
 use Rattle.records.specs.declared.Open as names
 use Rattle.records.specs.declared.Atom as atoms
 use Rattle.replacing.proofs.Others.{Tagged, untagged}
 use Rattle.satisfying.specs.Parts.{named}
-use Rattle.rules.specs.Contents.{contains}
 use Rattle.rules.specs.Products.{single}
-use Rattle.laws.specs.Size.{size-ty, size-con}
-use Rattle.records.specs.Cut.{fit, fits}
-use Rattle.records.specs.Views.{viewAt, longAt, recOf}
-use Rattle.records.specs.Held.{held-words}
+use Rattle.records.specs.Views.{viewAt}
 use Rattle.records.specs.declared.View.{View}
 use Rattle.records.specs.declared.View.TheVariants as view
 use Rattle.queries.specs.declared.Name.{Name}
-use Rattle.queries.specs.declared.Name.TheVariants.{Of, Nothing}
 
 -- the tag of a type's first record
 abbrev tag_of : Ty ℕ → ℕ
@@ -106,9 +123,11 @@ module _ (s : List ℕ) (t : Ty ℕ) (at : ℕ) (h : Holds s t at) where
   power-none q = ap (λ (m : Option (Product ℕ)). and_then (and_then m single) variable) (sym q)
 
   pub power-many : {n : ℕ} → viewAt s at ≡ view.Dim n → (n ≡ 1 → ⊥) → none ≡ asPower t
-  power-many e z = by-view s (λ t. none ≡ asPower t) t at h e (λ p l hp. ap (λ (m : Option (tree.Open ℕ)). and_then m variable) (sym (single-many p (λ i. z (sym l ∙ i)))))
+  power-many e z = by-view s (λ t. none ≡ asPower t) t at h e
+      (λ p l hp. ap (λ (m : Option (tree.Open ℕ)). and_then m variable) (sym (single-many p (λ i. z (sym l ∙ i)))))
 
-  pub power_at : {n : ℕ} {a : atoms.Atom} {num den : ℕ} (r : Name) → viewAt s at ≡ view.Dim n → n ≡ 1 → viewAt s (at + 1) ≡ view.Factor a num den → named r ≡ and_then (single (atomOf a ↑ frac (signed num) den ∷ [])) variable → named r ≡ asPower t
+  pub power_at : {n : ℕ} {a : atoms.Atom} {num den : ℕ} (r : Name) → viewAt s at ≡ view.Dim n → n ≡ 1 → viewAt s (at + 1) ≡ view.Factor a num den
+      → named r ≡ and_then (single (atomOf a ↑ frac (signed num) den ∷ [])) variable → named r ≡ asPower t
   unfolding HoldsFactors
   power_at r e z f q = by-view s (λ t. named r ≡ asPower t) t at h e (λ p l hp. go p (l ∙ z) hp)
     where

@@ -3,7 +3,7 @@ use Rattle.std.specs.Prelude.{◌≡◌, Bool, true, false, ◌&&◌, List, [], 
 use Rattle.std.proofs.Common.{ap, ap₂, sym, ◌∙◌, eq-eqb}
 use Rattle.std.proofs.Math.Option.{Option, none, some}
 use borrow.Author.Tests.{ne_eqb}
-use Rattle.rules.specs.Base.{Got, got, bounded, is_yes, ◌or_else◌}
+use Rattle.rules.specs.Base.{got, bounded, is_yes, ◌or_else◌}
 use Rattle.rules.specs.Names.{Bytes, numbered}
 use Rattle.rules.specs.Products.{divide}
 use Rattle.rules.specs.Rounds as rules
@@ -69,7 +69,8 @@ module _ (ν : Names ℕ) {l r : Ty ℕ} where
   unfolding by_kind variableLeft
   open-dimension e f = rw (← e, ← f)
 
-  pub two-functions : {ps qs : Tys ℕ} {t u : Ty ℕ} → tree.fn ps t ≡ l → tree.fn qs u ≡ r → count ps ≡ count qs → by_kind ν bounded l r ≡ got (rules.split (equal t u ∷ pairs ps qs))
+  pub two-functions : {ps qs : Tys ℕ} {t u : Ty ℕ} → tree.fn ps t ≡ l → tree.fn qs u ≡ r → count ps ≡ count qs
+      → by_kind ν bounded l r ≡ got (rules.split (equal t u ∷ pairs ps qs))
   unfolding by_kind functions
   two-functions {ps} {qs} e f q = rw (← e, ← f, eq-eqb (count ps) (count qs) q, functions)
 

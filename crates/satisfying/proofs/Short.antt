@@ -1,14 +1,12 @@
 -- What a rule writes is short: so the writer's count is the place past it.
-use Rattle.std.specs.Prelude.{◌≡◌, true, false, List, [], ◌∷◌, ◌++◌, ℕ, suc, ◌+◌, ◌*◌, ◌-◌, ◌<◌, ◌≤◌, min, length, Result, Ok, Err, refl}
-use Rattle.std.proofs.Common.{arith, ap, ap₂, sym, subst, ◌∙◌}
-use Rattle.std.proofs.lemmas.List.Edits.{sets}
+use Rattle.std.specs.Prelude.{◌≡◌, true, false, List, [], ◌∷◌, ℕ, suc, ◌+◌, ◌*◌, ◌<◌, ◌≤◌, length, Result, Ok, refl}
+use Rattle.std.proofs.Common.{arith, ap, subst, ◌∙◌}
 use Rattle.std.proofs.Math.Option.{some}
 use Rattle.std.proofs.Math.Logic.{inl, inr}
 use Rattle.rules.specs.Base.{Got, got, refused, bounded, collect, sum_of}
 use Rattle.rules.specs.Contents.{fieldIn, namesIn}
-use Rattle.rules.specs.Exponents.{Exp}
 use Rattle.rules.specs.Base.{is_yes}
-use Rattle.rules.specs.Products.{just, divide}
+use Rattle.rules.specs.Products.{divide}
 use Rattle.rules.specs.Rounds as rules
 use Rattle.rules.specs.Rounds.{pairs, otherSide, trySatisfy}
 use Rattle.rules.specs.Trees.{
@@ -23,9 +21,6 @@ use Rattle.rules.specs.Trees.{
   Ty,
   opened,
   dim,
-  fn,
-  struct,
-  list,
   Tys,
   nil,
   cons,
@@ -34,9 +29,6 @@ use Rattle.rules.specs.Trees.{
   field,
   Con,
   equal,
-  isDim,
-  is_scalar,
-  hasField,
   ◌≔◌,
   size,
   sizeTys,
@@ -105,7 +97,8 @@ module _ (ν : Names ℕ) where
   field-long x noFields t e = cc
   field-long x (field n u fs) t e = go (ν.same x n) (field-long x fs t) e
     where
-      go : (d : Dec (x ≡ n)) → (fieldIn ν x fs ≡ some t → size t ≤ sizeFields fs) → elim (is_yes d) [ true ↦ some u | false ↦ fieldIn ν x fs ] ≡ some t → size t ≤ suc (size u + sizeFields fs)
+      go : (d : Dec (x ≡ n)) → (fieldIn ν x fs ≡ some t → size t ≤ sizeFields fs) → elim (is_yes d) [ true ↦ some u | false ↦ fieldIn ν x fs ] ≡ some t
+          → size t ≤ suc (size u + sizeFields fs)
       go (yes q) more e = let i : u ≡ t = cc in omega (arith, ap size i)
       go (no n) more e = omega (arith, more e)
 
@@ -115,15 +108,18 @@ module _ (ν : Names ℕ) where
   side-long c l r (inr e) = omega (arith, ap sizeCon e)
 
 module _ (pool table : List ℕ) where
-  quotient-long : (c : Con ℕ) (d e q : Product ℕ) → GoodCon pool table c → c ≡ equal (dim d) (dim e) → divide (numbers pool table) bounded d e ≡ got q → length q ≤ 64
+  quotient-long : (c : Con ℕ) (d e q : Product ℕ) → GoodCon pool table c → c ≡ equal (dim d) (dim e) → divide (numbers pool table) bounded d e ≡ got q
+      → length q ≤ 64
   unfolding goodCon goodTy
   quotient-long c d e q g i h =
       let both = subst (GoodCon pool table) i g in
       let x = and_left (goodProduct (numbers pool table) (holding pool table) 0 d) (goodProduct (numbers pool table) (holding pool table) 0 e) both in
       let y = and_right (goodProduct (numbers pool table) (holding pool table) 0 d) (goodProduct (numbers pool table) (holding pool table) 0 e) both in
-      (good-product (numbers pool table) (law pool table) (holding pool table) 0 q ((divide-good (numbers pool table) (law pool table) (holding pool table) 0 d e x y).holds q h)).few
+      (good-product (numbers pool table) (law pool table) (holding pool table) 0 q
+      ((divide-good (numbers pool table) (law pool table) (holding pool table) 0 d e x y).holds q h)).few
 
-  pub step-short : (c : Con ℕ) (s : rules.Step ℕ) → GoodCon pool table c → sizeCon c ≤ 50_000 → trySatisfy (numbers pool table) bounded c ≡ got s → long s ≤ 1_000_000
+  pub step-short : (c : Con ℕ) (s : rules.Step ℕ) → GoodCon pool table c → sizeCon c ≤ 50_000 → trySatisfy (numbers pool table) bounded c ≡ got s
+      → long s ≤ 1_000_000
   unfolding sizeCon sizeBinding size sizeTys sizeFields
   step-short c s g n e = go (rule (numbers pool table) bounded c s e)
     where
@@ -142,7 +138,8 @@ module _ (pool table : List ℕ) where
       go (closed-struct x m as' fs t u o f h i) = omega (arith, ap long i, n, ap sizeCon h, field-long (numbers pool table) x fs u f)
 
 -- so the writer's count and buffer are those of the whole step
-pub stepped : (w w' : Writer) {r : Result Step Refusal} (R : Got (rules.Step ℕ)) → w.at ≤ 1_000_000_000 → ((s : rules.Step ℕ) → R ≡ got s → long s ≤ 1_000_000) → Applied w w' r R
+pub stepped : (w w' : Writer) {r : Result Step Refusal} (R : Got (rules.Step ℕ)) → w.at ≤ 1_000_000_000
+    → ((s : rules.Step ℕ) → R ≡ got s → long s ≤ 1_000_000) → Applied w w' r R
     → Stepped w.words.now w'.words.now w.at r R
 unfolding words
 stepped w w' (got (rules.bind x t)) n m h =

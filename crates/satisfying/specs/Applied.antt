@@ -1,5 +1,5 @@
 -- What a rule writes.
-use Rattle.std.specs.Prelude.{◌≡◌, List, [], map, ℕ, Result, Ok, Err}
+use Rattle.std.specs.Prelude.{◌≡◌, [], map, ℕ, Result, Ok, Err}
 use Rattle.rules.specs.Base.{Got, got, refused, collect}
 use Rattle.rules.specs.Refusals.{number_of}
 use Rattle.rules.specs.declared.Refusal.{Refusal}

@@ -76,7 +76,7 @@ pub fn try_satisfy(
     out: usize,
 ) -> Result<Step, Refusal>
     requires good { Good pool.now table.now }
-    requires by_index { (c : Con ℕ) × HeldCon pool.now table.now s.now c at }
+    requires held { (c : Con ℕ) × HeldCon pool.now table.now s.now c at }
     requires fits { Fits s.now out }
     ensures { (c : Con ℕ) → HeldCon pool.now table.now s.now c at → Stepped dst.old dst.new out result (trySatisfy (numbers pool.now table.now) bounded c) }
 {

@@ -130,8 +130,8 @@ pub fn equal_scalar(product: Product, out: &mut Writer) -> Result<Step, Refusal>
 }
 
 /// Has-field on a closed struct with that field: the stored type equal to the asked type.
-pub fn has_field(of: Type, name: u32, asked: Type, out: &mut Writer) -> Step
-    ensures { (names : List Bytes) → Applied out.old out.new (Ok result) (got (get_or (fieldStep (numbered names) name of.entry.tree.0 asked.entry.tree.0) stuck)) }
+pub fn has_field(of: Type, x: u32, to: Type, out: &mut Writer) -> Step
+    ensures { (names : List Bytes) → Applied out.old out.new (Ok result) (got (get_or (fieldStep (numbered names) x of.entry.tree.0 to.entry.tree.0) stuck)) }
 {
     if !of.is_closed() {
         return Step::Stuck;
@@ -139,9 +139,9 @@ pub fn has_field(of: Type, name: u32, asked: Type, out: &mut Writer) -> Step
     let Shape::Struct(_, _, fields) = of.shape() else {
         return Step::Stuck;
     };
-    let Some(stored) = fields.find(name) else {
+    let Some(stored) = fields.find(x) else {
         return Step::Stuck;
     };
-    out.equal(stored, asked);
+    out.equal(stored, to);
     Step::Split(out.at)
 }

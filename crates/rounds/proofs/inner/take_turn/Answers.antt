@@ -45,7 +45,7 @@ try_satisfy-requires c =
     let f = found _ _ _ _ _ st g.0 g.1 c.loop-at-test.true in
     let i = c.con_end-e.ensures f.this f.held.held in
     let w = ap length L.invariant.0 in
-    record { good = c.requires.good; by_index = (f.this, f.held); fits = record { near = omega (arith, w, c.requires.work_len_bound); small = omega (arith, w, c.requires.work_len_bound, h.short, h.binds.ends) } }
+    record { good = c.requires.good; held = (f.this, f.held); fits = record { near = omega (arith, w, c.requires.work_len_bound); small = omega (arith, w, c.requires.work_len_bound, h.short, h.binds.ends) } }
 
 pub perform-requires : goal.perform-requires
 perform-requires c =

@@ -20,11 +20,13 @@ returns-in-Some c =
     let b = c.in-Some.b in
     let l = short _ _ b.to.tree b.to.near in
     let names = names_of (table_of a.pool.now a.table.now) in
-    bind-is _ _ (bound-first (numbered names) _ _ (sym (c.same_types.ensures _ _ names a.left.tree.1 a.right.tree.1) ∙ c.if-same_types.false) (c.in-Some.ensures names))
+    bind-is _ _ (bound-first (numbered names) _ _ (sym (c.same_types.ensures _ _ names a.left.tree.1 a.right.tree.1) ∙ c.if-same_types.false)
+    (c.in-Some.ensures names))
     (bind-written b.name b.to.tree.0 (omega (arith, c.len.ensures)) (omega (arith, l)) c.put.ensures c.copy.ensures)
 
 pub returns-in-None : goal.returns-in-None
 returns-in-None c =
     let a = c.args in
     let names = names_of (table_of a.pool.now a.table.now) in
-    applied-as (none-bound (numbered names) _ _ (sym (c.same_types.ensures _ _ names a.left.tree.1 a.right.tree.1) ∙ c.if-same_types.false) (c.in-None.ensures names)) c.by_kind.ensures
+    applied-as (none-bound (numbered names) _ _ (sym (c.same_types.ensures _ _ names a.left.tree.1 a.right.tree.1) ∙ c.if-same_types.false)
+    (c.in-None.ensures names)) c.by_kind.ensures

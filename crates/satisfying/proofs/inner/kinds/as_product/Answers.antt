@@ -17,4 +17,5 @@ unfolding asProducts
 returns c = λ p e.
     let l = short _ _ c.args.dimension.tree c.args.dimension.near in
     split-is _ (rw c.in-Some.is)
-    (product-written c.in-Some.x p (omega (arith, c.len.ensures, ap size e)) (omega (arith, l, ap size e)) c.put.ensures c.put-2.ensures c.put-3.ensures (type-as e c.copy.ensures))
+    (product-written c.in-Some.x p (omega (arith, c.len.ensures, ap size e)) (omega (arith, l, ap size e)) c.put.ensures c.put-2.ensures c.put-3.ensures
+    (type-as e c.copy.ensures))

@@ -10,4 +10,8 @@ pub returns : goal.returns
 unfolding writeTy size
 returns c =
     let s = c.requires.sound in
-    record { same = refl; at = omega (arith, c.requires.small, size-ty (dim (productOf c.args.p)), length-product c.args.p s.long s.few); words = λ k. c.store.ensures }
+    record {
+      same = refl;
+      at = omega (arith, c.requires.small, size-ty (dim (productOf c.args.p)), length-product c.args.p s.long s.few);
+      words = λ k. c.store.ensures;
+    }

@@ -12,4 +12,5 @@ returns-in_err-e t c =
     rw r (others-stop (expOf c.args.k) c.in-Some.factor.atom _ c.in-Some.ensures c.in_err-e.field-0.0 c.in_err-e.ensures)
 
 pub returns : goal.returns
-returns t c = others-more (expOf c.args.k) c.in-Some.factor.atom _ c.in-Some.ensures c.in_ok-e.e c.in_ok-e.ensures c.num_word.ensures c.put.ensures c.put_others.ensures
+returns t c = others-more (expOf c.args.k) c.in-Some.factor.atom _ c.in-Some.ensures c.in_ok-e.e c.in_ok-e.ensures c.num_word.ensures c.put.ensures
+    c.put_others.ensures

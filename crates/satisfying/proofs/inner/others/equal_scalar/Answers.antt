@@ -15,5 +15,6 @@ returns-in_default-variable_of c = λ names. stuck-is (scalar-other names _ _ _ 
 pub returns : goal.returns
 returns c = λ names.
     applied-as
-    (scalar-variable names _ _ _ c.in-Some.ensures c.in-Some-variable_of.x c.in-Some-variable_of.ensures ∙ ap (λ k. boundTo c.in-Some-variable_of.x (each (otherSide bounded k) c.in-Some.others.factors.0)) (sym c.from_words.ensures))
+    (scalar-variable names _ _ _ c.in-Some.ensures c.in-Some-variable_of.x c.in-Some-variable_of.ensures
+    ∙ ap (λ k. boundTo c.in-Some-variable_of.x (each (otherSide bounded k) c.in-Some.others.factors.0)) (sym c.from_words.ensures))
     c.solve_for.ensures

@@ -7,10 +7,13 @@ pub returns-then-not-is_closed : goal.returns-then-not-is_closed
 returns-then-not-is_closed c = λ names. stuck-is (field-open names _ _ _ (sym c.is_closed.ensures ∙ c.if-not-is_closed.true))
 
 pub returns-in_default : goal.returns-in_default
-returns-in_default c = λ names. stuck-is (field-not-struct names _ _ _ _ c.shape.ensures (sym c.is_closed.ensures ∙ c.if-not-is_closed.false) c.in_default.not-Struct)
+returns-in_default c = λ names. stuck-is (field-not-struct names _ _ _ _ c.shape.ensures
+    (sym c.is_closed.ensures ∙ c.if-not-is_closed.false) c.in_default.not-Struct)
 
 pub returns-in_default-find : goal.returns-in_default-find
-returns-in_default-find c = λ names. stuck-is (field-missing names _ _ _ (sym c.is_closed.ensures ∙ c.if-not-is_closed.false) c.in-Struct.ensures (c.in_default-find.ensures names))
+returns-in_default-find c = λ names. stuck-is (field-missing names _ _ _ (sym c.is_closed.ensures ∙ c.if-not-is_closed.false) c.in-Struct.ensures
+    (c.in_default-find.ensures names))
 
 pub returns : goal.returns
-returns c = λ names. split-is _ (field-found names _ _ _ (sym c.is_closed.ensures ∙ c.if-not-is_closed.false) c.in-Struct.ensures (c.in-Some.ensures names)) (one-con _ c.equal.ensures)
+returns c = λ names. split-is _ (field-found names _ _ _ (sym c.is_closed.ensures ∙ c.if-not-is_closed.false) c.in-Struct.ensures (c.in-Some.ensures names))
+    (one-con _ c.equal.ensures)

@@ -1,4 +1,4 @@
-use Rattle.std.proofs.Common.{sym, ap, ◌∙◌}
+use Rattle.std.proofs.Common.{sym, ap}
 use Rattle.rules.specs.Base.{got}
 use Rattle.rules.specs.Rounds.{dimensionParts}
 use Rattle.rules.specs.Views.{productOf}
