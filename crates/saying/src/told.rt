@@ -8,7 +8,6 @@ ghost use Rattle.queries.specs.Told as queries;
 ghost use Rattle.lending.specs.Told as lending;
 ghost use Rattle.adding.specs.Told.{toldAdded};
 ghost use Rattle.solving.specs.Told as solving;
-ghost use Rattle.trials.specs.Told as trials;
 ghost use Rattle.ceiling.specs.Told as ceiling;
 ghost use Rattle.rules.specs.Calls.{solved, unsolved};
 ghost use Rattle.saying.specs.Saying.{word, fours, sum, yesWord, saidAs, refusedAs, checkedAs, askedAs, numberAs, orderAs, countedAs, writtenAs, addedAs, solvedAs, wasWord, mostAs, ceilingAs, batchedAs};
@@ -19,7 +18,6 @@ use names::old::Checked;
 use rules::{Refusal, Was};
 use solving::{Outcome, Solution};
 use std::cmp::Ordering;
-use trials::Verdict;
 
 // The refusal's number or 0, what the call says, completed rounds, and how many words at the front of the result buffer are the answer's.
 #[derive(Drop)]
@@ -196,13 +194,12 @@ pub fn solution(s: Solution) -> Told
     }
 }
 
-pub fn judged(v: Verdict) -> Told
-    ensures { result ≡ askedAs (trials.told v) }
+pub fn judged(answer: Result<bool, Refusal>) -> Told
+    ensures { result ≡ askedAs (told answer) }
 {
-    match v {
-        Verdict::Yes => said(1, 0, 0),
-        Verdict::No => said(0, 0, 0),
-        Verdict::Refused(why) => refused(why, 0, 0),
+    match answer {
+        Ok(holds) => said(yes(holds), 0, 0),
+        Err(why) => refused(why, 0, 0),
     }
 }
 

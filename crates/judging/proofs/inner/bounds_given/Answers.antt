@@ -26,4 +26,4 @@ returns-then-not-rise c =
 pub returns : goal.returns
 returns c =
     let (os, h) = subst (Chained (GoodBound c.args.pool.now c.args.table.now 0 c.args.bounds.now) (length c.args.bounds.now / 4) 0) (c.if-not-good.false) c.bounds_good-good.ensures in
-    (map word_of os, (are-rising c.args.pool.now c.args.table.now c.args.bounds.now c.if-bounds-ne0.false os h (sym (c.rise.ensures os h) ∙ c.if-not-rise.false), c.mark_all.ensures _ _ os [] h (rw c.requires.m_value marks-none)))
+    (map word_of os, (are-rising c.args.pool.now c.args.table.now c.args.bounds.now c.if-bounds-ne0.false os h (sym (c.rise.ensures os h) ∙ c.if-not-rise.false), c.mark_all.ensures _ _ os [] h (rw c.requires.none_marked marks-none)))
