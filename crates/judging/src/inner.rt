@@ -30,12 +30,17 @@ fn lent(pool: &[u8], table: &[u32], work: &[u32]) -> bool
 }
 
 // Is no list too long (8), and is the set well formed (1)?
-fn enter(pool: &[u8], table: &[u32], set: &[u32], types: &[u32], bounds: &[u32], count: usize) -> Result<(), Refusal>
+fn enter(
+    pool: &[u8],
+    table: &[u32],
+    set: &[u32],
+    types: &[u32],
+    bounds: &[u32],
+    count: usize,
+) -> Result<(), Refusal>
     requires { lentTable pool.now table.now ≡ got tt }
-    ensures {
-        (es : List Entry) → count ≡ length es →
-        told result ≡ entered pool.now table.now set.now es types.now bounds.now
-    }
+    ensures { (es : List Entry) → count ≡ length es →
+        told result ≡ entered pool.now table.now set.now es types.now bounds.now }
 {
     if RECORD_WORDS < types.len() || RECORD_WORDS < bounds.len() {
         return Err(Refusal::TooLarge);
@@ -85,10 +90,8 @@ fn judge_rest(
     requires slotted { (es : List Entry) × Slotted es s repeated count }
     requires few { count ≤ 2048 }
     requires work_long { 16384 ≤ length work.old }
-    ensures {
-        (cs : List (Con ℕ)) (es : List Entry) → Entered pool.now table.now set.now types.now cs → Slotted es s repeated count →
-        told result ≡ judgedRest pool.now table.now es types.now bounds.now cs
-    }
+    ensures { (cs : List (Con ℕ)) (es : List Entry) → Entered pool.now table.now set.now types.now cs → Slotted es s repeated count →
+        told result ≡ judgedRest pool.now table.now es types.now bounds.now cs }
 {
     let mut places = [0u32; NAMES];
     if !fill(pool, table, types, repeated, count, s, &mut places) {
@@ -119,10 +122,8 @@ fn judge_set(
     requires table_lent { lentTable pool.now table.now ≡ got tt }
     requires slotted { (es : List Entry) × Slotted es s repeated count }
     requires work_long { 16384 ≤ length work.old }
-    ensures {
-        (es : List Entry) → Slotted es s repeated count →
-        told result ≡ judgedSet (table_of pool.now table.now) set.now es types.now bounds.now
-    }
+    ensures { (es : List Entry) → Slotted es s repeated count →
+        told result ≡ judgedSet (table_of pool.now table.now) set.now es types.now bounds.now }
 {
     enter(pool, table, set, types, bounds, count)?;
     judge_rest(pool, table, set, types, bounds, repeated, count, s, work)
@@ -141,10 +142,8 @@ pub fn judge_slots(
     work: &mut [u32],
 ) -> Result<bool, Refusal>
     requires { (es : List Entry) × Slotted es s repeated count }
-    ensures {
-        (es : List Entry) → Slotted es s repeated count →
-        judgedAs result work.new ≡ judgeCall pool.now table.now set.now es types.now bounds.now work.old
-    }
+    ensures { (es : List Entry) → Slotted es s repeated count →
+        judgedAs result work.new ≡ judgeCall pool.now table.now set.now es types.now bounds.now work.old }
 {
     if !lent(pool, table, work) {
         return Err(Refusal::ShortBuffer);

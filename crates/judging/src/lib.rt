@@ -30,5 +30,15 @@ pub fn judge(
 {
     let repeated = entries.len() <= RECORDS && repeats(entries);
     let slots = slots_of(entries);
-    judge_slots(pool, table, set, types, bounds, repeated, entries.len(), slots, work)
+    judge_slots(
+        pool,
+        table,
+        set,
+        types,
+        bounds,
+        repeated,
+        entries.len(),
+        slots,
+        work,
+    )
 }

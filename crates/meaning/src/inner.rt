@@ -184,10 +184,8 @@ fn same_factor(v: View, w: View) -> bool
 fn same_factors(s: &[u32], at: usize, t: &[u32], k: usize, n: usize) -> bool
     requires left_inside { at + n ≤ length s.now / 4 }
     requires right_inside { k + n ≤ length t.now / 4 }
-    ensures {
-        (p q : Product ℕ) → HoldsFactors s.now p at → HoldsFactors t.now q k → length p ≡ n → length q ≡ n →
-        Decides result (p ≡ q)
-    }
+    ensures { (p q : Product ℕ) → HoldsFactors s.now p at → HoldsFactors t.now q k → length p ≡ n → length q ≡ n →
+        Decides result (p ≡ q) }
 {
     for i in 0..n {
         if !same_factor(view_at(s, at + i), view_at(t, k + i)) {
@@ -221,10 +219,8 @@ pub fn means(s: &[u32], at: usize, t: &[u32], k: usize) -> bool
 fn means_all(s: &[u32], at: usize, t: &[u32], k: usize, n: usize) -> bool
     requires left { (xs : Tys ℕ) × HoldsTys s.now xs at × (count xs ≡ n) }
     requires right { (ys : Tys ℕ) × HoldsTys t.now ys k × (count ys ≡ n) }
-    ensures {
-        (xs ys : Tys ℕ) (names : List Bytes) → HoldsTys s.now xs at → count xs ≡ n → HoldsTys t.now ys k → count ys ≡ n →
-        result ≡ meansAll (numbered names) xs ys
-    }
+    ensures { (xs ys : Tys ℕ) (names : List Bytes) → HoldsTys s.now xs at → count xs ≡ n → HoldsTys t.now ys k → count ys ≡ n →
+        result ≡ meansAll (numbered names) xs ys }
 {
     if n == 0 {
         return true;

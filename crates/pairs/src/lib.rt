@@ -26,5 +26,15 @@ pub fn judge_pairs(
 {
     let count = pairs.len() / 2;
     let repeated = count <= RECORDS && repeats(pairs);
-    judge_slots(pool, table, set, types, bounds, repeated, count, slots(pairs), work)
+    judge_slots(
+        pool,
+        table,
+        set,
+        types,
+        bounds,
+        repeated,
+        count,
+        slots(pairs),
+        work,
+    )
 }

@@ -27,14 +27,18 @@ fn stopped(why: Refusal) -> Result<bool, Refusal>
 }
 
 // The constraint of n records at the start: is it short and flat enough, and is it true?
-fn test(pool: &[u8], table: &[u32], w: &[u32], n: usize, bounds: &[bool; NAMES]) -> Result<bool, Refusal>
+fn test(
+    pool: &[u8],
+    table: &[u32],
+    w: &[u32],
+    n: usize,
+    bounds: &[bool; NAMES],
+) -> Result<bool, Refusal>
     requires good { Good pool.now table.now }
     requires stands { (d : Con ℕ) × ConStands pool.now table.now w.now n d }
     requires bounds_len { length bounds.now ≡ 256 }
-    ensures {
-        (d : Con ℕ) (xs : List ℕ) → ConStands pool.now table.now w.now n d → Marks bounds.now xs →
-        told result ≡ tested pool.now table.now xs d
-    }
+    ensures { (d : Con ℕ) (xs : List ℕ) → ConStands pool.now table.now w.now n d → Marks bounds.now xs →
+        told result ≡ tested pool.now table.now xs d }
 {
     if RECORDS < n || !lines_flat(pool, table, w, 0, n) {
         return Err(Refusal::TooLarge);
@@ -59,11 +63,9 @@ fn try_con(
     requires bounds_len { length bounds.now ≡ 256 }
     requires set_short { length set.now ≤ 8192 }
     requires work_long { 8192 ≤ length work.old }
-    ensures {
-        (c : Con ℕ) (bs : List (Binding ℕ)) (xs : List ℕ) →
+    ensures { (c : Con ℕ) (bs : List (Binding ℕ)) (xs : List ℕ) →
         ConThere pool.now table.now set.now at c → Put pool.now table.now places.now types.now bs → Marks bounds.now xs →
-        Tried pool.now table.now bs xs c at result
-    }
+        Tried pool.now table.now bs xs c at result }
 {
     match replace_line(pool, table, set, at, places, types, work, 0) {
         Went::To(next, n) => Ok((test(pool, table, work, n, bounds)?, next)),
@@ -87,11 +89,9 @@ pub fn try_all(
     requires marked { (xs : List ℕ) × Marks bounds.now xs }
     requires set_short { length set.now ≤ 8192 }
     requires work_long { 8192 ≤ length work.old }
-    ensures {
-        (cs : List (Con ℕ)) (bs : List (Binding ℕ)) (xs : List ℕ) →
+    ensures { (cs : List (Con ℕ)) (bs : List (Binding ℕ)) (xs : List ℕ) →
         SetThere pool.now table.now set.now cs → Put pool.now table.now places.now types.now bs → Marks bounds.now xs →
-        told result ≡ judge (numbers pool.now table.now) bounded bs xs cs
-    }
+        told result ≡ judge (numbers pool.now table.now) bounded bs xs cs }
 {
     let n = set.len() / 4;
     let mut at = 0;

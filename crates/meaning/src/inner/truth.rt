@@ -76,10 +76,8 @@ fn past(s: &[u32], at: usize, n: u32) -> usize
 // The type of the field x, among n fields from a place on.
 fn field_at(s: &[u32], at: usize, n: u32, x: u32) -> Option<usize>
     requires { (fs : Fields ℕ) × HoldsFields s.now fs at × (countFields fs ≡ n) }
-    ensures {
-        (fs : Fields ℕ) (names : List Bytes) → HoldsFields s.now fs at → countFields fs ≡ n →
-        Found s.now result (fieldIn (numbered names) x fs)
-    }
+    ensures { (fs : Fields ℕ) (names : List Bytes) → HoldsFields s.now fs at → countFields fs ≡ n →
+        Found s.now result (fieldIn (numbered names) x fs) }
 {
     if n == 0 {
         return None;

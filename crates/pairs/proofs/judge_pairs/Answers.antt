@@ -9,26 +9,24 @@ pub judge_slots-requires : goal.judge_slots-requires
 judge_slots-requires c =
     let a = c.args in
     elim c.if-count-le-RECORDS.branch [
-      then-count-le-RECORDS w ↦
-        (
-          entriesIn a.pairs.now,
-          record { slots = c.slots.ensures; again = λ few. w.repeated-is ∙ w.repeats-repeated.ensures; many = count a.pairs.now },
-        )
-      | else-count-le-RECORDS w ↦
-        (
-          entriesIn a.pairs.now,
-          record { slots = c.slots.ensures; again = λ few. absurd (omega (arith, few, w.if-count-le-RECORDS.false)); many = count a.pairs.now },
-        )
+      | then-count-le-RECORDS w ↦ (
+        entriesIn a.pairs.now,
+        record { slots = c.slots.ensures; again = λ few. w.repeated-is ∙ w.repeats-repeated.ensures; many = count a.pairs.now },
+      )
+      | else-count-le-RECORDS w ↦ (
+        entriesIn a.pairs.now,
+        record { slots = c.slots.ensures; again = λ few. absurd (omega (arith, few, w.if-count-le-RECORDS.false)); many = count a.pairs.now },
+      )
     ]
 
 pub returns : goal.returns
 returns c =
     let a = c.args in
     elim c.if-count-le-RECORDS.branch [
-      then-count-le-RECORDS w ↦
-        c.judge_slots.ensures (entriesIn a.pairs.now)
-        (record { slots = c.slots.ensures; again = λ few. w.repeated-is ∙ w.repeats-repeated.ensures; many = count a.pairs.now })
+      | then-count-le-RECORDS w ↦
+          c.judge_slots.ensures (entriesIn a.pairs.now)
+          (record { slots = c.slots.ensures; again = λ few. w.repeated-is ∙ w.repeats-repeated.ensures; many = count a.pairs.now })
       | else-count-le-RECORDS w ↦
-        c.judge_slots.ensures (entriesIn a.pairs.now)
-        (record { slots = c.slots.ensures; again = λ few. absurd (omega (arith, few, w.if-count-le-RECORDS.false)); many = count a.pairs.now })
+          c.judge_slots.ensures (entriesIn a.pairs.now)
+          (record { slots = c.slots.ensures; again = λ few. absurd (omega (arith, few, w.if-count-le-RECORDS.false)); many = count a.pairs.now })
     ]

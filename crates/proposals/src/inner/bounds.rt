@@ -50,10 +50,8 @@ fn is_less(o: Ordering) -> bool
 pub fn rise(pool: &[u8], table: &[u32], s: &[u32]) -> bool
     requires good { Good pool.now table.now }
     requires there { (os : List (trees.Open ℕ)) × BoundsThere pool.now table.now s.now os }
-    ensures {
-        (os : List (trees.Open ℕ)) → BoundsThere pool.now table.now s.now os →
-        result ≡ rising (numbers pool.now table.now).order (map word_of os)
-    }
+    ensures { (os : List (trees.Open ℕ)) → BoundsThere pool.now table.now s.now os →
+        result ≡ rising (numbers pool.now table.now).order (map word_of os) }
 {
     for i in 1..s.len() / 4 {
         if !is_less(order(pool, table, name_of(s, i - 1), name_of(s, i))) {
@@ -65,10 +63,8 @@ pub fn rise(pool: &[u8], table: &[u32], s: &[u32]) -> bool
 
 // Marks the names of the bounds.
 pub fn mark_all(s: &[u32], m: &mut [bool; NAMES])
-    ensures {
-        (pool table : List ℕ) (os : List (trees.Open ℕ)) (xs : List ℕ) → BoundsThere pool table s.now os → Marks m.old xs →
-        Marks m.new (xs ++ map word_of os)
-    }
+    ensures { (pool table : List ℕ) (os : List (trees.Open ℕ)) (xs : List ℕ) → BoundsThere pool table s.now os → Marks m.old xs →
+        Marks m.new (xs ++ map word_of os) }
 {
     for i in 0..s.len() / 4 {
         mark(m, Name::Of(name_of(s, i)));

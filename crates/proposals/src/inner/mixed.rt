@@ -30,9 +30,7 @@ fn variable(x: u32, k: Kind) -> Name
 // Marks the names of a variable and of its type, if its word says that it has one.
 fn mark_one(types: &[u32], x: u32, w: u32, k: Kind, m: &mut [bool; NAMES])
     requires { (t : Option (Ty ℕ)) × SaysAt types.now w t }
-    ensures {
-        (t : Option (Ty ℕ)) (xs : List ℕ) → SaysAt types.now w t → Marks m.old xs → Marks m.new (xs ++ choose k (opens_of x t))
-    }
+    ensures { (t : Option (Ty ℕ)) (xs : List ℕ) → SaysAt types.now w t → Marks m.old xs → Marks m.new (xs ++ choose k (opens_of x t)) }
 {
     if w == 0 {
         return;
@@ -46,10 +44,8 @@ fn mark_one(types: &[u32], x: u32, w: u32, k: Kind, m: &mut [bool; NAMES])
 // The same for all variables.
 fn mark_table(types: &[u32], places: &[u32], k: Kind, m: &mut [bool; NAMES])
     requires { (bs : List (Binding ℕ)) × ((names : List Bytes) × Table types.now places.now names bs) }
-    ensures {
-        (bs : List (Binding ℕ)) (names : List Bytes) (xs : List ℕ) → Table types.now places.now names bs → Marks m.old xs →
-        Marks m.new (xs ++ choose k (opensBelow names bs 256))
-    }
+    ensures { (bs : List (Binding ℕ)) (names : List Bytes) (xs : List ℕ) → Table types.now places.now names bs → Marks m.old xs →
+        Marks m.new (xs ++ choose k (opensBelow names bs 256)) }
 {
     for x in 0..256 {
         mark_one(types, x, word_at(places, x as usize), k, m);
@@ -59,11 +55,9 @@ fn mark_table(types: &[u32], places: &[u32], k: Kind, m: &mut [bool; NAMES])
 // Is no name both?
 pub fn apart(set: &[u32], types: &[u32], places: &[u32]) -> bool
     requires { (bs : List (Binding ℕ)) × ((names : List Bytes) × Table types.now places.now names bs) }
-    ensures {
-        (bs : List (Binding ℕ)) (names : List Bytes) → Table types.now places.now names bs →
+    ensures { (bs : List (Binding ℕ)) (names : List Bytes) → Table types.now places.now names bs →
         Small (opensIn set.now 0 (length set.now / 4) ++ collect opensBinding bs) →
-        result ≡ unmixed (numbered names) (opensIn set.now 0 (length set.now / 4) ++ collect opensBinding bs)
-    }
+        result ≡ unmixed (numbered names) (opensIn set.now 0 (length set.now / 4) ++ collect opensBinding bs) }
 {
     let n = set.len() / 4;
     let mut v = [false; NAMES];

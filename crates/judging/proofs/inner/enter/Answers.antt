@@ -12,10 +12,10 @@ pub returns-then-types-gt-RECORD_WORDS : goal.returns-then-types-gt-RECORD_WORDS
 returns-then-types-gt-RECORD_WORDS c =
     let a = c.args in
     elim c.then-types-gt-RECORD_WORDS.branch [
-      then-types-gt-RECORD_WORDS-via-then-types-gt-RECORD_WORDS w ↦
-        λ es m. types_long a.pool.now a.table.now a.set.now a.types.now a.bounds.now es w.if-types-gt-RECORD_WORDS.true
+      | then-types-gt-RECORD_WORDS-via-then-types-gt-RECORD_WORDS w ↦
+          λ es m. types_long a.pool.now a.table.now a.set.now a.types.now a.bounds.now es w.if-types-gt-RECORD_WORDS.true
       | then-types-gt-RECORD_WORDS-via-else-types-gt-RECORD_WORDS+then-bounds-gt-RECORD_WORDS w ↦
-        λ es m. bounds-long a.pool.now a.table.now a.set.now a.types.now a.bounds.now es w.if-bounds-gt-RECORD_WORDS.true
+          λ es m. bounds-long a.pool.now a.table.now a.set.now a.types.now a.bounds.now es w.if-bounds-gt-RECORD_WORDS.true
     ]
 
 pub returns-then-count-gt-RECORDS : goal.returns-then-count-gt-RECORDS

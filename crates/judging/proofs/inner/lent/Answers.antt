@@ -11,10 +11,10 @@ use Rattle.judging.proofs.inner.lent.Goals.{
 pub returns-then-pool-lt-POOL_BYTES : goal.returns-then-pool-lt-POOL_BYTES
 unfolding lentTable lentWork
 returns-then-pool-lt-POOL_BYTES c = elim c.then-pool-lt-POOL_BYTES.branch [
-  then-pool-lt-POOL_BYTES-via-then-pool-lt-POOL_BYTES w ↦
-    rw (lt-leb 8192 (length c.args.pool.now) w.if-pool-lt-POOL_BYTES.true)
+  | then-pool-lt-POOL_BYTES-via-then-pool-lt-POOL_BYTES w ↦
+      rw (lt-leb 8192 (length c.args.pool.now) w.if-pool-lt-POOL_BYTES.true)
   | then-pool-lt-POOL_BYTES-via-else-pool-lt-POOL_BYTES+then-table-lt-TABLE_WORDS w ↦
-    rw (le-leb 8192 (length c.args.pool.now) w.if-pool-lt-POOL_BYTES.false, lt-leb 257 (length c.args.table.now) w.if-table-lt-TABLE_WORDS.true)
+      rw (le-leb 8192 (length c.args.pool.now) w.if-pool-lt-POOL_BYTES.false, lt-leb 257 (length c.args.table.now) w.if-table-lt-TABLE_WORDS.true)
 ]
 
 pub returns : goal.returns

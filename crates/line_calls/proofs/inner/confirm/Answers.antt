@@ -26,11 +26,11 @@ put_type-requires c =
 
 pub returns-in-Ok-true : goal.returns-in-Ok-true
 returns-in-Ok-true c = λ cs bs ns h f.
-    judged-yes _ _ cs bs ns _ (c.try_all.ensures cs bs ns h.there (put-in _ _ f (c.fill.ensures _ _ bs c.requires.good f.listed)) (marked ns (c.mark_all.ensures c.args.pool.now c.args.table.now (map (λ n. var n) ns) [] f.bounds marks-none))) _ _ _ (rw c.in-Ok-true.field-0-is at c.in-Ok-true.is) (omega (arith, c.try_all.auto.work, c.requires.in_bounds)) (c.put_type.ensures _ (c.fill.ensures _ _ bs c.requires.good f.listed).tabled)
+    judged-yes _ _ cs bs ns _ (c.try_all.ensures cs bs ns h.there (put-in _ _ f (c.fill.ensures _ _ bs c.requires.good f.listed)) (marked ns (c.mark_all.ensures c.args.pool.now c.args.table.now (map (λ n. var n) ns) [] f.bounds marks-none))) _ _ _ (rw c.in-Ok-true.field-0-test at c.in-Ok-true.is) (omega (arith, c.try_all.auto.work, c.requires.in_bounds)) (c.put_type.ensures _ (c.fill.ensures _ _ bs c.requires.good f.listed).tabled)
 
 pub returns-in-Ok-false : goal.returns-in-Ok-false
 returns-in-Ok-false c = λ cs bs ns h f.
-    judged-no _ _ cs bs ns _ (c.try_all.ensures cs bs ns h.there (put-in _ _ f (c.fill.ensures _ _ bs c.requires.good f.listed)) (marked ns (c.mark_all.ensures c.args.pool.now c.args.table.now (map (λ n. var n) ns) [] f.bounds marks-none))) _ (rw c.in-Ok-false.field-0-is at c.in-Ok-false.is)
+    judged-no _ _ cs bs ns _ (c.try_all.ensures cs bs ns h.there (put-in _ _ f (c.fill.ensures _ _ bs c.requires.good f.listed)) (marked ns (c.mark_all.ensures c.args.pool.now c.args.table.now (map (λ n. var n) ns) [] f.bounds marks-none))) _ (rw c.in-Ok-false.field-0-test at c.in-Ok-false.is)
 
 pub returns-in-Err : goal.returns-in-Err
 returns-in-Err c = λ cs bs ns h f.

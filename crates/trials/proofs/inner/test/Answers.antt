@@ -11,13 +11,13 @@ use Rattle.trials.proofs.inner.test.Goals.{
 
 pub returns-then-n-gt-RECORDS : goal.returns-then-n-gt-RECORDS
 returns-then-n-gt-RECORDS c = elim c.then-n-gt-RECORDS.branch [
-  then-n-gt-RECORDS-via-then-n-gt-RECORDS w ↦
-    λ d xs s m. long _ _ c.requires.good _ _ d s xs w.if-n-gt-RECORDS.true
+  | then-n-gt-RECORDS-via-then-n-gt-RECORDS w ↦
+      λ d xs s m. long _ _ c.requires.good _ _ d s xs w.if-n-gt-RECORDS.true
   | then-n-gt-RECORDS-via-else-n-gt-RECORDS+then-not-lines_flat w ↦
-    λ d xs s m.
-        let g = c.requires.good in
-        let few = w.if-n-gt-RECORDS.false in
-        deep _ _ g _ _ d s xs few (w.lines_flat.ensures (con d ∷ []) (there _ _ g _ _ d s xs few)) w.if-not-lines_flat.true
+      λ d xs s m.
+      let g = c.requires.good in
+      let few = w.if-n-gt-RECORDS.false in
+      deep _ _ g _ _ d s xs few (w.lines_flat.ensures (con d ∷ []) (there _ _ g _ _ d s xs few)) w.if-not-lines_flat.true
 ]
 
 pub lines_flat-requires : goal.lines_flat-requires
@@ -28,7 +28,7 @@ lines_flat-requires c =
 pub holds-requires : goal.holds-requires
 holds-requires c =
     let (d, s) = c.requires.stands in
-    record { by_index = (d, stands _ _ c.requires.good _ _ d s [] c.if-n-gt-RECORDS.false); bounds_len = c.requires.bounds_len }
+    record { held = (d, stands _ _ c.requires.good _ _ d s [] c.if-n-gt-RECORDS.false); bounds_len = c.requires.bounds_len }
 
 pub returns : goal.returns
 returns c = λ d xs s m.

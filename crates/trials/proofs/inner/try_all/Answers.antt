@@ -45,8 +45,7 @@ loop-at-preserved c =
     let (xs₀, m₀) = c.requires.marked in
     let g₀ = c.loop-at.invariant.1.1 cs₀ bs₀ xs₀ h₀ l₀ m₀ in
     let f₀ = first _ _ _ bs₀ xs₀ cs₀ _ c.loop-at-test.true g₀ in
-    let z = further _ _ _ bs₀ xs₀ cs₀ _ c.loop-at-test.true g₀ (c.in_ok-holds.ensures f₀.one bs₀ xs₀ f₀.there l₀ m₀) c.if-not-holds.false in
-    (
+    let z = further _ _ _ bs₀ xs₀ cs₀ _ c.loop-at-test.true g₀ (c.in_ok-holds.ensures f₀.one bs₀ xs₀ f₀.there l₀ m₀) c.if-not-holds.false in (
       c.try_con.auto.work ∙ c.loop-at.invariant.0,
       (
         z.1,

@@ -7,7 +7,7 @@ pub returns-in-Opened : goal.returns-in-Opened
 returns-in-Opened c =
     let a = c.args in
     elim c.in-Opened.is [
-      inl e ↦ open-among a.s.now a.at c.view_at.ensures a.bounds.now c.among_bounds.result e.1 c.among_bounds.ensures
+      | inl e ↦ open-among a.s.now a.at c.view_at.ensures a.bounds.now c.among_bounds.result e.1 c.among_bounds.ensures
       | inr e ↦ dim-among a.s.now a.at c.view_at.ensures a.bounds.now c.among_bounds.result e.1 c.among_bounds.ensures
     ]
 
