@@ -6,7 +6,7 @@ ghost use Rattle.rules.specs.Contents.{closed, variablesIn};
 ghost use Rattle.rules.specs.Names.{Bytes, numbered};
 ghost use Rattle.rules.specs.Trees.{Ty, Con, is_scalar, Product};
 ghost use Rattle.laws.specs.NameTable.{Good};
-ghost use Rattle.names.specs.Told.{toldChecked};
+ghost use Rattle.names.specs.Old.{toldChecked};
 ghost use Rattle.queries.specs.Scans.{opensIn, opensView, opensAtom};
 ghost use Rattle.records.specs.Good.{There, GoodCon};
 ghost use Rattle.records.specs.Views.{kindOfBasic};
@@ -19,7 +19,7 @@ ghost use Rattle.adding.specs.Stored.{Ready, addedWith};
 
 use super::Added;
 use comparing::inner::same_types;
-use names::Checked;
+use names::old::Checked;
 use queries::Name;
 use queries::inner::{closed_at, end_of};
 use records::inner::{Ended, con_end, copy};

@@ -8,7 +8,7 @@ ghost use Rattle.rules.specs.Calls.{addCall};
 ghost use Rattle.adding.specs.Told.{addedAs};
 
 use inner::{add_good, check};
-use names::Checked;
+use names::old::Checked;
 use rules::Refusal;
 
 // What adding answers, with the count of records of the set afterwards; or why it adds nothing.

@@ -5,12 +5,12 @@ ghost use Rattle.std.proofs.Math.Seq.{slice};
 ghost use Rattle.rules.specs.Base.{need, sum_of, got};
 ghost use Rattle.rules.specs.Calls.{solvedSet};
 ghost use Rattle.rules.specs.Names.{table_of, tableGood, lentTable};
-ghost use Rattle.names.specs.Told.{toldChecked};
+ghost use Rattle.names.specs.Old.{toldChecked};
 ghost use Rattle.solving.specs.Told.{told};
 ghost use Rattle.rules.specs.Batches.{batchLent, batchFits, fourWords, recordsOf};
 ghost use Rattle.batches.specs.Steps.{Written, Stepped, Begun, Finished};
 
-use names::Checked;
+use names::old::Checked;
 use records::inner::put;
 use rules::{POOL_BYTES, RECORD_WORDS, Refusal, TABLE_WORDS, WORK_WORDS};
 use solving::inner::solve_set;

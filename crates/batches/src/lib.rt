@@ -10,8 +10,8 @@ ghost use Rattle.batches.specs.Told.{batchAs};
 use inner::{all_lent, fits, solve_each};
 use lending::Answer;
 use lending::inner::clear;
-use names::Checked;
 use names::inner::is_good;
+use names::old::Checked;
 use rules::Refusal;
 
 // The sets stand back to back in `sets`, each as long as `lengths` says in records. Their answers are written back to back, and of each set

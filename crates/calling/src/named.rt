@@ -1,7 +1,8 @@
 // The calls on names.
 ghost use Rattle.std.specs.Prelude.{◌≤◌, length};
 
-use names::{check_number, compare, enter, name_of};
+use names::old::check_number;
+use names::{compare, enter, name_of};
 use saying::told::{Told, checked, numbered, ordered, short};
 use saying::words::{byte_word, fill, fill_bytes, fill_low, fill_words, put, wide, word_of};
 

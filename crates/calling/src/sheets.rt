@@ -11,7 +11,7 @@ use judging::judge;
 use saying::Asked;
 use saying::told::{Told, batched, judged, limited};
 use saying::words::{fill, word_of};
-use trials::Verdict;
+use rules::Refusal;
 
 // As many entries are handed on at the most: no longer list of pairs is sent.
 const ENTRIES: usize = 5120;
@@ -64,7 +64,7 @@ fn judge_first(
     types: &[u32],
     bounds: &[u32],
     work: &mut [u32],
-) -> Verdict
+) -> Result<bool, Refusal>
     requires { n ≤ 5120 }
     ensures { judgedAs result work.new ≡ judgeCall pool.now table.now set.now (told (take n es)) types.now bounds.now work.old }
 {
@@ -80,7 +80,7 @@ fn judge_pairs(
     types: &[u32],
     bounds: &[u32],
     work: &mut [u32],
-) -> Verdict {
+) -> Result<bool, Refusal> {
     let n = at_most(pairs.len() / 2, ENTRIES);
     let es = entries_from(pairs, n);
     judge_first(pool, table, set, es, n, types, bounds, work)

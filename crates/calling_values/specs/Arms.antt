@@ -12,7 +12,7 @@ use Rattle.rules.specs.Exponents.{Exp}
 use Rattle.rules.specs.Refusals.{number_of}
 use Rattle.rules.specs.declared.Refusal.{Refusal}
 use Rattle.rules.specs.Values.{FactorValue, ProductValue, productValue, sumCall, timesCall, negationCall, quotientCall, multiplyCall, divideCall, inverseCall, raiseCall}
-use Rattle.names.specs.declared.Checked.TheVariants.{Good, Refused}
+use Rattle.names.specs.declared.old.Checked.TheVariants.{Good, Refused}
 use Rattle.records.specs.Stores.{sets-append}
 use Rattle.products.specs.declared.Factor.{Factor}
 use Rattle.products.specs.declared.Product.{Product}

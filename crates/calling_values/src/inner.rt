@@ -9,7 +9,7 @@ ghost use Rattle.saying.specs.Given.{exponentAt, factorAt, productAt};
 ghost use Rattle.saying.specs.Dispatch.{shown, powerAs, factorWords, productShown};
 
 use exponents::{Exponent, Power};
-use names::Checked;
+use names::old::Checked;
 use products::{Factor, Product, Tried};
 use rules::FACTORS;
 use saying::told::{Told, refused, said, short};

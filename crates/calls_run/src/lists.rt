@@ -2,8 +2,8 @@
 ghost use Rattle.std.specs.Prelude.{◌<◌, ◌≤◌, length};
 
 use cases::{next_line, number_from};
-use names::{Answer, enter};
-use rules::Was;
+use names::enter;
+use rules::{Refusal, Was};
 
 // Which call, and how much is lent of the four buffers: bytes of the pool, words of the others.
 #[derive(Clone, Copy)]
@@ -79,13 +79,13 @@ fn name_end(s: &[u8], at: usize) -> usize
     i
 }
 
-fn is_new(got: Answer, number: u32) -> bool {
+fn is_new(got: Result<(u32, Was), Refusal>, number: u32) -> bool {
     match got {
-        Answer::Number(n, was) => match was {
+        Ok((n, was)) => match was {
             Was::New => n == number,
             Was::Known => false,
         },
-        Answer::Refused(_) => false,
+        Err(_) => false,
     }
 }
 

@@ -6,7 +6,7 @@ ghost use Rattle.rules.specs.Ceiling.{ceilingCall};
 ghost use Rattle.ceiling.specs.Told.{told};
 
 use inner::{distinct, most};
-use names::Checked;
+use names::old::Checked;
 use records::is_set;
 use rules::Refusal;
 

@@ -4,13 +4,13 @@
 pub mod inner;
 
 ghost use Rattle.std.specs.Prelude.{◌≡◌};
-ghost use Rattle.names.specs.Told.{toldChecked};
+ghost use Rattle.names.specs.Old.{toldChecked};
 ghost use Rattle.rules.specs.Compaction.{compactChecks, compactCall};
 ghost use Rattle.compaction.specs.Told.{compactedAs};
 
 use inner::{mark, renumber, sets_given, small, squeeze};
-use names::Checked;
 use names::inner::{count, is_good};
+use names::old::Checked;
 use rules::{NAMES, POOL_BYTES, Refusal, TABLE_WORDS};
 
 // How many names were kept, or why nothing was changed.

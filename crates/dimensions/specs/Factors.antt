@@ -1,5 +1,5 @@
 -- Factors, multiplied from left to right while they are read.
-use Rattle.std.specs.Prelude.{◌≡◌, refl, Bool, true, false, List, [], ◌∷◌}
+use Rattle.std.specs.Prelude.{◌≡◌, refl, Bool, true, false, List, [], ◌∷◌, Err, None, Ok, Some}
 use Rattle.std.proofs.Common.{sym, ◌∙◌, arith}
 use Rattle.std.proofs.Math.Path.{ap}
 use Prim.Native.Nat.{ℕ, zero, suc, ◌≤◌, ◌<◌}
@@ -17,23 +17,20 @@ use Rattle.exponents.specs.declared.Exponent.{Exponent}
 use Rattle.products.specs.Told.{Tree, productOf}
 use Rattle.products.specs.Held.{Well}
 use Rattle.products.specs.declared.Product.{Product}
-use Rattle.reading.specs.Points.{Reads, PointIn, MarkRead, left_at, columnAt, beginsAt, in-turn, given, if-sign, if-no-sign}
+use Rattle.reading.specs.Points.{Reads, PointIn, MarkRead, left_at, columnAt, beginsAt, in-turn, given, if-sign, if-no-sign, Point}
 use Rattle.reading.specs.Factors.{atom, powerThere, factorsThere, begun, left_there}
-use Rattle.reading.specs.declared.inner.Point.{Point}
-use Rattle.reading.specs.declared.inner.Point.TheVariants as point
-use Rattle.terms.specs.Stands.{place_of}
+use Rattle.terms.specs.Stands.{place_of, Stand}
 use Rattle.terms.specs.Effects.{Lent, lent, Ready, ready-next, Kept, kept_same, kept-last, kept_then, Effect, then, gives, Halted, halted-on, NotBad, not-bad, at_sign, Done}
 use Rattle.terms.specs.Inside.{inside-column}
-use Rattle.terms.specs.declared.inner.Stand.{Stand}
-use Rattle.terms.specs.declared.inner.Stand.TheVariants as stand
+use Rattle.terms.specs.Stands as stand
 use Rattle.dimensions.specs.Atoms.{AtomTold}
 use Rattle.dimensions.specs.Powers.{powered, ExpTold}
 use Rattle.dimensions.specs.Times.{timesBy, ProductIs, HeldIf}
 
 abbrev pub is_at : Point → Bool
-is_at (point.At i) = true
-is_at point.Past = false
-is_at (point.Bad q) = false
+is_at (Ok (Some i)) = true
+is_at (Ok None) = false
+is_at (Err q) = false
 
 -- factors are read and multiplied, whatever the buffer holds: the product is o then, and well formed
 abbrev pub ProductDone : {A : Type 0} → Bytes → Rule A → (A → Step Tree) → Point → List ℕ → List ℕ → Stand → Point → Product → List ℕ → List ℕ → Stand → Type 0
@@ -41,14 +38,14 @@ ProductDone line R f p pool table s r o pool' table' s' = (Well pool' table' o) 
 
 -- at a point that is no place in the line nothing is multiplied
 pub idle : {B : Type 0} {m : Step B} {T : B → List Rec → Type 0} {x : Lent} (q : Point) → false ≡ is_at q → Halted q x.stand → NotBad q → Effect m T x x
-idle (point.At i) e h n = let z : ◌≡◌ {A = ℕ} 0 1 = cc in absurd (omega arith)
-idle point.Past e h n = record { does = λ i j i' j' p q. absurd (h i j refl p); refuses = λ i j c r p q. absurd (h i j refl p) }
-idle (point.Bad q) e h n = absurd n
+idle (Ok (Some i)) e h n = let z : ◌≡◌ {A = ℕ} 0 1 = cc in absurd (omega arith)
+idle (Ok None) e h n = record { does = λ i j i' j' p q. absurd (h i j refl p); refuses = λ i j c r p q. absurd (h i j refl p) }
+idle (Err q) e h n = absurd n
 
 pub at-fine : (q : Point) → true ≡ is_at q → NotBad q
-at-fine (point.At i) e = tt
-at-fine point.Past e = tt
-at-fine (point.Bad q) e = let z : ◌≡◌ {A = ℕ} 0 1 = cc in omega arith
+at-fine (Ok (Some i)) e = tt
+at-fine (Ok None) e = tt
+at-fine (Err q) e = let z : ◌≡◌ {A = ℕ} 0 1 = cc in omega arith
 
 pub at-halted : {s : Stand} (q : Point) → true ≡ is_at q → Halted q s
 at-halted q e k n h p = let z : ◌≡◌ {A = Bool} true false = e ∙ ap is_at h in let y : ◌≡◌ {A = ℕ} 0 1 = cc in omega arith
@@ -63,8 +60,8 @@ pub went_on : {x y : Lent} {k n : ℕ} → Kept x y → y.stand ≡ stand.Going 
 went_on {x} {y} k e = go x.stand refl
   where
     go : (s : Stand) → x.stand ≡ s → WentOn s
-    go (stand.Going i j) p = record { fresh = i; records = j; is = refl }
-    go (stand.Refused r c) p = let h = k.refused r c p in let z : ◌≡◌ {A = ℕ} 0 1 = cc in absurd (omega arith)
+    go (Ok tally) p = record { fresh = tally.names; records = tally.records; is = refl }
+    go (Err stop) p = let h = k.refused stop.why stop.at p in let z : ◌≡◌ {A = ℕ} 0 1 = cc in absurd (omega arith)
 
 -- ══ One factor ══
 

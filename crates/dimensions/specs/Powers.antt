@@ -1,5 +1,5 @@
 -- A factor's power: its worth, or 7 at its sign.
-use Rattle.std.specs.Prelude.{◌≡◌, Bool, true, false, List, [], ℕ, suc, ◌≤◌, ◌<◌, leb, pos}
+use Rattle.std.specs.Prelude.{◌≡◌, Bool, true, false, List, [], ℕ, suc, ◌≤◌, ◌<◌, leb, pos, Err, None, Ok, Some}
 use Rattle.std.proofs.Math.Path.{refl}
 use Rattle.std.proofs.Common.{sym, ap, ◌∙◌, arith, leb-true, leb-false}
 use Rattle.rules.specs.Base.{Got, got, refused}
@@ -18,26 +18,23 @@ use Rattle.exponents.specs.declared.Exponent.{Exponent}
 use Rattle.exponents.specs.declared.Power.{Power}
 use Rattle.exponents.specs.declared.Power.TheVariants as value
 use Rattle.scanning.specs.Scanned.{place_in}
-use Rattle.reading.specs.Points.{Reads, from, standing, beginsAt, columnAt, given, if-sign, if-no-sign}
+use Rattle.reading.specs.Points.{Reads, from, standing, beginsAt, columnAt, given, if-sign, if-no-sign, Point}
 use Rattle.reading.specs.Powers.{Typed, minusThere, denominatorThere}
 use Rattle.reading.specs.Values.{value_of, typed-value, value-large, value-zero, value-under, value_there, lowest-good}
 use Rattle.reading.specs.Factors.{powerThere}
-use Rattle.reading.specs.declared.inner.Point.{Point}
-use Rattle.reading.specs.declared.inner.Point.TheVariants as point
-use Rattle.terms.specs.Stands.{place_of}
+use Rattle.terms.specs.Stands.{place_of, Stand}
 use Rattle.terms.specs.Effects.{lent, sofar, Ready, kept_same, kept-stopped, Effect, did, stops, gives, halted-on, NotBad, not-bad, at_sign, Inside, unmoved, Done}
 use Rattle.terms.specs.Inside.{inside-column, inside-give, inside-then, inside-if, inside-digits, inside-spelled}
-use Rattle.terms.specs.declared.inner.Stand.{Stand}
-use Rattle.terms.specs.declared.inner.Stand.TheVariants as stand
+use Rattle.terms.specs.Stands as stand
 
 -- what a power does: its worth, or a refusal at its column
 abbrev pub powered : PowerAt → Step Exp
 powered e = placed e.column (powerOf e)
 
 abbrev pub powerStand : Stand → ℕ → Power → Stand
-powerStand (stand.Refused r c) at v = stand.Refused r c
-powerStand (stand.Going k n) at (value.Value e) = stand.Going k n
-powerStand (stand.Going k n) at (value.Refused why) = stand.Refused why at
+powerStand (Err stop) at v = stand.Refused stop.why stop.at
+powerStand (Ok tally) at (value.Value e) = stand.Going tally.names tally.records
+powerStand (Ok tally) at (value.Refused why) = stand.Refused why at
 
 abbrev pub unit : Exponent
 unit = record { num = pos 1; den = 1 }
@@ -118,20 +115,20 @@ record ReadTo {A : Type 0} (line : Bytes) (q : Point) (v : A) : Type 0 where
   is : standing line q v ≡ read v place
 
 read-to : {A : Type 0} (line : Bytes) (q : Point) (v : A) → NotBad q → ReadTo line q v
-read-to line (point.At j) v n = record { place = place_in line j; is = refl }
-read-to line point.Past v n = record { place = beyond; is = refl }
-read-to line (point.Bad j) v n = absurd n
+read-to line (Ok (Some j)) v n = record { place = place_in line j; is = refl }
+read-to line (Ok None) v n = record { place = beyond; is = refl }
+read-to line (Err j) v n = absurd n
 
 -- the next sign of a line that is not refused stands in it
 sign-fine : {line : Bytes} {p c : Point} {P : ℕ → Type 0} → Reads line p column P c → NotBad p → NotBad c
 sign-fine {line} {p} {c} x = go p c x.is
   where
     go : (p c : Point) → from line p column ≡ standing line c x.value → NotBad p → NotBad c
-    go p (point.At i) e n = tt
-    go p point.Past e n = tt
-    go (point.At i) (point.Bad j) e n = let z : ◌≡◌ {A = ℕ} 0 1 = cc in omega arith
-    go point.Past (point.Bad j) e n = let z : ◌≡◌ {A = ℕ} 0 1 = cc in omega arith
-    go (point.Bad i) (point.Bad j) e n = n
+    go p (Ok (Some i)) e n = tt
+    go p (Ok None) e n = tt
+    go (Ok (Some i)) (Err j) e n = let z : ◌≡◌ {A = ℕ} 0 1 = cc in omega arith
+    go (Ok None) (Err j) e n = let z : ◌≡◌ {A = ℕ} 0 1 = cc in omega arith
+    go (Err i) (Err j) e n = n
 
 power-sign : {line : Bytes} {p c q : Point} {P : PowerAt → Type 0} (x : Reads line p column (λ (k : ℕ). k ≡ columnAt c) c) (y : Reads line p power P q) → NotBad q → y.value.column ≡ columnAt c
 power-sign {line} {p} {c} {q} x y n = go p x.is y.is (not-bad y n) ∙ x.holds
@@ -146,9 +143,9 @@ power-sign {line} {p} {c} {q} x y n = go p x.is y.is (not-bad y n) ∙ x.holds
     at r e f = let g : ◌≡◌ {A = Parsed ℕ} (read (columnOf (skip r)) (skip r)) (read x.value b.place) = e ∙ b.is in power-columned r a.place y.value (f ∙ a.is) ∙ cc
 
     go : (p : Point) → from line p column ≡ standing line c x.value → from line p power ≡ standing line q y.value → NotBad p → y.value.column ≡ x.value
-    go (point.At i) e f m = at (place_in line i) e f
-    go point.Past e f m = at beyond e f
-    go (point.Bad i) e f m = absurd m
+    go (Ok (Some i)) e f m = at (place_in line i) e f
+    go (Ok None) e f m = at beyond e f
+    go (Err i) e f m = absurd m
 
 -- ══ A power, read and valued ══
 
@@ -166,26 +163,26 @@ inside-power =
 power-effect : (w : PowerAt) (v : Power) (at : ℕ) (pool table dst : List ℕ) (s : Stand) → powerOf w ≡ Answers.told v → w.column ≡ suc at
     → Effect (powered w) (ExpTold (expIn v)) (lent pool table dst s) (lent pool table dst (powerStand s at v))
 unfolding words
-power-effect w (value.Value e) at pool table dst (stand.Going k n) h g =
+power-effect w (value.Value e) at pool table dst (Ok tally) h g =
     did refl refl (record {
       value = expOf e;
       records = [];
-      is = ap (λ (m : Got Exp). placed w.column m (sofar (lent pool table dst (stand.Going k n)) k n)) h;
+      is = ap (λ (m : Got Exp). placed w.column m (sofar (lent pool table dst (stand.Going tally.names tally.records)) tally.names tally.records)) h;
       tells = record { is = refl; none = refl };
       written = refl;
       grown = omega arith;
     })
-power-effect w (value.Refused why) at pool table dst (stand.Going k n) h g =
-    stops refl refl (ap (λ (m : Got Exp). placed w.column m (sofar (lent pool table dst (stand.Going k n)) k n)) h ∙ ap (λ (c : ℕ). refusedAt (number_of why) c) g)
-power-effect w v at pool table dst (stand.Refused r c) h g = unmoved refl
+power-effect w (value.Refused why) at pool table dst (Ok tally) h g =
+    stops refl refl (ap (λ (m : Got Exp). placed w.column m (sofar (lent pool table dst (stand.Going tally.names tally.records)) tally.names tally.records)) h ∙ ap (λ (c : ℕ). refusedAt (number_of why) c) g)
+power-effect w v at pool table dst (Err stop) h g = unmoved refl
 
 power-refused : (s : Stand) (at : ℕ) (v : Power) (r : Refusal) (c : ℕ) → s ≡ stand.Refused r c → powerStand s at v ≡ stand.Refused r c
 power-refused s at v r c e = rw e
 
 power-going : (s : Stand) (at : ℕ) (v : Power) (k n : ℕ) → powerStand s at v ≡ stand.Going k n → s ≡ stand.Going k n
-power-going (stand.Going i m) at (value.Value e) k n q = q
-power-going (stand.Going i m) at (value.Refused why) k n q = let z : ◌≡◌ {A = ℕ} 0 1 = cc in absurd (omega arith)
-power-going (stand.Refused r c) at v k n q = q
+power-going (Ok tally) at (value.Value e) k n q = q
+power-going (Ok tally) at (value.Refused why) k n q = let z : ◌≡◌ {A = ℕ} 0 1 = cc in absurd (omega arith)
+power-going (Err stop) at v k n q = q
 
 module _ {line : Bytes} {p : Point} {pool table : List ℕ} (dst : List ℕ) {s : Stand} (ready : Ready line p pool table s) where
   pub power-done : {q sign : Point} {m : Bool} {n d at : ℕ} {s' : Stand} {o : Exponent} (c : Point) (v : Power) → true ≡ beginsAt line p 94 → Reads line p column (λ (k : ℕ). k ≡ columnAt c) c → Reads line p power (Typed sign m n d) q

@@ -21,8 +21,8 @@ use Rattle.laws.specs.Ranges.{is-stored}
 use Rattle.laws.specs.GoodProducts.{GoodProduct, product-good, multiply_good}
 use Rattle.exponents.specs.Answers.{expOf}
 use Rattle.exponents.specs.declared.Exponent.{Exponent}
-use Rattle.names.specs.declared.Checked.{Checked}
-use Rattle.names.specs.declared.Checked.TheVariants as checked
+use Rattle.names.specs.declared.old.Checked.{Checked}
+use Rattle.names.specs.declared.old.Checked.TheVariants as checked
 use Rattle.products.specs.Told.{Tree, given, told, answer, refusalOf, productOf, put_of, heldIn, valueIn, Answer}
 use Rattle.products.specs.Kinds.{Kind, variable, parameter, dimension, quantified, atomBy}
 use Rattle.products.specs.Places.{put-given}
@@ -31,8 +31,8 @@ use Rattle.products.specs.declared.Factor.{Factor}
 use Rattle.products.specs.declared.Product.{Product}
 use Rattle.products.specs.declared.Tried.{Tried}
 use Rattle.terms.specs.Effects.{lent, sofar, Effect, did, stops, unmoved}
-use Rattle.terms.specs.declared.inner.Stand.{Stand}
-use Rattle.terms.specs.declared.inner.Stand.TheVariants as stand
+use Rattle.terms.specs.Stands.{Stand}
+use Rattle.terms.specs.Stands as stand
 use Rattle.dimensions.specs.Atoms.{AtomHeld}
 
 -- where the sheet goes on, the factor's name is held

@@ -1,5 +1,5 @@
 -- A dimension: its record and those of the factors that are left, counted and written.
-use Rattle.std.specs.Prelude.{◌≡◌, refl, List, []}
+use Rattle.std.specs.Prelude.{◌≡◌, refl, List, [], Err, None, Ok, Some}
 use Rattle.std.proofs.Common.{sym, ◌∙◌, arith}
 use Rattle.std.proofs.Math.Path.{ap}
 use Prim.Native.Nat.{ℕ, suc, ◌*◌}
@@ -16,28 +16,25 @@ use Rattle.rules.specs.TextReading as TextReading
 use Rattle.rules.specs.declared.Refusal.{Refusal}
 use Rattle.products.specs.Told.{Tree, productOf}
 use Rattle.products.specs.declared.Product.{Product}
-use Rattle.reading.specs.Points.{Reads, Any, marked, columnAt, in-turn, given}
+use Rattle.reading.specs.Points.{Reads, Any, marked, columnAt, in-turn, given, Point}
 use Rattle.reading.specs.Factors.{factorsThere}
-use Rattle.reading.specs.declared.inner.Point.{Point}
-use Rattle.reading.specs.declared.inner.Point.TheVariants as point
-use Rattle.terms.specs.Stands.{place_of, countOf}
+use Rattle.terms.specs.Stands.{place_of, countOf, same-refused, Stand}
 use Rattle.terms.specs.Effects.{Lent, lent, sofar, counted-going, counted-refused, Ready, Kept, kept_then, kept-last, kept-written, kept-count, ready-kept, Effect, Did, Writes, maps, Halted, halted-on, halted-counted, NotBad, not-bad, Done}
 use Rattle.terms.specs.Inside.{inside-column, inside-spelled}
-use Rattle.terms.specs.declared.inner.Stand.{Stand}
-use Rattle.terms.specs.declared.inner.Stand.TheVariants as stand
+use Rattle.terms.specs.Stands as stand
 use Rattle.dimensions.specs.Times.{ProductIs}
 use Rattle.dimensions.specs.Factors.{fromNone}
 
 -- the product's records at the place that s counted, if all was counted up to r
 abbrev pub productPut : Product → Stand → Stand → List ℕ → List ℕ
-productPut q (stand.Going k n) (stand.Going i m) d = sets d (n * 4) (words (writeProduct (productOf q)))
-productPut q (stand.Going k n) (stand.Refused r c) d = d
-productPut q (stand.Refused r c) s d = d
+productPut q (Ok tally) (Ok tally') d = sets d (tally.records * 4) (words (writeProduct (productOf q)))
+productPut q (Ok tally) (Err stop) d = d
+productPut q (Err stop) s d = d
 
 product-long : (q : Product) (s r : Stand) (d : List ℕ) → length (productPut q s r d) ≡ length d
-product-long q (stand.Going k n) (stand.Going i m) d = length-sets d (n * 4) (words (writeProduct (productOf q)))
-product-long q (stand.Going k n) (stand.Refused r c) d = refl
-product-long q (stand.Refused r c) s d = refl
+product-long q (Ok tally) (Ok tally') d = length-sets d (tally.records * 4) (words (writeProduct (productOf q)))
+product-long q (Ok tally) (Err stop) d = refl
+product-long q (Err stop) s d = refl
 
 -- ══ A dimension as a step ══
 
@@ -45,13 +42,13 @@ no-stand : {s : Stand} {k n c : ℕ} {r : Refusal} → s ≡ stand.Refused r c �
 no-stand e f = let z : ◌≡◌ {A = ℕ} 0 1 = cc in omega arith
 
 told_same : {s : Stand} {r r' : Refusal} {d d' : ℕ} → s ≡ stand.Refused r' d' → s ≡ stand.Refused r d → ◌≡◌ {A = Told Tree} (refusedAt (number_of r') (suc d')) (refusedAt (number_of r) (suc d))
-told_same {s} {r} {r'} {d} {d'} e f = let a : r' ≡ r = cc in let b : d' ≡ d = cc in rw (a, b)
+told_same {s} {r} {r'} {d} {d'} e f = let w = same-refused e f in rw (w.0, w.1)
 
 -- the column of a sign where the sheet goes on
 sign-place : {k : ℕ} {s : Stand} (c : Point) → k ≡ columnAt c → NotBad c → Halted c s → (i n : ℕ) → s ≡ stand.Going i n → k ≡ suc (place_of c)
-sign-place (point.At j) e b h i n f = e
-sign-place point.Past e b h i n f = absurd (h i n refl f)
-sign-place (point.Bad j) e b h i n f = absurd b
+sign-place (Ok (Some j)) e b h i n f = e
+sign-place (Ok None) e b h i n f = absurd (h i n refl f)
+sign-place (Err j) e b h i n f = absurd b
 
 written-length : (t : Tree) → length (writeProduct t) ≡ suc (length t)
 unfolding writeProduct
@@ -131,14 +128,14 @@ module _ (q : Product) {pool table pool' table' dst dst' : List ℕ} (s s₁ s�
   }
     where
       does : (i n i' n' : ℕ) → s ≡ stand.Going i n → s₃ ≡ stand.Going i' n' → (u : Stand) → s₁ ≡ u → (v : Stand) → s₂ ≡ v → Did (TextReading.productOf c fs e) (Writes writeProduct) old end i n i' n'
-      does i n i' n' p p₃ (stand.Refused r d) p₁ v p₂ = absurd (no-stand (stays-refused r d p₁) p₃)
-      does i n i' n' p p₃ (stand.Going j l) p₁ (stand.Refused r d) p₂ = absurd (no-stand (last ∙ ap (countOf (length (productOf q)) at₂) p₂) p₃)
-      does i n i' n' p p₃ (stand.Going j l) p₁ (stand.Going g h) p₂ = done_all i n j l g h i' n' p p₁ p₂ p₃
+      does i n i' n' p p₃ (Err stop) p₁ v p₂ = absurd (no-stand (stays-refused stop.why stop.at p₁) p₃)
+      does i n i' n' p p₃ (Ok tally) p₁ (Err stop) p₂ = absurd (no-stand (last ∙ ap (countOf (length (productOf q)) at₂) p₂) p₃)
+      does i n i' n' p p₃ (Ok tally) p₁ (Ok tally') p₂ = done_all i n tally.names tally.records tally'.names tally'.records i' n' p p₁ p₂ p₃
 
       refuses : (i n d : ℕ) (r : Refusal) → s ≡ stand.Going i n → s₃ ≡ stand.Refused r d → (u : Stand) → s₁ ≡ u → (v : Stand) → s₂ ≡ v → TextReading.productOf c fs e (sofar old i n) ≡ refusedAt (number_of r) (suc d)
-      refuses i n d r p p₃ (stand.Refused r' d') p₁ v p₂ = stop-first i n d' r' p p₁ ∙ told_same (stays-refused r' d' p₁) p₃
-      refuses i n d r p p₃ (stand.Going j l) p₁ (stand.Refused r' d') p₂ = stop-inside i n j l p p₁ d' r' p₂ ∙ told_same (last ∙ ap (countOf (length (productOf q)) at₂) p₂) p₃
-      refuses i n d r p p₃ (stand.Going j l) p₁ (stand.Going g h) p₂ = stop-last i n j l p p₁ g h d r p₂ p₃
+      refuses i n d r p p₃ (Err stop) p₁ v p₂ = stop-first i n stop.at stop.why p p₁ ∙ told_same (stays-refused stop.why stop.at p₁) p₃
+      refuses i n d r p p₃ (Ok tally) p₁ (Err stop) p₂ = stop-inside i n tally.names tally.records p p₁ stop.at stop.why p₂ ∙ told_same (last ∙ ap (countOf (length (productOf q)) at₂) p₂) p₃
+      refuses i n d r p p₃ (Ok tally) p₁ (Ok tally') p₂ = stop-last i n tally.names tally.records p p₁ tally'.names tally'.records d r p₂ p₃
 
 -- ══ A dimension, read and written ══
 

@@ -1,4 +1,4 @@
-// Each function reads on and at once does what is read, until the first refusal; after that it only reads on.
+//! Each function reads on and at once does what is read, until the first refusal; after that it only reads on.
 pub mod factors;
 pub mod whole;
 
@@ -20,16 +20,15 @@ ghost use Rattle.dimensions.specs.Powers.{powerStand, expIn, powered, ExpTold};
 ghost use Rattle.dimensions.specs.Times.{HeldIf, Timed};
 
 use exponents::{Exponent, Power};
-use names::Checked;
+use names::old::Checked;
 use products::inner::{multiplied, put};
 use products::{Factor, Product};
-use reading::inner::factors::{byte_at, refuse};
-use reading::inner::{Point, mark, next_is, next_sign, read_power};
+use reading::inner::{Point, byte_at, mark, next_is, next_sign, read_power, refuse};
 use reading::power_value;
 use terms::inner::naming::read_named;
-use terms::inner::{Stand, place_of};
+use terms::inner::{At, Stand, place_of};
 
-// What a factor is a power of: the kind of its record, and the name's number.
+/// What a factor is a power of: the kind of its record, and the name's number.
 #[derive(Clone, Copy)]
 pub struct Atomic {
     pub at: Point,
@@ -38,7 +37,7 @@ pub struct Atomic {
     pub number: u32,
 }
 
-// A power, or 1 where there is none.
+/// A power, or 1 where there is none.
 #[derive(Clone, Copy)]
 pub struct Powered {
     pub at: Point,
@@ -46,14 +45,14 @@ pub struct Powered {
     pub exp: Exponent,
 }
 
-// A product with one factor more, or as it was.
+/// A product with one factor more, or as it was.
 #[derive(Clone, Copy)]
 pub struct Multiplied {
     pub stand: Stand,
     pub product: Product,
 }
 
-// The kind that a mark begins; 0 for any other byte.
+/// The kind that a mark begins; 0 for any other byte.
 fn kind_for(b: u8) -> u32
     ensures { KindFor b result }
 {
@@ -65,7 +64,7 @@ fn kind_for(b: u8) -> u32
     }
 }
 
-// A mark and its name, which is entered.
+/// A mark and its name, which is entered.
 fn enter_atom(line: &[u8], p: Point, s: Stand, pool: &mut [u8], table: &mut [u32]) -> Atomic
     requires { Ready line.now p pool.old table.old s }
     ensures { (dst : List ℕ) → Done line.now atom atomNamed (AtomTold table.new result.kind result.number) p (lent pool.old table.old dst s) result.at (lent pool.new table.new dst result.stand) }
@@ -83,26 +82,22 @@ fn enter_atom(line: &[u8], p: Point, s: Stand, pool: &mut [u8], table: &mut [u32
     }
     let a = mark(line, c, b);
     let x = read_named(line, a, s, pool, table);
-    let at = x.at;
-    let stand = x.stand;
     Atomic {
-        at,
-        stand,
+        at: x.at,
+        stand: x.stand,
         kind,
         number: x.number,
     }
 }
 
-// 7 at the power's sign, unless the sheet is refused already.
+/// 7 at the power's sign, unless the sheet is refused already.
 fn power_stand(s: Stand, at: usize, v: &Power) -> Stand
     ensures { result ≡ powerStand s at v.now }
 {
-    match s {
-        Stand::Refused(r, c) => Stand::Refused(r, c),
-        Stand::Going(k, n) => match v {
-            Power::Value(_) => Stand::Going(k, n),
-            Power::Refused(why) => Stand::Refused(*why, at),
-        },
+    let tally = s?;
+    match v {
+        Power::Value(_) => Ok(tally),
+        Power::Refused(why) => Err(At { why: *why, at }),
     }
 }
 
@@ -115,7 +110,7 @@ fn exp_in(v: Power) -> Exponent
     }
 }
 
-// The power of a factor, if it has one: no name is entered, whatever pool and table hold.
+/// The power of a factor, if it has one: no name is entered, whatever pool and table hold.
 fn enter_power(line: &[u8], p: Point, s: Stand) -> Powered
     requires { PointIn line.now p }
     ensures { (goodExp (expOf result.exp) ≡ true) × ((pool table dst : List ℕ) → Ready line.now p pool table s → Done line.now powerThere powered (ExpTold result.exp) p (lent pool table dst s) result.at (lent pool table dst result.stand)) }
@@ -124,9 +119,8 @@ fn enter_power(line: &[u8], p: Point, s: Stand) -> Powered
         let c = next_sign(line, p);
         let e = read_power(line, p);
         let v = power_value(e.minus, e.num, e.den);
-        let at = e.end;
         return Powered {
-            at,
+            at: e.end,
             stand: power_stand(s, place_of(c), &v),
             exp: exp_in(v),
         };
@@ -138,7 +132,7 @@ fn enter_power(line: &[u8], p: Point, s: Stand) -> Powered
     }
 }
 
-// A product of one factor, or of none where its power is 0.
+/// A product of one factor, or of none where its power is 0.
 fn single(kind: u32, name: u32, exp: Exponent) -> Product
     requires { Kind kind }
     ensures { given result ≡ productValue (put (atomBy kind name) (expOf exp) []) }
@@ -150,7 +144,7 @@ fn single(kind: u32, name: u32, exp: Exponent) -> Product
     put(none, Factor { kind, name, exp })
 }
 
-// Multiplies by a factor: 7 or 8 at its mark, unless the sheet is refused already.
+/// Multiplies by a factor: 7 or 8 at its mark, unless the sheet is refused already.
 fn times(
     q: Product,
     kind: u32,
@@ -168,20 +162,21 @@ fn times(
     ensures { Timed pool.now table.now q kind name (expOf exp) at s result.stand result.product }
 {
     match s {
-        Stand::Refused(_, _) => Multiplied {
+        Err(_) => Multiplied {
             stand: s,
             product: q,
         },
-        Stand::Going(_, _) => {
+        Ok(_) => {
             let t = multiplied(q, single(kind, name, exp), pool, table);
-            let checked = t.checked;
-            match checked {
+            match t.checked {
                 Checked::Good => {
-                    let product = t.product;
-                    Multiplied { stand: s, product }
+                    Multiplied {
+                        stand: s,
+                        product: t.product,
+                    }
                 }
                 Checked::Refused(why) => Multiplied {
-                    stand: Stand::Refused(why, at),
+                    stand: Err(At { why, at }),
                     product: q,
                 },
             }

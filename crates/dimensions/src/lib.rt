@@ -1,4 +1,4 @@
-// Factors and dimensions of a line of text, multiplied while they are read.
+//! Factors and dimensions of a line of text, multiplied while they are read.
 #![tactic(auto)]
 
 pub mod inner;

@@ -2,16 +2,16 @@
 ghost use Rattle.std.specs.Prelude.{◌≤◌, length};
 
 use cases::{next_line, number_from};
-use names::{Answer, enter};
-use rules::Was;
+use names::enter;
+use rules::{Refusal, Was};
 
-fn is_new(got: Answer) -> bool {
+fn is_new(got: Result<(u32, Was), Refusal>) -> bool {
     match got {
-        Answer::Number(_, was) => match was {
+        Ok((_, was)) => match was {
             Was::New => true,
             Was::Known => false,
         },
-        Answer::Refused(_) => false,
+        Err(_) => false,
     }
 }
 

@@ -8,7 +8,7 @@ ghost use Rattle.products.specs.Told.{given, told};
 ghost use Rattle.factors.specs.Factors.{productAt, toldOf, written_of};
 
 use inner::{factor_at, put_factors};
-use names::Checked;
+use names::old::Checked;
 use products::{Product, Tried};
 use rules::FACTORS;
 use saying::told::{Told, refused, said, short};

@@ -1,5 +1,5 @@
 -- The checks of the judge at entry, and what is known where they are met.
-use Rattle.std.specs.Prelude.{◌≡◌, Bool, true, not, ◌&&◌, List, [], ◌∷◌, ◌++◌, map, ℕ, ◌/◌, ◌%◌, ◌≤◌, ◌<◌, eqb, length, replicate}
+use Rattle.std.specs.Prelude.{◌≡◌, Bool, true, not, ◌&&◌, List, [], ◌∷◌, ◌++◌, map, ℕ, ◌/◌, ◌%◌, ◌≤◌, ◌<◌, eqb, length, replicate, Result}
 use Rattle.std.proofs.Math.Path.{refl, sym}
 use Rattle.std.proofs.Common.{◌∙◌}
 use Rattle.std.proofs.Math.Bool.{false, and-eq-true_iff}
@@ -10,9 +10,11 @@ use Rattle.rules.specs.Calls.{Entry, shortLists, shortNumbers, tableKept, setGiv
 use Rattle.rules.specs.Judging.{judge}
 use Rattle.rules.specs.Names.{table_of, numbersOf, tableGood, lentTable}
 use Rattle.rules.specs.Reading.{readBound}
+use Rattle.rules.specs.Refusals.{told}
 use Rattle.rules.specs.Trees.{Open, Con, opensCon}
 use Rattle.rules.specs.WellFormed.{rising}
 use Rattle.rules.specs.Writing.{word_of}
+use Rattle.rules.specs.declared.Refusal.{Refusal}
 use Rattle.laws.specs.Checks.{need-passed, first-passed, next-passed}
 use Rattle.laws.specs.Lists.{clash}
 use Rattle.laws.specs.NameTable.{Good}
@@ -22,14 +24,12 @@ use Rattle.records.specs.Schemes.{bound-reader}
 use Rattle.queries.specs.Marks.{Marks}
 use Rattle.entries.specs.Entries.{variablesOf, slots_of}
 use Rattle.entries.specs.declared.inner.Slots.{Slots}
-use Rattle.trials.specs.Told.{told}
-use Rattle.trials.specs.declared.Verdict.{Verdict}
 use Rattle.judging.specs.Told.{judgedAs}
 
--- the slots, the repeat and the count of entries
+-- the slots, the repeat and the count of entries; where they are too many, the repeat is not looked for
 pub record Slotted (es : List Entry) (s : Slots) (repeated : Bool) (count : ℕ) : Type 0 where
   pub slots : s ≡ slots_of es
-  pub again : repeated ≡ not (differ (variablesOf es))
+  pub again : count ≤ 2048 → repeated ≡ not (differ (variablesOf es))
   pub many : count ≡ length es
 
 -- 10
@@ -125,19 +125,27 @@ module _ (pool table : List ℕ) where
     pub record CameIn : Type 0 where
       pub cons : List (Con ℕ)
       pub known : Entered set types cons
+      pub few : length es ≤ 2048
       pub rest : judgedSet (table_of pool table) set es types bounds ≡ judgedRest es types bounds cons
 
-    short-two : (a b c d : Bool) → (need (a && (b && (c && true))) 8 >> need d 8) ≡ got tt → (a ≡ true) × (b ≡ true)
-    short-two true true c d e = (refl, refl)
-    short-two true false c d e = clash e
-    short-two false b c d e = clash e
+    short-all : (a b c d : Bool) → (need (a && (b && (c && true))) 8 >> need d 8) ≡ got tt → (a ≡ true) × ((b ≡ true) × (d ≡ true))
+    short-all true true true true e = (refl, (refl, refl))
+    short-all true true true false e = clash e
+    short-all true true false d e = clash e
+    short-all true false c d e = clash e
+    short-all false b c d e = clash e
 
     pub came-in : lentTable pool table ≡ got tt → entered set es types bounds ≡ got tt → CameIn
     unfolding judgedSet shorts
     came-in l e =
         let (cs, (s, (k, (g, w)))) = met shorts (tableKept (table_of pool table)) (setGiven (table_of pool table) set) (judgedRest es types bounds) e in
-        let p = short-two (leb (length set) 8192) (leb (length types) 8192) (leb (length bounds) 8192) (leb (length es) 2048) (sym (tests _ _ _ _ refl refl refl refl) ∙ s) in
-        record { cons = cs; known = record { good = table-good l k; given = g; short = leb-true (length set) 8192 p.0; types-short = leb-true (length types) 8192 p.1 }; rest = w }
+        let p = short-all (leb (length set) 8192) (leb (length types) 8192) (leb (length bounds) 8192) (leb (length es) 2048) (sym (tests _ _ _ _ refl refl refl refl) ∙ s) in
+        record {
+          cons = cs;
+          known = record { good = table-good l k; given = g; short = leb-true (length set) 8192 p.0; types-short = leb-true (length types) 8192 p.1.0 };
+          few = leb-true (length es) 2048 p.1.1;
+          rest = w;
+        }
 
     pub kept_out : (n : ℕ) → entered set es types bounds ≡ refused n → judgedSet (table_of pool table) set es types bounds ≡ refused n
     unfolding judgedSet shorts
@@ -182,10 +190,10 @@ module _ (pool table : List ℕ) where
 -- ══ The call ══
 
 module _ (pool table set types bounds work : List ℕ) (es : List Entry) where
-  pub call-short : (v : Verdict) → told v ≡ refused 10 → lentAll pool table work ≡ refused 10 → judgedAs v work ≡ judgeCall pool table set es types bounds work
+  pub call-short : (v : Result Bool Refusal) → told v ≡ refused 10 → lentAll pool table work ≡ refused 10 → judgedAs v work ≡ judgeCall pool table set es types bounds work
   unfolding judgeCall workAfter
   call-short v i e = rw (e, i)
 
-  pub called : (v : Verdict) (w work' : List ℕ) → length w ≡ length work → lentAll pool table work ≡ got tt → told v ≡ judgedSet (table_of pool table) set es types bounds → work' ≡ replicate (length w) 0 → judgedAs v work' ≡ judgeCall pool table set es types bounds work
+  pub called : (v : Result Bool Refusal) (w work' : List ℕ) → length w ≡ length work → lentAll pool table work ≡ got tt → told v ≡ judgedSet (table_of pool table) set es types bounds → work' ≡ replicate (length w) 0 → judgedAs v work' ≡ judgeCall pool table set es types bounds work
   unfolding judgeCall workAfter
   called v w work' n e a z = rw (e, a, z, n)

@@ -1,8 +1,8 @@
--- The judge's verdict with the work buffer as document 01 tells them. Assumes nothing: this is a definition.
-use Rattle.std.specs.Prelude.{List, ℕ}
+-- The judge's answer with the work buffer, as the definitions tell them.
+use Rattle.std.specs.Prelude.{Bool, List, ℕ, Result}
 use Rattle.rules.specs.Calls.{Judged}
-use Rattle.trials.specs.Told.{told}
-use Rattle.trials.specs.declared.Verdict.{Verdict}
+use Rattle.rules.specs.Refusals.{told}
+use Rattle.rules.specs.declared.Refusal.{Refusal}
 
-abbrev pub judgedAs : Verdict → List ℕ → Judged
-judgedAs v work = record { answer = told v; work = work }
+abbrev pub judgedAs : Result Bool Refusal → List ℕ → Judged
+judgedAs answer work = record { answer = told answer; work = work }

@@ -3,32 +3,27 @@ ghost use Rattle.std.specs.Prelude.{◌≡◌, false, List, ℕ, ◌≤◌, leng
 ghost use Rattle.rules.specs.Base.{got, need};
 ghost use Rattle.rules.specs.Calls.{Entry, judgedSet, judgeCall};
 ghost use Rattle.rules.specs.Names.{table_of, lentTable};
+ghost use Rattle.rules.specs.Refusals.{told};
 ghost use Rattle.rules.specs.Trees.{Con};
 ghost use Rattle.laws.specs.NameTable.{Good};
-ghost use Rattle.names.specs.Told.{toldChecked};
-ghost use Rattle.trials.specs.Told.{told};
 ghost use Rattle.judging.specs.Told.{judgedAs};
 ghost use Rattle.judging.specs.Entry.{lentAll, Slotted, entered, Entered, BoundsGiven, judgedRest};
 
 use entries::inner::{Slots, fill};
 use lending::inner::clear;
-use names::Checked;
+use names::old::Checked;
 use proposals::inner::bounds::{mark_all, rise};
 use proposals::inner::mixed::apart;
 use records::inner::bounds_good;
 use records::is_set;
 use rules::{NAMES, POOL_BYTES, RECORD_WORDS, RECORDS, Refusal, TABLE_WORDS, WORK_WORDS};
-use trials::Verdict;
 use trials::inner::try_all;
 
 // Is everything that is lent long enough?
 fn lent(pool: &[u8], table: &[u32], work: &[u32]) -> bool
     ensures { need result 10 ≡ lentAll pool.now table.now work.now }
 {
-    if pool.len() < POOL_BYTES {
-        return false;
-    }
-    if table.len() < TABLE_WORDS {
+    if pool.len() < POOL_BYTES || table.len() < TABLE_WORDS {
         return false;
     }
     WORK_WORDS <= work.len()
@@ -42,26 +37,27 @@ fn enter(
     types: &[u32],
     bounds: &[u32],
     count: usize,
-) -> Checked
+) -> Result<(), Refusal>
     requires { lentTable pool.now table.now ≡ got tt }
-    ensures { (es : List Entry) → count ≡ length es → toldChecked result ≡ entered pool.now table.now set.now es types.now bounds.now }
+    ensures { (es : List Entry) → count ≡ length es →
+        told result ≡ entered pool.now table.now set.now es types.now bounds.now }
 {
-    if RECORD_WORDS < types.len() {
-        return Checked::Refused(Refusal::TooLarge);
-    }
-    if RECORD_WORDS < bounds.len() {
-        return Checked::Refused(Refusal::TooLarge);
+    if RECORD_WORDS < types.len() || RECORD_WORDS < bounds.len() {
+        return Err(Refusal::TooLarge);
     }
     if RECORDS < count {
-        return Checked::Refused(Refusal::TooLarge);
+        return Err(Refusal::TooLarge);
     }
-    is_set(pool, table, set)
+    match is_set(pool, table, set) {
+        Checked::Good => Ok(()),
+        Checked::Refused(why) => Err(why),
+    }
 }
 
 // Are these bounds with names that rise? Then they are marked.
 fn bounds_given(pool: &[u8], table: &[u32], bounds: &[u32], m: &mut [bool; NAMES]) -> bool
     requires good { Good pool.now table.now }
-    requires m_value { m.old ≡ replicate 256 false }
+    requires none_marked { m.old ≡ replicate 256 false }
     ensures { BoundsGiven pool.now table.now bounds.now m.new result }
 {
     let good = bounds_good(pool, table, 0, bounds, 0);
@@ -89,22 +85,24 @@ fn judge_rest(
     count: usize,
     s: Slots,
     work: &mut [u32],
-) -> Verdict
-    requires by_index { (cs : List (Con ℕ)) × Entered pool.now table.now set.now types.now cs }
+) -> Result<bool, Refusal>
+    requires entered { (cs : List (Con ℕ)) × Entered pool.now table.now set.now types.now cs }
     requires slotted { (es : List Entry) × Slotted es s repeated count }
-    requires in_bounds { 16384 ≤ length work.old }
-    ensures { (cs : List (Con ℕ)) (es : List Entry) → Entered pool.now table.now set.now types.now cs → Slotted es s repeated count → told result ≡ judgedRest pool.now table.now es types.now bounds.now cs }
+    requires few { count ≤ 2048 }
+    requires work_long { 16384 ≤ length work.old }
+    ensures { (cs : List (Con ℕ)) (es : List Entry) → Entered pool.now table.now set.now types.now cs → Slotted es s repeated count →
+        told result ≡ judgedRest pool.now table.now es types.now bounds.now cs }
 {
     let mut places = [0u32; NAMES];
     if !fill(pool, table, types, repeated, count, s, &mut places) {
-        return Verdict::Refused(Refusal::Malformed);
+        return Err(Refusal::Malformed);
     }
     let mut m = [false; NAMES];
     if !bounds_given(pool, table, bounds, &mut m) {
-        return Verdict::Refused(Refusal::Malformed);
+        return Err(Refusal::Malformed);
     }
     if !apart(set, types, &places) {
-        return Verdict::Refused(Refusal::Mixed);
+        return Err(Refusal::Mixed);
     }
     try_all(pool, table, set, &places, types, &m, work)
 }
@@ -120,19 +118,18 @@ fn judge_set(
     count: usize,
     s: Slots,
     work: &mut [u32],
-) -> Verdict
-    requires table_value { lentTable pool.now table.now ≡ got tt }
+) -> Result<bool, Refusal>
+    requires table_lent { lentTable pool.now table.now ≡ got tt }
     requires slotted { (es : List Entry) × Slotted es s repeated count }
-    requires in_bounds { 16384 ≤ length work.old }
-    ensures { (es : List Entry) → Slotted es s repeated count → told result ≡ judgedSet (table_of pool.now table.now) set.now es types.now bounds.now }
+    requires work_long { 16384 ≤ length work.old }
+    ensures { (es : List Entry) → Slotted es s repeated count →
+        told result ≡ judgedSet (table_of pool.now table.now) set.now es types.now bounds.now }
 {
-    match enter(pool, table, set, types, bounds, count) {
-        Checked::Good => { judge_rest(pool, table, set, types, bounds, repeated, count, s, work) }
-        Checked::Refused(k) => Verdict::Refused(k),
-    }
+    enter(pool, table, set, types, bounds, count)?;
+    judge_rest(pool, table, set, types, bounds, repeated, count, s, work)
 }
 
-// The whole call.
+// The whole call. Of more than 2,048 entries it is not asked whether a name repeats.
 pub fn judge_slots(
     pool: &[u8],
     table: &[u32],
@@ -143,14 +140,15 @@ pub fn judge_slots(
     count: usize,
     s: Slots,
     work: &mut [u32],
-) -> Verdict
+) -> Result<bool, Refusal>
     requires { (es : List Entry) × Slotted es s repeated count }
-    ensures { (es : List Entry) → Slotted es s repeated count → judgedAs result work.new ≡ judgeCall pool.now table.now set.now es types.now bounds.now work.old }
+    ensures { (es : List Entry) → Slotted es s repeated count →
+        judgedAs result work.new ≡ judgeCall pool.now table.now set.now es types.now bounds.now work.old }
 {
     if !lent(pool, table, work) {
-        return Verdict::Refused(Refusal::ShortBuffer);
+        return Err(Refusal::ShortBuffer);
     }
-    let v = judge_set(pool, table, set, types, bounds, repeated, count, s, work);
+    let answer = judge_set(pool, table, set, types, bounds, repeated, count, s, work);
     clear(work);
-    v
+    answer
 }

@@ -11,9 +11,12 @@ ghost use Rattle.judging.specs.Told.{judgedAs};
 use entries::Entry;
 use entries::inner::{repeats, slots_of};
 use inner::judge_slots;
-use trials::Verdict;
+use rules::{RECORDS, Refusal};
 
-// Yes, no or the refusal; the work buffer is left all zero.
+/// Is each constraint of the set true once the entries' bindings are put in? `bounds` are names that any dimension may stand for.
+///
+/// The pool takes 8,192 bytes, the table 257 words and the work buffer 16,384 (else 10); a set, types and bounds of 8,192 words, and 2,048 entries,
+/// are the most that is taken (else 8, before an entry is looked at). The work buffer is left all zero, but for a refusal 10.
 pub fn judge(
     pool: &[u8],
     table: &[u32],
@@ -22,10 +25,20 @@ pub fn judge(
     types: &[u32],
     bounds: &[u32],
     work: &mut [u32],
-) -> Verdict
+) -> Result<bool, Refusal>
     ensures { judgedAs result work.new ≡ judgeCall pool.now table.now set.now (told entries.now) types.now bounds.now work.old }
 {
-    let r = repeats(entries);
-    let s = slots_of(entries);
-    judge_slots(pool, table, set, types, bounds, r, entries.len(), s, work)
+    let repeated = entries.len() <= RECORDS && repeats(entries);
+    let slots = slots_of(entries);
+    judge_slots(
+        pool,
+        table,
+        set,
+        types,
+        bounds,
+        repeated,
+        entries.len(),
+        slots,
+        work,
+    )
 }

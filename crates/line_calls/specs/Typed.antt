@@ -1,5 +1,5 @@
 -- The type of a variable once the set was solved and judged, and what each answer of the code makes of it.
-use Rattle.std.specs.Prelude.{◌≡◌, refl, Bool, List, [], ◌∷◌, ◌++◌, map, ℕ, ◌+◌, ◌*◌, ◌-◌, ◌≤◌, length, take, drop}
+use Rattle.std.specs.Prelude.{◌≡◌, refl, Bool, List, [], ◌∷◌, ◌++◌, map, ℕ, ◌+◌, ◌*◌, ◌-◌, ◌≤◌, length, take, drop, Result, Ok, Err}
 use Rattle.std.proofs.Math.Path.{sym, ap}
 use Rattle.std.proofs.Common.{subst, ◌∙◌, arith, take_at}
 use Rattle.std.proofs.Math.Bool.{true, false}
@@ -10,7 +10,7 @@ use Rattle.rules.specs.Base.{Got, got, refused, ◌>>=◌, ◌>>◌, bounded}
 use Rattle.rules.specs.Trees.{var, Ty, opened, Con, Binding, size}
 use Rattle.rules.specs.Replacing.{Look, replaceTy, bindings}
 use Rattle.rules.specs.Judging.{judge}
-use Rattle.rules.specs.Refusals.{number_of}
+use Rattle.rules.specs.Refusals.{number_of, told}
 use Rattle.rules.specs.Writing.{Rec, words, word_of, writeTy}
 use Rattle.rules.specs.Lines.{its, agreed, agreedSet}
 use Rattle.rules.specs.declared.Refusal.{Refusal}
@@ -29,10 +29,7 @@ use Rattle.replacing.specs.Runs.{LookedUp, found, not_found, looked-good}
 use Rattle.replacing.specs.declared.inner.bound.Found.{Found}
 use Rattle.replacing.specs.declared.inner.bound.Found.TheVariants.{At, Nothing}
 use Rattle.replacing.specs.Well.{Lent}
-use Rattle.trials.specs.Told as trials
 use Rattle.trials.specs.Trials.{Put}
-use Rattle.trials.specs.declared.Verdict.{Verdict}
-use Rattle.trials.specs.declared.Verdict.TheVariants as verdict
 use Rattle.lending.specs.Told.{Front, Made}
 use Rattle.lending.specs.declared.Answer.{Answer}
 use Rattle.lending.specs.declared.Answer.TheVariants.{Records, Refused}
@@ -116,19 +113,19 @@ module _ (pool table : List ℕ) where
 
   -- ══ The judge's verdicts ══
 
-  module _ (cs : List (Con ℕ)) (bs : List (Binding ℕ)) (ns : List ℕ) (v : ℕ) {r : Verdict} (h : trials.told r ≡ judge (numbers pool table) bounded bs ns cs) where
-    pub judged-no : (w : List ℕ) → r ≡ verdict.No → Made (judgedType cs bs ns v) w (Refused NotConfirmed)
+  module _ (cs : List (Con ℕ)) (bs : List (Binding ℕ)) (ns : List ℕ) (v : ℕ) {r : Result Bool Refusal} (h : told r ≡ judge (numbers pool table) bounded bs ns cs) where
+    pub judged-no : (w : List ℕ) → r ≡ Ok false → Made (judgedType cs bs ns v) w (Refused NotConfirmed)
     unfolding agreed
-    judged-no w i = let e : judge (numbers pool table) bounded bs ns cs ≡ got false = sym h ∙ ap trials.told i in refused-made (judgedType cs bs ns v) w NotConfirmed (rw e)
+    judged-no w i = let e : judge (numbers pool table) bounded bs ns cs ≡ got false = sym h ∙ ap told i in refused-made (judgedType cs bs ns v) w NotConfirmed (rw e)
 
-    pub judged-refused : (w : List ℕ) (k : Refusal) → r ≡ verdict.Refused k → Made (judgedType cs bs ns v) w (Refused k)
+    pub judged-refused : (w : List ℕ) (k : Refusal) → r ≡ Err k → Made (judgedType cs bs ns v) w (Refused k)
     unfolding agreed
-    judged-refused w k i = let e : judge (numbers pool table) bounded bs ns cs ≡ refused (number_of k) = sym h ∙ ap trials.told i in refused-made (judgedType cs bs ns v) w k (rw e)
+    judged-refused w k i = let e : judge (numbers pool table) bounded bs ns cs ≡ refused (number_of k) = sym h ∙ ap told i in refused-made (judgedType cs bs ns v) w k (rw e)
 
-    pub judged-yes : (w w' : List ℕ) (n : ℕ) → r ≡ verdict.Yes → 16384 ≤ length w → Typed (bindings (numbers pool table) bs) v w w' n → Made (judgedType cs bs ns v) w' (Records n)
+    pub judged-yes : (w w' : List ℕ) (n : ℕ) → r ≡ Ok true → 16384 ≤ length w → Typed (bindings (numbers pool table) bs) v w w' n → Made (judgedType cs bs ns v) w' (Records n)
     unfolding agreed replaceTy
     judged-yes w w' n i room t =
-        let e : judge (numbers pool table) bounded bs ns cs ≡ got true = sym h ∙ ap trials.told i in
+        let e : judge (numbers pool table) bounded bs ns cs ≡ got true = sym h ∙ ap told i in
         let k = size-ty t.type in
         records-made (judgedType cs bs ns v) (writeTy t.type) w w' n (rw (e, t.is)) room t.buffer (omega (arith, t.few)) (omega (arith, t.many))
 

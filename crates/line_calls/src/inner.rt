@@ -16,7 +16,7 @@ ghost use Rattle.line_calls.specs.Whole.{LineHeld, LineTyped};
 use lending::Answer;
 use line_steps::inner::writing::{Put, put_line};
 use lines::inner::enter_line;
-use names::Checked;
+use names::old::Checked;
 use places::inner::fill;
 use proposals::inner::bounds::mark_all;
 use queries::inner::is_unmixed;
@@ -26,7 +26,6 @@ use replacing::inner::bound::{Found, look_up};
 use rules::{NAMES, RECORD_WORDS, Refusal};
 use solving::Outcome;
 use solving::inner::run_alone;
-use trials::Verdict;
 use trials::inner::try_all;
 
 // Writes the type of a variable, with the bindings put in, to the front of a buffer: how many records.
@@ -70,9 +69,9 @@ fn confirm(
     let to = from + n * 4;
     mark_all(&found[from..to], &mut m);
     match try_all(pool, table, set, &places, found, &m, work) {
-        Verdict::Yes => Answer::Records(put_type(&places, found, v, work)),
-        Verdict::No => Answer::Refused(Refusal::NotConfirmed),
-        Verdict::Refused(k) => Answer::Refused(k),
+        Ok(true) => Answer::Records(put_type(&places, found, v, work)),
+        Ok(false) => Answer::Refused(Refusal::NotConfirmed),
+        Err(k) => Answer::Refused(k),
     }
 }
 

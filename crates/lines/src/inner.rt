@@ -8,7 +8,7 @@ ghost use Rattle.rules.specs.Names.{Table, table_of};
 ghost use Rattle.rules.specs.Writing.{Rec, signed};
 ghost use Rattle.rules.specs.Calls.{type_at};
 ghost use Rattle.laws.specs.NameTable.{Good};
-ghost use Rattle.names.specs.Told.{toldChecked};
+ghost use Rattle.names.specs.Old.{toldChecked};
 ghost use Rattle.records.specs.Views.{recs};
 ghost use Rattle.rules.specs.Steps.{four, isConstant, isReference, isRaise, zeros, constantAt, referenceTo, raiseBy, step_of, stepGiven, lineGiven};
 ghost use Rattle.rules.specs.Lines.{lineLent, lineShort};
@@ -18,8 +18,8 @@ ghost use Rattle.lines.specs.StepLists.{isGiven, stepsFrom, operandsOf, wholeFro
 use exponents::Exponent;
 use fresh::{all_held, is_fresh};
 use lending::lent;
-use names::Checked;
 use names::inner::is_good;
+use names::old::Checked;
 use queries::inner::closed_at;
 use records::inner::{Ended, type_end};
 use rules::{NESTED, RECORD_WORDS, RECORDS, Refusal};

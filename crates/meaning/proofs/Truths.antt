@@ -26,22 +26,11 @@ use Rattle.records.specs.declared.View.{View}
 use Rattle.records.specs.declared.View.TheVariants as view
 use Rattle.meaning.specs.Truth.{Within, Found, Told, DimTrue, ScalarTrue, FieldTrue, ConTrue}
 use Rattle.meaning.specs.TruthLaws.{field-hit, field-miss}
-use Rattle.meaning.specs.declared.inner.truth.Place.{Place}
-use Rattle.meaning.specs.declared.inner.truth.Place.TheVariants.{At, Nowhere}
+use Rattle.std.specs.Prelude as place
 use Rattle.meaning.proofs.Arms.{Tagged}
 use Rattle.meaning.proofs.Steps.{Row, Meant}
 
 -- ══ Marks ══
-
-pub only-hit : (a b : Bool) → (not b && a) ≡ true → (a ≡ true → b ≡ true) → ⊥
-only-hit true true e f = true≢false (sym e)
-only-hit false true e f = true≢false (sym e)
-only-hit true false e f = true≢false (sym (f refl))
-only-hit false false e f = true≢false (sym e)
-
-pub only-miss : (a b : Bool) → (not b && a) ≡ false → a ≡ true → b ≡ true
-only-miss a true e k = refl
-only-miss a false e k = absurd (true≢false (sym k ∙ e))
 
 pub within_on : (v b : List Bool) (i : ℕ) → Within v b i → (get_or v i false ≡ true → get_or b i false ≡ true) → Within v b (i + 1)
 within_on v b i h f x l k = go (eqb x i) refl
@@ -90,15 +79,15 @@ abbrev unconstrained : List ℕ
 unconstrained = 0 ∷ 1 ∷ 2 ∷ 3 ∷ 4 ∷ 5 ∷ 6 ∷ 7 ∷ 12 ∷ 13 ∷ 14 ∷ 15 ∷ 16 ∷ []
 
 module _ (s : List ℕ) where
-  nothing-found : (o : Option (Ty ℕ)) (P : Ty ℕ → Bool) → Found s Nowhere o → false ≡ and' o P
+  nothing-found : (o : Option (Ty ℕ)) (P : Ty ℕ → Bool) → Found s place.None o → false ≡ and' o P
   nothing-found none P k = refl
   nothing-found (some t) P k = absurd k
 
-  found_type : (i : ℕ) (o : Option (Ty ℕ)) → Found s (At i) o → (t : Ty ℕ) × Holds s t i
+  found_type : (i : ℕ) (o : Option (Ty ℕ)) → Found s (place.Some i) o → (t : Ty ℕ) × Holds s t i
   found_type i none k = absurd k
   found_type i (some t) k = (t, k)
 
-  type-found : (i : ℕ) (o : Option (Ty ℕ)) (P : Ty ℕ → Bool) (r : Bool) → Found s (At i) o → ((t : Ty ℕ) → Holds s t i → r ≡ P t) → r ≡ and' o P
+  type-found : (i : ℕ) (o : Option (Ty ℕ)) (P : Ty ℕ → Bool) (r : Bool) → Found s (place.Some i) o → ((t : Ty ℕ) → Holds s t i → r ≡ P t) → r ≡ and' o P
   type-found i none P r k f = absurd k
   type-found i (some t) P r k f = f t k
 
@@ -106,16 +95,16 @@ module _ (s : List ℕ) where
   FieldRow at n = (fs : Fields ℕ) × HoldsFields s fs at × (countFields fs ≡ n)
 
   module _ (at n x : ℕ) where
-    abbrev pub Sought : Place → Type 0
+    abbrev pub Sought : place.Option ℕ → Type 0
     Sought r = (fs : Fields ℕ) (names : List Bytes) → HoldsFields s fs at → countFields fs ≡ n → Found s r (fieldIn (numbered names) x fs)
 
-    pub sought-none : n ≡ 0 → Sought Nowhere
+    pub sought-none : n ≡ 0 → Sought place.None
     unfolding countFields fieldIn
     sought-none z noFields names h c = tt
     sought-none z (field y t fs) names h c = absurd (omega arith)
 
     module _ (nz : n ≡ 0 → ⊥) {v : View} (p : v ≡ viewAt s at) where
-      pub sought-unsaid : Tagged unfielded v → Sought Nowhere
+      pub sought-unsaid : Tagged unfielded v → Sought place.None
       unfolding countFields Holds
       sought-unsaid k noFields names h c = absurd (nz (sym c))
       sought-unsaid k (field y t fs) names h c = absurd (miss unfielded 6 tt (subst (Tagged unfielded) (p ∙ h.0) k))
@@ -124,12 +113,12 @@ module _ (s : List ℕ) where
         same_name : (m : ℕ) → viewAt s at ≡ view.Field m → y ≡ m
         same_name m e = let z : view.Field y ≡ view.Field m = sym q ∙ p ∙ e in cc
 
-        pub sought-hit : x ≡ y → Sought (At (at + 1))
+        pub sought-hit : x ≡ y → Sought (place.Some (at + 1))
         unfolding countFields Holds
         sought-hit e noFields names h c = absurd (nz (sym c))
-        sought-hit e (field m t fs) names h c = subst (Found s (At (at + 1))) (sym (field-hit (numbered names) x m t fs (e ∙ same_name m h.0))) h.1
+        sought-hit e (field m t fs) names h c = subst (Found s (place.Some (at + 1))) (sym (field-hit (numbered names) x m t fs (e ∙ same_name m h.0))) h.1
 
-        pub sought-on : (e : ℕ) (r : Place) → (x ≡ y → ⊥) → ((t : Ty ℕ) → Holds s t (at + 1) → e ≡ at + 1 + size t) → ((fs : Fields ℕ) (names : List Bytes) → HoldsFields s fs e → countFields fs ≡ n - 1 → Found s r (fieldIn (numbered names) x fs)) → Sought r
+        pub sought-on : (e : ℕ) (r : place.Option ℕ) → (x ≡ y → ⊥) → ((t : Ty ℕ) → Holds s t (at + 1) → e ≡ at + 1 + size t) → ((fs : Fields ℕ) (names : List Bytes) → HoldsFields s fs e → countFields fs ≡ n - 1 → Found s r (fieldIn (numbered names) x fs)) → Sought r
         unfolding countFields Holds
         sought-on e r f he g noFields names h c = absurd (nz (sym c))
         sought-on e r f he g (field m t fs) names h c =
@@ -204,26 +193,26 @@ module _ (s : List ℕ) where
       pub struct_fields : Two at → (e : ℕ) → Past s (at + 1) n e → FieldRow e m
       struct_fields (l, r, h, j) e f = by-view s (λ t. FieldRow e m) l at h (sym p ∙ q) (λ as' fs c d a b. (fs, subst (HoldsFields s fs) (sym (f as' a c)) b, d))
 
-      module _ (e : ℕ) (f : Past s (at + 1) n e) (w : Place) (g : Sought e m x w) where
+      module _ (e : ℕ) (f : Past s (at + 1) n e) (w : place.Option ℕ) (g : Sought e m x w) where
         -- what was found, of the struct that stands there
         found : (l : Ty ℕ) (names : List Bytes) → Holds s l at → (P : Ty ℕ → Type 0) → ((as' : Tys ℕ) (fs : Fields ℕ) → Found s w (fieldIn (numbered names) x fs) → P (struct y as' fs)) → P l
         found l names h P k = by-view s P l at h (sym p ∙ q) (λ as' fs c d a b. k as' fs (g fs names (subst (HoldsFields s fs) (sym (f as' a c)) b) d))
 
-        pub field-nowhere : w ≡ Nowhere → FieldTrue s at x false
+        pub field-nowhere : w ≡ place.None → FieldTrue s at x false
         unfolding holds
         field-nowhere i l u names xs h j =
-            found l names h (λ l. false ≡ holds (numbered names) xs (hasField x l u)) (λ as' fs k. nothing-found (fieldIn (numbered names) x fs) (λ t. means (numbered names) t u) (subst (λ (z : Place). Found s z (fieldIn (numbered names) x fs)) i k))
+            found l names h (λ l. false ≡ holds (numbered names) xs (hasField x l u)) (λ as' fs k. nothing-found (fieldIn (numbered names) x fs) (λ t. means (numbered names) t u) (subst (λ (z : place.Option ℕ). Found s z (fieldIn (numbered names) x fs)) i k))
 
-        module _ {i : ℕ} (z : w ≡ At i) where
+        module _ {i : ℕ} (z : w ≡ place.Some i) where
           pub field-asks : Two at → (t : Ty ℕ) × Holds s t i
-          field-asks (l, r, h, j) = found l [] h (λ l. (t : Ty ℕ) × Holds s t i) (λ as' fs k. found_type i (fieldIn (numbered []) x fs) (subst (λ (z : Place). Found s z (fieldIn (numbered []) x fs)) z k))
+          field-asks (l, r, h, j) = found l [] h (λ l. (t : Ty ℕ) × Holds s t i) (λ as' fs k. found_type i (fieldIn (numbered []) x fs) (subst (λ (z : place.Option ℕ). Found s z (fieldIn (numbered []) x fs)) z k))
 
           pub field-met : (b : ℕ) (r : Bool) → ((t : Ty ℕ) → Holds s t at → b ≡ at + size t) → Meant s i s b r → FieldTrue s at x r
           unfolding holds
           field-met b r hb d l u names xs h j =
               let u' : Holds s u b = subst (Holds s u) (sym (hb l h)) j in
               found l names h (λ l. r ≡ holds (numbered names) xs (hasField x l u)) (λ as' fs k.
-              type-found i (fieldIn (numbered names) x fs) (λ t. means (numbered names) t u) r (subst (λ (z : Place). Found s z (fieldIn (numbered names) x fs)) z k) (λ t ht. d t u names ht u'))
+              type-found i (fieldIn (numbered names) x fs) (λ t. means (numbered names) t u) r (subst (λ (z : place.Option ℕ). Found s z (fieldIn (numbered names) x fs)) z k) (λ t ht. d t u names ht u'))
 
   -- the type after the first
   pub second : (at b : ℕ) → ((t : Ty ℕ) → Holds s t at → b ≡ at + size t) → Two at → (t : Ty ℕ) × Holds s t b

@@ -1,24 +1,23 @@
 -- What the tests of a held constraint answer.
 use Rattle.std.specs.Prelude.{◌≡◌, Bool, true, false, List, ℕ, ◌+◌, ◌<◌, get_or}
+use Rattle.std.specs.Prelude as place
 use Rattle.std.proofs.Math.Option.{Option, none, some}
 use Rattle.rules.specs.Names.{Bytes, numbered}
 use Rattle.rules.specs.Trees.{Product, Ty, Con, isDim, is_scalar, hasField, opens, opensCon, size}
 use Rattle.rules.specs.Meaning.{holds}
 use Rattle.records.specs.Holds.{HoldsProduct, Holds, HoldsCon}
 use Rattle.queries.specs.Marks.{Marks, Small}
-use Rattle.meaning.specs.declared.inner.truth.Place.{Place}
-use Rattle.meaning.specs.declared.inner.truth.Place.TheVariants.{At, Nowhere}
 
 -- below n, what is marked in v is marked in b
 abbrev pub Within : List Bool → List Bool → ℕ → Type 0
 Within v b n = (x : ℕ) → x < n → get_or v x false ≡ true → get_or b x false ≡ true
 
 -- the type, if there is one, stands there
-abbrev pub Found : List ℕ → Place → Option (Ty ℕ) → Type 0
-Found s (At i) (some t) = Holds s t i
-Found s (At i) none = ⊥
-Found s Nowhere (some t) = ⊥
-Found s Nowhere none = Unit {0}
+abbrev pub Found : List ℕ → place.Option ℕ → Option (Ty ℕ) → Type 0
+Found s (place.Some i) (some t) = Holds s t i
+Found s (place.Some i) none = ⊥
+Found s place.None (some t) = ⊥
+Found s place.None none = Unit {0}
 
 module _ (s : List ℕ) (at : ℕ) where
   -- of a type whose names can be marked, and the bounds that are marked

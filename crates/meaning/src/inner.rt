@@ -1,4 +1,5 @@
-// Comparing types that are known to be held: a product that is one variable to the power 1 reads as that variable, structs count by name and arguments only.
+// Comparing types that are known to be held: a product that is one variable to the power 1 reads as that variable, and structs count by their names and
+// arguments only.
 pub mod truth;
 
 ghost use Rattle.std.specs.Prelude.{◌≡◌, List, [], ◌∷◌, ℕ, ◌+◌, ◌/◌, ◌≤◌, length};
@@ -15,29 +16,18 @@ use queries::inner::end_of;
 use records::seen::view_at;
 use records::{Atom, Basic, Open, View};
 
-// What is compared of a type before its parts: its kind as document 01 numbers it, its name, and how many parts follow.
-#[derive(Clone, Copy)]
+// What is compared of a type before its parts: the number of its kind, its name, and how many parts follow.
+#[derive(Clone, Copy, PartialEq, Eq)]
 pub struct Head {
     pub kind: u32,
     pub name: u32,
     pub many: usize,
 }
 
-fn wide(x: u32) -> usize
-    ensures { result ≡ x }
-{
-    x as usize
-}
-
 fn same_head(a: Head, b: Head) -> bool
     ensures { Decides result (a ≡ b) }
 {
-    if a.kind == b.kind {
-        if a.name == b.name {
-            return a.many == b.many;
-        }
-    }
-    false
+    a == b
 }
 
 fn open_head(o: Open) -> Head
@@ -113,8 +103,7 @@ fn power_one_head(a: Atom) -> Head
 {
     match a {
         Atom::Free(o) => match o {
-            Open::Var(_) => open_head(o),
-            Open::Quant(_) => open_head(o),
+            Open::Var(_) | Open::Quant(_) => open_head(o),
             Open::Par(_) => dim_head(1),
         },
         Atom::Base(_) => dim_head(1),
@@ -143,7 +132,7 @@ fn product_head(s: &[u32], at: usize, n: u32) -> Head
             _ => dim_head(1),
         }
     } else {
-        dim_head(wide(n))
+        dim_head(n as usize)
     }
 }
 
@@ -159,12 +148,12 @@ fn head_at(s: &[u32], at: usize) -> Head
         View::Function(n) => Head {
             kind: 7,
             name: 0,
-            many: wide(n) + 1,
+            many: n as usize + 1,
         },
         View::Struct(x, n, _) => Head {
             kind: 8,
             name: x,
-            many: wide(n),
+            many: n as usize,
         },
         View::List => Head {
             kind: 10,
@@ -185,25 +174,21 @@ fn same_factor(v: View, w: View) -> bool
     let View::Factor(b, n, e) = w else {
         return false;
     };
-    if m == n {
-        if d == e {
-            return same_head(atom_head(a), atom_head(b));
-        }
+    if m != n || d != e {
+        return false;
     }
-    false
+    same_head(atom_head(a), atom_head(b))
 }
 
 // Are the n factors from two places on the same?
 fn same_factors(s: &[u32], at: usize, t: &[u32], k: usize, n: usize) -> bool
-    requires n_in_bounds { at + n ≤ length s.now / 4 }
-    requires n_in_bounds_2 { k + n ≤ length t.now / 4 }
-    ensures { (p q : Product ℕ) → HoldsFactors s.now p at → HoldsFactors t.now q k → length p ≡ n → length q ≡ n → Decides result (p ≡ q) }
+    requires left_inside { at + n ≤ length s.now / 4 }
+    requires right_inside { k + n ≤ length t.now / 4 }
+    ensures { (p q : Product ℕ) → HoldsFactors s.now p at → HoldsFactors t.now q k → length p ≡ n → length q ≡ n →
+        Decides result (p ≡ q) }
 {
-    let mut i = 0;
-    while i < n {
-        if same_factor(view_at(s, at + i), view_at(t, k + i)) {
-            i += 1;
-        } else {
+    for i in 0..n {
+        if !same_factor(view_at(s, at + i), view_at(t, k + i)) {
             return false;
         }
     }
@@ -213,37 +198,35 @@ fn same_factors(s: &[u32], at: usize, t: &[u32], k: usize, n: usize) -> bool
 // Do the types at two places mean the same?
 #[cycle(means_means_all)]
 pub fn means(s: &[u32], at: usize, t: &[u32], k: usize) -> bool
-    requires by_index { (x : Ty ℕ) × Holds s.now x at }
-    requires by_index_2 { (y : Ty ℕ) × Holds t.now y k }
+    requires left { (x : Ty ℕ) × Holds s.now x at }
+    requires right { (y : Ty ℕ) × Holds t.now y k }
     ensures { (x y : Ty ℕ) (names : List Bytes) → Holds s.now x at → Holds t.now y k → result ≡ means (numbered names) x y }
 {
     let a = head_at(s, at);
     let b = head_at(t, k);
-    if same_head(a, b) {
-        let n = a.many;
-        if a.kind == 3 {
-            same_factors(s, at + 1, t, k + 1, n)
-        } else {
-            means_all(s, at + 1, t, k + 1, n)
-        }
+    if !same_head(a, b) {
+        return false;
+    }
+    if a.kind == 3 {
+        same_factors(s, at + 1, t, k + 1, a.many)
     } else {
-        false
+        means_all(s, at + 1, t, k + 1, a.many)
     }
 }
 
 // Do n types from two places on mean the same, one by one?
 #[cycle(means_means_all)]
 fn means_all(s: &[u32], at: usize, t: &[u32], k: usize, n: usize) -> bool
-    requires by_index { (xs : Tys ℕ) × HoldsTys s.now xs at × (count xs ≡ n) }
-    requires by_index_2 { (ys : Tys ℕ) × HoldsTys t.now ys k × (count ys ≡ n) }
-    ensures { (xs ys : Tys ℕ) (names : List Bytes) → HoldsTys s.now xs at → count xs ≡ n → HoldsTys t.now ys k → count ys ≡ n → result ≡ meansAll (numbered names) xs ys }
+    requires left { (xs : Tys ℕ) × HoldsTys s.now xs at × (count xs ≡ n) }
+    requires right { (ys : Tys ℕ) × HoldsTys t.now ys k × (count ys ≡ n) }
+    ensures { (xs ys : Tys ℕ) (names : List Bytes) → HoldsTys s.now xs at → count xs ≡ n → HoldsTys t.now ys k → count ys ≡ n →
+        result ≡ meansAll (numbered names) xs ys }
 {
     if n == 0 {
         return true;
     }
-    if means(s, at, t, k) {
-        means_all(s, end_of(s, at), t, end_of(t, k), n - 1)
-    } else {
-        false
+    if !means(s, at, t, k) {
+        return false;
     }
+    means_all(s, end_of(s, at), t, end_of(t, k), n - 1)
 }

@@ -1,30 +1,44 @@
 -- What a comparison of two names says of whether they are the same.
-use mathlib.Core.Path.{◌≡◌, sym, ◌∙◌, ap}
+use mathlib.Core.Path.{◌≡◌, refl, sym, ◌∙◌, ap}
 use mathlib.Core.Logic.{⊎_elim}
 use mathlib.Core.Bool.{true, false}
 use mathlib.Core.List.{[], ◌∷◌}
-use Prim.Native.Nat.{Ordering}
-use Prim.Native.Nat.{ℕ}
+use Prim.Native.Nat.{Ordering, ℕ, compare, ◌<◌}
+use Rattle.std.specs.Ordering.{nat_cmp, ordering_then}
+use Rattle.std.specs.Cmp.Lexicographic.{slice_cmp}
 use native.Mathlib.Omega.{arith}
 use denote.Enum.Declared as Declared
 use types.Run.{OneOf}
-use Rattle.rules.specs.Names.{Bytes, orderBytes, sameBytes}
+use Rattle.rules.specs.Names.{Bytes, then, orderBytes, sameBytes}
 use Rattle.laws.specs.Order.{self}
 use Rattle.laws.specs.ByteOrder.{bytes_same, bytes-lawful}
 use Rattle.laws.specs.NameTable.{same-yes, same-no}
-use Rattle.names.specs.declared.Order.{Order}
-use Rattle.names.specs.declared.Order.TheVariants.{Less, Same, More}
-use Rattle.names.specs.Told.{toldOrder}
-use Rattle.names.specs.contracts.Order as order
+use Rattle.std.specs.declared.cmp.Ordering as std
+use Rattle.std.specs.declared.cmp.Ordering.TheVariants.{Less, Equal, Greater}
+use Rattle.names.specs.Told.{toldOrder, ordered}
+use Rattle.std.specs.contracts.cmp.Ordering as order
 
 module _ (n m : Bytes) where
-  pub hit : toldOrder Same ≡ orderBytes n m → sameBytes n m ≡ true
+  pub hit : toldOrder Equal ≡ orderBytes n m → sameBytes n m ≡ true
   hit e = same-yes n m (bytes_same n m (sym e))
 
   unequal : (orderBytes n m ≡ Ordering.eq → ⊥) → sameBytes n m ≡ false
   unequal f = same-no n m (λ e. f (ap (orderBytes n) (sym e) ∙ self bytes-lawful n))
 
-  pub missed : (o : Order) → toldOrder o ≡ orderBytes n m → OneOf (0 ∷ 2 ∷ []) (Declared.tag_of order.the_type o) → sameBytes n m ≡ false
+  pub missed : (o : std.Ordering) → toldOrder o ≡ orderBytes n m → OneOf (0 ∷ 2 ∷ []) (Declared.tag_of order.the_type o) → sameBytes n m ≡ false
   missed Less e t = unequal (λ h. let z : ◌≡◌ {A = ℕ} 0 1 = cc in omega arith)
-  missed More e t = unequal (λ h. let z : ◌≡◌ {A = ℕ} 0 1 = cc in omega arith)
-  missed Same e t = ⊎_elim (λ h. absurd (omega arith)) (λ h. absurd (omega arith)) t
+  missed Greater e t = unequal (λ h. let z : ◌≡◌ {A = ℕ} 0 1 = cc in omega arith)
+  missed Equal e t = ⊎_elim (λ h. absurd (omega arith)) (λ h. absurd (omega arith)) t
+
+-- std's order of slices is the order by bytes
+pub compared : (a b : Bytes) → toldOrder (slice_cmp nat_cmp a b) ≡ orderBytes a b
+unfolding orderBytes
+compared [] [] = refl
+compared [] (y ∷ b) = refl
+compared (x ∷ a) [] = refl
+compared (x ∷ a) (y ∷ b) = go (nat_cmp x y) (ordered x y) (compared a b)
+  where
+    go : (o : std.Ordering) → toldOrder o ≡ compare x y → toldOrder (slice_cmp nat_cmp a b) ≡ orderBytes a b → toldOrder (ordering_then o (slice_cmp nat_cmp a b)) ≡ then (compare x y) (orderBytes a b)
+    go Less e h = rw (← e)
+    go Equal e h = rw (← e) h
+    go Greater e h = rw (← e)

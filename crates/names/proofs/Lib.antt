@@ -1,1 +1,4 @@
 pub mod Compared
+mod Asked
+mod Determined
+mod Kept

@@ -1,42 +1,38 @@
--- The answers of the code as the values of document 01.
-use Rattle.std.specs.Prelude.{List, [], ◌≡◌, get_or}
-use Rattle.std.proofs.Math.Option.{Option, none, some}
-use Prim.Native.Nat.{ℕ, ◌+◌, Ordering}
+-- The answers of the code as values of the rules.
+use Rattle.std.specs.Prelude.{Result, List, [], ◌≡◌, get_or}
+use Rattle.std.specs.Prelude.{◌⊎◌, ◌<◌}
+use Rattle.std.specs.Ordering.{nat_cmp}
+use Rattle.std.proofs.Common.{inl, inr, arith}
+use Rattle.std.proofs.lemmas.Bool.{cases_order, le-ltb, lt-ltb}
+use Rattle.laws.specs.ByteOrder.{compare-equal, compare-below, compare-above}
+use Prim.Native.Nat.{ℕ, ◌+◌, compare, Ordering}
 use Rattle.std.specs.Borrow.{Bor}
 use Rattle.rules.specs.Base.{Got, got, refused}
-use Rattle.rules.specs.Refusals.{number_of}
+use Rattle.rules.specs.Refusals.{told}
+use Rattle.rules.specs.declared.Refusal.{Refusal}
 use Rattle.rules.specs.Names.{Bytes, PoolPart, Entered, table_of, names_of}
 use Rattle.laws.specs.NameTable.{start_at}
 use Rattle.rules.specs.declared.Was.{Was}
-use Rattle.names.specs.declared.Order.{Order}
-use Rattle.names.specs.declared.Order.TheVariants.{Less, Same, More}
-use Rattle.names.specs.declared.Answer.{Answer}
-use Rattle.names.specs.declared.Answer.TheVariants.{Number, Refused}
-use Rattle.names.specs.declared.Checked as checked
-use Rattle.names.specs.declared.Checked.{Checked}
-use Rattle.names.specs.declared.inner.Found.{Found}
-use Rattle.names.specs.declared.inner.Found.TheVariants.{At, Nothing}
+use Rattle.std.specs.declared.cmp.Ordering as std
+use Rattle.std.specs.declared.cmp.Ordering.TheVariants.{Less, Equal, Greater}
 
-abbrev pub toldOrder : Order → Ordering
+abbrev pub toldOrder : std.Ordering → Ordering
 toldOrder Less = Ordering.lt
-toldOrder Same = Ordering.eq
-toldOrder More = Ordering.gt
+toldOrder Equal = Ordering.eq
+toldOrder Greater = Ordering.gt
 
-abbrev pub toldFound : Found → Option ℕ
-toldFound (At k) = some k
-toldFound Nothing = none
-
-abbrev pub toldChecked : Checked → Got (Unit {0})
-toldChecked checked.TheVariants.Good = got tt
-toldChecked (checked.TheVariants.Refused r) = refused (number_of r)
-
-abbrev pub toldAnswer : Answer → Got (ℕ × Was)
-toldAnswer (Number i w) = got (i, w)
-toldAnswer (Refused r) = refused (number_of r)
+-- std's order of numbers is the rules'
+pub ordered : (x y : ℕ) → toldOrder (nat_cmp x y) ≡ compare x y
+ordered x y = go (cases_order x y)
+  where
+    go : (x ≡ y) ⊎ ((x < y) ⊎ (y < x)) → toldOrder (nat_cmp x y) ≡ compare x y
+    go (inl e) = rw (compare-equal x y e, le-ltb x y (omega arith))
+    go (inr (inl h)) = rw (compare-below x y h, lt-ltb x y h)
+    go (inr (inr h)) = rw (compare-above x y h, le-ltb x y (omega arith))
 
 -- an answer, with what pool and table hold afterwards
-abbrev pub entered : Answer → List ℕ → List ℕ → Entered
-entered a pool table = record { answer = toldAnswer a; pool = pool; table = table }
+abbrev pub entered : Result (ℕ × Was) Refusal → List ℕ → List ℕ → Entered
+entered a pool table = record { answer = told a; pool = pool; table = table }
 
 abbrev pub refusalOf : Got Bytes → Got (Unit {0})
 refusalOf (got n) = got tt
@@ -50,3 +46,7 @@ pub record IsPart (whole part : Bor (List ℕ)) (p : PoolPart) : Type 0 where
 -- the part of the pool that a held number stands for
 abbrev pub heldPart : List ℕ → List ℕ → ℕ → PoolPart
 heldPart pool table k = record { start = start_at table k; bytes = get_or (names_of (table_of pool table)) k [] }
+
+-- of a value only that there is one
+abbrev pub unit_of : {A : Type 0} → A → Unit {0}
+unit_of a = tt

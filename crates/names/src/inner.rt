@@ -5,25 +5,14 @@ ghost use Rattle.rules.specs.Names.{table_of, names_of, numbersOf, number_of, sa
 ghost use Rattle.laws.specs.NameTable.{start_at, endsOf, Laid, Good};
 ghost use Rattle.rules.specs.Base.{need, any};
 ghost use Rattle.names.specs.Digests.{withByte, digestOf, nameIn, Digests};
-ghost use Rattle.names.specs.Told.{toldOrder, toldFound, IsPart, heldPart, entered};
+ghost use Rattle.rules.specs.Refusals.{toldOption};
+ghost use Rattle.names.specs.Told.{toldOrder, IsPart, heldPart, entered};
 
-use super::{Answer, Order, compare};
+use super::compare;
 use rules::{NAME_BYTES, NAMES, POOL_BYTES, Refusal, Was};
+use std::cmp::Ordering;
 
-// What a search answers: a number, or nothing.
-#[derive(Clone, Copy)]
-pub enum Found {
-    At(u32),
-    Nothing,
-}
-
-fn wide(x: u32) -> usize
-    ensures { result ≡ x }
-{
-    x as usize
-}
-
-// How many names are held.
+/// How many names are held.
 pub fn count(table: &[u32]) -> u32
     requires { 257 ≤ length table.now }
     ensures { result ≡ get_or table.now 0 0 }
@@ -31,7 +20,7 @@ pub fn count(table: &[u32]) -> u32
     table[0]
 }
 
-// Whether a name has this number.
+/// Whether a name has this number.
 pub fn is_held(table: &[u32], i: u32) -> bool
     requires { 257 ≤ length table.now }
     ensures { result ≡ ltb i (get_or table.now 0 0) }
@@ -44,28 +33,31 @@ fn start_of(table: &[u32], k: usize) -> usize
     requires { k < length table.now }
     ensures { result ≡ start_at table.now k }
 {
-    if k == 0 { 0 } else { wide(table[k]) }
+    if k == 0 { 0 } else { table[k] as usize }
 }
 
-// The name with the number k: that part of the pool itself.
+/// The name with the number k: that part of the pool itself.
 pub fn name_at<'a, 'b>(pool: &'a [u8], table: &'b [u32], k: usize) -> &'a [u8]
     requires laid { Laid pool.now table.now }
     requires k_bound { k < get_or table.now 0 0 }
     ensures { IsPart pool.entry result (heldPart pool.now table.now k) }
 {
     let start = start_of(table, k);
-    let end = wide(table[k + 1]);
+    let end = table[k + 1] as usize;
     &pool[start..end]
 }
 
-// The order of two held numbers: that of their names.
-pub fn order(pool: &[u8], table: &[u32], i: u32, j: u32) -> Order
+/// The order of two held numbers: that of their names.
+pub fn order(pool: &[u8], table: &[u32], i: u32, j: u32) -> Ordering
     requires good { Good pool.now table.now }
     requires i_bound { i < get_or table.now 0 0 }
     requires j_bound { j < get_or table.now 0 0 }
     ensures { toldOrder result ≡ (numbersOf (table_of pool.now table.now)).order i j }
 {
-    compare(name_at(pool, table, wide(i)), name_at(pool, table, wide(j)))
+    compare(
+        name_at(pool, table, i as usize),
+        name_at(pool, table, j as usize),
+    )
 }
 
 // Do the ends rise within the pool, each 1 to 48 bytes after the one before?
@@ -74,46 +66,34 @@ fn lengths_good(table: &[u32]) -> bool
     requires table_bound { get_or table.now 0 0 ≤ 256 }
     ensures { result ≡ lengthsGood 0 (endsOf table.now) }
 {
-    let n = wide(table[0]);
-    let mut k = 0;
+    let n = table[0] as usize;
     let mut at = 0;
-    while k < n {
-        let end = wide(table[k + 1]);
-        if end <= at {
-            return false;
-        }
-        if NAME_BYTES < end - at {
+    for k in 0..n {
+        let end = table[k + 1] as usize;
+        if end <= at || NAME_BYTES < end - at {
             return false;
         }
         at = end;
-        k = k + 1;
     }
     at <= POOL_BYTES
 }
 
-// The number of a name among those from a number on: it is compared with each held name's part of the pool.
-pub fn search(pool: &[u8], table: &[u32], from: usize, name: &[u8]) -> Found
+/// The number of a name among those from a number on: it is compared with each held name's part of the pool.
+pub fn search(pool: &[u8], table: &[u32], from: usize, name: &[u8]) -> Option<u32>
     requires laid { Laid pool.now table.now }
     requires from_bound { from ≤ get_or table.now 0 0 }
-    ensures { toldFound result ≡ number_of from name.now (drop from (names_of (table_of pool.now table.now))) }
+    ensures { toldOption result ≡ number_of from name.now (drop from (names_of (table_of pool.now table.now))) }
 {
-    let n = wide(table[0]);
-    let mut k = from;
+    let n = table[0] as usize;
     let mut start = start_of(table, from);
-    while k < n {
-        let end = wide(table[k + 1]);
+    for k in from..n {
+        let end = table[k + 1] as usize;
         match compare(name, &pool[start..end]) {
-            Order::Same => {
-                let i = k as u32;
-                return Found::At(i);
-            }
-            Order::Less | Order::More => {
-                start = end;
-                k = k + 1;
-            }
+            Ordering::Equal => return Some(k as u32),
+            Ordering::Less | Ordering::Greater => start = end,
         }
     }
-    Found::Nothing
+    None
 }
 
 // A digest with one byte more.
@@ -121,7 +101,7 @@ fn with_byte(d: u64, b: u8) -> u64
     requires { d < 4294967296 }
     ensures { (result ≡ withByte d b) × (result < 4294967296) }
 {
-    (d * 257 + b as u64) % 4294967296
+    (d * 257 + u64::from(b)) % 4294967296
 }
 
 // A number that equal names share: names with different ones needn't be compared.
@@ -129,10 +109,8 @@ fn digest(name: &[u8]) -> u32
     ensures { result ≡ digestOf name.now }
 {
     let mut d: u64 = 0;
-    let mut i = 0;
-    while i < name.len() {
-        d = with_byte(d, name[i]);
-        i = i + 1;
+    for b in name {
+        d = with_byte(d, *b);
     }
     d as u32
 }
@@ -143,12 +121,9 @@ fn put_digests(pool: &[u8], table: &[u32], digests: &mut [u32])
     requires in_bounds { 256 ≤ length digests.old }
     ensures { Digests pool.now table.now digests.new (get_or table.now 0 0) }
 {
-    let n = wide(table[0]);
-    let mut k = 0;
-    while k < n {
-        let d = digest(name_at(pool, table, k));
-        digests[k] = d;
-        k = k + 1;
+    let n = table[0] as usize;
+    for k in 0..n {
+        digests[k] = digest(name_at(pool, table, k));
     }
 }
 
@@ -160,8 +135,8 @@ fn same_names(pool: &[u8], table: &[u32], i: usize, j: usize) -> bool
     ensures { result ≡ sameBytes (nameIn pool.now table.now i) (nameIn pool.now table.now j) }
 {
     match compare(name_at(pool, table, i), name_at(pool, table, j)) {
-        Order::Same => true,
-        Order::Less | Order::More => false,
+        Ordering::Equal => true,
+        Ordering::Less | Ordering::Greater => false,
     }
 }
 
@@ -173,10 +148,7 @@ fn same_held(pool: &[u8], table: &[u32], digests: &[u32], i: usize, j: usize) ->
     requires j_bound { j < get_or table.now 0 0 }
     ensures { result ≡ sameBytes (nameIn pool.now table.now i) (nameIn pool.now table.now j) }
 {
-    if digests[i] != digests[j] {
-        return false;
-    }
-    same_names(pool, table, i, j)
+    digests[i] == digests[j] && same_names(pool, table, i, j)
 }
 
 // Has a later number the name with the number k?
@@ -186,13 +158,11 @@ fn held_again(pool: &[u8], table: &[u32], digests: &[u32], k: usize) -> bool
     requires k_bound { k < get_or table.now 0 0 }
     ensures { result ≡ any (sameBytes (nameIn pool.now table.now k)) (drop (k + 1) (names_of (table_of pool.now table.now))) }
 {
-    let n = wide(table[0]);
-    let mut j = k + 1;
-    while j < n {
+    let n = table[0] as usize;
+    for j in k + 1..n {
         if same_held(pool, table, digests, k, j) {
             return true;
         }
-        j = j + 1;
     }
     false
 }
@@ -203,13 +173,11 @@ fn none_again(pool: &[u8], table: &[u32], digests: &[u32]) -> bool
     requires digests { Digests pool.now table.now digests.now (get_or table.now 0 0) }
     ensures { result ≡ distinct (names_of (table_of pool.now table.now)) }
 {
-    let n = wide(table[0]);
-    let mut k = 0;
-    while k < n {
+    let n = table[0] as usize;
+    for k in 0..n {
         if held_again(pool, table, digests, k) {
             return false;
         }
-        k = k + 1;
     }
     true
 }
@@ -224,20 +192,16 @@ fn all_distinct(pool: &[u8], table: &[u32]) -> bool
     none_again(pool, table, &digests)
 }
 
-// Is the table well formed?
+/// Is the table well formed?
 pub fn is_good(pool: &[u8], table: &[u32]) -> bool
     requires in_bounds { 8192 ≤ length pool.now }
     requires in_bounds_2 { 257 ≤ length table.now }
     ensures { result ≡ tableGood (table_of pool.now table.now) }
 {
-    if NAMES < wide(table[0]) {
+    if NAMES < table[0] as usize || !lengths_good(table) {
         return false;
     }
-    if lengths_good(table) {
-        all_distinct(pool, table)
-    } else {
-        false
-    }
+    all_distinct(pool, table)
 }
 
 // The bytes of src, at the front of dst.
@@ -245,46 +209,39 @@ fn copy(dst: &mut [u8], src: &[u8])
     requires { length src.now ≤ length dst.old }
     ensures { dst.new ≡ src.now ++ drop (length src.now) dst.old }
 {
-    let mut i = 0;
-    while i < src.len() {
-        dst[i] = src[i];
-        i = i + 1;
-    }
+    dst[..src.len()].copy_from_slice(src);
 }
 
 // A name that is not held: it is copied in at the first free pool byte and gets the next number, or is refused.
-fn enter_new(pool: &mut [u8], table: &mut [u32], name: &[u8]) -> Answer
+fn enter_new(pool: &mut [u8], table: &mut [u32], name: &[u8]) -> Result<(u32, Was), Refusal>
     requires { Good pool.old table.old }
     ensures { entered result pool.new table.new ≡ enterKnown none (hasRoom (table_of pool.old table.old) name.now) pool.old table.old name.now }
 {
     let n = table[0];
-    let k = wide(n);
+    let k = n as usize;
     if NAMES <= k {
-        return Answer::Refused(Refusal::NoRoom); // no number is left
+        return Err(Refusal::NoRoom); // no number is left
     }
     let free = start_of(table, k);
     if POOL_BYTES - free < name.len() {
-        return Answer::Refused(Refusal::NoRoom); // too few bytes are left
+        return Err(Refusal::NoRoom); // too few bytes are left
     }
     copy(&mut pool[free..], name);
     table[0] = n + 1;
     table[k + 1] = (free + name.len()) as u32;
-    Answer::Number(n, Was::New)
+    Ok((n, Was::New))
 }
 
-// A name is entered into a table that is well formed.
-pub fn enter_good(pool: &mut [u8], table: &mut [u32], name: &[u8]) -> Answer
+/// A name is entered into a table that is well formed.
+pub fn enter_good(pool: &mut [u8], table: &mut [u32], name: &[u8]) -> Result<(u32, Was), Refusal>
     requires { Good pool.old table.old }
     ensures { entered result pool.new table.new ≡ enterChecked (need (leb 1 (length name.now) && leb (length name.now) 48) 2) pool.old table.old name.now }
 {
-    if name.len() == 0 {
-        return Answer::Refused(Refusal::NameLength);
-    }
-    if NAME_BYTES < name.len() {
-        return Answer::Refused(Refusal::NameLength);
+    if name.is_empty() || NAME_BYTES < name.len() {
+        return Err(Refusal::NameLength);
     }
     match search(pool, table, 0, name) {
-        Found::At(i) => Answer::Number(i, Was::Known),
-        Found::Nothing => enter_new(pool, table, name),
+        Some(i) => Ok((i, Was::Known)),
+        None => enter_new(pool, table, name),
     }
 }

@@ -3,89 +3,50 @@
 
 ghost use Rattle.std.specs.Prelude.{◌≡◌};
 ghost use Rattle.rules.specs.Names.{orderBytes, tableGiven, nameAsked, partAsked, enter};
-ghost use Rattle.names.specs.Told.{toldOrder, toldChecked, refusalOf, IsPart, entered};
+ghost use Rattle.rules.specs.Refusals.{told};
+ghost use Rattle.names.specs.Told.{toldOrder, refusalOf, IsPart, entered};
 
 use rules::{POOL_BYTES, Refusal, TABLE_WORDS, Was};
+use std::cmp::Ordering;
 
 pub mod inner;
-
-// What entering answers: the name's number and whether it is new, or why it has none.
-#[derive(Clone, Copy)]
-pub enum Answer {
-    Number(u32, Was),
-    Refused(Refusal),
-}
-
-// What a check answers.
-#[derive(Clone, Copy)]
-pub enum Checked {
-    Good,
-    Refused(Refusal),
-}
-
-#[derive(Clone, Copy)]
-pub enum Order {
-    Less,
-    Same,
-    More,
-}
+pub mod old;
+pub mod tables;
+pub mod theorems;
 
 // The order of two names: by bytes, and a name before a longer one that begins with it.
-pub fn compare(a: &[u8], b: &[u8]) -> Order
+#[tactic(auto, using(crate::proofs::Compared::compared))]
+pub fn compare(a: &[u8], b: &[u8]) -> Ordering
     ensures { toldOrder result ≡ orderBytes a.now b.now }
 {
-    let mut i = 0;
-    while i < a.len() {
-        if b.len() <= i {
-            return Order::More;
-        }
-        let x = a[i];
-        let y = b[i];
-        if x < y {
-            return Order::Less;
-        }
-        if y < x {
-            return Order::More;
-        }
-        i = i + 1;
-    }
-    if i < b.len() {
-        Order::Less
-    } else {
-        Order::Same
-    }
+    a.cmp(b)
 }
 
 // Are pool and table long enough, and is the table well formed?
-pub fn check_table(pool: &[u8], table: &[u32]) -> Checked
-    ensures { toldChecked result ≡ tableGiven pool.now table.now }
+#[tactic(auto, using(crate::proofs::Asked::tested), unfolding(rules::specs::Names::tableGiven, rules::specs::Names::lentTable))]
+pub fn check_table(pool: &[u8], table: &[u32]) -> Result<(), Refusal>
+    ensures { told result ≡ tableGiven pool.now table.now }
 {
-    if pool.len() < POOL_BYTES {
-        return Checked::Refused(Refusal::ShortBuffer);
-    }
-    if table.len() < TABLE_WORDS {
-        return Checked::Refused(Refusal::ShortBuffer);
+    if pool.len() < POOL_BYTES || table.len() < TABLE_WORDS {
+        return Err(Refusal::ShortBuffer);
     }
     if inner::is_good(pool, table) {
-        Checked::Good
+        Ok(())
     } else {
-        Checked::Refused(Refusal::Malformed)
+        Err(Refusal::Malformed)
     }
 }
 
 // Is there a name with this number?
-pub fn check_number(pool: &[u8], table: &[u32], number: u32) -> Checked
-    ensures { toldChecked result ≡ refusalOf (nameAsked pool.now table.now number) }
+#[tactic(auto, using(crate::proofs::Asked::asked))]
+pub fn check_number(pool: &[u8], table: &[u32], number: u32) -> Result<(), Refusal>
+    ensures { told result ≡ refusalOf (nameAsked pool.now table.now number) }
 {
-    match check_table(pool, table) {
-        Checked::Good => {
-            if inner::is_held(table, number) {
-                Checked::Good
-            } else {
-                Checked::Refused(Refusal::NoRoom) // 3 is also a number that is not held
-            }
-        }
-        Checked::Refused(why) => Checked::Refused(why),
+    check_table(pool, table)?;
+    if inner::is_held(table, number) {
+        Ok(())
+    } else {
+        Err(Refusal::NoRoom) // 3 is also a number that is not held
     }
 }
 
@@ -94,17 +55,16 @@ pub fn name_of<'a, 'b>(pool: &'a [u8], table: &'b [u32], number: u32) -> &'a [u8
     ensures { IsPart pool.entry result (partAsked pool.now table.now number) }
 {
     match check_number(pool, table, number) {
-        Checked::Good => inner::name_at(pool, table, number as usize),
-        Checked::Refused(_) => &pool[0..0],
+        Ok(()) => inner::name_at(pool, table, number as usize),
+        Err(_) => &pool[0..0],
     }
 }
 
 // The number of a name, which is entered if it is not held, and so new.
-pub fn enter(pool: &mut [u8], table: &mut [u32], name: &[u8]) -> Answer
+#[tactic(auto, using(crate::proofs::Asked::asked))]
+pub fn enter(pool: &mut [u8], table: &mut [u32], name: &[u8]) -> Result<(u32, Was), Refusal>
     ensures { entered result pool.new table.new ≡ enter pool.old table.old name.now }
 {
-    match check_table(pool, table) {
-        Checked::Good => inner::enter_good(pool, table, name),
-        Checked::Refused(why) => Answer::Refused(why),
-    }
+    check_table(pool, table)?;
+    inner::enter_good(pool, table, name)
 }

@@ -10,7 +10,7 @@ ghost use Rattle.pairs.specs.Pairs.{entriesIn};
 
 use inner::{repeats, slots};
 use judging::inner::judge_slots;
-use trials::Verdict;
+use rules::{RECORDS, Refusal};
 
 // Yes, no or the refusal; the work buffer is left all zero.
 pub fn judge_pairs(
@@ -21,10 +21,20 @@ pub fn judge_pairs(
     types: &[u32],
     bounds: &[u32],
     work: &mut [u32],
-) -> Verdict
+) -> Result<bool, Refusal>
     ensures { judgedAs result work.new ≡ judgeCall pool.now table.now set.now (entriesIn pairs.now) types.now bounds.now work.old }
 {
-    let r = repeats(pairs);
-    let s = slots(pairs);
-    judge_slots(pool, table, set, types, bounds, r, pairs.len() / 2, s, work)
+    let count = pairs.len() / 2;
+    let repeated = count <= RECORDS && repeats(pairs);
+    judge_slots(
+        pool,
+        table,
+        set,
+        types,
+        bounds,
+        repeated,
+        count,
+        slots(pairs),
+        work,
+    )
 }

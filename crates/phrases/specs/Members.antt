@@ -1,5 +1,5 @@
 -- The fields of a structure, and a structure by its parts.
-use Rattle.std.specs.Prelude.{◌≡◌, refl, Bool, true, false, ℕ, suc, ◌+◌, ◌≤◌, ◌<◌, min, length, get_or}
+use Rattle.std.specs.Prelude.{◌≡◌, refl, Bool, true, false, ℕ, suc, ◌+◌, ◌≤◌, ◌<◌, min, length, get_or, Err, None, Ok, Some}
 use Rattle.std.proofs.Common.{sym, ap, ap₂, ◌∙◌, arith, length-append}
 use Rattle.std.proofs.Math.Path.{subst}
 use mathlib.Core.List.{List, [], ◌∷◌, ◌++◌}
@@ -21,16 +21,13 @@ use Rattle.records.specs.Views.{recOf}
 use Rattle.records.specs.declared.View.TheVariants as view
 use Rattle.records.specs.declared.inner.Before.{Before}
 use Rattle.records.specs.declared.inner.Before.TheVariants as before
-use Rattle.reading.specs.Points.{Reads, Any, from, standing, marked, columnAt, in-turn}
+use Rattle.reading.specs.Points.{Reads, Any, from, standing, marked, columnAt, in-turn, Point}
 use Rattle.reading.specs.Types.{typesThere, fieldsThere, fieldRule, field-read, structure-read}
-use Rattle.reading.specs.declared.inner.Point.{Point}
-use Rattle.reading.specs.declared.inner.Point.TheVariants as point
-use Rattle.terms.specs.Stands.{place_of, countOf, headPut}
+use Rattle.terms.specs.Stands.{place_of, countOf, headPut, same-going, same-refused, Stand}
 use Rattle.terms.specs.Effects.{Lent, lent, sofar, Halted, Ready, Kept, Effect, Writes, Done, NotBad, not-bad, then, gives, maps, alike, tells-less, grouped, kept_same, kept-last, kept_then, kept-counted, countedIn, halted-on, at_sign}
 use Rattle.terms.specs.Naming.{NumberTold}
 use Rattle.terms.specs.Inside.{inside-column}
-use Rattle.terms.specs.declared.inner.Stand.{Stand}
-use Rattle.terms.specs.declared.inner.Stand.TheVariants as stand
+use Rattle.terms.specs.Stands as stand
 use Rattle.phrases.specs.Parts.{Behind, halted-kept, head_at, head-by, kept-headed, TysTold, fields-long, tys_long}
 
 -- ══ A field's name rises ══
@@ -46,16 +43,16 @@ Risen pool table b x ok = x < get_or table 0 0 → ok ≡ follows pool table b x
 
 -- the sheet goes on, or it is refused at a place
 abbrev pub stoppedAt : Refusal → ℕ → Stand → Stand
-stoppedAt r at (stand.Going k n) = stand.Refused r at
-stoppedAt r at (stand.Refused w c) = stand.Refused w c
+stoppedAt r at (Ok tally) = stand.Refused r at
+stoppedAt r at (Err stop) = stand.Refused stop.why stop.at
 
 abbrev pub keptIf : Bool → Refusal → ℕ → Stand → Stand
 keptIf true r at s = s
 keptIf false r at s = stoppedAt r at s
 
 pub never_on : (r : Refusal) (at : ℕ) (s : Stand) (i n : ℕ) → stoppedAt r at s ≡ stand.Going i n → ⊥
-never_on r at (stand.Going k l) i n q = let z : ◌≡◌ {A = ℕ} 0 1 = cc in omega arith
-never_on r at (stand.Refused w c) i n q = let z : ◌≡◌ {A = ℕ} 0 1 = cc in omega arith
+never_on r at (Ok tally) i n q = let z : ◌≡◌ {A = ℕ} 0 1 = cc in omega arith
+never_on r at (Err stop) i n q = let z : ◌≡◌ {A = ℕ} 0 1 = cc in omega arith
 
 -- only the stand has changed, from what goes on to a refusal
 pub kept_if : {x : Lent} (ok : Bool) (r : Refusal) (at : ℕ) → Kept x x → Kept x (lent x.pool x.table x.dst (keptIf ok r at x.stand))
@@ -77,8 +74,8 @@ kept_if {x} false r at k = record {
 
 pub halted-if : {q : Point} (ok : Bool) (r : Refusal) (at : ℕ) (s : Stand) → Halted q s → Halted q (keptIf ok r at s)
 halted-if true r at s h = h
-halted-if false r at (stand.Going k n) h = λ i j e g. h k n e refl
-halted-if false r at (stand.Refused w c) h = λ i j e g. let z : ◌≡◌ {A = ℕ} 0 1 = cc in omega arith
+halted-if false r at (Ok tally) h = λ i j e g. h tally.names tally.records e refl
+halted-if false r at (Err stop) h = λ i j e g. let z : ◌≡◌ {A = ℕ} 0 1 = cc in omega arith
 
 -- nothing is written
 abbrev pub Nothing : {B : Type 0} → B → List Rec → Type 0
@@ -90,12 +87,11 @@ tested : {x : Lent} (f : Sofar → Bool) (at : ℕ) (ok : Bool) → ((k n : ℕ)
 unfolding words
 tested {x} f at true e = record {
   does = λ k n k' n' p q.
-      let a : k ≡ k' = cc in
-      let b : n ≡ n' = cc in
+      let w = same-going p q in
       record {
         value = tt;
         records = [];
-        is = ap (λ (t : Bool). placed (suc at) (need t 1) (sofar x k n)) (sym (e k n)) ∙ ap₂ (λ (i j : ℕ). told tt (sofar x i j)) a b;
+        is = ap (λ (t : Bool). placed (suc at) (need t 1) (sofar x k n)) (sym (e k n)) ∙ ap₂ (λ (i j : ℕ). told tt (sofar x i j)) w.0 w.1;
         tells = refl;
         written = refl;
         grown = omega arith;
@@ -106,9 +102,8 @@ tested {x} f at false e = record {
   does = λ k n k' n' p q. let o = ap (stoppedAt Malformed at) p in let z : ◌≡◌ {A = ℕ} 0 1 = cc in absurd (omega arith);
   refuses = λ k n c r p q.
       let o = ap (stoppedAt Malformed at) p in
-      let a : Malformed ≡ r = cc in
-      let b : at ≡ c = cc in
-      ap (λ (t : Bool). placed (suc at) (need t 1) (sofar x k n)) (sym (e k n)) ∙ ap₂ (λ (w : Refusal) (i : ℕ). refusedAt (number_of w) (suc i)) a b;
+      let w = same-refused o q in
+      ap (λ (t : Bool). placed (suc at) (need t 1) (sofar x k n)) (sym (e k n)) ∙ ap₂ (λ (v : Refusal) (i : ℕ). refusedAt (number_of v) (suc i)) w.0 w.1;
 }
 
 pub rises-effect : {x : Lent} (b : Before) (v : ℕ) (ok : Bool) (at : ℕ) → Risen x.pool x.table b v ok → v < get_or x.table 0 0
@@ -158,13 +153,13 @@ name-column {P} {line} {q} {r} x = record { within = x.within; onward = x.onward
     past_is v p e = let z : record { column = 0; bytes = [] } ≡ v = cc in sym (ap (λ (i : NameAt). i.column) z)
 
     go : (q r : Point) → from line q name ≡ standing line r x.value → NotBad r → x.value.column ≡ columnAt q
-    go (point.At i) (point.At j) e n = read_is (nameFrom whole (suc i) _) (suc i) x.value _ e
-    go (point.At i) point.Past e n = read_is (nameFrom whole (suc i) _) (suc i) x.value _ e
-    go point.Past (point.At j) e n = past_is x.value _ e
-    go point.Past point.Past e n = past_is x.value _ e
-    go (point.Bad k) (point.At j) e n = let z : ◌≡◌ {A = ℕ} 0 1 = cc in absurd (omega arith)
-    go (point.Bad k) point.Past e n = let z : ◌≡◌ {A = ℕ} 0 1 = cc in absurd (omega arith)
-    go q (point.Bad j) e n = absurd n
+    go (Ok (Some i)) (Ok (Some j)) e n = read_is (nameFrom whole (suc i) _) (suc i) x.value _ e
+    go (Ok (Some i)) (Ok None) e n = read_is (nameFrom whole (suc i) _) (suc i) x.value _ e
+    go (Ok None) (Ok (Some j)) e n = past_is x.value _ e
+    go (Ok None) (Ok None) e n = past_is x.value _ e
+    go (Err k) (Ok (Some j)) e n = let z : ◌≡◌ {A = ℕ} 0 1 = cc in absurd (omega arith)
+    go (Err k) (Ok None) e n = let z : ◌≡◌ {A = ℕ} 0 1 = cc in absurd (omega arith)
+    go q (Err j) e n = absurd n
 
 typed-behind : (x : ℕ) (u : Ty ℕ) (rs : List Rec) → rs ≡ writeTy u → recOf (view.Field x) (suc (length rs)) ∷ rs ≡ fieldRecs (x, u)
 typed-behind x u rs e = ap₂ (λ (n : ℕ) (l : List Rec). rec (head 9 (suc n)) x 0 0 ∷ l) (ap length e ∙ size-ty u) e

@@ -1,5 +1,5 @@
 -- A type by its parts: its record is counted at its first byte, its parts are entered behind it, and then the record is written.
-use Rattle.std.specs.Prelude.{◌≡◌, refl, List, ◌∷◌, ◌++◌, ℕ, suc, ◌+◌, ◌≤◌, min, length}
+use Rattle.std.specs.Prelude.{◌≡◌, refl, List, ◌∷◌, ◌++◌, ℕ, suc, ◌+◌, ◌≤◌, min, length, Ok, Err}
 use Rattle.std.proofs.Common.{sym, ap, ap₂, ◌∙◌, arith, length-append}
 use Rattle.std.proofs.Math.Path.{subst}
 use Rattle.rules.specs.Names.{Bytes}
@@ -11,15 +11,13 @@ use Rattle.laws.specs.Size.{size-ty, size-tys}
 use Rattle.records.specs.Views.{recOf}
 use Rattle.records.specs.declared.View.{View}
 use Rattle.records.specs.declared.View.TheVariants as view
-use Rattle.reading.specs.Points.{Reads, Any, marked, columnAt}
+use Rattle.reading.specs.Points.{Reads, Any, marked, columnAt, Point}
 use Rattle.reading.specs.Signs.{spelled}
 use Rattle.reading.specs.Types.{paramsThere, listed-read, function-read}
-use Rattle.reading.specs.declared.inner.Point.{Point}
-use Rattle.terms.specs.Stands.{place_of, countOf, headPut}
+use Rattle.terms.specs.Stands.{place_of, countOf, headPut, Stand}
 use Rattle.terms.specs.Effects.{Lent, lent, Roomy, Halted, Ready, Kept, Did, Effect, Writes, Done, NotBad, not-bad, then, gives, maps, alike, grouped, kept-last, kept_then, kept-written, kept-counted, countedIn, headed, head-long, halted-on, at_sign}
 use Rattle.terms.specs.Inside.{inside-spelled, inside-column}
-use Rattle.terms.specs.declared.inner.Stand.{Stand}
-use Rattle.terms.specs.declared.inner.Stand.TheVariants as stand
+use Rattle.terms.specs.Stands as stand
 
 -- ══ Records that fit into a sheet ══
 
@@ -52,8 +50,8 @@ pub halted-kept : {q : Point} {x y : Lent} → Kept x y → Halted q x.stand →
 halted-kept {q} {x} {y} k h i n e f = go x.stand refl
   where
     go : (s : Stand) → x.stand ≡ s → ⊥
-    go (stand.Going j l) p = h j l e p
-    go (stand.Refused r c) p = let o = k.refused r c p in let z : ◌≡◌ {A = ℕ} 0 1 = cc in omega arith
+    go (Ok tally) p = h tally.names tally.records e p
+    go (Err stop) p = let o = k.refused stop.why stop.at p in let z : ◌≡◌ {A = ℕ} 0 1 = cc in omega arith
 
 -- from where a record was counted
 pub from-counted : {A B : Type 0} {R : Rule A} {f : A → Step B} {T : B → List Rec → Type 0} {line : Bytes} {p r : Point} {pool table dst : List ℕ} {s₁ : Stand} {at : ℕ} {y : Lent}

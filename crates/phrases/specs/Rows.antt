@@ -1,5 +1,5 @@
 -- Types and fields in a row, turn by turn; parts that may be left out; and the type that a first byte decides on.
-use Rattle.std.specs.Prelude.{◌≡◌, refl, Bool, true, false, ◌||◌, List, ℕ, suc, ◌+◌, ◌-◌, ◌≤◌, ◌<◌, min, eqb}
+use Rattle.std.specs.Prelude.{◌≡◌, refl, Bool, true, false, ◌||◌, List, ℕ, suc, ◌+◌, ◌-◌, ◌≤◌, ◌<◌, min, eqb, Err, None, Ok, Some}
 use Rattle.std.proofs.Common.{sym, ap, ap₂, subst, true≢false, arith, ne_eqb}
 use Rattle.std.proofs.Math.Option.{none}
 use Rattle.rules.specs.Names.{Bytes}
@@ -12,16 +12,13 @@ use Rattle.rules.specs.declared.Refusal.{Refusal}
 use Rattle.rules.specs.declared.Refusal.TheVariants.{Malformed}
 use Rattle.records.specs.Good.{HeldBefore}
 use Rattle.records.specs.declared.inner.Before.{Before}
-use Rattle.reading.specs.Points.{Reads, MarkRead, Any, marked, columnAt, beginsAt, left_at}
+use Rattle.reading.specs.Points.{Reads, MarkRead, Any, marked, columnAt, beginsAt, left_at, Point}
 use Rattle.reading.specs.Factors.{byte_of, refusedFrom}
 use Rattle.reading.specs.Types.{Onto, onto-here, tys-go, tys-less, tys-end, tys-read, fieldRule, fields_go, fields-less, fields-end, fields_read, paramsThere, with_params, without-params, typesThere, with-types, without-types, fieldsThere, with-fields, without-fields}
 use Rattle.reading.specs.Choice.{ruled, deepRuled, among, heads, deep-there, deep_none, by-none, deep-by, type-by}
-use Rattle.reading.specs.declared.inner.Point.{Point}
-use Rattle.reading.specs.declared.inner.Point.TheVariants as point
-use Rattle.terms.specs.Stands.{place_of}
+use Rattle.terms.specs.Stands.{place_of, same-refused, Stand}
 use Rattle.terms.specs.Effects.{Lent, lent, Halted, Ready, Kept, Effect, Writes, Done, NotBad, not-bad, kept_same, kept-last, kept_then, halted-on}
 use Rattle.terms.specs.Inside.{inside-spelled}
-use Rattle.terms.specs.declared.inner.Stand.{Stand}
 use Rattle.phrases.specs.Parts.{TysTold, tys-none, tys-more}
 use Rattle.phrases.specs.Members.{nameBefore, fieldStep, FieldTold, FieldsTold, fields-none, fields-more, kept_if, stoppedAt, never_on}
 
@@ -158,14 +155,14 @@ last-head b h1 h2 h3 h4 h5 h6 h7 h8 =
 
 -- where nothing fits, nothing is done
 none-effect : {B : Type 0} {T : B → List Rec → Type 0} {x : Lent} (m : Step B) (q : Point) → Halted q x.stand → NotBad (refusedFrom q) → Effect m T x x
-none-effect m (point.At i) h n = absurd n
-none-effect m point.Past h n = record { does = λ k l k' l' p q. absurd (h k l refl p); refuses = λ k l c r p q. absurd (h k l refl p) }
-none-effect m (point.Bad i) h n = absurd n
+none-effect m (Ok (Some i)) h n = absurd n
+none-effect m (Ok None) h n = record { does = λ k l k' l' p q. absurd (h k l refl p); refuses = λ k l c r p q. absurd (h k l refl p) }
+none-effect m (Err i) h n = absurd n
 
 pub none-halted : {s : Stand} (q : Point) → Halted q s → Halted (refusedFrom q) s
-none-halted (point.At i) h = λ k n e f. let z : ◌≡◌ {A = ℕ} 0 1 = cc in omega arith
-none-halted point.Past h = h
-none-halted (point.Bad i) h = λ k n e f. let z : ◌≡◌ {A = ℕ} 0 1 = cc in omega arith
+none-halted (Ok (Some i)) h = λ k n e f. let z : ◌≡◌ {A = ℕ} 0 1 = cc in omega arith
+none-halted (Ok None) h = h
+none-halted (Err i) h = λ k n e f. let z : ◌≡◌ {A = ℕ} 0 1 = cc in omega arith
 
 module _ {T : Ty ℕ → List Rec → Type 0} {line : Bytes} {q : Point} {x : Lent} (h : Ready line q x.pool x.table x.stand) where
   pub no-type : (d : ℕ) → among (byte_of line q) heads ≡ false → Done line (ruled d) ty_of T q x (refusedFrom q) x
@@ -181,20 +178,19 @@ deep-effect {x = x} i = record {
   does = λ k n k' n' p q. absurd (never_on Malformed i x.stand k' n' q);
   refuses = λ k n c r p q.
       let o = ap (stoppedAt Malformed i) p in
-      let a : Malformed ≡ r = cc in
-      let b : i ≡ c = cc in
-      ap₂ (λ (w : Refusal) (j : ℕ). refusedAt (number_of w) (suc j)) a b;
+      let w = same-refused o q in
+      ap₂ (λ (v : Refusal) (j : ℕ). refusedAt (number_of v) (suc j)) w.0 w.1;
 }
 
 pub deep-type : {T : Ty ℕ → List Rec → Type 0} {line : Bytes} (q : Point) {x : Lent} → Ready line q x.pool x.table x.stand → true ≡ among (byte_of line q) heads
-    → Done line deepRuled ty_of T q x point.Past (lent x.pool x.table x.dst (stoppedAt Malformed (place_of q) x.stand))
-deep-type (point.At i) {x} h e = record {
+    → Done line deepRuled ty_of T q x (Ok None) (lent x.pool x.table x.dst (stoppedAt Malformed (place_of q) x.stand))
+deep-type (Ok (Some i)) {x} h e = record {
   reads = deep-there (sym e) (λ n. deep-effect i);
   kept = kept_if false Malformed i (kept_same h.good h.room);
   halted = λ k n a b. never_on Malformed i x.stand k n b;
 }
-deep-type point.Past h e = absurd (true≢false e)
-deep-type (point.Bad i) h e = absurd (true≢false e)
+deep-type (Ok None) h e = absurd (true≢false e)
+deep-type (Err i) h e = absurd (true≢false e)
 
 pub type-zero : {f : TyAt → Step (Ty ℕ)} {T : Ty ℕ → List Rec → Type 0} {line : Bytes} {p q r : Point} {x y : Lent} (d : ℕ) → d ≡ 0 → Reads line p column (λ (k : ℕ). k ≡ columnAt q) q
     → Done line deepRuled f T q x r y → Done line (type d) f T p x r y

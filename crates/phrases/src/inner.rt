@@ -1,4 +1,4 @@
-// Types: a type's record is counted at its first byte, and written when its parts are there.
+//! Types: a type's record is counted at its first byte, and written when its parts are there.
 pub mod leaves;
 pub mod types;
 
@@ -14,32 +14,31 @@ ghost use Rattle.reading.specs.Choice.{among, heads, deepRuled};
 ghost use Rattle.terms.specs.Effects.{lent, Ready, Writes, Done};
 ghost use Rattle.phrases.specs.Members.{Risen, KeptBefore, keptIf};
 
-use names::Order;
 use names::inner::{is_held, order};
-use reading::inner::Point;
-use reading::inner::factors::{byte_at, refuse};
+use reading::inner::{Point, byte_at, refuse};
 use records::inner::Before;
 use rules::Refusal;
-use terms::inner::{Reached, Stand, place_of};
+use std::cmp::Ordering;
+use terms::inner::{At, Reached, Stand, place_of};
 
-// One more; from 4,096 on, which is more than a sheet holds, the count stays.
+/// One more; from 4,096 on, which is more than a sheet holds, the count stays.
 fn one_more(n: u32) -> u32
     ensures { result ≡ min (n + 1) 4096 }
 {
     if n < 4096 { n + 1 } else { 4096 }
 }
 
-fn is_less(o: Order) -> bool
+fn is_less(o: Ordering) -> bool
     ensures { result ≡ is_lt (toldOrder o) }
 {
     match o {
-        Order::Less => true,
-        Order::Same => false,
-        Order::More => false,
+        Ordering::Less => true,
+        Ordering::Equal => false,
+        Ordering::Greater => false,
     }
 }
 
-// Does a field's name, if it is held, come after the one before?
+/// Does a field's name, if it is held, come after the one before?
 fn rises(pool: &[u8], table: &[u32], b: Before, x: u32) -> bool
     requires good { Good pool.now table.now }
     requires held_before { HeldBefore table.now b }
@@ -57,7 +56,7 @@ fn rises(pool: &[u8], table: &[u32], b: Before, x: u32) -> bool
     }
 }
 
-// The name before the next field, if it is held.
+/// The name before the next field, if it is held.
 fn before_next(table: &[u32], x: u32) -> Before
     requires { 257 ≤ length table.now }
     ensures { KeptBefore table.now x result }
@@ -69,20 +68,21 @@ fn before_next(table: &[u32], x: u32) -> Before
     }
 }
 
-// The sheet goes on if a test was passed, else it is refused.
+/// The sheet goes on if a test was passed, else it is refused.
 fn pass_if(ok: bool, at: usize, s: Stand) -> Stand
     ensures { result ≡ keptIf ok Malformed at s }
 {
     if ok {
         return s;
     }
-    match s {
-        Stand::Going(_, _) => Stand::Refused(Refusal::Malformed, at),
-        Stand::Refused(r, c) => Stand::Refused(r, c),
-    }
+    let _tally = s?;
+    Err(At {
+        why: Refusal::Malformed,
+        at,
+    })
 }
 
-// Does a type begin with this byte?
+/// Does a type begin with this byte?
 fn is_head(b: u8) -> bool
     ensures { result ≡ among b heads }
 {
@@ -113,13 +113,13 @@ fn is_head(b: u8) -> bool
     b == b'@'
 }
 
-// A type nested too deep: 1 at its first byte, and nothing behind it is looked at.
+/// A type nested too deep: 1 at its first byte, and nothing behind it is looked at.
 fn too_deep(line: &[u8], q: Point, s: Stand) -> Reached
     ensures { (pool table dst : List ℕ) → Ready line.now q pool table s → Done line.now deepRuled ty_of (Writes writeTy) q (lent pool table dst s) result.at (lent pool table dst result.stand) }
 {
     if is_head(byte_at(line, q)) {
         return Reached {
-            at: Point::Past,
+            at: Ok(None),
             stand: pass_if(false, place_of(q), s),
         };
     }

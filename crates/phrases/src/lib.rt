@@ -1,4 +1,4 @@
-// Types of a line of text, read and entered in one pass.
+//! Types of a line of text, read and entered in one pass.
 #![tactic(auto)]
 
 pub mod inner;

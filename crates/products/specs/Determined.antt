@@ -14,9 +14,9 @@ use Rattle.rules.specs.Values.{FactorValue, ProductValue, productValue, multiply
 use Rattle.rules.specs.declared.Refusal.{Refusal}
 use Rattle.laws.specs.Numbers.{number-injective}
 use Rattle.exponents.specs.Answers.{exp-injective}
-use Rattle.names.specs.Determined.{numberChecked}
-use Rattle.names.specs.declared.Checked.{Checked}
-use Rattle.names.specs.declared.Checked.TheVariants.{Good, Refused}
+use Rattle.names.specs.Old.{numberChecked}
+use Rattle.names.specs.declared.old.Checked.{Checked}
+use Rattle.names.specs.declared.old.Checked.TheVariants.{Good, Refused}
 use Rattle.products.specs.declared.Factor.{Factor}
 use Rattle.products.specs.declared.Product.{Product}
 use Rattle.products.specs.declared.Tried.{Tried}

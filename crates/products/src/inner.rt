@@ -18,8 +18,9 @@ ghost use Rattle.products.specs.Held.{Sound, Well};
 
 use super::{Factor, Product, Tried};
 use exponents::{Exponent, Power};
-use names::{Checked, Order};
+use names::old::Checked;
 use rules::{FACTORS, Refusal};
+use std::cmp::Ordering;
 
 // What becomes of a factor: it stays with a new power, its power is 0, or a refusal.
 #[derive(Clone, Copy)]
@@ -64,29 +65,29 @@ fn is_sound(f: Factor, table: &[u32]) -> bool
     }
 }
 
-fn order_numbers(m: u32, n: u32) -> Order
+fn order_numbers(m: u32, n: u32) -> Ordering
     ensures { toldOrder result ≡ compare m n }
 {
     if m < n {
-        return Order::Less;
+        return Ordering::Less;
     }
     if n < m {
-        return Order::More;
+        return Ordering::Greater;
     }
-    Order::Same
+    Ordering::Equal
 }
 
 // The order of factors: by kind, then by name bytes or by index.
-pub fn order(x: Factor, y: Factor, pool: &[u8], table: &[u32]) -> Order
+pub fn order(x: Factor, y: Factor, pool: &[u8], table: &[u32]) -> Ordering
     requires good { Good pool.now table.now }
     requires fine { Fine (numbersOf (table_of pool.now table.now)) (heldIn table.now) x }
     requires fine_2 { Fine (numbersOf (table_of pool.now table.now)) (heldIn table.now) y }
     ensures { toldOrder result ≡ orderAtom (numbersOf (table_of pool.now table.now)) (atomAt x) (atomAt y) }
 {
     match order_numbers(rank(x.kind), rank(y.kind)) {
-        Order::Less => Order::Less,
-        Order::More => Order::More,
-        Order::Same => {
+        Ordering::Less => Ordering::Less,
+        Ordering::Greater => Ordering::Greater,
+        Ordering::Equal => {
             if x.kind == 15 {
                 return order_numbers(x.name, y.name);
             }
@@ -186,15 +187,15 @@ pub fn multiplied(a: Product, b: Product, pool: &[u8], table: &[u32]) -> Tried
         let x = a.factors[i];
         let y = b.factors[j];
         match order(x, y, pool, table) {
-            Order::Less => {
+            Ordering::Less => {
                 out = put(out, x);
                 i = i + 1;
             }
-            Order::More => {
+            Ordering::Greater => {
                 out = put(out, y);
                 j = j + 1;
             }
-            Order::Same => {
+            Ordering::Equal => {
                 match keep(x, exponents::inner::sum_of(x.exp, y.exp)) {
                     Joined::Over(why) => return refused(why),
                     Joined::Gone => {}
@@ -292,8 +293,8 @@ pub fn fits(p: Product, pool: &[u8], table: &[u32]) -> bool
             return false;
         }
         match order(last, next, pool, table) {
-            Order::Less => {}
-            Order::Same | Order::More => return false,
+            Ordering::Less => {}
+            Ordering::Equal | Ordering::Greater => return false,
         }
         last = next;
         i = i + 1;

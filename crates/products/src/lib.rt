@@ -7,12 +7,12 @@ ghost use Rattle.std.specs.Prelude.{◌≡◌};
 ghost use Rattle.rules.specs.Products.{scalar};
 ghost use Rattle.rules.specs.Values.{productValue, multiplyCall, divideCall, inverseCall, raiseCall};
 ghost use Rattle.exponents.specs.Answers.{expOf};
-ghost use Rattle.names.specs.Told.{toldChecked};
+ghost use Rattle.names.specs.Old.{toldChecked};
 ghost use Rattle.products.specs.Told.{given, told, answer};
 ghost use Rattle.products.specs.Entry.{entry_of};
 
 use exponents::Exponent;
-use names::{Checked, check_table};
+use names::old::{Checked, check_table};
 use rules::Refusal;
 
 // A variable (11), a parameter (12), a base dimension (13) or a quantified variable (15); its name's number or its index; its power.

@@ -15,12 +15,12 @@ ghost use Rattle.queries.specs.Scans.{toldOpens, toldName, opensAtom, opensView,
 ghost use Rattle.queries.specs.Marks.{Marks, Small, disjoint, picked, Held, HeldName, Least, Filled, firstBy, first_of};
 
 use super::{Kind, Name, Opens};
-use names::Order;
 use names::inner::order;
 use records::inner::put;
 use records::seen::{length_at, view_at};
 use records::{Atom, Open, View};
 use rules::NAMES;
+use std::cmp::Ordering;
 
 fn atom_opens(a: Atom) -> Opens
     ensures { toldOpens result ≡ opensAtom (atomOf a) }
@@ -207,13 +207,13 @@ pub fn closed_at(s: &[u32], at: usize) -> bool
     none_open(s, at, end_of(s, at))
 }
 
-fn earlier(o: Order, x: u32, y: u32) -> Name
+fn earlier(o: Ordering, x: u32, y: u32) -> Name
     ensures { result ≡ firstBy (toldOrder o) x y }
 {
     match o {
-        Order::Less => Name::Of(x),
-        Order::Same => Name::Of(y),
-        Order::More => Name::Of(y),
+        Ordering::Less => Name::Of(x),
+        Ordering::Equal => Name::Of(y),
+        Ordering::Greater => Name::Of(y),
     }
 }
 

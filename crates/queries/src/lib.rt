@@ -6,8 +6,8 @@ ghost use Rattle.rules.specs.Calls.{containsCall, closedCall, variablesCall};
 ghost use Rattle.queries.specs.Told.{told, listedAs, kind_of};
 
 use inner::{is_unmixed, list_names, none_open, occurs};
-use names::Checked;
 use names::inner::is_held;
+use names::old::Checked;
 use records::{Open, is_type};
 use rules::{RECORD_WORDS, Refusal};
 

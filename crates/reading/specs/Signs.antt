@@ -1,14 +1,12 @@
 -- Signs of several bytes, and the types without a type inside.
-use Rattle.std.specs.Prelude.{◌≡◌, refl, Bool, true, false, [], ◌∷◌, ℕ, suc, ◌+◌, ◌≤◌, eqb, length, drop}
+use Rattle.std.specs.Prelude.{◌≡◌, refl, Bool, true, false, [], ◌∷◌, ℕ, suc, ◌+◌, ◌≤◌, eqb, length, drop, Err, Ok, Some}
 use Rattle.std.proofs.Common.{sym, arith}
 use Rattle.std.proofs.Math.ListN.{length-drop}
 use Rattle.rules.specs.Names.{Bytes}
 use Rattle.rules.specs.Trees.{Open, Basic}
 use Rattle.rules.specs.Grammar.{Place, here, beyond, Parsed, read, bad, Rule, give, skip, spell, spellFrom, column, NameAt, name, TyAt, open_at, basicAt, ◌>>=◌, ◌>>◌}
 use Rattle.scanning.specs.Scanned.{place_in, Skipped}
-use Rattle.reading.specs.Points.{Reads, Any, marked, columnAt, in-turn, given, skip_is}
-use Rattle.reading.specs.declared.inner.Point.{Point}
-use Rattle.reading.specs.declared.inner.Point.TheVariants as point
+use Rattle.reading.specs.Points.{Reads, Any, marked, columnAt, in-turn, given, skip_is, Point}
 
 -- a sign's bytes, behind blanks
 abbrev pub spelled : Bytes → Rule (Unit {0})
@@ -34,7 +32,7 @@ spell-long (w ∷ ws) (b ∷ bs) c c' bs' e = go (eqb b w) e (spell-long ws bs (
     go false q f = absurd (bad≢read q)
 
 module _ {line : Bytes} (ws : Bytes) {at i : ℕ} (s : Skipped line at i) where
-  pub sign-spelt : {r : ℕ} → read tt (place_in line r) ≡ spellFrom ws (suc i) (drop i line) → Reads line (point.At at) (spelled ws) Any (point.At r)
+  pub sign-spelt : {r : ℕ} → read tt (place_in line r) ≡ spellFrom ws (suc i) (drop i line) → Reads line (Ok (Some at)) (spelled ws) Any (Ok (Some r))
   unfolding spell
   sign-spelt {r} e =
       let l = spell-long ws (drop i line) (suc i) (suc r) (drop r line) (sym e) in
@@ -46,7 +44,7 @@ module _ {line : Bytes} (ws : Bytes) {at i : ℕ} (s : Skipped line at i) where
         holds = tt;
       }
 
-  pub sign-bad : {q : ℕ} → bad (suc q) ≡ spellFrom ws (suc i) (drop i line) → Reads line (point.At at) (spelled ws) Any (point.Bad q)
+  pub sign-bad : {q : ℕ} → bad (suc q) ≡ spellFrom ws (suc i) (drop i line) → Reads line (Ok (Some at)) (spelled ws) Any (Err q)
   unfolding spell
   sign-bad e = record { within = tt; onward = omega arith; value = tt; is = rw (skip_is s) (sym e); holds = tt }
 
@@ -61,21 +59,3 @@ keywordBy ws b = column >>= λ c. spelled ws >> give (basicAt c b)
 
 abbrev pub openedBy : ℕ → (NameAt → Open NameAt) → Rule TyAt
 openedBy b f = column >>= λ c. marked b >> (name >>= λ n. give (open_at c (f n)))
-
--- whatever the keyword stands for, whatever the mark makes of the name
-abbrev pub KeywordRead : Bytes → Point → Bytes → Point → Type 0
-KeywordRead line p ws r = (b : Basic) → Reads line p (keywordBy ws b) Any r
-
-abbrev pub OpenRead : Bytes → Point → ℕ → Point → Type 0
-OpenRead line p b r = (f : NameAt → Open NameAt) → Reads line p (openedBy b f) Any r
-
-module _ {line : Bytes} {p s : Point} (x : Reads line p column (λ (k : ℕ). k ≡ columnAt s) s) where
-  pub keyword-read : {r : Point} (ws : Bytes) → Reads line s (spelled ws) Any r → KeywordRead line p ws r
-  keyword-read ws y b =
-      in-turn column (λ c. spelled ws >> give (basicAt c b)) x (λ c hc. in-turn (spelled ws) (λ u. give (basicAt c b)) y (λ u hu. given (basicAt c b) y.within tt))
-
-  pub open-read : {a r : Point} (b : ℕ) → Reads line s (marked b) Any a → Reads line a name Any r → OpenRead line p b r
-  open-read b y z f =
-      in-turn column (λ c. marked b >> (name >>= λ n. give (open_at c (f n)))) x
-      (λ c hc. in-turn (marked b) (λ u. name >>= λ n. give (open_at c (f n))) y
-      (λ u hu. in-turn name (λ n. give (open_at c (f n))) z (λ n hn. given (open_at c (f n)) z.within tt)))

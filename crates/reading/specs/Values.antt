@@ -1,4 +1,5 @@
 -- What a power is worth, by the numbers that the code has of it.
+use Rattle.reading.specs.Points.{Point}
 use Rattle.std.specs.Prelude.{◌≡◌, refl, Bool, true, false, ◌&&◌, ℕ, zero, suc, ◌*◌, ◌/◌, ◌≤◌, ◌<◌, min, ℤ, pos, nat_abs}
 use Rattle.std.proofs.Common.{sym, ap, ap₂, ◌∙◌, mul-one, one-mul, div-le_self, mul-zero, arith}
 use Rattle.std.proofs.Math.Nat.{mul-div_cancel'}
@@ -14,7 +15,6 @@ use Rattle.laws.specs.Ranges.{Good, is-good}
 use Rattle.rules.specs.Grammar.{PowerAt, signedBy}
 use Rattle.rules.specs.TextReading.{powerOf}
 use Rattle.reading.specs.Powers.{Typed}
-use Rattle.reading.specs.declared.inner.Point.{Point}
 
 -- a sign, a size and a denominator, held against the range and reduced
 abbrev pub value_of : Bool → ℕ → ℕ → Got Exp

@@ -1,42 +1,36 @@
-// Each rule goes on from a point of a line: what was refused stays refused, and behind a type nested 65 deep everything passes.
-pub mod factors;
-pub mod signs;
-
-ghost use Rattle.std.specs.Prelude.{◌≡◌, ℕ, ◌≤◌, ◌<◌, pos, length};
+//! Each rule goes on from a point of a line: what was refused stays refused, and behind a type nested 65 deep everything passes.
+ghost use Rattle.std.specs.Prelude.{◌≡◌, ℕ, ◌≤◌, ◌<◌, pos};
 ghost use Rattle.rules.specs.Exponents.{lowest, top};
 ghost use Rattle.exponents.specs.Answers.{expOf};
-ghost use Rattle.rules.specs.Grammar.{column, digits, power};
+ghost use Rattle.rules.specs.Grammar.{column, digits, name, power};
 ghost use Rattle.reading.specs.Points.{PointIn, Reads, MarkRead, beginsAt, columnAt, Any, Same, Capped};
+ghost use Rattle.reading.specs.Factors.{byte_of, refusedFrom};
 ghost use Rattle.reading.specs.Powers.{minusThere, denominatorThere, Typed};
-ghost use Rattle.reading.specs.declared.inner.Point.TheVariants as point;
+ghost use Rattle.reading.specs.Signs.{spelled};
 
 use exponents::Exponent;
 use exponents::inner::quotient_of;
-use scanning::inner::{Number, scan_digits, skip_blanks};
+use scanning::inner::{scan_digits, scan_name, skip_blanks, spell};
 
-// How far a line is read: up to a place, up to a type nested 65 deep, or to the first byte that fits nothing.
-#[derive(Clone, Copy)]
-pub enum Point {
-    At(usize),
-    Past,
-    Bad(usize),
-}
+/// How far a line is read: to a place; to a type nested 65 deep (`None`), behind which nothing is looked at; or, refused, to the place of
+/// the first byte that fits nothing.
+pub type Point = Result<Option<usize>, usize>;
 
-// Digits: where they end, and their number, in which 2,147,483,648 stands for all that is larger.
+/// Digits: where they end, and their number, in which 2,147,483,648 stands for all that is larger.
 #[derive(Clone, Copy)]
 pub struct Counted {
     pub end: Point,
     pub number: u64,
 }
 
-// A minus that may stand there, and where it ends.
+/// A minus that may stand there, and where it ends.
 #[derive(Clone, Copy)]
 pub struct Minus {
     pub end: Point,
     pub there: bool,
 }
 
-// A power as it was typed: the points of its "^" and of its end, its numbers as digits have them.
+/// A power as it was typed: the points of its "^" and of its end, its numbers as digits have them.
 #[derive(Clone, Copy)]
 pub struct Power {
     pub sign: Point,
@@ -46,95 +40,115 @@ pub struct Power {
     pub den: u64,
 }
 
-// The point where the next sign begins.
+/// The point where the next sign begins.
 pub fn next_sign(line: &[u8], p: Point) -> Point
     requires { PointIn line.now p }
     ensures { Reads line.now p column (λ (c : ℕ). c ≡ columnAt result) result }
 {
-    match p {
-        Point::At(i) => Point::At(skip_blanks(line, i)),
-        Point::Past => Point::Past,
-        Point::Bad(q) => Point::Bad(q),
+    match p? {
+        Some(at) => Ok(Some(skip_blanks(line, at))),
+        None => Ok(None),
     }
 }
 
-// Does the next sign begin with this byte?
+/// Does the next sign begin with this byte?
 pub fn next_is(line: &[u8], p: Point, b: u8) -> bool
     requires { PointIn line.now p }
     ensures { result ≡ beginsAt line.now p b }
 {
     match p {
-        Point::At(at) => {
+        Ok(Some(at)) => {
             let i = skip_blanks(line, at);
-            if i < line.len() { line[i] == b } else { false }
+            i < line.len() && line[i] == b
         }
-        Point::Past => false,
-        Point::Bad(_) => false,
+        Ok(None) | Err(_) => false,
     }
 }
 
-fn mark_at(line: &[u8], at: usize, b: u8) -> Point
-    requires { at ≤ length line.now }
-    ensures { MarkRead line.now (point.At at) b result }
-{
-    let i = skip_blanks(line, at);
-    if line.len() <= i {
-        return Point::Bad(i);
-    }
-    if line[i] != b {
-        return Point::Bad(i);
-    }
-    Point::At(i + 1)
-}
-
-// A sign of one byte.
+/// A sign of one byte.
 pub fn mark(line: &[u8], p: Point, b: u8) -> Point
     requires { PointIn line.now p }
     ensures { MarkRead line.now p b result }
 {
-    match p {
-        Point::At(i) => mark_at(line, i, b),
-        Point::Past => Point::Past,
-        Point::Bad(q) => Point::Bad(q),
-    }
-}
-
-fn digits_at(line: &[u8], at: usize) -> Counted
-    requires { at ≤ length line.now }
-    ensures { Reads line.now (point.At at) digits (Capped result.number) result.end }
-{
+    let Some(at) = p? else {
+        return Ok(None);
+    };
     let i = skip_blanks(line, at);
-    match scan_digits(line, i) {
-        Number::To(next, n) => Counted {
-            end: Point::At(next),
-            number: n,
-        },
-        Number::Bad(q) => Counted {
-            end: Point::Bad(q),
-            number: 0,
-        },
+    if line.len() <= i {
+        return Err(i);
+    }
+    if line[i] != b {
+        return Err(i);
+    }
+    Ok(Some(i + 1))
+}
+
+/// A sign of several bytes, or a keyword.
+pub fn sign(line: &[u8], p: Point, word: &[u8]) -> Point
+    requires { PointIn line.now p }
+    ensures { Reads line.now p (spelled word.now) Any result }
+{
+    let Some(at) = p? else {
+        return Ok(None);
+    };
+    let end = spell(line, skip_blanks(line, at), word)?;
+    Ok(Some(end))
+}
+
+/// The name that begins right here.
+pub fn read_name(line: &[u8], p: Point) -> Point
+    requires { PointIn line.now p }
+    ensures { Reads line.now p name Any result }
+{
+    let Some(at) = p? else {
+        return Ok(None);
+    };
+    let name = scan_name(line, at, &mut [])?;
+    Ok(Some(name.end))
+}
+
+/// The byte at a point; 0 where there is none.
+pub fn byte_at(line: &[u8], p: Point) -> u8
+    ensures { result ≡ byte_of line.now p }
+{
+    match p {
+        Ok(Some(i)) => { if i < line.len() { line[i] } else { 0 } }
+        Ok(None) | Err(_) => 0,
     }
 }
 
-// Digits, as a number with a cap.
+/// Nothing fits here.
+pub fn refuse(p: Point) -> Point
+    ensures { result ≡ refusedFrom p }
+{
+    match p? {
+        Some(i) => Err(i),
+        None => Ok(None),
+    }
+}
+
+/// Digits, as a number with a cap.
 pub fn read_digits(line: &[u8], p: Point) -> Counted
     requires { PointIn line.now p }
     ensures { Reads line.now p digits (Capped result.number) result.end }
 {
     match p {
-        Point::At(i) => digits_at(line, i),
-        Point::Past => Counted {
-            end: Point::Past,
-            number: 0,
+        Ok(Some(at)) => match scan_digits(line, skip_blanks(line, at)) {
+            Ok(n) => Counted {
+                end: Ok(Some(n.end)),
+                number: n.value,
+            },
+            Err(q) => Counted {
+                end: Err(q),
+                number: 0,
+            },
         },
-        Point::Bad(q) => Counted {
-            end: Point::Bad(q),
-            number: 0,
-        },
+        Ok(None) => Counted { end: p, number: 0 },
+        Err(_) => Counted { end: p, number: 0 },
     }
 }
 
-// A minus, if there is one.
+/// A minus, if there is one.
 fn read_minus(line: &[u8], p: Point) -> Minus
     requires { PointIn line.now p }
     ensures { Reads line.now p minusThere (Same result.there) result.end }
@@ -152,7 +166,7 @@ fn read_minus(line: &[u8], p: Point) -> Minus
     }
 }
 
-// What stands behind "/", or 1.
+/// What stands behind "/", or 1.
 fn read_denominator(line: &[u8], p: Point) -> Counted
     requires { PointIn line.now p }
     ensures { Reads line.now p denominatorThere (Capped result.number) result.end }
@@ -164,7 +178,7 @@ fn read_denominator(line: &[u8], p: Point) -> Counted
     Counted { end: p, number: 1 }
 }
 
-// A power.
+/// A power.
 pub fn read_power(line: &[u8], p: Point) -> Power
     requires { PointIn line.now p }
     ensures { Reads line.now p power (Typed result.sign result.minus result.num result.den) result.end }
@@ -188,7 +202,7 @@ pub fn read_power(line: &[u8], p: Point) -> Power
     }
 }
 
-// Two numbers in range, as a fraction in lowest terms.
+/// Two numbers in range, as a fraction in lowest terms.
 pub fn lowest_of(num: u64, den: u64) -> Exponent
     requires { (num ≤ top) × (0 < den) × (den ≤ top) }
     ensures { expOf result ≡ lowest (pos num) den }

@@ -1,4 +1,4 @@
-// The rules of the grammar, held against a line.
+//! The rules of the grammar, held against a line.
 #![tactic(auto)]
 
 pub mod inner;
@@ -12,7 +12,7 @@ use exponents::{Exponent, Power, TOP};
 use inner::lowest_of;
 use rules::Refusal;
 
-// What a power is worth: 7 where one of its numbers is out of range, else it is reduced.
+/// What a power is worth: 7 where one of its numbers is out of range, else it is reduced.
 pub fn power_value(minus: bool, num: u64, den: u64) -> Power
     ensures { told result ≡ value_of minus num den }
 {

@@ -6,9 +6,8 @@ use Rattle.std.proofs.Common.{sym, ◌∙◌}
 use Rattle.rules.specs.Calls.{aloneGiven, setCall, typeCall, schemeCall, bindingsCall}
 use Rattle.rules.specs.Numbers.{checked, refusalIn, number}
 use Rattle.rules.specs.Writing.{rec}
-use Rattle.names.specs.Determined.{checked-tells, numberChecked, checked-in}
-use Rattle.names.specs.Told.{toldChecked}
-use Rattle.names.specs.declared.Checked.{Checked}
+use Rattle.names.specs.Old.{toldChecked, checked-tells, numberChecked, checked-in}
+use Rattle.names.specs.declared.old.Checked.{Checked}
 use Rattle.records.specs.declared.View.{View}
 use Rattle.records.specs.declared.Words.{Words}
 use Rattle.records.specs.Views.{toldWords, bareOf}

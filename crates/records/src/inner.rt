@@ -18,8 +18,8 @@ ghost use Rattle.records.specs.Good.{Ends, closedAt, HeldOpen, HeldAtom, HeldBef
 use super::seen::{head_of, length_at, view_at, words_of};
 use super::{Atom, Open, View};
 use exponents::Exponent;
-use names::Order;
 use names::inner::{is_held, order};
+use std::cmp::Ordering;
 
 // Sets a word of a buffer, where there is one at i.
 pub fn put(dst: &mut [u32], i: usize, w: u32)
@@ -87,13 +87,13 @@ pub enum Left {
     Atom(Atom),
 }
 
-fn is_less(o: Order) -> bool
+fn is_less(o: Ordering) -> bool
     ensures { result ≡ is_lt (toldOrder o) }
 {
     match o {
-        Order::Less => true,
-        Order::Same => false,
-        Order::More => false,
+        Ordering::Less => true,
+        Ordering::Equal => false,
+        Ordering::Greater => false,
     }
 }
 
@@ -119,20 +119,20 @@ fn atom_good(pool: &[u8], table: &[u32], q: u32, a: Atom) -> bool
     }
 }
 
-fn number_order(i: u32, j: u32) -> Order
+fn number_order(i: u32, j: u32) -> Ordering
     ensures { toldOrder result ≡ compare i j }
 {
     if i < j {
-        return Order::Less;
+        return Ordering::Less;
     }
     if j < i {
-        return Order::More;
+        return Ordering::Greater;
     }
-    Order::Same
+    Ordering::Equal
 }
 
 // The order of factors: variables, quantified variables, parameters.
-fn open_order(pool: &[u8], table: &[u32], a: Open, b: Open) -> Order
+fn open_order(pool: &[u8], table: &[u32], a: Open, b: Open) -> Ordering
     requires good { Good pool.now table.now }
     requires held_open { HeldOpen table.now a }
     requires held_open_2 { HeldOpen table.now b }
@@ -141,24 +141,24 @@ fn open_order(pool: &[u8], table: &[u32], a: Open, b: Open) -> Order
     match a {
         Open::Var(x) => match b {
             Open::Var(y) => order(pool, table, x, y),
-            Open::Quant(_) => Order::Less,
-            Open::Par(_) => Order::Less,
+            Open::Quant(_) => Ordering::Less,
+            Open::Par(_) => Ordering::Less,
         },
         Open::Quant(i) => match b {
-            Open::Var(_) => Order::More,
+            Open::Var(_) => Ordering::Greater,
             Open::Quant(j) => number_order(i, j),
-            Open::Par(_) => Order::Less,
+            Open::Par(_) => Ordering::Less,
         },
         Open::Par(x) => match b {
-            Open::Var(_) => Order::More,
-            Open::Quant(_) => Order::More,
+            Open::Var(_) => Ordering::Greater,
+            Open::Quant(_) => Ordering::Greater,
             Open::Par(y) => order(pool, table, x, y),
         },
     }
 }
 
 // And base dimensions last.
-pub fn atom_order(pool: &[u8], table: &[u32], a: Atom, b: Atom) -> Order
+pub fn atom_order(pool: &[u8], table: &[u32], a: Atom, b: Atom) -> Ordering
     requires good { Good pool.now table.now }
     requires held_atom { HeldAtom table.now a }
     requires held_atom_2 { HeldAtom table.now b }
@@ -167,10 +167,10 @@ pub fn atom_order(pool: &[u8], table: &[u32], a: Atom, b: Atom) -> Order
     match a {
         Atom::Free(o) => match b {
             Atom::Free(p) => open_order(pool, table, o, p),
-            Atom::Base(_) => Order::Less,
+            Atom::Base(_) => Ordering::Less,
         },
         Atom::Base(x) => match b {
-            Atom::Free(_) => Order::More,
+            Atom::Free(_) => Ordering::Greater,
             Atom::Base(y) => order(pool, table, x, y),
         },
     }

@@ -7,11 +7,11 @@ pub mod seen;
 ghost use Rattle.std.specs.Prelude.{◌≡◌, ◌&&◌, ◌%◌, eqb, length};
 ghost use Rattle.rules.specs.Base.{need};
 ghost use Rattle.rules.specs.Calls.{aloneGiven, setCall, typeCall, schemeCall, bindingsCall};
-ghost use Rattle.names.specs.Told.{toldChecked};
+ghost use Rattle.names.specs.Old.{toldChecked};
 
 use inner::{bindings_good, scheme_good, set_good, type_good};
-use names::Checked;
 use names::inner::is_good;
+use names::old::Checked;
 use rules::{POOL_BYTES, RECORD_WORDS, Refusal, TABLE_WORDS};
 
 // An open name: a variable, a quantified variable by its index, a parameter.

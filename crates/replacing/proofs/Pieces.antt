@@ -20,7 +20,7 @@ use Rattle.products.specs.Held.{Sound, well-sound, law}
 use Rattle.products.specs.Places.{length-product}
 use Rattle.products.specs.declared.Product.{Product}
 use Rattle.products.specs.declared.Tried.{Tried}
-use Rattle.names.specs.declared.Checked.TheVariants.{Good as Well', Refused as Because}
+use Rattle.names.specs.declared.old.Checked.TheVariants.{Good as Well', Refused as Because}
 use Rattle.records.specs.Views.{recOf}
 use Rattle.records.specs.Holds.{openOf, HoldsFactors}
 use Rattle.records.specs.ByView.{ends-in}

@@ -29,8 +29,8 @@ use Rattle.products.specs.Held.{law, made, made-long, Taken}
 use Rattle.products.specs.declared.Factor as code
 use Rattle.products.specs.declared.Product.{Product}
 use Rattle.products.specs.declared.Tried.{Tried}
-use Rattle.names.specs.declared.Checked.{Checked}
-use Rattle.names.specs.declared.Checked.TheVariants.{Good as Well', Refused as Because}
+use Rattle.names.specs.declared.old.Checked.{Checked}
+use Rattle.names.specs.declared.old.Checked.TheVariants.{Good as Well', Refused as Because}
 use Rattle.records.specs.ByView.{in_reach}
 use Rattle.replacing.specs.declared.inner.bound.Found.{Found}
 use Rattle.replacing.specs.declared.inner.bound.Found.TheVariants.{At}

@@ -13,9 +13,9 @@ use Rattle.rules.specs.declared.Refusal.{Refusal}
 use Rattle.rules.specs.declared.Refusal.TheVariants.{TooLarge}
 use Rattle.laws.specs.Lists.{clash}
 use Rattle.records.specs.Found.{Words32}
-use Rattle.names.specs.Told.{toldChecked}
+use Rattle.names.specs.Old.{toldChecked}
 use Rattle.records.specs.Whole.{type-is, set_is}
-use Rattle.names.specs.declared.Checked.{Checked}
+use Rattle.names.specs.declared.old.Checked.{Checked}
 use Rattle.queries.specs.Runs.{set-opens}
 use Rattle.queries.specs.ScanLaws.{type-opens}
 use Rattle.lending.specs.Handed.{as_written, unwritten}

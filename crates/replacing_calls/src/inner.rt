@@ -5,7 +5,7 @@ ghost use Rattle.rules.specs.Names.{table_of, lentTable};
 ghost use Rattle.rules.specs.Calls.{setGiven, typeGiven, replacedSet, replacedType};
 ghost use Rattle.rules.specs.Trees.{Ty, Con, Binding};
 ghost use Rattle.laws.specs.NameTable.{Good};
-ghost use Rattle.names.specs.Told.{toldChecked};
+ghost use Rattle.names.specs.Old.{toldChecked};
 ghost use Rattle.queries.specs.Marks.{Small};
 ghost use Rattle.queries.specs.Scans.{opensIn};
 ghost use Rattle.lending.specs.Told.{Made, told};
@@ -15,7 +15,7 @@ ghost use Rattle.replacing_calls.specs.Stands.{TypeStands, LinesStand, typeCount
 ghost use Rattle.replacing_calls.specs.Made.{madeType, madeSet};
 
 use lending::Answer;
-use names::Checked;
+use names::old::Checked;
 use places::inner::fill;
 use queries::inner::apart;
 use records::inner::{Ended, type_end};

@@ -1,2 +1,2 @@
-pub mod Promise
 pub mod Pieces
+pub mod Theorems

@@ -3,14 +3,14 @@ ghost use Rattle.std.specs.Prelude.{◌≡◌, [], ◌∷◌, ◌+◌, ◌*◌, 
 ghost use Rattle.std.proofs.lemmas.List.Edits.{sets};
 ghost use Rattle.std.proofs.Math.Seq.{slice};
 ghost use Rattle.laws.specs.NameTable.{Good};
-ghost use Rattle.names.specs.Told.{toldChecked};
+ghost use Rattle.names.specs.Old.{toldChecked};
 ghost use Rattle.rules.specs.Names.{table_of};
 ghost use Rattle.rules.specs.Rescue.{words_in, bytes_of, piecesIn, rescueGiven};
 ghost use Rattle.rescue.specs.Told.{Walked, Noted, Took};
 
 use super::Counts;
-use names::Checked;
 use names::inner::is_good;
+use names::old::Checked;
 use records::inner::{Ended, con_end, put};
 use rules::{POOL_BYTES, RECORDS, Refusal, TABLE_WORDS};
 

@@ -8,7 +8,7 @@ ghost use Rattle.rules.specs.Rescue.{rescueCall};
 ghost use Rattle.rescue.specs.Told.{rescuedAs};
 
 use inner::{given, take_words};
-use names::Checked;
+use names::old::Checked;
 use rules::Refusal;
 
 // How many records are kept, and how many places skipped.

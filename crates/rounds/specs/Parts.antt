@@ -1,5 +1,5 @@
 -- What the steps of a round ask and what they leave.
-use Rattle.std.specs.Prelude.{◌≡◌, Bool, ◌&&◌, List, [], ◌∷◌, ◌++◌, map, ℕ, ◌+◌, ◌*◌, ◌-◌, ◌≤◌, leb}
+use Rattle.std.specs.Prelude.{◌≡◌, Bool, ◌&&◌, List, [], ◌∷◌, ◌++◌, map, ℕ, ◌+◌, ◌*◌, ◌-◌, ◌≤◌, leb, Ok}
 use Rattle.std.proofs.Math.Option.{Option, none, some}
 use Rattle.std.proofs.lemmas.List.Edits.{sets}
 use Rattle.std.proofs.Math.Seq.{slice}
@@ -75,7 +75,7 @@ module _ (pool table : List ℕ) where
     pub here : HeldCon pool table w c at
     pub ends : e ≡ at + sizeCon c
     pub was : List ℕ
-    pub stepped : Stepped was d (n - (e - at)) r (trySatisfy (numbers pool table) bounded c)
+    pub stepped : Stepped was d (n - (e - at)) (Ok r) (trySatisfy (numbers pool table) bounded c)
 
   -- what the round gives after it
   abbrev pub after : Parts → Got (Step ℕ) → Got (Option (State ℕ))

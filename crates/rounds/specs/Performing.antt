@@ -1,7 +1,7 @@
 -- What a step wrote, by the answer of the code that tried the rules.
 use Rattle.std.proofs.Math.Path.{◌≡◌, refl}
 use Rattle.std.proofs.Common.{sym, ap, subst, ◌∙◌, append-nil, inl, inr}
-use Rattle.std.specs.Prelude.{true, List, [], ◌∷◌, map, ℕ, suc, ◌+◌, ◌*◌, ◌-◌, ◌≤◌, length}
+use Rattle.std.specs.Prelude.{true, List, [], ◌∷◌, map, ℕ, suc, ◌+◌, ◌*◌, ◌-◌, ◌≤◌, length, Ok, Err}
 use native.Mathlib.Omega.{arith}
 use Rattle.std.proofs.lemmas.List.Edits.{sets}
 use Rattle.std.proofs.Math.Seq.{length-sets}
@@ -26,7 +26,7 @@ use Rattle.replacing.specs.LineRules.{Line, con, binding, sizeLine, writeLine}
 use Rattle.replacing.specs.Runs.{HoldsAll}
 use Rattle.satisfying.specs.Stepped.{Stepped}
 use Rattle.satisfying.specs.declared.Step as code
-use Rattle.satisfying.specs.declared.Step.TheVariants.{Bind, Split, Done, Stuck, Refused}
+use Rattle.satisfying.specs.declared.Step.TheVariants.{Bind, Split, Done, Stuck}
 use Rattle.rounds.specs.Lines.{all_map, long-cons}
 use Rattle.rounds.specs.Parts.{Parts, New, Taken}
 
@@ -86,14 +86,14 @@ module _ (pool table : List ℕ) where
       pub new : New pool table d (map con cons) (n - (e - at)) q
 
     -- what the answer says of the outcome
-    answered : {s : code.Step} → r ≡ s → Stepped k.was d out s tried
-    answered i = subst (λ (x : code.Step). Stepped k.was d out x tried) i k.stepped
+    answered : {s : code.Step} → r ≡ s → Stepped k.was d out (Ok s) tried
+    answered i = subst (λ (x : code.Step). Stepped k.was d out (Ok x) tried) i k.stepped
 
     pub took-bind : {q : ℕ} → 8192 ≤ length d → r ≡ Bind q → Binds q
     unfolding all collect goodBinding
     took-bind {q} room i = go tried refl (answered i)
       where
-        go : (R : Got (Step ℕ)) → tried ≡ R → Stepped k.was d out (Bind q) R → Binds q
+        go : (R : Got (Step ℕ)) → tried ≡ R → Stepped k.was d out (Ok (Bind q)) R → Binds q
         go (got (bind x t)) j s =
             let f = s.says.0 in
             let z : q ≡ out + sizeBinding (x ≔ t) = cc in
@@ -114,7 +114,7 @@ module _ (pool table : List ℕ) where
     pub took-split : {q : ℕ} → 8192 ≤ length d → r ≡ Split q → Splits q
     took-split {q} room i = go tried refl (answered i)
       where
-        go : (R : Got (Step ℕ)) → tried ≡ R → Stepped k.was d out (Split q) R → Splits q
+        go : (R : Got (Step ℕ)) → tried ≡ R → Stepped k.was d out (Ok (Split q)) R → Splits q
         go (got (bind x t)) j s = absurd (let f = s.says.0 in let z : ◌≡◌ {A = ℕ} 0 1 = cc in omega arith)
         go (got (split cs)) j s =
             let f = s.says.0 in
@@ -129,7 +129,7 @@ module _ (pool table : List ℕ) where
     pub took-done : r ≡ Done → tried ≡ got done
     took-done i = go tried (answered i)
       where
-        go : (R : Got (Step ℕ)) → Stepped k.was d out Done R → R ≡ got done
+        go : (R : Got (Step ℕ)) → Stepped k.was d out (Ok Done) R → R ≡ got done
         go (got (bind x t)) s = absurd (let f = s.says.0 in let z : ◌≡◌ {A = ℕ} 0 1 = cc in omega arith)
         go (got (split cs)) s = absurd (let f = s.says.0 in let z : ◌≡◌ {A = ℕ} 0 1 = cc in omega arith)
         go (got done) s = refl
@@ -144,7 +144,7 @@ module _ (pool table : List ℕ) where
     pub took-stuck : r ≡ Stuck → tried ≡ got stuck
     took-stuck i = go tried (answered i)
       where
-        go : (R : Got (Step ℕ)) → Stepped k.was d out Stuck R → R ≡ got stuck
+        go : (R : Got (Step ℕ)) → Stepped k.was d out (Ok Stuck) R → R ≡ got stuck
         go (got (bind x t)) s = absurd (let f = s.says.0 in let z : ◌≡◌ {A = ℕ} 0 1 = cc in omega arith)
         go (got (split cs)) s = absurd (let f = s.says.0 in let z : ◌≡◌ {A = ℕ} 0 1 = cc in omega arith)
         go (got done) s = absurd (let f = s.says.0 in let z : ◌≡◌ {A = ℕ} 0 1 = cc in omega arith)
@@ -152,14 +152,18 @@ module _ (pool table : List ℕ) where
         go (refused l) s = absurd s.says
 
     pub some-rule : (r ≡ Stuck → ⊥) → tried ≡ got stuck → ⊥
-    some-rule other e = other (subst (Stepped k.was d out r) e k.stepped).says.0
+    some-rule other e = other (let f = (subst (Stepped k.was d out (Ok r)) e k.stepped).says.0 in cc)
 
-    pub took-refused : {l : Refusal} → r ≡ Refused l → tried ≡ refused (number_of l)
-    took-refused {l} i = go tried (answered i)
-      where
-        go : (R : Got (Step ℕ)) → Stepped k.was d out (Refused l) R → R ≡ refused (number_of l)
-        go (got (bind x t)) s = absurd (let f = s.says.0 in let z : ◌≡◌ {A = ℕ} 0 1 = cc in omega arith)
-        go (got (split cs)) s = absurd (let f = s.says.0 in let z : ◌≡◌ {A = ℕ} 0 1 = cc in omega arith)
-        go (got done) s = absurd (let f = s.says.0 in let z : ◌≡◌ {A = ℕ} 0 1 = cc in omega arith)
-        go (got stuck) s = absurd (let f = s.says.0 in let z : ◌≡◌ {A = ℕ} 0 1 = cc in omega arith)
-        go (refused j) s = ap refused (sym s.says)
+-- a refusal is the rule's
+pub took-refused : {was d : List ℕ} {out : ℕ} {why : Refusal} {R : Got (Step ℕ)} → Stepped was d out (Err why) R → R ≡ refused (number_of why)
+took-refused {was} {d} {out} {why} {R} = go R
+  where
+    go : (R : Got (Step ℕ)) → Stepped was d out (Err why) R → R ≡ refused (number_of why)
+    go (got (bind x t)) s = absurd (let f = s.says.0 in let z : ◌≡◌ {A = ℕ} 0 1 = cc in omega arith)
+    go (got (split cs)) s = absurd (let f = s.says.0 in let z : ◌≡◌ {A = ℕ} 0 1 = cc in omega arith)
+    go (got done) s = absurd (let f = s.says.0 in let z : ◌≡◌ {A = ℕ} 0 1 = cc in omega arith)
+    go (got stuck) s = absurd (let f = s.says.0 in let z : ◌≡◌ {A = ℕ} 0 1 = cc in omega arith)
+    go (refused j) s = ap refused (sym s.says)
+
+pub not-stuck : {R : Got (Step ℕ)} {l : ℕ} → R ≡ refused l → R ≡ got stuck → ⊥
+not-stuck e i = let z = sym e ∙ i in cc

@@ -1,5 +1,5 @@
 -- The first constraint to which a rule applies: what is left of the search.
-use Rattle.std.specs.Prelude.{◌≡◌}
+use Rattle.std.specs.Prelude.{◌≡◌, Ok}
 use Rattle.std.proofs.Math.Path.{refl, ap}
 use Rattle.std.proofs.Common.{sym, ◌∙◌}
 use Rattle.std.proofs.Math.Bool.{and-eq-true_iff}
@@ -115,7 +115,7 @@ module _ (pool table : List ℕ) where
       abbrev c : Con ℕ
       c = f.this
 
-      pub step : (e : ℕ) → e ≡ at + sizeCon c → (was d : List ℕ) (r : code.Step) → Stepped was d (n - (e - at)) r (trySatisfy (numbers pool table) bounded c) → Taken pool table w d at e n m r p c
+      pub step : (e : ℕ) → e ≡ at + sizeCon c → (was d : List ℕ) (r : code.Step) → Stepped was d (n - (e - at)) (Ok r) (trySatisfy (numbers pool table) bounded c) → Taken pool table w d at e n m r p c
       step e i was d r s = record { around = f.around e i; here = f.held; ends = i; was = was; stepped = s }
 
       -- a rule applies to it

@@ -223,7 +223,6 @@ fn perform(
         Step::Split(q) => append(pool, table, work, next, at, e, n, m, q),
         Step::Done => append(pool, table, work, next, at, e, n, m, n - (e - at)),
         Step::Stuck => Turn::End,
-        Step::Refused(k) => Turn::Stop(k),
     }
 }
 
@@ -247,7 +246,10 @@ fn take_turn(
     let mut at = 0;
     while at < n {
         let e = con_end(work, at);
-        let step = try_satisfy(pool, table, work, at, next, n - (e - at));
+        let step = match try_satisfy(pool, table, work, at, next, n - (e - at)) {
+            Ok(step) => step,
+            Err(why) => return Turn::Stop(why),
+        };
         let Step::Stuck = step else {
             return perform(pool, table, work, next, at, e, n, m, step);
         };

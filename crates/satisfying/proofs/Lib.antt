@@ -1,3 +1,7 @@
-pub mod Laws
-pub mod ByKinds
-pub mod ByOther
+mod Conditions
+mod Others
+mod Power
+mod Quotient
+mod Rules
+mod Short
+mod Written

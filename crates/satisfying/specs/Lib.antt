@@ -1,2 +1,4 @@
-pub mod Stepped
+pub mod Applied
+pub mod Bindings
 pub mod Parts
+pub mod Stepped

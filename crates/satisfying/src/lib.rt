@@ -1,17 +1,13 @@
-// What the first rule that fits does with a constraint.
+//! What the first rule that fits does with a constraint.
 #![tactic(auto)]
 
 pub mod inner;
 
-use rules::Refusal;
-
-// A variable bound, other constraints in the place of this one, it alone taken away, no rule, or a refusal.
-// The number is the place past the records that were written.
+/// A variable bound, other constraints in the place of this one, it alone taken away, or no rule. The number is the place past the records that were written.
 #[derive(Clone, Copy)]
 pub enum Step {
     Bind(usize),
     Split(usize),
     Done,
     Stuck,
-    Refused(Refusal),
 }

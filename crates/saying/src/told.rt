@@ -1,23 +1,23 @@
 // What a call says, in words.
 ghost use Rattle.std.specs.Prelude.{◌≡◌};
-ghost use Rattle.rules.specs.Refusals.{number_of};
-ghost use Rattle.names.specs.Told.{toldChecked, toldAnswer, toldOrder};
+ghost use Rattle.rules.specs.Refusals.{number_of, told};
+ghost use Rattle.names.specs.Told.{toldOrder};
+ghost use Rattle.names.specs.Old.{toldChecked};
 ghost use Rattle.queries.specs.Told.{toldCount};
 ghost use Rattle.queries.specs.Told as queries;
 ghost use Rattle.lending.specs.Told as lending;
 ghost use Rattle.adding.specs.Told.{toldAdded};
 ghost use Rattle.solving.specs.Told as solving;
-ghost use Rattle.trials.specs.Told as trials;
 ghost use Rattle.ceiling.specs.Told as ceiling;
 ghost use Rattle.rules.specs.Calls.{solved, unsolved};
 ghost use Rattle.saying.specs.Saying.{word, fours, sum, yesWord, saidAs, refusedAs, checkedAs, askedAs, numberAs, orderAs, countedAs, writtenAs, addedAs, solvedAs, wasWord, mostAs, ceilingAs, batchedAs};
 
 use adding::Added;
 use ceiling::Most;
-use names::Checked;
+use names::old::Checked;
 use rules::{Refusal, Was};
 use solving::{Outcome, Solution};
-use trials::Verdict;
+use std::cmp::Ordering;
 
 // The refusal's number or 0, what the call says, completed rounds, and how many words at the front of the result buffer are the answer's.
 #[derive(Drop)]
@@ -102,22 +102,22 @@ fn was_word(was: Was) -> u32
 }
 
 // The number of a name that was entered, with 1 for new and 0 for known; so many words say what that changed.
-pub fn numbered(a: names::Answer, words: usize) -> Told
-    ensures { result ≡ numberAs (toldAnswer a) words }
+pub fn numbered(a: Result<(u32, Was), Refusal>, words: usize) -> Told
+    ensures { result ≡ numberAs (told a) words }
 {
     match a {
-        names::Answer::Number(n, was) => said(n, was_word(was), words),
-        names::Answer::Refused(why) => refused(why, 0, words),
+        Ok((n, was)) => said(n, was_word(was), words),
+        Err(why) => refused(why, 0, words),
     }
 }
 
-pub fn ordered(o: names::Order) -> Told
+pub fn ordered(o: Ordering) -> Told
     ensures { result ≡ orderAs (toldOrder o) }
 {
     match o {
-        names::Order::Less => said(1, 0, 0),
-        names::Order::Same => said(2, 0, 0),
-        names::Order::More => said(3, 0, 0),
+        Ordering::Less => said(1, 0, 0),
+        Ordering::Equal => said(2, 0, 0),
+        Ordering::Greater => said(3, 0, 0),
     }
 }
 
@@ -194,13 +194,12 @@ pub fn solution(s: Solution) -> Told
     }
 }
 
-pub fn judged(v: Verdict) -> Told
-    ensures { result ≡ askedAs (trials.told v) }
+pub fn judged(answer: Result<bool, Refusal>) -> Told
+    ensures { result ≡ askedAs (told answer) }
 {
-    match v {
-        Verdict::Yes => said(1, 0, 0),
-        Verdict::No => said(0, 0, 0),
-        Verdict::Refused(why) => refused(why, 0, 0),
+    match answer {
+        Ok(holds) => said(yes(holds), 0, 0),
+        Err(why) => refused(why, 0, 0),
     }
 }
 

@@ -1,4 +1,3 @@
-pub mod Digits
 pub mod Scanned
 pub mod Names
 pub mod Numbers

@@ -1,5 +1,5 @@
 -- A name read letter by letter, and its bytes at the front of a buffer.
-use Rattle.std.specs.Prelude.{◌≡◌, refl, List, [], ◌∷◌, ◌++◌, ℕ, suc, ◌+◌, ◌≤◌, length, set}
+use Rattle.std.specs.Prelude.{◌≡◌, refl, List, [], ◌∷◌, ◌++◌, ℕ, suc, ◌+◌, ◌≤◌, Result, Ok, Err, length, set}
 use Rattle.std.proofs.Common.{sym, ap, ◌∙◌, arith, length-append}
 use Rattle.std.proofs.lemmas.List.Edits.{sets}
 use Rattle.records.specs.Stores.{sets-append}
@@ -7,7 +7,6 @@ use Rattle.rules.specs.Names.{Bytes}
 use Rattle.rules.specs.Grammar.{Place, Parsed, read, bad, more}
 use Rattle.scanning.specs.Scanned.{place_in, nameIn, ByteThen}
 use Rattle.scanning.specs.declared.inner.Name.{Name}
-use Rattle.scanning.specs.declared.inner.Name.TheVariants as name
 
 -- bytes in front of what is read behind them
 unfoldable pub prefix : Bytes → Parsed Bytes → Parsed Bytes
@@ -48,9 +47,9 @@ pub record NameRead (line : Bytes) (at i k : ℕ) (d d' : List ℕ) : Type 0 whe
   pub count : k ≡ length bytes
   pub buffer : d' ≡ sets d 0 bytes
 
-abbrev pub NameScanned : Bytes → ℕ → List ℕ → List ℕ → Name → Type 0
-NameScanned line at d d' (name.To i k) = NameRead line at i k d d'
-NameScanned line at d d' (name.Bad p) = nameIn line at ≡ bad (suc p)
+abbrev pub NameScanned : Bytes → ℕ → List ℕ → List ℕ → Result Name ℕ → Type 0
+NameScanned line at d d' (Ok n) = NameRead line at n.end n.size d d'
+NameScanned line at d d' (Err p) = nameIn line at ≡ bad (suc p)
 
 pub starts : (line : Bytes) (at : ℕ) (d : List ℕ) → at ≤ length line → Reading line at at 0 d d
 unfolding prefix

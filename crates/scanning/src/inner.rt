@@ -1,44 +1,38 @@
-// Places in a line, counted from 0: a column is one more.
-ghost use Rattle.std.specs.Prelude.{◌≡◌, suc, ◌+◌, ◌*◌, ◌≤◌, ◌<◌, min, length, drop, get_or};
+//! Places in a line are counted from 0: a column is one more. What fits nothing is told by the place of its first byte.
+ghost use Rattle.std.specs.Prelude.{◌≡◌, suc, ◌≤◌, ◌<◌, length, drop, get_or};
 ghost use Rattle.rules.specs.Grammar.{spellFrom};
-ghost use Rattle.scanning.specs.Scanned.{Skipped, spelt, Goes};
+ghost use Rattle.scanning.specs.Scanned.{Skipped, spelt, HexAt, Escaped, Goes};
 ghost use Rattle.scanning.specs.Names.{NameScanned};
-ghost use Rattle.scanning.specs.Numbers.{NumberScanned};
+ghost use Rattle.scanning.specs.Numbers.{DigitAt, NumberScanned};
 
-use super::{Hex, hex_of, is_blank};
-use spelling::inner::put;
-use spelling::{is_plain, within};
+use super::{hex_of, is_blank};
+use spelling::is_plain;
 
-// Where a sign ends, or the first byte that doesn't fit.
+/// What stands for all larger numbers: 2 ^ 31, which no exponent reaches.
+const CAP: u64 = 2147483648;
+
+/// A name that was read: where it ends, and how many bytes it has.
 #[derive(Clone, Copy)]
-pub enum Spelt {
-    To(usize),
-    Bad(usize),
+pub struct Name {
+    pub end: usize,
+    pub size: usize,
 }
 
-// What a name goes on with: a byte, and the place behind it; nothing; or a byte that doesn't fit.
+/// A number that was read: where its digits end, and its value, in which 2,147,483,648 stands for all that is larger.
 #[derive(Clone, Copy)]
-pub enum Letter {
-    Byte(u8, usize),
-    Ends,
-    Bad(usize),
+pub struct Number {
+    pub end: usize,
+    pub value: u64,
 }
 
-// Where a name ends and how many bytes it has, or the first byte that doesn't fit.
+/// A byte of a name, and the place behind all that it is written by.
 #[derive(Clone, Copy)]
-pub enum Name {
-    To(usize, usize),
-    Bad(usize),
+pub struct Letter {
+    pub byte: u8,
+    pub end: usize,
 }
 
-// Where digits end and their number, in which 2,147,483,648 stands for all that is larger; or the first byte that doesn't fit.
-#[derive(Clone, Copy)]
-pub enum Number {
-    To(usize, u64),
-    Bad(usize),
-}
-
-// The place of the next sign: behind blanks.
+/// The place of the next sign: behind blanks.
 pub fn skip_blanks(line: &[u8], at: usize) -> usize
     requires { at ≤ length line.now }
     ensures { Skipped line.now at result }
@@ -48,116 +42,118 @@ pub fn skip_blanks(line: &[u8], at: usize) -> usize
         if !is_blank(line[i]) {
             return i;
         }
-        i = i + 1;
+        i += 1;
     }
     i
 }
 
-// A sign's bytes, with nothing between them.
-pub fn spell(line: &[u8], at: usize, sign: &[u8]) -> Spelt
+/// The end of a sign whose bytes stand at a place, with nothing between them.
+pub fn spell(line: &[u8], at: usize, sign: &[u8]) -> Result<usize, usize>
     requires { at ≤ length line.now }
     ensures { spelt line.now result ≡ spellFrom sign.now (suc at) (drop at line.now) }
 {
     let mut i = at;
-    let mut j = 0;
-    while j < sign.len() {
+    for b in sign {
         if line.len() <= i {
-            return Spelt::Bad(i);
+            return Err(i);
         }
-        if line[i] != sign[j] {
-            return Spelt::Bad(i);
+        if line[i] != *b {
+            return Err(i);
         }
-        i = i + 1;
-        j = j + 1;
+        i += 1;
     }
-    Spelt::To(i)
+    Ok(i)
 }
 
-// The byte of a name that is written from a backslash on.
-fn escape_at(line: &[u8], at: usize) -> Letter
-    requires at_in_bounds { at < length line.now }
-    requires at_value { get_or line.now at 0 ≡ 92 }
+/// The value of the hex digit at a place.
+fn hex_at(line: &[u8], at: usize) -> Result<u8, usize>
+    ensures { HexAt line.now at result }
+{
+    if line.len() <= at {
+        return Err(at);
+    }
+    match hex_of(line[at]) {
+        Some(h) => Ok(h),
+        None => Err(at),
+    }
+}
+
+/// The byte of a name that is written as a backslash and two hex digits.
+fn escape_at(line: &[u8], at: usize) -> Result<Letter, usize>
+    requires within { at < length line.now }
+    requires backslash { get_or line.now at 0 ≡ 92 }
+    ensures { Escaped line.now at result }
+{
+    let high = hex_at(line, at + 1)?;
+    let low = hex_at(line, at + 2)?;
+    Ok(Letter {
+        byte: high * 16 + low,
+        end: at + 3,
+    })
+}
+
+/// What a name goes on with at a place, if it goes on.
+pub fn letter_at(line: &[u8], at: usize) -> Result<Option<Letter>, usize>
+    requires { at ≤ length line.now }
     ensures { Goes line.now at result }
 {
-    if line.len() - at <= 1 {
-        return Letter::Bad(at + 1);
+    if at == line.len() {
+        return Ok(None);
     }
-    let Hex::Digit(h) = hex_of(line[at + 1]) else {
-        return Letter::Bad(at + 1);
-    };
-    if line.len() - at <= 2 {
-        return Letter::Bad(at + 2);
+    let byte = line[at];
+    if is_plain(byte) {
+        return Ok(Some(Letter { byte, end: at + 1 }));
     }
-    let Hex::Digit(k) = hex_of(line[at + 2]) else {
-        return Letter::Bad(at + 2);
-    };
-    Letter::Byte(h * 16 + k, at + 3)
+    if byte != b'\\' {
+        return Ok(None);
+    }
+    let letter = escape_at(line, at)?;
+    Ok(Some(letter))
 }
 
-// What a name goes on with at a place.
-pub fn letter_at(line: &[u8], at: usize) -> Letter
-    requires { at < length line.now }
-    ensures { Goes line.now at result }
-{
-    let b = line[at];
-    if is_plain(b) {
-        return Letter::Byte(b, at + 1);
-    }
-    if b == b'\\' {
-        return escape_at(line, at);
-    }
-    Letter::Ends
-}
-
-// Reads the name that begins at a place; its bytes go to the front of a buffer, as far as that goes.
-pub fn scan_name(line: &[u8], at: usize, dst: &mut [u8]) -> Name
+/// Reads the name that begins at a place; its bytes go to the front of a buffer, as far as that goes.
+pub fn scan_name(line: &[u8], at: usize, dst: &mut [u8]) -> Result<Name, usize>
     requires { at ≤ length line.now }
     ensures { NameScanned line.now at dst.old dst.new result }
 {
-    let mut i = at;
-    let mut k = 0;
-    while i < line.len() {
-        match letter_at(line, i) {
-            Letter::Byte(b, next) => {
-                put(dst, k, b);
-                i = next;
-                k = k + 1;
-            }
-            Letter::Ends => return Name::To(i, k),
-            Letter::Bad(p) => return Name::Bad(p),
+    let mut end = at;
+    let mut size = 0;
+    while let Some(letter) = letter_at(line, end)? {
+        if size < dst.len() {
+            dst[size] = letter.byte;
         }
+        end = letter.end;
+        size += 1;
     }
-    Name::To(i, k)
+    Ok(Name { end, size })
 }
 
-// A number with one digit more.
-fn with_digit(n: u64, d: u8) -> u64
-    requires n_bound { n ≤ 2147483648 }
-    requires d_bound { d < 10 }
-    ensures { result ≡ min (n * 10 + d) 2147483648 }
+/// The value of the digit at a place, if there is one.
+#[tactic(auto, unfolding(rules::specs::Grammar::isDigit))]
+fn digit_at(line: &[u8], at: usize) -> Option<u64>
+    ensures { DigitAt line.now at result }
 {
-    let m = n * 10 + d as u64;
-    if m < 2147483648 { m } else { 2147483648 }
+    if line.len() <= at {
+        return None;
+    }
+    match line[at] {
+        b @ b'0'..=b'9' => Some(u64::from(b - b'0')),
+        _ => None,
+    }
 }
 
-// Reads the digits that begin at a place.
-pub fn scan_digits(line: &[u8], at: usize) -> Number
+/// Reads the digits that begin at a place.
+pub fn scan_digits(line: &[u8], at: usize) -> Result<Number, usize>
     requires { at ≤ length line.now }
     ensures { NumberScanned line.now at result }
 {
-    let mut i = at;
-    let mut n = 0;
-    while i < line.len() {
-        let b = line[i];
-        if !within(b'0', b, b'9') {
-            break;
-        }
-        n = with_digit(n, b - 48);
-        i = i + 1;
+    let Some(mut value) = digit_at(line, at) else {
+        return Err(at);
+    };
+    let mut end = at + 1;
+    while let Some(d) = digit_at(line, end) {
+        value = (value * 10 + d).min(CAP);
+        end += 1;
     }
-    if i == at {
-        Number::Bad(at)
-    } else {
-        Number::To(i, n)
-    }
+    Ok(Number { end, value })
 }

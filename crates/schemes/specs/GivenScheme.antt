@@ -14,8 +14,8 @@ use Rattle.rules.specs.Trees.{opens, size}
 use Rattle.laws.specs.Checks.{passed}
 use Rattle.laws.specs.KnownNames.{ty-known}
 use Rattle.laws.specs.NameTable.{Good, good-laid}
-use Rattle.names.specs.Told.{toldChecked}
-use Rattle.names.specs.declared.Checked.{Checked}
+use Rattle.names.specs.Old.{toldChecked}
+use Rattle.names.specs.declared.old.Checked.{Checked}
 use Rattle.records.specs.Found.{Words32}
 use Rattle.records.specs.Good.{Chain, numbers, holding, GoodBound, GoodScheme}
 use Rattle.records.specs.Places.{seen-in}

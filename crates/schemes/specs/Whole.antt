@@ -22,8 +22,8 @@ use Rattle.laws.specs.GoodProducts.{goodAtom, atom-tells}
 use Rattle.laws.specs.Lists.{All}
 use Rattle.laws.specs.NameTable.{Good, good-laid, held-is, held_tells}
 use Rattle.laws.specs.Order.{Tells}
-use Rattle.names.specs.Told.{toldChecked}
-use Rattle.names.specs.declared.Checked.{Checked}
+use Rattle.names.specs.Old.{toldChecked}
+use Rattle.names.specs.declared.old.Checked.{Checked}
 use Rattle.products.specs.Held.{law}
 use Rattle.renaming.specs.Places.{all_of}
 use Rattle.renaming.proofs.InTurn.{quantify-once}

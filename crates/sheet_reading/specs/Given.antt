@@ -1,5 +1,5 @@
 -- A sheet whose buffers are long enough: what is answered, from what its parts did.
-use Rattle.std.specs.Prelude.{◌≡◌, Bool, true, false, not, ℕ, ◌+◌, ◌*◌, ◌≤◌, length, take, drop}
+use Rattle.std.specs.Prelude.{◌≡◌, Bool, true, false, not, ℕ, Ok, Err, ◌+◌, ◌*◌, ◌≤◌, length, take, drop}
 use Rattle.std.proofs.Common.{sym, ◌∙◌, zero-add, arith, take_at}
 use Rattle.std.proofs.Math.Path.{ap}
 use mathlib.Core.List.{List, ◌++◌}
@@ -16,13 +16,11 @@ use Rattle.rules.specs.declared.Refusal.TheVariants.{Malformed}
 use Rattle.laws.specs.Lists.{not-true, not-false}
 use Rattle.laws.specs.NameTable.{Good}
 use Rattle.laws.specs.Size.{words-length, set-length}
-use Rattle.sheet_reading.specs.Loop.{IsRead, IsUndone}
-use Rattle.sheet_reading.specs.declared.Sheet.{Sheet}
-use Rattle.sheet_reading.specs.declared.Sheet.TheVariants as sheet
+use Rattle.sheet_reading.specs.Loop.{Sheet, IsRead, IsUndone}
 
 abbrev pub toldSheet : Sheet → ReadAnswer
-toldSheet (sheet.Read n c k) = wasRead n c k
-toldSheet (sheet.Refused r l q) = notRead (number_of r) l q
+toldSheet (Ok r) = wasRead r.records r.constraints r.names
+toldSheet (Err e) = notRead (number_of e.why) e.line e.column
 
 -- the answer, and what all that is lent holds then
 abbrev pub readAs : Sheet → List ℕ → List ℕ → List ℕ → List ℕ → TextRead
@@ -46,7 +44,7 @@ copied rs w b h k =
     ap (sets b 0) (front rs w h) ∙ sets-eq (words rs) b 0 (omega arith) ∙ ap (λ (i : ℕ). words rs ++ drop i b) (zero-add (length (words rs)))
 
 module _ {pool table : List ℕ} (text result : List ℕ) (b : Bool) (is : b ≡ tableGood (table_of pool table)) where
-  pub malformed : not b ≡ true → Answers pool table text result pool table result (sheet.Refused Malformed 0 0)
+  pub malformed : not b ≡ true → Answers pool table text result pool table result (Err (record { why = Malformed; line = 0; column = 0 }))
   unfolding tableKept
   malformed n = record { is = λ work. rw (sym is ∙ not-true b n) }
 
@@ -55,13 +53,13 @@ module _ {pool table : List ℕ} (text result : List ℕ) (b : Bool) (is : b ≡
     good p t = record { bytes = p; words = t; good = sym is ∙ not-false b yes }
 
     -- refused: nothing has changed
-    pub refused-sheet : {work p t d : List ℕ} {r : Refusal} {l q : ℕ} → IsUndone text pool table work p t d r l q → Answers pool table text result p t result (sheet.Refused r l q)
+    pub refused-sheet : {work p t d : List ℕ} {r : Refusal} {l q : ℕ} → IsUndone text pool table work p t d r l q → Answers pool table text result p t result (Err (record { why = r; line = l; column = q }))
     unfolding tableKept
     refused-sheet x = record { is = λ work. rw (sym is ∙ not-false b yes, x.is, x.pools, x.tables) }
 
     -- read: the records are handed over
     pub read-sheet : {work p t d e : List ℕ} {n c k : ℕ} → 8192 ≤ length work → 8192 ≤ length result → IsRead text pool table work p t d n c k → e ≡ sets result 0 (slice 0 (n * 4) d)
-        → Answers pool table text result p t e (sheet.Read n c k)
+        → Answers pool table text result p t e (Ok (record { records = n; constraints = c; names = k }))
     unfolding tableKept
     read-sheet {work} {p} {t} {d} {e} {n} {c} {k} f g x y =
         let w = x.whole in

@@ -1,5 +1,5 @@
 -- The loop over a sheet's lines, and what is put back where a line is refused.
-use Rattle.std.specs.Prelude.{◌≡◌, refl, List, ℕ, suc, ◌+◌, ◌*◌, ◌≤◌, ◌<◌, length, take, drop}
+use Rattle.std.specs.Prelude.{◌≡◌, refl, List, ℕ, Result, Ok, Err, suc, ◌+◌, ◌*◌, ◌≤◌, ◌<◌, length, take, drop}
 use Rattle.std.proofs.Common.{sym, ap, ◌∙◌, add-one, arith, length-take-le}
 use Rattle.std.proofs.lemmas.List.Edits.{sets}
 use Rattle.rules.specs.Names.{Bytes}
@@ -10,15 +10,20 @@ use Rattle.rules.specs.TextReading.{refusedAt, lineRead, refusedIn, sheetRead}
 use Rattle.rules.specs.declared.Refusal.{Refusal}
 use Rattle.laws.specs.NameTable.{Good}
 use Rattle.terms.specs.Effects.{Lent, lent, sofar, Roomy, Kept, kept_same, kept_then}
-use Rattle.terms.specs.declared.inner.Stand.TheVariants as stand
+use Rattle.terms.specs.Stands.{same-going}
+use Rattle.terms.specs.Stands as stand
 use Rattle.sheet_lines.specs.Copies.{put-back}
 use Rattle.sheet_lines.specs.Cut.{Cut, line_at, line-length}
 use Rattle.sheet_lines.specs.Told.{refused-in}
 use Rattle.sheet_lines.specs.Upto.{LineAdds, Upto, Whole}
 use Rattle.sheet_lines.specs.Upto as upto
 use Rattle.statements.specs.Statements.{LineDone}
-use Rattle.sheet_reading.specs.declared.Sheet.{Sheet}
-use Rattle.sheet_reading.specs.declared.Sheet.TheVariants as sheet
+use Rattle.sheet_reading.specs.declared.Read.{Read}
+use Rattle.sheet_reading.specs.declared.NotRead.{NotRead}
+
+-- what reading a sheet answers
+abbrev pub Sheet : Type 0
+Sheet = Result Read NotRead
 
 abbrev pub start : List ℕ → List ℕ → List ℕ → Lent
 start pool table dst = lent pool table dst (stand.Going 0 0)
@@ -38,8 +43,8 @@ module _ (text pool table dst : List ℕ) (pool' table' dst' : List ℕ) where
     pub table-behind : drop 257 table' ≡ drop 257 table
 
   abbrev pub Reads : Sheet → Type 0
-  Reads (sheet.Read n c k) = IsRead n c k
-  Reads (sheet.Refused r l q) = IsRefused r l q
+  Reads (Ok r) = IsRead r.records r.constraints r.names
+  Reads (Err e) = IsRefused e.why e.line e.column
 
   -- nothing has changed but the buffer
   pub record IsUndone (r : Refusal) (l q : ℕ) : Type 0 where
@@ -48,8 +53,8 @@ module _ (text pool table dst : List ℕ) (pool' table' dst' : List ℕ) where
     pub tables : table' ≡ table
 
   abbrev pub AllOrNothing : Sheet → Type 0
-  AllOrNothing (sheet.Read n c k) = IsRead n c k
-  AllOrNothing (sheet.Refused r l q) = IsUndone r l q
+  AllOrNothing (Ok r) = IsRead r.records r.constraints r.names
+  AllOrNothing (Err e) = IsUndone e.why e.line e.column
 
 -- ══ The loop ══
 
@@ -59,7 +64,7 @@ pub record Along (text pool table dst : List ℕ) (at m k n c : ℕ) (pool' tabl
   pub kept : Kept (start pool table dst) (lent pool' table' dst' (stand.Going k n))
 
 nothing-new : (table : List ℕ) → Roomy table (stand.Going 0 0)
-nothing-new table k n e = let a : 0 ≡ k = cc in let b : 0 ≡ n = cc in record { names = omega arith; records = omega arith }
+nothing-new table k n e = let w = same-going refl e in record { names = omega (arith, w.0); records = omega (arith, w.1) }
 
 pub begins : {pool table : List ℕ} (text dst : List ℕ) → Good pool table → Along text pool table dst 0 0 0 0 0 pool table dst
 begins {pool} {table} text dst good = record { upto = upto.begins pool table text dst; kept = kept_same good (nothing-new table) }

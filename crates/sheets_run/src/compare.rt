@@ -1,6 +1,6 @@
 // Are an answer and the buffers as stored?
 use crate::lists::Gives;
-use sheet_reading::Sheet;
+use sheet_reading::{NotRead, Read};
 
 // What the words of the result buffer and of the work buffer are before a call.
 pub const RESULT_BEFORE: u32 = 2863311530;
@@ -80,18 +80,18 @@ fn numbers_hold(a: usize, b: usize, c: usize, g: Gives) -> bool {
 }
 
 // Is it the stored answer?
-pub fn answer_holds(a: Sheet, g: Gives) -> bool {
+pub fn answer_holds(a: Result<Read, NotRead>, g: Gives) -> bool {
     match a {
-        Sheet::Read(n, c, k) => {
+        Ok(read) => {
             if g.refusal == 0 {
-                numbers_hold(n, c, k, g)
+                numbers_hold(read.records, read.constraints, read.names, g)
             } else {
                 false
             }
         }
-        Sheet::Refused(r, line, column) => {
-            if g.refusal == r.number() {
-                numbers_hold(line, column, 0, g)
+        Err(stop) => {
+            if g.refusal == stop.why.number() {
+                numbers_hold(stop.line, stop.column, 0, g)
             } else {
                 false
             }

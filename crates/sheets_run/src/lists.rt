@@ -2,8 +2,8 @@
 ghost use Rattle.std.specs.Prelude.{◌≤◌, length};
 
 use cases::{next_line, number_from};
-use names::{Answer, enter};
-use rules::Was;
+use names::enter;
+use rules::{Refusal, Was};
 
 // How much is lent of the four buffers: bytes of the pool, words of the others; and what the table's first word becomes, if not 0.
 #[derive(Clone, Copy)]
@@ -195,13 +195,13 @@ pub fn to_bytes(a: &[u32], out: &mut [u8]) {
     }
 }
 
-fn is_new(got: Answer) -> bool {
+fn is_new(got: Result<(u32, Was), Refusal>) -> bool {
     match got {
-        Answer::Number(_, was) => match was {
+        Ok((_, was)) => match was {
             Was::New => true,
             Was::Known => false,
         },
-        Answer::Refused(_) => false,
+        Err(_) => false,
     }
 }
 

@@ -5,7 +5,8 @@ ghost use Rattle.rules.specs.Names as rules;
 ghost use Rattle.rules.specs.Numbers.{refusalIn};
 ghost use Rattle.shupkelen.specs.Exports.{out, orderWord, placeOut, enteredOut};
 
-use names::{check_number, check_table, compare, enter};
+use names::old::{check_number, check_table};
+use names::{compare, enter};
 use saying::told::{numbered, ordered};
 use wording::placing::placed;
 use wording::{hand, number};

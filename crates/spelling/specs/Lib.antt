@@ -1,1 +1,2 @@
 pub mod Puts
+pub mod Sinks

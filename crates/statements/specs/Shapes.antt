@@ -1,16 +1,14 @@
 -- Which types are dimensions, by their first byte.
-use Rattle.std.specs.Prelude.{◌≡◌, refl, Bool, true, false, List, [], ◌∷◌, ℕ, suc, eqb}
+use Rattle.std.specs.Prelude.{◌≡◌, refl, Bool, true, false, List, [], ◌∷◌, ℕ, suc, eqb, Err, None, Ok, Some}
 use Rattle.std.proofs.Common.{sym, ap, subst, ◌∙◌, arith, eqb-true}
 use Prim.Native.Char.{Char, code}
 use Rattle.rules.specs.Names.{Bytes}
 use Rattle.rules.specs.Trees.{Open, var, par, boolean, string, datetime}
 use Rattle.rules.specs.Grammar.{Place, here, beyond, Parsed, read, bad, pass, Rule, give, sign, mark, skip, column, pick, chosen, name, NameAt, TyAt, open_at, basicAt, dimAt, fn_at, listAt, struct_at, deepAt, opened, keyword, dimension, function, listed, structure, types, type, ◌>>=◌, ◌>>◌}
 use Rattle.scanning.specs.Scanned.{place_in}
-use Rattle.reading.specs.Points.{Reads, from, standing, begins, beginsAt}
+use Rattle.reading.specs.Points.{Reads, from, standing, begins, beginsAt, Point}
 use Rattle.reading.specs.Types.{paramsThere, typesThere, fieldsThere}
 use Rattle.reading.specs.Factors.{factorsThere}
-use Rattle.reading.specs.declared.inner.Point.{Point}
-use Rattle.reading.specs.declared.inner.Point.TheVariants as point
 use Rattle.terms.specs.Effects.{NotBad}
 
 abbrev pub isDimension : TyAt → Bool
@@ -121,10 +119,10 @@ unfolding type skip begins
 type-dimension {P} {line} {q} {r} d x = record { within = x.within; onward = x.onward; value = x.value; is = x.is; holds = (x.holds, go q r x.is) }
   where
     go : (q r : Point) → from line q (λ p. chosen (deepAt 0) (types (type d)) (skip p)) ≡ standing line r x.value → NotBad r → isDimension x.value ≡ beginsAt line q 91
-    go (point.At i) (point.At j) e n = type-shape d (skip (place_in line i)) _ x.value e
-    go (point.At i) point.Past e n = type-shape d (skip (place_in line i)) _ x.value e
-    go point.Past (point.At j) e n = type-shape d beyond _ x.value e
-    go point.Past point.Past e n = type-shape d beyond _ x.value e
-    go (point.Bad k) (point.At j) e n = let z : ◌≡◌ {A = ℕ} 0 1 = cc in absurd (omega arith)
-    go (point.Bad k) point.Past e n = let z : ◌≡◌ {A = ℕ} 0 1 = cc in absurd (omega arith)
-    go q (point.Bad j) e n = absurd n
+    go (Ok (Some i)) (Ok (Some j)) e n = type-shape d (skip (place_in line i)) _ x.value e
+    go (Ok (Some i)) (Ok None) e n = type-shape d (skip (place_in line i)) _ x.value e
+    go (Ok None) (Ok (Some j)) e n = type-shape d beyond _ x.value e
+    go (Ok None) (Ok None) e n = type-shape d beyond _ x.value e
+    go (Err k) (Ok (Some j)) e n = let z : ◌≡◌ {A = ℕ} 0 1 = cc in absurd (omega arith)
+    go (Err k) (Ok None) e n = let z : ◌≡◌ {A = ℕ} 0 1 = cc in absurd (omega arith)
+    go q (Err j) e n = absurd n

@@ -1,6 +1,6 @@
 -- A line by its parts: a constraint's record is counted at the line's first sign, and written when its types are there.
 use Rattle.std.proofs.Math.Path.{◌≡◌, ap, ap₂, subst}
-use Rattle.std.specs.Prelude.{refl, Bool, true, false, ℕ, suc, ◌+◌, ◌≤◌, ◌<◌, eqb, length, get_or}
+use Rattle.std.specs.Prelude.{refl, Bool, true, false, ℕ, suc, ◌+◌, ◌≤◌, ◌<◌, eqb, length, get_or, Err, None, Ok, Some}
 use Rattle.std.proofs.Common.{sym, ◌∙◌, true≢false, arith, length-append, drop_of_length-le, drop-cons}
 use mathlib.Core.List.{List, [], ◌∷◌, ◌++◌, append-nil}
 use Rattle.std.proofs.Math.Option.{Option, none, some}
@@ -22,17 +22,14 @@ use Rattle.laws.specs.Size.{size-ty}
 use Rattle.records.specs.declared.View.{View}
 use Rattle.records.specs.declared.View.TheVariants as view
 use Rattle.scanning.specs.Scanned.{place_in}
-use Rattle.reading.specs.Points.{Reads, PointIn, Any, standing, marked, columnAt, beginsAt, in-turn, given, if-sign, if-no-sign, spell-end, spell-other, spell-there}
+use Rattle.reading.specs.Points.{Reads, PointIn, Any, standing, marked, columnAt, beginsAt, in-turn, given, if-sign, if-no-sign, spell-end, spell-other, spell-there, Point}
 use Rattle.reading.specs.Factors.{byte_of, refusedFrom, pick_other, choose-this, choose-none}
 use Rattle.reading.specs.Signs.{spelled}
-use Rattle.reading.specs.declared.inner.Point.{Point}
-use Rattle.reading.specs.declared.inner.Point.TheVariants as point
-use Rattle.terms.specs.Stands.{place_of, headPut}
+use Rattle.terms.specs.Stands.{place_of, headPut, same-refused, Stand}
 use Rattle.terms.specs.Effects.{Lent, lent, sofar, Halted, Ready, Kept, Did, Effect, Writes, Done, NotBad, not-bad, then, gives, maps, alike, grouped, kept_same, kept-last, kept_then, kept-counted, countedIn, Inside, halted-on}
 use Rattle.terms.specs.Naming.{NumberTold}
 use Rattle.terms.specs.Inside.{inside-spelled, inside-column}
-use Rattle.terms.specs.declared.inner.Stand.{Stand}
-use Rattle.terms.specs.declared.inner.Stand.TheVariants as stand
+use Rattle.terms.specs.Stands as stand
 use Rattle.phrases.specs.Parts.{Behind, head-by, kept-headed}
 use Rattle.phrases.specs.Rows.{none-halted}
 use Rattle.statements.specs.Shapes.{isDimension, type-dimension}
@@ -159,15 +156,15 @@ says-scalar line q false e f = λ g. f
 
 -- a byte stands in the line
 byte-stands : (line : Bytes) (e : Point) {b : ℕ} → byte_of line e ≡ b → 0 < b → NotBad e
-byte-stands line (point.At i) f h = tt
-byte-stands line point.Past f h = tt
-byte-stands line (point.Bad q) f h = absurd (omega arith)
+byte-stands line (Ok (Some i)) f h = tt
+byte-stands line (Ok None) f h = tt
+byte-stands line (Err q) f h = absurd (omega arith)
 
 -- where the sheet is refused, no record is written
 head-none : (v : View) (s r : Stand) (d : List ℕ) → ((k n : ℕ) → r ≡ stand.Going k n → ⊥) → d ≡ headPut v s r d
-head-none v (stand.Going i j) (stand.Going k n) d h = absurd (h k n refl)
-head-none v (stand.Going i j) (stand.Refused r c) d h = refl
-head-none v (stand.Refused w c) r d h = refl
+head-none v (Ok tally) (Ok tally') d h = absurd (h tally'.names tally'.records refl)
+head-none v (Ok tally) (Err stop) d h = refl
+head-none v (Err stop) r d h = refl
 
 -- only behind a dimension
 scalar-reads : {line : Bytes} {e b r : Point} {Q : ConAt → Type 0} (c : ℕ) (l : TyAt) → isDimension l ≡ true → byte_of line e ≡ 61 → Reads line e (marked 61) Any b
@@ -242,14 +239,14 @@ module _ {line : Bytes} {p q a e : Point} {x y : Lent} (h : Ready line p x.pool 
 
   past_effect : (e : Point) → Halted e y.stand → NotBad (refusedFrom e) → (c : ℕ) (l : TyAt) → c ≡ columnAt q → NotBad q → Effect (ty_of l) (Writes writeTy) (countedIn 1 (place_of q) x) y
       → Effect (conOf (isDimAt c l)) (Writes writeCon) x y
-  past_effect (point.At i) o n c l hc nq hl = absurd n
-  past_effect point.Past o n c l hc nq hl = dim-effect q hc nq hq l x2.kept hl y.dst (head-none view.IsDim x.stand y.stand y.dst (λ k m f. o k m refl f))
-  past_effect (point.Bad i) o n c l hc nq hl = absurd n
+  past_effect (Ok (Some i)) o n c l hc nq hl = absurd n
+  past_effect (Ok None) o n c l hc nq hl = dim-effect q hc nq hq l x2.kept hl y.dst (head-none view.IsDim x.stand y.stand y.dst (λ k m f. o k m refl f))
+  past_effect (Err i) o n c l hc nq hl = absurd n
 
   refused-stands : (e : Point) → NotBad (refusedFrom e) → NotBad e
-  refused-stands (point.At i) n = tt
-  refused-stands point.Past n = tt
-  refused-stands (point.Bad i) n = n
+  refused-stands (Ok (Some i)) n = tt
+  refused-stands (Ok None) n = tt
+  refused-stands (Err i) n = n
 
   -- nothing fits
   pub none_done : (byte_of line e ≡ 126 → ⊥) → (byte_of line e ≡ 58 → ⊥) → (byte_of line e ≡ 61 → false ≡ beginsAt line q 91) → Done line typed conOf (Writes writeCon) p x (refusedFrom e) y
@@ -321,16 +318,16 @@ hasfield-done {q = q} {v = v} h x1 x2 x3 x4 x5 x6 x7 x8 x9 x10 x11 o w = record 
 -- ══ The quote behind a name, and the end of a line ══
 
 module _ {line : Bytes} {i : ℕ} where
-  pub quote-there : i < length line → get_or line i 0 ≡ 34 → Reads line (point.At i) (spell (ascii "\"")) Any (point.At (i + 1))
+  pub quote-there : i < length line → get_or line i 0 ≡ 34 → Reads line (Ok (Some i)) (spell (ascii "\"")) Any (Ok (Some (i + 1)))
   quote-there h e = record { within = omega arith; onward = omega arith; value = tt; is = spell-there line i 34 h e; holds = tt }
 
-  pub quote-other : i < length line → (get_or line i 0 ≡ 34 → ⊥) → Reads line (point.At i) (spell (ascii "\"")) Any (point.Bad i)
+  pub quote-other : i < length line → (get_or line i 0 ≡ 34 → ⊥) → Reads line (Ok (Some i)) (spell (ascii "\"")) Any (Err i)
   quote-other h e = record { within = tt; onward = omega arith; value = tt; is = spell-other line i 34 h e; holds = tt }
 
-  pub quote-end : length line ≤ i → Reads line (point.At i) (spell (ascii "\"")) Any (point.Bad i)
+  pub quote-end : length line ≤ i → Reads line (Ok (Some i)) (spell (ascii "\"")) Any (Err i)
   quote-end h = record { within = tt; onward = omega arith; value = tt; is = spell-end line i 34 h; holds = tt }
 
-pub quote-past : (line : Bytes) → Reads line point.Past (spell (ascii "\"")) Any point.Past
+pub quote-past : (line : Bytes) → Reads line (Ok None) (spell (ascii "\"")) Any (Ok None)
 unfolding spell
 quote-past line = record { within = tt; onward = omega arith; value = tt; is = refl; holds = tt }
 
@@ -351,13 +348,13 @@ abbrev pub end_of : Bytes → Point → Point → Type 0
 end_of line e r = Reads line e end_at Any r
 
 module _ {line : Bytes} {i : ℕ} where
-  pub end-there : i ≤ length line → length line ≤ i → end_of line (point.At i) (point.At i)
+  pub end-there : i ≤ length line → length line ≤ i → end_of line (Ok (Some i)) (Ok (Some i))
   end-there k h = record { within = k; onward = omega arith; value = tt; is = rw (drop_of_length-le line {i = i} h); holds = tt }
 
-  pub end-other : i < length line → end_of line (point.At i) (point.Bad i)
+  pub end-other : i < length line → end_of line (Ok (Some i)) (Err i)
   end-other h = record { within = tt; onward = omega arith; value = tt; is = rw (drop-cons line i 0 h); holds = tt }
 
-pub end-past : (line : Bytes) → end_of line point.Past point.Past
+pub end-past : (line : Bytes) → end_of line (Ok None) (Ok None)
 end-past line = record { within = tt; onward = omega arith; value = tt; is = refl; holds = tt }
 
 pub end_read : {line : Bytes} {p e r : Point} → Reads line p column (λ (k : ℕ). k ≡ columnAt e) e → end_of line e r → Reads line p ended Any r
@@ -412,33 +409,33 @@ signs-here : (line : Bytes) (i : ℕ) → i < length line → signsAt (place_in 
 unfolding signsAt
 signs-here line i h = rw (drop-cons line i 0 h)
 
-signs-at : {P : Option ConAt → Type 0} {line : Bytes} {i : ℕ} {r : Point} → i < length line → Reads line (point.At i) (ifSign "-" (sign "--" >> give none) constraint) P r → Reads line (point.At i) signsAt P r
+signs-at : {P : Option ConAt → Type 0} {line : Bytes} {i : ℕ} {r : Point} → i < length line → Reads line (Ok (Some i)) (ifSign "-" (sign "--" >> give none) constraint) P r → Reads line (Ok (Some i)) signsAt P r
 signs-at {line = line} {i = i} h x = record { within = x.within; onward = x.onward; value = x.value; is = signs-here line i h ∙ x.is; holds = x.holds }
 
 module _ {line : Bytes} {i : ℕ} (h : i < length line) where
   -- 'whose first sign is "--"'
-  pub comment-done : {r : Point} {x : Lent} → Ready line (point.At i) x.pool x.table x.stand → true ≡ beginsAt line (point.At i) 45 → Reads line (point.At i) (spelled (ascii "--")) Any r
-      → Done line signsAt meantOf (LineTold 0) (point.At i) x r x
+  pub comment-done : {r : Point} {x : Lent} → Ready line (Ok (Some i)) x.pool x.table x.stand → true ≡ beginsAt line (Ok (Some i)) 45 → Reads line (Ok (Some i)) (spelled (ascii "--")) Any r
+      → Done line signsAt meantOf (LineTold 0) (Ok (Some i)) x r x
   comment-done k e y = record {
     reads = signs-at h (if-sign "-" (sign "--" >> give none) constraint e (in-turn (sign "--") (λ u. give none) y (λ u hu. given none y.within (λ n. gives [] none_told))));
     kept = kept_same k.good k.room;
     halted = halted-on (inside-spelled _) y k.halted;
   }
 
-  pub signs-done : {r : Point} {x y : Lent} → false ≡ beginsAt line (point.At i) 45 → Done line constraint meantOf (LineTold 1) (point.At i) x r y → Done line signsAt meantOf (LineTold 1) (point.At i) x r y
+  pub signs-done : {r : Point} {x y : Lent} → false ≡ beginsAt line (Ok (Some i)) 45 → Done line constraint meantOf (LineTold 1) (Ok (Some i)) x r y → Done line signsAt meantOf (LineTold 1) (Ok (Some i)) x r y
   signs-done e o = record { reads = signs-at h (if-no-sign "-" (sign "--" >> give none) constraint e o.reads); kept = o.kept; halted = o.halted }
 
 -- is there nothing at a point?
 abbrev pub Over : Bytes → Point → Type 0
-Over line (point.At i) = length line ≤ i
-Over line point.Past = Unit {0}
-Over line (point.Bad q) = Unit {0}
+Over line (Ok (Some i)) = length line ≤ i
+Over line (Ok None) = Unit {0}
+Over line (Err q) = Unit {0}
 
 blank-reads : {P : Option ConAt → Type 0} (line : Bytes) (p : Point) → PointIn line p → Over line p → P none → Reads line p signsAt P p
 unfolding signsAt
-blank-reads line (point.At i) w h u = record { within = w; onward = omega arith; value = none; is = rw (drop_of_length-le line {i = i} h); holds = u }
-blank-reads line point.Past w h u = record { within = tt; onward = omega arith; value = none; is = refl; holds = u }
-blank-reads line (point.Bad q) w h u = record { within = tt; onward = omega arith; value = none; is = refl; holds = u }
+blank-reads line (Ok (Some i)) w h u = record { within = w; onward = omega arith; value = none; is = rw (drop_of_length-le line {i = i} h); holds = u }
+blank-reads line (Ok None) w h u = record { within = tt; onward = omega arith; value = none; is = refl; holds = u }
+blank-reads line (Err q) w h u = record { within = tt; onward = omega arith; value = none; is = refl; holds = u }
 
 -- 'a line with nothing but blanks'
 pub blank-done : {line : Bytes} {p : Point} {x : Lent} → Ready line p x.pool x.table x.stand → Over line p → Done line signsAt meantOf (LineTold 0) p x p x
@@ -455,19 +452,19 @@ record Whole (line : Bytes) (P : Option ConAt → Type 0) (r : Point) : Type 0 w
   is : Grammar.line line ≡ standing line r value
   holds : P value
 
-whole-line : {line : Bytes} {q r : Point} {P : Option ConAt → Type 0} → Reads line (point.At 0) column (λ (k : ℕ). k ≡ columnAt q) q → Reads line q signsAt P r → Whole line P r
+whole-line : {line : Bytes} {q r : Point} {P : Option ConAt → Type 0} → Reads line (Ok (Some 0)) column (λ (k : ℕ). k ≡ columnAt q) q → Reads line q signsAt P r → Whole line P r
 unfolding Grammar.line skip
 whole-line x o = let w = in-turn column (λ c. signsAt) x (λ c hc. o) in record { value = w.value; is = w.is; holds = w.holds }
 
 meant_is : (line : Bytes) (r : Point) (v : Option ConAt) → NotBad r → (s : Sofar) → meant (standing line r v) s ≡ meantOf v s
 unfolding meant
-meant_is line (point.At i) none n s = refl
-meant_is line (point.At i) (some c) n s = refl
-meant_is line point.Past none n s = refl
-meant_is line point.Past (some c) n s = refl
-meant_is line (point.Bad q) v n s = absurd n
+meant_is line (Ok (Some i)) none n s = refl
+meant_is line (Ok (Some i)) (some c) n s = refl
+meant_is line (Ok None) none n s = refl
+meant_is line (Ok None) (some c) n s = refl
+meant_is line (Err q) v n s = absurd n
 
-module _ {line : Bytes} {q : Point} {x y : Lent} {n : ℕ} (x1 : Reads line (point.At 0) column (λ (k : ℕ). k ≡ columnAt q) q) where
+module _ {line : Bytes} {q : Point} {x y : Lent} {n : ℕ} (x1 : Reads line (Ok (Some 0)) column (λ (k : ℕ). k ≡ columnAt q) q) where
   pub line-done : {r : Point} → Done line signsAt meantOf (LineTold n) q x r y → NotBad r → LineDone line x y n
   unfolding lineRead
   line-done {r} o h =
@@ -475,7 +472,7 @@ module _ {line : Bytes} {q : Point} {x y : Lent} {n : ℕ} (x1 : Reads line (poi
       record { kept = o.kept; effect = alike (λ s. ap (λ (m : Parsed (Option ConAt)). meant m s) w.is ∙ meant_is line r w.value h s) (w.holds h) }
 
   -- 12, whatever was refused in the line
-  pub line-bad : {j k m : ℕ} (i : ℕ) → Done line signsAt meantOf (LineTold n) q x (point.Bad j) y → x.stand ≡ stand.Going k m → LineDone line x (lent y.pool y.table y.dst (stand.Refused NotGrammar j)) i
+  pub line-bad : {j k m : ℕ} (i : ℕ) → Done line signsAt meantOf (LineTold n) q x (Err j) y → x.stand ≡ stand.Going k m → LineDone line x (lent y.pool y.table y.dst (stand.Refused NotGrammar j)) i
   unfolding lineRead meant
   line-bad {j} {k} {m} i o g = record {
     kept = record {
@@ -495,21 +492,10 @@ module _ {line : Bytes} {q : Point} {x y : Lent} {n : ℕ} (x1 : Reads line (poi
     effect = record {
       does = λ a b a' b' e f. let z : ◌≡◌ {A = ℕ} 0 1 = cc in absurd (omega arith);
       refuses = λ a b c r e f.
-          let u : NotGrammar ≡ r = cc in
-          let w : j ≡ c = cc in
-          ap (λ (p : Parsed (Option ConAt)). meant p (sofar x a b)) (whole-line x1 o.reads).is ∙ ap₂ (λ (t : Refusal) (l : ℕ). refusedAt (number_of t) (suc l)) u w;
+          let w = same-refused refl f in
+          ap (λ (p : Parsed (Option ConAt)). meant p (sofar x a b)) (whole-line x1 o.reads).is ∙ ap₂ (λ (t : Refusal) (l : ℕ). refusedAt (number_of t) (suc l)) w.0 w.1;
     };
   }
-
--- a sheet that was refused before
-pub line-halted : {line : Bytes} {x : Lent} {r : Refusal} {c : ℕ} (n : ℕ) → Good x.pool x.table → x.stand ≡ stand.Refused r c → LineDone line x x n
-line-halted n g e = record {
-  kept = kept_same g (λ a b q. let z : ◌≡◌ {A = ℕ} 0 1 = cc in absurd (omega arith));
-  effect = record {
-    does = λ a b a' b' p q. let z : ◌≡◌ {A = ℕ} 0 1 = cc in absurd (omega arith);
-    refuses = λ a b d w p q. let z : ◌≡◌ {A = ℕ} 0 1 = cc in absurd (omega arith);
-  };
-}
 
 -- of a line that is refused nothing more is told
 pub line_refused : {line : Bytes} {x y : Lent} {r : Refusal} {c n : ℕ} (i : ℕ) → y.stand ≡ stand.Refused r c → LineDone line x y n → LineDone line x y i

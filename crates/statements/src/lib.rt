@@ -1,4 +1,4 @@
-// Lines of text, read and entered in one pass.
+//! Lines of text, read and entered in one pass.
 #![tactic(auto)]
 
 pub mod inner;

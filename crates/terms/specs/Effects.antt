@@ -1,5 +1,5 @@
 -- What a step of a sheet's meaning did to all that is lent, and steps in turn.
-use Rattle.std.specs.Prelude.{◌≡◌, refl, Bool, true, false, List, [], ◌∷◌, ◌++◌, ℕ, suc, ◌+◌, ◌-◌, ◌*◌, ◌≤◌, ◌<◌, leb, length, drop, get_or}
+use Rattle.std.specs.Prelude.{◌≡◌, refl, Bool, true, false, List, [], ◌∷◌, ◌++◌, ℕ, suc, ◌+◌, ◌-◌, ◌*◌, ◌≤◌, ◌<◌, leb, length, drop, get_or, Err, None, Ok, Some}
 use Rattle.std.proofs.Common.{sym, ap, subst, ◌∙◌, append-nil, append_assoc, arith, leb-true, leb-false, le-leb, length-append}
 use Rattle.std.proofs.lemmas.Bool.{lt-leb}
 use Rattle.std.proofs.lemmas.List.Edits.{sets}
@@ -16,12 +16,9 @@ use Rattle.laws.specs.Size.{words_append, words-length}
 use Rattle.records.specs.Stores.{sets-append, sets-before}
 use Rattle.records.specs.Views.{recOf}
 use Rattle.records.specs.declared.View.{View}
-use Rattle.reading.specs.Points.{Reads, PointIn, from, standing, columnAt}
-use Rattle.reading.specs.declared.inner.Point.{Point}
-use Rattle.reading.specs.declared.inner.Point.TheVariants as point
-use Rattle.terms.specs.Stands.{place_of, countIf, countOf, Above, headPut}
-use Rattle.terms.specs.declared.inner.Stand.{Stand}
-use Rattle.terms.specs.declared.inner.Stand.TheVariants as stand
+use Rattle.reading.specs.Points.{Reads, PointIn, from, standing, columnAt, Point}
+use Rattle.terms.specs.Stands.{Stand, not-both, same-going, same-refused, place_of, countIf, countOf, Above, headPut}
+use Rattle.terms.specs.Stands as stand
 
 -- ══ What is lent, and how the sheet stands ══
 
@@ -47,7 +44,7 @@ Roomy table s = (k n : ℕ) → s ≡ stand.Going k n → Room table k n
 
 -- behind a type nested 65 deep a sheet is refused
 abbrev pub Halted : Point → Stand → Type 0
-Halted p s = (k n : ℕ) → p ≡ point.Past → s ≡ stand.Going k n → ⊥
+Halted p s = (k n : ℕ) → p ≡ (Ok None) → s ≡ stand.Going k n → ⊥
 
 -- what every function asks
 pub record Ready (line : Bytes) (p : Point) (pool table : List ℕ) (s : Stand) : Type 0 where
@@ -93,15 +90,6 @@ Writes w b rs = rs ≡ w b
 
 -- ══ Steps in turn ══
 
-not-both : {s : Stand} {r : Refusal} {c k n : ℕ} → s ≡ stand.Refused r c → s ≡ stand.Going k n → ⊥
-not-both e f = let z : ◌≡◌ {A = ℕ} 0 1 = cc in omega arith
-
-same-going : {s : Stand} {k n i j : ℕ} → s ≡ stand.Going k n → s ≡ stand.Going i j → (k ≡ i) × (n ≡ j)
-same-going e f = (cc, cc)
-
-same-refused : {s : Stand} {r r' : Refusal} {c c' : ℕ} → s ≡ stand.Refused r c → s ≡ stand.Refused r' c' → (r ≡ r') × (c ≡ c')
-same-refused e f = (cc, cc)
-
 -- a step from one known stand to another, and one that is refused
 pub did : {B : Type 0} {m : Step B} {T : B → List Rec → Type 0} {x y : Lent} {k n k' n' : ℕ} → x.stand ≡ stand.Going k n → y.stand ≡ stand.Going k' n' → Did m T x y k n k' n' → Effect m T x y
 did {B} {m} {T} {x} {y} {k} {n} {k'} {n'} e f d = record {
@@ -133,26 +121,26 @@ module _ {A B : Type 0} (m : Step A) (f : A → Step B) {T : A → List Rec → 
   then e k g = record { does = λ i n i' n' p q. done i n i' n' p q y.stand refl; refuses = λ i n c r p q. stopped i n c r p q y.stand refl }
     where
       done : (i n i' n' : ℕ) → x.stand ≡ stand.Going i n → z.stand ≡ stand.Going i' n' → (s : Stand) → y.stand ≡ s → Did (λ s. onward (m s) f) W x z i n i' n'
-      done i n i' n' p q (stand.Refused r c) h = absurd (not-both (k.refused r c h) q)
-      done i n i' n' p q (stand.Going j l) h =
-          let a = e.does i n j l p h in
-          let b = (g a.value a.records a.tells).does j l i' n' h q in
+      done i n i' n' p q (Err stop) h = absurd (not-both (k.refused stop.why stop.at h) q)
+      done i n i' n' p q (Ok tally) h =
+          let a = e.does i n tally.names tally.records p h in
+          let b = (g a.value a.records a.tells).does tally.names tally.records i' n' h q in
           record {
             value = b.value;
             records = a.records ++ b.records;
             is = ap (λ (t : Told A). onward t f) a.is ∙ b.is;
             tells = b.tells;
-            written = written_next x.dst y.dst z.dst n l a.records b.records a.written a.grown b.written;
+            written = written_next x.dst y.dst z.dst n tally.records a.records b.records a.written a.grown b.written;
             grown = omega (arith, a.grown, b.grown, length-append a.records b.records);
           }
 
       stopped : (i n c : ℕ) (r : Refusal) → x.stand ≡ stand.Going i n → z.stand ≡ stand.Refused r c → (s : Stand) → y.stand ≡ s → onward (m (sofar x i n)) f ≡ refusedAt (number_of r) (suc c)
-      stopped i n c r p q (stand.Refused r' c') h =
-          let w = same-refused (k.refused r' c' h) q in
-          ap (λ (t : Told A). onward t f) (e.refuses i n c' r' p h) ∙ rw (w.0, w.1)
-      stopped i n c r p q (stand.Going j l) h =
-          let a = e.does i n j l p h in
-          ap (λ (t : Told A). onward t f) a.is ∙ (g a.value a.records a.tells).refuses j l c r h q
+      stopped i n c r p q (Err stop) h =
+          let w = same-refused (k.refused stop.why stop.at h) q in
+          ap (λ (t : Told A). onward t f) (e.refuses i n stop.at stop.why p h) ∙ rw (w.0, w.1)
+      stopped i n c r p q (Ok tally) h =
+          let a = e.does i n tally.names tally.records p h in
+          ap (λ (t : Told A). onward t f) a.is ∙ (g a.value a.records a.tells).refuses tally.names tally.records c r h q
 
 -- a step that does nothing
 pub gives : {B : Type 0} {W : B → List Rec → Type 0} {x : Lent} (b : B) → W b [] → Effect (give b) W x x
@@ -230,8 +218,8 @@ kept_then {x} {y} {z} a b = record {
 }
   where
     go : (k n k' n' : ℕ) → x.stand ≡ stand.Going k n → z.stand ≡ stand.Going k' n' → (s : Stand) → y.stand ≡ s → n ≤ n'
-    go k n k' n' p q (stand.Refused r c) h = absurd (not-both (b.refused r c h) q)
-    go k n k' n' p q (stand.Going i j) h = omega (arith, a.above k n i j p h, b.above i j k' n' h q)
+    go k n k' n' p q (Err stop) h = absurd (not-both (b.refused stop.why stop.at h) q)
+    go k n k' n' p q (Ok tally) h = omega (arith, a.above k n tally.names tally.records p h, b.above tally.names tally.records k' n' h q)
 
 -- only the stand changed: to a refusal, if at all
 pub kept-stopped : {pool table dst : List ℕ} {s s' : Stand} → Good pool table → Roomy table s → ((r : Refusal) (c : ℕ) → s ≡ stand.Refused r c → s' ≡ stand.Refused r c)
@@ -305,9 +293,8 @@ module _ (k at f n : ℕ) (x : Lent) (e : x.stand ≡ stand.Going f n) where
     where
       go : (s : Stand) → s ≡ stand.Going i j → Counts k at f n s → CountedTo k at f n x i j
       go _ q (fits l) =
-          let u : f ≡ i = cc in
-          let v : n + k ≡ j = cc in
-          rw (← u, ← v) (record { is = counted-fits k (suc at) (sofar x f n) l; fresh = refl; records = refl; few = l })
+          let w = same-going refl q in
+          rw (← w.0, ← w.1) (record { is = counted-fits k (suc at) (sofar x f n) l; fresh = refl; records = refl; few = l })
       go _ q (over l) = absurd (not-both refl q)
 
   pub counted-refused : (c : ℕ) (r : Refusal) → countOf k at x.stand ≡ stand.Refused r c → counted k (suc at) (sofar x f n) ≡ refusedAt (number_of r) (suc c)
@@ -334,8 +321,8 @@ kept-counted {x} k at g h = record {
 }
   where
     go : (i n : ℕ) → countOf k at x.stand ≡ stand.Going i n → (s : Stand) → x.stand ≡ s → Room x.table i n
-    go i n q (stand.Refused r c) p = absurd (not-both (ap (countOf k at) p) q)
-    go i n q (stand.Going f l) p = let w = counted-going k at f l x p i n q in let r = h f l p in record { names = omega (arith, w.fresh, r.names); records = w.few }
+    go i n q (Err stop) p = absurd (not-both (ap (countOf k at) p) q)
+    go i n q (Ok tally) p = let w = counted-going k at tally.names tally.records x p i n q in let r = h tally.names tally.records p in record { names = omega (arith, w.fresh, r.names); records = w.few }
 
 -- ══ A record before its parts ══
 
@@ -366,32 +353,32 @@ module _ {B : Type 0} (v : View) (at : ℕ) (m : Step B) {T W : B → List Rec �
 
       done : (i n i' n' : ℕ) → x.stand ≡ stand.Going i n → y.stand ≡ stand.Going i' n' → (s : Stand) → countOf 1 at x.stand ≡ s
           → Did (λ s. onward (counted 1 (suc at) s) (λ u. m)) W x (lent y.pool y.table d y.stand) i n i' n'
-      done i n i' n' p q (stand.Refused r c) f = absurd (not-both (k.refused r c f) q)
-      done i n i' n' p q (stand.Going j l) f =
-          let w = counted-going 1 at i n x p j l f in
-          let a = e.does j l i' n' f q in
+      done i n i' n' p q (Err stop) f = absurd (not-both (k.refused stop.why stop.at f) q)
+      done i n i' n' p q (Ok tally) f =
+          let w = counted-going 1 at i n x p tally.names tally.records f in
+          let a = e.does tally.names tally.records i' n' f q in
           record {
             value = a.value;
             records = recOf v (suc (length a.records)) ∷ a.records;
             is = ap (λ (t : Told (Unit {0})). onward t (λ u. m)) w.is ∙ a.is;
             tells = h a.value a.records a.tells;
-            written = head-written v x.dst y.dst d n l n' a.records w.records a.written a.grown (put i n i' n' p q);
+            written = head-written v x.dst y.dst d n tally.records n' a.records w.records a.written a.grown (put i n i' n' p q);
             grown = omega (arith, a.grown, w.records);
           }
 
       stopped : (i n c : ℕ) (r : Refusal) → x.stand ≡ stand.Going i n → y.stand ≡ stand.Refused r c → (s : Stand) → countOf 1 at x.stand ≡ s
           → onward (counted 1 (suc at) (sofar x i n)) (λ u. m) ≡ refusedAt (number_of r) (suc c)
-      stopped i n c r p q (stand.Refused r' c') f =
-          let w = same-refused (k.refused r' c' f) q in
-          ap (λ (t : Told (Unit {0})). onward t (λ u. m)) (counted-refused 1 at i n x p c' r' f) ∙ rw (w.0, w.1)
-      stopped i n c r p q (stand.Going j l) f =
-          let w = counted-going 1 at i n x p j l f in
-          ap (λ (t : Told (Unit {0})). onward t (λ u. m)) w.is ∙ e.refuses j l c r f q
+      stopped i n c r p q (Err stop) f =
+          let w = same-refused (k.refused stop.why stop.at f) q in
+          ap (λ (t : Told (Unit {0})). onward t (λ u. m)) (counted-refused 1 at i n x p stop.at stop.why f) ∙ rw (w.0, w.1)
+      stopped i n c r p q (Ok tally) f =
+          let w = counted-going 1 at i n x p tally.names tally.records f in
+          ap (λ (t : Told (Unit {0})). onward t (λ u. m)) w.is ∙ e.refuses tally.names tally.records c r f q
 
 pub head-long : (v : View) (s r : Stand) (d : List ℕ) → length (headPut v s r d) ≡ length d
-head-long v (stand.Going k n) (stand.Going i m) d = length-sets d (n * 4) (words (recOf v (m - n) ∷ []))
-head-long v (stand.Going k n) (stand.Refused r c) d = refl
-head-long v (stand.Refused r c) s d = refl
+head-long v (Ok tally) (Ok tally') d = length-sets d (tally.records * 4) (words (recOf v (tally'.records - tally.records) ∷ []))
+head-long v (Ok tally) (Err stop) d = refl
+head-long v (Err stop) s d = refl
 
 pub kept_above : {x y : Lent} → Kept x y → Above x.stand y.stand
 kept_above k i n i' n' p q = (k.above i n i' n' p q, (k.room i' n' q).records)
@@ -399,9 +386,9 @@ kept_above k i n i' n' p q = (k.above i n i' n' p q, (k.room i' n' q).records)
 -- ══ From point to point ══
 
 abbrev pub NotBad : Point → Type 0
-NotBad (point.At i) = Unit {0}
-NotBad point.Past = Unit {0}
-NotBad (point.Bad q) = ⊥
+NotBad (Ok (Some i)) = Unit {0}
+NotBad (Ok None) = Unit {0}
+NotBad (Err q) = ⊥
 
 bad≢read : {A : Type 0} {c : ℕ} {a : A} {p : Place} → bad c ≡ read a p → ⊥
 bad≢read e = let z : ◌≡◌ {A = ℕ} 0 1 = cc in omega arith
@@ -411,11 +398,11 @@ pub not-bad : {A : Type 0} {P : A → Type 0} {line : Bytes} {p r : Point} {R : 
 not-bad {A} {P} {line} {p} {r} {R} x = go p r x.is
   where
     go : (p r : Point) → from line p R ≡ standing line r x.value → NotBad r → NotBad p
-    go (point.At i) r e n = tt
-    go point.Past r e n = tt
-    go (point.Bad q) (point.At j) e n = bad≢read e
-    go (point.Bad q) point.Past e n = bad≢read e
-    go (point.Bad q) (point.Bad j) e n = n
+    go (Ok (Some i)) r e n = tt
+    go (Ok None) r e n = tt
+    go (Err q) (Ok (Some j)) e n = bad≢read e
+    go (Err q) (Ok None) e n = bad≢read e
+    go (Err q) (Err j) e n = n
 
 -- a rule that from a place never goes behind a type nested 65 deep
 pub record Inside {A : Type 0} (R : Rule A) : Type 0 where
@@ -424,17 +411,17 @@ pub record Inside {A : Type 0} (R : Rule A) : Type 0 where
 pub halted-on : {A : Type 0} {P : A → Type 0} {line : Bytes} {p r : Point} {s : Stand} {R : Rule A} → Inside R → Reads line p R P r → Halted p s → Halted r s
 halted-on {A} {P} {line} {p} {r} {s} {R} i x h k n e = go p r x.is e (λ q. h k n q)
   where
-    go : (p r : Point) → from line p R ≡ standing line r x.value → r ≡ point.Past → (p ≡ point.Past → s ≡ stand.Going k n → ⊥) → s ≡ stand.Going k n → ⊥
-    go (point.At j) r y f g = λ t. i.stays (suc j) (drop j line) x.value (y ∙ ap (λ (w : Point). standing line w x.value) f)
-    go point.Past r y f g = g refl
-    go (point.Bad q) r y f g = λ t. bad≢read (y ∙ ap (λ (w : Point). standing line w x.value) f)
+    go : (p r : Point) → from line p R ≡ standing line r x.value → r ≡ (Ok None) → (p ≡ (Ok None) → s ≡ stand.Going k n → ⊥) → s ≡ stand.Going k n → ⊥
+    go (Ok (Some j)) r y f g = λ t. i.stays (suc j) (drop j line) x.value (y ∙ ap (λ (w : Point). standing line w x.value) f)
+    go (Ok None) r y f g = g refl
+    go (Err q) r y f g = λ t. bad≢read (y ∙ ap (λ (w : Point). standing line w x.value) f)
 
 pub halted-counted : {p : Point} {s : Stand} (k at : ℕ) → Halted p s → Halted p (countOf k at s)
 halted-counted {p} {s} k at h i n e q = go s (λ f m g. h f m e g) q
   where
     go : (s : Stand) → ((f m : ℕ) → s ≡ stand.Going f m → ⊥) → countOf k at s ≡ stand.Going i n → ⊥
-    go (stand.Going f m) g q = g f m refl
-    go (stand.Refused r c) g q = not-both refl q
+    go (Ok tally) g q = g tally.names tally.records refl
+    go (Err stop) g q = not-both refl q
 
 module _ {line : Bytes} {p : Point} {pool table : List ℕ} {s s₁ : Stand} (k at : ℕ) (h : Ready line p pool table s) (e : s₁ ≡ countOf k at s) where
   pub kept-count : (dst : List ℕ) → Kept (lent pool table dst s) (lent pool table dst s₁)
@@ -462,9 +449,9 @@ ready-next d = ready-kept d.kept d.reads.within d.halted
 
 -- the place of a sign: where the sheet goes on and the line is not refused, its column is one more
 pub at_sign : {B : Type 0} {m : Step B} {T : B → List Rec → Type 0} {x y : Lent} (c : Point) {k : ℕ} → k ≡ columnAt c → NotBad c → Halted c x.stand → (k ≡ suc (place_of c) → Effect m T x y) → Effect m T x y
-at_sign (point.At i) e n h f = f e
-at_sign point.Past e n h f = record { does = λ i j i' j' p q. absurd (h i j refl p); refuses = λ i j c r p q. absurd (h i j refl p) }
-at_sign (point.Bad q) e n h f = absurd n
+at_sign (Ok (Some i)) e n h f = f e
+at_sign (Ok None) e n h f = record { does = λ i j i' j' p q. absurd (h i j refl p); refuses = λ i j c r p q. absurd (h i j refl p) }
+at_sign (Err q) e n h f = absurd n
 
 -- a sheet that doesn't go on: the line is only read on
 pub reads_on : {A B : Type 0} {P : A → Type 0} {T : B → List Rec → Type 0} {line : Bytes} {p r : Point} {x : Lent} {R : Rule A} (f : A → Step B) → Good x.pool x.table
@@ -486,13 +473,13 @@ pub only-reads : {A B : Type 0} {P : A → Type 0} {T : B → List Rec → Type 
 only-reads f g e y = reads_on f g (λ k n q. not-both e q) y
 
 -- nothing fits: the line is refused, whatever was done
-pub ends-bad : {A B : Type 0} {P : A → Type 0} {T : B → List Rec → Type 0} {line : Bytes} {p : Point} {x y : Lent} {R : Rule A} {q : ℕ} (f : A → Step B) → Kept x y → Reads line p R P (point.Bad q)
-    → Done line R f T p x (point.Bad q) y
+pub ends-bad : {A B : Type 0} {P : A → Type 0} {T : B → List Rec → Type 0} {line : Bytes} {p : Point} {x y : Lent} {R : Rule A} {q : ℕ} (f : A → Step B) → Kept x y → Reads line p R P (Err q)
+    → Done line R f T p x (Err q) y
 ends-bad f k y = record {
   reads = record { within = y.within; onward = y.onward; value = y.value; is = y.is; holds = λ n. absurd n };
   kept = k;
   halted = λ i n h p. let z : ◌≡◌ {A = ℕ} 0 1 = cc in omega arith;
 }
 
-pub not-past : {i : ℕ} {s : Stand} → Halted (point.At i) s
+pub not-past : {i : ℕ} {s : Stand} → Halted (Ok (Some i)) s
 not-past k n h p = let z : ◌≡◌ {A = ℕ} 0 1 = cc in omega arith

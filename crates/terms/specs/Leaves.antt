@@ -17,14 +17,12 @@ use Rattle.records.specs.declared.Basic.TheVariants.{Boolean, Text, Datetime}
 use Rattle.records.specs.declared.Open.TheVariants.{Var, Par}
 use Rattle.records.specs.declared.View.{View}
 use Rattle.records.specs.declared.View.TheVariants as view
-use Rattle.reading.specs.Points.{Reads, Any, marked, columnAt, in-turn, given}
+use Rattle.reading.specs.Points.{Reads, Any, marked, columnAt, in-turn, given, Point}
 use Rattle.reading.specs.Signs.{spelled, keywordBy, openedBy}
-use Rattle.reading.specs.declared.inner.Point.{Point}
-use Rattle.terms.specs.Stands.{place_of, countOf, headPut}
+use Rattle.terms.specs.Stands.{place_of, countOf, headPut, Stand}
 use Rattle.terms.specs.Effects.{lent, Ready, Kept, kept_then, kept-last, kept-counted, kept-written, Effect, Writes, gives, maps, headed, head-long, halted-on, halted-counted, not-bad, at_sign, Done}
 use Rattle.terms.specs.Inside.{inside-column, inside-spelled}
 use Rattle.terms.specs.Naming.{NumberTold}
-use Rattle.terms.specs.declared.inner.Stand.{Stand}
 
 -- ══ Variables and parameters ══
 

@@ -1,5 +1,5 @@
 -- A name that was read, and entered where it stands.
-use Rattle.std.specs.Prelude.{◌≡◌, Bool, true, false, ◌&&◌, List, [], ◌∷◌, ◌++◌, ℕ, suc, ◌+◌, ◌≤◌, ◌<◌, leb, length, take, drop, get_or}
+use Rattle.std.specs.Prelude.{◌≡◌, Bool, true, false, ◌&&◌, List, [], ◌∷◌, ◌++◌, ℕ, suc, ◌+◌, ◌≤◌, ◌<◌, Result, Ok, Err, Some, leb, length, take, drop, get_or}
 use Rattle.std.proofs.Math.Path.{refl, ap}
 use Rattle.std.proofs.Common.{sym, subst, ◌∙◌, append-nil, arith, length-append, length-take, length-drop, length-set, take_at}
 use Rattle.std.proofs.lemmas.Bool.{lt-leb}
@@ -10,34 +10,37 @@ use Rattle.rules.specs.Writing.{Rec, words}
 use Rattle.rules.specs.Grammar.{NameAt, name}
 use Rattle.rules.specs.TextReading.{newIn, enterName, named}
 use Rattle.rules.specs.TextReading as TextReading
+use Rattle.rules.specs.Refusals.{told}
+use Rattle.rules.specs.declared.Refusal.{Refusal}
 use Rattle.rules.specs.declared.Refusal.TheVariants.{NameLength}
 use Rattle.rules.specs.declared.Was.{Was}
 use Rattle.rules.specs.declared.Was.TheVariants.{New, Known}
 use Rattle.laws.specs.NameTable.{Good, good-given, good-laid, new_is}
 use Rattle.laws.specs.Entering.{Enters, Case, stopped, known, full, new, enter-case, count-with, names-with, good-with, pool-behind, table-behind}
-use Rattle.names.specs.Told.{toldAnswer, entered}
-use Rattle.names.specs.declared.Answer.{Answer}
-use Rattle.names.specs.declared.Answer.TheVariants as answer
+use Rattle.names.specs.Told.{entered}
 use Rattle.scanning.specs.Names.{NameRead}
-use Rattle.reading.specs.declared.inner.Point.TheVariants as point
 use Rattle.terms.specs.Effects.{lent, sofar, Room, Kept, Effect, did, stops, Done, not-past}
-use Rattle.terms.specs.declared.inner.Stand.{Stand}
-use Rattle.terms.specs.declared.inner.Stand.TheVariants as stand
+use Rattle.terms.specs.Stands.{Stand, same-going}
+use Rattle.terms.specs.Stands as stand
+
+-- what entering a name answers
+abbrev pub Answer : Type 0
+Answer = Result (ℕ × Was) Refusal
 
 abbrev pub standAfter : ℕ → ℕ → ℕ → Answer → Stand
-standAfter at k n (answer.Number i w) = stand.Going (k + newIn w) n
-standAfter at k n (answer.Refused why) = stand.Refused why at
+standAfter at k n (Ok a) = stand.Going (k + newIn a.1) n
+standAfter at k n (Err why) = stand.Refused why at
 
 abbrev pub numberTold : Answer → ℕ
-numberTold (answer.Number i w) = i
-numberTold (answer.Refused why) = 0
+numberTold (Ok a) = a.0
+numberTold (Err why) = 0
 
 pub new-small : (w : Was) → newIn w ≤ 1
 new-small New = omega arith
 new-small Known = omega arith
 
 module _ {a : Answer} (at k n : ℕ) where
-  pub after-number : {i j : ℕ} {w : Was} → a ≡ answer.Number i w → j ≡ k + newIn w → stand.Going j n ≡ standAfter at k n a
+  pub after-number : {j : ℕ} {p : ℕ × Was} → a ≡ Ok p → j ≡ k + newIn p.1 → stand.Going j n ≡ standAfter at k n a
   after-number e f = rw (e, f)
 
 -- the number i is told: it is held, and nothing is written
@@ -70,7 +73,7 @@ pub front_of : {line : Bytes} {at i long : ℕ} {d d' : List ℕ} (r : NameRead 
 front_of {line} {at} {i} {long} {d} {d'} r h = record { count = r.count; before = d; size = h; is = r.buffer }
 
 -- a name of over 48 bytes
-pub too_long : (pool table : List ℕ) (n : Bytes) → 48 < length n → entered (answer.Refused NameLength) pool table ≡ enterName pool table n
+pub too_long : (pool table : List ℕ) (n : Bytes) → 48 < length n → entered (Err NameLength) pool table ≡ enterName pool table n
 unfolding enterName enterChecked
 too_long pool table n h = rw (lt-leb (length n) 48 h, no-and (leb 1 (length n)))
   where
@@ -145,14 +148,14 @@ module _ {pool table : List ℕ} (g : Good pool table) where
 -- ══ A name, read and entered ══
 
 module _ {pool table pool' table' : List ℕ} (n : Bytes) (a : Answer) (e : entered a pool' table' ≡ enterName pool table n) (g : Good pool table) where
-  entry-told : Entry pool table pool' table' (toldAnswer a)
+  entry-told : Entry pool table pool' table' (told a)
   entry-told = subst (λ (r : Entered). Entry pool table r.pool r.table r.answer) (sym e) (entry g n)
 
 abbrev nameThere : ℕ → Bytes → NameAt
 nameThere at n = record { column = suc at; bytes = n }
 
 module _ (pool table pool' table' : List ℕ) (at k l : ℕ) (room : Room table k l) (dst : List ℕ) where
-  named-kept : (a : Answer) → Entry pool table pool' table' (toldAnswer a) → Kept (lent pool table dst (stand.Going k l)) (lent pool' table' dst (standAfter at k l a))
+  named-kept : (a : Answer) → Entry pool table pool' table' (told a) → Kept (lent pool table dst (stand.Going k l)) (lent pool' table' dst (standAfter at k l a))
   named-kept a t = record {
     good = t.good;
     more = t.more;
@@ -169,39 +172,38 @@ module _ (pool table pool' table' : List ℕ) (at k l : ℕ) (room : Room table 
   }
     where
       above : (a : Answer) (i j i' j' : ℕ) → stand.Going k l ≡ stand.Going i j → standAfter at k l a ≡ stand.Going i' j' → j ≤ j'
-      above (answer.Number x w) i j i' j' p q = let u : l ≡ j = cc in let v : l ≡ j' = cc in omega arith
-      above (answer.Refused why) i j i' j' p q = let z : ◌≡◌ {A = ℕ} 0 1 = cc in absurd (omega arith)
+      above (Ok x) i j i' j' p q = let u = same-going refl p in let v = same-going refl q in omega (arith, u.1, v.1)
+      above (Err why) i j i' j' p q = let z : ◌≡◌ {A = ℕ} 0 1 = cc in absurd (omega arith)
 
-      roomy : (a : Answer) → Entry pool table pool' table' (toldAnswer a) → (i j : ℕ) → standAfter at k l a ≡ stand.Going i j → Room table' i j
-      roomy (answer.Number x w) t i j q =
-          let u : k + newIn w ≡ i = cc in
-          let v : l ≡ j = cc in
-          let h = t.number x w refl in
-          record { names = omega (arith, h.1, room.names); records = omega (arith, room.records) }
-      roomy (answer.Refused why) t i j q = let z : ◌≡◌ {A = ℕ} 0 1 = cc in absurd (omega arith)
+      roomy : (a : Answer) → Entry pool table pool' table' (told a) → (i j : ℕ) → standAfter at k l a ≡ stand.Going i j → Room table' i j
+      roomy (Ok x) t i j q =
+          let v = same-going refl q in
+          let h = t.number x.0 x.1 refl in
+          record { names = omega (arith, h.1, room.names, v.0); records = omega (arith, room.records, v.1) }
+      roomy (Err why) t i j q = let z : ◌≡◌ {A = ℕ} 0 1 = cc in absurd (omega arith)
 
   module _ (n : Bytes) where
     named-is : (a : Answer) → entered a pool' table' ≡ enterName pool table n
-        → named (nameThere at n) (sofar (lent pool table dst (stand.Going k l)) k l) ≡ TextReading.entered (suc at) (sofar (lent pool table dst (stand.Going k l)) k l) (entered a pool' table') (toldAnswer a)
+        → named (nameThere at n) (sofar (lent pool table dst (stand.Going k l)) k l) ≡ TextReading.entered (suc at) (sofar (lent pool table dst (stand.Going k l)) k l) (entered a pool' table') (told a)
     unfolding named
     named-is a e = ap (λ (r : Entered). TextReading.entered (suc at) (sofar (lent pool table dst (stand.Going k l)) k l) r r.answer) (sym e)
 
-    named-effect : (a : Answer) → entered a pool' table' ≡ enterName pool table n → Entry pool table pool' table' (toldAnswer a)
+    named-effect : (a : Answer) → entered a pool' table' ≡ enterName pool table n → Entry pool table pool' table' (told a)
         → Effect (named (nameThere at n)) (NumberTold table' (numberTold a)) (lent pool table dst (stand.Going k l)) (lent pool' table' dst (standAfter at k l a))
     unfolding words
-    named-effect (answer.Number x w) e t =
+    named-effect (Ok x) e t =
         did refl refl (record {
-          value = x;
+          value = x.0;
           records = [];
-          is = named-is (answer.Number x w) e;
-          tells = record { is = refl; held = (t.number x w refl).0; none = refl };
+          is = named-is (Ok x) e;
+          tells = record { is = refl; held = (t.number x.0 x.1 refl).0; none = refl };
           written = refl;
           grown = omega arith;
         })
-    named-effect (answer.Refused why) e t = stops refl refl (named-is (answer.Refused why) e)
+    named-effect (Err why) e t = stops refl refl (named-is (Err why) e)
 
   pub named-done : {line : Bytes} {i long : ℕ} {d d' : List ℕ} → Good pool table → (r : NameRead line at i long d d') (a : Answer) → entered a pool' table' ≡ enterName pool table r.bytes
-      → Done line name named (NumberTold table' (numberTold a)) (point.At at) (lent pool table dst (stand.Going k l)) (point.At i) (lent pool' table' dst (standAfter at k l a))
+      → Done line name named (NumberTold table' (numberTold a)) (Ok (Some at)) (lent pool table dst (stand.Going k l)) (Ok (Some i)) (lent pool' table' dst (standAfter at k l a))
   unfolding name
   named-done {line} {i} g r a e =
       let t = entry-told r.bytes a e g in

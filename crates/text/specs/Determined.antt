@@ -1,5 +1,5 @@
 -- The contracts leave no choice: two results that one of them allows coincide; and each answer has the number of its outcome.
-use Rattle.std.specs.Prelude.{◌≡◌, refl, List, ℕ}
+use Rattle.std.specs.Prelude.{◌≡◌, refl, List, ℕ, Ok, Err}
 use Rattle.std.proofs.Common.{sym, ◌∙◌, arith}
 use Rattle.std.proofs.Math.Path.{ap}
 use Rattle.rules.specs.Calls.{Listed}
@@ -10,8 +10,10 @@ use Rattle.laws.specs.Numbers.{number-injective}
 use Rattle.rules.specs.TextReading.{TextRead, readTextCall}
 use Rattle.rules.specs.TextWriting.{writeTextCall}
 use Rattle.sheet_reading.specs.Given.{toldSheet, readAs}
-use Rattle.sheet_reading.specs.declared.Sheet.{Sheet}
-use Rattle.sheet_reading.specs.declared.Sheet.TheVariants as sheet
+use Rattle.sheet_reading.specs.declared.Read.{Read}
+use Rattle.sheet_reading.specs.declared.NotRead.{NotRead}
+use Rattle.rules.specs.declared.Refusal.{Refusal}
+use Rattle.sheet_reading.specs.Loop.{Sheet}
 use Rattle.text.specs.declared.Answer.{Answer}
 use Rattle.text.specs.declared.Answer.TheVariants.{Bytes, Refused}
 use Rattle.text.specs.Told.{told, listedAs}
@@ -47,19 +49,29 @@ module _ (pool table set text : List ℕ) where
 
 -- ══ Reading ══
 
+one-read : (r s : Read) → r.records ≡ s.records → r.constraints ≡ s.constraints → r.names ≡ s.names → ◌≡◌ {A = Sheet} (Ok r) (Ok s)
+one-read r s x y z =
+    let made : ℕ → ℕ → ℕ → Sheet = λ n c k. Ok (record { records = n; constraints = c; names = k }) in
+    ap (λ n. made n r.constraints r.names) x ∙ ap (λ c. made s.records c r.names) y ∙ ap (made s.records s.constraints) z
+
+one-refusal : (r s : NotRead) → r.why ≡ s.why → r.line ≡ s.line → r.column ≡ s.column → ◌≡◌ {A = Sheet} (Err r) (Err s)
+one-refusal r s x y z =
+    let made : Refusal → ℕ → ℕ → Sheet = λ w l q. Err (record { why = w; line = l; column = q }) in
+    ap (λ w. made w r.line r.column) x ∙ ap (λ l. made s.why l r.column) y ∙ ap (made s.why s.line) z
+
 sheet-injective : (p q : Sheet) → toldSheet p ≡ toldSheet q → p ≡ q
-sheet-injective (sheet.Read n c k) (sheet.Read m d j) e =
-    let x : n ≡ m = cc in
-    let y : c ≡ d = cc in
-    let z : k ≡ j = cc in
-    rw (x, y, z) refl
-sheet-injective (sheet.Read n c k) (sheet.Refused s l q) e = let z : ◌≡◌ {A = ℕ} 0 1 = cc in absurd (omega arith)
-sheet-injective (sheet.Refused r l q) (sheet.Read m d j) e = let z : ◌≡◌ {A = ℕ} 0 1 = cc in absurd (omega arith)
-sheet-injective (sheet.Refused r l q) (sheet.Refused s m p) e =
-    let x : r ≡ s = number-injective r s (cc) in
-    let y : l ≡ m = cc in
-    let z : q ≡ p = cc in
-    rw (x, y, z) refl
+sheet-injective (Ok r) (Ok s) e =
+    let x : r.records ≡ s.records = cc in
+    let y : r.constraints ≡ s.constraints = cc in
+    let z : r.names ≡ s.names = cc in
+    one-read r s x y z
+sheet-injective (Ok r) (Err s) e = let z : ◌≡◌ {A = ℕ} 0 1 = cc in absurd (omega arith)
+sheet-injective (Err r) (Ok s) e = let z : ◌≡◌ {A = ℕ} 0 1 = cc in absurd (omega arith)
+sheet-injective (Err r) (Err s) e =
+    let x : r.why ≡ s.why = number-injective r.why s.why (cc) in
+    let y : r.line ≡ s.line = cc in
+    let z : r.column ≡ s.column = cc in
+    one-refusal r s x y z
 
 pub record OneReading (r s : Sheet) (p p' t t' e e' w w' : List ℕ) : Type 0 where
   pub answers : r ≡ s
@@ -70,13 +82,13 @@ pub record OneReading (r s : Sheet) (p p' t t' e e' w w' : List ℕ) : Type 0 wh
 
 -- the number of an answer: 0, or that of the refusal
 abbrev pub numberSheet : Sheet → ℕ
-numberSheet (sheet.Read n c k) = 0
-numberSheet (sheet.Refused r l q) = number_of r
+numberSheet (Ok r) = 0
+numberSheet (Err e) = number_of e.why
 
 sheet-in : (r : Sheet) → numberSheet r ≡ refusalRead (toldSheet r)
 unfolding refusalRead
-sheet-in (sheet.Read n c k) = refl
-sheet-in (sheet.Refused r l q) = refl
+sheet-in (Ok r) = refl
+sheet-in (Err e) = refl
 
 module _ (pool table text result work : List ℕ) where
   pub read-text-determined : (r s : Sheet) (p p' t t' e e' w w' : List ℕ) → readAs r p t e w ≡ readTextCall pool table text result work → readAs s p' t' e' w' ≡ readTextCall pool table text result work

@@ -1,5 +1,5 @@
 -- The call that reads a sheet: 10, or what is answered past it.
-use Rattle.std.specs.Prelude.{◌≡◌, refl, true, ◌&&◌, List, ℕ, ◌≤◌, leb, length}
+use Rattle.std.specs.Prelude.{◌≡◌, refl, true, ◌&&◌, List, ℕ, ◌≤◌, Err, leb, length}
 use Rattle.std.proofs.Math.Path.{sym, ap}
 use Rattle.std.proofs.Common.{◌∙◌, leb-true}
 use Rattle.std.proofs.Math.ListN.{replicate}
@@ -11,9 +11,8 @@ use Rattle.rules.specs.declared.Refusal.TheVariants.{ShortBuffer}
 use Rattle.laws.specs.Checks.{need-passed}
 use Rattle.laws.specs.Lists.{and_left, and_right}
 use Rattle.lending.specs.Lent.{Long}
+use Rattle.sheet_reading.specs.Loop.{Sheet}
 use Rattle.sheet_reading.specs.Given.{readAs, Answers}
-use Rattle.sheet_reading.specs.declared.Sheet.{Sheet}
-use Rattle.sheet_reading.specs.declared.Sheet.TheVariants as sheet
 
 -- ══ What is lent is long enough ══
 
@@ -31,7 +30,7 @@ module _ {pool table result work : List ℕ} (long : Long pool table result work
 -- ══ The call ══
 
 module _ (pool table text result work : List ℕ) where
-  pub short : lent pool table result work ≡ refused 10 → readAs (sheet.Refused ShortBuffer 0 0) pool table result work ≡ readTextCall pool table text result work
+  pub short : lent pool table result work ≡ refused 10 → readAs (Err (record { why = ShortBuffer; line = 0; column = 0 })) pool table result work ≡ readTextCall pool table text result work
   unfolding readTextCall sheetGiven workAfter
   short e = rw e
 

@@ -12,11 +12,11 @@ ghost use Rattle.text.specs.Told.{listedAs};
 use inner::write_lines;
 use lending::inner::clear;
 use lending::lent;
-use names::Checked;
+use names::old::Checked;
 use records::is_set;
 use rules::Refusal;
-use sheet_reading::Sheet;
 use sheet_reading::inner::read_given;
+use sheet_reading::{NotRead, Read};
 
 // 173 bytes for each of 2,048 records.
 pub const TEXT_BYTES: usize = 354304;
@@ -41,20 +41,25 @@ pub fn write_text(pool: &[u8], table: &[u32], set: &[u32], text: &mut [u8]) -> A
     }
 }
 
-// Reads lines as a set: its records in the result buffer, new names entered; or changes nothing. The work buffer is left all zero.
+/// Reads lines as a set: its records in the result buffer, new names entered; or changes nothing. The work buffer is left all zero.
+/// A refusal has its line and its column, both 0 for a buffer that is too short (10) and a table that isn't well formed (1).
 pub fn read_text(
     pool: &mut [u8],
     table: &mut [u32],
     text: &[u8],
     res: &mut [u32],
     work: &mut [u32],
-) -> Sheet
+) -> Result<Read, NotRead>
     ensures { readAs result pool.new table.new res.new work.new ≡ readTextCall pool.old table.old text.now res.old work.old }
 {
     if !lent(pool, table, res, work) {
-        return Sheet::Refused(Refusal::ShortBuffer, 0, 0);
+        return Err(NotRead {
+            why: Refusal::ShortBuffer,
+            line: 0,
+            column: 0,
+        });
     }
-    let r = read_given(pool, table, text, res, work);
+    let answer = read_given(pool, table, text, res, work);
     clear(work);
-    r
+    answer
 }

@@ -1,5 +1,5 @@
 -- One constraint after another: bindings put in, measured, tested.
-use Rattle.std.specs.Prelude.{◌≡◌, Bool, false, ℕ, ◌+◌, ◌/◌, ◌≤◌, ◌<◌, leb, eqb, length}
+use Rattle.std.specs.Prelude.{◌≡◌, Bool, false, ℕ, ◌+◌, ◌/◌, ◌≤◌, ◌<◌, leb, eqb, length, Result, Ok, Err}
 use Rattle.std.proofs.Math.Path.{refl, sym, ap, subst}
 use Rattle.std.proofs.Common.{◌∙◌}
 use Rattle.std.proofs.Math.Bool.{true, and-eq-true_iff}
@@ -13,7 +13,7 @@ use Rattle.rules.specs.Base.{Got, got, refused, ◌>>=◌, bounded, sized, all, 
 use Rattle.rules.specs.Judging.{failed, judgeCon, judge}
 use Rattle.rules.specs.Meaning.{holds}
 use Rattle.rules.specs.Names.{table_of, names_of}
-use Rattle.rules.specs.Refusals.{number_of}
+use Rattle.rules.specs.Refusals.{number_of, told, toldBy}
 use Rattle.rules.specs.Replacing.{replaceCon, bindings}
 use Rattle.rules.specs.Trees.{Open, Ty, Con, Binding, sizeCon, depthCon, opensCon}
 use Rattle.rules.specs.WellFormed.{goodTy, goodCon}
@@ -39,9 +39,6 @@ use Rattle.replacing.specs.Runs.{HoldsAll}
 use Rattle.replacing.specs.Well.{Lent}
 use Rattle.replacing.specs.declared.inner.walk.Went.{Went}
 use Rattle.replacing.specs.declared.inner.walk.Went.TheVariants.{To, Stop}
-use Rattle.trials.specs.Told.{told}
-use Rattle.trials.specs.declared.Verdict.{Verdict}
-use Rattle.trials.specs.declared.Verdict.TheVariants.{Yes, No, Refused}
 
 -- ══ 6 counts as failure ══
 
@@ -60,6 +57,14 @@ never n e = go (eqb n 6) refl
     go : (b : Bool) → eqb n 6 ≡ b → ⊥
     go true i = let z : got true ≡ got false = rw (i, failed) at e in true≢false (let y : true ≡ false = cc in y)
     go false i = clash (let z : got true ≡ refused n = rw (i, failed) at e in sym z)
+
+-- the two parts of an answer with a place
+abbrev next-of : Result (Bool × ℕ) Refusal → ℕ
+next-of (Ok p) = p.1
+next-of (Err why) = 0
+
+abbrev pub said-of : Result (Bool × ℕ) Refusal → Got Bool
+said-of r = toldBy (λ (p : Bool × ℕ). p.0) r
 
 module _ (pool table : List ℕ) where
   -- what is said of a constraint once the bindings are put in
@@ -120,9 +125,10 @@ module _ (pool table : List ℕ) where
     pub lent : Lent pool table places types (bindings (numbers pool table) bs)
     pub good : (o : Open ℕ) (t : Ty ℕ) → bindings (numbers pool table) bs o ≡ some t → goodTy (numbers pool table) (holding pool table) 0 t ≡ true
 
-  pub record Tried (bs : List (Binding ℕ)) (xs : List ℕ) (c : Con ℕ) (at : ℕ) (v : Verdict) (next : ℕ) : Type 0 where
-    pub says : told v ≡ judgeCon (numbers pool table) bounded bs xs c
-    pub ends : v ≡ Yes → next ≡ at + sizeCon c
+  -- what is said of a constraint, and where it ends
+  pub record Tried (bs : List (Binding ℕ)) (xs : List ℕ) (c : Con ℕ) (at : ℕ) (r : Result (Bool × ℕ) Refusal) : Type 0 where
+    pub says : said-of r ≡ judgeCon (numbers pool table) bounded bs xs c
+    pub ends : (next : ℕ) → r ≡ Ok (true, next) → next ≡ at + sizeCon c
 
   module _ (bs : List (Binding ℕ)) (xs : List ℕ) (c : Con ℕ) where
     abbrev replaced : Got (Con ℕ)
@@ -166,13 +172,26 @@ module _ (pool table : List ℕ) where
           good : goodCon (numbers pool table) (holding pool table) 0 k.made ≡ true
           good = (laws.con-kept (numbers pool table) (law pool table) (holding pool table) 0 (bindings (numbers pool table) bs) put.good c there.good).holds k.made k.is
 
-      pub tried : {w w' : List ℕ} {q n : ℕ} {v : Verdict} (k : Came w w' at q n) → told v ≡ tested xs k.made → Tried bs xs c at v q
-      unfolding judgeCon
-      tried k e = record { says = e ∙ sym (rw k.is); ends = λ y. k.read }
+      -- the answer of the test on what was put in
+      module _ {w w' : List ℕ} {q n : ℕ} (k : Came w w' at q n) where
+        pub tried : (b : Bool) → got b ≡ tested xs k.made → Tried bs xs c at (Ok (b, q))
+        unfolding judgeCon
+        tried b e = record { says = e ∙ sym (rw k.is); ends = λ next y. ap (λ (r : Result (Bool × ℕ) Refusal). next-of r) (sym y) ∙ k.read }
 
-      pub refused-tried : {v : Verdict} (k : Refusal) (next : ℕ) → replaced ≡ refused (number_of k) → told v ≡ failed (refused (number_of k)) → Tried bs xs c at v next
-      unfolding judgeCon
-      refused-tried k next i e = record { says = e ∙ sym (rw i); ends = λ y. absurd (never (number_of k) (ap told (sym y) ∙ e)) }
+        pub untested : (why : Refusal) → refused (number_of why) ≡ tested xs k.made → Tried bs xs c at (Err why)
+        unfolding judgeCon
+        untested why e = record { says = e ∙ sym (rw k.is); ends = λ next y. cc }
+
+      -- replacing refused
+      module _ (k : Refusal) (i : replaced ≡ refused (number_of k)) where
+        pub fails : (b : Bool) (next : ℕ) → got b ≡ failed (refused (number_of k)) → Tried bs xs c at (Ok (b, next))
+        unfolding judgeCon
+        fails b next e =
+            record { says = e ∙ sym (rw i); ends = λ n y. absurd (never (number_of k) (sym (ap (λ (r : Result (Bool × ℕ) Refusal). said-of r) y) ∙ e)) }
+
+        pub has-none : (why : Refusal) → refused (number_of why) ≡ failed (refused (number_of k)) → Tried bs xs c at (Err why)
+        unfolding judgeCon
+        has-none why e = record { says = e ∙ sym (rw i); ends = λ next y. cc }
 
   -- ══ One after another ══
 
@@ -214,31 +233,34 @@ module _ (pool table : List ℕ) where
               plain = record { held = p.held.1; good = r.1; ends = omega (arith, p.ends) };
             }
 
-    module _ (at : ℕ) (lt : at < length set / 4) (g : Going at) {v : Verdict} {next : ℕ} (t : Tried bs xs (first at lt g).one at v next) where
+    module _ (at : ℕ) (lt : at < length set / 4) (g : Going at) where
       turn : judge (numbers pool table) bounded bs xs cs ≡ judge (numbers pool table) bounded bs xs ((first at lt g).one ∷ (first at lt g).others)
       turn = g.decides ∙ ap (judge (numbers pool table) bounded bs xs) (first at lt g).is
 
-      pub going-stop : (v ≡ Yes → ⊥) → told v ≡ judge (numbers pool table) bounded bs xs cs
+      pub going-refused : {k : Refusal} → Tried bs xs (first at lt g).one at (Err k) → refused (number_of k) ≡ judge (numbers pool table) bounded bs xs cs
       unfolding judge
-      going-stop n = sym (turn ∙ go v n t.says)
-        where
-          go : (v : Verdict) → (v ≡ Yes → ⊥) → told v ≡ judgeCon (numbers pool table) bounded bs xs (first at lt g).one → judge (numbers pool table) bounded bs xs ((first at lt g).one ∷ (first at lt g).others) ≡ told v
-          go Yes n e = absurd (n refl)
-          go No n e = rw (← e)
-          go (Refused k) n e = rw (← e)
+      going-refused t = sym (turn ∙ rw (← t.says))
 
-      pub going_on : v ≡ Yes → Going next
-      unfolding judge
-      going_on y =
-          let e : got true ≡ judgeCon (numbers pool table) bounded bs xs (first at lt g).one = ap told (sym y) ∙ t.says in
-          record {
-            rest = (first at lt g).others;
-            plain = subst (λ (k : ℕ). PlainLines pool table set (map con (first at lt g).others) k (length set / 4)) (sym (t.ends y)) (first at lt g).plain;
-            decides = turn ∙ rw (← e);
-          }
+      module _ {b : Bool} {next : ℕ} (t : Tried bs xs (first at lt g).one at (Ok (b, next))) where
+        pub going-no : b ≡ false → got false ≡ judge (numbers pool table) bounded bs xs cs
+        unfolding judge
+        going-no i = let e : got false ≡ judgeCon (numbers pool table) bounded bs xs (first at lt g).one = rw (← i) t.says in sym (turn ∙ rw (← e))
 
-      pub further : v ≡ Yes → (at < next) × (next ≤ length set / 4)
-      further y = (omega (arith, t.ends y, line-some (con (first at lt g).one)), omega (arith, t.ends y, (first at lt g).plain.ends))
+        ends : b ≡ true → next ≡ at + sizeCon (first at lt g).one
+        ends i = t.ends next (rw i)
+
+        pub going_on : b ≡ true → Going next
+        unfolding judge
+        going_on i = let e : got true ≡ judgeCon (numbers pool table) bounded bs xs (first at lt g).one = rw (← i) t.says in record {
+          rest = (first at lt g).others;
+          plain = subst (λ (k : ℕ). PlainLines pool table set (map con (first at lt g).others) k (length set / 4)) (sym (ends i)) (first at lt g).plain;
+          decides = turn ∙ rw (← e);
+        }
+
+        pub further : b ≡ true → (at < next) × (next ≤ length set / 4)
+        further i =
+            let e = ends i in
+            (omega (arith, e, line-some (con (first at lt g).one)), omega (arith, e, (first at lt g).plain.ends))
 
     pub going_end : (at : ℕ) → length set / 4 ≤ at → Going at → got true ≡ judge (numbers pool table) bounded bs xs cs
     unfolding judge

@@ -2,60 +2,51 @@
 ghost use Rattle.std.specs.Prelude.{◌≡◌, List, ℕ, ◌≤◌, length};
 ghost use Rattle.rules.specs.Base.{bounded, refused};
 ghost use Rattle.rules.specs.Judging.{failed, judge};
-ghost use Rattle.rules.specs.Refusals.{number_of};
+ghost use Rattle.rules.specs.Refusals.{number_of, told};
 ghost use Rattle.rules.specs.Trees.{Con, Binding};
 ghost use Rattle.laws.specs.NameTable.{Good};
 ghost use Rattle.records.specs.Good.{numbers};
 ghost use Rattle.queries.specs.Marks.{Marks};
-ghost use Rattle.trials.specs.Told.{told};
 ghost use Rattle.trials.specs.Trials.{ConStands, tested, Put, ConThere, Tried, SetThere};
 
-use super::Verdict;
 use meaning::inner::truth::holds;
 use replacing::inner::flat::lines_flat;
 use replacing::inner::lines::replace_line;
 use replacing::inner::walk::Went;
 use rules::{NAMES, RECORDS, Refusal};
 
-// What is said of one constraint, and where it ends.
-#[derive(Clone, Copy)]
-struct Trial {
-    verdict: Verdict,
-    next: usize,
-}
-
 // A refusal of replacing: 6 counts as failure.
-fn stopped(k: Refusal) -> Verdict
-    ensures { told result ≡ failed (refused (number_of k)) }
+fn stopped(why: Refusal) -> Result<bool, Refusal>
+    ensures { told result ≡ failed (refused (number_of why)) }
 {
-    if k.number() == 6 {
-        Verdict::No // the bindings don't fit
+    if why.number() == 6 {
+        Ok(false) // the bindings don't fit
     } else {
-        Verdict::Refused(k)
+        Err(why)
     }
 }
 
 // The constraint of n records at the start: is it short and flat enough, and is it true?
-fn test(pool: &[u8], table: &[u32], w: &[u32], n: usize, bounds: &[bool; NAMES]) -> Verdict
+fn test(
+    pool: &[u8],
+    table: &[u32],
+    w: &[u32],
+    n: usize,
+    bounds: &[bool; NAMES],
+) -> Result<bool, Refusal>
     requires good { Good pool.now table.now }
-    requires by_index { (d : Con ℕ) × ConStands pool.now table.now w.now n d }
+    requires stands { (d : Con ℕ) × ConStands pool.now table.now w.now n d }
     requires bounds_len { length bounds.now ≡ 256 }
-    ensures { (d : Con ℕ) (xs : List ℕ) → ConStands pool.now table.now w.now n d → Marks bounds.now xs → told result ≡ tested pool.now table.now xs d }
+    ensures { (d : Con ℕ) (xs : List ℕ) → ConStands pool.now table.now w.now n d → Marks bounds.now xs →
+        told result ≡ tested pool.now table.now xs d }
 {
-    if RECORDS < n {
-        return Verdict::Refused(Refusal::TooLarge);
+    if RECORDS < n || !lines_flat(pool, table, w, 0, n) {
+        return Err(Refusal::TooLarge);
     }
-    if !lines_flat(pool, table, w, 0, n) {
-        return Verdict::Refused(Refusal::TooLarge);
-    }
-    if holds(w, 0, bounds) {
-        Verdict::Yes
-    } else {
-        Verdict::No
-    }
+    Ok(holds(w, 0, bounds))
 }
 
-// The constraint at a place, with what the table says put in at the start of the work buffer.
+// Is the constraint at a place true, with what the table says put in at the start of the work buffer? And where it ends.
 fn try_con(
     pool: &[u8],
     table: &[u32],
@@ -65,24 +56,20 @@ fn try_con(
     types: &[u32],
     bounds: &[bool; NAMES],
     work: &mut [u32],
-) -> Trial
+) -> Result<(bool, usize), Refusal>
     requires good { Good pool.now table.now }
-    requires by_index { (c : Con ℕ) × ConThere pool.now table.now set.now at c }
-    requires by_index_2 { (bs : List (Binding ℕ)) × Put pool.now table.now places.now types.now bs }
+    requires there { (c : Con ℕ) × ConThere pool.now table.now set.now at c }
+    requires put { (bs : List (Binding ℕ)) × Put pool.now table.now places.now types.now bs }
     requires bounds_len { length bounds.now ≡ 256 }
-    requires set_len_bound { length set.now ≤ 8192 }
-    requires in_bounds { 8192 ≤ length work.old }
-    ensures { (c : Con ℕ) (bs : List (Binding ℕ)) (xs : List ℕ) → ConThere pool.now table.now set.now at c → Put pool.now table.now places.now types.now bs → Marks bounds.now xs → Tried pool.now table.now bs xs c at result.verdict result.next }
+    requires set_short { length set.now ≤ 8192 }
+    requires work_long { 8192 ≤ length work.old }
+    ensures { (c : Con ℕ) (bs : List (Binding ℕ)) (xs : List ℕ) →
+        ConThere pool.now table.now set.now at c → Put pool.now table.now places.now types.now bs → Marks bounds.now xs →
+        Tried pool.now table.now bs xs c at result }
 {
     match replace_line(pool, table, set, at, places, types, work, 0) {
-        Went::To(q, n) => Trial {
-            verdict: test(pool, table, work, n, bounds),
-            next: q,
-        },
-        Went::Stop(k) => Trial {
-            verdict: stopped(k),
-            next: at,
-        },
+        Went::To(next, n) => Ok((test(pool, table, work, n, bounds)?, next)),
+        Went::Stop(why) => Ok((stopped(why)?, at)),
     }
 }
 
@@ -95,24 +82,25 @@ pub fn try_all(
     types: &[u32],
     bounds: &[bool; NAMES],
     work: &mut [u32],
-) -> Verdict
+) -> Result<bool, Refusal>
     requires good { Good pool.now table.now }
-    requires by_index { (cs : List (Con ℕ)) × SetThere pool.now table.now set.now cs }
-    requires by_index_2 { (bs : List (Binding ℕ)) × Put pool.now table.now places.now types.now bs }
-    requires by_index_3 { (xs : List ℕ) × Marks bounds.now xs }
-    requires set_len_bound { length set.now ≤ 8192 }
-    requires in_bounds { 8192 ≤ length work.old }
-    ensures { (cs : List (Con ℕ)) (bs : List (Binding ℕ)) (xs : List ℕ) → SetThere pool.now table.now set.now cs → Put pool.now table.now places.now types.now bs → Marks bounds.now xs → told result ≡ judge (numbers pool.now table.now) bounded bs xs cs }
+    requires there { (cs : List (Con ℕ)) × SetThere pool.now table.now set.now cs }
+    requires put { (bs : List (Binding ℕ)) × Put pool.now table.now places.now types.now bs }
+    requires marked { (xs : List ℕ) × Marks bounds.now xs }
+    requires set_short { length set.now ≤ 8192 }
+    requires work_long { 8192 ≤ length work.old }
+    ensures { (cs : List (Con ℕ)) (bs : List (Binding ℕ)) (xs : List ℕ) →
+        SetThere pool.now table.now set.now cs → Put pool.now table.now places.now types.now bs → Marks bounds.now xs →
+        told result ≡ judge (numbers pool.now table.now) bounded bs xs cs }
 {
     let n = set.len() / 4;
     let mut at = 0;
     while at < n {
-        let t = try_con(pool, table, set, at, places, types, bounds, work);
-        let v = t.verdict;
-        let Verdict::Yes = v else {
-            return v;
-        };
-        at = t.next;
+        let (holds, next) = try_con(pool, table, set, at, places, types, bounds, work)?;
+        if !holds {
+            return Ok(false);
+        }
+        at = next;
     }
-    Verdict::Yes
+    Ok(true)
 }

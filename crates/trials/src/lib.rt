@@ -2,13 +2,3 @@
 #![tactic(auto)]
 
 pub mod inner;
-
-use rules::Refusal;
-
-// Yes, no, or why there is no answer.
-#[derive(Clone, Copy)]
-pub enum Verdict {
-    Yes,
-    No,
-    Refused(Refusal),
-}

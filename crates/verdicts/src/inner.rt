@@ -4,13 +4,13 @@ ghost use Rattle.rules.specs.Base.{Got};
 ghost use Rattle.rules.specs.Solving.{Answer};
 ghost use Rattle.rules.specs.Trees.{Binding};
 ghost use Rattle.laws.specs.NameTable.{Good};
-ghost use Rattle.trials.specs.Told.{told};
+ghost use Rattle.rules.specs.Refusals.{told};
 ghost use Rattle.rules.specs.Reports.{judgedBy};
 ghost use Rattle.findings.specs.Whole.{SolvedAt, TellsSolved};
 ghost use Rattle.verdicts.specs.Answers.{AnswerAt, TellsAnswer};
 
 use findings::inner::{tell_accepted, tell_denied, tell_remaining, tell_stopped, tell_unjudged};
-use trials::Verdict;
+use rules::Refusal;
 
 // Puts the report of a sheet that was solved: 'accepted' where the judge says yes.
 fn tell_judged(
@@ -26,14 +26,14 @@ fn tell_judged(
     constraints: u32,
     rounds: u32,
     new: u32,
-    verdict: Verdict,
+    verdict: Result<bool, Refusal>,
 ) -> usize
     requires good { Good pool.now table.now }
     requires by_index { (bs : List (Binding ℕ)) × ((ns : List ℕ) × SolvedAt pool.now table.now s.now at mid to out name.now bs ns) }
     ensures { TellsSolved pool.now table.now s.now at mid to out name.now constraints new (λ bs ns. judgedBy (told verdict) bs ns rounds) dst.old dst.new result }
 {
     match verdict {
-        Verdict::Yes => tell_accepted(
+        Ok(true) => tell_accepted(
             pool,
             table,
             s,
@@ -47,8 +47,8 @@ fn tell_judged(
             rounds,
             new,
         ),
-        Verdict::No => tell_denied(dst, out, name),
-        Verdict::Refused(k) => tell_unjudged(dst, out, name, k.number()),
+        Ok(false) => tell_denied(dst, out, name),
+        Err(k) => tell_unjudged(dst, out, name, k.number()),
     }
 }
 
@@ -67,7 +67,7 @@ pub fn tell_answer(
     rounds: u32,
     first: u32,
     second: u32,
-    verdict: Verdict,
+    verdict: Result<bool, Refusal>,
 ) -> usize
     requires good { Good pool.now table.now }
     requires at_bound { at < 2 ^ 40 }

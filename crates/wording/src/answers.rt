@@ -17,7 +17,7 @@ use exponents::{Exponent, Power};
 use rescue::Counts;
 use rules::Refusal;
 use saying::told::{Told, refused, said, short};
-use sheet_reading::Sheet;
+use sheet_reading::{NotRead, Read};
 
 fn power_words(e: Exponent) -> Told
     ensures { result ≡ powerWords (expOf e) }
@@ -106,12 +106,12 @@ fn three(refusal: u32, value: usize, more: usize, rounds: usize) -> Told
     }
 }
 
-// Records, constraints and new names of a sheet; on a refusal the line and the column.
-pub fn sheet(s: Sheet) -> Told
+/// Records, constraints and new names of a sheet; on a refusal the line and the column.
+pub fn sheet(s: Result<Read, NotRead>) -> Told
     ensures { result ≡ sheetAs (toldSheet s) }
 {
     match s {
-        Sheet::Read(records, constraints, fresh) => three(0, records, constraints, fresh),
-        Sheet::Refused(why, line, column) => three(why.number(), line, column, 0),
+        Ok(read) => three(0, read.records, read.constraints, read.names),
+        Err(stop) => three(stop.why.number(), stop.line, stop.column, 0),
     }
 }

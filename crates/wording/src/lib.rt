@@ -6,10 +6,10 @@ pub mod placing;
 
 ghost use Rattle.std.specs.Prelude.{◌≡◌};
 ghost use Rattle.rules.specs.Numbers.{refusalIn};
-ghost use Rattle.names.specs.Told.{toldChecked};
+ghost use Rattle.names.specs.Old.{toldChecked};
 ghost use Rattle.wording.specs.Words.{answerWords};
 
-use names::Checked;
+use names::old::Checked;
 use records::inner::put;
 use saying::told::Told;
 

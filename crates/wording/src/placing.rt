@@ -4,7 +4,8 @@ ghost use Rattle.rules.specs.Names.{nameAsked, partAsked};
 ghost use Rattle.laws.specs.NameTable.{start_at};
 ghost use Rattle.wording.specs.Words.{placeAs};
 
-use names::{Checked, check_number, name_of};
+use names::name_of;
+use names::old::{Checked, check_number};
 use replacing::inner::bound::word_at;
 use saying::told::{Told, refused, said, short};
 

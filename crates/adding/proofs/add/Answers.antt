@@ -1,7 +1,7 @@
 -- `add` meets its contract.
 use mathlib.Core.Path.{◌≡◌, sym, ap, ◌∙◌}
 use Rattle.rules.specs.Base.{got}
-use Rattle.names.specs.Told.{toldChecked}
+use Rattle.names.specs.Old.{toldChecked}
 use Rattle.records.specs.Found.{Words32}
 use Rattle.adding.specs.Entry.{checks}
 use Rattle.adding.specs.Whole.{ready, called, refusing}

@@ -1,7 +1,7 @@
 -- `solve_all` meets its contract.
 use mathlib.Core.Path.{◌≡◌, refl, sym, ap, ◌∙◌}
 use Rattle.rules.specs.Base.{got}
-use Rattle.names.specs.Told.{toldChecked}
+use Rattle.names.specs.Old.{toldChecked}
 use Rattle.solving.specs.Entry.{long-table}
 use Rattle.rules.specs.Batches.{batchFits}
 use Rattle.batches.specs.Checks.{Room, roomy, cramped, begun, call-short, call-unfit, called}

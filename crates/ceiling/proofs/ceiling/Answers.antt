@@ -1,7 +1,7 @@
 -- `ceiling` meets its contract: by what the count says.
 use mathlib.Core.Path.{sym, ap, ◌∙◌}
 use Rattle.rules.specs.Base.{got}
-use Rattle.names.specs.Told.{toldChecked}
+use Rattle.names.specs.Old.{toldChecked}
 use Rattle.ceiling.specs.Answers.{ceiling-refused, ceiling-given}
 use Rattle.ceiling.specs.Counting.{counted-few}
 use Rattle.ceiling.proofs.ceiling.Goals as goal

@@ -1,7 +1,7 @@
 -- `compact` meets its contract.
 use native.Mathlib.Omega.{arith}
 use mathlib.Core.Path.{refl, sym, ap, ◌∙◌}
-use Rattle.names.specs.Told.{toldChecked}
+use Rattle.names.specs.Old.{toldChecked}
 use Rattle.laws.specs.NameTable.{good-laid}
 use Rattle.compaction.specs.Checks.{checks-good}
 use Rattle.compaction.specs.Called.{called, call-refused}

@@ -1,4 +1,4 @@
-// Factors, multiplied from left to right.
+//! Factors, multiplied from left to right.
 ghost use Rattle.std.specs.Prelude.{◌≡◌};
 ghost use Rattle.rules.specs.Grammar.{factor};
 ghost use Rattle.rules.specs.TextReading.{multiplied};
@@ -13,7 +13,7 @@ use products::Product;
 use reading::inner::{Point, mark, next_is, next_sign};
 use terms::inner::{Stand, place_of};
 
-// Where factors end, how the sheet stands, and the product so far.
+/// Where factors end, how the sheet stands, and the product so far.
 #[derive(Clone, Copy)]
 pub struct Factored {
     pub at: Point,
@@ -25,13 +25,12 @@ fn is_at(p: Point) -> bool
     ensures { result ≡ is_at p }
 {
     match p {
-        Point::At(_) => true,
-        Point::Past => false,
-        Point::Bad(_) => false,
+        Ok(Some(_)) => true,
+        Ok(None) | Err(_) => false,
     }
 }
 
-// A factor: its name is entered, then its power is valued, then it is multiplied.
+/// A factor: its name is entered, then its power is valued, then it is multiplied.
 fn enter_factor(
     line: &[u8],
     p: Point,
@@ -46,30 +45,32 @@ fn enter_factor(
 {
     let c = next_sign(line, p);
     let a = enter_atom(line, c, s, pool, table);
-    let behind = a.at;
-    let before = a.stand;
-    let e = enter_power(line, behind, before);
-    let at = e.at;
-    let stand = e.stand;
-    if is_at(at) {
-        let exp = e.exp;
-        let m = times(q, a.kind, a.number, exp, place_of(c), stand, pool, table);
-        let after = m.stand;
-        let product = m.product;
+    let e = enter_power(line, a.at, a.stand);
+    if is_at(e.at) {
+        let m = times(
+            q,
+            a.kind,
+            a.number,
+            e.exp,
+            place_of(c),
+            e.stand,
+            pool,
+            table,
+        );
         return Factored {
-            at,
-            stand: after,
-            product,
+            at: e.at,
+            stand: m.stand,
+            product: m.product,
         };
     }
     Factored {
-        at,
-        stand,
+        at: e.at,
+        stand: e.stand,
         product: q,
     }
 }
 
-// Further factors, each behind "*".
+/// Further factors, each behind "*".
 fn more_factors(
     line: &[u8],
     p: Point,
@@ -95,7 +96,7 @@ fn more_factors(
     Factored { at, stand, product }
 }
 
-// The factors of a dimension, if it has any.
+/// The factors of a dimension, if it has any.
 pub fn enter_factors(
     line: &[u8],
     p: Point,
@@ -115,8 +116,5 @@ pub fn enter_factors(
         };
     }
     let f = enter_factor(line, p, none, s, pool, table);
-    let at = f.at;
-    let stand = f.stand;
-    let product = f.product;
-    more_factors(line, at, product, stand, pool, table)
+    more_factors(line, f.at, f.product, f.stand, pool, table)
 }

@@ -1,4 +1,4 @@
-// A dimension: its record is counted at its first byte, the factors that are left at its closing bracket; then all are written.
+//! A dimension: its record is counted at its first byte, the factors that are left at its closing bracket; then all are written.
 ghost use Rattle.std.specs.Prelude.{◌≡◌};
 ghost use Rattle.products.specs.Held.{Sound};
 ghost use Rattle.terms.specs.Stands.{Few};
@@ -11,22 +11,22 @@ use products::Product;
 use reading::inner::{Point, mark, next_sign};
 use terms::inner::{Reached, Stand, count, place_of};
 
-// Writes a product from the place that s counted on, if all of it was counted up to r.
+/// Writes a product from the place that s counted on, if all of it was counted up to r.
 fn put_product(q: Product, s: Stand, r: Stand, dst: &mut [u32])
     requires few { Few s }
     requires sound { Sound q }
     ensures { dst.new ≡ productPut q s r dst.old }
 {
-    match s {
-        Stand::Going(_, n) => match r {
-            Stand::Going(_, _) => store(q, dst, n),
-            Stand::Refused(_, _) => {}
-        },
-        Stand::Refused(_, _) => {}
-    }
+    let Ok(before) = s else {
+        return;
+    };
+    let Ok(_) = r else {
+        return;
+    };
+    store(q, dst, before.records);
 }
 
-// A dimension and its records.
+/// A dimension and its records.
 pub fn enter_dimension(
     line: &[u8],
     p: Point,
@@ -42,12 +42,9 @@ pub fn enter_dimension(
     let counted = count(1, place_of(c), s);
     let a = mark(line, c, b'[');
     let f = enter_factors(line, a, counted, pool, table);
-    let behind = f.at;
-    let before = f.stand;
-    let q = f.product;
-    let e = next_sign(line, behind);
-    let stand = count(q.len, place_of(e), before);
-    put_product(q, s, stand, dst);
+    let e = next_sign(line, f.at);
+    let stand = count(f.product.len, place_of(e), f.stand);
+    put_product(f.product, s, stand, dst);
     let at = mark(line, e, b']');
     Reached { at, stand }
 }

@@ -1,5 +1,5 @@
 // Is a constraint that is held true? All bindings have been put in before; the bounds are marks, one for each name.
-ghost use Rattle.std.specs.Prelude.{◌≡◌, not, ◌&&◌, List, ℕ, ◌+◌, length};
+ghost use Rattle.std.specs.Prelude.{◌≡◌, List, ℕ, ◌+◌, length};
 ghost use Rattle.rules.specs.Names.{Bytes, numbered};
 ghost use Rattle.rules.specs.Trees.{Ty, Tys, Fields, Con, size, sizeTys, count, countFields};
 ghost use Rattle.rules.specs.Contents.{fieldIn};
@@ -15,38 +15,23 @@ use records::View;
 use records::seen::view_at;
 use rules::NAMES;
 
-// Where the type of a field stands.
-#[derive(Clone, Copy)]
-pub enum Place {
-    At(usize),
-    Nowhere,
-}
-
-fn only(a: bool, b: bool) -> bool
-    ensures { result ≡ (not b && a) }
-{
-    if b { false } else { a }
-}
-
 // Are all names that are marked in v marked in b?
 fn is_within(v: &[bool; NAMES], b: &[bool; NAMES]) -> bool
     requires v_len { length v.now ≡ 256 }
     requires b_len { length b.now ≡ 256 }
     ensures { Decides result (Within v.now b.now 256) }
 {
-    let mut i = 0;
-    while i < NAMES {
-        if only(v[i], b[i]) {
+    for i in 0..NAMES {
+        if v[i] && !b[i] {
             return false;
         }
-        i += 1;
     }
     true
 }
 
 // Are all open names of the type at a place among the bounds?
 fn among_bounds(s: &[u32], at: usize, bounds: &[bool; NAMES]) -> bool
-    requires by_index { (t : Ty ℕ) × Holds s.now t at }
+    requires held { (t : Ty ℕ) × Holds s.now t at }
     requires bounds_len { length bounds.now ≡ 256 }
     ensures { Told s.now at bounds.now (λ names xs t. result ≡ amongBounds (numbered names) xs t) }
 {
@@ -57,13 +42,12 @@ fn among_bounds(s: &[u32], at: usize, bounds: &[bool; NAMES]) -> bool
 
 // Is-dimension: a dimension, a variable or a parameter, whose open names are all among the bounds.
 fn dim_holds(s: &[u32], at: usize, bounds: &[bool; NAMES]) -> bool
-    requires by_index { (t : Ty ℕ) × Holds s.now t at }
+    requires held { (t : Ty ℕ) × Holds s.now t at }
     requires bounds_len { length bounds.now ≡ 256 }
     ensures { DimTrue s.now at bounds.now result }
 {
     match view_at(s, at) {
-        View::Opened(_) => among_bounds(s, at, bounds),
-        View::Dim(_) => among_bounds(s, at, bounds),
+        View::Opened(_) | View::Dim(_) => among_bounds(s, at, bounds),
         _ => false,
     }
 }
@@ -90,18 +74,19 @@ fn past(s: &[u32], at: usize, n: u32) -> usize
 }
 
 // The type of the field x, among n fields from a place on.
-fn field_at(s: &[u32], at: usize, n: u32, x: u32) -> Place
+fn field_at(s: &[u32], at: usize, n: u32, x: u32) -> Option<usize>
     requires { (fs : Fields ℕ) × HoldsFields s.now fs at × (countFields fs ≡ n) }
-    ensures { (fs : Fields ℕ) (names : List Bytes) → HoldsFields s.now fs at → countFields fs ≡ n → Found s.now result (fieldIn (numbered names) x fs) }
+    ensures { (fs : Fields ℕ) (names : List Bytes) → HoldsFields s.now fs at → countFields fs ≡ n →
+        Found s.now result (fieldIn (numbered names) x fs) }
 {
     if n == 0 {
-        return Place::Nowhere;
+        return None;
     }
     let View::Field(y) = view_at(s, at) else {
-        return Place::Nowhere;
+        return None;
     };
     if x == y {
-        return Place::At(at + 1);
+        return Some(at + 1);
     }
     field_at(s, end_of(s, at + 1), n - 1, x)
 }
@@ -114,7 +99,7 @@ fn field_holds(s: &[u32], at: usize, x: u32) -> bool
     let View::Struct(_, n, m) = view_at(s, at) else {
         return false;
     };
-    let Place::At(i) = field_at(s, past(s, at + 1, n), m, x) else {
+    let Some(i) = field_at(s, past(s, at + 1, n), m, x) else {
         return false;
     };
     means(s, i, s, end_of(s, at))
@@ -122,7 +107,7 @@ fn field_holds(s: &[u32], at: usize, x: u32) -> bool
 
 // Is the constraint at a place true?
 pub fn holds(s: &[u32], at: usize, bounds: &[bool; NAMES]) -> bool
-    requires by_index { (c : Con ℕ) × HoldsCon s.now c at }
+    requires held { (c : Con ℕ) × HoldsCon s.now c at }
     requires bounds_len { length bounds.now ≡ 256 }
     ensures { ConTrue s.now at bounds.now result }
 {

@@ -36,18 +36,18 @@ nothing start (refused k) h = refl
 pub name_at-requires : goal.name_at-requires
 name_at-requires c =
     let a = c.args in
-    let h = held a.pool.now a.table.now a.number (rw c.in-Good.is at c.check_number.ensures) in
+    let h = held a.pool.now a.table.now a.number (rw c.in-Ok.is at c.check_number.ensures) in
     record { laid = good-laid h.0; k_bound = h.1 }
 
-pub returns-in-Good : goal.returns-in-Good
-returns-in-Good c =
+pub returns-in-Ok : goal.returns-in-Ok
+returns-in-Ok c =
     let a = c.args in
-    let h = held a.pool.now a.table.now a.number (rw c.in-Good.is at c.check_number.ensures) in
+    let h = held a.pool.now a.table.now a.number (rw c.in-Ok.is at c.check_number.ensures) in
     subst (IsPart a.pool _) (named a.pool.now a.table.now a.number h.0 h.1) c.name_at.ensures
 
-pub returns-in-Refused : goal.returns-in-Refused
+pub returns-in-Err : goal.returns-in-Err
 unfolding partAsked partFrom
-returns-in-Refused c =
+returns-in-Err c =
     let a = c.args in
-    let e = nothing (start_in (table_of a.pool.now a.table.now) a.number) (nameAsked a.pool.now a.table.now a.number) (rw c.in-Refused.is at c.check_number.ensures) in
+    let e = nothing (start_in (table_of a.pool.now a.table.now) a.number) (nameAsked a.pool.now a.table.now a.number) (rw c.in-Err.is at c.check_number.ensures) in
     subst (IsPart a.pool _) e (record { place = refl; bytes = refl })

@@ -1,15 +1,14 @@
-// Types without a type inside.
+//! Types without a type inside.
 ghost use Rattle.terms.specs.Effects.{lent, Ready};
 ghost use Rattle.phrases.specs.Rows.{LeafDone};
 
 use dimensions::inner::whole::enter_dimension;
-use reading::inner::Point;
-use reading::inner::factors::{byte_at, refuse};
+use reading::inner::{Point, byte_at, refuse};
 use records::Basic;
 use terms::inner::leaves::{enter_basic, enter_open};
 use terms::inner::{Reached, Stand};
 
-// The type whose first byte stands here, unless that is the first byte of a function, a list or a structure.
+/// The type whose first byte stands here, unless that is the first byte of a function, a list or a structure.
 pub fn enter_leaf(
     line: &[u8],
     p: Point,

@@ -1,4 +1,4 @@
-// Types, nested at most d deep: what each function reads it enters at once. Each goes on from where the one before ended.
+//! Types, nested at most d deep: what each function reads it enters at once. Each goes on from where the one before ended.
 ghost use Rattle.std.proofs.Math.Option.{none};
 ghost use Rattle.rules.specs.Grammar.{type, tys, function, listed, fields, structure};
 ghost use Rattle.rules.specs.TextReading.{ty_of, tys_of, fields_of};
@@ -11,15 +11,13 @@ ghost use Rattle.phrases.specs.Members.{FieldsTold, FieldDone};
 
 use super::leaves::enter_leaf;
 use super::{before_next, one_more, pass_if, rises, too_deep};
-use reading::inner::factors::byte_at;
-use reading::inner::signs::sign;
-use reading::inner::{Point, mark, next_is, next_sign};
+use reading::inner::{Point, byte_at, mark, next_is, next_sign, sign};
 use records::View;
 use records::inner::Before;
 use terms::inner::naming::read_named;
 use terms::inner::{Reached, Stand, count, place_of, put_head};
 
-// Types or fields in a row: where they end, how the sheet stands, and how many they are.
+/// Types or fields in a row: where they end, how the sheet stands, and how many they are.
 #[derive(Clone, Copy)]
 pub struct Row {
     pub at: Point,
@@ -27,7 +25,7 @@ pub struct Row {
     pub count: u32,
 }
 
-// A field: where it ends, how the sheet stands, and the name that comes before the next field's.
+/// A field: where it ends, how the sheet stands, and the name that comes before the next field's.
 #[derive(Clone, Copy)]
 pub struct Member {
     pub at: Point,
@@ -35,7 +33,7 @@ pub struct Member {
     pub before: Before,
 }
 
-// The type that begins here, and its records.
+/// The type that begins here, and its records.
 #[cycle(types)]
 pub fn enter_type(
     line: &[u8],
@@ -66,7 +64,7 @@ pub fn enter_type(
     enter_leaf(line, q, s, pool, table, dst)
 }
 
-// A list of types nested at most d deep.
+/// A list of types nested at most d deep.
 #[cycle(types)]
 fn enter_list(
     line: &[u8],
@@ -85,14 +83,12 @@ fn enter_list(
     let a = sign(line, q, b"List");
     let b = mark(line, a, b'<');
     let t = enter_type(line, b, d, counted, pool, table, dst);
-    let end = t.at;
-    let at = mark(line, end, b'>');
-    let stand = t.stand;
-    put_head(View::List, s, stand, dst);
-    Reached { at, stand }
+    let at = mark(line, t.at, b'>');
+    put_head(View::List, s, t.stand, dst);
+    Reached { at, stand: t.stand }
 }
 
-// A function from and to types nested at most d deep.
+/// A function from and to types nested at most d deep.
 #[cycle(types)]
 fn enter_function(
     line: &[u8],
@@ -112,19 +108,15 @@ fn enter_function(
     let b = mark(line, a, b'[');
     let c = mark(line, b, b'(');
     let ps = enter_params(line, c, d, counted, pool, table, dst);
-    let e = ps.at;
-    let f = mark(line, e, b')');
+    let f = mark(line, ps.at, b')');
     let g = sign(line, f, b"->");
-    let inner = ps.stand;
-    let t = enter_type(line, g, d, inner, pool, table, dst);
-    let end = t.at;
-    let at = mark(line, end, b']');
-    let stand = t.stand;
-    put_head(View::Function(ps.count), s, stand, dst);
-    Reached { at, stand }
+    let t = enter_type(line, g, d, ps.stand, pool, table, dst);
+    let at = mark(line, t.at, b']');
+    put_head(View::Function(ps.count), s, t.stand, dst);
+    Reached { at, stand: t.stand }
 }
 
-// The parameters of a function, if it has any.
+/// The parameters of a function, if it has any.
 #[cycle(types)]
 fn enter_params(
     line: &[u8],
@@ -148,7 +140,7 @@ fn enter_params(
     enter_types(line, p, d, s, pool, table, dst)
 }
 
-// One type or more, each further one behind a comma.
+/// One type or more, each further one behind a comma.
 #[cycle(types)]
 fn enter_types(
     line: &[u8],
@@ -180,7 +172,7 @@ fn enter_types(
     }
 }
 
-// A structure with arguments and fields nested at most d deep.
+/// A structure with arguments and fields nested at most d deep.
 #[cycle(types)]
 fn enter_structure(
     line: &[u8],
@@ -198,19 +190,16 @@ fn enter_structure(
     let counted = count(1, place_of(q), s);
     let a = mark(line, q, b'@');
     let x = read_named(line, a, counted, pool, table);
-    let b = x.at;
-    let named = x.stand;
-    let ts = enter_arguments(line, b, d, named, pool, table, dst);
-    let c = ts.at;
-    let inner = ts.stand;
-    let fs = enter_members(line, c, d, inner, pool, table, dst);
-    let at = fs.at;
-    let stand = fs.stand;
-    put_head(View::Struct(x.number, ts.count, fs.count), s, stand, dst);
-    Reached { at, stand }
+    let ts = enter_arguments(line, x.at, d, x.stand, pool, table, dst);
+    let fs = enter_members(line, ts.at, d, ts.stand, pool, table, dst);
+    put_head(View::Struct(x.number, ts.count, fs.count), s, fs.stand, dst);
+    Reached {
+        at: fs.at,
+        stand: fs.stand,
+    }
 }
 
-// The arguments of a structure, if it has any.
+/// The arguments of a structure, if it has any.
 #[cycle(types)]
 fn enter_arguments(
     line: &[u8],
@@ -227,11 +216,9 @@ fn enter_arguments(
     if next_is(line, p, b'<') {
         let a = mark(line, p, b'<');
         let ts = enter_types(line, a, d, s, pool, table, dst);
-        let b = ts.at;
-        let stand = ts.stand;
         return Row {
-            at: mark(line, b, b'>'),
-            stand,
+            at: mark(line, ts.at, b'>'),
+            stand: ts.stand,
             count: ts.count,
         };
     }
@@ -242,7 +229,7 @@ fn enter_arguments(
     }
 }
 
-// The fields of a structure, if it has any.
+/// The fields of a structure, if it has any.
 #[cycle(types)]
 fn enter_members(
     line: &[u8],
@@ -259,11 +246,9 @@ fn enter_members(
     if next_is(line, p, b'{') {
         let a = mark(line, p, b'{');
         let fs = enter_fields(line, a, d, s, pool, table, dst);
-        let b = fs.at;
-        let stand = fs.stand;
         return Row {
-            at: mark(line, b, b'}'),
-            stand,
+            at: mark(line, fs.at, b'}'),
+            stand: fs.stand,
             count: fs.count,
         };
     }
@@ -274,7 +259,7 @@ fn enter_members(
     }
 }
 
-// One field or more, each further one behind a comma.
+/// One field or more, each further one behind a comma.
 #[cycle(types)]
 fn enter_fields(
     line: &[u8],
@@ -308,7 +293,7 @@ fn enter_fields(
     }
 }
 
-// A field behind the one named before: its name must rise, its record is counted at the name.
+/// A field behind the one named before: its name must rise, its record is counted at the name.
 #[cycle(types)]
 fn enter_field(
     line: &[u8],
@@ -327,18 +312,14 @@ fn enter_field(
     let q = next_sign(line, p);
     let x = read_named(line, q, s, pool, table);
     let at = place_of(q);
-    let named = x.stand;
-    let tested = pass_if(rises(pool, table, before, x.number), at, named);
+    let tested = pass_if(rises(pool, table, before, x.number), at, x.stand);
     let counted = count(1, at, tested);
-    let a = x.at;
-    let c = mark(line, a, b':');
+    let c = mark(line, x.at, b':');
     let t = enter_type(line, c, d, counted, pool, table, dst);
-    let stand = t.stand;
-    put_head(View::Field(x.number), tested, stand, dst);
-    let at = t.at;
+    put_head(View::Field(x.number), tested, t.stand, dst);
     Member {
-        at,
-        stand,
+        at: t.at,
+        stand: t.stand,
         before: before_next(table, x.number),
     }
 }

@@ -10,21 +10,19 @@ ghost use Rattle.records.specs.Holds.{openOf, HoldsBound};
 ghost use Rattle.queries.specs.Marks.{Marks};
 ghost use Rattle.proposals.specs.Bounds.{BoundsThere};
 
-use names::Order;
 use names::inner::order;
 use queries::Name;
 use queries::inner::mark;
 use records::seen::view_at;
 use records::{Open, View};
 use rules::NAMES;
+use std::cmp::Ordering;
 
 fn number(o: Open) -> u32
     ensures { result ≡ word_of (openOf o) }
 {
     match o {
-        Open::Var(x) => x,
-        Open::Quant(i) => i,
-        Open::Par(x) => x,
+        Open::Var(n) | Open::Quant(n) | Open::Par(n) => n,
     }
 }
 
@@ -38,43 +36,37 @@ fn name_of(s: &[u32], at: usize) -> u32
     }
 }
 
-fn is_less(o: Order) -> bool
+fn is_less(o: Ordering) -> bool
     ensures { result ≡ is_lt (toldOrder o) }
 {
     match o {
-        Order::Less => true,
-        Order::Same => false,
-        Order::More => false,
+        Ordering::Less => true,
+        Ordering::Equal => false,
+        Ordering::Greater => false,
     }
 }
 
 // Do the names of the bounds rise strictly, by their bytes?
 pub fn rise(pool: &[u8], table: &[u32], s: &[u32]) -> bool
     requires good { Good pool.now table.now }
-    requires by_index { (os : List (trees.Open ℕ)) × BoundsThere pool.now table.now s.now os }
-    ensures { (os : List (trees.Open ℕ)) → BoundsThere pool.now table.now s.now os → result ≡ rising (numbers pool.now table.now).order (map word_of os) }
+    requires there { (os : List (trees.Open ℕ)) × BoundsThere pool.now table.now s.now os }
+    ensures { (os : List (trees.Open ℕ)) → BoundsThere pool.now table.now s.now os →
+        result ≡ rising (numbers pool.now table.now).order (map word_of os) }
 {
-    let n = s.len() / 4;
-    let mut i = 1;
-    while i < n {
-        let a = name_of(s, i - 1);
-        let b = name_of(s, i);
-        if !is_less(order(pool, table, a, b)) {
+    for i in 1..s.len() / 4 {
+        if !is_less(order(pool, table, name_of(s, i - 1), name_of(s, i))) {
             return false;
         }
-        i += 1;
     }
     true
 }
 
 // Marks the names of the bounds.
 pub fn mark_all(s: &[u32], m: &mut [bool; NAMES])
-    ensures { (pool table : List ℕ) (os : List (trees.Open ℕ)) (xs : List ℕ) → BoundsThere pool table s.now os → Marks m.old xs → Marks m.new (xs ++ map word_of os) }
+    ensures { (pool table : List ℕ) (os : List (trees.Open ℕ)) (xs : List ℕ) → BoundsThere pool table s.now os → Marks m.old xs →
+        Marks m.new (xs ++ map word_of os) }
 {
-    let n = s.len() / 4;
-    let mut i = 0;
-    while i < n {
+    for i in 0..s.len() / 4 {
         mark(m, Name::Of(name_of(s, i)));
-        i += 1;
     }
 }

@@ -36,27 +36,28 @@ fn mark_one(types: &[u32], x: u32, w: u32, k: Kind, m: &mut [bool; NAMES])
         return;
     }
     let at = w as usize - 1;
-    let e = end_of(types, at);
+    let end = end_of(types, at);
     mark(m, variable(x, k));
-    marks(types, at, e, k, m);
+    marks(types, at, end, k, m);
 }
 
 // The same for all variables.
 fn mark_table(types: &[u32], places: &[u32], k: Kind, m: &mut [bool; NAMES])
     requires { (bs : List (Binding ℕ)) × ((names : List Bytes) × Table types.now places.now names bs) }
-    ensures { (bs : List (Binding ℕ)) (names : List Bytes) (xs : List ℕ) → Table types.now places.now names bs → Marks m.old xs → Marks m.new (xs ++ choose k (opensBelow names bs 256)) }
+    ensures { (bs : List (Binding ℕ)) (names : List Bytes) (xs : List ℕ) → Table types.now places.now names bs → Marks m.old xs →
+        Marks m.new (xs ++ choose k (opensBelow names bs 256)) }
 {
-    let mut x: u32 = 0;
-    while x < 256 {
+    for x in 0..256 {
         mark_one(types, x, word_at(places, x as usize), k, m);
-        x += 1;
     }
 }
 
 // Is no name both?
 pub fn apart(set: &[u32], types: &[u32], places: &[u32]) -> bool
     requires { (bs : List (Binding ℕ)) × ((names : List Bytes) × Table types.now places.now names bs) }
-    ensures { (bs : List (Binding ℕ)) (names : List Bytes) → Table types.now places.now names bs → Small (opensIn set.now 0 (length set.now / 4) ++ collect opensBinding bs) → result ≡ unmixed (numbered names) (opensIn set.now 0 (length set.now / 4) ++ collect opensBinding bs) }
+    ensures { (bs : List (Binding ℕ)) (names : List Bytes) → Table types.now places.now names bs →
+        Small (opensIn set.now 0 (length set.now / 4) ++ collect opensBinding bs) →
+        result ≡ unmixed (numbered names) (opensIn set.now 0 (length set.now / 4) ++ collect opensBinding bs) }
 {
     let n = set.len() / 4;
     let mut v = [false; NAMES];

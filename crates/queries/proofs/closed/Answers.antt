@@ -4,7 +4,7 @@ use Prim.Native.Nat.{ℕ}
 use Rattle.rules.specs.Base.{got}
 use Rattle.rules.specs.Trees.{Ty}
 use Rattle.rules.specs.Names.{table_of, names_of}
-use Rattle.names.specs.Told.{toldChecked}
+use Rattle.names.specs.Old.{toldChecked}
 use Rattle.queries.specs.Answers.{Typed, typed, typed-small, closed-refused, closed-mixed, closed_said}
 use Rattle.queries.proofs.closed.Goals as goal
 

@@ -4,7 +4,7 @@ use Prim.Native.Nat.{ℕ, ◌/◌}
 use Rattle.rules.specs.Base.{got, any}
 use Rattle.rules.specs.Trees.{Ty}
 use Rattle.rules.specs.Names.{table_of, names_of}
-use Rattle.names.specs.Told.{toldChecked}
+use Rattle.names.specs.Old.{toldChecked}
 use lib.Dec.{eqb}
 use lib.ListN.{length}
 use Rattle.queries.specs.Scans.{choose, opensIn}

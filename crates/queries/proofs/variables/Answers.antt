@@ -4,7 +4,7 @@ use Prim.Native.Nat.{ℕ}
 use native.Mathlib.Omega.{arith}
 use Rattle.rules.specs.Trees.{Ty}
 use Rattle.rules.specs.Names.{table_of, names_of}
-use Rattle.names.specs.Told.{toldChecked}
+use Rattle.names.specs.Old.{toldChecked}
 use Rattle.queries.specs.Answers.{Typed, typed, typed-good, typed-small, typed-held, variables-short, variables-refused, variables-mixed, variables-said}
 use Rattle.queries.proofs.variables.Goals as goal
 

@@ -2,7 +2,7 @@
 use Rattle.rules.specs.Calls.{bindingsCall}
 use Rattle.records.specs.Whole.{bindings-told}
 use Rattle.records.specs.Whole.{entry-good}
-use Rattle.names.specs.Told.{toldChecked}
+use Rattle.names.specs.Old.{toldChecked}
 use mathlib.Core.Path.{refl, sym, ap, ◌∙◌}
 use Rattle.records.proofs.is_bindings.Goals as goal
 

@@ -2,7 +2,7 @@
 use Rattle.rules.specs.Calls.{schemeCall}
 use Rattle.records.specs.Schemes.{scheme-told}
 use Rattle.records.specs.Whole.{entry-good}
-use Rattle.names.specs.Told.{toldChecked}
+use Rattle.names.specs.Old.{toldChecked}
 use mathlib.Core.Path.{refl, sym, ap, ◌∙◌}
 use Rattle.records.proofs.is_scheme.Goals as goal
 

@@ -2,7 +2,7 @@
 use Rattle.rules.specs.Calls.{setCall}
 use Rattle.records.specs.Whole.{set_told}
 use Rattle.records.specs.Whole.{entry-good}
-use Rattle.names.specs.Told.{toldChecked}
+use Rattle.names.specs.Old.{toldChecked}
 use mathlib.Core.Path.{refl, sym, ap, ◌∙◌}
 use Rattle.records.proofs.is_set.Goals as goal
 

@@ -2,7 +2,7 @@
 use Rattle.rules.specs.Calls.{typeCall}
 use Rattle.records.specs.Whole.{type-told}
 use Rattle.records.specs.Whole.{entry-good}
-use Rattle.names.specs.Told.{toldChecked}
+use Rattle.names.specs.Old.{toldChecked}
 use mathlib.Core.Path.{refl, sym, ap, ◌∙◌}
 use Rattle.records.proofs.is_type.Goals as goal
 

@@ -17,7 +17,7 @@ use super::bound::{Found, look_up};
 use super::factors::{Alone, factor_at, free_factor, open_of};
 use exponents::Exponent;
 use loading::inner::load;
-use names::Checked;
+use names::old::Checked;
 use products::inner::{divided, multiplied, put, raised, refused};
 use products::{Factor, Product, Tried};
 use records::seen::view_at;

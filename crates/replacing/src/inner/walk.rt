@@ -18,7 +18,7 @@ use super::bound::{Found, look_up};
 use super::dims::replace_factors;
 use super::factors::{Alone, picked};
 use loading::inner::{load, store};
-use names::Checked;
+use names::old::Checked;
 use products::{Product, Tried};
 use records::inner::{copy, put_one, put_record};
 use records::seen::view_at;

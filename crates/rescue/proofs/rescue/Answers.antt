@@ -1,6 +1,6 @@
 -- `rescue` meets its contract: by what the checks say, and what was taken.
 use mathlib.Core.Path.{sym, ap, ◌∙◌}
-use Rattle.names.specs.Told.{toldChecked}
+use Rattle.names.specs.Old.{toldChecked}
 use Rattle.rescue.specs.Answers.{given-good, rescue-refused, rescue-given}
 use Rattle.rescue.proofs.rescue.Goals as goal
 

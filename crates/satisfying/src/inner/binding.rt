@@ -1,25 +1,23 @@
-// The rules 2 and 3: a variable that the other side doesn't contain is bound to it.
+//! The rules 2 and 3: a variable that the other side doesn't contain is bound to it.
 ghost use Rattle.std.specs.Prelude.{◌≡◌, List, [], ◌∷◌, ℕ};
-ghost use Rattle.rules.specs.Base.{and_then, ◌or_else◌};
+ghost use Rattle.rules.specs.Base.{and_then};
 ghost use Rattle.rules.specs.Exponents.{frac};
 ghost use Rattle.rules.specs.Names.{Bytes, numbered};
 ghost use Rattle.rules.specs.Products.{single};
-ghost use Rattle.rules.specs.Rounds.{bindTo, firstRules};
+ghost use Rattle.rules.specs.Refusals.{toldOption, toldOptionBy};
+ghost use Rattle.rules.specs.Rounds.{bindTo};
 ghost use Rattle.rules.specs.Trees.{Ty, ◌↑◌};
-ghost use Rattle.rules.specs.Views.{variable, asVar, asPower};
+ghost use Rattle.rules.specs.Views.{variable, asPower};
 ghost use Rattle.rules.specs.Writing.{signed};
 ghost use Rattle.records.specs.Holds.{openOf, atomOf, Holds};
-ghost use Rattle.satisfying.specs.Parts.{named, Fits, Tried};
+ghost use Rattle.satisfying.specs.Parts.{named};
+ghost use Rattle.satisfying.specs.Bindings.{bound_to, either, firstBinding};
 
-use super::super::Step;
-use super::writing::put_type;
-use comparing::inner::same_types;
 use exponents::Exponent;
 use queries::Name;
-use queries::inner::contains_at;
-use records::inner::put_record;
-use records::seen::{length_at, view_at};
+use records::seen::view_at;
 use records::{Atom, Open, View};
+use types::Type;
 
 fn variable(o: Open) -> Name
     ensures { named result ≡ variable (openOf o) }
@@ -31,17 +29,7 @@ fn variable(o: Open) -> Name
     }
 }
 
-// The variable that a type is.
-pub fn as_var(s: &[u32], at: usize) -> Name
-    ensures { (t : Ty ℕ) → Holds s.now t at → named result ≡ asVar t }
-{
-    match view_at(s, at) {
-        View::Opened(o) => variable(o),
-        _ => Name::Nothing,
-    }
-}
-
-// The variable of a factor to the power 1.
+/// The variable of a factor to the power 1.
 fn power_one(a: Atom, num: u32, den: u32) -> Name
     ensures { named result ≡ and_then (single (atomOf a ↑ frac (signed num) den ∷ [])) variable }
 {
@@ -57,7 +45,7 @@ fn power_one(a: Atom, num: u32, den: u32) -> Name
     }
 }
 
-// The variable of a dimension that is one variable to the power 1.
+/// The variable of a dimension that is one variable to the power 1.
 pub fn as_power(s: &[u32], at: usize) -> Name
     ensures { (t : Ty ℕ) → Holds s.now t at → named result ≡ asPower t }
 {
@@ -73,65 +61,55 @@ pub fn as_power(s: &[u32], at: usize) -> Name
     }
 }
 
-// Binds the variable to the type at a place, which must not contain it.
-fn bind_to(x: Name, s: &[u32], at: usize, dst: &mut [u32], out: usize) -> Step
-    requires by_index { (t : Ty ℕ) × Holds s.now t at }
-    requires fits { Fits s.now out }
-    ensures { (t : Ty ℕ) (names : List Bytes) → Holds s.now t at → Tried dst.old dst.new out result (bindTo (numbered names) (named x) t) }
+/// The same of a type.
+fn power(t: Type) -> Option<u32>
+    ensures { toldOption result ≡ asPower t.entry.tree.0 }
 {
-    let Name::Of(y) = x else {
-        return Step::Stuck;
-    };
-    if contains_at(s, at, y) {
-        return Step::Stuck;
+    match as_power(t.words, t.at) {
+        Name::Of(x) => Some(x),
+        Name::Nothing => None,
     }
-    put_record(dst, out, View::Binding(y), 1 + length_at(s, at));
-    Step::Bind(put_type(s, at, dst, out + 1))
 }
 
-// Left, else right: the name of each side, and where each stands.
-pub fn bind_either(
-    x: Name,
-    y: Name,
-    s: &[u32],
-    left: usize,
-    right: usize,
-    dst: &mut [u32],
-    out: usize,
-) -> Step
-    requires by_index { (t : Ty ℕ) × Holds s.now t left }
-    requires by_index_2 { (u : Ty ℕ) × Holds s.now u right }
-    requires fits { Fits s.now out }
-    ensures { (t u : Ty ℕ) (names : List Bytes) → Holds s.now t left → Holds s.now u right → Tried dst.old dst.new out result (bindTo (numbered names) (named x) u or_else bindTo (numbered names) (named y) t) }
-{
-    let bound = bind_to(x, s, right, dst, out);
-    let Step::Stuck = bound else {
-        return bound;
-    };
-    bind_to(y, s, left, dst, out)
+/// A variable, and the type that it is to stand for.
+#[derive(Clone, Copy)]
+pub struct Binding<'a> {
+    pub name: u32,
+    pub to: Type<'a>,
 }
 
-// Equal records: done. A variable, left, else right, is bound; then the product of one variable to the power 1.
-pub fn first_rules(s: &[u32], left: usize, right: usize, dst: &mut [u32], out: usize) -> Step
-    requires by_index { (t : Ty ℕ) × Holds s.now t left }
-    requires by_index_2 { (u : Ty ℕ) × Holds s.now u right }
-    requires fits { Fits s.now out }
-    ensures { (t u : Ty ℕ) (names : List Bytes) → Holds s.now t left → Holds s.now u right → Tried dst.old dst.new out result (firstRules (numbered names) t u) }
+/// The binding of a variable to a type, which must not contain it.
+fn bound<'a>(name: Option<u32>, to: Type<'a>) -> Option<Binding<'a>>
+    ensures { (names : List Bytes) → toldOptionBy bound_to result ≡ bindTo (numbered names) (toldOption name) to.entry.tree.0 }
 {
-    if same_types(s, left, s, right) {
-        return Step::Done;
+    let name = name?;
+    if to.contains(name) {
+        return None;
     }
-    let bound = bind_either(as_var(s, left), as_var(s, right), s, left, right, dst, out);
-    let Step::Stuck = bound else {
-        return bound;
-    };
-    bind_either(
-        as_power(s, left),
-        as_power(s, right),
-        s,
-        left,
-        right,
-        dst,
-        out,
-    )
+    Some(Binding { name, to })
+}
+
+/// The variable of the left side is bound to the right one, else that of the right side to the left one.
+fn bind_either<'a>(
+    x: Option<u32>,
+    y: Option<u32>,
+    left: Type<'a>,
+    right: Type<'a>,
+) -> Option<Binding<'a>>
+    ensures { (names : List Bytes) → toldOptionBy bound_to result ≡ either (numbered names) (toldOption x) (toldOption y) left.entry.tree.0 right.entry.tree.0 }
+{
+    match bound(x, right) {
+        Some(b) => Some(b),
+        None => bound(y, left),
+    }
+}
+
+/// A side that is a variable is bound; then one that is the product of one variable to the power 1.
+pub fn first_binding<'a>(left: Type<'a>, right: Type<'a>) -> Option<Binding<'a>>
+    ensures { (names : List Bytes) → toldOptionBy bound_to result ≡ firstBinding (numbered names) left.entry.tree.0 right.entry.tree.0 }
+{
+    match bind_either(left.variable(), right.variable(), left, right) {
+        Some(b) => Some(b),
+        None => bind_either(power(left), power(right), left, right),
+    }
 }

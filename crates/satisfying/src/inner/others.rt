@@ -1,219 +1,147 @@
-// The rules for constraints other than equalities.
-ghost use Rattle.std.specs.Prelude.{◌≡◌, true, List, [], ◌∷◌, ℕ, ◌+◌, ◌*◌, ◌≤◌, length};
+//! The rules for constraints other than equalities.
+ghost use Rattle.std.specs.Prelude.{◌≡◌, true, List, [], ◌∷◌};
 ghost use Rattle.std.proofs.Math.Option.{get_or};
-ghost use Rattle.rules.specs.Base.{bounded, each, got};
-ghost use Rattle.rules.specs.Contents.{fieldIn};
+ghost use Rattle.rules.specs.Base.{bounded, collect, each, got};
 ghost use Rattle.rules.specs.Exponents.{Exp, frac, goodExp, neg, quotient};
 ghost use Rattle.rules.specs.Names.{Bytes, numbered};
+ghost use Rattle.rules.specs.Refusals.{toldBy, toldOption};
 ghost use Rattle.rules.specs.Rounds.{stuck, dimensionParts, otherSide, fieldStep, trySatisfy};
-ghost use Rattle.rules.specs.Trees.{free, ◌↑◌, Ty, Fields, is_scalar, size};
+ghost use Rattle.rules.specs.Trees.{is_scalar};
 ghost use Rattle.rules.specs.Views.{productOf};
-ghost use Rattle.rules.specs.Writing.{signed};
+ghost use Rattle.rules.specs.Writing.{signed, writeCon};
 ghost use Rattle.laws.specs.RuleCases.{parts};
-ghost use Rattle.exponents.specs.Answers.{expOf, told};
-ghost use Rattle.products.specs.Told.{Tree};
-ghost use Rattle.records.specs.Holds.{openOf, atomOf, Holds, HoldsFactors};
-ghost use Rattle.replacing.specs.Runs.{LookedUp};
-ghost use Rattle.satisfying.specs.Parts.{Fits, Wrote, FactorsPut, isDimOf, FactorsHeld, ProductHeld, FieldsHeld, boundTo};
-ghost use Rattle.satisfying.specs.Stepped.{Stepped};
+ghost use Rattle.exponents.specs.Answers.{expOf};
+ghost use Rattle.records.specs.Holds.{atomOf};
+ghost use Rattle.types.specs.Written.{Writes};
+ghost use Rattle.satisfying.specs.Parts.{freeVariable, freeName, isDimOf, GoodPowers, boundTo};
+ghost use Rattle.satisfying.specs.Applied.{Applied, FactorsPut};
 
 use super::super::Step;
-use super::writing::{past, put_equal};
 use exponents::inner::{negative_of, quotient_of};
 use exponents::{Exponent, Power};
-use names::Checked;
-use queries::inner::{closed_at, end_of};
-use records::inner::{put_one, put_record};
-use records::seen::view_at;
 use records::{Atom, Open, View};
-use replacing::inner::bound::Found;
+use rules::Refusal;
+use types::writer::Writer;
+use types::{Factor, Product, Shape, Type};
 
-// Writes that a name stands for a dimension.
-fn put_is_dim(x: u32, dst: &mut [u32], out: usize) -> usize
-    requires { out ≤ 20000000000 }
-    ensures { Wrote dst.old dst.new out result (isDimOf x) }
-{
-    put_record(dst, out, View::IsDim, 2);
-    put_one(dst, out + 1, View::Opened(Open::Var(x)));
-    out + 2
-}
-
-fn put_open(o: Open, dst: &mut [u32], out: usize) -> usize
-    requires { out ≤ 20000000000 }
-    ensures { (e : Exp) → Wrote dst.old dst.new out result (parts (free (openOf o) ↑ e ∷ [])) }
-{
-    match o {
-        Open::Var(x) => put_is_dim(x, dst, out),
-        Open::Quant(_) => out,
-        Open::Par(x) => put_is_dim(x, dst, out),
-    }
-}
-
-// Writes that the name of a factor stands for a dimension, where it is a variable or a parameter.
-fn put_part(a: Atom, dst: &mut [u32], out: usize) -> usize
-    requires { out ≤ 20000000000 }
-    ensures { (e : Exp) → Wrote dst.old dst.new out result (parts (atomOf a ↑ e ∷ [])) }
+/// The variable that a factor is a power of.
+fn variable_of(a: Atom) -> Option<u32>
+    ensures { toldOption result ≡ freeVariable (atomOf a) }
 {
     match a {
-        Atom::Free(o) => put_open(o, dst, out),
-        Atom::Base(_) => out,
+        Atom::Free(o) => match o {
+            Open::Var(x) => Some(x),
+            Open::Quant(_) => None,
+            Open::Par(_) => None,
+        },
+        Atom::Base(_) => None,
     }
 }
 
-// The same for n factors, in stored order.
-fn put_parts(s: &[u32], at: usize, n: u32, dst: &mut [u32], out: usize) -> usize
-    requires holds_factors { (p : Tree) × HoldsFactors s.now p at × (length p ≡ n) }
-    requires n_bound { (at + n ≤ 10000000000) × (out + n * 2 ≤ 20000000000) }
-    ensures { (p : Tree) → HoldsFactors s.now p at → length p ≡ n → Wrote dst.old dst.new out result (parts p) }
+/// The variable or the parameter that a factor is a power of.
+fn name_of(a: Atom) -> Option<u32>
+    ensures { toldOption result ≡ freeName (atomOf a) }
 {
-    if n == 0 {
-        return out;
-    }
-    match view_at(s, at) {
-        View::Factor(a, _, _) => {
-            let o = put_part(a, dst, out);
-            put_parts(s, at + 1, n - 1, dst, o)
-        }
-        _ => out,
+    match a {
+        Atom::Free(o) => match o {
+            Open::Var(x) => Some(x),
+            Open::Quant(_) => None,
+            Open::Par(x) => Some(x),
+        },
+        Atom::Base(_) => None,
     }
 }
 
-// Is-dimension of a dimension: one for each variable or parameter named in it.
-pub fn is_dimension(s: &[u32], at: usize, dst: &mut [u32], out: usize) -> Step
-    requires by_index { (t : Ty ℕ) × Holds s.now t at }
-    requires fits { Fits s.now out }
-    ensures { (t : Ty ℕ) → Holds s.now t at → Stepped dst.old dst.new out result (got (dimensionParts (productOf t))) }
+/// For each factor that is a power of a variable or of a parameter: that its name stands for a dimension.
+fn put_parts(product: Product, out: &mut Writer)
+    ensures { Writes out.old out.new (collect writeCon (parts product.entry.factors.0)) }
 {
-    match view_at(s, at) {
-        View::Dim(n) => Step::Split(put_parts(s, at + 1, n, dst, out)),
-        _ => Step::Stuck,
-    }
-}
-
-// The power -j/k of a factor with the power j.
-fn other_power(num: u32, den: u32, k: Exponent) -> Power
-    requires { (goodExp (frac (signed num) den) ≡ true) × (goodExp (expOf k) ≡ true) }
-    ensures { told result ≡ quotient bounded (neg (frac (signed num) den)) (expOf k) }
-{
-    quotient_of(negative_of(Exponent::from_words(num, den)), k)
-}
-
-// Writes n factors with the power -j/k for each power j.
-fn put_others(k: Exponent, s: &[u32], at: usize, n: u32, dst: &mut [u32], out: usize) -> Checked
-    requires k_value { goodExp (expOf k) ≡ true }
-    requires factors_held { (p : Tree) × FactorsHeld s.now p at n }
-    requires n_bound { (at + n ≤ 10000000000) × (out + n ≤ 20000000000) }
-    ensures { (p : Tree) → FactorsHeld s.now p at n → FactorsPut dst.old dst.new out result (each (otherSide bounded (expOf k)) p) }
-{
-    if n == 0 {
-        return Checked::Good;
-    }
-    let View::Factor(a, num, den) = view_at(s, at) else {
-        return Checked::Good;
-    };
-    match other_power(num, den, k) {
-        Power::Refused(why) => Checked::Refused(why),
-        Power::Value(e) => {
-            put_one(dst, out, View::Factor(a, e.num_word(), e.den));
-            put_others(k, s, at + 1, n - 1, dst, out + 1)
+    'factors: for factor in product {
+        if let Some(x) = name_of(factor.atom) {
+            out.put(View::IsDim, 2);
+            out.put(View::Opened(Open::Var(x)), 1);
         }
     }
 }
 
-// Binds x to the other factors of a product that is to be scalar and whose first factor is x to the power k.
-fn solve_for(x: u32, k: Exponent, s: &[u32], at: usize, n: u32, dst: &mut [u32], out: usize) -> Step
-    requires k_value { goodExp (expOf k) ≡ true }
-    requires factors_held { (p : Tree) × FactorsHeld s.now p at n }
-    requires n_bound { (at + n ≤ 30000) × (out ≤ 1000000000) }
-    ensures { (p : Tree) → FactorsHeld s.now p at n → Stepped dst.old dst.new out result (boundTo x (each (otherSide bounded (expOf k)) p)) }
+/// Is-dimension of a dimension: one for each variable or parameter named in it.
+pub fn is_dimension(of: Type, out: &mut Writer) -> Step
+    ensures { Applied out.old out.new (Ok result) (got (dimensionParts (productOf of.entry.tree.0))) }
 {
-    let m = n as usize;
-    put_record(dst, out, View::Binding(x), 2 + m);
-    put_record(dst, out + 1, View::Dim(n), 1 + m);
-    match put_others(k, s, at, n, dst, out + 2) {
-        Checked::Good => Step::Bind(out + 2 + m),
-        Checked::Refused(why) => Step::Refused(why),
-    }
-}
-
-// An equal-scalar by its first factor, and the n others from a place on.
-fn first_factor(
-    a: Atom,
-    k: Exponent,
-    s: &[u32],
-    at: usize,
-    n: u32,
-    dst: &mut [u32],
-    out: usize,
-) -> Step
-    requires k_value { goodExp (expOf k) ≡ true }
-    requires factors_held { (p : Tree) × FactorsHeld s.now p at n }
-    requires n_bound { (at + n ≤ 30000) × (out ≤ 1000000000) }
-    ensures { (p : Tree) (names : List Bytes) → FactorsHeld s.now p at n → Stepped dst.old dst.new out result (trySatisfy (numbered names) bounded (is_scalar (atomOf a ↑ expOf k ∷ p))) }
-{
-    let Atom::Free(o) = a else {
-        return Step::Stuck;
-    };
-    match o {
-        Open::Var(x) => solve_for(x, k, s, at, n, dst, out),
-        Open::Quant(_) => Step::Stuck,
-        Open::Par(_) => Step::Stuck,
-    }
-}
-
-// Equal-scalar: without factors done; a variable that comes first is bound to the other factors.
-pub fn equal_scalar(s: &[u32], at: usize, dst: &mut [u32], out: usize) -> Step
-    requires product_held { (p : Tree) × ProductHeld s.now p at }
-    requires fits { Fits s.now out }
-    ensures { (p : Tree) (names : List Bytes) → ProductHeld s.now p at → Stepped dst.old dst.new out result (trySatisfy (numbered names) bounded (is_scalar p)) }
-{
-    let View::Dim(n) = view_at(s, at) else {
-        return Step::Stuck;
-    };
-    if n == 0 {
-        return Step::Done;
-    }
-    match view_at(s, at + 1) {
-        View::Factor(a, num, den) => {
-            let k = Exponent::from_words(num, den);
-            first_factor(a, k, s, at + 2, n - 1, dst, out)
+    match of.shape() {
+        Shape::Dimension(product) => {
+            put_parts(product, out);
+            Step::Split(out.at)
         }
         _ => Step::Stuck,
     }
 }
 
-// Where the type of the field x stands among n fields.
-fn find_field(s: &[u32], at: usize, n: u32, x: u32) -> Found
-    requires { (fs : Fields ℕ) × FieldsHeld s.now fs at n }
-    ensures { (fs : Fields ℕ) (names : List Bytes) → FieldsHeld s.now fs at n → LookedUp s.now (fieldIn (numbered names) x fs) result }
+/// The power -j/k of a factor with the power j.
+fn other_power(factor: Factor, k: Exponent) -> Result<Exponent, Refusal>
+    requires { (goodExp (frac (signed factor.num) factor.den) ≡ true) × (goodExp (expOf k) ≡ true) }
+    ensures { toldBy expOf result ≡ quotient bounded (neg (frac (signed factor.num) factor.den)) (expOf k) }
 {
-    if n == 0 {
-        return Found::Nothing;
+    match quotient_of(negative_of(Exponent::from_words(factor.num, factor.den)), k) {
+        Power::Value(e) => Ok(e),
+        Power::Refused(why) => Err(why),
     }
-    let View::Field(y) = view_at(s, at) else {
-        return Found::Nothing;
-    };
-    let e = end_of(s, at + 1);
-    if x == y {
-        return Found::At(at + 1, e);
-    }
-    find_field(s, e, n - 1, x)
 }
 
-// Has-field on a closed struct with that field: stored type equal to the asked type.
-pub fn has_field(s: &[u32], at: usize, x: u32, dst: &mut [u32], out: usize) -> Step
-    requires by_index { (v : Ty ℕ × Ty ℕ) × Holds s.now v.0 at × Holds s.now v.1 (at + size v.0) }
-    requires fits { Fits s.now out }
-    ensures { (t u : Ty ℕ) (names : List Bytes) → Holds s.now t at → Holds s.now u (at + size t) → Stepped dst.old dst.new out result (got (get_or (fieldStep (numbered names) x t u) stuck)) }
+/// Factors with the power -j/k for each power j.
+fn put_others(k: Exponent, others: Product, out: &mut Writer) -> Result<(), Refusal>
+    requires k_good { goodExp (expOf k) ≡ true }
+    requires powers_good { GoodPowers others.factors.0 }
+    ensures { FactorsPut out.old out.new result (each (otherSide bounded (expOf k)) others.entry.factors.0) }
 {
-    if !closed_at(s, at) {
+    let Some((factor, rest)) = others.split_first() else {
+        return Ok(());
+    };
+    let e = other_power(factor, k)?;
+    out.put(View::Factor(factor.atom, e.num_word(), e.den), 1);
+    put_others(k, rest, out)
+}
+
+/// Binds `x` to the other factors of a product that is to be scalar and whose first factor is `x` to the power k.
+fn solve_for(x: u32, k: Exponent, others: Product, out: &mut Writer) -> Result<Step, Refusal>
+    requires k_good { goodExp (expOf k) ≡ true }
+    requires powers_good { GoodPowers others.factors.0 }
+    ensures { Applied out.old out.new result (boundTo x (each (otherSide bounded (expOf k)) others.entry.factors.0)) }
+{
+    let n = others.count as usize;
+    out.put(View::Binding(x), 2 + n);
+    out.put(View::Dim(others.count), 1 + n);
+    put_others(k, others, out)?;
+    Ok(Step::Bind(out.at))
+}
+
+/// Equal-scalar: without factors done; a variable that comes first is bound to the other factors.
+pub fn equal_scalar(product: Product, out: &mut Writer) -> Result<Step, Refusal>
+    requires { GoodPowers product.factors.0 }
+    ensures { (names : List Bytes) → Applied out.old out.new result (trySatisfy (numbered names) bounded (is_scalar product.entry.factors.0)) }
+{
+    let Some((first, others)) = product.split_first() else {
+        return Ok(Step::Done);
+    };
+    let Some(x) = variable_of(first.atom) else {
+        return Ok(Step::Stuck);
+    };
+    solve_for(x, Exponent::from_words(first.num, first.den), others, out)
+}
+
+/// Has-field on a closed struct with that field: the stored type equal to the asked type.
+pub fn has_field(of: Type, x: u32, to: Type, out: &mut Writer) -> Step
+    ensures { (names : List Bytes) → Applied out.old out.new (Ok result) (got (get_or (fieldStep (numbered names) x of.entry.tree.0 to.entry.tree.0) stuck)) }
+{
+    if !of.is_closed() {
         return Step::Stuck;
     }
-    let View::Struct(_, n, m) = view_at(s, at) else {
+    let Shape::Struct(_, _, fields) = of.shape() else {
         return Step::Stuck;
     };
-    match find_field(s, past(s, at + 1, n), m, x) {
-        Found::At(i, _) => Step::Split(put_equal(s, i, end_of(s, at), dst, out)),
-        Found::Nothing => Step::Stuck,
-    }
+    let Some(stored) = fields.find(x) else {
+        return Step::Stuck;
+    };
+    out.equal(stored, to);
+    Step::Split(out.at)
 }

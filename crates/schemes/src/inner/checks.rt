@@ -2,13 +2,13 @@
 ghost use Rattle.std.specs.Prelude.{◌≡◌, List, ℕ, ◌/◌, ◌≤◌, ltb, length, get_or};
 ghost use Rattle.rules.specs.Base.{got, all};
 ghost use Rattle.laws.specs.NameTable.{Good};
-ghost use Rattle.names.specs.Told.{toldChecked};
+ghost use Rattle.names.specs.Old.{toldChecked};
 ghost use Rattle.queries.specs.Marks.{Small};
 ghost use Rattle.queries.specs.Scans.{opensIn};
 ghost use Rattle.schemes.specs.Entry.{boundsChecked, numbersChecked, restChecked};
 
-use names::Checked;
 use names::inner::is_held;
+use names::old::Checked;
 use queries::inner::is_unmixed;
 use records::inner::bounds_good;
 use rules::Refusal;

@@ -10,7 +10,7 @@ ghost use Rattle.schemes.specs.Generalising.{Given, Generalises};
 
 use super::checks::rest_checked;
 use lending::Answer;
-use names::Checked;
+use names::old::Checked;
 use quantifying::inner::quantifying::quantify_at;
 use queries::Kind;
 use queries::inner::list_names;

@@ -8,7 +8,7 @@ ghost use Rattle.lending.specs.Told.{Made};
 use super::checks::rest_checked;
 use instantiating::inner::instantiating::instantiate_scheme;
 use lending::Answer;
-use names::Checked;
+use names::old::Checked;
 use records::is_scheme;
 use rules::{RECORDS, Refusal};
 

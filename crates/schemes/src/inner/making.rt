@@ -7,7 +7,7 @@ ghost use Rattle.lending.specs.Told.{Made};
 
 use super::checks::rest_checked;
 use lending::Answer;
-use names::Checked;
+use names::old::Checked;
 use quantifying::inner::quantifying::quantify_at;
 use records::is_type;
 use rules::{RECORD_WORDS, RECORDS, Refusal};

@@ -1,4 +1,4 @@
-// Types without a type inside: their record is counted at their first byte.
+//! Types without a type inside: their record is counted at their first byte.
 ghost use Rattle.std.specs.Prelude.{◌≡◌, List, ℕ};
 ghost use Rattle.rules.specs.TextReading.{ty_of};
 ghost use Rattle.rules.specs.Writing.{writeTy};
@@ -10,8 +10,7 @@ ghost use Rattle.terms.specs.Leaves.{mark_of, openView, openRule, word_of, basic
 
 use super::naming::read_named;
 use super::{Reached, Stand, count, place_of, put_head};
-use reading::inner::signs::sign;
-use reading::inner::{Point, mark, next_sign};
+use reading::inner::{Point, mark, next_sign, sign};
 use records::{Basic, Open, View};
 
 fn mark_of(par: bool) -> u8
@@ -30,7 +29,7 @@ fn open_view(par: bool, x: u32) -> View
     }
 }
 
-// A variable, or a parameter, and its record.
+/// A variable, or a parameter, and its record.
 pub fn enter_open(
     line: &[u8],
     p: Point,
@@ -47,13 +46,14 @@ pub fn enter_open(
     let counted = count(1, place_of(c), s);
     let a = mark(line, c, mark_of(par));
     let x = read_named(line, a, counted, pool, table);
-    let stand = x.stand;
-    put_head(open_view(par, x.number), s, stand, dst);
-    let at = x.at;
-    Reached { at, stand }
+    put_head(open_view(par, x.number), s, x.stand, dst);
+    Reached {
+        at: x.at,
+        stand: x.stand,
+    }
 }
 
-// The keyword of a basic type.
+/// The keyword of a basic type.
 fn keyword(line: &[u8], p: Point, b: Basic) -> Point
     requires { PointIn line.now p }
     ensures { Reads line.now p (spelled (word_of b)) Any result }
@@ -65,7 +65,7 @@ fn keyword(line: &[u8], p: Point, b: Basic) -> Point
     }
 }
 
-// A basic type and its record: no name is entered, whatever pool and table hold.
+/// A basic type and its record: no name is entered, whatever pool and table hold.
 pub fn enter_basic(line: &[u8], p: Point, b: Basic, s: Stand, dst: &mut [u32]) -> Reached
     requires point_in { PointIn line.now p }
     requires few { Few s }

@@ -1,24 +1,20 @@
-// Names that are read, and entered where they stand.
-ghost use Rattle.std.specs.Prelude.{◌≡◌, List, ℕ, ◌+◌, ◌≤◌, length};
+//! Names that are read, and entered where they stand.
+ghost use Rattle.std.specs.Prelude.{◌≡◌, List, ℕ, ◌≤◌, Ok, Some, length};
 ghost use Rattle.rules.specs.Grammar.{name};
 ghost use Rattle.rules.specs.Names.{Bytes};
 ghost use Rattle.rules.specs.TextReading.{newIn, enterName, named};
 ghost use Rattle.laws.specs.NameTable.{Good};
 ghost use Rattle.names.specs.Told.{entered};
-ghost use Rattle.reading.specs.declared.inner.Point.TheVariants as point;
 ghost use Rattle.terms.specs.Effects.{lent, Room, Ready, Done};
 ghost use Rattle.terms.specs.Naming.{standAfter, numberTold, Front, NumberTold};
-ghost use Rattle.terms.specs.declared.inner.Stand.TheVariants as stand;
 
-use super::Stand;
-use names::Answer;
+use super::{At, Stand, Tally};
 use names::inner::enter_good;
-use reading::inner::Point;
-use reading::inner::factors::read_name;
+use reading::inner::{Point, read_name};
 use rules::{NAME_BYTES, Refusal, Was};
-use scanning::inner::{Name, scan_name};
+use scanning::inner::scan_name;
 
-// Where a name ends, how the sheet stands, and the name's number; 0 where it has none.
+/// Where a name ends, how the sheet stands, and the name's number; 0 where it has none.
 #[derive(Clone, Copy)]
 pub struct Named {
     pub at: Point,
@@ -26,7 +22,7 @@ pub struct Named {
     pub number: u32,
 }
 
-// How many new names a name is.
+/// How many new names a name is.
 fn new_in(was: Was) -> usize
     ensures { result ≡ newIn was }
 {
@@ -36,94 +32,94 @@ fn new_in(was: Was) -> usize
     }
 }
 
-// One new name more, if it is new.
-fn with_new(k: usize, was: Was) -> usize
-    requires { k ≤ 256 }
-    ensures { result ≡ k + newIn was }
-{
-    k + new_in(was)
-}
-
-// How the sheet stands when the name at a place was entered.
-fn stand_after(at: usize, k: usize, n: usize, a: Answer) -> Stand
-    requires { k ≤ 256 }
-    ensures { result ≡ standAfter at k n a }
+/// How the sheet stands when the name at a place was entered.
+fn stand_after(at: usize, tally: Tally, a: Result<(u32, Was), Refusal>) -> Stand
+    requires { tally.names ≤ 256 }
+    ensures { result ≡ standAfter at tally.names tally.records a }
 {
     match a {
-        Answer::Number(_, was) => Stand::Going(with_new(k, was), n),
-        Answer::Refused(why) => Stand::Refused(why, at),
+        Ok((_, was)) => Ok(Tally {
+            names: tally.names + new_in(was),
+            records: tally.records,
+        }),
+        Err(why) => Err(At { why, at }),
     }
 }
 
-fn number_told(a: Answer) -> u32
+fn number_told(a: Result<(u32, Was), Refusal>) -> u32
     ensures { result ≡ numberTold a }
 {
     match a {
-        Answer::Number(i, _) => i,
-        Answer::Refused(_) => 0,
+        Ok((i, _)) => i,
+        Err(_) => 0,
     }
 }
 
-// Enters a name by its length and the buffer at whose front its bytes stand, as far as they go in.
-fn enter_front(bytes: &[u8], long: usize, pool: &mut [u8], table: &mut [u32]) -> Answer
+/// Enters a name by its length and the buffer at whose front its bytes stand, as far as they go in.
+fn enter_front(
+    bytes: &[u8],
+    long: usize,
+    pool: &mut [u8],
+    table: &mut [u32],
+) -> Result<(u32, Was), Refusal>
     requires bytes_len { length bytes.now ≡ 48 }
     requires good { Good pool.old table.old }
     ensures { (n : Bytes) → Front bytes.now long n → entered result pool.new table.new ≡ enterName pool.old table.old n }
 {
     if NAME_BYTES < long {
-        return Answer::Refused(Refusal::NameLength);
+        return Err(Refusal::NameLength);
     }
     enter_good(pool, table, &bytes[..long])
 }
 
-// The name at a place, entered into a sheet that goes on.
-fn enter_at(line: &[u8], at: usize, k: usize, n: usize, pool: &mut [u8], table: &mut [u32]) -> Named
+/// The name at a place, entered into a sheet that goes on.
+fn enter_at(line: &[u8], at: usize, tally: Tally, pool: &mut [u8], table: &mut [u32]) -> Named
     requires at_in_bounds { at ≤ length line.now }
     requires good { Good pool.old table.old }
-    requires room { Room table.old k n }
-    ensures { (dst : List ℕ) → Done line.now name named (NumberTold table.new result.number) (point.At at) (lent pool.old table.old dst (stand.Going k n)) result.at (lent pool.new table.new dst result.stand) }
+    requires room { Room table.old tally.names tally.records }
+    ensures { (dst : List ℕ) → Done line.now name named (NumberTold table.new result.number) (Ok (Some at)) (lent pool.old table.old dst (Ok tally)) result.at (lent pool.new table.new dst result.stand) }
 {
-    let mut bytes = [0u8; 48];
+    let mut bytes = [0u8; NAME_BYTES];
     match scan_name(line, at, &mut bytes) {
-        Name::Bad(q) => Named {
-            at: Point::Bad(q),
-            stand: Stand::Going(k, n),
+        Err(q) => Named {
+            at: Err(q),
+            stand: Ok(tally),
             number: 0,
         },
-        Name::To(end, long) => {
-            let a = enter_front(&bytes, long, pool, table);
+        Ok(name) => {
+            let a = enter_front(&bytes, name.size, pool, table);
             Named {
-                at: Point::At(end),
-                stand: stand_after(at, k, n, a),
+                at: Ok(Some(name.end)),
+                stand: stand_after(at, tally, a),
                 number: number_told(a),
             }
         }
     }
 }
 
-// The name that begins right here, entered: 2 and 3 at its first byte.
+/// The name that begins right here, entered: 2 and 3 at its first byte.
 pub fn read_named(line: &[u8], p: Point, s: Stand, pool: &mut [u8], table: &mut [u32]) -> Named
     requires { Ready line.now p pool.old table.old s }
     ensures { (dst : List ℕ) → Done line.now name named (NumberTold table.new result.number) p (lent pool.old table.old dst s) result.at (lent pool.new table.new dst result.stand) }
 {
-    match s {
-        Stand::Refused(_, _) => Named {
+    let Ok(tally) = s else {
+        return Named {
             at: read_name(line, p),
             stand: s,
             number: 0,
+        };
+    };
+    match p {
+        Ok(Some(i)) => enter_at(line, i, tally, pool, table),
+        Ok(None) => Named {
+            at: p,
+            stand: s,
+            number: 0,
         },
-        Stand::Going(k, n) => match p {
-            Point::At(i) => enter_at(line, i, k, n, pool, table),
-            Point::Past => Named {
-                at: Point::Past,
-                stand: s,
-                number: 0,
-            },
-            Point::Bad(q) => Named {
-                at: Point::Bad(q),
-                stand: s,
-                number: 0,
-            },
+        Err(_) => Named {
+            at: p,
+            stand: s,
+            number: 0,
         },
     }
 }

@@ -1,6 +1,6 @@
 -- `write_text` meets its contract: by what the lines put.
 use Rattle.text.specs.Whole.{text-short, text-refused, set-in, text-given}
-use Rattle.names.specs.Told.{toldChecked}
+use Rattle.names.specs.Old.{toldChecked}
 use lib.ListN.{length}
 use native.Mathlib.Omega.{arith}
 use Prim.Native.Nat.{◌≤◌}

@@ -5,7 +5,7 @@ use native.Mathlib.Omega.{arith}
 use mathlib.Core.Bool.{not}
 use lib.Seq.{length-take-le}
 use Rattle.rules.specs.Base.{got}
-use Rattle.names.specs.Told.{toldChecked}
+use Rattle.names.specs.Old.{toldChecked}
 use Rattle.adding.specs.Entry.{lentBuffer, lent-failed, lent_met, room, count_long, con-long, table-good, checked-good, checked-bad}
 use Rattle.adding.proofs.inner.check.Goals as goal
 

@@ -4,22 +4,22 @@ use Rattle.dimensions.proofs.inner.times.Goals as goal
 
 pub single-requires : goal.single-requires
 single-requires c =
-    (c.requires.held_if _ _ c.in-Going.is).known
+    (c.requires.held_if _ _ c.in-Ok.is).known
 
 pub multiplied-t-requires : goal.multiplied-t-requires
 multiplied-t-requires c =
-    record { good = c.requires.good; well = c.requires.well; well_2 = (single-well _ _ (c.requires.held_if _ _ c.in-Going.is) _ c.requires.exp_value _ c.single.ensures).0 }
+    record { good = c.requires.good; well = c.requires.well; well_2 = (single-well _ _ (c.requires.held_if _ _ c.in-Ok.is) _ c.requires.exp_value _ c.single.ensures).0 }
 
-pub returns-in-Refused : goal.returns-in-Refused
-returns-in-Refused c =
-    times-stays _ _ _ _ c.requires.well c.in-Refused.is
+pub returns-in-Err : goal.returns-in-Err
+returns-in-Err c =
+    times-stays _ _ _ _ c.requires.well c.in-Err.is
 
 pub returns-in-Good : goal.returns-in-Good
 returns-in-Good c =
-    let h = c.in-Going.is in
+    let h = c.in-Ok.is in
     times-done _ _ _ _ c.requires.well c.single.result c.multiplied-t.result h (c.requires.held_if _ _ h) c.requires.exp_value c.single.ensures c.multiplied-t.ensures c.in-Good.is
 
-pub returns-in-Refused-checked : goal.returns-in-Refused-checked
-returns-in-Refused-checked c =
-    let h = c.in-Going.is in
-    times-refused _ _ _ _ c.requires.well c.single.result c.multiplied-t.result h (c.requires.held_if _ _ h) c.requires.exp_value c.single.ensures c.multiplied-t.ensures c.in-Refused-checked.is
+pub returns-in-Refused : goal.returns-in-Refused
+returns-in-Refused c =
+    let h = c.in-Ok.is in
+    times-refused _ _ _ _ c.requires.well c.single.result c.multiplied-t.result h (c.requires.held_if _ _ h) c.requires.exp_value c.single.ensures c.multiplied-t.ensures c.in-Refused.is

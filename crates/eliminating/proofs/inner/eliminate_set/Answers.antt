@@ -1,6 +1,6 @@
 -- `inner::eliminate_set` meets its contract.
 use mathlib.Core.Path.{sym, ap, ◌∙◌}
-use Rattle.names.specs.Told.{toldChecked}
+use Rattle.names.specs.Old.{toldChecked}
 use Rattle.records.specs.Found.{Words32}
 use Rattle.eliminating.specs.Entry.{came-in, kept_out, answers-as}
 use Rattle.eliminating.specs.Written.{refused-answers}

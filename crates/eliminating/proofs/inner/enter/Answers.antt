@@ -1,7 +1,7 @@
 -- `inner::enter` meets its contract.
 use mathlib.Core.Path.{sym, ap, ◌∙◌}
 use Rattle.rules.specs.Names.{table_of, names_of}
-use Rattle.names.specs.Told.{toldChecked}
+use Rattle.names.specs.Old.{toldChecked}
 use Rattle.eliminating.specs.Entry.{entry-small}
 use Rattle.eliminating.proofs.inner.enter.Goals as goal
 

@@ -16,7 +16,7 @@ pub returns-then-not-good : goal.returns-then-not-good
 returns-then-not-good c = not_good c.args.pool.now c.args.table.now c.args.bounds.now c.if-bounds-ne0.false (subst (Chained (GoodBound c.args.pool.now c.args.table.now 0 c.args.bounds.now) (length c.args.bounds.now / 4) 0) (c.if-not-good.true) c.bounds_good-good.ensures)
 
 pub rise-requires : goal.rise-requires
-rise-requires c = record { good = c.requires.good; by_index = subst (Chained (GoodBound c.args.pool.now c.args.table.now 0 c.args.bounds.now) (length c.args.bounds.now / 4) 0) (c.if-not-good.false) c.bounds_good-good.ensures }
+rise-requires c = record { good = c.requires.good; there = subst (Chained (GoodBound c.args.pool.now c.args.table.now 0 c.args.bounds.now) (length c.args.bounds.now / 4) 0) (c.if-not-good.false) c.bounds_good-good.ensures }
 
 pub returns-then-not-rise : goal.returns-then-not-rise
 returns-then-not-rise c =
@@ -26,4 +26,4 @@ returns-then-not-rise c =
 pub returns : goal.returns
 returns c =
     let (os, h) = subst (Chained (GoodBound c.args.pool.now c.args.table.now 0 c.args.bounds.now) (length c.args.bounds.now / 4) 0) (c.if-not-good.false) c.bounds_good-good.ensures in
-    (map word_of os, (are-rising c.args.pool.now c.args.table.now c.args.bounds.now c.if-bounds-ne0.false os h (sym (c.rise.ensures os h) ∙ c.if-not-rise.false), c.mark_all.ensures _ _ os [] h (rw c.requires.m_value marks-none)))
+    (map word_of os, (are-rising c.args.pool.now c.args.table.now c.args.bounds.now c.if-bounds-ne0.false os h (sym (c.rise.ensures os h) ∙ c.if-not-rise.false), c.mark_all.ensures _ _ os [] h (rw c.requires.none_marked marks-none)))

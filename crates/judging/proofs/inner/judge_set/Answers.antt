@@ -1,19 +1,25 @@
 -- `inner::judge_set` meets its contract.
-use mathlib.Core.Path.{sym, ap, ◌∙◌}
-use Rattle.names.specs.Told.{toldChecked}
+use mathlib.Core.Path.{sym, ◌∙◌}
+use native.Mathlib.Omega.{arith}
+use Rattle.std.proofs.lemmas.Result.{err_from_is_err_and}
 use Rattle.judging.specs.Entry.{came-in, kept_out}
 use Rattle.judging.proofs.inner.judge_set.Goals as goal
 
 pub judge_rest-requires : goal.judge_rest-requires
 judge_rest-requires c =
+    let a = c.args in
     let (es, h) = c.requires.slotted in
-    let i = came-in c.args.pool.now c.args.table.now c.args.set.now c.args.types.now c.args.bounds.now es c.requires.table_value (sym (c.enter.ensures es h.many) ∙ ap toldChecked c.in-Good.is) in
-    record { by_index = (i.cons, i.known); slotted = (es, h); in_bounds = c.requires.in_bounds }
+    let i = came-in a.pool.now a.table.now a.set.now a.types.now a.bounds.now es c.requires.table_lent (sym (c.in_ok-enter.ensures es h.many)) in
+    record { entered = (i.cons, i.known); slotted = (es, h); few = omega (arith, h.many, i.few); work_long = c.requires.work_long }
 
-pub returns-in-Good : goal.returns-in-Good
-returns-in-Good c = λ es h.
-    let i = came-in c.args.pool.now c.args.table.now c.args.set.now c.args.types.now c.args.bounds.now es c.requires.table_value (sym (c.enter.ensures es h.many) ∙ ap toldChecked c.in-Good.is) in
+pub returns : goal.returns
+returns c = λ es h.
+    let a = c.args in
+    let i = came-in a.pool.now a.table.now a.set.now a.types.now a.bounds.now es c.requires.table_lent (sym (c.in_ok-enter.ensures es h.many)) in
     c.judge_rest.ensures i.cons es i.known h ∙ sym i.rest
 
-pub returns-in-Refused : goal.returns-in-Refused
-returns-in-Refused c = λ es h. sym (kept_out c.args.pool.now c.args.table.now c.args.set.now c.args.types.now c.args.bounds.now es _ (sym (c.enter.ensures es h.many) ∙ ap toldChecked c.in-Refused.is))
+pub returns-in_err-enter : goal.returns-in_err-enter
+returns-in_err-enter c = λ es h.
+    let a = c.args in
+    let p = err_from_is_err_and c.from_residual.result c.from_residual.ensures.1 in
+    rw (p.1, p.2) (sym (kept_out a.pool.now a.table.now a.set.now a.types.now a.bounds.now es _ (sym (c.in_err-enter.ensures es h.many))))

@@ -12,11 +12,11 @@ try_all-requires c =
     let (bs, (ns, f)) = c.requires.by_index_2 in
     record {
       good = c.requires.good;
-      by_index = (cs, h.there);
-      by_index_2 = (bs, put-in _ _ f (c.fill.ensures _ _ bs c.requires.good f.listed));
-      by_index_3 = (ns, marked ns (c.mark_all.ensures c.args.pool.now c.args.table.now (map (λ n. var n) ns) [] f.bounds marks-none));
-      set_len_bound = h.short;
-      in_bounds = omega (arith, c.requires.in_bounds);
+      there = (cs, h.there);
+      put = (bs, put-in _ _ f (c.fill.ensures _ _ bs c.requires.good f.listed));
+      marked = (ns, marked ns (c.mark_all.ensures c.args.pool.now c.args.table.now (map (λ n. var n) ns) [] f.bounds marks-none));
+      set_short = h.short;
+      work_long = omega (arith, c.requires.in_bounds);
     }
 
 pub put_type-requires : goal.put_type-requires
@@ -24,14 +24,14 @@ put_type-requires c =
     let (bs, (ns, f)) = c.requires.by_index_2 in
     (_, (c.fill.ensures _ _ bs c.requires.good f.listed).tabled)
 
-pub returns-in-Yes : goal.returns-in-Yes
-returns-in-Yes c = λ cs bs ns h f.
-    judged-yes _ _ cs bs ns _ (c.try_all.ensures cs bs ns h.there (put-in _ _ f (c.fill.ensures _ _ bs c.requires.good f.listed)) (marked ns (c.mark_all.ensures c.args.pool.now c.args.table.now (map (λ n. var n) ns) [] f.bounds marks-none))) _ _ _ c.in-Yes.is (omega (arith, c.try_all.auto.work, c.requires.in_bounds)) (c.put_type.ensures _ (c.fill.ensures _ _ bs c.requires.good f.listed).tabled)
+pub returns-in-Ok-true : goal.returns-in-Ok-true
+returns-in-Ok-true c = λ cs bs ns h f.
+    judged-yes _ _ cs bs ns _ (c.try_all.ensures cs bs ns h.there (put-in _ _ f (c.fill.ensures _ _ bs c.requires.good f.listed)) (marked ns (c.mark_all.ensures c.args.pool.now c.args.table.now (map (λ n. var n) ns) [] f.bounds marks-none))) _ _ _ (rw c.in-Ok-true.field-0-test at c.in-Ok-true.is) (omega (arith, c.try_all.auto.work, c.requires.in_bounds)) (c.put_type.ensures _ (c.fill.ensures _ _ bs c.requires.good f.listed).tabled)
 
-pub returns-in-No : goal.returns-in-No
-returns-in-No c = λ cs bs ns h f.
-    judged-no _ _ cs bs ns _ (c.try_all.ensures cs bs ns h.there (put-in _ _ f (c.fill.ensures _ _ bs c.requires.good f.listed)) (marked ns (c.mark_all.ensures c.args.pool.now c.args.table.now (map (λ n. var n) ns) [] f.bounds marks-none))) _ c.in-No.is
+pub returns-in-Ok-false : goal.returns-in-Ok-false
+returns-in-Ok-false c = λ cs bs ns h f.
+    judged-no _ _ cs bs ns _ (c.try_all.ensures cs bs ns h.there (put-in _ _ f (c.fill.ensures _ _ bs c.requires.good f.listed)) (marked ns (c.mark_all.ensures c.args.pool.now c.args.table.now (map (λ n. var n) ns) [] f.bounds marks-none))) _ (rw c.in-Ok-false.field-0-test at c.in-Ok-false.is)
 
-pub returns-in-Refused : goal.returns-in-Refused
-returns-in-Refused c = λ cs bs ns h f.
-    judged-refused _ _ cs bs ns _ (c.try_all.ensures cs bs ns h.there (put-in _ _ f (c.fill.ensures _ _ bs c.requires.good f.listed)) (marked ns (c.mark_all.ensures c.args.pool.now c.args.table.now (map (λ n. var n) ns) [] f.bounds marks-none))) _ _ c.in-Refused.is
+pub returns-in-Err : goal.returns-in-Err
+returns-in-Err c = λ cs bs ns h f.
+    judged-refused _ _ cs bs ns _ (c.try_all.ensures cs bs ns h.there (put-in _ _ f (c.fill.ensures _ _ bs c.requires.good f.listed)) (marked ns (c.mark_all.ensures c.args.pool.now c.args.table.now (map (λ n. var n) ns) [] f.bounds marks-none))) _ _ c.in-Err.is

@@ -1,6 +1,6 @@
 -- `inner::make_line` meets its contract.
 use mathlib.Core.Path.{sym, ap, ◌∙◌}
-use Rattle.names.specs.Told.{toldChecked}
+use Rattle.names.specs.Old.{toldChecked}
 use Rattle.solving.specs.Entry.{long-table}
 use Rattle.line_calls.specs.Whole.{Came, came, line_made, refused-line}
 use Rattle.line_calls.proofs.inner.make_line.Goals as goal

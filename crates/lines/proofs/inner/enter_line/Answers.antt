@@ -2,7 +2,7 @@
 use mathlib.Core.Path.{sym, ap, ◌∙◌}
 use mathlib.Core.Bool.{Bool}
 use Rattle.rules.specs.Base.{need}
-use Rattle.names.specs.Told.{toldChecked}
+use Rattle.names.specs.Old.{toldChecked}
 use Rattle.lines.specs.Entered.{enter-long, enter-table, enter-form, enter-names}
 use Rattle.lines.proofs.inner.enter_line.Goals as goal
 

@@ -1,6 +1,6 @@
 -- `inner::line_good` meets its contract.
 use mathlib.Core.Path.{sym, ap, ◌∙◌}
-use Rattle.names.specs.Told.{toldChecked}
+use Rattle.names.specs.Old.{toldChecked}
 use Rattle.lines.specs.Entry.{line-torn, line-types, line-whole, line_refused}
 use Rattle.lines.proofs.inner.line_good.Goals as goal
 

@@ -1,4 +1,5 @@
 -- `head_at` meets its contract.
+use mathlib.Core.Path.{refl}
 use native.Mathlib.Omega.{arith}
 use Rattle.records.specs.ByView.{in_reach}
 use Rattle.meaning.proofs.Arms.{open-read, basic-read, dim-read, fn-read, struct-read, list_read, no-type}
@@ -18,10 +19,10 @@ pub returns-in-Dim : goal.returns-in-Dim
 returns-in-Dim c = dim-read _ _ c.view_at.ensures c.in-Dim.is c.product_head.ensures
 
 pub returns-in-Function : goal.returns-in-Function
-returns-in-Function c = fn-read _ _ c.view_at.ensures c.in-Function.is c.wide.ensures
+returns-in-Function c = fn-read _ _ c.view_at.ensures c.in-Function.is refl
 
 pub returns-in-Struct : goal.returns-in-Struct
-returns-in-Struct c = struct-read _ _ c.view_at.ensures c.in-Struct.is c.wide-in-Struct.ensures
+returns-in-Struct c = struct-read _ _ c.view_at.ensures c.in-Struct.is refl
 
 pub returns-in-List : goal.returns-in-List
 returns-in-List c = list_read _ _ c.view_at.ensures c.in-List.is

@@ -15,4 +15,4 @@ pub returns-in_default : goal.returns-in_default
 returns-in_default c = λ p h e. absurd (no-factor (c.view_at.ensures ∙ (says-one _ _ p h (e ∙ c.if-n-eq1.true)).is) (opened c.in_default.in_default-own.keys2))
 
 pub returns-else-n-eq1 : goal.returns-else-n-eq1
-returns-else-n-eq1 c = λ p h e. c.dim_head-else-n-eq1.ensures ∙ ap headDim (c.wide.ensures ∙ sym e) ∙ not-one p (λ k. c.if-n-eq1.false (sym e ∙ k))
+returns-else-n-eq1 c = λ p h e. c.dim_head-else-n-eq1.ensures ∙ ap headDim (sym e) ∙ not-one p (λ k. c.if-n-eq1.false (sym e ∙ k))

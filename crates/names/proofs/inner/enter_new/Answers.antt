@@ -1,5 +1,5 @@
 -- `names::inner::enter_new` meets its contract: no number, no bytes, or the tail comes back with the name at its front.
-use mathlib.Core.Path.{◌≡◌, sym, ◌∙◌, ap, ◌≡⟨◌⟩◌, ◌∎}
+use mathlib.Core.Path.{◌≡◌, refl, sym, ◌∙◌, ap, ◌≡⟨◌⟩◌, ◌∎}
 use mathlib.Core.List.{List, [], ◌++◌, append_assoc, append-nil}
 use mathlib.Core.Option.{none}
 use Prim.Native.Nat.{ℕ, ◌+◌, ◌-◌, ◌≤◌, ◌<◌}
@@ -13,7 +13,7 @@ use Rattle.rules.specs.declared.Refusal.TheVariants.{NoRoom}
 use Rattle.rules.specs.declared.Was.TheVariants.{New}
 use Rattle.rules.specs.Names.{table_of, hasRoom, enterKnown}
 use Rattle.laws.specs.NameTable.{start_at, Good, good-laid, used-within, room-is, new_is}
-use Rattle.names.specs.declared.Answer.TheVariants.{Number, Refused}
+use Rattle.std.specs.Prelude.{Ok, Err}
 use Rattle.names.specs.Told.{entered}
 use Rattle.names.proofs.inner.enter_new.Goals as goal
 
@@ -34,97 +34,47 @@ back p n y free h e =
     take free p ++ n ++ drop (free + length n) p ∎
 
 module _ {p t : List ℕ} (g : Good p t) (n : List ℕ) where
-  no_number : 256 ≤ get_or t 0 0 → entered (Refused NoRoom) p t ≡ enterKnown none (hasRoom (table_of p t) n) p t n
+  no_number : 256 ≤ get_or t 0 0 → entered (Err NoRoom) p t ≡ enterKnown none (hasRoom (table_of p t) n) p t n
   unfolding enterKnown
   no_number h = rw (room-is (good-laid g) n, le-ltb (get_or t 0 0) 256 h)
 
   module _ (k : ℕ) (number : k ≡ get_or t 0 0) (few : k < 256) where
-    no_bytes : 8192 < start_at t k + length n → entered (Refused NoRoom) p t ≡ enterKnown none (hasRoom (table_of p t) n) p t n
+    no_bytes : 8192 < start_at t k + length n → entered (Err NoRoom) p t ≡ enterKnown none (hasRoom (table_of p t) n) p t n
     unfolding enterKnown
     no_bytes h = rw (room-is (good-laid g) n, ← number, lt-ltb k 256 few, lt-leb (start_at t k + length n) 8192 h)
 
     stored : (y : List ℕ) → start_at t k + length n ≤ 8192 → y ≡ n ++ drop (length n) (take (length p - start_at t k) (drop (start_at t k) p))
-        → entered (Number (get_or t 0 0) New) (take (start_at t k) p ++ (y ++ drop (length p - start_at t k) (drop (start_at t k) p))) (set (set t 0 (get_or t 0 0 + 1)) (k + 1) (start_at t k + length n))
+        → entered (Ok (get_or t 0 0, New)) (take (start_at t k) p ++ (y ++ drop (length p - start_at t k) (drop (start_at t k) p))) (set (set t 0 (get_or t 0 0 + 1)) (k + 1) (start_at t k + length n))
         ≡ enterKnown none (hasRoom (table_of p t) n) p t n
     unfolding enterKnown
     stored y h e =
         rw (room-is (good-laid g) n, ← number, lt-ltb k 256 few, le-leb (start_at t k + length n) 8192 h, back p n y (start_at t k) (omega (arith, g.bytes)) e, add-one k)
         (sym (rw (← number) at (new_is (good-laid g) n)))
 
--- what is known where the first free byte is
-record Known (number free bytes-held words-held : ℕ) : Type 0 where
-  few : number < 256
-  within : free ≤ 8192
-  bytes : 8192 ≤ bytes-held
-  words : 257 ≤ words-held
-
 pub returns-then-k-ge-NAMES : goal.returns-then-k-ge-NAMES
-returns-then-k-ge-NAMES c =
-    no_number c.requires c.args.name.now (rw c.wide-k.ensures at c.if-k-ge-NAMES.true)
+returns-then-k-ge-NAMES c = no_number c.requires c.args.name.now c.if-k-ge-NAMES.true
 
 pub overflow_sub-free : goal.overflow_sub-free
-overflow_sub-free c = let known : Known c.wide-k.result c.start_of-free.result (length c.args.pool.now) (length c.args.table.now) = record {
-  few = c.if-k-ge-NAMES.false;
-  within = rw (c.start_of-free.ensures, c.wide-k.ensures) (used-within (good-laid c.requires));
-  bytes = c.requires.bytes;
-  words = c.requires.words;
-} in
-    (known).within
+overflow_sub-free c = rw c.start_of-free.ensures (used-within (good-laid c.requires))
 
 pub returns-then-free-name : goal.returns-then-free-name
-returns-then-free-name c = let known : Known c.wide-k.result c.start_of-free.result (length c.args.pool.now) (length c.args.table.now) = record {
-  few = c.if-k-ge-NAMES.false;
-  within = rw (c.start_of-free.ensures, c.wide-k.ensures) (used-within (good-laid c.requires));
-  bytes = c.requires.bytes;
-  words = c.requires.words;
-} in
-    no_bytes c.requires c.args.name.now c.wide-k.result c.wide-k.ensures (known).few (let k = known in omega (arith, c.start_of-free.ensures, c.if-free-name.true))
+returns-then-free-name c =
+    let within = rw (← c.start_of-free.ensures) at (used-within (good-laid c.requires)) in
+    no_bytes c.requires c.args.name.now _ refl c.if-k-ge-NAMES.false (omega (arith, c.start_of-free.ensures, c.if-free-name.true))
 
 pub slice_bounds-copy-count : goal.slice_bounds-copy-count
-slice_bounds-copy-count c = let known : Known c.wide-k.result c.start_of-free.result (length c.args.pool.now) (length c.args.table.now) = record {
-  few = c.if-k-ge-NAMES.false;
-  within = rw (c.start_of-free.ensures, c.wide-k.ensures) (used-within (good-laid c.requires));
-  bytes = c.requires.bytes;
-  words = c.requires.words;
-} in
-    let k = known in omega arith
+slice_bounds-copy-count c =
+    let within = used-within (good-laid c.requires) in
+    omega (arith, within, c.start_of-free.ensures, c.requires.bytes)
 
 pub slice_bounds-copy-start : goal.slice_bounds-copy-start
-slice_bounds-copy-start c = let known : Known c.wide-k.result c.start_of-free.result (length c.args.pool.now) (length c.args.table.now) = record {
-  few = c.if-k-ge-NAMES.false;
-  within = rw (c.start_of-free.ensures, c.wide-k.ensures) (used-within (good-laid c.requires));
-  bytes = c.requires.bytes;
-  words = c.requires.words;
-} in
-    let k = known in search rules
-
-pub overflow_cast-table : goal.overflow_cast-table
-overflow_cast-table c = let known : Known c.wide-k.result c.start_of-free.result (length c.args.pool.now) (length c.args.table.now) = record {
-  few = c.if-k-ge-NAMES.false;
-  within = rw (c.start_of-free.ensures, c.wide-k.ensures) (used-within (good-laid c.requires));
-  bytes = c.requires.bytes;
-  words = c.requires.words;
-} in
-    let k = known in
-    omega (arith, c.if-free-name.false)
-
-pub bounds-table-k : goal.bounds-table-k
-bounds-table-k c = let known : Known c.wide-k.result c.start_of-free.result (length c.args.pool.now) (length c.args.table.now) = record {
-  few = c.if-k-ge-NAMES.false;
-  within = rw (c.start_of-free.ensures, c.wide-k.ensures) (used-within (good-laid c.requires));
-  bytes = c.requires.bytes;
-  words = c.requires.words;
-} in
-    let k = known in simp length-set (omega arith)
+slice_bounds-copy-start c =
+    let within = used-within (good-laid c.requires) in
+    omega (arith, within, c.start_of-free.ensures, c.requires.bytes)
 
 pub returns : goal.returns
-returns c = let known : Known c.wide-k.result c.start_of-free.result (length c.args.pool.now) (length c.args.table.now) = record {
-  few = c.if-k-ge-NAMES.false;
-  within = rw (c.start_of-free.ensures, c.wide-k.ensures) (used-within (good-laid c.requires));
-  bytes = c.requires.bytes;
-  words = c.requires.words;
-} in
-    let k = known in
+returns c =
+    let within = used-within (good-laid c.requires) in
     rw c.start_of-free.ensures
-    (stored c.requires c.args.name.now c.wide-k.result c.wide-k.ensures k.few c.copy.new.dst
-    (omega (arith, c.start_of-free.ensures, c.if-free-name.false)) (rw c.start_of-free.ensures at c.copy.ensures))
+    (stored c.requires c.args.name.now _ refl c.if-k-ge-NAMES.false c.copy.new.dst
+    (omega (arith, within, c.start_of-free.ensures, c.if-free-name.false)) (rw c.start_of-free.ensures at c.copy.ensures))

@@ -1,28 +1,29 @@
 -- `names::inner::is_good` meets its contract: each return is a part of the test.
 use mathlib.Core.Path.{sym, ◌∙◌}
-use Prim.Native.Nat.{◌≤◌, ◌<◌}
+use Prim.Native.Nat.{◌≤◌}
 use native.Mathlib.Omega.{arith}
 use borrow.Author.Tests.{le-leb, lt-leb}
 use lib.ListN.{get_or}
 use Rattle.laws.specs.NameTable.{good-is}
 use Rattle.names.proofs.inner.is_good.Goals as goal
+use Rattle.names.proofs.inner.is_good.Goals.{then-table-gt-NAMES-via-then-table-gt-NAMES, then-table-gt-NAMES-via-else-table-gt-NAMES+then-not-lengths_good}
 
-pub returns-then-wide-gt-NAMES : goal.returns-then-wide-gt-NAMES
-returns-then-wide-gt-NAMES c =
+pub returns-then-table-gt-NAMES : goal.returns-then-table-gt-NAMES
+returns-then-table-gt-NAMES c =
     let a = c.args in
-    let h : 256 < get_or a.table.now 0 0 = omega arith in
-    rw (good-is a.pool.now a.table.now, lt-leb (get_or a.table.now 0 0) 256 h)
+    elim c.then-table-gt-NAMES.branch [
+      | then-table-gt-NAMES-via-then-table-gt-NAMES w ↦ rw (good-is a.pool.now a.table.now, lt-leb (get_or a.table.now 0 0) 256 w.if-table-gt-NAMES.true)
+      | then-table-gt-NAMES-via-else-table-gt-NAMES+then-not-lengths_good w ↦
+          rw (good-is a.pool.now a.table.now, le-leb (get_or a.table.now 0 0) 256 (omega arith), sym w.lengths_good.ensures ∙ w.if-not-lengths_good.true)
+    ]
 
 pub all_distinct-requires : goal.all_distinct-requires
-all_distinct-requires c = let few : get_or c.args.table.now 0 0 ≤ 256 = omega arith in
-    record { bytes = c.requires.in_bounds; words = c.requires.in_bounds_2; few = few; rising = sym c.lengths_good.ensures ∙ c.if-lengths_good.true }
+all_distinct-requires c =
+    let few : get_or c.args.table.now 0 0 ≤ 256 = omega arith in
+    record { bytes = c.requires.in_bounds; words = c.requires.in_bounds_2; few = few; rising = sym c.lengths_good.ensures ∙ c.if-not-lengths_good.false }
 
-pub returns-then-lengths_good : goal.returns-then-lengths_good
-returns-then-lengths_good c = let few : get_or c.args.table.now 0 0 ≤ 256 = omega arith in
+pub returns : goal.returns
+returns c =
     let a = c.args in
-    rw (good-is a.pool.now a.table.now, le-leb _ _ (few), sym c.lengths_good.ensures ∙ c.if-lengths_good.true) c.all_distinct.ensures
-
-pub returns-else-lengths_good : goal.returns-else-lengths_good
-returns-else-lengths_good c = let few : get_or c.args.table.now 0 0 ≤ 256 = omega arith in
-    let a = c.args in
-    rw (good-is a.pool.now a.table.now, le-leb _ _ (few), sym c.lengths_good.ensures ∙ c.if-lengths_good.false)
+    let few : get_or a.table.now 0 0 ≤ 256 = omega arith in
+    rw (good-is a.pool.now a.table.now, le-leb _ _ few, sym c.lengths_good.ensures ∙ c.if-not-lengths_good.false) c.all_distinct.ensures

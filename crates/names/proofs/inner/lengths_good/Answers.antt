@@ -6,10 +6,11 @@ use Prim.Native.Nat.{ℕ, ◌+◌, ◌≤◌, ◌<◌}
 use native.Mathlib.Numerals.{add-one}
 use native.Mathlib.Omega.{arith}
 use borrow.Author.Tests.{lt-ltb, le-ltb, le-leb, lt-leb}
-use lib.ListN.{drop, get_or}
+use lib.ListN.{length, drop, get_or}
 use Rattle.rules.specs.Names.{lengthsGood}
 use Rattle.laws.specs.NameTable.{endsOf, ends-step, ends-end}
 use Rattle.names.proofs.inner.lengths_good.Goals as goal
+use Rattle.names.proofs.inner.lengths_good.Goals.{then-end-at-via-then-end-at, then-end-at-via-else-end-at+then-end-at-gt-NAME_BYTES}
 
 -- what one end says
 module _ (at e : ℕ) (es : List ℕ) where
@@ -25,30 +26,27 @@ module _ (at e : ℕ) (es : List ℕ) where
   unfolding lengthsGood
   passes h k = rw (lt-ltb at e h, le-leb e (at + 48) k)
 
-pub loop-k-init : goal.loop-k-init
-loop-k-init c = (omega arith, refl)
+-- the ends from this turn's on
+turn : (table : List ℕ) (k at : ℕ) → 257 ≤ length table → get_or table 0 0 ≤ 256 → k < get_or table 0 0 → lengthsGood at (drop k (endsOf table)) ≡ lengthsGood 0 (endsOf table)
+    → lengthsGood at (get_or table (k + 1) 0 ∷ drop (k + 1) (endsOf table)) ≡ lengthsGood 0 (endsOf table)
+turn table k at long few h e = rw (add-one k) (ap (lengthsGood at) (sym (ends-step table long few k h)) ∙ e)
 
 pub returns-then-end-at : goal.returns-then-end-at
-returns-then-end-at c = let turn : lengthsGood c.loop-k.at (c.wide-end.result ∷ drop (c.loop-k.k + 1) (endsOf c.args.table.now)) ≡ lengthsGood 0 (endsOf c.args.table.now) = let h : c.loop-k.k < get_or c.args.table.now 0 0 = rw c.wide-n.ensures at c.loop-k-test.true in
-    rw (c.wide-end.ensures, add-one c.loop-k.k)
-    (ap (lengthsGood c.loop-k.at) (sym (ends-step c.args.table.now c.requires.in_bounds c.requires.table_bound c.loop-k.k h)) ∙ c.loop-k.invariant.1) in
-    sym (no-rise _ _ _ c.if-end-at.true) ∙ turn
-
-pub returns-then-end-at-gt-NAME_BYTES : goal.returns-then-end-at-gt-NAME_BYTES
-returns-then-end-at-gt-NAME_BYTES c = let turn : lengthsGood c.loop-k.at (c.wide-end.result ∷ drop (c.loop-k.k + 1) (endsOf c.args.table.now)) ≡ lengthsGood 0 (endsOf c.args.table.now) = let h : c.loop-k.k < get_or c.args.table.now 0 0 = rw c.wide-n.ensures at c.loop-k-test.true in
-    rw (c.wide-end.ensures, add-one c.loop-k.k)
-    (ap (lengthsGood c.loop-k.at) (sym (ends-step c.args.table.now c.requires.in_bounds c.requires.table_bound c.loop-k.k h)) ∙ c.loop-k.invariant.1) in
-    sym (too_long _ _ _ (omega arith) (omega arith)) ∙ turn
+returns-then-end-at c =
+    let whole = turn c.args.table.now c.loop-k.k c.loop-k.at c.requires.in_bounds c.requires.table_bound (omega arith) c.loop-k.invariant in
+    elim c.then-end-at.branch [
+      | then-end-at-via-then-end-at w ↦ sym (no-rise _ _ _ w.if-end-at.true) ∙ whole
+      | then-end-at-via-else-end-at+then-end-at-gt-NAME_BYTES w ↦ sym (too_long _ _ _ (omega arith) (omega arith)) ∙ whole
+    ]
 
 pub loop-k-preserved : goal.loop-k-preserved
-loop-k-preserved c = let turn : lengthsGood c.loop-k.at (c.wide-end.result ∷ drop (c.loop-k.k + 1) (endsOf c.args.table.now)) ≡ lengthsGood 0 (endsOf c.args.table.now) = let h : c.loop-k.k < get_or c.args.table.now 0 0 = rw c.wide-n.ensures at c.loop-k-test.true in
-    rw (c.wide-end.ensures, add-one c.loop-k.k)
-    (ap (lengthsGood c.loop-k.at) (sym (ends-step c.args.table.now c.requires.in_bounds c.requires.table_bound c.loop-k.k h)) ∙ c.loop-k.invariant.1) in
-    (omega arith, sym (passes _ _ _ (omega arith) (omega arith)) ∙ turn)
+loop-k-preserved c =
+    let whole = turn c.args.table.now c.loop-k.k c.loop-k.at c.requires.in_bounds c.requires.table_bound (omega arith) c.loop-k.invariant in
+    sym (passes _ _ _ (omega arith) (omega arith)) ∙ whole
 
 pub returns : goal.returns
 unfolding lengthsGood
 returns c =
     let e : c.loop-k.k ≡ get_or c.args.table.now 0 0 = omega arith in
     sym (ap (lengthsGood c.loop-k.at) (ap (λ (k : ℕ). drop k (endsOf c.args.table.now)) e ∙ ends-end c.args.table.now c.requires.in_bounds c.requires.table_bound))
-    ∙ c.loop-k.invariant.1
+    ∙ c.loop-k.invariant

@@ -1,10 +1,11 @@
 -- `names::inner::name_at` meets its contract.
-use mathlib.Core.Path.{◌≡◌, sym, ◌∙◌, ap}
-use Prim.Native.Nat.{ℕ, suc, ◌≤◌, ◌<◌}
+use mathlib.Core.Path.{◌≡◌, sym}
+use mathlib.Core.List.{List}
+use Prim.Native.Nat.{ℕ, ◌≤◌, ◌<◌, ◌+◌}
 use native.Mathlib.Numerals.{add-one}
 use native.Mathlib.Omega.{arith}
 use lib.ListN.{length, get_or}
-use Rattle.laws.specs.NameTable.{placed, name-is}
+use Rattle.laws.specs.NameTable.{start_at, Laid, placed, name-is}
 use Rattle.names.proofs.inner.name_at.Goals as goal
 
 -- the part lies within the pool
@@ -13,28 +14,23 @@ record Part (first last size : ℕ) : Type 0 where
   within : last ≤ 8192
   bytes : 8192 ≤ size
 
-part : (c : goal.After-wide-end) → Part c.start_of-start.result c.wide-end.result (length c.args.pool.now)
-part c =
-    let p = placed c.requires.laid c.args.k c.requires.k_bound in
-    let e : c.wide-end.result ≡ get_or c.args.table.now (suc c.args.k) 0 = c.wide-end.ensures ∙ ap (λ (n : ℕ). get_or c.args.table.now n 0) (add-one c.args.k) in
-    record {
-      rises = rw (e, c.start_of-start.ensures) p.rises;
-      within = rw e p.within;
-      bytes = c.requires.laid.bytes;
-    }
+part : (pool table : List ℕ) (k start : ℕ) → Laid pool table → k < get_or table 0 0 → start ≡ start_at table k → Part start (get_or table (k + 1) 0) (length pool)
+part pool table k start laid h e =
+    let p = placed laid k h in
+    record { rises = rw (e, add-one k) p.rises; within = rw (add-one k) p.within; bytes = laid.bytes }
 
 pub slice_bounds-result-count : goal.slice_bounds-result-count
-slice_bounds-result-count c = let p = part c in omega arith
+slice_bounds-result-count c = let p = part c.args.pool.now c.args.table.now c.args.k _ c.requires.laid c.requires.k_bound c.start_of-start.ensures in omega arith
 
 pub slice_bounds-result-start : goal.slice_bounds-result-start
-slice_bounds-result-start c = let p = part c in omega arith
+slice_bounds-result-start c = let p = part c.args.pool.now c.args.table.now c.args.k _ c.requires.laid c.requires.k_bound c.start_of-start.ensures in omega arith
 
 pub slice_bounds-result-end : goal.slice_bounds-result-end
-slice_bounds-result-end c = let p = part c in omega arith
+slice_bounds-result-end c = let p = part c.args.pool.now c.args.table.now c.args.k _ c.requires.laid c.requires.k_bound c.start_of-start.ensures in omega arith
 
 pub returns : goal.returns
 returns c =
     record {
       place = rw c.start_of-start.ensures;
-      bytes = rw (c.wide-end.ensures, c.start_of-start.ensures, add-one c.args.k) (sym (name-is c.requires.laid c.args.k c.requires.k_bound));
+      bytes = rw (c.start_of-start.ensures, add-one c.args.k) (sym (name-is c.requires.laid c.args.k c.requires.k_bound));
     }

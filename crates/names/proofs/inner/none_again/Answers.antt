@@ -1,40 +1,33 @@
 -- `names::inner::none_again` meets its contract. The invariant: the names from k on decide.
-use mathlib.Core.Path.{◌≡◌, refl, sym, ◌∙◌, ap}
-use mathlib.Core.List.{[], ◌∷◌}
+use mathlib.Core.Path.{◌≡◌, sym, ◌∙◌, ap}
+use mathlib.Core.List.{List, [], ◌∷◌}
 use Prim.Native.Nat.{ℕ, ◌+◌, ◌<◌}
 use native.Mathlib.Numerals.{add-one}
 use native.Mathlib.Omega.{arith}
-use lib.ListN.{drop, get_or}
+use lib.ListN.{length, drop, get_or}
 use lib.Seq.{drop-cons}
-use Rattle.rules.specs.Names.{table_of, names_of, distinct}
+use Rattle.rules.specs.Names.{Bytes, table_of, names_of, distinct}
 use Rattle.laws.specs.NameTable.{length-names, names-end}
 use Rattle.names.specs.Digests.{repeated, fresh}
 use Rattle.names.proofs.inner.none_again.Goals as goal
 
-pub loop-k-init : goal.loop-k-init
-loop-k-init c = (omega arith, refl)
-
-pub held_again-requires : goal.held_again-requires
-held_again-requires c = let below : c.loop-k.k < get_or c.args.table.now 0 0 = rw c.wide-n.ensures at c.loop-k-test.true in
-    record { laid = c.requires.laid; digests = c.requires.digests; k_bound = below }
+-- the names from this turn's on
+turn : (names : List Bytes) (k : ℕ) → k < length names → distinct (drop k names) ≡ distinct names → distinct (get_or names k [] ∷ drop (k + 1) names) ≡ distinct names
+turn names k h e = rw (add-one k) (ap distinct (sym (drop-cons names k [] h)) ∙ e)
 
 pub returns-then-held_again : goal.returns-then-held_again
-returns-then-held_again c = let below : c.loop-k.k < get_or c.args.table.now 0 0 = rw c.wide-n.ensures at c.loop-k-test.true in
-    let left : let names = names_of (table_of c.args.pool.now c.args.table.now) in distinct (get_or names c.loop-k.k [] ∷ drop (c.loop-k.k + 1) names) ≡ distinct names = let names = names_of (table_of c.args.pool.now c.args.table.now) in
-    let b = below in
-    rw (add-one c.loop-k.k) (ap distinct (sym (drop-cons names c.loop-k.k [] (omega (arith, length-names c.requires.laid)))) ∙ c.loop-k.invariant.1) in
-    sym (repeated _ _ (sym c.if-held_again.true ∙ c.held_again.ensures)) ∙ left
+returns-then-held_again c =
+    let whole = turn _ c.loop-k.k (omega (arith, length-names c.requires.laid)) c.loop-k.invariant in
+    sym (repeated _ _ (sym c.if-held_again.true ∙ c.held_again.ensures)) ∙ whole
 
 pub loop-k-preserved : goal.loop-k-preserved
-loop-k-preserved c = let below : c.loop-k.k < get_or c.args.table.now 0 0 = rw c.wide-n.ensures at c.loop-k-test.true in
-    let left : let names = names_of (table_of c.args.pool.now c.args.table.now) in distinct (get_or names c.loop-k.k [] ∷ drop (c.loop-k.k + 1) names) ≡ distinct names = let names = names_of (table_of c.args.pool.now c.args.table.now) in
-    let b = below in
-    rw (add-one c.loop-k.k) (ap distinct (sym (drop-cons names c.loop-k.k [] (omega (arith, length-names c.requires.laid)))) ∙ c.loop-k.invariant.1) in
-    (omega arith, sym (fresh _ _ (sym c.if-held_again.false ∙ c.held_again.ensures)) ∙ left)
+loop-k-preserved c =
+    let whole = turn _ c.loop-k.k (omega (arith, length-names c.requires.laid)) c.loop-k.invariant in
+    sym (fresh _ _ (sym c.if-held_again.false ∙ c.held_again.ensures)) ∙ whole
 
 pub returns : goal.returns
 unfolding distinct
 returns c =
-    let e : c.loop-k.k ≡ get_or c.args.table.now 0 0 = omega (arith, c.wide-n.ensures) in
+    let e : c.loop-k.k ≡ get_or c.args.table.now 0 0 = omega arith in
     sym (ap distinct (ap (λ (k : ℕ). drop k (names_of (table_of c.args.pool.now c.args.table.now))) e ∙ names-end c.requires.laid))
-    ∙ c.loop-k.invariant.1
+    ∙ c.loop-k.invariant

@@ -1,11 +1,7 @@
 use mathlib.Core.Path.{◌≡◌}
-use Prim.Native.Nat.{◌-◌, ◌≤◌}
 use lib.ListN.{drop}
 use Rattle.rules.specs.Names.{table_of, names_of, distinct}
 use Rattle.names.proofs.inner.none_again.Given as goal
 
 abbrev pub invariant-loop-k : goal.invariant-loop-k
-invariant-loop-k l = (l.k ≤ l.n) × (distinct (drop l.k (names_of (table_of l.pool l.table))) ≡ distinct (names_of (table_of l.pool l.table)))
-
-abbrev pub decreases-loop-k : goal.decreases-loop-k
-decreases-loop-k l = l.n - l.k
+invariant-loop-k l = distinct (drop l.k (names_of (table_of l.pool l.table))) ≡ distinct (names_of (table_of l.pool l.table))

@@ -5,12 +5,11 @@ use Rattle.laws.specs.NameTable.{good-laid}
 use Rattle.names.proofs.inner.order.Goals as goal
 
 pub name_at-requires : goal.name_at-requires
-name_at-requires c = record { laid = good-laid c.requires.good; k_bound = rw c.wide.ensures c.requires.i_bound }
+name_at-requires c = record { laid = good-laid c.requires.good; k_bound = c.requires.i_bound }
 
 pub name_at-requires-2 : goal.name_at-requires-2
-name_at-requires-2 c = record { laid = good-laid c.requires.good; k_bound = rw c.wide-2.ensures c.requires.j_bound }
+name_at-requires-2 c = record { laid = good-laid c.requires.good; k_bound = c.requires.j_bound }
 
 pub returns : goal.returns
 unfolding numbered
-returns c =
-    rw (c.wide.ensures, c.wide-2.ensures) at (c.compare.ensures ∙ ap₂ orderBytes c.name_at.ensures.bytes c.name_at-2.ensures.bytes)
+returns c = c.compare.ensures ∙ ap₂ orderBytes c.name_at.ensures.bytes c.name_at-2.ensures.bytes

@@ -1,7 +1,9 @@
--- `names::inner::same_held` meets its contract.
+-- `names::inner::same_held` meets its contract: with two digests there are two names.
 use mathlib.Core.Path.{sym}
+use borrow.Author.Tests.{ne_eqb}
 use Rattle.names.specs.Digests.{apart}
 use Rattle.names.proofs.inner.same_held.Goals as goal
 
-pub returns-then-digests-i : goal.returns-then-digests-i
-returns-then-digests-i c = sym (apart c.args.i c.args.j c.requires.digests c.requires.i_bound c.requires.j_bound c.if-digests-i.true)
+pub returns-else-digests-i : goal.returns-else-digests-i
+returns-else-digests-i c =
+    rw (ne_eqb _ _ c.if-digests-i.false) (sym (apart c.args.i c.args.j c.requires.digests c.requires.i_bound c.requires.j_bound c.if-digests-i.false))

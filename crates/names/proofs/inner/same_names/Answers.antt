@@ -4,8 +4,8 @@ use Rattle.names.proofs.Compared.{hit, missed}
 use borrow.Enum.Refused.{opened}
 use Rattle.names.proofs.inner.same_names.Goals as goal
 
-pub returns-in-Same : goal.returns-in-Same
-returns-in-Same c = sym (hit _ _ (rw (c.in-Same.is, c.name_at-2.ensures.bytes, c.name_at.ensures.bytes) at c.compare.ensures))
+pub returns-in-Equal : goal.returns-in-Equal
+returns-in-Equal c = sym (hit _ _ (rw (c.in-Equal.is, c.name_at-2.ensures.bytes, c.name_at.ensures.bytes) at c.compare.ensures))
 
 pub returns-in-Less : goal.returns-in-Less
 returns-in-Less c = sym (missed _ _ c.compare.result (rw (c.name_at-2.ensures.bytes, c.name_at.ensures.bytes) at c.compare.ensures) (opened c.in-Less.in-Less-own.keys2))

@@ -1,12 +1,12 @@
 -- `names::inner::search` meets its contract. The invariant: the names from k on decide, and the first of them begins at start.
 use mathlib.Core.Path.{◌≡◌, refl, sym, ◌∙◌, ap}
-use mathlib.Core.List.{◌∷◌}
-use Prim.Native.Nat.{ℕ, suc, ◌≤◌, ◌<◌}
+use mathlib.Core.List.{List, ◌∷◌}
+use Prim.Native.Nat.{ℕ, ◌+◌, ◌≤◌, ◌<◌}
 use native.Mathlib.Numerals.{add-one}
 use native.Mathlib.Omega.{arith}
 use lib.ListN.{drop, get_or}
 use Rattle.rules.specs.Names.{orderBytes, table_of, names_of, number_of}
-use Rattle.laws.specs.NameTable.{part_of, placed, names-step, names-end, search-hit, search-miss}
+use Rattle.laws.specs.NameTable.{start_at, Laid, part_of, placed, names-step, names-end, search-hit, search-miss}
 use Rattle.names.specs.Told.{toldOrder}
 use Rattle.names.proofs.Compared.{hit, missed}
 use borrow.Enum.Refused.{opened}
@@ -17,54 +17,35 @@ record Part (first last : ℕ) : Type 0 where
   rises : first < last
   within : last ≤ 8192
 
-pub loop-k-init : goal.loop-k-init
-loop-k-init c = (omega arith, c.start_of-start.ensures, refl)
+part : {pool table : List ℕ} (k start : ℕ) → Laid pool table → k < get_or table 0 0 → start ≡ start_at table k → Part start (get_or table (k + 1) 0)
+part k start laid h e =
+    let p = placed laid k h in
+    record { rises = rw (e, add-one k) p.rises; within = rw (add-one k) p.within }
 
 pub slice_bounds-compare-count : goal.slice_bounds-compare-count
-slice_bounds-compare-count c = let below : c.loop-k.k < get_or c.args.table.now 0 0 = rw c.wide-n.ensures at c.loop-k-test.true in
-    let part : Part c.loop-k.start c.wide-end.result = let p = placed c.requires.laid c.loop-k.k (below) in
-    record {
-      rises = rw (c.wide-end.ensures, c.loop-k.invariant.1, add-one c.loop-k.k) p.rises;
-      within = rw (c.wide-end.ensures, add-one c.loop-k.k) p.within;
-    } in
-    let p = part in omega arith
+slice_bounds-compare-count c = let p = part c.loop-k.k _ c.requires.laid (omega arith) c.loop-k.invariant.0 in omega arith
 
 pub slice_bounds-compare-start : goal.slice_bounds-compare-start
-slice_bounds-compare-start c = let below : c.loop-k.k < get_or c.args.table.now 0 0 = rw c.wide-n.ensures at c.loop-k-test.true in
-    let part : Part c.loop-k.start c.wide-end.result = let p = placed c.requires.laid c.loop-k.k (below) in
-    record {
-      rises = rw (c.wide-end.ensures, c.loop-k.invariant.1, add-one c.loop-k.k) p.rises;
-      within = rw (c.wide-end.ensures, add-one c.loop-k.k) p.within;
-    } in
-    let p = part in omega arith
+slice_bounds-compare-start c = let p = part c.loop-k.k _ c.requires.laid (omega arith) c.loop-k.invariant.0 in omega arith
 
 pub slice_bounds-compare-end : goal.slice_bounds-compare-end
-slice_bounds-compare-end c = let below : c.loop-k.k < get_or c.args.table.now 0 0 = rw c.wide-n.ensures at c.loop-k-test.true in
-    let part : Part c.loop-k.start c.wide-end.result = let p = placed c.requires.laid c.loop-k.k (below) in
-    record {
-      rises = rw (c.wide-end.ensures, c.loop-k.invariant.1, add-one c.loop-k.k) p.rises;
-      within = rw (c.wide-end.ensures, add-one c.loop-k.k) p.within;
-    } in
-    let p = part in omega (arith, c.requires.laid.bytes)
+slice_bounds-compare-end c = let p = part c.loop-k.k _ c.requires.laid (omega arith) c.loop-k.invariant.0 in omega (arith, c.requires.laid.bytes)
 
-pub overflow_cast-i : goal.overflow_cast-i
-overflow_cast-i c = let below : c.loop-k.k < get_or c.args.table.now 0 0 = rw c.wide-n.ensures at c.loop-k-test.true in
-    let b = below in
-    omega (arith, c.requires.laid.few)
+pub overflow_cast-result : goal.overflow_cast-result
+overflow_cast-result c = omega (arith, c.requires.laid.few)
 
-pub returns-in-Same : goal.returns-in-Same
-returns-in-Same c = let told : toldOrder c.compare.result ≡ orderBytes c.args.name.now (part_of c.args.pool.now c.args.table.now c.loop-k.k) = rw (c.wide-end.ensures, c.loop-k.invariant.1, add-one c.loop-k.k) at c.compare.ensures in
-    let below : c.loop-k.k < get_or c.args.table.now 0 0 = rw c.wide-n.ensures at c.loop-k-test.true in
-    let left : let names = names_of (table_of c.args.pool.now c.args.table.now) in number_of c.loop-k.k c.args.name.now (part_of c.args.pool.now c.args.table.now c.loop-k.k ∷ drop (suc c.loop-k.k) names) ≡ number_of c.args.from c.args.name.now (drop c.args.from names) = ap (number_of c.loop-k.k c.args.name.now) (sym (names-step c.requires.laid c.loop-k.k (below))) ∙ c.loop-k.invariant.2 in
-    sym (search-hit _ _ _ _ (hit _ _ (rw c.in-Same.is at (told)))) ∙ left
+pub returns-in-Equal : goal.returns-in-Equal
+returns-in-Equal c =
+    let told : toldOrder c.compare.result ≡ orderBytes c.args.name.now (part_of c.args.pool.now c.args.table.now c.loop-k.k) = rw (c.loop-k.invariant.0, add-one c.loop-k.k) at c.compare.ensures in
+    let step = ap (number_of c.loop-k.k c.args.name.now) (sym (names-step c.requires.laid c.loop-k.k (omega arith))) ∙ c.loop-k.invariant.1 in
+    sym (search-hit _ _ _ _ (hit _ _ (rw c.in-Equal.is at (told)))) ∙ step
 
 pub loop-k-preserved : goal.loop-k-preserved
-loop-k-preserved c = let told : toldOrder c.compare.result ≡ orderBytes c.args.name.now (part_of c.args.pool.now c.args.table.now c.loop-k.k) = rw (c.wide-end.ensures, c.loop-k.invariant.1, add-one c.loop-k.k) at c.compare.ensures in
-    let below : c.loop-k.k < get_or c.args.table.now 0 0 = rw c.wide-n.ensures at c.loop-k-test.true in
-    let left : let names = names_of (table_of c.args.pool.now c.args.table.now) in number_of c.loop-k.k c.args.name.now (part_of c.args.pool.now c.args.table.now c.loop-k.k ∷ drop (suc c.loop-k.k) names) ≡ number_of c.args.from c.args.name.now (drop c.args.from names) = ap (number_of c.loop-k.k c.args.name.now) (sym (names-step c.requires.laid c.loop-k.k (below))) ∙ c.loop-k.invariant.2 in (
-      omega arith,
-      rw (add-one c.loop-k.k) (rw (add-one c.loop-k.k) at c.wide-end.ensures),
-      rw (add-one c.loop-k.k) (sym (search-miss _ _ _ _ (missed _ _ c.compare.result (told) (opened c.in-Less.in-Less-own.keys2))) ∙ left),
+loop-k-preserved c =
+    let told : toldOrder c.compare.result ≡ orderBytes c.args.name.now (part_of c.args.pool.now c.args.table.now c.loop-k.k) = rw (c.loop-k.invariant.0, add-one c.loop-k.k) at c.compare.ensures in
+    let step = ap (number_of c.loop-k.k c.args.name.now) (sym (names-step c.requires.laid c.loop-k.k (omega arith))) ∙ c.loop-k.invariant.1 in (
+      rw (add-one c.loop-k.k) refl,
+      rw (add-one c.loop-k.k) (sym (search-miss _ _ _ _ (missed _ _ c.compare.result (told) (opened c.in-Less.in-Less-own.keys2))) ∙ step),
     )
 
 pub returns : goal.returns
@@ -72,4 +53,4 @@ unfolding number_of
 returns c =
     let e : c.loop-k.k ≡ get_or c.args.table.now 0 0 = omega arith in
     sym (ap (number_of c.loop-k.k c.args.name.now) (ap (λ (k : ℕ). drop k (names_of (table_of c.args.pool.now c.args.table.now))) e ∙ names-end c.requires.laid))
-    ∙ c.loop-k.invariant.2
+    ∙ c.loop-k.invariant.1

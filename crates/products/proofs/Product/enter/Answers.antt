@@ -1,7 +1,7 @@
 -- `products::Product::enter` meets its contract.
 use mathlib.Core.Path.{◌≡◌, sym, ◌∙◌, ap}
 use lib.ListN.{length}
-use Rattle.names.specs.Told.{toldChecked}
+use Rattle.names.specs.Old.{toldChecked}
 use Rattle.rules.specs.Base.{got}
 use Rattle.rules.specs.Names.{tableGiven}
 use Rattle.laws.specs.NameTable.{given-good}

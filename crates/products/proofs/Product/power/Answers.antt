@@ -1,7 +1,7 @@
 -- `products::Product::power` meets its contract.
 use mathlib.Core.Path.{◌≡◌, sym, ◌∙◌, ap}
 use lib.ListN.{length}
-use Rattle.names.specs.Told.{toldChecked}
+use Rattle.names.specs.Old.{toldChecked}
 use Rattle.products.specs.Told.{answer}
 use Rattle.products.specs.Held.{well-sound}
 use Rattle.products.specs.Entry.{Entered, entered, raise-stopped, raise-goes}

@@ -11,10 +11,10 @@ use types.Run.{OneOf}
 use lib.ListN.{length}
 use Rattle.rules.specs.Names.{table_of, numbersOf}
 use Rattle.rules.specs.Trees.{Names, orderAtom}
-use Rattle.names.specs.declared.Order.{Order}
-use Rattle.names.specs.declared.Order.TheVariants.{Less, Same, More}
+use Rattle.std.specs.declared.cmp.Ordering as std
+use Rattle.std.specs.declared.cmp.Ordering.TheVariants.{Less, Equal, Greater}
 use Rattle.names.specs.Told.{toldOrder}
-use Rattle.names.specs.contracts.Order as order
+use Rattle.std.specs.contracts.cmp.Ordering as order
 use Rattle.products.specs.Told.{atomAt, heldIn, factorAt, fine, isGot}
 use Rattle.products.specs.Kinds.{Fine, fine-facts, not-fine}
 use Rattle.products.specs.Held.{Seen, seen_none, seen_first, seen_more, seen-well, well-given, not_taken}
@@ -22,10 +22,10 @@ use borrow.Enum.Refused.{opened}
 use Rattle.products.proofs.inner.fits.Goals as goal
 
 -- the order is not less
-later : (o : Order) → OneOf (1 ∷ 2 ∷ []) (Declared.tag_of order.the_type o) → toldOrder o ≡ Ordering.lt → ⊥
+later : (o : std.Ordering) → OneOf (1 ∷ 2 ∷ []) (Declared.tag_of order.the_type o) → toldOrder o ≡ Ordering.lt → ⊥
 later Less t h = ⊎_elim (λ e. omega arith) (λ e. omega arith) t
-later Same t h = let z : ◌≡◌ {A = ℕ} 0 1 = cc in omega arith
-later More t h = let z : ◌≡◌ {A = ℕ} 0 1 = cc in omega arith
+later Equal t h = let z : ◌≡◌ {A = ℕ} 0 1 = cc in omega arith
+later Greater t h = let z : ◌≡◌ {A = ℕ} 0 1 = cc in omega arith
 
 pub returns-then-n-gt-FACTORS : goal.returns-then-n-gt-FACTORS
 returns-then-n-gt-FACTORS c = let long : length c.args.p.factors ≡ 64 = c.well_formed.0.1.1.0.1.0.1 in
@@ -76,15 +76,15 @@ order-requires c = let names : Names ℕ = numbersOf (table_of c.args.pool.now c
     let k : c.loop-i.i - 1 < c.loop-i.i = omega arith in
     record { good = c.requires; fine = rw c.loop-i.invariant.2 (c.loop-i.invariant.3.each _ k); fine_2 = fined }
 
-pub returns-in-Same : goal.returns-in-Same
-returns-in-Same c = let long : length c.args.p.factors ≡ 64 = c.well_formed.0.1.1.0.1.0.1 in
+pub returns-in-Equal : goal.returns-in-Equal
+returns-in-Equal c = let long : length c.args.p.factors ≡ 64 = c.well_formed.0.1.1.0.1.0.1 in
     let names : Names ℕ = numbersOf (table_of c.args.pool.now c.args.table.now) in
     let p = c.args.p in
     let i : suc (c.loop-i.i - 1) ≡ c.loop-i.i = omega arith in
     let j : suc (c.loop-i.i - 1) < p.len = omega arith in
     sym (not_taken _ _ p (long) (λ w.
     let o = subst (λ (k : ℕ). orderAtom (names) (atomAt (factorAt p (c.loop-i.i - 1))) (atomAt (factorAt p k)) ≡ Ordering.lt) i (w.rises _ j) in
-    later c.order.result (opened c.in-Same.in-Same-own.keys2) (c.order.ensures ∙ rw c.loop-i.invariant.2 o)))
+    later c.order.result (opened c.in-Equal.in-Equal-own.keys2) (c.order.ensures ∙ rw c.loop-i.invariant.2 o)))
 
 pub overflow_add-i : goal.overflow_add-i
 overflow_add-i c = let within : (c.loop-i.i < c.args.p.len) × (c.args.p.len ≤ 64) = (omega arith, omega arith) in

@@ -84,8 +84,8 @@ loop-i-preserved-in-Less c =
           (turn-less (numbersOf (table_of c.args.pool.now c.args.table.now)) (factorAt c.args.a c.loop-i.i) (factorAt c.args.b c.loop-i.j) _ _ _ _ (at_place c.args.a c.requires.well.long turning.few₁ c.loop-i.i turning.left) (at_place c.args.b c.requires.well_2.long turning.few₂ c.loop-i.j turning.right) o)),
     )
 
-pub put-out-requires-in-More : goal.put-out-requires-in-More
-put-out-requires-in-More c =
+pub put-out-requires-in-Greater : goal.put-out-requires-in-Greater
+put-out-requires-in-Greater c =
     let turning : Turn c.args.a c.args.b c.loop-i.i c.loop-i.j = record { left = omega arith; right = c.if-j-n.true; few₁ = c.requires.well.few; few₂ = c.requires.well_2.few } in
     let n = doing-len c.loop-i.invariant.2 in
     omega (arith, turning)
@@ -95,19 +95,19 @@ overflow_add-j c =
     let turning : Turn c.args.a c.args.b c.loop-i.i c.loop-i.j = record { left = omega arith; right = c.if-j-n.true; few₁ = c.requires.well.few; few₂ = c.requires.well_2.few } in
     omega (arith, turning)
 
-pub loop-i-smaller-in-More : goal.loop-i-smaller-in-More
-loop-i-smaller-in-More c =
+pub loop-i-smaller-in-Greater : goal.loop-i-smaller-in-Greater
+loop-i-smaller-in-Greater c =
     let turning : Turn c.args.a c.args.b c.loop-i.i c.loop-i.j = record { left = omega arith; right = c.if-j-n.true; few₁ = c.requires.well.few; few₂ = c.requires.well_2.few } in
     omega (arith, turning)
 
-pub loop-i-preserved-in-More : goal.loop-i-preserved-in-More
-loop-i-preserved-in-More c =
+pub loop-i-preserved-in-Greater : goal.loop-i-preserved-in-Greater
+loop-i-preserved-in-Greater c =
     let turning : Turn c.args.a c.args.b c.loop-i.i c.loop-i.j = record { left = omega arith; right = c.if-j-n.true; few₁ = c.requires.well.few; few₂ = c.requires.well_2.few } in
-    let o = sym c.order.ensures ∙ ap toldOrder c.in-More.is in
+    let o = sym c.order.ensures ∙ ap toldOrder c.in-Greater.is in
     let more : c.loop-i.i + c.loop-i.j < c.loop-i.i + (c.loop-i.j + 1) = omega arith in (
       omega arith,
       omega (arith, turning),
-      rw c.put-out-in-More.ensures
+      rw c.put-out-in-Greater.ensures
           (doing-put c.loop-i.invariant.2 (factorAt c.args.b c.loop-i.j) (tree_of (factorAt c.args.b c.loop-i.j)) _ _ (value-back (factorAt c.args.b c.loop-i.j) (c.requires.well_2.each _ turning.right).kind) more
           (turn_more (numbersOf (table_of c.args.pool.now c.args.table.now)) (factorAt c.args.a c.loop-i.i) (factorAt c.args.b c.loop-i.j) _ _ _ _ (at_place c.args.a c.requires.well.long turning.few₁ c.loop-i.i turning.left) (at_place c.args.b c.requires.well_2.long turning.few₂ c.loop-i.j turning.right) o)),
     )
@@ -120,7 +120,7 @@ sum_of-requires c =
 pub returns-in-Over : goal.returns-in-Over
 returns-in-Over c =
     let turning : Turn c.args.a c.args.b c.loop-i.i c.loop-i.j = record { left = omega arith; right = c.if-j-n.true; few₁ = c.requires.well.few; few₂ = c.requires.well_2.few } in
-    let o = sym c.order.ensures ∙ ap toldOrder c.in-Same.is in
+    let o = sym c.order.ensures ∙ ap toldOrder c.in-Equal.is in
     let met : merge (numbersOf (table_of c.args.pool.now c.args.table.now)) bounded (drop c.loop-i.i (productOf c.args.a)) (drop c.loop-i.j (productOf c.args.b)) ≡ joined (atomAt (factorAt c.args.a c.loop-i.i)) (toldPower c.sum_of.result) (merge (numbersOf (table_of c.args.pool.now c.args.table.now)) bounded (drop (c.loop-i.i + 1) (productOf c.args.a)) (drop (c.loop-i.j + 1) (productOf c.args.b))) =
     turn-same (numbersOf (table_of c.args.pool.now c.args.table.now)) (factorAt c.args.a c.loop-i.i) (factorAt c.args.b c.loop-i.j) _ _ _ _ (at_place c.args.a c.requires.well.long turning.few₁ c.loop-i.i turning.left) (at_place c.args.b c.requires.well_2.long turning.few₂ c.loop-i.j turning.right) o
     ∙ ap (λ (m : Got Exp). joined (atomAt (factorAt c.args.a c.loop-i.i)) m (merge (numbersOf (table_of c.args.pool.now c.args.table.now)) bounded (drop (c.loop-i.i + 1) (productOf c.args.a)) (drop (c.loop-i.j + 1) (productOf c.args.b)))) (sym c.sum_of.ensures) in
@@ -133,13 +133,13 @@ put-out-requires-in-Keep c =
     let n = doing-len c.loop-i.invariant.2 in
     omega (arith, turning)
 
-pub overflow_add-i-in-Same : goal.overflow_add-i-in-Same
-overflow_add-i-in-Same c =
+pub overflow_add-i-in-Equal : goal.overflow_add-i-in-Equal
+overflow_add-i-in-Equal c =
     let turning : Turn c.args.a c.args.b c.loop-i.i c.loop-i.j = record { left = omega arith; right = c.if-j-n.true; few₁ = c.requires.well.few; few₂ = c.requires.well_2.few } in
     omega (arith, turning)
 
-pub overflow_add-j-in-Same : goal.overflow_add-j-in-Same
-overflow_add-j-in-Same c =
+pub overflow_add-j-in-Equal : goal.overflow_add-j-in-Equal
+overflow_add-j-in-Equal c =
     let turning : Turn c.args.a c.args.b c.loop-i.i c.loop-i.j = record { left = omega arith; right = c.if-j-n.true; few₁ = c.requires.well.few; few₂ = c.requires.well_2.few } in
     omega (arith, turning)
 
@@ -151,7 +151,7 @@ loop-i-smaller c =
 pub loop-i-preserved : goal.loop-i-preserved
 loop-i-preserved c =
     let turning : Turn c.args.a c.args.b c.loop-i.i c.loop-i.j = record { left = omega arith; right = c.if-j-n.true; few₁ = c.requires.well.few; few₂ = c.requires.well_2.few } in
-    let o = sym c.order.ensures ∙ ap toldOrder c.in-Same.is in
+    let o = sym c.order.ensures ∙ ap toldOrder c.in-Equal.is in
     let met : merge (numbersOf (table_of c.args.pool.now c.args.table.now)) bounded (drop c.loop-i.i (productOf c.args.a)) (drop c.loop-i.j (productOf c.args.b)) ≡ joined (atomAt (factorAt c.args.a c.loop-i.i)) (toldPower c.sum_of.result) (merge (numbersOf (table_of c.args.pool.now c.args.table.now)) bounded (drop (c.loop-i.i + 1) (productOf c.args.a)) (drop (c.loop-i.j + 1) (productOf c.args.b))) =
     turn-same (numbersOf (table_of c.args.pool.now c.args.table.now)) (factorAt c.args.a c.loop-i.i) (factorAt c.args.b c.loop-i.j) _ _ _ _ (at_place c.args.a c.requires.well.long turning.few₁ c.loop-i.i turning.left) (at_place c.args.b c.requires.well_2.long turning.few₂ c.loop-i.j turning.right) o
     ∙ ap (λ (m : Got Exp). joined (atomAt (factorAt c.args.a c.loop-i.i)) m (merge (numbersOf (table_of c.args.pool.now c.args.table.now)) bounded (drop (c.loop-i.i + 1) (productOf c.args.a)) (drop (c.loop-i.j + 1) (productOf c.args.b)))) (sym c.sum_of.ensures) in

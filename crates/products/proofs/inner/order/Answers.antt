@@ -16,14 +16,14 @@ returns-then-x-eq15 c = let left : Fine (numbersOf (table_of c.args.pool.now c.a
     let right : Fine (numbersOf (table_of c.args.pool.now c.args.table.now)) (heldIn c.args.table.now) c.args.y = c.requires.fine_2 in
     let whole : let ν = numbersOf (table_of c.args.pool.now c.args.table.now) in orderAtom ν (atomAt c.args.x) (atomAt c.args.y) ≡ then (compare (rank_of c.args.x.kind) (rank_of c.args.y.kind)) (cond (eqb c.args.x.kind 15) (compare c.args.x.name c.args.y.name) (ν.order c.args.x.name c.args.y.name)) = order-by _ (heldIn c.args.table.now) _ _ _ _ (left).kind (right).kind in
     let kinds : toldOrder c.order_numbers.result ≡ compare (rank_of c.args.x.kind) (rank_of c.args.y.kind) = c.order_numbers.ensures ∙ ap₂ compare c.rank.ensures c.rank-2.ensures in
-    rw (whole, sym (kinds) ∙ ap toldOrder c.in-Same.is, eq-eqb _ _ c.if-x-eq15.true)
+    rw (whole, sym (kinds) ∙ ap toldOrder c.in-Equal.is, eq-eqb _ _ c.if-x-eq15.true)
     c.order_numbers-then-x-eq15.ensures
 
 pub order-requires : goal.order-requires
 order-requires c = let left : Fine (numbersOf (table_of c.args.pool.now c.args.table.now)) (heldIn c.args.table.now) c.args.x = c.requires.fine in
     let kinds : toldOrder c.order_numbers.result ≡ compare (rank_of c.args.x.kind) (rank_of c.args.y.kind) = c.order_numbers.ensures ∙ ap₂ compare c.rank.ensures c.rank-2.ensures in
     let right : Fine (numbersOf (table_of c.args.pool.now c.args.table.now)) (heldIn c.args.table.now) c.args.y = c.requires.fine_2 in
-    let other : ¬ (c.args.y.kind ≡ 15) = λ e. c.if-x-eq15.false (same_rank _ _ (left).kind (sym (kinds) ∙ ap toldOrder c.in-Same.is) e) in
+    let other : ¬ (c.args.y.kind ≡ 15) = λ e. c.if-x-eq15.false (same_rank _ _ (left).kind (sym (kinds) ∙ ap toldOrder c.in-Equal.is) e) in
     record { good = c.requires.good; i_bound = ltb-true _ _ (held_by _ _ _ (left) c.if-x-eq15.false); j_bound = ltb-true _ _ (held_by _ _ _ (right) other) }
 
 pub returns-in-Less : goal.returns-in-Less
@@ -33,17 +33,17 @@ returns-in-Less c = let left : Fine (numbersOf (table_of c.args.pool.now c.args.
     let kinds : toldOrder c.order_numbers.result ≡ compare (rank_of c.args.x.kind) (rank_of c.args.y.kind) = c.order_numbers.ensures ∙ ap₂ compare c.rank.ensures c.rank-2.ensures in
     rw (whole, sym (kinds) ∙ ap toldOrder c.in-Less.is)
 
-pub returns-in-More : goal.returns-in-More
-returns-in-More c = let left : Fine (numbersOf (table_of c.args.pool.now c.args.table.now)) (heldIn c.args.table.now) c.args.x = c.requires.fine in
+pub returns-in-Greater : goal.returns-in-Greater
+returns-in-Greater c = let left : Fine (numbersOf (table_of c.args.pool.now c.args.table.now)) (heldIn c.args.table.now) c.args.x = c.requires.fine in
     let right : Fine (numbersOf (table_of c.args.pool.now c.args.table.now)) (heldIn c.args.table.now) c.args.y = c.requires.fine_2 in
     let whole : let ν = numbersOf (table_of c.args.pool.now c.args.table.now) in orderAtom ν (atomAt c.args.x) (atomAt c.args.y) ≡ then (compare (rank_of c.args.x.kind) (rank_of c.args.y.kind)) (cond (eqb c.args.x.kind 15) (compare c.args.x.name c.args.y.name) (ν.order c.args.x.name c.args.y.name)) = order-by _ (heldIn c.args.table.now) _ _ _ _ (left).kind (right).kind in
     let kinds : toldOrder c.order_numbers.result ≡ compare (rank_of c.args.x.kind) (rank_of c.args.y.kind) = c.order_numbers.ensures ∙ ap₂ compare c.rank.ensures c.rank-2.ensures in
-    rw (whole, sym (kinds) ∙ ap toldOrder c.in-More.is)
+    rw (whole, sym (kinds) ∙ ap toldOrder c.in-Greater.is)
 
 pub returns-else-x-eq15 : goal.returns-else-x-eq15
 returns-else-x-eq15 c = let left : Fine (numbersOf (table_of c.args.pool.now c.args.table.now)) (heldIn c.args.table.now) c.args.x = c.requires.fine in
     let right : Fine (numbersOf (table_of c.args.pool.now c.args.table.now)) (heldIn c.args.table.now) c.args.y = c.requires.fine_2 in
     let whole : let ν = numbersOf (table_of c.args.pool.now c.args.table.now) in orderAtom ν (atomAt c.args.x) (atomAt c.args.y) ≡ then (compare (rank_of c.args.x.kind) (rank_of c.args.y.kind)) (cond (eqb c.args.x.kind 15) (compare c.args.x.name c.args.y.name) (ν.order c.args.x.name c.args.y.name)) = order-by _ (heldIn c.args.table.now) _ _ _ _ (left).kind (right).kind in
     let kinds : toldOrder c.order_numbers.result ≡ compare (rank_of c.args.x.kind) (rank_of c.args.y.kind) = c.order_numbers.ensures ∙ ap₂ compare c.rank.ensures c.rank-2.ensures in
-    rw (whole, sym (kinds) ∙ ap toldOrder c.in-Same.is, ne_eqb _ _ c.if-x-eq15.false)
+    rw (whole, sym (kinds) ∙ ap toldOrder c.in-Equal.is, ne_eqb _ _ c.if-x-eq15.false)
     c.order.ensures

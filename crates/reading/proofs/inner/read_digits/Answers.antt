@@ -1,17 +1,21 @@
 -- `inner::read_digits` meets its contract.
 use mathlib.Core.Path.{refl}
-use Rattle.reading.specs.Points.{passes, stays, digits-past}
+use Rattle.std.proofs.Common.{◌≡◌, Some, None}
 use Rattle.rules.specs.Grammar.{digits}
+use Rattle.reading.specs.Points.{passes, digits-past, digits-there, no-digits}
 use Rattle.reading.proofs.inner.read_digits.Goals as goal
 
-pub digits_at-requires : goal.digits_at-requires
-digits_at-requires c = rw c.in-At.is at c.requires
+pub returns-in-Ok : goal.returns-in-Ok
+returns-in-Ok c =
+    let f : c.in-Ok-Some.field-0 ≡ Some c.in-Ok-Some.at = rw c.in-Ok-Some.is at c.in-Ok-Some.field-0-is in
+    rw (c.in-Ok-Some.is, f) (digits-there c.skip_blanks.ensures c.in-Ok.ensures)
 
-pub returns-in-At : goal.returns-in-At
-returns-in-At c = rw c.in-At.is c.digits_at.ensures
+pub returns-in-Err-scan_digits : goal.returns-in-Err-scan_digits
+returns-in-Err-scan_digits c =
+    let f : c.in-Ok-Some.field-0 ≡ Some c.in-Ok-Some.at = rw c.in-Ok-Some.is at c.in-Ok-Some.field-0-is in
+    rw (c.in-Ok-Some.is, f) (no-digits c.skip_blanks.ensures c.in-Err-scan_digits.ensures)
 
-pub returns-in-Past : goal.returns-in-Past
-returns-in-Past c = rw c.in-Past.is (passes _ digits 0 digits-past refl)
-
-pub returns-in-Bad : goal.returns-in-Bad
-returns-in-Bad c = rw c.in-Bad.is (stays _ _ digits 0 refl)
+pub returns-in-Ok-None : goal.returns-in-Ok-None
+returns-in-Ok-None c =
+    let f : c.in-Ok-None.field-0 ≡ None = rw c.in-Ok-None.is at c.in-Ok-None.field-0-is in
+    rw (c.in-Ok-None.is, f) (passes _ digits 0 digits-past refl)

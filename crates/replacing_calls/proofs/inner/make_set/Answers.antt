@@ -4,7 +4,7 @@ use Rattle.rules.specs.Base.{got, ◌>>◌, collect}
 use Rattle.rules.specs.Calls.{setGiven}
 use Rattle.rules.specs.Names.{table_of}
 use Rattle.rules.specs.Trees.{opensCon}
-use Rattle.names.specs.Told.{toldChecked}
+use Rattle.names.specs.Old.{toldChecked}
 use Rattle.replacing_calls.specs.Entry.{entered, constraints-small, came-in}
 use Rattle.replacing_calls.specs.Whole.{long-made, unmet-made, met-made, set-whole, set-checked}
 use Rattle.replacing_calls.proofs.inner.make_set.Goals as goal

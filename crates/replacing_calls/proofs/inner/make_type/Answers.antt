@@ -4,7 +4,7 @@ use Rattle.rules.specs.Base.{got, ◌>>◌}
 use Rattle.rules.specs.Calls.{typeGiven}
 use Rattle.rules.specs.Names.{table_of}
 use Rattle.rules.specs.Trees.{opens}
-use Rattle.names.specs.Told.{toldChecked}
+use Rattle.names.specs.Old.{toldChecked}
 use Rattle.replacing_calls.specs.Entry.{entered, type-small, came-in}
 use Rattle.replacing_calls.specs.Whole.{long-made, unmet-made, met-made, type-whole, type-checked}
 use Rattle.replacing_calls.proofs.inner.make_type.Goals as goal

@@ -3,7 +3,7 @@ use mathlib.Core.Path.{sym, ap, ◌∙◌}
 use mathlib.Core.Bool.{Bool}
 use Rattle.rules.specs.Base.{need}
 use Rattle.rules.specs.Names.{table_of, names_of}
-use Rattle.names.specs.Told.{toldChecked}
+use Rattle.names.specs.Old.{toldChecked}
 use Rattle.replacing_calls.specs.Entry.{both_small}
 use Rattle.replacing_calls.proofs.inner.with_bindings.Goals as goal
 

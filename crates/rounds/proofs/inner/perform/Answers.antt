@@ -4,7 +4,7 @@ use mathlib.Core.List.{[]}
 use native.Mathlib.Omega.{arith}
 use Rattle.rounds.specs.Limits.{turned_as}
 use Rattle.rounds.specs.Parts.{after}
-use Rattle.rounds.specs.Performing.{took-bind, took-split, took-done, none-new, took-stuck, took-refused}
+use Rattle.rounds.specs.Performing.{took-bind, took-split, took-done, none-new, took-stuck}
 use Rattle.rounds.proofs.inner.perform.Goals as goal
 
 pub bind-requires : goal.bind-requires
@@ -47,7 +47,3 @@ returns-in-Done c = λ p d k.
 pub returns-in-Stuck : goal.returns-in-Stuck
 returns-in-Stuck c = λ p d k.
     turned_as _ _ (ap (after c.args.pool.now c.args.table.now p) (took-stuck _ _ _ _ _ _ _ _ _ p d k c.in-Stuck.is)) (record { says = (refl, refl) })
-
-pub returns-in-Refused : goal.returns-in-Refused
-returns-in-Refused c = λ p d k.
-    turned_as _ _ (ap (after c.args.pool.now c.args.table.now p) (took-refused _ _ _ _ _ _ _ _ _ p d k c.in-Refused.is)) (record { says = refl })

@@ -3,10 +3,9 @@ use mathlib.Core.Path.{refl, ap, ◌∙◌}
 use native.Mathlib.Omega.{arith}
 use lib.ListN.{length}
 use Rattle.rounds.specs.Limits.{turned_as, turned-from}
-use Rattle.rounds.specs.Performing.{took-stuck, some-rule}
+use Rattle.rounds.specs.Parts.{after}
+use Rattle.rounds.specs.Performing.{took-stuck, some-rule, took-refused, not-stuck}
 use Rattle.rounds.specs.Searching.{start, ended, found, step, applied, on}
-use Rattle.rounds.proofs.Others.{not_stuck}
-use borrow.Enum.Refused.{opened}
 use Rattle.rounds.proofs.inner.take_turn.Goals as goal
 
 pub loop-at-init : goal.loop-at-init
@@ -38,15 +37,15 @@ overflow_sub-n c =
     let i = c.con_end-e.ensures f.this f.held.held in
     omega (arith, i, f.ends)
 
-pub try_satisfy-step-requires : goal.try_satisfy-step-requires
-try_satisfy-step-requires c =
+pub try_satisfy-requires : goal.try_satisfy-requires
+try_satisfy-requires c =
     let L = c.loop-at in
     let (st, h) = c.requires.by_index in
     let g = L.invariant.1.1 st h in
     let f = found _ _ _ _ _ st g.0 g.1 c.loop-at-test.true in
     let i = c.con_end-e.ensures f.this f.held.held in
     let w = ap length L.invariant.0 in
-    record { good = c.requires.good; by_index = (f.this, f.held); fits = record { near = omega (arith, w, c.requires.work_len_bound); small = omega (arith, w, c.requires.work_len_bound, h.short, h.binds.ends) } }
+    record { good = c.requires.good; held = (f.this, f.held); fits = record { near = omega (arith, w, c.requires.work_len_bound); small = omega (arith, w, c.requires.work_len_bound, h.short, h.binds.ends) } }
 
 pub perform-requires : goal.perform-requires
 perform-requires c =
@@ -55,9 +54,9 @@ perform-requires c =
     let g = L.invariant.1.1 st h in
     let f = found _ _ _ _ _ st g.0 g.1 c.loop-at-test.true in
     let i = c.con_end-e.ensures f.this f.held.held in
-    let k = step _ _ _ _ _ st f _ i L.next _ _ (c.try_satisfy-step.ensures f.this f.held) in
+    let k = step _ _ _ _ _ st f _ i L.next _ _ (c.in-Ok.ensures f.this f.held) in
     let w = ap length L.invariant.0 in
-    let v = c.try_satisfy-step.auto.dst in
+    let v = c.try_satisfy.auto.dst in
     record { good = c.requires.good; by_index = (f.parts, (f.this, k)); in_bounds = omega (arith, w, c.requires.in_bounds); in_bounds_2 = omega (arith, v, L.invariant.1.0, c.requires.in_bounds_2); next_len_bound = omega (arith, v, L.invariant.1.0, c.requires.next_len_bound) }
 
 pub returns-in_default : goal.returns-in_default
@@ -66,8 +65,16 @@ returns-in_default c = λ st h.
     let g = L.invariant.1.1 st h in
     let f = found _ _ _ _ _ st g.0 g.1 c.loop-at-test.true in
     let i = c.con_end-e.ensures f.this f.held.held in
-    let k = step _ _ _ _ _ st f _ i L.next _ _ (c.try_satisfy-step.ensures f.this f.held) in
-    turned-from _ _ L.invariant.0 (applied _ _ _ _ _ st f (some-rule _ _ _ _ _ _ _ _ _ f.parts f.this k (not_stuck c.try_satisfy-step.result (opened c.in_default.in_default-own.keys2)))) (c.perform.ensures f.parts f.this k)
+    let k = step _ _ _ _ _ st f _ i L.next _ _ (c.in-Ok.ensures f.this f.held) in
+    turned-from _ _ L.invariant.0 (applied _ _ _ _ _ st f (some-rule _ _ _ _ _ _ _ _ _ f.parts f.this k c.in_default.not-Stuck)) (c.perform.ensures f.parts f.this k)
+
+pub returns-in-Err : goal.returns-in-Err
+returns-in-Err c = λ st h.
+    let L = c.loop-at in
+    let g = L.invariant.1.1 st h in
+    let f = found _ _ _ _ _ st g.0 g.1 c.loop-at-test.true in
+    let e = took-refused (c.in-Err.ensures f.this f.held) in
+    turned-from _ _ L.invariant.0 (applied _ _ _ _ _ st f (not-stuck e) ∙ ap (after c.args.pool.now c.args.table.now f.parts) e) (record { says = refl })
 
 pub loop-at-smaller : goal.loop-at-smaller
 loop-at-smaller c =
@@ -82,13 +89,13 @@ pub loop-at-preserved : goal.loop-at-preserved
 loop-at-preserved c = (
   c.loop-at.invariant.0,
   (
-    c.try_satisfy-step.auto.dst ∙ c.loop-at.invariant.1.0,
+    c.try_satisfy.auto.dst ∙ c.loop-at.invariant.1.0,
     λ st h.
         let L = c.loop-at in
         let g = L.invariant.1.1 st h in
         let f = found _ _ _ _ _ st g.0 g.1 c.loop-at-test.true in
         let i = c.con_end-e.ensures f.this f.held.held in
-        let k = step _ _ _ _ _ st f _ i L.next _ _ (c.try_satisfy-step.ensures f.this f.held) in
+        let k = step _ _ _ _ _ st f _ i L.next _ _ (c.in-Ok.ensures f.this f.held) in
         (g.0, on _ _ _ _ _ st f _ i (took-stuck _ _ _ _ _ _ _ _ _ f.parts f.this k c.in-Stuck.is)),
   ),
 )

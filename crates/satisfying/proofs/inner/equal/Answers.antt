@@ -1,28 +1,32 @@
--- `equal` meets its contract.
+use Rattle.std.proofs.Common.{arith, sym, ◌∙◌}
 use Rattle.rules.specs.Names.{numbered, names_of, table_of}
-use Rattle.satisfying.proofs.Laws.{other_step}
-use Rattle.satisfying.proofs.ByKinds.{first_fits, by-kind-fits}
-use Rattle.rules.specs.Base.{bounded}
-use Rattle.rules.specs.Rounds.{by_kind, trySatisfy}
-use borrow.Enum.Refused.{opened}
+use Rattle.types.specs.Puts.{short}
+use Rattle.satisfying.proofs.Rules.{same-records, bound-first, none-bound}
+use Rattle.satisfying.proofs.Written.{applied-as, bind-is, done-is, bind-written}
 use Rattle.satisfying.proofs.inner.equal.Goals as goal
 
-pub first_rules-first-requires : goal.first_rules-first-requires
-first_rules-first-requires c =
-    let h = c.requires.by_index in
-    let k = c.requires.by_index_2 in
-    record { by_index = (h.0, h.1.held); by_index_2 = (k.0, k.1.held); fits = c.requires.fits }
+pub returns-then-same_types : goal.returns-then-same_types
+returns-then-same_types c =
+    let a = c.args in
+    let names = names_of (table_of a.pool.now a.table.now) in
+    done-is (same-records (numbered names) _ _ (sym (c.same_types.ensures _ _ names a.left.tree.1 a.right.tree.1) ∙ c.if-same_types.true))
 
-pub returns-in_default : goal.returns-in_default
-unfolding trySatisfy
-returns-in_default c =
-    λ t u h k.
-    let names = names_of (table_of c.args.pool.now c.args.table.now) in
-    first_fits (by_kind (numbered names) bounded t u) (c.first_rules-first.ensures t u names h.held k.held) (other_step (opened c.in_default.in_default-own.keys2))
+pub overflow_add-len : goal.overflow_add-len
+overflow_add-len c = let b = c.in-Some.b.to in omega (arith, c.len.ensures, short _ _ b.tree b.near)
 
-pub returns : goal.returns
-unfolding trySatisfy
-returns c =
-    λ t u h k.
-    let names = names_of (table_of c.args.pool.now c.args.table.now) in
-    by-kind-fits (c.first_rules-first.ensures t u names h.held k.held) c.in-Stuck.is (c.by_kind.ensures t u h k)
+pub returns-in-Some : goal.returns-in-Some
+returns-in-Some c =
+    let a = c.args in
+    let b = c.in-Some.b in
+    let l = short _ _ b.to.tree b.to.near in
+    let names = names_of (table_of a.pool.now a.table.now) in
+    bind-is _ _ (bound-first (numbered names) _ _ (sym (c.same_types.ensures _ _ names a.left.tree.1 a.right.tree.1) ∙ c.if-same_types.false)
+    (c.in-Some.ensures names))
+    (bind-written b.name b.to.tree.0 (omega (arith, c.len.ensures)) (omega (arith, l)) c.put.ensures c.copy.ensures)
+
+pub returns-in-None : goal.returns-in-None
+returns-in-None c =
+    let a = c.args in
+    let names = names_of (table_of a.pool.now a.table.now) in
+    applied-as (none-bound (numbered names) _ _ (sym (c.same_types.ensures _ _ names a.left.tree.1 a.right.tree.1) ∙ c.if-same_types.false)
+    (c.in-None.ensures names)) c.by_kind.ensures

@@ -1,8 +1,8 @@
 -- `numbered` meets its contract.
 use Rattle.saying.proofs.told.numbered.Goals as goal
 
-pub returns-in-Number : goal.returns-in-Number
-returns-in-Number c = rw c.in-Number.is (cc)
+pub returns-in-Ok : goal.returns-in-Ok
+returns-in-Ok c = rw c.in-Ok.is (cc)
 
-pub returns-in-Refused : goal.returns-in-Refused
-returns-in-Refused c = rw c.in-Refused.is (cc)
+pub returns-in-Err : goal.returns-in-Err
+returns-in-Err c = rw c.in-Err.is (cc)

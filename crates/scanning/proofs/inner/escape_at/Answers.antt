@@ -1,41 +1,28 @@
 -- `inner::escape_at` meets its contract.
-use mathlib.Core.Path.{sym, ap, ◌∙◌}
 use native.Mathlib.Omega.{arith}
-use Rattle.scanning.specs.Digits.{toldHex, hex-below}
-use Rattle.scanning.specs.Scanned.{slash-end, slash-bad, digit-end, digit-bad, both-digits}
+use Rattle.std.proofs.Common.{rules, ◌≡◌, Err}
+use Rattle.scanning.specs.Scanned.{hex-below, first-bad, second-bad, both-digits}
 use Rattle.scanning.proofs.inner.escape_at.Goals as goal
 
-pub returns-then-line-at-le1 : goal.returns-then-line-at-le1
-returns-then-line-at-le1 c = slash-end _ _ c.requires.at_in_bounds c.requires.at_value (omega arith)
+pub returns-in_err-high : goal.returns-in_err-high
+returns-in_err-high c =
+    let r : c.from_residual.result ≡ Err c.in_err-high.field-0.0 = search rules in
+    let e = c.in_err-high.ensures in
+    rw (r, e.0) (first-bad _ _ c.requires.within c.requires.backslash e.1)
 
-pub returns-in_default : goal.returns-in_default
-returns-in_default c =
-    slash-bad _ _ c.requires.at_in_bounds c.requires.at_value (omega arith) (sym c.hex_of.ensures ∙ ap toldHex c.in_default.is)
-
-pub returns-then-line-at-le2 : goal.returns-then-line-at-le2
-returns-then-line-at-le2 c =
-    let g = sym c.hex_of.ensures ∙ ap toldHex c.in-Digit.is in
-    digit-end _ _ c.requires.at_in_bounds _ c.requires.at_value (omega arith) g (omega arith)
-
-pub returns-in_default-hex_of : goal.returns-in_default-hex_of
-returns-in_default-hex_of c =
-    let g = sym c.hex_of.ensures ∙ ap toldHex c.in-Digit.is in
-    digit-bad _ _ c.requires.at_in_bounds _ c.requires.at_value (omega arith) g (sym c.hex_of-2.ensures ∙ ap toldHex c.in_default-hex_of.is)
+pub returns-in_err-low : goal.returns-in_err-low
+returns-in_err-low c =
+    let r : c.from_residual-in_err-low.result ≡ Err c.in_err-low.field-0.0 = search rules in
+    let e = c.in_err-low.ensures in
+    let h = c.in_ok-high.ensures in
+    rw (r, e.0) (second-bad _ _ c.requires.within _ c.requires.backslash h.0 h.1 e.1)
 
 pub overflow_mul-result : goal.overflow_mul-result
-overflow_mul-result c =
-    let g = sym c.hex_of.ensures ∙ ap toldHex c.in-Digit.is in
-    let f = sym c.hex_of-2.ensures ∙ ap toldHex c.in-Digit-hex_of.is in
-    omega (arith, hex-below _ _ g)
+overflow_mul-result c = omega (arith, hex-below _ _ c.in_ok-high.ensures.1)
 
-pub overflow_add-result-2 : goal.overflow_add-result-2
-overflow_add-result-2 c =
-    let g = sym c.hex_of.ensures ∙ ap toldHex c.in-Digit.is in
-    let f = sym c.hex_of-2.ensures ∙ ap toldHex c.in-Digit-hex_of.is in
-    omega (arith, hex-below _ _ g, hex-below _ _ f)
+pub overflow_add-result : goal.overflow_add-result
+overflow_add-result c = omega (arith, hex-below _ _ c.in_ok-high.ensures.1, hex-below _ _ c.in_ok-low.ensures.1)
 
 pub returns : goal.returns
 returns c =
-    let g = sym c.hex_of.ensures ∙ ap toldHex c.in-Digit.is in
-    let f = sym c.hex_of-2.ensures ∙ ap toldHex c.in-Digit-hex_of.is in
-    both-digits _ _ c.requires.at_in_bounds _ _ c.requires.at_value (omega arith) g f
+    both-digits _ _ c.requires.within _ _ c.requires.backslash c.in_ok-low.ensures.0 c.in_ok-high.ensures.1 c.in_ok-low.ensures.1

@@ -4,8 +4,11 @@ use lib.ListN.{length}
 use Rattle.scanning.specs.Names.{Reading}
 use Rattle.scanning.proofs.inner.scan_name.Given as goal
 
-abbrev pub invariant-loop-i : goal.invariant-loop-i
-invariant-loop-i l = (length l.dst ≡ length l.initial.dst) × Reading l.line l.at l.i l.k l.initial.dst l.dst
+abbrev pub invariant-loop-letter : goal.invariant-loop-letter
+invariant-loop-letter l = record {
+  long : length l.dst ≡ length l.initial.dst;
+  read : Reading l.line l.at l.end l.size l.initial.dst l.dst;
+}
 
-abbrev pub decreases-loop-i : goal.decreases-loop-i
-decreases-loop-i l = length l.line - l.i
+abbrev pub decreases-loop-letter : goal.decreases-loop-letter
+decreases-loop-letter l = length l.line - l.end

@@ -4,21 +4,18 @@ use native.Mathlib.Omega.{arith}
 use Rattle.scanning.specs.Scanned.{spelt-whole, spelt-end, spelt-other, spelt-step}
 use Rattle.scanning.proofs.inner.spell.Goals as goal
 
-pub loop-j-init : goal.loop-j-init
-loop-j-init c = (omega (arith, c.requires), omega arith, refl)
+pub loop-b-init : goal.loop-b-init
+loop-b-init c = record { within = omega (arith, c.requires); is = refl }
 
 pub returns-then-line-i : goal.returns-then-line-i
-returns-then-line-i c =
-    sym (spelt-end _ _ c.loop-j.i c.loop-j.j (omega arith) c.if-line-i.true) ∙ c.loop-j.invariant.2
+returns-then-line-i c = sym (spelt-end _ _ c.loop-b.i c.loop-b.b-index (omega arith) c.if-line-i.true) ∙ c.loop-b.invariant.is
 
 pub returns-then-line-i-2 : goal.returns-then-line-i-2
-returns-then-line-i-2 c =
-    sym (spelt-other _ _ c.loop-j.i c.loop-j.j (omega arith) (omega arith) c.if-line-i-2.true) ∙ c.loop-j.invariant.2
+returns-then-line-i-2 c = sym (spelt-other _ _ c.loop-b.i c.loop-b.b-index (omega arith) (omega arith) c.if-line-i-2.true) ∙ c.loop-b.invariant.is
 
-pub loop-j-preserved : goal.loop-j-preserved
-loop-j-preserved c =
-    (omega arith, omega arith, sym (spelt-step _ _ c.loop-j.i c.loop-j.j (omega arith) (omega arith) c.if-line-i-2.false) ∙ c.loop-j.invariant.2)
+pub loop-b-preserved : goal.loop-b-preserved
+loop-b-preserved c =
+    record { within = omega arith; is = sym (spelt-step _ _ c.loop-b.i c.loop-b.b-index (omega arith) (omega arith) c.if-line-i-2.false) ∙ c.loop-b.invariant.is }
 
 pub returns : goal.returns
-returns c =
-    sym (spelt-whole _ _ c.loop-j.i c.loop-j.j (omega arith)) ∙ c.loop-j.invariant.2
+returns c = sym (spelt-whole _ _ c.loop-b.i c.loop-b.b-index (omega arith)) ∙ c.loop-b.invariant.is

@@ -2,6 +2,7 @@
 use mathlib.Core.Bool.{not}
 use mathlib.Core.Path.{ap}
 use native.Mathlib.Omega.{arith}
+use Rattle.std.proofs.Common.{rules, ◌≡◌, Err}
 use Rattle.sheet_reading.specs.Given.{malformed, good, refused-sheet, read-sheet}
 use Rattle.sheet_reading.proofs.inner.read_given.Goals as goal
 
@@ -10,17 +11,18 @@ returns-then-not-is_good c = malformed _ _ c.is_good.result c.is_good.ensures (a
 
 pub read_sheet-requires : goal.read_sheet-requires
 read_sheet-requires c =
-    good c.args.text.now c.args.res.now c.is_good.result c.is_good.ensures (ap not c.if-not-is_good.false) c.requires.in_bounds c.requires.in_bounds_2
+    good c.args.text.now c.args.res.now c.is_good.result c.is_good.ensures (ap not c.if-not-is_good.false) c.requires.pool_long c.requires.table_long
 
 pub copy-requires : goal.copy-requires
 copy-requires c =
-    let y = rw c.in-Read.is at c.read_sheet.ensures in
-    record { b_le_e = omega arith; e_in_bounds = omega (arith, y.few, c.requires.in_bounds_4, c.read_sheet.auto.dst); b_bound = omega (arith, y.few) }
+    let y = c.in_ok-read.ensures in
+    record { b_le_e = omega arith; e_in_bounds = omega (arith, y.few, c.requires.work_long, c.read_sheet.auto.dst); b_bound = omega (arith, y.few) }
 
-pub returns-in-Read : goal.returns-in-Read
-returns-in-Read c =
-    read-sheet _ _ c.is_good.result c.is_good.ensures (ap not c.if-not-is_good.false) c.requires.in_bounds_4 c.requires.in_bounds_3 (rw c.in-Read.is at c.read_sheet.ensures) c.copy.ensures
+pub returns : goal.returns
+returns c =
+    read-sheet _ _ c.is_good.result c.is_good.ensures (ap not c.if-not-is_good.false) c.requires.work_long c.requires.result_long c.in_ok-read.ensures c.copy.ensures
 
-pub returns-in-Refused : goal.returns-in-Refused
-returns-in-Refused c =
-    refused-sheet _ _ c.is_good.result c.is_good.ensures (ap not c.if-not-is_good.false) (rw c.in-Refused.is at c.read_sheet.ensures)
+pub returns-in_err-read : goal.returns-in_err-read
+returns-in_err-read c =
+    let r : c.from_residual.result ≡ Err c.in_err-read.field-0.0 = search rules in
+    rw r (refused-sheet _ _ c.is_good.result c.is_good.ensures (ap not c.if-not-is_good.false) c.in_err-read.ensures)

@@ -28,10 +28,10 @@ pub put_words-requires : goal.put_words-requires
 put_words-requires c =
     omega (arith, words-held c.requires c.hold_words.ensures, c.requires.words, c.read_lines.auto.table)
 
-pub returns-in-Read : goal.returns-in-Read
-returns-in-Read c =
-    rw c.in-Read.is at c.read_lines.ensures
+pub returns-in-Ok : goal.returns-in-Ok
+returns-in-Ok c =
+    c.in-Ok.ensures
 
-pub returns-in-Refused : goal.returns-in-Refused
-returns-in-Refused c =
-    undone c.requires (rw c.in-Refused.is at c.read_lines.ensures) c.hold_bytes.ensures c.hold_words.ensures c.put_bytes.ensures c.put_words.ensures
+pub returns-in-Err : goal.returns-in-Err
+returns-in-Err c =
+    undone c.requires c.in-Err.ensures c.hold_bytes.ensures c.hold_words.ensures c.put_bytes.ensures c.put_words.ensures

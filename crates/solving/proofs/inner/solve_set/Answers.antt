@@ -1,7 +1,7 @@
 -- `inner::solve_set` meets its contract.
 use mathlib.Core.Path.{sym, ap, ◌∙◌}
 use native.Mathlib.Omega.{arith}
-use Rattle.names.specs.Told.{toldChecked}
+use Rattle.names.specs.Old.{toldChecked}
 use Rattle.records.specs.Found.{Words32}
 use Rattle.solving.specs.Entry.{Entered, came-in, kept_out, begun, answers-as, refused-answers}
 use Rattle.solving.proofs.inner.solve_set.Goals as goal

@@ -1,20 +1,17 @@
 -- `inner::end_at` meets its contract.
+use native.Mathlib.Omega.{arith}
+use Rattle.std.proofs.Common.{rules, ◌≡◌, Err}
 use Rattle.rules.specs.Grammar.{end_at}
 use Rattle.reading.specs.Points.{stays}
 use Rattle.statements.specs.Statements.{end-there, end-other, end-past}
 use Rattle.statements.proofs.inner.end_at.Goals as goal
 
+pub returns-in_default : goal.returns-in_default
+returns-in_default c = rw (c.in_ok-i.was, c.in_default.is) (end-past _)
+
 pub returns-then-i-line : goal.returns-then-i-line
-returns-then-i-line c =
-    rw c.in-At.is (end-other c.if-i-line.true)
+returns-then-i-line c = rw (c.in_ok-i.was, c.in-Some.is) (end-other c.if-i-line.true)
 
-pub returns-else-i-line : goal.returns-else-i-line
-returns-else-i-line c =
-    rw c.in-At.is (end-there (rw c.in-At.is at c.requires) c.if-i-line.false)
-
-pub returns-in-Past : goal.returns-in-Past
-returns-in-Past c = rw c.in-Past.is (end-past _)
-
-pub returns-in-Bad : goal.returns-in-Bad
-returns-in-Bad c =
-    rw c.in-Bad.is (stays _ _ end_at tt tt)
+pub returns : goal.returns
+returns c =
+    rw (c.in_ok-i.was, c.in-Some.is) (end-there (rw (c.in_ok-i.was, c.in-Some.is) at c.requires) c.if-i-line.false)

@@ -90,7 +90,7 @@ returns-then-says_scalar c =
 
 pub returns : goal.returns
 returns c =
-    rw c.refuse.ensures
+    rw c.refuse-at.ensures
     (none_done c.requires c.next_sign-q.ensures
     (from-counted c.next_sign-q.result c.args.s c.place_of.ensures c.count-counted.ensures c.enter_type-l.ensures)
     c.next_sign-e.ensures (λ e. c.if-b-eq126.false (c.byte_at-b.ensures ∙ e))

@@ -1,24 +1,16 @@
 -- `inner::quote` meets its contract.
-use Rattle.rules.specs.Grammar.{ascii, spell}
-use Rattle.reading.specs.Points.{stays}
+use native.Mathlib.Omega.{arith}
 use Rattle.statements.specs.Statements.{quote-there, quote-other, quote-end, quote-past}
 use Rattle.statements.proofs.inner.quote.Goals as goal
 
-pub returns-then-line-i-eq34 : goal.returns-then-line-i-eq34
-returns-then-line-i-eq34 c =
-    rw c.in-At.is (quote-there c.if-i-line.true c.if-line-i-eq34.true)
+pub returns-in_default : goal.returns-in_default
+returns-in_default c = rw (c.in_ok-i.was, c.in_default.is) (quote-past _)
 
-pub returns-else-line-i-eq34 : goal.returns-else-line-i-eq34
-returns-else-line-i-eq34 c =
-    rw c.in-At.is (quote-other c.if-i-line.true c.if-line-i-eq34.false)
+pub returns-then-line-i : goal.returns-then-line-i
+returns-then-line-i c = rw (c.in_ok-i.was, c.in-Some.is) (quote-end c.if-line-i.true)
 
-pub returns-else-i-line : goal.returns-else-i-line
-returns-else-i-line c =
-    rw c.in-At.is (quote-end c.if-i-line.false)
+pub returns-then-line-i-ne34 : goal.returns-then-line-i-ne34
+returns-then-line-i-ne34 c = rw (c.in_ok-i.was, c.in-Some.is) (quote-other (omega arith) c.if-line-i-ne34.true)
 
-pub returns-in-Past : goal.returns-in-Past
-returns-in-Past c = rw c.in-Past.is (quote-past _)
-
-pub returns-in-Bad : goal.returns-in-Bad
-returns-in-Bad c =
-    rw c.in-Bad.is (stays _ _ (spell (ascii "\"")) tt tt)
+pub returns : goal.returns
+returns c = rw (c.in_ok-i.was, c.in-Some.is) (quote-there (omega arith) c.if-line-i-ne34.false)

@@ -3,12 +3,7 @@ use Rattle.statements.specs.Statements.{says-scalar}
 use Rattle.statements.proofs.inner.says_scalar.Goals as goal
 
 pub next_is-requires : goal.next_is-requires
-next_is-requires c =
-    c.requires
+next_is-requires c = c.requires
 
 pub returns-then-b-eq61 : goal.returns-then-b-eq61
-returns-then-b-eq61 c =
-    says-scalar c.args.line.now c.args.q _ c.if-b-eq61.true c.next_is.ensures
-
-pub returns-else-b-eq61 : goal.returns-else-b-eq61
-returns-else-b-eq61 c = λ e. absurd (c.if-b-eq61.false e)
+returns-then-b-eq61 c = says-scalar c.args.line.now c.args.q _ c.if-b-eq61.true c.next_is.ensures

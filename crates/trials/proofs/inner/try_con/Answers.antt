@@ -1,28 +1,47 @@
--- `inner::try_con` meets its contract.
-use mathlib.Core.List.{[]}
 use native.Mathlib.Omega.{arith}
+use mathlib.Core.Path.{◌∙◌}
+use mathlib.Core.List.{List, []}
+use Prim.Native.Nat.{ℕ}
+use Rattle.std.proofs.lemmas.Result.{err_from_is_err_and}
+use Rattle.rules.specs.Trees.{Con, Binding}
 use Rattle.replacing.specs.LineRules.{con}
-use Rattle.trials.specs.Trials.{came, stops, written, tried, refused-tried}
+use Rattle.trials.specs.Trials.{came, stops, written, tried, untested, fails, has-none}
 use Rattle.trials.proofs.inner.try_con.Goals as goal
 
 pub replace_line-requires : goal.replace_line-requires
 replace_line-requires c =
-    let (k, h) = c.requires.by_index in
-    let (bs, l) = c.requires.by_index_2 in
-    record { good = c.requires.good; held_line = (con k, h.line); by_index = (_, l.lent); room = record { near = omega (arith, c.requires.set_len_bound); small = omega (arith, c.requires.set_len_bound) } }
+    let (k, h) = c.requires.there in
+    let (bs, l) = c.requires.put in
+    record {
+      good = c.requires.good;
+      held_line = (con k, h.line);
+      by_index = (_, l.lent);
+      room = record { near = omega (arith, c.requires.set_short); small = omega (arith, c.requires.set_short) };
+    }
 
-pub test-requires : goal.test-requires
-test-requires c =
-    let (k, h) = c.requires.by_index in
-    let (bs, l) = c.requires.by_index_2 in
+pub test-requires-clause-stands : goal.test-requires-clause-stands
+test-requires-clause-stands c =
+    let (k, h) = c.requires.there in
+    let (bs, l) = c.requires.put in
     let m = came _ _ bs [] k _ (c.replace_line.ensures (con k) _ h.line l.lent) c.in-To.is in
-    record { good = c.requires.good; by_index = (m.made, written _ _ bs [] k _ _ _ _ h l c.requires.in_bounds m); bounds_len = c.requires.bounds_len }
+    (m.made, written _ _ bs [] k _ _ _ _ h l c.requires.work_long m)
 
-pub returns-in-To : goal.returns-in-To
-returns-in-To c = λ k bs xs h l m.
+pub returns-in_err-test-in-To : goal.returns-in_err-test-in-To
+returns-in_err-test-in-To c = λ k bs xs h l m.
     let i = came _ _ bs xs k _ (c.replace_line.ensures (con k) _ h.line l.lent) c.in-To.is in
-    tried _ _ bs xs k _ _ _ _ h l i (c.test.ensures i.made xs (written _ _ bs xs k _ _ _ _ h l c.requires.in_bounds i) m)
+    let p = err_from_is_err_and c.from_residual.result c.from_residual.ensures.1 in
+    rw (p.1, p.2) (untested _ _ bs xs k _ _ _ _ h l i _ (c.in_err-test-in-To.ensures i.made xs (written _ _ bs xs k _ _ _ _ h l c.requires.work_long i) m))
 
-pub returns-in-Stop : goal.returns-in-Stop
-returns-in-Stop c = λ k bs xs h l m.
-    refused-tried _ _ bs xs k _ _ _ _ h l c.in-Stop.k _ (stops _ _ bs xs k _ (c.replace_line.ensures (con k) _ h.line l.lent) c.in-Stop.is) c.stopped.ensures
+pub returns-in_ok-test-in-To : goal.returns-in_ok-test-in-To
+returns-in_ok-test-in-To c = λ k bs xs h l m.
+    let i = came _ _ bs xs k _ (c.replace_line.ensures (con k) _ h.line l.lent) c.in-To.is in
+    tried _ _ bs xs k _ _ _ _ h l i _ (c.in_ok-test-in-To.ensures i.made xs (written _ _ bs xs k _ _ _ _ h l c.requires.work_long i) m)
+
+pub returns-in_err-stopped-in-Stop : goal.returns-in_err-stopped-in-Stop
+returns-in_err-stopped-in-Stop c = λ k bs xs h l m.
+    let p = err_from_is_err_and c.from_residual-in_err-stopped-in-Stop.result c.from_residual-in_err-stopped-in-Stop.ensures.1 in
+    rw (p.1, p.2) (has-none _ _ bs xs k _ _ _ _ h l _ (stops _ _ bs xs k _ (c.replace_line.ensures (con k) _ h.line l.lent) c.in-Stop.is) _ c.in_err-stopped-in-Stop.ensures)
+
+pub returns-in_ok-stopped-in-Stop : goal.returns-in_ok-stopped-in-Stop
+returns-in_ok-stopped-in-Stop c = λ k bs xs h l m.
+    fails _ _ bs xs k _ _ _ _ h l _ (stops _ _ bs xs k _ (c.replace_line.ensures (con k) _ h.line l.lent) c.in-Stop.is) _ _ c.in_ok-stopped-in-Stop.ensures

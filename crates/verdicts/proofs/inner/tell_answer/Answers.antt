@@ -1,6 +1,6 @@
 -- `inner::tell_answer` meets its contract: by the answer's first word.
 use Rattle.text.specs.Types.{name_of}
-use Rattle.trials.specs.Told.{told}
+use Rattle.rules.specs.Refusals.{told}
 use Rattle.verdicts.specs.Answers.{tells-solved, tells-left, tells-stopped}
 use Rattle.verdicts.proofs.inner.tell_answer.Goals as goal
 

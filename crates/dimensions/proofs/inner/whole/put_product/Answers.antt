@@ -4,9 +4,8 @@ use Rattle.dimensions.proofs.inner.whole.put_product.Goals as goal
 
 pub store-requires : goal.store-requires
 store-requires c =
-    let few = c.requires.few _ _ c.in-Going.is in
+    let few = c.requires.few _ _ c.in-Ok.is in
     record { sound = c.requires.sound; out_bound = omega arith }
 
-pub returns-in-Going-r : goal.returns-in-Going-r
-returns-in-Going-r c =
-    rw (c.in-Going.is, c.in-Going-r.is) c.store.ensures
+pub returns : goal.returns
+returns c = rw (c.in-Ok.is, c.in-Ok-r.is) c.store.ensures

@@ -8,8 +8,8 @@ use Rattle.line_steps.proofs.inner.issuing.put_factors.Goals as goal
 pub returns-in-Less : goal.returns-in-Less
 returns-in-Less c = left-first _ _ _ _ _ _ _ Ordering.lt (sym (ap toldOrder c.in-Less.is) ∙ c.order.ensures) tt c.put_pair.ensures
 
-pub returns-in-Same : goal.returns-in-Same
-returns-in-Same c = left-first _ _ _ _ _ _ _ Ordering.eq (sym (ap toldOrder c.in-Same.is) ∙ c.order.ensures) tt c.put_pair-in-Same.ensures
+pub returns-in-Equal : goal.returns-in-Equal
+returns-in-Equal c = left-first _ _ _ _ _ _ _ Ordering.eq (sym (ap toldOrder c.in-Equal.is) ∙ c.order.ensures) tt c.put_pair-in-Equal.ensures
 
-pub returns-in-More : goal.returns-in-More
-returns-in-More c = right-first _ _ _ _ _ _ _ (sym (ap toldOrder c.in-More.is) ∙ c.order.ensures) c.put_pair-in-More.ensures
+pub returns-in-Greater : goal.returns-in-Greater
+returns-in-Greater c = right-first _ _ _ _ _ _ _ (sym (ap toldOrder c.in-Greater.is) ∙ c.order.ensures) c.put_pair-in-Greater.ensures

@@ -1,4 +1,4 @@
--- `dim_holds` meets its contract.
+use mathlib.Core.Logic.{inl, inr}
 use Rattle.meaning.proofs.Truths.{open-among, dim-among, none-among}
 use borrow.Enum.Refused.{opened}
 use Rattle.meaning.proofs.inner.truth.dim_holds.Goals as goal
@@ -6,14 +6,12 @@ use Rattle.meaning.proofs.inner.truth.dim_holds.Goals as goal
 pub returns-in-Opened : goal.returns-in-Opened
 returns-in-Opened c =
     let a = c.args in
-    open-among a.s.now a.at c.view_at.ensures a.bounds.now c.among_bounds.result c.in-Opened.is c.among_bounds.ensures
-
-pub returns-in-Dim : goal.returns-in-Dim
-returns-in-Dim c =
-    let a = c.args in
-    dim-among a.s.now a.at c.view_at.ensures a.bounds.now c.among_bounds-in-Dim.result c.in-Dim.is c.among_bounds-in-Dim.ensures
+    elim c.in-Opened.is [
+      | inl e ↦ open-among a.s.now a.at c.view_at.ensures a.bounds.now c.among_bounds.result e.1 c.among_bounds.ensures
+      | inr e ↦ dim-among a.s.now a.at c.view_at.ensures a.bounds.now c.among_bounds.result e.1 c.among_bounds.ensures
+    ]
 
 pub returns-in_default : goal.returns-in_default
 returns-in_default c =
     let a = c.args in
-    none-among a.s.now a.at c.view_at.ensures a.bounds.now (opened c.in_default.in_default-own.keys3)
+    none-among a.s.now a.at c.view_at.ensures a.bounds.now (opened c.in_default.in_default-own.keys2)

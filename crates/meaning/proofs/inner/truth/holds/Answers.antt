@@ -7,44 +7,44 @@ use Rattle.meaning.proofs.inner.truth.holds.Goals as goal
 
 pub overflow_add-at : goal.overflow_add-at
 overflow_add-at c =
-    omega (arith, con-reach c.args.s.now c.requires.by_index.0 c.args.at c.requires.by_index.1)
+    omega (arith, con-reach c.args.s.now c.requires.held.0 c.args.at c.requires.held.1)
 
 pub overflow_add-at-in-Equal : goal.overflow_add-at-in-Equal
 overflow_add-at-in-Equal c =
-    omega (arith, con-reach c.args.s.now c.requires.by_index.0 c.args.at c.requires.by_index.1)
+    omega (arith, con-reach c.args.s.now c.requires.held.0 c.args.at c.requires.held.1)
 
 pub end_of-requires : goal.end_of-requires
 end_of-requires c =
     let a = c.args in
-    first a.s.now (a.at + 1) (equal-asks a.s.now a.at c.view_at.ensures c.in-Equal.is c.requires.by_index)
+    first a.s.now (a.at + 1) (equal-asks a.s.now a.at c.view_at.ensures c.in-Equal.is c.requires.held)
 
 pub means-requires : goal.means-requires
 means-requires c =
     let a = c.args in
-    let two = equal-asks a.s.now a.at c.view_at.ensures c.in-Equal.is c.requires.by_index in
-    record { by_index = first a.s.now (a.at + 1) two; by_index_2 = second a.s.now (a.at + 1) c.end_of.result c.end_of.ensures two }
+    let two = equal-asks a.s.now a.at c.view_at.ensures c.in-Equal.is c.requires.held in
+    record { left = first a.s.now (a.at + 1) two; right = second a.s.now (a.at + 1) c.end_of.result c.end_of.ensures two }
 
 pub overflow_add-at-in-IsDim : goal.overflow_add-at-in-IsDim
 overflow_add-at-in-IsDim c =
-    omega (arith, con-reach c.args.s.now c.requires.by_index.0 c.args.at c.requires.by_index.1)
+    omega (arith, con-reach c.args.s.now c.requires.held.0 c.args.at c.requires.held.1)
 
 pub dim_holds-requires : goal.dim_holds-requires
 dim_holds-requires c =
     let a = c.args in
-    record { by_index = dim-asks a.s.now a.at c.view_at.ensures c.in-IsDim.is c.requires.by_index; bounds_len = c.requires.bounds_len }
+    record { held = dim-asks a.s.now a.at c.view_at.ensures c.in-IsDim.is c.requires.held; bounds_len = c.requires.bounds_len }
 
 pub overflow_add-at-in-IsScalar : goal.overflow_add-at-in-IsScalar
 overflow_add-at-in-IsScalar c =
-    omega (arith, con-reach c.args.s.now c.requires.by_index.0 c.args.at c.requires.by_index.1)
+    omega (arith, con-reach c.args.s.now c.requires.held.0 c.args.at c.requires.held.1)
 
 pub overflow_add-at-in-HasField : goal.overflow_add-at-in-HasField
 overflow_add-at-in-HasField c =
-    omega (arith, con-reach c.args.s.now c.requires.by_index.0 c.args.at c.requires.by_index.1)
+    omega (arith, con-reach c.args.s.now c.requires.held.0 c.args.at c.requires.held.1)
 
 pub field_holds-requires : goal.field_holds-requires
 field_holds-requires c =
     let a = c.args in
-    has-field-asks a.s.now a.at c.view_at.ensures c.in-HasField.is c.requires.by_index
+    has-field-asks a.s.now a.at c.view_at.ensures c.in-HasField.is c.requires.held
 
 pub returns-in-Equal : goal.returns-in-Equal
 returns-in-Equal c =

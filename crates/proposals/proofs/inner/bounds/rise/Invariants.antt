@@ -9,9 +9,8 @@ use Rattle.records.specs.Good.{numbers}
 use Rattle.proposals.specs.Bounds.{BoundsThere}
 use Rattle.proposals.proofs.inner.bounds.rise.Given as goal
 
+-- what is left to compare decides
 abbrev pub invariant-loop-i : goal.invariant-loop-i
 invariant-loop-i l =
-    (1 ≤ l.i) × ((os : List (Open ℕ)) → BoundsThere l.pool l.table l.s os → rising (numbers l.pool l.table).order (map word_of os) ≡ rising (numbers l.pool l.table).order (drop (l.i - 1) (map word_of os)))
-
-abbrev pub decreases-loop-i : goal.decreases-loop-i
-decreases-loop-i l = l.n - l.i
+    (os : List (Open ℕ)) → BoundsThere l.pool l.table l.s os →
+    rising (numbers l.pool l.table).order (map word_of os) ≡ rising (numbers l.pool l.table).order (drop (l.i - 1) (map word_of os))

@@ -6,11 +6,11 @@ use Rattle.proposals.proofs.inner.mixed.mark_one.Goals as goal
 pub returns-then-w-eq0 : goal.returns-then-w-eq0
 returns-then-w-eq0 c = λ t xs h m. unbound c.args.types.now c.args.x c.args.w c.args.k t xs h c.if-w-eq0.true m
 
-pub end_of-e-requires : goal.end_of-e-requires
-end_of-e-requires c =
+pub end_of-end-requires : goal.end_of-end-requires
+end_of-end-requires c =
     let (t, h) = c.requires in
     let (u, (i, k)) = says_some c.args.types.now c.args.w t h c.if-w-eq0.false in
     (u, k)
 
 pub returns : goal.returns
-returns c = λ t xs h m. bound c.args.types.now c.args.x c.args.w c.args.k t xs h c.if-w-eq0.false c.end_of-e.ensures c.variable.ensures (c.marks.ensures _ (c.mark.ensures xs m))
+returns c = λ t xs h m. bound c.args.types.now c.args.x c.args.w c.args.k t xs h c.if-w-eq0.false c.end_of-end.ensures c.variable.ensures (c.marks.ensures _ (c.mark.ensures xs m))

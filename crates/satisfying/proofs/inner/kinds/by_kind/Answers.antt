@@ -1,51 +1,95 @@
--- `by_kind` meets its contract.
-use mathlib.Core.Path.{sym, ◌∙◌}
-use Rattle.rules.specs.Names.{numbered, names_of, table_of}
-use Rattle.satisfying.proofs.ByKinds.{no_kind, step-stuck}
-use borrow.Enum.Refused.{opened}
+use Rattle.std.proofs.Common.{◌∙◌, sym}
+use Rattle.rules.specs.Names.{names_of, table_of}
+use Rattle.replacing.specs.Well.{names}
+use Rattle.satisfying.proofs.Conditions.{product-good}
+use Rattle.satisfying.proofs.Rules.{
+  two-dimensions,
+  dimension-open,
+  open-dimension,
+  two-functions,
+  two-counts,
+  two-lists,
+  dimension-other,
+  open-other,
+  one-function,
+  one-struct,
+  one-list,
+  basic-left,
+  two-structs,
+  two-names,
+  other-count,
+}
+use Rattle.satisfying.proofs.Written.{applied-as, products-as, split-is, stuck-is, one-con, cons-con}
 use Rattle.satisfying.proofs.inner.kinds.by_kind.Goals as goal
 
-pub variable_left-requires : goal.variable_left-requires
-variable_left-requires c =
-    let h = c.requires.by_index in
-    let k = c.requires.by_index_2 in
-    record { left_value = (_, sym c.view_at.ensures ∙ c.in-Opened.is); by_index = (h.0, h.1.held); by_index_2 = (k.0, k.1.held); fits = c.requires.fits }
+pub quotient-requires-clause-left_good : goal.quotient-requires-clause-left_good
+quotient-requires-clause-left_good c = product-good c.args.pool.now c.args.table.now _ c.in-Dimension-Dimension.ensures c.requires.left_good
 
-pub dimensions-requires : goal.dimensions-requires
-dimensions-requires c = record { good = c.requires.good; left_value = sym c.view_at.ensures ∙ c.in-Dim.is; by_index = c.requires.by_index; by_index_2 = c.requires.by_index_2; fits = c.requires.fits }
+pub quotient-requires-clause-right_good : goal.quotient-requires-clause-right_good
+quotient-requires-clause-right_good c = product-good c.args.pool.now c.args.table.now _ c.in-Dimension-Dimension.ensures' c.requires.right_good
 
-pub functions-requires : goal.functions-requires
-functions-requires c =
-    let h = c.requires.by_index in
-    let k = c.requires.by_index_2 in
-    record { left_value = sym c.view_at.ensures ∙ c.in-Function.is; by_index = (h.0, h.1.held); by_index_2 = (k.0, k.1.held); fits = c.requires.fits }
+pub returns-in-Dimension-Dimension : goal.returns-in-Dimension-Dimension
+returns-in-Dimension-Dimension c = let i = c.in-Dimension-Dimension in
+    applied-as (two-dimensions (names c.args.pool.now c.args.table.now) i.ensures i.ensures') c.quotient.ensures
 
-pub structs-requires : goal.structs-requires
-structs-requires c =
-    let h = c.requires.by_index in
-    let k = c.requires.by_index_2 in
-    record { by_index = (_, sym c.view_at.ensures ∙ c.in-Struct.is); by_index_2 = (h.0, h.1.held); by_index_3 = (k.0, k.1.held); fits = c.requires.fits }
+pub returns-in-Dimension-Open : goal.returns-in-Dimension-Open
+returns-in-Dimension-Open c =
+    let i = c.in-Dimension-Open in
+    applied-as (dimension-open (names c.args.pool.now c.args.table.now) i.ensures i.ensures' ∙ products-as _ (sym c.variable.ensures))
+    (c.as_product.ensures _ (sym i.ensures))
 
-pub lists-requires : goal.lists-requires
-lists-requires c =
-    let h = c.requires.by_index in
-    let k = c.requires.by_index_2 in
-    record { left_value = sym c.view_at.ensures ∙ c.in-List.is; by_index = (h.0, h.1.held); by_index_2 = (k.0, k.1.held); fits = c.requires.fits }
+pub returns-in-Open-Dimension : goal.returns-in-Open-Dimension
+returns-in-Open-Dimension c =
+    let i = c.in-Open-Dimension in
+    applied-as (open-dimension (names c.args.pool.now c.args.table.now) i.ensures i.ensures' ∙ products-as _ (sym c.variable-in-Open-Dimension.ensures))
+    (c.as_product-in-Open-Dimension.ensures _ (sym i.ensures'))
 
-pub returns-in-Opened : goal.returns-in-Opened
-returns-in-Opened c = λ t u h k. c.variable_left.ensures t u (names_of (table_of c.args.pool.now c.args.table.now)) h.held k.held
+pub returns-in-Function-Function : goal.returns-in-Function-Function
+returns-in-Function-Function c =
+    let i = c.in-Function-Function in
+    split-is _ (two-functions (names c.args.pool.now c.args.table.now) i.ensures i.ensures' (i.ps.trees.1.many ∙ c.if-ps-qs.true ∙ sym i.qs.trees.1.many))
+    (cons-con _ _ c.equal.ensures c.pairs.ensures)
 
-pub returns-in-Dim : goal.returns-in-Dim
-returns-in-Dim c = λ t u h k. c.dimensions.ensures t u h k
+pub returns-in-Struct-Struct : goal.returns-in-Struct-Struct
+returns-in-Struct-Struct c =
+    let i = c.in-Struct-Struct in
+    split-is _ (two-structs (names_of (table_of c.args.pool.now c.args.table.now)) i.ensures i.ensures' c.if-x-y.true
+    (i.ts.trees.1.many ∙ c.if-ts-us.true ∙ sym i.us.trees.1.many)) c.pairs-in-Struct-Struct.ensures
 
-pub returns-in-Function : goal.returns-in-Function
-returns-in-Function c = λ t u h k. c.functions.ensures t u (names_of (table_of c.args.pool.now c.args.table.now)) h.held k.held
-
-pub returns-in-Struct : goal.returns-in-Struct
-returns-in-Struct c = λ t u h k. c.structs.ensures t u (names_of (table_of c.args.pool.now c.args.table.now)) h.held k.held
-
-pub returns-in-List : goal.returns-in-List
-returns-in-List c = λ t u h k. c.lists.ensures t u (names_of (table_of c.args.pool.now c.args.table.now)) h.held k.held
+pub returns-in-List-List : goal.returns-in-List-List
+returns-in-List-List c = let i = c.in-List-List in split-is _ (two-lists (names c.args.pool.now c.args.table.now) i.ensures i.ensures')
+    (one-con _ c.equal-in-List-List.ensures)
 
 pub returns-in_default : goal.returns-in_default
-returns-in_default c = λ t u h k. step-stuck (no_kind (numbered (names_of (table_of c.args.pool.now c.args.table.now))) c.args.s.now t u c.args.left h.held c.view_at.ensures (opened c.in_default.in_default-own.keys6))
+returns-in_default c = let d = c.in_default in stuck-is
+    (dimension-other (names c.args.pool.now c.args.table.now) _ c.shape-2.ensures d.ensures d.not-Dimension-1 d.not-Open-1)
+
+pub returns-in_default-2 : goal.returns-in_default-2
+returns-in_default-2 c = let d = c.in_default in stuck-is (open-other (names c.args.pool.now c.args.table.now) _ c.shape-2.ensures d.ensures d.not-Dimension-1)
+
+pub returns-in_default-3 : goal.returns-in_default-3
+returns-in_default-3 c =
+    let i = c.in-Function-Function in
+    stuck-is (two-counts (names c.args.pool.now c.args.table.now) i.ensures i.ensures' (λ q. c.if-ps-qs.false (sym i.ps.trees.1.many ∙ q ∙ i.qs.trees.1.many)))
+
+pub returns-in_default-4 : goal.returns-in_default-4
+returns-in_default-4 c = let d = c.in_default in stuck-is (one-function (names c.args.pool.now c.args.table.now) _ c.shape-2.ensures d.ensures d.not-Function-1)
+
+pub returns-in_default-5 : goal.returns-in_default-5
+returns-in_default-5 c =
+    let i = c.in-Struct-Struct in
+    stuck-is (other-count (names_of (table_of c.args.pool.now c.args.table.now)) i.ensures i.ensures' c.if-x-y.true
+    (λ q. c.if-ts-us.false (sym i.ts.trees.1.many ∙ q ∙ i.us.trees.1.many)))
+
+pub returns-in_default-6 : goal.returns-in_default-6
+returns-in_default-6 c = let i = c.in-Struct-Struct in
+    stuck-is (two-names (names_of (table_of c.args.pool.now c.args.table.now)) i.ensures i.ensures' c.if-x-y.false)
+
+pub returns-in_default-7 : goal.returns-in_default-7
+returns-in_default-7 c = let d = c.in_default in stuck-is (one-struct (names c.args.pool.now c.args.table.now) _ c.shape-2.ensures d.ensures d.not-Struct-1)
+
+pub returns-in_default-8 : goal.returns-in_default-8
+returns-in_default-8 c = let d = c.in_default in stuck-is (one-list (names c.args.pool.now c.args.table.now) _ c.shape-2.ensures d.ensures d.not-List-1)
+
+pub returns-in_default-9 : goal.returns-in_default-9
+returns-in_default-9 c = stuck-is (basic-left (names c.args.pool.now c.args.table.now) _ c.in_default.ensures)

@@ -1,6 +1,6 @@
 -- `inner::checks::rest_checked` meets its contract.
 use mathlib.Core.Path.{sym, ap, ◌∙◌}
-use Rattle.names.specs.Told.{toldChecked}
+use Rattle.names.specs.Old.{toldChecked}
 use Rattle.schemes.proofs.inner.checks.rest_checked.Goals as goal
 
 pub bounds_held-requires : goal.bounds_held-requires

@@ -8,7 +8,7 @@ use Rattle.rules.specs.Calls.{schemeGiven, opensScheme}
 use Rattle.rules.specs.Names.{table_of}
 use Rattle.rules.specs.Schemes.{Scheme}
 use Rattle.rules.specs.Trees.{Open}
-use Rattle.names.specs.Told.{toldChecked}
+use Rattle.names.specs.Old.{toldChecked}
 use Rattle.records.specs.Found.{Words32}
 use Rattle.schemes.specs.Entry.{entered, Entered, came-in}
 use Rattle.schemes.specs.GivenScheme.{scheme-table, scheme-small, scheme-checked}

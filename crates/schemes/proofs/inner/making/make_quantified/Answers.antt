@@ -6,7 +6,7 @@ use Rattle.rules.specs.Base.{got, ◌>>◌}
 use Rattle.rules.specs.Calls.{typeGiven}
 use Rattle.rules.specs.Names.{table_of}
 use Rattle.rules.specs.Trees.{Ty, Open, opens}
-use Rattle.names.specs.Told.{toldChecked}
+use Rattle.names.specs.Old.{toldChecked}
 use Rattle.records.specs.Found.{Words32}
 use Rattle.schemes.specs.Entry.{entered, Entered, came-in}
 use Rattle.schemes.specs.Whole.{bounds-made, names-made, unmet-made, met-made, quantify-whole, type-table, type-small, quantify-checked, quantify-ready, quantify-met}

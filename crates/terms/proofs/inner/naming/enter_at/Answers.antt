@@ -12,12 +12,12 @@ pub stand_after-requires : goal.stand_after-requires
 stand_after-requires c =
     omega (arith, (good-laid c.requires.good).few, c.requires.room.names)
 
-pub returns-in-Bad : goal.returns-in-Bad
-returns-in-Bad c =
-    λ dst. ends-bad named (kept_same c.requires.good (roomy c.requires.room)) (name-bad (rw c.in-Bad.is at c.scan_name.ensures))
+pub returns-in-Err : goal.returns-in-Err
+returns-in-Err c =
+    λ dst. ends-bad named (kept_same c.requires.good (roomy c.requires.room)) (name-bad c.in-Err.ensures)
 
-pub returns-in-To : goal.returns-in-To
-returns-in-To c =
-    let name = rw c.in-To.is at c.scan_name.ensures in
+pub returns-in-Ok : goal.returns-in-Ok
+returns-in-Ok c =
+    let name = c.in-Ok.ensures in
     λ dst. rw (c.stand_after.ensures, c.number_told.ensures)
     (named-done _ _ _ _ _ _ _ c.requires.room dst c.requires.good name c.enter_front-a.result (c.enter_front-a.ensures name.bytes (front_of name refl)))

@@ -1,9 +1,13 @@
 -- `inner::naming::stand_after` meets its contract.
-use Rattle.terms.specs.Naming.{after-number}
+use native.Mathlib.Omega.{arith}
+use Rattle.terms.specs.Naming.{after-number, new-small}
 use Rattle.terms.proofs.inner.naming.stand_after.Goals as goal
 
-pub returns-in-Number : goal.returns-in-Number
-returns-in-Number c = after-number _ _ _ c.in-Number.is c.with_new.ensures
+pub overflow_add-result : goal.overflow_add-result
+overflow_add-result c = omega (arith, c.new_in.ensures, new-small c.in-Ok.was)
 
-pub returns-in-Refused : goal.returns-in-Refused
-returns-in-Refused c = rw c.in-Refused.is
+pub returns-in-Ok : goal.returns-in-Ok
+returns-in-Ok c = after-number _ _ _ c.in-Ok.is (omega (arith, c.new_in.ensures))
+
+pub returns-in-Err : goal.returns-in-Err
+returns-in-Err c = rw c.in-Err.is

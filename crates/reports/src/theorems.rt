@@ -1,0 +1,17 @@
+//! What reports promise, each statement the contract of a function that does nothing.
+ghost use Rattle.reports.specs.Theorems.{AcceptedWhereBothSaySo, NamesEndNoLine, PagesTellTheTruth};
+
+/// A report says 'accepted' of a sheet where the solver accepts its set and the judge says yes to it, and nowhere else (`report-only`, `report-there`).
+pub fn accepted_where_both_say_so()
+    ensures { AcceptedWhereBothSaySo }
+{}
+
+/// So does each page of an edition, whatever its files hold (`edition-honest`, `page-only`, `page-there`).
+pub fn pages_tell_the_truth()
+    ensures { PagesTellTheTruth }
+{}
+
+/// No name that was given ends a line of a report (`name-flat`).
+pub fn names_end_no_line()
+    ensures { NamesEndNoLine }
+{}

@@ -1,0 +1,27 @@
+use Rattle.std.proofs.Common.{ap, sym}
+use Rattle.rules.specs.Base.{bounded}
+use Rattle.rules.specs.Names.{names_of, table_of}
+use Rattle.rules.specs.Rounds.{trySatisfy}
+use Rattle.satisfying.proofs.Conditions.{left-good, right-good, powers-good}
+use Rattle.satisfying.proofs.Written.{applied-as}
+use Rattle.records.specs.Good.{numbers}
+use Rattle.satisfying.proofs.inner.satisfy.Goals as goal
+
+pub equal-requires-clause-left_good : goal.equal-requires-clause-left_good
+equal-requires-clause-left_good c = left-good c.args.pool.now c.args.table.now _ _ c.in-Equal.ensures c.requires.con_good
+
+pub equal-requires-clause-right_good : goal.equal-requires-clause-right_good
+equal-requires-clause-right_good c = right-good c.args.pool.now c.args.table.now _ _ c.in-Equal.ensures c.requires.con_good
+
+pub equal_scalar-requires : goal.equal_scalar-requires
+equal_scalar-requires c = powers-good c.args.pool.now c.args.table.now _ c.in-IsScalar.ensures c.requires.con_good
+
+pub returns-in-IsDimension : goal.returns-in-IsDimension
+unfolding trySatisfy
+returns-in-IsDimension c = applied-as (ap (trySatisfy (numbers c.args.pool.now c.args.table.now) bounded) (sym c.in-IsDimension.ensures)) c.is_dimension.ensures
+
+pub returns-in-HasField : goal.returns-in-HasField
+unfolding trySatisfy
+returns-in-HasField c =
+    let names = names_of (table_of c.args.pool.now c.args.table.now) in
+    applied-as (ap (trySatisfy (numbers c.args.pool.now c.args.table.now) bounded) (sym c.in-HasField.ensures)) (c.has_field.ensures names)

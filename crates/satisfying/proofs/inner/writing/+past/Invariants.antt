@@ -1,4 +1,0 @@
-use Rattle.satisfying.proofs.inner.writing.+past.Given as goal
-
-abbrev pub decreases-past : goal.decreases-past
-decreases-past l = l.n

@@ -1,0 +1,4 @@
+pub mod Once
+pub mod Puts
+pub mod Shapes
+pub mod Written

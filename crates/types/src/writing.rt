@@ -1,0 +1,90 @@
+//! Writing records, types and constraints.
+ghost use Rattle.std.specs.Prelude.{◌≡◌, [], ◌∷◌, ◌+◌, min};
+ghost use Rattle.rules.specs.Base.{collect};
+ghost use Rattle.rules.specs.Trees.{equal};
+ghost use Rattle.rules.specs.Rounds.{pairs};
+ghost use Rattle.rules.specs.Writing.{writeTy, writeCon};
+ghost use Rattle.records.specs.Cut.{fit};
+ghost use Rattle.records.specs.Views.{recOf};
+ghost use Rattle.types.specs.Written.{last, Writes, Reserves, Begins};
+
+use super::writer::{LAST, Writer};
+use super::{Type, Types};
+use records::View;
+use records::inner::{copy, put_record};
+
+/// The place past n records.
+fn past(at: usize, n: usize) -> usize
+    ensures { result ≡ min (at + n) last }
+{
+    at.saturating_add(n).min(LAST)
+}
+
+impl<'a> Writer<'a> {
+    /// The record that says `v` and begins a part of `n` records.
+    pub fn put(&mut self, v: View, n: usize)
+        ensures { Writes self.old self.new (recOf v (fit n) ∷ []) }
+    {
+        let at = self.at;
+        self.at = past(at, 1);
+        if at < LAST {
+            put_record(self.words, at, v, n);
+        }
+    }
+
+    /// The records of a type.
+    pub fn copy(&mut self, t: Type)
+        ensures { Writes self.old self.new (writeTy t.entry.tree.0) }
+    {
+        let at = self.at;
+        let n = t.len();
+        self.at = past(at, n);
+        if self.at < LAST {
+            copy(t.words, t.at, t.end(), self.words, at);
+        }
+    }
+
+    /// Leaves room for a record: where it is to stand.
+    pub fn reserve(&mut self) -> usize
+        ensures { Reserves self.old self.new result }
+    {
+        let start = self.at;
+        self.at = past(start, 1);
+        start
+    }
+
+    /// The record `v` in the room that was left at `start`, which begins all that was written from there on.
+    pub fn begin(&mut self, start: usize, v: View)
+        ensures { Begins self.old self.new start v }
+    {
+        let n = self.at.saturating_sub(start);
+        if start < LAST {
+            put_record(self.words, start, v, n);
+        }
+    }
+
+    /// That two types are equal.
+    pub fn equal(&mut self, left: Type, right: Type)
+        ensures { Writes self.old self.new (writeCon (equal left.entry.tree.0 right.entry.tree.0)) }
+    {
+        self.put(View::Equal, 1 + left.len() + right.len());
+        self.copy(left);
+        self.copy(right);
+    }
+
+    /// That types are equal pairwise, as far as both go.
+    pub fn pairs(&mut self, left: Types, right: Types)
+        ensures { Writes self.old self.new (collect writeCon (pairs left.entry.trees.0 right.entry.trees.0)) }
+    {
+        let mut ts = left;
+        let mut us = right;
+        'pairs: while let (Some((t, more)), Some((u, others))) = (
+            ts.split_first(),
+            us.split_first(),
+        ) {
+            self.equal(t, u);
+            ts = more;
+            us = others;
+        }
+    }
+}
