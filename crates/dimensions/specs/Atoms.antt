@@ -56,7 +56,8 @@ module _ {table : List ℕ} {i x : ℕ} {rs : List Rec} (t : NumberTold table i 
 module _ {line : Bytes} {p c a q : Point} {pool table pool' table' dst : List ℕ} {s s' : Stand} {i : ℕ} where
   -- the rule for a mark, and what it made of the name
   atom-by : (kind b : ℕ) (f : NameAt → Atom NameAt) → 0 < b → pick b marks ≡ (markName b >>= λ n. give (f n)) → byte_of line c ≡ b
-      → ((n : NameAt) → Effect (named n) (NumberTold table' i) (lent pool table dst s) (lent pool' table' dst s') → Effect (atomNamed (f n)) (AtomTold table' kind i) (lent pool table dst s) (lent pool' table' dst s'))
+      → ((n : NameAt) → Effect (named n) (NumberTold table' i) (lent pool table dst s) (lent pool' table' dst s')
+      → Effect (atomNamed (f n)) (AtomTold table' kind i) (lent pool table dst s) (lent pool' table' dst s'))
       → Reads line p column (λ (k : ℕ). k ≡ columnAt c) c → Reads line c (marked b) Any a
       → Done line name named (NumberTold table' i) a (lent pool table dst s) q (lent pool' table' dst s')
       → Done line atom atomNamed (AtomTold table' kind i) p (lent pool table dst s) q (lent pool' table' dst s')
@@ -77,18 +78,21 @@ module _ {line : Bytes} {p c a q : Point} {pool table pool' table' dst : List �
   atom-done (forVariable e) h x y d =
       let k = kept-last d.kept in
       atom-by 11 63 (λ n. free (var n)) (omega arith) refl e
-      (λ n f. maps (openNamed (var n)) free k (maps (named n) var {W = λ o rs. AtomTold table' 11 i (free o) rs} k f (λ m rs t. var-told t)) (λ o rs t. t)) x (rw e at y) d
+      (λ n f. maps (openNamed (var n)) free k (maps (named n) var {W = λ o rs. AtomTold table' 11 i (free o) rs} k f (λ m rs t. var-told t)) (λ o rs t. t)) x
+      (rw e at y) d
   atom-done (forParameter e) h x y d =
       let k = kept-last d.kept in
       atom-by 12 33 (λ n. free (par n)) (omega arith) refl e
-      (λ n f. maps (openNamed (par n)) free k (maps (named n) par {W = λ o rs. AtomTold table' 12 i (free o) rs} k f (λ m rs t. par-told t)) (λ o rs t. t)) x (rw e at y) d
+      (λ n f. maps (openNamed (par n)) free k (maps (named n) par {W = λ o rs. AtomTold table' 12 i (free o) rs} k f (λ m rs t. par-told t)) (λ o rs t. t)) x
+      (rw e at y) d
   atom-done (forBase e) h x y d =
       atom-by 13 35 base (omega arith) refl e (λ n f. maps (named n) base (kept-last d.kept) f (λ m rs t. base-told t)) x (rw e at y) d
   atom-done (forNone e f g) h x y d = absurd (h refl)
 
 -- no mark
 module _ {line : Bytes} {p : Point} {pool table dst : List ℕ} {s : Stand} (ready : Ready line p pool table s) where
-  refused-atom : (kind i : ℕ) (c : Point) → Reads line p atom Any (refusedFrom c) → Halted c s → Done line atom atomNamed (AtomTold table kind i) p (lent pool table dst s) (refusedFrom c) (lent pool table dst s)
+  refused-atom : (kind i : ℕ) (c : Point) → Reads line p atom Any (refusedFrom c) → Halted c s
+      → Done line atom atomNamed (AtomTold table kind i) p (lent pool table dst s) (refusedFrom c) (lent pool table dst s)
   refused-atom kind i (Ok (Some j)) y h = ends-bad atomNamed (kept_same ready.good ready.room) y
   refused-atom kind i (Ok None) y h = reads_on atomNamed ready.good (λ k n e. h k n refl e) y
   refused-atom kind i (Err q) y h = ends-bad atomNamed (kept_same ready.good ready.room) y

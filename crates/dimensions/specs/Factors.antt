@@ -20,7 +20,8 @@ use Rattle.products.specs.declared.Product.{Product}
 use Rattle.reading.specs.Points.{Reads, PointIn, MarkRead, left_at, columnAt, beginsAt, in-turn, given, if-sign, if-no-sign, Point}
 use Rattle.reading.specs.Factors.{atom, powerThere, factorsThere, begun, left_there}
 use Rattle.terms.specs.Stands.{place_of, Stand}
-use Rattle.terms.specs.Effects.{Lent, lent, Ready, ready-next, Kept, kept_same, kept-last, kept_then, Effect, then, gives, Halted, halted-on, NotBad, not-bad, at_sign, Done}
+use Rattle.terms.specs.Effects.{Lent, lent, Ready, ready-next, Kept, kept_same, kept-last, kept_then, Effect, then, gives, Halted, halted-on, NotBad}
+use Rattle.terms.specs.Effects.{not-bad, at_sign, Done}
 use Rattle.terms.specs.Inside.{inside-column}
 use Rattle.terms.specs.Stands as stand
 use Rattle.dimensions.specs.Atoms.{AtomTold}
@@ -34,7 +35,8 @@ is_at (Err q) = false
 
 -- factors are read and multiplied, whatever the buffer holds: the product is o then, and well formed
 abbrev pub ProductDone : {A : Type 0} → Bytes → Rule A → (A → Step Tree) → Point → List ℕ → List ℕ → Stand → Point → Product → List ℕ → List ℕ → Stand → Type 0
-ProductDone line R f p pool table s r o pool' table' s' = (Well pool' table' o) × ((dst : List ℕ) → Done line R f (ProductIs o) p (lent pool table dst s) r (lent pool' table' dst s'))
+ProductDone line R f p pool table s r o pool' table' s' = (Well pool' table' o) ×
+    ((dst : List ℕ) → Done line R f (ProductIs o) p (lent pool table dst s) r (lent pool' table' dst s'))
 
 -- at a point that is no place in the line nothing is multiplied
 pub idle : {B : Type 0} {m : Step B} {T : B → List Rec → Type 0} {x : Lent} (q : Point) → false ≡ is_at q → Halted q x.stand → NotBad q → Effect m T x x
@@ -78,7 +80,8 @@ abbrev timesThen : Tree → ℕ → Atom ℕ → Exp → Step Tree
 timesThen t k b e = λ u. placed k (multiply (namesSofar u) bounded t (put b e [])) u
 
 module _ (t o : Product) (at : ℕ) {pool table pool' table' dst : List ℕ} {s s₁ s₂ s₃ : Stand} {kind number : ℕ} {exp : Exponent} where
-  factor-effect : (k : ℕ) (b : Atom NameAt) (w : PowerAt) → k ≡ suc at → Kept (lent pool' table' dst s₁) (lent pool' table' dst s₂) → Kept (lent pool' table' dst s₂) (lent pool' table' dst s₃)
+  factor-effect : (k : ℕ) (b : Atom NameAt) (w : PowerAt) → k ≡ suc at → Kept (lent pool' table' dst s₁) (lent pool' table' dst s₂)
+      → Kept (lent pool' table' dst s₂) (lent pool' table' dst s₃)
       → Effect (atomNamed b) (AtomTold table' kind number) (lent pool table dst s) (lent pool' table' dst s₁)
       → Effect (powered w) (ExpTold exp) (lent pool' table' dst s₁) (lent pool' table' dst s₂)
       → Effect (timesBy at (productOf t) kind number (expOf exp)) (ProductIs o) (lent pool' table' dst s₂) (lent pool' table' dst s₃)
@@ -89,7 +92,8 @@ module _ (t o : Product) (at : ℕ) {pool table pool' table' dst : List ℕ} {s 
       then (powered w) (λ e. timesThen (productOf t) k v e) ee km (λ e qs i.
       rw (g, h.is, i.is, h.none, i.none) em))
 
-module _ {line : Bytes} {p a q : Point} (t o : Product) (c : Point) {at : ℕ} (place : at ≡ place_of c) {pool table pool' table' dst : List ℕ} {s s₁ s₂ s₃ : Stand} {kind number : ℕ} {exp : Exponent} where
+module _ {line : Bytes} {p a q : Point} (t o : Product) (c : Point) {at : ℕ}
+    (place : at ≡ place_of c) {pool table pool' table' dst : List ℕ} {s s₁ s₂ s₃ : Stand} {kind number : ℕ} {exp : Exponent} where
   pub factor-done : Ready line p pool table s → Reads line p column (λ (k : ℕ). k ≡ columnAt c) c
       → Done line atom atomNamed (AtomTold table' kind number) c (lent pool table dst s) a (lent pool' table' dst s₁)
       → Done line powerThere powered (ExpTold exp) a (lent pool' table' dst s₁) q (lent pool' table' dst s₂)
@@ -126,7 +130,8 @@ further-here = record { so = λ r o z k m. m }
 abbrev starred : ℕ → Rule (List FactorAt)
 starred n = sign "*" >> (factor >>= λ f. moreFactors n >>= λ fs. give (f ∷ fs))
 
-factors-then : {x y z : Lent} (u : Product) (t : Tree) {o : Product} (f : FactorAt) (fs : List FactorAt) → Kept y z → Effect (multiplied t f) (ProductIs u) x y → Effect (factorsOf fs (productOf u)) (ProductIs o) y z
+factors-then : {x y z : Lent} (u : Product) (t : Tree) {o : Product} (f : FactorAt) (fs : List FactorAt) → Kept y z
+    → Effect (multiplied t f) (ProductIs u) x y → Effect (factorsOf fs (productOf u)) (ProductIs o) y z
     → Effect (factorsOf (f ∷ fs) t) (ProductIs o) x z
 unfolding factorsOf
 factors-then u t f fs k e g = then (multiplied t f) (λ q. factorsOf fs q) e k (λ q rs h. rw (h.is, h.none) g)
@@ -155,7 +160,8 @@ unfolding moreFactors factorsOf
 no_more {line} {q} {t} {y} i e zero h = given [] i (λ nb. gives (productOf t) (record { is = refl; none = refl }))
 no_more {line} {q} {t} {y} i e (suc n) h = if-no-sign "*" (starred n) (give []) e (given [] i (λ nb. gives (productOf t) (record { is = refl; none = refl })))
 
-pub further-ends : {line : Bytes} {p q : Point} {s : Tree} {t : Product} {v y : Lent} → Kept y y → PointIn line q → false ≡ beginsAt line q 42 → Further line p s v q (productOf t) y → MoreDone line p s v q t y
+pub further-ends : {line : Bytes} {p q : Point} {s : Tree} {t : Product} {v y : Lent} → Kept y y → PointIn line q → false ≡ beginsAt line q 42
+    → Further line p s v q (productOf t) y → MoreDone line p s v q t y
 further-ends {line} {p} {q} {s} {t} {v} {y} k i e f = f.so q t y k (no_more i e)
 
 -- ══ The factors of a dimension ══
@@ -164,7 +170,8 @@ abbrev pub fromNone : List FactorAt → Step Tree
 fromNone fs = factorsOf fs []
 
 module _ {line : Bytes} {p f r : Point} {x y z : Lent} {u o : Product} where
-  pub factors-done : false ≡ beginsAt line p 93 → Done line factor (multiplied []) (ProductIs u) p x f y → Kept y z → Halted r z.stand → MoreDone line f (productOf u) y r o z
+  pub factors-done : false ≡ beginsAt line p 93 → Done line factor (multiplied []) (ProductIs u) p x f y → Kept y z → Halted r z.stand
+      → MoreDone line f (productOf u) y r o z
       → Done line factorsThere fromNone (ProductIs o) p x r z
   factors-done e d k h m = record {
     reads =
@@ -177,30 +184,40 @@ module _ {line : Bytes} {p f r : Point} {x y z : Lent} {u o : Product} where
     halted = h;
   }
 
-pub no-factors : {line : Bytes} {p : Point} {x : Lent} (o : Product) → productOf o ≡ [] → PointIn line p → Kept x x → Halted p x.stand → true ≡ beginsAt line p 93
+pub no-factors : {line : Bytes} {p : Point} {x : Lent} (o : Product) → productOf o ≡ [] → PointIn line p → Kept x x → Halted p x.stand
+    → true ≡ beginsAt line p 93
     → Done line factorsThere fromNone (ProductIs o) p x p x
 unfolding factorsOf
-no-factors o f i k h e = record { reads = if-sign "]" (give []) factors e (given [] i (λ nb. gives [] (record { is = sym f; none = refl }))); kept = k; halted = h }
+no-factors o f i k h e = record {
+  reads = if-sign "]" (give []) factors e (given [] i (λ nb. gives [] (record { is = sym f; none = refl })));
+  kept = k;
+  halted = h;
+}
 
 -- what further factors did: the product q became o
-pub record Followed (line : Bytes) (p : Point) (q : Product) (pool table : List ℕ) (s : Stand) (r : Point) (o : Product) (pool' table' : List ℕ) (s' : Stand) : Type 0 where
+pub record Followed (line : Bytes) (p : Point) (q : Product) (pool table : List ℕ) (s : Stand) (r : Point) (o : Product) (pool' table' : List ℕ)
+    (s' : Stand) : Type 0 where
   pub ready : Ready line r pool' table' s'
   pub well : Well pool' table' o
   pub kept : (dst : List ℕ) → Kept (lent pool table dst s) (lent pool' table' dst s')
   pub more : (dst : List ℕ) → MoreDone line p (productOf q) (lent pool table dst s) r o (lent pool' table' dst s')
 
 -- what the loop has done so far
-pub record Following (line : Bytes) (p : Point) (q : Product) (pool table : List ℕ) (s : Stand) (r : Point) (o : Product) (pool' table' : List ℕ) (s' : Stand) : Type 0 where
+pub record Following (line : Bytes) (p : Point) (q : Product) (pool table : List ℕ) (s : Stand) (r : Point) (o : Product) (pool' table' : List ℕ)
+    (s' : Stand) : Type 0 where
   pub ready : Ready line r pool' table' s'
   pub well : Well pool' table' o
   pub kept : (dst : List ℕ) → Kept (lent pool table dst s) (lent pool' table' dst s')
   pub so : (dst : List ℕ) → Further line p (productOf q) (lent pool table dst s) r (productOf o) (lent pool' table' dst s')
 
-pub following-here : {line : Bytes} {p : Point} {q : Product} {pool table : List ℕ} {s : Stand} → Ready line p pool table s → Well pool table q → Following line p q pool table s p q pool table s
+pub following-here : {line : Bytes} {p : Point} {q : Product} {pool table : List ℕ} {s : Stand} → Ready line p pool table s → Well pool table q
+    → Following line p q pool table s p q pool table s
 following-here h w = record { ready = h; well = w; kept = λ dst. kept_same h.good h.room; so = λ dst. further-here }
 
-module _ {line : Bytes} {p r : Point} {q o : Product} {pool table pool' table' : List ℕ} {s s' : Stand} (f : Following line p q pool table s r o pool' table' s') where
-  pub following-on : {a b : Point} {u : Product} {pool'' table'' : List ℕ} {s'' : Stand} → true ≡ beginsAt line r 42 → MarkRead line r 42 a → Well pool'' table'' u
+module _ {line : Bytes} {p r : Point} {q o : Product} {pool table pool' table' : List ℕ} {s s' : Stand}
+    (f : Following line p q pool table s r o pool' table' s') where
+  pub following-on : {a b : Point} {u : Product} {pool'' table'' : List ℕ} {s'' : Stand} → true ≡ beginsAt line r 42 → MarkRead line r 42 a
+      → Well pool'' table'' u
       → ((dst : List ℕ) → Done line factor (multiplied (productOf o)) (ProductIs u) a (lent pool' table' dst s') b (lent pool'' table'' dst s''))
       → Following line p q pool table s b u pool'' table'' s''
   following-on {a} {b} {u} e x w d = record {

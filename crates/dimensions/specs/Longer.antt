@@ -21,7 +21,8 @@ module _ {x y : Lent} (g : Good x.pool x.table) (k : Kept x y) where
   after = names_of (table_of y.pool y.table)
 
   name-stays : (i : ℕ) → heldIn x.table i ≡ true → get_or after i [] ≡ get_or before i []
-  name-stays i h = ap (λ (ns : List Bytes). get_or ns i []) k.names ∙ get_or-append before k.more [] i (omega (arith, ltb-true i (get_or x.table 0 0) h, length-names (good-laid g)))
+  name-stays i h = ap (λ (ns : List Bytes). get_or ns i []) k.names ∙ get_or-append before k.more [] i
+      (omega (arith, ltb-true i (get_or x.table 0 0) h, length-names (good-laid g)))
 
   order-stays : (i j : ℕ) → heldIn x.table i ≡ true → heldIn x.table j ≡ true → (numbered after).order i j ≡ (numbered before).order i j
   unfolding numbered
@@ -30,14 +31,16 @@ module _ {x y : Lent} (g : Good x.pool x.table) (k : Kept x y) where
   held_stays : (i : ℕ) → heldIn x.table i ≡ true → heldIn y.table i ≡ true
   held_stays i h = lt-ltb i (get_or y.table 0 0) (omega (arith, ltb-true i (get_or x.table 0 0) h, k.held))
 
-  atom-stays : (a : Atom ℕ) → goodAtom (numbered before) (heldIn x.table) 4_294_967_296 a ≡ true → goodAtom (numbered after) (heldIn y.table) 4_294_967_296 a ≡ true
+  atom-stays : (a : Atom ℕ) → goodAtom (numbered before) (heldIn x.table) 4_294_967_296 a ≡ true
+      → goodAtom (numbered after) (heldIn y.table) 4_294_967_296 a ≡ true
   unfolding goodOpen
   atom-stays (free (var n)) h = held_stays n h
   atom-stays (free (quant i)) h = h
   atom-stays (free (par n)) h = held_stays n h
   atom-stays (base n) h = held_stays n h
 
-  atoms-stay : (a b : Atom ℕ) → goodAtom (numbered before) (heldIn x.table) 4_294_967_296 a ≡ true → goodAtom (numbered before) (heldIn x.table) 4_294_967_296 b ≡ true
+  atoms-stay : (a b : Atom ℕ) → goodAtom (numbered before) (heldIn x.table) 4_294_967_296 a ≡ true
+      → goodAtom (numbered before) (heldIn x.table) 4_294_967_296 b ≡ true
       → orderAtom (numbered after) a b ≡ orderAtom (numbered before) a b
   unfolding goodOpen orderAtom orderOpen
   atoms-stay (free (var m)) (free (var n)) h l = order-stays m n h l

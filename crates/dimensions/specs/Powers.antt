@@ -5,7 +5,8 @@ use Rattle.std.proofs.Common.{sym, ap, ◌∙◌, arith, leb-true, leb-false}
 use Rattle.rules.specs.Base.{Got, got, refused}
 use Rattle.rules.specs.Exponents.{Exp, one, lowest, gcd, gcdIn, top, in_range, goodExp}
 use Rattle.rules.specs.Names.{Bytes}
-use Rattle.rules.specs.Grammar.{Place, beyond, Parsed, read, bad, Rule, pass, give, sign, skip, column, columnOf, digits, PowerAt, power, noPower, signedBy, ◌>>=◌, ◌>>◌}
+use Rattle.rules.specs.Grammar.{Place, beyond, Parsed, read, bad, Rule, pass, give, sign, skip, column, columnOf, digits, PowerAt, power, noPower}
+use Rattle.rules.specs.Grammar.{signedBy, ◌>>=◌, ◌>>◌}
 use Rattle.rules.specs.Refusals.{number_of}
 use Rattle.rules.specs.declared.Refusal.{Refusal}
 use Rattle.rules.specs.Writing.{Rec, words}
@@ -23,7 +24,8 @@ use Rattle.reading.specs.Powers.{Typed, minusThere, denominatorThere}
 use Rattle.reading.specs.Values.{value_of, typed-value, value-large, value-zero, value-under, value_there, lowest-good}
 use Rattle.reading.specs.Factors.{powerThere}
 use Rattle.terms.specs.Stands.{place_of, Stand}
-use Rattle.terms.specs.Effects.{lent, sofar, Ready, kept_same, kept-stopped, Effect, did, stops, gives, halted-on, NotBad, not-bad, at_sign, Inside, unmoved, Done}
+use Rattle.terms.specs.Effects.{lent, sofar, Ready, kept_same, kept-stopped, Effect, did, stops, gives, halted-on, NotBad, not-bad, at_sign, Inside}
+use Rattle.terms.specs.Effects.{unmoved, Done}
 use Rattle.terms.specs.Inside.{inside-column, inside-give, inside-then, inside-if, inside-digits, inside-spelled}
 use Rattle.terms.specs.Stands as stand
 
@@ -130,7 +132,8 @@ sign-fine {line} {p} {c} x = go p c x.is
     go (Ok None) (Err j) e n = let z : ◌≡◌ {A = ℕ} 0 1 = cc in omega arith
     go (Err i) (Err j) e n = n
 
-power-sign : {line : Bytes} {p c q : Point} {P : PowerAt → Type 0} (x : Reads line p column (λ (k : ℕ). k ≡ columnAt c) c) (y : Reads line p power P q) → NotBad q → y.value.column ≡ columnAt c
+power-sign : {line : Bytes} {p c q : Point} {P : PowerAt → Type 0} (x : Reads line p column (λ (k : ℕ). k ≡ columnAt c) c) (y : Reads line p power P q)
+    → NotBad q → y.value.column ≡ columnAt c
 power-sign {line} {p} {c} {q} x y n = go p x.is y.is (not-bad y n) ∙ x.holds
   where
     a : ReadTo line q y.value
@@ -140,7 +143,8 @@ power-sign {line} {p} {c} {q} x y n = go p x.is y.is (not-bad y n) ∙ x.holds
     b = read-to line c x.value (sign-fine x (not-bad y n))
 
     at : (r : Place) → column r ≡ standing line c x.value → power r ≡ standing line q y.value → y.value.column ≡ x.value
-    at r e f = let g : ◌≡◌ {A = Parsed ℕ} (read (columnOf (skip r)) (skip r)) (read x.value b.place) = e ∙ b.is in power-columned r a.place y.value (f ∙ a.is) ∙ cc
+    at r e f = let g : ◌≡◌ {A = Parsed ℕ} (read (columnOf (skip r)) (skip r)) (read x.value b.place) = e ∙ b.is in power-columned r a.place y.value (f ∙ a.is)
+        ∙ cc
 
     go : (p : Point) → from line p column ≡ standing line c x.value → from line p power ≡ standing line q y.value → NotBad p → y.value.column ≡ x.value
     go (Ok (Some i)) e f m = at (place_in line i) e f
@@ -154,9 +158,11 @@ unfolding power
 inside-power =
     inside-if "^" power (give noPower)
     (inside-then column _ inside-column (λ c. inside-then (sign "^") _ (inside-spelled _) (λ u. inside-then (sign "(") _ (inside-spelled _) (λ u.
-    inside-then minusThere _ (inside-if "-" (sign "-" >> give true) (give false) (inside-then (sign "-") (λ u. give true) (inside-spelled _) (λ u. inside-give true)) (inside-give false)) (λ m.
+    inside-then minusThere _ (inside-if "-" (sign "-" >> give true) (give false)
+    (inside-then (sign "-") (λ u. give true) (inside-spelled _) (λ u. inside-give true)) (inside-give false)) (λ m.
     inside-then digits _ inside-digits (λ n.
-    inside-then denominatorThere _ (inside-if "/" (sign "/" >> digits) (give 1) (inside-then (sign "/") (λ u. digits) (inside-spelled _) (λ u. inside-digits)) (inside-give 1)) (λ d.
+    inside-then denominatorThere _ (inside-if "/" (sign "/" >> digits) (give 1) (inside-then (sign "/") (λ u. digits) (inside-spelled _) (λ u. inside-digits))
+    (inside-give 1)) (λ d.
     inside-then (sign ")") _ (inside-spelled _) (λ u. inside-give (powerWith c m n d)))))))))
     (inside-give noPower)
 
@@ -173,7 +179,8 @@ power-effect w (value.Value e) at pool table dst (Ok tally) h g =
       grown = omega arith;
     })
 power-effect w (value.Refused why) at pool table dst (Ok tally) h g =
-    stops refl refl (ap (λ (m : Got Exp). placed w.column m (sofar (lent pool table dst (stand.Going tally.names tally.records)) tally.names tally.records)) h ∙ ap (λ (c : ℕ). refusedAt (number_of why) c) g)
+    stops refl refl (ap (λ (m : Got Exp). placed w.column m (sofar (lent pool table dst (stand.Going tally.names tally.records)) tally.names tally.records)) h
+    ∙ ap (λ (c : ℕ). refusedAt (number_of why) c) g)
 power-effect w v at pool table dst (Err stop) h g = unmoved refl
 
 power-refused : (s : Stand) (at : ℕ) (v : Power) (r : Refusal) (c : ℕ) → s ≡ stand.Refused r c → powerStand s at v ≡ stand.Refused r c
@@ -185,10 +192,13 @@ power-going (Ok tally) at (value.Refused why) k n q = let z : ◌≡◌ {A = ℕ
 power-going (Err stop) at v k n q = q
 
 module _ {line : Bytes} {p : Point} {pool table : List ℕ} (dst : List ℕ) {s : Stand} (ready : Ready line p pool table s) where
-  pub power-done : {q sign : Point} {m : Bool} {n d at : ℕ} {s' : Stand} {o : Exponent} (c : Point) (v : Power) → true ≡ beginsAt line p 94 → Reads line p column (λ (k : ℕ). k ≡ columnAt c) c → Reads line p power (Typed sign m n d) q
-      → Answers.told v ≡ value_of m n d → at ≡ place_of c → s' ≡ powerStand s at v → o ≡ expIn v → Done line powerThere powered (ExpTold o) p (lent pool table dst s) q (lent pool table dst s')
+  pub power-done : {q sign : Point} {m : Bool} {n d at : ℕ} {s' : Stand} {o : Exponent} (c : Point) (v : Power) → true ≡ beginsAt line p 94
+      → Reads line p column (λ (k : ℕ). k ≡ columnAt c) c → Reads line p power (Typed sign m n d) q
+      → Answers.told v ≡ value_of m n d → at ≡ place_of c → s' ≡ powerStand s at v → o ≡ expIn v
+      → Done line powerThere powered (ExpTold o) p (lent pool table dst s) q (lent pool table dst s')
   power-done {q} {sign} {m} {n} {d} {at} {s'} {o} c v e x y f g h i =
-      let there : Reads line p powerThere (λ w. NotBad q → Effect (powered w) (ExpTold o) (lent pool table dst s) (lent pool table dst s')) q = if-sign "^" power (give noPower) e (record {
+      let there : Reads line p powerThere (λ w. NotBad q → Effect (powered w) (ExpTold o) (lent pool table dst s)
+      (lent pool table dst s')) q = if-sign "^" power (give noPower) e (record {
         within = y.within;
         onward = y.onward;
         value = y.value;

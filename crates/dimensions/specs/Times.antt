@@ -66,7 +66,8 @@ module _ (kind name : ℕ) (x : Exponent) where
   pub single-zero : (p : Product) → isZero (expOf x) ≡ true → given p ≡ productValue [] → given p ≡ productValue (put (atomBy kind name) (expOf x) [])
   single-zero p h e = rw (h, put) e
 
-  pub single-put : (p r : Product) → isZero (expOf x) ≡ false → Kind kind → given p ≡ productValue [] → r ≡ put_of p (record { kind = kind; name = name; exp = x })
+  pub single-put : (p r : Product) → isZero (expOf x) ≡ false → Kind kind → given p ≡ productValue []
+      → r ≡ put_of p (record { kind = kind; name = name; exp = x })
       → given r ≡ productValue (put (atomBy kind name) (expOf x) [])
   single-put p r h k e f =
       let v : Factor = record { kind = kind; name = name; exp = x } in
@@ -78,7 +79,8 @@ module _ (pool table : List ℕ) {kind name : ℕ} (held : AtomHeld table kind n
   unfolding table_of
   single-good = product-good (numbersOf (table_of pool table)) (law pool table) (heldIn table) 4_294_967_296 (put (atomBy kind name) e []) (go (isZero e) refl)
     where
-      go : (z : Bool) → isZero e ≡ z → GoodProduct (numbersOf (table_of pool table)) (heldIn table) 4_294_967_296 (elim z [ true ↦ [] | false ↦ atomBy kind name ↑ e ∷ [] ])
+      go : (z : Bool) → isZero e ≡ z → GoodProduct (numbersOf (table_of pool table)) (heldIn table) 4_294_967_296
+          (elim z [ true ↦ [] | false ↦ atomBy kind name ↑ e ∷ [] ])
       go true h = record { in_order = tt; each = tt; few = omega arith }
       go false h = record { in_order = (tt, tt); each = ((held.good (numbersOf (table_of pool table)), is-stored e h good), tt); few = omega arith }
 
@@ -89,7 +91,8 @@ module _ (pool table : List ℕ) {kind name : ℕ} (held : AtomHeld table kind n
 module _ (pool table : List ℕ) (p : Product) (is : given p ≡ productValue []) where
   scalar-good : goodProduct (numbersOf (table_of pool table)) (is_held (table_of pool table)) 4_294_967_296 [] ≡ true
   unfolding table_of
-  scalar-good = product-good (numbersOf (table_of pool table)) (law pool table) (heldIn table) 4_294_967_296 [] (record { in_order = tt; each = tt; few = omega arith })
+  scalar-good = product-good (numbersOf (table_of pool table)) (law pool table) (heldIn table) 4_294_967_296 []
+      (record { in_order = tt; each = tt; few = omega arith })
 
   pub scalar-well : Well pool table p
   scalar-well = (made pool table p [] is scalar-good).well
@@ -103,20 +106,25 @@ module _ (t : Tried) where
   tried-got : (m : Got Tree) → told t ≡ answer m → t.checked ≡ checked.Good → (s : Tree) × ((m ≡ got s) × (given t.product ≡ productValue s))
   unfolding told answer
   tried-got (got s) e f = (s, (refl, ap (λ (a : Answer). a.product) e))
-  tried-got (refused n) e f = let g : ◌≡◌ {A = Option ℕ} none (some n) = sym (ap (λ (c : Checked). refusalOf c) f) ∙ ap (λ (a : Answer). a.refusal) e in let z : ◌≡◌ {A = ℕ} 0 1 = cc in absurd (omega arith)
+  tried-got (refused n) e f = let g : ◌≡◌ {A = Option ℕ} none (some n) = sym (ap (λ (c : Checked). refusalOf c) f)
+      ∙ ap (λ (a : Answer). a.refusal) e in let z : ◌≡◌ {A = ℕ} 0 1 = cc in absurd (omega arith)
 
   tried-refused : (m : Got Tree) (why : Refusal) → told t ≡ answer m → t.checked ≡ checked.Refused why → m ≡ refused (number_of why)
   unfolding told answer
-  tried-refused (got s) why e f = let g : ◌≡◌ {A = Option ℕ} (some (number_of why)) none = sym (ap (λ (c : Checked). refusalOf c) f) ∙ ap (λ (a : Answer). a.refusal) e in let z : ◌≡◌ {A = ℕ} 0 1 = cc in absurd (omega arith)
-  tried-refused (refused n) why e f = let g : ◌≡◌ {A = Option ℕ} (some (number_of why)) (some n) = sym (ap (λ (c : Checked). refusalOf c) f) ∙ ap (λ (a : Answer). a.refusal) e in let z : number_of why ≡ n = cc in ap refused (sym z)
+  tried-refused (got s) why e f = let g : ◌≡◌ {A = Option ℕ} (some (number_of why)) none = sym (ap (λ (c : Checked). refusalOf c) f)
+      ∙ ap (λ (a : Answer). a.refusal) e in let z : ◌≡◌ {A = ℕ} 0 1 = cc in absurd (omega arith)
+  tried-refused (refused n) why e f = let g : ◌≡◌ {A = Option ℕ} (some (number_of why)) (some n) = sym (ap (λ (c : Checked). refusalOf c) f)
+      ∙ ap (λ (a : Answer). a.refusal) e in let z : number_of why ≡ n = cc in ap refused (sym z)
 
 module _ {pool table : List ℕ} {q : Product} (kind name : ℕ) (e : Exp) (at : ℕ) (w : Well pool table q) where
   pub times-stays : {s : Stand} {r : Refusal} {c : ℕ} → s ≡ stand.Refused r c → Timed pool table q kind name e at s s q
   times-stays {s} h = record { well = w; refused = λ r c p. p; going = λ k n p. p; effect = λ dst. unmoved h }
 
-  module _ (f : Product) (t : Tried) {k n : ℕ} {s : Stand} (going : s ≡ stand.Going k n) (held : AtomHeld table kind name) (good : goodExp e ≡ true) (is : given f ≡ productValue (put (atomBy kind name) e []))
+  module _ (f : Product) (t : Tried) {k n : ℕ} {s : Stand} (going : s ≡ stand.Going k n) (held : AtomHeld table kind name) (good : goodExp e ≡ true)
+      (is : given f ≡ productValue (put (atomBy kind name) e []))
       (tried : told t ≡ answer (multiply (numbersOf (table_of pool table)) bounded (productOf q) (productOf f))) where
-    same-product : multiply (numbersOf (table_of pool table)) bounded (productOf q) (productOf f) ≡ multiply (numbersOf (table_of pool table)) bounded (productOf q) (put (atomBy kind name) e [])
+    same-product : multiply (numbersOf (table_of pool table)) bounded (productOf q) (productOf f) ≡ multiply (numbersOf (table_of pool table)) bounded
+        (productOf q) (put (atomBy kind name) e [])
     same-product = ap (multiply (numbersOf (table_of pool table)) bounded (productOf q)) (sym (single-well pool table held e good f is).1)
 
     pub times-refused : {why : Refusal} → t.checked ≡ checked.Refused why → Timed pool table q kind name e at s (stand.Refused why at) q
@@ -134,7 +142,8 @@ module _ {pool table : List ℕ} {q : Product} (kind name : ℕ) (e : Exp) (at :
     times-done c =
         let g = tried-got t _ tried c in
         let m = sym same-product ∙ g.1.0 in
-        let fine = (multiply_good (numbersOf (table_of pool table)) (law pool table) (is_held (table_of pool table)) 4_294_967_296 (productOf q) (put (atomBy kind name) e [])
+        let fine = (multiply_good (numbersOf (table_of pool table)) (law pool table) (is_held (table_of pool table)) 4_294_967_296 (productOf q)
+        (put (atomBy kind name) e [])
         (well-good pool table q w) (single-good pool table held e good)).holds g.0 m in
         let taken = made pool table t.product g.0 g.1.1 fine in
         record {

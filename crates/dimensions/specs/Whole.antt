@@ -19,7 +19,8 @@ use Rattle.products.specs.declared.Product.{Product}
 use Rattle.reading.specs.Points.{Reads, Any, marked, columnAt, in-turn, given, Point}
 use Rattle.reading.specs.Factors.{factorsThere}
 use Rattle.terms.specs.Stands.{place_of, countOf, same-refused, Stand}
-use Rattle.terms.specs.Effects.{Lent, lent, sofar, counted-going, counted-refused, Ready, Kept, kept_then, kept-last, kept-written, kept-count, ready-kept, Effect, Did, Writes, maps, Halted, halted-on, halted-counted, NotBad, not-bad, Done}
+use Rattle.terms.specs.Effects.{Lent, lent, sofar, counted-going, counted-refused, Ready, Kept, kept_then, kept-last, kept-written, kept-count}
+use Rattle.terms.specs.Effects.{ready-kept, Effect, Did, Writes, maps, Halted, halted-on, halted-counted, NotBad, not-bad, Done}
 use Rattle.terms.specs.Inside.{inside-column, inside-spelled}
 use Rattle.terms.specs.Stands as stand
 use Rattle.dimensions.specs.Times.{ProductIs}
@@ -41,7 +42,8 @@ product-long q (Err stop) s d = refl
 no-stand : {s : Stand} {k n c : ℕ} {r : Refusal} → s ≡ stand.Refused r c → s ≡ stand.Going k n → ⊥
 no-stand e f = let z : ◌≡◌ {A = ℕ} 0 1 = cc in omega arith
 
-told_same : {s : Stand} {r r' : Refusal} {d d' : ℕ} → s ≡ stand.Refused r' d' → s ≡ stand.Refused r d → ◌≡◌ {A = Told Tree} (refusedAt (number_of r') (suc d')) (refusedAt (number_of r) (suc d))
+told_same : {s : Stand} {r r' : Refusal} {d d' : ℕ} → s ≡ stand.Refused r' d' → s ≡ stand.Refused r d
+    → ◌≡◌ {A = Told Tree} (refusedAt (number_of r') (suc d')) (refusedAt (number_of r) (suc d))
 told_same {s} {r} {r'} {d} {d'} e f = let w = same-refused e f in rw (w.0, w.1)
 
 -- the column of a sign where the sheet goes on
@@ -78,7 +80,8 @@ module _ (q : Product) {pool table pool' table' dst dst' : List ℕ} (s s₁ s�
   abbrev end : Lent
   end = lent pool' table' dst' s₃
 
-  done_all : (i n j l g h i' n' : ℕ) → s ≡ stand.Going i n → s₁ ≡ stand.Going j l → s₂ ≡ stand.Going g h → s₃ ≡ stand.Going i' n' → Did (TextReading.productOf c fs e) (Writes writeProduct) old end i n i' n'
+  done_all : (i n j l g h i' n' : ℕ) → s ≡ stand.Going i n → s₁ ≡ stand.Going j l → s₂ ≡ stand.Going g h → s₃ ≡ stand.Going i' n'
+      → Did (TextReading.productOf c fs e) (Writes writeProduct) old end i n i' n'
   unfolding TextReading.productOf
   done_all i n j l g h i' n' p p₁ p₂ p₃ =
       let a = counted-going 1 at i n old p j l (sym first ∙ p₁) in
@@ -91,14 +94,16 @@ module _ (q : Product) {pool table pool' table' dst dst' : List ℕ} (s s₁ s�
       record {
         value = b.value;
         records = writeProduct b.value;
-        is = ap (λ (k : ℕ). onward (counted 1 k (sofar old i n)) (λ u. inside fs e)) (begins i n p) ∙ ap (λ (m : Told (Unit {0})). onward m (λ u. inside fs e)) a.is
+        is = ap (λ (k : ℕ). onward (counted 1 k (sofar old i n)) (λ u. inside fs e)) (begins i n p)
+            ∙ ap (λ (m : Told (Unit {0})). onward m (λ u. inside fs e)) a.is
             ∙ ap (λ (m : Told Tree). onward m (closing e)) b.is ∙ ap (λ (m : Told (Unit {0})). onward m (λ u. TextReading.give b.value)) y;
         tells = refl;
         written = put ∙ rw (p, p₃) (ap (λ (v : Tree). sets dst (n * 4) (words (writeProduct v))) (sym t));
         grown = omega (arith, a.records, b.grown, zero, z.records, size, written-length b.value);
       }
 
-  stop-first : (i n d : ℕ) (r : Refusal) → s ≡ stand.Going i n → s₁ ≡ stand.Refused r d → TextReading.productOf c fs e (sofar old i n) ≡ refusedAt (number_of r) (suc d)
+  stop-first : (i n d : ℕ) (r : Refusal) → s ≡ stand.Going i n → s₁ ≡ stand.Refused r d
+      → TextReading.productOf c fs e (sofar old i n) ≡ refusedAt (number_of r) (suc d)
   unfolding TextReading.productOf
   stop-first i n d r p p₁ =
       ap (λ (k : ℕ). onward (counted 1 k (sofar old i n)) (λ u. inside fs e)) (begins i n p)
@@ -114,11 +119,13 @@ module _ (q : Product) {pool table pool' table' dst dst' : List ℕ} (s s₁ s�
     stop-inside : (d : ℕ) (r : Refusal) → s₂ ≡ stand.Refused r d → TextReading.productOf c fs e (sofar old i n) ≡ refusedAt (number_of r) (suc d)
     stop-inside d r p₂ = begun ∙ ap (λ (m : Told Tree). onward m (closing e)) (f.refuses j l d r p₁ p₂)
 
-    stop-last : (g h d : ℕ) (r : Refusal) → s₂ ≡ stand.Going g h → s₃ ≡ stand.Refused r d → TextReading.productOf c fs e (sofar old i n) ≡ refusedAt (number_of r) (suc d)
+    stop-last : (g h d : ℕ) (r : Refusal) → s₂ ≡ stand.Going g h → s₃ ≡ stand.Refused r d
+        → TextReading.productOf c fs e (sofar old i n) ≡ refusedAt (number_of r) (suc d)
     stop-last g h d r p₂ p₃ =
         let b = f.does j l g h p₁ p₂ in
         let t = b.tells.is in
-        let y : counted (length b.value) e (sofar new g h) ≡ refusedAt (number_of r) (suc d) = rw (t, ends g h p₂) (counted-refused (length (productOf q)) at₂ g h new p₂ d r (sym last ∙ p₃)) in
+        let y : counted (length b.value) e (sofar new g h) ≡ refusedAt (number_of r) (suc d) = rw (t, ends g h p₂)
+        (counted-refused (length (productOf q)) at₂ g h new p₂ d r (sym last ∙ p₃)) in
         begun ∙ ap (λ (m : Told Tree). onward m (closing e)) b.is ∙ ap (λ (m : Told (Unit {0})). onward m (λ u. TextReading.give b.value)) y
 
   product-effect : Effect (TextReading.productOf c fs e) (Writes writeProduct) old end
@@ -127,14 +134,17 @@ module _ (q : Product) {pool table pool' table' dst dst' : List ℕ} (s s₁ s�
     refuses = λ i n d r p p₃. refuses i n d r p p₃ s₁ refl s₂ refl;
   }
     where
-      does : (i n i' n' : ℕ) → s ≡ stand.Going i n → s₃ ≡ stand.Going i' n' → (u : Stand) → s₁ ≡ u → (v : Stand) → s₂ ≡ v → Did (TextReading.productOf c fs e) (Writes writeProduct) old end i n i' n'
+      does : (i n i' n' : ℕ) → s ≡ stand.Going i n → s₃ ≡ stand.Going i' n' → (u : Stand) → s₁ ≡ u → (v : Stand) → s₂ ≡ v
+          → Did (TextReading.productOf c fs e) (Writes writeProduct) old end i n i' n'
       does i n i' n' p p₃ (Err stop) p₁ v p₂ = absurd (no-stand (stays-refused stop.why stop.at p₁) p₃)
       does i n i' n' p p₃ (Ok tally) p₁ (Err stop) p₂ = absurd (no-stand (last ∙ ap (countOf (length (productOf q)) at₂) p₂) p₃)
       does i n i' n' p p₃ (Ok tally) p₁ (Ok tally') p₂ = done_all i n tally.names tally.records tally'.names tally'.records i' n' p p₁ p₂ p₃
 
-      refuses : (i n d : ℕ) (r : Refusal) → s ≡ stand.Going i n → s₃ ≡ stand.Refused r d → (u : Stand) → s₁ ≡ u → (v : Stand) → s₂ ≡ v → TextReading.productOf c fs e (sofar old i n) ≡ refusedAt (number_of r) (suc d)
+      refuses : (i n d : ℕ) (r : Refusal) → s ≡ stand.Going i n → s₃ ≡ stand.Refused r d → (u : Stand) → s₁ ≡ u → (v : Stand) → s₂ ≡ v
+          → TextReading.productOf c fs e (sofar old i n) ≡ refusedAt (number_of r) (suc d)
       refuses i n d r p p₃ (Err stop) p₁ v p₂ = stop-first i n stop.at stop.why p p₁ ∙ told_same (stays-refused stop.why stop.at p₁) p₃
-      refuses i n d r p p₃ (Ok tally) p₁ (Err stop) p₂ = stop-inside i n tally.names tally.records p p₁ stop.at stop.why p₂ ∙ told_same (last ∙ ap (countOf (length (productOf q)) at₂) p₂) p₃
+      refuses i n d r p p₃ (Ok tally) p₁ (Err stop) p₂ = stop-inside i n tally.names tally.records p p₁ stop.at stop.why p₂
+          ∙ told_same (last ∙ ap (countOf (length (productOf q)) at₂) p₂) p₃
       refuses i n d r p p₃ (Ok tally) p₁ (Ok tally') p₂ = stop-last i n tally.names tally.records p p₁ tally'.names tally'.records d r p₂ p₃
 
 -- ══ A dimension, read and written ══
@@ -171,9 +181,11 @@ dim-done d = record {
 }
 
 module _ {line : Bytes} {p a b r : Point} {pool table pool' table' dst dst' : List ℕ} {s s₁ s₂ s₃ : Stand} {at at₂ long : ℕ} (q : Product) (c e : Point) where
-  pub dimension-done : Ready line p pool table s → Reads line p column (λ (k : ℕ). k ≡ columnAt c) c → at ≡ place_of c → s₁ ≡ countOf 1 at s → Reads line c (marked 91) Any a
+  pub dimension-done : Ready line p pool table s → Reads line p column (λ (k : ℕ). k ≡ columnAt c) c → at ≡ place_of c → s₁ ≡ countOf 1 at s
+      → Reads line c (marked 91) Any a
       → Done line factorsThere fromNone (ProductIs q) a (lent pool table dst s₁) b (lent pool' table' dst s₂)
-      → Reads line b column (λ (k : ℕ). k ≡ columnAt e) e → at₂ ≡ place_of e → length (productOf q) ≡ long → s₃ ≡ countOf long at₂ s₂ → dst' ≡ productPut q s s₃ dst → Reads line e (marked 93) Any r
+      → Reads line b column (λ (k : ℕ). k ≡ columnAt e) e → at₂ ≡ place_of e → length (productOf q) ≡ long → s₃ ≡ countOf long at₂ s₂
+      → dst' ≡ productPut q s s₃ dst → Reads line e (marked 93) Any r
       → DimDone line p (lent pool table dst s) r (lent pool' table' dst' s₃)
   unfolding dimension
   dimension-done ready x₁ h₁ f₁ x₂ d x₃ h₂ n f₂ g x₄ =
@@ -197,8 +209,10 @@ module _ {line : Bytes} {p a b r : Point} {pool table pool' table' dst dst' : Li
               factors = fs;
               end = l;
               is = refl;
-              effect = product-effect q s s₁ s₂ s₃ at at₂ k l fs f₁ counts (λ i m y. sign-place c hk nc begin i m y ∙ ap suc (sym h₁)) (λ i m y. sign-place e hl ne close i m y ∙ ap suc (sym h₂)) d.kept (hf nf) g;
+              effect = product-effect q s s₁ s₂ s₃ at at₂ k l fs f₁ counts (λ i m y. sign-place c hk nc begin i m y ∙ ap suc (sym h₁))
+                  (λ i m y. sign-place e hl ne close i m y ∙ ap suc (sym h₂)) d.kept (hf nf) g;
             }))))));
-        kept = kept-written (kept_then before (kept-count _ at₂ (ready-kept before d.reads.within d.halted) counts dst)) (ap length g ∙ product-long q s s₃ dst);
+        kept = kept-written (kept_then before (kept-count _ at₂ (ready-kept before d.reads.within d.halted) counts dst))
+            (ap length g ∙ product-long q s s₃ dst);
         halted = halted-on (inside-spelled _) x₄ (λ k m y z. halted-counted (length (productOf q)) at₂ close k m y (sym counts ∙ z));
       }

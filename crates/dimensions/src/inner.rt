@@ -67,7 +67,8 @@ fn kind_for(b: u8) -> u32
 /// A mark and its name, which is entered.
 fn enter_atom(line: &[u8], p: Point, s: Stand, pool: &mut [u8], table: &mut [u32]) -> Atomic
     requires { Ready line.now p pool.old table.old s }
-    ensures { (dst : List ℕ) → Done line.now atom atomNamed (AtomTold table.new result.kind result.number) p (lent pool.old table.old dst s) result.at (lent pool.new table.new dst result.stand) }
+    ensures { (dst : List ℕ) → Done line.now atom atomNamed (AtomTold table.new result.kind result.number) p (lent pool.old table.old dst s)
+        result.at (lent pool.new table.new dst result.stand) }
 {
     let c = next_sign(line, p);
     let b = byte_at(line, c);
@@ -113,7 +114,8 @@ fn exp_in(v: Power) -> Exponent
 /// The power of a factor, if it has one: no name is entered, whatever pool and table hold.
 fn enter_power(line: &[u8], p: Point, s: Stand) -> Powered
     requires { PointIn line.now p }
-    ensures { (goodExp (expOf result.exp) ≡ true) × ((pool table dst : List ℕ) → Ready line.now p pool table s → Done line.now powerThere powered (ExpTold result.exp) p (lent pool table dst s) result.at (lent pool table dst result.stand)) }
+    ensures { (goodExp (expOf result.exp) ≡ true) × ((pool table dst : List ℕ) → Ready line.now p pool table s
+        → Done line.now powerThere powered (ExpTold result.exp) p (lent pool table dst s) result.at (lent pool table dst result.stand)) }
 {
     if next_is(line, p, b'^') {
         let c = next_sign(line, p);
@@ -157,7 +159,7 @@ fn times(
 ) -> Multiplied
     requires good { Good pool.now table.now }
     requires well { Well pool.now table.now q }
-    requires exp_value { goodExp (expOf exp) ≡ true }
+    requires good_exp { goodExp (expOf exp) ≡ true }
     requires held_if { HeldIf table.now kind name s }
     ensures { Timed pool.now table.now q kind name (expOf exp) at s result.stand result.product }
 {

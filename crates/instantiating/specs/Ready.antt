@@ -1,5 +1,5 @@
 -- What instantiating is given, and what it makes.
-use Rattle.std.specs.Prelude.{◌≡◌, refl, true, List, ◌++◌, map, ℕ, ◌+◌, ◌*◌, ◌≤◌, ◌<◌, eqb, length, get_or, replicate}
+use Rattle.std.specs.Prelude.{◌≡◌, refl, true, List, ◌++◌, map, ℕ, ◌+◌, ◌*◌, ◌≤◌, ◌<◌, eqb, length, get_or, replicate, Ok, Err}
 use Rattle.std.proofs.Common.{sym, ap, subst, ◌∙◌, arith, eq-eqb, ne_eqb, length-append}
 use Rattle.std.proofs.lemmas.List.{length-map}
 use Rattle.std.proofs.lemmas.List.Edits.{sets}
@@ -22,12 +22,10 @@ use Rattle.records.specs.Holds.{Shows}
 use Rattle.records.specs.Views.{viewAt, from}
 use Rattle.records.specs.declared.View.{View}
 use Rattle.records.specs.declared.View.TheVariants as view
-use Rattle.replacing.specs.Left.{Left}
+use Rattle.replacing.specs.Left.{went-same, Left, Went}
 use Rattle.replacing.specs.LineLaws.{type-left}
 use Rattle.replacing.specs.Well.{names as numbers, GoodTy, HeldType, Lent}
 use Rattle.replacing.specs.Written.{ty-fits}
-use Rattle.replacing.specs.declared.inner.walk.Went.{Went}
-use Rattle.replacing.specs.declared.inner.walk.Went.TheVariants.{To, Stop}
 use Rattle.lending.specs.Told.{Made}
 use Rattle.lending.specs.declared.Answer.{Answer}
 use Rattle.lending.specs.declared.Answer.TheVariants.{Records, Refused}
@@ -106,26 +104,26 @@ module _ (d d' : List ℕ) (nx : ℕ) (R : Got (Ty ℕ)) where
     pub many : out ≡ size value
     pub buffer : size value ≤ 65_535 → d' ≡ sets d (0 * 4) (words (writeTy value))
 
-  pub came : {x : Went} {at out : ℕ} → x ≡ To at out → Left size writeTy d d' nx 0 x R → Came at out
+  pub came : {x : Went} {at out : ℕ} → x ≡ Ok (at, out) → Left size writeTy d d' nx 0 x R → Came at out
   came {x} {at} {out} i left = go R refl (subst (λ (y : Went). Left size writeTy d d' nx 0 y R) i left)
     where
-      go : (Q : Got (Ty ℕ)) → R ≡ Q → Left size writeTy d d' nx 0 (To at out) R → Came at out
+      go : (Q : Got (Ty ℕ)) → R ≡ Q → Left size writeTy d d' nx 0 (Ok (at, out)) R → Came at out
       go (got u) e l =
-          let s = (subst (λ (Q : Got (Ty ℕ)). Left size writeTy d d' nx 0 (To at out) Q) e l).says in
-          let m : out ≡ 0 + size u = let p = s.0 in cc in
-          let k : at ≡ nx = let p = s.0 in cc in
+          let s = (subst (λ (Q : Got (Ty ℕ)). Left size writeTy d d' nx 0 (Ok (at, out)) Q) e l).says in
+          let m : out ≡ 0 + size u = (went-same s.0).1 in
+          let k : at ≡ nx = (went-same s.0).0 in
           record { value = u; is = e; next = k; many = omega (arith, m); buffer = type-left R l u e }
-      go (refused k) e l = absurd (subst (λ (Q : Got (Ty ℕ)). Left size writeTy d d' nx 0 (To at out) Q) e l).says
+      go (refused k) e l = absurd (subst (λ (Q : Got (Ty ℕ)). Left size writeTy d d' nx 0 (Ok (at, out)) Q) e l).says
 
-  pub stopped : {x : Went} {k : Refusal} → x ≡ Stop k → Left size writeTy d d' nx 0 x R → R ≡ refused (number_of k)
+  pub stopped : {x : Went} {k : Refusal} → x ≡ Err k → Left size writeTy d d' nx 0 x R → R ≡ refused (number_of k)
   stopped {x} {k} i left = go R refl (subst (λ (y : Went). Left size writeTy d d' nx 0 y R) i left)
     where
-      go : (Q : Got (Ty ℕ)) → R ≡ Q → Left size writeTy d d' nx 0 (Stop k) R → R ≡ refused (number_of k)
+      go : (Q : Got (Ty ℕ)) → R ≡ Q → Left size writeTy d d' nx 0 (Err k) R → R ≡ refused (number_of k)
       go (got u) e l = absurd (
-          let s = (subst (λ (Q : Got (Ty ℕ)). Left size writeTy d d' nx 0 (Stop k) Q) e l).says in
+          let s = (subst (λ (Q : Got (Ty ℕ)). Left size writeTy d d' nx 0 (Err k) Q) e l).says in
           let p = s.0 in let z : ◌≡◌ {A = ℕ} 0 1 = cc in omega arith)
       go (refused j) e l =
-          let s : number_of k ≡ j = (subst (λ (Q : Got (Ty ℕ)). Left size writeTy d d' nx 0 (Stop k) Q) e l).says in
+          let s : number_of k ≡ j = (subst (λ (Q : Got (Ty ℕ)). Left size writeTy d d' nx 0 (Err k) Q) e l).says in
           e ∙ ap refused (sym s)
 
 -- ══ The answers ══

@@ -1,5 +1,5 @@
 -- The type of a variable once the set was solved and judged, and what each answer of the code makes of it.
-use Rattle.std.specs.Prelude.{◌≡◌, refl, Bool, List, [], ◌∷◌, ◌++◌, map, ℕ, ◌+◌, ◌*◌, ◌-◌, ◌≤◌, length, take, drop, Result, Ok, Err}
+use Rattle.std.specs.Prelude.{◌≡◌, refl, Bool, List, [], ◌∷◌, ◌++◌, map, ℕ, ◌+◌, ◌*◌, ◌-◌, ◌≤◌, length, take, drop, Result, Ok, Err, None, Some}
 use Rattle.std.proofs.Math.Path.{sym, ap}
 use Rattle.std.proofs.Common.{subst, ◌∙◌, arith, take_at}
 use Rattle.std.proofs.Math.Bool.{true, false}
@@ -25,9 +25,7 @@ use Rattle.records.specs.declared.Open.TheVariants as opens
 use Rattle.records.specs.declared.View.TheVariants as view
 use Rattle.queries.specs.Marks.{Marks}
 use Rattle.replacing.specs.Places.{Tabled}
-use Rattle.replacing.specs.Runs.{LookedUp, found, not_found, looked-good}
-use Rattle.replacing.specs.declared.inner.bound.Found.{Found}
-use Rattle.replacing.specs.declared.inner.bound.Found.TheVariants.{At, Nothing}
+use Rattle.replacing.specs.Runs.{LookedUp, found, not_found, looked-good, Found}
 use Rattle.replacing.specs.Well.{Lent}
 use Rattle.trials.specs.Trials.{Put}
 use Rattle.lending.specs.Told.{Front, Made}
@@ -47,13 +45,13 @@ pub record Typed (look : Look ℕ) (v : ℕ) (d d' : List ℕ) (n : ℕ) : Type 
 
 module _ (places w : List ℕ) (look : Look ℕ) (v : ℕ) (tabled : Tabled places w look) where
   -- what the copy asks
-  pub place-known : {r : Found} {b e : ℕ} → LookedUp w (look (var v)) r → r ≡ At b e → (b ≤ e) × (e * 4 ≤ length w) × (e - b ≤ 2048)
+  pub place-known : {r : Found} {b e : ℕ} → LookedUp w (look (var v)) r → r ≡ Some (b, e) → (b ≤ e) × (e * 4 ≤ length w) × (e - b ≤ 2048)
   place-known {r} {b} {e} h i =
       let f = found (look (var v)) h i in
       (omega (arith, f.ends), omega (arith, f.ends, ends-in w f.type b f.held), omega (arith, f.ends, tabled.few (var v) f.type f.is))
 
   module _ (d d' : List ℕ) where
-    pub typed-bound : {r : Found} {b e : ℕ} → LookedUp w (look (var v)) r → r ≡ At b e → d' ≡ sets d 0 (slice (b * 4) (e * 4) w) → Typed look v d d' (e - b)
+    pub typed-bound : {r : Found} {b e : ℕ} → LookedUp w (look (var v)) r → r ≡ Some (b, e) → d' ≡ sets d 0 (slice (b * 4) (e * 4) w) → Typed look v d d' (e - b)
     typed-bound {r} {b} {e} h i q =
         let f = found (look (var v)) h i in
         let t = f.type in
@@ -65,7 +63,7 @@ module _ (places w : List ℕ) (look : Look ℕ) (v : ℕ) (tabled : Tabled plac
           buffer = q ∙ ap (λ (k : ℕ). sets d 0 (slice (b * 4) (k * 4) w)) f.ends ∙ ap (sets d 0) (held-words w t b f.held);
         }
 
-    pub typed_free : {r : Found} → LookedUp w (look (var v)) r → r ≡ Nothing → d' ≡ sets d 0 (words (recOf (view.Opened (opens.Var v)) 1 ∷ [])) → Typed look v d d' 1
+    pub typed_free : {r : Found} → LookedUp w (look (var v)) r → r ≡ None → d' ≡ sets d 0 (words (recOf (view.Opened (opens.Var v)) 1 ∷ [])) → Typed look v d d' 1
     unfolding writeTy size
     typed_free {r} h i q = record {
       type = opened (var v);

@@ -22,7 +22,7 @@ use proposals::inner::bounds::mark_all;
 use queries::inner::is_unmixed;
 use records::inner::{copy, put_one};
 use records::{Open, View};
-use replacing::inner::bound::{Found, look_up};
+use replacing::inner::bound::look_up;
 use rules::{NAMES, RECORD_WORDS, Refusal};
 use solving::Outcome;
 use solving::inner::run_alone;
@@ -34,11 +34,11 @@ fn put_type(places: &[u32], found: &[u32], v: u32, dst: &mut [u32]) -> usize
     ensures { (look : Look ℕ) → Tabled places.now found.now look → Typed look v dst.old dst.new result }
 {
     match look_up(places, found, Open::Var(v)) {
-        Found::At(b, e) => {
+        Some((b, e)) => {
             copy(found, b, e, dst, 0);
             e - b
         }
-        Found::Nothing => {
+        None => {
             put_one(dst, 0, View::Opened(Open::Var(v)));
             1
         }

@@ -27,7 +27,7 @@ use rules::{NESTED, RECORD_WORDS, RECORDS, Refusal};
 // A line has at most 128 steps.
 const STEP_WORDS: usize = 512;
 
-// Is everything that is lent long enough, and is there a name for each step?
+/// Is everything that is lent long enough, and is there a name for each step?
 pub fn room(
     pool: &[u8],
     table: &[u32],
@@ -124,16 +124,17 @@ fn raise_here(num: u32, den: u32) -> bool
 fn two_zeros(b: u32, c: u32) -> bool
     ensures { need result 1 ≡ zeros (b ∷ c ∷ []) }
 {
-    if b == 0 { c == 0 } else { false }
+    b == 0 && c == 0
 }
 
+// The same of three words.
 fn three_zeros(a: u32, b: u32, c: u32) -> bool
     ensures { need result 1 ≡ zeros (a ∷ b ∷ c ∷ []) }
 {
-    if a == 0 { two_zeros(b, c) } else { false }
+    a == 0 && two_zeros(b, c)
 }
 
-// The step with these words, by its kind.
+// The constant with these words.
 fn constant_step(pool: &[u8], table: &[u32], types: &[u32], a: u32, b: u32, c: u32) -> Checked
     requires { Good pool.now table.now }
     ensures { (lines : List ℕ) → toldChecked result ≡ isGiven (step_of (table_of pool.now table.now) (recs types.now) lines isConstant a b c) }
@@ -145,6 +146,7 @@ fn constant_step(pool: &[u8], table: &[u32], types: &[u32], a: u32, b: u32, c: u
     }
 }
 
+// The reference with these words.
 fn reference_step(
     pool: &[u8],
     table: &[u32],
@@ -164,6 +166,7 @@ fn reference_step(
     }
 }
 
+// The power with these words.
 fn raise_step(a: u32, b: u32, c: u32) -> Checked
     ensures { (t : Table) (rs : List Rec) (lines : List ℕ) → toldChecked result ≡ isGiven (step_of t rs lines isRaise a b c) }
 {
@@ -202,9 +205,7 @@ fn steps_good(pool: &[u8], table: &[u32], types: &[u32], lines: &[u32], steps: &
     requires { Good pool.now table.now }
     ensures { toldChecked result ≡ isGiven (each (stepGiven (table_of pool.now table.now) (recs types.now) lines.now) (stepsFrom steps.now 0)) }
 {
-    let n = steps.len() / 4;
-    let mut i = 0;
-    while i < n {
+    for i in 0..steps.len() / 4 {
         let j = i * 4;
         let one = step_here(
             pool,
@@ -219,12 +220,11 @@ fn steps_good(pool: &[u8], table: &[u32], types: &[u32], lines: &[u32], steps: &
         let Checked::Good = one else {
             return one;
         };
-        i += 1;
     }
     Checked::Good
 }
 
-// How many operands a step takes.
+/// How many operands a step takes.
 pub fn operands_of(k: u32) -> usize
     ensures { result ≡ operandsOf k }
 {
@@ -241,19 +241,17 @@ fn is_whole(steps: &[u32]) -> bool
     ensures { result ≡ wholeFrom 0 (stepsFrom steps.now 0) }
 {
     let mut n: usize = 0;
-    let mut i = 0;
-    while i < steps.len() / 4 {
+    for i in 0..steps.len() / 4 {
         let taken = operands_of(steps[i * 4]);
         if n < taken {
             return false;
         }
         n = n - taken + 1;
-        i += 1;
     }
     n == 1
 }
 
-// Is the line well formed (1)?
+/// Is the line well formed (1)?
 pub fn line_good(pool: &[u8], table: &[u32], steps: &[u32], types: &[u32], lines: &[u32]) -> Checked
     requires { Good pool.now table.now }
     ensures { toldChecked result ≡ isGiven (lineGiven (table_of pool.now table.now) steps.now types.now lines.now) }
@@ -284,7 +282,7 @@ fn names_good(table: &[u32], steps: &[u32], types: &[u32], lines: &[u32], names:
     Checked::Good
 }
 
-// All checks past 10, in their order: 8, 1, 4, 3.
+/// All checks past 10, in their order: 8, 1, 4, 3.
 pub fn enter_line(
     pool: &[u8],
     table: &[u32],

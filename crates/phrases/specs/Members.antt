@@ -24,7 +24,8 @@ use Rattle.records.specs.declared.inner.Before.TheVariants as before
 use Rattle.reading.specs.Points.{Reads, Any, from, standing, marked, columnAt, in-turn, Point}
 use Rattle.reading.specs.Types.{typesThere, fieldsThere, fieldRule, field-read, structure-read}
 use Rattle.terms.specs.Stands.{place_of, countOf, headPut, same-going, same-refused, Stand}
-use Rattle.terms.specs.Effects.{Lent, lent, sofar, Halted, Ready, Kept, Effect, Writes, Done, NotBad, not-bad, then, gives, maps, alike, tells-less, grouped, kept_same, kept-last, kept_then, kept-counted, countedIn, halted-on, at_sign}
+use Rattle.terms.specs.Effects.{Lent, lent, sofar, Halted, Ready, Kept, Effect, Writes, Done, NotBad, not-bad, then, gives, maps, alike, tells-less}
+use Rattle.terms.specs.Effects.{grouped, kept_same, kept-last, kept_then, kept-counted, countedIn, halted-on, at_sign}
 use Rattle.terms.specs.Naming.{NumberTold}
 use Rattle.terms.specs.Inside.{inside-column}
 use Rattle.terms.specs.Stands as stand
@@ -108,7 +109,8 @@ tested {x} f at false e = record {
 
 pub rises-effect : {x : Lent} (b : Before) (v : ℕ) (ok : Bool) (at : ℕ) → Risen x.pool x.table b v ok → v < get_or x.table 0 0
     → Effect (rises (nameBefore b) v (suc at)) Nothing x (lent x.pool x.table x.dst (keptIf ok Malformed at x.stand))
-rises-effect {x} before.Start v ok at e h = subst (λ (t : Bool). Effect (give tt) Nothing x (lent x.pool x.table x.dst (keptIf t Malformed at x.stand))) (sym (e h)) (gives tt refl)
+rises-effect {x} before.Start v ok at e h = subst (λ (t : Bool). Effect (give tt) Nothing x (lent x.pool x.table x.dst (keptIf t Malformed at x.stand)))
+    (sym (e h)) (gives tt refl)
 rises-effect {x} (before.Name y) v ok at e h = tested (λ s. is_lt ((namesSofar s).order y v)) at ok (λ k n. e h)
 
 -- ══ A field ══
@@ -145,7 +147,8 @@ name-column : {P : NameAt → Type 0} {line : Bytes} {q r : Point} → Reads lin
 unfolding name
 name-column {P} {line} {q} {r} x = record { within = x.within; onward = x.onward; value = x.value; is = x.is; holds = (x.holds, go q r x.is) }
   where
-    read_is : (m : Parsed Bytes) (c : ℕ) (v : NameAt) (p : Grammar.Place) → pass m (λ n. Grammar.give (record { column = c; bytes = n })) ≡ read v p → v.column ≡ c
+    read_is : (m : Parsed Bytes) (c : ℕ) (v : NameAt) (p : Grammar.Place) → pass m (λ n. Grammar.give (record { column = c; bytes = n })) ≡ read v p
+        → v.column ≡ c
     read_is (read n o) c v p e = let z : record { column = c; bytes = n } ≡ v = cc in sym (ap (λ (i : NameAt). i.column) z)
     read_is (bad k) c v p e = let z : ◌≡◌ {A = ℕ} 0 1 = cc in absurd (omega arith)
 
@@ -171,16 +174,19 @@ tested_in ok at x = lent x.pool x.table x.dst (keptIf ok Malformed at x.stand)
 module _ {y z : Lent} (b : Before) (q : Point) (i : NameAt) (t : TyAt) {v : ℕ} {ok : Bool} where
   -- a field whose name was entered, up to the record that is written when its type is there
   named-field : i.column ≡ columnAt q → NotBad q → Halted q y.stand → Kept y y → Risen y.pool y.table b v ok → v < get_or y.table 0 0
-      → Kept (countedIn 1 (place_of q) (tested_in ok (place_of q) y)) z → Effect (ty_of t) (Writes writeTy) (countedIn 1 (place_of q) (tested_in ok (place_of q) y)) z
+      → Kept (countedIn 1 (place_of q) (tested_in ok (place_of q) y)) z
+      → Effect (ty_of t) (Writes writeTy) (countedIn 1 (place_of q) (tested_in ok (place_of q) y)) z
       → (d : List ℕ) → d ≡ headPut (view.Field v) (keptIf ok Malformed (place_of q) y.stand) z.stand z.dst
       → Effect (risenTy (nameBefore b) i.column v t) (λ xu rs. (xu.0 ≡ v) × (rs ≡ fieldRecs xu)) y (lent z.pool z.table d z.stand)
   named-field e n h k ris hv kz f d g =
       let kp = kept_if {x = y} ok Malformed (place_of q) k in
       let kc = kept-counted {x = tested_in ok (place_of q) y} 1 (place_of q) kp.good kp.room in
       let one : Effect (rises (nameBefore b) v i.column) Nothing y (tested_in ok (place_of q) y) =
-      at_sign q e n h (λ c. subst (λ (j : ℕ). Effect (rises (nameBefore b) v j) Nothing y (tested_in ok (place_of q) y)) (sym c) (rises-effect b v ok (place_of q) ris hv)) in
+      at_sign q e n h (λ c. subst (λ (j : ℕ). Effect (rises (nameBefore b) v j) Nothing y (tested_in ok (place_of q) y)) (sym c)
+      (rises-effect b v ok (place_of q) ris hv)) in
       then (rises (nameBefore b) v i.column) (λ u. countedTy i.column v t) one (kept-headed (view.Field v) (place_of q) kc kz d g)
-      (λ u rs hu. subst (λ (l : List Rec). Effect (countedTy i.column v t) (λ xu qs. (xu.0 ≡ v) × (l ++ qs ≡ fieldRecs xu)) (tested_in ok (place_of q) y) (lent z.pool z.table d z.stand)) (sym hu)
+      (λ u rs hu. subst (λ (l : List Rec). Effect (countedTy i.column v t) (λ xu qs. (xu.0 ≡ v) × (l ++ qs ≡ fieldRecs xu)) (tested_in ok (place_of q) y)
+      (lent z.pool z.table d z.stand)) (sym hu)
       (head_at (view.Field v) q (typed v t) e n (halted-if ok Malformed (place_of q) y.stand h) kz
       (maps (ty_of t) (λ u. (v, u)) {W = λ xu qs. (xu.0 ≡ v) × (qs ≡ writeTy xu.1)} (kept-last kz) f (λ u qs hs. (refl, hs)))
       (λ xu qs w l. (w.0, ap (λ (a : ℕ). recOf (view.Field a) (suc (length qs)) ∷ qs) (sym w.0) ∙ typed-behind xu.0 xu.1 qs w.1)) d g))
@@ -191,7 +197,8 @@ field_told xu rs qs hb hn e f = record { name = hb ∙ ap (λ (a : ℕ). before.
 module _ (ty : Rule TyAt) (b : Before) {line : Bytes} {x x₁ y : Lent} {p q a c r : Point} {v : ℕ} {ok : Bool} where
   pub field-done : Ready line p x.pool x.table x.stand → Reads line p column (λ (k : ℕ). k ≡ columnAt q) q
       → Done line name named (NumberTold x₁.table v) q x a x₁ → Risen x₁.pool x₁.table b v ok → Reads line a (marked 58) Any c
-      → Done line ty ty_of (Writes writeTy) c (countedIn 1 (place_of q) (tested_in ok (place_of q) x₁)) r y → {b' : Before} → (v < get_or y.table 0 0 → b' ≡ before.Name v)
+      → Done line ty ty_of (Writes writeTy) c (countedIn 1 (place_of q) (tested_in ok (place_of q) x₁)) r y → {b' : Before}
+      → (v < get_or y.table 0 0 → b' ≡ before.Name v)
       → (d : List ℕ) → d ≡ headPut (view.Field v) (keptIf ok Malformed (place_of q) x₁.stand) y.stand y.dst
       → Done line (fieldRule ty) (fieldStep (nameBefore b)) (FieldTold b') p x r (lent y.pool y.table d y.stand)
   field-done h x1 x2 ris x3 x4 {b'} hb d g =
@@ -223,7 +230,8 @@ pub held-later : (table table' : List ℕ) (b : Before) → get_or table 0 0 ≤
 held-later table table' before.Start h k = tt
 held-later table table' (before.Name y) h k = omega arith
 
-pub ready-tested : {line : Bytes} {q : Point} {pool table : List ℕ} {s s₁ : Stand} (ok : Bool) (at : ℕ) → Ready line q pool table s → s₁ ≡ keptIf ok Malformed at s → Ready line q pool table s₁
+pub ready-tested : {line : Bytes} {q : Point} {pool table : List ℕ} {s s₁ : Stand} (ok : Bool) (at : ℕ) → Ready line q pool table s
+    → s₁ ≡ keptIf ok Malformed at s → Ready line q pool table s₁
 ready-tested {line} {q} {pool} {table} {s} {s₁} ok at h e =
     let k = kept_if {x = lent pool table [] s} ok Malformed at (kept_same h.good h.room) in
     subst (Ready line q pool table) (sym e) (record { within = h.within; good = h.good; room = k.room; halted = halted-if ok Malformed at s h.halted })
@@ -271,45 +279,54 @@ field-first y i t fs s = first (named i s)
     third x (told u s) = fourth x (ty_of t s)
     third x (refusedAt n k) = refl
 
-    second : (x : ℕ) (m : Told (Unit {0})) → onward (onward (onward m (λ u. counted 1 i.column)) (λ u. ty_of t)) (λ u. rest_of fs (x, u)) ≡ onward (onward m (λ u. countedTy i.column x t)) (rest_of fs)
+    second : (x : ℕ) (m : Told (Unit {0})) → onward (onward (onward m (λ u. counted 1 i.column)) (λ u. ty_of t)) (λ u. rest_of fs (x, u)) ≡ onward
+        (onward m (λ u. countedTy i.column x t)) (rest_of fs)
     second x (told u s) = third x (counted 1 i.column s)
     second x (refusedAt n k) = refl
 
-    first : (m : Told ℕ) → onward m (λ x s. onward (onward (onward (rises y x i.column s) (λ u. counted 1 i.column)) (λ u. ty_of t)) (λ u. rest_of fs (x, u))) ≡ onward (onward m (λ x. risenTy y i.column x t)) (rest_of fs)
+    first : (m : Told ℕ) → onward m (λ x s. onward (onward (onward (rises y x i.column s) (λ u. counted 1 i.column)) (λ u. ty_of t))
+        (λ u. rest_of fs (x, u))) ≡ onward (onward m (λ x. risenTy y i.column x t)) (rest_of fs)
     first (told x s) = second x (rises y x i.column s)
     first (refusedAt n k) = refl
 
-fields_told : {n m : ℕ} (xu : ℕ × Ty ℕ) (rs qs : List Rec) (gs : Fields ℕ) → rs ≡ fieldRecs xu → FieldsTold (min (n + 1) 4096) m gs qs → FieldsTold n m (field xu.0 xu.1 gs) (rs ++ qs)
+fields_told : {n m : ℕ} (xu : ℕ × Ty ℕ) (rs qs : List Rec) (gs : Fields ℕ) → rs ≡ fieldRecs xu → FieldsTold (min (n + 1) 4096) m gs qs
+    → FieldsTold n m (field xu.0 xu.1 gs) (rs ++ qs)
 unfolding writeTy writeTys writeFields countFields
 fields_told xu rs qs gs e g = record { written = ap₂ ◌++◌ e g.written; counted = omega (arith, g.counted) }
 
-pub fields-more : {n m : ℕ} {b : Before} {x z o : Lent} (y : Option ℕ) (i : NameAt) (t : TyAt) (fs : FieldsAt) → Effect (fieldStep y (i, t)) (FieldTold b) x z → Kept z o
+pub fields-more : {n m : ℕ} {b : Before} {x z o : Lent} (y : Option ℕ) (i : NameAt) (t : TyAt) (fs : FieldsAt) → Effect (fieldStep y (i, t)) (FieldTold b) x z
+    → Kept z o
     → Effect (fields_of fs (nameBefore b)) (FieldsTold (min (n + 1) 4096) m) z o → Effect (fields_of (field_at i t fs) y) (FieldsTold n m) x o
 fields-more {n} {m} {b} {x} {z} {o} y i t fs e k f =
     alike (field-first y i t fs)
     (then (fieldStep y (i, t)) (rest_of fs) e k (λ xu rs h.
     maps (fields_of fs (some xu.0)) (field xu.0 xu.1) (kept-last k)
-    (subst (λ (a : Option ℕ). Effect (fields_of fs a) (FieldsTold (min (n + 1) 4096) m) z o) (ap nameBefore h.name) f) (λ gs qs g. fields_told xu rs qs gs h.written g)))
+    (subst (λ (a : Option ℕ). Effect (fields_of fs a) (FieldsTold (min (n + 1) 4096) m) z o) (ap nameBefore h.name) f)
+    (λ gs qs g. fields_told xu rs qs gs h.written g)))
 
 -- ══ A structure ══
 
-struct-behind : (v n m : ℕ) (us : Tys ℕ) (gs : Fields ℕ) (rs qs : List Rec) → TysTold 0 n us rs → FieldsTold 0 m gs qs → Behind (view.Struct v n m) writeTy (struct v us gs) (rs ++ qs)
+struct-behind : (v n m : ℕ) (us : Tys ℕ) (gs : Fields ℕ) (rs qs : List Rec) → TysTold 0 n us rs → FieldsTold 0 m gs qs
+    → Behind (view.Struct v n m) writeTy (struct v us gs) (rs ++ qs)
 unfolding writeTy writeTys writeFields size sizeTys sizeFields
 struct-behind v n m us gs rs qs t g h =
     let f : count us ≤ length rs = subst (λ (l : List Rec). count us ≤ length l) (sym t.written) (tys_long us) in
     let k : countFields gs ≤ length qs = subst (λ (l : List Rec). countFields gs ≤ length l) (sym g.written) (fields-long gs) in
     let c : n ≡ count us = omega (arith, t.counted, f, length-append rs qs) in
     let d : m ≡ countFields gs = omega (arith, g.counted, k, length-append rs qs) in
-    let l : length (rs ++ qs) ≡ sizeTys us + sizeFields gs = length-append rs qs ∙ ap₂ ◌+◌ (ap length t.written ∙ size-tys us) (ap length g.written ∙ size-fields gs) in
+    let l : length (rs ++ qs) ≡ sizeTys us + sizeFields gs = length-append rs qs
+    ∙ ap₂ ◌+◌ (ap length t.written ∙ size-tys us) (ap length g.written ∙ size-fields gs) in
     ap (λ (i : ℕ). rec (head 8 (suc i)) v n m ∷ (rs ++ qs)) l
     ∙ ap₂ (λ (a b : ℕ). rec (head 8 (suc (sizeTys us + sizeFields gs))) v a b ∷ (rs ++ qs)) c d
     ∙ ap₂ (λ (a b : List Rec). rec (head 8 (suc (sizeTys us + sizeFields gs))) v (count us) (countFields gs) ∷ (a ++ b)) t.written g.written
 
 module _ (ty : Rule TyAt) {line : Bytes} {x x₁ x₂ y : Lent} where
-  pub structure-done : {p q a b c r : Point} {v n m : ℕ} → Ready line p x.pool x.table x.stand → Reads line p column (λ (k : ℕ). k ≡ columnAt q) q → Reads line q (marked 64) Any a
+  pub structure-done : {p q a b c r : Point} {v n m : ℕ} → Ready line p x.pool x.table x.stand → Reads line p column (λ (k : ℕ). k ≡ columnAt q) q
+      → Reads line q (marked 64) Any a
       → Done line name named (NumberTold x₁.table v) a (countedIn 1 (place_of q) x) b x₁ → Done line (typesThere ty) tys_of (TysTold 0 n) b x₁ c x₂
       → Done line (fieldsThere ty) (λ fs. fields_of fs none) (FieldsTold 0 m) c x₂ r y
-      → (d : List ℕ) → d ≡ headPut (view.Struct v n m) x.stand y.stand y.dst → Done line (structure ty) ty_of (Writes writeTy) p x r (lent y.pool y.table d y.stand)
+      → (d : List ℕ) → d ≡ headPut (view.Struct v n m) x.stand y.stand y.dst
+      → Done line (structure ty) ty_of (Writes writeTy) p x r (lent y.pool y.table d y.stand)
   unfolding ty_of tys_of fields_of
   structure-done {p} {q} {a} {b} {c} {r} {v} {n} {m} h x1 x2 x3 x4 x5 d g =
       let k2 = x5.kept in

@@ -15,17 +15,20 @@ use Rattle.reading.specs.Points.{Reads, Any, marked, columnAt, Point}
 use Rattle.reading.specs.Signs.{spelled}
 use Rattle.reading.specs.Types.{paramsThere, listed-read, function-read}
 use Rattle.terms.specs.Stands.{place_of, countOf, headPut, Stand}
-use Rattle.terms.specs.Effects.{Lent, lent, Roomy, Halted, Ready, Kept, Did, Effect, Writes, Done, NotBad, not-bad, then, gives, maps, alike, grouped, kept-last, kept_then, kept-written, kept-counted, countedIn, headed, head-long, halted-on, at_sign}
+use Rattle.terms.specs.Effects.{Lent, lent, Roomy, Halted, Ready, Kept, Did, Effect, Writes, Done, NotBad, not-bad, then, gives, maps, alike, grouped}
+use Rattle.terms.specs.Effects.{kept-last, kept_then, kept-written, kept-counted, countedIn, headed, head-long, halted-on, at_sign}
 use Rattle.terms.specs.Inside.{inside-spelled, inside-column}
 use Rattle.terms.specs.Stands as stand
 
 -- ══ Records that fit into a sheet ══
 
 -- what is written fits into a sheet
-short-did : {B : Type 0} {m : Step B} {T : B → List Rec → Type 0} {x y : Lent} {k n k' n' : ℕ} → n' ≤ 2048 → Did m T x y k n k' n' → Did m (λ b rs. T b rs × (length rs ≤ 2048)) x y k n k' n'
+short-did : {B : Type 0} {m : Step B} {T : B → List Rec → Type 0} {x y : Lent} {k n k' n' : ℕ} → n' ≤ 2048 → Did m T x y k n k' n'
+    → Did m (λ b rs. T b rs × (length rs ≤ 2048)) x y k n k' n'
 short-did h d = record { value = d.value; records = d.records; is = d.is; tells = (d.tells, omega (arith, d.grown)); written = d.written; grown = d.grown }
 
-pub short : {B : Type 0} {m : Step B} {T : B → List Rec → Type 0} {x y : Lent} → Roomy y.table y.stand → Effect m T x y → Effect m (λ b rs. T b rs × (length rs ≤ 2048)) x y
+pub short : {B : Type 0} {m : Step B} {T : B → List Rec → Type 0} {x y : Lent} → Roomy y.table y.stand → Effect m T x y
+    → Effect m (λ b rs. T b rs × (length rs ≤ 2048)) x y
 short h e = record { does = λ k n k' n' p q. short-did (h k' n' q).records (e.does k n k' n' p q); refuses = e.refuses }
 
 -- the records of the parts of b, if they fit into a sheet: behind a record that says v they are what w writes
@@ -34,7 +37,8 @@ Behind v w b rs = length rs ≤ 2048 → recOf v (suc (length rs)) ∷ rs ≡ w 
 
 -- a record counted at a sign, its parts, and the record written
 pub head_at : {B : Type 0} (v : View) (q : Point) {k : ℕ} (m : Step B) {T W : B → List Rec → Type 0} {x y : Lent} → k ≡ columnAt q → NotBad q → Halted q x.stand
-    → Kept (countedIn 1 (place_of q) x) y → Effect m T (countedIn 1 (place_of q) x) y → ((b : B) (rs : List Rec) → T b rs → length rs ≤ 2048 → W b (recOf v (suc (length rs)) ∷ rs))
+    → Kept (countedIn 1 (place_of q) x) y → Effect m T (countedIn 1 (place_of q) x) y
+    → ((b : B) (rs : List Rec) → T b rs → length rs ≤ 2048 → W b (recOf v (suc (length rs)) ∷ rs))
     → (d : List ℕ) → d ≡ headPut v x.stand y.stand y.dst → Effect (λ s. onward (counted 1 k s) (λ u. m)) W x (lent y.pool y.table d y.stand)
 head_at v q {k} m {T} {W} {x} {y} e n h kept f o d g =
     at_sign q e n h (λ c. subst (λ (i : ℕ). Effect (λ s. onward (counted 1 i s) (λ u. m)) W x (lent y.pool y.table d y.stand)) (sym c)
@@ -54,13 +58,16 @@ halted-kept {q} {x} {y} k h i n e f = go x.stand refl
     go (Err stop) p = let o = k.refused stop.why stop.at p in let z : ◌≡◌ {A = ℕ} 0 1 = cc in omega arith
 
 -- from where a record was counted
-pub from-counted : {A B : Type 0} {R : Rule A} {f : A → Step B} {T : B → List Rec → Type 0} {line : Bytes} {p r : Point} {pool table dst : List ℕ} {s₁ : Stand} {at : ℕ} {y : Lent}
-    (q : Point) (s : Stand) → at ≡ place_of q → s₁ ≡ countOf 1 at s → Done line R f T p (lent pool table dst s₁) r y → Done line R f T p (lent pool table dst (countOf 1 (place_of q) s)) r y
+pub from-counted : {A B : Type 0} {R : Rule A} {f : A → Step B} {T : B → List Rec
+    → Type 0} {line : Bytes} {p r : Point} {pool table dst : List ℕ} {s₁ : Stand} {at : ℕ} {y : Lent}
+    (q : Point) (s : Stand) → at ≡ place_of q → s₁ ≡ countOf 1 at s → Done line R f T p (lent pool table dst s₁) r y
+    → Done line R f T p (lent pool table dst (countOf 1 (place_of q) s)) r y
 from-counted {R = R} {f = f} {T = T} {line = line} {p = p} {r = r} {pool = pool} {table = table} {dst = dst} {y = y} q s e g d =
     subst (λ (u : Stand). Done line R f T p (lent pool table dst u) r y) (g ∙ ap (λ (i : ℕ). countOf 1 i s) e) d
 
 -- all that was kept from before the record was counted up to when it was written
-pub kept-headed : {x y : Lent} (v : View) (at : ℕ) → Kept x (countedIn 1 at x) → Kept (countedIn 1 at x) y → (d : List ℕ) → d ≡ headPut v x.stand y.stand y.dst → Kept x (lent y.pool y.table d y.stand)
+pub kept-headed : {x y : Lent} (v : View) (at : ℕ) → Kept x (countedIn 1 at x) → Kept (countedIn 1 at x) y → (d : List ℕ)
+    → d ≡ headPut v x.stand y.stand y.dst → Kept x (lent y.pool y.table d y.stand)
 kept-headed {x} {y} v at k l d g = kept-written (kept_then k l) (ap length g ∙ head-long v x.stand y.stand y.dst)
 
 -- ══ Types in a row ══
@@ -74,7 +81,8 @@ pub tys-none : {n : ℕ} {x : Lent} → n ≤ 4096 → Effect (tys_of nilAt) (Ty
 unfolding ty_of tys_of fields_of writeTy writeTys writeFields count
 tys-none h = gives nil (record { written = refl; counted = omega arith })
 
-pub tys-more : {n m : ℕ} {x y z : Lent} (t : TyAt) (ts : TysAt) → Effect (ty_of t) (Writes writeTy) x y → Kept y z → Effect (tys_of ts) (TysTold (min (n + 1) 4096) m) y z
+pub tys-more : {n m : ℕ} {x y z : Lent} (t : TyAt) (ts : TysAt) → Effect (ty_of t) (Writes writeTy) x y → Kept y z
+    → Effect (tys_of ts) (TysTold (min (n + 1) 4096) m) y z
     → Effect (tys_of (consAt t ts)) (TysTold n m) x z
 unfolding ty_of tys_of fields_of writeTy writeTys writeFields count
 tys-more t ts e k f =
@@ -113,11 +121,13 @@ fn-behind n us u rs qs t g h =
     let few : count us ≤ length rs = subst (λ (l : List Rec). count us ≤ length l) (sym t.written) (tys_long us) in
     let c : n ≡ count us = omega (arith, t.counted, few, length-append rs qs) in
     let l : length (rs ++ qs) ≡ sizeTys us + size u = length-append rs qs ∙ ap₂ ◌+◌ (ap length t.written ∙ size-tys us) (ap length g ∙ size-ty u) in
-    ap₂ (λ (k : ℕ) (i : ℕ). rec (head 7 (suc k)) i 0 0 ∷ (rs ++ qs)) l c ∙ ap₂ (λ (a b : List Rec). rec (head 7 (suc (sizeTys us + size u))) (count us) 0 0 ∷ (a ++ b)) t.written g
+    ap₂ (λ (k : ℕ) (i : ℕ). rec (head 7 (suc k)) i 0 0 ∷ (rs ++ qs)) l c
+    ∙ ap₂ (λ (a b : List Rec). rec (head 7 (suc (sizeTys us + size u))) (count us) 0 0 ∷ (a ++ b)) t.written g
 
 module _ (ty : Rule TyAt) {line : Bytes} {x y : Lent} where
   pub list_done : {p q a b c r : Point} → Ready line p x.pool x.table x.stand → Reads line p column (λ (k : ℕ). k ≡ columnAt q) q
-      → Reads line q (spelled (ascii "List")) Any a → Reads line a (marked 60) Any b → Done line ty ty_of (Writes writeTy) b (countedIn 1 (place_of q) x) c y → Reads line c (marked 62) Any r
+      → Reads line q (spelled (ascii "List")) Any a → Reads line a (marked 60) Any b → Done line ty ty_of (Writes writeTy) b (countedIn 1 (place_of q) x) c y
+      → Reads line c (marked 62) Any r
       → (d : List ℕ) → d ≡ headPut view.List x.stand y.stand y.dst → Done line (listed ty) ty_of (Writes writeTy) p x r (lent y.pool y.table d y.stand)
   unfolding ty_of tys_of fields_of
   list_done {p} {q} {a} {b} {c} {r} h x1 x2 x3 x4 x5 d g = record {
@@ -132,16 +142,19 @@ module _ (ty : Rule TyAt) {line : Bytes} {x y : Lent} where
 
   pub function-done : {z : Lent} {p q a b c e f g i r : Point} {n : ℕ} → Ready line p x.pool x.table x.stand → Reads line p column (λ (k : ℕ). k ≡ columnAt q) q
       → Reads line q (spelled (ascii "Fn")) Any a → Reads line a (marked 91) Any b → Reads line b (marked 40) Any c
-      → Done line (paramsThere ty) tys_of (TysTold 0 n) c (countedIn 1 (place_of q) x) e z → Reads line e (marked 41) Any f → Reads line f (spelled (ascii "->")) Any g
+      → Done line (paramsThere ty) tys_of (TysTold 0 n) c (countedIn 1 (place_of q) x) e z → Reads line e (marked 41) Any f
+      → Reads line f (spelled (ascii "->")) Any g
       → Done line ty ty_of (Writes writeTy) g z i y → Reads line i (marked 93) Any r
-      → (d : List ℕ) → d ≡ headPut (view.Function n) x.stand y.stand y.dst → Done line (function ty) ty_of (Writes writeTy) p x r (lent y.pool y.table d y.stand)
+      → (d : List ℕ) → d ≡ headPut (view.Function n) x.stand y.stand y.dst
+      → Done line (function ty) ty_of (Writes writeTy) p x r (lent y.pool y.table d y.stand)
   unfolding ty_of tys_of fields_of
   function-done {z} {p} {q} {a} {b} {c} {e} {f} {g} {i} {r} {n} h x1 x2 x3 x4 x5 x6 x7 x8 x9 d o = record {
     reads = function-read ty x1 x2 x3 x4 x5.reads x6 x7 x8.reads x9 (λ k ps t hk hp ht m.
         let ni = not-bad x9 m in
         let ne = not-bad x6 (not-bad x7 (not-bad x8.reads ni)) in
         alike (grouped (counted 1 k) (λ u. tys_of ps) (λ us s. onward (ty_of t s) (λ u. give (fn us u))))
-        (head-by (view.Function n) writeTy q _ hk (not-bad x2 (not-bad x3 (not-bad x4 (not-bad x5.reads ne)))) (halted-on inside-column x1 h.halted) (kept_then x5.kept x8.kept)
+        (head-by (view.Function n) writeTy q _ hk (not-bad x2 (not-bad x3 (not-bad x4 (not-bad x5.reads ne)))) (halted-on inside-column x1 h.halted)
+        (kept_then x5.kept x8.kept)
         (then (tys_of ps) (λ us s. onward (ty_of t s) (λ u. give (fn us u))) (hp ne) x8.kept
         (λ us rs hs. maps (ty_of t) (fn us) (kept-last x8.kept) (ht ni) (λ u qs hu. fn-behind n us u rs qs hs hu))) d o));
     kept = kept-headed (view.Function n) (place_of q) (kept-counted 1 (place_of q) h.good h.room) (kept_then x5.kept x8.kept) d o;

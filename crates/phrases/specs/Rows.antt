@@ -14,7 +14,9 @@ use Rattle.records.specs.Good.{HeldBefore}
 use Rattle.records.specs.declared.inner.Before.{Before}
 use Rattle.reading.specs.Points.{Reads, MarkRead, Any, marked, columnAt, beginsAt, left_at, Point}
 use Rattle.reading.specs.Factors.{byte_of, refusedFrom}
-use Rattle.reading.specs.Types.{Onto, onto-here, tys-go, tys-less, tys-end, tys-read, fieldRule, fields_go, fields-less, fields-end, fields_read, paramsThere, with_params, without-params, typesThere, with-types, without-types, fieldsThere, with-fields, without-fields}
+use Rattle.reading.specs.Types.{Onto, onto-here, tys-go, tys-less, tys-end, tys-read, fieldRule, fields_go, fields-less, fields-end, fields_read}
+use Rattle.reading.specs.Types.{paramsThere, with_params, without-params, typesThere, with-types, without-types, fieldsThere, with-fields}
+use Rattle.reading.specs.Types.{without-fields}
 use Rattle.reading.specs.Choice.{ruled, deepRuled, among, heads, deep-there, deep_none, by-none, deep-by, type-by}
 use Rattle.terms.specs.Stands.{place_of, same-refused, Stand}
 use Rattle.terms.specs.Effects.{Lent, lent, Halted, Ready, Kept, Effect, Writes, Done, NotBad, not-bad, kept_same, kept-last, kept_then, halted-on}
@@ -40,7 +42,8 @@ pub tys-start : {line : Bytes} {p : Point} {x : Lent} {n : ℕ} (ty : Rule TyAt)
 tys-start {line} {p} {x} {n} ty h f = record { onto = onto-here (moreTys ty) (TysFrom n x) h.within; ready = h; kept = kept_same h.good h.room; few = f }
 
 module _ {ty : Rule TyAt} {line : Bytes} {p q : Point} {x y : Lent} {n m : ℕ} (l : TysLoop ty line p x n q y m) where
-  pub tys-turn : {a b : Point} {z : Lent} → true ≡ beginsAt line q 44 → MarkRead line q 44 a → Done line ty ty_of (Writes writeTy) a y b z → TysLoop ty line p x n b z (min (m + 1) 4096)
+  pub tys-turn : {a b : Point} {z : Lent} → true ≡ beginsAt line q 44 → MarkRead line q 44 a → Done line ty ty_of (Writes writeTy) a y b z
+      → TysLoop ty line p x n b z (min (m + 1) 4096)
   tys-turn {z = z} e k o = record {
     onto = tys-go ty l.onto (TysFrom (min (m + 1) 4096) z) e k o.reads (λ r w t ts i ht hr hs. record {
       kept = kept_then o.kept hs.kept;
@@ -51,11 +54,13 @@ module _ {ty : Rule TyAt} {line : Bytes} {p q : Point} {x y : Lent} {n m : ℕ} 
     few = omega arith;
   }
 
-  pub tys-fall : {a b : Point} {z : Lent} → true ≡ beginsAt line q 44 → MarkRead line q 44 a → Done line ty ty_of (Writes writeTy) a y b z → left_at line b < left_at line q
+  pub tys-fall : {a b : Point} {z : Lent} → true ≡ beginsAt line q 44 → MarkRead line q 44 a → Done line ty ty_of (Writes writeTy) a y b z
+      → left_at line b < left_at line q
   tys-fall e k o = tys-less ty l.onto e k o.reads
 
 -- the first type, and the others
-pub tys-done : {line : Bytes} {p f q : Point} {w x y : Lent} {m : ℕ} (ty : Rule TyAt) → Done line ty ty_of (Writes writeTy) p w f x → TysLoop ty line f x 1 q y m → false ≡ beginsAt line q 44
+pub tys-done : {line : Bytes} {p f q : Point} {w x y : Lent} {m : ℕ} (ty : Rule TyAt) → Done line ty ty_of (Writes writeTy) p w f x
+    → TysLoop ty line f x 1 q y m → false ≡ beginsAt line q 44
     → Done line (tys ty) tys_of (TysTold 0 m) p w q y
 tys-done {y = y} {m = m} ty o l e = record {
   reads = tys-read ty o.reads (tys-end ty l.onto (y, m) e (record { kept = kept-last l.kept; effect = λ n. tys-none l.few }))
@@ -79,7 +84,8 @@ pub record FieldsLoop (ty : Rule TyAt) (line : Bytes) (p : Point) (x : Lent) (n 
   pub few : m ≤ 4096
   pub held : HeldBefore y.table c
 
-pub fields-start : {line : Bytes} {p : Point} {x : Lent} {n : ℕ} {b : Before} (ty : Rule TyAt) → Ready line p x.pool x.table x.stand → n ≤ 4096 → HeldBefore x.table b
+pub fields-start : {line : Bytes} {p : Point} {x : Lent} {n : ℕ} {b : Before} (ty : Rule TyAt) → Ready line p x.pool x.table x.stand → n ≤ 4096
+    → HeldBefore x.table b
     → FieldsLoop ty line p x n b p x n b
 fields-start {line} {p} {x} {n} {b} ty h f k =
     record { onto = onto-here (moreFields ty) (FieldsFrom n b x) h.within; ready = h; kept = kept_same h.good h.room; few = f; held = k }
@@ -102,7 +108,8 @@ module _ {ty : Rule TyAt} {line : Bytes} {p q : Point} {x y : Lent} {n m : ℕ} 
       → Done line (fieldRule ty) (fieldStep (nameBefore c)) (FieldTold d) a y i z → left_at line i < left_at line q
   fields-fall e k o = fields-less ty l.onto e k o.reads
 
-pub fields-done : {line : Bytes} {p f q : Point} {w x y : Lent} {m : ℕ} {b c : Before} (ty : Rule TyAt) → Done line (fieldRule ty) (fieldStep none) (FieldTold b) p w f x
+pub fields-done : {line : Bytes} {p f q : Point} {w x y : Lent} {m : ℕ} {b c : Before} (ty : Rule TyAt)
+    → Done line (fieldRule ty) (fieldStep none) (FieldTold b) p w f x
     → FieldsLoop ty line f x 1 b q y m c → false ≡ beginsAt line q 44 → Done line (fields ty) (λ fs. fields_of fs none) (FieldsTold 0 m) p w q y
 fields-done {y = y} {m = m} {c = c} ty o l e = record {
   reads = fields_read ty o.reads (fields-end ty l.onto (y, m) e (record { kept = kept-last l.kept; effect = λ n. fields-none (nameBefore c) l.few }))
@@ -114,42 +121,58 @@ fields-done {y = y} {m = m} {c = c} ty o l e = record {
 -- ══ Parts that may be left out ══
 
 module _ (ty : Rule TyAt) {line : Bytes} {p : Point} {x : Lent} where
-  pub some-params : {r : Point} {y : Lent} {n : ℕ} → false ≡ beginsAt line p 41 → Done line (tys ty) tys_of (TysTold 0 n) p x r y → Done line (paramsThere ty) tys_of (TysTold 0 n) p x r y
+  pub some-params : {r : Point} {y : Lent} {n : ℕ} → false ≡ beginsAt line p 41 → Done line (tys ty) tys_of (TysTold 0 n) p x r y
+      → Done line (paramsThere ty) tys_of (TysTold 0 n) p x r y
   some-params e o = record { reads = with_params ty e o.reads; kept = o.kept; halted = o.halted }
 
   pub no-params : Ready line p x.pool x.table x.stand → true ≡ beginsAt line p 41 → Done line (paramsThere ty) tys_of (TysTold 0 0) p x p x
   no-params h e = record { reads = without-params ty h.within e (λ n. tys-none (omega arith)); kept = kept_same h.good h.room; halted = h.halted }
 
-  pub some-types : {a b r : Point} {y : Lent} {n : ℕ} → true ≡ beginsAt line p 60 → Reads line p (marked 60) Any a → Done line (tys ty) tys_of (TysTold 0 n) a x b y → Reads line b (marked 62) Any r
+  pub some-types : {a b r : Point} {y : Lent} {n : ℕ} → true ≡ beginsAt line p 60 → Reads line p (marked 60) Any a
+      → Done line (tys ty) tys_of (TysTold 0 n) a x b y → Reads line b (marked 62) Any r
       → Done line (typesThere ty) tys_of (TysTold 0 n) p x r y
-  some-types e k o c = record { reads = with-types ty e k o.reads c (λ ts h n. h (not-bad c n)); kept = o.kept; halted = halted-on (inside-spelled _) c o.halted }
+  some-types e k o c = record {
+    reads = with-types ty e k o.reads c (λ ts h n. h (not-bad c n));
+    kept = o.kept;
+    halted = halted-on (inside-spelled _) c o.halted;
+  }
 
   pub no-types : Ready line p x.pool x.table x.stand → false ≡ beginsAt line p 60 → Done line (typesThere ty) tys_of (TysTold 0 0) p x p x
   no-types h e = record { reads = without-types ty h.within e (λ n. tys-none (omega arith)); kept = kept_same h.good h.room; halted = h.halted }
 
-  pub some-fields : {a b r : Point} {y : Lent} {n : ℕ} → true ≡ beginsAt line p 123 → Reads line p (marked 123) Any a → Done line (fields ty) (λ fs. fields_of fs none) (FieldsTold 0 n) a x b y
+  pub some-fields : {a b r : Point} {y : Lent} {n : ℕ} → true ≡ beginsAt line p 123 → Reads line p (marked 123) Any a
+      → Done line (fields ty) (λ fs. fields_of fs none) (FieldsTold 0 n) a x b y
       → Reads line b (marked 125) Any r → Done line (fieldsThere ty) (λ fs. fields_of fs none) (FieldsTold 0 n) p x r y
-  some-fields e k o c = record { reads = with-fields ty e k o.reads c (λ fs h n. h (not-bad c n)); kept = o.kept; halted = halted-on (inside-spelled _) c o.halted }
+  some-fields e k o c = record {
+    reads = with-fields ty e k o.reads c (λ fs h n. h (not-bad c n));
+    kept = o.kept;
+    halted = halted-on (inside-spelled _) c o.halted;
+  }
 
-  pub no_fields : Ready line p x.pool x.table x.stand → false ≡ beginsAt line p 123 → Done line (fieldsThere ty) (λ fs. fields_of fs none) (FieldsTold 0 0) p x p x
+  pub no_fields : Ready line p x.pool x.table x.stand → false ≡ beginsAt line p 123
+      → Done line (fieldsThere ty) (λ fs. fields_of fs none) (FieldsTold 0 0) p x p x
   no_fields h e = record { reads = without-fields ty h.within e (λ n. fields-none none (omega arith)); kept = kept_same h.good h.room; halted = h.halted }
 
 -- ══ The rule that a first byte decides on ══
 
 -- a rule that reads what another reads does what the other does
 pub done-by : {A B : Type 0} {R S : Rule A} {f : A → Step B} {T : B → List Rec → Type 0} {line : Bytes} {p q r : Point} {x y : Lent}
-    → (Reads line q R (λ a. NotBad r → Effect (f a) T x y) r → Reads line p S (λ a. NotBad r → Effect (f a) T x y) r) → Done line R f T q x r y → Done line S f T p x r y
+    → (Reads line q R (λ a. NotBad r → Effect (f a) T x y) r → Reads line p S (λ a. NotBad r → Effect (f a) T x y) r) → Done line R f T q x r y
+    → Done line S f T p x r y
 done-by g d = record { reads = g d.reads; kept = d.kept; halted = d.halted }
 
 -- a byte with which no type begins, and the last one with which one does
-pub no-head : (b : ℕ) → (b ≡ 63 → ⊥) → (b ≡ 33 → ⊥) → (b ≡ 91 → ⊥) → (b ≡ 66 → ⊥) → (b ≡ 83 → ⊥) → (b ≡ 68 → ⊥) → (b ≡ 70 → ⊥) → (b ≡ 76 → ⊥) → (b ≡ 64 → ⊥) → among b heads ≡ false
-no-head b h1 h2 h3 h4 h5 h6 h7 h8 h9 = rw (ne_eqb b 63 h1, ne_eqb b 33 h2, ne_eqb b 91 h3, ne_eqb b 66 h4, ne_eqb b 83 h5, ne_eqb b 68 h6, ne_eqb b 70 h7, ne_eqb b 76 h8, ne_eqb b 64 h9)
+pub no-head : (b : ℕ) → (b ≡ 63 → ⊥) → (b ≡ 33 → ⊥) → (b ≡ 91 → ⊥) → (b ≡ 66 → ⊥) → (b ≡ 83 → ⊥) → (b ≡ 68 → ⊥) → (b ≡ 70 → ⊥) → (b ≡ 76 → ⊥) → (b ≡ 64 → ⊥)
+    → among b heads ≡ false
+no-head b h1 h2 h3 h4 h5 h6 h7 h8 h9 =
+    rw (ne_eqb b 63 h1, ne_eqb b 33 h2, ne_eqb b 91 h3, ne_eqb b 66 h4, ne_eqb b 83 h5, ne_eqb b 68 h6, ne_eqb b 70 h7, ne_eqb b 76 h8, ne_eqb b 64 h9)
 
 or_nothing : (t : Bool) → t ≡ (t || false)
 or_nothing true = refl
 or_nothing false = refl
 
-pub last-head : (b : ℕ) → (b ≡ 63 → ⊥) → (b ≡ 33 → ⊥) → (b ≡ 91 → ⊥) → (b ≡ 66 → ⊥) → (b ≡ 83 → ⊥) → (b ≡ 68 → ⊥) → (b ≡ 70 → ⊥) → (b ≡ 76 → ⊥) → eqb b 64 ≡ among b heads
+pub last-head : (b : ℕ) → (b ≡ 63 → ⊥) → (b ≡ 33 → ⊥) → (b ≡ 91 → ⊥) → (b ≡ 66 → ⊥) → (b ≡ 83 → ⊥) → (b ≡ 68 → ⊥) → (b ≡ 70 → ⊥) → (b ≡ 76 → ⊥)
+    → eqb b 64 ≡ among b heads
 last-head b h1 h2 h3 h4 h5 h6 h7 h8 =
     rw (ne_eqb b 63 h1, ne_eqb b 33 h2, ne_eqb b 91 h3, ne_eqb b 66 h4, ne_eqb b 83 h5, ne_eqb b 68 h6, ne_eqb b 70 h7, ne_eqb b 76 h8) (or_nothing (eqb b 64))
 
@@ -172,7 +195,8 @@ module _ {T : Ty ℕ → List Rec → Type 0} {line : Bytes} {q : Point} {x : Le
   no-deep e = record { reads = deep_none (sym e) (none-effect (ty_of (deepAt 0)) q h.halted); kept = kept_same h.good h.room; halted = none-halted q h.halted }
 
 -- a type nested too deep is 1 at its first byte
-deep-effect : {T : Ty ℕ → List Rec → Type 0} {x : Lent} (i : ℕ) → Effect (ty_of (deepAt (suc i))) T x (lent x.pool x.table x.dst (stoppedAt Malformed i x.stand))
+deep-effect : {T : Ty ℕ → List Rec → Type 0} {x : Lent} (i : ℕ) → Effect (ty_of (deepAt (suc i))) T x
+    (lent x.pool x.table x.dst (stoppedAt Malformed i x.stand))
 unfolding ty_of tys_of fields_of
 deep-effect {x = x} i = record {
   does = λ k n k' n' p q. absurd (never_on Malformed i x.stand k' n' q);
@@ -192,11 +216,13 @@ deep-type (Ok (Some i)) {x} h e = record {
 deep-type (Ok None) h e = absurd (true≢false e)
 deep-type (Err i) h e = absurd (true≢false e)
 
-pub type-zero : {f : TyAt → Step (Ty ℕ)} {T : Ty ℕ → List Rec → Type 0} {line : Bytes} {p q r : Point} {x y : Lent} (d : ℕ) → d ≡ 0 → Reads line p column (λ (k : ℕ). k ≡ columnAt q) q
+pub type-zero : {f : TyAt → Step (Ty ℕ)} {T : Ty ℕ → List Rec → Type 0} {line : Bytes} {p q r : Point} {x y : Lent} (d : ℕ) → d ≡ 0
+    → Reads line p column (λ (k : ℕ). k ≡ columnAt q) q
     → Done line deepRuled f T q x r y → Done line (type d) f T p x r y
 type-zero {f} {T} {line} {p} {q} {r} {x} {y} d e k o = subst (λ (i : ℕ). Done line (type i) f T p x r y) (sym e) (done-by (deep-by k) o)
 
-pub type-some : {f : TyAt → Step (Ty ℕ)} {T : Ty ℕ → List Rec → Type 0} {line : Bytes} {p q r : Point} {x y : Lent} (d : ℕ) → (d ≡ 0 → ⊥) → Reads line p column (λ (k : ℕ). k ≡ columnAt q) q
+pub type-some : {f : TyAt → Step (Ty ℕ)} {T : Ty ℕ → List Rec → Type 0} {line : Bytes} {p q r : Point} {x y : Lent} (d : ℕ) → (d ≡ 0 → ⊥)
+    → Reads line p column (λ (k : ℕ). k ≡ columnAt q) q
     → Done line (ruled (d - 1)) f T q x r y → Done line (type d) f T p x r y
 type-some {f} {T} {line} {p} {q} {r} {x} {y} d n k o =
     let e : suc (d - 1) ≡ d = omega (arith, n) in

@@ -115,7 +115,8 @@ fn is_head(b: u8) -> bool
 
 /// A type nested too deep: 1 at its first byte, and nothing behind it is looked at.
 fn too_deep(line: &[u8], q: Point, s: Stand) -> Reached
-    ensures { (pool table dst : List ℕ) → Ready line.now q pool table s → Done line.now deepRuled ty_of (Writes writeTy) q (lent pool table dst s) result.at (lent pool table dst result.stand) }
+    ensures { (pool table dst : List ℕ) → Ready line.now q pool table s → Done line.now deepRuled ty_of (Writes writeTy) q (lent pool table dst s)
+        result.at (lent pool table dst result.stand) }
 {
     if is_head(byte_at(line, q)) {
         return Reached {

@@ -1,5 +1,5 @@
 -- What quantifying is given, and what it makes.
-use Rattle.std.specs.Prelude.{◌≡◌, refl, Bool, ℕ, zero, suc, ◌+◌, ◌*◌, ◌≤◌, ◌<◌, length, get_or, replicate}
+use Rattle.std.specs.Prelude.{◌≡◌, refl, Bool, ℕ, zero, suc, ◌+◌, ◌*◌, ◌≤◌, ◌<◌, length, get_or, replicate, Ok, Err}
 use Rattle.std.proofs.Common.{subst, arith}
 use mathlib.Core.List.{List, [], ◌∷◌, Memᴰ}
 use Rattle.std.proofs.Math.Option.{Option}
@@ -18,11 +18,9 @@ use Rattle.laws.specs.NameTable.{Good}
 use Rattle.renaming.specs.Places.{all_of}
 use Rattle.renaming.proofs.Sizes.{renamed-deep}
 use Rattle.records.specs.Cut.{fit}
-use Rattle.replacing.specs.Left.{Left, Room}
+use Rattle.replacing.specs.Left.{went-same, Left, Room, Went}
 use Rattle.replacing.specs.LineLaws.{type-left}
 use Rattle.replacing.specs.Well.{HeldType, Lent}
-use Rattle.replacing.specs.declared.inner.walk.Went.{Went}
-use Rattle.replacing.specs.declared.inner.walk.Went.TheVariants.{To, Stop}
 use Rattle.lending.specs.Told.{Made}
 use Rattle.lending.specs.declared.Answer.TheVariants.{Records, Refused}
 use Rattle.handing.specs.Bounds.{allBounds, BoundsAt, PutAll}
@@ -68,24 +66,24 @@ module _ (pool table names : List ℕ) (t : Ty ℕ) (d d' : List ℕ) (nx : ℕ)
     pub buffer : size value ≤ 65_535 → d' ≡ sets d (1 * 4) (words (writeTy value))
     pub flat : depth value ≡ depth t
 
-  pub came : {x : Went} {q out : ℕ} → x ≡ To q out → Left size writeTy d d' nx 1 x (renamedType pool table names t) → Came out
+  pub came : {x : Went} {q out : ℕ} → x ≡ Ok (q, out) → Left size writeTy d d' nx 1 x (renamedType pool table names t) → Came out
   came {x} {q} {out} i left = go (renamedType pool table names t) refl (subst (λ (y : Went). Left size writeTy d d' nx 1 y (renamedType pool table names t)) i left)
     where
-      go : (R : Got (Ty ℕ)) → renamedType pool table names t ≡ R → Left size writeTy d d' nx 1 (To q out) (renamedType pool table names t) → Came out
+      go : (R : Got (Ty ℕ)) → renamedType pool table names t ≡ R → Left size writeTy d d' nx 1 (Ok (q, out)) (renamedType pool table names t) → Came out
       go (got u) e l =
-          let s = (subst (λ (R : Got (Ty ℕ)). Left size writeTy d d' nx 1 (To q out) R) e l).says in
-          let m : out ≡ 1 + size u = let p = s.0 in cc in
+          let s = (subst (λ (R : Got (Ty ℕ)). Left size writeTy d d' nx 1 (Ok (q, out)) R) e l).says in
+          let m : out ≡ 1 + size u = (went-same s.0).1 in
           record { value = u; is = e; many = m; buffer = type-left (renamedType pool table names t) l u e; flat = renamed-deep (numbersOf (table_of pool table)) bounded (handed pool table names) t u e }
-      go (refused k) e l = absurd (subst (λ (R : Got (Ty ℕ)). Left size writeTy d d' nx 1 (To q out) R) e l).says
+      go (refused k) e l = absurd (subst (λ (R : Got (Ty ℕ)). Left size writeTy d d' nx 1 (Ok (q, out)) R) e l).says
 
   -- or stopped
-  pub stopped : {x : Went} {k : Refusal} (all : Bool) (bs : List (Open ℕ)) (w : List ℕ) → x ≡ Stop k → Left size writeTy d d' nx 1 x (renamedType pool table names t) → Made (quantifiedAs pool table names all t bs) w (Refused k)
+  pub stopped : {x : Went} {k : Refusal} (all : Bool) (bs : List (Open ℕ)) (w : List ℕ) → x ≡ Err k → Left size writeTy d d' nx 1 x (renamedType pool table names t) → Made (quantifiedAs pool table names all t bs) w (Refused k)
   stopped {x} {k} all bs w i left = go (renamedType pool table names t) refl (subst (λ (y : Went). Left size writeTy d d' nx 1 y (renamedType pool table names t)) i left)
     where
-      go : (R : Got (Ty ℕ)) → renamedType pool table names t ≡ R → Left size writeTy d d' nx 1 (Stop k) (renamedType pool table names t) → Made (quantifiedAs pool table names all t bs) w (Refused k)
-      go (got u) e l = absurd (let s = (subst (λ (R : Got (Ty ℕ)). Left size writeTy d d' nx 1 (Stop k) R) e l).says in let p = s.0 in let z : ◌≡◌ {A = ℕ} 0 1 = cc in omega arith)
+      go : (R : Got (Ty ℕ)) → renamedType pool table names t ≡ R → Left size writeTy d d' nx 1 (Err k) (renamedType pool table names t) → Made (quantifiedAs pool table names all t bs) w (Refused k)
+      go (got u) e l = absurd (let s = (subst (λ (R : Got (Ty ℕ)). Left size writeTy d d' nx 1 (Err k) R) e l).says in let p = s.0 in let z : ◌≡◌ {A = ℕ} 0 1 = cc in omega arith)
       go (refused j) e l =
-          let s : number_of k ≡ j = (subst (λ (R : Got (Ty ℕ)). Left size writeTy d d' nx 1 (Stop k) R) e l).says in
+          let s : number_of k ≡ j = (subst (λ (R : Got (Ty ℕ)). Left size writeTy d d' nx 1 (Err k) R) e l).says in
           made-refused (quantifiedAs pool table names all t bs) k w (rw (e, s))
 
 -- the tables that were filled

@@ -5,7 +5,8 @@ use Prim.Native.Char.{Char, code}
 use Rattle.std.proofs.lemmas.Bool.{eqb-false}
 use Rattle.rules.specs.Names.{Bytes}
 use Rattle.rules.specs.Trees.{var, par, boolean, string, datetime}
-use Rattle.rules.specs.Grammar.{here, bad, Rule, column, columnOf, pick, chosen, TyAt, deepAt, opened, dimension, keyword, function, listed, structure, types, type, tooDeep, deepTypes}
+use Rattle.rules.specs.Grammar.{here, bad, Rule, column, columnOf, pick, chosen, TyAt, deepAt, opened, dimension, keyword, function, listed}
+use Rattle.rules.specs.Grammar.{structure, types, type, tooDeep, deepTypes}
 use Rattle.reading.specs.Points.{Reads, columnAt, in-turn, Point}
 use Rattle.reading.specs.Factors.{byte_of, refusedFrom, pick_other, choose-this, choose-none}
 
@@ -73,13 +74,15 @@ no-rule b xs cs none e = refl
 no-rule b xs cs (one {xs = ys} {cs = ds} c R f) e =
     pick_other b (c, R) ys (eqb-false b (code c) (not_left (eqb b (code c)) (among b ds) e)) ∙ no-rule b ys ds f (not_right (eqb b (code c)) (among b ds) e)
 
-pub by-none : {P : TyAt → Type 0} {line : Bytes} {s : Point} (d : ℕ) → among (byte_of line s) heads ≡ false → P (deepAt 0) → Reads line s (ruled d) P (refusedFrom s)
+pub by-none : {P : TyAt → Type 0} {line : Bytes} {s : Point} (d : ℕ) → among (byte_of line s) heads ≡ false → P (deepAt 0)
+    → Reads line s (ruled d) P (refusedFrom s)
 by-none {P} {line} {s} d e h =
     let f = one "?" _ (one "!" _ (one "[" _ (one "B" _ (one "S" _ (one "D" _ (one "F" _ (one "L" _ (one "@" _ none)))))))) in
     choose-none (deepAt 0) (types (type d)) (no-head d) line s (λ q. ap (λ (g : Rule TyAt). g q) (no-rule (byte_of line s) (types (type d)) heads f e)) h
 
 -- a type is what its first byte decides on
-pub type-by : {P : TyAt → Type 0} {line : Bytes} {p s r : Point} (d : ℕ) → Reads line p column (λ (k : ℕ). k ≡ columnAt s) s → Reads line s (ruled d) P r → Reads line p (type (suc d)) P r
+pub type-by : {P : TyAt → Type 0} {line : Bytes} {p s r : Point} (d : ℕ) → Reads line p column (λ (k : ℕ). k ≡ columnAt s) s → Reads line s (ruled d) P r
+    → Reads line p (type (suc d)) P r
 unfolding type
 type-by d x y = in-turn column (λ c. ruled d) x (λ c hc. y)
 
@@ -98,28 +101,33 @@ deep-pick : (b : ℕ) (cs : List Char) → among b cs ≡ true → pick b (deepO
 deep-pick b [] e = absurd (true≢false (sym e))
 deep-pick b (c ∷ cs) e = go (eqb b (code c)) e (deep-pick b cs)
   where
-    go : (t : Bool) → (t || among b cs) ≡ true → (among b cs ≡ true → pick b (deepOf cs) ≡ tooDeep) → elim t [ true ↦ tooDeep | false ↦ pick b (deepOf cs) ] ≡ tooDeep
+    go : (t : Bool) → (t || among b cs) ≡ true → (among b cs ≡ true → pick b (deepOf cs) ≡ tooDeep)
+        → elim t [ true ↦ tooDeep | false ↦ pick b (deepOf cs) ] ≡ tooDeep
     go true q f = refl
     go false q f = f q
 
 no-deep-rule : (b : ℕ) (cs : List Char) → among b cs ≡ false → pick b (deepOf cs) ≡ (λ p. bad (columnOf p))
 no-deep-rule b [] e = refl
 no-deep-rule b (c ∷ cs) e =
-    pick_other b (c, tooDeep) (deepOf cs) (eqb-false b (code c) (not_left (eqb b (code c)) (among b cs) e)) ∙ no-deep-rule b cs (not_right (eqb b (code c)) (among b cs) e)
+    pick_other b (c, tooDeep) (deepOf cs) (eqb-false b (code c) (not_left (eqb b (code c)) (among b cs) e))
+    ∙ no-deep-rule b cs (not_right (eqb b (code c)) (among b cs) e)
 
 head-some : (b : ℕ) → among b heads ≡ true → 0 < b
 head-some zero e = absurd (true≢false (sym e))
 head-some (suc b) e = omega arith
 
 -- where a type begins that is nested too deep, nothing behind it is looked at
-pub deep-there : {P : TyAt → Type 0} {line : Bytes} {i : ℕ} → among (byte_of line (Ok (Some i))) heads ≡ true → P (deepAt (suc i)) → Reads line (Ok (Some i)) deepRuled P (Ok None)
+pub deep-there : {P : TyAt → Type 0} {line : Bytes} {i : ℕ} → among (byte_of line (Ok (Some i))) heads ≡ true → P (deepAt (suc i))
+    → Reads line (Ok (Some i)) deepRuled P (Ok None)
 deep-there {P} {line} {i} e h =
-    choose-this (deepAt 0) deepTypes no-deep tooDeep (byte_of line (Ok (Some i))) (head-some (byte_of line (Ok (Some i))) e) refl (deep-pick (byte_of line (Ok (Some i))) heads e)
+    choose-this (deepAt 0) deepTypes no-deep tooDeep (byte_of line (Ok (Some i))) (head-some (byte_of line (Ok (Some i))) e) refl
+    (deep-pick (byte_of line (Ok (Some i))) heads e)
     (record { within = tt; onward = omega arith; value = deepAt (suc i); is = refl; holds = h })
 
 pub deep_none : {P : TyAt → Type 0} {line : Bytes} {s : Point} → among (byte_of line s) heads ≡ false → P (deepAt 0) → Reads line s deepRuled P (refusedFrom s)
 deep_none {P} {line} {s} e h = choose-none (deepAt 0) deepTypes no-deep line s (λ q. ap (λ (g : Rule TyAt). g q) (no-deep-rule (byte_of line s) heads e)) h
 
-pub deep-by : {P : TyAt → Type 0} {line : Bytes} {p s r : Point} → Reads line p column (λ (k : ℕ). k ≡ columnAt s) s → Reads line s deepRuled P r → Reads line p (type 0) P r
+pub deep-by : {P : TyAt → Type 0} {line : Bytes} {p s r : Point} → Reads line p column (λ (k : ℕ). k ≡ columnAt s) s → Reads line s deepRuled P r
+    → Reads line p (type 0) P r
 unfolding type
 deep-by x y = in-turn column (λ c. deepRuled) x (λ c hc. y)

@@ -2,14 +2,16 @@
 use Rattle.std.specs.Prelude.{◌≡◌, refl, Bool, true, false, leb, length, drop, get_or, Err, None, Ok, Some}
 use Rattle.std.proofs.Common.{sym, ap, ◌∙◌, true≢false, arith, ne_eqb, leb-true, leb-false, drop_of_length-le, length-drop, drop-cons}
 use mathlib.Core.List.{List, [], ◌∷◌}
-use Prim.Native.Nat.{ℕ, zero, suc, ◌-◌, ◌≤◌, ◌<◌}
+use Prim.Native.Nat.{ℕ, suc, ◌-◌, ◌≤◌, ◌<◌}
 use Prim.Native.Char.{Char, code}
 use Rattle.rules.specs.Names.{Bytes}
 use Rattle.rules.specs.Trees.{Atom, free, base, var, par}
-use Rattle.rules.specs.Grammar.{Place, here, beyond, read, bad, Rule, give, sign, skip, skipFrom, ifSign, column, columnOf, left, pick, chosen, choose, NameAt, name, PowerAt, power, noPower, FactorAt, TyAt, dimAt, marks, markedWith, factor, moreFactors, factors, dimension, ◌>>=◌, ◌>>◌}
+use Rattle.rules.specs.Grammar.{Place, here, beyond, read, bad, Rule, give, skip, skipFrom, ifSign, column, columnOf, left, pick, chosen}
+use Rattle.rules.specs.Grammar.{choose, NameAt, name, PowerAt, power, noPower, FactorAt, marks, markedWith, factor, factors}
+use Rattle.rules.specs.Grammar.{◌>>◌}
 use Rattle.scanning.specs.Scanned.{place_in, nameIn}
 use Rattle.scanning.specs.Names.{NameRead}
-use Rattle.reading.specs.Points.{Reads, PointIn, MarkRead, Any, marked, left_at, columnAt, from, begins, beginsAt, in-turn, given, if-sign, if-no-sign, Point}
+use Rattle.reading.specs.Points.{Reads, PointIn, Any, marked, left_at, columnAt, from, begins, beginsAt, in-turn, Point}
 
 -- ══ Names ══
 
@@ -18,7 +20,13 @@ noName = record { column = 0; bytes = [] }
 
 pub name-there : {line : Bytes} {at i k : ℕ} {d d' : List ℕ} → NameRead line at i k d d' → Reads line (Ok (Some at)) name Any (Ok (Some i))
 unfolding name
-name-there {line} {at} r = record { within = r.within; onward = omega (arith, r.behind); value = record { column = suc at; bytes = r.bytes }; is = rw r.is; holds = tt }
+name-there {line} {at} r = record {
+  within = r.within;
+  onward = omega (arith, r.behind);
+  value = record { column = suc at; bytes = r.bytes };
+  is = rw r.is;
+  holds = tt;
+}
 
 pub name-bad : {line : Bytes} {at q : ℕ} → nameIn line at ≡ bad (suc q) → Reads line (Ok (Some at)) name Any (Err q)
 unfolding name
@@ -62,15 +70,32 @@ module _ {A : Type 0} (a : A) (xs : List (Char × Rule A)) (nothing : (c : ℕ) 
   chosen-byte c (b ∷ bs) = refl
 
   from-chosen : (line : Bytes) (R : Rule A) (k : ℕ) (s : Point) → 0 < k → byte_of line s ≡ k → pick k xs ≡ R → from line s (chosen a xs) ≡ from line s R
-  from-chosen line R k (Ok (Some i)) h e f = chosen-byte (suc i) (drop i line) ∙ ap (λ (b : ℕ). pick b xs (place_in line i)) e ∙ ap (λ (r : Rule A). r (place_in line i)) f
+  from-chosen line R k (Ok (Some i)) h e f = chosen-byte (suc i) (drop i line) ∙ ap (λ (b : ℕ). pick b xs (place_in line i)) e
+      ∙ ap (λ (r : Rule A). r (place_in line i)) f
   from-chosen line R k (Ok None) h e f = absurd (omega arith)
   from-chosen line R k (Err q) h e f = refl
 
-  pub choose-this : {P : A → Type 0} {line : Bytes} {s r : Point} (R : Rule A) (k : ℕ) → 0 < k → byte_of line s ≡ k → pick k xs ≡ R → Reads line s R P r → Reads line s (chosen a xs) P r
-  choose-this {P} {line} {s} {r} R k h e f y = record { within = y.within; onward = y.onward; value = y.value; is = from-chosen line R k s h e f ∙ y.is; holds = y.holds }
+  pub choose-this : {P : A → Type 0} {line : Bytes} {s r : Point} (R : Rule A) (k : ℕ) → 0 < k → byte_of line s ≡ k → pick k xs ≡ R → Reads line s R P r
+      → Reads line s (chosen a xs) P r
+  choose-this {P} {line} {s} {r} R k h e f y = record {
+    within = y.within;
+    onward = y.onward;
+    value = y.value;
+    is = from-chosen line R k s h e f
+        ∙ y.is;
+    holds = y.holds;
+  }
 
-  pub choose-none : {P : A → Type 0} (line : Bytes) (s : Point) → ((p : Place) → pick (byte_of line s) xs p ≡ bad (columnOf p)) → P a → Reads line s (chosen a xs) P (refusedFrom s)
-  choose-none line (Ok (Some i)) f h = record { within = tt; onward = omega arith; value = a; is = chosen-byte (suc i) (drop i line) ∙ f (place_in line i); holds = h }
+  pub choose-none : {P : A → Type 0} (line : Bytes) (s : Point) → ((p : Place) → pick (byte_of line s) xs p ≡ bad (columnOf p)) → P a
+      → Reads line s (chosen a xs) P (refusedFrom s)
+  choose-none line (Ok (Some i)) f h = record {
+    within = tt;
+    onward = omega arith;
+    value = a;
+    is = chosen-byte (suc i) (drop i line)
+        ∙ f (place_in line i);
+    holds = h;
+  }
   choose-none line (Ok None) f h = record { within = tt; onward = omega arith; value = a; is = refl; holds = h }
   choose-none line (Err q) f h = record { within = tt; onward = omega arith; value = a; is = refl; holds = h }
 
@@ -95,7 +120,8 @@ no-marks b h i j =
     let m : Char × Rule (Atom NameAt) = markedWith "!" (λ n. free (par n)) in
     pick_other b (markedWith "?" (λ n. free (var n))) (m ∷ l) h ∙ pick_other b m l i ∙ pick_other b (markedWith "#" base) [] j
 
-pub atom-none : {line : Bytes} {p s : Point} → Reads line p column (λ (k : ℕ). k ≡ columnAt s) s → (byte_of line s ≡ 63 → ⊥) → (byte_of line s ≡ 33 → ⊥) → (byte_of line s ≡ 35 → ⊥)
+pub atom-none : {line : Bytes} {p s : Point} → Reads line p column (λ (k : ℕ). k ≡ columnAt s) s → (byte_of line s ≡ 63 → ⊥) → (byte_of line s ≡ 33 → ⊥)
+    → (byte_of line s ≡ 35 → ⊥)
     → Reads line p atom Any (refusedFrom s)
 atom-none {line} {p} {s} x h i j =
     in-turn column (λ c. chosen noAtom marks) x
@@ -122,7 +148,13 @@ begun line b (Ok None) h e = absurd (true≢false e)
 begun line b (Err q) h e = absurd (true≢false e)
 
 pub left_there : (line : Bytes) (p : Point) → PointIn line p → Reads line p left (λ (n : ℕ). left_at line p ≤ n) p
-left_there line (Ok (Some i)) h = record { within = h; onward = omega arith; value = length (drop i line); is = refl; holds = omega (arith, length-drop i line) }
+left_there line (Ok (Some i)) h = record {
+  within = h;
+  onward = omega arith;
+  value = length (drop i line);
+  is = refl;
+  holds = omega (arith, length-drop i line);
+}
 left_there line (Ok None) h = record { within = tt; onward = omega arith; value = 0; is = refl; holds = omega arith }
 left_there line (Err q) h = record { within = tt; onward = omega arith; value = 0; is = refl; holds = omega arith }
 

@@ -159,13 +159,28 @@ pub record MarkRead (line : Bytes) (p : Point) (b : ℕ) (r : Point) : Type 0 wh
 
 module _ {line : Bytes} {at i : ℕ} (b : ℕ) (s : Skipped line at i) where
   pub mark-end : length line ≤ i → MarkRead line (Ok (Some at)) b (Err i)
-  mark-end h = record { reads = record { within = tt; onward = omega arith; value = tt; is = rw (skip_is s) (spell-end line i b h); holds = tt }; less = omega arith }
+  mark-end h = record {
+    reads = record { within = tt; onward = omega arith; value = tt; is = rw (skip_is s) (spell-end line i b h); holds = tt };
+    less = omega arith;
+  }
 
   pub mark-other : i < length line → (get_or line i 0 ≡ b → ⊥) → MarkRead line (Ok (Some at)) b (Err i)
-  mark-other h e = record { reads = record { within = tt; onward = omega arith; value = tt; is = rw (skip_is s) (spell-other line i b h e); holds = tt }; less = omega arith }
+  mark-other h e = record {
+    reads = record { within = tt; onward = omega arith; value = tt; is = rw (skip_is s) (spell-other line i b h e); holds = tt };
+    less = omega arith;
+  }
 
   pub mark-there : i < length line → get_or line i 0 ≡ b → MarkRead line (Ok (Some at)) b (Ok (Some (i + 1)))
-  mark-there h e = record { reads = record { within = omega arith; onward = omega (arith, s.behind); value = tt; is = rw (skip_is s) (spell-there line i b h e); holds = tt }; less = omega (arith, s.behind) }
+  mark-there h e = record {
+    reads = record {
+      within = omega arith;
+      onward = omega (arith, s.behind);
+      value = tt;
+      is = rw (skip_is s) (spell-there line i b h e);
+      holds = tt;
+    };
+    less = omega (arith, s.behind);
+  }
 
   pub begins-so : i < length line → eqb (get_or line i 0) b ≡ beginsAt line (Ok (Some at)) b
   begins-so h = rw (skip_is s) (sym (begins-there line i b h))
@@ -173,7 +188,8 @@ module _ {line : Bytes} {at i : ℕ} (b : ℕ) (s : Skipped line at i) where
   pub begins-not : length line ≤ i → false ≡ beginsAt line (Ok (Some at)) b
   begins-not h = rw (skip_is s) (sym (begins-end line i b h))
 
-pub digits-there : {line : Bytes} {at i next n : ℕ} → Skipped line at i → NumberRead line i next n → Reads line (Ok (Some at)) digits (Capped n) (Ok (Some next))
+pub digits-there : {line : Bytes} {at i next n : ℕ} → Skipped line at i → NumberRead line i next n
+    → Reads line (Ok (Some at)) digits (Capped n) (Ok (Some next))
 digits-there s r = record { within = r.within; onward = omega (arith, r.behind, s.behind); value = r.value; is = rw (skip_is s) r.is; holds = r.capped }
 
 pub no-digits : {line : Bytes} {at i q : ℕ} → Skipped line at i → digitsAt (place_in line i) ≡ bad (suc q) → Reads line (Ok (Some at)) digits (Capped 0) (Err q)
@@ -205,8 +221,17 @@ module _ {A : Type 0} (line : Bytes) (x : Char) (R S : Rule A) where
   from-else (Ok None) e = refl
   from-else (Err q) e = refl
 
-pub if-sign : {A : Type 0} {P : A → Type 0} {line : Bytes} {p r : Point} (x : Char) (R S : Rule A) → true ≡ beginsAt line p (code x) → Reads line p R P r → Reads line p (ifSign x R S) P r
+pub if-sign : {A : Type 0} {P : A → Type 0} {line : Bytes} {p r : Point} (x : Char) (R S : Rule A) → true ≡ beginsAt line p (code x) → Reads line p R P r
+    → Reads line p (ifSign x R S) P r
 if-sign {A} {P} {line} {p} {r} x R S e y = record { within = y.within; onward = y.onward; value = y.value; is = from-if line x R S p e ∙ y.is; holds = y.holds }
 
-pub if-no-sign : {A : Type 0} {P : A → Type 0} {line : Bytes} {p r : Point} (x : Char) (R S : Rule A) → false ≡ beginsAt line p (code x) → Reads line p S P r → Reads line p (ifSign x R S) P r
-if-no-sign {A} {P} {line} {p} {r} x R S e y = record { within = y.within; onward = y.onward; value = y.value; is = from-else line x R S p e ∙ y.is; holds = y.holds }
+pub if-no-sign : {A : Type 0} {P : A → Type 0} {line : Bytes} {p r : Point} (x : Char) (R S : Rule A) → false ≡ beginsAt line p (code x) → Reads line p S P r
+    → Reads line p (ifSign x R S) P r
+if-no-sign {A} {P} {line} {p} {r} x R S e y = record {
+  within = y.within;
+  onward = y.onward;
+  value = y.value;
+  is = from-else line x R S p e
+      ∙ y.is;
+  holds = y.holds;
+}

@@ -28,7 +28,8 @@ module _ {line : Bytes} {p : Point} where
   pub without-minus : PointIn line p → false ≡ beginsAt line p 45 → Reads line p minusThere (Same false) p
   without-minus i e = if-no-sign "-" (sign "-" >> give true) (give false) e (given false i refl)
 
-  pub with-denominator : {a r : Point} {n : ℕ} → true ≡ beginsAt line p 47 → Reads line p (marked 47) Any a → Reads line a digits (Capped n) r → Reads line p denominatorThere (Capped n) r
+  pub with-denominator : {a r : Point} {n : ℕ} → true ≡ beginsAt line p 47 → Reads line p (marked 47) Any a → Reads line a digits (Capped n) r
+      → Reads line p denominatorThere (Capped n) r
   with-denominator e x y = if-sign "/" (sign "/" >> digits) (give 1) e (in-turn (sign "/") (λ u. digits) x (λ u h. y))
 
   pub without-denominator : PointIn line p → false ≡ beginsAt line p 47 → Reads line p denominatorThere (Capped 1) p

@@ -4,9 +4,10 @@ use Rattle.std.proofs.Common.{sym, arith}
 use Rattle.std.proofs.Math.ListN.{length-drop}
 use Rattle.rules.specs.Names.{Bytes}
 use Rattle.rules.specs.Trees.{Open, Basic}
-use Rattle.rules.specs.Grammar.{Place, here, beyond, Parsed, read, bad, Rule, give, skip, spell, spellFrom, column, NameAt, name, TyAt, open_at, basicAt, ◌>>=◌, ◌>>◌}
+use Rattle.rules.specs.Grammar.{Place, here, beyond, Parsed, read, bad, Rule, give, skip, spell, spellFrom, column, NameAt, name, TyAt, open_at}
+use Rattle.rules.specs.Grammar.{basicAt, ◌>>=◌, ◌>>◌}
 use Rattle.scanning.specs.Scanned.{place_in, Skipped}
-use Rattle.reading.specs.Points.{Reads, Any, marked, columnAt, in-turn, given, skip_is, Point}
+use Rattle.reading.specs.Points.{Reads, Any, marked, skip_is}
 
 -- a sign's bytes, behind blanks
 abbrev pub spelled : Bytes → Rule (Unit {0})

@@ -3,7 +3,9 @@ use Rattle.std.specs.Prelude.{◌≡◌, refl, true, false, Err, None, Ok, Some}
 use Rattle.std.proofs.Common.{◌∙◌, arith}
 use Prim.Native.Nat.{ℕ, zero, suc, ◌≤◌, ◌<◌}
 use Rattle.rules.specs.Names.{Bytes}
-use Rattle.rules.specs.Grammar.{Place, beyond, Parsed, read, bad, pass, Rule, give, ascii, sign, ifSign, column, left, NameAt, name, TyAt, TysAt, nilAt, consAt, FieldsAt, noneAt, field_at, fn_at, listAt, struct_at, moreTys, tys, function, listed, fieldName, moreFields, fields, structure, ◌>>=◌, ◌>>◌}
+use Rattle.rules.specs.Grammar.{Place, beyond, Parsed, read, bad, pass, Rule, give, ascii, sign, ifSign, column, left, NameAt, name, TyAt, TysAt}
+use Rattle.rules.specs.Grammar.{nilAt, consAt, FieldsAt, noneAt, field_at, fn_at, listAt, struct_at, moreTys, tys, function, listed, fieldName}
+use Rattle.rules.specs.Grammar.{moreFields, fields, structure, ◌>>=◌, ◌>>◌}
 use Rattle.scanning.specs.Scanned.{place_in}
 use Rattle.reading.specs.Points.{Reads, from, PointIn, MarkRead, Any, marked, left_at, columnAt, beginsAt, in-turn, given, if-sign, if-no-sign, Point}
 use Rattle.reading.specs.Factors.{begun, left_there}
@@ -36,7 +38,8 @@ module _ (ty : Rule TyAt) where
 
   module _ {Z : Type 0} {line : Bytes} {p q : Point} {P Q : Point → Z → TysAt → Type 0} (m : Onto (moreTys ty) line p P q Q) where
     one-ty : {a b : Point} {T : TyAt → Type 0} {U W : TysAt → Type 0} → true ≡ beginsAt line q 44 → MarkRead line q 44 a → Reads line a ty T b
-        → (r : Point) → ((t : TyAt) (ts : TysAt) (n : ℕ) → T t → Reads line b (moreTys ty n) W r → W ts → U (consAt t ts)) → Whatever (moreTys ty) line b W r → Whatever (moreTys ty) line q U r
+        → (r : Point) → ((t : TyAt) (ts : TysAt) (n : ℕ) → T t → Reads line b (moreTys ty n) W r → W ts → U (consAt t ts)) → Whatever (moreTys ty) line b W r
+        → Whatever (moreTys ty) line q U r
     unfolding moreTys
     one-ty e x y r f k zero h = absurd (omega (arith, begun line 44 q m.within e))
     one-ty e x y r f k (suc n) h =
@@ -48,7 +51,8 @@ module _ (ty : Rule TyAt) where
 
     -- one type more was read
     pub tys-go : {a b : Point} {T : TyAt → Type 0} (W : Point → Z → TysAt → Type 0) → true ≡ beginsAt line q 44 → MarkRead line q 44 a → Reads line a ty T b
-        → ((r : Point) (z : Z) (t : TyAt) (ts : TysAt) (n : ℕ) → T t → Reads line b (moreTys ty n) (W r z) r → W r z ts → Q r z (consAt t ts)) → Onto (moreTys ty) line p P b W
+        → ((r : Point) (z : Z) (t : TyAt) (ts : TysAt) (n : ℕ) → T t → Reads line b (moreTys ty n) (W r z) r → W r z ts → Q r z (consAt t ts))
+        → Onto (moreTys ty) line p P b W
     tys-go W e x y f = record { within = y.within; so = λ r z k. m.so r z (one-ty e x y r (f r z) k) }
 
     pub tys-less : {a b : Point} {T : TyAt → Type 0} → true ≡ beginsAt line q 44 → MarkRead line q 44 a → Reads line a ty T b → left_at line b < left_at line q
@@ -69,7 +73,8 @@ module _ (ty : Rule TyAt) where
       (λ t ht. in-turn left (λ n. moreTys ty n >>= λ ts. give (consAt t ts)) (left_there line f x.within)
       (λ n hn. let z = y n hn in in-turn (moreTys ty n) (λ ts. give (consAt t ts)) z (λ ts hs. given (consAt t ts) z.within (k t ts n ht z hs))))
 
-  pub listed-read : {line : Bytes} {p s a b c r : Point} {T Q : TyAt → Type 0} → Reads line p column (λ (k : ℕ). k ≡ columnAt s) s → Reads line s (spelled (ascii "List")) Any a
+  pub listed-read : {line : Bytes} {p s a b c r : Point} {T Q : TyAt → Type 0} → Reads line p column (λ (k : ℕ). k ≡ columnAt s) s
+      → Reads line s (spelled (ascii "List")) Any a
       → Reads line a (marked 60) Any b → Reads line b ty T c → Reads line c (marked 62) Any r
       → ((k : ℕ) (t : TyAt) → k ≡ columnAt s → T t → Q (listAt k t)) → Reads line p (listed ty) Q r
   unfolding listed
@@ -124,7 +129,8 @@ module _ (ty : Rule TyAt) where
     pub without-params : PointIn line p → true ≡ beginsAt line p 41 → U nilAt → Reads line p paramsThere U p
     without-params i e u = if-sign ")" (give nilAt) (tys ty) e (given nilAt i u)
 
-    pub with-types : {a b r : Point} {T : TysAt → Type 0} → true ≡ beginsAt line p 60 → Reads line p (marked 60) Any a → Reads line a (tys ty) T b → Reads line b (marked 62) Any r
+    pub with-types : {a b r : Point} {T : TysAt → Type 0} → true ≡ beginsAt line p 60 → Reads line p (marked 60) Any a → Reads line a (tys ty) T b
+        → Reads line b (marked 62) Any r
         → ((ts : TysAt) → T ts → U ts) → Reads line p typesThere U r
     with-types e x y z f =
         if-sign "<" types_in (give nilAt) e
@@ -135,7 +141,8 @@ module _ (ty : Rule TyAt) where
     without-types i e u = if-no-sign "<" types_in (give nilAt) e (given nilAt i u)
 
   module _ {line : Bytes} {p : Point} {U : FieldsAt → Type 0} where
-    pub with-fields : {a b r : Point} {T : FieldsAt → Type 0} → true ≡ beginsAt line p 123 → Reads line p (marked 123) Any a → Reads line a (fields ty) T b → Reads line b (marked 125) Any r
+    pub with-fields : {a b r : Point} {T : FieldsAt → Type 0} → true ≡ beginsAt line p 123 → Reads line p (marked 123) Any a → Reads line a (fields ty) T b
+        → Reads line b (marked 125) Any r
         → ((fs : FieldsAt) → T fs → U fs) → Reads line p fieldsThere U r
     with-fields e x y z f =
         if-sign "{" fieldsIn (give noneAt) e
@@ -166,7 +173,8 @@ module _ (ty : Rule TyAt) where
   fieldRule = fieldName >>= λ i. sign ":" >> withName i
 
   pub field-read : {line : Bytes} {p x c r : Point} {N : NameAt → Type 0} {T : TyAt → Type 0} {Q : NameAt × TyAt → Type 0}
-      → Reads line p fieldName N x → Reads line x (marked 58) Any c → Reads line c ty T r → ((i : NameAt) (t : TyAt) → N i → T t → Q (i, t)) → Reads line p fieldRule Q r
+      → Reads line p fieldName N x → Reads line x (marked 58) Any c → Reads line c ty T r → ((i : NameAt) (t : TyAt) → N i → T t → Q (i, t))
+      → Reads line p fieldRule Q r
   field-read x1 x2 x3 f =
       in-turn fieldName (λ i. sign ":" >> withName i) x1
       (λ i hi. in-turn (sign ":") (λ u. withName i) x2
@@ -200,7 +208,8 @@ module _ (ty : Rule TyAt) where
   nextField n = sign "," >> (fieldName >>= λ i. sign ":" >> (ty >>= λ t. moreOf n i t))
 
   module _ {Z : Type 0} {line : Bytes} {p q : Point} {P Q : Point → Z → FieldsAt → Type 0} (m : Onto (moreFields ty) line p P q Q) where
-    one_field : {a b : Point} {F : NameAt × TyAt → Type 0} {U W : FieldsAt → Type 0} → true ≡ beginsAt line q 44 → MarkRead line q 44 a → Reads line a fieldRule F b
+    one_field : {a b : Point} {F : NameAt × TyAt → Type 0} {U W : FieldsAt → Type 0} → true ≡ beginsAt line q 44 → MarkRead line q 44 a
+        → Reads line a fieldRule F b
         → (r : Point) → ((i : NameAt) (t : TyAt) (fs : FieldsAt) (n : ℕ) → F (i, t) → Reads line b (moreFields ty n) W r → W fs → U (field_at i t fs))
         → Whatever (moreFields ty) line b W r → Whatever (moreFields ty) line q U r
     unfolding moreFields
@@ -213,12 +222,15 @@ module _ (ty : Rule TyAt) where
         (λ i t hf. in-turn (moreFields ty n) (λ fs. give (field_at i t fs)) z (λ fs hs. given (field_at i t fs) z.within (f i t fs n hf z hs)))))
 
     -- one field more was read
-    pub fields_go : {a b : Point} {F : NameAt × TyAt → Type 0} (W : Point → Z → FieldsAt → Type 0) → true ≡ beginsAt line q 44 → MarkRead line q 44 a → Reads line a fieldRule F b
-        → ((r : Point) (z : Z) (i : NameAt) (t : TyAt) (fs : FieldsAt) (n : ℕ) → F (i, t) → Reads line b (moreFields ty n) (W r z) r → W r z fs → Q r z (field_at i t fs))
+    pub fields_go : {a b : Point} {F : NameAt × TyAt → Type 0} (W : Point → Z → FieldsAt → Type 0) → true ≡ beginsAt line q 44 → MarkRead line q 44 a
+        → Reads line a fieldRule F b
+        → ((r : Point) (z : Z) (i : NameAt) (t : TyAt) (fs : FieldsAt) (n : ℕ) → F (i, t) → Reads line b (moreFields ty n) (W r z) r → W r z fs
+        → Q r z (field_at i t fs))
         → Onto (moreFields ty) line p P b W
     fields_go W e x y f = record { within = y.within; so = λ r z k. m.so r z (one_field e x y r (f r z) k) }
 
-    pub fields-less : {a b : Point} {F : NameAt × TyAt → Type 0} → true ≡ beginsAt line q 44 → MarkRead line q 44 a → Reads line a fieldRule F b → left_at line b < left_at line q
+    pub fields-less : {a b : Point} {F : NameAt × TyAt → Type 0} → true ≡ beginsAt line q 44 → MarkRead line q 44 a → Reads line a fieldRule F b
+        → left_at line b < left_at line q
     fields-less e x y = omega (arith, y.onward, x.less, begun line 44 q m.within e)
 
     no_field : {U : FieldsAt → Type 0} → false ≡ beginsAt line q 44 → U noneAt → Whatever (moreFields ty) line q U q
@@ -229,8 +241,10 @@ module _ (ty : Rule TyAt) where
     pub fields-end : (z : Z) → false ≡ beginsAt line q 44 → Q q z noneAt → Whatever (moreFields ty) line p (P q z) q
     fields-end z e u = m.so q z (no_field e u)
 
-  pub fields_read : {line : Bytes} {p f r : Point} {F : NameAt × TyAt → Type 0} {W Q : FieldsAt → Type 0} → Reads line p fieldRule F f → Whatever (moreFields ty) line f W r
-      → ((i : NameAt) (t : TyAt) (fs : FieldsAt) (n : ℕ) → F (i, t) → Reads line f (moreFields ty n) W r → W fs → Q (field_at i t fs)) → Reads line p (fields ty) Q r
+  pub fields_read : {line : Bytes} {p f r : Point} {F : NameAt × TyAt → Type 0} {W Q : FieldsAt → Type 0} → Reads line p fieldRule F f
+      → Whatever (moreFields ty) line f W r
+      → ((i : NameAt) (t : TyAt) (fs : FieldsAt) (n : ℕ) → F (i, t) → Reads line f (moreFields ty n) W r → W fs → Q (field_at i t fs))
+      → Reads line p (fields ty) Q r
   fields_read {line} {p} {f} {r} x y k =
       field-then (λ i t. left >>= λ n. moreFields ty n >>= λ fs. give (field_at i t fs)) x
       (λ i t h. in-turn left (λ n. moreFields ty n >>= λ fs. give (field_at i t fs)) (left_there line f x.within)

@@ -99,7 +99,8 @@ module _ (m : Bool) (n d : ℕ) where
   value_there h k l = rw (size_of, le-leb n top h, le-leb 1 d k, le-leb d top l)
 
 -- the cap decides as the number itself does
-capped-value : (m : Bool) (n d v w : ℕ) (t u : Bool) → leb v top ≡ t → leb w top ≡ u → n ≡ min v 2147483648 → d ≡ min w 2147483648 → value_of m v w ≡ value_of m n d
+capped-value : (m : Bool) (n d v w : ℕ) (t u : Bool) → leb v top ≡ t → leb w top ≡ u → n ≡ min v 2147483648 → d ≡ min w 2147483648
+    → value_of m v w ≡ value_of m n d
 capped-value m n d v w false u e f a b = value-large m v w (leb-false v top e) ∙ sym (value-large m n d (omega (arith, leb-false v top e)))
 capped-value m n d v w true false e f a b = value-under m v w (leb-false w top f) ∙ sym (value-under m n d (omega (arith, leb-false w top f)))
 capped-value m n d v w true true e f a b =

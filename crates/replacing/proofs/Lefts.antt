@@ -13,10 +13,9 @@ use Rattle.records.specs.Cut.{fit, cutRec, cut}
 use Rattle.records.specs.Places.{cut-view}
 use Rattle.records.specs.Views.{recOf}
 use Rattle.records.specs.declared.View.{View}
-use Rattle.replacing.specs.Left.{Left, LeftOf, Stops, Room, Behind, beforeRecs}
+use Rattle.replacing.specs.Left.{went-same, Left, LeftOf, Stops, Room, Behind, beforeRecs, Went}
 use Rattle.replacing.specs.Writes.{cut-writes, writes-before}
-use Rattle.replacing.specs.declared.inner.walk.Went.{Went}
-use Rattle.replacing.specs.declared.inner.walk.Went.TheVariants.{To, Stop}
+use Rattle.std.specs.Prelude.{Ok, Err}
 
 -- what a step that went on left
 pub record Made {A : Type 0} (m : A → ℕ) (ws : A → List Rec) (d d' : List ℕ) (next out q o : ℕ) (R : Got A) : Type 0 where
@@ -27,42 +26,44 @@ pub record Made {A : Type 0} (m : A → ℕ) (ws : A → List Rec) (d d' : List 
   pub buffer : d' ≡ sets d (out * 4) (words (cut (ws value)))
 
 module _ {A : Type 0} (m : A → ℕ) (ws : A → List Rec) (d d' : List ℕ) (next out : ℕ) (r : Went) where
-  to-of : (q o : ℕ) (R : Got A) → LeftOf m ws d d' next out r R → r ≡ To q o → Made m ws d d' next out q o R
-  to-of q o (got a) h e = record { value = a; is = refl; read = cc; counted = cc; buffer = h.1 }
+  to-of : (q o : ℕ) (R : Got A) → LeftOf m ws d d' next out r R → r ≡ Ok (q, o) → Made m ws d d' next out q o R
+  to-of q o (got a) h e =
+      let (i, j) = went-same (sym e ∙ h.0) in
+      record { value = a; is = refl; read = i; counted = j; buffer = h.1 }
   to-of q o (refused k) h e = absurd (subst (λ (w : Went). Stops w k) e h)
 
-  stop-of : (k : Refusal) (R : Got A) → LeftOf m ws d d' next out r R → r ≡ Stop k → R ≡ refused (number_of k)
-  stop-of k (got a) h e = absurd (let q : To next (out + m a) ≡ Stop k = sym h.0 ∙ e in let z : ◌≡◌ {A = ℕ} 0 1 = cc in omega arith)
+  stop-of : (k : Refusal) (R : Got A) → LeftOf m ws d d' next out r R → r ≡ Err k → R ≡ refused (number_of k)
+  stop-of k (got a) h e = absurd (let q : ◌≡◌ {A = Went} (Ok (next, out + m a)) (Err k) = sym h.0 ∙ e in let z : ◌≡◌ {A = ℕ} 0 1 = cc in omega arith)
   stop-of k (refused j) h e = ap (λ (n : ℕ). refused n) (sym (subst (λ (w : Went). Stops w j) e h))
 
 module _ {A : Type 0} {m : A → ℕ} {ws : A → List Rec} {d d' : List ℕ} {next out : ℕ} {r : Went} {R : Got A} where
-  pub went : {q o : ℕ} → Left m ws d d' next out r R → r ≡ To q o → Made m ws d d' next out q o R
+  pub went : {q o : ℕ} → Left m ws d d' next out r R → r ≡ Ok (q, o) → Made m ws d d' next out q o R
   went {q} {o} h e = to-of m ws d d' next out r q o R h.says e
 
-  pub stopped : {k : Refusal} → Left m ws d d' next out r R → r ≡ Stop k → R ≡ refused (number_of k)
+  pub stopped : {k : Refusal} → Left m ws d d' next out r R → r ≡ Err k → R ≡ refused (number_of k)
   stopped {k} h e = stop-of m ws d d' next out r k R h.says e
 
 -- a value and its records, made at once
 pub left-made : {A : Type 0} {m : A → ℕ} {ws : A → List Rec} {d d' : List ℕ} {next out q o : ℕ} {R : Got A} (a : A) → R ≡ got a → q ≡ next → o ≡ out + m a → d' ≡ sets d (out * 4) (words (cut (ws a)))
-    → Left m ws d d' next out (To q o) R
+    → Left m ws d d' next out (Ok (q, o)) R
 left-made {d = d} a e p c b = record { says = rw e (rw (p, c), b) }
 
 -- the same, with records that are short enough to be written as they are
 pub left-put : {A : Type 0} {m : A → ℕ} {ws : A → List Rec} {d d' : List ℕ} {next out q o : ℕ} {R : Got A} (a : A) → R ≡ got a → q ≡ next → o ≡ out + m a → cut (ws a) ≡ ws a → d' ≡ sets d (out * 4) (words (ws a))
-    → Left m ws d d' next out (To q o) R
+    → Left m ws d d' next out (Ok (q, o)) R
 left-put {d = d} {out = out} a e p c k b = left-made a e p c (b ∙ ap (λ (l : List Rec). sets d (out * 4) (words l)) (sym k))
 
-pub left-stop : {A : Type 0} {m : A → ℕ} {ws : A → List Rec} {d d' : List ℕ} {next out : ℕ} {k : Refusal} {R : Got A} → R ≡ refused (number_of k) → Left m ws d d' next out (Stop k) R
+pub left-stop : {A : Type 0} {m : A → ℕ} {ws : A → List Rec} {d d' : List ℕ} {next out : ℕ} {k : Refusal} {R : Got A} → R ≡ refused (number_of k) → Left m ws d d' next out (Err k) R
 left-stop e = record { says = rw e refl }
 
 -- the same value under another name
 module _ {A B : Type 0} (m : A → ℕ) (ws : A → List Rec) (m' : B → ℕ) (ws' : B → List Rec) (f : A → B) (hm : (a : A) → m' (f a) ≡ m a) (hw : (a : A) → ws' (f a) ≡ ws a) (d d' : List ℕ) (next out : ℕ) (r : Went) where
   as-of : (R : Got A) → LeftOf m ws d d' next out r R → LeftOf m' ws' d d' next out r (R >>= λ a. got (f a))
-  as-of (got a) h = (h.0 ∙ ap (λ (k : ℕ). To next (out + k)) (sym (hm a)), h.1 ∙ ap (λ (l : List Rec). sets d (out * 4) (words (cut l))) (sym (hw a)))
+  as-of (got a) h = (h.0 ∙ ap (λ (k : ℕ). Ok (next, out + k)) (sym (hm a)), h.1 ∙ ap (λ (l : List Rec). sets d (out * 4) (words (cut l))) (sym (hw a)))
   as-of (refused k) h = h
 
   back-of : (R : Got A) → LeftOf m' ws' d d' next out r (R >>= λ a. got (f a)) → LeftOf m ws d d' next out r R
-  back-of (got a) h = (h.0 ∙ ap (λ (k : ℕ). To next (out + k)) (hm a), h.1 ∙ ap (λ (l : List Rec). sets d (out * 4) (words (cut l))) (hw a))
+  back-of (got a) h = (h.0 ∙ ap (λ (k : ℕ). Ok (next, out + k)) (hm a), h.1 ∙ ap (λ (l : List Rec). sets d (out * 4) (words (cut l))) (hw a))
   back-of (refused k) h = h
 
   pub left_as : (R : Got A) → Left m ws d d' next out r R → Left m' ws' d d' next out r (R >>= λ a. got (f a))
@@ -76,7 +77,7 @@ module _ {A B : Type 0} (m : A → ℕ) (ws : A → List Rec) (m' : B → ℕ) (
   on_of : (S : Got A) → R ≡ S → d₁ ≡ sets d (out * 4) (words (cut w)) → LeftOf m ws d₁ d' next (out + n) r S → LeftOf m' ws' d d' next out r (S >>= λ a. got (f a))
   on_of (got a) e p h =
       let g : out + n + m a ≡ out + m' (f a) = omega (arith, hm a e) in
-      (h.0 ∙ ap (To next) g, cut-writes d d₁ d' w (ws a) n out len p h.1 ∙ ap (λ (l : List Rec). sets d (out * 4) (words (cut l))) (sym (hw a e)))
+      (h.0 ∙ ap (λ (k : ℕ). Ok (next, k)) g, cut-writes d d₁ d' w (ws a) n out len p h.1 ∙ ap (λ (l : List Rec). sets d (out * 4) (words (cut l))) (sym (hw a e)))
   on_of (refused k) e p h = h
 
   -- n records were written, and the rest goes on from there
@@ -92,7 +93,7 @@ module _ {A B : Type 0} (m : A → ℕ) (ws : A → List Rec) (m' : B → ℕ) (
       let p : d' ≡ sets d₁ (out * 4) (words (cutRec (recOf v (m' (f a))) ∷ [])) =
       q ∙ ap (λ (x : Went). sets d₁ (out * 4) (words (beforeRecs x v out))) h.0
       ∙ ap (λ (x : ℕ). sets d₁ (out * 4) (words (recOf v (fit x) ∷ []))) n ∙ ap (λ (x : Rec). sets d₁ (out * 4) (words (x ∷ []))) (sym (cut-view v (m' (f a)))) in
-      (h.0 ∙ ap (To next) g, writes-before d d₁ d' (cutRec (recOf v (m' (f a)))) (cut (ws a)) out h.1 p ∙ ap (λ (l : List Rec). sets d (out * 4) (words (cut l))) (sym (hw a e)))
+      (h.0 ∙ ap (λ (k : ℕ). Ok (next, k)) g, writes-before d d₁ d' (cutRec (recOf v (m' (f a)))) (cut (ws a)) out h.1 p ∙ ap (λ (l : List Rec). sets d (out * 4) (words (cut l))) (sym (hw a e)))
   under_of (refused k) e h q = h
 
   -- the rest was written one record further on, and the first before it
@@ -104,8 +105,8 @@ pub left_behind : {A : Type 0} {m : A → ℕ} {ws : A → List Rec} {d d' : Lis
 left_behind {m = m} {ws} {d} {d'} {next} {past} {r} {R} out le h = go r refl
   where
     go : (x : Went) → r ≡ x → Behind x out
-    go (To q o) e = omega (arith, (went {R = R} h e).counted)
-    go (Stop k) e = tt
+    go (Ok (q, o)) e = omega (arith, (went {R = R} h e).counted)
+    go (Err k) e = tt
 
 -- after n records were read and at most 2,048 written for each, the room is still there
 pub room-on : {s : List ℕ} {at out next past : ℕ} (n m : ℕ) → Room s at out → next ≡ at + n → past ≡ out + m → at + n ≤ length s / 4 → m ≤ n * 2048 → Room s next past

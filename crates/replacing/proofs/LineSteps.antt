@@ -29,10 +29,9 @@ use Rattle.records.specs.declared.View.TheVariants as view
 use Rattle.replacing.specs.Well as well
 use Rattle.replacing.specs.Well.{GoodTy, GoodCon, GoodBinding, HeldDim, Lent}
 use Rattle.replacing.specs.InProducts.{product-kept}
-use Rattle.replacing.specs.Left.{Left, LeftOf, Room, Behind, beforeRecs, types, sizeRow, writeRow, HeldRow, Replaced, RowReplaced, ProductReplaced, DimReplaced, sizeProduct}
+use Rattle.replacing.specs.Left.{Left, LeftOf, Room, Behind, beforeRecs, types, sizeRow, writeRow, HeldRow, Replaced, RowReplaced, ProductReplaced, DimReplaced, sizeProduct, Went}
 use Rattle.replacing.specs.LineRules.{Line, con, binding, sizeLine, writeLine, headLine, parts_of, partsSize, parts-size, line-parts, HoldsLine, GoodLine, HeldLine, HeldLines, ScalarHeld, replaceLine, ScalarReplaced, PartsReplaced, LineReplaced, LinesReplaced, line-length, line-some}
-use Rattle.replacing.specs.declared.inner.walk.Went.{Went}
-use Rattle.replacing.specs.declared.inner.walk.Went.TheVariants.{To, Stop}
+use Rattle.std.specs.Prelude.{Ok, Err}
 use Rattle.replacing.proofs.Others.{Tagged, untagged}
 use Rattle.replacing.proofs.Lefts.{went, stopped, left-made, left-stop, left_as, left_back, left-on, left-under, left_behind, room-on}
 use Rattle.replacing.proofs.Sizes.{both, ty_size}
@@ -111,7 +110,7 @@ module _ (f : Ty ℕ → Ty ℕ → Line) (hm : (l r : Ty ℕ) → partsSize (f 
   two-of (got l) (got r) h =
       let g : out + (size l + (size r + 0)) ≡ out + partsSize (f l r) = omega (arith, hm l r) in
       let z : writeTy l ++ (writeTy r ++ []) ≡ parts_of (f l r) = ap (writeTy l ++◌) (append-nil (writeTy r)) ∙ sym (hw l r) in
-      (h.0 ∙ ap (To next) g, h.1 ∙ ap (λ (x : List Rec). sets d (out * 4) (words (cut x))) z)
+      (h.0 ∙ ap (λ (k : ℕ). Ok (next, k)) g, h.1 ∙ ap (λ (x : List Rec). sets d (out * 4) (words (cut x))) z)
 
   two : (R S : Got (Ty ℕ)) → Left sizeTys writeTys d d' next out q (Pair R S) → Left partsSize parts_of d d' next out q (R >>= λ l. S >>= λ r. got (f l r))
   two R S h = record { says = two-of R S h.says }
@@ -317,12 +316,12 @@ module _ (pool table s places v : List ℕ) where
     line-size (binding x) g = next (binding-size x g) (λ y i. gives i)
 
   module _ (at end out : ℕ) where
-    pub lines-done : {d : List ℕ} → end ≤ at → LinesReplaced pool table s places v d d at end out (To at out)
+    pub lines-done : {d : List ℕ} → end ≤ at → LinesReplaced pool table s places v d d at end out (Ok (at, out))
     unfolding each collect words
     lines-done z [] look h l = left-made [] refl (omega (arith, h.ends)) (sym (add-zero out)) refl
     lines-done z (x ∷ xs) look h l = absurd (omega (arith, h.ends, line-some x))
 
-    pub lines-here : {d d₁ d' : List ℕ} {q o : ℕ} {r₁ r : Went} → (end ≤ at → ⊥) → LineReplaced pool table s places v d d₁ at out r₁ → r₁ ≡ To q o → LinesReplaced pool table s places v d₁ d' q end o r → LinesReplaced pool table s places v d d' at end out r
+    pub lines-here : {d d₁ d' : List ℕ} {q o : ℕ} {r₁ r : Went} → (end ≤ at → ⊥) → LineReplaced pool table s places v d d₁ at out r₁ → r₁ ≡ Ok (q, o) → LinesReplaced pool table s places v d₁ d' q end o r → LinesReplaced pool table s places v d d' at end out r
     unfolding each collect HoldsAll
     lines-here nz k g j [] look h l = absurd (nz (omega (arith, h.ends)))
     lines-here {d} {d₁} {d'} {q} {o} {r = r} nz k g j (x ∷ xs) look h l =
@@ -333,7 +332,7 @@ module _ (pool table s places v : List ℕ) where
         rw m.is
         (left-on (sum_of sizeLine) (collect writeLine) (sum_of sizeLine) (collect writeLine) (y ∷◌) (sizeLine y) (writeLine y) (line-length y) (each (replaceLine pool table look) xs) (λ a u. refl) (λ a u. refl) d d₁ d' end out r m.buffer R')
 
-    pub lines-stop : {d d₁ : List ℕ} {i : Refusal} {r₁ : Went} → (end ≤ at → ⊥) → LineReplaced pool table s places v d d₁ at out r₁ → r₁ ≡ Stop i → LinesReplaced pool table s places v d d₁ at end out (Stop i)
+    pub lines-stop : {d d₁ : List ℕ} {i : Refusal} {r₁ : Went} → (end ≤ at → ⊥) → LineReplaced pool table s places v d d₁ at out r₁ → r₁ ≡ Err i → LinesReplaced pool table s places v d d₁ at end out (Err i)
     unfolding each HoldsAll
     lines-stop nz k g [] look h l = absurd (nz (omega (arith, h.ends)))
     lines-stop nz k g (x ∷ xs) look h l = left-stop (rw (stopped (k x look (record { held = h.held.0; good = h.good.0 }) l) g))
@@ -343,7 +342,7 @@ module _ (pool table s places v : List ℕ) where
     lines-asks [] h nz = absurd (nz (omega (arith, h.ends)))
     lines-asks (x ∷ xs) h nz = (x, record { held = h.held.0; good = h.good.0 })
 
-    pub lines_next : (room : Room s at out) (look : Look ℕ) (l : Lent pool table places v look) (xs : List Line) → HeldLines pool table s xs at end → (end ≤ at → ⊥) → {d d₁ : List ℕ} {q o : ℕ} {r₁ : Went} → LineReplaced pool table s places v d d₁ at out r₁ → r₁ ≡ To q o
+    pub lines_next : (room : Room s at out) (look : Look ℕ) (l : Lent pool table places v look) (xs : List Line) → HeldLines pool table s xs at end → (end ≤ at → ⊥) → {d d₁ : List ℕ} {q o : ℕ} {r₁ : Went} → LineReplaced pool table s places v d d₁ at out r₁ → r₁ ≡ Ok (q, o)
         → ((ys : List Line) × HeldLines pool table s ys q end) × (at < q) × (q ≤ end) × Room s q o
     unfolding HoldsAll
     lines_next room look l [] h nz k g = absurd (nz (omega (arith, h.ends)))

@@ -28,21 +28,18 @@ use Rattle.records.specs.Cut.{short-ty, short-product}
 use Rattle.records.specs.Held.{held-words}
 use Rattle.records.specs.declared.Open as names
 use Rattle.records.specs.declared.View.TheVariants as view
-use Rattle.replacing.specs.Runs.{LookedUp, found}
+use Rattle.replacing.specs.Runs.{LookedUp, found, Found}
 use Rattle.replacing.specs.Places.{Tabled}
 use Rattle.replacing.specs.Well as well
 use Rattle.replacing.specs.Well.{Whole, HeldDim, Lent}
 use Rattle.replacing.specs.InProducts.{done, taken, told-stop, told-value, product-kept}
-use Rattle.replacing.specs.Alone.{toldAlone, picked}
-use Rattle.replacing.specs.declared.inner.factors.Alone.{Alone}
-use Rattle.replacing.specs.declared.inner.factors.Alone.TheVariants.{Of, Not}
+use Rattle.rules.specs.Refusals.{toldOptionBy}
+use Rattle.replacing.specs.Alone.{picked}
+use Rattle.std.specs.Prelude as std
+use Rattle.std.specs.Prelude.{None, Some, Ok, Err}
 use Rattle.laws.specs.GoodProducts.{good-product}
 use Rattle.rules.specs.Values.{productValue}
-use Rattle.replacing.specs.Left.{OpenReplaced, becomes, Ready, ProductPut, ProductReplaced, DimReplaced, sizeProduct}
-use Rattle.replacing.specs.declared.inner.bound.Found.{Found}
-use Rattle.replacing.specs.declared.inner.bound.Found.TheVariants.{At}
-use Rattle.replacing.specs.declared.inner.walk.Went.{Went}
-use Rattle.replacing.specs.declared.inner.walk.Went.TheVariants.{To, Stop}
+use Rattle.replacing.specs.Left.{OpenReplaced, becomes, Ready, ProductPut, ProductReplaced, DimReplaced, sizeProduct, Went}
 use Rattle.replacing.proofs.Lefts.{left-put, left-stop, left_as}
 
 -- ══ What was found, copied ══
@@ -57,7 +54,7 @@ module _ (v : List ℕ) where
     pub few : j - i ≤ 2048
     pub holds : slice (i * 4) (j * 4) v ≡ words (writeTy type)
 
-  pub copied : {places : List ℕ} (look : Look ℕ) (o : tree.Open ℕ) {r : Found} {i j : ℕ} → Tabled places v look → LookedUp v (look o) r → r ≡ At i j → Copied (look o) i j
+  pub copied : {places : List ℕ} (look : Look ℕ) (o : tree.Open ℕ) {r : Found} {i j : ℕ} → Tabled places v look → LookedUp v (look o) r → r ≡ Some (i, j) → Copied (look o) i j
   copied look o {r} {i} {j} l h q =
       let f = found (look o) h q in
       let n = l.few o f.type f.is in
@@ -99,14 +96,14 @@ module _ (t : Tried) where
   pub ready-product : (m : Got Tree) → Ready t m → t.checked ≡ Well' → Sound t.product
   ready-product m h e = let x = done t m h.is e in (h.sound x.tree x.is).0
 
-  pub put-made : {d d' : List ℕ} {next out : ℕ} (m : Got Tree) → Ready t m → t.checked ≡ Well' → d' ≡ sets d (out * 4) (words (writeProduct (productOf t.product))) → ProductPut d d' next out (To next (out + 1 + t.product.len)) m
+  pub put-made : {d d' : List ℕ} {next out : ℕ} (m : Got Tree) → Ready t m → t.checked ≡ Well' → d' ≡ sets d (out * 4) (words (writeProduct (productOf t.product))) → ProductPut d d' next out (Ok (next, out + 1 + t.product.len)) m
   put-made {d} {d'} {next} {out} m h e b =
       let x = done t m h.is e in
       let s = h.sound x.tree x.is in
       let l = length-product t.product s.0.long s.0.few in
       left-put x.tree x.is refl (omega (arith, ap length s.1, l)) (short-product x.tree (omega (arith, ap length s.1, l, s.0.few))) (b ∙ ap (λ (p : Tree). sets d (out * 4) (words (writeProduct p))) (sym s.1))
 
-  pub put-stop : {d d' : List ℕ} {next out : ℕ} (m : Got Tree) (k : Refusal) → Ready t m → t.checked ≡ Because k → ProductPut d d' next out (Stop k) m
+  pub put-stop : {d d' : List ℕ} {next out : ℕ} (m : Got Tree) (k : Refusal) → Ready t m → t.checked ≡ Because k → ProductPut d d' next out (Err k) m
   put-stop m k h e = left-stop (told-stop t m k h.is e)
 
 module _ (pool table : List ℕ) where
@@ -131,24 +128,24 @@ module _ (pool table : List ℕ) where
 
   -- ══ A dimension ══
 
-  module _ (P : Product) (p : Tree) (look : Look ℕ) (w : Whole pool table P p) {a : Alone} (f : Bool) (e : toldAlone a ≡ picked f (productOf P)) (d d' : List ℕ) (next out : ℕ) where
-    alone-is : {o : names.Open} → a ≡ Of o → picked f p ≡ some (openOf o)
-    alone-is q = ap (picked f) (taken pool table P p w).is ∙ sym e ∙ ap toldAlone q
+  module _ (P : Product) (p : Tree) (look : Look ℕ) (w : Whole pool table P p) {a : std.Option names.Open} (f : Bool) (e : toldOptionBy openOf a ≡ picked f (productOf P)) (d d' : List ℕ) (next out : ℕ) where
+    alone-is : {o : names.Open} → a ≡ Some o → picked f p ≡ some (openOf o)
+    alone-is q = ap (picked f) (taken pool table P p w).is ∙ sym e ∙ ap (toldOptionBy openOf) q
 
-    pub dim-bound : {o : names.Open} {v : List ℕ} {i j : ℕ} → a ≡ Of o → Copied v (look (openOf o)) i j → d' ≡ sets d (out * 4) (slice (i * 4) (j * 4) v)
-        → DimReplaced pool table look f d d' next out (To next (out + (j - i))) p
+    pub dim-bound : {o : names.Open} {v : List ℕ} {i j : ℕ} → a ≡ Some o → Copied v (look (openOf o)) i j → d' ≡ sets d (out * 4) (slice (i * 4) (j * 4) v)
+        → DimReplaced pool table look f d d' next out (Ok (next, out + (j - i))) p
     unfolding replaceDim
     dim-bound q k h =
         left-put k.type (rw (alone-is q, k.is)) refl (ap (out +◌) k.long) (short-ty k.type (omega (arith, k.few, k.long))) (h ∙ ap (sets d (out * 4)) k.holds)
 
-    pub dim-kept : {o : names.Open} {n : ℕ} → a ≡ Of o → look (openOf o) ≡ none → length p ≡ n → d' ≡ sets d (out * 4) (words (writeProduct (productOf P)))
-        → DimReplaced pool table look f d d' next out (To next (out + 1 + n)) p
+    pub dim-kept : {o : names.Open} {n : ℕ} → a ≡ Some o → look (openOf o) ≡ none → length p ≡ n → d' ≡ sets d (out * 4) (words (writeProduct (productOf P)))
+        → DimReplaced pool table look f d d' next out (Ok (next, out + 1 + n)) p
     unfolding replaceDim size writeTy
     dim-kept q k l h =
         left-put (dim p) (rw (alone-is q, k)) refl (omega (arith, l)) (short-product p (omega (arith, (good-product (well.names pool table) (law pool table) (is_held (table_of pool table)) 4_294_967_296 p w.good).few))) (h ∙ ap (λ (x : Tree). sets d (out * 4) (words (writeProduct x))) (sym (taken pool table P p w).is))
 
-    pub dim-replaced : {r : Went} → a ≡ Not → ProductReplaced pool table look d d' next out r p → DimReplaced pool table look f d d' next out r p
+    pub dim-replaced : {r : Went} → a ≡ None → ProductReplaced pool table look d d' next out r p → DimReplaced pool table look f d d' next out r p
     unfolding replaceDim size writeTy
     dim-replaced {r} q h =
-        let z : picked f p ≡ none = ap (picked f) (taken pool table P p w).is ∙ sym e ∙ ap toldAlone q in
+        let z : picked f p ≡ none = ap (picked f) (taken pool table P p w).is ∙ sym e ∙ ap (toldOptionBy openOf) q in
         rw z (left_as sizeProduct writeProduct size writeTy dim (λ x. refl) (λ x. refl) d d' next out r (replaceProduct (well.names pool table) bounded look p) h)

@@ -27,9 +27,8 @@ use Rattle.replacing.specs.Places.{Tabled}
 use Rattle.replacing.specs.Well as well
 use Rattle.replacing.specs.Well.{GoodTy, HeldType, HeldDim, Lent}
 use Rattle.replacing.specs.Writes.{writes-before}
-use Rattle.replacing.specs.Left.{Left, Room, OpenReplaced, becomes, DimReplaced, Row, types, fields, sizeRow, writeRow, isFields, HeldRow, head_of, headRecs, Behind, beforeRecs, replaceRow, Replaced, RowReplaced}
-use Rattle.replacing.specs.declared.inner.walk.Went.{Went}
-use Rattle.replacing.specs.declared.inner.walk.Went.TheVariants.{To, Stop}
+use Rattle.replacing.specs.Left.{Left, Room, OpenReplaced, becomes, DimReplaced, Row, types, fields, sizeRow, writeRow, isFields, HeldRow, head_of, headRecs, Behind, beforeRecs, replaceRow, Replaced, RowReplaced, Went}
+use Rattle.std.specs.Prelude.{Ok, Err}
 use Rattle.replacing.proofs.Others.{Tagged, untagged}
 use Rattle.replacing.proofs.Lefts.{went, stopped, left-made, left-put, left-stop, left_as, left_back, left-on, left-under, left_behind, room-on}
 use Rattle.replacing.proofs.Sizes.{fn-good, struct-good, list-good, dim-good, cons-good, field-good, ty_size, tys-size, tys-count, fields-count}
@@ -95,19 +94,19 @@ module _ (pool table s places v : List ℕ) where
     Leaves look d d' r t = GoodTy pool table t → Left size writeTy d d' (at + size t) out r (Ty' look t)
 
     pub open-here : {d d' : List ℕ} {w : View} {o : names.Open} {n : ℕ} → w ≡ viewAt s at → w ≡ view.Opened o
-        → ((look : Look ℕ) → Tabled places v look → OpenReplaced look (openOf o) d d' out n) → Replaced pool table s places v d d' at out (To (at + 1) (out + n))
+        → ((look : Look ℕ) → Tabled places v look → OpenReplaced look (openOf o) d d' out n) → Replaced pool table s places v d d' at out (Ok (at + 1, out + n))
     unfolding size replaceTy
     open-here {d} {d'} {o = o} {n} p q k t look h l =
         let x = k look l.tabled in
-        by-view s (Leaves look d d' (To (at + 1) (out + n))) t at h.held (sym p ∙ q) (λ g.
+        by-view s (Leaves look d d' (Ok (at + 1, out + n))) t at h.held (sym p ∙ q) (λ g.
         left-put (becomes look (openOf o)) refl refl (ap (out +◌) x.many) (short-ty (becomes look (openOf o)) (omega (arith, x.many, x.short))) x.buffer) h.good
 
-    pub basic-here : {d d' : List ℕ} {w : View} {k : basics.Basic} → w ≡ viewAt s at → w ≡ view.Basic k → d' ≡ sets d (out * 4) (words (recOf w 1 ∷ [])) → Replaced pool table s places v d d' at out (To (at + 1) (out + 1))
+    pub basic-here : {d d' : List ℕ} {w : View} {k : basics.Basic} → w ≡ viewAt s at → w ≡ view.Basic k → d' ≡ sets d (out * 4) (words (recOf w 1 ∷ [])) → Replaced pool table s places v d d' at out (Ok (at + 1, out + 1))
     unfolding size replaceTy
     basic-here {d} {d'} {w} {k = k} p q x t look h l =
         let y : d' ≡ sets d (out * 4) (words (writeTy (basic (basicOf k)))) =
         x ∙ ap (λ (u : View). sets d (out * 4) (words (recOf u 1 ∷ []))) q ∙ ap (λ (z : List Rec). sets d (out * 4) (words z)) (basic-rec k) in
-        by-view s (Leaves look d d' (To (at + 1) (out + 1))) t at h.held (sym p ∙ q) (λ g.
+        by-view s (Leaves look d d' (Ok (at + 1, out + 1))) t at h.held (sym p ∙ q) (λ g.
         left-put (basic (basicOf k)) refl refl refl (short-ty (basic (basicOf k)) (omega arith)) y) h.good
 
     pub dim-here : {d d' : List ℕ} {w : View} {n : ℕ} {r : Went} → w ≡ viewAt s at → w ≡ view.Dim n
@@ -131,7 +130,7 @@ module _ (pool table s places v : List ℕ) where
     other-here p k t look h l = absurd (no-type s t at h.held p k)
 
     pub fn-here : {d d₂ d₃ d' : List ℕ} {w : View} {n q o : ℕ} {r₁ r : Went} → w ≡ viewAt s at → w ≡ view.Function n
-        → RowReplaced pool table s places v d d₂ (at + 1) n false (out + 1) r₁ → r₁ ≡ To q o → Replaced pool table s places v d₂ d₃ q o r → d' ≡ sets d₃ (out * 4) (words (beforeRecs r (view.Function n) out)) → Replaced pool table s places v d d' at out r
+        → RowReplaced pool table s places v d d₂ (at + 1) n false (out + 1) r₁ → r₁ ≡ Ok (q, o) → Replaced pool table s places v d₂ d₃ q o r → d' ≡ sets d₃ (out * 4) (words (beforeRecs r (view.Function n) out)) → Replaced pool table s places v d d' at out r
     unfolding size replaceTy writeTy
     fn-here {d} {d₂} {d₃} {d'} {w} {n = n} {q} {o} {r₁} {r} p z k g j y t look h l =
         by-view s (Leaves look d d' r) t at h.held (sym p ∙ z) (λ ps u c hp hu gd.
@@ -151,14 +150,14 @@ module _ (pool table s places v : List ℕ) where
         (kept d₃ d' out r (view.Function n) (view.Function (count qs)) y (ap view.Function cc')))) h.good
 
     pub fn-stop : {d d₂ : List ℕ} {w : View} {n : ℕ} {j : Refusal} {r₁ : Went} → w ≡ viewAt s at → w ≡ view.Function n
-        → RowReplaced pool table s places v d d₂ (at + 1) n false (out + 1) r₁ → r₁ ≡ Stop j → Replaced pool table s places v d d₂ at out (Stop j)
+        → RowReplaced pool table s places v d d₂ (at + 1) n false (out + 1) r₁ → r₁ ≡ Err j → Replaced pool table s places v d d₂ at out (Err j)
     unfolding size replaceTy
     fn-stop {d} {d₂} {n = n} {j} p z k g t look h l =
-        by-view s (Leaves look d d₂ (Stop j)) t at h.held (sym p ∙ z) (λ ps u c hp hu gd.
+        by-view s (Leaves look d d₂ (Err j)) t at h.held (sym p ∙ z) (λ ps u c hp hu gd.
         left-stop (rw (stopped (left-types look ps (k (types ps) look (record { held = hp; good = (fn-good pool table ps u gd).0; many = c; kind = refl }) l)) g))) h.good
 
     pub struct-here : {d d₂ d₃ d' : List ℕ} {w : View} {x n m q o : ℕ} {r₁ r : Went} → w ≡ viewAt s at → w ≡ view.Struct x n m
-        → RowReplaced pool table s places v d d₂ (at + 1) n false (out + 1) r₁ → r₁ ≡ To q o → RowReplaced pool table s places v d₂ d₃ q m true o r → d' ≡ sets d₃ (out * 4) (words (beforeRecs r (view.Struct x n m) out)) → Replaced pool table s places v d d' at out r
+        → RowReplaced pool table s places v d d₂ (at + 1) n false (out + 1) r₁ → r₁ ≡ Ok (q, o) → RowReplaced pool table s places v d₂ d₃ q m true o r → d' ≡ sets d₃ (out * 4) (words (beforeRecs r (view.Struct x n m) out)) → Replaced pool table s places v d d' at out r
     unfolding size replaceTy writeTy
     struct-here {d} {d₂} {d₃} {d'} {w} {x = x} {n} {m} {q} {o} {r₁} {r} p z k g j y t look h l =
         by-view s (Leaves look d d' r) t at h.held (sym p ∙ z) (λ as' fs c c₂ ha hf gd.
@@ -179,10 +178,10 @@ module _ (pool table s places v : List ℕ) where
         (kept d₃ d' out r (view.Struct x n m) (view.Struct x (count qs) m) y (ap (λ (e : ℕ). view.Struct x e m) cc')))) h.good
 
     pub struct-stop : {d d₂ : List ℕ} {w : View} {x n m : ℕ} {j : Refusal} {r₁ : Went} → w ≡ viewAt s at → w ≡ view.Struct x n m
-        → RowReplaced pool table s places v d d₂ (at + 1) n false (out + 1) r₁ → r₁ ≡ Stop j → Replaced pool table s places v d d₂ at out (Stop j)
+        → RowReplaced pool table s places v d d₂ (at + 1) n false (out + 1) r₁ → r₁ ≡ Err j → Replaced pool table s places v d d₂ at out (Err j)
     unfolding size replaceTy
     struct-stop {d} {d₂} {x = x} {j = j} p z k g t look h l =
-        by-view s (Leaves look d d₂ (Stop j)) t at h.held (sym p ∙ z) (λ as' fs c c₂ ha hf gd.
+        by-view s (Leaves look d d₂ (Err j)) t at h.held (sym p ∙ z) (λ as' fs c c₂ ha hf gd.
         left-stop (rw (stopped (left-types look as' (k (types as') look (record { held = ha; good = (struct-good pool table x as' fs gd).0; many = c; kind = refl }) l)) g))) h.good
 
   -- ══ A row ══
@@ -191,7 +190,7 @@ module _ (pool table s places v : List ℕ) where
   held_at t i j h q g = record { held = subst (Holds s t) q h; good = g }
 
   module _ (at out n : ℕ) (f : Bool) where
-    pub row_done : {d : List ℕ} → n ≡ 0 → RowReplaced pool table s places v d d at n f out (To at out)
+    pub row_done : {d : List ℕ} → n ≡ 0 → RowReplaced pool table s places v d d at n f out (Ok (at, out))
     unfolding size replaceTy writeTy count countFields words
     row_done z (types nil) look h l = left-made (types nil) refl (sym (add-zero at)) (sym (add-zero out)) refl
     row_done z (types (cons t ts)) look h l = absurd (omega (arith, h.many))
@@ -199,7 +198,7 @@ module _ (pool table s places v : List ℕ) where
     row_done z (fields (field x t fs)) look h l = absurd (omega (arith, h.many))
 
     module _ {h₀ : ℕ} (d : List ℕ) {d₁ : List ℕ} {r₁ : Went} (nz : n ≡ 0 → ⊥) (hh : h₀ ≡ head_of f) (k : Replaced pool table s places v d d₁ (at + h₀) (out + h₀) r₁) where
-      pub row_here : {d₂ d' : List ℕ} {q o : ℕ} {r : Went} → r₁ ≡ To q o → d₂ ≡ sets d₁ (out * 4) (words (headRecs f (viewAt s at) (fit (o - out)))) → RowReplaced pool table s places v d₂ d' q (n - 1) f o r → RowReplaced pool table s places v d d' at n f out r
+      pub row_here : {d₂ d' : List ℕ} {q o : ℕ} {r : Went} → r₁ ≡ Ok (q, o) → d₂ ≡ sets d₁ (out * 4) (words (headRecs f (viewAt s at) (fit (o - out)))) → RowReplaced pool table s places v d₂ d' q (n - 1) f o r → RowReplaced pool table s places v d d' at n f out r
       unfolding size replaceTy writeTy count countFields Holds
       row_here g w j (types nil) look h l = absurd (nz (sym h.many))
       row_here {d₂} {d'} {q} {o} {r} g w j (types (cons t ts)) look h l =
@@ -237,7 +236,7 @@ module _ (pool table s places v : List ℕ) where
           (left_as sizeFields writeFields sizeRow writeRow fields (λ a. refl) (λ a. refl) d d' (at + suc (size t + sizeFields fs)) out r (Fields' look fs >>= λ gs. got (field x u gs))
           (left-on sizeFields writeFields sizeFields writeFields (field x u) (suc (size u)) (rec (head 9 (suc (size u))) x 0 0 ∷ writeTy u) (ap suc (size-ty u)) (Fields' look fs) (λ a y. omega arith) (λ a y. refl) d d₂ d' (at + suc (size t + sizeFields fs)) out r f' R'))
 
-      pub row-stop : {j : Refusal} → r₁ ≡ Stop j → RowReplaced pool table s places v d d₁ at n f out (Stop j)
+      pub row-stop : {j : Refusal} → r₁ ≡ Err j → RowReplaced pool table s places v d d₁ at n f out (Err j)
       unfolding replaceTy count countFields Holds
       row-stop g (types nil) look h l = absurd (nz (sym h.many))
       row-stop g (types (cons t ts)) look h l =
@@ -284,7 +283,7 @@ module _ (pool table s places v : List ℕ) where
         (a, omega arith, omega arith, room-on 1 1 room refl refl (omega arith) (omega arith))
 
     -- past the first row
-    past_row : {d₁ d₂ : List ℕ} {n q o : ℕ} {r₁ : Went} (ps : Tys ℕ) → at < length s / 4 → HeldRow pool table s (types ps) (at + 1) n false → RowReplaced pool table s places v d₁ d₂ (at + 1) n false (out + 1) r₁ → r₁ ≡ To q o
+    past_row : {d₁ d₂ : List ℕ} {n q o : ℕ} {r₁ : Went} (ps : Tys ℕ) → at < length s / 4 → HeldRow pool table s (types ps) (at + 1) n false → RowReplaced pool table s places v d₁ d₂ (at + 1) n false (out + 1) r₁ → r₁ ≡ Ok (q, o)
         → (q ≡ at + 1 + sizeTys ps) × (at < q) × (q ≤ length s / 4) × Room s q o
     past_row ps here h k g =
         let m = went (left-types look ps (k (types ps) look h l)) g in
@@ -293,7 +292,7 @@ module _ (pool table s places v : List ℕ) where
         (m.read, omega (arith, m.read), omega (arith, m.read), room-on (1 + sizeTys ps) (1 + sizeTys m.value) room (omega (arith, m.read)) (omega (arith, m.counted)) (omega arith) (omega arith))
 
     pub fn-next : AType at → {w : View} {d₁ d₂ : List ℕ} {n q o : ℕ} {r₁ : Went} → w ≡ viewAt s at → w ≡ view.Function n
-        → RowReplaced pool table s places v d₁ d₂ (at + 1) n false (out + 1) r₁ → r₁ ≡ To q o → Further (AType q) at q o
+        → RowReplaced pool table s places v d₁ d₂ (at + 1) n false (out + 1) r₁ → r₁ ≡ Ok (q, o) → Further (AType q) at q o
     fn-next h {n = n} {q} {o} p z k g =
         by-view s (λ t. GoodTy pool table t → Further (AType q) at q o) h.0 at h.1.held (sym p ∙ z) (λ ps u c hp hu gd.
         let good = fn-good pool table ps u gd in
@@ -301,7 +300,7 @@ module _ (pool table s places v : List ℕ) where
         ((u, record { held = subst (Holds s u) (sym y.0) hu; good = good.1 }), y.1, y.2, y.3)) h.1.good
 
     pub struct-next : AType at → {w : View} {d₁ d₂ : List ℕ} {x n m q o : ℕ} {r₁ : Went} → w ≡ viewAt s at → w ≡ view.Struct x n m
-        → RowReplaced pool table s places v d₁ d₂ (at + 1) n false (out + 1) r₁ → r₁ ≡ To q o → Further (ARow q m true) at q o
+        → RowReplaced pool table s places v d₁ d₂ (at + 1) n false (out + 1) r₁ → r₁ ≡ Ok (q, o) → Further (ARow q m true) at q o
     struct-next h {x = x} {n} {m} {q} {o} p z k g =
         by-view s (λ t. GoodTy pool table t → Further (ARow q m true) at q o) h.0 at h.1.held (sym p ∙ z) (λ ps fs c c₂ hp hf gd.
         let good = struct-good pool table x ps fs gd in
@@ -314,7 +313,7 @@ module _ (pool table s places v : List ℕ) where
         by-view s (λ t. GoodTy pool table t → Behind r out) h.0 at h.1.held (sym p ∙ z) (λ u hu g. left_behind out (omega arith) (j u look (record { held = hu; good = list-good pool table u g }) l)) h.1.good
 
     pub fn-behind : AType at → {w : View} {d d₂ d₃ : List ℕ} {n q o : ℕ} {r₁ r : Went} → w ≡ viewAt s at → w ≡ view.Function n
-        → RowReplaced pool table s places v d d₂ (at + 1) n false (out + 1) r₁ → r₁ ≡ To q o → Replaced pool table s places v d₂ d₃ q o r → Behind r out
+        → RowReplaced pool table s places v d d₂ (at + 1) n false (out + 1) r₁ → r₁ ≡ Ok (q, o) → Replaced pool table s places v d₂ d₃ q o r → Behind r out
     fn-behind h {r = r} p z k g j =
         by-view s (λ t. GoodTy pool table t → Behind r out) h.0 at h.1.held (sym p ∙ z) (λ ps u c hp hu gd.
         let good = fn-good pool table ps u gd in
@@ -322,7 +321,7 @@ module _ (pool table s places v : List ℕ) where
         left_behind out (omega (arith, m.counted)) (j u look (record { held = subst (Holds s u) (sym m.read) hu; good = good.1 }) l)) h.1.good
 
     pub struct-behind : AType at → {w : View} {d d₂ d₃ : List ℕ} {x n m q o : ℕ} {r₁ r : Went} → w ≡ viewAt s at → w ≡ view.Struct x n m
-        → RowReplaced pool table s places v d d₂ (at + 1) n false (out + 1) r₁ → r₁ ≡ To q o → RowReplaced pool table s places v d₂ d₃ q m true o r → Behind r out
+        → RowReplaced pool table s places v d d₂ (at + 1) n false (out + 1) r₁ → r₁ ≡ Ok (q, o) → RowReplaced pool table s places v d₂ d₃ q m true o r → Behind r out
     struct-behind h {x = x} {r = r} p z k g j =
         by-view s (λ t. GoodTy pool table t → Behind r out) h.0 at h.1.held (sym p ∙ z) (λ ps fs c c₂ hp hf gd.
         let good = struct-good pool table x ps fs gd in
@@ -352,12 +351,12 @@ module _ (pool table s places v : List ℕ) where
           let i = in_reach s t (at + h₀) y.held in
           record { type = (t, y); inside = i; few = omega arith; space = room-on h₀ h₀ room refl refl (omega arith) (omega arith) }
 
-      pub row-past : {d₁ d₂ : List ℕ} {q o : ℕ} {r₁ : Went} (row : Row) → HeldRow pool table s row at n f → Replaced pool table s places v d₁ d₂ (at + h₀) (out + h₀) r₁ → r₁ ≡ To q o → out ≤ o
+      pub row-past : {d₁ d₂ : List ℕ} {q o : ℕ} {r₁ : Went} (row : Row) → HeldRow pool table s row at n f → Replaced pool table s places v d₁ d₂ (at + h₀) (out + h₀) r₁ → r₁ ≡ Ok (q, o) → out ≤ o
       row-past row h k g =
           let a = row-asks row h in
           omega (arith, (went (k a.type.0 look a.type.1 l) g).counted)
 
-      pub row_next : {d₁ d₂ : List ℕ} {q o : ℕ} {r₁ : Went} (row : Row) → HeldRow pool table s row at n f → Replaced pool table s places v d₁ d₂ (at + h₀) (out + h₀) r₁ → r₁ ≡ To q o → Further (ARow q (n - 1) f) at q o
+      pub row_next : {d₁ d₂ : List ℕ} {q o : ℕ} {r₁ : Went} (row : Row) → HeldRow pool table s row at n f → Replaced pool table s places v d₁ d₂ (at + h₀) (out + h₀) r₁ → r₁ ≡ Ok (q, o) → Further (ARow q (n - 1) f) at q o
       unfolding Holds count countFields
       row_next (types nil) h k g = absurd (nz (sym h.many))
       row_next {q = q} {o} (types (cons t ts)) h k g =

@@ -20,13 +20,6 @@ use Rattle.products.specs.Held.{Sound}
 use Rattle.products.specs.Places.{length-product, at_place, at-end}
 use Rattle.products.specs.declared.Factor.{Factor}
 use Rattle.products.specs.declared.Product.{Product}
-use Rattle.records.specs.Holds.{openOf}
-use Rattle.replacing.specs.declared.inner.factors.Alone.{Alone}
-use Rattle.replacing.specs.declared.inner.factors.Alone.TheVariants.{Of, Not}
-
-abbrev pub toldAlone : Alone → Option (trees.Open ℕ)
-toldAlone (Of o) = some (openOf o)
-toldAlone Not = none
 
 -- the variable that a product is where it stands for a type; the product of an equal-scalar is none
 abbrev pub picked : Bool → trees.Product ℕ → Option (trees.Open ℕ)

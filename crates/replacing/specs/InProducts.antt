@@ -1,7 +1,7 @@
 -- Replacing in a product, factor by factor.
 use Rattle.std.proofs.Math.Path.{◌≡◌, refl, sym, ap}
 use Rattle.std.proofs.Common.{◌∙◌}
-use Rattle.std.specs.Prelude.{true, ℕ, ◌+◌, ◌≤◌, ◌<◌}
+use Rattle.std.specs.Prelude.{true, ℕ, ◌+◌, ◌≤◌, ◌<◌, Some}
 use Rattle.std.proofs.Math.Bool.{and-eq-true_iff}
 use mathlib.Core.List.{List, [], ◌∷◌}
 use Rattle.std.proofs.Math.Option.{Option, none, some}
@@ -32,9 +32,7 @@ use Rattle.products.specs.declared.Tried.{Tried}
 use Rattle.names.specs.declared.old.Checked.{Checked}
 use Rattle.names.specs.declared.old.Checked.TheVariants.{Good as Well', Refused as Because}
 use Rattle.records.specs.ByView.{in_reach}
-use Rattle.replacing.specs.declared.inner.bound.Found.{Found}
-use Rattle.replacing.specs.declared.inner.bound.Found.TheVariants.{At}
-use Rattle.replacing.specs.Runs.{LookedUp, found}
+use Rattle.replacing.specs.Runs.{Found, LookedUp, found}
 use Rattle.replacing.specs.Alone.{open_in}
 use Rattle.replacing.specs.Well.{names, GoodFactor, GoodProduct, GoodTy, Whole, HeldType, LooksGood, Lent}
 
@@ -238,7 +236,7 @@ module _ (pool table : List ℕ) where
     pub short : size type ≤ 2048
     pub near : i < 1_000_000_000
 
-  pub lent-type : {places v : List ℕ} (look : Look ℕ) (o : Open ℕ) {r : Found} {i j : ℕ} → Lent pool table places v look → LookedUp v (look o) r → r ≡ At i j → LentType v look o i j
+  pub lent-type : {places v : List ℕ} (look : Look ℕ) (o : Open ℕ) {r : Found} {i j : ℕ} → Lent pool table places v look → LookedUp v (look o) r → r ≡ Some (i, j) → LentType v look o i j
   lent-type {v = v} look o {i = i} l h e =
       let f = found (look o) h e in
       record { type = f.type; is = f.is; held = record { held = f.held; good = l.good o f.type f.is }; ends = f.ends; short = l.tabled.few o f.type f.is; near = let k = in_reach v f.type i f.held in omega (arith, l.near) }

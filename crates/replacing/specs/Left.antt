@@ -1,9 +1,10 @@
 -- What the walks ask and what they leave.
-use Rattle.std.specs.Prelude.{◌≡◌, Bool, true, false, List, [], ◌∷◌, ℕ, suc, ◌+◌, ◌*◌, ◌-◌, ◌/◌, ◌≤◌, length}
+use Rattle.std.specs.Prelude.{Result, Ok, Err, ◌≡◌, Bool, true, false, List, [], ◌∷◌, ℕ, suc, ◌+◌, ◌*◌, ◌-◌, ◌/◌, ◌≤◌, length}
 use Rattle.std.proofs.Math.Option.{get_or}
 use Rattle.std.proofs.lemmas.List.Edits.{sets}
 use Rattle.rules.specs.Base.{Got, got, refused, ◌>>=◌, bounded}
 use Rattle.rules.specs.Refusals.{number_of}
+use Rattle.rules.specs.declared.Refusal.{Refusal}
 use Rattle.rules.specs.Replacing.{Look, replaceProduct, replaceDim, replaceTy, replaceTys, replaceFields}
 use Rattle.rules.specs.Trees.{Open, Ty, opened, Tys, Fields, size, sizeTys, sizeFields, count, countFields}
 use Rattle.rules.specs.Writing.{Rec, words, writeProduct, writeTy, writeTys, writeFields}
@@ -14,25 +15,32 @@ use Rattle.records.specs.Cut.{fit, cut}
 use Rattle.records.specs.Views.{recOf}
 use Rattle.records.specs.Holds.{HoldsTys, HoldsFields}
 use Rattle.records.specs.declared.View.{View}
-use Rattle.replacing.specs.declared.inner.walk.Went.{Went}
-use Rattle.replacing.specs.declared.inner.walk.Went.TheVariants.{To, Stop}
+use Rattle.replacing.specs.Runs.{two}
 use Rattle.replacing.specs.Alone.{picked}
 use Rattle.replacing.specs.Well.{names, GoodTys, GoodFields, HeldType, Lent}
+
+-- the next place in the source and in the buffer, or why the walk stopped
+abbrev pub Went : Type 0
+Went = Result (ℕ × ℕ) Refusal
 
 -- at most 2,048 records are written for each that is read, so the count stays small
 pub record Room (s : List ℕ) (at out : ℕ) : Type 0 where
   pub near : length s ≤ 4_000_000_000
   pub small : out + (length s / 4 - at) * 2048 ≤ 1_000_000_000
 
+-- two walks that went to one place
+pub went-same : {a b c d : ℕ} → ◌≡◌ {A = Went} (Ok (a, b)) (Ok (c, d)) → (a ≡ c) × (b ≡ d)
+went-same {a} {b} {c} {d} e = let o : ◌≡◌ {A = ℕ × ℕ} (a, b) (c, d) = cc in two o
+
 -- a walk that stopped with this number
 abbrev pub Stops : Went → ℕ → Type 0
-Stops (To q o) k = ⊥
-Stops (Stop r) k = number_of r ≡ k
+Stops (Ok (q, o)) k = ⊥
+Stops (Err r) k = number_of r ≡ k
 
 -- what a step leaves. A value: its records, m of them, stand in d from the place `out` on, as far as d goes, and the next source place is `next`.
 -- A length that doesn't fit a word is left out: such a list is refused by whoever asked. A refusal: its number, and nothing is said of the buffer
 abbrev pub LeftOf : {A : Type 0} (m : A → ℕ) (ws : A → List Rec) → List ℕ → List ℕ → ℕ → ℕ → Went → Got A → Type 0
-LeftOf m ws d d' next out r (got a) = (r ≡ To next (out + m a)) × (d' ≡ sets d (out * 4) (words (cut (ws a))))
+LeftOf m ws d d' next out r (got a) = (r ≡ Ok (next, out + m a)) × (d' ≡ sets d (out * 4) (words (cut (ws a))))
 LeftOf m ws d d' next out r (refused k) = Stops r k
 
 -- the same under a name that doesn't compute, so that a lemma's arguments are read off it
@@ -95,13 +103,13 @@ headRecs false v n = []
 
 -- a walk that went on went past the record before
 abbrev pub Behind : Went → ℕ → Type 0
-Behind (To q o) out = out ≤ o
-Behind (Stop k) out = Unit {0}
+Behind (Ok (q, o)) out = out ≤ o
+Behind (Err k) out = Unit {0}
 
 -- the record v before what a walk wrote, as long as that goes; none where it stopped
 abbrev pub beforeRecs : Went → View → ℕ → List Rec
-beforeRecs (To q o) v out = recOf v (fit (o - out)) ∷ []
-beforeRecs (Stop k) v out = []
+beforeRecs (Ok (q, o)) v out = recOf v (fit (o - out)) ∷ []
+beforeRecs (Err k) v out = []
 
 module _ (pool table : List ℕ) where
   abbrev pub GoodRow : Row → Type 0

@@ -15,8 +15,7 @@ use Rattle.records.specs.Cut.{cut, short-ty, short-con, short-binding, short-all
 use Rattle.records.specs.Holds.{HoldsCon, HoldsBinding}
 use Rattle.replacing.specs.Runs.{HoldsAll}
 use Rattle.replacing.specs.Well.{names}
-use Rattle.replacing.specs.declared.inner.walk.Went.{Went}
-use Rattle.replacing.specs.Left.{Left}
+use Rattle.replacing.specs.Left.{Went, Left}
 use Rattle.replacing.specs.LineRules.{Line, con, binding, sizeLine, writeLine, HoldsLine, EachGood, HeldLines, replaceLine}
 
 -- what holds of all lines of one kind

@@ -13,9 +13,8 @@ use Rattle.records.specs.Holds.{HoldsProduct, HoldsCon, HoldsBinding}
 use Rattle.records.specs.declared.View.{View}
 use Rattle.records.specs.declared.View.TheVariants as view
 use Rattle.replacing.specs.Runs.{HoldsAll}
-use Rattle.replacing.specs.declared.inner.walk.Went.{Went}
+use Rattle.replacing.specs.Left.{Went, Left, sizeProduct}
 use Rattle.replacing.specs.Well.{names, GoodProduct, GoodCon, GoodBinding, Lent}
-use Rattle.replacing.specs.Left.{Left, sizeProduct}
 
 -- a constraint or a binding
 pub data Line : Type 0 where

@@ -1,12 +1,11 @@
 -- What open names become: a table of places, a word for each name, before a list of words in which the types stand.
-use Rattle.std.specs.Prelude.{◌≡◌, refl, cond, List, ℕ, ◌+◌, ◌-◌, ◌≤◌, ltb, get_or}
+use Rattle.std.specs.Prelude.{◌≡◌, refl, cond, List, ℕ, ◌+◌, ◌-◌, ◌≤◌, ltb, get_or, None, Some}
 use Rattle.std.proofs.Common.{sym, ap, subst, arith}
 use Rattle.std.proofs.Math.Option.{Option, none, some}
 use Rattle.rules.specs.Replacing.{Look}
 use Rattle.rules.specs.Trees.{Open, var, quant, par, Ty, size}
 use Rattle.records.specs.Holds.{Holds}
 use Rattle.replacing.specs.Runs.{LookedUp}
-use Rattle.replacing.specs.declared.inner.bound.Found.TheVariants.{At, Nothing}
 
 -- the word of a variable or a parameter; a number past the last name has none, which counts as 0
 abbrev pub nameWord : List ℕ → ℕ → ℕ → ℕ
@@ -35,7 +34,7 @@ pub record Tabled (places v : List ℕ) (look : Look ℕ) : Type 0 where
   pub few : (o : Open ℕ) (t : Ty ℕ) → look o ≡ some t → size t ≤ 2048
 
 module _ (v : List ℕ) (w : ℕ) where
-  pub says_none : (m : Option (Ty ℕ)) → SaysAt v w m → w ≡ 0 → LookedUp v m Nothing
+  pub says_none : (m : Option (Ty ℕ)) → SaysAt v w m → w ≡ 0 → LookedUp v m None
   says_none none h e = refl
   says_none (some t) h e = absurd (omega (arith, h.word))
 
@@ -44,7 +43,7 @@ module _ (v : List ℕ) (w : ℕ) where
   says_some none h n = absurd (n h)
   says_some (some t) h n = let e : h.at ≡ w - 1 = omega (arith, h.word) in (t, (refl, subst (Holds v t) e h.held))
 
-  pub says_at : (m : Option (Ty ℕ)) (e : ℕ) → SaysAt v w m → (w ≡ 0 → ⊥) → ((t : Ty ℕ) → Holds v t (w - 1) → e ≡ w - 1 + size t) → LookedUp v m (At (w - 1) e)
+  pub says_at : (m : Option (Ty ℕ)) (e : ℕ) → SaysAt v w m → (w ≡ 0 → ⊥) → ((t : Ty ℕ) → Holds v t (w - 1) → e ≡ w - 1 + size t) → LookedUp v m (Some (w - 1, e))
   says_at m e h n k =
       let (t, (q, held)) = says_some m h n in
-      subst (λ (o : Option (Ty ℕ)). LookedUp v o (At (w - 1) e)) (sym q) (record { place = w - 1; is = ap (At (w - 1)) (k t held); held = held })
+      subst (λ (o : Option (Ty ℕ)). LookedUp v o (Some (w - 1, e))) (sym q) (record { place = w - 1; is = ap (λ (j : ℕ). Some (w - 1, j)) (k t held); held = held })

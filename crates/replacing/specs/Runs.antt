@@ -1,7 +1,8 @@
 -- A run of bindings in a part of a list of words, and what a variable is bound to there.
 use Rattle.std.proofs.Math.Path.{◌≡◌, refl}
 use Rattle.std.proofs.Common.{sym, ap, subst, ◌∙◌, eq-eqb, ne_eqb}
-use Rattle.std.specs.Prelude.{Bool, true, false, eqb, length}
+use Rattle.std.specs.Prelude as std
+use Rattle.std.specs.Prelude.{None, Some, Bool, true, false, eqb, length}
 use Rattle.std.proofs.Math.Bool.{and-eq-true_iff}
 use mathlib.Core.List.{List, [], ◌∷◌}
 use Rattle.std.proofs.Math.Option.{Option, none, some}
@@ -17,8 +18,6 @@ use Rattle.records.specs.Views.{viewAt}
 use Rattle.records.specs.Holds.{Holds, HoldsBinding}
 use Rattle.records.specs.ByView.{ends-in}
 use Rattle.records.specs.declared.View.TheVariants as view
-use Rattle.replacing.specs.declared.inner.bound.Found.{Found}
-use Rattle.replacing.specs.declared.inner.bound.Found.TheVariants.{At, Nothing}
 
 -- one after another, each as long as `long` says
 unfoldable pub HoldsAll : {A : Type 0} → (List ℕ → A → ℕ → Type 0) → (A → ℕ) → List ℕ → List A → ℕ → Type 0
@@ -30,15 +29,23 @@ pub record Run (v : List ℕ) (b e : ℕ) (bs : List (Binding ℕ)) : Type 0 whe
   pub held : HoldsAll HoldsBinding sizeBinding v bs b
   pub past : e ≡ b + sum_of sizeBinding bs
 
+-- the places of a type that was found, from its first record up to its end
+abbrev pub Found : Type 0
+Found = std.Option (ℕ × ℕ)
+
 -- where the type stands that was found
 pub record Bound (v : List ℕ) (t : Ty ℕ) (r : Found) : Type 0 where
   pub place : ℕ
-  pub is : r ≡ At place (place + size t)
+  pub is : r ≡ Some (place, place + size t)
   pub held : Holds v t place
 
 abbrev pub LookedUp : List ℕ → Option (Ty ℕ) → Found → Type 0
-LookedUp v none r = r ≡ Nothing
+LookedUp v none r = r ≡ None
 LookedUp v (some t) r = Bound v t r
+
+-- two places are two places, each for itself
+pub two : {a b c d : ℕ} → ◌≡◌ {A = ℕ × ℕ} (a, b) (c, d) → (a ≡ c) × (b ≡ d)
+two e = (ap (λ (x : ℕ × ℕ). x.0) e, ap (λ (x : ℕ × ℕ). x.1) e)
 
 -- what is at the places that were found
 pub record FoundAt (v : List ℕ) (o : Option (Ty ℕ)) (i j : ℕ) : Type 0 where
@@ -47,17 +54,18 @@ pub record FoundAt (v : List ℕ) (o : Option (Ty ℕ)) (i j : ℕ) : Type 0 whe
   pub held : Holds v type i
   pub ends : j ≡ i + size type
 
-pub found : {v : List ℕ} (o : Option (Ty ℕ)) {r : Found} {i j : ℕ} → LookedUp v o r → r ≡ At i j → FoundAt v o i j
+pub found : {v : List ℕ} (o : Option (Ty ℕ)) {r : Found} {i j : ℕ} → LookedUp v o r → r ≡ Some (i, j) → FoundAt v o i j
 found none h e = absurd (let z : ◌≡◌ {A = ℕ} 0 1 = cc in omega arith)
 found {v} (some t) {r} {i} {j} h e =
-    let q : At h.place (h.place + size t) ≡ At i j = sym h.is ∙ e in
-    let p : h.place ≡ i = cc in
-    let k : h.place + size t ≡ j = cc in
+    let q : ◌≡◌ {A = Found} (Some (h.place, h.place + size t)) (Some (i, j)) = sym h.is ∙ e in
+    let o : ◌≡◌ {A = ℕ × ℕ} (h.place, h.place + size t) (i, j) = cc in
+    let p : h.place ≡ i = (two o).0 in
+    let k : h.place + size t ≡ j = (two o).1 in
     record { type = t; is = refl; held = subst (Holds v t) p h.held; ends = omega arith }
 
-pub not_found : (v : List ℕ) (o : Option (Ty ℕ)) {r : Found} → LookedUp v o r → r ≡ Nothing → o ≡ none
+pub not_found : (v : List ℕ) (o : Option (Ty ℕ)) {r : Found} → LookedUp v o r → r ≡ None → o ≡ none
 not_found v none h e = refl
-not_found v (some t) h e = absurd (let q : At h.place (h.place + size t) ≡ Nothing = sym h.is ∙ e in let z : ◌≡◌ {A = ℕ} 0 1 = cc in omega arith)
+not_found v (some t) h e = absurd (let q : ◌≡◌ {A = Found} (Some (h.place, h.place + size t)) None = sym h.is ∙ e in let z : ◌≡◌ {A = ℕ} 0 1 = cc in omega arith)
 
 module _ (v : List ℕ) where
   -- the first binding of a run that isn't empty

@@ -1,5 +1,5 @@
 -- What a call of replacing makes, from what its walk leaves in the work buffer.
-use Rattle.std.specs.Prelude.{◌≡◌, Bool, true, false, ℕ, ◌+◌, ◌*◌, ◌/◌, ◌≤◌, leb, length, take, drop}
+use Rattle.std.specs.Prelude.{◌≡◌, Bool, true, false, ℕ, ◌+◌, ◌*◌, ◌/◌, ◌≤◌, leb, length, take, drop, Ok, Err}
 use Rattle.std.proofs.Math.Path.{refl}
 use Rattle.std.proofs.Common.{sym, ap, subst, ◌∙◌, arith, take_at}
 use Rattle.std.proofs.Math.Bool.{and-eq-true_iff}
@@ -32,14 +32,12 @@ use Rattle.records.specs.Whole.{type-is, set_is, bindings-is}
 use Rattle.replacing.specs.Flat.{depthLine, goodLine, PlainLines, state-limited}
 use Rattle.replacing.specs.Given.{row, given-type, given-set, given-bindings}
 use Rattle.replacing.specs.Kept.{plain-kept, plain-written}
-use Rattle.replacing.specs.Left.{Left, Room}
+use Rattle.replacing.specs.Left.{went-same, Left, Room, Went}
 use Rattle.replacing.specs.LineLaws.{cons-each, lines_write, left-short, short-lines}
 use Rattle.replacing.specs.LineRules.{Line, con, sizeLine, writeLine, HeldLines, replaceLine}
 use Rattle.replacing.specs.Runs.{looked-good}
 use Rattle.replacing.specs.Well.{HeldType, Listed}
 use Rattle.replacing.specs.Written.{ty-fits, all-length}
-use Rattle.replacing.specs.declared.inner.walk.Went.{Went}
-use Rattle.replacing.specs.declared.inner.walk.Went.TheVariants.{To, Stop}
 use Rattle.lending.specs.Told.{told, Front, Made}
 use Rattle.lending.specs.declared.Answer.{Answer}
 use Rattle.lending.specs.declared.Answer.TheVariants.{Refused}
@@ -81,11 +79,11 @@ module _ {A : Type 0} (long deep : A → ℕ) (write : A → List Rec) (lengths 
       pub many : n ≡ long value
       pub buffer : long value ≤ 2048 → d' ≡ sets d 0 (words (write value))
 
-    pub came : {x : Went} {q n : ℕ} (R : Got A) → x ≡ To q n → Left long write d d' nx 0 x R → Came R n
+    pub came : {x : Went} {q n : ℕ} (R : Got A) → x ≡ Ok (q, n) → Left long write d d' nx 0 x R → Came R n
     came {x} {q} {n} R i left = go R (subst (λ (y : Went). Left long write d d' nx 0 y R) i left)
       where
-        go : (R : Got A) → Left long write d d' nx 0 (To q n) R → Came R n
-        go (got a) l = let p = l.says.0 in let m : n ≡ 0 + long a = cc in record { value = a; is = refl; many = omega (arith, m); buffer = λ h. left-short short (got a) l a refl (omega arith) }
+        go : (R : Got A) → Left long write d d' nx 0 (Ok (q, n)) R → Came R n
+        go (got a) l = let m : n ≡ 0 + long a = (went-same l.says.0).1 in record { value = a; is = refl; many = omega (arith, m); buffer = λ h. left-short short (got a) l a refl (omega arith) }
         go (refused k) l = absurd l.says
 
     pub made-to : (R : Got A) (n : ℕ) (r : Answer) (c : Came R n) → told r ≡ counted long deep c.value → Made (limitedTo R) d' r
@@ -101,10 +99,10 @@ module _ {A : Type 0} (long deep : A → ℕ) (write : A → List Rec) (lengths 
         a = c.value
 
     -- or stopped
-    pub made-stop : {x : Went} {k : Refusal} (R : Got A) → x ≡ Stop k → Left long write d d' nx 0 x R → Made (limitedTo R) d' (Refused k)
+    pub made-stop : {x : Went} {k : Refusal} (R : Got A) → x ≡ Err k → Left long write d d' nx 0 x R → Made (limitedTo R) d' (Refused k)
     made-stop {x} {k} R i left = go R (subst (λ (y : Went). Left long write d d' nx 0 y R) i left)
       where
-        go : (R : Got A) → Left long write d d' nx 0 (Stop k) R → Made (limitedTo R) d' (Refused k)
+        go : (R : Got A) → Left long write d d' nx 0 (Err k) R → Made (limitedTo R) d' (Refused k)
         go (got a) l = absurd (let p = l.says.0 in let z : ◌≡◌ {A = ℕ} 0 1 = cc in omega arith)
         go (refused j) l = record { answer = ap refused l.says; front = λ rs e. clash e }
 

@@ -22,7 +22,7 @@ use records::inner::{Ended, type_end};
 use records::{is_bindings, is_set, is_type};
 use replacing::inner::flat::lines_flat;
 use replacing::inner::lines::replace_lines;
-use replacing::inner::walk::{Went, replace_type};
+use replacing::inner::walk::replace_type;
 use rules::{NAMES, NESTED, RECORD_WORDS, RECORDS, Refusal};
 
 // No, as refusal 4.
@@ -98,8 +98,8 @@ fn type_into(pool: &[u8], table: &[u32], words: &[u32], binds: &[u32], work: &mu
     let mut places = [0u32; NAMES];
     fill(binds, 0, binds.len() / 4, &mut places);
     match replace_type(pool, table, words, 0, &places, binds, work, 0) {
-        Went::To(_, n) => type_fits(pool, table, work, n),
-        Went::Stop(k) => Answer::Refused(k),
+        Ok((_, n)) => type_fits(pool, table, work, n),
+        Err(k) => Answer::Refused(k),
     }
 }
 
@@ -113,8 +113,8 @@ fn set_into(pool: &[u8], table: &[u32], words: &[u32], binds: &[u32], work: &mut
     fill(binds, 0, binds.len() / 4, &mut places);
     let n = words.len() / 4;
     match replace_lines(pool, table, words, 0, n, &places, binds, work, 0) {
-        Went::To(_, k) => set_fits(pool, table, work, k),
-        Went::Stop(k) => Answer::Refused(k),
+        Ok((_, k)) => set_fits(pool, table, work, k),
+        Err(k) => Answer::Refused(k),
     }
 }
 

@@ -7,9 +7,8 @@ use Rattle.rules.specs.Base.{Got, got, refused}
 use Rattle.rules.specs.Rounds.{State}
 use Rattle.replacing.specs.Flat.{PlainLines}
 use Rattle.replacing.specs.LineRules.{Line, con, binding}
-use Rattle.rounds.specs.States.{StateHeld, Turned}
+use Rattle.rounds.specs.States.{StateHeld, Turned, Turn}
 use Rattle.rounds.specs.Lines.{moved}
-use Rattle.rounds.specs.declared.inner.Turn.{Turn}
 
 module _ (pool table : List ℕ) where
   -- lines up to 2,048 records, in buffers that begin alike

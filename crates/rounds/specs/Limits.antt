@@ -1,5 +1,5 @@
 -- The limits of a state, and the turns that keep or pass them.
-use Rattle.std.specs.Prelude.{◌≡◌, refl, Bool, true, false, ◌&&◌, List, map, ℕ, ◌+◌, ◌*◌, ◌-◌, ◌≤◌, ◌<◌, leb, length}
+use Rattle.std.specs.Prelude.{◌≡◌, refl, Bool, true, false, ◌&&◌, List, map, ℕ, ◌+◌, ◌*◌, ◌-◌, ◌≤◌, ◌<◌, leb, length, Ok, Err, None, Some}
 use Rattle.std.proofs.Common.{sym, ap, subst, ◌∙◌, arith, le-leb, leb-true}
 use Rattle.std.proofs.Math.Option.{Option, none, some}
 use Rattle.std.proofs.lemmas.Bool.{lt-leb}
@@ -12,11 +12,9 @@ use Rattle.rules.specs.declared.Refusal.TheVariants.{TooLarge}
 use Rattle.laws.specs.Lists.{and_left}
 use Rattle.replacing.specs.Flat.{depthLine, state-limited, stateLines}
 use Rattle.replacing.specs.LineRules.{Line, con, binding, sizeLine}
-use Rattle.rounds.specs.States.{Turned}
+use Rattle.rounds.specs.States.{Turned, Turn}
 use Rattle.rounds.specs.Lines.{copied, plain-split}
 use Rattle.rounds.specs.Parts.{fitting, keeps, Stands, Made}
-use Rattle.rounds.specs.declared.inner.Turn.{Turn}
-use Rattle.rounds.specs.declared.inner.Turn.TheVariants.{Next, End, Stop}
 
 -- ══ Too many records, or not ══
 
@@ -51,13 +49,13 @@ module _ (pool table : List ℕ) where
     passed_is : fitting (stateLines st) ≡ false → keeps st ≡ refused 8
     passed_is e = limited-is st ∙ rw e
 
-    pub over : (w w' : List ℕ) → fitting (stateLines st) ≡ false → Turned pool table w w' (Stop TooLarge) (keeps st)
+    pub over : (w w' : List ℕ) → fitting (stateLines st) ≡ false → Turned pool table w w' (Err TooLarge) (keeps st)
     over w w' e = turned_as (passed_is e) (record { says = refl })
 
     pub few : (s : List ℕ) (n m : ℕ) → Made pool table s n m st → fitting (stateLines st) ≡ true → m ≤ 2048
     few s n m d e = let i = leb-true (sum_of sizeLine (stateLines st)) 2048 (and_left (leb (sum_of sizeLine (stateLines st)) 2048) _ e) in omega (arith, d.lines.many)
 
-    pub within : (w s : List ℕ) (n m : ℕ) → Made pool table s n m st → fitting (stateLines st) ≡ true → Turned pool table w s (Next n m) (keeps st)
+    pub within : (w s : List ℕ) (n m : ℕ) → Made pool table s n m st → fitting (stateLines st) ≡ true → Turned pool table w s (Ok (Some (n, m))) (keeps st)
     within w s n m d e =
         let k = few s n m d e in
         let p = plain-split pool table s (map con st.cons) (map binding st.binds) 0 n m (omega (arith, d.first)) (d.lines.held k) in
@@ -70,31 +68,6 @@ module _ (pool table : List ℕ) where
         go : (b : Bool) → fitting (stateLines st) ≡ b → Turned pool table w w' r (keeps st)
         go true q = turned_as (kept-is q) (record { says = (subst (Turned pool table w' w' r) (kept-is q) t).says })
         go false q = turned_as (passed_is q) (record { says = (subst (Turned pool table w' w' r) (passed_is q) t).says })
-
-    -- only what keeps the limits goes on
-    pub went_on : {w s : List ℕ} {r : Turn} {i j : ℕ} → Turned pool table w s r (keeps st) → r ≡ Next i j → fitting (stateLines st) ≡ true
-    went_on {w} {s} {r} {i} {j} t e = go (fitting (stateLines st)) refl
-      where
-        go : (b : Bool) → fitting (stateLines st) ≡ b → fitting (stateLines st) ≡ true
-        go true q = q
-        go false q = let u : Turned pool table w s (Next i j) (refused 8) = subst (λ (x : Turn). Turned pool table w s x (refused 8)) e (subst (Turned pool table w s r) (passed_is q) t) in absurd u.says
-
-    -- and there is an answer
-    pub no_end : {w s : List ℕ} {r : Turn} → Turned pool table w s r (keeps st) → r ≡ End → ⊥
-    no_end {w} {s} {r} t e = go (fitting (stateLines st)) refl
-      where
-        go : (b : Bool) → fitting (stateLines st) ≡ b → ⊥
-        go true q = let u : Turned pool table w s End (got (some st)) = subst (λ (x : Turn). Turned pool table w s x (got (some st))) e (subst (Turned pool table w s r) (kept-is q) t) in let z = u.says.is in let y : ◌≡◌ {A = ℕ} 0 1 = cc in omega arith
-        go false q = let u : Turned pool table w s End (refused 8) = subst (λ (x : Turn). Turned pool table w s x (refused 8)) e (subst (Turned pool table w s r) (passed_is q) t) in u.says
-
-  -- a refusal says nothing of the buffer
-  pub stopped : {w w' v v' : List ℕ} {r : Turn} {k : Refusal} (R : Got (Option (State ℕ))) → Turned pool table w w' r R → r ≡ Stop k → Turned pool table v v' (Stop k) R
-  stopped {w} {w'} {v} {v'} {r} {k} R t e = go R (subst (λ (x : Turn). Turned pool table w w' x R) e t)
-    where
-      go : (R : Got (Option (State ℕ))) → Turned pool table w w' (Stop k) R → Turned pool table v v' (Stop k) R
-      go (got (some st)) u = absurd (let z = u.says.is in let y : ◌≡◌ {A = ℕ} 0 1 = cc in omega arith)
-      go (got none) u = absurd (let z = u.says.0 in let y : ◌≡◌ {A = ℕ} 0 1 = cc in omega arith)
-      go (refused j) u = record { says = u.says }
 
   -- copied to the start of the other buffer
   module _ (next work work' : List ℕ) (n m : ℕ) (st : State ℕ) (d : Made pool table next n m st) (room : 8192 ≤ length next) (space : 8192 ≤ length work) where

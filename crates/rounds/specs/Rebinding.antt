@@ -1,5 +1,5 @@
 -- A new binding put into the constraints and the older bindings.
-use Rattle.std.specs.Prelude.{◌≡◌, refl, true, List, [], ◌∷◌, ◌++◌, map, ℕ, ◌+◌, ◌*◌, ◌-◌, ◌≤◌, length}
+use Rattle.std.specs.Prelude.{◌≡◌, refl, true, List, [], ◌∷◌, ◌++◌, map, ℕ, ◌+◌, ◌*◌, ◌-◌, ◌≤◌, length, Ok, Err}
 use Rattle.std.proofs.Common.{sym, ap, subst, ◌∙◌, arith}
 use Rattle.std.proofs.Math.Option.{some}
 use Rattle.std.proofs.lemmas.List.Edits.{sets}
@@ -18,14 +18,12 @@ use Rattle.products.specs.Held.{law}
 use Rattle.records.specs.Good.{numbers, holding}
 use Rattle.replacing.specs.Flat.{goodLine, PlainLines, stateLines}
 use Rattle.replacing.specs.Kept.{plain-held, plain-written, plain-kept}
-use Rattle.replacing.specs.Left.{Left, Room}
+use Rattle.replacing.specs.Left.{went-same, Left, Room, Went}
 use Rattle.replacing.specs.LineLaws.{cons-each, bindings-each, short-lines}
 use Rattle.records.specs.Cut.{cut}
 use Rattle.replacing.specs.LineRules.{Line, con, binding, sizeLine, writeLine, HeldLines, replaceLine}
 use Rattle.replacing.specs.Runs.{HoldsAll, looked-good, looked-short}
 use Rattle.replacing.specs.Well.{names, Listed, Lent}
-use Rattle.replacing.specs.declared.inner.walk.Went.{Went}
-use Rattle.replacing.specs.declared.inner.walk.Went.TheVariants.{To, Stop}
 use Rattle.places.specs.Filling.{Fills}
 use Rattle.rounds.specs.Lines.{map_both, sum_both, all_map, long-cons, long-binds, kept-before, copied, plain-join}
 use Rattle.rounds.specs.Parts.{keeps, Made, Bound, rebinds}
@@ -41,18 +39,18 @@ pub record Came (R : Got (List Line)) (d d' : List ℕ) (out o : ℕ) : Type 0 w
   pub buffer : d' ≡ sets d (out * 4) (words (cut (collect writeLine lines)))
 
 module _ {d d' : List ℕ} {nx out : ℕ} {r : Went} (R : Got (List Line)) (left : Left (sum_of sizeLine) (collect writeLine) d d' nx out r R) where
-  pub came : {q o : ℕ} → r ≡ To q o → Came R d d' out o
+  pub came : {q o : ℕ} → r ≡ Ok (q, o) → Came R d d' out o
   came {q} {o} e = go R (subst (λ (y : Went). Left (sum_of sizeLine) (collect writeLine) d d' nx out y R) e left)
     where
-      go : (R : Got (List Line)) → Left (sum_of sizeLine) (collect writeLine) d d' nx out (To q o) R → Came R d d' out o
-      go (got a) l = let p = l.says.0 in let m : o ≡ out + sum_of sizeLine a = cc in record { lines = a; is = refl; many = m; buffer = l.says.1 }
+      go : (R : Got (List Line)) → Left (sum_of sizeLine) (collect writeLine) d d' nx out (Ok (q, o)) R → Came R d d' out o
+      go (got a) l = let m : o ≡ out + sum_of sizeLine a = (went-same l.says.0).1 in record { lines = a; is = refl; many = m; buffer = l.says.1 }
       go (refused k) l = absurd l.says
 
   -- or stopped
-  pub stops : {k : Refusal} → r ≡ Stop k → R ≡ refused (number_of k)
+  pub stops : {k : Refusal} → r ≡ Err k → R ≡ refused (number_of k)
   stops {k} e = go R (subst (λ (y : Went). Left (sum_of sizeLine) (collect writeLine) d d' nx out y R) e left)
     where
-      go : (R : Got (List Line)) → Left (sum_of sizeLine) (collect writeLine) d d' nx out (Stop k) R → R ≡ refused (number_of k)
+      go : (R : Got (List Line)) → Left (sum_of sizeLine) (collect writeLine) d d' nx out (Err k) R → R ≡ refused (number_of k)
       go (got a) l = absurd (let p = l.says.0 in let z : ◌≡◌ {A = ℕ} 0 1 = cc in omega arith)
       go (refused j) l = ap refused (sym l.says)
 

@@ -1,19 +1,22 @@
 -- A state that stands in a buffer, and what a round leaves there.
-use Rattle.std.specs.Prelude.{◌≡◌, List, map, ℕ, ◌≤◌}
+use Rattle.std.specs.Prelude as std
+use Rattle.std.specs.Prelude.{Result, Ok, Err, None, Some, ◌≡◌, List, map, ℕ, ◌≤◌}
 use Rattle.std.proofs.Math.Option.{Option, none, some}
 use Rattle.rules.specs.Base.{Got, got, refused}
 use Rattle.rules.specs.Refusals.{number_of}
 use Rattle.rules.specs.Rounds.{State}
+use Rattle.rules.specs.declared.Refusal.{Refusal}
 use Rattle.replacing.specs.Flat.{PlainLines}
 use Rattle.replacing.specs.LineRules.{con, binding}
-use Rattle.rounds.specs.declared.inner.Turn.{Turn}
-use Rattle.rounds.specs.declared.inner.Turn.TheVariants.{Next, End, Stop}
+
+-- where the constraints end after a round, and where the bindings end; or that no rule applies; or why the round stops
+abbrev pub Turn : Type 0
+Turn = Result (std.Option (ℕ × ℕ)) Refusal
 
 -- a turn that stopped with this number
 abbrev pub Stops : Turn → ℕ → Type 0
-Stops (Next n m) k = ⊥
-Stops End k = ⊥
-Stops (Stop r) k = number_of r ≡ k
+Stops (Ok ends) k = ⊥
+Stops (Err r) k = number_of r ≡ k
 
 module _ (pool table : List ℕ) where
   -- the constraints in the records 0 up to n, the bindings from n up to m
@@ -26,13 +29,13 @@ module _ (pool table : List ℕ) where
   pub record Onward (w : List ℕ) (r : Turn) (st : State ℕ) : Type 0 where
     pub n : ℕ
     pub m : ℕ
-    pub is : r ≡ Next n m
+    pub is : r ≡ Ok (Some (n, m))
     pub held : StateHeld w n m st
 
   -- what a round leaves of the buffer w. A refusal: its number, and nothing is said of the buffer
   abbrev pub TurnLeft : List ℕ → List ℕ → Turn → Got (Option (State ℕ)) → Type 0
   TurnLeft w w' r (got (some st)) = Onward w' r st
-  TurnLeft w w' r (got none) = (r ≡ End) × (w' ≡ w)
+  TurnLeft w w' r (got none) = (r ≡ Ok None) × (w' ≡ w)
   TurnLeft w w' r (refused k) = Stops r k
 
   -- the same under a name that doesn't compute, so that a lemma's arguments are read off it

@@ -1,4 +1,5 @@
 // One round on constraints and bindings that stand one after another in a buffer.
+// It answers where the constraints of the state after it end and where its bindings end; nothing where no rule applies; or why it stops.
 ghost use Rattle.std.specs.Prelude.{◌≡◌, List, map, [], ◌∷◌, ℕ, ◌+◌, ◌-◌, ◌≤◌, length};
 ghost use Rattle.rules.specs.Base.{bounded};
 ghost use Rattle.rules.specs.Rounds.{State, round};
@@ -16,20 +17,11 @@ use records::inner::copy;
 use records::seen::length_at;
 use replacing::inner::flat::lines_flat;
 use replacing::inner::lines::replace_lines;
-use replacing::inner::walk::Went;
 use rules::{NAMES, RECORD_WORDS, RECORDS, Refusal};
 use satisfying::Step;
 use satisfying::inner::try_satisfy;
 
-// The state after a round: where its constraints end, and where its bindings end; or that no rule applies; or why the round stops.
-#[derive(Clone, Copy)]
-pub enum Turn {
-    Next(usize, usize),
-    End,
-    Stop(Refusal),
-}
-
-// Where the constraint at a place ends.
+/// Where the constraint at a place ends.
 pub fn con_end(s: &[u32], at: usize) -> usize
     requires { (c : Con ℕ) × HoldsCon s.now c at }
     ensures { (c : Con ℕ) → HoldsCon s.now c at → result ≡ at + sizeCon c }
@@ -65,34 +57,44 @@ fn fits(pool: &[u8], table: &[u32], s: &[u32], m: usize) -> bool
 }
 
 // The state that was made, if it keeps the limits.
-fn limit(pool: &[u8], table: &[u32], s: &[u32], n: usize, m: usize) -> Turn
+fn limit(
+    pool: &[u8],
+    table: &[u32],
+    s: &[u32],
+    n: usize,
+    m: usize,
+) -> Result<Option<(usize, usize)>, Refusal>
     requires good { Good pool.now table.now }
     requires by_index { (st : State ℕ) × Made pool.now table.now s.now n m st }
     ensures { (st : State ℕ) → Made pool.now table.now s.now n m st → Turned pool.now table.now s.now s.now result (keeps st) }
 {
     if fits(pool, table, s, m) {
-        Turn::Next(n, m)
+        Ok(Some((n, m)))
     } else {
-        Turn::Stop(Refusal::TooLarge)
+        Err(Refusal::TooLarge)
     }
 }
 
 // The same for a state that was made beside the work buffer: it is copied there.
-fn keep(pool: &[u8], table: &[u32], next: &[u32], n: usize, m: usize, work: &mut [u32]) -> Turn
+fn keep(
+    pool: &[u8],
+    table: &[u32],
+    next: &[u32],
+    n: usize,
+    m: usize,
+    work: &mut [u32],
+) -> Result<Option<(usize, usize)>, Refusal>
     requires good { Good pool.now table.now }
     requires by_index { (st : State ℕ) × Made pool.now table.now next.now n m st }
     requires in_bounds { 8192 ≤ length next.now }
     requires in_bounds_2 { 8192 ≤ length work.old }
     ensures { (st : State ℕ) → Made pool.now table.now next.now n m st → Turned pool.now table.now work.old work.new result (keeps st) }
 {
-    match limit(pool, table, next, n, m) {
-        Turn::Next(_, _) => {
-            copy(next, 0, m, work, 0);
-            Turn::Next(n, m)
-        }
-        Turn::End => Turn::End,
-        Turn::Stop(k) => Turn::Stop(k),
+    if !fits(pool, table, next, m) {
+        return Err(Refusal::TooLarge);
     }
+    copy(next, 0, m, work, 0);
+    Ok(Some((n, m)))
 }
 
 // New constraints stand in `next` up to q: the others go before them, the bindings behind.
@@ -106,7 +108,7 @@ fn append(
     n: usize,
     m: usize,
     q: usize,
-) -> Turn
+) -> Result<Option<(usize, usize)>, Refusal>
     requires good { Good pool.now table.now }
     requires around { (p : Parts) × Around pool.now table.now work.old at e n m p }
     requires by_index { (new : List (Con ℕ)) × New pool.now table.now next.old (map con new) (n - (e - at)) q }
@@ -115,7 +117,7 @@ fn append(
     ensures { (p : Parts) (new : List (Con ℕ)) → Around pool.now table.now work.old at e n m p → New pool.now table.now next.old (map con new) (n - (e - at)) q → Turned pool.now table.now work.old work.new result (appends p new) }
 {
     if RECORDS < q {
-        return Turn::Stop(Refusal::TooLarge); // the constraints alone pass the limit
+        return Err(Refusal::TooLarge); // the constraints alone pass the limit
     }
     join(work, at, e, n, m, next, q);
     keep(pool, table, next, q, q + (m - n), work)
@@ -131,7 +133,7 @@ fn rebind_by(
     q: usize,
     m: usize,
     work: &mut [u32],
-) -> Turn
+) -> Result<Option<(usize, usize)>, Refusal>
     requires good { Good pool.now table.now }
     requires by_index { (cs : List (Con ℕ)) × ((x : ℕ) × ((t : Ty ℕ) × ((bs : List (Binding ℕ)) × Bound pool.now table.now next.now b q m cs x t bs))) }
     requires in_bounds { 8192 ≤ length next.now }
@@ -140,16 +142,10 @@ fn rebind_by(
     requires fills { Fills next.now b q places.now }
     ensures { (cs : List (Con ℕ)) (x : ℕ) (t : Ty ℕ) (bs : List (Binding ℕ)) → Bound pool.now table.now next.now b q m cs x t bs → Turned pool.now table.now work.old work.new result (rebinds pool.now table.now cs x t bs) }
 {
-    match replace_lines(pool, table, next, 0, b, places, next, work, 0) {
-        Went::To(_, n) => match replace_lines(pool, table, next, q, m, places, next, work, n) {
-            Went::To(_, o) => {
-                copy(next, b, q, work, o);
-                limit(pool, table, work, n, o + (q - b))
-            }
-            Went::Stop(k) => Turn::Stop(k),
-        },
-        Went::Stop(k) => Turn::Stop(k),
-    }
+    let (_, n) = replace_lines(pool, table, next, 0, b, places, next, work, 0)?;
+    let (_, o) = replace_lines(pool, table, next, q, m, places, next, work, n)?;
+    copy(next, b, q, work, o);
+    limit(pool, table, work, n, o + (q - b))
 }
 
 // The same with a table of the new binding alone.
@@ -161,7 +157,7 @@ fn rebind(
     q: usize,
     m: usize,
     work: &mut [u32],
-) -> Turn
+) -> Result<Option<(usize, usize)>, Refusal>
     requires good { Good pool.now table.now }
     requires by_index { (cs : List (Con ℕ)) × ((x : ℕ) × ((t : Ty ℕ) × ((bs : List (Binding ℕ)) × Bound pool.now table.now next.now b q m cs x t bs))) }
     requires in_bounds { 8192 ≤ length next.now }
@@ -185,7 +181,7 @@ fn bind(
     n: usize,
     m: usize,
     q: usize,
-) -> Turn
+) -> Result<Option<(usize, usize)>, Refusal>
     requires good { Good pool.now table.now }
     requires around { (p : Parts) × Around pool.now table.now work.old at e n m p }
     requires by_index { (x : ℕ) × ((t : Ty ℕ) × New pool.now table.now next.old (binding (x ≔ t) ∷ []) (n - (e - at)) q) }
@@ -210,7 +206,7 @@ fn perform(
     n: usize,
     m: usize,
     step: Step,
-) -> Turn
+) -> Result<Option<(usize, usize)>, Refusal>
     requires good { Good pool.now table.now }
     requires by_index { (p : Parts) × ((c : Con ℕ) × Taken pool.now table.now work.old next.old at e n m step p c) }
     requires in_bounds { 8192 ≤ length work.old }
@@ -222,7 +218,7 @@ fn perform(
         Step::Bind(q) => bind(pool, table, work, next, at, e, n, m, q),
         Step::Split(q) => append(pool, table, work, next, at, e, n, m, q),
         Step::Done => append(pool, table, work, next, at, e, n, m, n - (e - at)),
-        Step::Stuck => Turn::End,
+        Step::Stuck => Ok(None),
     }
 }
 
@@ -234,7 +230,7 @@ fn take_turn(
     next: &mut [u32],
     n: usize,
     m: usize,
-) -> Turn
+) -> Result<Option<(usize, usize)>, Refusal>
     requires good { Good pool.now table.now }
     requires by_index { (st : State ℕ) × StateHeld pool.now table.now work.old n m st }
     requires in_bounds { 8192 ≤ length work.old }
@@ -246,19 +242,17 @@ fn take_turn(
     let mut at = 0;
     while at < n {
         let e = con_end(work, at);
-        let step = match try_satisfy(pool, table, work, at, next, n - (e - at)) {
-            Ok(step) => step,
-            Err(why) => return Turn::Stop(why),
-        };
+        let step = try_satisfy(pool, table, work, at, next, n - (e - at))?;
         let Step::Stuck = step else {
             return perform(pool, table, work, next, at, e, n, m, step);
         };
         at = e;
     }
-    Turn::End
+    Ok(None)
 }
 
-// One round: the state stands in the first 8,192 words of `work`, and `next` is used to make the next one.
+/// One round: the state stands in the first 8,192 words of `work`, and `next` is used to make the next one.
+/// A refusal says nothing of `work`; where no rule applies it is as it was.
 pub fn round(
     pool: &[u8],
     table: &[u32],
@@ -266,7 +260,7 @@ pub fn round(
     next: &mut [u32],
     n: usize,
     m: usize,
-) -> Turn
+) -> Result<Option<(usize, usize)>, Refusal>
     requires good { Good pool.now table.now }
     requires by_index { (st : State ℕ) × StateHeld pool.now table.now work.old n m st }
     requires in_bounds { 8192 ≤ length work.old }

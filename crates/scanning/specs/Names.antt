@@ -55,7 +55,8 @@ pub starts : (line : Bytes) (at : ℕ) (d : List ℕ) → at ≤ length line →
 unfolding prefix
 starts line at d h = record { within = h; behind = omega arith; bytes = []; is = refl; count = refl; buffer = refl; few = omega arith }
 
-pub goes_on : {line : Bytes} {at i k b next : ℕ} {d d₁ d₂ : List ℕ} → Reading line at i k d d₁ → ByteThen line i b next → d₂ ≡ set d₁ k b → Reading line at next (k + 1) d d₂
+pub goes_on : {line : Bytes} {at i k b next : ℕ} {d d₁ d₂ : List ℕ} → Reading line at i k d d₁ → ByteThen line i b next → d₂ ≡ set d₁ k b
+    → Reading line at next (k + 1) d d₂
 goes_on {line} {at} {i} {k} {b} {next} {d} {d₁} {d₂} r t e = record {
   within = t.within;
   behind = omega (arith, r.behind, t.further);
@@ -68,7 +69,15 @@ goes_on {line} {at} {i} {k} {b} {next} {d} {d₁} {d₂} r t e = record {
 }
 
 pub ends : {line : Bytes} {at i k : ℕ} {d d' : List ℕ} → Reading line at i k d d' → nameIn line i ≡ read [] (place_in line i) → NameRead line at i k d d'
-ends {line} {at} {i} r e = record { within = r.within; behind = r.behind; bytes = r.bytes; is = r.is ∙ ap (prefix r.bytes) e ∙ prefix-read r.bytes (place_in line i); count = r.count; buffer = r.buffer }
+ends {line} {at} {i} r e = record {
+  within = r.within;
+  behind = r.behind;
+  bytes = r.bytes;
+  is = r.is ∙ ap (prefix r.bytes) e
+      ∙ prefix-read r.bytes (place_in line i);
+  count = r.count;
+  buffer = r.buffer;
+}
 
 pub fails : {line : Bytes} {at i k c : ℕ} {d d' : List ℕ} → Reading line at i k d d' → nameIn line i ≡ bad c → nameIn line at ≡ bad c
 fails {line} {at} {i} {k} {c} r e = r.is ∙ ap (prefix r.bytes) e ∙ prefix-bad r.bytes c

@@ -1,5 +1,5 @@
 -- Digits read one by one, and their number with a cap on it.
-use Rattle.std.specs.Prelude.{◌≡◌, refl, true, false, ℕ, suc, ◌+◌, ◌-◌, ◌*◌, ◌≤◌, ◌<◌, Option, None, Some, Result, Ok, Err, min, length, drop, get_or}
+use Rattle.std.specs.Prelude.{◌≡◌, true, false, ℕ, suc, ◌+◌, ◌-◌, ◌*◌, ◌≤◌, ◌<◌, Option, None, Some, Result, Ok, Err, min, length, drop, get_or}
 use Rattle.std.proofs.Common.{◌∙◌, add-one, arith, drop_of_length-le, drop-cons}
 use Rattle.rules.specs.Names.{Bytes}
 use Rattle.rules.specs.Grammar.{Parsed, read, bad, isDigit, digitsFrom, digitsAt}

@@ -6,7 +6,8 @@ use Prim.Native.Nat.{ℕ, suc, ◌+◌, ◌-◌, ◌*◌, ◌≤◌, ◌<◌}
 use Rattle.std.proofs.Math.Numerals.{add-one, add-two, add-three}
 use Rattle.laws.specs.Lists.{and_right, some≢none}
 use Rattle.rules.specs.Names.{Bytes}
-use Rattle.rules.specs.Grammar.{Place, here, Parsed, read, bad, isBlank, is_plain, between, isDigit, hexIn, hexOf, whole, slashed, half, more, nameFrom, skipFrom, spellFrom}
+use Rattle.rules.specs.Grammar.{Place, here, Parsed, read, bad, isBlank, is_plain, between, isDigit, hexIn, hexOf, whole, slashed, half, more}
+use Rattle.rules.specs.Grammar.{nameFrom, skipFrom, spellFrom}
 use Rattle.scanning.specs.declared.inner.Letter.{Letter}
 
 -- the place r of a line, as the grammar has it
@@ -24,7 +25,8 @@ spelt line (Err r) = bad (suc r)
 
 -- ══ Blanks ══
 
-pub blank_step : (line : Bytes) (i : ℕ) → i < length line → isBlank (get_or line i 0) ≡ true → skipFrom (suc i) (drop i line) ≡ skipFrom (suc (i + 1)) (drop (i + 1) line)
+pub blank_step : (line : Bytes) (i : ℕ) → i < length line → isBlank (get_or line i 0) ≡ true
+    → skipFrom (suc i) (drop i line) ≡ skipFrom (suc (i + 1)) (drop (i + 1) line)
 unfolding skipFrom
 blank_step line i h e = rw (drop-cons line i 0 h, add-one i) (rw (e, skipFrom))
 
@@ -46,14 +48,16 @@ pub spelt-end : (line sign : Bytes) (i j : ℕ) → j < length sign → length l
 unfolding spellFrom
 spelt-end line sign i j h k = rw (drop-cons sign j 0 h, drop_of_length-le line {i = i} k)
 
-pub spelt-other : (line sign : Bytes) (i j : ℕ) → j < length sign → i < length line → (get_or line i 0 ≡ get_or sign j 0 → ⊥) → spellFrom (drop j sign) (suc i) (drop i line) ≡ bad (suc i)
+pub spelt-other : (line sign : Bytes) (i j : ℕ) → j < length sign → i < length line → (get_or line i 0 ≡ get_or sign j 0 → ⊥)
+    → spellFrom (drop j sign) (suc i) (drop i line) ≡ bad (suc i)
 unfolding spellFrom
 spelt-other line sign i j h k e = rw (drop-cons sign j 0 h, drop-cons line i 0 k) (rw (ne_eqb (get_or line i 0) (get_or sign j 0) e, spellFrom))
 
 pub spelt-step : (line sign : Bytes) (i j : ℕ) → j < length sign → i < length line → get_or line i 0 ≡ get_or sign j 0
     → spellFrom (drop j sign) (suc i) (drop i line) ≡ spellFrom (drop (j + 1) sign) (suc (i + 1)) (drop (i + 1) line)
 unfolding spellFrom
-spelt-step line sign i j h k e = rw (drop-cons sign j 0 h, drop-cons line i 0 k, add-one i, add-one j) (rw (eq-eqb (get_or line i 0) (get_or sign j 0) e, spellFrom))
+spelt-step line sign i j h k e = rw (drop-cons sign j 0 h, drop-cons line i 0 k, add-one i, add-one j)
+    (rw (eq-eqb (get_or line i 0) (get_or sign j 0) e, spellFrom))
 
 -- ══ Names ══
 
@@ -129,24 +133,28 @@ module _ (line : Bytes) (at : ℕ) (h : at < length line) where
       go true q = slash-end e (leb-true (length line) (at + 1) q)
       go false q = let k : at + 1 < length line = omega (arith, leb-false (length line) (at + 1) q) in slash-bad e k (f k)
 
-  digit : (g : ℕ) → get_or line at 0 ≡ 92 → at + 1 < length line → hexOf (get_or line (at + 1) 0) ≡ some g → nameIn line at ≡ nameFrom (half g) (suc (suc (suc at))) (drop (suc (suc at)) line)
+  digit : (g : ℕ) → get_or line at 0 ≡ 92 → at + 1 < length line → hexOf (get_or line (at + 1) 0) ≡ some g
+      → nameIn line at ≡ nameFrom (half g) (suc (suc (suc at))) (drop (suc (suc at)) line)
   unfolding nameFrom
   digit g e k x =
       let y : hexOf (get_or line (suc at) 0) ≡ some g = rw (add-one at) at x in
       slash e ∙ rw (drop-cons line (suc at) 0 (omega arith)) (rw (y, nameFrom))
 
-  digit-end : (g : ℕ) → get_or line at 0 ≡ 92 → at + 1 < length line → hexOf (get_or line (at + 1) 0) ≡ some g → length line ≤ at + 2 → nameIn line at ≡ bad (suc (at + 2))
+  digit-end : (g : ℕ) → get_or line at 0 ≡ 92 → at + 1 < length line → hexOf (get_or line (at + 1) 0) ≡ some g → length line ≤ at + 2
+      → nameIn line at ≡ bad (suc (at + 2))
   unfolding nameFrom
   digit-end g e k x l = digit g e k x ∙ rw (drop_of_length-le line {i = suc (suc at)} (omega arith)) (ap (λ (n : ℕ). bad (suc n)) (omega arith))
 
-  digit-bad : (g : ℕ) → get_or line at 0 ≡ 92 → at + 2 < length line → hexOf (get_or line (at + 1) 0) ≡ some g → hexOf (get_or line (at + 2) 0) ≡ none → nameIn line at ≡ bad (suc (at + 2))
+  digit-bad : (g : ℕ) → get_or line at 0 ≡ 92 → at + 2 < length line → hexOf (get_or line (at + 1) 0) ≡ some g → hexOf (get_or line (at + 2) 0) ≡ none
+      → nameIn line at ≡ bad (suc (at + 2))
   unfolding nameFrom
   digit-bad g e k x z =
       let y : hexOf (get_or line (suc (suc at)) 0) ≡ none = rw (add-two at) at z in
       digit g e (omega arith) x ∙ rw (drop-cons line (suc (suc at)) 0 (omega arith)) (rw (y, nameFrom) (ap (λ (n : ℕ). bad (suc n)) (sym (add-two at))))
 
   -- no hex digit behind the first
-  pub second-bad : (g : ℕ) → get_or line at 0 ≡ 92 → at + 1 < length line → hexOf (get_or line (at + 1) 0) ≡ some g → (at + 2 < length line → hexOf (get_or line (at + 2) 0) ≡ none)
+  pub second-bad : (g : ℕ) → get_or line at 0 ≡ 92 → at + 1 < length line → hexOf (get_or line (at + 1) 0) ≡ some g
+      → (at + 2 < length line → hexOf (get_or line (at + 2) 0) ≡ none)
       → nameIn line at ≡ bad (suc (at + 2))
   second-bad g e k x f = go (leb (length line) (at + 2)) refl
     where
@@ -154,7 +162,8 @@ module _ (line : Bytes) (at : ℕ) (h : at < length line) where
       go true q = digit-end g e k x (leb-true (length line) (at + 2) q)
       go false q = let l : at + 2 < length line = omega (arith, leb-false (length line) (at + 2) q) in digit-bad g e l x (f l)
 
-  pub both-digits : (g f : ℕ) → get_or line at 0 ≡ 92 → at + 2 < length line → hexOf (get_or line (at + 1) 0) ≡ some g → hexOf (get_or line (at + 2) 0) ≡ some f → ByteThen line at (g * 16 + f) (at + 3)
+  pub both-digits : (g f : ℕ) → get_or line at 0 ≡ 92 → at + 2 < length line → hexOf (get_or line (at + 1) 0) ≡ some g
+      → hexOf (get_or line (at + 2) 0) ≡ some f → ByteThen line at (g * 16 + f) (at + 3)
   unfolding nameFrom
   both-digits g f e k x z =
       let y : hexOf (get_or line (suc (suc at)) 0) ≡ some f = rw (add-two at) at z in

@@ -19,7 +19,7 @@ use finishing::inner::finish;
 use names::old::Checked;
 use queries::inner::is_unmixed;
 use records::inner::{copy, set_good};
-use rounds::inner::{Turn, round};
+use rounds::inner::round;
 use rules::{RECORD_WORDS, Refusal};
 
 // What was finished after k rounds.
@@ -69,15 +69,15 @@ fn run(
     let mut k = 0;
     loop {
         match round(pool, table, work, next, b, e) {
-            Turn::Next(p, q) => {
+            Ok(Some((p, q))) => {
                 b = p;
                 e = q;
                 k += 1;
             }
-            Turn::End => {
+            Ok(None) => {
                 return after(finish(pool, table, work, b, e, res), k);
             }
-            Turn::Stop(r) => {
+            Err(r) => {
                 return stopped(r, k);
             }
         }

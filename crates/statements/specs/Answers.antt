@@ -26,7 +26,8 @@ answer_of (Ok i) (Ok tally) n = Ok (record { tally = tally; constraints = n })
 answer_of (Ok i) (Err stop) n = Err stop
 answer_of (Err q) s n = Err (record { why = NotGrammar; at = q })
 
-module _ {line : Bytes} {q : Point} {x : Lent} {pool table dst : List ℕ} {k m : ℕ} (x1 : Reads line (Ok (Some 0)) column (λ (i : ℕ). i ≡ columnAt q) q) (g : x.stand ≡ stand.Going k m) where
+module _ {line : Bytes} {q : Point} {x : Lent} {pool table dst : List ℕ} {k m : ℕ} (x1 : Reads line (Ok (Some 0)) column (λ (i : ℕ). i ≡ columnAt q) q)
+    (g : x.stand ≡ stand.Going k m) where
   -- the answer tells what the line did
   pub answered : (r : Point) (s : Stand) (n : ℕ) → Done line signsAt meantOf (LineTold n) q x r (lent pool table dst s)
       → LineDone line x (lent pool table dst (standIn (answer_of r s n))) (countIn (answer_of r s n))

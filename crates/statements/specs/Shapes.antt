@@ -4,7 +4,9 @@ use Rattle.std.proofs.Common.{sym, ap, subst, ◌∙◌, arith, eqb-true}
 use Prim.Native.Char.{Char, code}
 use Rattle.rules.specs.Names.{Bytes}
 use Rattle.rules.specs.Trees.{Open, var, par, boolean, string, datetime}
-use Rattle.rules.specs.Grammar.{Place, here, beyond, Parsed, read, bad, pass, Rule, give, sign, mark, skip, column, pick, chosen, name, NameAt, TyAt, open_at, basicAt, dimAt, fn_at, listAt, struct_at, deepAt, opened, keyword, dimension, function, listed, structure, types, type, ◌>>=◌, ◌>>◌}
+use Rattle.rules.specs.Grammar.{Place, here, beyond, Parsed, read, bad, pass, Rule, give, sign, mark, skip, column, pick, chosen, name, NameAt, TyAt}
+use Rattle.rules.specs.Grammar.{open_at, basicAt, dimAt, fn_at, listAt, struct_at, deepAt, opened, keyword, dimension, function, listed, structure}
+use Rattle.rules.specs.Grammar.{types, type, ◌>>=◌, ◌>>◌}
 use Rattle.scanning.specs.Scanned.{place_in}
 use Rattle.reading.specs.Points.{Reads, from, standing, begins, beginsAt, Point}
 use Rattle.reading.specs.Types.{paramsThere, typesThere, fieldsThere}
@@ -37,16 +39,20 @@ shaped-give v h = record { so = λ p q w e. let z : v ≡ w = cc in ap isDimensi
 open-shape : (x : Char) (f : NameAt → Open NameAt) → Shaped false (opened x f)
 open-shape x f =
     shaped-then column (λ c. mark x >> (name >>= λ n. give (open_at c (f n))))
-    (λ c. shaped-then (mark x) (λ u. name >>= λ n. give (open_at c (f n))) (λ u. shaped-then name (λ n. give (open_at c (f n))) (λ n. shaped-give (open_at c (f n)) refl)))
+    (λ c. shaped-then (mark x) (λ u. name >>= λ n. give (open_at c (f n)))
+    (λ u. shaped-then name (λ n. give (open_at c (f n))) (λ n. shaped-give (open_at c (f n)) refl)))
 
 bool-shape : Shaped false (keyword "Bool" boolean)
-bool-shape = shaped-then column (λ c. sign "Bool" >> give (basicAt c boolean)) (λ c. shaped-then (sign "Bool") (λ u. give (basicAt c boolean)) (λ u. shaped-give (basicAt c boolean) refl))
+bool-shape = shaped-then column (λ c. sign "Bool" >> give (basicAt c boolean))
+    (λ c. shaped-then (sign "Bool") (λ u. give (basicAt c boolean)) (λ u. shaped-give (basicAt c boolean) refl))
 
 string-shape : Shaped false (keyword "String" string)
-string-shape = shaped-then column (λ c. sign "String" >> give (basicAt c string)) (λ c. shaped-then (sign "String") (λ u. give (basicAt c string)) (λ u. shaped-give (basicAt c string) refl))
+string-shape = shaped-then column (λ c. sign "String" >> give (basicAt c string))
+    (λ c. shaped-then (sign "String") (λ u. give (basicAt c string)) (λ u. shaped-give (basicAt c string) refl))
 
 datetime-shape : Shaped false (keyword "DateTime" datetime)
-datetime-shape = shaped-then column (λ c. sign "DateTime" >> give (basicAt c datetime)) (λ c. shaped-then (sign "DateTime") (λ u. give (basicAt c datetime)) (λ u. shaped-give (basicAt c datetime) refl))
+datetime-shape = shaped-then column (λ c. sign "DateTime" >> give (basicAt c datetime))
+    (λ c. shaped-then (sign "DateTime") (λ u. give (basicAt c datetime)) (λ u. shaped-give (basicAt c datetime) refl))
 
 dimension-shape : Shaped true dimension
 unfolding dimension
@@ -69,14 +75,17 @@ module _ (ty : Rule TyAt) where
   function-shape : Shaped false (function ty)
   unfolding function
   function-shape =
-      shaped-then column (λ c. sign "Fn" >> (sign "[" >> (sign "(" >> (paramsThere ty >>= λ ps. sign ")" >> (sign "->" >> (ty >>= λ r. sign "]" >> give (fn_at c ps r)))))))
-      (λ c. shaped-then (sign "Fn") (λ u. sign "[" >> (sign "(" >> (paramsThere ty >>= λ ps. sign ")" >> (sign "->" >> (ty >>= λ r. sign "]" >> give (fn_at c ps r))))))
+      shaped-then column (λ c. sign "Fn" >> (sign "[" >> (sign "(" >> (paramsThere ty >>= λ ps. sign ")" >>
+      (sign "->" >> (ty >>= λ r. sign "]" >> give (fn_at c ps r)))))))
+      (λ c. shaped-then (sign "Fn") (λ u. sign "[" >> (sign "(" >> (paramsThere ty >>= λ ps. sign ")" >>
+      (sign "->" >> (ty >>= λ r. sign "]" >> give (fn_at c ps r))))))
       (λ u. shaped-then (sign "[") (λ u. sign "(" >> (paramsThere ty >>= λ ps. sign ")" >> (sign "->" >> (ty >>= λ r. sign "]" >> give (fn_at c ps r)))))
       (λ u. shaped-then (sign "(") (λ u. paramsThere ty >>= λ ps. sign ")" >> (sign "->" >> (ty >>= λ r. sign "]" >> give (fn_at c ps r))))
       (λ u. shaped-then (paramsThere ty) (λ ps. sign ")" >> (sign "->" >> (ty >>= λ r. sign "]" >> give (fn_at c ps r))))
       (λ ps. shaped-then (sign ")") (λ u. sign "->" >> (ty >>= λ r. sign "]" >> give (fn_at c ps r)))
       (λ u. shaped-then (sign "->") (λ u. ty >>= λ r. sign "]" >> give (fn_at c ps r))
-      (λ u. shaped-then ty (λ r. sign "]" >> give (fn_at c ps r)) (λ r. shaped-then (sign "]") (λ u. give (fn_at c ps r)) (λ u. shaped-give (fn_at c ps r) refl)))))))))
+      (λ u. shaped-then ty (λ r. sign "]" >> give (fn_at c ps r)) (λ r. shaped-then (sign "]") (λ u. give (fn_at c ps r))
+      (λ u. shaped-give (fn_at c ps r) refl)))))))))
 
   structure-shape : Shaped false (structure ty)
   unfolding structure
@@ -103,7 +112,8 @@ picked b (x ∷ xs) (one c R s f) = go (eqb b (code c)) refl (picked b xs f)
 types-shape : (d b : ℕ) → Shaped (eqb b 91) (pick b (types (type d)))
 types-shape d b =
     picked b (types (type d))
-    (one "?" _ (open-shape "?" var) (one "!" _ (open-shape "!" par) (one "[" _ dimension-shape (one "B" _ bool-shape (one "S" _ string-shape (one "D" _ datetime-shape
+    (one "?" _ (open-shape "?" var) (one "!" _ (open-shape "!" par) (one "[" _ dimension-shape
+    (one "B" _ bool-shape (one "S" _ string-shape (one "D" _ datetime-shape
     (one "F" _ (function-shape (type d)) (one "L" _ (list-shape (type d)) (one "@" _ (structure-shape (type d)) none)))))))))
 
 -- a type is a dimension where it begins with "["
@@ -118,7 +128,8 @@ pub type-dimension : {P : TyAt → Type 0} {line : Bytes} {q r : Point} (d : ℕ
 unfolding type skip begins
 type-dimension {P} {line} {q} {r} d x = record { within = x.within; onward = x.onward; value = x.value; is = x.is; holds = (x.holds, go q r x.is) }
   where
-    go : (q r : Point) → from line q (λ p. chosen (deepAt 0) (types (type d)) (skip p)) ≡ standing line r x.value → NotBad r → isDimension x.value ≡ beginsAt line q 91
+    go : (q r : Point) → from line q (λ p. chosen (deepAt 0) (types (type d)) (skip p)) ≡ standing line r x.value → NotBad r
+        → isDimension x.value ≡ beginsAt line q 91
     go (Ok (Some i)) (Ok (Some j)) e n = type-shape d (skip (place_in line i)) _ x.value e
     go (Ok (Some i)) (Ok None) e n = type-shape d (skip (place_in line i)) _ x.value e
     go (Ok None) (Ok (Some j)) e n = type-shape d beyond _ x.value e

@@ -10,23 +10,26 @@ use Rattle.rules.specs.Names.{Bytes}
 use Rattle.rules.specs.Refusals.{number_of}
 use Rattle.rules.specs.Trees.{Ty, dim, Product, Con, equal, isDim, is_scalar, hasField, sizeCon}
 use Rattle.rules.specs.Writing.{Rec, rec, head, writeTy, writeTys, writeFields, writeProduct, writeCon}
-use Rattle.rules.specs.Grammar.{Place, here, beyond, Parsed, read, bad, Rule, ascii, sign, spell, spellFrom, skip, column, columnOf, pick, chosen, choose, ifSign, end_at, ended, NameAt, name}
-use Rattle.rules.specs.Grammar.{FactorAt, TyAt, open_at, basicAt, dimAt, fn_at, listAt, struct_at, deepAt, type, ConAt, equalAt, isDimAt, isScalarAt, hasFieldAt, afterType, afterDimension, typed, constraint, signsAt, give, ◌>>=◌, ◌>>◌}
+use Rattle.rules.specs.Grammar.{Place, here, beyond, Parsed, read, bad, Rule, ascii, sign, spell, spellFrom, skip, column, columnOf, pick, chosen}
+use Rattle.rules.specs.Grammar.{choose, ifSign, end_at, ended, NameAt, name}
+use Rattle.rules.specs.Grammar.{FactorAt, TyAt, open_at, basicAt, dimAt, fn_at, listAt, struct_at, deepAt, type, ConAt, equalAt, isDimAt, isScalarAt}
+use Rattle.rules.specs.Grammar.{hasFieldAt, afterType, afterDimension, typed, constraint, signsAt, give, ◌>>=◌, ◌>>◌}
 use Rattle.rules.specs.Grammar as Grammar
 use Rattle.rules.specs.TextReading.{Sofar, Told, told, refusedAt, Step, onward, counted, named, productOf, ty_of, tys_of, fields_of, conOf, meant, lineRead}
 use Rattle.rules.specs.TextReading as TextReading
 use Rattle.rules.specs.declared.Refusal.{Refusal}
 use Rattle.rules.specs.declared.Refusal.TheVariants.{NotGrammar}
-use Rattle.laws.specs.NameTable.{Good}
 use Rattle.laws.specs.Size.{size-ty}
 use Rattle.records.specs.declared.View.{View}
 use Rattle.records.specs.declared.View.TheVariants as view
 use Rattle.scanning.specs.Scanned.{place_in}
-use Rattle.reading.specs.Points.{Reads, PointIn, Any, standing, marked, columnAt, beginsAt, in-turn, given, if-sign, if-no-sign, spell-end, spell-other, spell-there, Point}
+use Rattle.reading.specs.Points.{Reads, PointIn, Any, standing, marked, columnAt, beginsAt, in-turn, given, if-sign, if-no-sign, spell-end}
+use Rattle.reading.specs.Points.{spell-other, spell-there, Point}
 use Rattle.reading.specs.Factors.{byte_of, refusedFrom, pick_other, choose-this, choose-none}
 use Rattle.reading.specs.Signs.{spelled}
 use Rattle.terms.specs.Stands.{place_of, headPut, same-refused, Stand}
-use Rattle.terms.specs.Effects.{Lent, lent, sofar, Halted, Ready, Kept, Did, Effect, Writes, Done, NotBad, not-bad, then, gives, maps, alike, grouped, kept_same, kept-last, kept_then, kept-counted, countedIn, Inside, halted-on}
+use Rattle.terms.specs.Effects.{Lent, lent, sofar, Halted, Ready, Kept, Did, Effect, Writes, Done, NotBad, not-bad, then, gives, maps, alike, grouped}
+use Rattle.terms.specs.Effects.{kept_same, kept-last, kept_then, kept-counted, countedIn, Inside, halted-on}
 use Rattle.terms.specs.Naming.{NumberTold}
 use Rattle.terms.specs.Inside.{inside-spelled, inside-column}
 use Rattle.terms.specs.Stands as stand
@@ -78,7 +81,8 @@ module _ {x y : Lent} (q : Point) {k : ℕ} (hk : k ≡ columnAt q) (n : NotBad 
       (head-by view.IsDim writeCon q _ hk n h ky (maps (ty_of l) isDim (kept-last ky) el (λ u rs hu. dim-behind u rs hu)) d g)
 
 -- a dimension's records are those of its product
-product-told : (m : Told (Product ℕ)) (t : Ty ℕ) (s : Sofar) → onward m (λ p. TextReading.give (dim p)) ≡ told t s → (p : Product ℕ) × ((m ≡ told p s) × (t ≡ dim p))
+product-told : (m : Told (Product ℕ)) (t : Ty ℕ) (s : Sofar) → onward m (λ p. TextReading.give (dim p)) ≡ told t s
+    → (p : Product ℕ) × ((m ≡ told p s) × (t ≡ dim p))
 product-told (told p s₁) t s e = let a : dim p ≡ t = cc in let b : s₁ ≡ s = cc in (p, (ap (told p) b, sym a))
 product-told (refusedAt n c) t s e = let w : ◌≡◌ {A = ℕ} 0 1 = cc in absurd (omega arith)
 
@@ -86,13 +90,15 @@ product-refused : (m : Told (Product ℕ)) (n c : ℕ) → onward m (λ p. TextR
 product-refused (told p s) n c e = let w : ◌≡◌ {A = ℕ} 0 1 = cc in absurd (omega arith)
 product-refused (refusedAt i j) n c e = let a : i ≡ n = cc in let b : j ≡ c = cc in ap₂ refusedAt a b
 
-product-did : {x y : Lent} {i n i' n' : ℕ} (c : ℕ) (fs : List FactorAt) (e : ℕ) → Did (ty_of (dimAt c fs e)) (Writes writeTy) x y i n i' n' → Did (productOf c fs e) (Writes writeProduct) x y i n i' n'
+product-did : {x y : Lent} {i n i' n' : ℕ} (c : ℕ) (fs : List FactorAt) (e : ℕ) → Did (ty_of (dimAt c fs e)) (Writes writeTy) x y i n i' n'
+    → Did (productOf c fs e) (Writes writeProduct) x y i n i' n'
 unfolding ty_of tys_of fields_of writeTy writeTys writeFields
 product-did {x} {y} {i} {n} {i'} {n'} c fs e o =
     let w = product-told (productOf c fs e (sofar x i n)) o.value (sofar y i' n') o.is in
     record { value = w.0; records = o.records; is = w.1.0; tells = o.tells ∙ ap writeTy w.1.1; written = o.written; grown = o.grown }
 
-product-effect : {x y : Lent} (c : ℕ) (fs : List FactorAt) (e : ℕ) → Effect (ty_of (dimAt c fs e)) (Writes writeTy) x y → Effect (productOf c fs e) (Writes writeProduct) x y
+product-effect : {x y : Lent} (c : ℕ) (fs : List FactorAt) (e : ℕ) → Effect (ty_of (dimAt c fs e)) (Writes writeTy) x y
+    → Effect (productOf c fs e) (Writes writeProduct) x y
 unfolding ty_of tys_of fields_of
 product-effect {x} {y} c fs e o = record {
   does = λ i n i' n' p q. product-did c fs e (o.does i n i' n' p q);
@@ -101,11 +107,13 @@ product-effect {x} {y} c fs e o = record {
 
 module _ {x y : Lent} (q : Point) {k : ℕ} (hk : k ≡ columnAt q) (n : NotBad q) (h : Halted q x.stand) (ky : Kept (countedIn 1 (place_of q) x) y) where
   scalar-effect : (c : ℕ) (fs : List FactorAt) (e : ℕ) → Effect (ty_of (dimAt c fs e)) (Writes writeTy) (countedIn 1 (place_of q) x) y
-      → (d : List ℕ) → d ≡ headPut view.IsScalar x.stand y.stand y.dst → Effect (conOf (isScalarAt k c fs e)) (Writes writeCon) x (lent y.pool y.table d y.stand)
+      → (d : List ℕ) → d ≡ headPut view.IsScalar x.stand y.stand y.dst → Effect (conOf (isScalarAt k c fs e)) (Writes writeCon) x
+      (lent y.pool y.table d y.stand)
   unfolding conOf
   scalar-effect c fs e o d g =
       alike (grouped (counted 1 k) (λ u. productOf c fs e) (λ p. TextReading.give (is_scalar p)))
-      (head-by view.IsScalar writeCon q _ hk n h ky (maps (productOf c fs e) is_scalar (kept-last ky) (product-effect c fs e o) (λ p rs hp. scalar-behind p rs hp)) d g)
+      (head-by view.IsScalar writeCon q _ hk n h ky (maps (productOf c fs e) is_scalar (kept-last ky) (product-effect c fs e o)
+      (λ p rs hp. scalar-behind p rs hp)) d g)
 
 -- ══ What follows a type ══
 
@@ -142,7 +150,8 @@ not-dimension b c (deepAt d) h p = refl
 
 nothing-after : (b c : ℕ) (l : TyAt) → (b ≡ 126 → ⊥) → (b ≡ 58 → ⊥) → (b ≡ 61 → isDimension l ≡ false) → (p : Place) → pick b (after c l) p ≡ bad (columnOf p)
 nothing-after b c l f g h p =
-    ap (λ (R : Rule ConAt). R p) (pick_other b ("~", equalRule c l) ((":", dimRule c l) ∷ afterDimension c l) f ∙ pick_other b (":", dimRule c l) (afterDimension c l) g)
+    ap (λ (R : Rule ConAt). R p) (pick_other b ("~", equalRule c l) ((":", dimRule c l) ∷ afterDimension c l) f
+    ∙ pick_other b (":", dimRule c l) (afterDimension c l) g)
     ∙ not-dimension b c l h p
 
 -- the byte b is "=", and a dimension begins at q; or not
@@ -167,11 +176,14 @@ head-none v (Ok tally) (Err stop) d h = refl
 head-none v (Err stop) r d h = refl
 
 -- only behind a dimension
-scalar-reads : {line : Bytes} {e b r : Point} {Q : ConAt → Type 0} (c : ℕ) (l : TyAt) → isDimension l ≡ true → byte_of line e ≡ 61 → Reads line e (marked 61) Any b
-    → Reads line b (spelled (ascii "Scalar")) Any r → ((d : ℕ) (fs : List FactorAt) (j : ℕ) → l ≡ dimAt d fs j → Q (isScalarAt c d fs j)) → Reads line e (chosen (isDimAt c l) (after c l)) Q r
+scalar-reads : {line : Bytes} {e b r : Point} {Q : ConAt → Type 0} (c : ℕ) (l : TyAt) → isDimension l ≡ true → byte_of line e ≡ 61
+    → Reads line e (marked 61) Any b
+    → Reads line b (spelled (ascii "Scalar")) Any r → ((d : ℕ) (fs : List FactorAt) (j : ℕ) → l ≡ dimAt d fs j → Q (isScalarAt c d fs j))
+    → Reads line e (chosen (isDimAt c l) (after c l)) Q r
 scalar-reads c (dimAt d fs j) h be x y f =
     choose-this (isDimAt c (dimAt d fs j)) (after c (dimAt d fs j)) (no_byte c (dimAt d fs j)) (scalarRule c d fs j) 61 (omega arith) be refl
-    (in-turn (sign "=" >> sign "Scalar") (λ w. give (isScalarAt c d fs j)) (in-turn (sign "=") (λ u. sign "Scalar") x (λ u hu. y)) (λ w hw. given (isScalarAt c d fs j) y.within (f d fs j refl)))
+    (in-turn (sign "=" >> sign "Scalar") (λ w. give (isScalarAt c d fs j)) (in-turn (sign "=") (λ u. sign "Scalar") x (λ u hu. y))
+    (λ w hw. given (isScalarAt c d fs j) y.within (f d fs j refl)))
 scalar-reads c (open_at d o) h be x y f = absurd (true≢false (sym h))
 scalar-reads c (basicAt d a) h be x y f = absurd (true≢false (sym h))
 scalar-reads c (fn_at d ps o) h be x y f = absurd (true≢false (sym h))
@@ -182,7 +194,8 @@ scalar-reads c (deepAt d) h be x y f = absurd (true≢false (sym h))
 module _ {line : Bytes} {p q a e : Point} {x y : Lent} (h : Ready line p x.pool x.table x.stand) (x1 : Reads line p column (λ (k : ℕ). k ≡ columnAt q) q)
     (x2 : Done line (type 64) ty_of (Writes writeTy) q (countedIn 1 (place_of q) x) a y) (x3 : Reads line a column (λ (k : ℕ). k ≡ columnAt e) e) where
   -- a type, and the rule that the byte behind it decides on
-  behind-type : {r : Point} {Q : ConAt → Type 0} → ((c : ℕ) (l : TyAt) → c ≡ columnAt q → (NotBad a → Effect (ty_of l) (Writes writeTy) (countedIn 1 (place_of q) x) y)
+  behind-type : {r : Point} {Q : ConAt → Type 0} → ((c : ℕ) (l : TyAt) → c ≡ columnAt q
+      → (NotBad a → Effect (ty_of l) (Writes writeTy) (countedIn 1 (place_of q) x) y)
       → (NotBad a → isDimension l ≡ beginsAt line q 91) → Reads line e (chosen (isDimAt c l) (after c l)) Q r) → Reads line p typed Q r
   unfolding typed
   behind-type f =
@@ -223,13 +236,15 @@ module _ {line : Bytes} {p q a e : Point} {x y : Lent} (h : Ready line p x.pool 
       }
 
   -- 'dimension "=" "Scalar"'
-  pub scalar-done : {b r : Point} → byte_of line e ≡ 61 → true ≡ beginsAt line q 91 → Reads line e (marked 61) Any b → Reads line b (spelled (ascii "Scalar")) Any r
+  pub scalar-done : {b r : Point} → byte_of line e ≡ 61 → true ≡ beginsAt line q 91 → Reads line e (marked 61) Any b
+      → Reads line b (spelled (ascii "Scalar")) Any r
       → (d : List ℕ) → d ≡ headPut view.IsScalar x.stand y.stand y.dst → Done line typed conOf (Writes writeCon) p x r (lent y.pool y.table d y.stand)
   scalar-done be bq x4 x5 d g =
       let na = not-bad x3 (byte-stands line e be (omega arith)) in
       record {
         reads = behind-type (λ c l hc hl hd. scalar-reads c l (hd na ∙ sym bq) be x4 x5 (λ i fs j f n.
-            scalar-effect q hc (not-bad x2.reads na) hq x2.kept i fs j (subst (λ (t : TyAt). Effect (ty_of t) (Writes writeTy) (countedIn 1 (place_of q) x) y) f (hl na)) d g));
+            scalar-effect q hc (not-bad x2.reads na) hq x2.kept i fs j (subst
+            (λ (t : TyAt). Effect (ty_of t) (Writes writeTy) (countedIn 1 (place_of q) x) y) f (hl na)) d g));
         kept = kept-headed view.IsScalar (place_of q) kx x2.kept d g;
         halted = halted-on (inside-spelled _) x5 (halted-on (inside-spelled _) x4 (halted-on inside-column x3 x2.halted));
       }
@@ -237,7 +252,8 @@ module _ {line : Bytes} {p q a e : Point} {x y : Lent} (h : Ready line p x.pool 
   he : Halted e y.stand
   he = halted-on inside-column x3 x2.halted
 
-  past_effect : (e : Point) → Halted e y.stand → NotBad (refusedFrom e) → (c : ℕ) (l : TyAt) → c ≡ columnAt q → NotBad q → Effect (ty_of l) (Writes writeTy) (countedIn 1 (place_of q) x) y
+  past_effect : (e : Point) → Halted e y.stand → NotBad (refusedFrom e) → (c : ℕ) (l : TyAt) → c ≡ columnAt q → NotBad q
+      → Effect (ty_of l) (Writes writeTy) (countedIn 1 (place_of q) x) y
       → Effect (conOf (isDimAt c l)) (Writes writeCon) x y
   past_effect (Ok (Some i)) o n c l hc nq hl = absurd n
   past_effect (Ok None) o n c l hc nq hl = dim-effect q hc nq hq l x2.kept hl y.dst (head-none view.IsDim x.stand y.stand y.dst (λ k m f. o k m refl f))
@@ -249,7 +265,8 @@ module _ {line : Bytes} {p q a e : Point} {x y : Lent} (h : Ready line p x.pool 
   refused-stands (Err i) n = n
 
   -- nothing fits
-  pub none_done : (byte_of line e ≡ 126 → ⊥) → (byte_of line e ≡ 58 → ⊥) → (byte_of line e ≡ 61 → false ≡ beginsAt line q 91) → Done line typed conOf (Writes writeCon) p x (refusedFrom e) y
+  pub none_done : (byte_of line e ≡ 126 → ⊥) → (byte_of line e ≡ 58 → ⊥) → (byte_of line e ≡ 61 → false ≡ beginsAt line q 91)
+      → Done line typed conOf (Writes writeCon) p x (refusedFrom e) y
   none_done f g o = record {
     reads = behind-type (λ c l hc hl hd. choose-none (isDimAt c l) (after c l) (no_byte c l) line e
         (nothing-after (byte_of line e) c l f g (λ b. hd (not-bad x3 (byte-stands line e b (omega arith))) ∙ sym (o b)))
@@ -266,9 +283,12 @@ closing c l i = sign "," >> (type 64 >>= λ t. sign ")" >> give (hasFieldAt c l 
 abbrev fieldThen : ℕ → TyAt → Rule ConAt
 fieldThen c l = sign "," >> (sign "\"" >> (name >>= λ i. spell (ascii "\"") >> closing c l i))
 
-hasfield-read : {line : Bytes} {p q a b c d e f g i j r : Point} {T U : TyAt → Type 0} {N : NameAt → Type 0} {Q : ConAt → Type 0} → Reads line p column (λ (k : ℕ). k ≡ columnAt q) q
-    → Reads line q (spelled (ascii "HasField")) Any a → Reads line a (marked 40) Any b → Reads line b (type 64) T c → Reads line c (marked 44) Any d → Reads line d (marked 34) Any e
-    → Reads line e name N f → Reads line f (spell (ascii "\"")) Any g → Reads line g (marked 44) Any i → Reads line i (type 64) U j → Reads line j (marked 41) Any r
+hasfield-read : {line : Bytes} {p q a b c d e f g i j r : Point} {T U : TyAt → Type 0} {N : NameAt → Type 0} {Q : ConAt → Type 0}
+    → Reads line p column (λ (k : ℕ). k ≡ columnAt q) q
+    → Reads line q (spelled (ascii "HasField")) Any a → Reads line a (marked 40) Any b → Reads line b (type 64) T c → Reads line c (marked 44) Any d
+    → Reads line d (marked 34) Any e
+    → Reads line e name N f → Reads line f (spell (ascii "\"")) Any g → Reads line g (marked 44) Any i → Reads line i (type 64) U j
+    → Reads line j (marked 41) Any r
     → ((k : ℕ) (l : TyAt) (o : NameAt) (t : TyAt) → k ≡ columnAt q → T l → N o → U t → Q (hasFieldAt k l o t)) → Reads line p Grammar.hasField Q r
 unfolding Grammar.hasField
 hasfield-read x1 x2 x3 x4 x5 x6 x7 x8 x9 x10 x11 h =
@@ -287,7 +307,8 @@ hasfield-read x1 x2 x3 x4 x5 x6 x7 x8 x9 x10 x11 h =
 module _ {x y y₁ z : Lent} (q : Point) {k v : ℕ} (hk : k ≡ columnAt q) (n : NotBad q) (h : Halted q x.stand) where
   hasfield-effect : (l : TyAt) (i : NameAt) (t : TyAt) → Kept (countedIn 1 (place_of q) x) y → Effect (ty_of l) (Writes writeTy) (countedIn 1 (place_of q) x) y
       → Kept y y₁ → Effect (named i) (NumberTold y₁.table v) y y₁ → Kept y₁ z → Effect (ty_of t) (Writes writeTy) y₁ z
-      → (d : List ℕ) → d ≡ headPut (view.HasField v) x.stand z.stand z.dst → Effect (conOf (hasFieldAt k l i t)) (Writes writeCon) x (lent z.pool z.table d z.stand)
+      → (d : List ℕ) → d ≡ headPut (view.HasField v) x.stand z.stand z.dst
+      → Effect (conOf (hasFieldAt k l i t)) (Writes writeCon) x (lent z.pool z.table d z.stand)
   unfolding conOf
   hasfield-effect l i t ky el k1 ei kz et d g =
       let k2 = kept_then k1 kz in
@@ -300,17 +321,22 @@ module _ {x y y₁ z : Lent} (q : Point) {k v : ℕ} (hk : k ≡ columnAt q) (n 
       (subst (λ (j : ℕ). Behind (view.HasField v) writeCon (hasField j u o) (rs ++ qs)) (sym hw.is) (field-behind v u o rs qs hu ho)))))) d g)
 
 -- '"HasField" "(" type "," '"' name '"' "," type ")"'
-pub hasfield-done : {line : Bytes} {x y y₁ z : Lent} {p q a b c d e f g i j r : Point} {v : ℕ} → Ready line p x.pool x.table x.stand → Reads line p column (λ (k : ℕ). k ≡ columnAt q) q
-    → Reads line q (spelled (ascii "HasField")) Any a → Reads line a (marked 40) Any b → Done line (type 64) ty_of (Writes writeTy) b (countedIn 1 (place_of q) x) c y
-    → Reads line c (marked 44) Any d → Reads line d (marked 34) Any e → Done line name named (NumberTold y₁.table v) e y f y₁ → Reads line f (spell (ascii "\"")) Any g
+pub hasfield-done : {line : Bytes} {x y y₁ z : Lent} {p q a b c d e f g i j r : Point} {v : ℕ} → Ready line p x.pool x.table x.stand
+    → Reads line p column (λ (k : ℕ). k ≡ columnAt q) q
+    → Reads line q (spelled (ascii "HasField")) Any a → Reads line a (marked 40) Any b
+    → Done line (type 64) ty_of (Writes writeTy) b (countedIn 1 (place_of q) x) c y
+    → Reads line c (marked 44) Any d → Reads line d (marked 34) Any e → Done line name named (NumberTold y₁.table v) e y f y₁
+    → Reads line f (spell (ascii "\"")) Any g
     → Reads line g (marked 44) Any i → Done line (type 64) ty_of (Writes writeTy) i y₁ j z → Reads line j (marked 41) Any r
-    → (o : List ℕ) → o ≡ headPut (view.HasField v) x.stand z.stand z.dst → Done line Grammar.hasField conOf (Writes writeCon) p x r (lent z.pool z.table o z.stand)
+    → (o : List ℕ) → o ≡ headPut (view.HasField v) x.stand z.stand z.dst
+    → Done line Grammar.hasField conOf (Writes writeCon) p x r (lent z.pool z.table o z.stand)
 hasfield-done {q = q} {v = v} h x1 x2 x3 x4 x5 x6 x7 x8 x9 x10 x11 o w = record {
   reads = hasfield-read x1 x2 x3 x4.reads x5 x6 x7.reads x8 x9 x10.reads x11 (λ k l u t hk hl hu ht n.
       let nj = not-bad x11 n in
       let nf = not-bad x8 (not-bad x9 (not-bad x10.reads nj)) in
       let nc = not-bad x5 (not-bad x6 (not-bad x7.reads nf)) in
-      hasfield-effect q hk (not-bad x2 (not-bad x3 (not-bad x4.reads nc))) (halted-on inside-column x1 h.halted) l u t x4.kept (hl nc) x7.kept (hu nf) x10.kept (ht nj) o w);
+      hasfield-effect q hk (not-bad x2 (not-bad x3 (not-bad x4.reads nc))) (halted-on inside-column x1 h.halted) l u t x4.kept (hl nc) x7.kept
+      (hu nf) x10.kept (ht nj) o w);
   kept = kept-headed (view.HasField v) (place_of q) (kept-counted 1 (place_of q) h.good h.room) (kept_then x4.kept (kept_then x7.kept x10.kept)) o w;
   halted = halted-on (inside-spelled _) x11 x10.halted;
 }
@@ -387,13 +413,16 @@ none_told = record { counted = refl; written = refl }
 abbrev pub stated : Rule ConAt
 stated = ifSign "H" Grammar.hasField typed
 
-pub stated-field : {line : Bytes} {p r : Point} {x y : Lent} → true ≡ beginsAt line p 72 → Done line Grammar.hasField conOf (Writes writeCon) p x r y → Done line stated conOf (Writes writeCon) p x r y
+pub stated-field : {line : Bytes} {p r : Point} {x y : Lent} → true ≡ beginsAt line p 72 → Done line Grammar.hasField conOf (Writes writeCon) p x r y
+    → Done line stated conOf (Writes writeCon) p x r y
 stated-field e o = record { reads = if-sign "H" Grammar.hasField typed e o.reads; kept = o.kept; halted = o.halted }
 
-pub stated-type : {line : Bytes} {p r : Point} {x y : Lent} → false ≡ beginsAt line p 72 → Done line typed conOf (Writes writeCon) p x r y → Done line stated conOf (Writes writeCon) p x r y
+pub stated-type : {line : Bytes} {p r : Point} {x y : Lent} → false ≡ beginsAt line p 72 → Done line typed conOf (Writes writeCon) p x r y
+    → Done line stated conOf (Writes writeCon) p x r y
 stated-type e o = record { reads = if-no-sign "H" Grammar.hasField typed e o.reads; kept = o.kept; halted = o.halted }
 
-pub constraint-done : {line : Bytes} {p a e r : Point} {x y : Lent} → Done line stated conOf (Writes writeCon) p x a y → Reads line a column (λ (k : ℕ). k ≡ columnAt e) e → end_of line e r
+pub constraint-done : {line : Bytes} {p a e r : Point} {x y : Lent} → Done line stated conOf (Writes writeCon) p x a y
+    → Reads line a column (λ (k : ℕ). k ≡ columnAt e) e → end_of line e r
     → Done line constraint meantOf (LineTold 1) p x r y
 unfolding constraint
 constraint-done o x z = record {
@@ -409,20 +438,24 @@ signs-here : (line : Bytes) (i : ℕ) → i < length line → signsAt (place_in 
 unfolding signsAt
 signs-here line i h = rw (drop-cons line i 0 h)
 
-signs-at : {P : Option ConAt → Type 0} {line : Bytes} {i : ℕ} {r : Point} → i < length line → Reads line (Ok (Some i)) (ifSign "-" (sign "--" >> give none) constraint) P r → Reads line (Ok (Some i)) signsAt P r
+signs-at : {P : Option ConAt → Type 0} {line : Bytes} {i : ℕ} {r : Point} → i < length line
+    → Reads line (Ok (Some i)) (ifSign "-" (sign "--" >> give none) constraint) P r → Reads line (Ok (Some i)) signsAt P r
 signs-at {line = line} {i = i} h x = record { within = x.within; onward = x.onward; value = x.value; is = signs-here line i h ∙ x.is; holds = x.holds }
 
 module _ {line : Bytes} {i : ℕ} (h : i < length line) where
   -- 'whose first sign is "--"'
-  pub comment-done : {r : Point} {x : Lent} → Ready line (Ok (Some i)) x.pool x.table x.stand → true ≡ beginsAt line (Ok (Some i)) 45 → Reads line (Ok (Some i)) (spelled (ascii "--")) Any r
+  pub comment-done : {r : Point} {x : Lent} → Ready line (Ok (Some i)) x.pool x.table x.stand → true ≡ beginsAt line (Ok (Some i)) 45
+      → Reads line (Ok (Some i)) (spelled (ascii "--")) Any r
       → Done line signsAt meantOf (LineTold 0) (Ok (Some i)) x r x
   comment-done k e y = record {
-    reads = signs-at h (if-sign "-" (sign "--" >> give none) constraint e (in-turn (sign "--") (λ u. give none) y (λ u hu. given none y.within (λ n. gives [] none_told))));
+    reads = signs-at h (if-sign "-" (sign "--" >> give none) constraint e
+        (in-turn (sign "--") (λ u. give none) y (λ u hu. given none y.within (λ n. gives [] none_told))));
     kept = kept_same k.good k.room;
     halted = halted-on (inside-spelled _) y k.halted;
   }
 
-  pub signs-done : {r : Point} {x y : Lent} → false ≡ beginsAt line (Ok (Some i)) 45 → Done line constraint meantOf (LineTold 1) (Ok (Some i)) x r y → Done line signsAt meantOf (LineTold 1) (Ok (Some i)) x r y
+  pub signs-done : {r : Point} {x y : Lent} → false ≡ beginsAt line (Ok (Some i)) 45 → Done line constraint meantOf (LineTold 1) (Ok (Some i)) x r y
+      → Done line signsAt meantOf (LineTold 1) (Ok (Some i)) x r y
   signs-done e o = record { reads = signs-at h (if-no-sign "-" (sign "--" >> give none) constraint e o.reads); kept = o.kept; halted = o.halted }
 
 -- is there nothing at a point?
@@ -452,7 +485,8 @@ record Whole (line : Bytes) (P : Option ConAt → Type 0) (r : Point) : Type 0 w
   is : Grammar.line line ≡ standing line r value
   holds : P value
 
-whole-line : {line : Bytes} {q r : Point} {P : Option ConAt → Type 0} → Reads line (Ok (Some 0)) column (λ (k : ℕ). k ≡ columnAt q) q → Reads line q signsAt P r → Whole line P r
+whole-line : {line : Bytes} {q r : Point} {P : Option ConAt → Type 0} → Reads line (Ok (Some 0)) column (λ (k : ℕ). k ≡ columnAt q) q
+    → Reads line q signsAt P r → Whole line P r
 unfolding Grammar.line skip
 whole-line x o = let w = in-turn column (λ c. signsAt) x (λ c hc. o) in record { value = w.value; is = w.is; holds = w.holds }
 
@@ -472,7 +506,8 @@ module _ {line : Bytes} {q : Point} {x y : Lent} {n : ℕ} (x1 : Reads line (Ok 
       record { kept = o.kept; effect = alike (λ s. ap (λ (m : Parsed (Option ConAt)). meant m s) w.is ∙ meant_is line r w.value h s) (w.holds h) }
 
   -- 12, whatever was refused in the line
-  pub line-bad : {j k m : ℕ} (i : ℕ) → Done line signsAt meantOf (LineTold n) q x (Err j) y → x.stand ≡ stand.Going k m → LineDone line x (lent y.pool y.table y.dst (stand.Refused NotGrammar j)) i
+  pub line-bad : {j k m : ℕ} (i : ℕ) → Done line signsAt meantOf (LineTold n) q x (Err j) y → x.stand ≡ stand.Going k m
+      → LineDone line x (lent y.pool y.table y.dst (stand.Refused NotGrammar j)) i
   unfolding lineRead meant
   line-bad {j} {k} {m} i o g = record {
     kept = record {
@@ -493,7 +528,8 @@ module _ {line : Bytes} {q : Point} {x y : Lent} {n : ℕ} (x1 : Reads line (Ok 
       does = λ a b a' b' e f. let z : ◌≡◌ {A = ℕ} 0 1 = cc in absurd (omega arith);
       refuses = λ a b c r e f.
           let w = same-refused refl f in
-          ap (λ (p : Parsed (Option ConAt)). meant p (sofar x a b)) (whole-line x1 o.reads).is ∙ ap₂ (λ (t : Refusal) (l : ℕ). refusedAt (number_of t) (suc l)) w.0 w.1;
+          ap (λ (p : Parsed (Option ConAt)). meant p (sofar x a b)) (whole-line x1 o.reads).is
+          ∙ ap₂ (λ (t : Refusal) (l : ℕ). refusedAt (number_of t) (suc l)) w.0 w.1;
     };
   }
 

@@ -183,9 +183,10 @@ fn enter_from(
     table: &mut [u32],
     dst: &mut [u32],
 ) -> Stated
-    requires i_in_bounds { i < length line.now }
+    requires within { i < length line.now }
     requires ready { Ready line.now (Ok (Some i)) pool.old table.old s }
-    ensures { Done line.now signsAt meantOf (LineTold result.count) (Ok (Some i)) (lent pool.old table.old dst.old s) result.at (lent pool.new table.new dst.new result.stand) }
+    ensures { Done line.now signsAt meantOf (LineTold result.count) (Ok (Some i)) (lent pool.old table.old dst.old s)
+        result.at (lent pool.new table.new dst.new result.stand) }
 {
     let p = Ok(Some(i));
     if next_is(line, p, b'-') {
@@ -213,7 +214,8 @@ fn enter_signs(
     dst: &mut [u32],
 ) -> Stated
     requires { Ready line.now p pool.old table.old s }
-    ensures { Done line.now signsAt meantOf (LineTold result.count) p (lent pool.old table.old dst.old s) result.at (lent pool.new table.new dst.new result.stand) }
+    ensures { Done line.now signsAt meantOf (LineTold result.count) p (lent pool.old table.old dst.old s)
+        result.at (lent pool.new table.new dst.new result.stand) }
 {
     match p {
         Ok(Some(i)) => {

@@ -1,5 +1,6 @@
 -- What a step of a sheet's meaning did to all that is lent, and steps in turn.
-use Rattle.std.specs.Prelude.{◌≡◌, refl, Bool, true, false, List, [], ◌∷◌, ◌++◌, ℕ, suc, ◌+◌, ◌-◌, ◌*◌, ◌≤◌, ◌<◌, leb, length, drop, get_or, Err, None, Ok, Some}
+use Rattle.std.specs.Prelude.{◌≡◌, refl, Bool, true, false, List, [], ◌∷◌, ◌++◌, ℕ, suc, ◌+◌, ◌-◌, ◌*◌, ◌≤◌, ◌<◌, leb, length, drop, get_or, Err}
+use Rattle.std.specs.Prelude.{None, Ok, Some}
 use Rattle.std.proofs.Common.{sym, ap, subst, ◌∙◌, append-nil, append_assoc, arith, leb-true, leb-false, le-leb, length-append}
 use Rattle.std.proofs.lemmas.Bool.{lt-leb}
 use Rattle.std.proofs.lemmas.List.Edits.{sets}
@@ -91,13 +92,15 @@ Writes w b rs = rs ≡ w b
 -- ══ Steps in turn ══
 
 -- a step from one known stand to another, and one that is refused
-pub did : {B : Type 0} {m : Step B} {T : B → List Rec → Type 0} {x y : Lent} {k n k' n' : ℕ} → x.stand ≡ stand.Going k n → y.stand ≡ stand.Going k' n' → Did m T x y k n k' n' → Effect m T x y
+pub did : {B : Type 0} {m : Step B} {T : B → List Rec → Type 0} {x y : Lent} {k n k' n' : ℕ} → x.stand ≡ stand.Going k n → y.stand ≡ stand.Going k' n'
+    → Did m T x y k n k' n' → Effect m T x y
 did {B} {m} {T} {x} {y} {k} {n} {k'} {n'} e f d = record {
   does = λ i j i' j' p q. let v = same-going e p in let w = same-going f q in rw (← v.0, ← v.1, ← w.0, ← w.1) d;
   refuses = λ i j c r p q. absurd (not-both q f);
 }
 
-pub stops : {B : Type 0} {m : Step B} {T : B → List Rec → Type 0} {x y : Lent} {k n c : ℕ} {r : Refusal} → x.stand ≡ stand.Going k n → y.stand ≡ stand.Refused r c
+pub stops : {B : Type 0} {m : Step B} {T : B → List Rec → Type 0} {x y : Lent} {k n c : ℕ} {r : Refusal} → x.stand ≡ stand.Going k n
+    → y.stand ≡ stand.Refused r c
     → m (sofar x k n) ≡ refusedAt (number_of r) (suc c) → Effect m T x y
 stops {B} {m} {T} {x} {y} {k} {n} {c} {r} e f d = record {
   does = λ i j i' j' p q. absurd (not-both f q);
@@ -134,7 +137,8 @@ module _ {A B : Type 0} (m : Step A) (f : A → Step B) {T : A → List Rec → 
             grown = omega (arith, a.grown, b.grown, length-append a.records b.records);
           }
 
-      stopped : (i n c : ℕ) (r : Refusal) → x.stand ≡ stand.Going i n → z.stand ≡ stand.Refused r c → (s : Stand) → y.stand ≡ s → onward (m (sofar x i n)) f ≡ refusedAt (number_of r) (suc c)
+      stopped : (i n c : ℕ) (r : Refusal) → x.stand ≡ stand.Going i n → z.stand ≡ stand.Refused r c → (s : Stand) → y.stand ≡ s
+          → onward (m (sofar x i n)) f ≡ refusedAt (number_of r) (suc c)
       stopped i n c r p q (Err stop) h =
           let w = same-refused (k.refused stop.why stop.at h) q in
           ap (λ (t : Told A). onward t f) (e.refuses i n stop.at stop.why p h) ∙ rw (w.0, w.1)
@@ -146,26 +150,50 @@ module _ {A B : Type 0} (m : Step A) (f : A → Step B) {T : A → List Rec → 
 pub gives : {B : Type 0} {W : B → List Rec → Type 0} {x : Lent} (b : B) → W b [] → Effect (give b) W x x
 unfolding words
 gives {B} {W} {x} b h = record {
-  does = λ i n i' n' p q. let w = same-going p q in rw (← w.0, ← w.1) (record { value = b; records = []; is = refl; tells = h; written = refl; grown = omega arith });
+  does = λ i n i' n' p q. let w = same-going p q in rw (← w.0, ← w.1) (record {
+    value = b;
+    records = [];
+    is = refl;
+    tells = h;
+    written = refl;
+    grown = omega arith;
+  });
   refuses = λ i n c r p q. absurd (not-both q p);
 }
 
 -- a value mapped
-pub maps : {A B : Type 0} (m : Step A) (g : A → B) {T : A → List Rec → Type 0} {W : B → List Rec → Type 0} {x y : Lent} → Kept y y → Effect m T x y → ((a : A) (rs : List Rec) → T a rs → W (g a) rs)
+pub maps : {A B : Type 0} (m : Step A) (g : A → B) {T : A → List Rec → Type 0} {W : B → List Rec → Type 0} {x y : Lent} → Kept y y → Effect m T x y
+    → ((a : A) (rs : List Rec) → T a rs → W (g a) rs)
     → Effect (λ s. onward (m s) (λ a. give (g a))) W x y
 maps m g {T} {W} {x} {y} k e h = then m (λ a. give (g a)) e k (λ a rs t. gives (g a) (subst (W (g a)) (sym (append-nil rs)) (h a rs t)))
 
 -- the same step, written in another way
 pub alike : {B : Type 0} {m m' : Step B} {T : B → List Rec → Type 0} {x y : Lent} → ((s : Sofar) → m' s ≡ m s) → Effect m T x y → Effect m' T x y
 alike {B} {m} {m'} {T} {x} {y} h e = record {
-  does = λ i n i' n' p q. let d = e.does i n i' n' p q in record { value = d.value; records = d.records; is = h (sofar x i n) ∙ d.is; tells = d.tells; written = d.written; grown = d.grown };
+  does = λ i n i' n' p q. let d = e.does i n i' n' p q in record {
+    value = d.value;
+    records = d.records;
+    is = h (sofar x i n)
+        ∙ d.is;
+    tells = d.tells;
+    written = d.written;
+    grown = d.grown;
+  };
   refuses = λ i n c r p q. h (sofar x i n) ∙ e.refuses i n c r p q;
 }
 
 -- less is told
-pub tells-less : {B : Type 0} {m : Step B} {T W : B → List Rec → Type 0} {x y : Lent} → ((b : B) (rs : List Rec) → T b rs → W b rs) → Effect m T x y → Effect m W x y
+pub tells-less : {B : Type 0} {m : Step B} {T W : B → List Rec → Type 0} {x y : Lent} → ((b : B) (rs : List Rec) → T b rs → W b rs) → Effect m T x y
+    → Effect m W x y
 tells-less {B} {m} {T} {W} {x} {y} h e = record {
-  does = λ i n i' n' p q. let d = e.does i n i' n' p q in record { value = d.value; records = d.records; is = d.is; tells = h d.value d.records d.tells; written = d.written; grown = d.grown };
+  does = λ i n i' n' p q. let d = e.does i n i' n' p q in record {
+    value = d.value;
+    records = d.records;
+    is = d.is;
+    tells = h d.value d.records d.tells;
+    written = d.written;
+    grown = d.grown;
+  };
   refuses = e.refuses;
 }
 
@@ -222,7 +250,8 @@ kept_then {x} {y} {z} a b = record {
     go k n k' n' p q (Ok tally) h = omega (arith, a.above k n tally.names tally.records p h, b.above tally.names tally.records k' n' h q)
 
 -- only the stand changed: to a refusal, if at all
-pub kept-stopped : {pool table dst : List ℕ} {s s' : Stand} → Good pool table → Roomy table s → ((r : Refusal) (c : ℕ) → s ≡ stand.Refused r c → s' ≡ stand.Refused r c)
+pub kept-stopped : {pool table dst : List ℕ} {s s' : Stand} → Good pool table → Roomy table s
+    → ((r : Refusal) (c : ℕ) → s ≡ stand.Refused r c → s' ≡ stand.Refused r c)
     → ((k n : ℕ) → s' ≡ stand.Going k n → s ≡ stand.Going k n) → Kept (lent pool table dst s) (lent pool table dst s')
 kept-stopped {pool} {table} g h f i = record {
   good = g;
@@ -273,7 +302,8 @@ counts k at f n s e = subst (λ (t : Stand). Counts k at f n (countOf k at t)) (
     go true h = fits (leb-true (n + k) 2048 h)
     go false h = over (leb-false (n + k) 2048 h)
 
-pub counted-fits : (k c : ℕ) (s : Sofar) → s.records + k ≤ 2048 → counted k c s ≡ told tt (record { pool = s.pool; table = s.table; fresh = s.fresh; records = s.records + k })
+pub counted-fits : (k c : ℕ) (s : Sofar) → s.records + k ≤ 2048 → counted k c s ≡ told tt
+    (record { pool = s.pool; table = s.table; fresh = s.fresh; records = s.records + k })
 unfolding counted
 counted-fits k c s h = rw (le-leb (s.records + k) 2048 h, counted)
 
@@ -322,7 +352,8 @@ kept-counted {x} k at g h = record {
   where
     go : (i n : ℕ) → countOf k at x.stand ≡ stand.Going i n → (s : Stand) → x.stand ≡ s → Room x.table i n
     go i n q (Err stop) p = absurd (not-both (ap (countOf k at) p) q)
-    go i n q (Ok tally) p = let w = counted-going k at tally.names tally.records x p i n q in let r = h tally.names tally.records p in record { names = omega (arith, w.fresh, r.names); records = w.few }
+    go i n q (Ok tally) p = let w = counted-going k at tally.names tally.records x p i n q in let r = h tally.names tally.records p in
+        record { names = omega (arith, w.fresh, r.names); records = w.few }
 
 -- ══ A record before its parts ══
 
@@ -430,7 +461,8 @@ module _ {line : Bytes} {p : Point} {pool table : List ℕ} {s s₁ : Stand} (k 
   pub ready-count : Ready line p pool table s₁
   ready-count = record { within = h.within; good = h.good; room = (kept-count []).room; halted = rw e (halted-counted k at h.halted) }
 
-pub ready_on : {A : Type 0} {P : A → Type 0} {line : Bytes} {p r : Point} {pool table : List ℕ} {s : Stand} {R : Rule A} → Inside R → Reads line p R P r → Ready line p pool table s
+pub ready_on : {A : Type 0} {P : A → Type 0} {line : Bytes} {p r : Point} {pool table : List ℕ} {s : Stand} {R : Rule A} → Inside R → Reads line p R P r
+    → Ready line p pool table s
     → Ready line r pool table s
 ready_on i y h = record { within = y.within; good = h.good; room = h.room; halted = halted-on i y h.halted }
 
@@ -438,7 +470,8 @@ pub ready-kept : {line : Bytes} {r : Point} {x y : Lent} → Kept x y → PointI
 ready-kept k w h = record { within = w; good = k.good; room = k.room; halted = h }
 
 -- a rule R goes from p to r, and what it reads is done as f says, unless nothing fits
-pub record Done {A B : Type 0} (line : Bytes) (R : Rule A) (f : A → Step B) (T : B → List Rec → Type 0) (p : Point) (x : Lent) (r : Point) (y : Lent) : Type 0 where
+pub record Done {A B : Type 0} (line : Bytes) (R : Rule A) (f : A → Step B) (T : B → List Rec → Type 0) (p : Point) (x : Lent) (r : Point)
+    (y : Lent) : Type 0 where
   pub reads : Reads line p R (λ a. NotBad r → Effect (f a) T x y) r
   pub kept : Kept x y
   pub halted : Halted r y.stand
@@ -448,13 +481,15 @@ pub ready-next : {A B : Type 0} {line : Bytes} {R : Rule A} {f : A → Step B} {
 ready-next d = ready-kept d.kept d.reads.within d.halted
 
 -- the place of a sign: where the sheet goes on and the line is not refused, its column is one more
-pub at_sign : {B : Type 0} {m : Step B} {T : B → List Rec → Type 0} {x y : Lent} (c : Point) {k : ℕ} → k ≡ columnAt c → NotBad c → Halted c x.stand → (k ≡ suc (place_of c) → Effect m T x y) → Effect m T x y
+pub at_sign : {B : Type 0} {m : Step B} {T : B → List Rec → Type 0} {x y : Lent} (c : Point) {k : ℕ} → k ≡ columnAt c → NotBad c → Halted c x.stand
+    → (k ≡ suc (place_of c) → Effect m T x y) → Effect m T x y
 at_sign (Ok (Some i)) e n h f = f e
 at_sign (Ok None) e n h f = record { does = λ i j i' j' p q. absurd (h i j refl p); refuses = λ i j c r p q. absurd (h i j refl p) }
 at_sign (Err q) e n h f = absurd n
 
 -- a sheet that doesn't go on: the line is only read on
-pub reads_on : {A B : Type 0} {P : A → Type 0} {T : B → List Rec → Type 0} {line : Bytes} {p r : Point} {x : Lent} {R : Rule A} (f : A → Step B) → Good x.pool x.table
+pub reads_on : {A B : Type 0} {P : A → Type 0} {T : B → List Rec → Type 0} {line : Bytes} {p r : Point} {x : Lent} {R : Rule A} (f : A → Step B)
+    → Good x.pool x.table
     → ((k n : ℕ) → x.stand ≡ stand.Going k n → ⊥) → Reads line p R P r → Done line R f T p x r x
 reads_on {A} {B} {P} {T} {line} {p} {r} {x} {R} f g h y = record {
   reads = record {
@@ -468,12 +503,14 @@ reads_on {A} {B} {P} {T} {line} {p} {r} {x} {R} f g h y = record {
   halted = λ k n e q. h k n q;
 }
 
-pub only-reads : {A B : Type 0} {P : A → Type 0} {T : B → List Rec → Type 0} {line : Bytes} {p r : Point} {x : Lent} {R : Rule A} {w : Refusal} {c : ℕ} (f : A → Step B) → Good x.pool x.table
+pub only-reads : {A B : Type 0} {P : A → Type 0} {T : B → List Rec → Type 0} {line : Bytes} {p r : Point} {x : Lent} {R : Rule A} {w : Refusal} {c : ℕ}
+    (f : A → Step B) → Good x.pool x.table
     → x.stand ≡ stand.Refused w c → Reads line p R P r → Done line R f T p x r x
 only-reads f g e y = reads_on f g (λ k n q. not-both e q) y
 
 -- nothing fits: the line is refused, whatever was done
-pub ends-bad : {A B : Type 0} {P : A → Type 0} {T : B → List Rec → Type 0} {line : Bytes} {p : Point} {x y : Lent} {R : Rule A} {q : ℕ} (f : A → Step B) → Kept x y → Reads line p R P (Err q)
+pub ends-bad : {A B : Type 0} {P : A → Type 0} {T : B → List Rec → Type 0} {line : Bytes} {p : Point} {x y : Lent} {R : Rule A} {q : ℕ} (f : A → Step B)
+    → Kept x y → Reads line p R P (Err q)
     → Done line R f T p x (Err q) y
 ends-bad f k y = record {
   reads = record { within = y.within; onward = y.onward; value = y.value; is = y.is; holds = λ n. absurd n };

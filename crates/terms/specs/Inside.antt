@@ -3,7 +3,8 @@ use Rattle.std.specs.Prelude.{◌≡◌, refl, Bool, true, false, [], ◌∷◌,
 use Rattle.std.proofs.Common.{sym, ap, ◌∙◌, arith}
 use Prim.Native.Char.{Char}
 use Rattle.rules.specs.Names.{Bytes}
-use Rattle.rules.specs.Grammar.{Place, here, beyond, Parsed, read, bad, Rule, pass, give, skip, skipFrom, isBlank, spell, spellFrom, starts, either, ifSign, column, columnOf, digits, digitsAt, digitsFrom, isDigit}
+use Rattle.rules.specs.Grammar.{Place, here, beyond, Parsed, read, bad, Rule, pass, give, skip, skipFrom, isBlank, spell, spellFrom, starts, either}
+use Rattle.rules.specs.Grammar.{ifSign, column, columnOf, digits, digitsAt, digitsFrom, isDigit}
 use Rattle.reading.specs.Signs.{spelled}
 use Rattle.terms.specs.Effects.{Inside}
 
@@ -62,7 +63,8 @@ unfolding digitsFrom
 digits-from-in n c [] = in-here n c []
 digits-from-in n c (b ∷ bs) = go (isDigit b) (digits-from-in (n * 10 + (b - 48)) (suc c) bs)
   where
-    go : (t : Bool) → In (digitsFrom (n * 10 + (b - 48)) (suc c) bs) → In {A = ℕ} (elim t [ true ↦ digitsFrom (n * 10 + (b - 48)) (suc c) bs | false ↦ read n (here c (b ∷ bs)) ])
+    go : (t : Bool) → In (digitsFrom (n * 10 + (b - 48)) (suc c) bs) → In {A = ℕ}
+        (elim t [ true ↦ digitsFrom (n * 10 + (b - 48)) (suc c) bs | false ↦ read n (here c (b ∷ bs)) ])
     go true a = a
     go false a = in-here n c (b ∷ bs)
 

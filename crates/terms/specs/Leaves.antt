@@ -20,7 +20,8 @@ use Rattle.records.specs.declared.View.TheVariants as view
 use Rattle.reading.specs.Points.{Reads, Any, marked, columnAt, in-turn, given, Point}
 use Rattle.reading.specs.Signs.{spelled, keywordBy, openedBy}
 use Rattle.terms.specs.Stands.{place_of, countOf, headPut, Stand}
-use Rattle.terms.specs.Effects.{lent, Ready, Kept, kept_then, kept-last, kept-counted, kept-written, Effect, Writes, gives, maps, headed, head-long, halted-on, halted-counted, not-bad, at_sign, Done}
+use Rattle.terms.specs.Effects.{lent, Ready, Kept, kept_then, kept-last, kept-counted, kept-written, Effect, Writes, gives, maps, headed, head-long}
+use Rattle.terms.specs.Effects.{halted-on, halted-counted, not-bad, at_sign, Done}
 use Rattle.terms.specs.Inside.{inside-column, inside-spelled}
 use Rattle.terms.specs.Naming.{NumberTold}
 
@@ -52,7 +53,8 @@ record OpenTold (b : Bool) (i : ℕ) (o : Open ℕ) (rs : List Rec) : Type 0 whe
   none : rs ≡ []
 
 module _ {pool table pool' table' dst : List ℕ} {s₁ s' : Stand} {i : ℕ} where
-  open-named : (b : Bool) (n : NameAt) → Kept (lent pool table dst s₁) (lent pool' table' dst s') → Effect (named n) (NumberTold table' i) (lent pool table dst s₁) (lent pool' table' dst s')
+  open-named : (b : Bool) (n : NameAt) → Kept (lent pool table dst s₁) (lent pool' table' dst s')
+      → Effect (named n) (NumberTold table' i) (lent pool table dst s₁) (lent pool' table' dst s')
       → Effect (openNamed (openAs b n)) (OpenTold b i) (lent pool table dst s₁) (lent pool' table' dst s')
   open-named true n k e = maps (named n) par (kept-last k) e (λ x rs t. record { is = ap par t.is; none = t.none })
   open-named false n k e = maps (named n) var (kept-last k) e (λ x rs t. record { is = ap var t.is; none = t.none })
@@ -70,18 +72,23 @@ bare b k n = open_at k (openAs b n)
 
 module _ (b : Bool) (c : Point) {pool table pool' table' dst dst' : List ℕ} {s s' : Stand} {i : ℕ} where
   open-effect : (k : ℕ) (n : NameAt) → k ≡ suc (place_of c) → Kept (lent pool table dst (countOf 1 (place_of c) s)) (lent pool' table' dst s')
-      → Effect (named n) (NumberTold table' i) (lent pool table dst (countOf 1 (place_of c) s)) (lent pool' table' dst s') → dst' ≡ headPut (openView b i) s s' dst
+      → Effect (named n) (NumberTold table' i) (lent pool table dst (countOf 1 (place_of c) s)) (lent pool' table' dst s')
+      → dst' ≡ headPut (openView b i) s s' dst
       → Effect (ty_of (bare b k n)) (Writes writeTy) (lent pool table dst s) (lent pool' table' dst' s')
   unfolding ty_of
   open-effect k n e kept f g =
       rw e
-      (maps (λ s. onward (counted 1 (suc (place_of c)) s) (λ u. openNamed (openAs b n))) opened (kept-last (kept-written kept (ap length g ∙ head-long (openView b i) s s' dst)))
-      (headed (openView b i) (place_of c) (openNamed (openAs b n)) {T = OpenTold b i} {W = λ o rs. rs ≡ writeTy (opened o)} {x = lent pool table dst s} kept (open-named b n kept f) (open-written b i) dst' g)
+      (maps (λ s. onward (counted 1 (suc (place_of c)) s) (λ u. openNamed (openAs b n))) opened
+      (kept-last (kept-written kept (ap length g ∙ head-long (openView b i) s s' dst)))
+      (headed (openView b i) (place_of c) (openNamed (openAs b n)) {T = OpenTold b i} {W = λ o rs. rs ≡ writeTy (opened o)} {x = lent pool table dst s} kept
+      (open-named b n kept f) (open-written b i) dst' g)
       (λ o rs t. t))
 
-module _ {line : Bytes} {p a q : Point} {pool table pool' table' dst dst' : List ℕ} {s s' : Stand} {i : ℕ} (b : Bool) (c : Point) (ready : Ready line p pool table s) where
+module _ {line : Bytes} {p a q : Point} {pool table pool' table' dst dst' : List ℕ} {s s' : Stand} {i : ℕ} (b : Bool) (c : Point)
+    (ready : Ready line p pool table s) where
   read-open : Reads line p column (λ (k : ℕ). k ≡ columnAt c) c → Reads line c (marked (mark_of b)) Any a
-      → Done line name named (NumberTold table' i) a (lent pool table dst (countOf 1 (place_of c) s)) q (lent pool' table' dst s') → dst' ≡ headPut (openView b i) s s' dst
+      → Done line name named (NumberTold table' i) a (lent pool table dst (countOf 1 (place_of c) s)) q (lent pool' table' dst s')
+      → dst' ≡ headPut (openView b i) s s' dst
       → Done line (openRule b) ty_of (Writes writeTy) p (lent pool table dst s) q (lent pool' table' dst' s')
   read-open x y d g = record {
     reads = rw (open_by b)
@@ -95,7 +102,8 @@ module _ {line : Bytes} {p a q : Point} {pool table pool' table' dst dst' : List
   }
 
   -- the same, by what the code has computed
-  pub open_done : {at m : ℕ} {s₁ : Stand} {v : View} → Reads line p column (λ (k : ℕ). k ≡ columnAt c) c → at ≡ place_of c → s₁ ≡ countOf 1 at s → m ≡ mark_of b → Reads line c (marked m) Any a
+  pub open_done : {at m : ℕ} {s₁ : Stand} {v : View} → Reads line p column (λ (k : ℕ). k ≡ columnAt c) c → at ≡ place_of c → s₁ ≡ countOf 1 at s
+      → m ≡ mark_of b → Reads line c (marked m) Any a
       → Done line name named (NumberTold table' i) a (lent pool table dst s₁) q (lent pool' table' dst s') → v ≡ openView b i → dst' ≡ headPut v s s' dst
       → Done line (openRule b) ty_of (Writes writeTy) p (lent pool table dst s) q (lent pool' table' dst' s')
   open_done {at} {m} {s₁} {v} x e f h y d j g =
@@ -134,15 +142,18 @@ basic-written b t rs h = rw (h.is, h.none) (basic-record b)
 
 module _ (b : Basic) (c : Point) {pool table dst dst' : List ℕ} {s : Stand} where
   basic-effect : (k : ℕ) → k ≡ suc (place_of c) → Kept (lent pool table dst (countOf 1 (place_of c) s)) (lent pool table dst (countOf 1 (place_of c) s))
-      → dst' ≡ headPut (view.Basic b) s (countOf 1 (place_of c) s) dst → Effect (ty_of (basicAt k (basicOf b))) (Writes writeTy) (lent pool table dst s) (lent pool table dst' (countOf 1 (place_of c) s))
+      → dst' ≡ headPut (view.Basic b) s (countOf 1 (place_of c) s) dst → Effect (ty_of (basicAt k (basicOf b))) (Writes writeTy) (lent pool table dst s)
+      (lent pool table dst' (countOf 1 (place_of c) s))
   unfolding ty_of
   basic-effect k e kept g =
       rw e
-      (headed (view.Basic b) (place_of c) (TextReading.give (basic (basicOf b))) {T = Only (basic (basicOf b))} {W = Writes writeTy} {x = lent pool table dst s} kept
+      (headed (view.Basic b) (place_of c) (TextReading.give (basic (basicOf b))) {T = Only
+      (basic (basicOf b))} {W = Writes writeTy} {x = lent pool table dst s} kept
       (gives (basic (basicOf b)) (record { is = refl; none = refl })) (basic-written b) dst' g)
 
 module _ {line : Bytes} {p q : Point} {pool table dst dst' : List ℕ} {s : Stand} (b : Basic) (c : Point) (ready : Ready line p pool table s) where
-  read-basic : Reads line p column (λ (k : ℕ). k ≡ columnAt c) c → Reads line c (spelled (word_of b)) Any q → dst' ≡ headPut (view.Basic b) s (countOf 1 (place_of c) s) dst
+  read-basic : Reads line p column (λ (k : ℕ). k ≡ columnAt c) c → Reads line c (spelled (word_of b)) Any q
+      → dst' ≡ headPut (view.Basic b) s (countOf 1 (place_of c) s) dst
       → Done line (basicRule b) ty_of (Writes writeTy) p (lent pool table dst s) q (lent pool table dst' (countOf 1 (place_of c) s))
   read-basic x y g =
       let kept = kept-counted {x = lent pool table dst s} 1 (place_of c) ready.good ready.room in
@@ -156,6 +167,8 @@ module _ {line : Bytes} {p q : Point} {pool table dst dst' : List ℕ} {s : Stan
         halted = halted-on (inside-spelled (word_of b)) y (halted-counted 1 (place_of c) on);
       }
 
-  pub basic-done : {at : ℕ} {s₁ : Stand} → Reads line p column (λ (k : ℕ). k ≡ columnAt c) c → at ≡ place_of c → s₁ ≡ countOf 1 at s → Reads line c (spelled (word_of b)) Any q
+  pub basic-done : {at : ℕ} {s₁ : Stand} → Reads line p column (λ (k : ℕ). k ≡ columnAt c) c → at ≡ place_of c → s₁ ≡ countOf 1 at s
+      → Reads line c (spelled (word_of b)) Any q
       → dst' ≡ headPut (view.Basic b) s s₁ dst → Done line (basicRule b) ty_of (Writes writeTy) p (lent pool table dst s) q (lent pool table dst' s₁)
-  basic-done {at} {s₁} x e f y g = let h : s₁ ≡ countOf 1 (place_of c) s = f ∙ ap (λ (n : ℕ). countOf 1 n s) e in rw h (read-basic x y (g ∙ ap (λ (t : Stand). headPut (view.Basic b) s t dst) h))
+  basic-done {at} {s₁} x e f y g = let h : s₁ ≡ countOf 1 (place_of c) s = f
+      ∙ ap (λ (n : ℕ). countOf 1 n s) e in rw h (read-basic x y (g ∙ ap (λ (t : Stand). headPut (view.Basic b) s t dst) h))

@@ -95,7 +95,8 @@ pub record Entry (pool table pool' table' : List ℕ) (a : Got (ℕ × Was)) : T
   pub number : (i : ℕ) (w : Was) → a ≡ got (i, w) → (i < get_or table' 0 0) × (get_or table 0 0 + newIn w ≤ get_or table' 0 0)
 
 module _ {pool table : List ℕ} (g : Good pool table) where
-  entry-same : (a : Got (ℕ × Was)) → ((i : ℕ) (w : Was) → a ≡ got (i, w) → (i < get_or table 0 0) × (get_or table 0 0 + newIn w ≤ get_or table 0 0)) → Entry pool table pool table a
+  entry-same : (a : Got (ℕ × Was)) → ((i : ℕ) (w : Was) → a ≡ got (i, w) → (i < get_or table 0 0) × (get_or table 0 0 + newIn w ≤ get_or table 0 0))
+      → Entry pool table pool table a
   entry-same a h = record {
     good = g;
     more = [];
@@ -132,7 +133,8 @@ module _ {pool table : List ℕ} (g : Good pool table) where
           table-long = ap (λ (r : Entered). length r.table) e ∙ simp length-set;
           pool-behind = pool-behind en;
           table-behind = table-behind en;
-          number = λ i w q. let y = one_answer (sym (ap (λ (r : Entered). r.answer) e) ∙ q) in let z : newIn w ≡ 1 = ap newIn (sym y.1) in (omega (arith, y.0), omega arith);
+          number = λ i w q. let y = one_answer (sym (ap (λ (r : Entered). r.answer) e) ∙ q) in let z : newIn w ≡ 1 = ap newIn (sym y.1) in
+              (omega (arith, y.0), omega arith);
         }
 
     pub entry : Entry pool table (enterName pool table n).pool (enterName pool table n).table (enterName pool table n).answer
@@ -142,7 +144,8 @@ module _ {pool table : List ℕ} (g : Good pool table) where
         go (stopped k z e) = rw e (no_number k)
         go (full h a m e) = rw e (no_number 3)
         go (known i a e) =
-            rw e (entry-same (got (i, Known)) (λ j w q. let y = one_answer q in let z : newIn w ≡ 0 = ap newIn (sym y.1) in (omega (arith, y.0, a.held), omega arith)))
+            rw e (entry-same (got (i, Known)) (λ j w q. let y = one_answer q in let z : newIn w ≡ 0 = ap newIn (sym y.1) in
+            (omega (arith, y.0, a.held), omega arith)))
         go (new en e) = rw e (new-entry en)
 
 -- ══ A name, read and entered ══
@@ -155,7 +158,8 @@ abbrev nameThere : ℕ → Bytes → NameAt
 nameThere at n = record { column = suc at; bytes = n }
 
 module _ (pool table pool' table' : List ℕ) (at k l : ℕ) (room : Room table k l) (dst : List ℕ) where
-  named-kept : (a : Answer) → Entry pool table pool' table' (told a) → Kept (lent pool table dst (stand.Going k l)) (lent pool' table' dst (standAfter at k l a))
+  named-kept : (a : Answer) → Entry pool table pool' table' (told a) → Kept (lent pool table dst (stand.Going k l))
+      (lent pool' table' dst (standAfter at k l a))
   named-kept a t = record {
     good = t.good;
     more = t.more;
@@ -184,12 +188,14 @@ module _ (pool table pool' table' : List ℕ) (at k l : ℕ) (room : Room table 
 
   module _ (n : Bytes) where
     named-is : (a : Answer) → entered a pool' table' ≡ enterName pool table n
-        → named (nameThere at n) (sofar (lent pool table dst (stand.Going k l)) k l) ≡ TextReading.entered (suc at) (sofar (lent pool table dst (stand.Going k l)) k l) (entered a pool' table') (told a)
+        → named (nameThere at n) (sofar (lent pool table dst (stand.Going k l)) k l) ≡ TextReading.entered (suc at)
+        (sofar (lent pool table dst (stand.Going k l)) k l) (entered a pool' table') (told a)
     unfolding named
     named-is a e = ap (λ (r : Entered). TextReading.entered (suc at) (sofar (lent pool table dst (stand.Going k l)) k l) r r.answer) (sym e)
 
     named-effect : (a : Answer) → entered a pool' table' ≡ enterName pool table n → Entry pool table pool' table' (told a)
-        → Effect (named (nameThere at n)) (NumberTold table' (numberTold a)) (lent pool table dst (stand.Going k l)) (lent pool' table' dst (standAfter at k l a))
+        → Effect (named (nameThere at n)) (NumberTold table' (numberTold a)) (lent pool table dst (stand.Going k l))
+        (lent pool' table' dst (standAfter at k l a))
     unfolding words
     named-effect (Ok x) e t =
         did refl refl (record {
@@ -202,8 +208,10 @@ module _ (pool table pool' table' : List ℕ) (at k l : ℕ) (room : Room table 
         })
     named-effect (Err why) e t = stops refl refl (named-is (Err why) e)
 
-  pub named-done : {line : Bytes} {i long : ℕ} {d d' : List ℕ} → Good pool table → (r : NameRead line at i long d d') (a : Answer) → entered a pool' table' ≡ enterName pool table r.bytes
-      → Done line name named (NumberTold table' (numberTold a)) (Ok (Some at)) (lent pool table dst (stand.Going k l)) (Ok (Some i)) (lent pool' table' dst (standAfter at k l a))
+  pub named-done : {line : Bytes} {i long : ℕ} {d d' : List ℕ} → Good pool table → (r : NameRead line at i long d d') (a : Answer)
+      → entered a pool' table' ≡ enterName pool table r.bytes
+      → Done line name named (NumberTold table' (numberTold a)) (Ok (Some at)) (lent pool table dst (stand.Going k l)) (Ok (Some i))
+      (lent pool' table' dst (standAfter at k l a))
   unfolding name
   named-done {line} {i} g r a e =
       let t = entry-told r.bytes a e g in

@@ -75,7 +75,8 @@ headPut v (Ok tally) (Err stop) d = d
 headPut v (Err stop) s d = d
 
 module _ (v : View) (s r : Stand) (d : List ℕ) where
-  pub head-put : {d' : List ℕ} {k n i m : ℕ} → s ≡ Going k n → r ≡ Going i m → m ≤ 2048 → d' ≡ sets d (n * 4) (words (recOf v (fit (m - n)) ∷ [])) → d' ≡ headPut v s r d
+  pub head-put : {d' : List ℕ} {k n i m : ℕ} → s ≡ Going k n → r ≡ Going i m → m ≤ 2048 → d' ≡ sets d (n * 4) (words (recOf v (fit (m - n)) ∷ []))
+      → d' ≡ headPut v s r d
   head-put {d'} {k} {n} {i} {m} e f h g = rw (e, f) (g ∙ ap (λ (l : ℕ). sets d (n * 4) (words (recOf v l ∷ []))) (fits (m - n) (omega arith)))
 
   pub head-none : {k n c : ℕ} {w : Refusal} → s ≡ Going k n → r ≡ Refused w c → d ≡ headPut v s r d

@@ -46,7 +46,7 @@ pub fn place_of(p: Point) -> usize
 
 /// k records more, counted at a place: 8 for the first record past 2,048.
 pub fn count(k: usize, at: usize, s: Stand) -> Stand
-    requires k_bound { k ≤ 2048 }
+    requires small { k ≤ 2048 }
     requires few { Few s }
     ensures { result ≡ countOf k at s }
 {

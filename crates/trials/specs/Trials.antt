@@ -33,12 +33,10 @@ use Rattle.queries.specs.Marks.{Marks, Small}
 use Rattle.meaning.specs.Truth.{ConTrue}
 use Rattle.replacing.specs.Flat.{depthLine, goodLine, PlainLines}
 use Rattle.replacing.specs.Kept.{plain-held, plain-written}
-use Rattle.replacing.specs.Left.{Left}
+use Rattle.replacing.specs.Left.{went-same, Left, Went}
 use Rattle.replacing.specs.LineRules.{con, sizeLine, writeLine, HeldLine, replaceLine, line-some}
 use Rattle.replacing.specs.Runs.{HoldsAll}
 use Rattle.replacing.specs.Well.{Lent}
-use Rattle.replacing.specs.declared.inner.walk.Went.{Went}
-use Rattle.replacing.specs.declared.inner.walk.Went.TheVariants.{To, Stop}
 
 -- ══ 6 counts as failure ══
 
@@ -143,17 +141,17 @@ module _ (pool table : List ℕ) where
       pub buffer : sizeCon made ≤ 2048 → w' ≡ sets w 0 (words (writeLine (con made)))
 
     module _ {w w' : List ℕ} (at : ℕ) {r : Went} (left : Left sizeLine writeLine w w' (at + sizeLine (con c)) 0 r (replaceLine pool table (bindings (numbers pool table) bs) (con c))) where
-      pub came : {q n : ℕ} → r ≡ To q n → Came w w' at q n
+      pub came : {q n : ℕ} → r ≡ Ok (q, n) → Came w w' at q n
       came {q} {n} e = go replaced refl (subst (λ (y : Went). Left sizeLine writeLine w w' (at + sizeLine (con c)) 0 y (replaced >>= λ d. got (con d))) e left)
         where
-          go : (R : Got (Con ℕ)) → replaced ≡ R → Left sizeLine writeLine w w' (at + sizeLine (con c)) 0 (To q n) (R >>= λ d. got (con d)) → Came w w' at q n
-          go (got d) i l = let p = l.says.0 in let j : n ≡ 0 + sizeCon d = cc in let k : q ≡ at + sizeCon c = cc in record { made = d; is = i; read = k; many = omega (arith, j); buffer = λ h. l.says.1 ∙ ap (λ (rs : List Rec). sets w 0 (words rs)) (short-con d (omega arith)) }
+          go : (R : Got (Con ℕ)) → replaced ≡ R → Left sizeLine writeLine w w' (at + sizeLine (con c)) 0 (Ok (q, n)) (R >>= λ d. got (con d)) → Came w w' at q n
+          go (got d) i l = let j : n ≡ 0 + sizeCon d = (went-same l.says.0).1 in let k : q ≡ at + sizeCon c = (went-same l.says.0).0 in record { made = d; is = i; read = k; many = omega (arith, j); buffer = λ h. l.says.1 ∙ ap (λ (rs : List Rec). sets w 0 (words rs)) (short-con d (omega arith)) }
           go (refused k) i l = absurd l.says
 
-      pub stops : {k : Refusal} → r ≡ Stop k → replaced ≡ refused (number_of k)
+      pub stops : {k : Refusal} → r ≡ Err k → replaced ≡ refused (number_of k)
       stops {k} e = go replaced refl (subst (λ (y : Went). Left sizeLine writeLine w w' (at + sizeLine (con c)) 0 y (replaced >>= λ d. got (con d))) e left)
         where
-          go : (R : Got (Con ℕ)) → replaced ≡ R → Left sizeLine writeLine w w' (at + sizeLine (con c)) 0 (Stop k) (R >>= λ d. got (con d)) → replaced ≡ refused (number_of k)
+          go : (R : Got (Con ℕ)) → replaced ≡ R → Left sizeLine writeLine w w' (at + sizeLine (con c)) 0 (Err k) (R >>= λ d. got (con d)) → replaced ≡ refused (number_of k)
           go (got d) i l = absurd (let p = l.says.0 in let z : ◌≡◌ {A = ℕ} 0 1 = cc in omega arith)
           go (refused j) i l = i ∙ ap refused (sym l.says)
 

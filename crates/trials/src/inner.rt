@@ -12,7 +12,6 @@ ghost use Rattle.trials.specs.Trials.{ConStands, tested, Put, ConThere, Tried, S
 use meaning::inner::truth::holds;
 use replacing::inner::flat::lines_flat;
 use replacing::inner::lines::replace_line;
-use replacing::inner::walk::Went;
 use rules::{NAMES, RECORDS, Refusal};
 
 // A refusal of replacing: 6 counts as failure.
@@ -68,8 +67,8 @@ fn try_con(
         Tried pool.now table.now bs xs c at result }
 {
     match replace_line(pool, table, set, at, places, types, work, 0) {
-        Went::To(next, n) => Ok((test(pool, table, work, n, bounds)?, next)),
-        Went::Stop(why) => Ok((stopped(why)?, at)),
+        Ok((next, n)) => Ok((test(pool, table, work, n, bounds)?, next)),
+        Err(why) => Ok((stopped(why)?, at)),
     }
 }
 

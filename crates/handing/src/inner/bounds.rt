@@ -14,7 +14,7 @@ ghost use Rattle.handing.specs.Bounds.{Rename, bounds_of, allBounds, BoundsAt, N
 use records::inner::put_one;
 use records::seen::view_at;
 use records::{Open, View};
-use replacing::inner::bound::{Found, look_up};
+use replacing::inner::bound::look_up;
 
 // The name that stands as a type at a place.
 fn name_at(v: &[u32], i: usize, o: Open) -> Open
@@ -33,11 +33,11 @@ fn put_bound(o: Open, places: &[u32], v: &[u32], all: bool, dst: &mut [u32], out
     ensures { (f : Rename) → Tabled places.now v.now (renamed f) → (result ≡ length (bounds_of all f (openOf o))) × (dst.new ≡ sets dst.old (out * 4) (words (map writeBound (bounds_of all f (openOf o))))) }
 {
     match look_up(places, v, o) {
-        Found::At(i, _) => {
+        Some((i, _)) => {
             put_one(dst, out, View::Bound(name_at(v, i, o)));
             1
         }
-        Found::Nothing => {
+        None => {
             if all {
                 put_one(dst, out, View::Bound(o));
                 1

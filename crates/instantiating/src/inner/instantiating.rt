@@ -11,7 +11,7 @@ use lending::Answer;
 use names::inner::count;
 use records::View;
 use records::seen::view_at;
-use replacing::inner::walk::{Went, replace_type};
+use replacing::inner::walk::replace_type;
 use rules::Refusal;
 
 // Writes the type and the bounds with the names put back, to the work buffer: how many records, or why not.
@@ -27,11 +27,11 @@ fn put_back(pool: &[u8], table: &[u32], s: &[u32], names: &[u32], work: &mut [u3
     keep_names(count(table), &mut own, &mut v);
     let mut first = [0u32; 8192];
     match replace_type(pool, table, s, 1, &places, &v, &mut first, 0) {
-        Went::To(at, _) => match replace_type(pool, table, &first, 0, &own, &v, work, 0) {
-            Went::To(_, out) => Answer::Records(put_bounds(s, at, &places, &v, true, work, out)),
-            Went::Stop(k) => Answer::Refused(k),
+        Ok((at, _)) => match replace_type(pool, table, &first, 0, &own, &v, work, 0) {
+            Ok((_, out)) => Answer::Records(put_bounds(s, at, &places, &v, true, work, out)),
+            Err(k) => Answer::Refused(k),
         },
-        Went::Stop(k) => Answer::Refused(k),
+        Err(k) => Answer::Refused(k),
     }
 }
 

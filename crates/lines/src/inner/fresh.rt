@@ -19,43 +19,40 @@ use records::{Atom, Open, View};
 fn is_among(names: &[u32], from: usize, x: u32) -> bool
     ensures { result ≡ any (eqb x) (drop from names.now) }
 {
-    let mut i = from;
-    while i < names.len() {
+    for i in from..names.len() {
         if x == names[i] {
             return true;
         }
-        i += 1;
     }
     false
 }
 
+// Are no two names the same?
 fn all_differ(names: &[u32]) -> bool
     ensures { result ≡ differ names.now }
 {
-    let mut i = 0;
-    while i < names.len() {
+    for i in 0..names.len() {
         if is_among(names, i + 1, names[i]) {
             return false;
         }
-        i += 1;
     }
     true
 }
 
+/// Is each name held?
 pub fn all_held(table: &[u32], names: &[u32]) -> bool
     requires { 257 ≤ length table.now }
     ensures { result ≡ all (λ n. ltb n (get_or table.now 0 0)) names.now }
 {
-    let mut i = 0;
-    while i < names.len() {
+    for i in 0..names.len() {
         if !is_held(table, names[i]) {
             return false;
         }
-        i += 1;
     }
     true
 }
 
+// The name of an open type, where it has one.
 fn open_name(o: Open) -> Name
     ensures { toldName result ≡ to_list (name_of (openOf o)) }
 {
@@ -66,6 +63,7 @@ fn open_name(o: Open) -> Name
     }
 }
 
+// The name of an atom, where it has one.
 fn atom_name(a: Atom) -> Name
     ensures { toldName result ≡ namesAtom (atomOf a) }
 {
@@ -88,6 +86,7 @@ fn name_here(s: &[u32], i: usize) -> Name
     }
 }
 
+// Is this the name x?
 fn is_name(n: Name, x: u32) -> bool
     ensures { result ≡ any (eqb x) (toldName n) }
 {
@@ -101,12 +100,10 @@ fn is_name(n: Name, x: u32) -> bool
 fn used_in(s: &[u32], b: usize, e: usize, x: u32) -> bool
     ensures { result ≡ any (eqb x) (namesIn s.now b e) }
 {
-    let mut i = b;
-    while i < e {
+    for i in b..e {
         if is_name(name_here(s, i), x) {
             return true;
         }
-        i += 1;
     }
     false
 }
@@ -119,6 +116,7 @@ fn part_uses(s: &[u32], at: u32, x: u32) -> bool
     used_in(s, i, i + length_at(s, i), x)
 }
 
+/// The place of the type of an earlier line; 0 where there is no such line.
 pub fn place_of(lines: &[u32], a: u32) -> u32
     ensures { result ≡ get_or lines.now a 0 }
 {
@@ -141,36 +139,29 @@ fn step_uses(types: &[u32], lines: &[u32], k: u32, a: u32, x: u32) -> bool
 fn line_uses(types: &[u32], lines: &[u32], steps: &[u32], x: u32) -> bool
     ensures { result ≡ any (eqb x) (collect (namesWord types.now lines.now) (stepsFrom steps.now 0)) }
 {
-    let mut i = 0;
-    while i < steps.len() / 4 {
+    for i in 0..steps.len() / 4 {
         if step_uses(types, lines, steps[i * 4], steps[i * 4 + 1], x) {
             return true;
         }
-        i += 1;
     }
     false
 }
 
+// Is none of the names used in a step of the line?
 fn none_used(types: &[u32], lines: &[u32], steps: &[u32], names: &[u32]) -> bool
     ensures { result ≡ all (λ n. not (any (eqb n) (collect (namesWord types.now lines.now) (stepsFrom steps.now 0)))) names.now }
 {
-    let mut i = 0;
-    while i < names.len() {
+    for i in 0..names.len() {
         if line_uses(types, lines, steps, names[i]) {
             return false;
         }
-        i += 1;
     }
     true
 }
 
-// Are no two names the same, and is none used in a type that a step points to?
+/// Are no two names the same, and is none used in a type that a step points to?
 pub fn is_fresh(types: &[u32], lines: &[u32], steps: &[u32], names: &[u32]) -> bool
     ensures { result ≡ freshWords types.now lines.now steps.now names.now }
 {
-    if all_differ(names) {
-        none_used(types, lines, steps, names)
-    } else {
-        false
-    }
+    all_differ(names) && none_used(types, lines, steps, names)
 }

@@ -76,7 +76,8 @@ fn enter_list(
     dst: &mut [u32],
 ) -> Reached
     requires { Ready line.now p pool.old table.old s }
-    ensures { Done line.now (listed (type d)) ty_of (Writes writeTy) p (lent pool.old table.old dst.old s) result.at (lent pool.new table.new dst.new result.stand) }
+    ensures { Done line.now (listed (type d)) ty_of (Writes writeTy) p (lent pool.old table.old dst.old s)
+        result.at (lent pool.new table.new dst.new result.stand) }
 {
     let q = next_sign(line, p);
     let counted = count(1, place_of(q), s);
@@ -100,7 +101,8 @@ fn enter_function(
     dst: &mut [u32],
 ) -> Reached
     requires { Ready line.now p pool.old table.old s }
-    ensures { Done line.now (function (type d)) ty_of (Writes writeTy) p (lent pool.old table.old dst.old s) result.at (lent pool.new table.new dst.new result.stand) }
+    ensures { Done line.now (function (type d)) ty_of (Writes writeTy) p (lent pool.old table.old dst.old s)
+        result.at (lent pool.new table.new dst.new result.stand) }
 {
     let q = next_sign(line, p);
     let counted = count(1, place_of(q), s);
@@ -128,7 +130,8 @@ fn enter_params(
     dst: &mut [u32],
 ) -> Row
     requires { Ready line.now p pool.old table.old s }
-    ensures { Done line.now (paramsThere (type d)) tys_of (TysTold 0 result.count) p (lent pool.old table.old dst.old s) result.at (lent pool.new table.new dst.new result.stand) }
+    ensures { Done line.now (paramsThere (type d)) tys_of (TysTold 0 result.count) p (lent pool.old table.old dst.old s)
+        result.at (lent pool.new table.new dst.new result.stand) }
 {
     if next_is(line, p, b')') {
         return Row {
@@ -152,7 +155,8 @@ fn enter_types(
     dst: &mut [u32],
 ) -> Row
     requires { Ready line.now p pool.old table.old s }
-    ensures { Done line.now (tys (type d)) tys_of (TysTold 0 result.count) p (lent pool.old table.old dst.old s) result.at (lent pool.new table.new dst.new result.stand) }
+    ensures { Done line.now (tys (type d)) tys_of (TysTold 0 result.count) p (lent pool.old table.old dst.old s)
+        result.at (lent pool.new table.new dst.new result.stand) }
 {
     let first = enter_type(line, p, d, s, pool, table, dst);
     let mut at = first.at;
@@ -184,7 +188,8 @@ fn enter_structure(
     dst: &mut [u32],
 ) -> Reached
     requires { Ready line.now p pool.old table.old s }
-    ensures { Done line.now (structure (type d)) ty_of (Writes writeTy) p (lent pool.old table.old dst.old s) result.at (lent pool.new table.new dst.new result.stand) }
+    ensures { Done line.now (structure (type d)) ty_of (Writes writeTy) p (lent pool.old table.old dst.old s)
+        result.at (lent pool.new table.new dst.new result.stand) }
 {
     let q = next_sign(line, p);
     let counted = count(1, place_of(q), s);
@@ -211,7 +216,8 @@ fn enter_arguments(
     dst: &mut [u32],
 ) -> Row
     requires { Ready line.now p pool.old table.old s }
-    ensures { Done line.now (typesThere (type d)) tys_of (TysTold 0 result.count) p (lent pool.old table.old dst.old s) result.at (lent pool.new table.new dst.new result.stand) }
+    ensures { Done line.now (typesThere (type d)) tys_of (TysTold 0 result.count) p (lent pool.old table.old dst.old s)
+        result.at (lent pool.new table.new dst.new result.stand) }
 {
     if next_is(line, p, b'<') {
         let a = mark(line, p, b'<');
@@ -241,7 +247,8 @@ fn enter_members(
     dst: &mut [u32],
 ) -> Row
     requires { Ready line.now p pool.old table.old s }
-    ensures { Done line.now (fieldsThere (type d)) (λ fs. fields_of fs none) (FieldsTold 0 result.count) p (lent pool.old table.old dst.old s) result.at (lent pool.new table.new dst.new result.stand) }
+    ensures { Done line.now (fieldsThere (type d)) (λ fs. fields_of fs none) (FieldsTold 0 result.count) p (lent pool.old table.old dst.old s)
+        result.at (lent pool.new table.new dst.new result.stand) }
 {
     if next_is(line, p, b'{') {
         let a = mark(line, p, b'{');
@@ -271,7 +278,8 @@ fn enter_fields(
     dst: &mut [u32],
 ) -> Row
     requires { Ready line.now p pool.old table.old s }
-    ensures { Done line.now (fields (type d)) (λ fs. fields_of fs none) (FieldsTold 0 result.count) p (lent pool.old table.old dst.old s) result.at (lent pool.new table.new dst.new result.stand) }
+    ensures { Done line.now (fields (type d)) (λ fs. fields_of fs none) (FieldsTold 0 result.count) p (lent pool.old table.old dst.old s)
+        result.at (lent pool.new table.new dst.new result.stand) }
 {
     let first = enter_field(line, p, d, Before::Start, s, pool, table, dst);
     let mut at = first.at;

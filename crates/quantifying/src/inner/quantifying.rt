@@ -9,7 +9,7 @@ use handing::inner::tables::quantify_names;
 use lending::Answer;
 use records::View;
 use records::inner::put_record;
-use replacing::inner::walk::{Went, replace_type};
+use replacing::inner::walk::replace_type;
 use rules::{RECORDS, Refusal};
 
 // Writes the type at a place and the bounds as a scheme, to the work buffer: how many records, or why not.
@@ -31,7 +31,7 @@ pub fn quantify_at(
     let mut v = [0u32; 1024];
     quantify_names(names, &mut places, &mut v);
     match replace_type(pool, table, s, at, &places, &v, work, 1) {
-        Went::To(_, out) => {
+        Ok((_, out)) => {
             if RECORDS < out {
                 return Answer::Refused(Refusal::TooLarge);
             }
@@ -43,6 +43,6 @@ pub fn quantify_at(
                 Answer::Records(n)
             }
         }
-        Went::Stop(k) => Answer::Refused(k),
+        Err(k) => Answer::Refused(k),
     }
 }

@@ -10,14 +10,7 @@ ghost use Rattle.replacing.specs.Places.{nameWord, word_of, Tabled};
 use queries::inner::end_of;
 use records::Open;
 
-// The places of a type that was found, from its first record up to its end.
-#[derive(Clone, Copy)]
-pub enum Found {
-    At(usize, usize),
-    Nothing,
-}
-
-// A word of the table.
+/// A word of the table; 0 past its end.
 pub fn word_at(places: &[u32], i: usize) -> u32
     ensures { result ≡ get_or places.now i 0 }
 {
@@ -46,15 +39,15 @@ fn word_of(places: &[u32], o: Open) -> u32
     }
 }
 
-// What an open name becomes.
-pub fn look_up(places: &[u32], v: &[u32], o: Open) -> Found
+/// What an open name becomes: the places of its type, from the first record up to the end; nothing where the name stays.
+pub fn look_up(places: &[u32], v: &[u32], o: Open) -> Option<(usize, usize)>
     requires { (look : Look ℕ) × Tabled places.now v.now look }
     ensures { (look : Look ℕ) → Tabled places.now v.now look → LookedUp v.now (look (openOf o)) result }
 {
     let w = word_of(places, o);
     if w == 0 {
-        return Found::Nothing;
+        return None;
     }
     let at = w as usize - 1;
-    Found::At(at, end_of(v, at))
+    Some((at, end_of(v, at)))
 }

@@ -13,8 +13,8 @@ ghost use Rattle.records.specs.Holds.{openOf};
 ghost use Rattle.replacing.specs.Well.{names, Whole, HeldType, Lent};
 ghost use Rattle.replacing.specs.InProducts.{put_in, atomLooked};
 
-use super::bound::{Found, look_up};
-use super::factors::{Alone, factor_at, free_factor, open_of};
+use super::bound::look_up;
+use super::factors::{factor_at, free_factor, open_of};
 use exponents::Exponent;
 use loading::inner::load;
 use names::old::Checked;
@@ -108,11 +108,11 @@ fn replace_factor(
     ensures { (a : Tree) (look : Look ℕ) → Whole pool.now table.now acc a → Lent pool.now table.now places.now v.now look → told result ≡ answer (put_in (names pool.now table.now) (atomLooked look (tree_of f)) (tree_of f) a) }
 {
     match open_of(f) {
-        Alone::Of(o) => match look_up(places, v, o) {
-            Found::At(t, _) => put_in(pool, table, acc, f, v, t),
-            Found::Nothing => made(acc),
+        Some(o) => match look_up(places, v, o) {
+            Some((at, _)) => put_in(pool, table, acc, f, v, at),
+            None => made(acc),
         },
-        Alone::Not => made(acc),
+        None => made(acc),
     }
 }
 

@@ -8,7 +8,7 @@ ghost use Rattle.replacing.specs.Well.{Lent};
 ghost use Rattle.replacing.specs.Left.{Room};
 ghost use Rattle.replacing.specs.LineRules.{Line, HeldLine, HeldLines, ScalarHeld, ScalarReplaced, PartsReplaced, LineReplaced, LinesReplaced};
 
-use super::walk::{Went, put_before, replace_dim, replace_list, replace_type};
+use super::walk::{put_before, replace_dim, replace_list, replace_type};
 use records::View;
 use records::seen::view_at;
 use rules::Refusal;
@@ -23,7 +23,7 @@ fn replace_equal_scalar(
     v: &[u32],
     dst: &mut [u32],
     out: usize,
-) -> Went
+) -> Result<(usize, usize), Refusal>
     requires good { Good pool.now table.now }
     requires scalar_held { (p : Tree) × ScalarHeld pool.now table.now s.now p at }
     requires by_index { (look : Look ℕ) × Lent pool.now table.now places.now v.now look }
@@ -32,7 +32,7 @@ fn replace_equal_scalar(
 {
     match view_at(s, at) {
         View::Dim(n) => replace_dim(pool, table, s, at + 1, n, false, places, v, dst, out),
-        _ => Went::Stop(Refusal::Malformed),
+        _ => Err(Refusal::Malformed),
     }
 }
 
@@ -47,7 +47,7 @@ fn replace_parts(
     v: &[u32],
     dst: &mut [u32],
     out: usize,
-) -> Went
+) -> Result<(usize, usize), Refusal>
     requires good { Good pool.now table.now }
     requires held_line { (x : Line) × HeldLine pool.now table.now s.now x at }
     requires w_value { w ≡ viewAt s.now at }
@@ -63,11 +63,11 @@ fn replace_parts(
             replace_list(pool, table, s, at + 1, 2, false, places, v, dst, out + 1)
         }
         View::Binding(_) => replace_type(pool, table, s, at + 1, places, v, dst, out + 1),
-        _ => Went::Stop(Refusal::Malformed),
+        _ => Err(Refusal::Malformed),
     }
 }
 
-// Writes the constraint or the binding at a place with its bound variables replaced.
+/// Writes the constraint or the binding at a place with its bound variables replaced.
 pub fn replace_line(
     pool: &[u8],
     table: &[u32],
@@ -77,7 +77,7 @@ pub fn replace_line(
     v: &[u32],
     dst: &mut [u32],
     out: usize,
-) -> Went
+) -> Result<(usize, usize), Refusal>
     requires good { Good pool.now table.now }
     requires held_line { (x : Line) × HeldLine pool.now table.now s.now x at }
     requires by_index { (look : Look ℕ) × Lent pool.now table.now places.now v.now look }
@@ -89,7 +89,7 @@ pub fn replace_line(
     put_before(r, w, dst, out)
 }
 
-// Writes the constraints and bindings from a place up to an end with their bound variables replaced.
+/// Writes the constraints and bindings from a place up to an end with their bound variables replaced.
 pub fn replace_lines(
     pool: &[u8],
     table: &[u32],
@@ -100,7 +100,7 @@ pub fn replace_lines(
     v: &[u32],
     dst: &mut [u32],
     out: usize,
-) -> Went
+) -> Result<(usize, usize), Refusal>
     requires good { Good pool.now table.now }
     requires held_lines { (xs : List Line) × HeldLines pool.now table.now s.now xs at end }
     requires by_index { (look : Look ℕ) × Lent pool.now table.now places.now v.now look }
@@ -109,10 +109,8 @@ pub fn replace_lines(
     ensures { LinesReplaced pool.now table.now s.now places.now v.now dst.old dst.new at end out result }
 {
     if end <= at {
-        return Went::To(at, out);
+        return Ok((at, out));
     }
-    match replace_line(pool, table, s, at, places, v, dst, out) {
-        Went::To(q, o) => replace_lines(pool, table, s, q, end, places, v, dst, o),
-        Went::Stop(k) => Went::Stop(k),
-    }
+    let (q, o) = replace_line(pool, table, s, at, places, v, dst, out)?;
+    replace_lines(pool, table, s, q, end, places, v, dst, o)
 }

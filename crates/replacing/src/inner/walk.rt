@@ -1,4 +1,5 @@
 // Replacing in types, constraints and bindings that are known to be held.
+// A walk answers the next place in the source and in the buffer, or why it stopped.
 ghost use Rattle.std.specs.Prelude.{◌≡◌, ℕ, ◌+◌, ◌*◌, ◌/◌, ◌^◌, ◌≤◌, ◌<◌, length};
 ghost use Rattle.std.proofs.lemmas.List.Edits.{sets};
 ghost use Rattle.rules.specs.Base.{Got};
@@ -14,9 +15,9 @@ ghost use Rattle.replacing.specs.Places.{Tabled};
 ghost use Rattle.replacing.specs.Well.{Whole, HeldType, HeldDim, Lent};
 ghost use Rattle.replacing.specs.Left.{Room, Row, HeldRow, Ready, head_of, headRecs, Behind, beforeRecs, OpenReplaced, ProductPut, ProductReplaced, DimReplaced, Replaced, RowReplaced};
 
-use super::bound::{Found, look_up};
+use super::bound::look_up;
 use super::dims::replace_factors;
-use super::factors::{Alone, picked};
+use super::factors::picked;
 use loading::inner::{load, store};
 use names::old::Checked;
 use products::{Product, Tried};
@@ -25,13 +26,6 @@ use records::seen::view_at;
 use records::{Open, View};
 use rules::Refusal;
 
-// The next place in the source and in the buffer, or why the walk stopped.
-#[derive(Clone, Copy)]
-pub enum Went {
-    To(usize, usize),
-    Stop(Refusal),
-}
-
 // Writes an open name, or what it becomes: how many records that is.
 fn replace_open(o: Open, places: &[u32], v: &[u32], dst: &mut [u32], out: usize) -> usize
     requires by_index { (look : Look ℕ) × Tabled places.now v.now look }
@@ -39,11 +33,11 @@ fn replace_open(o: Open, places: &[u32], v: &[u32], dst: &mut [u32], out: usize)
     ensures { (look : Look ℕ) → Tabled places.now v.now look → OpenReplaced look (openOf o) dst.old dst.new out result }
 {
     match look_up(places, v, o) {
-        Found::At(i, j) => {
+        Some((i, j)) => {
             copy(v, i, j, dst, out);
             j - i
         }
-        Found::Nothing => {
+        None => {
             put_one(dst, out, View::Opened(o));
             1
         }
@@ -51,19 +45,19 @@ fn replace_open(o: Open, places: &[u32], v: &[u32], dst: &mut [u32], out: usize)
 }
 
 // Writes a product that was made, or stops.
-fn put_tried(t: Tried, next: usize, dst: &mut [u32], out: usize) -> Went
+fn put_tried(t: Tried, next: usize, dst: &mut [u32], out: usize) -> Result<(usize, usize), Refusal>
     requires ready { (m : Got Tree) × Ready t m }
     requires out_bound { out ≤ 1000000000 }
     ensures { (m : Got Tree) → Ready t m → ProductPut dst.old dst.new next out result m }
 {
     let checked = t.checked;
     match checked {
-        Checked::Refused(why) => Went::Stop(why),
+        Checked::Refused(why) => Err(why),
         Checked::Good => {
             let p = t.product;
             let n = p.len;
             store(p, dst, out);
-            Went::To(next, out + 1 + n)
+            Ok((next, out + 1 + n))
         }
     }
 }
@@ -78,7 +72,7 @@ fn replace_product(
     v: &[u32],
     dst: &mut [u32],
     out: usize,
-) -> Went
+) -> Result<(usize, usize), Refusal>
     requires good { Good pool.now table.now }
     requires whole { (a : Tree) × Whole pool.now table.now p a }
     requires by_index { (look : Look ℕ) × Lent pool.now table.now places.now v.now look }
@@ -88,8 +82,8 @@ fn replace_product(
     put_tried(replace_factors(pool, table, p, places, v), next, dst, out)
 }
 
-// Writes the product of n factors at a place with its bound variables replaced.
-// As a type, one variable to the power 1 becomes what it is bound to; the product of an equal-scalar stays a product.
+/// Writes the product of n factors at a place with its bound variables replaced.
+/// As a type, one variable to the power 1 becomes what it is bound to; the product of an equal-scalar stays a product.
 pub fn replace_dim(
     pool: &[u8],
     table: &[u32],
@@ -101,7 +95,7 @@ pub fn replace_dim(
     v: &[u32],
     dst: &mut [u32],
     out: usize,
-) -> Went
+) -> Result<(usize, usize), Refusal>
     requires good { Good pool.now table.now }
     requires held_dim { (p : Tree) × HeldDim pool.now table.now s.now p at n }
     requires by_index { (look : Look ℕ) × Lent pool.now table.now places.now v.now look }
@@ -112,17 +106,17 @@ pub fn replace_dim(
     let k = n as usize;
     let p = load(s, at, k);
     match picked(p, as_type) {
-        Alone::Of(o) => match look_up(places, v, o) {
-            Found::At(i, j) => {
+        Some(o) => match look_up(places, v, o) {
+            Some((i, j)) => {
                 copy(v, i, j, dst, out);
-                Went::To(at + k, out + (j - i))
+                Ok((at + k, out + (j - i)))
             }
-            Found::Nothing => {
+            None => {
                 store(p, dst, out);
-                Went::To(at + k, out + 1 + k)
+                Ok((at + k, out + 1 + k))
             }
         },
-        Alone::Not => replace_product(pool, table, p, at + k, places, v, dst, out),
+        None => replace_product(pool, table, p, at + k, places, v, dst, out),
     }
 }
 
@@ -143,22 +137,23 @@ fn put_head(s: &[u32], at: usize, fields: bool, dst: &mut [u32], out: usize, n: 
     }
 }
 
-// Writes the record v before parts that were written behind it, once it is known how far they go.
-pub fn put_before(r: Went, v: View, dst: &mut [u32], out: usize) -> Went
+/// Writes the record v before parts that were written behind it, once it is known how far they go.
+pub fn put_before(
+    r: Result<(usize, usize), Refusal>,
+    v: View,
+    dst: &mut [u32],
+    out: usize,
+) -> Result<(usize, usize), Refusal>
     requires out_bound { out < 2 ^ 60 }
     requires behind { Behind r out }
     ensures { (result ≡ r) × (dst.new ≡ sets dst.old (out * 4) (words (beforeRecs r v out))) }
 {
-    match r {
-        Went::To(q, o) => {
-            put_record(dst, out, v, o - out);
-            Went::To(q, o)
-        }
-        Went::Stop(k) => Went::Stop(k),
-    }
+    let (q, o) = r?;
+    put_record(dst, out, v, o - out);
+    Ok((q, o))
 }
 
-// Writes the type at a place with its bound variables replaced, as far as the buffer goes.
+/// Writes the type at a place with its bound variables replaced, as far as the buffer goes.
 #[cycle(replace_list_replace_type)]
 pub fn replace_type(
     pool: &[u8],
@@ -169,7 +164,7 @@ pub fn replace_type(
     v: &[u32],
     dst: &mut [u32],
     out: usize,
-) -> Went
+) -> Result<(usize, usize), Refusal>
     requires good { Good pool.now table.now }
     requires by_index { (t : Ty ℕ) × HeldType pool.now table.now s.now t at }
     requires by_index_2 { (look : Look ℕ) × Lent pool.now table.now places.now v.now look }
@@ -180,40 +175,32 @@ pub fn replace_type(
     match w {
         View::Opened(o) => {
             let n = replace_open(o, places, v, dst, out);
-            Went::To(at + 1, out + n)
+            Ok((at + 1, out + n))
         }
         View::Basic(_) => {
             put_one(dst, out, w);
-            Went::To(at + 1, out + 1)
+            Ok((at + 1, out + 1))
         }
         View::Dim(n) => replace_dim(pool, table, s, at + 1, n, true, places, v, dst, out),
         View::Function(n) => {
-            match replace_list(pool, table, s, at + 1, n, false, places, v, dst, out + 1) {
-                Went::To(q, o) => {
-                    let r = replace_type(pool, table, s, q, places, v, dst, o);
-                    put_before(r, w, dst, out)
-                }
-                Went::Stop(k) => Went::Stop(k),
-            }
+            let (q, o) = replace_list(pool, table, s, at + 1, n, false, places, v, dst, out + 1)?;
+            let r = replace_type(pool, table, s, q, places, v, dst, o);
+            put_before(r, w, dst, out)
         }
         View::Struct(_, n, m) => {
-            match replace_list(pool, table, s, at + 1, n, false, places, v, dst, out + 1) {
-                Went::To(q, o) => {
-                    let r = replace_list(pool, table, s, q, m, true, places, v, dst, o);
-                    put_before(r, w, dst, out)
-                }
-                Went::Stop(k) => Went::Stop(k),
-            }
+            let (q, o) = replace_list(pool, table, s, at + 1, n, false, places, v, dst, out + 1)?;
+            let r = replace_list(pool, table, s, q, m, true, places, v, dst, o);
+            put_before(r, w, dst, out)
         }
         View::List => {
             let r = replace_type(pool, table, s, at + 1, places, v, dst, out + 1);
             put_before(r, w, dst, out)
         }
-        _ => Went::Stop(Refusal::Malformed),
+        _ => Err(Refusal::Malformed),
     }
 }
 
-// Writes n types, or n fields, with their bound variables replaced.
+/// Writes n types, or n fields, with their bound variables replaced.
 #[cycle(replace_list_replace_type)]
 pub fn replace_list(
     pool: &[u8],
@@ -226,7 +213,7 @@ pub fn replace_list(
     v: &[u32],
     dst: &mut [u32],
     out: usize,
-) -> Went
+) -> Result<(usize, usize), Refusal>
     requires good { Good pool.now table.now }
     requires held_row { (row : Row) × HeldRow pool.now table.now s.now row at n fields }
     requires by_index { (look : Look ℕ) × Lent pool.now table.now places.now v.now look }
@@ -235,14 +222,10 @@ pub fn replace_list(
     ensures { RowReplaced pool.now table.now s.now places.now v.now dst.old dst.new at n fields out result }
 {
     if n == 0 {
-        return Went::To(at, out);
+        return Ok((at, out));
     }
     let h = heads(fields);
-    match replace_type(pool, table, s, at + h, places, v, dst, out + h) {
-        Went::To(q, o) => {
-            put_head(s, at, fields, dst, out, o - out);
-            replace_list(pool, table, s, q, n - 1, fields, places, v, dst, o)
-        }
-        Went::Stop(k) => Went::Stop(k),
-    }
+    let (q, o) = replace_type(pool, table, s, at + h, places, v, dst, out + h)?;
+    put_head(s, at, fields, dst, out, o - out);
+    replace_list(pool, table, s, q, n - 1, fields, places, v, dst, o)
 }

@@ -40,7 +40,8 @@ pub fn enter_open(
     dst: &mut [u32],
 ) -> Reached
     requires { Ready line.now p pool.old table.old s }
-    ensures { Done line.now (openRule par) ty_of (Writes writeTy) p (lent pool.old table.old dst.old s) result.at (lent pool.new table.new dst.new result.stand) }
+    ensures { Done line.now (openRule par) ty_of (Writes writeTy) p (lent pool.old table.old dst.old s)
+        result.at (lent pool.new table.new dst.new result.stand) }
 {
     let c = next_sign(line, p);
     let counted = count(1, place_of(c), s);
@@ -69,7 +70,8 @@ fn keyword(line: &[u8], p: Point, b: Basic) -> Point
 pub fn enter_basic(line: &[u8], p: Point, b: Basic, s: Stand, dst: &mut [u32]) -> Reached
     requires point_in { PointIn line.now p }
     requires few { Few s }
-    ensures { (pool table : List ℕ) → Ready line.now p pool table s → Done line.now (basicRule b) ty_of (Writes writeTy) p (lent pool table dst.old s) result.at (lent pool table dst.new result.stand) }
+    ensures { (pool table : List ℕ) → Ready line.now p pool table s → Done line.now (basicRule b) ty_of (Writes writeTy) p (lent pool table dst.old s)
+        result.at (lent pool table dst.new result.stand) }
 {
     let c = next_sign(line, p);
     let stand = count(1, place_of(c), s);

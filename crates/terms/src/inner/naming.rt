@@ -62,7 +62,7 @@ fn enter_front(
     pool: &mut [u8],
     table: &mut [u32],
 ) -> Result<(u32, Was), Refusal>
-    requires bytes_len { length bytes.now ≡ 48 }
+    requires size { length bytes.now ≡ 48 }
     requires good { Good pool.old table.old }
     ensures { (n : Bytes) → Front bytes.now long n → entered result pool.new table.new ≡ enterName pool.old table.old n }
 {
@@ -74,10 +74,11 @@ fn enter_front(
 
 /// The name at a place, entered into a sheet that goes on.
 fn enter_at(line: &[u8], at: usize, tally: Tally, pool: &mut [u8], table: &mut [u32]) -> Named
-    requires at_in_bounds { at ≤ length line.now }
+    requires within { at ≤ length line.now }
     requires good { Good pool.old table.old }
     requires room { Room table.old tally.names tally.records }
-    ensures { (dst : List ℕ) → Done line.now name named (NumberTold table.new result.number) (Ok (Some at)) (lent pool.old table.old dst (Ok tally)) result.at (lent pool.new table.new dst result.stand) }
+    ensures { (dst : List ℕ) → Done line.now name named (NumberTold table.new result.number) (Ok (Some at)) (lent pool.old table.old dst (Ok tally))
+        result.at (lent pool.new table.new dst result.stand) }
 {
     let mut bytes = [0u8; NAME_BYTES];
     match scan_name(line, at, &mut bytes) {
@@ -100,7 +101,8 @@ fn enter_at(line: &[u8], at: usize, tally: Tally, pool: &mut [u8], table: &mut [
 /// The name that begins right here, entered: 2 and 3 at its first byte.
 pub fn read_named(line: &[u8], p: Point, s: Stand, pool: &mut [u8], table: &mut [u32]) -> Named
     requires { Ready line.now p pool.old table.old s }
-    ensures { (dst : List ℕ) → Done line.now name named (NumberTold table.new result.number) p (lent pool.old table.old dst s) result.at (lent pool.new table.new dst result.stand) }
+    ensures { (dst : List ℕ) → Done line.now name named (NumberTold table.new result.number) p (lent pool.old table.old dst s)
+        result.at (lent pool.new table.new dst result.stand) }
 {
     let Ok(tally) = s else {
         return Named {

@@ -8,7 +8,12 @@ single-requires c =
 
 pub multiplied-t-requires : goal.multiplied-t-requires
 multiplied-t-requires c =
-    record { good = c.requires.good; well = c.requires.well; well_2 = (single-well _ _ (c.requires.held_if _ _ c.in-Ok.is) _ c.requires.exp_value _ c.single.ensures).0 }
+    record {
+      good = c.requires.good;
+      well = c.requires.well;
+      well_2 = (single-well _ _
+          (c.requires.held_if _ _ c.in-Ok.is) _ c.requires.good_exp _ c.single.ensures).0;
+    }
 
 pub returns-in-Err : goal.returns-in-Err
 returns-in-Err c =
@@ -17,9 +22,11 @@ returns-in-Err c =
 pub returns-in-Good : goal.returns-in-Good
 returns-in-Good c =
     let h = c.in-Ok.is in
-    times-done _ _ _ _ c.requires.well c.single.result c.multiplied-t.result h (c.requires.held_if _ _ h) c.requires.exp_value c.single.ensures c.multiplied-t.ensures c.in-Good.is
+    times-done _ _ _ _ c.requires.well c.single.result c.multiplied-t.result h
+    (c.requires.held_if _ _ h) c.requires.good_exp c.single.ensures c.multiplied-t.ensures c.in-Good.is
 
 pub returns-in-Refused : goal.returns-in-Refused
 returns-in-Refused c =
     let h = c.in-Ok.is in
-    times-refused _ _ _ _ c.requires.well c.single.result c.multiplied-t.result h (c.requires.held_if _ _ h) c.requires.exp_value c.single.ensures c.multiplied-t.ensures c.in-Refused.is
+    times-refused _ _ _ _ c.requires.well c.single.result c.multiplied-t.result h
+    (c.requires.held_if _ _ h) c.requires.good_exp c.single.ensures c.multiplied-t.ensures c.in-Refused.is

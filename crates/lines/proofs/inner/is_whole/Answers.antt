@@ -7,26 +7,11 @@ use Rattle.lines.proofs.inner.is_whole.Goals as goal
 pub loop-i-init : goal.loop-i-init
 loop-i-init c = (omega arith, refl)
 
-pub overflow_mul-i : goal.overflow_mul-i
-overflow_mul-i c = omega (arith, c.loop-i.invariant.0, c.loop-i-test.true)
-
-pub offset_bounds-steps-i : goal.offset_bounds-steps-i
-offset_bounds-steps-i c = omega (arith, c.loop-i.invariant.0, c.loop-i-test.true)
-
-pub bounds-steps-i : goal.bounds-steps-i
-bounds-steps-i c = omega (arith, c.loop-i.invariant.0, c.loop-i-test.true)
-
 pub returns-then-n-taken : goal.returns-then-n-taken
 returns-then-n-taken c = let s = c.args.steps.now in let i = c.loop-i.i in whole-off s i c.loop-i-test.true c.loop-i.n (omega (arith, c.if-n-taken.true, c.operands_of-taken.ensures)) ∙ c.loop-i.invariant.1
 
 pub overflow_add-n : goal.overflow_add-n
-overflow_add-n c = omega (arith, c.loop-i.invariant.0, c.loop-i-test.true)
-
-pub overflow_add-i : goal.overflow_add-i
-overflow_add-i c = omega (arith, c.loop-i.invariant.0, c.loop-i-test.true)
-
-pub loop-i-smaller : goal.loop-i-smaller
-loop-i-smaller c = omega (arith, c.loop-i.invariant.0, c.loop-i-test.true)
+overflow_add-n c = omega (arith, c.loop-i.invariant.0)
 
 pub loop-i-preserved : goal.loop-i-preserved
 loop-i-preserved c = let s = c.args.steps.now in let i = c.loop-i.i in let e = c.operands_of-taken.ensures in (omega (arith, c.loop-i.invariant.0), rw e (whole-on s i c.loop-i-test.true c.loop-i.n (omega (arith, c.if-n-taken.false, e)) ∙ c.loop-i.invariant.1))

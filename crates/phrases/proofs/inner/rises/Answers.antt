@@ -10,7 +10,11 @@ use Rattle.phrases.proofs.inner.rises.Goals as goal
 
 pub order-requires : goal.order-requires
 order-requires c =
-    record { good = c.requires.good; i_bound = subst (HeldBefore c.args.table.now) c.in-Name.is c.requires.held_before; j_bound = ltb-true _ _ (sym c.is_held.ensures ∙ c.if-is_held.true) }
+    record {
+      good = c.requires.good;
+      i_bound = subst (HeldBefore c.args.table.now) c.in-Name.is c.requires.held_before;
+      j_bound = ltb-true _ _ (sym c.is_held.ensures ∙ c.if-is_held.true);
+    }
 
 pub returns-in-Start : goal.returns-in-Start
 returns-in-Start c = λ h. rw c.in-Start.is

@@ -34,23 +34,23 @@ set_fits-requires c = let word : Words32 c.args.words.now = record { word = λ i
     let a = c.args in
     let g = set-asks _ _ _ _ (word) (binds-word) bs cs n in
     let l = c.fill.ensures _ _ bs n.good g.1.0 in
-    let k = came (sum_of sizeLine) (max_of depthLine) (collect writeLine) (all-length a.pool.now a.table.now) short-lines _ _ _ space _ c.in-To.is (c.replace_lines.ensures (map con cs) _ g.0 l) in
+    let k = came (sum_of sizeLine) (max_of depthLine) (collect writeLine) (all-length a.pool.now a.table.now) short-lines _ _ _ space _ c.in-Ok.is (c.replace_lines.ensures (map con cs) _ g.0 l) in
     record { good = n.good; lines_stand = (k.value, lines-stand _ _ _ _ (word) (binds-word) bs cs n _ _ _ _ space k) }
 
-pub returns-in-To : goal.returns-in-To
-returns-in-To c = let word : Words32 c.args.words.now = record { word = λ i. (c.shared_slice_known-3-1.given i).fits } in
+pub returns-in-Ok : goal.returns-in-Ok
+returns-in-Ok c = let word : Words32 c.args.words.now = record { word = λ i. (c.shared_slice_known-3-1.given i).fits } in
     let binds-word : Words32 c.args.binds.now = record { word = λ i. (c.shared_slice_known-4-1.given i).fits } in
     λ cs bs n.
     let space = c.requires.in_bounds in
     let a = c.args in
     let g = set-asks _ _ _ _ (word) (binds-word) bs cs n in
     let l = c.fill.ensures _ _ bs n.good g.1.0 in
-    let k = came (sum_of sizeLine) (max_of depthLine) (collect writeLine) (all-length a.pool.now a.table.now) short-lines _ _ _ space _ c.in-To.is (c.replace_lines.ensures (map con cs) _ g.0 l) in
+    let k = came (sum_of sizeLine) (max_of depthLine) (collect writeLine) (all-length a.pool.now a.table.now) short-lines _ _ _ space _ c.in-Ok.is (c.replace_lines.ensures (map con cs) _ g.0 l) in
     set-made _ _ cs bs _ _
     (made-to (sum_of sizeLine) (max_of depthLine) (collect writeLine) (all-length a.pool.now a.table.now) short-lines _ _ _ space _ _ _ k (c.set_fits.ensures k.value (lines-stand _ _ _ _ (word) (binds-word) bs cs n _ _ _ _ space k)))
 
-pub returns-in-Stop : goal.returns-in-Stop
-returns-in-Stop c = let word : Words32 c.args.words.now = record { word = λ i. (c.shared_slice_known-3-1.given i).fits } in
+pub returns-in-Err : goal.returns-in-Err
+returns-in-Err c = let word : Words32 c.args.words.now = record { word = λ i. (c.shared_slice_known-3-1.given i).fits } in
     let binds-word : Words32 c.args.binds.now = record { word = λ i. (c.shared_slice_known-4-1.given i).fits } in
     λ cs bs n.
     let space = c.requires.in_bounds in
@@ -58,4 +58,4 @@ returns-in-Stop c = let word : Words32 c.args.words.now = record { word = λ i. 
     let g = set-asks _ _ _ _ (word) (binds-word) bs cs n in
     let l = c.fill.ensures _ _ bs n.good g.1.0 in
     set-made _ _ cs bs _ _
-    (made-stop (sum_of sizeLine) (max_of depthLine) (collect writeLine) (all-length a.pool.now a.table.now) short-lines _ _ _ space _ c.in-Stop.is (c.replace_lines.ensures (map con cs) _ g.0 l))
+    (made-stop (sum_of sizeLine) (max_of depthLine) (collect writeLine) (all-length a.pool.now a.table.now) short-lines _ _ _ space _ c.in-Err.is (c.replace_lines.ensures (map con cs) _ g.0 l))

@@ -26,21 +26,21 @@ replace_type-requires c = let word : Words32 c.args.words.now = record { word = 
 pub type_fits-requires : goal.type_fits-requires
 type_fits-requires c = let (t, (bs, n)) = c.requires.by_index in n.good
 
-pub returns-in-To : goal.returns-in-To
-returns-in-To c = let word : Words32 c.args.words.now = record { word = λ i. (c.shared_slice_known-3-1.given i).fits } in
+pub returns-in-Ok : goal.returns-in-Ok
+returns-in-Ok c = let word : Words32 c.args.words.now = record { word = λ i. (c.shared_slice_known-3-1.given i).fits } in
     let binds-word : Words32 c.args.binds.now = record { word = λ i. (c.shared_slice_known-4-1.given i).fits } in
     λ t bs n.
     let space = c.requires.in_bounds in
     let g = type-asks _ _ _ _ (word) (binds-word) bs t n in
     let l = c.fill.ensures _ _ bs n.good g.1.0 in
-    let k = came size depth writeTy size-ty short-ty _ _ _ space _ c.in-To.is (c.replace_type.ensures t _ g.0 l) in
+    let k = came size depth writeTy size-ty short-ty _ _ _ space _ c.in-Ok.is (c.replace_type.ensures t _ g.0 l) in
     made-to size depth writeTy size-ty short-ty _ _ _ space _ _ _ k (c.type_fits.ensures k.value (type-stands _ _ _ _ (word) (binds-word) bs t n _ _ _ _ space k))
 
-pub returns-in-Stop : goal.returns-in-Stop
-returns-in-Stop c = let word : Words32 c.args.words.now = record { word = λ i. (c.shared_slice_known-3-1.given i).fits } in
+pub returns-in-Err : goal.returns-in-Err
+returns-in-Err c = let word : Words32 c.args.words.now = record { word = λ i. (c.shared_slice_known-3-1.given i).fits } in
     let binds-word : Words32 c.args.binds.now = record { word = λ i. (c.shared_slice_known-4-1.given i).fits } in
     λ t bs n.
     let space = c.requires.in_bounds in
     let g = type-asks _ _ _ _ (word) (binds-word) bs t n in
     let l = c.fill.ensures _ _ bs n.good g.1.0 in
-    made-stop size depth writeTy size-ty short-ty _ _ _ space _ c.in-Stop.is (c.replace_type.ensures t _ g.0 l)
+    made-stop size depth writeTy size-ty short-ty _ _ _ space _ c.in-Err.is (c.replace_type.ensures t _ g.0 l)

@@ -1,6 +1,7 @@
 -- `inner::take_turn` meets its contract: what is left of the search decides, and falls.
 use mathlib.Core.Path.{refl, ap, ◌∙◌}
 use native.Mathlib.Omega.{arith}
+use Rattle.std.proofs.lemmas.Result.{err_from_is_err_and}
 use lib.ListN.{length}
 use Rattle.rounds.specs.Limits.{turned_as, turned-from}
 use Rattle.rounds.specs.Parts.{after}
@@ -54,7 +55,7 @@ perform-requires c =
     let g = L.invariant.1.1 st h in
     let f = found _ _ _ _ _ st g.0 g.1 c.loop-at-test.true in
     let i = c.con_end-e.ensures f.this f.held.held in
-    let k = step _ _ _ _ _ st f _ i L.next _ _ (c.in-Ok.ensures f.this f.held) in
+    let k = step _ _ _ _ _ st f _ i L.next _ _ (c.in_ok-step.ensures f.this f.held) in
     let w = ap length L.invariant.0 in
     let v = c.try_satisfy.auto.dst in
     record { good = c.requires.good; by_index = (f.parts, (f.this, k)); in_bounds = omega (arith, w, c.requires.in_bounds); in_bounds_2 = omega (arith, v, L.invariant.1.0, c.requires.in_bounds_2); next_len_bound = omega (arith, v, L.invariant.1.0, c.requires.next_len_bound) }
@@ -65,16 +66,17 @@ returns-in_default c = λ st h.
     let g = L.invariant.1.1 st h in
     let f = found _ _ _ _ _ st g.0 g.1 c.loop-at-test.true in
     let i = c.con_end-e.ensures f.this f.held.held in
-    let k = step _ _ _ _ _ st f _ i L.next _ _ (c.in-Ok.ensures f.this f.held) in
+    let k = step _ _ _ _ _ st f _ i L.next _ _ (c.in_ok-step.ensures f.this f.held) in
     turned-from _ _ L.invariant.0 (applied _ _ _ _ _ st f (some-rule _ _ _ _ _ _ _ _ _ f.parts f.this k c.in_default.not-Stuck)) (c.perform.ensures f.parts f.this k)
 
-pub returns-in-Err : goal.returns-in-Err
-returns-in-Err c = λ st h.
+pub returns-in_err-step : goal.returns-in_err-step
+returns-in_err-step c = λ st h.
     let L = c.loop-at in
     let g = L.invariant.1.1 st h in
     let f = found _ _ _ _ _ st g.0 g.1 c.loop-at-test.true in
-    let e = took-refused (c.in-Err.ensures f.this f.held) in
-    turned-from _ _ L.invariant.0 (applied _ _ _ _ _ st f (not-stuck e) ∙ ap (after c.args.pool.now c.args.table.now f.parts) e) (record { says = refl })
+    let e = took-refused (c.in_err-step.ensures f.this f.held) in
+    let p = err_from_is_err_and c.from_residual.result c.from_residual.ensures.1 in
+    rw (p.1, p.2) (turned-from _ _ L.invariant.0 (applied _ _ _ _ _ st f (not-stuck e) ∙ ap (after c.args.pool.now c.args.table.now f.parts) e) (record { says = refl }))
 
 pub loop-at-smaller : goal.loop-at-smaller
 loop-at-smaller c =
@@ -95,7 +97,7 @@ loop-at-preserved c = (
         let g = L.invariant.1.1 st h in
         let f = found _ _ _ _ _ st g.0 g.1 c.loop-at-test.true in
         let i = c.con_end-e.ensures f.this f.held.held in
-        let k = step _ _ _ _ _ st f _ i L.next _ _ (c.in-Ok.ensures f.this f.held) in
+        let k = step _ _ _ _ _ st f _ i L.next _ _ (c.in_ok-step.ensures f.this f.held) in
         (g.0, on _ _ _ _ _ st f _ i (took-stuck _ _ _ _ _ _ _ _ _ f.parts f.this k c.in-Stuck.is)),
   ),
 )

@@ -10,7 +10,12 @@ loop-i-init c = (omega arith, omega (arith, c.requires), refl)
 pub returns-then-not-is_blank : goal.returns-then-not-is_blank
 returns-then-not-is_blank c =
     let i = c.loop-i.i in
-    record { within = c.loop-i.invariant.1; behind = c.loop-i.invariant.0; is = c.loop-i.invariant.2 ∙ sign-step _ i (omega arith) (sym c.is_blank.ensures ∙ c.if-not-is_blank.true) }
+    record {
+      within = c.loop-i.invariant.1;
+      behind = c.loop-i.invariant.0;
+      is = c.loop-i.invariant.2
+          ∙ sign-step _ i (omega arith) (sym c.is_blank.ensures ∙ c.if-not-is_blank.true);
+    }
 
 pub loop-i-preserved : goal.loop-i-preserved
 loop-i-preserved c =

@@ -15,7 +15,11 @@ returns-then-line-i-2 c = sym (spelt-other _ _ c.loop-b.i c.loop-b.b-index (omeg
 
 pub loop-b-preserved : goal.loop-b-preserved
 loop-b-preserved c =
-    record { within = omega arith; is = sym (spelt-step _ _ c.loop-b.i c.loop-b.b-index (omega arith) (omega arith) c.if-line-i-2.false) ∙ c.loop-b.invariant.is }
+    record {
+      within = omega arith;
+      is = sym (spelt-step _ _ c.loop-b.i c.loop-b.b-index (omega arith) (omega arith) c.if-line-i-2.false)
+          ∙ c.loop-b.invariant.is;
+    }
 
 pub returns : goal.returns
 returns c = sym (spelt-whole _ _ c.loop-b.i c.loop-b.b-index (omega arith)) ∙ c.loop-b.invariant.is

@@ -1,8 +1,5 @@
 -- `inner::end_at` meets its contract.
-use native.Mathlib.Omega.{arith}
-use Rattle.std.proofs.Common.{rules, ◌≡◌, Err}
 use Rattle.rules.specs.Grammar.{end_at}
-use Rattle.reading.specs.Points.{stays}
 use Rattle.statements.specs.Statements.{end-there, end-other, end-past}
 use Rattle.statements.proofs.inner.end_at.Goals as goal
 

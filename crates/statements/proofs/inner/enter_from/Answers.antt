@@ -13,7 +13,7 @@ sign-requires c =
 
 pub returns-then-next_is : goal.returns-then-next_is
 returns-then-next_is c =
-    comment-done c.requires.i_in_bounds c.requires.ready (sym c.if-next_is.true ∙ c.next_is.ensures) c.sign.ensures
+    comment-done c.requires.within c.requires.ready (sym c.if-next_is.true ∙ c.next_is.ensures) c.sign.ensures
 
 pub enter_constraint-c-requires : goal.enter_constraint-c-requires
 enter_constraint-c-requires c =
@@ -21,4 +21,4 @@ enter_constraint-c-requires c =
 
 pub returns : goal.returns
 returns c =
-    signs-done c.requires.i_in_bounds (sym c.if-next_is.false ∙ c.next_is.ensures) c.enter_constraint-c.ensures
+    signs-done c.requires.within (sym c.if-next_is.false ∙ c.next_is.ensures) c.enter_constraint-c.ensures

@@ -13,7 +13,7 @@ next_sign-q-requires c =
 
 pub count-counted-requires : goal.count-counted-requires
 count-counted-requires c =
-    record { k_bound = omega arith; few = (λ k n e. (c.requires.room k n e).records) }
+    record { small = omega arith; few = (λ k n e. (c.requires.room k n e).records) }
 
 pub sign-a-requires : goal.sign-a-requires
 sign-a-requires c =
@@ -58,7 +58,8 @@ mark-at-requires c =
 pub put_head-requires : goal.put_head-requires
 put_head-requires c =
     kept_above
-    (kept_then (kept-count 1 _ c.requires c.count-counted.ensures _) (kept_then c.enter_type-l.ensures.kept (kept_then (c.read_named-x.ensures _).kept c.enter_type-t.ensures.kept)))
+    (kept_then (kept-count 1 _ c.requires c.count-counted.ensures _) (kept_then c.enter_type-l.ensures.kept
+    (kept_then (c.read_named-x.ensures _).kept c.enter_type-t.ensures.kept)))
 
 pub returns : goal.returns
 returns c =

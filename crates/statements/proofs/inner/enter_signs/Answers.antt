@@ -6,7 +6,7 @@ use Rattle.statements.proofs.inner.enter_signs.Goals as goal
 pub enter_from-requires : goal.enter_from-requires
 enter_from-requires c =
     let f : c.in-Ok-Some.field-0 ≡ Some c.in-Ok-Some.i = rw c.in-Ok-Some.is at c.in-Ok-Some.field-0-is in
-    record { i_in_bounds = c.if-i-line.true; ready = rw (c.in-Ok-Some.is, f) at c.requires }
+    record { within = c.if-i-line.true; ready = rw (c.in-Ok-Some.is, f) at c.requires }
 
 pub returns-then-i-line : goal.returns-then-i-line
 returns-then-i-line c =

@@ -13,7 +13,7 @@ next_sign-q-requires c =
 
 pub count-counted-requires : goal.count-counted-requires
 count-counted-requires c =
-    record { k_bound = omega arith; few = (λ k n e. (c.requires.room k n e).records) }
+    record { small = omega arith; few = (λ k n e. (c.requires.room k n e).records) }
 
 pub enter_type-l-requires : goal.enter_type-l-requires
 enter_type-l-requires c =

@@ -23,25 +23,25 @@ pub test-requires-clause-stands : goal.test-requires-clause-stands
 test-requires-clause-stands c =
     let (k, h) = c.requires.there in
     let (bs, l) = c.requires.put in
-    let m = came _ _ bs [] k _ (c.replace_line.ensures (con k) _ h.line l.lent) c.in-To.is in
+    let m = came _ _ bs [] k _ (c.replace_line.ensures (con k) _ h.line l.lent) c.in-Ok.is in
     (m.made, written _ _ bs [] k _ _ _ _ h l c.requires.work_long m)
 
-pub returns-in_err-test-in-To : goal.returns-in_err-test-in-To
-returns-in_err-test-in-To c = λ k bs xs h l m.
-    let i = came _ _ bs xs k _ (c.replace_line.ensures (con k) _ h.line l.lent) c.in-To.is in
+pub returns-in_err-test-in-Ok : goal.returns-in_err-test-in-Ok
+returns-in_err-test-in-Ok c = λ k bs xs h l m.
+    let i = came _ _ bs xs k _ (c.replace_line.ensures (con k) _ h.line l.lent) c.in-Ok.is in
     let p = err_from_is_err_and c.from_residual.result c.from_residual.ensures.1 in
-    rw (p.1, p.2) (untested _ _ bs xs k _ _ _ _ h l i _ (c.in_err-test-in-To.ensures i.made xs (written _ _ bs xs k _ _ _ _ h l c.requires.work_long i) m))
+    rw (p.1, p.2) (untested _ _ bs xs k _ _ _ _ h l i _ (c.in_err-test-in-Ok.ensures i.made xs (written _ _ bs xs k _ _ _ _ h l c.requires.work_long i) m))
 
-pub returns-in_ok-test-in-To : goal.returns-in_ok-test-in-To
-returns-in_ok-test-in-To c = λ k bs xs h l m.
-    let i = came _ _ bs xs k _ (c.replace_line.ensures (con k) _ h.line l.lent) c.in-To.is in
-    tried _ _ bs xs k _ _ _ _ h l i _ (c.in_ok-test-in-To.ensures i.made xs (written _ _ bs xs k _ _ _ _ h l c.requires.work_long i) m)
+pub returns-in_ok-test-in-Ok : goal.returns-in_ok-test-in-Ok
+returns-in_ok-test-in-Ok c = λ k bs xs h l m.
+    let i = came _ _ bs xs k _ (c.replace_line.ensures (con k) _ h.line l.lent) c.in-Ok.is in
+    tried _ _ bs xs k _ _ _ _ h l i _ (c.in_ok-test-in-Ok.ensures i.made xs (written _ _ bs xs k _ _ _ _ h l c.requires.work_long i) m)
 
-pub returns-in_err-stopped-in-Stop : goal.returns-in_err-stopped-in-Stop
-returns-in_err-stopped-in-Stop c = λ k bs xs h l m.
-    let p = err_from_is_err_and c.from_residual-in_err-stopped-in-Stop.result c.from_residual-in_err-stopped-in-Stop.ensures.1 in
-    rw (p.1, p.2) (has-none _ _ bs xs k _ _ _ _ h l _ (stops _ _ bs xs k _ (c.replace_line.ensures (con k) _ h.line l.lent) c.in-Stop.is) _ c.in_err-stopped-in-Stop.ensures)
+pub returns-in_err-stopped-in-Err : goal.returns-in_err-stopped-in-Err
+returns-in_err-stopped-in-Err c = λ k bs xs h l m.
+    let p = err_from_is_err_and c.from_residual-in_err-stopped-in-Err.result c.from_residual-in_err-stopped-in-Err.ensures.1 in
+    rw (p.1, p.2) (has-none _ _ bs xs k _ _ _ _ h l _ (stops _ _ bs xs k _ (c.replace_line.ensures (con k) _ h.line l.lent) c.in-Err.is) _ c.in_err-stopped-in-Err.ensures)
 
-pub returns-in_ok-stopped-in-Stop : goal.returns-in_ok-stopped-in-Stop
-returns-in_ok-stopped-in-Stop c = λ k bs xs h l m.
-    fails _ _ bs xs k _ _ _ _ h l _ (stops _ _ bs xs k _ (c.replace_line.ensures (con k) _ h.line l.lent) c.in-Stop.is) _ _ c.in_ok-stopped-in-Stop.ensures
+pub returns-in_ok-stopped-in-Err : goal.returns-in_ok-stopped-in-Err
+returns-in_ok-stopped-in-Err c = λ k bs xs h l m.
+    fails _ _ bs xs k _ _ _ _ h l _ (stops _ _ bs xs k _ (c.replace_line.ensures (con k) _ h.line l.lent) c.in-Err.is) _ _ c.in_ok-stopped-in-Err.ensures

@@ -20,7 +20,12 @@ times-m-requires c =
     let named = c.enter_atom-a.ensures in
     let valued = c.enter_power-e.ensures.1 _ _ [] (ready-next (named [])) in
     let fine = at-fine c.enter_power-e.result.at (sym c.if-is_at.true ∙ c.is_at.ensures) in
-    record { good = (named []).kept.good; well = well-stays c.requires.ready.good (named []).kept _ c.requires.well; exp_value = c.enter_power-e.ensures.0; held_if = held-if (named []) valued fine }
+    record {
+      good = (named []).kept.good;
+      well = well-stays c.requires.ready.good (named []).kept _ c.requires.well;
+      good_exp = c.enter_power-e.ensures.0;
+      held_if = held-if (named []) valued fine;
+    }
 
 pub returns-then-is_at : goal.returns-then-is_at
 returns-then-is_at c =

@@ -8,8 +8,11 @@ use Rattle.dimensions.proofs.inner.factors.enter_factors.Goals as goal
 
 pub returns-then-next_is : goal.returns-then-next_is
 returns-then-next_is c =
-    let w = scalar-well _ _ _ c.scalar-none.ensures in
-    (w, λ dst. no-factors _ (scalar-none [] [] _ c.scalar-none.ensures) c.requires.within (kept_same c.requires.good c.requires.room) c.requires.halted (sym c.if-next_is.true ∙ c.next_is.ensures))
+    let w = scalar-well _ _ _ c.scalar-none.ensures in (
+      w,
+      λ dst. no-factors _ (scalar-none [] [] _ c.scalar-none.ensures) c.requires.within (kept_same c.requires.good c.requires.room) c.requires.halted
+          (sym c.if-next_is.true ∙ c.next_is.ensures),
+    )
 
 pub enter_factor-f-requires : goal.enter_factor-f-requires
 enter_factor-f-requires c =
@@ -22,5 +25,8 @@ more_factors-requires c =
 pub returns : goal.returns
 returns c =
     let m = c.more_factors.ensures in
-    let e = scalar-none [] [] _ c.scalar-none.ensures in
-    (m.well, λ dst. factors-done (sym c.if-next_is.false ∙ c.next_is.ensures) (rw e at (c.enter_factor-f.ensures.1 dst)) (m.kept dst) m.ready.halted (m.more dst))
+    let e = scalar-none [] [] _ c.scalar-none.ensures in (
+      m.well,
+      λ dst. factors-done (sym c.if-next_is.false ∙ c.next_is.ensures) (rw e at (c.enter_factor-f.ensures.1 dst)) (m.kept dst) m.ready.halted
+          (m.more dst),
+    )

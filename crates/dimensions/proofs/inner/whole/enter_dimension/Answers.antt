@@ -10,7 +10,7 @@ use Rattle.dimensions.proofs.inner.whole.enter_dimension.Goals as goal
 
 pub count-counted-requires : goal.count-counted-requires
 count-counted-requires c =
-    record { k_bound = omega arith; few = (λ k n e. (c.requires.room k n e).records) }
+    record { small = omega arith; few = (λ k n e. (c.requires.room k n e).records) }
 
 pub enter_factors-f-requires : goal.enter_factors-f-requires
 enter_factors-f-requires c =
@@ -22,7 +22,7 @@ next_sign-e-requires c =
 
 pub count-stand-requires : goal.count-stand-requires
 count-stand-requires c =
-    record { k_bound = omega (arith, c.enter_factors-f.ensures.0.few); few = (λ k n e. ((c.enter_factors-f.ensures.1 []).kept.room k n e).records) }
+    record { small = omega (arith, c.enter_factors-f.ensures.0.few); few = (λ k n e. ((c.enter_factors-f.ensures.1 []).kept.room k n e).records) }
 
 pub put_product-requires : goal.put_product-requires
 put_product-requires c =
@@ -32,4 +32,5 @@ pub returns : goal.returns
 returns c =
     let well = c.enter_factors-f.ensures.0 in
     dimension-done c.enter_factors-f.result.product _ _ c.requires c.next_sign-c.ensures c.place_of.ensures c.count-counted.ensures c.mark-a.ensures.reads
-    (c.enter_factors-f.ensures.1 _) c.next_sign-e.ensures c.place_of-2.ensures (length-product _ well.long well.few) c.count-stand.ensures c.put_product.ensures c.mark-at.ensures.reads
+    (c.enter_factors-f.ensures.1 _) c.next_sign-e.ensures c.place_of-2.ensures
+    (length-product _ well.long well.few) c.count-stand.ensures c.put_product.ensures c.mark-at.ensures.reads

@@ -1,30 +1,11 @@
 -- `inner::fresh::all_differ` meets its contract.
-use native.Mathlib.Omega.{arith}
 use mathlib.Core.Path.{refl, sym, ap, ◌∙◌}
 use Rattle.rules.specs.Calls.{differ}
 use Rattle.lines.specs.Used.{differ-hit, differ-miss, rest-none}
 use Rattle.lines.proofs.inner.fresh.all_differ.Goals as goal
 
-pub loop-i-init : goal.loop-i-init
-loop-i-init c = refl
-
-pub overflow_add-i : goal.overflow_add-i
-overflow_add-i c = omega (arith, c.loop-i-test.true)
-
-pub offset_bounds-names-i : goal.offset_bounds-names-i
-offset_bounds-names-i c = omega (arith, c.loop-i-test.true)
-
-pub bounds-names-i : goal.bounds-names-i
-bounds-names-i c = omega (arith, c.loop-i-test.true)
-
 pub returns-then-is_among : goal.returns-then-is_among
 returns-then-is_among c = let n = c.args.names.now in let i = c.loop-i.i in differ-hit n i c.loop-i-test.true (sym c.is_among.ensures ∙ c.if-is_among.true) ∙ c.loop-i.invariant
-
-pub overflow_add-i-in-loop-i : goal.overflow_add-i-in-loop-i
-overflow_add-i-in-loop-i c = omega (arith, c.loop-i-test.true)
-
-pub loop-i-smaller : goal.loop-i-smaller
-loop-i-smaller c = omega (arith, c.loop-i-test.true)
 
 pub loop-i-preserved : goal.loop-i-preserved
 loop-i-preserved c = let n = c.args.names.now in let i = c.loop-i.i in differ-miss n i c.loop-i-test.true (sym c.is_among.ensures ∙ c.if-is_among.false) ∙ c.loop-i.invariant

@@ -1,5 +1,4 @@
 -- `inner::fresh::all_held` meets its contract.
-use native.Mathlib.Omega.{arith}
 use mathlib.Core.Path.{refl, sym, ap, ◌∙◌}
 use lib.Dec.{ltb}
 use lib.ListN.{get_or}
@@ -7,26 +6,11 @@ use Rattle.rules.specs.Base.{all}
 use Rattle.lines.specs.Used.{all-hit, all-miss, rest-none}
 use Rattle.lines.proofs.inner.fresh.all_held.Goals as goal
 
-pub loop-i-init : goal.loop-i-init
-loop-i-init c = refl
-
-pub offset_bounds-names-i : goal.offset_bounds-names-i
-offset_bounds-names-i c = omega (arith, c.loop-i-test.true)
-
-pub bounds-names-i : goal.bounds-names-i
-bounds-names-i c = omega (arith, c.loop-i-test.true)
-
 pub is_held-requires : goal.is_held-requires
 is_held-requires c = c.requires
 
 pub returns-then-not-is_held : goal.returns-then-not-is_held
 returns-then-not-is_held c = let n = c.args.names.now in let i = c.loop-i.i in all-miss n i c.loop-i-test.true (λ x. ltb x (get_or c.args.table.now 0 0)) (sym c.is_held.ensures ∙ c.if-not-is_held.true) ∙ c.loop-i.invariant
-
-pub overflow_add-i : goal.overflow_add-i
-overflow_add-i c = omega (arith, c.loop-i-test.true)
-
-pub loop-i-smaller : goal.loop-i-smaller
-loop-i-smaller c = omega (arith, c.loop-i-test.true)
 
 pub loop-i-preserved : goal.loop-i-preserved
 loop-i-preserved c = let n = c.args.names.now in let i = c.loop-i.i in all-hit n i c.loop-i-test.true (λ x. ltb x (get_or c.args.table.now 0 0)) (sym c.is_held.ensures ∙ c.if-not-is_held.false) ∙ c.loop-i.invariant

@@ -1,28 +1,12 @@
 -- `inner::fresh::is_among` meets its contract.
-use native.Mathlib.Omega.{arith}
 use mathlib.Core.Path.{refl, sym, ap, ◌∙◌}
 use lib.Dec.{eqb}
 use Rattle.rules.specs.Base.{any}
 use Rattle.lines.specs.Used.{among-hit, among-miss, rest-none}
 use Rattle.lines.proofs.inner.fresh.is_among.Goals as goal
 
-pub loop-i-init : goal.loop-i-init
-loop-i-init c = refl
-
-pub offset_bounds-names-i : goal.offset_bounds-names-i
-offset_bounds-names-i c = omega (arith, c.loop-i-test.true)
-
-pub bounds-names-i : goal.bounds-names-i
-bounds-names-i c = omega (arith, c.loop-i-test.true)
-
 pub returns-then-x-names : goal.returns-then-x-names
 returns-then-x-names c = let n = c.args.names.now in let i = c.loop-i.i in among-hit n i c.loop-i-test.true _ c.if-x-names.true ∙ c.loop-i.invariant
-
-pub overflow_add-i : goal.overflow_add-i
-overflow_add-i c = omega (arith, c.loop-i-test.true)
-
-pub loop-i-smaller : goal.loop-i-smaller
-loop-i-smaller c = omega (arith, c.loop-i-test.true)
 
 pub loop-i-preserved : goal.loop-i-preserved
 loop-i-preserved c = let n = c.args.names.now in let i = c.loop-i.i in among-miss n i c.loop-i-test.true _ c.if-x-names.false ∙ c.loop-i.invariant

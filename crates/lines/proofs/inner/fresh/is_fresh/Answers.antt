@@ -6,4 +6,4 @@ pub returns-then-all_differ : goal.returns-then-all_differ
 returns-then-all_differ c = rw (sym c.all_differ.ensures ∙ c.if-all_differ.true) c.none_used.ensures
 
 pub returns-else-all_differ : goal.returns-else-all_differ
-returns-else-all_differ c = rw (sym c.all_differ.ensures ∙ c.if-all_differ.false) refl
+returns-else-all_differ c = rw (sym c.all_differ.ensures ∙ c.if-all_differ.false) c.if-all_differ.false

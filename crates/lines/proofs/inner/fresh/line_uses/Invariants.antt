@@ -1,7 +1,5 @@
 use mathlib.Core.Path.{◌≡◌}
-use Prim.Native.Nat.{◌-◌, ◌/◌}
 use lib.Dec.{eqb}
-use lib.ListN.{length}
 use Rattle.rules.specs.Base.{any, collect}
 use Rattle.lines.specs.StepLists.{stepsFrom}
 use Rattle.lines.specs.Used.{namesWord}
@@ -9,6 +7,3 @@ use Rattle.lines.proofs.inner.fresh.line_uses.Given as goal
 
 abbrev pub invariant-loop-i : goal.invariant-loop-i
 invariant-loop-i l = any (eqb l.x) (collect (namesWord l.types l.lines) (stepsFrom l.steps l.i)) ≡ any (eqb l.x) (collect (namesWord l.types l.lines) (stepsFrom l.steps 0))
-
-abbrev pub decreases-loop-i : goal.decreases-loop-i
-decreases-loop-i l = length l.steps / 4 - l.i

@@ -1,5 +1,4 @@
 -- `inner::fresh::none_used` meets its contract.
-use native.Mathlib.Omega.{arith}
 use mathlib.Core.Path.{refl, sym, ap, ◌∙◌}
 use mathlib.Core.Bool.{not}
 use lib.Dec.{eqb}
@@ -8,23 +7,8 @@ use Rattle.lines.specs.StepLists.{stepsFrom}
 use Rattle.lines.specs.Used.{namesWord, all-hit, all-miss, rest-none}
 use Rattle.lines.proofs.inner.fresh.none_used.Goals as goal
 
-pub loop-i-init : goal.loop-i-init
-loop-i-init c = refl
-
-pub offset_bounds-names-i : goal.offset_bounds-names-i
-offset_bounds-names-i c = omega (arith, c.loop-i-test.true)
-
-pub bounds-names-i : goal.bounds-names-i
-bounds-names-i c = omega (arith, c.loop-i-test.true)
-
 pub returns-then-line_uses : goal.returns-then-line_uses
 returns-then-line_uses c = let n = c.args.names.now in let i = c.loop-i.i in all-miss n i c.loop-i-test.true (λ x. not (any (eqb x) (collect (namesWord c.args.types.now c.args.lines.now) (stepsFrom c.args.steps.now 0)))) (ap not (sym c.line_uses.ensures ∙ c.if-line_uses.true)) ∙ c.loop-i.invariant
-
-pub overflow_add-i : goal.overflow_add-i
-overflow_add-i c = omega (arith, c.loop-i-test.true)
-
-pub loop-i-smaller : goal.loop-i-smaller
-loop-i-smaller c = omega (arith, c.loop-i-test.true)
 
 pub loop-i-preserved : goal.loop-i-preserved
 loop-i-preserved c = let n = c.args.names.now in let i = c.loop-i.i in all-hit n i c.loop-i-test.true (λ x. not (any (eqb x) (collect (namesWord c.args.types.now c.args.lines.now) (stepsFrom c.args.steps.now 0)))) (ap not (sym c.line_uses.ensures ∙ c.if-line_uses.false)) ∙ c.loop-i.invariant

@@ -1,8 +1,7 @@
 use mathlib.Core.Path.{◌≡◌}
 use mathlib.Core.Bool.{not}
-use Prim.Native.Nat.{◌-◌}
 use lib.Dec.{eqb}
-use lib.ListN.{length, drop}
+use lib.ListN.{drop}
 use Rattle.rules.specs.Base.{any, all, collect}
 use Rattle.lines.specs.StepLists.{stepsFrom}
 use Rattle.lines.specs.Used.{namesWord}
@@ -10,6 +9,3 @@ use Rattle.lines.proofs.inner.fresh.none_used.Given as goal
 
 abbrev pub invariant-loop-i : goal.invariant-loop-i
 invariant-loop-i l = all (λ x. not (any (eqb x) (collect (namesWord l.types l.lines) (stepsFrom l.steps 0)))) (drop l.i l.names) ≡ all (λ x. not (any (eqb x) (collect (namesWord l.types l.lines) (stepsFrom l.steps 0)))) l.names
-
-abbrev pub decreases-loop-i : goal.decreases-loop-i
-decreases-loop-i l = length l.names - l.i

@@ -1,22 +1,12 @@
 -- `inner::fresh::used_in` meets its contract.
-use native.Mathlib.Omega.{arith}
 use mathlib.Core.Path.{refl, sym, ap, ◌∙◌}
 use lib.Dec.{eqb}
 use Rattle.rules.specs.Base.{any}
 use Rattle.lines.specs.Used.{names-none, any-hit, any-miss}
 use Rattle.lines.proofs.inner.fresh.used_in.Goals as goal
 
-pub loop-i-init : goal.loop-i-init
-loop-i-init c = refl
-
 pub returns-then-is_name : goal.returns-then-is_name
 returns-then-is_name c = let s = c.args.s.now in let e = c.args.e in let p = eqb c.args.x in let i = c.loop-i.i in sym (any-hit s i e c.loop-i-test.true p (ap (any p) (sym c.name_here.ensures) ∙ sym c.is_name.ensures ∙ c.if-is_name.true)) ∙ c.loop-i.invariant
-
-pub overflow_add-i : goal.overflow_add-i
-overflow_add-i c = omega (arith, c.loop-i-test.true)
-
-pub loop-i-smaller : goal.loop-i-smaller
-loop-i-smaller c = omega (arith, c.loop-i-test.true)
 
 pub loop-i-preserved : goal.loop-i-preserved
 loop-i-preserved c = let s = c.args.s.now in let e = c.args.e in let p = eqb c.args.x in let i = c.loop-i.i in sym (any-miss s i e c.loop-i-test.true p (ap (any p) (sym c.name_here.ensures) ∙ sym c.is_name.ensures ∙ c.if-is_name.false)) ∙ c.loop-i.invariant

@@ -1,5 +1,4 @@
 use mathlib.Core.Path.{◌≡◌}
-use Prim.Native.Nat.{◌-◌}
 use lib.Dec.{eqb}
 use Rattle.rules.specs.Base.{any}
 use Rattle.lines.specs.Used.{namesIn}
@@ -7,6 +6,3 @@ use Rattle.lines.proofs.inner.fresh.used_in.Given as goal
 
 abbrev pub invariant-loop-i : goal.invariant-loop-i
 invariant-loop-i l = any (eqb l.x) (namesIn l.s l.i l.e) ≡ any (eqb l.x) (namesIn l.s l.b l.e)
-
-abbrev pub decreases-loop-i : goal.decreases-loop-i
-decreases-loop-i l = l.e - l.i

@@ -51,4 +51,5 @@ returns c =
     (no-type c.requires d
     (no-head _
     (λ h. c.if-b-eq63.false (c.byte_at-b.ensures ∙ h)) (λ h. c.if-b-eq33.false (c.byte_at-b.ensures ∙ h)) (λ h. c.if-b-eq91.false (c.byte_at-b.ensures ∙ h))
-    (λ h. c.if-b-eq66.false (c.byte_at-b.ensures ∙ h)) (λ h. c.if-b-eq83.false (c.byte_at-b.ensures ∙ h)) (λ h. c.if-b-eq68.false (c.byte_at-b.ensures ∙ h)) e f g))
+    (λ h. c.if-b-eq66.false (c.byte_at-b.ensures ∙ h)) (λ h. c.if-b-eq83.false (c.byte_at-b.ensures ∙ h))
+    (λ h. c.if-b-eq68.false (c.byte_at-b.ensures ∙ h)) e f g))

@@ -8,7 +8,8 @@ use Rattle.terms.specs.Effects.{kept_then, kept_above, kept-count, ready-count, 
 use Rattle.terms.specs.Inside.{inside-column, inside-spelled}
 use Rattle.phrases.specs.Parts.{from-counted, list_done, function-done}
 use Rattle.phrases.specs.Members.{held-later, ready-tested, field-by, structure-done}
-use Rattle.phrases.specs.Rows.{tys-start, tys-turn, tys-fall, tys-done, fields-start, fields-turn, fields-fall, fields-done, some-params, no-params, some-types, no-types, some-fields, no_fields, done-by, type-zero, type-some}
+use Rattle.phrases.specs.Rows.{tys-start, tys-turn, tys-fall, tys-done, fields-start, fields-turn, fields-fall, fields-done, some-params, no-params}
+use Rattle.phrases.specs.Rows.{some-types, no-types, some-fields, no_fields, done-by, type-zero, type-some}
 use Rattle.phrases.proofs.inner.types.+types.Goals as goal
 
 pub enter_arguments-next_is-requires : goal.enter_arguments-next_is-requires
@@ -51,20 +52,29 @@ enter_field-rises-requires t c =
 
 pub enter_field-count-counted-requires : goal.enter_field-count-counted-requires
 enter_field-count-counted-requires t c =
-    record { k_bound = omega arith; few = (λ k n e. ((ready-tested c.rises.result c.place_of-at.result (ready-next (c.read_named-x.ensures [])) c.pass_if-tested.ensures).room k n e).records) }
+    record {
+      small = omega arith;
+      few = (λ k n e. ((ready-tested c.rises.result c.place_of-at.result
+          (ready-next (c.read_named-x.ensures [])) c.pass_if-tested.ensures).room k n e).records);
+    }
 
 pub enter_field-mark-c-requires : goal.enter_field-mark-c-requires
 enter_field-mark-c-requires t c =
     (c.read_named-x.ensures []).reads.within
 
 pub enter_field-enter_type-t-requires : goal.enter_field-enter_type-t-requires
-enter_field-enter_type-t-requires t c =
-    (omega (arith, c.decreases), ready_on (inside-spelled _) c.mark-c.ensures.reads (ready-count 1 _ (ready-tested c.rises.result c.place_of-at.result (ready-next (c.read_named-x.ensures [])) c.pass_if-tested.ensures) c.count-counted.ensures))
+enter_field-enter_type-t-requires t c = (
+  omega (arith, c.decreases),
+  ready_on (inside-spelled _) c.mark-c.ensures.reads
+      (ready-count 1 _ (ready-tested c.rises.result c.place_of-at.result
+      (ready-next (c.read_named-x.ensures [])) c.pass_if-tested.ensures) c.count-counted.ensures),
+)
 
 pub enter_field-put_head-requires : goal.enter_field-put_head-requires
 enter_field-put_head-requires t c =
     kept_above
-    (kept_then (kept-count 1 _ (ready-tested c.rises.result c.place_of-at.result (ready-next (c.read_named-x.ensures [])) c.pass_if-tested.ensures) c.count-counted.ensures _) c.enter_type-t.ensures.kept)
+    (kept_then (kept-count 1 _ (ready-tested c.rises.result c.place_of-at.result
+    (ready-next (c.read_named-x.ensures [])) c.pass_if-tested.ensures) c.count-counted.ensures _) c.enter_type-t.ensures.kept)
 
 pub enter_field-before_next-requires : goal.enter_field-before_next-requires
 enter_field-before_next-requires t c =
@@ -116,7 +126,7 @@ enter_function-next_sign-q-requires t c =
 
 pub enter_function-count-counted-requires : goal.enter_function-count-counted-requires
 enter_function-count-counted-requires t c =
-    record { k_bound = omega arith; few = (λ k n e. (c.requires.room k n e).records) }
+    record { small = omega arith; few = (λ k n e. (c.requires.room k n e).records) }
 
 pub enter_function-sign-a-requires : goal.enter_function-sign-a-requires
 enter_function-sign-a-requires t c =
@@ -132,7 +142,8 @@ pub enter_function-enter_params-ps-requires : goal.enter_function-enter_params-p
 enter_function-enter_params-ps-requires t c = (
   omega (arith, c.decreases),
   ready_on (inside-spelled _) c.mark-c.ensures.reads
-      (ready_on (inside-spelled _) c.mark-b.ensures.reads (ready_on (inside-spelled _) c.sign-a.ensures (ready_on inside-column c.next_sign-q.ensures (ready-count 1 _ c.requires c.count-counted.ensures)))),
+      (ready_on (inside-spelled _) c.mark-b.ensures.reads (ready_on (inside-spelled _) c.sign-a.ensures
+      (ready_on inside-column c.next_sign-q.ensures (ready-count 1 _ c.requires c.count-counted.ensures)))),
 )
 
 pub enter_function-mark-f-requires : goal.enter_function-mark-f-requires
@@ -144,8 +155,11 @@ enter_function-sign-g-requires t c =
     c.mark-f.ensures.reads.within
 
 pub enter_function-enter_type-t-requires : goal.enter_function-enter_type-t-requires
-enter_function-enter_type-t-requires t c =
-    (omega (arith, c.decreases), ready_on (inside-spelled _) c.sign-g.ensures (ready_on (inside-spelled _) c.mark-f.ensures.reads (ready-next c.enter_params-ps.ensures)))
+enter_function-enter_type-t-requires t c = (
+  omega (arith, c.decreases),
+  ready_on (inside-spelled _) c.sign-g.ensures
+      (ready_on (inside-spelled _) c.mark-f.ensures.reads (ready-next c.enter_params-ps.ensures)),
+)
 
 pub enter_function-mark-at-requires : goal.enter_function-mark-at-requires
 enter_function-mark-at-requires t c =
@@ -170,7 +184,7 @@ enter_list-next_sign-q-requires t c =
 
 pub enter_list-count-counted-requires : goal.enter_list-count-counted-requires
 enter_list-count-counted-requires t c =
-    record { k_bound = omega arith; few = (λ k n e. (c.requires.room k n e).records) }
+    record { small = omega arith; few = (λ k n e. (c.requires.room k n e).records) }
 
 pub enter_list-sign-a-requires : goal.enter_list-sign-a-requires
 enter_list-sign-a-requires t c =
@@ -180,8 +194,11 @@ pub enter_list-mark-b-requires : goal.enter_list-mark-b-requires
 enter_list-mark-b-requires t c = c.sign-a.ensures.within
 
 pub enter_list-enter_type-t-requires : goal.enter_list-enter_type-t-requires
-enter_list-enter_type-t-requires t c =
-    (omega (arith, c.decreases), ready_on (inside-spelled _) c.mark-b.ensures.reads (ready_on (inside-spelled _) c.sign-a.ensures (ready_on inside-column c.next_sign-q.ensures (ready-count 1 _ c.requires c.count-counted.ensures))))
+enter_list-enter_type-t-requires t c = (
+  omega (arith, c.decreases),
+  ready_on (inside-spelled _) c.mark-b.ensures.reads
+      (ready_on (inside-spelled _) c.sign-a.ensures (ready_on inside-column c.next_sign-q.ensures (ready-count 1 _ c.requires c.count-counted.ensures))),
+)
 
 pub enter_list-mark-at-requires : goal.enter_list-mark-at-requires
 enter_list-mark-at-requires t c =
@@ -244,7 +261,7 @@ enter_structure-next_sign-q-requires t c =
 
 pub enter_structure-count-counted-requires : goal.enter_structure-count-counted-requires
 enter_structure-count-counted-requires t c =
-    record { k_bound = omega arith; few = (λ k n e. (c.requires.room k n e).records) }
+    record { small = omega arith; few = (λ k n e. (c.requires.room k n e).records) }
 
 pub enter_structure-mark-a-requires : goal.enter_structure-mark-a-requires
 enter_structure-mark-a-requires t c =
@@ -266,7 +283,8 @@ enter_structure-enter_members-fs-requires t c =
 pub enter_structure-put_head-requires : goal.enter_structure-put_head-requires
 enter_structure-put_head-requires t c =
     kept_above
-    (kept_then (kept-count 1 _ c.requires c.count-counted.ensures _) (kept_then (c.read_named-x.ensures _).kept (kept_then c.enter_arguments-ts.ensures.kept c.enter_members-fs.ensures.kept)))
+    (kept_then (kept-count 1 _ c.requires c.count-counted.ensures _) (kept_then (c.read_named-x.ensures _).kept
+    (kept_then c.enter_arguments-ts.ensures.kept c.enter_members-fs.ensures.kept)))
 
 pub enter_structure-returns : goal.enter_structure-returns
 enter_structure-returns t c =
@@ -329,7 +347,8 @@ enter_type-enter_leaf-requires t c =
 pub enter_type-returns : goal.enter_type-returns
 enter_type-returns t c =
     type-some _ c.if-d-eq0.false c.next_sign-q.ensures
-    (c.enter_leaf.ensures _ (λ e. c.if-b-eq70.false (c.byte_at-b.ensures ∙ e)) (λ e. c.if-b-eq76.false (c.byte_at-b.ensures ∙ e)) (λ e. c.if-b-eq64.false (c.byte_at-b.ensures ∙ e)))
+    (c.enter_leaf.ensures _ (λ e. c.if-b-eq70.false (c.byte_at-b.ensures ∙ e)) (λ e. c.if-b-eq76.false (c.byte_at-b.ensures ∙ e))
+    (λ e. c.if-b-eq64.false (c.byte_at-b.ensures ∙ e)))
 
 pub enter_types-enter_type-first-requires : goal.enter_types-enter_type-first-requires
 enter_types-enter_type-first-requires t c =

@@ -37,13 +37,15 @@ decreases-enter_types l = l.d * 8 + 5
 
 abbrev pub invariant-enter_fields-loop-before : goal.invariant-enter_fields-loop-before
 invariant-enter_fields-loop-before l =
-    FieldsLoop (type l.d) l.line l.initial.at (lent l.initial.pool l.initial.table l.initial.dst l.initial.stand) l.initial.n l.initial.before l.at (lent l.pool l.table l.dst l.stand) l.n l.before
+    FieldsLoop (type l.d) l.line l.initial.at (lent l.initial.pool l.initial.table l.initial.dst l.initial.stand) l.initial.n l.initial.before l.at
+    (lent l.pool l.table l.dst l.stand) l.n l.before
 
 abbrev pub decreases-enter_fields-loop-before : goal.decreases-enter_fields-loop-before
 decreases-enter_fields-loop-before l = left_at l.line l.at
 
 abbrev pub invariant-enter_types-loop-a : goal.invariant-enter_types-loop-a
-invariant-enter_types-loop-a l = TysLoop (type l.d) l.line l.initial.at (lent l.initial.pool l.initial.table l.initial.dst l.initial.stand) l.initial.n l.at (lent l.pool l.table l.dst l.stand) l.n
+invariant-enter_types-loop-a l = TysLoop (type l.d) l.line l.initial.at (lent l.initial.pool l.initial.table l.initial.dst l.initial.stand) l.initial.n l.at
+    (lent l.pool l.table l.dst l.stand) l.n
 
 abbrev pub decreases-enter_types-loop-a : goal.decreases-enter_types-loop-a
 decreases-enter_types-loop-a l = left_at l.line l.at

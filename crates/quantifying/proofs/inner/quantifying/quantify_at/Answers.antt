@@ -20,7 +20,7 @@ pub returns-then-out-gt-RECORDS : goal.returns-then-out-gt-RECORDS
 returns-then-out-gt-RECORDS c = let lent : (t : Ty ℕ) (bs : List (Open ℕ)) → let a = c.args in Ready a.pool.now a.table.now a.s.now a.at a.names.now a.bounds.now a.work.now t bs → Lent a.pool.now a.table.now c.quantify_names.new.places c.quantify_names.new.v (renamed (handed a.pool.now a.table.now a.names.now)) = λ t bs y. tables _ _ _ _ _ y.names-small y.names-few c.quantify_names.ensures.0 c.quantify_names.ensures.1 in
     λ t bs y.
     let l = lent t bs y in
-    let k = came _ _ _ t _ _ _ c.in-To.is (c.replace_type.ensures t _ y.type l) in
+    let k = came _ _ _ t _ _ _ c.in-Ok.is (c.replace_type.ensures t _ y.type l) in
     type-long _ _ _ _ t bs y.flat _ _ _ _ k _ c.if-out-gt-RECORDS.true
 
 pub put_bounds-n-requires : goal.put_bounds-n-requires
@@ -37,7 +37,7 @@ pub returns-then-n-gt-RECORDS : goal.returns-then-n-gt-RECORDS
 returns-then-n-gt-RECORDS c = let lent : (t : Ty ℕ) (bs : List (Open ℕ)) → let a = c.args in Ready a.pool.now a.table.now a.s.now a.at a.names.now a.bounds.now a.work.now t bs → Lent a.pool.now a.table.now c.quantify_names.new.places c.quantify_names.new.v (renamed (handed a.pool.now a.table.now a.names.now)) = λ t bs y. tables _ _ _ _ _ y.names-small y.names-few c.quantify_names.ensures.0 c.quantify_names.ensures.1 in
     λ t bs y.
     let l = lent t bs y in
-    let k = came _ _ _ t _ _ _ c.in-To.is (c.replace_type.ensures t _ y.type l) in
+    let k = came _ _ _ t _ _ _ c.in-Ok.is (c.replace_type.ensures t _ y.type l) in
     let a = c.args in
     all-long _ _ _ _ t bs y.flat _ _ _ _ k _ _ _ (c.put_bounds-n.ensures bs (handed a.pool.now a.table.now a.names.now) y.listed l.tabled) c.if-n-gt-RECORDS.true
 
@@ -45,11 +45,11 @@ pub returns-else-n-gt-RECORDS : goal.returns-else-n-gt-RECORDS
 returns-else-n-gt-RECORDS c = let lent : (t : Ty ℕ) (bs : List (Open ℕ)) → let a = c.args in Ready a.pool.now a.table.now a.s.now a.at a.names.now a.bounds.now a.work.now t bs → Lent a.pool.now a.table.now c.quantify_names.new.places c.quantify_names.new.v (renamed (handed a.pool.now a.table.now a.names.now)) = λ t bs y. tables _ _ _ _ _ y.names-small y.names-few c.quantify_names.ensures.0 c.quantify_names.ensures.1 in
     λ t bs y.
     let l = lent t bs y in
-    let k = came _ _ _ t _ _ _ c.in-To.is (c.replace_type.ensures t _ y.type l) in
+    let k = came _ _ _ t _ _ _ c.in-Ok.is (c.replace_type.ensures t _ y.type l) in
     let a = c.args in
     all_made _ _ _ _ t bs y.flat _ _ _ _ k _ _ _ y.work-long
     (c.put_bounds-n.ensures bs (handed a.pool.now a.table.now a.names.now) y.listed l.tabled) c.if-n-gt-RECORDS.false c.put_record.ensures
 
-pub returns-in-Stop : goal.returns-in-Stop
-returns-in-Stop c = let lent : (t : Ty ℕ) (bs : List (Open ℕ)) → let a = c.args in Ready a.pool.now a.table.now a.s.now a.at a.names.now a.bounds.now a.work.now t bs → Lent a.pool.now a.table.now c.quantify_names.new.places c.quantify_names.new.v (renamed (handed a.pool.now a.table.now a.names.now)) = λ t bs y. tables _ _ _ _ _ y.names-small y.names-few c.quantify_names.ensures.0 c.quantify_names.ensures.1 in
-    λ t bs y. stopped _ _ _ t _ _ _ _ bs _ c.in-Stop.is (c.replace_type.ensures t _ y.type (lent t bs y))
+pub returns-in-Err : goal.returns-in-Err
+returns-in-Err c = let lent : (t : Ty ℕ) (bs : List (Open ℕ)) → let a = c.args in Ready a.pool.now a.table.now a.s.now a.at a.names.now a.bounds.now a.work.now t bs → Lent a.pool.now a.table.now c.quantify_names.new.places c.quantify_names.new.v (renamed (handed a.pool.now a.table.now a.names.now)) = λ t bs y. tables _ _ _ _ _ y.names-small y.names-few c.quantify_names.ensures.0 c.quantify_names.ensures.1 in
+    λ t bs y. stopped _ _ _ t _ _ _ _ bs _ c.in-Err.is (c.replace_type.ensures t _ y.type (lent t bs y))

@@ -2,7 +2,7 @@
 use mathlib.Core.Path.{sym, ap, ◌∙◌}
 use Rattle.products.specs.Told.{answer}
 use Rattle.records.specs.Holds.{openOf}
-use Rattle.replacing.specs.Alone.{toldAlone}
+use Rattle.rules.specs.Refusals.{toldOptionBy}
 use Rattle.replacing.specs.Runs.{not_found}
 use Rattle.replacing.specs.InProducts.{lent-type, bound-free, bound-base, put-none, put-bound}
 use Rattle.replacing.proofs.inner.dims.replace_factor.Goals as goal
@@ -10,24 +10,24 @@ use Rattle.replacing.proofs.inner.dims.replace_factor.Goals as goal
 pub put_in-requires : goal.put_in-requires
 put_in-requires c =
     let (look, l) = c.requires.by_index in
-    let t = lent-type c.args.pool.now c.args.table.now look (openOf c.in-Of.o) l (c.look_up.ensures look l.tabled) c.in-At.is in
+    let t = lent-type c.args.pool.now c.args.table.now look (openOf c.in-Some.o) l (c.look_up.ensures look l.tabled) c.in-Some-look_up.is in
     record { good = c.requires.good; whole = c.requires.whole; fine = c.requires.fine; by_index = (t.type, t.held); at_bound = t.near }
 
-pub returns-in-At : goal.returns-in-At
-returns-in-At c = λ a look w l.
+pub returns-in-Some-look_up : goal.returns-in-Some-look_up
+returns-in-Some-look_up c = λ a look w l.
     let s = c.args in
-    let o = openOf c.in-Of.o in
-    let t = lent-type s.pool.now s.table.now look o l (c.look_up.ensures look l.tabled) c.in-At.is in
-    put-bound s.pool.now s.table.now s.f look a t.type c.put_in.result (bound-free s.pool.now s.table.now s.f look o (sym c.open_of.ensures ∙ ap toldAlone c.in-Of.is) ∙ t.is) (c.put_in.ensures a t.type w t.held)
+    let o = openOf c.in-Some.o in
+    let t = lent-type s.pool.now s.table.now look o l (c.look_up.ensures look l.tabled) c.in-Some-look_up.is in
+    put-bound s.pool.now s.table.now s.f look a t.type c.put_in.result (bound-free s.pool.now s.table.now s.f look o (sym c.open_of.ensures ∙ ap (toldOptionBy openOf) c.in-Some.is) ∙ t.is) (c.put_in.ensures a t.type w t.held)
 
-pub returns-in-Nothing : goal.returns-in-Nothing
-returns-in-Nothing c = λ a look w l.
+pub returns-in-None-look_up : goal.returns-in-None-look_up
+returns-in-None-look_up c = λ a look w l.
     let s = c.args in
-    let o = openOf c.in-Of.o in
+    let o = openOf c.in-Some.o in
     c.made.ensures a w.is ∙ ap answer (put-none s.pool.now s.table.now s.f look a
-    (bound-free s.pool.now s.table.now s.f look o (sym c.open_of.ensures ∙ ap toldAlone c.in-Of.is) ∙ not_found s.v.now (look o) (c.look_up.ensures look l.tabled) c.in-Nothing.is))
+    (bound-free s.pool.now s.table.now s.f look o (sym c.open_of.ensures ∙ ap (toldOptionBy openOf) c.in-Some.is) ∙ not_found s.v.now (look o) (c.look_up.ensures look l.tabled) c.in-None-look_up.is))
 
-pub returns-in-Not : goal.returns-in-Not
-returns-in-Not c = λ a look w l.
+pub returns-in-None : goal.returns-in-None
+returns-in-None c = λ a look w l.
     let s = c.args in
-    c.made-in-Not.ensures a w.is ∙ ap answer (put-none s.pool.now s.table.now s.f look a (bound-base s.pool.now s.table.now s.f look (sym c.open_of.ensures ∙ ap toldAlone c.in-Not.is)))
+    c.made-in-None.ensures a w.is ∙ ap answer (put-none s.pool.now s.table.now s.f look a (bound-base s.pool.now s.table.now s.f look (sym c.open_of.ensures ∙ ap (toldOptionBy openOf) c.in-None.is)))

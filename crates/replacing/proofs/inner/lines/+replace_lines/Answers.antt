@@ -1,5 +1,6 @@
 -- `replace_lines` meets its contract: what is left of the run falls.
 use native.Mathlib.Omega.{arith}
+use Rattle.std.proofs.lemmas.Result.{err_from_is_err_and}
 use Rattle.replacing.proofs.LineSteps.{before, lines-done, lines-here, lines-stop, lines-asks, lines_next}
 use Rattle.replacing.proofs.inner.lines.+replace_lines.Goals as goal
 
@@ -16,15 +17,15 @@ replace_line-requires t c =
 pub replace_lines-requires : goal.replace_lines-requires
 replace_lines-requires t c =
     let a = c.args in
-    let h = lines_next a.pool.now a.table.now a.s.now a.places.now a.v.now a.at a.end a.out c.requires.room c.requires.by_index.0 c.requires.by_index.1 c.requires.held_lines.0 c.requires.held_lines.1 (before c.if-end-at.false) c.replace_line.ensures c.in-To.is in
+    let h = lines_next a.pool.now a.table.now a.s.now a.places.now a.v.now a.at a.end a.out c.requires.room c.requires.by_index.0 c.requires.by_index.1 c.requires.held_lines.0 c.requires.held_lines.1 (before c.if-end-at.false) c.replace_line.ensures c.in_ok-q.was in
     (omega (arith, c.decreases, h.1, h.2), (c.requires.good, (h.0, (c.requires.by_index, (c.requires.end_in_bounds, h.3)))))
 
-pub returns-in-To : goal.returns-in-To
-returns-in-To t c =
+pub returns : goal.returns
+returns t c =
     let a = c.args in
-    lines-here a.pool.now a.table.now a.s.now a.places.now a.v.now a.at a.end a.out (before c.if-end-at.false) c.replace_line.ensures c.in-To.is c.replace_lines.ensures
+    lines-here a.pool.now a.table.now a.s.now a.places.now a.v.now a.at a.end a.out (before c.if-end-at.false) c.replace_line.ensures c.in_ok-q.was c.replace_lines.ensures
 
-pub returns-in-Stop : goal.returns-in-Stop
-returns-in-Stop t c =
+pub returns-in_err-q : goal.returns-in_err-q
+returns-in_err-q t c =
     let a = c.args in
-    lines-stop a.pool.now a.table.now a.s.now a.places.now a.v.now a.at a.end a.out (before c.if-end-at.false) c.replace_line.ensures c.in-Stop.is
+    let p = err_from_is_err_and c.from_residual.result c.from_residual.ensures.1 in rw (p.1, p.2) (lines-stop a.pool.now a.table.now a.s.now a.places.now a.v.now a.at a.end a.out (before c.if-end-at.false) c.replace_line.ensures c.in_err-q.was)

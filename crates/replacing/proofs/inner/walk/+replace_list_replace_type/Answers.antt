@@ -2,6 +2,7 @@
 use mathlib.Core.Path.{sym, subst}
 use Rattle.replacing.specs.Left.{Replaced}
 use native.Mathlib.Omega.{arith}
+use Rattle.std.proofs.lemmas.Result.{err_from_is_err_and}
 use lib.ListN.{length}
 use Rattle.records.specs.ByView.{in_reach}
 use Rattle.replacing.proofs.Steps.{open-here, basic-here, dim-here, list-here, fn-here, fn-stop, struct-here, struct-stop, other-here, row_done, row_here, row-stop, list-asks, dim-asks, fn_asks, struct-asks, fn-next, struct-next, list-behind, fn-behind, struct-behind, row-asks, row-past, row_next}
@@ -35,7 +36,7 @@ replace_list-replace_type-requires t c =
 pub replace_list-overflow_sub-o : goal.replace_list-overflow_sub-o
 replace_list-overflow_sub-o t c =
     let a = c.args in
-    row-past a.pool.now a.table.now a.s.now a.places.now a.v.now a.at a.out c.requires.room c.requires.by_index.0 c.requires.by_index.1 a.n a.fields c.if-n-eq0.false c.heads-h.ensures c.requires.held_row.0 c.requires.held_row.1 c.replace_type.ensures c.in-To.is
+    row-past a.pool.now a.table.now a.s.now a.places.now a.v.now a.at a.out c.requires.room c.requires.by_index.0 c.requires.by_index.1 a.n a.fields c.if-n-eq0.false c.heads-h.ensures c.requires.held_row.0 c.requires.held_row.1 c.replace_type.ensures c.in_ok-q.was
 
 pub replace_list-put_head-requires : goal.replace_list-put_head-requires
 replace_list-put_head-requires t c =
@@ -44,18 +45,18 @@ replace_list-put_head-requires t c =
 pub replace_list-replace_list-requires : goal.replace_list-replace_list-requires
 replace_list-replace_list-requires t c =
     let a = c.args in
-    let h = row_next a.pool.now a.table.now a.s.now a.places.now a.v.now a.at a.out c.requires.room c.requires.by_index.0 c.requires.by_index.1 a.n a.fields c.if-n-eq0.false c.heads-h.ensures c.requires.held_row.0 c.requires.held_row.1 c.replace_type.ensures c.in-To.is in
+    let h = row_next a.pool.now a.table.now a.s.now a.places.now a.v.now a.at a.out c.requires.room c.requires.by_index.0 c.requires.by_index.1 a.n a.fields c.if-n-eq0.false c.heads-h.ensures c.requires.held_row.0 c.requires.held_row.1 c.replace_type.ensures c.in_ok-q.was in
     (omega (arith, c.decreases, h.1, h.2), (c.requires.good, (h.0, (c.requires.by_index, (h.2, h.3)))))
 
-pub replace_list-returns-in-To : goal.replace_list-returns-in-To
-replace_list-returns-in-To t c =
+pub replace_list-returns : goal.replace_list-returns
+replace_list-returns t c =
     let a = c.args in
-    row_here a.pool.now a.table.now a.s.now a.places.now a.v.now a.at a.out a.n a.fields a.dst.now c.if-n-eq0.false c.heads-h.ensures c.replace_type.ensures c.in-To.is c.put_head.ensures c.replace_list.ensures
+    row_here a.pool.now a.table.now a.s.now a.places.now a.v.now a.at a.out a.n a.fields a.dst.now c.if-n-eq0.false c.heads-h.ensures c.replace_type.ensures c.in_ok-q.was c.put_head.ensures c.replace_list.ensures
 
-pub replace_list-returns-in-Stop : goal.replace_list-returns-in-Stop
-replace_list-returns-in-Stop t c =
+pub replace_list-returns-in_err-q : goal.replace_list-returns-in_err-q
+replace_list-returns-in_err-q t c =
     let a = c.args in
-    row-stop a.pool.now a.table.now a.s.now a.places.now a.v.now a.at a.out a.n a.fields a.dst.now c.if-n-eq0.false c.heads-h.ensures c.replace_type.ensures c.in-Stop.is
+    let p = err_from_is_err_and c.from_residual.result c.from_residual.ensures.1 in rw (p.1, p.2) (row-stop a.pool.now a.table.now a.s.now a.places.now a.v.now a.at a.out a.n a.fields a.dst.now c.if-n-eq0.false c.heads-h.ensures c.replace_type.ensures c.in_err-q.was)
 
 pub replace_type-replace_open-n-requires : goal.replace_type-replace_open-n-requires
 replace_type-replace_open-n-requires t c = let here : c.args.at < length c.args.s.now / 4 = in_reach c.args.s.now c.requires.by_index.0 c.args.at c.requires.by_index.1.held in
@@ -119,14 +120,14 @@ replace_type-replace_list-requires t c = let here : c.args.at < length c.args.s.
 pub replace_type-replace_type-r-requires : goal.replace_type-replace_type-r-requires
 replace_type-replace_type-r-requires t c = let here : c.args.at < length c.args.s.now / 4 = in_reach c.args.s.now c.requires.by_index.0 c.args.at c.requires.by_index.1.held in
     let a = c.args in
-    let h = fn-next a.pool.now a.table.now a.s.now a.places.now a.v.now a.at a.out c.requires.room c.requires.by_index_2.0 c.requires.by_index_2.1 c.requires.by_index c.view_at-w.ensures c.in-Function.is c.replace_list.ensures c.in-To.is in
+    let h = fn-next a.pool.now a.table.now a.s.now a.places.now a.v.now a.at a.out c.requires.room c.requires.by_index_2.0 c.requires.by_index_2.1 c.requires.by_index c.view_at-w.ensures c.in-Function.is c.replace_list.ensures c.in_ok-q-in-Function.was in
     (omega (arith, c.decreases, h.1, h.2, here), (c.requires.good, (h.0, (c.requires.by_index_2, h.3))))
 
 pub replace_type-put_before-requires : goal.replace_type-put_before-requires
 replace_type-put_before-requires t c = let here : c.args.at < length c.args.s.now / 4 = in_reach c.args.s.now c.requires.by_index.0 c.args.at c.requires.by_index.1.held in
     let space : c.args.out + (length c.args.s.now / 4 - c.args.at) * 2048 ≤ 1_000_000_000 = c.requires.room.small in
     let a = c.args in
-    record { out_bound = omega (arith, here, space); behind = fn-behind a.pool.now a.table.now a.s.now a.places.now a.v.now a.at a.out c.requires.room c.requires.by_index_2.0 c.requires.by_index_2.1 c.requires.by_index c.view_at-w.ensures c.in-Function.is c.replace_list.ensures c.in-To.is c.replace_type-r.ensures }
+    record { out_bound = omega (arith, here, space); behind = fn-behind a.pool.now a.table.now a.s.now a.places.now a.v.now a.at a.out c.requires.room c.requires.by_index_2.0 c.requires.by_index_2.1 c.requires.by_index c.view_at-w.ensures c.in-Function.is c.replace_list.ensures c.in_ok-q-in-Function.was c.replace_type-r.ensures }
 
 pub replace_type-overflow_add-at-in-Struct : goal.replace_type-overflow_add-at-in-Struct
 replace_type-overflow_add-at-in-Struct t c = let here : c.args.at < length c.args.s.now / 4 = in_reach c.args.s.now c.requires.by_index.0 c.args.at c.requires.by_index.1.held in
@@ -147,14 +148,14 @@ replace_type-replace_list-requires-in-Struct t c = let here : c.args.at < length
 pub replace_type-replace_list-r-requires : goal.replace_type-replace_list-r-requires
 replace_type-replace_list-r-requires t c = let here : c.args.at < length c.args.s.now / 4 = in_reach c.args.s.now c.requires.by_index.0 c.args.at c.requires.by_index.1.held in
     let a = c.args in
-    let h = struct-next a.pool.now a.table.now a.s.now a.places.now a.v.now a.at a.out c.requires.room c.requires.by_index_2.0 c.requires.by_index_2.1 c.requires.by_index c.view_at-w.ensures c.in-Struct.is c.replace_list-in-Struct.ensures c.in-To-replace_list.is in
+    let h = struct-next a.pool.now a.table.now a.s.now a.places.now a.v.now a.at a.out c.requires.room c.requires.by_index_2.0 c.requires.by_index_2.1 c.requires.by_index c.view_at-w.ensures c.in-Struct.is c.replace_list-in-Struct.ensures c.in_ok-q-in-Struct.was in
     (omega (arith, c.decreases, h.1, h.2, here), (c.requires.good, (h.0, (c.requires.by_index_2, (h.2, h.3)))))
 
-pub replace_type-put_before-requires-in-To-replace_list : goal.replace_type-put_before-requires-in-To-replace_list
-replace_type-put_before-requires-in-To-replace_list t c = let here : c.args.at < length c.args.s.now / 4 = in_reach c.args.s.now c.requires.by_index.0 c.args.at c.requires.by_index.1.held in
+pub replace_type-put_before-requires-in-Struct : goal.replace_type-put_before-requires-in-Struct
+replace_type-put_before-requires-in-Struct t c = let here : c.args.at < length c.args.s.now / 4 = in_reach c.args.s.now c.requires.by_index.0 c.args.at c.requires.by_index.1.held in
     let space : c.args.out + (length c.args.s.now / 4 - c.args.at) * 2048 ≤ 1_000_000_000 = c.requires.room.small in
     let a = c.args in
-    record { out_bound = omega (arith, here, space); behind = struct-behind a.pool.now a.table.now a.s.now a.places.now a.v.now a.at a.out c.requires.room c.requires.by_index_2.0 c.requires.by_index_2.1 c.requires.by_index c.view_at-w.ensures c.in-Struct.is c.replace_list-in-Struct.ensures c.in-To-replace_list.is c.replace_list-r.ensures }
+    record { out_bound = omega (arith, here, space); behind = struct-behind a.pool.now a.table.now a.s.now a.places.now a.v.now a.at a.out c.requires.room c.requires.by_index_2.0 c.requires.by_index_2.1 c.requires.by_index c.view_at-w.ensures c.in-Struct.is c.replace_list-in-Struct.ensures c.in_ok-q-in-Struct.was c.replace_list-r.ensures }
 
 pub replace_type-overflow_add-at-in-List : goal.replace_type-overflow_add-at-in-List
 replace_type-overflow_add-at-in-List t c = let here : c.args.at < length c.args.s.now / 4 = in_reach c.args.s.now c.requires.by_index.0 c.args.at c.requires.by_index.1.held in
@@ -193,25 +194,25 @@ replace_type-returns-in-Dim t c =
     let a = c.args in
     dim-here a.pool.now a.table.now a.s.now a.places.now a.v.now a.at a.out c.view_at-w.ensures c.in-Dim.is c.replace_dim.ensures
 
-pub replace_type-returns-in-To : goal.replace_type-returns-in-To
-replace_type-returns-in-To t c =
+pub replace_type-returns-in_ok-q-in-Function : goal.replace_type-returns-in_ok-q-in-Function
+replace_type-returns-in_ok-q-in-Function t c =
     let a = c.args in
-    subst (Replaced a.pool.now a.table.now a.s.now a.places.now a.v.now a.dst.now _ a.at a.out) (sym c.put_before.ensures.0) (fn-here a.pool.now a.table.now a.s.now a.places.now a.v.now a.at a.out {d = a.dst.now} c.view_at-w.ensures c.in-Function.is c.replace_list.ensures c.in-To.is c.replace_type-r.ensures c.put_before.ensures.1)
+    subst (Replaced a.pool.now a.table.now a.s.now a.places.now a.v.now a.dst.now _ a.at a.out) (sym c.put_before.ensures.0) (fn-here a.pool.now a.table.now a.s.now a.places.now a.v.now a.at a.out {d = a.dst.now} c.view_at-w.ensures c.in-Function.is c.replace_list.ensures c.in_ok-q-in-Function.was c.replace_type-r.ensures c.put_before.ensures.1)
 
-pub replace_type-returns-in-Stop : goal.replace_type-returns-in-Stop
-replace_type-returns-in-Stop t c =
+pub replace_type-returns-in_err-q-in-Function : goal.replace_type-returns-in_err-q-in-Function
+replace_type-returns-in_err-q-in-Function t c =
     let a = c.args in
-    fn-stop a.pool.now a.table.now a.s.now a.places.now a.v.now a.at a.out c.view_at-w.ensures c.in-Function.is c.replace_list.ensures c.in-Stop.is
+    let p = err_from_is_err_and c.from_residual.result c.from_residual.ensures.1 in rw (p.1, p.2) (fn-stop a.pool.now a.table.now a.s.now a.places.now a.v.now a.at a.out c.view_at-w.ensures c.in-Function.is c.replace_list.ensures c.in_err-q-in-Function.was)
 
-pub replace_type-returns-in-To-replace_list : goal.replace_type-returns-in-To-replace_list
-replace_type-returns-in-To-replace_list t c =
+pub replace_type-returns-in_ok-q-in-Struct : goal.replace_type-returns-in_ok-q-in-Struct
+replace_type-returns-in_ok-q-in-Struct t c =
     let a = c.args in
-    subst (Replaced a.pool.now a.table.now a.s.now a.places.now a.v.now a.dst.now _ a.at a.out) (sym c.put_before-in-To-replace_list.ensures.0) (struct-here a.pool.now a.table.now a.s.now a.places.now a.v.now a.at a.out {d = a.dst.now} c.view_at-w.ensures c.in-Struct.is c.replace_list-in-Struct.ensures c.in-To-replace_list.is c.replace_list-r.ensures c.put_before-in-To-replace_list.ensures.1)
+    subst (Replaced a.pool.now a.table.now a.s.now a.places.now a.v.now a.dst.now _ a.at a.out) (sym c.put_before-in-Struct.ensures.0) (struct-here a.pool.now a.table.now a.s.now a.places.now a.v.now a.at a.out {d = a.dst.now} c.view_at-w.ensures c.in-Struct.is c.replace_list-in-Struct.ensures c.in_ok-q-in-Struct.was c.replace_list-r.ensures c.put_before-in-Struct.ensures.1)
 
-pub replace_type-returns-in-Stop-replace_list : goal.replace_type-returns-in-Stop-replace_list
-replace_type-returns-in-Stop-replace_list t c =
+pub replace_type-returns-in_err-q-in-Struct : goal.replace_type-returns-in_err-q-in-Struct
+replace_type-returns-in_err-q-in-Struct t c =
     let a = c.args in
-    struct-stop a.pool.now a.table.now a.s.now a.places.now a.v.now a.at a.out c.view_at-w.ensures c.in-Struct.is c.replace_list-in-Struct.ensures c.in-Stop-replace_list.is
+    let p = err_from_is_err_and c.from_residual-in_err-q-in-Struct.result c.from_residual-in_err-q-in-Struct.ensures.1 in rw (p.1, p.2) (struct-stop a.pool.now a.table.now a.s.now a.places.now a.v.now a.at a.out c.view_at-w.ensures c.in-Struct.is c.replace_list-in-Struct.ensures c.in_err-q-in-Struct.was)
 
 pub replace_type-returns-in-List : goal.replace_type-returns-in-List
 replace_type-returns-in-List t c =

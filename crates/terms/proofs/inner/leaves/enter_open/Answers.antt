@@ -8,7 +8,7 @@ use Rattle.terms.proofs.inner.leaves.enter_open.Goals as goal
 
 pub count-counted-requires : goal.count-counted-requires
 count-counted-requires c =
-    record { k_bound = omega arith; few = (λ k n e. (c.requires.room k n e).records) }
+    record { small = omega arith; few = (λ k n e. (c.requires.room k n e).records) }
 
 pub read_named-x-requires : goal.read_named-x-requires
 read_named-x-requires c =

@@ -10,7 +10,7 @@ returns-then-long-gt-NAME_BYTES c = λ n f. too_long _ _ n (omega (arith, f.coun
 
 pub slice_bounds-enter_good-end : goal.slice_bounds-enter_good-end
 slice_bounds-enter_good-end c =
-    sym (length-take-le c.args.long c.args.bytes.now (omega (arith, c.requires.bytes_len, c.if-long-gt-NAME_BYTES.false)))
+    sym (length-take-le c.args.long c.args.bytes.now (omega (arith, c.requires.size, c.if-long-gt-NAME_BYTES.false)))
 
 pub returns : goal.returns
 returns c =

@@ -10,7 +10,7 @@ use Rattle.terms.proofs.inner.naming.read_named.Goals as goal
 pub enter_at-requires : goal.enter_at-requires
 enter_at-requires c =
     let f : c.in-Ok-Some.field-0 ≡ Some c.in-Ok-Some.i = rw c.in-Ok-Some.is at c.in-Ok-Some.field-0-is in
-    record { at_in_bounds = rw (c.in-Ok-Some.is, f) at c.requires.within; good = c.requires.good; room = c.requires.room _ _ c.in-Ok.is }
+    record { within = rw (c.in-Ok-Some.is, f) at c.requires.within; good = c.requires.good; room = c.requires.room _ _ c.in-Ok.is }
 
 pub returns-in_default : goal.returns-in_default
 returns-in_default c = λ dst. only-reads named c.requires.good c.in_default.is c.read_name.ensures
