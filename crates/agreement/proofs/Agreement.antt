@@ -359,8 +359,8 @@ module _ (pool table set result work : List ℕ) where
       go (got (unsettled cs)) i = let z : someLeft (sum_of sizeCon cs) ≡ refusedWith n = rw i at e in let y : ◌≡◌ {A = ℕ} 0 1 = cc in absurd (omega arith)
 
   -- 'where neither engine answers 7 or 8, both refuse alike ..'. It is enough that this engine doesn't
-  pub document-02 : ((n : ℕ) → (n ≡ 7) ⊎ (n ≡ 8) → (eliminateCall pool table set result work).answer ≡ refusedWith n → ⊥) → Alike pool table set result work
-  document-02 none-of-these = go (eliminateCall pool table set result work).answer refl
+  pub unless-limited : ((n : ℕ) → (n ≡ 7) ⊎ (n ≡ 8) → (eliminateCall pool table set result work).answer ≡ refusedWith n → ⊥) → Alike pool table set result work
+  unless-limited none-of-these = go (eliminateCall pool table set result work).answer refl
     where
       agreed : Agree pool table set result work
       agreed = without-8 (none-of-these 8 (inr refl))

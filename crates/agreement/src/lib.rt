@@ -4,7 +4,7 @@
 ghost use Rattle.agreement.specs.Theorems.{EnginesAgree};
 
 /// On every input the second engine answers what the solver answers without the rounds, 7 included, or 8 where the set does not fit it; a set that
-/// fits is never refused with 8 (`always`, `unfit-answer`, `on-fitting`, `only-7`, `document-02`). `eliminating::eliminate` equals the engine's call.
+/// fits is never refused with 8 (`always`, `unfit-answer`, `on-fitting`, `only-7`, `unless-limited`). `eliminating::eliminate` equals the engine's call.
 pub fn engines_agree()
     ensures { EnginesAgree }
 {}

@@ -1,4 +1,4 @@
-use Rattle.agreement.proofs.Agreement.{always, unfit-answer, on-fitting, only-7, document-02}
+use Rattle.agreement.proofs.Agreement.{always, unfit-answer, on-fitting, only-7, unless-limited}
 use Rattle.agreement.proofs.engines_agree.Goals as goal
 
 pub returns : goal.returns
@@ -7,5 +7,5 @@ returns c = λ pool table set result work. record {
   unfit-answer = unfit-answer pool table set result work;
   on-fitting = on-fitting pool table set result work;
   only-7 = only-7 pool table set result work;
-  alike = document-02 pool table set result work;
+  alike = unless-limited pool table set result work;
 }
