@@ -4,7 +4,7 @@ ghost use Rattle.std.specs.Prelude.{◌≤◌, length};
 use names::old::check_number;
 use names::{compare, enter, name_of};
 use saying::told::{Told, checked, numbered, ordered, short};
-use saying::words::{byte_word, fill, fill_bytes, fill_low, fill_words, put, wide, word_of};
+use saying::words::{byte_word, fill, fill_bytes, fill_low, fill_words, put, word_of};
 
 // Names, pools and tables are looked at as far as these go: a longer name is refused in any case, and no longer pool or table is lent.
 const NAME: usize = 512;
@@ -63,7 +63,7 @@ fn put_pool(before: &[u8], after: &[u8], res: &mut [u32]) -> usize {
     let mut next = 0;
     let mut i = 0;
     while i < after.len() {
-        next = put_change(res, next, i, byte_word(before, i), wide(after[i]));
+        next = put_change(res, next, i, byte_word(before, i), after[i] as u32);
         i += 1;
     }
     next
