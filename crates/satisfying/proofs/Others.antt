@@ -110,11 +110,6 @@ no-dimension s {t} e n = subst (λ (u : Ty ℕ). got (dimensionParts (productOf 
 
 -- ══ The other factors ══
 
-pub few-factors : (s : List ℕ) (p : Product ℕ) (at : ℕ) → HoldsFactors s p at → length s ≤ 100_000 → length p ≤ 30_000
-unfolding HoldsFactors
-few-factors s [] at h n = omega arith
-few-factors s (a ↑ frac m d ∷ p) at h n = let k : at < length s / 4 = seen-in s at h.0.0 tt in omega (arith, n, factors-in s p (at + 1) (omega arith) h.1)
-
 factor-rec : (a : atoms.Atom) (e : Exponent) → recOf (view.Factor a (twos e.num) e.den) (fit 1) ≡ writeFactor (atomOf a ↑ expOf e)
 unfolding writeFactor fit
 factor-rec (atoms.TheVariants.Free (opens.TheVariants.Var x)) e = refl
@@ -153,7 +148,7 @@ each-long f [] ys e = let q : [] ≡ ys = cc in ap length (sym q)
 each-long f (x ∷ xs) ys e = let t = each-parts f x xs ys e in ap length (sym t.both) ∙ ap suc (each-long f xs t.second t.then)
 
 module _ (x : ℕ) (f : Factor ℕ → Got (Factor ℕ)) (p : Product ℕ) where
-  pub solved : {w w₁ w₂ w₃ : Writer} {n : ℕ} (u : Unit {0}) → length p ≡ n → n ≤ 30_000 → Writes w w₁ (recOf (view.Binding x) (fit (2 + n)) ∷ [])
+  pub solved : {w w₁ w₂ w₃ : Writer} {n : ℕ} (u : Unit {0}) → length p ≡ n → n ≤ 65_000 → Writes w w₁ (recOf (view.Binding x) (fit (2 + n)) ∷ [])
       → Writes w₁ w₂ (recOf (view.Dim n) (fit (1 + n)) ∷ []) → FactorsPut w₂ w₃ (Ok u) (each f p)
       → Applied w w₃ (Ok (Bind w₃.at)) (boundTo x (each f p))
   unfolding writeBinding writeTy writeProduct sizeBinding size
