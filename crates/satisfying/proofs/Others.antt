@@ -1,10 +1,10 @@
 -- The rules for constraints other than equalities, each with what its case knows.
-use Rattle.std.specs.Prelude.{◌≡◌, true, false, Bool, List, [], ◌∷◌, map, ℕ, suc, ◌+◌, ◌/◌, ◌<◌, ◌≤◌, length, Result, Ok, Err, refl}
+use Rattle.std.specs.Prelude.{◌≡◌, true, false, Bool, List, [], ◌∷◌, map, ℕ, suc, ◌+◌, ◌≤◌, length, Result, Ok, Err, refl}
 use Rattle.std.proofs.Common.{arith, ap, sym, subst, ◌∙◌, append-nil}
 use Rattle.std.proofs.Math.Option.{none, some, get_or}
 use Rattle.rules.specs.Base.{Got, got, refused, ◌>>=◌, bounded, each, collect, and_then, only_if}
 use Rattle.rules.specs.Contents.{closed, fieldIn, namesIn}
-use Rattle.rules.specs.Exponents.{Exp, frac, neg, quotient}
+use Rattle.rules.specs.Exponents.{Exp, neg, quotient}
 use Rattle.rules.specs.Names.{Bytes, numbered}
 use Rattle.rules.specs.Refusals.{number_of}
 use Rattle.rules.specs.declared.Refusal.{Refusal}
@@ -41,9 +41,7 @@ use Rattle.exponents.specs.Answers.{expOf}
 use Rattle.exponents.specs.declared.Exponent.{Exponent}
 use Rattle.records.specs.Cut.{fit}
 use Rattle.records.specs.Views.{recOf}
-use Rattle.records.specs.Holds.{atomOf, HoldsFactors}
-use Rattle.records.specs.Places.{seen-in}
-use Rattle.records.specs.ByView.{factors-in}
+use Rattle.records.specs.Holds.{atomOf}
 use Rattle.records.specs.declared.Atom as atoms
 use Rattle.records.specs.declared.Open as opens
 use Rattle.records.specs.declared.View.TheVariants as view
