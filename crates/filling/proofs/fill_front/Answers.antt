@@ -5,8 +5,8 @@ use Rattle.std.specs.Io.KnownBytes.{Consumes}
 use Rattle.std.proofs.KnownBytes.{Consumes-trans, Consumes-kept}
 use borrow.Rule.Slice.PartMut.{put_mid, post_of}
 use lib.Seq.{take-add, take-append-le}
-use Rattle.filling.proofs.fill.Goals as goal
-use Rattle.filling.proofs.fill.Goals.{in-Ok, in-Err+else-ne}
+use Rattle.filling.proofs.fill_front.Goals as goal
+use Rattle.filling.proofs.fill_front.Goals.{in-Ok, in-Err+else-ne}
 
 take_split : (a b : ℕ) (old new : List ℕ) → a ≤ b → take a new ≡ take a old → take a old ++ slice_range new a b ≡ take b new
 take_split a b old new h front =
