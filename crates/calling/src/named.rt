@@ -1,10 +1,10 @@
 // The calls on names.
-ghost use Rattle.std.specs.Prelude.{◌≤◌, length};
+ghost use Rattle.std.specs.Prelude.{◌≡◌, ◌≤◌};
+ghost use Rattle.saying.specs.Dispatch.{shown, naming, comparing};
 
-use names::old::check_number;
-use names::{compare, enter, name_of};
-use saying::told::{Told, checked, numbered, ordered, short};
-use saying::words::{byte_word, fill, fill_bytes, fill_low, fill_words, put, wide, word_of};
+use names::{check_number, compare, enter, name_of};
+use saying::told::{Told, numbered, ordered, refused, said, short};
+use saying::words::{byte_word, fill, fill_bytes, fill_low, fill_words, put, word_of};
 
 // Names, pools and tables are looked at as far as these go: a longer name is refused in any case, and no longer pool or table is lent.
 const NAME: usize = 512;
@@ -21,28 +21,26 @@ fn within(n: usize, most: usize) -> usize
 }
 
 // The bytes of the name with this number, a word each.
-pub fn named(pool: &[u8], table: &[u32], x: u32, res: &mut [u32]) -> Told {
-    let c = checked(check_number(pool, table, x));
+pub fn named(pool: &[u8], table: &[u32], x: u32, res: &mut [u32]) -> Told
+    ensures { shown result res.new ≡ naming pool.now table.now x res.old }
+{
     let name = name_of(pool, table, x);
     fill_words(name, res);
-    Told {
-        refusal: c.refusal,
-        value: 0,
-        more: 0,
-        rounds: 0,
-        words: name.len(),
+    match check_number(pool, table, x) {
+        Ok(()) => said(0, 0, name.len()),
+        Err(why) => refused(why, 0, 0),
     }
 }
 
 // Two names, a word for each byte.
-pub fn compared(a: &[u32], b: &[u32]) -> Told {
-    let n = within(a.len(), NAME);
-    let m = within(b.len(), NAME);
+pub fn compared(a: &[u32], b: &[u32]) -> Told
+    ensures { result ≡ comparing a.now b.now }
+{
     let mut left = [0u8; NAME];
     fill_low(a, &mut left);
     let mut right = [0u8; NAME];
     fill_low(b, &mut right);
-    ordered(compare(&left[0..n], &right[0..m]))
+    ordered(compare(&left[..a.len().min(NAME)], &right[..b.len().min(NAME)]))
 }
 
 // Puts a place and its new value at the place `next`, where it is not as it was; where the next goes.
@@ -63,7 +61,7 @@ fn put_pool(before: &[u8], after: &[u8], res: &mut [u32]) -> usize {
     let mut next = 0;
     let mut i = 0;
     while i < after.len() {
-        next = put_change(res, next, i, byte_word(before, i), wide(after[i]));
+        next = put_change(res, next, i, byte_word(before, i), after[i] as u32);
         i += 1;
     }
     next

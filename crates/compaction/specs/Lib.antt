@@ -9,3 +9,4 @@ pub mod HeldNames
 pub mod Alike
 pub mod Promise
 pub mod Twice
+pub mod Theorems

@@ -15,26 +15,13 @@ ghost use Rattle.compaction.specs.Moves.{Squeezed};
 use records::inner::set_good;
 use rules::NAMES;
 
-fn wide(x: u32) -> usize
-    ensures { result ≡ x }
-{
-    x as usize
-}
-
 // Is word a of a record with this word 0 and this word b the number of a name?
+#[tactic(auto, unfolding(rules::specs::Writing::kindIn, rules::specs::Offices::namesOne, rules::specs::Base::any))]
 fn names_one(w: u32, b: u32) -> bool
     ensures { result ≡ namesOne (kindIn w) b }
 {
     match w % 65536 {
-        1 => true,
-        2 => true,
-        8 => true,
-        9 => true,
-        11 => true,
-        12 => true,
-        13 => true,
-        23 => true,
-        24 => true,
+        1 | 2 | 8 | 9 | 11 | 12 | 13 | 23 | 24 => true,
         25 => b == 0,
         _ => false,
     }
@@ -46,11 +33,9 @@ fn note(m: &mut [bool; NAMES], n: usize, named: bool, a: u32)
     requires n_bound { n ≤ 256 }
     ensures { Noted m.old m.new n named a }
 {
-    let i = wide(a);
-    if named {
-        if i < n {
-            m[i] = true;
-        }
+    let i = a as usize;
+    if named && i < n {
+        m[i] = true;
     }
 }
 
@@ -78,7 +63,7 @@ fn number_of(m: &[bool; NAMES], a: u32) -> u32
     requires { length m.now ≡ 256 }
     ensures { result ≡ newNumber (marks m.now) a }
 {
-    let e = wide(a);
+    let e = a as usize;
     let mut i = 0;
     let mut k = 0;
     while i < e {
@@ -99,7 +84,7 @@ fn numbers(m: &[bool; NAMES], to: &mut [u32; NAMES])
 {
     let mut i: u32 = 0;
     while i < 256 {
-        to[wide(i)] = number_of(m, i);
+        to[i as usize] = number_of(m, i);
         i += 1;
     }
 }
@@ -113,7 +98,7 @@ fn new_word(m: &[bool; NAMES], to: &[u32; NAMES], w: u32, a: u32, b: u32) -> u32
     if !names_one(w, b) {
         return a;
     }
-    let i = wide(a);
+    let i = a as usize;
     if i < NAMES { to[i] } else { number_of(m, a) }
 }
 
@@ -177,13 +162,13 @@ pub fn squeeze(pool: &mut [u8], table: &mut [u32], m: &[bool; NAMES]) -> usize
     requires { Good pool.old table.old }
     ensures { Squeezed (marks m.now) pool.old table.old pool.new table.new result }
 {
-    let n = wide(table[0]);
+    let n = table[0] as usize;
     let mut i = 0;
     let mut from = 0;
     let mut k = 0;
     let mut out = 0;
     while i < n {
-        let end = wide(table[i + 1]);
+        let end = table[i + 1] as usize;
         i += 1;
         if !m[i - 1] {
             from = end;
@@ -235,7 +220,7 @@ pub fn sets_given(pool: &[u8], table: &[u32], sets: &[u32], lengths: &[u32]) -> 
     let mut i = 0;
     let mut from = 0;
     while i < lengths.len() {
-        let long = wide(lengths[i]) * 4;
+        let long = lengths[i] as usize * 4;
         if sets.len() - from < long {
             return false;
         }

@@ -1,5 +1,5 @@
 -- The checks of a set past that of 10, and what is known where they are met; and the whole call.
-use Rattle.std.specs.Prelude.{◌≡◌, refl, ◌&&◌, List, [], ◌∷◌, ℕ, ◌/◌, ◌≤◌, leb, length, replicate}
+use Rattle.std.specs.Prelude.{◌≡◌, refl, Err, ◌&&◌, List, [], ◌∷◌, ℕ, ◌/◌, ◌≤◌, leb, length, replicate}
 use Rattle.std.proofs.Common.{arith}
 use Rattle.std.proofs.Math.Path.{ap}
 use Rattle.std.proofs.Math.Bool.{true}
@@ -20,9 +20,7 @@ use Rattle.queries.specs.Marks.{Small}
 use Rattle.queries.specs.Runs.{set-small, set-opens}
 use Rattle.queries.specs.Scans.{opensIn}
 use Rattle.rules.specs.Elimination.{Settled, setChecked, fitting, eliminated, eliminatedSet, eliminatedOf, eliminatedWords, eliminateCall}
-use Rattle.eliminating.specs.declared.Outcome.{Outcome}
-use Rattle.eliminating.specs.declared.Outcome.TheVariants.{Refused}
-use Rattle.eliminating.specs.Told.{Answered, eliminationAs}
+use Rattle.eliminating.specs.Told.{Answer, Answered, eliminationAs}
 
 -- ══ A row of checks ══
 
@@ -110,14 +108,14 @@ module _ (pool table ws : List ℕ) where
 
 -- ══ The call ══
 
-pub answers-as : (a b : Got (Settled ℕ)) (result result' : List ℕ) (o : Outcome) → a ≡ b → Answered b result result' o → Answered a result result' o
+pub answers-as : (a b : Got (Settled ℕ)) (result result' : List ℕ) (o : Answer) → a ≡ b → Answered b result result' o → Answered a result result' o
 answers-as a b result result' o e h = rw e h
 
 module _ (pool table ws result work : List ℕ) where
-  pub call-short : lent pool table result work ≡ refused 10 → eliminationAs (Refused ShortBuffer) result work ≡ eliminateCall pool table ws result work
+  pub call-short : lent pool table result work ≡ refused 10 → eliminationAs (Err ShortBuffer) result work ≡ eliminateCall pool table ws result work
   unfolding eliminateCall eliminatedOf eliminatedWords resultAfter workAfter
   call-short e = rw e
 
-  pub called : (w result' work' : List ℕ) (o : Outcome) → length w ≡ length work → lent pool table result work ≡ got tt → Answered (eliminatedSet (table_of pool table) ws) result result' o → work' ≡ replicate (length w) 0 → eliminationAs o result' work' ≡ eliminateCall pool table ws result work
+  pub called : (w result' work' : List ℕ) (o : Answer) → length w ≡ length work → lent pool table result work ≡ got tt → Answered (eliminatedSet (table_of pool table) ws) result result' o → work' ≡ replicate (length w) 0 → eliminationAs o result' work' ≡ eliminateCall pool table ws result work
   unfolding eliminateCall workAfter
   called w result' work' o n e a z = rw (e, a.answer, a.buffer, z, n)

@@ -1,5 +1,5 @@
 -- What the rows of a set come to is what the definition says.
-use Rattle.std.specs.Prelude.{◌≡◌, Bool, false, ℕ, zero, suc, ◌+◌, ◌≤◌, get_or, ◌&&◌}
+use Rattle.std.specs.Prelude.{◌≡◌, Bool, false, ℕ, ◌+◌, ◌≤◌, get_or, ◌&&◌, Result, Ok, Err}
 use Rattle.std.proofs.Math.Path.{refl, ap, sym}
 use Rattle.std.proofs.Common.{◌∙◌, subst, arith}
 use mathlib.Core.List.{List, [], ◌∷◌, ◌++◌, map}
@@ -30,20 +30,24 @@ use Rattle.rules.specs.Elimination.{Row, eliminate, Settled, settledBy, scalarOf
 use Rattle.elimination.specs.Grids.{rowsIn}
 use Rattle.elimination.specs.Machine.{colsIn, pairValues, Laid, Running, rest, endOr, Ended, names-long}
 use Rattle.eliminating.specs.declared.inner.Reduced.{Reduced}
+use Rattle.rules.specs.Refusals.{toldBy}
+use Rattle.rules.specs.declared.Refusal.{Refusal}
 
-abbrev pub settledOr : ℕ → Columns → Machine → Got (Settled ℕ)
-settledOr zero k m = got (settledBy (colsIn k) (take m.stay (rowsIn m.kept)) (pairValues (take m.found m.names) (take m.found (rowsIn m.values))))
-settledOr (suc n) k m = refused (suc n)
+-- what stays, or else the values
+abbrev pub settledIn : Columns → Machine → Settled ℕ
+settledIn k m = settledBy (colsIn k) (take m.stay (rowsIn m.kept)) (pairValues (take m.found m.names) (take m.found (rowsIn m.values)))
 
--- columns and a machine that can be written; 0, 7 or 8
-pub record Ready (r : Reduced) : Type 0 where
-  pub laid : Laid r.columns
-  pub running : Running r.machine
-  pub known : (r.refusal ≡ 0 → ⊥) → (r.refusal ≡ 7 → ⊥) → r.refusal ≡ 8
+abbrev pub settledOf : Reduced → Settled ℕ
+settledOf r = settledIn r.columns r.machine
 
-pub record ReducedAs (pool table : List ℕ) (cs : List (Con ℕ)) (r : Reduced) : Type 0 where
+-- columns and a machine that can be written
+abbrev pub Ready : Result Reduced Refusal → Type 0
+Ready (Ok r) = Laid r.columns × Running r.machine
+Ready (Err e) = Unit {0}
+
+pub record ReducedAs (pool table : List ℕ) (cs : List (Con ℕ)) (r : Result Reduced Refusal) : Type 0 where
   pub ready : Ready r
-  pub is : settledOr r.refusal r.columns r.machine ≡ (fitting (numbers pool table) cs >>= λ ps. eliminated (numbers pool table) ps)
+  pub is : toldBy settledOf r ≡ (fitting (numbers pool table) cs >>= λ ps. eliminated (numbers pool table) ps)
 
 module _ (pool table : List ℕ) (cs : List (Con ℕ)) where
   abbrev pub ν : Names ℕ

@@ -1,5 +1,5 @@
 -- What is written is the answer, and fits the result buffer: at most 24 rows or values, of at most 50 records each.
-use Rattle.std.specs.Prelude.{◌≡◌, refl, length, take, drop}
+use Rattle.std.specs.Prelude.{◌≡◌, refl, length, take, drop, Ok, Err}
 use Rattle.std.proofs.Math.Path.{ap}
 use Rattle.std.proofs.Common.{◌∙◌, sym, arith, zero-add, length-append, length-take-le}
 use mathlib.Core.List.{List, [], ◌∷◌, ◌++◌, map}
@@ -11,8 +11,6 @@ use Rattle.rules.specs.Refusals.{number_of}
 use Rattle.rules.specs.Trees.{Con, is_scalar, size, sizeCon, sizeBinding}
 use Rattle.rules.specs.Writing.{Rec, words, writeCon, writeBinding}
 use Rattle.rules.specs.declared.Refusal.{Refusal}
-use Rattle.rules.specs.declared.Refusal.TheVariants.{OutOfRange, TooLarge}
-use Rattle.eliminating.specs.declared.inner.Reduced.{Reduced}
 use Rattle.laws.specs.Size.{words-length, size-con, size-binding, set-length, bindings-length}
 use Rattle.elimination.specs.declared.inner.grids.Columns.{Columns}
 use Rattle.elimination.specs.declared.inner.grids.Machine.{Machine}
@@ -21,10 +19,9 @@ use Rattle.elimination.specs.Grids.{rowsIn, grid-long}
 use Rattle.elimination.specs.Machine.{colsIn, Laid, laid-few, pairValues, Running}
 use Rattle.agreement.proofs.Rows.{factors-few}
 use Rattle.laying.specs.Atoms.{cols-long}
-use Rattle.eliminating.specs.declared.Outcome.{Outcome}
-use Rattle.eliminating.specs.declared.Outcome.TheVariants.{Bound, Left, Refused}
+use Rattle.eliminating.specs.declared.Eliminated.TheVariants.{Bound, Left}
 use Rattle.eliminating.specs.Put.{Put, pair-long}
-use Rattle.eliminating.specs.Reducing.{settledOr}
+use Rattle.eliminating.specs.Reducing.{settledIn}
 use Rattle.eliminating.specs.Told.{Answered}
 
 few-all : {A B : Type 0} (f : B → List Rec) (g : A → B) (xs : List A) → ((x : A) → length (f (g x)) ≤ 50) → length (collect f (map g xs)) ≤ 50 * length xs
@@ -46,7 +43,7 @@ module _ (k : Columns) (l : Laid k) where
   value-few (x gets r) = omega (arith, size-binding (boundBy (colsIn k) (x gets r)), factors-few (colsIn k) r, cols-long k l, laid-few k l)
 
   left-answered : (rows : List Row) (vs : List (Value ℕ)) (d d' : List ℕ) (n : ℕ) → 0 < length rows → length rows ≤ 24 → 8192 ≤ length d
-      → Put d d' 0 n (collect writeCon (map (λ r. is_scalar (factors (colsIn k) r)) rows)) → Answered (got (settledBy (colsIn k) rows vs)) d d' (Left n)
+      → Put d d' 0 n (collect writeCon (map (λ r. is_scalar (factors (colsIn k) r)) rows)) → Answered (got (settledBy (colsIn k) rows vs)) d d' (Ok (Left n))
   unfolding settledBy eliminatedOf eliminatedWords resultAfter
   left-answered [] vs d d' n p q m h = absurd (omega arith)
   left-answered (r ∷ rows) vs d d' n p q m h =
@@ -57,7 +54,7 @@ module _ (k : Columns) (l : Laid k) where
       }
 
   bound-answered : (vs : List (Value ℕ)) (d d' : List ℕ) (n : ℕ) → length vs ≤ 24 → 8192 ≤ length d
-      → Put d d' 0 n (collect writeBinding (map (boundBy (colsIn k)) vs)) → Answered (got (settledBy (colsIn k) [] vs)) d d' (Bound n)
+      → Put d d' 0 n (collect writeBinding (map (boundBy (colsIn k)) vs)) → Answered (got (settledBy (colsIn k) [] vs)) d d' (Ok (Bound n))
   unfolding settledBy eliminatedOf eliminatedWords resultAfter
   bound-answered vs d d' n q m h = record {
     answer = ap allBound (h.many ∙ bindings-length (map (boundBy (colsIn k)) vs));
@@ -65,28 +62,18 @@ module _ (k : Columns) (l : Laid k) where
   }
 
   module _ (m : Machine) (u : Running m) (d d' : List ℕ) (n : ℕ) (room : 8192 ≤ length d) where
-    pub lines-written : 0 < m.stay → Put d d' 0 n (collect writeCon (map (λ r. is_scalar (factors (colsIn k) r)) (take m.stay (rowsIn m.kept)))) → Answered (settledOr 0 k m) d d' (Left n)
+    pub lines-written : 0 < m.stay → Put d d' 0 n (collect writeCon (map (λ r. is_scalar (factors (colsIn k) r)) (take m.stay (rowsIn m.kept)))) → Answered (got (settledIn k m)) d d' (Ok (Left n))
     lines-written p h =
         let e = length-take-le m.stay (rowsIn m.kept) (omega (arith, grid-long m.kept u.kept-wide, u.room)) in
         left-answered (take m.stay (rowsIn m.kept)) (pairValues (take m.found m.names) (take m.found (rowsIn m.values))) d d' n (omega (arith, e, p)) (omega (arith, e, u.room)) room h
 
-    pub values-written : m.stay ≡ 0 → Put d d' 0 n (collect writeBinding (map (boundBy (colsIn k)) (pairValues (take m.found m.names) (take m.found (rowsIn m.values))))) → Answered (settledOr 0 k m) d d' (Bound n)
+    pub values-written : m.stay ≡ 0 → Put d d' 0 n (collect writeBinding (map (boundBy (colsIn k)) (pairValues (take m.found m.names) (take m.found (rowsIn m.values))))) → Answered (got (settledIn k m)) d d' (Ok (Bound n))
     values-written z h =
         let a = length-take-le m.found m.names (omega (arith, u.named, u.room)) in
         let b = length-take-le m.found (rowsIn m.values) (omega (arith, grid-long m.values u.values-wide, u.room)) in
         let vs = pairValues (take m.found m.names) (take m.found (rowsIn m.values)) in
         rw z (bound-answered vs d d' n (omega (arith, pair-long (take m.found m.names) (take m.found (rowsIn m.values)) (a ∙ sym b), a, u.room)) room h)
 
-pub refused-answers : (a : Got (Settled ℕ)) (d : List ℕ) (r : Refusal) → a ≡ refused (number_of r) → Answered a d d (Refused r)
+pub refused-answers : (a : Got (Settled ℕ)) (d : List ℕ) (r : Refusal) → a ≡ refused (number_of r) → Answered a d d (Err r)
 unfolding eliminatedOf eliminatedWords resultAfter
 refused-answers a d r e = record { answer = rw e refl; buffer = rw e refl }
-
-module _ (r : Reduced) (d : List ℕ) where
-  pub told-zero : (d' : List ℕ) (o : Outcome) → r.refusal ≡ 0 → Answered (settledOr 0 r.columns r.machine) d d' o → Answered (settledOr r.refusal r.columns r.machine) d d' o
-  told-zero d' o e h = rw e h
-
-  pub told-seven : r.refusal ≡ 7 → Answered (settledOr r.refusal r.columns r.machine) d d (Refused OutOfRange)
-  told-seven e = refused-answers (settledOr r.refusal r.columns r.machine) d OutOfRange (ap (λ (n : ℕ). settledOr n r.columns r.machine) e)
-
-  pub told-eight : r.refusal ≡ 8 → Answered (settledOr r.refusal r.columns r.machine) d d (Refused TooLarge)
-  told-eight e = refused-answers (settledOr r.refusal r.columns r.machine) d TooLarge (ap (λ (n : ℕ). settledOr n r.columns r.machine) e)

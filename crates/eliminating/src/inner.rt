@@ -14,16 +14,16 @@ ghost use Rattle.elimination.specs.Grids.{rowsIn, WideGrid};
 ghost use Rattle.elimination.specs.Machine.{colsIn, Laid, pairValues, Running, rest};
 ghost use Rattle.laws.specs.NameTable.{Good};
 ghost use Rattle.records.specs.Good.{Chain, GoodCon};
-ghost use Rattle.eliminating.specs.Reducing.{Ready, ReducedAs, settledOr};
+ghost use Rattle.eliminating.specs.Reducing.{ReducedAs, settledIn};
 ghost use Rattle.eliminating.specs.Told.{Answered};
 ghost use Rattle.eliminating.specs.Entry.{entered};
-ghost use Rattle.names.specs.Old.{toldChecked};
+ghost use Rattle.rules.specs.Refusals.{told};
 ghost use Rattle.rules.specs.Base.{got};
 ghost use Rattle.rules.specs.Names.{table_of, lentTable};
 ghost use Rattle.rules.specs.Elimination.{eliminatedSet};
 ghost use Rattle.eliminating.specs.Put.{Put, OneFactor, PutProduct, PutSmall};
 
-use super::Outcome;
+use super::Eliminated;
 use elimination::inner::grids::{Columns, Grid, Machine, eliminate, row_at};
 use elimination::inner::rows::{Row, power_at};
 use exponents::Exponent;
@@ -182,38 +182,28 @@ fn machine(g: Grid, n: usize) -> Machine
     }
 }
 
-// What the rows of a set come to: 0 with the columns and the machine at its end, 7, or 8 where the set doesn't fit.
-#[derive(Drop)]
+/// What the rows of a set come to: its columns, and the machine at its end.
+#[derive(Clone, Copy)]
 pub struct Reduced {
-    pub refusal: u32,
     pub columns: Columns,
     pub machine: Machine,
 }
 
-// The set in the records before e, laid out and eliminated.
-pub fn reduce(pool: &[u8], table: &[u32], s: &[u32], e: usize) -> Reduced
+/// The set in the records before e, laid out and eliminated. Refuses with 8 where it doesn't fit, and with 7.
+pub fn reduce(pool: &[u8], table: &[u32], s: &[u32], e: usize) -> Result<Reduced, Refusal>
     requires good { Good pool.now table.now }
     requires e_bound { e ≤ 2048 }
-    requires by_index { (cs : List (Con ℕ)) × Chain (GoodCon pool.now table.now 0 s.now) e cs 0 }
+    requires a_set { (cs : List (Con ℕ)) × Chain (GoodCon pool.now table.now 0 s.now) e cs 0 }
     ensures { (cs : List (Con ℕ)) → Chain (GoodCon pool.now table.now 0 s.now) e cs 0 → ReducedAs pool.now table.now cs result }
 {
     let columns = none();
-    let empty = machine(blank(), 0);
     let kinds = lines_of(s, e, columns);
     if !kinds.fits {
-        return Reduced {
-            refusal: 8,
-            columns,
-            machine: empty,
-        };
+        return Err(Refusal::TooLarge);
     }
     let l = list_columns(pool, table, s, e);
     if !l.fits {
-        return Reduced {
-            refusal: 8,
-            columns,
-            machine: empty,
-        };
+        return Err(Refusal::TooLarge);
     }
     let columns = l.columns;
     let lines = lines_of(s, e, columns);
@@ -221,78 +211,56 @@ pub fn reduce(pool: &[u8], table: &[u32], s: &[u32], e: usize) -> Reduced
     let t = eliminate(columns, machine(rows, lines.len));
     let machine = t.machine;
     if t.fits {
-        Reduced {
-            refusal: 0,
-            columns,
-            machine,
-        }
+        Ok(Reduced { columns, machine })
     } else {
-        Reduced {
-            refusal: 7,
-            columns,
-            machine,
-        }
+        Err(Refusal::OutOfRange)
     }
 }
 
-// The rows that are left, or else the values, written into the result buffer.
-fn write(k: Columns, m: Machine, res: &mut [u32]) -> Outcome
+/// The rows that are left, or else the values, written into the result buffer.
+fn write(k: Columns, m: Machine, res: &mut [u32]) -> Eliminated
     requires laid { Laid k }
     requires running { Running m }
-    requires in_bounds { 8192 ≤ length res.old }
-    ensures { Answered (settledOr 0 k m) res.old res.new result }
+    requires room { 8192 ≤ length res.old }
+    ensures { Answered (got (settledIn k m)) res.old res.new (Ok result) }
 {
     if 0 < m.stay {
         let n = put_lines(k, m.kept, m.stay, res);
-        return Outcome::Left(n);
+        return Eliminated::Left(n);
     }
     let names = m.names;
     let n = put_bindings(k, names, m.values, m.found, res);
-    Outcome::Bound(n)
+    Eliminated::Bound(n)
 }
 
-// What the rows of a set came to, in the result buffer; or why there is no answer.
-pub fn tell(r: Reduced, res: &mut [u32]) -> Outcome
-    requires ready { Ready r }
-    requires in_bounds { 8192 ≤ length res.old }
-    ensures { Answered (settledOr r.refusal r.columns r.machine) res.old res.new result }
-{
-    if r.refusal == 0 {
-        return write(r.columns, r.machine, res);
-    }
-    if r.refusal == 7 {
-        return Outcome::Refused(Refusal::OutOfRange);
-    }
-    Outcome::Refused(Refusal::TooLarge)
-}
-
-// Is the set well formed (8, 1), and is no name both a variable and a parameter (4)?
-fn enter(pool: &[u8], table: &[u32], words: &[u32]) -> Checked
-    ensures { toldChecked result ≡ entered pool.now table.now words.now }
+/// Is the set well formed (8, 1), and is no name both a variable and a parameter (4)?
+fn enter(pool: &[u8], table: &[u32], words: &[u32]) -> Result<(), Refusal>
+    ensures { told result ≡ entered pool.now table.now words.now }
 {
     match is_set(pool, table, words) {
         Checked::Good => {
             if is_unmixed(words, 0, words.len() / 4) {
-                Checked::Good
+                Ok(())
             } else {
-                Checked::Refused(Refusal::Mixed)
+                Err(Refusal::Mixed)
             }
         }
-        Checked::Refused(r) => Checked::Refused(r),
+        Checked::Refused(r) => Err(r),
     }
 }
 
-// All that the engine does past the check of 10.
-pub fn eliminate_set(pool: &[u8], table: &[u32], words: &[u32], res: &mut [u32]) -> Outcome
+/// All that the engine does past the check of 10.
+pub fn eliminate_set(
+    pool: &[u8],
+    table: &[u32],
+    words: &[u32],
+    res: &mut [u32],
+) -> Result<Eliminated, Refusal>
     requires table_value { lentTable pool.now table.now ≡ got tt }
-    requires in_bounds { 8192 ≤ length res.old }
+    requires room { 8192 ≤ length res.old }
     ensures { Answered (eliminatedSet (table_of pool.now table.now) words.now) res.old res.new result }
 {
-    match enter(pool, table, words) {
-        Checked::Good => {
-            let n = words.len() / 4;
-            tell(reduce(pool, table, words, n), res)
-        }
-        Checked::Refused(r) => Outcome::Refused(r),
-    }
+    enter(pool, table, words)?;
+    let reduced = reduce(pool, table, words, words.len() / 4)?;
+    Ok(write(reduced.columns, reduced.machine, res))
 }

@@ -4,7 +4,7 @@
 pub mod inner;
 
 ghost use Rattle.std.specs.Prelude.{◌≡◌};
-ghost use Rattle.eliminating.specs.Told.{numberOutcome, eliminationAs};
+ghost use Rattle.eliminating.specs.Told.{numberEliminated, eliminationAs};
 ghost use Rattle.rules.specs.Elimination.{eliminateCall};
 
 use inner::eliminate_set;
@@ -12,41 +12,39 @@ use lending::inner::clear;
 use lending::lent;
 use rules::Refusal;
 
-// How many records of bindings were written; how many records of constraints remain (5); or why there is no answer.
-#[derive(Drop)]
-pub enum Outcome {
+/// What a set came to: how many records of bindings were written, or how many records of constraints that remain.
+#[derive(Clone, Copy, PartialEq, Eq)]
+pub enum Eliminated {
     Bound(usize),
     Left(usize),
-    Refused(Refusal),
 }
 
-impl Outcome {
-    // Its number in document 01: 0 where the set is solved, 5 where constraints remain.
-    pub fn number(self) -> u32
-        ensures { result ≡ numberOutcome self }
-    {
-        match self {
-            Outcome::Bound(_) => 0,
-            Outcome::Left(_) => Refusal::Unsolved.number(),
-            Outcome::Refused(why) => why.number(),
-        }
+/// The number of an answer: 0 where the set is solved, 5 where constraints remain, or the refusal's.
+pub fn number(answer: Result<Eliminated, Refusal>) -> u32
+    ensures { result ≡ numberEliminated answer }
+{
+    match answer {
+        Ok(Eliminated::Bound(_)) => 0,
+        Ok(Eliminated::Left(_)) => Refusal::Unsolved.number(),
+        Err(why) => why.number(),
     }
 }
 
-// The set eliminated: bindings, or the constraints that remain, in the result buffer; the work buffer is left all zero.
+/// The set eliminated: bindings, or the constraints that remain, in the result buffer; the work buffer is left all zero.
+/// Refuses with 10 (and leaves the work buffer), 8, 1, 4 and 7.
 pub fn eliminate(
     pool: &[u8],
     table: &[u32],
     words: &[u32],
     res: &mut [u32],
     work: &mut [u32],
-) -> Outcome
+) -> Result<Eliminated, Refusal>
     ensures { eliminationAs result res.new work.new ≡ eliminateCall pool.now table.now words.now res.old work.old }
 {
     if !lent(pool, table, res, work) {
-        return Outcome::Refused(Refusal::ShortBuffer);
+        return Err(Refusal::ShortBuffer);
     }
-    let o = eliminate_set(pool, table, words, res);
+    let answer = eliminate_set(pool, table, words, res);
     clear(work);
-    o
+    answer
 }

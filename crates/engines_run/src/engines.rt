@@ -1,4 +1,5 @@
 // What each engine answers, in one form.
+use eliminating::Eliminated;
 use rules::Refusal;
 
 // The number of an outcome (0, 5, or the refusal's), the records of bindings or of what remains, and those of bounds.
@@ -45,19 +46,19 @@ fn told_solved(o: solving::Outcome) -> Told {
     }
 }
 
-fn told_eliminated(o: eliminating::Outcome) -> Told {
-    match o {
-        eliminating::Outcome::Bound(n) => Told {
+fn told_eliminated(answer: Result<Eliminated, Refusal>) -> Told {
+    match answer {
+        Ok(Eliminated::Bound(n)) => Told {
             number: 0,
             records: n,
             bounds: 0,
         },
-        eliminating::Outcome::Left(n) => Told {
+        Ok(Eliminated::Left(n)) => Told {
             number: 5,
             records: n,
             bounds: 0,
         },
-        eliminating::Outcome::Refused(r) => refused(r),
+        Err(r) => refused(r),
     }
 }
 

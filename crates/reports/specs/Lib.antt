@@ -1,2 +1,2 @@
-pub mod Pieces
+pub mod Lengths
 pub mod Theorems

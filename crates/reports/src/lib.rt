@@ -1,10 +1,9 @@
-// What is told of the sheets of an edition: bytes as they are shown, refusals in words, a refused line with a mark.
+//! What is told of the sheets of an edition: bytes as they are shown, refusals in words, a refused line with a mark.
 #![tactic(auto)]
 
-pub mod inner;
 pub mod theorems;
 
-ghost use Rattle.std.specs.Prelude.{◌≡◌, ◌++◌, ◌&&◌, ◌≤◌, map, leb, ltb, eqb, take, drop, replicate, length};
+ghost use Rattle.std.specs.Prelude.{◌≡◌, ◌++◌, ◌≤◌, map, eqb, take, drop, replicate, length};
 ghost use Rattle.rules.specs.Base.{collect};
 ghost use Rattle.rules.specs.Reports.{shown, amount, firstShown, cut, room, lineShown, reason, refusedText, totalText};
 ghost use Rattle.spelling.specs.Sinks.{Puts};
@@ -12,7 +11,7 @@ ghost use Rattle.spelling.specs.Sinks.{Puts};
 use spelling::put_digits;
 use spelling::sink::Sink;
 
-// A byte as it is shown: control bytes as "?".
+/// A byte as it is shown: control bytes as "?".
 #[tactic(auto, unfolding(rules::specs::Reports::shown))]
 pub fn show_byte(b: u8) -> u8
     ensures { result ≡ shown b }
@@ -20,7 +19,7 @@ pub fn show_byte(b: u8) -> u8
     if b.is_ascii_control() { b'?' } else { b }
 }
 
-// Puts bytes as they are shown.
+/// Puts bytes as they are shown.
 pub fn put_shown<S: Sink>(to: &mut S, text: &[u8]) -> Result<(), S::Error>
     ensures { Puts (S.place to.old) (map shown text.now) result (S.place to.new) }
 {
@@ -52,7 +51,7 @@ fn reason(n: u32) -> &'static [u8]
     }
 }
 
-// Puts that a sheet is refused, with the number and in words.
+/// Puts that a sheet is refused, with the number and in words.
 #[tactic(auto, unfolding(rules::specs::Reports::refusedText))]
 pub fn put_refused<S: Sink>(to: &mut S, n: u32) -> Result<(), S::Error>
     ensures { Puts (S.place to.old) (refusedText n) result (S.place to.new) }
@@ -84,14 +83,7 @@ fn put_rooms<S: Sink>(to: &mut S, part: &[u8]) -> Result<(), S::Error>
     Ok(())
 }
 
-// Does this byte go on a character of UTF-8, so that it takes no room?
-pub fn goes_on(b: u8) -> bool
-    ensures { result ≡ (leb 128 b && ltb b 192) }
-{
-    if 128 <= b { b < 192 } else { false }
-}
-
-// From where on a line is shown: 60 bytes in front of the column.
+/// From where on a line is shown: 60 bytes in front of the column.
 #[tactic(auto, unfolding(rules::specs::Reports::firstShown))]
 pub fn first_shown(column: usize) -> usize
     ensures { result ≡ firstShown column }
@@ -121,7 +113,7 @@ fn under_dots(first: usize) -> &'static [u8]
     if first == 0 { b"" } else { b"   " }
 }
 
-// Puts a line as it is shown, with a mark under the column.
+/// Puts a line as it is shown, with a mark under the column.
 #[tactic(auto, unfolding(rules::specs::Reports::lineShown))]
 pub fn show_line<S: Sink>(to: &mut S, column: usize, line: &[u8]) -> Result<(), S::Error>
     ensures { Puts (S.place to.old) (lineShown column line.now) result (S.place to.new) }
@@ -145,7 +137,7 @@ fn put_count<S: Sink>(to: &mut S, n: u32, what: &[u8]) -> Result<(), S::Error>
     to.put(what)
 }
 
-// Puts the last line of all: how many sheets, how many of them accepted.
+/// Puts the last line of all: how many sheets, how many of them accepted.
 #[tactic(auto, unfolding(rules::specs::Reports::totalText))]
 pub fn put_total<S: Sink>(to: &mut S, sheets: u32, yes: u32) -> Result<(), S::Error>
     requires { yes ≤ sheets }

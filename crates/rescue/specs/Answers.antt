@@ -1,5 +1,5 @@
 -- What the call answers, from what its parts leave behind.
-use Rattle.std.specs.Prelude.{◌≡◌, ◌&&◌, List, ℕ, ◌+◌, ◌/◌, ◌≤◌, length, take, drop}
+use Rattle.std.specs.Prelude.{◌≡◌, ◌&&◌, List, ℕ, ◌+◌, ◌/◌, ◌≤◌, length, take, drop, Ok, Err}
 use Rattle.std.proofs.Common.{◌∙◌, arith, take_at}
 use borrow.Author.Tests.{leb-true}
 use Rattle.std.proofs.Math.Dec.{leb}
@@ -18,13 +18,13 @@ use Rattle.rules.specs.Rescue.{Piece, words_in, piecesIn, keptIn, placesIn, resc
 use Rattle.rescue.specs.Told.{rescuedAs, keptBytes, Walked, Noted, Took}
 use Rattle.rescue.specs.Steps.{bytes-length, over-is, torn-behind, torn-few}
 use Rattle.rescue.specs.declared.Counts.{Counts}
-use Rattle.rescue.specs.declared.Answer.TheVariants as answer
 
 -- what was filled from the front stands there
 pub front : (d v : List ℕ) (n : ℕ) → length v ≡ n → n ≤ length d → take n (sets d 0 v) ≡ v
 front d v n e h = rw (sets-eq v d 0 (omega arith)) (take_at v (drop (0 + length v) d) n e)
 
-pub took : (ps : List Piece) (file kept kept' skipped first skipped' : List ℕ) (c : Counts) (m : ℕ) → Walked ps kept kept' skipped first c → Noted file c.skipped first skipped' m
+pub took : (ps : List Piece) (file kept kept' skipped first skipped' : List ℕ) (c : Counts) (m : ℕ) → Walked ps kept kept' skipped first c
+    → Noted file c.skipped first skipped' m
     → Took ps file kept kept' skipped skipped' (record { kept = c.kept; skipped = m })
 took ps file kept kept' skipped first skipped' c m w n =
     let b = torn-behind file skipped c.skipped ps first skipped' m w.few w.places n in
@@ -71,13 +71,13 @@ module _ (pool table file : List ℕ) where
 
   module _ (kept skipped : List ℕ) where
     pub rescue-refused : (r : Refusal) → rescueGiven pool table file (length kept) (length skipped) ≡ refused (number_of r)
-        → rescuedAs (answer.Refused r) kept skipped ≡ rescueCall pool table file kept skipped
+        → rescuedAs (Err r) kept skipped ≡ rescueCall pool table file kept skipped
     unfolding rescueCall resultAfter
     rescue-refused r e = rw e
 
     pub rescue-given : (kept' skipped' : List ℕ) (r : Counts) → rescueGiven pool table file (length kept) (length skipped) ≡ got tt
         → Took (piecesIn (table_of pool table) (words_in file)) file kept kept' skipped skipped' r
-        → rescuedAs (answer.Rescued r) kept' skipped' ≡ rescueCall pool table file kept skipped
+        → rescuedAs (Ok r) kept' skipped' ≡ rescueCall pool table file kept skipped
     unfolding rescueCall resultAfter
     rescue-given kept' skipped' r e t =
         let ps = piecesIn (table_of pool table) (words_in file) in

@@ -6,3 +6,4 @@ pub mod Promise
 pub mod Outcome
 pub mod NeverOne
 pub mod Determined
+pub mod Theorems

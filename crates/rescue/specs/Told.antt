@@ -1,20 +1,18 @@
 -- The answers of the code as those of the rules, and what its parts leave behind.
-use Rattle.std.specs.Prelude.{◌≡◌, List, ℕ, ◌+◌, ◌≤◌, length}
+use Rattle.std.specs.Prelude.{◌≡◌, List, ℕ, ◌+◌, ◌≤◌, length, Result}
 use Rattle.std.proofs.lemmas.List.Edits.{sets}
-use Rattle.rules.specs.Base.{Got, got, refused}
-use Rattle.rules.specs.Refusals.{number_of}
+use Rattle.rules.specs.Refusals.{toldBy}
+use Rattle.rules.specs.declared.Refusal.{Refusal}
 use Rattle.rules.specs.Writing.{words}
 use Rattle.rules.specs.Rescue.{Piece, Rescued, bytes_of, keptIn, skippedFrom, tornIn, placesIn}
 use Rattle.rescue.specs.declared.Counts.{Counts}
-use Rattle.rescue.specs.declared.Answer.{Answer}
-use Rattle.rescue.specs.declared.Answer.TheVariants as answer
 
-abbrev pub told : Answer → Got (ℕ × ℕ)
-told (answer.Rescued c) = got (c.kept, c.skipped)
-told (answer.Refused r) = refused (number_of r)
+-- kept, then skipped
+abbrev pub countsOf : Counts → ℕ × ℕ
+countsOf c = (c.kept, c.skipped)
 
-abbrev pub rescuedAs : Answer → List ℕ → List ℕ → Rescued
-rescuedAs r kept skipped = record { answer = told r; kept = kept; skipped = skipped }
+abbrev pub rescuedAs : Result Counts Refusal → List ℕ → List ℕ → Rescued
+rescuedAs r kept skipped = record { answer = toldBy countsOf r; kept = kept; skipped = skipped }
 
 -- the bytes of what is kept
 abbrev pub keptBytes : List Piece → List ℕ

@@ -3,14 +3,13 @@ ghost use Rattle.std.specs.Prelude.{◌≡◌, [], ◌∷◌, ◌+◌, ◌*◌, 
 ghost use Rattle.std.proofs.lemmas.List.Edits.{sets};
 ghost use Rattle.std.proofs.Math.Seq.{slice};
 ghost use Rattle.laws.specs.NameTable.{Good};
-ghost use Rattle.names.specs.Old.{toldChecked};
+ghost use Rattle.rules.specs.Refusals.{told};
 ghost use Rattle.rules.specs.Names.{table_of};
 ghost use Rattle.rules.specs.Rescue.{words_in, bytes_of, piecesIn, rescueGiven};
 ghost use Rattle.rescue.specs.Told.{Walked, Noted, Took};
 
 use super::Counts;
 use names::inner::is_good;
-use names::old::Checked;
 use records::inner::{Ended, con_end, put};
 use rules::{POOL_BYTES, RECORDS, Refusal, TABLE_WORDS};
 
@@ -23,43 +22,30 @@ const PLACES: usize = 2049;
 const FILE_WORDS: usize = 8196;
 
 // 10, 8, 1, by the lengths of the buffers.
-pub fn given(pool: &[u8], table: &[u32], file: &[u8], kept: usize, skipped: usize) -> Checked
-    ensures { toldChecked result ≡ rescueGiven pool.now table.now file.now kept skipped }
+#[tactic(auto, unfolding(rules::specs::Rescue::rescueGiven, rules::specs::Names::lentTable, rules::specs::Calls::tableKept))]
+pub fn given(
+    pool: &[u8],
+    table: &[u32],
+    file: &[u8],
+    kept: usize,
+    skipped: usize,
+) -> Result<(), Refusal>
+    ensures { told result ≡ rescueGiven pool.now table.now file.now kept skipped }
 {
-    if pool.len() < POOL_BYTES {
-        return Checked::Refused(Refusal::ShortBuffer);
+    if pool.len() < POOL_BYTES || table.len() < TABLE_WORDS {
+        return Err(Refusal::ShortBuffer);
     }
-    if table.len() < TABLE_WORDS {
-        return Checked::Refused(Refusal::ShortBuffer);
-    }
-    if kept < KEPT_BYTES {
-        return Checked::Refused(Refusal::ShortBuffer);
-    }
-    if skipped < PLACES {
-        return Checked::Refused(Refusal::ShortBuffer);
+    if kept < KEPT_BYTES || skipped < PLACES {
+        return Err(Refusal::ShortBuffer);
     }
     if RECORDS < file.len() / 16 {
-        return Checked::Refused(Refusal::TooLarge);
+        return Err(Refusal::TooLarge);
     }
     if is_good(pool, table) {
-        Checked::Good
+        Ok(())
     } else {
-        Checked::Refused(Refusal::Malformed)
+        Err(Refusal::Malformed)
     }
-}
-
-fn wide(b: u8) -> u32
-    ensures value { result ≡ b }
-    ensures upper_bound { result < 256 }
-{
-    b as u32
-}
-
-fn low(w: u32) -> u8
-    requires { w < 256 }
-    ensures { result ≡ w }
-{
-    w as u8
 }
 
 // The word of a file with the number i.
@@ -68,10 +54,10 @@ fn word_at(file: &[u8], i: usize) -> u32
     ensures { result ≡ get_or (words_in file.now) i 0 }
 {
     let b = i * 4;
-    wide(file[b])
-        + 256 * wide(file[b + 1])
-        + 65536 * wide(file[b + 2])
-        + 16777216 * wide(file[b + 3])
+    file[b] as u32
+        + 256 * file[b + 1] as u32
+        + 65536 * file[b + 2] as u32
+        + 16777216 * file[b + 3] as u32
 }
 
 // The words of a file.
@@ -100,10 +86,10 @@ fn put_word(dst: &mut [u8], i: usize, w: u32)
     requires { i < 2 ^ 60 }
     ensures { dst.new ≡ sets dst.old i (bytes_of (w ∷ [])) }
 {
-    put_byte(dst, i, low(w % 256));
-    put_byte(dst, i + 1, low(w / 256 % 256));
-    put_byte(dst, i + 2, low(w / 65536 % 256));
-    put_byte(dst, i + 3, low(w / 16777216 % 256));
+    put_byte(dst, i, (w % 256) as u8);
+    put_byte(dst, i + 1, (w / 256 % 256) as u8);
+    put_byte(dst, i + 2, (w / 65536 % 256) as u8);
+    put_byte(dst, i + 3, (w / 16777216 % 256) as u8);
 }
 
 // Writes the words from b up to e.

@@ -2,40 +2,34 @@
 #![tactic(auto)]
 
 pub mod inner;
+pub mod theorems;
 
 ghost use Rattle.std.specs.Prelude.{◌≡◌};
 ghost use Rattle.rules.specs.Rescue.{rescueCall};
 ghost use Rattle.rescue.specs.Told.{rescuedAs};
 
 use inner::{given, take_words};
-use names::old::Checked;
 use rules::Refusal;
 
-// How many records are kept, and how many places skipped.
-#[derive(Clone, Copy)]
+/// How many records are kept, and how many places skipped.
+#[derive(Clone, Copy, PartialEq, Eq)]
 pub struct Counts {
     pub kept: usize,
     pub skipped: usize,
 }
 
-#[derive(Clone, Copy)]
-pub enum Answer {
-    Rescued(Counts),
-    Refused(Refusal),
-}
-
-// The well formed constraints of a file go to `kept`, and the place of each other record to `skipped`.
+/// The well formed constraints of a file go to the front of `kept`, and the place of each other record to the front of `skipped`; behind these both are as
+/// before. At least 32,768 bytes and 2,049 places are lent. Refuses with 10 (a short buffer), 8 (over 2,048 records), 1 (no name table), and changes
+/// nothing then.
 pub fn rescue(
     pool: &[u8],
     table: &[u32],
     file: &[u8],
     kept: &mut [u8],
     skipped: &mut [u32],
-) -> Answer
+) -> Result<Counts, Refusal>
     ensures { rescuedAs result kept.new skipped.new ≡ rescueCall pool.now table.now file.now kept.old skipped.old }
 {
-    match given(pool, table, file, kept.len(), skipped.len()) {
-        Checked::Good => Answer::Rescued(take_words(pool, table, file, kept, skipped)),
-        Checked::Refused(r) => Answer::Refused(r),
-    }
+    given(pool, table, file, kept.len(), skipped.len())?;
+    Ok(take_words(pool, table, file, kept, skipped))
 }

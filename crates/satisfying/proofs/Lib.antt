@@ -4,4 +4,5 @@ mod Power
 mod Quotient
 mod Rules
 mod Short
+mod Sizes
 mod Written

@@ -1,10 +1,10 @@
 -- The rules for constraints other than equalities, each with what its case knows.
-use Rattle.std.specs.Prelude.{◌≡◌, true, false, Bool, List, [], ◌∷◌, map, ℕ, suc, ◌+◌, ◌/◌, ◌<◌, ◌≤◌, length, Result, Ok, Err, refl}
+use Rattle.std.specs.Prelude.{◌≡◌, true, false, Bool, List, [], ◌∷◌, map, ℕ, suc, ◌+◌, ◌≤◌, length, Result, Ok, Err, refl}
 use Rattle.std.proofs.Common.{arith, ap, sym, subst, ◌∙◌, append-nil}
 use Rattle.std.proofs.Math.Option.{none, some, get_or}
 use Rattle.rules.specs.Base.{Got, got, refused, ◌>>=◌, bounded, each, collect, and_then, only_if}
 use Rattle.rules.specs.Contents.{closed, fieldIn, namesIn}
-use Rattle.rules.specs.Exponents.{Exp, frac, neg, quotient}
+use Rattle.rules.specs.Exponents.{Exp, neg, quotient}
 use Rattle.rules.specs.Names.{Bytes, numbered}
 use Rattle.rules.specs.Refusals.{number_of}
 use Rattle.rules.specs.declared.Refusal.{Refusal}
@@ -41,9 +41,7 @@ use Rattle.exponents.specs.Answers.{expOf}
 use Rattle.exponents.specs.declared.Exponent.{Exponent}
 use Rattle.records.specs.Cut.{fit}
 use Rattle.records.specs.Views.{recOf}
-use Rattle.records.specs.Holds.{atomOf, HoldsFactors}
-use Rattle.records.specs.Places.{seen-in}
-use Rattle.records.specs.ByView.{factors-in}
+use Rattle.records.specs.Holds.{atomOf}
 use Rattle.records.specs.declared.Atom as atoms
 use Rattle.records.specs.declared.Open as opens
 use Rattle.records.specs.declared.View.TheVariants as view
@@ -110,11 +108,6 @@ no-dimension s {t} e n = subst (λ (u : Ty ℕ). got (dimensionParts (productOf 
 
 -- ══ The other factors ══
 
-pub few-factors : (s : List ℕ) (p : Product ℕ) (at : ℕ) → HoldsFactors s p at → length s ≤ 100_000 → length p ≤ 30_000
-unfolding HoldsFactors
-few-factors s [] at h n = omega arith
-few-factors s (a ↑ frac m d ∷ p) at h n = let k : at < length s / 4 = seen-in s at h.0.0 tt in omega (arith, n, factors-in s p (at + 1) (omega arith) h.1)
-
 factor-rec : (a : atoms.Atom) (e : Exponent) → recOf (view.Factor a (twos e.num) e.den) (fit 1) ≡ writeFactor (atomOf a ↑ expOf e)
 unfolding writeFactor fit
 factor-rec (atoms.TheVariants.Free (opens.TheVariants.Var x)) e = refl
@@ -153,7 +146,7 @@ each-long f [] ys e = let q : [] ≡ ys = cc in ap length (sym q)
 each-long f (x ∷ xs) ys e = let t = each-parts f x xs ys e in ap length (sym t.both) ∙ ap suc (each-long f xs t.second t.then)
 
 module _ (x : ℕ) (f : Factor ℕ → Got (Factor ℕ)) (p : Product ℕ) where
-  pub solved : {w w₁ w₂ w₃ : Writer} {n : ℕ} (u : Unit {0}) → length p ≡ n → n ≤ 30_000 → Writes w w₁ (recOf (view.Binding x) (fit (2 + n)) ∷ [])
+  pub solved : {w w₁ w₂ w₃ : Writer} {n : ℕ} (u : Unit {0}) → length p ≡ n → n ≤ 65_000 → Writes w w₁ (recOf (view.Binding x) (fit (2 + n)) ∷ [])
       → Writes w₁ w₂ (recOf (view.Dim n) (fit (1 + n)) ∷ []) → FactorsPut w₂ w₃ (Ok u) (each f p)
       → Applied w w₃ (Ok (Bind w₃.at)) (boundTo x (each f p))
   unfolding writeBinding writeTy writeProduct sizeBinding size

@@ -1,14 +1,14 @@
 -- What a rule writes is short: so the writer's count is the place past it.
-use Rattle.std.specs.Prelude.{◌≡◌, true, false, List, [], ◌∷◌, ℕ, suc, ◌+◌, ◌*◌, ◌<◌, ◌≤◌, length, Result, Ok, refl}
-use Rattle.std.proofs.Common.{arith, ap, subst, ◌∙◌}
-use Rattle.std.proofs.Math.Option.{some}
+use Rattle.std.specs.Prelude.{◌≡◌, Bool, true, false, not, List, [], ◌∷◌, ℕ, suc, ◌+◌, ◌*◌, ◌<◌, ◌≤◌, length, Result, Ok, refl}
+use Rattle.std.proofs.Common.{arith, ap, subst, ◌∙◌, sym}
+use Rattle.std.proofs.Math.Option.{Option, none, some}
 use Rattle.std.proofs.Math.Logic.{inl, inr}
-use Rattle.rules.specs.Base.{Got, got, refused, bounded, collect, sum_of}
-use Rattle.rules.specs.Contents.{fieldIn, namesIn}
+use Rattle.rules.specs.Base.{Got, got, refused, bounded, collect, sum_of, only_if, ◌or_else◌}
+use Rattle.rules.specs.Contents.{contains, fieldIn, namesIn}
 use Rattle.rules.specs.Base.{is_yes}
 use Rattle.rules.specs.Products.{divide}
 use Rattle.rules.specs.Rounds as rules
-use Rattle.rules.specs.Rounds.{pairs, otherSide, trySatisfy}
+use Rattle.rules.specs.Rounds.{bindTo, pairs, otherSide, trySatisfy}
 use Rattle.rules.specs.Trees.{
   var,
   quant,
@@ -64,7 +64,9 @@ use Rattle.products.specs.Held.{law}
 use Rattle.records.specs.ByView.{size-pos}
 use Rattle.records.specs.Good.{numbers, holding}
 use Rattle.types.specs.declared.writer.Writer.{Writer}
+use Rattle.rules.specs.Views.{asVar, asPower}
 use Rattle.satisfying.specs.Applied.{Applied}
+use Rattle.satisfying.specs.Bindings.{either, firstBinding}
 use Rattle.satisfying.specs.Stepped.{GoodCon, Stepped}
 use Rattle.satisfying.specs.declared.Step.{Step}
 use Rattle.satisfying.specs.declared.Step.TheVariants.{Bind, Split}
@@ -92,7 +94,7 @@ parts-long (free (par x) ↑ e ∷ p) = omega (arith, parts-long p)
 parts-long (base x ↑ e ∷ p) = omega (arith, parts-long p)
 
 module _ (ν : Names ℕ) where
-  field-long : (x : ℕ) (fs : Fields ℕ) (t : Ty ℕ) → fieldIn ν x fs ≡ some t → size t ≤ sizeFields fs
+  pub field-long : (x : ℕ) (fs : Fields ℕ) (t : Ty ℕ) → fieldIn ν x fs ≡ some t → size t ≤ sizeFields fs
   unfolding fieldIn sizeFields
   field-long x noFields t e = cc
   field-long x (field n u fs) t e = go (ν.same x n) (field-long x fs t) e
@@ -106,6 +108,32 @@ module _ (ν : Names ℕ) where
   unfolding sizeCon
   side-long c l r (inl e) = omega (arith, ap sizeCon e)
   side-long c l r (inr e) = omega (arith, ap sizeCon e)
+
+module _ (ν : Names ℕ) where
+  bind-long : (x : Option ℕ) (t : Ty ℕ) (s : rules.Step ℕ) → bindTo ν x t ≡ some s → long s ≡ suc (size t)
+  unfolding bindTo sizeBinding
+  bind-long none t s e = cc
+  bind-long (some y) t s e = go (contains ν y t) e
+    where
+      go : (b : Bool) → only_if (not b) (rules.bind y t) ≡ some s → long s ≡ suc (size t)
+      go true e = cc
+      go false e = let i : rules.bind y t ≡ s = cc in sym (ap long i)
+
+  either-long : (x y : Option ℕ) (l r : Ty ℕ) (s : rules.Step ℕ) → either ν x y l r ≡ some s → long s ≤ suc (size l + size r)
+  either-long x y l r s e = go (bindTo ν x r) refl e
+    where
+      go : (o : Option (rules.Step ℕ)) → bindTo ν x r ≡ o → (o or_else bindTo ν y l) ≡ some s → long s ≤ suc (size l + size r)
+      go none i e = omega (arith, bind-long y l s e)
+      go (some v) i e = omega (arith, bind-long x r s (i ∙ e))
+
+  -- a type that a variable is bound to is one of the sides
+  pub first-long : (l r : Ty ℕ) (s : rules.Step ℕ) → some s ≡ firstBinding ν l r → long s ≤ suc (size l + size r)
+  first-long l r s e = go (either ν (asVar l) (asVar r) l r) refl (sym e)
+    where
+      go : (o : Option (rules.Step ℕ)) → either ν (asVar l) (asVar r) l r ≡ o → (o or_else either ν (asPower l) (asPower r) l r) ≡ some s
+          → long s ≤ suc (size l + size r)
+      go none i e = either-long (asPower l) (asPower r) l r s e
+      go (some v) i e = either-long (asVar l) (asVar r) l r s (i ∙ e)
 
 module _ (pool table : List ℕ) where
   quotient-long : (c : Con ℕ) (d e q : Product ℕ) → GoodCon pool table c → c ≡ equal (dim d) (dim e) → divide (numbers pool table) bounded d e ≡ got q

@@ -65,13 +65,13 @@ pub cons-con : {w w₁ w₂ : Writer} (c : Con ℕ) (cs : List (Con ℕ)) → Wr
 unfolding collect
 cons-con c cs p q = writes-then (writeCon c) (collect writeCon cs) p q
 
-pub bind-written : {w w₁ w₂ : Writer} (x : ℕ) (t : Ty ℕ) {n : ℕ} → n ≡ 1 + size t → size t ≤ 25_000 → Writes w w₁ (recOf (view.Binding x) (fit n) ∷ [])
+pub bind-written : {w w₁ w₂ : Writer} (x : ℕ) (t : Ty ℕ) {n : ℕ} → n ≡ 1 + size t → size t ≤ 65_000 → Writes w w₁ (recOf (view.Binding x) (fit n) ∷ [])
     → Writes w₁ w₂ (writeTy t)
     → Writes w w₂ (writeBinding (x ≔ t))
 unfolding writeBinding sizeBinding
 bind-written x t e l p q = writes-then (rec (head 24 (suc (size t))) x 0 0 ∷ []) (writeTy t) (headed (view.Binding x) (omega arith) (omega arith) p) q
 
-pub product-written : {w w₁ w₂ w₃ w₄ : Writer} (x : ℕ) (p : Product ℕ) {n : ℕ} → n ≡ 3 + size (dim p) → size (dim p) ≤ 25_000
+pub product-written : {w w₁ w₂ w₃ w₄ : Writer} (x : ℕ) (p : Product ℕ) {n : ℕ} → n ≡ 3 + size (dim p) → size (dim p) ≤ 65_000
     → Writes w w₁ (recOf view.Equal (fit n) ∷ [])
     → Writes w₁ w₂ (recOf (view.Dim 1) (fit 2) ∷ []) → Writes w₂ w₃ (recOf (view.Factor (atoms.Free (opens.Var x)) 1 1) (fit 1) ∷ [])
     → Writes w₃ w₄ (writeTy (dim p))
@@ -99,7 +99,7 @@ unfolding collect writeCon writeTy sizeCon size
 is-dim-written x a b = writes-then (rec (head 21 2) 0 0 0 ∷ []) (rec (head 1 1) x 0 0 ∷ []) (headed view.IsDim refl (omega arith) a)
     (headed (view.Opened (opens.Var x)) refl (omega arith) b)
 
-pub solved-written : {w w₁ w₂ : Writer} (x : ℕ) {k n : ℕ} → k ≡ n → n ≤ 30_000 → Writes w w₁ (recOf (view.Binding x) (fit (2 + k)) ∷ [])
+pub solved-written : {w w₁ w₂ : Writer} (x : ℕ) {k n : ℕ} → k ≡ n → n ≤ 65_000 → Writes w w₁ (recOf (view.Binding x) (fit (2 + k)) ∷ [])
     → Writes w₁ w₂ (recOf (view.Dim k) (fit (1 + k)) ∷ [])
     → Writes w w₂ (rec (head 24 (suc (suc n))) x 0 0 ∷ rec (head 3 (suc n)) n 0 0 ∷ [])
 solved-written {w} {w₁} {w₂} x {k} {n} e l a b =

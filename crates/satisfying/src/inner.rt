@@ -3,10 +3,10 @@ pub mod binding;
 pub mod kinds;
 pub mod others;
 
-ghost use Rattle.std.specs.Prelude.{ℕ, ◌<◌};
+ghost use Rattle.std.specs.Prelude.{ℕ, ◌+◌, ◌<◌, ◌≤◌};
 ghost use Rattle.rules.specs.Base.{bounded};
 ghost use Rattle.rules.specs.Rounds.{trySatisfy};
-ghost use Rattle.rules.specs.Trees.{Con, equal};
+ghost use Rattle.rules.specs.Trees.{Con, equal, size, sizeCon};
 ghost use Rattle.laws.specs.NameTable.{Good};
 ghost use Rattle.records.specs.Good.{numbers};
 ghost use Rattle.replacing.specs.Well.{GoodTy};
@@ -35,6 +35,7 @@ fn equal(
     requires good { Good pool.now table.now }
     requires left_good { GoodTy pool.now table.now left.tree.0 }
     requires right_good { GoodTy pool.now table.now right.tree.0 }
+    requires short { size left.tree.0 + size right.tree.0 < 65_000 }
     requires small { out.old.at < 1_000_000_000 }
     ensures { Applied out.old out.new result (trySatisfy (numbers pool.now table.now) bounded (equal left.entry.tree.0 right.entry.tree.0)) }
 {
@@ -55,6 +56,7 @@ fn equal(
 fn satisfy(pool: &[u8], table: &[u32], c: Constraint, out: &mut Writer) -> Result<Step, Refusal>
     requires good { Good pool.now table.now }
     requires con_good { GoodCon pool.now table.now c.tree.0 }
+    requires short { sizeCon c.tree.0 ≤ 65_000 }
     requires small { out.old.at < 1_000_000_000 }
     ensures { Applied out.old out.new result (trySatisfy (numbers pool.now table.now) bounded c.entry.tree.0) }
 {

@@ -4,12 +4,6 @@ ghost use Rattle.std.proofs.lemmas.List.Edits.{sets};
 ghost use Rattle.saying.specs.Same.{same};
 ghost use Rattle.saying.specs.Fills.{low_byte};
 
-pub fn wide(x: u8) -> u32
-    ensures { result ≡ x }
-{
-    x as u32
-}
-
 pub fn low(x: u32) -> u8
     ensures { result ≡ low_byte x }
 {
@@ -26,7 +20,7 @@ pub fn word_of(s: &[u32], i: usize) -> u32
 pub fn byte_word(s: &[u8], i: usize) -> u32
     ensures { result ≡ slice_index s.now i }
 {
-    if i < s.len() { wide(s[i]) } else { 0 }
+    if i < s.len() { s[i] as u32 } else { 0 }
 }
 
 // Sets a word or a byte, where there is one at i.
@@ -50,20 +44,16 @@ pub fn put_byte(out: &mut [u8], i: usize, b: u8)
 pub fn fill(a: &[u32], buffer: &mut [u32])
     ensures { buffer.new ≡ sets buffer.old 0 a.now }
 {
-    let mut i = 0;
-    while i < a.len() {
+    for i in 0..a.len() {
         put(buffer, i, a[i]);
-        i += 1;
     }
 }
 
 pub fn fill_bytes(a: &[u8], buffer: &mut [u8])
     ensures { buffer.new ≡ sets buffer.old 0 a.now }
 {
-    let mut i = 0;
-    while i < a.len() {
+    for i in 0..a.len() {
         put_byte(buffer, i, a[i]);
-        i += 1;
     }
 }
 
@@ -71,10 +61,8 @@ pub fn fill_bytes(a: &[u8], buffer: &mut [u8])
 pub fn fill_words(a: &[u8], buffer: &mut [u32])
     ensures { buffer.new ≡ sets buffer.old 0 a.now }
 {
-    let mut i = 0;
-    while i < a.len() {
-        put(buffer, i, wide(a[i]));
-        i += 1;
+    for i in 0..a.len() {
+        put(buffer, i, a[i] as u32);
     }
 }
 
@@ -82,10 +70,8 @@ pub fn fill_words(a: &[u8], buffer: &mut [u32])
 pub fn fill_low(a: &[u32], buffer: &mut [u8])
     ensures { buffer.new ≡ sets buffer.old 0 (map low_byte a.now) }
 {
-    let mut i = 0;
-    while i < a.len() {
+    for i in 0..a.len() {
         put_byte(buffer, i, low(a[i]));
-        i += 1;
     }
 }
 

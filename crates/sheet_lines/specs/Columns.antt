@@ -70,7 +70,8 @@ module _ (e : ℕ) where
   passes (read a p) K Q P h k = (k a h.0).from p h.1
   passes (bad c) K Q P h k = h
 
-  in-turn : {A B : Type 0} {Q : A → Type 0} {P : B → Type 0} (R : Rule A) (K : A → Rule B) → Stays R Q → ((a : A) → Q a → Stays (K a) P) → Stays (λ p. pass (R p) K) P
+  in-turn : {A B : Type 0} {Q : A → Type 0} {P : B → Type 0} (R : Rule A) (K : A → Rule B) → Stays R Q → ((a : A) → Q a → Stays (K a) P)
+      → Stays (λ p. pass (R p) K) P
   in-turn {A} {B} {Q} {P} R K x k = record { from = λ p h. passes (R p) K Q P (x.from p h) k }
 
   given : {A : Type 0} {Q : A → Type 0} (a : A) → Q a → Stays (give a) Q
@@ -147,7 +148,8 @@ module _ (e : ℕ) where
         go true q k = rw (q, pick) t.0
         go false q k = rw (q, pick) k
 
-  chosen-in : {A : Type 0} (Q : A → Type 0) (a : A) (xs : List (Char × Rule A)) → Q a → Every (λ (x : Char × Rule A). Stays x.1 Q) xs → (p : Place) → InLine p → Ends Q (chosen a xs p)
+  chosen-in : {A : Type 0} (Q : A → Type 0) (a : A) (xs : List (Char × Rule A)) → Q a → Every (λ (x : Char × Rule A). Stays x.1 Q) xs → (p : Place) → InLine p
+      → Ends Q (chosen a xs p)
   chosen-in Q a xs q t (here c []) h = omega arith
   chosen-in Q a xs q t (here c (b ∷ bs)) h = (pick-in b xs t).from (here c (b ∷ bs)) h
   chosen-in Q a xs q t beyond h = (q, tt)
@@ -166,9 +168,11 @@ module _ (e : ℕ) where
   name-from whole c [] h = (tt, h)
   name-from slashed c [] h = omega arith
   name-from (half k) c [] h = omega arith
-  name-from whole c (b ∷ bs) h = go (is_plain b) (eqb b (code "\\")) refl refl (name-from whole (suc c) bs (omega arith)) (name-from slashed (suc c) bs (omega arith))
+  name-from whole c (b ∷ bs) h = go (is_plain b) (eqb b (code "\\")) refl refl (name-from whole (suc c) bs (omega arith))
+      (name-from slashed (suc c) bs (omega arith))
     where
-      go : (u v : Bool) → is_plain b ≡ u → eqb b (code "\\") ≡ v → Ends Any (nameFrom whole (suc c) bs) → Ends Any (nameFrom slashed (suc c) bs) → Ends Any (nameFrom whole c (b ∷ bs))
+      go : (u v : Bool) → is_plain b ≡ u → eqb b (code "\\") ≡ v → Ends Any (nameFrom whole (suc c) bs) → Ends Any (nameFrom slashed (suc c) bs)
+          → Ends Any (nameFrom whole c (b ∷ bs))
       go true v q r x y = rw (q, nameFrom) (more-in b (nameFrom whole (suc c) bs) x)
       go false true q r x y = rw (q, r, nameFrom) y
       go false false q r x y = rw (q, r, nameFrom) (tt, h)
@@ -188,7 +192,8 @@ module _ (e : ℕ) where
 
   name-at : (p : Place) → InLine p → Ends NameIn (name p)
   unfolding name
-  name-at (here c bs) h = passes (nameFrom whole c bs) (λ n. give (record { column = c; bytes = n })) Any NameIn (name-from whole c bs h) (λ n k. given (record { column = c; bytes = n }) (omega arith))
+  name-at (here c bs) h = passes (nameFrom whole c bs) (λ n. give (record { column = c; bytes = n })) Any NameIn (name-from whole c bs h)
+      (λ n k. given (record { column = c; bytes = n }) (omega arith))
   name-at beyond h = (omega arith, tt)
 
   name_in : Stays name NameIn
@@ -223,7 +228,8 @@ module _ (e : ℕ) where
   PowerIn p = p.column ≤ e
 
   minus-in : Stays minusThere Any
-  minus-in = if-sign {Q = Any} "-" (sign "-" >> give true) (give false) (in-turn (sign "-") (λ u. give true) (sign-in (ascii "-")) (λ u hu. given true tt)) (given false tt)
+  minus-in = if-sign {Q = Any} "-" (sign "-" >> give true) (give false) (in-turn (sign "-") (λ u. give true) (sign-in (ascii "-")) (λ u hu. given true tt))
+      (given false tt)
 
   denominator-in : Stays denominatorThere Any
   denominator-in = if-sign {Q = Any} "/" (sign "/" >> digits) (give 1) (in-turn (sign "/") (λ u. digits) (sign-in (ascii "/")) (λ u hu. digits_in)) (given 1 tt)
@@ -259,13 +265,17 @@ module _ (e : ℕ) where
     pub power : PowerIn f.power
 
   marked-in : (x : Char) (f : NameAt → Atom NameAt) → ((n : NameAt) → NameIn n → AtomIn (f n)) → Stays (markedWith x f).1 AtomIn
-  marked-in x f k = in-turn (mark x >> name) (λ n. give (f n)) (in-turn (mark x) (λ u. name) (sign-in (code x ∷ [])) (λ u hu. name_in)) (λ n hn. given (f n) (k n hn))
+  marked-in x f k = in-turn (mark x >> name) (λ n. give (f n)) (in-turn (mark x) (λ u. name) (sign-in (code x ∷ [])) (λ u hu. name_in))
+      (λ n hn. given (f n) (k n hn))
 
   abbrev noAtom : Atom NameAt
   noAtom = base (record { column = 0; bytes = [] })
 
   atom-in : Stays (choose noAtom marks) AtomIn
-  atom-in = choose-in AtomIn noAtom marks (omega arith) (marked-in "?" (λ n. free (var n)) (λ n h. h), (marked-in "!" (λ n. free (par n)) (λ n h. h), (marked-in "#" base (λ n h. h), tt)))
+  atom-in = choose-in AtomIn noAtom marks (omega arith) (
+    marked-in "?" (λ n. free (var n)) (λ n h. h),
+    (marked-in "!" (λ n. free (par n)) (λ n h. h), (marked-in "#" base (λ n h. h), tt)),
+  )
 
   abbrev powerThere : Rule PowerAt
   powerThere = ifSign "^" power (give noPower)
@@ -275,7 +285,8 @@ module _ (e : ℕ) where
   factor-in =
       in-turn column (λ c. choose noAtom marks >>= λ a. powerThere >>= λ k. give (record { column = c; atom = a; power = k })) column-in
       (λ c hc. in-turn (choose noAtom marks) (λ a. powerThere >>= λ k. give (record { column = c; atom = a; power = k })) atom-in
-      (λ a ha. in-turn powerThere (λ k. give (record { column = c; atom = a; power = k })) (if-sign {Q = PowerIn} "^" power (give noPower) power_in (given noPower (omega arith)))
+      (λ a ha. in-turn powerThere (λ k. give (record { column = c; atom = a; power = k }))
+      (if-sign {Q = PowerIn} "^" power (give noPower) power_in (given noPower (omega arith)))
       (λ k hk. given (record { column = c; atom = a; power = k }) (record { mark = hc; atom = ha; power = hk }))))
 
   more-factors : (n : ℕ) → Stays (moreFactors n) (Every FactorIn)
@@ -327,9 +338,11 @@ module _ (e : ℕ) where
   dimension-in =
       in-turn column (λ c. sign "[" >> (factorsThere >>= λ fs. column >>= λ d. sign "]" >> give (dimAt c fs d))) column-in
       (λ c hc. in-turn (sign "[") (λ u. factorsThere >>= λ fs. column >>= λ d. sign "]" >> give (dimAt c fs d)) (sign-in (ascii "["))
-      (λ u hu. in-turn factorsThere (λ fs. column >>= λ d. sign "]" >> give (dimAt c fs d)) (if-sign {Q = Every FactorIn} "]" (give []) factors (given [] tt) factors-in)
+      (λ u hu. in-turn factorsThere (λ fs. column >>= λ d. sign "]" >> give (dimAt c fs d)) (if-sign {Q = Every FactorIn} "]" (give []) factors
+      (given [] tt) factors-in)
       (λ fs hf. in-turn column (λ d. sign "]" >> give (dimAt c fs d)) column-in
-      (λ d hd. in-turn (sign "]") (λ w. give (dimAt c fs d)) (sign-in (ascii "]")) (λ w hw. given (dimAt c fs d) (record { first = hc; inside = hf; last = hd }))))))
+      (λ d hd. in-turn (sign "]") (λ w. give (dimAt c fs d)) (sign-in (ascii "]"))
+      (λ w hw. given (dimAt c fs d) (record { first = hc; inside = hf; last = hd }))))))
 
   opened_in : (x : Char) (f : NameAt → Open NameAt) → ((n : NameAt) → NameIn n → OpenIn (f n)) → Stays (opened x f) TyIn
   unfolding TyIn
@@ -461,7 +474,13 @@ module _ (e : ℕ) where
         opened_in "!" par (λ n h. h),
         (
           dimension-in,
-          (keyword-in (ascii "Bool") boolean, (keyword-in (ascii "String") string, (keyword-in (ascii "DateTime") datetime, (function-in, (listed_in, (structure-in, tt)))))),
+          (
+            keyword-in (ascii "Bool") boolean,
+            (
+              keyword-in (ascii "String") string,
+              (keyword-in (ascii "DateTime") datetime, (function-in, (listed_in, (structure-in, tt)))),
+            ),
+          ),
         ),
       ),
     )
@@ -476,7 +495,10 @@ module _ (e : ℕ) where
 
   type-in : (d : ℕ) → Stays (type d) TyIn
   unfolding type
-  type-in zero = choose-in TyIn (deepAt 0) deepTypes nothing-deep (deep_in, (deep_in, (deep_in, (deep_in, (deep_in, (deep_in, (deep_in, (deep_in, (deep_in, tt)))))))))
+  type-in zero = choose-in TyIn (deepAt 0) deepTypes nothing-deep (
+    deep_in,
+    (deep_in, (deep_in, (deep_in, (deep_in, (deep_in, (deep_in, (deep_in, (deep_in, tt)))))))),
+  )
   type-in (suc d) = choose-in TyIn (deepAt 0) (types (type d)) nothing-deep (types-in (type d) (type-in d))
 
   -- ══ Lines ══
@@ -492,9 +514,11 @@ module _ (e : ℕ) where
 
   after-type : (c : ℕ) (l : TyAt) (xs : List (Char × Rule ConAt)) → c ≤ e → TyIn l → RulesIn xs → RulesIn (afterType c l xs)
   after-type c l xs hc hl hx = (
-    in-turn (sign "~" >> type 64) (λ r. give (equalAt c l r)) (in-turn (sign "~") (λ u. type 64) (sign-in (ascii "~")) (λ u hu. type-in 64)) (λ r hr. given (equalAt c l r) (hc, hl, hr)),
+    in-turn (sign "~" >> type 64) (λ r. give (equalAt c l r)) (in-turn (sign "~") (λ u. type 64) (sign-in (ascii "~")) (λ u hu. type-in 64))
+        (λ r hr. given (equalAt c l r) (hc, hl, hr)),
     (
-      in-turn (sign ":" >> sign "DType") (λ u. give (isDimAt c l)) (in-turn (sign ":") (λ u. sign "DType") (sign-in (ascii ":")) (λ u hu. sign-in (ascii "DType"))) (λ u hu. given (isDimAt c l) (hc, hl)),
+      in-turn (sign ":" >> sign "DType") (λ u. give (isDimAt c l)) (in-turn (sign ":") (λ u. sign "DType") (sign-in (ascii ":"))
+          (λ u hu. sign-in (ascii "DType"))) (λ u hu. given (isDimAt c l) (hc, hl)),
       hx,
     ),
   )
@@ -502,7 +526,8 @@ module _ (e : ℕ) where
   after-dimension : (c : ℕ) (l : TyAt) → c ≤ e → TyIn l → RulesIn (afterDimension c l)
   unfolding TyIn
   after-dimension c (dimAt d fs k) hc hl = (
-    in-turn (sign "=" >> sign "Scalar") (λ u. give (isScalarAt c d fs k)) (in-turn (sign "=") (λ u. sign "Scalar") (sign-in (ascii "=")) (λ u hu. sign-in (ascii "Scalar"))) (λ u hu. given (isScalarAt c d fs k) (hc, hl)),
+    in-turn (sign "=" >> sign "Scalar") (λ u. give (isScalarAt c d fs k))
+        (in-turn (sign "=") (λ u. sign "Scalar") (sign-in (ascii "=")) (λ u hu. sign-in (ascii "Scalar"))) (λ u hu. given (isScalarAt c d fs k) (hc, hl)),
     tt,
   )
   after-dimension c (open_at d o) hc hl = tt
@@ -517,7 +542,8 @@ module _ (e : ℕ) where
   typed-in =
       in-turn column (λ c. type 64 >>= λ l. choose (isDimAt c l) (afterType c l (afterDimension c l))) column-in
       (λ c hc. in-turn (type 64) (λ l. choose (isDimAt c l) (afterType c l (afterDimension c l))) (type-in 64)
-      (λ l hl. choose-in ConIn (isDimAt c l) (afterType c l (afterDimension c l)) (hc, hl) (after-type c l (afterDimension c l) hc hl (after-dimension c l hc hl))))
+      (λ l hl. choose-in ConIn (isDimAt c l) (afterType c l (afterDimension c l)) (hc, hl)
+      (after-type c l (afterDimension c l) hc hl (after-dimension c l hc hl))))
 
   last-type : (c : ℕ) (s : TyAt) (n : NameAt) → c ≤ e → TyIn s → NameIn n → Stays (lastType c s n) ConIn
   last-type c s n hc hs hn =
@@ -554,7 +580,8 @@ module _ (e : ℕ) where
   unfolding signsAt
   signs-at (here c []) h = (tt, h)
   signs-at (here c (b ∷ bs)) h =
-      (if-sign {Q = LineIn} "-" (sign "--" >> give none) constraint (in-turn (sign "--") (λ u. give none) (sign-in (ascii "--")) (λ u hu. given {Q = LineIn} none tt)) constraint-in).from (here c (b ∷ bs)) h
+      (if-sign {Q = LineIn} "-" (sign "--" >> give none) constraint (in-turn (sign "--") (λ u. give none) (sign-in (ascii "--"))
+      (λ u hu. given {Q = LineIn} none tt)) constraint-in).from (here c (b ∷ bs)) h
   signs-at beyond h = (tt, tt)
 
 -- a line, read from its first column: every column told is at most that of its end

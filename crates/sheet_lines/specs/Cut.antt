@@ -1,6 +1,7 @@
 -- Where a line of a text ends.
 use Rattle.std.specs.Prelude.{◌≡◌, refl, List, [], ◌∷◌, ◌++◌, ℕ, suc, ◌+◌, ◌-◌, ◌≤◌, ◌<◌, length, take, drop, get_or}
-use Rattle.std.proofs.Common.{sym, ap, ◌∙◌, append-nil, add-one, arith, ne_eqb, take-append-drop, drop_of_length-le, length-take-le, take_at, take-suc, drop-cons}
+use Rattle.std.proofs.Common.{sym, ap, ◌∙◌, append-nil, add-one, arith, ne_eqb, take-append-drop, drop_of_length-le, length-take-le, take_at}
+use Rattle.std.proofs.Common.{take-suc, drop-cons}
 use Rattle.std.proofs.Math.Seq.{slice, slice_empty, length-slice}
 use Rattle.std.proofs.lemmas.List.{drop-append-le}
 use Rattle.rules.specs.Names.{Bytes}

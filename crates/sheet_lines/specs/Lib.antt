@@ -1,5 +1,5 @@
 pub mod Columns
-pub mod Copies
 pub mod Cut
 pub mod Told
 pub mod Upto
+pub mod Theorems

@@ -44,14 +44,16 @@ pub record Both (cs ds : List (Con ℕ)) (dst d' : List ℕ) : Type 0 where
   pub long : length (collect writeCon (cs ++ ds)) ≡ length (collect writeCon cs) + length (collect writeCon ds)
   pub there : d' ≡ sets dst 0 (words (collect writeCon (cs ++ ds)))
 
-both : (cs ds : List (Con ℕ)) (dst d d' : List ℕ) (n : ℕ) → n ≡ length (collect writeCon cs) → d ≡ sets dst 0 (words (collect writeCon cs)) → d' ≡ sets d (n * 4) (words (collect writeCon ds)) → Both cs ds dst d'
+both : (cs ds : List (Con ℕ)) (dst d d' : List ℕ) (n : ℕ) → n ≡ length (collect writeCon cs) → d ≡ sets dst 0 (words (collect writeCon cs))
+    → d' ≡ sets d (n * 4) (words (collect writeCon ds)) → Both cs ds dst d'
 both cs ds dst d d' n e f g =
     let a = collect writeCon cs in
     let b = collect writeCon ds in
     let k : n * 4 ≡ 0 + length (words a) = omega (arith, words-length a) in
     record {
       long = ap length (collect-append writeCon cs ds) ∙ length-append a b;
-      there = g ∙ rw (f, k) (sym (sets-append (words a) (words b) dst 0)) ∙ ap (sets dst 0) (sym (words_append a b) ∙ sym (ap words (collect-append writeCon cs ds)));
+      there = g ∙ rw (f, k) (sym (sets-append (words a) (words b) dst 0))
+          ∙ ap (sets dst 0) (sym (words_append a b) ∙ sym (ap words (collect-append writeCon cs ds)));
     }
 
 module _ (pool table text dst : List ℕ) where
@@ -78,10 +80,22 @@ module _ (pool table text dst : List ℕ) where
 
   pub begins : Upto 0 0 0 (unread pool table) dst
   unfolding lines_read collect words
-  begins = record { lines = []; cons = []; cut = refl; read = refl; passed = refl; many = refl; records = refl; written = refl; within = omega arith; few = omega arith }
+  begins = record {
+    lines = [];
+    cons = [];
+    cut = refl;
+    read = refl;
+    passed = refl;
+    many = refl;
+    records = refl;
+    written = refl;
+    within = omega arith;
+    few = omega arith;
+  }
 
   -- one line more
-  step : (l : Bytes) (ls : List Bytes) (cs ds : List (Con ℕ)) (s s' : Sofar) → lines_read 1 ls (unread pool table) ≡ sheet cs s → lineRead l s ≡ told ds s' → lines_read 1 (ls ++ (l ∷ [])) (unread pool table) ≡ sheet (cs ++ ds) s'
+  step : (l : Bytes) (ls : List Bytes) (cs ds : List (Con ℕ)) (s s' : Sofar) → lines_read 1 ls (unread pool table) ≡ sheet cs s → lineRead l s ≡ told ds s'
+      → lines_read 1 (ls ++ (l ∷ [])) (unread pool table) ≡ sheet (cs ++ ds) s'
   unfolding lines_read
   step l ls cs ds s s' e h = read-on ls (l ∷ []) 1 (unread pool table) cs s e ∙ rw h (ap (λ (k : List (Con ℕ)). sheet (cs ++ k) s') (append-nil ds))
 
@@ -97,7 +111,8 @@ module _ (pool table text dst : List ℕ) where
       goes_on h = record {
         lines = u.lines ++ (line_at text at r ∷ []);
         cons = u.cons ++ x.cons;
-        cut = u.cut ∙ ap (λ (ls : List Bytes). u.lines ++ ls) (w.is ∙ ap (λ (ls : List Bytes). line_at text at r ∷ ls) (w.more h)) ∙ sym (append_assoc u.lines (line_at text at r ∷ []) (lines_of (drop (r + 1) text)));
+        cut = u.cut ∙ ap (λ (ls : List Bytes). u.lines ++ ls) (w.is ∙ ap (λ (ls : List Bytes). line_at text at r ∷ ls) (w.more h))
+            ∙ sym (append_assoc u.lines (line_at text at r ∷ []) (lines_of (drop (r + 1) text)));
         read = step (line_at text at r) u.lines u.cons x.cons s s' u.read x.is;
         passed = omega (arith, u.passed, length-append u.lines (line_at text at r ∷ []));
         many = omega (arith, u.many, x.many, length-append u.cons x.cons);
@@ -111,7 +126,9 @@ module _ (pool table text dst : List ℕ) where
       unfolding sheetRead
       ends h = record {
         cons = u.cons ++ x.cons;
-        is = ap (λ (ls : List Bytes). lines_read 1 ls (unread pool table)) (u.cut ∙ ap (λ (ls : List Bytes). u.lines ++ ls) (w.is ∙ ap (λ (ls : List Bytes). line_at text at r ∷ ls) (w.last h))) ∙ step (line_at text at r) u.lines u.cons x.cons s s' u.read x.is;
+        is = ap (λ (ls : List Bytes). lines_read 1 ls (unread pool table))
+            (u.cut ∙ ap (λ (ls : List Bytes). u.lines ++ ls) (w.is ∙ ap (λ (ls : List Bytes). line_at text at r ∷ ls) (w.last h)))
+            ∙ step (line_at text at r) u.lines u.cons x.cons s s' u.read x.is;
         many = omega (arith, u.many, x.many, length-append u.cons x.cons);
         records = omega (arith, u.records, x.records, behind.long);
         written = behind.there;

@@ -28,7 +28,8 @@ readAs r pool table result work = record { answer = toldSheet r; pool = pool; ta
 
 -- past the check of 10 the answer is that of the definition, whatever is left in the work buffer
 pub record Answers (pool table text result pool' table' result' : List ℕ) (r : Sheet) : Type 0 where
-  pub is : (work : List ℕ) → readAs r pool' table' result' work ≡ handed pool table result work (fromEntry (tableKept (table_of pool table)) (sheetRead pool table text))
+  pub is : (work : List ℕ) → readAs r pool' table' result' work ≡ handed pool table result work
+      (fromEntry (tableKept (table_of pool table)) (sheetRead pool table text))
 
 -- records written from the start stand at the front
 front : (rs : List Rec) (w : List ℕ) → length rs * 4 ≤ length w → take (length rs * 4) (sets w 0 (words rs)) ≡ words rs
@@ -37,7 +38,8 @@ front rs w h =
     ap (take (length rs * 4)) (sets-eq (words rs) w 0 (omega arith)) ∙ take_at (words rs) (drop (0 + length (words rs)) w) (length rs * 4) n
 
 -- and are copied to the front of a result
-copied : (rs : List Rec) (w b : List ℕ) → length rs * 4 ≤ length w → length rs * 4 ≤ length b → sets b 0 (take (length rs * 4) (sets w 0 (words rs))) ≡ over (words rs) b
+copied : (rs : List Rec) (w b : List ℕ) → length rs * 4 ≤ length w → length rs * 4 ≤ length b
+    → sets b 0 (take (length rs * 4) (sets w 0 (words rs))) ≡ over (words rs) b
 unfolding over
 copied rs w b h k =
     let n = words-length rs in
@@ -53,17 +55,20 @@ module _ {pool table : List ℕ} (text result : List ℕ) (b : Bool) (is : b ≡
     good p t = record { bytes = p; words = t; good = sym is ∙ not-false b yes }
 
     -- refused: nothing has changed
-    pub refused-sheet : {work p t d : List ℕ} {r : Refusal} {l q : ℕ} → IsUndone text pool table work p t d r l q → Answers pool table text result p t result (Err (record { why = r; line = l; column = q }))
+    pub refused-sheet : {work p t d : List ℕ} {r : Refusal} {l q : ℕ} → IsUndone text pool table work p t d r l q
+        → Answers pool table text result p t result (Err (record { why = r; line = l; column = q }))
     unfolding tableKept
     refused-sheet x = record { is = λ work. rw (sym is ∙ not-false b yes, x.is, x.pools, x.tables) }
 
     -- read: the records are handed over
-    pub read-sheet : {work p t d e : List ℕ} {n c k : ℕ} → 8192 ≤ length work → 8192 ≤ length result → IsRead text pool table work p t d n c k → e ≡ sets result 0 (slice 0 (n * 4) d)
+    pub read-sheet : {work p t d e : List ℕ} {n c k : ℕ} → 8192 ≤ length work → 8192 ≤ length result → IsRead text pool table work p t d n c k
+        → e ≡ sets result 0 (slice 0 (n * 4) d)
         → Answers pool table text result p t e (Ok (record { records = n; constraints = c; names = k }))
     unfolding tableKept
     read-sheet {work} {p} {t} {d} {e} {n} {c} {k} f g x y =
         let w = x.whole in
         let rs = collect writeCon w.cons in
-        let h : e ≡ over (words rs) result = y ∙ ap (λ (i : ℕ). sets result 0 (take (i * 4) d)) w.records ∙ ap (λ (l : List ℕ). sets result 0 (take (length rs * 4) l)) w.written
+        let h : e ≡ over (words rs) result = y ∙ ap (λ (i : ℕ). sets result 0 (take (i * 4) d)) w.records
+        ∙ ap (λ (l : List ℕ). sets result 0 (take (length rs * 4) l)) w.written
         ∙ copied rs work result (omega (arith, w.records, x.few)) (omega (arith, w.records, x.few)) in
         record { is = λ z. rw (sym is ∙ not-false b yes, w.is, h, w.records, set-length w.cons, w.many) }

@@ -1,9 +1,8 @@
 -- The loop over a sheet's lines, and what is put back where a line is refused.
-use Rattle.std.specs.Prelude.{◌≡◌, refl, List, ℕ, Result, Ok, Err, suc, ◌+◌, ◌*◌, ◌≤◌, ◌<◌, length, take, drop}
-use Rattle.std.proofs.Common.{sym, ap, ◌∙◌, add-one, arith, length-take-le}
+use Rattle.std.specs.Prelude.{◌≡◌, refl, List, ◌++◌, ℕ, Result, Ok, Err, suc, ◌+◌, ◌*◌, ◌≤◌, ◌<◌, length, take, drop}
+use Rattle.std.proofs.Common.{sym, ap, ◌∙◌, add-one, arith, take-append-drop}
 use Rattle.std.proofs.lemmas.List.Edits.{sets}
 use Rattle.rules.specs.Names.{Bytes}
-use Rattle.rules.specs.Calls.{over}
 use Rattle.rules.specs.Refusals.{number_of}
 use Rattle.rules.specs.Writing.{Rec, words}
 use Rattle.rules.specs.TextReading.{refusedAt, lineRead, refusedIn, sheetRead}
@@ -12,7 +11,6 @@ use Rattle.laws.specs.NameTable.{Good}
 use Rattle.terms.specs.Effects.{Lent, lent, sofar, Roomy, Kept, kept_same, kept_then}
 use Rattle.terms.specs.Stands.{same-going}
 use Rattle.terms.specs.Stands as stand
-use Rattle.sheet_lines.specs.Copies.{put-back}
 use Rattle.sheet_lines.specs.Cut.{Cut, line_at, line-length}
 use Rattle.sheet_lines.specs.Told.{refused-in}
 use Rattle.sheet_lines.specs.Upto.{LineAdds, Upto, Whole}
@@ -82,7 +80,8 @@ adds {l} {p₁} {t₁} {d₁} {p₂} {t₂} {d₂} {k} {n} {i} {j} x =
       written = y.written ∙ ap (λ (rs : List Rec). sets d₁ (n * 4) (words rs)) y.tells.written;
     }
 
-module _ {text pool table dst : List ℕ} {at m k n c : ℕ} {p₁ t₁ d₁ : List ℕ} (a : Along text pool table dst at m k n c p₁ t₁ d₁) {r : ℕ} (w : Cut text at r) where
+module _ {text pool table dst : List ℕ} {at m k n c : ℕ} {p₁ t₁ d₁ : List ℕ} (a : Along text pool table dst at m k n c p₁ t₁ d₁) {r : ℕ}
+    (w : Cut text at r) where
   module _ {p₂ t₂ d₂ : List ℕ} {i j b : ℕ} (x : LineDone (line_at text at r) (lent p₁ t₁ d₁ (stand.Going k n)) (lent p₂ t₂ d₂ (stand.Going i j)) b) where
     kept_on : Kept (start pool table dst) (lent p₂ t₂ d₂ (stand.Going i j))
     kept_on = kept_then a.kept x.kept
@@ -99,7 +98,8 @@ module _ {text pool table dst : List ℕ} {at m k n c : ℕ} {p₁ t₁ d₁ : L
     pub ends : r ≡ length text → IsRead text pool table dst p₂ t₂ d₂ j (c + b) i
     ends h = record { whole = upto.ends pool table text dst a.upto w (adds x) h; few = few }
 
-  module _ {p₂ t₂ d₂ : List ℕ} {v : Refusal} {q b : ℕ} (x : LineDone (line_at text at r) (lent p₁ t₁ d₁ (stand.Going k n)) (lent p₂ t₂ d₂ (stand.Refused v q)) b) where
+  module _ {p₂ t₂ d₂ : List ℕ} {v : Refusal} {q b : ℕ} (x : LineDone (line_at text at r) (lent p₁ t₁ d₁ (stand.Going k n))
+      (lent p₂ t₂ d₂ (stand.Refused v q)) b) where
     refused : lineRead (line_at text at r) (sofar (start p₁ t₁ d₁) k n) ≡ refusedAt (number_of v) (suc q)
     refused = x.effect.refuses k n q v refl refl
 
@@ -117,18 +117,6 @@ module _ {text pool table dst : List ℕ} {at m k n c : ℕ} {p₁ t₁ d₁ : L
 
 -- ══ Put back ══
 
-module _ {text pool table dst : List ℕ} {p₁ t₁ p₂ t₂ d₁ bytes ends : List ℕ} {v : Refusal} {l q : ℕ} (good : Good pool table) where
-  pub undone : IsRefused text pool table dst p₁ t₁ d₁ v l q → bytes ≡ take 8192 pool → ends ≡ take 257 table → p₂ ≡ over bytes p₁ → t₂ ≡ over ends t₁ → IsUndone text pool table dst p₂ t₂ d₁ v l q
-  undone x b w e f = record {
-    is = x.is;
-    pools = e ∙ ap (λ (l : List ℕ). over l p₁) b ∙ put-back 8192 pool p₁ good.bytes x.pool-behind;
-    tables = f ∙ ap (λ (l : List ℕ). over l t₁) w ∙ put-back 257 table t₁ good.words x.table-behind;
-  }
-
--- how long is what is held
-module _ {pool table : List ℕ} (good : Good pool table) where
-  pub bytes-held : {bytes : List ℕ} → bytes ≡ take 8192 pool → length bytes ≡ 8192
-  bytes-held e = ap length e ∙ length-take-le 8192 pool good.bytes
-
-  pub words-held : {ends : List ℕ} → ends ≡ take 257 table → length ends ≡ 257
-  words-held e = ap length e ∙ length-take-le 257 table good.words
+-- a front of n is put back where nothing behind it has changed
+pub put-back : (n : ℕ) (new : List ℕ) {front old : List ℕ} → front ≡ take n old → drop n new ≡ drop n old → front ++ drop n new ≡ old
+put-back n new {front} {old} e f = ap (λ (l : List ℕ). l ++ drop n new) e ∙ ap (λ (l : List ℕ). take n old ++ l) f ∙ take-append-drop n old

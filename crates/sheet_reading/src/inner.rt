@@ -8,7 +8,7 @@ use super::{NotRead, Read};
 use names::inner::is_good;
 use records::inner::copy;
 use rules::{POOL_BYTES, Refusal, TABLE_WORDS};
-use sheet_lines::inner::{hold_bytes, hold_words, line_end, put_bytes, put_words};
+use sheet_lines::inner::line_end;
 use statements::inner::read_line;
 use terms::inner::Tally;
 
@@ -67,14 +67,14 @@ pub fn read_sheet(
     ensures { AllOrNothing text.now pool.old table.old dst.old pool.new table.new dst.new result }
 {
     let mut bytes = [0u8; POOL_BYTES];
-    hold_bytes(pool, &mut bytes);
+    bytes.copy_from_slice(&pool[..POOL_BYTES]);
     let mut ends = [0u32; TABLE_WORDS];
-    hold_words(table, &mut ends);
+    ends.copy_from_slice(&table[..TABLE_WORDS]);
     match read_lines(text, pool, table, dst) {
         Ok(read) => Ok(read),
         Err(stop) => {
-            put_bytes(pool, &bytes);
-            put_words(table, &ends);
+            pool[..POOL_BYTES].copy_from_slice(&bytes);
+            table[..TABLE_WORDS].copy_from_slice(&ends);
             Err(stop)
         }
     }

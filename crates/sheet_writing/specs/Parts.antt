@@ -60,7 +60,8 @@ unfolding fromFactors factorsText moreFactorsText
 no-factors true names = refl
 no-factors false names = refl
 
-pub next-factor : (first : Bool) (names : ℕ → Bytes) (f : Factor ℕ) (p : Product ℕ) → fromFactors first names (f ∷ p) ≡ star first ++ (factorText names f ++ fromFactors false names p)
+pub next-factor : (first : Bool) (names : ℕ → Bytes) (f : Factor ℕ) (p : Product ℕ)
+    → fromFactors first names (f ∷ p) ≡ star first ++ (factorText names f ++ fromFactors false names p)
 unfolding fromFactors factorsText moreFactorsText
 next-factor true names f p = refl
 next-factor false names f p = refl
@@ -99,7 +100,8 @@ unfolding fromTys tysText moreTysText
 no_types true names = refl
 no_types false names = refl
 
-pub next_types : (first : Bool) (names : ℕ → Bytes) (t : Ty ℕ) (ts : Tys ℕ) → fromTys first names (cons t ts) ≡ comma first ++ (tyText names t ++ fromTys false names ts)
+pub next_types : (first : Bool) (names : ℕ → Bytes) (t : Ty ℕ) (ts : Tys ℕ)
+    → fromTys first names (cons t ts) ≡ comma first ++ (tyText names t ++ fromTys false names ts)
 unfolding fromTys tysText moreTysText
 next_types true names t ts = refl
 next_types false names t ts = refl
@@ -116,13 +118,15 @@ fromFields first names (field n t fs) = label first (names n) ++ (tyText names t
 more_fields : (names : ℕ → Bytes) (fs : Fields ℕ) → fromFields false names fs ≡ moreFieldsText names fs
 unfolding fromFields moreFieldsText
 more_fields names noFields = refl
-more_fields names (field n t fs) = ap (λ (u : Bytes). ascii ", " ++ u) (append_assoc (nameText (names n)) (ascii ": ") (tyText names t ++ moreFieldsText names fs))
+more_fields names (field n t fs) = ap (λ (u : Bytes). ascii ", " ++ u) (append_assoc (nameText (names n)) (ascii ": ")
+    (tyText names t ++ moreFieldsText names fs))
 
 pub no_fields : (first : Bool) (names : ℕ → Bytes) → fromFields first names noFields ≡ []
 unfolding fromFields
 no_fields first names = refl
 
-pub next_fields : (first : Bool) (names : ℕ → Bytes) (x : ℕ) (t : Ty ℕ) (fs : Fields ℕ) → fromFields first names (field x t fs) ≡ label first (names x) ++ (tyText names t ++ fromFields false names fs)
+pub next_fields : (first : Bool) (names : ℕ → Bytes) (x : ℕ) (t : Ty ℕ) (fs : Fields ℕ)
+    → fromFields first names (field x t fs) ≡ label first (names x) ++ (tyText names t ++ fromFields false names fs)
 unfolding fromFields
 next_fields first names x t fs = ap (λ (u : Bytes). label first (names x) ++ (tyText names t ++ u)) (sym (more_fields names fs))
 
@@ -154,20 +158,25 @@ module _ (names : ℕ → Bytes) where
   struct_text x ps fs n m k l = sym (
       let behind : Bytes = bracket (countFields fs) 123 ++ (fromFields true names fs ++ bracket (countFields fs) 125) in
       rw (← k, ← l, bracketed ps, braced fs)
-      (append_assoc (64 ∷ nameText (names x)) (bracket (count ps) 60) (fromTys true names ps ++ (between (count ps) (countFields fs) ++ (fromFields true names fs ++ bracket (countFields fs) 125)))
+      (append_assoc (64 ∷ nameText (names x)) (bracket (count ps) 60) (fromTys true names ps ++ (between (count ps) (countFields fs) ++
+          (fromFields true names fs ++ bracket (countFields fs) 125)))
       ∙ ap (λ (u : Bytes). 64 ∷ (nameText (names x) ++ (bracket (count ps) 60 ++ u)))
-      (ap (λ (u : Bytes). fromTys true names ps ++ u) (append_assoc (bracket (count ps) 62) (bracket (countFields fs) 123) (fromFields true names fs ++ bracket (countFields fs) 125))
+      (ap (λ (u : Bytes). fromTys true names ps ++ u) (append_assoc (bracket (count ps) 62) (bracket (countFields fs) 123)
+          (fromFields true names fs ++ bracket (countFields fs) 125))
       ∙ sym (append_assoc (fromTys true names ps) (bracket (count ps) 62) behind))
-      ∙ ap (λ (u : Bytes). 64 ∷ (nameText (names x) ++ u)) (sym (append_assoc (bracket (count ps) 60) (fromTys true names ps ++ bracket (count ps) 62) behind))))
+      ∙ ap (λ (u : Bytes). 64 ∷ (nameText (names x) ++ u)) (sym (append_assoc (bracket (count ps) 60) (fromTys true names ps ++ bracket
+          (count ps) 62) behind))))
 
 -- a field's name between the two types of its constraint
 abbrev pub named : Bytes → Bytes
 named x = ascii ", \"" ++ (nameText x ++ ascii "\", ")
 
-pub has-text : (names : ℕ → Bytes) (x : ℕ) (t u : Ty ℕ) → conText names (hasField x t u) ≡ ascii "HasField(" ++ (tyText names t ++ (named (names x) ++ (tyText names u ++ ascii ")")))
+pub has-text : (names : ℕ → Bytes) (x : ℕ) (t u : Ty ℕ) → conText names (hasField x t u)
+    ≡ ascii "HasField(" ++ (tyText names t ++ (named (names x) ++ (tyText names u ++ ascii ")")))
 unfolding conText
 has-text names x t u =
-    sym (ap (λ (b : Bytes). ascii "HasField(" ++ (tyText names t ++ (ascii ", \"" ++ b))) (append_assoc (nameText (names x)) (ascii "\", ") (tyText names u ++ ascii ")")))
+    sym (ap (λ (b : Bytes). ascii "HasField(" ++ (tyText names t ++ (ascii ", \"" ++ b))) (append_assoc (nameText (names x)) (ascii "\", ")
+        (tyText names u ++ ascii ")")))
 
 pub no-line : (names : ℕ → Bytes) → setText names [] ≡ []
 unfolding setText collect

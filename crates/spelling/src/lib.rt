@@ -1,4 +1,4 @@
-// Names, numbers and powers as text: which bytes stand for themselves, and how all are put into a sink.
+//! Names, numbers and powers as text: which bytes stand for themselves, and how all are put into a sink.
 #![tactic(auto)]
 
 pub mod inner;
@@ -14,14 +14,14 @@ ghost use Rattle.spelling.specs.Sinks.{Puts};
 use exponents::Exponent;
 use sink::Sink;
 
-// Is a byte between two others?
+/// Is a byte between two others?
 pub fn within(m: u8, b: u8, n: u8) -> bool
     ensures { result ≡ (leb m b && leb b n) }
 {
     if m <= b { b <= n } else { false }
 }
 
-// Does this byte stand for itself in a name?
+/// Does this byte stand for itself in a name?
 #[tactic(auto, unfolding(rules::specs::Grammar::is_plain, rules::specs::Grammar::isDigit))]
 pub fn is_plain(b: u8) -> bool
     ensures { result ≡ is_plain b }
@@ -53,7 +53,7 @@ fn put_escaped<S: Sink>(to: &mut S, b: u8) -> Result<(), S::Error>
     }
 }
 
-// Puts a name.
+/// Puts a name.
 pub fn put_name<S: Sink>(to: &mut S, name: &[u8]) -> Result<(), S::Error>
     ensures { Puts (S.place to.old) (nameText name.now) result (S.place to.new) }
 {
@@ -63,7 +63,7 @@ pub fn put_name<S: Sink>(to: &mut S, name: &[u8]) -> Result<(), S::Error>
     Ok(())
 }
 
-// Puts a number in decimal digits, at most k of them.
+/// Puts a number in decimal digits, at most k of them.
 #[tactic(auto, using(crate::proofs::Names::digits), unfolding(rules::specs::TextWriting::decimal))]
 pub fn put_digits<S: Sink>(to: &mut S, k: usize, n: u32) -> Result<(), S::Error>
     ensures { Puts (S.place to.old) (decimal k n) result (S.place to.new) }
@@ -102,7 +102,7 @@ fn put_denominator<S: Sink>(to: &mut S, d: u32) -> Result<(), S::Error>
     put_digits(to, 10, d)
 }
 
-// Puts a power, but for 1; it comes as the words of a factor's record.
+/// Puts a power, but for 1; it comes as the words of a factor's record.
 #[tactic(auto, unfolding(rules::specs::TextWriting::powerText))]
 pub fn put_power<S: Sink>(to: &mut S, b: u32, d: u32) -> Result<(), S::Error>
     ensures { Puts (S.place to.old) (powerText (frac (signed b) d)) result (S.place to.new) }

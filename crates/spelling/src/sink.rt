@@ -1,4 +1,4 @@
-// What takes bytes: the front of a lent buffer, a vector.
+//! What takes bytes: the front of a lent buffer, a vector.
 ghost use Rattle.std.specs.Prelude.{[], ◌≤◌, length, take, drop};
 ghost use Rattle.spelling.specs.Sinks.{Place, Puts};
 

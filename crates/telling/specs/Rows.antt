@@ -1,108 +1,191 @@
--- Parts of a list of records, each told in a line of its own: one law for bindings, bounds and constraints.
-use Rattle.std.specs.Prelude.{◌≡◌, refl, ℕ, ◌+◌, ◌-◌, ◌*◌, ◌≤◌, ◌<◌, ◌^◌, length}
-use Rattle.std.proofs.Common.{sym}
-use Rattle.std.proofs.Math.Path.{subst}
-use mathlib.Core.List.{List, [], ◌∷◌}
-use native.Mathlib.Omega.{arith}
-use Rattle.std.proofs.Math.ListN.{length-append}
+-- The rows of a report: a binding, a bound, or a constraint that remains, and the line that tells each.
+use Rattle.std.specs.Prelude.{◌≡◌, refl, true, List, [], ◌∷◌, ◌++◌, map, ℕ, ◌+◌, ◌/◌, ◌≤◌, ◌<◌, length, get_or}
+use Rattle.std.proofs.Common.{sym, ap, subst, ◌∙◌, arith, append_assoc}
 use Rattle.rules.specs.Base.{collect}
-use Rattle.rules.specs.Names.{Bytes}
-use Rattle.records.specs.Views.{longAt}
-use Rattle.records.specs.Good.{Chain}
-use Rattle.spelling.specs.Puts.{Put, nothing, after}
+use Rattle.rules.specs.Names.{Bytes, table_of, is_held}
+use Rattle.rules.specs.Reports.{bindingLine, boundLine, remainingLine}
+use Rattle.rules.specs.TextWriting.{nameText}
+use Rattle.rules.specs.Trees.{var, Ty, Con, equal, isDim, is_scalar, hasField, Binding, ◌≔◌, sizeCon, sizeBinding}
+use Rattle.rules.specs.WellFormed.{goodOpen, goodBinding}
+use Rattle.laws.specs.Lists.{and_left, and_right}
+use Rattle.records.specs.ByView.{binding-in}
+use Rattle.records.specs.Good.{Chain, GoodBinding, GoodBound, GoodCon, HeldOpen}
+use Rattle.records.specs.Holds.{Holds, HoldsBinding, HoldsCon, con-long, binding-long}
+use Rattle.records.specs.Parsed.{only}
+use Rattle.types.specs.Once.{ATree}
+use Rattle.records.specs.Views.{viewAt, longAt}
+use Rattle.records.specs.declared.Open as opens
+use Rattle.records.specs.declared.View.{View}
+use Rattle.records.specs.declared.View.TheVariants as view
+use Rattle.sheet_writing.specs.Parts.{conGood, held, isGood, name_of}
 
-module _ {A : Type 0} (P : ℕ → A → ℕ → Type 0) (line : A → Bytes) where
-  -- a part at a place, with room for its line
-  pub record RowAt (at out : ℕ) (a : A) : Type 0 where
-    pub end : ℕ
-    pub here : P at a end
-    pub room : out + (end - at) * 175 ≤ 2 ^ 49
+pub data Row : Type 0 where
+  binding : Binding ℕ → Row
+  bound : ℕ → Row
+  left : Con ℕ → Row
 
-  abbrev pub PutRow : ℕ → List ℕ → ℕ → List ℕ → ℕ → Type 0
-  PutRow at d out d' r = (a : A) → RowAt at out a → Put d out (line a) d' r
+-- a name without its mark
+abbrev pub bareText : (ℕ → Bytes) → opens.Open → Bytes
+bareText names (opens.TheVariants.Var x) = nameText (names x)
+bareText names (opens.TheVariants.Quant i) = []
+bareText names (opens.TheVariants.Par x) = nameText (names x)
 
-  -- parts one after another from a place up to another, with room for their lines
-  pub record RowsAt (at to out : ℕ) (xs : List A) : Type 0 where
-    pub chain : Chain P to xs at
-    pub room : out + (to - at) * 175 ≤ 2 ^ 49
+abbrev pub rowText : (ℕ → Bytes) → Row → Bytes
+rowText names (binding b) = bindingLine names b
+rowText names (bound x) = boundLine names x
+rowText names (left c) = remainingLine names c
 
-  abbrev pub PutRows : ℕ → ℕ → List ℕ → ℕ → List ℕ → ℕ → Type 0
-  PutRows at to d out d' r = (xs : List A) → RowsAt at to out xs → Put d out (collect line xs) d' r
-
-pub row-little : {A : Type 0} {P : ℕ → A → ℕ → Type 0} {line : A → Bytes} {at out : ℕ} → (a : A) × RowAt P line at out a → out ≤ 2 ^ 49
-row-little (a, f) = omega (arith, f.room)
-
--- each part takes some records, as many as its first record says, and its line at most 175 bytes a record
-pub record Lined {A : Type 0} (s : List ℕ) (P : ℕ → A → ℕ → Type 0) (line : A → Bytes) : Type 0 where
-  pub on : (at e : ℕ) (a : A) → P at a e → at < e
-  pub short : (at e : ℕ) (a : A) → P at a e → length (line a) ≤ (e - at) * 175
-  pub long : (at e : ℕ) (a : A) → P at a e → at + longAt s at ≡ e
-
-module _ {A : Type 0} {s : List ℕ} {P : ℕ → A → ℕ → Type 0} {line : A → Bytes} (k : Lined s P line) where
-  pub chain-on : (xs : List A) (at to : ℕ) → Chain P to xs at → at ≤ to
-  chain-on [] at to c = omega (arith, c)
-  chain-on (x ∷ xs) at to c = omega (arith, k.on at c.0 x c.1.0, chain-on xs c.0 to c.1.1)
-
-  pub rows_short : (xs : List A) (at to : ℕ) → Chain P to xs at → length (collect line xs) ≤ (to - at) * 175
+module _ (names : ℕ → Bytes) where
+  -- bindings and then bounds; what remains
+  pub solved-text : (bs : List (Binding ℕ)) (ns : List ℕ) → collect (rowText names) (map binding bs ++ map bound ns) ≡ collect (bindingLine names) bs ++ collect (boundLine names) ns
   unfolding collect
-  rows_short [] at to c = omega arith
-  rows_short (x ∷ xs) at to c =
-      let e = c.0 in
-      simp length-append (omega (arith, k.on at e x c.1.0, k.short at e x c.1.0, chain-on xs e to c.1.1, rows_short xs e to c.1.1))
+  solved-text [] [] = refl
+  solved-text [] (x ∷ ns) = ap (λ (t : Bytes). boundLine names x ++ t) (solved-text [] ns)
+  solved-text (b ∷ bs) ns = ap (λ (t : Bytes). bindingLine names b ++ t) (solved-text bs ns) ∙ sym (append_assoc (bindingLine names b) (collect (bindingLine names) bs) (collect (boundLine names) ns))
 
-  pub no_rows : (d : List ℕ) (at to out : ℕ) → to ≤ at → PutRows P line at to d out d out
+  pub left-text : (cs : List (Con ℕ)) → collect (rowText names) (map left cs) ≡ collect (remainingLine names) cs
   unfolding collect
-  no_rows d at to out le [] f = nothing d out
-  no_rows d at to out le (x ∷ xs) f =
+  left-text [] = refl
+  left-text (c ∷ cs) = ap (λ (t : Bytes). remainingLine names c ++ t) (left-text cs)
+
+pub con-some : (c : Con ℕ) → 1 ≤ sizeCon c
+unfolding sizeCon
+con-some (equal l r) = omega arith
+con-some (isDim t) = omega arith
+con-some (is_scalar p) = omega arith
+con-some (hasField x l r) = omega arith
+
+-- a place holds one type
+pub type-is : (s : List ℕ) (at : ℕ) (x : ATree s at) (t : Ty ℕ) → Holds s t at → x.0 ≡ t
+type-is s at x t h = only s x.0 t at x.1 h
+
+module _ (pool table s : List ℕ) where
+  -- a row from a place up to another
+  abbrev pub RowHere : ℕ → Row → ℕ → Type 0
+  RowHere at (binding b) e = GoodBinding pool table 0 s at b e
+  RowHere at (bound x) e = GoodBound pool table 0 s at (var x) e
+  RowHere at (left c) e = GoodCon pool table 0 s at c e
+
+  -- rows one after another from a place up to another
+  pub record RowsAt (at end : ℕ) (rs : List Row) : Type 0 where
+    pub chain : Chain RowHere end rs at
+
+  -- ══ What the record at a place says of its row ══
+
+  pub record Bound (o : opens.Open) (r : Row) : Type 0 where
+    pub x : ℕ
+    pub is : r ≡ bound x
+    pub name : opens.TheVariants.Var x ≡ o
+    pub held : HeldOpen table o
+
+  pub record Bind (at x : ℕ) (r : Row) : Type 0 where
+    pub t : Ty ℕ
+    pub is : r ≡ binding (x ≔ t)
+    pub holds : Holds s t (at + 1)
+    pub good : isGood pool table t ≡ true
+    pub name : x < get_or table 0 0
+    pub within : at < length s / 4
+
+  pub record Remains (at : ℕ) (r : Row) : Type 0 where
+    pub c : Con ℕ
+    pub is : r ≡ left c
+    pub holds : HoldsCon s c at
+    pub good : conGood pool table c ≡ true
+
+  not-con : (c : Con ℕ) (at : ℕ) (v : View) → HoldsCon s c at → viewAt s at ≡ v → ((x : ℕ) → v ≡ view.Binding x → ⊥) × ((o : opens.Open) → v ≡ view.Bound o → ⊥)
+  unfolding HoldsCon
+  not-con (equal l r) at v h e = (λ x q. let z : view.Equal ≡ view.Binding x = sym h.0 ∙ e ∙ q in cc, λ o q. let z : view.Equal ≡ view.Bound o = sym h.0 ∙ e ∙ q in cc)
+  not-con (isDim t) at v h e = (λ x q. let z : view.IsDim ≡ view.Binding x = sym h.0 ∙ e ∙ q in cc, λ o q. let z : view.IsDim ≡ view.Bound o = sym h.0 ∙ e ∙ q in cc)
+  not-con (is_scalar p) at v h e = (λ x q. let z : view.IsScalar ≡ view.Binding x = sym h.0 ∙ e ∙ q in cc, λ o q. let z : view.IsScalar ≡ view.Bound o = sym h.0 ∙ e ∙ q in cc)
+  not-con (hasField y l r) at v h e = (λ x q. let z : view.HasField y ≡ view.Binding x = sym h.0 ∙ e ∙ q in cc, λ o q. let z : view.HasField y ≡ view.Bound o = sym h.0 ∙ e ∙ q in cc)
+
+  pub as_binding : (at x e : ℕ) → viewAt s at ≡ view.Binding x → (r : Row) → RowHere at r e → Bind at x r
+  unfolding HoldsBinding goodBinding sizeBinding
+  as_binding at x e v (binding (y ≔ t)) h =
+      let q : view.Binding y ≡ view.Binding x = sym h.held.0 ∙ v in
+      let z : y ≡ x = cc in
+      record {
+        t = t;
+        is = ap (λ (n : ℕ). binding (n ≔ t)) z;
+        holds = h.held.1;
+        good = and_right (is_held (table_of pool table) y) _ h.good;
+        name = subst (λ (n : ℕ). n < get_or table 0 0) z (held pool table y (and_left (is_held (table_of pool table) y) _ h.good));
+        within = let i = binding-in s (y ≔ t) at h.held in omega (arith, i);
+      }
+  as_binding at x e v (bound y) h = let q : view.Bound (opens.TheVariants.Var y) ≡ view.Binding x = sym h.held.0 ∙ v in absurd (cc)
+  as_binding at x e v (left c) h = absurd ((not-con c at (view.Binding x) h.held v).0 x refl)
+
+  pub as_bound : (at e : ℕ) (o : opens.Open) → viewAt s at ≡ view.Bound o → (r : Row) → RowHere at r e → Bound o r
+  unfolding HoldsBinding goodOpen
+  as_bound at e o v (binding (y ≔ t)) h = let q : view.Binding y ≡ view.Bound o = sym h.held.0 ∙ v in absurd (cc)
+  as_bound at e o v (bound y) h =
+      let q : view.Bound (opens.TheVariants.Var y) ≡ view.Bound o = sym h.held.0 ∙ v in
+      let z : opens.TheVariants.Var y ≡ o = cc in
+      record { x = y; is = refl; name = z; held = subst (HeldOpen table) z (held pool table y h.good) }
+  as_bound at e o v (left c) h = absurd ((not-con c at (view.Bound o) h.held v).1 o refl)
+
+  pub as_left : (at e : ℕ) → ((x : ℕ) → viewAt s at ≡ view.Binding x → ⊥) → ((o : opens.Open) → viewAt s at ≡ view.Bound o → ⊥) → (r : Row) → RowHere at r e → Remains at r
+  unfolding HoldsBinding
+  as_left at e p q (binding (y ≔ t)) h = absurd (p y h.held.0)
+  as_left at e p q (bound y) h = absurd (q (opens.TheVariants.Var y) h.held.0)
+  as_left at e p q (left c) h = record { c = c; is = refl; holds = h.held; good = h.good }
+
+  -- ══ Rows one after another ══
+
+  pub row-on : (at e : ℕ) (r : Row) → RowHere at r e → at < e
+  unfolding sizeBinding
+  row-on at e (binding (x ≔ t)) h = omega (arith, h.past)
+  row-on at e (bound x) h = omega (arith, h.past)
+  row-on at e (left c) h = omega (arith, con-some c, h.past)
+
+  row-long : (at e : ℕ) (r : Row) → RowHere at r e → at + longAt s at ≡ e
+  row-long at e (binding b) h = omega (arith, binding-long s b at h.held, h.past)
+  row-long at e (bound x) h = omega (arith, h.held.1, h.past)
+  row-long at e (left c) h = omega (arith, con-long s c at h.held, h.past)
+
+  pub chain-on : (rs : List Row) (at end : ℕ) → Chain RowHere end rs at → at ≤ end
+  chain-on [] at end c = omega (arith, c)
+  chain-on (r ∷ rs) at end c = omega (arith, row-on at c.0 r c.1.0, chain-on rs c.0 end c.1.1)
+
+  pub no-rows : (at end : ℕ) → end ≤ at → (rs : List Row) → RowsAt at end rs → rs ≡ []
+  no-rows at end le [] f = refl
+  no-rows at end le (r ∷ rs) f = let c = f.chain in absurd (omega (arith, row-on at c.0 r c.1.0, chain-on rs c.0 end c.1.1, le))
+
+  pub record First (at end n : ℕ) (rs : List Row) : Type 0 where
+    pub r : Row
+    pub us : List Row
+    pub is : rs ≡ r ∷ us
+    pub here : RowHere at r (at + n)
+    pub others : RowsAt (at + n) end us
+    pub after : at < at + n
+    pub within : at + n ≤ end
+
+  pub first : (at end n : ℕ) → at < end → n ≡ longAt s at → (rs : List Row) → RowsAt at end rs → First at end n rs
+  first at end n lt g [] f = absurd (omega (arith, f.chain, lt))
+  first at end n lt g (r ∷ rs) f =
       let c = f.chain in
-      absurd (omega (arith, k.on at c.0 x c.1.0, chain-on xs c.0 to c.1.1, le))
+      let p : c.0 ≡ at + n = omega (arith, g, row-long at c.0 r c.1.0) in
+      record {
+        r = r;
+        us = rs;
+        is = refl;
+        here = subst (λ (e : ℕ). RowHere at r e) p c.1.0;
+        others = record { chain = subst (λ (e : ℕ). Chain RowHere end rs e) p c.1.1 };
+        after = omega (arith, p, row-on at c.0 r c.1.0);
+        within = omega (arith, p, chain-on rs c.0 end c.1.1);
+      }
 
-  record First (at to out : ℕ) (xs : List A) : Type 0 where
-    x : A
-    us : List A
-    is : xs ≡ x ∷ us
-    end : ℕ
-    here : P at x end
-    others : Chain P to us end
-    after : at < end
-    within : end ≤ to
-    room : out + (to - at) * 175 ≤ 2 ^ 49
+  -- ══ Bindings and bounds, and what remains, as rows ══
 
-  as_first : (at to out : ℕ) → at < to → (xs : List A) → RowsAt P line at to out xs → First at to out xs
-  as_first at to out lt [] f = absurd (omega (arith, f.chain, lt))
-  as_first at to out lt (x ∷ xs) f =
-      let c = f.chain in
-      record { x = x; us = xs; is = refl; end = c.0; here = c.1.0; others = c.1.1; after = k.on at c.0 x c.1.0; within = chain-on xs c.0 to c.1.1; room = f.room }
+  bounds-rows : (ns : List ℕ) (at end : ℕ) → Chain (λ i x e. GoodBound pool table 0 s i (var x) e) end ns at → Chain RowHere end (map bound ns) at
+  bounds-rows [] at end c = c
+  bounds-rows (x ∷ ns) at end c = (c.0, (c.1.0, bounds-rows ns c.0 end c.1.1))
 
-  module _ (at to out : ℕ) (lt : at < to) where
-    first-at : (xs : List A) → (f : RowsAt P line at to out xs) → RowAt P line at out (as_first at to out lt xs f).x
-    first-at xs f = let y = as_first at to out lt xs f in record { end = y.end; here = y.here; room = omega (arith, y.room, y.within) }
+  pub solved-rows : (bs : List (Binding ℕ)) (ns : List ℕ) (at mid end : ℕ) → Chain (GoodBinding pool table 0 s) mid bs at → Chain (λ i x e. GoodBound pool table 0 s i (var x) e) end ns mid
+      → Chain RowHere end (map binding bs ++ map bound ns) at
+  solved-rows [] ns at mid end b c = subst (λ (i : ℕ). Chain RowHere end (map bound ns) i) (sym b) (bounds-rows ns mid end c)
+  solved-rows (x ∷ bs) ns at mid end b c = (b.0, (b.1.0, solved-rows bs ns b.0 mid end b.1.1 c))
 
-    pub row_first : (xs : List A) → RowsAt P line at to out xs → (a : A) × RowAt P line at out a
-    row_first xs f = ((as_first at to out lt xs f).x, first-at xs f)
-
-    module _ {n : ℕ} (g : n ≡ longAt s at) where
-      row-end : (xs : List A) → (f : RowsAt P line at to out xs) → at + n ≡ (as_first at to out lt xs f).end
-      row-end xs f = let y = as_first at to out lt xs f in omega (arith, g, k.long at y.end y.x y.here)
-
-      pub row_on : (xs : List A) → RowsAt P line at to out xs → (at < at + n) × (at + n ≤ to)
-      row_on xs f = let y = as_first at to out lt xs f in (omega (arith, row-end xs f, y.after), omega (arith, row-end xs f, y.within))
-
-      module _ {d₀ d₁ : List ℕ} {o₁ : ℕ} (p : PutRow P line at d₀ out d₁ o₁) where
-        row-rest : (xs : List A) → (f : RowsAt P line at to out xs) → RowsAt P line (at + n) to o₁ (as_first at to out lt xs f).us
-        row-rest xs f =
-            let y = as_first at to out lt xs f in
-            let b = (p y.x (first-at xs f)).behind in
-            record {
-              chain = subst (λ (i : ℕ). Chain P to y.us i) (sym (row-end xs f)) y.others;
-              room = omega (arith, row-end xs f, b, k.short at y.end y.x y.here, y.after, y.within, y.room);
-            }
-
-        pub row_next : (xs : List A) → RowsAt P line at to out xs → (us : List A) × RowsAt P line (at + n) to o₁ us
-        row_next xs f = ((as_first at to out lt xs f).us, row-rest xs f)
-
-        pub row_put : {d₂ : List ℕ} {o₂ : ℕ} → PutRows P line (at + n) to d₁ o₁ d₂ o₂ → PutRows P line at to d₀ out d₂ o₂
-        unfolding collect
-        row_put {d₂} {o₂} q xs f =
-            let y = as_first at to out lt xs f in
-            subst (λ (u : List A). Put d₀ out (collect line u) d₂ o₂) (sym y.is) (after (p y.x (first-at xs f)) (q y.us (row-rest xs f)))
+  pub left-rows : (cs : List (Con ℕ)) (at end : ℕ) → Chain (GoodCon pool table 0 s) end cs at → Chain RowHere end (map left cs) at
+  left-rows [] at end c = c
+  left-rows (x ∷ cs) at end c = (c.0, (c.1.0, left-rows cs c.0 end c.1.1))

@@ -92,7 +92,7 @@ module _ (s : List ℕ) where
   con-pos (is_scalar p) = omega arith
   con-pos (hasField x l r) = omega arith
 
-  pub con-near : (at : ℕ) → ACon s at → length s ≤ 100_000 → at < 100_000
+  pub con-near : (at : ℕ) → ACon s at → length s ≤ 4_000_000_000 → at < 1_000_000_000
   con-near at h n = omega (arith, con-in s h.0 at h.1, con-pos h.0)
 
   module _ (at : ℕ) (f : Ty ℕ → Ty ℕ → Con ℕ) (c : Con ℕ) (x : Sides at f c) where

@@ -185,7 +185,7 @@ module _ (s : List ℕ) where
     pub field-there : {v : View} → v ≡ viewAt s at → ((x : ℕ) → v ≡ view.Field x → ⊥) → ⊥
     field-there e n = n this-field.name (e ∙ this-field.shows)
 
-    pub field-near : length s ≤ 100_000 → at < 100_000
+    pub field-near : length s ≤ 4_000_000_000 → at < 1_000_000_000
     field-near n = omega (arith, ends-in s this-field.first.0 (at + 1) this-field.first.1)
 
     pub field_tree : ATree s (at + 1)
@@ -234,10 +234,10 @@ module _ (s : List ℕ) where
         go : (f : tree.Factor ℕ) → HoldsFactor s f at → ⊥
         go (a ↑ frac x d) k = n (viewAtom a) (twos x) d (e ∙ k.0)
 
-    pub factor-near : length s ≤ 100_000 → at < 100_000
+    pub factor-near : length s ≤ 4_000_000_000 → at < 1_000_000_000
     factor-near n = go this-factor.first this-factor.held
       where
-        go : (f : tree.Factor ℕ) → HoldsFactor s f at → at < 100_000
+        go : (f : tree.Factor ℕ) → HoldsFactor s f at → at < 1_000_000_000
         go (a ↑ frac x d) k = omega (arith, seen-in s at k.0 tt)
 
     pub rest_factors : Factors s (at + 1) (m - 1)
@@ -252,7 +252,7 @@ module _ (s : List ℕ) where
 
   -- ══ The parts that a first record says ══
 
-  pub near-next : (at : ℕ) → ATree s at → length s ≤ 100_000 → at < 100_000
+  pub near-next : (at : ℕ) → ATree s at → length s ≤ 4_000_000_000 → at < 1_000_000_000
   near-next at h n = omega (arith, in_reach s h.0 at h.1)
 
   module _ (at : ℕ) (h : ATree s at) where
@@ -326,7 +326,7 @@ module _ (s : List ℕ) where
       let r : Behind (at + size f.first.0) (n - 1) e = record { rest = f.rest; is = omega (arith, k) } in
       subst (λ (j : ℕ). Behind (at + j) m e) (sym l) (subst (λ (j : ℕ). Behind (at + size f.first.0) j e) (sym w) r)
 
-  pub behind-near : (at n e i : ℕ) → Behind at n e → 0 < n → i ≡ longAt s at → length s ≤ 100_000 → at + i ≤ 100_000
+  pub behind-near : (at n e i : ℕ) → Behind at n e → 0 < n → i ≡ longAt s at → length s ≤ 4_000_000_000 → at + i ≤ 1_000_000_000
   behind-near at n e i b p q k =
       let f = some_of at (n - 1) n b.rest (omega arith) in
       omega (arith, q, holds-long s f.first.0 at f.first.1, ends-in s f.first.0 at f.first.1)

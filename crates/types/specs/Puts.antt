@@ -4,7 +4,7 @@ use Rattle.std.proofs.Common.{arith, ap, subst, ◌∙◌}
 use Rattle.std.proofs.lemmas.List.Edits.{sets}
 use Rattle.std.proofs.Math.Seq.{slice}
 use Rattle.rules.specs.Base.{collect}
-use Rattle.rules.specs.Trees.{Ty, Tys, nil, cons, count, equal, size, sizeCon}
+use Rattle.rules.specs.Trees.{Ty, Tys, nil, cons, count, equal, size, sizeTys, sizeCon}
 use Rattle.rules.specs.Rounds.{pairs}
 use Rattle.rules.specs.Writing.{rec, head, words, writeTy, writeCon}
 use Rattle.records.specs.Cut.{fit, fits}
@@ -16,7 +16,7 @@ use Rattle.types.specs.declared.writer.Writer.{Writer}
 use Rattle.types.specs.Once.{ATree}
 use Rattle.types.specs.Written.{Writes, writes-then, writes-none}
 
-pub short : (s : List ℕ) (at : ℕ) (t : ATree s at) → length s ≤ 100_000 → size t.0 ≤ 25_000
+pub short : (s : List ℕ) (at : ℕ) (t : ATree s at) → length s ≤ 4_000_000_000 → size t.0 ≤ 1_000_000_000
 short s at t n = omega (arith, ends-in s t.0 at t.1)
 
 pub type-words : (s d d' : List ℕ) (at e out : ℕ) (t : ATree s at) → e ≡ at + size t.0 → d' ≡ sets d (out * 4) (slice (at * 4) (e * 4) s)
@@ -35,6 +35,10 @@ equal-writes {w} {w₁} {w₂} {w₃} t u n e l p q r =
 -- what is still to be written behind w makes all that was asked from w₀ on
 abbrev pub Still : Writer → Writer → Tys ℕ → Tys ℕ → Tys ℕ → Tys ℕ → Type 0
 Still w₀ w ts us ts₀ us₀ = (w' : Writer) → Writes w w' (collect writeCon (pairs ts us)) → Writes w₀ w' (collect writeCon (pairs ts₀ us₀))
+
+pub sizes : (t : Ty ℕ) (ts us : Tys ℕ) → cons t ts ≡ us → size t + sizeTys ts ≡ sizeTys us
+unfolding sizeTys
+sizes t ts us e = ap sizeTys e
 
 pub falls : (t : Ty ℕ) (ts us : Tys ℕ) (n m : ℕ) → cons t ts ≡ us → count ts ≡ n → count us ≡ m → suc n ≡ m
 unfolding count

@@ -17,7 +17,7 @@ use records::{Atom, Basic, Open};
 pub struct Type<'a> {
     pub words: &'a [u32],
     pub at: usize,
-    pub ghost near: { length words.now ≤ 100_000 },
+    pub ghost near: { length words.now ≤ 4_000_000_000 },
     pub ghost tree: { ATree words.now at } by { one-tree words.now at },
 }
 
@@ -27,7 +27,7 @@ pub struct Types<'a> {
     pub words: &'a [u32],
     pub at: usize,
     pub count: u32,
-    pub ghost near: { length words.now ≤ 100_000 },
+    pub ghost near: { length words.now ≤ 4_000_000_000 },
     pub ghost trees: { Trees words.now at count } by { one-list words.now at count },
 }
 
@@ -37,7 +37,7 @@ pub struct Fields<'a> {
     pub words: &'a [u32],
     pub at: usize,
     pub count: u32,
-    pub ghost near: { length words.now ≤ 100_000 },
+    pub ghost near: { length words.now ≤ 4_000_000_000 },
     pub ghost trees: { FieldTrees words.now at count } by { one-field-list words.now at count },
 }
 
@@ -47,8 +47,8 @@ pub struct Product<'a> {
     pub words: &'a [u32],
     pub at: usize,
     pub count: u32,
-    pub ghost near: { length words.now ≤ 100_000 },
-    pub ghost within: { at ≤ 100_000 },
+    pub ghost near: { length words.now ≤ 4_000_000_000 },
+    pub ghost within: { at ≤ 1_000_000_000 },
     pub ghost factors: { Factors words.now at count } by { one-product words.now at count },
 }
 
@@ -76,7 +76,7 @@ pub enum Shape<'a> {
 pub struct Constraint<'a> {
     pub words: &'a [u32],
     pub at: usize,
-    pub ghost near: { length words.now ≤ 100_000 },
+    pub ghost near: { length words.now ≤ 4_000_000_000 },
     pub ghost tree: { ACon words.now at } by { one-con words.now at },
 }
 

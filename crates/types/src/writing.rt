@@ -1,7 +1,7 @@
 //! Writing records, types and constraints.
-ghost use Rattle.std.specs.Prelude.{◌≡◌, [], ◌∷◌, ◌+◌, min};
+ghost use Rattle.std.specs.Prelude.{◌≡◌, [], ◌∷◌, ◌+◌, ◌<◌, min};
 ghost use Rattle.rules.specs.Base.{collect};
-ghost use Rattle.rules.specs.Trees.{equal};
+ghost use Rattle.rules.specs.Trees.{equal, size, sizeTys};
 ghost use Rattle.rules.specs.Rounds.{pairs};
 ghost use Rattle.rules.specs.Writing.{writeTy, writeCon};
 ghost use Rattle.records.specs.Cut.{fit};
@@ -65,6 +65,7 @@ impl<'a> Writer<'a> {
 
     /// That two types are equal.
     pub fn equal(&mut self, left: Type, right: Type)
+        requires short { size left.tree.0 + size right.tree.0 < 65_535 }
         ensures { Writes self.old self.new (writeCon (equal left.entry.tree.0 right.entry.tree.0)) }
     {
         self.put(View::Equal, 1 + left.len() + right.len());
@@ -74,6 +75,7 @@ impl<'a> Writer<'a> {
 
     /// That types are equal pairwise, as far as both go.
     pub fn pairs(&mut self, left: Types, right: Types)
+        requires short { sizeTys left.trees.0 + sizeTys right.trees.0 < 65_535 }
         ensures { Writes self.old self.new (collect writeCon (pairs left.entry.trees.0 right.entry.trees.0)) }
     {
         let mut ts = left;

@@ -2,17 +2,16 @@
 ghost use Rattle.std.specs.Prelude.{◌≡◌};
 ghost use Rattle.exponents.specs.Answers.{expOf};
 ghost use Rattle.exponents.specs.Answers as exponents;
-ghost use Rattle.eliminating.specs.Told as eliminating;
-ghost use Rattle.rescue.specs.Told as rescue;
-ghost use Rattle.compaction.specs.Told as compaction;
+ghost use Rattle.eliminating.specs.Told.{toldEliminated};
+ghost use Rattle.rescue.specs.Told.{countsOf};
 ghost use Rattle.text.specs.Told as text;
 ghost use Rattle.sheet_reading.specs.Given.{toldSheet};
 ghost use Rattle.wording.specs.Words.{countAs, countsAs, powerWords, powerAs, eliminatedAs, counts, sheetAs};
 ghost use Rattle.rules.specs.Base.{got};
+ghost use Rattle.rules.specs.Refusals.{told, toldBy};
 ghost use Rattle.rules.specs.Elimination.{someLeft};
 
-use compaction::Compacted;
-use eliminating::Outcome;
+use eliminating::Eliminated;
 use exponents::{Exponent, Power};
 use rescue::Counts;
 use rules::Refusal;
@@ -47,14 +46,14 @@ fn remaining(n: usize) -> Told
     }
 }
 
-// Records of bindings; on 5 of what remains.
-pub fn eliminated(o: Outcome) -> Told
-    ensures { result ≡ eliminatedAs (eliminating.told o) }
+/// Records of bindings; on 5 of what remains.
+pub fn eliminated(a: Result<Eliminated, Refusal>) -> Told
+    ensures { result ≡ eliminatedAs (toldEliminated a) }
 {
-    match o {
-        Outcome::Bound(n) => said(short(n), 0, 0),
-        Outcome::Left(n) => remaining(n),
-        Outcome::Refused(why) => refused(why, 0, 0),
+    match a {
+        Ok(Eliminated::Bound(n)) => said(short(n), 0, 0),
+        Ok(Eliminated::Left(n)) => remaining(n),
+        Err(why) => refused(why, 0, 0),
     }
 }
 
@@ -64,23 +63,23 @@ fn both(c: Counts) -> Told
     said(short(c.kept), short(c.skipped), 0)
 }
 
-// Records that are kept, places that are skipped.
-pub fn rescued(a: rescue::Answer) -> Told
-    ensures { result ≡ countsAs (rescue.told a) }
+/// Records that are kept, places that are skipped.
+pub fn rescued(a: Result<Counts, Refusal>) -> Told
+    ensures { result ≡ countsAs (toldBy countsOf a) }
 {
     match a {
-        rescue::Answer::Rescued(c) => both(c),
-        rescue::Answer::Refused(why) => refused(why, 0, 0),
+        Ok(c) => both(c),
+        Err(why) => refused(why, 0, 0),
     }
 }
 
-// Names that are kept.
-pub fn compacted(a: Compacted) -> Told
-    ensures { result ≡ countAs (compaction.told a) }
+/// Names that are kept.
+pub fn compacted(a: Result<usize, Refusal>) -> Told
+    ensures { result ≡ countAs (told a) }
 {
     match a {
-        Compacted::Kept(n) => said(short(n), 0, 0),
-        Compacted::Refused(why) => refused(why, 0, 0),
+        Ok(n) => said(short(n), 0, 0),
+        Err(why) => refused(why, 0, 0),
     }
 }
 

@@ -1,42 +1,32 @@
 -- `compact` meets its contract.
-use native.Mathlib.Omega.{arith}
-use mathlib.Core.Path.{refl, sym, ap, ◌∙◌}
-use Rattle.names.specs.Old.{toldChecked}
-use Rattle.laws.specs.NameTable.{good-laid}
+use Rattle.std.proofs.Common.{refl, sym, arith}
+use Rattle.std.proofs.lemmas.Result.{err_from_is_err_and}
+use Rattle.laws.specs.NameTable.{Good, good-laid}
 use Rattle.compaction.specs.Checks.{checks-good}
 use Rattle.compaction.specs.Called.{called, call-refused}
 use Rattle.compaction.proofs.compact.Goals as goal
 
+pub returns-in_err-check : goal.returns-in_err-check
+returns-in_err-check c =
+    let p = err_from_is_err_and c.from_residual.result c.from_residual.ensures.1 in
+    rw (p.1, p.2) (call-refused _ _ _ _ _ (sym c.in_err-check.ensures))
+
 pub count-requires : goal.count-requires
-count-requires c =
-    let a = c.args in
-    let e = sym c.check.ensures ∙ ap toldChecked c.in-Good.is in
-    let g = checks-good a.pool.now a.table.now a.sets.now a.lengths.now e in
-    g.words
+count-requires c = (checks-good _ _ _ _ (sym c.in_ok-check.ensures)).words
 
 pub mark-requires : goal.mark-requires
 mark-requires c =
-    let a = c.args in
-    let e = sym c.check.ensures ∙ ap toldChecked c.in-Good.is in
-    let g = checks-good a.pool.now a.table.now a.sets.now a.lengths.now e in
+    let g : Good c.args.pool.now c.args.table.now = checks-good _ _ _ _ (sym c.in_ok-check.ensures) in
     record { m_len = refl; n_bound = omega (arith, c.count.ensures, (good-laid g).few) }
 
 pub renumber-requires : goal.renumber-requires
 renumber-requires c = c.mark.ensures.long
 
 pub squeeze-requires : goal.squeeze-requires
-squeeze-requires c =
-    let a = c.args in
-    let e = sym c.check.ensures ∙ ap toldChecked c.in-Good.is in
-    let g = checks-good a.pool.now a.table.now a.sets.now a.lengths.now e in
-    g
+squeeze-requires c = checks-good _ _ _ _ (sym c.in_ok-check.ensures)
 
-pub returns-in-Good : goal.returns-in-Good
-returns-in-Good c =
+pub returns : goal.returns
+returns c =
     let a = c.args in
-    let e = sym c.check.ensures ∙ ap toldChecked c.in-Good.is in
-    let g = checks-good a.pool.now a.table.now a.sets.now a.lengths.now e in
-    called a.pool.now a.table.now a.sets.now a.lengths.now _ c.squeeze.result _ _ _ e (rw c.count.ensures at c.mark.ensures) c.renumber.ensures c.squeeze.ensures
-
-pub returns-in-Refused : goal.returns-in-Refused
-returns-in-Refused c = call-refused _ _ _ _ _ (sym c.check.ensures ∙ ap toldChecked c.in-Refused.is)
+    called a.pool.now a.table.now a.sets.now a.lengths.now _ c.squeeze.result _ _ _ (sym c.in_ok-check.ensures)
+        (rw c.count.ensures at c.mark.ensures) c.renumber.ensures c.squeeze.ensures

@@ -10,14 +10,14 @@ pub returns-then-not-lent : goal.returns-then-not-lent
 returns-then-not-lent c =
     call-short _ _ _ _ _ (short _ _ _ _ c.lent.result c.lent.ensures (ap not c.if-not-lent.true))
 
-pub eliminate_set-o-requires : goal.eliminate_set-o-requires
-eliminate_set-o-requires c =
+pub eliminate_set-answer-requires : goal.eliminate_set-answer-requires
+eliminate_set-answer-requires c =
     let a = c.args in
     let l : Long a.pool.now a.table.now a.res.now a.work.now = long _ _ _ _ c.lent.result c.lent.ensures (ap not c.if-not-lent.false) in
-    record { table_value = l.table-met; in_bounds = l.result-long }
+    record { table_value = l.table-met; room = l.result-long }
 
 pub returns : goal.returns
 returns c =
     let a = c.args in
     let l : Long a.pool.now a.table.now a.res.now a.work.now = long _ _ _ _ c.lent.result c.lent.ensures (ap not c.if-not-lent.false) in
-    called _ _ _ _ _ a.work.now _ _ _ refl l.met c.eliminate_set-o.ensures c.clear.ensures
+    called _ _ _ _ _ a.work.now _ _ _ refl l.met c.eliminate_set-answer.ensures c.clear.ensures

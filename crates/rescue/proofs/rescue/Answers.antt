@@ -1,20 +1,21 @@
 -- `rescue` meets its contract: by what the checks say, and what was taken.
-use mathlib.Core.Path.{sym, ap, ◌∙◌}
-use Rattle.names.specs.Old.{toldChecked}
+use Rattle.std.proofs.Common.{sym}
+use Rattle.std.proofs.lemmas.Result.{err_from_is_err_and}
 use Rattle.rescue.specs.Answers.{given-good, rescue-refused, rescue-given}
 use Rattle.rescue.proofs.rescue.Goals as goal
 
+pub returns-in_err-given : goal.returns-in_err-given
+returns-in_err-given c =
+    let a = c.args in
+    let p = err_from_is_err_and c.from_residual.result c.from_residual.ensures.1 in
+    rw (p.1, p.2) (rescue-refused a.pool.now a.table.now a.file.now a.kept.now a.skipped.now _ (sym c.in_err-given.ensures))
+
 pub take_words-requires : goal.take_words-requires
 take_words-requires c =
-    let g = given-good _ _ _ _ _ (sym c.given.ensures ∙ ap toldChecked c.in-Good.is) in
+    let g = given-good _ _ _ _ _ (sym c.in_ok-given.ensures) in
     record { good = g.good; file_len_bound = g.short }
 
-pub returns-in-Good : goal.returns-in-Good
-returns-in-Good c =
+pub returns : goal.returns
+returns c =
     let a = c.args in
-    rescue-given a.pool.now a.table.now a.file.now a.kept.now a.skipped.now _ _ _ (sym c.given.ensures ∙ ap toldChecked c.in-Good.is) c.take_words.ensures
-
-pub returns-in-Refused : goal.returns-in-Refused
-returns-in-Refused c =
-    let a = c.args in
-    rescue-refused a.pool.now a.table.now a.file.now a.kept.now a.skipped.now c.in-Refused.r (sym c.given.ensures ∙ ap toldChecked c.in-Refused.is)
+    rescue-given a.pool.now a.table.now a.file.now a.kept.now a.skipped.now _ _ _ (sym c.in_ok-given.ensures) c.take_words.ensures

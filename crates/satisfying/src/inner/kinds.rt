@@ -1,10 +1,10 @@
 //! The rules for two types that are equal, by their kinds.
-ghost use Rattle.std.specs.Prelude.{◌≡◌, ◌≤◌, ◌<◌};
+ghost use Rattle.std.specs.Prelude.{◌≡◌, ◌+◌, ◌≤◌, ◌<◌};
 ghost use Rattle.rules.specs.Base.{got, bounded};
 ghost use Rattle.rules.specs.Products.{divide};
 ghost use Rattle.rules.specs.Refusals.{toldOption};
 ghost use Rattle.rules.specs.Rounds.{asProducts, by_kind};
-ghost use Rattle.rules.specs.Trees.{dim};
+ghost use Rattle.rules.specs.Trees.{dim, size};
 ghost use Rattle.rules.specs.Writing.{writeProduct};
 ghost use Rattle.laws.specs.NameTable.{Good};
 ghost use Rattle.products.specs.Told.{Tree, productOf};
@@ -25,6 +25,7 @@ use types::{Product, Shape, Type};
 
 /// A variable against a dimension: the variable as a product, first, equal to the dimension.
 fn as_product(x: Option<u32>, dimension: Type, out: &mut Writer) -> Step
+    requires { size dimension.tree.0 ≤ 65_000 }
     ensures { (p : Tree) → dimension.entry.tree.0 ≡ dim p → Applied out.old out.new (Ok result) (got (asProducts (toldOption x) p)) }
 {
     let Some(x) = x else {
@@ -86,6 +87,7 @@ pub fn by_kind(
     requires good { Good pool.now table.now }
     requires left_good { GoodTy pool.now table.now left.tree.0 }
     requires right_good { GoodTy pool.now table.now right.tree.0 }
+    requires short { size left.tree.0 + size right.tree.0 < 65_000 }
     requires small { out.old.at < 1_000_000_000 }
     ensures { Applied out.old out.new result (by_kind (names pool.now table.now) bounded left.entry.tree.0 right.entry.tree.0) }
 {

@@ -1,12 +1,12 @@
 //! The rules for constraints other than equalities.
-ghost use Rattle.std.specs.Prelude.{◌≡◌, true, List, [], ◌∷◌};
+ghost use Rattle.std.specs.Prelude.{◌≡◌, true, List, [], ◌∷◌, ◌+◌, ◌≤◌, ◌<◌, length};
 ghost use Rattle.std.proofs.Math.Option.{get_or};
 ghost use Rattle.rules.specs.Base.{bounded, collect, each, got};
 ghost use Rattle.rules.specs.Exponents.{Exp, frac, goodExp, neg, quotient};
 ghost use Rattle.rules.specs.Names.{Bytes, numbered};
 ghost use Rattle.rules.specs.Refusals.{toldBy, toldOption};
 ghost use Rattle.rules.specs.Rounds.{stuck, dimensionParts, otherSide, fieldStep, trySatisfy};
-ghost use Rattle.rules.specs.Trees.{is_scalar};
+ghost use Rattle.rules.specs.Trees.{is_scalar, size};
 ghost use Rattle.rules.specs.Views.{productOf};
 ghost use Rattle.rules.specs.Writing.{signed, writeCon};
 ghost use Rattle.laws.specs.RuleCases.{parts};
@@ -106,6 +106,7 @@ fn put_others(k: Exponent, others: Product, out: &mut Writer) -> Result<(), Refu
 fn solve_for(x: u32, k: Exponent, others: Product, out: &mut Writer) -> Result<Step, Refusal>
     requires k_good { goodExp (expOf k) ≡ true }
     requires powers_good { GoodPowers others.factors.0 }
+    requires short { length others.factors.0 ≤ 65_000 }
     ensures { Applied out.old out.new result (boundTo x (each (otherSide bounded (expOf k)) others.entry.factors.0)) }
 {
     let n = others.count as usize;
@@ -117,7 +118,8 @@ fn solve_for(x: u32, k: Exponent, others: Product, out: &mut Writer) -> Result<S
 
 /// Equal-scalar: without factors done; a variable that comes first is bound to the other factors.
 pub fn equal_scalar(product: Product, out: &mut Writer) -> Result<Step, Refusal>
-    requires { GoodPowers product.factors.0 }
+    requires powers_good { GoodPowers product.factors.0 }
+    requires short { length product.factors.0 ≤ 65_000 }
     ensures { (names : List Bytes) → Applied out.old out.new result (trySatisfy (numbered names) bounded (is_scalar product.entry.factors.0)) }
 {
     let Some((first, others)) = product.split_first() else {
@@ -131,6 +133,7 @@ pub fn equal_scalar(product: Product, out: &mut Writer) -> Result<Step, Refusal>
 
 /// Has-field on a closed struct with that field: the stored type equal to the asked type.
 pub fn has_field(of: Type, x: u32, to: Type, out: &mut Writer) -> Step
+    requires { size of.tree.0 + size to.tree.0 < 65_000 }
     ensures { (names : List Bytes) → Applied out.old out.new (Ok result) (got (get_or (fieldStep (numbered names) x of.entry.tree.0 to.entry.tree.0) stuck)) }
 {
     if !of.is_closed() {

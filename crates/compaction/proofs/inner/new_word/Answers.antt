@@ -1,8 +1,6 @@
 -- `inner::new_word` meets its contract.
 use mathlib.Core.Path.{sym, ap, ◌∙◌}
 use mathlib.Core.Bool.{Bool}
-use lib.ListN.{get_or}
-use Prim.Native.Nat.{ℕ}
 use Rattle.rules.specs.Compaction.{renumberIf}
 use Rattle.compaction.specs.Marks.{marks}
 use Rattle.compaction.proofs.inner.new_word.Goals as goal
@@ -14,7 +12,9 @@ pub number_of-requires : goal.number_of-requires
 number_of-requires c = c.requires.m_len
 
 pub returns-then-i-lt-NAMES : goal.returns-then-i-lt-NAMES
-returns-then-i-lt-NAMES c = let a = c.args in ap (λ (k : ℕ). get_or a.to.now k 0) c.wide-i.ensures ∙ c.requires.numbered.is a.a (rw c.wide-i.ensures at c.if-i-lt-NAMES.true) ∙ ap (λ (b : Bool). renumberIf b (marks a.m.now) a.a) (sym (c.if-not-names_one.false) ∙ c.names_one.ensures)
+returns-then-i-lt-NAMES c = let a = c.args in c.requires.numbered.is a.a c.if-i-lt-NAMES.true
+    ∙ ap (λ (b : Bool). renumberIf b (marks a.m.now) a.a) (sym (c.if-not-names_one.false) ∙ c.names_one.ensures)
 
 pub returns-else-i-lt-NAMES : goal.returns-else-i-lt-NAMES
-returns-else-i-lt-NAMES c = let a = c.args in c.number_of.ensures ∙ ap (λ (b : Bool). renumberIf b (marks a.m.now) a.a) (sym (c.if-not-names_one.false) ∙ c.names_one.ensures)
+returns-else-i-lt-NAMES c = let a = c.args in c.number_of.ensures
+    ∙ ap (λ (b : Bool). renumberIf b (marks a.m.now) a.a) (sym (c.if-not-names_one.false) ∙ c.names_one.ensures)

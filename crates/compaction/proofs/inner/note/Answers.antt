@@ -1,16 +1,16 @@
 -- `inner::note` meets its contract.
-use native.Mathlib.Omega.{arith}
+use Rattle.std.proofs.Common.{arith}
 use Rattle.compaction.specs.Marks.{note-none, note-past, note-put}
 use Rattle.compaction.proofs.inner.note.Goals as goal
+use Rattle.compaction.proofs.inner.note.Goals.{else-named-via-then-named+else-i-n, else-named-via-else-named}
 
 pub returns-then-i-n : goal.returns-then-i-n
-returns-then-i-n c =
-    let a = c.args in
-    let p = c.requires in
-    rw (c.if-named.true, c.wide-i.ensures) (note-put a.m.now a.n a.a (rw c.wide-i.ensures at c.if-i-n.true) (omega (arith, p, rw c.wide-i.ensures at c.if-i-n.true)))
-
-pub returns-else-i-n : goal.returns-else-i-n
-returns-else-i-n c = let a = c.args in rw c.if-named.true (note-past a.m.now a.n a.a (rw c.wide-i.ensures at c.if-i-n.false))
+returns-then-i-n c = let a = c.args in rw c.if-named.true (note-put a.m.now a.n a.a c.if-i-n.true (omega (arith, c.requires)))
 
 pub returns-else-named : goal.returns-else-named
-returns-else-named c = let a = c.args in rw c.if-named.false (note-none a.m.now a.n a.a)
+returns-else-named c =
+    let a = c.args in
+    elim c.else-named.branch [
+      | else-named-via-then-named+else-i-n w ↦ rw w.if-named.true (note-past a.m.now a.n a.a w.if-i-n.false)
+      | else-named-via-else-named w ↦ rw w.if-named.false (note-none a.m.now a.n a.a)
+    ]

@@ -1,5 +1,5 @@
 -- `inner::numbers` meets its contract.
-use native.Mathlib.Omega.{arith}
+use Rattle.std.proofs.Common.{arith, refl}
 use Rattle.compaction.specs.Marks.{marks, numbered-none, numbered_more, numbered-all}
 use Rattle.compaction.proofs.inner.numbers.Goals as goal
 
@@ -9,14 +9,9 @@ loop-i-init c = (omega arith, numbered-none _ _ c.requires.to_len)
 pub number_of-requires : goal.number_of-requires
 number_of-requires c = c.requires.m_len
 
-pub offset_bounds-to-wide : goal.offset_bounds-to-wide
-offset_bounds-to-wide c = omega (arith, c.wide.ensures)
-
-pub bounds-to-wide : goal.bounds-to-wide
-bounds-to-wide c = omega (arith, c.wide.ensures)
-
 pub loop-i-preserved : goal.loop-i-preserved
-loop-i-preserved c = let l = c.loop-i in (omega arith, numbered_more (marks c.args.m.now) l.to l.i c.wide.result c.number_of.result c.wide.ensures c.loop-i-test.true l.invariant.1 c.number_of.ensures)
+loop-i-preserved c = let l = c.loop-i in (omega arith,
+    numbered_more (marks c.args.m.now) l.to l.i _ c.number_of.result refl c.loop-i-test.true l.invariant.1 c.number_of.ensures)
 
 pub returns : goal.returns
 returns c = let l = c.loop-i in numbered-all (marks c.args.m.now) l.to l.i c.loop-i-test.false l.invariant.1

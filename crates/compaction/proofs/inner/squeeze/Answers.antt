@@ -15,91 +15,84 @@ pub loop-i-init : goal.loop-i-init
 loop-i-init c = doing-first c.requires
 
 pub overflow_add-i : goal.overflow_add-i
-overflow_add-i c = omega (arith, (good-laid c.requires).few, c.wide-n.ensures)
+overflow_add-i c = omega (arith, (good-laid c.requires).few)
 
 pub offset_bounds-table-i : goal.offset_bounds-table-i
-offset_bounds-table-i c = omega (arith, (good-laid c.requires).few, c.wide-n.ensures)
+offset_bounds-table-i c = omega (arith, (good-laid c.requires).few)
 
 pub bounds-table-i : goal.bounds-table-i
-bounds-table-i c = omega (arith, (good-laid c.requires).few, c.requires.words, c.wide-n.ensures, table-long c.requires c.loop-i.invariant)
-
-pub overflow_add-i-in-loop-i : goal.overflow_add-i-in-loop-i
-overflow_add-i-in-loop-i c = omega (arith, (good-laid c.requires).few, c.wide-n.ensures)
+bounds-table-i c = omega (arith, (good-laid c.requires).few, c.requires.words, table-long c.requires c.loop-i.invariant)
 
 pub bounds-m-i : goal.bounds-m-i
-bounds-m-i c = omega (arith, (good-laid c.requires).few, c.wide-n.ensures)
+bounds-m-i c = omega (arith, (good-laid c.requires).few)
 
 pub loop-i-preserved-then-not-m-i : goal.loop-i-preserved-then-not-m-i
 loop-i-preserved-then-not-m-i c =
     let g = c.requires in
     let d = c.loop-i.invariant in
-    let more = rw c.wide-n.ensures at c.loop-i-test.true in
-    let E = c.wide-end.ensures ∙ end_is g d in
+    let more = c.loop-i-test.true in
+    let E = end_is g d in
     rw E (doing-skip g d more (ap (marks c.args.m.now) (let q : c.loop-i.i ≡ c.loop-i.i + 1 - 1 = omega arith in q) ∙ c.if-not-m-i.true))
 
 pub shift-requires : goal.shift-requires
 shift-requires c =
     let g = c.requires in
     let d = c.loop-i.invariant in
-    let more = rw c.wide-n.ensures at c.loop-i-test.true in
-    let E = c.wide-end.ensures ∙ end_is g d in
+    let more = c.loop-i-test.true in
+    let E = end_is g d in
     record { out_le_from = d.behind; from_le_to = omega (arith, E, rises g d more); to_in_bounds = omega (arith, E, within g d more, pool-long g d, g.bytes) }
 
 pub overflow_sub-out : goal.overflow_sub-out
 overflow_sub-out c =
     let g = c.requires in
     let d = c.loop-i.invariant in
-    let more = rw c.wide-n.ensures at c.loop-i-test.true in
-    let E = c.wide-end.ensures ∙ end_is g d in
+    let more = c.loop-i-test.true in
+    let E = end_is g d in
     omega (arith, E, rises g d more)
 
 pub overflow_add-out : goal.overflow_add-out
 overflow_add-out c =
     let g = c.requires in
     let d = c.loop-i.invariant in
-    let more = rw c.wide-n.ensures at c.loop-i-test.true in
-    let E = c.wide-end.ensures ∙ end_is g d in
+    let more = c.loop-i-test.true in
+    let E = end_is g d in
     omega (arith, E, rises g d more, within g d more, d.behind)
 
 pub overflow_add-k : goal.overflow_add-k
 overflow_add-k c =
     let g = c.requires in
     let d = c.loop-i.invariant in
-    let more = rw c.wide-n.ensures at c.loop-i-test.true in
-    let E = c.wide-end.ensures ∙ end_is g d in
     omega (arith, d.few, d.inside, (good-laid g).few)
 
 pub overflow_cast-table : goal.overflow_cast-table
 overflow_cast-table c =
     let g = c.requires in
     let d = c.loop-i.invariant in
-    let more = rw c.wide-n.ensures at c.loop-i-test.true in
-    let E = c.wide-end.ensures ∙ end_is g d in
+    let more = c.loop-i-test.true in
+    let E = end_is g d in
     omega (arith, E, rises g d more, within g d more, d.behind)
 
 pub offset_bounds-table-k : goal.offset_bounds-table-k
 offset_bounds-table-k c =
     let g = c.requires in
     let d = c.loop-i.invariant in
-    let more = rw c.wide-n.ensures at c.loop-i-test.true in
-    let E = c.wide-end.ensures ∙ end_is g d in
     omega (arith, d.few, d.inside, (good-laid g).few)
 
 pub bounds-table-k : goal.bounds-table-k
 bounds-table-k c =
     let g = c.requires in
     let d = c.loop-i.invariant in
-    let more = rw c.wide-n.ensures at c.loop-i-test.true in
-    let E = c.wide-end.ensures ∙ end_is g d in
+    let more = c.loop-i-test.true in
     omega (arith, d.few, more, (good-laid g).few, g.words, table-long g d)
 
 pub loop-i-preserved : goal.loop-i-preserved
 loop-i-preserved c =
     let g = c.requires in
     let d = c.loop-i.invariant in
-    let more = rw c.wide-n.ensures at c.loop-i-test.true in
-    let E = c.wide-end.ensures ∙ end_is g d in
-    rw E (doing-keep g d more (ap (marks c.args.m.now) (let q : c.loop-i.i ≡ c.loop-i.i + 1 - 1 = omega arith in q) ∙ c.if-not-m-i.false) (rw E at c.shift.ensures) refl)
+    let more = c.loop-i-test.true in
+    let E = end_is g d in
+    rw E (doing-keep g d more (ap (marks c.args.m.now) (let q : c.loop-i.i ≡ c.loop-i.i + 1 - 1 = omega arith in q)
+        ∙ c.if-not-m-i.false) (rw E at c.shift.ensures) refl)
 
 pub wipe_bytes-requires : goal.wipe_bytes-requires
 wipe_bytes-requires c =
@@ -114,13 +107,13 @@ overflow_add-k-2 c =
     omega (arith, d.few, d.inside, (good-laid g).few)
 
 pub overflow_add-n : goal.overflow_add-n
-overflow_add-n c = omega (arith, c.wide-n.ensures, (good-laid c.requires).few)
+overflow_add-n c = omega (arith, (good-laid c.requires).few)
 
 pub wipe_words-requires : goal.wipe_words-requires
 wipe_words-requires c =
     let g = c.requires in
     let d = c.loop-i.invariant in
-    omega (arith, c.wide-n.ensures, (good-laid g).few, table-long g d, g.words)
+    omega (arith, (good-laid g).few, table-long g d, g.words)
 
 pub overflow_cast-table-2 : goal.overflow_cast-table-2
 overflow_cast-table-2 c =
@@ -150,4 +143,4 @@ pub returns : goal.returns
 returns c =
     let g = c.requires in
     let d = c.loop-i.invariant in
-    doing-last g d (rw c.wide-n.ensures at c.loop-i-test.false) c.wipe_bytes.ensures (rw c.wide-n.ensures at c.wipe_words.ensures) refl
+    doing-last g d c.loop-i-test.false c.wipe_bytes.ensures c.wipe_words.ensures refl

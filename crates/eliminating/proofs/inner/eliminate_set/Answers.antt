@@ -1,34 +1,44 @@
 -- `inner::eliminate_set` meets its contract.
-use mathlib.Core.Path.{sym, ap, ◌∙◌}
-use Rattle.names.specs.Old.{toldChecked}
+use Rattle.std.proofs.Common.{sym, ◌∙◌}
+use Rattle.std.proofs.lemmas.Result.{err_from_is_err_and}
 use Rattle.records.specs.Found.{Words32}
-use Rattle.eliminating.specs.Entry.{came-in, kept_out, answers-as}
+use Rattle.eliminating.specs.Entry.{Entered, came-in, kept_out, answers-as}
 use Rattle.eliminating.specs.Written.{refused-answers}
 use Rattle.eliminating.proofs.inner.eliminate_set.Goals as goal
+
+pub returns-in_err-enter : goal.returns-in_err-enter
+returns-in_err-enter c =
+    let a = c.args in
+    let w : Words32 a.words.now = record { word = λ i. (c.type_inv.words i).fits } in
+    let p = err_from_is_err_and c.from_residual.result c.from_residual.ensures.1 in
+    rw (p.1, p.2) (refused-answers _ _ _ (kept_out a.pool.now a.table.now a.words.now w _ c.requires.table_value (sym c.in_err-enter.ensures)))
 
 pub reduce-requires : goal.reduce-requires
 reduce-requires c =
     let a = c.args in
-    let w : Words32 a.words.now = record { word = λ i. (c.shared_slice_known-3-1.given i).fits } in
-    let x = came-in a.pool.now a.table.now a.words.now w (sym c.enter.ensures ∙ ap toldChecked c.in-Good.is) in
-    record { good = x.good; e_bound = x.few; by_index = (x.set, x.chain) }
+    let w : Words32 a.words.now = record { word = λ i. (c.type_inv.words i).fits } in
+    let x = came-in a.pool.now a.table.now a.words.now w (sym c.in_ok-enter.ensures) in
+    record { good = x.good; e_bound = x.few; a_set = (x.set, x.chain) }
 
-pub tell-requires : goal.tell-requires
-tell-requires c =
+pub returns-in_err-reduced : goal.returns-in_err-reduced
+returns-in_err-reduced c =
     let a = c.args in
-    let w : Words32 a.words.now = record { word = λ i. (c.shared_slice_known-3-1.given i).fits } in
-    let x = came-in a.pool.now a.table.now a.words.now w (sym c.enter.ensures ∙ ap toldChecked c.in-Good.is) in
-    record { ready = (c.reduce.ensures x.set x.chain).ready; in_bounds = c.requires.in_bounds }
+    let w : Words32 a.words.now = record { word = λ i. (c.type_inv.words i).fits } in
+    let x = came-in a.pool.now a.table.now a.words.now w (sym c.in_ok-enter.ensures) in
+    let p = err_from_is_err_and c.from_residual-in_err-reduced.result c.from_residual-in_err-reduced.ensures.1 in
+    rw (p.1, p.2) (refused-answers _ _ _ (x.all ∙ sym (c.in_err-reduced.ensures x.set x.chain).is))
 
-pub returns-in-Good : goal.returns-in-Good
-returns-in-Good c =
+pub write-requires : goal.write-requires
+write-requires c =
     let a = c.args in
-    let w : Words32 a.words.now = record { word = λ i. (c.shared_slice_known-3-1.given i).fits } in
-    let x = came-in a.pool.now a.table.now a.words.now w (sym c.enter.ensures ∙ ap toldChecked c.in-Good.is) in
-    answers-as _ _ _ _ _ (x.all ∙ sym (c.reduce.ensures x.set x.chain).is) c.tell.ensures
+    let w : Words32 a.words.now = record { word = λ i. (c.type_inv.words i).fits } in
+    let x = came-in a.pool.now a.table.now a.words.now w (sym c.in_ok-enter.ensures) in
+    let r = (c.in_ok-reduced.ensures x.set x.chain).ready in
+    record { laid = r.0; running = r.1; room = c.requires.room }
 
-pub returns-in-Refused : goal.returns-in-Refused
-returns-in-Refused c =
+pub returns : goal.returns
+returns c =
     let a = c.args in
-    let w : Words32 a.words.now = record { word = λ i. (c.shared_slice_known-3-1.given i).fits } in
-    refused-answers _ _ _ (kept_out a.pool.now a.table.now a.words.now w _ c.requires.table_value (sym c.enter.ensures ∙ ap toldChecked c.in-Refused.is))
+    let w : Words32 a.words.now = record { word = λ i. (c.type_inv.words i).fits } in
+    let x = came-in a.pool.now a.table.now a.words.now w (sym c.in_ok-enter.ensures) in
+    answers-as _ _ _ _ _ (x.all ∙ sym (c.in_ok-reduced.ensures x.set x.chain).is) c.write.ensures

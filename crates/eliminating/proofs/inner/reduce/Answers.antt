@@ -18,7 +18,7 @@ use Rattle.eliminating.proofs.inner.reduce.Goals as goal
 
 pub lines_of-kinds-requires : goal.lines_of-kinds-requires
 lines_of-kinds-requires c =
-    let q = c.requires.by_index in
+    let q = c.requires.a_set in
     record { laid = c.none-columns.ensures; e_bound = c.requires.e_bound; by_index = (q.0, lined c.args.pool.now c.args.table.now c.args.s.now q.0 0 c.args.e q.1) }
 
 pub returns-then-not-kinds : goal.returns-then-not-kinds
@@ -27,7 +27,7 @@ returns-then-not-kinds c cs h = let names : List Bytes = names_of (table_of c.ar
     let first : (cs : List (Con ℕ)) → Held cs → Fitting c.lines_of-kinds.result.fits (names) (colsIn c.none-columns.result) cs c.lines_of-kinds.result.len c.lines_of-kinds.result.grid = λ cs h.
     (c.lines_of-kinds.ensures cs (names) (lined c.args.pool.now c.args.table.now c.args.s.now cs 0 c.args.e h)).is in
     record {
-      ready = record { laid = c.none-columns.ensures; running = c.machine-empty.ensures.0; known = λ a b. refl };
+      ready = tt;
       is = kinds-unfit c.args.pool.now c.args.table.now cs (names) (colsIn c.none-columns.result) c.lines_of-kinds.result.len c.lines_of-kinds.result.grid
           (subst (λ (b : Bool). Fitting b (names) (colsIn c.none-columns.result) cs c.lines_of-kinds.result.len c.lines_of-kinds.result.grid) (not-true c.lines_of-kinds.result.fits c.if-not-kinds.true) (first cs h));
     }
@@ -39,20 +39,20 @@ list_columns-l-requires c = let names : List Bytes = names_of (table_of c.args.p
     (c.lines_of-kinds.ensures cs (names) (lined c.args.pool.now c.args.table.now c.args.s.now cs 0 c.args.e h)).is in
     let plain : (cs : List (Con ℕ)) → Held cs → Fitting true (names) (colsIn c.none-columns.result) cs c.lines_of-kinds.result.len c.lines_of-kinds.result.grid = λ cs h.
     subst (λ (b : Bool). Fitting b (names) (colsIn c.none-columns.result) cs c.lines_of-kinds.result.len c.lines_of-kinds.result.grid) (not-false c.lines_of-kinds.result.fits c.if-not-kinds.false) (first cs h) in
-    let q = c.requires.by_index in
+    let q = c.requires.a_set in
     record { good = c.requires.good; known = set_known c.args.pool.now c.args.table.now q.0 c.args.s.now c.args.e q.1 (names) (colsIn c.none-columns.result) c.lines_of-kinds.result.len c.lines_of-kinds.result.grid (plain q.0 q.1) }
 
 pub returns-then-not-l : goal.returns-then-not-l
 returns-then-not-l c cs h =
     record {
-      ready = record { laid = c.none-columns.ensures; running = c.machine-empty.ensures.0; known = λ a b. refl };
+      ready = tt;
       is = names-unfit c.args.pool.now c.args.table.now cs c.args.s.now c.args.e h c.list_columns-l.result.columns
           (subst (λ (b : Bool). ListedAs (numbers c.args.pool.now c.args.table.now) c.args.s.now c.args.e b c.list_columns-l.result.columns) (not-true c.list_columns-l.result.fits c.if-not-l.true) c.list_columns-l.ensures.is);
     }
 
 pub lines_of-lines-requires : goal.lines_of-lines-requires
 lines_of-lines-requires c = let listed : ListedAs (numbers c.args.pool.now c.args.table.now) c.args.s.now c.args.e true c.list_columns-l.result.columns = subst (λ (b : Bool). ListedAs (numbers c.args.pool.now c.args.table.now) c.args.s.now c.args.e b c.list_columns-l.result.columns) (not-false c.list_columns-l.result.fits c.if-not-l.false) c.list_columns-l.ensures.is in
-    let q = c.requires.by_index in
+    let q = c.requires.a_set in
     record { laid = (listed).0; e_bound = c.requires.e_bound; by_index = (q.0, lined c.args.pool.now c.args.table.now c.args.s.now q.0 0 c.args.e q.1) }
 
 pub machine-requires : goal.machine-requires
@@ -67,7 +67,7 @@ machine-requires c = let Held : List (Con ℕ) → Type 0 = λ cs. Chain (GoodCo
     let is = (c.lines_of-lines.ensures cs (names) (lined c.args.pool.now c.args.table.now c.args.s.now cs 0 c.args.e h)).is in
     subst (λ (b : Bool). Fitting b (names) k cs c.lines_of-lines.result.len c.lines_of-lines.result.grid)
     (still-fits (names) (colsIn c.none-columns.result) k cs c.lines_of-kinds.result.len c.lines_of-lines.result.len c.lines_of-kinds.result.grid c.lines_of-lines.result.grid c.lines_of-lines.result.fits (plain cs h) is) is in
-    let q = c.requires.by_index in
+    let q = c.requires.a_set in
     let f = second q.0 q.1 in
     record { wide_grid = f.4; n_bound = f.3 }
 
@@ -94,7 +94,7 @@ returns-then-t c cs h = let listed : ListedAs (numbers c.args.pool.now c.args.ta
     (c.machine.ensures.1 (colsIn k)) c.eliminate-t.ensures in
     let k = c.list_columns-l.result.columns in
     record {
-      ready = record { laid = (listed).0; running = c.eliminate-t.ensures.running; known = λ a b. absurd (a refl) };
+      ready = (listed.0, c.eliminate-t.ensures.running);
       is = ap (λ (b : Bool). endOr b c.eliminate-t.result.machine >>= λ d. got (settledBy (colsIn k) d.left d.values)) (sym c.if-t.true) ∙ reduced cs h;
     }
 
@@ -117,6 +117,6 @@ returns-else-t c cs h = let listed : ListedAs (numbers c.args.pool.now c.args.ta
     (c.machine.ensures.1 (colsIn k)) c.eliminate-t.ensures in
     let k = c.list_columns-l.result.columns in
     record {
-      ready = record { laid = (listed).0; running = c.eliminate-t.ensures.running; known = λ a b. absurd (b refl) };
+      ready = tt;
       is = ap (λ (b : Bool). endOr b c.eliminate-t.result.machine >>= λ d. got (settledBy (colsIn k) d.left d.values)) (sym c.if-t.false) ∙ reduced cs h;
     }

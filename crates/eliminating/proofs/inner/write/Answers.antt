@@ -9,7 +9,7 @@ put_lines-n-requires c =
 
 pub returns-then-m-gt0 : goal.returns-then-m-gt0
 returns-then-m-gt0 c =
-    lines-written c.args.k c.requires.laid c.args.m c.requires.running _ _ _ c.requires.in_bounds c.if-m-gt0.true c.put_lines-n.ensures
+    lines-written c.args.k c.requires.laid c.args.m c.requires.running _ _ _ c.requires.room c.if-m-gt0.true c.put_lines-n.ensures
 
 pub put_bindings-n-requires : goal.put_bindings-n-requires
 put_bindings-n-requires c =
@@ -17,4 +17,4 @@ put_bindings-n-requires c =
 
 pub returns : goal.returns
 returns c =
-    values-written c.args.k c.requires.laid c.args.m c.requires.running _ _ _ c.requires.in_bounds (omega (arith, c.if-m-gt0.false)) c.put_bindings-n.ensures
+    values-written c.args.k c.requires.laid c.args.m c.requires.running _ _ _ c.requires.room (omega (arith, c.if-m-gt0.false)) c.put_bindings-n.ensures

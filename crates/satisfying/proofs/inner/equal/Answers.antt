@@ -1,7 +1,9 @@
 use Rattle.std.proofs.Common.{arith, sym, ◌∙◌}
 use Rattle.rules.specs.Names.{numbered, names_of, table_of}
+use Rattle.rules.specs.Trees.{sizeBinding}
 use Rattle.types.specs.Puts.{short}
 use Rattle.satisfying.proofs.Rules.{same-records, bound-first, none-bound}
+use Rattle.satisfying.proofs.Short.{first-long}
 use Rattle.satisfying.proofs.Written.{applied-as, bind-is, done-is, bind-written}
 use Rattle.satisfying.proofs.inner.equal.Goals as goal
 
@@ -15,14 +17,15 @@ pub overflow_add-len : goal.overflow_add-len
 overflow_add-len c = let b = c.in-Some.b.to in omega (arith, c.len.ensures, short _ _ b.tree b.near)
 
 pub returns-in-Some : goal.returns-in-Some
+unfolding sizeBinding
 returns-in-Some c =
     let a = c.args in
     let b = c.in-Some.b in
-    let l = short _ _ b.to.tree b.to.near in
     let names = names_of (table_of a.pool.now a.table.now) in
+    let l = first-long (numbered names) _ _ _ (c.in-Some.ensures names) in
     bind-is _ _ (bound-first (numbered names) _ _ (sym (c.same_types.ensures _ _ names a.left.tree.1 a.right.tree.1) ∙ c.if-same_types.false)
     (c.in-Some.ensures names))
-    (bind-written b.name b.to.tree.0 (omega (arith, c.len.ensures)) (omega (arith, l)) c.put.ensures c.copy.ensures)
+    (bind-written b.name b.to.tree.0 (omega (arith, c.len.ensures)) (omega (arith, l, c.requires.short)) c.put.ensures c.copy.ensures)
 
 pub returns-in-None : goal.returns-in-None
 returns-in-None c =

@@ -27,3 +27,6 @@ returns c = λ d h.
     (λ s e. step-short a.pool.now a.table.now d s h.good (omega (arith, con-in a.s.now d a.at h.held, c.requires.fits.near)) e)
     (applied-as (ap (trySatisfy (numbers a.pool.now a.table.now) bounded) (sym one)) c.satisfy.ensures) in
     subst (λ (b : List ℕ). Stepped a.dst.now b a.out c.satisfy.result (trySatisfy (numbers a.pool.now a.table.now) bounded d)) (sym back) all
+
+pub satisfy-requires-clause-short : goal.satisfy-requires-clause-short
+satisfy-requires-clause-short c = let p = c.satisfy-arg-1.given.1.0 in omega (arith, con-in c.args.s.now p.0 c.args.at p.1, c.requires.fits.near)

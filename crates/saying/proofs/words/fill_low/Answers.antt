@@ -6,14 +6,14 @@ use lib.ListN.{get_or-map}
 use Rattle.saying.proofs.words.fill_low.Goals as goal
 
 pub loop-i-init : goal.loop-i-init
-loop-i-init c = (omega arith, refl, refl)
+loop-i-init c = refl
 
 pub loop-i-preserved : goal.loop-i-preserved
 loop-i-preserved c =
     let l = c.loop-i in
-    (omega arith, c.put_byte.auto.out ∙ l.invariant.1, fill_step (map low_byte c.args.a.now) l.buffer c.put_byte.new.out l.i _ (rw (length-map c.args.a.now low_byte) (omega arith)) (c.low.ensures ∙ sym (get_or-map low_byte c.args.a.now l.i 0)) c.put_byte.ensures l.invariant.2)
+    fill_step (map low_byte c.args.a.now) l.buffer c.put_byte.new.out l.i _ (rw (length-map c.args.a.now low_byte) (omega arith)) (c.low.ensures ∙ sym (get_or-map low_byte c.args.a.now l.i 0)) c.put_byte.ensures l.invariant
 
 pub returns : goal.returns
 returns c =
     let l = c.loop-i in
-    fill_end (map low_byte c.args.a.now) l.buffer l.i (rw (length-map c.args.a.now low_byte) (omega arith)) l.invariant.2
+    fill_end (map low_byte c.args.a.now) l.buffer l.i (rw (length-map c.args.a.now low_byte) (omega arith)) l.invariant

@@ -4,14 +4,14 @@ use Rattle.saying.specs.Fills.{fill_step, fill_end}
 use Rattle.saying.proofs.words.fill_words.Goals as goal
 
 pub loop-i-init : goal.loop-i-init
-loop-i-init c = (omega arith, refl, refl)
+loop-i-init c = refl
 
 pub loop-i-preserved : goal.loop-i-preserved
 loop-i-preserved c =
     let l = c.loop-i in
-    (omega arith, c.put.auto.out ∙ l.invariant.1, fill_step c.args.a.now l.buffer c.put.new.out l.i _ (omega arith) c.wide.ensures c.put.ensures l.invariant.2)
+    fill_step c.args.a.now l.buffer c.put.new.out l.i _ (omega arith) refl c.put.ensures l.invariant
 
 pub returns : goal.returns
 returns c =
     let l = c.loop-i in
-    fill_end c.args.a.now l.buffer l.i (omega arith) l.invariant.2
+    fill_end c.args.a.now l.buffer l.i (omega arith) l.invariant

@@ -20,7 +20,8 @@ copy-requires c =
 
 pub returns : goal.returns
 returns c =
-    read-sheet _ _ c.is_good.result c.is_good.ensures (ap not c.if-not-is_good.false) c.requires.work_long c.requires.result_long c.in_ok-read.ensures c.copy.ensures
+    read-sheet _ _ c.is_good.result c.is_good.ensures (ap not c.if-not-is_good.false) c.requires.work_long c.requires.result_long
+    c.in_ok-read.ensures c.copy.ensures
 
 pub returns-in_err-read : goal.returns-in_err-read
 returns-in_err-read c =

@@ -1,37 +1,38 @@
 -- `inner::read_sheet` meets its contract: what was held is put back.
-use mathlib.Core.Path.{refl, sym}
+use mathlib.Core.Path.{sym, ◌∙◌}
 use native.Mathlib.Omega.{arith}
-use Rattle.sheet_reading.specs.Loop.{undone, bytes-held, words-held}
+use Rattle.std.proofs.Common.{◌≤◌, length, length-take-le}
+use Rattle.sheet_reading.specs.Loop.{put-back}
 use Rattle.sheet_reading.proofs.inner.read_sheet.Goals as goal
 
-pub hold_bytes-requires : goal.hold_bytes-requires
-hold_bytes-requires c =
-    record { in_bounds = c.requires.bytes; held_len = refl }
+pub copy_from_slice-requires : goal.copy_from_slice-requires
+copy_from_slice-requires c = sym (length-take-le 8192 c.args.pool.now c.requires.bytes)
 
-pub hold_words-requires : goal.hold_words-requires
-hold_words-requires c =
-    record { in_bounds = c.requires.words; held_len = refl }
+pub slice_bounds-copy_from_slice-end-in-Err-2 : goal.slice_bounds-copy_from_slice-end-in-Err-2
+slice_bounds-copy_from_slice-end-in-Err-2 c =
+    let h : 8192 ≤ length c.read_lines.new.pool = omega (arith, c.requires.bytes, c.read_lines.auto.pool) in
+    sym (length-take-le 8192 c.read_lines.new.pool h)
 
-pub slice_bounds-put_bytes-end : goal.slice_bounds-put_bytes-end
-slice_bounds-put_bytes-end c =
-    sym (bytes-held c.requires c.hold_bytes.ensures)
+pub copy_from_slice-requires-in-Err : goal.copy_from_slice-requires-in-Err
+copy_from_slice-requires-in-Err c =
+    let h : 8192 ≤ length c.read_lines.new.pool = omega (arith, c.requires.bytes, c.read_lines.auto.pool) in
+    length-take-le 8192 c.read_lines.new.pool h ∙ sym c.copy_from_slice.ensures.len
 
-pub put_bytes-requires : goal.put_bytes-requires
-put_bytes-requires c =
-    omega (arith, bytes-held c.requires c.hold_bytes.ensures, c.requires.bytes, c.read_lines.auto.pool)
+pub slice_bounds-copy_from_slice-end-in-Err-5 : goal.slice_bounds-copy_from_slice-end-in-Err-5
+slice_bounds-copy_from_slice-end-in-Err-5 c =
+    let h : 257 ≤ length c.read_lines.new.table = omega (arith, c.requires.words, c.read_lines.auto.table) in
+    sym (length-take-le 257 c.read_lines.new.table h)
 
-pub slice_bounds-put_words-end : goal.slice_bounds-put_words-end
-slice_bounds-put_words-end c =
-    sym (words-held c.requires c.hold_words.ensures)
-
-pub put_words-requires : goal.put_words-requires
-put_words-requires c =
-    omega (arith, words-held c.requires c.hold_words.ensures, c.requires.words, c.read_lines.auto.table)
-
-pub returns-in-Ok : goal.returns-in-Ok
-returns-in-Ok c =
-    c.in-Ok.ensures
+pub copy_from_slice-requires-in-Err-2 : goal.copy_from_slice-requires-in-Err-2
+copy_from_slice-requires-in-Err-2 c =
+    let h : 257 ≤ length c.read_lines.new.table = omega (arith, c.requires.words, c.read_lines.auto.table) in
+    length-take-le 257 c.read_lines.new.table h ∙ sym c.copy_from_slice-2.ensures.len
 
 pub returns-in-Err : goal.returns-in-Err
 returns-in-Err c =
-    undone c.requires c.in-Err.ensures c.hold_bytes.ensures c.hold_words.ensures c.put_bytes.ensures c.put_words.ensures
+    let x = c.in-Err.ensures in
+    record {
+      is = x.is;
+      pools = put-back 8192 c.read_lines.new.pool (c.copy_from_slice-in-Err.ensures.after ∙ c.copy_from_slice.ensures.after) x.pool-behind;
+      tables = put-back 257 c.read_lines.new.table (c.copy_from_slice-in-Err-2.ensures.after ∙ c.copy_from_slice-2.ensures.after) x.table-behind;
+    }

@@ -13,7 +13,8 @@ unfolding goodTy
 put_factors-requires g c = (Meanings.good-dim c.args.names.good c.args.factors.factors.0 c.requires).each
 
 pub returns-in_err-put_factors : goal.returns-in_err-put_factors
-returns-in_err-put_factors g c = rw dimension-is (then _ c.in_ok-put.ensures (cut _ _ c.from_residual-in_err-put_factors.ensures.0 c.in_err-put_factors.ensures))
+returns-in_err-put_factors g c =
+    rw dimension-is (then _ c.in_ok-put.ensures (cut _ _ c.from_residual-in_err-put_factors.ensures.0 c.in_err-put_factors.ensures))
 
 pub returns : goal.returns
 returns g c = rw dimension-is (then _ c.in_ok-put.ensures (then _ c.in_ok-put_factors.ensures c.put-2.ensures))

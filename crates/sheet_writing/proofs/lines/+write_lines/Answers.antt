@@ -31,7 +31,8 @@ pub returns-in_err-put : goal.returns-in_err-put
 returns-in_err-put g t c =
     λ cs f.
     let y = as_line _ _ c.args.set.now c.args.at c.if-set-at.false cs f in
-    rw (y.is, next-line) (then _ (rw (c.constraint_at.ensures y.c y.holds) at c.in_ok-write_con.ensures) (cut _ _ c.from_residual-in_err-put.ensures.0 c.in_err-put.ensures))
+    rw (y.is, next-line)
+    (then _ (rw (c.constraint_at.ensures y.c y.holds) at c.in_ok-write_con.ensures) (cut _ _ c.from_residual-in_err-put.ensures.0 c.in_err-put.ensures))
 
 pub overflow_add-at : goal.overflow_add-at
 overflow_add-at g t c =

@@ -19,7 +19,8 @@ returns-in_err-write_type-in-Equal g c = rw (← c.in-Equal.ensures) (cut _ _ c.
 pub returns-in_err-put-in-Equal : goal.returns-in_err-put-in-Equal
 unfolding conText
 returns-in_err-put-in-Equal g c =
-    rw (← c.in-Equal.ensures) (then _ c.in_ok-write_type-in-Equal.ensures (cut _ _ c.from_residual-in_err-put-in-Equal.ensures.0 c.in_err-put-in-Equal.ensures))
+    rw (← c.in-Equal.ensures)
+    (then _ c.in_ok-write_type-in-Equal.ensures (cut _ _ c.from_residual-in_err-put-in-Equal.ensures.0 c.in_err-put-in-Equal.ensures))
 
 pub write_type-requires-in-Equal : goal.write_type-requires-in-Equal
 unfolding goodCon
@@ -29,7 +30,8 @@ write_type-requires-in-Equal g c =
 
 pub returns-in_ok-put-in-Equal : goal.returns-in_ok-put-in-Equal
 unfolding conText
-returns-in_ok-put-in-Equal g c = rw (← c.in-Equal.ensures) (then _ c.in_ok-write_type-in-Equal.ensures (then _ c.in_ok-put-in-Equal.ensures c.write_type-in-Equal.ensures))
+returns-in_ok-put-in-Equal g c =
+    rw (← c.in-Equal.ensures) (then _ c.in_ok-write_type-in-Equal.ensures (then _ c.in_ok-put-in-Equal.ensures c.write_type-in-Equal.ensures))
 
 pub write_type-requires-in-IsDimension : goal.write_type-requires-in-IsDimension
 unfolding goodCon
@@ -58,7 +60,8 @@ unfolding conText
 returns-in_ok-put_dimension-in-IsScalar g c = rw (← c.in-IsScalar.ensures) (then _ c.in_ok-put_dimension-in-IsScalar.ensures c.put-in-IsScalar.ensures)
 
 pub returns-in_err-put-in-HasField : goal.returns-in_err-put-in-HasField
-returns-in_err-put-in-HasField g c = rw (← c.in-HasField.ensures, has-text) (cut _ _ c.from_residual-in_err-put-in-HasField.ensures.0 c.in_err-put-in-HasField.ensures)
+returns-in_err-put-in-HasField g c =
+    rw (← c.in-HasField.ensures, has-text) (cut _ _ c.from_residual-in_err-put-in-HasField.ensures.0 c.in_err-put-in-HasField.ensures)
 
 pub write_type-requires-in-HasField : goal.write_type-requires-in-HasField
 unfolding goodCon

@@ -8,7 +8,19 @@ use Rattle.rules.specs.WellFormed.{goodFields, goodTy, goodTys}
 use Rattle.laws.specs.Lists.{and_left, and_right}
 use Rattle.records.specs.ByView.{size-pos}
 use Rattle.spelling.specs.Sinks.{cut, nothing, then}
-use Rattle.sheet_writing.specs.Parts.{areGood, fromTys, good-open, held, isGood, name_of, next_fields, next_types, no_fields, no_types, struct_text}
+use Rattle.sheet_writing.specs.Parts.{
+  areGood,
+  fromTys,
+  good-open,
+  held,
+  isGood,
+  name_of,
+  next_fields,
+  next_types,
+  no_fields,
+  no_types,
+  struct_text,
+}
 use Rattle.sheet_writing.proofs.terms.+types.Goals as goal
 
 pub write_fields-returns-in_default : goal.write_fields-returns-in_default
@@ -18,7 +30,9 @@ pub write_fields-put_label-requires : goal.write_fields-put_label-requires
 unfolding goodFields
 write_fields-put_label-requires g t c =
     let good = rw (← c.in-Some.ensures) at c.requires in
-    held c.args.names.pool.now c.args.names.table.now c.in-Some.x (and_left (is_held (table_of c.args.names.pool.now c.args.names.table.now) c.in-Some.x) _ (and_left _ _ good))
+    let p = c.args.names.pool.now in
+    let k = c.args.names.table.now in
+    held p k c.in-Some.x (and_left (is_held (table_of p k) c.in-Some.x) _ (and_left _ _ good))
 
 pub write_fields-returns-in_err-put_label : goal.write_fields-returns-in_err-put_label
 write_fields-returns-in_err-put_label g t c = rw (← c.in-Some.ensures, next_fields) (cut _ _ c.from_residual.ensures.0 c.in_err-put_label.ensures)
@@ -28,7 +42,8 @@ unfolding goodFields sizeFields
 write_fields-write_type-requires g t c κs within =
     let good = rw (← c.in-Some.ensures) at c.requires in
     let n = ap (λ (fs : Fields ℕ). sizeFields fs) c.in-Some.ensures in
-    (omega (arith, c.decreases, n), (search rules, (search rules, and_right (is_held (table_of c.args.names.pool.now c.args.names.table.now) c.in-Some.x) _ (and_left _ _ good))))
+    let h = and_right (is_held (table_of c.args.names.pool.now c.args.names.table.now) c.in-Some.x) _ (and_left _ _ good) in
+    (omega (arith, c.decreases, n), (search rules, (search rules, h)))
 
 pub write_fields-returns-in_err-write_type : goal.write_fields-returns-in_err-write_type
 write_fields-returns-in_err-write_type g t c =
@@ -39,7 +54,10 @@ unfolding goodFields sizeFields
 write_fields-write_fields-requires g t c κs within =
     let good = rw (← c.in-Some.ensures) at c.requires in
     let n = ap (λ (fs : Fields ℕ). sizeFields fs) c.in-Some.ensures in
-    (omega (arith, c.decreases, n), (search rules, (search rules, and_right (is_held (table_of c.args.names.pool.now c.args.names.table.now) c.in-Some.x && isGood c.args.names.pool.now c.args.names.table.now c.in-Some.t.tree.0) _ good)))
+    let p = c.args.names.pool.now in
+    let k = c.args.names.table.now in
+    let h = and_right (is_held (table_of p k) c.in-Some.x && isGood p k c.in-Some.t.tree.0) _ good in
+    (omega (arith, c.decreases, n), (search rules, (search rules, h)))
 
 pub write_fields-returns : goal.write_fields-returns
 write_fields-returns g t c = rw (← c.in-Some.ensures, next_fields) (then _ c.in_ok-put_label.ensures (then _ c.in_ok-write_type.ensures c.write_fields.ensures))
@@ -55,7 +73,8 @@ unfolding goodTys sizeTys
 write_types-write_type-requires g t c κs within =
     let good = rw (← c.in-Some.ensures) at c.requires in
     let n = ap (λ (ts : Tys ℕ). sizeTys ts) c.in-Some.ensures in
-    (omega (arith, c.decreases, n), (search rules, (search rules, and_left (isGood c.args.names.pool.now c.args.names.table.now c.in-Some.t.tree.0) _ good)))
+    let h = and_left (isGood c.args.names.pool.now c.args.names.table.now c.in-Some.t.tree.0) _ good in
+    (omega (arith, c.decreases, n), (search rules, (search rules, h)))
 
 pub write_types-returns-in_err-write_type : goal.write_types-returns-in_err-write_type
 write_types-returns-in_err-write_type g t c =
@@ -66,14 +85,16 @@ unfolding goodTys sizeTys
 write_types-write_types-requires g t c κs within =
     let good = rw (← c.in-Some.ensures) at c.requires in
     let n = ap (λ (ts : Tys ℕ). sizeTys ts) c.in-Some.ensures in
-    (omega (arith, c.decreases, n, size-pos c.in-Some.t.tree.0), (search rules, (search rules, and_right (isGood c.args.names.pool.now c.args.names.table.now c.in-Some.t.tree.0) _ good)))
+    let h = and_right (isGood c.args.names.pool.now c.args.names.table.now c.in-Some.t.tree.0) _ good in
+    (omega (arith, c.decreases, n, size-pos c.in-Some.t.tree.0), (search rules, (search rules, h)))
 
 pub write_types-returns : goal.write_types-returns
 write_types-returns g t c = rw (← c.in-Some.ensures, next_types) (then _ c.in_ok-put_comma.ensures (then _ c.in_ok-write_type.ensures c.write_types.ensures))
 
 pub write_type-put_open-requires : goal.write_type-put_open-requires
 unfolding goodTy
-write_type-put_open-requires g t c = let good = rw (← c.in-Open.ensures) at c.requires in good-open c.args.names.pool.now c.args.names.table.now c.in-Open.o good
+write_type-put_open-requires g t c =
+    let good = rw (← c.in-Open.ensures) at c.requires in good-open c.args.names.pool.now c.args.names.table.now c.in-Open.o good
 
 pub write_type-put_dimension-requires : goal.write_type-put_dimension-requires
 unfolding goodTy
@@ -88,7 +109,8 @@ unfolding goodTy size
 write_type-write_types-requires g t c κs within =
     let good = rw (← c.in-Function.ensures) at c.requires in
     let n = ap (λ (t : Ty ℕ). size t) c.in-Function.ensures in
-    (omega (arith, c.decreases, n), (search rules, (search rules, and_left (areGood c.args.names.pool.now c.args.names.table.now c.in-Function.parameters.trees.0) _ good)))
+    let h = and_left (areGood c.args.names.pool.now c.args.names.table.now c.in-Function.parameters.trees.0) _ good in
+    (omega (arith, c.decreases, n), (search rules, (search rules, h)))
 
 pub write_type-returns-in_err-write_types-in-Function : goal.write_type-returns-in_err-write_types-in-Function
 unfolding tyText fromTys
@@ -100,14 +122,16 @@ pub write_type-returns-in_err-put-in-Function-2 : goal.write_type-returns-in_err
 unfolding tyText fromTys
 write_type-returns-in_err-put-in-Function-2 g t c =
     rw (← c.in-Function.ensures)
-    (then _ c.in_ok-put-in-Function.ensures (then _ c.in_ok-write_types-in-Function.ensures (cut _ _ c.from_residual-in_err-put-in-Function-2.ensures.0 c.in_err-put-in-Function-2.ensures)))
+    (then _ c.in_ok-put-in-Function.ensures (then _ c.in_ok-write_types-in-Function.ensures
+    (cut _ _ c.from_residual-in_err-put-in-Function-2.ensures.0 c.in_err-put-in-Function-2.ensures)))
 
 pub write_type-write_type-requires : goal.write_type-write_type-requires
 unfolding goodTy size
 write_type-write_type-requires g t c κs within =
     let good = rw (← c.in-Function.ensures) at c.requires in
     let n = ap (λ (t : Ty ℕ). size t) c.in-Function.ensures in
-    (omega (arith, c.decreases, n), (search rules, (search rules, and_right (areGood c.args.names.pool.now c.args.names.table.now c.in-Function.parameters.trees.0) _ good)))
+    let h = and_right (areGood c.args.names.pool.now c.args.names.table.now c.in-Function.parameters.trees.0) _ good in
+    (omega (arith, c.decreases, n), (search rules, (search rules, h)))
 
 pub write_type-returns-in_err-write_type-in-Function : goal.write_type-returns-in_err-write_type-in-Function
 unfolding tyText fromTys
@@ -127,11 +151,15 @@ pub write_type-put_head-requires : goal.write_type-put_head-requires
 unfolding goodTy
 write_type-put_head-requires g t c =
     let good = rw (← c.in-Struct.ensures) at c.requires in
-    held c.args.names.pool.now c.args.names.table.now c.in-Struct.x (and_left (is_held (table_of c.args.names.pool.now c.args.names.table.now) c.in-Struct.x) _ (and_left _ _ (and_left _ _ good)))
+    let p = c.args.names.pool.now in
+    let k = c.args.names.table.now in
+    held p k c.in-Struct.x (and_left (is_held (table_of p k) c.in-Struct.x) _ (and_left _ _ (and_left _ _ good)))
 
 pub write_type-returns-in_err-put_head-in-Struct : goal.write_type-returns-in_err-put_head-in-Struct
 write_type-returns-in_err-put_head-in-Struct g t c =
-    rw (← c.in-Struct.ensures, struct_text (name_of c.args.names.pool.now c.args.names.table.now) c.in-Struct.x _ _ c.in-Struct.arguments.count c.in-Struct.fields.count c.in-Struct.arguments.trees.1.many c.in-Struct.fields.trees.1.many)
+    let many = c.in-Struct.arguments.trees.1.many in
+    let fields = c.in-Struct.fields.trees.1.many in
+    rw (← c.in-Struct.ensures, struct_text (name_of c.args.names.pool.now c.args.names.table.now) c.in-Struct.x _ _ _ _ many fields)
     (cut _ _ c.from_residual-in_err-put_head-in-Struct.ensures.0 c.in_err-put_head-in-Struct.ensures)
 
 pub write_type-write_types-requires-in-Struct : goal.write_type-write_types-requires-in-Struct
@@ -139,16 +167,21 @@ unfolding goodTy size
 write_type-write_types-requires-in-Struct g t c κs within =
     let good = rw (← c.in-Struct.ensures) at c.requires in
     let n = ap (λ (t : Ty ℕ). size t) c.in-Struct.ensures in
-    (omega (arith, c.decreases, n), (search rules, (search rules, and_right (is_held (table_of c.args.names.pool.now c.args.names.table.now) c.in-Struct.x) _ (and_left _ _ (and_left _ _ good)))))
+    let h = and_right (is_held (table_of c.args.names.pool.now c.args.names.table.now) c.in-Struct.x) _ (and_left _ _ (and_left _ _ good)) in
+    (omega (arith, c.decreases, n), (search rules, (search rules, h)))
 
 pub write_type-returns-in_err-write_types-in-Struct : goal.write_type-returns-in_err-write_types-in-Struct
 write_type-returns-in_err-write_types-in-Struct g t c =
-    rw (← c.in-Struct.ensures, struct_text (name_of c.args.names.pool.now c.args.names.table.now) c.in-Struct.x _ _ c.in-Struct.arguments.count c.in-Struct.fields.count c.in-Struct.arguments.trees.1.many c.in-Struct.fields.trees.1.many)
+    let many = c.in-Struct.arguments.trees.1.many in
+    let fields = c.in-Struct.fields.trees.1.many in
+    rw (← c.in-Struct.ensures, struct_text (name_of c.args.names.pool.now c.args.names.table.now) c.in-Struct.x _ _ _ _ many fields)
     (then _ c.in_ok-put_head-in-Struct.ensures (cut _ _ c.from_residual-in_err-write_types-in-Struct.ensures.0 c.in_err-write_types-in-Struct.ensures))
 
 pub write_type-returns-in_err-put_between-in-Struct : goal.write_type-returns-in_err-put_between-in-Struct
 write_type-returns-in_err-put_between-in-Struct g t c =
-    rw (← c.in-Struct.ensures, struct_text (name_of c.args.names.pool.now c.args.names.table.now) c.in-Struct.x _ _ c.in-Struct.arguments.count c.in-Struct.fields.count c.in-Struct.arguments.trees.1.many c.in-Struct.fields.trees.1.many)
+    let many = c.in-Struct.arguments.trees.1.many in
+    let fields = c.in-Struct.fields.trees.1.many in
+    rw (← c.in-Struct.ensures, struct_text (name_of c.args.names.pool.now c.args.names.table.now) c.in-Struct.x _ _ _ _ many fields)
     (then _ c.in_ok-put_head-in-Struct.ensures (then _ c.in_ok-write_types-in-Struct.ensures
     (cut _ _ c.from_residual-in_err-put_between-in-Struct.ensures.0 c.in_err-put_between-in-Struct.ensures)))
 
@@ -157,17 +190,24 @@ unfolding goodTy size
 write_type-write_fields-requires g t c κs within =
     let good = rw (← c.in-Struct.ensures) at c.requires in
     let n = ap (λ (t : Ty ℕ). size t) c.in-Struct.ensures in
-    (omega (arith, c.decreases, n), (search rules, (search rules, and_right (is_held (table_of c.args.names.pool.now c.args.names.table.now) c.in-Struct.x && areGood c.args.names.pool.now c.args.names.table.now c.in-Struct.arguments.trees.0) _ (and_left _ _ good))))
+    let p = c.args.names.pool.now in
+    let k = c.args.names.table.now in
+    let h = and_right (is_held (table_of p k) c.in-Struct.x && areGood p k c.in-Struct.arguments.trees.0) _ (and_left _ _ good) in
+    (omega (arith, c.decreases, n), (search rules, (search rules, h)))
 
 pub write_type-returns-in_err-write_fields-in-Struct : goal.write_type-returns-in_err-write_fields-in-Struct
 write_type-returns-in_err-write_fields-in-Struct g t c =
-    rw (← c.in-Struct.ensures, struct_text (name_of c.args.names.pool.now c.args.names.table.now) c.in-Struct.x _ _ c.in-Struct.arguments.count c.in-Struct.fields.count c.in-Struct.arguments.trees.1.many c.in-Struct.fields.trees.1.many)
+    let many = c.in-Struct.arguments.trees.1.many in
+    let fields = c.in-Struct.fields.trees.1.many in
+    rw (← c.in-Struct.ensures, struct_text (name_of c.args.names.pool.now c.args.names.table.now) c.in-Struct.x _ _ _ _ many fields)
     (then _ c.in_ok-put_head-in-Struct.ensures (then _ c.in_ok-write_types-in-Struct.ensures (then _ c.in_ok-put_between-in-Struct.ensures
     (cut _ _ c.from_residual-in_err-write_fields-in-Struct.ensures.0 c.in_err-write_fields-in-Struct.ensures))))
 
 pub write_type-returns-in_ok-write_fields-in-Struct : goal.write_type-returns-in_ok-write_fields-in-Struct
 write_type-returns-in_ok-write_fields-in-Struct g t c =
-    rw (← c.in-Struct.ensures, struct_text (name_of c.args.names.pool.now c.args.names.table.now) c.in-Struct.x _ _ c.in-Struct.arguments.count c.in-Struct.fields.count c.in-Struct.arguments.trees.1.many c.in-Struct.fields.trees.1.many)
+    let many = c.in-Struct.arguments.trees.1.many in
+    let fields = c.in-Struct.fields.trees.1.many in
+    rw (← c.in-Struct.ensures, struct_text (name_of c.args.names.pool.now c.args.names.table.now) c.in-Struct.x _ _ _ _ many fields)
     (then _ c.in_ok-put_head-in-Struct.ensures (then _ c.in_ok-write_types-in-Struct.ensures (then _ c.in_ok-put_between-in-Struct.ensures
     (then _ c.in_ok-write_fields-in-Struct.ensures c.put_if.ensures))))
 
@@ -184,11 +224,13 @@ write_type-write_type-requires-in-List g t c κs within =
 
 pub write_type-returns-in_err-write_type-in-List : goal.write_type-returns-in_err-write_type-in-List
 unfolding tyText
-write_type-returns-in_err-write_type-in-List g t c = rw (← c.in-List.ensures) (then _ c.in_ok-put-in-List.ensures (cut _ _ c.from_residual-in_err-write_type-in-List.ensures.0 c.in_err-write_type-in-List.ensures))
+write_type-returns-in_err-write_type-in-List g t c =
+    rw (← c.in-List.ensures) (then _ c.in_ok-put-in-List.ensures (cut _ _ c.from_residual-in_err-write_type-in-List.ensures.0 c.in_err-write_type-in-List.ensures))
 
 pub write_type-returns-in_ok-write_type-in-List : goal.write_type-returns-in_ok-write_type-in-List
 unfolding tyText
-write_type-returns-in_ok-write_type-in-List g t c = rw (← c.in-List.ensures) (then _ c.in_ok-put-in-List.ensures (then _ c.in_ok-write_type-in-List.ensures c.put-in-List-2.ensures))
+write_type-returns-in_ok-write_type-in-List g t c =
+    rw (← c.in-List.ensures) (then _ c.in_ok-put-in-List.ensures (then _ c.in_ok-write_type-in-List.ensures c.put-in-List-2.ensures))
 
 pub write_type-returns-in-Open : goal.write_type-returns-in-Open
 unfolding tyText

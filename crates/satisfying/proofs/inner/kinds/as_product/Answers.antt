@@ -1,7 +1,6 @@
 use Rattle.std.proofs.Common.{arith, ap}
 use Rattle.rules.specs.Rounds.{asProducts}
 use Rattle.rules.specs.Trees.{size}
-use Rattle.types.specs.Puts.{short}
 use Rattle.satisfying.proofs.Written.{split-is, stuck-is, product-written, type-as}
 use Rattle.satisfying.proofs.inner.kinds.as_product.Goals as goal
 
@@ -10,12 +9,12 @@ unfolding asProducts
 returns-in_default c = λ p e. stuck-is (rw c.in_default.is)
 
 pub overflow_add-len : goal.overflow_add-len
-overflow_add-len c = omega (arith, c.len.ensures, short _ _ c.args.dimension.tree c.args.dimension.near)
+overflow_add-len c = omega (arith, c.len.ensures, c.requires)
 
 pub returns : goal.returns
 unfolding asProducts
 returns c = λ p e.
-    let l = short _ _ c.args.dimension.tree c.args.dimension.near in
+    let l = c.requires in
     split-is _ (rw c.in-Some.is)
     (product-written c.in-Some.x p (omega (arith, c.len.ensures, ap size e)) (omega (arith, l, ap size e)) c.put.ensures c.put-2.ensures c.put-3.ensures
     (type-as e c.copy.ensures))

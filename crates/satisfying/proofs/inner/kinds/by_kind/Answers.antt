@@ -1,4 +1,4 @@
-use Rattle.std.proofs.Common.{◌∙◌, sym}
+use Rattle.std.proofs.Common.{arith, ◌∙◌, sym}
 use Rattle.rules.specs.Names.{names_of, table_of}
 use Rattle.replacing.specs.Well.{names}
 use Rattle.satisfying.proofs.Conditions.{product-good}
@@ -19,6 +19,7 @@ use Rattle.satisfying.proofs.Rules.{
   two-names,
   other-count,
 }
+use Rattle.satisfying.proofs.Sizes.{fn-size, struct-size, list-size}
 use Rattle.satisfying.proofs.Written.{applied-as, products-as, split-is, stuck-is, one-con, cons-con}
 use Rattle.satisfying.proofs.inner.kinds.by_kind.Goals as goal
 
@@ -93,3 +94,21 @@ returns-in_default-8 c = let d = c.in_default in stuck-is (one-list (names c.arg
 
 pub returns-in_default-9 : goal.returns-in_default-9
 returns-in_default-9 c = stuck-is (basic-left (names c.args.pool.now c.args.table.now) _ c.in_default.ensures)
+
+pub as_product-requires : goal.as_product-requires
+as_product-requires c = omega (arith, c.requires.short)
+
+pub as_product-requires-in-Open-Dimension : goal.as_product-requires-in-Open-Dimension
+as_product-requires-in-Open-Dimension c = omega (arith, c.requires.short)
+
+pub equal-requires : goal.equal-requires
+equal-requires c = let i = c.in-Function-Function in omega (arith, c.requires.short, fn-size _ _ _ i.ensures, fn-size _ _ _ i.ensures')
+
+pub pairs-requires : goal.pairs-requires
+pairs-requires c = let i = c.in-Function-Function in omega (arith, c.requires.short, fn-size _ _ _ i.ensures, fn-size _ _ _ i.ensures')
+
+pub pairs-requires-in-Struct-Struct : goal.pairs-requires-in-Struct-Struct
+pairs-requires-in-Struct-Struct c = let i = c.in-Struct-Struct in omega (arith, c.requires.short, struct-size _ _ _ _ i.ensures, struct-size _ _ _ _ i.ensures')
+
+pub equal-requires-in-List-List : goal.equal-requires-in-List-List
+equal-requires-in-List-List c = let i = c.in-List-List in omega (arith, c.requires.short, list-size _ _ i.ensures, list-size _ _ i.ensures')

@@ -1,4 +1,4 @@
-use Rattle.std.proofs.Common.{sym, ap, ◌∙◌}
+use Rattle.std.proofs.Common.{arith, length, sym, ap, ◌∙◌}
 use Rattle.rules.specs.Base.{bounded, each}
 use Rattle.rules.specs.Rounds.{otherSide}
 use Rattle.satisfying.specs.Parts.{boundTo}
@@ -18,3 +18,6 @@ returns c = λ names.
     (scalar-variable names _ _ _ c.in-Some.ensures c.in-Some-variable_of.x c.in-Some-variable_of.ensures
     ∙ ap (λ k. boundTo c.in-Some-variable_of.x (each (otherSide bounded k) c.in-Some.others.factors.0)) (sym c.from_words.ensures))
     c.solve_for.ensures
+
+pub solve_for-requires-clause-short : goal.solve_for-requires-clause-short
+solve_for-requires-clause-short c = omega (arith, c.requires.short, ap length c.in-Some.ensures)

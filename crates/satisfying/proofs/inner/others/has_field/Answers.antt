@@ -1,5 +1,8 @@
-use Rattle.std.proofs.Common.{sym, ◌∙◌}
+use Rattle.rules.specs.Names.{numbered}
+use Rattle.std.proofs.Common.{arith, [], sym, ◌∙◌}
 use Rattle.satisfying.proofs.Others.{field-open, field-not-struct, field-found, field-missing}
+use Rattle.satisfying.proofs.Short.{field-long}
+use Rattle.satisfying.proofs.Sizes.{struct-size}
 use Rattle.satisfying.proofs.Written.{split-is, stuck-is, one-con}
 use Rattle.satisfying.proofs.inner.others.has_field.Goals as goal
 
@@ -17,3 +20,7 @@ returns-in_default-find c = λ names. stuck-is (field-missing names _ _ _ (sym c
 pub returns : goal.returns
 returns c = λ names. split-is _ (field-found names _ _ _ (sym c.is_closed.ensures ∙ c.if-not-is_closed.false) c.in-Struct.ensures (c.in-Some.ensures names))
     (one-con _ c.equal.ensures)
+
+pub equal-requires : goal.equal-requires
+equal-requires c =
+    omega (arith, c.requires, struct-size _ _ _ _ c.in-Struct.ensures, field-long (numbered []) c.args.x _ _ (sym (c.in-Some.ensures [])))

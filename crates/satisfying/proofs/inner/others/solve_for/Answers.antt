@@ -2,11 +2,11 @@ use Rattle.std.proofs.Common.{arith}
 use Rattle.rules.specs.Base.{bounded}
 use Rattle.rules.specs.Rounds.{otherSide}
 use Rattle.exponents.specs.Answers.{expOf}
-use Rattle.satisfying.proofs.Others.{few-factors, solved}
+use Rattle.satisfying.proofs.Others.{solved}
 use Rattle.satisfying.proofs.inner.others.solve_for.Goals as goal
 
 pub returns : goal.returns
 returns c =
     let o = c.args.others in
     solved c.args.x (otherSide bounded (expOf c.args.k)) _ _ o.factors.1.many
-    (omega (arith, few-factors _ _ _ o.factors.1.held o.near, o.factors.1.many)) c.put.ensures c.put-2.ensures c.in_ok-put_others.ensures
+    (omega (arith, c.requires.short, o.factors.1.many)) c.put.ensures c.put-2.ensures c.in_ok-put_others.ensures

@@ -12,5 +12,4 @@ pub returns : goal.returns
 returns c =
     let e = c.len.ensures in
     let f = c.len-2.ensures in
-    equal-writes _ _ _ (omega arith) (omega (arith, short _ _ c.args.left.tree c.args.left.near, short _ _ c.args.right.tree c.args.right.near))
-    c.put.ensures c.copy.ensures c.copy-2.ensures
+    equal-writes _ _ _ (omega arith) (omega (arith, c.requires)) c.put.ensures c.copy.ensures c.copy-2.ensures

@@ -1,0 +1,5 @@
+use Rattle.compaction.specs.Promise.{promised}
+use Rattle.compaction.proofs.theorems.occurring_names_are_kept.Goals as goal
+
+pub returns : goal.returns
+returns c = promised

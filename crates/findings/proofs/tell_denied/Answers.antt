@@ -1,0 +1,12 @@
+-- `tell_denied` meets its contract.
+use Rattle.rules.specs.Reports.{findingText}
+use Rattle.spelling.specs.Sinks.{cut, then}
+use Rattle.findings.specs.Whole.{titled}
+use Rattle.findings.proofs.tell_denied.Goals as goal
+
+pub returns-in_err-put_title : goal.returns-in_err-put_title
+returns-in_err-put_title g c = λ names cs new. rw titled (cut _ _ c.from_residual.ensures.0 c.in_err-put_title.ensures)
+
+pub returns : goal.returns
+unfolding findingText
+returns g c = λ names cs new. rw titled (then _ c.in_ok-put_title.ensures c.put.ensures)

@@ -1,0 +1,5 @@
+use Rattle.rescue.specs.Outcome.{handled}
+use Rattle.rescue.proofs.theorems.every_file_is_answered.Goals as goal
+
+pub returns : goal.returns
+returns c = handled

@@ -1,0 +1,5 @@
+use Rattle.rescue.specs.Determined.{rescue-determined}
+use Rattle.rescue.proofs.theorems.rescue_is_determined.Goals as goal
+
+pub returns : goal.returns
+returns c = rescue-determined

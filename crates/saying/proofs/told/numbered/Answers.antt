@@ -1,8 +1,0 @@
--- `numbered` meets its contract.
-use Rattle.saying.proofs.told.numbered.Goals as goal
-
-pub returns-in-Ok : goal.returns-in-Ok
-returns-in-Ok c = rw c.in-Ok.is (cc)
-
-pub returns-in-Err : goal.returns-in-Err
-returns-in-Err c = rw c.in-Err.is (cc)
