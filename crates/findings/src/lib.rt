@@ -59,7 +59,7 @@ pub fn tell_accepted<S: Sink>(
     rounds: u32,
     to: &mut S,
 ) -> Result<(), S::Error>
-    requires near { length s.now ≤ 100_000 }
+    requires near { length s.now ≤ 4_000_000_000 }
     requires there { (mid : ℕ) × ((bs : List (Binding ℕ)) × ((ns : List ℕ) × SolvedAt names.pool.now names.table.now s.now at mid end bs ns)) }
     ensures { (mid : ℕ) (bs : List (Binding ℕ)) (ns : List ℕ) → SolvedAt names.entry.pool.now names.entry.table.now s.now at mid end bs ns
         → Puts (S.place to.old)
@@ -126,7 +126,7 @@ pub fn tell_remaining<S: Sink>(
     rounds: u32,
     to: &mut S,
 ) -> Result<(), S::Error>
-    requires near { length s.now ≤ 100_000 }
+    requires near { length s.now ≤ 4_000_000_000 }
     requires there { (ds : List (Con ℕ)) × LeftOver names.pool.now names.table.now s.now at end ds }
     ensures { (cs new : ℕ) (ds : List (Con ℕ)) → LeftOver names.entry.pool.now names.entry.table.now s.now at end ds
         → Puts (S.place to.old) (reportText (name_of names.entry.pool.now names.entry.table.now) name.now cs new (remains ds rounds)) result (S.place to.new) }

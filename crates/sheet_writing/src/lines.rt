@@ -59,7 +59,7 @@ pub fn write_con<S: Sink>(
 
 /// The constraint whose first record is the one at `at`.
 pub fn constraint_at(words: &[u32], at: usize) -> Constraint
-    requires near { length words.now ≤ 100_000 }
+    requires near { length words.now ≤ 4_000_000_000 }
     requires there { (c : Con ℕ) × HoldsCon words.now c at }
     ensures { (c : Con ℕ) → HoldsCon words.now c at → result.tree.0 ≡ c }
 {
@@ -73,7 +73,7 @@ pub fn write_lines<S: Sink>(
     at: usize,
     to: &mut S,
 ) -> Result<(), S::Error>
-    requires near { length set.now ≤ 100_000 }
+    requires near { length set.now ≤ 4_000_000_000 }
     requires there { (cs : List (Con ℕ)) × LinesAt names.pool.now names.table.now set.now at cs }
     ensures { (cs : List (Con ℕ)) → LinesAt names.entry.pool.now names.entry.table.now set.now at cs
         → Puts (S.place to.old) (setText (name_of names.entry.pool.now names.entry.table.now) cs) result (S.place to.new) }

@@ -23,7 +23,7 @@ use types::{Constraint, Type};
 
 // The type whose first record is the one at `at`.
 fn type_at(words: &[u32], at: usize) -> Type
-    requires near { length words.now ≤ 100_000 }
+    requires near { length words.now ≤ 4_000_000_000 }
     requires there { (t : Ty ℕ) × Holds words.now t at }
     ensures { (t : Ty ℕ) → Holds words.now t at → result.tree.0 ≡ t }
 {
@@ -77,7 +77,7 @@ fn put_left<S: Sink>(names: NameTable, constraint: Constraint, to: &mut S) -> Re
 
 // Puts the line of the binding, the bound or the constraint at a place.
 fn put_row<S: Sink>(names: NameTable, s: &[u32], at: usize, to: &mut S) -> Result<(), S::Error>
-    requires near { length s.now ≤ 100_000 }
+    requires near { length s.now ≤ 4_000_000_000 }
     requires there { (r : Row) × ((e : ℕ) × RowHere names.pool.now names.table.now s.now at r e) }
     ensures { (r : Row) (e : ℕ) → RowHere names.entry.pool.now names.entry.table.now s.now at r e
         → Puts (S.place to.old) (rowText (name_of names.entry.pool.now names.entry.table.now) r) result (S.place to.new) }
@@ -97,7 +97,7 @@ pub fn put_rows<S: Sink>(
     end: usize,
     to: &mut S,
 ) -> Result<(), S::Error>
-    requires near { length s.now ≤ 100_000 }
+    requires near { length s.now ≤ 4_000_000_000 }
     requires there { (rs : List Row) × RowsAt names.pool.now names.table.now s.now at end rs }
     ensures { (rs : List Row) → RowsAt names.entry.pool.now names.entry.table.now s.now at end rs
         → Puts (S.place to.old) (collect (rowText (name_of names.entry.pool.now names.entry.table.now)) rs) result (S.place to.new) }

@@ -37,7 +37,7 @@ fn tell_judged<S: Sink>(
     verdict: Result<bool, Refusal>,
     to: &mut S,
 ) -> Result<(), S::Error>
-    requires near { length solved.records.now ≤ 100_000 }
+    requires near { length solved.records.now ≤ 4_000_000_000 }
     requires there { (mid : ℕ) × ((bs : List (Binding ℕ)) × ((ns : List ℕ) × SolvedAt names.pool.now names.table.now solved.records.now solved.at mid end bs ns)) }
     ensures { (mid : ℕ) (bs : List (Binding ℕ)) (ns : List ℕ) → SolvedAt names.entry.pool.now names.entry.table.now solved.entry.records.now solved.entry.at mid end bs ns
         → Puts (S.place to.old)
@@ -68,7 +68,7 @@ pub fn tell_answer<S: Sink>(
     verdict: Result<bool, Refusal>,
     to: &mut S,
 ) -> Result<(), S::Error>
-    requires near { length solved.records.now ≤ 100_000 }
+    requires near { length solved.records.now ≤ 4_000_000_000 }
     requires place { solved.at < 2 ^ 40 }
     requires there { (a : Got (Answer ℕ))
         × AnswerAt names.pool.now names.table.now solved.records.now solved.at solved.refusal solved.rounds solved.first solved.second a }
