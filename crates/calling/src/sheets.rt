@@ -1,8 +1,9 @@
 // The calls on whole sets beside solving: the judge, the ceiling on rounds, and several sets at once.
 ghost use Rattle.std.specs.Prelude.{◌≡◌, ◌≤◌, length, take};
 ghost use Rattle.rules.specs.Calls.{judgeCall};
-ghost use Rattle.entries.specs.Entries.{told};
+ghost use Rattle.entries.specs.Entries.{toldEntry, told};
 ghost use Rattle.judging.specs.Told.{judgedAs};
+ghost use Rattle.saying.specs.Given.{pair_at, pairsFrom, entriesIn};
 
 use batches::solve_all;
 use ceiling::ceiling;
@@ -29,6 +30,7 @@ fn at_most(n: usize, most: usize) -> usize
 // The i-th pair of words.
 fn entry_at(b: &[u32], i: usize) -> Entry
     requires { i ≤ 1000000 }
+    ensures { toldEntry result ≡ pair_at b.now i }
 {
     Entry {
         variable: word_of(b, i * 2),
@@ -39,17 +41,15 @@ fn entry_at(b: &[u32], i: usize) -> Entry
 // The first n pairs of words as entries.
 fn entries_from(b: &[u32], n: usize) -> [Entry; ENTRIES]
     requires { n ≤ 5120 }
+    ensures { told (take n result) ≡ pairsFrom b.now 0 n }
 {
     let none = Entry {
         variable: 0,
         place: 0,
     };
     let mut es = [none; ENTRIES];
-    let mut i = 0;
-    while i < n {
-        let e = entry_at(b, i);
-        es[i] = e;
-        i += 1;
+    for i in 0..n {
+        es[i] = entry_at(b, i);
     }
     es
 }
@@ -80,8 +80,10 @@ fn judge_pairs(
     types: &[u32],
     bounds: &[u32],
     work: &mut [u32],
-) -> Result<bool, Refusal> {
-    let n = at_most(pairs.len() / 2, ENTRIES);
+) -> Result<bool, Refusal>
+    ensures { judgedAs result work.new ≡ judgeCall pool.now table.now set.now (entriesIn pairs.now) types.now bounds.now work.old }
+{
+    let n = (pairs.len() / 2).min(ENTRIES);
     let es = entries_from(pairs, n);
     judge_first(pool, table, set, es, n, types, bounds, work)
 }

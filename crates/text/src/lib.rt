@@ -7,6 +7,7 @@ ghost use Rattle.std.specs.Prelude.{◌≡◌};
 ghost use Rattle.rules.specs.TextReading.{readTextCall};
 ghost use Rattle.rules.specs.TextWriting.{writeTextCall};
 ghost use Rattle.sheet_reading.specs.Given.{readAs};
+ghost use Rattle.text.specs.Theorems.{ReadingIsDetermined};
 ghost use Rattle.text.specs.Told.{listedAs};
 
 use inner::write_lines;
@@ -63,3 +64,8 @@ pub fn read_text(
     clear(work);
     answer
 }
+
+/// The contract of `read_text` leaves no choice: two answers that it allows for the same input are one (`read-text-determined`).
+pub fn reading_is_determined()
+    ensures { ReadingIsDetermined }
+{}
