@@ -7,7 +7,7 @@ use Rattle.std.proofs.Math.ListN.{length}
 use Rattle.std.proofs.lemmas.List.Edits.{sets}
 use Rattle.std.proofs.Math.Seq.{sets-eq, slice, take-length}
 use Rattle.rules.specs.Adding.{Added, satisfied, violated, unknown, add, addTest, stored}
-use Rattle.rules.specs.Base.{Got, got, refused, ◌>>=◌, sum_of}
+use Rattle.rules.specs.Base.{got, refused, ◌>>=◌, sum_of}
 use Rattle.rules.specs.Calls.{AddedTo, bufferAfter, over}
 use Rattle.rules.specs.Trees.{Names, Con, sizeCon}
 use Rattle.records.specs.Holds.{HoldsCon}
@@ -60,8 +60,8 @@ module _ (buffer : List ℕ) (n : ℕ) (con : List ℕ) (cs : List (Con ℕ)) (c
           k ∙ ap (sets buffer (n * 4)) (ap (λ (j : ℕ). slice 0 j con) z ∙ take-length con)
           ∙ sets-eq con buffer (n * 4) (omega (arith, h.room)) ∙ rw (append_assoc, drop-drop) refl
 
-      pub appended : (w : Added) {a : Got (Added × ℕ)} → a ≡ got (w, n + length con / 4) → addTest ν c ≡ w → (w ≡ satisfied → ⊥) → record { answer = a; buffer = d } ≡ addedWith ν buffer n con cs c
+      pub appended : (w : Added) → addTest ν c ≡ w → (w ≡ satisfied → ⊥) → record { answer = got (w, n + length con / 4); buffer = d } ≡ addedWith ν buffer n con cs c
       unfolding add stored bufferAfter
-      appended satisfied q e f = absurd (f refl)
-      appended violated q e f = rw (q, e, sum, le-leb (n + length con / 4) 2048 l, sum, behind) refl
-      appended unknown q e f = rw (q, e, sum, le-leb (n + length con / 4) 2048 l, sum, behind) refl
+      appended satisfied e f = absurd (f refl)
+      appended violated e f = rw (e, sum, le-leb (n + length con / 4) 2048 l, sum, behind) refl
+      appended unknown e f = rw (e, sum, le-leb (n + length con / 4) 2048 l, sum, behind) refl

@@ -1,4 +1,6 @@
 -- The test of a constraint, from what the code finds in its records.
+use Rattle.rules.specs.Refusals.{toldOption}
+use Rattle.std.specs.Prelude as maybe
 use Rattle.std.specs.Prelude.{◌≡◌, Bool, true, false, ◌&&◌, ℕ, ◌+◌, ◌/◌, ◌<◌, ◌≤◌, eqb, length}
 use Rattle.std.proofs.Math.Path.{refl, ap}
 use Rattle.std.proofs.Common.{sym, ap₂, ◌∙◌, arith}
@@ -17,9 +19,6 @@ use Rattle.records.specs.declared.View.TheVariants as view
 use Rattle.queries.specs.Scans.{opensView, opensIn}
 use Rattle.queries.specs.ScanLaws.{opens-none, names-step, type-opens}
 use Rattle.queries.specs.declared.Kind.TheVariants.{Variables}
-use Rattle.queries.specs.declared.Name.{Name}
-use Rattle.queries.specs.declared.Name.TheVariants.{Of, Nothing}
-use Rattle.satisfying.specs.Parts.{named}
 use Rattle.adding.specs.Shapes.{shape, shape_of, shapeIn, unlike, differs, shape-held, dimension, unlike-differs}
 use Rattle.adding.specs.declared.inner.Shape.{Shape}
 
@@ -43,12 +42,12 @@ module _ (names : List Bytes) (l r : Ty ℕ) {v : Added} (b : Bool) where
   equal-open e h q = rw (e, ← q) h
 
 -- the shape of a side: it is one variable to the power 1, or its first record tells
-module _ (t : Ty ℕ) (n : Name) (e : named n ≡ asPower t) where
-  pub told-power : {x : ℕ} → n ≡ Of x → shape 0 0 ≡ shapeIn t
-  told-power i = sym (rw (sym e ∙ ap named i) refl)
+module _ (t : Ty ℕ) (n : maybe.Option ℕ) (e : toldOption n ≡ asPower t) where
+  pub told-power : {x : ℕ} → n ≡ maybe.Some x → shape 0 0 ≡ shapeIn t
+  told-power i = sym (rw (sym e ∙ ap toldOption i) refl)
 
-  pub told-shape : (s : List ℕ) (at : ℕ) {a : Shape} → Holds s t at → n ≡ Nothing → a ≡ shape_of (viewAt s at) → a ≡ shapeIn t
-  told-shape s at h i p = p ∙ shape-held s t at h ∙ sym (rw (sym e ∙ ap named i) refl)
+  pub told-shape : (s : List ℕ) (at : ℕ) {a : Shape} → Holds s t at → n ≡ maybe.None → a ≡ shape_of (viewAt s at) → a ≡ shapeIn t
+  told-shape s at h i p = p ∙ shape-held s t at h ∙ sym (rw (sym e ∙ ap toldOption i) refl)
 
 -- the shapes that the code compares are those of the types
 pub told-unlike : (l r : Ty ℕ) (x y : Shape) (b : Bool) → x ≡ shapeIn l → y ≡ shapeIn r → b ≡ unlike x y → b ≡ differs l r

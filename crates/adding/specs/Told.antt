@@ -1,24 +1,22 @@
--- The answers of the code as those of document 01.
-use Rattle.std.specs.Prelude.{List, ℕ}
-use Rattle.rules.specs.Adding.{satisfied, violated, unknown}
-use Rattle.rules.specs.Base.{Got, got, refused}
-use Rattle.rules.specs.Calls.{AddedTo}
-use Rattle.rules.specs.Refusals.{number_of}
+-- What the answers of the code say.
+use Rattle.std.specs.Prelude.{List, ℕ, Result}
 use Rattle.rules.specs.Adding as rules
-use Rattle.adding.specs.declared.Added as added
-use Rattle.adding.specs.declared.inner.Verdict as verdict
+use Rattle.rules.specs.Adding.{satisfied, violated, unknown}
+use Rattle.rules.specs.Calls.{AddedTo}
+use Rattle.rules.specs.Refusals.{toldBy}
+use Rattle.rules.specs.declared.Refusal.{Refusal}
+use Rattle.adding.specs.declared.Verdict.{Verdict}
+use Rattle.adding.specs.declared.Verdict.TheVariants as verdict
 
-abbrev pub toldVerdict : verdict.Verdict → rules.Added
-toldVerdict verdict.TheVariants.Satisfied = satisfied
-toldVerdict verdict.TheVariants.Violated = violated
-toldVerdict verdict.TheVariants.Unknown = unknown
+abbrev pub toldVerdict : Verdict → rules.Added
+toldVerdict verdict.Satisfied = satisfied
+toldVerdict verdict.Violated = violated
+toldVerdict verdict.Unknown = unknown
 
-abbrev pub toldAdded : added.Added → Got (rules.Added × ℕ)
-toldAdded (added.TheVariants.Satisfied n) = got (satisfied, n)
-toldAdded (added.TheVariants.Violated n) = got (violated, n)
-toldAdded (added.TheVariants.Unknown n) = got (unknown, n)
-toldAdded (added.TheVariants.Refused r) = refused (number_of r)
+-- with the count of records afterwards
+abbrev pub counted : Verdict × ℕ → rules.Added × ℕ
+counted p = (toldVerdict p.0, p.1)
 
 -- the answer, and what the buffer holds
-abbrev pub addedAs : added.Added → List ℕ → AddedTo
-addedAs r buffer = record { answer = toldAdded r; buffer = buffer }
+abbrev pub addedAs : Result (Verdict × ℕ) Refusal → List ℕ → AddedTo
+addedAs r buffer = record { answer = toldBy counted r; buffer = buffer }

@@ -19,7 +19,7 @@ use Rattle.records.specs.Found.{Words32}
 use Rattle.records.specs.Given.{list-broken, con-reader, one-is}
 use Rattle.records.specs.Good.{Chain, GoodCon, goodCon, numbers}
 use Rattle.records.specs.Whole.{set_is}
-use Rattle.adding.specs.Entry.{told, lentBuffer, oneGiven, checks, room}
+use Rattle.adding.specs.Entry.{passing, lentBuffer, oneGiven, checks, room}
 use Rattle.adding.specs.Stored.{Ready, addedWith}
 
 -- ══ A part of the words ══
@@ -41,7 +41,7 @@ part-words n l w = record { word = λ i. go i (ltb i n) refl }
 
 module _ {A B C : Type 0} (l s k : Got (Unit {0})) (m : Got A) (o : Got B) (f : A → B → Got C) where
   abbrev row : Got (Unit {0})
-  row = l >> (s >> (k >> (told m >> told o)))
+  row = l >> (s >> (k >> (passing m >> passing o)))
 
   abbrev all' : Got C
   all' = l >>= λ _. s >>= λ _. k >>= λ _. m >>= λ a. o >>= λ b. f a b

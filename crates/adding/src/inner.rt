@@ -1,40 +1,30 @@
-// The test of a constraint that is held, the checks at entry, and the storing.
+//! The test of a constraint that is held, the checks at entry, and the storing.
 ghost use Rattle.std.specs.Prelude.{◌≡◌, ◌&&◌, List, [], ◌∷◌, ℕ, ◌+◌, ◌/◌, length};
 ghost use Rattle.rules.specs.Adding.{addEqual, addDim, addTest, satisfiedIf, violatedIf};
-ghost use Rattle.rules.specs.Base.{got, isNil, need};
+ghost use Rattle.rules.specs.Base.{isNil, need};
 ghost use Rattle.rules.specs.Contents.{closed, variablesIn};
 ghost use Rattle.rules.specs.Names.{Bytes, numbered};
 ghost use Rattle.rules.specs.Trees.{Ty, Con, is_scalar, Product};
 ghost use Rattle.laws.specs.NameTable.{Good};
-ghost use Rattle.names.specs.Old.{toldChecked};
+ghost use Rattle.rules.specs.Refusals.{told};
 ghost use Rattle.queries.specs.Scans.{opensIn, opensView, opensAtom};
 ghost use Rattle.records.specs.Good.{There, GoodCon};
 ghost use Rattle.records.specs.Views.{kindOfBasic};
 ghost use Rattle.records.specs.Holds.{Holds, HoldsProduct, HoldsCon, openOf, atomOf};
-ghost use Rattle.adding.specs.Told.{toldVerdict, toldAdded, addedAs};
+ghost use Rattle.adding.specs.Told.{toldVerdict, addedAs};
 ghost use Rattle.adding.specs.Shapes.{shape_of, shapeIn, unlike};
 ghost use Rattle.adding.specs.Tests.{Two};
-ghost use Rattle.adding.specs.Entry.{checks, lentBuffer, oneGiven, told};
+ghost use Rattle.adding.specs.Entry.{checks, lentBuffer, oneGiven, passing};
 ghost use Rattle.adding.specs.Stored.{Ready, addedWith};
 
-use super::Added;
+use super::Verdict;
 use comparing::inner::same_types;
-use names::old::Checked;
-use queries::Name;
 use queries::inner::{closed_at, end_of};
-use records::inner::{Ended, con_end, copy};
+use records::inner::{con_end, copy};
 use records::seen::view_at;
 use records::{Atom, Basic, Open, View, is_set};
 use rules::{POOL_BYTES, RECORD_WORDS, RECORDS, Refusal, TABLE_WORDS};
 use satisfying::inner::binding::as_power;
-
-// What the test of a constraint says.
-#[derive(Clone, Copy)]
-pub enum Verdict {
-    Satisfied,
-    Violated,
-    Unknown,
-}
 
 // A type's kind, 0 for an open name, and a function's count of parameters.
 #[derive(Clone, Copy)]
@@ -109,11 +99,11 @@ fn shape_at(s: &[u32], at: usize) -> Shape
     ensures { (t : Ty ℕ) → Holds s.now t at → result ≡ shapeIn t }
 {
     match as_power(s, at) {
-        Name::Of(_) => Shape {
+        Some(_) => Shape {
             kind: 0,
             parameters: 0,
         },
-        Name::Nothing => shape_of(view_at(s, at)),
+        None => shape_of(view_at(s, at)),
     }
 }
 
@@ -133,19 +123,13 @@ fn is_unlike(a: Shape, b: Shape) -> bool
     a.parameters != b.parameters
 }
 
-fn both(a: bool, b: bool) -> bool
-    ensures { result ≡ (a && b) }
-{
-    if a { b } else { false }
-}
-
 // The test of an equality, whose types stand one behind the other.
 fn test_equal(s: &[u32], at: usize) -> Verdict
     requires { (l : Ty ℕ) × ((r : Ty ℕ) × Two s.now at l r) }
     ensures { (names : List Bytes) (l r : Ty ℕ) → Two s.now at l r → toldVerdict result ≡ addEqual (numbered names) (closed l && closed r) l r }
 {
     let k = end_of(s, at);
-    if both(closed_at(s, at), closed_at(s, k)) {
+    if closed_at(s, at) && closed_at(s, k) {
         satisfied_if(same_types(s, at, s, k))
     } else {
         violated_if(is_unlike(shape_at(s, at), shape_at(s, k)))
@@ -200,12 +184,10 @@ fn view_constant(v: View) -> bool
 fn all_constant(s: &[u32], b: usize, e: usize) -> bool
     ensures { result ≡ isNil (variablesIn (opensIn s.now b e)) }
 {
-    let mut i = b;
-    while i < e {
+    for i in b..e {
         if !view_constant(view_at(s, i)) {
             return false;
         }
-        i += 1;
     }
     true
 }
@@ -235,41 +217,28 @@ pub fn test(s: &[u32], at: usize) -> Verdict
     }
 }
 
-fn answer(v: Verdict, n: usize) -> Added
-    ensures { toldAdded result ≡ got (toldVerdict v, n) }
-{
-    match v {
-        Verdict::Satisfied => Added::Satisfied(n),
-        Verdict::Violated => Added::Violated(n),
-        Verdict::Unknown => Added::Unknown(n),
-    }
-}
-
-// Tests the constraint and, unless it is satisfied, stores it behind the set's n records, where 2,048 are enough.
-pub fn add_good(buffer: &mut [u32], n: usize, con: &[u32]) -> Added
+/// Tests the constraint and, unless it is satisfied, stores it behind the set's n records, where 2,048 are enough.
+pub fn add_good(buffer: &mut [u32], n: usize, con: &[u32]) -> Result<(Verdict, usize), Refusal>
     requires { (cs : List (Con ℕ)) × ((c : Con ℕ) × Ready buffer.old n con.now cs c) }
     ensures { (names : List Bytes) (cs : List (Con ℕ)) (c : Con ℕ) → Ready buffer.old n con.now cs c → addedAs result buffer.new ≡ addedWith (numbered names) buffer.old n con.now cs c }
 {
-    let v = test(con, 0);
-    if let Verdict::Satisfied = v {
-        return Added::Satisfied(n);
+    let verdict = test(con, 0);
+    if let Verdict::Satisfied = verdict {
+        return Ok((Verdict::Satisfied, n));
     }
     let more = con.len() / 4;
     if RECORDS < n + more {
-        return Added::Refused(Refusal::TooLarge);
+        return Err(Refusal::TooLarge);
     }
     copy(con, 0, more, buffer, n);
-    answer(v, n + more)
+    Ok((verdict, n + more))
 }
 
 // Are pool, table and buffer long enough?
 fn lent(pool: &[u8], table: &[u32], buffer: &[u32]) -> bool
     ensures { need result 10 ≡ lentBuffer pool.now table.now buffer.now }
 {
-    if pool.len() < POOL_BYTES {
-        return false;
-    }
-    if table.len() < TABLE_WORDS {
+    if pool.len() < POOL_BYTES || table.len() < TABLE_WORDS {
         return false;
     }
     RECORD_WORDS <= buffer.len()
@@ -280,43 +249,41 @@ fn con_good(pool: &[u8], table: &[u32], con: &[u32]) -> bool
     requires { Good pool.now table.now }
     ensures { There (λ c. GoodCon pool.now table.now 0 con.now 0 c (length con.now / 4)) result }
 {
-    match con_end(pool, table, con, 0) {
-        Ended::At(e) => { if e == con.len() / 4 { true } else { false } }
-        Ended::Bad => false,
-    }
+    con_end(pool, table, con, 0) == Some(con.len() / 4)
 }
 
 // A list of whole records that is one constraint.
-fn check_one(pool: &[u8], table: &[u32], con: &[u32]) -> Checked
+fn check_one(pool: &[u8], table: &[u32], con: &[u32]) -> Result<(), Refusal>
     requires { Good pool.now table.now }
-    ensures { toldChecked result ≡ told (oneGiven pool.now table.now con.now) }
+    ensures { told result ≡ passing (oneGiven pool.now table.now con.now) }
 {
     if con.len() % 4 != 0 {
-        return Checked::Refused(Refusal::Malformed);
+        return Err(Refusal::Malformed);
     }
     if con_good(pool, table, con) {
-        Checked::Good
+        Ok(())
     } else {
-        Checked::Refused(Refusal::Malformed)
+        Err(Refusal::Malformed)
     }
 }
 
-// The checks at entry: 10, 8, 1.
-pub fn check(pool: &[u8], table: &[u32], buffer: &[u32], count: usize, con: &[u32]) -> Checked
-    ensures { toldChecked result ≡ checks pool.now table.now buffer.now count con.now }
+/// The checks at entry: 10, 8, 1.
+pub fn check(
+    pool: &[u8],
+    table: &[u32],
+    buffer: &[u32],
+    count: usize,
+    con: &[u32],
+) -> Result<(), Refusal>
+    ensures { told result ≡ checks pool.now table.now buffer.now count con.now }
 {
     if !lent(pool, table, buffer) {
-        return Checked::Refused(Refusal::ShortBuffer);
+        return Err(Refusal::ShortBuffer);
     }
-    if RECORDS < count {
-        return Checked::Refused(Refusal::TooLarge);
-    }
-    if RECORD_WORDS < con.len() {
-        return Checked::Refused(Refusal::TooLarge);
+    if RECORDS < count || RECORD_WORDS < con.len() {
+        return Err(Refusal::TooLarge);
     }
     let n = count * 4;
-    match is_set(pool, table, &buffer[..n]) {
-        Checked::Good => check_one(pool, table, con),
-        Checked::Refused(r) => Checked::Refused(r),
-    }
+    is_set(pool, table, &buffer[..n])?;
+    check_one(pool, table, con)
 }

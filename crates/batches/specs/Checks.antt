@@ -1,5 +1,5 @@
 -- The checks of a batch, from the lengths of what is lent.
-use Rattle.std.specs.Prelude.{◌≡◌, refl, Bool, true, false, not, ◌&&◌, List, ℕ, ◌*◌, ◌≤◌, ◌<◌, leb, eqb, length, replicate}
+use Rattle.std.specs.Prelude.{Ok, ◌≡◌, refl, Bool, true, false, not, ◌&&◌, List, ℕ, ◌*◌, ◌≤◌, ◌<◌, leb, eqb, length, replicate}
 use Rattle.std.proofs.Math.Path.{sym, ap}
 use Rattle.std.proofs.Common.{◌∙◌}
 use borrow.Author.Tests.{le-leb, lt-leb, leb-true, eqb-true}
@@ -7,7 +7,6 @@ use Rattle.rules.specs.Base.{Got, got, refused, ◌>>=◌, ◌>>◌, need, sum_o
 use Rattle.rules.specs.Calls.{lentWork, workAfter}
 use Rattle.rules.specs.Names.{lentTable, table_of}
 use Rattle.laws.specs.Lists.{clash, not-true, not-false}
-use Rattle.lending.specs.declared.Answer.TheVariants.{Records}
 use Rattle.rules.specs.Batches.{batchLent, batchFits, batchCall, writtenOver}
 use Rattle.batches.specs.Told.{batchAs}
 use Rattle.batches.specs.Steps.{Begun, Finished}
@@ -106,6 +105,6 @@ module _ (pool table words lengths result answers work : List ℕ) where
   call-unfit n w work' l e f z = rw (e, f, z, l)
 
   pub called : (n : ℕ) (w result' answers' work' : List ℕ) → length w ≡ length work → batchLent pool table lengths result answers work ≡ got tt → batchFits words lengths ≡ got tt
-      → Finished (table_of pool table) words lengths result result' answers answers' n → work' ≡ replicate (length w) 0 → batchAs (Records n) result' answers' work' ≡ batchCall pool table words lengths result answers work
+      → Finished (table_of pool table) words lengths result result' answers answers' n → work' ≡ replicate (length w) 0 → batchAs (Ok n) result' answers' work' ≡ batchCall pool table words lengths result answers work
   unfolding batchCall writtenOver workAfter
   called n w result' answers' work' l e f d z = rw (e, f, d.many, d.buffer, d.told, z, l)

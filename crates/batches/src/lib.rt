@@ -8,7 +8,6 @@ ghost use Rattle.rules.specs.Batches.{batchCall};
 ghost use Rattle.batches.specs.Told.{batchAs};
 
 use inner::{all_lent, fits, solve_each};
-use lending::Answer;
 use lending::inner::clear;
 use names::inner::is_good;
 use names::old::Checked;
@@ -24,22 +23,22 @@ pub fn solve_all(
     res: &mut [u32],
     answers: &mut [u32],
     work: &mut [u32],
-) -> Answer
+) -> Result<usize, Refusal>
     ensures { batchAs result res.new answers.new work.new ≡ batchCall pool.now table.now sets.now lengths.now res.old answers.old work.old }
 {
     if !all_lent(pool, table, lengths, res, answers, work) {
-        return Answer::Refused(Refusal::ShortBuffer);
+        return Err(Refusal::ShortBuffer);
     }
     match fits(sets, lengths) {
         Checked::Good => {
             let good = is_good(pool, table);
             let n = solve_each(pool, table, good, sets, lengths, res, answers, work);
             clear(work);
-            Answer::Records(n)
+            Ok(n)
         }
         Checked::Refused(r) => {
             clear(work);
-            Answer::Refused(r)
+            Err(r)
         }
     }
 }

@@ -1,34 +1,22 @@
 -- The contract leaves no choice: two answers that it allows coincide; and the answer has the number of its outcome.
-use Rattle.std.specs.Prelude.{◌≡◌, refl, List, ℕ}
+use Rattle.std.specs.Prelude.{◌≡◌, List, ℕ, Result}
 use Rattle.std.proofs.Common.{sym, ap, ◌∙◌}
 use Rattle.rules.specs.Ceiling.{Ceiling, ceilingCall}
 use Rattle.rules.specs.Numbers.{refusalIn, number, most}
-use Rattle.rules.specs.Refusals.{number_of}
-use Rattle.laws.specs.Lists.{got≢refused}
-use Rattle.laws.specs.Numbers.{number-injective}
-use Rattle.ceiling.specs.declared.Answer.{Answer}
-use Rattle.ceiling.specs.declared.Answer.TheVariants.{Given, Refused}
-use Rattle.ceiling.specs.Told.{toldMost, told}
+use Rattle.rules.specs.Refusals.{toldBy}
+use Rattle.rules.specs.declared.Refusal.{Refusal}
+use Rattle.laws.specs.Numbers.{toldBy-injective}
+use Rattle.ceiling.specs.declared.Most.{Most}
+use Rattle.ceiling.specs.Told.{toldMost}
 
-told-injective : (p q : Answer) → told p ≡ told q → p ≡ q
-told-injective (Given m) (Given n) e = let c : toldMost m ≡ toldMost n = cc in ap (λ (c : Ceiling). Given (record { variables = c.variables; rounds = c.rounds })) c
-told-injective (Given m) (Refused s) e = absurd (got≢refused e)
-told-injective (Refused r) (Given n) e = absurd (got≢refused (sym e))
-told-injective (Refused r) (Refused s) e = ap Refused (number-injective r s (cc))
+most-injective : (m n : Most) → toldMost m ≡ toldMost n → m ≡ n
+most-injective m n e = ap (λ (c : Ceiling). record { variables = c.variables; rounds = c.rounds }) e
 
-pub ceiling-determined : (pool table words : List ℕ) (p q : Answer) → told p ≡ ceilingCall pool table words → told q ≡ ceilingCall pool table words → p ≡ q
-ceiling-determined pool table words p q h k = told-injective p q (h ∙ sym k)
+pub ceiling-determined : (pool table words : List ℕ) (p q : Result Most Refusal)
+    → toldBy toldMost p ≡ ceilingCall pool table words → toldBy toldMost q ≡ ceilingCall pool table words → p ≡ q
+ceiling-determined pool table words p q h k = toldBy-injective toldMost most-injective p q (h ∙ sym k)
 
--- the number of an answer: 0, or that of the refusal
-abbrev pub numberAnswer : Answer → ℕ
-numberAnswer (Given m) = 0
-numberAnswer (Refused r) = number_of r
-
-answer-in : (a : Answer) → numberAnswer a ≡ refusalIn (told a)
-unfolding refusalIn
-answer-in (Given m) = refl
-answer-in (Refused r) = refl
-
-pub ceiling-numbered : (pool table words : List ℕ) (p : Answer) → told p ≡ ceilingCall pool table words → numberAnswer p ≡ number (most (ceilingCall pool table words))
+pub ceiling-numbered : (pool table words : List ℕ) (p : Result Most Refusal)
+    → toldBy toldMost p ≡ ceilingCall pool table words → refusalIn (toldBy toldMost p) ≡ number (most (ceilingCall pool table words))
 unfolding number
-ceiling-numbered pool table words p h = answer-in p ∙ ap refusalIn h
+ceiling-numbered pool table words p h = ap refusalIn h

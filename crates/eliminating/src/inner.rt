@@ -31,7 +31,8 @@ use laying::inner::{atom_at, blank, lines_of, list_columns};
 use names::old::Checked;
 use queries::inner::is_unmixed;
 use records::inner::{put_one, put_record};
-use records::{Atom, View, is_set};
+use records::old::is_set;
+use records::{Atom, View};
 use rules::Refusal;
 
 // The record of a factor.

@@ -1,4 +1,6 @@
 -- What the turns of `fill` need: the slots below v fit and stand in the table.
+use Rattle.std.specs.Prelude.{Option, Some, None}
+use Rattle.std.specs.Option.{is_some}
 use mathlib.Core.Path.{◌≡◌, refl, sym, ap, subst, ◌∙◌}
 use mathlib.Core.Bool.{Bool, true, false}
 use mathlib.Core.List.{List}
@@ -12,7 +14,6 @@ use lib.ListN.{length, get_or, set, length-set}
 use lib.Seq.{get_or-set_same, get_or-set_other}
 use Rattle.records.specs.ByView.{in_reach}
 use Rattle.records.specs.Good.{Ends, GoodTy}
-use Rattle.records.specs.declared.inner.Ended.TheVariants.{At, Bad}
 use Rattle.entries.specs.Entries.{bit, taken}
 use Rattle.laws.specs.Lists.{true≢false}
 use Rattle.entries.specs.Tables.{Fits, Sound, Filled}
@@ -38,12 +39,12 @@ module _ (pool table types : List ℕ) (x w : ℕ) where
   pub fits-none : w ≡ 0 → Fits pool table types x w
   fits-none e at q = absurd (omega arith)
 
-  pub fits-there : (e : ℕ) → x < get_or table 0 0 → Ends (GoodTy pool table 0 types 64 (w - 1)) (At e) → Fits pool table types x w
+  fits-there : (e : ℕ) → x < get_or table 0 0 → Ends (GoodTy pool table 0 types 64 (w - 1)) (Some e) → Fits pool table types x w
   fits-there e l (t, g) at q =
       let i : w - 1 ≡ at = omega arith in
       (l, (t, (e, subst (λ (k : ℕ). GoodTy pool table 0 types 64 k t e) i g)))
 
-  pub not_there : (w ≡ 0 → ⊥) → Ends (GoodTy pool table 0 types 64 (w - 1)) Bad → Fits pool table types x w → ⊥
+  not_there : (w ≡ 0 → ⊥) → Ends (GoodTy pool table 0 types 64 (w - 1)) None → Fits pool table types x w → ⊥
   not_there f bad fits =
       let i : w ≡ w - 1 + 1 = omega (arith, pos w f) in
       let (l, (t, (e, g))) = fits (w - 1) i in
@@ -52,6 +53,11 @@ module _ (pool table types : List ℕ) (x w : ℕ) where
       pos : (w : ℕ) → (w ≡ 0 → ⊥) → 0 < w
       pos zero f = absurd (f refl)
       pos (suc w) f = omega arith
+
+  -- whether a type starts at the place of a held name decides
+  pub sound : (w ≡ 0 → ⊥) → x < get_or table 0 0 → (r : Option ℕ) → Ends (GoodTy pool table 0 types 64 (w - 1)) r → Sound pool table types x w (is_some r)
+  sound f l None bad = not_there f bad
+  sound f l (Some e) g = fits-there e l g
 
   pub not-held : (w ≡ 0 → ⊥) → (x < get_or table 0 0 → ⊥) → Fits pool table types x w → ⊥
   not-held f g fits = go w f fits

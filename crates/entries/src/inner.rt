@@ -7,7 +7,7 @@ ghost use Rattle.entries.specs.Tables.{Ready, Sound, Made};
 
 use super::{Entry, Found};
 use names::inner::is_held;
-use records::inner::{Ended, put, type_end};
+use records::inner::{put, type_end};
 use rules::{NAMES, NESTED};
 
 // What a variable is bound to: the first entry counts.
@@ -103,14 +103,7 @@ fn is_sound(pool: &[u8], table: &[u32], types: &[u32], v: u32, w: u64) -> bool
     if w == 0 {
         return true;
     }
-    if is_held(table, v) {
-        match type_end(pool, table, 0, types, (w - 1) as usize, NESTED) {
-            Ended::At(_) => true,
-            Ended::Bad => false,
-        }
-    } else {
-        false
-    }
+    is_held(table, v) && type_end(pool, table, 0, types, (w - 1) as usize, NESTED).is_some()
 }
 
 // Writes the slots as the table of places, if all that is asked of the entries holds: as many slots are taken as there are entries.

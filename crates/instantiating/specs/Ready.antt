@@ -1,5 +1,5 @@
 -- What instantiating is given, and what it makes.
-use Rattle.std.specs.Prelude.{◌≡◌, refl, true, List, ◌++◌, map, ℕ, ◌+◌, ◌*◌, ◌≤◌, ◌<◌, eqb, length, get_or, replicate, Ok, Err}
+use Rattle.std.specs.Prelude.{◌≡◌, refl, true, List, ◌++◌, map, ℕ, ◌+◌, ◌*◌, ◌≤◌, ◌<◌, eqb, length, get_or, replicate, Ok, Err, Result}
 use Rattle.std.proofs.Common.{sym, ap, subst, ◌∙◌, arith, eq-eqb, ne_eqb, length-append}
 use Rattle.std.proofs.lemmas.List.{length-map}
 use Rattle.std.proofs.lemmas.List.Edits.{sets}
@@ -27,8 +27,6 @@ use Rattle.replacing.specs.LineLaws.{type-left}
 use Rattle.replacing.specs.Well.{names as numbers, GoodTy, HeldType, Lent}
 use Rattle.replacing.specs.Written.{ty-fits}
 use Rattle.lending.specs.Told.{Made}
-use Rattle.lending.specs.declared.Answer.{Answer}
-use Rattle.lending.specs.declared.Answer.TheVariants.{Records, Refused}
 use Rattle.handing.specs.Back.{back-lent, own-lent}
 use Rattle.handing.specs.Bounds.{allBounds, BoundsAt, PutAll}
 use Rattle.handing.specs.Tables.{backPlaces, ownPlaces, own_types}
@@ -132,7 +130,7 @@ module _ (pool table names s work : List ℕ) (t : Ty ℕ) (bs : List (Open ℕ)
   abbrev Whole : Got (List Rec)
   Whole = putBackAs pool table names t bs
 
-  pub first-stopped : (w : List ℕ) (k : Refusal) → putType pool table names t ≡ refused (number_of k) → Made Whole w (Refused k)
+  pub first-stopped : (w : List ℕ) (k : Refusal) → putType pool table names t ≡ refused (number_of k) → Made Whole w (Err k)
   first-stopped w k e = made-refused Whole k w (rw e)
 
   module _ (d d₁ : List ℕ) (nx at out : ℕ) (long : 8192 ≤ length d) (c : Came d d₁ nx (putType pool table names t) at out) where
@@ -150,14 +148,14 @@ module _ (pool table names s work : List ℕ) (t : Ty ℕ) (bs : List (Open ℕ)
       good = its.well;
     }
 
-    pub second-stopped : (w : List ℕ) (k : Refusal) → readType pool table names c.value ≡ refused (number_of k) → Made Whole w (Refused k)
+    pub second-stopped : (w : List ℕ) (k : Refusal) → readType pool table names c.value ≡ refused (number_of k) → Made Whole w (Err k)
     second-stopped w k e = made-refused Whole k w (rw (c.is, e))
 
     module _ (w₁ : List ℕ) (nx' at' out' : ℕ) (b : Came work w₁ nx' (readType pool table names c.value) at' out') where
       pub few-out : out' + length (newBounds pool table names bs) ≤ 2048
       few-out = let m = b.many in let f = its.fits b.value b.is in omega arith
 
-      pub all_made : (w₂ : List ℕ) (r : ℕ) → PutAll w₁ w₂ out' r (newBounds pool table names bs) → Made Whole w₂ (Records r)
+      pub all_made : (w₂ : List ℕ) (r : ℕ) → PutAll w₁ w₂ out' r (newBounds pool table names bs) → Made Whole w₂ (Ok r)
       all_made w₂ r p =
           let m = b.many in
           let q = p.next in
@@ -191,18 +189,18 @@ module _ (pool table names s work : List ℕ) (sc : Scheme ℕ) (y : ReadyScheme
           record { type = t; bounds = bs; is = e ∙ ap (λ (i : ℕ). scheme i t bs) k }
 
   pub other-refused : (w : List ℕ) → ((n : ℕ) → viewAt s 0 ≡ view.Scheme n → ⊥)
-      → Made (instantiatedAs pool table names sc) w (Refused WrongCount)
+      → Made (instantiatedAs pool table names sc) w (Err WrongCount)
   other-refused w f = go sc refl
     where
-      go : (x : Scheme ℕ) → sc ≡ x → Made (instantiatedAs pool table names sc) w (Refused WrongCount)
+      go : (x : Scheme ℕ) → sc ≡ x → Made (instantiatedAs pool table names sc) w (Err WrongCount)
       go (concrete t) e = made-refused (instantiatedAs pool table names sc) WrongCount w (ap (instantiatedAs pool table names) e)
       go (scheme m t bs) e = absurd (f m (y.head ∙ ap (head_of) e))
 
   module _ (n : ℕ) (c : Counts n) where
-    pub wrong-count : (w : List ℕ) → (n ≡ length names → ⊥) → Made (instantiatedAs pool table names sc) w (Refused WrongCount)
+    pub wrong-count : (w : List ℕ) → (n ≡ length names → ⊥) → Made (instantiatedAs pool table names sc) w (Err WrongCount)
     wrong-count w f = made-refused (instantiatedAs pool table names sc) WrongCount w (ap (instantiatedAs pool table names) c.is
         ∙ rw (ne_eqb n (length names) f))
 
-    pub right-count : (w : List ℕ) (r : Answer) → n ≡ length names
+    pub right-count : (w : List ℕ) (r : Result ℕ Refusal) → n ≡ length names
         → Made (putBackAs pool table names c.type c.bounds) w r → Made (instantiatedAs pool table names sc) w r
     right-count w r e m = subst (λ (x : Got (List Rec)). Made x w r) (sym (ap (instantiatedAs pool table names) c.is ∙ rw (eq-eqb n (length names) e))) m

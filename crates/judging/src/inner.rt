@@ -15,7 +15,7 @@ use names::old::Checked;
 use proposals::inner::bounds::{mark_all, rise};
 use proposals::inner::mixed::apart;
 use records::inner::bounds_good;
-use records::is_set;
+use records::old::is_set;
 use rules::{NAMES, POOL_BYTES, RECORD_WORDS, RECORDS, Refusal, TABLE_WORDS, WORK_WORDS};
 use trials::inner::try_all;
 

@@ -1,5 +1,5 @@
 // The work on words that hold a set.
-ghost use Rattle.std.specs.Prelude.{◌≡◌, List, [], ◌++◌, ℕ, ◌+◌, ◌≤◌, ◌<◌, length, get_or};
+ghost use Rattle.std.specs.Prelude.{◌≡◌, List, [], ◌++◌, ℕ, ◌+◌, ◌≤◌, ◌<◌, length, get_or, option_to_list};
 ghost use Rattle.rules.specs.Names.{Bytes, numbered};
 ghost use Rattle.rules.specs.Trees.{base, Con};
 ghost use Rattle.exponents.specs.Answers.{expOf};
@@ -12,7 +12,6 @@ ghost use Rattle.rules.specs.Contents.{sort};
 ghost use Rattle.laws.specs.NameTable.{Good};
 ghost use Rattle.laws.specs.ReadLists.{Every};
 ghost use Rattle.records.specs.Good.{numbers};
-ghost use Rattle.queries.specs.Scans.{toldName};
 ghost use Rattle.queries.specs.Marks.{Marks, Filled};
 ghost use Rattle.laying.specs.Columns.{basesAtom, basesView, basesIn, Known, ListedWell};
 ghost use Rattle.laying.specs.Lines.{saysScalar, countOf, Lined, LinesAre};
@@ -21,8 +20,8 @@ ghost use Rattle.laying.specs.Atoms.{openRank, openNumber, atomRank, atomNumber,
 use elimination::inner::grids::{Columns, Grid, with_row};
 use elimination::inner::rows::{Row, with_power};
 use exponents::Exponent;
+use queries::Kind;
 use queries::inner::{list_names, mark, sort_names};
-use queries::{Kind, Name};
 use records::seen::view_at;
 use records::{Atom, Open, View};
 use rules::NAMES;
@@ -221,21 +220,21 @@ pub fn lines_of(s: &[u32], e: usize, k: Columns) -> Lines
 }
 
 // The base dimension that a record names.
-fn base_of(a: Atom) -> Name
-    ensures { toldName result ≡ basesAtom a }
+fn base_of(a: Atom) -> Option<u32>
+    ensures { option_to_list result ≡ basesAtom a }
 {
     match a {
-        Atom::Free(_) => Name::Nothing,
-        Atom::Base(x) => Name::Of(x),
+        Atom::Free(_) => None,
+        Atom::Base(x) => Some(x),
     }
 }
 
-fn base_at(v: View) -> Name
-    ensures { toldName result ≡ basesView v }
+fn base_at(v: View) -> Option<u32>
+    ensures { option_to_list result ≡ basesView v }
 {
     match v {
         View::Factor(a, _, _) => base_of(a),
-        _ => Name::Nothing,
+        _ => None,
     }
 }
 

@@ -1,31 +1,24 @@
--- The contracts leave no choice: two results that one of them allows coincide (`..-determined`). And each answer has document 01's number of
+-- The contracts leave no choice: two results that one of them allows coincide (`..-determined`). And each answer has the number of
 -- its outcome (`..-numbered`). This is the page of the calls that write records, too, whose answer is this crate's.
-use Rattle.std.specs.Prelude.{◌≡◌, Bool, List, ℕ}
+use Rattle.rules.specs.declared.Refusal.{Refusal}
+use Rattle.std.specs.Prelude.{Result, Ok, Err, ◌≡◌, Bool, List, ℕ}
 use Rattle.std.proofs.Math.Path.{refl, ap}
-use Rattle.std.proofs.Common.{sym, ◌∙◌, arith}
+use Rattle.std.proofs.Common.{sym, ◌∙◌}
 use Rattle.std.proofs.Math.Bool.{true, false}
 use Rattle.rules.specs.Base.{need}
 use Rattle.rules.specs.Calls.{lent, Written, replaceTypeCall, replaceSetCall}
 use Rattle.rules.specs.Numbers.{checked, written, refusalIn, number}
-use Rattle.rules.specs.Refusals.{number_of}
+use Rattle.rules.specs.Refusals.{told, number_of}
 use Rattle.rules.specs.declared.Refusal.TheVariants.{ShortBuffer}
-use Rattle.laws.specs.Numbers.{number-injective}
-use Rattle.lending.specs.declared.Answer.{Answer}
-use Rattle.lending.specs.declared.Answer.TheVariants.{Records, Refused}
-use Rattle.lending.specs.Told.{told, writtenAs}
+use Rattle.laws.specs.Numbers.{told-injective}
+use Rattle.lending.specs.Told.{writtenAs}
 
-told-injective : (a b : Answer) → told a ≡ told b → a ≡ b
-told-injective (Records n) (Records m) e = ap Records (cc)
-told-injective (Records n) (Refused s) e = let z : ◌≡◌ {A = ℕ} 0 1 = cc in absurd (omega arith)
-told-injective (Refused r) (Records m) e = let z : ◌≡◌ {A = ℕ} 0 1 = cc in absurd (omega arith)
-told-injective (Refused r) (Refused s) e = ap Refused (number-injective r s (cc))
-
-pub record OneResult (a b : Answer) (result result' work work' : List ℕ) : Type 0 where
+pub record OneResult (a b : Result ℕ Refusal) (result result' work work' : List ℕ) : Type 0 where
   pub answer : a ≡ b
   pub results : result ≡ result'
   pub works : work ≡ work'
 
-pub one-result : (a b : Answer) (result result' work work' : List ℕ) → writtenAs a result work ≡ writtenAs b result' work' → OneResult a b result result' work work'
+pub one-result : (a b : Result ℕ Refusal) (result result' work work' : List ℕ) → writtenAs a result work ≡ writtenAs b result' work' → OneResult a b result result' work work'
 one-result a b result result' work work' e = record {
   answer = told-injective a b (ap (λ (w : Written). w.answer) e);
   results = ap (λ (w : Written). w.result) e;
@@ -33,20 +26,20 @@ one-result a b result result' work work' e = record {
 }
 
 -- the number of an answer: 0, or that of the refusal
-abbrev pub numberAnswer : Answer → ℕ
-numberAnswer (Records n) = 0
-numberAnswer (Refused r) = number_of r
+abbrev pub numberAnswer : Result ℕ Refusal → ℕ
+numberAnswer (Ok n) = 0
+numberAnswer (Err r) = number_of r
 
-answer-in : (a : Answer) → numberAnswer a ≡ refusalIn (told a)
+answer-in : (a : Result ℕ Refusal) → numberAnswer a ≡ refusalIn (told a)
 unfolding refusalIn
-answer-in (Records n) = refl
-answer-in (Refused r) = refl
+answer-in (Ok n) = refl
+answer-in (Err r) = refl
 
 -- of any call that writes records
-pub written-determined : (w : Written) (p q : Answer) (a b c d : List ℕ) → writtenAs p a c ≡ w → writtenAs q b d ≡ w → OneResult p q a b c d
+pub written-determined : (w : Written) (p q : Result ℕ Refusal) (a b c d : List ℕ) → writtenAs p a c ≡ w → writtenAs q b d ≡ w → OneResult p q a b c d
 written-determined w p q a b c d h k = one-result p q a b c d (h ∙ sym k)
 
-pub written-numbered : (w : Written) (p : Answer) (a c : List ℕ) → writtenAs p a c ≡ w → numberAnswer p ≡ number (written w)
+pub written-numbered : (w : Written) (p : Result ℕ Refusal) (a c : List ℕ) → writtenAs p a c ≡ w → numberAnswer p ≡ number (written w)
 unfolding number
 written-numbered w p a c h = answer-in p ∙ ap (λ (v : Written). refusalIn v.answer) h
 
@@ -76,15 +69,15 @@ module _ (pool table result work : List ℕ) where
 
   module _ (ws binds : List ℕ) where
     -- `replace_in_type` of `replacing_calls`
-    pub replace-in-type-determined : (p q : Answer) (a b c d : List ℕ) → writtenAs p a c ≡ replaceTypeCall pool table ws binds result work → writtenAs q b d ≡ replaceTypeCall pool table ws binds result work → OneResult p q a b c d
+    pub replace-in-type-determined : (p q : Result ℕ Refusal) (a b c d : List ℕ) → writtenAs p a c ≡ replaceTypeCall pool table ws binds result work → writtenAs q b d ≡ replaceTypeCall pool table ws binds result work → OneResult p q a b c d
     replace-in-type-determined = written-determined (replaceTypeCall pool table ws binds result work)
 
-    pub replace-in-type-numbered : (p : Answer) (a c : List ℕ) → writtenAs p a c ≡ replaceTypeCall pool table ws binds result work → numberAnswer p ≡ number (written (replaceTypeCall pool table ws binds result work))
+    pub replace-in-type-numbered : (p : Result ℕ Refusal) (a c : List ℕ) → writtenAs p a c ≡ replaceTypeCall pool table ws binds result work → numberAnswer p ≡ number (written (replaceTypeCall pool table ws binds result work))
     replace-in-type-numbered = written-numbered (replaceTypeCall pool table ws binds result work)
 
     -- `replace_in_set` of `replacing_calls`
-    pub replace-in-set-determined : (p q : Answer) (a b c d : List ℕ) → writtenAs p a c ≡ replaceSetCall pool table ws binds result work → writtenAs q b d ≡ replaceSetCall pool table ws binds result work → OneResult p q a b c d
+    pub replace-in-set-determined : (p q : Result ℕ Refusal) (a b c d : List ℕ) → writtenAs p a c ≡ replaceSetCall pool table ws binds result work → writtenAs q b d ≡ replaceSetCall pool table ws binds result work → OneResult p q a b c d
     replace-in-set-determined = written-determined (replaceSetCall pool table ws binds result work)
 
-    pub replace-in-set-numbered : (p : Answer) (a c : List ℕ) → writtenAs p a c ≡ replaceSetCall pool table ws binds result work → numberAnswer p ≡ number (written (replaceSetCall pool table ws binds result work))
+    pub replace-in-set-numbered : (p : Result ℕ Refusal) (a c : List ℕ) → writtenAs p a c ≡ replaceSetCall pool table ws binds result work → numberAnswer p ≡ number (written (replaceSetCall pool table ws binds result work))
     replace-in-set-numbered = written-numbered (replaceSetCall pool table ws binds result work)

@@ -1,5 +1,5 @@
 -- What was made, handed over: its records in the result buffer, and the work buffer all zero.
-use Rattle.std.specs.Prelude.{◌≡◌, refl, List, ◌++◌, ℕ, ◌*◌, ◌≤◌, length, drop, replicate}
+use Rattle.std.specs.Prelude.{Result, Ok, Err, ◌≡◌, refl, List, ◌++◌, ℕ, ◌*◌, ◌≤◌, length, drop, replicate}
 use Rattle.std.proofs.Common.{sym, ap, subst, ◌∙◌, zero-add, arith}
 use Rattle.std.proofs.lemmas.List.Edits.{sets, sets-eq}
 use Rattle.std.proofs.Math.Seq.{slice}
@@ -10,8 +10,6 @@ use Rattle.rules.specs.Writing.{Rec, words}
 use Rattle.rules.specs.declared.Refusal.{Refusal}
 use Rattle.laws.specs.Lists.{clash}
 use Rattle.records.specs.Buffers.{words-length}
-use Rattle.lending.specs.declared.Answer.{Answer}
-use Rattle.lending.specs.declared.Answer.TheVariants.{Records, Refused}
 use Rattle.lending.specs.Told.{writtenAs, handed, Front, Made}
 
 counted : (m : Got (List Rec)) (n : ℕ) → got n ≡ (m >>= λ rs. got (length rs)) → (rs : List Rec) × ((m ≡ got rs) × (n ≡ length rs))
@@ -30,18 +28,18 @@ module _ (m : Got (List Rec)) (w : List ℕ) where
     pub many : n ≡ length records
     pub front : Front records w
 
-  pub stood : {r : Answer} (n : ℕ) → r ≡ Records n → Made m w r → Stood n
+  pub stood : {r : Result ℕ Refusal} (n : ℕ) → r ≡ Ok n → Made m w r → Stood n
   stood n i h =
-      let x = subst (λ (a : Answer). Made m w a) i h in
+      let x = subst (λ (a : Result ℕ Refusal). Made m w a) i h in
       let (rs, (e, q)) = counted m n x.answer in
       record { records = rs; is = e; many = q; front = x.front rs e }
 
   module _ (result : List ℕ) where
-    put : (n : ℕ) (rs : List Rec) (d' z : List ℕ) → m ≡ got rs → n ≡ length rs → d' ≡ words rs ++ drop (length (words rs)) result → z ≡ replicate (length w) 0 → writtenAs (Records n) d' z ≡ handed m result w
+    put : (n : ℕ) (rs : List Rec) (d' z : List ℕ) → m ≡ got rs → n ≡ length rs → d' ≡ words rs ++ drop (length (words rs)) result → z ≡ replicate (length w) 0 → writtenAs (Ok n) d' z ≡ handed m result w
     unfolding resultAfter over
     put n rs d' z e q y k = rw (e, q, y, k)
 
-    pub copied : {r : Answer} (n : ℕ) (d' z : List ℕ) → r ≡ Records n → Made m w r → 8192 ≤ length result → d' ≡ sets result 0 (slice 0 (n * 4) w) → z ≡ replicate (length w) 0 → writtenAs (Records n) d' z ≡ handed m result w
+    pub copied : {r : Result ℕ Refusal} (n : ℕ) (d' z : List ℕ) → r ≡ Ok n → Made m w r → 8192 ≤ length result → d' ≡ sets result 0 (slice 0 (n * 4) w) → z ≡ replicate (length w) 0 → writtenAs (Ok n) d' z ≡ handed m result w
     copied n d' z i h room c k =
         let s = stood n i h in
         let rs = s.records in
@@ -51,9 +49,9 @@ module _ (m : Got (List Rec)) (w : List ℕ) where
         let y : d' ≡ words rs ++ drop (length (words rs)) result = c ∙ ap (sets result 0) f ∙ sets-eq (words rs) result 0 (omega arith) ∙ ap (λ (j : ℕ). words rs ++ drop j result) (zero-add (length (words rs))) in
         put n rs d' z s.is s.many y k
 
-    pub left : {r : Answer} (k : Refusal) (z : List ℕ) → r ≡ Refused k → Made m w r → z ≡ replicate (length w) 0 → writtenAs (Refused k) result z ≡ handed m result w
+    pub left : {r : Result ℕ Refusal} (k : Refusal) (z : List ℕ) → r ≡ Err k → Made m w r → z ≡ replicate (length w) 0 → writtenAs (Err k) result z ≡ handed m result w
     unfolding resultAfter
-    left k z i h c = let e = uncounted m (number_of k) (subst (λ (a : Answer). Made m w a) i h).answer in rw (e, c)
+    left k z i h c = let e = uncounted m (number_of k) (subst (λ (a : Result ℕ Refusal). Made m w a) i h).answer in rw (e, c)
 
 -- a call whose buffers are long enough, as the paper puts it together; and one whose buffers are not
 module _ (room : Got (Unit {0})) (m : Got (List Rec)) (result work : List ℕ) where

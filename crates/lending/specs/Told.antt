@@ -1,18 +1,13 @@
--- A call's answer and its two buffers as document 01 tells them.
-use Rattle.std.specs.Prelude.{◌≡◌, List, ℕ, ◌*◌, ◌≤◌, length, replicate, take}
-use Rattle.rules.specs.Base.{Got, got, refused, ◌>>=◌}
+-- A call's answer and its two buffers as the rules tell them.
+use Rattle.rules.specs.declared.Refusal.{Refusal}
+use Rattle.std.specs.Prelude.{Result, ◌≡◌, List, ℕ, ◌*◌, ◌≤◌, length, replicate, take}
+use Rattle.rules.specs.Base.{Got, got, ◌>>=◌}
 use Rattle.rules.specs.Calls.{Written, resultAfter}
-use Rattle.rules.specs.Refusals.{number_of}
+use Rattle.rules.specs.Refusals.{told}
 use Rattle.rules.specs.Writing.{Rec, words}
-use Rattle.lending.specs.declared.Answer.{Answer}
-use Rattle.lending.specs.declared.Answer.TheVariants.{Records, Refused}
-
-abbrev pub told : Answer → Got ℕ
-told (Records n) = got n
-told (Refused r) = refused (number_of r)
 
 -- the answer, and what the result and the work buffer hold then
-abbrev pub writtenAs : Answer → List ℕ → List ℕ → Written
+abbrev pub writtenAs : Result ℕ Refusal → List ℕ → List ℕ → Written
 writtenAs r result work = record { answer = told r; result = result; work = work }
 
 -- the outcome of a call past the check of 10, whose rest makes m
@@ -30,6 +25,6 @@ pub record Front (rs : List Rec) (w : List ℕ) : Type 0 where
   pub there : take (length rs * 4) w ≡ words rs
 
 -- the answer says how many records m has, or why it has none; and they stand at the front of w
-pub record Made (m : Got (List Rec)) (w : List ℕ) (r : Answer) : Type 0 where
+pub record Made (m : Got (List Rec)) (w : List ℕ) (r : Result ℕ Refusal) : Type 0 where
   pub answer : told r ≡ (m >>= λ rs. got (length rs))
   pub front : (rs : List Rec) → m ≡ got rs → Front rs w

@@ -1,7 +1,7 @@
 -- What solving leaves for the judge: bindings and bounds, well formed and at the front of a buffer; or a refusal.
 use Rattle.std.proofs.Math.Path.{◌≡◌, refl, sym, ap, subst}
 use Rattle.std.proofs.Common.{◌∙◌, arith, le-leb}
-use Rattle.std.specs.Prelude.{Bool, true, false, List, ◌++◌, map, ℕ, ◌/◌, leb}
+use Rattle.std.specs.Prelude.{Result, Err, Bool, true, false, List, ◌++◌, map, ℕ, ◌/◌, leb}
 use Rattle.std.proofs.Math.ListN.{length}
 use Rattle.rules.specs.Base.{Got, got, refused, ◌>>=◌, ◌>>◌, bounded, collect, sum_of}
 use Rattle.rules.specs.Trees.{var, Con, Binding, opensCon, sizeCon, sizeBinding}
@@ -24,8 +24,6 @@ use Rattle.soundness.proofs.Form.{solved-form}
 use Rattle.records.specs.Good.{numbers, holding}
 use Rattle.queries.specs.Scans.{opensIn}
 use Rattle.lending.specs.Told.{Made}
-use Rattle.lending.specs.declared.Answer as lending
-use Rattle.lending.specs.declared.Answer.TheVariants.{Refused}
 use Rattle.solving.specs.Told.{toldOutcome, Answered}
 use Rattle.solving.specs.declared.Outcome.{Outcome}
 use Rattle.solving.specs.declared.Solution.{Solution}
@@ -98,7 +96,7 @@ module _ (pool table set : List ℕ) (cs : List (Con ℕ)) (h : SetStands pool t
   told_is : {b : Bool} → Told b → unmixed (numbers pool table) (collect opensCon cs) ≡ b
   told_is {b} t = ap (unmixed (numbers pool table)) (sym (set-opens pool table set cs h)) ∙ sym (t (names_of (table_of pool table)))
 
-  pub mixed-made : {b : Bool} → Told b → b ≡ false → (w : List ℕ) → Made (setType pool table cs v) w (Refused Mixed)
+  pub mixed-made : {b : Bool} → Told b → b ≡ false → (w : List ℕ) → Made (setType pool table cs v) w (Err Mixed)
   unfolding agreedSet settledSet
   mixed-made t i w = refused-made (setType pool table cs v) w Mixed (rw (small, told_is t, i))
 
@@ -107,7 +105,7 @@ module _ (pool table set : List ℕ) (cs : List (Con ℕ)) (h : SetStands pool t
     unfolding agreedSet settledSet
     after-solving = rw (small, told_is t, i) (tested (settled (solve (numbers pool table) bounded cs)) (λ f. agreed (judge (numbers pool table) bounded f.0 f.1 cs)) (λ f. f.0) (λ bs. typeRecs pool table bs v))
 
-    pub refused-settled : (w : List ℕ) (k : Refusal) → settled (solve (numbers pool table) bounded cs) ≡ refused (number_of k) → Made (setType pool table cs v) w (Refused k)
+    pub refused-settled : (w : List ℕ) (k : Refusal) → settled (solve (numbers pool table) bounded cs) ≡ refused (number_of k) → Made (setType pool table cs v) w (Err k)
     refused-settled w k e = refused-made (setType pool table cs v) w k (after-solving ∙ rw e)
 
     module _ (good : Good pool table) {found₀ found : List ℕ} {b' n : ℕ} (a : Accepts (solve (numbers pool table) bounded cs) found₀ found b' n) where
@@ -117,6 +115,6 @@ module _ (pool table set : List ℕ) (cs : List (Con ℕ)) (h : SetStands pool t
           let f = solved-form (numbers pool table) (holding pool table) (numbers-ordered pool table good) cs (record { well-formed = h.admitted.good; apart = told_is t ∙ i }) a.bs a.ns a.rounds a.is in
           found-stands pool table a.bs a.ns (is_all (goodBinding (numbers pool table) (holding pool table) 0) a.bs f.bindings-good) f.bounds-held found₀ found b' n a.buffer long a.many a.bounds
 
-      pub judged-settled : (w : List ℕ) (r : lending.Answer) → Made (judgedType pool table cs a.bs a.ns v) w r → Made (setType pool table cs v) w r
+      pub judged-settled : (w : List ℕ) (r : Result ℕ Refusal) → Made (judgedType pool table cs a.bs a.ns v) w r → Made (setType pool table cs v) w r
       unfolding settled
       judged-settled w r m = let e : judgedType pool table cs a.bs a.ns v ≡ setType pool table cs v = sym (after-solving ∙ rw a.is) in subst (λ (x : Got (List Rec)). Made x w r) e m

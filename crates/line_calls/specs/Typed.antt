@@ -29,8 +29,6 @@ use Rattle.replacing.specs.Runs.{LookedUp, found, not_found, looked-good, Found}
 use Rattle.replacing.specs.Well.{Lent}
 use Rattle.trials.specs.Trials.{Put}
 use Rattle.lending.specs.Told.{Front, Made}
-use Rattle.lending.specs.declared.Answer.{Answer}
-use Rattle.lending.specs.declared.Answer.TheVariants.{Records, Refused}
 use Rattle.line_calls.specs.Standing.{SetStands, FoundStands}
 
 -- ══ The type of a variable ══
@@ -76,11 +74,11 @@ module _ (places w : List ℕ) (look : Look ℕ) (v : ℕ) (tabled : Tabled plac
 -- ══ Answers ══
 
 -- a refusal makes nothing
-pub refused-made : (m : Got (List Rec)) (w : List ℕ) (k : Refusal) → m ≡ refused (number_of k) → Made m w (Refused k)
+pub refused-made : (m : Got (List Rec)) (w : List ℕ) (k : Refusal) → m ≡ refused (number_of k) → Made m w (Err k)
 refused-made m w k e = record { answer = sym (rw e); front = λ rs i. clash (sym e ∙ i) }
 
 -- records that were written from the start make what they are
-records-made : (m : Got (List Rec)) (rs : List Rec) (d d' : List ℕ) (n : ℕ) → m ≡ got rs → 16384 ≤ length d → d' ≡ sets d 0 (words rs) → length rs ≤ 2048 → n ≡ length rs → Made m d' (Records n)
+records-made : (m : Got (List Rec)) (rs : List Rec) (d d' : List ℕ) (n : ℕ) → m ≡ got rs → 16384 ≤ length d → d' ≡ sets d 0 (words rs) → length rs ≤ 2048 → n ≡ length rs → Made m d' (Ok n)
 records-made m rs d d' n i room e le q =
     let k = words-length rs in
     let z : d' ≡ words rs ++ drop (0 + length (words rs)) d = e ∙ sets-eq (words rs) d 0 (omega arith) in
@@ -105,22 +103,22 @@ module _ (pool table : List ℕ) where
   setType cs v = agreedSet (numbers pool table) cs >>= λ bs. typeRecs bs v
 
   -- what an answer makes of bindings up to b, and n bounds behind them, that were found for a set
-  abbrev pub Confirmed : List ℕ → List ℕ → ℕ → ℕ → ℕ → List ℕ → Answer → Type 0
+  abbrev pub Confirmed : List ℕ → List ℕ → ℕ → ℕ → ℕ → List ℕ → Result ℕ Refusal → Type 0
   Confirmed set found b n v w r =
       (cs : List (Con ℕ)) (bs : List (Binding ℕ)) (ns : List ℕ) → SetStands pool table set cs → FoundStands pool table found b n bs ns → Made (judgedType cs bs ns v) w r
 
   -- ══ The judge's verdicts ══
 
   module _ (cs : List (Con ℕ)) (bs : List (Binding ℕ)) (ns : List ℕ) (v : ℕ) {r : Result Bool Refusal} (h : told r ≡ judge (numbers pool table) bounded bs ns cs) where
-    pub judged-no : (w : List ℕ) → r ≡ Ok false → Made (judgedType cs bs ns v) w (Refused NotConfirmed)
+    pub judged-no : (w : List ℕ) → r ≡ Ok false → Made (judgedType cs bs ns v) w (Err NotConfirmed)
     unfolding agreed
     judged-no w i = let e : judge (numbers pool table) bounded bs ns cs ≡ got false = sym h ∙ ap told i in refused-made (judgedType cs bs ns v) w NotConfirmed (rw e)
 
-    pub judged-refused : (w : List ℕ) (k : Refusal) → r ≡ Err k → Made (judgedType cs bs ns v) w (Refused k)
+    pub judged-refused : (w : List ℕ) (k : Refusal) → r ≡ Err k → Made (judgedType cs bs ns v) w (Err k)
     unfolding agreed
     judged-refused w k i = let e : judge (numbers pool table) bounded bs ns cs ≡ refused (number_of k) = sym h ∙ ap told i in refused-made (judgedType cs bs ns v) w k (rw e)
 
-    pub judged-yes : (w w' : List ℕ) (n : ℕ) → r ≡ Ok true → 16384 ≤ length w → Typed (bindings (numbers pool table) bs) v w w' n → Made (judgedType cs bs ns v) w' (Records n)
+    pub judged-yes : (w w' : List ℕ) (n : ℕ) → r ≡ Ok true → 16384 ≤ length w → Typed (bindings (numbers pool table) bs) v w w' n → Made (judgedType cs bs ns v) w' (Ok n)
     unfolding agreed replaceTy
     judged-yes w w' n i room t =
         let e : judge (numbers pool table) bounded bs ns cs ≡ got true = sym h ∙ ap told i in

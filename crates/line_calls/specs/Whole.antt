@@ -1,5 +1,5 @@
 -- The whole call past the check of 10: from the steps in words to the type of the last one.
-use Rattle.std.specs.Prelude.{◌≡◌, refl, ◌&&◌, List, [], ◌∷◌, ℕ, zero, suc, ◌-◌, ◌*◌, ◌/◌, ◌≤◌, ◌<◌, leb, ltb, length, get_or, take}
+use Rattle.std.specs.Prelude.{Result, Err, ◌≡◌, refl, ◌&&◌, List, [], ◌∷◌, ℕ, zero, suc, ◌-◌, ◌*◌, ◌/◌, ◌≤◌, ◌<◌, leb, ltb, length, get_or, take}
 use Rattle.std.proofs.Common.{sym, subst, ◌∙◌, arith}
 use Rattle.std.proofs.Math.Path.{ap}
 use Rattle.std.proofs.Math.Bool.{true}
@@ -30,8 +30,6 @@ use Rattle.records.specs.Good.{numbers, holding}
 use Rattle.lending.specs.Lent.{Long, long}
 use Rattle.lending.specs.Handed.{as_written, unwritten}
 use Rattle.lending.specs.Told.{handed, Made}
-use Rattle.lending.specs.declared.Answer.{Answer}
-use Rattle.lending.specs.declared.Answer.TheVariants.{Refused}
 use Rattle.lines.specs.StepLists.{isGiven}
 use Rattle.lines.specs.Entry.{line_read}
 use Rattle.lines.specs.Entered.{lineEntered, checked-entered}
@@ -90,7 +88,7 @@ module _ (pool table steps types lines names : List ℕ) where
     pub enough : length steps ≤ length names * 4
 
   -- what an answer makes of the line, whatever steps were read
-  abbrev pub LineTyped : List ℕ → Answer → Type 0
+  abbrev pub LineTyped : List ℕ → Result ℕ Refusal → Type 0
   LineTyped w r = (ss : List (LineStep ℕ)) → LineHeld ss → Made (type_of pool table names ss) w r
 
   module _ (good : Good pool table) (ss : List (LineStep ℕ)) (h : LineHeld ss) where
@@ -137,10 +135,10 @@ module _ (pool table steps types lines names : List ℕ) where
     unfolding lineType
     type-is = rw last-there (grouped (agreedSet (numbersOf t) cs) (λ bs. replaceTy (numbersOf t) bounded (bindings (numbersOf t) bs) (its last)) (λ ty. got (writeTy ty)))
 
-    pub type-made : (w : List ℕ) (r : Answer) → Made (setType pool table cs last) w r → Made (type_of pool table names ss) w r
+    pub type-made : (w : List ℕ) (r : Result ℕ Refusal) → Made (setType pool table cs last) w r → Made (type_of pool table names ss) w r
     type-made w r m = subst (λ (x : Got (List Rec)). Made x w r) (sym type-is) m
 
-    pub large-made : (w : List ℕ) → 2048 < sum_of sizeCon cs → Made (type_of pool table names ss) w (Refused TooLarge)
+    pub large-made : (w : List ℕ) → 2048 < sum_of sizeCon cs → Made (type_of pool table names ss) w (Err TooLarge)
     unfolding agreedSet settledSet
     large-made w l = refused-made (type_of pool table names ss) w TooLarge (type-is ∙ rw (lt-leb (sum_of sizeCon cs) 2048 l))
 
@@ -192,10 +190,10 @@ module _ (pool table steps types lines names : List ℕ) where
         };
       }
 
-  pub line_made : (c : Came) (w : List ℕ) (r : Answer) → Made (type_of pool table names c.ss) w r → Made (checkedLine t steps types lines names) w r
+  pub line_made : (c : Came) (w : List ℕ) (r : Result ℕ Refusal) → Made (type_of pool table names c.ss) w r → Made (checkedLine t steps types lines names) w r
   line_made c w r m = let e : type_of pool table names c.ss ≡ checkedLine t steps types lines names = sym (checked-entered t steps types lines names ∙ rw c.is) in subst (λ (x : Got (List Rec)). Made x w r) e m
 
-  pub refused-line : (w : List ℕ) (k : Refusal) → isGiven (lineEntered t steps types lines names) ≡ refused (number_of k) → Made (checkedLine t steps types lines names) w (Refused k)
+  pub refused-line : (w : List ℕ) (k : Refusal) → isGiven (lineEntered t steps types lines names) ≡ refused (number_of k) → Made (checkedLine t steps types lines names) w (Err k)
   refused-line w k e = refused-made (checkedLine t steps types lines names) w k (checked-entered t steps types lines names ∙ rw (not_entered (lineEntered t steps types lines names) (number_of k) e))
 
   -- ══ The call ══

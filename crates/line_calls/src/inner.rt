@@ -13,7 +13,6 @@ ghost use Rattle.line_calls.specs.Standing.{SetStands, FoundStands};
 ghost use Rattle.line_calls.specs.Typed.{Typed, setType, Confirmed};
 ghost use Rattle.line_calls.specs.Whole.{LineHeld, LineTyped};
 
-use lending::Answer;
 use line_steps::inner::writing::{Put, put_line};
 use lines::inner::enter_line;
 use names::old::Checked;
@@ -55,7 +54,7 @@ fn confirm(
     n: usize,
     v: u32,
     work: &mut [u32],
-) -> Answer
+) -> Result<usize, Refusal>
     requires good { Good pool.now table.now }
     requires by_index { (cs : List (Con ℕ)) × SetStands pool.now table.now set.now cs }
     requires by_index_2 { (bs : List (Binding ℕ)) × ((ns : List ℕ) × FoundStands pool.now table.now found.now b n bs ns) }
@@ -69,14 +68,20 @@ fn confirm(
     let to = from + n * 4;
     mark_all(&found[from..to], &mut m);
     match try_all(pool, table, set, &places, found, &m, work) {
-        Ok(true) => Answer::Records(put_type(&places, found, v, work)),
-        Ok(false) => Answer::Refused(Refusal::NotConfirmed),
-        Err(k) => Answer::Refused(k),
+        Ok(true) => Ok(put_type(&places, found, v, work)),
+        Ok(false) => Err(Refusal::NotConfirmed),
+        Err(k) => Err(k),
     }
 }
 
 // Solves the set, judges the answer over the same set, and leaves the type of v.
-fn settle(pool: &[u8], table: &[u32], set: &[u32], v: u32, work: &mut [u32]) -> Answer
+fn settle(
+    pool: &[u8],
+    table: &[u32],
+    set: &[u32],
+    v: u32,
+    work: &mut [u32],
+) -> Result<usize, Refusal>
     requires good { Good pool.now table.now }
     requires by_index { (cs : List (Con ℕ)) × SetStands pool.now table.now set.now cs }
     requires in_bounds { 16384 ≤ length work.old }
@@ -84,7 +89,7 @@ fn settle(pool: &[u8], table: &[u32], set: &[u32], v: u32, work: &mut [u32]) -> 
 {
     let n = set.len() / 4;
     if !is_unmixed(set, 0, n) {
-        return Answer::Refused(Refusal::Mixed);
+        return Err(Refusal::Mixed);
     }
     copy(set, 0, n, work, 0);
     let mut found = [0u32; RECORD_WORDS];
@@ -92,8 +97,8 @@ fn settle(pool: &[u8], table: &[u32], set: &[u32], v: u32, work: &mut [u32]) -> 
     let outcome = s.outcome;
     match outcome {
         Outcome::Solved(b, k) => confirm(pool, table, set, &found, b, k, v, work),
-        Outcome::Unsolved(_) => Answer::Refused(Refusal::Unsolved),
-        Outcome::Refused(k) => Answer::Refused(k),
+        Outcome::Unsolved(_) => Err(Refusal::Unsolved),
+        Outcome::Refused(k) => Err(k),
     }
 }
 
@@ -106,7 +111,7 @@ fn type_line(
     lines: &[u32],
     names: &[u32],
     work: &mut [u32],
-) -> Answer
+) -> Result<usize, Refusal>
     requires good { Good pool.now table.now }
     requires by_index { (ss : List (LineStep ℕ)) × LineHeld pool.now table.now steps.now types.now lines.now names.now ss }
     requires in_bounds { 16384 ≤ length work.old }
@@ -119,7 +124,7 @@ fn type_line(
             let e = n * 4;
             settle(pool, table, &set[0..e], v, work)
         }
-        Put::TooLarge => Answer::Refused(Refusal::TooLarge),
+        Put::TooLarge => Err(Refusal::TooLarge),
     }
 }
 
@@ -132,7 +137,7 @@ pub fn make_line(
     lines: &[u32],
     names: &[u32],
     work: &mut [u32],
-) -> Answer
+) -> Result<usize, Refusal>
     requires table_value { lentTable pool.now table.now ≡ got tt }
     requires steps_in_bounds { length steps.now ≤ length names.now * 4 }
     requires in_bounds { 16384 ≤ length work.old }
@@ -140,6 +145,6 @@ pub fn make_line(
 {
     match enter_line(pool, table, steps, types, lines, names) {
         Checked::Good => type_line(pool, table, steps, types, lines, names, work),
-        Checked::Refused(k) => Answer::Refused(k),
+        Checked::Refused(k) => Err(k),
     }
 }

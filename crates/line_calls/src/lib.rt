@@ -8,7 +8,6 @@ ghost use Rattle.rules.specs.Lines.{checkLineCall};
 ghost use Rattle.lending.specs.Told.{writtenAs};
 
 use inner::make_line;
-use lending::Answer;
 use lending::inner::hand_over;
 use lines::inner::room;
 use rules::Refusal;
@@ -24,11 +23,11 @@ pub fn check_line(
     names: &[u32],
     res: &mut [u32],
     work: &mut [u32],
-) -> Answer
+) -> Result<usize, Refusal>
     ensures { writtenAs result res.new work.new ≡ checkLineCall pool.now table.now steps.now types.now lines.now names.now res.old work.old }
 {
     if !room(pool, table, steps, names, res, work) {
-        return Answer::Refused(Refusal::ShortBuffer);
+        return Err(Refusal::ShortBuffer);
     }
     let made = make_line(pool, table, steps, types, lines, names, work);
     hand_over(made, res, work)

@@ -21,7 +21,7 @@ use lending::lent;
 use names::inner::is_good;
 use names::old::Checked;
 use queries::inner::closed_at;
-use records::inner::{Ended, type_end};
+use records::inner::type_end;
 use rules::{NESTED, RECORD_WORDS, RECORDS, Refusal};
 
 // A line has at most 128 steps.
@@ -84,8 +84,8 @@ fn type_here(pool: &[u8], table: &[u32], types: &[u32], at: u32) -> Checked
     ensures { toldChecked result ≡ isGiven (type_at (table_of pool.now table.now) (recs types.now) at) }
 {
     match type_end(pool, table, 0, types, at as usize, NESTED) {
-        Ended::At(_) => Checked::Good,
-        Ended::Bad => Checked::Refused(Refusal::Malformed),
+        Some(_) => Checked::Good,
+        None => Checked::Refused(Refusal::Malformed),
     }
 }
 
@@ -95,8 +95,8 @@ fn constant_here(pool: &[u8], table: &[u32], types: &[u32], at: u32) -> Checked
     ensures { (lines : List ℕ) → toldChecked result ≡ isGiven (constantAt (table_of pool.now table.now) (recs types.now) lines at) }
 {
     match type_end(pool, table, 0, types, at as usize, NESTED) {
-        Ended::At(_) => or_malformed(closed_at(types, at as usize)),
-        Ended::Bad => Checked::Refused(Refusal::Malformed),
+        Some(_) => or_malformed(closed_at(types, at as usize)),
+        None => Checked::Refused(Refusal::Malformed),
     }
 }
 

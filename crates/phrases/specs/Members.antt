@@ -1,4 +1,5 @@
 -- The fields of a structure, and a structure by its parts.
+use Rattle.std.specs.Prelude as code
 use Rattle.std.specs.Prelude.{◌≡◌, refl, Bool, true, false, ℕ, suc, ◌+◌, ◌≤◌, ◌<◌, min, length, get_or, Err, None, Ok, Some}
 use Rattle.std.proofs.Common.{sym, ap, ap₂, ◌∙◌, arith, length-append}
 use Rattle.std.proofs.Math.Path.{subst}
@@ -19,8 +20,6 @@ use Rattle.laws.specs.Size.{size-ty, size-tys, size-fields}
 use Rattle.records.specs.Good.{HeldBefore, follows}
 use Rattle.records.specs.Views.{recOf}
 use Rattle.records.specs.declared.View.TheVariants as view
-use Rattle.records.specs.declared.inner.Before.{Before}
-use Rattle.records.specs.declared.inner.Before.TheVariants as before
 use Rattle.reading.specs.Points.{Reads, Any, from, standing, marked, columnAt, in-turn, Point}
 use Rattle.reading.specs.Types.{typesThere, fieldsThere, fieldRule, field-read, structure-read}
 use Rattle.terms.specs.Stands.{place_of, countOf, headPut, same-going, same-refused, Stand}
@@ -34,12 +33,12 @@ use Rattle.phrases.specs.Parts.{Behind, halted-kept, head_at, head-by, kept-head
 -- ══ A field's name rises ══
 
 -- the name of the field before
-abbrev pub nameBefore : Before → Option ℕ
-nameBefore before.Start = none
-nameBefore (before.Name y) = some y
+abbrev pub nameBefore : code.Option ℕ → Option ℕ
+nameBefore code.None = none
+nameBefore (code.Some y) = some y
 
 -- a name that is held comes after the one before
-abbrev pub Risen : List ℕ → List ℕ → Before → ℕ → Bool → Type 0
+abbrev pub Risen : List ℕ → List ℕ → code.Option ℕ → ℕ → Bool → Type 0
 Risen pool table b x ok = x < get_or table 0 0 → ok ≡ follows pool table b x
 
 -- the sheet goes on, or it is refused at a place
@@ -107,11 +106,11 @@ tested {x} f at false e = record {
       ap (λ (t : Bool). placed (suc at) (need t 1) (sofar x k n)) (sym (e k n)) ∙ ap₂ (λ (v : Refusal) (i : ℕ). refusedAt (number_of v) (suc i)) w.0 w.1;
 }
 
-pub rises-effect : {x : Lent} (b : Before) (v : ℕ) (ok : Bool) (at : ℕ) → Risen x.pool x.table b v ok → v < get_or x.table 0 0
+pub rises-effect : {x : Lent} (b : code.Option ℕ) (v : ℕ) (ok : Bool) (at : ℕ) → Risen x.pool x.table b v ok → v < get_or x.table 0 0
     → Effect (rises (nameBefore b) v (suc at)) Nothing x (lent x.pool x.table x.dst (keptIf ok Malformed at x.stand))
-rises-effect {x} before.Start v ok at e h = subst (λ (t : Bool). Effect (give tt) Nothing x (lent x.pool x.table x.dst (keptIf t Malformed at x.stand)))
+rises-effect {x} code.None v ok at e h = subst (λ (t : Bool). Effect (give tt) Nothing x (lent x.pool x.table x.dst (keptIf t Malformed at x.stand)))
     (sym (e h)) (gives tt refl)
-rises-effect {x} (before.Name y) v ok at e h = tested (λ s. is_lt ((namesSofar s).order y v)) at ok (λ k n. e h)
+rises-effect {x} (code.Some y) v ok at e h = tested (λ s. is_lt ((namesSofar s).order y v)) at ok (λ k n. e h)
 
 -- ══ A field ══
 
@@ -133,14 +132,14 @@ abbrev pub fieldStep : Option ℕ → NameAt × TyAt → Step (ℕ × Ty ℕ)
 fieldStep y it = λ s. onward (named it.0 s) (λ x. risenTy y it.0.column x it.1)
 
 -- a field was entered: its name is the one before the next field's, and these are its records
-pub record FieldTold (b : Before) (xu : ℕ × Ty ℕ) (rs : List Rec) : Type 0 where
-  pub name : b ≡ before.Name xu.0
+pub record FieldTold (b : code.Option ℕ) (xu : ℕ × Ty ℕ) (rs : List Rec) : Type 0 where
+  pub name : b ≡ code.Some xu.0
   pub written : rs ≡ fieldRecs xu
 
 -- a number that is held is the name before the next; else there is none
-pub record KeptBefore (table : List ℕ) (x : ℕ) (b : Before) : Type 0 where
+pub record KeptBefore (table : List ℕ) (x : ℕ) (b : code.Option ℕ) : Type 0 where
   pub held : HeldBefore table b
-  pub is : x < get_or table 0 0 → b ≡ before.Name x
+  pub is : x < get_or table 0 0 → b ≡ code.Some x
 
 -- a name has the column where it begins
 name-column : {P : NameAt → Type 0} {line : Bytes} {q r : Point} → Reads line q name P r → Reads line q name (λ i. P i × (NotBad r → i.column ≡ columnAt q)) r
@@ -171,7 +170,7 @@ typed-behind x u rs e = ap₂ (λ (n : ℕ) (l : List Rec). rec (head 9 (suc n))
 abbrev pub tested_in : Bool → ℕ → Lent → Lent
 tested_in ok at x = lent x.pool x.table x.dst (keptIf ok Malformed at x.stand)
 
-module _ {y z : Lent} (b : Before) (q : Point) (i : NameAt) (t : TyAt) {v : ℕ} {ok : Bool} where
+module _ {y z : Lent} (b : code.Option ℕ) (q : Point) (i : NameAt) (t : TyAt) {v : ℕ} {ok : Bool} where
   -- a field whose name was entered, up to the record that is written when its type is there
   named-field : i.column ≡ columnAt q → NotBad q → Halted q y.stand → Kept y y → Risen y.pool y.table b v ok → v < get_or y.table 0 0
       → Kept (countedIn 1 (place_of q) (tested_in ok (place_of q) y)) z
@@ -191,14 +190,14 @@ module _ {y z : Lent} (b : Before) (q : Point) (i : NameAt) (t : TyAt) {v : ℕ}
       (maps (ty_of t) (λ u. (v, u)) {W = λ xu qs. (xu.0 ≡ v) × (qs ≡ writeTy xu.1)} (kept-last kz) f (λ u qs hs. (refl, hs)))
       (λ xu qs w l. (w.0, ap (λ (a : ℕ). recOf (view.Field a) (suc (length qs)) ∷ qs) (sym w.0) ∙ typed-behind xu.0 xu.1 qs w.1)) d g))
 
-field_told : {b : Before} {v : ℕ} (xu : ℕ × Ty ℕ) (rs qs : List Rec) → b ≡ before.Name v → rs ≡ [] → xu.0 ≡ v → qs ≡ fieldRecs xu → FieldTold b xu (rs ++ qs)
-field_told xu rs qs hb hn e f = record { name = hb ∙ ap (λ (a : ℕ). before.Name a) (sym e); written = ap (λ (l : List Rec). l ++ qs) hn ∙ f }
+field_told : {b : code.Option ℕ} {v : ℕ} (xu : ℕ × Ty ℕ) (rs qs : List Rec) → b ≡ code.Some v → rs ≡ [] → xu.0 ≡ v → qs ≡ fieldRecs xu → FieldTold b xu (rs ++ qs)
+field_told xu rs qs hb hn e f = record { name = hb ∙ ap (λ (a : ℕ). code.Some a) (sym e); written = ap (λ (l : List Rec). l ++ qs) hn ∙ f }
 
-module _ (ty : Rule TyAt) (b : Before) {line : Bytes} {x x₁ y : Lent} {p q a c r : Point} {v : ℕ} {ok : Bool} where
+module _ (ty : Rule TyAt) (b : code.Option ℕ) {line : Bytes} {x x₁ y : Lent} {p q a c r : Point} {v : ℕ} {ok : Bool} where
   pub field-done : Ready line p x.pool x.table x.stand → Reads line p column (λ (k : ℕ). k ≡ columnAt q) q
       → Done line name named (NumberTold x₁.table v) q x a x₁ → Risen x₁.pool x₁.table b v ok → Reads line a (marked 58) Any c
-      → Done line ty ty_of (Writes writeTy) c (countedIn 1 (place_of q) (tested_in ok (place_of q) x₁)) r y → {b' : Before}
-      → (v < get_or y.table 0 0 → b' ≡ before.Name v)
+      → Done line ty ty_of (Writes writeTy) c (countedIn 1 (place_of q) (tested_in ok (place_of q) x₁)) r y → {b' : code.Option ℕ}
+      → (v < get_or y.table 0 0 → b' ≡ code.Some v)
       → (d : List ℕ) → d ≡ headPut (view.Field v) (keptIf ok Malformed (place_of q) x₁.stand) y.stand y.dst
       → Done line (fieldRule ty) (fieldStep (nameBefore b)) (FieldTold b') p x r (lent y.pool y.table d y.stand)
   field-done h x1 x2 ris x3 x4 {b'} hb d g =
@@ -221,14 +220,14 @@ module _ (ty : Rule TyAt) (b : Before) {line : Bytes} {x x₁ y : Lent} {p q a c
       }
 
 -- a field behind one named b, and the name before the next
-pub record FieldDone (line : Bytes) (ty : Rule TyAt) (b : Before) (p : Point) (x : Lent) (r : Point) (y : Lent) (b' : Before) : Type 0 where
+pub record FieldDone (line : Bytes) (ty : Rule TyAt) (b : code.Option ℕ) (p : Point) (x : Lent) (r : Point) (y : Lent) (b' : code.Option ℕ) : Type 0 where
   pub done : Done line (fieldRule ty) (fieldStep (nameBefore b)) (FieldTold b') p x r y
   pub held : HeldBefore y.table b'
 
 -- what was held is held
-pub held-later : (table table' : List ℕ) (b : Before) → get_or table 0 0 ≤ get_or table' 0 0 → HeldBefore table b → HeldBefore table' b
-held-later table table' before.Start h k = tt
-held-later table table' (before.Name y) h k = omega arith
+pub held-later : (table table' : List ℕ) (b : code.Option ℕ) → get_or table 0 0 ≤ get_or table' 0 0 → HeldBefore table b → HeldBefore table' b
+held-later table table' code.None h k = tt
+held-later table table' (code.Some y) h k = omega arith
 
 pub ready-tested : {line : Bytes} {q : Point} {pool table : List ℕ} {s s₁ : Stand} (ok : Bool) (at : ℕ) → Ready line q pool table s
     → s₁ ≡ keptIf ok Malformed at s → Ready line q pool table s₁
@@ -237,11 +236,11 @@ ready-tested {line} {q} {pool} {table} {s} {s₁} ok at h e =
     subst (Ready line q pool table) (sym e) (record { within = h.within; good = h.good; room = k.room; halted = halted-if ok Malformed at s h.halted })
 
 -- the same by what the code knows of the test and the count
-module _ (ty : Rule TyAt) (b : Before) {line : Bytes} {x x₁ y : Lent} {p q a c r : Point} {v at : ℕ} {ok : Bool} {tested counted : Stand} where
+module _ (ty : Rule TyAt) (b : code.Option ℕ) {line : Bytes} {x x₁ y : Lent} {p q a c r : Point} {v at : ℕ} {ok : Bool} {tested counted : Stand} where
   pub field-by : Ready line p x.pool x.table x.stand → Reads line p column (λ (k : ℕ). k ≡ columnAt q) q
       → Done line name named (NumberTold x₁.table v) q x a x₁ → at ≡ place_of q → Risen x₁.pool x₁.table b v ok → tested ≡ keptIf ok Malformed at x₁.stand
       → counted ≡ countOf 1 at tested → Reads line a (marked 58) Any c → Done line ty ty_of (Writes writeTy) c (lent x₁.pool x₁.table x₁.dst counted) r y
-      → {b' : Before} → KeptBefore y.table v b' → (d : List ℕ) → d ≡ headPut (view.Field v) tested y.stand y.dst
+      → {b' : code.Option ℕ} → KeptBefore y.table v b' → (d : List ℕ) → d ≡ headPut (view.Field v) tested y.stand y.dst
       → FieldDone line ty b p x r (lent y.pool y.table d y.stand) b'
   field-by h x1 x2 e ris f k x3 x4 hb d g =
       let o = f ∙ ap (λ (i : ℕ). keptIf ok Malformed i x₁.stand) e in
@@ -294,7 +293,7 @@ fields_told : {n m : ℕ} (xu : ℕ × Ty ℕ) (rs qs : List Rec) (gs : Fields �
 unfolding writeTy writeTys writeFields countFields
 fields_told xu rs qs gs e g = record { written = ap₂ ◌++◌ e g.written; counted = omega (arith, g.counted) }
 
-pub fields-more : {n m : ℕ} {b : Before} {x z o : Lent} (y : Option ℕ) (i : NameAt) (t : TyAt) (fs : FieldsAt) → Effect (fieldStep y (i, t)) (FieldTold b) x z
+pub fields-more : {n m : ℕ} {b : code.Option ℕ} {x z o : Lent} (y : Option ℕ) (i : NameAt) (t : TyAt) (fs : FieldsAt) → Effect (fieldStep y (i, t)) (FieldTold b) x z
     → Kept z o
     → Effect (fields_of fs (nameBefore b)) (FieldsTold (min (n + 1) 4096) m) z o → Effect (fields_of (field_at i t fs) y) (FieldsTold n m) x o
 fields-more {n} {m} {b} {x} {z} {o} y i t fs e k f =

@@ -1,4 +1,5 @@
 -- Types and fields in a row, turn by turn; parts that may be left out; and the type that a first byte decides on.
+use Rattle.std.specs.Prelude as code
 use Rattle.std.specs.Prelude.{◌≡◌, refl, Bool, true, false, ◌||◌, List, ℕ, suc, ◌+◌, ◌-◌, ◌≤◌, ◌<◌, min, eqb, Err, None, Ok, Some}
 use Rattle.std.proofs.Common.{sym, ap, ap₂, subst, true≢false, arith, ne_eqb}
 use Rattle.std.proofs.Math.Option.{none}
@@ -11,7 +12,6 @@ use Rattle.rules.specs.TextReading.{Step, refusedAt, ty_of, tys_of, fields_of}
 use Rattle.rules.specs.declared.Refusal.{Refusal}
 use Rattle.rules.specs.declared.Refusal.TheVariants.{Malformed}
 use Rattle.records.specs.Good.{HeldBefore}
-use Rattle.records.specs.declared.inner.Before.{Before}
 use Rattle.reading.specs.Points.{Reads, MarkRead, Any, marked, columnAt, beginsAt, left_at, Point}
 use Rattle.reading.specs.Factors.{byte_of, refusedFrom}
 use Rattle.reading.specs.Types.{Onto, onto-here, tys-go, tys-less, tys-end, tys-read, fieldRule, fields_go, fields-less, fields-end, fields_read}
@@ -72,26 +72,26 @@ tys-done {y = y} {m = m} ty o l e = record {
 -- ══ Fields in a row ══
 
 -- what the fields fs did from x on, behind a field named b, of which n were counted before
-pub record FieldsFrom (n : ℕ) (b : Before) (x : Lent) (r : Point) (z : Lent × ℕ) (fs : FieldsAt) : Type 0 where
+pub record FieldsFrom (n : ℕ) (b : code.Option ℕ) (x : Lent) (r : Point) (z : Lent × ℕ) (fs : FieldsAt) : Type 0 where
   pub kept : Kept x z.0
   pub effect : NotBad r → Effect (fields_of fs (nameBefore b)) (FieldsTold n z.1) x z.0
 
 -- the fields were read from p, x, n and b up to q, y, m and c
-pub record FieldsLoop (ty : Rule TyAt) (line : Bytes) (p : Point) (x : Lent) (n : ℕ) (b : Before) (q : Point) (y : Lent) (m : ℕ) (c : Before) : Type 0 where
+pub record FieldsLoop (ty : Rule TyAt) (line : Bytes) (p : Point) (x : Lent) (n : ℕ) (b : code.Option ℕ) (q : Point) (y : Lent) (m : ℕ) (c : code.Option ℕ) : Type 0 where
   pub onto : Onto (moreFields ty) line p (FieldsFrom n b x) q (FieldsFrom m c y)
   pub ready : Ready line q y.pool y.table y.stand
   pub kept : Kept x y
   pub few : m ≤ 4096
   pub held : HeldBefore y.table c
 
-pub fields-start : {line : Bytes} {p : Point} {x : Lent} {n : ℕ} {b : Before} (ty : Rule TyAt) → Ready line p x.pool x.table x.stand → n ≤ 4096
+pub fields-start : {line : Bytes} {p : Point} {x : Lent} {n : ℕ} {b : code.Option ℕ} (ty : Rule TyAt) → Ready line p x.pool x.table x.stand → n ≤ 4096
     → HeldBefore x.table b
     → FieldsLoop ty line p x n b p x n b
 fields-start {line} {p} {x} {n} {b} ty h f k =
     record { onto = onto-here (moreFields ty) (FieldsFrom n b x) h.within; ready = h; kept = kept_same h.good h.room; few = f; held = k }
 
-module _ {ty : Rule TyAt} {line : Bytes} {p q : Point} {x y : Lent} {n m : ℕ} {b c : Before} (l : FieldsLoop ty line p x n b q y m c) where
-  pub fields-turn : {a i : Point} {z : Lent} {d : Before} → true ≡ beginsAt line q 44 → MarkRead line q 44 a
+module _ {ty : Rule TyAt} {line : Bytes} {p q : Point} {x y : Lent} {n m : ℕ} {b c : code.Option ℕ} (l : FieldsLoop ty line p x n b q y m c) where
+  pub fields-turn : {a i : Point} {z : Lent} {d : code.Option ℕ} → true ≡ beginsAt line q 44 → MarkRead line q 44 a
       → Done line (fieldRule ty) (fieldStep (nameBefore c)) (FieldTold d) a y i z → HeldBefore z.table d → FieldsLoop ty line p x n b i z (min (m + 1) 4096) d
   fields-turn {z = z} {d = d} e k o h = record {
     onto = fields_go ty l.onto (FieldsFrom (min (m + 1) 4096) d z) e k o.reads (λ r w i t fs j hf hr hs. record {
@@ -104,11 +104,11 @@ module _ {ty : Rule TyAt} {line : Bytes} {p q : Point} {x y : Lent} {n m : ℕ} 
     held = h;
   }
 
-  pub fields-fall : {a i : Point} {z : Lent} {d : Before} → true ≡ beginsAt line q 44 → MarkRead line q 44 a
+  pub fields-fall : {a i : Point} {z : Lent} {d : code.Option ℕ} → true ≡ beginsAt line q 44 → MarkRead line q 44 a
       → Done line (fieldRule ty) (fieldStep (nameBefore c)) (FieldTold d) a y i z → left_at line i < left_at line q
   fields-fall e k o = fields-less ty l.onto e k o.reads
 
-pub fields-done : {line : Bytes} {p f q : Point} {w x y : Lent} {m : ℕ} {b c : Before} (ty : Rule TyAt)
+pub fields-done : {line : Bytes} {p f q : Point} {w x y : Lent} {m : ℕ} {b c : code.Option ℕ} (ty : Rule TyAt)
     → Done line (fieldRule ty) (fieldStep none) (FieldTold b) p w f x
     → FieldsLoop ty line f x 1 b q y m c → false ≡ beginsAt line q 44 → Done line (fields ty) (λ fs. fields_of fs none) (FieldsTold 0 m) p w q y
 fields-done {y = y} {m = m} {c = c} ty o l e = record {

@@ -16,7 +16,6 @@ ghost use Rattle.phrases.specs.Members.{Risen, KeptBefore, keptIf};
 
 use names::inner::{is_held, order};
 use reading::inner::{Point, byte_at, refuse};
-use records::inner::Before;
 use rules::Refusal;
 use std::cmp::Ordering;
 use terms::inner::{At, Reached, Stand, place_of};
@@ -39,14 +38,14 @@ fn is_less(o: Ordering) -> bool
 }
 
 /// Does a field's name, if it is held, come after the one before?
-fn rises(pool: &[u8], table: &[u32], b: Before, x: u32) -> bool
+fn rises(pool: &[u8], table: &[u32], before: Option<u32>, x: u32) -> bool
     requires good { Good pool.now table.now }
-    requires held_before { HeldBefore table.now b }
-    ensures { Risen pool.now table.now b x result }
+    requires held_before { HeldBefore table.now before }
+    ensures { Risen pool.now table.now before x result }
 {
-    match b {
-        Before::Start => true,
-        Before::Name(y) => {
+    match before {
+        None => true,
+        Some(y) => {
             if is_held(table, x) {
                 is_less(order(pool, table, y, x))
             } else {
@@ -57,15 +56,11 @@ fn rises(pool: &[u8], table: &[u32], b: Before, x: u32) -> bool
 }
 
 /// The name before the next field, if it is held.
-fn before_next(table: &[u32], x: u32) -> Before
+fn before_next(table: &[u32], x: u32) -> Option<u32>
     requires { 257 ≤ length table.now }
     ensures { KeptBefore table.now x result }
 {
-    if is_held(table, x) {
-        Before::Name(x)
-    } else {
-        Before::Start
-    }
+    if is_held(table, x) { Some(x) } else { None }
 }
 
 /// The sheet goes on if a test was passed, else it is refused.

@@ -1,5 +1,5 @@
 -- A scheme that was written from the start of the work buffer is what quantifying makes, or it is too long.
-use Rattle.std.specs.Prelude.{◌≡◌, refl, take, drop}
+use Rattle.std.specs.Prelude.{Ok, Err, ◌≡◌, refl, take, drop}
 use Rattle.std.proofs.Common.{sym, ◌∙◌, take_at}
 use Rattle.std.proofs.Math.Path.{ap}
 use mathlib.Core.List.{List, [], ◌∷◌, ◌++◌, map}
@@ -23,7 +23,6 @@ use Rattle.records.specs.Cut.{fit, fits}
 use Rattle.records.specs.Stores.{sets-append}
 use Rattle.replacing.specs.Writes.{writes, writes-before}
 use Rattle.lending.specs.Told.{Front, Made}
-use Rattle.lending.specs.declared.Answer.TheVariants.{Records, Refused}
 
 -- records that were written from the start, where they fit, stand at the front
 pub front : (d d' : List ℕ) (rs : List Rec) → 16384 ≤ length d → d' ≡ sets d 0 (words rs) → length rs ≤ 2048 → Front rs d'
@@ -37,13 +36,13 @@ front d d' rs room e le =
     }
 
 -- made: these records, or a refusal
-pub made-records : (m : Got (List Rec)) (rs : List Rec) (d d' : List ℕ) (n : ℕ) → m ≡ got rs → 16384 ≤ length d → d' ≡ sets d 0 (words rs) → n ≡ length rs → n ≤ 2048 → Made m d' (Records n)
+pub made-records : (m : Got (List Rec)) (rs : List Rec) (d d' : List ℕ) (n : ℕ) → m ≡ got rs → 16384 ≤ length d → d' ≡ sets d 0 (words rs) → n ≡ length rs → n ≤ 2048 → Made m d' (Ok n)
 made-records m rs d d' n e room b l le = record {
   answer = rw (e, l);
   front = λ ss i. let z : rs ≡ ss = let k : got rs ≡ got ss = sym e ∙ i in cc in rw (sym z) (front d d' rs room b (omega arith));
 }
 
-pub made-refused : (m : Got (List Rec)) (k : Refusal) (w : List ℕ) → m ≡ refused (number_of k) → Made m w (Refused k)
+pub made-refused : (m : Got (List Rec)) (k : Refusal) (w : List ℕ) → m ≡ refused (number_of k) → Made m w (Err k)
 made-refused m k w e = record { answer = sym (rw e); front = λ rs i. clash (sym e ∙ i) }
 
 words_append : (a b : List Rec) → words (a ++ b) ≡ words a ++ words b
@@ -72,13 +71,13 @@ module _ (n : ℕ) (bs : List (Open ℕ)) where
       omega arith
 
   module _ (R : Got (Ty ℕ)) (u : Ty ℕ) (e : R ≡ got u) (flat : depth u ≤ 64) where
-    pub too_long : (w : List ℕ) → 2048 < 1 + (size u + length bs) → Made (limitedScheme R) w (Refused TooLarge)
+    pub too_long : (w : List ℕ) → 2048 < 1 + (size u + length bs) → Made (limitedScheme R) w (Err TooLarge)
     unfolding schemeLimited
     too_long w h = made-refused (limitedScheme R) TooLarge w (rw (e, sized-long (1 + (size u + length bs)) (depth u) (scheme n u bs) h))
 
     -- the type and the bounds were written one after another, then the head, which says how many they are
     pub made-scheme : (d d₁ d₂ d₃ : List ℕ) (out r : ℕ) → 16384 ≤ length d → out ≡ 1 + size u → d₁ ≡ sets d (1 * 4) (words (writeTy u)) → r ≡ out + length bs
-        → d₂ ≡ sets d₁ (out * 4) (words (map writeBound bs)) → r ≤ 2048 → d₃ ≡ sets d₂ (0 * 4) (words (rec (head 26 (fit r)) n 0 0 ∷ [])) → Made (limitedScheme R) d₃ (Records r)
+        → d₂ ≡ sets d₁ (out * 4) (words (map writeBound bs)) → r ≤ 2048 → d₃ ≡ sets d₂ (0 * 4) (words (rec (head 26 (fit r)) n 0 0 ∷ [])) → Made (limitedScheme R) d₃ (Ok r)
     unfolding schemeLimited writeScheme
     made-scheme d d₁ d₂ d₃ out r room o h₁ q h₂ le h₃ =
         let rs : List Rec = writeTy u ++ map writeBound bs in

@@ -1,5 +1,5 @@
 -- What quantifying is given, and what it makes.
-use Rattle.std.specs.Prelude.{◌≡◌, refl, Bool, ℕ, zero, suc, ◌+◌, ◌*◌, ◌≤◌, ◌<◌, length, get_or, replicate, Ok, Err}
+use Rattle.std.specs.Prelude.{◌≡◌, refl, Bool, ℕ, zero, suc, ◌+◌, ◌*◌, ◌≤◌, ◌<◌, length, get_or, replicate, Ok, Err, Result}
 use Rattle.std.proofs.Common.{subst, arith}
 use mathlib.Core.List.{List, [], ◌∷◌, Memᴰ}
 use Rattle.std.proofs.Math.Option.{Option}
@@ -22,7 +22,6 @@ use Rattle.replacing.specs.Left.{went-same, Left, Room, Went}
 use Rattle.replacing.specs.LineLaws.{type-left}
 use Rattle.replacing.specs.Well.{HeldType, Lent}
 use Rattle.lending.specs.Told.{Made}
-use Rattle.lending.specs.declared.Answer.TheVariants.{Records, Refused}
 use Rattle.handing.specs.Bounds.{allBounds, BoundsAt, PutAll}
 use Rattle.handing.specs.Tables.{quantPlaces, quantTypes}
 use Rattle.handing.specs.Said.{quant-lent}
@@ -77,10 +76,10 @@ module _ (pool table names : List ℕ) (t : Ty ℕ) (d d' : List ℕ) (nx : ℕ)
       go (refused k) e l = absurd (subst (λ (R : Got (Ty ℕ)). Left size writeTy d d' nx 1 (Ok (q, out)) R) e l).says
 
   -- or stopped
-  pub stopped : {x : Went} {k : Refusal} (all : Bool) (bs : List (Open ℕ)) (w : List ℕ) → x ≡ Err k → Left size writeTy d d' nx 1 x (renamedType pool table names t) → Made (quantifiedAs pool table names all t bs) w (Refused k)
+  pub stopped : {x : Went} {k : Refusal} (all : Bool) (bs : List (Open ℕ)) (w : List ℕ) → x ≡ Err k → Left size writeTy d d' nx 1 x (renamedType pool table names t) → Made (quantifiedAs pool table names all t bs) w (Err k)
   stopped {x} {k} all bs w i left = go (renamedType pool table names t) refl (subst (λ (y : Went). Left size writeTy d d' nx 1 y (renamedType pool table names t)) i left)
     where
-      go : (R : Got (Ty ℕ)) → renamedType pool table names t ≡ R → Left size writeTy d d' nx 1 (Err k) (renamedType pool table names t) → Made (quantifiedAs pool table names all t bs) w (Refused k)
+      go : (R : Got (Ty ℕ)) → renamedType pool table names t ≡ R → Left size writeTy d d' nx 1 (Err k) (renamedType pool table names t) → Made (quantifiedAs pool table names all t bs) w (Err k)
       go (got u) e l = absurd (let s = (subst (λ (R : Got (Ty ℕ)). Left size writeTy d d' nx 1 (Err k) R) e l).says in let p = s.0 in let z : ◌≡◌ {A = ℕ} 0 1 = cc in omega arith)
       go (refused j) e l =
           let s : number_of k ≡ j = (subst (λ (R : Got (Ty ℕ)). Left size writeTy d d' nx 1 (Err k) R) e l).says in
@@ -98,13 +97,13 @@ module _ (pool table names : List ℕ) (all : Bool) (t : Ty ℕ) (bs : List (Ope
   shallow : depth c.value ≤ 64
   shallow = let e = c.flat in omega arith
 
-  pub type-long : (w : List ℕ) → 2048 < out → Made (quantifiedAs pool table names all t bs) w (Refused TooLarge)
+  pub type-long : (w : List ℕ) → 2048 < out → Made (quantifiedAs pool table names all t bs) w (Err TooLarge)
   type-long w h = too_long (length names) new (renamedType pool table names t) c.value c.is shallow w (let e = c.many in omega arith)
 
-  pub all-long : (d₂ w : List ℕ) (r : ℕ) → PutAll d₁ d₂ out r new → 2048 < r → Made (quantifiedAs pool table names all t bs) w (Refused TooLarge)
+  pub all-long : (d₂ w : List ℕ) (r : ℕ) → PutAll d₁ d₂ out r new → 2048 < r → Made (quantifiedAs pool table names all t bs) w (Err TooLarge)
   all-long d₂ w r p h = too_long (length names) new (renamedType pool table names t) c.value c.is shallow w (let e = c.many in let f = p.next in omega arith)
 
-  pub all_made : (d₂ d₃ : List ℕ) (r : ℕ) → 16384 ≤ length d → PutAll d₁ d₂ out r new → r ≤ 2048 → d₃ ≡ sets d₂ (0 * 4) (words (rec (head 26 (fit r)) (length names) 0 0 ∷ [])) → Made (quantifiedAs pool table names all t bs) d₃ (Records r)
+  pub all_made : (d₂ d₃ : List ℕ) (r : ℕ) → 16384 ≤ length d → PutAll d₁ d₂ out r new → r ≤ 2048 → d₃ ≡ sets d₂ (0 * 4) (words (rec (head 26 (fit r)) (length names) 0 0 ∷ [])) → Made (quantifiedAs pool table names all t bs) d₃ (Ok r)
   all_made d₂ d₃ r room p le h =
       let m = c.many in
       let q = p.next in

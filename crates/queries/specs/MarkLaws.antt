@@ -1,7 +1,7 @@
 -- What marks say of the names that they stand for.
 use Rattle.std.specs.Prelude.{◌≡◌, refl, Bool, true, false, not, ◌&&◌, ◌||◌, List, [], ◌∷◌, ◌++◌, ℕ, zero, suc, ◌+◌, ◌<◌, ◌≤◌, eqb, length, get_or, set, drop, replicate}
 use Rattle.std.proofs.Common.{sym, ap, ◌∙◌, append-nil, arith, eqb-true, eq-eqb, ne_eqb, add-one, drop_of_length-le, length-set, drop-cons, get_or-set_same, get_or-set_other, inl, inr, ⊎_elim}
-use Rattle.std.proofs.Math.Bool.{or-true, or-false}
+use Rattle.std.proofs.Math.Bool.{or-true, or-false, and-false}
 use Rattle.std.proofs.lemmas.Bool.{eqb-false}
 use Rattle.std.proofs.lemmas.List.{length-replicate, get_or-replicate}
 use Rattle.rules.specs.Base.{any, all, collect}
@@ -84,9 +84,20 @@ module _ (m : List Bool) (xs : List ℕ) (k : Marks m xs) where
 -- ══ Marked in both ══
 
 -- place by place
-pub disjoint-step : (v p : List Bool) (i : ℕ) → i < length v → i < length p → disjoint (drop i v) (drop i p) ≡ (not (get_or v i false && get_or p i false) && disjoint (drop (i + 1) v) (drop (i + 1) p))
+disjoint-step : (v p : List Bool) (i : ℕ) → i < length v → i < length p → disjoint (drop i v) (drop i p) ≡ (not (get_or v i false && get_or p i false) && disjoint (drop (i + 1) v) (drop (i + 1) p))
 unfolding disjoint
 disjoint-step v p i h k = rw (add-one i, drop-cons v i false h, drop-cons p i false k)
+
+pub both-marked : (v p : List Bool) (i : ℕ) → i < length v → i < length p → get_or v i false ≡ true → get_or p i false ≡ true → disjoint (drop i v) (drop i p) ≡ false
+both-marked v p i h k e q = disjoint-step v p i h k ∙ rw (e, q) refl
+
+pub first-unmarked : (v p : List Bool) (i : ℕ) → i < length v → i < length p → get_or v i false ≡ false → disjoint (drop i v) (drop i p) ≡ disjoint (drop (i + 1) v) (drop (i + 1) p)
+first-unmarked v p i h k e = disjoint-step v p i h k ∙ rw e refl
+
+pub second-unmarked : (v p : List Bool) (i : ℕ) → i < length v → i < length p → get_or p i false ≡ false → disjoint (drop i v) (drop i p) ≡ disjoint (drop (i + 1) v) (drop (i + 1) p)
+second-unmarked v p i h k e =
+    disjoint-step v p i h k
+    ∙ ap (λ (b : Bool). not b && disjoint (drop (i + 1) v) (drop (i + 1) p)) (ap (get_or v i false &&◌) e ∙ and-false (get_or v i false))
 
 pub disjoint-end : (v p : List Bool) (i : ℕ) → length v ≤ i → disjoint (drop i v) (drop i p) ≡ true
 unfolding disjoint

@@ -1,12 +1,10 @@
 -- Names as marks: names are below 256, so a set of them is 256 marks.
-use Rattle.std.specs.Prelude.{◌≡◌, Bool, true, false, not, ◌&&◌, List, [], ◌∷◌, ◌⊎◌, eqb, length, get_or}
+use Rattle.std.specs.Prelude.{None, Option, Some, ◌≡◌, Bool, true, false, not, ◌&&◌, List, [], ◌∷◌, ◌⊎◌, eqb, length, get_or}
 use Prim.Native.Nat.{ℕ, suc, ◌<◌, Ordering}
 use Rattle.rules.specs.Base.{any}
 use Rattle.rules.specs.Trees.{Open, var, quant, par, Names}
 use Rattle.rules.specs.Calls.{over}
 use Rattle.laws.specs.ReadLists.{Every}
-use Rattle.queries.specs.declared.Name.{Name}
-use Rattle.queries.specs.declared.Name.TheVariants.{Of, Nothing}
 
 -- the marks are at these names
 pub record Marks (m : List Bool) (xs : List ℕ) : Type 0 where
@@ -40,26 +38,25 @@ pub record Held (n : ℕ) (m : List Bool) : Type 0 where
   pub held : (x : ℕ) → x < 256 → get_or m x false ≡ true → x < n
 
 -- the first of the names marked below n, or that there is none
-abbrev pub Least : Names ℕ → List Bool → ℕ → Name → Type 0
-Least ν m n (Of x) = (x < n) × (get_or m x false ≡ true) × ((y : ℕ) → y < n → get_or m y false ≡ true → (y ≡ x) ⊎ (ν.order x y ≡ Ordering.lt))
-Least ν m n Nothing = (y : ℕ) → y < n → get_or m y false ≡ true → ⊥
+abbrev pub Least : Names ℕ → List Bool → ℕ → Option ℕ → Type 0
+Least ν m n (Some x) = (x < n) × (get_or m x false ≡ true) × ((y : ℕ) → y < n → get_or m y false ≡ true → (y ≡ x) ⊎ (ν.order x y ≡ Ordering.lt))
+Least ν m n None = (y : ℕ) → y < n → get_or m y false ≡ true → ⊥
 
 -- a name that is held
-abbrev pub HeldName : ℕ → Name → Type 0
-HeldName n (Of x) = x < n
-HeldName n Nothing = Unit {0}
+abbrev pub HeldName : ℕ → Option ℕ → Type 0
+HeldName n (Some x) = x < n
+HeldName n None = Unit {0}
 
 -- the first of two names, or y if they are the same
-abbrev pub firstBy : Ordering → ℕ → ℕ → Name
-firstBy Ordering.lt x y = Of x
-firstBy Ordering.eq x y = Of y
-firstBy Ordering.gt x y = Of y
+abbrev pub firstBy : Ordering → ℕ → ℕ → Option ℕ
+firstBy Ordering.lt x y = Some x
+firstBy Ordering.eq x y = Some y
+firstBy Ordering.gt x y = Some y
 
--- the first of the names so far and x, where x is marked
-abbrev pub first_of : Names ℕ → Bool → Name → ℕ → Name
-first_of ν false best x = best
-first_of ν true Nothing x = Of x
-first_of ν true (Of y) x = firstBy (ν.order x y) x y
+-- the first of the name so far, if there is one, and x
+abbrev pub sooner : Names ℕ → Option ℕ → ℕ → Option ℕ
+sooner ν None x = Some x
+sooner ν (Some y) x = firstBy (ν.order x y) x y
 
 -- names at the front of a buffer, and how many
 pub record Filled (xs : List ℕ) (r : ℕ) (before after : List ℕ) : Type 0 where

@@ -1,5 +1,5 @@
 -- The open names of the records from a place on: one record after another.
-use Rattle.std.specs.Prelude.{List, [], ◌∷◌, ◌++◌, ℕ, zero, suc, ◌+◌, ◌-◌}
+use Rattle.std.specs.Prelude.{None, Option, Some, List, [], ◌∷◌, ◌++◌, ℕ, zero, suc, ◌+◌, ◌-◌}
 use Rattle.rules.specs.Trees as tree
 use Rattle.rules.specs.Contents.{variablesIn, parametersIn, namesIn}
 use Rattle.records.specs.Views.{viewAt}
@@ -8,17 +8,12 @@ use Rattle.records.specs.declared.View.{View}
 use Rattle.records.specs.declared.View.TheVariants as view
 use Rattle.queries.specs.declared.Kind.{Kind}
 use Rattle.queries.specs.declared.Kind.TheVariants.{Variables, Parameters, Both}
-use Rattle.queries.specs.declared.Opens as opens
-use Rattle.queries.specs.declared.Name as name
+use Rattle.records.specs.declared.Open as code
 
--- the answers of the code as lists
-abbrev pub toldOpens : opens.Opens → List (tree.Open ℕ)
-toldOpens (opens.TheVariants.One o) = openOf o ∷ []
-toldOpens opens.TheVariants.Nothing = []
-
-abbrev pub toldName : name.Name → List ℕ
-toldName (name.TheVariants.Of x) = x ∷ []
-toldName name.TheVariants.Nothing = []
+-- an open name of the code, if there is one, as a list
+abbrev pub toldOpens : Option code.Open → List (tree.Open ℕ)
+toldOpens (Some o) = openOf o ∷ []
+toldOpens None = []
 
 -- the names of a kind among open names
 abbrev pub choose : Kind → List (tree.Open ℕ) → List ℕ

@@ -1,5 +1,5 @@
 -- Marked names one by one, the first by name bytes before the others.
-use Rattle.std.specs.Prelude.{◌≡◌, Bool, true, false, ◌⊎◌, ltb, length, get_or, set, drop}
+use Rattle.std.specs.Prelude.{None, Option, Some, ◌≡◌, Bool, true, false, ◌⊎◌, ltb, length, get_or, set, drop}
 use Rattle.std.proofs.Math.Path.{refl, ap}
 use Rattle.std.proofs.Common.{sym, subst, ◌∙◌, inl, inr, ⊎_elim, add-zero, arith, ltb-true, ltb-false, length-set, length-append, get_or-set_other, drop-cons}
 use mathlib.Core.List.{List, [], ◌∷◌, ◌++◌, append_assoc, append-nil}
@@ -13,10 +13,8 @@ use Rattle.laws.specs.Lists.{true≢false}
 use Rattle.laws.specs.Order.{Lawful, Tells, after}
 use Rattle.laws.specs.ReadLists.{Every}
 use Rattle.laws.specs.SortedNames.{In, same-sort, first-sort, sort-few}
-use Rattle.queries.specs.declared.Name.{Name}
-use Rattle.queries.specs.declared.Name.TheVariants.{Of, Nothing}
 use Rattle.queries.specs.MarkLaws.{every_in, in-every, any-in, in-any}
-use Rattle.queries.specs.Marks.{Marks, Held, HeldName, picked, Least, firstBy, first_of, Filled}
+use Rattle.queries.specs.Marks.{Marks, Held, HeldName, picked, Least, firstBy, sooner, Filled}
 
 clash : {A : Type 0} → true ≡ false → A
 clash e = absurd (true≢false e)
@@ -75,11 +73,11 @@ module _ (n : ℕ) (m : List Bool) (h : Held n m) where
 module _ (ν : Names ℕ) (law : Lawful ν.order) (n : ℕ) (tells : Tells (λ x. x < n) ν.order) (m : List Bool) (h : Held n m) where
   -- ══ The first so far ══
 
-  pub least-held : (i : ℕ) → i ≤ 256 → (best : Name) → Least ν m i best → HeldName n best
-  least-held i l (Of x) k = h.held x (omega (arith, k.0)) k.1
-  least-held i l Nothing k = tt
+  pub least-held : (i : ℕ) → i ≤ 256 → (best : Option ℕ) → Least ν m i best → HeldName n best
+  least-held i l (Some x) k = h.held x (omega (arith, k.0)) k.1
+  least-held i l None k = tt
 
-  pub least-none : Least ν m 0 Nothing
+  pub least-none : Least ν m 0 None
   least-none y l e = absurd (omega arith)
 
   -- what is marked below i + 1
@@ -90,29 +88,22 @@ module _ (ν : Names ℕ) (law : Lawful ν.order) (n : ℕ) (tells : Tells (λ x
       go true e = g (ltb-true y i e)
       go false e = f (omega (arith, ltb-false y i e))
 
-  skipped : (i : ℕ) → get_or m i false ≡ false → (best : Name) → Least ν m i best → Least ν m (i + 1) best
-  skipped i e (Of x) k = (omega (arith, k.0), k.1, λ y l q. split i y l (λ z. clash (sym q ∙ ap (λ (w : ℕ). get_or m w false) z ∙ e)) (λ z. k.2 y z q))
-  skipped i e Nothing k = λ y l q. split i y l (λ z. clash (sym q ∙ ap (λ (w : ℕ). get_or m w false) z ∙ e)) (λ z. k y z q)
+  pub skipped : (i : ℕ) → get_or m i false ≡ false → (best : Option ℕ) → Least ν m i best → Least ν m (i + 1) best
+  skipped i e (Some x) k = (omega (arith, k.0), k.1, λ y l q. split i y l (λ z. clash (sym q ∙ ap (λ (w : ℕ). get_or m w false) z ∙ e)) (λ z. k.2 y z q))
+  skipped i e None k = λ y l q. split i y l (λ z. clash (sym q ∙ ap (λ (w : ℕ). get_or m w false) z ∙ e)) (λ z. k y z q)
 
-  taken : (i : ℕ) → i < 256 → get_or m i false ≡ true → (best : Name) → Least ν m i best → Least ν m (i + 1) (first_of ν true best i)
-  taken i l e Nothing k = (omega arith, e, λ y j q. split i y j (λ z. inl z) (λ z. absurd (k y z q)))
-  taken i l e (Of x) k = go (ν.order i x) refl
+  pub taken : (i : ℕ) → i < 256 → get_or m i false ≡ true → (best : Option ℕ) → Least ν m i best → Least ν m (i + 1) (sooner ν best i)
+  taken i l e None k = (omega arith, e, λ y j q. split i y j (λ z. inl z) (λ z. absurd (k y z q)))
+  taken i l e (Some x) k = go (ν.order i x) refl
     where
       go : (o : Ordering) → ν.order i x ≡ o → Least ν m (i + 1) (firstBy o i x)
       go Ordering.lt p = (omega arith, e, λ y j q. split i y j (λ z. inl z) (λ z. inr (⊎_elim (λ w. ap (ν.order i) w ∙ p) (λ w. law.trans i x y p w) (k.2 y z q))))
       go Ordering.eq p = absurd (let z : i ≡ x = tells.same i x (h.held i l e) (h.held x (omega (arith, k.0)) k.1) p in omega (arith, k.0))
       go Ordering.gt p = (omega (arith, k.0), k.1, λ y j q. split i y j (λ z. inr (ap (ν.order x) z ∙ after law i x p)) (λ z. k.2 y z q))
 
-  pub least_step : (i : ℕ) → i < 256 → (best : Name) → Least ν m i best → Least ν m (i + 1) (first_of ν (get_or m i false) best i)
-  least_step i l best k = go (get_or m i false) refl
-    where
-      go : (b : Bool) → get_or m i false ≡ b → Least ν m (i + 1) (first_of ν b best i)
-      go true e = taken i l e best k
-      go false e = skipped i e best k
-
   -- ══ The first, then the others ══
 
-  pub sort-next : (x : ℕ) → Least ν m 256 (Of x) → sort ν (picked 0 m) ≡ x ∷ sort ν (picked 0 (set m x false))
+  pub sort-next : (x : ℕ) → Least ν m 256 (Some x) → sort ν (picked 0 m) ≡ x ∷ sort ν (picked 0 (set m x false))
   sort-next x k =
       first-sort ν law (λ y. y < n) tells x (picked 0 m) (picked 0 (set m x false)) (picked-held n m h) (picked-held n (set m x false) (held-less n m h x)) (picks m x k.1)
       (λ z i. there z (picks_of m z i) (ℕ_discrete z x))
@@ -128,7 +119,7 @@ module _ (ν : Names ℕ) (law : Lawful ν.order) (n : ℕ) (tells : Tells (λ x
           let g : get_or m z false ≡ true = sym (get_or-set_other m x z false false f) ∙ e in
           (picks m z g, ⊎_elim (λ q. absurd (f q)) (λ q. q) (k.2 z (omega (arith, marked-in m z g, h.long)) g))
 
-  pub sort-end : Least ν m 256 Nothing → sort ν (picked 0 m) ≡ []
+  pub sort-end : Least ν m 256 None → sort ν (picked 0 m) ≡ []
   unfolding sort
   sort-end k = ap (sort ν) (empty (picked 0 m) (λ z i. let e = picks_of m z i in k z (omega (arith, marked-in m z e, h.long)) e))
     where
@@ -175,12 +166,12 @@ module _ (ν : Names ℕ) (law : Lawful ν.order) (n : ℕ) (tells : Tells (λ x
   sorting_start h = record { held = h; written = []; rest = refl; many = refl; buffer = sym (over_none before); same = refl }
 
   module _ (left : List Bool) (now : List ℕ) (k : ℕ) (long : length m ≡ 256) (s : Sorting ν n m before left now k) where
-    pub sorting-end : Least ν left 256 Nothing → Filled (sort ν (picked 0 m)) k before now
+    pub sorting-end : Least ν left 256 None → Filled (sort ν (picked 0 m)) k before now
     sorting-end l =
         let e : s.written ≡ sort ν (picked 0 m) = sym (ap (s.written ++◌) (sort-end ν law n tells left s.held l) ∙ append-nil s.written) ∙ s.rest in
         record { many = sym s.many ∙ ap length e; buffer = s.buffer ∙ ap (λ xs. over xs before) e }
 
-    module _ (x : ℕ) (l : Least ν left 256 (Of x)) where
+    module _ (x : ℕ) (l : Least ν left 256 (Some x)) where
       -- one name fewer is left
       pub sorting-less : length (sort ν (picked 0 (set left x false))) < length (sort ν (picked 0 left))
       sorting-less = let e = ap length (sort-next ν law n tells left s.held x l) in omega (arith, e)

@@ -1,6 +1,6 @@
 // The work on records that are known to hold a type, a set or bindings.
 // In prefix order every open name has a record of its own, so one pass over the records from b up to e finds them all, in their order.
-ghost use Rattle.std.specs.Prelude.{◌≡◌, true, ◌&&◌, List, [], ◌∷◌, ◌++◌, ℕ, ◌+◌, ◌-◌, ◌≤◌, ◌<◌, eqb, length, get_or};
+ghost use Rattle.std.specs.Prelude.{◌≡◌, List, [], ◌∷◌, ◌++◌, ℕ, ◌+◌, ◌-◌, ◌≤◌, ◌<◌, eqb, length, get_or, option_to_list};
 ghost use Rattle.rules.specs.Base.{any, isNil};
 ghost use Rattle.rules.specs.Trees.{Ty, size};
 ghost use Rattle.rules.specs.Names.{Bytes, numbered};
@@ -11,10 +11,10 @@ ghost use Rattle.names.specs.Told.{toldOrder};
 ghost use Rattle.records.specs.Views.{viewAt};
 ghost use Rattle.records.specs.Holds.{openOf, atomOf, Holds};
 ghost use Rattle.records.specs.Good.{numbers};
-ghost use Rattle.queries.specs.Scans.{toldOpens, toldName, opensAtom, opensView, opensIn, choose};
-ghost use Rattle.queries.specs.Marks.{Marks, Small, disjoint, picked, Held, HeldName, Least, Filled, firstBy, first_of};
+ghost use Rattle.queries.specs.Scans.{toldOpens, opensAtom, opensView, opensIn, choose};
+ghost use Rattle.queries.specs.Marks.{Marks, Small, disjoint, picked, Held, HeldName, Least, Filled, sooner};
 
-use super::{Kind, Name, Opens};
+use super::Kind;
 use names::inner::order;
 use records::inner::put;
 use records::seen::{length_at, view_at};
@@ -22,62 +22,51 @@ use records::{Atom, Open, View};
 use rules::NAMES;
 use std::cmp::Ordering;
 
-fn atom_opens(a: Atom) -> Opens
+fn atom_opens(a: Atom) -> Option<Open>
     ensures { toldOpens result ≡ opensAtom (atomOf a) }
 {
     match a {
-        Atom::Free(o) => Opens::One(o),
-        Atom::Base(_) => Opens::Nothing,
+        Atom::Free(o) => Some(o),
+        Atom::Base(_) => None,
     }
 }
 
 // The open name of the record at a place: a type's or a factor's, or a binding's variable.
-fn opens_at(s: &[u32], i: usize) -> Opens
+fn opens_at(s: &[u32], i: usize) -> Option<Open>
     ensures { toldOpens result ≡ opensView (viewAt s.now i) }
 {
     match view_at(s, i) {
-        View::Opened(o) => Opens::One(o),
+        View::Opened(o) => Some(o),
         View::Factor(a, _, _) => atom_opens(a),
-        View::Binding(x) => Opens::One(Open::Var(x)),
-        _ => Opens::Nothing,
+        View::Binding(x) => Some(Open::Var(x)),
+        _ => None,
     }
 }
 
 // The name of an open name, if it is of that kind.
-fn chosen(k: Kind, o: Open) -> Name
-    ensures { toldName result ≡ choose k (openOf o ∷ []) }
+fn chosen(k: Kind, o: Open) -> Option<u32>
+    ensures { option_to_list result ≡ choose k (openOf o ∷ []) }
 {
     match o {
         Open::Var(x) => match k {
-            Kind::Variables => Name::Of(x),
-            Kind::Parameters => Name::Nothing,
-            Kind::Both => Name::Of(x),
+            Kind::Variables | Kind::Both => Some(x),
+            Kind::Parameters => None,
         },
-        Open::Quant(_) => Name::Nothing,
+        Open::Quant(_) => None,
         Open::Par(x) => match k {
-            Kind::Variables => Name::Nothing,
-            Kind::Parameters => Name::Of(x),
-            Kind::Both => Name::Of(x),
+            Kind::Parameters | Kind::Both => Some(x),
+            Kind::Variables => None,
         },
     }
 }
 
 // The name of that kind which the record at a place gives.
-pub fn name_at(s: &[u32], i: usize, k: Kind) -> Name
-    ensures { toldName result ≡ choose k (opensView (viewAt s.now i)) }
+pub fn name_at(s: &[u32], i: usize, k: Kind) -> Option<u32>
+    ensures { option_to_list result ≡ choose k (opensView (viewAt s.now i)) }
 {
     match opens_at(s, i) {
-        Opens::One(o) => chosen(k, o),
-        Opens::Nothing => Name::Nothing,
-    }
-}
-
-fn is_name(n: Name, x: u32) -> bool
-    ensures { result ≡ any (eqb x) (toldName n) }
-{
-    match n {
-        Name::Of(y) => x == y,
-        Name::Nothing => false,
+        Some(o) => chosen(k, o),
+        None => None,
     }
 }
 
@@ -85,12 +74,10 @@ fn is_name(n: Name, x: u32) -> bool
 pub fn occurs(s: &[u32], b: usize, e: usize, k: Kind, x: u32) -> bool
     ensures { result ≡ any (eqb x) (choose k (opensIn s.now b e)) }
 {
-    let mut i = b;
-    while i < e {
-        if is_name(name_at(s, i, k), x) {
+    for i in b..e {
+        if name_at(s, i, k) == Some(x) {
             return true;
         }
-        i += 1;
     }
     false
 }
@@ -99,30 +86,22 @@ pub fn occurs(s: &[u32], b: usize, e: usize, k: Kind, x: u32) -> bool
 pub fn none_open(s: &[u32], b: usize, e: usize) -> bool
     ensures { result ≡ isNil (opensIn s.now b e) }
 {
-    let mut i = b;
-    while i < e {
-        let Opens::Nothing = opens_at(s, i) else {
+    for i in b..e {
+        if opens_at(s, i).is_some() {
             return false;
-        };
-        i += 1;
+        }
     }
     true
 }
 
-fn wide(x: u32) -> usize
-    ensures { result ≡ x }
-{
-    x as usize
-}
-
 // Marks a name, if there is one.
-pub fn mark(m: &mut [bool; NAMES], n: Name)
-    ensures { (xs : List ℕ) → Marks m.old xs → Marks m.new (xs ++ toldName n) }
+pub fn mark(m: &mut [bool; NAMES], n: Option<u32>)
+    ensures { (xs : List ℕ) → Marks m.old xs → Marks m.new (xs ++ option_to_list n) }
 {
-    let Name::Of(x) = n else {
+    let Some(x) = n else {
         return;
     };
-    let i = wide(x);
+    let i = x as usize;
     if i < NAMES {
         m[i] = true;
     }
@@ -132,17 +111,9 @@ pub fn mark(m: &mut [bool; NAMES], n: Name)
 pub fn marks(s: &[u32], b: usize, e: usize, k: Kind, m: &mut [bool; NAMES])
     ensures { (xs : List ℕ) → Marks m.old xs → Marks m.new (xs ++ choose k (opensIn s.now b e)) }
 {
-    let mut i = b;
-    while i < e {
+    for i in b..e {
         mark(m, name_at(s, i, k));
-        i += 1;
     }
-}
-
-fn both(a: bool, b: bool) -> bool
-    ensures { result ≡ (a && b) }
-{
-    if a { b } else { false }
 }
 
 // Is no name marked in both?
@@ -151,12 +122,10 @@ pub fn is_disjoint(v: &[bool; NAMES], p: &[bool; NAMES]) -> bool
     requires p_len { length p.now ≡ 256 }
     ensures { result ≡ disjoint v.now p.now }
 {
-    let mut i = 0;
-    while i < NAMES {
-        if both(v[i], p[i]) {
+    for i in 0..NAMES {
+        if v[i] && p[i] {
             return false;
         }
-        i += 1;
     }
     true
 }
@@ -207,44 +176,33 @@ pub fn closed_at(s: &[u32], at: usize) -> bool
     none_open(s, at, end_of(s, at))
 }
 
-fn earlier(o: Ordering, x: u32, y: u32) -> Name
-    ensures { result ≡ firstBy (toldOrder o) x y }
-{
-    match o {
-        Ordering::Less => Name::Of(x),
-        Ordering::Equal => Name::Of(y),
-        Ordering::Greater => Name::Of(y),
-    }
-}
-
-// The first by name bytes of the best so far and x, where x is marked.
-fn first_of(pool: &[u8], table: &[u32], marked: bool, best: Name, x: u32) -> Name
+// The first by name bytes of the best name so far and x.
+fn sooner(pool: &[u8], table: &[u32], best: Option<u32>, x: u32) -> Option<u32>
     requires good { Good pool.now table.now }
     requires held_name { HeldName (get_or table.now 0 0) best }
-    requires x_bound { marked ≡ true → x < get_or table.now 0 0 }
-    ensures { result ≡ first_of (numbers pool.now table.now) marked best x }
+    requires x_held { x < get_or table.now 0 0 }
+    ensures { result ≡ sooner (numbers pool.now table.now) best x }
 {
-    if marked {
-        match best {
-            Name::Of(y) => earlier(order(pool, table, x, y), x, y),
-            Name::Nothing => Name::Of(x),
-        }
-    } else {
-        best
+    let Some(y) = best else {
+        return Some(x);
+    };
+    match order(pool, table, x, y) {
+        Ordering::Less => Some(x),
+        Ordering::Equal | Ordering::Greater => Some(y),
     }
 }
 
 // The first by name bytes of the marked names.
-fn least(pool: &[u8], table: &[u32], m: &[bool; NAMES]) -> Name
+fn least(pool: &[u8], table: &[u32], m: &[bool; NAMES]) -> Option<u32>
     requires good { Good pool.now table.now }
     requires held { Held (get_or table.now 0 0) m.now }
     ensures { Least (numbers pool.now table.now) m.now 256 result }
 {
-    let mut best = Name::Nothing;
-    let mut i = 0;
-    while i < NAMES {
-        best = first_of(pool, table, m[i], best, i as u32);
-        i += 1;
+    let mut best = None;
+    for i in 0..NAMES {
+        if m[i] {
+            best = sooner(pool, table, best, i as u32);
+        }
     }
     best
 }
@@ -258,15 +216,12 @@ pub fn sort_names(pool: &[u8], table: &[u32], m: [bool; NAMES], out: &mut [u32])
 {
     let mut left = m;
     let mut k = 0;
-    loop {
-        let Name::Of(x) = least(pool, table, &left) else {
-            return k;
-        };
-        let i = wide(x);
-        left[i] = false;
+    while let Some(x) = least(pool, table, &left) {
+        left[x as usize] = false;
         put(out, k, x);
         k += 1;
     }
+    k
 }
 
 // Writes the names of that kind, sorted by name bytes, once each, and says how many.

@@ -1,10 +1,10 @@
 -- The walkers of products, constraints, bindings and bounds step by step, and parts one after another.
+use Rattle.std.specs.Prelude.{Option, Some, None}
 use mathlib.Core.Path.{◌≡◌, refl, sym, ap, subst, ◌∙◌}
 use mathlib.Core.Bool.{Bool, true, false, ◌&&◌}
 use mathlib.Core.List.{List, [], ◌∷◌}
 use Prim.Native.Nat.{ℕ, suc, ◌+◌, ◌≤◌, ◌<◌}
 use native.Mathlib.Omega.{arith}
-use types.Run.{miss}
 use lib.ListN.{length}
 use Rattle.rules.specs.Trees as tree
 use Rattle.rules.specs.Trees.{Ty, Con, equal, isDim, is_scalar, hasField, Binding, ◌≔◌, size, sizeCon, sizeBinding, depthCon, depthBinding}
@@ -18,31 +18,29 @@ use Rattle.records.specs.Good.{Ends, holding, goodOpen, goodTy, goodCon, GoodDim
 use Rattle.records.specs.declared.Open as names
 use Rattle.records.specs.declared.View.{View}
 use Rattle.records.specs.declared.View.TheVariants as view
-use Rattle.records.specs.declared.inner.Ended.{Ended}
-use Rattle.records.specs.declared.inner.Ended.TheVariants.{At, Bad}
-use Rattle.records.proofs.Walks.{false-true, both, Tagged, open-there}
+use Rattle.records.proofs.Walks.{false-true, both, open-there}
 
 module _ (pool table : List ℕ) (q : ℕ) (s : List ℕ) where
   module _ (at : ℕ) where
     -- ══ A product ══
 
-    pub product-dim : (n : ℕ) → viewAt s at ≡ view.Dim n → (r : Ended) → Ends (GoodDim pool table q s (at + 1) n) r → Ends (PartsProduct pool table q s at) r
-    product-dim n v (At e) (p, g) = (p, record { shows = rw g.many v; held = g.held; past = omega (arith, g.many, g.past); good = g.good })
-    product-dim n v Bad bad = λ p e g.
+    pub product-dim : (n : ℕ) → viewAt s at ≡ view.Dim n → (r : Option ℕ) → Ends (GoodDim pool table q s (at + 1) n) r → Ends (PartsProduct pool table q s at) r
+    product-dim n v (Some e) (p, g) = (p, record { shows = rw g.many v; held = g.held; past = omega (arith, g.many, g.past); good = g.good })
+    product-dim n v None bad = λ p e g.
         let i : view.Dim (length p) ≡ view.Dim n = sym g.shows ∙ v in
         let j : length p ≡ n = cc in
         bad p (at + 1 + n) (record { held = g.held; many = j; past = refl; good = g.good })
 
-    pub product-other : ((n : ℕ) → viewAt s at ≡ view.Dim n → ⊥) → Ends (PartsProduct pool table q s at) Bad
+    pub product-other : ((n : ℕ) → viewAt s at ≡ view.Dim n → ⊥) → Ends (PartsProduct pool table q s at) None
     product-other f p e g = f (length p) g.shows
 
     -- ══ Two types ══
 
-    pub two-fail : Ends (GoodTy pool table q s 64 at) Bad → Ends (GoodTwo pool table q s at) Bad
+    pub two-fail : Ends (GoodTy pool table q s 64 at) None → Ends (GoodTwo pool table q s at) None
     two-fail bad (l, r) e g = bad l (at + size l) (record { held = g.left; past = refl; deep = g.deepLeft; good = g.goodLeft })
 
-    pub two-step : (m : ℕ) → Ends (GoodTy pool table q s 64 at) (At m) → (r : Ended) → Ends (GoodTy pool table q s 64 m) r → Ends (GoodTwo pool table q s at) r
-    two-step m (l, f) (At e) (r, g) = (
+    pub two-step : (m : ℕ) → Ends (GoodTy pool table q s 64 at) (Some m) → (r : Option ℕ) → Ends (GoodTy pool table q s 64 m) r → Ends (GoodTwo pool table q s at) r
+    two-step m (l, f) (Some e) (r, g) = (
       (l, r),
       record {
         left = f.held;
@@ -54,7 +52,7 @@ module _ (pool table : List ℕ) (q : ℕ) (s : List ℕ) where
         goodRight = g.good;
       },
     )
-    two-step m (l, f) Bad bad = λ two e g.
+    two-step m (l, f) None bad = λ two e g.
         let i : size two.0 ≡ size l = ap size (only s two.0 l at g.left f.held) in
         let k : at + size two.0 ≡ m = omega (arith, f.past) in
         bad two.1 (m + size two.1) (record { held = subst (Holds s two.1) k g.right; past = refl; deep = g.deepRight; good = g.goodRight })
@@ -64,12 +62,12 @@ module _ (pool table : List ℕ) (q : ℕ) (s : List ℕ) where
     abbrev NoCon : Con ℕ → Type 0
     NoCon c = depthCon c ≤ 64 → goodCon pool table q c ≡ true → ⊥
 
-    con-none : {v : View} → viewAt s at ≡ v → ArmsCon s NoCon at v → Ends (PartsCon pool table q s at) Bad
+    con-none : {v : View} → viewAt s at ≡ v → ArmsCon s NoCon at v → Ends (PartsCon pool table q s at) None
     con-none w a c e g = con-by-body s NoCon c at g.held w a g.deep g.good
 
-    pub con-equal : viewAt s at ≡ view.Equal → (r : Ended) → Ends (GoodTwo pool table q s (at + 1)) r → Ends (PartsCon pool table q s at) r
+    pub con-equal : viewAt s at ≡ view.Equal → (r : Option ℕ) → Ends (GoodTwo pool table q s (at + 1)) r → Ends (PartsCon pool table q s at) r
     unfolding BodyCon sizeCon depthCon rules.goodCon
-    con-equal v (At e) ((l, r), g) = (
+    con-equal v (Some e) ((l, r), g) = (
       equal l r,
       record {
         held = (v, g.left, g.right);
@@ -78,7 +76,7 @@ module _ (pool table : List ℕ) (q : ℕ) (s : List ℕ) where
         good = both (goodTy pool table q l) (goodTy pool table q r) g.goodLeft g.goodRight;
       },
     )
-    con-equal v Bad bad = con-none v (λ l r h i k g. bad (l, r) (at + 1 + (size l + size r)) (record {
+    con-equal v None bad = con-none v (λ l r h i k g. bad (l, r) (at + 1 + (size l + size r)) (record {
       left = h;
       right = i;
       past = refl;
@@ -88,27 +86,27 @@ module _ (pool table : List ℕ) (q : ℕ) (s : List ℕ) where
       goodRight = both_right (goodTy pool table q l) (goodTy pool table q r) g;
     }))
 
-    pub con-dim : viewAt s at ≡ view.IsDim → (r : Ended) → Ends (GoodTy pool table q s 64 (at + 1)) r → Ends (PartsCon pool table q s at) r
+    pub con-dim : viewAt s at ≡ view.IsDim → (r : Option ℕ) → Ends (GoodTy pool table q s 64 (at + 1)) r → Ends (PartsCon pool table q s at) r
     unfolding BodyCon sizeCon depthCon rules.goodCon
-    con-dim v (At e) (t, g) = (isDim t, record { held = (v, g.held); past = omega (arith, g.past); deep = g.deep; good = g.good })
-    con-dim v Bad bad = con-none v (λ t h k g. bad t (at + 1 + size t) (record { held = h; past = refl; deep = k; good = g }))
+    con-dim v (Some e) (t, g) = (isDim t, record { held = (v, g.held); past = omega (arith, g.past); deep = g.deep; good = g.good })
+    con-dim v None bad = con-none v (λ t h k g. bad t (at + 1 + size t) (record { held = h; past = refl; deep = k; good = g }))
 
-    pub con-scalar : viewAt s at ≡ view.IsScalar → (r : Ended) → Ends (GoodProduct pool table q s (at + 1)) r → Ends (PartsCon pool table q s at) r
+    pub con-scalar : viewAt s at ≡ view.IsScalar → (r : Option ℕ) → Ends (GoodProduct pool table q s (at + 1)) r → Ends (PartsCon pool table q s at) r
     unfolding BodyCon sizeCon size depthCon rules.goodCon
-    con-scalar v (At e) (p, g) = (is_scalar p, record { held = (v, g.held); past = omega (arith, g.past); deep = omega arith; good = g.good })
-    con-scalar v Bad bad = con-none v (λ p h k g. bad p (at + 1 + suc (length p)) (record { held = h; past = refl; good = g }))
+    con-scalar v (Some e) (p, g) = (is_scalar p, record { held = (v, g.held); past = omega (arith, g.past); deep = omega arith; good = g.good })
+    con-scalar v None bad = con-none v (λ p h k g. bad p (at + 1 + suc (length p)) (record { held = h; past = refl; good = g }))
 
     module _ (x : ℕ) (v : viewAt s at ≡ view.HasField x) where
-      pub con-field-name : holding pool table x ≡ false → Ends (PartsCon pool table q s at) Bad
+      pub con-field-name : holding pool table x ≡ false → Ends (PartsCon pool table q s at) None
       unfolding rules.goodCon
       con-field-name t = con-none v (λ l r h i k g.
           let H : Bool = holding pool table x in
           let L : Bool = goodTy pool table q l in
           false-true (sym t ∙ both_left H L (both_left (H && L) (goodTy pool table q r) g)))
 
-      pub con-field : holding pool table x ≡ true → (r : Ended) → Ends (GoodTwo pool table q s (at + 1)) r → Ends (PartsCon pool table q s at) r
+      pub con-field : holding pool table x ≡ true → (r : Option ℕ) → Ends (GoodTwo pool table q s (at + 1)) r → Ends (PartsCon pool table q s at) r
       unfolding BodyCon sizeCon depthCon rules.goodCon
-      con-field t (At e) ((l, r), g) =
+      con-field t (Some e) ((l, r), g) =
           let H : Bool = holding pool table x in
           let L : Bool = goodTy pool table q l in (
             hasField x l r,
@@ -119,7 +117,7 @@ module _ (pool table : List ℕ) (q : ℕ) (s : List ℕ) where
               good = both (H && L) (goodTy pool table q r) (both H L t g.goodLeft) g.goodRight;
             },
           )
-      con-field t Bad bad = con-none v (λ l r h i k g.
+      con-field t None bad = con-none v (λ l r h i k g.
           let H : Bool = holding pool table x in
           let L : Bool = goodTy pool table q l in
           bad (l, r) (at + 1 + (size l + size r)) (record {
@@ -133,34 +131,33 @@ module _ (pool table : List ℕ) (q : ℕ) (s : List ℕ) where
           }))
 
     -- the views of the kinds that begin no constraint
-    abbrev noCons : List ℕ
-    noCons = 0 ∷ 1 ∷ 2 ∷ 3 ∷ 4 ∷ 5 ∷ 6 ∷ 7 ∷ 12 ∷ 13 ∷ 14 ∷ 15 ∷ 16 ∷ []
+    -- no kind of constraint
+    module _ (v : View) (equal' : v ≡ view.Equal → ⊥) (dim : v ≡ view.IsDim → ⊥) (scalar : v ≡ view.IsScalar → ⊥) (field : (x : ℕ) → v ≡ view.HasField x → ⊥) where
+      con-others : (u : View) → v ≡ u → ArmsCon s NoCon at u
+      con-others (view.Opened o) e = tt
+      con-others (view.Basic b) e = tt
+      con-others (view.Dim n) e = tt
+      con-others (view.Function n) e = tt
+      con-others (view.Struct x n m) e = tt
+      con-others view.List e = tt
+      con-others (view.Field x) e = tt
+      con-others (view.Factor f n m) e = tt
+      con-others view.Equal e = absurd (equal' e)
+      con-others view.IsDim e = absurd (dim e)
+      con-others view.IsScalar e = absurd (scalar e)
+      con-others (view.HasField x) e = absurd (field x e)
+      con-others (view.Binding x) e = tt
+      con-others (view.Bound o) e = tt
+      con-others (view.Scheme n) e = tt
+      con-others view.Concrete e = tt
+      con-others view.Bad e = tt
 
-    con-others : (v : View) → Tagged noCons v → ArmsCon s NoCon at v
-    con-others (view.Opened o) k = tt
-    con-others (view.Basic b) k = tt
-    con-others (view.Dim n) k = tt
-    con-others (view.Function n) k = tt
-    con-others (view.Struct x n m) k = tt
-    con-others view.List k = tt
-    con-others (view.Field x) k = tt
-    con-others (view.Factor f n m) k = tt
-    con-others view.Equal k = absurd (miss noCons 8 tt k)
-    con-others view.IsDim k = absurd (miss noCons 9 tt k)
-    con-others view.IsScalar k = absurd (miss noCons 10 tt k)
-    con-others (view.HasField x) k = absurd (miss noCons 11 tt k)
-    con-others (view.Binding x) k = tt
-    con-others (view.Bound o) k = tt
-    con-others (view.Scheme n) k = tt
-    con-others view.Concrete k = tt
-    con-others view.Bad k = tt
-
-    pub con-other : (v : View) → viewAt s at ≡ v → Tagged noCons v → Ends (PartsCon pool table q s at) Bad
-    con-other v e k = con-none e (con-others v k)
+      pub con-other : viewAt s at ≡ v → Ends (PartsCon pool table q s at) None
+      con-other e = con-none e (con-others v refl)
 
     -- ══ A binding, and a bound ══
 
-    pub binding-other : ((x : ℕ) → viewAt s at ≡ view.Binding x → ⊥) → Ends (PartsBinding pool table q s at) Bad
+    pub binding-other : ((x : ℕ) → viewAt s at ≡ view.Binding x → ⊥) → Ends (PartsBinding pool table q s at) None
     unfolding BodyBinding
     binding-other f (x ≔ t) e g = f x g.held.0
 
@@ -168,27 +165,27 @@ module _ (pool table : List ℕ) (q : ℕ) (s : List ℕ) where
       same_name : (y : ℕ) → viewAt s at ≡ view.Binding y → y ≡ x
       same_name y w = let i : view.Binding y ≡ view.Binding x = sym w ∙ v in cc
 
-      pub binding-name : holding pool table x ≡ false → Ends (PartsBinding pool table q s at) Bad
+      pub binding-name : holding pool table x ≡ false → Ends (PartsBinding pool table q s at) None
       unfolding BodyBinding rules.goodBinding
       binding-name t (y ≔ u) e g = false-true (sym t ∙ subst (λ (w : ℕ). holding pool table w ≡ true) (same_name y g.held.0) (both_left (holding pool table y) (goodTy pool table q u) g.good))
 
-      binding-none : ((t : Ty ℕ) (e : ℕ) → GoodTy pool table q s 64 (at + 1) t e → ⊥) → Ends (PartsBinding pool table q s at) Bad
+      binding-none : ((t : Ty ℕ) (e : ℕ) → GoodTy pool table q s 64 (at + 1) t e → ⊥) → Ends (PartsBinding pool table q s at) None
       unfolding BodyBinding depthBinding rules.goodBinding
       binding-none bad (y ≔ u) e g = bad u (at + 1 + size u) (record { held = g.held.1; past = refl; deep = g.deep; good = both_right (holding pool table y) (goodTy pool table q u) g.good })
 
-      pub binding-type : holding pool table x ≡ true → (r : Ended) → Ends (GoodTy pool table q s 64 (at + 1)) r → Ends (PartsBinding pool table q s at) r
+      pub binding-type : holding pool table x ≡ true → (r : Option ℕ) → Ends (GoodTy pool table q s 64 (at + 1)) r → Ends (PartsBinding pool table q s at) r
       unfolding BodyBinding sizeBinding depthBinding rules.goodBinding
-      binding-type t (At e) (u, g) = (x ≔ u, record { held = (v, g.held); past = omega (arith, g.past); deep = g.deep; good = both (holding pool table x) (goodTy pool table q u) t g.good })
-      binding-type t Bad bad = binding-none bad
+      binding-type t (Some e) (u, g) = (x ≔ u, record { held = (v, g.held); past = omega (arith, g.past); deep = g.deep; good = both (holding pool table x) (goodTy pool table q u) t g.good })
+      binding-type t None bad = binding-none bad
 
-    pub bound-other : ((o : names.Open) → viewAt s at ≡ view.Bound o → ⊥) → Ends (PartsBound pool table q s at) Bad
+    pub bound-other : ((o : names.Open) → viewAt s at ≡ view.Bound o → ⊥) → Ends (PartsBound pool table q s at) None
     bound-other f o e g = f (viewOpen o) g.held
 
     module _ (o : names.Open) (v : viewAt s at ≡ view.Bound o) where
-      pub bound-good : goodOpen pool table q (openOf o) ≡ true → Ends (PartsBound pool table q s at) (At (at + 1))
+      pub bound-good : goodOpen pool table q (openOf o) ≡ true → Ends (PartsBound pool table q s at) (Some (at + 1))
       bound-good t = (openOf o, record { held = rw (open-there o) v; past = refl; good = t })
 
-      pub bound-fail : goodOpen pool table q (openOf o) ≡ false → Ends (PartsBound pool table q s at) Bad
+      pub bound-fail : goodOpen pool table q (openOf o) ≡ false → Ends (PartsBound pool table q s at) None
       bound-fail t p e g =
           let i : view.Bound (viewOpen p) ≡ view.Bound (viewOpen (openOf o)) = sym g.held ∙ rw (open-there o) v in
           let j : viewOpen p ≡ viewOpen (openOf o) = cc in
@@ -201,7 +198,7 @@ module _ {A : Type 0} (P : ℕ → A → ℕ → Type 0) (n at : ℕ) where
   pub chain-done : n ≤ at → at ≤ n → Chained P n at true
   chain-done h k = ([], omega arith)
 
-  pub chain-fail : at < n → Ends (P at) Bad → Chained P n at false
+  pub chain-fail : at < n → Ends (P at) None → Chained P n at false
   chain-fail h bad [] c = omega arith
   chain-fail h bad (a ∷ as') c = bad a c.0 c.1.0
 
@@ -210,7 +207,7 @@ module _ {A : Type 0} (P : ℕ → A → ℕ → Type 0) (n at : ℕ) where
     chain-none m a p h bad [] c = omega arith
     chain-none m a p h bad (b ∷ bs) c = bad bs (subst (Chain P n bs) (one b a c.0 m c.1.0 p) c.1.1)
 
-    pub chain-step : (m : ℕ) → at < n → Ends (P at) (At m) → (b : Bool) → Chained P n m b → Chained P n at b
+    pub chain-step : (m : ℕ) → at < n → Ends (P at) (Some m) → (b : Bool) → Chained P n m b → Chained P n at b
     chain-step m h (a, p) true (as', c) = (a ∷ as', (m, (p, c)))
     chain-step m h (a, p) false bad = chain-none m a p h bad
 

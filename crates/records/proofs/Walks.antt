@@ -1,14 +1,12 @@
 -- The walkers step by step: what a part that is well formed at a place has, and what shows that there is none.
+use Rattle.std.specs.Prelude.{Option, Some, None}
 use mathlib.Core.Path.{◌≡◌, refl, sym, ap, subst, ◌∙◌}
-use mathlib.Core.Bool.{Bool, true, false, not, ◌&&◌}
+use mathlib.Core.Bool.{Bool, true, false, ◌&&◌}
 use mathlib.Core.List.{List, [], ◌∷◌, map}
 use Prim.Native.Nat.{ℕ, suc, ◌+◌, ◌-◌, ◌≤◌, ◌<◌}
 use native.Mathlib.Omega.{arith}
 use borrow.Author.Tests.{ltb-true, le-leb, leb-true, eqb-true, eqb-false, eq-eqb, ne_eqb}
-use denote.Enum.Declared
-use types.Run.{OneOf, miss}
-use lib.Dec.{T, leb, eqb}
-use mir.Val.{has_key}
+use lib.Dec.{leb, eqb}
 use lib.ListN.{length, get_or}
 use Rattle.rules.specs.Base.{all}
 use Rattle.rules.specs.Exponents.{Exp, frac, goodStored}
@@ -30,11 +28,6 @@ use Rattle.records.specs.declared.Open as names
 use Rattle.records.specs.declared.Basic as basics
 use Rattle.records.specs.declared.View.{View}
 use Rattle.records.specs.declared.View.TheVariants as view
-use Rattle.records.specs.declared.inner.Ended.{Ended}
-use Rattle.records.specs.declared.inner.Ended.TheVariants.{At, Bad}
-use Rattle.records.specs.declared.inner.Before as before
-use Rattle.records.specs.declared.inner.Left as left
-use Rattle.records.specs.contracts.View as views
 
 -- ══ Tests ══
 
@@ -78,16 +71,6 @@ basic-there basics.TheVariants.Boolean = refl
 basic-there basics.TheVariants.Text = refl
 basic-there basics.TheVariants.Datetime = refl
 
--- ══ The other arms of a match on a view ══
-
--- the view has one of these tags
-abbrev pub Tagged : List ℕ → View → Type 0
-Tagged ks v = OneOf ks (Declared.tag_of views.the_type v)
-
--- so it isn't w, which has another
-pub untagged : (v : View) (ks : List ℕ) (n : ℕ) → T (not (has_key ks n)) → Tagged ks v → (w : View) → OneOf (n ∷ []) (Declared.tag_of views.the_type w) → v ≡ w → ⊥
-untagged v ks n m k w o e = miss ks n m (subst (OneOf ks) o (subst (Tagged ks) e k))
-
 -- ══ Names ══
 
 module _ (pool table : List ℕ) where
@@ -107,25 +90,25 @@ module _ (pool table : List ℕ) where
   held-name x e = ltb-true x (get_or table 0 0) e
 
   -- one step of a rising list
-  rises-name : (b : before.Before) (x : ℕ) (xs : List ℕ) → risingFrom pool table b (x ∷ xs) ≡ (follows pool table b x && risingFrom pool table (before.TheVariants.Name x) xs)
+  rises-name : (b : Option ℕ) (x : ℕ) (xs : List ℕ) → risingFrom pool table b (x ∷ xs) ≡ (follows pool table b x && risingFrom pool table (Some x) xs)
   unfolding rising
-  rises-name before.TheVariants.Start x xs = refl
-  rises-name (before.TheVariants.Name y) x xs = refl
+  rises-name None x xs = refl
+  rises-name (Some y) x xs = refl
 
-  rises-atom : (l : left.Left) (a : atoms.Atom) (as' : List (tree.Atom ℕ)) → atomsFrom pool table l (atomOf a ∷ as') ≡ (atomFollows pool table l (atomOf a) && atomsFrom pool table (left.TheVariants.Atom a) as')
+  rises-atom : (l : Option atoms.Atom) (a : atoms.Atom) (as' : List (tree.Atom ℕ)) → atomsFrom pool table l (atomOf a ∷ as') ≡ (atomFollows pool table l (atomOf a) && atomsFrom pool table (Some a) as')
   unfolding rising
-  rises-atom left.TheVariants.Start a as' = refl
-  rises-atom (left.TheVariants.Atom b) a as' = refl
+  rises-atom None a as' = refl
+  rises-atom (Some b) a as' = refl
 
-  no_names : (b : before.Before) → risingFrom pool table b [] ≡ true
+  no_names : (b : Option ℕ) → risingFrom pool table b [] ≡ true
   unfolding rising
-  no_names before.TheVariants.Start = refl
-  no_names (before.TheVariants.Name y) = refl
+  no_names None = refl
+  no_names (Some y) = refl
 
-  no-atoms : (l : left.Left) → atomsFrom pool table l [] ≡ true
+  no-atoms : (l : Option atoms.Atom) → atomsFrom pool table l [] ≡ true
   unfolding rising
-  no-atoms left.TheVariants.Start = refl
-  no-atoms (left.TheVariants.Atom b) = refl
+  no-atoms None = refl
+  no-atoms (Some b) = refl
 
   factor-good : (q : ℕ) (a : tree.Atom ℕ) (e : Exp) → rules.goodFactor (numbers pool table) (holding pool table) q (a ↑ e) ≡ (goodAtom pool table q a && goodStored e)
   unfolding rules.goodFactor
@@ -138,15 +121,15 @@ module _ (pool table : List ℕ) where
     factor-long : (f : Factor ℕ) (at : ℕ) → HoldsFactor s f at → Long s at 1
     factor-long (a ↑ frac n d) at h = h.2
 
-    module _ (at n : ℕ) (l : left.Left) where
-      abbrev Factors : Ended → Type 0
+    module _ (at n : ℕ) (l : Option atoms.Atom) where
+      abbrev Factors : Option ℕ → Type 0
       Factors r = Ends (GoodFactors pool table q s at n l) r
 
-      pub factors-none : n ≡ 0 → Factors (At at)
+      pub factors-none : n ≡ 0 → Factors (Some at)
       unfolding HoldsFactors all
       factors-none e = ([], record { held = tt; many = sym e; past = omega arith; good = refl; rises = no-atoms l })
 
-      pub factors-other : ((n ≡ 0) → ⊥) → ((a : atoms.Atom) (m d : ℕ) → viewAt s at ≡ view.Factor a m d → ⊥) → Factors Bad
+      pub factors-other : ((n ≡ 0) → ⊥) → ((a : atoms.Atom) (m d : ℕ) → viewAt s at ≡ view.Factor a m d → ⊥) → Factors None
       unfolding HoldsFactors
       factors-other z f [] e g = z (sym g.many)
       factors-other z f (a ↑ frac m d ∷ p) e g = f (viewAtom a) (twos m) d g.held.0.0
@@ -175,7 +158,7 @@ module _ (pool table : List ℕ) where
 
         record Apart (p : Product ℕ) (e : ℕ) : Type 0 where
           test : Test ≡ true
-          rest : GoodFactors pool table q s (at + 1) (n - 1) (left.TheVariants.Atom a) p e
+          rest : GoodFactors pool table q s (at + 1) (n - 1) (Some a) p e
 
         apart : (f : Factor ℕ) (p : Product ℕ) (e : ℕ) → GoodFactors pool table q s at n l (f ∷ p) e → Apart p e
         unfolding HoldsFactors all
@@ -186,7 +169,7 @@ module _ (pool table : List ℕ) where
             let k : (G x && goodFactors pool table q p) ≡ true = subst (λ (y : Factor ℕ). (G y && goodFactors pool table q p) ≡ true) i g.good in
             let u : (A && S) ≡ true = sym (factor-good q (atomOf a) (frac (signed num) den)) ∙ both_left (G x) (goodFactors pool table q p) k in
             let w : atomsFrom pool table l (atomOf a ∷ map rules.atomOf p) ≡ true = subst (λ (y : Factor ℕ). atomsFrom pool table l (rules.atomOf y ∷ map rules.atomOf p) ≡ true) i g.rises in
-            let R : Bool = atomsFrom pool table (left.TheVariants.Atom a) (map rules.atomOf p) in
+            let R : Bool = atomsFrom pool table (Some a) (map rules.atomOf p) in
             let y : (F && R) ≡ true = sym (rises-atom l a (map rules.atomOf p)) ∙ w in
             let many : suc (length p) ≡ n = g.many in
             record {
@@ -194,20 +177,20 @@ module _ (pool table : List ℕ) where
               rest = record { held = g.held.1; many = omega arith; past = omega (arith, g.past); good = both_right (G x) (goodFactors pool table q p) k; rises = both_right F R y };
             }
 
-        pub factors-fail : Test ≡ false → Factors Bad
+        pub factors-fail : Test ≡ false → Factors None
         factors-fail t [] e g = z (sym g.many)
         factors-fail t (f ∷ p) e g = false-true (sym t ∙ (apart f p e g).test)
 
-        none_left : ((p : Product ℕ) (e : ℕ) → GoodFactors pool table q s (at + 1) (n - 1) (left.TheVariants.Atom a) p e → ⊥) → Factors Bad
+        none_left : ((p : Product ℕ) (e : ℕ) → GoodFactors pool table q s (at + 1) (n - 1) (Some a) p e → ⊥) → Factors None
         none_left bad [] e g = z (sym g.many)
         none_left bad (f ∷ p) e g = bad p e (apart f p e g).rest
 
-        pub factors-step : num < 4_294_967_296 → Test ≡ true → (r : Ended) → Ends (GoodFactors pool table q s (at + 1) (n - 1) (left.TheVariants.Atom a)) r → Factors r
+        pub factors-step : num < 4_294_967_296 → Test ≡ true → (r : Option ℕ) → Ends (GoodFactors pool table q s (at + 1) (n - 1) (Some a)) r → Factors r
         unfolding HoldsFactors all
-        factors-step w t (At e) (p, g) =
+        factors-step w t (Some e) (p, g) =
             let x : Factor ℕ = atomOf a ↑ frac (signed num) den in
             let G : Factor ℕ → Bool = rules.goodFactor (numbers pool table) (holding pool table) q in
-            let R : Bool = atomsFrom pool table (left.TheVariants.Atom a) (map rules.atomOf p) in
+            let R : Bool = atomsFrom pool table (Some a) (map rules.atomOf p) in
             let fine : Fine ≡ true = both_right L Fine t in
             let gx : G x ≡ true = factor-good q (atomOf a) (frac (signed num) den) ∙ both_left (A && S) F fine in (
               x ∷ p,
@@ -219,23 +202,23 @@ module _ (pool table : List ℕ) where
                 rises = rises-atom l a (map rules.atomOf p) ∙ both F R (both_right (A && S) F fine) g.rises;
               },
             )
-        factors-step w t Bad bad = none_left bad
+        factors-step w t None bad = none_left bad
 
     -- ══ A product ══
 
-    pub dim-many : (at n : ℕ) → 64 < n → Ends (GoodDim pool table q s at n) Bad
+    pub dim-many : (at n : ℕ) → 64 < n → Ends (GoodDim pool table q s at n) None
     unfolding rules.goodProduct
     dim-many at n h p e g =
         let k : leb (length p) 64 ≡ true = both_right (goodFactors pool table q p && rising (orderAtom (numbers pool table)) (map rules.atomOf p)) (leb (length p) 64) g.good in
         omega (arith, leb-true (length p) 64 k, g.many)
 
-    pub dim-few : (at n : ℕ) → n ≤ 64 → (r : Ended) → Ends (GoodFactors pool table q s at n left.TheVariants.Start) r → Ends (GoodDim pool table q s at n) r
+    pub dim-few : (at n : ℕ) → n ≤ 64 → (r : Option ℕ) → Ends (GoodFactors pool table q s at n None) r → Ends (GoodDim pool table q s at n) r
     unfolding rules.goodProduct
-    dim-few at n h (At e) (p, g) =
+    dim-few at n h (Some e) (p, g) =
         let R : Bool = rising (orderAtom (numbers pool table)) (map rules.atomOf p) in
         let k : length p ≤ 64 = omega (arith, g.many) in
         (p, record { held = g.held; many = g.many; past = g.past; good = both (goodFactors pool table q p && R) (leb (length p) 64) (both (goodFactors pool table q p) R g.good g.rises) (le-leb (length p) 64 k) })
-    dim-few at n h Bad bad = λ p e g.
+    dim-few at n h None bad = λ p e g.
         let R : Bool = rising (orderAtom (numbers pool table)) (map rules.atomOf p) in
         let k : (goodFactors pool table q p && R) ≡ true = both_left (goodFactors pool table q p && R) (leb (length p) 64) g.good in
         bad p e (record { held = g.held; many = g.many; past = g.past; good = both_left (goodFactors pool table q p) R k; rises = both_right (goodFactors pool table q p) R k })
@@ -243,21 +226,21 @@ module _ (pool table : List ℕ) where
     -- ══ Lists of types ══
 
     module _ (d at n : ℕ) where
-      abbrev Types : Ended → Type 0
+      abbrev Types : Option ℕ → Type 0
       Types r = Ends (GoodTys pool table q s d at n) r
 
-      pub types-none : n ≡ 0 → Types (At at)
+      pub types-none : n ≡ 0 → Types (Some at)
       unfolding Holds rules.goodTy sizeTys depthTys count
       types-none e = (nil, record { held = tt; many = sym e; past = omega arith; deep = omega arith; good = refl })
 
-      pub types-fail : ((n ≡ 0) → ⊥) → Ends (GoodTy pool table q s d at) Bad → Types Bad
+      pub types-fail : ((n ≡ 0) → ⊥) → Ends (GoodTy pool table q s d at) None → Types None
       unfolding Holds rules.goodTy sizeTys depthTys count
       types-fail z bad nil e g = z (sym g.many)
       types-fail z bad (cons t ts) e g =
           bad t (at + size t) (record { held = g.held.0; past = refl; deep = omega (arith, g.deep); good = both_left (goodTy pool table q t) (goodTys pool table q ts) g.good })
 
       -- what is left of a list whose first type is t
-      types-left : (m : ℕ) (t : Ty ℕ) → GoodTy pool table q s d at t m → ((n ≡ 0) → ⊥) → ((ts : Tys ℕ) (e : ℕ) → GoodTys pool table q s d m (n - 1) ts e → ⊥) → Types Bad
+      types-left : (m : ℕ) (t : Ty ℕ) → GoodTy pool table q s d at t m → ((n ≡ 0) → ⊥) → ((ts : Tys ℕ) (e : ℕ) → GoodTys pool table q s d m (n - 1) ts e → ⊥) → Types None
       unfolding Holds rules.goodTy sizeTys depthTys count
       types-left m t h z bad nil e g = z (sym g.many)
       types-left m t h z bad (cons u ts) e g =
@@ -272,9 +255,9 @@ module _ (pool table : List ℕ) where
             good = both_right (goodTy pool table q u) (goodTys pool table q ts) g.good;
           })
 
-      pub types-step : (m : ℕ) → ((n ≡ 0) → ⊥) → Ends (GoodTy pool table q s d at) (At m) → (r : Ended) → Ends (GoodTys pool table q s d m (n - 1)) r → Types r
+      pub types-step : (m : ℕ) → ((n ≡ 0) → ⊥) → Ends (GoodTy pool table q s d at) (Some m) → (r : Option ℕ) → Ends (GoodTys pool table q s d m (n - 1)) r → Types r
       unfolding Holds rules.goodTy sizeTys depthTys count
-      types-step m z (t, h) (At e) (ts, g) = (
+      types-step m z (t, h) (Some e) (ts, g) = (
         cons t ts,
         record {
           held = (h.held, subst (HoldsTys s ts) h.past g.held);
@@ -284,19 +267,19 @@ module _ (pool table : List ℕ) where
           good = both (goodTy pool table q t) (goodTys pool table q ts) h.good g.good;
         },
       )
-      types-step m z (t, h) Bad bad = types-left m t h z bad
+      types-step m z (t, h) None bad = types-left m t h z bad
 
     -- ══ Fields ══
 
-    module _ (d at n : ℕ) (b : before.Before) where
-      abbrev Fields' : Ended → Type 0
+    module _ (d at n : ℕ) (b : Option ℕ) where
+      abbrev Fields' : Option ℕ → Type 0
       Fields' r = Ends (GoodFields pool table q s d at n b) r
 
-      pub fields-none : n ≡ 0 → Fields' (At at)
+      pub fields-none : n ≡ 0 → Fields' (Some at)
       unfolding Holds rules.goodTy sizeFields depthFields countFields
       fields-none e = (noFields, record { held = tt; many = sym e; past = omega arith; deep = omega arith; good = refl; rises = no_names b })
 
-      pub fields-other : ((n ≡ 0) → ⊥) → ((x : ℕ) → viewAt s at ≡ view.Field x → ⊥) → Fields' Bad
+      pub fields-other : ((n ≡ 0) → ⊥) → ((x : ℕ) → viewAt s at ≡ view.Field x → ⊥) → Fields' None
       unfolding Holds countFields
       fields-other z f noFields e g = z (sym g.many)
       fields-other z f (field x t fs) e g = f x g.held.0
@@ -311,7 +294,7 @@ module _ (pool table : List ℕ) where
         record ApartField (t : Ty ℕ) (fs : Fields ℕ) (e : ℕ) : Type 0 where
           test : (H && W) ≡ true
           type : GoodField pool table q s d at t (at + 1 + size t)
-          rest : GoodFields pool table q s d (at + 1 + size t) (n - 1) (before.TheVariants.Name x) fs e
+          rest : GoodFields pool table q s d (at + 1 + size t) (n - 1) (Some x) fs e
 
         apart-field : (y : ℕ) (t : Ty ℕ) (fs : Fields ℕ) (e : ℕ) → GoodFields pool table q s d at n b (field y t fs) e → ApartField t fs e
         unfolding Holds rules.goodTy sizeFields depthFields countFields
@@ -320,7 +303,7 @@ module _ (pool table : List ℕ) where
             let j : y ≡ x = cc in
             let T' : Bool = goodTy pool table q t in
             let R : Bool = goodFields pool table q fs in
-            let S' : Bool = risingFrom pool table (before.TheVariants.Name x) (fieldNames fs) in
+            let S' : Bool = risingFrom pool table (Some x) (fieldNames fs) in
             let k : ((H && T') && R) ≡ true = subst (λ (w : ℕ). ((holding pool table w && T') && R) ≡ true) j g.good in
             let w : risingFrom pool table b (x ∷ fieldNames fs) ≡ true = subst (λ (w : ℕ). risingFrom pool table b (w ∷ fieldNames fs) ≡ true) j g.rises in
             let y : (W && S') ≡ true = sym (rises-name b x (fieldNames fs)) ∙ w in
@@ -339,31 +322,31 @@ module _ (pool table : List ℕ) where
               };
             }
 
-        pub fields-fail : (H && W) ≡ false → Fields' Bad
+        pub fields-fail : (H && W) ≡ false → Fields' None
         unfolding countFields
         fields-fail t noFields e g = z (sym g.many)
         fields-fail t (field y u fs) e g = false-true (sym t ∙ (apart-field y u fs e g).test)
 
-        pub fields-type : Ends (GoodField pool table q s d at) Bad → Fields' Bad
+        pub fields-type : Ends (GoodField pool table q s d at) None → Fields' None
         unfolding countFields
         fields-type bad noFields e g = z (sym g.many)
         fields-type bad (field y u fs) e g = bad u (at + 1 + size u) (apart-field y u fs e g).type
 
-        fields-left : (m : ℕ) (t : Ty ℕ) → GoodField pool table q s d at t m → ((fs : Fields ℕ) (e : ℕ) → GoodFields pool table q s d m (n - 1) (before.TheVariants.Name x) fs e → ⊥) → Fields' Bad
+        fields-left : (m : ℕ) (t : Ty ℕ) → GoodField pool table q s d at t m → ((fs : Fields ℕ) (e : ℕ) → GoodFields pool table q s d m (n - 1) (Some x) fs e → ⊥) → Fields' None
         unfolding countFields
         fields-left m t h bad noFields e g = z (sym g.many)
         fields-left m t h bad (field y u fs) e g =
             let a = apart-field y u fs e g in
             let i : size u ≡ size t = ap size (only s u t (at + 1) a.type.type.held h.type.held) in
             let k : at + 1 + size u ≡ m = omega (arith, h.type.past) in
-            bad fs e (subst (λ (w : ℕ). GoodFields pool table q s d w (n - 1) (before.TheVariants.Name x) fs e) k a.rest)
+            bad fs e (subst (λ (w : ℕ). GoodFields pool table q s d w (n - 1) (Some x) fs e) k a.rest)
 
-        pub fields-step : (m : ℕ) → (H && W) ≡ true → Ends (GoodField pool table q s d at) (At m) → (r : Ended) → Ends (GoodFields pool table q s d m (n - 1) (before.TheVariants.Name x)) r → Fields' r
+        pub fields-step : (m : ℕ) → (H && W) ≡ true → Ends (GoodField pool table q s d at) (Some m) → (r : Option ℕ) → Ends (GoodFields pool table q s d m (n - 1) (Some x)) r → Fields' r
         unfolding Holds rules.goodTy sizeFields depthFields countFields
-        fields-step m t (u, h) (At e) (fs, g) =
+        fields-step m t (u, h) (Some e) (fs, g) =
             let T' : Bool = goodTy pool table q u in
             let R : Bool = goodFields pool table q fs in
-            let S' : Bool = risingFrom pool table (before.TheVariants.Name x) (fieldNames fs) in (
+            let S' : Bool = risingFrom pool table (Some x) (fieldNames fs) in (
               field x u fs,
               record {
                 held = (v, h.type.held, subst (HoldsFields s fs) h.type.past g.held, h.long);
@@ -374,7 +357,7 @@ module _ (pool table : List ℕ) where
                 rises = rises-name b x (fieldNames fs) ∙ both W S' (both_right H W t) g.rises;
               },
             )
-        fields-step m t (u, h) Bad bad = fields-left m u h bad
+        fields-step m t (u, h) None bad = fields-left m u h bad
 
     -- ══ Types ══
 
@@ -388,58 +371,58 @@ module _ (pool table : List ℕ) where
     depth_pos (list t) = omega arith
 
     module _ (d at : ℕ) where
-      abbrev Type' : Ended → Type 0
+      abbrev Type' : Option ℕ → Type 0
       Type' r = Ends (PartsTy pool table q s d at) r
 
       -- no type that is held here is nested little enough and well formed
       abbrev No : Ty ℕ → Type 0
       No t = depth t ≤ d → goodTy pool table q t ≡ true → ⊥
 
-      type-none : {v : View} → viewAt s at ≡ v → Arms s No at v → Type' Bad
+      type-none : {v : View} → viewAt s at ≡ v → Arms s No at v → Type' None
       type-none w a t e g = by-body s No t at g.held w a g.deep g.good
 
-      pub type-shallow : d ≡ 0 → Type' Bad
+      pub type-shallow : d ≡ 0 → Type' None
       type-shallow z t e g = omega (arith, g.deep, depth_pos t)
 
       module _ (z : (d ≡ 0) → ⊥) where
-        pub type-open : (o : names.Open) → viewAt s at ≡ view.Opened o → goodOpen pool table q (openOf o) ≡ true → Type' (At (at + 1))
+        pub type-open : (o : names.Open) → viewAt s at ≡ view.Opened o → goodOpen pool table q (openOf o) ≡ true → Type' (Some (at + 1))
         unfolding Body size depth rules.goodTy
         type-open o v t = (opened (openOf o), record { held = rw (open-there o) v; past = refl; deep = omega arith; good = t })
 
-        pub type-open-fail : (o : names.Open) → viewAt s at ≡ view.Opened o → goodOpen pool table q (openOf o) ≡ false → Type' Bad
+        pub type-open-fail : (o : names.Open) → viewAt s at ≡ view.Opened o → goodOpen pool table q (openOf o) ≡ false → Type' None
         unfolding rules.goodTy
         type-open-fail o v t = type-none v (λ k g. false-true (sym t ∙ g))
 
-        pub type-basic : (b : basics.Basic) → viewAt s at ≡ view.Basic b → Type' (At (at + 1))
+        pub type-basic : (b : basics.Basic) → viewAt s at ≡ view.Basic b → Type' (Some (at + 1))
         unfolding Body size depth rules.goodTy
         type-basic b v = (basic (basicOf b), record { held = rw (basic-there b) v; past = refl; deep = omega arith; good = refl })
 
-        pub type-dim : (n : ℕ) → viewAt s at ≡ view.Dim n → (r : Ended) → Ends (GoodDim pool table q s (at + 1) n) r → Type' r
+        pub type-dim : (n : ℕ) → viewAt s at ≡ view.Dim n → (r : Option ℕ) → Ends (GoodDim pool table q s (at + 1) n) r → Type' r
         unfolding Body size depth rules.goodTy
-        type-dim n v (At e) (p, g) =
+        type-dim n v (Some e) (p, g) =
             (dim p, record { held = (rw g.many v, g.held); past = omega (arith, g.many, g.past); deep = omega arith; good = g.good })
-        type-dim n v Bad bad = type-none v (λ p m h k g. bad p (at + 1 + n) (record { held = h; many = m; past = refl; good = g }))
+        type-dim n v None bad = type-none v (λ p m h k g. bad p (at + 1 + n) (record { held = h; many = m; past = refl; good = g }))
 
-        pub type-list : viewAt s at ≡ view.List → (r : Ended) → Ends (GoodTy pool table q s (d - 1) (at + 1)) r → Type' r
+        pub type-list : viewAt s at ≡ view.List → (r : Option ℕ) → Ends (GoodTy pool table q s (d - 1) (at + 1)) r → Type' r
         unfolding Body size depth rules.goodTy
-        type-list v (At e) (t, g) = (list t, record { held = (v, g.held); past = omega (arith, g.past); deep = omega (arith, g.deep); good = g.good })
-        type-list v Bad bad = type-none v (λ t h k g. bad t (at + 1 + size t) (record { held = h; past = refl; deep = omega arith; good = g }))
+        type-list v (Some e) (t, g) = (list t, record { held = (v, g.held); past = omega (arith, g.past); deep = omega (arith, g.deep); good = g.good })
+        type-list v None bad = type-none v (λ t h k g. bad t (at + 1 + size t) (record { held = h; past = refl; deep = omega arith; good = g }))
 
-        pub type-fn-fail : (n : ℕ) → viewAt s at ≡ view.Function n → Ends (GoodTys pool table q s (d - 1) (at + 1) n) Bad → Type' Bad
+        pub type-fn-fail : (n : ℕ) → viewAt s at ≡ view.Function n → Ends (GoodTys pool table q s (d - 1) (at + 1) n) None → Type' None
         unfolding depth rules.goodTy
         type-fn-fail n v bad = type-none v (λ ps r m h i k g.
             bad ps (at + 1 + sizeTys ps) (record { held = h; many = m; past = refl; deep = omega arith; good = both_left (goodTys pool table q ps) (goodTy pool table q r) g }))
 
-        fn-left : (n m : ℕ) (ps : Tys ℕ) → viewAt s at ≡ view.Function n → GoodTys pool table q s (d - 1) (at + 1) n ps m → ((t : Ty ℕ) (e : ℕ) → GoodTy pool table q s (d - 1) m t e → ⊥) → Type' Bad
+        fn-left : (n m : ℕ) (ps : Tys ℕ) → viewAt s at ≡ view.Function n → GoodTys pool table q s (d - 1) (at + 1) n ps m → ((t : Ty ℕ) (e : ℕ) → GoodTy pool table q s (d - 1) m t e → ⊥) → Type' None
         unfolding depth rules.goodTy
         fn-left n m ps v f bad = type-none v (λ qs r c h i k g.
             let j : sizeTys qs ≡ sizeTys ps = ap sizeTys (only-tys s qs ps (at + 1) (c ∙ sym f.many) h f.held) in
             let l : at + 1 + sizeTys qs ≡ m = omega (arith, f.past) in
             bad r (m + size r) (record { held = subst (Holds s r) l i; past = refl; deep = omega arith; good = both_right (goodTys pool table q qs) (goodTy pool table q r) g }))
 
-        pub type-fn : (n m : ℕ) → viewAt s at ≡ view.Function n → Ends (GoodTys pool table q s (d - 1) (at + 1) n) (At m) → (r : Ended) → Ends (GoodTy pool table q s (d - 1) m) r → Type' r
+        pub type-fn : (n m : ℕ) → viewAt s at ≡ view.Function n → Ends (GoodTys pool table q s (d - 1) (at + 1) n) (Some m) → (r : Option ℕ) → Ends (GoodTy pool table q s (d - 1) m) r → Type' r
         unfolding Body size depth rules.goodTy
-        type-fn n m v (ps, f) (At e) (t, g) = (
+        type-fn n m v (ps, f) (Some e) (t, g) = (
           fn ps t,
           record {
             held = (rw f.many v, f.held, subst (Holds s t) f.past g.held);
@@ -448,7 +431,7 @@ module _ (pool table : List ℕ) where
             good = both (goodTys pool table q ps) (goodTy pool table q t) f.good g.good;
           },
         )
-        type-fn n m v (ps, f) Bad bad = fn-left n m ps v f bad
+        type-fn n m v (ps, f) None bad = fn-left n m ps v f bad
 
         module _ (x n c : ℕ) (v : viewAt s at ≡ view.Struct x n c) where
           -- the parts of a struct that is well formed
@@ -469,24 +452,24 @@ module _ (pool table : List ℕ) where
               let ha : (H && A) ≡ true = both_left (H && A) F haf in
               record { name = both_left H A ha; args = both_right H A ha; fields = both_right (H && A) F haf; rises = both_right ((H && A) && F) R g }
 
-          pub type-struct-name : holding pool table x ≡ false → Type' Bad
+          pub type-struct-name : holding pool table x ≡ false → Type' None
           type-struct-name t = type-none v (λ as' fs i j h k m g. false-true (sym t ∙ (parts as' fs g).name))
 
-          pub type-struct-fail : Ends (GoodTys pool table q s (d - 1) (at + 1) n) Bad → Type' Bad
+          pub type-struct-fail : Ends (GoodTys pool table q s (d - 1) (at + 1) n) None → Type' None
           unfolding depth
           type-struct-fail bad = type-none v (λ as' fs i j h k m g.
               bad as' (at + 1 + sizeTys as') (record { held = h; many = i; past = refl; deep = omega arith; good = (parts as' fs g).args }))
 
-          struct_left : (m : ℕ) (as' : Tys ℕ) → GoodTys pool table q s (d - 1) (at + 1) n as' m → ((fs : Fields ℕ) (e : ℕ) → GoodFields pool table q s (d - 1) m c before.TheVariants.Start fs e → ⊥) → Type' Bad
+          struct_left : (m : ℕ) (as' : Tys ℕ) → GoodTys pool table q s (d - 1) (at + 1) n as' m → ((fs : Fields ℕ) (e : ℕ) → GoodFields pool table q s (d - 1) m c None fs e → ⊥) → Type' None
           unfolding depth
           struct_left m as' f bad = type-none v (λ bs fs i j h k l g.
               let y : sizeTys bs ≡ sizeTys as' = ap sizeTys (only-tys s bs as' (at + 1) (i ∙ sym f.many) h f.held) in
               let w : at + 1 + sizeTys bs ≡ m = omega (arith, f.past) in
               bad fs (m + sizeFields fs) (record { held = subst (HoldsFields s fs) w k; many = j; past = refl; deep = omega arith; good = (parts bs fs g).fields; rises = (parts bs fs g).rises }))
 
-          pub type-struct : (m : ℕ) → holding pool table x ≡ true → Ends (GoodTys pool table q s (d - 1) (at + 1) n) (At m) → (r : Ended) → Ends (GoodFields pool table q s (d - 1) m c before.TheVariants.Start) r → Type' r
+          pub type-struct : (m : ℕ) → holding pool table x ≡ true → Ends (GoodTys pool table q s (d - 1) (at + 1) n) (Some m) → (r : Option ℕ) → Ends (GoodFields pool table q s (d - 1) m c None) r → Type' r
           unfolding Body size depth rules.goodTy
-          type-struct m t (as', f) (At e) (fs, g) =
+          type-struct m t (as', f) (Some e) (fs, g) =
               let H : Bool = holding pool table x in
               let A : Bool = goodTys pool table q as' in
               let F : Bool = goodFields pool table q fs in (
@@ -498,27 +481,29 @@ module _ (pool table : List ℕ) where
                   good = both ((H && A) && F) (rising (numbers pool table).order (fieldNames fs)) (both (H && A) F (both H A t f.good) g.good) g.rises;
                 },
               )
-          type-struct m t (as', f) Bad bad = struct_left m as' f bad
+          type-struct m t (as', f) None bad = struct_left m as' f bad
 
-        -- the views of the kinds that begin no type
-        others : (v : View) → Tagged (6 ∷ 7 ∷ 8 ∷ 9 ∷ 10 ∷ 11 ∷ 12 ∷ 13 ∷ 14 ∷ 15 ∷ 16 ∷ []) v → Arms s No at v
-        others (view.Opened o) k = absurd (miss (6 ∷ 7 ∷ 8 ∷ 9 ∷ 10 ∷ 11 ∷ 12 ∷ 13 ∷ 14 ∷ 15 ∷ 16 ∷ []) 0 tt k)
-        others (view.Basic b) k = absurd (miss (6 ∷ 7 ∷ 8 ∷ 9 ∷ 10 ∷ 11 ∷ 12 ∷ 13 ∷ 14 ∷ 15 ∷ 16 ∷ []) 1 tt k)
-        others (view.Dim n) k = absurd (miss (6 ∷ 7 ∷ 8 ∷ 9 ∷ 10 ∷ 11 ∷ 12 ∷ 13 ∷ 14 ∷ 15 ∷ 16 ∷ []) 2 tt k)
-        others (view.Function n) k = absurd (miss (6 ∷ 7 ∷ 8 ∷ 9 ∷ 10 ∷ 11 ∷ 12 ∷ 13 ∷ 14 ∷ 15 ∷ 16 ∷ []) 3 tt k)
-        others (view.Struct x n m) k = absurd (miss (6 ∷ 7 ∷ 8 ∷ 9 ∷ 10 ∷ 11 ∷ 12 ∷ 13 ∷ 14 ∷ 15 ∷ 16 ∷ []) 4 tt k)
-        others view.List k = absurd (miss (6 ∷ 7 ∷ 8 ∷ 9 ∷ 10 ∷ 11 ∷ 12 ∷ 13 ∷ 14 ∷ 15 ∷ 16 ∷ []) 5 tt k)
-        others (view.Field x) k = tt
-        others (view.Factor f n m) k = tt
-        others view.Equal k = tt
-        others view.IsDim k = tt
-        others view.IsScalar k = tt
-        others (view.HasField x) k = tt
-        others (view.Binding x) k = tt
-        others (view.Bound o) k = tt
-        others (view.Scheme n) k = tt
-        others view.Concrete k = tt
-        others view.Bad k = tt
+        -- no kind of type
+        module _ (v : View) (opened' : (o : names.Open) → v ≡ view.Opened o → ⊥) (basic' : (b : basics.Basic) → v ≡ view.Basic b → ⊥) (dim' : (n : ℕ) → v ≡ view.Dim n → ⊥)
+            (function : (n : ℕ) → v ≡ view.Function n → ⊥) (struct' : (x n m : ℕ) → v ≡ view.Struct x n m → ⊥) (list' : v ≡ view.List → ⊥) where
+          others : (u : View) → v ≡ u → Arms s No at u
+          others (view.Opened o) e = absurd (opened' o e)
+          others (view.Basic b) e = absurd (basic' b e)
+          others (view.Dim n) e = absurd (dim' n e)
+          others (view.Function n) e = absurd (function n e)
+          others (view.Struct x n m) e = absurd (struct' x n m e)
+          others view.List e = absurd (list' e)
+          others (view.Field x) e = tt
+          others (view.Factor f n m) e = tt
+          others view.Equal e = tt
+          others view.IsDim e = tt
+          others view.IsScalar e = tt
+          others (view.HasField x) e = tt
+          others (view.Binding x) e = tt
+          others (view.Bound o) e = tt
+          others (view.Scheme n) e = tt
+          others view.Concrete e = tt
+          others view.Bad e = tt
 
-        pub type-other : (v : View) → viewAt s at ≡ v → Tagged (6 ∷ 7 ∷ 8 ∷ 9 ∷ 10 ∷ 11 ∷ 12 ∷ 13 ∷ 14 ∷ 15 ∷ 16 ∷ []) v → Type' Bad
-        type-other v e k = type-none e (others v k)
+          pub type-other : viewAt s at ≡ v → Type' None
+          type-other e = type-none e (others v refl)

@@ -1,9 +1,13 @@
 -- A type, and a scheme, that takes all records.
-use mathlib.Core.Path.{◌≡◌, sym, ap, subst, ◌∙◌}
+use Rattle.std.specs.Prelude.{Option, Some, None}
+use Rattle.std.specs.Option.{option_eq}
+use borrow.Author.Tests.{eqb-true, eqb-false}
+use mathlib.Core.Path.{◌≡◌, refl, sym, ap, subst, ◌∙◌}
 use mathlib.Core.Bool.{Bool, true, false}
 use mathlib.Core.List.{List}
 use Prim.Native.Nat.{ℕ, ◌+◌, ◌/◌, ◌≤◌}
 use native.Mathlib.Omega.{arith}
+use lib.Dec.{eqb}
 use lib.ListN.{length}
 use Rattle.rules.specs.Trees as tree
 use Rattle.rules.specs.Trees.{Ty, size}
@@ -13,20 +17,27 @@ use Rattle.records.specs.ByView.{ends-in}
 use Rattle.records.specs.declared.View.TheVariants as view
 use Rattle.records.specs.Parsed.{only}
 use Rattle.records.specs.Good.{Ends, There, GoodTy, GoodBound, PartsScheme, Chain, Chained}
-use Rattle.records.specs.declared.inner.Ended.TheVariants.{At, Bad}
 
 module _ (pool table : List ℕ) (q : ℕ) (s : List ℕ) (at : ℕ) where
   abbrev Whole : Bool → Type 0
   Whole b = There (λ t. GoodTy pool table q s 64 at t (length s / 4)) b
 
-  pub type-whole : (m : ℕ) → Ends (GoodTy pool table q s 64 at) (At m) → m ≡ length s / 4 → Whole true
+  type-whole : (m : ℕ) → Ends (GoodTy pool table q s 64 at) (Some m) → m ≡ length s / 4 → Whole true
   type-whole m (t, g) e = (t, subst (GoodTy pool table q s 64 at t) e g)
 
-  pub type-not-whole : (m : ℕ) → Ends (GoodTy pool table q s 64 at) (At m) → (m ≡ length s / 4 → ⊥) → Whole false
+  type-not-whole : (m : ℕ) → Ends (GoodTy pool table q s 64 at) (Some m) → (m ≡ length s / 4 → ⊥) → Whole false
   type-not-whole m (t, g) f u h = f (g.past ∙ ap (λ (x : Ty ℕ). at + size x) (only s t u at g.held h.held) ∙ sym h.past)
 
-  pub type-bad : Ends (GoodTy pool table q s 64 at) Bad → Whole false
+  type-bad : Ends (GoodTy pool table q s 64 at) None → Whole false
   type-bad bad u h = bad u (length s / 4) h
+
+  pub type-told : (r : Option ℕ) → Ends (GoodTy pool table q s 64 at) r → Whole (option_eq eqb r (Some (length s / 4)))
+  type-told None bad = type-bad bad
+  type-told (Some m) e = go (eqb m (length s / 4)) refl
+    where
+      go : (b : Bool) → eqb m (length s / 4) ≡ b → Whole b
+      go true i = type-whole m e (eqb-true m (length s / 4) i)
+      go false i = type-not-whole m e (eqb-false m (length s / 4) i)
 
 -- ══ A scheme ══
 
@@ -63,7 +74,7 @@ module _ (pool table s : List ℕ) where
         let j : m ≡ n = cc in
         subst (λ (k : ℕ). Rest k t bs) j r
 
-    pub scheme-type : Ends (GoodTy pool table n s 64 1) Bad → Scheme' false
+    pub scheme-type : Ends (GoodTy pool table n s 64 1) None → Scheme' false
     scheme-type bad (concrete t) (w, g) = unlike n w v
     scheme-type bad (scheme m t bs) (w, g) = let r = here m t bs w g in bad t r.0 r.1.0
 
@@ -74,9 +85,9 @@ module _ (pool table s : List ℕ) where
         let i : r.0 ≡ e = r.1.0.past ∙ ap (λ (x : Ty ℕ). 1 + size x) (only s u t 1 r.1.0.held f.held) ∙ sym f.past in
         bad bs (subst (Chain (GoodBound pool table n s) (length s / 4) bs) i r.1.1)
 
-    pub scheme-bounds : (e : ℕ) → Ends (GoodTy pool table n s 64 1) (At e) → (b : Bool) → Chained (GoodBound pool table n s) (length s / 4) e b → Scheme' b
+    pub scheme-bounds : (e : ℕ) → Ends (GoodTy pool table n s 64 1) (Some e) → (b : Bool) → Chained (GoodBound pool table n s) (length s / 4) e b → Scheme' b
     scheme-bounds e (t, g) true (bs, c) = (scheme n t bs, (v, (e, (g, c))))
     scheme-bounds e (t, g) false bad = bounds-none e t g bad
 
-    pub type-within : (e : ℕ) → Ends (GoodTy pool table n s 64 1) (At e) → e ≤ length s / 4
+    pub type-within : (e : ℕ) → Ends (GoodTy pool table n s 64 1) (Some e) → e ≤ length s / 4
     type-within e (t, g) = omega (arith, g.past, ends-in s t 1 g.held)

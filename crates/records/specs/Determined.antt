@@ -1,57 +1,58 @@
--- The contracts leave no choice: two results that one of them allows coincide (`..-determined`). And each answer has document 01's number of
+-- The contracts leave no choice: two results that one of them allows coincide (`..-determined`). And each answer has the number of
 -- its outcome (`..-numbered`). `view_at` says `r ≡ ..` of the result itself.
-use Rattle.std.specs.Prelude.{◌≡◌, List, ℕ}
+use Rattle.std.specs.Prelude.{◌≡◌, List, ℕ, Result}
 use Rattle.std.proofs.Math.Path.{ap}
 use Rattle.std.proofs.Common.{sym, ◌∙◌}
 use Rattle.rules.specs.Calls.{aloneGiven, setCall, typeCall, schemeCall, bindingsCall}
 use Rattle.rules.specs.Numbers.{checked, refusalIn, number}
 use Rattle.rules.specs.Writing.{rec}
-use Rattle.names.specs.Old.{toldChecked, checked-tells, numberChecked, checked-in}
-use Rattle.names.specs.declared.old.Checked.{Checked}
+use Rattle.rules.specs.Refusals.{told}
+use Rattle.rules.specs.declared.Refusal.{Refusal}
+use Rattle.laws.specs.Numbers.{told-injective}
 use Rattle.records.specs.declared.View.{View}
 use Rattle.records.specs.declared.Words.{Words}
 use Rattle.records.specs.Views.{toldWords, bareOf}
 
 module _ (pool table ws : List ℕ) where
   -- `entry`
-  pub entry-determined : (p q : Checked) → toldChecked p ≡ aloneGiven pool table ws → toldChecked q ≡ aloneGiven pool table ws → p ≡ q
-  entry-determined p q h k = checked-tells p q (h ∙ sym k)
+  pub entry-determined : (p q : Result (Unit {0}) Refusal) → told p ≡ aloneGiven pool table ws → told q ≡ aloneGiven pool table ws → p ≡ q
+  entry-determined p q h k = told-injective p q (h ∙ sym k)
 
-  pub entry-numbered : (p : Checked) → toldChecked p ≡ aloneGiven pool table ws → numberChecked p ≡ number (checked (aloneGiven pool table ws))
+  pub entry-numbered : (p : Result (Unit {0}) Refusal) → told p ≡ aloneGiven pool table ws → refusalIn (told p) ≡ number (checked (aloneGiven pool table ws))
   unfolding number
-  entry-numbered p h = checked-in p ∙ ap refusalIn h
+  entry-numbered p h = ap refusalIn h
 
   -- `is_set`
-  pub is-set-determined : (p q : Checked) → toldChecked p ≡ setCall pool table ws → toldChecked q ≡ setCall pool table ws → p ≡ q
-  is-set-determined p q h k = checked-tells p q (h ∙ sym k)
+  pub is-set-determined : (p q : Result (Unit {0}) Refusal) → told p ≡ setCall pool table ws → told q ≡ setCall pool table ws → p ≡ q
+  is-set-determined p q h k = told-injective p q (h ∙ sym k)
 
-  pub is-set-numbered : (p : Checked) → toldChecked p ≡ setCall pool table ws → numberChecked p ≡ number (checked (setCall pool table ws))
+  pub is-set-numbered : (p : Result (Unit {0}) Refusal) → told p ≡ setCall pool table ws → refusalIn (told p) ≡ number (checked (setCall pool table ws))
   unfolding number
-  is-set-numbered p h = checked-in p ∙ ap refusalIn h
+  is-set-numbered p h = ap refusalIn h
 
   -- `is_type`
-  pub is-type-determined : (p q : Checked) → toldChecked p ≡ typeCall pool table ws → toldChecked q ≡ typeCall pool table ws → p ≡ q
-  is-type-determined p q h k = checked-tells p q (h ∙ sym k)
+  pub is-type-determined : (p q : Result (Unit {0}) Refusal) → told p ≡ typeCall pool table ws → told q ≡ typeCall pool table ws → p ≡ q
+  is-type-determined p q h k = told-injective p q (h ∙ sym k)
 
-  pub is-type-numbered : (p : Checked) → toldChecked p ≡ typeCall pool table ws → numberChecked p ≡ number (checked (typeCall pool table ws))
+  pub is-type-numbered : (p : Result (Unit {0}) Refusal) → told p ≡ typeCall pool table ws → refusalIn (told p) ≡ number (checked (typeCall pool table ws))
   unfolding number
-  is-type-numbered p h = checked-in p ∙ ap refusalIn h
+  is-type-numbered p h = ap refusalIn h
 
   -- `is_scheme`
-  pub is-scheme-determined : (p q : Checked) → toldChecked p ≡ schemeCall pool table ws → toldChecked q ≡ schemeCall pool table ws → p ≡ q
-  is-scheme-determined p q h k = checked-tells p q (h ∙ sym k)
+  pub is-scheme-determined : (p q : Result (Unit {0}) Refusal) → told p ≡ schemeCall pool table ws → told q ≡ schemeCall pool table ws → p ≡ q
+  is-scheme-determined p q h k = told-injective p q (h ∙ sym k)
 
-  pub is-scheme-numbered : (p : Checked) → toldChecked p ≡ schemeCall pool table ws → numberChecked p ≡ number (checked (schemeCall pool table ws))
+  pub is-scheme-numbered : (p : Result (Unit {0}) Refusal) → told p ≡ schemeCall pool table ws → refusalIn (told p) ≡ number (checked (schemeCall pool table ws))
   unfolding number
-  is-scheme-numbered p h = checked-in p ∙ ap refusalIn h
+  is-scheme-numbered p h = ap refusalIn h
 
   -- `is_bindings`
-  pub is-bindings-determined : (p q : Checked) → toldChecked p ≡ bindingsCall pool table ws → toldChecked q ≡ bindingsCall pool table ws → p ≡ q
-  is-bindings-determined p q h k = checked-tells p q (h ∙ sym k)
+  pub is-bindings-determined : (p q : Result (Unit {0}) Refusal) → told p ≡ bindingsCall pool table ws → told q ≡ bindingsCall pool table ws → p ≡ q
+  is-bindings-determined p q h k = told-injective p q (h ∙ sym k)
 
-  pub is-bindings-numbered : (p : Checked) → toldChecked p ≡ bindingsCall pool table ws → numberChecked p ≡ number (checked (bindingsCall pool table ws))
+  pub is-bindings-numbered : (p : Result (Unit {0}) Refusal) → told p ≡ bindingsCall pool table ws → refusalIn (told p) ≡ number (checked (bindingsCall pool table ws))
   unfolding number
-  is-bindings-numbered p h = checked-in p ∙ ap refusalIn h
+  is-bindings-numbered p h = ap refusalIn h
 
 -- `words_of`
 pub words-of-determined : (v : View) (p q : Words) → toldWords p ≡ bareOf v → toldWords q ≡ bareOf v → p ≡ q

@@ -1,5 +1,5 @@
 -- What the walkers find: a well formed part that is held at a place, and where it ends.
-use Rattle.std.specs.Prelude.{◌≡◌, Bool, true, false, List, [], ◌∷◌, map, ℕ, suc, ◌+◌, ◌/◌, ◌≤◌, ◌<◌, eqb, length, get_or}
+use Rattle.std.specs.Prelude.{Option, Some, None, ◌≡◌, Bool, true, false, List, [], ◌∷◌, map, ℕ, suc, ◌+◌, ◌/◌, ◌≤◌, ◌<◌, eqb, length, get_or}
 use Rattle.rules.specs.Base.{all}
 use Rattle.rules.specs.Trees as tree
 use Rattle.rules.specs.Trees.{Names, Product, Ty, Tys, Fields, Con, Binding, orderAtom, size, sizeTys, sizeFields, sizeCon, sizeBinding, depth, depthTys, depthFields, depthCon, depthBinding, count, countFields}
@@ -13,24 +13,20 @@ use Rattle.records.specs.declared.Atom.{Atom}
 use Rattle.records.specs.declared.Atom.TheVariants as atoms
 use Rattle.records.specs.declared.Open as names
 use Rattle.records.specs.declared.View.TheVariants as view
-use Rattle.records.specs.declared.inner.Ended.{Ended}
-use Rattle.records.specs.declared.inner.Ended.TheVariants.{At, Bad}
-use Rattle.records.specs.declared.inner.Before as before
-use Rattle.records.specs.declared.inner.Left as left
 
 -- some part ends there; or none does
-abbrev pub Ends : {A : Type 0} → (A → ℕ → Type 0) → Ended → Type 0
-Ends {A} P (At e) = (a : A) × P a e
-Ends {A} P Bad = (a : A) (e : ℕ) → P a e → ⊥
+abbrev pub Ends : {A : Type 0} → (A → ℕ → Type 0) → Option ℕ → Type 0
+Ends {A} P (Some e) = (a : A) × P a e
+Ends {A} P None = (a : A) (e : ℕ) → P a e → ⊥
 
 -- the end of a part, if its first record says so
-abbrev pub endIf : Bool → ℕ → Ended
-endIf true e = At e
-endIf false e = Bad
+abbrev pub endIf : Bool → ℕ → Option ℕ
+endIf true e = Some e
+endIf false e = None
 
-abbrev pub closedAt : List ℕ → ℕ → Ended → Ended
-closedAt s at (At e) = endIf (eqb (at + longAt s at) e) e
-closedAt s at Bad = Bad
+abbrev pub closedAt : List ℕ → ℕ → Option ℕ → Option ℕ
+closedAt s at (Some e) = endIf (eqb (at + longAt s at) e) e
+closedAt s at None = None
 
 -- the names of an open name or an atom are held
 abbrev pub HeldOpen : List ℕ → names.Open → Type 0
@@ -43,13 +39,13 @@ HeldAtom table (atoms.Free o) = HeldOpen table o
 HeldAtom table (atoms.Base x) = x < get_or table 0 0
 
 -- the field's name, or the factor's atom, that came before
-abbrev pub HeldBefore : List ℕ → before.Before → Type 0
-HeldBefore table before.TheVariants.Start = Unit {0}
-HeldBefore table (before.TheVariants.Name x) = x < get_or table 0 0
+abbrev pub HeldBefore : List ℕ → Option ℕ → Type 0
+HeldBefore table None = Unit {0}
+HeldBefore table (Some x) = x < get_or table 0 0
 
-abbrev pub HeldLeft : List ℕ → left.Left → Type 0
-HeldLeft table left.TheVariants.Start = Unit {0}
-HeldLeft table (left.TheVariants.Atom a) = HeldAtom table a
+abbrev pub HeldLeft : List ℕ → Option Atom → Type 0
+HeldLeft table None = Unit {0}
+HeldLeft table (Some a) = HeldAtom table a
 
 module _ (pool table : List ℕ) where
   abbrev pub numbers : Names ℕ
@@ -59,21 +55,21 @@ module _ (pool table : List ℕ) where
   holding = is_held (table_of pool table)
 
   -- a name after the one before
-  abbrev pub follows : before.Before → ℕ → Bool
-  follows before.TheVariants.Start x = true
-  follows (before.TheVariants.Name y) x = is_lt (numbers.order y x)
+  abbrev pub follows : Option ℕ → ℕ → Bool
+  follows None x = true
+  follows (Some y) x = is_lt (numbers.order y x)
 
-  abbrev pub risingFrom : before.Before → List ℕ → Bool
-  risingFrom before.TheVariants.Start xs = rising numbers.order xs
-  risingFrom (before.TheVariants.Name y) xs = rising numbers.order (y ∷ xs)
+  abbrev pub risingFrom : Option ℕ → List ℕ → Bool
+  risingFrom None xs = rising numbers.order xs
+  risingFrom (Some y) xs = rising numbers.order (y ∷ xs)
 
-  abbrev pub atomFollows : left.Left → tree.Atom ℕ → Bool
-  atomFollows left.TheVariants.Start a = true
-  atomFollows (left.TheVariants.Atom b) a = is_lt (orderAtom numbers (atomOf b) a)
+  abbrev pub atomFollows : Option Atom → tree.Atom ℕ → Bool
+  atomFollows None a = true
+  atomFollows (Some b) a = is_lt (orderAtom numbers (atomOf b) a)
 
-  abbrev pub atomsFrom : left.Left → List (tree.Atom ℕ) → Bool
-  atomsFrom left.TheVariants.Start as' = rising (orderAtom numbers) as'
-  atomsFrom (left.TheVariants.Atom b) as' = rising (orderAtom numbers) (atomOf b ∷ as')
+  abbrev pub atomsFrom : Option Atom → List (tree.Atom ℕ) → Bool
+  atomsFrom None as' = rising (orderAtom numbers) as'
+  atomsFrom (Some b) as' = rising (orderAtom numbers) (atomOf b ∷ as')
 
   module _ (q : ℕ) where
     abbrev pub goodOpen : tree.Open ℕ → Bool
@@ -106,7 +102,7 @@ module _ (pool table : List ℕ) where
 
     module _ (s : List ℕ) where
       -- n factors from `at` up to e, after the atom l
-      pub record GoodFactors (at n : ℕ) (l : left.Left) (p : Product ℕ) (e : ℕ) : Type 0 where
+      pub record GoodFactors (at n : ℕ) (l : Option Atom) (p : Product ℕ) (e : ℕ) : Type 0 where
         pub held : HoldsFactors s p at
         pub many : length p ≡ n
         pub past : e ≡ at + n
@@ -146,7 +142,7 @@ module _ (pool table : List ℕ) where
         pub long : Long s at (suc (size t))
 
       -- n fields from `at` up to e, after the name b
-      pub record GoodFields (d at n : ℕ) (b : before.Before) (fs : Fields ℕ) (e : ℕ) : Type 0 where
+      pub record GoodFields (d at n : ℕ) (b : Option ℕ) (fs : Fields ℕ) (e : ℕ) : Type 0 where
         pub held : HoldsFields s fs at
         pub many : countFields fs ≡ n
         pub past : e ≡ at + sizeFields fs

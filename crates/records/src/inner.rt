@@ -4,9 +4,9 @@ ghost use Prim.Native.Nat.{compare};
 ghost use Rattle.std.proofs.lemmas.List.Edits.{sets};
 ghost use Rattle.std.proofs.Math.Seq.{slice};
 ghost use Rattle.rules.specs.Writing.{words};
-ghost use Rattle.rules.specs.Exponents.{goodStored, frac};
+ghost use Rattle.exponents.specs.Answers.{expOf};
+ghost use Rattle.rules.specs.Exponents.{goodStored};
 ghost use Rattle.rules.specs.Trees.{orderAtom, orderOpen};
-ghost use Rattle.rules.specs.Writing.{signed};
 ghost use Rattle.rules.specs.WellFormed.{is_lt};
 ghost use Rattle.laws.specs.NameTable.{Good};
 ghost use Rattle.names.specs.Told.{toldOrder};
@@ -65,26 +65,6 @@ pub fn copy(v: &[u32], b: usize, e: usize, dst: &mut [u32], out: usize)
         i += 1;
         o += 1;
     }
-}
-
-// Where a part ends, or that it isn't well formed.
-#[derive(Clone, Copy)]
-pub enum Ended {
-    At(usize),
-    Bad,
-}
-
-// The name of the field before, and the atom of the factor before.
-#[derive(Clone, Copy)]
-pub enum Before {
-    Start,
-    Name(u32),
-}
-
-#[derive(Clone, Copy)]
-pub enum Left {
-    Start,
-    Atom(Atom),
 }
 
 fn is_less(o: Ordering) -> bool
@@ -177,145 +157,116 @@ pub fn atom_order(pool: &[u8], table: &[u32], a: Atom, b: Atom) -> Ordering
 }
 
 // Does a factor's atom come after the one before?
-fn atom_follows(pool: &[u8], table: &[u32], l: Left, a: Atom) -> bool
+fn atom_follows(pool: &[u8], table: &[u32], left: Option<Atom>, a: Atom) -> bool
     requires good { Good pool.now table.now }
-    requires held_left { HeldLeft table.now l }
+    requires held_left { HeldLeft table.now left }
     requires held_atom { HeldAtom table.now a }
-    ensures { result ≡ atomFollows pool.now table.now l (atomOf a) }
+    ensures { result ≡ atomFollows pool.now table.now left (atomOf a) }
 {
-    match l {
-        Left::Start => true,
-        Left::Atom(b) => is_less(atom_order(pool, table, b, a)),
+    match left {
+        None => true,
+        Some(b) => is_less(atom_order(pool, table, b, a)),
     }
 }
 
 // Does a field's name come after the one before?
-fn name_follows(pool: &[u8], table: &[u32], b: Before, x: u32) -> bool
+fn name_follows(pool: &[u8], table: &[u32], before: Option<u32>, x: u32) -> bool
     requires good { Good pool.now table.now }
-    requires held_before { HeldBefore table.now b }
+    requires held_before { HeldBefore table.now before }
     requires x_bound { x < get_or table.now 0 0 }
-    ensures { result ≡ follows pool.now table.now b x }
+    ensures { result ≡ follows pool.now table.now before x }
 {
-    match b {
-        Before::Start => true,
-        Before::Name(y) => is_less(order(pool, table, y, x)),
+    match before {
+        None => true,
+        Some(y) => is_less(order(pool, table, y, x)),
     }
 }
 
 // Is a field's name held, and does it come after the one before?
-fn name_good(pool: &[u8], table: &[u32], b: Before, x: u32) -> bool
+fn name_good(pool: &[u8], table: &[u32], before: Option<u32>, x: u32) -> bool
     requires good { Good pool.now table.now }
-    requires held_before { HeldBefore table.now b }
-    ensures { result ≡ (holding pool.now table.now x && follows pool.now table.now b x) }
+    requires held_before { HeldBefore table.now before }
+    ensures { result ≡ (holding pool.now table.now x && follows pool.now table.now before x) }
 {
-    if is_held(table, x) {
-        name_follows(pool, table, b, x)
-    } else {
-        false
-    }
+    is_held(table, x) && name_follows(pool, table, before, x)
 }
 
 // Does the record at a place say that its part ends at e?
 fn closes(s: &[u32], at: usize, e: usize) -> bool
     ensures { result ≡ eqb (at + longAt s.now at) e }
 {
-    if e < at {
-        return false;
-    }
-    length_at(s, at) == e - at
+    at <= e && length_at(s, at) == e - at
 }
 
 // The end of a part, if its first record says so.
-fn closed(s: &[u32], at: usize, r: Ended) -> Ended
-    ensures { result ≡ closedAt s.now at r }
+fn closed(s: &[u32], at: usize, end: Option<usize>) -> Option<usize>
+    ensures { result ≡ closedAt s.now at end }
 {
-    match r {
-        Ended::At(e) => {
-            if closes(s, at, e) {
-                Ended::At(e)
-            } else {
-                Ended::Bad
-            }
-        }
-        Ended::Bad => Ended::Bad,
-    }
+    let e = end?;
+    if closes(s, at, e) { Some(e) } else { None }
 }
 
 // Is a factor well formed, and does it come after the one before?
-fn factor_good(pool: &[u8], table: &[u32], q: u32, l: Left, a: Atom, num: u32, den: u32) -> bool
+fn factor_good(pool: &[u8], table: &[u32], q: u32, left: Option<Atom>, a: Atom, e: Exponent) -> bool
     requires good { Good pool.now table.now }
-    requires held_left { HeldLeft table.now l }
-    ensures { result ≡ (goodAtom pool.now table.now q (atomOf a) && goodStored (frac (signed num) den) && atomFollows pool.now table.now l (atomOf a)) }
+    requires held_left { HeldLeft table.now left }
+    ensures { result ≡ (goodAtom pool.now table.now q (atomOf a) && goodStored (expOf e) && atomFollows pool.now table.now left (atomOf a)) }
 {
-    if atom_good(pool, table, q, a) {
-        if Exponent::from_words(num, den).is_stored() {
-            atom_follows(pool, table, l, a)
-        } else {
-            false
-        }
-    } else {
-        false
+    if !atom_good(pool, table, q, a) {
+        return false;
     }
+    e.is_stored() && atom_follows(pool, table, left, a)
 }
 
-// The same of a factor's record, which is one record long.
-fn factor_here(
+// Where n factors end, each one record long, that follow the factor of the atom `left`.
+fn factors_end(
     pool: &[u8],
     table: &[u32],
     q: u32,
     s: &[u32],
     at: usize,
-    l: Left,
-    a: Atom,
-    num: u32,
-    den: u32,
-) -> bool
+    n: u32,
+    left: Option<Atom>,
+) -> Option<usize>
     requires good { Good pool.now table.now }
-    requires held_left { HeldLeft table.now l }
-    ensures { result ≡ (eqb (longAt s.now at) 1 && (goodAtom pool.now table.now q (atomOf a) && goodStored (frac (signed num) den) && atomFollows pool.now table.now l (atomOf a))) }
-{
-    if length_at(s, at) == 1 {
-        factor_good(pool, table, q, l, a, num, den)
-    } else {
-        false
-    }
-}
-
-// Where n factors end that follow the factor l.
-fn factors_end(pool: &[u8], table: &[u32], q: u32, s: &[u32], at: usize, n: u32, l: Left) -> Ended
-    requires good { Good pool.now table.now }
-    requires held_left { HeldLeft table.now l }
-    ensures { Ends (GoodFactors pool.now table.now q s.now at n l) result }
+    requires held_left { HeldLeft table.now left }
+    ensures { Ends (GoodFactors pool.now table.now q s.now at n left) result }
 {
     if n == 0 {
-        return Ended::At(at);
+        return Some(at);
     }
-    match view_at(s, at) {
-        View::Factor(a, num, den) => {
-            if factor_here(pool, table, q, s, at, l, a, num, den) {
-                factors_end(pool, table, q, s, at + 1, n - 1, Left::Atom(a))
-            } else {
-                Ended::Bad
-            }
-        }
-        _ => Ended::Bad,
+    let View::Factor(a, num, den) = view_at(s, at) else {
+        return None;
+    };
+    if length_at(s, at) != 1
+        || !factor_good(pool, table, q, left, a, Exponent::from_words(num, den))
+    {
+        return None;
     }
+    factors_end(pool, table, q, s, at + 1, n - 1, Some(a))
 }
 
 // Where the n factors of a product end.
-fn dim_end(pool: &[u8], table: &[u32], q: u32, s: &[u32], at: usize, n: u32) -> Ended
+fn dim_end(pool: &[u8], table: &[u32], q: u32, s: &[u32], at: usize, n: u32) -> Option<usize>
     requires { Good pool.now table.now }
     ensures { Ends (GoodDim pool.now table.now q s.now at n) result }
 {
-    if 64 < n {
-        return Ended::Bad;
+    if n > 64 {
+        return None;
     }
-    factors_end(pool, table, q, s, at, n, Left::Start)
+    factors_end(pool, table, q, s, at, n, None)
 }
 
 // Where the type at a place ends, which is nested at most `deep`.
 #[cycle(types)]
-pub fn type_end(pool: &[u8], table: &[u32], q: u32, s: &[u32], at: usize, deep: usize) -> Ended
+pub fn type_end(
+    pool: &[u8],
+    table: &[u32],
+    q: u32,
+    s: &[u32],
+    at: usize,
+    deep: usize,
+) -> Option<usize>
     requires { Good pool.now table.now }
     ensures { Ends (GoodTy pool.now table.now q s.now deep at) result }
 {
@@ -324,58 +275,67 @@ pub fn type_end(pool: &[u8], table: &[u32], q: u32, s: &[u32], at: usize, deep: 
 
 // Where its parts end, whatever length its first record says.
 #[cycle(types)]
-fn type_parts(pool: &[u8], table: &[u32], q: u32, s: &[u32], at: usize, deep: usize) -> Ended
+fn type_parts(
+    pool: &[u8],
+    table: &[u32],
+    q: u32,
+    s: &[u32],
+    at: usize,
+    deep: usize,
+) -> Option<usize>
     requires { Good pool.now table.now }
     ensures { Ends (PartsTy pool.now table.now q s.now deep at) result }
 {
     if deep == 0 {
-        return Ended::Bad;
+        return None;
     }
     match view_at(s, at) {
         View::Opened(o) => {
-            if open_good(pool, table, q, o) {
-                Ended::At(at + 1)
-            } else {
-                Ended::Bad
+            if !open_good(pool, table, q, o) {
+                return None;
             }
+            Some(at + 1)
         }
-        View::Basic(_) => Ended::At(at + 1),
+        View::Basic(_) => Some(at + 1),
         View::Dim(n) => dim_end(pool, table, q, s, at + 1, n),
-        View::Function(n) => match types_end(pool, table, q, s, at + 1, n, deep - 1) {
-            Ended::At(e) => type_end(pool, table, q, s, e, deep - 1),
-            Ended::Bad => Ended::Bad,
-        },
+        View::Function(n) => {
+            let e = types_end(pool, table, q, s, at + 1, n, deep - 1)?;
+            type_end(pool, table, q, s, e, deep - 1)
+        }
         View::Struct(x, n, m) => {
-            if is_held(table, x) {
-                match types_end(pool, table, q, s, at + 1, n, deep - 1) {
-                    Ended::At(e) => fields_end(pool, table, q, s, e, m, deep - 1, Before::Start),
-                    Ended::Bad => Ended::Bad,
-                }
-            } else {
-                Ended::Bad
+            if !is_held(table, x) {
+                return None;
             }
+            let e = types_end(pool, table, q, s, at + 1, n, deep - 1)?;
+            fields_end(pool, table, q, s, e, m, deep - 1, None)
         }
         View::List => type_end(pool, table, q, s, at + 1, deep - 1),
-        _ => Ended::Bad,
+        _ => None,
     }
 }
 
 // Where n types end.
 #[cycle(types)]
-fn types_end(pool: &[u8], table: &[u32], q: u32, s: &[u32], at: usize, n: u32, deep: usize) -> Ended
+fn types_end(
+    pool: &[u8],
+    table: &[u32],
+    q: u32,
+    s: &[u32],
+    at: usize,
+    n: u32,
+    deep: usize,
+) -> Option<usize>
     requires { Good pool.now table.now }
     ensures { Ends (GoodTys pool.now table.now q s.now deep at n) result }
 {
     if n == 0 {
-        return Ended::At(at);
+        return Some(at);
     }
-    match type_end(pool, table, q, s, at, deep) {
-        Ended::At(e) => types_end(pool, table, q, s, e, n - 1, deep),
-        Ended::Bad => Ended::Bad,
-    }
+    let e = type_end(pool, table, q, s, at, deep)?;
+    types_end(pool, table, q, s, e, n - 1, deep)
 }
 
-// Where n fields end that follow the field b.
+// Where n fields end that follow the field of the name `before`.
 #[cycle(types)]
 fn fields_end(
     pool: &[u8],
@@ -385,34 +345,27 @@ fn fields_end(
     at: usize,
     n: u32,
     deep: usize,
-    b: Before,
-) -> Ended
+    before: Option<u32>,
+) -> Option<usize>
     requires good { Good pool.now table.now }
-    requires held_before { HeldBefore table.now b }
-    ensures { Ends (GoodFields pool.now table.now q s.now deep at n b) result }
+    requires held_before { HeldBefore table.now before }
+    ensures { Ends (GoodFields pool.now table.now q s.now deep at n before) result }
 {
     if n == 0 {
-        return Ended::At(at);
+        return Some(at);
     }
-    match view_at(s, at) {
-        View::Field(x) => {
-            if name_good(pool, table, b, x) {
-                match closed(s, at, type_end(pool, table, q, s, at + 1, deep)) {
-                    Ended::At(e) => {
-                        fields_end(pool, table, q, s, e, n - 1, deep, Before::Name(x))
-                    }
-                    Ended::Bad => Ended::Bad,
-                }
-            } else {
-                Ended::Bad
-            }
-        }
-        _ => Ended::Bad,
+    let View::Field(x) = view_at(s, at) else {
+        return None;
+    };
+    if !name_good(pool, table, before, x) {
+        return None;
     }
+    let e = closed(s, at, type_end(pool, table, q, s, at + 1, deep))?;
+    fields_end(pool, table, q, s, e, n - 1, deep, Some(x))
 }
 
 // Where the product at a place ends.
-pub fn product_end(pool: &[u8], table: &[u32], q: u32, s: &[u32], at: usize) -> Ended
+pub fn product_end(pool: &[u8], table: &[u32], q: u32, s: &[u32], at: usize) -> Option<usize>
     requires { Good pool.now table.now }
     ensures { Ends (GoodProduct pool.now table.now q s.now at) result }
 {
@@ -420,29 +373,27 @@ pub fn product_end(pool: &[u8], table: &[u32], q: u32, s: &[u32], at: usize) -> 
 }
 
 // Where its parts end, whatever length its first record says.
-fn product_parts(pool: &[u8], table: &[u32], q: u32, s: &[u32], at: usize) -> Ended
+fn product_parts(pool: &[u8], table: &[u32], q: u32, s: &[u32], at: usize) -> Option<usize>
     requires { Good pool.now table.now }
     ensures { Ends (PartsProduct pool.now table.now q s.now at) result }
 {
-    match view_at(s, at) {
-        View::Dim(n) => dim_end(pool, table, q, s, at + 1, n),
-        _ => Ended::Bad,
-    }
+    let View::Dim(n) = view_at(s, at) else {
+        return None;
+    };
+    dim_end(pool, table, q, s, at + 1, n)
 }
 
 // Where two types end, the first of which is at a place.
-fn two_end(pool: &[u8], table: &[u32], s: &[u32], at: usize) -> Ended
+fn two_end(pool: &[u8], table: &[u32], s: &[u32], at: usize) -> Option<usize>
     requires { Good pool.now table.now }
     ensures { Ends (GoodTwo pool.now table.now 0 s.now at) result }
 {
-    match type_end(pool, table, 0, s, at, 64) {
-        Ended::At(e) => type_end(pool, table, 0, s, e, 64),
-        Ended::Bad => Ended::Bad,
-    }
+    let e = type_end(pool, table, 0, s, at, 64)?;
+    type_end(pool, table, 0, s, e, 64)
 }
 
 // Where the constraint at a place ends.
-pub fn con_end(pool: &[u8], table: &[u32], s: &[u32], at: usize) -> Ended
+pub fn con_end(pool: &[u8], table: &[u32], s: &[u32], at: usize) -> Option<usize>
     requires { Good pool.now table.now }
     ensures { Ends (GoodCon pool.now table.now 0 s.now at) result }
 {
@@ -450,7 +401,7 @@ pub fn con_end(pool: &[u8], table: &[u32], s: &[u32], at: usize) -> Ended
 }
 
 // Where its parts end, whatever length its first record says.
-fn con_parts(pool: &[u8], table: &[u32], s: &[u32], at: usize) -> Ended
+fn con_parts(pool: &[u8], table: &[u32], s: &[u32], at: usize) -> Option<usize>
     requires { Good pool.now table.now }
     ensures { Ends (PartsCon pool.now table.now 0 s.now at) result }
 {
@@ -459,18 +410,17 @@ fn con_parts(pool: &[u8], table: &[u32], s: &[u32], at: usize) -> Ended
         View::IsDim => type_end(pool, table, 0, s, at + 1, 64),
         View::IsScalar => product_end(pool, table, 0, s, at + 1),
         View::HasField(x) => {
-            if is_held(table, x) {
-                two_end(pool, table, s, at + 1)
-            } else {
-                Ended::Bad
+            if !is_held(table, x) {
+                return None;
             }
+            two_end(pool, table, s, at + 1)
         }
-        _ => Ended::Bad,
+        _ => None,
     }
 }
 
 // Where the binding at a place ends.
-pub fn binding_end(pool: &[u8], table: &[u32], s: &[u32], at: usize) -> Ended
+pub fn binding_end(pool: &[u8], table: &[u32], s: &[u32], at: usize) -> Option<usize>
     requires { Good pool.now table.now }
     ensures { Ends (GoodBinding pool.now table.now 0 s.now at) result }
 {
@@ -478,24 +428,21 @@ pub fn binding_end(pool: &[u8], table: &[u32], s: &[u32], at: usize) -> Ended
 }
 
 // Where its parts end, whatever length its first record says.
-fn binding_parts(pool: &[u8], table: &[u32], s: &[u32], at: usize) -> Ended
+fn binding_parts(pool: &[u8], table: &[u32], s: &[u32], at: usize) -> Option<usize>
     requires { Good pool.now table.now }
     ensures { Ends (PartsBinding pool.now table.now 0 s.now at) result }
 {
-    match view_at(s, at) {
-        View::Binding(x) => {
-            if is_held(table, x) {
-                type_end(pool, table, 0, s, at + 1, 64)
-            } else {
-                Ended::Bad
-            }
-        }
-        _ => Ended::Bad,
+    let View::Binding(x) = view_at(s, at) else {
+        return None;
+    };
+    if !is_held(table, x) {
+        return None;
     }
+    type_end(pool, table, 0, s, at + 1, 64)
 }
 
 // Where the bound at a place ends.
-pub fn bound_end(pool: &[u8], table: &[u32], q: u32, s: &[u32], at: usize) -> Ended
+pub fn bound_end(pool: &[u8], table: &[u32], q: u32, s: &[u32], at: usize) -> Option<usize>
     requires { Good pool.now table.now }
     ensures { Ends (GoodBound pool.now table.now q s.now at) result }
 {
@@ -503,20 +450,17 @@ pub fn bound_end(pool: &[u8], table: &[u32], q: u32, s: &[u32], at: usize) -> En
 }
 
 // Where its parts end, whatever length its first record says.
-fn bound_parts(pool: &[u8], table: &[u32], q: u32, s: &[u32], at: usize) -> Ended
+fn bound_parts(pool: &[u8], table: &[u32], q: u32, s: &[u32], at: usize) -> Option<usize>
     requires { Good pool.now table.now }
     ensures { Ends (PartsBound pool.now table.now q s.now at) result }
 {
-    match view_at(s, at) {
-        View::Bound(o) => {
-            if open_good(pool, table, q, o) {
-                Ended::At(at + 1)
-            } else {
-                Ended::Bad
-            }
-        }
-        _ => Ended::Bad,
+    let View::Bound(o) = view_at(s, at) else {
+        return None;
+    };
+    if !open_good(pool, table, q, o) {
+        return None;
     }
+    Some(at + 1)
 }
 
 // Are all records constraints, well formed?
@@ -527,7 +471,7 @@ pub fn set_good(pool: &[u8], table: &[u32], s: &[u32]) -> bool
     let n = s.len() / 4;
     let mut at = 0;
     while at < n {
-        let Ended::At(e) = con_end(pool, table, s, at) else {
+        let Some(e) = con_end(pool, table, s, at) else {
             return false;
         };
         at = e;
@@ -543,7 +487,7 @@ pub fn bindings_good(pool: &[u8], table: &[u32], s: &[u32]) -> bool
     let n = s.len() / 4;
     let mut at = 0;
     while at < n {
-        let Ended::At(e) = binding_end(pool, table, s, at) else {
+        let Some(e) = binding_end(pool, table, s, at) else {
             return false;
         };
         at = e;
@@ -560,7 +504,7 @@ pub fn bounds_good(pool: &[u8], table: &[u32], q: u32, s: &[u32], from: usize) -
     let n = s.len() / 4;
     let mut at = from;
     while at < n {
-        let Ended::At(e) = bound_end(pool, table, q, s, at) else {
+        let Some(e) = bound_end(pool, table, q, s, at) else {
             return false;
         };
         at = e;
@@ -573,10 +517,7 @@ pub fn type_good(pool: &[u8], table: &[u32], s: &[u32], at: usize) -> bool
     requires { Good pool.now table.now }
     ensures { There (λ t. GoodTy pool.now table.now 0 s.now 64 at t (length s.now / 4)) result }
 {
-    match type_end(pool, table, 0, s, at, 64) {
-        Ended::At(e) => { if e == s.len() / 4 { true } else { false } }
-        Ended::Bad => false,
-    }
+    type_end(pool, table, 0, s, at, 64) == Some(s.len() / 4)
 }
 
 // Are all records a scheme, well formed? Its length is that of the list.
@@ -584,11 +525,7 @@ pub fn scheme_good(pool: &[u8], table: &[u32], s: &[u32]) -> bool
     requires { Good pool.now table.now }
     ensures { There (GoodScheme pool.now table.now s.now) result }
 {
-    if length_at(s, 0) == s.len() / 4 {
-        scheme_parts(pool, table, s)
-    } else {
-        false
-    }
+    length_at(s, 0) == s.len() / 4 && scheme_parts(pool, table, s)
 }
 
 // The same, whatever length its first record says.
@@ -599,8 +536,8 @@ fn scheme_parts(pool: &[u8], table: &[u32], s: &[u32]) -> bool
     match view_at(s, 0) {
         View::Concrete => type_good(pool, table, s, 1),
         View::Scheme(n) => match type_end(pool, table, n, s, 1, 64) {
-            Ended::At(e) => bounds_good(pool, table, n, s, e),
-            Ended::Bad => false,
+            Some(e) => bounds_good(pool, table, n, s, e),
+            None => false,
         },
         _ => false,
     }

@@ -1,17 +1,17 @@
-// Type records of document 01: what one record says, writing them, and the tests of whole lists.
+//! Type records: what one record says, writing them, and the tests of whole lists.
 #![tactic(auto)]
 
 pub mod inner;
+pub mod old;
 pub mod seen;
 
 ghost use Rattle.std.specs.Prelude.{◌≡◌, ◌&&◌, ◌%◌, eqb, length};
 ghost use Rattle.rules.specs.Base.{need};
 ghost use Rattle.rules.specs.Calls.{aloneGiven, setCall, typeCall, schemeCall, bindingsCall};
-ghost use Rattle.names.specs.Old.{toldChecked};
+ghost use Rattle.rules.specs.Refusals.{told};
 
 use inner::{bindings_good, scheme_good, set_good, type_good};
 use names::inner::is_good;
-use names::old::Checked;
 use rules::{POOL_BYTES, RECORD_WORDS, Refusal, TABLE_WORDS};
 
 // An open name: a variable, a quantified variable by its index, a parameter.
@@ -67,76 +67,65 @@ pub struct Words {
     pub c: u32,
 }
 
-// What comes before reading a list: short buffers 10, a long list 8, the table 1.
-pub fn entry(pool: &[u8], table: &[u32], words: &[u32]) -> Checked
-    ensures { toldChecked result ≡ aloneGiven pool.now table.now words.now }
+/// What comes before reading a list: refused 10 where pool or table is short, 8 where the list is long, 1 where the table is not well formed.
+pub fn entry(pool: &[u8], table: &[u32], words: &[u32]) -> Result<(), Refusal>
+    ensures { told result ≡ aloneGiven pool.now table.now words.now }
 {
-    if pool.len() < POOL_BYTES {
-        return Checked::Refused(Refusal::ShortBuffer);
-    }
-    if table.len() < TABLE_WORDS {
-        return Checked::Refused(Refusal::ShortBuffer);
+    if pool.len() < POOL_BYTES || table.len() < TABLE_WORDS {
+        return Err(Refusal::ShortBuffer);
     }
     if RECORD_WORDS < words.len() {
-        return Checked::Refused(Refusal::TooLarge);
+        return Err(Refusal::TooLarge);
     }
     if is_good(pool, table) {
-        Checked::Good
+        Ok(())
     } else {
-        Checked::Refused(Refusal::Malformed)
+        Err(Refusal::Malformed)
     }
 }
 
 // A list of whole records that passed its test.
-fn listed(words: &[u32], good: bool) -> Checked
-    ensures { toldChecked result ≡ need (eqb (length words.now % 4) 0 && good) 1 }
+fn listed(words: &[u32], good: bool) -> Result<(), Refusal>
+    ensures { told result ≡ need (eqb (length words.now % 4) 0 && good) 1 }
 {
     if words.len() % 4 != 0 {
-        return Checked::Refused(Refusal::Malformed);
+        return Err(Refusal::Malformed);
     }
     if good {
-        Checked::Good
+        Ok(())
     } else {
-        Checked::Refused(Refusal::Malformed)
+        Err(Refusal::Malformed)
     }
 }
 
-// Is this list a well formed set of constraints?
-pub fn is_set(pool: &[u8], table: &[u32], words: &[u32]) -> Checked
-    ensures { toldChecked result ≡ setCall pool.now table.now words.now }
+/// Is this list a well formed set of constraints? Refused as `entry` refuses, and 1 where it is not.
+pub fn is_set(pool: &[u8], table: &[u32], words: &[u32]) -> Result<(), Refusal>
+    ensures { told result ≡ setCall pool.now table.now words.now }
 {
-    match entry(pool, table, words) {
-        Checked::Good => listed(words, set_good(pool, table, words)),
-        Checked::Refused(r) => Checked::Refused(r),
-    }
+    entry(pool, table, words)?;
+    listed(words, set_good(pool, table, words))
 }
 
-// Is this list a well formed type?
-pub fn is_type(pool: &[u8], table: &[u32], words: &[u32]) -> Checked
-    ensures { toldChecked result ≡ typeCall pool.now table.now words.now }
+/// Is this list a well formed type? Refused as `entry` refuses, and 1 where it is not.
+pub fn is_type(pool: &[u8], table: &[u32], words: &[u32]) -> Result<(), Refusal>
+    ensures { told result ≡ typeCall pool.now table.now words.now }
 {
-    match entry(pool, table, words) {
-        Checked::Good => listed(words, type_good(pool, table, words, 0)),
-        Checked::Refused(r) => Checked::Refused(r),
-    }
+    entry(pool, table, words)?;
+    listed(words, type_good(pool, table, words, 0))
 }
 
-// Is this list a well formed scheme?
-pub fn is_scheme(pool: &[u8], table: &[u32], words: &[u32]) -> Checked
-    ensures { toldChecked result ≡ schemeCall pool.now table.now words.now }
+/// Is this list a well formed scheme? Refused as `entry` refuses, and 1 where it is not.
+pub fn is_scheme(pool: &[u8], table: &[u32], words: &[u32]) -> Result<(), Refusal>
+    ensures { told result ≡ schemeCall pool.now table.now words.now }
 {
-    match entry(pool, table, words) {
-        Checked::Good => listed(words, scheme_good(pool, table, words)),
-        Checked::Refused(r) => Checked::Refused(r),
-    }
+    entry(pool, table, words)?;
+    listed(words, scheme_good(pool, table, words))
 }
 
-// Is this list a well formed list of bindings?
-pub fn is_bindings(pool: &[u8], table: &[u32], words: &[u32]) -> Checked
-    ensures { toldChecked result ≡ bindingsCall pool.now table.now words.now }
+/// Is this list a well formed list of bindings? Refused as `entry` refuses, and 1 where it is not.
+pub fn is_bindings(pool: &[u8], table: &[u32], words: &[u32]) -> Result<(), Refusal>
+    ensures { told result ≡ bindingsCall pool.now table.now words.now }
 {
-    match entry(pool, table, words) {
-        Checked::Good => listed(words, bindings_good(pool, table, words)),
-        Checked::Refused(r) => Checked::Refused(r),
-    }
+    entry(pool, table, words)?;
+    listed(words, bindings_good(pool, table, words))
 }

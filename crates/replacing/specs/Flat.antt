@@ -1,5 +1,5 @@
 -- Lines without quantified variables: how deep they are nested, and where they end.
-use Rattle.std.specs.Prelude.{◌≡◌, refl, Bool, true, ℕ, ◌+◌, ◌≤◌, ◌<◌, max}
+use Rattle.std.specs.Prelude.{Option, Some, None, ◌≡◌, refl, Bool, true, ℕ, ◌+◌, ◌≤◌, ◌<◌, max}
 use Rattle.std.proofs.Math.Path.{sym, ap}
 use Rattle.std.proofs.Common.{ap₂, subst, ◌∙◌, arith}
 use Rattle.std.proofs.Math.Bool.{false, and-eq-true_iff}
@@ -16,8 +16,6 @@ use Rattle.records.specs.Good as records
 use Rattle.records.specs.Good.{Ends, numbers, holding}
 use Rattle.records.specs.Holds.{HoldsBinding}
 use Rattle.records.specs.Parsed.{only-con, only-binding}
-use Rattle.records.specs.declared.inner.Ended.{Ended}
-use Rattle.records.specs.declared.inner.Ended.TheVariants.{At, Bad}
 use Rattle.replacing.specs.Runs.{HoldsAll}
 use Rattle.replacing.specs.LineRules.{Line, con, binding, sizeLine, line-some, HoldsLine}
 
@@ -65,12 +63,12 @@ module _ (pool table : List ℕ) where
 
     -- ══ Where a line ends ══
 
-    pub con-ends : (at e : ℕ) {r : Ended} → r ≡ At e → Ends (records.GoodCon pool table 0 s at) r → Ends (GoodLine at) (At e)
+    pub con-ends : (at e : ℕ) {r : Option ℕ} → r ≡ Some e → Ends (records.GoodCon pool table 0 s at) r → Ends (GoodLine at) (Some e)
     con-ends at e i h = let (c, g) = subst (Ends (records.GoodCon pool table 0 s at)) i h in (con c, g)
 
-    pub binding-ends : (at : ℕ) {r : Ended} (r' : Ended) → r ≡ Bad → Ends (records.GoodCon pool table 0 s at) r → Ends (records.GoodBinding pool table 0 s at) r' → Ends (GoodLine at) r'
-    binding-ends at (At e) i h (b, g) = (binding b, g)
-    binding-ends at Bad i h g = none
+    pub binding-ends : (at : ℕ) {r : Option ℕ} (r' : Option ℕ) → r ≡ None → Ends (records.GoodCon pool table 0 s at) r → Ends (records.GoodBinding pool table 0 s at) r' → Ends (GoodLine at) r'
+    binding-ends at (Some e) i h (b, g) = (binding b, g)
+    binding-ends at None i h g = none
       where
         none : (x : Line) (e : ℕ) → GoodLine at x e → ⊥
         none (con c) e k = subst (Ends (records.GoodCon pool table 0 s at)) i h c e k
@@ -110,7 +108,7 @@ module _ (pool table : List ℕ) where
         go (no k) = lt-leb (max d m) 64 (omega arith) ∙ sym (lt-leb m 64 (omega arith))
 
     -- one line is taken
-    pub taken : (xs : List Line) (at e end : ℕ) → at < end → Rest xs at end → Ends (GoodLine at) (At e) → Rest xs e end × ((at < e) × (e ≤ end))
+    pub taken : (xs : List Line) (at e end : ℕ) → at < end → Rest xs at end → Ends (GoodLine at) (Some e) → Rest xs e end × ((at < e) × (e ≤ end))
     unfolding HoldsAll all
     taken xs at e end lt r (y, g) = go r.lines r.plain r.decides
       where
@@ -132,7 +130,7 @@ module _ (pool table : List ℕ) where
             )
 
     -- a line that is too deep decides
-    pub deep : (xs : List Line) (at end : ℕ) {r : Ended} → at < end → Rest xs at end → r ≡ Bad → Ends (GoodLine at) r → false ≡ leb (max_of depthLine xs) 64
+    pub deep : (xs : List Line) (at end : ℕ) {r : Option ℕ} → at < end → Rest xs at end → r ≡ None → Ends (GoodLine at) r → false ≡ leb (max_of depthLine xs) 64
     unfolding HoldsAll all
     deep xs at end {r} lt t i h = go t.lines t.plain t.decides
       where

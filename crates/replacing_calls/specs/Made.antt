@@ -1,5 +1,5 @@
 -- What a call of replacing makes, from what its walk leaves in the work buffer.
-use Rattle.std.specs.Prelude.{◌≡◌, Bool, true, false, ℕ, ◌+◌, ◌*◌, ◌/◌, ◌≤◌, leb, length, take, drop, Ok, Err}
+use Rattle.std.specs.Prelude.{◌≡◌, Bool, true, false, ℕ, ◌+◌, ◌*◌, ◌/◌, ◌≤◌, leb, length, take, drop, Ok, Err, Result}
 use Rattle.std.proofs.Math.Path.{refl}
 use Rattle.std.proofs.Common.{sym, ap, subst, ◌∙◌, arith, take_at}
 use Rattle.std.proofs.Math.Bool.{and-eq-true_iff}
@@ -38,9 +38,8 @@ use Rattle.replacing.specs.LineRules.{Line, con, sizeLine, writeLine, HeldLines,
 use Rattle.replacing.specs.Runs.{looked-good}
 use Rattle.replacing.specs.Well.{HeldType, Listed}
 use Rattle.replacing.specs.Written.{ty-fits, all-length}
-use Rattle.lending.specs.Told.{told, Front, Made}
-use Rattle.lending.specs.declared.Answer.{Answer}
-use Rattle.lending.specs.declared.Answer.TheVariants.{Refused}
+use Rattle.rules.specs.Refusals.{told}
+use Rattle.lending.specs.Told.{Front, Made}
 use Rattle.replacing_calls.specs.Entry.{Entered}
 use Rattle.replacing_calls.specs.Stands.{counted, TypeStands, LinesStand}
 
@@ -86,7 +85,7 @@ module _ {A : Type 0} (long deep : A → ℕ) (write : A → List Rec) (lengths 
         go (got a) l = let m : n ≡ 0 + long a = (went-same l.says.0).1 in record { value = a; is = refl; many = omega (arith, m); buffer = λ h. left-short short (got a) l a refl (omega arith) }
         go (refused k) l = absurd l.says
 
-    pub made-to : (R : Got A) (n : ℕ) (r : Answer) (c : Came R n) → told r ≡ counted long deep c.value → Made (limitedTo R) d' r
+    pub made-to : (R : Got A) (n : ℕ) (r : Result ℕ Refusal) (c : Came R n) → told r ≡ counted long deep c.value → Made (limitedTo R) d' r
     made-to R n r c h = record {
       answer = h ∙ count-is a (sized bounded (long a) (deep a) a) ∙ sym (ap (λ (m : Got A). limitedTo m >>= λ rs. got (length rs)) c.is);
       front = λ rs e.
@@ -99,10 +98,10 @@ module _ {A : Type 0} (long deep : A → ℕ) (write : A → List Rec) (lengths 
         a = c.value
 
     -- or stopped
-    pub made-stop : {x : Went} {k : Refusal} (R : Got A) → x ≡ Err k → Left long write d d' nx 0 x R → Made (limitedTo R) d' (Refused k)
+    pub made-stop : {x : Went} {k : Refusal} (R : Got A) → x ≡ Err k → Left long write d d' nx 0 x R → Made (limitedTo R) d' (Err k)
     made-stop {x} {k} R i left = go R (subst (λ (y : Went). Left long write d d' nx 0 y R) i left)
       where
-        go : (R : Got A) → Left long write d d' nx 0 (Err k) R → Made (limitedTo R) d' (Refused k)
+        go : (R : Got A) → Left long write d d' nx 0 (Err k) R → Made (limitedTo R) d' (Err k)
         go (got a) l = absurd (let p = l.says.0 in let z : ◌≡◌ {A = ℕ} 0 1 = cc in omega arith)
         go (refused j) l = record { answer = ap refused l.says; front = λ rs e. clash e }
 
@@ -146,7 +145,7 @@ module _ (pool table : List ℕ) where
       go (got r) = sym (one_way r)
       go (refused k) = refl
 
-  pub set-made : (cs : List (Con ℕ)) (bs : List (Binding ℕ)) (w : List ℕ) (r : Answer) → Made (madeLines cs bs) w r → Made (madeSet cs bs) w r
+  pub set-made : (cs : List (Con ℕ)) (bs : List (Binding ℕ)) (w : List ℕ) (r : Result ℕ Refusal) → Made (madeLines cs bs) w r → Made (madeSet cs bs) w r
   set-made cs bs w r h = subst (λ (m : Got (List Rec)). Made m w r) (set_lines cs bs) h
 
   -- ══ What the walks ask, and what they leave ══

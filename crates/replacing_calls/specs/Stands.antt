@@ -1,5 +1,5 @@
 -- What was written at the start of the work buffer is at most 2,048 records long and nested at most 64, or refused as 8.
-use Rattle.std.specs.Prelude.{◌≡◌, Bool, true, false, List, ℕ, ◌≤◌, ◌<◌, leb}
+use Rattle.std.specs.Prelude.{Some, None, ◌≡◌, Bool, true, false, List, ℕ, ◌≤◌, ◌<◌, leb}
 use Rattle.std.proofs.Common.{sym, ap, subst, ◌∙◌, arith, leb-true, le-leb}
 use Rattle.std.proofs.Math.Decide.{dec_le}
 use Rattle.rules.specs.Base.{Got, got, refused, ◌>>=◌, bounded, sized, sum_of, max_of}
@@ -10,7 +10,6 @@ use Rattle.laws.specs.Sized.{sized-kept, sized-long, sized-deep}
 use Rattle.records.specs.Good.{Ends, GoodTy, numbers, holding}
 use Rattle.records.specs.Holds.{Holds}
 use Rattle.records.specs.Parsed.{only}
-use Rattle.records.specs.declared.inner.Ended.TheVariants.{At, Bad}
 use Rattle.replacing.specs.Flat.{depthLine, PlainLines}
 use Rattle.replacing.specs.LineRules.{Line, sizeLine}
 
@@ -44,10 +43,10 @@ module _ (pool table w : List ℕ) (n : ℕ) (u : Ty ℕ) (s : TypeStands pool t
   there : Holds w u 0
   there = s.held (omega (arith, s.many))
 
-  pub type-shallow : (e : ℕ) → Ends (GoodTy pool table 0 w 64 0) (At e) → got n ≡ typeCounted u
+  pub type-shallow : (e : ℕ) → Ends (GoodTy pool table 0 w 64 0) (Some e) → got n ≡ typeCounted u
   type-shallow e g = fitting size depth n u s.many h (subst (λ (t : Ty ℕ). depth t ≤ 64) (only w g.0 u 0 g.1.held there) g.1.deep)
 
-  pub type-deep : Ends (GoodTy pool table 0 w 64 0) Bad → refused 8 ≡ typeCounted u
+  pub type-deep : Ends (GoodTy pool table 0 w 64 0) None → refused 8 ≡ typeCounted u
   type-deep f = go (dec_le (depth u) 64)
     where
       go : Dec (depth u ≤ 64) → refused 8 ≡ typeCounted u

@@ -1,5 +1,5 @@
 -- The calls past the check of 10: where their checks refuse, so do they; where these are met, they are what is made.
-use Rattle.std.specs.Prelude.{◌≡◌, List, ◌++◌, ℕ, ◌+◌, ◌/◌, ◌≤◌, ◌<◌, replicate}
+use Rattle.std.specs.Prelude.{Result, Err, ◌≡◌, List, ◌++◌, ℕ, ◌+◌, ◌/◌, ◌≤◌, ◌<◌, replicate}
 use Rattle.std.proofs.Math.Path.{sym, ap}
 use Rattle.std.proofs.Common.{subst, ◌∙◌}
 use Rattle.std.proofs.Math.ListN.{length}
@@ -20,13 +20,11 @@ use Rattle.queries.specs.Runs.{set-opens}
 use Rattle.queries.specs.ScanLaws.{type-opens}
 use Rattle.lending.specs.Handed.{as_written, unwritten}
 use Rattle.lending.specs.Told.{Made, handed}
-use Rattle.lending.specs.declared.Answer.{Answer}
-use Rattle.lending.specs.declared.Answer.TheVariants.{Refused}
 use Rattle.replacing_calls.specs.Entry.{withBindings, entered, binds-long, row-then, stops, checked as all-checked}
 use Rattle.replacing_calls.specs.Made.{madeType, madeSet}
 
 -- a refusal makes nothing
-refused-made : (m : Got (List Rec)) (w : List ℕ) (k : Refusal) → m ≡ refused (number_of k) → Made m w (Refused k)
+refused-made : (m : Got (List Rec)) (w : List ℕ) (k : Refusal) → m ≡ refused (number_of k) → Made m w (Err k)
 refused-made m w k e = record { answer = sym (rw e); front = λ rs i. clash (sym e ∙ i) }
 
 module _ (pool table ws binds : List ℕ) where
@@ -36,13 +34,13 @@ module _ (pool table ws binds : List ℕ) where
     abbrev pub Whole : Type 0
     Whole = all ≡ (entered pool table ws binds m os >>= λ p. make p.0 p.1)
 
-    pub long-made : Whole → (w : List ℕ) → 8192 < length binds → Made all w (Refused TooLarge)
+    pub long-made : Whole → (w : List ℕ) → 8192 < length binds → Made all w (Err TooLarge)
     long-made h w l = refused-made all w TooLarge (h ∙ ap (λ (x : Got (A × List (Binding ℕ))). x >>= λ p. make p.0 p.1) (binds-long pool table ws binds m os l))
 
-    pub unmet-made : Whole → (w : List ℕ) (k : Refusal) → (entered pool table ws binds m os >> got (tt {0})) ≡ refused (number_of k) → Made all w (Refused k)
+    pub unmet-made : Whole → (w : List ℕ) (k : Refusal) → (entered pool table ws binds m os >> got (tt {0})) ≡ refused (number_of k) → Made all w (Err k)
     unmet-made h w k e = refused-made all w k (h ∙ stops (entered pool table ws binds m os) (λ p. make p.0 p.1) (number_of k) e)
 
-    pub met-made : Whole → (w : List ℕ) (r : Answer) (a : A) (bs : List (Binding ℕ)) → entered pool table ws binds m os ≡ got (a, bs) → Made (make a bs) w r → Made all w r
+    pub met-made : Whole → (w : List ℕ) (r : Result ℕ Refusal) (a : A) (bs : List (Binding ℕ)) → entered pool table ws binds m os ≡ got (a, bs) → Made (make a bs) w r → Made all w r
     met-made h w r a bs e k = subst (λ (x : Got (List Rec)). Made x w r) (sym (h ∙ ap (λ (x : Got (A × List (Binding ℕ))). x >>= λ p. make p.0 p.1) e)) k
 
   pub type-whole : Whole (typeGiven (table_of pool table) ws) opens (madeType pool table) (replacedType (table_of pool table) ws binds)

@@ -8,18 +8,18 @@ ghost use Rattle.laws.specs.NameTable.{Good};
 ghost use Rattle.names.specs.Old.{toldChecked};
 ghost use Rattle.queries.specs.Marks.{Small};
 ghost use Rattle.queries.specs.Scans.{opensIn};
-ghost use Rattle.lending.specs.Told.{Made, told};
+ghost use Rattle.lending.specs.Told.{Made};
+ghost use Rattle.rules.specs.Refusals.{told};
 ghost use Rattle.replacing.specs.LineRules.{Line};
 ghost use Rattle.replacing_calls.specs.Entry.{withBindings, Entered};
 ghost use Rattle.replacing_calls.specs.Stands.{TypeStands, LinesStand, typeCounted, linesCounted};
 ghost use Rattle.replacing_calls.specs.Made.{madeType, madeSet};
 
-use lending::Answer;
 use names::old::Checked;
 use places::inner::fill;
 use queries::inner::apart;
-use records::inner::{Ended, type_end};
-use records::{is_bindings, is_set, is_type};
+use records::inner::type_end;
+use records::old::{is_bindings, is_set, is_type};
 use replacing::inner::flat::lines_flat;
 use replacing::inner::lines::replace_lines;
 use replacing::inner::walk::replace_type;
@@ -60,37 +60,43 @@ fn with_bindings(
 }
 
 // Is the type at the start, of n records, short and flat enough? How many records, or 8.
-fn type_fits(pool: &[u8], table: &[u32], w: &[u32], n: usize) -> Answer
+fn type_fits(pool: &[u8], table: &[u32], w: &[u32], n: usize) -> Result<usize, Refusal>
     requires { Good pool.now table.now }
     ensures { (u : Ty ℕ) → TypeStands pool.now table.now w.now n u → told result ≡ typeCounted u }
 {
     if RECORDS < n {
-        return Answer::Refused(Refusal::TooLarge);
+        return Err(Refusal::TooLarge);
     }
     match type_end(pool, table, 0, w, 0, NESTED) {
-        Ended::At(_) => Answer::Records(n),
-        Ended::Bad => Answer::Refused(Refusal::TooLarge),
+        Some(_) => Ok(n),
+        None => Err(Refusal::TooLarge),
     }
 }
 
 // The same of the constraints at the start, of n records.
-fn set_fits(pool: &[u8], table: &[u32], w: &[u32], n: usize) -> Answer
+fn set_fits(pool: &[u8], table: &[u32], w: &[u32], n: usize) -> Result<usize, Refusal>
     requires good { Good pool.now table.now }
     requires lines_stand { (xs : List Line) × LinesStand pool.now table.now w.now n xs }
     ensures { (xs : List Line) → LinesStand pool.now table.now w.now n xs → told result ≡ linesCounted xs }
 {
     if RECORDS < n {
-        return Answer::Refused(Refusal::TooLarge);
+        return Err(Refusal::TooLarge);
     }
     if lines_flat(pool, table, w, 0, n) {
-        Answer::Records(n)
+        Ok(n)
     } else {
-        Answer::Refused(Refusal::TooLarge)
+        Err(Refusal::TooLarge)
     }
 }
 
 // Writes the type with its bound variables replaced to the work buffer: how many records, or why not.
-fn type_into(pool: &[u8], table: &[u32], words: &[u32], binds: &[u32], work: &mut [u32]) -> Answer
+fn type_into(
+    pool: &[u8],
+    table: &[u32],
+    words: &[u32],
+    binds: &[u32],
+    work: &mut [u32],
+) -> Result<usize, Refusal>
     requires by_index { (t : Ty ℕ) × ((bs : List (Binding ℕ)) × Entered pool.now table.now words.now binds.now (typeGiven (table_of pool.now table.now) words.now) t bs) }
     requires in_bounds { 16384 ≤ length work.old }
     ensures { (t : Ty ℕ) (bs : List (Binding ℕ)) → Entered pool.now table.now words.now binds.now (typeGiven (table_of pool.now table.now) words.now) t bs → Made (madeType pool.now table.now t bs) work.new result }
@@ -99,12 +105,18 @@ fn type_into(pool: &[u8], table: &[u32], words: &[u32], binds: &[u32], work: &mu
     fill(binds, 0, binds.len() / 4, &mut places);
     match replace_type(pool, table, words, 0, &places, binds, work, 0) {
         Ok((_, n)) => type_fits(pool, table, work, n),
-        Err(k) => Answer::Refused(k),
+        Err(k) => Err(k),
     }
 }
 
 // The same for a set.
-fn set_into(pool: &[u8], table: &[u32], words: &[u32], binds: &[u32], work: &mut [u32]) -> Answer
+fn set_into(
+    pool: &[u8],
+    table: &[u32],
+    words: &[u32],
+    binds: &[u32],
+    work: &mut [u32],
+) -> Result<usize, Refusal>
     requires by_index { (cs : List (Con ℕ)) × ((bs : List (Binding ℕ)) × Entered pool.now table.now words.now binds.now (setGiven (table_of pool.now table.now) words.now) cs bs) }
     requires in_bounds { 16384 ≤ length work.old }
     ensures { (cs : List (Con ℕ)) (bs : List (Binding ℕ)) → Entered pool.now table.now words.now binds.now (setGiven (table_of pool.now table.now) words.now) cs bs → Made (madeSet pool.now table.now cs bs) work.new result }
@@ -114,7 +126,7 @@ fn set_into(pool: &[u8], table: &[u32], words: &[u32], binds: &[u32], work: &mut
     let n = words.len() / 4;
     match replace_lines(pool, table, words, 0, n, &places, binds, work, 0) {
         Ok((_, k)) => set_fits(pool, table, work, k),
-        Err(k) => Answer::Refused(k),
+        Err(k) => Err(k),
     }
 }
 
@@ -125,17 +137,17 @@ pub fn make_type(
     words: &[u32],
     binds: &[u32],
     work: &mut [u32],
-) -> Answer
+) -> Result<usize, Refusal>
     requires table_value { lentTable pool.now table.now ≡ got tt }
     requires in_bounds { 16384 ≤ length work.old }
     ensures { Made (replacedType (table_of pool.now table.now) words.now binds.now) work.new result }
 {
     if RECORD_WORDS < binds.len() {
-        return Answer::Refused(Refusal::TooLarge);
+        return Err(Refusal::TooLarge);
     }
     match with_bindings(is_type(pool, table, words), pool, table, words, binds) {
         Checked::Good => type_into(pool, table, words, binds, work),
-        Checked::Refused(r) => Answer::Refused(r),
+        Checked::Refused(r) => Err(r),
     }
 }
 
@@ -146,16 +158,16 @@ pub fn make_set(
     words: &[u32],
     binds: &[u32],
     work: &mut [u32],
-) -> Answer
+) -> Result<usize, Refusal>
     requires table_value { lentTable pool.now table.now ≡ got tt }
     requires in_bounds { 16384 ≤ length work.old }
     ensures { Made (replacedSet (table_of pool.now table.now) words.now binds.now) work.new result }
 {
     if RECORD_WORDS < binds.len() {
-        return Answer::Refused(Refusal::TooLarge);
+        return Err(Refusal::TooLarge);
     }
     match with_bindings(is_set(pool, table, words), pool, table, words, binds) {
         Checked::Good => set_into(pool, table, words, binds, work),
-        Checked::Refused(r) => Answer::Refused(r),
+        Checked::Refused(r) => Err(r),
     }
 }

@@ -9,7 +9,7 @@ ghost use Rattle.lending.specs.Told.{writtenAs};
 
 use inner::{make_set, make_type};
 use lending::inner::hand_over;
-use lending::{Answer, lent};
+use lending::lent;
 use rules::Refusal;
 
 // The type with its bound variables replaced, in the result buffer; the work buffer is left all zero.
@@ -20,11 +20,11 @@ pub fn replace_in_type(
     binds: &[u32],
     res: &mut [u32],
     work: &mut [u32],
-) -> Answer
+) -> Result<usize, Refusal>
     ensures { writtenAs result res.new work.new ≡ replaceTypeCall pool.now table.now words.now binds.now res.old work.old }
 {
     if !lent(pool, table, res, work) {
-        return Answer::Refused(Refusal::ShortBuffer);
+        return Err(Refusal::ShortBuffer);
     }
     let made = make_type(pool, table, words, binds, work);
     hand_over(made, res, work)
@@ -38,11 +38,11 @@ pub fn replace_in_set(
     binds: &[u32],
     res: &mut [u32],
     work: &mut [u32],
-) -> Answer
+) -> Result<usize, Refusal>
     ensures { writtenAs result res.new work.new ≡ replaceSetCall pool.now table.now words.now binds.now res.old work.old }
 {
     if !lent(pool, table, res, work) {
-        return Answer::Refused(Refusal::ShortBuffer);
+        return Err(Refusal::ShortBuffer);
     }
     let made = make_set(pool, table, words, binds, work);
     hand_over(made, res, work)

@@ -10,7 +10,7 @@ ghost use Rattle.rescue.specs.Told.{Walked, Noted, Took};
 
 use super::Counts;
 use names::inner::is_good;
-use records::inner::{Ended, con_end, put};
+use records::inner::{con_end, put};
 use rules::{POOL_BYTES, RECORDS, Refusal, TABLE_WORDS};
 
 // What is lent: 2,048 records, and a place more for a torn record.
@@ -121,12 +121,12 @@ fn walk(pool: &[u8], table: &[u32], s: &[u32], kept: &mut [u8], skipped: &mut [u
     let mut m = 0;
     while at < n {
         match con_end(pool, table, s, at) {
-            Ended::At(e) => {
+            Some(e) => {
                 put_words(s, at * 4, e * 4, kept, k * 16);
                 k += e - at;
                 at = e;
             }
-            Ended::Bad => {
+            None => {
                 put(skipped, m, at as u32);
                 m += 1;
                 at += 1;

@@ -43,12 +43,12 @@ use Rattle.records.specs.ByView.{by-view, factor-by-view}
 use Rattle.records.specs.declared.Open as names
 use Rattle.records.specs.declared.Atom as atoms
 use Rattle.replacing.proofs.Others.{Tagged, untagged}
-use Rattle.satisfying.specs.Parts.{named}
+use Rattle.rules.specs.Refusals.{toldOption}
 use Rattle.rules.specs.Products.{single}
 use Rattle.records.specs.Views.{viewAt}
 use Rattle.records.specs.declared.View.{View}
 use Rattle.records.specs.declared.View.TheVariants as view
-use Rattle.queries.specs.declared.Name.{Name}
+use Rattle.std.specs.Prelude as maybe
 
 -- the tag of a type's first record
 abbrev tag_of : Ty ℕ → ℕ
@@ -90,7 +90,7 @@ module _ (s : List ℕ) (t : Ty ℕ) (at : ℕ) (h : Holds s t at) {w : View} (e
 -- ══ One variable to the power 1 ══
 
 module _ {a : atoms.Atom} {o : names.Open} (q : a ≡ atoms.TheVariants.Free o) (e : Exp) where
-  pub power-one : (r : Name) → is_yes (Exp-dec e one) ≡ true → named r ≡ variable (openOf o) → named r ≡ and_then (single (atomOf a ↑ e ∷ [])) variable
+  pub power-one : (r : maybe.Option ℕ) → is_yes (Exp-dec e one) ≡ true → toldOption r ≡ variable (openOf o) → toldOption r ≡ and_then (single (atomOf a ↑ e ∷ [])) variable
   unfolding single
   power-one r y h = h ∙ go o ∙ ap (λ (b : atoms.Atom). and_then (single (atomOf b ↑ e ∷ [])) variable) (sym q)
     where
@@ -126,14 +126,14 @@ module _ (s : List ℕ) (t : Ty ℕ) (at : ℕ) (h : Holds s t at) where
   power-many e z = by-view s (λ t. none ≡ asPower t) t at h e
       (λ p l hp. ap (λ (m : Option (tree.Open ℕ)). and_then m variable) (sym (single-many p (λ i. z (sym l ∙ i)))))
 
-  pub power_at : {n : ℕ} {a : atoms.Atom} {num den : ℕ} (r : Name) → viewAt s at ≡ view.Dim n → n ≡ 1 → viewAt s (at + 1) ≡ view.Factor a num den
-      → named r ≡ and_then (single (atomOf a ↑ frac (signed num) den ∷ [])) variable → named r ≡ asPower t
+  pub power_at : {n : ℕ} {a : atoms.Atom} {num den : ℕ} (r : maybe.Option ℕ) → viewAt s at ≡ view.Dim n → n ≡ 1 → viewAt s (at + 1) ≡ view.Factor a num den
+      → toldOption r ≡ and_then (single (atomOf a ↑ frac (signed num) den ∷ [])) variable → toldOption r ≡ asPower t
   unfolding HoldsFactors
-  power_at r e z f q = by-view s (λ t. named r ≡ asPower t) t at h e (λ p l hp. go p (l ∙ z) hp)
+  power_at r e z f q = by-view s (λ t. toldOption r ≡ asPower t) t at h e (λ p l hp. go p (l ∙ z) hp)
     where
-      go : (p : Product ℕ) → length p ≡ 1 → HoldsFactors s p (at + 1) → named r ≡ asPower (dim p)
+      go : (p : Product ℕ) → length p ≡ 1 → HoldsFactors s p (at + 1) → toldOption r ≡ asPower (dim p)
       go [] l hp = absurd (let y : ◌≡◌ {A = ℕ} 0 1 = l in omega arith)
-      go (x ∷ []) l hp = factor-by-view s (λ x. named r ≡ asPower (dim (x ∷ []))) x (at + 1) hp.0 f q
+      go (x ∷ []) l hp = factor-by-view s (λ x. toldOption r ≡ asPower (dim (x ∷ []))) x (at + 1) hp.0 f q
       go (x ∷ y ∷ p) l hp = absurd (omega arith)
 
   pub power-no-factor : {n : ℕ} {w : View} → viewAt s at ≡ view.Dim n → n ≡ 1 → w ≡ viewAt s (at + 1) → Tagged notFactor w → none ≡ asPower t

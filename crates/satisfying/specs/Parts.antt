@@ -5,13 +5,6 @@ use Rattle.rules.specs.Base.{Got, got, ◌>>=◌}
 use Rattle.rules.specs.Exponents.{goodExp}
 use Rattle.rules.specs.Rounds as rules
 use Rattle.rules.specs.Trees.{var, quant, par, Atom, free, base, ◌↑◌, opened, dim, Con, isDim, is_scalar, Product}
-use Rattle.queries.specs.declared.Name.{Name}
-use Rattle.queries.specs.declared.Name.TheVariants.{Of, Nothing}
-
--- a name that was looked for
-abbrev pub named : Name → Option ℕ
-named (Of x) = some x
-named Nothing = none
 
 -- places stay small
 pub record Fits (s : List ℕ) (out : ℕ) : Type 0 where

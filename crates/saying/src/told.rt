@@ -1,18 +1,14 @@
 // What a call says, in words.
 ghost use Rattle.std.specs.Prelude.{◌≡◌};
-ghost use Rattle.rules.specs.Refusals.{number_of, told};
+ghost use Rattle.rules.specs.Refusals.{number_of, told, toldBy};
 ghost use Rattle.names.specs.Told.{toldOrder};
 ghost use Rattle.names.specs.Old.{toldChecked};
-ghost use Rattle.queries.specs.Told.{toldCount};
-ghost use Rattle.queries.specs.Told as queries;
-ghost use Rattle.lending.specs.Told as lending;
-ghost use Rattle.adding.specs.Told.{toldAdded};
+ghost use Rattle.adding.specs.Told.{counted};
 ghost use Rattle.solving.specs.Told as solving;
-ghost use Rattle.ceiling.specs.Told as ceiling;
+ghost use Rattle.ceiling.specs.Told.{toldMost};
 ghost use Rattle.rules.specs.Calls.{solved, unsolved};
 ghost use Rattle.saying.specs.Saying.{word, fours, sum, yesWord, saidAs, refusedAs, checkedAs, askedAs, numberAs, orderAs, countedAs, writtenAs, addedAs, solvedAs, wasWord, mostAs, ceilingAs, batchedAs};
 
-use adding::Added;
 use ceiling::Most;
 use names::old::Checked;
 use rules::{Refusal, Was};
@@ -83,12 +79,12 @@ fn yes(b: bool) -> u32
     if b { 1 } else { 0 }
 }
 
-pub fn asked(a: queries::Answer) -> Told
-    ensures { result ≡ askedAs (queries.told a) }
+pub fn asked(a: Result<bool, Refusal>) -> Told
+    ensures { result ≡ askedAs (told a) }
 {
     match a {
-        queries::Answer::Said(b) => said(yes(b), 0, 0),
-        queries::Answer::Refused(why) => refused(why, 0, 0),
+        Ok(b) => said(yes(b), 0, 0),
+        Err(why) => refused(why, 0, 0),
     }
 }
 
@@ -121,33 +117,33 @@ pub fn ordered(o: Ordering) -> Told
     }
 }
 
-pub fn counted(c: queries::Count) -> Told
-    ensures { result ≡ countedAs (toldCount c) }
+pub fn counted(c: Result<usize, Refusal>) -> Told
+    ensures { result ≡ countedAs (told c) }
 {
     match c {
-        queries::Count::Names(n) => said(short(n), 0, n),
-        queries::Count::Refused(why) => refused(why, 0, 0),
+        Ok(n) => said(short(n), 0, n),
+        Err(why) => refused(why, 0, 0),
     }
 }
 
-pub fn written(a: lending::Answer) -> Told
-    ensures { result ≡ writtenAs (lending.told a) }
+pub fn written(a: Result<usize, Refusal>) -> Told
+    ensures { result ≡ writtenAs (told a) }
 {
     match a {
-        lending::Answer::Records(n) => said(short(n), 0, words_of(n)),
-        lending::Answer::Refused(why) => refused(why, 0, 0),
+        Ok(n) => said(short(n), 0, words_of(n)),
+        Err(why) => refused(why, 0, 0),
     }
 }
 
 // On a refusal the words of the set stay at the front.
-pub fn added(a: Added, words: usize) -> Told
-    ensures { result ≡ addedAs (toldAdded a) words }
+pub fn added(a: Result<(adding::Verdict, usize), Refusal>, words: usize) -> Told
+    ensures { result ≡ addedAs (toldBy counted a) words }
 {
     match a {
-        Added::Satisfied(n) => said(1, short(n), words_of(n)),
-        Added::Violated(n) => said(2, short(n), words_of(n)),
-        Added::Unknown(n) => said(3, short(n), words_of(n)),
-        Added::Refused(why) => refused(why, 0, words),
+        Ok((adding::Verdict::Satisfied, n)) => said(1, short(n), words_of(n)),
+        Ok((adding::Verdict::Violated, n)) => said(2, short(n), words_of(n)),
+        Ok((adding::Verdict::Unknown, n)) => said(3, short(n), words_of(n)),
+        Err(why) => refused(why, 0, words),
     }
 }
 
@@ -204,27 +200,27 @@ pub fn judged(answer: Result<bool, Refusal>) -> Told
 }
 
 fn most(m: Most) -> Told
-    ensures { result ≡ mostAs (ceiling.toldMost m) }
+    ensures { result ≡ mostAs (toldMost m) }
 {
     said(m.variables, m.rounds, 0)
 }
 
 // Distinct variables, and the ceiling on rounds.
-pub fn limited(a: ceiling::Answer) -> Told
-    ensures { result ≡ ceilingAs (ceiling.told a) }
+pub fn limited(a: Result<Most, Refusal>) -> Told
+    ensures { result ≡ ceilingAs (toldBy toldMost a) }
 {
     match a {
-        ceiling::Answer::Given(m) => most(m),
-        ceiling::Answer::Refused(why) => refused(why, 0, 0),
+        Ok(m) => most(m),
+        Err(why) => refused(why, 0, 0),
     }
 }
 
 // How many records there are of all sets together, behind so many words of their answers.
-pub fn batched(a: lending::Answer, answers: usize) -> Told
-    ensures { result ≡ batchedAs (lending.told a) answers }
+pub fn batched(a: Result<usize, Refusal>, answers: usize) -> Told
+    ensures { result ≡ batchedAs (told a) answers }
 {
     match a {
-        lending::Answer::Records(n) => said(short(n), 0, both(answers, words_of(n))),
-        lending::Answer::Refused(why) => refused(why, 0, 0),
+        Ok(n) => said(short(n), 0, both(answers, words_of(n))),
+        Err(why) => refused(why, 0, 0),
     }
 }

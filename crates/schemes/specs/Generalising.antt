@@ -1,5 +1,6 @@
 -- Generalising a scheme that was given: a concrete type by its sorted names, another scheme as it stands.
-use Rattle.std.specs.Prelude.{◌≡◌, true, get_or, take, drop}
+use Rattle.rules.specs.declared.Refusal.{Refusal}
+use Rattle.std.specs.Prelude.{Result, Ok, ◌≡◌, true, get_or, take, drop}
 use Rattle.std.proofs.Math.Path.{refl, sym, ap, subst}
 use Rattle.std.proofs.Common.{◌∙◌, zero-add}
 use Rattle.std.proofs.Math.Bool.{false}
@@ -42,8 +43,6 @@ use Rattle.queries.specs.Scans.{choose, opensIn}
 use Rattle.queries.specs.declared.Kind.TheVariants.{Both}
 use Rattle.lending.specs.Handed.{as_written, unwritten}
 use Rattle.lending.specs.Told.{Made, handed}
-use Rattle.lending.specs.declared.Answer.{Answer}
-use Rattle.lending.specs.declared.Answer.TheVariants.{Records}
 use Rattle.handing.specs.Bounds.{open-view, bound-rec}
 use Rattle.quantifying.specs.Core.{made-records}
 use Rattle.quantifying.specs.Ready.{Ready, quantifiedAs}
@@ -101,7 +100,7 @@ pub record Given (pool table s bounds work : List ℕ) (sc : Scheme ℕ) (bs : L
   pub work-long : 16384 ≤ length work
 
 -- from there the work buffer is left with what generalising makes
-abbrev pub Generalises : List ℕ → List ℕ → List ℕ → List ℕ → List ℕ → List ℕ → Answer → Scheme ℕ → Type 0
+abbrev pub Generalises : List ℕ → List ℕ → List ℕ → List ℕ → List ℕ → List ℕ → Result ℕ Refusal → Scheme ℕ → Type 0
 Generalises pool table s bounds work w r sc = (bs : List (tree.Open ℕ)) → Given pool table s bounds work sc bs → Made (generalisedFrom pool table s sc bs) w r
 
 module _ (pool table s bounds work : List ℕ) where
@@ -113,12 +112,12 @@ module _ (pool table s bounds work : List ℕ) where
   the_type (concrete t) bs g e = (t, g)
   the_type (scheme n t os) bs g e = absurd (not-both n g.there.0 e)
 
-  pub the-type-made : (w : List ℕ) (r : Answer) (sc : Scheme ℕ) → viewAt s 0 ≡ view.Concrete → ((t : Ty ℕ) → Generalises pool table s bounds work w r (concrete t)) → Generalises pool table s bounds work w r sc
+  pub the-type-made : (w : List ℕ) (r : Result ℕ Refusal) (sc : Scheme ℕ) → viewAt s 0 ≡ view.Concrete → ((t : Ty ℕ) → Generalises pool table s bounds work w r (concrete t)) → Generalises pool table s bounds work w r sc
   the-type-made w r (concrete t) e h = h t
   the-type-made w r (scheme n t os) e h = λ bs g. absurd (not-both n g.there.0 e)
 
   -- another scheme is unchanged
-  pub the-scheme : (sc : Scheme ℕ) (bs : List (tree.Open ℕ)) → Given pool table s bounds work sc bs → (viewAt s 0 ≡ view.Concrete → ⊥) → (w : List ℕ) → w ≡ sets work 0 (slice 0 (length s / 4 * 4) s) → Made (generalisedFrom pool table s sc bs) w (Records (length s / 4))
+  pub the-scheme : (sc : Scheme ℕ) (bs : List (tree.Open ℕ)) → Given pool table s bounds work sc bs → (viewAt s 0 ≡ view.Concrete → ⊥) → (w : List ℕ) → w ≡ sets work 0 (slice 0 (length s / 4 * 4) s) → Made (generalisedFrom pool table s sc bs) w (Ok (length s / 4))
   unfolding generalise
   the-scheme (concrete t) bs g f w e = absurd (f g.there.0)
   the-scheme (scheme n t os) bs g f w e =
@@ -171,7 +170,7 @@ module _ (pool table s bounds work : List ℕ) where
             work-long = g.work-long;
           })
 
-      pub type-made : length b' ≡ 256 → (w : List ℕ) (r : Answer) → Made (quantifiedAs pool table (take k b') false t bs) w r → Made (generalisedFrom pool table s (concrete t) bs) w r
+      pub type-made : length b' ≡ 256 → (w : List ℕ) (r : Result ℕ Refusal) → Made (quantifiedAs pool table (take k b') false t bs) w r → Made (generalisedFrom pool table s (concrete t) bs) w r
       unfolding opensScheme
       type-made l w r h =
           let few = listed-few l in

@@ -1,5 +1,6 @@
 -- What instantiating makes of a scheme that was given.
-use Rattle.std.specs.Prelude.{◌≡◌, Bool, ℕ, ◌+◌, ◌/◌, ◌≤◌, length, get_or}
+use Rattle.rules.specs.declared.Refusal.{Refusal}
+use Rattle.std.specs.Prelude.{Result, ◌≡◌, Bool, ℕ, ◌+◌, ◌/◌, ◌≤◌, length, get_or}
 use Rattle.std.proofs.Math.Path.{refl, ap}
 use Rattle.std.proofs.Common.{sym, subst, ◌∙◌, arith, lt-ltb, eqb-true}
 use Rattle.std.proofs.Math.Bool.{true, false}
@@ -29,7 +30,6 @@ use Rattle.records.specs.Schemes.{scheme-is}
 use Rattle.handing.specs.Bounds.{Rename, allBounds, BoundsAt}
 use Rattle.lending.specs.Handed.{as_written, unwritten}
 use Rattle.lending.specs.Told.{Made, handed}
-use Rattle.lending.specs.declared.Answer.{Answer}
 use Rattle.instantiating.specs.Ready.{putBackAs, instantiatedAs, Slim, Ready, head_of, ReadyScheme}
 use Rattle.schemes.specs.Entry.{Entered}
 use Rattle.schemes.specs.Whole.{tells, all_renamed, chain-bounds, handed-on}
@@ -152,7 +152,7 @@ module _ (pool table s names : List ℕ) (w : Words32 s) (sc : Scheme ℕ) (none
           more true h = put-made t bs (e ∙ ap (λ (i : ℕ). scheme i t bs) (eqb-true m (length names) h))
           more false h = refl
 
-  pub instantiate-met : (w' : List ℕ) (r : Answer) → Made (instantiatedAs pool table names sc) w' r
+  pub instantiate-met : (w' : List ℕ) (r : Result ℕ Refusal) → Made (instantiatedAs pool table names sc) w' r
       → Made (instantiatedFrom pool table s names sc none) w' r
   instantiate-met w' r k = subst (λ (m : Got (List Rec)). Made m w' r) instantiate-made k
 

@@ -1,5 +1,5 @@
 -- The calls on schemes past the check of 10: where their checks refuse, so do they; where these are met, they are what is made.
-use Rattle.std.specs.Prelude.{◌≡◌, refl, true, ℕ, ◌+◌, ◌/◌, ◌≤◌, ◌<◌, get_or, replicate}
+use Rattle.std.specs.Prelude.{Result, Err, ◌≡◌, refl, true, ℕ, ◌+◌, ◌/◌, ◌≤◌, ◌<◌, get_or, replicate}
 use Rattle.std.proofs.Math.Path.{sym, ap}
 use Rattle.std.proofs.Common.{subst, ◌∙◌, arith, ltb-true}
 use mathlib.Core.List.{List, [], ◌∷◌}
@@ -39,8 +39,6 @@ use Rattle.queries.specs.ScanLaws.{type-opens}
 use Rattle.queries.specs.Scans.{opensIn}
 use Rattle.lending.specs.Handed.{as_written, unwritten}
 use Rattle.lending.specs.Told.{Made, handed}
-use Rattle.lending.specs.declared.Answer.{Answer}
-use Rattle.lending.specs.declared.Answer.TheVariants.{Refused}
 use Rattle.handing.specs.Bounds.{Rename, allBounds, BoundsAt}
 use Rattle.quantifying.specs.Core.{made-refused}
 use Rattle.quantifying.specs.Ready.{Ready, quantifiedAs}
@@ -52,16 +50,16 @@ module _ (pool table ws bounds names : List ℕ) {A : Type 0} (m : Got A) (os : 
   abbrev pub Whole : Type 0
   Whole = all ≡ (entered pool table ws bounds names m os >>= λ p. make p.0 p.1)
 
-  pub bounds-made : Whole → (w : List ℕ) → 8192 < length bounds → Made all w (Refused TooLarge)
+  pub bounds-made : Whole → (w : List ℕ) → 8192 < length bounds → Made all w (Err TooLarge)
   bounds-made h w l = made-refused all TooLarge w (h ∙ ap (λ (x : Got (A × List (tree.Open ℕ))). x >>= λ p. make p.0 p.1) (bounds-long pool table ws bounds names m os l))
 
-  pub names-made : Whole → (w : List ℕ) → 2048 < length names → Made all w (Refused TooLarge)
+  pub names-made : Whole → (w : List ℕ) → 2048 < length names → Made all w (Err TooLarge)
   names-made h w l = made-refused all TooLarge w (h ∙ ap (λ (x : Got (A × List (tree.Open ℕ))). x >>= λ p. make p.0 p.1) (names-long pool table ws bounds names m os l))
 
-  pub unmet-made : Whole → (w : List ℕ) (k : Refusal) → (entered pool table ws bounds names m os >> got (tt {0})) ≡ refused (number_of k) → Made all w (Refused k)
+  pub unmet-made : Whole → (w : List ℕ) (k : Refusal) → (entered pool table ws bounds names m os >> got (tt {0})) ≡ refused (number_of k) → Made all w (Err k)
   unmet-made h w k e = made-refused all k w (h ∙ stops (entered pool table ws bounds names m os) (λ p. make p.0 p.1) (number_of k) e)
 
-  pub met-made : Whole → (w : List ℕ) (r : Answer) (a : A) (bs : List (tree.Open ℕ)) → entered pool table ws bounds names m os ≡ got (a, bs) → Made (make a bs) w r → Made all w r
+  pub met-made : Whole → (w : List ℕ) (r : Result ℕ Refusal) (a : A) (bs : List (tree.Open ℕ)) → entered pool table ws bounds names m os ≡ got (a, bs) → Made (make a bs) w r → Made all w r
   met-made h w r a bs e k = subst (λ (x : Got (List Rec)). Made x w r) (sym (h ∙ ap (λ (x : Got (A × List (tree.Open ℕ))). x >>= λ p. make p.0 p.1) e)) k
 
 -- ══ Bounds that were given ══
@@ -149,7 +147,7 @@ module _ (pool table ws bounds names : List ℕ) where
         rw (all_renamed (all_of ν 0 names) bs, q)
         (sym (bind-twice (replaceTy ν bounded (renamed (all_of ν 0 names)) t) (λ u. schemeLimited bounded 1 u (renamedBounds (all_of ν 0 names) bs) (scheme (length names) u (renamedBounds (all_of ν 0 names) bs))) (λ s. got (writeScheme s))))
 
-    pub quantify-met : (w' : List ℕ) (r : Answer) → Made (quantifiedAs pool table names true t bs) w' r → Made (quantifiedFrom t bs) w' r
+    pub quantify-met : (w' : List ℕ) (r : Result ℕ Refusal) → Made (quantifiedAs pool table names true t bs) w' r → Made (quantifiedFrom t bs) w' r
     quantify-met w' r k = subst (λ (m : Got (List Rec)). Made m w' r) quantify-made k
 
 -- ══ The calls ══

@@ -11,7 +11,7 @@ use inner::generalising::make_generalised;
 use inner::instantiated::make_instantiated;
 use inner::making::make_quantified;
 use lending::inner::hand_over;
-use lending::{Answer, lent};
+use lending::lent;
 use rules::Refusal;
 
 // The type and bounds with the handed names quantified, as a scheme in the result buffer; the work buffer is left all zero.
@@ -23,11 +23,11 @@ pub fn quantify(
     names: &[u32],
     res: &mut [u32],
     work: &mut [u32],
-) -> Answer
+) -> Result<usize, Refusal>
     ensures { writtenAs result res.new work.new ≡ quantifyCall pool.now table.now words.now bounds.now names.now res.old work.old }
 {
     if !lent(pool, table, res, work) {
-        return Answer::Refused(Refusal::ShortBuffer);
+        return Err(Refusal::ShortBuffer);
     }
     let made = make_quantified(pool, table, words, bounds, names, work);
     hand_over(made, res, work)
@@ -41,11 +41,11 @@ pub fn generalise(
     bounds: &[u32],
     res: &mut [u32],
     work: &mut [u32],
-) -> Answer
+) -> Result<usize, Refusal>
     ensures { writtenAs result res.new work.new ≡ generaliseCall pool.now table.now given.now bounds.now res.old work.old }
 {
     if !lent(pool, table, res, work) {
-        return Answer::Refused(Refusal::ShortBuffer);
+        return Err(Refusal::ShortBuffer);
     }
     let made = make_generalised(pool, table, given, bounds, work);
     hand_over(made, res, work)
@@ -59,11 +59,11 @@ pub fn instantiate(
     names: &[u32],
     res: &mut [u32],
     work: &mut [u32],
-) -> Answer
+) -> Result<usize, Refusal>
     ensures { writtenAs result res.new work.new ≡ instantiateCall pool.now table.now given.now names.now res.old work.old }
 {
     if !lent(pool, table, res, work) {
-        return Answer::Refused(Refusal::ShortBuffer);
+        return Err(Refusal::ShortBuffer);
     }
     let made = make_instantiated(pool, table, given, names, work);
     hand_over(made, res, work)

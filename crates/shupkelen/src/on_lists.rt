@@ -9,7 +9,7 @@ ghost use Rattle.shupkelen.specs.Exports.{out, askedOut, namesOut, ceilingOut};
 use ceiling::ceiling;
 use lending::lent;
 use queries::{closed, contains, variables};
-use records::{is_bindings, is_scheme, is_set, is_type};
+use records::old::{is_bindings, is_scheme, is_set, is_type};
 use rules::Refusal;
 use saying::told::{asked, counted, limited};
 use wording::{hand, number};

@@ -14,7 +14,7 @@ use inner::write_lines;
 use lending::inner::clear;
 use lending::lent;
 use names::old::Checked;
-use records::is_set;
+use records::old::is_set;
 use rules::Refusal;
 use sheet_reading::inner::read_given;
 use sheet_reading::{NotRead, Read};

@@ -7,7 +7,6 @@ ghost use Rattle.instantiating.specs.Ready.{Ready, ReadyScheme, putBackAs, insta
 
 use handing::inner::bounds::put_bounds;
 use handing::inner::tables::{keep_names, put_names_back};
-use lending::Answer;
 use names::inner::count;
 use records::View;
 use records::seen::view_at;
@@ -16,7 +15,13 @@ use rules::Refusal;
 
 // Writes the type and the bounds with the names put back, to the work buffer: how many records, or why not.
 // The second walk reads a product that is one variable to the power 1 as that variable.
-fn put_back(pool: &[u8], table: &[u32], s: &[u32], names: &[u32], work: &mut [u32]) -> Answer
+fn put_back(
+    pool: &[u8],
+    table: &[u32],
+    s: &[u32],
+    names: &[u32],
+    work: &mut [u32],
+) -> Result<usize, Refusal>
     requires { (t : Ty ℕ) × ((bs : List (Open ℕ)) × Ready pool.now table.now names.now s.now work.old t bs) }
     ensures { (t : Ty ℕ) (bs : List (Open ℕ)) → Ready pool.now table.now names.now s.now work.old t bs → Made (putBackAs pool.now table.now names.now t bs) work.new result }
 {
@@ -28,10 +33,10 @@ fn put_back(pool: &[u8], table: &[u32], s: &[u32], names: &[u32], work: &mut [u3
     let mut first = [0u32; 8192];
     match replace_type(pool, table, s, 1, &places, &v, &mut first, 0) {
         Ok((at, _)) => match replace_type(pool, table, &first, 0, &own, &v, work, 0) {
-            Ok((_, out)) => Answer::Records(put_bounds(s, at, &places, &v, true, work, out)),
-            Err(k) => Answer::Refused(k),
+            Ok((_, out)) => Ok(put_bounds(s, at, &places, &v, true, work, out)),
+            Err(k) => Err(k),
         },
-        Err(k) => Answer::Refused(k),
+        Err(k) => Err(k),
     }
 }
 
@@ -42,7 +47,7 @@ pub fn instantiate_scheme(
     s: &[u32],
     names: &[u32],
     work: &mut [u32],
-) -> Answer
+) -> Result<usize, Refusal>
     requires { (sc : Scheme ℕ) × ReadyScheme pool.now table.now names.now s.now work.old sc }
     ensures { (sc : Scheme ℕ) → ReadyScheme pool.now table.now names.now s.now work.old sc → Made (instantiatedAs pool.now table.now names.now sc) work.new result }
 {
@@ -51,9 +56,9 @@ pub fn instantiate_scheme(
             if n as usize == names.len() {
                 put_back(pool, table, s, names, work)
             } else {
-                Answer::Refused(Refusal::WrongCount)
+                Err(Refusal::WrongCount)
             }
         }
-        _ => Answer::Refused(Refusal::WrongCount),
+        _ => Err(Refusal::WrongCount),
     }
 }

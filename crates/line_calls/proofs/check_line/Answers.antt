@@ -17,7 +17,7 @@ make_line-made-requires c =
 pub hand_over-requires : goal.hand_over-requires
 hand_over-requires c =
     let r : Room c.args.pool.now c.args.table.now c.args.steps.now c.args.types.now c.args.lines.now c.args.names.now c.args.res.now c.args.work.now = room-is _ _ _ _ _ _ _ _ (sym c.room.ensures ∙ ap (λ (b : Bool). need b 10) (c.if-not-room.false)) in
-    record { made = (_, c.make_line-made.ensures); in_bounds = r.lent-long.result-long }
+    record { made = (_, c.make_line-made.ensures); room = r.lent-long.result-long }
 
 pub returns : goal.returns
 returns c = c.hand_over.ensures _ c.make_line-made.ensures ∙ called _ _ _ _ _ _ _ _ c.make_line-made.new.work c.make_line-made.auto.work (sym c.room.ensures ∙ ap (λ (b : Bool). need b 10) (c.if-not-room.false))

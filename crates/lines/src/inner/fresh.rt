@@ -1,17 +1,15 @@
 // The lent names: no two the same, none used in a type of the line (4), each held (3).
-ghost use Rattle.std.specs.Prelude.{◌≡◌, not, ◌≤◌, eqb, ltb, length, get_or, drop};
+ghost use Rattle.std.specs.Prelude.{◌≡◌, not, ◌≤◌, eqb, ltb, length, get_or, drop, option_to_list};
 ghost use Rattle.rules.specs.Base.{any, all, collect, to_list};
 ghost use Rattle.rules.specs.Views.{name_of};
 ghost use Rattle.rules.specs.Calls.{differ};
 ghost use Rattle.records.specs.Views.{viewAt};
 ghost use Rattle.records.specs.Holds.{openOf, atomOf};
-ghost use Rattle.queries.specs.Scans.{toldName};
 ghost use Rattle.rules.specs.Steps.{stepKind, stepNumbers};
 ghost use Rattle.lines.specs.StepLists.{stepsFrom};
 ghost use Rattle.lines.specs.Used.{namesAtom, namesView, namesIn, names_at, namesBy, namesWord, freshWords};
 
 use names::inner::is_held;
-use queries::Name;
 use records::seen::{length_at, view_at};
 use records::{Atom, Open, View};
 
@@ -53,46 +51,46 @@ pub fn all_held(table: &[u32], names: &[u32]) -> bool
 }
 
 // The name of an open type, where it has one.
-fn open_name(o: Open) -> Name
-    ensures { toldName result ≡ to_list (name_of (openOf o)) }
+fn open_name(o: Open) -> Option<u32>
+    ensures { option_to_list result ≡ to_list (name_of (openOf o)) }
 {
     match o {
-        Open::Var(x) => Name::Of(x),
-        Open::Quant(_) => Name::Nothing,
-        Open::Par(x) => Name::Of(x),
+        Open::Var(x) => Some(x),
+        Open::Quant(_) => None,
+        Open::Par(x) => Some(x),
     }
 }
 
 // The name of an atom, where it has one.
-fn atom_name(a: Atom) -> Name
-    ensures { toldName result ≡ namesAtom (atomOf a) }
+fn atom_name(a: Atom) -> Option<u32>
+    ensures { option_to_list result ≡ namesAtom (atomOf a) }
 {
     match a {
         Atom::Free(o) => open_name(o),
-        Atom::Base(x) => Name::Of(x),
+        Atom::Base(x) => Some(x),
     }
 }
 
 // The name that the record at a place has, be it a type's, a factor's, a struct's or a field's.
-fn name_here(s: &[u32], i: usize) -> Name
-    ensures { toldName result ≡ namesView (viewAt s.now i) }
+fn name_here(s: &[u32], i: usize) -> Option<u32>
+    ensures { option_to_list result ≡ namesView (viewAt s.now i) }
 {
     match view_at(s, i) {
         View::Opened(o) => open_name(o),
-        View::Struct(x, _, _) => Name::Of(x),
-        View::Field(x) => Name::Of(x),
+        View::Struct(x, _, _) => Some(x),
+        View::Field(x) => Some(x),
         View::Factor(a, _, _) => atom_name(a),
-        _ => Name::Nothing,
+        _ => None,
     }
 }
 
 // Is this the name x?
-fn is_name(n: Name, x: u32) -> bool
-    ensures { result ≡ any (eqb x) (toldName n) }
+fn is_name(n: Option<u32>, x: u32) -> bool
+    ensures { result ≡ any (eqb x) (option_to_list n) }
 {
     match n {
-        Name::Of(y) => x == y,
-        Name::Nothing => false,
+        Some(y) => x == y,
+        None => false,
     }
 }
 

@@ -13,7 +13,6 @@ use super::leaves::enter_leaf;
 use super::{before_next, one_more, pass_if, rises, too_deep};
 use reading::inner::{Point, byte_at, mark, next_is, next_sign, sign};
 use records::View;
-use records::inner::Before;
 use terms::inner::naming::read_named;
 use terms::inner::{Reached, Stand, count, place_of, put_head};
 
@@ -30,7 +29,7 @@ pub struct Row {
 pub struct Member {
     pub at: Point,
     pub stand: Stand,
-    pub before: Before,
+    pub before: Option<u32>,
 }
 
 /// The type that begins here, and its records.
@@ -281,7 +280,7 @@ fn enter_fields(
     ensures { Done line.now (fields (type d)) (λ fs. fields_of fs none) (FieldsTold 0 result.count) p (lent pool.old table.old dst.old s)
         result.at (lent pool.new table.new dst.new result.stand) }
 {
-    let first = enter_field(line, p, d, Before::Start, s, pool, table, dst);
+    let first = enter_field(line, p, d, None, s, pool, table, dst);
     let mut at = first.at;
     let mut stand = first.stand;
     let mut before = first.before;
@@ -307,7 +306,7 @@ fn enter_field(
     line: &[u8],
     p: Point,
     d: usize,
-    before: Before,
+    before: Option<u32>,
     s: Stand,
     pool: &mut [u8],
     table: &mut [u32],

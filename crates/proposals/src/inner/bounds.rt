@@ -11,7 +11,6 @@ ghost use Rattle.queries.specs.Marks.{Marks};
 ghost use Rattle.proposals.specs.Bounds.{BoundsThere};
 
 use names::inner::order;
-use queries::Name;
 use queries::inner::mark;
 use records::seen::view_at;
 use records::{Open, View};
@@ -67,6 +66,6 @@ pub fn mark_all(s: &[u32], m: &mut [bool; NAMES])
         Marks m.new (xs ++ map word_of os) }
 {
     for i in 0..s.len() / 4 {
-        mark(m, Name::Of(name_of(s, i)));
+        mark(m, Some(name_of(s, i)));
     }
 }

@@ -1,5 +1,5 @@
 // Is no name both a variable and a parameter, in a set, in the types of a table of places, and among the variables bound there?
-ghost use Rattle.std.specs.Prelude.{◌≡◌, List, [], ◌∷◌, ◌++◌, ℕ, ◌/◌, length};
+ghost use Rattle.std.specs.Prelude.{◌≡◌, List, [], ◌∷◌, ◌++◌, ℕ, ◌/◌, length, option_to_list};
 ghost use Rattle.std.proofs.Math.Option.{Option};
 ghost use Rattle.rules.specs.Base.{collect};
 ghost use Rattle.rules.specs.Calls.{opensBinding};
@@ -8,22 +8,22 @@ ghost use Rattle.rules.specs.Names.{Bytes, numbered};
 ghost use Rattle.rules.specs.Trees.{Ty, Binding, var};
 ghost use Rattle.replacing.specs.Places.{SaysAt};
 ghost use Rattle.queries.specs.Marks.{Marks, Small};
-ghost use Rattle.queries.specs.Scans.{choose, opensIn, toldName};
+ghost use Rattle.queries.specs.Scans.{choose, opensIn};
 ghost use Rattle.proposals.specs.Mixed.{opens_of, opensBelow, Table};
 
+use queries::Kind;
 use queries::inner::{end_of, is_disjoint, mark, marks};
-use queries::{Kind, Name};
 use replacing::inner::bound::word_at;
 use rules::NAMES;
 
 // A variable, where variables are asked for.
-fn variable(x: u32, k: Kind) -> Name
-    ensures { toldName result ≡ choose k (var x ∷ []) }
+fn variable(x: u32, k: Kind) -> Option<u32>
+    ensures { option_to_list result ≡ choose k (var x ∷ []) }
 {
     match k {
-        Kind::Variables => Name::Of(x),
-        Kind::Parameters => Name::Nothing,
-        Kind::Both => Name::Of(x),
+        Kind::Variables => Some(x),
+        Kind::Parameters => None,
+        Kind::Both => Some(x),
     }
 }
 

@@ -6,7 +6,6 @@ ghost use Rattle.quantifying.specs.Ready.{Ready, quantifiedAs};
 
 use handing::inner::bounds::put_bounds;
 use handing::inner::tables::quantify_names;
-use lending::Answer;
 use records::View;
 use records::inner::put_record;
 use replacing::inner::walk::replace_type;
@@ -23,7 +22,7 @@ pub fn quantify_at(
     bounds: &[u32],
     all: bool,
     work: &mut [u32],
-) -> Answer
+) -> Result<usize, Refusal>
     requires { (t : Ty ℕ) × ((bs : List (Open ℕ)) × Ready pool.now table.now s.now at names.now bounds.now work.old t bs) }
     ensures { (t : Ty ℕ) (bs : List (Open ℕ)) → Ready pool.now table.now s.now at names.now bounds.now work.old t bs → Made (quantifiedAs pool.now table.now names.now all t bs) work.new result }
 {
@@ -33,16 +32,16 @@ pub fn quantify_at(
     match replace_type(pool, table, s, at, &places, &v, work, 1) {
         Ok((_, out)) => {
             if RECORDS < out {
-                return Answer::Refused(Refusal::TooLarge);
+                return Err(Refusal::TooLarge);
             }
             let n = put_bounds(bounds, 0, &places, &v, all, work, out);
             if RECORDS < n {
-                Answer::Refused(Refusal::TooLarge)
+                Err(Refusal::TooLarge)
             } else {
                 put_record(work, 0, View::Scheme(names.len() as u32), n);
-                Answer::Records(n)
+                Ok(n)
             }
         }
-        Err(k) => Answer::Refused(k),
+        Err(k) => Err(k),
     }
 }

@@ -1,17 +1,22 @@
 -- `is_type` meets its contract.
+use Rattle.std.proofs.lemmas.Result.{err_from_is_err_and}
 use Rattle.rules.specs.Calls.{typeCall}
-use Rattle.records.specs.Whole.{type-told}
-use Rattle.records.specs.Whole.{entry-good}
-use Rattle.names.specs.Old.{toldChecked}
-use mathlib.Core.Path.{refl, sym, ap, ◌∙◌}
+use Rattle.records.specs.Found.{Words32}
+use Rattle.records.specs.Whole.{entry-good, type-told}
+use mathlib.Core.Path.{refl, sym, ◌∙◌}
 use Rattle.records.proofs.is_type.Goals as goal
 
 pub type_good-requires : goal.type_good-requires
-type_good-requires c = let a = c.args in (entry-good a.pool.now a.table.now a.words.now (sym (sym (ap toldChecked c.in-Good.is) ∙ c.entry.ensures)))
+type_good-requires c = let a = c.args in entry-good a.pool.now a.table.now a.words.now (sym c.in_ok-entry.ensures)
 
-pub returns-in-Good : goal.returns-in-Good
-returns-in-Good c = let a = c.args in c.listed.ensures ∙ sym (type-told a.pool.now a.table.now a.words.now (sym (sym (ap toldChecked c.in-Good.is) ∙ c.entry.ensures)) (record { word = λ i. (c.shared_slice_known-3-1.given i).fits }) c.type_good.result c.type_good.ensures)
+pub returns : goal.returns
+returns c =
+    let a = c.args in
+    let words : Words32 a.words.now = record { word = λ i. (c.type_inv.words i).fits } in
+    c.listed.ensures ∙ sym (type-told a.pool.now a.table.now a.words.now (sym c.in_ok-entry.ensures) words c.type_good.result c.type_good.ensures)
 
-pub returns-in-Refused : goal.returns-in-Refused
+pub returns-in_err-entry : goal.returns-in_err-entry
 unfolding typeCall
-returns-in-Refused c = rw (sym c.entry.ensures ∙ ap toldChecked c.in-Refused.is) refl
+returns-in_err-entry c =
+    let p = err_from_is_err_and c.from_residual.result c.from_residual.ensures.1 in
+    rw (p.1, p.2, ← c.in_err-entry.ensures) refl

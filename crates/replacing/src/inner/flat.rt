@@ -6,16 +6,16 @@ ghost use Rattle.records.specs.Good.{Ends};
 ghost use Rattle.replacing.specs.LineRules.{Line};
 ghost use Rattle.replacing.specs.Flat.{depthLine, GoodLine, PlainLines};
 
-use records::inner::{Ended, binding_end, con_end};
+use records::inner::{binding_end, con_end};
 
 // Where the constraint or the binding at a place ends.
-fn line_end(pool: &[u8], table: &[u32], s: &[u32], at: usize) -> Ended
+fn line_end(pool: &[u8], table: &[u32], s: &[u32], at: usize) -> Option<usize>
     requires { Good pool.now table.now }
     ensures { Ends (GoodLine pool.now table.now s.now at) result }
 {
     match con_end(pool, table, s, at) {
-        Ended::At(e) => Ended::At(e),
-        Ended::Bad => binding_end(pool, table, s, at),
+        Some(e) => Some(e),
+        None => binding_end(pool, table, s, at),
     }
 }
 
@@ -27,7 +27,7 @@ pub fn lines_flat(pool: &[u8], table: &[u32], s: &[u32], at: usize, end: usize) 
 {
     let mut i = at;
     while i < end {
-        let Ended::At(e) = line_end(pool, table, s, i) else {
+        let Some(e) = line_end(pool, table, s, i) else {
             return false;
         };
         i = e;

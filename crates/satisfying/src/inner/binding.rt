@@ -10,54 +10,52 @@ ghost use Rattle.rules.specs.Trees.{Ty, ◌↑◌};
 ghost use Rattle.rules.specs.Views.{variable, asPower};
 ghost use Rattle.rules.specs.Writing.{signed};
 ghost use Rattle.records.specs.Holds.{openOf, atomOf, Holds};
-ghost use Rattle.satisfying.specs.Parts.{named};
 ghost use Rattle.satisfying.specs.Bindings.{bound_to, either, firstBinding};
 
 use exponents::Exponent;
-use queries::Name;
 use records::seen::view_at;
 use records::{Atom, Open, View};
 use types::Type;
 
-fn variable(o: Open) -> Name
-    ensures { named result ≡ variable (openOf o) }
+fn variable(o: Open) -> Option<u32>
+    ensures { toldOption result ≡ variable (openOf o) }
 {
     match o {
-        Open::Var(x) => Name::Of(x),
-        Open::Quant(_) => Name::Nothing,
-        Open::Par(_) => Name::Nothing,
+        Open::Var(x) => Some(x),
+        Open::Quant(_) => None,
+        Open::Par(_) => None,
     }
 }
 
 /// The variable of a factor to the power 1.
-fn power_one(a: Atom, num: u32, den: u32) -> Name
-    ensures { named result ≡ and_then (single (atomOf a ↑ frac (signed num) den ∷ [])) variable }
+fn power_one(a: Atom, num: u32, den: u32) -> Option<u32>
+    ensures { toldOption result ≡ and_then (single (atomOf a ↑ frac (signed num) den ∷ [])) variable }
 {
     match a {
         Atom::Free(o) => {
             if Exponent::from_words(num, den).is_one() {
                 variable(o)
             } else {
-                Name::Nothing
+                None
             }
         }
-        Atom::Base(_) => Name::Nothing,
+        Atom::Base(_) => None,
     }
 }
 
 /// The variable of a dimension that is one variable to the power 1.
-pub fn as_power(s: &[u32], at: usize) -> Name
-    ensures { (t : Ty ℕ) → Holds s.now t at → named result ≡ asPower t }
+pub fn as_power(s: &[u32], at: usize) -> Option<u32>
+    ensures { (t : Ty ℕ) → Holds s.now t at → toldOption result ≡ asPower t }
 {
     let View::Dim(n) = view_at(s, at) else {
-        return Name::Nothing;
+        return None;
     };
     if n != 1 {
-        return Name::Nothing;
+        return None;
     }
     match view_at(s, at + 1) {
         View::Factor(a, num, den) => power_one(a, num, den),
-        _ => Name::Nothing,
+        _ => None,
     }
 }
 
@@ -65,10 +63,7 @@ pub fn as_power(s: &[u32], at: usize) -> Name
 fn power(t: Type) -> Option<u32>
     ensures { toldOption result ≡ asPower t.entry.tree.0 }
 {
-    match as_power(t.words, t.at) {
-        Name::Of(x) => Some(x),
-        Name::Nothing => None,
-    }
+    as_power(t.words, t.at)
 }
 
 /// A variable, and the type that it is to stand for.

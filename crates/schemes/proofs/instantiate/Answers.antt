@@ -14,7 +14,7 @@ make_instantiated-made-requires c = let enough : Long c.args.pool.now c.args.tab
 
 pub hand_over-requires : goal.hand_over-requires
 hand_over-requires c = let enough : Long c.args.pool.now c.args.table.now c.args.res.now c.args.work.now = long _ _ _ _ c.lent.result c.lent.ensures (ap not c.if-not-lent.false) in
-    record { made = (_, c.make_instantiated-made.ensures); in_bounds = (enough).result-long }
+    record { made = (_, c.make_instantiated-made.ensures); room = (enough).result-long }
 
 pub returns : goal.returns
 returns c = let enough : Long c.args.pool.now c.args.table.now c.args.res.now c.args.work.now = long _ _ _ _ c.lent.result c.lent.ensures (ap not c.if-not-lent.false) in

@@ -9,14 +9,14 @@ ghost use Rattle.lending.specs.Told.{Made};
 ghost use Rattle.schemes.specs.Generalising.{Given, Generalises};
 
 use super::checks::rest_checked;
-use lending::Answer;
 use names::old::Checked;
 use quantifying::inner::quantifying::quantify_at;
 use queries::Kind;
 use queries::inner::list_names;
+use records::View;
 use records::inner::copy;
+use records::old::is_scheme;
 use records::seen::view_at;
-use records::{View, is_scheme};
 use rules::{NAMES, RECORD_WORDS, Refusal};
 
 // A concrete type with its names, sorted, quantified; bounds of other names are left out.
@@ -26,7 +26,7 @@ fn generalise_type(
     given: &[u32],
     bounds: &[u32],
     work: &mut [u32],
-) -> Answer
+) -> Result<usize, Refusal>
     requires { (t : Ty ℕ) × ((bs : List (Open ℕ)) × Given pool.now table.now given.now bounds.now work.old (concrete t) bs) }
     ensures { (t : Ty ℕ) → Generalises pool.now table.now given.now bounds.now work.old work.new result (concrete t) }
 {
@@ -50,14 +50,14 @@ fn generalise_scheme(
     given: &[u32],
     bounds: &[u32],
     work: &mut [u32],
-) -> Answer
+) -> Result<usize, Refusal>
     requires { (sc : Scheme ℕ) × ((bs : List (Open ℕ)) × Given pool.now table.now given.now bounds.now work.old sc bs) }
     ensures { (sc : Scheme ℕ) → Generalises pool.now table.now given.now bounds.now work.old work.new result sc }
 {
     let View::Concrete = view_at(given, 0) else {
         let n = given.len() / 4;
         copy(given, 0, n, work, 0);
-        return Answer::Records(n);
+        return Ok(n);
     };
     generalise_type(pool, table, given, bounds, work)
 }
@@ -69,13 +69,13 @@ pub fn make_generalised(
     given: &[u32],
     bounds: &[u32],
     work: &mut [u32],
-) -> Answer
+) -> Result<usize, Refusal>
     requires table_value { lentTable pool.now table.now ≡ got tt }
     requires in_bounds { 16384 ≤ length work.old }
     ensures { Made (generalised (table_of pool.now table.now) given.now bounds.now) work.new result }
 {
     if RECORD_WORDS < bounds.len() {
-        return Answer::Refused(Refusal::TooLarge);
+        return Err(Refusal::TooLarge);
     }
     match rest_checked(
         is_scheme(pool, table, given),
@@ -86,6 +86,6 @@ pub fn make_generalised(
         &bounds[..0],
     ) {
         Checked::Good => generalise_scheme(pool, table, given, bounds, work),
-        Checked::Refused(r) => Answer::Refused(r),
+        Checked::Refused(r) => Err(r),
     }
 }

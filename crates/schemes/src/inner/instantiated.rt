@@ -7,9 +7,8 @@ ghost use Rattle.lending.specs.Told.{Made};
 
 use super::checks::rest_checked;
 use instantiating::inner::instantiating::instantiate_scheme;
-use lending::Answer;
 use names::old::Checked;
-use records::is_scheme;
+use records::old::is_scheme;
 use rules::{RECORDS, Refusal};
 
 // The type and bounds of a scheme with handed names put back; no bounds are given.
@@ -19,13 +18,13 @@ pub fn make_instantiated(
     given: &[u32],
     names: &[u32],
     work: &mut [u32],
-) -> Answer
+) -> Result<usize, Refusal>
     requires table_value { lentTable pool.now table.now ≡ got tt }
     requires in_bounds { 16384 ≤ length work.old }
     ensures { Made (instantiated (table_of pool.now table.now) given.now names.now) work.new result }
 {
     if RECORDS < names.len() {
-        return Answer::Refused(Refusal::TooLarge);
+        return Err(Refusal::TooLarge);
     }
     let none = [0u32; 0];
     match rest_checked(
@@ -37,6 +36,6 @@ pub fn make_instantiated(
         names,
     ) {
         Checked::Good => instantiate_scheme(pool, table, given, names, work),
-        Checked::Refused(r) => Answer::Refused(r),
+        Checked::Refused(r) => Err(r),
     }
 }

@@ -6,10 +6,9 @@ ghost use Rattle.rules.specs.Names.{table_of, lentTable};
 ghost use Rattle.lending.specs.Told.{Made};
 
 use super::checks::rest_checked;
-use lending::Answer;
 use names::old::Checked;
 use quantifying::inner::quantifying::quantify_at;
-use records::is_type;
+use records::old::is_type;
 use rules::{RECORD_WORDS, RECORDS, Refusal};
 
 // A type and bounds with handed names quantified.
@@ -20,16 +19,16 @@ pub fn make_quantified(
     bounds: &[u32],
     names: &[u32],
     work: &mut [u32],
-) -> Answer
+) -> Result<usize, Refusal>
     requires table_value { lentTable pool.now table.now ≡ got tt }
     requires in_bounds { 16384 ≤ length work.old }
     ensures { Made (quantified (table_of pool.now table.now) words.now bounds.now names.now) work.new result }
 {
     if RECORD_WORDS < bounds.len() {
-        return Answer::Refused(Refusal::TooLarge);
+        return Err(Refusal::TooLarge);
     }
     if RECORDS < names.len() {
-        return Answer::Refused(Refusal::TooLarge);
+        return Err(Refusal::TooLarge);
     }
     match rest_checked(
         is_type(pool, table, words),
@@ -40,6 +39,6 @@ pub fn make_quantified(
         names,
     ) {
         Checked::Good => quantify_at(pool, table, words, 0, names, bounds, true, work),
-        Checked::Refused(r) => Answer::Refused(r),
+        Checked::Refused(r) => Err(r),
     }
 }

@@ -1,5 +1,4 @@
 use mathlib.Core.Path.{◌≡◌}
-use Prim.Native.Nat.{◌-◌}
 use Rattle.rules.specs.Base.{isNil}
 use Rattle.rules.specs.Contents.{variablesIn}
 use Rattle.queries.specs.Scans.{opensIn}
@@ -7,6 +6,3 @@ use Rattle.adding.proofs.inner.all_constant.Given as goal
 
 abbrev pub invariant-loop-i : goal.invariant-loop-i
 invariant-loop-i l = isNil (variablesIn (opensIn l.s l.i l.e)) ≡ isNil (variablesIn (opensIn l.s l.b l.e))
-
-abbrev pub decreases-loop-i : goal.decreases-loop-i
-decreases-loop-i l = l.e - l.i

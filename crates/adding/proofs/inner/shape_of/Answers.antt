@@ -1,7 +1,6 @@
 -- `inner::shape_of` meets its contract: by the view.
 use mathlib.Core.Path.{refl, sym}
 use Rattle.adding.proofs.Others.{no-shape}
-use borrow.Enum.Refused.{opened}
 use Rattle.adding.proofs.inner.shape_of.Goals as goal
 
 pub returns-in-Basic : goal.returns-in-Basic
@@ -20,4 +19,5 @@ pub returns-in-List : goal.returns-in-List
 returns-in-List c = rw c.in-List.is refl
 
 pub returns-in_default : goal.returns-in_default
-returns-in_default c = sym (no-shape c.args.v (opened c.in_default.in_default-own.keys6))
+returns-in_default c = sym (no-shape c.args.v
+    c.in_default.not-Basic c.in_default.not-Dim c.in_default.not-Function c.in_default.not-Struct c.in_default.not-List)

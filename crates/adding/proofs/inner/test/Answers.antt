@@ -1,10 +1,8 @@
 -- `inner::test` meets its contract.
-use mathlib.Core.Path.{sym, subst, ◌∙◌}
+use mathlib.Core.Path.{sym, ◌∙◌}
 use native.Mathlib.Omega.{arith}
-use Rattle.queries.proofs.Others.{Tagged}
 use Rattle.adding.specs.Tests.{con-equal, con-dim, con-scalar, test-of-equal, test-of-dim, test-of-scalar, at-fits}
-use Rattle.adding.proofs.Others.{untested, no_test}
-use borrow.Enum.Refused.{opened}
+use Rattle.adding.proofs.Others.{no_test}
 use Rattle.adding.proofs.inner.test.Goals as goal
 
 pub overflow_add-at : goal.overflow_add-at
@@ -58,4 +56,4 @@ returns-in-IsScalar c =
 pub returns-in_default : goal.returns-in_default
 returns-in_default c =
     let a = c.args in
-    λ names d h. no_test a.s.now d a.at names h (subst (Tagged untested) c.view_at.ensures (opened c.in_default.in_default-own.keys4))
+    λ names d h. no_test a.s.now a.at c.view_at.result c.view_at.ensures c.in_default.not-Equal c.in_default.not-IsDim c.in_default.not-IsScalar d names h

@@ -3,7 +3,6 @@ use mathlib.Core.Path.{refl}
 use Rattle.rules.specs.Base.{collect}
 use Rattle.rules.specs.Contents.{variablesIn}
 use Rattle.queries.proofs.Others.{none-opened}
-use borrow.Enum.Refused.{opened}
 use Rattle.adding.proofs.inner.view_constant.Goals as goal
 
 pub returns-in-Opened : goal.returns-in-Opened
@@ -18,4 +17,4 @@ returns-in-Binding c = rw c.in-Binding.is refl
 
 pub returns-in_default : goal.returns-in_default
 unfolding variablesIn collect
-returns-in_default c = rw (none-opened c.args.v (opened c.in_default.in_default-own.keys4)) refl
+returns-in_default c = rw (none-opened c.args.v c.in_default.not-Opened c.in_default.not-Factor c.in_default.not-Binding) refl

@@ -1,9 +1,10 @@
 -- `inner::distinct` meets its contract. The invariant: what is marked and counted, with the names of the records from i on.
+use Rattle.std.specs.Prelude.{option_to_list}
 use mathlib.Core.Path.{refl, sym, ap, ◌∙◌}
 use mathlib.Core.List.{[], ◌++◌, append_assoc, append-nil}
 use Prim.Native.Nat.{◌+◌}
 use Rattle.queries.specs.declared.Kind.TheVariants.{Variables}
-use Rattle.queries.specs.Scans.{toldName, choose, opensIn}
+use Rattle.queries.specs.Scans.{choose, opensIn}
 use Rattle.queries.specs.ScanLaws.{opens-none, choose-none, names-step}
 use Rattle.ceiling.specs.Counting.{counted_none, counted-few}
 use Rattle.ceiling.proofs.inner.distinct.Goals as goal
@@ -21,7 +22,7 @@ loop-i-preserved c =
     let (xs, k, q) = c.loop-i.invariant in
     let rest = choose Variables (opensIn a.s.now (i + 1) a.e) in
     let step = names-step a.s.now i a.e c.loop-i-test.true Variables in (
-      xs ++ toldName c.name_at.result,
+      xs ++ option_to_list c.name_at.result,
       c.count-v.ensures xs k,
       ap (λ z. (xs ++ z) ++ rest) c.name_at.ensures ∙ append_assoc xs _ _ ∙ ap (xs ++◌) (sym step) ∙ q,
     )

@@ -1,6 +1,6 @@
 use mathlib.Core.Path.{◌≡◌}
 use mathlib.Core.List.{List, ◌++◌}
-use Prim.Native.Nat.{ℕ, ◌-◌}
+use Prim.Native.Nat.{ℕ}
 use Rattle.queries.specs.declared.Kind.TheVariants.{Variables}
 use Rattle.queries.specs.Scans.{choose, opensIn}
 use Rattle.ceiling.specs.Counting.{Counted}
@@ -8,6 +8,3 @@ use Rattle.ceiling.proofs.inner.distinct.Given as goal
 
 abbrev pub invariant-loop-i : goal.invariant-loop-i
 invariant-loop-i l = (xs : List ℕ) × Counted l.m l.v xs × (xs ++ choose Variables (opensIn l.s l.i l.e) ≡ choose Variables (opensIn l.s 0 l.e))
-
-abbrev pub decreases-loop-i : goal.decreases-loop-i
-decreases-loop-i l = l.e - l.i

@@ -1,8 +1,8 @@
 -- `inner::mark_bases` meets its contract. The invariant: what is marked, with the names of the records from i on.
+use Rattle.std.specs.Prelude.{option_to_list}
 use mathlib.Core.Path.{refl, sym, ap, ◌∙◌}
 use mathlib.Core.List.{◌++◌, append_assoc, append-nil}
 use Prim.Native.Nat.{◌+◌}
-use Rattle.queries.specs.Scans.{toldName}
 use Rattle.laying.specs.Columns.{basesView, basesIn, bases-none, bases-step}
 use Rattle.laying.proofs.inner.mark_bases.Goals as goal
 
@@ -15,7 +15,7 @@ loop-i-preserved c =
     let i = c.loop-i.i in
     λ xs h.
     let (ys, k, q) = c.loop-i.invariant xs h in (
-      ys ++ toldName c.base_at.result,
+      ys ++ option_to_list c.base_at.result,
       c.mark.ensures ys k,
       ap (λ z. (ys ++ z) ++ basesIn a.s.now (i + 1) a.e) (c.base_at.ensures ∙ ap basesView c.view_at.ensures) ∙ append_assoc ys _ _ ∙ ap (ys ++◌) (sym (bases-step a.s.now i a.e c.loop-i-test.true)) ∙ q,
     )

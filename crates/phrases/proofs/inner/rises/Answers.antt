@@ -12,15 +12,15 @@ pub order-requires : goal.order-requires
 order-requires c =
     record {
       good = c.requires.good;
-      i_bound = subst (HeldBefore c.args.table.now) c.in-Name.is c.requires.held_before;
+      i_bound = subst (HeldBefore c.args.table.now) c.in-Some.is c.requires.held_before;
       j_bound = ltb-true _ _ (sym c.is_held.ensures ∙ c.if-is_held.true);
     }
 
-pub returns-in-Start : goal.returns-in-Start
-returns-in-Start c = λ h. rw c.in-Start.is
+pub returns-in-None : goal.returns-in-None
+returns-in-None c = λ h. rw c.in-None.is
 
 pub returns-then-is_held : goal.returns-then-is_held
-returns-then-is_held c = λ h. rw c.in-Name.is (c.is_less.ensures ∙ ap is_lt c.order.ensures)
+returns-then-is_held c = λ h. rw c.in-Some.is (c.is_less.ensures ∙ ap is_lt c.order.ensures)
 
 pub returns-else-is_held : goal.returns-else-is_held
 returns-else-is_held c =

@@ -9,24 +9,24 @@ use Rattle.places.proofs.inner.fill.Goals as goal
 
 pub loop-i-init : goal.loop-i-init
 loop-i-init c =
-    (refl, (ap length c.requires.places_value ∙ length-replicate {A = ℕ} 256 0, λ bs r. going_start c.args.v.now bs _ _ _ c.requires.places_value r))
+    (refl, (ap length c.requires.empty ∙ length-replicate {A = ℕ} 256 0, λ bs r. going_start c.args.v.now bs _ _ _ c.requires.empty r))
 
 pub note-requires : goal.note-requires
 note-requires c =
-    let f = first c.args.v.now (c.loop-i.invariant.1.1 c.requires.by_index.0 c.requires.by_index.1) c.loop-i-test.true c.loop-i.invariant.1.0 in
-    omega (arith, f.within, c.requires.v_len_bound)
+    let f = first c.args.v.now (c.loop-i.invariant.1.1 c.requires.run.0 c.requires.run.1) c.loop-i-test.true c.loop-i.invariant.1.0 in
+    omega (arith, f.within, c.requires.near)
 
 pub overflow_add-i : goal.overflow_add-i
 overflow_add-i c = omega (arith, c.loop-i-test.true)
 
 pub end_of-i-requires : goal.end_of-i-requires
 end_of-i-requires c =
-    let f = first c.args.v.now (c.loop-i.invariant.1.1 c.requires.by_index.0 c.requires.by_index.1) c.loop-i-test.true c.loop-i.invariant.1.0 in
+    let f = first c.args.v.now (c.loop-i.invariant.1.1 c.requires.run.0 c.requires.run.1) c.loop-i-test.true c.loop-i.invariant.1.0 in
     (f.type, f.held)
 
 pub loop-i-smaller : goal.loop-i-smaller
 loop-i-smaller c =
-    let f = further c.args.v.now (c.loop-i.invariant.1.1 c.requires.by_index.0 c.requires.by_index.1) c.loop-i-test.true c.loop-i.invariant.1.0 c.end_of-i.ensures in
+    let f = further c.args.v.now (c.loop-i.invariant.1.1 c.requires.run.0 c.requires.run.1) c.loop-i-test.true c.loop-i.invariant.1.0 c.end_of-i.ensures in
     omega (arith, f.0, f.1)
 
 pub loop-i-preserved : goal.loop-i-preserved

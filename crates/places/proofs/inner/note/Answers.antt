@@ -4,9 +4,7 @@ use mathlib.Core.List.{[], ◌∷◌}
 use Prim.Native.Nat.{ℕ, ◌+◌}
 use lib.ListN.{get_or, set}
 use Rattle.records.specs.declared.View.TheVariants as view
-use Rattle.replacing.proofs.Others.{untagged}
 use Rattle.places.specs.Filling.{noted-first, noted-before}
-use borrow.Enum.Refused.{opened}
 use Rattle.places.proofs.inner.note.Goals as goal
 
 pub returns-then-word_at-eq0 : goal.returns-then-word_at-eq0
@@ -24,5 +22,4 @@ returns-else-word_at-eq0 c = λ y h.
     noted-before a.places.now y (a.at + 2) (λ w. c.if-word_at-eq0.false (c.word_at.ensures ∙ ap (λ (k : ℕ). get_or a.places.now k 0) z ∙ w))
 
 pub returns-in_default : goal.returns-in_default
-returns-in_default c = λ y h.
-    absurd (untagged c.view_at.result (0 ∷ 1 ∷ 2 ∷ 3 ∷ 4 ∷ 5 ∷ 6 ∷ 7 ∷ 8 ∷ 9 ∷ 10 ∷ 11 ∷ 13 ∷ 14 ∷ 15 ∷ 16 ∷ []) 12 tt (opened c.in_default.in_default-own.keys2) (view.Binding y) refl (c.view_at.ensures ∙ h))
+returns-in_default c = λ y h. absurd (c.in_default.not-Binding y (c.view_at.ensures ∙ h))

@@ -6,8 +6,9 @@ use Rattle.rules.specs.Names.{table_of, names_of}
 use Rattle.laws.specs.ByteOrder.{numbered-lawful}
 use Rattle.laws.specs.NameTable.{held_tells}
 use Rattle.records.specs.Good.{numbers}
-use Rattle.queries.specs.SortMarks.{least-held, least-none, least_step}
+use Rattle.queries.specs.SortMarks.{least-held, least-none, skipped, taken}
 use Rattle.queries.proofs.inner.least.Goals as goal
+use Rattle.queries.proofs.inner.least.Goals.{then-m-i, else-m-i}
 
 pub loop-i-init : goal.loop-i-init
 loop-i-init c =
@@ -19,16 +20,18 @@ loop-i-init c =
     let n = get_or a.table.now 0 0 in
     (omega arith, least-none nu law n (held_tells g) a.m.now h)
 
-pub first_of-best-requires : goal.first_of-best-requires
-first_of-best-requires c =
+pub sooner-best-requires : goal.sooner-best-requires
+sooner-best-requires c =
     let a = c.args in
     let g = c.requires.good in
     let h = c.requires.held in
     let law = numbered-lawful (names_of (table_of a.pool.now a.table.now)) in
-    let nu = numbers a.pool.now a.table.now in
     let n = get_or a.table.now 0 0 in
-    let i = c.loop-i.i in
-    record { good = g; held_name = least-held nu law n (held_tells g) a.m.now h i c.loop-i.invariant.0 c.loop-i.best c.loop-i.invariant.1; x_bound = (λ e. h.held i c.loop-i-test.true e) }
+    let i = c.loop-i.i in record {
+      good = g;
+      held_name = least-held (numbers a.pool.now a.table.now) law n (held_tells g) a.m.now h i c.loop-i.invariant.0 c.loop-i.best c.loop-i.invariant.1;
+      x_held = h.held i c.loop-i-test.true c.if-m-i.true;
+    }
 
 pub loop-i-preserved : goal.loop-i-preserved
 loop-i-preserved c =
@@ -37,8 +40,13 @@ loop-i-preserved c =
     let h = c.requires.held in
     let law = numbered-lawful (names_of (table_of a.pool.now a.table.now)) in
     let nu = numbers a.pool.now a.table.now in
-    let n = get_or a.table.now 0 0 in
-    (omega arith, rw c.first_of-best.ensures (least_step nu law n (held_tells g) a.m.now h c.loop-i.i c.loop-i-test.true c.loop-i.best c.loop-i.invariant.1))
+    let n = get_or a.table.now 0 0 in (
+      omega arith,
+      elim c.if-m-i.branch [
+        | then-m-i w ↦ rw (w.best-is, w.sooner-best.ensures) (taken nu law n (held_tells g) a.m.now h c.loop-i.i c.loop-i-test.true w.if-m-i.true c.loop-i.best c.loop-i.invariant.1)
+        | else-m-i w ↦ rw w.best-is (skipped nu law n (held_tells g) a.m.now h c.loop-i.i w.if-m-i.false c.loop-i.best c.loop-i.invariant.1)
+      ],
+    )
 
 pub returns : goal.returns
 returns c = let e : c.loop-i.i ≡ 256 = omega arith in rw e at c.loop-i.invariant.1

@@ -1,8 +1,9 @@
 -- `inner::marks` meets its contract. The invariant: what is marked, with the names of the records from i on.
+use Rattle.std.specs.Prelude.{option_to_list}
 use mathlib.Core.Path.{refl, sym, ap, ◌∙◌}
 use Prim.Native.Nat.{◌+◌}
 use mathlib.Core.List.{◌++◌, append_assoc, append-nil}
-use Rattle.queries.specs.Scans.{toldName, choose, opensIn}
+use Rattle.queries.specs.Scans.{choose, opensIn}
 use Rattle.queries.specs.ScanLaws.{opens-none, choose-none, names-step}
 use Rattle.queries.proofs.inner.marks.Goals as goal
 
@@ -13,7 +14,7 @@ pub loop-i-preserved : goal.loop-i-preserved
 loop-i-preserved c =
     let a = c.args in
     let i = c.loop-i.i in
-    λ xs h. let (ys, k, q) = c.loop-i.invariant xs h in (ys ++ toldName c.name_at.result, c.mark.ensures ys k, ap (λ z. (ys ++ z) ++ choose a.k (opensIn a.s.now (i + 1) a.e)) c.name_at.ensures ∙ append_assoc ys _ _ ∙ ap (ys ++◌) (sym (names-step a.s.now i a.e c.loop-i-test.true a.k)) ∙ q)
+    λ xs h. let (ys, k, q) = c.loop-i.invariant xs h in (ys ++ option_to_list c.name_at.result, c.mark.ensures ys k, ap (λ z. (ys ++ z) ++ choose a.k (opensIn a.s.now (i + 1) a.e)) c.name_at.ensures ∙ append_assoc ys _ _ ∙ ap (ys ++◌) (sym (names-step a.s.now i a.e c.loop-i-test.true a.k)) ∙ q)
 
 pub returns : goal.returns
 returns c =

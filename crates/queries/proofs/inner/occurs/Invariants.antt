@@ -1,5 +1,5 @@
 use mathlib.Core.Path.{◌≡◌}
-use Prim.Native.Nat.{◌-◌}
+use Prim.Native.Nat.{}
 use lib.Dec.{eqb}
 use Rattle.rules.specs.Base.{any}
 use Rattle.queries.specs.Scans.{choose, opensIn}
@@ -7,6 +7,3 @@ use Rattle.queries.proofs.inner.occurs.Given as goal
 
 abbrev pub invariant-loop-i : goal.invariant-loop-i
 invariant-loop-i l = any (eqb l.x) (choose l.k (opensIn l.s l.i l.e)) ≡ any (eqb l.x) (choose l.k (opensIn l.s l.b l.e))
-
-abbrev pub decreases-loop-i : goal.decreases-loop-i
-decreases-loop-i l = l.e - l.i

@@ -2,7 +2,6 @@
 use mathlib.Core.Path.{sym, ap, ◌∙◌}
 use Rattle.queries.specs.Scans.{opensView}
 use Rattle.queries.proofs.Others.{none-opened}
-use borrow.Enum.Refused.{opened}
 use Rattle.queries.proofs.inner.opens_at.Goals as goal
 
 pub returns-in-Opened : goal.returns-in-Opened
@@ -15,4 +14,5 @@ pub returns-in-Binding : goal.returns-in-Binding
 returns-in-Binding c = ap opensView (sym c.in-Binding.is ∙ c.view_at.ensures)
 
 pub returns-in_default : goal.returns-in_default
-returns-in_default c = sym (none-opened c.view_at.result (opened c.in_default.in_default-own.keys4)) ∙ ap opensView c.view_at.ensures
+returns-in_default c =
+    sym (none-opened c.view_at.result c.in_default.not-Opened c.in_default.not-Factor c.in_default.not-Binding) ∙ ap opensView c.view_at.ensures

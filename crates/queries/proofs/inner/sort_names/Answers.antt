@@ -21,11 +21,11 @@ loop-x-init c =
 pub least-requires : goal.least-requires
 least-requires c = record { good = c.requires.good; held = c.loop-x.invariant.held }
 
-pub shape_of-out-in_default : goal.shape_of-out-in_default
-shape_of-out-in_default c = c.loop-x.invariant.same
+pub shape_of-out : goal.shape_of-out
+shape_of-out c = c.loop-x.invariant.same
 
-pub returns-in_default : goal.returns-in_default
-returns-in_default c =
+pub returns : goal.returns
+returns c =
     let a = c.args in
     let g = c.requires.good in
     let h = c.requires.held in
@@ -34,16 +34,16 @@ returns-in_default c =
     let n = get_or a.table.now 0 0 in
     sorting-end nu law n (held_tells g) a.m a.out.now c.loop-x.left c.loop-x.out c.loop-x.k h.long c.loop-x.invariant (rw c.in_default.is at c.least.ensures)
 
-pub bounds-left-i : goal.bounds-left-i
-bounds-left-i c =
+pub bounds-left-x : goal.bounds-left-x
+bounds-left-x c =
     let a = c.args in
     let g = c.requires.good in
     let h = c.requires.held in
     let law = numbered-lawful (names_of (table_of a.pool.now a.table.now)) in
     let nu = numbers a.pool.now a.table.now in
     let n = get_or a.table.now 0 0 in
-    let l = (rw c.in-Of.is at c.least.ensures) in
-    rw c.wide-i.ensures l.0
+    let l = (rw c.in-Some.is at c.least.ensures) in
+    l.0
 
 pub overflow_add-k : goal.overflow_add-k
 overflow_add-k c =
@@ -53,7 +53,7 @@ overflow_add-k c =
     let law = numbered-lawful (names_of (table_of a.pool.now a.table.now)) in
     let nu = numbers a.pool.now a.table.now in
     let n = get_or a.table.now 0 0 in
-    let f = sorting-few nu law n (held_tells g) a.m a.out.now c.loop-x.left c.loop-x.out c.loop-x.k h.long c.loop-x.invariant _ (rw c.in-Of.is at c.least.ensures) in
+    let f = sorting-few nu law n (held_tells g) a.m a.out.now c.loop-x.left c.loop-x.out c.loop-x.k h.long c.loop-x.invariant _ (rw c.in-Some.is at c.least.ensures) in
     omega (arith, f)
 
 pub loop-x-smaller : goal.loop-x-smaller
@@ -64,7 +64,7 @@ loop-x-smaller c =
     let law = numbered-lawful (names_of (table_of a.pool.now a.table.now)) in
     let nu = numbers a.pool.now a.table.now in
     let n = get_or a.table.now 0 0 in
-    rw c.wide-i.ensures (sorting-less nu law n (held_tells g) a.m a.out.now c.loop-x.left c.loop-x.out c.loop-x.k h.long c.loop-x.invariant _ (rw c.in-Of.is at c.least.ensures))
+    sorting-less nu law n (held_tells g) a.m a.out.now c.loop-x.left c.loop-x.out c.loop-x.k h.long c.loop-x.invariant _ (rw c.in-Some.is at c.least.ensures)
 
 pub loop-x-preserved : goal.loop-x-preserved
 loop-x-preserved c =
@@ -74,4 +74,4 @@ loop-x-preserved c =
     let law = numbered-lawful (names_of (table_of a.pool.now a.table.now)) in
     let nu = numbers a.pool.now a.table.now in
     let n = get_or a.table.now 0 0 in
-    rw (c.put.ensures, c.wide-i.ensures) (sorting_step nu law n (held_tells g) a.m a.out.now c.loop-x.left c.loop-x.out c.loop-x.k h.long c.loop-x.invariant _ (rw c.in-Of.is at c.least.ensures) c.requires.in_bounds)
+    rw c.put.ensures (sorting_step nu law n (held_tells g) a.m a.out.now c.loop-x.left c.loop-x.out c.loop-x.k h.long c.loop-x.invariant _ (rw c.in-Some.is at c.least.ensures) c.requires.in_bounds)

@@ -1,20 +1,16 @@
 -- The walkers of types, lists of types and fields meet their contracts: one cycle.
-use Rattle.records.proofs.Walks.{untagged, held-name, types-none, types-fail, types-step, fields-none, fields-other, fields-fail, fields-type, fields-step, type-shallow, type-open, type-open-fail, type-basic, type-dim, type-list, type-fn-fail, type-fn, type-struct-name, type-struct-fail, type-struct, type-other}
-use Rattle.records.specs.declared.View.TheVariants as view
+use Rattle.records.proofs.Walks.{held-name, types-none, types-fail, types-step, fields-none, fields-other, fields-fail, fields-type, fields-step, type-shallow, type-open, type-open-fail, type-basic, type-dim, type-list, type-fn-fail, type-fn, type-struct-name, type-struct-fail, type-struct, type-other}
 use Rattle.records.specs.Closing.{type-closing, field-closing}
-use Rattle.records.specs.Good.{Ends, GoodTy, GoodField, GoodTys, holding, follows}
+use Rattle.records.specs.Good.{Ends, GoodTy, GoodField, holding, follows}
 use Rattle.records.specs.Places.{seen-in}
 use Rattle.laws.specs.Lists.{and_left as both_left}
 use Rattle.rules.specs.Names.{table_of}
 use native.Mathlib.Omega.{arith}
-use mathlib.Core.List.{[], ◌∷◌}
-use Prim.Native.Nat.{◌+◌, ◌-◌}
-use mathlib.Core.Path.{refl, sym, subst, ◌∙◌}
-use borrow.Enum.Refused.{opened}
+use mathlib.Core.Path.{sym, subst, ◌∙◌}
 use Rattle.records.proofs.inner.+types.Goals as goal
 
 pub fields_end-returns-then-n-eq0 : goal.fields_end-returns-then-n-eq0
-fields_end-returns-then-n-eq0 t c = let a = c.args in fields-none a.pool.now a.table.now a.q a.s.now a.deep a.at a.n a.b c.if-n-eq0.true
+fields_end-returns-then-n-eq0 t c = let a = c.args in fields-none a.pool.now a.table.now a.q a.s.now a.deep a.at a.n a.before c.if-n-eq0.true
 
 pub fields_end-name_good-requires : goal.fields_end-name_good-requires
 fields_end-name_good-requires t c = c.requires
@@ -26,32 +22,29 @@ pub fields_end-type_end-requires : goal.fields_end-type_end-requires
 fields_end-type_end-requires t c = (omega arith, c.requires.good)
 
 pub fields_end-fields_end-requires : goal.fields_end-fields_end-requires
-fields_end-fields_end-requires t c = let a = c.args in (omega arith, (c.requires.good, held-name a.pool.now a.table.now c.in-Field.x (both_left (holding a.pool.now a.table.now c.in-Field.x) (follows a.pool.now a.table.now a.b c.in-Field.x) (sym c.name_good.ensures ∙ c.if-name_good.true))))
+fields_end-fields_end-requires t c = let a = c.args in (omega arith, (c.requires.good, held-name a.pool.now a.table.now c.in-Field.x (both_left (holding a.pool.now a.table.now c.in-Field.x) (follows a.pool.now a.table.now a.before c.in-Field.x) (sym c.if-not-name_good.ensures))))
 
-pub fields_end-returns-in-At : goal.fields_end-returns-in-At
-fields_end-returns-in-At t c =
+pub fields_end-returns : goal.fields_end-returns
+fields_end-returns t c =
     let a = c.args in
     let x = c.in-Field.x in
-    let s = a.s.now in
-    let F = Ends (GoodField a.pool.now a.table.now a.q s a.deep a.at) in
-    let f = subst F (sym c.closed.ensures) (field-closing a.pool.now a.table.now a.q s a.deep a.at c.type_end.result c.type_end.ensures) in
-    fields-step a.pool.now a.table.now a.q s a.deep a.at a.n a.b x (sym c.view_at.ensures ∙ c.in-Field.is) c.if-n-eq0.false c.in-At.e
-    (sym c.name_good.ensures ∙ c.if-name_good.true) (subst F c.in-At.is f) c.fields_end.result c.fields_end.ensures
+    let F = Ends (GoodField a.pool.now a.table.now a.q a.s.now a.deep a.at) in
+    let f = subst F (sym c.in_ok-e.ensures) (field-closing a.pool.now a.table.now a.q a.s.now a.deep a.at c.type_end.result c.type_end.ensures) in
+    fields-step a.pool.now a.table.now a.q a.s.now a.deep a.at a.n a.before x (sym c.view_at.ensures ∙ c.in-Field.is) c.if-n-eq0.false c.in_ok-e.e
+    (sym c.if-not-name_good.ensures) f c.fields_end.result c.fields_end.ensures
 
-pub fields_end-returns-in-Bad : goal.fields_end-returns-in-Bad
-fields_end-returns-in-Bad t c =
+pub fields_end-returns-in_err-e : goal.fields_end-returns-in_err-e
+fields_end-returns-in_err-e t c =
     let a = c.args in
-    let x = c.in-Field.x in
-    let s = a.s.now in
-    let F = Ends (GoodField a.pool.now a.table.now a.q s a.deep a.at) in
-    let f = subst F (sym c.closed.ensures) (field-closing a.pool.now a.table.now a.q s a.deep a.at c.type_end.result c.type_end.ensures) in
-    fields-type a.pool.now a.table.now a.q s a.deep a.at a.n a.b x (sym c.view_at.ensures ∙ c.in-Field.is) c.if-n-eq0.false (subst F c.in-Bad.is f)
+    let F = Ends (GoodField a.pool.now a.table.now a.q a.s.now a.deep a.at) in
+    let f = subst F (sym c.in_err-e.ensures) (field-closing a.pool.now a.table.now a.q a.s.now a.deep a.at c.type_end.result c.type_end.ensures) in
+    rw c.from_residual.ensures (fields-type a.pool.now a.table.now a.q a.s.now a.deep a.at a.n a.before c.in-Field.x (sym c.view_at.ensures ∙ c.in-Field.is) c.if-n-eq0.false f)
 
-pub fields_end-returns-else-name_good : goal.fields_end-returns-else-name_good
-fields_end-returns-else-name_good t c = let a = c.args in fields-fail a.pool.now a.table.now a.q a.s.now a.deep a.at a.n a.b c.in-Field.x (sym c.view_at.ensures ∙ c.in-Field.is) c.if-n-eq0.false (sym c.name_good.ensures ∙ c.if-name_good.false)
+pub fields_end-returns-then-not-name_good : goal.fields_end-returns-then-not-name_good
+fields_end-returns-then-not-name_good t c = let a = c.args in fields-fail a.pool.now a.table.now a.q a.s.now a.deep a.at a.n a.before c.in-Field.x (sym c.view_at.ensures ∙ c.in-Field.is) c.if-n-eq0.false (sym c.if-not-name_good.ensures)
 
 pub fields_end-returns-in_default : goal.fields_end-returns-in_default
-fields_end-returns-in_default t c = let a = c.args in fields-other a.pool.now a.table.now a.q a.s.now a.deep a.at a.n a.b c.if-n-eq0.false (λ x e. untagged c.view_at.result (0 ∷ 1 ∷ 2 ∷ 3 ∷ 4 ∷ 5 ∷ 7 ∷ 8 ∷ 9 ∷ 10 ∷ 11 ∷ 12 ∷ 13 ∷ 14 ∷ 15 ∷ 16 ∷ []) 6 tt (opened c.in_default.in_default-own.keys2) (view.Field x) refl (c.view_at.ensures ∙ e))
+fields_end-returns-in_default t c = let a = c.args in fields-other a.pool.now a.table.now a.q a.s.now a.deep a.at a.n a.before c.if-n-eq0.false (λ x e. c.in_default.not-Field x (c.view_at.ensures ∙ e))
 
 pub type_end-type_parts-requires : goal.type_end-type_parts-requires
 type_end-type_parts-requires t c = (omega arith, c.requires)
@@ -92,11 +85,11 @@ type_parts-type_end-requires t c = (omega arith, c.requires)
 pub type_parts-is_held-requires : goal.type_parts-is_held-requires
 type_parts-is_held-requires t c = c.requires.words
 
-pub type_parts-overflow_add-at-then-is_held : goal.type_parts-overflow_add-at-then-is_held
-type_parts-overflow_add-at-then-is_held t c = omega (arith, seen-in c.args.s.now c.args.at (sym c.view_at.ensures ∙ c.in-Struct.is) tt)
+pub type_parts-overflow_add-at-in-Struct : goal.type_parts-overflow_add-at-in-Struct
+type_parts-overflow_add-at-in-Struct t c = omega (arith, seen-in c.args.s.now c.args.at (sym c.view_at.ensures ∙ c.in-Struct.is) tt)
 
-pub type_parts-types_end-requires-then-is_held : goal.type_parts-types_end-requires-then-is_held
-type_parts-types_end-requires-then-is_held t c = (omega arith, c.requires)
+pub type_parts-types_end-requires-in-Struct : goal.type_parts-types_end-requires-in-Struct
+type_parts-types_end-requires-in-Struct t c = (omega arith, c.requires)
 
 pub type_parts-fields_end-requires : goal.type_parts-fields_end-requires
 type_parts-fields_end-requires t c = (omega arith, (c.requires, tt))
@@ -107,11 +100,11 @@ type_parts-overflow_add-at-in-List t c = omega (arith, seen-in c.args.s.now c.ar
 pub type_parts-type_end-requires-in-List : goal.type_parts-type_end-requires-in-List
 type_parts-type_end-requires-in-List t c = (omega arith, c.requires)
 
-pub type_parts-returns-then-open_good : goal.type_parts-returns-then-open_good
-type_parts-returns-then-open_good t c = let a = c.args in type-open a.pool.now a.table.now a.q a.s.now a.deep a.at c.if-deep-eq0.false _ (sym c.view_at.ensures ∙ c.in-Opened.is) (sym c.open_good.ensures ∙ c.if-open_good.true)
+pub type_parts-returns-else-not-open_good : goal.type_parts-returns-else-not-open_good
+type_parts-returns-else-not-open_good t c = let a = c.args in type-open a.pool.now a.table.now a.q a.s.now a.deep a.at c.if-deep-eq0.false _ (sym c.view_at.ensures ∙ c.in-Opened.is) (sym c.if-not-open_good.ensures)
 
-pub type_parts-returns-else-open_good : goal.type_parts-returns-else-open_good
-type_parts-returns-else-open_good t c = let a = c.args in type-open-fail a.pool.now a.table.now a.q a.s.now a.deep a.at c.if-deep-eq0.false _ (sym c.view_at.ensures ∙ c.in-Opened.is) (sym c.open_good.ensures ∙ c.if-open_good.false)
+pub type_parts-returns-then-not-open_good : goal.type_parts-returns-then-not-open_good
+type_parts-returns-then-not-open_good t c = let a = c.args in type-open-fail a.pool.now a.table.now a.q a.s.now a.deep a.at c.if-deep-eq0.false _ (sym c.view_at.ensures ∙ c.in-Opened.is) (sym c.if-not-open_good.ensures)
 
 pub type_parts-returns-in-Basic : goal.type_parts-returns-in-Basic
 type_parts-returns-in-Basic t c = let a = c.args in type-basic a.pool.now a.table.now a.q a.s.now a.deep a.at c.if-deep-eq0.false _ (sym c.view_at.ensures ∙ c.in-Basic.is)
@@ -119,28 +112,29 @@ type_parts-returns-in-Basic t c = let a = c.args in type-basic a.pool.now a.tabl
 pub type_parts-returns-in-Dim : goal.type_parts-returns-in-Dim
 type_parts-returns-in-Dim t c = let a = c.args in type-dim a.pool.now a.table.now a.q a.s.now a.deep a.at c.if-deep-eq0.false _ (sym c.view_at.ensures ∙ c.in-Dim.is) c.dim_end.result c.dim_end.ensures
 
-pub type_parts-returns-in-At : goal.type_parts-returns-in-At
-type_parts-returns-in-At t c = let a = c.args in type-fn a.pool.now a.table.now a.q a.s.now a.deep a.at c.if-deep-eq0.false _ _ (sym c.view_at.ensures ∙ c.in-Function.is) (subst (Ends (GoodTys a.pool.now a.table.now a.q a.s.now (a.deep - 1) (a.at + 1) c.in-Function.n)) c.in-At.is c.types_end.ensures) c.type_end.result c.type_end.ensures
+pub type_parts-returns-in_ok-e-in-Function : goal.type_parts-returns-in_ok-e-in-Function
+type_parts-returns-in_ok-e-in-Function t c = let a = c.args in type-fn a.pool.now a.table.now a.q a.s.now a.deep a.at c.if-deep-eq0.false _ _ (sym c.view_at.ensures ∙ c.in-Function.is) c.in_ok-e-in-Function.ensures c.type_end.result c.type_end.ensures
 
-pub type_parts-returns-in-Bad : goal.type_parts-returns-in-Bad
-type_parts-returns-in-Bad t c = let a = c.args in type-fn-fail a.pool.now a.table.now a.q a.s.now a.deep a.at c.if-deep-eq0.false _ (sym c.view_at.ensures ∙ c.in-Function.is) (subst (Ends (GoodTys a.pool.now a.table.now a.q a.s.now (a.deep - 1) (a.at + 1) c.in-Function.n)) c.in-Bad.is c.types_end.ensures)
+pub type_parts-returns-in_err-e-in-Function : goal.type_parts-returns-in_err-e-in-Function
+type_parts-returns-in_err-e-in-Function t c = let a = c.args in rw c.from_residual.ensures (type-fn-fail a.pool.now a.table.now a.q a.s.now a.deep a.at c.if-deep-eq0.false _ (sym c.view_at.ensures ∙ c.in-Function.is) c.in_err-e-in-Function.ensures)
 
-pub type_parts-returns-in-At-types_end : goal.type_parts-returns-in-At-types_end
+pub type_parts-returns-in_ok-e-in-Struct : goal.type_parts-returns-in_ok-e-in-Struct
 unfolding table_of
-type_parts-returns-in-At-types_end t c = let a = c.args in type-struct a.pool.now a.table.now a.q a.s.now a.deep a.at c.if-deep-eq0.false c.in-Struct.x c.in-Struct.n c.in-Struct.m (sym c.view_at.ensures ∙ c.in-Struct.is) c.in-At-types_end.e (sym c.is_held.ensures ∙ c.if-is_held.true) (subst (Ends (GoodTys a.pool.now a.table.now a.q a.s.now (a.deep - 1) (a.at + 1) c.in-Struct.n)) c.in-At-types_end.is c.types_end-then-is_held.ensures) c.fields_end.result c.fields_end.ensures
+type_parts-returns-in_ok-e-in-Struct t c = let a = c.args in type-struct a.pool.now a.table.now a.q a.s.now a.deep a.at c.if-deep-eq0.false c.in-Struct.x c.in-Struct.n c.in-Struct.m (sym c.view_at.ensures ∙ c.in-Struct.is) c.in_ok-e-in-Struct.e (sym c.if-not-is_held.ensures) c.in_ok-e-in-Struct.ensures c.fields_end.result c.fields_end.ensures
 
-pub type_parts-returns-in-Bad-types_end : goal.type_parts-returns-in-Bad-types_end
-type_parts-returns-in-Bad-types_end t c = let a = c.args in type-struct-fail a.pool.now a.table.now a.q a.s.now a.deep a.at c.if-deep-eq0.false c.in-Struct.x c.in-Struct.n c.in-Struct.m (sym c.view_at.ensures ∙ c.in-Struct.is) (subst (Ends (GoodTys a.pool.now a.table.now a.q a.s.now (a.deep - 1) (a.at + 1) c.in-Struct.n)) c.in-Bad-types_end.is c.types_end-then-is_held.ensures)
+pub type_parts-returns-in_err-e-in-Struct : goal.type_parts-returns-in_err-e-in-Struct
+type_parts-returns-in_err-e-in-Struct t c = let a = c.args in rw c.from_residual-in_err-e-in-Struct.ensures (type-struct-fail a.pool.now a.table.now a.q a.s.now a.deep a.at c.if-deep-eq0.false c.in-Struct.x c.in-Struct.n c.in-Struct.m (sym c.view_at.ensures ∙ c.in-Struct.is) c.in_err-e-in-Struct.ensures)
 
-pub type_parts-returns-else-is_held : goal.type_parts-returns-else-is_held
+pub type_parts-returns-then-not-is_held : goal.type_parts-returns-then-not-is_held
 unfolding table_of
-type_parts-returns-else-is_held t c = let a = c.args in type-struct-name a.pool.now a.table.now a.q a.s.now a.deep a.at c.if-deep-eq0.false c.in-Struct.x c.in-Struct.n c.in-Struct.m (sym c.view_at.ensures ∙ c.in-Struct.is) (sym c.is_held.ensures ∙ c.if-is_held.false)
+type_parts-returns-then-not-is_held t c = let a = c.args in type-struct-name a.pool.now a.table.now a.q a.s.now a.deep a.at c.if-deep-eq0.false c.in-Struct.x c.in-Struct.n c.in-Struct.m (sym c.view_at.ensures ∙ c.in-Struct.is) (sym c.if-not-is_held.ensures)
 
 pub type_parts-returns-in-List : goal.type_parts-returns-in-List
 type_parts-returns-in-List t c = let a = c.args in type-list a.pool.now a.table.now a.q a.s.now a.deep a.at c.if-deep-eq0.false (sym c.view_at.ensures ∙ c.in-List.is) c.type_end-in-List.result c.type_end-in-List.ensures
 
 pub type_parts-returns-in_default : goal.type_parts-returns-in_default
-type_parts-returns-in_default t c = let a = c.args in type-other a.pool.now a.table.now a.q a.s.now a.deep a.at c.if-deep-eq0.false c.view_at.result (sym c.view_at.ensures) (opened c.in_default.in_default-own.keys7)
+type_parts-returns-in_default t c = let a = c.args in type-other a.pool.now a.table.now a.q a.s.now a.deep a.at c.if-deep-eq0.false c.view_at.result
+    c.in_default.not-Opened c.in_default.not-Basic c.in_default.not-Dim c.in_default.not-Function c.in_default.not-Struct c.in_default.not-List (sym c.view_at.ensures)
 
 pub types_end-returns-then-n-eq0 : goal.types_end-returns-then-n-eq0
 types_end-returns-then-n-eq0 t c = let a = c.args in types-none a.pool.now a.table.now a.q a.s.now a.deep a.at a.n c.if-n-eq0.true
@@ -151,8 +145,8 @@ types_end-type_end-requires t c = (omega arith, c.requires)
 pub types_end-types_end-requires : goal.types_end-types_end-requires
 types_end-types_end-requires t c = (omega arith, c.requires)
 
-pub types_end-returns-in-At : goal.types_end-returns-in-At
-types_end-returns-in-At t c = let a = c.args in types-step a.pool.now a.table.now a.q a.s.now a.deep a.at a.n c.in-At.e c.if-n-eq0.false (subst (Ends (GoodTy a.pool.now a.table.now a.q a.s.now a.deep a.at)) c.in-At.is c.type_end.ensures) c.types_end.result c.types_end.ensures
+pub types_end-returns : goal.types_end-returns
+types_end-returns t c = let a = c.args in types-step a.pool.now a.table.now a.q a.s.now a.deep a.at a.n c.in_ok-e.e c.if-n-eq0.false c.in_ok-e.ensures c.types_end.result c.types_end.ensures
 
-pub types_end-returns-in-Bad : goal.types_end-returns-in-Bad
-types_end-returns-in-Bad t c = let a = c.args in types-fail a.pool.now a.table.now a.q a.s.now a.deep a.at a.n c.if-n-eq0.false (subst (Ends (GoodTy a.pool.now a.table.now a.q a.s.now a.deep a.at)) c.in-Bad.is c.type_end.ensures)
+pub types_end-returns-in_err-e : goal.types_end-returns-in_err-e
+types_end-returns-in_err-e t c = let a = c.args in rw c.from_residual.ensures (types-fail a.pool.now a.table.now a.q a.s.now a.deep a.at a.n c.if-n-eq0.false c.in_err-e.ensures)

@@ -5,7 +5,7 @@ use mathlib.Core.Path.{ap, subst, ◌∙◌}
 use Rattle.records.proofs.inner.atom_follows.Goals as goal
 
 pub atom_order-requires : goal.atom_order-requires
-atom_order-requires c = record { good = c.requires.good; held_atom = subst (HeldLeft c.args.table.now) c.in-Atom.is c.requires.held_left; held_atom_2 = c.requires.held_atom }
+atom_order-requires c = record { good = c.requires.good; held_atom = subst (HeldLeft c.args.table.now) c.in-Some.is c.requires.held_left; held_atom_2 = c.requires.held_atom }
 
-pub returns-in-Atom : goal.returns-in-Atom
-returns-in-Atom c = rw c.in-Atom.is (c.is_less.ensures ∙ ap is_lt c.atom_order.ensures)
+pub returns-in-Some : goal.returns-in-Some
+returns-in-Some c = rw c.in-Some.is (c.is_less.ensures ∙ ap is_lt c.atom_order.ensures)

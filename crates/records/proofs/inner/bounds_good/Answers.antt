@@ -1,5 +1,5 @@
 -- `inner::bounds_good` meets its contract.
-use Rattle.records.specs.Good.{Ends, GoodBound, Chained}
+use Rattle.records.specs.Good.{GoodBound, Chained}
 use Rattle.records.proofs.Parts.{chain-done, chain-fail, chain-step, one-bound}
 use Rattle.records.specs.Moves.{bound-moves}
 use mathlib.Core.Bool.{true, false}
@@ -15,13 +15,13 @@ pub bound_end-requires : goal.bound_end-requires
 bound_end-requires c = c.requires.good
 
 pub returns-in_default : goal.returns-in_default
-returns-in_default c = let a = c.args in subst (λ (k : ℕ). Chained (GoodBound a.pool.now a.table.now a.q a.s.now) k a.from false) c.loop-at.invariant.0 (c.loop-at.invariant.2 false (chain-fail (GoodBound a.pool.now a.table.now a.q a.s.now) _ c.loop-at.at c.loop-at-test.true (subst (Ends (GoodBound a.pool.now a.table.now a.q a.s.now c.loop-at.at)) c.in_default.is c.bound_end.ensures)))
+returns-in_default c = let a = c.args in subst (λ (k : ℕ). Chained (GoodBound a.pool.now a.table.now a.q a.s.now) k a.from false) c.loop-at.invariant.0 (c.loop-at.invariant.2 false (chain-fail (GoodBound a.pool.now a.table.now a.q a.s.now) _ c.loop-at.at c.loop-at-test.true c.in_default.ensures))
 
 pub loop-at-smaller : goal.loop-at-smaller
-loop-at-smaller c = let a = c.args in let u = (subst (Ends (GoodBound a.pool.now a.table.now a.q a.s.now c.loop-at.at)) c.in-At.is c.bound_end.ensures) in let v = bound-moves a.pool.now a.table.now a.q a.s.now c.loop-at.at u.0 c.in-At.e u.1 in omega (arith, v.0, v.1)
+loop-at-smaller c = let a = c.args in let u = c.in-Some.ensures in let v = bound-moves a.pool.now a.table.now a.q a.s.now c.loop-at.at u.0 c.in-Some.e u.1 in omega (arith, v.0, v.1)
 
 pub loop-at-preserved : goal.loop-at-preserved
-loop-at-preserved c = let a = c.args in let u = (subst (Ends (GoodBound a.pool.now a.table.now a.q a.s.now c.loop-at.at)) c.in-At.is c.bound_end.ensures) in let v = bound-moves a.pool.now a.table.now a.q a.s.now c.loop-at.at u.0 c.in-At.e u.1 in (c.loop-at.invariant.0, omega (arith, v.1, c.loop-at.invariant.0), λ b h. c.loop-at.invariant.2 b (chain-step (GoodBound a.pool.now a.table.now a.q a.s.now) _ c.loop-at.at (one-bound a.pool.now a.table.now a.q a.s.now c.loop-at.at) c.in-At.e c.loop-at-test.true u b h))
+loop-at-preserved c = let a = c.args in let u = c.in-Some.ensures in let v = bound-moves a.pool.now a.table.now a.q a.s.now c.loop-at.at u.0 c.in-Some.e u.1 in (c.loop-at.invariant.0, omega (arith, v.1, c.loop-at.invariant.0), λ b h. c.loop-at.invariant.2 b (chain-step (GoodBound a.pool.now a.table.now a.q a.s.now) _ c.loop-at.at (one-bound a.pool.now a.table.now a.q a.s.now c.loop-at.at) c.in-Some.e c.loop-at-test.true u b h))
 
 pub returns : goal.returns
 returns c = let a = c.args in subst (λ (k : ℕ). Chained (GoodBound a.pool.now a.table.now a.q a.s.now) k a.from true) c.loop-at.invariant.0 (c.loop-at.invariant.2 true (chain-done (GoodBound a.pool.now a.table.now a.q a.s.now) _ c.loop-at.at c.loop-at-test.false c.loop-at.invariant.1))

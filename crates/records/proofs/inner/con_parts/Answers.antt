@@ -4,7 +4,6 @@ use Rattle.records.proofs.Parts.{con-equal, con-dim, con-scalar, con-field, con-
 use Rattle.records.specs.Places.{seen-in}
 use native.Mathlib.Omega.{arith}
 use mathlib.Core.Path.{sym, ◌∙◌}
-use borrow.Enum.Refused.{opened}
 use Rattle.records.proofs.inner.con_parts.Goals as goal
 
 pub overflow_add-at : goal.overflow_add-at
@@ -16,8 +15,8 @@ overflow_add-at-in-IsDim c = omega (arith, seen-in c.args.s.now c.args.at (sym c
 pub overflow_add-at-in-IsScalar : goal.overflow_add-at-in-IsScalar
 overflow_add-at-in-IsScalar c = omega (arith, seen-in c.args.s.now c.args.at (sym c.view_at.ensures ∙ c.in-IsScalar.is) tt)
 
-pub overflow_add-at-then-is_held : goal.overflow_add-at-then-is_held
-overflow_add-at-then-is_held c = omega (arith, seen-in c.args.s.now c.args.at (sym c.view_at.ensures ∙ c.in-HasField.is) tt)
+pub overflow_add-at-in-HasField : goal.overflow_add-at-in-HasField
+overflow_add-at-in-HasField c = omega (arith, seen-in c.args.s.now c.args.at (sym c.view_at.ensures ∙ c.in-HasField.is) tt)
 
 pub returns-in-Equal : goal.returns-in-Equal
 returns-in-Equal c = let a = c.args in con-equal a.pool.now a.table.now 0 a.s.now a.at (sym c.view_at.ensures ∙ c.in-Equal.is) c.two_end.result c.two_end.ensures
@@ -28,13 +27,14 @@ returns-in-IsDim c = let a = c.args in con-dim a.pool.now a.table.now 0 a.s.now 
 pub returns-in-IsScalar : goal.returns-in-IsScalar
 returns-in-IsScalar c = let a = c.args in con-scalar a.pool.now a.table.now 0 a.s.now a.at (sym c.view_at.ensures ∙ c.in-IsScalar.is) c.product_end.result c.product_end.ensures
 
-pub returns-then-is_held : goal.returns-then-is_held
+pub returns-else-not-is_held : goal.returns-else-not-is_held
 unfolding table_of
-returns-then-is_held c = let a = c.args in con-field a.pool.now a.table.now 0 a.s.now a.at c.in-HasField.x (sym c.view_at.ensures ∙ c.in-HasField.is) (sym c.is_held.ensures ∙ c.if-is_held.true) c.two_end-then-is_held.result c.two_end-then-is_held.ensures
+returns-else-not-is_held c = let a = c.args in con-field a.pool.now a.table.now 0 a.s.now a.at c.in-HasField.x (sym c.view_at.ensures ∙ c.in-HasField.is) (sym c.if-not-is_held.ensures) c.two_end-in-HasField.result c.two_end-in-HasField.ensures
 
-pub returns-else-is_held : goal.returns-else-is_held
+pub returns-then-not-is_held : goal.returns-then-not-is_held
 unfolding table_of
-returns-else-is_held c = let a = c.args in con-field-name a.pool.now a.table.now 0 a.s.now a.at c.in-HasField.x (sym c.view_at.ensures ∙ c.in-HasField.is) (sym c.is_held.ensures ∙ c.if-is_held.false)
+returns-then-not-is_held c = let a = c.args in con-field-name a.pool.now a.table.now 0 a.s.now a.at c.in-HasField.x (sym c.view_at.ensures ∙ c.in-HasField.is) (sym c.if-not-is_held.ensures)
 
 pub returns-in_default : goal.returns-in_default
-returns-in_default c = let a = c.args in con-other a.pool.now a.table.now 0 a.s.now a.at c.view_at.result (sym c.view_at.ensures) (opened c.in_default.in_default-own.keys5)
+returns-in_default c = let a = c.args in con-other a.pool.now a.table.now 0 a.s.now a.at c.view_at.result
+    c.in_default.not-Equal c.in_default.not-IsDim c.in_default.not-IsScalar c.in_default.not-HasField (sym c.view_at.ensures)

@@ -1,17 +1,21 @@
 -- `inner::name_good` meets its contract.
 use Rattle.records.proofs.Walks.{held-name}
 use Rattle.rules.specs.Names.{table_of}
-use mathlib.Core.Path.{refl, sym, ◌∙◌}
+use mathlib.Core.Path.{refl, sym}
 use Rattle.records.proofs.inner.name_good.Goals as goal
 
 pub name_follows-requires : goal.name_follows-requires
 unfolding table_of
-name_follows-requires c = record { good = c.requires.good; held_before = c.requires.held_before; x_bound = held-name c.args.pool.now c.args.table.now c.args.x (sym c.is_held.ensures ∙ c.if-is_held.true) }
+name_follows-requires c = record {
+  good = c.requires.good;
+  held_before = c.requires.held_before;
+  x_bound = held-name c.args.pool.now c.args.table.now c.args.x (sym c.if-is_held.ensures);
+}
 
 pub returns-then-is_held : goal.returns-then-is_held
 unfolding table_of
-returns-then-is_held c = rw (sym c.is_held.ensures ∙ c.if-is_held.true) c.name_follows.ensures
+returns-then-is_held c = rw (sym c.if-is_held.ensures) c.name_follows.ensures
 
 pub returns-else-is_held : goal.returns-else-is_held
 unfolding table_of
-returns-else-is_held c = rw (sym c.is_held.ensures ∙ c.if-is_held.false) refl
+returns-else-is_held c = rw (c.if-is_held.false, sym c.if-is_held.ensures) refl

@@ -1,19 +1,15 @@
 -- `inner::product_parts` meets its contract.
-use Rattle.records.proofs.Walks.{untagged}
 use Rattle.records.proofs.Parts.{product-dim, product-other}
-use Rattle.records.specs.declared.View.TheVariants as view
 use Rattle.records.specs.Places.{seen-in}
 use native.Mathlib.Omega.{arith}
-use mathlib.Core.List.{[], ◌∷◌}
-use mathlib.Core.Path.{refl, sym, ◌∙◌}
-use borrow.Enum.Refused.{opened}
+use mathlib.Core.Path.{sym, ◌∙◌}
 use Rattle.records.proofs.inner.product_parts.Goals as goal
 
 pub overflow_add-at : goal.overflow_add-at
 overflow_add-at c = omega (arith, seen-in c.args.s.now c.args.at (sym c.view_at.ensures ∙ c.in-Dim.is) tt)
 
-pub returns-in-Dim : goal.returns-in-Dim
-returns-in-Dim c = let a = c.args in product-dim a.pool.now a.table.now a.q a.s.now a.at _ (sym c.view_at.ensures ∙ c.in-Dim.is) c.dim_end.result c.dim_end.ensures
+pub returns : goal.returns
+returns c = let a = c.args in product-dim a.pool.now a.table.now a.q a.s.now a.at _ (sym c.view_at.ensures ∙ c.in-Dim.is) c.dim_end.result c.dim_end.ensures
 
 pub returns-in_default : goal.returns-in_default
-returns-in_default c = let a = c.args in product-other a.pool.now a.table.now a.q a.s.now a.at (λ n e. untagged c.view_at.result (0 ∷ 1 ∷ 3 ∷ 4 ∷ 5 ∷ 6 ∷ 7 ∷ 8 ∷ 9 ∷ 10 ∷ 11 ∷ 12 ∷ 13 ∷ 14 ∷ 15 ∷ 16 ∷ []) 2 tt (opened c.in_default.in_default-own.keys2) (view.Dim n) refl (c.view_at.ensures ∙ e))
+returns-in_default c = let a = c.args in product-other a.pool.now a.table.now a.q a.s.now a.at (λ n e. c.in_default.not-Dim n (c.view_at.ensures ∙ e))

@@ -1,5 +1,5 @@
 -- `inner::set_good` meets its contract.
-use Rattle.records.specs.Good.{Ends, GoodCon, Chained}
+use Rattle.records.specs.Good.{GoodCon, Chained}
 use Rattle.records.proofs.Parts.{chain-done, chain-fail, chain-step, one-con}
 use Rattle.records.specs.Moves.{con-moves}
 use mathlib.Core.Bool.{true, false}
@@ -15,13 +15,13 @@ pub con_end-requires : goal.con_end-requires
 con_end-requires c = c.requires
 
 pub returns-in_default : goal.returns-in_default
-returns-in_default c = let a = c.args in subst (λ (k : ℕ). Chained (GoodCon a.pool.now a.table.now 0 a.s.now) k 0 false) c.loop-at.invariant.0 (c.loop-at.invariant.2 false (chain-fail (GoodCon a.pool.now a.table.now 0 a.s.now) _ c.loop-at.at c.loop-at-test.true (subst (Ends (GoodCon a.pool.now a.table.now 0 a.s.now c.loop-at.at)) c.in_default.is c.con_end.ensures)))
+returns-in_default c = let a = c.args in subst (λ (k : ℕ). Chained (GoodCon a.pool.now a.table.now 0 a.s.now) k 0 false) c.loop-at.invariant.0 (c.loop-at.invariant.2 false (chain-fail (GoodCon a.pool.now a.table.now 0 a.s.now) _ c.loop-at.at c.loop-at-test.true c.in_default.ensures))
 
 pub loop-at-smaller : goal.loop-at-smaller
-loop-at-smaller c = let a = c.args in let u = (subst (Ends (GoodCon a.pool.now a.table.now 0 a.s.now c.loop-at.at)) c.in-At.is c.con_end.ensures) in let v = con-moves a.pool.now a.table.now 0 a.s.now c.loop-at.at u.0 c.in-At.e u.1 in omega (arith, v.0, v.1)
+loop-at-smaller c = let a = c.args in let u = c.in-Some.ensures in let v = con-moves a.pool.now a.table.now 0 a.s.now c.loop-at.at u.0 c.in-Some.e u.1 in omega (arith, v.0, v.1)
 
 pub loop-at-preserved : goal.loop-at-preserved
-loop-at-preserved c = let a = c.args in let u = (subst (Ends (GoodCon a.pool.now a.table.now 0 a.s.now c.loop-at.at)) c.in-At.is c.con_end.ensures) in let v = con-moves a.pool.now a.table.now 0 a.s.now c.loop-at.at u.0 c.in-At.e u.1 in (c.loop-at.invariant.0, omega (arith, v.1, c.loop-at.invariant.0), λ b h. c.loop-at.invariant.2 b (chain-step (GoodCon a.pool.now a.table.now 0 a.s.now) _ c.loop-at.at (one-con a.pool.now a.table.now 0 a.s.now c.loop-at.at) c.in-At.e c.loop-at-test.true u b h))
+loop-at-preserved c = let a = c.args in let u = c.in-Some.ensures in let v = con-moves a.pool.now a.table.now 0 a.s.now c.loop-at.at u.0 c.in-Some.e u.1 in (c.loop-at.invariant.0, omega (arith, v.1, c.loop-at.invariant.0), λ b h. c.loop-at.invariant.2 b (chain-step (GoodCon a.pool.now a.table.now 0 a.s.now) _ c.loop-at.at (one-con a.pool.now a.table.now 0 a.s.now c.loop-at.at) c.in-Some.e c.loop-at-test.true u b h))
 
 pub returns : goal.returns
 returns c = let a = c.args in subst (λ (k : ℕ). Chained (GoodCon a.pool.now a.table.now 0 a.s.now) k 0 true) c.loop-at.invariant.0 (c.loop-at.invariant.2 true (chain-done (GoodCon a.pool.now a.table.now 0 a.s.now) _ c.loop-at.at c.loop-at-test.false c.loop-at.invariant.1))

@@ -16,7 +16,7 @@ fill-requires c = let word : Words32 c.args.words.now = record { word = λ i. (c
     let binds-word : Words32 c.args.binds.now = record { word = λ i. (c.shared_slice_known-4-1.given i).fits } in
     let (cs, (bs, n)) = c.requires.by_index in
     let l = (set-asks _ _ _ _ (word) (binds-word) bs cs n).1.0 in
-    record { by_index = (bs, l.run); v_len_bound = l.near; places_value = refl }
+    record { run = (bs, l.run); near = l.near; empty = refl }
 
 pub replace_lines-requires : goal.replace_lines-requires
 replace_lines-requires c = let word : Words32 c.args.words.now = record { word = λ i. (c.shared_slice_known-3-1.given i).fits } in

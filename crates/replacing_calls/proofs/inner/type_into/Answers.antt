@@ -13,7 +13,7 @@ fill-requires c = let word : Words32 c.args.words.now = record { word = λ i. (c
     let binds-word : Words32 c.args.binds.now = record { word = λ i. (c.shared_slice_known-4-1.given i).fits } in
     let (t, (bs, n)) = c.requires.by_index in
     let l = (type-asks _ _ _ _ (word) (binds-word) bs t n).1.0 in
-    record { by_index = (bs, l.run); v_len_bound = l.near; places_value = refl }
+    record { run = (bs, l.run); near = l.near; empty = refl }
 
 pub replace_type-requires : goal.replace_type-requires
 replace_type-requires c = let word : Words32 c.args.words.now = record { word = λ i. (c.shared_slice_known-3-1.given i).fits } in

@@ -5,7 +5,7 @@ use native.Mathlib.Omega.{arith}
 use mathlib.Core.List.{List}
 use lib.ListN.{length}
 use Rattle.records.specs.Good.{Ends, GoodCon}
-use Rattle.records.specs.declared.inner.Ended.TheVariants.{At}
+use Rattle.std.specs.Prelude.{Some}
 use Rattle.records.specs.Moves.{con-moves}
 use Rattle.rescue.specs.Steps.{left-start, left-sound, left-lost, left-done}
 use Rattle.records.specs.Found.{Words32}
@@ -19,7 +19,7 @@ record Found (pool table s : List ℕ) (at e : ℕ) : Type 0 where
   moves : at + 1 ≤ e
   within : e ≤ length s / 4
 
-found : (pool table s : List ℕ) (at e : ℕ) → Ends (GoodCon pool table 0 s at) (At e) → Found pool table s at e
+found : (pool table s : List ℕ) (at e : ℕ) → Ends (GoodCon pool table 0 s at) (Some e) → Found pool table s at e
 found pool table s at e u =
     let v = con-moves pool table 0 s at u.0 e u.1 in
     record { con = u.0; good = u.1; moves = omega (arith, v.0); within = v.1 }
@@ -33,35 +33,35 @@ pub con_end-requires : goal.con_end-requires
 con_end-requires c = c.requires.good
 
 pub overflow_mul-at : goal.overflow_mul-at
-overflow_mul-at c = let f : Found c.args.pool.now c.args.table.now c.args.s.now c.loop-at.at c.in-At.e = found _ _ _ _ _ c.in-At.ensures in
+overflow_mul-at c = let f : Found c.args.pool.now c.args.table.now c.args.s.now c.loop-at.at c.in-Some.e = found _ _ _ _ _ c.in-Some.ensures in
     omega (arith, f.moves, f.within, c.requires.s_len_bound)
 
 pub overflow_mul-e : goal.overflow_mul-e
-overflow_mul-e c = let f : Found c.args.pool.now c.args.table.now c.args.s.now c.loop-at.at c.in-At.e = found _ _ _ _ _ c.in-At.ensures in
+overflow_mul-e c = let f : Found c.args.pool.now c.args.table.now c.args.s.now c.loop-at.at c.in-Some.e = found _ _ _ _ _ c.in-Some.ensures in
     omega (arith, f.within, c.requires.s_len_bound)
 
 pub overflow_mul-k : goal.overflow_mul-k
-overflow_mul-k c = let f : Found c.args.pool.now c.args.table.now c.args.s.now c.loop-at.at c.in-At.e = found _ _ _ _ _ c.in-At.ensures in
+overflow_mul-k c = let f : Found c.args.pool.now c.args.table.now c.args.s.now c.loop-at.at c.in-Some.e = found _ _ _ _ _ c.in-Some.ensures in
     omega (arith, f.moves, f.within, c.loop-at.invariant.2, c.requires.s_len_bound)
 
 pub put_words-requires : goal.put_words-requires
-put_words-requires c = let f : Found c.args.pool.now c.args.table.now c.args.s.now c.loop-at.at c.in-At.e = found _ _ _ _ _ c.in-At.ensures in
+put_words-requires c = let f : Found c.args.pool.now c.args.table.now c.args.s.now c.loop-at.at c.in-Some.e = found _ _ _ _ _ c.in-Some.ensures in
     record { b_le_e = omega (arith, f.moves); e_in_bounds = omega (arith, f.within); s_len_bound = omega (arith, c.requires.s_len_bound); out_bound = omega (arith, f.moves, f.within, c.loop-at.invariant.2, c.requires.s_len_bound) }
 
 pub overflow_sub-k : goal.overflow_sub-k
-overflow_sub-k c = let f : Found c.args.pool.now c.args.table.now c.args.s.now c.loop-at.at c.in-At.e = found _ _ _ _ _ c.in-At.ensures in
+overflow_sub-k c = let f : Found c.args.pool.now c.args.table.now c.args.s.now c.loop-at.at c.in-Some.e = found _ _ _ _ _ c.in-Some.ensures in
     omega (arith, f.moves)
 
 pub overflow_add-k : goal.overflow_add-k
-overflow_add-k c = let f : Found c.args.pool.now c.args.table.now c.args.s.now c.loop-at.at c.in-At.e = found _ _ _ _ _ c.in-At.ensures in
+overflow_add-k c = let f : Found c.args.pool.now c.args.table.now c.args.s.now c.loop-at.at c.in-Some.e = found _ _ _ _ _ c.in-Some.ensures in
     omega (arith, f.moves, f.within, c.loop-at.invariant.2, c.requires.s_len_bound)
 
-pub loop-at-smaller-in-At : goal.loop-at-smaller-in-At
-loop-at-smaller-in-At c = let f : Found c.args.pool.now c.args.table.now c.args.s.now c.loop-at.at c.in-At.e = found _ _ _ _ _ c.in-At.ensures in
+pub loop-at-smaller-in-Some : goal.loop-at-smaller-in-Some
+loop-at-smaller-in-Some c = let f : Found c.args.pool.now c.args.table.now c.args.s.now c.loop-at.at c.in-Some.e = found _ _ _ _ _ c.in-Some.ensures in
     omega (arith, f.moves, f.within)
 
-pub loop-at-preserved-in-At : goal.loop-at-preserved-in-At
-loop-at-preserved-in-At c = let f : Found c.args.pool.now c.args.table.now c.args.s.now c.loop-at.at c.in-At.e = found _ _ _ _ _ c.in-At.ensures in
+pub loop-at-preserved-in-Some : goal.loop-at-preserved-in-Some
+loop-at-preserved-in-Some c = let f : Found c.args.pool.now c.args.table.now c.args.s.now c.loop-at.at c.in-Some.e = found _ _ _ _ _ c.in-Some.ensures in
     let words32 : Words32 c.args.s.now = record { word = λ i. (c.type_inv.s i).fits } in
     let a = c.args in
     let l = c.loop-at in
@@ -72,7 +72,7 @@ loop-at-preserved-in-At c = let f : Found c.args.pool.now c.args.table.now c.arg
       p.auto.dst ∙ l.invariant.3,
       l.invariant.4,
       left-sound a.pool.now a.table.now a.s.now (words32) a.kept.now a.skipped.now l.kept l.skipped l.at l.k l.m
-          (omega arith) c.in-At.e f.con f.good _ p.ensures l.invariant.5,
+          (omega arith) c.in-Some.e f.con f.good _ p.ensures l.invariant.5,
     )
 
 pub overflow_cast-at : goal.overflow_cast-at
@@ -89,7 +89,7 @@ loop-at-preserved c = let words32 : Words32 c.args.s.now = record { word = λ i.
     let a = c.args in
     let l = c.loop-at in
     let p = c.put in
-    let u = c.in-Bad.ensures in (
+    let u = c.in-None.ensures in (
       refl,
       omega arith,
       omega (arith, l.invariant.2),

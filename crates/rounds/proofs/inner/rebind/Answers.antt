@@ -7,7 +7,7 @@ pub fill-requires : goal.fill-requires
 fill-requires c =
     let (cs, (x, (t, (bs, h)))) = c.requires.by_index in
     let l = listed _ _ _ _ _ _ cs x t bs h c.requires.next_len_bound in
-    record { by_index = (one _ _ _ _ _ _ cs x t bs h, l.run); v_len_bound = l.near; places_value = refl }
+    record { run = (one _ _ _ _ _ _ cs x t bs h, l.run); near = l.near; empty = refl }
 
 pub rebind_by-requires : goal.rebind_by-requires
 rebind_by-requires c =

@@ -4,10 +4,10 @@ use mathlib.Core.Bool.{or-false}
 use Rattle.rules.specs.Base.{any}
 use Rattle.lines.proofs.inner.fresh.is_name.Goals as goal
 
-pub returns-in-Of : goal.returns-in-Of
+pub returns-in-Some : goal.returns-in-Some
 unfolding any
-returns-in-Of c = rw c.in-Of.is (sym (or-false _))
+returns-in-Some c = rw c.in-Some.is (sym (or-false _))
 
-pub returns-in-Nothing : goal.returns-in-Nothing
+pub returns-in-None : goal.returns-in-None
 unfolding any
-returns-in-Nothing c = rw c.in-Nothing.is refl
+returns-in-None c = rw c.in-None.is refl

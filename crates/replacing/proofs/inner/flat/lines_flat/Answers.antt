@@ -1,8 +1,6 @@
 -- `inner::flat::lines_flat` meets its contract.
-use mathlib.Core.Path.{subst}
 use native.Mathlib.Omega.{arith}
-use Rattle.records.specs.Good.{Ends}
-use Rattle.replacing.specs.Flat.{GoodLine, all_left, taken, deep, none_left}
+use Rattle.replacing.specs.Flat.{all_left, taken, deep, none_left}
 use Rattle.replacing.proofs.inner.flat.lines_flat.Goals as goal
 
 pub loop-i-init : goal.loop-i-init
@@ -19,13 +17,13 @@ pub loop-i-smaller : goal.loop-i-smaller
 loop-i-smaller c =
     let (xs, p) = c.requires.plain_lines in
     let a = c.args in
-    let t = taken _ _ _ xs _ _ _ c.loop-i-test.true (c.loop-i.invariant xs p) (subst (Ends (GoodLine a.pool.now a.table.now a.s.now c.loop-i.i)) c.in-At.is c.line_end.ensures) in
+    let t = taken _ _ _ xs _ _ _ c.loop-i-test.true (c.loop-i.invariant xs p) c.in-Some.ensures in
     omega (arith, t.1.0, t.1.1)
 
 pub loop-i-preserved : goal.loop-i-preserved
 loop-i-preserved c = λ xs p.
     let a = c.args in
-    (taken _ _ _ xs _ _ _ c.loop-i-test.true (c.loop-i.invariant xs p) (subst (Ends (GoodLine a.pool.now a.table.now a.s.now c.loop-i.i)) c.in-At.is c.line_end.ensures)).0
+    (taken _ _ _ xs _ _ _ c.loop-i-test.true (c.loop-i.invariant xs p) c.in-Some.ensures).0
 
 pub returns : goal.returns
 returns c = λ xs p. none_left _ _ _ xs _ _ c.loop-i-test.false (c.loop-i.invariant xs p)
