@@ -12,12 +12,10 @@ use Rattle.rules.specs.Exponents.{Exp}
 use Rattle.rules.specs.Refusals.{number_of}
 use Rattle.rules.specs.declared.Refusal.{Refusal}
 use Rattle.rules.specs.Values.{FactorValue, ProductValue, productValue, sumCall, timesCall, negationCall, quotientCall, multiplyCall, divideCall, inverseCall, raiseCall}
-use Rattle.names.specs.declared.old.Checked.TheVariants.{Good, Refused}
 use Rattle.records.specs.Stores.{sets-append}
 use Rattle.products.specs.declared.Factor.{Factor}
 use Rattle.products.specs.declared.Product.{Product}
-use Rattle.products.specs.declared.Tried.{Tried}
-use Rattle.products.specs.Told.{Tree, Answer, valueIn, given, unread, refusalOf, told, answer}
+use Rattle.products.specs.Told.{Tree, valueIn, given, unread, answer}
 use Rattle.products.specs.Held.{made-long}
 use Rattle.saying.specs.Saying.{word, saidAs, refusedAs}
 use Rattle.saying.specs.Given.{exponentAt, factorAt, factorsFrom, productAt}
@@ -79,39 +77,39 @@ put-end p d i h l r =
 
 -- ══ What was tried ══
 
-module _ (t : Tried) where
-  -- its product is made, or the scalar
-  tried-value : (m : Got Tree) → told t ≡ answer m → given t.product ≡ productValue (productOr m)
-  unfolding told answer
-  tried-value (got p) e = ap (λ (a : Answer). a.product) e
-  tried-value (refused n) e = ap (λ (a : Answer). a.product) e
+-- a product that was made, or the scalar
+module _ (p : Product) (m : Got Tree) where
+  made-value : got (given p) ≡ answer m → given p ≡ productValue (productOr m)
+  unfolding answer
+  made-value = go m
+    where
+      go : (m : Got Tree) → got (given p) ≡ answer m → given p ≡ productValue (productOr m)
+      go (got t) e = cc
+      go (refused n) e = let z : ◌≡◌ {A = ℕ} 0 1 = cc in absurd (omega arith)
 
-  pub tried-long : (m : Got Tree) → told t ≡ answer m → length t.product.factors ≡ 64
-  tried-long m e = made-long [] [] t.product (productOr m) (tried-value m e)
+  pub made_long : got (given p) ≡ answer m → length p.factors ≡ 64
+  made_long e = made-long [] [] p (productOr m) (made-value e)
 
-  module _ (m : Got Tree) (e : told t ≡ answer m) (d d' : List ℕ) (w : d' ≡ sets d 0 (collect factorWords (given t.product).factors)) where
-    buffer : d' ≡ sets d 0 (collect factorWords (productValue (productOr m)).factors)
-    buffer = w ∙ ap (λ (v : ProductValue). sets d 0 (collect factorWords v.factors)) (tried-value m e)
+  pub told-made : (d d' : List ℕ) (r : said.Told) → got (given p) ≡ answer m → d' ≡ sets d 0 (collect factorWords (given p).factors) → r ≡ saidAs (word p.len) 0 256 → shown r d' ≡ productShown m d
+  unfolding productShown answer given productValue
+  told-made d d' r e w h = go m e
+    where
+      go : (m : Got Tree) → got (given p) ≡ answer m → shown r d' ≡ productShown m d
+      go (got t) e =
+          let v : given p ≡ productValue t = cc in
+          rw (h, w) (ap (λ (v : ProductValue). shown (saidAs (word v.len) 0 256) (sets d 0 (collect factorWords v.factors))) v)
+      go (refused n) e = let z : ◌≡◌ {A = ℕ} 0 1 = cc in absurd (omega arith)
 
-    many : t.product.len ≡ length (productOr m)
-    unfolding given productValue
-    many = ap (λ (v : ProductValue). v.len) (tried-value m e)
-
-    pub tried-good : (r : said.Told) → t.checked ≡ Good → r ≡ saidAs (word t.product.len) 0 256 → shown r d' ≡ productShown m d
-    unfolding productShown told answer
-    tried-good r g h = λ i. shown ((h ∙ ap (λ (n : ℕ). saidAs (word n) 0 256) many ∙ go m e) i) (buffer i)
-      where
-        go : (k : Got Tree) → told t ≡ answer k → saidAs (word (length (productOr k))) 0 256 ≡ productAs k
-        go (got p) i = refl
-        go (refused n) i = let z : refusalOf t.checked ≡ some n = ap (λ (a : Answer). a.refusal) i in let y : none ≡ some n = rw g at z in absurd (let x : ◌≡◌ {A = ℕ} 0 1 = cc in omega arith)
-
-    pub tried-refused : (r : said.Told) (why : Refusal) → t.checked ≡ Refused why → r ≡ refusedAs (number_of why) 0 256 → shown r d' ≡ productShown m d
-    unfolding productShown told answer
-    tried-refused r why g h = λ i. shown ((h ∙ go m e) i) (buffer i)
-      where
-        go : (k : Got Tree) → told t ≡ answer k → refusedAs (number_of why) 0 256 ≡ productAs k
-        go (got p) i = let z : refusalOf t.checked ≡ none = ap (λ (a : Answer). a.refusal) i in let y : some (number_of why) ≡ none = rw g at z in absurd (let x : ◌≡◌ {A = ℕ} 0 1 = cc in omega arith)
-        go (refused n) i = let z : refusalOf t.checked ≡ some n = ap (λ (a : Answer). a.refusal) i in let y : some (number_of why) ≡ some n = rw g at z in let x : number_of why ≡ n = cc in ap (λ (k : ℕ). refusedAs k 0 256) x
+module _ (p : Product) (scalar : given p ≡ productValue []) (n : ℕ) (m : Got Tree) (e : refused n ≡ answer m) (d d' : List ℕ) where
+  pub told-refused : (r : said.Told) → d' ≡ sets d 0 (collect factorWords (given p).factors) → r ≡ refusedAs n 0 256 → shown r d' ≡ productShown m d
+  unfolding productShown answer
+  told-refused r w h = go m e
+    where
+      go : (m : Got Tree) → refused n ≡ answer m → shown r d' ≡ productShown m d
+      go (got t) e = let z : ◌≡◌ {A = ℕ} 0 1 = cc in absurd (omega arith)
+      go (refused k) e =
+          let v : n ≡ k = cc in
+          rw (h, w, scalar, v)
 
 -- ══ 5 to 8 ══
 

@@ -3,15 +3,14 @@ ghost use Rattle.std.specs.Prelude.{◌≡◌, ℕ, ◌≤◌, length};
 ghost use Rattle.std.proofs.lemmas.List.Edits.{sets};
 ghost use Rattle.rules.specs.Base.{Got, collect};
 ghost use Rattle.exponents.specs.Answers.{expOf};
-ghost use Rattle.exponents.specs.Answers as exponents;
-ghost use Rattle.products.specs.Told.{Tree, valueIn, given, told, answer};
+ghost use Rattle.rules.specs.Refusals.{toldBy};
+ghost use Rattle.products.specs.Told.{Tree, valueIn, given, answer};
 ghost use Rattle.saying.specs.Given.{exponentAt, factorAt, productAt};
 ghost use Rattle.saying.specs.Dispatch.{shown, powerAs, factorWords, productShown};
 
-use exponents::{Exponent, Power};
-use names::old::Checked;
-use products::{Factor, Product, Tried};
-use rules::FACTORS;
+use exponents::Exponent;
+use products::{Factor, Product};
+use rules::{FACTORS, Refusal};
 use saying::told::{Told, refused, said, short};
 use saying::words::{put, word_of};
 
@@ -22,12 +21,12 @@ pub fn exponent_at(a: &[u32], i: usize) -> Exponent
     Exponent::from_words(word_of(a, i), word_of(a, i + 1))
 }
 
-pub fn told_power(p: Power) -> Told
-    ensures { result ≡ powerAs (exponents.told p) }
+pub fn told_power(p: Result<Exponent, Refusal>) -> Told
+    ensures { result ≡ powerAs (toldBy expOf p) }
 {
     match p {
-        Power::Value(e) => said(e.num_word(), e.den, 0),
-        Power::Refused(why) => refused(why, 0, 0),
+        Ok(e) => said(e.num_word(), e.den, 0),
+        Err(why) => refused(why, 0, 0),
     }
 }
 
@@ -81,15 +80,19 @@ fn put_factors(p: Product, dst: &mut [u32])
     }
 }
 
-pub fn told_product(t: Tried, dst: &mut [u32]) -> Told
-    requires { (m : Got Tree) × (told t ≡ answer m) }
-    ensures { (m : Got Tree) → told t ≡ answer m → shown result dst.new ≡ productShown m dst.old }
+// The factors of a product that was made, or of the scalar beside a refusal.
+pub fn told_product(t: Result<Product, Refusal>, dst: &mut [u32]) -> Told
+    requires { (m : Got Tree) × (toldBy given t ≡ answer m) }
+    ensures { (m : Got Tree) → toldBy given t ≡ answer m → shown result dst.new ≡ productShown m dst.old }
 {
-    let checked = t.checked;
-    let p = t.product;
-    put_factors(p, dst);
-    match checked {
-        Checked::Good => said(short(p.len), 0, 256),
-        Checked::Refused(why) => refused(why, 0, 256),
+    match t {
+        Ok(p) => {
+            put_factors(p, dst);
+            said(short(p.len), 0, 256)
+        }
+        Err(why) => {
+            put_factors(Product::scalar(), dst);
+            refused(why, 0, 256)
+        }
     }
 }

@@ -1,5 +1,5 @@
 -- A factor's power: its worth, or 7 at its sign.
-use Rattle.std.specs.Prelude.{◌≡◌, Bool, true, false, List, [], ℕ, suc, ◌≤◌, ◌<◌, leb, pos, Err, None, Ok, Some}
+use Rattle.std.specs.Prelude.{◌≡◌, Bool, true, false, List, [], ℕ, suc, ◌≤◌, ◌<◌, leb, pos, Result, Err, None, Ok, Some}
 use Rattle.std.proofs.Math.Path.{refl}
 use Rattle.std.proofs.Common.{sym, ap, ◌∙◌, arith, leb-true, leb-false}
 use Rattle.rules.specs.Base.{Got, got, refused}
@@ -7,17 +7,14 @@ use Rattle.rules.specs.Exponents.{Exp, one, lowest, gcd, gcdIn, top, in_range, g
 use Rattle.rules.specs.Names.{Bytes}
 use Rattle.rules.specs.Grammar.{Place, beyond, Parsed, read, bad, Rule, pass, give, sign, skip, column, columnOf, digits, PowerAt, power, noPower}
 use Rattle.rules.specs.Grammar.{signedBy, ◌>>=◌, ◌>>◌}
-use Rattle.rules.specs.Refusals.{number_of}
+use Rattle.rules.specs.Refusals.{number_of, toldBy}
 use Rattle.rules.specs.declared.Refusal.{Refusal}
 use Rattle.rules.specs.Writing.{Rec, words}
 use Rattle.rules.specs.TextReading.{Step, refusedAt, placed, powerOf}
 use Rattle.laws.specs.Ranges.{neg-good}
 use Rattle.laws.specs.Fractions.{lowest-neg}
 use Rattle.exponents.specs.Answers.{expOf}
-use Rattle.exponents.specs.Answers as Answers
 use Rattle.exponents.specs.declared.Exponent.{Exponent}
-use Rattle.exponents.specs.declared.Power.{Power}
-use Rattle.exponents.specs.declared.Power.TheVariants as value
 use Rattle.scanning.specs.Scanned.{place_in}
 use Rattle.reading.specs.Points.{Reads, from, standing, beginsAt, columnAt, given, if-sign, if-no-sign, Point}
 use Rattle.reading.specs.Powers.{Typed, minusThere, denominatorThere}
@@ -33,17 +30,17 @@ use Rattle.terms.specs.Stands as stand
 abbrev pub powered : PowerAt → Step Exp
 powered e = placed e.column (powerOf e)
 
-abbrev pub powerStand : Stand → ℕ → Power → Stand
+abbrev pub powerStand : Stand → ℕ → Result Exponent Refusal → Stand
 powerStand (Err stop) at v = stand.Refused stop.why stop.at
-powerStand (Ok tally) at (value.Value e) = stand.Going tally.names tally.records
-powerStand (Ok tally) at (value.Refused why) = stand.Refused why at
+powerStand (Ok tally) at (Ok e) = stand.Going tally.names tally.records
+powerStand (Ok tally) at (Err why) = stand.Refused why at
 
 abbrev pub unit : Exponent
 unit = record { num = pos 1; den = 1 }
 
-abbrev pub expIn : Power → Exponent
-expIn (value.Value e) = e
-expIn (value.Refused why) = unit
+abbrev pub expIn : Result Exponent Refusal → Exponent
+expIn (Ok e) = e
+expIn (Err why) = unit
 
 -- the exponent x is told, and nothing is written
 pub record ExpTold (x : Exponent) (e : Exp) (rs : List Rec) : Type 0 where
@@ -77,9 +74,9 @@ value-good m n d e q = go (leb n top) refl (leb 1 d) refl (leb d top) refl
         let z : e ≡ lowest (signedBy m n) d = cc (value_there m n d a b c) in
         rw z (signed-good m n d a b c)
 
-pub told-good : (v : Power) (m : Bool) (n d : ℕ) → Answers.told v ≡ value_of m n d → goodExp (expOf (expIn v)) ≡ true
-told-good (value.Value e) m n d q = value-good m n d (expOf e) q
-told-good (value.Refused why) m n d q = unit-good
+pub told-good : (v : Result Exponent Refusal) (m : Bool) (n d : ℕ) → toldBy expOf v ≡ value_of m n d → goodExp (expOf (expIn v)) ≡ true
+told-good (Ok e) m n d q = value-good m n d (expOf e) q
+told-good (Err why) m n d q = unit-good
 
 -- ══ A power's column ══
 
@@ -166,10 +163,10 @@ inside-power =
     inside-then (sign ")") _ (inside-spelled _) (λ u. inside-give (powerWith c m n d)))))))))
     (inside-give noPower)
 
-power-effect : (w : PowerAt) (v : Power) (at : ℕ) (pool table dst : List ℕ) (s : Stand) → powerOf w ≡ Answers.told v → w.column ≡ suc at
+power-effect : (w : PowerAt) (v : Result Exponent Refusal) (at : ℕ) (pool table dst : List ℕ) (s : Stand) → powerOf w ≡ toldBy expOf v → w.column ≡ suc at
     → Effect (powered w) (ExpTold (expIn v)) (lent pool table dst s) (lent pool table dst (powerStand s at v))
 unfolding words
-power-effect w (value.Value e) at pool table dst (Ok tally) h g =
+power-effect w (Ok e) at pool table dst (Ok tally) h g =
     did refl refl (record {
       value = expOf e;
       records = [];
@@ -178,23 +175,23 @@ power-effect w (value.Value e) at pool table dst (Ok tally) h g =
       written = refl;
       grown = omega arith;
     })
-power-effect w (value.Refused why) at pool table dst (Ok tally) h g =
+power-effect w (Err why) at pool table dst (Ok tally) h g =
     stops refl refl (ap (λ (m : Got Exp). placed w.column m (sofar (lent pool table dst (stand.Going tally.names tally.records)) tally.names tally.records)) h
     ∙ ap (λ (c : ℕ). refusedAt (number_of why) c) g)
 power-effect w v at pool table dst (Err stop) h g = unmoved refl
 
-power-refused : (s : Stand) (at : ℕ) (v : Power) (r : Refusal) (c : ℕ) → s ≡ stand.Refused r c → powerStand s at v ≡ stand.Refused r c
+power-refused : (s : Stand) (at : ℕ) (v : Result Exponent Refusal) (r : Refusal) (c : ℕ) → s ≡ stand.Refused r c → powerStand s at v ≡ stand.Refused r c
 power-refused s at v r c e = rw e
 
-power-going : (s : Stand) (at : ℕ) (v : Power) (k n : ℕ) → powerStand s at v ≡ stand.Going k n → s ≡ stand.Going k n
-power-going (Ok tally) at (value.Value e) k n q = q
-power-going (Ok tally) at (value.Refused why) k n q = let z : ◌≡◌ {A = ℕ} 0 1 = cc in absurd (omega arith)
+power-going : (s : Stand) (at : ℕ) (v : Result Exponent Refusal) (k n : ℕ) → powerStand s at v ≡ stand.Going k n → s ≡ stand.Going k n
+power-going (Ok tally) at (Ok e) k n q = q
+power-going (Ok tally) at (Err why) k n q = let z : ◌≡◌ {A = ℕ} 0 1 = cc in absurd (omega arith)
 power-going (Err stop) at v k n q = q
 
 module _ {line : Bytes} {p : Point} {pool table : List ℕ} (dst : List ℕ) {s : Stand} (ready : Ready line p pool table s) where
-  pub power-done : {q sign : Point} {m : Bool} {n d at : ℕ} {s' : Stand} {o : Exponent} (c : Point) (v : Power) → true ≡ beginsAt line p 94
+  pub power-done : {q sign : Point} {m : Bool} {n d at : ℕ} {s' : Stand} {o : Exponent} (c : Point) (v : Result Exponent Refusal) → true ≡ beginsAt line p 94
       → Reads line p column (λ (k : ℕ). k ≡ columnAt c) c → Reads line p power (Typed sign m n d) q
-      → Answers.told v ≡ value_of m n d → at ≡ place_of c → s' ≡ powerStand s at v → o ≡ expIn v
+      → toldBy expOf v ≡ value_of m n d → at ≡ place_of c → s' ≡ powerStand s at v → o ≡ expIn v
       → Done line powerThere powered (ExpTold o) p (lent pool table dst s) q (lent pool table dst s')
   power-done {q} {sign} {m} {n} {d} {at} {s'} {o} c v e x y f g h i =
       let there : Reads line p powerThere (λ w. NotBad q → Effect (powered w) (ExpTold o) (lent pool table dst s)

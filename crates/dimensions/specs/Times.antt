@@ -21,15 +21,12 @@ use Rattle.laws.specs.Ranges.{is-stored}
 use Rattle.laws.specs.GoodProducts.{GoodProduct, product-good, multiply_good}
 use Rattle.exponents.specs.Answers.{expOf}
 use Rattle.exponents.specs.declared.Exponent.{Exponent}
-use Rattle.names.specs.declared.old.Checked.{Checked}
-use Rattle.names.specs.declared.old.Checked.TheVariants as checked
-use Rattle.products.specs.Told.{Tree, given, told, answer, refusalOf, productOf, put_of, heldIn, valueIn, Answer}
+use Rattle.products.specs.Told.{Tree, given, answer, productOf, put_of, heldIn, valueIn}
 use Rattle.products.specs.Kinds.{Kind, variable, parameter, dimension, quantified, atomBy}
 use Rattle.products.specs.Places.{put-given}
 use Rattle.products.specs.Held.{Well, well-good, law, made}
 use Rattle.products.specs.declared.Factor.{Factor}
 use Rattle.products.specs.declared.Product.{Product}
-use Rattle.products.specs.declared.Tried.{Tried}
 use Rattle.terms.specs.Effects.{lent, sofar, Effect, did, stops, unmoved}
 use Rattle.terms.specs.Stands.{Stand}
 use Rattle.terms.specs.Stands as stand
@@ -100,36 +97,30 @@ module _ (pool table : List ℕ) (p : Product) (is : given p ≡ productValue []
   pub scalar-none : productOf p ≡ []
   scalar-none = sym (made pool table p [] is scalar-good).is
 
--- ══ What was tried ══
+-- ══ What was made ══
 
-module _ (t : Tried) where
-  tried-got : (m : Got Tree) → told t ≡ answer m → t.checked ≡ checked.Good → (s : Tree) × ((m ≡ got s) × (given t.product ≡ productValue s))
-  unfolding told answer
-  tried-got (got s) e f = (s, (refl, ap (λ (a : Answer). a.product) e))
-  tried-got (refused n) e f = let g : ◌≡◌ {A = Option ℕ} none (some n) = sym (ap (λ (c : Checked). refusalOf c) f)
-      ∙ ap (λ (a : Answer). a.refusal) e in let z : ◌≡◌ {A = ℕ} 0 1 = cc in absurd (omega arith)
+made-got : (P : Product) (m : Got Tree) → got (given P) ≡ answer m → (s : Tree) × ((m ≡ got s) × (given P ≡ productValue s))
+unfolding answer
+made-got P (got s) e = (s, (refl, cc))
+made-got P (refused n) e = let z : ◌≡◌ {A = ℕ} 0 1 = cc in absurd (omega arith)
 
-  tried-refused : (m : Got Tree) (why : Refusal) → told t ≡ answer m → t.checked ≡ checked.Refused why → m ≡ refused (number_of why)
-  unfolding told answer
-  tried-refused (got s) why e f = let g : ◌≡◌ {A = Option ℕ} (some (number_of why)) none = sym (ap (λ (c : Checked). refusalOf c) f)
-      ∙ ap (λ (a : Answer). a.refusal) e in let z : ◌≡◌ {A = ℕ} 0 1 = cc in absurd (omega arith)
-  tried-refused (refused n) why e f = let g : ◌≡◌ {A = Option ℕ} (some (number_of why)) (some n) = sym (ap (λ (c : Checked). refusalOf c) f)
-      ∙ ap (λ (a : Answer). a.refusal) e in let z : number_of why ≡ n = cc in ap refused (sym z)
+made-refused : (n : ℕ) (m : Got Tree) → refused n ≡ answer m → m ≡ refused n
+unfolding answer
+made-refused n (got s) e = let z : ◌≡◌ {A = ℕ} 0 1 = cc in absurd (omega arith)
+made-refused n (refused k) e = let z : k ≡ n = cc in ap refused z
 
 module _ {pool table : List ℕ} {q : Product} (kind name : ℕ) (e : Exp) (at : ℕ) (w : Well pool table q) where
   pub times-stays : {s : Stand} {r : Refusal} {c : ℕ} → s ≡ stand.Refused r c → Timed pool table q kind name e at s s q
   times-stays {s} h = record { well = w; refused = λ r c p. p; going = λ k n p. p; effect = λ dst. unmoved h }
 
-  module _ (f : Product) (t : Tried) {k n : ℕ} {s : Stand} (going : s ≡ stand.Going k n) (held : AtomHeld table kind name) (good : goodExp e ≡ true)
-      (is : given f ≡ productValue (put (atomBy kind name) e []))
-      (tried : told t ≡ answer (multiply (numbersOf (table_of pool table)) bounded (productOf q) (productOf f))) where
-    same-product : multiply (numbersOf (table_of pool table)) bounded (productOf q) (productOf f) ≡ multiply (numbersOf (table_of pool table)) bounded
-        (productOf q) (put (atomBy kind name) e [])
+  module _ (f : Product) {k n : ℕ} {s : Stand} (going : s ≡ stand.Going k n) (held : AtomHeld table kind name) (good : goodExp e ≡ true) (is : given f ≡ productValue (put (atomBy kind name) e [])) where
+    same-product : multiply (numbersOf (table_of pool table)) bounded (productOf q) (productOf f) ≡ multiply (numbersOf (table_of pool table)) bounded (productOf q) (put (atomBy kind name) e [])
     same-product = ap (multiply (numbersOf (table_of pool table)) bounded (productOf q)) (sym (single-well pool table held e good f is).1)
 
-    pub times-refused : {why : Refusal} → t.checked ≡ checked.Refused why → Timed pool table q kind name e at s (stand.Refused why at) q
-    times-refused {why} c =
-        let m = sym same-product ∙ tried-refused t _ why tried c in
+    pub times-refused : (why : Refusal) → refused (number_of why) ≡ answer (multiply (numbersOf (table_of pool table)) bounded (productOf q) (productOf f))
+        → Timed pool table q kind name e at s (stand.Refused why at) q
+    times-refused why made =
+        let m = sym same-product ∙ made-refused (number_of why) _ made in
         record {
           well = w;
           refused = λ r d p. let z : ◌≡◌ {A = ℕ} 0 1 = cc in absurd (omega arith);
@@ -137,15 +128,15 @@ module _ {pool table : List ℕ} {q : Product} (kind name : ℕ) (e : Exp) (at :
           effect = λ dst. stops going refl (ap (λ (g : Got Tree). placed (suc at) g (sofar (lent pool table dst s) k n)) m);
         }
 
-    pub times-done : t.checked ≡ checked.Good → Timed pool table q kind name e at s s t.product
+    pub times-done : (P : Product) → got (given P) ≡ answer (multiply (numbersOf (table_of pool table)) bounded (productOf q) (productOf f)) → Timed pool table q kind name e at s s P
     unfolding words
-    times-done c =
-        let g = tried-got t _ tried c in
+    times-done P it =
+        let g = made-got P _ it in
         let m = sym same-product ∙ g.1.0 in
         let fine = (multiply_good (numbersOf (table_of pool table)) (law pool table) (is_held (table_of pool table)) 4_294_967_296 (productOf q)
         (put (atomBy kind name) e [])
         (well-good pool table q w) (single-good pool table held e good)).holds g.0 m in
-        let taken = made pool table t.product g.0 g.1.1 fine in
+        let taken = made pool table P g.0 g.1.1 fine in
         record {
           well = taken.well;
           refused = λ r d p. p;

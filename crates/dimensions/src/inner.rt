@@ -19,12 +19,13 @@ ghost use Rattle.dimensions.specs.Atoms.{KindFor, AtomTold};
 ghost use Rattle.dimensions.specs.Powers.{powerStand, expIn, powered, ExpTold};
 ghost use Rattle.dimensions.specs.Times.{HeldIf, Timed};
 
-use exponents::{Exponent, Power};
-use names::old::Checked;
+use exponents::Exponent;
+use names::tables::NameTable;
 use products::inner::{multiplied, put};
 use products::{Factor, Product};
 use reading::inner::{Point, byte_at, mark, next_is, next_sign, read_power, refuse};
 use reading::power_value;
+use rules::Refusal;
 use terms::inner::naming::read_named;
 use terms::inner::{At, Stand, place_of};
 
@@ -92,22 +93,22 @@ fn enter_atom(line: &[u8], p: Point, s: Stand, pool: &mut [u8], table: &mut [u32
 }
 
 /// 7 at the power's sign, unless the sheet is refused already.
-fn power_stand(s: Stand, at: usize, v: &Power) -> Stand
+fn power_stand(s: Stand, at: usize, v: &Result<Exponent, Refusal>) -> Stand
     ensures { result ≡ powerStand s at v.now }
 {
     let tally = s?;
     match v {
-        Power::Value(_) => Ok(tally),
-        Power::Refused(why) => Err(At { why: *why, at }),
+        Ok(_) => Ok(tally),
+        Err(why) => Err(At { why: *why, at }),
     }
 }
 
-fn exp_in(v: Power) -> Exponent
+fn exp_in(v: Result<Exponent, Refusal>) -> Exponent
     ensures { result ≡ expIn v }
 {
     match v {
-        Power::Value(e) => e,
-        Power::Refused(_) => Exponent::ONE,
+        Ok(e) => e,
+        Err(_) => Exponent::ONE,
     }
 }
 
@@ -169,15 +170,10 @@ fn times(
             product: q,
         },
         Ok(_) => {
-            let t = multiplied(q, single(kind, name, exp), pool, table);
-            match t.checked {
-                Checked::Good => {
-                    Multiplied {
-                        stand: s,
-                        product: t.product,
-                    }
-                }
-                Checked::Refused(why) => Multiplied {
+            let names = NameTable { pool, table };
+            match multiplied(q, single(kind, name, exp), names) {
+                Ok(product) => Multiplied { stand: s, product },
+                Err(why) => Multiplied {
                     stand: Err(At { why, at }),
                     product: q,
                 },

@@ -1,43 +1,45 @@
 -- What the code tests and computes, against the rules on exponents.
-use mathlib.Core.Path.{◌≡◌, refl, sym, ◌∙◌, ap₂}
+use mathlib.Core.Path.{◌≡◌, refl, sym, ◌∙◌, ap}
 use mathlib.Core.Bool.{Bool, true, false, ◌&&◌}
+use mathlib.Core.Logic.{◌⊎◌, inl, inr}
 use mathlib.Core.Option.{none, some}
-use Prim.Native.Nat.{ℕ, zero, suc, ◌*◌, ◌/◌, ◌^◌, ◌≤◌, ◌<◌}
-use native.Mathlib.Nat.{mul-le-mul}
+use Prim.Native.Nat.{ℕ, zero, suc, min, ◌*◌, ◌/◌, ◌%◌, ◌^◌, ◌≤◌, ◌<◌}
+use native.Mathlib.Nat.{mul-le-mul, mul-pos}
+use Rattle.std.proofs.Math.Nat.{min-eq_left, min-eq_right}
+use Rattle.std.proofs.Math.Decide.{dec_le}
 use native.Mathlib.Omega.{arith}
 use borrow.Author.Tests.{le-leb, lt-leb, eqb-true, eqb-false}
-use lib.Dec.{leb, eqb}
-use lib.IntN.{ℤ, pos, negsuc, nat_abs, ◌+ℤ◌, ◌*ℤ◌}
+use lib.Dec.{leb, ltb}
+use lib.IntN.{ℤ, pos, negsuc, nat_abs, neg_ℤ, ◌+ℤ◌, ◌-ℤ◌, ◌*ℤ◌, +ℤ_idl}
 use mir.Syntax.{w32, w64}
 use mir.Val.{Fits, SFits, to_z, of_z}
-use mir.Facts.{to_z-of_z, to_z_pos}
-use Rattle.rules.specs.Base.{got, refused, bounded, is_yes}
-use Rattle.rules.specs.Exponents.{frac, Exp-dec, one, gcd, lowest, top, in_range, goodExp, isZero, ranged, inverted}
-use Rattle.laws.specs.Lists.{is-yes, is-no}
+use Rattle.std.proofs.lemmas.Int.{fits_signed_from_abs, to_z-of_z, of_z-to_z}
+use Rattle.std.proofs.lemmas.Bool.Decides.{nat_tests}
+use Rattle.rules.specs.Base.{got, refused, bounded}
+use Rattle.rules.specs.Exponents.{Exp, frac, goodExp, gcd, lowest, top, in_range, isZero, ranged, inverted}
+use Rattle.rules.specs.Writing.{twos, signed, by_sign}
 use Rattle.laws.specs.Integers.{natAbs-neg, nat_abs_mul, natAbs-plus}
+use Rattle.laws.specs.Gcd.{gcd-pos, gcd-comm, gcd-end}
+use Rattle.std.specs.Int.Count.{count_trailing_zeros}
+use Rattle.laws.specs.Twos.{Shifted, WithoutTwos, gcd-shifted, gcd-shifted-right, trailing, gcd-odd-step, gcd-self, min-odd, without-le, gcd-one, gcd-fits}
 use Rattle.laws.specs.Fractions.{lowest-terms}
-use Rattle.laws.specs.Ranges.{Good}
+use Rattle.laws.specs.Ranges.{Good, good, negation-is, inverted-good}
 use Rattle.exponents.specs.Answers.{with_sign}
-use Rattle.exponents.proofs.Held.{Holds, abs-fits}
 
--- ══ The test of a numerator and a denominator ══
+-- ══ Words ══
 
-module _ (n : ℤ) (d : ℕ) where
-  pub bad-num : top < nat_abs n → goodExp (frac n d) ≡ false
-  unfolding goodExp in_range
-  bad-num h = rw (lt-leb _ _ h)
+pub signed-is : (b : ℕ) → to_z w32 b ≡ signed b
+unfolding signed by_sign
+signed-is b = go (ltb b 2147483648) refl
+  where
+    go : (t : Bool) → ltb b 2147483648 ≡ t → to_z w32 b ≡ by_sign (ltb b 2147483648) b
+    go true e = rw e
+    go false e = rw e (ap negsuc (omega arith))
 
-  pub bad-none : nat_abs n ≤ top → d < 1 → goodExp (frac n d) ≡ false
-  unfolding goodExp in_range
-  bad-none h k = rw (le-leb _ _ h, lt-leb _ _ k)
-
-  pub bad-den : nat_abs n ≤ top → 0 < d → top < d → goodExp (frac n d) ≡ false
-  unfolding goodExp in_range
-  bad-den h k l = rw (le-leb _ _ h, le-leb _ _ k, lt-leb _ _ l)
-
-  pub by-gcd : nat_abs n ≤ top → 0 < d → d ≤ top → goodExp (frac n d) ≡ eqb (gcd (nat_abs n) d) 1
-  unfolding goodExp in_range
-  by-gcd h k l = rw (le-leb _ _ h, le-leb _ _ k, le-leb _ _ l)
+pub twos-is : (z : ℤ) → of_z w32 z ≡ twos z
+unfolding twos
+twos-is (pos n) = refl
+twos-is (negsuc n) = omega arith
 
 -- ══ Reducing ══
 
@@ -46,7 +48,7 @@ sign-abs (pos n) p = refl
 sign-abs (negsuc n) p = natAbs-neg (pos p)
 
 pub sign_fits : (n : ℤ) (p : ℕ) → p < 2147483648 → SFits w32 (with_sign n p)
-sign_fits n p h = abs-fits w32 (with_sign n p) (rw (sign-abs n p) h)
+sign_fits n p h = fits_signed_from_abs w32 (with_sign n p) (rw (sign-abs n p) h)
 
 lowest-is : (n : ℤ) (d : ℕ) → lowest n d ≡ frac (with_sign n (nat_abs n / gcd (nat_abs n) d)) (d / gcd (nat_abs n) d)
 unfolding lowest
@@ -61,67 +63,73 @@ module _ (n : ℤ) (d : ℕ) (h : 0 < d) where
   some_left : 0 < d / gcd (nat_abs n) d
   some_left = (lowest-terms (with_sign n (nat_abs n / gcd (nat_abs n) d)) (d / gcd (nat_abs n) d) (record { num = n; den = d; positive = h; is = sym (lowest-is n d) })).positive
 
-  pub num-over : top < nat_abs n / gcd (nat_abs n) d → ranged bounded (lowest n d) ≡ refused 7
-  num-over p = rw (lowest-is n d, range-is, lt-leb _ _ p)
+  -- m is the size of n, and g the common divisor
+  module _ (m g : ℕ) (k : m ≡ nat_abs n) (l : g ≡ gcd m d) where
+    g-is : g ≡ gcd (nat_abs n) d
+    g-is = l ∙ ap (λ (x : ℕ). gcd x d) k
 
-  pub den-over : nat_abs n / gcd (nat_abs n) d ≤ top → top < d / gcd (nat_abs n) d → ranged bounded (lowest n d) ≡ refused 7
-  den-over p q = rw (lowest-is n d, range-is, le-leb _ _ p, le-leb _ _ some_left, lt-leb _ _ q)
+    pub divisor-positive : 0 < g
+    divisor-positive = rw g-is (gcd-pos _ _ h)
 
-  pub in-range : nat_abs n / gcd (nat_abs n) d ≤ top → d / gcd (nat_abs n) d ≤ top
-      → ranged bounded (lowest n d) ≡ got (frac (with_sign n (nat_abs n / gcd (nat_abs n) d)) (d / gcd (nat_abs n) d))
-  in-range p q = rw (lowest-is n d, range-is, le-leb _ _ p, le-leb _ _ some_left, le-leb _ _ q)
+    pub over : (top < m / g) ⊎ ((m / g ≤ top) × (top < d / g)) → ranged bounded (lowest n d) ≡ refused 7
+    over (inl p) = rw (lowest-is n d, range-is, lt-leb _ _ (rw (k, g-is) at p))
+    over (inr p) =
+        rw (lowest-is n d, range-is, le-leb _ _ (rw (k, g-is) at p.0), le-leb _ _ some_left, lt-leb _ _ (rw g-is at p.1))
+
+    pub within : m / g ≤ top → d / g ≤ top → ranged bounded (lowest n d) ≡ got (frac (with_sign n (m / g)) (d / g))
+    within p q =
+        rw (k, g-is, lowest-is n d, range-is, le-leb _ _ (rw (k, g-is) at p), le-leb _ _ some_left, le-leb _ _ (rw g-is at q))
+
+-- ══ The common factors 2 ══
+
+gcd-shifted-least : {a b i j : ℕ} → Shifted a i → Shifted b j → gcd (a / 2 ^ i) (b / 2 ^ j) * 2 ^ min i j ≡ gcd a b
+gcd-shifted-least {a} {b} {i} {j} s t = go (dec_le i j)
+  where
+    go : Dec (i ≤ j) → gcd (a / 2 ^ i) (b / 2 ^ j) * 2 ^ min i j ≡ gcd a b
+    go (yes h) = rw (min-eq_left h) (gcd-shifted s t h)
+    go (no h) = let k : j ≤ i = omega arith in rw (min-eq_right k) (gcd-shifted-right s t k)
+
+-- what the code shifts away
+module _ (a : ℕ) (h : 0 < a) (l : a < 2 ^ 64) where
+  pub without : WithoutTwos a (a / 2 ^ count_trailing_zeros 64 a)
+  without = let s = trailing 64 a h l in record { twos = count_trailing_zeros 64 a; is = s.is; odd = s.odd }
+
+  pub odd-left : a / 2 ^ count_trailing_zeros 64 a % 2 ≡ 1
+  odd-left = (trailing 64 a h l).odd
+
+pub shifted-back : (a b : ℕ) → 0 < a → a < 2 ^ 64 → 0 < b → b < 2 ^ 64
+    → gcd (a / 2 ^ count_trailing_zeros 64 a) (b / 2 ^ count_trailing_zeros 64 b) * 2 ^ min (count_trailing_zeros 64 a) (count_trailing_zeros 64 b) % 2 ^ 64 ≡ gcd a b
+shifted-back a b h l k m =
+    ap (λ (x : ℕ). x % 2 ^ 64) (gcd-shifted-least (trailing 64 a h l) (trailing 64 b k m)) ∙ gcd-fits 64 a b h l
 
 -- ══ Products and sums at 64 bits ══
 
 small : {m n : ℕ} → m ≤ top → n ≤ top → m * n < 2 ^ 62
 small {m} {n} h k = omega (arith, mul-le-mul h k)
 
-product_small : (n m : ℤ) → nat_abs n ≤ top → nat_abs m ≤ top → nat_abs (n *ℤ m) < 2 ^ 62
+pub product_small : (n m : ℤ) → nat_abs n ≤ top → nat_abs m ≤ top → nat_abs (n *ℤ m) < 2 ^ 62
 product_small n m h k = rw (nat_abs_mul n m) (small h k)
 
-product-fits : (n m : ℤ) → nat_abs n ≤ top → nat_abs m ≤ top → SFits w64 (n *ℤ m)
-product-fits n m h k = abs-fits w64 (n *ℤ m) (omega (arith, product_small n m h k))
+pub product-fits : (n m : ℤ) → nat_abs n ≤ top → nat_abs m ≤ top → SFits w64 (n *ℤ m)
+product-fits n m h k = fits_signed_from_abs w64 (n *ℤ m) (omega (arith, product_small n m h k))
 
-pub dens-fit : {n m : ℤ} {d e : ℕ} → Good n d → Good m e → Fits w64 (d * e)
-dens-fit {n} {m} {d} {e} g k = record { fits = omega (arith, small g.den k.den) }
+pub dens-fit : {d e : ℕ} → d ≤ top → e ≤ top → Fits w64 (d * e)
+dens-fit g k = record { fits = omega (arith, small g k) }
 
--- a numerator times a denominator
-module _ {n m r : ℤ} {d e : ℕ} (g : Good n d) (k : Good m e) (p : Holds r n) where
-  by-den : to_z w64 (of_z w64 r) *ℤ to_z w64 e ≡ n *ℤ pos e
-  by-den = ap₂ ◌*ℤ◌ p.is (to_z_pos w64 {n = e} (omega (arith, k.den)))
+pub sum-fits : {n m : ℤ} {d e : ℕ} → Good n d → Good m e → SFits w64 (n *ℤ pos e +ℤ m *ℤ pos d)
+sum-fits {n} {m} {d} {e} g k =
+    fits_signed_from_abs w64 (n *ℤ pos e +ℤ m *ℤ pos d) (omega (
+      arith,
+      natAbs-plus (n *ℤ pos e) (m *ℤ pos d),
+      product_small n (pos e) g.num k.den,
+      product_small m (pos d) k.num g.den,
+    ))
 
-  pub part-fits : SFits w64 (to_z w64 (of_z w64 r) *ℤ to_z w64 e)
-  part-fits = rw by-den (product-fits n (pos e) g.num k.den)
+-- ══ The negative and the inverse ══
 
-  part-is : to_z w64 (of_z w64 (to_z w64 (of_z w64 r) *ℤ to_z w64 e)) ≡ n *ℤ pos e
-  part-is = to_z-of_z part-fits ∙ by-den
-
-module _ {n m r s : ℤ} {d e : ℕ} (g : Good n d) (k : Good m e) (p : Holds r n) (q : Holds s m) where
-  pub times-fits : SFits w64 (to_z w64 (of_z w64 r) *ℤ to_z w64 (of_z w64 s))
-  times-fits = rw (p.is, q.is) (product-fits n m g.num k.num)
-
-  pub times-is : to_z w64 (of_z w64 (to_z w64 (of_z w64 r) *ℤ to_z w64 (of_z w64 s))) ≡ n *ℤ m
-  times-is = to_z-of_z times-fits ∙ ap₂ ◌*ℤ◌ p.is q.is
-
-  sum-small : nat_abs (n *ℤ pos e +ℤ m *ℤ pos d) < 2 ^ 63
-  sum-small =
-      omega (
-        arith,
-        natAbs-plus (n *ℤ pos e) (m *ℤ pos d),
-        product_small n (pos e) g.num k.den,
-        product_small m (pos d) k.num g.den,
-      )
-
-  held : to_z w64 (of_z w64 (to_z w64 (of_z w64 r) *ℤ to_z w64 e)) +ℤ to_z w64 (of_z w64 (to_z w64 (of_z w64 s) *ℤ to_z w64 d)) ≡ n *ℤ pos e +ℤ m *ℤ pos d
-  held = ap₂ ◌+ℤ◌ (part-is g k p) (part-is k g q)
-
-  pub sum_fits : SFits w64 (to_z w64 (of_z w64 (to_z w64 (of_z w64 r) *ℤ to_z w64 e)) +ℤ to_z w64 (of_z w64 (to_z w64 (of_z w64 s) *ℤ to_z w64 d)))
-  sum_fits = rw held (abs-fits w64 (n *ℤ pos e +ℤ m *ℤ pos d) sum-small)
-
-  pub sum_is : to_z w64 (of_z w64 (to_z w64 (of_z w64 (to_z w64 (of_z w64 r) *ℤ to_z w64 e)) +ℤ to_z w64 (of_z w64 (to_z w64 (of_z w64 s) *ℤ to_z w64 d)))) ≡ n *ℤ pos e +ℤ m *ℤ pos d
-  sum_is = to_z-of_z sum_fits ∙ held
-
--- ══ The inverse ══
+pub neg-held : (z : ℤ) → nat_abs z ≤ top → (pos 0 -ℤ to_z w32 (of_z w32 z) ≡ neg_ℤ z) × SFits w32 (neg_ℤ z)
+neg-held z h =
+    (rw (to_z-of_z w32 z (fits_signed_from_abs w32 z (omega arith)), +ℤ_idl), fits_signed_from_abs w32 (neg_ℤ z) (rw natAbs-neg (omega arith)))
 
 pub inverted-is : (n : ℤ) (d : ℕ) → isZero (frac n d) ≡ false → inverted (frac n d) ≡ some (frac (with_sign n d) (nat_abs n))
 unfolding inverted
@@ -129,20 +137,26 @@ inverted-is (pos zero) d h = absurd (eqb-false 0 0 h refl)
 inverted-is (pos (suc n)) d h = refl
 inverted-is (negsuc n) d h = refl
 
-pub inverted-zero : (n : ℤ) (d : ℕ) → isZero (frac n d) ≡ true → inverted (frac n d) ≡ none
+pub inverted-zero : (e : Exp) → isZero e ≡ true → inverted e ≡ none
 unfolding inverted
-inverted-zero (pos zero) d h = refl
-inverted-zero (pos (suc n)) d h = absurd (omega (arith, eqb-true (suc n) 0 h))
-inverted-zero (negsuc n) d h = absurd (omega (arith, eqb-true (suc n) 0 h))
+inverted-zero (frac (pos zero) d) h = refl
+inverted-zero (frac (pos (suc n)) d) h = absurd (omega (arith, eqb-true (suc n) 0 h))
+inverted-zero (frac (negsuc n) d) h = absurd (omega (arith, eqb-true (suc n) 0 h))
 
--- ══ The exponent one ══
+-- a well formed exponent, for `grind`
+pub goods : (n : ℤ) (d : ℕ) → goodExp (frac n d) ≡ true → (nat_abs n ≤ top) × (0 < d) × (d ≤ top)
+goods n d h = let g = good n d h in (g.num, g.positive, g.den)
 
-pub den-decides : (n : ℤ) (d : ℕ) → n ≡ pos 1 → eqb d 1 ≡ is_yes (Exp-dec (frac n d) one)
-den-decides n d h = go (eqb d 1) refl
-  where
-    go : (t : Bool) → eqb d 1 ≡ t → t ≡ is_yes (Exp-dec (frac n d) one)
-    go true e = sym (is-yes (Exp-dec (frac n d) one) (ap₂ frac h (eqb-true d 1 e)))
-    go false e = sym (is-no (Exp-dec (frac n d) one) (λ x. eqb-false d 1 e (cc)))
+pub ruleset words = (signed-is, twos-is, to_z-of_z, of_z-to_z)
 
-pub other-num : (n : ℤ) (d : ℕ) → (n ≡ pos 1 → ⊥) → false ≡ is_yes (Exp-dec (frac n d) one)
-other-num n d f = sym (is-no (Exp-dec (frac n d) one) (λ x. f (cc)))
+pub ruleset tests = (nat_tests, to_z-of_z)
+
+pub ruleset reducing = (to_z-of_z, divisor-positive, over, within, sign_fits)
+
+pub ruleset negations = (to_z-of_z, neg-held, goods, negation-is)
+
+pub ruleset inverting = (to_z-of_z, goods, sign_fits, inverted-is, inverted-zero, inverted-good)
+
+pub ruleset products = (to_z-of_z, goods, mul-pos, product-fits, sum-fits)
+
+pub ruleset divisors = (without, odd-left, shifted-back, gcd-odd-step, gcd-self, min-odd, without-le, gcd-one, gcd-comm, gcd-end)

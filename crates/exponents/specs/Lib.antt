@@ -1,3 +1,4 @@
 pub mod Answers
 pub mod Determined
 pub mod Examples
+pub mod Theorems

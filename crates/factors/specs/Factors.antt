@@ -1,11 +1,10 @@
 -- Products as words: four for each factor, its kind, its name or index, its numerator in two's complement, its denominator.
 use Rattle.std.specs.Prelude.{List, [], ◌∷◌, ◌++◌, ℕ, zero, suc, ◌+◌, ◌*◌, ◌/◌, length, get_or}
-use Rattle.std.proofs.Math.Option.{none, some}
 use Rattle.std.proofs.lemmas.List.Edits.{sets}
+use Rattle.rules.specs.Base.{Got, got, refused}
 use Rattle.rules.specs.Exponents.{Exp, frac}
 use Rattle.rules.specs.Values.{FactorValue, ProductValue}
 use Rattle.rules.specs.Writing.{twos, signed}
-use Rattle.products.specs.Told.{Answer}
 use Rattle.saying.specs.Saying.{word, saidAs, refusedAs}
 use Rattle.saying.specs.declared.told.Told.{Told}
 
@@ -40,8 +39,10 @@ words_of [] = []
 words_of (f ∷ fs) = f.kind ∷ f.name ∷ numIn f.exp ∷ denIn f.exp ∷ words_of fs
 
 -- what is said: the count; what is written: all 64 places, as far as there is room. A refusal writes nothing
-abbrev pub toldOf : Answer → Told
-toldOf a = elim a.refusal [ none ↦ saidAs (word a.product.len) 0 0 | some n ↦ refusedAs n 0 0 ]
+abbrev pub toldOf : Got ProductValue → Told
+toldOf (got p) = saidAs (word p.len) 0 0
+toldOf (refused n) = refusedAs n 0 0
 
-abbrev pub written_of : Answer → List ℕ → List ℕ
-written_of a result = elim a.refusal [ none ↦ sets result 0 (words_of a.product.factors) | some n ↦ result ]
+abbrev pub written_of : Got ProductValue → List ℕ → List ℕ
+written_of (got p) result = sets result 0 (words_of p.factors)
+written_of (refused n) result = result

@@ -4,13 +4,13 @@
 pub mod inner;
 
 ghost use Rattle.std.specs.Prelude.{◌≡◌};
-ghost use Rattle.products.specs.Told.{given, told};
+ghost use Rattle.rules.specs.Refusals.{toldBy};
+ghost use Rattle.products.specs.Told.{given};
 ghost use Rattle.factors.specs.Factors.{productAt, toldOf, written_of};
 
 use inner::{factor_at, put_factors};
-use names::old::Checked;
-use products::{Product, Tried};
-use rules::FACTORS;
+use products::Product;
+use rules::{FACTORS, Refusal};
 use saying::told::{Told, refused, said, short};
 
 // The product whose factors these words are.
@@ -29,16 +29,14 @@ pub fn product_from(words: &[u32]) -> Product
 }
 
 // What a call on products says, with all places of its product written.
-pub fn put_product(t: Tried, res: &mut [u32]) -> Told
-    ensures { (result ≡ toldOf (told t)) × (res.new ≡ written_of (told t) res.old) }
+pub fn put_product(t: Result<Product, Refusal>, res: &mut [u32]) -> Told
+    ensures { (result ≡ toldOf (toldBy given t)) × (res.new ≡ written_of (toldBy given t) res.old) }
 {
-    let checked = t.checked;
-    let p = t.product;
-    match checked {
-        Checked::Good => {
+    match t {
+        Ok(p) => {
             put_factors(p, res);
             said(short(p.len), 0, 0)
         }
-        Checked::Refused(why) => refused(why, 0, 0),
+        Err(why) => refused(why, 0, 0),
     }
 }

@@ -5,3 +5,4 @@ pub mod Held
 pub mod Steps
 pub mod Entry
 pub mod Determined
+pub mod Theorems

@@ -12,13 +12,11 @@ use Rattle.rules.specs.Trees as Trees
 use Rattle.rules.specs.Trees.{Atom, ◌↑◌, Names, orderAtom}
 use Rattle.rules.specs.Values.{productValue, value_of}
 use Rattle.rules.specs.declared.Refusal.{Refusal}
-use Rattle.exponents.specs.Answers.{expOf, told as toldPower}
-use Rattle.exponents.specs.declared.Power.{Power}
-use Rattle.exponents.specs.declared.Power.TheVariants.{Value, Refused}
+use Rattle.exponents.specs.Answers.{expOf}
+use Rattle.exponents.specs.declared.Exponent.{Exponent}
 use Rattle.products.specs.declared.Factor.{Factor}
 use Rattle.products.specs.declared.Product.{Product}
-use Rattle.products.specs.declared.inner.Joined.TheVariants.{Keep, Gone, Over}
-use Rattle.products.specs.Told.{Tree, valueIn, given, atomAt, tree_of, withExp, keptOf, put_of}
+use Rattle.products.specs.Told.{Tree, valueIn, given, atomAt, tree_of, withExp, kept_of, put_of}
 use Rattle.products.specs.Kinds.{Kind, value-back}
 use Rattle.products.specs.Places.{put-given, given-len}
 
@@ -89,35 +87,14 @@ some-joined : (a : Atom ℕ) (m : Got Tree) (e : Exp) → isZero e ≡ false →
 some-joined a (got r) e z = rw (z, put)
 some-joined a (refused n) e z = refl
 
-module _ (x : Factor) (m : Got Tree) where
-  pub kept-over : (p : Power) (r : Refusal) → keptOf x p ≡ Over r → joined (atomAt x) (toldPower p) m ≡ refused (number_of r)
-  kept-over (Refused k) r h = let e : k ≡ r = cc in ap (λ (j : Refusal). refused (number_of j)) e
-  kept-over (Value e) r h = go (isZero (expOf e)) h
-    where
-      go : (b : Bool) → cond b Gone (Keep (withExp x e)) ≡ Over r → joined (atomAt x) (got (expOf e)) m ≡ refused (number_of r)
-      go true k = cc
-      go false k = cc
-
-  pub kept-gone : (p : Power) → keptOf x p ≡ Gone → joined (atomAt x) (toldPower p) m ≡ m
-  kept-gone (Refused k) h = cc
-  kept-gone (Value e) h = go (isZero (expOf e)) refl h
-    where
-      go : (b : Bool) → isZero (expOf e) ≡ b → cond b Gone (Keep (withExp x e)) ≡ Gone → joined (atomAt x) (got (expOf e)) m ≡ m
-      go true z k = zero-joined (atomAt x) m (expOf e) z
-      go false z k = cc
-
-  -- the factor that is kept has the same kind and name
-  pub record Kept (p : Power) (f : Factor) : Type 0 where
-    pub value : valueIn f ≡ value_of (tree_of f)
-    pub is : joined (atomAt x) (toldPower p) m ≡ prepend (tree_of f ∷ []) m
-
-  pub kept-keep : (p : Power) (f : Factor) → Kind x.kind → keptOf x p ≡ Keep f → Kept p f
-  kept-keep (Refused r) f k h = let z : ◌≡◌ {A = ℕ} 0 1 = cc in absurd (omega arith)
-  kept-keep (Value e) f k h = go (isZero (expOf e)) refl h
-    where
-      go : (b : Bool) → isZero (expOf e) ≡ b → cond b Gone (Keep (withExp x e)) ≡ Keep f → Kept (Value e) f
-      go true z j = let z : ◌≡◌ {A = ℕ} 0 1 = cc in absurd (omega arith)
-      go false z j = subst (Kept (Value e)) (cc) (record { value = value-back (withExp x e) k; is = some-joined (atomAt x) m (expOf e) z })
+-- one factor more with a new power, unless the power is 0
+pub doing-kept : {left whole : Got Tree} {n : ℕ} {out : Product} → Doing left whole n out → (x : Factor) (e : Exponent) (left' : Got Tree) (m : ℕ) → Kind x.kind → n < m
+    → left ≡ joined (atomAt x) (got (expOf e)) left' → Doing left' whole m (kept_of out x e)
+doing-kept {left} {whole} {n} {out} g x e left' m k h j = go (isZero (expOf e)) refl
+  where
+    go : (b : Bool) → isZero (expOf e) ≡ b → Doing left' whole m (cond b out (put_of out (withExp x e)))
+    go true z = doing-skip g left' m (omega arith) (j ∙ zero-joined (atomAt x) left' (expOf e) z)
+    go false z = doing-put g (withExp x e) (tree_of (withExp x e)) left' m (value-back (withExp x e) k) h (j ∙ some-joined (atomAt x) left' (expOf e) z)
 
 -- ══ One turn of a merge, of raising and of inverting ══
 

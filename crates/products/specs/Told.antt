@@ -1,26 +1,17 @@
--- The code's products and answers as the values of document 01.
+-- The code's products and answers as values of the rules.
 use Rattle.std.specs.Prelude.{Bool, true, false, cond, List, map, ℕ, ◌+◌, eqb, ltb, pos, take, get_or, set}
 use Rattle.std.proofs.Math.Option
 use Rattle.std.proofs.Math.Option.{Option, none, some}
 use Rattle.rules.specs.Base.{Got, got, refused, and'}
 use Rattle.rules.specs.Exponents.{isZero}
-use Rattle.rules.specs.Products.{scalar}
-use Rattle.rules.specs.Refusals.{number_of}
 use Rattle.rules.specs.Trees as Trees
 use Rattle.rules.specs.Trees.{Atom, base, ◌↑◌, Names}
 use Rattle.rules.specs.Values.{FactorValue, ProductValue, productValue, atomIn, factorIn}
 use Rattle.rules.specs.WellFormed.{goodFactor}
 use Rattle.exponents.specs.Answers.{expOf}
 use Rattle.exponents.specs.declared.Exponent.{Exponent}
-use Rattle.exponents.specs.declared.Power.{Power}
-use Rattle.exponents.specs.declared.Power.TheVariants.{Value, Refused}
-use Rattle.names.specs.declared.old.Checked.{Checked}
-use Rattle.names.specs.declared.old.Checked.TheVariants.{Good, Refused as Because}
 use Rattle.products.specs.declared.Factor.{Factor}
 use Rattle.products.specs.declared.Product.{Product}
-use Rattle.products.specs.declared.Tried.{Tried}
-use Rattle.products.specs.declared.inner.Joined.{Joined}
-use Rattle.products.specs.declared.inner.Joined.TheVariants.{Keep, Gone, Over}
 
 -- ══ Values that come in ══
 
@@ -32,21 +23,10 @@ given p = record { factors = map valueIn p.factors; len = p.len }
 
 -- ══ Answers ══
 
--- the refusal's number, if there is one, and the product: the scalar beside a refusal
-pub record Answer : Type 0 where
-  pub refusal : Option ℕ
-  pub product : ProductValue
-
-abbrev pub refusalOf : Checked → Option ℕ
-refusalOf Good = none
-refusalOf (Because r) = some (number_of r)
-
-unfoldable pub told : Tried → Answer
-told t = record { refusal = refusalOf t.checked; product = given t.product }
-
-unfoldable pub answer : Got (Trees.Product ℕ) → Answer
-answer (got p) = record { refusal = none; product = productValue p }
-answer (refused n) = record { refusal = some n; product = productValue scalar }
+-- a product as a value, or the refusal
+unfoldable pub answer : Got (Trees.Product ℕ) → Got ProductValue
+answer (got p) = got (productValue p)
+answer (refused n) = refused n
 
 -- ══ Inside ══
 
@@ -90,10 +70,10 @@ rank_of k = cond (eqb k 11) 0 (cond (eqb k 15) 1 (cond (eqb k 12) 2 3))
 abbrev pub withExp : Factor → Exponent → Factor
 withExp x e = record { kind = x.kind; name = x.name; exp = e }
 
-abbrev pub keptOf : Factor → Power → Joined
-keptOf x (Refused r) = Over r
-keptOf x (Value e) = cond (isZero (expOf e)) Gone (Keep (withExp x e))
-
 -- one factor more; past the 64th it is counted only
 unfoldable pub put_of : Product → Factor → Product
 put_of p f = record { factors = set p.factors p.len f; len = p.len + 1 }
+
+-- one factor more with a new power, unless the power is 0
+abbrev pub kept_of : Product → Factor → Exponent → Product
+kept_of p x e = cond (isZero (expOf e)) p (put_of p (withExp x e))

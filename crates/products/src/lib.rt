@@ -2,20 +2,22 @@
 #![tactic(auto)]
 
 pub mod inner;
+pub mod theorems;
 
-ghost use Rattle.std.specs.Prelude.{◌≡◌};
+ghost use Rattle.std.specs.Prelude.{◌≡◌, IfOk};
 ghost use Rattle.rules.specs.Products.{scalar};
 ghost use Rattle.rules.specs.Values.{productValue, multiplyCall, divideCall, inverseCall, raiseCall};
 ghost use Rattle.exponents.specs.Answers.{expOf};
-ghost use Rattle.names.specs.Old.{toldChecked};
-ghost use Rattle.products.specs.Told.{given, told, answer};
+ghost use Rattle.rules.specs.Refusals.{toldBy};
+ghost use Rattle.names.specs.Told.{unit_of};
+ghost use Rattle.products.specs.Told.{given, answer};
 ghost use Rattle.products.specs.Entry.{entry_of};
 
 use exponents::Exponent;
-use names::old::{Checked, check_table};
+use names::tables::NameTable;
 use rules::Refusal;
 
-// A variable (11), a parameter (12), a base dimension (13) or a quantified variable (15); its name's number or its index; its power.
+/// A variable (11), a parameter (12), a base dimension (13) or a quantified variable (15); its name's number or its index; its power.
 #[derive(Clone, Copy)]
 pub struct Factor {
     pub kind: u32,
@@ -23,21 +25,15 @@ pub struct Factor {
     pub exp: Exponent,
 }
 
+/// The factors at the front of 64 places, and how many they are; what stands behind them means nothing.
 #[derive(Clone, Copy)]
 pub struct Product {
     pub factors: [Factor; 64],
     pub len: usize,
 }
 
-// A product, or a refusal beside the scalar: an enum can hold no array.
-#[derive(Clone, Copy)]
-pub struct Tried {
-    pub checked: Checked,
-    pub product: Product,
-}
-
 impl Product {
-    // The product of no factors.
+    /// The product of no factors.
     pub fn scalar() -> Product
         ensures { given result ≡ productValue scalar }
     {
@@ -51,82 +47,62 @@ impl Product {
     }
 
     // What each operation asks first: pool and table, and then the product.
-    fn enter(self, pool: &[u8], table: &[u32]) -> Checked
-        ensures { toldChecked result ≡ entry_of pool.now table.now (given self) }
+    #[tactic(auto, using(crate::proofs::Calls::entering))]
+    fn enter<'a>(self, pool: &'a [u8], table: &'a [u32]) -> Result<NameTable<'a>, Refusal>
+        ensures answer { toldBy unit_of result ≡ entry_of pool.now table.now (given self) }
+        ensures same { IfOk result (λ t. (t.pool.now ≡ pool.now) × (t.table.now ≡ table.now)) }
     {
-        match check_table(pool, table) {
-            Checked::Refused(why) => Checked::Refused(why),
-            Checked::Good => {
-                if inner::fits(self, pool, table) {
-                    Checked::Good
-                } else {
-                    Checked::Refused(Refusal::Malformed)
-                }
-            }
+        let names = NameTable::new(pool, table)?;
+        if inner::fits(self, names) {
+            Ok(names)
+        } else {
+            Err(Refusal::Malformed)
         }
     }
 
-    // Merges the factors and adds exponents: 7 for a sum out of range, 8 for over 64 factors left.
-    pub fn multiply(self, other: Product, pool: &[u8], table: &[u32]) -> Tried
-        ensures { told result ≡ answer (multiplyCall pool.now table.now (given self) (given other)) }
+    /// Merges the factors and adds exponents: 10 and 1 for a pool, a table or a product that is not well formed, 7 for a sum out of range, 8 for over 64
+    /// factors left.
+    #[tactic(auto, using(crate::proofs::Calls::calls), unfolding(crate::specs::Told::answer))]
+    pub fn multiply(self, other: Product, pool: &[u8], table: &[u32]) -> Result<Product, Refusal>
+        ensures { toldBy given result ≡ answer (multiplyCall pool.now table.now (given self) (given other)) }
     {
-        match self.enter(pool, table) {
-            Checked::Refused(why) => inner::refused(why),
-            Checked::Good => {
-                if inner::fits(other, pool, table) {
-                    inner::multiplied(self, other, pool, table)
-                } else {
-                    inner::refused(Refusal::Malformed)
-                }
-            }
+        let names = self.enter(pool, table)?;
+        if !inner::fits(other, names) {
+            return Err(Refusal::Malformed);
         }
+        inner::multiplied(self, other, names)
     }
 
-    // Multiplies by the inverse.
-    pub fn divide(self, other: Product, pool: &[u8], table: &[u32]) -> Tried
-        ensures { told result ≡ answer (divideCall pool.now table.now (given self) (given other)) }
+    /// Multiplies by the inverse, and refuses as `multiply` does.
+    #[tactic(auto, using(crate::proofs::Calls::calls), unfolding(crate::specs::Told::answer))]
+    pub fn divide(self, other: Product, pool: &[u8], table: &[u32]) -> Result<Product, Refusal>
+        ensures { toldBy given result ≡ answer (divideCall pool.now table.now (given self) (given other)) }
     {
-        match self.enter(pool, table) {
-            Checked::Refused(why) => inner::refused(why),
-            Checked::Good => {
-                if inner::fits(other, pool, table) {
-                    inner::divided(self, other, pool, table)
-                } else {
-                    inner::refused(Refusal::Malformed)
-                }
-            }
+        let names = self.enter(pool, table)?;
+        if !inner::fits(other, names) {
+            return Err(Refusal::Malformed);
         }
+        inner::divided(self, other, names)
     }
 
-    // Turns each exponent's sign.
-    pub fn invert(self, pool: &[u8], table: &[u32]) -> Tried
-        ensures { told result ≡ answer (inverseCall pool.now table.now (given self)) }
+    /// Turns each exponent's sign: 10 and 1 for what is not well formed.
+    #[tactic(auto, using(crate::proofs::Calls::calls), unfolding(crate::specs::Told::answer))]
+    pub fn invert(self, pool: &[u8], table: &[u32]) -> Result<Product, Refusal>
+        ensures { toldBy given result ≡ answer (inverseCall pool.now table.now (given self)) }
     {
-        match self.enter(pool, table) {
-            Checked::Refused(why) => inner::refused(why),
-            Checked::Good => {
-                let product = inner::inverted(self);
-                Tried {
-                    checked: Checked::Good,
-                    product,
-                }
-            }
-        }
+        let _ = self.enter(pool, table)?;
+        Ok(inner::inverted(self))
     }
 
-    // Multiplies each exponent: 7 for a product out of range.
-    pub fn power(self, e: Exponent, pool: &[u8], table: &[u32]) -> Tried
-        ensures { told result ≡ answer (raiseCall pool.now table.now (given self) (expOf e)) }
+    /// Multiplies each exponent, and drops what is 0 then: 10 and 1 for what is not well formed, 7 for a product out of range.
+    #[tactic(auto, using(crate::proofs::Calls::calls), unfolding(crate::specs::Told::answer))]
+    pub fn power(self, e: Exponent, pool: &[u8], table: &[u32]) -> Result<Product, Refusal>
+        ensures { toldBy given result ≡ answer (raiseCall pool.now table.now (given self) (expOf e)) }
     {
-        match self.enter(pool, table) {
-            Checked::Refused(why) => inner::refused(why),
-            Checked::Good => {
-                if e.well_formed() {
-                    inner::raised(self, e)
-                } else {
-                    inner::refused(Refusal::Malformed)
-                }
-            }
+        let _ = self.enter(pool, table)?;
+        if !e.well_formed() {
+            return Err(Refusal::Malformed);
         }
+        inner::raised(self, e)
     }
 }

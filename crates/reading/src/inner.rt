@@ -211,7 +211,7 @@ pub fn lowest_of(num: u64, den: u64) -> Exponent
         Exponent::from_words(num as u32, 1),
         Exponent::from_words(den as u32, 1),
     ) {
-        exponents::Power::Value(e) => e,
-        exponents::Power::Refused(_) => Exponent::ZERO,
+        Ok(e) => e,
+        Err(_) => Exponent::ZERO,
     }
 }

@@ -9,11 +9,11 @@ use Rattle.rules.specs.Products.{just}
 use Rattle.rules.specs.Replacing.{asProduct}
 use Rattle.rules.specs.Trees as tree
 use Rattle.rules.specs.Trees.{Ty, opened, basic, dim, fn, struct, list}
+use Rattle.rules.specs.Values.{ProductValue}
 use Rattle.rules.specs.WellFormed.{goodTy}
 use Rattle.laws.specs.GoodProducts.{good-product}
-use Rattle.products.specs.Told.{Tree, told, answer}
+use Rattle.products.specs.Told.{Tree, answer}
 use Rattle.products.specs.Held.{law}
-use Rattle.products.specs.declared.Tried.{Tried}
 use Rattle.records.specs.Views.{viewAt}
 use Rattle.records.specs.Holds.{openOf, viewOpen, HoldsFactors, HoldsProduct, Holds}
 use Rattle.records.specs.ByView.{by-view, in_reach, factors-in}
@@ -56,21 +56,21 @@ module _ (pool table s : List ℕ) (at : ℕ) where
         inside = let k = in_reach s t at h.held in omega (arith, factors-in s p (at + 1) (omega arith) f);
       }
 
-  module _ (r : Tried) {v : View} (e : v ≡ viewAt s at) where
+  module _ (r : Got ProductValue) {v : View} (e : v ≡ viewAt s at) where
     abbrev Says : Ty ℕ → Type 0
-    Says t = told r ≡ answer (asProduct t)
+    Says t = r ≡ answer (asProduct t)
 
     abbrev pub Given : Type 0
     Given = (t : Ty ℕ) → HeldType pool table s t at → Says t
 
-    pub as-open : {o : names.Open} (d : Got Tree) → v ≡ view.Opened o → told r ≡ answer d → asProduct (opened (openOf o)) ≡ d → Given
+    pub as-open : {o : names.Open} (d : Got Tree) → v ≡ view.Opened o → r ≡ answer d → asProduct (opened (openOf o)) ≡ d → Given
     as-open d q k i t h = by-view s Says t at h.held (sym e ∙ q) (k ∙ ap answer (sym i))
 
-    pub as-dim : {n : ℕ} → v ≡ view.Dim n → ((p : Tree) → HoldsFactors s p (at + 1) → length p ≡ n → told r ≡ answer (got p)) → Given
+    pub as-dim : {n : ℕ} → v ≡ view.Dim n → ((p : Tree) → HoldsFactors s p (at + 1) → length p ≡ n → r ≡ answer (got p)) → Given
     unfolding asProduct
     as-dim q k t h = by-view s Says t at h.held (sym e ∙ q) (λ p l f. k p f l)
 
-    pub as-other : Tagged flat v → told r ≡ answer (refused 6) → Given
+    pub as-other : Tagged flat v → r ≡ answer (refused 6) → Given
     unfolding asProduct Holds HoldsProduct
     as-other k x t h = go t h.held
       where

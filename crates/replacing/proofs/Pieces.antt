@@ -7,20 +7,20 @@ use Prim.Native.Nat.{ℕ, ◌+◌, ◌*◌, ◌-◌, ◌≤◌}
 use native.Mathlib.Omega.{arith}
 use lib.ListN.{length}
 use lib.Seq.{sets, slice}
-use Rattle.rules.specs.Base.{Got, bounded}
+use Rattle.rules.specs.Base.{Got, got, bounded}
 use Rattle.rules.specs.Names.{table_of, is_held}
 use Rattle.rules.specs.Replacing.{Look, replaceProduct, replaceDim}
 use Rattle.rules.specs.Trees as tree
 use Rattle.rules.specs.Trees.{Ty, opened, dim, size}
 use Rattle.rules.specs.Writing.{words, writeProduct, writeTy}
+use Rattle.rules.specs.Refusals.{number_of, toldBy}
 use Rattle.rules.specs.declared.Refusal.{Refusal}
+use Rattle.std.specs.Prelude.{Result, Ok, Err}
 use Rattle.laws.specs.Value.{Gives}
-use Rattle.products.specs.Told.{Tree, given, told, answer, productOf}
+use Rattle.products.specs.Told.{Tree, given, answer, productOf}
 use Rattle.products.specs.Held.{Sound, well-sound, law}
 use Rattle.products.specs.Places.{length-product}
 use Rattle.products.specs.declared.Product.{Product}
-use Rattle.products.specs.declared.Tried.{Tried}
-use Rattle.names.specs.declared.old.Checked.TheVariants.{Good as Well', Refused as Because}
 use Rattle.records.specs.Views.{recOf}
 use Rattle.records.specs.Holds.{openOf, HoldsFactors}
 use Rattle.records.specs.ByView.{ends-in}
@@ -92,31 +92,33 @@ open-rec (names.TheVariants.Par x) = refl
 
 -- ══ A product that was made ══
 
-module _ (t : Tried) where
-  pub ready-product : (m : Got Tree) → Ready t m → t.checked ≡ Well' → Sound t.product
-  ready-product m h e = let x = done t m h.is e in (h.sound x.tree x.is).0
+module _ (t : Result Product Refusal) where
+  pub ready-product : (m : Got Tree) → Ready t m → (P : Product) → t ≡ Ok P → Sound P
+  ready-product m h P e = let x = done P m (rw e at h.is) in (h.sound x.tree P x.is e).0
 
-  pub put-made : {d d' : List ℕ} {next out : ℕ} (m : Got Tree) → Ready t m → t.checked ≡ Well' → d' ≡ sets d (out * 4) (words (writeProduct (productOf t.product))) → ProductPut d d' next out (Ok (next, out + 1 + t.product.len)) m
-  put-made {d} {d'} {next} {out} m h e b =
-      let x = done t m h.is e in
-      let s = h.sound x.tree x.is in
-      let l = length-product t.product s.0.long s.0.few in
+  pub put-made : {d d' : List ℕ} {next out : ℕ} (m : Got Tree) → Ready t m → (P : Product) → t ≡ Ok P → d' ≡ sets d (out * 4) (words (writeProduct (productOf P)))
+      → ProductPut d d' next out (Ok (next, out + 1 + P.len)) m
+  put-made {d} {d'} {next} {out} m h P e b =
+      let x = done P m (rw e at h.is) in
+      let s = h.sound x.tree P x.is e in
+      let l = length-product P s.0.long s.0.few in
       left-put x.tree x.is refl (omega (arith, ap length s.1, l)) (short-product x.tree (omega (arith, ap length s.1, l, s.0.few))) (b ∙ ap (λ (p : Tree). sets d (out * 4) (words (writeProduct p))) (sym s.1))
 
-  pub put-stop : {d d' : List ℕ} {next out : ℕ} (m : Got Tree) (k : Refusal) → Ready t m → t.checked ≡ Because k → ProductPut d d' next out (Err k) m
-  put-stop m k h e = left-stop (told-stop t m k h.is e)
+  pub put-stop : {d d' : List ℕ} {next out : ℕ} (m : Got Tree) (k : Refusal) → Ready t m → t ≡ Err k → ProductPut d d' next out (Err k) m
+  put-stop m k h e = left-stop (told-stop (number_of k) m (rw e at h.is))
 
 module _ (pool table : List ℕ) where
   -- a product that is well formed may be written
-  pub ready : (t : Tried) (m : Got Tree) → told t ≡ answer m → Gives m (well.GoodProduct pool table) → Ready t m
+  pub ready : (t : Result Product Refusal) (m : Got Tree) → toldBy given t ≡ answer m → Gives m (well.GoodProduct pool table) → Ready t m
   ready t m h g = record {
     is = h;
-    sound = λ p e.
-        let x = taken pool table t.product p (record { is = told-value t p (h ∙ ap answer e); good = g.holds p e }) in
+    sound = λ p P e q.
+        let v : got (given P) ≡ answer (got p) = ap (toldBy given) (sym q) ∙ h ∙ ap answer e in
+        let x = taken pool table P p (record { is = told-value P p v; good = g.holds p e }) in
         (well-sound x.well, x.is);
   }
 
-  pub replaced-ready : (t : Tried) (a : Tree) (look : Look ℕ) {places v : List ℕ} {P : Product} → Whole pool table P a → Lent pool table places v look → told t ≡ answer (replaceProduct (well.names pool table) bounded look a) → Ready t (replaceProduct (well.names pool table) bounded look a)
+  pub replaced-ready : (t : Result Product Refusal) (a : Tree) (look : Look ℕ) {places v : List ℕ} {P : Product} → Whole pool table P a → Lent pool table places v look → toldBy given t ≡ answer (replaceProduct (well.names pool table) bounded look a) → Ready t (replaceProduct (well.names pool table) bounded look a)
   replaced-ready t a look w l h = ready t _ h (product-kept pool table a look w.good l.good)
 
   -- a product that was loaded

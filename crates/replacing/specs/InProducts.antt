@@ -12,25 +12,22 @@ use Rattle.rules.specs.Exponents.{Exp, goodExp, goodStored}
 use Rattle.rules.specs.Names.{table_of, is_held}
 use Rattle.rules.specs.Products.{divide, raise, multiply}
 use Rattle.rules.specs.Replacing.{Look, asProduct, replaceFactors, replaceProduct}
-use Rattle.rules.specs.Refusals.{number_of}
+use Rattle.rules.specs.Refusals.{toldBy}
 use Rattle.rules.specs.declared.Refusal.{Refusal}
 use Rattle.rules.specs.Trees.{Open, Atom, free, base, Factor, ◌↑◌, Names, Ty, size}
-use Rattle.rules.specs.Values.{productValue}
+use Rattle.rules.specs.Values.{ProductValue, productValue}
 use Rattle.rules.specs.WellFormed.{goodOpen, goodFactor, goodProduct, rising}
 use Rattle.laws.specs.GoodProducts.{multiply_good, divide-good, raise-good, goodAtom}
 use Rattle.laws.specs.KeepsGood as laws
 use Rattle.laws.specs.Ranges.{stored-good}
 use Rattle.laws.specs.Value.{Gives, gives, next}
 use Rattle.exponents.specs.Answers.{expOf}
-use Rattle.products.specs.Told.{Tree, given, told, answer, Answer, refusalOf, tree_of, productOf, heldIn, factorAt, atomAt}
+use Rattle.products.specs.Told.{Tree, given, answer, tree_of, productOf, heldIn, factorAt, atomAt}
 use Rattle.products.specs.Kinds.{Fine, tree-good}
 use Rattle.products.specs.Places.{at_place, length-product}
 use Rattle.products.specs.Held.{law, made, made-long, Taken}
 use Rattle.products.specs.declared.Factor as code
 use Rattle.products.specs.declared.Product.{Product}
-use Rattle.products.specs.declared.Tried.{Tried}
-use Rattle.names.specs.declared.old.Checked.{Checked}
-use Rattle.names.specs.declared.old.Checked.TheVariants.{Good as Well', Refused as Because}
 use Rattle.records.specs.ByView.{in_reach}
 use Rattle.replacing.specs.Runs.{Found, LookedUp, found}
 use Rattle.replacing.specs.Alone.{open_in}
@@ -71,57 +68,42 @@ module _ (ν : Names ℕ) where
       go none h = rw (replaceFactors, h)
       go (some t) h = rw (replaceFactors, h) (deep (asProduct t) (divide ν bounded acc (free o ↑ e ∷ [])) (λ d. raise ν bounded d e) (multiply ν bounded) (replaceFactors ν bounded look fs))
 
--- ══ What was tried ══
+-- ══ What was made ══
 
 -- a product that was made
-pub record Done (t : Tried) (m : Got Tree) : Type 0 where
+pub record Done (P : Product) (m : Got Tree) : Type 0 where
   pub tree : Tree
   pub is : m ≡ got tree
-  pub value : given t.product ≡ productValue tree
+  pub value : given P ≡ productValue tree
 
-module _ (t : Tried) where
-  pub done : (m : Got Tree) → told t ≡ answer m → t.checked ≡ Well' → Done t m
-  unfolding told answer
-  done (got p) h e = record { tree = p; is = refl; value = ap (λ (a : Answer). a.product) h }
-  done (refused n) h e =
-      let z : refusalOf t.checked ≡ some n = ap (λ (a : Answer). a.refusal) h in
-      let w : none ≡ some n = rw e at z in
-      absurd (let y : ◌≡◌ {A = ℕ} 0 1 = cc in omega arith)
+pub done : (P : Product) (m : Got Tree) → got (given P) ≡ answer m → Done P m
+unfolding answer
+done P (got p) h = record { tree = p; is = refl; value = cc }
+done P (refused n) h = absurd (let y : ◌≡◌ {A = ℕ} 0 1 = cc in omega arith)
 
-  -- or a refusal, whatever would have followed
-  pub ended : (m : Got Tree) → told t ≡ answer m → (t.checked ≡ Well' → ⊥) → (f : Tree → Got Tree) → told t ≡ answer (m >>= f)
-  unfolding told answer
-  ended (refused n) h e f = h
-  ended (got p) h e f = absurd (go t.checked refl (ap (λ (a : Answer). a.refusal) h))
-    where
-      go : (v : Checked) → t.checked ≡ v → refusalOf v ≡ none → ⊥
-      go Well' q z = e q
-      go (Because r) q z = let y : ◌≡◌ {A = ℕ} 0 1 = cc in omega arith
+-- or a refusal, whatever would have followed
+pub ended : (n : ℕ) (m : Got Tree) → refused n ≡ answer m → (f : Tree → Got Tree) → refused n ≡ answer (m >>= f)
+unfolding answer
+ended n (refused k) h f = h
+ended n (got p) h f = absurd (let y : ◌≡◌ {A = ℕ} 0 1 = cc in omega arith)
 
-pub told-stop : (t : Tried) (m : Got Tree) (r : Refusal) → told t ≡ answer m → t.checked ≡ Because r → m ≡ refused (number_of r)
-unfolding told answer
-told-stop t (got p) r h e =
-    let z : refusalOf t.checked ≡ none = ap (λ (a : Answer). a.refusal) h in
-    let w : some (number_of r) ≡ none = rw e at z in
-    absurd (let y : ◌≡◌ {A = ℕ} 0 1 = cc in omega arith)
-told-stop t (refused n) r h e =
-    let z : refusalOf t.checked ≡ some n = ap (λ (a : Answer). a.refusal) h in
-    let w : some (number_of r) ≡ some n = rw e at z in
-    let y : number_of r ≡ n = cc in
-    ap (λ (k : ℕ). refused k) (sym y)
+pub told-stop : (n : ℕ) (m : Got Tree) → refused n ≡ answer m → m ≡ refused n
+unfolding answer
+told-stop n (got p) h = absurd (let y : ◌≡◌ {A = ℕ} 0 1 = cc in omega arith)
+told-stop n (refused k) h = let z : k ≡ n = cc in ap refused z
 
-pub told-value : (t : Tried) (p : Tree) → told t ≡ answer (got p) → given t.product ≡ productValue p
-unfolding told answer
-told-value t p h = ap (λ (a : Answer). a.product) h
-
--- it isn't made where it is refused
-pub because : {v : Checked} {r : Refusal} → v ≡ Because r → v ≡ Well' → ⊥
-because p q = let y : ◌≡◌ {A = ℕ} 0 1 = cc in omega arith
+pub told-value : (P : Product) (p : Tree) → got (given P) ≡ answer (got p) → given P ≡ productValue p
+unfolding answer
+told-value P p h = cc
 
 -- a value made of a product
-pub fine-told : (p : Product) (t : Tree) → given p ≡ productValue t → told (record { checked = Well'; product = p }) ≡ answer (got t)
-unfolding told answer
-fine-told p t h = λ i. record { refusal = none; product = h i }
+pub fine-told : (P : Product) (p : Tree) → given P ≡ productValue p → got (given P) ≡ answer (got p)
+unfolding answer
+fine-told P p h = ap got h
+
+pub fine-refused : (n : ℕ) → refused n ≡ answer (refused n)
+unfolding answer
+fine-refused n = refl
 
 -- ══ Well formed again ══
 
@@ -157,13 +139,13 @@ module _ (pool table : List ℕ) where
   fine-good f g = tree-good (names pool table) (heldIn table) (atomAt f) (expOf f.exp) ∙ (and-eq-true_iff (goodAtom (names pool table) (heldIn table) 4_294_967_296 (atomAt f)) (goodStored (expOf f.exp))).1 (g.atom, g.stored)
 
   -- a product that was made is well formed
-  pub record Fresh (t : Tried) (m : Got Tree) : Type 0 where
+  pub record Fresh (P : Product) (m : Got Tree) : Type 0 where
     pub tree : Tree
     pub is : m ≡ got tree
-    pub whole : Whole pool table t.product tree
+    pub whole : Whole pool table P tree
 
-  pub fresh : (t : Tried) (m : Got Tree) → told t ≡ answer m → t.checked ≡ Well' → Gives m (GoodProduct pool table) → Fresh t m
-  fresh t m h e g = let d = done t m h e in record { tree = d.tree; is = d.is; whole = record { is = d.value; good = g.holds d.tree d.is } }
+  pub fresh : (P : Product) (m : Got Tree) → got (given P) ≡ answer m → Gives m (GoodProduct pool table) → Fresh P m
+  fresh P m h g = let d = done P m h in record { tree = d.tree; is = d.is; whole = record { is = d.value; good = g.holds d.tree d.is } }
 
   -- ══ One factor ══
 
@@ -174,56 +156,49 @@ module _ (pool table : List ℕ) where
     pub exp-good : goodExp (expOf f.exp) ≡ true
     exp-good = stored-good (expOf f.exp) fine.stored
 
-    module _ (a : Tree) (t : Ty ℕ) (d : Tried) (h : told d ≡ answer (asProduct t)) where
-      pub put_first : (d.checked ≡ Well' → ⊥) → told d ≡ answer (put_in (names pool table) (some t) (tree_of f) a)
-      unfolding put_in
-      put_first e = ended d (asProduct t) h e _
+    pub put_first : (a : Tree) (t : Ty ℕ) (n : ℕ) → refused n ≡ answer (asProduct t) → refused n ≡ answer (put_in (names pool table) (some t) (tree_of f) a)
+    unfolding put_in
+    put_first a t n h = ended n (asProduct t) h _
 
-    module _ (t : Ty ℕ) (g : GoodTy pool table t) (d : Tried) (h : told d ≡ answer (asProduct t)) where
-      pub first-fresh : d.checked ≡ Well' → Fresh d (asProduct t)
-      first-fresh e = fresh d (asProduct t) h e (laws.dimension-good (names pool table) (law pool table) (is_held (table_of pool table)) 4_294_967_296 t g)
+    pub first-fresh : (t : Ty ℕ) → GoodTy pool table t → (d : Product) → got (given d) ≡ answer (asProduct t) → Fresh d (asProduct t)
+    first-fresh t g d h = fresh d (asProduct t) h (laws.dimension-good (names pool table) (law pool table) (is_held (table_of pool table)) 4_294_967_296 t g)
 
-    module _ (acc o : Product) (a : Tree) (t : Ty ℕ) (w : Whole pool table acc a) (u : Whole pool table o (tree_of f ∷ [])) (g : GoodTy pool table t) (d left : Tried) where
+    module _ (acc o : Product) (a : Tree) (t : Ty ℕ) (w : Whole pool table acc a) (u : Whole pool table o (tree_of f ∷ [])) (g : GoodTy pool table t)
+        (d : Product) (h : got (given d) ≡ answer (asProduct t)) where
       -- the bound type as a product
-      abbrev pub AsProduct : Type 0
-      AsProduct = told d ≡ answer (asProduct t)
+      pub D : Fresh d (asProduct t)
+      D = first-fresh t g d h
 
-      abbrev pub Divided : Type 0
-      Divided = told left ≡ answer (divide (names pool table) bounded (productOf acc) (productOf o))
+      divided-is : (x : Got ProductValue) → x ≡ answer (divide (names pool table) bounded (productOf acc) (productOf o))
+          → x ≡ answer (divide (names pool table) bounded a (tree_of f ∷ []))
+      divided-is x q = rw ((taken acc a w).is, (taken o (tree_of f ∷ []) u).is) q
 
-      module _ (h : AsProduct) (e : d.checked ≡ Well') (q : Divided) where
-        pub D : Fresh d (asProduct t)
-        D = first-fresh t g d h e
+      pub put_second : (n : ℕ) → refused n ≡ answer (divide (names pool table) bounded (productOf acc) (productOf o)) → refused n ≡ answer (put_in (names pool table) (some t) (tree_of f) a)
+      unfolding put_in
+      put_second n q = rw D.is (ended n _ (divided-is _ q) _)
 
-        divided-is : told left ≡ answer (divide (names pool table) bounded a (tree_of f ∷ []))
-        divided-is = rw ((taken acc a w).is, (taken o (tree_of f ∷ []) u).is) q
+      module _ (left : Product) (q : got (given left) ≡ answer (divide (names pool table) bounded (productOf acc) (productOf o))) where
+        pub L : Fresh left (divide (names pool table) bounded a (tree_of f ∷ []))
+        L = fresh left _ (divided-is _ q) (divide-good (names pool table) (law pool table) (is_held (table_of pool table)) 4_294_967_296 a (tree_of f ∷ []) w.good u.good)
 
-        pub second-fresh : left.checked ≡ Well' → Fresh left (divide (names pool table) bounded a (tree_of f ∷ []))
-        second-fresh i = fresh left _ divided-is i (divide-good (names pool table) (law pool table) (is_held (table_of pool table)) 4_294_967_296 a (tree_of f ∷ []) w.good u.good)
+        -- what raising that product says
+        abbrev pub Raised : Got ProductValue → Type 0
+        Raised x = (μ : Names ℕ) → x ≡ answer (raise μ bounded (productOf d) (expOf f.exp))
 
-        pub put_second : (left.checked ≡ Well' → ⊥) → told left ≡ answer (put_in (names pool table) (some t) (tree_of f) a)
+        raised_is : (x : Got ProductValue) → Raised x → x ≡ answer (raise (names pool table) bounded D.tree (expOf f.exp))
+        raised_is x r = rw (taken d D.tree D.whole).is (r (names pool table))
+
+        pub put-third : (n : ℕ) → Raised (refused n) → refused n ≡ answer (put_in (names pool table) (some t) (tree_of f) a)
         unfolding put_in
-        put_second i = rw D.is (ended left _ divided-is i _)
+        put-third n r = rw (D.is, L.is) (ended n _ (raised_is _ r) _)
 
-        module _ (more : Tried) (i : left.checked ≡ Well') (r : (μ : Names ℕ) → told more ≡ answer (raise μ bounded (productOf d.product) (expOf f.exp))) where
-          pub L : Fresh left (divide (names pool table) bounded a (tree_of f ∷ []))
-          L = second-fresh i
+        module _ (more : Product) (r : Raised (got (given more))) where
+          pub M : Fresh more (raise (names pool table) bounded D.tree (expOf f.exp))
+          M = fresh more _ (raised_is _ r) (raise-good (names pool table) (law pool table) (is_held (table_of pool table)) 4_294_967_296 D.tree (expOf f.exp) D.whole.good exp-good)
 
-          raised_is : told more ≡ answer (raise (names pool table) bounded D.tree (expOf f.exp))
-          raised_is = rw (taken d.product D.tree D.whole).is (r (names pool table))
-
-          pub third-fresh : more.checked ≡ Well' → Fresh more (raise (names pool table) bounded D.tree (expOf f.exp))
-          third-fresh j = fresh more _ raised_is j (raise-good (names pool table) (law pool table) (is_held (table_of pool table)) 4_294_967_296 D.tree (expOf f.exp) D.whole.good exp-good)
-
-          pub put-third : (more.checked ≡ Well' → ⊥) → told more ≡ answer (put_in (names pool table) (some t) (tree_of f) a)
+          pub put_last : (x : Got ProductValue) → x ≡ answer (multiply (names pool table) bounded (productOf left) (productOf more)) → x ≡ answer (put_in (names pool table) (some t) (tree_of f) a)
           unfolding put_in
-          put-third j = rw (D.is, L.is) (ended more _ raised_is j _)
-
-          pub put_last : more.checked ≡ Well' → (x : Tried) → told x ≡ answer (multiply (names pool table) bounded (productOf left.product) (productOf more.product)) → told x ≡ answer (put_in (names pool table) (some t) (tree_of f) a)
-          unfolding put_in
-          put_last j x y =
-              let M = third-fresh j in
-              rw (D.is, L.is, M.is) (rw ((taken left.product L.tree L.whole).is, (taken more.product M.tree M.whole).is) y)
+          put_last x y = rw (D.is, L.is, M.is) (rw ((taken left L.tree L.whole).is, (taken more M.tree M.whole).is) y)
 
   -- ══ One factor by what is bound ══
 
@@ -263,8 +238,8 @@ module _ (pool table : List ℕ) where
     unfolding put_in
     put-none a e = rw e
 
-    pub put-bound : (a : Tree) (t : Ty ℕ) (r : Tried) → Looked ≡ some t → told r ≡ answer (put_in (names pool table) (some t) (tree_of f) a) → told r ≡ answer (put_in (names pool table) Looked (tree_of f) a)
-    put-bound a t r e h = h ∙ ap (λ (o : Option (Ty ℕ)). answer (put_in (names pool table) o (tree_of f) a)) (sym e)
+    pub put-bound : (a : Tree) (t : Ty ℕ) (x : Got ProductValue) → Looked ≡ some t → x ≡ answer (put_in (names pool table) (some t) (tree_of f) a) → x ≡ answer (put_in (names pool table) Looked (tree_of f) a)
+    put-bound a t x e h = h ∙ ap (λ (o : Option (Ty ℕ)). answer (put_in (names pool table) o (tree_of f) a)) (sym e)
 
     -- a factor's replacement is well formed again
     pub factor-good : (a : Tree) → Fine (names pool table) (heldIn table) f → LooksGood pool table look → GoodProduct pool table a → Gives (put_in (names pool table) Looked (tree_of f) a) (GoodProduct pool table)
@@ -294,19 +269,19 @@ module _ (pool table : List ℕ) where
       drop_at : (i : ℕ) → i < p.len → drop i a ≡ tree_of (factorAt p i) ∷ drop (i + 1) a
       drop_at i h = let t = taken p a w in rw t.is (at_place p t.well.long t.well.few i h)
 
-      module _ (acc : Product) (i : ℕ) (h : i < p.len) (g : Going acc i) (t : Tried) (e : told t ≡ answer (put_in (names pool table) (Looked (factorAt p i) look) (tree_of (factorAt p i)) g.tree)) where
+      module _ (acc : Product) (i : ℕ) (h : i < p.len) (g : Going acc i) where
         turn : replaceProduct (names pool table) bounded look a ≡ (put_in (names pool table) (Looked (factorAt p i) look) (tree_of (factorAt p i)) g.tree >>= λ x. replaceFactors (names pool table) bounded look (drop (i + 1) a) x)
         turn =
             sym g.rest
             ∙ ap (λ (l : Tree). replaceFactors (names pool table) bounded look l g.tree) (drop_at i h)
             ∙ factor-step (names pool table) look (tree_of (factorAt p i)) (drop (i + 1) a) g.tree
 
-        pub going-stop : (t.checked ≡ Well' → ⊥) → told t ≡ answer (replaceProduct (names pool table) bounded look a)
-        going-stop n = rw turn (ended t _ e n _)
+        pub going-stop : (n : ℕ) → refused n ≡ answer (put_in (names pool table) (Looked (factorAt p i) look) (tree_of (factorAt p i)) g.tree) → refused n ≡ answer (replaceProduct (names pool table) bounded look a)
+        going-stop n e = rw turn (ended n _ e _)
 
-        pub going_on : LooksGood pool table look → t.checked ≡ Well' → Going t.product (i + 1)
-        going_on b v =
-            let f = fresh t _ e v (factor-good (factorAt p i) look g.tree (fine-at i h) b g.whole.good) in
+        pub going_on : LooksGood pool table look → (P : Product) → got (given P) ≡ answer (put_in (names pool table) (Looked (factorAt p i) look) (tree_of (factorAt p i)) g.tree) → Going P (i + 1)
+        going_on b P e =
+            let f = fresh P _ e (factor-good (factorAt p i) look g.tree (fine-at i h) b g.whole.good) in
             record { tree = f.tree; whole = f.whole; rest = sym (turn ∙ ap (λ (m : Got Tree). m >>= λ x. replaceFactors (names pool table) bounded look (drop (i + 1) a) x) f.is) }
 
       pub going_end : (acc : Product) (i : ℕ) → p.len ≤ i → (g : Going acc i) → replaceProduct (names pool table) bounded look a ≡ got g.tree

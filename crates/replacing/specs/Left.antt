@@ -3,14 +3,14 @@ use Rattle.std.specs.Prelude.{Result, Ok, Err, ◌≡◌, Bool, true, false, Lis
 use Rattle.std.proofs.Math.Option.{get_or}
 use Rattle.std.proofs.lemmas.List.Edits.{sets}
 use Rattle.rules.specs.Base.{Got, got, refused, ◌>>=◌, bounded}
-use Rattle.rules.specs.Refusals.{number_of}
+use Rattle.rules.specs.Refusals.{number_of, toldBy}
 use Rattle.rules.specs.declared.Refusal.{Refusal}
 use Rattle.rules.specs.Replacing.{Look, replaceProduct, replaceDim, replaceTy, replaceTys, replaceFields}
 use Rattle.rules.specs.Trees.{Open, Ty, opened, Tys, Fields, size, sizeTys, sizeFields, count, countFields}
 use Rattle.rules.specs.Writing.{Rec, words, writeProduct, writeTy, writeTys, writeFields}
-use Rattle.products.specs.Told.{Tree, told, answer, productOf}
+use Rattle.products.specs.Told.{Tree, given, answer, productOf}
 use Rattle.products.specs.Held.{Sound}
-use Rattle.products.specs.declared.Tried.{Tried}
+use Rattle.products.specs.declared.Product.{Product}
 use Rattle.records.specs.Cut.{fit, cut}
 use Rattle.records.specs.Views.{recOf}
 use Rattle.records.specs.Holds.{HoldsTys, HoldsFields}
@@ -57,9 +57,9 @@ pub record OpenReplaced (look : Look ℕ) (o : Open ℕ) (d d' : List ℕ) (out 
   pub buffer : d' ≡ sets d (out * 4) (words (writeTy (becomes look o)))
 
 -- a product that may be written, where there is one
-pub record Ready (t : Tried) (m : Got Tree) : Type 0 where
-  pub is : told t ≡ answer m
-  pub sound : (p : Tree) → m ≡ got p → Sound t.product × (p ≡ productOf t.product)
+pub record Ready (t : Result Product Refusal) (m : Got Tree) : Type 0 where
+  pub is : toldBy given t ≡ answer m
+  pub sound : (p : Tree) (P : Product) → m ≡ got p → t ≡ Ok P → Sound P × (p ≡ productOf P)
 
 abbrev pub sizeProduct : Tree → ℕ
 sizeProduct p = suc (length p)

@@ -1,7 +1,6 @@
 // The answers of the calls that `saying` does not tell.
 ghost use Rattle.std.specs.Prelude.{◌≡◌};
 ghost use Rattle.exponents.specs.Answers.{expOf};
-ghost use Rattle.exponents.specs.Answers as exponents;
 ghost use Rattle.eliminating.specs.Told.{toldEliminated};
 ghost use Rattle.rescue.specs.Told.{countsOf};
 ghost use Rattle.text.specs.Told as text;
@@ -12,7 +11,7 @@ ghost use Rattle.rules.specs.Refusals.{told, toldBy};
 ghost use Rattle.rules.specs.Elimination.{someLeft};
 
 use eliminating::Eliminated;
-use exponents::{Exponent, Power};
+use exponents::Exponent;
 use rescue::Counts;
 use rules::Refusal;
 use saying::told::{Told, refused, said, short};
@@ -25,12 +24,12 @@ fn power_words(e: Exponent) -> Told
 }
 
 // An exponent.
-pub fn powered(p: Power) -> Told
-    ensures { result ≡ powerAs (exponents.told p) }
+pub fn powered(p: Result<Exponent, Refusal>) -> Told
+    ensures { result ≡ powerAs (toldBy expOf p) }
 {
     match p {
-        Power::Value(e) => power_words(e),
-        Power::Refused(why) => refused(why, 0, 0),
+        Ok(e) => power_words(e),
+        Err(why) => refused(why, 0, 0),
     }
 }
 

@@ -6,8 +6,8 @@ ghost use Rattle.rules.specs.Elimination.{solvedFor, timesRow, plusRow, putInRow
 ghost use Rattle.elimination.specs.Told.{row_in, Wide, RowWell, quotients};
 ghost use Rattle.elimination.specs.Grids.{First};
 
+use exponents::Exponent;
 use exponents::inner::{negative_of, product_of, quotient_of, sum_of};
-use exponents::{Exponent, Power};
 
 // 24 variables, 24 parameters and base dimensions.
 pub const COLUMNS: usize = 48;
@@ -53,7 +53,7 @@ fn times_row(k: Exponent, w: Row) -> Tried
     let mut out = w;
     let mut j = 0;
     while j < COLUMNS {
-        let Power::Value(e) = product_of(power_at(w, j), k) else {
+        let Ok(e) = product_of(power_at(w, j), k) else {
             return Tried {
                 fits: false,
                 row: out,
@@ -77,7 +77,7 @@ fn plus_row(a: Row, b: Row) -> Tried
     let mut out = a;
     let mut j = 0;
     while j < COLUMNS {
-        let Power::Value(e) = sum_of(power_at(a, j), power_at(b, j)) else {
+        let Ok(e) = sum_of(power_at(a, j), power_at(b, j)) else {
             return Tried {
                 fits: false,
                 row: out,
@@ -101,7 +101,7 @@ fn divided(k: Exponent, r: Row) -> Tried
     let mut out = r;
     let mut j = 0;
     while j < COLUMNS {
-        let Power::Value(e) = quotient_of(negative_of(power_at(r, j)), k) else {
+        let Ok(e) = quotient_of(negative_of(power_at(r, j)), k) else {
             return Tried {
                 fits: false,
                 row: out,

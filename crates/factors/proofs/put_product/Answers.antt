@@ -1,15 +1,14 @@
 -- `put_product` meets its contract.
 use mathlib.Core.Path.{refl, ap, ◌∙◌}
 use Prim.Native.Nat.{ℕ}
-use Rattle.products.specs.Told.{told, given}
+use Rattle.products.specs.Told.{given}
 use Rattle.saying.specs.Saying.{saidAs}
 use Rattle.factors.proofs.put_product.Goals as goal
 
-pub returns-in-Good : goal.returns-in-Good
-unfolding told given
-returns-in-Good c =
-    rw c.in-Good.is (c.said.ensures ∙ ap (λ (n : ℕ). saidAs n 0 0) c.short.ensures, c.put_factors.ensures)
+pub returns-in-Ok : goal.returns-in-Ok
+unfolding given
+returns-in-Ok c =
+    rw c.in-Ok.is (c.said.ensures ∙ ap (λ (n : ℕ). saidAs n 0 0) c.short.ensures, c.put_factors.ensures)
 
-pub returns-in-Refused : goal.returns-in-Refused
-unfolding told
-returns-in-Refused c = rw c.in-Refused.is (cc, refl)
+pub returns-in-Err : goal.returns-in-Err
+returns-in-Err c = rw c.in-Err.is (cc, refl)

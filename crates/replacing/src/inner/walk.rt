@@ -19,8 +19,7 @@ use super::bound::look_up;
 use super::dims::replace_factors;
 use super::factors::picked;
 use loading::inner::{load, store};
-use names::old::Checked;
-use products::{Product, Tried};
+use products::Product;
 use records::inner::{copy, put_one, put_record};
 use records::seen::view_at;
 use records::{Open, View};
@@ -45,16 +44,19 @@ fn replace_open(o: Open, places: &[u32], v: &[u32], dst: &mut [u32], out: usize)
 }
 
 // Writes a product that was made, or stops.
-fn put_tried(t: Tried, next: usize, dst: &mut [u32], out: usize) -> Result<(usize, usize), Refusal>
-    requires ready { (m : Got Tree) × Ready t m }
+fn put_made(
+    made: Result<Product, Refusal>,
+    next: usize,
+    dst: &mut [u32],
+    out: usize,
+) -> Result<(usize, usize), Refusal>
+    requires ready { (m : Got Tree) × Ready made m }
     requires out_bound { out ≤ 1000000000 }
-    ensures { (m : Got Tree) → Ready t m → ProductPut dst.old dst.new next out result m }
+    ensures { (m : Got Tree) → Ready made m → ProductPut dst.old dst.new next out result m }
 {
-    let checked = t.checked;
-    match checked {
-        Checked::Refused(why) => Err(why),
-        Checked::Good => {
-            let p = t.product;
+    match made {
+        Err(why) => Err(why),
+        Ok(p) => {
             let n = p.len;
             store(p, dst, out);
             Ok((next, out + 1 + n))
@@ -79,7 +81,7 @@ fn replace_product(
     requires out_bound { out ≤ 1000000000 }
     ensures { (a : Tree) (look : Look ℕ) → Whole pool.now table.now p a → Lent pool.now table.now places.now v.now look → ProductReplaced pool.now table.now look dst.old dst.new next out result a }
 {
-    put_tried(replace_factors(pool, table, p, places, v), next, dst, out)
+    put_made(replace_factors(pool, table, p, places, v), next, dst, out)
 }
 
 /// Writes the product of n factors at a place with its bound variables replaced.

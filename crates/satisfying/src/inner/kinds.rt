@@ -16,7 +16,7 @@ ghost use Rattle.satisfying.specs.Applied.{Applied};
 
 use super::super::Step;
 use loading::inner::{load, store};
-use names::old::Checked;
+use names::tables::NameTable;
 use products::inner::divided;
 use records::{Atom, Open, View};
 use rules::Refusal;
@@ -64,15 +64,10 @@ fn quotient(
 {
     let p = load(left.words, left.at, left.count as usize);
     let q = load(right.words, right.at, right.count as usize);
-    let tried = divided(p, q, pool, table);
-    match tried.checked {
-        Checked::Refused(why) => Err(why),
-        Checked::Good => {
-            out.put(View::IsScalar, 2 + tried.product.len);
-            put_product(tried.product, out);
-            Ok(Step::Split(out.at))
-        }
-    }
+    let made = divided(p, q, NameTable { pool, table })?;
+    out.put(View::IsScalar, 2 + made.len);
+    put_product(made, out);
+    Ok(Step::Split(out.at))
 }
 
 /// Two dimensions: their quotient is a scalar. A variable against a dimension: the variable is one, too. Functions with as many parameters: what they return,

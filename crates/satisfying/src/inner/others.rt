@@ -17,8 +17,8 @@ ghost use Rattle.satisfying.specs.Parts.{freeVariable, freeName, isDimOf, GoodPo
 ghost use Rattle.satisfying.specs.Applied.{Applied, FactorsPut};
 
 use super::super::Step;
+use exponents::Exponent;
 use exponents::inner::{negative_of, quotient_of};
-use exponents::{Exponent, Power};
 use records::{Atom, Open, View};
 use rules::Refusal;
 use types::writer::Writer;
@@ -82,10 +82,7 @@ fn other_power(factor: Factor, k: Exponent) -> Result<Exponent, Refusal>
     requires { (goodExp (frac (signed factor.num) factor.den) ≡ true) × (goodExp (expOf k) ≡ true) }
     ensures { toldBy expOf result ≡ quotient bounded (neg (frac (signed factor.num) factor.den)) (expOf k) }
 {
-    match quotient_of(negative_of(Exponent::from_words(factor.num, factor.den)), k) {
-        Power::Value(e) => Ok(e),
-        Power::Refused(why) => Err(why),
-    }
+    quotient_of(negative_of(Exponent::from_words(factor.num, factor.den)), k)
 }
 
 /// Factors with the power -j/k for each power j.

@@ -1,5 +1,5 @@
 -- `inner::exp_in` meets its contract.
 use Rattle.dimensions.proofs.inner.exp_in.Goals as goal
 
-pub returns-in-Refused : goal.returns-in-Refused
-returns-in-Refused c = rw c.in-Refused.is
+pub returns-in-Err : goal.returns-in-Err
+returns-in-Err c = rw c.in-Err.is

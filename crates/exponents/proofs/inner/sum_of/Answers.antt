@@ -1,50 +1,43 @@
--- `exponents::inner::sum_of` meets its contract (`Steps`).
-use mathlib.Core.Path.{◌∙◌, ap}
-use native.Mathlib.Nat.{mul-pos}
-use Prim.Native.Nat.{◌*◌}
-use lib.IntN.{ℤ}
-use Rattle.rules.specs.Base.{bounded}
-use Rattle.rules.specs.Exponents.{lowest, ranged, plus, sum}
+use lib.IntN.{pos, ◌*ℤ◌, ◌+ℤ◌}
+use mir.Syntax.{w32, w64}
+use mir.Val.{SFits}
+use Rattle.std.proofs.Common.{rules}
+use Rattle.std.proofs.lemmas.Int.{to_z-of_z}
+use Rattle.rules.specs.Exponents.{sum, plus}
 use Rattle.laws.specs.Ranges.{Good, good}
-use Rattle.exponents.proofs.Held.{Holds, widened}
-use Rattle.exponents.proofs.Steps.{dens-fit, part-fits, sum_fits, sum_is}
+use Rattle.exponents.proofs.Steps.{product-fits, sum-fits}
 use Rattle.exponents.proofs.inner.sum_of.Goals as goal
 
-pub overflow_mul-left : goal.overflow_mul-left
-overflow_mul-left c = let left : Good c.args.a.num c.args.a.den = good c.args.a.num c.args.a.den c.requires.0 in
-    let right : Good c.args.b.num c.args.b.den = good c.args.b.num c.args.b.den c.requires.1 in
-    let held : Holds c.wide.result c.args.a.num = widened c.args.a.num _ c.struct_told-1.given.0.1 c.wide.ensures in
-    part-fits (left) (right) (held)
-
-pub overflow_mul-right : goal.overflow_mul-right
-overflow_mul-right c = let right : Good c.args.b.num c.args.b.den = good c.args.b.num c.args.b.den c.requires.1 in
-    let left : Good c.args.a.num c.args.a.den = good c.args.a.num c.args.a.den c.requires.0 in
-    let held-2 : Holds c.wide-2.result c.args.b.num = widened c.args.b.num _ c.struct_told-2-1.given.0.1 c.wide-2.ensures in
-    part-fits (right) (left) (held-2)
-
 pub overflow_add-left : goal.overflow_add-left
-overflow_add-left c = let left : Good c.args.a.num c.args.a.den = good c.args.a.num c.args.a.den c.requires.0 in
-    let right : Good c.args.b.num c.args.b.den = good c.args.b.num c.args.b.den c.requires.1 in
-    let held : Holds c.wide.result c.args.a.num = widened c.args.a.num _ c.struct_told-1.given.0.1 c.wide.ensures in
-    let held-2 : Holds c.wide-2.result c.args.b.num = widened c.args.b.num _ c.struct_told-2-1.given.0.1 c.wide-2.ensures in
-    sum_fits (left) (right) (held) (held-2)
-
-pub overflow_mul-a : goal.overflow_mul-a
-overflow_mul-a c = let left : Good c.args.a.num c.args.a.den = good c.args.a.num c.args.a.den c.requires.0 in
-    let right : Good c.args.b.num c.args.b.den = good c.args.b.num c.args.b.den c.requires.1 in
-    dens-fit (left) (right)
-
-pub reduced-requires : goal.reduced-requires
-reduced-requires c = let left : Good c.args.a.num c.args.a.den = good c.args.a.num c.args.a.den c.requires.0 in
-    let right : Good c.args.b.num c.args.b.den = good c.args.b.num c.args.b.den c.requires.1 in
-    mul-pos (left).positive (right).positive
+overflow_add-left c =
+    let n = c.args.a.num in
+    let m = c.args.b.num in
+    let g : Good n c.args.a.den = good _ _ c.requires.0 in
+    let k : Good m c.args.b.den = good _ _ c.requires.1 in
+    let f1 : SFits w32 n = search rules in
+    let f2 : SFits w32 m = search rules in
+    let f3 : SFits w64 n = search rules in
+    let f4 : SFits w64 m = search rules in
+    let p : SFits w64 (n *ℤ pos c.args.b.den) = product-fits n (pos c.args.b.den) g.num k.den in
+    let q : SFits w64 (m *ℤ pos c.args.a.den) = product-fits m (pos c.args.a.den) k.num g.den in
+    let d : SFits w64 (pos c.args.a.den) = search rules in
+    let e : SFits w64 (pos c.args.b.den) = search rules in
+    simp (c.from.ensures, c.from-2.ensures, c.from-3.ensures, c.from-4.ensures, to_z-of_z) (sum-fits g k)
 
 pub returns : goal.returns
 unfolding sum plus
-returns c = let left : Good c.args.a.num c.args.a.den = good c.args.a.num c.args.a.den c.requires.0 in
-    let right : Good c.args.b.num c.args.b.den = good c.args.b.num c.args.b.den c.requires.1 in
-    let held : Holds c.wide.result c.args.a.num = widened c.args.a.num _ c.struct_told-1.given.0.1 c.wide.ensures in
-    let held-2 : Holds c.wide-2.result c.args.b.num = widened c.args.b.num _ c.struct_told-2-1.given.0.1 c.wide-2.ensures in
-    c.reduced.ensures
-    ∙ ap (λ (z : ℤ). ranged bounded (lowest z (c.args.a.den * c.args.b.den)))
-    (sum_is (left) (right) (held) (held-2))
+returns c =
+    let n = c.args.a.num in
+    let m = c.args.b.num in
+    let g : Good n c.args.a.den = good _ _ c.requires.0 in
+    let k : Good m c.args.b.den = good _ _ c.requires.1 in
+    let f1 : SFits w32 n = search rules in
+    let f2 : SFits w32 m = search rules in
+    let f3 : SFits w64 n = search rules in
+    let f4 : SFits w64 m = search rules in
+    let p : SFits w64 (n *ℤ pos c.args.b.den) = product-fits n (pos c.args.b.den) g.num k.den in
+    let q : SFits w64 (m *ℤ pos c.args.a.den) = product-fits m (pos c.args.a.den) k.num g.den in
+    let d : SFits w64 (pos c.args.a.den) = search rules in
+    let e : SFits w64 (pos c.args.b.den) = search rules in
+    let s : SFits w64 (n *ℤ pos c.args.b.den +ℤ m *ℤ pos c.args.a.den) = sum-fits g k in
+    (simp (c.from.ensures, c.from-2.ensures, c.from-3.ensures, c.from-4.ensures, c.from-5.ensures, c.from-6.ensures, to_z-of_z) at c.reduced.ensures)

@@ -15,17 +15,8 @@ use Rattle.products.proofs.inner.append.Goals as goal
 pub loop-i-init : goal.loop-i-init
 loop-i-init c = (omega arith, omega arith, refl, λ acc h. record { acc = acc; is = h; few = omega arith; rest = refl })
 
-pub offset_bounds-p-i : goal.offset_bounds-p-i
-offset_bounds-p-i c = omega (arith, c.requires.sound.few)
-
-pub bounds-p-i : goal.bounds-p-i
-bounds-p-i c = omega (arith, c.requires.sound.few)
-
 pub put-q-requires : goal.put-q-requires
 put-q-requires c = omega (arith, c.requires.sound.few)
-
-pub overflow_add-i : goal.overflow_add-i
-overflow_add-i c = omega (arith, c.requires.sound.few)
 
 pub loop-i-preserved : goal.loop-i-preserved
 unfolding put_of

@@ -7,9 +7,8 @@ pub inverted-requires : goal.inverted-requires
 inverted-requires c = well-sound c.requires.well_2
 
 pub multiplied-requires : goal.multiplied-requires
-multiplied-requires c = record { good = c.requires.good; well = c.requires.well; well_2 = (inverse-well _ _ _ _ c.requires.well_2 c.inverted.ensures).well }
+multiplied-requires c = record { well = c.requires.well; well_2 = (inverse-well _ _ _ _ c.requires.well_2 c.inverted.ensures).well }
 
 pub returns : goal.returns
 unfolding divide
-returns c =
-    rw (inverse-well _ _ _ _ c.requires.well_2 c.inverted.ensures).is c.multiplied.ensures
+returns c = rw (inverse-well _ _ _ _ c.requires.well_2 c.inverted.ensures).is c.multiplied.ensures

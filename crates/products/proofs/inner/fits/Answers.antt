@@ -33,52 +33,38 @@ returns-then-n-gt-FACTORS c = let long : length c.args.p.factors ≡ 64 = c.well
 
 pub returns-then-n-eq0 : goal.returns-then-n-eq0
 returns-then-n-eq0 c = let long : length c.args.p.factors ≡ 64 = c.well_formed.0.1.1.0.1.0.1 in
-    let w = seen-well (omega arith) (long) (subst (Seen c.args.pool.now c.args.table.now c.args.p) (sym c.if-n-eq0.true) seen_none) in
+    let w = seen-well (omega arith) (long) (subst (Seen c.args.names.pool.now c.args.names.table.now c.args.p) (sym c.if-n-eq0.true) seen_none) in
     sym (ap isGot (well-given _ _ c.args.p w))
 
-pub is_sound-requires : goal.is_sound-requires
-is_sound-requires c = c.requires.words
-
 pub returns-then-not-is_sound : goal.returns-then-not-is_sound
-returns-then-not-is_sound c = let names : Names ℕ = numbersOf (table_of c.args.pool.now c.args.table.now) in
-    let held : List ℕ = c.args.table.now in
+returns-then-not-is_sound c = let names : Names ℕ = numbersOf (table_of c.args.names.pool.now c.args.names.table.now) in
+    let held : List ℕ = c.args.names.table.now in
     let long : length c.args.p.factors ≡ 64 = c.well_formed.0.1.1.0.1.0.1 in
     let n : fine (names) (heldIn (held)) (factorAt c.args.p 0) ≡ false = sym (c.is_sound.ensures (names)) ∙ c.if-not-is_sound.true in
     sym (not_taken _ _ c.args.p (long) (λ w. not-fine _ _ _ n (w.each 0 (omega arith))))
 
 pub loop-i-init : goal.loop-i-init
-loop-i-init c = let names : Names ℕ = numbersOf (table_of c.args.pool.now c.args.table.now) in
+loop-i-init c = let names : Names ℕ = numbersOf (table_of c.args.names.pool.now c.args.names.table.now) in
     (omega arith, omega arith, refl, seen_first (fine-facts _ _ _ (sym (c.is_sound.ensures (names)) ∙ c.if-not-is_sound.false)))
 
-pub offset_bounds-p-i : goal.offset_bounds-p-i
-offset_bounds-p-i c = let within : (c.loop-i.i < c.args.p.len) × (c.args.p.len ≤ 64) = (omega arith, omega arith) in
-    omega (arith, within)
-
-pub bounds-p-i : goal.bounds-p-i
-bounds-p-i c = let within : (c.loop-i.i < c.args.p.len) × (c.args.p.len ≤ 64) = (omega arith, omega arith) in
-    omega (arith, within)
-
-pub is_sound-requires-in-loop-i : goal.is_sound-requires-in-loop-i
-is_sound-requires-in-loop-i c = c.requires.words
-
 pub returns-then-not-is_sound-2 : goal.returns-then-not-is_sound-2
-returns-then-not-is_sound-2 c = let names : Names ℕ = numbersOf (table_of c.args.pool.now c.args.table.now) in
-    let held : List ℕ = c.args.table.now in
+returns-then-not-is_sound-2 c = let names : Names ℕ = numbersOf (table_of c.args.names.pool.now c.args.names.table.now) in
+    let held : List ℕ = c.args.names.table.now in
     let long : length c.args.p.factors ≡ 64 = c.well_formed.0.1.1.0.1.0.1 in
     let within : (c.loop-i.i < c.args.p.len) × (c.args.p.len ≤ 64) = (omega arith, omega arith) in
     let n : fine (names) (heldIn (held)) (factorAt c.args.p c.loop-i.i) ≡ false = sym (c.is_sound-in-loop-i.ensures (names)) ∙ c.if-not-is_sound-2.true in
     sym (not_taken _ _ c.args.p (long) (λ w. not-fine _ _ _ n (w.each _ (within).0)))
 
 pub order-requires : goal.order-requires
-order-requires c = let names : Names ℕ = numbersOf (table_of c.args.pool.now c.args.table.now) in
-    let held : List ℕ = c.args.table.now in
+order-requires c = let names : Names ℕ = numbersOf (table_of c.args.names.pool.now c.args.names.table.now) in
+    let held : List ℕ = c.args.names.table.now in
     let fined : Fine (names) (heldIn (held)) (factorAt c.args.p c.loop-i.i) = fine-facts _ _ _ (sym (c.is_sound-in-loop-i.ensures (names)) ∙ c.if-not-is_sound-2.false) in
     let k : c.loop-i.i - 1 < c.loop-i.i = omega arith in
-    record { good = c.requires; fine = rw c.loop-i.invariant.2 (c.loop-i.invariant.3.each _ k); fine_2 = fined }
+    record { fine = rw c.loop-i.invariant.2 (c.loop-i.invariant.3.each _ k); fine_2 = fined }
 
 pub returns-in-Equal : goal.returns-in-Equal
 returns-in-Equal c = let long : length c.args.p.factors ≡ 64 = c.well_formed.0.1.1.0.1.0.1 in
-    let names : Names ℕ = numbersOf (table_of c.args.pool.now c.args.table.now) in
+    let names : Names ℕ = numbersOf (table_of c.args.names.pool.now c.args.names.table.now) in
     let p = c.args.p in
     let i : suc (c.loop-i.i - 1) ≡ c.loop-i.i = omega arith in
     let j : suc (c.loop-i.i - 1) < p.len = omega arith in
@@ -86,18 +72,10 @@ returns-in-Equal c = let long : length c.args.p.factors ≡ 64 = c.well_formed.0
     let o = subst (λ (k : ℕ). orderAtom (names) (atomAt (factorAt p (c.loop-i.i - 1))) (atomAt (factorAt p k)) ≡ Ordering.lt) i (w.rises _ j) in
     later c.order.result (opened c.in-Equal.in-Equal-own.keys2) (c.order.ensures ∙ rw c.loop-i.invariant.2 o)))
 
-pub overflow_add-i : goal.overflow_add-i
-overflow_add-i c = let within : (c.loop-i.i < c.args.p.len) × (c.args.p.len ≤ 64) = (omega arith, omega arith) in
-    omega (arith, within)
-
-pub loop-i-smaller : goal.loop-i-smaller
-loop-i-smaller c = let within : (c.loop-i.i < c.args.p.len) × (c.args.p.len ≤ 64) = (omega arith, omega arith) in
-    omega (arith, within)
-
 pub loop-i-preserved : goal.loop-i-preserved
-loop-i-preserved c = let names : Names ℕ = numbersOf (table_of c.args.pool.now c.args.table.now) in
+loop-i-preserved c = let names : Names ℕ = numbersOf (table_of c.args.names.pool.now c.args.names.table.now) in
     let within : (c.loop-i.i < c.args.p.len) × (c.args.p.len ≤ 64) = (omega arith, omega arith) in
-    let held : List ℕ = c.args.table.now in
+    let held : List ℕ = c.args.names.table.now in
     let fined : Fine (names) (heldIn (held)) (factorAt c.args.p c.loop-i.i) = fine-facts _ _ _ (sym (c.is_sound-in-loop-i.ensures (names)) ∙ c.if-not-is_sound-2.false) in
     let p = c.args.p in
     let k : c.loop-i.i ≡ c.loop-i.i + 1 - 1 = omega arith in
@@ -109,5 +87,5 @@ pub returns : goal.returns
 returns c = let long : length c.args.p.factors ≡ 64 = c.well_formed.0.1.1.0.1.0.1 in
     let p = c.args.p in
     let i : c.loop-i.i ≡ p.len = omega arith in
-    let w = seen-well (omega arith) (long) (subst (Seen c.args.pool.now c.args.table.now p) i c.loop-i.invariant.3) in
+    let w = seen-well (omega arith) (long) (subst (Seen c.args.names.pool.now c.args.names.table.now p) i c.loop-i.invariant.3) in
     sym (ap isGot (well-given _ _ p w))

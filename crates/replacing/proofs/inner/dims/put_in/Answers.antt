@@ -1,30 +1,72 @@
--- `put_in` meets its contract.
+-- `put_in` meets its contract: the first of the four steps that refuses, refuses the whole.
+use Rattle.std.proofs.lemmas.Result.{err_from_is_err_and}
 use Rattle.products.specs.Held.{well-sound}
-use Rattle.replacing.specs.InProducts.{because, taken, only-whole, exp-good, first-fresh, second-fresh, third-fresh, put_first, put_second, put-third, put_last}
+use Rattle.replacing.specs.InProducts.{taken, only-whole, exp-good, D, L, M, put_first, put_second, put-third, put_last}
 use Rattle.replacing.proofs.inner.dims.put_in.Goals as goal
 
-pub returns-in_default : goal.returns-in_default
-returns-in_default c = λ a t w h. put_first c.args.pool.now c.args.table.now c.args.f c.requires.fine a t c.as_product-d.result (c.as_product-d.ensures t h) (because c.in_default.is)
+pub returns-in_err-bound : goal.returns-in_err-bound
+returns-in_err-bound c = λ a t w h.
+    let s = c.args in
+    let p = err_from_is_err_and c.from_residual.result c.from_residual.ensures.1 in
+    rw (p.1, p.2) (put_first s.pool.now s.table.now s.f c.requires.fine a t _ (c.in_err-bound.ensures t h))
 
-pub divided-left-requires : goal.divided-left-requires
-divided-left-requires c = record { good = c.requires.good; well = (taken c.args.pool.now c.args.table.now c.args.acc c.requires.whole.0 c.requires.whole.1).well; well_2 = (taken c.args.pool.now c.args.table.now c.only.result _ (only-whole c.args.pool.now c.args.table.now c.args.f c.requires.fine c.only.result c.only.ensures)).well }
+pub divided-requires-clause-well : goal.divided-requires-clause-well
+divided-requires-clause-well c = (taken c.args.pool.now c.args.table.now c.args.acc c.requires.whole.0 c.requires.whole.1).well
 
-pub returns-in_default-is_left : goal.returns-in_default-is_left
-returns-in_default-is_left c = λ a t w h. put_second c.args.pool.now c.args.table.now c.args.f c.requires.fine c.args.acc c.only.result a t w (only-whole c.args.pool.now c.args.table.now c.args.f c.requires.fine c.only.result c.only.ensures) h.good c.as_product-d.result c.divided-left.result (c.as_product-d.ensures t h) c.in-Good.is c.divided-left.ensures (because c.in_default-is_left.is)
+pub divided-requires-clause-well_2 : goal.divided-requires-clause-well_2
+divided-requires-clause-well_2 c =
+    let s = c.args in
+    (taken s.pool.now s.table.now c.only.result _ (only-whole s.pool.now s.table.now s.f c.requires.fine c.only.result c.only.ensures)).well
 
-pub raised-more-requires : goal.raised-more-requires
-raised-more-requires c =
-    let d = first-fresh c.args.pool.now c.args.table.now c.args.f c.requires.fine c.requires.by_index.0 c.requires.by_index.1.good c.as_product-d.result (c.as_product-d.ensures c.requires.by_index.0 c.requires.by_index.1) c.in-Good.is in
-    record { sound = well-sound (taken c.args.pool.now c.args.table.now _ d.tree d.whole).well; e_value = exp-good c.args.pool.now c.args.table.now c.args.f c.requires.fine }
+pub returns-in_err-left : goal.returns-in_err-left
+returns-in_err-left c = λ a t w h.
+    let s = c.args in
+    let o = only-whole s.pool.now s.table.now s.f c.requires.fine c.only.result c.only.ensures in
+    let p = err_from_is_err_and c.from_residual-in_err-left.result c.from_residual-in_err-left.ensures.1 in
+    rw (p.1, p.2)
+    (put_second s.pool.now s.table.now s.f c.requires.fine s.acc c.only.result a t w o h.good c.in_ok-bound.bound (c.in_ok-bound.ensures t h) _ c.in_err-left.ensures)
 
-pub returns-in_default-is_raised : goal.returns-in_default-is_raised
-returns-in_default-is_raised c = λ a t w h. put-third c.args.pool.now c.args.table.now c.args.f c.requires.fine c.args.acc c.only.result a t w (only-whole c.args.pool.now c.args.table.now c.args.f c.requires.fine c.only.result c.only.ensures) h.good c.as_product-d.result c.divided-left.result (c.as_product-d.ensures t h) c.in-Good.is c.divided-left.ensures c.raised-more.result c.in-Good-is_left.is c.raised-more.ensures (because c.in_default-is_raised.is)
+pub raised-requires-clause-sound : goal.raised-requires-clause-sound
+raised-requires-clause-sound c =
+    let s = c.args in
+    let (t, h) = c.requires.by_index in
+    let o = only-whole s.pool.now s.table.now s.f c.requires.fine c.only.result c.only.ensures in
+    let d = D s.pool.now s.table.now s.f c.requires.fine s.acc c.only.result c.requires.whole.0 t c.requires.whole.1 o h.good c.in_ok-bound.bound (c.in_ok-bound.ensures t h) in
+    well-sound (taken s.pool.now s.table.now _ d.tree d.whole).well
 
-pub multiplied-requires : goal.multiplied-requires
-multiplied-requires c =
-    let l = second-fresh c.args.pool.now c.args.table.now c.args.f c.requires.fine c.args.acc c.only.result c.requires.whole.0 c.requires.by_index.0 c.requires.whole.1 (only-whole c.args.pool.now c.args.table.now c.args.f c.requires.fine c.only.result c.only.ensures) c.requires.by_index.1.good c.as_product-d.result c.divided-left.result (c.as_product-d.ensures c.requires.by_index.0 c.requires.by_index.1) c.in-Good.is c.divided-left.ensures c.in-Good-is_left.is in
-    let m = third-fresh c.args.pool.now c.args.table.now c.args.f c.requires.fine c.args.acc c.only.result c.requires.whole.0 c.requires.by_index.0 c.requires.whole.1 (only-whole c.args.pool.now c.args.table.now c.args.f c.requires.fine c.only.result c.only.ensures) c.requires.by_index.1.good c.as_product-d.result c.divided-left.result (c.as_product-d.ensures c.requires.by_index.0 c.requires.by_index.1) c.in-Good.is c.divided-left.ensures c.raised-more.result c.in-Good-is_left.is c.raised-more.ensures c.in-Good-is_raised.is in
-    record { good = c.requires.good; well = (taken c.args.pool.now c.args.table.now _ l.tree l.whole).well; well_2 = (taken c.args.pool.now c.args.table.now _ m.tree m.whole).well }
+pub raised-requires-clause-e_value : goal.raised-requires-clause-e_value
+raised-requires-clause-e_value c = exp-good c.args.pool.now c.args.table.now c.args.f c.requires.fine
+
+pub returns-in_err-more : goal.returns-in_err-more
+returns-in_err-more c = λ a t w h.
+    let s = c.args in
+    let o = only-whole s.pool.now s.table.now s.f c.requires.fine c.only.result c.only.ensures in
+    let p = err_from_is_err_and c.from_residual-in_err-more.result c.from_residual-in_err-more.ensures.1 in
+    rw (p.1, p.2)
+    (put-third s.pool.now s.table.now s.f c.requires.fine s.acc c.only.result a t w o h.good c.in_ok-bound.bound (c.in_ok-bound.ensures t h)
+    c.in_ok-left.left c.in_ok-left.ensures _ c.in_err-more.ensures)
+
+pub multiplied-requires-clause-well : goal.multiplied-requires-clause-well
+multiplied-requires-clause-well c =
+    let s = c.args in
+    let (t, h) = c.requires.by_index in
+    let o = only-whole s.pool.now s.table.now s.f c.requires.fine c.only.result c.only.ensures in
+    let l = L s.pool.now s.table.now s.f c.requires.fine s.acc c.only.result c.requires.whole.0 t c.requires.whole.1 o h.good c.in_ok-bound.bound (c.in_ok-bound.ensures t h)
+    c.in_ok-left.left c.in_ok-left.ensures in
+    (taken s.pool.now s.table.now _ l.tree l.whole).well
+
+pub multiplied-requires-clause-well_2 : goal.multiplied-requires-clause-well_2
+multiplied-requires-clause-well_2 c =
+    let s = c.args in
+    let (t, h) = c.requires.by_index in
+    let o = only-whole s.pool.now s.table.now s.f c.requires.fine c.only.result c.only.ensures in
+    let m = M s.pool.now s.table.now s.f c.requires.fine s.acc c.only.result c.requires.whole.0 t c.requires.whole.1 o h.good c.in_ok-bound.bound (c.in_ok-bound.ensures t h)
+    c.in_ok-left.left c.in_ok-left.ensures c.in_ok-more.more c.in_ok-more.ensures in
+    (taken s.pool.now s.table.now _ m.tree m.whole).well
 
 pub returns : goal.returns
-returns c = λ a t w h. put_last c.args.pool.now c.args.table.now c.args.f c.requires.fine c.args.acc c.only.result a t w (only-whole c.args.pool.now c.args.table.now c.args.f c.requires.fine c.only.result c.only.ensures) h.good c.as_product-d.result c.divided-left.result (c.as_product-d.ensures t h) c.in-Good.is c.divided-left.ensures c.raised-more.result c.in-Good-is_left.is c.raised-more.ensures c.in-Good-is_raised.is c.multiplied.result c.multiplied.ensures
+returns c = λ a t w h.
+    let s = c.args in
+    let o = only-whole s.pool.now s.table.now s.f c.requires.fine c.only.result c.only.ensures in
+    put_last s.pool.now s.table.now s.f c.requires.fine s.acc c.only.result a t w o h.good c.in_ok-bound.bound (c.in_ok-bound.ensures t h)
+    c.in_ok-left.left c.in_ok-left.ensures c.in_ok-more.more c.in_ok-more.ensures _ c.multiplied.ensures

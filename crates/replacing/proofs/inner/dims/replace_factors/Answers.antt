@@ -1,8 +1,9 @@
 -- `replace_factors` meets its contract: so many factors are done, and doing the rest gives the whole.
 use mathlib.Core.Path.{sym, ap, ◌∙◌}
 use native.Mathlib.Omega.{arith}
+use Rattle.std.proofs.lemmas.Result.{err_from_is_err_and}
 use Rattle.products.specs.Told.{answer}
-use Rattle.replacing.specs.InProducts.{because, taken, fine-at, going_start, going-stop, going_on, going_end}
+use Rattle.replacing.specs.InProducts.{taken, fine-told, fine-at, going_start, going-stop, going_on, going_end}
 use Rattle.replacing.proofs.inner.dims.replace_factors.Goals as goal
 
 pub loop-i-init : goal.loop-i-init
@@ -12,19 +13,27 @@ pub factor_at-f-requires : goal.factor_at-f-requires
 factor_at-f-requires c =
     omega (arith, (taken c.args.pool.now c.args.table.now c.args.p c.requires.whole.0 c.requires.whole.1).well.few)
 
-pub replace_factor-t-requires : goal.replace_factor-t-requires
-replace_factor-t-requires c =
+pub replace_factor-requires : goal.replace_factor-requires
+replace_factor-requires c =
+    let s = c.args in
     let n = c.loop-i in
-    let g = n.invariant.1 c.requires.whole.0 c.requires.by_index.0 c.requires.whole.1 c.requires.by_index.1 in
-    record { good = c.requires.good; whole = (g.tree, g.whole); fine = rw c.factor_at-f.ensures (fine-at c.args.pool.now c.args.table.now c.args.p c.requires.whole.0 c.requires.by_index.0 c.requires.whole.1 n.i c.loop-i-test.true); by_index = c.requires.by_index }
+    let (a, w) = c.requires.whole in
+    let g = n.invariant.1 a c.requires.by_index.0 w c.requires.by_index.1 in
+    record {
+      good = c.requires.good;
+      whole = (g.tree, g.whole);
+      fine = rw c.factor_at-f.ensures (fine-at s.pool.now s.table.now s.p a c.requires.by_index.0 w n.i c.loop-i-test.true);
+      by_index = c.requires.by_index;
+    }
 
-pub returns-in_default : goal.returns-in_default
-returns-in_default c = λ a look w l.
+pub returns-in_err-acc : goal.returns-in_err-acc
+returns-in_err-acc c = λ a look w l.
     let s = c.args in
     let n = c.loop-i in
     let g = n.invariant.1 a look w l in
-    let h = rw c.factor_at-f.ensures at (c.replace_factor-t.ensures g.tree look g.whole l) in
-    going-stop s.pool.now s.table.now s.p a look w n.acc n.i c.loop-i-test.true g c.replace_factor-t.result h (because c.in_default.is)
+    let h = rw c.factor_at-f.ensures at (c.in_err-acc.ensures g.tree look g.whole l) in
+    let p = err_from_is_err_and c.from_residual.result c.from_residual.ensures.1 in
+    rw (p.1, p.2) (going-stop s.pool.now s.table.now s.p a look w n.acc n.i c.loop-i-test.true g _ h)
 
 pub overflow_add-i : goal.overflow_add-i
 overflow_add-i c =
@@ -37,8 +46,8 @@ loop-i-preserved c = (
       let s = c.args in
       let n = c.loop-i in
       let g = n.invariant.1 a look w l in
-      let h = rw c.factor_at-f.ensures at (c.replace_factor-t.ensures g.tree look g.whole l) in
-      going_on s.pool.now s.table.now s.p a look w n.acc n.i c.loop-i-test.true g c.replace_factor-t.result h l.good c.in-Good.is,
+      let h = rw c.factor_at-f.ensures at (c.in_ok-acc.ensures g.tree look g.whole l) in
+      going_on s.pool.now s.table.now s.p a look w n.acc n.i c.loop-i-test.true g l.good _ h,
 )
 
 pub returns : goal.returns
@@ -46,4 +55,4 @@ returns c = λ a look w l.
     let s = c.args in
     let n = c.loop-i in
     let g = n.invariant.1 a look w l in
-    c.made.ensures g.tree g.whole.is ∙ ap answer (sym (going_end s.pool.now s.table.now s.p a look w n.acc n.i c.loop-i-test.false g))
+    fine-told _ g.tree g.whole.is ∙ ap answer (sym (going_end s.pool.now s.table.now s.p a look w n.acc n.i c.loop-i-test.false g))

@@ -1,0 +1,28 @@
+-- The calls, check by check, as rules for `grind`.
+use mathlib.Core.Path.{◌≡◌, sym}
+use mathlib.Core.Bool.{true, false}
+use mathlib.Core.List.{List}
+use Prim.Native.Nat.{ℕ}
+use lib.ListN.{length}
+use Rattle.std.proofs.lemmas.Bool.Decides.{nat_tests}
+use Rattle.rules.specs.Base.{got, refused}
+use Rattle.rules.specs.Names.{tableGiven}
+use Rattle.rules.specs.Values.{ProductValue, productGiven}
+use Rattle.laws.specs.NameTable.{Good, given-good}
+use Rattle.products.specs.declared.Product.{Product}
+use Rattle.products.specs.Told.{given, isGot, answer}
+use Rattle.products.specs.Held.{Well, taken-well, well-sound, refused-one}
+use Rattle.products.specs.Places.{given-len}
+use Rattle.products.specs.Entry.{Entered, entry_of, entered, entry-good, multiply-stopped, multiply-both, multiply-one, divide-stopped, divide-both, divide-one, inverse-stopped, inverse-goes, raise-stopped, raise-goes}
+
+pub entered-good : (pool table : List ℕ) (p : Product) → length p.factors ≡ 64 → entry_of pool table (given p) ≡ got tt → Good pool table
+entered-good pool table p long h = (entered pool table p long h).good
+
+pub entered-well : (pool table : List ℕ) (p : Product) → length p.factors ≡ 64 → entry_of pool table (given p) ≡ got tt → Well pool table p
+entered-well pool table p long h = (entered pool table p long h).well
+
+pub ruleset entering = (taken-well, refused-one, entry-good)
+
+pub ruleset calls = (entered, entered-good, entered-well, taken-well, well-sound, multiply-stopped, multiply-both, multiply-one, divide-stopped, divide-both, divide-one, inverse-stopped, inverse-goes, raise-stopped, raise-goes)
+
+pub ruleset counting = (nat_tests, given-len)
