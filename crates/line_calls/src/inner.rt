@@ -14,9 +14,8 @@ ghost use Rattle.line_calls.specs.Typed.{Typed, setType, Confirmed};
 ghost use Rattle.line_calls.specs.Whole.{LineHeld, LineTyped};
 
 use lending::Answer;
-use line_steps::inner::writing::{Put, put_line};
+use line_steps::inner::writing::put_line;
 use lines::inner::enter_line;
-use names::old::Checked;
 use places::inner::fill;
 use proposals::inner::bounds::mark_all;
 use queries::inner::is_unmixed;
@@ -24,7 +23,7 @@ use records::inner::{copy, put_one};
 use records::{Open, View};
 use replacing::inner::bound::look_up;
 use rules::{NAMES, RECORD_WORDS, Refusal};
-use solving::Outcome;
+use solving::Finish;
 use solving::inner::run_alone;
 use trials::inner::try_all;
 
@@ -89,11 +88,10 @@ fn settle(pool: &[u8], table: &[u32], set: &[u32], v: u32, work: &mut [u32]) -> 
     copy(set, 0, n, work, 0);
     let mut found = [0u32; RECORD_WORDS];
     let s = run_alone(pool, table, n, &mut found, work);
-    let outcome = s.outcome;
-    match outcome {
-        Outcome::Solved(b, k) => confirm(pool, table, set, &found, b, k, v, work),
-        Outcome::Unsolved(_) => Answer::Refused(Refusal::Unsolved),
-        Outcome::Refused(k) => Answer::Refused(k),
+    match s.outcome {
+        Ok(Finish::Solved(b, k)) => confirm(pool, table, set, &found, b, k, v, work),
+        Ok(Finish::Unsolved(_)) => Answer::Refused(Refusal::Unsolved),
+        Err(k) => Answer::Refused(k),
     }
 }
 
@@ -114,12 +112,12 @@ fn type_line(
 {
     let mut set = [0u32; RECORD_WORDS];
     match put_line(pool, table, types, lines, steps, names, &mut set) {
-        Put::Records(n) => {
+        Ok(n) => {
             let v = names[steps.len() / 4 - 1];
             let e = n * 4;
             settle(pool, table, &set[0..e], v, work)
         }
-        Put::TooLarge => Answer::Refused(Refusal::TooLarge),
+        Err(k) => Answer::Refused(k),
     }
 }
 
@@ -139,7 +137,7 @@ pub fn make_line(
     ensures { Made (checkedLine (table_of pool.now table.now) steps.now types.now lines.now names.now) work.new result }
 {
     match enter_line(pool, table, steps, types, lines, names) {
-        Checked::Good => type_line(pool, table, steps, types, lines, names, work),
-        Checked::Refused(k) => Answer::Refused(k),
+        Ok(()) => type_line(pool, table, steps, types, lines, names, work),
+        Err(k) => Answer::Refused(k),
     }
 }
