@@ -2,5 +2,6 @@ pub mod Told
 pub mod Steps
 pub mod Checks
 pub mod Promise
+pub mod Theorems
 pub mod Determined
 pub mod Cases

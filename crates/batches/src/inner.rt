@@ -5,21 +5,20 @@ ghost use Rattle.std.proofs.Math.Seq.{slice};
 ghost use Rattle.rules.specs.Base.{need, sum_of, got};
 ghost use Rattle.rules.specs.Calls.{solvedSet};
 ghost use Rattle.rules.specs.Names.{table_of, tableGood, lentTable};
-ghost use Rattle.names.specs.Old.{toldChecked};
-ghost use Rattle.solving.specs.Told.{told};
+ghost use Rattle.solving.specs.Told.{toldSolution};
+ghost use Rattle.rules.specs.Refusals.{told};
 ghost use Rattle.rules.specs.Batches.{batchLent, batchFits, fourWords, recordsOf};
 ghost use Rattle.batches.specs.Steps.{Written, Stepped, Begun, Finished};
 
-use names::old::Checked;
 use records::inner::put;
 use rules::{POOL_BYTES, RECORD_WORDS, Refusal, TABLE_WORDS, WORK_WORDS};
 use solving::inner::solve_set;
-use solving::{Outcome, Solution};
+use solving::{Finish, Solution};
 
-// How many sets one call takes.
+/// How many sets one call takes.
 pub const SETS: usize = 64;
 
-// Is everything that is lent long enough for so many sets? A quotient, since a product could pass 64 bits.
+/// Is everything that is lent long enough for so many sets? A quotient, since a product could pass 64 bits.
 pub fn all_lent(
     pool: &[u8],
     table: &[u32],
@@ -51,38 +50,35 @@ fn total(lengths: &[u32]) -> usize
     ensures { (result ≡ sum_of (λ n. n) lengths.now) × (result < 274877906944) }
 {
     let mut sum: usize = 0;
-    let mut k = 0;
-    while k < lengths.len() {
-        sum += lengths[k] as usize;
-        k += 1;
+    for n in lengths {
+        sum += *n as usize;
     }
     sum
 }
 
-// At most 64 sets (8), whose lengths add up to the list (1).
-pub fn fits(sets: &[u32], lengths: &[u32]) -> Checked
-    ensures { toldChecked result ≡ batchFits sets.now lengths.now }
+/// At most 64 sets (8), whose lengths add up to the list (1).
+pub fn fits(sets: &[u32], lengths: &[u32]) -> Result<(), Refusal>
+    ensures { told result ≡ batchFits sets.now lengths.now }
 {
     if SETS < lengths.len() {
-        return Checked::Refused(Refusal::TooLarge);
+        return Err(Refusal::TooLarge);
     }
     if total(lengths) * 4 == sets.len() {
-        Checked::Good
+        Ok(())
     } else {
-        Checked::Refused(Refusal::Malformed)
+        Err(Refusal::Malformed)
     }
 }
 
 // How many records a set's answer has.
 fn records(s: Solution) -> usize
-    requires { recordsOf (told s) ≤ 2048 }
-    ensures { result ≡ recordsOf (told s) }
+    requires { recordsOf (toldSolution s) ≤ 2048 }
+    ensures { result ≡ recordsOf (toldSolution s) }
 {
-    let outcome = s.outcome;
-    match outcome {
-        Outcome::Solved(b, n) => b + n,
-        Outcome::Unsolved(n) => n,
-        Outcome::Refused(_) => 0,
+    match s.outcome {
+        Ok(Finish::Solved(b, n)) => b + n,
+        Ok(Finish::Unsolved(n)) => n,
+        Err(_) => 0,
     }
 }
 
@@ -100,15 +96,14 @@ fn put_four(d: &mut [u32], at: usize, refusal: u32, rounds: u32, first: u32, sec
 // Puts what a set was answered.
 fn put_answer(answers: &mut [u32], at: usize, s: Solution)
     requires at_bound { at < 1000 }
-    requires s_bound { recordsOf (told s) ≤ 2048 }
-    ensures { answers.new ≡ sets answers.old at (fourWords (told s)) }
+    requires s_bound { recordsOf (toldSolution s) ≤ 2048 }
+    ensures { answers.new ≡ sets answers.old at (fourWords (toldSolution s)) }
 {
     let k = s.rounds;
-    let outcome = s.outcome;
-    match outcome {
-        Outcome::Solved(b, n) => put_four(answers, at, 0, k, b as u32, n as u32),
-        Outcome::Unsolved(n) => put_four(answers, at, 5, k, n as u32, 0),
-        Outcome::Refused(r) => put_four(answers, at, r.number(), k, 0, 0),
+    match s.outcome {
+        Ok(Finish::Solved(b, n)) => put_four(answers, at, 0, k, b as u32, n as u32),
+        Ok(Finish::Unsolved(n)) => put_four(answers, at, 5, k, n as u32, 0),
+        Err(r) => put_four(answers, at, r.number(), k, 0, 0),
     }
 }
 
@@ -126,7 +121,7 @@ fn solve_one(
     requires good_value { good ≡ tableGood (table_of pool.now table.now) }
     requires at_in_bounds { at + 8192 ≤ length res.old }
     requires in_bounds { 16384 ≤ length work.old }
-    ensures { Written (solvedSet (table_of pool.now table.now) words.now) (told result) res.old res.new at }
+    ensures { Written (solvedSet (table_of pool.now table.now) words.now) (toldSolution result) res.old res.new at }
 {
     let end = at + RECORD_WORDS;
     solve_set(pool, table, good, words, &mut res[at..end], work)
@@ -157,7 +152,7 @@ fn step(
     out + records(s)
 }
 
-// Solves each set; how many records were written.
+/// Solves each set; how many records were written.
 pub fn solve_each(
     pool: &[u8],
     table: &[u32],

@@ -2,6 +2,7 @@
 #![tactic(auto)]
 
 pub mod inner;
+pub mod theorems;
 
 ghost use Rattle.std.specs.Prelude.{◌≡◌};
 ghost use Rattle.rules.specs.Batches.{batchCall};
@@ -10,11 +11,13 @@ ghost use Rattle.batches.specs.Told.{batchAs};
 use inner::{all_lent, fits, solve_each};
 use lending::inner::clear;
 use names::inner::is_good;
-use names::old::Checked;
 use rules::Refusal;
 
-// The sets stand back to back in `sets`, each as long as `lengths` says in records. Their answers are written back to back, and of each set
-// four words go into `answers`: refusal or 0, completed rounds, records of bindings or of what remains, records of bounds.
+/// Solves several sets. They stand back to back in `sets`, each as long as `lengths` says in records. Their answers are written back to back to the
+/// result buffer, and of each set four words go into `answers`: refusal or 0, completed rounds, records of bindings or of what remains, records of
+/// bounds. It answers how many records were written.
+/// Refusals of the whole: 10, something that is lent is too short; 8, more than 64 sets; 1, the lengths don't add up. They leave the result buffer
+/// and `answers` as they were. But for 10 the work buffer is left all zero.
 pub fn solve_all(
     pool: &[u8],
     table: &[u32],
@@ -30,13 +33,13 @@ pub fn solve_all(
         return Err(Refusal::ShortBuffer);
     }
     match fits(sets, lengths) {
-        Checked::Good => {
+        Ok(()) => {
             let good = is_good(pool, table);
             let n = solve_each(pool, table, good, sets, lengths, res, answers, work);
             clear(work);
             Ok(n)
         }
-        Checked::Refused(r) => {
+        Err(r) => {
             clear(work);
             Err(r)
         }

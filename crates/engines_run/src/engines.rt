@@ -1,6 +1,7 @@
 // What each engine answers, in one form.
 use eliminating::Eliminated;
 use rules::Refusal;
+use solving::Finish;
 
 // The number of an outcome (0, 5, or the refusal's), the records of bindings or of what remains, and those of bounds.
 #[derive(Clone, Copy)]
@@ -30,19 +31,19 @@ fn refused(r: Refusal) -> Told {
     }
 }
 
-fn told_solved(o: solving::Outcome) -> Told {
+fn told_solved(o: Result<Finish, Refusal>) -> Told {
     match o {
-        solving::Outcome::Solved(n, m) => Told {
+        Ok(Finish::Solved(n, m)) => Told {
             number: 0,
             records: n,
             bounds: m,
         },
-        solving::Outcome::Unsolved(n) => Told {
+        Ok(Finish::Unsolved(n)) => Told {
             number: 5,
             records: n,
             bounds: 0,
         },
-        solving::Outcome::Refused(r) => refused(r),
+        Err(r) => refused(r),
     }
 }
 

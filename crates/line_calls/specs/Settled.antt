@@ -1,7 +1,7 @@
 -- What solving leaves for the judge: bindings and bounds, well formed and at the front of a buffer; or a refusal.
 use Rattle.std.proofs.Math.Path.{◌≡◌, refl, sym, ap, subst}
 use Rattle.std.proofs.Common.{◌∙◌, arith, le-leb}
-use Rattle.std.specs.Prelude.{Result, Err, Bool, true, false, List, ◌++◌, map, ℕ, ◌/◌, leb}
+use Rattle.std.specs.Prelude.{Bool, true, false, List, ◌++◌, map, ℕ, ◌/◌, leb, Result, Ok, Err}
 use Rattle.std.proofs.Math.ListN.{length}
 use Rattle.rules.specs.Base.{Got, got, refused, ◌>>=◌, ◌>>◌, bounded, collect, sum_of}
 use Rattle.rules.specs.Trees.{var, Con, Binding, opensCon, sizeCon, sizeBinding}
@@ -25,9 +25,9 @@ use Rattle.records.specs.Good.{numbers, holding}
 use Rattle.queries.specs.Scans.{opensIn}
 use Rattle.lending.specs.Told.{Made}
 use Rattle.solving.specs.Told.{toldOutcome, Answered}
-use Rattle.solving.specs.declared.Outcome.{Outcome}
+use Rattle.finishing.specs.declared.Finish.{Finish}
 use Rattle.solving.specs.declared.Solution.{Solution}
-use Rattle.solving.specs.declared.Outcome.TheVariants as outcome
+use Rattle.finishing.specs.declared.Finish.TheVariants as finish
 use Rattle.line_calls.specs.Standing.{SetStands, FoundStands, found-stands, set-opens}
 use Rattle.line_calls.specs.Typed.{typeRecs, judgedType, setType, refused-made}
 
@@ -44,10 +44,10 @@ pub record Accepts (a : Answer ℕ) (found₀ found : List ℕ) (b n : ℕ) : Ty
   pub buffer : found ≡ over (words (collect writeBinding bs ++ map (λ n. writeBound (var n)) ns)) found₀
 
 module _ (a : Answer ℕ) (found₀ found : List ℕ) (s : Solution) (h : Answered (got a) found₀ found s) where
-  says : {o : Outcome} → s.outcome ≡ o → toldOutcome o s.rounds ≡ solvedOf (got a)
-  says i = ap (λ (o : Outcome). toldOutcome o s.rounds) (sym i) ∙ h.answer
+  says : {o : Result Finish Refusal} → s.outcome ≡ o → toldOutcome o s.rounds ≡ solvedOf (got a)
+  says i = ap (λ (o : Result Finish Refusal). toldOutcome o s.rounds) (sym i) ∙ h.answer
 
-  pub accepts : {b n : ℕ} → s.outcome ≡ outcome.Solved b n → Accepts a found₀ found b n
+  pub accepts : {b n : ℕ} → s.outcome ≡ Ok (finish.Solved b n) → Accepts a found₀ found b n
   unfolding solvedOf solvedWords resultAfter
   accepts {b} {n} i = go a refl (says i) h.buffer
     where
@@ -56,7 +56,7 @@ module _ (a : Answer ℕ) (found₀ found : List ℕ) (s : Solution) (h : Answer
       go (remaining cs k) e p q = let z : ◌≡◌ {A = ℕ} 0 1 = cc in absurd (omega arith)
       go (stopped j k) e p q = let z : ◌≡◌ {A = ℕ} 0 1 = cc in absurd (omega arith)
 
-  pub remains : {n : ℕ} → s.outcome ≡ outcome.Unsolved n → settled a ≡ refused 5
+  pub remains : {n : ℕ} → s.outcome ≡ Ok (finish.Unsolved n) → settled a ≡ refused 5
   unfolding solvedOf settled
   remains {n} i = go a (says i)
     where
@@ -65,7 +65,7 @@ module _ (a : Answer ℕ) (found₀ found : List ℕ) (s : Solution) (h : Answer
       go (remaining cs k) p = refl
       go (stopped j k) p = let z : ◌≡◌ {A = ℕ} 0 1 = cc in absurd (omega arith)
 
-  pub stops : {r : Refusal} → s.outcome ≡ outcome.Refused r → settled a ≡ refused (number_of r)
+  pub stops : {r : Refusal} → s.outcome ≡ Err r → settled a ≡ refused (number_of r)
   unfolding solvedOf settled
   stops {r} i = go a (says i)
     where

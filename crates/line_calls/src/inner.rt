@@ -13,9 +13,8 @@ ghost use Rattle.line_calls.specs.Standing.{SetStands, FoundStands};
 ghost use Rattle.line_calls.specs.Typed.{Typed, setType, Confirmed};
 ghost use Rattle.line_calls.specs.Whole.{LineHeld, LineTyped};
 
-use line_steps::inner::writing::{Put, put_line};
+use line_steps::inner::writing::put_line;
 use lines::inner::enter_line;
-use names::old::Checked;
 use places::inner::fill;
 use proposals::inner::bounds::mark_all;
 use queries::inner::is_unmixed;
@@ -23,7 +22,7 @@ use records::inner::{copy, put_one};
 use records::{Open, View};
 use replacing::inner::bound::look_up;
 use rules::{NAMES, RECORD_WORDS, Refusal};
-use solving::Outcome;
+use solving::Finish;
 use solving::inner::run_alone;
 use trials::inner::try_all;
 
@@ -94,11 +93,10 @@ fn settle(
     copy(set, 0, n, work, 0);
     let mut found = [0u32; RECORD_WORDS];
     let s = run_alone(pool, table, n, &mut found, work);
-    let outcome = s.outcome;
-    match outcome {
-        Outcome::Solved(b, k) => confirm(pool, table, set, &found, b, k, v, work),
-        Outcome::Unsolved(_) => Err(Refusal::Unsolved),
-        Outcome::Refused(k) => Err(k),
+    match s.outcome {
+        Ok(Finish::Solved(b, k)) => confirm(pool, table, set, &found, b, k, v, work),
+        Ok(Finish::Unsolved(_)) => Err(Refusal::Unsolved),
+        Err(k) => Err(k),
     }
 }
 
@@ -119,12 +117,12 @@ fn type_line(
 {
     let mut set = [0u32; RECORD_WORDS];
     match put_line(pool, table, types, lines, steps, names, &mut set) {
-        Put::Records(n) => {
+        Ok(n) => {
             let v = names[steps.len() / 4 - 1];
             let e = n * 4;
             settle(pool, table, &set[0..e], v, work)
         }
-        Put::TooLarge => Err(Refusal::TooLarge),
+        Err(k) => Err(k),
     }
 }
 
@@ -144,7 +142,7 @@ pub fn make_line(
     ensures { Made (checkedLine (table_of pool.now table.now) steps.now types.now lines.now names.now) work.new result }
 {
     match enter_line(pool, table, steps, types, lines, names) {
-        Checked::Good => type_line(pool, table, steps, types, lines, names, work),
-        Checked::Refused(k) => Err(k),
+        Ok(()) => type_line(pool, table, steps, types, lines, names, work),
+        Err(k) => Err(k),
     }
 }

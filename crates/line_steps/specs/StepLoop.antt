@@ -1,5 +1,5 @@
 -- The constraints of a line, step by step, with a stack that grows downward.
-use Rattle.std.specs.Prelude.{◌≡◌, refl, ◌&&◌, ℕ, zero, suc, ◌+◌, ◌*◌, ◌-◌, ◌/◌, ◌<◌, ◌≤◌, leb, get_or, set, drop, replicate}
+use Rattle.std.specs.Prelude.{Result, Ok, Err, ◌≡◌, refl, ◌&&◌, ℕ, zero, suc, ◌+◌, ◌*◌, ◌-◌, ◌/◌, ◌<◌, ◌≤◌, leb, get_or, set, drop, replicate}
 use Rattle.std.proofs.Math.Path.{sym, ap, subst}
 use Rattle.std.proofs.Common.{◌∙◌, zero-add, add-one, length-drop, length-set, drop-cons, drop-drop, get_or-drop}
 use Rattle.std.proofs.Math.Bool.{true}
@@ -28,8 +28,8 @@ use Rattle.lines.specs.StepLists.{fourOf, stepsFrom, operandsOf, of_number}
 use Rattle.lines.specs.Entry.{this, steps-some}
 use Rattle.line_steps.specs.StepPuts.{deedBy, Says, step-says}
 use Rattle.line_steps.specs.StepSizes.{Sized}
-use Rattle.line_steps.specs.declared.inner.writing.Put.{Put}
-use Rattle.line_steps.specs.declared.inner.writing.Put.TheVariants as put
+use Rattle.rules.specs.declared.Refusal.{Refusal}
+use Rattle.rules.specs.declared.Refusal.TheVariants.{TooLarge}
 
 -- ══ Operands from a stack ══
 
@@ -213,9 +213,9 @@ pub record Wrote (cs : List (Con ℕ)) (d₀ d : List ℕ) (n : ℕ) : Type 0 wh
   pub within : n ≤ 2048
   pub laid : d ≡ sets d₀ 0 (words (collect writeCon cs))
 
-abbrev pub Issues : List (Con ℕ) → List ℕ → List ℕ → Put → Type 0
-Issues cs d₀ d (put.Records n) = Wrote cs d₀ d n
-Issues cs d₀ d put.TooLarge = 2048 < sum_of sizeCon cs
+abbrev pub Issues : List (Con ℕ) → List ℕ → List ℕ → Result ℕ Refusal → Type 0
+Issues cs d₀ d (Ok n) = Wrote cs d₀ d n
+Issues cs d₀ d (Err r) = (r ≡ TooLarge) × (2048 < sum_of sizeCon cs)
 
 module _ (pool table types lines steps : List ℕ) where
   -- the steps were read, and each finds its operands
@@ -286,6 +286,6 @@ module _ (pool table types lines steps : List ℕ) where
           }
 
 -- whatever steps were read: their constraints were written, or are too many
-abbrev pub SetPut : List ℕ → List ℕ → List ℕ → List ℕ → List ℕ → List ℕ → List ℕ → List ℕ → Put → Type 0
+abbrev pub SetPut : List ℕ → List ℕ → List ℕ → List ℕ → List ℕ → List ℕ → List ℕ → List ℕ → Result ℕ Refusal → Type 0
 SetPut pool table types lines steps names d₀ d r =
     (ss : List (LineStep ℕ)) → LineIs pool table types lines steps ss → Issues (constraints (numbersOf (table_of pool table)) names [] ss) d₀ d r

@@ -8,7 +8,7 @@ ghost use Rattle.rules.specs.Names.{Table, table_of};
 ghost use Rattle.rules.specs.Writing.{Rec, signed};
 ghost use Rattle.rules.specs.Calls.{type_at};
 ghost use Rattle.laws.specs.NameTable.{Good};
-ghost use Rattle.names.specs.Old.{toldChecked};
+ghost use Rattle.rules.specs.Refusals.{told};
 ghost use Rattle.records.specs.Views.{recs};
 ghost use Rattle.rules.specs.Steps.{four, isConstant, isReference, isRaise, zeros, constantAt, referenceTo, raiseBy, step_of, stepGiven, lineGiven};
 ghost use Rattle.rules.specs.Lines.{lineLent, lineShort};
@@ -19,7 +19,6 @@ use exponents::Exponent;
 use fresh::{all_held, is_fresh};
 use lending::lent;
 use names::inner::is_good;
-use names::old::Checked;
 use queries::inner::closed_at;
 use records::inner::type_end;
 use rules::{NESTED, RECORD_WORDS, RECORDS, Refusal};
@@ -68,48 +67,54 @@ fn short(steps: &[u32], types: &[u32], lines: &[u32], names: &[u32]) -> bool
 }
 
 // 1, unless it is so.
-fn or_malformed(good: bool) -> Checked
-    ensures { toldChecked result ≡ need good 1 }
+fn or_malformed(good: bool) -> Result<(), Refusal>
+    ensures { told result ≡ need good 1 }
 {
     if good {
-        Checked::Good
+        Ok(())
     } else {
-        Checked::Refused(Refusal::Malformed)
+        Err(Refusal::Malformed)
     }
 }
 
 // Does a well formed type start at a place?
-fn type_here(pool: &[u8], table: &[u32], types: &[u32], at: u32) -> Checked
+fn type_here(pool: &[u8], table: &[u32], types: &[u32], at: u32) -> Result<(), Refusal>
     requires { Good pool.now table.now }
-    ensures { toldChecked result ≡ isGiven (type_at (table_of pool.now table.now) (recs types.now) at) }
+    ensures { told result ≡ isGiven (type_at (table_of pool.now table.now) (recs types.now) at) }
 {
     match type_end(pool, table, 0, types, at as usize, NESTED) {
-        Some(_) => Checked::Good,
-        None => Checked::Refused(Refusal::Malformed),
+        Some(_) => Ok(()),
+        None => Err(Refusal::Malformed),
     }
 }
 
 // And is it closed?
-fn constant_here(pool: &[u8], table: &[u32], types: &[u32], at: u32) -> Checked
+fn constant_here(pool: &[u8], table: &[u32], types: &[u32], at: u32) -> Result<(), Refusal>
     requires { Good pool.now table.now }
-    ensures { (lines : List ℕ) → toldChecked result ≡ isGiven (constantAt (table_of pool.now table.now) (recs types.now) lines at) }
+    ensures { (lines : List ℕ) → told result ≡ isGiven (constantAt (table_of pool.now table.now) (recs types.now) lines at) }
 {
     match type_end(pool, table, 0, types, at as usize, NESTED) {
         Some(_) => or_malformed(closed_at(types, at as usize)),
-        None => Checked::Refused(Refusal::Malformed),
+        None => Err(Refusal::Malformed),
     }
 }
 
 // Is there an earlier line with this number, and a well formed type at its place?
-fn reference_here(pool: &[u8], table: &[u32], types: &[u32], lines: &[u32], i: u32) -> Checked
+fn reference_here(
+    pool: &[u8],
+    table: &[u32],
+    types: &[u32],
+    lines: &[u32],
+    i: u32,
+) -> Result<(), Refusal>
     requires { Good pool.now table.now }
-    ensures { toldChecked result ≡ isGiven (referenceTo (table_of pool.now table.now) (recs types.now) lines.now i) }
+    ensures { told result ≡ isGiven (referenceTo (table_of pool.now table.now) (recs types.now) lines.now i) }
 {
     let k = i as usize;
     if k < lines.len() {
         type_here(pool, table, types, lines[k])
     } else {
-        Checked::Refused(Refusal::Malformed)
+        Err(Refusal::Malformed)
     }
 }
 
@@ -135,14 +140,21 @@ fn three_zeros(a: u32, b: u32, c: u32) -> bool
 }
 
 // The constant with these words.
-fn constant_step(pool: &[u8], table: &[u32], types: &[u32], a: u32, b: u32, c: u32) -> Checked
+fn constant_step(
+    pool: &[u8],
+    table: &[u32],
+    types: &[u32],
+    a: u32,
+    b: u32,
+    c: u32,
+) -> Result<(), Refusal>
     requires { Good pool.now table.now }
-    ensures { (lines : List ℕ) → toldChecked result ≡ isGiven (step_of (table_of pool.now table.now) (recs types.now) lines isConstant a b c) }
+    ensures { (lines : List ℕ) → told result ≡ isGiven (step_of (table_of pool.now table.now) (recs types.now) lines isConstant a b c) }
 {
     if two_zeros(b, c) {
         constant_here(pool, table, types, a)
     } else {
-        Checked::Refused(Refusal::Malformed)
+        Err(Refusal::Malformed)
     }
 }
 
@@ -155,25 +167,25 @@ fn reference_step(
     a: u32,
     b: u32,
     c: u32,
-) -> Checked
+) -> Result<(), Refusal>
     requires { Good pool.now table.now }
-    ensures { toldChecked result ≡ isGiven (step_of (table_of pool.now table.now) (recs types.now) lines.now isReference a b c) }
+    ensures { told result ≡ isGiven (step_of (table_of pool.now table.now) (recs types.now) lines.now isReference a b c) }
 {
     if two_zeros(b, c) {
         reference_here(pool, table, types, lines, a)
     } else {
-        Checked::Refused(Refusal::Malformed)
+        Err(Refusal::Malformed)
     }
 }
 
 // The power with these words.
-fn raise_step(a: u32, b: u32, c: u32) -> Checked
-    ensures { (t : Table) (rs : List Rec) (lines : List ℕ) → toldChecked result ≡ isGiven (step_of t rs lines isRaise a b c) }
+fn raise_step(a: u32, b: u32, c: u32) -> Result<(), Refusal>
+    ensures { (t : Table) (rs : List Rec) (lines : List ℕ) → told result ≡ isGiven (step_of t rs lines isRaise a b c) }
 {
     if a == 0 {
         or_malformed(raise_here(b, c))
     } else {
-        Checked::Refused(Refusal::Malformed)
+        Err(Refusal::Malformed)
     }
 }
 
@@ -187,27 +199,33 @@ fn step_here(
     a: u32,
     b: u32,
     c: u32,
-) -> Checked
+) -> Result<(), Refusal>
     requires { Good pool.now table.now }
-    ensures { toldChecked result ≡ isGiven (stepGiven (table_of pool.now table.now) (recs types.now) lines.now (four k a b c)) }
+    ensures { told result ≡ isGiven (stepGiven (table_of pool.now table.now) (recs types.now) lines.now (four k a b c)) }
 {
     match k {
         1 => constant_step(pool, table, types, a, b, c),
         2 => reference_step(pool, table, types, lines, a, b, c),
         7 => raise_step(a, b, c),
         3 | 4 | 5 | 6 | 8 | 9 => or_malformed(three_zeros(a, b, c)),
-        _ => Checked::Refused(Refusal::Malformed),
+        _ => Err(Refusal::Malformed),
     }
 }
 
 // From the first step on, each is well formed.
-fn steps_good(pool: &[u8], table: &[u32], types: &[u32], lines: &[u32], steps: &[u32]) -> Checked
+fn steps_good(
+    pool: &[u8],
+    table: &[u32],
+    types: &[u32],
+    lines: &[u32],
+    steps: &[u32],
+) -> Result<(), Refusal>
     requires { Good pool.now table.now }
-    ensures { toldChecked result ≡ isGiven (each (stepGiven (table_of pool.now table.now) (recs types.now) lines.now) (stepsFrom steps.now 0)) }
+    ensures { told result ≡ isGiven (each (stepGiven (table_of pool.now table.now) (recs types.now) lines.now) (stepsFrom steps.now 0)) }
 {
     for i in 0..steps.len() / 4 {
         let j = i * 4;
-        let one = step_here(
+        step_here(
             pool,
             table,
             types,
@@ -216,12 +234,9 @@ fn steps_good(pool: &[u8], table: &[u32], types: &[u32], lines: &[u32], steps: &
             steps[j + 1],
             steps[j + 2],
             steps[j + 3],
-        );
-        let Checked::Good = one else {
-            return one;
-        };
+        )?;
     }
-    Checked::Good
+    Ok(())
 }
 
 /// How many operands a step takes.
@@ -252,34 +267,44 @@ fn is_whole(steps: &[u32]) -> bool
 }
 
 /// Is the line well formed (1)?
-pub fn line_good(pool: &[u8], table: &[u32], steps: &[u32], types: &[u32], lines: &[u32]) -> Checked
+pub fn line_good(
+    pool: &[u8],
+    table: &[u32],
+    steps: &[u32],
+    types: &[u32],
+    lines: &[u32],
+) -> Result<(), Refusal>
     requires { Good pool.now table.now }
-    ensures { toldChecked result ≡ isGiven (lineGiven (table_of pool.now table.now) steps.now types.now lines.now) }
+    ensures { told result ≡ isGiven (lineGiven (table_of pool.now table.now) steps.now types.now lines.now) }
 {
     if steps.len() % 4 != 0 {
-        return Checked::Refused(Refusal::Malformed);
+        return Err(Refusal::Malformed);
     }
     if types.len() % 4 != 0 {
-        return Checked::Refused(Refusal::Malformed);
+        return Err(Refusal::Malformed);
     }
-    match steps_good(pool, table, types, lines, steps) {
-        Checked::Good => or_malformed(is_whole(steps)),
-        Checked::Refused(k) => Checked::Refused(k),
-    }
+    steps_good(pool, table, types, lines, steps)?;
+    or_malformed(is_whole(steps))
 }
 
 // Are the lent names fresh (4) and held (3)?
-fn names_good(table: &[u32], steps: &[u32], types: &[u32], lines: &[u32], names: &[u32]) -> Checked
+fn names_good(
+    table: &[u32],
+    steps: &[u32],
+    types: &[u32],
+    lines: &[u32],
+    names: &[u32],
+) -> Result<(), Refusal>
     requires { 257 ≤ length table.now }
-    ensures { toldChecked result ≡ namesChecked table.now types.now lines.now steps.now names.now }
+    ensures { told result ≡ namesChecked table.now types.now lines.now steps.now names.now }
 {
     if !is_fresh(types, lines, steps, names) {
-        return Checked::Refused(Refusal::Mixed);
+        return Err(Refusal::Mixed);
     }
     if !all_held(table, names) {
-        return Checked::Refused(Refusal::NoRoom); // 3 is also a number that is not held
+        return Err(Refusal::NoRoom); // 3 is also a number that is not held
     }
-    Checked::Good
+    Ok(())
 }
 
 /// All checks past 10, in their order: 8, 1, 4, 3.
@@ -290,19 +315,17 @@ pub fn enter_line(
     types: &[u32],
     lines: &[u32],
     names: &[u32],
-) -> Checked
+) -> Result<(), Refusal>
     requires in_bounds { 8192 ≤ length pool.now }
     requires in_bounds_2 { 257 ≤ length table.now }
-    ensures { toldChecked result ≡ isGiven (lineEntered (table_of pool.now table.now) steps.now types.now lines.now names.now) }
+    ensures { told result ≡ isGiven (lineEntered (table_of pool.now table.now) steps.now types.now lines.now names.now) }
 {
     if !short(steps, types, lines, names) {
-        return Checked::Refused(Refusal::TooLarge);
+        return Err(Refusal::TooLarge);
     }
     if !is_good(pool, table) {
-        return Checked::Refused(Refusal::Malformed);
+        return Err(Refusal::Malformed);
     }
-    match line_good(pool, table, steps, types, lines) {
-        Checked::Good => names_good(table, steps, types, lines, names),
-        Checked::Refused(k) => Checked::Refused(k),
-    }
+    line_good(pool, table, steps, types, lines)?;
+    names_good(table, steps, types, lines, names)
 }

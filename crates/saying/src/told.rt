@@ -12,7 +12,7 @@ ghost use Rattle.saying.specs.Saying.{word, fours, sum, yesWord, saidAs, refused
 use ceiling::Most;
 use names::old::Checked;
 use rules::{Refusal, Was};
-use solving::{Outcome, Solution};
+use solving::{Finish, Solution};
 use std::cmp::Ordering;
 
 // The refusal's number or 0, what the call says, completed rounds, and how many words at the front of the result buffer are the answer's.
@@ -179,14 +179,13 @@ fn remaining(n: usize, rounds: u32) -> Told
 }
 
 pub fn solution(s: Solution) -> Told
-    ensures { result ≡ solvedAs (solving.told s) }
+    ensures { result ≡ solvedAs (solving.toldSolution s) }
 {
     let rounds = s.rounds;
-    let outcome = s.outcome;
-    match outcome {
-        Outcome::Solved(b, n) => accepted(b, n, rounds),
-        Outcome::Unsolved(n) => remaining(n, rounds),
-        Outcome::Refused(why) => refused(why, rounds, 0),
+    match s.outcome {
+        Ok(Finish::Solved(b, n)) => accepted(b, n, rounds),
+        Ok(Finish::Unsolved(n)) => remaining(n, rounds),
+        Err(why) => refused(why, rounds, 0),
     }
 }
 

@@ -1,4 +1,4 @@
 pub mod Told
 pub mod Running
 pub mod Entry
-pub mod Determined
+pub mod Theorems

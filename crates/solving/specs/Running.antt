@@ -21,7 +21,7 @@ use Rattle.std.specs.Prelude.{Ok, Err, None, Some}
 use Rattle.finishing.specs.Told.{toldFinish, Finished}
 use Rattle.finishing.specs.declared.Finish.{Finish}
 use Rattle.solving.specs.declared.Solution.{Solution}
-use Rattle.solving.specs.Told.{told, refusedAs, Answered}
+use Rattle.solving.specs.Told.{toldSolution, refusedAs, Answered}
 
 module _ (pool table : List ℕ) where
   -- a set that passed the checks, in the records up to n
@@ -114,7 +114,7 @@ module _ (pool table : List ℕ) where
 
   -- ══ The answer ══
 
-  pub finish-answers : (a : Answer ℕ) (st : State ℕ) (k : ℕ) (result₀ result result' : List ℕ) (f : Finish) (s : Solution) → result ≡ result₀ → a ≡ finish (numbers pool table) k st → Finished pool table st result result' f → told s ≡ toldFinish f k → Answered (got a) result₀ result' s
+  pub finish-answers : (a : Answer ℕ) (st : State ℕ) (k : ℕ) (result₀ result result' : List ℕ) (f : Finish) (s : Solution) → result ≡ result₀ → a ≡ finish (numbers pool table) k st → Finished pool table st result result' f → toldSolution s ≡ toldFinish f k → Answered (got a) result₀ result' s
   finish-answers a st k result₀ result result' f s q e d t = record {
     answer = t ∙ d.answer k ∙ sym (ap (λ (x : Answer ℕ). solvedOf (got x)) e);
     buffer = rw (← q, e) (d.buffer k);

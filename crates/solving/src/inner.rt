@@ -3,47 +3,28 @@ ghost use Rattle.std.specs.Prelude.{◌≡◌, List, ℕ, ◌≤◌, length};
 ghost use Rattle.rules.specs.Base.{got, bounded};
 ghost use Rattle.rules.specs.Calls.{setCall, solvedSet};
 ghost use Rattle.rules.specs.Names.{table_of, tableGood, lentTable};
+ghost use Rattle.rules.specs.Refusals.{told};
 ghost use Rattle.rules.specs.Solving.{solve};
 ghost use Rattle.rules.specs.Trees.{Con};
 ghost use Rattle.laws.specs.NameTable.{Good};
-ghost use Rattle.names.specs.Old.{toldChecked};
 ghost use Rattle.records.specs.Good.{numbers};
-ghost use Rattle.finishing.specs.Told.{toldFinish};
-ghost use Rattle.solving.specs.Told.{told, refusedAs, Answered};
+ghost use Rattle.solving.specs.Told.{refusedAs, Answered};
 ghost use Rattle.solving.specs.Running.{Begun};
 ghost use Rattle.solving.specs.Entry.{entered};
 
-use super::{Outcome, Solution};
-use finishing::Finish;
+use super::Solution;
 use finishing::inner::finish;
-use names::old::Checked;
 use queries::inner::is_unmixed;
 use records::inner::{copy, set_good};
 use rounds::inner::round;
 use rules::{RECORD_WORDS, Refusal};
 
-// What was finished after k rounds.
-fn after(f: Finish, k: u32) -> Solution
-    ensures { told result ≡ toldFinish f k }
-{
-    match f {
-        Finish::Solved(b, n) => Solution {
-            outcome: Outcome::Solved(b, n),
-            rounds: k,
-        },
-        Finish::Unsolved(n) => Solution {
-            outcome: Outcome::Unsolved(n),
-            rounds: k,
-        },
-    }
-}
-
-// Why there is no answer.
+/// Why there is no answer.
 pub fn stopped(r: Refusal, completed: u32) -> Solution
     ensures { result ≡ refusedAs r completed }
 {
     Solution {
-        outcome: Outcome::Refused(r),
+        outcome: Err(r),
         rounds: completed,
     }
 }
@@ -75,7 +56,10 @@ fn run(
                 k += 1;
             }
             Ok(None) => {
-                return after(finish(pool, table, work, b, e, res), k);
+                return Solution {
+                    outcome: Ok(finish(pool, table, work, b, e, res)),
+                    rounds: k,
+                };
             }
             Err(r) => {
                 return stopped(r, k);
@@ -103,43 +87,39 @@ pub fn run_alone(
 }
 
 // Is the set well formed (8, 1)? Whether the table is good is handed on, so that one check of it serves many sets.
-fn is_set(pool: &[u8], table: &[u32], good: bool, words: &[u32]) -> Checked
+fn is_set(pool: &[u8], table: &[u32], good: bool, words: &[u32]) -> Result<(), Refusal>
     requires table_value { lentTable pool.now table.now ≡ got tt }
     requires good_value { good ≡ tableGood (table_of pool.now table.now) }
-    ensures { toldChecked result ≡ setCall pool.now table.now words.now }
+    ensures { told result ≡ setCall pool.now table.now words.now }
 {
     if RECORD_WORDS < words.len() {
-        return Checked::Refused(Refusal::TooLarge);
+        return Err(Refusal::TooLarge);
     }
     if !good {
-        return Checked::Refused(Refusal::Malformed);
+        return Err(Refusal::Malformed);
     }
     let held = set_good(pool, table, words);
     if words.len() % 4 != 0 {
-        return Checked::Refused(Refusal::Malformed);
+        return Err(Refusal::Malformed);
     }
     if held {
-        Checked::Good
+        Ok(())
     } else {
-        Checked::Refused(Refusal::Malformed)
+        Err(Refusal::Malformed)
     }
 }
 
 // Is the set well formed (8, 1), and is no name both a variable and a parameter (4)?
-fn enter(pool: &[u8], table: &[u32], good: bool, words: &[u32]) -> Checked
+fn enter(pool: &[u8], table: &[u32], good: bool, words: &[u32]) -> Result<(), Refusal>
     requires table_value { lentTable pool.now table.now ≡ got tt }
     requires good_value { good ≡ tableGood (table_of pool.now table.now) }
-    ensures { toldChecked result ≡ entered pool.now table.now words.now }
+    ensures { told result ≡ entered pool.now table.now words.now }
 {
-    match is_set(pool, table, good, words) {
-        Checked::Good => {
-            if is_unmixed(words, 0, words.len() / 4) {
-                Checked::Good
-            } else {
-                Checked::Refused(Refusal::Mixed)
-            }
-        }
-        Checked::Refused(r) => Checked::Refused(r),
+    is_set(pool, table, good, words)?;
+    if is_unmixed(words, 0, words.len() / 4) {
+        Ok(())
+    } else {
+        Err(Refusal::Mixed)
     }
 }
 
@@ -159,11 +139,11 @@ pub fn solve_set(
     ensures { Answered (solvedSet (table_of pool.now table.now) words.now) res.old res.new result }
 {
     match enter(pool, table, good, words) {
-        Checked::Good => {
+        Ok(()) => {
             let n = words.len() / 4;
             copy(words, 0, n, work, 0);
             run_alone(pool, table, n, res, work)
         }
-        Checked::Refused(r) => stopped(r, 0),
+        Err(r) => stopped(r, 0),
     }
 }

@@ -2,46 +2,42 @@
 #![tactic(auto)]
 
 pub mod inner;
+pub mod theorems;
 
 ghost use Rattle.std.specs.Prelude.{◌≡◌};
 ghost use Rattle.rules.specs.Calls.{solveCall};
 ghost use Rattle.solving.specs.Told.{numberOutcome, solutionAs};
 
+pub use finishing::Finish;
 use inner::{solve_set, stopped};
 use lending::inner::clear;
 use lending::lent;
 use names::inner::is_good;
 use rules::Refusal;
 
-// How many records of bindings and of bounds were written; how many records of constraints remain (5); or why there is no answer.
+/// What solving answers: what was written to the result buffer, or why there is no answer; with the number of completed rounds.
 #[derive(Clone, Copy)]
-pub enum Outcome {
-    Solved(usize, usize),
-    Unsolved(usize),
-    Refused(Refusal),
+pub struct Solution {
+    pub outcome: Result<Finish, Refusal>,
+    pub rounds: u32,
 }
 
-impl Outcome {
-    // Its number in document 01: 0 where the set is solved, 5 where constraints remain.
+impl Solution {
+    /// The number of the outcome: 0 where the set is solved, 5 where constraints remain, or the refusal's.
     pub fn number(self) -> u32
-        ensures { result ≡ numberOutcome self }
+        ensures { result ≡ numberOutcome self.outcome }
     {
-        match self {
-            Outcome::Solved(_, _) => 0,
-            Outcome::Unsolved(_) => Refusal::Unsolved.number(),
-            Outcome::Refused(why) => why.number(),
+        match self.outcome {
+            Ok(Finish::Solved(_, _)) => 0,
+            Ok(Finish::Unsolved(_)) => Refusal::Unsolved.number(),
+            Err(why) => why.number(),
         }
     }
 }
 
-// What solving answers, with the number of completed rounds.
-#[derive(Clone, Copy)]
-pub struct Solution {
-    pub outcome: Outcome,
-    pub rounds: u32,
-}
-
-// The set solved: bindings and bounds, or the constraints that remain, in the result buffer; the work buffer is left all zero.
+/// Solves a set of constraints: bindings and bounds, or the constraints that remain, at the front of the result buffer, whose rest stays as it was.
+/// Refusals, in this order: 10, a buffer is short; 8 and 1, the set is too long or not well formed; 4, one name is a variable and a parameter; and
+/// those of the rounds (6, 7, 8). A refusal leaves the result buffer as it was. But for 10 the work buffer is left all zero.
 pub fn solve(
     pool: &[u8],
     table: &[u32],

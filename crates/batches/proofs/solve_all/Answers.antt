@@ -1,7 +1,7 @@
 -- `solve_all` meets its contract.
 use mathlib.Core.Path.{◌≡◌, refl, sym, ap, ◌∙◌}
 use Rattle.rules.specs.Base.{got}
-use Rattle.names.specs.Old.{toldChecked}
+use Rattle.rules.specs.Refusals.{told}
 use Rattle.solving.specs.Entry.{long-table}
 use Rattle.rules.specs.Batches.{batchFits}
 use Rattle.batches.specs.Checks.{Room, roomy, cramped, begun, call-short, call-unfit, called}
@@ -18,16 +18,16 @@ is_good-good-requires c = let enough : Room c.args.pool.now c.args.table.now c.a
 
 pub solve_each-n-requires : goal.solve_each-n-requires
 solve_each-n-requires c = let enough : Room c.args.pool.now c.args.table.now c.args.lengths.now c.args.res.now c.args.answers.now c.args.work.now = roomy _ _ _ _ _ _ c.all_lent.result c.all_lent.ensures (ap not c.if-not-all_lent.false) in
-    let added : batchFits c.args.sets.now c.args.lengths.now ≡ got tt = sym c.fits.ensures ∙ ap toldChecked c.in-Good.is in
+    let added : batchFits c.args.sets.now c.args.lengths.now ≡ got tt = sym c.fits.ensures ∙ ap told c.in-Ok.is in
     let r = enough in
     record { table_value = r.table-met; good_value = c.is_good-good.ensures; begun = begun _ _ _ _ _ r.results r.answered r.works (added) }
 
-pub returns-in-Good : goal.returns-in-Good
-returns-in-Good c = let enough : Room c.args.pool.now c.args.table.now c.args.lengths.now c.args.res.now c.args.answers.now c.args.work.now = roomy _ _ _ _ _ _ c.all_lent.result c.all_lent.ensures (ap not c.if-not-all_lent.false) in
-    let added : batchFits c.args.sets.now c.args.lengths.now ≡ got tt = sym c.fits.ensures ∙ ap toldChecked c.in-Good.is in
+pub returns-in-Ok : goal.returns-in-Ok
+returns-in-Ok c = let enough : Room c.args.pool.now c.args.table.now c.args.lengths.now c.args.res.now c.args.answers.now c.args.work.now = roomy _ _ _ _ _ _ c.all_lent.result c.all_lent.ensures (ap not c.if-not-all_lent.false) in
+    let added : batchFits c.args.sets.now c.args.lengths.now ≡ got tt = sym c.fits.ensures ∙ ap told c.in-Ok.is in
     called _ _ _ _ _ _ _ _ c.solve_each-n.new.work _ _ _ c.solve_each-n.auto.work (enough).met (added) c.solve_each-n.ensures c.clear.ensures
 
-pub returns-in-Refused : goal.returns-in-Refused
-returns-in-Refused c = let enough : Room c.args.pool.now c.args.table.now c.args.lengths.now c.args.res.now c.args.answers.now c.args.work.now = roomy _ _ _ _ _ _ c.all_lent.result c.all_lent.ensures (ap not c.if-not-all_lent.false) in
-    let e = sym c.fits.ensures ∙ ap toldChecked c.in-Refused.is in
-    call-unfit _ _ _ _ _ _ _ _ c.args.work.now _ refl (enough).met e c.clear-in-Refused.ensures
+pub returns-in-Err : goal.returns-in-Err
+returns-in-Err c = let enough : Room c.args.pool.now c.args.table.now c.args.lengths.now c.args.res.now c.args.answers.now c.args.work.now = roomy _ _ _ _ _ _ c.all_lent.result c.all_lent.ensures (ap not c.if-not-all_lent.false) in
+    let e = sym c.fits.ensures ∙ ap told c.in-Err.is in
+    call-unfit _ _ _ _ _ _ _ _ c.args.work.now _ refl (enough).met e c.clear-in-Err.ensures

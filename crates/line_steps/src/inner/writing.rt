@@ -6,17 +6,10 @@ ghost use Rattle.line_steps.specs.StepLoop.{LineIs, SetPut};
 
 use super::stepping::{put_at, step_size};
 use lines::inner::operands_of;
-use rules::RECORDS;
+use rules::{RECORDS, Refusal};
 
 // A line has at most 128 steps.
 const STEPS: usize = 128;
-
-// What was written: so many records; or no set, since it would pass 2,048 records.
-#[derive(Clone, Copy)]
-pub enum Put {
-    Records(usize),
-    TooLarge,
-}
 
 // The constraints of a whole line, with a stack that grows downward from its end.
 fn put_steps(
@@ -28,7 +21,7 @@ fn put_steps(
     names: &[u32],
     stack: &mut [u32],
     dst: &mut [u32],
-) -> Put
+) -> Result<usize, Refusal>
     requires good { Good pool.now table.now }
     requires by_index { (ss : List (LineStep ℕ)) × LineIs pool.now table.now types.now lines.now steps.now ss }
     requires types_len_bound { length types.now ≤ 8192 }
@@ -41,24 +34,22 @@ fn put_steps(
 {
     let mut p = stack.len();
     let mut out: usize = 0;
-    let mut i = 0;
-    while i < steps.len() / 4 {
+    for i in 0..steps.len() / 4 {
         let k = steps[i * 4];
         let n = step_size(types, lines, k, steps[i * 4 + 1], steps[i * 4 + 2]);
         if RECORDS - out < n {
-            return Put::TooLarge;
+            return Err(Refusal::TooLarge);
         }
         let v = names[i];
         put_at(pool, table, types, lines, steps, v, stack, p, i, dst, out);
         out += n;
         p = p + operands_of(k) - 1;
         stack[p] = v;
-        i += 1;
     }
-    Put::Records(out)
+    Ok(out)
 }
 
-// The same with a stack of its own.
+/// Writes the constraints of a line, with a stack of its own: how many records; or 8, since they would pass 2,048.
 pub fn put_line(
     pool: &[u8],
     table: &[u32],
@@ -67,7 +58,7 @@ pub fn put_line(
     steps: &[u32],
     names: &[u32],
     dst: &mut [u32],
-) -> Put
+) -> Result<usize, Refusal>
     requires good { Good pool.now table.now }
     requires by_index { (ss : List (LineStep ℕ)) × LineIs pool.now table.now types.now lines.now steps.now ss }
     requires types_len_bound { length types.now ≤ 8192 }

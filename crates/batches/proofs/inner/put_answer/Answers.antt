@@ -1,28 +1,46 @@
 -- `inner::put_answer` meets its contract.
+use mathlib.Core.Path.{◌≡◌, ap, ◌∙◌}
 use native.Mathlib.Omega.{arith}
+use Rattle.std.specs.Prelude.{Ok}
+use Rattle.finishing.specs.declared.Finish.TheVariants.{Solved, Unsolved}
 use Rattle.rules.specs.Batches.{recordsOf, fourWords}
 use Rattle.batches.proofs.inner.put_answer.Goals as goal
 
 pub overflow_cast-b : goal.overflow_cast-b
 unfolding recordsOf
-overflow_cast-b c = let h = rw c.in-Solved.is at c.requires.s_bound in omega (arith, h)
+overflow_cast-b c =
+    let e : c.args.s.outcome ≡ Ok (Solved c.in-Ok-Solved.b c.in-Ok-Solved.n) =
+    let i : c.args.s.outcome ≡ Ok c.in-Ok-Solved.field-0 = c.in-Ok-Solved.is in i ∙ ap Ok (rw i at c.in-Ok-Solved.field-0-is) in
+    let h = rw e at c.requires.s_bound in omega (arith, h)
 
 pub overflow_cast-n : goal.overflow_cast-n
 unfolding recordsOf
-overflow_cast-n c = let h = rw c.in-Solved.is at c.requires.s_bound in omega (arith, h)
+overflow_cast-n c =
+    let e : c.args.s.outcome ≡ Ok (Solved c.in-Ok-Solved.b c.in-Ok-Solved.n) =
+    let i : c.args.s.outcome ≡ Ok c.in-Ok-Solved.field-0 = c.in-Ok-Solved.is in i ∙ ap Ok (rw i at c.in-Ok-Solved.field-0-is) in
+    let h = rw e at c.requires.s_bound in omega (arith, h)
 
-pub overflow_cast-n-in-Unsolved : goal.overflow_cast-n-in-Unsolved
+pub overflow_cast-n-in-Ok-Unsolved : goal.overflow_cast-n-in-Ok-Unsolved
 unfolding recordsOf
-overflow_cast-n-in-Unsolved c = let h = rw c.in-Unsolved.is at c.requires.s_bound in omega (arith, h)
+overflow_cast-n-in-Ok-Unsolved c =
+    let e : c.args.s.outcome ≡ Ok (Unsolved c.in-Ok-Unsolved.n) =
+    let i : c.args.s.outcome ≡ Ok c.in-Ok-Unsolved.field-0 = c.in-Ok-Unsolved.is in i ∙ ap Ok (rw i at c.in-Ok-Unsolved.field-0-is) in
+    let h = rw e at c.requires.s_bound in omega (arith, h)
 
-pub returns-in-Solved : goal.returns-in-Solved
+pub returns-in-Ok-Solved : goal.returns-in-Ok-Solved
 unfolding fourWords
-returns-in-Solved c = rw c.in-Solved.is c.put_four.ensures
+returns-in-Ok-Solved c =
+    let e : c.args.s.outcome ≡ Ok (Solved c.in-Ok-Solved.b c.in-Ok-Solved.n) =
+    let i : c.args.s.outcome ≡ Ok c.in-Ok-Solved.field-0 = c.in-Ok-Solved.is in i ∙ ap Ok (rw i at c.in-Ok-Solved.field-0-is) in
+    rw e c.put_four.ensures
 
-pub returns-in-Unsolved : goal.returns-in-Unsolved
+pub returns-in-Ok-Unsolved : goal.returns-in-Ok-Unsolved
 unfolding fourWords
-returns-in-Unsolved c = rw c.in-Unsolved.is c.put_four-in-Unsolved.ensures
+returns-in-Ok-Unsolved c =
+    let e : c.args.s.outcome ≡ Ok (Unsolved c.in-Ok-Unsolved.n) =
+    let i : c.args.s.outcome ≡ Ok c.in-Ok-Unsolved.field-0 = c.in-Ok-Unsolved.is in i ∙ ap Ok (rw i at c.in-Ok-Unsolved.field-0-is) in
+    rw e c.put_four-in-Ok-Unsolved.ensures
 
-pub returns-in-Refused : goal.returns-in-Refused
+pub returns-in-Err : goal.returns-in-Err
 unfolding fourWords
-returns-in-Refused c = rw (c.in-Refused.is, ← c.number.ensures) c.put_four-in-Refused.ensures
+returns-in-Err c = rw (c.in-Err.is, ← c.number.ensures) c.put_four-in-Err.ensures

@@ -1,11 +1,8 @@
 use mathlib.Core.Path.{◌≡◌}
-use Prim.Native.Nat.{◌+◌, ◌*◌, ◌-◌, ◌≤◌}
-use lib.ListN.{length, drop}
+use Prim.Native.Nat.{◌+◌, ◌*◌, ◌≤◌}
+use lib.ListN.{drop}
 use Rattle.rules.specs.Base.{sum_of}
 use Rattle.batches.proofs.inner.total.Given as goal
 
-abbrev pub invariant-loop-k : goal.invariant-loop-k
-invariant-loop-k l = (l.k ≤ length l.lengths) × (l.sum + sum_of (λ n. n) (drop l.k l.lengths) ≡ sum_of (λ n. n) l.lengths) × (l.sum ≤ l.k * 4294967295)
-
-abbrev pub decreases-loop-k : goal.decreases-loop-k
-decreases-loop-k l = length l.lengths - l.k
+abbrev pub invariant-loop-n : goal.invariant-loop-n
+invariant-loop-n l = (l.sum + sum_of (λ n. n) (drop l.n-index l.lengths) ≡ sum_of (λ n. n) l.lengths) × (l.sum ≤ l.n-index * 4294967295)

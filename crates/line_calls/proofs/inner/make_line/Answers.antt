@@ -1,6 +1,6 @@
 -- `inner::make_line` meets its contract.
 use mathlib.Core.Path.{sym, ap, ◌∙◌}
-use Rattle.names.specs.Old.{toldChecked}
+use Rattle.rules.specs.Refusals.{told}
 use Rattle.solving.specs.Entry.{long-table}
 use Rattle.line_calls.specs.Whole.{Came, came, line_made, refused-line}
 use Rattle.line_calls.proofs.inner.make_line.Goals as goal
@@ -12,14 +12,14 @@ enter_line-requires c =
 
 pub type_line-requires : goal.type_line-requires
 type_line-requires c =
-    let x : Came c.args.pool.now c.args.table.now c.args.steps.now c.args.types.now c.args.lines.now c.args.names.now = came _ _ _ _ _ _ c.requires.table_value c.requires.steps_in_bounds (sym c.enter_line.ensures ∙ ap toldChecked c.in-Good.is) in
+    let x : Came c.args.pool.now c.args.table.now c.args.steps.now c.args.types.now c.args.lines.now c.args.names.now = came _ _ _ _ _ _ c.requires.table_value c.requires.steps_in_bounds (sym c.enter_line.ensures ∙ ap told c.in-Ok.is) in
     record { good = x.good; by_index = (x.ss, x.held); in_bounds = c.requires.in_bounds }
 
-pub returns-in-Good : goal.returns-in-Good
-returns-in-Good c =
-    let x : Came c.args.pool.now c.args.table.now c.args.steps.now c.args.types.now c.args.lines.now c.args.names.now = came _ _ _ _ _ _ c.requires.table_value c.requires.steps_in_bounds (sym c.enter_line.ensures ∙ ap toldChecked c.in-Good.is) in
+pub returns-in-Ok : goal.returns-in-Ok
+returns-in-Ok c =
+    let x : Came c.args.pool.now c.args.table.now c.args.steps.now c.args.types.now c.args.lines.now c.args.names.now = came _ _ _ _ _ _ c.requires.table_value c.requires.steps_in_bounds (sym c.enter_line.ensures ∙ ap told c.in-Ok.is) in
     line_made _ _ _ _ _ _ x _ _ (c.type_line.ensures x.ss x.held)
 
-pub returns-in-Refused : goal.returns-in-Refused
-returns-in-Refused c =
-    refused-line _ _ _ _ _ _ _ _ (sym c.enter_line.ensures ∙ ap toldChecked c.in-Refused.is)
+pub returns-in-Err : goal.returns-in-Err
+returns-in-Err c =
+    refused-line _ _ _ _ _ _ _ _ (sym c.enter_line.ensures ∙ ap told c.in-Err.is)

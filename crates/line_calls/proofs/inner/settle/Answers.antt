@@ -1,5 +1,6 @@
 -- `inner::settle` meets its contract.
-use mathlib.Core.Path.{◌≡◌, ◌∙◌}
+use mathlib.Core.Path.{◌≡◌, ap, ◌∙◌}
+use Rattle.std.specs.Prelude.{Ok}
 use mathlib.Core.Bool.{true}
 use Prim.Native.Nat.{ℕ}
 use native.Mathlib.Omega.{arith}
@@ -27,7 +28,7 @@ confirm-requires c =
     let unmixed-set : c.is_unmixed.result ≡ true = c.if-not-is_unmixed.false in
     let long : length c.run_alone-s.new.res ≡ 8192 = c.run_alone-s.auto.res ∙ length-replicate {A = ℕ} 8192 0 in
     let (cs, h) = c.requires.by_index in
-    let a = accepts _ _ _ _ (c.run_alone-s.ensures cs (begun _ _ _ cs h _ _ c.requires.in_bounds c.copy.ensures)) c.in-Solved.is in
+    let a = accepts _ _ _ _ (c.run_alone-s.ensures cs (begun _ _ _ cs h _ _ c.requires.in_bounds c.copy.ensures)) (let i : c.run_alone-s.result.outcome ≡ Ok c.in-Ok-Solved.field-0 = c.in-Ok-Solved.is in i ∙ ap Ok (rw i at c.in-Ok-Solved.field-0-is)) in
     record {
       good = c.requires.good;
       by_index = (cs, h);
@@ -35,17 +36,17 @@ confirm-requires c =
       in_bounds = omega (arith, c.run_alone-s.auto.work, c.copy.auto.dst, c.requires.in_bounds);
     }
 
-pub returns-in-Solved : goal.returns-in-Solved
-returns-in-Solved c = λ cs h.
+pub returns-in-Ok-Solved : goal.returns-in-Ok-Solved
+returns-in-Ok-Solved c = λ cs h.
     let unmixed-set : c.is_unmixed.result ≡ true = c.if-not-is_unmixed.false in
     let long : length c.run_alone-s.new.res ≡ 8192 = c.run_alone-s.auto.res ∙ length-replicate {A = ℕ} 8192 0 in
-    let a = accepts _ _ _ _ (c.run_alone-s.ensures cs (begun _ _ _ cs h _ _ c.requires.in_bounds c.copy.ensures)) c.in-Solved.is in
+    let a = accepts _ _ _ _ (c.run_alone-s.ensures cs (begun _ _ _ cs h _ _ c.requires.in_bounds c.copy.ensures)) (let i : c.run_alone-s.result.outcome ≡ Ok c.in-Ok-Solved.field-0 = c.in-Ok-Solved.is in i ∙ ap Ok (rw i at c.in-Ok-Solved.field-0-is)) in
     judged-settled _ _ _ cs h _ c.is_unmixed.ensures unmixed-set c.requires.good a _ _ (c.confirm.ensures cs a.bs a.ns h (found-well _ _ _ cs h 0 c.is_unmixed.ensures unmixed-set c.requires.good a long))
 
-pub returns-in-Unsolved : goal.returns-in-Unsolved
-returns-in-Unsolved c = λ cs h.
-    refused-settled _ _ _ cs h _ c.is_unmixed.ensures c.if-not-is_unmixed.false _ _ (remains _ _ _ _ (c.run_alone-s.ensures cs (begun _ _ _ cs h _ _ c.requires.in_bounds c.copy.ensures)) c.in-Unsolved.is)
+pub returns-in-Ok-Unsolved : goal.returns-in-Ok-Unsolved
+returns-in-Ok-Unsolved c = λ cs h.
+    refused-settled _ _ _ cs h _ c.is_unmixed.ensures c.if-not-is_unmixed.false _ _ (remains _ _ _ _ (c.run_alone-s.ensures cs (begun _ _ _ cs h _ _ c.requires.in_bounds c.copy.ensures)) (let i : c.run_alone-s.result.outcome ≡ Ok c.in-Ok-Unsolved.field-0 = c.in-Ok-Unsolved.is in i ∙ ap Ok (rw i at c.in-Ok-Unsolved.field-0-is)))
 
-pub returns-in-Refused : goal.returns-in-Refused
-returns-in-Refused c = λ cs h.
-    refused-settled _ _ _ cs h _ c.is_unmixed.ensures c.if-not-is_unmixed.false _ _ (stops _ _ _ _ (c.run_alone-s.ensures cs (begun _ _ _ cs h _ _ c.requires.in_bounds c.copy.ensures)) c.in-Refused.is)
+pub returns-in-Err : goal.returns-in-Err
+returns-in-Err c = λ cs h.
+    refused-settled _ _ _ cs h _ c.is_unmixed.ensures c.if-not-is_unmixed.false _ _ (stops _ _ _ _ (c.run_alone-s.ensures cs (begun _ _ _ cs h _ _ c.requires.in_bounds c.copy.ensures)) c.in-Err.is)

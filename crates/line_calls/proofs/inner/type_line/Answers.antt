@@ -35,26 +35,27 @@ bounds-names-steps c =
 pub overflow_mul-e : goal.overflow_mul-e
 overflow_mul-e c =
     let (ss, h) = c.requires.by_index in
-    let wrote : Wrote (constraints (numbersOf (table_of c.args.pool.now c.args.table.now)) c.args.names.now [] ss) (replicate 8192 0) c.put_line.new.dst c.in-Records.n = subst (Issues _ _ _) c.in-Records.is (c.put_line.ensures ss (line-is _ _ _ _ _ _ c.requires.good ss h)) in
+    let wrote : Wrote (constraints (numbersOf (table_of c.args.pool.now c.args.table.now)) c.args.names.now [] ss) (replicate 8192 0) c.put_line.new.dst c.in-Ok.n = subst (Issues _ _ _) c.in-Ok.is (c.put_line.ensures ss (line-is _ _ _ _ _ _ c.requires.good ss h)) in
     omega (arith, wrote.within)
 
 pub slice_bounds-settle-end : goal.slice_bounds-settle-end
 slice_bounds-settle-end c =
     let (ss, h) = c.requires.by_index in
-    let wrote : Wrote (constraints (numbersOf (table_of c.args.pool.now c.args.table.now)) c.args.names.now [] ss) (replicate 8192 0) c.put_line.new.dst c.in-Records.n = subst (Issues _ _ _) c.in-Records.is (c.put_line.ensures ss (line-is _ _ _ _ _ _ c.requires.good ss h)) in
+    let wrote : Wrote (constraints (numbersOf (table_of c.args.pool.now c.args.table.now)) c.args.names.now [] ss) (replicate 8192 0) c.put_line.new.dst c.in-Ok.n = subst (Issues _ _ _) c.in-Ok.is (c.put_line.ensures ss (line-is _ _ _ _ _ _ c.requires.good ss h)) in
     omega (arith, wrote.within, c.put_line.auto.dst)
 
 pub settle-requires : goal.settle-requires
 settle-requires c =
     let (ss, h) = c.requires.by_index in
-    let wrote : Wrote (constraints (numbersOf (table_of c.args.pool.now c.args.table.now)) c.args.names.now [] ss) (replicate 8192 0) c.put_line.new.dst c.in-Records.n = subst (Issues _ _ _) c.in-Records.is (c.put_line.ensures ss (line-is _ _ _ _ _ _ c.requires.good ss h)) in
+    let wrote : Wrote (constraints (numbersOf (table_of c.args.pool.now c.args.table.now)) c.args.names.now [] ss) (replicate 8192 0) c.put_line.new.dst c.in-Ok.n = subst (Issues _ _ _) c.in-Ok.is (c.put_line.ensures ss (line-is _ _ _ _ _ _ c.requires.good ss h)) in
     record { good = c.requires.good; by_index = (_, set-written _ _ _ _ _ _ c.requires.good ss h (replicate 8192 0) _ _ (omega (arith, length-replicate {A = ℕ} 8192 0)) wrote); in_bounds = c.requires.in_bounds }
 
-pub returns-in-Records : goal.returns-in-Records
-returns-in-Records c = λ ss h.
-    let wrote : Wrote (constraints (numbersOf (table_of c.args.pool.now c.args.table.now)) c.args.names.now [] ss) (replicate 8192 0) c.put_line.new.dst c.in-Records.n = subst (Issues _ _ _) c.in-Records.is (c.put_line.ensures ss (line-is _ _ _ _ _ _ c.requires.good ss h)) in
+pub returns-in-Ok : goal.returns-in-Ok
+returns-in-Ok c = λ ss h.
+    let wrote : Wrote (constraints (numbersOf (table_of c.args.pool.now c.args.table.now)) c.args.names.now [] ss) (replicate 8192 0) c.put_line.new.dst c.in-Ok.n = subst (Issues _ _ _) c.in-Ok.is (c.put_line.ensures ss (line-is _ _ _ _ _ _ c.requires.good ss h)) in
     type-made _ _ _ _ _ _ c.requires.good ss h _ _ (c.settle.ensures _ (set-written _ _ _ _ _ _ c.requires.good ss h (replicate 8192 0) _ _ (omega (arith, length-replicate {A = ℕ} 8192 0)) wrote))
 
-pub returns-in-TooLarge : goal.returns-in-TooLarge
-returns-in-TooLarge c = λ ss h.
-    large-made _ _ _ _ _ _ c.requires.good ss h _ (subst (Issues _ _ _) c.in-TooLarge.is (c.put_line.ensures ss (line-is _ _ _ _ _ _ c.requires.good ss h)))
+pub returns-in-Err : goal.returns-in-Err
+returns-in-Err c = λ ss h.
+    let over = subst (Issues _ _ _) c.in-Err.is (c.put_line.ensures ss (line-is _ _ _ _ _ _ c.requires.good ss h)) in
+    rw over.0 (large-made _ _ _ _ _ _ c.requires.good ss h _ over.1)

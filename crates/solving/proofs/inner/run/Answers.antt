@@ -48,7 +48,7 @@ returns-in-Ok-None c =
     λ cs h.
     let g = i.1.1.1 cs h in
     let t = going_end _ _ c.requires.good cs h.admitted _ _ _ _ _ (i.1.1.1 cs h) _ (c.round.ensures (i.1.1.1 cs h).state (i.1.1.1 cs h).held) (c.in-Ok-None.is ∙ ap Ok c.in-Ok-None.field-0-is) in
-    finish-answers _ _ _ g.state _ _ _ _ _ _ i.0 t.0 (c.finish.ensures g.state t.1) c.after.ensures
+    finish-answers _ _ _ g.state _ _ _ _ _ _ i.0 t.0 (c.finish.ensures g.state t.1) refl
 
 pub returns-in-Err : goal.returns-in-Err
 returns-in-Err c =

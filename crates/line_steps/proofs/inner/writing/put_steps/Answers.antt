@@ -1,5 +1,6 @@
 -- `inner::writing::put_steps` meets its contract.
 use Prim.Native.Nat.{◌+◌, ◌*◌, ◌/◌, ◌≤◌, ◌<◌}
+use mathlib.Core.Path.{refl}
 use native.Mathlib.Omega.{arith}
 use lib.ListN.{length, get_or}
 use Rattle.records.specs.Found.{Words32}
@@ -13,7 +14,7 @@ loop-i-init c = way-first _ _ _ _ _ _ _ _ c.requires.by_index_2
 pub returns-then-out-n : goal.returns-then-out-n
 returns-then-out-n c = let word : Words32 c.args.types.now = record { word = λ i. (c.shared_slice_known-3-1.given i).fits } in
     let near : (c.loop-i.i < length c.args.steps.now / 4) × (c.loop-i.i < length c.args.names.now) × (length c.args.steps.now / 4 ≤ 128) × (c.loop-i.out ≤ 2048) = (c.loop-i-test.true, omega (arith, c.loop-i-test.true, c.requires.steps_in_bounds), omega (arith, c.requires.steps_in_bounds_2, c.requires.stack_len_bound), c.loop-i.invariant.within) in
-    λ ss x. way-over _ _ _ _ _ _ word c.loop-i.invariant c.loop-i-test.true near.1 _ (λ s y. c.step_size-n.ensures _ s y) c.if-out-n.true ss x
+    λ ss x. (refl, way-over _ _ _ _ _ _ word c.loop-i.invariant c.loop-i-test.true near.1 _ (λ s y. c.step_size-n.ensures _ s y) c.if-out-n.true ss x)
 
 pub put_at-requires : goal.put_at-requires
 put_at-requires c = let word : Words32 c.args.types.now = record { word = λ i. (c.shared_slice_known-3-1.given i).fits } in

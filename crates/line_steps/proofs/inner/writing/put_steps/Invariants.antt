@@ -1,10 +1,5 @@
-use Prim.Native.Nat.{◌-◌, ◌/◌}
-use lib.ListN.{length}
 use Rattle.line_steps.specs.StepLoop.{OnWay}
 use Rattle.line_steps.proofs.inner.writing.put_steps.Given as goal
 
 abbrev pub invariant-loop-i : goal.invariant-loop-i
 invariant-loop-i l = OnWay l.pool l.table l.types l.lines l.steps l.names l.initial.stack l.stack l.initial.dst l.dst l.i l.p l.out
-
-abbrev pub decreases-loop-i : goal.decreases-loop-i
-decreases-loop-i l = length l.steps / 4 - l.i

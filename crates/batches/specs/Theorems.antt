@@ -1,0 +1,25 @@
+-- What is promised of batches, on the words of a call. The functions of src/theorems promise these statements; their words stand in Promise and in
+-- rules' Batches and Calls, the proofs in proofs/Promise.
+use Rattle.std.specs.Prelude.{◌≡◌, List, ℕ, ◌*◌, ◌<◌, length, take, drop}
+use Rattle.rules.specs.Base.{got}
+use Rattle.rules.specs.Calls.{lent}
+use Rattle.rules.specs.Names.{table_of}
+use Rattle.rules.specs.Batches.{Batch, batchLent, batchFits, batchCall}
+use Rattle.batches.specs.Promise.{set_at, place_of, AsAlone}
+
+-- each set's four words and records are those that `solve` gives for it in a fresh buffer, whatever the other sets are
+abbrev pub EachAsAlone : Type 0
+EachAsAlone = (pool table words lengths result answers work : List ℕ)
+    → batchLent pool table lengths result answers work ≡ got tt → batchFits words lengths ≡ got tt
+    → (i : ℕ) → i < length lengths → (fresh w : List ℕ) → lent pool table fresh w ≡ got tt
+    → AsAlone pool table (set_at words lengths i) i (place_of (table_of pool table) words lengths i)
+    (batchCall pool table words lengths result answers work).answers (batchCall pool table words lengths result answers work).result fresh w
+
+-- the order of the sets, and what else is in a batch, only moves a set's answer: two batches over one table that hold the same set tell the same of it
+abbrev pub OnlyMoved : Type 0
+OnlyMoved = (pool table words lengths result answers work words' lengths' result' answers' work' : List ℕ) (i j : ℕ)
+    → batchLent pool table lengths result answers work ≡ got tt → batchFits words lengths ≡ got tt → i < length lengths
+    → batchLent pool table lengths' result' answers' work' ≡ got tt → batchFits words' lengths' ≡ got tt → j < length lengths'
+    → set_at words lengths i ≡ set_at words' lengths' j → (fresh w : List ℕ) → lent pool table fresh w ≡ got tt
+    → take 4 (drop (i * 4) (batchCall pool table words lengths result answers work).answers)
+    ≡ take 4 (drop (j * 4) (batchCall pool table words' lengths' result' answers' work').answers)
