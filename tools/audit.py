@@ -58,6 +58,8 @@ def tables(page):
             if word and "::" in it and (CRATES / head).is_dir():
                 crate, here = head, None
                 good = public(head, it.split("::")[-1]) if strict else item(head, it)
+            elif "/out/" in it:
+                continue  # what the kit makes
             elif word and "/" in it and ((CRATES / head).is_dir() or (ROOT / head).exists()):
                 here, crate = file_of(it), head
                 good = here is not None
