@@ -9,10 +9,10 @@ use batches::solve_all;
 use ceiling::ceiling;
 use entries::Entry;
 use judging::judge;
+use rules::Refusal;
 use saying::Asked;
 use saying::told::{Told, batched, judged, limited};
 use saying::words::{fill, word_of};
-use rules::Refusal;
 
 // As many entries are handed on at the most: no longer list of pairs is sent.
 const ENTRIES: usize = 5120;

@@ -26,6 +26,6 @@ module _ (pool table words lengths : List ℕ) where
   pub called : (m : List Bool) (r : ℕ) (pool' table' words' : List ℕ) → compactChecks pool table words lengths ≡ got tt
       → Marked (replicate 256 false) m (get_or table 0 0) words
       → words' ≡ renumbered (marks m) words → Squeezed (marks m) pool table pool' table' r
-          → compactedAs (Ok r) pool' table' words' ≡ compactCall pool table words lengths
+      → compactedAs (Ok r) pool' table' words' ≡ compactCall pool table words lengths
   unfolding compactCall compactIf squeezed
   called m r pool' table' words' e k w s = rw (e, s.many, s.bytes, s.ends, w, marked-is m (get_or table 0 0) words k, count-is pool table)

@@ -33,7 +33,7 @@ pub record KeptWell (pool table file : List ℕ) : Type 0 where
   pub passes : (k m : ℕ) → rescueGiven pool table file k m ≡ got tt → setCall pool table (words_in (keptBytes (piecesOf pool table file))) ≡ got tt
   pub solved : (k m : ℕ) → rescueGiven pool table file k m ≡ got tt → solvedSet (table_of pool table) (words_in (keptBytes (piecesOf pool table file)))
       ≡ (apart (table_of pool table) (collect opensCon (consIn (piecesOf pool table file))) >> got (solve (numbersOf (table_of pool table)) bounded
-          (consIn (piecesOf pool table file))))
+      (consIn (piecesOf pool table file))))
   pub never-1 : (k m : ℕ) → rescueGiven pool table file k m ≡ got tt → (result work : List ℕ) (n : ℕ)
       → (solveCall pool table (words_in (keptBytes (piecesOf pool table file))) result work).answer ≡ refusedAfter 1 n → ⊥
 

@@ -159,13 +159,13 @@ module _ (names : ℕ → Bytes) where
       let behind : Bytes = bracket (countFields fs) 123 ++ (fromFields true names fs ++ bracket (countFields fs) 125) in
       rw (← k, ← l, bracketed ps, braced fs)
       (append_assoc (64 ∷ nameText (names x)) (bracket (count ps) 60) (fromTys true names ps ++ (between (count ps) (countFields fs) ++
-          (fromFields true names fs ++ bracket (countFields fs) 125)))
+      (fromFields true names fs ++ bracket (countFields fs) 125)))
       ∙ ap (λ (u : Bytes). 64 ∷ (nameText (names x) ++ (bracket (count ps) 60 ++ u)))
       (ap (λ (u : Bytes). fromTys true names ps ++ u) (append_assoc (bracket (count ps) 62) (bracket (countFields fs) 123)
-          (fromFields true names fs ++ bracket (countFields fs) 125))
+      (fromFields true names fs ++ bracket (countFields fs) 125))
       ∙ sym (append_assoc (fromTys true names ps) (bracket (count ps) 62) behind))
       ∙ ap (λ (u : Bytes). 64 ∷ (nameText (names x) ++ u)) (sym (append_assoc (bracket (count ps) 60) (fromTys true names ps ++ bracket
-          (count ps) 62) behind))))
+      (count ps) 62) behind))))
 
 -- a field's name between the two types of its constraint
 abbrev pub named : Bytes → Bytes
@@ -176,7 +176,7 @@ pub has-text : (names : ℕ → Bytes) (x : ℕ) (t u : Ty ℕ) → conText name
 unfolding conText
 has-text names x t u =
     sym (ap (λ (b : Bytes). ascii "HasField(" ++ (tyText names t ++ (ascii ", \"" ++ b))) (append_assoc (nameText (names x)) (ascii "\", ")
-        (tyText names u ++ ascii ")")))
+    (tyText names u ++ ascii ")")))
 
 pub no-line : (names : ℕ → Bytes) → setText names [] ≡ []
 unfolding setText collect

@@ -29,4 +29,4 @@ pub returns : goal.returns
 returns c =
     let a = c.args in
     called a.pool.now a.table.now a.sets.now a.lengths.now _ c.squeeze.result _ _ _ (sym c.in_ok-check.ensures)
-        (rw c.count.ensures at c.mark.ensures) c.renumber.ensures c.squeeze.ensures
+    (rw c.count.ensures at c.mark.ensures) c.renumber.ensures c.squeeze.ensures

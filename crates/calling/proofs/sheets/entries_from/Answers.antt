@@ -11,8 +11,7 @@ loop-i-init c = (refl, refl)
 
 pub loop-i-preserved : goal.loop-i-preserved
 loop-i-preserved c =
-    let l = c.loop-i.invariant.0 in
-    (
+    let l = c.loop-i.invariant.0 in (
       length-set c.loop-i.es c.loop-i.i _ ∙ l,
       entries-on c.args.b.now c.loop-i.es c.loop-i.i _ (omega (arith, l, c.requires, c.loop-i-test.true)) c.entry_at.ensures c.loop-i.invariant.1,
     )

@@ -17,8 +17,12 @@ pub overflow_add-k : goal.overflow_add-k
 overflow_add-k c = omega (arith, c.loop-i.invariant.0, c.loop-i.invariant.2, c.one_if-k.ensures.1)
 
 pub loop-i-preserved : goal.loop-i-preserved
-loop-i-preserved c = let l = c.loop-i in let e = c.one_if-k.ensures.0 in (omega arith, ap₂ ◌+◌ l.invariant.1 e
-    ∙ sym (number-next _ l.i), omega (arith, l.invariant.2, c.one_if-k.ensures.1))
+loop-i-preserved c = let l = c.loop-i in let e = c.one_if-k.ensures.0 in (
+  omega arith,
+  ap₂ ◌+◌ l.invariant.1 e
+      ∙ sym (number-next _ l.i),
+  omega (arith, l.invariant.2, c.one_if-k.ensures.1),
+)
 
 pub returns : goal.returns
 returns c = let l = c.loop-i in let e : l.i ≡ c.args.a = omega (arith, l.invariant.0, c.loop-i-test.false) in l.invariant.1

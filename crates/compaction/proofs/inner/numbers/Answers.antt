@@ -10,8 +10,10 @@ pub number_of-requires : goal.number_of-requires
 number_of-requires c = c.requires.m_len
 
 pub loop-i-preserved : goal.loop-i-preserved
-loop-i-preserved c = let l = c.loop-i in (omega arith,
-    numbered_more (marks c.args.m.now) l.to l.i _ c.number_of.result refl c.loop-i-test.true l.invariant.1 c.number_of.ensures)
+loop-i-preserved c = let l = c.loop-i in (
+  omega arith,
+  numbered_more (marks c.args.m.now) l.to l.i _ c.number_of.result refl c.loop-i-test.true l.invariant.1 c.number_of.ensures,
+)
 
 pub returns : goal.returns
 returns c = let l = c.loop-i in numbered-all (marks c.args.m.now) l.to l.i c.loop-i-test.false l.invariant.1

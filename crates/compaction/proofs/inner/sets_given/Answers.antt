@@ -26,16 +26,21 @@ pub slice_bounds-set_given-end : goal.slice_bounds-set_given-end
 slice_bounds-set_given-end c = let h = c.if-sets-from.false in search rules
 
 pub set_given-requires : goal.set_given-requires
-set_given-requires c = let l = c.loop-i in record { good = c.requires;
-    words_len = whole-records c.args.sets.now l.from (get_or c.args.lengths.now l.i 0) c.if-sets-from.false }
+set_given-requires c = let l = c.loop-i in record {
+  good = c.requires;
+  words_len = whole-records c.args.sets.now l.from (get_or c.args.lengths.now l.i 0) c.if-sets-from.false;
+}
 
 pub returns-then-not-set_given : goal.returns-then-not-set_given
 returns-then-not-set_given c = let l = c.loop-i in
     left-bad _ _ _ l.i l.from c.loop-i-test.true l.invariant.2 c.set_given.result c.set_given.ensures (ap not c.if-not-set_given.true)
 
 pub loop-i-preserved : goal.loop-i-preserved
-loop-i-preserved c = let l = c.loop-i in (omega arith, omega (arith, c.if-sets-from.false, l.invariant.1),
-    left-next _ _ _ l.i l.from c.loop-i-test.true l.invariant.2 c.set_given.result c.set_given.ensures (ap not c.if-not-set_given.false) c.if-sets-from.false)
+loop-i-preserved c = let l = c.loop-i in (
+  omega arith,
+  omega (arith, c.if-sets-from.false, l.invariant.1),
+  left-next _ _ _ l.i l.from c.loop-i-test.true l.invariant.2 c.set_given.result c.set_given.ensures (ap not c.if-not-set_given.false) c.if-sets-from.false,
+)
 
 pub returns : goal.returns
 returns c = let l = c.loop-i in left_end _ _ _ l.i l.from c.loop-i-test.false l.invariant.1 l.invariant.2

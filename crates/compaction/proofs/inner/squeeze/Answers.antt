@@ -92,7 +92,7 @@ loop-i-preserved c =
     let more = c.loop-i-test.true in
     let E = end_is g d in
     rw E (doing-keep g d more (ap (marks c.args.m.now) (let q : c.loop-i.i ≡ c.loop-i.i + 1 - 1 = omega arith in q)
-        ∙ c.if-not-m-i.false) (rw E at c.shift.ensures) refl)
+    ∙ c.if-not-m-i.false) (rw E at c.shift.ensures) refl)
 
 pub wipe_bytes-requires : goal.wipe_bytes-requires
 wipe_bytes-requires c =
