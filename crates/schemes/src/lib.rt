@@ -1,4 +1,4 @@
-// The public calls on schemes.
+//! The public calls on schemes.
 #![tactic(auto)]
 
 pub mod inner;

@@ -31,7 +31,8 @@ returns-in_err-rest_checked c =
     let word : Words32 c.args.given.now = record { word = λ i. (c.shared_slice_known-3-1.given i).fits } in
     let p = err_from_is_err_and c.from_residual-in_err-rest_checked.result c.from_residual-in_err-rest_checked.ensures.1 in
     rw (p.1, p.2) (unmet-made _ _ _ _ _ _ _ _ _ (instantiate-whole _ _ _ _) _ _ (
-    scheme-checked _ _ _ [] _ (omega arith) c.if-names-gt-RECORDS.false c.requires.table_value word _ _ c.in_ok-is_scheme.ensures c.in_err-rest_checked.ensures))
+    scheme-checked _ _ _ [] _ (omega arith) c.if-names-gt-RECORDS.false c.requires.table_value word _ _
+    c.in_ok-is_scheme.ensures c.in_err-rest_checked.ensures))
 
 pub instantiate_scheme-requires : goal.instantiate_scheme-requires
 instantiate_scheme-requires c =

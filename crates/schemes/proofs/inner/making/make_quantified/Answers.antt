@@ -30,7 +30,8 @@ returns-in_err-rest_checked c =
     let word : Words32 c.args.words.now = record { word = λ i. (c.shared_slice_known-3-1.given i).fits } in
     let p = err_from_is_err_and c.from_residual-in_err-rest_checked.result c.from_residual-in_err-rest_checked.ensures.1 in
     rw (p.1, p.2) (unmet-made _ _ _ _ _ _ _ _ _ (quantify-whole _ _ _ _ _) _ _ (
-    quantify-checked _ _ _ _ _ c.if-bounds-gt-RECORD_WORDS.false c.if-names-gt-RECORDS.false c.requires.table_value word _ _ c.in_ok-is_type.ensures c.in_err-rest_checked.ensures))
+    quantify-checked _ _ _ _ _ c.if-bounds-gt-RECORD_WORDS.false c.if-names-gt-RECORDS.false c.requires.table_value word _ _
+    c.in_ok-is_type.ensures c.in_err-rest_checked.ensures))
 
 pub quantify_at-requires : goal.quantify_at-requires
 quantify_at-requires c =
