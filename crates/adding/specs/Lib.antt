@@ -1,5 +1,5 @@
 pub mod Told
-pub mod Determined
+pub mod Theorems
 pub mod Shapes
 pub mod Tests
 pub mod Entry

@@ -9,9 +9,9 @@ ghost use Rattle.saying.specs.Dispatch.{done, looking, listing};
 
 use adding::add;
 use lending::lent;
-use names::old::check_table;
+use names::check_table;
 use queries::{closed, contains, variables};
-use records::old::{is_bindings, is_scheme, is_set, is_type};
+use records::{is_bindings, is_scheme, is_set, is_type};
 use replacing_calls::{replace_in_set, replace_in_type};
 use rules::Refusal;
 use saying::Asked;

@@ -1,4 +1,4 @@
 pub mod Told
 pub mod Counting
 pub mod Answers
-pub mod Determined
+pub mod Theorems

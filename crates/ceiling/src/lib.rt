@@ -11,6 +11,7 @@ use records::is_set;
 use rules::Refusal;
 
 pub mod inner;
+pub mod theorems;
 
 /// How many distinct variables a set has, which binding rounds don't pass, and what all rounds together don't pass.
 #[derive(Clone, Copy)]

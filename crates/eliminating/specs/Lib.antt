@@ -4,4 +4,4 @@ pub mod Reducing
 pub mod Told
 pub mod Written
 pub mod Entry
-pub mod Determined
+pub mod Theorems

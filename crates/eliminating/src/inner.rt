@@ -28,11 +28,9 @@ use elimination::inner::grids::{Columns, Grid, Machine, eliminate, row_at};
 use elimination::inner::rows::{Row, power_at};
 use exponents::Exponent;
 use laying::inner::{atom_at, blank, lines_of, list_columns};
-use names::old::Checked;
 use queries::inner::is_unmixed;
 use records::inner::{put_one, put_record};
-use records::old::is_set;
-use records::{Atom, View};
+use records::{Atom, View, is_set};
 use rules::Refusal;
 
 // The record of a factor.
@@ -238,15 +236,11 @@ fn write(k: Columns, m: Machine, res: &mut [u32]) -> Eliminated
 fn enter(pool: &[u8], table: &[u32], words: &[u32]) -> Result<(), Refusal>
     ensures { told result ≡ entered pool.now table.now words.now }
 {
-    match is_set(pool, table, words) {
-        Checked::Good => {
-            if is_unmixed(words, 0, words.len() / 4) {
-                Ok(())
-            } else {
-                Err(Refusal::Mixed)
-            }
-        }
-        Checked::Refused(r) => Err(r),
+    is_set(pool, table, words)?;
+    if is_unmixed(words, 0, words.len() / 4) {
+        Ok(())
+    } else {
+        Err(Refusal::Mixed)
     }
 }
 

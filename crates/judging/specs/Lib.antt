@@ -2,4 +2,4 @@ pub mod Told
 pub mod Entry
 pub mod Proposed
 pub mod Rest
-pub mod Determined
+pub mod Theorems

@@ -11,11 +11,10 @@ ghost use Rattle.judging.specs.Entry.{lentAll, Slotted, entered, Entered, Bounds
 
 use entries::inner::{Slots, fill};
 use lending::inner::clear;
-use names::old::Checked;
 use proposals::inner::bounds::{mark_all, rise};
 use proposals::inner::mixed::apart;
 use records::inner::bounds_good;
-use records::old::is_set;
+use records::is_set;
 use rules::{NAMES, POOL_BYTES, RECORD_WORDS, RECORDS, Refusal, TABLE_WORDS, WORK_WORDS};
 use trials::inner::try_all;
 
@@ -48,10 +47,7 @@ fn enter(
     if RECORDS < count {
         return Err(Refusal::TooLarge);
     }
-    match is_set(pool, table, set) {
-        Checked::Good => Ok(()),
-        Checked::Refused(why) => Err(why),
-    }
+    is_set(pool, table, set)
 }
 
 // Are these bounds with names that rise? Then they are marked.

@@ -2,4 +2,4 @@ pub mod Standing
 pub mod Typed
 pub mod Settled
 pub mod Whole
-pub mod Determined
+pub mod Theorems

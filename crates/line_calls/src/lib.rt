@@ -1,7 +1,8 @@
-// Document 02, W-211: the public call that checks a whole calculation line.
+//! The public call that checks a whole calculation line (W-211).
 #![tactic(auto)]
 
 pub mod inner;
+pub mod theorems;
 
 ghost use Rattle.std.specs.Prelude.{◌≡◌};
 ghost use Rattle.rules.specs.Lines.{checkLineCall};
@@ -12,8 +13,8 @@ use lending::inner::hand_over;
 use lines::inner::room;
 use rules::Refusal;
 
-// The type of the line's last step, at the front of the result buffer; the work buffer is left all zero. `lines` has the places of the earlier
-// lines' types, `names` the numbers that are lent for the steps' variables.
+/// The type of the line's last step, at the front of the result buffer; the work buffer is left all zero. `lines` has the places of the earlier
+/// lines' types, `names` the numbers that are lent for the steps' variables.
 pub fn check_line(
     pool: &[u8],
     table: &[u32],

@@ -6,21 +6,19 @@ use Rattle.std.proofs.Math.ListN.{length}
 use Rattle.rules.specs.Base.{Got, got, refused, ◌>>=◌, ◌>>◌, collect}
 use Rattle.rules.specs.Trees.{Open, Binding, opens, opensCon, size}
 use Rattle.rules.specs.Names.{table_of, lentTable}
-use Rattle.rules.specs.Refusals.{number_of}
+use Rattle.rules.specs.Refusals.{number_of, told}
 use Rattle.rules.specs.Calls.{shortLists, tableKept, typeGiven, setGiven, bindingsGiven, apart, opensBinding, typeCall, setCall, lent, resultAfter, replacedType, replacedSet, replaceTypeCall, replaceSetCall}
 use Rattle.rules.specs.Writing.{Rec, words}
 use Rattle.rules.specs.declared.Refusal.{Refusal}
 use Rattle.rules.specs.declared.Refusal.TheVariants.{TooLarge}
 use Rattle.laws.specs.Lists.{clash}
 use Rattle.records.specs.Found.{Words32}
-use Rattle.names.specs.Old.{toldChecked}
 use Rattle.records.specs.Whole.{type-is, set_is}
-use Rattle.names.specs.declared.old.Checked.{Checked}
 use Rattle.queries.specs.Runs.{set-opens}
 use Rattle.queries.specs.ScanLaws.{type-opens}
 use Rattle.lending.specs.Handed.{as_written, unwritten}
 use Rattle.lending.specs.Told.{Made, handed}
-use Rattle.replacing_calls.specs.Entry.{withBindings, entered, binds-long, row-then, stops, checked as all-checked}
+use Rattle.replacing_calls.specs.Entry.{withBindings, Entered, entered, binds-long, row-then, stops, came-in, checked as all-checked}
 use Rattle.replacing_calls.specs.Made.{madeType, madeSet}
 
 -- a refusal makes nothing
@@ -51,9 +49,15 @@ module _ (pool table ws binds : List ℕ) where
   unfolding replacedSet entered
   set-whole = row-then (λ cs bs. apart (table_of pool table) (collect opensCon cs ++ collect opensBinding bs)) (madeSet pool table) (shortLists _) (tableKept (table_of pool table)) (setGiven (table_of pool table) ws) (bindingsGiven (table_of pool table) binds)
 
-  -- what the code's checks say
-  module _ (h : length binds ≤ 8192) (l : lentTable pool table ≡ got tt) (w : Words32 ws) (v : Words32 binds) (x y : Checked) where
-    pub type-checked : toldChecked x ≡ typeCall pool table ws → toldChecked y ≡ withBindings pool table ws binds (toldChecked x) → (entered pool table ws binds (typeGiven (table_of pool table) ws) opens >> got (tt {0})) ≡ toldChecked y
+  -- what is known where the checks are met
+  module _ {A : Type 0} (m : Got A) (os : A → List (Open ℕ)) where
+    abbrev pub AllMet : Type 0
+    AllMet = (a : A) × ((bs : List (Binding ℕ)) × ((entered pool table ws binds m os ≡ got (a, bs)) × Entered pool table ws binds m a bs))
+
+  -- what the code's checks say: x of the list alone, y of the bindings beside it too
+  module _ (h : length binds ≤ 8192) (l : lentTable pool table ≡ got tt) (w : Words32 ws) (v : Words32 binds) (x y : Result (Unit {0}) Refusal) where
+    type-checked : told x ≡ typeCall pool table ws → told y ≡ withBindings pool table ws binds (told x)
+        → (entered pool table ws binds (typeGiven (table_of pool table) ws) opens >> got (tt {0})) ≡ told y
     unfolding typeCall
     type-checked e g =
         sym (g ∙ ap (withBindings pool table ws binds) e ∙ all-checked pool table ws binds (typeGiven (table_of pool table) ws) opens h l v (λ t i.
@@ -61,11 +65,32 @@ module _ (pool table ws binds : List ℕ) where
         let z : length ws / 4 ≡ 0 + size t = k.past in
         rw z (type-opens ws t 0 k.held)))
 
-    pub set-checked : toldChecked x ≡ setCall pool table ws → toldChecked y ≡ withBindings pool table ws binds (toldChecked x) → (entered pool table ws binds (setGiven (table_of pool table) ws) (collect opensCon) >> got (tt {0})) ≡ toldChecked y
+    set-checked : told x ≡ setCall pool table ws → told y ≡ withBindings pool table ws binds (told x)
+        → (entered pool table ws binds (setGiven (table_of pool table) ws) (collect opensCon) >> got (tt {0})) ≡ told y
     unfolding setCall
     set-checked e g =
         sym (g ∙ ap (withBindings pool table ws binds) e ∙ all-checked pool table ws binds (setGiven (table_of pool table) ws) (collect opensCon) h l v (λ cs i.
         set-opens pool table 0 ws cs 0 (length ws / 4) (set_is pool table ws w cs i)))
+
+    pub type-met : told x ≡ typeCall pool table ws → told y ≡ withBindings pool table ws binds (told x) → told y ≡ got tt
+        → AllMet (typeGiven (table_of pool table) ws) opens
+    type-met e g q = came-in pool table ws binds (typeGiven (table_of pool table) ws) opens l (type-checked e g ∙ q)
+
+    pub set-met : told x ≡ setCall pool table ws → told y ≡ withBindings pool table ws binds (told x) → told y ≡ got tt
+        → AllMet (setGiven (table_of pool table) ws) (collect opensCon)
+    set-met e g q = came-in pool table ws binds (setGiven (table_of pool table) ws) (collect opensCon) l (set-checked e g ∙ q)
+
+    pub type-unmet : told x ≡ typeCall pool table ws → told y ≡ withBindings pool table ws binds (told x) → (work : List ℕ) (k : Refusal)
+        → told y ≡ refused (number_of k) → Made (replacedType (table_of pool table) ws binds) work (Err k)
+    type-unmet e g work k q =
+        unmet-made (typeGiven (table_of pool table) ws) opens (madeType pool table) (replacedType (table_of pool table) ws binds)
+        type-whole work k (type-checked e g ∙ q)
+
+    pub set-unmet : told x ≡ setCall pool table ws → told y ≡ withBindings pool table ws binds (told x) → (work : List ℕ) (k : Refusal)
+        → told y ≡ refused (number_of k) → Made (replacedSet (table_of pool table) ws binds) work (Err k)
+    set-unmet e g work k q =
+        unmet-made (setGiven (table_of pool table) ws) (collect opensCon) (madeSet pool table) (replacedSet (table_of pool table) ws binds)
+        set-whole work k (set-checked e g ∙ q)
 
 -- ══ The calls ══
 

@@ -5,7 +5,6 @@ ghost use Rattle.rules.specs.Names.{table_of, lentTable};
 ghost use Rattle.rules.specs.Calls.{setGiven, typeGiven, replacedSet, replacedType};
 ghost use Rattle.rules.specs.Trees.{Ty, Con, Binding};
 ghost use Rattle.laws.specs.NameTable.{Good};
-ghost use Rattle.names.specs.Old.{toldChecked};
 ghost use Rattle.queries.specs.Marks.{Small};
 ghost use Rattle.queries.specs.Scans.{opensIn};
 ghost use Rattle.lending.specs.Told.{Made};
@@ -15,48 +14,37 @@ ghost use Rattle.replacing_calls.specs.Entry.{withBindings, Entered};
 ghost use Rattle.replacing_calls.specs.Stands.{TypeStands, LinesStand, typeCounted, linesCounted};
 ghost use Rattle.replacing_calls.specs.Made.{madeType, madeSet};
 
-use names::old::Checked;
 use places::inner::fill;
 use queries::inner::apart;
 use records::inner::type_end;
-use records::old::{is_bindings, is_set, is_type};
+use records::{is_bindings, is_set, is_type};
 use replacing::inner::flat::lines_flat;
 use replacing::inner::lines::replace_lines;
 use replacing::inner::walk::replace_type;
 use rules::{NAMES, NESTED, RECORD_WORDS, RECORDS, Refusal};
 
 // No, as refusal 4.
-fn unmixed_or(yes: bool) -> Checked
-    ensures { toldChecked result ≡ need yes 4 }
+fn unmixed_or(yes: bool) -> Result<(), Refusal>
+    ensures { told result ≡ need yes 4 }
 {
-    if yes {
-        Checked::Good
-    } else {
-        Checked::Refused(Refusal::Mixed)
-    }
+    if yes { Ok(()) } else { Err(Refusal::Mixed) }
 }
 
 // The checks of the bindings beside a list that was checked: 1, then 4 over both.
 fn with_bindings(
-    first: Checked,
+    first: Result<(), Refusal>,
     pool: &[u8],
     table: &[u32],
     words: &[u32],
     binds: &[u32],
-) -> Checked
-    requires { toldChecked first ≡ got tt → Small (opensIn words.now 0 (length words.now / 4)) }
-    ensures { toldChecked result ≡ withBindings pool.now table.now words.now binds.now (toldChecked first) }
+) -> Result<(), Refusal>
+    requires { told first ≡ got tt → Small (opensIn words.now 0 (length words.now / 4)) }
+    ensures { told result ≡ withBindings pool.now table.now words.now binds.now (told first) }
 {
-    match first {
-        Checked::Good => match is_bindings(pool, table, binds) {
-            Checked::Good => {
-                let n = words.len() / 4;
-                unmixed_or(apart(words, 0, n, binds, 0, binds.len() / 4))
-            }
-            Checked::Refused(r) => Checked::Refused(r),
-        },
-        Checked::Refused(r) => Checked::Refused(r),
-    }
+    first?;
+    is_bindings(pool, table, binds)?;
+    let n = words.len() / 4;
+    unmixed_or(apart(words, 0, n, binds, 0, binds.len() / 4))
 }
 
 // Is the type at the start, of n records, short and flat enough? How many records, or 8.
@@ -130,7 +118,7 @@ fn set_into(
     }
 }
 
-// All that replacing in a type does past the check of 10; what it makes is left at the start of the work buffer.
+/// All that replacing in a type does past the check of 10; what it makes is left at the start of the work buffer. How many records.
 pub fn make_type(
     pool: &[u8],
     table: &[u32],
@@ -145,13 +133,11 @@ pub fn make_type(
     if RECORD_WORDS < binds.len() {
         return Err(Refusal::TooLarge);
     }
-    match with_bindings(is_type(pool, table, words), pool, table, words, binds) {
-        Checked::Good => type_into(pool, table, words, binds, work),
-        Checked::Refused(r) => Err(r),
-    }
+    with_bindings(is_type(pool, table, words), pool, table, words, binds)?;
+    type_into(pool, table, words, binds, work)
 }
 
-// The same for a set.
+/// The same for a set.
 pub fn make_set(
     pool: &[u8],
     table: &[u32],
@@ -166,8 +152,6 @@ pub fn make_set(
     if RECORD_WORDS < binds.len() {
         return Err(Refusal::TooLarge);
     }
-    match with_bindings(is_set(pool, table, words), pool, table, words, binds) {
-        Checked::Good => set_into(pool, table, words, binds, work),
-        Checked::Refused(r) => Err(r),
-    }
+    with_bindings(is_set(pool, table, words), pool, table, words, binds)?;
+    set_into(pool, table, words, binds, work)
 }

@@ -1,4 +1,4 @@
-// The public calls of replacing: a type or a set with its bound variables replaced, written to a result buffer.
+//! The public calls of replacing: a type or a set with its bound variables replaced, written to a result buffer.
 #![tactic(auto)]
 
 pub mod inner;
@@ -12,7 +12,7 @@ use lending::inner::hand_over;
 use lending::lent;
 use rules::Refusal;
 
-// The type with its bound variables replaced, in the result buffer; the work buffer is left all zero.
+/// The type with its bound variables replaced, in the result buffer: how many records. But for 10 the work buffer is left all zero.
 pub fn replace_in_type(
     pool: &[u8],
     table: &[u32],
@@ -30,7 +30,7 @@ pub fn replace_in_type(
     hand_over(made, res, work)
 }
 
-// The set with its bound variables replaced, in the result buffer; the work buffer is left all zero.
+/// The set with its bound variables replaced, in the result buffer: how many records. But for 10 the work buffer is left all zero.
 pub fn replace_in_set(
     pool: &[u8],
     table: &[u32],

@@ -2,7 +2,6 @@
 ghost use Rattle.std.specs.Prelude.{◌≡◌};
 ghost use Rattle.rules.specs.Refusals.{number_of, told, toldBy};
 ghost use Rattle.names.specs.Told.{toldOrder};
-ghost use Rattle.names.specs.Old.{toldChecked};
 ghost use Rattle.adding.specs.Told.{counted};
 ghost use Rattle.solving.specs.Told as solving;
 ghost use Rattle.ceiling.specs.Told.{toldMost};
@@ -10,7 +9,6 @@ ghost use Rattle.rules.specs.Calls.{solved, unsolved};
 ghost use Rattle.saying.specs.Saying.{word, fours, sum, yesWord, saidAs, refusedAs, checkedAs, askedAs, numberAs, orderAs, countedAs, writtenAs, addedAs, solvedAs, wasWord, mostAs, ceilingAs, batchedAs};
 
 use ceiling::Most;
-use names::old::Checked;
 use rules::{Refusal, Was};
 use solving::{Finish, Solution};
 use std::cmp::Ordering;
@@ -64,12 +62,13 @@ pub fn refused(why: Refusal, rounds: u32, words: usize) -> Told
     }
 }
 
-pub fn checked(c: Checked) -> Told
-    ensures { result ≡ checkedAs (toldChecked c) }
+/// Of a check that passes nothing is said.
+pub fn checked(c: Result<(), Refusal>) -> Told
+    ensures { result ≡ checkedAs (told c) }
 {
     match c {
-        Checked::Good => said(0, 0, 0),
-        Checked::Refused(why) => refused(why, 0, 0),
+        Ok(()) => said(0, 0, 0),
+        Err(why) => refused(why, 0, 0),
     }
 }
 

@@ -5,7 +5,7 @@ use Rattle.std.proofs.Common.{◌∙◌}
 use mathlib.Core.List.{List, [], ◌∷◌, append-nil}
 use native.Mathlib.Omega.{arith}
 use Rattle.std.proofs.Math.ListN.{length, get_or}
-use Rattle.rules.specs.Base.{got, ◌>>◌, collect}
+use Rattle.rules.specs.Base.{Got, got, ◌>>◌, collect}
 use Rattle.rules.specs.Calls.{aloneGiven, schemeGiven, schemeCall, opensScheme}
 use Rattle.rules.specs.Names.{table_of, lentTable}
 use Rattle.rules.specs.Schemes.{Scheme, concrete, scheme}
@@ -14,8 +14,6 @@ use Rattle.rules.specs.Trees.{opens, size}
 use Rattle.laws.specs.Checks.{passed}
 use Rattle.laws.specs.KnownNames.{ty-known}
 use Rattle.laws.specs.NameTable.{Good, good-laid}
-use Rattle.names.specs.Old.{toldChecked}
-use Rattle.names.specs.declared.old.Checked.{Checked}
 use Rattle.records.specs.Found.{Words32}
 use Rattle.records.specs.Good.{Chain, numbers, holding, GoodBound, GoodScheme}
 use Rattle.records.specs.Places.{seen-in}
@@ -25,7 +23,7 @@ use Rattle.queries.specs.GoodOpens.{names-small}
 use Rattle.queries.specs.Marks.{Small}
 use Rattle.queries.specs.ScanLaws.{opens-none, opens-step, opens-join, ty-opens, type-opens, chain-opens}
 use Rattle.queries.specs.Scans.{opensIn}
-use Rattle.schemes.specs.Entry.{restChecked, entered, checked as all-checked}
+use Rattle.schemes.specs.Entry.{restChecked, entered, checked as all-checked, Entered, came-in}
 
 module _ (pool table s : List ℕ) where
   abbrev without : tree.Open ℕ → List (tree.Open ℕ)
@@ -74,8 +72,18 @@ module _ (pool table s : List ℕ) where
       small (scheme n t bs) (v, (e, (g, c)), m) few = rw (scheme-opens (scheme n t bs) (v, (e, (g, c)), m)) (names-small pool table n (opens t) (ty-known (numbers pool table) (holding pool table) n t g.good) few)
 
   -- what the code's checks say
-  pub scheme-checked : (bounds names : List ℕ) → length bounds ≤ 8192 → length names ≤ 2048 → lentTable pool table ≡ got tt → Words32 s → (x y : Checked) → toldChecked x ≡ schemeCall pool table s
-      → toldChecked y ≡ restChecked pool table s bounds names (toldChecked x) → (entered pool table s bounds names (schemeGiven (table_of pool table) s) opensScheme >> got (tt {0})) ≡ toldChecked y
+  pub scheme-checked : (bounds names : List ℕ) → length bounds ≤ 8192 → length names ≤ 2048 → lentTable pool table ≡ got tt → Words32 s
+      → (x y : Got (Unit {0})) → x ≡ schemeCall pool table s → y ≡ restChecked pool table s bounds names x
+      → (entered pool table s bounds names (schemeGiven (table_of pool table) s) opensScheme >> got (tt {0})) ≡ y
   unfolding schemeCall
   scheme-checked bounds names h k l w x y e g =
-      sym (g ∙ ap (restChecked pool table s bounds names) e ∙ all-checked pool table s bounds names (schemeGiven (table_of pool table) s) opensScheme h k l (λ sc i. scheme-opens sc (scheme-is pool table s w sc i)))
+      sym (g ∙ ap (restChecked pool table s bounds names) e
+      ∙ all-checked pool table s bounds names (schemeGiven (table_of pool table) s) opensScheme h k l (λ sc i. scheme-opens sc (scheme-is pool table s w sc i)))
+
+  -- where they are met
+  pub scheme-came : (bounds names : List ℕ) → length bounds ≤ 8192 → length names ≤ 2048 → lentTable pool table ≡ got tt → Words32 s
+      → got tt ≡ schemeCall pool table s → got tt ≡ restChecked pool table s bounds names (got tt)
+      → (sc : Scheme ℕ) × ((bs : List (tree.Open ℕ)) × ((entered pool table s bounds names (schemeGiven (table_of pool table) s) opensScheme ≡ got (sc, bs))
+      × Entered pool table s bounds names (schemeGiven (table_of pool table) s) opensScheme sc bs))
+  scheme-came bounds names h k l w e g =
+      came-in pool table s bounds names (schemeGiven (table_of pool table) s) opensScheme h k l (scheme-checked bounds names h k l w (got tt) (got tt) e g)

@@ -1,6 +1,6 @@
 pub mod Entry
 pub mod Whole
-pub mod Determined
+pub mod Theorems
 pub mod Generalised
 pub mod GivenScheme
 pub mod Wholes

@@ -22,8 +22,6 @@ use Rattle.laws.specs.GoodProducts.{goodAtom, atom-tells}
 use Rattle.laws.specs.Lists.{All}
 use Rattle.laws.specs.NameTable.{Good, good-laid, held-is, held_tells}
 use Rattle.laws.specs.Order.{Tells}
-use Rattle.names.specs.Old.{toldChecked}
-use Rattle.names.specs.declared.old.Checked.{Checked}
 use Rattle.products.specs.Held.{law}
 use Rattle.renaming.specs.Places.{all_of}
 use Rattle.renaming.proofs.InTurn.{quantify-once}
@@ -42,7 +40,7 @@ use Rattle.lending.specs.Told.{Made, handed}
 use Rattle.handing.specs.Bounds.{Rename, allBounds, BoundsAt}
 use Rattle.quantifying.specs.Core.{made-refused}
 use Rattle.quantifying.specs.Ready.{Ready, quantifiedAs}
-use Rattle.schemes.specs.Entry.{restChecked, entered, bounds-long, names-long, row-then, stops, checked as all-checked, Entered}
+use Rattle.schemes.specs.Entry.{restChecked, entered, bounds-long, names-long, row-then, stops, checked as all-checked, Entered, came-in}
 
 -- ══ A call is its checks, then what it makes ══
 
@@ -113,14 +111,23 @@ module _ (pool table ws bounds names : List ℕ) where
   quantify-whole = row-then (λ t. apart (table_of pool table) (opens t)) quantifiedFrom (shortLists _ >> shortNumbers names) (tableKept (table_of pool table)) (typeGiven (table_of pool table) ws) (boundsGiven (table_of pool table) bounds) (numbersGiven (table_of pool table) names)
 
   -- what the code's checks say
-  pub quantify-checked : length bounds ≤ 8192 → length names ≤ 2048 → lentTable pool table ≡ got tt → Words32 ws → (x y : Checked) → toldChecked x ≡ typeCall pool table ws
-      → toldChecked y ≡ restChecked pool table ws bounds names (toldChecked x) → (entered pool table ws bounds names (typeGiven (table_of pool table) ws) opens >> got (tt {0})) ≡ toldChecked y
+  pub quantify-checked : length bounds ≤ 8192 → length names ≤ 2048 → lentTable pool table ≡ got tt → Words32 ws
+      → (x y : Got (Unit {0})) → x ≡ typeCall pool table ws → y ≡ restChecked pool table ws bounds names x
+      → (entered pool table ws bounds names (typeGiven (table_of pool table) ws) opens >> got (tt {0})) ≡ y
   unfolding typeCall
   quantify-checked h k l w x y e g =
       sym (g ∙ ap (restChecked pool table ws bounds names) e ∙ all-checked pool table ws bounds names (typeGiven (table_of pool table) ws) opens h k l (λ t i.
       let k = type-is pool table ws w t i in
       let z : length ws / 4 ≡ 0 + size t = k.past in
       rw z (type-opens ws t 0 k.held)))
+
+  -- where they are met
+  pub quantify-came : length bounds ≤ 8192 → length names ≤ 2048 → lentTable pool table ≡ got tt → Words32 ws
+      → got tt ≡ typeCall pool table ws → got tt ≡ restChecked pool table ws bounds names (got tt)
+      → (t : Ty ℕ) × ((bs : List (tree.Open ℕ)) × ((entered pool table ws bounds names (typeGiven (table_of pool table) ws) opens ≡ got (t, bs))
+      × Entered pool table ws bounds names (typeGiven (table_of pool table) ws) opens t bs))
+  quantify-came h k l w e g =
+      came-in pool table ws bounds names (typeGiven (table_of pool table) ws) opens h k l (quantify-checked h k l w (got tt) (got tt) e g)
 
   module _ (w : Words32 ws) (work : List ℕ) (room : 16384 ≤ length work) (t : Ty ℕ) (bs : List (tree.Open ℕ)) (n : Entered pool table ws bounds names (typeGiven (table_of pool table) ws) opens t bs) where
     few-names : All (λ x. x < 256) names

@@ -1,7 +1,8 @@
-// The public calls on schemes.
+//! The public calls on schemes.
 #![tactic(auto)]
 
 pub mod inner;
+pub mod theorems;
 
 ghost use Rattle.std.specs.Prelude.{◌≡◌};
 ghost use Rattle.rules.specs.Calls.{quantifyCall, generaliseCall, instantiateCall};
@@ -14,7 +15,7 @@ use lending::inner::hand_over;
 use lending::lent;
 use rules::Refusal;
 
-// The type and bounds with the handed names quantified, as a scheme in the result buffer; the work buffer is left all zero.
+/// The type and bounds with the handed names quantified, as a scheme in the result buffer; the work buffer is left all zero.
 pub fn quantify(
     pool: &[u8],
     table: &[u32],
@@ -33,7 +34,7 @@ pub fn quantify(
     hand_over(made, res, work)
 }
 
-// The scheme with the bounds generalised: a concrete type's names are quantified, another scheme stays; the work buffer is left all zero.
+/// The scheme with the bounds generalised: a concrete type's names are quantified, another scheme stays; the work buffer is left all zero.
 pub fn generalise(
     pool: &[u8],
     table: &[u32],
@@ -51,7 +52,7 @@ pub fn generalise(
     hand_over(made, res, work)
 }
 
-// The type and bounds of a scheme with the handed names put back, in the result buffer; the work buffer is left all zero.
+/// The type and bounds of a scheme with the handed names put back, in the result buffer; the work buffer is left all zero.
 pub fn instantiate(
     pool: &[u8],
     table: &[u32],

@@ -9,14 +9,12 @@ ghost use Rattle.lending.specs.Told.{Made};
 ghost use Rattle.schemes.specs.Generalising.{Given, Generalises};
 
 use super::checks::rest_checked;
-use names::old::Checked;
 use quantifying::inner::quantifying::quantify_at;
 use queries::Kind;
 use queries::inner::list_names;
-use records::View;
 use records::inner::copy;
-use records::old::is_scheme;
 use records::seen::view_at;
+use records::{View, is_scheme};
 use rules::{NAMES, RECORD_WORDS, Refusal};
 
 // A concrete type with its names, sorted, quantified; bounds of other names are left out.
@@ -77,15 +75,7 @@ pub fn make_generalised(
     if RECORD_WORDS < bounds.len() {
         return Err(Refusal::TooLarge);
     }
-    match rest_checked(
-        is_scheme(pool, table, given),
-        pool,
-        table,
-        given,
-        bounds,
-        &bounds[..0],
-    ) {
-        Checked::Good => generalise_scheme(pool, table, given, bounds, work),
-        Checked::Refused(r) => Err(r),
-    }
+    is_scheme(pool, table, given)?;
+    rest_checked(pool, table, given, bounds, &[])?;
+    generalise_scheme(pool, table, given, bounds, work)
 }

@@ -7,8 +7,7 @@ ghost use Rattle.lending.specs.Told.{Made};
 
 use super::checks::rest_checked;
 use instantiating::inner::instantiating::instantiate_scheme;
-use names::old::Checked;
-use records::old::is_scheme;
+use records::is_scheme;
 use rules::{RECORDS, Refusal};
 
 // The type and bounds of a scheme with handed names put back; no bounds are given.
@@ -26,16 +25,7 @@ pub fn make_instantiated(
     if RECORDS < names.len() {
         return Err(Refusal::TooLarge);
     }
-    let none = [0u32; 0];
-    match rest_checked(
-        is_scheme(pool, table, given),
-        pool,
-        table,
-        given,
-        &none,
-        names,
-    ) {
-        Checked::Good => instantiate_scheme(pool, table, given, names, work),
-        Checked::Refused(r) => Err(r),
-    }
+    is_scheme(pool, table, given)?;
+    rest_checked(pool, table, given, &[], names)?;
+    instantiate_scheme(pool, table, given, names, work)
 }

@@ -6,9 +6,8 @@ ghost use Rattle.rules.specs.Names.{table_of, lentTable};
 ghost use Rattle.lending.specs.Told.{Made};
 
 use super::checks::rest_checked;
-use names::old::Checked;
 use quantifying::inner::quantifying::quantify_at;
-use records::old::is_type;
+use records::is_type;
 use rules::{RECORD_WORDS, RECORDS, Refusal};
 
 // A type and bounds with handed names quantified.
@@ -30,15 +29,7 @@ pub fn make_quantified(
     if RECORDS < names.len() {
         return Err(Refusal::TooLarge);
     }
-    match rest_checked(
-        is_type(pool, table, words),
-        pool,
-        table,
-        words,
-        bounds,
-        names,
-    ) {
-        Checked::Good => quantify_at(pool, table, words, 0, names, bounds, true, work),
-        Checked::Refused(r) => Err(r),
-    }
+    is_type(pool, table, words)?;
+    rest_checked(pool, table, words, bounds, names)?;
+    quantify_at(pool, table, words, 0, names, bounds, true, work)
 }

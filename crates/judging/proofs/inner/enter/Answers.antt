@@ -1,6 +1,5 @@
-use mathlib.Core.Path.{sym, ap, ◌∙◌}
+use mathlib.Core.Path.{◌∙◌}
 use native.Mathlib.Omega.{arith}
-use Rattle.names.specs.Old.{toldChecked}
 use Rattle.judging.specs.Entry.{types_long, bounds-long, many-long, set_told}
 use Rattle.judging.proofs.inner.enter.Goals as goal
 use Rattle.judging.proofs.inner.enter.Goals.{
@@ -23,14 +22,8 @@ returns-then-count-gt-RECORDS c = λ es m.
     let a = c.args in
     many-long a.pool.now a.table.now a.set.now a.types.now a.bounds.now es (omega (arith, m, c.if-count-gt-RECORDS.true))
 
-pub returns-in-Good : goal.returns-in-Good
-returns-in-Good c = λ es m.
+pub returns : goal.returns
+returns c = λ es m.
     let a = c.args in
     let few = set_told a.pool.now a.table.now a.set.now a.types.now a.bounds.now es c.requires c.if-types-gt-RECORD_WORDS.false in
-    sym (ap toldChecked c.in-Good.is) ∙ c.is_set.ensures ∙ few c.if-bounds-gt-RECORD_WORDS.false (omega (arith, m, c.if-count-gt-RECORDS.false))
-
-pub returns-in-Refused : goal.returns-in-Refused
-returns-in-Refused c = λ es m.
-    let a = c.args in
-    let few = set_told a.pool.now a.table.now a.set.now a.types.now a.bounds.now es c.requires c.if-types-gt-RECORD_WORDS.false in
-    sym (ap toldChecked c.in-Refused.is) ∙ c.is_set.ensures ∙ few c.if-bounds-gt-RECORD_WORDS.false (omega (arith, m, c.if-count-gt-RECORDS.false))
+    c.is_set.ensures ∙ few c.if-bounds-gt-RECORD_WORDS.false (omega (arith, m, c.if-count-gt-RECORDS.false))

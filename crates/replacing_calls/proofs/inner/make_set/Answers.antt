@@ -1,12 +1,10 @@
 -- `inner::make_set` meets its contract.
-use mathlib.Core.Path.{◌≡◌, sym, ap, ◌∙◌}
-use Rattle.rules.specs.Base.{got, ◌>>◌, collect}
-use Rattle.rules.specs.Calls.{setGiven}
-use Rattle.rules.specs.Names.{table_of}
-use Rattle.rules.specs.Trees.{opensCon}
-use Rattle.names.specs.Old.{toldChecked}
-use Rattle.replacing_calls.specs.Entry.{entered, constraints-small, came-in}
-use Rattle.replacing_calls.specs.Whole.{long-made, unmet-made, met-made, set-whole, set-checked}
+use mathlib.Core.Path.{sym, ap, ◌∙◌}
+use Rattle.std.proofs.lemmas.Result.{err_from_is_err_and}
+use Rattle.rules.specs.Refusals.{told}
+use Rattle.records.specs.Found.{Words32}
+use Rattle.replacing_calls.specs.Entry.{constraints-small}
+use Rattle.replacing_calls.specs.Whole.{long-made, met-made, set-whole, set-met, set-unmet}
 use Rattle.replacing_calls.proofs.inner.make_set.Goals as goal
 
 pub returns-then-binds-gt-RECORD_WORDS : goal.returns-then-binds-gt-RECORD_WORDS
@@ -16,15 +14,26 @@ pub with_bindings-requires : goal.with_bindings-requires
 with_bindings-requires c = λ e. constraints-small _ _ _ (record { word = λ i. (c.shared_slice_known-3-1.given i).fits }) (sym c.is_set.ensures ∙ e)
 
 pub set_into-requires : goal.set_into-requires
-set_into-requires c = let entry : (entered c.args.pool.now c.args.table.now c.args.words.now c.args.binds.now (setGiven (table_of c.args.pool.now c.args.table.now) c.args.words.now) (collect opensCon) >> got (tt {0})) ≡ toldChecked c.with_bindings.result = set-checked _ _ _ _ c.if-binds-gt-RECORD_WORDS.false c.requires.table_value (record { word = λ i. (c.shared_slice_known-3-1.given i).fits }) (record { word = λ i. (c.shared_slice_known-4-1.given i).fits }) c.is_set.result c.with_bindings.result c.is_set.ensures c.with_bindings.ensures in
-    let (t, (bs, (e, n))) = came-in _ _ _ _ _ (collect opensCon) c.requires.table_value (entry ∙ ap toldChecked c.in-Good.is) in
+set_into-requires c =
+    let word : Words32 c.args.words.now = record { word = λ i. (c.shared_slice_known-3-1.given i).fits } in
+    let binds-word : Words32 c.args.binds.now = record { word = λ i. (c.shared_slice_known-4-1.given i).fits } in
+    let (t, (bs, (e, n))) = set-met _ _ _ _ c.if-binds-gt-RECORD_WORDS.false c.requires.table_value word binds-word _ _ c.is_set.ensures c.with_bindings.ensures
+    (ap told c.in_ok-with_bindings.was) in
     record { by_index = (t, (bs, n)); in_bounds = c.requires.in_bounds }
 
-pub returns-in-Good : goal.returns-in-Good
-returns-in-Good c = let entry : (entered c.args.pool.now c.args.table.now c.args.words.now c.args.binds.now (setGiven (table_of c.args.pool.now c.args.table.now) c.args.words.now) (collect opensCon) >> got (tt {0})) ≡ toldChecked c.with_bindings.result = set-checked _ _ _ _ c.if-binds-gt-RECORD_WORDS.false c.requires.table_value (record { word = λ i. (c.shared_slice_known-3-1.given i).fits }) (record { word = λ i. (c.shared_slice_known-4-1.given i).fits }) c.is_set.result c.with_bindings.result c.is_set.ensures c.with_bindings.ensures in
-    let (t, (bs, (e, n))) = came-in _ _ _ _ _ (collect opensCon) c.requires.table_value (entry ∙ ap toldChecked c.in-Good.is) in
+pub returns : goal.returns
+returns c =
+    let word : Words32 c.args.words.now = record { word = λ i. (c.shared_slice_known-3-1.given i).fits } in
+    let binds-word : Words32 c.args.binds.now = record { word = λ i. (c.shared_slice_known-4-1.given i).fits } in
+    let (t, (bs, (e, n))) = set-met _ _ _ _ c.if-binds-gt-RECORD_WORDS.false c.requires.table_value word binds-word _ _ c.is_set.ensures c.with_bindings.ensures
+    (ap told c.in_ok-with_bindings.was) in
     met-made _ _ _ _ _ _ _ _ (set-whole _ _ _ _) _ _ t bs e (c.set_into.ensures t bs n)
 
-pub returns-in-Refused : goal.returns-in-Refused
-returns-in-Refused c = let entry : (entered c.args.pool.now c.args.table.now c.args.words.now c.args.binds.now (setGiven (table_of c.args.pool.now c.args.table.now) c.args.words.now) (collect opensCon) >> got (tt {0})) ≡ toldChecked c.with_bindings.result = set-checked _ _ _ _ c.if-binds-gt-RECORD_WORDS.false c.requires.table_value (record { word = λ i. (c.shared_slice_known-3-1.given i).fits }) (record { word = λ i. (c.shared_slice_known-4-1.given i).fits }) c.is_set.result c.with_bindings.result c.is_set.ensures c.with_bindings.ensures in
-    unmet-made _ _ _ _ _ _ _ _ (set-whole _ _ _ _) _ _ (entry ∙ ap toldChecked c.in-Refused.is)
+pub returns-in_err-with_bindings : goal.returns-in_err-with_bindings
+returns-in_err-with_bindings c =
+    let word : Words32 c.args.words.now = record { word = λ i. (c.shared_slice_known-3-1.given i).fits } in
+    let binds-word : Words32 c.args.binds.now = record { word = λ i. (c.shared_slice_known-4-1.given i).fits } in
+    let p = err_from_is_err_and c.from_residual.result c.from_residual.ensures.1 in
+    rw (p.1, p.2)
+    (set-unmet _ _ _ _ c.if-binds-gt-RECORD_WORDS.false c.requires.table_value word binds-word _ _ c.is_set.ensures c.with_bindings.ensures _ _
+    (ap told c.in_err-with_bindings.was))

@@ -1,23 +1,15 @@
 -- `inner::checks::rest_checked` meets its contract.
-use mathlib.Core.Path.{sym, ap, ◌∙◌}
-use Rattle.names.specs.Old.{toldChecked}
+use mathlib.Core.Path.{sym, ◌∙◌}
+use Rattle.std.proofs.lemmas.Result.{err_from_is_err_and}
 use Rattle.schemes.proofs.inner.checks.rest_checked.Goals as goal
 
-pub bounds_held-requires : goal.bounds_held-requires
-bounds_held-requires c = (c.requires (ap toldChecked c.in-Good.is)).0
-
 pub numbers_checked-requires : goal.numbers_checked-requires
-numbers_checked-requires c = let g = c.requires (ap toldChecked c.in-Good.is) in record { in_bounds = g.0.words; small = g.1 }
+numbers_checked-requires c = record { in_bounds = c.requires.good.words; small = c.requires.small }
 
-pub returns-in-Good-bounds_held : goal.returns-in-Good-bounds_held
-returns-in-Good-bounds_held c =
-    let q = sym c.bounds_held.ensures ∙ ap toldChecked c.in-Good-bounds_held.is in
-    c.numbers_checked.ensures c.args.pool.now ∙ sym (rw (c.in-Good.is, q))
+pub returns : goal.returns
+returns c = c.numbers_checked.ensures c.args.pool.now ∙ sym (rw (sym c.in_ok-bounds_held.ensures))
 
-pub returns-in-Refused-bounds_held : goal.returns-in-Refused-bounds_held
-returns-in-Refused-bounds_held c =
-    let q = sym c.bounds_held.ensures ∙ ap toldChecked c.in-Refused-bounds_held.is in
-    sym (rw (c.in-Good.is, q))
-
-pub returns-in-Refused : goal.returns-in-Refused
-returns-in-Refused c = sym (rw c.in-Refused.is)
+pub returns-in_err-bounds_held : goal.returns-in_err-bounds_held
+returns-in_err-bounds_held c =
+    let p = err_from_is_err_and c.from_residual.result c.from_residual.ensures.1 in
+    rw (p.1, p.2, sym c.in_err-bounds_held.ensures)

@@ -1,17 +1,14 @@
--- The contract leaves no choice: two results that it allows coincide (`add-determined`). And the answer has the number of
--- its outcome (`add-numbered`).
-use Rattle.std.specs.Prelude.{◌≡◌, refl, List, ℕ, Result}
+-- The contract leaves no choice, and the answer has the number of its outcome.
+use Rattle.std.specs.Prelude.{◌≡◌, refl, ℕ}
 use Rattle.std.proofs.Common.{ap, sym, ◌∙◌}
 use Rattle.rules.specs.Adding as rules
-use Rattle.rules.specs.Calls.{AddedTo, addCall}
-use Rattle.rules.specs.Numbers as numbers
+use Rattle.rules.specs.Calls.{AddedTo}
 use Rattle.rules.specs.Numbers.{refusalIn, number}
-use Rattle.rules.specs.Refusals.{toldBy}
-use Rattle.rules.specs.declared.Refusal.{Refusal}
 use Rattle.laws.specs.Numbers.{toldBy-injective}
 use Rattle.adding.specs.declared.Verdict.{Verdict}
 use Rattle.adding.specs.declared.Verdict.TheVariants.{Satisfied, Violated, Unknown}
 use Rattle.adding.specs.Told.{toldVerdict, counted, addedAs}
+use Rattle.adding.specs.Theorems.{AddDetermined, AddNumbered}
 
 verdict-injective : (v w : Verdict) → toldVerdict v ≡ toldVerdict w → v ≡ w
 verdict-injective Satisfied Satisfied e = refl
@@ -30,14 +27,11 @@ counted-injective (v, m) (w, n) e =
     let j : m ≡ n = ap (λ (p : rules.Added × ℕ). p.1) e in
     cc
 
--- `add`
-pub add-determined : (pool table buffer : List ℕ) (count : ℕ) (con : List ℕ) (p q : Result (Verdict × ℕ) Refusal) (a b : List ℕ)
-    → addedAs p a ≡ addCall pool table buffer count con → addedAs q b ≡ addCall pool table buffer count con → (p ≡ q) × (a ≡ b)
+pub add-determined : AddDetermined
 add-determined pool table buffer count con p q a b h k =
     let e : addedAs p a ≡ addedAs q b = h ∙ sym k in
     (toldBy-injective counted counted-injective p q (ap (λ (r : AddedTo). r.answer) e), ap (λ (r : AddedTo). r.buffer) e)
 
-pub add-numbered : (pool table buffer : List ℕ) (count : ℕ) (con : List ℕ) (p : Result (Verdict × ℕ) Refusal) (a : List ℕ)
-    → addedAs p a ≡ addCall pool table buffer count con → refusalIn (toldBy counted p) ≡ number (numbers.added (addCall pool table buffer count con))
+pub add-numbered : AddNumbered
 unfolding number
 add-numbered pool table buffer count con p a h = ap (λ (r : AddedTo). refusalIn r.answer) h
