@@ -1,4 +1,4 @@
-// The answers of the calls that `saying` does not tell.
+//! The answers of the calls that `saying` does not tell.
 ghost use Rattle.std.specs.Prelude.{◌≡◌};
 ghost use Rattle.exponents.specs.Answers.{expOf};
 ghost use Rattle.eliminating.specs.Told.{toldEliminated};
@@ -23,7 +23,7 @@ fn power_words(e: Exponent) -> Told
     said(e.num_word(), e.den, 0)
 }
 
-// An exponent.
+/// An exponent.
 pub fn powered(p: Result<Exponent, Refusal>) -> Told
     ensures { result ≡ powerAs (toldBy expOf p) }
 {
