@@ -14,7 +14,7 @@ use filling::fill;
 use lists::{enter_names, gives_from, lent_from, lines_of, runs_from, to_bytes};
 use std::io;
 use std::io::Read;
-use text::{Answer, TEXT_BYTES, read_text, write_text};
+use text::{TEXT_BYTES, read_text, write_text};
 
 // The list is read in blocks, at most this many.
 const BLOCKS: usize = 16;
@@ -97,7 +97,7 @@ fn written_holds(s: &[u8], at: usize, pool: &[u8], table: &[u32], set: &[u32]) -
     let lines = lines_of(s, at);
     let mut written = written_room();
     match write_text(pool, table, set, &mut written) {
-        Answer::Bytes(n) => {
+        Ok(n) => {
             let mut wide = wide_room();
             let m = runs_from(s, lines.back, &mut wide);
             if n != m {
@@ -105,7 +105,7 @@ fn written_holds(s: &[u8], at: usize, pool: &[u8], table: &[u32], set: &[u32]) -
             }
             same_text(&written, &wide[0..m])
         }
-        Answer::Refused(_) => false,
+        Err(_) => false,
     }
 }
 

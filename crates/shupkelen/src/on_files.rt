@@ -1,4 +1,4 @@
-// The calls on damaged files, on a full name table, and on text.
+//! The calls on damaged files, on a full name table, and on text.
 ghost use Rattle.std.specs.Prelude.{◌≡◌};
 ghost use Rattle.rules.specs.Rescue.{rescueCall};
 ghost use Rattle.rules.specs.Compaction.{compactCall};
@@ -12,7 +12,7 @@ use text::{read_text, write_text};
 use wording::answers::{compacted, rescued, sheet, spelt};
 use wording::hand;
 
-// Keeps what is well formed of a damaged set file: records kept, places skipped.
+/// Keeps what is well formed of a damaged set file: records kept, places skipped.
 #[unsafe(no_mangle)]
 pub extern "C" fn shupkelen_rescue(
     pool: &[u8],
@@ -27,7 +27,7 @@ pub extern "C" fn shupkelen_rescue(
     hand(rescued(rescue(pool, table, file, kept, skipped)), answer)
 }
 
-// Drops the names that no set uses, moves the others up and renumbers the sets: names kept.
+/// Drops the names that no set uses, moves the others up and renumbers the sets: names kept.
 #[unsafe(no_mangle)]
 pub extern "C" fn shupkelen_compact(
     pool: &mut [u8],
@@ -41,7 +41,7 @@ pub extern "C" fn shupkelen_compact(
     hand(compacted(compact(pool, table, sets, lengths)), answer)
 }
 
-// Writes a set as text: its bytes.
+/// Writes a set as text: its bytes.
 #[unsafe(no_mangle)]
 pub extern "C" fn shupkelen_write_text(
     pool: &[u8],
@@ -55,7 +55,7 @@ pub extern "C" fn shupkelen_write_text(
     hand(spelt(write_text(pool, table, set, text)), answer)
 }
 
-// Reads text as a set, and enters its new names: records, constraints and new names; on a refusal the line and the column.
+/// Reads text as a set, and enters its new names: records, constraints and new names; on a refusal the line and the column.
 #[unsafe(no_mangle)]
 pub extern "C" fn shupkelen_read_text(
     pool: &mut [u8],

@@ -1,4 +1,4 @@
-// The calls that only look at lists of records.
+//! The calls that only look at lists of records.
 ghost use Rattle.std.specs.Prelude.{◌≡◌, eqb};
 ghost use Rattle.rules.specs.Calls.{setCall, typeCall, schemeCall, bindingsCall, containsCall, closedCall, variablesCall};
 ghost use Rattle.rules.specs.Calls as rules;
@@ -9,12 +9,12 @@ ghost use Rattle.shupkelen.specs.Exports.{out, askedOut, namesOut, ceilingOut};
 use ceiling::ceiling;
 use lending::lent;
 use queries::{closed, contains, variables};
-use records::old::{is_bindings, is_scheme, is_set, is_type};
+use records::{is_bindings, is_scheme, is_set, is_type};
 use rules::Refusal;
 use saying::told::{asked, counted, limited};
 use wording::{hand, number};
 
-// Is it a set of constraints? 10, 8 or 1 where it is not.
+/// Is it a set of constraints? 10, 8 or 1 where it is not.
 #[unsafe(no_mangle)]
 pub extern "C" fn shupkelen_is_set(pool: &[u8], table: &[u32], words: &[u32]) -> u32
     ensures { result ≡ refusalIn (setCall pool.now table.now words.now) }
@@ -22,7 +22,7 @@ pub extern "C" fn shupkelen_is_set(pool: &[u8], table: &[u32], words: &[u32]) ->
     number(is_set(pool, table, words))
 }
 
-// Is it one type? 10, 8 or 1 where it is not.
+/// Is it one type? 10, 8 or 1 where it is not.
 #[unsafe(no_mangle)]
 pub extern "C" fn shupkelen_is_type(pool: &[u8], table: &[u32], words: &[u32]) -> u32
     ensures { result ≡ refusalIn (typeCall pool.now table.now words.now) }
@@ -30,7 +30,7 @@ pub extern "C" fn shupkelen_is_type(pool: &[u8], table: &[u32], words: &[u32]) -
     number(is_type(pool, table, words))
 }
 
-// Is it a scheme? 10, 8 or 1 where it is not.
+/// Is it a scheme? 10, 8 or 1 where it is not.
 #[unsafe(no_mangle)]
 pub extern "C" fn shupkelen_is_scheme(pool: &[u8], table: &[u32], words: &[u32]) -> u32
     ensures { result ≡ refusalIn (schemeCall pool.now table.now words.now) }
@@ -38,7 +38,7 @@ pub extern "C" fn shupkelen_is_scheme(pool: &[u8], table: &[u32], words: &[u32])
     number(is_scheme(pool, table, words))
 }
 
-// Are these bindings? 10, 8 or 1 where it is not.
+/// Are these bindings? 10, 8 or 1 where it is not.
 #[unsafe(no_mangle)]
 pub extern "C" fn shupkelen_is_bindings(pool: &[u8], table: &[u32], words: &[u32]) -> u32
     ensures { result ≡ refusalIn (bindingsCall pool.now table.now words.now) }
@@ -46,7 +46,7 @@ pub extern "C" fn shupkelen_is_bindings(pool: &[u8], table: &[u32], words: &[u32
     number(is_bindings(pool, table, words))
 }
 
-// Are all four buffers long enough for a call that writes records? 10 where one is not.
+/// Are all four buffers long enough for a call that writes records? 10 where one is not.
 #[unsafe(no_mangle)]
 pub extern "C" fn shupkelen_lent(pool: &[u8], table: &[u32], res: &[u32], work: &[u32]) -> u32
     ensures { result ≡ refusalIn (rules.lent pool.now table.now res.now work.now) }
@@ -58,7 +58,7 @@ pub extern "C" fn shupkelen_lent(pool: &[u8], table: &[u32], res: &[u32], work: 
     }
 }
 
-// Does a type contain the variable of this name or, where parameters is 1, the parameter?
+/// Does a type contain the variable of this name or, where parameters is 1, the parameter?
 #[unsafe(no_mangle)]
 pub extern "C" fn shupkelen_contains(
     pool: &[u8],
@@ -76,7 +76,7 @@ pub extern "C" fn shupkelen_contains(
     )
 }
 
-// Has a type no variable and no parameter?
+/// Has a type no variable and no parameter?
 #[unsafe(no_mangle)]
 pub extern "C" fn shupkelen_closed(
     pool: &[u8],
@@ -89,7 +89,7 @@ pub extern "C" fn shupkelen_closed(
     hand(asked(closed(pool, table, words)), answer)
 }
 
-// The numbers of a type's variables and, where parameters is 1, parameters, in the order of their names' bytes.
+/// The numbers of a type's variables and, where parameters is 1, parameters, in the order of their names' bytes.
 #[unsafe(no_mangle)]
 pub extern "C" fn shupkelen_variables(
     pool: &[u8],
@@ -107,7 +107,7 @@ pub extern "C" fn shupkelen_variables(
     )
 }
 
-// How many rounds solving a set can take at the most, and its distinct variables.
+/// How many rounds solving a set can take at the most, and its distinct variables.
 #[unsafe(no_mangle)]
 pub extern "C" fn shupkelen_ceiling(
     pool: &[u8],

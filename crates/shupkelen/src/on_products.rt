@@ -1,4 +1,4 @@
-// The calls on products: four words for each factor, as the crate `factors` has them.
+//! The calls on products: four words for each factor, as the crate `factors` has them.
 ghost use Rattle.std.specs.Prelude.{◌≡◌};
 ghost use Rattle.rules.specs.Exponents.{frac};
 ghost use Rattle.rules.specs.Values.{multiplyCall, divideCall, inverseCall, raiseCall};
@@ -9,7 +9,7 @@ use exponents::Exponent;
 use factors::{product_from, put_product};
 use wording::hand;
 
-// The product of two products: 7 for a power out of range, 8 for over 64 factors.
+/// The product of two products: 7 for a power out of range, 8 for over 64 factors.
 #[unsafe(no_mangle)]
 pub extern "C" fn shupkelen_product_multiply(
     pool: &[u8],
@@ -26,7 +26,7 @@ pub extern "C" fn shupkelen_product_multiply(
     hand(put_product(p.multiply(q, pool, table), res), answer)
 }
 
-// Their quotient, likewise.
+/// Their quotient, likewise.
 #[unsafe(no_mangle)]
 pub extern "C" fn shupkelen_product_divide(
     pool: &[u8],
@@ -43,7 +43,7 @@ pub extern "C" fn shupkelen_product_divide(
     hand(put_product(p.divide(q, pool, table), res), answer)
 }
 
-// The inverse of a product.
+/// The inverse of a product.
 #[unsafe(no_mangle)]
 pub extern "C" fn shupkelen_product_invert(
     pool: &[u8],
@@ -58,7 +58,7 @@ pub extern "C" fn shupkelen_product_invert(
     hand(put_product(p.invert(pool, table), res), answer)
 }
 
-// A power of a product: 7 for a power out of range.
+/// A power of a product: 7 for a power out of range.
 #[unsafe(no_mangle)]
 pub extern "C" fn shupkelen_product_power(
     pool: &[u8],

@@ -1,4 +1,4 @@
-// The calls that write records: adding, replacing, solving and schemes.
+//! The calls that write records: adding, replacing, solving and schemes.
 ghost use Rattle.std.specs.Prelude.{◌≡◌};
 ghost use Rattle.rules.specs.Calls.{addCall, replaceTypeCall, replaceSetCall, solveCall, judgeCall, quantifyCall, generaliseCall, instantiateCall};
 ghost use Rattle.rules.specs.Batches.{batchCall};
@@ -19,7 +19,7 @@ use solving::solve;
 use wording::answers::eliminated;
 use wording::hand;
 
-// Tests a constraint and stores it behind the first `count` records of the buffer: 1 Satisfied, 2 Violated, 3 Unknown, and the records then.
+/// Tests a constraint and stores it behind the first `count` records of the buffer: 1 Satisfied, 2 Violated, 3 Unknown, and the records then.
 #[unsafe(no_mangle)]
 pub extern "C" fn shupkelen_add(
     pool: &[u8],
@@ -37,7 +37,7 @@ pub extern "C" fn shupkelen_add(
     )
 }
 
-// A type with bindings put in.
+/// A type with bindings put in.
 #[unsafe(no_mangle)]
 pub extern "C" fn shupkelen_replace_in_type(
     pool: &[u8],
@@ -56,7 +56,7 @@ pub extern "C" fn shupkelen_replace_in_type(
     )
 }
 
-// A set with bindings put in.
+/// A set with bindings put in.
 #[unsafe(no_mangle)]
 pub extern "C" fn shupkelen_replace_in_set(
     pool: &[u8],
@@ -75,7 +75,7 @@ pub extern "C" fn shupkelen_replace_in_set(
     )
 }
 
-// Solves a set: records of bindings and of bounds, and completed rounds; on 5 the records that remain.
+/// Solves a set: records of bindings and of bounds, and completed rounds; on 5 the records that remain.
 #[unsafe(no_mangle)]
 pub extern "C" fn shupkelen_solve(
     pool: &[u8],
@@ -90,7 +90,7 @@ pub extern "C" fn shupkelen_solve(
     hand(solution(solve(pool, table, set, res, work)), answer)
 }
 
-// Solves up to 64 sets that stand back to back; four words of `answers` for each say what it was answered.
+/// Solves up to 64 sets that stand back to back; four words of `answers` for each say what it was answered.
 #[unsafe(no_mangle)]
 pub extern "C" fn shupkelen_solve_all(
     pool: &[u8],
@@ -111,7 +111,7 @@ pub extern "C" fn shupkelen_solve_all(
     )
 }
 
-// The second engine, for sets of dimensions: records of bindings; on 5 of what remains.
+/// The second engine, for sets of dimensions: records of bindings; on 5 of what remains.
 #[unsafe(no_mangle)]
 pub extern "C" fn shupkelen_eliminate(
     pool: &[u8],
@@ -126,7 +126,7 @@ pub extern "C" fn shupkelen_eliminate(
     hand(eliminated(eliminate(pool, table, set, res, work)), answer)
 }
 
-// Is this a solution? Entries are pairs of words, a variable and the place of its type.
+/// Is this a solution? Entries are pairs of words, a variable and the place of its type.
 #[unsafe(no_mangle)]
 pub extern "C" fn shupkelen_judge(
     pool: &[u8],
@@ -146,7 +146,7 @@ pub extern "C" fn shupkelen_judge(
     )
 }
 
-// Checks a whole calculation line: the type of its last step.
+/// Checks a whole calculation line: the type of its last step.
 #[unsafe(no_mangle)]
 pub extern "C" fn shupkelen_check_line(
     pool: &[u8],
@@ -168,7 +168,7 @@ pub extern "C" fn shupkelen_check_line(
     )
 }
 
-// A scheme from a type and bounds, with handed names quantified.
+/// A scheme from a type and bounds, with handed names quantified.
 #[unsafe(no_mangle)]
 pub extern "C" fn shupkelen_quantify(
     pool: &[u8],
@@ -188,7 +188,7 @@ pub extern "C" fn shupkelen_quantify(
     )
 }
 
-// A scheme with all names of its type that bounds or variables leave free quantified.
+/// A scheme with all names of its type that bounds or variables leave free quantified.
 #[unsafe(no_mangle)]
 pub extern "C" fn shupkelen_generalise(
     pool: &[u8],
@@ -207,7 +207,7 @@ pub extern "C" fn shupkelen_generalise(
     )
 }
 
-// The type and the bounds of a scheme, with handed names put back.
+/// The type and the bounds of a scheme, with handed names put back.
 #[unsafe(no_mangle)]
 pub extern "C" fn shupkelen_instantiate(
     pool: &[u8],

@@ -1,4 +1,4 @@
-// The calls on exponents. A numerator is answered in two's complement.
+//! The calls on exponents. A numerator is answered in two's complement.
 ghost use Rattle.std.specs.Prelude.{◌≡◌};
 ghost use Rattle.rules.specs.Exponents.{frac};
 ghost use Rattle.rules.specs.Values.{sumCall, timesCall, negationCall, quotientCall};
@@ -8,7 +8,7 @@ use exponents::Exponent;
 use wording::answers::powered;
 use wording::hand;
 
-// The sum of two exponents: 1 where one is not well formed, 7 where the sum is out of range.
+/// The sum of two exponents: 1 where one is not well formed, 7 where the sum is out of range.
 #[unsafe(no_mangle)]
 pub extern "C" fn shupkelen_exponent_add(
     num: i32,
@@ -27,7 +27,7 @@ pub extern "C" fn shupkelen_exponent_add(
     hand(powered(e.add(f)), answer)
 }
 
-// Their product, likewise.
+/// Their product, likewise.
 #[unsafe(no_mangle)]
 pub extern "C" fn shupkelen_exponent_multiply(
     num: i32,
@@ -46,7 +46,7 @@ pub extern "C" fn shupkelen_exponent_multiply(
     hand(powered(e.multiply(f)), answer)
 }
 
-// The negative of an exponent.
+/// The negative of an exponent.
 #[unsafe(no_mangle)]
 pub extern "C" fn shupkelen_exponent_negate(num: i32, den: u32, answer: &mut [u32]) -> u32
     ensures { out result answer.new tt ≡ powerOut (negationCall (frac num den)) answer.old }
@@ -55,7 +55,7 @@ pub extern "C" fn shupkelen_exponent_negate(num: i32, den: u32, answer: &mut [u3
     hand(powered(e.negate()), answer)
 }
 
-// Their quotient: 7 also where the divisor is 0.
+/// Their quotient: 7 also where the divisor is 0.
 #[unsafe(no_mangle)]
 pub extern "C" fn shupkelen_exponent_divide(
     num: i32,

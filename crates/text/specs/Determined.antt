@@ -1,12 +1,11 @@
 -- The contracts leave no choice: two results that one of them allows coincide; and each answer has the number of its outcome.
-use Rattle.std.specs.Prelude.{◌≡◌, refl, List, ℕ, Ok, Err}
+use Rattle.std.specs.Prelude.{◌≡◌, refl, List, ℕ, Result, Ok, Err}
 use Rattle.std.proofs.Common.{sym, ◌∙◌, arith}
 use Rattle.std.proofs.Math.Path.{ap}
 use Rattle.rules.specs.Calls.{Listed}
 use Rattle.rules.specs.Numbers.{listed, refusalIn, number, refusalRead, textRead}
-use Rattle.rules.specs.Refusals.{number_of}
-use Rattle.laws.specs.Lists.{got≢refused}
-use Rattle.laws.specs.Numbers.{number-injective}
+use Rattle.rules.specs.Refusals.{number_of, told}
+use Rattle.laws.specs.Numbers.{number-injective, told-injective}
 use Rattle.rules.specs.TextReading.{TextRead, readTextCall}
 use Rattle.rules.specs.TextWriting.{writeTextCall}
 use Rattle.sheet_reading.specs.Given.{toldSheet, readAs}
@@ -14,36 +13,28 @@ use Rattle.sheet_reading.specs.declared.Read.{Read}
 use Rattle.sheet_reading.specs.declared.NotRead.{NotRead}
 use Rattle.rules.specs.declared.Refusal.{Refusal}
 use Rattle.sheet_reading.specs.Loop.{Sheet}
-use Rattle.text.specs.declared.Answer.{Answer}
-use Rattle.text.specs.declared.Answer.TheVariants.{Bytes, Refused}
-use Rattle.text.specs.Told.{told, listedAs}
+use Rattle.text.specs.Told.{listedAs}
 
 -- ══ Writing ══
 
-told-injective : (p q : Answer) → told p ≡ told q → p ≡ q
-told-injective (Bytes m) (Bytes n) e = ap Bytes (cc)
-told-injective (Bytes m) (Refused s) e = absurd (got≢refused e)
-told-injective (Refused r) (Bytes n) e = absurd (got≢refused (sym e))
-told-injective (Refused r) (Refused s) e = ap Refused (number-injective r s (cc))
-
 module _ (pool table set text : List ℕ) where
-  pub write-text-determined : (p q : Answer) (a b : List ℕ) → listedAs p a ≡ writeTextCall pool table set text → listedAs q b ≡ writeTextCall pool table set text → (p ≡ q) × (a ≡ b)
+  pub write-text-determined : (p q : Result ℕ Refusal) (a b : List ℕ) → listedAs p a ≡ writeTextCall pool table set text → listedAs q b ≡ writeTextCall pool table set text → (p ≡ q) × (a ≡ b)
   write-text-determined p q a b h k =
       let e : listedAs p a ≡ listedAs q b = h ∙ sym k in
       (told-injective p q (ap (λ (l : Listed). l.answer) e), ap (λ (l : Listed). l.result) e)
 
 -- the number of an answer: 0, or that of the refusal
-abbrev pub numberAnswer : Answer → ℕ
-numberAnswer (Bytes n) = 0
-numberAnswer (Refused r) = number_of r
+abbrev pub numberAnswer : Result ℕ Refusal → ℕ
+numberAnswer (Ok n) = 0
+numberAnswer (Err r) = number_of r
 
-answer-in : (a : Answer) → numberAnswer a ≡ refusalIn (told a)
+answer-in : (a : Result ℕ Refusal) → numberAnswer a ≡ refusalIn (told a)
 unfolding refusalIn
-answer-in (Bytes n) = refl
-answer-in (Refused r) = refl
+answer-in (Ok n) = refl
+answer-in (Err r) = refl
 
 module _ (pool table set text : List ℕ) where
-  pub write-text-numbered : (p : Answer) (a : List ℕ) → listedAs p a ≡ writeTextCall pool table set text → numberAnswer p ≡ number (listed (writeTextCall pool table set text))
+  pub write-text-numbered : (p : Result ℕ Refusal) (a : List ℕ) → listedAs p a ≡ writeTextCall pool table set text → numberAnswer p ≡ number (listed (writeTextCall pool table set text))
   unfolding number
   write-text-numbered p a h = answer-in p ∙ ap (λ (l : Listed). refusalIn l.answer) h
 

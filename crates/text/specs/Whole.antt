@@ -1,13 +1,13 @@
 -- What the call answers, from the lines that were put.
-use Rattle.std.specs.Prelude.{◌≡◌, Bool, false, ◌&&◌, ℕ, ◌+◌, ◌/◌, ◌≤◌, ◌<◌, drop}
+use Rattle.std.specs.Prelude.{◌≡◌, Bool, false, ◌&&◌, ℕ, ◌+◌, ◌/◌, ◌≤◌, ◌<◌, take, drop, Ok, Err}
 use Rattle.std.proofs.Math.Path.{refl}
-use Rattle.std.proofs.Common.{sym, ap, ◌∙◌, zero-add, arith}
+use Rattle.std.proofs.Common.{sym, ap, ◌∙◌, arith, take-append-drop}
+use Rattle.std.proofs.lemmas.List.{length-take-le}
 use Rattle.std.proofs.Math.Bool.{true}
 use mathlib.Core.List.{List, [], ◌∷◌, ◌++◌}
 use borrow.Author.Tests.{leb-true, lt-leb, le-leb}
 use Rattle.std.proofs.Math.Dec.{leb}
 use Rattle.std.proofs.Math.ListN.{length}
-use Rattle.std.proofs.lemmas.List.Edits.{sets, sets-eq}
 use Rattle.rules.specs.Base.{Got, got, refused, ◌>>=◌, ◌>>◌, need, all, sum_of}
 use Rattle.rules.specs.Names.{Bytes, table_of, numbersOf, is_held, lentTable}
 use Rattle.rules.specs.Trees.{Con, sizeCon}
@@ -21,7 +21,8 @@ use Rattle.records.specs.Good.{Chain, GoodCon}
 use Rattle.records.specs.Whole.{entry-good, set_is}
 use Rattle.sheets.specs.Lengths.{set-fits}
 use Rattle.rules.specs.TextWriting.{setText, text_of, writeTextCall, namesIn}
-use Rattle.text.specs.Lines.{LinesAt, PutLines}
+use Rattle.sheet_writing.specs.Rows.{LinesAt}
+use Rattle.spelling.specs.Sinks.{Place, Puts}
 
 -- ══ A row of checks ══
 
@@ -52,10 +53,6 @@ short_row : (b : Bool) (t : Got (Unit {0})) (m : Got Bytes) → t ≡ refused 10
 short_row true t m e = rw e refl
 short_row false t m e = refl
 
-over-is : (ws b : List ℕ) → length ws ≤ length b → sets b 0 ws ≡ over ws b
-unfolding over
-over-is ws b h = sets-eq ws b 0 (omega arith) ∙ ap (λ (k : ℕ). ws ++ drop k b) (zero-add (length ws))
-
 -- ══ The call ══
 
 module _ (pool table ws text : List ℕ) where
@@ -77,7 +74,7 @@ module _ (pool table ws text : List ℕ) where
     pub record Given (cs : List (Con ℕ)) : Type 0 where
       pub good : Good pool table
       pub given : text_of pool table ws text ≡ got (setText (namesIn (table_of pool table)) cs)
-      pub lines : LinesAt pool table ws 0 0 cs
+      pub lines : LinesAt pool table ws 0 cs
       pub few : length ws ≤ 8192
 
     pub set-in : Words32 ws → setCall pool table ws ≡ got tt → (cs : List (Con ℕ)) × Given cs
@@ -90,7 +87,7 @@ module _ (pool table ws text : List ℕ) where
           record {
             good = entry-good pool table ws a;
             given = row-given (lentTable pool table) (need (leb 354304 (length text)) 10) (shortLists (ws ∷ [])) (tableKept (table_of pool table)) (setGiven (table_of pool table) ws) (setText (namesIn (table_of pool table))) cs (rw (le-leb 354304 (length text) room) refl) a g;
-            lines = record { chain = set_is pool table ws w cs g; room = omega (arith, few) };
+            lines = record { chain = set_is pool table ws w cs g };
             few = few;
           },
         )
@@ -104,12 +101,24 @@ module _ (pool table ws text : List ℕ) where
     chain-good [] at h = refl
     chain-good (c ∷ cs) at h = rw h.1.0.good (chain-good cs h.0 h.1.1)
 
-    pub text-given : {d : List ℕ} {r : ℕ} → (x : (cs : List (Con ℕ)) × Given cs) → PutLines pool table ws 0 text 0 d r → record { answer = got r; result = d } ≡ writeTextCall pool table ws text
-    unfolding writeTextCall listing resultAfter
-    text-given {d} {r} (cs, x) k =
-        let p = k cs x.lines in
+    -- the lines have room
+    pub text-fits : (cs : List (Con ℕ)) → Given cs → length (setText (namesIn (table_of pool table)) cs) ≤ length text
+    text-fits cs x =
         let n = set-fits x.good cs (chain-good cs 0 x.lines.chain) in
         let m = chain-size cs 0 x.lines.chain in
-        let b : d ≡ over (setText (namesIn (table_of pool table)) cs) text = p.buffer ∙ over-is (setText (namesIn (table_of pool table)) cs) text (omega (arith, n, m, x.few, room)) in
-        let a : r ≡ length (setText (namesIn (table_of pool table)) cs) = omega (arith, p.behind) in
+        omega (arith, n, m, x.few, room)
+
+    pub text-given : {E : Type 0} {d : List ℕ} {k loan after : ℕ} (cs : List (Con ℕ)) → Given cs → k ≤ length d
+        → Puts {E = E} (record { held = []; room = text; loan = loan }) (setText (namesIn (table_of pool table)) cs) (Ok tt) (record { held = take k d; room = drop k d; loan = after })
+        → record { answer = got k; result = d } ≡ writeTextCall pool table ws text
+    unfolding writeTextCall listing resultAfter over
+    text-given {E} {d} {k} {loan} {after} cs x le p =
+        let lines : Bytes = setText (namesIn (table_of pool table)) cs in
+        let a : k ≡ length lines = sym (length-take-le k d le) ∙ ap length p.puts in
+        let b : d ≡ lines ++ drop (length lines) text = sym (take-append-drop k d) ∙ ap (λ (t : Bytes). t ++ drop k d) p.puts ∙ ap (λ (t : Bytes). lines ++ t) p.rest in
         rw (x.given, a, b) refl
+
+-- no lines are refused where they have room
+pub has-room : {E : Type 0} {text lines : Bytes} {loan : ℕ} {e : E} {after : Place} → length lines ≤ length text
+    → Puts (record { held = []; room = text; loan = loan }) lines (Err e) after → ⊥
+has-room le p = omega (arith, le, p.full)

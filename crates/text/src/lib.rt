@@ -1,44 +1,59 @@
-// Sheets as text: a set of constraints as lines, written and read.
+//! Sheets as text: a set of constraints as lines, written and read.
 #![tactic(auto)]
 
-pub mod inner;
-
-ghost use Rattle.std.specs.Prelude.{◌≡◌};
+ghost use Rattle.std.specs.Prelude.{◌≡◌, ◌≤◌, length};
+ghost use Rattle.rules.specs.Base.{got};
+ghost use Rattle.rules.specs.Calls.{setCall};
 ghost use Rattle.rules.specs.TextReading.{readTextCall};
 ghost use Rattle.rules.specs.TextWriting.{writeTextCall};
 ghost use Rattle.sheet_reading.specs.Given.{readAs};
 ghost use Rattle.text.specs.Theorems.{ReadingIsDetermined};
 ghost use Rattle.text.specs.Told.{listedAs};
 
-use inner::write_lines;
 use lending::inner::clear;
 use lending::lent;
-use names::old::Checked;
-use records::old::is_set;
+use names::tables::NameTable;
+use records::is_set;
 use rules::Refusal;
 use sheet_reading::inner::read_given;
 use sheet_reading::{NotRead, Read};
+use sheet_writing::lines::write_lines;
+use spelling::sink::{Front, Full};
 
-// 173 bytes for each of 2,048 records.
+/// 173 bytes for each of 2,048 records.
 pub const TEXT_BYTES: usize = 354304;
 
-// How many bytes were written, or why none were.
-#[derive(Clone, Copy)]
-pub enum Answer {
-    Bytes(usize),
-    Refused(Refusal),
-}
-
-// Writes a set as lines to the front of a text buffer.
-pub fn write_text(pool: &[u8], table: &[u32], set: &[u32], text: &mut [u8]) -> Answer
+/// Writes a set as lines to the front of a text buffer, and says how many bytes they take.
+/// Behind them, and on a refusal, the buffer stays as it is.
+pub fn write_text(
+    pool: &[u8],
+    table: &[u32],
+    set: &[u32],
+    text: &mut [u8],
+) -> Result<usize, Refusal>
     ensures { listedAs result text.new ≡ writeTextCall pool.now table.now set.now text.old }
 {
     if text.len() < TEXT_BYTES {
-        return Answer::Refused(Refusal::ShortBuffer);
+        return Err(Refusal::ShortBuffer);
     }
-    match is_set(pool, table, set) {
-        Checked::Good => Answer::Bytes(write_lines(pool, table, set, 0, text, 0)),
-        Checked::Refused(r) => Answer::Refused(r),
+    is_set(pool, table, set)?;
+    write_good(pool, table, set, text)
+}
+
+// Writes a well formed set to a buffer that has room for every set.
+fn write_good(pool: &[u8], table: &[u32], set: &[u32], text: &mut [u8]) -> Result<usize, Refusal>
+    requires room { 354304 ≤ length text.old }
+    requires good { setCall pool.now table.now set.now ≡ got tt }
+    ensures { listedAs result text.new ≡ writeTextCall pool.now table.now set.now text.old }
+{
+    let names = NameTable::new(pool, table)?;
+    let mut front = Front {
+        bytes: text,
+        len: 0,
+    };
+    match write_lines(names, set, 0, &mut front) {
+        Ok(()) => Ok(front.len),
+        Err(Full) => unreachable!(),
     }
 }
 

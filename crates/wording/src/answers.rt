@@ -1,9 +1,8 @@
-// The answers of the calls that `saying` does not tell.
+//! The answers of the calls that `saying` does not tell.
 ghost use Rattle.std.specs.Prelude.{◌≡◌};
 ghost use Rattle.exponents.specs.Answers.{expOf};
 ghost use Rattle.eliminating.specs.Told.{toldEliminated};
 ghost use Rattle.rescue.specs.Told.{countsOf};
-ghost use Rattle.text.specs.Told as text;
 ghost use Rattle.sheet_reading.specs.Given.{toldSheet};
 ghost use Rattle.wording.specs.Words.{countAs, countsAs, powerWords, powerAs, eliminatedAs, counts, sheetAs};
 ghost use Rattle.rules.specs.Base.{got};
@@ -23,7 +22,7 @@ fn power_words(e: Exponent) -> Told
     said(e.num_word(), e.den, 0)
 }
 
-// An exponent.
+/// An exponent.
 pub fn powered(p: Result<Exponent, Refusal>) -> Told
     ensures { result ≡ powerAs (toldBy expOf p) }
 {
@@ -82,13 +81,13 @@ pub fn compacted(a: Result<usize, Refusal>) -> Told
     }
 }
 
-// Bytes of a text.
-pub fn spelt(a: text::Answer) -> Told
-    ensures { result ≡ countAs (text.told a) }
+/// Bytes of a text.
+pub fn spelt(a: Result<usize, Refusal>) -> Told
+    ensures { result ≡ countAs (told a) }
 {
     match a {
-        text::Answer::Bytes(n) => said(short(n), 0, 0),
-        text::Answer::Refused(why) => refused(why, 0, 0),
+        Ok(n) => said(short(n), 0, 0),
+        Err(why) => refused(why, 0, 0),
     }
 }
 

@@ -1,4 +1,4 @@
-// What a caller in another language is given: the refusal's number is returned, and what is said goes as words to the front of a lent list.
+//! What a caller in another language is given: the refusal's number is returned, and what is said goes as words to the front of a lent list.
 #![tactic(auto)]
 
 pub mod answers;
@@ -6,24 +6,26 @@ pub mod placing;
 
 ghost use Rattle.std.specs.Prelude.{◌≡◌};
 ghost use Rattle.rules.specs.Numbers.{refusalIn};
-ghost use Rattle.names.specs.Old.{toldChecked};
+ghost use Rattle.rules.specs.Refusals.{told};
 ghost use Rattle.wording.specs.Words.{answerWords};
 
-use names::old::Checked;
 use records::inner::put;
+use rules::Refusal;
 use saying::told::Told;
 
-// The number of a check that says nothing else.
-pub fn number(c: Checked) -> u32
-    ensures { result ≡ refusalIn (toldChecked c) }
+/// The number of a check that says nothing else, 0 where it passes.
+#[tactic(auto, unfolding(rules::specs::Numbers::refusalIn))]
+pub fn number(c: Result<(), Refusal>) -> u32
+    ensures { result ≡ refusalIn (told c) }
 {
     match c {
-        Checked::Good => 0,
-        Checked::Refused(why) => why.number(),
+        Ok(()) => 0,
+        Err(why) => why.number(),
     }
 }
 
-// What is said goes to the front of the answer, as far as it goes; the refusal's number is returned.
+/// What is said goes to the front of the answer, as far as it goes; the refusal's number is returned.
+#[tactic(auto, unfolding(crate::specs::Words::answerWords))]
 pub fn hand(t: Told, answer: &mut [u32]) -> u32
     ensures { (result ≡ t.refusal) × (answer.new ≡ answerWords t answer.old) }
 {

@@ -1,11 +1,10 @@
-// Where a name stands in the pool.
+//! Where a name stands in the pool.
 ghost use Rattle.std.specs.Prelude.{◌≡◌};
 ghost use Rattle.rules.specs.Names.{nameAsked, partAsked};
 ghost use Rattle.laws.specs.NameTable.{start_at};
 ghost use Rattle.wording.specs.Words.{placeAs};
 
-use names::name_of;
-use names::old::{Checked, check_number};
+use names::{check_number, name_of};
 use replacing::inner::bound::word_at;
 use saying::told::{Told, refused, said, short};
 
@@ -19,13 +18,13 @@ fn start_of(table: &[u32], number: u32) -> u32
     }
 }
 
-// Its first byte, and how many.
+/// Its first byte, and how many.
 pub fn placed(pool: &[u8], table: &[u32], number: u32) -> Told
     ensures { result ≡ placeAs (nameAsked pool.now table.now number) (partAsked pool.now table.now number) }
 {
     let name = name_of(pool, table, number);
     match check_number(pool, table, number) {
-        Checked::Good => said(start_of(table, number), short(name.len()), 0),
-        Checked::Refused(why) => refused(why, 0, 0),
+        Ok(()) => said(start_of(table, number), short(name.len()), 0),
+        Err(why) => refused(why, 0, 0),
     }
 }

@@ -2,7 +2,7 @@
 use Rattle.std.proofs.Common.{sym, ◌∙◌}
 use Rattle.std.proofs.lemmas.Result.{err_from_is_err_and}
 use Rattle.records.specs.Found.{Words32}
-use Rattle.eliminating.specs.Entry.{Entered, came-in, kept_out, answers-as}
+use Rattle.eliminating.specs.Entry.{came-in, kept_out, answers-as}
 use Rattle.eliminating.specs.Written.{refused-answers}
 use Rattle.eliminating.proofs.inner.eliminate_set.Goals as goal
 

@@ -7,15 +7,15 @@ use Rattle.saying.specs.Saying.{word}
 use Rattle.wording.specs.Placing.{placed-held, placed-nowhere}
 use Rattle.wording.proofs.placing.placed.Goals as goal
 
-pub returns-in-Good : goal.returns-in-Good
-returns-in-Good c =
+pub returns-in-Ok : goal.returns-in-Ok
+returns-in-Ok c =
     let a = c.args in
-    let h = rw c.in-Good.is at c.check_number.ensures in
+    let h = rw c.in-Ok.is at c.check_number.ensures in
     c.said.ensures ∙ placed-held a.pool.now a.table.now a.number _ _ h c.start_of.ensures
     (c.short.ensures ∙ ap (λ (s : List ℕ). word (length s)) c.name_of-name.ensures.bytes)
 
-pub returns-in-Refused : goal.returns-in-Refused
-returns-in-Refused c =
+pub returns-in-Err : goal.returns-in-Err
+returns-in-Err c =
     let a = c.args in
-    let h = rw c.in-Refused.is at c.check_number.ensures in
+    let h = rw c.in-Err.is at c.check_number.ensures in
     c.refused.ensures ∙ placed-nowhere a.pool.now a.table.now a.number _ h
