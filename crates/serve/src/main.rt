@@ -12,7 +12,7 @@ ghost use Rattle.serve.specs.Requests.{Fits};
 use calling::called;
 use calling::named::{POOL, TABLE};
 use coding::{bytes_from, put_words, words_from};
-use filling::fill;
+use filling::fill_front;
 use reply::{answer, answer_alone, answer_head, no_request};
 use request::{BODY, HEAD, Header, LARGE, LIST, RESULT, TORN, WORK, fault, filled, header_from};
 use saying::Asked;
@@ -268,11 +268,15 @@ fn with_names(to: &mut impl Write, h: Header, body: &[u8], out: &mut [u8]) -> io
     )
 }
 
-// Reads n bytes to the front of a buffer. Were there so many?
-fn read_front(from: &mut impl Read, buf: &mut [u8], n: usize) -> io::Result<bool>
+/// What stopped a read before its last byte: `Ok` where the input ended.
+type Short = io::Result<()>;
+
+// Reads n bytes to the front of a buffer.
+fn read_front(from: &mut impl Read, buf: &mut [u8], n: usize) -> Result<(), Short>
     requires { n ≤ length buf.old }
 {
-    Ok(fill(from, &mut buf[..n])? == n)
+    let (got, read) = fill_front(from, &mut buf[..n]);
+    if got == n { Ok(()) } else { Err(read) }
 }
 
 // Says that this was no request.
@@ -282,14 +286,20 @@ fn say_fault(to: &mut impl Write, fault: u32) -> io::Result<()> {
     write_front(to, &out, n)
 }
 
+// Says that the request is torn. Nothing is to come, and a read that failed is handed on.
+fn say_torn(to: &mut impl Write, short: Short) -> io::Result<bool> {
+    say_fault(to, TORN)?;
+    short?;
+    Ok(false)
+}
+
 // Reads a request's body, and writes the answer. Is there more to come?
 fn serve_body<R: Read, W: Write>(from: &mut R, to: &mut W, h: Header) -> io::Result<bool>
     requires { Fits h }
 {
     let mut body = empty_body();
-    if !read_front(from, &mut body, h.body as usize)? {
-        say_fault(to, TORN)?;
-        return Ok(false);
+    if let Err(short) = read_front(from, &mut body, h.body as usize) {
+        return say_torn(to, short);
     }
     let mut out = usual_out();
     let m = with_names(to, h, &body, &mut out)?;
@@ -297,21 +307,19 @@ fn serve_body<R: Read, W: Write>(from: &mut R, to: &mut W, h: Header) -> io::Res
     Ok(true)
 }
 
-// Reads n bytes, of one block at the most, and drops them. Were there so many?
-fn drop_block(from: &mut impl Read, n: usize) -> io::Result<bool>
+// Reads n bytes, of one block at the most, and drops them.
+fn drop_block(from: &mut impl Read, n: usize) -> Result<(), Short>
     requires { n ≤ 4096 }
 {
     let mut buf = [0u8; BLOCK];
     read_front(from, &mut buf, n)
 }
 
-// Reads past n bytes. Were there so many?
-fn skip(from: &mut impl Read, n: usize) -> io::Result<bool> {
+// Reads past n bytes.
+fn skip(from: &mut impl Read, n: usize) -> Result<(), Short> {
     let mut left = n;
     while BLOCK < left {
-        if !drop_block(from, BLOCK)? {
-            return Ok(false);
-        }
+        drop_block(from, BLOCK)?;
         left -= BLOCK;
     }
     drop_block(from, left)
@@ -319,25 +327,23 @@ fn skip(from: &mut impl Read, n: usize) -> io::Result<bool> {
 
 // Passes over a request that can't be served, and says so. Is there more to come?
 fn pass<R: Read, W: Write>(from: &mut R, to: &mut W, h: Header, fault: u32) -> io::Result<bool> {
-    if skip(from, h.body as usize)? {
-        say_fault(to, fault)?;
-        Ok(true)
-    } else {
-        say_fault(to, TORN)?;
-        Ok(false)
+    if let Err(short) = skip(from, h.body as usize) {
+        return say_torn(to, short);
     }
+    say_fault(to, fault)?;
+    Ok(true)
 }
 
 // Serves one request. Is there more to come?
 fn serve_next<R: Read, W: Write>(from: &mut R, to: &mut W) -> io::Result<bool> {
     let mut head = [0u8; HEAD];
-    let got = fill(from, &mut head)?;
+    let (got, read) = fill_front(from, &mut head);
     if got == 0 {
+        read?;
         return Ok(false);
     }
     if got < HEAD {
-        say_fault(to, TORN)?;
-        return Ok(false);
+        return say_torn(to, read);
     }
     let h = header_from(&head);
     let f = fault(h);
