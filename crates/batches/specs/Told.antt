@@ -1,4 +1,4 @@
--- The answer of a batch with its three buffers as document 02 tells them.
+-- The answer of a batch with its three buffers as the request tells them.
 use Rattle.rules.specs.Refusals.{told}
 use Rattle.rules.specs.declared.Refusal.{Refusal}
 use Rattle.std.specs.Prelude.{Result, List, ℕ}

@@ -117,7 +117,7 @@ module _ {N : Type 0} {ν : Names N} {held : N → Bool} (known : Known ν held)
       run-same ν known.law f (f + enough) 0 (variablesOf ν cs) (start cs) by-variables (omega (arith, by-variables.light)) (omega (arith, by-variables.light))
       ∙ same_answer (f + enough) (omega arith)
 
-  -- no refusal but those of document 01
+  -- no refusal but those of the rules
   pub never-out : (k : ℕ) → solve ν bounded cs ≡ stopped 0 k → ⊥
   unfolding solve
   never-out = (run-ended ν known.law enough 0 known.names (start cs) by_names enough-fuel).fuelled

@@ -1,4 +1,4 @@
--- What a step yields: where it gives a value, the value is as stated; where it refuses, the number is never 0, which is no refusal of document 01.
+-- What a step yields: where it gives a value, the value is as stated; where it refuses, the number is never 0, which is no refusal of the rules.
 use Rattle.std.specs.Prelude.{◌≡◌, refl, Bool, true, false, List, [], ◌∷◌, ℕ, suc, ◌≤◌, ◌<◌, T, leb, length}
 use Rattle.std.proofs.Common.{ap, arith, leb→le}
 use Rattle.rules.specs.Base.{Got, got, refused, ◌>>=◌, Limits, bounded, exact, within, allow, each}

@@ -1,4 +1,4 @@
--- Entries as document 01 has them: the place of a variable's type, and one slot for each name.
+-- Entries as the rules have them: the place of a variable's type, and one slot for each name.
 use Rattle.std.specs.Prelude.{List, [], ◌∷◌, map, ℕ, zero, suc, ◌+◌, eqb, get_or, set, replicate}
 use Rattle.std.proofs.Math.Option.{Option, none, some}
 use Rattle.rules.specs.Base.{◌or_else◌, only_if}

@@ -1,4 +1,4 @@
--- Entries that are given as document 01 asks, and what their slots say.
+-- Entries that are given as the rules ask, and what their slots say.
 use Rattle.std.specs.Prelude.{◌≡◌, Bool, ◌&&◌, ℕ, zero, suc, ◌+◌, ◌/◌, ◌%◌, ◌<◌, ltb, length, get_or, drop}
 use Rattle.std.proofs.Math.Path.{refl, ap, subst}
 use Rattle.std.proofs.Common.{sym, ◌∙◌, add-zero, arith}

@@ -39,7 +39,7 @@ pub record Ready (pool table types places : List ℕ) : Type 0 where
   pub short : length types ≤ 8192
   pub long : 256 ≤ length places
 
--- entries that are given as document 01 asks have their table, others are refused
+-- entries that are given as the rules ask have their table, others are refused
 pub record Placed (pool table : List ℕ) (es : List rules.Entry) (types places : List ℕ) (r : Bool) : Type 0 where
   pub given : (bs : List (Binding ℕ)) → entriesGiven (table_of pool table) es types ≡ got bs → (r ≡ true) × Tabled pool table types bs places
   pub refuses : entriesGiven (table_of pool table) es types ≡ refused 1 → r ≡ false

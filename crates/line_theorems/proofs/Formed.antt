@@ -47,7 +47,7 @@ unfolding rules
 minus-one-stored = refl
 
 module _ {N : Type 0} (ν : Names N) (held : N → Bool) (ord : Ordered ν held) where
-  -- a step that was read: its type is well formed, a constant's is closed, a power is an exponent of document 01
+  -- a step that was read: its type is well formed, a constant's is closed, a power is an exponent of the rules
   abbrev pub FormedStep : LineStep N → Type 0
   FormedStep (constant t) = (goodTy ν held 0 t ≡ true) × (closed t ≡ true)
   FormedStep (reference t) = goodTy ν held 0 t ≡ true

@@ -1,5 +1,4 @@
 pub mod Told
 pub mod Digests
 pub mod Promises
-pub mod Old
 pub mod Theorems

@@ -10,7 +10,6 @@ use rules::{POOL_BYTES, Refusal, TABLE_WORDS, Was};
 use std::cmp::Ordering;
 
 pub mod inner;
-pub mod old;
 pub mod tables;
 pub mod theorems;
 

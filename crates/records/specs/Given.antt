@@ -246,7 +246,7 @@ module _ {A : Type 0} (s : List ℕ) (r : Reader A) (good : A → Bool) (P : ℕ
       go (got as') e = some as' e
       go (refused n) e = no {n = n} (sym (rw e) ∙ h)
 
--- ══ The readers of document 01 ══
+-- ══ The readers of the rules ══
 
 module _ (pool table : List ℕ) (s : List ℕ) (w : Words32 s) where
   reads_of : {A : Type 0} {o : Option (A × List Rec)} {Q : A → List Rec → Type 0} → Reads o Q → (a : A) (rest : List Rec) → o ≡ some (a, rest) → Q a rest

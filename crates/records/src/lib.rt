@@ -2,7 +2,6 @@
 #![tactic(auto)]
 
 pub mod inner;
-pub mod old;
 pub mod seen;
 
 ghost use Rattle.std.specs.Prelude.{◌≡◌, ◌&&◌, ◌%◌, eqb, length};

@@ -1,4 +1,4 @@
--- What a call says, in words: an answer of document 01 as a refusal's number (0: none), a value, a second value, rounds, and the number of words
+-- What a call says, in words: an answer of the rules as a refusal's number (0: none), a value, a second value, rounds, and the number of words
 -- at the front of the result buffer that are the answer's.
 use Rattle.std.specs.Prelude.{ℕ, ◌+◌, ◌*◌, ◌%◌, Bool, true, false, nat_lt}
 use Prim.Native.Nat.{Ordering}

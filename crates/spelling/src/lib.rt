@@ -1,10 +1,9 @@
 //! Names, numbers and powers as text: which bytes stand for themselves, and how all are put into a sink.
 #![tactic(auto)]
 
-pub mod inner;
 pub mod sink;
 
-ghost use Rattle.std.specs.Prelude.{◌≡◌, ◌&&◌, leb, ◌<◌};
+ghost use Rattle.std.specs.Prelude.{◌≡◌, ◌<◌};
 ghost use Rattle.rules.specs.Exponents.{frac};
 ghost use Rattle.rules.specs.Grammar.{is_plain};
 ghost use Rattle.rules.specs.Writing.{signed};
@@ -13,13 +12,6 @@ ghost use Rattle.spelling.specs.Sinks.{Puts};
 
 use exponents::Exponent;
 use sink::Sink;
-
-/// Is a byte between two others?
-pub fn within(m: u8, b: u8, n: u8) -> bool
-    ensures { result ≡ (leb m b && leb b n) }
-{
-    if m <= b { b <= n } else { false }
-}
 
 /// Does this byte stand for itself in a name?
 #[tactic(auto, unfolding(rules::specs::Grammar::is_plain, rules::specs::Grammar::isDigit))]
