@@ -23,6 +23,11 @@ passed (got u) (got x) e = (x, (refl, refl))
 passed (got u) (refused n) e = clash e
 passed (refused n) m e = clash e
 
+-- a value of which only is asked that there is one, and there is none
+pub stops : {A C : Type 0} (m : Got A) (g : A → Got C) (n : ℕ) → (m >> got (tt {0})) ≡ refused n → (m >>= g) ≡ refused n
+stops (got a) g n e = clash (sym e)
+stops (refused j) g n e = cc
+
 -- and where such a row is refused, so is whatever comes after it
 pub stopped : {A B : Type 0} (a : Got (Unit {0})) (m : Got A) (f : A → Got B) (n : ℕ) → (a >> m >> got (tt {0})) ≡ refused n → (a >>= λ _. m >>= f) ≡ refused n
 stopped (got u) (got x) f n e = clash (sym e)

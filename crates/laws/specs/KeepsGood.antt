@@ -54,6 +54,7 @@ use Rattle.laws.specs.Fractions.{
   neg-lowest,
   mul-in-lowest,
   inverted-lowest,
+  inverted-none,
   mul-comm',
   mul-assoc',
   mul-one',
@@ -101,7 +102,15 @@ quotient_is a b s e = go (inverted b) refl
     go none j = let z : refused 7 ≡ got s = rw (j, quotient) at e in absurd (got≢refused (sym z))
     go (some i) j = (i, j, sym (allow-same (in_range (mul a i)) 7 (mul a i) s (rw (j, quotient) at e)))
 
-quotient-not-zero : (j k s : Exp) → Lowest j → Lowest k → isZero j ≡ false → quotient bounded (neg j) k ≡ got s → isZero s ≡ false
+-- a power that isn't 0 has an inverse
+pub has-inverse : (k : Exp) → Lowest k → isZero k ≡ false → (i : Exp) × (inverted k ≡ some i)
+has-inverse k l z = go (inverted k) refl
+  where
+    go : (o : Option Exp) → inverted k ≡ o → (i : Exp) × (inverted k ≡ some i)
+    go none e = absurd (true≢false (sym (ap isZero (inverted-none k l e)) ∙ z))
+    go (some i) e = (i, e)
+
+pub quotient-not-zero : (j k s : Exp) → Lowest j → Lowest k → isZero j ≡ false → quotient bounded (neg j) k ≡ got s → isZero s ≡ false
 quotient-not-zero j k s l m h e = go (isZero s) refl
   where
     go : (b : Bool) → isZero s ≡ b → isZero s ≡ false

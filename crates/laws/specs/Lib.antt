@@ -9,6 +9,8 @@ pub mod Answers
 pub mod Untouched
 pub mod Counts
 pub mod Checks
+pub mod Refusing
+pub mod Given
 pub mod ByteOrder
 pub mod NameTable
 pub mod Entering

@@ -20,6 +20,19 @@ got≢refused e = let z : ◌≡◌ {A = ℕ} 0 1 = cc in omega arith
 pub clash : {A B : Type 0} {n : ℕ} {b : B} → refused n ≡ got b → A
 clash e = absurd (got≢refused (sym e))
 
+-- two steps after one another, bracketed to the right
+pub bracket : {A B C : Type 0} (m : Got A) (f : A → Got B) (g : B → Got C) → ((m >>= f) >>= g) ≡ (m >>= λ a. f a >>= g)
+bracket (got a) f g = refl
+bracket (refused n) f g = refl
+
+pub same_after : {A B : Type 0} (m : Got A) (f g : A → Got B) → ((a : A) → f a ≡ g a) → (m >>= f) ≡ (m >>= g)
+same_after (got a) f g h = h a
+same_after (refused n) f g h = refl
+
+pub alone : {A : Type 0} (m : Got A) → (m >>= λ a. got a) ≡ m
+alone (got a) = refl
+alone (refused n) = refl
+
 pub allow-same : {A : Type 0} (b : Bool) (n : ℕ) (a v : A) → allow b n a ≡ got v → a ≡ v
 allow-same true n a v e = cc
 allow-same false n a v e = absurd (got≢refused (sym e))

@@ -1,4 +1,4 @@
--- The numbers of the refusals tell them apart.
+-- The numbers of the refusals tell them apart, and an answer has the number of its outcome.
 use Rattle.std.specs.Prelude.{Result, Ok, Err, Option, None, Some, ◌≡◌, refl, List, [], ◌∷◌, ℕ, ◌-◌, get_or}
 use Rattle.std.proofs.Common.{ap, ◌∙◌, sym}
 use Rattle.rules.specs.declared.Refusal.{Refusal}
@@ -16,7 +16,8 @@ use Rattle.rules.specs.declared.Refusal.TheVariants.{
   NotConfirmed,
   NotGrammar,
 }
-use Rattle.rules.specs.Refusals.{number_of, told, toldBy, toldOption, toldOptionBy}
+use Rattle.rules.specs.Numbers.{refusalIn}
+use Rattle.rules.specs.Refusals.{number_of, numberAnswer, told, toldBy, toldOption, toldOptionBy}
 
 -- in the order of their numbers, from 1
 refusals : List Refusal
@@ -69,3 +70,13 @@ toldOption-injective None None e = refl
 toldOption-injective None (Some b) e = cc
 toldOption-injective (Some a) None e = cc
 toldOption-injective (Some a) (Some b) e = ap Some (cc)
+
+pub answer-in : {A : Type 0} (p : Result A Refusal) → numberAnswer p ≡ refusalIn (told p)
+unfolding refusalIn
+answer-in (Ok a) = refl
+answer-in (Err r) = refl
+
+pub answer-in-by : {A B : Type 0} (f : A → B) (p : Result A Refusal) → numberAnswer p ≡ refusalIn (toldBy f p)
+unfolding refusalIn
+answer-in-by f (Ok a) = refl
+answer-in-by f (Err r) = refl

@@ -1,4 +1,4 @@
--- The refusals and their numbers: 11 (W-211), the judge doesn't confirm a line; 12 (W-202), a line outside the grammar. And how the code's answers are told.
+-- The refusals and their numbers, of which 11 says that the judge doesn't confirm a line, and 12 that a line is outside the grammar. And how the code's answers are told.
 use Rattle.std.specs.Prelude.{ℕ, Result, Ok, Err, Option, None, Some}
 use Rattle.std.proofs.Math.Option as may
 use Rattle.rules.specs.Base.{Got, got, refused}
@@ -41,6 +41,11 @@ told (Err r) = refused (number_of r)
 abbrev pub toldBy : {A B : Type 0} → (A → B) → Result A Refusal → Got B
 toldBy f (Ok a) = got (f a)
 toldBy f (Err r) = refused (number_of r)
+
+-- the number of an answer: 0, or that of its refusal
+abbrev pub numberAnswer : {A : Type 0} → Result A Refusal → ℕ
+numberAnswer (Ok a) = 0
+numberAnswer (Err r) = number_of r
 
 -- a value that may be missing
 abbrev pub toldOption : {A : Type 0} → Option A → may.Option A
