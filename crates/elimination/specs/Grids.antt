@@ -10,7 +10,6 @@ use Rattle.rules.specs.Exponents.{nought, isZero}
 use Rattle.laws.specs.Lists.{Every}
 use Rattle.elimination.specs.declared.inner.rows.Row.{Row}
 use Rattle.elimination.specs.declared.inner.grids.Grid.{Grid}
-use Rattle.elimination.specs.declared.inner.grids.TriedGrid.{TriedGrid}
 use Rattle.rules.specs.Elimination as Rows
 use Rattle.elimination.specs.Told.{row_in, Wide}
 
@@ -21,14 +20,9 @@ pub record WideGrid (g : Grid) : Type 0 where
   pub long : length g.rows ≡ 24
   pub each-wide : Every Wide g.rows
 
-abbrev pub gridOrSeven : Bool → ℕ → Grid → Got (List Rows.Row)
-gridOrSeven true m g = got (take m (rowsIn g))
-gridOrSeven false m g = refused 7
-
--- the first m rows, or 7
-pub record TriedWell (t : TriedGrid) (m : ℕ) (rows : Got (List Rows.Row)) : Type 0 where
-  pub wide : WideGrid t.grid
-  pub is : gridOrSeven t.fits m t.grid ≡ rows
+-- the first m rows
+abbrev pub front : ℕ → Grid → List Rows.Row
+front m g = take m (rowsIn g)
 
 -- j is the first of n columns whose power isn't 0, or n
 pub record First (r : Rows.Row) (n j : ℕ) : Type 0 where
@@ -123,11 +117,3 @@ module _ {A : Type 0} (l : List A) (s m : ℕ) (h : s + m ≤ length l) where
 
   pub part_at : (i : ℕ) (d : A) → i < m → get_or (take m (drop s l)) i d ≡ get_or l (s + i) d
   part_at i d k = get_or-take m (drop s l) i d k ∙ get_or-drop s l i d
-
--- where it fits, and where it doesn't
-module _ (t : TriedGrid) (m : ℕ) (rows : Got (List Rows.Row)) (h : TriedWell t m rows) where
-  pub grid-there : t.fits ≡ true → rows ≡ got (take m (rowsIn t.grid))
-  grid-there e = sym h.is ∙ ap (λ (b : Bool). gridOrSeven b m t.grid) e
-
-  pub grid-gone : t.fits ≡ false → rows ≡ refused 7
-  grid-gone e = sym h.is ∙ ap (λ (b : Bool). gridOrSeven b m t.grid) e

@@ -1,5 +1,5 @@
 -- What a machine has yet to do, and what each of its steps does to that.
-use Rattle.std.specs.Prelude.{◌≡◌, Bool, true, false, ℕ, zero, suc, ◌+◌, ◌-◌, ◌<◌, ◌≤◌, drop, get_or, set}
+use Rattle.std.specs.Prelude.{◌≡◌, Bool, true, false, ℕ, Result, Ok, Err, zero, suc, ◌+◌, ◌-◌, ◌<◌, ◌≤◌, drop, get_or, set}
 use Rattle.std.proofs.Math.Path.{refl, ap, sym}
 use Rattle.std.proofs.Common.{ap₂, ◌∙◌, length-append, take-suc-set, drop-cons, get_or-take}
 use mathlib.Core.List.{List, [], ◌∷◌, ◌++◌, append_assoc}
@@ -13,7 +13,8 @@ use Rattle.rules.specs.Trees.{var, par, Atom, free, base}
 use Rattle.elimination.specs.declared.inner.grids.Columns.{Columns}
 use Rattle.elimination.specs.declared.inner.grids.Grid.{Grid}
 use Rattle.elimination.specs.declared.inner.grids.Machine.{Machine}
-use Rattle.elimination.specs.declared.inner.grids.Turned.{Turned}
+use Rattle.rules.specs.Refusals.{number_of}
+use Rattle.rules.specs.declared.Refusal.{Refusal}
 use Rattle.rules.specs.Elimination.{Row, Value, ◌gets◌, solvedFor, putInRow, putInValue, gone, stays, binds, atColumn, oneFurther, fate, turned, Reduced, eliminate}
 use Rattle.elimination.specs.Grids.{rowsIn, WideGrid, grid-long}
 
@@ -69,19 +70,14 @@ keepingOf m g = record { rows = m.rows; at = m.at + 1; left = m.left - 1; kept =
 unfoldable pub boundOf : Machine → ℕ → Grid → Grid → Machine
 boundOf m x rows g = record { rows = rows; at = 0; left = m.left - 1; kept = m.kept; stay = m.stay; names = set m.names m.found x; values = g; found = m.found + 1 }
 
--- a step: on with the rest, or 7
-abbrev pub Went : Bool → List (Atom ℕ) → Machine → Machine → Type 0
-Went true cols m q = Running q × (q.left + 1 ≡ m.left) × (rest cols q ≡ rest cols m)
-Went false cols m q = rest cols m ≡ refused 7
+-- a step: on with the rest, or refused as the rest is
+abbrev pub Went : List (Atom ℕ) → Machine → Result Machine Refusal → Type 0
+Went cols m (Ok q) = Running q × (q.left + 1 ≡ m.left) × (rest cols q ≡ rest cols m)
+Went cols m (Err r) = rest cols m ≡ refused (number_of r)
 
--- what is at the end: what stays, and the values; or 7
-abbrev pub endOr : Bool → Machine → Got (Reduced ℕ)
-endOr true m = got (record { left = take m.stay (rowsIn m.kept); values = pairValues (take m.found m.names) (take m.found (rowsIn m.values)) })
-endOr false m = refused 7
-
-pub record Ended (m : Got (Reduced ℕ)) (t : Turned) : Type 0 where
-  pub running : Running t.machine
-  pub is : endOr t.fits t.machine ≡ m
+-- at the end: what stays, and the values
+abbrev pub endOf : Machine → Reduced ℕ
+endOf m = record { left = take m.stay (rowsIn m.kept); values = pairValues (take m.found m.names) (take m.found (rowsIn m.values)) }
 
 pub record Laid (k : Columns) : Type 0 where
   pub vars-long : length k.vars ≡ 256
@@ -129,17 +125,17 @@ module _ (cols : List (Atom ℕ)) (n : ℕ) (r : Row) (rows kept : List Row) (vs
       go (refused k) = refl
 
   module _ (c : ℕ) (x : ℕ) (e : fate cols r ≡ binds c x) where
-    whole-seven : solvedFor c r ≡ refused 7 → whole cols (suc n) (r ∷ rows) kept vs ≡ refused 7
+    whole-refused : (j : ℕ) → solvedFor c r ≡ refused j → whole cols (suc n) (r ∷ rows) kept vs ≡ refused j
     unfolding whole eliminate turned
-    whole-seven f = rw (e, f) refl
+    whole-refused j f = rw (e, f) refl
 
-    whole-seven-rows : (w : Row) → solvedFor c r ≡ got w → each (putInRow c w) rows ≡ refused 7 → whole cols (suc n) (r ∷ rows) kept vs ≡ refused 7
+    whole-refused-rows : (j : ℕ) (w : Row) → solvedFor c r ≡ got w → each (putInRow c w) rows ≡ refused j → whole cols (suc n) (r ∷ rows) kept vs ≡ refused j
     unfolding whole eliminate turned
-    whole-seven-rows w f g = rw (e, f, g) refl
+    whole-refused-rows j w f g = rw (e, f, g) refl
 
-    whole-seven-values : (w : Row) (rows' : List Row) → solvedFor c r ≡ got w → each (putInRow c w) rows ≡ got rows' → each (putInValue c w) vs ≡ refused 7 → whole cols (suc n) (r ∷ rows) kept vs ≡ refused 7
+    whole-refused-values : (j : ℕ) (w : Row) (rows' : List Row) → solvedFor c r ≡ got w → each (putInRow c w) rows ≡ got rows' → each (putInValue c w) vs ≡ refused j → whole cols (suc n) (r ∷ rows) kept vs ≡ refused j
     unfolding whole eliminate turned
-    whole-seven-values w rows' f g h = rw (e, f, g, h) refl
+    whole-refused-values j w rows' f g h = rw (e, f, g, h) refl
 
     whole-binds : (w : Row) (rows' : List Row) (vs' : List (Value ℕ)) → solvedFor c r ≡ got w → each (putInRow c w) rows ≡ got rows' → each (putInValue c w) vs ≡ got vs'
         → whole cols (suc n) (r ∷ rows) kept vs ≡ whole cols n rows' kept (vs' ++ (x gets w ∷ []))
@@ -194,7 +190,7 @@ module _ (m : Machine) (h : Running m) (l : 0 < m.left) where
   unfolding rest
   opened cols = ap (λ (n : ℕ). whole cols n (take n (drop m.at G)) K bs) is-suc ∙ ap (λ (rs : List Row). whole cols (suc (m.left - 1)) rs K bs) rows-open
 
-  pub went-dropped : (cols : List (Atom ℕ)) → fate cols (firstRow m) ≡ gone → Went true cols m (droppedOf m)
+  pub went-dropped : (cols : List (Atom ℕ)) → fate cols (firstRow m) ≡ gone → Went cols m (Ok (droppedOf m))
   unfolding rest droppedOf
   went-dropped cols e = (
     record { rows-wide = h.rows-wide; kept-wide = h.kept-wide; values-wide = h.values-wide; named = h.named; here = omega (arith, h.here); room = omega (arith, h.room) },
@@ -202,7 +198,7 @@ module _ (m : Machine) (h : Running m) (l : 0 < m.left) where
     sym (opened cols ∙ whole-gone cols (m.left - 1) (firstRow m) others K bs e),
   )
 
-  pub went-keeping : (cols : List (Atom ℕ)) (g : Grid) → WideGrid g → rowsIn g ≡ set (rowsIn m.kept) m.stay (firstRow m) → fate cols (firstRow m) ≡ stays → Went true cols m (keepingOf m g)
+  pub went-keeping : (cols : List (Atom ℕ)) (g : Grid) → WideGrid g → rowsIn g ≡ set (rowsIn m.kept) m.stay (firstRow m) → fate cols (firstRow m) ≡ stays → Went cols m (Ok (keepingOf m g))
   unfolding rest keepingOf
   went-keeping cols g w i e =
       let kept : take (m.stay + 1) (rowsIn g) ≡ K ++ (firstRow m ∷ []) = rw (i, add-one m.stay) (take-suc-set (rowsIn m.kept) m.stay (firstRow m) (omega (arith, grid-long m.kept h.kept-wide, h.room))) in (
@@ -213,24 +209,24 @@ module _ (m : Machine) (h : Running m) (l : 0 < m.left) where
 
   -- a variable is bound by the first row
   module _ (cols : List (Atom ℕ)) (c x : ℕ) (e : fate cols (firstRow m) ≡ binds c x) where
-    pub went-seven : solvedFor c (firstRow m) ≡ refused 7 → rest cols m ≡ refused 7
-    went-seven f = opened cols ∙ whole-seven cols (m.left - 1) (firstRow m) others K bs c x e f
+    pub went-refused : (j : ℕ) → solvedFor c (firstRow m) ≡ refused j → rest cols m ≡ refused j
+    went-refused j f = opened cols ∙ whole-refused cols (m.left - 1) (firstRow m) others K bs c x e j f
 
-    pub went-seven-rows : (w : Row) → solvedFor c (firstRow m) ≡ got w → each (putInRow c w) others ≡ refused 7 → rest cols m ≡ refused 7
-    went-seven-rows w f i = opened cols ∙ whole-seven-rows cols (m.left - 1) (firstRow m) others K bs c x e w f i
+    pub went-refused-rows : (j : ℕ) (w : Row) → solvedFor c (firstRow m) ≡ got w → each (putInRow c w) others ≡ refused j → rest cols m ≡ refused j
+    went-refused-rows j w f i = opened cols ∙ whole-refused-rows cols (m.left - 1) (firstRow m) others K bs c x e j w f i
 
     -- the names and the values, as many
     as_many : length (take m.found m.names) ≡ length (take m.found (rowsIn m.values))
     as_many =
         length-take-le m.found m.names (omega (arith, h.named, h.room)) ∙ sym (length-take-le m.found (rowsIn m.values) (omega (arith, grid-long m.values h.values-wide, h.room)))
 
-    pub went-seven-values : (w : Row) (rows' : List Row) → solvedFor c (firstRow m) ≡ got w → each (putInRow c w) others ≡ got rows' → each (putInRow c w) (take m.found (rowsIn m.values)) ≡ refused 7 → rest cols m ≡ refused 7
-    went-seven-values w rows' f i j =
+    pub went-refused-values : (k : ℕ) (w : Row) (rows' : List Row) → solvedFor c (firstRow m) ≡ got w → each (putInRow c w) others ≡ got rows' → each (putInRow c w) (take m.found (rowsIn m.values)) ≡ refused k → rest cols m ≡ refused k
+    went-refused-values k w rows' f i j =
         opened cols
-        ∙ whole-seven-values cols (m.left - 1) (firstRow m) others K bs c x e w rows' f i (pair_put c w (take m.found m.names) (take m.found (rowsIn m.values)) as_many ∙ ap (◌>>= λ ss. got (pairValues (take m.found m.names) ss)) j)
+        ∙ whole-refused-values cols (m.left - 1) (firstRow m) others K bs c x e k w rows' f i (pair_put c w (take m.found m.names) (take m.found (rowsIn m.values)) as_many ∙ ap (◌>>= λ ss. got (pairValues (take m.found m.names) ss)) j)
 
     pub went-bound : (w : Row) (rows values g : Grid) → WideGrid rows → WideGrid values → WideGrid g → rowsIn g ≡ set (rowsIn values) m.found w → solvedFor c (firstRow m) ≡ got w
-        → each (putInRow c w) others ≡ got (take (m.left - 1) (rowsIn rows)) → each (putInRow c w) (take m.found (rowsIn m.values)) ≡ got (take m.found (rowsIn values)) → Went true cols m (boundOf m x rows g)
+        → each (putInRow c w) others ≡ got (take (m.left - 1) (rowsIn rows)) → each (putInRow c w) (take m.found (rowsIn m.values)) ≡ got (take m.found (rowsIn values)) → Went cols m (Ok (boundOf m x rows g))
     unfolding rest boundOf
     went-bound w rows values g wr wv wg k f i j =
         let names : take (m.found + 1) (set m.names m.found x) ≡ take m.found m.names ++ (x ∷ []) = rw (add-one m.found) (take-suc-set m.names m.found x (omega (arith, h.named, h.room))) in
@@ -246,7 +242,7 @@ module _ (m : Machine) (h : Running m) (l : 0 < m.left) where
         )
 
 -- nothing is left to do
-pub at-end : (cols : List (Atom ℕ)) (m : Machine) → m.left ≡ 0 → rest cols m ≡ endOr true m
+pub at-end : (cols : List (Atom ℕ)) (m : Machine) → m.left ≡ 0 → rest cols m ≡ got (endOf m)
 unfolding rest whole eliminate
 at-end cols m e = rw e (ap (λ (l : List Row). got (record { left = l; values = pairValues (take m.found m.names) (take m.found (rowsIn m.values)) })) (append-nil (take m.stay (rowsIn m.kept))))
   where

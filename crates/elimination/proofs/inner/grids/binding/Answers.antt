@@ -1,58 +1,51 @@
 -- `elimination::grids::binding` meets its contract: each place where a power can leave the range, and the machine afterwards.
 use mathlib.Core.Path.{◌≡◌, ap, ◌∙◌, sym, subst}
-use mathlib.Core.Bool.{true}
 use mathlib.Core.List.{List}
 use Prim.Native.Nat.{ℕ}
-use native.Mathlib.Omega.{arith}
-use Rattle.rules.specs.Base.{got}
+use Rattle.std.specs.Prelude.{Ok, Err}
+use Rattle.std.proofs.lemmas.Result.{err_from_is_err_and}
+use Rattle.rules.specs.Base.{Got}
 use Rattle.rules.specs.Trees.{Atom}
-use Rattle.laws.specs.Lists.{not-true, not-false}
 use Rattle.elimination.specs.declared.inner.grids.Machine.{Machine}
-use Rattle.rules.specs.Elimination.{solvedFor, fate, binds}
-use Rattle.elimination.specs.Told.{row_in, row-there, row-gone}
-use Rattle.elimination.specs.Grids.{grid-there, grid-gone}
-use Rattle.elimination.specs.Machine.{Went, firstRow, went-seven, went-seven-rows, went-seven-values, went-bound}
+use Rattle.elimination.specs.declared.inner.rows.Row as code
+use Rattle.rules.specs.Elimination.{Row, solvedFor, fate, binds}
+use Rattle.elimination.specs.Told.{row_in}
+use Rattle.elimination.specs.Machine.{Went, firstRow, went-refused, went-refused-rows, went-refused-values, went-bound}
 use Rattle.elimination.proofs.inner.grids.binding.Goals as goal
 
-pub returns-then-not-w : goal.returns-then-not-w
-returns-then-not-w c cols e i = let Given : List (Atom ℕ) → Type 0 = λ cols. (fate cols (row_in c.args.r) ≡ binds c.args.c c.args.x) × (firstRow c.args.m ≡ row_in c.args.r) in
-    let first-binds : (cols : List (Atom ℕ)) → Given cols → fate cols (firstRow c.args.m) ≡ binds c.args.c c.args.x = λ cols g. ap (fate cols) g.1 ∙ g.0 in
-    went-seven c.args.m c.requires.running c.requires.left_nonzero cols c.args.c c.args.x (first-binds cols (e, i)) (ap (solvedFor c.args.c) i ∙ row-gone c.solved_for-w.result _ c.solved_for-w.ensures (not-true _ c.if-not-w.true))
+-- the machine's first row is the row that binds
+first : (m : Machine) (r : code.Row) (c x : ℕ) (cols : List (Atom ℕ)) → fate cols (row_in r) ≡ binds c x → firstRow m ≡ row_in r → fate cols (firstRow m) ≡ binds c x
+first m r c x cols e i = ap (fate cols) i ∙ e
 
-pub put_in_rows-t-requires : goal.put_in_rows-t-requires
-put_in_rows-t-requires c =
-    record { c_bound = c.requires.c_bound; wide = c.solved_for-w.ensures.wide; wide_grid = c.requires.running.rows-wide; m_bound = omega (arith, c.requires.running.here, c.requires.left_nonzero) }
+solved : (m : Machine) (r : code.Row) (c : ℕ) (s : Got Row) → firstRow m ≡ row_in r → s ≡ solvedFor c (row_in r) → solvedFor c (firstRow m) ≡ s
+solved m r c s i q = ap (solvedFor c) i ∙ sym q
 
-pub returns-then-not-t : goal.returns-then-not-t
-returns-then-not-t c cols e i = let Given : List (Atom ℕ) → Type 0 = λ cols. (fate cols (row_in c.args.r) ≡ binds c.args.c c.args.x) × (firstRow c.args.m ≡ row_in c.args.r) in
-    let first-binds : (cols : List (Atom ℕ)) → Given cols → fate cols (firstRow c.args.m) ≡ binds c.args.c c.args.x = λ cols g. ap (fate cols) g.1 ∙ g.0 in
-    let solved : firstRow c.args.m ≡ row_in c.args.r → solvedFor c.args.c (firstRow c.args.m) ≡ got (row_in c.solved_for-w.result.row) = λ i.
-    ap (solvedFor c.args.c) i ∙ row-there c.solved_for-w.result _ c.solved_for-w.ensures (not-false _ c.if-not-w.false) in
-    went-seven-rows c.args.m c.requires.running c.requires.left_nonzero cols c.args.c c.args.x (first-binds cols (e, i)) _ (solved i) (grid-gone c.put_in_rows-t.result _ _ c.put_in_rows-t.ensures (not-true _ c.if-not-t.true))
+pub returns-in_err-w : goal.returns-in_err-w
+returns-in_err-w c cols e i =
+    let a = c.args in
+    let p = err_from_is_err_and c.from_residual.result c.from_residual.ensures.1 in
+    rw (p.1, p.2) (went-refused a.m c.requires.running c.requires.left cols a.c a.x (first a.m a.r a.c a.x cols e i) _ (solved a.m a.r a.c _ i c.in_err-w.ensures.is))
 
-pub put_in_rows-u-requires : goal.put_in_rows-u-requires
-put_in_rows-u-requires c =
-    record { c_bound = c.requires.c_bound; wide = c.solved_for-w.ensures.wide; wide_grid = c.requires.running.values-wide; m_bound = omega (arith, c.requires.running.room) }
+pub returns-in_err-rows : goal.returns-in_err-rows
+returns-in_err-rows c cols e i =
+    let a = c.args in
+    let p = err_from_is_err_and c.from_residual-in_err-rows.result c.from_residual-in_err-rows.ensures.1 in
+    rw (p.1, p.2)
+    (went-refused-rows a.m c.requires.running c.requires.left cols a.c a.x (first a.m a.r a.c a.x cols e i) _ _ (solved a.m a.r a.c _ i c.in_ok-w.ensures.is) (sym c.in_err-rows.ensures.is))
 
-pub returns-then-not-u : goal.returns-then-not-u
-returns-then-not-u c cols e i = let Given : List (Atom ℕ) → Type 0 = λ cols. (fate cols (row_in c.args.r) ≡ binds c.args.c c.args.x) × (firstRow c.args.m ≡ row_in c.args.r) in
-    let first-binds : (cols : List (Atom ℕ)) → Given cols → fate cols (firstRow c.args.m) ≡ binds c.args.c c.args.x = λ cols g. ap (fate cols) g.1 ∙ g.0 in
-    let solved : firstRow c.args.m ≡ row_in c.args.r → solvedFor c.args.c (firstRow c.args.m) ≡ got (row_in c.solved_for-w.result.row) = λ i.
-    ap (solvedFor c.args.c) i ∙ row-there c.solved_for-w.result _ c.solved_for-w.ensures (not-false _ c.if-not-w.false) in
-    went-seven-values c.args.m c.requires.running c.requires.left_nonzero cols c.args.c c.args.x (first-binds cols (e, i)) _ _ (solved i)
-    (grid-there c.put_in_rows-t.result _ _ c.put_in_rows-t.ensures (not-false _ c.if-not-t.false)) (grid-gone c.put_in_rows-u.result _ _ c.put_in_rows-u.ensures (not-true _ c.if-not-u.true))
-
-pub bound-requires : goal.bound-requires
-bound-requires c =
-    record { running = c.requires.running; wide = c.solved_for-w.ensures.wide; wide_grid = c.put_in_rows-u.ensures.wide; left_nonzero = c.requires.left_nonzero }
+pub returns-in_err-values : goal.returns-in_err-values
+returns-in_err-values c cols e i =
+    let a = c.args in
+    let p = err_from_is_err_and c.from_residual-in_err-values.result c.from_residual-in_err-values.ensures.1 in
+    rw (p.1, p.2)
+    (went-refused-values a.m c.requires.running c.requires.left cols a.c a.x (first a.m a.r a.c a.x cols e i) _ _ _ (solved a.m a.r a.c _ i c.in_ok-w.ensures.is)
+    (sym c.in_ok-rows.ensures.is) (sym c.in_err-values.ensures.is))
 
 pub returns : goal.returns
-returns c cols e i = let Given : List (Atom ℕ) → Type 0 = λ cols. (fate cols (row_in c.args.r) ≡ binds c.args.c c.args.x) × (firstRow c.args.m ≡ row_in c.args.r) in
-    let first-binds : (cols : List (Atom ℕ)) → Given cols → fate cols (firstRow c.args.m) ≡ binds c.args.c c.args.x = λ cols g. ap (fate cols) g.1 ∙ g.0 in
-    let solved : firstRow c.args.m ≡ row_in c.args.r → solvedFor c.args.c (firstRow c.args.m) ≡ got (row_in c.solved_for-w.result.row) = λ i.
-    ap (solvedFor c.args.c) i ∙ row-there c.solved_for-w.result _ c.solved_for-w.ensures (not-false _ c.if-not-w.false) in
+returns c cols e i =
+    let a = c.args in
     let b = c.bound.ensures in
-    subst (λ (q : Machine). Went true cols c.args.m q) (sym b.1.2)
-    (went-bound c.args.m c.requires.running c.requires.left_nonzero cols c.args.c c.args.x (first-binds cols (e, i)) _ c.put_in_rows-t.result.grid c.put_in_rows-u.result.grid b.0
-    c.put_in_rows-t.ensures.wide c.put_in_rows-u.ensures.wide b.1.0 b.1.1 (solved i)
-    (grid-there c.put_in_rows-t.result _ _ c.put_in_rows-t.ensures (not-false _ c.if-not-t.false)) (grid-there c.put_in_rows-u.result _ _ c.put_in_rows-u.ensures (not-false _ c.if-not-u.false)))
+    subst (λ (q : Machine). Went cols a.m (Ok q)) (sym b.1.2)
+    (went-bound a.m c.requires.running c.requires.left cols a.c a.x (first a.m a.r a.c a.x cols e i) _ c.in_ok-rows.rows c.in_ok-values.values b.0
+    c.in_ok-rows.ensures.wide c.in_ok-values.ensures.wide b.1.0 b.1.1 (solved a.m a.r a.c _ i c.in_ok-w.ensures.is)
+    (sym c.in_ok-rows.ensures.is) (sym c.in_ok-values.ensures.is))

@@ -5,4 +5,4 @@ use Rattle.elimination.proofs.inner.grids.keeping.Goals as goal
 
 pub returns : goal.returns
 unfolding keepingOf
-returns c = let w = c.with_row-g in (w.result, (w.ensures.0, w.ensures.1, refl))
+returns c = let w = c.with_row-q in (w.result, (w.ensures.0, w.ensures.1, refl))

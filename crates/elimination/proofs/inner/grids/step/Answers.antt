@@ -1,6 +1,6 @@
 -- `elimination::grids::step` meets its contract, by the first power of the row that isn't 0.
 use mathlib.Core.Path.{◌≡◌, ap, ◌∙◌, sym, subst}
-use mathlib.Core.Bool.{true}
+use Rattle.std.specs.Prelude.{Ok}
 use Prim.Native.Nat.{ℕ, ◌<◌, ◌≤◌}
 use native.Mathlib.Omega.{arith}
 use lib.ListN.{length, get_or, set}
@@ -39,11 +39,11 @@ module _ (k : Columns) (l : Laid k) (r : Row) (w : Wide r) (j : ℕ) (f : First 
 
 pub returns-then-k-c : goal.returns-then-k-c
 returns-then-k-c c =
-    subst (λ (q : Machine). Went true (colsIn c.args.k) c.args.m q) (sym c.dropped.ensures) (went-dropped c.args.m c.requires.running c.requires.left_nonzero (colsIn c.args.k) (ap (fate (colsIn c.args.k)) (sym c.row_at-r.ensures.1) ∙ none-there c.args.k c.requires.laid c.row_at-r.result c.row_at-r.ensures.0 c.first_in-c.result c.first_in-c.ensures c.if-k-c.true))
+    subst (λ (q : Machine). Went (colsIn c.args.k) c.args.m (Ok q)) (sym c.dropped.ensures) (went-dropped c.args.m c.requires.running c.requires.left (colsIn c.args.k) (ap (fate (colsIn c.args.k)) (sym c.row_at-r.ensures.1) ∙ none-there c.args.k c.requires.laid c.row_at-r.result c.row_at-r.ensures.0 c.first_in-c.result c.first_in-c.ensures c.if-k-c.true))
 
 pub binding-requires : goal.binding-requires
 binding-requires c =
-    record { running = c.requires.running; wide = c.row_at-r.ensures.0; c_bound = omega (arith, laid-few c.args.k c.requires.laid); left_nonzero = c.requires.left_nonzero }
+    record { running = c.requires.running; wide = c.row_at-r.ensures.0; column = omega (arith, laid-few c.args.k c.requires.laid); left = c.requires.left }
 
 pub returns-then-c-k : goal.returns-then-c-k
 returns-then-c-k c =
@@ -52,5 +52,5 @@ returns-then-c-k c =
 pub returns : goal.returns
 returns c =
     let b = c.keeping.ensures in
-    subst (λ (q : Machine). Went true (colsIn c.args.k) c.args.m q) (sym b.1.2)
-    (went-keeping c.args.m c.requires.running c.requires.left_nonzero (colsIn c.args.k) b.0 b.1.0 (b.1.1 ∙ ap (set (rowsIn c.args.m.kept) c.args.m.stay) c.row_at-r.ensures.1) (ap (fate (colsIn c.args.k)) (sym c.row_at-r.ensures.1) ∙ other-there c.args.k c.requires.laid c.row_at-r.result c.row_at-r.ensures.0 c.first_in-c.result c.first_in-c.ensures (omega arith) (omega arith)))
+    subst (λ (q : Machine). Went (colsIn c.args.k) c.args.m (Ok q)) (sym b.1.2)
+    (went-keeping c.args.m c.requires.running c.requires.left (colsIn c.args.k) b.0 b.1.0 (b.1.1 ∙ ap (set (rowsIn c.args.m.kept) c.args.m.stay) c.row_at-r.ensures.1) (ap (fate (colsIn c.args.k)) (sym c.row_at-r.ensures.1) ∙ other-there c.args.k c.requires.laid c.row_at-r.result c.row_at-r.ensures.0 c.first_in-c.result c.first_in-c.ensures (omega arith) (omega arith)))

@@ -3,55 +3,49 @@ use mathlib.Core.Path.{◌≡◌, ap, ◌∙◌, sym}
 use mathlib.Core.Bool.{true}
 use native.Mathlib.Omega.{arith}
 use lib.ListN.{get_or}
-use Rattle.rules.specs.Base.{refused, bounded, each}
+use Rattle.std.proofs.lemmas.Result.{err_from_is_err_and}
+use Rattle.rules.specs.Base.{bounded}
 use Rattle.rules.specs.Exponents.{Exp, nought, goodExp, neg, quotient}
-use Rattle.rules.specs.Refusals.{number_of, toldBy}
-use Rattle.rules.specs.declared.Refusal.{Refusal}
 use Rattle.laws.specs.Ranges.{neg-good, quotient-good}
 use Rattle.exponents.specs.Answers.{expOf}
-use Rattle.std.specs.Prelude.{Err}
-use Rattle.elimination.specs.Sevens.{quotient-seven}
-use Rattle.elimination.specs.Told.{row_in, toldRow, seven-row, quotients}
-use Rattle.elimination.specs.Doing.{start, onward, stop, done, good-at}
+use Rattle.elimination.specs.Told.{row_in, quotients}
+use Rattle.elimination.specs.Doing.{start, onward, stop, done, wide_at}
 use Rattle.elimination.proofs.inner.rows.divided.Goals as goal
 
 pub loop-j-init : goal.loop-j-init
 loop-j-init c = start _ _ c.args.r c.requires.wide
 
-pub power_at-requires : goal.power_at-requires
-power_at-requires c = record { wide = c.requires.wide; j_bound = omega arith }
-
 pub negative_of-requires : goal.negative_of-requires
-negative_of-requires c = let of_row : goodExp (expOf c.power_at.result) ≡ true = rw c.power_at.ensures (good-at (row_in c.args.r) c.loop-j.j c.requires.wide.good (omega (arith, c.requires.wide.long))) in
-    of_row
+negative_of-requires c = rw c.power_at.ensures (wide_at c.args.r c.loop-j.j c.requires.wide (omega arith))
 
 pub quotient_of-requires : goal.quotient_of-requires
-quotient_of-requires c = let of_row : goodExp (expOf c.power_at.result) ≡ true = rw c.power_at.ensures (good-at (row_in c.args.r) c.loop-j.j c.requires.wide.good (omega (arith, c.requires.wide.long))) in
-    let turned : goodExp (expOf c.negative_of.result) ≡ true = rw c.negative_of.ensures (neg-good _ (of_row)) in
-    (turned, c.requires.k_value)
+quotient_of-requires c =
+    let of_row : goodExp (expOf c.power_at.result) ≡ true = rw c.power_at.ensures (wide_at c.args.r c.loop-j.j c.requires.wide (omega arith)) in
+    (rw c.negative_of.ensures (neg-good _ of_row), c.requires.power)
 
-pub returns-in_default : goal.returns-in_default
+pub returns-in_err-e-clause-is : goal.returns-in_err-e-clause-is
 unfolding quotients
-returns-in_default c = let stepped : quotient bounded (neg (get_or (row_in c.args.r) c.loop-j.j nought)) (expOf c.args.k) ≡ toldBy expOf c.quotient_of.result = ap (λ (e : Exp). quotient bounded (neg e) (expOf c.args.k)) (sym c.power_at.ensures)
+returns-in_err-e-clause-is c =
+    let p = err_from_is_err_and c.from_residual.result c.from_residual.ensures.1 in
+    let stepped = ap (λ (e : Exp). quotient bounded (neg e) (expOf c.args.k)) (sym c.power_at.ensures)
     ∙ ap (λ (e : Exp). quotient bounded e (expOf c.args.k)) (sym c.negative_of.ensures)
-    ∙ sym c.quotient_of.ensures in
-    let stopped : (r : Refusal) → c.quotient_of.result ≡ Err r → each (λ e. quotient bounded (neg e) (expOf c.args.k)) (row_in c.args.r) ≡ refused (number_of r) = λ r e.
-    stop _ (row_in c.args.r) c.loop-j.j nought (omega (arith, c.requires.wide.long)) c.loop-j.out _ c.loop-j.invariant (stepped ∙ ap (toldBy expOf) e) in
-    record { wide = c.loop-j.invariant.wide; is = seven-row c.loop-j.out _ ((quotient-seven _ _).only _ (stepped ∙ ap (toldBy expOf) c.in_default.is)) (sym (stopped _ c.in_default.is)) }
+    ∙ sym c.in_err-e.ensures in
+    rw (p.1, p.2) (sym (stop _ (row_in c.args.r) c.loop-j.j nought (omega (arith, c.requires.wide.long)) c.loop-j.out _ c.loop-j.invariant stepped))
 
 pub with_power-out-requires : goal.with_power-out-requires
-with_power-out-requires c = let of_row : goodExp (expOf c.power_at.result) ≡ true = rw c.power_at.ensures (good-at (row_in c.args.r) c.loop-j.j c.requires.wide.good (omega (arith, c.requires.wide.long))) in
-    let turned : goodExp (expOf c.negative_of.result) ≡ true = rw c.negative_of.ensures (neg-good _ (of_row)) in
-    record { wide = c.loop-j.invariant.wide; j_bound = omega arith; e_value = (quotient-good _ _ (turned) c.requires.k_value).holds _ (sym c.quotient_of.ensures ∙ ap (toldBy expOf) c.in-Ok.is) }
+with_power-out-requires c =
+    let of_row : goodExp (expOf c.power_at.result) ≡ true = rw c.power_at.ensures (wide_at c.args.r c.loop-j.j c.requires.wide (omega arith)) in
+    let turned : goodExp (expOf c.negative_of.result) ≡ true = rw c.negative_of.ensures (neg-good _ of_row) in
+    record { wide = c.loop-j.invariant.wide; column = omega arith; power = (quotient-good _ _ turned c.requires.power).holds _ (sym c.in_ok-e.ensures) }
 
 pub loop-j-preserved : goal.loop-j-preserved
-loop-j-preserved c = let stepped : quotient bounded (neg (get_or (row_in c.args.r) c.loop-j.j nought)) (expOf c.args.k) ≡ toldBy expOf c.quotient_of.result = ap (λ (e : Exp). quotient bounded (neg e) (expOf c.args.k)) (sym c.power_at.ensures)
+loop-j-preserved c =
+    let stepped = ap (λ (e : Exp). quotient bounded (neg e) (expOf c.args.k)) (sym c.power_at.ensures)
     ∙ ap (λ (e : Exp). quotient bounded e (expOf c.args.k)) (sym c.negative_of.ensures)
-    ∙ sym c.quotient_of.ensures in
+    ∙ sym c.in_ok-e.ensures in
     onward _ (row_in c.args.r) c.loop-j.j nought (omega (arith, c.requires.wide.long)) c.loop-j.out c.with_power-out.result _ c.loop-j.invariant (omega arith)
-    (stepped ∙ ap (toldBy expOf) c.in-Ok.is) c.with_power-out.ensures.0 c.with_power-out.ensures.1
+    stepped c.with_power-out.ensures.0 c.with_power-out.ensures.1
 
-pub returns : goal.returns
-unfolding quotients toldRow
-returns c =
-    record { wide = c.loop-j.invariant.wide; is = sym (done _ (row_in c.args.r) c.loop-j.j c.loop-j.out c.loop-j.invariant c.requires.wide.long (omega arith)) }
+pub returns-clause-is : goal.returns-clause-is
+unfolding quotients
+returns-clause-is c = sym (done _ (row_in c.args.r) c.loop-j.j c.loop-j.out c.loop-j.invariant c.requires.wide.long (omega arith))

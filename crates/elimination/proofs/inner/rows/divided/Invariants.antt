@@ -1,4 +1,3 @@
-use Prim.Native.Nat.{◌-◌}
 use Rattle.rules.specs.Base.{bounded}
 use Rattle.rules.specs.Exponents.{neg, quotient}
 use Rattle.exponents.specs.Answers.{expOf}
@@ -8,6 +7,3 @@ use Rattle.elimination.proofs.inner.rows.divided.Given as goal
 
 abbrev pub invariant-loop-j : goal.invariant-loop-j
 invariant-loop-j l = Doing (λ e. quotient bounded (neg e) (expOf l.k)) (row_in l.r) l.j l.out
-
-abbrev pub decreases-loop-j : goal.decreases-loop-j
-decreases-loop-j l = 48 - l.j

@@ -1,4 +1,3 @@
-use Prim.Native.Nat.{◌-◌}
 use Rattle.rules.specs.Base.{bounded}
 use Rattle.rules.specs.Exponents.{sum}
 use Rattle.elimination.specs.Told.{row_in}
@@ -7,6 +6,3 @@ use Rattle.elimination.proofs.inner.rows.plus_row.Given as goal
 
 abbrev pub invariant-loop-j : goal.invariant-loop-j
 invariant-loop-j l = Doing (λ p. sum bounded p.0 p.1) (pairUp (row_in l.a) (row_in l.b)) l.j l.out
-
-abbrev pub decreases-loop-j : goal.decreases-loop-j
-decreases-loop-j l = 48 - l.j

@@ -3,4 +3,4 @@ use Rattle.elimination.specs.Doing.{row_at}
 use Rattle.elimination.proofs.inner.rows.power_at.Goals as goal
 
 pub returns : goal.returns
-returns c = row_at c.args.r c.args.j _ c.requires.wide c.requires.j_bound
+returns c = row_at c.args.r c.args.j _ c.requires.wide c.requires.column

@@ -1,4 +1,3 @@
-use Prim.Native.Nat.{◌-◌}
 use Rattle.rules.specs.Base.{bounded}
 use Rattle.rules.specs.Exponents.{times}
 use Rattle.exponents.specs.Answers.{expOf}
@@ -8,6 +7,3 @@ use Rattle.elimination.proofs.inner.rows.times_row.Given as goal
 
 abbrev pub invariant-loop-j : goal.invariant-loop-j
 invariant-loop-j l = Doing (λ e. times bounded e (expOf l.k)) (row_in l.w) l.j l.out
-
-abbrev pub decreases-loop-j : goal.decreases-loop-j
-decreases-loop-j l = 48 - l.j
