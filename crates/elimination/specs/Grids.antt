@@ -1,5 +1,5 @@
 -- The code's grids as lists of rows, and a loop over rows.
-use Rattle.std.specs.Prelude.{◌≡◌, Bool, true, false, List, [], ◌∷◌, ◌++◌, map, ℕ, zero, suc, ◌+◌, ◌<◌, ◌≤◌, length, take, drop, get_or, set}
+use Rattle.std.specs.Prelude.{◌≡◌, true, false, List, [], ◌∷◌, ◌++◌, map, ℕ, zero, suc, ◌+◌, ◌<◌, ◌≤◌, length, take, drop, get_or, set}
 use Rattle.std.proofs.Math.Path.{refl}
 use Rattle.std.proofs.Common.{ap, ◌∙◌, sym, append_assoc, arith, length-set, length-drop, drop_of_length-le, take-suc-set, drop-cons, length-take-le, get_or-take, get_or-drop}
 use Rattle.std.proofs.Math.Numerals.{add-one}

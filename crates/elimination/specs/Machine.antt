@@ -1,5 +1,5 @@
 -- What a machine has yet to do, and what each of its steps does to that.
-use Rattle.std.specs.Prelude.{◌≡◌, Bool, true, false, ℕ, Result, Ok, Err, zero, suc, ◌+◌, ◌-◌, ◌<◌, ◌≤◌, drop, get_or, set}
+use Rattle.std.specs.Prelude.{◌≡◌, true, false, ℕ, Result, Ok, Err, zero, suc, ◌+◌, ◌-◌, ◌<◌, ◌≤◌, drop, get_or, set}
 use Rattle.std.proofs.Math.Path.{refl, ap, sym}
 use Rattle.std.proofs.Common.{ap₂, ◌∙◌, length-append, take-suc-set, drop-cons, get_or-take}
 use mathlib.Core.List.{List, [], ◌∷◌, ◌++◌, append_assoc}

@@ -1,7 +1,6 @@
 -- The code's rows as the definitions' rows.
-use Rattle.std.specs.Prelude.{◌≡◌, Bool, true, false, map, ℕ, length}
-use Rattle.std.proofs.Common.{ap, ◌∙◌, sym}
-use Rattle.rules.specs.Base.{Got, got, refused, bounded, each}
+use Rattle.std.specs.Prelude.{◌≡◌, true, map, length}
+use Rattle.rules.specs.Base.{Got, bounded, each}
 use Rattle.rules.specs.Exponents.{Exp, neg, goodExp, quotient}
 use Rattle.laws.specs.Lists.{Every}
 use Rattle.exponents.specs.Answers.{expOf}

@@ -30,7 +30,7 @@ use Rattle.rules.specs.Elimination.{columns, fits, isVariable}
 use Rattle.elimination.specs.Machine.{atomsFrom, namesIn, colsIn}
 use Rattle.laying.specs.Atoms.{powerOf}
 use Rattle.laying.specs.Lines.{Plain, Lined}
-use Rattle.laying.specs.Columns.{vars, pars, bases, Known, ListedAs}
+use Rattle.laying.specs.Columns.{vars, pars, bases, Known, Listed}
 use Rattle.laying.specs.Sorting.{varsOf, parsOf, basesOf, Named, in_turn, in-turn, from-names, variables-kept, others-kept, set-variables, set-parameters}
 use Rattle.laying.specs.Bases.{set-bases}
 
@@ -96,11 +96,11 @@ module _ (pool table s : List ℕ) where
     unfolding columns
     columns-are = rw (vars-are, pars-are, bases-are) (in-turn ν atoms (all_named ps 0 chain))
 
-    pub listed-columns : (k : Columns) → ListedAs ν s e true k → colsIn k ≡ columns ν ps
+    pub listed-columns : (k : Columns) → Listed ν s e k → colsIn k ≡ columns ν ps
     unfolding colsIn
     listed-columns k l =
-        ap₂ (λ (v p : ℕ). atomsFrom v p (namesIn k)) l.1 l.2
-        ∙ ap (atomsFrom (length (vars ν s e)) (length (pars ν s e))) l.3
+        ap₂ (λ (v p : ℕ). atomsFrom v p (namesIn k)) l.variables l.parameters
+        ∙ ap (atomsFrom (length (vars ν s e)) (length (pars ν s e))) l.names
         ∙ from-names (vars ν s e) (pars ν s e) (bases ν s e)
         ∙ sym columns-are
 

@@ -8,11 +8,14 @@ use Prim.Native.Nat.{ℕ, zero, suc, ◌+◌, ◌-◌, ◌≤◌, ◌<◌}
 use native.Mathlib.Omega.{arith}
 use Rattle.std.proofs.Math.ListN.{length, length-append}
 use Rattle.std.proofs.lemmas.List.{length-replicate}
-use Rattle.rules.specs.Base.{Got, got, refused, ◌>>=◌, each}
+use Rattle.std.proofs.lemmas.Bool.{le-leb, lt-leb}
+use Rattle.std.proofs.Math.Dec.{leb}
+use Rattle.rules.specs.Base.{Got, got, refused, ◌>>=◌, ◌>>◌, need, each}
 use Rattle.rules.specs.Exponents.{nought, goodExp}
 use Rattle.rules.specs.Names.{Bytes, numbered}
 use Rattle.rules.specs.Trees as tree
 use Rattle.rules.specs.Trees.{Factor, Product, Con, equal, isDim, is_scalar, hasField, size, sizeCon}
+use Rattle.laws.specs.Refusing.{Refuses, given, refusing, next}
 use Rattle.laws.specs.Lists.{Every, got≢refused, true≢false, one-step, each-parts}
 use Rattle.records.specs.Views.{viewAt}
 use Rattle.records.specs.Holds.{HoldsFactors, HoldsProduct, HoldsCon}
@@ -87,13 +90,46 @@ padded l = l ++ replicate (48 - length l) nought
 abbrev pub paddedRows : List Bytes → List (tree.Atom ℕ) → List (Product ℕ) → List Rows.Row
 paddedRows names cols ps = map (λ p. padded (row_of (numbered names) cols p)) ps
 
--- equal-scalars alone, at most 24, as rows; or they are not
-abbrev pub Fitting : Bool → List Bytes → List (tree.Atom ℕ) → List (Con ℕ) → ℕ → Grid → Type 0
-Fitting true names cols cs n g = (ps : List (Product ℕ)) × (each scalarOf cs ≡ got ps) × (n ≡ length ps) × (n ≤ 24) × WideGrid g × (take n (rowsIn g) ≡ paddedRows names cols ps)
-Fitting false names cols cs n g = (ps : List (Product ℕ)) → each scalarOf cs ≡ got ps → 24 < length ps
+-- equal-scalars alone, at most 24, as rows; 8 where they are not
+unfoldable pub laidOut : List Bytes → List (tree.Atom ℕ) → List (Con ℕ) → Got (List Rows.Row)
+laidOut names cols cs = do
+  ps ← each scalarOf cs
+  need (leb (length ps) 24) 8
+  got (paddedRows names cols ps)
 
-pub record LinesAre (names : List Bytes) (cols : List (tree.Atom ℕ)) (cs : List (Con ℕ)) (r : Lines) : Type 0 where
-  pub is : Fitting r.fits names cols cs r.len r.grid
+-- the rows that were laid out, and their room
+abbrev pub rowsOf : Lines → List Rows.Row
+rowsOf l = take l.len (rowsIn l.grid)
+
+pub record Roomy (l : Lines) : Type 0 where
+  pub few : l.len ≤ 24
+  pub wide : WideGrid l.grid
+
+scalar-eight : (c : Con ℕ) → Refuses (λ n. n ≡ 8) (scalarOf c)
+unfolding scalarOf
+scalar-eight (equal l r) = refusing refl
+scalar-eight (isDim t) = refusing refl
+scalar-eight (is_scalar p) = given
+scalar-eight (hasField n l r) = refusing refl
+
+pub scalars-eight : (cs : List (Con ℕ)) → Refuses (λ n. n ≡ 8) (each scalarOf cs)
+unfolding each
+scalars-eight [] = given
+scalars-eight (c ∷ cs) = next (scalarOf c) _ (scalar-eight c) (λ p. next (each scalarOf cs) _ (scalars-eight cs) (λ ps. given))
+
+module _ (names : List Bytes) (cols : List (tree.Atom ℕ)) (cs : List (Con ℕ)) where
+  pub laid-some : (ps : List (Product ℕ)) → each scalarOf cs ≡ got ps → length ps ≤ 24 → laidOut names cols cs ≡ got (paddedRows names cols ps)
+  unfolding laidOut
+  laid-some ps e h = rw (e, le-leb (length ps) 24 h) refl
+
+  -- another kind of constraint, or too many
+  pub laid-none : ((ps : List (Product ℕ)) → each scalarOf cs ≡ got ps → 24 < length ps) → laidOut names cols cs ≡ refused 8
+  unfolding laidOut
+  laid-none f = go (each scalarOf cs) refl
+    where
+      go : (m : Got (List (Product ℕ))) → each scalarOf cs ≡ m → laidOut names cols cs ≡ refused 8
+      go (got ps) e = rw (e, lt-leb (length ps) 24 (f ps e)) refl
+      go (refused n) e = rw (e, (scalars-eight cs).only n e) refl
 
 -- ══ Row by row ══
 
@@ -177,21 +213,24 @@ module _ (names : List Bytes) (cols : List (tree.Atom ℕ)) (s : List ℕ) (cs :
     this = here at e w.more w.lined h
 
     -- another kind of constraint
-    pub not_scalar : saysScalar (viewAt s at) ≡ false → (ps : List (Product ℕ)) → each scalarOf cs ≡ got ps → 24 < length ps
+    pub not_scalar : saysScalar (viewAt s at) ≡ false → laidOut names cols cs ≡ refused 8
     unfolding each
-    not_scalar f ps i =
+    not_scalar f =
         let z : each scalarOf cs ≡ refused 8 = w.whole ∙ rw (this.is, other-con at this.con this.held f) refl in
-        absurd (got≢refused (sym i ∙ z))
+        laid-none names cols cs (λ ps i. absurd (got≢refused (sym i ∙ z)))
 
     -- a 25th row
-    pub too_many : 24 ≤ n → (ps : List (Product ℕ)) → each scalarOf cs ≡ got ps → 24 < length ps
+    pub too_many : 24 ≤ n → laidOut names cols cs ≡ refused 8
     unfolding each
-    too_many k ps i =
-        let a = one-step (each scalarOf w.more) (λ qs. w.done ++ qs) ps (sym w.whole ∙ i) in
-        let b = each-parts scalarOf this.con this.others a.value (sym (ap (each scalarOf) this.is) ∙ a.gave) in
-        let l : length a.value ≡ suc (length b.second) = ap length (sym b.both) in
-        let m : length ps ≡ length w.done + length a.value = ap length (sym a.is) ∙ length-append w.done a.value in
-        omega (arith, l, m, w.many, k)
+    too_many k = laid-none names cols cs more-still
+      where
+        more-still : (ps : List (Product ℕ)) → each scalarOf cs ≡ got ps → 24 < length ps
+        more-still ps i =
+            let a = one-step (each scalarOf w.more) (λ qs. w.done ++ qs) ps (sym w.whole ∙ i) in
+            let b = each-parts scalarOf this.con this.others a.value (sym (ap (each scalarOf) this.is) ∙ a.gave) in
+            let l : length a.value ≡ suc (length b.second) = ap length (sym b.both) in
+            let m : length ps ≡ length w.done + length a.value = ap length (sym a.is) ∙ length-append w.done a.value in
+            omega (arith, l, m, w.many, k)
 
     pub going_on : (c : Scalar at this.con) (g' : Grid) (r : Row) → n < 24 → WideGrid g → RowIs r (row_of (numbered names) cols c.product) → rowsIn g' ≡ set (rowsIn g) n (row_in r)
         → Going names cols s cs (at + 2 + length c.product) e (n + 1) g'
@@ -214,12 +253,12 @@ module _ (names : List Bytes) (cols : List (tree.Atom ℕ)) (s : List ℕ) (cs :
         again (refused j) = refl
 
   -- all constraints are done
-  pub going_end : (at e n : ℕ) (g : Grid) → Going names cols s cs at e n g → WideGrid g → n ≤ 24 → e ≤ at → Fitting true names cols cs n g
+  pub going_end : (at e n : ℕ) (g : Grid) → Going names cols s cs at e n g → n ≤ 24 → e ≤ at → laidOut names cols cs ≡ got (take n (rowsIn g))
   unfolding Lined each
-  going_end at e n g w wide k h = go w.more refl w.lined
+  going_end at e n g w k h = go w.more refl w.lined
     where
-      go : (more : List (Con ℕ)) → w.more ≡ more → Lined s more at e → Fitting true names cols cs n g
-      go [] i l = (w.done, w.whole ∙ rw i (ap got (append-nil w.done)), w.many, k, wide, w.rows)
+      go : (more : List (Con ℕ)) → w.more ≡ more → Lined s more at e → laidOut names cols cs ≡ got (take n (rowsIn g))
+      go [] i l = laid-some names cols cs w.done (w.whole ∙ rw i (ap got (append-nil w.done))) (omega (arith, w.many)) ∙ ap got (sym w.rows)
       go (c ∷ more) i l = let x = lined-end s more (at + sizeCon c) e l.2 in let y = con-long c in absurd (omega arith)
 
 copies : (n : ℕ) (r : Row) → Wide r → Every Wide (replicate n r)

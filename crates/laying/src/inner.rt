@@ -1,5 +1,5 @@
 // The work on words that hold a set.
-ghost use Rattle.std.specs.Prelude.{◌≡◌, List, [], ◌++◌, ℕ, ◌+◌, ◌≤◌, ◌<◌, length, get_or, option_to_list};
+ghost use Rattle.std.specs.Prelude.{◌≡◌, List, [], ◌++◌, ℕ, ◌+◌, ◌≤◌, ◌<◌, length, get_or, option_to_list, IfOk};
 ghost use Rattle.rules.specs.Names.{Bytes, numbered};
 ghost use Rattle.rules.specs.Trees.{base, Con};
 ghost use Rattle.exponents.specs.Answers.{expOf};
@@ -9,24 +9,25 @@ ghost use Rattle.rules.specs.Elimination.{powerIn, row_of};
 ghost use Rattle.elimination.specs.Machine.{colsIn, Laid};
 ghost use Rattle.elimination.specs.Grids.{WideGrid};
 ghost use Rattle.rules.specs.Contents.{sort};
-ghost use Rattle.laws.specs.NameTable.{Good};
+ghost use Rattle.rules.specs.Refusals.{toldBy};
 ghost use Rattle.laws.specs.ReadLists.{Every};
 ghost use Rattle.records.specs.Good.{numbers};
 ghost use Rattle.queries.specs.Marks.{Marks, Filled};
-ghost use Rattle.laying.specs.Columns.{basesAtom, basesView, basesIn, Known, ListedWell};
-ghost use Rattle.laying.specs.Lines.{saysScalar, countOf, Lined, LinesAre};
+ghost use Rattle.laying.specs.Columns.{basesAtom, basesView, basesIn, Known, headed, listed};
+ghost use Rattle.laying.specs.Lines.{saysScalar, countOf, Lined, rowsOf, Roomy, laidOut};
 ghost use Rattle.laying.specs.Atoms.{openRank, openNumber, atomRank, atomNumber, sameAtom, HeldGood, RowIs};
 
 use elimination::inner::grids::{Columns, Grid, with_row};
 use elimination::inner::rows::{Row, with_power};
 use exponents::Exponent;
+use names::tables::NameTable;
 use queries::Kind;
 use queries::inner::{list_names, mark, sort_names};
 use records::seen::view_at;
 use records::{Atom, Open, View};
-use rules::NAMES;
+use rules::{NAMES, Refusal};
 
-// At most 24 rows.
+// At most 24 rows, 24 variables, and 24 parameters and base dimensions.
 const ROWS: usize = 24;
 
 fn open_rank(o: Open) -> u32
@@ -70,31 +71,23 @@ fn number(a: Atom) -> u32
 fn same_atom(a: Atom, b: Atom) -> bool
     ensures { result ≡ sameAtom a b }
 {
-    if rank(a) == rank(b) {
-        number(a) == number(b)
-    } else {
-        false
-    }
+    rank(a) == rank(b) && number(a) == number(b)
 }
 
 // The atom of a column.
 pub fn atom_at(k: Columns, j: usize) -> Atom
     requires laid { Laid k }
-    requires j_lt_len { j < k.len }
+    requires column { j < k.len }
     ensures { atomOf result ≡ get_or (colsIn k) j (base 0) }
 {
     if j < k.variables {
-        let x = k.vars[j];
-        return Atom::Free(Open::Var(x));
+        return Atom::Free(Open::Var(k.vars[j]));
     }
     let i = j - k.variables;
     if i < k.parameters {
-        let x = k.pars[i];
-        return Atom::Free(Open::Par(x));
+        return Atom::Free(Open::Par(k.pars[i]));
     }
-    let i = i - k.parameters;
-    let x = k.bases[i];
-    Atom::Base(x)
+    Atom::Base(k.bases[i - k.parameters])
 }
 
 // The power of an atom in the n factors from a place on; 0 where it doesn't occur.
@@ -102,15 +95,13 @@ fn power_in(s: &[u32], at: usize, n: usize, a: Atom) -> Exponent
     requires { (at ≤ 1000000000) × (n ≤ 64) }
     ensures { (p : Tree) (names : List Bytes) → HoldsFactors s.now p at → length p ≡ n → expOf result ≡ powerIn (numbered names) p (atomOf a) }
 {
-    let mut i = 0;
-    while i < n {
+    for i in 0..n {
         let View::Factor(b, num, den) = view_at(s, at + i) else {
             return Exponent::ZERO;
         };
         if same_atom(a, b) {
             return Exponent::from_words(num, den);
         }
-        i += 1;
     }
     Exponent::ZERO
 }
@@ -119,30 +110,23 @@ fn power_in(s: &[u32], at: usize, n: usize, a: Atom) -> Exponent
 pub fn zeros() -> Row
     ensures { RowIs result [] }
 {
-    let powers = [Exponent::ZERO; 48];
-    Row { powers }
+    Row {
+        powers: [Exponent::ZERO; 48],
+    }
 }
 
 // The row of the n factors from a place on.
 pub fn row_of(s: &[u32], at: usize, n: usize, k: Columns) -> Row
     requires laid { Laid k }
-    requires at_bound { (at ≤ 1000000000) × (n ≤ 64) }
-    requires held_good { (p : Tree) × HeldGood s.now at n p }
+    requires place { (at ≤ 1000000000) × (n ≤ 64) }
+    requires held { (p : Tree) × HeldGood s.now at n p }
     ensures { (p : Tree) (names : List Bytes) → HeldGood s.now at n p → RowIs result (row_of (numbered names) (colsIn k) p) }
 {
     let mut out = zeros();
-    let mut j = 0;
-    while j < k.len {
+    for j in 0..k.len {
         out = with_power(out, j, power_in(s, at, n, atom_at(k, j)));
-        j += 1;
     }
     out
-}
-
-fn wide(x: u32) -> usize
-    ensures { result ≡ x }
-{
-    x as usize
 }
 
 // Does a record say equal-scalar?
@@ -160,15 +144,14 @@ fn count_of(v: View) -> usize
     ensures { result ≡ countOf v }
 {
     match v {
-        View::Dim(n) => wide(n),
+        View::Dim(n) => n as usize,
         _ => 0,
     }
 }
 
-// The rows of a set, or that it isn't one of at most 24 equal-scalar constraints.
+// The rows of a set, so many from the grid's front.
 #[derive(Clone, Copy)]
 pub struct Lines {
-    pub fits: bool,
     pub grid: Grid,
     pub len: usize,
 }
@@ -177,46 +160,32 @@ pub struct Lines {
 pub fn blank() -> Grid
     ensures { WideGrid result }
 {
-    let r = zeros();
-    let rows = [r; 24];
-    Grid { rows }
+    Grid {
+        rows: [zeros(); 24],
+    }
 }
 
-// Lays the constraints up to the record e out, one a row.
-pub fn lines_of(s: &[u32], e: usize, k: Columns) -> Lines
+// Lays the constraints up to the record e out, one a row; 8 where they aren't at most 24 equal-scalar constraints.
+pub fn lines_of(s: &[u32], e: usize, k: Columns) -> Result<Lines, Refusal>
     requires laid { Laid k }
-    requires e_bound { e ≤ 2048 }
-    requires by_index { (cs : List (Con ℕ)) × Lined s.now cs 0 e }
-    ensures { (cs : List (Con ℕ)) (names : List Bytes) → Lined s.now cs 0 e → LinesAre names (colsIn k) cs result }
+    requires end { e ≤ 2048 }
+    requires lined { (cs : List (Con ℕ)) × Lined s.now cs 0 e }
+    ensures is { (cs : List (Con ℕ)) (names : List Bytes) → Lined s.now cs 0 e → toldBy rowsOf result ≡ laidOut names (colsIn k) cs }
+    ensures room { IfOk result Roomy }
 {
     let mut grid = blank();
     let mut len = 0;
     let mut at = 0;
     while at < e {
-        if !says_scalar(view_at(s, at)) {
-            return Lines {
-                fits: false,
-                grid,
-                len,
-            };
-        }
-        if ROWS <= len {
-            return Lines {
-                fits: false,
-                grid,
-                len,
-            };
+        if !says_scalar(view_at(s, at)) || ROWS <= len {
+            return Err(Refusal::TooLarge);
         }
         let n = count_of(view_at(s, at + 1));
         grid = with_row(grid, len, row_of(s, at + 2, n, k));
         len += 1;
-        at = at + 2 + n;
+        at += 2 + n;
     }
-    Lines {
-        fits: true,
-        grid,
-        len,
-    }
+    Ok(Lines { grid, len })
 }
 
 // The base dimension that a record names.
@@ -242,58 +211,51 @@ fn base_at(v: View) -> Option<u32>
 fn mark_bases(s: &[u32], e: usize, m: &mut [bool; NAMES])
     ensures { (xs : List ℕ) → Marks m.old xs → Marks m.new (xs ++ basesIn s.now 0 e) }
 {
-    let mut i = 0;
-    while i < e {
+    for i in 0..e {
         mark(m, base_at(view_at(s, i)));
-        i += 1;
     }
 }
 
 // Lists the base dimensions, sorted, and says how many.
-fn list_bases(pool: &[u8], table: &[u32], s: &[u32], e: usize, out: &mut [u32]) -> usize
-    requires good { Good pool.now table.now }
-    requires every { Every (λ x. x < get_or table.now 0 0) (basesIn s.now 0 e) }
-    requires in_bounds { 256 ≤ length out.old }
-    ensures { Filled (sort (numbers pool.now table.now) (basesIn s.now 0 e)) result out.old out.new }
+fn list_bases(names: NameTable, s: &[u32], e: usize, out: &mut [u32]) -> usize
+    requires held { Every (λ x. x < get_or names.table.now 0 0) (basesIn s.now 0 e) }
+    requires room { 256 ≤ length out.old }
+    ensures { Filled (sort (numbers names.entry.pool.now names.entry.table.now) (basesIn s.now 0 e)) result out.old out.new }
 {
     let mut m = [false; NAMES];
     mark_bases(s, e, &mut m);
-    sort_names(pool, table, m, out)
+    sort_names(names.pool, names.table, m, out)
 }
 
-// The columns of a set, or that there are too many names.
-#[derive(Clone, Copy)]
-pub struct Listed {
-    pub fits: bool,
-    pub columns: Columns,
-}
-
-// Lists the columns: variables, then parameters, then base dimensions, each sorted.
-pub fn list_columns(pool: &[u8], table: &[u32], s: &[u32], e: usize) -> Listed
-    requires good { Good pool.now table.now }
-    requires known { Known (get_or table.now 0 0) s.now e }
-    ensures { ListedWell (numbers pool.now table.now) s.now e result }
+// Lists the columns: variables, then parameters, then base dimensions, each sorted; 8 where they are too many.
+pub fn list_columns(names: NameTable, s: &[u32], e: usize) -> Result<Columns, Refusal>
+    requires known { Known (get_or names.table.now 0 0) s.now e }
+    ensures is { toldBy headed result ≡ listed (numbers names.entry.pool.now names.entry.table.now) s.now e }
+    ensures laid { IfOk result Laid }
 {
     let mut vars = [0u32; NAMES];
-    let variables = list_names(pool, table, s, 0, e, Kind::Variables, &mut vars);
+    let variables = list_names(names.pool, names.table, s, 0, e, Kind::Variables, &mut vars);
     let mut pars = [0u32; NAMES];
-    let parameters = list_names(pool, table, s, 0, e, Kind::Parameters, &mut pars);
+    let parameters = list_names(
+        names.pool,
+        names.table,
+        s,
+        0,
+        e,
+        Kind::Parameters,
+        &mut pars,
+    );
     let mut bases = [0u32; NAMES];
-    let dimensions = list_bases(pool, table, s, e, &mut bases);
-    let mut fits = true;
-    let mut len = 0;
-    if ROWS < variables {
-        fits = false;
-    } else if ROWS < parameters {
-        fits = false;
-    } else if ROWS < dimensions {
-        fits = false;
-    } else if ROWS < parameters + dimensions {
-        fits = false;
-    } else {
-        len = variables + parameters + dimensions;
+    let dimensions = list_bases(names, s, e, &mut bases);
+    if ROWS < variables
+        || ROWS < parameters
+        || ROWS < dimensions
+        || ROWS < parameters + dimensions
+    {
+        return Err(Refusal::TooLarge);
     }
-    let columns = Columns {
+    let len = variables + parameters + dimensions;
+    Ok(Columns {
         vars,
         variables,
         pars,
@@ -301,6 +263,5 @@ pub fn list_columns(pool: &[u8], table: &[u32], s: &[u32], e: usize) -> Listed
         bases,
         dimensions,
         len,
-    };
-    Listed { fits, columns }
+    })
 }

@@ -4,4 +4,4 @@ use Rattle.laying.specs.Lines.{wide-copies}
 use Rattle.laying.proofs.inner.blank.Goals as goal
 
 pub returns : goal.returns
-returns c = wide-copies _ c.zeros-r.result refl c.zeros-r.ensures.wide
+returns c = wide-copies _ c.zeros.result refl c.zeros.ensures.wide

@@ -10,15 +10,13 @@ use Rattle.queries.specs.SortMarks.{marks-held, marks-sort}
 use Rattle.laying.specs.Columns.{basesIn}
 use Rattle.laying.proofs.inner.list_bases.Goals as goal
 
-pub sort_names-requires : goal.sort_names-requires
-sort_names-requires c =
-    let g = c.requires.good in
-    let k = c.mark_bases.ensures [] marks-none in
-    record { good = g; held = marks-held (get_or c.args.table.now 0 0) (good-laid g).few _ (basesIn c.args.s.now 0 c.args.e) k c.requires.every; in_bounds = c.requires.in_bounds }
+pub sort_names-requires-clause-held : goal.sort_names-requires-clause-held
+sort_names-requires-clause-held c =
+    let g = c.args.names.good in
+    marks-held (get_or c.args.names.table.now 0 0) (good-laid g).few _ (basesIn c.args.s.now 0 c.args.e) (c.mark_bases.ensures [] marks-none) c.requires.held
 
 pub returns : goal.returns
 returns c =
     let a = c.args in
-    let g = c.requires.good in
-    let k = c.mark_bases.ensures [] marks-none in
-    rw (marks-sort (get_or a.table.now 0 0) (good-laid g).few _ (basesIn a.s.now 0 a.e) k c.requires.every (numbers a.pool.now a.table.now) (numbered-lawful (names_of (table_of a.pool.now a.table.now))) (held_tells g)) at c.sort_names.ensures
+    let g = c.args.names.good in
+    rw (marks-sort (get_or a.names.table.now 0 0) (good-laid g).few _ (basesIn a.s.now 0 a.e) (c.mark_bases.ensures [] marks-none) c.requires.held (numbers a.names.pool.now a.names.table.now) (numbered-lawful (names_of (table_of a.names.pool.now a.names.table.now))) (held_tells g)) at c.sort_names.ensures

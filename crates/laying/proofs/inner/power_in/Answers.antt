@@ -24,7 +24,7 @@ no_other : (v : View) (a : Atom) (n d : ℕ) → v ≡ view.Factor a n d → One
 no_other v a n d e k = miss others 7 tt (subst (λ (w : View). OneOf others (Declared.tag_of views.the_type w)) e k)
 
 pub loop-i-init : goal.loop-i-init
-loop-i-init c = (omega arith, λ p names h k. refl)
+loop-i-init c p names h k = refl
 
 pub returns-in_default : goal.returns-in_default
 returns-in_default c p names h k =
@@ -38,16 +38,13 @@ pub returns-then-same_atom : goal.returns-then-same_atom
 returns-then-same_atom c p names h k =
     let a = c.args in
     c.from_words.ensures
-    ∙ sym (c.loop-i.invariant.1 p names h k ∙ power-met names a.s.now p a.at c.loop-i.i a.a _ _ _ h (omega arith) (sym c.view_at.ensures ∙ c.in-Factor.is) (sym c.same_atom.ensures ∙ c.if-same_atom.true))
+    ∙ sym (c.loop-i.invariant p names h k ∙ power-met names a.s.now p a.at c.loop-i.i a.a _ _ _ h (omega arith) (sym c.view_at.ensures ∙ c.in-Factor.is) (sym c.same_atom.ensures ∙ c.if-same_atom.true))
 
 pub loop-i-preserved : goal.loop-i-preserved
-loop-i-preserved c =
-    let a = c.args in (
-      omega arith,
-      λ p names h k. c.loop-i.invariant.1 p names h k ∙ power-passed names a.s.now p a.at c.loop-i.i a.a _ _ _ h (omega arith) (sym c.view_at.ensures ∙ c.in-Factor.is) (sym c.same_atom.ensures ∙ c.if-same_atom.false),
-    )
+loop-i-preserved c p names h k =
+    let a = c.args in c.loop-i.invariant p names h k ∙ power-passed names a.s.now p a.at c.loop-i.i a.a _ _ _ h (omega arith) (sym c.view_at.ensures ∙ c.in-Factor.is) (sym c.same_atom.ensures ∙ c.if-same_atom.false)
 
 pub returns : goal.returns
 returns c p names h k =
     let a = c.args in
-    sym (c.loop-i.invariant.1 p names h k ∙ power-none names p c.loop-i.i (atomOf a.a) (omega arith))
+    sym (c.loop-i.invariant p names h k ∙ power-none names p c.loop-i.i (atomOf a.a) (omega arith))

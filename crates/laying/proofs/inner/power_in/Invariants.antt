@@ -1,6 +1,5 @@
 use mathlib.Core.Path.{◌≡◌}
 use mathlib.Core.List.{List}
-use Prim.Native.Nat.{◌-◌, ◌≤◌}
 use lib.ListN.{length, drop}
 use Rattle.rules.specs.Names.{Bytes, numbered}
 use Rattle.records.specs.Holds.{atomOf, HoldsFactors}
@@ -9,7 +8,4 @@ use Rattle.rules.specs.Elimination.{powerIn}
 use Rattle.laying.proofs.inner.power_in.Given as goal
 
 abbrev pub invariant-loop-i : goal.invariant-loop-i
-invariant-loop-i l = (l.i ≤ l.n) × ((p : Tree) (names : List Bytes) → HoldsFactors l.s p l.at → length p ≡ l.n → powerIn (numbered names) p (atomOf l.a) ≡ powerIn (numbered names) (drop l.i p) (atomOf l.a))
-
-abbrev pub decreases-loop-i : goal.decreases-loop-i
-decreases-loop-i l = l.n - l.i
+invariant-loop-i l = (p : Tree) (names : List Bytes) → HoldsFactors l.s p l.at → length p ≡ l.n → powerIn (numbered names) p (atomOf l.a) ≡ powerIn (numbered names) (drop l.i p) (atomOf l.a)

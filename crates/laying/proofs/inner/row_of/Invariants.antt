@@ -1,5 +1,4 @@
 use mathlib.Core.List.{List}
-use Prim.Native.Nat.{◌-◌, ◌≤◌}
 use lib.ListN.{take}
 use Rattle.rules.specs.Names.{Bytes, numbered}
 use Rattle.products.specs.Told.{Tree}
@@ -10,7 +9,4 @@ use Rattle.laying.specs.Atoms.{HeldGood, RowIs}
 use Rattle.laying.proofs.inner.row_of.Given as goal
 
 abbrev pub invariant-loop-j : goal.invariant-loop-j
-invariant-loop-j l = (l.j ≤ l.k.len) × Wide l.out × ((p : Tree) (names : List Bytes) → HeldGood l.s l.at l.n p → RowIs l.out (take l.j (row_of (numbered names) (colsIn l.k) p)))
-
-abbrev pub decreases-loop-j : goal.decreases-loop-j
-decreases-loop-j l = l.k.len - l.j
+invariant-loop-j l = Wide l.out × ((p : Tree) (names : List Bytes) → HeldGood l.s l.at l.n p → RowIs l.out (take l.j (row_of (numbered names) (colsIn l.k) p)))

@@ -17,4 +17,5 @@ pub returns-else-rank : goal.returns-else-rank
 unfolding sameAtom
 returns-else-rank c =
     let a = c.args in
-    sym (ap (λ (x : Bool). cond x (eqb (atomNumber a.a) (atomNumber a.b)) false) (ne_eqb _ _ (λ e. c.if-rank.false (c.rank.ensures ∙ e ∙ sym c.rank-2.ensures))))
+    ne_eqb _ _ c.if-rank.false
+    ∙ sym (ap (λ (x : Bool). cond x (eqb (atomNumber a.a) (atomNumber a.b)) false) (ne_eqb _ _ (λ e. c.if-rank.false (c.rank.ensures ∙ e ∙ sym c.rank-2.ensures))))

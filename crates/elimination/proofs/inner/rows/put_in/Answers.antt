@@ -1,8 +1,8 @@
 -- `elimination::rows::put_in` meets its contract.
 use mathlib.Core.Path.{ap, ◌∙◌, sym}
-use lib.ListN.{get_or, set}
+use lib.ListN.{set}
 use Rattle.std.proofs.lemmas.Result.{err_from_is_err_and}
-use Rattle.rules.specs.Base.{Got, got, refused, ◌>>=◌}
+use Rattle.rules.specs.Base.{Got, ◌>>=◌}
 use Rattle.rules.specs.Exponents.{Exp, nought}
 use Rattle.laws.specs.Ranges.{nought-good}
 use Rattle.rules.specs.Elimination.{Row, timesRow, plusRow, putInRow}
