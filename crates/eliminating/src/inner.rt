@@ -1,5 +1,5 @@
 // The rows that are left, and the values that were found, as records.
-ghost use Rattle.std.specs.Prelude.{◌≡◌, List, [], ◌∷◌, map, ℕ, ◌+◌, ◌*◌, ◌≤◌, ◌<◌, length, take, get_or};
+ghost use Rattle.std.specs.Prelude.{◌≡◌, List, [], ◌∷◌, map, ℕ, ◌+◌, ◌*◌, ◌≤◌, ◌<◌, length, take, get_or, IfOk};
 ghost use Rattle.std.proofs.lemmas.List.Edits.{sets};
 ghost use Rattle.rules.specs.Base.{collect};
 ghost use Rattle.rules.specs.Exponents.{nought};
@@ -12,12 +12,10 @@ ghost use Rattle.rules.specs.Elimination.{◌gets◌, factors, boundBy, eliminat
 ghost use Rattle.elimination.specs.Told.{row_in, Wide};
 ghost use Rattle.elimination.specs.Grids.{rowsIn, WideGrid};
 ghost use Rattle.elimination.specs.Machine.{colsIn, Laid, pairValues, Running, rest};
-ghost use Rattle.laws.specs.NameTable.{Good};
-ghost use Rattle.records.specs.Good.{Chain, GoodCon};
-ghost use Rattle.eliminating.specs.Reducing.{ReducedAs, settledIn};
+ghost use Rattle.eliminating.specs.Reducing.{Ready, SetHeld, reduction, settledIn, settledOf};
 ghost use Rattle.eliminating.specs.Told.{Answered};
 ghost use Rattle.eliminating.specs.Entry.{entered};
-ghost use Rattle.rules.specs.Refusals.{told};
+ghost use Rattle.rules.specs.Refusals.{told, toldBy};
 ghost use Rattle.rules.specs.Base.{got};
 ghost use Rattle.rules.specs.Names.{table_of, lentTable};
 ghost use Rattle.rules.specs.Elimination.{eliminatedSet};
@@ -28,6 +26,7 @@ use elimination::inner::grids::{Columns, Grid, Machine, eliminate, row_at};
 use elimination::inner::rows::{Row, power_at};
 use exponents::Exponent;
 use laying::inner::{atom_at, blank, lines_of, list_columns};
+use names::tables::NameTable;
 use queries::inner::is_unmixed;
 use records::inner::{put_one, put_record};
 use records::{Atom, View, is_set};
@@ -44,8 +43,8 @@ fn factor_view(a: Atom, e: Exponent) -> View
 fn put_factor(k: Columns, r: Row, j: usize, dst: &mut [u32], at: usize) -> usize
     requires laid { Laid k }
     requires wide { Wide r }
-    requires j_lt_len { j < k.len }
-    requires at_bound { at ≤ 2000000 }
+    requires column { j < k.len }
+    requires place { at ≤ 2000000 }
     ensures { OneFactor dst.old dst.new at result (get_or (colsIn k) j (base 0)) (get_or (row_in r) j nought) }
 {
     let e = power_at(r, j);
@@ -60,14 +59,12 @@ fn put_factor(k: Columns, r: Row, j: usize, dst: &mut [u32], at: usize) -> usize
 fn put_factors(k: Columns, r: Row, dst: &mut [u32], out: usize) -> usize
     requires laid { Laid k }
     requires wide { Wide r }
-    requires out_bound { out ≤ 1000000 }
+    requires place { out ≤ 1000000 }
     ensures { Put dst.old dst.new out result (map writeFactor (factors (colsIn k) (row_in r))) }
 {
     let mut n = 0;
-    let mut j = 0;
-    while j < k.len {
+    for j in 0..k.len {
         n += put_factor(k, r, j, dst, out + n);
-        j += 1;
     }
     n
 }
@@ -76,7 +73,7 @@ fn put_factors(k: Columns, r: Row, dst: &mut [u32], out: usize) -> usize
 fn put_product(k: Columns, r: Row, dst: &mut [u32], out: usize) -> usize
     requires laid { Laid k }
     requires wide { Wide r }
-    requires out_bound { out ≤ 900000 }
+    requires place { out ≤ 900000 }
     ensures { PutProduct dst.old dst.new out result (factors (colsIn k) (row_in r)) }
 {
     let n = put_factors(k, r, dst, out + 1);
@@ -88,7 +85,7 @@ fn put_product(k: Columns, r: Row, dst: &mut [u32], out: usize) -> usize
 fn put_binding(k: Columns, x: u32, r: Row, dst: &mut [u32], out: usize) -> usize
     requires laid { Laid k }
     requires wide { Wide r }
-    requires out_bound { out ≤ 800000 }
+    requires place { out ≤ 800000 }
     ensures { PutSmall dst.old dst.new out result (writeBinding (boundBy (colsIn k) (x gets row_in r))) }
 {
     let n = put_product(k, r, dst, out + 1);
@@ -100,7 +97,7 @@ fn put_binding(k: Columns, x: u32, r: Row, dst: &mut [u32], out: usize) -> usize
 fn put_line(k: Columns, r: Row, dst: &mut [u32], out: usize) -> usize
     requires laid { Laid k }
     requires wide { Wide r }
-    requires out_bound { out ≤ 800000 }
+    requires place { out ≤ 800000 }
     ensures { PutSmall dst.old dst.new out result (writeCon (is_scalar (factors (colsIn k) (row_in r)))) }
 {
     let n = put_product(k, r, dst, out + 1);
@@ -112,14 +109,12 @@ fn put_line(k: Columns, r: Row, dst: &mut [u32], out: usize) -> usize
 pub fn put_lines(k: Columns, g: Grid, m: usize, dst: &mut [u32]) -> usize
     requires laid { Laid k }
     requires wide_grid { WideGrid g }
-    requires m_bound { m ≤ 24 }
+    requires few { m ≤ 24 }
     ensures { Put dst.old dst.new 0 result (collect writeCon (map (λ r. is_scalar (factors (colsIn k) r)) (take m (rowsIn g)))) }
 {
     let mut n = 0;
-    let mut i = 0;
-    while i < m {
+    for i in 0..m {
         n += put_line(k, row_at(g, i), dst, n);
-        i += 1;
     }
     n
 }
@@ -128,16 +123,13 @@ pub fn put_lines(k: Columns, g: Grid, m: usize, dst: &mut [u32]) -> usize
 pub fn put_bindings(k: Columns, names: [u32; 24], g: Grid, m: usize, dst: &mut [u32]) -> usize
     requires laid { Laid k }
     requires wide_grid { WideGrid g }
-    requires names_len { length names ≡ 24 }
-    requires m_bound { m ≤ 24 }
+    requires named { length names ≡ 24 }
+    requires few { m ≤ 24 }
     ensures { Put dst.old dst.new 0 result (collect writeBinding (map (boundBy (colsIn k)) (pairValues (take m names) (take m (rowsIn g))))) }
 {
     let mut n = 0;
-    let mut i = 0;
-    while i < m {
-        let x = names[i];
-        n += put_binding(k, x, row_at(g, i), dst, n);
-        i += 1;
+    for i in 0..m {
+        n += put_binding(k, names[i], row_at(g, i), dst, n);
     }
     n
 }
@@ -146,37 +138,31 @@ pub fn put_bindings(k: Columns, names: [u32; 24], g: Grid, m: usize, dst: &mut [
 fn none() -> Columns
     ensures { Laid result }
 {
-    let vars = [0u32; 256];
-    let pars = [0u32; 256];
-    let bases = [0u32; 256];
     Columns {
-        vars,
+        vars: [0; 256],
         variables: 0,
-        pars,
+        pars: [0; 256],
         parameters: 0,
-        bases,
+        bases: [0; 256],
         dimensions: 0,
         len: 0,
     }
 }
 
 // A machine that has n rows to do.
-fn machine(g: Grid, n: usize) -> Machine
+fn start(g: Grid, n: usize) -> Machine
     requires wide_grid { WideGrid g }
-    requires n_bound { n ≤ 24 }
+    requires few { n ≤ 24 }
     ensures { Running result × ((cols : List (TreeAtom ℕ)) → rest cols result ≡ eliminated cols n (take n (rowsIn g)) []) }
 {
-    let kept = blank();
-    let values = blank();
-    let names = [0u32; 24];
     Machine {
         rows: g,
         at: 0,
         left: n,
-        kept,
+        kept: blank(),
         stay: 0,
-        names,
-        values,
+        names: [0; 24],
+        values: blank(),
         found: 0,
     }
 }
@@ -189,31 +175,17 @@ pub struct Reduced {
 }
 
 /// The set in the records before e, laid out and eliminated. Refuses with 8 where it doesn't fit, and with 7.
-pub fn reduce(pool: &[u8], table: &[u32], s: &[u32], e: usize) -> Result<Reduced, Refusal>
-    requires good { Good pool.now table.now }
-    requires e_bound { e ≤ 2048 }
-    requires a_set { (cs : List (Con ℕ)) × Chain (GoodCon pool.now table.now 0 s.now) e cs 0 }
-    ensures { (cs : List (Con ℕ)) → Chain (GoodCon pool.now table.now 0 s.now) e cs 0 → ReducedAs pool.now table.now cs result }
+pub fn reduce(names: NameTable, s: &[u32], e: usize) -> Result<Reduced, Refusal>
+    requires end { e ≤ 2048 }
+    requires a_set { (cs : List (Con ℕ)) × SetHeld names.pool.now names.table.now s.now e cs }
+    ensures is { (cs : List (Con ℕ)) → SetHeld names.entry.pool.now names.entry.table.now s.now e cs → toldBy settledOf result ≡ reduction names.entry.pool.now names.entry.table.now cs }
+    ensures ready { IfOk result Ready }
 {
-    let columns = none();
-    let kinds = lines_of(s, e, columns);
-    if !kinds.fits {
-        return Err(Refusal::TooLarge);
-    }
-    let l = list_columns(pool, table, s, e);
-    if !l.fits {
-        return Err(Refusal::TooLarge);
-    }
-    let columns = l.columns;
-    let lines = lines_of(s, e, columns);
-    let rows = lines.grid;
-    let t = eliminate(columns, machine(rows, lines.len));
-    let machine = t.machine;
-    if t.fits {
-        Ok(Reduced { columns, machine })
-    } else {
-        Err(Refusal::OutOfRange)
-    }
+    lines_of(s, e, none())?; // the kinds alone: which names there are is known of equal-scalars only
+    let columns = list_columns(names, s, e)?;
+    let lines = lines_of(s, e, columns)?;
+    let machine = eliminate(columns, start(lines.grid, lines.len))?;
+    Ok(Reduced { columns, machine })
 }
 
 /// The rows that are left, or else the values, written into the result buffer.
@@ -224,12 +196,9 @@ fn write(k: Columns, m: Machine, res: &mut [u32]) -> Eliminated
     ensures { Answered (got (settledIn k m)) res.old res.new (Ok result) }
 {
     if 0 < m.stay {
-        let n = put_lines(k, m.kept, m.stay, res);
-        return Eliminated::Left(n);
+        return Eliminated::Left(put_lines(k, m.kept, m.stay, res));
     }
-    let names = m.names;
-    let n = put_bindings(k, names, m.values, m.found, res);
-    Eliminated::Bound(n)
+    Eliminated::Bound(put_bindings(k, m.names, m.values, m.found, res))
 }
 
 /// Is the set well formed (8, 1), and is no name both a variable and a parameter (4)?
@@ -256,6 +225,7 @@ pub fn eliminate_set(
     ensures { Answered (eliminatedSet (table_of pool.now table.now) words.now) res.old res.new result }
 {
     enter(pool, table, words)?;
-    let reduced = reduce(pool, table, words, words.len() / 4)?;
+    let names = NameTable { pool, table };
+    let reduced = reduce(names, words, words.len() / 4)?;
     Ok(write(reduced.columns, reduced.machine, res))
 }

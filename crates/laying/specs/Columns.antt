@@ -6,6 +6,7 @@ use Prim.Native.Nat.{ℕ, zero, suc, ◌+◌, ◌-◌, ◌≤◌, ◌<◌}
 use native.Mathlib.Omega.{arith}
 use Rattle.std.proofs.Math.Seq.{take-append_seam}
 use Rattle.laws.specs.Checks.{need-passed}
+use Rattle.laws.specs.Refusing.{Refuses, given, refusing, next}
 use Rattle.laws.specs.Lists.{bound-step}
 use Rattle.rules.specs.Calls.{over}
 use Rattle.rules.specs.Trees.{Names}
@@ -109,6 +110,20 @@ module _ (ν : Names ℕ) (s : List ℕ) (e : ℕ) where
   unfolding listed
   too-many (inl h) = rw (lt-leb (length (vars ν s e)) 24 h) refl
   too-many (inr h) = rw (lt-leb (length (pars ν s e) + length (bases ν s e)) 24 h) (either-many (leb (length (vars ν s e)) 24) (got (length (vars ν s e), length (pars ν s e), vars ν s e ++ pars ν s e ++ bases ν s e)))
+
+  pub few-enough : length (vars ν s e) ≤ 24 → length (pars ν s e) + length (bases ν s e) ≤ 24 → listed ν s e ≡ got (length (vars ν s e), length (pars ν s e), vars ν s e ++ pars ν s e ++ bases ν s e)
+  unfolding listed
+  few-enough v o = rw (le-leb (length (vars ν s e)) 24 v, le-leb (length (pars ν s e) + length (bases ν s e)) 24 o) refl
+
+  pub listed-eight : Refuses (λ n. n ≡ 8) (listed ν s e)
+  unfolding listed
+  listed-eight =
+      next (need (leb (length (vars ν s e)) 24) 8) _ (need-eight (leb (length (vars ν s e)) 24))
+      (λ _. next (need (leb (length (pars ν s e) + length (bases ν s e)) 24) 8) _ (need-eight (leb (length (pars ν s e) + length (bases ν s e)) 24)) (λ _. given))
+    where
+      need-eight : (b : Bool) → Refuses (λ n. n ≡ 8) (need b 8)
+      need-eight true = given
+      need-eight false = refusing refl
 
   -- what was listed is few enough, and stands above the columns
   pub record Listed (k : Columns) : Type 0 where

@@ -8,15 +8,16 @@ use Prim.Native.Nat.{ℕ, zero, suc, ◌+◌, ◌-◌, ◌≤◌, ◌<◌}
 use native.Mathlib.Omega.{arith}
 use Rattle.std.proofs.Math.ListN.{length, length-append}
 use Rattle.std.proofs.lemmas.List.{length-replicate}
-use Rattle.std.proofs.lemmas.Bool.{le-leb, lt-leb}
+use Rattle.std.proofs.lemmas.Bool.{leb-true, le-leb, lt-leb}
 use Rattle.std.proofs.Math.Dec.{leb}
 use Rattle.rules.specs.Base.{Got, got, refused, ◌>>=◌, ◌>>◌, need, each}
 use Rattle.rules.specs.Exponents.{nought, goodExp}
 use Rattle.rules.specs.Names.{Bytes, numbered}
 use Rattle.rules.specs.Trees as tree
 use Rattle.rules.specs.Trees.{Factor, Product, Con, equal, isDim, is_scalar, hasField, size, sizeCon}
+use Rattle.laws.specs.Checks.{need-passed}
 use Rattle.laws.specs.Refusing.{Refuses, given, refusing, next}
-use Rattle.laws.specs.Lists.{Every, got≢refused, true≢false, one-step, each-parts}
+use Rattle.laws.specs.Lists.{Every, got≢refused, true≢false, one-step, each-parts, bound-step}
 use Rattle.records.specs.Views.{viewAt}
 use Rattle.records.specs.Holds.{HoldsFactors, HoldsProduct, HoldsCon}
 use Rattle.records.specs.declared.View.{View}
@@ -121,6 +122,20 @@ module _ (names : List Bytes) (cols : List (tree.Atom ℕ)) (cs : List (Con ℕ)
   pub laid-some : (ps : List (Product ℕ)) → each scalarOf cs ≡ got ps → length ps ≤ 24 → laidOut names cols cs ≡ got (paddedRows names cols ps)
   unfolding laidOut
   laid-some ps e h = rw (e, le-leb (length ps) 24 h) refl
+
+  -- and what was laid out is such
+  pub record LaidSo (rows : List Rows.Row) : Type 0 where
+    pub products : List (Product ℕ)
+    pub all : each scalarOf cs ≡ got products
+    pub few : length products ≤ 24
+    pub is : rows ≡ paddedRows names cols products
+
+  pub laid-so : (rows : List Rows.Row) → laidOut names cols cs ≡ got rows → LaidSo rows
+  unfolding laidOut
+  laid-so rows h =
+      let a = bound-step (each scalarOf cs) _ rows h in
+      let b = bound-step (need (leb (length a.0) 24) 8) _ rows a.2 in
+      record { products = a.0; all = a.1; few = leb-true (length a.0) 24 (need-passed (leb (length a.0) 24) 8 b.1); is = cc b.2 }
 
   -- another kind of constraint, or too many
   pub laid-none : ((ps : List (Product ℕ)) → each scalarOf cs ≡ got ps → 24 < length ps) → laidOut names cols cs ≡ refused 8

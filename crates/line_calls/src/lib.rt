@@ -1,4 +1,4 @@
-//! The public call that checks a whole calculation line (W-211).
+//! The public call that checks a whole calculation line.
 #![tactic(auto)]
 
 pub mod inner;

@@ -1,4 +1,4 @@
-// Document 02, W-211: calculation lines. The checks at entry are here, the steps in `line_steps`, the call in `line_calls`.
+// Calculation lines. The checks at entry are here, the steps in `line_steps`, the call in `line_calls`.
 #![tactic(auto)]
 
 pub mod inner;

@@ -13,12 +13,18 @@ returns-in_err-enter c =
     let p = err_from_is_err_and c.from_residual.result c.from_residual.ensures.1 in
     rw (p.1, p.2) (refused-answers _ _ _ (kept_out a.pool.now a.table.now a.words.now w _ c.requires.table_value (sym c.in_err-enter.ensures)))
 
+pub invariant_of-names : goal.invariant_of-names
+invariant_of-names c =
+    let a = c.args in
+    let w : Words32 a.words.now = record { word = λ i. (c.type_inv.words i).fits } in
+    record { good = (came-in a.pool.now a.table.now a.words.now w (sym c.in_ok-enter.ensures)).good }
+
 pub reduce-requires : goal.reduce-requires
 reduce-requires c =
     let a = c.args in
     let w : Words32 a.words.now = record { word = λ i. (c.type_inv.words i).fits } in
     let x = came-in a.pool.now a.table.now a.words.now w (sym c.in_ok-enter.ensures) in
-    record { good = x.good; e_bound = x.few; a_set = (x.set, x.chain) }
+    record { end = x.few; a_set = (x.set, x.chain) }
 
 pub returns-in_err-reduced : goal.returns-in_err-reduced
 returns-in_err-reduced c =
@@ -26,19 +32,15 @@ returns-in_err-reduced c =
     let w : Words32 a.words.now = record { word = λ i. (c.type_inv.words i).fits } in
     let x = came-in a.pool.now a.table.now a.words.now w (sym c.in_ok-enter.ensures) in
     let p = err_from_is_err_and c.from_residual-in_err-reduced.result c.from_residual-in_err-reduced.ensures.1 in
-    rw (p.1, p.2) (refused-answers _ _ _ (x.all ∙ sym (c.in_err-reduced.ensures x.set x.chain).is))
+    rw (p.1, p.2) (refused-answers _ _ _ (x.all ∙ sym (c.in_err-reduced.ensures.is x.set x.chain)))
 
 pub write-requires : goal.write-requires
 write-requires c =
-    let a = c.args in
-    let w : Words32 a.words.now = record { word = λ i. (c.type_inv.words i).fits } in
-    let x = came-in a.pool.now a.table.now a.words.now w (sym c.in_ok-enter.ensures) in
-    let r = (c.in_ok-reduced.ensures x.set x.chain).ready in
-    record { laid = r.0; running = r.1; room = c.requires.room }
+    let r = c.in_ok-reduced.ensures.ready in record { laid = r.laid; running = r.running; room = c.requires.room }
 
 pub returns : goal.returns
 returns c =
     let a = c.args in
     let w : Words32 a.words.now = record { word = λ i. (c.type_inv.words i).fits } in
     let x = came-in a.pool.now a.table.now a.words.now w (sym c.in_ok-enter.ensures) in
-    answers-as _ _ _ _ _ (x.all ∙ sym (c.in_ok-reduced.ensures x.set x.chain).is) c.write.ensures
+    answers-as _ _ _ _ _ (x.all ∙ sym (c.in_ok-reduced.ensures.is x.set x.chain)) c.write.ensures

@@ -1,6 +1,5 @@
 use mathlib.Core.Path.{◌≡◌}
 use mathlib.Core.List.{map}
-use Prim.Native.Nat.{◌-◌, ◌≤◌}
 use lib.ListN.{length, take}
 use Rattle.rules.specs.Writing.{writeBinding}
 use Rattle.rules.specs.Elimination.{boundBy}
@@ -10,7 +9,4 @@ use Rattle.eliminating.specs.Put.{Parts}
 use Rattle.eliminating.proofs.inner.put_bindings.Given as goal
 
 abbrev pub invariant-loop-i : goal.invariant-loop-i
-invariant-loop-i l = (l.i ≤ l.m) × (length l.dst ≡ length l.initial.dst) × Parts writeBinding (map (boundBy (colsIn l.k)) (pairValues (take l.m l.names) (take l.m (rowsIn l.g)))) l.initial.dst l.dst l.n l.i
-
-abbrev pub decreases-loop-i : goal.decreases-loop-i
-decreases-loop-i l = l.m - l.i
+invariant-loop-i l = (length l.dst ≡ length l.initial.dst) × Parts writeBinding (map (boundBy (colsIn l.k)) (pairValues (take l.m l.names) (take l.m (rowsIn l.g)))) l.initial.dst l.dst l.n l.i

@@ -1,6 +1,5 @@
 -- `inner::put_factors` meets its contract. The invariant: the factors of the columns so far.
 use mathlib.Core.Path.{refl, ◌∙◌}
-use Prim.Native.Nat.{◌≤◌, ◌<◌}
 use native.Mathlib.Omega.{arith}
 use Rattle.elimination.specs.Told.{row_in}
 use Rattle.elimination.specs.Machine.{colsIn, laid-few}
@@ -9,37 +8,25 @@ use Rattle.eliminating.specs.Put.{putting-start, putting-on, putting-done, one-f
 use Rattle.eliminating.proofs.inner.put_factors.Goals as goal
 
 pub loop-j-init : goal.loop-j-init
-loop-j-init c = let a = c.args in (omega arith, refl, putting-start a.dst.now a.out (colsIn a.k) (row_in a.r))
+loop-j-init c = let a = c.args in (refl, putting-start a.dst.now a.out (colsIn a.k) (row_in a.r))
 
 pub overflow_add-out : goal.overflow_add-out
-overflow_add-out c = let within : (c.loop-j.j < c.args.k.len) × (c.args.k.len ≤ 48) × (c.loop-j.n ≤ 48) × (c.args.out ≤ 1000000) = (c.loop-j-test.true, laid-few c.args.k c.requires.laid, omega (arith, laid-few c.args.k c.requires.laid, c.loop-j.invariant.2.few, c.loop-j-test.true), c.requires.out_bound) in
-    omega (arith, within)
+overflow_add-out c = omega (arith, laid-few c.args.k c.requires.laid, c.loop-j.invariant.1.few, c.requires.place)
 
 pub put_factor-n-requires : goal.put_factor-n-requires
-put_factor-n-requires c = let within : (c.loop-j.j < c.args.k.len) × (c.args.k.len ≤ 48) × (c.loop-j.n ≤ 48) × (c.args.out ≤ 1000000) = (c.loop-j-test.true, laid-few c.args.k c.requires.laid, omega (arith, laid-few c.args.k c.requires.laid, c.loop-j.invariant.2.few, c.loop-j-test.true), c.requires.out_bound) in
-    record { laid = c.requires.laid; wide = c.requires.wide; j_lt_len = c.loop-j-test.true; at_bound = omega (arith, within) }
+put_factor-n-requires c =
+    record { laid = c.requires.laid; wide = c.requires.wide; column = c.loop-j-test.true; place = omega (arith, laid-few c.args.k c.requires.laid, c.loop-j.invariant.1.few, c.requires.place) }
 
 pub overflow_add-n : goal.overflow_add-n
-overflow_add-n c = let within : (c.loop-j.j < c.args.k.len) × (c.args.k.len ≤ 48) × (c.loop-j.n ≤ 48) × (c.args.out ≤ 1000000) = (c.loop-j-test.true, laid-few c.args.k c.requires.laid, omega (arith, laid-few c.args.k c.requires.laid, c.loop-j.invariant.2.few, c.loop-j-test.true), c.requires.out_bound) in
-    omega (arith, within, one-few c.put_factor-n.ensures)
-
-pub overflow_add-j : goal.overflow_add-j
-overflow_add-j c = let within : (c.loop-j.j < c.args.k.len) × (c.args.k.len ≤ 48) × (c.loop-j.n ≤ 48) × (c.args.out ≤ 1000000) = (c.loop-j-test.true, laid-few c.args.k c.requires.laid, omega (arith, laid-few c.args.k c.requires.laid, c.loop-j.invariant.2.few, c.loop-j-test.true), c.requires.out_bound) in
-    omega (arith, within)
-
-pub loop-j-smaller : goal.loop-j-smaller
-loop-j-smaller c = let within : (c.loop-j.j < c.args.k.len) × (c.args.k.len ≤ 48) × (c.loop-j.n ≤ 48) × (c.args.out ≤ 1000000) = (c.loop-j-test.true, laid-few c.args.k c.requires.laid, omega (arith, laid-few c.args.k c.requires.laid, c.loop-j.invariant.2.few, c.loop-j-test.true), c.requires.out_bound) in
-    omega (arith, within)
+overflow_add-n c = omega (arith, laid-few c.args.k c.requires.laid, c.loop-j.invariant.1.few, one-few c.put_factor-n.ensures)
 
 pub loop-j-preserved : goal.loop-j-preserved
-loop-j-preserved c = let within : (c.loop-j.j < c.args.k.len) × (c.args.k.len ≤ 48) × (c.loop-j.n ≤ 48) × (c.args.out ≤ 1000000) = (c.loop-j-test.true, laid-few c.args.k c.requires.laid, omega (arith, laid-few c.args.k c.requires.laid, c.loop-j.invariant.2.few, c.loop-j-test.true), c.requires.out_bound) in
-    let w = within in (
-      omega (arith, w),
-      c.put_factor-n.auto.dst ∙ c.loop-j.invariant.1,
-      putting-on c.args.dst.now c.loop-j.dst c.put_factor-n.new.dst c.args.out c.loop-j.n c.put_factor-n.result c.loop-j.j (colsIn c.args.k) (row_in c.args.r) c.loop-j.invariant.2
-          (omega (arith, w, cols-long c.args.k c.requires.laid)) (omega (arith, w, c.requires.wide.long)) c.put_factor-n.ensures,
-    )
+loop-j-preserved c = (
+  c.put_factor-n.auto.dst ∙ c.loop-j.invariant.0,
+  putting-on c.args.dst.now c.loop-j.dst c.put_factor-n.new.dst c.args.out c.loop-j.n c.put_factor-n.result c.loop-j.j (colsIn c.args.k) (row_in c.args.r) c.loop-j.invariant.1
+      (omega (arith, c.loop-j-test.true, cols-long c.args.k c.requires.laid)) (omega (arith, c.loop-j-test.true, laid-few c.args.k c.requires.laid, c.requires.wide.long)) c.put_factor-n.ensures,
+)
 
 pub returns : goal.returns
 returns c =
-    putting-done c.args.dst.now c.loop-j.dst c.args.out c.loop-j.n c.loop-j.j (colsIn c.args.k) (row_in c.args.r) c.loop-j.invariant.2 (omega (arith, c.loop-j-test.false, cols-long c.args.k c.requires.laid))
+    putting-done c.args.dst.now c.loop-j.dst c.args.out c.loop-j.n c.loop-j.j (colsIn c.args.k) (row_in c.args.r) c.loop-j.invariant.1 (omega (arith, c.loop-j-test.false, cols-long c.args.k c.requires.laid))

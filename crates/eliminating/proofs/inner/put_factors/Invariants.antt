@@ -1,5 +1,4 @@
 use mathlib.Core.Path.{◌≡◌}
-use Prim.Native.Nat.{◌-◌, ◌≤◌}
 use lib.ListN.{length}
 use Rattle.elimination.specs.Told.{row_in}
 use Rattle.elimination.specs.Machine.{colsIn}
@@ -7,7 +6,4 @@ use Rattle.eliminating.specs.Put.{Putting}
 use Rattle.eliminating.proofs.inner.put_factors.Given as goal
 
 abbrev pub invariant-loop-j : goal.invariant-loop-j
-invariant-loop-j l = (l.j ≤ l.k.len) × (length l.dst ≡ length l.initial.dst) × Putting l.initial.dst l.dst l.out l.n l.j (colsIn l.k) (row_in l.r)
-
-abbrev pub decreases-loop-j : goal.decreases-loop-j
-decreases-loop-j l = l.k.len - l.j
+invariant-loop-j l = (length l.dst ≡ length l.initial.dst) × Putting l.initial.dst l.dst l.out l.n l.j (colsIn l.k) (row_in l.r)

@@ -1,6 +1,5 @@
 use mathlib.Core.Path.{◌≡◌}
 use mathlib.Core.List.{map}
-use Prim.Native.Nat.{◌-◌, ◌≤◌}
 use lib.ListN.{length, take}
 use Rattle.rules.specs.Trees.{is_scalar}
 use Rattle.rules.specs.Writing.{writeCon}
@@ -11,7 +10,4 @@ use Rattle.eliminating.specs.Put.{Parts}
 use Rattle.eliminating.proofs.inner.put_lines.Given as goal
 
 abbrev pub invariant-loop-i : goal.invariant-loop-i
-invariant-loop-i l = (l.i ≤ l.m) × (length l.dst ≡ length l.initial.dst) × Parts writeCon (map (λ r. is_scalar (factors (colsIn l.k) r)) (take l.m (rowsIn l.g))) l.initial.dst l.dst l.n l.i
-
-abbrev pub decreases-loop-i : goal.decreases-loop-i
-decreases-loop-i l = l.m - l.i
+invariant-loop-i l = (length l.dst ≡ length l.initial.dst) × Parts writeCon (map (λ r. is_scalar (factors (colsIn l.k) r)) (take l.m (rowsIn l.g))) l.initial.dst l.dst l.n l.i

@@ -1,122 +1,69 @@
 -- `inner::reduce` meets its contract: columns, rows, machine.
-use mathlib.Core.Path.{◌≡◌, ap, ◌∙◌, sym, subst}
-use mathlib.Core.Bool.{Bool, true}
-use mathlib.Core.List.{List}
-use Prim.Native.Nat.{ℕ}
-use Rattle.rules.specs.Base.{got, ◌>>=◌}
-use Rattle.rules.specs.Names.{Bytes, table_of, names_of}
-use Rattle.rules.specs.Trees.{Con}
-use Rattle.laws.specs.Lists.{not-true, not-false}
-use Rattle.records.specs.Good.{Chain, GoodCon, numbers}
-use Rattle.rules.specs.Elimination.{settledBy}
-use Rattle.elimination.specs.Machine.{colsIn, endOr}
-use Rattle.laying.specs.Lines.{Fitting}
-use Rattle.laying.specs.Columns.{ListedAs}
+use mathlib.Core.Path.{◌∙◌, sym}
+use mathlib.Core.List.{[]}
+use native.Mathlib.Omega.{arith}
+use Rattle.std.proofs.Common.{length-take-le}
+use Rattle.std.proofs.lemmas.Result.{err_from_is_err_and}
+use Rattle.rules.specs.Names.{table_of, names_of}
+use Rattle.elimination.specs.Grids.{grid-long, rowsIn}
+use Rattle.laying.specs.Columns.{listed-so}
 use Rattle.laying.specs.Fitted.{lined}
-use Rattle.eliminating.specs.Reducing.{answer, kinds-unfit, names-unfit, set_known, all-reduced, still-fits}
+use Rattle.eliminating.specs.Reducing.{laid-unfit, names-unfit, set_known, all-reduced}
 use Rattle.eliminating.proofs.inner.reduce.Goals as goal
 
-pub lines_of-kinds-requires : goal.lines_of-kinds-requires
-lines_of-kinds-requires c =
+pub lines_of-requires-clause-lined : goal.lines_of-requires-clause-lined
+lines_of-requires-clause-lined c =
+    let a = c.args in
     let q = c.requires.a_set in
-    record { laid = c.none-columns.ensures; e_bound = c.requires.e_bound; by_index = (q.0, lined c.args.pool.now c.args.table.now c.args.s.now q.0 0 c.args.e q.1) }
+    (q.0, lined a.names.pool.now a.names.table.now a.s.now q.0 0 a.e q.1)
 
-pub returns-then-not-kinds : goal.returns-then-not-kinds
-returns-then-not-kinds c cs h = let names : List Bytes = names_of (table_of c.args.pool.now c.args.table.now) in
-    let Held : List (Con ℕ) → Type 0 = λ cs. Chain (GoodCon c.args.pool.now c.args.table.now 0 c.args.s.now) c.args.e cs 0 in
-    let first : (cs : List (Con ℕ)) → Held cs → Fitting c.lines_of-kinds.result.fits (names) (colsIn c.none-columns.result) cs c.lines_of-kinds.result.len c.lines_of-kinds.result.grid = λ cs h.
-    (c.lines_of-kinds.ensures cs (names) (lined c.args.pool.now c.args.table.now c.args.s.now cs 0 c.args.e h)).is in
-    record {
-      ready = tt;
-      is = kinds-unfit c.args.pool.now c.args.table.now cs (names) (colsIn c.none-columns.result) c.lines_of-kinds.result.len c.lines_of-kinds.result.grid
-          (subst (λ (b : Bool). Fitting b (names) (colsIn c.none-columns.result) cs c.lines_of-kinds.result.len c.lines_of-kinds.result.grid) (not-true c.lines_of-kinds.result.fits c.if-not-kinds.true) (first cs h));
-    }
+pub returns-in_err-lines_of-clause-is : goal.returns-in_err-lines_of-clause-is
+returns-in_err-lines_of-clause-is c cs h =
+    let a = c.args in
+    let p = err_from_is_err_and c.from_residual.result c.from_residual.ensures.1 in
+    rw (p.1, p.2) (sym (laid-unfit a.names.pool.now a.names.table.now cs [] _ _ (sym (c.in_err-lines_of.ensures.is cs [] (lined a.names.pool.now a.names.table.now a.s.now cs 0 a.e h)))))
 
-pub list_columns-l-requires : goal.list_columns-l-requires
-list_columns-l-requires c = let names : List Bytes = names_of (table_of c.args.pool.now c.args.table.now) in
-    let Held : List (Con ℕ) → Type 0 = λ cs. Chain (GoodCon c.args.pool.now c.args.table.now 0 c.args.s.now) c.args.e cs 0 in
-    let first : (cs : List (Con ℕ)) → Held cs → Fitting c.lines_of-kinds.result.fits (names) (colsIn c.none-columns.result) cs c.lines_of-kinds.result.len c.lines_of-kinds.result.grid = λ cs h.
-    (c.lines_of-kinds.ensures cs (names) (lined c.args.pool.now c.args.table.now c.args.s.now cs 0 c.args.e h)).is in
-    let plain : (cs : List (Con ℕ)) → Held cs → Fitting true (names) (colsIn c.none-columns.result) cs c.lines_of-kinds.result.len c.lines_of-kinds.result.grid = λ cs h.
-    subst (λ (b : Bool). Fitting b (names) (colsIn c.none-columns.result) cs c.lines_of-kinds.result.len c.lines_of-kinds.result.grid) (not-false c.lines_of-kinds.result.fits c.if-not-kinds.false) (first cs h) in
+pub list_columns-requires : goal.list_columns-requires
+list_columns-requires c =
+    let a = c.args in
     let q = c.requires.a_set in
-    record { good = c.requires.good; known = set_known c.args.pool.now c.args.table.now q.0 c.args.s.now c.args.e q.1 (names) (colsIn c.none-columns.result) c.lines_of-kinds.result.len c.lines_of-kinds.result.grid (plain q.0 q.1) }
+    record { known = set_known a.names.pool.now a.names.table.now q.0 a.s.now a.e q.1 [] _ _ (sym (c.in_ok-lines_of.ensures.is q.0 [] (lined a.names.pool.now a.names.table.now a.s.now q.0 0 a.e q.1))) }
 
-pub returns-then-not-l : goal.returns-then-not-l
-returns-then-not-l c cs h =
-    record {
-      ready = tt;
-      is = names-unfit c.args.pool.now c.args.table.now cs c.args.s.now c.args.e h c.list_columns-l.result.columns
-          (subst (λ (b : Bool). ListedAs (numbers c.args.pool.now c.args.table.now) c.args.s.now c.args.e b c.list_columns-l.result.columns) (not-true c.list_columns-l.result.fits c.if-not-l.true) c.list_columns-l.ensures.is);
-    }
+pub returns-in_err-columns-clause-is : goal.returns-in_err-columns-clause-is
+returns-in_err-columns-clause-is c cs h =
+    let a = c.args in
+    let p = err_from_is_err_and c.from_residual-in_err-columns.result c.from_residual-in_err-columns.ensures.1 in
+    rw (p.1, p.2)
+    (sym (names-unfit a.names.pool.now a.names.table.now cs a.s.now a.e h [] _ _ (sym (c.in_ok-lines_of.ensures.is cs [] (lined a.names.pool.now a.names.table.now a.s.now cs 0 a.e h))) _ (sym c.in_err-columns.ensures.is)))
 
-pub lines_of-lines-requires : goal.lines_of-lines-requires
-lines_of-lines-requires c = let listed : ListedAs (numbers c.args.pool.now c.args.table.now) c.args.s.now c.args.e true c.list_columns-l.result.columns = subst (λ (b : Bool). ListedAs (numbers c.args.pool.now c.args.table.now) c.args.s.now c.args.e b c.list_columns-l.result.columns) (not-false c.list_columns-l.result.fits c.if-not-l.false) c.list_columns-l.ensures.is in
+pub lines_of-requires-2-clause-lined : goal.lines_of-requires-2-clause-lined
+lines_of-requires-2-clause-lined c =
+    let a = c.args in
     let q = c.requires.a_set in
-    record { laid = (listed).0; e_bound = c.requires.e_bound; by_index = (q.0, lined c.args.pool.now c.args.table.now c.args.s.now q.0 0 c.args.e q.1) }
+    (q.0, lined a.names.pool.now a.names.table.now a.s.now q.0 0 a.e q.1)
 
-pub machine-requires : goal.machine-requires
-machine-requires c = let Held : List (Con ℕ) → Type 0 = λ cs. Chain (GoodCon c.args.pool.now c.args.table.now 0 c.args.s.now) c.args.e cs 0 in
-    let names : List Bytes = names_of (table_of c.args.pool.now c.args.table.now) in
-    let first : (cs : List (Con ℕ)) → Held cs → Fitting c.lines_of-kinds.result.fits (names) (colsIn c.none-columns.result) cs c.lines_of-kinds.result.len c.lines_of-kinds.result.grid = λ cs h.
-    (c.lines_of-kinds.ensures cs (names) (lined c.args.pool.now c.args.table.now c.args.s.now cs 0 c.args.e h)).is in
-    let plain : (cs : List (Con ℕ)) → Held cs → Fitting true (names) (colsIn c.none-columns.result) cs c.lines_of-kinds.result.len c.lines_of-kinds.result.grid = λ cs h.
-    subst (λ (b : Bool). Fitting b (names) (colsIn c.none-columns.result) cs c.lines_of-kinds.result.len c.lines_of-kinds.result.grid) (not-false c.lines_of-kinds.result.fits c.if-not-kinds.false) (first cs h) in
-    let second : (cs : List (Con ℕ)) → Held cs → Fitting true (names) (colsIn c.list_columns-l.result.columns) cs c.lines_of-lines.result.len c.lines_of-lines.result.grid = λ cs h.
-    let k = colsIn c.list_columns-l.result.columns in
-    let is = (c.lines_of-lines.ensures cs (names) (lined c.args.pool.now c.args.table.now c.args.s.now cs 0 c.args.e h)).is in
-    subst (λ (b : Bool). Fitting b (names) k cs c.lines_of-lines.result.len c.lines_of-lines.result.grid)
-    (still-fits (names) (colsIn c.none-columns.result) k cs c.lines_of-kinds.result.len c.lines_of-lines.result.len c.lines_of-kinds.result.grid c.lines_of-lines.result.grid c.lines_of-lines.result.fits (plain cs h) is) is in
-    let q = c.requires.a_set in
-    let f = second q.0 q.1 in
-    record { wide_grid = f.4; n_bound = f.3 }
+pub returns-in_err-lines-clause-is : goal.returns-in_err-lines-clause-is
+returns-in_err-lines-clause-is c cs h =
+    let a = c.args in
+    let p = err_from_is_err_and c.from_residual-in_err-lines.result c.from_residual-in_err-lines.ensures.1 in
+    rw (p.1, p.2) (sym (laid-unfit a.names.pool.now a.names.table.now cs [] _ _ (sym (c.in_err-lines.ensures.is cs [] (lined a.names.pool.now a.names.table.now a.s.now cs 0 a.e h)))))
 
-pub eliminate-t-requires : goal.eliminate-t-requires
-eliminate-t-requires c = let listed : ListedAs (numbers c.args.pool.now c.args.table.now) c.args.s.now c.args.e true c.list_columns-l.result.columns = subst (λ (b : Bool). ListedAs (numbers c.args.pool.now c.args.table.now) c.args.s.now c.args.e b c.list_columns-l.result.columns) (not-false c.list_columns-l.result.fits c.if-not-l.false) c.list_columns-l.ensures.is in
-    record { laid = (listed).0; running = c.machine.ensures.0 }
+pub returns-in_err-machine-clause-is : goal.returns-in_err-machine-clause-is
+returns-in_err-machine-clause-is c cs h =
+    let a = c.args in
+    let names = names_of (table_of a.names.pool.now a.names.table.now) in
+    let l = c.in_ok-lines in
+    let m = length-take-le l.lines.len (rowsIn l.lines.grid) (omega (arith, l.ensures.room.few, grid-long l.lines.grid l.ensures.room.wide)) in
+    let p = err_from_is_err_and c.from_residual-in_err-machine.result c.from_residual-in_err-machine.ensures.1 in
+    rw (p.1, p.2)
+    (all-reduced a.names.pool.now a.names.table.now cs a.names.good a.s.now a.e h c.in_ok-columns.columns (listed-so _ _ _ _ c.in_ok-columns.ensures.is) l.lines.len _ (sym m)
+    (sym (l.ensures.is cs names (lined a.names.pool.now a.names.table.now a.s.now cs 0 a.e h))) _ (c.in_err-machine.ensures.is ∙ c.start.ensures.1 _))
 
-pub returns-then-t : goal.returns-then-t
-returns-then-t c cs h = let listed : ListedAs (numbers c.args.pool.now c.args.table.now) c.args.s.now c.args.e true c.list_columns-l.result.columns = subst (λ (b : Bool). ListedAs (numbers c.args.pool.now c.args.table.now) c.args.s.now c.args.e b c.list_columns-l.result.columns) (not-false c.list_columns-l.result.fits c.if-not-l.false) c.list_columns-l.ensures.is in
-    let Held : List (Con ℕ) → Type 0 = λ cs. Chain (GoodCon c.args.pool.now c.args.table.now 0 c.args.s.now) c.args.e cs 0 in
-    let names : List Bytes = names_of (table_of c.args.pool.now c.args.table.now) in
-    let first : (cs : List (Con ℕ)) → Held cs → Fitting c.lines_of-kinds.result.fits (names) (colsIn c.none-columns.result) cs c.lines_of-kinds.result.len c.lines_of-kinds.result.grid = λ cs h.
-    (c.lines_of-kinds.ensures cs (names) (lined c.args.pool.now c.args.table.now c.args.s.now cs 0 c.args.e h)).is in
-    let plain : (cs : List (Con ℕ)) → Held cs → Fitting true (names) (colsIn c.none-columns.result) cs c.lines_of-kinds.result.len c.lines_of-kinds.result.grid = λ cs h.
-    subst (λ (b : Bool). Fitting b (names) (colsIn c.none-columns.result) cs c.lines_of-kinds.result.len c.lines_of-kinds.result.grid) (not-false c.lines_of-kinds.result.fits c.if-not-kinds.false) (first cs h) in
-    let second : (cs : List (Con ℕ)) → Held cs → Fitting true (names) (colsIn c.list_columns-l.result.columns) cs c.lines_of-lines.result.len c.lines_of-lines.result.grid = λ cs h.
-    let k = colsIn c.list_columns-l.result.columns in
-    let is = (c.lines_of-lines.ensures cs (names) (lined c.args.pool.now c.args.table.now c.args.s.now cs 0 c.args.e h)).is in
-    subst (λ (b : Bool). Fitting b (names) k cs c.lines_of-lines.result.len c.lines_of-lines.result.grid)
-    (still-fits (names) (colsIn c.none-columns.result) k cs c.lines_of-kinds.result.len c.lines_of-lines.result.len c.lines_of-kinds.result.grid c.lines_of-lines.result.grid c.lines_of-lines.result.fits (plain cs h) is) is in
-    let reduced : (cs : List (Con ℕ)) → Held cs → (endOr c.eliminate-t.result.fits c.eliminate-t.result.machine >>= λ d. got (settledBy (colsIn c.list_columns-l.result.columns) d.left d.values)) ≡ answer c.args.pool.now c.args.table.now cs = λ cs h.
-    let k = c.list_columns-l.result.columns in
-    all-reduced c.args.pool.now c.args.table.now cs c.args.s.now c.args.e h c.requires.good k c.lines_of-lines.result.len c.lines_of-lines.result.grid c.machine.result c.eliminate-t.result (listed) (second cs h)
-    (c.machine.ensures.1 (colsIn k)) c.eliminate-t.ensures in
-    let k = c.list_columns-l.result.columns in
-    record {
-      ready = (listed.0, c.eliminate-t.ensures.running);
-      is = ap (λ (b : Bool). endOr b c.eliminate-t.result.machine >>= λ d. got (settledBy (colsIn k) d.left d.values)) (sym c.if-t.true) ∙ reduced cs h;
-    }
-
-pub returns-else-t : goal.returns-else-t
-returns-else-t c cs h = let listed : ListedAs (numbers c.args.pool.now c.args.table.now) c.args.s.now c.args.e true c.list_columns-l.result.columns = subst (λ (b : Bool). ListedAs (numbers c.args.pool.now c.args.table.now) c.args.s.now c.args.e b c.list_columns-l.result.columns) (not-false c.list_columns-l.result.fits c.if-not-l.false) c.list_columns-l.ensures.is in
-    let Held : List (Con ℕ) → Type 0 = λ cs. Chain (GoodCon c.args.pool.now c.args.table.now 0 c.args.s.now) c.args.e cs 0 in
-    let names : List Bytes = names_of (table_of c.args.pool.now c.args.table.now) in
-    let first : (cs : List (Con ℕ)) → Held cs → Fitting c.lines_of-kinds.result.fits (names) (colsIn c.none-columns.result) cs c.lines_of-kinds.result.len c.lines_of-kinds.result.grid = λ cs h.
-    (c.lines_of-kinds.ensures cs (names) (lined c.args.pool.now c.args.table.now c.args.s.now cs 0 c.args.e h)).is in
-    let plain : (cs : List (Con ℕ)) → Held cs → Fitting true (names) (colsIn c.none-columns.result) cs c.lines_of-kinds.result.len c.lines_of-kinds.result.grid = λ cs h.
-    subst (λ (b : Bool). Fitting b (names) (colsIn c.none-columns.result) cs c.lines_of-kinds.result.len c.lines_of-kinds.result.grid) (not-false c.lines_of-kinds.result.fits c.if-not-kinds.false) (first cs h) in
-    let second : (cs : List (Con ℕ)) → Held cs → Fitting true (names) (colsIn c.list_columns-l.result.columns) cs c.lines_of-lines.result.len c.lines_of-lines.result.grid = λ cs h.
-    let k = colsIn c.list_columns-l.result.columns in
-    let is = (c.lines_of-lines.ensures cs (names) (lined c.args.pool.now c.args.table.now c.args.s.now cs 0 c.args.e h)).is in
-    subst (λ (b : Bool). Fitting b (names) k cs c.lines_of-lines.result.len c.lines_of-lines.result.grid)
-    (still-fits (names) (colsIn c.none-columns.result) k cs c.lines_of-kinds.result.len c.lines_of-lines.result.len c.lines_of-kinds.result.grid c.lines_of-lines.result.grid c.lines_of-lines.result.fits (plain cs h) is) is in
-    let reduced : (cs : List (Con ℕ)) → Held cs → (endOr c.eliminate-t.result.fits c.eliminate-t.result.machine >>= λ d. got (settledBy (colsIn c.list_columns-l.result.columns) d.left d.values)) ≡ answer c.args.pool.now c.args.table.now cs = λ cs h.
-    let k = c.list_columns-l.result.columns in
-    all-reduced c.args.pool.now c.args.table.now cs c.args.s.now c.args.e h c.requires.good k c.lines_of-lines.result.len c.lines_of-lines.result.grid c.machine.result c.eliminate-t.result (listed) (second cs h)
-    (c.machine.ensures.1 (colsIn k)) c.eliminate-t.ensures in
-    let k = c.list_columns-l.result.columns in
-    record {
-      ready = tt;
-      is = ap (λ (b : Bool). endOr b c.eliminate-t.result.machine >>= λ d. got (settledBy (colsIn k) d.left d.values)) (sym c.if-t.false) ∙ reduced cs h;
-    }
+pub returns-clause-is : goal.returns-clause-is
+returns-clause-is c cs h =
+    let a = c.args in
+    let names = names_of (table_of a.names.pool.now a.names.table.now) in
+    let l = c.in_ok-lines in
+    let m = length-take-le l.lines.len (rowsIn l.lines.grid) (omega (arith, l.ensures.room.few, grid-long l.lines.grid l.ensures.room.wide)) in
+    all-reduced a.names.pool.now a.names.table.now cs a.names.good a.s.now a.e h c.in_ok-columns.columns (listed-so _ _ _ _ c.in_ok-columns.ensures.is) l.lines.len _ (sym m)
+    (sym (l.ensures.is cs names (lined a.names.pool.now a.names.table.now a.s.now cs 0 a.e h))) _ (c.in_ok-machine.ensures.is ∙ c.start.ensures.1 _)
