@@ -1,12 +1,2 @@
-pub mod Marks
-pub mod Moves
-pub mod Checks
 pub mod Told
-pub mod Called
-pub mod Determined
-pub mod Kept
-pub mod HeldNames
-pub mod Alike
-pub mod Promise
-pub mod Twice
 pub mod Theorems

@@ -8,10 +8,11 @@ ghost use Rattle.rules.specs.Offices.{namesOne};
 ghost use Rattle.rules.specs.Writing.{kindIn};
 ghost use Rattle.laws.specs.NameTable.{Good};
 ghost use Rattle.rules.specs.Compaction.{oneIf, newNumber, renumberIf, renumbered};
-ghost use Rattle.compaction.specs.Marks.{marks, Noted, Marked, Numbered};
-ghost use Rattle.compaction.specs.Checks.{metSet, metSets};
-ghost use Rattle.compaction.specs.Moves.{Squeezed};
+ghost use Rattle.compaction.specs.Told.{marks, Noted, Marked, Numbered};
+ghost use Rattle.compaction.specs.Told.{metSet, metSets};
+ghost use Rattle.compaction.specs.Told.{Squeezed};
 
+use names::tables::NameTable;
 use records::inner::set_good;
 use rules::NAMES;
 
@@ -30,7 +31,7 @@ fn names_one(w: u32, b: u32) -> bool
 // Marks a name's number, if it is one and held.
 fn note(m: &mut [bool; NAMES], n: usize, named: bool, a: u32)
     requires m_len { length m.old ≡ 256 }
-    requires n_bound { n ≤ 256 }
+    requires few { n ≤ 256 }
     ensures { Noted m.old m.new n named a }
 {
     let i = a as usize;
@@ -42,13 +43,12 @@ fn note(m: &mut [bool; NAMES], n: usize, named: bool, a: u32)
 // Marks each held name that a record names.
 pub fn mark(s: &[u32], n: usize, m: &mut [bool; NAMES])
     requires m_len { length m.old ≡ 256 }
-    requires n_bound { n ≤ 256 }
+    requires few { n ≤ 256 }
     ensures { Marked m.old m.new n s.now }
 {
-    let mut j = 0;
-    while 4 <= s.len() - j {
+    for i in 0..s.len() / 4 {
+        let j = i * 4;
         note(m, n, names_one(s[j], s[j + 2]), s[j + 1]);
-        j += 4;
     }
 }
 
@@ -64,14 +64,12 @@ fn number_of(m: &[bool; NAMES], a: u32) -> u32
     ensures { result ≡ newNumber (marks m.now) a }
 {
     let e = a as usize;
-    let mut i = 0;
     let mut k = 0;
-    while i < e {
+    for i in 0..e {
         if NAMES <= i {
             return k;
         }
         k += one_if(m[i]);
-        i += 1;
     }
     k
 }
@@ -82,10 +80,8 @@ fn numbers(m: &[bool; NAMES], to: &mut [u32; NAMES])
     requires to_len { length to.old ≡ 256 }
     ensures { Numbered (marks m.now) to.new 256 }
 {
-    let mut i: u32 = 0;
-    while i < 256 {
+    for i in 0..256 {
         to[i as usize] = number_of(m, i);
-        i += 1;
     }
 }
 
@@ -109,27 +105,21 @@ pub fn renumber(s: &mut [u32], m: &[bool; NAMES])
 {
     let mut to = [0; NAMES];
     numbers(m, &mut to);
-    let mut j = 0;
-    while 4 <= s.len() - j {
-        let a = new_word(m, &to, s[j], s[j + 1], s[j + 2]);
-        s[j + 1] = a;
-        j += 4;
+    for i in 0..s.len() / 4 {
+        let j = i * 4;
+        s[j + 1] = new_word(m, &to, s[j], s[j + 1], s[j + 2]);
     }
 }
 
 // Moves the bytes from `from` up to `to` forward to `out`: each is read before it can be written over.
 fn shift(pool: &mut [u8], from: usize, to: usize, out: usize)
-    requires out_le_from { out ≤ from }
-    requires from_le_to { from ≤ to }
-    requires to_in_bounds { to ≤ length pool.old }
+    requires forward { out ≤ from }
+    requires turned { from ≤ to }
+    requires within { to ≤ length pool.old }
     ensures { pool.new ≡ sets pool.old out (slice from to pool.old) }
 {
-    let mut i = from;
-    let mut o = out;
-    while i < to {
-        pool[o] = pool[i];
-        i += 1;
-        o += 1;
+    for i in from..to {
+        pool[out + (i - from)] = pool[i];
     }
 }
 
@@ -138,10 +128,8 @@ fn wipe_bytes(pool: &mut [u8], from: usize, to: usize)
     requires { to ≤ length pool.old }
     ensures { pool.new ≡ sets pool.old from (replicate (to - from) 0) }
 {
-    let mut i = from;
-    while i < to {
+    for i in from..to {
         pool[i] = 0;
-        i += 1;
     }
 }
 
@@ -150,10 +138,8 @@ fn wipe_words(table: &mut [u32], from: usize, to: usize)
     requires { to ≤ length table.old }
     ensures { table.new ≡ sets table.old from (replicate (to - from) 0) }
 {
-    let mut i = from;
-    while i < to {
+    for i in from..to {
         table[i] = 0;
-        i += 1;
     }
 }
 
@@ -163,14 +149,12 @@ pub fn squeeze(pool: &mut [u8], table: &mut [u32], m: &[bool; NAMES]) -> usize
     ensures { Squeezed (marks m.now) pool.old table.old pool.new table.new result }
 {
     let n = table[0] as usize;
-    let mut i = 0;
     let mut from = 0;
     let mut k = 0;
     let mut out = 0;
-    while i < n {
+    for i in 0..n {
         let end = table[i + 1] as usize;
-        i += 1;
-        if !m[i - 1] {
+        if !m[i] {
             from = end;
             continue;
         }
@@ -193,43 +177,37 @@ pub fn small(lengths: &[u32]) -> bool
     if 64 < lengths.len() {
         return false;
     }
-    let mut i = 0;
-    while i < lengths.len() {
-        if 2048 < lengths[i] {
+    for &n in lengths {
+        if 2048 < n {
             return false;
         }
-        i += 1;
     }
     true
 }
 
 // Is this a well formed set?
-fn set_given(pool: &[u8], table: &[u32], words: &[u32]) -> bool
-    requires good { Good pool.now table.now }
-    requires words_len { length words.now % 4 ≡ 0 }
-    ensures { need result 1 ≡ metSet (table_of pool.now table.now) words.now }
+fn set_given(names: NameTable, words: &[u32]) -> bool
+    requires { length words.now % 4 ≡ 0 }
+    ensures { need result 1 ≡ metSet (table_of names.entry.pool.now names.entry.table.now) words.now }
 {
-    set_good(pool, table, words)
+    set_good(names.pool, names.table, words)
 }
 
 // Do the lengths add up to the list, and is every set well formed?
-pub fn sets_given(pool: &[u8], table: &[u32], sets: &[u32], lengths: &[u32]) -> bool
-    requires { Good pool.now table.now }
-    ensures { need result 1 ≡ metSets (table_of pool.now table.now) lengths.now sets.now }
+pub fn sets_given(names: NameTable, sets: &[u32], lengths: &[u32]) -> bool
+    ensures { need result 1 ≡ metSets (table_of names.entry.pool.now names.entry.table.now) lengths.now sets.now }
 {
-    let mut i = 0;
     let mut from = 0;
-    while i < lengths.len() {
-        let long = lengths[i] as usize * 4;
+    for &n in lengths {
+        let long = n as usize * 4;
         if sets.len() - from < long {
             return false;
         }
         let to = from + long;
-        if !set_given(pool, table, &sets[from..to]) {
+        if !set_given(names, &sets[from..to]) {
             return false;
         }
         from = to;
-        i += 1;
     }
     from == sets.len()
 }

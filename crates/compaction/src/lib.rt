@@ -11,6 +11,7 @@ ghost use Rattle.compaction.specs.Told.{compactedAs};
 
 use inner::{mark, renumber, sets_given, small, squeeze};
 use names::inner::{count, is_good};
+use names::tables::NameTable;
 use rules::{NAMES, POOL_BYTES, Refusal, TABLE_WORDS};
 
 // 10, 8 and 1, in this order.
@@ -23,10 +24,15 @@ fn check(pool: &[u8], table: &[u32], sets: &[u32], lengths: &[u32]) -> Result<()
     if !small(lengths) {
         return Err(Refusal::TooLarge);
     }
-    if !is_good(pool, table) || !sets_given(pool, table, sets, lengths) {
+    if !is_good(pool, table) {
         return Err(Refusal::Malformed);
     }
-    Ok(())
+    let names = NameTable { pool, table };
+    if sets_given(names, sets, lengths) {
+        Ok(())
+    } else {
+        Err(Refusal::Malformed)
+    }
 }
 
 /// The sets stand back to back in `sets`, each as long as `lengths` says in records. Exactly the names that they name are kept, in the old order: how many.

@@ -1,4 +1,3 @@
 pub mod Answers
 pub mod Determined
-pub mod Examples
 pub mod Theorems

@@ -1,4 +1,4 @@
--- What is promised of rescues. The functions of src/theorems.rt promise these statements; the lemmas stand in the other files.
+-- What is promised of rescues. The functions of src/theorems.rt promise these statements; the lemmas stand in proofs/.
 use Rattle.std.specs.Prelude.{◌≡◌, List, [], ◌++◌, ℕ, ◌+◌, ◌/◌, ◌%◌, ◌≤◌, length, Result}
 use Rattle.rules.specs.Base.{got, ◌>>◌, bounded, collect}
 use Rattle.rules.specs.Names.{table_of, numbersOf}
@@ -6,12 +6,14 @@ use Rattle.rules.specs.Trees.{Con, opensCon}
 use Rattle.rules.specs.Solving.{solve}
 use Rattle.rules.specs.Calls.{over, apart, setGiven, setCall, solvedSet, solveCall, refusedAfter}
 use Rattle.rules.specs.Rescue.{Piece, words_in, recordsIn, piecesIn, keptIn, skippedFrom, placesIn, rescueGiven, rescueCall}
+use Rattle.rules.specs.Numbers.{number, rescued}
+use Rattle.rules.specs.Refusals.{numberAnswer}
 use Rattle.rules.specs.declared.Refusal.{Refusal}
 use Rattle.laws.specs.NameTable.{Good}
 use Rattle.rescue.specs.declared.Counts.{Counts}
 use Rattle.rescue.specs.Told.{keptBytes, rescuedAs}
-use Rattle.rescue.specs.Bytes.{Bytes}
-use Rattle.rescue.specs.Promise.{recordsOf, consIn}
+use Rattle.rescue.specs.Told.{Bytes}
+use Rattle.rescue.specs.Told.{recordsOf, consIn}
 
 -- the pieces of a file
 abbrev pub piecesOf : List ℕ → List ℕ → List ℕ → List Piece
@@ -60,3 +62,8 @@ EveryFileAnswered = (pool table file kept skipped : List ℕ) → Good pool tabl
 abbrev pub RescueDetermined : Type 0
 RescueDetermined = (pool table file kept skipped : List ℕ) (p q : Result Counts Refusal) (k l m n : List ℕ)
     → rescuedAs p k m ≡ rescueCall pool table file kept skipped → rescuedAs q l n ≡ rescueCall pool table file kept skipped → (p ≡ q) × (k ≡ l) × (m ≡ n)
+
+-- and an answer has the number of its outcome
+abbrev pub RescueNumbered : Type 0
+RescueNumbered = (pool table file kept skipped : List ℕ) (p : Result Counts Refusal) (k m : List ℕ)
+    → rescuedAs p k m ≡ rescueCall pool table file kept skipped → numberAnswer p ≡ number (rescued (rescueCall pool table file kept skipped))

@@ -1,10 +1,12 @@
 -- The answers of the code as those of the rules, and what its parts leave behind.
-use Rattle.std.specs.Prelude.{◌≡◌, List, ℕ, ◌+◌, ◌≤◌, length, Result}
+use Rattle.std.specs.Prelude.{◌≡◌, List, [], ◌∷◌, ℕ, ◌+◌, ◌≤◌, ◌<◌, length, Result}
 use Rattle.std.proofs.lemmas.List.Edits.{sets}
 use Rattle.rules.specs.Refusals.{toldBy}
 use Rattle.rules.specs.declared.Refusal.{Refusal}
-use Rattle.rules.specs.Writing.{words}
-use Rattle.rules.specs.Rescue.{Piece, Rescued, bytes_of, keptIn, skippedFrom, tornIn, placesIn}
+use Rattle.rules.specs.Trees.{Con}
+use Rattle.rules.specs.Writing.{Rec, words, writeCon}
+use Rattle.laws.specs.Lists.{Every}
+use Rattle.rules.specs.Rescue.{Piece, sound, lost, Rescued, bytes_of, keptIn, skippedFrom, tornIn, placesIn}
 use Rattle.rescue.specs.declared.Counts.{Counts}
 
 -- kept, then skipped
@@ -39,3 +41,18 @@ pub record Took (ps : List Piece) (file kept kept' skipped skipped' : List ℕ) 
   pub few : r.skipped ≡ length (placesIn ps file)
   pub fits : r.kept ≤ 2048
   pub room : r.skipped ≤ 2049
+
+-- a file
+abbrev pub Bytes : List ℕ → Type 0
+Bytes bs = Every (λ b. b < 256) bs
+
+-- the records of a piece, as they stand in the file
+abbrev pub recordsOf : Piece → List Rec
+recordsOf (sound c) = writeCon c
+recordsOf (lost r) = r ∷ []
+
+-- the constraints among the pieces
+abbrev pub consIn : List Piece → List (Con ℕ)
+consIn [] = []
+consIn (sound c ∷ ps) = c ∷ consIn ps
+consIn (lost r ∷ ps) = consIn ps

@@ -2,7 +2,6 @@
 ghost use Rattle.std.specs.Prelude.{◌≡◌, [], ◌∷◌, ◌+◌, ◌*◌, ◌/◌, ◌≤◌, ◌<◌, ◌^◌, length, get_or, set};
 ghost use Rattle.std.proofs.lemmas.List.Edits.{sets};
 ghost use Rattle.std.proofs.Math.Seq.{slice};
-ghost use Rattle.laws.specs.NameTable.{Good};
 ghost use Rattle.rules.specs.Refusals.{told};
 ghost use Rattle.rules.specs.Names.{table_of};
 ghost use Rattle.rules.specs.Rescue.{words_in, bytes_of, piecesIn, rescueGiven};
@@ -10,6 +9,7 @@ ghost use Rattle.rescue.specs.Told.{Walked, Noted, Took};
 
 use super::Counts;
 use names::inner::is_good;
+use names::tables::NameTable;
 use records::inner::{con_end, put};
 use rules::{POOL_BYTES, RECORDS, Refusal, TABLE_WORDS};
 
@@ -64,11 +64,8 @@ fn word_at(file: &[u8], i: usize) -> u32
 pub fn fill(file: &[u8], dst: &mut [u32])
     ensures { dst.new ≡ sets dst.old 0 (words_in file.now) }
 {
-    let n = file.len() / 4;
-    let mut i = 0;
-    while i < n {
+    for i in 0..file.len() / 4 {
         put(dst, i, word_at(file, i));
-        i += 1;
     }
 }
 
@@ -94,33 +91,28 @@ fn put_word(dst: &mut [u8], i: usize, w: u32)
 
 // Writes the words from b up to e.
 fn put_words(s: &[u32], b: usize, e: usize, dst: &mut [u8], out: usize)
-    requires b_le_e { b ≤ e }
-    requires e_in_bounds { e ≤ length s.now }
-    requires s_len_bound { length s.now ≤ 8196 }
-    requires out_bound { out ≤ 32768 }
+    requires turned { b ≤ e }
+    requires within { e ≤ length s.now }
+    requires few { length s.now ≤ 8196 }
+    requires place { out ≤ 32768 }
     ensures { dst.new ≡ sets dst.old out (bytes_of (slice b e s.now)) }
 {
-    let mut i = b;
-    let mut o = out;
-    while i < e {
-        put_word(dst, o, s[i]);
-        i += 1;
-        o += 4;
+    for i in b..e {
+        put_word(dst, out + (i - b) * 4, s[i]);
     }
 }
 
 // The pieces of the records of a list: constraints to `kept`, the places of the others to `skipped`.
-fn walk(pool: &[u8], table: &[u32], s: &[u32], kept: &mut [u8], skipped: &mut [u32]) -> Counts
-    requires good { Good pool.now table.now }
-    requires s_len_bound { length s.now / 4 ≤ 2048 }
-    ensures { Walked (piecesIn (table_of pool.now table.now) s.now) kept.old kept.new skipped.old skipped.new result }
+fn walk(names: NameTable, s: &[u32], kept: &mut [u8], skipped: &mut [u32]) -> Counts
+    requires { length s.now / 4 ≤ 2048 }
+    ensures { Walked (piecesIn (table_of names.entry.pool.now names.entry.table.now) s.now) kept.old kept.new skipped.old skipped.new result }
 {
     let n = s.len() / 4;
     let mut at = 0;
     let mut k = 0;
     let mut m = 0;
     while at < n {
-        match con_end(pool, table, s, at) {
+        match con_end(names.pool, names.table, s, at) {
             Some(e) => {
                 put_words(s, at * 4, e * 4, kept, k * 16);
                 k += e - at;
@@ -141,8 +133,8 @@ fn walk(pool: &[u8], table: &[u32], s: &[u32], kept: &mut [u8], skipped: &mut [u
 
 // Names the torn last record, if there is one, behind m places.
 fn note_torn(file: &[u8], skipped: &mut [u32], m: usize) -> usize
-    requires file_len_bound { length file.now / 16 ≤ 2048 }
-    requires m_bound { m ≤ 2048 }
+    requires short { length file.now / 16 ≤ 2048 }
+    requires few { m ≤ 2048 }
     ensures { Noted file.now m skipped.old skipped.new result }
 {
     if file.len() % 16 == 0 {
@@ -154,40 +146,29 @@ fn note_torn(file: &[u8], skipped: &mut [u32], m: usize) -> usize
 
 // The pieces of a file whose words are these.
 fn take_pieces(
-    pool: &[u8],
-    table: &[u32],
+    names: NameTable,
     file: &[u8],
     s: &[u32],
     kept: &mut [u8],
     skipped: &mut [u32],
 ) -> Counts
-    requires good { Good pool.now table.now }
-    requires file_len_bound { length file.now / 16 ≤ 2048 }
-    requires s_value { s.now ≡ words_in file.now }
-    ensures { Took (piecesIn (table_of pool.now table.now) (words_in file.now)) file.now kept.old kept.new skipped.old skipped.new result }
+    requires short { length file.now / 16 ≤ 2048 }
+    requires words { s.now ≡ words_in file.now }
+    ensures { Took (piecesIn (table_of names.entry.pool.now names.entry.table.now) (words_in file.now)) file.now kept.old kept.new skipped.old skipped.new result }
 {
-    let c = walk(pool, table, s, kept, skipped);
-    let m = note_torn(file, skipped, c.skipped);
+    let walked = walk(names, s, kept, skipped);
     Counts {
-        kept: c.kept,
-        skipped: m,
+        kept: walked.kept,
+        skipped: note_torn(file, skipped, walked.skipped),
     }
 }
 
 // The same, with the words still to be taken from the file.
-pub fn take_words(
-    pool: &[u8],
-    table: &[u32],
-    file: &[u8],
-    kept: &mut [u8],
-    skipped: &mut [u32],
-) -> Counts
-    requires good { Good pool.now table.now }
-    requires file_len_bound { length file.now / 16 ≤ 2048 }
-    ensures { Took (piecesIn (table_of pool.now table.now) (words_in file.now)) file.now kept.old kept.new skipped.old skipped.new result }
+pub fn take_words(names: NameTable, file: &[u8], kept: &mut [u8], skipped: &mut [u32]) -> Counts
+    requires { length file.now / 16 ≤ 2048 }
+    ensures { Took (piecesIn (table_of names.entry.pool.now names.entry.table.now) (words_in file.now)) file.now kept.old kept.new skipped.old skipped.new result }
 {
-    let mut words = [0u32; FILE_WORDS];
+    let mut words = [0; FILE_WORDS];
     fill(file, &mut words);
-    let n = file.len() / 4;
-    take_pieces(pool, table, file, &words[0..n], kept, skipped)
+    take_pieces(names, file, &words[0..file.len() / 4], kept, skipped)
 }

@@ -9,6 +9,7 @@ ghost use Rattle.rules.specs.Rescue.{rescueCall};
 ghost use Rattle.rescue.specs.Told.{rescuedAs};
 
 use inner::{given, take_words};
+use names::tables::NameTable;
 use rules::Refusal;
 
 /// How many records are kept, and how many places skipped.
@@ -31,5 +32,6 @@ pub fn rescue(
     ensures { rescuedAs result kept.new skipped.new ≡ rescueCall pool.now table.now file.now kept.old skipped.old }
 {
     given(pool, table, file, kept.len(), skipped.len())?;
-    Ok(take_words(pool, table, file, kept, skipped))
+    let names = NameTable { pool, table };
+    Ok(take_words(names, file, kept, skipped))
 }

@@ -1,6 +1,6 @@
 //! What is promised of rescues beyond one call: theorems, each the contract of a function that does nothing.
 ghost use Rattle.rescue.specs.Theorems.{EveryRecordAccounted, KeptIsASet, GoodFileStays};
-ghost use Rattle.rescue.specs.Theorems.{RescuedAgain, EveryFileAnswered, RescueDetermined};
+ghost use Rattle.rescue.specs.Theorems.{RescuedAgain, EveryFileAnswered, RescueDetermined, RescueNumbered};
 
 /// Kept and skipped together are every record of the file, in order, and each lost record is named by how many stand before it (`every-record`,
 /// `all-counted`, `named`).
@@ -32,4 +32,9 @@ pub fn every_file_is_answered()
 /// The contract of `rescue` leaves no choice (`rescue-determined`).
 pub fn rescue_is_determined()
     ensures { RescueDetermined }
+{}
+
+/// What `rescue` answers has the number of its outcome (`rescue-numbered`).
+pub fn rescue_is_numbered()
+    ensures { RescueNumbered }
 {}

@@ -2,8 +2,8 @@
 use Rattle.std.proofs.Common.{refl, sym, arith}
 use Rattle.std.proofs.lemmas.Result.{err_from_is_err_and}
 use Rattle.laws.specs.NameTable.{Good, good-laid}
-use Rattle.compaction.specs.Checks.{checks-good}
-use Rattle.compaction.specs.Called.{called, call-refused}
+use Rattle.compaction.proofs.Checks.{checks-good}
+use Rattle.compaction.proofs.Called.{called, call-refused}
 use Rattle.compaction.proofs.compact.Goals as goal
 
 pub returns-in_err-check : goal.returns-in_err-check
@@ -17,7 +17,7 @@ count-requires c = (checks-good _ _ _ _ (sym c.in_ok-check.ensures)).words
 pub mark-requires : goal.mark-requires
 mark-requires c =
     let g : Good c.args.pool.now c.args.table.now = checks-good _ _ _ _ (sym c.in_ok-check.ensures) in
-    record { m_len = refl; n_bound = omega (arith, c.count.ensures, (good-laid g).few) }
+    record { m_len = refl; few = omega (arith, c.count.ensures, (good-laid g).few) }
 
 pub renumber-requires : goal.renumber-requires
 renumber-requires c = c.mark.ensures.long

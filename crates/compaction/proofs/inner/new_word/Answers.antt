@@ -2,7 +2,7 @@
 use mathlib.Core.Path.{sym, ap, ◌∙◌}
 use mathlib.Core.Bool.{Bool}
 use Rattle.rules.specs.Compaction.{renumberIf}
-use Rattle.compaction.specs.Marks.{marks}
+use Rattle.compaction.specs.Told.{marks}
 use Rattle.compaction.proofs.inner.new_word.Goals as goal
 
 pub returns-then-not-names_one : goal.returns-then-not-names_one

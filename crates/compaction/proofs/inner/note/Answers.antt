@@ -1,6 +1,6 @@
 -- `inner::note` meets its contract.
 use Rattle.std.proofs.Common.{arith}
-use Rattle.compaction.specs.Marks.{note-none, note-past, note-put}
+use Rattle.compaction.proofs.Marks.{note-none, note-past, note-put}
 use Rattle.compaction.proofs.inner.note.Goals as goal
 use Rattle.compaction.proofs.inner.note.Goals.{else-named-via-then-named+else-i-n, else-named-via-else-named}
 

@@ -1,24 +1,32 @@
 -- `inner::renumber` meets its contract.
 use native.Mathlib.Omega.{arith}
-use mathlib.Core.Path.{refl, sym, ◌∙◌}
-use lib.ListN.{length-set}
-use Rattle.compaction.specs.Marks.{marks, renumber-step, renumber-end}
+use mathlib.Core.Path.{◌≡◌, refl, sym, ap, ◌∙◌}
+use mathlib.Core.List.{◌++◌}
+use Prim.Native.Nat.{ℕ, ◌+◌, ◌*◌}
+use lib.ListN.{set, take, drop, length-set}
+use Rattle.rules.specs.Compaction.{renumbered}
+use Rattle.compaction.specs.Told.{marks}
+use Rattle.compaction.proofs.Marks.{renumber-step, renumber-end}
 use Rattle.compaction.proofs.inner.renumber.Goals as goal
 
 pub numbers-requires : goal.numbers-requires
 numbers-requires c = record { m_len = c.requires; to_len = refl }
 
-pub loop-s-init : goal.loop-s-init
-loop-s-init c = (refl, omega arith, refl)
+pub loop-i-init : goal.loop-i-init
+loop-i-init c = (refl, refl)
 
-pub new_word-a-requires : goal.new_word-a-requires
-new_word-a-requires c = record { m_len = c.requires; numbered = c.numbers.ensures }
-
-pub loop-s-preserved : goal.loop-s-preserved
-loop-s-preserved c = let l = c.loop-s in (simp length-set l.invariant.0, simp length-set (omega arith), renumber-step (marks c.args.m.now) l.s l.j _ c.loop-s-test.true c.new_word-a.ensures ∙ l.invariant.2)
+pub loop-i-preserved : goal.loop-i-preserved
+loop-i-preserved c =
+    let l = c.loop-i in
+    let s' = set l.s (l.i * 4 + 1) c.new_word.result in
+    let next : (l.i + 1) * 4 ≡ l.i * 4 + 4 = omega arith in (
+      simp length-set l.invariant.0,
+      ap (λ (j : ℕ). take j s' ++ renumbered (marks c.args.m.now) (drop j s')) next
+          ∙ renumber-step (marks c.args.m.now) l.s (l.i * 4) _ (omega (arith, c.loop-i-test.true, l.invariant.0)) c.new_word.ensures ∙ l.invariant.1,
+    )
 
 pub shape_of-s : goal.shape_of-s
-shape_of-s c = c.loop-s.invariant.0
+shape_of-s c = c.loop-i.invariant.0
 
 pub returns : goal.returns
-returns c = let l = c.loop-s in sym (renumber-end (marks c.args.m.now) l.s l.j (omega arith)) ∙ l.invariant.2
+returns c = let l = c.loop-i in sym (renumber-end (marks c.args.m.now) l.s (l.i * 4) (omega (arith, c.loop-i-test.false, l.invariant.0))) ∙ l.invariant.1

@@ -6,9 +6,5 @@ use Rattle.compaction.proofs.inner.shift.Given as goal
 
 abbrev pub invariant-loop-i : goal.invariant-loop-i
 invariant-loop-i l =
-    (l.from ≤ l.i) × (l.i ≤ l.to) × (l.i + l.out ≡ l.o + l.from) × (length l.pool ≡ length l.initial.pool)
-    × (sets l.pool l.o (slice l.i l.to l.initial.pool) ≡ sets l.initial.pool l.out (slice l.from l.to l.initial.pool)) × ((k : ℕ) → l.i ≤ k → get_or l.pool k 0 ≡ get_or l.initial.pool k 0)
-
-abbrev pub decreases-loop-i : goal.decreases-loop-i
-decreases-loop-i l =
-    l.to - l.i
+    (length l.pool ≡ length l.initial.pool) × (sets l.pool (l.out + (l.i - l.from)) (slice l.i l.to l.initial.pool) ≡ sets l.initial.pool l.out (slice l.from l.to l.initial.pool))
+    × ((k : ℕ) → l.i ≤ k → get_or l.pool k 0 ≡ get_or l.initial.pool k 0)

@@ -1,11 +1,10 @@
 -- `inner::squeeze` meets its contract.
 use native.Mathlib.Omega.{arith}
-use mathlib.Core.Path.{◌≡◌, refl, ap, ◌∙◌}
-use Prim.Native.Nat.{◌+◌, ◌-◌, ◌<◌}
+use mathlib.Core.Path.{refl, ◌∙◌}
+use Prim.Native.Nat.{◌<◌}
 use lib.ListN.{length, length-set}
 use Rattle.laws.specs.NameTable.{good-laid}
-use Rattle.compaction.specs.Marks.{marks}
-use Rattle.compaction.specs.Moves.{doing-first, doing-skip, doing-keep, doing-last, end_is, pool-long, table-long, rises, within, from-within}
+use Rattle.compaction.proofs.Moves.{doing-first, doing-skip, doing-keep, doing-last, end_is, pool-long, table-long, rises, within, from-within}
 use Rattle.compaction.proofs.inner.squeeze.Goals as goal
 
 pub bounds-table-0 : goal.bounds-table-0
@@ -13,9 +12,6 @@ bounds-table-0 c = omega (arith, c.requires.words)
 
 pub loop-i-init : goal.loop-i-init
 loop-i-init c = doing-first c.requires
-
-pub overflow_add-i : goal.overflow_add-i
-overflow_add-i c = omega (arith, (good-laid c.requires).few)
 
 pub offset_bounds-table-i : goal.offset_bounds-table-i
 offset_bounds-table-i c = omega (arith, (good-laid c.requires).few)
@@ -32,7 +28,7 @@ loop-i-preserved-then-not-m-i c =
     let d = c.loop-i.invariant in
     let more = c.loop-i-test.true in
     let E = end_is g d in
-    rw E (doing-skip g d more (ap (marks c.args.m.now) (let q : c.loop-i.i ≡ c.loop-i.i + 1 - 1 = omega arith in q) ∙ c.if-not-m-i.true))
+    rw E (doing-skip g d more c.if-not-m-i.true)
 
 pub shift-requires : goal.shift-requires
 shift-requires c =
@@ -40,7 +36,7 @@ shift-requires c =
     let d = c.loop-i.invariant in
     let more = c.loop-i-test.true in
     let E = end_is g d in
-    record { out_le_from = d.behind; from_le_to = omega (arith, E, rises g d more); to_in_bounds = omega (arith, E, within g d more, pool-long g d, g.bytes) }
+    record { forward = d.behind; turned = omega (arith, E, rises g d more); within = omega (arith, E, within g d more, pool-long g d, g.bytes) }
 
 pub overflow_sub-out : goal.overflow_sub-out
 overflow_sub-out c =
@@ -91,8 +87,7 @@ loop-i-preserved c =
     let d = c.loop-i.invariant in
     let more = c.loop-i-test.true in
     let E = end_is g d in
-    rw E (doing-keep g d more (ap (marks c.args.m.now) (let q : c.loop-i.i ≡ c.loop-i.i + 1 - 1 = omega arith in q)
-    ∙ c.if-not-m-i.false) (rw E at c.shift.ensures) refl)
+    rw E (doing-keep g d more c.if-not-m-i.false (rw E at c.shift.ensures) refl)
 
 pub wipe_bytes-requires : goal.wipe_bytes-requires
 wipe_bytes-requires c =

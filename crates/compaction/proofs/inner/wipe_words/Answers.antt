@@ -2,26 +2,20 @@
 use native.Mathlib.Omega.{arith}
 use mathlib.Core.Path.{refl}
 use lib.ListN.{length-set}
-use Rattle.compaction.specs.Moves.{wipe-step, wipe-end}
+use Rattle.compaction.proofs.Moves.{wipe-step, wipe-end}
 use Rattle.compaction.proofs.inner.wipe_words.Goals as goal
 
 pub loop-i-init : goal.loop-i-init
-loop-i-init c = (omega arith, refl, refl)
-
-pub offset_bounds-table-i : goal.offset_bounds-table-i
-offset_bounds-table-i c = omega (arith, c.requires, c.loop-i.invariant.1)
+loop-i-init c = (refl, refl)
 
 pub bounds-table-i : goal.bounds-table-i
-bounds-table-i c = omega (arith, c.requires, c.loop-i.invariant.1)
-
-pub overflow_add-i : goal.overflow_add-i
-overflow_add-i c = omega (arith, c.requires, c.loop-i.invariant.1)
+bounds-table-i c = omega (arith, c.requires, c.loop-i-test.true, c.loop-i.invariant.0)
 
 pub loop-i-preserved : goal.loop-i-preserved
-loop-i-preserved c = let l = c.loop-i in (omega arith, simp length-set l.invariant.1, wipe-step _ l.i _ (omega arith) l.invariant.2)
+loop-i-preserved c = let l = c.loop-i in (simp length-set l.invariant.0, wipe-step _ l.i _ (omega arith) l.invariant.1)
 
 pub shape_of-table : goal.shape_of-table
-shape_of-table c = c.loop-i.invariant.1
+shape_of-table c = c.loop-i.invariant.0
 
 pub returns : goal.returns
-returns c = wipe-end _ c.loop-i.i _ c.loop-i-test.false c.loop-i.invariant.2
+returns c = wipe-end _ c.loop-i.i _ c.loop-i-test.false c.loop-i.invariant.1

@@ -1,4 +1,4 @@
-use Rattle.compaction.specs.Determined.{compact-determined}
+use Rattle.compaction.proofs.Determined.{compact-determined}
 use Rattle.compaction.proofs.theorems.compact_is_determined.Goals as goal
 
 pub returns : goal.returns

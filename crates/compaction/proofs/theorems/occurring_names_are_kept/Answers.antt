@@ -1,4 +1,4 @@
-use Rattle.compaction.specs.Promise.{promised}
+use Rattle.compaction.proofs.Promise.{promised}
 use Rattle.compaction.proofs.theorems.occurring_names_are_kept.Goals as goal
 
 pub returns : goal.returns

@@ -1,4 +1,4 @@
-use Rattle.compaction.specs.Twice.{twice}
+use Rattle.compaction.proofs.Twice.{twice}
 use Rattle.compaction.proofs.theorems.twice_is_once.Goals as goal
 
 pub returns : goal.returns

@@ -1,6 +1,6 @@
 -- `inner::note_torn` meets its contract.
 use native.Mathlib.Omega.{arith}
-use Rattle.rescue.specs.Steps.{torn-none, torn-one}
+use Rattle.rescue.proofs.Steps.{torn-none, torn-one}
 use Rattle.rescue.proofs.inner.note_torn.Goals as goal
 
 pub returns-then-file-eq0 : goal.returns-then-file-eq0

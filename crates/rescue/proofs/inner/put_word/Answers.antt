@@ -1,6 +1,6 @@
 -- `inner::put_word` meets its contract: four stores in a row.
 use Rattle.std.proofs.Common.{refl}
-use Rattle.rescue.specs.Steps.{four_bytes}
+use Rattle.rescue.proofs.Steps.{four_bytes}
 use Rattle.rescue.proofs.inner.put_word.Goals as goal
 
 pub returns : goal.returns

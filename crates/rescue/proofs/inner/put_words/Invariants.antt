@@ -1,4 +1,4 @@
-use Prim.Native.Nat.{◌≤◌, ◌+◌, ◌*◌, ◌-◌}
+use Prim.Native.Nat.{◌+◌, ◌*◌, ◌-◌}
 use mathlib.Core.Path.{◌≡◌}
 use lib.ListN.{length}
 use lib.Seq.{sets, slice}
@@ -7,7 +7,4 @@ use Rattle.rescue.proofs.inner.put_words.Given as goal
 
 abbrev pub invariant-loop-i : goal.invariant-loop-i
 invariant-loop-i l =
-    (l.b ≤ l.i) × (l.i ≤ l.e) × (l.o + l.b * 4 ≡ l.i * 4 + l.out) × (length l.dst ≡ length l.initial.dst) × (sets l.dst l.o (bytes_of (slice l.i l.e l.s)) ≡ sets l.initial.dst l.out (bytes_of (slice l.b l.e l.s)))
-
-abbrev pub decreases-loop-i : goal.decreases-loop-i
-decreases-loop-i l = l.e - l.i
+    (length l.dst ≡ length l.initial.dst) × (sets l.dst (l.out + (l.i - l.b) * 4) (bytes_of (slice l.i l.e l.s)) ≡ sets l.initial.dst l.out (bytes_of (slice l.b l.e l.s)))

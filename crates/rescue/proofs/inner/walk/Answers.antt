@@ -7,7 +7,7 @@ use lib.ListN.{length}
 use Rattle.records.specs.Good.{Ends, GoodCon}
 use Rattle.std.specs.Prelude.{Some}
 use Rattle.records.specs.Moves.{con-moves}
-use Rattle.rescue.specs.Steps.{left-start, left-sound, left-lost, left-done}
+use Rattle.rescue.proofs.Steps.{left-start, left-sound, left-lost, left-done}
 use Rattle.records.specs.Found.{Words32}
 use Rattle.rules.specs.Trees.{Con}
 use Rattle.rescue.proofs.inner.walk.Goals as goal
@@ -27,41 +27,38 @@ found pool table s at e u =
 pub loop-at-init : goal.loop-at-init
 loop-at-init c =
     let a = c.args in
-    (refl, omega arith, omega arith, refl, refl, left-start a.pool.now a.table.now a.s.now (record { word = λ i. (c.type_inv.s i).fits }) a.kept.now a.skipped.now)
-
-pub con_end-requires : goal.con_end-requires
-con_end-requires c = c.requires.good
+    (refl, omega arith, omega arith, refl, refl, left-start a.names.pool.now a.names.table.now a.s.now (record { word = λ i. (c.type_inv.s i).fits }) a.kept.now a.skipped.now)
 
 pub overflow_mul-at : goal.overflow_mul-at
-overflow_mul-at c = let f : Found c.args.pool.now c.args.table.now c.args.s.now c.loop-at.at c.in-Some.e = found _ _ _ _ _ c.in-Some.ensures in
-    omega (arith, f.moves, f.within, c.requires.s_len_bound)
+overflow_mul-at c = let f : Found c.args.names.pool.now c.args.names.table.now c.args.s.now c.loop-at.at c.in-Some.e = found _ _ _ _ _ c.in-Some.ensures in
+    omega (arith, f.moves, f.within, c.requires)
 
 pub overflow_mul-e : goal.overflow_mul-e
-overflow_mul-e c = let f : Found c.args.pool.now c.args.table.now c.args.s.now c.loop-at.at c.in-Some.e = found _ _ _ _ _ c.in-Some.ensures in
-    omega (arith, f.within, c.requires.s_len_bound)
+overflow_mul-e c = let f : Found c.args.names.pool.now c.args.names.table.now c.args.s.now c.loop-at.at c.in-Some.e = found _ _ _ _ _ c.in-Some.ensures in
+    omega (arith, f.within, c.requires)
 
 pub overflow_mul-k : goal.overflow_mul-k
-overflow_mul-k c = let f : Found c.args.pool.now c.args.table.now c.args.s.now c.loop-at.at c.in-Some.e = found _ _ _ _ _ c.in-Some.ensures in
-    omega (arith, f.moves, f.within, c.loop-at.invariant.2, c.requires.s_len_bound)
+overflow_mul-k c = let f : Found c.args.names.pool.now c.args.names.table.now c.args.s.now c.loop-at.at c.in-Some.e = found _ _ _ _ _ c.in-Some.ensures in
+    omega (arith, f.moves, f.within, c.loop-at.invariant.2, c.requires)
 
 pub put_words-requires : goal.put_words-requires
-put_words-requires c = let f : Found c.args.pool.now c.args.table.now c.args.s.now c.loop-at.at c.in-Some.e = found _ _ _ _ _ c.in-Some.ensures in
-    record { b_le_e = omega (arith, f.moves); e_in_bounds = omega (arith, f.within); s_len_bound = omega (arith, c.requires.s_len_bound); out_bound = omega (arith, f.moves, f.within, c.loop-at.invariant.2, c.requires.s_len_bound) }
+put_words-requires c = let f : Found c.args.names.pool.now c.args.names.table.now c.args.s.now c.loop-at.at c.in-Some.e = found _ _ _ _ _ c.in-Some.ensures in
+    record { turned = omega (arith, f.moves); within = omega (arith, f.within); few = omega (arith, c.requires); place = omega (arith, f.moves, f.within, c.loop-at.invariant.2, c.requires) }
 
 pub overflow_sub-k : goal.overflow_sub-k
-overflow_sub-k c = let f : Found c.args.pool.now c.args.table.now c.args.s.now c.loop-at.at c.in-Some.e = found _ _ _ _ _ c.in-Some.ensures in
+overflow_sub-k c = let f : Found c.args.names.pool.now c.args.names.table.now c.args.s.now c.loop-at.at c.in-Some.e = found _ _ _ _ _ c.in-Some.ensures in
     omega (arith, f.moves)
 
 pub overflow_add-k : goal.overflow_add-k
-overflow_add-k c = let f : Found c.args.pool.now c.args.table.now c.args.s.now c.loop-at.at c.in-Some.e = found _ _ _ _ _ c.in-Some.ensures in
-    omega (arith, f.moves, f.within, c.loop-at.invariant.2, c.requires.s_len_bound)
+overflow_add-k c = let f : Found c.args.names.pool.now c.args.names.table.now c.args.s.now c.loop-at.at c.in-Some.e = found _ _ _ _ _ c.in-Some.ensures in
+    omega (arith, f.moves, f.within, c.loop-at.invariant.2, c.requires)
 
 pub loop-at-smaller-in-Some : goal.loop-at-smaller-in-Some
-loop-at-smaller-in-Some c = let f : Found c.args.pool.now c.args.table.now c.args.s.now c.loop-at.at c.in-Some.e = found _ _ _ _ _ c.in-Some.ensures in
+loop-at-smaller-in-Some c = let f : Found c.args.names.pool.now c.args.names.table.now c.args.s.now c.loop-at.at c.in-Some.e = found _ _ _ _ _ c.in-Some.ensures in
     omega (arith, f.moves, f.within)
 
 pub loop-at-preserved-in-Some : goal.loop-at-preserved-in-Some
-loop-at-preserved-in-Some c = let f : Found c.args.pool.now c.args.table.now c.args.s.now c.loop-at.at c.in-Some.e = found _ _ _ _ _ c.in-Some.ensures in
+loop-at-preserved-in-Some c = let f : Found c.args.names.pool.now c.args.names.table.now c.args.s.now c.loop-at.at c.in-Some.e = found _ _ _ _ _ c.in-Some.ensures in
     let words32 : Words32 c.args.s.now = record { word = λ i. (c.type_inv.s i).fits } in
     let a = c.args in
     let l = c.loop-at in
@@ -71,7 +68,7 @@ loop-at-preserved-in-Some c = let f : Found c.args.pool.now c.args.table.now c.a
       omega (arith, f.moves, l.invariant.2),
       p.auto.dst ∙ l.invariant.3,
       l.invariant.4,
-      left-sound a.pool.now a.table.now a.s.now (words32) a.kept.now a.skipped.now l.kept l.skipped l.at l.k l.m
+      left-sound a.names.pool.now a.names.table.now a.s.now (words32) a.kept.now a.skipped.now l.kept l.skipped l.at l.k l.m
           (omega arith) c.in-Some.e f.con f.good _ p.ensures l.invariant.5,
     )
 
@@ -79,10 +76,10 @@ pub overflow_cast-at : goal.overflow_cast-at
 overflow_cast-at c = omega (arith, c.loop-at.invariant.1)
 
 pub overflow_add-m : goal.overflow_add-m
-overflow_add-m c = omega (arith, c.loop-at.invariant.1, c.loop-at.invariant.2, c.requires.s_len_bound)
+overflow_add-m c = omega (arith, c.loop-at.invariant.1, c.loop-at.invariant.2, c.requires)
 
 pub overflow_add-at : goal.overflow_add-at
-overflow_add-at c = omega (arith, c.loop-at.invariant.1, c.requires.s_len_bound)
+overflow_add-at c = omega (arith, c.loop-at.invariant.1, c.requires)
 
 pub loop-at-preserved : goal.loop-at-preserved
 loop-at-preserved c = let words32 : Words32 c.args.s.now = record { word = λ i. (c.type_inv.s i).fits } in
@@ -95,7 +92,7 @@ loop-at-preserved c = let words32 : Words32 c.args.s.now = record { word = λ i.
       omega (arith, l.invariant.2),
       l.invariant.3,
       p.auto.dst ∙ l.invariant.4,
-      left-lost a.pool.now a.table.now a.s.now (words32) a.kept.now a.skipped.now l.kept l.skipped l.at l.k l.m
+      left-lost a.names.pool.now a.names.table.now a.s.now (words32) a.kept.now a.skipped.now l.kept l.skipped l.at l.k l.m
           (omega arith) u _ p.ensures l.invariant.5,
     )
 
@@ -108,5 +105,5 @@ shape_of-skipped c = c.loop-at.invariant.4
 pub returns : goal.returns
 returns c = let words32 : Words32 c.args.s.now = record { word = λ i. (c.type_inv.s i).fits } in
     let l = c.loop-at in
-    left-done c.args.pool.now c.args.table.now c.args.s.now (words32) c.args.kept.now c.args.skipped.now l.kept l.skipped l.at l.k l.m
-    (omega arith) l.invariant.5 _ refl refl (omega (arith, l.invariant.1, l.invariant.2, c.requires.s_len_bound))
+    left-done c.args.names.pool.now c.args.names.table.now c.args.s.now (words32) c.args.kept.now c.args.skipped.now l.kept l.skipped l.at l.k l.m
+    (omega arith) l.invariant.5 _ refl refl (omega (arith, l.invariant.1, l.invariant.2, c.requires))

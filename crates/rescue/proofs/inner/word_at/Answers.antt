@@ -1,5 +1,5 @@
 -- `inner::word_at` meets its contract.
-use Rattle.rescue.specs.Steps.{word-is}
+use Rattle.rescue.proofs.Steps.{word-is}
 use Rattle.rescue.proofs.inner.word_at.Goals as goal
 
 pub returns : goal.returns

@@ -1,4 +1,4 @@
-use Rattle.rescue.specs.Outcome.{handled}
+use Rattle.rescue.proofs.Outcome.{handled}
 use Rattle.rescue.proofs.theorems.every_file_is_answered.Goals as goal
 
 pub returns : goal.returns

@@ -1,4 +1,4 @@
-use Rattle.rescue.specs.Promise.{every-record, all-counted, named}
+use Rattle.rescue.proofs.Promise.{every-record, all-counted, named}
 use Rattle.rescue.proofs.theorems.every_record_is_accounted_for.Goals as goal
 
 pub returns : goal.returns

@@ -1,4 +1,4 @@
-use Rattle.rescue.specs.Outcome.{good-outcome}
+use Rattle.rescue.proofs.Outcome.{good-outcome}
 use Rattle.rescue.proofs.theorems.good_file_stays.Goals as goal
 
 pub returns : goal.returns

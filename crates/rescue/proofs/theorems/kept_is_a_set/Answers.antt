@@ -1,6 +1,6 @@
-use Rattle.rescue.specs.Promise.{kept-well}
-use Rattle.rescue.specs.Outcome.{kept-passes, kept-solved}
-use Rattle.rescue.specs.NeverOne.{never-1}
+use Rattle.rescue.proofs.Promise.{kept-well}
+use Rattle.rescue.proofs.Outcome.{kept-passes, kept-solved}
+use Rattle.rescue.proofs.NeverOne.{never-1}
 use Rattle.rescue.proofs.theorems.kept_is_a_set.Goals as goal
 
 pub returns : goal.returns

@@ -1,4 +1,4 @@
-use Rattle.rescue.specs.Determined.{rescue-determined}
+use Rattle.rescue.proofs.Determined.{rescue-determined}
 use Rattle.rescue.proofs.theorems.rescue_is_determined.Goals as goal
 
 pub returns : goal.returns

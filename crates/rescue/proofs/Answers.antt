@@ -16,7 +16,7 @@ use Rattle.laws.specs.NameTable.{Good}
 use Rattle.laws.specs.Size.{words-length}
 use Rattle.rules.specs.Rescue.{Piece, words_in, piecesIn, keptIn, placesIn, rescueGiven, rescueCall}
 use Rattle.rescue.specs.Told.{rescuedAs, keptBytes, Walked, Noted, Took}
-use Rattle.rescue.specs.Steps.{bytes-length, over-is, torn-behind, torn-few}
+use Rattle.rescue.proofs.Steps.{bytes-length, over-is, torn-behind, torn-few}
 use Rattle.rescue.specs.declared.Counts.{Counts}
 
 -- what was filled from the front stands there

@@ -8,24 +8,8 @@ use Rattle.std.proofs.Math.ListN.{get_or-eq_default}
 use Rattle.std.proofs.lemmas.List.{take-set-le, drop-set-add}
 use Rattle.rules.specs.Offices.{namesOne}
 use Rattle.rules.specs.Writing.{kindIn}
+use Rattle.compaction.specs.Told.{marks, Noted, Numbered}
 use Rattle.rules.specs.Compaction.{occurs, keeps, oneIf, newNumber, renumberIf, renumbered}
-
-abbrev pub marks : List Bool → ℕ → Bool
-marks m i = get_or m i false
-
--- one name more is marked, if it is one and held
-pub record Noted (m m' : List Bool) (n : ℕ) (named : Bool) (a : ℕ) : Type 0 where
-  pub long : length m' ≡ length m
-  pub is : (i : ℕ) → marks m' i ≡ (marks m i || (ltb i n && (named && eqb a i)))
-
-pub record Marked (m m' : List Bool) (n : ℕ) (ws : List ℕ) : Type 0 where
-  pub long : length m' ≡ length m
-  pub is : (i : ℕ) → marks m' i ≡ (marks m i || keeps n ws i)
-
--- the numbers below n have their new numbers here
-pub record Numbered (p : ℕ → Bool) (to : List ℕ) (n : ℕ) : Type 0 where
-  pub long : length to ≡ 256
-  pub is : (i : ℕ) → i < n → get_or to i 0 ≡ newNumber p i
 
 -- ══ The next record ══
 

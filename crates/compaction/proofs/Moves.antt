@@ -12,13 +12,8 @@ use Rattle.rules.specs.Base.{collect}
 use Rattle.rules.specs.Calls.{over}
 use Rattle.laws.specs.NameTable.{Good, good-laid, placed, part_of, part_length, names-step, names-end, start_at, start_is, endsOf, lengths-within, lengths-drop, used-is, used-within, ends-are, count-is}
 use Rattle.records.specs.Stores.{sets-append, sets-before}
+use Rattle.compaction.specs.Told.{Squeezed}
 use Rattle.rules.specs.Compaction.{consIf, keptFrom, joined, endsFrom, poolOf, endsOver}
-
--- what is left of pool and table when the names p are kept, and how many these are
-pub record Squeezed (p : ℕ → Bool) (pool table pool' table' : List ℕ) (r : ℕ) : Type 0 where
-  pub many : r ≡ length (keptFrom p 0 (names_of (table_of pool table)))
-  pub bytes : pool' ≡ poolOf (keptFrom p 0 (names_of (table_of pool table))) (used 0 (held (table_of pool table))) pool
-  pub ends : table' ≡ endsOver (keptFrom p 0 (names_of (table_of pool table))) (table_of pool table).count table
 
 -- ══ Bytes that are set to 0 ══
 

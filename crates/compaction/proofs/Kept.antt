@@ -15,7 +15,7 @@ use Rattle.rules.specs.Names.{Bytes, table_of, names_of, held, used, cut, length
 use Rattle.laws.specs.Lists.{Every, and_left, and_right}
 use Rattle.laws.specs.NameTable.{Good, good-laid, good-is, good-distinct, length-names, endsOf, ends-are, count-is, lengths-step, lengths-within, used-is, used-within}
 use Rattle.rules.specs.Compaction.{oneIf, newNumber, consIf, keptFrom, joined, endsFrom, poolOf, endsOver}
-use Rattle.compaction.specs.Moves.{ends-many}
+use Rattle.compaction.proofs.Moves.{ends-many}
 
 pool-front : (pool table : List ℕ) → (table_of pool table).pool ≡ take 8192 pool
 unfolding table_of

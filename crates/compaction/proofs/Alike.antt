@@ -10,8 +10,8 @@ use Rattle.rules.specs.Offices.{named, Word, number, name, nameNo, namesOne, wor
 use Rattle.rules.specs.Writing.{rec, kindIn}
 use Rattle.laws.specs.NameTable.{Good, good-laid, length-names, held-is}
 use Rattle.rules.specs.Compaction.{occurs, keeps, newNumber, renumberIf, renumbered, keptFrom}
-use Rattle.compaction.specs.HeldNames.{HeldRec, HeldWords}
-use Rattle.compaction.specs.Kept.{kept-get, after-names, after-good, poolAfter, tableAfter}
+use Rattle.compaction.proofs.HeldNames.{HeldRec, HeldWords}
+use Rattle.compaction.proofs.Kept.{kept-get, after-names, after-good, poolAfter, tableAfter}
 
 name-held : (t : Table) (i : ℕ) → is_held t i ≡ true → nameNo t i ≡ named (get_or (names_of t) i [])
 unfolding nameNo

@@ -19,9 +19,9 @@ use Rattle.rules.specs.Solving.{Answer, accepted, remaining, stopped, finished, 
 use Rattle.rules.specs.Calls.{lent, lentResult, lentWork, apart, refusedAfter, solvedOf, solvedSet, solveCall}
 use Rattle.rules.specs.Rescue.{words_in, piecesIn, rescueGiven}
 use Rattle.rescue.specs.Told.{keptBytes}
-use Rattle.rescue.specs.Bytes.{Bytes}
-use Rattle.rescue.specs.Promise.{consIn}
-use Rattle.rescue.specs.Outcome.{kept-solved}
+use Rattle.rescue.specs.Told.{Bytes}
+use Rattle.rescue.specs.Told.{consIn}
+use Rattle.rescue.proofs.Outcome.{kept-solved}
 
 -- where it refuses, the number is over 1
 pub record Over1 {A : Type 0} (m : Got A) : Type 0 where

@@ -18,13 +18,8 @@ use Rattle.laws.specs.NameTable.{Good}
 use Rattle.records.specs.Found.{Words32}
 use Rattle.records.specs.Good.{Chained, goodCon, GoodCon}
 use Rattle.records.specs.Given.{list-told, con-reader}
+use Rattle.compaction.specs.Told.{metSet, metSets}
 use Rattle.rules.specs.Compaction.{eachGiven, compactChecks}
-
-abbrev pub metSet : Table → List ℕ → Got (Unit {0})
-metSet t ws = setGiven t ws >> got tt
-
-abbrev pub metSets : Table → List ℕ → List ℕ → Got (Unit {0})
-metSets t lengths ws = need (eqb (sum_of (λ n. n) lengths * 4) (length ws)) 1 >> eachGiven t (cutSets lengths ws)
 
 -- ══ Few and short sets: 8 ══
 

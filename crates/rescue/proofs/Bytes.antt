@@ -5,10 +5,8 @@ use Rattle.rules.specs.Writing.{words}
 use Rattle.laws.specs.Lists.{Every}
 use Rattle.laws.specs.Written.{Small}
 use Rattle.records.specs.Found.{Words32}
+use Rattle.rescue.specs.Told.{Bytes}
 use Rattle.rules.specs.Rescue.{wordFrom, words_in, recordsIn, bytes_of}
-
-abbrev pub Bytes : List ℕ → Type 0
-Bytes bs = Every (λ b. b < 256) bs
 
 abbrev pub Words : List ℕ → Type 0
 Words ws = Every (λ w. w < 4_294_967_296) ws

@@ -1,4 +1,4 @@
--- What W-212 promises: kept and skipped account for every record, in order; what is kept is a well formed set; a good file comes out the same, with an
+-- What is promised of a rescue: kept and skipped account for every record, in order; what is kept is a well formed set; a good file comes out the same, with an
 -- empty list; rescuing what was rescued changes nothing; every byte string is handled.
 use Rattle.std.specs.Prelude.{◌≡◌, Bool, ◌&&◌, ltb, length}
 use Rattle.std.proofs.Math.Path.{refl, sym, ap, subst}
@@ -27,20 +27,9 @@ use Rattle.records.specs.Places.{recAt, recs-length, from-none, from_some}
 use Rattle.records.specs.Views.{recs, from}
 use Rattle.records.specs.Whole.{set_is}
 use Rattle.rules.specs.Rescue.{words_in, recordsIn, bytes_of, Piece, sound, lost, startsHere, pieces, piecesIn, keptIn, skippedFrom, tornIn, placesIn}
-use Rattle.rescue.specs.Told.{keptBytes}
-use Rattle.rescue.specs.Steps.{words-in-length, bytes-length, records-are, pieces-sound, pieces_end}
-use Rattle.rescue.specs.Bytes.{Bytes, Words, words-32, bytes-words, bytes-bytes, words-records, records-back, words_back, bytes_back}
-
--- the records of a piece, as they stand in the file
-abbrev pub recordsOf : Piece → List Rec
-recordsOf (sound c) = writeCon c
-recordsOf (lost r) = r ∷ []
-
--- the constraints among the pieces
-abbrev pub consIn : List Piece → List (Con ℕ)
-consIn [] = []
-consIn (sound c ∷ ps) = c ∷ consIn ps
-consIn (lost r ∷ ps) = consIn ps
+use Rattle.rescue.specs.Told.{keptBytes, Bytes, recordsOf, consIn}
+use Rattle.rescue.proofs.Steps.{words-in-length, bytes-length, records-are, pieces-sound, pieces_end}
+use Rattle.rescue.proofs.Bytes.{Words, words-32, bytes-words, bytes-bytes, words-records, records-back, words_back, bytes_back}
 
 -- ══ Account of every record ══
 

@@ -4,8 +4,8 @@ use Rattle.std.proofs.Common.{ap, ◌∙◌}
 use Rattle.rules.specs.Base.{got, refused}
 use Rattle.laws.specs.NameTable.{count-is}
 use Rattle.rules.specs.Compaction.{keeps, renumbered, squeezed, compactIf, compactChecks, compactCall}
-use Rattle.compaction.specs.Marks.{marks, Marked}
-use Rattle.compaction.specs.Moves.{Squeezed}
+use Rattle.compaction.specs.Told.{marks, Marked}
+use Rattle.compaction.specs.Told.{Squeezed}
 use Rattle.compaction.specs.Told.{compactedAs}
 
 unmarked : (n i : ℕ) → marks (replicate n false) i ≡ false

@@ -1,4 +1,4 @@
--- W-212 of the call itself: every byte string within the limits is answered, no test of a set answers 1 to what is kept, and a good file comes out the same.
+-- Of the call itself: every byte string within the limits is answered, no test of a set answers 1 to what is kept, and a good file comes out the same.
 use Rattle.std.specs.Prelude.{◌≡◌, List, ℕ, ◌/◌, ◌%◌, ◌≤◌}
 use Rattle.std.proofs.Math.Path.{ap}
 use Rattle.std.proofs.Common.{arith}
@@ -14,10 +14,11 @@ use Rattle.laws.specs.NameTable.{Good}
 use Rattle.laws.specs.Size.{words-length}
 use Rattle.rules.specs.Rescue.{words_in, piecesIn, keptIn, placesIn, rescueGiven, rescueCall}
 use Rattle.rescue.specs.Told.{keptBytes}
-use Rattle.rescue.specs.Bytes.{Bytes}
-use Rattle.rescue.specs.Answers.{given-good}
-use Rattle.rescue.specs.Promise.{consIn, all-counted, kept_read, kept-well, good-same}
-use Rattle.rescue.specs.Steps.{bytes-length}
+use Rattle.rescue.specs.Told.{Bytes}
+use Rattle.rescue.proofs.Answers.{given-good}
+use Rattle.rescue.specs.Told.{consIn}
+use Rattle.rescue.proofs.Promise.{all-counted, kept_read, kept-well, good-same}
+use Rattle.rescue.proofs.Steps.{bytes-length}
 
 module _ (pool table file : List ℕ) where
   -- whatever the bytes are

@@ -1,28 +1,28 @@
 -- What compaction promises, where it isn't refused.
-use Rattle.std.specs.Prelude.{◌≡◌, Bool, true, false, ◌&&◌, ◌||◌, eqb, length, drop, set}
+use Rattle.std.specs.Prelude.{◌≡◌, Bool, true, false, ◌&&◌, ◌||◌, eqb, length, drop}
 use Rattle.std.proofs.Math.Path.{refl, ap₂}
 use Rattle.std.proofs.Common.{sym, ap, ◌∙◌, arith}
 use Rattle.std.proofs.Math.Bool.{or-true}
-use mathlib.Core.List.{List, [], ◌∷◌, ◌++◌, map}
-use Prim.Native.Nat.{ℕ, zero, suc, ◌+◌, ◌*◌, ◌<◌}
+use mathlib.Core.List.{List, [], ◌∷◌, map}
+use Prim.Native.Nat.{ℕ, zero, suc, ◌*◌, ◌<◌}
 use Rattle.std.proofs.Math.ListN.{take}
 use Rattle.rules.specs.Base.{Got, got, refused, ◌>>◌}
 use Rattle.rules.specs.Batches.{cutSets}
 use Rattle.rules.specs.Calls.{setGiven}
-use Rattle.rules.specs.Names.{Bytes, table_of, names_of, tableGiven, held, used, Entered, enterNew}
-use Rattle.rules.specs.Offices.{namesOne, ReadAlike, CallsAlike}
+use Rattle.rules.specs.Names.{Bytes, table_of, names_of, held, used, Entered, enterNew}
+use Rattle.rules.specs.Offices.{namesOne, ReadAlike}
 use Rattle.rules.specs.Trees.{Con}
 use Rattle.rules.specs.Writing.{kindIn}
-use Rattle.rules.specs.declared.Was.TheVariants.{New}
 use Rattle.laws.specs.Lists.{Every, clash}
 use Rattle.laws.specs.NameTable.{Good, good-given, good-laid, length-names, count-is}
 use Rattle.laws.specs.ReadLists.{Words}
 use Rattle.offices.proofs.Offices.{numbering}
-use Rattle.rules.specs.Compaction.{Compacted, occurs, keeps, renumbered, keptFrom, joined, eachGiven, compactChecks, compactCall, compactIf, squeezed}
-use Rattle.compaction.specs.Checks.{checks-good, checks-each}
-use Rattle.compaction.specs.HeldNames.{set-held}
-use Rattle.compaction.specs.Kept.{after-names, after-good, after-used, poolAfter, tableAfter}
-use Rattle.compaction.specs.Alike.{alike, kept-words}
+use Rattle.rules.specs.Compaction.{occurs, keeps, renumbered, joined, eachGiven, compactChecks, compactCall, compactIf, squeezed}
+use Rattle.compaction.specs.Theorems.{goingOn, Promised}
+use Rattle.compaction.proofs.Checks.{checks-good, checks-each}
+use Rattle.compaction.proofs.HeldNames.{set-held}
+use Rattle.compaction.proofs.Kept.{after-names, after-good, after-used, poolAfter, tableAfter}
+use Rattle.compaction.proofs.Alike.{alike, kept-words}
 
 -- ══ Sets are cut at whole records ══
 
@@ -121,31 +121,9 @@ module _ {pool table : List ℕ} (g : Good pool table) (whole : List ℕ) where
 
 -- ══ The promise ══
 
--- a name entered under the number n, at the pool byte `free`
-abbrev pub goingOn : List ℕ → List ℕ → Bytes → ℕ → ℕ → Entered
-goingOn pool table name n free = record {
-  answer = got (n, New);
-  pool = take free pool ++ name ++ drop (free + length name) pool;
-  table = set (set table 0 (suc n)) (suc n) (free + length name);
-}
-
 entered-next : {pool table : List ℕ} (g : Good pool table) (name : Bytes) (free : ℕ) → used 0 (held (table_of pool table)) ≡ free → enterNew pool table name ≡ goingOn pool table name (length (names_of (table_of pool table))) free
 unfolding enterNew
 entered-next {pool} {table} g name free e = ap₂ {C = Entered} (goingOn pool table name) (count-is pool table ∙ sym (length-names (good-laid g))) e
-
--- the outcome r of compacting words over pool and table
-pub record Promised (pool table words lengths : List ℕ) (r : Compacted) : Type 0 where
-  -- the names that occur are kept, each once and in the old order, and no others
-  pub names : names_of (table_of r.pool r.table) ≡ keptFrom (keeps (table_of pool table).count words) 0 (names_of (table_of pool table))
-  pub many : r.answer ≡ got (length (names_of (table_of r.pool r.table)))
-  pub good : tableGiven r.pool r.table ≡ got tt
-  -- each set reads alike before and after
-  pub cuts : cutSets lengths r.sets ≡ map (renumbered (keeps (table_of pool table).count words)) (cutSets lengths words)
-  pub sets : Every (λ s. ReadAlike (table_of pool table) (table_of r.pool r.table) s (renumbered (keeps (table_of pool table).count words) s)) (cutSets lengths words)
-  -- so every call answers alike
-  pub calls : CallsAlike pool table r.pool r.table
-  -- entering goes on where the kept names end, at the first freed byte, with the next number
-  pub next : (name : Bytes) → enterNew r.pool r.table name ≡ goingOn r.pool r.table name (length (names_of (table_of r.pool r.table))) (length (joined (names_of (table_of r.pool r.table))))
 
 pub promised : (pool table words lengths : List ℕ) → Words words → compactChecks pool table words lengths ≡ got tt → Promised pool table words lengths (compactCall pool table words lengths)
 unfolding compactCall compactIf squeezed

@@ -19,11 +19,11 @@ use Rattle.laws.specs.NameTable.{Good, good-laid, length-names, count-is, held-i
 use Rattle.laws.specs.ReadLists.{Words}
 use Rattle.offices.proofs.Given.{set_given}
 use Rattle.rules.specs.Compaction.{Compacted, oneIf, occurs, keeps, newNumber, renumberIf, renumbered, consIf, keptFrom, joined, endsFrom, poolOf, endsOver, eachGiven, compactChecks, compactCall, compactIf, squeezed}
-use Rattle.compaction.specs.Checks.{checks-good, checks-each, checks-row, checks-met}
-use Rattle.compaction.specs.HeldNames.{HeldWords, set-held}
-use Rattle.compaction.specs.Kept.{rank, new-rank, kept-get, kept, after-names, after-good, after-used, poolAfter, tableAfter}
-use Rattle.compaction.specs.Alike.{KeptWords, kept-words}
-use Rattle.compaction.specs.Promise.{cut-renumbered, sets-alike, four-more, every_take, every_drop, both-given}
+use Rattle.compaction.proofs.Checks.{checks-good, checks-each, checks-row, checks-met}
+use Rattle.compaction.proofs.HeldNames.{HeldWords, set-held}
+use Rattle.compaction.proofs.Kept.{rank, new-rank, kept-get, kept, after-names, after-good, after-used, poolAfter, tableAfter}
+use Rattle.compaction.proofs.Alike.{KeptWords, kept-words}
+use Rattle.compaction.proofs.Promise.{cut-renumbered, sets-alike, four-more, every_take, every_drop, both-given}
 
 -- ══ Where every name is kept, nothing moves ══
 

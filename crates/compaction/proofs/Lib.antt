@@ -1,0 +1,10 @@
+mod Marks
+mod Moves
+mod Checks
+mod Called
+mod Determined
+mod Kept
+mod HeldNames
+mod Alike
+mod Promise
+mod Twice

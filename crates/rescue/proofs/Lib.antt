@@ -1,0 +1,7 @@
+mod Steps
+mod Answers
+mod Bytes
+mod Promise
+mod Outcome
+mod NeverOne
+mod Determined
