@@ -1,12 +1,12 @@
 -- The second engine's answer is the solver's without the rounds, on every set that fits the engine, whatever the
 -- counts. The proofs for trees stand in the other files.
 use Rattle.std.proofs.Math.Path.{◌≡◌, refl, ap, sym, subst}
-use Rattle.std.proofs.Common.{ap₂, ◌∙◌, arith, leb-true, ltb-true}
-use Rattle.std.specs.Prelude.{Bool, false, ◌&&◌, ◌⊎◌, ℕ, ◌<◌, ◌≤◌, length, get_or}
+use Rattle.std.proofs.Common.{ap₂, ◌∙◌, arith}
+use Rattle.std.specs.Prelude.{Bool, false, ◌&&◌, ◌⊎◌, ℕ, length}
 use Rattle.std.proofs.Math.Bool.{true}
 use Rattle.std.proofs.Math.Logic.{inl, inr}
 use Rattle.std.proofs.Math.Option.{Option, none, some}
-use mathlib.Core.List.{List, [], ◌∷◌, map}
+use mathlib.Core.List.{List, [], ◌∷◌, map, append-nil}
 use Rattle.std.proofs.Math.Dec.{leb}
 use Rattle.rules.specs.Base.{Got, got, refused, ◌>>=◌, ◌>>◌, need, orRefuse, bounded, all, each, collect, sum_of}
 use Rattle.rules.specs.Trees.{Product, Names, Con, equal, isDim, is_scalar, hasField, opensCon, sizeCon, sizeBinding}
@@ -34,11 +34,10 @@ use Rattle.rules.specs.Calls.{
   unsolved,
   refusedAfter,
 }
-use Rattle.laws.specs.Order.{Tells}
 use Rattle.laws.specs.ByteOrder.{numbered-lawful, atom-lawful}
-use Rattle.laws.specs.NameTable.{Good, count-is, held_tells}
 use Rattle.laws.specs.Checks.{need-passed}
-use Rattle.laws.specs.Lists.{Every, and_left, and_right, bound-step, each-parts, got≢refused}
+use Rattle.laws.specs.Given.{held-apart, lent-long, set-read}
+use Rattle.laws.specs.Lists.{Every, and_left, and_right, bound-step, bracket, same_after, each-parts, got≢refused}
 use Rattle.rules.specs.Elimination.{
   scalarOf,
   fits,
@@ -59,10 +58,10 @@ use Rattle.rules.specs.Elimination.{
   refusedWith,
 }
 use Rattle.agreement.specs.Claims.{Agree, Unfit, Alike, refuse-alike, accept-alike, remain-alike}
-use Rattle.agreement.proofs.Alike.{bracket, same_after}
-use Rattle.agreement.proofs.Runs.{answered, append-nil}
+use Rattle.agreement.proofs.Runs.{answered}
 use Rattle.agreement.proofs.Laid.{as-solved}
-use Rattle.elimination.specs.Sevens.{Refuses, given, next, refusing, Seven, eliminated-seven}
+use Rattle.laws.specs.Refusing.{Refuses, given, next, refusing}
+use Rattle.elimination.specs.Sevens.{Seven, eliminated-seven}
 
 -- ══ What the checks at entry say ══
 
@@ -107,28 +106,6 @@ unfolding all goodCon
 products-good ν held [] h = tt
 products-good ν held (p ∷ ps) h = (and_left (goodProduct ν held 0 p) _ h, products-good ν held ps (and_right (goodProduct ν held 0 p) _ h))
 
--- the order of the numbers of a table that passed its checks tells them apart
-pub held-apart : (pool table : List ℕ) → Good pool table → Tells (λ n. is_held (table_of pool table) n ≡ true) (numbersOf (table_of pool table)).order
-held-apart pool table g = record { same = λ i j h k. (held_tells g).same i j (below i h) (below j k) }
-  where
-    below : (i : ℕ) → is_held (table_of pool table) i ≡ true → i < get_or table 0 0
-    below i h = rw (count-is pool table) at (ltb-true i (table_of pool table).count h)
-
-lent-long : (pool table : List ℕ) (u : Unit {0}) → lentTable pool table ≡ got u → (8192 ≤ length pool) × (257 ≤ length table)
-unfolding lentTable
-lent-long pool table u e =
-    let h = need-passed _ 10 e in
-    (leb-true 8192 (length pool) (and_left (leb 8192 (length pool)) _ h), leb-true 257 (length table) (and_right (leb 8192 (length pool)) _ h))
-
-pub set-good : (t : Table) (ws : List ℕ) (cs : List (Con ℕ)) → setGiven t ws ≡ got cs → all (goodCon (numbersOf t) (is_held t) 0) cs ≡ true
-unfolding setGiven listGiven
-set-good t ws cs e =
-    let a = bound-step (orRefuse 1 (records ws)) _ cs e in
-    let b = bound-step (orRefuse 1 (read_all readCon (length a.0) a.0)) _ cs a.2 in
-    let c = bound-step (need (all (goodCon (numbersOf t) (is_held t) 0) b.0) 1) _ cs b.2 in
-    let z : b.0 ≡ cs = cc c.2 in
-    subst (λ (l : List (Con ℕ)). all (goodCon (numbersOf t) (is_held t) 0) l ≡ true) z (need-passed (all (goodCon (numbersOf t) (is_held t) 0) b.0) 1 c.1)
-
 module _ (pool table set : List ℕ) where
   abbrev t : Table
   t = table_of pool table
@@ -163,7 +140,7 @@ module _ (pool table set : List ℕ) where
         let p : e.0 ≡ ps = cc f.2 in
         let l = lent-long pool table u long in
         let is : cs ≡ map is_scalar ps = scalars cs ps (e.1 ∙ ap got p) in
-        let good = products-good ν (is_held t) ps (subst (λ (x : List (Con ℕ)). all (goodCon ν (is_held t) 0) x ≡ true) (same ∙ is) (set-good t set c.0 c.1)) in
+        let good = products-good ν (is_held t) ps (subst (λ (x : List (Con ℕ)). all (goodCon ν (is_held t) 0) x ≡ true) (same ∙ is) (set-read t set c.0 c.1).0) in
         let tells = held-apart pool table (record { bytes = l.0; words = l.1; good = need-passed (tableGood t) 1 b.1 }) in
         let few : fits ν ps ≡ true = subst (λ (x : List (Product ℕ)). fits ν x ≡ true) p (need-passed (fits ν e.0) 8 f.1) in
         let r = as-solved ν (atom-lawful ν (numbered-lawful _)) (is_held t) tells ps good few in

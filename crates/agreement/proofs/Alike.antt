@@ -62,11 +62,3 @@ unfolding each
 each-side f g h end = both (end, refl)
 each-side f g h (beside {a} {b} {as'} {bs} r s) = onward _ _ (h a b r) (λ c d t. onward _ _ (each-side f g h s) (λ cs ds u. both (beside t u.0, ap suc u.1)))
 
--- two steps after one another, bracketed to the right
-pub bracket : {A B C : Type 0} (m : Got A) (f : A → Got B) (g : B → Got C) → ((m >>= f) >>= g) ≡ (m >>= λ a. f a >>= g)
-bracket (got a) f g = refl
-bracket (refused n) f g = refl
-
-pub same_after : {A B : Type 0} (m : Got A) (f g : A → Got B) → ((a : A) → f a ≡ g a) → (m >>= f) ≡ (m >>= g)
-same_after (got a) f g h = h a
-same_after (refused n) f g h = refl

@@ -15,7 +15,9 @@ use Rattle.rules.specs.Trees.{Open, var, quant, par, Atom, free, base, ◌↑◌
 use Rattle.rules.specs.Products.{put, just, single, inverse, mergeOne, merge, multiply, divide, raise}
 use Rattle.rules.specs.Replacing.{Look, asProduct, replaceFactors, replaceProduct, replaceDim, replaceTy, bindings}
 use Rattle.rules.specs.Rounds.{bind, stuck, otherSide, trySatisfy}
-use Rattle.laws.specs.Lists.{Every}
+use Rattle.laws.specs.KeepsGood.{quotient-not-zero}
+use Rattle.laws.specs.Lists.{Every, bracket, same_after}
+use Rattle.laws.specs.Ranges.{good-lowest}
 use Rattle.laws.specs.Order.{Lawful, turned, self}
 use Rattle.laws.specs.Value.{together, its_own}
 use Rattle.laws.specs.Ranges.{nought-good, one-good, neg-good, sum-good, times-good, quotient-good}
@@ -24,8 +26,8 @@ use Rattle.laws.specs.SortedNames.{Rises}
 use Rattle.laws.specs.RuleCases.{single-is}
 use Rattle.laws.specs.Occurs.{one-bound}
 use Rattle.rules.specs.Elimination.{Row, solvedFor, timesRow, plusRow, putInRow, Fate, gone, stays, binds, atColumn, oneFurther, fate, factors, atomNames}
-use Rattle.agreement.proofs.Alike.{Alike, both, onward, one_more, other-more, same_step, other-is, other-there, bracket, same_after}
-use Rattle.agreement.proofs.Powers.{Good, zero_is, nought-times, times-nought, times-one, sum-nought, nought-sum, sum-neg, nought-quotient, quotient-not-zero}
+use Rattle.agreement.proofs.Alike.{Alike, both, onward, one_more, other-more, same_step, other-is, other-there}
+use Rattle.agreement.proofs.Powers.{Good, zero_is, nought-times, times-nought, times-one, sum-nought, nought-sum, sum-neg, nought-quotient}
 
 -- a power is 0, or it isn't
 by-power : (Q : Exp → Type 0) (e : Exp) → Good e → Q nought → (isZero e ≡ false → Q e) → Q e
@@ -386,7 +388,7 @@ module _ {N : Type 0} (ν : Names N) (law : Lawful (orderAtom ν)) where
       (rw (nought-quotient k g z) (one_more _ more (λ s q t. both (record { fit = (nought-good, t.fit); is = t.is }))))
       (λ y. rw (factors-kept a cols e r y, bracket (quotient bounded (neg e) k) (λ s. got (a ↑ s)) _)
       (same_step (quotient bounded (neg e) k) _ _ (together (quotient-good (neg e) k (neg-good e h.0) g) (its_own (quotient bounded (neg e) k)))
-      (λ s i. onward _ _ more (λ rs q t. both (record { fit = (i.0, t.fit); is = ap (a ↑ s ∷◌) t.is ∙ sym (factors-kept a cols s rs (quotient-not-zero e k s h.0 y g z i.1)) })))))
+      (λ s i. onward _ _ more (λ rs q t. both (record { fit = (i.0, t.fit); is = ap (a ↑ s ∷◌) t.is ∙ sym (factors-kept a cols s rs (quotient-not-zero e k s (good-lowest e h.0) (good-lowest k g) y i.1)) })))))
 
   -- a row's fate is what the solver does with its product
   pub data Does (cols : List (Atom N)) (r : Row) : Fate N → Type 0 where

@@ -3,7 +3,8 @@ use Rattle.std.specs.Prelude.{◌≡◌, true, get_or}
 use Rattle.std.proofs.Math.Path.{refl, ap, ap₂, sym}
 use Rattle.std.proofs.Common.{◌∙◌}
 use Rattle.std.proofs.Math.Option.{Option, none, some}
-use mathlib.Core.List.{List, [], ◌∷◌, ◌++◌, append_assoc, map}
+use mathlib.Core.List.{List, [], ◌∷◌, ◌++◌, append_assoc, append-nil, map}
+use Rattle.std.proofs.lemmas.List.{map-append}
 use Prim.Native.Nat.{ℕ, zero, suc, ◌+◌, ◌*◌, ◌≤◌, ◌<◌, max}
 use native.Mathlib.Omega.{arith}
 use Rattle.std.proofs.Math.ListN.{length}
@@ -14,7 +15,7 @@ use Rattle.rules.specs.Contents.{sort}
 use Rattle.rules.specs.Replacing.{Look, replaceCon, replaceBinding, bindings}
 use Rattle.rules.specs.Rounds.{Step, bind, stuck, State, trySatisfy, taken, sizeState, depthState, limited, firstStep, perform, performed, round}
 use Rattle.rules.specs.Solving.{Answer, accepted, remaining, stopped, boundOf, finished, finish, after, run}
-use Rattle.laws.specs.Lists.{Every, every_append}
+use Rattle.laws.specs.Lists.{Every, every_append, alone, bracket, same_after}
 use Rattle.laws.specs.Order.{Lawful}
 use Rattle.laws.specs.Sized.{sized-kept}
 use Rattle.rules.specs.Elimination.{
@@ -39,7 +40,7 @@ use Rattle.rules.specs.Elimination.{
   unsettled,
   settledBy,
 }
-use Rattle.agreement.proofs.Alike.{Alike, both, neither, onward, other-more, other-is, other-there, Side, end, beside, each-side, bracket, same_after}
+use Rattle.agreement.proofs.Alike.{Alike, both, neither, onward, other-more, other-is, other-there, Side, end, beside, each-side}
 use Rattle.agreement.proofs.Rows.{Fit, At, factors-few, untouched, Rising, product-row, dimension-row, Does, is-gone, is_stuck, is_bound, does}
 
 -- the solver's answer after k rounds, without bounds
@@ -47,18 +48,6 @@ unfoldable pub answered : {N : Type 0} → ℕ → Got (Settled N) → Answer N
 answered k (refused n) = stopped n k
 answered k (got (settled bs)) = accepted bs [] k
 answered k (got (unsettled cs)) = remaining cs k
-
-alone : {A : Type 0} (m : Got A) → (m >>= λ a. got a) ≡ m
-alone (got a) = refl
-alone (refused n) = refl
-
-map-append : {A B : Type 0} (f : A → B) (xs ys : List A) → map f (xs ++ ys) ≡ map f xs ++ map f ys
-map-append f [] ys = refl
-map-append f (x ∷ xs) ys = ap (f x ∷◌) (map-append f xs ys)
-
-pub append-nil : {A : Type 0} (xs : List A) → xs ++ [] ≡ xs
-append-nil [] = refl
-append-nil (x ∷ xs) = ap (x ∷◌) (append-nil xs)
 
 -- a step, with constraints in front of the others
 abbrev beyond : {N : Type 0} → List (Con N) → Option (Step N × List (Con N)) → Option (Step N × List (Con N))

@@ -8,6 +8,7 @@ use Rattle.rules.specs.Calls.{Written}
 use Rattle.lending.specs.Determined as lending
 use Rattle.rules.specs.Batches.{Batch, batchCall}
 use Rattle.rules.specs.Numbers.{refusalIn, number, batch}
+use Rattle.rules.specs.Refusals.{numberAnswer}
 use Rattle.batches.specs.Told.{batchAs}
 
 -- the answer alone
@@ -32,6 +33,6 @@ module _ (pool table sets lengths result answers work : List ℕ) where
   pub solve-all-determined : (p q : Result ℕ Refusal) (a b c d e f : List ℕ) → batchAs p a c e ≡ batchCall pool table sets lengths result answers work → batchAs q b d f ≡ batchCall pool table sets lengths result answers work → OneResult p q a b c d e f
   solve-all-determined p q a b c d e f h k = one-result p q a b c d e f (h ∙ sym k)
 
-  pub solve-all-numbered : (p : Result ℕ Refusal) (a c e : List ℕ) → batchAs p a c e ≡ batchCall pool table sets lengths result answers work → lending.numberAnswer p ≡ number (batch (batchCall pool table sets lengths result answers work))
+  pub solve-all-numbered : (p : Result ℕ Refusal) (a c e : List ℕ) → batchAs p a c e ≡ batchCall pool table sets lengths result answers work → numberAnswer p ≡ number (batch (batchCall pool table sets lengths result answers work))
   unfolding number
   solve-all-numbered p a c e h = lending.written-numbered (alone (batchAs p a c e)) p [] [] refl ∙ ap (λ (x : Batch). refusalIn x.answer) h

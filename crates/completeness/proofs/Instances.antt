@@ -39,7 +39,7 @@ use Rattle.laws.specs.ByteOrder.{numbered-lawful}
 use Rattle.laws.specs.NameTable.{Good}
 use Rattle.completeness.specs.Claims.{DimensionSet, AllChoices, Complete}
 use Rattle.completeness.proofs.Completeness.{all-choices, refused-then-none}
-use Rattle.completeness.proofs.Words.{held-apart}
+use Rattle.laws.specs.Given.{held-apart}
 use Rattle.completeness.proofs.Chosen.{at_part}
 
 abbrev same : Discrete ℕ

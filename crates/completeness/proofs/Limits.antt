@@ -1,11 +1,11 @@
 -- In a set of dimensions a round is refused with 7 or 8 alone: nothing but a dimension is ever bound, so 6 can't come.
 use Rattle.std.specs.Prelude.{◌≡◌, Bool, true, ◌⊎◌, ℕ}
 use Rattle.std.proofs.Math.Path.{refl}
-use Rattle.std.proofs.Common.{ap, ◌∙◌, sym, inl, inr}
+use Rattle.std.proofs.Common.{◌∙◌, sym, inl, inr}
 use Rattle.std.proofs.Math.Option.{Option, none, some}
 use mathlib.Core.List.Memᴰ
 use mathlib.Core.List.{List, [], ◌∷◌}
-use Rattle.rules.specs.Base.{Got, got, refused, ◌>>=◌, bounded, each}
+use Rattle.rules.specs.Base.{Got, got, refused, bounded, each}
 use Rattle.rules.specs.Exponents.{Exp, neg, inverted, times, timesInverse, quotient}
 use Rattle.rules.specs.Trees.{Open, var, quant, par, free, base, Factor, ◌↑◌, Product, Names, Ty, dim, Con, is_scalar, Binding, ◌≔◌, orderAtom}
 use Rattle.rules.specs.Products.{single}
@@ -37,25 +37,12 @@ use Rattle.laws.specs.Lists.{got≢refused, All, in_head}
 use Rattle.laws.specs.Exact.{OfLimits, Below, times_below, multiply-below, divide-below, raise-below, sized-below}
 use Rattle.laws.specs.ExactProducts.{multiply-exact, divide-exact, raise-exact}
 use Rattle.laws.specs.GoodProducts.{goodAtom}
+use Rattle.laws.specs.Refusing.{Refuses, given as fine, onward}
 use Rattle.laws.specs.Occurs.{one-bound}
 use Rattle.laws.specs.Turns.{Found, found}
 use Rattle.completeness.proofs.Shapes.{Shaped, scalar-of, equality-of, ShapedType}
 use Rattle.completeness.proofs.Moves.{move-shape}
 use Rattle.completeness.proofs.Rounds.{Kept, moved}
-
--- where it refuses, it is with a number of P
-pub record Refuses {A : Type 0} (P : ℕ → Type 0) (m : Got A) : Type 0 where
-  pub only : (n : ℕ) → m ≡ refused n → P n
-
-pub fine : {A : Type 0} {P : ℕ → Type 0} {a : A} → Refuses P (got a)
-fine = record { only = λ n e. absurd (got≢refused e) }
-
-pub onward : {A B : Type 0} {P : ℕ → Type 0} {m : Got A} {f : A → Got B} → Refuses P m → ((a : A) → m ≡ got a → Refuses P (f a)) → Refuses P (m >>= f)
-onward {P} {m} {f} h k = go m refl
-  where
-    go : (m' : Got _) → m ≡ m' → Refuses P (m' >>= f)
-    go (refused n) e = record { only = λ j i. let q : n ≡ j = cc in h.only j (e ∙ ap refused q) }
-    go (got a) e = k a e
 
 -- with 7 or 8
 abbrev pub Limited : {A : Type 0} → Got A → Type 0

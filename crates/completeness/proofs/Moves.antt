@@ -3,12 +3,12 @@ use Rattle.std.proofs.Math.Path.{◌≡◌, refl, ap, ap₂, sym}
 use Rattle.std.proofs.Common.{◌∙◌, arith}
 use Rattle.std.specs.Prelude.{Bool, true, false, ℕ, ◌<◌}
 use Rattle.std.proofs.Math.Logic.{inl, inr}
-use Rattle.std.proofs.Math.Option.{Option, none, some}
+use Rattle.std.proofs.Math.Option.{some}
 use mathlib.Core.List.Memᴰ
 use mathlib.Core.List.{[], ◌∷◌, Memᴰ}
 use Prim.Native.Nat.{Ordering}
 use Rattle.rules.specs.Base.{got, bounded, each, collect, sum_of}
-use Rattle.rules.specs.Exponents.{Exp, nought, isZero, neg, plus, mul, inverted}
+use Rattle.rules.specs.Exponents.{Exp, nought, neg, plus, mul, inverted}
 use Rattle.rules.specs.Trees.{
   Open,
   var,
@@ -38,12 +38,12 @@ use Rattle.rules.specs.Rounds.{Step, bind, split, done, stuck, otherSide}
 use Rattle.rules.specs.WellFormed.{atomOf, goodProduct, goodTy, goodCon}
 use Rattle.laws.specs.Order.{Lawful, Tells, self}
 use Rattle.laws.specs.Lists.{true≢false, and_left, and_right, All, all_nil, all_cons, in_head, Every, every-as}
-use Rattle.laws.specs.Fractions.{Lowest, neg-lowest, mul-in-lowest, neg-neg, inverted-lowest, inverted-none, mul-inverted, mul-assoc', mul-one'}
+use Rattle.laws.specs.Fractions.{Lowest, neg-lowest, mul-in-lowest, neg-neg, inverted-lowest, mul-inverted, mul-assoc', mul-one'}
 use Rattle.laws.specs.ExactProducts.{mergeE, divide-value}
 use Rattle.laws.specs.ExactSolve.{others_below}
 use Rattle.laws.specs.GoodProducts.{goodAtom, good-product, good-proper, divide-good}
 use Rattle.laws.specs.Evaluation.{rest-proper, other-raised}
-use Rattle.laws.specs.KeepsGood.{other-side-good}
+use Rattle.laws.specs.KeepsGood.{has-inverse, other-side-good}
 use Rattle.laws.specs.RuleCases.{
   Reads,
   Sides,
@@ -203,13 +203,6 @@ module _ {N : Type 0} (ν : Names N) (law : Lawful (orderAtom ν)) (held : N →
         rw (e, same) (f' (var x) in_head, λ o m. f' o (Memᴰ.tail m), λ m. each_opens (λ o. o ≡ var x → ⊥) p (every-as (alone x) p g.in_order.0) (var x) m refl)
 
 -- ══ Truth ══
-
-has-inverse : (k : Exp) → Lowest k → isZero k ≡ false → (i : Exp) × (inverted k ≡ some i)
-has-inverse k l z = go (inverted k) refl
-  where
-    go : (o : Option Exp) → inverted k ≡ o → (i : Exp) × (inverted k ≡ some i)
-    go none e = absurd (true≢false (sym (ap isZero (inverted-none k l e)) ∙ z))
-    go (some i) e = (i, e)
 
 cancel : (a b k i : Exp) → Lowest a → Lowest b → Lowest k → inverted k ≡ some i → mul a k ≡ mul b k → a ≡ b
 cancel a b k i la lb lk e h = sym (undone a la) ∙ ap (λ (x : Exp). mul x i) h ∙ undone b lb

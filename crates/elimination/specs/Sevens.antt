@@ -1,26 +1,11 @@
 -- Once a set was laid out, the engine refuses with 7 alone.
 use Rattle.std.specs.Prelude.{◌≡◌, refl, Bool, true, false, List, [], ◌∷◌, ◌++◌, map, ℕ, zero, suc, length, get_or, set}
-use Rattle.std.proofs.Common.{subst}
 use Rattle.std.proofs.Math.Option.{Option, none, some}
-use Rattle.rules.specs.Base.{Got, got, refused, ◌>>=◌, bounded, allow, each}
+use Rattle.rules.specs.Base.{Got, bounded, allow, each}
 use Rattle.rules.specs.Exponents.{Exp, nought, neg, plus, mul, in_range, inverted, sum, times, timesInverse, quotient}
 use Rattle.rules.specs.Trees.{Atom, Product, Names}
-use Rattle.laws.specs.Lists.{got≢refused}
+use Rattle.laws.specs.Refusing.{Refuses, given, next, refusing}
 use Rattle.rules.specs.Elimination.{Row, Value, ◌gets◌, solvedFor, timesRow, plusRow, putInRow, putInValue, Fate, gone, stays, binds, fate, turned, Reduced, eliminate, columns, row_of, eliminated}
-
--- all refusals are such
-pub record Refuses {A : Type 0} (P : ℕ → Type 0) (m : Got A) : Type 0 where
-  pub only : (n : ℕ) → m ≡ refused n → P n
-
-pub given : {A : Type 0} {P : ℕ → Type 0} {a : A} → Refuses P (got a)
-given = record { only = λ n e. absurd (got≢refused e) }
-
-pub next : {A B : Type 0} {P : ℕ → Type 0} (m : Got A) (f : A → Got B) → Refuses P m → ((a : A) → Refuses P (f a)) → Refuses P (m >>= f)
-next (got a) f h k = k a
-next (refused n) f h k = record { only = λ j e. h.only j (cc) }
-
-pub refusing : {A : Type 0} {P : ℕ → Type 0} {n : ℕ} → P n → Refuses {A = A} P (refused n)
-refusing {P = P} {n = n} p = record { only = λ j e. let z : n ≡ j = cc in subst P z p }
 
 abbrev pub Seven : {A : Type 0} → Got A → Type 0
 Seven m = Refuses (λ n. n ≡ 7) m

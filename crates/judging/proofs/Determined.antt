@@ -1,23 +1,17 @@
 -- The contract leaves no choice, and the answer has the number of its outcome.
-use Rattle.std.specs.Prelude.{◌≡◌, refl, List, ℕ, Bool, Result, Ok, Err}
+use Rattle.std.specs.Prelude.{◌≡◌, List, ℕ, Bool, Result}
 use Rattle.std.proofs.Common.{sym, ◌∙◌}
 use Rattle.std.proofs.Math.Path.{ap}
 use Rattle.rules.specs.Calls.{Judged}
 use Rattle.rules.specs.Numbers.{refusalIn, number}
-use Rattle.rules.specs.Refusals.{told}
 use Rattle.rules.specs.declared.Refusal.{Refusal}
-use Rattle.laws.specs.Numbers.{told-injective}
+use Rattle.laws.specs.Numbers.{told-injective, answer-in}
 use Rattle.judging.specs.Told.{judgedAs}
-use Rattle.judging.specs.Theorems.{OneResult, numberAnswer, JudgeDetermined, JudgeNumbered}
+use Rattle.judging.specs.Theorems.{OneResult, JudgeDetermined, JudgeNumbered}
 
 one-result : (a b : Result Bool Refusal) (work work' : List ℕ) → judgedAs a work ≡ judgedAs b work' → OneResult a b work work'
 one-result a b work work' e =
     record { answers = told-injective a b (ap (λ (j : Judged). j.answer) e); works = ap (λ (j : Judged). j.work) e }
-
-answer-in : (a : Result Bool Refusal) → numberAnswer a ≡ refusalIn (told a)
-unfolding refusalIn
-answer-in (Ok holds) = refl
-answer-in (Err r) = refl
 
 pub judge-determined : JudgeDetermined
 judge-determined pool table set entries types bounds work p q c d h k = one-result p q c d (h ∙ sym k)

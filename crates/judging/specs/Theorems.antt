@@ -1,8 +1,8 @@
 -- What the contract of the judge decides. The functions of src/theorems promise these statements; the proofs stand in proofs/Determined.
-use Rattle.std.specs.Prelude.{◌≡◌, List, ℕ, Bool, Result, Ok, Err}
+use Rattle.std.specs.Prelude.{◌≡◌, List, ℕ, Bool, Result}
 use Rattle.rules.specs.Calls.{Entry, judgeCall}
 use Rattle.rules.specs.Numbers.{number, judged}
-use Rattle.rules.specs.Refusals.{number_of}
+use Rattle.rules.specs.Refusals.{numberAnswer}
 use Rattle.rules.specs.declared.Refusal.{Refusal}
 use Rattle.judging.specs.Told.{judgedAs}
 
@@ -10,11 +10,6 @@ use Rattle.judging.specs.Told.{judgedAs}
 pub record OneResult (a b : Result Bool Refusal) (work work' : List ℕ) : Type 0 where
   pub answers : a ≡ b
   pub works : work ≡ work'
-
--- the number of an answer: 0, or that of the refusal
-abbrev pub numberAnswer : Result Bool Refusal → ℕ
-numberAnswer (Ok holds) = 0
-numberAnswer (Err r) = number_of r
 
 -- the contract of `judge` leaves no choice: two results that it allows coincide
 abbrev pub JudgeDetermined : Type 0

@@ -1,16 +1,16 @@
 -- The contracts leave no choice: two results that one of them allows coincide (`..-determined`). And each answer has the number of
 -- its outcome (`..-numbered`). This is the page of the calls that write records, too, whose answer is this crate's.
 use Rattle.rules.specs.declared.Refusal.{Refusal}
-use Rattle.std.specs.Prelude.{Result, Ok, Err, ◌≡◌, Bool, List, ℕ}
+use Rattle.std.specs.Prelude.{Result, ◌≡◌, Bool, List, ℕ}
 use Rattle.std.proofs.Math.Path.{refl, ap}
 use Rattle.std.proofs.Common.{sym, ◌∙◌}
 use Rattle.std.proofs.Math.Bool.{true, false}
 use Rattle.rules.specs.Base.{need}
 use Rattle.rules.specs.Calls.{lent, Written, replaceTypeCall, replaceSetCall}
 use Rattle.rules.specs.Numbers.{checked, written, refusalIn, number}
-use Rattle.rules.specs.Refusals.{told, number_of}
+use Rattle.rules.specs.Refusals.{number_of, numberAnswer}
 use Rattle.rules.specs.declared.Refusal.TheVariants.{ShortBuffer}
-use Rattle.laws.specs.Numbers.{told-injective}
+use Rattle.laws.specs.Numbers.{answer-in, told-injective}
 use Rattle.lending.specs.Told.{writtenAs}
 
 pub record OneResult (a b : Result ℕ Refusal) (result result' work work' : List ℕ) : Type 0 where
@@ -24,16 +24,6 @@ one-result a b result result' work work' e = record {
   results = ap (λ (w : Written). w.result) e;
   works = ap (λ (w : Written). w.work) e;
 }
-
--- the number of an answer: 0, or that of the refusal
-abbrev pub numberAnswer : Result ℕ Refusal → ℕ
-numberAnswer (Ok n) = 0
-numberAnswer (Err r) = number_of r
-
-answer-in : (a : Result ℕ Refusal) → numberAnswer a ≡ refusalIn (told a)
-unfolding refusalIn
-answer-in (Ok n) = refl
-answer-in (Err r) = refl
 
 -- of any call that writes records
 pub written-determined : (w : Written) (p q : Result ℕ Refusal) (a b c d : List ℕ) → writtenAs p a c ≡ w → writtenAs q b d ≡ w → OneResult p q a b c d

@@ -5,7 +5,8 @@ use Rattle.rules.specs.Lines.{checkLineCall}
 use Rattle.rules.specs.Numbers.{written, number}
 use Rattle.rules.specs.declared.Refusal.{Refusal}
 use Rattle.lending.specs.Told.{writtenAs}
-use Rattle.lending.specs.Determined.{OneResult, numberAnswer}
+use Rattle.lending.specs.Determined.{OneResult}
+use Rattle.rules.specs.Refusals.{numberAnswer}
 
 -- the contract of `check_line` leaves no choice: two results that it allows coincide, the answer and both buffers
 abbrev pub CheckLineDetermined : Type 0

@@ -1,24 +1,14 @@
 -- The contracts leave no choice: two results that one of them allows coincide (`..-determined`). And each answer has the number of
 -- its outcome (`..-numbered`).
-use Rattle.std.specs.Prelude.{◌≡◌, refl, Bool, List, ℕ, Result, Ok, Err}
+use Rattle.std.specs.Prelude.{◌≡◌, Bool, List, ℕ, Result}
 use Rattle.std.proofs.Math.Path.{ap}
 use Rattle.std.proofs.Common.{sym, ◌∙◌}
 use Rattle.rules.specs.Calls.{Listed, containsCall, closedCall, variablesCall}
 use Rattle.rules.specs.Numbers.{said, listed, refusalIn, number}
-use Rattle.rules.specs.Refusals.{number_of, told}
+use Rattle.rules.specs.Refusals.{numberAnswer, told}
 use Rattle.rules.specs.declared.Refusal.{Refusal}
-use Rattle.laws.specs.Numbers.{told-injective}
+use Rattle.laws.specs.Numbers.{answer-in, told-injective}
 use Rattle.queries.specs.Told.{listedAs}
-
--- the number of an answer: 0, or that of the refusal
-abbrev pub numberAnswer : {A : Type 0} → Result A Refusal → ℕ
-numberAnswer (Ok a) = 0
-numberAnswer (Err r) = number_of r
-
-answer-in : {A : Type 0} (p : Result A Refusal) → numberAnswer p ≡ refusalIn (told p)
-unfolding refusalIn
-answer-in (Ok a) = refl
-answer-in (Err r) = refl
 
 module _ (pool table ws : List ℕ) where
   -- `contains`

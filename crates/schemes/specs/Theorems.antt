@@ -4,7 +4,8 @@ use Rattle.rules.specs.Calls.{Written, quantifyCall, generaliseCall, instantiate
 use Rattle.rules.specs.Numbers.{written, number}
 use Rattle.rules.specs.declared.Refusal.{Refusal}
 use Rattle.lending.specs.Told.{writtenAs}
-use Rattle.lending.specs.Determined.{OneResult, numberAnswer}
+use Rattle.lending.specs.Determined.{OneResult}
+use Rattle.rules.specs.Refusals.{numberAnswer}
 
 -- two results that a clause `writtenAs .. ≡ w` allows are the same: the answer, and both buffers
 abbrev pub OneWritten : Written → Type 0

@@ -25,7 +25,8 @@ use Rattle.rules.specs.Reading.{
   readFactors,
 }
 use Rattle.rules.specs.Calls.{shortLists, listGiven, tableKept, setGiven, aloneGiven, setCall}
-use Rattle.laws.specs.Lists.{Every, and_left, and_right, bound-step, clash, some≢none}
+use Rattle.laws.specs.Lists.{Every, and_left, and_right, bound-step, some≢none}
+use Rattle.laws.specs.Given.{or-some}
 use Rattle.laws.specs.NameTable.{Good}
 use Rattle.laws.specs.Checks.{need-passed, first-passed, next-passed, passed}
 use Rattle.laws.specs.Written.{Reads, nothing, given, then, picked, plain, lasting-read}
@@ -97,10 +98,6 @@ pub record Constraints (pool table set : List ℕ) (cs : List (Con ℕ)) : Type 
   pub same : words (collect writeCon cs) ≡ set
   pub many : length set ≡ sum_of sizeCon cs * 4
 
-or-refused : {A : Type 0} (n : ℕ) (o : Option A) (a : A) → orRefuse n o ≡ got a → o ≡ some a
-or-refused n none a e = clash e
-or-refused n (some b) a e = cc
-
 pub constraints : (pool table set : List ℕ) (cs : List (Con ℕ)) → Words set → setGiven (table_of pool table) set ≡ got cs → Constraints pool table set cs
 unfolding setGiven listGiven
 constraints pool table set cs w e =
@@ -110,8 +107,8 @@ constraints pool table set cs w e =
     let ds = b.0 in
     let c = bound-step (need (all (goodCon (numbersOf (table_of pool table)) (is_held (table_of pool table)) 0) ds) 1) (λ u. got ds) cs b.2 in
     let z : ds ≡ cs = cc c.2 in
-    let i : read_all readCon (length rs) rs ≡ some cs = or-refused 1 (read_all readCon (length rs) rs) ds b.1 ∙ ap some z in
-    let back = (taken set w).back rs (or-refused 1 (records set) rs a.1) in
+    let i : read_all readCon (length rs) rs ≡ some cs = or-some 1 (read_all readCon (length rs) rs) ds b.1 ∙ ap some z in
+    let back = (taken set w).back rs (or-some 1 (records set) rs a.1) in
     let same : rs ≡ collect writeCon cs = all_read writeCon readCon con-read (length rs) rs cs back.1 i in
     record {
       good = rw z at (need-passed (all (goodCon (numbersOf (table_of pool table)) (is_held (table_of pool table)) 0) ds) 1 c.1);

@@ -12,7 +12,7 @@ use Rattle.std.proofs.Math.Dec.{leb}
 use Rattle.std.proofs.Math.ListN.{length, drop}
 use Rattle.std.proofs.lemmas.List.{length-map}
 use Rattle.std.proofs.Math.Seq.{drop_at}
-use Rattle.rules.specs.Base.{Got, got, refused, ◌>>◌, need, orRefuse, bounded, any, all, each, collect, to_list, sum_of, max_of}
+use Rattle.rules.specs.Base.{Got, got, refused, ◌>>◌, bounded, any, all, each, collect, to_list, sum_of, max_of}
 use Rattle.rules.specs.Exponents.{frac}
 use Rattle.rules.specs.Trees.{
   var,
@@ -54,26 +54,11 @@ use Rattle.rules.specs.Replacing.{replaceCon, replaceBinding, bindings}
 use Rattle.rules.specs.Rounds.{Step, bind, split, done, stuck, State, sizeState, depthState, limited, firstStep, perform, performed, round}
 use Rattle.rules.specs.Solving.{Answer, accepted, boundOf, finished, finish, after, run, enough, solve}
 use Rattle.rules.specs.Writing.{Rec, rec, head, kindIn, words, word_of, writeFactor, writeProduct, writeTy, writeTys, writeFields, writeBinding, writeBound}
-use Rattle.rules.specs.Reading.{Reader, readCon, readBound, read_all, records}
-use Rattle.rules.specs.WellFormed.{rising, goodOpen, goodTy, goodCon, goodBinding}
-use Rattle.rules.specs.Calls.{
-  lentWork,
-  shortLists,
-  shortNumbers,
-  listGiven,
-  setGiven,
-  boundsGiven,
-  numbersGiven,
-  over,
-  Entry,
-  differ,
-  type_at,
-  bindingOf,
-  entriesGiven,
-  risingBounds,
-  solveCall,
-}
+use Rattle.rules.specs.Reading.{readBound, read_all}
+use Rattle.rules.specs.WellFormed.{rising, goodOpen, goodTy, goodBinding}
+use Rattle.rules.specs.Calls.{lentWork, shortLists, shortNumbers, listGiven, boundsGiven, numbersGiven, over, Entry, differ, type_at, bindingOf, entriesGiven, risingBounds, solveCall}
 use Rattle.laws.specs.Checks.{need-passed}
+use Rattle.laws.specs.Given.{set-read}
 use Rattle.laws.specs.Heads.{kind-head}
 use Rattle.laws.specs.Lists.{some≢none, and_left, and_right, one-step, bound-step, Every, All, all-every, is_all, map-from, any-is}
 use Rattle.laws.specs.Reading.{read-ty, good-fits}
@@ -185,52 +170,6 @@ module _ {N : Type 0} (ν : Names N) where
     pub answer-within : (cs : List (Con N)) → length cs ≤ 2048 → solve ν bounded cs ≡ accepted bs ns j → Within bs ns
     unfolding solve
     answer-within cs h e = run-within enough 0 (record { cons = cs; binds = [] }) (record { few = h; small = omega arith; flat = omega arith }) e
-
--- ══ A given set has at most 2,048 constraints ══
-
-module _ {A : Type 0} (r : Reader A) where
-  read-few : (n : ℕ) (s : List Rec) (as' : List A) → read_all r n s ≡ some as' → length as' ≤ n
-  unfolding read_all
-  read-few zero [] as' e = let z : [] ≡ as' = cc in rw (sym z) (omega arith)
-  read-few zero (x ∷ xs) as' e = absurd (some≢none (sym e))
-  read-few (suc n) [] as' e = let z : [] ≡ as' = cc in rw (sym z) (omega arith)
-  read-few (suc n) (x ∷ xs) as' e = go (r (x ∷ xs)) refl (λ s bs i. read-few n s bs i)
-    where
-      go : (o : Option (A × List Rec)) → r (x ∷ xs) ≡ o → ((s : List Rec) (bs : List A) → read_all r n s ≡ some bs → length bs ≤ n) → length as' ≤ suc n
-      go none i k = let z : none ≡ some as' = rw (i, read_all) at e in absurd (some≢none (sym z))
-      go (some v) i k = more (read_all r n v.1) refl (rw (i, read_all) at e)
-        where
-          more : (o : Option (List A)) → read_all r n v.1 ≡ o → elim o [ none ↦ none | some vs ↦ some (v.0 ∷ vs) ] ≡ some as' → length as' ≤ suc n
-          more none j f = absurd (some≢none (sym f))
-          more (some vs) j f = let z : v.0 ∷ vs ≡ as' = cc in let h = k v.1 vs j in rw (sym z) (omega arith)
-
-records-few : (ws : List ℕ) (rs : List Rec) → records ws ≡ some rs → length rs * 4 ≤ length ws
-unfolding records
-records-few [] rs e = let z : [] ≡ rs = cc in rw (sym z) (omega arith)
-records-few (k ∷ []) rs e = absurd (some≢none (sym e))
-records-few (k ∷ a ∷ []) rs e = absurd (some≢none (sym e))
-records-few (k ∷ a ∷ b ∷ []) rs e = absurd (some≢none (sym e))
-records-few (k ∷ a ∷ b ∷ c ∷ ws) rs e = go (records ws) refl (records-few ws) e
-  where
-    go : (o : Option (List Rec)) → records ws ≡ o → ((rs : List Rec) → records ws ≡ some rs → length rs * 4 ≤ length ws)
-        → elim o [ none ↦ none | some qs ↦ some (rec k a b c ∷ qs) ] ≡ some rs → length rs * 4 ≤ suc (suc (suc (suc (length ws))))
-    go none i h f = absurd (some≢none (sym f))
-    go (some qs) i h f = let z : rec k a b c ∷ qs ≡ rs = cc in let g = h qs i in rw (sym z) (omega arith)
-
-or_some : {A : Type 0} (o : Option A) (a : A) → orRefuse 1 o ≡ got a → o ≡ some a
-or_some none a e = let z : ◌≡◌ {A = ℕ} 0 1 = cc in absurd (omega arith)
-or_some (some b) a e = cc
-
-set-few : (t : Table) (ws : List ℕ) (cs : List (Con ℕ)) → length ws ≤ 8192 → setGiven t ws ≡ got cs → length cs ≤ 2048
-unfolding setGiven listGiven
-set-few t ws cs h e =
-    let a = bound-step (orRefuse 1 (records ws)) _ cs e in
-    let b = bound-step (orRefuse 1 (read_all readCon (length a.0) a.0)) _ cs a.2 in
-    let c = bound-step (need (all (goodCon (numbersOf t) (is_held t) 0) b.0) 1) _ cs b.2 in
-    let z : b.0 ≡ cs = cc c.2 in
-    let m = records-few ws a.0 (or_some (records ws) a.0 a.1) in
-    let n : length b.0 ≤ length a.0 = read-few readCon (length a.0) a.0 b.0 (or_some _ b.0 b.1) in
-    rw (sym z) (omega (arith, m, n))
 
 -- ══ Entries from the words ══
 
@@ -394,7 +333,7 @@ module _ (pool table set result work : List ℕ) (records bounds rounds : ℕ) (
   unfolding shortLists all
   within =
       let h = leb-true (length set) 8192 (and_left (leb (length set) 8192) _ (need-passed _ 8 s.short)) in
-      answer-within (numbersOf (table_of pool table)) s.bs s.ns rounds s.cs (set-few (table_of pool table) set s.cs h s.read) s.accepts
+      answer-within (numbersOf (table_of pool table)) s.bs s.ns rounds s.cs (omega (arith, h, (set-read (table_of pool table) set s.cs s.read).1)) s.accepts
 
   abbrev left : List ℕ
   left = (solveCall pool table set result work).result

@@ -1,45 +1,21 @@
 -- The theorems for the calls on words: what a call checks is what the theorems ask.
 use Rattle.std.proofs.Math.Path.{◌≡◌, refl, ap}
-use Rattle.std.proofs.Common.{◌∙◌, subst, arith, ltb-true, leb-true}
-use Rattle.std.specs.Prelude.{Bool, false, List, [], ◌∷◌, ◌++◌, ℕ, ◌<◌, ◌≤◌, leb, length, get_or}
+use Rattle.std.proofs.Common.{◌∙◌, arith}
+use Rattle.std.specs.Prelude.{Bool, false, List, [], ◌∷◌, ◌++◌, ℕ, length}
 use Rattle.std.proofs.Math.Bool.{true}
-use Rattle.rules.specs.Base.{Got, got, refused, ◌>>◌, need, orRefuse, bounded, all, collect, sum_of}
+use Rattle.rules.specs.Base.{Got, got, refused, ◌>>◌, need, bounded, collect, sum_of}
 use Rattle.rules.specs.Trees.{Con, Binding, opensCon, sizeBinding}
-use Rattle.rules.specs.Names.{Table, table_of, tableGood, numbersOf, is_held, lentTable}
+use Rattle.rules.specs.Names.{Table, table_of, numbersOf, is_held, lentTable}
 use Rattle.rules.specs.Contents.{unmixed}
-use Rattle.rules.specs.Reading.{readCon, read_all, records}
-use Rattle.rules.specs.WellFormed.{goodCon}
 use Rattle.rules.specs.Solving.{Answer, accepted, remaining, stopped, solve}
 use Rattle.rules.specs.Meaning.{Solves, Premise}
 use Rattle.rules.specs.Judging.{judge}
-use Rattle.rules.specs.Calls.{
-  lentResult,
-  lentWork,
-  lent,
-  shortLists,
-  shortNumbers,
-  tableKept,
-  listGiven,
-  setGiven,
-  apart,
-  opensBinding,
-  resultAfter,
-  solved,
-  refusedAfter,
-  solvedOf,
-  solvedWords,
-  solvedSet,
-  solveCall,
-  Entry,
-  entriesGiven,
-  risingBounds,
-  judgedSet,
-  judgeCall,
-}
+use Rattle.rules.specs.Calls.{lentResult, lentWork, lent, shortLists, shortNumbers, tableKept, setGiven, apart, opensBinding, resultAfter, solved, refusedAfter, solvedOf, solvedWords, solvedSet, solveCall, Entry, entriesGiven, risingBounds, judgedSet, judgeCall}
 use Rattle.laws.specs.Checks.{need-passed}
+use Rattle.laws.specs.Given.{held-apart, lent-long, kept-good, set-read}
 use Rattle.laws.specs.ByteOrder.{numbered-lawful}
-use Rattle.laws.specs.NameTable.{Good, count-is, held_tells}
-use Rattle.laws.specs.Lists.{and_left, and_right, bound-step}
+use Rattle.laws.specs.NameTable.{Good}
+use Rattle.laws.specs.Lists.{bound-step}
 use Rattle.soundness.specs.Claims.{Ordered, Given, Fails, Proposes, YesOrLimits, SoundAnswer, JudgedSet}
 use Rattle.soundness.proofs.Form.{final, solved-form}
 use Rattle.soundness.proofs.Runs.{answer-apart, solves}
@@ -49,27 +25,7 @@ use Rattle.soundness.proofs.Judged.{yes-solves, no-fails, solution-judged}
 
 -- the numbers of a table that passed its checks
 pub numbers-ordered : (pool table : List ℕ) → Good pool table → Ordered (numbersOf (table_of pool table)) (is_held (table_of pool table))
-numbers-ordered pool table g = record { lawful = numbered-lawful _; tells = record { same = λ i j h k. (held_tells g).same i j (below i h) (below j k) } }
-  where
-    below : (i : ℕ) → is_held (table_of pool table) i ≡ true → i < get_or table 0 0
-    below i h = rw (count-is pool table) at (ltb-true i (table_of pool table).count h)
-
-lent-long : (pool table : List ℕ) (u : Unit {0}) → lentTable pool table ≡ got u → (8192 ≤ length pool) × (257 ≤ length table)
-unfolding lentTable
-lent-long pool table u e = let h = need-passed _ 10 e in (leb-true 8192 (length pool) (and_left (leb 8192 (length pool)) _ h), leb-true 257 (length table) (and_right (leb 8192 (length pool)) _ h))
-
-kept-good : (t : Table) (u : Unit {0}) → tableKept t ≡ got u → tableGood t ≡ true
-unfolding tableKept
-kept-good t u e = need-passed (tableGood t) 1 e
-
-set-good : (t : Table) (ws : List ℕ) (cs : List (Con ℕ)) → setGiven t ws ≡ got cs → all (goodCon (numbersOf t) (is_held t) 0) cs ≡ true
-unfolding setGiven listGiven
-set-good t ws cs e =
-    let a = bound-step (orRefuse 1 (records ws)) _ cs e in
-    let b = bound-step (orRefuse 1 (read_all readCon (length a.0) a.0)) _ cs a.2 in
-    let c = bound-step (need (all (goodCon (numbersOf t) (is_held t) 0) b.0) 1) _ cs b.2 in
-    let z : b.0 ≡ cs = cc c.2 in
-    subst (λ (l : List (Con ℕ)). all (goodCon (numbersOf t) (is_held t) 0) l ≡ true) z (need-passed (all (goodCon (numbersOf t) (is_held t) 0) b.0) 1 c.1)
+numbers-ordered pool table g = record { lawful = numbered-lawful _; tells = held-apart pool table g }
 
 -- ══ Solving ══
 
@@ -102,7 +58,7 @@ module _ (pool table set : List ℕ) where
         read = c.1;
         kept = (b.0, b.1);
         order = numbers-ordered pool table (record { bytes = l.0; words = l.1; good = kept-good t b.0 b.1 });
-        given = record { well-formed = set-good t set c.0 c.1; apart = need-passed (unmixed (numbersOf t) (collect opensCon c.0)) 4 d.1 };
+        given = record { well-formed = (set-read t set c.0 c.1).0; apart = need-passed (unmixed (numbersOf t) (collect opensCon c.0)) 4 d.1 };
         accepts = cc d.2;
       }
 

@@ -4,8 +4,8 @@ use Rattle.std.proofs.Common.{sym, ◌∙◌, arith}
 use Rattle.std.proofs.Math.Path.{ap}
 use Rattle.rules.specs.Calls.{Listed}
 use Rattle.rules.specs.Numbers.{listed, refusalIn, number, refusalRead, textRead}
-use Rattle.rules.specs.Refusals.{number_of, told}
-use Rattle.laws.specs.Numbers.{number-injective, told-injective}
+use Rattle.rules.specs.Refusals.{number_of, numberAnswer, told}
+use Rattle.laws.specs.Numbers.{answer-in, number-injective, told-injective}
 use Rattle.rules.specs.TextReading.{TextRead, readTextCall}
 use Rattle.rules.specs.TextWriting.{writeTextCall}
 use Rattle.sheet_reading.specs.Given.{toldSheet, readAs}
@@ -22,16 +22,6 @@ module _ (pool table set text : List ℕ) where
   write-text-determined p q a b h k =
       let e : listedAs p a ≡ listedAs q b = h ∙ sym k in
       (told-injective p q (ap (λ (l : Listed). l.answer) e), ap (λ (l : Listed). l.result) e)
-
--- the number of an answer: 0, or that of the refusal
-abbrev pub numberAnswer : Result ℕ Refusal → ℕ
-numberAnswer (Ok n) = 0
-numberAnswer (Err r) = number_of r
-
-answer-in : (a : Result ℕ Refusal) → numberAnswer a ≡ refusalIn (told a)
-unfolding refusalIn
-answer-in (Ok n) = refl
-answer-in (Err r) = refl
 
 module _ (pool table set text : List ℕ) where
   pub write-text-numbered : (p : Result ℕ Refusal) (a : List ℕ) → listedAs p a ≡ writeTextCall pool table set text → numberAnswer p ≡ number (listed (writeTextCall pool table set text))
