@@ -4,7 +4,7 @@ use Rattle.std.specs.Prelude.{◌≡◌, List, ℕ, ◌*◌, ◌<◌, length, ta
 use Rattle.rules.specs.Base.{got}
 use Rattle.rules.specs.Calls.{lent}
 use Rattle.rules.specs.Names.{table_of}
-use Rattle.rules.specs.Batches.{Batch, batchLent, batchFits, batchCall}
+use Rattle.rules.specs.Batches.{batchLent, batchFits, batchCall}
 use Rattle.batches.specs.Promise.{set_at, place_of, AsAlone}
 
 -- each set's four words and records are those that `solve` gives for it in a fresh buffer, whatever the other sets are

@@ -37,7 +37,7 @@ module _ (pool table steps types lines names result work : List ℕ) (n : ℕ)
   pub runs-to-its-end : closedLine accepted-line.ss ≡ true → RunsTo ν accepted-line.ss accepted-line.type
   runs-to-its-end = accepted-line.runs
 
-  -- (b) the judge said yes, and so its set is solved in the sense of demand 3
+  -- (b) the judge said yes, and so its set is solved in the sense of soundness
   pub judged-yes : judge ν bounded accepted-line.bs accepted-line.ns set ≡ got true
   judged-yes = accepted-line.says-yes
 

@@ -42,7 +42,7 @@ pub record AcceptedLine (pool table steps types lines names result work : List �
   pub rounds : ℕ
   pub accepts : solve (numbersOf (table_of pool table)) bounded (constraints (numbersOf (table_of pool table)) names [] ss) ≡ accepted bs ns rounds
   pub says-yes : judge (numbersOf (table_of pool table)) bounded bs ns (constraints (numbersOf (table_of pool table)) names [] ss) ≡ got true
-  -- demand 3: with the bindings put in, every constraint of the line is true, without any premise
+  -- soundness: with the bindings put in, every constraint of the line is true, without any premise
   pub solved : Solves (numbersOf (table_of pool table)) (constraints (numbersOf (table_of pool table)) names [] ss) bs ns
   -- the answer is the type of the last step's variable with the bindings put in
   pub last : ℕ

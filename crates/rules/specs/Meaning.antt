@@ -94,6 +94,6 @@ module _ {N : Type 0} where
   IsDimension t = (p : Product N) × (asProduct t ≡ got p)
 
 module _ {N : Type 0} (ν : Names N) where
-  -- demand 3's premise: 'no variable standing in a dimension product of the given set is bound to anything but a dimension or a variable'
+  -- the premise of soundness: 'no variable standing in a dimension product of the given set is bound to anything but a dimension or a variable'
   pub record Premise (cs : List (Con N)) (bs : List (Binding N)) : Type 0 where
     pub dimensions : (x : N) → Memᴰ (var x) (collect productsOf cs) → (t : Ty N) → find ν bs x ≡ some t → IsDimension t

@@ -1,4 +1,4 @@
--- Instances: K2, K5 and K8 of the rules meet demand 3's premise; K10 doesn't, and the judge says no to its answer.
+-- Instances: K2, K5 and K8 of the rules meet the premise of soundness; K10 doesn't, and the judge says no to its answer.
 -- Two accepted sets with a constraint that adding answers Violated: one meets the premise, the other doesn't.
 use Rattle.std.specs.Prelude.{◌≡◌, refl, Bool, true, false, List, [], ◌∷◌, ℕ, ltb, ℤ, pos, negsuc}
 use Rattle.std.proofs.Common.{ap, sym, subst, ltb-true}

@@ -1,4 +1,4 @@
--- Demand 3 over a run: the premise goes forward from round to round, truth goes back.
+-- Soundness over a run: the premise goes forward from round to round, truth goes back.
 use Rattle.std.specs.Prelude.{◌≡◌, refl, Bool, true, false, ◌⊎◌, ℕ}
 use Rattle.std.proofs.Math.Path.{ap}
 use Rattle.std.proofs.Common.{◌∙◌, sym, subst, inl, inr}
@@ -304,7 +304,7 @@ module _ {N : Type 0} (ν : Names N) (held : N → Bool) (ord : Ordered ν held)
     sound-end : (s : State N) → Ended ν bs ns s → Sound s
     sound-end s e = record { twins = twins-end ν bs ns s e; right = λ k p. record { cons-true = end-con s k e; binds-true = end-bind s k e } }
 
-    -- demand 3's premise, for the state at the start
+    -- the premise of soundness, for the state at the start
     start-premised : Premise ν cs bs → Premised (record { cons = cs; binds = [] })
     unfolding bindings
     start-premised p = record { cons-fit = λ c m o i. fit c m o i; binds-fit = all_nil (λ b. All Fits (inProducts (type_of b))) }

@@ -49,18 +49,18 @@ module _ {N : Type 0} (ν : Names N) (held : N → Bool) (order : Ordered ν hel
   pub solved-form : SolvedForm ν held bs bounds
   solved-form = Form.solved-form ν held order cs given bs bounds rounds accepts
 
-  -- demand 3: under its premise, putting all bindings in at once makes every given constraint true
-  pub demand-3 : Premise ν cs bs → Solves ν cs bs bounds
-  demand-3 premise = Runs.solves ν held order cs bs bounds given rounds accepts premise
+  -- soundness: under its premise, putting all bindings in at once makes every given constraint true
+  pub accepted-true : Premise ν cs bs → Solves ν cs bs bounds
+  accepted-true premise = Runs.solves ν held order cs bs bounds given rounds accepts premise
 
-  -- 'on the solver's own answer, under demand 3's premise, it says yes, 7 or 8'
+  -- on the solver's own answer, under the premise of soundness, the judge says yes, 7 or 8
   pub own-answer : Premise ν cs bs → YesOrLimits (judge ν bounded bs bounds cs)
-  own-answer premise = Judged.solution-judged ν bs bounds cs (demand-3 premise)
+  own-answer premise = Judged.solution-judged ν bs bounds cs (accepted-true premise)
 
 -- ══ The judge, whoever proposed the bindings ══
 
 module _ {N : Type 0} (ν : Names N) (cs : List (Con N)) (bs : List (Binding N)) (bounds : List N) where
-  -- 'yes is said only for a solution in demand 3's sense'
+  -- yes is said only for a solution, in the sense of soundness
   pub yes-solves : judge ν bounded bs bounds cs ≡ got true → Solves ν cs bs bounds
   yes-solves says = Judged.yes-solves ν bs bounds cs says
 
@@ -99,7 +99,7 @@ module _ (pool table set result work : List ℕ) (records bounds rounds : ℕ) (
   pub own-proposed : (buffer : List ℕ) → lentWork buffer ≡ got tt → Proposes pool table set answer.bs answer.ns (pointed 0 written) written behind buffer
   own-proposed = Own.own-proposed pool table set result work records bounds rounds answer
 
-  -- and under demand 3's premise the judge says yes, 7 or 8
+  -- and under the premise of soundness the judge says yes, 7 or 8
   pub own-words : Premise (numbersOf (table_of pool table)) answer.cs answer.bs → (buffer : List ℕ) → lentWork buffer ≡ got tt
       → YesOrLimits (judgeCall pool table set (pointed 0 written) written behind buffer).answer
   own-words premise buffer lent = answer.judged premise (pointed 0 written) written behind buffer (own-proposed buffer lent)
@@ -107,13 +107,13 @@ module _ (pool table set result work : List ℕ) (records bounds rounds : ℕ) (
 -- ══ Instances ══
 
 pub k2-solved : Solves names k2 k2-bindings []
-k2-solved = demand-3 names held ordered k2 k2-given k2-bindings [] 1 k2-accepted k2-premise
+k2-solved = accepted-true names held ordered k2 k2-given k2-bindings [] 1 k2-accepted k2-premise
 
 pub k5-solved : Solves names k5 k5-bindings []
-k5-solved = demand-3 names held ordered k5 k5-given k5-bindings [] 1 k5-accepted k5-premise
+k5-solved = accepted-true names held ordered k5 k5-given k5-bindings [] 1 k5-accepted k5-premise
 
 pub k8-solved : Solves names k8 [] k8-bounds
-k8-solved = demand-3 names held ordered k8 k8-given [] k8-bounds 1 k8-accepted k8-premise
+k8-solved = accepted-true names held ordered k8 k8-given [] k8-bounds 1 k8-accepted k8-premise
 
 -- K2's whole answer, (24,0,0,0)(4,0,0,0) with the lengths 2 and 1, is proposed by one entry: the variable 0, its type at the place 1
 pub k2-entries : pointed 0 (head 24 2 ∷ 0 ∷ 0 ∷ 0 ∷ head 4 1 ∷ 0 ∷ 0 ∷ 0 ∷ []) ≡ record { variable = 0; place = 1 } ∷ []
@@ -127,6 +127,6 @@ k10-outside = k10-no-premise
 pub k10-fails : Fails names k10 k10-bindings []
 k10-fails = no-fails names k10 k10-bindings [] k10-judged
 
--- so demand 3 is false without its premise
+-- so soundness is false without its premise
 pub premise-needed : ¬ ((cs : List (Con ℕ)) (bs : List (Binding ℕ)) (bounds : List ℕ) (rounds : ℕ) → Given names held cs → solve names bounded cs ≡ accepted bs bounds rounds → Solves names cs bs bounds)
 premise-needed claim = k10-fails.fails (claim k10 k10-bindings [] 3 k10-given k10-accepted k10-fails.constraint k10-fails.given)

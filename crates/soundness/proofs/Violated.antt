@@ -60,7 +60,7 @@ module _ {N : Type 0} (ν : Names N) where
       → (plain o.left true ≡ o.left) × (plain o.right true ≡ o.right) × (plain o.left false ≡ plain o.right false)
   exception-fields c o = (Unmet.unread o.left o.left-closed, Unmet.unread o.right o.right-closed, same-means ν o.left o.right o.same-meaning)
 
-  -- ══ So no accepted set holds one, under demand 3's premise; nor does the judge say yes to a set that does ══
+  -- ══ So no accepted set holds one, under the premise of soundness; nor does the judge say yes to a set that does ══
 
   pub none-violated : (held : N → Bool) (order : Ordered ν held) (cs : List (Con N)) (given : Given ν held cs) (bs : List (Binding N)) (bounds : List N) (rounds : ℕ)
       → solve ν bounded cs ≡ accepted bs bounds rounds → Premise ν cs bs → (c : Con N) → Memᴰ c cs → addTest ν c ≡ violated → OtherFields ν c

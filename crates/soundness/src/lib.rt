@@ -11,7 +11,7 @@ pub fn accepted_is_solved_form<N>()
     ensures { AcceptedIsSolvedForm N }
 {}
 
-/// The third demand: of an accepted answer, under its premise, all bindings put in at once make every given constraint true (`demand-3`).
+/// Of an accepted answer, under its premise, all bindings put in at once make every given constraint true (`accepted-true`).
 pub fn accepted_is_true<N>()
     ensures { AcceptedIsTrue N }
 {}

@@ -4,7 +4,7 @@ use Rattle.std.proofs.Common.{sym, ◌∙◌, arith}
 use Rattle.std.proofs.Math.Path.{ap}
 use Rattle.rules.specs.Calls.{Listed}
 use Rattle.rules.specs.Numbers.{listed, refusalIn, number, refusalRead, textRead}
-use Rattle.rules.specs.Refusals.{number_of, numberAnswer, told}
+use Rattle.rules.specs.Refusals.{number_of, numberAnswer}
 use Rattle.laws.specs.Numbers.{answer-in, number-injective, told-injective}
 use Rattle.rules.specs.TextReading.{TextRead, readTextCall}
 use Rattle.rules.specs.TextWriting.{writeTextCall}
