@@ -1,236 +1,125 @@
 // Reads the listed sheets, writes what was read, and compares the answers and what each buffer holds afterwards with what is stored.
 #![tactic(auto)]
 
-mod compare;
-mod lists;
+mod case;
 
-ghost use Rattle.std.specs.Prelude.{◌≤◌, ◌<◌, length};
-
-use cases::{Tally, next_line};
-use compare::{
-    RESULT_BEFORE, WORK_BEFORE, all_from, answer_holds, begins, same_bytes, same_text, work_after,
-};
-use filling::fill;
-use lists::{enter_names, gives_from, lent_from, lines_of, runs_from, to_bytes};
+use anyhow::{Result, ensure};
+use case::{Case, Expected, Given};
+use names::enter;
+use rules::Was;
+use std::alloc::Global;
 use std::io;
-use std::io::Read;
 use text::{TEXT_BYTES, read_text, write_text};
 
-// The list is read in blocks, at most this many.
-const BLOCKS: usize = 16;
+/// What the words of the result buffer are before a call.
+const RESULT_BEFORE: u32 = 0xaaaaaaaa;
 
-const BLOCK: usize = 65536;
+/// What the words of the work buffer are before a call.
+const WORK_BEFORE: u32 = 0x55555555;
 
-// Room for the longest text of the list.
-const TEXT: usize = 102400;
-
-// Arrays of these sizes come from functions of their own, so that their callers are checked without them being written out.
-fn block_room() -> [u8; BLOCK] {
-    [0; BLOCK]
+/// A name table, as much of it as is lent.
+#[derive(Drop, PartialEq)]
+struct Table {
+    pool: Vec<u8>,
+    ends: Vec<u32>,
 }
 
-fn text_room() -> [u8; TEXT] {
-    [0; TEXT]
-}
-
-fn wide_room() -> [u32; TEXT] {
-    [0; TEXT]
-}
-
-fn written_room() -> [u8; TEXT_BYTES] {
-    [0; TEXT_BYTES]
-}
-
-fn result_before() -> [u32; 8200] {
-    [RESULT_BEFORE; 8200]
-}
-
-fn work_before() -> [u32; 16400] {
-    [WORK_BEFORE; 16400]
-}
-
-fn no_pool() -> [u8; 8200] {
-    [0; 8200]
-}
-
-// The table's first word, where a case has another.
-fn spoil(table: &mut [u32], x: u32) {
-    if x == 0 {
-        return;
-    }
-    if 0 < table.len() {
-        table[0] = x;
-    }
-}
-
-// Enters the names before, and the new ones of a sheet that is read.
-fn enter_all(s: &[u8], at: usize, pool: &mut [u8], table: &mut [u32]) -> bool {
-    let lines = lines_of(s, at);
-    let gives = gives_from(s, lines.gives);
-    if !enter_names(s, at, pool, table) {
-        return false;
-    }
-    if gives.refusal != 0 {
-        return true;
-    }
-    enter_names(s, lines.new, pool, table)
-}
-
-// Are pool and table as they must be?
-fn names_hold(s: &[u8], at: usize, pool: &[u8], table: &[u32]) -> bool {
-    let lines = lines_of(s, at);
-    let lent = lent_from(s, lines.lent);
-    let mut bytes = no_pool();
-    let mut ends = [0u32; 260];
-    if !enter_all(s, at, &mut bytes, &mut ends) {
-        return false;
-    }
-    spoil(&mut ends, lent.spoil);
-    if !same_bytes(&bytes, pool) {
-        return false;
-    }
-    begins(&ends, table)
-}
-
-// Is a set written as stored?
-fn written_holds(s: &[u8], at: usize, pool: &[u8], table: &[u32], set: &[u32]) -> bool {
-    let lines = lines_of(s, at);
-    let mut written = written_room();
-    match write_text(pool, table, set, &mut written) {
-        Ok(n) => {
-            let mut wide = wide_room();
-            let m = runs_from(s, lines.back, &mut wide);
-            if n != m {
-                return false;
-            }
-            same_text(&written, &wide[0..m])
+impl Table {
+    /// With the names of a case and these new ones, and its first word spoilt where that is asked for.
+    fn new(alloc: Global, case: &Case, new: &[Vec<u8>]) -> Result<Table> {
+        let mut pool = vec![in alloc; 0; 8200]?;
+        let mut ends = vec![in alloc; 0; 260]?;
+        for name in case.names.iter().chain(new.iter()) {
+            let entered = enter(&mut pool, &mut ends, name);
+            ensure!(matches!(entered, Ok((_, Was::New))), "a name is not new");
         }
-        Err(_) => false,
-    }
-}
-
-// Do the buffers hold the stored words, and are those written as stored?
-fn words_hold(s: &[u8], at: usize, pool: &[u8], table: &[u32], res: &[u32], work: &[u32]) -> bool {
-    let lines = lines_of(s, at);
-    let gives = gives_from(s, lines.gives);
-    if !all_from(work, 0, work_after(gives.refusal)) {
-        return false;
-    }
-    if gives.refusal != 0 {
-        return all_from(res, 0, RESULT_BEFORE);
-    }
-    let mut words = result_before();
-    let n = runs_from(s, lines.words, &mut words);
-    if !begins(res, &words[0..n]) {
-        return false;
-    }
-    if !all_from(res, n, RESULT_BEFORE) {
-        return false;
-    }
-    written_holds(s, at, pool, table, &words[0..n])
-}
-
-// Does the call answer, and leave all that is lent, as stored?
-fn answers(
-    s: &[u8],
-    at: usize,
-    pool: &mut [u8],
-    table: &mut [u32],
-    text: &[u8],
-    res: &mut [u32],
-    work: &mut [u32],
-) -> bool {
-    let lines = lines_of(s, at);
-    let a = read_text(pool, table, text, res, work);
-    if !answer_holds(a, gives_from(s, lines.gives)) {
-        return false;
-    }
-    if !names_hold(s, at, pool, table) {
-        return false;
-    }
-    words_hold(s, at, pool, table, res, work)
-}
-
-// The same, with the buffers still to be made.
-fn buffers_hold(s: &[u8], at: usize, pool: &mut [u8], table: &mut [u32], text: &[u8]) -> bool {
-    let lines = lines_of(s, at);
-    let lent = lent_from(s, lines.lent);
-    let r = lent.result;
-    let w = lent.work;
-    let mut result = result_before();
-    let mut work = work_before();
-    answers(s, at, pool, table, text, &mut result[0..r], &mut work[0..w])
-}
-
-// The same, with its names still to be entered.
-fn named_holds(s: &[u8], at: usize, text: &[u8]) -> bool {
-    let lines = lines_of(s, at);
-    let lent = lent_from(s, lines.lent);
-    let p = lent.pool;
-    let t = lent.table;
-    let mut pool = no_pool();
-    let mut table = [0u32; 260];
-    if !enter_names(s, at, &mut pool, &mut table) {
-        return false;
-    }
-    spoil(&mut table, lent.spoil);
-    buffers_hold(s, at, &mut pool[0..p], &mut table[0..t], text)
-}
-
-// The same, with its text still to be read.
-fn holds(s: &[u8], at: usize) -> bool {
-    let lines = lines_of(s, at);
-    let mut wide = wide_room();
-    let n = runs_from(s, lines.text, &mut wide);
-    let mut text = text_room();
-    to_bytes(&wide[0..n], &mut text);
-    named_holds(s, at, &text[0..n])
-}
-
-// The tally with one case more. The comment of a case that differs, which stands from before up to it, is written.
-fn with_case(rt: &impl Print, t: Tally, s: &[u8], before: usize, at: usize) -> io::Result<Tally>
-    requires { (before ≤ at) × (at < length s.now) }
-{
-    let right = holds(s, at);
-    if !right {
-        rt.write_all(&s[before..at])?;
-    }
-    Ok(t.with(right))
-}
-
-// Does a line with this first letter begin a case?
-fn is_case(letter: u8) -> bool {
-    letter == b'c'
-}
-
-// The cases of a block, added to those before it.
-fn run(rt: &impl Print, s: &[u8], tally: Tally) -> io::Result<Tally> {
-    let mut t = tally;
-    let mut before = 0;
-    let mut at = 0;
-    while at < s.len() {
-        let next = next_line(s, at);
-        if is_case(s[at]) {
-            t = with_case(rt, t, s, before, at)?;
+        pool.truncate(case.lent.pool);
+        ends.truncate(case.lent.table);
+        if case.lent.spoil != 0 && !ends.is_empty() {
+            ends[0] = case.lent.spoil;
         }
-        before = at;
-        at = next;
+        Ok(Table { pool, ends })
     }
-    Ok(t)
 }
 
-// Reads the next block and runs it.
-fn run_next<P: Print, R: Read>(rt: &P, input: &mut R, tally: Tally) -> io::Result<Tally> {
-    let mut buf = block_room();
-    let n = fill(input, &mut buf)?;
-    run(rt, &buf[..n], tally)
+/// Does a buffer begin with these words, and is it as before behind them?
+fn begins(buffer: &[u32], words: &[u32]) -> bool {
+    buffer.starts_with(words) && buffer.iter().skip(words.len()).all(|w| *w == RESULT_BEFORE)
 }
 
-fn main(rt: HostRuntime) -> io::Result<()> {
-    let mut input = rt.reader();
-    let mut t = Tally::none();
-    for _ in 0..BLOCKS {
-        t = run_next(&rt, &mut input, t)?;
+/// Does the call answer, and leave all that is lent, as stored?
+fn holds(alloc: Global, case: &Case) -> Result<bool> {
+    let mut table = Table::new(alloc, case, &[])?;
+    let mut result = vec![in alloc; RESULT_BEFORE; case.lent.result]?;
+    let mut work = vec![in alloc; WORK_BEFORE; case.lent.work]?;
+    let answer = read_text(
+        &mut table.pool,
+        &mut table.ends,
+        &case.text,
+        &mut result,
+        &mut work,
+    );
+    match &case.expected {
+        Expected::Read(given) => {
+            let told = match answer {
+                Ok(read) => {
+                    (read.records, read.constraints, read.names)
+                        == (given.records, given.constraints, given.fresh)
+                }
+                Err(_) => false,
+            };
+            Ok(
+                told && table == Table::new(alloc, case, &given.new)?
+                    && begins(&result, &given.words)
+                    && work.iter().all(|w| *w == 0)
+                    && written_holds(alloc, given, &table)?,
+            )
+        }
+        Expected::Refused(number, line, column) => {
+            let told = match answer {
+                Ok(_) => false,
+                Err(stop) => {
+                    (stop.why.number(), stop.line, stop.column) == (*number, *line, *column)
+                }
+            };
+            let after = if *number == 10 { WORK_BEFORE } else { 0 };
+            Ok(
+                told && table == Table::new(alloc, case, &[])?
+                    && begins(&result, &[])
+                    && work.iter().all(|w| *w == after),
+            )
+        }
     }
-    println!(rt; "sheets: {} cases, {} as stored", t.cases, t.right)
+}
+
+/// Is a set that was read written as stored?
+fn written_holds(alloc: Global, given: &Given, table: &Table) -> Result<bool> {
+    let mut written = vec![in alloc; 0; TEXT_BYTES]?;
+    Ok(
+        match write_text(&table.pool, &table.ends, &given.words, &mut written) {
+            Ok(n) => written.as_slice().get(..n) == Some(given.back.as_slice()),
+            Err(_) => false,
+        },
+    )
+}
+
+fn main(rt: HostRuntime) -> Result<()> {
+    let alloc = rt.alloc();
+    let list = io::read_to_string(alloc, rt.reader())?;
+    let mut lines = list.lines();
+    let mut count = 0u32;
+    let mut right = 0u32;
+    while let Some(about) = lines.next() {
+        if !about.starts_with('#') {
+            continue;
+        }
+        count = count.saturating_add(1);
+        if holds(alloc, &Case::read(alloc, &mut lines)?)? {
+            right = right.saturating_add(1);
+        } else {
+            println!(rt; "{about}")?;
+        }
+    }
+    println!(rt; "sheets: {count} cases, {right} as stored")?;
+    Ok(())
 }
