@@ -1,12 +1,12 @@
 // The work on a pool and a table that were tested before.
 ghost use Rattle.std.specs.Prelude.{◌≡◌, ◌&&◌, ◌++◌, ◌+◌, ◌≤◌, ◌<◌, leb, ltb, length, get_or, drop};
 ghost use Rattle.std.proofs.Math.Option.{none};
-ghost use Rattle.rules.specs.Names.{table_of, names_of, numbersOf, number_of, sameBytes, lengthsGood, distinct, tableGood, hasRoom, enterKnown, enterChecked};
+ghost use Rattle.rules.specs.Names.{table_of, names_of, number_of, sameBytes, lengthsGood, distinct, tableGood, hasRoom, enterKnown, enterChecked};
 ghost use Rattle.laws.specs.NameTable.{start_at, endsOf, Laid, Good};
 ghost use Rattle.rules.specs.Base.{need, any};
 ghost use Rattle.names.specs.Digests.{withByte, digestOf, nameIn, Digests};
 ghost use Rattle.rules.specs.Refusals.{toldOption};
-ghost use Rattle.names.specs.Told.{toldOrder, IsPart, heldPart, entered};
+ghost use Rattle.names.specs.Told.{IsPart, heldPart, entered};
 
 use super::compare;
 use rules::{NAME_BYTES, NAMES, POOL_BYTES, Refusal, Was};
@@ -45,19 +45,6 @@ pub fn name_at<'a, 'b>(pool: &'a [u8], table: &'b [u32], k: usize) -> &'a [u8]
     let start = start_of(table, k);
     let end = table[k + 1] as usize;
     &pool[start..end]
-}
-
-/// The order of two held numbers: that of their names.
-pub fn order(pool: &[u8], table: &[u32], i: u32, j: u32) -> Ordering
-    requires good { Good pool.now table.now }
-    requires i_bound { i < get_or table.now 0 0 }
-    requires j_bound { j < get_or table.now 0 0 }
-    ensures { toldOrder result ≡ (numbersOf (table_of pool.now table.now)).order i j }
-{
-    compare(
-        name_at(pool, table, i as usize),
-        name_at(pool, table, j as usize),
-    )
 }
 
 // Do the ends rise within the pool, each 1 to 48 bytes after the one before?

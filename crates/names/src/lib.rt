@@ -1,4 +1,4 @@
-// Names: parts of a pool of bytes, compared by their bytes, and copied in at the pool's first free byte.
+//! Names: parts of a pool of bytes, compared by their bytes, and copied in at the pool's first free byte.
 #![tactic(auto)]
 
 ghost use Rattle.std.specs.Prelude.{◌≡◌};
@@ -13,7 +13,7 @@ pub mod inner;
 pub mod tables;
 pub mod theorems;
 
-// The order of two names: by bytes, and a name before a longer one that begins with it.
+/// The order of two names: by bytes, and a name before a longer one that begins with it.
 #[tactic(auto, using(crate::proofs::Compared::compared))]
 pub fn compare(a: &[u8], b: &[u8]) -> Ordering
     ensures { toldOrder result ≡ orderBytes a.now b.now }
@@ -21,7 +21,7 @@ pub fn compare(a: &[u8], b: &[u8]) -> Ordering
     a.cmp(b)
 }
 
-// Are pool and table long enough, and is the table well formed?
+/// Are pool and table long enough (else 10), and is the table well formed (else 1)?
 #[tactic(auto, using(crate::proofs::Asked::tested), unfolding(rules::specs::Names::tableGiven, rules::specs::Names::lentTable))]
 pub fn check_table(pool: &[u8], table: &[u32]) -> Result<(), Refusal>
     ensures { told result ≡ tableGiven pool.now table.now }
@@ -36,7 +36,7 @@ pub fn check_table(pool: &[u8], table: &[u32]) -> Result<(), Refusal>
     }
 }
 
-// Is there a name with this number?
+/// Is there a name with this number? Refused: 10 and 1 as `check_table` refuses, and 3 where the number is not held.
 #[tactic(auto, using(crate::proofs::Asked::asked))]
 pub fn check_number(pool: &[u8], table: &[u32], number: u32) -> Result<(), Refusal>
     ensures { told result ≡ refusalOf (nameAsked pool.now table.now number) }
@@ -49,7 +49,7 @@ pub fn check_number(pool: &[u8], table: &[u32], number: u32) -> Result<(), Refus
     }
 }
 
-// The name with this number: that part of the pool itself, and the empty part where `check_number` refuses.
+/// The name with this number: that part of the pool itself, and the empty part where `check_number` refuses.
 pub fn name_of<'a, 'b>(pool: &'a [u8], table: &'b [u32], number: u32) -> &'a [u8]
     ensures { IsPart pool.entry result (partAsked pool.now table.now number) }
 {
@@ -59,7 +59,9 @@ pub fn name_of<'a, 'b>(pool: &'a [u8], table: &'b [u32], number: u32) -> &'a [u8
     }
 }
 
-// The number of a name, which is entered if it is not held, and so new.
+/// The number of a name, and whether it was known or is new: a name that is not held is entered, with the next number.
+/// Refused, and then pool and table stay as they are: 10 and 1 as `check_table` refuses, 2 for a name that is empty or longer than 48 bytes, 3 where
+/// no number or too few bytes are left.
 #[tactic(auto, using(crate::proofs::Asked::asked))]
 pub fn enter(pool: &mut [u8], table: &mut [u32], name: &[u8]) -> Result<(u32, Was), Refusal>
     ensures { entered result pool.new table.new ≡ enter pool.old table.old name.now }

@@ -1,4 +1,4 @@
-// Theorems on the calls: each is the contract of a function that does nothing.
+//! Theorems on the calls: each is the contract of a function that does nothing.
 ghost use Rattle.names.specs.Theorems.{CallsDetermined, CallsNumbered};
 ghost use Rattle.names.specs.Theorems.{EnteringKept, NumbersKept, FrontEnough, NumbersAlike};
 

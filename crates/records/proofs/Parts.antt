@@ -1,9 +1,12 @@
 -- The walkers of products, constraints, bindings and bounds step by step, and parts one after another.
 use Rattle.std.specs.Prelude.{Option, Some, None}
+use Rattle.std.specs.Option.{is_some}
+use borrow.Author.Tests.{leb-true, leb-false}
+use lib.Dec.{leb}
 use mathlib.Core.Path.{◌≡◌, refl, sym, ap, subst, ◌∙◌}
 use mathlib.Core.Bool.{Bool, true, false, ◌&&◌}
 use mathlib.Core.List.{List, [], ◌∷◌}
-use Prim.Native.Nat.{ℕ, suc, ◌+◌, ◌≤◌, ◌<◌}
+use Prim.Native.Nat.{ℕ, suc, ◌+◌, ◌/◌, ◌≤◌, ◌<◌}
 use native.Mathlib.Omega.{arith}
 use lib.ListN.{length}
 use Rattle.rules.specs.Trees as tree
@@ -13,6 +16,7 @@ use Rattle.laws.specs.Lists.{and_left as both_left, and_right as both_right}
 use Rattle.records.specs.Views.{viewAt}
 use Rattle.records.specs.Holds.{openOf, viewOpen, Holds, BodyCon, BodyBinding}
 use Rattle.records.specs.ByView.{ArmsCon, con-by-body}
+use Rattle.records.specs.Moves.{bound-moves}
 use Rattle.records.specs.Parsed.{only, only-con, only-binding}
 use Rattle.records.specs.Good.{Ends, holding, goodOpen, goodTy, goodCon, GoodDim, GoodTy, PartsProduct, GoodProduct, GoodTwo, PartsCon, GoodCon, PartsBinding, GoodBinding, PartsBound, GoodBound, Chain, Chained}
 use Rattle.records.specs.declared.Open as names
@@ -220,3 +224,30 @@ module _ (pool table : List ℕ) (q : ℕ) (s : List ℕ) (at : ℕ) where
 
   pub one-bound : (a b : tree.Open ℕ) (e f : ℕ) → GoodBound pool table q s at a e → GoodBound pool table q s at b f → e ≡ f
   one-bound a b e f g h = g.past ∙ sym h.past
+
+-- ══ Bounds, one record each ══
+
+module _ (pool table : List ℕ) (q : ℕ) (s : List ℕ) where
+  abbrev Bounds : ℕ → Bool → Type 0
+  Bounds at b = Chained (GoodBound pool table q s) (length s / 4) at b
+
+  pub bounds-stop : (at : ℕ) (r : Option ℕ) → at < length s / 4 → Ends (GoodBound pool table q s at) r → is_some r ≡ false → Bounds at false
+  bounds-stop at None h e i = chain-fail (GoodBound pool table q s) (length s / 4) at h e
+  bounds-stop at (Some m) h e i = false-true (sym i)
+
+  pub bounds-on : (at : ℕ) (r : Option ℕ) → at < length s / 4 → Ends (GoodBound pool table q s at) r → is_some r ≡ true → (b : Bool) → Bounds (at + 1) b → Bounds at b
+  bounds-on at None h e i b c = false-true i
+  bounds-on at (Some m) h e i b c =
+      chain-step (GoodBound pool table q s) (length s / 4) at (one-bound pool table q s at) m h e b (subst (λ (k : ℕ). Bounds k b) (sym e.1.past) c)
+
+  -- none stands past the end
+  past-none : (from : ℕ) → length s / 4 < from → Bounds from false
+  past-none from h [] c = omega arith
+  past-none from h (o ∷ os) c = let m = bound-moves pool table q s from o c.0 c.1.0 in omega (arith, m.0, m.1)
+
+  pub bounds-end : (from at : ℕ) → (from ≤ length s / 4 → at ≤ length s / 4) → length s / 4 ≤ at → ((b : Bool) → Bounds at b → Bounds from b) → Bounds from (leb from (length s / 4))
+  bounds-end from at within past h = go (leb from (length s / 4)) refl
+    where
+      go : (b : Bool) → leb from (length s / 4) ≡ b → Bounds from b
+      go true e = h true (chain-done (GoodBound pool table q s) (length s / 4) at past (within (leb-true from (length s / 4) e)))
+      go false e = past-none from (leb-false from (length s / 4) e)

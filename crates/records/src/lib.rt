@@ -11,6 +11,7 @@ ghost use Rattle.rules.specs.Refusals.{told};
 
 use inner::{bindings_good, scheme_good, set_good, type_good};
 use names::inner::is_good;
+use names::tables::NameTable;
 use rules::{POOL_BYTES, RECORD_WORDS, Refusal, TABLE_WORDS};
 
 // An open name: a variable, a quantified variable by its index, a parameter.
@@ -102,7 +103,8 @@ pub fn is_set(pool: &[u8], table: &[u32], words: &[u32]) -> Result<(), Refusal>
     ensures { told result ≡ setCall pool.now table.now words.now }
 {
     entry(pool, table, words)?;
-    listed(words, set_good(pool, table, words))
+    let names = NameTable { pool, table };
+    listed(words, set_good(names, words))
 }
 
 /// Is this list a well formed type? Refused as `entry` refuses, and 1 where it is not.
@@ -110,7 +112,8 @@ pub fn is_type(pool: &[u8], table: &[u32], words: &[u32]) -> Result<(), Refusal>
     ensures { told result ≡ typeCall pool.now table.now words.now }
 {
     entry(pool, table, words)?;
-    listed(words, type_good(pool, table, words, 0))
+    let names = NameTable { pool, table };
+    listed(words, type_good(names, words, 0))
 }
 
 /// Is this list a well formed scheme? Refused as `entry` refuses, and 1 where it is not.
@@ -118,7 +121,8 @@ pub fn is_scheme(pool: &[u8], table: &[u32], words: &[u32]) -> Result<(), Refusa
     ensures { told result ≡ schemeCall pool.now table.now words.now }
 {
     entry(pool, table, words)?;
-    listed(words, scheme_good(pool, table, words))
+    let names = NameTable { pool, table };
+    listed(words, scheme_good(names, words))
 }
 
 /// Is this list a well formed list of bindings? Refused as `entry` refuses, and 1 where it is not.
@@ -126,5 +130,6 @@ pub fn is_bindings(pool: &[u8], table: &[u32], words: &[u32]) -> Result<(), Refu
     ensures { told result ≡ bindingsCall pool.now table.now words.now }
 {
     entry(pool, table, words)?;
-    listed(words, bindings_good(pool, table, words))
+    let names = NameTable { pool, table };
+    listed(words, bindings_good(names, words))
 }

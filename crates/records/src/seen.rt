@@ -3,7 +3,7 @@
 ghost use Rattle.std.specs.Prelude.{◌≡◌, [], ◌∷◌, ◌<◌};
 ghost use Rattle.rules.specs.Writing.{rec, head, kindIn, lengthIn};
 ghost use Rattle.records.specs.Cut.{fit};
-ghost use Rattle.records.specs.Views.{plain, pick, boundTable, schemeTable, otherTable, shape_of, viewAt, toldWords, recOpen, recFree, recFactor, recBound, kindOfBasic, bareOf, longAt};
+ghost use Rattle.records.specs.Views.{recOf, plain, pick, boundTable, schemeTable, otherTable, shape_of, viewAt, toldWords, recOpen, recFree, recFactor, recBound, kindOfBasic, bareOf, longAt};
 
 use super::{Atom, Basic, Open, View, Words};
 
@@ -94,7 +94,7 @@ fn length_in(w: u32) -> u32
     w / 65536
 }
 
-pub fn head_of(kind: u32, n: usize) -> u32
+fn head_of(kind: u32, n: usize) -> u32
     requires { kind < 65536 }
     ensures { result ≡ head kind (fit n) }
 {
@@ -288,4 +288,13 @@ pub fn words_of(v: View) -> Words
         },
         View::Bad => lone(0, 0),
     }
+}
+
+/// The record that says v and begins a part of n records. A length past 65,535 is left out.
+pub fn record_of(v: View, n: usize) -> Words
+    ensures { toldWords result ≡ recOf v (fit n) }
+{
+    let w = words_of(v);
+    let kind = head_of(w.kind, n);
+    Words { kind, ..w }
 }

@@ -7,8 +7,8 @@ use Rattle.records.specs.Whole.{entry-good}
 use mathlib.Core.Path.{refl, sym, ◌∙◌}
 use Rattle.records.proofs.is_scheme.Goals as goal
 
-pub scheme_good-requires : goal.scheme_good-requires
-scheme_good-requires c = let a = c.args in entry-good a.pool.now a.table.now a.words.now (sym c.in_ok-entry.ensures)
+pub invariant_of-names : goal.invariant_of-names
+invariant_of-names c = let a = c.args in record { good = entry-good a.pool.now a.table.now a.words.now (sym c.in_ok-entry.ensures) }
 
 pub returns : goal.returns
 returns c =

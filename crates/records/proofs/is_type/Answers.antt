@@ -6,8 +6,8 @@ use Rattle.records.specs.Whole.{entry-good, type-told}
 use mathlib.Core.Path.{refl, sym, ◌∙◌}
 use Rattle.records.proofs.is_type.Goals as goal
 
-pub type_good-requires : goal.type_good-requires
-type_good-requires c = let a = c.args in entry-good a.pool.now a.table.now a.words.now (sym c.in_ok-entry.ensures)
+pub invariant_of-names : goal.invariant_of-names
+invariant_of-names c = let a = c.args in record { good = entry-good a.pool.now a.table.now a.words.now (sym c.in_ok-entry.ensures) }
 
 pub returns : goal.returns
 returns c =

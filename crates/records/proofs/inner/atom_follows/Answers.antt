@@ -4,8 +4,5 @@ use Rattle.rules.specs.WellFormed.{is_lt}
 use mathlib.Core.Path.{ap, subst, ◌∙◌}
 use Rattle.records.proofs.inner.atom_follows.Goals as goal
 
-pub atom_order-requires : goal.atom_order-requires
-atom_order-requires c = record { good = c.requires.good; held_atom = subst (HeldLeft c.args.table.now) c.in-Some.is c.requires.held_left; held_atom_2 = c.requires.held_atom }
-
 pub returns-in-Some : goal.returns-in-Some
 returns-in-Some c = rw c.in-Some.is (c.is_less.ensures ∙ ap is_lt c.atom_order.ensures)

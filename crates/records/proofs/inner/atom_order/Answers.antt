@@ -4,12 +4,6 @@ use Rattle.rules.specs.Trees.{orderAtom}
 use mathlib.Core.Path.{refl, subst}
 use Rattle.records.proofs.inner.atom_order.Goals as goal
 
-pub open_order-requires : goal.open_order-requires
-open_order-requires c = let held = HeldAtom c.args.table.now in record { good = c.requires.good; held_open = subst held c.in-Free.is c.requires.held_atom; held_open_2 = subst held c.in-Free-b.is c.requires.held_atom_2 }
-
-pub order-requires : goal.order-requires
-order-requires c = let held = HeldAtom c.args.table.now in record { good = c.requires.good; i_bound = subst held c.in-Base.is c.requires.held_atom; j_bound = subst held c.in-Base-b-2.is c.requires.held_atom_2 }
-
 pub returns-in-Free-b : goal.returns-in-Free-b
 unfolding orderAtom
 returns-in-Free-b c = rw (c.in-Free.is, c.in-Free-b.is) c.open_order.ensures

@@ -1,27 +1,20 @@
--- `inner::bounds_good` meets its contract.
-use Rattle.records.specs.Good.{GoodBound, Chained}
-use Rattle.records.proofs.Parts.{chain-done, chain-fail, chain-step, one-bound}
-use Rattle.records.specs.Moves.{bound-moves}
-use mathlib.Core.Bool.{true, false}
-use Prim.Native.Nat.{ℕ}
+-- `inner::bounds_good` meets its contract. The invariant: what there is from at on, there is from the first on.
+use mathlib.Core.Bool.{false}
 use native.Mathlib.Omega.{arith}
-use mathlib.Core.Path.{refl, subst}
+use Rattle.records.proofs.Parts.{bounds-stop, bounds-on, bounds-end}
 use Rattle.records.proofs.inner.bounds_good.Goals as goal
 
-pub loop-at-init : goal.loop-at-init
-loop-at-init c = (refl, omega arith, λ b h. h)
-
-pub bound_end-requires : goal.bound_end-requires
-bound_end-requires c = c.requires.good
-
-pub returns-in_default : goal.returns-in_default
-returns-in_default c = let a = c.args in subst (λ (k : ℕ). Chained (GoodBound a.pool.now a.table.now a.q a.s.now) k a.from false) c.loop-at.invariant.0 (c.loop-at.invariant.2 false (chain-fail (GoodBound a.pool.now a.table.now a.q a.s.now) _ c.loop-at.at c.loop-at-test.true c.in_default.ensures))
-
-pub loop-at-smaller : goal.loop-at-smaller
-loop-at-smaller c = let a = c.args in let u = c.in-Some.ensures in let v = bound-moves a.pool.now a.table.now a.q a.s.now c.loop-at.at u.0 c.in-Some.e u.1 in omega (arith, v.0, v.1)
+pub returns-then-is_none : goal.returns-then-is_none
+returns-then-is_none c =
+    let a = c.args in
+    c.loop-at.invariant false (bounds-stop a.names.pool.now a.names.table.now a.q a.s.now c.loop-at.at _ c.loop-at-test.true c.bound_end.ensures c.if-is_none.ensures)
 
 pub loop-at-preserved : goal.loop-at-preserved
-loop-at-preserved c = let a = c.args in let u = c.in-Some.ensures in let v = bound-moves a.pool.now a.table.now a.q a.s.now c.loop-at.at u.0 c.in-Some.e u.1 in (c.loop-at.invariant.0, omega (arith, v.1, c.loop-at.invariant.0), λ b h. c.loop-at.invariant.2 b (chain-step (GoodBound a.pool.now a.table.now a.q a.s.now) _ c.loop-at.at (one-bound a.pool.now a.table.now a.q a.s.now c.loop-at.at) c.in-Some.e c.loop-at-test.true u b h))
+loop-at-preserved c = λ b h.
+    let a = c.args in
+    c.loop-at.invariant b (bounds-on a.names.pool.now a.names.table.now a.q a.s.now c.loop-at.at _ c.loop-at-test.true c.bound_end.ensures c.if-is_none.ensures b h)
 
 pub returns : goal.returns
-returns c = let a = c.args in subst (λ (k : ℕ). Chained (GoodBound a.pool.now a.table.now a.q a.s.now) k a.from true) c.loop-at.invariant.0 (c.loop-at.invariant.2 true (chain-done (GoodBound a.pool.now a.table.now a.q a.s.now) _ c.loop-at.at c.loop-at-test.false c.loop-at.invariant.1))
+returns c =
+    let a = c.args in
+    bounds-end a.names.pool.now a.names.table.now a.q a.s.now a.from c.loop-at.at (λ h. omega arith) (omega arith) c.loop-at.invariant

@@ -1,13 +1,10 @@
 use Rattle.records.specs.Good.{GoodBound, Chained}
 use mathlib.Core.Bool.{Bool}
 use lib.ListN.{length}
-use Prim.Native.Nat.{◌-◌, ◌/◌, ◌≤◌}
-use mathlib.Core.Path.{◌≡◌}
+use Prim.Native.Nat.{◌/◌}
 use Rattle.records.proofs.inner.bounds_good.Given as goal
 
 abbrev pub invariant-loop-at : goal.invariant-loop-at
 invariant-loop-at l =
-    (l.n ≡ length l.s / 4) × (l.at ≤ l.n) × ((b : Bool) → Chained (GoodBound l.pool l.table l.q l.s) l.n l.at b → Chained (GoodBound l.pool l.table l.q l.s) l.n l.from b)
-
-abbrev pub decreases-loop-at : goal.decreases-loop-at
-decreases-loop-at l = l.n - l.at
+    let P = GoodBound l.names.pool.now l.names.table.now l.q l.s in
+    (b : Bool) → Chained P (length l.s / 4) l.at b → Chained P (length l.s / 4) l.fn.from b

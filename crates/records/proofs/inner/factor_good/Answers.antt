@@ -3,13 +3,6 @@ use Rattle.records.proofs.Walks.{held-atom}
 use mathlib.Core.Path.{refl, sym}
 use Rattle.records.proofs.inner.factor_good.Goals as goal
 
-pub atom_follows-requires : goal.atom_follows-requires
-atom_follows-requires c = record {
-  good = c.requires.good;
-  held_left = c.requires.held_left;
-  held_atom = held-atom c.args.pool.now c.args.table.now c.args.q c.args.a (sym c.if-not-atom_good.ensures);
-}
-
 pub returns-then-not-atom_good : goal.returns-then-not-atom_good
 returns-then-not-atom_good c = rw (sym c.if-not-atom_good.ensures) refl
 

@@ -4,14 +4,6 @@ use Rattle.rules.specs.Names.{table_of}
 use mathlib.Core.Path.{refl, sym}
 use Rattle.records.proofs.inner.name_good.Goals as goal
 
-pub name_follows-requires : goal.name_follows-requires
-unfolding table_of
-name_follows-requires c = record {
-  good = c.requires.good;
-  held_before = c.requires.held_before;
-  x_bound = held-name c.args.pool.now c.args.table.now c.args.x (sym c.if-is_held.ensures);
-}
-
 pub returns-then-is_held : goal.returns-then-is_held
 unfolding table_of
 returns-then-is_held c = rw (sym c.if-is_held.ensures) c.name_follows.ensures

@@ -4,12 +4,6 @@ use Rattle.rules.specs.Trees.{orderOpen}
 use mathlib.Core.Path.{refl, subst}
 use Rattle.records.proofs.inner.open_order.Goals as goal
 
-pub order-requires : goal.order-requires
-order-requires c = let held = HeldOpen c.args.table.now in record { good = c.requires.good; i_bound = subst held c.in-Var.is c.requires.held_open; j_bound = subst held c.in-Var-b.is c.requires.held_open_2 }
-
-pub order-requires-in-Par-b-3 : goal.order-requires-in-Par-b-3
-order-requires-in-Par-b-3 c = let held = HeldOpen c.args.table.now in record { good = c.requires.good; i_bound = subst held c.in-Par.is c.requires.held_open; j_bound = subst held c.in-Par-b-3.is c.requires.held_open_2 }
-
 pub returns-in-Var-b : goal.returns-in-Var-b
 unfolding orderOpen
 returns-in-Var-b c = rw (c.in-Var.is, c.in-Var-b.is) c.order.ensures
