@@ -19,6 +19,7 @@ ghost use Rattle.adding.specs.Stored.{Ready, addedWith};
 
 use super::Verdict;
 use comparing::inner::same_types;
+use names::tables::NameTable;
 use queries::inner::{closed_at, end_of};
 use records::inner::{con_end, copy};
 use records::seen::view_at;
@@ -249,7 +250,8 @@ fn con_good(pool: &[u8], table: &[u32], con: &[u32]) -> bool
     requires { Good pool.now table.now }
     ensures { There (λ c. GoodCon pool.now table.now 0 con.now 0 c (length con.now / 4)) result }
 {
-    con_end(pool, table, con, 0) == Some(con.len() / 4)
+    let names = NameTable { pool, table };
+    con_end(names, con, 0) == Some(con.len() / 4)
 }
 
 // A list of whole records that is one constraint.

@@ -190,7 +190,7 @@ fn set_given(names: NameTable, words: &[u32]) -> bool
     requires { length words.now % 4 ≡ 0 }
     ensures { need result 1 ≡ metSet (table_of names.entry.pool.now names.entry.table.now) words.now }
 {
-    set_good(names.pool, names.table, words)
+    set_good(names, words)
 }
 
 // Do the lengths add up to the list, and is every set well formed?

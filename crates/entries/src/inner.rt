@@ -6,7 +6,7 @@ ghost use Rattle.entries.specs.Entries.{told, toldFound, place_of, variablesOf, 
 ghost use Rattle.entries.specs.Tables.{Ready, Sound, Made};
 
 use super::{Entry, Found};
-use names::inner::is_held;
+use names::tables::NameTable;
 use records::inner::{put, type_end};
 use rules::{NAMES, NESTED};
 
@@ -103,7 +103,8 @@ fn is_sound(pool: &[u8], table: &[u32], types: &[u32], v: u32, w: u64) -> bool
     if w == 0 {
         return true;
     }
-    is_held(table, v) && type_end(pool, table, 0, types, (w - 1) as usize, NESTED).is_some()
+    let names = NameTable { pool, table };
+    names.is_held(v) && type_end(names, 0, types, (w - 1) as usize, NESTED).is_some()
 }
 
 // Writes the slots as the table of places, if all that is asked of the entries holds: as many slots are taken as there are entries.

@@ -11,6 +11,7 @@ ghost use Rattle.finishing.specs.Said.{named, saysNamed, saysDim, isBound};
 ghost use Rattle.finishing.specs.Told.{SetHeld, others, boundRec, Copied, Accepted, Finished};
 
 use super::Finish;
+use names::tables::NameTable;
 use queries::Kind;
 use queries::inner::list_names;
 use records::inner::{copy, put_one};
@@ -111,8 +112,9 @@ fn accept(pool: &[u8], table: &[u32], s: &[u32], n: usize, m: usize, res: &mut [
     requires in_bounds { 8192 ≤ length res.old }
     ensures { (st : State ℕ) → StateHeld pool.now table.now s.now n m st → others st.cons ≡ [] → Accepted pool.now table.now st res.old res.new result }
 {
+    let held = NameTable { pool, table };
     let mut names = [0u32; NAMES];
-    let k = list_names(pool, table, s, 0, n, Kind::Both, &mut names);
+    let k = list_names(held, s, 0, n, Kind::Both, &mut names);
     copy(s, n, m, res, 0);
     put_bounds(&names, k, res, m - n);
     k

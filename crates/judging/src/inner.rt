@@ -11,6 +11,7 @@ ghost use Rattle.judging.specs.Entry.{lentAll, Slotted, entered, Entered, Bounds
 
 use entries::inner::{Slots, fill};
 use lending::inner::clear;
+use names::tables::NameTable;
 use proposals::inner::bounds::{mark_all, rise};
 use proposals::inner::mixed::apart;
 use records::inner::bounds_good;
@@ -56,14 +57,15 @@ fn bounds_given(pool: &[u8], table: &[u32], bounds: &[u32], m: &mut [bool; NAMES
     requires none_marked { m.old ≡ replicate 256 false }
     ensures { BoundsGiven pool.now table.now bounds.now m.new result }
 {
-    let good = bounds_good(pool, table, 0, bounds, 0);
+    let names = NameTable { pool, table };
+    let good = bounds_good(names, 0, bounds, 0);
     if bounds.len() % 4 != 0 {
         return false;
     }
     if !good {
         return false;
     }
-    if !rise(pool, table, bounds) {
+    if !rise(names, bounds) {
         return false;
     }
     mark_all(bounds, m);

@@ -224,7 +224,7 @@ fn list_bases(names: NameTable, s: &[u32], e: usize, out: &mut [u32]) -> usize
 {
     let mut m = [false; NAMES];
     mark_bases(s, e, &mut m);
-    sort_names(names.pool, names.table, m, out)
+    sort_names(names, m, out)
 }
 
 // Lists the columns: variables, then parameters, then base dimensions, each sorted; 8 where they are too many.
@@ -234,17 +234,9 @@ pub fn list_columns(names: NameTable, s: &[u32], e: usize) -> Result<Columns, Re
     ensures laid { IfOk result Laid }
 {
     let mut vars = [0u32; NAMES];
-    let variables = list_names(names.pool, names.table, s, 0, e, Kind::Variables, &mut vars);
+    let variables = list_names(names, s, 0, e, Kind::Variables, &mut vars);
     let mut pars = [0u32; NAMES];
-    let parameters = list_names(
-        names.pool,
-        names.table,
-        s,
-        0,
-        e,
-        Kind::Parameters,
-        &mut pars,
-    );
+    let parameters = list_names(names, s, 0, e, Kind::Parameters, &mut pars);
     let mut bases = [0u32; NAMES];
     let dimensions = list_bases(names, s, e, &mut bases);
     if ROWS < variables

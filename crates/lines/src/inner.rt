@@ -19,6 +19,7 @@ use exponents::Exponent;
 use fresh::{all_held, is_fresh};
 use lending::lent;
 use names::inner::is_good;
+use names::tables::NameTable;
 use queries::inner::closed_at;
 use records::inner::type_end;
 use rules::{NESTED, RECORD_WORDS, RECORDS, Refusal};
@@ -82,7 +83,8 @@ fn type_here(pool: &[u8], table: &[u32], types: &[u32], at: u32) -> Result<(), R
     requires { Good pool.now table.now }
     ensures { told result ≡ isGiven (type_at (table_of pool.now table.now) (recs types.now) at) }
 {
-    match type_end(pool, table, 0, types, at as usize, NESTED) {
+    let names = NameTable { pool, table };
+    match type_end(names, 0, types, at as usize, NESTED) {
         Some(_) => Ok(()),
         None => Err(Refusal::Malformed),
     }
@@ -93,7 +95,8 @@ fn constant_here(pool: &[u8], table: &[u32], types: &[u32], at: u32) -> Result<(
     requires { Good pool.now table.now }
     ensures { (lines : List ℕ) → told result ≡ isGiven (constantAt (table_of pool.now table.now) (recs types.now) lines at) }
 {
-    match type_end(pool, table, 0, types, at as usize, NESTED) {
+    let names = NameTable { pool, table };
+    match type_end(names, 0, types, at as usize, NESTED) {
         Some(_) => or_malformed(closed_at(types, at as usize)),
         None => Err(Refusal::Malformed),
     }

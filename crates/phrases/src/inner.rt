@@ -14,7 +14,8 @@ ghost use Rattle.reading.specs.Choice.{among, heads, deepRuled};
 ghost use Rattle.terms.specs.Effects.{lent, Ready, Writes, Done};
 ghost use Rattle.phrases.specs.Members.{Risen, KeptBefore, keptIf};
 
-use names::inner::{is_held, order};
+use names::inner::is_held;
+use names::tables::NameTable;
 use reading::inner::{Point, byte_at, refuse};
 use rules::Refusal;
 use std::cmp::Ordering;
@@ -47,7 +48,8 @@ fn rises(pool: &[u8], table: &[u32], before: Option<u32>, x: u32) -> bool
         None => true,
         Some(y) => {
             if is_held(table, x) {
-                is_less(order(pool, table, y, x))
+                let names = NameTable { pool, table };
+                is_less(names.order(y, x))
             } else {
                 false
             }

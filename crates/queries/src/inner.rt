@@ -5,17 +5,16 @@ ghost use Rattle.rules.specs.Base.{any, isNil};
 ghost use Rattle.rules.specs.Trees.{Ty, size};
 ghost use Rattle.rules.specs.Names.{Bytes, numbered};
 ghost use Rattle.rules.specs.Contents.{closed, contains, unmixed, sort};
-ghost use Rattle.laws.specs.NameTable.{Good};
 ghost use Rattle.laws.specs.ReadLists.{Every};
 ghost use Rattle.names.specs.Told.{toldOrder};
 ghost use Rattle.records.specs.Views.{viewAt};
 ghost use Rattle.records.specs.Holds.{openOf, atomOf, Holds};
 ghost use Rattle.records.specs.Good.{numbers};
 ghost use Rattle.queries.specs.Scans.{toldOpens, opensAtom, opensView, opensIn, choose};
-ghost use Rattle.queries.specs.Marks.{Marks, Small, disjoint, picked, Held, HeldName, Least, Filled, sooner};
+ghost use Rattle.queries.specs.Marks.{Marks, Small, disjoint, picked, Held, Least, Filled, sooner};
 
 use super::Kind;
-use names::inner::order;
+use names::tables::NameTable;
 use records::inner::put;
 use records::seen::{length_at, view_at};
 use records::{Atom, Open, View};
@@ -177,46 +176,41 @@ pub fn closed_at(s: &[u32], at: usize) -> bool
 }
 
 // The first by name bytes of the best name so far and x.
-fn sooner(pool: &[u8], table: &[u32], best: Option<u32>, x: u32) -> Option<u32>
-    requires good { Good pool.now table.now }
-    requires held_name { HeldName (get_or table.now 0 0) best }
-    requires x_held { x < get_or table.now 0 0 }
-    ensures { result ≡ sooner (numbers pool.now table.now) best x }
+fn sooner(names: NameTable, best: Option<u32>, x: u32) -> Option<u32>
+    ensures { result ≡ sooner (numbers names.entry.pool.now names.entry.table.now) best x }
 {
     let Some(y) = best else {
         return Some(x);
     };
-    match order(pool, table, x, y) {
+    match names.order(x, y) {
         Ordering::Less => Some(x),
         Ordering::Equal | Ordering::Greater => Some(y),
     }
 }
 
 // The first by name bytes of the marked names.
-fn least(pool: &[u8], table: &[u32], m: &[bool; NAMES]) -> Option<u32>
-    requires good { Good pool.now table.now }
-    requires held { Held (get_or table.now 0 0) m.now }
-    ensures { Least (numbers pool.now table.now) m.now 256 result }
+fn least(names: NameTable, m: &[bool; NAMES]) -> Option<u32>
+    requires { Held (get_or names.table.now 0 0) m.now }
+    ensures { Least (numbers names.entry.pool.now names.entry.table.now) m.now 256 result }
 {
     let mut best = None;
     for i in 0..NAMES {
         if m[i] {
-            best = sooner(pool, table, best, i as u32);
+            best = sooner(names, best, i as u32);
         }
     }
     best
 }
 
 // Writes the marked names, sorted by name bytes, and says how many.
-pub fn sort_names(pool: &[u8], table: &[u32], m: [bool; NAMES], out: &mut [u32]) -> usize
-    requires good { Good pool.now table.now }
-    requires held { Held (get_or table.now 0 0) m }
+pub fn sort_names(names: NameTable, m: [bool; NAMES], out: &mut [u32]) -> usize
+    requires held { Held (get_or names.table.now 0 0) m }
     requires in_bounds { 256 ≤ length out.old }
-    ensures { Filled (sort (numbers pool.now table.now) (picked 0 m)) result out.old out.new }
+    ensures { Filled (sort (numbers names.entry.pool.now names.entry.table.now) (picked 0 m)) result out.old out.new }
 {
     let mut left = m;
     let mut k = 0;
-    while let Some(x) = least(pool, table, &left) {
+    while let Some(x) = least(names, &left) {
         left[x as usize] = false;
         put(out, k, x);
         k += 1;
@@ -226,20 +220,18 @@ pub fn sort_names(pool: &[u8], table: &[u32], m: [bool; NAMES], out: &mut [u32])
 
 // Writes the names of that kind, sorted by name bytes, once each, and says how many.
 pub fn list_names(
-    pool: &[u8],
-    table: &[u32],
+    names: NameTable,
     s: &[u32],
     b: usize,
     e: usize,
     k: Kind,
     out: &mut [u32],
 ) -> usize
-    requires good { Good pool.now table.now }
-    requires every { Every (λ x. x < get_or table.now 0 0) (choose k (opensIn s.now b e)) }
+    requires every { Every (λ x. x < get_or names.table.now 0 0) (choose k (opensIn s.now b e)) }
     requires in_bounds { 256 ≤ length out.old }
-    ensures { Filled (sort (numbers pool.now table.now) (choose k (opensIn s.now b e))) result out.old out.new }
+    ensures { Filled (sort (numbers names.entry.pool.now names.entry.table.now) (choose k (opensIn s.now b e))) result out.old out.new }
 {
     let mut m = [false; NAMES];
     marks(s, b, e, k, &mut m);
-    sort_names(pool, table, m, out)
+    sort_names(names, m, out)
 }

@@ -7,7 +7,7 @@ ghost use Rattle.rules.specs.Refusals.{told};
 ghost use Rattle.queries.specs.Told.{listedAs, kind_of};
 
 use inner::{is_unmixed, list_names, none_open, occurs};
-use names::inner::is_held;
+use names::tables::NameTable;
 use records::is_type;
 use rules::{RECORD_WORDS, Refusal};
 
@@ -43,7 +43,8 @@ pub fn contains(
     ensures { told result ≡ containsCall pool.now table.now words.now x parameters }
 {
     is_type(pool, table, words)?;
-    if !is_held(table, x) {
+    let names = NameTable { pool, table };
+    if !names.is_held(x) {
         return Err(Refusal::Malformed);
     }
     let n = words.len() / 4;
@@ -82,9 +83,10 @@ pub fn variables(
         return Err(Refusal::ShortBuffer);
     }
     is_type(pool, table, words)?;
+    let names = NameTable { pool, table };
     let n = words.len() / 4;
     if !is_unmixed(words, 0, n) {
         return Err(Refusal::Mixed);
     }
-    Ok(list_names(pool, table, words, 0, n, kind_of(parameters), res))
+    Ok(list_names(names, words, 0, n, kind_of(parameters), res))
 }

@@ -14,6 +14,7 @@ ghost use Rattle.replacing_calls.specs.Entry.{withBindings, Entered};
 ghost use Rattle.replacing_calls.specs.Stands.{TypeStands, LinesStand, typeCounted, linesCounted};
 ghost use Rattle.replacing_calls.specs.Made.{madeType, madeSet};
 
+use names::tables::NameTable;
 use places::inner::fill;
 use queries::inner::apart;
 use records::inner::type_end;
@@ -55,7 +56,8 @@ fn type_fits(pool: &[u8], table: &[u32], w: &[u32], n: usize) -> Result<usize, R
     if RECORDS < n {
         return Err(Refusal::TooLarge);
     }
-    match type_end(pool, table, 0, w, 0, NESTED) {
+    let names = NameTable { pool, table };
+    match type_end(names, 0, w, 0, NESTED) {
         Some(_) => Ok(n),
         None => Err(Refusal::TooLarge),
     }

@@ -112,7 +112,7 @@ fn walk(names: NameTable, s: &[u32], kept: &mut [u8], skipped: &mut [u32]) -> Co
     let mut k = 0;
     let mut m = 0;
     while at < n {
-        match con_end(names.pool, names.table, s, at) {
+        match con_end(names, s, at) {
             Some(e) => {
                 put_words(s, at * 4, e * 4, kept, k * 16);
                 k += e - at;

@@ -14,6 +14,7 @@ ghost use Rattle.solving.specs.Entry.{entered};
 
 use super::Solution;
 use finishing::inner::finish;
+use names::tables::NameTable;
 use queries::inner::is_unmixed;
 use records::inner::{copy, set_good};
 use rounds::inner::round;
@@ -98,7 +99,8 @@ fn is_set(pool: &[u8], table: &[u32], good: bool, words: &[u32]) -> Result<(), R
     if !good {
         return Err(Refusal::Malformed);
     }
-    let held = set_good(pool, table, words);
+    let names = NameTable { pool, table };
+    let held = set_good(names, words);
     if words.len() % 4 != 0 {
         return Err(Refusal::Malformed);
     }

@@ -12,7 +12,7 @@ ghost use Rattle.rules.specs.Steps.{Two, adds, compares, gives, raised, chosen};
 ghost use Rattle.rules.specs.Lines.{its, dimensions, twoFactors, issuedByTwo, issued};
 ghost use Rattle.line_steps.specs.Issued.{pair_of, PowerIs};
 
-use names::inner::order;
+use names::tables::NameTable;
 use records::inner::{copy, put_one, put_record};
 use records::seen::length_at;
 use records::{Atom, Basic, Open, View};
@@ -117,7 +117,8 @@ fn put_factors(pool: &[u8], table: &[u32], dst: &mut [u32], out: usize, l: u32, 
     requires out_bound { out < 2 ^ 59 }
     ensures { (k : ℤ) → twos k ≡ num → dst.new ≡ sets dst.old (out * 4) (words (writeTy (dim (twoFactors (numbersOf (table_of pool.now table.now)) l r (frac k 1))))) }
 {
-    match order(pool, table, l, r) {
+    let names = NameTable { pool, table };
+    match names.order(l, r) {
         Ordering::Less => put_pair(dst, out, l, 1, r, num),
         Ordering::Equal => put_pair(dst, out, l, 1, r, num),
         Ordering::Greater => put_pair(dst, out, r, num, l, 1),

@@ -3,14 +3,13 @@ ghost use Rattle.std.specs.Prelude.{◌≡◌, List, ◌++◌, map, ℕ};
 ghost use Rattle.rules.specs.Trees as trees;
 ghost use Rattle.rules.specs.WellFormed.{is_lt, rising};
 ghost use Rattle.rules.specs.Writing.{word_of};
-ghost use Rattle.laws.specs.NameTable.{Good};
 ghost use Rattle.names.specs.Told.{toldOrder};
 ghost use Rattle.records.specs.Good.{numbers};
 ghost use Rattle.records.specs.Holds.{openOf, HoldsBound};
 ghost use Rattle.queries.specs.Marks.{Marks};
 ghost use Rattle.proposals.specs.Bounds.{BoundsThere};
 
-use names::inner::order;
+use names::tables::NameTable;
 use queries::inner::mark;
 use records::seen::view_at;
 use records::{Open, View};
@@ -46,14 +45,13 @@ fn is_less(o: Ordering) -> bool
 }
 
 // Do the names of the bounds rise strictly, by their bytes?
-pub fn rise(pool: &[u8], table: &[u32], s: &[u32]) -> bool
-    requires good { Good pool.now table.now }
-    requires there { (os : List (trees.Open ℕ)) × BoundsThere pool.now table.now s.now os }
-    ensures { (os : List (trees.Open ℕ)) → BoundsThere pool.now table.now s.now os →
-        result ≡ rising (numbers pool.now table.now).order (map word_of os) }
+pub fn rise(names: NameTable, s: &[u32]) -> bool
+    requires { (os : List (trees.Open ℕ)) × BoundsThere names.pool.now names.table.now s.now os }
+    ensures { (os : List (trees.Open ℕ)) → BoundsThere names.entry.pool.now names.entry.table.now s.now os →
+        result ≡ rising (numbers names.entry.pool.now names.entry.table.now).order (map word_of os) }
 {
     for i in 1..s.len() / 4 {
-        if !is_less(order(pool, table, name_of(s, i - 1), name_of(s, i))) {
+        if !is_less(names.order(name_of(s, i - 1), name_of(s, i))) {
             return false;
         }
     }

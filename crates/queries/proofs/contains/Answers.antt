@@ -10,10 +10,10 @@ use Rattle.queries.specs.Scans.{choose, opensIn}
 use Rattle.queries.specs.Answers.{typed, typed-good, typed-small, contains-refused, contains-unheld, contains-mixed, contains-said}
 use Rattle.queries.proofs.contains.Goals as goal
 
-pub is_held-requires : goal.is_held-requires
-is_held-requires c =
+pub invariant_of-names : goal.invariant_of-names
+invariant_of-names c =
     let (t, k) = typed _ _ _ (record { word = λ i. (c.type_inv.words i).fits }) (sym c.in_ok-is_type.ensures) in
-    (typed-good _ _ _ t k).words
+    record { good = typed-good _ _ _ t k }
 
 pub is_unmixed-requires : goal.is_unmixed-requires
 is_unmixed-requires c =

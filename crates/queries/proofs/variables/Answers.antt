@@ -14,10 +14,15 @@ is_unmixed-requires c =
     let (t, k) = typed _ _ _ (record { word = λ i. (c.type_inv.words i).fits }) (sym c.in_ok-is_type.ensures) in
     typed-small _ _ _ t k
 
+pub invariant_of-names : goal.invariant_of-names
+invariant_of-names c =
+    let (t, k) = typed _ _ _ (record { word = λ i. (c.type_inv.words i).fits }) (sym c.in_ok-is_type.ensures) in
+    record { good = typed-good _ _ _ t k }
+
 pub list_names-requires : goal.list_names-requires
 list_names-requires c =
     let (t, k) = typed _ _ _ (record { word = λ i. (c.type_inv.words i).fits }) (sym c.in_ok-is_type.ensures) in
-    record { good = typed-good _ _ _ t k; every = typed-held _ _ _ t k c.kind_of.result; in_bounds = omega (arith, c.if-res-lt-RECORD_WORDS.false) }
+    record { every = typed-held _ _ _ t k c.kind_of.result; in_bounds = omega (arith, c.if-res-lt-RECORD_WORDS.false) }
 
 pub returns : goal.returns
 returns c =

@@ -6,6 +6,7 @@ ghost use Rattle.records.specs.Good.{Ends};
 ghost use Rattle.replacing.specs.LineRules.{Line};
 ghost use Rattle.replacing.specs.Flat.{depthLine, GoodLine, PlainLines};
 
+use names::tables::NameTable;
 use records::inner::{binding_end, con_end};
 
 // Where the constraint or the binding at a place ends.
@@ -13,9 +14,10 @@ fn line_end(pool: &[u8], table: &[u32], s: &[u32], at: usize) -> Option<usize>
     requires { Good pool.now table.now }
     ensures { Ends (GoodLine pool.now table.now s.now at) result }
 {
-    match con_end(pool, table, s, at) {
+    let names = NameTable { pool, table };
+    match con_end(names, s, at) {
         Some(e) => Some(e),
-        None => binding_end(pool, table, s, at),
+        None => binding_end(names, s, at),
     }
 }
 

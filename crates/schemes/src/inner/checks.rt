@@ -8,6 +8,7 @@ ghost use Rattle.queries.specs.Scans.{opensIn};
 ghost use Rattle.schemes.specs.Entry.{boundsChecked, numbersChecked, restChecked};
 
 use names::inner::is_held;
+use names::tables::NameTable;
 use queries::inner::is_unmixed;
 use records::inner::bounds_good;
 use rules::Refusal;
@@ -35,7 +36,8 @@ fn bounds_held(pool: &[u8], table: &[u32], bounds: &[u32]) -> Result<(), Refusal
     if bounds.len() % 4 != 0 {
         return Err(Refusal::Malformed);
     }
-    if bounds_good(pool, table, 0, bounds, 0) {
+    let names = NameTable { pool, table };
+    if bounds_good(names, 0, bounds, 0) {
         Ok(())
     } else {
         Err(Refusal::Malformed)

@@ -9,6 +9,7 @@ ghost use Rattle.lending.specs.Told.{Made};
 ghost use Rattle.schemes.specs.Generalising.{Given, Generalises};
 
 use super::checks::rest_checked;
+use names::tables::NameTable;
 use quantifying::inner::quantifying::quantify_at;
 use queries::Kind;
 use queries::inner::list_names;
@@ -28,16 +29,9 @@ fn generalise_type(
     requires { (t : Ty ℕ) × ((bs : List (Open ℕ)) × Given pool.now table.now given.now bounds.now work.old (concrete t) bs) }
     ensures { (t : Ty ℕ) → Generalises pool.now table.now given.now bounds.now work.old work.new result (concrete t) }
 {
+    let held = NameTable { pool, table };
     let mut names = [0u32; NAMES];
-    let k = list_names(
-        pool,
-        table,
-        given,
-        1,
-        given.len() / 4,
-        Kind::Both,
-        &mut names,
-    );
+    let k = list_names(held, given, 1, given.len() / 4, Kind::Both, &mut names);
     quantify_at(pool, table, given, 1, &names[..k], bounds, false, work)
 }
 

@@ -6,7 +6,7 @@ use Rattle.finishing.proofs.inner.accept.Goals as goal
 pub list_names-k-requires : goal.list_names-k-requires
 list_names-k-requires c =
     let (st, (h, e)) = c.requires.by_index in
-    record { good = c.requires.good; every = names-known _ _ _ _ _ st h; in_bounds = omega arith }
+    record { every = names-known _ _ _ _ _ st h; in_bounds = omega arith }
 
 pub copy-requires : goal.copy-requires
 copy-requires c =

@@ -16,7 +16,7 @@ pub returns-then-not-good : goal.returns-then-not-good
 returns-then-not-good c = not_good c.args.pool.now c.args.table.now c.args.bounds.now c.if-bounds-ne0.false (subst (Chained (GoodBound c.args.pool.now c.args.table.now 0 c.args.bounds.now) (length c.args.bounds.now / 4) 0) (c.if-not-good.true) c.bounds_good-good.ensures)
 
 pub rise-requires : goal.rise-requires
-rise-requires c = record { good = c.requires.good; there = subst (Chained (GoodBound c.args.pool.now c.args.table.now 0 c.args.bounds.now) (length c.args.bounds.now / 4) 0) (c.if-not-good.false) c.bounds_good-good.ensures }
+rise-requires c = subst (Chained (GoodBound c.args.pool.now c.args.table.now 0 c.args.bounds.now) (length c.args.bounds.now / 4) 0) (c.if-not-good.false) c.bounds_good-good.ensures
 
 pub returns-then-not-rise : goal.returns-then-not-rise
 returns-then-not-rise c =

@@ -8,14 +8,6 @@ use Rattle.rules.specs.WellFormed.{is_lt}
 use Rattle.records.specs.Good.{HeldBefore}
 use Rattle.phrases.proofs.inner.rises.Goals as goal
 
-pub order-requires : goal.order-requires
-order-requires c =
-    record {
-      good = c.requires.good;
-      i_bound = subst (HeldBefore c.args.table.now) c.in-Some.is c.requires.held_before;
-      j_bound = ltb-true _ _ (sym c.is_held.ensures ∙ c.if-is_held.true);
-    }
-
 pub returns-in-None : goal.returns-in-None
 returns-in-None c = λ h. rw c.in-None.is
 

@@ -19,13 +19,6 @@ returns-then-x-eq15 c = let left : Fine (numbersOf (table_of c.args.names.pool.n
     rw (whole, sym (kinds) ∙ ap toldOrder c.in-Equal.is, eq-eqb _ _ c.if-x-eq15.true)
     c.order_numbers-then-x-eq15.ensures
 
-pub order-requires : goal.order-requires
-order-requires c = let left : Fine (numbersOf (table_of c.args.names.pool.now c.args.names.table.now)) (heldIn c.args.names.table.now) c.args.x = c.requires.fine in
-    let kinds : toldOrder c.order_numbers.result ≡ compare (rank_of c.args.x.kind) (rank_of c.args.y.kind) = c.order_numbers.ensures ∙ ap₂ compare c.rank.ensures c.rank-2.ensures in
-    let right : Fine (numbersOf (table_of c.args.names.pool.now c.args.names.table.now)) (heldIn c.args.names.table.now) c.args.y = c.requires.fine_2 in
-    let other : ¬ (c.args.y.kind ≡ 15) = λ e. c.if-x-eq15.false (same_rank _ _ (left).kind (sym (kinds) ∙ ap toldOrder c.in-Equal.is) e) in
-    record { i_bound = ltb-true _ _ (held_by _ _ _ (left) c.if-x-eq15.false); j_bound = ltb-true _ _ (held_by _ _ _ (right) other) }
-
 pub returns-in-Less : goal.returns-in-Less
 returns-in-Less c = let left : Fine (numbersOf (table_of c.args.names.pool.now c.args.names.table.now)) (heldIn c.args.names.table.now) c.args.x = c.requires.fine in
     let right : Fine (numbersOf (table_of c.args.names.pool.now c.args.names.table.now)) (heldIn c.args.names.table.now) c.args.y = c.requires.fine_2 in

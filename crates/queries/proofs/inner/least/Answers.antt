@@ -13,34 +13,21 @@ use Rattle.queries.proofs.inner.least.Goals.{then-m-i, else-m-i}
 pub loop-i-init : goal.loop-i-init
 loop-i-init c =
     let a = c.args in
-    let g = c.requires.good in
-    let h = c.requires.held in
-    let law = numbered-lawful (names_of (table_of a.pool.now a.table.now)) in
-    let nu = numbers a.pool.now a.table.now in
-    let n = get_or a.table.now 0 0 in
+    let g = a.names.good in
+    let h = c.requires in
+    let law = numbered-lawful (names_of (table_of a.names.pool.now a.names.table.now)) in
+    let nu = numbers a.names.pool.now a.names.table.now in
+    let n = get_or a.names.table.now 0 0 in
     (omega arith, least-none nu law n (held_tells g) a.m.now h)
-
-pub sooner-best-requires : goal.sooner-best-requires
-sooner-best-requires c =
-    let a = c.args in
-    let g = c.requires.good in
-    let h = c.requires.held in
-    let law = numbered-lawful (names_of (table_of a.pool.now a.table.now)) in
-    let n = get_or a.table.now 0 0 in
-    let i = c.loop-i.i in record {
-      good = g;
-      held_name = least-held (numbers a.pool.now a.table.now) law n (held_tells g) a.m.now h i c.loop-i.invariant.0 c.loop-i.best c.loop-i.invariant.1;
-      x_held = h.held i c.loop-i-test.true c.if-m-i.true;
-    }
 
 pub loop-i-preserved : goal.loop-i-preserved
 loop-i-preserved c =
     let a = c.args in
-    let g = c.requires.good in
-    let h = c.requires.held in
-    let law = numbered-lawful (names_of (table_of a.pool.now a.table.now)) in
-    let nu = numbers a.pool.now a.table.now in
-    let n = get_or a.table.now 0 0 in (
+    let g = a.names.good in
+    let h = c.requires in
+    let law = numbered-lawful (names_of (table_of a.names.pool.now a.names.table.now)) in
+    let nu = numbers a.names.pool.now a.names.table.now in
+    let n = get_or a.names.table.now 0 0 in (
       omega arith,
       elim c.if-m-i.branch [
         | then-m-i w ↦ rw (w.best-is, w.sooner-best.ensures) (taken nu law n (held_tells g) a.m.now h c.loop-i.i c.loop-i-test.true w.if-m-i.true c.loop-i.best c.loop-i.invariant.1)

@@ -4,4 +4,4 @@ use Rattle.queries.specs.Marks.{Least}
 use Rattle.queries.proofs.inner.least.Given as goal
 
 abbrev pub invariant-loop-i : goal.invariant-loop-i
-invariant-loop-i l = (l.i ≤ 256) × Least (numbers l.pool l.table) l.m l.i l.best
+invariant-loop-i l = (l.i ≤ 256) × Least (numbers l.names.pool.now l.names.table.now) l.m l.i l.best

@@ -13,17 +13,17 @@ use Rattle.queries.proofs.inner.list_names.Goals as goal
 pub sort_names-requires : goal.sort_names-requires
 sort_names-requires c =
     let a = c.args in
-    let g = c.requires.good in
-    let n = get_or a.table.now 0 0 in
+    let g = a.names.good in
+    let n = get_or a.names.table.now 0 0 in
     let xs = choose a.k (opensIn a.s.now a.b a.e) in
     let k = c.marks.ensures [] marks-none in
-    record { good = g; held = marks-held n (good-laid g).few _ xs k c.requires.every; in_bounds = c.requires.in_bounds }
+    record { held = marks-held n (good-laid g).few _ xs k c.requires.every; in_bounds = c.requires.in_bounds }
 
 pub returns : goal.returns
 returns c =
     let a = c.args in
-    let g = c.requires.good in
-    let n = get_or a.table.now 0 0 in
+    let g = a.names.good in
+    let n = get_or a.names.table.now 0 0 in
     let xs = choose a.k (opensIn a.s.now a.b a.e) in
     let k = c.marks.ensures [] marks-none in
-    rw (marks-sort n (good-laid g).few _ xs k c.requires.every (numbers a.pool.now a.table.now) (numbered-lawful (names_of (table_of a.pool.now a.table.now))) (held_tells g)) at c.sort_names.ensures
+    rw (marks-sort n (good-laid g).few _ xs k c.requires.every (numbers a.names.pool.now a.names.table.now) (numbered-lawful (names_of (table_of a.names.pool.now a.names.table.now))) (held_tells g)) at c.sort_names.ensures

@@ -11,15 +11,15 @@ use Rattle.queries.proofs.inner.sort_names.Goals as goal
 pub loop-x-init : goal.loop-x-init
 loop-x-init c =
     let a = c.args in
-    let g = c.requires.good in
+    let g = a.names.good in
     let h = c.requires.held in
-    let law = numbered-lawful (names_of (table_of a.pool.now a.table.now)) in
-    let nu = numbers a.pool.now a.table.now in
-    let n = get_or a.table.now 0 0 in
+    let law = numbered-lawful (names_of (table_of a.names.pool.now a.names.table.now)) in
+    let nu = numbers a.names.pool.now a.names.table.now in
+    let n = get_or a.names.table.now 0 0 in
     sorting_start nu law n (held_tells g) a.m a.out.now h
 
 pub least-requires : goal.least-requires
-least-requires c = record { good = c.requires.good; held = c.loop-x.invariant.held }
+least-requires c = c.loop-x.invariant.held
 
 pub shape_of-out : goal.shape_of-out
 shape_of-out c = c.loop-x.invariant.same
@@ -27,51 +27,51 @@ shape_of-out c = c.loop-x.invariant.same
 pub returns : goal.returns
 returns c =
     let a = c.args in
-    let g = c.requires.good in
+    let g = a.names.good in
     let h = c.requires.held in
-    let law = numbered-lawful (names_of (table_of a.pool.now a.table.now)) in
-    let nu = numbers a.pool.now a.table.now in
-    let n = get_or a.table.now 0 0 in
+    let law = numbered-lawful (names_of (table_of a.names.pool.now a.names.table.now)) in
+    let nu = numbers a.names.pool.now a.names.table.now in
+    let n = get_or a.names.table.now 0 0 in
     sorting-end nu law n (held_tells g) a.m a.out.now c.loop-x.left c.loop-x.out c.loop-x.k h.long c.loop-x.invariant (rw c.in_default.is at c.least.ensures)
 
 pub bounds-left-x : goal.bounds-left-x
 bounds-left-x c =
     let a = c.args in
-    let g = c.requires.good in
+    let g = a.names.good in
     let h = c.requires.held in
-    let law = numbered-lawful (names_of (table_of a.pool.now a.table.now)) in
-    let nu = numbers a.pool.now a.table.now in
-    let n = get_or a.table.now 0 0 in
+    let law = numbered-lawful (names_of (table_of a.names.pool.now a.names.table.now)) in
+    let nu = numbers a.names.pool.now a.names.table.now in
+    let n = get_or a.names.table.now 0 0 in
     let l = (rw c.in-Some.is at c.least.ensures) in
     l.0
 
 pub overflow_add-k : goal.overflow_add-k
 overflow_add-k c =
     let a = c.args in
-    let g = c.requires.good in
+    let g = a.names.good in
     let h = c.requires.held in
-    let law = numbered-lawful (names_of (table_of a.pool.now a.table.now)) in
-    let nu = numbers a.pool.now a.table.now in
-    let n = get_or a.table.now 0 0 in
+    let law = numbered-lawful (names_of (table_of a.names.pool.now a.names.table.now)) in
+    let nu = numbers a.names.pool.now a.names.table.now in
+    let n = get_or a.names.table.now 0 0 in
     let f = sorting-few nu law n (held_tells g) a.m a.out.now c.loop-x.left c.loop-x.out c.loop-x.k h.long c.loop-x.invariant _ (rw c.in-Some.is at c.least.ensures) in
     omega (arith, f)
 
 pub loop-x-smaller : goal.loop-x-smaller
 loop-x-smaller c =
     let a = c.args in
-    let g = c.requires.good in
+    let g = a.names.good in
     let h = c.requires.held in
-    let law = numbered-lawful (names_of (table_of a.pool.now a.table.now)) in
-    let nu = numbers a.pool.now a.table.now in
-    let n = get_or a.table.now 0 0 in
+    let law = numbered-lawful (names_of (table_of a.names.pool.now a.names.table.now)) in
+    let nu = numbers a.names.pool.now a.names.table.now in
+    let n = get_or a.names.table.now 0 0 in
     sorting-less nu law n (held_tells g) a.m a.out.now c.loop-x.left c.loop-x.out c.loop-x.k h.long c.loop-x.invariant _ (rw c.in-Some.is at c.least.ensures)
 
 pub loop-x-preserved : goal.loop-x-preserved
 loop-x-preserved c =
     let a = c.args in
-    let g = c.requires.good in
+    let g = a.names.good in
     let h = c.requires.held in
-    let law = numbered-lawful (names_of (table_of a.pool.now a.table.now)) in
-    let nu = numbers a.pool.now a.table.now in
-    let n = get_or a.table.now 0 0 in
+    let law = numbered-lawful (names_of (table_of a.names.pool.now a.names.table.now)) in
+    let nu = numbers a.names.pool.now a.names.table.now in
+    let n = get_or a.names.table.now 0 0 in
     rw c.put.ensures (sorting_step nu law n (held_tells g) a.m a.out.now c.loop-x.left c.loop-x.out c.loop-x.k h.long c.loop-x.invariant _ (rw c.in-Some.is at c.least.ensures) c.requires.in_bounds)

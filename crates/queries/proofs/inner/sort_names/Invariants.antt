@@ -6,7 +6,7 @@ use Rattle.queries.specs.SortMarks.{Sorting}
 use Rattle.queries.proofs.inner.sort_names.Given as goal
 
 abbrev pub invariant-loop-x : goal.invariant-loop-x
-invariant-loop-x l = Sorting (numbers l.pool l.table) (get_or l.table 0 0) l.initial.left l.initial.out l.left l.out l.k
+invariant-loop-x l = Sorting (numbers l.names.pool.now l.names.table.now) (get_or l.names.table.now 0 0) l.initial.left l.initial.out l.left l.out l.k
 
 abbrev pub decreases-loop-x : goal.decreases-loop-x
-decreases-loop-x l = length (sort (numbers l.pool l.table) (picked 0 l.left))
+decreases-loop-x l = length (sort (numbers l.names.pool.now l.names.table.now) (picked 0 l.left))

@@ -6,9 +6,6 @@ use Rattle.replacing_calls.proofs.inner.type_fits.Goals as goal
 pub returns-then-n-gt-RECORDS : goal.returns-then-n-gt-RECORDS
 returns-then-n-gt-RECORDS c = λ u s. too_long size depth _ u s.many c.if-n-gt-RECORDS.true
 
-pub type_end-requires : goal.type_end-requires
-type_end-requires c = c.requires
-
 pub returns-in-Some : goal.returns-in-Some
 returns-in-Some c =
     let a = c.args in

@@ -19,9 +19,9 @@ pub returns-then-not-good : goal.returns-then-not-good
 returns-then-not-good c =
     bad-table _ _ _ _ c.requires.table_value c.requires.good_value c.if-words-gt-RECORD_WORDS.false c.if-not-good.true
 
-pub set_good-held-requires : goal.set_good-held-requires
-set_good-held-requires c = let entered : aloneGiven c.args.pool.now c.args.table.now c.args.words.now ≡ got tt = alone _ _ _ _ c.requires.table_value c.requires.good_value c.if-words-gt-RECORD_WORDS.false c.if-not-good.false in
-    entry-good _ _ _ (entered)
+pub invariant_of-names : goal.invariant_of-names
+invariant_of-names c = let entered : aloneGiven c.args.pool.now c.args.table.now c.args.words.now ≡ got tt = alone _ _ _ _ c.requires.table_value c.requires.good_value c.if-words-gt-RECORD_WORDS.false c.if-not-good.false in
+    record { good = entry-good _ _ _ (entered) }
 
 pub returns-then-words-ne0 : goal.returns-then-words-ne0
 returns-then-words-ne0 c = let entered : aloneGiven c.args.pool.now c.args.table.now c.args.words.now ≡ got tt = alone _ _ _ _ c.requires.table_value c.requires.good_value c.if-words-gt-RECORD_WORDS.false c.if-not-good.false in

@@ -5,10 +5,15 @@ use lib.Seq.{length-take-le}
 use Rattle.schemes.specs.Generalising.{names-known, listed-few, type-ready, type-made}
 use Rattle.schemes.proofs.inner.generalising.generalise_type.Goals as goal
 
+pub invariant_of-held : goal.invariant_of-held
+invariant_of-held c =
+    let (t, (bs, g)) = c.requires in
+    record { good = g.checks.good }
+
 pub list_names-k-requires : goal.list_names-k-requires
 list_names-k-requires c =
     let (t, (bs, g)) = c.requires in
-    record { good = g.checks.good; every = names-known _ _ _ _ _ t bs g; in_bounds = omega arith }
+    record { every = names-known _ _ _ _ _ t bs g; in_bounds = omega arith }
 
 pub slice_bounds-names-end : goal.slice_bounds-names-end
 slice_bounds-names-end c =
