@@ -1,16 +1,16 @@
 -- The contracts leave no choice: two results that one of them allows coincide (`..-determined`). And each answer has the number of
--- its outcome (`..-numbered`). This is the page of the calls that write records, too, whose answer is this crate's.
+-- its outcome (`..-numbered`). Of the calls that write records, too, whose answer is this crate's.
 use Rattle.rules.specs.declared.Refusal.{Refusal}
 use Rattle.std.specs.Prelude.{Result, ◌≡◌, Bool, List, ℕ}
 use Rattle.std.proofs.Math.Path.{refl, ap}
 use Rattle.std.proofs.Common.{sym, ◌∙◌}
 use Rattle.std.proofs.Math.Bool.{true, false}
 use Rattle.rules.specs.Base.{need}
-use Rattle.rules.specs.Calls.{lent, Written, replaceTypeCall, replaceSetCall}
+use Rattle.rules.specs.Calls.{lent, Written}
 use Rattle.rules.specs.Numbers.{checked, written, refusalIn, number}
 use Rattle.rules.specs.Refusals.{number_of, numberAnswer}
 use Rattle.rules.specs.declared.Refusal.TheVariants.{ShortBuffer}
-use Rattle.laws.specs.Numbers.{answer-in, told-injective}
+use Rattle.laws.specs.Numbers.{told-injective, answer-in}
 use Rattle.lending.specs.Told.{writtenAs}
 
 pub record OneResult (a b : Result ℕ Refusal) (result result' work work' : List ℕ) : Type 0 where
@@ -33,41 +33,26 @@ pub written-numbered : (w : Written) (p : Result ℕ Refusal) (a c : List ℕ) �
 unfolding number
 written-numbered w p a c h = answer-in p ∙ ap (λ (v : Written). refusalIn v.answer) h
 
+-- `lent`: no is 10
+abbrev pub numberLent : Bool → ℕ
+numberLent true = 0
+numberLent false = number_of ShortBuffer
+
+need-tells : (p q : Bool) → need p 10 ≡ need q 10 → p ≡ q
+need-tells true true e = refl
+need-tells true false e = cc
+need-tells false true e = cc
+need-tells false false e = refl
+
+lent-in : (p : Bool) → numberLent p ≡ refusalIn (need p 10)
+unfolding refusalIn
+lent-in true = refl
+lent-in false = refl
+
 module _ (pool table result work : List ℕ) where
-  -- `lent`: no is 10
-  abbrev pub numberLent : Bool → ℕ
-  numberLent true = 0
-  numberLent false = number_of ShortBuffer
-
-  need-tells : (p q : Bool) → need p 10 ≡ need q 10 → p ≡ q
-  need-tells true true e = refl
-  need-tells true false e = cc
-  need-tells false true e = cc
-  need-tells false false e = refl
-
   pub lent-determined : (p q : Bool) → need p 10 ≡ lent pool table result work → need q 10 ≡ lent pool table result work → p ≡ q
   lent-determined p q h k = need-tells p q (h ∙ sym k)
-
-  lent-in : (p : Bool) → numberLent p ≡ refusalIn (need p 10)
-  unfolding refusalIn
-  lent-in true = refl
-  lent-in false = refl
 
   pub lent-numbered : (p : Bool) → need p 10 ≡ lent pool table result work → numberLent p ≡ number (checked (lent pool table result work))
   unfolding number
   lent-numbered p h = lent-in p ∙ ap refusalIn h
-
-  module _ (ws binds : List ℕ) where
-    -- `replace_in_type` of `replacing_calls`
-    pub replace-in-type-determined : (p q : Result ℕ Refusal) (a b c d : List ℕ) → writtenAs p a c ≡ replaceTypeCall pool table ws binds result work → writtenAs q b d ≡ replaceTypeCall pool table ws binds result work → OneResult p q a b c d
-    replace-in-type-determined = written-determined (replaceTypeCall pool table ws binds result work)
-
-    pub replace-in-type-numbered : (p : Result ℕ Refusal) (a c : List ℕ) → writtenAs p a c ≡ replaceTypeCall pool table ws binds result work → numberAnswer p ≡ number (written (replaceTypeCall pool table ws binds result work))
-    replace-in-type-numbered = written-numbered (replaceTypeCall pool table ws binds result work)
-
-    -- `replace_in_set` of `replacing_calls`
-    pub replace-in-set-determined : (p q : Result ℕ Refusal) (a b c d : List ℕ) → writtenAs p a c ≡ replaceSetCall pool table ws binds result work → writtenAs q b d ≡ replaceSetCall pool table ws binds result work → OneResult p q a b c d
-    replace-in-set-determined = written-determined (replaceSetCall pool table ws binds result work)
-
-    pub replace-in-set-numbered : (p : Result ℕ Refusal) (a c : List ℕ) → writtenAs p a c ≡ replaceSetCall pool table ws binds result work → numberAnswer p ≡ number (written (replaceSetCall pool table ws binds result work))
-    replace-in-set-numbered = written-numbered (replaceSetCall pool table ws binds result work)

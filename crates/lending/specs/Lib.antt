@@ -2,3 +2,4 @@ pub mod Told
 pub mod Handed
 pub mod Lent
 pub mod Determined
+pub mod Theorems

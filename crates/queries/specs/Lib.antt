@@ -6,5 +6,5 @@ pub mod SortMarks
 pub mod GoodOpens
 pub mod Runs
 pub mod Told
-pub mod Determined
+pub mod Theorems
 pub mod Answers

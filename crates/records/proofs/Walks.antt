@@ -22,7 +22,7 @@ use Rattle.records.specs.Views.{viewAt, longAt}
 use Rattle.records.specs.Holds.{openOf, viewOpen, atomOf, viewAtom, basicOf, viewBasic, Long, HoldsFactor, HoldsFactors, Holds, HoldsTys, HoldsFields, Body}
 use Rattle.records.specs.ByView.{Arms, by-body, factor-by-view}
 use Rattle.records.specs.Parsed.{only, only-tys}
-use Rattle.records.specs.Good.{Ends, HeldOpen, HeldAtom, numbers, holding, follows, risingFrom, atomFollows, atomsFrom, goodOpen, goodAtom, goodFactors, goodTy, goodTys, goodFields, GoodFactors, GoodDim, PartsTy, GoodTy, GoodTys, GoodField, GoodFields}
+use Rattle.records.specs.Good.{Ends, numbers, holding, follows, risingFrom, atomFollows, atomsFrom, goodOpen, goodAtom, goodFactors, goodTy, goodTys, goodFields, GoodFactors, GoodDim, PartsTy, GoodTy, GoodTys, GoodField, GoodFields}
 use Rattle.records.specs.declared.Atom as atoms
 use Rattle.records.specs.declared.Open as names
 use Rattle.records.specs.declared.Basic as basics
@@ -74,21 +74,6 @@ basic-there basics.TheVariants.Datetime = refl
 -- ══ Names ══
 
 module _ (pool table : List ℕ) where
-  held-open : (q : ℕ) (o : names.Open) → goodOpen pool table q (openOf o) ≡ true → HeldOpen table o
-  unfolding rules.goodOpen table_of
-  held-open q (names.TheVariants.Var x) e = ltb-true x (get_or table 0 0) e
-  held-open q (names.TheVariants.Quant i) e = tt
-  held-open q (names.TheVariants.Par x) e = ltb-true x (get_or table 0 0) e
-
-  pub held-atom : (q : ℕ) (a : atoms.Atom) → goodAtom pool table q (atomOf a) ≡ true → HeldAtom table a
-  unfolding table_of
-  held-atom q (atoms.TheVariants.Free o) e = held-open q o e
-  held-atom q (atoms.TheVariants.Base x) e = ltb-true x (get_or table 0 0) e
-
-  pub held-name : (x : ℕ) → holding pool table x ≡ true → x < get_or table 0 0
-  unfolding table_of
-  held-name x e = ltb-true x (get_or table 0 0) e
-
   -- one step of a rising list
   rises-name : (b : Option ℕ) (x : ℕ) (xs : List ℕ) → risingFrom pool table b (x ∷ xs) ≡ (follows pool table b x && risingFrom pool table (Some x) xs)
   unfolding rising
@@ -152,9 +137,6 @@ module _ (pool table : List ℕ) where
 
         abbrev Test : Bool
         Test = L && Fine
-
-        pub factors-held : Test ≡ true → HeldAtom table a
-        factors-held t = held-atom q a (both_left A S (both_left (A && S) F (both_right L Fine t)))
 
         record Apart (p : Product ℕ) (e : ℕ) : Type 0 where
           test : Test ≡ true

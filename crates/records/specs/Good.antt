@@ -38,14 +38,10 @@ abbrev pub HeldAtom : List ℕ → Atom → Type 0
 HeldAtom table (atoms.Free o) = HeldOpen table o
 HeldAtom table (atoms.Base x) = x < get_or table 0 0
 
--- the field's name, or the factor's atom, that came before
+-- the field's name that came before
 abbrev pub HeldBefore : List ℕ → Option ℕ → Type 0
 HeldBefore table None = Unit {0}
 HeldBefore table (Some x) = x < get_or table 0 0
-
-abbrev pub HeldLeft : List ℕ → Option Atom → Type 0
-HeldLeft table None = Unit {0}
-HeldLeft table (Some a) = HeldAtom table a
 
 module _ (pool table : List ℕ) where
   abbrev pub numbers : Names ℕ

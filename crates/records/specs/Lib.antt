@@ -14,4 +14,4 @@ pub mod Moves
 pub mod Given
 pub mod Whole
 pub mod Schemes
-pub mod Determined
+pub mod Theorems

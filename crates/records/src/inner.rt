@@ -1,6 +1,5 @@
 // The work on records whose callers know what stands where.
 ghost use Rattle.std.specs.Prelude.{◌≡◌, [], ◌∷◌, ◌+◌, ◌-◌, ◌*◌, ◌/◌, ◌^◌, ◌≤◌, ◌<◌, length, set, get_or, ◌&&◌, eqb};
-ghost use Prim.Native.Nat.{compare};
 ghost use Rattle.std.proofs.lemmas.List.Edits.{sets};
 ghost use Rattle.std.proofs.Math.Seq.{slice};
 ghost use Rattle.rules.specs.Writing.{words};
@@ -57,16 +56,13 @@ pub fn copy(v: &[u32], b: usize, e: usize, dst: &mut [u32], out: usize)
     requires b_bound { out + (e - b) < 2 ^ 60 }
     ensures { dst.new ≡ sets dst.old (out * 4) (slice (b * 4) (e * 4) v.now) }
 {
-    let mut i = b * 4;
-    let mut o = out * 4;
-    while i < e * 4 {
-        put(dst, o, v[i]);
-        i += 1;
-        o += 1;
+    for i in b * 4..e * 4 {
+        put(dst, out * 4 + (i - b * 4), v[i]);
     }
 }
 
-fn is_less(o: Ordering) -> bool
+// Is it strictly before?
+pub fn is_less(o: Ordering) -> bool
     ensures { result ≡ is_lt (toldOrder o) }
 {
     match o {
@@ -77,16 +73,17 @@ fn is_less(o: Ordering) -> bool
 }
 
 // Is a name held, or an index below the count of quantified variables?
-pub fn open_good(names: NameTable, q: u32, o: Open) -> bool
+#[tactic(auto, unfolding(rules::specs::WellFormed::goodOpen, rules::specs::Names::table_of))]
+fn open_good(names: NameTable, q: u32, o: Open) -> bool
     ensures { result ≡ goodOpen names.entry.pool.now names.entry.table.now q (openOf o) }
 {
     match o {
-        Open::Var(x) => names.is_held(x),
+        Open::Var(x) | Open::Par(x) => names.is_held(x),
         Open::Quant(i) => i < q,
-        Open::Par(x) => names.is_held(x),
     }
 }
 
+#[tactic(auto, unfolding(rules::specs::Names::table_of))]
 fn atom_good(names: NameTable, q: u32, a: Atom) -> bool
     ensures { result ≡ goodAtom names.entry.pool.now names.entry.table.now q (atomOf a) }
 {
@@ -96,54 +93,31 @@ fn atom_good(names: NameTable, q: u32, a: Atom) -> bool
     }
 }
 
-fn number_order(i: u32, j: u32) -> Ordering
-    ensures { toldOrder result ≡ compare i j }
-{
-    if i < j {
-        return Ordering::Less;
-    }
-    if j < i {
-        return Ordering::Greater;
-    }
-    Ordering::Equal
-}
-
 // The order of factors: variables, quantified variables, parameters.
+#[tactic(auto, using(names::specs::Told::ordered), unfolding(rules::specs::Trees::orderOpen))]
 fn open_order(names: NameTable, a: Open, b: Open) -> Ordering
     ensures { toldOrder result ≡ orderOpen (numbers names.entry.pool.now names.entry.table.now) (openOf a) (openOf b) }
 {
-    match a {
-        Open::Var(x) => match b {
-            Open::Var(y) => names.order(x, y),
-            Open::Quant(_) => Ordering::Less,
-            Open::Par(_) => Ordering::Less,
-        },
-        Open::Quant(i) => match b {
-            Open::Var(_) => Ordering::Greater,
-            Open::Quant(j) => number_order(i, j),
-            Open::Par(_) => Ordering::Less,
-        },
-        Open::Par(x) => match b {
-            Open::Var(_) => Ordering::Greater,
-            Open::Quant(_) => Ordering::Greater,
-            Open::Par(y) => names.order(x, y),
-        },
+    match (a, b) {
+        (Open::Var(x), Open::Var(y)) | (Open::Par(x), Open::Par(y)) => names.order(x, y),
+        (Open::Quant(i), Open::Quant(j)) => i.cmp(&j),
+        (Open::Var(_), Open::Quant(_) | Open::Par(_)) | (Open::Quant(_), Open::Par(_)) =>
+            Ordering::Less,
+        (Open::Quant(_) | Open::Par(_), Open::Var(_)) | (Open::Par(_), Open::Quant(_)) =>
+            Ordering::Greater,
     }
 }
 
 // And base dimensions last.
-pub fn atom_order(names: NameTable, a: Atom, b: Atom) -> Ordering
+#[tactic(auto, unfolding(rules::specs::Trees::orderAtom))]
+fn atom_order(names: NameTable, a: Atom, b: Atom) -> Ordering
     ensures { toldOrder result ≡ orderAtom (numbers names.entry.pool.now names.entry.table.now) (atomOf a) (atomOf b) }
 {
-    match a {
-        Atom::Free(o) => match b {
-            Atom::Free(p) => open_order(names, o, p),
-            Atom::Base(_) => Ordering::Less,
-        },
-        Atom::Base(x) => match b {
-            Atom::Free(_) => Ordering::Greater,
-            Atom::Base(y) => names.order(x, y),
-        },
+    match (a, b) {
+        (Atom::Free(o), Atom::Free(p)) => open_order(names, o, p),
+        (Atom::Base(x), Atom::Base(y)) => names.order(x, y),
+        (Atom::Free(_), Atom::Base(_)) => Ordering::Less,
+        (Atom::Base(_), Atom::Free(_)) => Ordering::Greater,
     }
 }
 
@@ -216,9 +190,7 @@ fn factors_end(
     let View::Factor(a, num, den) = view_at(s, at) else {
         return None;
     };
-    if length_at(s, at) != 1
-        || !factor_good(names, q, left, a, Exponent::from_words(num, den))
-    {
+    if length_at(s, at) != 1 || !factor_good(names, q, left, a, Exponent::from_words(num, den)) {
         return None;
     }
     factors_end(names, q, s, at + 1, n - 1, Some(a))
@@ -236,13 +208,7 @@ fn dim_end(names: NameTable, q: u32, s: &[u32], at: usize, n: u32) -> Option<usi
 
 // Where the type at a place ends, which is nested at most `deep`.
 #[cycle(types)]
-pub fn type_end(
-    names: NameTable,
-    q: u32,
-    s: &[u32],
-    at: usize,
-    deep: usize,
-) -> Option<usize>
+pub fn type_end(names: NameTable, q: u32, s: &[u32], at: usize, deep: usize) -> Option<usize>
     ensures { Ends (GoodTy names.entry.pool.now names.entry.table.now q s.now deep at) result }
 {
     closed(s, at, type_parts(names, q, s, at, deep))
@@ -250,13 +216,7 @@ pub fn type_end(
 
 // Where its parts end, whatever length its first record says.
 #[cycle(types)]
-fn type_parts(
-    names: NameTable,
-    q: u32,
-    s: &[u32],
-    at: usize,
-    deep: usize,
-) -> Option<usize>
+fn type_parts(names: NameTable, q: u32, s: &[u32], at: usize, deep: usize) -> Option<usize>
     ensures { Ends (PartsTy names.entry.pool.now names.entry.table.now q s.now deep at) result }
 {
     if deep == 0 {
@@ -289,14 +249,7 @@ fn type_parts(
 
 // Where n types end.
 #[cycle(types)]
-fn types_end(
-    names: NameTable,
-    q: u32,
-    s: &[u32],
-    at: usize,
-    n: u32,
-    deep: usize,
-) -> Option<usize>
+fn types_end(names: NameTable, q: u32, s: &[u32], at: usize, n: u32, deep: usize) -> Option<usize>
     ensures { Ends (GoodTys names.entry.pool.now names.entry.table.now q s.now deep at n) result }
 {
     if n == 0 {
@@ -333,7 +286,7 @@ fn fields_end(
 }
 
 // Where the product at a place ends.
-pub fn product_end(names: NameTable, q: u32, s: &[u32], at: usize) -> Option<usize>
+fn product_end(names: NameTable, q: u32, s: &[u32], at: usize) -> Option<usize>
     ensures { Ends (GoodProduct names.entry.pool.now names.entry.table.now q s.now at) result }
 {
     closed(s, at, product_parts(names, q, s, at))

@@ -3,6 +3,7 @@
 
 pub mod inner;
 pub mod seen;
+pub mod theorems;
 
 ghost use Rattle.std.specs.Prelude.{◌≡◌, ◌&&◌, ◌%◌, eqb, length};
 ghost use Rattle.rules.specs.Base.{need};
@@ -14,7 +15,7 @@ use names::inner::is_good;
 use names::tables::NameTable;
 use rules::{POOL_BYTES, RECORD_WORDS, Refusal, TABLE_WORDS};
 
-// An open name: a variable, a quantified variable by its index, a parameter.
+/// An open name: a variable, a quantified variable by its index, a parameter.
 #[derive(Clone, Copy)]
 pub enum Open {
     Var(u32),
@@ -22,13 +23,14 @@ pub enum Open {
     Par(u32),
 }
 
-// What a factor is a power of.
+/// What a factor is a power of.
 #[derive(Clone, Copy)]
 pub enum Atom {
     Free(Open),
     Base(u32),
 }
 
+/// The types that have no parts.
 #[derive(Clone, Copy)]
 pub enum Basic {
     Boolean,
@@ -36,7 +38,7 @@ pub enum Basic {
     Datetime,
 }
 
-// What one record says. A factor has its numerator and denominator as words.
+/// What one record says. A factor has its numerator and denominator as words.
 #[derive(Clone, Copy)]
 pub enum View {
     Opened(Open),
@@ -58,7 +60,7 @@ pub enum View {
     Bad,
 }
 
-// The four words of a record.
+/// The four words of a record.
 #[derive(Clone, Copy)]
 pub struct Words {
     pub kind: u32,

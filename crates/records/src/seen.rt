@@ -1,5 +1,5 @@
-// What one record says, and the record that says it. No other code looks at word 0 of a record: it holds the kind, and the length of the part that the
-// record begins.
+//! What one record says, and the record that says it. No other code looks at word 0 of a record: it holds the kind, and the length of the part that the
+//! record begins.
 ghost use Rattle.std.specs.Prelude.{◌≡◌, [], ◌∷◌, ◌<◌};
 ghost use Rattle.rules.specs.Writing.{rec, head, kindIn, lengthIn};
 ghost use Rattle.records.specs.Cut.{fit};
@@ -7,35 +7,29 @@ ghost use Rattle.records.specs.Views.{recOf, plain, pick, boundTable, schemeTabl
 
 use super::{Atom, Basic, Open, View, Words};
 
-// The view, where the two words that the record doesn't use are 0.
-fn plain_two(b: u32, c: u32, v: View) -> View
-    ensures { result ≡ plain (b ∷ c ∷ []) v }
-{
-    if b != 0 {
-        return View::Bad;
-    }
-    if c != 0 {
-        return View::Bad;
-    }
-    v
-}
-
-fn plain_three(a: u32, b: u32, c: u32, v: View) -> View
-    ensures { result ≡ plain (a ∷ b ∷ c ∷ []) v }
-{
-    if a != 0 {
-        return View::Bad;
-    }
-    plain_two(b, c, v)
-}
-
+// The view, where the word that the record doesn't use is 0.
 fn plain_one(c: u32, v: View) -> View
     ensures { result ≡ plain (c ∷ []) v }
 {
-    if c != 0 {
-        return View::Bad;
+    if c == 0 { v } else { View::Bad }
+}
+
+// Where the two words that it doesn't use are 0.
+fn plain_two(b: u32, c: u32, v: View) -> View
+    ensures { result ≡ plain (b ∷ c ∷ []) v }
+{
+    if b == 0 { plain_one(c, v) } else { View::Bad }
+}
+
+// Where the three are 0.
+fn plain_three(a: u32, b: u32, c: u32, v: View) -> View
+    ensures { result ≡ plain (a ∷ b ∷ c ∷ []) v }
+{
+    if a == 0 {
+        plain_two(b, c, v)
+    } else {
+        View::Bad
     }
-    v
 }
 
 // What b says of a bound: 0 a name, 1 an index.
@@ -123,7 +117,7 @@ fn shape(kind: u32, a: u32, b: u32, c: u32) -> View
     }
 }
 
-// What the record at a place says, Bad where there is none.
+/// What the record at a place says, Bad where there is none.
 pub fn view_at(s: &[u32], at: usize) -> View
     ensures { result ≡ viewAt s.now at }
 {
@@ -134,7 +128,7 @@ pub fn view_at(s: &[u32], at: usize) -> View
     shape(kind_in(s[i]), s[i + 1], s[i + 2], s[i + 3])
 }
 
-// How long the part is that the record at a place begins, 0 where there is none.
+/// How long the part is that the record at a place begins, 0 where there is none.
 pub fn length_at(s: &[u32], at: usize) -> usize
     ensures { result ≡ longAt s.now at }
 {
@@ -255,7 +249,7 @@ fn lone(kind: u32, a: u32) -> Words
     }
 }
 
-// The record that says v.
+/// The record that says v, with its kind alone in word 0.
 pub fn words_of(v: View) -> Words
     ensures { toldWords result ≡ bareOf v }
 {

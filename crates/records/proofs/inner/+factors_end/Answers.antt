@@ -1,5 +1,5 @@
 -- The cycle of `inner::factors_end` meets its contract.
-use Rattle.records.proofs.Walks.{one-long, not-long, factors-held, factors-none, factors-other, factors-fail, factors-step}
+use Rattle.records.proofs.Walks.{one-long, not-long, factors-none, factors-other, factors-fail, factors-step}
 use Rattle.records.specs.Places.{seen-in}
 use borrow.Author.Rules.{rules}
 use native.Mathlib.Omega.{arith}

@@ -1,5 +1,5 @@
 -- The walkers of types, lists of types and fields meet their contracts: one cycle.
-use Rattle.records.proofs.Walks.{held-name, types-none, types-fail, types-step, fields-none, fields-other, fields-fail, fields-type, fields-step, type-shallow, type-open, type-open-fail, type-basic, type-dim, type-list, type-fn-fail, type-fn, type-struct-name, type-struct-fail, type-struct, type-other}
+use Rattle.records.proofs.Walks.{types-none, types-fail, types-step, fields-none, fields-other, fields-fail, fields-type, fields-step, type-shallow, type-open, type-open-fail, type-basic, type-dim, type-list, type-fn-fail, type-fn, type-struct-name, type-struct-fail, type-struct, type-other}
 use Rattle.records.specs.Closing.{type-closing, field-closing}
 use Rattle.records.specs.Good.{Ends, GoodTy, GoodField, holding, follows}
 use Rattle.records.specs.Places.{seen-in}

@@ -1,5 +1,4 @@
 -- `inner::atom_follows` meets its contract.
-use Rattle.records.specs.Good.{HeldLeft}
 use Rattle.rules.specs.WellFormed.{is_lt}
 use mathlib.Core.Path.{ap, subst, ◌∙◌}
 use Rattle.records.proofs.inner.atom_follows.Goals as goal

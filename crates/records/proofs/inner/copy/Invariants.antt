@@ -1,4 +1,4 @@
-use Prim.Native.Nat.{◌≤◌, ◌+◌, ◌*◌, ◌-◌}
+use Prim.Native.Nat.{◌+◌, ◌*◌, ◌-◌}
 use mathlib.Core.Path.{◌≡◌}
 use lib.ListN.{length}
 use lib.Seq.{sets, slice}
@@ -6,8 +6,5 @@ use Rattle.records.proofs.inner.copy.Given as goal
 
 abbrev pub invariant-loop-i : goal.invariant-loop-i
 invariant-loop-i l =
-    (l.b * 4 ≤ l.i) × (l.i ≤ l.e * 4) × (l.o + l.b * 4 ≡ l.i + l.out * 4) × (length l.dst ≡ length l.initial.dst)
-    × (sets l.dst l.o (slice l.i (l.e * 4) l.v) ≡ sets l.initial.dst (l.out * 4) (slice (l.b * 4) (l.e * 4) l.v))
-
-abbrev pub decreases-loop-i : goal.decreases-loop-i
-decreases-loop-i l = l.e * 4 - l.i
+    (length l.dst ≡ length l.initial.dst)
+    × (sets l.dst (l.out * 4 + (l.i - l.b * 4)) (slice l.i (l.e * 4) l.v) ≡ sets l.initial.dst (l.out * 4) (slice (l.b * 4) (l.e * 4) l.v))

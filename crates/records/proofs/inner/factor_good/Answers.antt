@@ -1,5 +1,4 @@
 -- `inner::factor_good` meets its contract.
-use Rattle.records.proofs.Walks.{held-atom}
 use mathlib.Core.Path.{refl, sym}
 use Rattle.records.proofs.inner.factor_good.Goals as goal
 

@@ -1,5 +1,4 @@
 -- `inner::name_good` meets its contract.
-use Rattle.records.proofs.Walks.{held-name}
 use Rattle.rules.specs.Names.{table_of}
 use mathlib.Core.Path.{refl, sym}
 use Rattle.records.proofs.inner.name_good.Goals as goal

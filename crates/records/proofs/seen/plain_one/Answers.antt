@@ -4,10 +4,10 @@ use Rattle.rules.specs.Base.{all}
 use Rattle.records.specs.Views.{plain}
 use Rattle.records.proofs.seen.plain_one.Goals as goal
 
-pub returns-then-c-ne0 : goal.returns-then-c-ne0
+pub returns-then-c-eq0 : goal.returns-then-c-eq0
 unfolding plain all
-returns-then-c-ne0 c = simp (ne_eqb _ _ c.if-c-ne0.true)
+returns-then-c-eq0 c = simp (eq-eqb _ _ c.if-c-eq0.true)
 
-pub returns : goal.returns
+pub returns-else-c-eq0 : goal.returns-else-c-eq0
 unfolding plain all
-returns c = simp (eq-eqb _ _ c.if-c-ne0.false)
+returns-else-c-eq0 c = simp (ne_eqb _ _ c.if-c-eq0.false)

@@ -4,10 +4,10 @@ use Rattle.rules.specs.Base.{all}
 use Rattle.records.specs.Views.{plain}
 use Rattle.records.proofs.seen.plain_three.Goals as goal
 
-pub returns-then-a-ne0 : goal.returns-then-a-ne0
+pub returns-then-a-eq0 : goal.returns-then-a-eq0
 unfolding plain all
-returns-then-a-ne0 c = simp (ne_eqb _ _ c.if-a-ne0.true)
+returns-then-a-eq0 c = simp (eq-eqb _ _ c.if-a-eq0.true) c.plain_two.ensures
 
-pub returns : goal.returns
+pub returns-else-a-eq0 : goal.returns-else-a-eq0
 unfolding plain all
-returns c = simp (eq-eqb _ _ c.if-a-ne0.false) c.plain_two.ensures
+returns-else-a-eq0 c = simp (ne_eqb _ _ c.if-a-eq0.false)

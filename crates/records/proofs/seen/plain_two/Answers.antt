@@ -4,14 +4,10 @@ use Rattle.rules.specs.Base.{all}
 use Rattle.records.specs.Views.{plain}
 use Rattle.records.proofs.seen.plain_two.Goals as goal
 
-pub returns-then-b-ne0 : goal.returns-then-b-ne0
+pub returns-then-b-eq0 : goal.returns-then-b-eq0
 unfolding plain all
-returns-then-b-ne0 c = simp (ne_eqb _ _ c.if-b-ne0.true)
+returns-then-b-eq0 c = simp (eq-eqb _ _ c.if-b-eq0.true) c.plain_one.ensures
 
-pub returns-then-c-ne0 : goal.returns-then-c-ne0
+pub returns-else-b-eq0 : goal.returns-else-b-eq0
 unfolding plain all
-returns-then-c-ne0 c = simp (eq-eqb _ _ c.if-b-ne0.false, ne_eqb _ _ c.if-c-ne0.true)
-
-pub returns : goal.returns
-unfolding plain all
-returns c = simp (eq-eqb _ _ c.if-b-ne0.false, eq-eqb _ _ c.if-c-ne0.false)
+returns-else-b-eq0 c = simp (ne_eqb _ _ c.if-b-eq0.false)
