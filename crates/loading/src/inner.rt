@@ -1,5 +1,5 @@
 // The work on words that hold a product, and on products that were tested before.
-ghost use Rattle.std.specs.Prelude.{◌≡◌, ◌*◌, ◌≤◌, length};
+ghost use Rattle.std.specs.Prelude.{◌≡◌, ◌+◌, ◌*◌, ◌^◌, ◌≤◌, ◌<◌, length};
 ghost use Rattle.std.proofs.lemmas.List.Edits.{sets};
 ghost use Rattle.rules.specs.Exponents.{frac};
 ghost use Rattle.rules.specs.Trees.{◌↑◌};
@@ -86,7 +86,7 @@ fn view_of(f: Factor) -> View
 // A product as a dimension: its count of factors, and the factors.
 pub fn store(p: Product, dst: &mut [u32], out: usize)
     requires sound { Sound p }
-    requires out_bound { out ≤ 1000000000 }
+    requires out_bound { out + p.len < 2 ^ 60 }
     ensures { dst.new ≡ sets dst.old (out * 4) (words (writeProduct (productOf p))) }
 {
     let n = p.len;

@@ -1,7 +1,7 @@
 -- Steps of a walk, one after another, and the room that is left.
 use mathlib.Core.Path.{◌≡◌, refl, sym, ap, subst, ◌∙◌}
-use mathlib.Core.List.{List, [], ◌∷◌, ◌++◌}
-use Prim.Native.Nat.{ℕ, ◌+◌, ◌-◌, ◌*◌, ◌/◌, ◌≤◌}
+use mathlib.Core.List.{List, ◌++◌}
+use Prim.Native.Nat.{ℕ, ◌+◌, ◌*◌, ◌/◌, ◌≤◌}
 use native.Mathlib.Omega.{arith}
 use lib.ListN.{length}
 use lib.Seq.{sets}
@@ -9,12 +9,9 @@ use Rattle.rules.specs.Base.{Got, got, refused, ◌>>=◌}
 use Rattle.rules.specs.Refusals.{number_of}
 use Rattle.rules.specs.Writing.{Rec, words}
 use Rattle.rules.specs.declared.Refusal.{Refusal}
-use Rattle.records.specs.Cut.{fit, cutRec, cut}
-use Rattle.records.specs.Places.{cut-view}
-use Rattle.records.specs.Views.{recOf}
-use Rattle.records.specs.declared.View.{View}
-use Rattle.replacing.specs.Left.{went-same, Left, LeftOf, Stops, Room, Behind, beforeRecs, Went}
-use Rattle.replacing.specs.Writes.{cut-writes, writes-before}
+use Rattle.records.specs.Cut.{cut}
+use Rattle.replacing.specs.Left.{went-same, Left, LeftOf, Stops, Room, Went}
+use Rattle.replacing.specs.Writes.{cut-writes}
 use Rattle.std.specs.Prelude.{Ok, Err}
 
 -- what a step that went on left
@@ -56,22 +53,6 @@ left-put {d = d} {out = out} a e p c k b = left-made a e p c (b ∙ ap (λ (l : 
 pub left-stop : {A : Type 0} {m : A → ℕ} {ws : A → List Rec} {d d' : List ℕ} {next out : ℕ} {k : Refusal} {R : Got A} → R ≡ refused (number_of k) → Left m ws d d' next out (Err k) R
 left-stop e = record { says = rw e refl }
 
--- the same value under another name
-module _ {A B : Type 0} (m : A → ℕ) (ws : A → List Rec) (m' : B → ℕ) (ws' : B → List Rec) (f : A → B) (hm : (a : A) → m' (f a) ≡ m a) (hw : (a : A) → ws' (f a) ≡ ws a) (d d' : List ℕ) (next out : ℕ) (r : Went) where
-  as-of : (R : Got A) → LeftOf m ws d d' next out r R → LeftOf m' ws' d d' next out r (R >>= λ a. got (f a))
-  as-of (got a) h = (h.0 ∙ ap (λ (k : ℕ). Ok (next, out + k)) (sym (hm a)), h.1 ∙ ap (λ (l : List Rec). sets d (out * 4) (words (cut l))) (sym (hw a)))
-  as-of (refused k) h = h
-
-  back-of : (R : Got A) → LeftOf m' ws' d d' next out r (R >>= λ a. got (f a)) → LeftOf m ws d d' next out r R
-  back-of (got a) h = (h.0 ∙ ap (λ (k : ℕ). Ok (next, out + k)) (hm a), h.1 ∙ ap (λ (l : List Rec). sets d (out * 4) (words (cut l))) (hw a))
-  back-of (refused k) h = h
-
-  pub left_as : (R : Got A) → Left m ws d d' next out r R → Left m' ws' d d' next out r (R >>= λ a. got (f a))
-  left_as R h = record { says = as-of R h.says }
-
-  pub left_back : (R : Got A) → Left m' ws' d d' next out r (R >>= λ a. got (f a)) → Left m ws d d' next out r R
-  left_back R h = record { says = back-of R h.says }
-
 module _ {A B : Type 0} (m : A → ℕ) (ws : A → List Rec) (m' : B → ℕ) (ws' : B → List Rec) (f : A → B) (n : ℕ) (w : List Rec) (len : length w ≡ n) (R : Got A)
     (hm : (a : A) → R ≡ got a → m' (f a) ≡ n + m a) (hw : (a : A) → R ≡ got a → ws' (f a) ≡ w ++ ws a) (d d₁ d' : List ℕ) (next out : ℕ) (r : Went) where
   on_of : (S : Got A) → R ≡ S → d₁ ≡ sets d (out * 4) (words (cut w)) → LeftOf m ws d₁ d' next (out + n) r S → LeftOf m' ws' d d' next out r (S >>= λ a. got (f a))
@@ -83,30 +64,6 @@ module _ {A B : Type 0} (m : A → ℕ) (ws : A → List Rec) (m' : B → ℕ) (
   -- n records were written, and the rest goes on from there
   pub left-on : d₁ ≡ sets d (out * 4) (words (cut w)) → Left m ws d₁ d' next (out + n) r R → Left m' ws' d d' next out r (R >>= λ a. got (f a))
   left-on p h = record { says = on_of R refl p h.says }
-
-module _ {A B : Type 0} (m : A → ℕ) (ws : A → List Rec) (m' : B → ℕ) (ws' : B → List Rec) (f : A → B) (v : View) (R : Got A)
-    (hm : (a : A) → R ≡ got a → m' (f a) ≡ 1 + m a) (hw : (a : A) → R ≡ got a → ws' (f a) ≡ recOf v (m' (f a)) ∷ ws a) (d d₁ d' : List ℕ) (next out : ℕ) (r : Went) where
-  under_of : (S : Got A) → R ≡ S → LeftOf m ws d d₁ next (out + 1) r S → d' ≡ sets d₁ (out * 4) (words (beforeRecs r v out)) → LeftOf m' ws' d d' next out r (S >>= λ a. got (f a))
-  under_of (got a) e h q =
-      let g : out + 1 + m a ≡ out + m' (f a) = omega (arith, hm a e) in
-      let n : out + 1 + m a - out ≡ m' (f a) = omega (arith, hm a e) in
-      let p : d' ≡ sets d₁ (out * 4) (words (cutRec (recOf v (m' (f a))) ∷ [])) =
-      q ∙ ap (λ (x : Went). sets d₁ (out * 4) (words (beforeRecs x v out))) h.0
-      ∙ ap (λ (x : ℕ). sets d₁ (out * 4) (words (recOf v (fit x) ∷ []))) n ∙ ap (λ (x : Rec). sets d₁ (out * 4) (words (x ∷ []))) (sym (cut-view v (m' (f a)))) in
-      (h.0 ∙ ap (λ (k : ℕ). Ok (next, k)) g, writes-before d d₁ d' (cutRec (recOf v (m' (f a)))) (cut (ws a)) out h.1 p ∙ ap (λ (l : List Rec). sets d (out * 4) (words (cut l))) (sym (hw a e)))
-  under_of (refused k) e h q = h
-
-  -- the rest was written one record further on, and the first before it
-  pub left-under : Left m ws d d₁ next (out + 1) r R → d' ≡ sets d₁ (out * 4) (words (beforeRecs r v out)) → Left m' ws' d d' next out r (R >>= λ a. got (f a))
-  left-under h q = record { says = under_of R refl h.says q }
-
--- a walk that went on went past the records before
-pub left_behind : {A : Type 0} {m : A → ℕ} {ws : A → List Rec} {d d' : List ℕ} {next past : ℕ} {r : Went} {R : Got A} (out : ℕ) → out ≤ past → Left m ws d d' next past r R → Behind r out
-left_behind {m = m} {ws} {d} {d'} {next} {past} {r} {R} out le h = go r refl
-  where
-    go : (x : Went) → r ≡ x → Behind x out
-    go (Ok (q, o)) e = omega (arith, (went {R = R} h e).counted)
-    go (Err k) e = tt
 
 -- after n records were read and at most 2,048 written for each, the room is still there
 pub room-on : {s : List ℕ} {at out next past : ℕ} (n m : ℕ) → Room s at out → next ≡ at + n → past ≡ out + m → at + n ≤ length s / 4 → m ≤ n * 2048 → Room s next past

@@ -1,7 +1,7 @@
 pub mod Others
-pub mod Bounds
 pub mod Lefts
-pub mod Pieces
 pub mod Sizes
-pub mod Steps
-pub mod LineSteps
+pub mod Walks
+pub mod Dimensions
+pub mod Constraints
+pub mod Lines

@@ -1,5 +1,5 @@
 -- A product that is one variable to the power 1.
-use Rattle.std.specs.Prelude.{◌≡◌, Bool, ℕ, eqb, drop}
+use Rattle.std.specs.Prelude.{◌≡◌, Bool, ℕ, eqb}
 use Rattle.std.proofs.Math.Path.{refl}
 use Rattle.std.proofs.Common.{sym, ap, ◌∙◌, arith}
 use Rattle.std.proofs.Math.Bool.{true, false}
@@ -8,23 +8,21 @@ use Rattle.std.proofs.Math.Option.{Option, none, some, get_or}
 use borrow.Author.Tests.{ne_eqb}
 use Rattle.std.proofs.Math.ListN.{length}
 use Rattle.rules.specs.Base.{is_yes, only_if, ◌or_else◌}
-use Rattle.rules.specs.Exponents.{Exp-dec, one}
+use Rattle.rules.specs.Exponents.{Exp-dec, frac, one}
 use Rattle.rules.specs.Products.{single}
 use Rattle.rules.specs.Trees as trees
 use Rattle.rules.specs.Trees.{◌↑◌}
 use Rattle.rules.specs.Values.{atomIn}
+use Rattle.rules.specs.Writing.{signed}
 use Rattle.exponents.specs.Answers.{expOf}
-use Rattle.products.specs.Told.{tree_of, productOf, factorAt}
-use Rattle.products.specs.Kinds.{Kind, variable, parameter, dimension, quantified}
-use Rattle.products.specs.Held.{Sound}
-use Rattle.products.specs.Places.{length-product, at_place, at-end}
+use Rattle.products.specs.Told.{tree_of}
 use Rattle.products.specs.declared.Factor.{Factor}
-use Rattle.products.specs.declared.Product.{Product}
-
--- the variable that a product is where it stands for a type; the product of an equal-scalar is none
-abbrev pub picked : Bool → trees.Product ℕ → Option (trees.Open ℕ)
-picked true p = single p
-picked false p = none
+use Rattle.records.specs.Holds.{openOf, atomOf}
+use Rattle.records.specs.declared.Atom.{Atom}
+use Rattle.records.specs.declared.Atom.TheVariants as atoms
+use Rattle.records.specs.declared.Open as names
+use Rattle.types.specs.declared.Factor as types
+use Rattle.types.specs.Shapes.{factor_of}
 
 -- the open name of a factor; a base dimension has none
 abbrev pub open_in : trees.Factor ℕ → Option (trees.Open ℕ)
@@ -52,46 +50,48 @@ module _ (f : Factor) where
       go true = refl
       go false = refl
 
-  module _ (b : Bool) (e : b ≡ is_yes (Exp-dec (expOf f.exp) one)) where
-    pub alone-var : b ≡ true → f.kind ≡ 11 → some (trees.var f.name) ≡ single (tree_of f ∷ [])
-    unfolding single atomIn
-    alone-var t k = rw (k, ← e, t)
+-- a product of one factor
+pub lone : {f : trees.Factor ℕ} (q : trees.Product ℕ) {p : trees.Product ℕ} → f ∷ q ≡ p → length p ≡ 1 → single (f ∷ []) ≡ single p
+lone [] e l = ap single e
+lone (g ∷ q) e l = absurd (omega (arith, ap length e, l))
 
-    pub alone-quant : b ≡ true → f.kind ≡ 15 → some (trees.quant f.name) ≡ single (tree_of f ∷ [])
-    unfolding single atomIn
-    alone-quant t k = rw (k, ← e, t)
+-- and of another count
+pub not-lone : (p : trees.Product ℕ) → (length p ≡ 1 → ⊥) → none ≡ single p
+unfolding single
+not-lone [] n = refl
+not-lone (a ↑ x ∷ []) n = absurd (n refl)
+not-lone (a ↑ x ∷ f ∷ p) n = refl
 
-    pub alone-not : Kind f.kind → b ≡ false → none ≡ single (tree_of f ∷ [])
-    unfolding single atomIn
-    alone-not k t = go k refl
-      where
-        go : {j : ℕ} → Kind j → f.kind ≡ j → none ≡ single (tree_of f ∷ [])
-        go variable i = rw (i, ← e, t)
-        go parameter i = rw i
-        go dimension i = rw i
-        go quantified i = rw (i, ← e, t)
+module _ (f : types.Factor) where
+  abbrev One : Bool
+  One = is_yes (Exp-dec (frac (signed f.num) f.den) one)
 
-  pub alone-other : Kind f.kind → (f.kind ≡ 11 → ⊥) → (f.kind ≡ 15 → ⊥) → none ≡ single (tree_of f ∷ [])
-  unfolding single atomIn
-  alone-other k a b = go k refl
-    where
-      go : {j : ℕ} → Kind j → f.kind ≡ j → none ≡ single (tree_of f ∷ [])
-      go variable i = absurd (a i)
-      go parameter i = rw i
-      go dimension i = rw i
-      go quantified i = absurd (b i)
-
-module _ (p : Product) (s : Sound p) where
-  -- a product of one factor
-  pub one-factor : p.len ≡ 1 → productOf p ≡ tree_of (factorAt p 0) ∷ []
-  one-factor e = at_place p s.long s.few 0 (omega arith) ∙ ap (λ (l : trees.Product ℕ). tree_of (factorAt p 0) ∷ l) (ap (λ (k : ℕ). drop k (productOf p)) (sym e) ∙ at-end p s.long s.few)
-
-  -- and of another count
-  pub not-single : (p.len ≡ 1 → ⊥) → none ≡ single (productOf p)
+  pub not-one : One ≡ false → none ≡ single (factor_of f ∷ [])
   unfolding single
-  not-single f = go (productOf p) (length-product p s.long s.few)
+  not-one h = go (atomOf f.atom)
     where
-      go : (t : trees.Product ℕ) → length t ≡ p.len → none ≡ single t
-      go [] e = refl
-      go (a ↑ x ∷ []) e = absurd (f (sym e))
-      go (a ↑ x ∷ g ∷ t) e = refl
+      go : (a : trees.Atom ℕ) → none ≡ single (a ↑ frac (signed f.num) f.den ∷ [])
+      go (trees.free (trees.var x)) = rw h
+      go (trees.free (trees.quant i)) = rw h
+      go (trees.free (trees.par x)) = refl
+      go (trees.base n) = refl
+
+  module _ {o : names.Open} (a : f.atom ≡ atoms.Free o) where
+    of : single (trees.free (openOf o) ↑ frac (signed f.num) f.den ∷ []) ≡ single (factor_of f ∷ [])
+    of = ap (λ (x : Atom). single (atomOf x ↑ frac (signed f.num) f.den ∷ [])) (sym a)
+
+    pub alone-var : {x : ℕ} → o ≡ names.TheVariants.Var x → One ≡ true → some (openOf o) ≡ single (factor_of f ∷ [])
+    unfolding single
+    alone-var e h = rw e (rw h refl) ∙ of
+
+    pub alone-quant : {x : ℕ} → o ≡ names.TheVariants.Quant x → One ≡ true → some (openOf o) ≡ single (factor_of f ∷ [])
+    unfolding single
+    alone-quant e h = rw e (rw h refl) ∙ of
+
+    pub alone-par : {x : ℕ} → o ≡ names.TheVariants.Par x → none ≡ single (factor_of f ∷ [])
+    unfolding single
+    alone-par e = rw e refl ∙ of
+
+  pub alone-base : {x : ℕ} → f.atom ≡ atoms.Base x → none ≡ single (factor_of f ∷ [])
+  unfolding single
+  alone-base a = ap (λ (x : Atom). single (atomOf x ↑ frac (signed f.num) f.den ∷ [])) (sym a)

@@ -1,7 +1,7 @@
 -- Replacing in a product, factor by factor.
 use Rattle.std.proofs.Math.Path.{◌≡◌, refl, sym, ap}
 use Rattle.std.proofs.Common.{◌∙◌}
-use Rattle.std.specs.Prelude.{true, ℕ, ◌+◌, ◌≤◌, ◌<◌, Some}
+use Rattle.std.specs.Prelude.{true, ℕ, ◌+◌, ◌≤◌, ◌<◌}
 use Rattle.std.proofs.Math.Bool.{and-eq-true_iff}
 use mathlib.Core.List.{List, [], ◌∷◌}
 use Rattle.std.proofs.Math.Option.{Option, none, some}
@@ -12,9 +12,7 @@ use Rattle.rules.specs.Exponents.{Exp, goodExp, goodStored}
 use Rattle.rules.specs.Names.{table_of, is_held}
 use Rattle.rules.specs.Products.{divide, raise, multiply}
 use Rattle.rules.specs.Replacing.{Look, asProduct, replaceFactors, replaceProduct}
-use Rattle.rules.specs.Refusals.{toldBy}
-use Rattle.rules.specs.declared.Refusal.{Refusal}
-use Rattle.rules.specs.Trees.{Open, Atom, free, base, Factor, ◌↑◌, Names, Ty, size}
+use Rattle.rules.specs.Trees.{Open, Atom, free, base, Factor, ◌↑◌, Names, Ty, opened, basic, dim, fn, struct, list}
 use Rattle.rules.specs.Values.{ProductValue, productValue}
 use Rattle.rules.specs.WellFormed.{goodOpen, goodFactor, goodProduct, rising}
 use Rattle.laws.specs.GoodProducts.{multiply_good, divide-good, raise-good, goodAtom}
@@ -28,10 +26,17 @@ use Rattle.products.specs.Places.{at_place, length-product}
 use Rattle.products.specs.Held.{law, made, made-long, Taken}
 use Rattle.products.specs.declared.Factor as code
 use Rattle.products.specs.declared.Product.{Product}
-use Rattle.records.specs.ByView.{in_reach}
-use Rattle.replacing.specs.Runs.{Found, LookedUp, found}
 use Rattle.replacing.specs.Alone.{open_in}
-use Rattle.replacing.specs.Well.{names, GoodFactor, GoodProduct, GoodTy, Whole, HeldType, LooksGood, Lent}
+use Rattle.replacing.specs.Well.{names, GoodFactor, GoodProduct, GoodTy, Whole, LooksGood}
+
+-- a dimension of at most 64 factors, or another type
+abbrev pub FewFactors : Ty ℕ → Type 0
+FewFactors (opened o) = Unit {0}
+FewFactors (basic b) = Unit {0}
+FewFactors (dim p) = length p ≤ 64
+FewFactors (fn ps r) = Unit {0}
+FewFactors (struct n as' fs) = Unit {0}
+FewFactors (list t) = Unit {0}
 
 -- what the atom of a factor is bound to
 abbrev pub atomLooked : Look ℕ → Factor ℕ → Option (Ty ℕ)
@@ -201,20 +206,6 @@ module _ (pool table : List ℕ) where
           put_last x y = rw (D.is, L.is, M.is) (rw ((taken left L.tree L.whole).is, (taken more M.tree M.whole).is) y)
 
   -- ══ One factor by what is bound ══
-
-  -- a type that was found by a table that is lent
-  pub record LentType (v : List ℕ) (look : Look ℕ) (o : Open ℕ) (i j : ℕ) : Type 0 where
-    pub type : Ty ℕ
-    pub is : look o ≡ some type
-    pub held : HeldType pool table v type i
-    pub ends : j ≡ i + size type
-    pub short : size type ≤ 2048
-    pub near : i < 1_000_000_000
-
-  pub lent-type : {places v : List ℕ} (look : Look ℕ) (o : Open ℕ) {r : Found} {i j : ℕ} → Lent pool table places v look → LookedUp v (look o) r → r ≡ Some (i, j) → LentType v look o i j
-  lent-type {v = v} look o {i = i} l h e =
-      let f = found (look o) h e in
-      record { type = f.type; is = f.is; held = record { held = f.held; good = l.good o f.type f.is }; ends = f.ends; short = l.tabled.few o f.type f.is; near = let k = in_reach v f.type i f.held in omega (arith, l.near) }
 
   module _ (f : code.Factor) (look : Look ℕ) where
     abbrev pub Looked : Option (Ty ℕ)

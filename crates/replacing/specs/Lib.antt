@@ -1,10 +1,12 @@
 pub mod Runs
 pub mod Places
+pub mod Substitutions
 pub mod Alone
 pub mod Writes
 pub mod Well
 pub mod InProducts
 pub mod Left
+pub mod Leaves
 pub mod LineRules
 pub mod LineLaws
 pub mod Flat

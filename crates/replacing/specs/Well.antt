@@ -9,7 +9,7 @@ use Rattle.rules.specs.Values.{productValue}
 use Rattle.rules.specs.WellFormed.{goodFactor, goodProduct, goodTy, goodTys, goodFields, goodCon, goodBinding}
 use Rattle.products.specs.Told.{Tree, given}
 use Rattle.products.specs.declared.Product.{Product}
-use Rattle.records.specs.Holds.{Holds, HoldsFactors}
+use Rattle.records.specs.Holds.{Holds}
 use Rattle.replacing.specs.Runs.{Run}
 use Rattle.replacing.specs.Places.{Tabled}
 
@@ -64,9 +64,3 @@ module _ (pool table : List ℕ) where
     pub tabled : Tabled places v look
     pub good : LooksGood look
     pub near : length v ≤ 4_000_000_000
-
-  -- n factors of a well formed product
-  pub record HeldDim (s : List ℕ) (p : Tree) (at n : ℕ) : Type 0 where
-    pub held : HoldsFactors s p at
-    pub many : length p ≡ n
-    pub good : GoodProduct p

@@ -1,5 +1,6 @@
-// The work on places whose callers know what stands there: looking up, products, types, and lines of a set.
+// The work on types, constraints and bindings that are known to be held.
 pub mod bound;
+pub mod constraints;
 pub mod dims;
 pub mod factors;
 pub mod flat;

@@ -2,3 +2,4 @@
 #![tactic(auto)]
 
 pub mod inner;
+pub mod substitution;

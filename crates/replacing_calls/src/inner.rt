@@ -20,8 +20,7 @@ use queries::inner::apart;
 use records::inner::type_end;
 use records::{is_bindings, is_set, is_type};
 use replacing::inner::flat::lines_flat;
-use replacing::inner::lines::replace_lines;
-use replacing::inner::walk::replace_type;
+use replacing::inner::lines::{replace_lines, replace_type};
 use rules::{NAMES, NESTED, RECORD_WORDS, RECORDS, Refusal};
 
 // No, as refusal 4.

@@ -35,7 +35,7 @@ use Rattle.records.specs.Holds.{HoldsFactors, HoldsProduct, Holds, HoldsTys, Hol
 use Rattle.records.specs.Parsed.{only, only-tys, only-fields, only-factors, only-con}
 use Rattle.records.specs.declared.View.{View}
 
-ℕ-set : IsSet ℕ
+pub ℕ-set : IsSet ℕ
 ℕ-set = hedberg ℕ_discrete
 
 View-set : IsSet View
@@ -54,7 +54,7 @@ module _ (s : List ℕ) where
   mutual
     unfolding Holds
 
-    type-once : (t : Ty ℕ) (at : ℕ) → IsProp (Holds s t at)
+    pub type-once : (t : Ty ℕ) (at : ℕ) → IsProp (Holds s t at)
     type-once (opened o) at = Prim.hlevel (ℕ-set, View-set)
     type-once (basic b) at = Prim.hlevel (ℕ-set, View-set)
     type-once (dim p) at = product-once p at

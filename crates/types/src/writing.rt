@@ -14,7 +14,7 @@ use records::View;
 use records::inner::{copy, put_record};
 
 /// The place past n records.
-fn past(at: usize, n: usize) -> usize
+pub fn past(at: usize, n: usize) -> usize
     ensures { result ≡ min (at + n) last }
 {
     at.saturating_add(n).min(LAST)

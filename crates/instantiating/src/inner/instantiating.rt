@@ -10,7 +10,7 @@ use handing::inner::tables::{keep_names, put_names_back};
 use names::inner::count;
 use records::View;
 use records::seen::view_at;
-use replacing::inner::walk::replace_type;
+use replacing::inner::lines::replace_type;
 use rules::Refusal;
 
 // Writes the type and the bounds with the names put back, to the work buffer: how many records, or why not.

@@ -8,7 +8,7 @@ use handing::inner::bounds::put_bounds;
 use handing::inner::tables::quantify_names;
 use records::View;
 use records::inner::put_record;
-use replacing::inner::walk::replace_type;
+use replacing::inner::lines::replace_type;
 use rules::{RECORDS, Refusal};
 
 // Writes the type at a place and the bounds as a scheme, to the work buffer: how many records, or why not.

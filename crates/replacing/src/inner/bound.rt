@@ -1,14 +1,16 @@
-// What open names become: a table of places, one word for each name, and a slice in which the types stand.
-// The word of variable x is at x, of parameter x at 256 + x, of quantified variable i at 512 + i; past the table's end words count as 0.
-// 0: the name stays. Any other word is one more than the place of its type.
+//! Looking open names up.
 ghost use Rattle.std.specs.Prelude.{◌≡◌, ℕ, ◌≤◌, get_or};
+ghost use Rattle.rules.specs.Refusals.{toldOptionBy};
 ghost use Rattle.rules.specs.Replacing.{Look};
 ghost use Rattle.records.specs.Holds.{openOf};
+ghost use Rattle.types.specs.Shapes.{tree_of};
+ghost use Rattle.replacing.specs.Places.{nameWord, Tabled, word_of};
 ghost use Rattle.replacing.specs.Runs.{LookedUp};
-ghost use Rattle.replacing.specs.Places.{nameWord, word_of, Tabled};
 
+use crate::substitution::Substitution;
 use queries::inner::end_of;
 use records::Open;
+use types::Type;
 
 /// A word of the table; 0 past its end.
 pub fn word_at(places: &[u32], i: usize) -> u32
@@ -39,7 +41,7 @@ fn word_of(places: &[u32], o: Open) -> u32
     }
 }
 
-/// What an open name becomes: the places of its type, from the first record up to the end; nothing where the name stays.
+/// Where the type stands that an open name becomes, from its first record up to the end; nothing where the name stays.
 pub fn look_up(places: &[u32], v: &[u32], o: Open) -> Option<(usize, usize)>
     requires { (look : Look ℕ) × Tabled places.now v.now look }
     ensures { (look : Look ℕ) → Tabled places.now v.now look → LookedUp v.now (look (openOf o)) result }
@@ -50,4 +52,20 @@ pub fn look_up(places: &[u32], v: &[u32], o: Open) -> Option<(usize, usize)>
     }
     let at = w as usize - 1;
     Some((at, end_of(v, at)))
+}
+
+impl<'a> Substitution<'a> {
+    /// The type that an open name becomes; nothing where the name stays.
+    pub fn look_up(self, o: Open) -> Option<Type<'a>>
+        ensures { toldOptionBy tree_of result ≡ self.entry.lent.0 (openOf o) }
+    {
+        let w = word_of(self.places, o);
+        if w == 0 {
+            return None;
+        }
+        Some(Type {
+            words: self.types,
+            at: w as usize - 1,
+        })
+    }
 }

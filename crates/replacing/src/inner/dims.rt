@@ -1,31 +1,29 @@
-// Replacing in products: each factor whose name becomes a type goes, and that type comes in its place as a dimension.
-ghost use Rattle.std.specs.Prelude.{◌≡◌, [], ◌∷◌, ℕ, ◌+◌, ◌<◌};
+//! Replacing in products: each factor whose name becomes a type goes, and that type comes in its place as a dimension.
+ghost use Rattle.std.specs.Prelude.{◌≡◌, [], ◌∷◌, ◌<◌};
 ghost use Rattle.std.proofs.Math.Option.{some};
-ghost use Rattle.rules.specs.Base.{bounded};
-ghost use Rattle.rules.specs.Products.{just};
-ghost use Rattle.rules.specs.Replacing.{Look, asProduct, replaceProduct};
-ghost use Rattle.rules.specs.Trees.{Ty};
-ghost use Rattle.rules.specs.Values.{productValue};
-ghost use Rattle.laws.specs.NameTable.{Good};
 ghost use Rattle.rules.specs.Refusals.{toldBy};
+ghost use Rattle.rules.specs.Replacing.{asProduct};
+ghost use Rattle.rules.specs.Trees.{opened};
+ghost use Rattle.rules.specs.Values.{productValue};
 ghost use Rattle.products.specs.Told.{Tree, given, answer, tree_of, heldIn};
 ghost use Rattle.products.specs.Kinds.{Fine, Kind};
 ghost use Rattle.records.specs.Holds.{openOf};
-ghost use Rattle.replacing.specs.Well.{names, Whole, HeldType, Lent};
-ghost use Rattle.replacing.specs.InProducts.{put_in, atomLooked};
+ghost use Rattle.replacing.specs.Well.{names as numbers, GoodTy, Whole};
+ghost use Rattle.replacing.specs.Leaves.{productBy};
+ghost use Rattle.replacing.specs.InProducts.{FewFactors, put_in, atomLooked};
 
-use super::bound::look_up;
 use super::factors::{factor_at, free_factor, open_of};
+use crate::substitution::Substitution;
 use exponents::Exponent;
 use loading::inner::load;
 use names::tables::NameTable;
 use products::inner::{divided, multiplied, put, raised};
 use products::{Factor, Product};
-use records::seen::view_at;
-use records::{Open, View};
+use records::Open;
 use rules::Refusal;
+use types::{Shape, Type};
 
-// The product of one factor.
+/// The product of one factor.
 fn only(f: Factor) -> Product
     requires { Kind f.kind }
     ensures { given result ≡ productValue (tree_of f ∷ []) }
@@ -33,96 +31,68 @@ fn only(f: Factor) -> Product
     put(Product::scalar(), f)
 }
 
-// An open name as a product, at the power 1.
-fn just(o: Open) -> Product
-    ensures { given result ≡ productValue (just (openOf o)) }
+/// A variable as a product, at the power 1; a parameter is 6.
+fn just(o: Open) -> Result<Product, Refusal>
+    ensures { toldBy given result ≡ answer (asProduct (opened (openOf o))) }
 {
-    put(Product::scalar(), free_factor(o, Exponent::ONE))
+    match o {
+        Open::Var(_) => Ok(put(Product::scalar(), free_factor(o, Exponent::ONE))),
+        Open::Quant(_) => Ok(put(Product::scalar(), free_factor(o, Exponent::ONE))),
+        Open::Par(_) => Err(Refusal::NotDimension),
+    }
 }
 
-// A bound type as a product: a variable counts as that variable, and any other type but a dimension is 6.
-fn as_product(pool: &[u8], table: &[u32], v: &[u32], at: usize) -> Result<Product, Refusal>
-    requires by_index { (t : Ty ℕ) × HeldType pool.now table.now v.now t at }
-    requires at_bound { at < 1000000000 }
-    ensures { (t : Ty ℕ) → HeldType pool.now table.now v.now t at → toldBy given result ≡ answer (asProduct t) }
+/// A bound type as a product: a variable counts as that variable, and any other type but a dimension is 6.
+fn as_product(t: Type) -> Result<Product, Refusal>
+    requires { FewFactors t.tree.0 }
+    ensures { toldBy given result ≡ answer (asProduct t.entry.tree.0) }
 {
-    match view_at(v, at) {
-        View::Opened(o) => match o {
-            Open::Var(_) => Ok(just(o)),
-            Open::Quant(_) => Ok(just(o)),
-            Open::Par(_) => Err(Refusal::NotDimension),
-        },
-        View::Dim(n) => Ok(load(v, at + 1, n as usize)),
+    match t.shape() {
+        Shape::Open(o) => just(o),
+        Shape::Dimension(p) => Ok(load(p.words, p.at, p.count as usize)),
         _ => Err(Refusal::NotDimension),
     }
 }
 
-// Divides by the factor, and multiplies by the bound type at its power.
-fn put_in(
-    pool: &[u8],
-    table: &[u32],
-    acc: Product,
-    f: Factor,
-    v: &[u32],
-    at: usize,
-) -> Result<Product, Refusal>
-    requires good { Good pool.now table.now }
-    requires whole { (a : Tree) × Whole pool.now table.now acc a }
-    requires fine { Fine (names pool.now table.now) (heldIn table.now) f }
-    requires by_index { (t : Ty ℕ) × HeldType pool.now table.now v.now t at }
-    requires at_bound { at < 1000000000 }
-    ensures { (a : Tree) (t : Ty ℕ) → Whole pool.now table.now acc a → HeldType pool.now table.now v.now t at → toldBy given result ≡ answer (put_in (names pool.now table.now) (some t) (tree_of f) a) }
+/// Divides by the factor, and multiplies by the bound type at its power.
+fn put_in(names: NameTable, acc: Product, f: Factor, t: Type) -> Result<Product, Refusal>
+    requires whole { (a : Tree) × Whole names.pool.now names.table.now acc a }
+    requires fine { Fine (numbers names.pool.now names.table.now) (heldIn names.table.now) f }
+    requires good { GoodTy names.pool.now names.table.now t.tree.0 }
+    ensures { (a : Tree) → Whole names.entry.pool.now names.entry.table.now acc a →
+        toldBy given result ≡ answer (put_in (numbers names.entry.pool.now names.entry.table.now) (some t.entry.tree.0) (tree_of f) a) }
 {
-    let names = NameTable { pool, table };
-    let bound = as_product(pool, table, v, at)?;
+    let bound = as_product(t)?;
     let left = divided(acc, only(f), names)?;
     let more = raised(bound, f.exp)?;
     multiplied(left, more, names)
 }
 
-// A factor whose name becomes a type is replaced in the product; any other stays.
-fn replace_factor(
-    pool: &[u8],
-    table: &[u32],
-    acc: Product,
-    f: Factor,
-    places: &[u32],
-    v: &[u32],
-) -> Result<Product, Refusal>
-    requires good { Good pool.now table.now }
-    requires whole { (a : Tree) × Whole pool.now table.now acc a }
-    requires fine { Fine (names pool.now table.now) (heldIn table.now) f }
-    requires by_index { (look : Look ℕ) × Lent pool.now table.now places.now v.now look }
-    ensures { (a : Tree) (look : Look ℕ) → Whole pool.now table.now acc a → Lent pool.now table.now places.now v.now look → toldBy given result ≡ answer (put_in (names pool.now table.now) (atomLooked look (tree_of f)) (tree_of f) a) }
+/// A factor whose name becomes a type is replaced in the product; any other stays.
+fn replace_factor(by: Substitution, acc: Product, f: Factor) -> Result<Product, Refusal>
+    requires whole { (a : Tree) × Whole by.names.pool.now by.names.table.now acc a }
+    requires fine { Fine (numbers by.names.pool.now by.names.table.now) (heldIn by.names.table.now) f }
+    ensures { (a : Tree) → Whole by.entry.names.pool.now by.entry.names.table.now acc a →
+        toldBy given result ≡ answer (put_in (numbers by.entry.names.pool.now by.entry.names.table.now) (atomLooked by.entry.lent.0 (tree_of f)) (tree_of f) a) }
 {
     match open_of(f) {
-        Some(o) => match look_up(places, v, o) {
-            Some((at, _)) => put_in(pool, table, acc, f, v, at),
+        Some(o) => match by.look_up(o) {
+            Some(t) => put_in(by.names, acc, f, t),
             None => Ok(acc),
         },
         None => Ok(acc),
     }
 }
 
-// Replaces in a product, for each factor in stored order.
-pub fn replace_factors(
-    pool: &[u8],
-    table: &[u32],
-    p: Product,
-    places: &[u32],
-    v: &[u32],
-) -> Result<Product, Refusal>
-    requires good { Good pool.now table.now }
-    requires whole { (a : Tree) × Whole pool.now table.now p a }
-    requires by_index { (look : Look ℕ) × Lent pool.now table.now places.now v.now look }
-    ensures { (a : Tree) (look : Look ℕ) → Whole pool.now table.now p a → Lent pool.now table.now places.now v.now look → toldBy given result ≡ answer (replaceProduct (names pool.now table.now) bounded look a) }
+/// Replaces in a product, for each factor in stored order.
+pub fn replace_factors(by: Substitution, p: Product) -> Result<Product, Refusal>
+    requires whole { (a : Tree) × Whole by.names.pool.now by.names.table.now p a }
+    ensures { (a : Tree) → Whole by.entry.names.pool.now by.entry.names.table.now p a →
+        toldBy given result ≡ answer (productBy by.entry a) }
 {
     let mut acc = p;
-    let mut i = 0;
-    while i < p.len {
-        let f = factor_at(p, i);
-        acc = replace_factor(pool, table, acc, f, places, v)?;
-        i += 1;
+    for i in 0..p.len {
+        acc = replace_factor(by, acc, factor_at(p, i))?;
     }
     Ok(acc)
 }

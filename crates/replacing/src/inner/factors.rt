@@ -1,19 +1,17 @@
-// Factors and products by value.
-ghost use Rattle.std.specs.Prelude.{◌≡◌, [], ◌∷◌, ◌<◌};
+//! Factors and products by value.
+ghost use Rattle.std.specs.Prelude.{◌≡◌, ◌<◌};
 ghost use Rattle.rules.specs.Products.{single};
 ghost use Rattle.rules.specs.Refusals.{toldOptionBy};
 ghost use Rattle.rules.specs.Trees.{◌↑◌, free};
 ghost use Rattle.rules.specs.Values.{value_of};
 ghost use Rattle.exponents.specs.Answers.{expOf};
-ghost use Rattle.products.specs.Told.{valueIn, tree_of, productOf, factorAt};
-ghost use Rattle.products.specs.Kinds.{Kind};
-ghost use Rattle.products.specs.Held.{Sound};
+ghost use Rattle.products.specs.Told.{valueIn, tree_of, factorAt};
 ghost use Rattle.records.specs.Holds.{openOf};
-ghost use Rattle.replacing.specs.Alone.{open_in, picked};
+ghost use Rattle.replacing.specs.Alone.{open_in};
 
 use exponents::Exponent;
 use products::{Factor, Product};
-use records::Open;
+use records::{Atom, Open};
 
 /// The power of an open name, as a factor.
 pub fn free_factor(o: Open, exp: Exponent) -> Factor
@@ -58,34 +56,25 @@ pub fn open_of(f: Factor) -> Option<Open>
     }
 }
 
-// The variable of a factor that stands alone.
-fn lone(f: Factor) -> Option<Open>
-    requires { Kind f.kind }
-    ensures { toldOptionBy openOf result ≡ single (tree_of f ∷ []) }
+/// The variable that a dimension is, where it is one to the power 1.
+pub fn alone(p: types::Product) -> Option<Open>
+    ensures { toldOptionBy openOf result ≡ single p.entry.factors.0 }
 {
-    if !f.exp.is_one() {
+    if p.count != 1 {
         return None;
     }
-    match f.kind {
-        11 => Some(Open::Var(f.name)),
-        15 => Some(Open::Quant(f.name)),
-        _ => None,
+    let Some((f, _)) = p.split_first() else {
+        return None;
+    };
+    if !Exponent::from_words(f.num, f.den).is_one() {
+        return None;
     }
-}
-
-/// The variable of a product that is one variable to the power 1.
-pub fn single(p: Product) -> Option<Open>
-    requires { Sound p }
-    ensures { toldOptionBy openOf result ≡ single (productOf p) }
-{
-    let n = p.len;
-    if n == 1 { lone(p.factors[0]) } else { None }
-}
-
-/// The variable that a product is, where it stands for a type.
-pub fn picked(p: Product, as_type: bool) -> Option<Open>
-    requires { Sound p }
-    ensures { toldOptionBy openOf result ≡ picked as_type (productOf p) }
-{
-    if as_type { single(p) } else { None }
+    match f.atom {
+        Atom::Free(o) => match o {
+            Open::Var(_) => Some(o),
+            Open::Quant(_) => Some(o),
+            Open::Par(_) => None,
+        },
+        Atom::Base(_) => None,
+    }
 }

@@ -1,80 +1,78 @@
-// Replacing in constraints and bindings: a line is either, and a set or a list of bindings is a run of lines.
+//! Constraints and bindings by the places of their records, for callers that hold no types yet.
 ghost use Rattle.std.specs.Prelude.{◌≡◌, List, ℕ, ◌≤◌, ◌/◌, length};
-ghost use Rattle.records.specs.Views.{viewAt};
 ghost use Rattle.rules.specs.Replacing.{Look};
+ghost use Rattle.rules.specs.Trees.{Ty};
 ghost use Rattle.laws.specs.NameTable.{Good};
-ghost use Rattle.products.specs.Told.{Tree};
-ghost use Rattle.replacing.specs.Well.{Lent};
+ghost use Rattle.replacing.specs.Well.{HeldType, Lent};
 ghost use Rattle.replacing.specs.Left.{Room};
-ghost use Rattle.replacing.specs.LineRules.{Line, HeldLine, HeldLines, ScalarHeld, ScalarReplaced, PartsReplaced, LineReplaced, LinesReplaced};
+ghost use Rattle.replacing.specs.Leaves.{Leaves};
+ghost use Rattle.replacing.specs.LineRules.{Line, Replaced, writeLine, HeldLine, HeldLines, lineBy, LineReplaced, LinesReplaced};
 
-use super::walk::{put_before, replace_dim, replace_list, replace_type};
+use super::constraints::{replace_binding, replace_constraint};
+use super::walk;
+use crate::substitution::Substitution;
+use names::tables::NameTable;
 use records::View;
-use records::seen::view_at;
+use records::seen::{length_at, view_at};
 use rules::Refusal;
+use types::writer::Writer;
+use types::{Constraint, Type};
 
-// Writes the product at a place with its bound variables replaced, as a product even at power 1.
-fn replace_equal_scalar(
-    pool: &[u8],
-    table: &[u32],
+/// Writes the type at a place with its bound variables replaced, as far as the buffer goes: where it ends, and where what was written ends.
+pub fn replace_type<'x>(
+    pool: &'x [u8],
+    table: &'x [u32],
     s: &[u32],
     at: usize,
-    places: &[u32],
-    v: &[u32],
+    places: &'x [u32],
+    v: &'x [u32],
     dst: &mut [u32],
     out: usize,
 ) -> Result<(usize, usize), Refusal>
     requires good { Good pool.now table.now }
-    requires scalar_held { (p : Tree) × ScalarHeld pool.now table.now s.now p at }
-    requires by_index { (look : Look ℕ) × Lent pool.now table.now places.now v.now look }
+    requires by_index { (t : Ty ℕ) × HeldType pool.now table.now s.now t at }
+    requires by_index_2 { (look : Look ℕ) × Lent pool.now table.now places.now v.now look }
     requires room { Room s.now at out }
-    ensures { ScalarReplaced pool.now table.now s.now places.now v.now dst.old dst.new at out result }
+    ensures { Replaced pool.now table.now s.now places.now v.now dst.old dst.new at out result }
 {
-    match view_at(s, at) {
-        View::Dim(n) => replace_dim(pool, table, s, at + 1, n, false, places, v, dst, out),
-        _ => Err(Refusal::Malformed),
-    }
+    let names = NameTable { pool, table };
+    let by = Substitution {
+        names,
+        places,
+        types: v,
+    };
+    let t = Type { words: s, at };
+    let mut writer = Writer {
+        words: dst,
+        at: out,
+    };
+    walk::replace_type(by, t, &mut writer)?;
+    Ok((t.end(), writer.at))
 }
 
-// Writes the parts of the constraint or the binding at a place, which begins with w, with their bound variables replaced.
-fn replace_parts(
-    pool: &[u8],
-    table: &[u32],
-    s: &[u32],
-    at: usize,
-    w: View,
-    places: &[u32],
-    v: &[u32],
-    dst: &mut [u32],
-    out: usize,
-) -> Result<(usize, usize), Refusal>
-    requires good { Good pool.now table.now }
-    requires held_line { (x : Line) × HeldLine pool.now table.now s.now x at }
-    requires w_value { w ≡ viewAt s.now at }
-    requires by_index { (look : Look ℕ) × Lent pool.now table.now places.now v.now look }
-    requires room { Room s.now at out }
-    ensures { PartsReplaced pool.now table.now s.now places.now v.now dst.old dst.new at out result }
+/// Writes the constraint or the binding at a place.
+fn put_line(by: Substitution, s: &[u32], at: usize, out: &mut Writer) -> Result<(), Refusal>
+    requires held { (x : Line) × HeldLine by.names.pool.now by.names.table.now s.now x at }
+    requires near { length s.now ≤ 4_000_000_000 }
+    ensures { (x : Line) → HeldLine by.entry.names.pool.now by.entry.names.table.now s.now x at → Leaves writeLine out.old out.new result (lineBy by.entry x) }
 {
-    match w {
-        View::Equal => replace_list(pool, table, s, at + 1, 2, false, places, v, dst, out + 1),
-        View::IsDim => replace_type(pool, table, s, at + 1, places, v, dst, out + 1),
-        View::IsScalar => replace_equal_scalar(pool, table, s, at + 1, places, v, dst, out + 1),
-        View::HasField(_) => {
-            replace_list(pool, table, s, at + 1, 2, false, places, v, dst, out + 1)
+    match view_at(s, at) {
+        View::Binding(x) => {
+            let at = at + 1;
+            replace_binding(by, x, Type { words: s, at }, out)
         }
-        View::Binding(_) => replace_type(pool, table, s, at + 1, places, v, dst, out + 1),
-        _ => Err(Refusal::Malformed),
+        _ => replace_constraint(by, Constraint { words: s, at }, out),
     }
 }
 
 /// Writes the constraint or the binding at a place with its bound variables replaced.
-pub fn replace_line(
-    pool: &[u8],
-    table: &[u32],
+pub fn replace_line<'x>(
+    pool: &'x [u8],
+    table: &'x [u32],
     s: &[u32],
     at: usize,
-    places: &[u32],
-    v: &[u32],
+    places: &'x [u32],
+    v: &'x [u32],
     dst: &mut [u32],
     out: usize,
 ) -> Result<(usize, usize), Refusal>
@@ -84,9 +82,18 @@ pub fn replace_line(
     requires room { Room s.now at out }
     ensures { LineReplaced pool.now table.now s.now places.now v.now dst.old dst.new at out result }
 {
-    let w = view_at(s, at);
-    let r = replace_parts(pool, table, s, at, w, places, v, dst, out);
-    put_before(r, w, dst, out)
+    let names = NameTable { pool, table };
+    let by = Substitution {
+        names,
+        places,
+        types: v,
+    };
+    let mut writer = Writer {
+        words: dst,
+        at: out,
+    };
+    put_line(by, s, at, &mut writer)?;
+    Ok((at + length_at(s, at), writer.at))
 }
 
 /// Writes the constraints and bindings from a place up to an end with their bound variables replaced.

@@ -27,39 +27,39 @@ loop-i-init c =
     (omega arith, refl, ap (λ (k : ℕ). sets c.put_record.new.dst (k * 4) (words (map writeFactor (productOf a.p)))) (add-zero (a.out + 1)))
 
 pub offset_bounds-p-i : goal.offset_bounds-p-i
-offset_bounds-p-i c = let within : (c.loop-i.i < c.args.p.len) × (c.args.p.len ≤ 64) × (c.args.out ≤ 1000000000) = (omega arith, c.requires.sound.few, c.requires.out_bound) in
+offset_bounds-p-i c = let within : (c.loop-i.i < c.args.p.len) × (c.args.p.len ≤ 64) × (c.args.out + c.args.p.len < 1_152_921_504_606_846_976) = (omega arith, c.requires.sound.few, c.requires.out_bound) in
     omega (arith, within)
 
 pub bounds-p-i : goal.bounds-p-i
-bounds-p-i c = let within : (c.loop-i.i < c.args.p.len) × (c.args.p.len ≤ 64) × (c.args.out ≤ 1000000000) = (omega arith, c.requires.sound.few, c.requires.out_bound) in
+bounds-p-i c = let within : (c.loop-i.i < c.args.p.len) × (c.args.p.len ≤ 64) × (c.args.out + c.args.p.len < 1_152_921_504_606_846_976) = (omega arith, c.requires.sound.few, c.requires.out_bound) in
     omega (arith, within)
 
 pub overflow_add-out : goal.overflow_add-out
-overflow_add-out c = let within : (c.loop-i.i < c.args.p.len) × (c.args.p.len ≤ 64) × (c.args.out ≤ 1000000000) = (omega arith, c.requires.sound.few, c.requires.out_bound) in
+overflow_add-out c = let within : (c.loop-i.i < c.args.p.len) × (c.args.p.len ≤ 64) × (c.args.out + c.args.p.len < 1_152_921_504_606_846_976) = (omega arith, c.requires.sound.few, c.requires.out_bound) in
     omega (arith, within)
 
 pub overflow_add-out-in-loop-i : goal.overflow_add-out-in-loop-i
-overflow_add-out-in-loop-i c = let within : (c.loop-i.i < c.args.p.len) × (c.args.p.len ≤ 64) × (c.args.out ≤ 1000000000) = (omega arith, c.requires.sound.few, c.requires.out_bound) in
+overflow_add-out-in-loop-i c = let within : (c.loop-i.i < c.args.p.len) × (c.args.p.len ≤ 64) × (c.args.out + c.args.p.len < 1_152_921_504_606_846_976) = (omega arith, c.requires.sound.few, c.requires.out_bound) in
     omega (arith, within)
 
 pub view_of-requires : goal.view_of-requires
-view_of-requires c = let within : (c.loop-i.i < c.args.p.len) × (c.args.p.len ≤ 64) × (c.args.out ≤ 1000000000) = (omega arith, c.requires.sound.few, c.requires.out_bound) in
+view_of-requires c = let within : (c.loop-i.i < c.args.p.len) × (c.args.p.len ≤ 64) × (c.args.out + c.args.p.len < 1_152_921_504_606_846_976) = (omega arith, c.requires.sound.few, c.requires.out_bound) in
     c.requires.sound.kind _ (within).0
 
 pub put_one-requires : goal.put_one-requires
-put_one-requires c = let within : (c.loop-i.i < c.args.p.len) × (c.args.p.len ≤ 64) × (c.args.out ≤ 1000000000) = (omega arith, c.requires.sound.few, c.requires.out_bound) in
+put_one-requires c = let within : (c.loop-i.i < c.args.p.len) × (c.args.p.len ≤ 64) × (c.args.out + c.args.p.len < 1_152_921_504_606_846_976) = (omega arith, c.requires.sound.few, c.requires.out_bound) in
     omega (arith, within)
 
 pub overflow_add-i : goal.overflow_add-i
-overflow_add-i c = let within : (c.loop-i.i < c.args.p.len) × (c.args.p.len ≤ 64) × (c.args.out ≤ 1000000000) = (omega arith, c.requires.sound.few, c.requires.out_bound) in
+overflow_add-i c = let within : (c.loop-i.i < c.args.p.len) × (c.args.p.len ≤ 64) × (c.args.out + c.args.p.len < 1_152_921_504_606_846_976) = (omega arith, c.requires.sound.few, c.requires.out_bound) in
     omega (arith, within)
 
 pub loop-i-smaller : goal.loop-i-smaller
-loop-i-smaller c = let within : (c.loop-i.i < c.args.p.len) × (c.args.p.len ≤ 64) × (c.args.out ≤ 1000000000) = (omega arith, c.requires.sound.few, c.requires.out_bound) in
+loop-i-smaller c = let within : (c.loop-i.i < c.args.p.len) × (c.args.p.len ≤ 64) × (c.args.out + c.args.p.len < 1_152_921_504_606_846_976) = (omega arith, c.requires.sound.few, c.requires.out_bound) in
     omega (arith, within)
 
 pub loop-i-preserved : goal.loop-i-preserved
-loop-i-preserved c = let within : (c.loop-i.i < c.args.p.len) × (c.args.p.len ≤ 64) × (c.args.out ≤ 1000000000) = (omega arith, c.requires.sound.few, c.requires.out_bound) in
+loop-i-preserved c = let within : (c.loop-i.i < c.args.p.len) × (c.args.p.len ≤ 64) × (c.args.out + c.args.p.len < 1_152_921_504_606_846_976) = (omega arith, c.requires.sound.few, c.requires.out_bound) in
     let r = c.put_one in
     let i = c.loop-i.i in
     let P = productOf c.args.p in

@@ -1,7 +1,7 @@
 -- `replace_lines` meets its contract: what is left of the run falls.
 use native.Mathlib.Omega.{arith}
 use Rattle.std.proofs.lemmas.Result.{err_from_is_err_and}
-use Rattle.replacing.proofs.LineSteps.{before, lines-done, lines-here, lines-stop, lines-asks, lines_next}
+use Rattle.replacing.proofs.Lines.{before, lines-done, lines-here, lines-stop, lines-asks, lines_next}
 use Rattle.replacing.proofs.inner.lines.+replace_lines.Goals as goal
 
 pub returns-then-end-at : goal.returns-then-end-at

@@ -1,0 +1,50 @@
+-- What a walk leaves behind a writer.
+use Rattle.std.specs.Prelude.{Result, Ok, Err, ◌≡◌, List, ℕ}
+use Rattle.std.proofs.Math.Option.{get_or}
+use Rattle.rules.specs.Base.{Got, got, refused, bounded}
+use Rattle.rules.specs.Refusals.{number_of}
+use Rattle.rules.specs.declared.Refusal.{Refusal}
+use Rattle.rules.specs.Replacing.{Look, replaceProduct, replaceTy, replaceTys, replaceFields, replaceCon, replaceBinding}
+use Rattle.rules.specs.Trees.{Open, Product, Ty, opened, Tys, Fields, Con, Binding}
+use Rattle.rules.specs.Writing.{Rec}
+use Rattle.records.specs.Cut.{cut}
+use Rattle.types.specs.declared.writer.Writer.{Writer}
+use Rattle.types.specs.Written.{Writes}
+use Rattle.replacing.specs.declared.substitution.Substitution.{Substitution}
+use Rattle.replacing.specs.Well.{names}
+
+-- what an open name becomes
+abbrev pub becomes : Look ℕ → Open ℕ → Ty ℕ
+becomes look o = get_or (look o) (opened o)
+
+-- a value: its records were written. A length that doesn't fit a word is left out: such a list is refused by whoever asked. A refusal: its number, and nothing
+-- is said of the buffer
+abbrev pub LeavesOf : {A : Type 0} → (A → List Rec) → Writer → Writer → Result (Unit {0}) Refusal → Got A → Type 0
+LeavesOf ws old new (Ok u) (got a) = Writes old new (cut (ws a))
+LeavesOf ws old new (Ok u) (refused k) = ⊥
+LeavesOf ws old new (Err r) (got a) = ⊥
+LeavesOf ws old new (Err r) (refused k) = number_of r ≡ k
+
+pub record Leaves {A : Type 0} (ws : A → List Rec) (old new : Writer) (r : Result (Unit {0}) Refusal) (R : Got A) : Type 0 where
+  pub same : new.words.ghost_name ≡ old.words.ghost_name
+  pub says : LeavesOf ws old new r R
+
+-- what becomes of each by a substitution
+module _ (by : Substitution) where
+  abbrev pub productBy : Product ℕ → Got (Product ℕ)
+  productBy p = replaceProduct (names by.names.pool.now by.names.table.now) bounded by.lent.0 p
+
+  abbrev pub typeBy : Ty ℕ → Got (Ty ℕ)
+  typeBy t = replaceTy (names by.names.pool.now by.names.table.now) bounded by.lent.0 t
+
+  abbrev pub typesBy : Tys ℕ → Got (Tys ℕ)
+  typesBy ts = replaceTys (names by.names.pool.now by.names.table.now) bounded by.lent.0 ts
+
+  abbrev pub fieldsBy : Fields ℕ → Got (Fields ℕ)
+  fieldsBy fs = replaceFields (names by.names.pool.now by.names.table.now) bounded by.lent.0 fs
+
+  abbrev pub conBy : Con ℕ → Got (Con ℕ)
+  conBy c = replaceCon (names by.names.pool.now by.names.table.now) bounded by.lent.0 c
+
+  abbrev pub bindingBy : Binding ℕ → Got (Binding ℕ)
+  bindingBy b = replaceBinding (names by.names.pool.now by.names.table.now) bounded by.lent.0 b
