@@ -1,4 +1,3 @@
-pub mod Determined
 pub mod ReadCall
 pub mod Theorems
 pub mod Told

@@ -30,11 +30,13 @@ module _ {pool table result work : List ℕ} (long : Long pool table result work
 -- ══ The call ══
 
 module _ (pool table text result work : List ℕ) where
-  pub short : lent pool table result work ≡ refused 10 → readAs (Err (record { why = ShortBuffer; line = 0; column = 0 })) pool table result work ≡ readTextCall pool table text result work
+  pub short : lent pool table result work ≡ refused 10 → readAs (Err (record { why = ShortBuffer; line = 0; column = 0 })) pool table result work
+      ≡ readTextCall pool table text result work
   unfolding readTextCall sheetGiven workAfter
   short e = rw e
 
-  pub called : {p t e z : List ℕ} {r : Sheet} {n : ℕ} → Long pool table result work → Answers pool table text result p t e r → n ≡ length work → z ≡ replicate n 0
+  pub called : {p t e z : List ℕ} {r : Sheet} {n : ℕ} → Long pool table result work → Answers pool table text result p t e r → n ≡ length work
+      → z ≡ replicate n 0
       → readAs r p t e z ≡ readTextCall pool table text result work
   unfolding readTextCall sheetGiven workAfter
   called {p} {t} {e} {z} {r} {n} long a f g =

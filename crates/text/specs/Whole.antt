@@ -62,13 +62,17 @@ module _ (pool table ws text : List ℕ) where
   pub text-short : length text < 354304 → writeTextCall pool table ws text ≡ record { answer = refused 10; result = text }
   unfolding writeTextCall text_of listing resultAfter lentTable
   text-short h =
-      let rest : Got Bytes = shortLists (ws ∷ []) >>= λ _. tableKept (table_of pool table) >>= λ _. setGiven (table_of pool table) ws >>= λ cs. got (setText (namesIn (table_of pool table)) cs) in
+      let rest : Got Bytes =
+      shortLists (ws ∷ []) >>= λ _. tableKept (table_of pool table) >>= λ _. setGiven (table_of pool table) ws
+      >>= λ cs. got (setText (namesIn (table_of pool table)) cs) in
       rw (short_row (leb 8192 (length pool) && leb 257 (length table)) (need (leb 354304 (length text)) 10) rest (rw (lt-leb 354304 (length text) h) refl)) refl
 
   module _ (room : 354304 ≤ length text) where
     pub text-refused : (n : ℕ) → setCall pool table ws ≡ refused n → writeTextCall pool table ws text ≡ record { answer = refused n; result = text }
     unfolding writeTextCall text_of listing resultAfter setCall aloneGiven
-    text-refused n h = rw (row-stopped (lentTable pool table) (need (leb 354304 (length text)) 10) (shortLists (ws ∷ [])) (tableKept (table_of pool table)) (setGiven (table_of pool table) ws) (setText (namesIn (table_of pool table))) n (rw (le-leb 354304 (length text) room) refl) h) refl
+    text-refused n h = rw (row-stopped (lentTable pool table) (need (leb 354304 (length text)) 10) (shortLists (ws ∷ []))
+        (tableKept (table_of pool table)) (setGiven (table_of pool table) ws) (setText (namesIn (table_of pool table))) n
+        (rw (le-leb 354304 (length text) room) refl) h) refl
 
     -- a well formed set, where it stands
     pub record Given (cs : List (Con ℕ)) : Type 0 where
@@ -81,12 +85,14 @@ module _ (pool table ws text : List ℕ) where
     unfolding text_of setCall aloneGiven shortLists all
     set-in w e =
         let (cs, (a, g)) = passed (aloneGiven pool table ws) (setGiven (table_of pool table) ws) e in
-        let k = need-passed (leb (length ws) 8192 && true) 8 (second (lentTable pool table) (need (leb (length ws) 8192 && true) 8) (tableKept (table_of pool table)) a) in
+        let k = need-passed (leb (length ws) 8192 && true) 8
+        (second (lentTable pool table) (need (leb (length ws) 8192 && true) 8) (tableKept (table_of pool table)) a) in
         let few = leb-true (length ws) 8192 (and_left (leb (length ws) 8192) true k) in (
           cs,
           record {
             good = entry-good pool table ws a;
-            given = row-given (lentTable pool table) (need (leb 354304 (length text)) 10) (shortLists (ws ∷ [])) (tableKept (table_of pool table)) (setGiven (table_of pool table) ws) (setText (namesIn (table_of pool table))) cs (rw (le-leb 354304 (length text) room) refl) a g;
+            given = row-given (lentTable pool table) (need (leb 354304 (length text)) 10) (shortLists (ws ∷ [])) (tableKept (table_of pool table))
+                (setGiven (table_of pool table) ws) (setText (namesIn (table_of pool table))) cs (rw (le-leb 354304 (length text) room) refl) a g;
             lines = record { chain = set_is pool table ws w cs g };
             few = few;
           },
@@ -109,13 +115,15 @@ module _ (pool table ws text : List ℕ) where
         omega (arith, n, m, x.few, room)
 
     pub text-given : {E : Type 0} {d : List ℕ} {k loan after : ℕ} (cs : List (Con ℕ)) → Given cs → k ≤ length d
-        → Puts {E = E} (record { held = []; room = text; loan = loan }) (setText (namesIn (table_of pool table)) cs) (Ok tt) (record { held = take k d; room = drop k d; loan = after })
+        → Puts {E = E} (record { held = []; room = text; loan = loan }) (setText (namesIn (table_of pool table)) cs) (Ok tt)
+        (record { held = take k d; room = drop k d; loan = after })
         → record { answer = got k; result = d } ≡ writeTextCall pool table ws text
     unfolding writeTextCall listing resultAfter over
     text-given {E} {d} {k} {loan} {after} cs x le p =
         let lines : Bytes = setText (namesIn (table_of pool table)) cs in
         let a : k ≡ length lines = sym (length-take-le k d le) ∙ ap length p.puts in
-        let b : d ≡ lines ++ drop (length lines) text = sym (take-append-drop k d) ∙ ap (λ (t : Bytes). t ++ drop k d) p.puts ∙ ap (λ (t : Bytes). lines ++ t) p.rest in
+        let b : d ≡ lines ++ drop (length lines) text = sym (take-append-drop k d) ∙ ap (λ (t : Bytes). t ++ drop k d) p.puts
+        ∙ ap (λ (t : Bytes). lines ++ t) p.rest in
         rw (x.given, a, b) refl
 
 -- no lines are refused where they have room

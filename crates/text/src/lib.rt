@@ -1,13 +1,14 @@
 //! Sheets as text: a set of constraints as lines, written and read.
 #![tactic(auto)]
 
+pub mod theorems;
+
 ghost use Rattle.std.specs.Prelude.{◌≡◌, ◌≤◌, length};
 ghost use Rattle.rules.specs.Base.{got};
 ghost use Rattle.rules.specs.Calls.{setCall};
 ghost use Rattle.rules.specs.TextReading.{readTextCall};
 ghost use Rattle.rules.specs.TextWriting.{writeTextCall};
 ghost use Rattle.sheet_reading.specs.Given.{readAs};
-ghost use Rattle.text.specs.Theorems.{ReadingIsDetermined};
 ghost use Rattle.text.specs.Told.{listedAs};
 
 use lending::inner::clear;
@@ -17,7 +18,7 @@ use records::is_set;
 use rules::Refusal;
 use sheet_reading::inner::read_given;
 use sheet_reading::{NotRead, Read};
-use sheet_writing::lines::write_lines;
+use sheet_writing::inner::lines::write_lines;
 use spelling::sink::{Front, Full};
 
 /// 173 bytes for each of 2,048 records.
@@ -79,8 +80,3 @@ pub fn read_text(
     clear(work);
     answer
 }
-
-/// The contract of `read_text` leaves no choice: two answers that it allows for the same input are one (`read-text-determined`).
-pub fn reading_is_determined()
-    ensures { ReadingIsDetermined }
-{}
