@@ -21,7 +21,8 @@ module _ (names : ℕ → Bytes) (name : Bytes) (cs new : ℕ) where
 
   -- a report without records takes at most 347 bytes beside the name
   pub unread-fits : (n l c : ℕ) (line : Bytes) → length (reportText names name cs new (unread n l c line)) ≤ length name + 347
-  unread-fits n l c line = simp (report-long, unread-text names name cs new n l c line, length-append) (omega (arith, refused-short n, digits-short 10 l, digits-short 10 c, line-short c line))
+  unread-fits n l c line = simp (report-long, unread-text names name cs new n l c line, length-append)
+      (omega (arith, refused-short n, digits-short 10 l, digits-short 10 c, line-short c line))
 
   pub denied-fits : length (reportText names name cs new denied) ≤ length name + 347
   unfolding findingText
@@ -42,7 +43,8 @@ module _ (pool table s : List ℕ) (good : Good pool table) (name : Bytes) (cs n
   agrees-fits at mid end bs ns k h =
       let rows = rows-short pool table s good (map binding bs ++ map bound ns) at end (solved-rows pool table s bs ns at mid end h.binds h.bounds) in
       let lines = rw (solved-text (name_of pool table) bs ns, length-append) at rows in
-      simp (report-long, agrees-text (name_of pool table) name cs new bs ns k, length-append) (omega (arith, digits-short 10 cs, digits-short 10 k, digits-short 10 new, lines))
+      simp (report-long, agrees-text (name_of pool table) name cs new bs ns k, length-append)
+      (omega (arith, digits-short 10 cs, digits-short 10 k, digits-short 10 new, lines))
 
   pub remains-fits : (at end : ℕ) (ds : List (Con ℕ)) (k : ℕ) → LeftOver pool table s at end ds
       → length (reportText (name_of pool table) name cs new (remains ds k)) ≤ length name + 141 + (end - at) * 175

@@ -31,7 +31,8 @@ title name = map shown name ++ ascii ": "
 -- the first line of a sheet that is accepted
 abbrev pub acceptedText : ℕ → ℕ → ℕ → Bytes
 acceptedText cs k new =
-    ascii "accepted, " ++ (amount cs ++ (ascii " constraints, " ++ (amount k ++ (ascii " rounds, " ++ (amount new ++ ascii " new names, the judge says yes\n")))))
+    ascii "accepted, " ++ (amount cs ++ (ascii " constraints, " ++ (amount k ++ (ascii " rounds, "
+    ++ (amount new ++ ascii " new names, the judge says yes\n")))))
 
 -- of a sheet that can't be read: where
 abbrev pub unreadText : ℕ → ℕ → ℕ → Bytes

@@ -1,5 +1,6 @@
 -- Bytes as they are shown, and blanks under them, one byte after another.
-use Rattle.std.proofs.Common.{◌≡◌, refl, ◌++◌, ◌∷◌, [], ◌+◌, ◌-◌, ◌<◌, ◌≤◌, ℕ, zero, suc, map, take, drop, get_or, length, ap, ◌∙◌, append-nil, add-one, take-suc, length-append, arith}
+use Rattle.std.proofs.Common.{◌≡◌, refl, ◌++◌, ◌∷◌, [], ◌+◌, ◌-◌, ◌<◌, ◌≤◌, ℕ, zero, suc}
+use Rattle.std.proofs.Common.{map, take, drop, get_or, length, ap, ◌∙◌, append-nil, add-one, take-suc, length-append, arith}
 use Rattle.std.specs.Prelude.{Ok, eqb, replicate}
 use Rattle.std.proofs.lemmas.List.{map-append, length-map}
 use Rattle.rules.specs.Base.{collect}
@@ -26,7 +27,8 @@ shown_short t i h = let e = ap length (shown_more t i h) in omega (arith, e, sho
 
 pub rooms_more : (t : Bytes) (i : ℕ) → i < length t → collect room (take (i + 1) t) ≡ collect room (take i t) ++ room (get_or t i 0)
 unfolding collect
-rooms_more t i h = rw (add-one i, take-suc t i 0 h) (collect-append room (take i t) (get_or t i 0 ∷ []) ∙ ap (collect room (take i t) ++◌) (append-nil (room (get_or t i 0))))
+rooms_more t i h = rw (add-one i, take-suc t i 0 h) (collect-append room (take i t) (get_or t i 0 ∷ [])
+    ∙ ap (collect room (take i t) ++◌) (append-nil (room (get_or t i 0))))
 
 pub no_rooms : {E : Type 0} (p : Place) → Puts {E = E} p (collect room []) (Ok tt) p
 unfolding collect

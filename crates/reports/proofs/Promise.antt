@@ -17,11 +17,13 @@ use Rattle.laws.specs.Lists.{Every, true≢false}
 use Rattle.sheets.specs.Lengths.{NotFeed}
 use Rattle.reports.specs.Theorems.{SaysAccepted, Accepted, Honest, HonestPage, AcceptedOn}
 use Rattle.rules.specs.Reports.{Finding, unread, agrees, denied, unjudged, remains, stops, judgedBy, finding, isAccepted, shown, shownBy, refusedText}
-use Rattle.rules.specs.Reports.{findingText, reportText, Content, holding, refusing, Page, page_of, Edition, namesAfter, editionRead, findingOf, constraintsIn, pageText}
+use Rattle.rules.specs.Reports.{findingText, reportText, Content, holding, refusing, Page}
+use Rattle.rules.specs.Reports.{page_of, Edition, namesAfter, editionRead, findingOf, constraintsIn, pageText}
 
 -- ══ What the words say ══
 
-behind-name : (name_of : ℕ → Bytes) (name : Bytes) (cs new : ℕ) (f : Finding) → drop (length name + 2) (reportText name_of name cs new f) ≡ findingText name_of cs new f
+behind-name : (name_of : ℕ → Bytes) (name : Bytes) (cs new : ℕ) (f : Finding) → drop (length name + 2) (reportText name_of name cs new f)
+    ≡ findingText name_of cs new f
 unfolding reportText
 behind-name name_of name cs new f = go name
   where

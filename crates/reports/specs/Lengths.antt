@@ -1,5 +1,6 @@
 -- How long the parts of a report are.
-use Rattle.std.specs.Prelude.{◌≡◌, refl, Bool, true, false, ◌&&◌, List, [], ◌∷◌, map, ℕ, zero, suc, ◌-◌, ◌≤◌, eqb, leb, ltb, length, take, drop, get_or, replicate}
+use Rattle.std.specs.Prelude.{◌≡◌, refl, Bool, true, false, ◌&&◌, List, [], ◌∷◌, map, ℕ}
+use Rattle.std.specs.Prelude.{zero, suc, ◌-◌, ◌≤◌, eqb, leb, ltb, length, take, drop, get_or, replicate}
 use Rattle.std.proofs.Common.{arith, leb-true, length-append, length-take}
 use Rattle.std.proofs.lemmas.List.{length-map, length-replicate}
 use Rattle.rules.specs.Base.{all, collect}

@@ -137,13 +137,12 @@ fn put_count<S: Sink>(to: &mut S, n: u32, what: &[u8]) -> Result<(), S::Error>
     to.put(what)
 }
 
-/// Puts the last line of all: how many sheets, how many of them accepted.
+/// Puts the last line of all: how many sheets, how many of them accepted, and how many not; none where more are accepted than there are.
 #[tactic(auto, unfolding(rules::specs::Reports::totalText))]
 pub fn put_total<S: Sink>(to: &mut S, sheets: u32, yes: u32) -> Result<(), S::Error>
-    requires { yes ≤ sheets }
     ensures { Puts (S.place to.old) (totalText sheets yes) result (S.place to.new) }
 {
     put_count(to, sheets, b" sheets, ")?;
     put_count(to, yes, b" accepted, ")?;
-    put_count(to, sheets - yes, b" not accepted\n")
+    put_count(to, sheets.saturating_sub(yes), b" not accepted\n")
 }

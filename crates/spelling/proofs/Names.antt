@@ -40,7 +40,8 @@ use Rattle.rules.specs.TextWriting.{escaped, nameText, decimal, numeratorText, d
 
 pub name_more : (n : Bytes) (i : ℕ) → i < length n → nameText (take (i + 1) n) ≡ nameText (take i n) ++ escaped (get_or n i 0)
 unfolding nameText collect
-name_more n i h = rw (add-one i, take-suc n i 0 h) (collect-append escaped (take i n) (get_or n i 0 ∷ []) ∙ ap (collect escaped (take i n) ++◌) (append-nil (escaped (get_or n i 0))))
+name_more n i h = rw (add-one i, take-suc n i 0 h) (collect-append escaped (take i n) (get_or n i 0 ∷ [])
+    ∙ ap (collect escaped (take i n) ++◌) (append-nil (escaped (get_or n i 0))))
 
 pub no_name : {E : Type 0} (p : Place) → Puts {E = E} p (nameText []) (Ok tt) p
 unfolding nameText collect
@@ -56,7 +57,10 @@ one_digit (suc k) n h l = let e : n + 48 ≡ 48 + n = omega arith in rw (lt-ltb 
 pub more_digits : (k n : ℕ) → (k ≡ 0 → ⊥) → 10 ≤ n → decimal k n ≡ decimal (k - 1) (n / 10) ++ ((48 + n % 10) ∷ [])
 unfolding decimal
 more_digits zero n h l = absurd (h refl)
-more_digits (suc k) n h l = let e : n % 10 + 48 ≡ 48 + n % 10 = omega arith in let f : suc k - 1 ≡ k = omega arith in rw (le-ltb n 10 l, decimal, f) (ap (λ (m : ℕ). decimal k (n / 10) ++ (m ∷ [])) e)
+more_digits (suc k) n h l =
+    let e : n % 10 + 48 ≡ 48 + n % 10 = omega arith in
+    let f : suc k - 1 ≡ k = omega arith in
+    rw (le-ltb n 10 l, decimal, f) (ap (λ (m : ℕ). decimal k (n / 10) ++ (m ∷ [])) e)
 
 pub ruleset digits = (one_digit, more_digits)
 
@@ -78,8 +82,11 @@ part_short (suc j) (b ∷ n) = simp length-append (omega (arith, part_short j n)
 
 -- a byte more is part of the name
 pub next_short : (n : Bytes) (i : ℕ) → i < length n → length (nameText (take i n) ++ escaped (get_or n i 0)) ≤ length (nameText n)
-next_short n i h = let e : length (nameText (take (i + 1) n)) ≡ length (nameText (take i n) ++ escaped (get_or n i 0)) = ap length (name_more n i h) in omega (arith, e, part_short (i + 1) n)
+next_short n i h =
+    let e : length (nameText (take (i + 1) n)) ≡ length (nameText (take i n) ++ escaped (get_or n i 0)) = ap length (name_more n i h) in
+    omega (arith, e, part_short (i + 1) n)
 
-pub some_power : (n : ℤ) (d : ℕ) → is_yes (Exp-dec (frac n d) one) ≡ false → powerText (frac n d) ≡ ascii "^(" ++ (numeratorText n ++ (denominatorText d ++ ascii ")"))
+pub some_power : (n : ℤ) (d : ℕ) → is_yes (Exp-dec (frac n d) one) ≡ false
+    → powerText (frac n d) ≡ ascii "^(" ++ (numeratorText n ++ (denominatorText d ++ ascii ")"))
 unfolding powerText
 some_power n d e = rw (e, powerText) refl

@@ -37,11 +37,13 @@ rowText names (left c) = remainingLine names c
 
 module _ (names : ℕ → Bytes) where
   -- bindings and then bounds; what remains
-  pub solved-text : (bs : List (Binding ℕ)) (ns : List ℕ) → collect (rowText names) (map binding bs ++ map bound ns) ≡ collect (bindingLine names) bs ++ collect (boundLine names) ns
+  pub solved-text : (bs : List (Binding ℕ)) (ns : List ℕ) → collect (rowText names) (map binding bs ++ map bound ns)
+      ≡ collect (bindingLine names) bs ++ collect (boundLine names) ns
   unfolding collect
   solved-text [] [] = refl
   solved-text [] (x ∷ ns) = ap (λ (t : Bytes). boundLine names x ++ t) (solved-text [] ns)
-  solved-text (b ∷ bs) ns = ap (λ (t : Bytes). bindingLine names b ++ t) (solved-text bs ns) ∙ sym (append_assoc (bindingLine names b) (collect (bindingLine names) bs) (collect (boundLine names) ns))
+  solved-text (b ∷ bs) ns = ap (λ (t : Bytes). bindingLine names b ++ t) (solved-text bs ns)
+      ∙ sym (append_assoc (bindingLine names b) (collect (bindingLine names) bs) (collect (boundLine names) ns))
 
   pub left-text : (cs : List (Con ℕ)) → collect (rowText names) (map left cs) ≡ collect (remainingLine names) cs
   unfolding collect
@@ -94,10 +96,14 @@ module _ (pool table s : List ℕ) where
 
   not-con : (c : Con ℕ) (at : ℕ) (v : View) → HoldsCon s c at → viewAt s at ≡ v → ((x : ℕ) → v ≡ view.Binding x → ⊥) × ((o : opens.Open) → v ≡ view.Bound o → ⊥)
   unfolding HoldsCon
-  not-con (equal l r) at v h e = (λ x q. let z : view.Equal ≡ view.Binding x = sym h.0 ∙ e ∙ q in cc, λ o q. let z : view.Equal ≡ view.Bound o = sym h.0 ∙ e ∙ q in cc)
-  not-con (isDim t) at v h e = (λ x q. let z : view.IsDim ≡ view.Binding x = sym h.0 ∙ e ∙ q in cc, λ o q. let z : view.IsDim ≡ view.Bound o = sym h.0 ∙ e ∙ q in cc)
-  not-con (is_scalar p) at v h e = (λ x q. let z : view.IsScalar ≡ view.Binding x = sym h.0 ∙ e ∙ q in cc, λ o q. let z : view.IsScalar ≡ view.Bound o = sym h.0 ∙ e ∙ q in cc)
-  not-con (hasField y l r) at v h e = (λ x q. let z : view.HasField y ≡ view.Binding x = sym h.0 ∙ e ∙ q in cc, λ o q. let z : view.HasField y ≡ view.Bound o = sym h.0 ∙ e ∙ q in cc)
+  not-con (equal l r) at v h e =
+      (λ x q. let z : view.Equal ≡ view.Binding x = sym h.0 ∙ e ∙ q in cc, λ o q. let z : view.Equal ≡ view.Bound o = sym h.0 ∙ e ∙ q in cc)
+  not-con (isDim t) at v h e =
+      (λ x q. let z : view.IsDim ≡ view.Binding x = sym h.0 ∙ e ∙ q in cc, λ o q. let z : view.IsDim ≡ view.Bound o = sym h.0 ∙ e ∙ q in cc)
+  not-con (is_scalar p) at v h e =
+      (λ x q. let z : view.IsScalar ≡ view.Binding x = sym h.0 ∙ e ∙ q in cc, λ o q. let z : view.IsScalar ≡ view.Bound o = sym h.0 ∙ e ∙ q in cc)
+  not-con (hasField y l r) at v h e =
+      (λ x q. let z : view.HasField y ≡ view.Binding x = sym h.0 ∙ e ∙ q in cc, λ o q. let z : view.HasField y ≡ view.Bound o = sym h.0 ∙ e ∙ q in cc)
 
   pub as_binding : (at x e : ℕ) → viewAt s at ≡ view.Binding x → (r : Row) → RowHere at r e → Bind at x r
   unfolding HoldsBinding goodBinding sizeBinding
@@ -124,7 +130,8 @@ module _ (pool table s : List ℕ) where
       record { x = y; is = refl; name = z; held = subst (HeldOpen table) z (held pool table y h.good) }
   as_bound at e o v (left c) h = absurd ((not-con c at (view.Bound o) h.held v).1 o refl)
 
-  pub as_left : (at e : ℕ) → ((x : ℕ) → viewAt s at ≡ view.Binding x → ⊥) → ((o : opens.Open) → viewAt s at ≡ view.Bound o → ⊥) → (r : Row) → RowHere at r e → Remains at r
+  pub as_left : (at e : ℕ) → ((x : ℕ) → viewAt s at ≡ view.Binding x → ⊥) → ((o : opens.Open) → viewAt s at ≡ view.Bound o → ⊥) → (r : Row)
+      → RowHere at r e → Remains at r
   unfolding HoldsBinding
   as_left at e p q (binding (y ≔ t)) h = absurd (p y h.held.0)
   as_left at e p q (bound y) h = absurd (q (opens.TheVariants.Var y) h.held.0)
@@ -181,7 +188,8 @@ module _ (pool table s : List ℕ) where
   bounds-rows [] at end c = c
   bounds-rows (x ∷ ns) at end c = (c.0, (c.1.0, bounds-rows ns c.0 end c.1.1))
 
-  pub solved-rows : (bs : List (Binding ℕ)) (ns : List ℕ) (at mid end : ℕ) → Chain (GoodBinding pool table 0 s) mid bs at → Chain (λ i x e. GoodBound pool table 0 s i (var x) e) end ns mid
+  pub solved-rows : (bs : List (Binding ℕ)) (ns : List ℕ) (at mid end : ℕ) → Chain (GoodBinding pool table 0 s) mid bs at
+      → Chain (λ i x e. GoodBound pool table 0 s i (var x) e) end ns mid
       → Chain RowHere end (map binding bs ++ map bound ns) at
   solved-rows [] ns at mid end b c = subst (λ (i : ℕ). Chain RowHere end (map bound ns) i) (sym b) (bounds-rows ns mid end c)
   solved-rows (x ∷ bs) ns at mid end b c = (b.0, (b.1.0, solved-rows bs ns b.0 mid end b.1.1 c))

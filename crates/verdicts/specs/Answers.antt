@@ -44,7 +44,8 @@ module _ (pool table s : List ℕ) (at refusal rounds first second : ℕ) where
   AnswerAt (got (stopped n k)) = Stopped n refusal rounds k
 
   -- an answer with refusal 0 is accepted, one with 5 has what remains
-  pub solved-there : refusal ≡ 0 → (a : Got (Answer ℕ)) → AnswerAt a → (bs : List (Binding ℕ)) × ((ns : List ℕ) × SolvedAt pool table s at (at + first) (at + first + second) bs ns)
+  pub solved-there : refusal ≡ 0 → (a : Got (Answer ℕ)) → AnswerAt a → (bs : List (Binding ℕ)) × ((ns : List ℕ)
+      × SolvedAt pool table s at (at + first) (at + first + second) bs ns)
   solved-there e (refused n) f = absurd (f.some e)
   solved-there e (got (accepted bs ns k)) f = (bs, (ns, f.there))
   solved-there e (got (remaining ds k)) f = absurd (omega (arith, e, f.told))
@@ -64,7 +65,8 @@ module _ (pool table s : List ℕ) (at refusal rounds first second : ℕ) where
     abbrev pub TellsAnswer : Type 0
     TellsAnswer = (a : Got (Answer ℕ)) → AnswerAt a → (ν : Names ℕ) (all : List (Con ℕ)) → JudgedAs ν all a j → Tells (finding ν all a)
 
-    pub tells-solved : refusal ≡ 0 → ((bs : List (Binding ℕ)) (ns : List ℕ) → SolvedAt pool table s at (at + first) (at + first + second) bs ns → Tells (judgedBy j bs ns rounds)) → TellsAnswer
+    pub tells-solved : refusal ≡ 0 → ((bs : List (Binding ℕ)) (ns : List ℕ) → SolvedAt pool table s at (at + first) (at + first + second) bs ns
+        → Tells (judgedBy j bs ns rounds)) → TellsAnswer
     unfolding finding
     tells-solved e p (refused n) f ν all h = absurd (f.some e)
     tells-solved e p (got (accepted bs ns k)) f ν all h = rw (← h, ← f.after) (p bs ns f.there)

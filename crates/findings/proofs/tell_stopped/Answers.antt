@@ -15,17 +15,20 @@ returns-in_err-put_refused g c =
 pub returns-in_err-put : goal.returns-in_err-put
 unfolding findingText
 returns-in_err-put g c =
-    λ names cs new. rw titled (then _ c.in_ok-put_title.ensures (then _ c.in_ok-put_refused.ensures (cut _ _ c.from_residual-in_err-put.ensures.0 c.in_err-put.ensures)))
+    λ names cs new. rw titled (then _ c.in_ok-put_title.ensures
+    (then _ c.in_ok-put_refused.ensures (cut _ _ c.from_residual-in_err-put.ensures.0 c.in_err-put.ensures)))
 
 pub returns-in_err-put_digits : goal.returns-in_err-put_digits
 unfolding findingText
 returns-in_err-put_digits g c =
     λ names cs new.
     rw titled
-    (then _ c.in_ok-put_title.ensures (then _ c.in_ok-put_refused.ensures (then _ c.in_ok-put.ensures (cut _ _ c.from_residual-in_err-put_digits.ensures.0 c.in_err-put_digits.ensures))))
+    (then _ c.in_ok-put_title.ensures (then _ c.in_ok-put_refused.ensures
+    (then _ c.in_ok-put.ensures (cut _ _ c.from_residual-in_err-put_digits.ensures.0 c.in_err-put_digits.ensures))))
 
 pub returns : goal.returns
 unfolding findingText
 returns g c =
     λ names cs new.
-    rw titled (then _ c.in_ok-put_title.ensures (then _ c.in_ok-put_refused.ensures (then _ c.in_ok-put.ensures (then _ c.in_ok-put_digits.ensures c.put-2.ensures))))
+    rw titled (then _ c.in_ok-put_title.ensures
+    (then _ c.in_ok-put_refused.ensures (then _ c.in_ok-put.ensures (then _ c.in_ok-put_digits.ensures c.put-2.ensures))))

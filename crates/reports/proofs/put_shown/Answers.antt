@@ -11,4 +11,5 @@ returns-in_err-put g c =
     longer _ c.from_residual.ensures.0 (shown_short t i (omega arith)) (then _ c.loop-b.invariant (rw c.show_byte.ensures at c.in_err-put.ensures))
 
 pub loop-b-preserved : goal.loop-b-preserved
-loop-b-preserved g c = rw (shown_more c.args.text.now c.loop-b.b-index (omega arith)) (then _ c.loop-b.invariant (rw c.show_byte.ensures at c.in_ok-put.ensures))
+loop-b-preserved g c = rw (shown_more c.args.text.now c.loop-b.b-index (omega arith))
+    (then _ c.loop-b.invariant (rw c.show_byte.ensures at c.in_ok-put.ensures))
