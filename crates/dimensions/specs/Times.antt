@@ -113,8 +113,10 @@ module _ {pool table : List ℕ} {q : Product} (kind name : ℕ) (e : Exp) (at :
   pub times-stays : {s : Stand} {r : Refusal} {c : ℕ} → s ≡ stand.Refused r c → Timed pool table q kind name e at s s q
   times-stays {s} h = record { well = w; refused = λ r c p. p; going = λ k n p. p; effect = λ dst. unmoved h }
 
-  module _ (f : Product) {k n : ℕ} {s : Stand} (going : s ≡ stand.Going k n) (held : AtomHeld table kind name) (good : goodExp e ≡ true) (is : given f ≡ productValue (put (atomBy kind name) e [])) where
-    same-product : multiply (numbersOf (table_of pool table)) bounded (productOf q) (productOf f) ≡ multiply (numbersOf (table_of pool table)) bounded (productOf q) (put (atomBy kind name) e [])
+  module _ (f : Product) {k n : ℕ} {s : Stand} (going : s ≡ stand.Going k n) (held : AtomHeld table kind name) (good : goodExp e ≡ true)
+      (is : given f ≡ productValue (put (atomBy kind name) e [])) where
+    same-product : multiply (numbersOf (table_of pool table)) bounded (productOf q) (productOf f)
+        ≡ multiply (numbersOf (table_of pool table)) bounded (productOf q) (put (atomBy kind name) e [])
     same-product = ap (multiply (numbersOf (table_of pool table)) bounded (productOf q)) (sym (single-well pool table held e good f is).1)
 
     pub times-refused : (why : Refusal) → refused (number_of why) ≡ answer (multiply (numbersOf (table_of pool table)) bounded (productOf q) (productOf f))
@@ -128,7 +130,8 @@ module _ {pool table : List ℕ} {q : Product} (kind name : ℕ) (e : Exp) (at :
           effect = λ dst. stops going refl (ap (λ (g : Got Tree). placed (suc at) g (sofar (lent pool table dst s) k n)) m);
         }
 
-    pub times-done : (P : Product) → got (given P) ≡ answer (multiply (numbersOf (table_of pool table)) bounded (productOf q) (productOf f)) → Timed pool table q kind name e at s s P
+    pub times-done : (P : Product) → got (given P) ≡ answer (multiply (numbersOf (table_of pool table)) bounded (productOf q) (productOf f))
+        → Timed pool table q kind name e at s s P
     unfolding words
     times-done P it =
         let g = made-got P _ it in

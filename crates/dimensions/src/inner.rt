@@ -7,7 +7,6 @@ ghost use Rattle.rules.specs.Exponents.{goodExp};
 ghost use Rattle.rules.specs.Products.{put};
 ghost use Rattle.rules.specs.TextReading.{atomNamed};
 ghost use Rattle.rules.specs.Values.{productValue};
-ghost use Rattle.laws.specs.NameTable.{Good};
 ghost use Rattle.exponents.specs.Answers.{expOf};
 ghost use Rattle.products.specs.Told.{given};
 ghost use Rattle.products.specs.Held.{Well};
@@ -23,17 +22,16 @@ use exponents::Exponent;
 use names::tables::NameTable;
 use products::inner::{multiplied, put};
 use products::{Factor, Product};
-use reading::inner::{Point, byte_at, mark, next_is, next_sign, read_power, refuse};
+use reading::inner::{byte_at, mark, next_is, next_sign, read_power, refuse};
 use reading::power_value;
 use rules::Refusal;
 use terms::inner::naming::read_named;
-use terms::inner::{At, Stand, place_of};
+use terms::inner::{At, Reached, Stand, place_of};
 
 /// What a factor is a power of: the kind of its record, and the name's number.
 #[derive(Clone, Copy)]
 pub struct Atomic {
-    pub at: Point,
-    pub stand: Stand,
+    pub end: Reached,
     pub kind: u32,
     pub number: u32,
 }
@@ -41,8 +39,7 @@ pub struct Atomic {
 /// A power, or 1 where there is none.
 #[derive(Clone, Copy)]
 pub struct Powered {
-    pub at: Point,
-    pub stand: Stand,
+    pub end: Reached,
     pub exp: Exponent,
 }
 
@@ -66,27 +63,27 @@ fn kind_for(b: u8) -> u32
 }
 
 /// A mark and its name, which is entered.
-fn enter_atom(line: &[u8], p: Point, s: Stand, pool: &mut [u8], table: &mut [u32]) -> Atomic
-    requires { Ready line.now p pool.old table.old s }
-    ensures { (dst : List ℕ) → Done line.now atom atomNamed (AtomTold table.new result.kind result.number) p (lent pool.old table.old dst s)
-        result.at (lent pool.new table.new dst result.stand) }
+fn enter_atom(line: &[u8], from: Reached, pool: &mut [u8], table: &mut [u32]) -> Atomic
+    requires { Ready line.now from.at pool.old table.old from.stand }
+    ensures { (dst : List ℕ) → Done line.now atom atomNamed (AtomTold table.new result.kind result.number) from.at (lent pool.old table.old dst from.stand)
+        result.end.at (lent pool.new table.new dst result.end.stand) }
 {
-    let c = next_sign(line, p);
+    let c = next_sign(line, from.at);
+    let s = from.stand;
     let b = byte_at(line, c);
     let kind = kind_for(b);
     if kind == 0 {
+        let at = refuse(c);
         return Atomic {
-            at: refuse(c),
-            stand: s,
+            end: Reached { at, stand: s },
             kind: 0,
             number: 0,
         };
     }
     let a = mark(line, c, b);
-    let x = read_named(line, a, s, pool, table);
+    let x = read_named(line, Reached { at: a, stand: s }, pool, table);
     Atomic {
-        at: x.at,
-        stand: x.stand,
+        end: x.end,
         kind,
         number: x.number,
     }
@@ -113,71 +110,57 @@ fn exp_in(v: Result<Exponent, Refusal>) -> Exponent
 }
 
 /// The power of a factor, if it has one: no name is entered, whatever pool and table hold.
-fn enter_power(line: &[u8], p: Point, s: Stand) -> Powered
-    requires { PointIn line.now p }
-    ensures { (goodExp (expOf result.exp) ≡ true) × ((pool table dst : List ℕ) → Ready line.now p pool table s
-        → Done line.now powerThere powered (ExpTold result.exp) p (lent pool table dst s) result.at (lent pool table dst result.stand)) }
+fn enter_power(line: &[u8], from: Reached) -> Powered
+    requires { PointIn line.now from.at }
+    ensures { (goodExp (expOf result.exp) ≡ true) × ((pool table dst : List ℕ) → Ready line.now from.at pool table from.stand
+        → Done line.now powerThere powered (ExpTold result.exp) from.at (lent pool table dst from.stand) result.end.at (lent pool table dst result.end.stand)) }
 {
-    if next_is(line, p, b'^') {
-        let c = next_sign(line, p);
-        let e = read_power(line, p);
+    if next_is(line, from.at, b'^') {
+        let c = next_sign(line, from.at);
+        let e = read_power(line, from.at);
         let v = power_value(e.minus, e.num, e.den);
+        let stand = power_stand(from.stand, place_of(c), &v);
         return Powered {
-            at: e.end,
-            stand: power_stand(s, place_of(c), &v),
+            end: Reached { at: e.end, stand },
             exp: exp_in(v),
         };
     }
     Powered {
-        at: p,
-        stand: s,
+        end: from,
         exp: Exponent::ONE,
     }
 }
 
 /// A product of one factor, or of none where its power is 0.
-fn single(kind: u32, name: u32, exp: Exponent) -> Product
-    requires { Kind kind }
-    ensures { given result ≡ productValue (put (atomBy kind name) (expOf exp) []) }
+fn single(factor: Factor) -> Product
+    requires { Kind factor.kind }
+    ensures { given result ≡ productValue (put (atomBy factor.kind factor.name) (expOf factor.exp) []) }
 {
     let none = Product::scalar();
-    if exp.is_zero() {
+    if factor.exp.is_zero() {
         return none;
     }
-    put(none, Factor { kind, name, exp })
+    put(none, factor)
 }
 
 /// Multiplies by a factor: 7 or 8 at its mark, unless the sheet is refused already.
-fn times(
-    q: Product,
-    kind: u32,
-    name: u32,
-    exp: Exponent,
-    at: usize,
-    s: Stand,
-    pool: &[u8],
-    table: &[u32],
-) -> Multiplied
-    requires good { Good pool.now table.now }
-    requires well { Well pool.now table.now q }
-    requires good_exp { goodExp (expOf exp) ≡ true }
-    requires held_if { HeldIf table.now kind name s }
-    ensures { Timed pool.now table.now q kind name (expOf exp) at s result.stand result.product }
+fn times(q: Product, factor: Factor, at: usize, s: Stand, names: NameTable) -> Multiplied
+    requires well { Well names.pool.now names.table.now q }
+    requires good_exp { goodExp (expOf factor.exp) ≡ true }
+    requires held_if { HeldIf names.table.now factor.kind factor.name s }
+    ensures { Timed names.entry.pool.now names.entry.table.now q factor.kind factor.name (expOf factor.exp) at s result.stand result.product }
 {
     match s {
         Err(_) => Multiplied {
             stand: s,
             product: q,
         },
-        Ok(_) => {
-            let names = NameTable { pool, table };
-            match multiplied(q, single(kind, name, exp), names) {
-                Ok(product) => Multiplied { stand: s, product },
-                Err(why) => Multiplied {
-                    stand: Err(At { why, at }),
-                    product: q,
-                },
-            }
-        }
+        Ok(_) => match multiplied(q, single(factor), names) {
+            Ok(product) => Multiplied { stand: s, product },
+            Err(why) => Multiplied {
+                stand: Err(At { why, at }),
+                product: q,
+            },
+        },
     }
 }

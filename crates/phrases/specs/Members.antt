@@ -190,7 +190,8 @@ module _ {y z : Lent} (b : code.Option ℕ) (q : Point) (i : NameAt) (t : TyAt) 
       (maps (ty_of t) (λ u. (v, u)) {W = λ xu qs. (xu.0 ≡ v) × (qs ≡ writeTy xu.1)} (kept-last kz) f (λ u qs hs. (refl, hs)))
       (λ xu qs w l. (w.0, ap (λ (a : ℕ). recOf (view.Field a) (suc (length qs)) ∷ qs) (sym w.0) ∙ typed-behind xu.0 xu.1 qs w.1)) d g))
 
-field_told : {b : code.Option ℕ} {v : ℕ} (xu : ℕ × Ty ℕ) (rs qs : List Rec) → b ≡ code.Some v → rs ≡ [] → xu.0 ≡ v → qs ≡ fieldRecs xu → FieldTold b xu (rs ++ qs)
+field_told : {b : code.Option ℕ} {v : ℕ} (xu : ℕ × Ty ℕ) (rs qs : List Rec) → b ≡ code.Some v → rs ≡ [] → xu.0 ≡ v → qs ≡ fieldRecs xu
+    → FieldTold b xu (rs ++ qs)
 field_told xu rs qs hb hn e f = record { name = hb ∙ ap (λ (a : ℕ). code.Some a) (sym e); written = ap (λ (l : List Rec). l ++ qs) hn ∙ f }
 
 module _ (ty : Rule TyAt) (b : code.Option ℕ) {line : Bytes} {x x₁ y : Lent} {p q a c r : Point} {v : ℕ} {ok : Bool} where
@@ -293,7 +294,8 @@ fields_told : {n m : ℕ} (xu : ℕ × Ty ℕ) (rs qs : List Rec) (gs : Fields �
 unfolding writeTy writeTys writeFields countFields
 fields_told xu rs qs gs e g = record { written = ap₂ ◌++◌ e g.written; counted = omega (arith, g.counted) }
 
-pub fields-more : {n m : ℕ} {b : code.Option ℕ} {x z o : Lent} (y : Option ℕ) (i : NameAt) (t : TyAt) (fs : FieldsAt) → Effect (fieldStep y (i, t)) (FieldTold b) x z
+pub fields-more : {n m : ℕ} {b : code.Option ℕ} {x z o : Lent} (y : Option ℕ) (i : NameAt) (t : TyAt) (fs : FieldsAt)
+    → Effect (fieldStep y (i, t)) (FieldTold b) x z
     → Kept z o
     → Effect (fields_of fs (nameBefore b)) (FieldsTold (min (n + 1) 4096) m) z o → Effect (fields_of (field_at i t fs) y) (FieldsTold n m) x o
 fields-more {n} {m} {b} {x} {z} {o} y i t fs e k f =

@@ -77,7 +77,8 @@ pub record FieldsFrom (n : ℕ) (b : code.Option ℕ) (x : Lent) (r : Point) (z 
   pub effect : NotBad r → Effect (fields_of fs (nameBefore b)) (FieldsTold n z.1) x z.0
 
 -- the fields were read from p, x, n and b up to q, y, m and c
-pub record FieldsLoop (ty : Rule TyAt) (line : Bytes) (p : Point) (x : Lent) (n : ℕ) (b : code.Option ℕ) (q : Point) (y : Lent) (m : ℕ) (c : code.Option ℕ) : Type 0 where
+pub record FieldsLoop (ty : Rule TyAt) (line : Bytes) (p : Point) (x : Lent) (n : ℕ) (b : code.Option ℕ) (q : Point) (y : Lent) (m : ℕ)
+    (c : code.Option ℕ) : Type 0 where
   pub onto : Onto (moreFields ty) line p (FieldsFrom n b x) q (FieldsFrom m c y)
   pub ready : Ready line q y.pool y.table y.stand
   pub kept : Kept x y
@@ -166,15 +167,6 @@ pub no-head : (b : ℕ) → (b ≡ 63 → ⊥) → (b ≡ 33 → ⊥) → (b ≡
     → among b heads ≡ false
 no-head b h1 h2 h3 h4 h5 h6 h7 h8 h9 =
     rw (ne_eqb b 63 h1, ne_eqb b 33 h2, ne_eqb b 91 h3, ne_eqb b 66 h4, ne_eqb b 83 h5, ne_eqb b 68 h6, ne_eqb b 70 h7, ne_eqb b 76 h8, ne_eqb b 64 h9)
-
-or_nothing : (t : Bool) → t ≡ (t || false)
-or_nothing true = refl
-or_nothing false = refl
-
-pub last-head : (b : ℕ) → (b ≡ 63 → ⊥) → (b ≡ 33 → ⊥) → (b ≡ 91 → ⊥) → (b ≡ 66 → ⊥) → (b ≡ 83 → ⊥) → (b ≡ 68 → ⊥) → (b ≡ 70 → ⊥) → (b ≡ 76 → ⊥)
-    → eqb b 64 ≡ among b heads
-last-head b h1 h2 h3 h4 h5 h6 h7 h8 =
-    rw (ne_eqb b 63 h1, ne_eqb b 33 h2, ne_eqb b 91 h3, ne_eqb b 66 h4, ne_eqb b 83 h5, ne_eqb b 68 h6, ne_eqb b 70 h7, ne_eqb b 76 h8) (or_nothing (eqb b 64))
 
 -- where nothing fits, nothing is done
 none-effect : {B : Type 0} {T : B → List Rec → Type 0} {x : Lent} (m : Step B) (q : Point) → Halted q x.stand → NotBad (refusedFrom q) → Effect m T x x

@@ -7,9 +7,7 @@ ghost use Rattle.rules.specs.TextReading.{ty_of};
 ghost use Rattle.rules.specs.WellFormed.{is_lt};
 ghost use Rattle.rules.specs.Writing.{writeTy};
 ghost use Rattle.rules.specs.declared.Refusal.TheVariants.{Malformed};
-ghost use Rattle.laws.specs.NameTable.{Good};
 ghost use Rattle.names.specs.Told.{toldOrder};
-ghost use Rattle.records.specs.Good.{HeldBefore};
 ghost use Rattle.reading.specs.Choice.{among, heads, deepRuled};
 ghost use Rattle.terms.specs.Effects.{lent, Ready, Writes, Done};
 ghost use Rattle.phrases.specs.Members.{Risen, KeptBefore, keptIf};
@@ -39,21 +37,12 @@ fn is_less(o: Ordering) -> bool
 }
 
 /// Does a field's name, if it is held, come after the one before?
-fn rises(pool: &[u8], table: &[u32], before: Option<u32>, x: u32) -> bool
-    requires good { Good pool.now table.now }
-    requires held_before { HeldBefore table.now before }
-    ensures { Risen pool.now table.now before x result }
+fn rises(names: NameTable, before: Option<u32>, x: u32) -> bool
+    ensures { Risen names.entry.pool.now names.entry.table.now before x result }
 {
     match before {
         None => true,
-        Some(y) => {
-            if is_held(table, x) {
-                let names = NameTable { pool, table };
-                is_less(names.order(y, x))
-            } else {
-                false
-            }
-        }
+        Some(y) => is_less(names.order(y, x)),
     }
 }
 
@@ -83,31 +72,10 @@ fn pass_if(ok: bool, at: usize, s: Stand) -> Stand
 fn is_head(b: u8) -> bool
     ensures { result ≡ among b heads }
 {
-    if b == b'?' {
-        return true;
-    }
-    if b == b'!' {
-        return true;
-    }
-    if b == b'[' {
-        return true;
-    }
-    if b == b'B' {
-        return true;
-    }
-    if b == b'S' {
-        return true;
-    }
-    if b == b'D' {
-        return true;
-    }
-    if b == b'F' {
-        return true;
-    }
-    if b == b'L' {
-        return true;
-    }
-    b == b'@'
+    matches!(
+        b,
+        b'?' | b'!' | b'[' | b'B' | b'S' | b'D' | b'F' | b'L' | b'@'
+    )
 }
 
 /// A type nested too deep: 1 at its first byte, and nothing behind it is looked at.

@@ -37,14 +37,12 @@ pub fn skip_blanks(line: &[u8], at: usize) -> usize
     requires { at ≤ length line.now }
     ensures { Skipped line.now at result }
 {
-    let mut i = at;
-    while i < line.len() {
+    for i in at..line.len() {
         if !is_blank(line[i]) {
             return i;
         }
-        i += 1;
     }
-    i
+    line.len()
 }
 
 /// The end of a sign whose bytes stand at a place, with nothing between them.

@@ -23,11 +23,10 @@ pub struct Line {
     pub constraints: usize,
 }
 
-/// Where a line is read to, how the sheet stands then, and how many constraints the line had.
+/// Where a line is read to and how the sheet stands then, and how many constraints the line had.
 #[derive(Clone, Copy)]
 pub struct Stated {
-    pub at: Point,
-    pub stand: Stand,
+    pub end: Reached,
     pub count: usize,
 }
 
@@ -73,37 +72,44 @@ fn says_scalar(line: &[u8], q: Point, b: u8) -> bool
 /// A type, and what the line says of it: that it equals another, is a dimension, or is scalar.
 fn enter_typed(
     line: &[u8],
-    p: Point,
-    s: Stand,
+    from: Reached,
     pool: &mut [u8],
     table: &mut [u32],
     dst: &mut [u32],
 ) -> Reached
-    requires { Ready line.now p pool.old table.old s }
-    ensures { Done line.now typed conOf (Writes writeCon) p (lent pool.old table.old dst.old s) result.at (lent pool.new table.new dst.new result.stand) }
+    requires { Ready line.now from.at pool.old table.old from.stand }
+    ensures { Done line.now typed conOf (Writes writeCon) from.at (lent pool.old table.old dst.old from.stand)
+        result.at (lent pool.new table.new dst.new result.stand) }
 {
-    let q = next_sign(line, p);
-    let counted = count(1, place_of(q), s);
-    let l = enter_type(line, q, NESTED, counted, pool, table, dst);
+    let q = next_sign(line, from.at);
+    let now = count(1, place_of(q), from.stand);
+    let l = enter_type(
+        line,
+        Reached { at: q, stand: now },
+        NESTED,
+        pool,
+        table,
+        dst,
+    );
     let stand = l.stand;
     let e = next_sign(line, l.at);
     let b = byte_at(line, e);
     if b == b'~' {
-        let m = mark(line, e, b'~');
-        let t = enter_type(line, m, NESTED, stand, pool, table, dst);
-        put_head(View::Equal, s, t.stand, dst);
+        let at = mark(line, e, b'~');
+        let t = enter_type(line, Reached { at, stand }, NESTED, pool, table, dst);
+        put_head(View::Equal, from.stand, t.stand, dst);
         return t;
     }
     if b == b':' {
         let m = mark(line, e, b':');
         let at = sign(line, m, b"DType");
-        put_head(View::IsDim, s, stand, dst);
+        put_head(View::IsDim, from.stand, stand, dst);
         return Reached { at, stand };
     }
     if says_scalar(line, q, b) {
         let m = mark(line, e, b'=');
         let at = sign(line, m, b"Scalar");
-        put_head(View::IsScalar, s, stand, dst);
+        put_head(View::IsScalar, from.stand, stand, dst);
         return Reached { at, stand };
     }
     let at = refuse(e);
@@ -113,62 +119,74 @@ fn enter_typed(
 /// A field that a type has.
 fn enter_has_field(
     line: &[u8],
-    p: Point,
-    s: Stand,
+    from: Reached,
     pool: &mut [u8],
     table: &mut [u32],
     dst: &mut [u32],
 ) -> Reached
-    requires { Ready line.now p pool.old table.old s }
-    ensures { Done line.now hasField conOf (Writes writeCon) p (lent pool.old table.old dst.old s) result.at (lent pool.new table.new dst.new result.stand) }
+    requires { Ready line.now from.at pool.old table.old from.stand }
+    ensures { Done line.now hasField conOf (Writes writeCon) from.at (lent pool.old table.old dst.old from.stand)
+        result.at (lent pool.new table.new dst.new result.stand) }
 {
-    let q = next_sign(line, p);
-    let counted = count(1, place_of(q), s);
+    let q = next_sign(line, from.at);
+    let now = count(1, place_of(q), from.stand);
     let a = sign(line, q, b"HasField");
     let b = mark(line, a, b'(');
-    let l = enter_type(line, b, NESTED, counted, pool, table, dst);
+    let l = enter_type(
+        line,
+        Reached { at: b, stand: now },
+        NESTED,
+        pool,
+        table,
+        dst,
+    );
     let d = mark(line, l.at, b',');
     let e = mark(line, d, b'"');
-    let x = read_named(line, e, l.stand, pool, table);
-    let g = quote(line, x.at);
-    let i = mark(line, g, b',');
-    let t = enter_type(line, i, NESTED, x.stand, pool, table, dst);
-    let at = mark(line, t.at, b')');
-    put_head(View::HasField(x.number), s, t.stand, dst);
-    Reached { at, stand: t.stand }
+    let s = l.stand;
+    let x = read_named(line, Reached { at: e, stand: s }, pool, table);
+    let g = quote(line, x.end.at);
+    let at = mark(line, g, b',');
+    let stand = x.end.stand;
+    let t = enter_type(line, Reached { at, stand }, NESTED, pool, table, dst);
+    let end = mark(line, t.at, b')');
+    put_head(View::HasField(x.number), from.stand, t.stand, dst);
+    Reached {
+        at: end,
+        stand: t.stand,
+    }
 }
 
 /// What a line states, by its first byte.
 fn enter_stated(
     line: &[u8],
-    p: Point,
-    s: Stand,
+    from: Reached,
     pool: &mut [u8],
     table: &mut [u32],
     dst: &mut [u32],
 ) -> Reached
-    requires { Ready line.now p pool.old table.old s }
-    ensures { Done line.now stated conOf (Writes writeCon) p (lent pool.old table.old dst.old s) result.at (lent pool.new table.new dst.new result.stand) }
+    requires { Ready line.now from.at pool.old table.old from.stand }
+    ensures { Done line.now stated conOf (Writes writeCon) from.at (lent pool.old table.old dst.old from.stand)
+        result.at (lent pool.new table.new dst.new result.stand) }
 {
-    if next_is(line, p, b'H') {
-        return enter_has_field(line, p, s, pool, table, dst);
+    if next_is(line, from.at, b'H') {
+        return enter_has_field(line, from, pool, table, dst);
     }
-    enter_typed(line, p, s, pool, table, dst)
+    enter_typed(line, from, pool, table, dst)
 }
 
 /// A constraint up to the end of its line.
 fn enter_constraint(
     line: &[u8],
-    p: Point,
-    s: Stand,
+    from: Reached,
     pool: &mut [u8],
     table: &mut [u32],
     dst: &mut [u32],
 ) -> Reached
-    requires { Ready line.now p pool.old table.old s }
-    ensures { Done line.now constraint meantOf (LineTold 1) p (lent pool.old table.old dst.old s) result.at (lent pool.new table.new dst.new result.stand) }
+    requires { Ready line.now from.at pool.old table.old from.stand }
+    ensures { Done line.now constraint meantOf (LineTold 1) from.at (lent pool.old table.old dst.old from.stand)
+        result.at (lent pool.new table.new dst.new result.stand) }
 {
-    let c = enter_stated(line, p, s, pool, table, dst);
+    let c = enter_stated(line, from, pool, table, dst);
     let e = next_sign(line, c.at);
     let at = end_at(line, e);
     Reached { at, stand: c.stand }
@@ -178,81 +196,73 @@ fn enter_constraint(
 fn enter_from(
     line: &[u8],
     i: usize,
-    s: Stand,
+    stand: Stand,
     pool: &mut [u8],
     table: &mut [u32],
     dst: &mut [u32],
 ) -> Stated
     requires within { i < length line.now }
-    requires ready { Ready line.now (Ok (Some i)) pool.old table.old s }
-    ensures { Done line.now signsAt meantOf (LineTold result.count) (Ok (Some i)) (lent pool.old table.old dst.old s)
-        result.at (lent pool.new table.new dst.new result.stand) }
+    requires ready { Ready line.now (Ok (Some i)) pool.old table.old stand }
+    ensures { Done line.now signsAt meantOf (LineTold result.count) (Ok (Some i)) (lent pool.old table.old dst.old stand)
+        result.end.at (lent pool.new table.new dst.new result.end.stand) }
 {
     let p = Ok(Some(i));
     if next_is(line, p, b'-') {
+        let at = sign(line, p, b"--");
         return Stated {
-            at: sign(line, p, b"--"),
-            stand: s,
+            end: Reached { at, stand },
             count: 0,
         };
     }
-    let c = enter_constraint(line, p, s, pool, table, dst);
-    Stated {
-        at: c.at,
-        stand: c.stand,
-        count: 1,
-    }
+    let end = enter_constraint(line, Reached { at: p, stand }, pool, table, dst);
+    Stated { end, count: 1 }
 }
 
 /// A line from its first sign, if it has one.
 fn enter_signs(
     line: &[u8],
-    p: Point,
-    s: Stand,
+    from: Reached,
     pool: &mut [u8],
     table: &mut [u32],
     dst: &mut [u32],
 ) -> Stated
-    requires { Ready line.now p pool.old table.old s }
-    ensures { Done line.now signsAt meantOf (LineTold result.count) p (lent pool.old table.old dst.old s)
-        result.at (lent pool.new table.new dst.new result.stand) }
+    requires { Ready line.now from.at pool.old table.old from.stand }
+    ensures { Done line.now signsAt meantOf (LineTold result.count) from.at (lent pool.old table.old dst.old from.stand)
+        result.end.at (lent pool.new table.new dst.new result.end.stand) }
 {
-    match p {
+    match from.at {
         Ok(Some(i)) => {
             if i < line.len() {
-                enter_from(line, i, s, pool, table, dst)
+                enter_from(line, i, from.stand, pool, table, dst)
             } else {
                 Stated {
-                    at: p,
-                    stand: s,
+                    end: from,
                     count: 0,
                 }
             }
         }
         Ok(None) => Stated {
-            at: p,
-            stand: s,
+            end: from,
             count: 0,
         },
         Err(_) => Stated {
-            at: p,
-            stand: s,
+            end: from,
             count: 0,
         },
     }
 }
 
 /// Outside the grammar 12, whatever was refused; else how the sheet stands.
-fn answer(p: Point, s: Stand, constraints: usize) -> Result<Line, At>
-    ensures { result ≡ answer_of p s constraints }
+fn answer(end: Reached, constraints: usize) -> Result<Line, At>
+    ensures { result ≡ answer_of end.at end.stand constraints }
 {
-    if let Err(at) = p {
+    if let Err(at) = end.at {
         return Err(At {
             why: Refusal::NotGrammar,
             at,
         });
     }
-    let tally = s?;
+    let tally = end.stand?;
     Ok(Line { tally, constraints })
 }
 
@@ -269,7 +279,8 @@ pub fn read_line(
     requires room { Room table.old tally.names tally.records }
     ensures { LineDone line.now (lent pool.old table.old dst.old (Ok tally)) (lent pool.new table.new dst.new (standIn result)) (countIn result) }
 {
-    let start = next_sign(line, Ok(Some(0)));
-    let stated = enter_signs(line, start, Ok(tally), pool, table, dst);
-    answer(stated.at, stated.stand, stated.count)
+    let at = next_sign(line, Ok(Some(0)));
+    let stand = Ok(tally);
+    let stated = enter_signs(line, Reached { at, stand }, pool, table, dst);
+    answer(stated.end, stated.count)
 }

@@ -9,15 +9,15 @@ ghost use Rattle.terms.specs.Effects.{Ready};
 ghost use Rattle.dimensions.specs.Factors.{is_at, fromNone, ProductDone, Followed};
 
 use super::{enter_atom, enter_power, times};
-use products::Product;
+use names::tables::NameTable;
+use products::{Factor, Product};
 use reading::inner::{Point, mark, next_is, next_sign};
-use terms::inner::{Stand, place_of};
+use terms::inner::{Reached, place_of};
 
-/// Where factors end, how the sheet stands, and the product so far.
+/// Where factors end, how the sheet stands then, and the product so far.
 #[derive(Clone, Copy)]
 pub struct Factored {
-    pub at: Point,
-    pub stand: Stand,
+    pub end: Reached,
     pub product: Product,
 }
 
@@ -33,88 +33,71 @@ fn is_at(p: Point) -> bool
 /// A factor: its name is entered, then its power is valued, then it is multiplied.
 fn enter_factor(
     line: &[u8],
-    p: Point,
+    from: Reached,
     q: Product,
-    s: Stand,
     pool: &mut [u8],
     table: &mut [u32],
 ) -> Factored
-    requires ready { Ready line.now p pool.old table.old s }
+    requires ready { Ready line.now from.at pool.old table.old from.stand }
     requires well { Well pool.old table.old q }
-    ensures { ProductDone line.now factor (multiplied (productOf q)) p pool.old table.old s result.at result.product pool.new table.new result.stand }
+    ensures { ProductDone line.now factor (multiplied (productOf q)) from.at pool.old table.old from.stand
+        result.end.at result.product pool.new table.new result.end.stand }
 {
-    let c = next_sign(line, p);
-    let a = enter_atom(line, c, s, pool, table);
-    let e = enter_power(line, a.at, a.stand);
-    if is_at(e.at) {
-        let m = times(
-            q,
-            a.kind,
-            a.number,
-            e.exp,
-            place_of(c),
-            e.stand,
-            pool,
-            table,
-        );
+    let c = next_sign(line, from.at);
+    let s = from.stand;
+    let a = enter_atom(line, Reached { at: c, stand: s }, pool, table);
+    let e = enter_power(line, a.end);
+    if is_at(e.end.at) {
+        let factor = Factor {
+            kind: a.kind,
+            name: a.number,
+            exp: e.exp,
+        };
+        let names = NameTable { pool, table };
+        let m = times(q, factor, place_of(c), e.end.stand, names);
         return Factored {
-            at: e.at,
-            stand: m.stand,
+            end: Reached {
+                at: e.end.at,
+                stand: m.stand,
+            },
             product: m.product,
         };
     }
     Factored {
-        at: e.at,
-        stand: e.stand,
+        end: e.end,
         product: q,
     }
 }
 
 /// Further factors, each behind "*".
-fn more_factors(
-    line: &[u8],
-    p: Point,
-    q: Product,
-    s: Stand,
-    pool: &mut [u8],
-    table: &mut [u32],
-) -> Factored
-    requires ready { Ready line.now p pool.old table.old s }
-    requires well { Well pool.old table.old q }
-    ensures { Followed line.now p q pool.old table.old s result.at result.product pool.new table.new result.stand }
+fn more_factors(line: &[u8], first: Factored, pool: &mut [u8], table: &mut [u32]) -> Factored
+    requires ready { Ready line.now first.end.at pool.old table.old first.end.stand }
+    requires well { Well pool.old table.old first.product }
+    ensures { Followed line.now first.end.at first.product pool.old table.old first.end.stand
+        result.end.at result.product pool.new table.new result.end.stand }
 {
-    let mut at = p;
-    let mut stand = s;
-    let mut product = q;
-    while next_is(line, at, b'*') {
-        let a = mark(line, at, b'*');
-        let f = enter_factor(line, a, product, stand, pool, table);
-        at = f.at;
-        stand = f.stand;
-        product = f.product;
+    let mut f = first;
+    while next_is(line, f.end.at, b'*') {
+        let a = mark(line, f.end.at, b'*');
+        let s = f.end.stand;
+        f = enter_factor(line, Reached { at: a, stand: s }, f.product, pool, table);
     }
-    Factored { at, stand, product }
+    f
 }
 
 /// The factors of a dimension, if it has any.
-pub fn enter_factors(
-    line: &[u8],
-    p: Point,
-    s: Stand,
-    pool: &mut [u8],
-    table: &mut [u32],
-) -> Factored
-    requires { Ready line.now p pool.old table.old s }
-    ensures { ProductDone line.now factorsThere fromNone p pool.old table.old s result.at result.product pool.new table.new result.stand }
+pub fn enter_factors(line: &[u8], from: Reached, pool: &mut [u8], table: &mut [u32]) -> Factored
+    requires { Ready line.now from.at pool.old table.old from.stand }
+    ensures { ProductDone line.now factorsThere fromNone from.at pool.old table.old from.stand
+        result.end.at result.product pool.new table.new result.end.stand }
 {
     let none = Product::scalar();
-    if next_is(line, p, b']') {
+    if next_is(line, from.at, b']') {
         return Factored {
-            at: p,
-            stand: s,
+            end: from,
             product: none,
         };
     }
-    let f = enter_factor(line, p, none, s, pool, table);
-    more_factors(line, f.at, f.product, f.stand, pool, table)
+    let f = enter_factor(line, from, none, pool, table);
+    more_factors(line, f, pool, table)
 }

@@ -8,7 +8,7 @@ ghost use Rattle.dimensions.specs.Whole.{productPut, DimDone};
 use super::factors::enter_factors;
 use loading::inner::store;
 use products::Product;
-use reading::inner::{Point, mark, next_sign};
+use reading::inner::{mark, next_sign};
 use terms::inner::{Reached, Stand, count, place_of};
 
 /// Writes a product from the place that s counted on, if all of it was counted up to r.
@@ -29,22 +29,21 @@ fn put_product(q: Product, s: Stand, r: Stand, dst: &mut [u32])
 /// A dimension and its records.
 pub fn enter_dimension(
     line: &[u8],
-    p: Point,
-    s: Stand,
+    from: Reached,
     pool: &mut [u8],
     table: &mut [u32],
     dst: &mut [u32],
 ) -> Reached
-    requires { Ready line.now p pool.old table.old s }
-    ensures { DimDone line.now p (lent pool.old table.old dst.old s) result.at (lent pool.new table.new dst.new result.stand) }
+    requires { Ready line.now from.at pool.old table.old from.stand }
+    ensures { DimDone line.now from.at (lent pool.old table.old dst.old from.stand) result.at (lent pool.new table.new dst.new result.stand) }
 {
-    let c = next_sign(line, p);
-    let counted = count(1, place_of(c), s);
+    let c = next_sign(line, from.at);
+    let now = count(1, place_of(c), from.stand);
     let a = mark(line, c, b'[');
-    let f = enter_factors(line, a, counted, pool, table);
-    let e = next_sign(line, f.at);
-    let stand = count(f.product.len, place_of(e), f.stand);
-    put_product(f.product, s, stand, dst);
+    let f = enter_factors(line, Reached { at: a, stand: now }, pool, table);
+    let e = next_sign(line, f.end.at);
+    let stand = count(f.product.len, place_of(e), f.end.stand);
+    put_product(f.product, from.stand, stand, dst);
     let at = mark(line, e, b']');
     Reached { at, stand }
 }

@@ -9,7 +9,7 @@ ghost use Rattle.terms.specs.Effects.{lent, Ready, Done, Writes};
 ghost use Rattle.terms.specs.Leaves.{mark_of, openView, openRule, word_of, basicRule};
 
 use super::naming::read_named;
-use super::{Reached, Stand, count, place_of, put_head};
+use super::{Reached, count, place_of, put_head};
 use reading::inner::{Point, mark, next_sign, sign};
 use records::{Basic, Open, View};
 
@@ -32,26 +32,22 @@ fn open_view(par: bool, x: u32) -> View
 /// A variable, or a parameter, and its record.
 pub fn enter_open(
     line: &[u8],
-    p: Point,
+    from: Reached,
     par: bool,
-    s: Stand,
     pool: &mut [u8],
     table: &mut [u32],
     dst: &mut [u32],
 ) -> Reached
-    requires { Ready line.now p pool.old table.old s }
-    ensures { Done line.now (openRule par) ty_of (Writes writeTy) p (lent pool.old table.old dst.old s)
+    requires { Ready line.now from.at pool.old table.old from.stand }
+    ensures { Done line.now (openRule par) ty_of (Writes writeTy) from.at (lent pool.old table.old dst.old from.stand)
         result.at (lent pool.new table.new dst.new result.stand) }
 {
-    let c = next_sign(line, p);
-    let counted = count(1, place_of(c), s);
+    let c = next_sign(line, from.at);
+    let now = count(1, place_of(c), from.stand);
     let a = mark(line, c, mark_of(par));
-    let x = read_named(line, a, counted, pool, table);
-    put_head(open_view(par, x.number), s, x.stand, dst);
-    Reached {
-        at: x.at,
-        stand: x.stand,
-    }
+    let x = read_named(line, Reached { at: a, stand: now }, pool, table);
+    put_head(open_view(par, x.number), from.stand, x.end.stand, dst);
+    x.end
 }
 
 /// The keyword of a basic type.
@@ -67,15 +63,16 @@ fn keyword(line: &[u8], p: Point, b: Basic) -> Point
 }
 
 /// A basic type and its record: no name is entered, whatever pool and table hold.
-pub fn enter_basic(line: &[u8], p: Point, b: Basic, s: Stand, dst: &mut [u32]) -> Reached
-    requires point_in { PointIn line.now p }
-    requires few { Few s }
-    ensures { (pool table : List ℕ) → Ready line.now p pool table s → Done line.now (basicRule b) ty_of (Writes writeTy) p (lent pool table dst.old s)
+pub fn enter_basic(line: &[u8], from: Reached, b: Basic, dst: &mut [u32]) -> Reached
+    requires within { PointIn line.now from.at }
+    requires few { Few from.stand }
+    ensures { (pool table : List ℕ) → Ready line.now from.at pool table from.stand
+        → Done line.now (basicRule b) ty_of (Writes writeTy) from.at (lent pool table dst.old from.stand)
         result.at (lent pool table dst.new result.stand) }
 {
-    let c = next_sign(line, p);
-    let stand = count(1, place_of(c), s);
-    put_head(View::Basic(b), s, stand, dst);
+    let c = next_sign(line, from.at);
+    let stand = count(1, place_of(c), from.stand);
+    put_head(View::Basic(b), from.stand, stand, dst);
     let at = keyword(line, c, b);
     Reached { at, stand }
 }

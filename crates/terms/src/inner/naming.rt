@@ -8,17 +8,16 @@ ghost use Rattle.names.specs.Told.{entered};
 ghost use Rattle.terms.specs.Effects.{lent, Room, Ready, Done};
 ghost use Rattle.terms.specs.Naming.{standAfter, numberTold, Front, NumberTold};
 
-use super::{At, Stand, Tally};
+use super::{At, Reached, Stand, Tally};
 use names::inner::enter_good;
-use reading::inner::{Point, read_name};
+use reading::inner::read_name;
 use rules::{NAME_BYTES, Refusal, Was};
 use scanning::inner::scan_name;
 
-/// Where a name ends, how the sheet stands, and the name's number; 0 where it has none.
+/// A name: where it ends, how the sheet stands then, and its number; 0 where it has none.
 #[derive(Clone, Copy)]
 pub struct Named {
-    pub at: Point,
-    pub stand: Stand,
+    pub end: Reached,
     pub number: u32,
 }
 
@@ -78,20 +77,24 @@ fn enter_at(line: &[u8], at: usize, tally: Tally, pool: &mut [u8], table: &mut [
     requires good { Good pool.old table.old }
     requires room { Room table.old tally.names tally.records }
     ensures { (dst : List ℕ) → Done line.now name named (NumberTold table.new result.number) (Ok (Some at)) (lent pool.old table.old dst (Ok tally))
-        result.at (lent pool.new table.new dst result.stand) }
+        result.end.at (lent pool.new table.new dst result.end.stand) }
 {
     let mut bytes = [0u8; NAME_BYTES];
     match scan_name(line, at, &mut bytes) {
         Err(q) => Named {
-            at: Err(q),
-            stand: Ok(tally),
+            end: Reached {
+                at: Err(q),
+                stand: Ok(tally),
+            },
             number: 0,
         },
         Ok(name) => {
             let a = enter_front(&bytes, name.size, pool, table);
             Named {
-                at: Ok(Some(name.end)),
-                stand: stand_after(at, tally, a),
+                end: Reached {
+                    at: Ok(Some(name.end)),
+                    stand: stand_after(at, tally, a),
+                },
                 number: number_told(a),
             }
         }
@@ -99,28 +102,27 @@ fn enter_at(line: &[u8], at: usize, tally: Tally, pool: &mut [u8], table: &mut [
 }
 
 /// The name that begins right here, entered: 2 and 3 at its first byte.
-pub fn read_named(line: &[u8], p: Point, s: Stand, pool: &mut [u8], table: &mut [u32]) -> Named
-    requires { Ready line.now p pool.old table.old s }
-    ensures { (dst : List ℕ) → Done line.now name named (NumberTold table.new result.number) p (lent pool.old table.old dst s)
-        result.at (lent pool.new table.new dst result.stand) }
+pub fn read_named(line: &[u8], from: Reached, pool: &mut [u8], table: &mut [u32]) -> Named
+    requires { Ready line.now from.at pool.old table.old from.stand }
+    ensures { (dst : List ℕ) → Done line.now name named (NumberTold table.new result.number) from.at (lent pool.old table.old dst from.stand)
+        result.end.at (lent pool.new table.new dst result.end.stand) }
 {
-    let Ok(tally) = s else {
+    let Ok(tally) = from.stand else {
+        let at = read_name(line, from.at);
+        let stand = from.stand;
         return Named {
-            at: read_name(line, p),
-            stand: s,
+            end: Reached { at, stand },
             number: 0,
         };
     };
-    match p {
+    match from.at {
         Ok(Some(i)) => enter_at(line, i, tally, pool, table),
         Ok(None) => Named {
-            at: p,
-            stand: s,
+            end: from,
             number: 0,
         },
         Err(_) => Named {
-            at: p,
-            stand: s,
+            end: from,
             number: 0,
         },
     }

@@ -6,7 +6,7 @@ use Rattle.dimensions.proofs.inner.enter_atom.Goals as goal
 
 pub returns-then-kind-eq0 : goal.returns-then-kind-eq0
 returns-then-kind-eq0 c =
-    λ dst. rw c.refuse.ensures (no-atom c.requires 0 _ (rw c.byte_at-b.ensures at c.kind_for-kind.ensures) c.if-kind-eq0.true c.next_sign-c.ensures)
+    λ dst. rw c.refuse-at.ensures (no-atom c.requires 0 _ (rw c.byte_at-b.ensures at c.kind_for-kind.ensures) c.if-kind-eq0.true c.next_sign-c.ensures)
 
 pub read_named-x-requires : goal.read_named-x-requires
 read_named-x-requires c =

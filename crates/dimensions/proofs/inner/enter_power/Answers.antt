@@ -11,7 +11,7 @@ returns-then-next_is c = (
   ap (λ (e : Exponent). goodExp (expOf e)) c.exp_in.ensures
       ∙ told-good c.power_value-v.result c.read_power-e.result.minus c.read_power-e.result.num c.read_power-e.result.den c.power_value-v.ensures,
   λ pool table dst ready. power-done dst ready _ c.power_value-v.result (sym c.if-next_is.true ∙ c.next_is.ensures) c.next_sign-c.ensures c.read_power-e.ensures
-      c.power_value-v.ensures c.place_of.ensures c.power_stand.ensures c.exp_in.ensures,
+      c.power_value-v.ensures c.place_of.ensures c.power_stand-stand.ensures c.exp_in.ensures,
 )
 
 pub returns : goal.returns

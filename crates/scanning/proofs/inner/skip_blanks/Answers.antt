@@ -1,27 +1,20 @@
 -- `inner::skip_blanks` meets its contract: what is left to skip.
-use mathlib.Core.Path.{refl, sym, ◌∙◌}
-use native.Mathlib.Omega.{arith}
-use Rattle.scanning.specs.Scanned.{sign-step, blank_step, end_step}
+use Rattle.std.specs.Prelude.{◌≡◌, length}
+use Rattle.std.proofs.Common.{sym, ◌∙◌, arith}
+use Rattle.scanning.specs.Scanned.{sign-step, blank_step, end_step, place_in}
 use Rattle.scanning.proofs.inner.skip_blanks.Goals as goal
 
-pub loop-i-init : goal.loop-i-init
-loop-i-init c = (omega arith, omega (arith, c.requires), refl)
-
 pub returns-then-not-is_blank : goal.returns-then-not-is_blank
-returns-then-not-is_blank c =
-    let i = c.loop-i.i in
-    record {
-      within = c.loop-i.invariant.1;
-      behind = c.loop-i.invariant.0;
-      is = c.loop-i.invariant.2
-          ∙ sign-step _ i (omega arith) (sym c.is_blank.ensures ∙ c.if-not-is_blank.true);
-    }
+returns-then-not-is_blank c = record {
+  within = omega (arith, c.loop-i-test.true);
+  behind = c.loop-i.auto.i;
+  is = c.loop-i.invariant ∙ sign-step _ c.loop-i.i c.loop-i-test.true (sym c.is_blank.ensures ∙ c.if-not-is_blank.true);
+}
 
 pub loop-i-preserved : goal.loop-i-preserved
-loop-i-preserved c =
-    let i = c.loop-i.i in
-    (omega arith, omega arith, c.loop-i.invariant.2 ∙ blank_step _ i (omega arith) (sym c.is_blank.ensures ∙ c.if-not-is_blank.false))
+loop-i-preserved c = c.loop-i.invariant ∙ blank_step _ c.loop-i.i c.loop-i-test.true (sym c.is_blank.ensures ∙ c.if-not-is_blank.false)
 
 pub returns : goal.returns
 returns c =
-    record { within = c.loop-i.invariant.1; behind = c.loop-i.invariant.0; is = c.loop-i.invariant.2 ∙ end_step _ c.loop-i.i (omega arith) }
+    let end : c.loop-i.i ≡ length c.args.line.now = omega (arith, c.requires, c.loop-i.auto.i-end, c.loop-i-test.false) in
+    record { within = omega arith; behind = c.requires; is = c.loop-i.invariant ∙ rw end (end_step c.args.line.now _ (omega arith)) }

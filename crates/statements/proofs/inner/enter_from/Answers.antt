@@ -7,18 +7,18 @@ pub next_is-requires : goal.next_is-requires
 next_is-requires c =
     c.requires.ready.within
 
-pub sign-requires : goal.sign-requires
-sign-requires c =
+pub sign-at-requires : goal.sign-at-requires
+sign-at-requires c =
     c.requires.ready.within
 
 pub returns-then-next_is : goal.returns-then-next_is
 returns-then-next_is c =
-    comment-done c.requires.within c.requires.ready (sym c.if-next_is.true ∙ c.next_is.ensures) c.sign.ensures
+    comment-done c.requires.within c.requires.ready (sym c.if-next_is.true ∙ c.next_is.ensures) c.sign-at.ensures
 
-pub enter_constraint-c-requires : goal.enter_constraint-c-requires
-enter_constraint-c-requires c =
+pub enter_constraint-end-requires : goal.enter_constraint-end-requires
+enter_constraint-end-requires c =
     c.requires.ready
 
 pub returns : goal.returns
 returns c =
-    signs-done c.requires.within (sym c.if-next_is.false ∙ c.next_is.ensures) c.enter_constraint-c.ensures
+    signs-done c.requires.within (sym c.if-next_is.false ∙ c.next_is.ensures) c.enter_constraint-end.ensures

@@ -11,8 +11,8 @@ pub next_sign-q-requires : goal.next_sign-q-requires
 next_sign-q-requires c =
     c.requires.within
 
-pub count-counted-requires : goal.count-counted-requires
-count-counted-requires c =
+pub count-now-requires : goal.count-now-requires
+count-now-requires c =
     record { small = omega arith; few = (λ k n e. (c.requires.room k n e).records) }
 
 pub sign-a-requires : goal.sign-a-requires
@@ -25,7 +25,7 @@ mark-b-requires c = c.sign-a.ensures.within
 pub enter_type-l-requires : goal.enter_type-l-requires
 enter_type-l-requires c =
     ready_on (inside-spelled _) c.mark-b.ensures.reads
-    (ready_on (inside-spelled _) c.sign-a.ensures (ready_on inside-column c.next_sign-q.ensures (ready-count 1 _ c.requires c.count-counted.ensures)))
+    (ready_on (inside-spelled _) c.sign-a.ensures (ready_on inside-column c.next_sign-q.ensures (ready-count 1 _ c.requires c.count-now.ensures)))
 
 pub mark-d-requires : goal.mark-d-requires
 mark-d-requires c =
@@ -43,27 +43,27 @@ pub quote-g-requires : goal.quote-g-requires
 quote-g-requires c =
     (c.read_named-x.ensures []).reads.within
 
-pub mark-i-requires : goal.mark-i-requires
-mark-i-requires c = c.quote-g.ensures.within
+pub mark-at-requires : goal.mark-at-requires
+mark-at-requires c = c.quote-g.ensures.within
 
 pub enter_type-t-requires : goal.enter_type-t-requires
 enter_type-t-requires c =
-    ready_on (inside-spelled _) c.mark-i.ensures.reads
+    ready_on (inside-spelled _) c.mark-at.ensures.reads
     (ready_on inside-quote c.quote-g.ensures (ready-next (c.read_named-x.ensures [])))
 
-pub mark-at-requires : goal.mark-at-requires
-mark-at-requires c =
+pub mark-end-requires : goal.mark-end-requires
+mark-end-requires c =
     c.enter_type-t.ensures.reads.within
 
 pub put_head-requires : goal.put_head-requires
 put_head-requires c =
     kept_above
-    (kept_then (kept-count 1 _ c.requires c.count-counted.ensures _) (kept_then c.enter_type-l.ensures.kept
+    (kept_then (kept-count 1 _ c.requires c.count-now.ensures _) (kept_then c.enter_type-l.ensures.kept
     (kept_then (c.read_named-x.ensures _).kept c.enter_type-t.ensures.kept)))
 
 pub returns : goal.returns
 returns c =
     hasfield-done c.requires c.next_sign-q.ensures c.sign-a.ensures c.mark-b.ensures.reads
-    (from-counted c.next_sign-q.result c.args.s c.place_of.ensures c.count-counted.ensures c.enter_type-l.ensures)
+    (from-counted c.next_sign-q.result c.args.from.stand c.place_of.ensures c.count-now.ensures c.enter_type-l.ensures)
     c.mark-d.ensures.reads c.mark-e.ensures.reads (c.read_named-x.ensures _) c.quote-g.ensures
-    c.mark-i.ensures.reads c.enter_type-t.ensures c.mark-at.ensures.reads _ c.put_head.ensures
+    c.mark-at.ensures.reads c.enter_type-t.ensures c.mark-end.ensures.reads _ c.put_head.ensures

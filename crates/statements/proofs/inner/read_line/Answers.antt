@@ -8,9 +8,9 @@ use Rattle.statements.proofs.inner.read_line.Goals as goal
 
 pub enter_signs-stated-requires : goal.enter_signs-stated-requires
 enter_signs-stated-requires c =
-    ready_on inside-column c.next_sign-start.ensures
+    ready_on inside-column c.next_sign-at.ensures
     (record { within = omega arith; good = c.requires.good; room = roomy c.requires.room; halted = not-past })
 
 pub returns : goal.returns
 returns c =
-    rw c.answer.ensures (answered c.next_sign-start.ensures refl _ _ _ c.enter_signs-stated.ensures)
+    rw c.answer.ensures (answered c.next_sign-at.ensures refl _ _ _ c.enter_signs-stated.ensures)

@@ -15,13 +15,15 @@ pub enter_power-e-requires : goal.enter_power-e-requires
 enter_power-e-requires c =
     (c.enter_atom-a.ensures []).reads.within
 
+pub invariant_of-names : goal.invariant_of-names
+invariant_of-names c = record { good = (c.enter_atom-a.ensures []).kept.good }
+
 pub times-m-requires : goal.times-m-requires
 times-m-requires c =
     let named = c.enter_atom-a.ensures in
     let valued = c.enter_power-e.ensures.1 _ _ [] (ready-next (named [])) in
-    let fine = at-fine c.enter_power-e.result.at (sym c.if-is_at.true ∙ c.is_at.ensures) in
+    let fine = at-fine c.enter_power-e.result.end.at (sym c.if-is_at.true ∙ c.is_at.ensures) in
     record {
-      good = (named []).kept.good;
       well = well-stays c.requires.ready.good (named []).kept _ c.requires.well;
       good_exp = c.enter_power-e.ensures.0;
       held_if = held-if (named []) valued fine;

@@ -8,13 +8,13 @@ use Rattle.terms.specs.Inside.{inside-column, inside-spelled}
 use Rattle.dimensions.specs.Whole.{dimension-done}
 use Rattle.dimensions.proofs.inner.whole.enter_dimension.Goals as goal
 
-pub count-counted-requires : goal.count-counted-requires
-count-counted-requires c =
+pub count-now-requires : goal.count-now-requires
+count-now-requires c =
     record { small = omega arith; few = (λ k n e. (c.requires.room k n e).records) }
 
 pub enter_factors-f-requires : goal.enter_factors-f-requires
 enter_factors-f-requires c =
-    ready_on (inside-spelled _) c.mark-a.ensures.reads (ready_on inside-column c.next_sign-c.ensures (ready-count 1 _ c.requires c.count-counted.ensures))
+    ready_on (inside-spelled _) c.mark-a.ensures.reads (ready_on inside-column c.next_sign-c.ensures (ready-count 1 _ c.requires c.count-now.ensures))
 
 pub next_sign-e-requires : goal.next_sign-e-requires
 next_sign-e-requires c =
@@ -31,6 +31,6 @@ put_product-requires c =
 pub returns : goal.returns
 returns c =
     let well = c.enter_factors-f.ensures.0 in
-    dimension-done c.enter_factors-f.result.product _ _ c.requires c.next_sign-c.ensures c.place_of.ensures c.count-counted.ensures c.mark-a.ensures.reads
+    dimension-done c.enter_factors-f.result.product _ _ c.requires c.next_sign-c.ensures c.place_of.ensures c.count-now.ensures c.mark-a.ensures.reads
     (c.enter_factors-f.ensures.1 _) c.next_sign-e.ensures c.place_of-2.ensures
     (length-product _ well.long well.few) c.count-stand.ensures c.put_product.ensures c.mark-at.ensures.reads

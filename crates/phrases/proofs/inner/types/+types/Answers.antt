@@ -7,7 +7,7 @@ use Rattle.reading.specs.Choice.{by-function, by-list, by-structure}
 use Rattle.terms.specs.Effects.{kept_then, kept_above, kept-count, ready-count, ready_on, ready-next}
 use Rattle.terms.specs.Inside.{inside-column, inside-spelled}
 use Rattle.phrases.specs.Parts.{from-counted, list_done, function-done}
-use Rattle.phrases.specs.Members.{held-later, ready-tested, field-by, structure-done}
+use Rattle.phrases.specs.Members.{ready-tested, field-by, structure-done}
 use Rattle.phrases.specs.Rows.{tys-start, tys-turn, tys-fall, tys-done, fields-start, fields-turn, fields-fall, fields-done, some-params, no-params}
 use Rattle.phrases.specs.Rows.{some-types, no-types, some-fields, no_fields, done-by, type-zero, type-some}
 use Rattle.phrases.proofs.inner.types.+types.Goals as goal
@@ -24,34 +24,32 @@ pub enter_arguments-enter_types-ts-requires : goal.enter_arguments-enter_types-t
 enter_arguments-enter_types-ts-requires t c =
     (omega (arith, c.decreases), ready_on (inside-spelled _) c.mark-a.ensures.reads c.requires)
 
-pub enter_arguments-mark-requires : goal.enter_arguments-mark-requires
-enter_arguments-mark-requires t c =
+pub enter_arguments-mark-at-requires : goal.enter_arguments-mark-at-requires
+enter_arguments-mark-at-requires t c =
     c.enter_types-ts.ensures.reads.within
 
-pub enter_arguments-returns-then-next_is : goal.enter_arguments-returns-then-next_is
-enter_arguments-returns-then-next_is t c =
-    some-types (type _) (sym c.if-next_is.true ∙ c.next_is.ensures) c.mark-a.ensures.reads
-    c.enter_types-ts.ensures c.mark.ensures.reads
+pub enter_arguments-returns-then-not-next_is : goal.enter_arguments-returns-then-not-next_is
+enter_arguments-returns-then-not-next_is t c =
+    no-types (type _) c.requires (sym c.if-not-next_is.true ∙ c.next_is.ensures)
 
 pub enter_arguments-returns : goal.enter_arguments-returns
 enter_arguments-returns t c =
-    no-types (type _) c.requires (sym c.if-next_is.false ∙ c.next_is.ensures)
+    some-types (type _) (sym c.if-not-next_is.false ∙ c.next_is.ensures) c.mark-a.ensures.reads
+    c.enter_types-ts.ensures c.mark-at.ensures.reads
 
 pub enter_field-next_sign-q-requires : goal.enter_field-next_sign-q-requires
 enter_field-next_sign-q-requires t c =
-    c.requires.ready.within
+    c.requires.within
 
 pub enter_field-read_named-x-requires : goal.enter_field-read_named-x-requires
 enter_field-read_named-x-requires t c =
-    ready_on inside-column c.next_sign-q.ensures c.requires.ready
+    ready_on inside-column c.next_sign-q.ensures c.requires
 
-pub enter_field-rises-requires : goal.enter_field-rises-requires
-enter_field-rises-requires t c =
-    let k = (c.read_named-x.ensures []).kept in
-    record { good = k.good; held_before = held-later c.args.table.now c.read_named-x.new.table c.args.before k.held c.requires.held_before }
+pub enter_field-invariant_of-names : goal.enter_field-invariant_of-names
+enter_field-invariant_of-names t c = record { good = (c.read_named-x.ensures []).kept.good }
 
-pub enter_field-count-counted-requires : goal.enter_field-count-counted-requires
-enter_field-count-counted-requires t c =
+pub enter_field-count-now-requires : goal.enter_field-count-now-requires
+enter_field-count-now-requires t c =
     record {
       small = omega arith;
       few = (λ k n e. ((ready-tested c.rises.result c.place_of-at.result
@@ -62,70 +60,70 @@ pub enter_field-mark-c-requires : goal.enter_field-mark-c-requires
 enter_field-mark-c-requires t c =
     (c.read_named-x.ensures []).reads.within
 
-pub enter_field-enter_type-t-requires : goal.enter_field-enter_type-t-requires
-enter_field-enter_type-t-requires t c = (
+pub enter_field-enter_type-end-requires : goal.enter_field-enter_type-end-requires
+enter_field-enter_type-end-requires t c = (
   omega (arith, c.decreases),
   ready_on (inside-spelled _) c.mark-c.ensures.reads
       (ready-count 1 _ (ready-tested c.rises.result c.place_of-at.result
-      (ready-next (c.read_named-x.ensures [])) c.pass_if-tested.ensures) c.count-counted.ensures),
+      (ready-next (c.read_named-x.ensures [])) c.pass_if-tested.ensures) c.count-now.ensures),
 )
 
 pub enter_field-put_head-requires : goal.enter_field-put_head-requires
 enter_field-put_head-requires t c =
     kept_above
     (kept_then (kept-count 1 _ (ready-tested c.rises.result c.place_of-at.result
-    (ready-next (c.read_named-x.ensures [])) c.pass_if-tested.ensures) c.count-counted.ensures _) c.enter_type-t.ensures.kept)
+    (ready-next (c.read_named-x.ensures [])) c.pass_if-tested.ensures) c.count-now.ensures _) c.enter_type-end.ensures.kept)
 
 pub enter_field-before_next-requires : goal.enter_field-before_next-requires
 enter_field-before_next-requires t c =
-    c.enter_type-t.ensures.kept.good.words
+    c.enter_type-end.ensures.kept.good.words
 
 pub enter_field-returns : goal.enter_field-returns
 enter_field-returns t c =
-    field-by (type _) c.args.before c.requires.ready c.next_sign-q.ensures (c.read_named-x.ensures _)
-    c.place_of-at.ensures c.rises.ensures c.pass_if-tested.ensures c.count-counted.ensures
-    c.mark-c.ensures.reads c.enter_type-t.ensures c.before_next.ensures _ c.put_head.ensures
+    field-by (type _) c.args.before c.requires c.next_sign-q.ensures (c.read_named-x.ensures _)
+    c.place_of-at.ensures c.rises.ensures c.pass_if-tested.ensures c.count-now.ensures
+    c.mark-c.ensures.reads c.enter_type-end.ensures c.before_next.ensures _ c.put_head.ensures
 
 pub enter_fields-enter_field-first-requires : goal.enter_fields-enter_field-first-requires
 enter_fields-enter_field-first-requires t c =
-    (omega (arith, c.decreases), (c.requires, tt))
+    (omega (arith, c.decreases), c.requires)
 
-pub enter_fields-loop-before-init : goal.enter_fields-loop-before-init
-enter_fields-loop-before-init t c =
+pub enter_fields-loop-a-init : goal.enter_fields-loop-a-init
+enter_fields-loop-a-init t c =
     fields-start (type _) (ready-next c.enter_field-first.ensures.done) (omega arith) c.enter_field-first.ensures.held
 
 pub enter_fields-next_is-requires : goal.enter_fields-next_is-requires
-enter_fields-next_is-requires t c = c.loop-before.invariant.ready.within
+enter_fields-next_is-requires t c = c.loop-a.invariant.ready.within
 
 pub enter_fields-mark-a-requires : goal.enter_fields-mark-a-requires
 enter_fields-mark-a-requires t c =
-    c.loop-before.invariant.ready.within
+    c.loop-a.invariant.ready.within
 
 pub enter_fields-enter_field-f-requires : goal.enter_fields-enter_field-f-requires
 enter_fields-enter_field-f-requires t c =
-    (omega (arith, c.decreases), (ready_on (inside-spelled _) c.mark-a.ensures.reads c.loop-before.invariant.ready, c.loop-before.invariant.held))
+    (omega (arith, c.decreases), ready_on (inside-spelled _) c.mark-a.ensures.reads c.loop-a.invariant.ready)
 
-pub enter_fields-loop-before-smaller : goal.enter_fields-loop-before-smaller
-enter_fields-loop-before-smaller t c =
-    fields-fall c.loop-before.invariant (sym c.loop-before-test.true ∙ c.next_is.ensures) c.mark-a.ensures
+pub enter_fields-loop-a-smaller : goal.enter_fields-loop-a-smaller
+enter_fields-loop-a-smaller t c =
+    fields-fall c.loop-a.invariant (sym c.loop-a-test.true ∙ c.next_is.ensures) c.mark-a.ensures
     c.enter_field-f.ensures.done
 
-pub enter_fields-loop-before-preserved : goal.enter_fields-loop-before-preserved
-enter_fields-loop-before-preserved t c =
+pub enter_fields-loop-a-preserved : goal.enter_fields-loop-a-preserved
+enter_fields-loop-a-preserved t c =
     rw c.one_more-n.ensures
-    (fields-turn c.loop-before.invariant (sym c.loop-before-test.true ∙ c.next_is.ensures) c.mark-a.ensures
+    (fields-turn c.loop-a.invariant (sym c.loop-a-test.true ∙ c.next_is.ensures) c.mark-a.ensures
     c.enter_field-f.ensures.done c.enter_field-f.ensures.held)
 
 pub enter_fields-returns : goal.enter_fields-returns
 enter_fields-returns t c =
-    fields-done (type _) c.enter_field-first.ensures.done c.loop-before.invariant (sym c.loop-before-test.false ∙ c.next_is.ensures)
+    fields-done (type _) c.enter_field-first.ensures.done c.loop-a.invariant (sym c.loop-a-test.false ∙ c.next_is.ensures)
 
 pub enter_function-next_sign-q-requires : goal.enter_function-next_sign-q-requires
 enter_function-next_sign-q-requires t c =
     c.requires.within
 
-pub enter_function-count-counted-requires : goal.enter_function-count-counted-requires
-enter_function-count-counted-requires t c =
+pub enter_function-count-now-requires : goal.enter_function-count-now-requires
+enter_function-count-now-requires t c =
     record { small = omega arith; few = (λ k n e. (c.requires.room k n e).records) }
 
 pub enter_function-sign-a-requires : goal.enter_function-sign-a-requires
@@ -143,7 +141,7 @@ enter_function-enter_params-ps-requires t c = (
   omega (arith, c.decreases),
   ready_on (inside-spelled _) c.mark-c.ensures.reads
       (ready_on (inside-spelled _) c.mark-b.ensures.reads (ready_on (inside-spelled _) c.sign-a.ensures
-      (ready_on inside-column c.next_sign-q.ensures (ready-count 1 _ c.requires c.count-counted.ensures)))),
+      (ready_on inside-column c.next_sign-q.ensures (ready-count 1 _ c.requires c.count-now.ensures)))),
 )
 
 pub enter_function-mark-f-requires : goal.enter_function-mark-f-requires
@@ -168,13 +166,13 @@ enter_function-mark-at-requires t c =
 pub enter_function-put_head-requires : goal.enter_function-put_head-requires
 enter_function-put_head-requires t c =
     kept_above
-    (kept_then (kept-count 1 _ c.requires c.count-counted.ensures _) (kept_then c.enter_params-ps.ensures.kept c.enter_type-t.ensures.kept))
+    (kept_then (kept-count 1 _ c.requires c.count-now.ensures _) (kept_then c.enter_params-ps.ensures.kept c.enter_type-t.ensures.kept))
 
 pub enter_function-returns : goal.enter_function-returns
 enter_function-returns t c =
     function-done (type _) c.requires c.next_sign-q.ensures c.sign-a.ensures c.mark-b.ensures.reads
     c.mark-c.ensures.reads
-    (from-counted c.next_sign-q.result c.args.s c.place_of.ensures c.count-counted.ensures c.enter_params-ps.ensures)
+    (from-counted c.next_sign-q.result c.args.from.stand c.place_of.ensures c.count-now.ensures c.enter_params-ps.ensures)
     c.mark-f.ensures.reads c.sign-g.ensures c.enter_type-t.ensures c.mark-at.ensures.reads _
     c.put_head.ensures
 
@@ -182,8 +180,8 @@ pub enter_list-next_sign-q-requires : goal.enter_list-next_sign-q-requires
 enter_list-next_sign-q-requires t c =
     c.requires.within
 
-pub enter_list-count-counted-requires : goal.enter_list-count-counted-requires
-enter_list-count-counted-requires t c =
+pub enter_list-count-now-requires : goal.enter_list-count-now-requires
+enter_list-count-now-requires t c =
     record { small = omega arith; few = (λ k n e. (c.requires.room k n e).records) }
 
 pub enter_list-sign-a-requires : goal.enter_list-sign-a-requires
@@ -197,7 +195,7 @@ pub enter_list-enter_type-t-requires : goal.enter_list-enter_type-t-requires
 enter_list-enter_type-t-requires t c = (
   omega (arith, c.decreases),
   ready_on (inside-spelled _) c.mark-b.ensures.reads
-      (ready_on (inside-spelled _) c.sign-a.ensures (ready_on inside-column c.next_sign-q.ensures (ready-count 1 _ c.requires c.count-counted.ensures))),
+      (ready_on (inside-spelled _) c.sign-a.ensures (ready_on inside-column c.next_sign-q.ensures (ready-count 1 _ c.requires c.count-now.ensures))),
 )
 
 pub enter_list-mark-at-requires : goal.enter_list-mark-at-requires
@@ -206,12 +204,12 @@ enter_list-mark-at-requires t c =
 
 pub enter_list-put_head-requires : goal.enter_list-put_head-requires
 enter_list-put_head-requires t c =
-    kept_above (kept_then (kept-count 1 _ c.requires c.count-counted.ensures _) c.enter_type-t.ensures.kept)
+    kept_above (kept_then (kept-count 1 _ c.requires c.count-now.ensures _) c.enter_type-t.ensures.kept)
 
 pub enter_list-returns : goal.enter_list-returns
 enter_list-returns t c =
     list_done (type _) c.requires c.next_sign-q.ensures c.sign-a.ensures c.mark-b.ensures.reads
-    (from-counted c.next_sign-q.result c.args.s c.place_of.ensures c.count-counted.ensures c.enter_type-t.ensures)
+    (from-counted c.next_sign-q.result c.args.from.stand c.place_of.ensures c.count-now.ensures c.enter_type-t.ensures)
     c.mark-at.ensures.reads _ c.put_head.ensures
 
 pub enter_members-next_is-requires : goal.enter_members-next_is-requires
@@ -226,18 +224,18 @@ pub enter_members-enter_fields-fs-requires : goal.enter_members-enter_fields-fs-
 enter_members-enter_fields-fs-requires t c =
     (omega (arith, c.decreases), ready_on (inside-spelled _) c.mark-a.ensures.reads c.requires)
 
-pub enter_members-mark-requires : goal.enter_members-mark-requires
-enter_members-mark-requires t c =
+pub enter_members-mark-at-requires : goal.enter_members-mark-at-requires
+enter_members-mark-at-requires t c =
     c.enter_fields-fs.ensures.reads.within
 
-pub enter_members-returns-then-next_is : goal.enter_members-returns-then-next_is
-enter_members-returns-then-next_is t c =
-    some-fields (type _) (sym c.if-next_is.true ∙ c.next_is.ensures) c.mark-a.ensures.reads
-    c.enter_fields-fs.ensures c.mark.ensures.reads
+pub enter_members-returns-then-not-next_is : goal.enter_members-returns-then-not-next_is
+enter_members-returns-then-not-next_is t c =
+    no_fields (type _) c.requires (sym c.if-not-next_is.true ∙ c.next_is.ensures)
 
 pub enter_members-returns : goal.enter_members-returns
 enter_members-returns t c =
-    no_fields (type _) c.requires (sym c.if-next_is.false ∙ c.next_is.ensures)
+    some-fields (type _) (sym c.if-not-next_is.false ∙ c.next_is.ensures) c.mark-a.ensures.reads
+    c.enter_fields-fs.ensures c.mark-at.ensures.reads
 
 pub enter_params-next_is-requires : goal.enter_params-next_is-requires
 enter_params-next_is-requires t c =
@@ -259,8 +257,8 @@ pub enter_structure-next_sign-q-requires : goal.enter_structure-next_sign-q-requ
 enter_structure-next_sign-q-requires t c =
     c.requires.within
 
-pub enter_structure-count-counted-requires : goal.enter_structure-count-counted-requires
-enter_structure-count-counted-requires t c =
+pub enter_structure-count-now-requires : goal.enter_structure-count-now-requires
+enter_structure-count-now-requires t c =
     record { small = omega arith; few = (λ k n e. (c.requires.room k n e).records) }
 
 pub enter_structure-mark-a-requires : goal.enter_structure-mark-a-requires
@@ -270,7 +268,7 @@ enter_structure-mark-a-requires t c =
 pub enter_structure-read_named-x-requires : goal.enter_structure-read_named-x-requires
 enter_structure-read_named-x-requires t c =
     ready_on (inside-spelled _) c.mark-a.ensures.reads
-    (ready_on inside-column c.next_sign-q.ensures (ready-count 1 _ c.requires c.count-counted.ensures))
+    (ready_on inside-column c.next_sign-q.ensures (ready-count 1 _ c.requires c.count-now.ensures))
 
 pub enter_structure-enter_arguments-ts-requires : goal.enter_structure-enter_arguments-ts-requires
 enter_structure-enter_arguments-ts-requires t c =
@@ -283,13 +281,13 @@ enter_structure-enter_members-fs-requires t c =
 pub enter_structure-put_head-requires : goal.enter_structure-put_head-requires
 enter_structure-put_head-requires t c =
     kept_above
-    (kept_then (kept-count 1 _ c.requires c.count-counted.ensures _) (kept_then (c.read_named-x.ensures _).kept
+    (kept_then (kept-count 1 _ c.requires c.count-now.ensures _) (kept_then (c.read_named-x.ensures _).kept
     (kept_then c.enter_arguments-ts.ensures.kept c.enter_members-fs.ensures.kept)))
 
 pub enter_structure-returns : goal.enter_structure-returns
 enter_structure-returns t c =
     structure-done (type _) c.requires c.next_sign-q.ensures c.mark-a.ensures.reads
-    (from-counted c.next_sign-q.result c.args.s c.place_of.ensures c.count-counted.ensures (c.read_named-x.ensures _))
+    (from-counted c.next_sign-q.result c.args.from.stand c.place_of.ensures c.count-now.ensures (c.read_named-x.ensures _))
     c.enter_arguments-ts.ensures c.enter_members-fs.ensures _ c.put_head.ensures
 
 pub enter_type-next_sign-q-requires : goal.enter_type-next_sign-q-requires
@@ -309,46 +307,46 @@ pub enter_type-enter_function-requires : goal.enter_type-enter_function-requires
 enter_type-enter_function-requires t c =
     (omega (arith, c.decreases, c.if-d-eq0.false), ready_on inside-column c.next_sign-q.ensures c.requires)
 
-pub enter_type-returns-then-b-eq70 : goal.enter_type-returns-then-b-eq70
-enter_type-returns-then-b-eq70 t c =
+pub enter_type-returns-in-70 : goal.enter_type-returns-in-70
+enter_type-returns-in-70 t c =
     type-some _ c.if-d-eq0.false c.next_sign-q.ensures
-    (done-by (by-function _ (sym c.byte_at-b.ensures ∙ c.if-b-eq70.true)) c.enter_function.ensures)
+    (done-by (by-function _ (sym c.byte_at.ensures ∙ c.in-70.is)) c.enter_function.ensures)
 
-pub enter_type-overflow_sub-d-then-b-eq76 : goal.enter_type-overflow_sub-d-then-b-eq76
-enter_type-overflow_sub-d-then-b-eq76 t c =
+pub enter_type-overflow_sub-d-in-76 : goal.enter_type-overflow_sub-d-in-76
+enter_type-overflow_sub-d-in-76 t c =
     omega (arith, c.if-d-eq0.false)
 
 pub enter_type-enter_list-requires : goal.enter_type-enter_list-requires
 enter_type-enter_list-requires t c =
     (omega (arith, c.decreases, c.if-d-eq0.false), ready_on inside-column c.next_sign-q.ensures c.requires)
 
-pub enter_type-returns-then-b-eq76 : goal.enter_type-returns-then-b-eq76
-enter_type-returns-then-b-eq76 t c =
+pub enter_type-returns-in-76 : goal.enter_type-returns-in-76
+enter_type-returns-in-76 t c =
     type-some _ c.if-d-eq0.false c.next_sign-q.ensures
-    (done-by (by-list _ (sym c.byte_at-b.ensures ∙ c.if-b-eq76.true)) c.enter_list.ensures)
+    (done-by (by-list _ (sym c.byte_at.ensures ∙ c.in-76.is)) c.enter_list.ensures)
 
-pub enter_type-overflow_sub-d-then-b-eq64 : goal.enter_type-overflow_sub-d-then-b-eq64
-enter_type-overflow_sub-d-then-b-eq64 t c =
+pub enter_type-overflow_sub-d-in-64 : goal.enter_type-overflow_sub-d-in-64
+enter_type-overflow_sub-d-in-64 t c =
     omega (arith, c.if-d-eq0.false)
 
 pub enter_type-enter_structure-requires : goal.enter_type-enter_structure-requires
 enter_type-enter_structure-requires t c =
     (omega (arith, c.decreases, c.if-d-eq0.false), ready_on inside-column c.next_sign-q.ensures c.requires)
 
-pub enter_type-returns-then-b-eq64 : goal.enter_type-returns-then-b-eq64
-enter_type-returns-then-b-eq64 t c =
+pub enter_type-returns-in-64 : goal.enter_type-returns-in-64
+enter_type-returns-in-64 t c =
     type-some _ c.if-d-eq0.false c.next_sign-q.ensures
-    (done-by (by-structure _ (sym c.byte_at-b.ensures ∙ c.if-b-eq64.true)) c.enter_structure.ensures)
+    (done-by (by-structure _ (sym c.byte_at.ensures ∙ c.in-64.is)) c.enter_structure.ensures)
 
 pub enter_type-enter_leaf-requires : goal.enter_type-enter_leaf-requires
 enter_type-enter_leaf-requires t c =
     ready_on inside-column c.next_sign-q.ensures c.requires
 
-pub enter_type-returns : goal.enter_type-returns
-enter_type-returns t c =
-    type-some _ c.if-d-eq0.false c.next_sign-q.ensures
-    (c.enter_leaf.ensures _ (λ e. c.if-b-eq70.false (c.byte_at-b.ensures ∙ e)) (λ e. c.if-b-eq76.false (c.byte_at-b.ensures ∙ e))
-    (λ e. c.if-b-eq64.false (c.byte_at-b.ensures ∙ e)))
+pub enter_type-returns-in_default : goal.enter_type-returns-in_default
+enter_type-returns-in_default t c =
+    let r = c.in_default.in_default-own.rest in
+    let b = c.byte_at.ensures in
+    type-some _ c.if-d-eq0.false c.next_sign-q.ensures (c.enter_leaf.ensures _ (λ h. r.0.0.1 (b ∙ h)) (λ h. r.0.1 (b ∙ h)) (λ h. r.1 (b ∙ h)))
 
 pub enter_types-enter_type-first-requires : goal.enter_types-enter_type-first-requires
 enter_types-enter_type-first-requires t c =
@@ -365,18 +363,18 @@ pub enter_types-mark-a-requires : goal.enter_types-mark-a-requires
 enter_types-mark-a-requires t c =
     c.loop-a.invariant.ready.within
 
-pub enter_types-enter_type-t-requires : goal.enter_types-enter_type-t-requires
-enter_types-enter_type-t-requires t c =
+pub enter_types-enter_type-end-requires : goal.enter_types-enter_type-end-requires
+enter_types-enter_type-end-requires t c =
     (omega (arith, c.decreases), ready_on (inside-spelled _) c.mark-a.ensures.reads c.loop-a.invariant.ready)
 
 pub enter_types-loop-a-smaller : goal.enter_types-loop-a-smaller
 enter_types-loop-a-smaller t c =
-    tys-fall c.loop-a.invariant (sym c.loop-a-test.true ∙ c.next_is.ensures) c.mark-a.ensures c.enter_type-t.ensures
+    tys-fall c.loop-a.invariant (sym c.loop-a-test.true ∙ c.next_is.ensures) c.mark-a.ensures c.enter_type-end.ensures
 
 pub enter_types-loop-a-preserved : goal.enter_types-loop-a-preserved
 enter_types-loop-a-preserved t c =
     rw c.one_more-n.ensures
-    (tys-turn c.loop-a.invariant (sym c.loop-a-test.true ∙ c.next_is.ensures) c.mark-a.ensures c.enter_type-t.ensures)
+    (tys-turn c.loop-a.invariant (sym c.loop-a-test.true ∙ c.next_is.ensures) c.mark-a.ensures c.enter_type-end.ensures)
 
 pub enter_types-returns : goal.enter_types-returns
 enter_types-returns t c =

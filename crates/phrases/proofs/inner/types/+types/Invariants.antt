@@ -35,17 +35,18 @@ decreases-enter_type l = l.d * 8
 abbrev pub decreases-enter_types : goal.decreases-enter_types
 decreases-enter_types l = l.d * 8 + 5
 
-abbrev pub invariant-enter_fields-loop-before : goal.invariant-enter_fields-loop-before
-invariant-enter_fields-loop-before l =
-    FieldsLoop (type l.d) l.line l.initial.at (lent l.initial.pool l.initial.table l.initial.dst l.initial.stand) l.initial.n l.initial.before l.at
-    (lent l.pool l.table l.dst l.stand) l.n l.before
+abbrev pub invariant-enter_fields-loop-a : goal.invariant-enter_fields-loop-a
+invariant-enter_fields-loop-a l =
+    FieldsLoop (type l.d) l.line l.initial.f.end.at (lent l.initial.pool l.initial.table l.initial.dst l.initial.f.end.stand) l.initial.n l.initial.f.before
+    l.f.end.at (lent l.pool l.table l.dst l.f.end.stand) l.n l.f.before
 
-abbrev pub decreases-enter_fields-loop-before : goal.decreases-enter_fields-loop-before
-decreases-enter_fields-loop-before l = left_at l.line l.at
+abbrev pub decreases-enter_fields-loop-a : goal.decreases-enter_fields-loop-a
+decreases-enter_fields-loop-a l = left_at l.line l.f.end.at
 
 abbrev pub invariant-enter_types-loop-a : goal.invariant-enter_types-loop-a
-invariant-enter_types-loop-a l = TysLoop (type l.d) l.line l.initial.at (lent l.initial.pool l.initial.table l.initial.dst l.initial.stand) l.initial.n l.at
-    (lent l.pool l.table l.dst l.stand) l.n
+invariant-enter_types-loop-a l =
+    TysLoop (type l.d) l.line l.initial.end.at (lent l.initial.pool l.initial.table l.initial.dst l.initial.end.stand) l.initial.n l.end.at
+    (lent l.pool l.table l.dst l.end.stand) l.n
 
 abbrev pub decreases-enter_types-loop-a : goal.decreases-enter_types-loop-a
-decreases-enter_types-loop-a l = left_at l.line l.at
+decreases-enter_types-loop-a l = left_at l.line l.end.at

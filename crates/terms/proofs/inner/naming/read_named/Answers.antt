@@ -13,7 +13,7 @@ enter_at-requires c =
     record { within = rw (c.in-Ok-Some.is, f) at c.requires.within; good = c.requires.good; room = c.requires.room _ _ c.in-Ok.is }
 
 pub returns-in_default : goal.returns-in_default
-returns-in_default c = λ dst. only-reads named c.requires.good c.in_default.is c.read_name.ensures
+returns-in_default c = λ dst. only-reads named c.requires.good c.in_default.is c.read_name-at.ensures
 
 pub returns-in-Ok-Some : goal.returns-in-Ok-Some
 returns-in-Ok-Some c =
@@ -23,7 +23,7 @@ returns-in-Ok-Some c =
 pub returns-in-Ok-None : goal.returns-in-Ok-None
 returns-in-Ok-None c =
     let f : c.in-Ok-None.field-0 ≡ None = rw c.in-Ok-None.is at c.in-Ok-None.field-0-is in
-    let g : ◌≡◌ {A = Point} c.args.p (Ok None) = c.in-Ok-None.is ∙ ap Ok f in
+    let g : ◌≡◌ {A = Point} c.args.from.at (Ok None) = c.in-Ok-None.is ∙ ap Ok f in
     absurd (c.requires.halted _ _ g c.in-Ok.is)
 
 pub returns-in-Err : goal.returns-in-Err
