@@ -4,7 +4,7 @@ use Rattle.std.proofs.Common.{arith, length-append}
 use Rattle.std.proofs.lemmas.List.{length-map}
 use Rattle.rules.specs.Grammar.{ascii}
 use Rattle.rules.specs.Names.{Bytes}
-use Rattle.rules.specs.Reports.{Finding, unread, agrees, denied, unjudged, remains, stops, shown, refusedText, findingText, reportText}
+use Rattle.rules.specs.Reports.{Finding, unread, agrees, denied, unjudged, remains, stops, refusedText, findingText, reportText}
 use Rattle.rules.specs.Trees.{Con, Binding}
 use Rattle.laws.specs.NameTable.{Good}
 use Rattle.sheets.specs.Lengths.{digits-short}

@@ -4,23 +4,7 @@ use Rattle.std.proofs.Common.{append_assoc}
 use Rattle.rules.specs.Base.{collect}
 use Rattle.rules.specs.Grammar.{ascii}
 use Rattle.rules.specs.Names.{Bytes}
-use Rattle.rules.specs.Reports.{
-  Finding,
-  unread,
-  agrees,
-  unjudged,
-  remains,
-  stops,
-  shown,
-  amount,
-  lineShown,
-  refusedText,
-  bindingLine,
-  boundLine,
-  remainingLine,
-  findingText,
-  reportText,
-}
+use Rattle.rules.specs.Reports.{Finding, unread, agrees, remains, shown, amount, lineShown, refusedText, bindingLine, boundLine, remainingLine, findingText, reportText}
 use Rattle.rules.specs.Trees.{var, Con, Binding}
 use Rattle.records.specs.Good.{Chain, GoodBinding, GoodBound, GoodCon}
 

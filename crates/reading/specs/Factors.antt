@@ -7,7 +7,7 @@ use Prim.Native.Char.{Char, code}
 use Rattle.rules.specs.Names.{Bytes}
 use Rattle.rules.specs.Trees.{Atom, free, base, var, par}
 use Rattle.rules.specs.Grammar.{Place, here, beyond, read, bad, Rule, give, skip, skipFrom, ifSign, column, columnOf, left, pick, chosen}
-use Rattle.rules.specs.Grammar.{choose, NameAt, name, PowerAt, power, noPower, FactorAt, marks, markedWith, factor, factors}
+use Rattle.rules.specs.Grammar.{choose, NameAt, name, PowerAt, power, noPower, FactorAt, marks, markedWith, factors}
 use Rattle.rules.specs.Grammar.{◌>>◌}
 use Rattle.scanning.specs.Scanned.{place_in, nameIn}
 use Rattle.scanning.specs.Names.{NameRead}

@@ -2,7 +2,7 @@
 use Rattle.std.proofs.Common.{◌≡◌, refl, ◌++◌, ◌∷◌, [], ◌+◌, ◌-◌, ◌<◌, ◌≤◌, ℕ, zero, suc}
 use Rattle.std.proofs.Common.{map, take, drop, get_or, length, ap, ◌∙◌, append-nil, add-one, take-suc, length-append, arith}
 use Rattle.std.specs.Prelude.{Ok, eqb, replicate}
-use Rattle.std.proofs.lemmas.List.{map-append, length-map}
+use Rattle.std.proofs.lemmas.List.{map-append}
 use Rattle.rules.specs.Base.{collect}
 use Rattle.rules.specs.Names.{Bytes}
 use Rattle.rules.specs.Grammar.{ascii}

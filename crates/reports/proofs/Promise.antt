@@ -4,7 +4,7 @@ use Rattle.std.proofs.Math.Path.{refl}
 use Rattle.std.proofs.Common.{sym, ap, ◌∙◌, arith, ne_eqb, ltb-false}
 use Rattle.std.proofs.Math.Bool.{true}
 use Rattle.rules.specs.Base.{Got, got, refused, bounded, collect}
-use Rattle.rules.specs.Trees.{Names, Con, Binding}
+use Rattle.rules.specs.Trees.{Names, Con}
 use Rattle.rules.specs.Names.{Bytes, Table, numbersOf}
 use Rattle.rules.specs.Writing.{words, writeCon}
 use Rattle.rules.specs.Calls.{solvedSet}

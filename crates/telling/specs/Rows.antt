@@ -17,7 +17,7 @@ use Rattle.records.specs.Views.{viewAt, longAt}
 use Rattle.records.specs.declared.Open as opens
 use Rattle.records.specs.declared.View.{View}
 use Rattle.records.specs.declared.View.TheVariants as view
-use Rattle.sheet_writing.specs.Parts.{conGood, held, isGood, name_of}
+use Rattle.sheet_writing.specs.Parts.{conGood, held, isGood}
 
 pub data Row : Type 0 where
   binding : Binding ℕ → Row

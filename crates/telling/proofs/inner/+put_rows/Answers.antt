@@ -1,5 +1,5 @@
 -- `put_rows` meets its contract: the first row, and then the others.
-use Rattle.std.specs.Prelude.{◌<◌, refl}
+use Rattle.std.specs.Prelude.{refl}
 use Rattle.std.proofs.Common.{arith, rules}
 use Rattle.rules.specs.Base.{collect}
 use Rattle.spelling.specs.Sinks.{cut, nothing, then}

@@ -1,6 +1,5 @@
 -- `put_row` meets its contract: by what the record at the place says.
-use Rattle.std.specs.Prelude.{◌≡◌}
-use Rattle.std.proofs.Common.{arith, sym, ap, ◌∙◌}
+use Rattle.std.proofs.Common.{arith, sym, ◌∙◌}
 use Rattle.telling.specs.Rows.{as_binding, as_bound, as_left}
 use Rattle.telling.proofs.inner.put_row.Goals as goal
 

@@ -1,5 +1,4 @@
 -- `write_lines` meets its contract: the first line, and then the others.
-use Rattle.std.specs.Prelude.{◌<◌, ◌/◌, length}
 use Rattle.std.proofs.Common.{arith, rules}
 use Rattle.spelling.specs.Sinks.{cut, nothing, then}
 use Rattle.sheet_writing.specs.Parts.{next-line, no-line}

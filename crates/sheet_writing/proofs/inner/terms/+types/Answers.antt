@@ -1,5 +1,5 @@
 -- The writers of types meet their contracts: what is left to write falls.
-use Rattle.std.specs.Prelude.{◌≡◌, ℕ, true, ◌&&◌}
+use Rattle.std.specs.Prelude.{ℕ, ◌&&◌}
 use Rattle.std.proofs.Common.{ap, arith, rules}
 use Rattle.rules.specs.Names.{is_held, table_of}
 use Rattle.rules.specs.TextWriting.{tyText}
