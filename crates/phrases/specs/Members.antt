@@ -17,7 +17,7 @@ use Rattle.rules.specs.TextReading.{Sofar, Told, told, refusedAt, Step, onward, 
 use Rattle.rules.specs.declared.Refusal.{Refusal}
 use Rattle.rules.specs.declared.Refusal.TheVariants.{Malformed}
 use Rattle.laws.specs.Size.{size-ty, size-tys, size-fields}
-use Rattle.records.specs.Good.{HeldBefore, follows}
+use Rattle.records.specs.Good.{follows}
 use Rattle.records.specs.Views.{recOf}
 use Rattle.records.specs.declared.View.TheVariants as view
 use Rattle.reading.specs.Points.{Reads, Any, from, standing, marked, columnAt, in-turn, Point}
@@ -136,11 +136,6 @@ pub record FieldTold (b : code.Option ℕ) (xu : ℕ × Ty ℕ) (rs : List Rec) 
   pub name : b ≡ code.Some xu.0
   pub written : rs ≡ fieldRecs xu
 
--- a number that is held is the name before the next; else there is none
-pub record KeptBefore (table : List ℕ) (x : ℕ) (b : code.Option ℕ) : Type 0 where
-  pub held : HeldBefore table b
-  pub is : x < get_or table 0 0 → b ≡ code.Some x
-
 -- a name has the column where it begins
 name-column : {P : NameAt → Type 0} {line : Bytes} {q r : Point} → Reads line q name P r → Reads line q name (λ i. P i × (NotBad r → i.column ≡ columnAt q)) r
 unfolding name
@@ -220,15 +215,9 @@ module _ (ty : Rule TyAt) (b : code.Option ℕ) {line : Bytes} {x x₁ y : Lent}
         halted = x4.halted;
       }
 
--- a field behind one named b, and the name before the next
-pub record FieldDone (line : Bytes) (ty : Rule TyAt) (b : code.Option ℕ) (p : Point) (x : Lent) (r : Point) (y : Lent) (b' : code.Option ℕ) : Type 0 where
-  pub done : Done line (fieldRule ty) (fieldStep (nameBefore b)) (FieldTold b') p x r y
-  pub held : HeldBefore y.table b'
-
--- what was held is held
-pub held-later : (table table' : List ℕ) (b : code.Option ℕ) → get_or table 0 0 ≤ get_or table' 0 0 → HeldBefore table b → HeldBefore table' b
-held-later table table' code.None h k = tt
-held-later table table' (code.Some y) h k = omega arith
+-- a field: its name behind the one before, and its type; its own name comes before the next
+abbrev pub FieldDone : Bytes → Rule TyAt → code.Option ℕ → Point → Lent → Point → Lent → code.Option ℕ → Type 0
+FieldDone line ty b p x r y b' = Done line (fieldRule ty) (fieldStep (nameBefore b)) (FieldTold b') p x r y
 
 pub ready-tested : {line : Bytes} {q : Point} {pool table : List ℕ} {s s₁ : Stand} (ok : Bool) (at : ℕ) → Ready line q pool table s
     → s₁ ≡ keptIf ok Malformed at s → Ready line q pool table s₁
@@ -241,16 +230,13 @@ module _ (ty : Rule TyAt) (b : code.Option ℕ) {line : Bytes} {x x₁ y : Lent}
   pub field-by : Ready line p x.pool x.table x.stand → Reads line p column (λ (k : ℕ). k ≡ columnAt q) q
       → Done line name named (NumberTold x₁.table v) q x a x₁ → at ≡ place_of q → Risen x₁.pool x₁.table b v ok → tested ≡ keptIf ok Malformed at x₁.stand
       → counted ≡ countOf 1 at tested → Reads line a (marked 58) Any c → Done line ty ty_of (Writes writeTy) c (lent x₁.pool x₁.table x₁.dst counted) r y
-      → {b' : code.Option ℕ} → KeptBefore y.table v b' → (d : List ℕ) → d ≡ headPut (view.Field v) tested y.stand y.dst
-      → FieldDone line ty b p x r (lent y.pool y.table d y.stand) b'
-  field-by h x1 x2 e ris f k x3 x4 hb d g =
+      → (d : List ℕ) → d ≡ headPut (view.Field v) tested y.stand y.dst
+      → FieldDone line ty b p x r (lent y.pool y.table d y.stand) (code.Some v)
+  field-by h x1 x2 e ris f k x3 x4 d g =
       let o = f ∙ ap (λ (i : ℕ). keptIf ok Malformed i x₁.stand) e in
-      record {
-        done = field-done ty b h x1 x2 ris x3
-            (subst (λ (u : Stand). Done line ty ty_of (Writes writeTy) c (lent x₁.pool x₁.table x₁.dst u) r y) (k ∙ ap₂ (countOf 1) e o) x4)
-            hb.is d (g ∙ ap (λ (u : Stand). headPut (view.Field v) u y.stand y.dst) o);
-        held = hb.held;
-      }
+      field-done ty b h x1 x2 ris x3
+      (subst (λ (u : Stand). Done line ty ty_of (Writes writeTy) c (lent x₁.pool x₁.table x₁.dst u) r y) (k ∙ ap₂ (countOf 1) e o) x4)
+      (λ h. refl) d (g ∙ ap (λ (u : Stand). headPut (view.Field v) u y.stand y.dst) o)
 
 -- ══ Fields in a row ══
 

@@ -18,7 +18,6 @@ use Rattle.terms.specs.Stands.{place_of, countOf, headPut, Stand}
 use Rattle.terms.specs.Effects.{Lent, lent, Roomy, Halted, Ready, Kept, Did, Effect, Writes, Done, NotBad, not-bad, then, gives, maps, alike, grouped}
 use Rattle.terms.specs.Effects.{kept-last, kept_then, kept-written, kept-counted, countedIn, headed, head-long, halted-on, at_sign}
 use Rattle.terms.specs.Inside.{inside-spelled, inside-column}
-use Rattle.terms.specs.Stands as stand
 
 -- ══ Records that fit into a sheet ══
 

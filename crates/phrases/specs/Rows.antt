@@ -11,7 +11,6 @@ use Rattle.rules.specs.Grammar.{Rule, column, TyAt, deepAt, TysAt, FieldsAt, mor
 use Rattle.rules.specs.TextReading.{Step, refusedAt, ty_of, tys_of, fields_of}
 use Rattle.rules.specs.declared.Refusal.{Refusal}
 use Rattle.rules.specs.declared.Refusal.TheVariants.{Malformed}
-use Rattle.records.specs.Good.{HeldBefore}
 use Rattle.reading.specs.Points.{Reads, MarkRead, Any, marked, columnAt, beginsAt, left_at, Point}
 use Rattle.reading.specs.Factors.{byte_of, refusedFrom}
 use Rattle.reading.specs.Types.{Onto, onto-here, tys-go, tys-less, tys-end, tys-read, fieldRule, fields_go, fields-less, fields-end, fields_read}
@@ -83,18 +82,16 @@ pub record FieldsLoop (ty : Rule TyAt) (line : Bytes) (p : Point) (x : Lent) (n 
   pub ready : Ready line q y.pool y.table y.stand
   pub kept : Kept x y
   pub few : m ≤ 4096
-  pub held : HeldBefore y.table c
 
 pub fields-start : {line : Bytes} {p : Point} {x : Lent} {n : ℕ} {b : code.Option ℕ} (ty : Rule TyAt) → Ready line p x.pool x.table x.stand → n ≤ 4096
-    → HeldBefore x.table b
     → FieldsLoop ty line p x n b p x n b
-fields-start {line} {p} {x} {n} {b} ty h f k =
-    record { onto = onto-here (moreFields ty) (FieldsFrom n b x) h.within; ready = h; kept = kept_same h.good h.room; few = f; held = k }
+fields-start {line} {p} {x} {n} {b} ty h f =
+    record { onto = onto-here (moreFields ty) (FieldsFrom n b x) h.within; ready = h; kept = kept_same h.good h.room; few = f }
 
 module _ {ty : Rule TyAt} {line : Bytes} {p q : Point} {x y : Lent} {n m : ℕ} {b c : code.Option ℕ} (l : FieldsLoop ty line p x n b q y m c) where
   pub fields-turn : {a i : Point} {z : Lent} {d : code.Option ℕ} → true ≡ beginsAt line q 44 → MarkRead line q 44 a
-      → Done line (fieldRule ty) (fieldStep (nameBefore c)) (FieldTold d) a y i z → HeldBefore z.table d → FieldsLoop ty line p x n b i z (min (m + 1) 4096) d
-  fields-turn {z = z} {d = d} e k o h = record {
+      → Done line (fieldRule ty) (fieldStep (nameBefore c)) (FieldTold d) a y i z → FieldsLoop ty line p x n b i z (min (m + 1) 4096) d
+  fields-turn {z = z} {d = d} e k o = record {
     onto = fields_go ty l.onto (FieldsFrom (min (m + 1) 4096) d z) e k o.reads (λ r w i t fs j hf hr hs. record {
       kept = kept_then o.kept hs.kept;
       effect = λ nr. fields-more (nameBefore c) i t fs (hf (not-bad hr nr)) hs.kept (hs.effect nr);
@@ -102,7 +99,6 @@ module _ {ty : Rule TyAt} {line : Bytes} {p q : Point} {x y : Lent} {n m : ℕ} 
     ready = record { within = o.reads.within; good = o.kept.good; room = o.kept.room; halted = o.halted };
     kept = kept_then l.kept o.kept;
     few = omega arith;
-    held = h;
   }
 
   pub fields-fall : {a i : Point} {z : Lent} {d : code.Option ℕ} → true ≡ beginsAt line q 44 → MarkRead line q 44 a

@@ -10,9 +10,8 @@ ghost use Rattle.rules.specs.declared.Refusal.TheVariants.{Malformed};
 ghost use Rattle.names.specs.Told.{toldOrder};
 ghost use Rattle.reading.specs.Choice.{among, heads, deepRuled};
 ghost use Rattle.terms.specs.Effects.{lent, Ready, Writes, Done};
-ghost use Rattle.phrases.specs.Members.{Risen, KeptBefore, keptIf};
+ghost use Rattle.phrases.specs.Members.{Risen, keptIf};
 
-use names::inner::is_held;
 use names::tables::NameTable;
 use reading::inner::{Point, byte_at, refuse};
 use rules::Refusal;
@@ -44,14 +43,6 @@ fn rises(names: NameTable, before: Option<u32>, x: u32) -> bool
         None => true,
         Some(y) => is_less(names.order(y, x)),
     }
-}
-
-/// The name before the next field, if it is held.
-fn before_next(table: &[u32], x: u32) -> Option<u32>
-    requires { 257 ≤ length table.now }
-    ensures { KeptBefore table.now x result }
-{
-    if is_held(table, x) { Some(x) } else { None }
 }
 
 /// The sheet goes on if a test was passed, else it is refused.

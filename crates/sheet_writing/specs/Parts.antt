@@ -24,13 +24,8 @@ use Rattle.rules.specs.TextWriting.{
 }
 use Rattle.rules.specs.Base.{collect}
 use Rattle.rules.specs.Trees.{Atom, free, base, Factor, ◌↑◌, Product, Ty, struct, Tys, nil, cons, Fields, noFields, field, count, countFields, Con, hasField}
-use Rattle.rules.specs.WellFormed.{goodOpen, goodFactor, goodProduct, goodTy, goodTys, goodFields, goodCon}
-use Rattle.laws.specs.Lists.{and_left}
+use Rattle.rules.specs.WellFormed.{goodCon}
 use Rattle.laws.specs.NameTable.{held-is}
-use Rattle.records.specs.Good.{HeldAtom, HeldOpen}
-use Rattle.records.specs.Holds.{atomOf, openOf}
-use Rattle.records.specs.declared.Atom as atoms
-use Rattle.records.specs.declared.Open as opens
 
 -- the names in a table over its pool, by their numbers
 abbrev pub name_of : List ℕ → List ℕ → ℕ → Bytes
@@ -192,34 +187,5 @@ module _ (pool table : List ℕ) where
   pub held : (x : ℕ) → is_held (table_of pool table) x ≡ true → x < get_or table 0 0
   held x h = ltb-true x (get_or table 0 0) (sym (held-is pool table x) ∙ h)
 
-  abbrev pub IsGoodFactor : Factor ℕ → Type 0
-  IsGoodFactor f = goodFactor (numbersOf (table_of pool table)) (is_held (table_of pool table)) 0 f ≡ true
-
-  abbrev pub isGoodProduct : Product ℕ → Bool
-  isGoodProduct p = goodProduct (numbersOf (table_of pool table)) (is_held (table_of pool table)) 0 p
-
-  abbrev pub isGood : Ty ℕ → Bool
-  isGood t = goodTy (numbersOf (table_of pool table)) (is_held (table_of pool table)) 0 t
-
-  abbrev pub areGood : Tys ℕ → Bool
-  areGood ts = goodTys (numbersOf (table_of pool table)) (is_held (table_of pool table)) 0 ts
-
-  abbrev pub fieldsGood : Fields ℕ → Bool
-  fieldsGood fs = goodFields (numbersOf (table_of pool table)) (is_held (table_of pool table)) 0 fs
-
   abbrev pub conGood : Con ℕ → Bool
   conGood c = goodCon (numbersOf (table_of pool table)) (is_held (table_of pool table)) 0 c
-
-  -- the names of what is good are held
-  pub good-open : (o : opens.Open) → goodOpen (numbersOf (table_of pool table)) (is_held (table_of pool table)) 0 (openOf o) ≡ true → HeldOpen table o
-  unfolding goodOpen
-  good-open (opens.TheVariants.Var x) g = held x g
-  good-open (opens.TheVariants.Quant i) g = tt
-  good-open (opens.TheVariants.Par x) g = held x g
-
-  pub good-atom : (a : atoms.Atom) (e : Exp) → IsGoodFactor (atomOf a ↑ e) → HeldAtom table a
-  unfolding goodFactor goodOpen
-  good-atom (atoms.TheVariants.Free (opens.TheVariants.Var x)) e g = held x (and_left (is_held (table_of pool table) x) _ g)
-  good-atom (atoms.TheVariants.Free (opens.TheVariants.Quant i)) e g = tt
-  good-atom (atoms.TheVariants.Free (opens.TheVariants.Par x)) e g = held x (and_left (is_held (table_of pool table) x) _ g)
-  good-atom (atoms.TheVariants.Base x) e g = held x (and_left (is_held (table_of pool table) x) _ g)

@@ -1,5 +1,5 @@
 -- Constraints that stand one after another.
-use Rattle.std.specs.Prelude.{◌≡◌, refl, true, List, [], ◌∷◌, ℕ, ◌+◌, ◌/◌, ◌≤◌, ◌<◌, length}
+use Rattle.std.specs.Prelude.{◌≡◌, refl, List, [], ◌∷◌, ℕ, ◌+◌, ◌/◌, ◌≤◌, ◌<◌, length}
 use Rattle.std.proofs.Common.{sym, subst, ◌∙◌, arith}
 use Rattle.rules.specs.Trees.{Con, equal, isDim, is_scalar, hasField, sizeCon}
 use Rattle.records.specs.ByView.{con-in}
@@ -8,7 +8,6 @@ use Rattle.records.specs.Holds.{HoldsCon, con-long}
 use Rattle.records.specs.Parsed.{only-con}
 use Rattle.types.specs.Once.{ACon}
 use Rattle.records.specs.Views.{longAt}
-use Rattle.sheet_writing.specs.Parts.{conGood}
 
 size-con : (c : Con ℕ) → 1 ≤ sizeCon c
 unfolding sizeCon
@@ -36,7 +35,6 @@ module _ (pool table s : List ℕ) where
     pub us : List (Con ℕ)
     pub is : cs ≡ c ∷ us
     pub holds : HoldsCon s c at
-    pub good : conGood pool table c ≡ true
     pub others : Chain (GoodCon pool table 0 s) (length s / 4) us (at + sizeCon c)
 
   pub as_line : (at : ℕ) → at < length s / 4 → (cs : List (Con ℕ)) → LinesAt at cs → Line at cs
@@ -48,7 +46,6 @@ module _ (pool table s : List ℕ) where
         us = cs;
         is = refl;
         holds = h.held;
-        good = h.good;
         others = subst (λ (i : ℕ). Chain (GoodCon pool table 0 s) (length s / 4) cs i) h.past f.chain.1.1;
       }
 

@@ -1,15 +1,13 @@
 -- The rows of a report: a binding, a bound, or a constraint that remains, and the line that tells each.
-use Rattle.std.specs.Prelude.{◌≡◌, refl, true, List, [], ◌∷◌, ◌++◌, map, ℕ, ◌+◌, ◌/◌, ◌≤◌, ◌<◌, length, get_or}
+use Rattle.std.specs.Prelude.{◌≡◌, refl, List, [], ◌∷◌, ◌++◌, map, ℕ, ◌+◌, ◌/◌, ◌≤◌, ◌<◌, length}
 use Rattle.std.proofs.Common.{sym, ap, subst, ◌∙◌, arith, append_assoc}
 use Rattle.rules.specs.Base.{collect}
-use Rattle.rules.specs.Names.{Bytes, table_of, is_held}
+use Rattle.rules.specs.Names.{Bytes}
 use Rattle.rules.specs.Reports.{bindingLine, boundLine, remainingLine}
 use Rattle.rules.specs.TextWriting.{nameText}
 use Rattle.rules.specs.Trees.{var, Ty, Con, equal, isDim, is_scalar, hasField, Binding, ◌≔◌, sizeCon, sizeBinding}
-use Rattle.rules.specs.WellFormed.{goodOpen, goodBinding}
-use Rattle.laws.specs.Lists.{and_left, and_right}
 use Rattle.records.specs.ByView.{binding-in}
-use Rattle.records.specs.Good.{Chain, GoodBinding, GoodBound, GoodCon, HeldOpen}
+use Rattle.records.specs.Good.{Chain, GoodBinding, GoodBound, GoodCon}
 use Rattle.records.specs.Holds.{Holds, HoldsBinding, HoldsCon, con-long, binding-long}
 use Rattle.records.specs.Parsed.{only}
 use Rattle.types.specs.Once.{ATree}
@@ -17,7 +15,6 @@ use Rattle.records.specs.Views.{viewAt, longAt}
 use Rattle.records.specs.declared.Open as opens
 use Rattle.records.specs.declared.View.{View}
 use Rattle.records.specs.declared.View.TheVariants as view
-use Rattle.sheet_writing.specs.Parts.{conGood, held, isGood}
 
 pub data Row : Type 0 where
   binding : Binding ℕ → Row
@@ -78,21 +75,17 @@ module _ (pool table s : List ℕ) where
     pub x : ℕ
     pub is : r ≡ bound x
     pub name : opens.TheVariants.Var x ≡ o
-    pub held : HeldOpen table o
 
   pub record Bind (at x : ℕ) (r : Row) : Type 0 where
     pub t : Ty ℕ
     pub is : r ≡ binding (x ≔ t)
     pub holds : Holds s t (at + 1)
-    pub good : isGood pool table t ≡ true
-    pub name : x < get_or table 0 0
     pub within : at < length s / 4
 
   pub record Remains (at : ℕ) (r : Row) : Type 0 where
     pub c : Con ℕ
     pub is : r ≡ left c
     pub holds : HoldsCon s c at
-    pub good : conGood pool table c ≡ true
 
   not-con : (c : Con ℕ) (at : ℕ) (v : View) → HoldsCon s c at → viewAt s at ≡ v → ((x : ℕ) → v ≡ view.Binding x → ⊥) × ((o : opens.Open) → v ≡ view.Bound o → ⊥)
   unfolding HoldsCon
@@ -106,7 +99,7 @@ module _ (pool table s : List ℕ) where
       (λ x q. let z : view.HasField y ≡ view.Binding x = sym h.0 ∙ e ∙ q in cc, λ o q. let z : view.HasField y ≡ view.Bound o = sym h.0 ∙ e ∙ q in cc)
 
   pub as_binding : (at x e : ℕ) → viewAt s at ≡ view.Binding x → (r : Row) → RowHere at r e → Bind at x r
-  unfolding HoldsBinding goodBinding sizeBinding
+  unfolding HoldsBinding sizeBinding
   as_binding at x e v (binding (y ≔ t)) h =
       let q : view.Binding y ≡ view.Binding x = sym h.held.0 ∙ v in
       let z : y ≡ x = cc in
@@ -114,20 +107,18 @@ module _ (pool table s : List ℕ) where
         t = t;
         is = ap (λ (n : ℕ). binding (n ≔ t)) z;
         holds = h.held.1;
-        good = and_right (is_held (table_of pool table) y) _ h.good;
-        name = subst (λ (n : ℕ). n < get_or table 0 0) z (held pool table y (and_left (is_held (table_of pool table) y) _ h.good));
         within = let i = binding-in s (y ≔ t) at h.held in omega (arith, i);
       }
   as_binding at x e v (bound y) h = let q : view.Bound (opens.TheVariants.Var y) ≡ view.Binding x = sym h.held.0 ∙ v in absurd (cc)
   as_binding at x e v (left c) h = absurd ((not-con c at (view.Binding x) h.held v).0 x refl)
 
   pub as_bound : (at e : ℕ) (o : opens.Open) → viewAt s at ≡ view.Bound o → (r : Row) → RowHere at r e → Bound o r
-  unfolding HoldsBinding goodOpen
+  unfolding HoldsBinding
   as_bound at e o v (binding (y ≔ t)) h = let q : view.Binding y ≡ view.Bound o = sym h.held.0 ∙ v in absurd (cc)
   as_bound at e o v (bound y) h =
       let q : view.Bound (opens.TheVariants.Var y) ≡ view.Bound o = sym h.held.0 ∙ v in
       let z : opens.TheVariants.Var y ≡ o = cc in
-      record { x = y; is = refl; name = z; held = subst (HeldOpen table) z (held pool table y h.good) }
+      record { x = y; is = refl; name = z }
   as_bound at e o v (left c) h = absurd ((not-con c at (view.Bound o) h.held v).1 o refl)
 
   pub as_left : (at e : ℕ) → ((x : ℕ) → viewAt s at ≡ view.Binding x → ⊥) → ((o : opens.Open) → viewAt s at ≡ view.Bound o → ⊥) → (r : Row)
@@ -135,7 +126,7 @@ module _ (pool table s : List ℕ) where
   unfolding HoldsBinding
   as_left at e p q (binding (y ≔ t)) h = absurd (p y h.held.0)
   as_left at e p q (bound y) h = absurd (q (opens.TheVariants.Var y) h.held.0)
-  as_left at e p q (left c) h = record { c = c; is = refl; holds = h.held; good = h.good }
+  as_left at e p q (left c) h = record { c = c; is = refl; holds = h.held }
 
   -- ══ Rows one after another ══
 

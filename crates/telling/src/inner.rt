@@ -1,21 +1,21 @@
 //! Rows that stand in a lent slice: each function asks for records there whose names are held.
-ghost use Rattle.std.specs.Prelude.{◌≡◌, List, ℕ, true, ◌++◌, ◌≤◌, ◌<◌, get_or, length};
+ghost use Rattle.std.specs.Prelude.{◌≡◌, List, ℕ, ◌++◌, ◌≤◌, length};
 ghost use Rattle.rules.specs.Base.{collect};
 ghost use Rattle.rules.specs.Grammar.{ascii};
 ghost use Rattle.rules.specs.Reports.{bindingLine, remainingLine};
 ghost use Rattle.rules.specs.Trees.{Ty, ◌≔◌};
-ghost use Rattle.records.specs.Good.{HeldOpen};
 ghost use Rattle.records.specs.Holds.{Holds};
 ghost use Rattle.spelling.specs.Sinks.{Puts};
-ghost use Rattle.sheet_writing.specs.Parts.{conGood, isGood, name_of};
+ghost use Rattle.sheet_writing.specs.Parts.{name_of};
 ghost use Rattle.telling.specs.Rows.{Row, RowHere, RowsAt, bareText, rowText};
 
 use names::tables::NameTable;
 use records::seen::{length_at, view_at};
 use records::{Open, View};
-use sheet_writing::inner::factors::{put_held, put_open};
-use sheet_writing::inner::lines::{constraint_at, write_con};
-use sheet_writing::inner::terms::write_type;
+use sheet_writing::factors::{put_held, put_open};
+use sheet_writing::inner::constraint_at;
+use sheet_writing::lines::write_con;
+use sheet_writing::terms::write_type;
 use spelling::sink::Sink;
 use types::{Constraint, Type};
 
@@ -30,8 +30,6 @@ fn type_at(words: &[u32], at: usize) -> Type
 
 // Puts the line of a binding.
 fn put_binding<S: Sink>(names: NameTable, x: u32, t: Type, to: &mut S) -> Result<(), S::Error>
-    requires held { x < get_or names.table.now 0 0 }
-    requires good { isGood names.pool.now names.table.now t.tree.0 ≡ true }
     ensures { Puts (S.place to.old) (bindingLine (name_of names.entry.pool.now names.entry.table.now) (x ≔ t.entry.tree.0)) result (S.place to.new) }
 {
     to.put(b"  ")?;
@@ -43,7 +41,6 @@ fn put_binding<S: Sink>(names: NameTable, x: u32, t: Type, to: &mut S) -> Result
 
 // Puts an open name without its mark.
 fn put_bare<S: Sink>(names: NameTable, o: Open, to: &mut S) -> Result<(), S::Error>
-    requires { HeldOpen names.table.now o }
     ensures { Puts (S.place to.old) (bareText (name_of names.entry.pool.now names.entry.table.now) o) result (S.place to.new) }
 {
     match o {
@@ -55,7 +52,6 @@ fn put_bare<S: Sink>(names: NameTable, o: Open, to: &mut S) -> Result<(), S::Err
 
 // Puts the line of a bound.
 fn put_bound<S: Sink>(names: NameTable, o: Open, to: &mut S) -> Result<(), S::Error>
-    requires { HeldOpen names.table.now o }
     ensures { Puts (S.place to.old) (ascii "  " ++ (bareText (name_of names.entry.pool.now names.entry.table.now) o ++ ascii ": DType\n"))
         result (S.place to.new) }
 {
@@ -66,7 +62,6 @@ fn put_bound<S: Sink>(names: NameTable, o: Open, to: &mut S) -> Result<(), S::Er
 
 // Puts the line of a constraint that remains.
 fn put_left<S: Sink>(names: NameTable, constraint: Constraint, to: &mut S) -> Result<(), S::Error>
-    requires { conGood names.pool.now names.table.now constraint.tree.0 ≡ true }
     ensures { Puts (S.place to.old) (remainingLine (name_of names.entry.pool.now names.entry.table.now) constraint.entry.tree.0) result (S.place to.new) }
 {
     to.put(b"  ")?;

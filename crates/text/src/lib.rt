@@ -18,7 +18,7 @@ use records::is_set;
 use rules::Refusal;
 use sheet_reading::inner::read_given;
 use sheet_reading::{NotRead, Read};
-use sheet_writing::inner::lines::write_lines;
+use sheet_writing::inner::write_lines;
 use spelling::sink::{Front, Full};
 
 /// 173 bytes for each of 2,048 records.

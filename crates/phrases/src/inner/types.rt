@@ -9,7 +9,7 @@ ghost use Rattle.phrases.specs.Parts.{TysTold};
 ghost use Rattle.phrases.specs.Members.{FieldsTold, FieldDone};
 
 use super::leaves::enter_leaf;
-use super::{before_next, one_more, pass_if, rises, too_deep};
+use super::{one_more, pass_if, rises, too_deep};
 use names::tables::NameTable;
 use reading::inner::{byte_at, mark, next_is, next_sign, sign};
 use records::View;
@@ -304,6 +304,6 @@ fn enter_field(
     put_head(View::Field(x.number), tested, end.stand, dst);
     Member {
         end,
-        before: before_next(table, x.number),
+        before: Some(x.number),
     }
 }

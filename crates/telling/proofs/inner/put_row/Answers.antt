@@ -15,22 +15,11 @@ type_at-requires g c =
     let y = as_binding _ _ c.args.s.now c.args.at c.in-Binding.x w.1.0 (sym c.view_at.ensures ∙ c.in-Binding.is) w.0 w.1.1 in
     record { near = c.requires.near; there = (y.t, y.holds) }
 
-pub put_binding-requires : goal.put_binding-requires
-put_binding-requires g c =
-    let w = c.requires.there in
-    let y = as_binding _ _ c.args.s.now c.args.at c.in-Binding.x w.1.0 (sym c.view_at.ensures ∙ c.in-Binding.is) w.0 w.1.1 in
-    record { held = y.name; good = rw (c.type_at.ensures y.t y.holds) y.good }
-
 pub returns-in-Binding : goal.returns-in-Binding
 returns-in-Binding g c =
     λ r e h.
     let y = as_binding _ _ c.args.s.now c.args.at c.in-Binding.x e (sym c.view_at.ensures ∙ c.in-Binding.is) r h in
     rw y.is (rw (c.type_at.ensures y.t y.holds) at c.put_binding.ensures)
-
-pub put_bound-requires : goal.put_bound-requires
-put_bound-requires g c =
-    let w = c.requires.there in
-    (as_bound _ _ c.args.s.now c.args.at w.1.0 c.in-Bound.o (sym c.view_at.ensures ∙ c.in-Bound.is) w.0 w.1.1).held
 
 pub returns-in-Bound : goal.returns-in-Bound
 returns-in-Bound g c =
@@ -45,14 +34,6 @@ constraint_at-requires g c =
     let y = as_left _ _ c.args.s.now c.args.at w.1.0 (λ x p. d.not-Binding x (c.view_at.ensures ∙ p))
     (λ o p. d.not-Bound o (c.view_at.ensures ∙ p)) w.0 w.1.1 in
     record { near = c.requires.near; there = (y.c, y.holds) }
-
-pub put_left-requires : goal.put_left-requires
-put_left-requires g c =
-    let w = c.requires.there in
-    let d = c.in_default in
-    let y = as_left _ _ c.args.s.now c.args.at w.1.0 (λ x p. d.not-Binding x (c.view_at.ensures ∙ p))
-    (λ o p. d.not-Bound o (c.view_at.ensures ∙ p)) w.0 w.1.1 in
-    rw (c.constraint_at.ensures y.c y.holds) y.good
 
 pub returns-in_default : goal.returns-in_default
 returns-in_default g c =

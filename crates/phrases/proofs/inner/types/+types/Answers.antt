@@ -74,15 +74,11 @@ enter_field-put_head-requires t c =
     (kept_then (kept-count 1 _ (ready-tested c.rises.result c.place_of-at.result
     (ready-next (c.read_named-x.ensures [])) c.pass_if-tested.ensures) c.count-now.ensures _) c.enter_type-end.ensures.kept)
 
-pub enter_field-before_next-requires : goal.enter_field-before_next-requires
-enter_field-before_next-requires t c =
-    c.enter_type-end.ensures.kept.good.words
-
 pub enter_field-returns : goal.enter_field-returns
 enter_field-returns t c =
     field-by (type _) c.args.before c.requires c.next_sign-q.ensures (c.read_named-x.ensures _)
     c.place_of-at.ensures c.rises.ensures c.pass_if-tested.ensures c.count-now.ensures
-    c.mark-c.ensures.reads c.enter_type-end.ensures c.before_next.ensures _ c.put_head.ensures
+    c.mark-c.ensures.reads c.enter_type-end.ensures _ c.put_head.ensures
 
 pub enter_fields-enter_field-first-requires : goal.enter_fields-enter_field-first-requires
 enter_fields-enter_field-first-requires t c =
@@ -90,7 +86,7 @@ enter_fields-enter_field-first-requires t c =
 
 pub enter_fields-loop-a-init : goal.enter_fields-loop-a-init
 enter_fields-loop-a-init t c =
-    fields-start (type _) (ready-next c.enter_field-first.ensures.done) (omega arith) c.enter_field-first.ensures.held
+    fields-start (type _) (ready-next c.enter_field-first.ensures) (omega arith)
 
 pub enter_fields-next_is-requires : goal.enter_fields-next_is-requires
 enter_fields-next_is-requires t c = c.loop-a.invariant.ready.within
@@ -106,17 +102,17 @@ enter_fields-enter_field-f-requires t c =
 pub enter_fields-loop-a-smaller : goal.enter_fields-loop-a-smaller
 enter_fields-loop-a-smaller t c =
     fields-fall c.loop-a.invariant (sym c.loop-a-test.true ∙ c.next_is.ensures) c.mark-a.ensures
-    c.enter_field-f.ensures.done
+    c.enter_field-f.ensures
 
 pub enter_fields-loop-a-preserved : goal.enter_fields-loop-a-preserved
 enter_fields-loop-a-preserved t c =
     rw c.one_more-n.ensures
     (fields-turn c.loop-a.invariant (sym c.loop-a-test.true ∙ c.next_is.ensures) c.mark-a.ensures
-    c.enter_field-f.ensures.done c.enter_field-f.ensures.held)
+    c.enter_field-f.ensures)
 
 pub enter_fields-returns : goal.enter_fields-returns
 enter_fields-returns t c =
-    fields-done (type _) c.enter_field-first.ensures.done c.loop-a.invariant (sym c.loop-a-test.false ∙ c.next_is.ensures)
+    fields-done (type _) c.enter_field-first.ensures c.loop-a.invariant (sym c.loop-a-test.false ∙ c.next_is.ensures)
 
 pub enter_function-next_sign-q-requires : goal.enter_function-next_sign-q-requires
 enter_function-next_sign-q-requires t c =

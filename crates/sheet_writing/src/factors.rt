@@ -1,32 +1,26 @@
 //! Names, factors and dimensions as text.
-ghost use Rattle.std.specs.Prelude.{◌≡◌, true, ◌<◌, get_or};
 ghost use Rattle.rules.specs.TextWriting.{nameText, openText, factorText, dimensionText};
-ghost use Rattle.laws.specs.Lists.{Every};
-ghost use Rattle.records.specs.Good.{HeldAtom, HeldOpen};
 ghost use Rattle.records.specs.Holds.{atomOf, openOf};
 ghost use Rattle.types.specs.Shapes.{factor_of};
 ghost use Rattle.spelling.specs.Sinks.{Puts};
-ghost use Rattle.sheet_writing.specs.Parts.{IsGoodFactor, atomText, fromFactors, isGoodProduct, name_of, star};
+ghost use Rattle.sheet_writing.specs.Parts.{atomText, fromFactors, name_of, star};
 
-use names::inner::name_at;
 use names::tables::NameTable;
 use records::{Atom, Open};
 use spelling::sink::Sink;
 use spelling::{put_name, put_power};
 use types::{Factor, Product};
 
-/// Puts the name with the number `x`.
+/// Puts the name with the number `x`; where none has it, nothing.
 pub fn put_held<S: Sink>(names: NameTable, x: u32, to: &mut S) -> Result<(), S::Error>
-    requires { x < get_or names.table.now 0 0 }
     ensures { Puts (S.place to.old) (nameText (name_of names.entry.pool.now names.entry.table.now x)) result (S.place to.new) }
 {
-    put_name(to, name_at(names.pool, names.table, x as usize))
+    put_name(to, names.name(x))
 }
 
 /// Puts a variable or a parameter, with its mark. A quantified variable, which stands in no set, has no text.
 #[tactic(auto, unfolding(rules::specs::TextWriting::openText))]
 pub fn put_open<S: Sink>(names: NameTable, o: Open, to: &mut S) -> Result<(), S::Error>
-    requires { HeldOpen names.table.now o }
     ensures { Puts (S.place to.old) (openText (name_of names.entry.pool.now names.entry.table.now) (openOf o)) result (S.place to.new) }
 {
     match o {
@@ -45,7 +39,6 @@ pub fn put_open<S: Sink>(names: NameTable, o: Open, to: &mut S) -> Result<(), S:
 // Puts what a factor is a power of.
 #[tactic(auto, unfolding(crate::specs::Parts::atomText))]
 fn put_atom<S: Sink>(names: NameTable, atom: Atom, to: &mut S) -> Result<(), S::Error>
-    requires { HeldAtom names.table.now atom }
     ensures { Puts (S.place to.old) (atomText (name_of names.entry.pool.now names.entry.table.now) (atomOf atom)) result (S.place to.new) }
 {
     match atom {
@@ -59,7 +52,6 @@ fn put_atom<S: Sink>(names: NameTable, atom: Atom, to: &mut S) -> Result<(), S::
 
 // Puts a factor.
 fn put_factor<S: Sink>(names: NameTable, factor: Factor, to: &mut S) -> Result<(), S::Error>
-    requires { HeldAtom names.table.now factor.atom }
     ensures { Puts (S.place to.old) (factorText (name_of names.entry.pool.now names.entry.table.now) (factor_of factor)) result (S.place to.new) }
 {
     put_atom(names, factor.atom, to)?;
@@ -80,7 +72,6 @@ fn put_factors<S: Sink>(
     first: bool,
     to: &mut S,
 ) -> Result<(), S::Error>
-    requires { Every (IsGoodFactor names.pool.now names.table.now) factors.factors.0 }
     ensures { Puts (S.place to.old) (fromFactors first (name_of names.entry.pool.now names.entry.table.now) factors.entry.factors.0) result (S.place to.new) }
 {
     let Some((factor, rest)) = factors.split_first() else {
@@ -97,7 +88,6 @@ pub fn put_dimension<S: Sink>(
     factors: Product,
     to: &mut S,
 ) -> Result<(), S::Error>
-    requires { isGoodProduct names.pool.now names.table.now factors.factors.0 ≡ true }
     ensures { Puts (S.place to.old) (dimensionText (name_of names.entry.pool.now names.entry.table.now) factors.entry.factors.0) result (S.place to.new) }
 {
     to.put(b"[")?;

@@ -1,19 +1,12 @@
 -- The writers of types meet their contracts: what is left to write falls.
-use Rattle.std.specs.Prelude.{ℕ, ◌&&◌}
+use Rattle.std.specs.Prelude.{ℕ}
 use Rattle.std.proofs.Common.{ap, arith, rules}
-use Rattle.rules.specs.Names.{is_held, table_of}
 use Rattle.rules.specs.TextWriting.{tyText}
 use Rattle.rules.specs.Trees.{Fields, Ty, Tys, size, sizeFields, sizeTys}
-use Rattle.rules.specs.WellFormed.{goodFields, goodTy, goodTys}
-use Rattle.laws.specs.Lists.{and_left, and_right}
 use Rattle.records.specs.ByView.{size-pos}
 use Rattle.spelling.specs.Sinks.{cut, nothing, then}
 use Rattle.sheet_writing.specs.Parts.{
-  areGood,
   fromTys,
-  good-open,
-  held,
-  isGood,
   name_of,
   next_fields,
   next_types,
@@ -21,43 +14,29 @@ use Rattle.sheet_writing.specs.Parts.{
   no_types,
   struct_text,
 }
-use Rattle.sheet_writing.proofs.inner.terms.+types.Goals as goal
+use Rattle.sheet_writing.proofs.terms.+types.Goals as goal
 
 pub write_fields-returns-in_default : goal.write_fields-returns-in_default
 write_fields-returns-in_default g t c = rw (← c.in_default.ensures, no_fields) (nothing _)
-
-pub write_fields-put_label-requires : goal.write_fields-put_label-requires
-unfolding goodFields
-write_fields-put_label-requires g t c =
-    let good = rw (← c.in-Some.ensures) at c.requires in
-    let p = c.args.names.pool.now in
-    let k = c.args.names.table.now in
-    held p k c.in-Some.x (and_left (is_held (table_of p k) c.in-Some.x) _ (and_left _ _ good))
 
 pub write_fields-returns-in_err-put_label : goal.write_fields-returns-in_err-put_label
 write_fields-returns-in_err-put_label g t c = rw (← c.in-Some.ensures, next_fields) (cut _ _ c.from_residual.ensures.0 c.in_err-put_label.ensures)
 
 pub write_fields-write_type-requires : goal.write_fields-write_type-requires
-unfolding goodFields sizeFields
+unfolding sizeFields
 write_fields-write_type-requires g t c κs within =
-    let good = rw (← c.in-Some.ensures) at c.requires in
     let n = ap (λ (fs : Fields ℕ). sizeFields fs) c.in-Some.ensures in
-    let h = and_right (is_held (table_of c.args.names.pool.now c.args.names.table.now) c.in-Some.x) _ (and_left _ _ good) in
-    (omega (arith, c.decreases, n), (search rules, (search rules, h)))
+    (omega (arith, c.decreases, n), (search rules, search rules))
 
 pub write_fields-returns-in_err-write_type : goal.write_fields-returns-in_err-write_type
 write_fields-returns-in_err-write_type g t c =
     rw (← c.in-Some.ensures, next_fields) (then _ c.in_ok-put_label.ensures (cut _ _ c.from_residual-in_err-write_type.ensures.0 c.in_err-write_type.ensures))
 
 pub write_fields-write_fields-requires : goal.write_fields-write_fields-requires
-unfolding goodFields sizeFields
+unfolding sizeFields
 write_fields-write_fields-requires g t c κs within =
-    let good = rw (← c.in-Some.ensures) at c.requires in
     let n = ap (λ (fs : Fields ℕ). sizeFields fs) c.in-Some.ensures in
-    let p = c.args.names.pool.now in
-    let k = c.args.names.table.now in
-    let h = and_right (is_held (table_of p k) c.in-Some.x && isGood p k c.in-Some.t.tree.0) _ good in
-    (omega (arith, c.decreases, n), (search rules, (search rules, h)))
+    (omega (arith, c.decreases, n), (search rules, search rules))
 
 pub write_fields-returns : goal.write_fields-returns
 write_fields-returns g t c = rw (← c.in-Some.ensures, next_fields) (then _ c.in_ok-put_label.ensures (then _ c.in_ok-write_type.ensures c.write_fields.ensures))
@@ -69,48 +48,33 @@ pub write_types-returns-in_err-put_comma : goal.write_types-returns-in_err-put_c
 write_types-returns-in_err-put_comma g t c = rw (← c.in-Some.ensures, next_types) (cut _ _ c.from_residual.ensures.0 c.in_err-put_comma.ensures)
 
 pub write_types-write_type-requires : goal.write_types-write_type-requires
-unfolding goodTys sizeTys
+unfolding sizeTys
 write_types-write_type-requires g t c κs within =
-    let good = rw (← c.in-Some.ensures) at c.requires in
     let n = ap (λ (ts : Tys ℕ). sizeTys ts) c.in-Some.ensures in
-    let h = and_left (isGood c.args.names.pool.now c.args.names.table.now c.in-Some.t.tree.0) _ good in
-    (omega (arith, c.decreases, n), (search rules, (search rules, h)))
+    (omega (arith, c.decreases, n), (search rules, search rules))
 
 pub write_types-returns-in_err-write_type : goal.write_types-returns-in_err-write_type
 write_types-returns-in_err-write_type g t c =
     rw (← c.in-Some.ensures, next_types) (then _ c.in_ok-put_comma.ensures (cut _ _ c.from_residual-in_err-write_type.ensures.0 c.in_err-write_type.ensures))
 
 pub write_types-write_types-requires : goal.write_types-write_types-requires
-unfolding goodTys sizeTys
+unfolding sizeTys
 write_types-write_types-requires g t c κs within =
-    let good = rw (← c.in-Some.ensures) at c.requires in
     let n = ap (λ (ts : Tys ℕ). sizeTys ts) c.in-Some.ensures in
-    let h = and_right (isGood c.args.names.pool.now c.args.names.table.now c.in-Some.t.tree.0) _ good in
-    (omega (arith, c.decreases, n, size-pos c.in-Some.t.tree.0), (search rules, (search rules, h)))
+    (omega (arith, c.decreases, n, size-pos c.in-Some.t.tree.0), (search rules, search rules))
 
 pub write_types-returns : goal.write_types-returns
 write_types-returns g t c = rw (← c.in-Some.ensures, next_types) (then _ c.in_ok-put_comma.ensures (then _ c.in_ok-write_type.ensures c.write_types.ensures))
-
-pub write_type-put_open-requires : goal.write_type-put_open-requires
-unfolding goodTy
-write_type-put_open-requires g t c =
-    let good = rw (← c.in-Open.ensures) at c.requires in good-open c.args.names.pool.now c.args.names.table.now c.in-Open.o good
-
-pub write_type-put_dimension-requires : goal.write_type-put_dimension-requires
-unfolding goodTy
-write_type-put_dimension-requires g t c = rw (← c.in-Dimension.ensures) at c.requires
 
 pub write_type-returns-in_err-put-in-Function : goal.write_type-returns-in_err-put-in-Function
 unfolding tyText fromTys
 write_type-returns-in_err-put-in-Function g t c = rw (← c.in-Function.ensures) (cut _ _ c.from_residual.ensures.0 c.in_err-put-in-Function.ensures)
 
 pub write_type-write_types-requires : goal.write_type-write_types-requires
-unfolding goodTy size
+unfolding size
 write_type-write_types-requires g t c κs within =
-    let good = rw (← c.in-Function.ensures) at c.requires in
     let n = ap (λ (t : Ty ℕ). size t) c.in-Function.ensures in
-    let h = and_left (areGood c.args.names.pool.now c.args.names.table.now c.in-Function.parameters.trees.0) _ good in
-    (omega (arith, c.decreases, n), (search rules, (search rules, h)))
+    (omega (arith, c.decreases, n), (search rules, search rules))
 
 pub write_type-returns-in_err-write_types-in-Function : goal.write_type-returns-in_err-write_types-in-Function
 unfolding tyText fromTys
@@ -126,12 +90,10 @@ write_type-returns-in_err-put-in-Function-2 g t c =
     (cut _ _ c.from_residual-in_err-put-in-Function-2.ensures.0 c.in_err-put-in-Function-2.ensures)))
 
 pub write_type-write_type-requires : goal.write_type-write_type-requires
-unfolding goodTy size
+unfolding size
 write_type-write_type-requires g t c κs within =
-    let good = rw (← c.in-Function.ensures) at c.requires in
     let n = ap (λ (t : Ty ℕ). size t) c.in-Function.ensures in
-    let h = and_right (areGood c.args.names.pool.now c.args.names.table.now c.in-Function.parameters.trees.0) _ good in
-    (omega (arith, c.decreases, n), (search rules, (search rules, h)))
+    (omega (arith, c.decreases, n), (search rules, search rules))
 
 pub write_type-returns-in_err-write_type-in-Function : goal.write_type-returns-in_err-write_type-in-Function
 unfolding tyText fromTys
@@ -147,14 +109,6 @@ write_type-returns-in_ok-write_type-in-Function g t c =
     (then _ c.in_ok-put-in-Function.ensures (then _ c.in_ok-write_types-in-Function.ensures (then _ c.in_ok-put-in-Function-2.ensures
     (then _ c.in_ok-write_type-in-Function.ensures c.put-in-Function-2.ensures))))
 
-pub write_type-put_head-requires : goal.write_type-put_head-requires
-unfolding goodTy
-write_type-put_head-requires g t c =
-    let good = rw (← c.in-Struct.ensures) at c.requires in
-    let p = c.args.names.pool.now in
-    let k = c.args.names.table.now in
-    held p k c.in-Struct.x (and_left (is_held (table_of p k) c.in-Struct.x) _ (and_left _ _ (and_left _ _ good)))
-
 pub write_type-returns-in_err-put_head-in-Struct : goal.write_type-returns-in_err-put_head-in-Struct
 write_type-returns-in_err-put_head-in-Struct g t c =
     let many = c.in-Struct.arguments.trees.1.many in
@@ -163,12 +117,10 @@ write_type-returns-in_err-put_head-in-Struct g t c =
     (cut _ _ c.from_residual-in_err-put_head-in-Struct.ensures.0 c.in_err-put_head-in-Struct.ensures)
 
 pub write_type-write_types-requires-in-Struct : goal.write_type-write_types-requires-in-Struct
-unfolding goodTy size
+unfolding size
 write_type-write_types-requires-in-Struct g t c κs within =
-    let good = rw (← c.in-Struct.ensures) at c.requires in
     let n = ap (λ (t : Ty ℕ). size t) c.in-Struct.ensures in
-    let h = and_right (is_held (table_of c.args.names.pool.now c.args.names.table.now) c.in-Struct.x) _ (and_left _ _ (and_left _ _ good)) in
-    (omega (arith, c.decreases, n), (search rules, (search rules, h)))
+    (omega (arith, c.decreases, n), (search rules, search rules))
 
 pub write_type-returns-in_err-write_types-in-Struct : goal.write_type-returns-in_err-write_types-in-Struct
 write_type-returns-in_err-write_types-in-Struct g t c =
@@ -186,14 +138,10 @@ write_type-returns-in_err-put_between-in-Struct g t c =
     (cut _ _ c.from_residual-in_err-put_between-in-Struct.ensures.0 c.in_err-put_between-in-Struct.ensures)))
 
 pub write_type-write_fields-requires : goal.write_type-write_fields-requires
-unfolding goodTy size
+unfolding size
 write_type-write_fields-requires g t c κs within =
-    let good = rw (← c.in-Struct.ensures) at c.requires in
     let n = ap (λ (t : Ty ℕ). size t) c.in-Struct.ensures in
-    let p = c.args.names.pool.now in
-    let k = c.args.names.table.now in
-    let h = and_right (is_held (table_of p k) c.in-Struct.x && areGood p k c.in-Struct.arguments.trees.0) _ (and_left _ _ good) in
-    (omega (arith, c.decreases, n), (search rules, (search rules, h)))
+    (omega (arith, c.decreases, n), (search rules, search rules))
 
 pub write_type-returns-in_err-write_fields-in-Struct : goal.write_type-returns-in_err-write_fields-in-Struct
 write_type-returns-in_err-write_fields-in-Struct g t c =
@@ -216,11 +164,10 @@ unfolding tyText
 write_type-returns-in_err-put-in-List g t c = rw (← c.in-List.ensures) (cut _ _ c.from_residual-in_err-put-in-List.ensures.0 c.in_err-put-in-List.ensures)
 
 pub write_type-write_type-requires-in-List : goal.write_type-write_type-requires-in-List
-unfolding goodTy size
+unfolding size
 write_type-write_type-requires-in-List g t c κs within =
-    let good = rw (← c.in-List.ensures) at c.requires in
     let n = ap (λ (t : Ty ℕ). size t) c.in-List.ensures in
-    (omega (arith, c.decreases, n), (search rules, (search rules, good)))
+    (omega (arith, c.decreases, n), (search rules, search rules))
 
 pub write_type-returns-in_err-write_type-in-List : goal.write_type-returns-in_err-write_type-in-List
 unfolding tyText

@@ -1,16 +1,10 @@
 -- `put_dimension` meets its contract.
-use Rattle.rules.specs.WellFormed.{goodTy}
-use Rattle.sheets.specs.Meanings as Meanings
 use Rattle.spelling.specs.Sinks.{cut, then}
 use Rattle.sheet_writing.specs.Parts.{dimension-is}
-use Rattle.sheet_writing.proofs.inner.factors.put_dimension.Goals as goal
+use Rattle.sheet_writing.proofs.factors.put_dimension.Goals as goal
 
 pub returns-in_err-put : goal.returns-in_err-put
 returns-in_err-put g c = rw dimension-is (cut _ _ c.from_residual.ensures.0 c.in_err-put.ensures)
-
-pub put_factors-requires : goal.put_factors-requires
-unfolding goodTy
-put_factors-requires g c = (Meanings.good-dim c.args.names.good c.args.factors.factors.0 c.requires).each
 
 pub returns-in_err-put_factors : goal.returns-in_err-put_factors
 returns-in_err-put_factors g c =

@@ -3,7 +3,7 @@ use Rattle.std.proofs.Common.{arith, rules}
 use Rattle.spelling.specs.Sinks.{cut, nothing, then}
 use Rattle.sheet_writing.specs.Parts.{next-line, no-line}
 use Rattle.sheet_writing.specs.Rows.{as_line, line-on, line-others, no-lines}
-use Rattle.sheet_writing.proofs.inner.lines.+write_lines.Goals as goal
+use Rattle.sheet_writing.proofs.inner.+write_lines.Goals as goal
 
 pub returns-then-set-at : goal.returns-then-set-at
 returns-then-set-at g t c = λ cs f. rw (no-lines _ _ c.args.set.now c.args.at c.if-set-at.true cs f, no-line) (nothing _)
@@ -13,12 +13,6 @@ constraint_at-requires-clause-there g t c =
     let w = c.requires.there in
     let y = as_line _ _ c.args.set.now c.args.at c.if-set-at.false w.0 w.1 in
     (y.c, y.holds)
-
-pub write_con-requires : goal.write_con-requires
-write_con-requires g t c =
-    let w = c.requires.there in
-    let y = as_line _ _ c.args.set.now c.args.at c.if-set-at.false w.0 w.1 in
-    rw (c.constraint_at.ensures y.c y.holds) y.good
 
 pub returns-in_err-write_con : goal.returns-in_err-write_con
 returns-in_err-write_con g t c =

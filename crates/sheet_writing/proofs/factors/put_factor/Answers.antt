@@ -1,7 +1,7 @@
 -- `put_factor` meets its contract.
 use Rattle.spelling.specs.Sinks.{cut, then}
 use Rattle.sheet_writing.specs.Parts.{factor-text}
-use Rattle.sheet_writing.proofs.inner.factors.put_factor.Goals as goal
+use Rattle.sheet_writing.proofs.factors.put_factor.Goals as goal
 
 pub returns-in_err-put_atom : goal.returns-in_err-put_atom
 returns-in_err-put_atom g c = rw factor-text (cut _ _ c.from_residual.ensures.0 c.in_err-put_atom.ensures)

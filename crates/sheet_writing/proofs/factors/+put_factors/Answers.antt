@@ -1,13 +1,10 @@
 -- `put_factors` meets its contract: the first factor, and then the others.
 use Rattle.spelling.specs.Sinks.{cut, nothing, then}
-use Rattle.sheet_writing.specs.Parts.{good-atom, next-factor, no-factors}
-use Rattle.sheet_writing.proofs.inner.factors.+put_factors.Goals as goal
+use Rattle.sheet_writing.specs.Parts.{next-factor, no-factors}
+use Rattle.sheet_writing.proofs.factors.+put_factors.Goals as goal
 
 pub returns-in_default : goal.returns-in_default
 returns-in_default g t c = rw (← c.in_default.ensures, no-factors) (nothing _)
-
-pub put_factor-requires : goal.put_factor-requires
-put_factor-requires g t c = let good = rw (← c.in-Some.ensures) at c.requires in good-atom _ _ _ _ good.0
 
 pub returns-in_err-put_star : goal.returns-in_err-put_star
 returns-in_err-put_star g t c = rw (← c.in-Some.ensures, next-factor) (cut _ _ c.from_residual.ensures.0 c.in_err-put_star.ensures)

@@ -1,6 +1,6 @@
 use Rattle.std.specs.Prelude.{◌+◌, ◌*◌}
 use Rattle.rules.specs.Trees.{size, sizeTys, sizeFields}
-use Rattle.sheet_writing.proofs.inner.terms.+types.Given as goal
+use Rattle.sheet_writing.proofs.terms.+types.Given as goal
 
 abbrev pub decreases-write_fields : goal.decreases-write_fields
 decreases-write_fields g l = 2 * sizeFields l.fields.trees.0 + 1

@@ -1,9 +1,8 @@
 //! Types as text.
-ghost use Rattle.std.specs.Prelude.{◌≡◌, true, ◌<◌, get_or};
 ghost use Rattle.rules.specs.TextWriting.{basicText, tyText};
 ghost use Rattle.records.specs.Holds.{basicOf};
 ghost use Rattle.spelling.specs.Sinks.{Puts};
-ghost use Rattle.sheet_writing.specs.Parts.{areGood, between, bracket, comma, fieldsGood, fromFields, fromTys, head, isGood, label, name_of};
+ghost use Rattle.sheet_writing.specs.Parts.{between, bracket, comma, fromFields, fromTys, head, label, name_of};
 
 use super::factors::{put_dimension, put_held, put_open};
 use names::tables::NameTable;
@@ -39,7 +38,6 @@ fn put_if<S: Sink>(n: u32, b: u8, to: &mut S) -> Result<(), S::Error>
 
 // Puts a field's name and its colon, behind others or not.
 fn put_label<S: Sink>(names: NameTable, first: bool, x: u32, to: &mut S) -> Result<(), S::Error>
-    requires { x < get_or names.table.now 0 0 }
     ensures { Puts (S.place to.old) (label first (name_of names.entry.pool.now names.entry.table.now x)) result (S.place to.new) }
 {
     put_comma(first, to)?;
@@ -49,7 +47,6 @@ fn put_label<S: Sink>(names: NameTable, first: bool, x: u32, to: &mut S) -> Resu
 
 // Puts a structure's name, and a bracket if it has parameters.
 fn put_head<S: Sink>(names: NameTable, x: u32, n: u32, to: &mut S) -> Result<(), S::Error>
-    requires { x < get_or names.table.now 0 0 }
     ensures { Puts (S.place to.old) (head (name_of names.entry.pool.now names.entry.table.now x) n) result (S.place to.new) }
 {
     to.put(b"@")?;
@@ -68,7 +65,6 @@ fn put_between<S: Sink>(n: u32, m: u32, to: &mut S) -> Result<(), S::Error>
 /// Puts a type.
 #[cycle(types)]
 pub fn write_type<S: Sink>(names: NameTable, t: Type, to: &mut S) -> Result<(), S::Error>
-    requires { isGood names.pool.now names.table.now t.tree.0 ≡ true }
     ensures { Puts (S.place to.old) (tyText (name_of names.entry.pool.now names.entry.table.now) t.entry.tree.0) result (S.place to.new) }
 {
     match t.shape() {
@@ -105,7 +101,6 @@ fn write_types<S: Sink>(
     first: bool,
     to: &mut S,
 ) -> Result<(), S::Error>
-    requires { areGood names.pool.now names.table.now types.trees.0 ≡ true }
     ensures { Puts (S.place to.old) (fromTys first (name_of names.entry.pool.now names.entry.table.now) types.entry.trees.0) result (S.place to.new) }
 {
     let Some((t, rest)) = types.split_first() else {
@@ -124,7 +119,6 @@ fn write_fields<S: Sink>(
     first: bool,
     to: &mut S,
 ) -> Result<(), S::Error>
-    requires { fieldsGood names.pool.now names.table.now fields.trees.0 ≡ true }
     ensures { Puts (S.place to.old) (fromFields first (name_of names.entry.pool.now names.entry.table.now) fields.entry.trees.0) result (S.place to.new) }
 {
     let Some((x, t, rest)) = fields.split_first() else {
