@@ -1,10 +1,9 @@
 -- The contracts leave no choice: two results that one of them allows coincide; and each answer has the number of its outcome.
-use Rattle.std.specs.Prelude.{◌≡◌, refl, List, ℕ, Result, Ok, Err}
+use Rattle.std.specs.Prelude.{◌≡◌, refl, ℕ, Ok, Err}
 use Rattle.std.proofs.Common.{sym, ◌∙◌, arith}
 use Rattle.std.proofs.Math.Path.{ap}
 use Rattle.rules.specs.Calls.{Listed}
 use Rattle.rules.specs.Numbers.{refusalIn, number, refusalRead}
-use Rattle.rules.specs.Refusals.{told}
 use Rattle.laws.specs.Numbers.{answer-in, number-injective, told-injective}
 use Rattle.rules.specs.TextReading.{TextRead}
 use Rattle.sheet_reading.specs.Given.{toldSheet, readAs}
@@ -12,7 +11,7 @@ use Rattle.sheet_reading.specs.declared.Read.{Read}
 use Rattle.sheet_reading.specs.declared.NotRead.{NotRead}
 use Rattle.rules.specs.declared.Refusal.{Refusal}
 use Rattle.sheet_reading.specs.Loop.{Sheet}
-use Rattle.text.specs.Theorems.{OneReading, ReadingIsDetermined, ReadingIsNumbered, WritingIsDetermined, WritingIsNumbered, numberSheet}
+use Rattle.text.specs.Theorems.{ReadingIsDetermined, ReadingIsNumbered, WritingIsDetermined, WritingIsNumbered, numberSheet}
 use Rattle.text.specs.Told.{listedAs}
 
 -- ══ Writing ══

@@ -1,5 +1,4 @@
 -- `inner::end_at` meets its contract.
-use Rattle.rules.specs.Grammar.{end_at}
 use Rattle.statements.specs.Statements.{end-there, end-other, end-past}
 use Rattle.statements.proofs.inner.end_at.Goals as goal
 
