@@ -6,7 +6,6 @@ ghost use Rattle.rules.specs.Replacing.{Look};
 ghost use Rattle.rules.specs.Steps.{LineStep};
 ghost use Rattle.rules.specs.Trees.{Con, Binding};
 ghost use Rattle.rules.specs.Lines.{checkedLine};
-ghost use Rattle.laws.specs.NameTable.{Good};
 ghost use Rattle.lending.specs.Told.{Made};
 ghost use Rattle.replacing.specs.Places.{Tabled};
 ghost use Rattle.line_calls.specs.Standing.{SetStands, FoundStands};
@@ -15,6 +14,8 @@ ghost use Rattle.line_calls.specs.Whole.{LineHeld, LineTyped};
 
 use line_steps::inner::writing::put_line;
 use lines::inner::enter_line;
+use lines::inner::given::Line;
+use names::tables::NameTable;
 use places::inner::fill;
 use proposals::inner::bounds::mark_all;
 use queries::inner::is_unmixed;
@@ -43,106 +44,91 @@ fn put_type(places: &[u32], found: &[u32], v: u32, dst: &mut [u32]) -> usize
     }
 }
 
-// Judges what was found over the set: bindings up to b, then n bounds. After a yes the type of v stands in the work buffer.
+// What was found over a set: so many records of bindings from the front, and so many bounds behind them.
+#[derive(Clone, Copy)]
+struct Found<'a> {
+    words: &'a [u32],
+    bindings: usize,
+    bounds: usize,
+}
+
+// Judges what was found over the set. After a yes the type of v stands in the work buffer.
 fn confirm(
-    pool: &[u8],
-    table: &[u32],
+    names: NameTable,
     set: &[u32],
-    found: &[u32],
-    b: usize,
-    n: usize,
+    found: Found,
     v: u32,
     work: &mut [u32],
 ) -> Result<usize, Refusal>
-    requires good { Good pool.now table.now }
-    requires by_index { (cs : List (Con ℕ)) × SetStands pool.now table.now set.now cs }
-    requires by_index_2 { (bs : List (Binding ℕ)) × ((ns : List ℕ) × FoundStands pool.now table.now found.now b n bs ns) }
-    requires in_bounds { 16384 ≤ length work.old }
-    ensures { Confirmed pool.now table.now set.now found.now b n v work.new result }
+    requires stands { (cs : List (Con ℕ)) × SetStands names.pool.now names.table.now set.now cs }
+    requires answered { (bs : List (Binding ℕ)) × ((ns : List ℕ) × FoundStands names.pool.now names.table.now found.words.now found.bindings found.bounds bs ns) }
+    requires room { 16384 ≤ length work.old }
+    ensures { Confirmed names.entry.pool.now names.entry.table.now set.now found.entry.words.now found.entry.bindings found.entry.bounds v work.new result }
 {
     let mut places = [0u32; NAMES];
-    fill(found, 0, b, &mut places);
+    fill(found.words, 0, found.bindings, &mut places);
     let mut m = [false; NAMES];
-    let from = b * 4;
-    let to = from + n * 4;
-    mark_all(&found[from..to], &mut m);
-    match try_all(pool, table, set, &places, found, &m, work) {
-        Ok(true) => Ok(put_type(&places, found, v, work)),
+    let from = found.bindings * 4;
+    let to = from + found.bounds * 4;
+    mark_all(&found.words[from..to], &mut m);
+    match try_all(names.pool, names.table, set, &places, found.words, &m, work) {
+        Ok(true) => Ok(put_type(&places, found.words, v, work)),
         Ok(false) => Err(Refusal::NotConfirmed),
         Err(k) => Err(k),
     }
 }
 
 // Solves the set, judges the answer over the same set, and leaves the type of v.
-fn settle(
-    pool: &[u8],
-    table: &[u32],
-    set: &[u32],
-    v: u32,
-    work: &mut [u32],
-) -> Result<usize, Refusal>
-    requires good { Good pool.now table.now }
-    requires by_index { (cs : List (Con ℕ)) × SetStands pool.now table.now set.now cs }
-    requires in_bounds { 16384 ≤ length work.old }
-    ensures { (cs : List (Con ℕ)) → SetStands pool.now table.now set.now cs → Made (setType pool.now table.now cs v) work.new result }
+fn settle(names: NameTable, set: &[u32], v: u32, work: &mut [u32]) -> Result<usize, Refusal>
+    requires stands { (cs : List (Con ℕ)) × SetStands names.pool.now names.table.now set.now cs }
+    requires room { 16384 ≤ length work.old }
+    ensures { (cs : List (Con ℕ)) → SetStands names.entry.pool.now names.entry.table.now set.now cs → Made (setType names.entry.pool.now names.entry.table.now cs v) work.new result }
 {
     let n = set.len() / 4;
     if !is_unmixed(set, 0, n) {
         return Err(Refusal::Mixed);
     }
     copy(set, 0, n, work, 0);
-    let mut found = [0u32; RECORD_WORDS];
-    let s = run_alone(pool, table, n, &mut found, work);
+    let mut words = [0u32; RECORD_WORDS];
+    let s = run_alone(names.pool, names.table, n, &mut words, work);
     match s.outcome {
-        Ok(Finish::Solved(b, k)) => confirm(pool, table, set, &found, b, k, v, work),
+        Ok(Finish::Solved(bindings, bounds)) => {
+            let found = Found {
+                words: &words,
+                bindings,
+                bounds,
+            };
+            confirm(names, set, found, v, work)
+        }
         Ok(Finish::Unsolved(_)) => Err(Refusal::Unsolved),
         Err(k) => Err(k),
     }
 }
 
 // The type of a line that passed the checks at entry.
-fn type_line(
-    pool: &[u8],
-    table: &[u32],
-    steps: &[u32],
-    types: &[u32],
-    lines: &[u32],
-    names: &[u32],
-    work: &mut [u32],
-) -> Result<usize, Refusal>
-    requires good { Good pool.now table.now }
-    requires by_index { (ss : List (LineStep ℕ)) × LineHeld pool.now table.now steps.now types.now lines.now names.now ss }
-    requires in_bounds { 16384 ≤ length work.old }
-    ensures { LineTyped pool.now table.now steps.now types.now lines.now names.now work.new result }
+fn type_line(names: NameTable, line: Line, work: &mut [u32]) -> Result<usize, Refusal>
+    requires read { (ss : List (LineStep ℕ)) × LineHeld names.pool.now names.table.now line.steps.now line.types.now line.earlier.now line.lent.now ss }
+    requires room { 16384 ≤ length work.old }
+    ensures { LineTyped names.entry.pool.now names.entry.table.now line.entry.steps.now line.entry.types.now line.entry.earlier.now line.entry.lent.now work.new result }
 {
     let mut set = [0u32; RECORD_WORDS];
-    match put_line(pool, table, types, lines, steps, names, &mut set) {
+    match put_line(names, line, &mut set) {
         Ok(n) => {
-            let v = names[steps.len() / 4 - 1];
+            let v = line.lent[line.steps.len() / 4 - 1];
             let e = n * 4;
-            settle(pool, table, &set[0..e], v, work)
+            settle(names, &set[0..e], v, work)
         }
         Err(k) => Err(k),
     }
 }
 
 // All that the call does past the check of 10; what it makes is left at the start of the work buffer.
-pub fn make_line(
-    pool: &[u8],
-    table: &[u32],
-    steps: &[u32],
-    types: &[u32],
-    lines: &[u32],
-    names: &[u32],
-    work: &mut [u32],
-) -> Result<usize, Refusal>
+pub fn make_line(pool: &[u8], table: &[u32], line: Line, work: &mut [u32]) -> Result<usize, Refusal>
     requires table_value { lentTable pool.now table.now ≡ got tt }
-    requires steps_in_bounds { length steps.now ≤ length names.now * 4 }
-    requires in_bounds { 16384 ≤ length work.old }
-    ensures { Made (checkedLine (table_of pool.now table.now) steps.now types.now lines.now names.now) work.new result }
+    requires lent { length line.steps.now ≤ length line.lent.now * 4 }
+    requires room { 16384 ≤ length work.old }
+    ensures { Made (checkedLine (table_of pool.now table.now) line.entry.steps.now line.entry.types.now line.entry.earlier.now line.entry.lent.now) work.new result }
 {
-    match enter_line(pool, table, steps, types, lines, names) {
-        Ok(()) => type_line(pool, table, steps, types, lines, names, work),
-        Err(k) => Err(k),
-    }
+    enter_line(pool, table, line)?;
+    type_line(NameTable { pool, table }, line, work)
 }

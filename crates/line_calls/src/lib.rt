@@ -10,6 +10,7 @@ ghost use Rattle.lending.specs.Told.{writtenAs};
 
 use inner::make_line;
 use lending::inner::hand_over;
+use lines::inner::given::Line;
 use lines::inner::room;
 use rules::Refusal;
 
@@ -30,6 +31,12 @@ pub fn check_line(
     if !room(pool, table, steps, names, res, work) {
         return Err(Refusal::ShortBuffer);
     }
-    let made = make_line(pool, table, steps, types, lines, names, work);
+    let line = Line {
+        steps,
+        types,
+        earlier: lines,
+        lent: names,
+    };
+    let made = make_line(pool, table, line, work);
     hand_over(made, res, work)
 }

@@ -254,11 +254,3 @@ module _ (pool table types lines : List ℕ) (w : Words32 types) where
       go : (o : Option StepKind) → stepKind k stepNumbers ≡ o → (orRefuse 1 o >>= λ kind. step_of t (recs types) lines kind a b c) ≡ got s → Says types lines k a b c s
       go none e h = let z : ◌≡◌ {A = ℕ} 0 1 = cc in absurd (omega (arith, z))
       go (some x) e h = of-kind k a b c x s e h
-
--- the operands by other names
-module _ (ν : Names ℕ) (d d₁ : List ℕ) (out v : ℕ) (s : LineStep ℕ) (q q' l l' r r' : ℕ) where
-  abbrev With : ℕ → ℕ → ℕ → List ℕ
-  With x y z = sets d (out * 4) (words (collect writeCon (issued ν v (deedBy s x y z))))
-
-  pub with_operands : q ≡ q' → l ≡ l' → r ≡ r' → d₁ ≡ With q l r → d₁ ≡ With q' l' r'
-  with_operands a b c h = h ∙ ap (λ (x : ℕ). With x l r) a ∙ ap (λ (y : ℕ). With q' y r) b ∙ ap (λ (z : ℕ). With q' l' z) c

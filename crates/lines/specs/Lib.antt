@@ -2,3 +2,4 @@ pub mod StepLists
 pub mod Entry
 pub mod Used
 pub mod Entered
+pub mod Lent

@@ -1,22 +1,24 @@
 // The parts of the check of a line: what is looked at before its constraints are written.
 pub mod fresh;
+pub mod given;
 
-ghost use Rattle.std.specs.Prelude.{◌≡◌, List, [], ◌∷◌, ℕ, ◌≤◌, length};
+ghost use Rattle.std.specs.Prelude.{◌≡◌, List, [], ◌∷◌, ℕ, ◌/◌, ◌≤◌, ◌<◌, length};
 ghost use Rattle.rules.specs.Base.{got, need, each};
 ghost use Rattle.rules.specs.Exponents.{frac};
 ghost use Rattle.rules.specs.Names.{Table, table_of};
 ghost use Rattle.rules.specs.Writing.{Rec, signed};
 ghost use Rattle.rules.specs.Calls.{type_at};
-ghost use Rattle.laws.specs.NameTable.{Good};
 ghost use Rattle.rules.specs.Refusals.{told};
 ghost use Rattle.records.specs.Views.{recs};
 ghost use Rattle.rules.specs.Steps.{four, isConstant, isReference, isRaise, zeros, constantAt, referenceTo, raiseBy, step_of, stepGiven, lineGiven};
 ghost use Rattle.rules.specs.Lines.{lineLent, lineShort};
-ghost use Rattle.lines.specs.Entered.{lineEntered, namesChecked};
+ghost use Rattle.lines.specs.Entered.{lineEntered};
 ghost use Rattle.lines.specs.StepLists.{isGiven, stepsFrom, operandsOf, wholeFrom};
+ghost use Rattle.lines.specs.Lent.{wordsAt};
 
 use exponents::Exponent;
 use fresh::{all_held, is_fresh};
+use given::{Line, StepWords};
 use lending::lent;
 use names::inner::is_good;
 use names::tables::NameTable;
@@ -26,6 +28,20 @@ use rules::{NESTED, RECORD_WORDS, RECORDS, Refusal};
 
 // A line has at most 128 steps.
 const STEP_WORDS: usize = 512;
+
+/// The words of step i.
+pub fn step_at(steps: &[u32], i: usize) -> StepWords
+    requires { i < length steps.now / 4 }
+    ensures { result ≡ wordsAt steps.now i }
+{
+    let j = i * 4;
+    StepWords {
+        kind: steps[j],
+        a: steps[j + 1],
+        b: steps[j + 2],
+        c: steps[j + 3],
+    }
+}
 
 /// Is everything that is lent long enough, and is there a name for each step?
 pub fn room(
@@ -52,19 +68,19 @@ pub fn room(
 }
 
 // Is nothing that is lent too long?
-fn short(steps: &[u32], types: &[u32], lines: &[u32], names: &[u32]) -> bool
-    ensures { need result 8 ≡ lineShort steps.now types.now lines.now names.now }
+fn short(line: Line) -> bool
+    ensures { need result 8 ≡ lineShort line.entry.steps.now line.entry.types.now line.entry.earlier.now line.entry.lent.now }
 {
-    if STEP_WORDS < steps.len() {
+    if STEP_WORDS < line.steps.len() {
         return false;
     }
-    if RECORD_WORDS < types.len() {
+    if RECORD_WORDS < line.types.len() {
         return false;
     }
-    if RECORDS < lines.len() {
+    if RECORDS < line.earlier.len() {
         return false;
     }
-    names.len() <= RECORDS
+    line.lent.len() <= RECORDS
 }
 
 // 1, unless it is so.
@@ -79,11 +95,9 @@ fn or_malformed(good: bool) -> Result<(), Refusal>
 }
 
 // Does a well formed type start at a place?
-fn type_here(pool: &[u8], table: &[u32], types: &[u32], at: u32) -> Result<(), Refusal>
-    requires { Good pool.now table.now }
-    ensures { told result ≡ isGiven (type_at (table_of pool.now table.now) (recs types.now) at) }
+fn type_here(names: NameTable, types: &[u32], at: u32) -> Result<(), Refusal>
+    ensures { told result ≡ isGiven (type_at (table_of names.entry.pool.now names.entry.table.now) (recs types.now) at) }
 {
-    let names = NameTable { pool, table };
     match type_end(names, 0, types, at as usize, NESTED) {
         Some(_) => Ok(()),
         None => Err(Refusal::Malformed),
@@ -91,11 +105,9 @@ fn type_here(pool: &[u8], table: &[u32], types: &[u32], at: u32) -> Result<(), R
 }
 
 // And is it closed?
-fn constant_here(pool: &[u8], table: &[u32], types: &[u32], at: u32) -> Result<(), Refusal>
-    requires { Good pool.now table.now }
-    ensures { (lines : List ℕ) → told result ≡ isGiven (constantAt (table_of pool.now table.now) (recs types.now) lines at) }
+fn constant_here(names: NameTable, types: &[u32], at: u32) -> Result<(), Refusal>
+    ensures { (lines : List ℕ) → told result ≡ isGiven (constantAt (table_of names.entry.pool.now names.entry.table.now) (recs types.now) lines at) }
 {
-    let names = NameTable { pool, table };
     match type_end(names, 0, types, at as usize, NESTED) {
         Some(_) => or_malformed(closed_at(types, at as usize)),
         None => Err(Refusal::Malformed),
@@ -103,19 +115,12 @@ fn constant_here(pool: &[u8], table: &[u32], types: &[u32], at: u32) -> Result<(
 }
 
 // Is there an earlier line with this number, and a well formed type at its place?
-fn reference_here(
-    pool: &[u8],
-    table: &[u32],
-    types: &[u32],
-    lines: &[u32],
-    i: u32,
-) -> Result<(), Refusal>
-    requires { Good pool.now table.now }
-    ensures { told result ≡ isGiven (referenceTo (table_of pool.now table.now) (recs types.now) lines.now i) }
+fn reference_here(names: NameTable, line: Line, i: u32) -> Result<(), Refusal>
+    ensures { told result ≡ isGiven (referenceTo (table_of names.entry.pool.now names.entry.table.now) (recs line.entry.types.now) line.entry.earlier.now i) }
 {
     let k = i as usize;
-    if k < lines.len() {
-        type_here(pool, table, types, lines[k])
+    if k < line.earlier.len() {
+        type_here(names, line.types, line.earlier[k])
     } else {
         Err(Refusal::Malformed)
     }
@@ -143,101 +148,57 @@ fn three_zeros(a: u32, b: u32, c: u32) -> bool
 }
 
 // The constant with these words.
-fn constant_step(
-    pool: &[u8],
-    table: &[u32],
-    types: &[u32],
-    a: u32,
-    b: u32,
-    c: u32,
-) -> Result<(), Refusal>
-    requires { Good pool.now table.now }
-    ensures { (lines : List ℕ) → told result ≡ isGiven (step_of (table_of pool.now table.now) (recs types.now) lines isConstant a b c) }
+fn constant_step(names: NameTable, types: &[u32], step: StepWords) -> Result<(), Refusal>
+    ensures { (lines : List ℕ) → told result ≡ isGiven (step_of (table_of names.entry.pool.now names.entry.table.now) (recs types.now) lines isConstant step.a step.b step.c) }
 {
-    if two_zeros(b, c) {
-        constant_here(pool, table, types, a)
+    if two_zeros(step.b, step.c) {
+        constant_here(names, types, step.a)
     } else {
         Err(Refusal::Malformed)
     }
 }
 
 // The reference with these words.
-fn reference_step(
-    pool: &[u8],
-    table: &[u32],
-    types: &[u32],
-    lines: &[u32],
-    a: u32,
-    b: u32,
-    c: u32,
-) -> Result<(), Refusal>
-    requires { Good pool.now table.now }
-    ensures { told result ≡ isGiven (step_of (table_of pool.now table.now) (recs types.now) lines.now isReference a b c) }
+fn reference_step(names: NameTable, line: Line, step: StepWords) -> Result<(), Refusal>
+    ensures { told result ≡ isGiven (step_of (table_of names.entry.pool.now names.entry.table.now) (recs line.entry.types.now) line.entry.earlier.now isReference step.a step.b step.c) }
 {
-    if two_zeros(b, c) {
-        reference_here(pool, table, types, lines, a)
+    if two_zeros(step.b, step.c) {
+        reference_here(names, line, step.a)
     } else {
         Err(Refusal::Malformed)
     }
 }
 
 // The power with these words.
-fn raise_step(a: u32, b: u32, c: u32) -> Result<(), Refusal>
-    ensures { (t : Table) (rs : List Rec) (lines : List ℕ) → told result ≡ isGiven (step_of t rs lines isRaise a b c) }
+fn raise_step(step: StepWords) -> Result<(), Refusal>
+    ensures { (t : Table) (rs : List Rec) (lines : List ℕ) → told result ≡ isGiven (step_of t rs lines isRaise step.a step.b step.c) }
 {
-    if a == 0 {
-        or_malformed(raise_here(b, c))
+    if step.a == 0 {
+        or_malformed(raise_here(step.b, step.c))
     } else {
         Err(Refusal::Malformed)
     }
 }
 
 // The step with these words, of whatever kind.
-fn step_here(
-    pool: &[u8],
-    table: &[u32],
-    types: &[u32],
-    lines: &[u32],
-    k: u32,
-    a: u32,
-    b: u32,
-    c: u32,
-) -> Result<(), Refusal>
-    requires { Good pool.now table.now }
-    ensures { told result ≡ isGiven (stepGiven (table_of pool.now table.now) (recs types.now) lines.now (four k a b c)) }
+fn step_here(names: NameTable, line: Line, step: StepWords) -> Result<(), Refusal>
+    ensures { told result ≡ isGiven (stepGiven (table_of names.entry.pool.now names.entry.table.now) (recs line.entry.types.now) line.entry.earlier.now (four step.kind step.a step.b step.c)) }
 {
-    match k {
-        1 => constant_step(pool, table, types, a, b, c),
-        2 => reference_step(pool, table, types, lines, a, b, c),
-        7 => raise_step(a, b, c),
-        3 | 4 | 5 | 6 | 8 | 9 => or_malformed(three_zeros(a, b, c)),
+    match step.kind {
+        1 => constant_step(names, line.types, step),
+        2 => reference_step(names, line, step),
+        7 => raise_step(step),
+        3 | 4 | 5 | 6 | 8 | 9 => or_malformed(three_zeros(step.a, step.b, step.c)),
         _ => Err(Refusal::Malformed),
     }
 }
 
 // From the first step on, each is well formed.
-fn steps_good(
-    pool: &[u8],
-    table: &[u32],
-    types: &[u32],
-    lines: &[u32],
-    steps: &[u32],
-) -> Result<(), Refusal>
-    requires { Good pool.now table.now }
-    ensures { told result ≡ isGiven (each (stepGiven (table_of pool.now table.now) (recs types.now) lines.now) (stepsFrom steps.now 0)) }
+fn steps_good(names: NameTable, line: Line) -> Result<(), Refusal>
+    ensures { told result ≡ isGiven (each (stepGiven (table_of names.entry.pool.now names.entry.table.now) (recs line.entry.types.now) line.entry.earlier.now) (stepsFrom line.entry.steps.now 0)) }
 {
-    for i in 0..steps.len() / 4 {
-        let j = i * 4;
-        step_here(
-            pool,
-            table,
-            types,
-            lines,
-            steps[j],
-            steps[j + 1],
-            steps[j + 2],
-            steps[j + 3],
-        )?;
+    for i in 0..line.steps.len() / 4 {
+        step_here(names, line, step_at(line.steps, i))?;
     }
     Ok(())
 }
@@ -270,65 +231,37 @@ fn is_whole(steps: &[u32]) -> bool
 }
 
 /// Is the line well formed (1)?
-pub fn line_good(
-    pool: &[u8],
-    table: &[u32],
-    steps: &[u32],
-    types: &[u32],
-    lines: &[u32],
-) -> Result<(), Refusal>
-    requires { Good pool.now table.now }
-    ensures { told result ≡ isGiven (lineGiven (table_of pool.now table.now) steps.now types.now lines.now) }
+pub fn line_good(names: NameTable, line: Line) -> Result<(), Refusal>
+    ensures { told result ≡ isGiven (lineGiven (table_of names.entry.pool.now names.entry.table.now) line.entry.steps.now line.entry.types.now line.entry.earlier.now) }
 {
-    if steps.len() % 4 != 0 {
+    if line.steps.len() % 4 != 0 {
         return Err(Refusal::Malformed);
     }
-    if types.len() % 4 != 0 {
+    if line.types.len() % 4 != 0 {
         return Err(Refusal::Malformed);
     }
-    steps_good(pool, table, types, lines, steps)?;
-    or_malformed(is_whole(steps))
-}
-
-// Are the lent names fresh (4) and held (3)?
-fn names_good(
-    table: &[u32],
-    steps: &[u32],
-    types: &[u32],
-    lines: &[u32],
-    names: &[u32],
-) -> Result<(), Refusal>
-    requires { 257 ≤ length table.now }
-    ensures { told result ≡ namesChecked table.now types.now lines.now steps.now names.now }
-{
-    if !is_fresh(types, lines, steps, names) {
-        return Err(Refusal::Mixed);
-    }
-    if !all_held(table, names) {
-        return Err(Refusal::NoRoom); // 3 is also a number that is not held
-    }
-    Ok(())
+    steps_good(names, line)?;
+    or_malformed(is_whole(line.steps))
 }
 
 /// All checks past 10, in their order: 8, 1, 4, 3.
-pub fn enter_line(
-    pool: &[u8],
-    table: &[u32],
-    steps: &[u32],
-    types: &[u32],
-    lines: &[u32],
-    names: &[u32],
-) -> Result<(), Refusal>
-    requires in_bounds { 8192 ≤ length pool.now }
-    requires in_bounds_2 { 257 ≤ length table.now }
-    ensures { told result ≡ isGiven (lineEntered (table_of pool.now table.now) steps.now types.now lines.now names.now) }
+pub fn enter_line(pool: &[u8], table: &[u32], line: Line) -> Result<(), Refusal>
+    requires bytes { 8192 ≤ length pool.now }
+    requires words { 257 ≤ length table.now }
+    ensures { told result ≡ isGiven (lineEntered (table_of pool.now table.now) line.entry.steps.now line.entry.types.now line.entry.earlier.now line.entry.lent.now) }
 {
-    if !short(steps, types, lines, names) {
+    if !short(line) {
         return Err(Refusal::TooLarge);
     }
     if !is_good(pool, table) {
         return Err(Refusal::Malformed);
     }
-    line_good(pool, table, steps, types, lines)?;
-    names_good(table, steps, types, lines, names)
+    line_good(NameTable { pool, table }, line)?;
+    if !is_fresh(line.types, line.earlier, line.steps, line.lent) {
+        return Err(Refusal::Mixed);
+    }
+    if !all_held(table, line.lent) {
+        return Err(Refusal::NoRoom); // 3 is also a number that is not held
+    }
+    Ok(())
 }

@@ -6,7 +6,6 @@ ghost use Rattle.rules.specs.Exponents.{frac};
 ghost use Rattle.rules.specs.Trees.{var, free, ◌↑◌, Names, Ty, basic, boolean, dim, equal, isDim};
 ghost use Rattle.rules.specs.Names.{table_of, numbersOf};
 ghost use Rattle.rules.specs.Writing.{words, writeTy, writeCon, twos, signed};
-ghost use Rattle.laws.specs.NameTable.{Good};
 ghost use Rattle.records.specs.Holds.{Holds};
 ghost use Rattle.rules.specs.Steps.{Two, adds, compares, gives, raised, chosen};
 ghost use Rattle.rules.specs.Lines.{its, dimensions, twoFactors, issuedByTwo, issued};
@@ -17,6 +16,15 @@ use records::inner::{copy, put_one, put_record};
 use records::seen::length_at;
 use records::{Atom, Basic, Open, View};
 use std::cmp::Ordering;
+
+/// A step's own variable, and those that it may take from the stack: the right operand, which is its top, the left one, and the condition of a choice.
+#[derive(Clone, Copy)]
+pub struct Operands {
+    pub own: u32,
+    pub condition: u32,
+    pub left: u32,
+    pub right: u32,
+}
 
 // That x is a dimension: two records.
 pub fn put_is_dim(dst: &mut [u32], out: usize, x: u32)
@@ -88,9 +96,9 @@ pub fn put_choice(dst: &mut [u32], out: usize, v: u32, c: u32, l: u32, r: u32)
 
 // What a constant or a reference issues: that v is the type at a place.
 pub fn put_given(types: &[u32], at: usize, dst: &mut [u32], out: usize, v: u32)
-    requires by_index { (t : Ty ℕ) × Holds types.now t at }
-    requires types_len_bound { length types.now ≤ 8192 }
-    requires out_bound { out < 2 ^ 57 }
+    requires held { (t : Ty ℕ) × Holds types.now t at }
+    requires few { length types.now ≤ 8192 }
+    requires place { out < 2 ^ 57 }
     ensures { (ν : Names ℕ) (t : Ty ℕ) → Holds types.now t at → dst.new ≡ sets dst.old (out * 4) (words (collect writeCon (issued ν v (gives t)))) }
 {
     let n = length_at(types, at);
@@ -110,14 +118,12 @@ fn put_pair(dst: &mut [u32], out: usize, x: u32, m: u32, y: u32, n: u32)
 }
 
 // The left operand times the right one to a power, in the order of their names.
-fn put_factors(pool: &[u8], table: &[u32], dst: &mut [u32], out: usize, l: u32, r: u32, num: u32)
-    requires good { Good pool.now table.now }
-    requires l_bound { l < get_or table.now 0 0 }
-    requires r_bound { r < get_or table.now 0 0 }
-    requires out_bound { out < 2 ^ 59 }
-    ensures { (k : ℤ) → twos k ≡ num → dst.new ≡ sets dst.old (out * 4) (words (writeTy (dim (twoFactors (numbersOf (table_of pool.now table.now)) l r (frac k 1))))) }
+fn put_factors(names: NameTable, dst: &mut [u32], out: usize, l: u32, r: u32, num: u32)
+    requires left { l < get_or names.table.now 0 0 }
+    requires right { r < get_or names.table.now 0 0 }
+    requires place { out < 2 ^ 59 }
+    ensures { (k : ℤ) → twos k ≡ num → dst.new ≡ sets dst.old (out * 4) (words (writeTy (dim (twoFactors (numbersOf (table_of names.entry.pool.now names.entry.table.now)) l r (frac k 1))))) }
 {
-    let names = NameTable { pool, table };
     match names.order(l, r) {
         Ordering::Less => put_pair(dst, out, l, 1, r, num),
         Ordering::Equal => put_pair(dst, out, l, 1, r, num),
@@ -126,26 +132,16 @@ fn put_factors(pool: &[u8], table: &[u32], dst: &mut [u32], out: usize, l: u32, 
 }
 
 // What multiplying and dividing issue, by the right operand's power 1 or -1: nine records.
-pub fn put_product(
-    pool: &[u8],
-    table: &[u32],
-    dst: &mut [u32],
-    out: usize,
-    v: u32,
-    l: u32,
-    r: u32,
-    num: u32,
-)
-    requires good { Good pool.now table.now }
-    requires l_bound { l < get_or table.now 0 0 }
-    requires r_bound { r < get_or table.now 0 0 }
-    requires out_bound { out < 2 ^ 57 }
-    ensures { (o : Two) → PowerIs o num → dst.new ≡ sets dst.old (out * 4) (words (collect writeCon (issuedByTwo (numbersOf (table_of pool.now table.now)) v o l r))) }
+pub fn put_product(names: NameTable, dst: &mut [u32], out: usize, o: Operands, num: u32)
+    requires left { o.left < get_or names.table.now 0 0 }
+    requires right { o.right < get_or names.table.now 0 0 }
+    requires place { out < 2 ^ 57 }
+    ensures { (t : Two) → PowerIs t num → dst.new ≡ sets dst.old (out * 4) (words (collect writeCon (issuedByTwo (numbersOf (table_of names.entry.pool.now names.entry.table.now)) o.own t o.left o.right))) }
 {
-    put_dimensions(dst, out, l, r);
+    put_dimensions(dst, out, o.left, o.right);
     put_record(dst, out + 4, View::Equal, 5);
-    put_one(dst, out + 5, View::Opened(Open::Var(v)));
-    put_factors(pool, table, dst, out + 6, l, r, num);
+    put_one(dst, out + 5, View::Opened(Open::Var(o.own)));
+    put_factors(names, dst, out + 6, o.left, o.right, num);
 }
 
 // That v is the scalar: three records.

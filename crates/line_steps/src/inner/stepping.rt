@@ -1,72 +1,69 @@
 // Writes the constraints of a line, step by step.
-ghost use Rattle.std.specs.Prelude.{◌≡◌, ℕ, ◌+◌, ◌*◌, ◌/◌, ◌^◌, ◌≤◌, ◌<◌, length, get_or};
+ghost use Rattle.std.specs.Prelude.{◌≡◌, ℕ, ◌+◌, ◌*◌, ◌^◌, ◌≤◌, ◌<◌, length, get_or};
 ghost use Rattle.std.proofs.Math.Option.{some};
 ghost use Rattle.std.proofs.lemmas.List.Edits.{sets};
 ghost use Rattle.rules.specs.Base.{collect};
 ghost use Rattle.rules.specs.Names.{table_of, numbersOf};
 ghost use Rattle.rules.specs.Writing.{words, writeCon};
-ghost use Rattle.laws.specs.NameTable.{Good};
 ghost use Rattle.records.specs.Views.{longAt};
 ghost use Rattle.rules.specs.Steps.{Two, LineStep, isTwo, stepKind, stepNumbers};
-ghost use Rattle.rules.specs.Lines.{issuedByTwo, issued, constraints};
+ghost use Rattle.rules.specs.Lines.{issuedByTwo, issued};
 ghost use Rattle.line_steps.specs.StepPuts.{Says, deedBy};
 ghost use Rattle.line_steps.specs.StepSizes.{Sized};
+ghost use Rattle.line_steps.specs.Stacked.{operandsAt};
 
-use super::issuing::{put_choice, put_comparison, put_given, put_power, put_product, put_sum};
+use super::issuing::{
+    Operands, put_choice, put_comparison, put_given, put_power, put_product, put_sum,
+};
 use lines::inner::fresh::place_of;
+use lines::inner::given::{Line, StepWords};
+use names::tables::NameTable;
 use records::seen::length_at;
 
 // The power -1 as a word.
 const MINUS_ONE: u32 = 4294967295;
 
 // What a step with two operands issues, by its number.
-fn put_two(pool: &[u8], table: &[u32], dst: &mut [u32], out: usize, v: u32, l: u32, r: u32, k: u32)
-    requires good { Good pool.now table.now }
-    requires l_bound { l < get_or table.now 0 0 }
-    requires r_bound { r < get_or table.now 0 0 }
-    requires out_bound { out < 2 ^ 57 }
-    ensures { (o : Two) → stepKind k stepNumbers ≡ some (isTwo o) → dst.new ≡ sets dst.old (out * 4) (words (collect writeCon (issuedByTwo (numbersOf (table_of pool.now table.now)) v o l r))) }
+fn put_two(names: NameTable, dst: &mut [u32], out: usize, o: Operands, k: u32)
+    requires left { o.left < get_or names.table.now 0 0 }
+    requires right { o.right < get_or names.table.now 0 0 }
+    requires place { out < 2 ^ 57 }
+    ensures { (t : Two) → stepKind k stepNumbers ≡ some (isTwo t) → dst.new ≡ sets dst.old (out * 4) (words (collect writeCon (issuedByTwo (numbersOf (table_of names.entry.pool.now names.entry.table.now)) o.own t o.left o.right))) }
 {
     match k {
-        3 => put_sum(dst, out, v, l, r),
-        4 => put_sum(dst, out, v, l, r),
-        5 => put_product(pool, table, dst, out, v, l, r, 1),
-        6 => put_product(pool, table, dst, out, v, l, r, MINUS_ONE),
-        _ => put_comparison(dst, out, v, l, r),
+        3 => put_sum(dst, out, o.own, o.left, o.right),
+        4 => put_sum(dst, out, o.own, o.left, o.right),
+        5 => put_product(names, dst, out, o, 1),
+        6 => put_product(names, dst, out, o, MINUS_ONE),
+        _ => put_comparison(dst, out, o.own, o.left, o.right),
     }
 }
 
-// What a step issues: v is its variable, r the top of the stack, l and q stand below.
-fn put_step(
-    pool: &[u8],
-    table: &[u32],
-    types: &[u32],
-    lines: &[u32],
+// What a step issues.
+pub fn put_step(
+    names: NameTable,
+    line: Line,
+    step: StepWords,
+    o: Operands,
     dst: &mut [u32],
     out: usize,
-    v: u32,
-    q: u32,
-    l: u32,
-    r: u32,
-    k: u32,
-    a: u32,
-    b: u32,
-    c: u32,
 )
-    requires good { Good pool.now table.now }
-    requires by_index { (s : LineStep ℕ) × Says types.now lines.now k a b c s }
-    requires types_len_bound { length types.now ≤ 8192 }
-    requires l_bound { l < get_or table.now 0 0 }
-    requires r_bound { r < get_or table.now 0 0 }
-    requires out_bound { out < 2 ^ 57 }
-    ensures { (s : LineStep ℕ) → Says types.now lines.now k a b c s → dst.new ≡ sets dst.old (out * 4) (words (collect writeCon (issued (numbersOf (table_of pool.now table.now)) v (deedBy s q l r)))) }
+    requires said { (s : LineStep ℕ) × Says line.types.now line.earlier.now step.kind step.a step.b step.c s }
+    requires few { length line.types.now ≤ 8192 }
+    requires left { o.left < get_or names.table.now 0 0 }
+    requires right { o.right < get_or names.table.now 0 0 }
+    requires place { out < 2 ^ 57 }
+    ensures { (s : LineStep ℕ) → Says line.entry.types.now line.entry.earlier.now step.kind step.a step.b step.c s → dst.new ≡ sets dst.old (out * 4) (words (collect writeCon (issued (numbersOf (table_of names.entry.pool.now names.entry.table.now)) o.own (deedBy s o.condition o.left o.right)))) }
 {
-    match k {
-        1 => put_given(types, a as usize, dst, out, v),
-        2 => put_given(types, place_of(lines, a) as usize, dst, out, v),
-        7 => put_power(dst, out, v, r, b, c),
-        9 => put_choice(dst, out, v, q, l, r),
-        _ => put_two(pool, table, dst, out, v, l, r, k),
+    match step.kind {
+        1 => put_given(line.types, step.a as usize, dst, out, o.own),
+        2 => {
+            let at = place_of(line.earlier, step.a) as usize;
+            put_given(line.types, at, dst, out, o.own)
+        }
+        7 => put_power(dst, out, o.own, o.right, step.b, step.c),
+        9 => put_choice(dst, out, o.own, o.condition, o.left, o.right),
+        _ => put_two(names, dst, out, o, step.kind),
     }
 }
 
@@ -78,13 +75,13 @@ fn given_size(types: &[u32], at: u32) -> usize
 }
 
 // How many records a step issues.
-pub fn step_size(types: &[u32], lines: &[u32], k: u32, a: u32, b: u32) -> usize
-    ensures { (c : ℕ) (s : LineStep ℕ) → Says types.now lines.now k a b c s → Sized result s }
+pub fn step_size(line: Line, step: StepWords) -> usize
+    ensures { (c : ℕ) (s : LineStep ℕ) → Says line.entry.types.now line.entry.earlier.now step.kind step.a step.b c s → Sized result s }
 {
-    match k {
-        1 => given_size(types, a),
-        2 => given_size(types, place_of(lines, a)),
-        7 => { if b == 0 { 5 } else { 6 } }
+    match step.kind {
+        1 => given_size(line.types, step.a),
+        2 => given_size(line.types, place_of(line.earlier, step.a)),
+        7 => { if step.b == 0 { 5 } else { 6 } }
         9 => 9,
         5 => 9,
         6 => 9,
@@ -98,36 +95,15 @@ fn operand(stack: &[u32], i: usize) -> u32
     if i < stack.len() { stack[i] } else { 0 }
 }
 
-// What the step at a place issues, with the operands that stand on the stack from p on.
-pub fn put_at(
-    pool: &[u8],
-    table: &[u32],
-    types: &[u32],
-    lines: &[u32],
-    steps: &[u32],
-    v: u32,
-    stack: &[u32],
-    p: usize,
-    i: usize,
-    dst: &mut [u32],
-    out: usize,
-)
-    requires good { Good pool.now table.now }
-    requires by_index { (s : LineStep ℕ) × Says types.now lines.now (get_or steps.now (i * 4) 0) (get_or steps.now (i * 4 + 1) 0) (get_or steps.now (i * 4 + 2) 0) (get_or steps.now (i * 4 + 3) 0) s }
-    requires types_len_bound { length types.now ≤ 8192 }
-    requires by_index_2 { (j : ℕ) → get_or stack.now j 0 < get_or table.now 0 0 }
-    requires out_bound { out < 2 ^ 57 }
-    requires p_bound { p < 2 ^ 57 }
-    requires i_in_bounds { i < length steps.now / 4 }
-    ensures { (s : LineStep ℕ) → Says types.now lines.now (get_or steps.now (i * 4) 0) (get_or steps.now (i * 4 + 1) 0) (get_or steps.now (i * 4 + 2) 0) (get_or steps.now (i * 4 + 3) 0) s → dst.new ≡ sets dst.old (out * 4) (words (collect writeCon (issued (numbersOf (table_of pool.now table.now)) v (deedBy s (get_or stack.now (p + 2) 0) (get_or stack.now (p + 1) 0) (get_or stack.now p 0))))) }
+// The operands that stand on the stack from p on, 0 where it has fewer; `own` is the step's variable.
+pub fn operands_at(stack: &[u32], p: usize, own: u32) -> Operands
+    requires { p < 2 ^ 57 }
+    ensures { result ≡ operandsAt stack.now p own }
 {
-    let q = operand(stack, p + 2);
-    let l = operand(stack, p + 1);
-    let r = operand(stack, p);
-    let j = i * 4;
-    let k = steps[j];
-    let a = steps[j + 1];
-    let b = steps[j + 2];
-    let c = steps[j + 3];
-    put_step(pool, table, types, lines, dst, out, v, q, l, r, k, a, b, c);
+    Operands {
+        own,
+        condition: operand(stack, p + 2),
+        left: operand(stack, p + 1),
+        right: operand(stack, p),
+    }
 }

@@ -1,11 +1,12 @@
 // Writes all constraints of a line.
 ghost use Rattle.std.specs.Prelude.{List, ℕ, ◌/◌, ◌≤◌, ◌<◌, length, get_or};
 ghost use Rattle.rules.specs.Steps.{LineStep};
-ghost use Rattle.laws.specs.NameTable.{Good};
 ghost use Rattle.line_steps.specs.StepLoop.{LineIs, SetPut};
 
-use super::stepping::{put_at, step_size};
-use lines::inner::operands_of;
+use super::stepping::{operands_at, put_step, step_size};
+use lines::inner::given::Line;
+use lines::inner::{operands_of, step_at};
+use names::tables::NameTable;
 use rules::{RECORDS, Refusal};
 
 // A line has at most 128 steps.
@@ -13,60 +14,46 @@ const STEPS: usize = 128;
 
 // The constraints of a whole line, with a stack that grows downward from its end.
 fn put_steps(
-    pool: &[u8],
-    table: &[u32],
-    types: &[u32],
-    lines: &[u32],
-    steps: &[u32],
-    names: &[u32],
+    names: NameTable,
+    line: Line,
     stack: &mut [u32],
     dst: &mut [u32],
 ) -> Result<usize, Refusal>
-    requires good { Good pool.now table.now }
-    requires by_index { (ss : List (LineStep ℕ)) × LineIs pool.now table.now types.now lines.now steps.now ss }
-    requires types_len_bound { length types.now ≤ 8192 }
-    requires steps_in_bounds { length steps.now / 4 ≤ length names.now }
-    requires steps_in_bounds_2 { length steps.now / 4 ≤ length stack.old }
-    requires stack_len_bound { length stack.old ≤ 128 }
-    requires by_index_2 { (j : ℕ) → get_or stack.old j 0 < get_or table.now 0 0 }
-    requires by_index_3 { (j : ℕ) → get_or names.now j 0 < get_or table.now 0 0 }
-    ensures { SetPut pool.now table.now types.now lines.now steps.now names.now dst.old dst.new result }
+    requires read { (ss : List (LineStep ℕ)) × LineIs names.pool.now names.table.now line.types.now line.earlier.now line.steps.now ss }
+    requires few { length line.types.now ≤ 8192 }
+    requires lent { length line.steps.now / 4 ≤ length line.lent.now }
+    requires deep { length line.steps.now / 4 ≤ length stack.old }
+    requires low { length stack.old ≤ 128 }
+    requires zeros { (j : ℕ) → get_or stack.old j 0 < get_or names.table.now 0 0 }
+    requires held { (j : ℕ) → get_or line.lent.now j 0 < get_or names.table.now 0 0 }
+    ensures { SetPut names.entry.pool.now names.entry.table.now line.entry.types.now line.entry.earlier.now line.entry.steps.now line.entry.lent.now dst.old dst.new result }
 {
     let mut p = stack.len();
     let mut out: usize = 0;
-    for i in 0..steps.len() / 4 {
-        let k = steps[i * 4];
-        let n = step_size(types, lines, k, steps[i * 4 + 1], steps[i * 4 + 2]);
+    for i in 0..line.steps.len() / 4 {
+        let step = step_at(line.steps, i);
+        let n = step_size(line, step);
         if RECORDS - out < n {
             return Err(Refusal::TooLarge);
         }
-        let v = names[i];
-        put_at(pool, table, types, lines, steps, v, stack, p, i, dst, out);
+        let own = line.lent[i];
+        put_step(names, line, step, operands_at(stack, p, own), dst, out);
         out += n;
-        p = p + operands_of(k) - 1;
-        stack[p] = v;
+        p = p + operands_of(step.kind) - 1;
+        stack[p] = own;
     }
     Ok(out)
 }
 
 /// Writes the constraints of a line, with a stack of its own: how many records; or 8, since they would pass 2,048.
-pub fn put_line(
-    pool: &[u8],
-    table: &[u32],
-    types: &[u32],
-    lines: &[u32],
-    steps: &[u32],
-    names: &[u32],
-    dst: &mut [u32],
-) -> Result<usize, Refusal>
-    requires good { Good pool.now table.now }
-    requires by_index { (ss : List (LineStep ℕ)) × LineIs pool.now table.now types.now lines.now steps.now ss }
-    requires types_len_bound { length types.now ≤ 8192 }
-    requires steps_in_bounds { length steps.now / 4 ≤ length names.now }
-    requires steps_len_bound { length steps.now ≤ 512 }
-    requires by_index_2 { (j : ℕ) → get_or names.now j 0 < get_or table.now 0 0 }
-    ensures { SetPut pool.now table.now types.now lines.now steps.now names.now dst.old dst.new result }
+pub fn put_line(names: NameTable, line: Line, dst: &mut [u32]) -> Result<usize, Refusal>
+    requires read { (ss : List (LineStep ℕ)) × LineIs names.pool.now names.table.now line.types.now line.earlier.now line.steps.now ss }
+    requires few { length line.types.now ≤ 8192 }
+    requires lent { length line.steps.now / 4 ≤ length line.lent.now }
+    requires short { length line.steps.now ≤ 512 }
+    requires held { (j : ℕ) → get_or line.lent.now j 0 < get_or names.table.now 0 0 }
+    ensures { SetPut names.entry.pool.now names.entry.table.now line.entry.types.now line.entry.earlier.now line.entry.steps.now line.entry.lent.now dst.old dst.new result }
 {
-    let mut stack = [0u32; STEPS];
-    put_steps(pool, table, types, lines, steps, names, &mut stack, dst)
+    let mut stack = [0; STEPS];
+    put_steps(names, line, &mut stack, dst)
 }

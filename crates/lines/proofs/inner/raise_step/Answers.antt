@@ -3,8 +3,8 @@ use mathlib.Core.Path.{◌∙◌}
 use Rattle.lines.specs.Entry.{raise-made, raise-not}
 use Rattle.lines.proofs.inner.raise_step.Goals as goal
 
-pub returns-then-a-eq0 : goal.returns-then-a-eq0
-returns-then-a-eq0 c = λ t rs lines. c.or_malformed.ensures ∙ c.raise_here.ensures t rs lines ∙ raise-made t rs lines _ _ _ c.if-a-eq0.true
+pub returns-then-step-eq0 : goal.returns-then-step-eq0
+returns-then-step-eq0 c = λ t rs lines. c.or_malformed.ensures ∙ c.raise_here.ensures t rs lines ∙ raise-made t rs lines _ _ _ c.if-step-eq0.true
 
-pub returns-else-a-eq0 : goal.returns-else-a-eq0
-returns-else-a-eq0 c = λ t rs lines. raise-not t rs lines _ _ _ c.if-a-eq0.false
+pub returns-else-step-eq0 : goal.returns-else-step-eq0
+returns-else-step-eq0 c = λ t rs lines. raise-not t rs lines _ _ _ c.if-step-eq0.false

@@ -5,7 +5,7 @@ use Rattle.lines.specs.StepLists.{isGiven}
 use Rattle.lines.proofs.inner.type_here.Goals as goal
 
 pub returns-in-Some : goal.returns-in-Some
-returns-in-Some c = let g = c.in-Some.ensures in sym (type-yes _ _ _ (record { word = λ i. (c.shared_slice_known-3-1.given i).fits }) _ g.0 _ g.1)
+returns-in-Some c = let g = c.in-Some.ensures in sym (type-yes _ _ _ (record { word = λ i. (c.type_inv.types i).fits }) _ g.0 _ g.1)
 
 pub returns-in-None : goal.returns-in-None
-returns-in-None c = sym (ap isGiven (type-none _ _ _ (record { word = λ i. (c.shared_slice_known-3-1.given i).fits }) _ c.in-None.ensures))
+returns-in-None c = sym (ap isGiven (type-none _ _ _ (record { word = λ i. (c.type_inv.types i).fits }) _ c.in-None.ensures))

@@ -4,4 +4,4 @@ use Rattle.lines.specs.Used.{long-small}
 use Rattle.line_steps.proofs.inner.stepping.given_size.Goals as goal
 
 pub overflow_add-result : goal.overflow_add-result
-overflow_add-result c = omega (arith, c.length_at.ensures, long-small c.args.types.now (record { word = λ i. (c.shared_slice_known-1.given i).fits }) c.args.at)
+overflow_add-result c = omega (arith, c.length_at.ensures, long-small c.args.types.now (record { word = λ i. (c.type_inv.types i).fits }) c.args.at)

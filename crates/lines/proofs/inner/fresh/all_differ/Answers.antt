@@ -1,5 +1,5 @@
 -- `inner::fresh::all_differ` meets its contract.
-use mathlib.Core.Path.{refl, sym, ap, ◌∙◌}
+use mathlib.Core.Path.{sym, ap, ◌∙◌}
 use Rattle.rules.specs.Calls.{differ}
 use Rattle.lines.specs.Used.{differ-hit, differ-miss, rest-none}
 use Rattle.lines.proofs.inner.fresh.all_differ.Goals as goal

@@ -1,5 +1,5 @@
 -- `inner::fresh::is_among` meets its contract.
-use mathlib.Core.Path.{refl, sym, ap, ◌∙◌}
+use mathlib.Core.Path.{sym, ap, ◌∙◌}
 use lib.Dec.{eqb}
 use Rattle.rules.specs.Base.{any}
 use Rattle.lines.specs.Used.{among-hit, among-miss, rest-none}

@@ -1,5 +1,5 @@
 -- `inner::fresh::is_fresh` meets its contract.
-use mathlib.Core.Path.{refl, sym, ◌∙◌}
+use mathlib.Core.Path.{sym, ◌∙◌}
 use Rattle.lines.proofs.inner.fresh.is_fresh.Goals as goal
 
 pub returns-then-all_differ : goal.returns-then-all_differ

@@ -1,5 +1,5 @@
 -- `inner::fresh::line_uses` meets its contract.
-use mathlib.Core.Path.{refl, sym, ◌∙◌}
+use mathlib.Core.Path.{sym, ◌∙◌}
 use Rattle.lines.specs.Used.{used-hit, used-miss, used-none}
 use Rattle.lines.proofs.inner.fresh.line_uses.Goals as goal
 
