@@ -61,4 +61,3 @@ pub each-side : {A B C D : Type 0} {R : A → B → Type 0} {S : C → D → Typ
 unfolding each
 each-side f g h end = both (end, refl)
 each-side f g h (beside {a} {b} {as'} {bs} r s) = onward _ _ (h a b r) (λ c d t. onward _ _ (each-side f g h s) (λ cs ds u. both (beside t u.0, ap suc u.1)))
-

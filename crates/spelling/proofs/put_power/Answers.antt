@@ -10,6 +10,6 @@ use Rattle.spelling.proofs.put_power.Goals as goal
 pub returns : goal.returns
 returns g c =
     let e : is_yes (Exp-dec (frac (signed c.args.b) c.args.d) one) ≡ false =
-        ap (λ (c : Exp). is_yes (Exp-dec c one)) (sym c.from_words.ensures) ∙ sym c.is_one.ensures ∙ c.if-is_one.false in
+    ap (λ (c : Exp). is_yes (Exp-dec c one)) (sym c.from_words.ensures) ∙ sym c.is_one.ensures ∙ c.if-is_one.false in
     rw (some_power (signed c.args.b) c.args.d e)
     (then _ c.in_ok-put.ensures (then _ c.in_ok-put_numerator.ensures (then _ c.in_ok-put_denominator.ensures c.put-2.ensures)))
