@@ -38,16 +38,16 @@ pub fn write_text(
         return Err(Refusal::ShortBuffer);
     }
     is_set(pool, table, set)?;
-    write_good(pool, table, set, text)
+    let names = NameTable { pool, table };
+    write_good(names, set, text)
 }
 
 // Writes a well formed set to a buffer that has room for every set.
-fn write_good(pool: &[u8], table: &[u32], set: &[u32], text: &mut [u8]) -> Result<usize, Refusal>
+fn write_good(names: NameTable, set: &[u32], text: &mut [u8]) -> Result<usize, Refusal>
     requires room { 354304 ≤ length text.old }
-    requires good { setCall pool.now table.now set.now ≡ got tt }
-    ensures { listedAs result text.new ≡ writeTextCall pool.now table.now set.now text.old }
+    requires good { setCall names.pool.now names.table.now set.now ≡ got tt }
+    ensures { listedAs result text.new ≡ writeTextCall names.entry.pool.now names.entry.table.now set.now text.old }
 {
-    let names = NameTable::new(pool, table)?;
     let mut front = Front {
         bytes: text,
         len: 0,

@@ -1,39 +1,26 @@
 -- `write_good` meets its contract: by what the lines put.
 use Rattle.std.specs.Prelude.{Ok}
 use Rattle.std.proofs.Common.{sym, ap, ◌∙◌, arith}
-use Rattle.laws.specs.Lists.{clash}
-use Rattle.laws.specs.NameTable.{good-given}
 use Rattle.text.specs.Told.{listedAs}
 use Rattle.text.specs.Whole.{has-room, set-in, text-fits, text-given}
 use Rattle.text.proofs.write_good.Goals as goal
 
-pub returns-in_err-names : goal.returns-in_err-names
-returns-in_err-names c =
-    let a = c.args in
-    let x = set-in a.pool.now a.table.now a.set.now a.text.now c.requires.room (record { word = λ i. (c.type_inv.set i).fits }) c.requires.good in
-    clash (c.in_err-names.ensures.answer ∙ good-given x.1.good)
-
 pub write_lines-requires : goal.write_lines-requires
 write_lines-requires c =
     let a = c.args in
-    let s = c.in_ok-names.ensures.same in
-    let x = set-in a.pool.now a.table.now a.set.now a.text.now c.requires.room (record { word = λ i. (c.type_inv.set i).fits }) c.requires.good in
-    record { near = omega (arith, x.1.few); there = (x.0, rw (s.0, s.1) x.1.lines) }
+    let x = set-in a.names.pool.now a.names.table.now a.set.now a.text.now c.requires.room (record { word = λ i. (c.type_inv.set i).fits }) c.requires.good in
+    record { near = omega (arith, x.1.few); there = (x.0, x.1.lines) }
 
 pub unreachable-requires : goal.unreachable-requires
 unreachable-requires c =
-    let n = c.in_ok-names.names in
-    let s = c.in_ok-names.ensures.same in
-    let x = set-in n.pool.now n.table.now c.args.set.now c.args.text.now c.requires.room (record { word = λ i. (c.type_inv.set i).fits })
-    (rw (s.0, s.1) c.requires.good) in
+    let n = c.args.names in
+    let x = set-in n.pool.now n.table.now c.args.set.now c.args.text.now c.requires.room (record { word = λ i. (c.type_inv.set i).fits }) c.requires.good in
     has-room (text-fits n.pool.now n.table.now c.args.set.now c.args.text.now c.requires.room x.0 x.1) (c.in-Err.ensures x.0 x.1.lines)
 
 pub returns : goal.returns
 returns c =
-    let n = c.in_ok-names.names in
-    let s = c.in_ok-names.ensures.same in
-    let x = set-in n.pool.now n.table.now c.args.set.now c.args.text.now c.requires.room (record { word = λ i. (c.type_inv.set i).fits })
-    (rw (s.0, s.1) c.requires.good) in
+    let n = c.args.names in
+    let x = set-in n.pool.now n.table.now c.args.set.now c.args.text.now c.requires.room (record { word = λ i. (c.type_inv.set i).fits }) c.requires.good in
     let p = c.in-Ok.ensures x.0 x.1.lines in
     let told = text-given n.pool.now n.table.now c.args.set.now c.args.text.now c.requires.room x.0 x.1 c.write_lines.new.to.fits p in
-    rw (← s.0, ← s.1) (ap (listedAs (Ok c.write_lines.new.to.len)) (c.text-1.given.1.1 (sym p.same)) ∙ told)
+    ap (listedAs (Ok c.write_lines.new.to.len)) (c.text-1.given.1.1 (sym p.same)) ∙ told
