@@ -3,21 +3,9 @@ use mathlib.Core.Path.{sym, ◌∙◌}
 use Rattle.statements.specs.Statements.{comment-done, signs-done}
 use Rattle.statements.proofs.inner.enter_from.Goals as goal
 
-pub next_is-requires : goal.next_is-requires
-next_is-requires c =
-    c.requires.ready.within
-
-pub sign-at-requires : goal.sign-at-requires
-sign-at-requires c =
-    c.requires.ready.within
-
 pub returns-then-next_is : goal.returns-then-next_is
 returns-then-next_is c =
     comment-done c.requires.within c.requires.ready (sym c.if-next_is.true ∙ c.next_is.ensures) c.sign-at.ensures
-
-pub enter_constraint-end-requires : goal.enter_constraint-end-requires
-enter_constraint-end-requires c =
-    c.requires.ready
 
 pub returns : goal.returns
 returns c =

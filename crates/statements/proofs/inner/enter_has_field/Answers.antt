@@ -1,5 +1,4 @@
 -- `inner::enter_has_field` meets its contract.
-use native.Mathlib.Omega.{arith}
 use Rattle.terms.specs.Effects.{kept_then, kept_above, kept-count, ready-count, ready_on, ready-next}
 use Rattle.terms.specs.Inside.{inside-column, inside-spelled}
 use Rattle.phrases.specs.Parts.{from-counted}
@@ -7,32 +6,10 @@ use mathlib.Core.List.{[]}
 use Rattle.statements.specs.Statements.{inside-quote, hasfield-done}
 use Rattle.statements.proofs.inner.enter_has_field.Goals as goal
 
-pub next_sign-q-requires : goal.next_sign-q-requires
-next_sign-q-requires c =
-    c.requires.within
-
-pub count-now-requires : goal.count-now-requires
-count-now-requires c =
-    record { small = omega arith; few = (λ k n e. (c.requires.room k n e).records) }
-
-pub sign-a-requires : goal.sign-a-requires
-sign-a-requires c =
-    c.next_sign-q.ensures.within
-
-pub mark-b-requires : goal.mark-b-requires
-mark-b-requires c = c.sign-a.ensures.within
-
 pub enter_type-l-requires : goal.enter_type-l-requires
 enter_type-l-requires c =
     ready_on (inside-spelled _) c.mark-b.ensures.reads
     (ready_on (inside-spelled _) c.sign-a.ensures (ready_on inside-column c.next_sign-q.ensures (ready-count 1 _ c.requires c.count-now.ensures)))
-
-pub mark-d-requires : goal.mark-d-requires
-mark-d-requires c =
-    c.enter_type-l.ensures.reads.within
-
-pub mark-e-requires : goal.mark-e-requires
-mark-e-requires c = c.mark-d.ensures.reads.within
 
 pub read_named-x-requires : goal.read_named-x-requires
 read_named-x-requires c =
@@ -43,17 +20,10 @@ pub quote-g-requires : goal.quote-g-requires
 quote-g-requires c =
     (c.read_named-x.ensures []).reads.within
 
-pub mark-at-requires : goal.mark-at-requires
-mark-at-requires c = c.quote-g.ensures.within
-
 pub enter_type-t-requires : goal.enter_type-t-requires
 enter_type-t-requires c =
     ready_on (inside-spelled _) c.mark-at.ensures.reads
     (ready_on inside-quote c.quote-g.ensures (ready-next (c.read_named-x.ensures [])))
-
-pub mark-end-requires : goal.mark-end-requires
-mark-end-requires c =
-    c.enter_type-t.ensures.reads.within
 
 pub put_head-requires : goal.put_head-requires
 put_head-requires c =

@@ -3,21 +3,9 @@ use mathlib.Core.Path.{sym, ◌∙◌}
 use Rattle.statements.specs.Statements.{stated-field, stated-type}
 use Rattle.statements.proofs.inner.enter_stated.Goals as goal
 
-pub next_is-requires : goal.next_is-requires
-next_is-requires c =
-    c.requires.within
-
-pub enter_has_field-requires : goal.enter_has_field-requires
-enter_has_field-requires c =
-    c.requires
-
 pub returns-then-next_is : goal.returns-then-next_is
 returns-then-next_is c =
     stated-field (sym c.if-next_is.true ∙ c.next_is.ensures) c.enter_has_field.ensures
-
-pub enter_typed-requires : goal.enter_typed-requires
-enter_typed-requires c =
-    c.requires
 
 pub returns : goal.returns
 returns c =

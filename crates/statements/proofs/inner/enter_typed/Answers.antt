@@ -1,5 +1,4 @@
 -- `inner::enter_typed` meets its contract.
-use native.Mathlib.Omega.{arith}
 use mathlib.Core.Path.{sym, subst, ◌∙◌}
 use Rattle.terms.specs.Effects.{kept_then, kept_above, kept-count, ready-count, ready_on, ready-next}
 use Rattle.terms.specs.Inside.{inside-column, inside-spelled}
@@ -7,25 +6,9 @@ use Rattle.phrases.specs.Parts.{from-counted}
 use Rattle.statements.specs.Statements.{SaysScalar, equal-done, dim-done, scalar-done, none_done}
 use Rattle.statements.proofs.inner.enter_typed.Goals as goal
 
-pub next_sign-q-requires : goal.next_sign-q-requires
-next_sign-q-requires c =
-    c.requires.within
-
-pub count-now-requires : goal.count-now-requires
-count-now-requires c =
-    record { small = omega arith; few = (λ k n e. (c.requires.room k n e).records) }
-
 pub enter_type-l-requires : goal.enter_type-l-requires
 enter_type-l-requires c =
     ready_on inside-column c.next_sign-q.ensures (ready-count 1 _ c.requires c.count-now.ensures)
-
-pub next_sign-e-requires : goal.next_sign-e-requires
-next_sign-e-requires c =
-    c.enter_type-l.ensures.reads.within
-
-pub mark-at-requires : goal.mark-at-requires
-mark-at-requires c =
-    c.next_sign-e.ensures.within
 
 pub enter_type-t-requires : goal.enter_type-t-requires
 enter_type-t-requires c =
@@ -44,14 +27,6 @@ returns-then-b-eq126 c =
     c.next_sign-e.ensures (sym c.byte_at-b.ensures ∙ c.if-b-eq126.true) c.mark-at.ensures.reads
     c.enter_type-t.ensures _ c.put_head.ensures
 
-pub mark-m-requires : goal.mark-m-requires
-mark-m-requires c =
-    c.next_sign-e.ensures.within
-
-pub sign-at-requires : goal.sign-at-requires
-sign-at-requires c =
-    c.mark-m.ensures.reads.within
-
 pub put_head-requires-then-b-eq58 : goal.put_head-requires-then-b-eq58
 put_head-requires-then-b-eq58 c =
     kept_above (kept_then (kept-count 1 _ c.requires c.count-now.ensures _) c.enter_type-l.ensures.kept)
@@ -62,18 +37,6 @@ returns-then-b-eq58 c =
     (from-counted c.next_sign-q.result c.args.from.stand c.place_of.ensures c.count-now.ensures c.enter_type-l.ensures)
     c.next_sign-e.ensures (sym c.byte_at-b.ensures ∙ c.if-b-eq58.true) c.mark-m.ensures.reads
     c.sign-at.ensures _ c.put_head-then-b-eq58.ensures
-
-pub says_scalar-requires : goal.says_scalar-requires
-says_scalar-requires c =
-    c.next_sign-q.ensures.within
-
-pub mark-m-requires-then-says_scalar : goal.mark-m-requires-then-says_scalar
-mark-m-requires-then-says_scalar c =
-    c.next_sign-e.ensures.within
-
-pub sign-at-requires-then-says_scalar : goal.sign-at-requires-then-says_scalar
-sign-at-requires-then-says_scalar c =
-    c.mark-m-then-says_scalar.ensures.reads.within
 
 pub put_head-requires-then-says_scalar : goal.put_head-requires-then-says_scalar
 put_head-requires-then-says_scalar c =
