@@ -12,21 +12,9 @@ use Rattle.phrases.specs.Rows.{tys-start, tys-turn, tys-fall, tys-done, fields-s
 use Rattle.phrases.specs.Rows.{some-types, no-types, some-fields, no_fields, done-by, type-zero, type-some}
 use Rattle.phrases.proofs.inner.types.+types.Goals as goal
 
-pub enter_arguments-next_is-requires : goal.enter_arguments-next_is-requires
-enter_arguments-next_is-requires t c =
-    c.requires.within
-
-pub enter_arguments-mark-a-requires : goal.enter_arguments-mark-a-requires
-enter_arguments-mark-a-requires t c =
-    c.requires.within
-
 pub enter_arguments-enter_types-ts-requires : goal.enter_arguments-enter_types-ts-requires
 enter_arguments-enter_types-ts-requires t c =
     (omega (arith, c.decreases), ready_on (inside-spelled _) c.mark-a.ensures.reads c.requires)
-
-pub enter_arguments-mark-at-requires : goal.enter_arguments-mark-at-requires
-enter_arguments-mark-at-requires t c =
-    c.enter_types-ts.ensures.reads.within
 
 pub enter_arguments-returns-then-not-next_is : goal.enter_arguments-returns-then-not-next_is
 enter_arguments-returns-then-not-next_is t c =
@@ -36,10 +24,6 @@ pub enter_arguments-returns : goal.enter_arguments-returns
 enter_arguments-returns t c =
     some-types (type _) (sym c.if-not-next_is.false ∙ c.next_is.ensures) c.mark-a.ensures.reads
     c.enter_types-ts.ensures c.mark-at.ensures.reads
-
-pub enter_field-next_sign-q-requires : goal.enter_field-next_sign-q-requires
-enter_field-next_sign-q-requires t c =
-    c.requires.within
 
 pub enter_field-read_named-x-requires : goal.enter_field-read_named-x-requires
 enter_field-read_named-x-requires t c =
@@ -57,8 +41,7 @@ enter_field-count-now-requires t c =
     }
 
 pub enter_field-mark-c-requires : goal.enter_field-mark-c-requires
-enter_field-mark-c-requires t c =
-    (c.read_named-x.ensures []).reads.within
+enter_field-mark-c-requires t c = (c.read_named-x.ensures []).reads.within
 
 pub enter_field-enter_type-end-requires : goal.enter_field-enter_type-end-requires
 enter_field-enter_type-end-requires t c = (
@@ -88,13 +71,6 @@ pub enter_fields-loop-a-init : goal.enter_fields-loop-a-init
 enter_fields-loop-a-init t c =
     fields-start (type _) (ready-next c.enter_field-first.ensures) (omega arith)
 
-pub enter_fields-next_is-requires : goal.enter_fields-next_is-requires
-enter_fields-next_is-requires t c = c.loop-a.invariant.ready.within
-
-pub enter_fields-mark-a-requires : goal.enter_fields-mark-a-requires
-enter_fields-mark-a-requires t c =
-    c.loop-a.invariant.ready.within
-
 pub enter_fields-enter_field-f-requires : goal.enter_fields-enter_field-f-requires
 enter_fields-enter_field-f-requires t c =
     (omega (arith, c.decreases), ready_on (inside-spelled _) c.mark-a.ensures.reads c.loop-a.invariant.ready)
@@ -114,23 +90,9 @@ pub enter_fields-returns : goal.enter_fields-returns
 enter_fields-returns t c =
     fields-done (type _) c.enter_field-first.ensures c.loop-a.invariant (sym c.loop-a-test.false ∙ c.next_is.ensures)
 
-pub enter_function-next_sign-q-requires : goal.enter_function-next_sign-q-requires
-enter_function-next_sign-q-requires t c =
-    c.requires.within
-
 pub enter_function-count-now-requires : goal.enter_function-count-now-requires
 enter_function-count-now-requires t c =
     record { small = omega arith; few = (λ k n e. (c.requires.room k n e).records) }
-
-pub enter_function-sign-a-requires : goal.enter_function-sign-a-requires
-enter_function-sign-a-requires t c =
-    c.next_sign-q.ensures.within
-
-pub enter_function-mark-b-requires : goal.enter_function-mark-b-requires
-enter_function-mark-b-requires t c = c.sign-a.ensures.within
-
-pub enter_function-mark-c-requires : goal.enter_function-mark-c-requires
-enter_function-mark-c-requires t c = c.mark-b.ensures.reads.within
 
 pub enter_function-enter_params-ps-requires : goal.enter_function-enter_params-ps-requires
 enter_function-enter_params-ps-requires t c = (
@@ -140,24 +102,12 @@ enter_function-enter_params-ps-requires t c = (
       (ready_on inside-column c.next_sign-q.ensures (ready-count 1 _ c.requires c.count-now.ensures)))),
 )
 
-pub enter_function-mark-f-requires : goal.enter_function-mark-f-requires
-enter_function-mark-f-requires t c =
-    c.enter_params-ps.ensures.reads.within
-
-pub enter_function-sign-g-requires : goal.enter_function-sign-g-requires
-enter_function-sign-g-requires t c =
-    c.mark-f.ensures.reads.within
-
 pub enter_function-enter_type-t-requires : goal.enter_function-enter_type-t-requires
 enter_function-enter_type-t-requires t c = (
   omega (arith, c.decreases),
   ready_on (inside-spelled _) c.sign-g.ensures
       (ready_on (inside-spelled _) c.mark-f.ensures.reads (ready-next c.enter_params-ps.ensures)),
 )
-
-pub enter_function-mark-at-requires : goal.enter_function-mark-at-requires
-enter_function-mark-at-requires t c =
-    c.enter_type-t.ensures.reads.within
 
 pub enter_function-put_head-requires : goal.enter_function-put_head-requires
 enter_function-put_head-requires t c =
@@ -172,20 +122,9 @@ enter_function-returns t c =
     c.mark-f.ensures.reads c.sign-g.ensures c.enter_type-t.ensures c.mark-at.ensures.reads _
     c.put_head.ensures
 
-pub enter_list-next_sign-q-requires : goal.enter_list-next_sign-q-requires
-enter_list-next_sign-q-requires t c =
-    c.requires.within
-
 pub enter_list-count-now-requires : goal.enter_list-count-now-requires
 enter_list-count-now-requires t c =
     record { small = omega arith; few = (λ k n e. (c.requires.room k n e).records) }
-
-pub enter_list-sign-a-requires : goal.enter_list-sign-a-requires
-enter_list-sign-a-requires t c =
-    c.next_sign-q.ensures.within
-
-pub enter_list-mark-b-requires : goal.enter_list-mark-b-requires
-enter_list-mark-b-requires t c = c.sign-a.ensures.within
 
 pub enter_list-enter_type-t-requires : goal.enter_list-enter_type-t-requires
 enter_list-enter_type-t-requires t c = (
@@ -193,10 +132,6 @@ enter_list-enter_type-t-requires t c = (
   ready_on (inside-spelled _) c.mark-b.ensures.reads
       (ready_on (inside-spelled _) c.sign-a.ensures (ready_on inside-column c.next_sign-q.ensures (ready-count 1 _ c.requires c.count-now.ensures))),
 )
-
-pub enter_list-mark-at-requires : goal.enter_list-mark-at-requires
-enter_list-mark-at-requires t c =
-    c.enter_type-t.ensures.reads.within
 
 pub enter_list-put_head-requires : goal.enter_list-put_head-requires
 enter_list-put_head-requires t c =
@@ -208,21 +143,9 @@ enter_list-returns t c =
     (from-counted c.next_sign-q.result c.args.from.stand c.place_of.ensures c.count-now.ensures c.enter_type-t.ensures)
     c.mark-at.ensures.reads _ c.put_head.ensures
 
-pub enter_members-next_is-requires : goal.enter_members-next_is-requires
-enter_members-next_is-requires t c =
-    c.requires.within
-
-pub enter_members-mark-a-requires : goal.enter_members-mark-a-requires
-enter_members-mark-a-requires t c =
-    c.requires.within
-
 pub enter_members-enter_fields-fs-requires : goal.enter_members-enter_fields-fs-requires
 enter_members-enter_fields-fs-requires t c =
     (omega (arith, c.decreases), ready_on (inside-spelled _) c.mark-a.ensures.reads c.requires)
-
-pub enter_members-mark-at-requires : goal.enter_members-mark-at-requires
-enter_members-mark-at-requires t c =
-    c.enter_fields-fs.ensures.reads.within
 
 pub enter_members-returns-then-not-next_is : goal.enter_members-returns-then-not-next_is
 enter_members-returns-then-not-next_is t c =
@@ -232,10 +155,6 @@ pub enter_members-returns : goal.enter_members-returns
 enter_members-returns t c =
     some-fields (type _) (sym c.if-not-next_is.false ∙ c.next_is.ensures) c.mark-a.ensures.reads
     c.enter_fields-fs.ensures c.mark-at.ensures.reads
-
-pub enter_params-next_is-requires : goal.enter_params-next_is-requires
-enter_params-next_is-requires t c =
-    c.requires.within
 
 pub enter_params-returns-then-next_is : goal.enter_params-returns-then-next_is
 enter_params-returns-then-next_is t c =
@@ -249,17 +168,9 @@ pub enter_params-returns : goal.enter_params-returns
 enter_params-returns t c =
     some-params (type _) (sym c.if-next_is.false ∙ c.next_is.ensures) c.enter_types.ensures
 
-pub enter_structure-next_sign-q-requires : goal.enter_structure-next_sign-q-requires
-enter_structure-next_sign-q-requires t c =
-    c.requires.within
-
 pub enter_structure-count-now-requires : goal.enter_structure-count-now-requires
 enter_structure-count-now-requires t c =
     record { small = omega arith; few = (λ k n e. (c.requires.room k n e).records) }
-
-pub enter_structure-mark-a-requires : goal.enter_structure-mark-a-requires
-enter_structure-mark-a-requires t c =
-    c.next_sign-q.ensures.within
 
 pub enter_structure-read_named-x-requires : goal.enter_structure-read_named-x-requires
 enter_structure-read_named-x-requires t c =
@@ -286,18 +197,10 @@ enter_structure-returns t c =
     (from-counted c.next_sign-q.result c.args.from.stand c.place_of.ensures c.count-now.ensures (c.read_named-x.ensures _))
     c.enter_arguments-ts.ensures c.enter_members-fs.ensures _ c.put_head.ensures
 
-pub enter_type-next_sign-q-requires : goal.enter_type-next_sign-q-requires
-enter_type-next_sign-q-requires t c =
-    c.requires.within
-
 pub enter_type-returns-then-d-eq0 : goal.enter_type-returns-then-d-eq0
 enter_type-returns-then-d-eq0 t c =
     type-zero _ c.if-d-eq0.true c.next_sign-q.ensures
     (c.too_deep.ensures _ _ _ (ready_on inside-column c.next_sign-q.ensures c.requires))
-
-pub enter_type-overflow_sub-d : goal.enter_type-overflow_sub-d
-enter_type-overflow_sub-d t c =
-    omega (arith, c.if-d-eq0.false)
 
 pub enter_type-enter_function-requires : goal.enter_type-enter_function-requires
 enter_type-enter_function-requires t c =
@@ -308,10 +211,6 @@ enter_type-returns-in-70 t c =
     type-some _ c.if-d-eq0.false c.next_sign-q.ensures
     (done-by (by-function _ (sym c.byte_at.ensures ∙ c.in-70.is)) c.enter_function.ensures)
 
-pub enter_type-overflow_sub-d-in-76 : goal.enter_type-overflow_sub-d-in-76
-enter_type-overflow_sub-d-in-76 t c =
-    omega (arith, c.if-d-eq0.false)
-
 pub enter_type-enter_list-requires : goal.enter_type-enter_list-requires
 enter_type-enter_list-requires t c =
     (omega (arith, c.decreases, c.if-d-eq0.false), ready_on inside-column c.next_sign-q.ensures c.requires)
@@ -320,10 +219,6 @@ pub enter_type-returns-in-76 : goal.enter_type-returns-in-76
 enter_type-returns-in-76 t c =
     type-some _ c.if-d-eq0.false c.next_sign-q.ensures
     (done-by (by-list _ (sym c.byte_at.ensures ∙ c.in-76.is)) c.enter_list.ensures)
-
-pub enter_type-overflow_sub-d-in-64 : goal.enter_type-overflow_sub-d-in-64
-enter_type-overflow_sub-d-in-64 t c =
-    omega (arith, c.if-d-eq0.false)
 
 pub enter_type-enter_structure-requires : goal.enter_type-enter_structure-requires
 enter_type-enter_structure-requires t c =
@@ -351,13 +246,6 @@ enter_types-enter_type-first-requires t c =
 pub enter_types-loop-a-init : goal.enter_types-loop-a-init
 enter_types-loop-a-init t c =
     tys-start (type _) (ready-next c.enter_type-first.ensures) (omega arith)
-
-pub enter_types-next_is-requires : goal.enter_types-next_is-requires
-enter_types-next_is-requires t c = c.loop-a.invariant.ready.within
-
-pub enter_types-mark-a-requires : goal.enter_types-mark-a-requires
-enter_types-mark-a-requires t c =
-    c.loop-a.invariant.ready.within
 
 pub enter_types-enter_type-end-requires : goal.enter_types-enter_type-end-requires
 enter_types-enter_type-end-requires t c =
