@@ -9,12 +9,6 @@ use Rattle.dimensions.proofs.inner.factors.more_factors.Goals as goal
 pub loop-a-init : goal.loop-a-init
 loop-a-init c = following-here c.requires.ready c.requires.well
 
-pub next_is-requires : goal.next_is-requires
-next_is-requires c = c.loop-a.invariant.ready.within
-
-pub mark-a-requires : goal.mark-a-requires
-mark-a-requires c = c.loop-a.invariant.ready.within
-
 pub enter_factor-f-requires : goal.enter_factor-f-requires
 enter_factor-f-requires c =
     let inv = c.loop-a.invariant in

@@ -8,6 +8,3 @@ overflow_add-result c = omega (arith, c.new_in.ensures, new-small c.in-Ok.was)
 
 pub returns-in-Ok : goal.returns-in-Ok
 returns-in-Ok c = after-number _ _ _ c.in-Ok.is (omega (arith, c.new_in.ensures))
-
-pub returns-in-Err : goal.returns-in-Err
-returns-in-Err c = rw c.in-Err.is
