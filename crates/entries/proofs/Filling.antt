@@ -14,107 +14,81 @@ use lib.ListN.{length, get_or, set, length-set}
 use lib.Seq.{get_or-set_same, get_or-set_other}
 use Rattle.records.specs.ByView.{in_reach}
 use Rattle.records.specs.Good.{Ends, GoodTy}
-use Rattle.entries.specs.Entries.{bit, taken}
+use Rattle.entries.specs.Entries.{bit, taken, slotWord}
 use Rattle.laws.specs.Lists.{true≢false}
-use Rattle.entries.specs.Tables.{Fits, Sound, Filled}
+use Rattle.entries.specs.Tables.{Fits, WordFor, Filled}
 
 -- ══ A slot ══
 
-pub bit-none : (w : ℕ) → w ≡ 0 → 0 ≡ bit w
-unfolding bit
-bit-none zero e = refl
-bit-none (suc w) e = absurd (omega arith)
+bit-few : (o : Option ℕ) → bit o ≤ 1
+bit-few None = omega arith
+bit-few (Some p) = omega arith
 
-pub bit-one : (w : ℕ) → (w ≡ 0 → ⊥) → 1 ≡ bit w
-unfolding bit
-bit-one zero f = absurd (f refl)
-bit-one (suc w) f = refl
+pub bit-yes : (o : Option ℕ) → true ≡ is_some o → 1 ≡ bit o
+bit-yes None e = absurd (true≢false e)
+bit-yes (Some p) e = refl
 
-pub bit-few : (w : ℕ) → bit w ≤ 1
-unfolding bit
-bit-few zero = omega arith
-bit-few (suc w) = omega arith
+pub bit-no : (o : Option ℕ) → false ≡ is_some o → 0 ≡ bit o
+bit-no None e = refl
+bit-no (Some p) e = absurd (true≢false (sym e))
 
-module _ (pool table types : List ℕ) (x w : ℕ) where
-  pub fits-none : w ≡ 0 → Fits pool table types x w
-  fits-none e at q = absurd (omega arith)
+module _ (pool table types : List ℕ) (x : ℕ) where
+  fits-none : Fits pool table types x None
+  fits-none at q = absurd (let z : ◌≡◌ {A = ℕ} 0 1 = cc in omega arith)
 
-  fits-there : (e : ℕ) → x < get_or table 0 0 → Ends (GoodTy pool table 0 types 64 (w - 1)) (Some e) → Fits pool table types x w
-  fits-there e l (t, g) at q =
-      let i : w - 1 ≡ at = omega arith in
-      (l, (t, (e, subst (λ (k : ℕ). GoodTy pool table 0 types 64 k t e) i g)))
-
-  not_there : (w ≡ 0 → ⊥) → Ends (GoodTy pool table 0 types 64 (w - 1)) None → Fits pool table types x w → ⊥
-  not_there f bad fits =
-      let i : w ≡ w - 1 + 1 = omega (arith, pos w f) in
-      let (l, (t, (e, g))) = fits (w - 1) i in
-      bad t e g
-    where
-      pos : (w : ℕ) → (w ≡ 0 → ⊥) → 0 < w
-      pos zero f = absurd (f refl)
-      pos (suc w) f = omega arith
+  pub word-none : WordFor pool table types x None (Some 0)
+  word-none = (fits-none, refl)
 
   -- whether a type starts at the place of a held name decides
-  pub sound : (w ≡ 0 → ⊥) → x < get_or table 0 0 → (r : Option ℕ) → Ends (GoodTy pool table 0 types 64 (w - 1)) r → Sound pool table types x w (is_some r)
-  sound f l None bad = not_there f bad
-  sound f l (Some e) g = fits-there e l g
+  module _ (place : ℕ) where
+    pub word-there : (r : Option ℕ) → x < get_or table 0 0 → Ends (GoodTy pool table 0 types 64 place) r → is_some r ≡ true → Fits pool table types x (Some place)
+    word-there None l bad i = absurd (true≢false (sym i))
+    word-there (Some e) l (t, g) i = λ at q. let k : place ≡ at = cc in (l, (t, (e, subst (λ (j : ℕ). GoodTy pool table 0 types 64 j t e) k g)))
 
-  pub not-held : (w ≡ 0 → ⊥) → (x < get_or table 0 0 → ⊥) → Fits pool table types x w → ⊥
-  not-held f g fits = go w f fits
-    where
-      go : (w : ℕ) → (w ≡ 0 → ⊥) → Fits pool table types x w → ⊥
-      go zero f fits = f refl
-      go (suc w) f fits = g (fits w (omega arith)).0
+    pub none_there : (r : Option ℕ) → Ends (GoodTy pool table 0 types 64 place) r → is_some r ≡ false → Fits pool table types x (Some place) → ⊥
+    none_there None bad i fits = let (l, (t, (e, g))) = fits place refl in bad t e g
+    none_there (Some e) h i fits = absurd (true≢false i)
 
-  pub is-sound : (b : Bool) → Sound pool table types x w b → b ≡ true → Fits pool table types x w
-  is-sound true h e = h
-  is-sound false h e = absurd (true≢false (sym e))
+    pub not-held : (x < get_or table 0 0 → ⊥) → Fits pool table types x (Some place) → ⊥
+    not-held f fits = f (fits place refl).0
 
-  pub not_sound : (b : Bool) → Sound pool table types x w b → b ≡ false → Fits pool table types x w → ⊥
-  not_sound true h e = absurd (true≢false e)
-  not_sound false h e = h
-
-  -- a slot that fits is small
-  pub fits-small : Fits pool table types x w → w ≤ length types / 4
-  fits-small fits = go w fits
-    where
-      go : (w : ℕ) → Fits pool table types x w → w ≤ length types / 4
-      go zero fits = omega arith
-      go (suc w) fits = let (l, (t, (e, g))) = fits w (omega arith) in omega (arith, in_reach types t w g.held)
+    -- the place of a slot that fits is small
+    pub fits-small : Fits pool table types x (Some place) → place < length types / 4
+    fits-small fits = let (l, (t, (e, g))) = fits place refl in omega (arith, in_reach types t place g.held)
 
 -- ══ The loop ══
 
-module _ (pool table types slots places₀ : List ℕ) where
+module _ (pool table types : List ℕ) (slots : List (Option ℕ)) (places₀ : List ℕ) where
   pub record SoFar (places : List ℕ) (n v : ℕ) : Type 0 where
     pub within : v ≤ 256
     pub few : n ≤ v
     pub same : length places ≡ length places₀
     pub counted : n ≡ taken slots v
-    pub fits : (x : ℕ) → x < v → Fits pool table types x (get_or slots x 0)
-    pub copied : (x : ℕ) → x < v → get_or places x 0 ≡ get_or slots x 0
+    pub fits : (x : ℕ) → x < v → Fits pool table types x (get_or slots x None)
+    pub copied : (x : ℕ) → x < v → get_or places x 0 ≡ slotWord (get_or slots x None)
 
   pub at-start : SoFar places₀ 0 0
   unfolding taken
   at-start = record { within = omega arith; few = omega arith; same = refl; counted = refl; fits = λ x l. absurd (omega arith); copied = λ x l. absurd (omega arith) }
 
   module _ (places : List ℕ) (n v : ℕ) (s : SoFar places n v) (l : v < 256) where
-    add-more : (b : ℕ) → b ≡ bit (get_or slots v 0) → n + b ≡ taken slots (v + 1)
+    add-more : (b : ℕ) → b ≡ bit (get_or slots v None) → n + b ≡ taken slots (v + 1)
     unfolding taken
     add-more b e = rw (add-one v, s.counted, e)
 
-    pub one_more : 256 ≤ length places₀ → (b : ℕ) → b ≡ bit (get_or slots v 0) → Fits pool table types v (get_or slots v 0) → SoFar (set places v (get_or slots v 0)) (n + b) (v + 1)
-    one_more long b e fits =
-        let w : ℕ = get_or slots v 0 in
+    pub one_more : 256 ≤ length places₀ → (word m : ℕ) → word ≡ slotWord (get_or slots v None) → m ≡ n + bit (get_or slots v None) → Fits pool table types v (get_or slots v None) → SoFar (set places v word) m (v + 1)
+    one_more long word m e q fits =
+        let o : Option ℕ = get_or slots v None in
         let i : v < length places = omega (arith, s.same) in
         record {
           within = omega arith;
-          few = omega (arith, bit-few w, s.few);
-          same = length-set places v w ∙ s.same;
-          counted = add-more b e;
-          fits = below_more (λ x. Fits pool table types x (get_or slots x 0)) v s.fits fits;
-          copied = below_more (λ x. get_or (set places v w) x 0 ≡ get_or slots x 0) v
-              (λ x h. get_or-set_other places v x w 0 (λ q. omega arith) ∙ s.copied x h)
-              (get_or-set_same places v w 0 i);
+          few = omega (arith, q, bit-few o, s.few);
+          same = length-set places v word ∙ s.same;
+          counted = q ∙ add-more (bit o) refl;
+          fits = below_more (λ x. Fits pool table types x (get_or slots x None)) v s.fits fits;
+          copied = below_more (λ x. get_or (set places v word) x 0 ≡ slotWord (get_or slots x None)) v
+              (λ x h. get_or-set_other places v x word 0 (λ q. omega arith) ∙ s.copied x h)
+              (get_or-set_same places v word 0 i ∙ e);
         }
 
   pub at-end : (places : List ℕ) (n v : ℕ) → SoFar places n v → 256 ≤ v → length types % 4 ≡ 0 → (repeated : Bool) → repeated ≡ false → (count : ℕ) → Filled pool table types slots repeated count places (eqb n count)

@@ -3,6 +3,8 @@ use Rattle.std.specs.Prelude.{◌≡◌, Bool, not, List, [], ◌∷◌, ltb, le
 use Rattle.std.proofs.Math.Path.{refl, ap}
 use Rattle.std.proofs.Common.{sym, ◌∙◌, add-one, length-set, get_or-set_same, get_or-set_other}
 use Rattle.std.proofs.Math.Bool.{true, false}
+use Rattle.std.specs.Prelude as std
+use Rattle.std.specs.Option.{is_some}
 use Rattle.std.proofs.Math.Option.{Option, none, some}
 use Prim.Native.Nat.{ℕ, zero, suc, ◌+◌, ◌≤◌, ◌<◌}
 use native.Mathlib.Omega.{arith}
@@ -11,33 +13,65 @@ use Rattle.std.proofs.Math.Dec.{eqb}
 use Rattle.std.proofs.lemmas.List.{length-replicate}
 use Rattle.rules.specs.Base.{any}
 use Rattle.rules.specs.Calls.{Entry, differ}
+use Rattle.rules.specs.Refusals.{toldOption}
 use Rattle.laws.specs.Lists.{true≢false, and_left, and_right, not-true}
 use Rattle.laws.specs.ReadLists.{Every}
 use Rattle.entries.specs.Entries.{variablesOf, place_of, slot_of, notedBelow, slots_of, bit, taken}
 
 -- ══ The slot of a name ══
 
-noted-length : (es : List Entry) (k : ℕ) → length (notedBelow es k).at ≡ 256
+noted-length : (es : List Entry) (k : ℕ) → length (notedBelow es k) ≡ 256
 unfolding notedBelow
-noted-length es zero = length-replicate {A = ℕ} 256 0
-noted-length es (suc k) = length-set (notedBelow es k).at k (slot_of (place_of es k)) ∙ noted-length es k
+noted-length es zero = length-replicate {A = std.Option ℕ} 256 std.None
+noted-length es (suc k) = length-set (notedBelow es k) k (slot_of (place_of es k)) ∙ noted-length es k
 
-noted-at : (es : List Entry) (k x : ℕ) → x < k → k ≤ 256 → get_or (notedBelow es k).at x 0 ≡ slot_of (place_of es x)
+noted-at : (es : List Entry) (k x : ℕ) → x < k → k ≤ 256 → get_or (notedBelow es k) x std.None ≡ slot_of (place_of es x)
 unfolding notedBelow
 noted-at es zero x h l = absurd (omega arith)
 noted-at es (suc k) x h l = go (eqb x k) refl (λ i. noted-at es k x i (omega arith))
   where
-    go : (b : Bool) → eqb x k ≡ b → (x < k → get_or (notedBelow es k).at x 0 ≡ slot_of (place_of es x)) → get_or (set (notedBelow es k).at k (slot_of (place_of es k))) x 0 ≡ slot_of (place_of es x)
+    go : (b : Bool) → eqb x k ≡ b → (x < k → get_or (notedBelow es k) x std.None ≡ slot_of (place_of es x)) → get_or (set (notedBelow es k) k (slot_of (place_of es k))) x std.None ≡ slot_of (place_of es x)
     go true e ih =
         let q : x ≡ k = eqb-true x k e in
-        let i : k < length (notedBelow es k).at = omega (arith, noted-length es k) in
-        rw q (get_or-set_same (notedBelow es k).at k (slot_of (place_of es k)) 0 i)
+        let i : k < length (notedBelow es k) = omega (arith, noted-length es k) in
+        rw q (get_or-set_same (notedBelow es k) k (slot_of (place_of es k)) std.None i)
     go false e ih =
         let f = eqb-false x k e in
-        get_or-set_other (notedBelow es k).at k x (slot_of (place_of es k)) 0 f ∙ ih (omega arith)
+        get_or-set_other (notedBelow es k) k x (slot_of (place_of es k)) std.None f ∙ ih (omega arith)
 
-pub slot_at : (es : List Entry) (x : ℕ) → x < 256 → get_or (slots_of es).at x 0 ≡ slot_of (place_of es x)
+pub slot_at : (es : List Entry) (x : ℕ) → x < 256 → get_or (slots_of es) x std.None ≡ slot_of (place_of es x)
 slot_at es x h = noted-at es 256 x h (omega arith)
+
+-- what looking up answers, as a slot
+pub slot-told : (r : std.Option ℕ) → slot_of (toldOption r) ≡ r
+slot-told std.None = refl
+slot-told (std.Some p) = refl
+
+pub noted-more : (es : List Entry) (k : ℕ) (s : List (std.Option ℕ)) (r : std.Option ℕ) → s ≡ notedBelow es k → toldOption r ≡ place_of es k → set s k r ≡ notedBelow es (k + 1)
+unfolding notedBelow
+noted-more es k s r e f = rw (add-one k, e, sym (slot-told r) ∙ ap slot_of f)
+
+-- a variable is found just where some entry is for it
+there : Option ℕ → Bool
+there none = false
+there (some p) = true
+
+stands-place : (es : List Entry) (x : ℕ) → there (place_of es x) ≡ any (eqb x) (variablesOf es)
+unfolding any there
+stands-place [] x = refl
+stands-place (e ∷ es) x = go (eqb e.variable x) refl (stands-place es x)
+  where
+    go : (b : Bool) → eqb e.variable x ≡ b → there (place_of es x) ≡ any (eqb x) (variablesOf es) → there (place_of (e ∷ es) x) ≡ any (eqb x) (variablesOf (e ∷ es))
+    go true q h = rw (q, eq-eqb x e.variable (sym (eqb-true e.variable x q)))
+    go false q h = rw (q, ne_eqb x e.variable (λ i. eqb-false e.variable x q (sym i))) h
+
+told-there : (r : std.Option ℕ) → is_some r ≡ there (toldOption r)
+unfolding there
+told-there std.None = refl
+told-there (std.Some p) = refl
+
+pub found-is : (es : List Entry) (x : ℕ) (r : std.Option ℕ) → toldOption r ≡ place_of es x → is_some r ≡ any (eqb x) (variablesOf es)
+found-is es x r e = told-there r ∙ ap there e ∙ stands-place es x
 
 -- ══ Counting ══
 
@@ -46,16 +80,15 @@ one-if none = 0
 one-if (some p) = 1
 
 bit-slot : (o : Option ℕ) → bit (slot_of o) ≡ one-if o
-unfolding bit
 bit-slot none = refl
-bit-slot (some p) = rw (add-one p)
+bit-slot (some p) = refl
 
 -- how many names below k have an entry
 bound : List Entry → ℕ → ℕ
 bound es zero = 0
 bound es (suc k) = bound es k + one-if (place_of es k)
 
-taken-bound : (es : List Entry) (k : ℕ) → k ≤ 256 → taken (slots_of es).at k ≡ bound es k
+taken-bound : (es : List Entry) (k : ℕ) → k ≤ 256 → taken (slots_of es) k ≡ bound es k
 unfolding taken bound
 taken-bound es zero h = refl
 taken-bound es (suc k) h = rw (slot_at es k (omega arith), bit-slot (place_of es k), taken-bound es k (omega arith))
@@ -147,10 +180,10 @@ all-bound (e ∷ es) k d h =
     let n = unbound es e.variable (differ-first e.variable (variablesOf es) d) in
     omega (arith, bound-more e es k h.0 n, all-bound es k (differ-rest e.variable (variablesOf es) d) h.1)
 
-pub taken-below : (es : List Entry) → taken (slots_of es).at 256 ≡ length es → Below 256 es
+pub taken-below : (es : List Entry) → taken (slots_of es) 256 ≡ length es → Below 256 es
 taken-below es h = bound_all es 256 (sym (taken-bound es 256 (omega arith)) ∙ h)
 
-pub below-taken : (es : List Entry) → differ (variablesOf es) ≡ true → Below 256 es → taken (slots_of es).at 256 ≡ length es
+pub below-taken : (es : List Entry) → differ (variablesOf es) ≡ true → Below 256 es → taken (slots_of es) 256 ≡ length es
 below-taken es d h = taken-bound es 256 (omega arith) ∙ all-bound es 256 d h
 
 -- ══ Each entry counts ══

@@ -1,4 +1,5 @@
 pub mod Entries
+pub mod Slotted
 pub mod Tables
 pub mod Counting
 pub mod Given

@@ -22,15 +22,7 @@ use Rattle.records.specs.Good.{Chain, Chained, GoodBound, numbers, goodOpen}
 use Rattle.records.specs.Given.{list-yes, list-told}
 use Rattle.records.specs.Schemes.{bound-reader}
 use Rattle.queries.specs.Marks.{Marks}
-use Rattle.entries.specs.Entries.{variablesOf, slots_of}
-use Rattle.entries.specs.declared.inner.Slots.{Slots}
 use Rattle.judging.specs.Told.{judgedAs}
-
--- the slots, the repeat and the count of entries; where they are too many, the repeat is not looked for
-pub record Slotted (es : List Entry) (s : Slots) (repeated : Bool) (count : ℕ) : Type 0 where
-  pub slots : s ≡ slots_of es
-  pub again : count ≤ 2048 → repeated ≡ not (differ (variablesOf es))
-  pub many : count ≡ length es
 
 -- 10
 abbrev pub lentAll : List ℕ → List ℕ → List ℕ → Got (Unit {0})

@@ -30,18 +30,19 @@ use Rattle.entries.specs.Placing.{placed}
 use Rattle.entries.specs.Tables.{Made}
 use Rattle.entries.specs.declared.inner.Slots.{Slots}
 use Rattle.trials.specs.Trials.{SetThere}
-use Rattle.judging.specs.Entry.{Slotted, Entered, judgedRest}
+use Rattle.entries.specs.Slotted.{Slotted}
+use Rattle.judging.specs.Entry.{Entered, judgedRest}
 
 module _ (pool table set types : List ℕ) (cs : List (Con ℕ)) (es : List Entry) (n : Entered pool table set types cs) where
   -- ══ Entries ══
 
-  module _ {s : Slots} {repeated : Bool} {count : ℕ} {places : List ℕ} {r : Bool} (h : Slotted es s repeated count) (few : count ≤ 2048) (m : Made pool table types s.at repeated count places r) where
+  module _ {s : Slots} {places : List ℕ} {r : Bool} (h : Slotted es s) (few : s.count ≤ 2048) (m : Made pool table types s.places s.repeated s.count places r) where
     pub are-bound : r ≡ true → (bs : List (Binding ℕ)) × Bound pool table es types places bs
-    are-bound e = placed-yes pool table es types places (rw e at (placed pool table types n.good es s.at repeated count places r (ap (λ (x : Slots). x.at) h.slots) (h.again few) h.many m))
+    are-bound e = placed-yes pool table es types places (rw e at (placed pool table types n.good es s.places s.repeated s.count places r h.slots (h.again few) h.many m))
 
     pub no-entries : (bounds : List ℕ) → r ≡ false → refused 1 ≡ judgedRest pool table es types bounds cs
     no-entries bounds e =
-        let q = placed-no pool table es types places (rw e at (placed pool table types n.good es s.at repeated count places r (ap (λ (x : Slots). x.at) h.slots) (h.again few) h.many m)) in
+        let q = placed-no pool table es types places (rw e at (placed pool table types n.good es s.places s.repeated s.count places r h.slots (h.again few) h.many m)) in
         sym (rw q)
 
   -- ══ Past them ══

@@ -5,9 +5,9 @@ ghost use Rattle.rules.specs.Calls.{Entry, judgedSet, judgeCall};
 ghost use Rattle.rules.specs.Names.{table_of, lentTable};
 ghost use Rattle.rules.specs.Refusals.{told};
 ghost use Rattle.rules.specs.Trees.{Con};
-ghost use Rattle.laws.specs.NameTable.{Good};
+ghost use Rattle.entries.specs.Slotted.{Slotted};
 ghost use Rattle.judging.specs.Told.{judgedAs};
-ghost use Rattle.judging.specs.Entry.{lentAll, Slotted, entered, Entered, BoundsGiven, judgedRest};
+ghost use Rattle.judging.specs.Entry.{lentAll, entered, Entered, BoundsGiven, judgedRest};
 
 use entries::inner::{Slots, fill};
 use lending::inner::clear;
@@ -52,12 +52,10 @@ fn enter(
 }
 
 // Are these bounds with names that rise? Then they are marked.
-fn bounds_given(pool: &[u8], table: &[u32], bounds: &[u32], m: &mut [bool; NAMES]) -> bool
-    requires good { Good pool.now table.now }
-    requires none_marked { m.old ≡ replicate 256 false }
-    ensures { BoundsGiven pool.now table.now bounds.now m.new result }
+fn bounds_given(names: NameTable, bounds: &[u32], m: &mut [bool; NAMES]) -> bool
+    requires { m.old ≡ replicate 256 false }
+    ensures { BoundsGiven names.entry.pool.now names.entry.table.now bounds.now m.new result }
 {
-    let names = NameTable { pool, table };
     let good = bounds_good(names, 0, bounds, 0);
     if bounds.len() % 4 != 0 {
         return false;
@@ -74,35 +72,32 @@ fn bounds_given(pool: &[u8], table: &[u32], bounds: &[u32], m: &mut [bool; NAMES
 
 // Past the set: entries and bounds (1), names that are both (4), then constraint by constraint.
 fn judge_rest(
-    pool: &[u8],
-    table: &[u32],
+    names: NameTable,
     set: &[u32],
     types: &[u32],
     bounds: &[u32],
-    repeated: bool,
-    count: usize,
-    s: Slots,
+    slots: Slots,
     work: &mut [u32],
 ) -> Result<bool, Refusal>
-    requires entered { (cs : List (Con ℕ)) × Entered pool.now table.now set.now types.now cs }
-    requires slotted { (es : List Entry) × Slotted es s repeated count }
-    requires few { count ≤ 2048 }
+    requires entered { (cs : List (Con ℕ)) × Entered names.pool.now names.table.now set.now types.now cs }
+    requires slotted { (es : List Entry) × Slotted es slots }
+    requires few { slots.count ≤ 2048 }
     requires work_long { 16384 ≤ length work.old }
-    ensures { (cs : List (Con ℕ)) (es : List Entry) → Entered pool.now table.now set.now types.now cs → Slotted es s repeated count →
-        told result ≡ judgedRest pool.now table.now es types.now bounds.now cs }
+    ensures { (cs : List (Con ℕ)) (es : List Entry) → Entered names.entry.pool.now names.entry.table.now set.now types.now cs → Slotted es slots →
+        told result ≡ judgedRest names.entry.pool.now names.entry.table.now es types.now bounds.now cs }
 {
     let mut places = [0u32; NAMES];
-    if !fill(pool, table, types, repeated, count, s, &mut places) {
+    if !fill(names, types, slots, &mut places) {
         return Err(Refusal::Malformed);
     }
     let mut m = [false; NAMES];
-    if !bounds_given(pool, table, bounds, &mut m) {
+    if !bounds_given(names, bounds, &mut m) {
         return Err(Refusal::Malformed);
     }
     if !apart(set, types, &places) {
         return Err(Refusal::Mixed);
     }
-    try_all(pool, table, set, &places, types, &m, work)
+    try_all(names, set, &places, types, &m, work)
 }
 
 // All that the judge does past the check of 10, but for clearing the work buffer.
@@ -112,19 +107,18 @@ fn judge_set(
     set: &[u32],
     types: &[u32],
     bounds: &[u32],
-    repeated: bool,
-    count: usize,
-    s: Slots,
+    slots: Slots,
     work: &mut [u32],
 ) -> Result<bool, Refusal>
     requires table_lent { lentTable pool.now table.now ≡ got tt }
-    requires slotted { (es : List Entry) × Slotted es s repeated count }
+    requires slotted { (es : List Entry) × Slotted es slots }
     requires work_long { 16384 ≤ length work.old }
-    ensures { (es : List Entry) → Slotted es s repeated count →
+    ensures { (es : List Entry) → Slotted es slots →
         told result ≡ judgedSet (table_of pool.now table.now) set.now es types.now bounds.now }
 {
-    enter(pool, table, set, types, bounds, count)?;
-    judge_rest(pool, table, set, types, bounds, repeated, count, s, work)
+    enter(pool, table, set, types, bounds, slots.count)?;
+    let names = NameTable { pool, table };
+    judge_rest(names, set, types, bounds, slots, work)
 }
 
 // The whole call. Of more than 2,048 entries it is not asked whether a name repeats.
@@ -134,19 +128,17 @@ pub fn judge_slots(
     set: &[u32],
     types: &[u32],
     bounds: &[u32],
-    repeated: bool,
-    count: usize,
-    s: Slots,
+    slots: Slots,
     work: &mut [u32],
 ) -> Result<bool, Refusal>
-    requires { (es : List Entry) × Slotted es s repeated count }
-    ensures { (es : List Entry) → Slotted es s repeated count →
+    requires { (es : List Entry) × Slotted es slots }
+    ensures { (es : List Entry) → Slotted es slots →
         judgedAs result work.new ≡ judgeCall pool.now table.now set.now es types.now bounds.now work.old }
 {
     if !lent(pool, table, work) {
         return Err(Refusal::ShortBuffer);
     }
-    let answer = judge_set(pool, table, set, types, bounds, repeated, count, s, work);
+    let answer = judge_set(pool, table, set, types, bounds, slots, work);
     clear(work);
     answer
 }

@@ -1,4 +1,4 @@
-// The judge: are all constraints of a set true once the bindings of a lent slice of entries are put in, all at once?
+//! The judge: are all constraints of a set true once the bindings of a lent slice of entries are put in, all at once?
 #![tactic(auto)]
 
 pub mod inner;
@@ -10,9 +10,9 @@ ghost use Rattle.entries.specs.Entries.{told};
 ghost use Rattle.judging.specs.Told.{judgedAs};
 
 use entries::Entry;
-use entries::inner::{repeats, slots_of};
+use entries::inner::slots_of;
 use inner::judge_slots;
-use rules::{RECORDS, Refusal};
+use rules::Refusal;
 
 /// Is each constraint of the set true once the entries' bindings are put in? `bounds` are names that any dimension may stand for.
 ///
@@ -29,17 +29,5 @@ pub fn judge(
 ) -> Result<bool, Refusal>
     ensures { judgedAs result work.new ≡ judgeCall pool.now table.now set.now (told entries.now) types.now bounds.now work.old }
 {
-    let repeated = entries.len() <= RECORDS && repeats(entries);
-    let slots = slots_of(entries);
-    judge_slots(
-        pool,
-        table,
-        set,
-        types,
-        bounds,
-        repeated,
-        entries.len(),
-        slots,
-        work,
-    )
+    judge_slots(pool, table, set, types, bounds, slots_of(entries), work)
 }

@@ -1,4 +1,4 @@
-// What the contract of the judge decides: theorems, each the contract of a function that does nothing.
+//! What the contract of the judge decides: theorems, each the contract of a function that does nothing.
 ghost use Rattle.judging.specs.Theorems.{JudgeDetermined, JudgeNumbered};
 
 /// The contract of `judge` leaves no choice: two results that it allows coincide (`judge-determined`).

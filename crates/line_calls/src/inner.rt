@@ -71,7 +71,7 @@ fn confirm(
     let from = found.bindings * 4;
     let to = from + found.bounds * 4;
     mark_all(&found.words[from..to], &mut m);
-    match try_all(names.pool, names.table, set, &places, found.words, &m, work) {
+    match try_all(names, set, &places, found.words, &m, work) {
         Ok(true) => Ok(put_type(&places, found.words, v, work)),
         Ok(false) => Err(Refusal::NotConfirmed),
         Err(k) => Err(k),

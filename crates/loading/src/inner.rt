@@ -19,32 +19,31 @@ use records::seen::view_at;
 use records::{Atom, Open, View};
 
 // The factor that a record says.
+#[tactic(auto, unfolding(rules::specs::Values::value_of, rules::specs::Values::kind_of, rules::specs::Values::number_in))]
 fn factor_of(a: Atom, num: u32, den: u32) -> Factor
     ensures { valueIn result ≡ value_of (atomOf a ↑ frac (signed num) den) }
 {
     let exp = Exponent::from_words(num, den);
     match a {
+        Atom::Free(Open::Var(name)) => Factor {
+            kind: 11,
+            name,
+            exp,
+        },
+        Atom::Free(Open::Quant(name)) => Factor {
+            kind: 15,
+            name,
+            exp,
+        },
+        Atom::Free(Open::Par(name)) => Factor {
+            kind: 12,
+            name,
+            exp,
+        },
         Atom::Base(name) => Factor {
             kind: 13,
             name,
             exp,
-        },
-        Atom::Free(o) => match o {
-            Open::Var(name) => Factor {
-                kind: 11,
-                name,
-                exp,
-            },
-            Open::Quant(name) => Factor {
-                kind: 15,
-                name,
-                exp,
-            },
-            Open::Par(name) => Factor {
-                kind: 12,
-                name,
-                exp,
-            },
         },
     }
 }
@@ -55,13 +54,11 @@ pub fn load(s: &[u32], at: usize, n: usize) -> Product
     ensures { (p : Tree) → HoldsFactors s.now p at → length p ≡ n → given result ≡ productValue p }
 {
     let mut out = Product::scalar();
-    let mut i = 0;
-    while i < n {
+    for i in 0..n {
         let View::Factor(a, num, den) = view_at(s, at + i) else {
             return Product::scalar();
         };
         out = put(out, factor_of(a, num, den));
-        i = i + 1;
     }
     out
 }
@@ -91,10 +88,8 @@ pub fn store(p: Product, dst: &mut [u32], out: usize)
 {
     let n = p.len;
     put_record(dst, out, View::Dim(n as u32), n + 1);
-    let mut i = 0;
-    while i < n {
+    for i in 0..n {
         let f = p.factors[i];
         put_one(dst, out + 1 + i, view_of(f));
-        i = i + 1;
     }
 }

@@ -39,7 +39,7 @@ fn start_of(table: &[u32], k: usize) -> usize
 /// The name with the number k: that part of the pool itself.
 pub fn name_at<'a, 'b>(pool: &'a [u8], table: &'b [u32], k: usize) -> &'a [u8]
     requires laid { Laid pool.now table.now }
-    requires k_bound { k < get_or table.now 0 0 }
+    requires held { k < get_or table.now 0 0 }
     ensures { IsPart pool.entry result (heldPart pool.now table.now k) }
 {
     let start = start_of(table, k);
@@ -49,8 +49,8 @@ pub fn name_at<'a, 'b>(pool: &'a [u8], table: &'b [u32], k: usize) -> &'a [u8]
 
 // Do the ends rise within the pool, each 1 to 48 bytes after the one before?
 fn lengths_good(table: &[u32]) -> bool
-    requires in_bounds { 257 ≤ length table.now }
-    requires table_bound { get_or table.now 0 0 ≤ 256 }
+    requires long { 257 ≤ length table.now }
+    requires few { get_or table.now 0 0 ≤ 256 }
     ensures { result ≡ lengthsGood 0 (endsOf table.now) }
 {
     let n = table[0] as usize;
@@ -65,10 +65,10 @@ fn lengths_good(table: &[u32]) -> bool
     at <= POOL_BYTES
 }
 
-/// The number of a name among those from a number on: it is compared with each held name's part of the pool.
-pub fn search(pool: &[u8], table: &[u32], from: usize, name: &[u8]) -> Option<u32>
+// The number of a name among those from a number on: it is compared with each held name's part of the pool.
+fn search(pool: &[u8], table: &[u32], from: usize, name: &[u8]) -> Option<u32>
     requires laid { Laid pool.now table.now }
-    requires from_bound { from ≤ get_or table.now 0 0 }
+    requires within { from ≤ get_or table.now 0 0 }
     ensures { toldOption result ≡ number_of from name.now (drop from (names_of (table_of pool.now table.now))) }
 {
     let n = table[0] as usize;
@@ -105,7 +105,7 @@ fn digest(name: &[u8]) -> u32
 // The digests of all names, by their numbers.
 fn put_digests(pool: &[u8], table: &[u32], digests: &mut [u32])
     requires laid { Laid pool.now table.now }
-    requires in_bounds { 256 ≤ length digests.old }
+    requires room { 256 ≤ length digests.old }
     ensures { Digests pool.now table.now digests.new (get_or table.now 0 0) }
 {
     let n = table[0] as usize;
@@ -117,8 +117,8 @@ fn put_digests(pool: &[u8], table: &[u32], digests: &mut [u32])
 // Are the names of two numbers the same, byte by byte?
 fn same_names(pool: &[u8], table: &[u32], i: usize, j: usize) -> bool
     requires laid { Laid pool.now table.now }
-    requires i_bound { i < get_or table.now 0 0 }
-    requires j_bound { j < get_or table.now 0 0 }
+    requires held { i < get_or table.now 0 0 }
+    requires other { j < get_or table.now 0 0 }
     ensures { result ≡ sameBytes (nameIn pool.now table.now i) (nameIn pool.now table.now j) }
 {
     match compare(name_at(pool, table, i), name_at(pool, table, j)) {
@@ -131,8 +131,8 @@ fn same_names(pool: &[u8], table: &[u32], i: usize, j: usize) -> bool
 fn same_held(pool: &[u8], table: &[u32], digests: &[u32], i: usize, j: usize) -> bool
     requires laid { Laid pool.now table.now }
     requires digests { Digests pool.now table.now digests.now (get_or table.now 0 0) }
-    requires i_bound { i < get_or table.now 0 0 }
-    requires j_bound { j < get_or table.now 0 0 }
+    requires held { i < get_or table.now 0 0 }
+    requires other { j < get_or table.now 0 0 }
     ensures { result ≡ sameBytes (nameIn pool.now table.now i) (nameIn pool.now table.now j) }
 {
     digests[i] == digests[j] && same_names(pool, table, i, j)
@@ -142,7 +142,7 @@ fn same_held(pool: &[u8], table: &[u32], digests: &[u32], i: usize, j: usize) ->
 fn held_again(pool: &[u8], table: &[u32], digests: &[u32], k: usize) -> bool
     requires laid { Laid pool.now table.now }
     requires digests { Digests pool.now table.now digests.now (get_or table.now 0 0) }
-    requires k_bound { k < get_or table.now 0 0 }
+    requires held { k < get_or table.now 0 0 }
     ensures { result ≡ any (sameBytes (nameIn pool.now table.now k)) (drop (k + 1) (names_of (table_of pool.now table.now))) }
 {
     let n = table[0] as usize;

@@ -1,92 +1,54 @@
 // Pairs of words looked through as `entries` looks through its slice of structs.
-ghost use Rattle.std.specs.Prelude.{◌≡◌, not, ◌<◌, ◌≤◌, length};
-ghost use Rattle.entries.specs.Entries.{toldFound, place_of, slot_of, noSlots, noted, slots_of};
-ghost use Rattle.pairs.specs.Pairs.{entriesIn, stands, differFrom};
+ghost use Rattle.std.specs.Prelude.{◌≡◌, not};
+ghost use Rattle.rules.specs.Calls.{differ};
+ghost use Rattle.rules.specs.Refusals.{toldOption};
+ghost use Rattle.entries.specs.Entries.{variablesOf, place_of};
+ghost use Rattle.entries.specs.Slotted.{Slotted};
+ghost use Rattle.pairs.specs.Pairs.{entriesIn};
 
-use entries::Found;
 use entries::inner::Slots;
-use rules::NAMES;
+use rules::{NAMES, RECORDS};
 
 // What a variable is bound to: the first pair counts.
-pub fn look_up(pairs: &[u32], v: u32) -> Found
-    ensures { toldFound result ≡ place_of (entriesIn pairs.now) v }
+pub fn look_up(pairs: &[u32], v: u32) -> Option<u32>
+    ensures { toldOption result ≡ place_of (entriesIn pairs.now) v }
 {
-    let mut k: usize = 0;
-    while k + 1 < pairs.len() {
-        if pairs[k] == v {
-            return Found::At(pairs[k + 1]);
+    let mut rest = pairs;
+    while let [variable, place, behind @ ..] = rest {
+        if *variable == v {
+            return Some(*place);
         }
-        k += 2;
+        rest = behind;
     }
-    Found::Nothing
-}
-
-// Is a pair from the word k on for this variable?
-fn stands_from(pairs: &[u32], from: usize, v: u32) -> bool
-    requires { from ≤ length pairs.now }
-    ensures { result ≡ stands pairs.now from v }
-{
-    let mut k = from;
-    while k + 1 < pairs.len() {
-        if v == pairs[k] {
-            return true;
-        }
-        k += 2;
-    }
-    false
+    None
 }
 
 // Is a variable named twice?
 pub fn repeats(pairs: &[u32]) -> bool
-    ensures { result ≡ not (differFrom pairs.now 0) }
+    ensures { result ≡ not (differ (variablesOf (entriesIn pairs.now))) }
 {
-    let mut k: usize = 0;
-    while k + 1 < pairs.len() {
-        if stands_from(pairs, k + 2, pairs[k]) {
+    let mut rest = pairs;
+    while let [variable, _, behind @ ..] = rest {
+        if look_up(behind, *variable).is_some() {
             return true;
         }
-        k += 2;
+        rest = behind;
     }
     false
 }
 
-fn slot(f: Found) -> u64
-    ensures { result ≡ slot_of (toldFound f) }
+// The pairs by variable, as the judge takes its entries.
+pub fn slots_of(pairs: &[u32]) -> Slots
+    ensures { Slotted (entriesIn pairs.now) result }
 {
-    match f {
-        Found::At(x) => x as u64 + 1,
-        Found::Nothing => 0,
+    let mut places = [None; NAMES];
+    for v in 0..NAMES {
+        places[v] = look_up(pairs, v as u32);
     }
-}
-
-fn no_slots() -> Slots
-    ensures { result ≡ noSlots }
-{
-    let at = [0; NAMES];
-    Slots { at }
-}
-
-fn note(s: Slots, v: u32, f: Found) -> Slots
-    requires { v < 256 }
-    ensures { result ≡ noted s v (toldFound f) }
-{
-    let mut t = s;
-    let i = v as usize;
-    let w = slot(f);
-    t.at[i] = w;
-    t
-}
-
-// One number for each name, as the judge takes them.
-pub fn slots(pairs: &[u32]) -> Slots
-    ensures { result ≡ slots_of (entriesIn pairs.now) }
-{
-    let mut s = no_slots();
-    let mut v: u32 = 0;
-    while v < 256 {
-        let f = look_up(pairs, v);
-        s = note(s, v, f);
-        v += 1;
+    let count = pairs.len() / 2;
+    Slots {
+        places,
+        repeated: count <= RECORDS && repeats(pairs),
+        count,
     }
-    s
 }

@@ -1,4 +1,4 @@
-// The judge for callers that lend their entries as pairs of words: the same answer, with no slice of structs.
+//! The judge for callers that lend their entries as pairs of words: the same answer, with no slice of structs.
 #![tactic(auto)]
 
 pub mod inner;
@@ -8,11 +8,12 @@ ghost use Rattle.rules.specs.Calls.{judgeCall};
 ghost use Rattle.judging.specs.Told.{judgedAs};
 ghost use Rattle.pairs.specs.Pairs.{entriesIn};
 
-use inner::{repeats, slots};
+use inner::slots_of;
 use judging::inner::judge_slots;
-use rules::{RECORDS, Refusal};
+use rules::Refusal;
 
-// Yes, no or the refusal; the work buffer is left all zero.
+/// Is each constraint of the set true once the bindings of the pairs are put in: of each a variable, and the place of its type? An odd last word is not
+/// looked at. Refused as `judging::judge` refuses; the work buffer is left all zero, but for a refusal 10.
 pub fn judge_pairs(
     pool: &[u8],
     table: &[u32],
@@ -24,17 +25,5 @@ pub fn judge_pairs(
 ) -> Result<bool, Refusal>
     ensures { judgedAs result work.new ≡ judgeCall pool.now table.now set.now (entriesIn pairs.now) types.now bounds.now work.old }
 {
-    let count = pairs.len() / 2;
-    let repeated = count <= RECORDS && repeats(pairs);
-    judge_slots(
-        pool,
-        table,
-        set,
-        types,
-        bounds,
-        repeated,
-        count,
-        slots(pairs),
-        work,
-    )
+    judge_slots(pool, table, set, types, bounds, slots_of(pairs), work)
 }

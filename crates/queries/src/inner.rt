@@ -43,7 +43,7 @@ fn opens_at(s: &[u32], i: usize) -> Option<Open>
 }
 
 // The name of an open name, if it is of that kind.
-fn chosen(k: Kind, o: Open) -> Option<u32>
+pub fn chosen(k: Kind, o: Open) -> Option<u32>
     ensures { option_to_list result ≡ choose k (openOf o ∷ []) }
 {
     match o {

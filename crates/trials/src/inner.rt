@@ -4,12 +4,12 @@ ghost use Rattle.rules.specs.Base.{bounded, refused};
 ghost use Rattle.rules.specs.Judging.{failed, judge};
 ghost use Rattle.rules.specs.Refusals.{number_of, told};
 ghost use Rattle.rules.specs.Trees.{Con, Binding};
-ghost use Rattle.laws.specs.NameTable.{Good};
 ghost use Rattle.records.specs.Good.{numbers};
 ghost use Rattle.queries.specs.Marks.{Marks};
 ghost use Rattle.trials.specs.Trials.{ConStands, tested, Put, ConThere, Tried, SetThere};
 
 use meaning::inner::truth::holds;
+use names::tables::NameTable;
 use replacing::inner::flat::lines_flat;
 use replacing::inner::lines::replace_line;
 use rules::{NAMES, RECORDS, Refusal};
@@ -26,20 +26,13 @@ fn stopped(why: Refusal) -> Result<bool, Refusal>
 }
 
 // The constraint of n records at the start: is it short and flat enough, and is it true?
-fn test(
-    pool: &[u8],
-    table: &[u32],
-    w: &[u32],
-    n: usize,
-    bounds: &[bool; NAMES],
-) -> Result<bool, Refusal>
-    requires good { Good pool.now table.now }
-    requires stands { (d : Con ℕ) × ConStands pool.now table.now w.now n d }
+fn test(names: NameTable, w: &[u32], n: usize, bounds: &[bool; NAMES]) -> Result<bool, Refusal>
+    requires stands { (d : Con ℕ) × ConStands names.pool.now names.table.now w.now n d }
     requires bounds_len { length bounds.now ≡ 256 }
-    ensures { (d : Con ℕ) (xs : List ℕ) → ConStands pool.now table.now w.now n d → Marks bounds.now xs →
-        told result ≡ tested pool.now table.now xs d }
+    ensures { (d : Con ℕ) (xs : List ℕ) → ConStands names.entry.pool.now names.entry.table.now w.now n d → Marks bounds.now xs →
+        told result ≡ tested names.entry.pool.now names.entry.table.now xs d }
 {
-    if RECORDS < n || !lines_flat(pool, table, w, 0, n) {
+    if RECORDS < n || !lines_flat(names.pool, names.table, w, 0, n) {
         return Err(Refusal::TooLarge);
     }
     Ok(holds(w, 0, bounds))
@@ -47,8 +40,7 @@ fn test(
 
 // Is the constraint at a place true, with what the table says put in at the start of the work buffer? And where it ends.
 fn try_con(
-    pool: &[u8],
-    table: &[u32],
+    names: NameTable,
     set: &[u32],
     at: usize,
     places: &[u32],
@@ -56,46 +48,43 @@ fn try_con(
     bounds: &[bool; NAMES],
     work: &mut [u32],
 ) -> Result<(bool, usize), Refusal>
-    requires good { Good pool.now table.now }
-    requires there { (c : Con ℕ) × ConThere pool.now table.now set.now at c }
-    requires put { (bs : List (Binding ℕ)) × Put pool.now table.now places.now types.now bs }
+    requires there { (c : Con ℕ) × ConThere names.pool.now names.table.now set.now at c }
+    requires put { (bs : List (Binding ℕ)) × Put names.pool.now names.table.now places.now types.now bs }
     requires bounds_len { length bounds.now ≡ 256 }
     requires set_short { length set.now ≤ 8192 }
     requires work_long { 8192 ≤ length work.old }
     ensures { (c : Con ℕ) (bs : List (Binding ℕ)) (xs : List ℕ) →
-        ConThere pool.now table.now set.now at c → Put pool.now table.now places.now types.now bs → Marks bounds.now xs →
-        Tried pool.now table.now bs xs c at result }
+        ConThere names.entry.pool.now names.entry.table.now set.now at c → Put names.entry.pool.now names.entry.table.now places.now types.now bs → Marks bounds.now xs →
+        Tried names.entry.pool.now names.entry.table.now bs xs c at result }
 {
-    match replace_line(pool, table, set, at, places, types, work, 0) {
-        Ok((next, n)) => Ok((test(pool, table, work, n, bounds)?, next)),
+    match replace_line(names.pool, names.table, set, at, places, types, work, 0) {
+        Ok((next, n)) => Ok((test(names, work, n, bounds)?, next)),
         Err(why) => Ok((stopped(why)?, at)),
     }
 }
 
 // Are all constraints of the set true? The first that isn't, or has no answer, decides.
 pub fn try_all(
-    pool: &[u8],
-    table: &[u32],
+    names: NameTable,
     set: &[u32],
     places: &[u32],
     types: &[u32],
     bounds: &[bool; NAMES],
     work: &mut [u32],
 ) -> Result<bool, Refusal>
-    requires good { Good pool.now table.now }
-    requires there { (cs : List (Con ℕ)) × SetThere pool.now table.now set.now cs }
-    requires put { (bs : List (Binding ℕ)) × Put pool.now table.now places.now types.now bs }
+    requires there { (cs : List (Con ℕ)) × SetThere names.pool.now names.table.now set.now cs }
+    requires put { (bs : List (Binding ℕ)) × Put names.pool.now names.table.now places.now types.now bs }
     requires marked { (xs : List ℕ) × Marks bounds.now xs }
     requires set_short { length set.now ≤ 8192 }
     requires work_long { 8192 ≤ length work.old }
     ensures { (cs : List (Con ℕ)) (bs : List (Binding ℕ)) (xs : List ℕ) →
-        SetThere pool.now table.now set.now cs → Put pool.now table.now places.now types.now bs → Marks bounds.now xs →
-        told result ≡ judge (numbers pool.now table.now) bounded bs xs cs }
+        SetThere names.entry.pool.now names.entry.table.now set.now cs → Put names.entry.pool.now names.entry.table.now places.now types.now bs → Marks bounds.now xs →
+        told result ≡ judge (numbers names.entry.pool.now names.entry.table.now) bounded bs xs cs }
 {
     let n = set.len() / 4;
     let mut at = 0;
     while at < n {
-        let (holds, next) = try_con(pool, table, set, at, places, types, bounds, work)?;
+        let (holds, next) = try_con(names, set, at, places, types, bounds, work)?;
         if !holds {
             return Ok(false);
         }

@@ -37,7 +37,7 @@ pub name_at-requires : goal.name_at-requires
 name_at-requires c =
     let a = c.args in
     let h = held a.pool.now a.table.now a.number (rw c.in-Ok.is at c.check_number.ensures) in
-    record { laid = good-laid h.0; k_bound = h.1 }
+    record { laid = good-laid h.0; held = h.1 }
 
 pub returns-in-Ok : goal.returns-in-Ok
 returns-in-Ok c =

@@ -1,9 +1,8 @@
 // Bounds with names: do they rise, and which names are they?
 ghost use Rattle.std.specs.Prelude.{◌≡◌, List, ◌++◌, map, ℕ};
 ghost use Rattle.rules.specs.Trees as trees;
-ghost use Rattle.rules.specs.WellFormed.{is_lt, rising};
+ghost use Rattle.rules.specs.WellFormed.{rising};
 ghost use Rattle.rules.specs.Writing.{word_of};
-ghost use Rattle.names.specs.Told.{toldOrder};
 ghost use Rattle.records.specs.Good.{numbers};
 ghost use Rattle.records.specs.Holds.{openOf, HoldsBound};
 ghost use Rattle.queries.specs.Marks.{Marks};
@@ -11,10 +10,10 @@ ghost use Rattle.proposals.specs.Bounds.{BoundsThere};
 
 use names::tables::NameTable;
 use queries::inner::mark;
+use records::inner::is_less;
 use records::seen::view_at;
 use records::{Open, View};
 use rules::NAMES;
-use std::cmp::Ordering;
 
 fn number(o: Open) -> u32
     ensures { result ≡ word_of (openOf o) }
@@ -31,16 +30,6 @@ fn name_of(s: &[u32], at: usize) -> u32
     match view_at(s, at) {
         View::Bound(o) => number(o),
         _ => 0,
-    }
-}
-
-fn is_less(o: Ordering) -> bool
-    ensures { result ≡ is_lt (toldOrder o) }
-{
-    match o {
-        Ordering::Less => true,
-        Ordering::Equal => false,
-        Ordering::Greater => false,
     }
 }
 

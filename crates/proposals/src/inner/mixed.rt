@@ -1,31 +1,21 @@
 // Is no name both a variable and a parameter, in a set, in the types of a table of places, and among the variables bound there?
-ghost use Rattle.std.specs.Prelude.{◌≡◌, List, [], ◌∷◌, ◌++◌, ℕ, ◌/◌, length, option_to_list};
+ghost use Rattle.std.specs.Prelude.{◌≡◌, List, ◌++◌, ℕ, ◌/◌, length, option_to_list};
 ghost use Rattle.std.proofs.Math.Option.{Option};
 ghost use Rattle.rules.specs.Base.{collect};
 ghost use Rattle.rules.specs.Calls.{opensBinding};
 ghost use Rattle.rules.specs.Contents.{unmixed};
 ghost use Rattle.rules.specs.Names.{Bytes, numbered};
-ghost use Rattle.rules.specs.Trees.{Ty, Binding, var};
+ghost use Rattle.rules.specs.Trees.{Ty, Binding};
 ghost use Rattle.replacing.specs.Places.{SaysAt};
 ghost use Rattle.queries.specs.Marks.{Marks, Small};
 ghost use Rattle.queries.specs.Scans.{choose, opensIn};
 ghost use Rattle.proposals.specs.Mixed.{opens_of, opensBelow, Table};
 
 use queries::Kind;
-use queries::inner::{end_of, is_disjoint, mark, marks};
+use queries::inner::{chosen, end_of, is_disjoint, mark, marks};
+use records::Open;
 use replacing::inner::bound::word_at;
 use rules::NAMES;
-
-// A variable, where variables are asked for.
-fn variable(x: u32, k: Kind) -> Option<u32>
-    ensures { option_to_list result ≡ choose k (var x ∷ []) }
-{
-    match k {
-        Kind::Variables => Some(x),
-        Kind::Parameters => None,
-        Kind::Both => Some(x),
-    }
-}
 
 // Marks the names of a variable and of its type, if its word says that it has one.
 fn mark_one(types: &[u32], x: u32, w: u32, k: Kind, m: &mut [bool; NAMES])
@@ -37,7 +27,7 @@ fn mark_one(types: &[u32], x: u32, w: u32, k: Kind, m: &mut [bool; NAMES])
     }
     let at = w as usize - 1;
     let end = end_of(types, at);
-    mark(m, variable(x, k));
+    mark(m, chosen(k, Open::Var(x)));
     marks(types, at, end, k, m);
 }
 

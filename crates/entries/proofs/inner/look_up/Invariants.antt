@@ -1,10 +1,7 @@
--- What is left from i on decides.
-use Rattle.std.proofs.Common.{◌≡◌, ◌-◌, length, drop}
+-- What is left from an entry on decides.
+use Rattle.std.proofs.Common.{◌≡◌, drop}
 use Rattle.entries.proofs.Turns.{lookUp}
 use Rattle.entries.proofs.inner.look_up.Given as goal
 
-abbrev pub invariant-loop-i : goal.invariant-loop-i
-invariant-loop-i l = lookUp (drop l.i l.entries) l.v ≡ lookUp l.entries l.v
-
-abbrev pub decreases-loop-i : goal.decreases-loop-i
-decreases-loop-i l = length l.entries - l.i
+abbrev pub invariant-loop-e : goal.invariant-loop-e
+invariant-loop-e l = lookUp (drop l.e-index l.entries) l.v ≡ lookUp l.entries l.v

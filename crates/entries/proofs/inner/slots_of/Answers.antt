@@ -1,16 +1,12 @@
-use Rattle.std.proofs.Common.{◌≡◌, add-one, arith}
-use Rattle.entries.specs.Entries.{notedBelow}
+-- Each name is noted.
+use Rattle.std.proofs.Common.{refl}
+use Rattle.entries.specs.Entries.{told, notedBelow}
+use Rattle.entries.specs.Counting.{noted-more}
 use Rattle.entries.proofs.inner.slots_of.Goals as goal
 
 pub loop-v-init : goal.loop-v-init
 unfolding notedBelow
-loop-v-init c = (omega arith, c.no_slots-s.ensures)
+loop-v-init c = refl
 
 pub loop-v-preserved : goal.loop-v-preserved
-unfolding notedBelow
-loop-v-preserved c = (omega arith, rw (c.note-s.ensures, c.loop-v.invariant.1, c.look_up-f.ensures, add-one c.loop-v.v))
-
-pub returns : goal.returns
-returns c =
-    let e : c.loop-v.v ≡ 256 = omega arith in
-    rw e at c.loop-v.invariant.1
+loop-v-preserved c = noted-more (told c.args.entries.now) c.loop-v.v c.loop-v.places c.look_up.result c.loop-v.invariant c.look_up.ensures

@@ -5,6 +5,12 @@ use Rattle.std.proofs.lemmas.Result.{err_from_is_err_and}
 use Rattle.judging.specs.Entry.{came-in, kept_out}
 use Rattle.judging.proofs.inner.judge_set.Goals as goal
 
+pub invariant_of-names : goal.invariant_of-names
+invariant_of-names c =
+    let a = c.args in
+    let (es, h) = c.requires.slotted in
+    record { good = (came-in a.pool.now a.table.now a.set.now a.types.now a.bounds.now es c.requires.table_lent (sym (c.in_ok-enter.ensures es h.many))).known.good }
+
 pub judge_rest-requires : goal.judge_rest-requires
 judge_rest-requires c =
     let a = c.args in

@@ -11,7 +11,6 @@ try_all-requires c =
     let (cs, h) = c.requires.stands in
     let (bs, (ns, f)) = c.requires.answered in
     record {
-      good = c.args.names.good;
       there = (cs, h.there);
       put = (bs, put-in _ _ f (c.fill.ensures _ _ bs c.args.names.good f.listed));
       marked = (ns, marked ns (c.mark_all.ensures c.args.names.pool.now c.args.names.table.now (map (λ n. var n) ns) [] f.bounds marks-none));

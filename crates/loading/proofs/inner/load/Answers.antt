@@ -27,7 +27,7 @@ no_other : (v : View) (a : Atom) (n d : ℕ) → v ≡ view.Factor a n d → One
 no_other v a n d e k = miss others 7 tt (subst (λ (w : View). OneOf others (Declared.tag_of views.the_type w)) e k)
 
 pub loop-i-init : goal.loop-i-init
-loop-i-init c = (omega arith, given-len _ [] c.scalar-out.ensures, λ p h k. doing-start _ _ c.scalar-out.ensures)
+loop-i-init c = (given-len _ [] c.scalar-out.ensures, λ p h k. doing-start _ _ c.scalar-out.ensures)
 
 pub returns-in_default : goal.returns-in_default
 returns-in_default c p h k =
@@ -42,17 +42,16 @@ unfolding put_of
 loop-i-preserved c =
     let a = c.args in
     let more : c.loop-i.i < c.loop-i.i + 1 = omega arith in (
-      omega arith,
       rw c.put-out.ensures (omega arith),
       λ p h e.
           let j : c.loop-i.i < length p = omega arith in
           let t = holds_at a.s.now p a.at c.loop-i.i h j in
           let w = c.factor_of.ensures ∙ factor-value a.s.now t.factor (a.at + c.loop-i.i) _ _ _ t.holds (sym c.view_at.ensures ∙ c.in-Factor.is) in
-          rw c.put-out.ensures (doing-put (c.loop-i.invariant.2 p h e) _ t.factor _ _ w more (ap got t.rest)),
+          rw c.put-out.ensures (doing-put (c.loop-i.invariant.1 p h e) _ t.factor _ _ w more (ap got t.rest)),
     )
 
 pub returns : goal.returns
 returns c p h k =
-    let g = c.loop-i.invariant.2 p h k in
+    let g = c.loop-i.invariant.1 p h k in
     let few : length p ≤ c.loop-i.i = omega arith in
     g.is ∙ ap productValue (sym (got-injective (doing-done g (ap got (drop_of_length-le p few)))))

@@ -8,7 +8,4 @@ use Rattle.products.specs.Steps.{Doing}
 use Rattle.loading.proofs.inner.load.Given as goal
 
 abbrev pub invariant-loop-i : goal.invariant-loop-i
-invariant-loop-i l = (l.i ≤ l.n) × (l.out.len ≡ l.i) × ((p : Tree) → HoldsFactors l.s p l.at → length p ≡ l.n → Doing (got (drop l.i p)) (got p) l.i l.out)
-
-abbrev pub decreases-loop-i : goal.decreases-loop-i
-decreases-loop-i l = l.n - l.i
+invariant-loop-i l = (l.out.len ≡ l.i) × ((p : Tree) → HoldsFactors l.s p l.at → length p ≡ l.n → Doing (got (drop l.i p)) (got p) l.i l.out)

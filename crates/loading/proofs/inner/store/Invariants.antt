@@ -9,8 +9,5 @@ use Rattle.loading.proofs.inner.store.Given as goal
 
 abbrev pub invariant-loop-i : goal.invariant-loop-i
 invariant-loop-i l =
-    (l.i ≤ l.n) × (length l.dst ≡ length l.initial.dst)
+    (length l.dst ≡ length l.initial.dst)
     × (sets l.dst ((l.out + 1 + l.i) * 4) (words (map writeFactor (drop l.i (productOf l.p)))) ≡ sets l.initial.dst ((l.out + 1) * 4) (words (map writeFactor (productOf l.p))))
-
-abbrev pub decreases-loop-i : goal.decreases-loop-i
-decreases-loop-i l = l.n - l.i

@@ -41,7 +41,7 @@ returns-then-is_empty c =
     ]
 
 pub search-requires : goal.search-requires
-search-requires c = record { laid = good-laid c.requires; from_bound = omega arith }
+search-requires c = record { laid = good-laid c.requires; within = omega arith }
 
 pub returns-in-Some : goal.returns-in-Some
 unfolding enterKnown

@@ -33,7 +33,7 @@ turn table k at long few h e = rw (add-one k) (ap (lengthsGood at) (sym (ends-st
 
 pub returns-then-end-at : goal.returns-then-end-at
 returns-then-end-at c =
-    let whole = turn c.args.table.now c.loop-k.k c.loop-k.at c.requires.in_bounds c.requires.table_bound (omega arith) c.loop-k.invariant in
+    let whole = turn c.args.table.now c.loop-k.k c.loop-k.at c.requires.long c.requires.few (omega arith) c.loop-k.invariant in
     elim c.then-end-at.branch [
       | then-end-at-via-then-end-at w ↦ sym (no-rise _ _ _ w.if-end-at.true) ∙ whole
       | then-end-at-via-else-end-at+then-end-at-gt-NAME_BYTES w ↦ sym (too_long _ _ _ (omega arith) (omega arith)) ∙ whole
@@ -41,12 +41,12 @@ returns-then-end-at c =
 
 pub loop-k-preserved : goal.loop-k-preserved
 loop-k-preserved c =
-    let whole = turn c.args.table.now c.loop-k.k c.loop-k.at c.requires.in_bounds c.requires.table_bound (omega arith) c.loop-k.invariant in
+    let whole = turn c.args.table.now c.loop-k.k c.loop-k.at c.requires.long c.requires.few (omega arith) c.loop-k.invariant in
     sym (passes _ _ _ (omega arith) (omega arith)) ∙ whole
 
 pub returns : goal.returns
 unfolding lengthsGood
 returns c =
     let e : c.loop-k.k ≡ get_or c.args.table.now 0 0 = omega arith in
-    sym (ap (lengthsGood c.loop-k.at) (ap (λ (k : ℕ). drop k (endsOf c.args.table.now)) e ∙ ends-end c.args.table.now c.requires.in_bounds c.requires.table_bound))
+    sym (ap (lengthsGood c.loop-k.at) (ap (λ (k : ℕ). drop k (endsOf c.args.table.now)) e ∙ ends-end c.args.table.now c.requires.long c.requires.few))
     ∙ c.loop-k.invariant

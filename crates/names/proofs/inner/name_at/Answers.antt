@@ -20,17 +20,17 @@ part pool table k start laid h e =
     record { rises = rw (e, add-one k) p.rises; within = rw (add-one k) p.within; bytes = laid.bytes }
 
 pub slice_bounds-result-count : goal.slice_bounds-result-count
-slice_bounds-result-count c = let p = part c.args.pool.now c.args.table.now c.args.k _ c.requires.laid c.requires.k_bound c.start_of-start.ensures in omega arith
+slice_bounds-result-count c = let p = part c.args.pool.now c.args.table.now c.args.k _ c.requires.laid c.requires.held c.start_of-start.ensures in omega arith
 
 pub slice_bounds-result-start : goal.slice_bounds-result-start
-slice_bounds-result-start c = let p = part c.args.pool.now c.args.table.now c.args.k _ c.requires.laid c.requires.k_bound c.start_of-start.ensures in omega arith
+slice_bounds-result-start c = let p = part c.args.pool.now c.args.table.now c.args.k _ c.requires.laid c.requires.held c.start_of-start.ensures in omega arith
 
 pub slice_bounds-result-end : goal.slice_bounds-result-end
-slice_bounds-result-end c = let p = part c.args.pool.now c.args.table.now c.args.k _ c.requires.laid c.requires.k_bound c.start_of-start.ensures in omega arith
+slice_bounds-result-end c = let p = part c.args.pool.now c.args.table.now c.args.k _ c.requires.laid c.requires.held c.start_of-start.ensures in omega arith
 
 pub returns : goal.returns
 returns c =
     record {
       place = rw c.start_of-start.ensures;
-      bytes = rw (c.start_of-start.ensures, add-one c.args.k) (sym (name-is c.requires.laid c.args.k c.requires.k_bound));
+      bytes = rw (c.start_of-start.ensures, add-one c.args.k) (sym (name-is c.requires.laid c.args.k c.requires.held));
     }

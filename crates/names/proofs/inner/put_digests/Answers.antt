@@ -6,7 +6,7 @@ use Rattle.names.specs.Digests.{digests-none, digests-more}
 use Rattle.names.proofs.inner.put_digests.Goals as goal
 
 pub loop-k-init : goal.loop-k-init
-loop-k-init c = (refl, digests-none c.requires.in_bounds)
+loop-k-init c = (refl, digests-none c.requires.room)
 
 pub loop-k-preserved : goal.loop-k-preserved
 loop-k-preserved c = (

@@ -6,4 +6,4 @@ use Rattle.names.proofs.inner.same_held.Goals as goal
 
 pub returns-else-digests-i : goal.returns-else-digests-i
 returns-else-digests-i c =
-    rw (ne_eqb _ _ c.if-digests-i.false) (sym (apart c.args.i c.args.j c.requires.digests c.requires.i_bound c.requires.j_bound c.if-digests-i.false))
+    rw (ne_eqb _ _ c.if-digests-i.false) (sym (apart c.args.i c.args.j c.requires.digests c.requires.held c.requires.other c.if-digests-i.false))

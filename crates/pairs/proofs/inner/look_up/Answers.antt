@@ -1,18 +1,14 @@
--- `inner::look_up` meets its contract: what is left from the word k on says the same.
+-- What is left decides.
 use mathlib.Core.Path.{sym, ◌∙◌}
 use native.Mathlib.Omega.{arith}
-use borrow.Author.Tests.{eq-eqb, ne_eqb}
 use Rattle.pairs.specs.Turns.{found_here, found-later, found_nowhere}
 use Rattle.pairs.proofs.inner.look_up.Goals as goal
 
-pub returns-then-pairs-k : goal.returns-then-pairs-k
-returns-then-pairs-k c =
-    sym (found_here c.args.pairs.now c.loop-k.k c.args.v (omega arith) (eq-eqb _ _ c.if-pairs-k.true)) ∙ c.loop-k.invariant.1
+pub returns-then-variable-v : goal.returns-then-variable-v
+returns-then-variable-v c = sym (found_here c.loop-rest.rest.now c.args.v (omega (arith, c.in-len2-up.len_at_least)) c.if-variable-v.true) ∙ c.loop-rest.invariant
 
-pub loop-k-preserved : goal.loop-k-preserved
-loop-k-preserved c =
-    (omega arith, sym (found-later c.args.pairs.now c.loop-k.k c.args.v (omega arith) (ne_eqb _ _ c.if-pairs-k.false)) ∙ c.loop-k.invariant.1)
+pub loop-rest-preserved : goal.loop-rest-preserved
+loop-rest-preserved c = sym (found-later c.loop-rest.rest.now c.args.v (omega (arith, c.in-len2-up.len_at_least)) c.if-variable-v.false) ∙ c.loop-rest.invariant
 
 pub returns : goal.returns
-returns c =
-    sym (found_nowhere c.args.pairs.now c.loop-k.k c.args.v (omega arith)) ∙ c.loop-k.invariant.1
+returns c = sym (found_nowhere c.loop-rest.rest.now c.args.v (omega (arith, c.in_default.len_below))) ∙ c.loop-rest.invariant

@@ -1,20 +1,23 @@
--- `inner::repeats` meets its contract: what is left from the word k on says the same.
-use mathlib.Core.Path.{sym, ap, ◌∙◌}
-use mathlib.Core.Bool.{not}
+-- Whether the first variable stands among those behind it decides.
+use mathlib.Core.Path.{sym, ◌∙◌}
 use native.Mathlib.Omega.{arith}
-use Rattle.pairs.specs.Turns.{differ-not, differ-on, differ-end}
+use lib.ListN.{get_or}
+use Rattle.entries.specs.Counting.{found-is}
+use Rattle.pairs.specs.Pairs.{entriesIn}
+use Rattle.pairs.specs.Turns.{behind, twice_here, twice-later, twice_nowhere}
 use Rattle.pairs.proofs.inner.repeats.Goals as goal
 
-pub returns-then-stands_from : goal.returns-then-stands_from
-returns-then-stands_from c =
-    let h = sym c.stands_from.ensures ∙ c.if-stands_from.true in
-    ap not (sym (differ-not c.args.pairs.now c.loop-k.k (omega arith) h) ∙ c.loop-k.invariant.1)
+pub returns-then-is_some : goal.returns-then-is_some
+returns-then-is_some c =
+    let ws = c.loop-rest.rest.now in
+    let found = found-is (entriesIn (behind ws)) (get_or ws 0 0) _ c.look_up.ensures in
+    sym (twice_here ws (omega (arith, c.in-len2-up.len_at_least)) (sym found ∙ sym c.if-is_some.ensures)) ∙ c.loop-rest.invariant
 
-pub loop-k-preserved : goal.loop-k-preserved
-loop-k-preserved c =
-    let h = sym c.stands_from.ensures ∙ c.if-stands_from.false in
-    (omega arith, sym (differ-on c.args.pairs.now c.loop-k.k (omega arith) h) ∙ c.loop-k.invariant.1)
+pub loop-rest-preserved : goal.loop-rest-preserved
+loop-rest-preserved c =
+    let ws = c.loop-rest.rest.now in
+    let found = found-is (entriesIn (behind ws)) (get_or ws 0 0) _ c.look_up.ensures in
+    sym (twice-later ws (omega (arith, c.in-len2-up.len_at_least)) (sym found ∙ sym c.if-is_some.ensures)) ∙ c.loop-rest.invariant
 
 pub returns : goal.returns
-returns c =
-    ap not (sym (differ-end c.args.pairs.now c.loop-k.k (omega arith)) ∙ c.loop-k.invariant.1)
+returns c = sym (twice_nowhere c.loop-rest.rest.now (omega (arith, c.in_default.len_below))) ∙ c.loop-rest.invariant

@@ -9,7 +9,7 @@ use Rattle.trials.proofs.inner.try_all.Given as goal
 
 abbrev pub invariant-loop-at : goal.invariant-loop-at
 invariant-loop-at l =
-    (length l.work ≡ length l.initial.work) × ((l.at ≤ l.n) × ((cs : List (Con ℕ)) (bs : List (Binding ℕ)) (xs : List ℕ) → SetThere l.pool l.table l.set cs → Put l.pool l.table l.places l.types bs → Marks l.bounds xs → Going l.pool l.table l.set bs xs cs l.at))
+    (length l.work ≡ length l.initial.work) × ((l.at ≤ l.n) × ((cs : List (Con ℕ)) (bs : List (Binding ℕ)) (xs : List ℕ) → SetThere l.names.pool.now l.names.table.now l.set cs → Put l.names.pool.now l.names.table.now l.places l.types bs → Marks l.bounds xs → Going l.names.pool.now l.names.table.now l.set bs xs cs l.at))
 
 abbrev pub decreases-loop-at : goal.decreases-loop-at
 decreases-loop-at l = l.n - l.at

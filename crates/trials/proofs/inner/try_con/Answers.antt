@@ -13,7 +13,7 @@ replace_line-requires c =
     let (k, h) = c.requires.there in
     let (bs, l) = c.requires.put in
     record {
-      good = c.requires.good;
+      good = c.args.names.good;
       held_line = (con k, h.line);
       by_index = (_, l.lent);
       room = record { near = omega (arith, c.requires.set_short); small = omega (arith, c.requires.set_short) };
