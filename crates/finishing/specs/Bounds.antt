@@ -19,6 +19,7 @@ use Rattle.rules.specs.Writing.{Rec, words, writeCon, writeBinding, writeBound}
 use Rattle.laws.specs.KnownNames.{every_append, Known, con-known}
 use Rattle.laws.specs.ReadLists.{Every}
 use Rattle.laws.specs.SortedNames.{sort-few}
+use Rattle.laws.specs.Size.{set-length}
 use Rattle.records.specs.Buffers.{words-length}
 use Rattle.records.specs.ByView.{con-in, binding-in}
 use Rattle.records.specs.Good.{Chain, numbers, holding}
@@ -38,11 +39,12 @@ use Rattle.replacing.specs.LineRules.{Line, con, binding, sizeLine, HoldsLine}
 use Rattle.replacing.specs.Runs.{HoldsAll}
 use Rattle.replacing.specs.Writes.{words_append, writes}
 use Rattle.replacing.specs.Written.{all-length}
-use Rattle.rounds.specs.Lines.{lines-words}
+use Rattle.rounds.specs.Lines.{lines-words, as-cons}
 use Rattle.rounds.specs.States.{StateHeld}
+use Rattle.types.specs.Sets.{HoldsCons, IsCons, Cons, con-some, one-set}
 use Rattle.finishing.specs.declared.Finish.TheVariants.{Solved as Bound, Unsolved}
-use Rattle.finishing.specs.Told.{SetHeld, others, boundRec, bounds, Copied, Accepted, Finished}
-use Rattle.finishing.specs.Others.{con-some, cons-length, others-few, set-held}
+use Rattle.finishing.specs.Told.{others, boundRec, bounds, Copied, Accepted, Finished}
+use Rattle.finishing.specs.Others.{others-few}
 
 -- ══ Bounds written one after another ══
 
@@ -100,12 +102,12 @@ module _ (s : List ℕ) where
   part : (c : Con ℕ) (at e : ℕ) → HoldsCon s c at × (e ≡ at + sizeCon c) → (at ≤ e) × (opensIn s at e ≡ opensCon c)
   part c at e h = let z : e - at ≡ sizeCon c = omega (arith, h.1) in (omega (arith, h.1), rw z (con-opens s c at h.0))
 
-  chained : (cs : List (Con ℕ)) (at n : ℕ) → HoldsAll HoldsCon sizeCon s cs at → n ≡ at + sum_of sizeCon cs → Chain (λ at c e. HoldsCon s c at × (e ≡ at + sizeCon c)) n cs at
-  unfolding HoldsAll
+  chained : (cs : List (Con ℕ)) (at n : ℕ) → HoldsCons s cs at → n ≡ at + sum_of sizeCon cs → Chain (λ at c e. HoldsCon s c at × (e ≡ at + sizeCon c)) n cs at
+  unfolding HoldsCons
   chained [] at n h e = sym (e ∙ add-zero at)
   chained (c ∷ cs) at n h e = (at + sizeCon c, ((h.0, refl), chained cs (at + sizeCon c) n h.1 (omega (arith, e))))
 
-  set-opens : (cs : List (Con ℕ)) (n : ℕ) → SetHeld s cs 0 n → opensIn s 0 n ≡ collect opensCon cs
+  set-opens : (cs : List (Con ℕ)) (n : ℕ) → IsCons s 0 n cs → opensIn s 0 n ≡ collect opensCon cs
   set-opens cs n h = (chain-opens s (λ at c e. HoldsCon s c at × (e ≡ at + sizeCon c)) opensCon (λ at c e k. part c at e k) cs 0 n (chained cs 0 n h.held h.ends)).1
 
   -- ══ Lines that are held lie within ══
@@ -129,8 +131,12 @@ cons-good pool table (c ∷ cs) g =
     every_append _ (opensCon c) (collect opensCon cs) (con-known (numbers pool table) (holding pool table) 0 c r.0) (cons-good pool table cs r.1)
 
 module _ (pool table s : List ℕ) (n m : ℕ) (st : State ℕ) (h : StateHeld pool table s n m st) where
-  pub set : SetHeld s st.cons 0 n
-  set = set-held pool table s st.cons 0 n h.cons
+  pub set : IsCons s 0 n st.cons
+  set = as-cons pool table s st.cons 0 n h.cons
+
+  -- whichever constraints stand there, they are those of the state
+  pub of-state : {d d' : List ℕ} {k : ℕ} (x : Cons s 0 n) → Copied d d' 0 k (others x.0) → Copied d d' 0 k (others st.cons)
+  of-state {d} {d'} {k} x c = subst (λ (y : Cons s 0 n). Copied d d' 0 k (others y.0)) (one-set s 0 n x (st.cons, set)) c
 
   -- what `list_names` asks
   pub names-known : Every (λ x. x < get_or table 0 0) (choose Both (opensIn s 0 n))
@@ -201,7 +207,7 @@ module _ (pool table : List ℕ) (st : State ℕ) (d d' : List ℕ) (left : ℕ)
       go [] e k f = absurd (omega (arith, k.many))
       go (x ∷ cs) e k f =
           let n = words-length (collect writeCon (x ∷ cs)) in
-          let i = cons-length (x ∷ cs) in
+          let i = set-length (x ∷ cs) in
           record {
             answer = λ j. rw e (let z : left ≡ sum_of sizeCon (x ∷ cs) = omega (arith, k.many) in ap (λ (i : ℕ). unsolved i j) z);
             buffer = λ j. rw e (k.buffer ∙ sets-eq (words (collect writeCon (x ∷ cs))) d 0 (omega arith) ∙ ap (λ (i : ℕ). words (collect writeCon (x ∷ cs)) ++ drop i d) (zero-add (length (words (collect writeCon (x ∷ cs))))));

@@ -1,4 +1,3 @@
-pub mod Said
 pub mod Told
 pub mod Others
 pub mod Bounds

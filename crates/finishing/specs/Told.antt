@@ -9,15 +9,8 @@ use Rattle.rules.specs.Solving.{boundOf, finish}
 use Rattle.rules.specs.Trees.{var, Con, sizeCon}
 use Rattle.rules.specs.Writing.{Rec, words, writeCon, writeBinding, writeBound}
 use Rattle.records.specs.Good.{numbers}
-use Rattle.records.specs.Holds.{HoldsCon}
-use Rattle.replacing.specs.Runs.{HoldsAll}
 use Rattle.finishing.specs.declared.Finish.{Finish}
 use Rattle.finishing.specs.declared.Finish.TheVariants.{Solved as Bound, Unsolved}
-
--- the constraints that are held from a place up to an end
-pub record SetHeld (s : List ℕ) (cs : List (Con ℕ)) (at end : ℕ) : Type 0 where
-  pub held : HoldsAll HoldsCon sizeCon s cs at
-  pub ends : end ≡ at + sum_of sizeCon cs
 
 -- the constraints that are no bounds
 abbrev pub others : List (Con ℕ) → List (Con ℕ)

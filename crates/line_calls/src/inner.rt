@@ -90,7 +90,7 @@ fn settle(names: NameTable, set: &[u32], v: u32, work: &mut [u32]) -> Result<usi
     }
     copy(set, 0, n, work, 0);
     let mut words = [0u32; RECORD_WORDS];
-    let s = run_alone(names.pool, names.table, n, &mut words, work);
+    let s = run_alone(names, n, &mut words, work);
     match s.outcome {
         Ok(Finish::Solved(bindings, bounds)) => {
             let found = Found {

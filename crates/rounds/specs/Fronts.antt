@@ -32,6 +32,6 @@ module _ (pool table : List ℕ) where
   whole-turned w v r (got (some st)) k t =
       let o = t.says in
       let l : length (v ++ drop 8192 w) ≡ length v + length (drop 8192 w) = length-append v (drop 8192 w) in
-      record { says = record { n = o.n; m = o.m; is = o.is; held = state-alike v (v ++ drop 8192 w) o.n o.m st (omega arith) (omega arith) (λ j i. take-append-le j v (drop 8192 w) (omega arith)) o.held } }
+      record { says = record { ends = o.ends; is = o.is; held = state-alike v (v ++ drop 8192 w) o.ends.constraints o.ends.bindings st (omega arith) (omega arith) (λ j i. take-append-le j v (drop 8192 w) (omega arith)) o.held } }
   whole-turned w v r (got none) k t = record { says = (t.says.0, ap (◌++ drop 8192 w) t.says.1 ∙ take-append-drop 8192 w) }
   whole-turned w v r (refused j) k t = record { says = t.says }

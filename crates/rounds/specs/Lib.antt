@@ -2,7 +2,6 @@ pub mod States
 pub mod Slices
 pub mod Lines
 pub mod Parts
-pub mod Ends
 pub mod Limits
 pub mod Joining
 pub mod Sizes
@@ -10,3 +9,4 @@ pub mod Rebinding
 pub mod Performing
 pub mod Searching
 pub mod Fronts
+pub mod Standing

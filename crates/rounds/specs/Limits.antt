@@ -1,17 +1,17 @@
 -- The limits of a state, and the turns that keep or pass them.
-use Rattle.std.specs.Prelude.{◌≡◌, refl, Bool, true, false, ◌&&◌, List, map, ℕ, ◌+◌, ◌*◌, ◌-◌, ◌≤◌, ◌<◌, leb, length, Ok, Err, None, Some}
+use Rattle.std.specs.Prelude.{◌≡◌, refl, Bool, true, false, ◌&&◌, List, map, ℕ, ◌+◌, ◌*◌, ◌-◌, ◌≤◌, ◌<◌, leb, length, Ok, Err, Some}
 use Rattle.std.proofs.Common.{sym, ap, subst, ◌∙◌, arith, le-leb, leb-true}
-use Rattle.std.proofs.Math.Option.{Option, none, some}
+use Rattle.std.proofs.Math.Option.{Option, some}
 use Rattle.std.proofs.lemmas.Bool.{lt-leb}
 use Rattle.std.proofs.lemmas.List.Edits.{sets}
 use Rattle.std.proofs.Math.Seq.{slice}
 use Rattle.rules.specs.Base.{Got, got, refused, ◌>>=◌, allow, sum_of, max_of}
 use Rattle.rules.specs.Rounds.{State}
-use Rattle.rules.specs.declared.Refusal.{Refusal}
 use Rattle.rules.specs.declared.Refusal.TheVariants.{TooLarge}
 use Rattle.laws.specs.Lists.{and_left}
 use Rattle.replacing.specs.Flat.{depthLine, state-limited, stateLines}
 use Rattle.replacing.specs.LineRules.{Line, con, binding, sizeLine}
+use Rattle.rounds.specs.declared.Ends.{Ends}
 use Rattle.rounds.specs.States.{Turned, Turn}
 use Rattle.rounds.specs.Lines.{copied, plain-split}
 use Rattle.rounds.specs.Parts.{fitting, keeps, Stands, Made}
@@ -55,11 +55,14 @@ module _ (pool table : List ℕ) where
     pub few : (s : List ℕ) (n m : ℕ) → Made pool table s n m st → fitting (stateLines st) ≡ true → m ≤ 2048
     few s n m d e = let i = leb-true (sum_of sizeLine (stateLines st)) 2048 (and_left (leb (sum_of sizeLine (stateLines st)) 2048) _ e) in omega (arith, d.lines.many)
 
-    pub within : (w s : List ℕ) (n m : ℕ) → Made pool table s n m st → fitting (stateLines st) ≡ true → Turned pool table w s (Ok (Some (n, m))) (keeps st)
-    within w s n m d e =
+    pub within : (w s : List ℕ) (ends : Ends) → Made pool table s ends.constraints ends.bindings st → fitting (stateLines st) ≡ true
+        → Turned pool table w s (Ok (Some ends)) (keeps st)
+    within w s ends d e =
+        let n = ends.constraints in
+        let m = ends.bindings in
         let k = few s n m d e in
         let p = plain-split pool table s (map con st.cons) (map binding st.binds) 0 n m (omega (arith, d.first)) (d.lines.held k) in
-        turned_as (kept-is e) (record { says = record { n = n; m = m; is = refl; held = record { cons = p.0; binds = p.1; short = k } } })
+        turned_as (kept-is e) (record { says = record { ends = ends; is = refl; held = record { cons = p.0; binds = p.1; short = k } } })
 
     -- what was made is all that is said of the buffer
     pub anew : {w w' : List ℕ} {r : Turn} {R : Got (Option (State ℕ))} → R ≡ keeps st → Turned pool table w' w' r (keeps st) → Turned pool table w w' r R

@@ -20,6 +20,7 @@ use Rattle.replacing.specs.LineLaws.{lines_long}
 use Rattle.replacing.specs.LineRules.{Line, con, binding, sizeLine, writeLine, HoldsLine}
 use Rattle.replacing.specs.Runs.{HoldsAll}
 use Rattle.replacing.specs.Written.{all-length}
+use Rattle.types.specs.Sets.{HoldsCons, IsCons}
 use Rattle.rounds.specs.Slices.{slice-before, slice-behind, slice-there, own-slice}
 
 pub map_both : {A B : Type 0} (f : A → B) (xs ys : List A) → map f (xs ++ ys) ≡ map f xs ++ map f ys
@@ -120,3 +121,12 @@ module _ (pool table : List ℕ) where
         let r = (and-eq-true_iff (goodLine pool table x) (all (goodLine pool table) (xs ++ ys))).0 a.good in
         let h = plain-split xs ys (at + sizeLine x) m e (omega arith) (record { held = a.held.1; good = r.1; ends = omega (arith, a.ends) }) in
         (record { held = (a.held.0, h.0.held); good = (and-eq-true_iff (goodLine pool table x) (all (goodLine pool table) xs)).1 (r.0, h.0.good); ends = omega (arith, h.0.ends) }, h.1)
+
+  -- constraints that stand in a buffer, as `types` has them
+  as-held : (s : List ℕ) (cs : List (Con ℕ)) (at : ℕ) → HoldsAll HoldsLine sizeLine s (map con cs) at → HoldsCons s cs at
+  unfolding HoldsAll HoldsCons
+  as-held s [] at h = tt
+  as-held s (c ∷ cs) at h = (h.0, as-held s cs (at + sizeCon c) h.1)
+
+  pub as-cons : (s : List ℕ) (cs : List (Con ℕ)) (at end : ℕ) → PlainLines pool table s (map con cs) at end → IsCons s at end cs
+  as-cons s cs at end p = record { held = as-held s cs at p.held; ends = p.ends ∙ ap (at +◌) (long-cons cs) }

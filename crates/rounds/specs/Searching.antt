@@ -1,16 +1,16 @@
 -- The first constraint to which a rule applies: what is left of the search.
 use Rattle.std.specs.Prelude.{◌≡◌, Ok}
 use Rattle.std.proofs.Math.Path.{refl, ap}
-use Rattle.std.proofs.Common.{sym, ◌∙◌}
+use Rattle.std.proofs.Common.{sym, subst, ◌∙◌}
 use Rattle.std.proofs.Math.Bool.{and-eq-true_iff}
-use mathlib.Core.List.{List, [], ◌∷◌, ◌++◌, map, append-nil}
+use mathlib.Core.List.{List, [], ◌∷◌, ◌++◌, map, append-nil, cons≢nil}
 use Rattle.std.proofs.Math.Option.{Option, none, some}
-use Prim.Native.Nat.{ℕ, ◌+◌, ◌-◌, ◌≤◌, ◌<◌}
+use Prim.Native.Nat.{ℕ, ◌+◌, ◌-◌, ◌≤◌}
 use native.Mathlib.Omega.{arith}
 use Rattle.std.proofs.Math.Seq.{append_snoc}
 use Rattle.rules.specs.Base.{Got, got, refused, ◌>>=◌, bounded, all, and_then}
 use Rattle.rules.specs.Rounds.{Step, bind, split, done, stuck, State, trySatisfy, taken, firstStep, perform, performed, round}
-use Rattle.rules.specs.Trees.{Con, equal, isDim, is_scalar, hasField, Binding, sizeCon}
+use Rattle.rules.specs.Trees.{Con, Binding, sizeCon}
 use Rattle.laws.specs.Lists.{and_both}
 use Rattle.records.specs.Good.{numbers}
 use Rattle.replacing.specs.Flat.{goodLine, PlainLines}
@@ -18,16 +18,14 @@ use Rattle.replacing.specs.LineRules.{con}
 use Rattle.replacing.specs.Runs.{HoldsAll}
 use Rattle.satisfying.specs.Stepped.{HeldCon, Stepped}
 use Rattle.satisfying.specs.declared.Step as code
+use Rattle.types.specs.Sets.{Cons, IsCons, one-set, placed}
 use Rattle.rounds.specs.States.{StateHeld}
-use Rattle.rounds.specs.Lines.{map_both, plain-join}
+use Rattle.rounds.specs.Lines.{map_both, plain-join, as-cons}
 use Rattle.rounds.specs.Parts.{Parts, others, Around, Taken, after, performs}
 
-con-some : (c : Con ℕ) → 1 ≤ sizeCon c
-unfolding sizeCon
-con-some (equal l r) = omega arith
-con-some (isDim t) = omega arith
-con-some (is_scalar p) = omega arith
-con-some (hasField x l r) = omega arith
+-- constraints with the words that they stand in, and their places there
+abbrev pub Rest : Type 0
+Rest = List (List ℕ × ℕ × Con ℕ)
 
 module _ (pool table : List ℕ) where
   -- what the round gives when no rule applies to those before
@@ -35,24 +33,29 @@ module _ (pool table : List ℕ) where
   leads before rest bs = firstStep (numbers pool table) bounded rest >>= λ f. performed (numbers pool table) bounded bs (and_then f (λ v. some (v.0, before ++ v.1)))
 
   module _ (w : List ℕ) (n m : ℕ) (st : State ℕ) where
-    pub record Search (at : ℕ) : Type 0 where
+    -- no rule applies to the constraints before those that are left
+    pub record Search (left : Rest) : Type 0 where
       pub before : List (Con ℕ)
       pub rest : List (Con ℕ)
+      pub at : ℕ
+      pub is : left ≡ placed w at rest
       pub passed : PlainLines pool table w (map con before) 0 at
-      pub left : PlainLines pool table w (map con rest) at n
+      pub stay : PlainLines pool table w (map con rest) at n
       pub decides : round (numbers pool table) bounded st ≡ leads before rest st.binds
 
     all_left : (f : Option (Step ℕ × List (Con ℕ))) → performed (numbers pool table) bounded st.binds f ≡ performed (numbers pool table) bounded st.binds (and_then f (λ v. some (v.0, [] ++ v.1)))
     all_left none = refl
     all_left (some v) = refl
 
-    pub start : StateHeld pool table w n m st → Search 0
+    pub start : {left : Rest} → StateHeld pool table w n m st → (cs : List (Con ℕ)) → IsCons w 0 n cs → left ≡ placed w 0 cs → Search left
     unfolding HoldsAll all round leads
-    start h = record {
+    start h cs k e = record {
       before = [];
       rest = st.cons;
+      at = 0;
+      is = e ∙ ap (placed w 0) (ap (λ (c : Cons w 0 n). c.0) (one-set w 0 n (cs, k) (st.cons, as-cons pool table w st.cons 0 n h.cons)));
       passed = record { held = tt; good = refl; ends = omega arith };
-      left = h.cons;
+      stay = h.cons;
       decides = go (firstStep (numbers pool table) bounded st.cons);
     }
       where
@@ -60,43 +63,42 @@ module _ (pool table : List ℕ) where
         go (got f) = all_left f
         go (refused k) = refl
 
-    pub in-time : {at : ℕ} → Search at → at ≤ n
-    in-time s = omega (arith, s.left.ends)
-
     -- none is left
-    pub ended : {at : ℕ} → n ≤ at → Search at → round (numbers pool table) bounded st ≡ got none
+    pub ended : {left : Rest} → Search left → left ≡ [] → round (numbers pool table) bounded st ≡ got none
     unfolding leads firstStep performed
-    ended {at} le s = s.decides ∙ go s.rest s.left
+    ended {left} s e = s.decides ∙ go s.rest (sym s.is ∙ e)
       where
-        go : (cs : List (Con ℕ)) → PlainLines pool table w (map con cs) at n → leads s.before cs st.binds ≡ got none
-        go [] p = refl
-        go (c ∷ cs) p = absurd (omega (arith, p.ends, con-some c))
+        go : (cs : List (Con ℕ)) → placed w s.at cs ≡ [] → leads s.before cs st.binds ≡ got none
+        go [] q = refl
+        go (c ∷ cs) q = absurd (cons≢nil q)
 
     -- the next one
-    pub record Found (at : ℕ) : Type 0 where
+    pub record Found (x : List ℕ × ℕ × Con ℕ) (left : Rest) : Type 0 where
       pub parts : Parts
-      pub this : Con ℕ
-      pub held : HeldCon pool table w this at
-      pub ends : at + sizeCon this ≤ n
-      pub some : 1 ≤ sizeCon this
-      pub around : (e : ℕ) → e ≡ at + sizeCon this → Around pool table w at e n m parts
-      pub decides : round (numbers pool table) bounded st ≡ leads parts.before (this ∷ parts.behind) parts.binds
+      pub words : x.0 ≡ w
+      pub held : HeldCon pool table w x.2 x.1
+      pub ends : x.1 + sizeCon x.2 ≤ n
+      pub around : (e : ℕ) → e ≡ x.1 + sizeCon x.2 → Around pool table w x.1 e n m parts
+      pub decides : round (numbers pool table) bounded st ≡ leads parts.before (x.2 ∷ parts.behind) parts.binds
       pub same : parts.binds ≡ st.binds
+      pub is : left ≡ placed w (x.1 + sizeCon x.2) parts.behind
 
-    pub found : {at : ℕ} → StateHeld pool table w n m st → Search at → at < n → Found at
+    pub found : {now : Rest} (x : List ℕ × ℕ × Con ℕ) (left : Rest) → StateHeld pool table w n m st → Search now → now ≡ x ∷ left → Found x left
     unfolding HoldsAll all
-    found {at} h s lt = go s.rest s.left s.decides
+    found {now} x left h s e = go s.rest s.stay s.decides (sym s.is ∙ e)
       where
-        go : (cs : List (Con ℕ)) → PlainLines pool table w (map con cs) at n → round (numbers pool table) bounded st ≡ leads s.before cs st.binds → Found at
-        go [] p d = absurd (omega (arith, p.ends))
-        go (c ∷ cs) p d =
+        go : (cs : List (Con ℕ)) → PlainLines pool table w (map con cs) s.at n → round (numbers pool table) bounded st ≡ leads s.before cs st.binds
+            → placed w s.at cs ≡ x ∷ left → Found x left
+        go [] p d q = absurd (cons≢nil (sym q))
+        go (c ∷ cs) p d q =
+            let first : (w, s.at, c) ≡ x = cc in
+            let rest : placed w (s.at + sizeCon c) cs ≡ left = cc in
             let g = (and-eq-true_iff (goodLine pool table (con c)) (all (goodLine pool table) (map con cs))).0 p.good in
-            record {
+            let f : Found (w, s.at, c) left = record {
               parts = record { before = s.before; behind = cs; binds = st.binds };
-              this = c;
+              words = refl;
               held = record { held = p.held.0; good = g.0 };
               ends = omega (arith, p.ends);
-              some = con-some c;
               around = λ e i. record {
                 before = s.passed;
                 behind = record { held = rw i p.held.1; good = g.1; ends = omega (arith, p.ends) };
@@ -106,16 +108,22 @@ module _ (pool table : List ℕ) where
               };
               decides = d;
               same = refl;
-            }
+              is = sym rest;
+            } in
+            subst (λ (y : List ℕ × ℕ × Con ℕ). Found y left) first f
 
-    module _ {at : ℕ} (f : Found at) where
+    module _ {x : List ℕ × ℕ × Con ℕ} {left : Rest} (f : Found x left) where
       abbrev p : Parts
       p = f.parts
 
-      abbrev c : Con ℕ
-      c = f.this
+      abbrev at : ℕ
+      at = x.1
 
-      pub step : (e : ℕ) → e ≡ at + sizeCon c → (was d : List ℕ) (r : code.Step) → Stepped was d (n - (e - at)) (Ok r) (trySatisfy (numbers pool table) bounded c) → Taken pool table w d at e n m r p c
+      abbrev c : Con ℕ
+      c = x.2
+
+      pub step : (e : ℕ) → e ≡ at + sizeCon c → (was d : List ℕ) (r : code.Step)
+          → Stepped was d (n - (e - at)) (Ok r) (trySatisfy (numbers pool table) bounded c) → Taken pool table w d at e n m r p c
       step e i was d r s = record { around = f.around e i; here = f.held; ends = i; was = was; stepped = s }
 
       -- a rule applies to it
@@ -140,14 +148,18 @@ module _ (pool table : List ℕ) where
           go (got none) = refl
           go (got (some v)) = ap (λ (l : List (Con ℕ)). performed (numbers pool table) bounded p.binds (some (v.0, l))) (sym (append_snoc p.before c v.1))
 
-      pub on : (e : ℕ) → e ≡ at + sizeCon c → trySatisfy (numbers pool table) bounded c ≡ got stuck → Search e
+      pub on : trySatisfy (numbers pool table) bounded c ≡ got stuck → Search left
       unfolding HoldsAll all
-      on e i stuck-here =
-          let a = f.around e i in
+      on stuck-here =
+          let e = at + sizeCon c in
+          let a = f.around e refl in
+          let here : PlainLines pool table w (con c ∷ []) at e = record { held = (f.held.held, tt); good = and_both f.held.good refl; ends = omega arith } in
           record {
             before = p.before ++ c ∷ [];
             rest = p.behind;
-            passed = rw (map_both con p.before (c ∷ [])) (plain-join pool table w (map con p.before) (con c ∷ []) 0 at e a.before (record { held = (f.held.held, tt); good = and_both f.held.good refl; ends = omega arith }));
-            left = a.behind;
+            at = e;
+            is = f.is;
+            passed = rw (map_both con p.before (c ∷ [])) (plain-join pool table w (map con p.before) (con c ∷ []) 0 at e a.before here);
+            stay = a.behind;
             decides = f.decides ∙ leads-on stuck-here ∙ ap (leads (p.before ++ c ∷ []) p.behind) f.same;
           }

@@ -8,10 +8,11 @@ use Rattle.rules.specs.Rounds.{State}
 use Rattle.rules.specs.declared.Refusal.{Refusal}
 use Rattle.replacing.specs.Flat.{PlainLines}
 use Rattle.replacing.specs.LineRules.{con, binding}
+use Rattle.rounds.specs.declared.Ends.{Ends}
 
--- where the constraints end after a round, and where the bindings end; or that no rule applies; or why the round stops
+-- where the state ends after a round; or that no rule applies; or why the round stops
 abbrev pub Turn : Type 0
-Turn = Result (std.Option (ℕ × ℕ)) Refusal
+Turn = Result (std.Option Ends) Refusal
 
 -- a turn that stopped with this number
 abbrev pub Stops : Turn → ℕ → Type 0
@@ -27,10 +28,9 @@ module _ (pool table : List ℕ) where
 
   -- a turn after which the buffer holds this state
   pub record Onward (w : List ℕ) (r : Turn) (st : State ℕ) : Type 0 where
-    pub n : ℕ
-    pub m : ℕ
-    pub is : r ≡ Ok (Some (n, m))
-    pub held : StateHeld w n m st
+    pub ends : Ends
+    pub is : r ≡ Ok (Some ends)
+    pub held : StateHeld w ends.constraints ends.bindings st
 
   -- what a round leaves of the buffer w. A refusal: its number, and nothing is said of the buffer
   abbrev pub TurnLeft : List ℕ → List ℕ → Turn → Got (Option (State ℕ)) → Type 0

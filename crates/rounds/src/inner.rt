@@ -1,252 +1,275 @@
-// One round on constraints and bindings that stand one after another in a buffer.
-// It answers where the constraints of the state after it end and where its bindings end; nothing where no rule applies; or why it stops.
-ghost use Rattle.std.specs.Prelude.{◌≡◌, List, map, [], ◌∷◌, ℕ, ◌+◌, ◌-◌, ◌≤◌, length};
-ghost use Rattle.rules.specs.Base.{bounded};
-ghost use Rattle.rules.specs.Rounds.{State, round};
-ghost use Rattle.rules.specs.Trees.{Ty, Con, Binding, ◌≔◌, sizeCon};
-ghost use Rattle.laws.specs.NameTable.{Good};
-ghost use Rattle.records.specs.Good.{numbers};
-ghost use Rattle.records.specs.Holds.{HoldsCon};
-ghost use Rattle.replacing.specs.LineRules.{Line, con, binding};
+//! One round on constraints and bindings that stand one after another in a buffer.
+//! It answers where the state after it ends; nothing where no rule applies; or why it stops.
+ghost use Rattle.std.specs.Prelude.{◌≡◌, List, ℕ, ◌+◌, ◌-◌, ◌≤◌, length};
+ghost use Rattle.rules.specs.Rounds.{State};
+ghost use Rattle.rules.specs.Trees.{Ty, Con, Binding};
+ghost use Rattle.replacing.specs.LineRules.{Line};
 ghost use Rattle.places.specs.Filling.{Fills};
-ghost use Rattle.rounds.specs.States.{StateHeld, Turned};
-ghost use Rattle.rounds.specs.Parts.{joined, Stands, fitting, Made, keeps, Parts, Around, New, appends, Bound, rebinds, Taken, others, performs};
+ghost use Rattle.rounds.specs.Parts.{joined, fitting, keeps, Parts, appends, others};
+ghost use Rattle.rounds.specs.Standing.{
+  Standing,
+  Turns,
+  rounded,
+  Stand,
+  MadeUpTo,
+  AroundTaken,
+  NewBehind,
+  BindingBehind,
+  Rebinding,
+  rebound,
+  TakenBy,
+  performed,
+};
 
+use super::Ends;
+use names::tables::NameTable;
 use places::inner::fill;
 use records::inner::copy;
-use records::seen::length_at;
 use replacing::inner::flat::lines_flat;
 use replacing::inner::lines::replace_lines;
 use rules::{NAMES, RECORD_WORDS, RECORDS, Refusal};
 use satisfying::Step;
 use satisfying::inner::try_satisfy;
+use types::Constraints;
 
-/// Where the constraint at a place ends.
-pub fn con_end(s: &[u32], at: usize) -> usize
-    requires { (c : Con ℕ) × HoldsCon s.now c at }
-    ensures { (c : Con ℕ) → HoldsCon s.now c at → result ≡ at + sizeCon c }
-{
-    at + length_at(s, at)
+/// The records from a place up to another.
+#[derive(Clone, Copy)]
+pub struct Span {
+    pub at: usize,
+    pub end: usize,
 }
 
-// Copies the constraints beside the one from `at` up to e, and from q on the bindings.
-fn join(work: &[u32], at: usize, e: usize, n: usize, m: usize, next: &mut [u32], q: usize)
-    requires at_le_e { at ≤ e }
-    requires e_le_n { e ≤ n }
-    requires n_le_m { n ≤ m }
-    requires m_bound { m ≤ 2048 }
-    requires q_bound { q ≤ 2048 }
-    requires in_bounds { 8192 ≤ length work.now }
-    ensures { next.new ≡ joined work.now next.old at e n m q }
-{
-    copy(work, 0, at, next, 0);
-    copy(work, e, n, next, at);
-    copy(work, n, m, next, q);
+impl Ends {
+    /// Where the constraints end without the one that is taken.
+    fn without(self, taken: Span) -> usize
+        requires gap { taken.at ≤ taken.end }
+        requires within { taken.end ≤ self.constraints }
+        ensures { result ≡ self.constraints - (taken.end - taken.at) }
+    {
+        self.constraints - (taken.end - taken.at)
+    }
 }
 
-// Are the m records at the start few enough, and nested at most 64 deep?
-fn fits(pool: &[u8], table: &[u32], s: &[u32], m: usize) -> bool
-    requires good { Good pool.now table.now }
-    requires stands { (xs : List Line) × Stands pool.now table.now s.now m xs }
-    ensures { (xs : List Line) → Stands pool.now table.now s.now m xs → result ≡ fitting xs }
+/// Copies the constraints beside the one that is taken, and the bindings to the place `end`.
+fn join(work: &[u32], ends: Ends, taken: Span, next: &mut [u32], end: usize)
+    requires gap { taken.at ≤ taken.end }
+    requires within { taken.end ≤ ends.constraints }
+    requires ordered { ends.constraints ≤ ends.bindings }
+    requires short { ends.bindings ≤ 2048 }
+    requires end_short { end ≤ 2048 }
+    requires room { 8192 ≤ length work.now }
+    ensures { next.new ≡ joined work.now next.old taken.at taken.end ends.constraints ends.bindings end }
+{
+    copy(work, 0, taken.at, next, 0);
+    copy(work, taken.end, ends.constraints, next, taken.at);
+    copy(work, ends.constraints, ends.bindings, next, end);
+}
+
+/// Are the m records at the start few enough, and nested at most 64 deep?
+fn fits(names: NameTable, s: &[u32], m: usize) -> bool
+    requires stand { (xs : List Line) × Stand names s.now m xs }
+    ensures { (xs : List Line) → Stand names.entry s.now m xs → result ≡ fitting xs }
 {
     if RECORDS < m {
         return false;
     }
-    lines_flat(pool, table, s, 0, m)
+    lines_flat(names.pool, names.table, s, 0, m)
 }
 
-// The state that was made, if it keeps the limits.
-fn limit(
-    pool: &[u8],
-    table: &[u32],
-    s: &[u32],
-    n: usize,
-    m: usize,
-) -> Result<Option<(usize, usize)>, Refusal>
-    requires good { Good pool.now table.now }
-    requires by_index { (st : State ℕ) × Made pool.now table.now s.now n m st }
-    ensures { (st : State ℕ) → Made pool.now table.now s.now n m st → Turned pool.now table.now s.now s.now result (keeps st) }
+/// The state that was made, if it keeps the limits.
+fn limit(names: NameTable, s: &[u32], ends: Ends) -> Result<Option<Ends>, Refusal>
+    requires made { (st : State ℕ) × MadeUpTo names s.now ends st }
+    ensures { (st : State ℕ) → MadeUpTo names.entry s.now ends st → Turns names.entry s.now s.now result (keeps st) }
 {
-    if fits(pool, table, s, m) {
-        Ok(Some((n, m)))
+    if fits(names, s, ends.bindings) {
+        Ok(Some(ends))
     } else {
         Err(Refusal::TooLarge)
     }
 }
 
-// The same for a state that was made beside the work buffer: it is copied there.
+/// The same for a state that was made beside the work buffer: it is copied there.
 fn keep(
-    pool: &[u8],
-    table: &[u32],
+    names: NameTable,
     next: &[u32],
-    n: usize,
-    m: usize,
+    ends: Ends,
     work: &mut [u32],
-) -> Result<Option<(usize, usize)>, Refusal>
-    requires good { Good pool.now table.now }
-    requires by_index { (st : State ℕ) × Made pool.now table.now next.now n m st }
-    requires in_bounds { 8192 ≤ length next.now }
-    requires in_bounds_2 { 8192 ≤ length work.old }
-    ensures { (st : State ℕ) → Made pool.now table.now next.now n m st → Turned pool.now table.now work.old work.new result (keeps st) }
+) -> Result<Option<Ends>, Refusal>
+    requires made { (st : State ℕ) × MadeUpTo names next.now ends st }
+    requires next_room { 8192 ≤ length next.now }
+    requires room { 8192 ≤ length work.old }
+    ensures { (st : State ℕ) → MadeUpTo names.entry next.now ends st → Turns names.entry work.old work.new result (keeps st) }
 {
-    if !fits(pool, table, next, m) {
+    if !fits(names, next, ends.bindings) {
         return Err(Refusal::TooLarge);
     }
-    copy(next, 0, m, work, 0);
-    Ok(Some((n, m)))
+    copy(next, 0, ends.bindings, work, 0);
+    Ok(Some(ends))
 }
 
-// New constraints stand in `next` up to q: the others go before them, the bindings behind.
+/// New constraints stand in `next` up to `end`: the others go before them, the bindings behind.
 fn append(
-    pool: &[u8],
-    table: &[u32],
+    names: NameTable,
     work: &mut [u32],
     next: &mut [u32],
-    at: usize,
-    e: usize,
-    n: usize,
-    m: usize,
-    q: usize,
-) -> Result<Option<(usize, usize)>, Refusal>
-    requires good { Good pool.now table.now }
-    requires around { (p : Parts) × Around pool.now table.now work.old at e n m p }
-    requires by_index { (new : List (Con ℕ)) × New pool.now table.now next.old (map con new) (n - (e - at)) q }
-    requires in_bounds { 8192 ≤ length work.old }
-    requires in_bounds_2 { 8192 ≤ length next.old }
-    ensures { (p : Parts) (new : List (Con ℕ)) → Around pool.now table.now work.old at e n m p → New pool.now table.now next.old (map con new) (n - (e - at)) q → Turned pool.now table.now work.old work.new result (appends p new) }
+    ends: Ends,
+    taken: Span,
+    end: usize,
+) -> Result<Option<Ends>, Refusal>
+    requires around { (p : Parts) × AroundTaken names work.old ends taken p }
+    requires new { (cs : List (Con ℕ)) × NewBehind names next.old ends taken end cs }
+    requires room { 8192 ≤ length work.old }
+    requires next_room { 8192 ≤ length next.old }
+    ensures { (p : Parts) (cs : List (Con ℕ)) → AroundTaken names.entry work.old ends taken p
+        → NewBehind names.entry next.old ends taken end cs → Turns names.entry work.old work.new result (appends p cs) }
 {
-    if RECORDS < q {
+    if RECORDS < end {
         return Err(Refusal::TooLarge); // the constraints alone pass the limit
     }
-    join(work, at, e, n, m, next, q);
-    keep(pool, table, next, q, q + (m - n), work)
+    join(work, ends, taken, next, end);
+    let bindings = end + (ends.bindings - ends.constraints);
+    let made = Ends {
+        constraints: end,
+        bindings,
+    };
+    keep(names, next, made, work)
 }
 
-// Writes the constraints and the older bindings with the new binding put in to the work buffer, and the new binding behind them.
+/// In `next` the constraints stand up to a new binding, and the older bindings behind it up to `end`. Writes the constraints and the older bindings with the new
+/// binding put in to the work buffer, and the new binding behind them.
 fn rebind_by(
-    pool: &[u8],
-    table: &[u32],
+    names: NameTable,
     next: &[u32],
     places: &[u32],
-    b: usize,
-    q: usize,
-    m: usize,
+    new: Span,
+    end: usize,
     work: &mut [u32],
-) -> Result<Option<(usize, usize)>, Refusal>
-    requires good { Good pool.now table.now }
-    requires by_index { (cs : List (Con ℕ)) × ((x : ℕ) × ((t : Ty ℕ) × ((bs : List (Binding ℕ)) × Bound pool.now table.now next.now b q m cs x t bs))) }
-    requires in_bounds { 8192 ≤ length next.now }
-    requires next_len_bound { length next.now ≤ 1000000 }
-    requires in_bounds_2 { 8192 ≤ length work.old }
-    requires fills { Fills next.now b q places.now }
-    ensures { (cs : List (Con ℕ)) (x : ℕ) (t : Ty ℕ) (bs : List (Binding ℕ)) → Bound pool.now table.now next.now b q m cs x t bs → Turned pool.now table.now work.old work.new result (rebinds pool.now table.now cs x t bs) }
+) -> Result<Option<Ends>, Refusal>
+    requires bound { (cs : List (Con ℕ)) × (x : ℕ) × (t : Ty ℕ) × (bs : List (Binding ℕ)) × Rebinding names next.now new end cs x t bs }
+    requires next_room { 8192 ≤ length next.now }
+    requires near { length next.now ≤ 1_000_000 }
+    requires room { 8192 ≤ length work.old }
+    requires fills { Fills next.now new.at new.end places.now }
+    ensures { (cs : List (Con ℕ)) (x : ℕ) (t : Ty ℕ) (bs : List (Binding ℕ)) → Rebinding names.entry next.now new end cs x t bs
+        → Turns names.entry work.old work.new result (rebound names.entry cs x t bs) }
 {
-    let (_, n) = replace_lines(pool, table, next, 0, b, places, next, work, 0)?;
-    let (_, o) = replace_lines(pool, table, next, q, m, places, next, work, n)?;
-    copy(next, b, q, work, o);
-    limit(pool, table, work, n, o + (q - b))
+    let pool = names.pool;
+    let table = names.table;
+    let (_, n) = replace_lines(pool, table, next, 0, new.at, places, next, work, 0)?;
+    let (_, o) = replace_lines(pool, table, next, new.end, end, places, next, work, n)?;
+    copy(next, new.at, new.end, work, o);
+    let ends = Ends {
+        constraints: n,
+        bindings: o + (new.end - new.at),
+    };
+    limit(names, work, ends)
 }
 
-// The same with a table of the new binding alone.
+/// The same with a table of the new binding alone.
 fn rebind(
-    pool: &[u8],
-    table: &[u32],
+    names: NameTable,
     next: &[u32],
-    b: usize,
-    q: usize,
-    m: usize,
+    new: Span,
+    end: usize,
     work: &mut [u32],
-) -> Result<Option<(usize, usize)>, Refusal>
-    requires good { Good pool.now table.now }
-    requires by_index { (cs : List (Con ℕ)) × ((x : ℕ) × ((t : Ty ℕ) × ((bs : List (Binding ℕ)) × Bound pool.now table.now next.now b q m cs x t bs))) }
-    requires in_bounds { 8192 ≤ length next.now }
-    requires next_len_bound { length next.now ≤ 1000000 }
-    requires in_bounds_2 { 8192 ≤ length work.old }
-    ensures { (cs : List (Con ℕ)) (x : ℕ) (t : Ty ℕ) (bs : List (Binding ℕ)) → Bound pool.now table.now next.now b q m cs x t bs → Turned pool.now table.now work.old work.new result (rebinds pool.now table.now cs x t bs) }
+) -> Result<Option<Ends>, Refusal>
+    requires bound { (cs : List (Con ℕ)) × (x : ℕ) × (t : Ty ℕ) × (bs : List (Binding ℕ)) × Rebinding names next.now new end cs x t bs }
+    requires next_room { 8192 ≤ length next.now }
+    requires near { length next.now ≤ 1_000_000 }
+    requires room { 8192 ≤ length work.old }
+    ensures { (cs : List (Con ℕ)) (x : ℕ) (t : Ty ℕ) (bs : List (Binding ℕ)) → Rebinding names.entry next.now new end cs x t bs
+        → Turns names.entry work.old work.new result (rebound names.entry cs x t bs) }
 {
     let mut places = [0u32; NAMES];
-    fill(next, b, q, &mut places);
-    rebind_by(pool, table, next, &places, b, q, m, work)
+    fill(next, new.at, new.end, &mut places);
+    rebind_by(names, next, &places, new, end, work)
 }
 
-// The new binding stands in `next` up to q: the constraints go before it, the older bindings behind, and it is put into both.
+/// The new binding stands in `next` up to `end`: the constraints go before it, the older bindings behind, and it is put into both.
 fn bind(
-    pool: &[u8],
-    table: &[u32],
+    names: NameTable,
     work: &mut [u32],
     next: &mut [u32],
-    at: usize,
-    e: usize,
-    n: usize,
-    m: usize,
-    q: usize,
-) -> Result<Option<(usize, usize)>, Refusal>
-    requires good { Good pool.now table.now }
-    requires around { (p : Parts) × Around pool.now table.now work.old at e n m p }
-    requires by_index { (x : ℕ) × ((t : Ty ℕ) × New pool.now table.now next.old (binding (x ≔ t) ∷ []) (n - (e - at)) q) }
-    requires q_le_n { q ≤ n }
-    requires in_bounds { 8192 ≤ length work.old }
-    requires in_bounds_2 { 8192 ≤ length next.old }
-    requires next_len_bound { length next.old ≤ 1000000 }
-    ensures { (p : Parts) (x : ℕ) (t : Ty ℕ) → Around pool.now table.now work.old at e n m p → New pool.now table.now next.old (binding (x ≔ t) ∷ []) (n - (e - at)) q → Turned pool.now table.now work.old work.new result (rebinds pool.now table.now (others p) x t p.binds) }
+    ends: Ends,
+    taken: Span,
+    end: usize,
+) -> Result<Option<Ends>, Refusal>
+    requires around { (p : Parts) × AroundTaken names work.old ends taken p }
+    requires new { (x : ℕ) × (t : Ty ℕ) × BindingBehind names next.old ends taken end x t }
+    requires small { end ≤ ends.constraints }
+    requires room { 8192 ≤ length work.old }
+    requires next_room { 8192 ≤ length next.old }
+    requires near { length next.old ≤ 1_000_000 }
+    ensures { (p : Parts) (x : ℕ) (t : Ty ℕ) → AroundTaken names.entry work.old ends taken p
+        → BindingBehind names.entry next.old ends taken end x t
+        → Turns names.entry work.old work.new result (rebound names.entry (others p) x t p.binds) }
 {
-    join(work, at, e, n, m, next, q);
-    rebind(pool, table, next, n - (e - at), q, q + (m - n), work)
+    join(work, ends, taken, next, end);
+    let new = Span {
+        at: ends.without(taken),
+        end,
+    };
+    rebind(
+        names,
+        next,
+        new,
+        end + (ends.bindings - ends.constraints),
+        work,
+    )
 }
 
-// Does what the step of the constraint from `at` up to e says.
+/// Does what the step of the constraint that is taken says.
 fn perform(
-    pool: &[u8],
-    table: &[u32],
+    names: NameTable,
     work: &mut [u32],
     next: &mut [u32],
-    at: usize,
-    e: usize,
-    n: usize,
-    m: usize,
+    ends: Ends,
+    taken: Span,
     step: Step,
-) -> Result<Option<(usize, usize)>, Refusal>
-    requires good { Good pool.now table.now }
-    requires by_index { (p : Parts) × ((c : Con ℕ) × Taken pool.now table.now work.old next.old at e n m step p c) }
-    requires in_bounds { 8192 ≤ length work.old }
-    requires in_bounds_2 { 8192 ≤ length next.old }
-    requires next_len_bound { length next.old ≤ 1000000 }
-    ensures { (p : Parts) (c : Con ℕ) → Taken pool.now table.now work.old next.old at e n m step p c → Turned pool.now table.now work.old work.new result (performs pool.now table.now p c) }
+) -> Result<Option<Ends>, Refusal>
+    requires taken { (p : Parts) × (c : Con ℕ) × TakenBy names work.old next.old ends taken step p c }
+    requires room { 8192 ≤ length work.old }
+    requires next_room { 8192 ≤ length next.old }
+    requires near { length next.old ≤ 1_000_000 }
+    ensures { (p : Parts) (c : Con ℕ) → TakenBy names.entry work.old next.old ends taken step p c
+        → Turns names.entry work.old work.new result (performed names.entry p c) }
 {
     match step {
-        Step::Bind(q) => bind(pool, table, work, next, at, e, n, m, q),
-        Step::Split(q) => append(pool, table, work, next, at, e, n, m, q),
-        Step::Done => append(pool, table, work, next, at, e, n, m, n - (e - at)),
+        Step::Bind(end) => bind(names, work, next, ends, taken, end),
+        Step::Split(end) => append(names, work, next, ends, taken, end),
+        Step::Done => append(names, work, next, ends, taken, ends.without(taken)),
         Step::Stuck => Ok(None),
     }
 }
 
-// One round in buffers that are not too long: the first constraint to which a rule applies is taken.
+/// One round in buffers that are not too long: the first constraint to which a rule applies is taken.
 fn take_turn(
-    pool: &[u8],
-    table: &[u32],
+    names: NameTable,
     work: &mut [u32],
     next: &mut [u32],
-    n: usize,
-    m: usize,
-) -> Result<Option<(usize, usize)>, Refusal>
-    requires good { Good pool.now table.now }
-    requires by_index { (st : State ℕ) × StateHeld pool.now table.now work.old n m st }
-    requires in_bounds { 8192 ≤ length work.old }
-    requires work_len_bound { length work.old ≤ 100000 }
-    requires in_bounds_2 { 8192 ≤ length next.old }
-    requires next_len_bound { length next.old ≤ 100000 }
-    ensures { (st : State ℕ) → StateHeld pool.now table.now work.old n m st → Turned pool.now table.now work.old work.new result (round (numbers pool.now table.now) bounded st) }
+    ends: Ends,
+) -> Result<Option<Ends>, Refusal>
+    requires standing { (st : State ℕ) × Standing names work.old ends st }
+    requires room { 8192 ≤ length work.old }
+    requires near { length work.old ≤ 100_000 }
+    requires next_room { 8192 ≤ length next.old }
+    requires next_near { length next.old ≤ 100_000 }
+    ensures { (st : State ℕ) → Standing names.entry work.old ends st → Turns names.entry work.old work.new result (rounded names.entry st) }
 {
-    let mut at = 0;
-    while at < n {
-        let e = con_end(work, at);
-        let step = try_satisfy(pool, table, work, at, next, n - (e - at))?;
-        let Step::Stuck = step else {
-            return perform(pool, table, work, next, at, e, n, m, step);
+    let constraints = Constraints {
+        words: work,
+        at: 0,
+        end: ends.constraints,
+    };
+    'search: for c in constraints {
+        let taken = Span {
+            at: c.at,
+            end: c.end(),
         };
-        at = e;
+        let step = try_satisfy(names, c, next, ends.without(taken))?;
+        let Step::Stuck = step else {
+            return perform(names, work, next, ends, taken, step);
+        };
     }
     Ok(None)
 }
@@ -254,25 +277,20 @@ fn take_turn(
 /// One round: the state stands in the first 8,192 words of `work`, and `next` is used to make the next one.
 /// A refusal says nothing of `work`; where no rule applies it is as it was.
 pub fn round(
-    pool: &[u8],
-    table: &[u32],
+    names: NameTable,
     work: &mut [u32],
     next: &mut [u32],
-    n: usize,
-    m: usize,
-) -> Result<Option<(usize, usize)>, Refusal>
-    requires good { Good pool.now table.now }
-    requires by_index { (st : State ℕ) × StateHeld pool.now table.now work.old n m st }
-    requires in_bounds { 8192 ≤ length work.old }
-    requires in_bounds_2 { 8192 ≤ length next.old }
-    ensures { (st : State ℕ) → StateHeld pool.now table.now work.old n m st → Turned pool.now table.now work.old work.new result (round (numbers pool.now table.now) bounded st) }
+    ends: Ends,
+) -> Result<Option<Ends>, Refusal>
+    requires standing { (st : State ℕ) × Standing names work.old ends st }
+    requires room { 8192 ≤ length work.old }
+    requires next_room { 8192 ≤ length next.old }
+    ensures { (st : State ℕ) → Standing names.entry work.old ends st → Turns names.entry work.old work.new result (rounded names.entry st) }
 {
     take_turn(
-        pool,
-        table,
-        &mut work[0..RECORD_WORDS],
-        &mut next[0..RECORD_WORDS],
-        n,
-        m,
+        names,
+        &mut work[..RECORD_WORDS],
+        &mut next[..RECORD_WORDS],
+        ends,
     )
 }

@@ -1,6 +1,5 @@
 mod Conditions
 mod Others
-mod Power
 mod Quotient
 mod Rules
 mod Short

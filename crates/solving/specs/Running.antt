@@ -15,7 +15,7 @@ use Rattle.laws.specs.NameTable.{Good}
 use Rattle.records.specs.Good.{numbers, holding}
 use Rattle.ending.proofs.Ending.{ends}
 use Rattle.ending.proofs.Sets.{Admitted, start}
-use Rattle.replacing.specs.Runs.{two}
+use Rattle.rounds.specs.declared.Ends.{Ends}
 use Rattle.rounds.specs.States.{StateHeld, Turned, Turn}
 use Rattle.std.specs.Prelude.{Ok, Err, None, Some}
 use Rattle.finishing.specs.Told.{toldFinish, Finished}
@@ -68,26 +68,23 @@ module _ (pool table : List ℕ) where
     rounded = (t, turning.same)
 
     -- a round was completed
-    pub going_next : (p q : ℕ) → r ≡ Ok (Some (p, q)) → Going cs w' p q (k + 1) × (k < enough)
+    pub going_next : (e : Ends) → r ≡ Ok (Some e) → Going cs w' e.constraints e.bindings (k + 1) × (k < enough)
     unfolding after
-    going_next p q i = go (round (numbers pool table) bounded g.state) rounded
+    going_next e i = go (round (numbers pool table) bounded g.state) rounded
       where
-        go : (R : Got (Option (State ℕ))) → Round R → Going cs w' p q (k + 1) × (k < enough)
-        go (refused j) (u, e) = absurd (subst (λ (x : Turn). Turned pool table w w' x (refused j)) i u).says
-        go (got none) (u, e) = absurd (let z : ◌≡◌ {A = Turn} (Ok (Some (p, q))) (Ok None) = sym i ∙ u.says.0 in let y : ◌≡◌ {A = ℕ} 0 1 = cc in omega arith)
-        go (got (some s)) (u, e) =
+        go : (R : Got (Option (State ℕ))) → Round R → Going cs w' e.constraints e.bindings (k + 1) × (k < enough)
+        go (refused j) (u, d) = absurd (subst (λ (x : Turn). Turned pool table w w' x (refused j)) i u).says
+        go (got none) (u, d) = absurd (let z : ◌≡◌ {A = Turn} (Ok (Some e)) (Ok None) = sym i ∙ u.says.0 in let y : ◌≡◌ {A = ℕ} 0 1 = cc in omega arith)
+        go (got (some s)) (u, d) =
             let o = u.says in
-            let z : ◌≡◌ {A = Turn} (Ok (Some (o.n, o.m))) (Ok (Some (p, q))) = sym o.is ∙ i in
-            let y : ◌≡◌ {A = ℕ × ℕ} (o.n, o.m) (p, q) = cc in
-            let a : o.n ≡ p = (two y).0 in
-            let b : o.m ≡ q = (two y).1 in
-            let h : StateHeld pool table w' p o.m s = subst (λ (x : ℕ). StateHeld pool table w' x o.m s) a o.held in (
+            let z : ◌≡◌ {A = Turn} (Ok (Some o.ends)) (Ok (Some e)) = sym o.is ∙ i in
+            let y : o.ends ≡ e = cc in (
               record {
                 left = turning.left;
                 state = s;
                 sum = omega (arith, turning.sum);
-                held = subst (λ (x : ℕ). StateHeld pool table w' p x s) b h;
-                same = rw (add-one k) e;
+                held = subst (λ (x : Ends). StateHeld pool table w' x.constraints x.bindings s) y o.held;
+                same = rw (add-one k) d;
               },
               omega (arith, turning.sum),
             )
@@ -100,7 +97,7 @@ module _ (pool table : List ℕ) where
         go : (R : Got (Option (State ℕ))) → Round R → (answer_of cs ≡ finish (numbers pool table) k g.state) × StateHeld pool table w' n m g.state
         go (refused j) (u, e) = absurd (subst (λ (x : Turn). Turned pool table w w' x (refused j)) i u).says
         go (got none) (u, e) = (sym e, subst (λ (x : List ℕ). StateHeld pool table x n m g.state) (sym u.says.1) g.held)
-        go (got (some s)) (u, e) = absurd (let z : ◌≡◌ {A = Turn} (Ok (Some (u.says.n, u.says.m))) (Ok None) = sym u.says.is ∙ i in let y : ◌≡◌ {A = ℕ} 0 1 = cc in omega arith)
+        go (got (some s)) (u, e) = absurd (let z : ◌≡◌ {A = Turn} (Ok (Some u.says.ends)) (Ok None) = sym u.says.is ∙ i in let y : ◌≡◌ {A = ℕ} 0 1 = cc in omega arith)
 
     -- a refused round isn't counted
     pub going-stop : (x : Refusal) → r ≡ Err x → answer_of cs ≡ stopped (number_of x) k
@@ -110,7 +107,7 @@ module _ (pool table : List ℕ) where
         go : (R : Got (Option (State ℕ))) → Round R → answer_of cs ≡ stopped (number_of x) k
         go (refused j) (u, e) = sym e ∙ ap (λ (y : ℕ). stopped y k) (sym (subst (λ (x : Turn). Turned pool table w w' x (refused j)) i u).says)
         go (got none) (u, e) = absurd (let z : ◌≡◌ {A = Turn} (Err x) (Ok None) = sym i ∙ u.says.0 in let y : ◌≡◌ {A = ℕ} 0 1 = cc in omega arith)
-        go (got (some s)) (u, e) = absurd (let z : ◌≡◌ {A = Turn} (Ok (Some (u.says.n, u.says.m))) (Err x) = sym u.says.is ∙ i in let y : ◌≡◌ {A = ℕ} 0 1 = cc in omega arith)
+        go (got (some s)) (u, e) = absurd (let z : ◌≡◌ {A = Turn} (Ok (Some u.says.ends)) (Err x) = sym u.says.is ∙ i in let y : ◌≡◌ {A = ℕ} 0 1 = cc in omega arith)
 
   -- ══ The answer ══
 

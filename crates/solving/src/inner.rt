@@ -1,4 +1,4 @@
-// The steps of solving, past the check of 10.
+//! The steps of solving, past the check of 10.
 ghost use Rattle.std.specs.Prelude.{◌≡◌, List, ℕ, ◌≤◌, length};
 ghost use Rattle.rules.specs.Base.{got, bounded};
 ghost use Rattle.rules.specs.Calls.{setCall, solvedSet};
@@ -6,7 +6,6 @@ ghost use Rattle.rules.specs.Names.{table_of, tableGood, lentTable};
 ghost use Rattle.rules.specs.Refusals.{told};
 ghost use Rattle.rules.specs.Solving.{solve};
 ghost use Rattle.rules.specs.Trees.{Con};
-ghost use Rattle.laws.specs.NameTable.{Good};
 ghost use Rattle.records.specs.Good.{numbers};
 ghost use Rattle.solving.specs.Told.{refusedAs, Answered};
 ghost use Rattle.solving.specs.Running.{Begun};
@@ -17,6 +16,7 @@ use finishing::inner::finish;
 use names::tables::NameTable;
 use queries::inner::is_unmixed;
 use records::inner::{copy, set_good};
+use rounds::Ends;
 use rounds::inner::round;
 use rules::{RECORD_WORDS, Refusal};
 
@@ -30,64 +30,52 @@ pub fn stopped(r: Refusal, completed: u32) -> Solution
     }
 }
 
-// Round after round on the constraints in the records up to n, and what is answered at the end.
-fn run(
-    pool: &[u8],
-    table: &[u32],
-    n: usize,
-    res: &mut [u32],
-    work: &mut [u32],
-    next: &mut [u32],
-) -> Solution
-    requires good { Good pool.now table.now }
-    requires by_index { (cs : List (Con ℕ)) × Begun pool.now table.now work.old n cs }
-    requires in_bounds { 8192 ≤ length res.old }
-    requires in_bounds_2 { 8192 ≤ length work.old }
-    requires in_bounds_3 { 8192 ≤ length next.old }
-    ensures { (cs : List (Con ℕ)) → Begun pool.now table.now work.old n cs → Answered (got (solve (numbers pool.now table.now) bounded cs)) res.old res.new result }
+/// Round after round on the constraints in the records up to n, and what is answered at the end.
+fn run(names: NameTable, n: usize, res: &mut [u32], work: &mut [u32], next: &mut [u32]) -> Solution
+    requires begun { (cs : List (Con ℕ)) × Begun names.pool.now names.table.now work.old n cs }
+    requires result_room { 8192 ≤ length res.old }
+    requires room { 8192 ≤ length work.old }
+    requires next_room { 8192 ≤ length next.old }
+    ensures { (cs : List (Con ℕ)) → Begun names.entry.pool.now names.entry.table.now work.old n cs
+        → Answered (got (solve (numbers names.entry.pool.now names.entry.table.now) bounded cs)) res.old res.new result }
 {
-    let mut b = n;
-    let mut e = n;
-    let mut k = 0;
-    loop {
-        match round(pool, table, work, next, b, e) {
-            Ok(Some((p, q))) => {
-                b = p;
-                e = q;
-                k += 1;
+    let mut ends = Ends {
+        constraints: n,
+        bindings: n,
+    };
+    let mut completed = 0;
+    'turns: loop {
+        match round(names, work, next, ends) {
+            Ok(Some(made)) => {
+                ends = made;
+                completed += 1;
             }
             Ok(None) => {
                 return Solution {
-                    outcome: Ok(finish(pool, table, work, b, e, res)),
-                    rounds: k,
+                    outcome: Ok(finish(names, work, ends, res)),
+                    rounds: completed,
                 };
             }
             Err(r) => {
-                return stopped(r, k);
+                return stopped(r, completed);
             }
         }
     }
 }
 
-// The same with a buffer of its own for the next state.
-pub fn run_alone(
-    pool: &[u8],
-    table: &[u32],
-    n: usize,
-    res: &mut [u32],
-    work: &mut [u32],
-) -> Solution
-    requires good { Good pool.now table.now }
-    requires by_index { (cs : List (Con ℕ)) × Begun pool.now table.now work.old n cs }
-    requires in_bounds { 8192 ≤ length res.old }
-    requires in_bounds_2 { 8192 ≤ length work.old }
-    ensures { (cs : List (Con ℕ)) → Begun pool.now table.now work.old n cs → Answered (got (solve (numbers pool.now table.now) bounded cs)) res.old res.new result }
+/// The same with a buffer of its own for the next state.
+pub fn run_alone(names: NameTable, n: usize, res: &mut [u32], work: &mut [u32]) -> Solution
+    requires begun { (cs : List (Con ℕ)) × Begun names.pool.now names.table.now work.old n cs }
+    requires result_room { 8192 ≤ length res.old }
+    requires room { 8192 ≤ length work.old }
+    ensures { (cs : List (Con ℕ)) → Begun names.entry.pool.now names.entry.table.now work.old n cs
+        → Answered (got (solve (numbers names.entry.pool.now names.entry.table.now) bounded cs)) res.old res.new result }
 {
     let mut next = [0u32; RECORD_WORDS];
-    run(pool, table, n, res, work, &mut next)
+    run(names, n, res, work, &mut next)
 }
 
-// Is the set well formed (8, 1)? Whether the table is good is handed on, so that one check of it serves many sets.
+/// Is the set well formed (8, 1)? Whether the table is good is handed on, so that one check of it serves many sets.
 fn is_set(pool: &[u8], table: &[u32], good: bool, words: &[u32]) -> Result<(), Refusal>
     requires table_value { lentTable pool.now table.now ≡ got tt }
     requires good_value { good ≡ tableGood (table_of pool.now table.now) }
@@ -111,7 +99,7 @@ fn is_set(pool: &[u8], table: &[u32], good: bool, words: &[u32]) -> Result<(), R
     }
 }
 
-// Is the set well formed (8, 1), and is no name both a variable and a parameter (4)?
+/// Is the set well formed (8, 1), and is no name both a variable and a parameter (4)?
 fn enter(pool: &[u8], table: &[u32], good: bool, words: &[u32]) -> Result<(), Refusal>
     requires table_value { lentTable pool.now table.now ≡ got tt }
     requires good_value { good ≡ tableGood (table_of pool.now table.now) }
@@ -125,7 +113,7 @@ fn enter(pool: &[u8], table: &[u32], good: bool, words: &[u32]) -> Result<(), Re
     }
 }
 
-// All that solving does past the check of 10 and that of the table, but for clearing the work buffer.
+/// All that solving does past the check of 10 and that of the table, but for clearing the work buffer.
 pub fn solve_set(
     pool: &[u8],
     table: &[u32],
@@ -136,15 +124,15 @@ pub fn solve_set(
 ) -> Solution
     requires table_value { lentTable pool.now table.now ≡ got tt }
     requires good_value { good ≡ tableGood (table_of pool.now table.now) }
-    requires in_bounds { 8192 ≤ length res.old }
-    requires in_bounds_2 { 16384 ≤ length work.old }
+    requires result_room { 8192 ≤ length res.old }
+    requires room { 16384 ≤ length work.old }
     ensures { Answered (solvedSet (table_of pool.now table.now) words.now) res.old res.new result }
 {
     match enter(pool, table, good, words) {
         Ok(()) => {
             let n = words.len() / 4;
             copy(words, 0, n, work, 0);
-            run_alone(pool, table, n, res, work)
+            run_alone(NameTable { pool, table }, n, res, work)
         }
         Err(r) => stopped(r, 0),
     }

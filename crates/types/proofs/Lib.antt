@@ -1,3 +1,4 @@
 mod Asked
 mod FieldsFound
+mod OneVariable
 mod Seen

@@ -1,4 +1,5 @@
 pub mod Once
 pub mod Puts
+pub mod Sets
 pub mod Shapes
 pub mod Written

@@ -70,7 +70,7 @@ module _ (s : List ℕ) where
     fields-once noFields at = Unit-prop
     fields-once (field n t fs) at = Prim.hlevel (ℕ-set, View-set, type-once t (at + 1), fields-once fs (at + 1 + size t))
 
-  con-once : (c : Con ℕ) (at : ℕ) → IsProp (HoldsCon s c at)
+  pub con-once : (c : Con ℕ) (at : ℕ) → IsProp (HoldsCon s c at)
   unfolding HoldsCon
   con-once (equal l r) at = Prim.hlevel (ℕ-set, View-set, type-once l (at + 1), type-once r (at + 1 + size l))
   con-once (isDim t) at = Prim.hlevel (ℕ-set, View-set, type-once t (at + 1))

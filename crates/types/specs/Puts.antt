@@ -1,5 +1,5 @@
 -- Types and constraints that were written.
-use Rattle.std.specs.Prelude.{◌≡◌, List, [], ◌∷◌, ◌++◌, ℕ, suc, ◌+◌, ◌*◌, ◌≤◌, length}
+use Rattle.std.specs.Prelude.{◌≡◌, List, [], ◌∷◌, ◌++◌, ℕ, suc, ◌+◌, ◌*◌, ◌/◌, ◌≤◌, length}
 use Rattle.std.proofs.Common.{arith, ap, subst, ◌∙◌}
 use Rattle.std.proofs.lemmas.List.Edits.{sets}
 use Rattle.std.proofs.Math.Seq.{slice}
@@ -8,12 +8,14 @@ use Rattle.rules.specs.Trees.{Ty, Tys, nil, cons, count, equal, size, sizeTys, s
 use Rattle.rules.specs.Rounds.{pairs}
 use Rattle.rules.specs.Writing.{rec, head, words, writeTy, writeCon}
 use Rattle.records.specs.Cut.{fit, fits}
-use Rattle.records.specs.Views.{recOf}
-use Rattle.records.specs.Held.{held-words}
-use Rattle.records.specs.ByView.{ends-in}
+use Rattle.laws.specs.Size.{size-con}
+use Rattle.records.specs.Held.{held-words, con-written}
+use Rattle.records.specs.Places.{words-from}
+use Rattle.records.specs.ByView.{con-in, ends-in}
+use Rattle.records.specs.Views.{from, recOf}
 use Rattle.records.specs.declared.View.TheVariants as view
 use Rattle.types.specs.declared.writer.Writer.{Writer}
-use Rattle.types.specs.Once.{ATree}
+use Rattle.types.specs.Once.{ATree, ACon}
 use Rattle.types.specs.Written.{Writes, writes-then, writes-none}
 
 pub short : (s : List ℕ) (at : ℕ) (t : ATree s at) → length s ≤ 4_000_000_000 → size t.0 ≤ 1_000_000_000
@@ -22,6 +24,13 @@ short s at t n = omega (arith, ends-in s t.0 at t.1)
 pub type-words : (s d d' : List ℕ) (at e out : ℕ) (t : ATree s at) → e ≡ at + size t.0 → d' ≡ sets d (out * 4) (slice (at * 4) (e * 4) s)
     → d' ≡ sets d (out * 4) (words (writeTy t.0))
 type-words s d d' at e out t q b = b ∙ ap (sets d (out * 4)) (ap (λ (k : ℕ). slice (at * 4) (k * 4) s) q ∙ held-words s t.0 at t.1)
+
+pub con-words : (s d d' : List ℕ) (at e out : ℕ) (c : ACon s at) → e ≡ at + sizeCon c.0 → d' ≡ sets d (out * 4) (slice (at * 4) (e * 4) s)
+    → d' ≡ sets d (out * 4) (words (writeCon c.0))
+con-words s d d' at e out c q b =
+    let le : at ≤ length s / 4 = omega (arith, con-in s c.0 at c.1) in
+    b ∙ ap (sets d (out * 4)) (ap (λ (k : ℕ). slice (at * 4) (k * 4) s) q
+    ∙ rw (size-con c.0) at (words-from s (writeCon c.0) (from s (at + sizeCon c.0)) at le (con-written s c.0 at c.1)))
 
 pub equal-writes : {w w₁ w₂ w₃ : Writer} (t u : Ty ℕ) (n : ℕ) → n ≡ 1 + size t + size u → n ≤ 65_535 → Writes w w₁ (recOf view.Equal (fit n) ∷ [])
     → Writes w₁ w₂ (writeTy t) → Writes w₂ w₃ (writeTy u)

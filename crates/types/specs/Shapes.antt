@@ -5,11 +5,14 @@ use Rattle.rules.specs.Trees as tree
 use Rattle.rules.specs.Trees.{◌↑◌}
 use Rattle.rules.specs.Writing.{signed}
 use Rattle.records.specs.Holds.{openOf, atomOf, basicOf}
+use Rattle.types.specs.Sets.{placed}
 use Rattle.types.specs.declared.Type as types
 use Rattle.types.specs.declared.Types as lists
 use Rattle.types.specs.declared.Fields as fields
 use Rattle.types.specs.declared.Factor as factors
 use Rattle.types.specs.declared.Product as products
+use Rattle.types.specs.declared.Constraint as cons
+use Rattle.types.specs.declared.Constraints as sets
 use Rattle.types.specs.declared.Demand.{Demand}
 use Rattle.types.specs.declared.Demand.TheVariants as demand
 use Rattle.types.specs.declared.Shape.{Shape}
@@ -63,3 +66,15 @@ tree_of t = t.tree.0
 
 abbrev pub trees_of : lists.Types → List (tree.Ty ℕ)
 trees_of ts = listed ts.trees.0
+
+-- a constraint: the words that it stands in, where it stands there, and what it is
+abbrev pub con_of : cons.Constraint → List ℕ × ℕ × tree.Con ℕ
+con_of c = (c.words.now, c.at, c.tree.0)
+
+abbrev pub cons_of : sets.Constraints → List (List ℕ × ℕ × tree.Con ℕ)
+cons_of cs = placed cs.words.now cs.at cs.trees.0
+
+-- the constraints that a first one and the rest are
+abbrev pub constraints_together : Option (cons.Constraint × sets.Constraints) → List (List ℕ × ℕ × tree.Con ℕ)
+constraints_together None = []
+constraints_together (Some v) = con_of v.0 ∷ cons_of v.1

@@ -4,11 +4,13 @@
 
 pub mod parts;
 pub mod reading;
+pub mod sets;
 pub mod writer;
 pub mod writing;
 
 ghost use Rattle.std.specs.Prelude.{◌≡◌, ◌≤◌, length};
 ghost use Rattle.types.specs.Once.{ATree, ACon, Trees, FieldTrees, Factors, one-tree, one-con, one-list, one-field-list, one-product};
+ghost use Rattle.types.specs.Sets.{Cons, one-set};
 
 use records::{Atom, Basic, Open};
 
@@ -78,6 +80,16 @@ pub struct Constraint<'a> {
     pub at: usize,
     pub ghost near: { length words.now ≤ 4_000_000_000 },
     pub ghost tree: { ACon words.now at } by { one-con words.now at },
+}
+
+/// Constraints, one after another up to a place.
+#[derive(Clone, Copy)]
+pub struct Constraints<'a> {
+    pub words: &'a [u32],
+    pub at: usize,
+    pub end: usize,
+    pub ghost near: { length words.now ≤ 4_000_000_000 },
+    pub ghost trees: { Cons words.now at end } by { one-set words.now at end },
 }
 
 /// What a constraint asks: that two types are equal, that a type is a dimension, that a dimension is a scalar, or that a type has the field of that name, and

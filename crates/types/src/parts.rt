@@ -1,14 +1,19 @@
 //! Going over types, fields and factors.
 ghost use Rattle.std.specs.Prelude.{◌≡◌, List};
 ghost use Rattle.std.specs.Iterator.{YieldsFirstBy, item_count};
+ghost use Rattle.rules.specs.Base.{and_then};
 ghost use Rattle.rules.specs.Contents.{fieldIn};
 ghost use Rattle.rules.specs.Names.{Bytes, numbered};
-ghost use Rattle.rules.specs.Refusals.{toldOptionBy};
+ghost use Rattle.rules.specs.Products.{single};
+ghost use Rattle.rules.specs.Refusals.{toldOption, toldOptionBy};
+ghost use Rattle.rules.specs.Views.{variable};
+ghost use Rattle.records.specs.Holds.{openOf};
 ghost use Rattle.types.specs.Shapes.{fields_together, multiplied, factor_of, factors_of, tree_of, trees_of};
 
 use super::{Factor, Fields, Product, Type, Types};
-use records::View;
+use exponents::Exponent;
 use records::seen::view_at;
+use records::{Atom, Open, View};
 
 impl<'a> Iterator for Types<'a> {
     type Item = Type<'a>;
@@ -64,6 +69,17 @@ impl<'a> Fields<'a> {
     }
 }
 
+/// The variable, where an open name is one.
+fn variable(o: Open) -> Option<u32>
+    ensures { toldOption result ≡ variable (openOf o) }
+{
+    match o {
+        Open::Var(x) => Some(x),
+        Open::Quant(_) => None,
+        Open::Par(_) => None,
+    }
+}
+
 impl<'a> Product<'a> {
     /// The first factor, and those after it.
     pub fn split_first(self) -> Option<(Factor, Product<'a>)>
@@ -84,6 +100,20 @@ impl<'a> Product<'a> {
                 Some((Factor { atom, num, den }, rest))
             }
             _ => unreachable!(),
+        }
+    }
+
+    /// The variable, where it is one variable to the power 1.
+    pub fn variable(self) -> Option<u32>
+        ensures { toldOption result ≡ and_then (single self.entry.factors.0) variable }
+    {
+        let (factor, others) = self.split_first()?;
+        if 0 < others.count || !Exponent::from_words(factor.num, factor.den).is_one() {
+            return None;
+        }
+        match factor.atom {
+            Atom::Free(o) => variable(o),
+            Atom::Base(_) => None,
         }
     }
 }

@@ -4,7 +4,7 @@ ghost use Rattle.rules.specs.Trees.{size, sizeTys};
 ghost use Rattle.rules.specs.Contents.{closed, contains};
 ghost use Rattle.rules.specs.Names.{Bytes, numbered};
 ghost use Rattle.rules.specs.Refusals.{toldOption};
-ghost use Rattle.rules.specs.Views.{asVar};
+ghost use Rattle.rules.specs.Views.{asPower, asVar};
 ghost use Rattle.types.specs.Shapes.{asked, whole, together};
 
 use super::{Constraint, Demand, Fields, Product, Shape, Type, Types};
@@ -48,6 +48,16 @@ impl<'a> Type<'a> {
     {
         match self.shape() {
             Shape::Open(Open::Var(x)) => Some(x),
+            _ => None,
+        }
+    }
+
+    /// The variable, where it is a dimension that is one variable to the power 1.
+    pub fn power_variable(self) -> Option<u32>
+        ensures { toldOption result ≡ asPower self.entry.tree.0 }
+    {
+        match self.shape() {
+            Shape::Dimension(product) => product.variable(),
             _ => None,
         }
     }

@@ -9,7 +9,7 @@ ghost use Rattle.records.specs.Views.{recOf};
 ghost use Rattle.types.specs.Written.{last, Writes, Reserves, Begins};
 
 use super::writer::{LAST, Writer};
-use super::{Type, Types};
+use super::{Constraint, Type, Types};
 use records::View;
 use records::inner::{copy, put_record};
 
@@ -41,6 +41,18 @@ impl<'a> Writer<'a> {
         self.at = past(at, n);
         if self.at < LAST {
             copy(t.words, t.at, t.end(), self.words, at);
+        }
+    }
+
+    /// The records of a constraint.
+    pub fn copy_constraint(&mut self, c: Constraint)
+        ensures { Writes self.old self.new (writeCon c.entry.tree.0) }
+    {
+        let at = self.at;
+        let n = c.len();
+        self.at = past(at, n);
+        if self.at < LAST {
+            copy(c.words, c.at, c.end(), self.words, at);
         }
     }
 

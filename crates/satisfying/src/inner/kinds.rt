@@ -6,10 +6,10 @@ ghost use Rattle.rules.specs.Refusals.{toldOption};
 ghost use Rattle.rules.specs.Rounds.{asProducts, by_kind};
 ghost use Rattle.rules.specs.Trees.{dim, size};
 ghost use Rattle.rules.specs.Writing.{writeProduct};
-ghost use Rattle.laws.specs.NameTable.{Good};
+ghost use Rattle.records.specs.Good.{numbers};
 ghost use Rattle.products.specs.Told.{Tree, productOf};
 ghost use Rattle.products.specs.Held.{Sound};
-ghost use Rattle.replacing.specs.Well.{names, GoodTy, GoodProduct};
+ghost use Rattle.replacing.specs.Well.{GoodTy, GoodProduct};
 ghost use Rattle.types.specs.Written.{Writes};
 ghost use Rattle.satisfying.specs.Parts.{asScalar};
 ghost use Rattle.satisfying.specs.Applied.{Applied};
@@ -50,21 +50,19 @@ fn put_product(p: products::Product, out: &mut Writer)
 
 /// Two dimensions: left divided by right is a scalar.
 fn quotient(
-    pool: &[u8],
-    table: &[u32],
+    names: NameTable,
     left: Product,
     right: Product,
     out: &mut Writer,
 ) -> Result<Step, Refusal>
-    requires good { Good pool.now table.now }
-    requires left_good { GoodProduct pool.now table.now left.factors.0 }
-    requires right_good { GoodProduct pool.now table.now right.factors.0 }
+    requires left_good { GoodProduct names.pool.now names.table.now left.factors.0 }
+    requires right_good { GoodProduct names.pool.now names.table.now right.factors.0 }
     requires small { out.old.at < 1_000_000_000 }
-    ensures { Applied out.old out.new result (asScalar (divide (names pool.now table.now) bounded left.entry.factors.0 right.entry.factors.0)) }
+    ensures { Applied out.old out.new result (asScalar (divide (numbers names.entry.pool.now names.entry.table.now) bounded left.entry.factors.0 right.entry.factors.0)) }
 {
     let p = load(left.words, left.at, left.count as usize);
     let q = load(right.words, right.at, right.count as usize);
-    let made = divided(p, q, NameTable { pool, table })?;
+    let made = divided(p, q, names)?;
     out.put(View::IsScalar, 2 + made.len);
     put_product(made, out);
     Ok(Step::Split(out.at))
@@ -72,22 +70,15 @@ fn quotient(
 
 /// Two dimensions: their quotient is a scalar. A variable against a dimension: the variable is one, too. Functions with as many parameters: what they return,
 /// then the parameters. Structs of one name with as many arguments: the arguments. Lists: the elements.
-pub fn by_kind(
-    pool: &[u8],
-    table: &[u32],
-    left: Type,
-    right: Type,
-    out: &mut Writer,
-) -> Result<Step, Refusal>
-    requires good { Good pool.now table.now }
-    requires left_good { GoodTy pool.now table.now left.tree.0 }
-    requires right_good { GoodTy pool.now table.now right.tree.0 }
+pub fn by_kind(names: NameTable, left: Type, right: Type, out: &mut Writer) -> Result<Step, Refusal>
+    requires left_good { GoodTy names.pool.now names.table.now left.tree.0 }
+    requires right_good { GoodTy names.pool.now names.table.now right.tree.0 }
     requires short { size left.tree.0 + size right.tree.0 < 65_000 }
     requires small { out.old.at < 1_000_000_000 }
-    ensures { Applied out.old out.new result (by_kind (names pool.now table.now) bounded left.entry.tree.0 right.entry.tree.0) }
+    ensures { Applied out.old out.new result (by_kind (numbers names.entry.pool.now names.entry.table.now) bounded left.entry.tree.0 right.entry.tree.0) }
 {
     match (left.shape(), right.shape()) {
-        (Shape::Dimension(p), Shape::Dimension(q)) => quotient(pool, table, p, q, out),
+        (Shape::Dimension(p), Shape::Dimension(q)) => quotient(names, p, q, out),
         (Shape::Dimension(_), Shape::Open(_)) => Ok(as_product(right.variable(), left, out)),
         (Shape::Open(_), Shape::Dimension(_)) => Ok(as_product(left.variable(), right, out)),
         (Shape::Function(ps, t), Shape::Function(qs, u)) if ps.count == qs.count => {

@@ -17,7 +17,7 @@ is_good-good-requires c = let enough : Long c.args.pool.now c.args.table.now c.a
 pub solve_set-s-requires : goal.solve_set-s-requires
 solve_set-s-requires c = let enough : Long c.args.pool.now c.args.table.now c.args.res.now c.args.work.now = long _ _ _ _ c.lent.result c.lent.ensures (ap not c.if-not-lent.false) in
     let l = enough in
-    record { table_value = l.table-met; good_value = c.is_good-good.ensures; in_bounds = l.result-long; in_bounds_2 = l.work-long }
+    record { table_value = l.table-met; good_value = c.is_good-good.ensures; result_room = l.result-long; room = l.work-long }
 
 pub returns : goal.returns
 returns c = let enough : Long c.args.pool.now c.args.table.now c.args.res.now c.args.work.now = long _ _ _ _ c.lent.result c.lent.ensures (ap not c.if-not-lent.false) in

@@ -31,8 +31,8 @@ slice_bounds-is_set-end c =
     let met = lent_met a.pool.now a.table.now a.buffer.now c.lent.result c.lent.ensures (ap not c.if-not-lent.false) in
     sym (length-take-le (a.count * 4) a.buffer.now (omega (arith, room _ _ _ met, c.if-count-gt-RECORDS.false)))
 
-pub check_one-requires : goal.check_one-requires
-check_one-requires c = table-good _ _ _ (sym c.in_ok-is_set.ensures)
+pub invariant_of-check_one : goal.invariant_of-check_one
+invariant_of-check_one c = record { good = table-good _ _ _ (sym c.in_ok-is_set.ensures) }
 
 pub returns : goal.returns
 returns c =

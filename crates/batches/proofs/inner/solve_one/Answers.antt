@@ -6,7 +6,7 @@ use Rattle.batches.proofs.inner.solve_one.Goals as goal
 
 pub solve_set-requires : goal.solve_set-requires
 solve_set-requires c =
-    record { table_value = c.requires.table_value; good_value = c.requires.good_value; in_bounds = part-long c.args.res.now c.args.at c.requires.at_in_bounds; in_bounds_2 = c.requires.in_bounds }
+    record { table_value = c.requires.table_value; good_value = c.requires.good_value; result_room = part-long c.args.res.now c.args.at c.requires.at_in_bounds; room = c.requires.in_bounds }
 
 pub returns : goal.returns
 returns c =

@@ -16,7 +16,7 @@ loop-i-init c = let a = c.args in (refl, (omega arith, ap (λ (j : ℕ). sets a.
 pub loop-i-preserved : goal.loop-i-preserved
 loop-i-preserved c =
     let a = c.args in
-    (c.put_one.auto.dst ∙ c.loop-i.invariant.0, (omega arith, bound-step a.names.now c.loop-i.dst _ a.k a.out c.loop-i.i c.loop-i-test.true c.requires.k_in_bounds c.put_one.ensures c.loop-i.invariant.1.1))
+    (c.put_one.auto.dst ∙ c.loop-i.invariant.0, (omega arith, bound-step a.names.now c.loop-i.dst _ a.k a.out c.loop-i.i c.loop-i-test.true c.requires.held c.put_one.ensures c.loop-i.invariant.1.1))
 
 pub returns : goal.returns
 returns c =

@@ -21,7 +21,7 @@ returns-then-not-is_unmixed c = λ cs h.
 pub run_alone-s-requires : goal.run_alone-s-requires
 run_alone-s-requires c =
     let (cs, h) = c.requires.stands in
-    record { good = c.args.names.good; by_index = (cs, begun _ _ _ cs h _ _ c.requires.room c.copy.ensures); in_bounds = omega arith; in_bounds_2 = omega (arith, c.copy.auto.dst, c.requires.room) }
+    record { begun = (cs, begun _ _ _ cs h _ _ c.requires.room c.copy.ensures); result_room = omega arith; room = omega (arith, c.copy.auto.dst, c.requires.room) }
 
 pub confirm-requires : goal.confirm-requires
 confirm-requires c =

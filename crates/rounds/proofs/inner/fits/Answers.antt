@@ -5,10 +5,8 @@ use Rattle.rounds.proofs.inner.fits.Goals as goal
 pub returns-then-m-gt-RECORDS : goal.returns-then-m-gt-RECORDS
 returns-then-m-gt-RECORDS c = λ xs s. too_many _ _ _ _ xs s c.if-m-gt-RECORDS.true
 
-pub lines_flat-requires : goal.lines_flat-requires
-lines_flat-requires c =
-    let (xs, s) = c.requires.stands in
-    record { good = c.requires.good; plain_lines = (xs, s.held c.if-m-gt-RECORDS.false) }
+pub lines_flat-requires-clause-plain_lines : goal.lines_flat-requires-clause-plain_lines
+lines_flat-requires-clause-plain_lines c = let (xs, s) = c.requires.stand in (xs, s.held c.if-m-gt-RECORDS.false)
 
 pub returns : goal.returns
 returns c = λ xs s. by-depth _ _ _ _ xs s c.if-m-gt-RECORDS.false (c.lines_flat.ensures xs (s.held c.if-m-gt-RECORDS.false))

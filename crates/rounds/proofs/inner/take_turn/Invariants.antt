@@ -1,13 +1,10 @@
-use mathlib.Core.Path.{◌≡◌}
-use Prim.Native.Nat.{ℕ, ◌-◌}
-use lib.ListN.{length}
+use Rattle.std.proofs.Common.{◌≡◌, ℕ, length}
 use Rattle.rules.specs.Rounds.{State}
+use Rattle.types.specs.Shapes.{cons_of}
 use Rattle.rounds.specs.Searching.{Search}
-use Rattle.rounds.specs.States.{StateHeld}
+use Rattle.rounds.specs.Standing.{Standing}
 use Rattle.rounds.proofs.inner.take_turn.Given as goal
 
-abbrev pub invariant-loop-at : goal.invariant-loop-at
-invariant-loop-at l = (l.work ≡ l.initial.work) × ((length l.next ≡ length l.initial.next) × ((st : State ℕ) → StateHeld l.pool l.table l.initial.work l.n l.m st → StateHeld l.pool l.table l.work l.n l.m st × Search l.pool l.table l.work l.n l.m st l.at))
-
-abbrev pub decreases-loop-at : goal.decreases-loop-at
-decreases-loop-at l = l.n - l.at
+abbrev pub invariant-search : goal.invariant-search
+invariant-search l = (length l.next ≡ length l.fn.next)
+    × ((st : State ℕ) → Standing l.names l.fn.work l.ends st → Search l.names.pool.now l.names.table.now l.fn.work l.ends.constraints l.ends.bindings st (cons_of l.c-iterator))

@@ -10,7 +10,7 @@ use Rattle.satisfying.proofs.inner.equal.Goals as goal
 pub returns-then-same_types : goal.returns-then-same_types
 returns-then-same_types c =
     let a = c.args in
-    let names = names_of (table_of a.pool.now a.table.now) in
+    let names = names_of (table_of a.names.pool.now a.names.table.now) in
     done-is (same-records (numbered names) _ _ (sym (c.same_types.ensures _ _ names a.left.tree.1 a.right.tree.1) ∙ c.if-same_types.true))
 
 pub overflow_add-len : goal.overflow_add-len
@@ -21,7 +21,7 @@ unfolding sizeBinding
 returns-in-Some c =
     let a = c.args in
     let b = c.in-Some.b in
-    let names = names_of (table_of a.pool.now a.table.now) in
+    let names = names_of (table_of a.names.pool.now a.names.table.now) in
     let l = first-long (numbered names) _ _ _ (c.in-Some.ensures names) in
     bind-is _ _ (bound-first (numbered names) _ _ (sym (c.same_types.ensures _ _ names a.left.tree.1 a.right.tree.1) ∙ c.if-same_types.false)
     (c.in-Some.ensures names))
@@ -30,6 +30,6 @@ returns-in-Some c =
 pub returns-in-None : goal.returns-in-None
 returns-in-None c =
     let a = c.args in
-    let names = names_of (table_of a.pool.now a.table.now) in
+    let names = names_of (table_of a.names.pool.now a.names.table.now) in
     applied-as (none-bound (numbered names) _ _ (sym (c.same_types.ensures _ _ names a.left.tree.1 a.right.tree.1) ∙ c.if-same_types.false)
     (c.in-None.ensures names)) c.by_kind.ensures

@@ -7,9 +7,13 @@ use Rattle.rules.specs.Trees.{Con}
 use Rattle.solving.specs.Running.{Begun, Going}
 use Rattle.solving.proofs.inner.run.Given as goal
 
-abbrev pub invariant-loop-p : goal.invariant-loop-p
-invariant-loop-p l =
-    (l.res ≡ l.initial.res) × ((length l.work ≡ length l.initial.work) × ((length l.next ≡ length l.initial.next) × ((cs : List (Con ℕ)) → Begun l.pool l.table l.initial.work l.n cs → Going l.pool l.table cs l.work l.b l.e l.k)))
+abbrev pub invariant-turns : goal.invariant-turns
+invariant-turns l =
+    (l.res ≡ l.initial.res)
+    × (length l.work ≡ length l.initial.work)
+    × (length l.next ≡ length l.initial.next)
+    × ((cs : List (Con ℕ)) → Begun l.names.pool.now l.names.table.now l.initial.work l.n cs
+    → Going l.names.pool.now l.names.table.now cs l.work l.ends.constraints l.ends.bindings l.completed)
 
-abbrev pub decreases-loop-p : goal.decreases-loop-p
-decreases-loop-p l = enough - l.k
+abbrev pub decreases-turns : goal.decreases-turns
+decreases-turns l = enough - l.completed

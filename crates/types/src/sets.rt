@@ -1,0 +1,58 @@
+//! Going over constraints.
+ghost use Rattle.std.specs.Prelude.{◌≡◌, ◌+◌};
+ghost use Rattle.std.specs.Iterator.{YieldsFirstBy, item_count};
+ghost use Rattle.rules.specs.Trees.{sizeCon};
+ghost use Rattle.types.specs.Shapes.{constraints_together, con_of, cons_of};
+
+use super::{Constraint, Constraints};
+use records::seen::length_at;
+
+impl<'a> Constraint<'a> {
+    /// How many records it has.
+    pub fn len(self) -> usize
+        ensures { result ≡ sizeCon self.entry.tree.0 }
+    {
+        length_at(self.words, self.at)
+    }
+
+    /// The place past its last record.
+    pub fn end(self) -> usize
+        ensures { result ≡ self.entry.at + sizeCon self.entry.tree.0 }
+    {
+        self.at + self.len()
+    }
+}
+
+impl<'a> Constraints<'a> {
+    /// The first, and those after it.
+    pub fn split_first(self) -> Option<(Constraint<'a>, Constraints<'a>)>
+        ensures { constraints_together result ≡ cons_of self.entry }
+    {
+        if self.end <= self.at {
+            return None;
+        }
+        let words = self.words;
+        let first = Constraint { words, at: self.at };
+        let at = first.end();
+        let rest = Constraints {
+            words,
+            at,
+            end: self.end,
+        };
+        Some((first, rest))
+    }
+}
+
+impl<'a> Iterator for Constraints<'a> {
+    type Item = Constraint<'a>;
+
+    ghost next_gives = { YieldsFirstBy con_of cons_of };
+
+    ghost remaining = { item_count cons_of };
+
+    fn next(&mut self) -> Option<Constraint<'a>> {
+        let (first, rest) = self.split_first()?;
+        *self = rest;
+        Some(first)
+    }
+}
