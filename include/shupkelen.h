@@ -16,7 +16,7 @@
  *   table counts its names, word k + 1 is where the name with number k ends in the pool.
  *
  *   Records. Lists of types, constraints, bindings, bounds and schemes are records of four words: word 0 is the kind plus 65,536 times the number of
- *   records of the part that it begins, then a, b, c (documents 01 and 02). A list has SHUPKELEN_LIST_WORDS words at the most.
+ *   records of the part that it begins, then a, b, c (crates/rules/specs/Writing.antt). A list has SHUPKELEN_LIST_WORDS words at the most.
  *
  *   result, work. SHUPKELEN_LIST_WORDS words or more, SHUPKELEN_WORK_WORDS words or more. Past the answer, and on a refusal other than 5, the result buffer
  *   is unchanged. The work buffer may hold anything before the call and is all zero after it, but for 10, which changes nothing.
@@ -148,7 +148,7 @@ uint32_t shupkelen_solve(const uint8_t *pool, size_t pool_len, const uint32_t *t
  * back. value: these records together. 10, 8, 1; a refused set does not stop those after it. */
 uint32_t shupkelen_solve_all(const uint8_t *pool, size_t pool_len, const uint32_t *table, size_t table_len, const uint32_t *sets, size_t sets_len, const uint32_t *lengths, size_t lengths_len, uint32_t *result, size_t result_len, uint32_t *answers, size_t answers_len, uint32_t *work, size_t work_len, uint32_t *answer, size_t answer_len);
 
-/* The second engine, for sets of equal-scalar constraints alone: up to 24 of them, over up to 24 variables and up to 24 parameters and base dimensions (W-209).
+/* The second engine, for sets of equal-scalar constraints alone: up to 24 of them, over up to 24 variables and up to 24 parameters and base dimensions.
  * result: the bindings; on 5 what remains. value: their records. 10, 8, 1, 4, then 8 where the set is no such set, 5, 7. */
 uint32_t shupkelen_eliminate(const uint8_t *pool, size_t pool_len, const uint32_t *table, size_t table_len, const uint32_t *set, size_t set_len, uint32_t *result, size_t result_len, uint32_t *work, size_t work_len, uint32_t *answer, size_t answer_len);
 
@@ -157,7 +157,7 @@ uint32_t shupkelen_eliminate(const uint8_t *pool, size_t pool_len, const uint32_
  * grows with the square of their number. */
 uint32_t shupkelen_judge(const uint8_t *pool, size_t pool_len, const uint32_t *table, size_t table_len, const uint32_t *set, size_t set_len, const uint32_t *entries, size_t entries_len, const uint32_t *types, size_t types_len, const uint32_t *bounds, size_t bounds_len, uint32_t *work, size_t work_len, uint32_t *answer, size_t answer_len);
 
-/* Checks a whole calculation line (W-211). steps: its steps, four words each, in postfix order: the step's number (1 constant, 2 reference, 3 add, 4 subtract, 5 multiply,
+/* Checks a whole calculation line. steps: its steps, four words each, in postfix order: the step's number (1 constant, 2 reference, 3 add, 4 subtract, 5 multiply,
  * 6 divide, 7 raise, 8 compare, 9 choose), then a, b, c, 0 where unused: the place in types (1) or in lines (2), or in b and c the fraction (7). types: records of types; lines:
  * the places, in records, of the earlier lines' types there; names: the numbers of names lent for the steps, one each or more. result: the type of the last step. value: its
  * records. 10, 8, 1, 4, 3, then 5, 6, 7, 8, 4, 11; on 5 nothing remains to be told: value is 0, result unchanged. */

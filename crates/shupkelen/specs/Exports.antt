@@ -16,7 +16,7 @@ use Rattle.rules.specs.Elimination.{Elimination}
 use Rattle.saying.specs.Saying.{orderAs, askedAs, numberAs, countedAs, writtenAs, addedAs, solvedAs, ceilingAs}
 use Rattle.saying.specs.declared.told.Told.{Told}
 use Rattle.products.specs.Told as products
-use Rattle.factors.specs.Factors.{toldOf, written_of}
+use Rattle.wording.specs.Factors.{toldOf, written_of}
 use Rattle.wording.specs.Words.{answerWords, placeAs, countAs, countsAs, powerAs, eliminatedAs, sheetAs}
 
 pub record Out (B : Type 0) : Type 0 where

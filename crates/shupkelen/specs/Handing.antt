@@ -6,7 +6,7 @@ use Rattle.rules.specs.Names.{Bytes}
 use Rattle.rules.specs.Numbers.{refusalIn}
 use Rattle.rules.specs.Values.{ProductValue}
 use Rattle.names.specs.Told.{refusalOf}
-use Rattle.factors.specs.Factors.{toldOf, written_of}
+use Rattle.wording.specs.Factors.{toldOf, written_of}
 use Rattle.saying.specs.declared.told.Told.{Told}
 use Rattle.wording.specs.Words.{answerWords}
 use Rattle.shupkelen.specs.Exports.{out, handed}

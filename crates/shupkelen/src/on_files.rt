@@ -12,7 +12,9 @@ use text::{read_text, write_text};
 use wording::answers::{compacted, rescued, sheet, spelt};
 use wording::hand;
 
-/// Keeps what is well formed of a damaged set file: records kept, places skipped.
+/// Rescues what is well formed of a damaged set file: words of four bytes, the lowest first, four words a record. The constraints that are whole go to
+/// the front of `kept` (32,768 bytes or more), the place of each other record, and of a torn last one, to the front of `skipped` (2,049 words or more).
+/// Says how many records are kept and how many places skipped. Refuses with 10, 8 (over 2,048 records) and 1 (no name table), and changes nothing then.
 #[unsafe(no_mangle)]
 pub extern "C" fn shupkelen_rescue(
     pool: &[u8],
@@ -27,7 +29,9 @@ pub extern "C" fn shupkelen_rescue(
     hand(rescued(rescue(pool, table, file, kept, skipped)), answer)
 }
 
-/// Drops the names that no set uses, moves the others up and renumbers the sets: names kept.
+/// Drops the names that no set uses, moves the others up in the pool and renumbers the sets, all in place. The sets stand back to back, up to 64 of them;
+/// `lengths` has their records. Says how many names are kept; numbers held elsewhere mean nothing afterwards. Refuses with 10, 8 and 1, and changes
+/// nothing then.
 #[unsafe(no_mangle)]
 pub extern "C" fn shupkelen_compact(
     pool: &mut [u8],
@@ -41,7 +45,8 @@ pub extern "C" fn shupkelen_compact(
     hand(compacted(compact(pool, table, sets, lengths)), answer)
 }
 
-/// Writes a set as text: its bytes.
+/// Writes a set as text, a line a constraint, to the front of `text` (354,304 bytes or more; the rest stays). Says how many bytes. Refuses with 10, 8 and
+/// 1, and writes nothing then.
 #[unsafe(no_mangle)]
 pub extern "C" fn shupkelen_write_text(
     pool: &[u8],
@@ -55,7 +60,9 @@ pub extern "C" fn shupkelen_write_text(
     hand(spelt(write_text(pool, table, set, text)), answer)
 }
 
-/// Reads text as a set, and enters its new names: records, constraints and new names; on a refusal the line and the column.
+/// Reads text, any bytes, as a set (docs/GRAMMAR.md), to the front of `res`, and enters its new names into pool and table. Says how many records,
+/// constraints and new names; the work buffer is left all zero. Refuses with 10, 1, then with 12, 1, 2, 3, 7 or 8 for the first line that is refused, and
+/// says its line and column, from 1 (0 and 0 where no line is at fault); pool, table and `res` are then as before.
 #[unsafe(no_mangle)]
 pub extern "C" fn shupkelen_read_text(
     pool: &mut [u8],

@@ -14,7 +14,7 @@ use rules::Refusal;
 use saying::told::{asked, counted, limited};
 use wording::{hand, number};
 
-/// Is it a set of constraints? 10, 8 or 1 where it is not.
+/// Is it a set: constraints one after another, each well formed, at most 2,048 records? Refuses with 10, 8 and 1; 0 says yes.
 #[unsafe(no_mangle)]
 pub extern "C" fn shupkelen_is_set(pool: &[u8], table: &[u32], words: &[u32]) -> u32
     ensures { result ≡ refusalIn (setCall pool.now table.now words.now) }
@@ -22,7 +22,7 @@ pub extern "C" fn shupkelen_is_set(pool: &[u8], table: &[u32], words: &[u32]) ->
     number(is_set(pool, table, words))
 }
 
-/// Is it one type? 10, 8 or 1 where it is not.
+/// Is it one well formed type? Refuses with 10, 8 and 1; 0 says yes.
 #[unsafe(no_mangle)]
 pub extern "C" fn shupkelen_is_type(pool: &[u8], table: &[u32], words: &[u32]) -> u32
     ensures { result ≡ refusalIn (typeCall pool.now table.now words.now) }
@@ -30,7 +30,7 @@ pub extern "C" fn shupkelen_is_type(pool: &[u8], table: &[u32], words: &[u32]) -
     number(is_type(pool, table, words))
 }
 
-/// Is it a scheme? 10, 8 or 1 where it is not.
+/// Is it a scheme: a concrete type, or a count of quantified names, a type and bounds? Refuses with 10, 8 and 1; 0 says yes.
 #[unsafe(no_mangle)]
 pub extern "C" fn shupkelen_is_scheme(pool: &[u8], table: &[u32], words: &[u32]) -> u32
     ensures { result ≡ refusalIn (schemeCall pool.now table.now words.now) }
@@ -38,7 +38,7 @@ pub extern "C" fn shupkelen_is_scheme(pool: &[u8], table: &[u32], words: &[u32])
     number(is_scheme(pool, table, words))
 }
 
-/// Are these bindings? 10, 8 or 1 where it is not.
+/// Are these bindings, each of a variable to a well formed type? Refuses with 10, 8 and 1; 0 says yes.
 #[unsafe(no_mangle)]
 pub extern "C" fn shupkelen_is_bindings(pool: &[u8], table: &[u32], words: &[u32]) -> u32
     ensures { result ≡ refusalIn (bindingsCall pool.now table.now words.now) }
@@ -46,7 +46,7 @@ pub extern "C" fn shupkelen_is_bindings(pool: &[u8], table: &[u32], words: &[u32
     number(is_bindings(pool, table, words))
 }
 
-/// Are all four buffers long enough for a call that writes records? 10 where one is not.
+/// Are all four buffers long enough for a call that writes records? 10 where one is not; 0 says yes.
 #[unsafe(no_mangle)]
 pub extern "C" fn shupkelen_lent(pool: &[u8], table: &[u32], res: &[u32], work: &[u32]) -> u32
     ensures { result ≡ refusalIn (rules.lent pool.now table.now res.now work.now) }
@@ -58,7 +58,8 @@ pub extern "C" fn shupkelen_lent(pool: &[u8], table: &[u32], res: &[u32], work: 
     }
 }
 
-/// Does a type contain the variable of this name or, where parameters is 1, the parameter?
+/// Does a type contain the variable of this name or, where parameters is 1, the parameter? Says 1 for yes and 0 for no. Refuses with 10, 8, 1 (also a
+/// number that no name has) and 4 (one name is both a variable and a parameter).
 #[unsafe(no_mangle)]
 pub extern "C" fn shupkelen_contains(
     pool: &[u8],
@@ -76,7 +77,7 @@ pub extern "C" fn shupkelen_contains(
     )
 }
 
-/// Has a type no variable and no parameter?
+/// Has a type no variable and no parameter? Says 1 for yes and 0 for no. Refuses with 10, 8, 1 and 4.
 #[unsafe(no_mangle)]
 pub extern "C" fn shupkelen_closed(
     pool: &[u8],
@@ -89,7 +90,8 @@ pub extern "C" fn shupkelen_closed(
     hand(asked(closed(pool, table, words)), answer)
 }
 
-/// The numbers of a type's variables and, where parameters is 1, parameters, in the order of their names' bytes.
+/// The numbers of a type's variables and, where parameters is 1, of its parameters, each once, in the order of their names' bytes, at the front of `res`.
+/// Says how many. Refuses with 10, 8, 1 and 4, and writes nothing then.
 #[unsafe(no_mangle)]
 pub extern "C" fn shupkelen_variables(
     pool: &[u8],
@@ -107,7 +109,7 @@ pub extern "C" fn shupkelen_variables(
     )
 }
 
-/// How many rounds solving a set can take at the most, and its distinct variables.
+/// What a watchdog may count on: says how many distinct variables a set has, and the most rounds that solving it can take. Refuses with 10, 8 and 1.
 #[unsafe(no_mangle)]
 pub extern "C" fn shupkelen_ceiling(
     pool: &[u8],

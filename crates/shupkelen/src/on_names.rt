@@ -10,7 +10,7 @@ use saying::told::{numbered, ordered};
 use wording::placing::placed;
 use wording::{hand, number};
 
-/// 1 less, 2 same, 3 more: the bytes of two names, first to last, a prefix before what it begins.
+/// The order of two names by their bytes, first to last, a prefix before what it begins: returns 1 for less, 2 for same, 3 for more.
 #[unsafe(no_mangle)]
 pub extern "C" fn shupkelen_compare(first: &[u8], second: &[u8]) -> u32
     ensures { result ≡ orderWord (orderBytes first.now second.now) }
@@ -19,7 +19,7 @@ pub extern "C" fn shupkelen_compare(first: &[u8], second: &[u8]) -> u32
     t.value
 }
 
-/// Is it a name table? 10 where pool or table is too short, 1 where it is malformed.
+/// Is it a name table: ends in the pool that rise, names of 1 to 48 bytes, no name twice? Refuses with 10 (a short pool or table) and 1; 0 says yes.
 #[unsafe(no_mangle)]
 pub extern "C" fn shupkelen_check_table(pool: &[u8], table: &[u32]) -> u32
     ensures { result ≡ refusalIn (tableGiven pool.now table.now) }
@@ -27,7 +27,7 @@ pub extern "C" fn shupkelen_check_table(pool: &[u8], table: &[u32]) -> u32
     number(check_table(pool, table))
 }
 
-/// Has a name this number? 3 where none has.
+/// Has a name this number? Refuses with 10, 1 and 3 (none has); 0 says yes.
 #[unsafe(no_mangle)]
 pub extern "C" fn shupkelen_check_number(pool: &[u8], table: &[u32], name: u32) -> u32
     ensures { result ≡ refusalIn (nameAsked pool.now table.now name) }
@@ -35,7 +35,7 @@ pub extern "C" fn shupkelen_check_number(pool: &[u8], table: &[u32], name: u32) 
     number(check_number(pool, table, name))
 }
 
-/// Where the name with this number stands in the pool: its first byte, and how many.
+/// Where the name with this number stands in the pool: says its first byte, and how many bytes. Refuses with 10, 1 and 3.
 #[unsafe(no_mangle)]
 pub extern "C" fn shupkelen_name_of(
     pool: &[u8],
@@ -48,7 +48,8 @@ pub extern "C" fn shupkelen_name_of(
     hand(placed(pool, table, name), answer)
 }
 
-/// Enters a name: its number, and 1 where it is new, 0 where it was known.
+/// Enters a name: says its number, and 1 where it is new, 0 where it was known. Refuses with 10, 1, 2 (no byte, or over 48) and 3 (no room), and changes
+/// neither pool nor table then.
 #[unsafe(no_mangle)]
 pub extern "C" fn shupkelen_enter(
     pool: &mut [u8],

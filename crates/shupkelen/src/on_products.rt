@@ -1,15 +1,16 @@
-//! The calls on products: four words for each factor, as the crate `factors` has them.
+//! The calls on products: four words for each factor, as `wording::product_words` has them.
 ghost use Rattle.std.specs.Prelude.{◌≡◌};
 ghost use Rattle.rules.specs.Exponents.{frac};
 ghost use Rattle.rules.specs.Values.{multiplyCall, divideCall, inverseCall, raiseCall};
-ghost use Rattle.factors.specs.Factors.{productAt};
+ghost use Rattle.wording.specs.Factors.{productAt};
 ghost use Rattle.shupkelen.specs.Exports.{out, productOut};
 
 use exponents::Exponent;
-use factors::{product_from, put_product};
 use wording::hand;
+use wording::product_words::{product_from, put_product};
 
-/// The product of two products: 7 for a power out of range, 8 for over 64 factors.
+/// The product of two products, their powers added factor by factor. `res` gets all 64 places, (0, 0, 0, 1) in the unused ones, as far as it goes; says
+/// how many factors. Refuses with 10, 1, 7 (a power out of range) and 8 (over 64 factors), and writes nothing then.
 #[unsafe(no_mangle)]
 pub extern "C" fn shupkelen_product_multiply(
     pool: &[u8],
@@ -26,7 +27,7 @@ pub extern "C" fn shupkelen_product_multiply(
     hand(put_product(p.multiply(q, pool, table), res), answer)
 }
 
-/// Their quotient, likewise.
+/// The quotient of two products: the first times the inverse of the second. Writes, says and refuses as the multiplication does.
 #[unsafe(no_mangle)]
 pub extern "C" fn shupkelen_product_divide(
     pool: &[u8],
@@ -43,7 +44,7 @@ pub extern "C" fn shupkelen_product_divide(
     hand(put_product(p.divide(q, pool, table), res), answer)
 }
 
-/// The inverse of a product.
+/// The inverse of a product: each power negated. Writes, says and refuses as the multiplication does; 7 and 8 don't come.
 #[unsafe(no_mangle)]
 pub extern "C" fn shupkelen_product_invert(
     pool: &[u8],
@@ -58,7 +59,8 @@ pub extern "C" fn shupkelen_product_invert(
     hand(put_product(p.invert(pool, table), res), answer)
 }
 
-/// A power of a product: 7 for a power out of range.
+/// A power of a product: each power multiplied by the fraction; the power 0 gives the scalar. Writes and says as the multiplication does. Refuses with
+/// 10, 1 (also a fraction that is not in lowest terms or out of range) and 7.
 #[unsafe(no_mangle)]
 pub extern "C" fn shupkelen_product_power(
     pool: &[u8],

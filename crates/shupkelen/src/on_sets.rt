@@ -19,7 +19,9 @@ use solving::solve;
 use wording::answers::eliminated;
 use wording::hand;
 
-/// Tests a constraint and stores it behind the first `count` records of the buffer: 1 Satisfied, 2 Violated, 3 Unknown, and the records then.
+/// Tests a constraint, and stores it behind the first `count` records of the buffer (8,192 words or more), which are a set, unless it is satisfied. Says
+/// 1 Satisfied, 2 Violated or 3 Unknown, and how many records the set has then. Refuses with 10, 8, 1, then 8 where the constraint has no room, and
+/// leaves the buffer as it was.
 #[unsafe(no_mangle)]
 pub extern "C" fn shupkelen_add(
     pool: &[u8],
@@ -37,7 +39,8 @@ pub extern "C" fn shupkelen_add(
     )
 }
 
-/// A type with bindings put in.
+/// A type with bindings put in, everywhere, at the front of `res`; what is put in is not looked at again. Says how many records; the work buffer is left
+/// all zero. Refuses with 10, 8, 1, 4, then 6, 7 and 8, and `res` is then as before.
 #[unsafe(no_mangle)]
 pub extern "C" fn shupkelen_replace_in_type(
     pool: &[u8],
@@ -56,7 +59,8 @@ pub extern "C" fn shupkelen_replace_in_type(
     )
 }
 
-/// A set with bindings put in.
+/// A set with bindings put in, everywhere, at the front of `res`; what is put in is not looked at again. Says how many records; the work buffer is left
+/// all zero. Refuses with 10, 8, 1, 4, then 6, 7 and 8, and `res` is then as before.
 #[unsafe(no_mangle)]
 pub extern "C" fn shupkelen_replace_in_set(
     pool: &[u8],
@@ -75,7 +79,9 @@ pub extern "C" fn shupkelen_replace_in_set(
     )
 }
 
-/// Solves a set: records of bindings and of bounds, and completed rounds; on 5 the records that remain.
+/// Solves a set, round by round: the bindings, then the bounds (variables that may be any dimension), at the front of `res`. Says how many records of
+/// bindings, how many bounds, a record each, and how many rounds were completed; the work buffer is left all zero. On 5 `res` begins with the constraints
+/// that remain, and their records are said. Refuses with 10, 8, 1, 4, then 5, 6, 7 and 8.
 #[unsafe(no_mangle)]
 pub extern "C" fn shupkelen_solve(
     pool: &[u8],
@@ -90,7 +96,9 @@ pub extern "C" fn shupkelen_solve(
     hand(solution(solve(pool, table, set, res, work)), answer)
 }
 
-/// Solves up to 64 sets that stand back to back; four words of `answers` for each say what it was answered.
+/// Solves up to 64 sets that stand back to back, each by itself; `lengths` has their records. Of each set four words go to `answers`: the refusal,
+/// completed rounds, records of bindings (on 5: of what remains), bounds; `res` has their records back to back, and says how many these are together.
+/// With n sets `res` has 8,192 n words and `answers` 4 n, or more. Refuses with 10, 8 and 1; a refused set doesn't stop those after it.
 #[unsafe(no_mangle)]
 pub extern "C" fn shupkelen_solve_all(
     pool: &[u8],
@@ -111,7 +119,9 @@ pub extern "C" fn shupkelen_solve_all(
     )
 }
 
-/// The second engine, for sets of dimensions: records of bindings; on 5 of what remains.
+/// The second engine, for up to 24 equal-scalar constraints over up to 24 variables and up to 24 parameters and base dimensions: Gaussian elimination,
+/// row by row. The bindings, or on 5 the constraints that remain, at the front of `res`; says how many records. Refuses with 10, 8, 1, 4, then 8 (another
+/// set), 5 and 7.
 #[unsafe(no_mangle)]
 pub extern "C" fn shupkelen_eliminate(
     pool: &[u8],
@@ -126,7 +136,9 @@ pub extern "C" fn shupkelen_eliminate(
     hand(eliminated(eliminate(pool, table, set, res, work)), answer)
 }
 
-/// Is this a solution? Entries are pairs of words, a variable and the place of its type.
+/// Is this a solution of the set, whoever proposed it? Entries are pairs of words: a variable's number, and the place of its type in `types`, in records;
+/// an odd last word is not looked at. `bounds` has records of bounds. Says 1 for yes and 0 for no; the work buffer is left all zero. Refuses with 10, 8,
+/// 1, 4, then 7 and 8.
 #[unsafe(no_mangle)]
 pub extern "C" fn shupkelen_judge(
     pool: &[u8],
@@ -146,7 +158,10 @@ pub extern "C" fn shupkelen_judge(
     )
 }
 
-/// Checks a whole calculation line: the type of its last step.
+/// Checks a whole calculation line, and leaves the type of its last step at the front of `res`: says how many records. `steps` has four words a step, in
+/// postfix order; `types` the records of the types that they point to; `lines` the places of the earlier lines' types there; `names` the numbers of names
+/// lent for the steps, one each or more. Refuses with 10, 8, 1, 4 (a lent name is given twice, or used in the line), 3, then as solving does, and with 11
+/// where the judge says no.
 #[unsafe(no_mangle)]
 pub extern "C" fn shupkelen_check_line(
     pool: &[u8],
@@ -168,7 +183,8 @@ pub extern "C" fn shupkelen_check_line(
     )
 }
 
-/// A scheme from a type and bounds, with handed names quantified.
+/// A scheme from a type and bounds: the handed names, numbers in `names`, become indices 0, 1, .. in their order. At the front of `res`; says how many
+/// records. Refuses with 10, 8, 1, 4, 9, then 6, 7 and 8.
 #[unsafe(no_mangle)]
 pub extern "C" fn shupkelen_quantify(
     pool: &[u8],
@@ -188,7 +204,8 @@ pub extern "C" fn shupkelen_quantify(
     )
 }
 
-/// A scheme with all names of its type that bounds or variables leave free quantified.
+/// The scheme generalised: of a concrete type all names are quantified, with those of the bounds that are among them; another scheme stays. At the front
+/// of `res`; says how many records. Refuses with 10, 8, 1, 4, then 6, 7 and 8.
 #[unsafe(no_mangle)]
 pub extern "C" fn shupkelen_generalise(
     pool: &[u8],
@@ -207,7 +224,8 @@ pub extern "C" fn shupkelen_generalise(
     )
 }
 
-/// The type and the bounds of a scheme, with handed names put back.
+/// The type and then the bounds of a scheme, with the handed names in the place of its indices. At the front of `res`; says how many records. Refuses
+/// with 10, 8, 1, 4, 9 (as many names as the scheme has must be handed), then 6, 7 and 8.
 #[unsafe(no_mangle)]
 pub extern "C" fn shupkelen_instantiate(
     pool: &[u8],

@@ -8,7 +8,8 @@ use exponents::Exponent;
 use wording::answers::powered;
 use wording::hand;
 
-/// The sum of two exponents: 1 where one is not well formed, 7 where the sum is out of range.
+/// The sum of two exponents, fractions in lowest terms: says its numerator in two's complement, and its denominator. Refuses with 1 (one is not well
+/// formed) and 7 (out of range: numerators and denominators are at most 2,147,483,647).
 #[unsafe(no_mangle)]
 pub extern "C" fn shupkelen_exponent_add(
     num: i32,
@@ -27,7 +28,7 @@ pub extern "C" fn shupkelen_exponent_add(
     hand(powered(e.add(f)), answer)
 }
 
-/// Their product, likewise.
+/// The product of two exponents. Says and refuses as the sum does.
 #[unsafe(no_mangle)]
 pub extern "C" fn shupkelen_exponent_multiply(
     num: i32,
@@ -46,7 +47,7 @@ pub extern "C" fn shupkelen_exponent_multiply(
     hand(powered(e.multiply(f)), answer)
 }
 
-/// The negative of an exponent.
+/// The negative of an exponent. Says as the sum does. Refuses with 1.
 #[unsafe(no_mangle)]
 pub extern "C" fn shupkelen_exponent_negate(num: i32, den: u32, answer: &mut [u32]) -> u32
     ensures { out result answer.new tt ≡ powerOut (negationCall (frac num den)) answer.old }
@@ -55,7 +56,7 @@ pub extern "C" fn shupkelen_exponent_negate(num: i32, den: u32, answer: &mut [u3
     hand(powered(e.negate()), answer)
 }
 
-/// Their quotient: 7 also where the divisor is 0.
+/// The quotient of two exponents. Says and refuses as the sum does, with 7 also where the divisor is 0.
 #[unsafe(no_mangle)]
 pub extern "C" fn shupkelen_exponent_divide(
     num: i32,

@@ -22,7 +22,7 @@ fn power_words(e: Exponent) -> Told
     said(e.num_word(), e.den, 0)
 }
 
-/// An exponent.
+/// An exponent: its numerator as a word in two's complement, and its denominator.
 pub fn powered(p: Result<Exponent, Refusal>) -> Told
     ensures { result ≡ powerAs (toldBy expOf p) }
 {
@@ -44,7 +44,7 @@ fn remaining(n: usize) -> Told
     }
 }
 
-/// Records of bindings; on 5 of what remains.
+/// How many records of bindings the second engine wrote; on 5 how many records remain.
 pub fn eliminated(a: Result<Eliminated, Refusal>) -> Told
     ensures { result ≡ eliminatedAs (toldEliminated a) }
 {
@@ -61,7 +61,7 @@ fn both(c: Counts) -> Told
     said(short(c.kept), short(c.skipped), 0)
 }
 
-/// Records that are kept, places that are skipped.
+/// How many records a rescue kept, and how many places it skipped.
 pub fn rescued(a: Result<Counts, Refusal>) -> Told
     ensures { result ≡ countsAs (toldBy countsOf a) }
 {
@@ -71,7 +71,7 @@ pub fn rescued(a: Result<Counts, Refusal>) -> Told
     }
 }
 
-/// Names that are kept.
+/// How many names a compaction kept.
 pub fn compacted(a: Result<usize, Refusal>) -> Told
     ensures { result ≡ countAs (told a) }
 {
@@ -81,7 +81,7 @@ pub fn compacted(a: Result<usize, Refusal>) -> Told
     }
 }
 
-/// Bytes of a text.
+/// How many bytes a text has.
 pub fn spelt(a: Result<usize, Refusal>) -> Told
     ensures { result ≡ countAs (told a) }
 {
@@ -103,7 +103,7 @@ fn three(refusal: u32, value: usize, more: usize, rounds: usize) -> Told
     }
 }
 
-/// Records, constraints and new names of a sheet; on a refusal the line and the column.
+/// How many records, constraints and new names a sheet has; on a refusal its line and column, counted from 1.
 pub fn sheet(s: Result<Read, NotRead>) -> Told
     ensures { result ≡ sheetAs (toldSheet s) }
 {

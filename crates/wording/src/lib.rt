@@ -2,7 +2,9 @@
 #![tactic(auto)]
 
 pub mod answers;
+pub mod inner;
 pub mod placing;
+pub mod product_words;
 
 ghost use Rattle.std.specs.Prelude.{◌≡◌};
 ghost use Rattle.rules.specs.Numbers.{refusalIn};

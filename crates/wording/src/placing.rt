@@ -18,7 +18,7 @@ fn start_of(table: &[u32], number: u32) -> u32
     }
 }
 
-/// Its first byte, and how many.
+/// Where the name with this number stands in the pool: its first byte, and how many; 10, 1 or 3 where there is no such name.
 pub fn placed(pool: &[u8], table: &[u32], number: u32) -> Told
     ensures { result ≡ placeAs (nameAsked pool.now table.now number) (partAsked pool.now table.now number) }
 {

@@ -1,9 +1,9 @@
-// A factor read, and the factors of a product written.
+// A factor read from words, and the factors of a product written as words.
 ghost use Rattle.std.specs.Prelude.{◌≡◌, [], ◌∷◌, ◌≤◌, ◌*◌};
 ghost use Rattle.std.proofs.lemmas.List.Edits.{sets};
 ghost use Rattle.exponents.specs.Answers.{expOf};
 ghost use Rattle.products.specs.Told.{valueIn, given};
-ghost use Rattle.factors.specs.Factors.{factorAt, numIn, denIn, words_of};
+ghost use Rattle.wording.specs.Factors.{factorAt, numIn, denIn, words_of};
 
 use exponents::Exponent;
 use products::{Factor, Product};
@@ -11,7 +11,7 @@ use records::inner::put;
 use replacing::inner::bound::word_at;
 use rules::FACTORS;
 
-// The factor at place i.
+/// The factor at place i: its kind, its name or index, and its power, from four words; words that are missing count as 0.
 pub fn factor_at(words: &[u32], i: usize) -> Factor
     requires { i ≤ 64 }
     ensures { valueIn result ≡ factorAt words.now i }
@@ -34,14 +34,11 @@ fn put_factor(f: Factor, i: usize, dst: &mut [u32])
     put(dst, i * 4 + 3, e.den);
 }
 
-// All 64 places, the unused ones too.
+/// Writes all 64 places, the unused ones too.
 pub fn put_factors(p: Product, dst: &mut [u32])
     ensures { dst.new ≡ sets dst.old 0 (words_of (given p).factors) }
 {
-    let mut i: usize = 0;
-    while i < FACTORS {
-        let f = p.factors[i];
-        put_factor(f, i, dst);
-        i += 1;
+    for i in 0..FACTORS {
+        put_factor(p.factors[i], i, dst);
     }
 }

@@ -9,7 +9,7 @@ use Rattle.exponents.specs.Answers.{expOf}
 use Rattle.products.specs.declared.Factor.{Factor}
 use Rattle.products.specs.declared.Product.{Product}
 use Rattle.products.specs.Told.{valueIn, given, unread}
-use Rattle.factors.specs.Factors.{factorAt, first_of, productAt, words_of, numIn, denIn}
+use Rattle.wording.specs.Factors.{factorAt, first_of, productAt, words_of, numIn, denIn}
 
 map-append : (xs ys : List Factor) → map valueIn (xs ++ ys) ≡ map valueIn xs ++ map valueIn ys
 map-append [] ys = refl

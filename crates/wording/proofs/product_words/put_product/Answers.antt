@@ -3,7 +3,7 @@ use mathlib.Core.Path.{refl, ap, ◌∙◌}
 use Prim.Native.Nat.{ℕ}
 use Rattle.products.specs.Told.{given}
 use Rattle.saying.specs.Saying.{saidAs}
-use Rattle.factors.proofs.put_product.Goals as goal
+use Rattle.wording.proofs.product_words.put_product.Goals as goal
 
 pub returns-in-Ok : goal.returns-in-Ok
 unfolding given

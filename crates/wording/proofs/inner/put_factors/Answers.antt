@@ -3,18 +3,18 @@ use mathlib.Core.Path.{◌≡◌, refl, ◌∙◌}
 use native.Mathlib.Omega.{arith}
 use lib.ListN.{length}
 use Rattle.products.specs.Told.{given}
-use Rattle.factors.specs.Stores.{store-on, stored}
-use Rattle.factors.proofs.inner.put_factors.Goals as goal
+use Rattle.wording.proofs.Stores.{store-on, stored}
+use Rattle.wording.proofs.inner.put_factors.Goals as goal
 
 pub loop-i-init : goal.loop-i-init
 unfolding given
-loop-i-init c = (omega arith, refl, refl)
+loop-i-init c = (refl, refl)
 
 pub loop-i-preserved : goal.loop-i-preserved
 loop-i-preserved c = let long : length c.args.p.factors ≡ 64 = c.well_formed.0.1.1.0.1.0.1 in
-    (omega arith, c.put_factor.auto.dst ∙ c.loop-i.invariant.1, store-on c.loop-i.dst _ _ c.args.p.factors c.loop-i.i (omega (arith, long)) c.put_factor.ensures c.loop-i.invariant.2)
+    (c.put_factor.auto.dst ∙ c.loop-i.invariant.0, store-on c.loop-i.dst _ _ c.args.p.factors c.loop-i.i (omega (arith, long)) c.put_factor.ensures c.loop-i.invariant.1)
 
 pub returns : goal.returns
 unfolding given
 returns c = let long : length c.args.p.factors ≡ 64 = c.well_formed.0.1.1.0.1.0.1 in
-    stored c.loop-i.dst c.args.p.factors c.loop-i.i (long) (omega arith) c.loop-i.invariant.2
+    stored c.loop-i.dst c.args.p.factors c.loop-i.i (long) (omega arith) c.loop-i.invariant.1
