@@ -57,7 +57,7 @@ def lines(comment, q, names, r):
 
 
 def in_blocks(cases, text=''):
-    """the reader takes blocks; empty lines fill a block up, so that no case lies across the end of one. These come behind the text"""
+    """empty lines fill blocks up, so that no case lies across the end of one, for readers that take blocks. These come behind the text"""
     for c in cases:
         left = BLOCK - len(text) % BLOCK
         if left < len(c) + 1:

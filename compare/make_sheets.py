@@ -587,7 +587,7 @@ def one(why, t, names, lent, spoil):
 
 
 def in_blocks(texts):
-    """the reader takes blocks; empty lines fill a block up, so that no case lies across the end of one"""
+    """empty lines fill blocks up, so that no case lies across the end of one, for readers that take blocks"""
     out = ''
     for c in texts:
         left = BLOCK - len(out) % BLOCK

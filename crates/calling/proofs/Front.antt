@@ -6,6 +6,7 @@ use native.Mathlib.Omega.{arith}
 use lib.ListN.{length, take, set, length-map}
 use lib.Seq.{take_all}
 use Rattle.std.proofs.Math.Decide.{dec_lt}
+use Rattle.std.proofs.lemmas.List.{length-take-le}
 use Rattle.std.proofs.lemmas.List.Edits.{sets}
 use Rattle.saying.specs.Given.{nameIn}
 use Rattle.saying.specs.Fills.{low_byte}
@@ -39,3 +40,9 @@ pub name-bytes : (a d : List ℕ) (n : ℕ) {c : List ℕ} → length d ≡ 512 
 name-bytes a d n l e w =
     let k : n ≤ length (map low_byte a) = rw (length-map a low_byte) (omega (arith, e)) in
     ap (take n) w ∙ filled (map low_byte a) d n k (omega (arith, e, l)) ∙ map_take low_byte n a ∙ ap (map low_byte) (take-less a 512 n e)
+
+-- the front of a list that was copied to a buffer with room for it
+pub front-words : (xs d : List ℕ) (m : ℕ) {x : List ℕ} → m ≤ length xs → m ≤ length d → x ≡ sets d 0 (take m xs) → take m x ≡ take m xs
+front-words xs d m h k w =
+    let l : length (take m xs) ≡ m = length-take-le m xs h in
+    ap (take m) w ∙ filled (take m xs) d m (omega (arith, l)) k ∙ take_all m (take m xs) (omega (arith, l))

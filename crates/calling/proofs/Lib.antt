@@ -1,3 +1,7 @@
+pub mod Changed
+pub mod Entered
 pub mod Front
 pub mod Names
 pub mod Pairs
+pub mod Sets
+pub mod Numbers

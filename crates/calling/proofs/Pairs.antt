@@ -1,6 +1,6 @@
 -- The entries of pairs of words, one after another.
-use mathlib.Core.Path.{◌≡◌, refl, sym, ap, ◌∙◌}
-use mathlib.Core.List.{List, [], ◌∷◌, ◌++◌, map}
+use mathlib.Core.Path.{◌≡◌, refl, sym, ap}
+use mathlib.Core.List.{List, [], ◌∷◌, ◌++◌}
 use Prim.Native.Nat.{ℕ, zero, suc, ◌+◌, ◌<◌, ◌≤◌, min}
 use Rattle.std.proofs.Math.Decide.{dec_lt}
 use borrow.Author.Tests.{lt-ltb, le-ltb}

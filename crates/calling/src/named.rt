@@ -1,26 +1,22 @@
-// The calls on names.
-ghost use Rattle.std.specs.Prelude.{◌≡◌, ◌≤◌};
-ghost use Rattle.saying.specs.Dispatch.{shown, naming, comparing};
+//! The calls on names.
+ghost use Rattle.std.specs.Prelude.{◌≡◌, ◌+◌, ◌*◌, ◌≤◌, length};
+ghost use Rattle.std.proofs.lemmas.List.Edits.{sets};
+ghost use Rattle.saying.specs.Dispatch.{shown, named, change, changesFrom, naming, entering, comparing};
 
 use names::{check_number, compare, enter, name_of};
-use saying::told::{Told, numbered, ordered, refused, said, short};
-use saying::words::{byte_word, fill, fill_bytes, fill_low, fill_words, put, word_of};
+use saying::told::{Told, numbered, ordered, refused, said};
+use saying::words::{fill, fill_low, fill_words, put};
 
-// Names, pools and tables are looked at as far as these go: a longer name is refused in any case, and no longer pool or table is lent.
+/// Names are looked at as far as this: a longer one is refused in any case.
 const NAME: usize = 512;
 
+/// What changed is told of the first bytes of a pool and the first words of a table: no program lends more.
 pub const POOL: usize = 9216;
 
+/// See `POOL`.
 pub const TABLE: usize = 512;
 
-// The lesser of a length and the room that there is.
-fn within(n: usize, most: usize) -> usize
-    ensures { result ≤ most }
-{
-    if n < most { n } else { most }
-}
-
-// The bytes of the name with this number, a word each.
+/// 2: the bytes of the name with this number, a word each, at the front of the result buffer.
 pub fn named(pool: &[u8], table: &[u32], x: u32, res: &mut [u32]) -> Told
     ensures { shown result res.new ≡ naming pool.now table.now x res.old }
 {
@@ -32,7 +28,7 @@ pub fn named(pool: &[u8], table: &[u32], x: u32, res: &mut [u32]) -> Told
     }
 }
 
-// Two names, a word for each byte.
+/// 4: how two names compare, a word for each byte.
 pub fn compared(a: &[u32], b: &[u32]) -> Told
     ensures { result ≡ comparing a.now b.now }
 {
@@ -44,60 +40,54 @@ pub fn compared(a: &[u32], b: &[u32]) -> Told
 }
 
 // Puts a place and its new value at the place `next`, where it is not as it was; where the next goes.
-fn put_change(out: &mut [u32], next: usize, i: usize, before: u32, after: u32) -> usize {
+fn put_change(out: &mut [u32], next: usize, i: usize, before: u32, after: u32) -> usize
+    requires near { (next ≤ 1000000) × (i ≤ 1000000) }
+    ensures written { out.new ≡ sets out.old next (change i before after) }
+    ensures past { result ≡ next + length (change i before after) }
+{
     if before == after {
         return next;
     }
-    if 1000000 < next {
-        return next;
-    }
-    put(out, next, short(i));
+    put(out, next, i as u32);
     put(out, next + 1, after);
     next + 2
 }
 
-// The bytes of the pool that are not as before.
-fn put_pool(before: &[u8], after: &[u8], res: &mut [u32]) -> usize {
-    let mut next = 0;
-    let mut i = 0;
-    while i < after.len() {
-        next = put_change(res, next, i, byte_word(before, i), after[i] as u32);
-        i += 1;
-    }
-    next
-}
-
-// The words of the table that are not as before.
-fn put_table(before: &[u32], after: &[u32], from: usize, res: &mut [u32]) -> usize {
+// The places where two lists differ, and what stands there in the second, from a place of the result buffer on; where the next goes.
+fn put_changes(before: &[u32], after: &[u32], from: usize, res: &mut [u32]) -> usize
+    requires as_long { length before.now ≡ length after.now }
+    requires short { length after.now ≤ 9216 }
+    requires near { from ≤ 18433 }
+    ensures written { res.new ≡ sets res.old from (changesFrom before.now after.now 0 (length after.now)) }
+    ensures past { result ≡ from + length (changesFrom before.now after.now 0 (length after.now)) }
+    ensures few { result ≤ from + 2 * length after.now }
+{
     let mut next = from;
-    let mut i = 0;
-    while i < after.len() {
-        next = put_change(res, next, i, word_of(before, i), after[i]);
-        i += 1;
+    for i in 0..after.len() {
+        next = put_change(res, next, i, before[i], after[i]);
     }
     next
 }
 
-// The changed bytes of the pool, a word of ones, the changed words of the table: place and value each.
-fn changes(pool0: &[u8], pool: &[u8], table0: &[u32], table: &[u32], res: &mut [u32]) -> usize {
-    let next = put_pool(pool0, pool, res);
-    if 1000000 < next {
-        return next;
-    }
-    put(res, next, 4294967295);
-    put_table(table0, table, next + 1, res)
-}
-
-// Enters a name, a word for each byte: its number, and what that changed.
-pub fn entered(pool: &mut [u8], table: &mut [u32], b: &[u32], res: &mut [u32]) -> Told {
-    let n = within(b.len(), NAME);
+/// 3: enters a name, a word for each byte. The answer is its number; the result buffer begins with what that changed: places of the pool and their
+/// bytes now, a word of ones, places of the table and their words now. The first 9,216 bytes of the pool and the first 512 words of the table are
+/// looked at.
+pub fn entered(pool: &mut [u8], table: &mut [u32], b: &[u32], res: &mut [u32]) -> Told
+    ensures { named result pool.new table.new res.new ≡ entering pool.old table.old b.now res.old }
+{
     let mut name = [0u8; NAME];
     fill_low(b, &mut name);
-    let mut pool0 = [0u8; POOL];
-    fill_bytes(pool, &mut pool0);
-    let mut table0 = [0u32; TABLE];
-    fill(table, &mut table0);
-    let a = enter(pool, table, &name[0..n]);
-    let words = changes(&pool0, pool, &table0, table, res);
-    numbered(a, words)
+    let bytes = pool.len().min(POOL);
+    let mut pool_before = [0u32; POOL];
+    fill_words(&pool[..bytes], &mut pool_before);
+    let words = table.len().min(TABLE);
+    let mut table_before = [0u32; TABLE];
+    fill(&table[..words], &mut table_before);
+    let answer = enter(pool, table, &name[..b.len().min(NAME)]);
+    let mut pool_after = [0u32; POOL];
+    fill_words(&pool[..bytes], &mut pool_after);
+    let next = put_changes(&pool_before[..bytes], &pool_after[..bytes], 0, res);
+    put(res, next, u32::MAX);
+    let count = put_changes(&table_before[..words], &table[..words], next + 1, res);
+    numbered(answer, count)
 }

@@ -1,31 +1,25 @@
-// The calls on whole sets beside solving: the judge, the ceiling on rounds, and several sets at once.
+//! The calls on whole sets beside solving: the judge, the ceiling on rounds, and several sets at once.
 ghost use Rattle.std.specs.Prelude.{◌≡◌, ◌≤◌, length, take};
 ghost use Rattle.rules.specs.Calls.{judgeCall};
 ghost use Rattle.entries.specs.Entries.{toldEntry, told};
 ghost use Rattle.judging.specs.Told.{judgedAs};
-ghost use Rattle.saying.specs.Given.{pair_at, pairsFrom, entriesIn};
+ghost use Rattle.saying.specs.Dispatch.{done, sheets, batchOf};
+ghost use Rattle.saying.specs.Given.{at_most, pair_at, pairsFrom, entriesIn};
 
 use batches::solve_all;
 use ceiling::ceiling;
 use entries::Entry;
 use judging::judge;
 use rules::Refusal;
-use saying::Asked;
 use saying::told::{Told, batched, judged, limited};
-use saying::words::{fill, word_of};
+use saying::words::word_of;
+use saying::{Asked, Lists};
 
 // As many entries are handed on at the most: no longer list of pairs is sent.
 const ENTRIES: usize = 5120;
 
 // The words of a batch's answers, at the most: more than its 64 sets have.
 const ANSWERS: usize = 512;
-
-// The lesser of a count and the room that there is.
-fn at_most(n: usize, most: usize) -> usize
-    ensures { (result ≤ n) × (result ≤ most) }
-{
-    if n < most { n } else { most }
-}
 
 // The i-th pair of words.
 fn entry_at(b: &[u32], i: usize) -> Entry
@@ -88,14 +82,6 @@ fn judge_pairs(
     judge_first(pool, table, set, es, n, types, bounds, work)
 }
 
-// The first n words of the answers go to the front of the result buffer.
-fn put_front(answers: &[u32; ANSWERS], n: usize, res: &mut [u32])
-    requires { n ≤ 512 }
-{
-    let all = &answers[..];
-    fill(&all[0..n], res);
-}
-
 // Several sets. The first x words of the result buffer are lent as the buffer of their answers, the others as the result buffer.
 fn batch(
     pool: &[u8],
@@ -105,36 +91,34 @@ fn batch(
     x: u32,
     res: &mut [u32],
     work: &mut [u32],
-) -> Told {
-    let n = at_most(at_most(x as usize, ANSWERS), res.len());
-    let mut answers = [0u32; ANSWERS];
-    fill(&res[0..n], &mut answers);
-    let a = solve_all(
-        pool,
-        table,
-        sets,
-        lengths,
-        &mut res[n..],
-        &mut answers[0..n],
-        work,
-    );
-    put_front(&answers, n, res);
-    batched(a, n)
+) -> Told
+    ensures { done result res.new work.new ≡
+        batchOf (at_most (at_most x 512) (length res.old)) pool.now table.now sets.now lengths.now res.old work.old }
+{
+    let n = (x as usize).min(ANSWERS).min(res.len());
+    let (answers, rest) = res.split_at_mut(n);
+    batched(
+        solve_all(pool, table, sets, lengths, rest, answers, work),
+        n,
+    )
 }
 
+/// 28 judge, 29 ceiling, 30 several sets: `sheets` (`saying/specs/Dispatch`).
 pub fn sheet(
     q: Asked,
+    lists: Lists,
     pool: &[u8],
     table: &[u32],
-    a: &[u32],
-    b: &[u32],
-    c: &[u32],
-    d: &[u32],
     res: &mut [u32],
     work: &mut [u32],
-) -> Told {
-    let call = q.call;
-    match call {
+) -> Told
+    ensures {
+        done result res.new work.new ≡
+        sheets q pool.now table.now lists.entry.a.now lists.entry.b.now lists.entry.c.now lists.entry.d.now res.old work.old
+    }
+{
+    let Lists { a, b, c, d } = lists;
+    match q.call {
         28 => judged(judge_pairs(pool, table, a, b, c, d, work)),
         29 => limited(ceiling(pool, table, a)),
         _ => batch(pool, table, a, b, q.x, res, work),

@@ -1,4 +1,4 @@
-// The calls on lists of records by their numbers: 1, 13 to 27.
+//! The calls on lists of records by their numbers: 1, 13 to 27.
 #![tactic(auto)]
 
 ghost use Rattle.std.specs.Prelude.{◌≡◌, length};
@@ -14,7 +14,7 @@ use queries::{closed, contains, variables};
 use records::{is_bindings, is_scheme, is_set, is_type};
 use replacing_calls::{replace_in_set, replace_in_type};
 use rules::Refusal;
-use saying::Asked;
+use saying::{Asked, Lists};
 use saying::told::{Told, added, asked, checked, counted, refused, said, solution, written};
 use saying::words::fill;
 use schemes::{generalise, instantiate, quantify};
@@ -50,8 +50,7 @@ fn lent_told(pool: &[u8], table: &[u32], res: &[u32], work: &[u32]) -> Told
 fn looked(q: Asked, pool: &[u8], table: &[u32], a: &[u32]) -> Told
     ensures { result ≡ looking q pool.now table.now a.now }
 {
-    let call = q.call;
-    match call {
+    match q.call {
         1 => checked(check_table(pool, table)),
         13 => checked(is_set(pool, table, a)),
         14 => checked(is_type(pool, table, a)),
@@ -62,20 +61,19 @@ fn looked(q: Asked, pool: &[u8], table: &[u32], a: &[u32]) -> Told
     }
 }
 
+/// 1, 13 to 27; any other number is taken for 18. What is said, and what both buffers hold then, is `listing` (`saying/specs/Dispatch`).
 pub fn listed(
     q: Asked,
+    lists: Lists,
     pool: &[u8],
     table: &[u32],
-    a: &[u32],
-    b: &[u32],
-    c: &[u32],
     res: &mut [u32],
     work: &mut [u32],
 ) -> Told
-    ensures { done result res.new work.new ≡ listing q pool.now table.now a.now b.now c.now res.old work.old }
+    ensures { done result res.new work.new ≡ listing q pool.now table.now lists.entry.a.now lists.entry.b.now lists.entry.c.now res.old work.old }
 {
-    let call = q.call;
-    match call {
+    let Lists { a, b, c, d: _ } = lists;
+    match q.call {
         19 => counted(variables(pool, table, a, q.y == 1, res)),
         20 => adding_to(pool, table, a, q.x, b, res),
         21 => written(replace_in_type(pool, table, a, b, res, work)),

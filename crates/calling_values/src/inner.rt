@@ -1,4 +1,4 @@
-// Exponents and products from words and back, for callers that know the places.
+//! Exponents and products from words and back, for callers that know the places.
 ghost use Rattle.std.specs.Prelude.{◌≡◌, ℕ, ◌≤◌, length};
 ghost use Rattle.std.proofs.lemmas.List.Edits.{sets};
 ghost use Rattle.rules.specs.Base.{Got, collect};
@@ -14,6 +14,7 @@ use rules::{FACTORS, Refusal};
 use saying::told::{Told, refused, said, short};
 use saying::words::{put, word_of};
 
+/// Numerator and denominator from a place on.
 pub fn exponent_at(a: &[u32], i: usize) -> Exponent
     requires { i ≤ 1000000 }
     ensures { expOf result ≡ exponentAt a.now i }
@@ -21,6 +22,7 @@ pub fn exponent_at(a: &[u32], i: usize) -> Exponent
     Exponent::from_words(word_of(a, i), word_of(a, i + 1))
 }
 
+/// The words of an exponent.
 pub fn told_power(p: Result<Exponent, Refusal>) -> Told
     ensures { result ≡ powerAs (toldBy expOf p) }
 {
@@ -41,16 +43,13 @@ fn factor_at(a: &[u32], i: usize) -> Factor
     }
 }
 
-// A product of any count: its 64 places are the list's first records.
+/// A product of any count: its 64 places are the list's first records.
 pub fn product_from(a: &[u32], count: u32) -> Product
     ensures { given result ≡ productAt a.now count }
 {
     let mut p = Product::scalar();
-    let mut i = 0;
-    while i < FACTORS {
-        let f = factor_at(a, i);
-        p.factors[i] = f;
-        i += 1;
+    for i in 0..FACTORS {
+        p.factors[i] = factor_at(a, i);
     }
     p.len = count as usize;
     p
@@ -72,15 +71,12 @@ fn put_factors(p: Product, dst: &mut [u32])
     requires { length p.factors ≡ 64 }
     ensures { dst.new ≡ sets dst.old 0 (collect factorWords (given p).factors) }
 {
-    let mut i = 0;
-    while i < FACTORS {
-        let f = p.factors[i];
-        put_factor(f, dst, i * 4);
-        i += 1;
+    for i in 0..FACTORS {
+        put_factor(p.factors[i], dst, i * 4);
     }
 }
 
-// The factors of a product that was made, or of the scalar beside a refusal.
+/// The factors of a product that was made, or of the scalar beside a refusal.
 pub fn told_product(t: Result<Product, Refusal>, dst: &mut [u32]) -> Told
     requires { (m : Got Tree) × (toldBy given t ≡ answer m) }
     ensures { (m : Got Tree) → toldBy given t ≡ answer m → shown result dst.new ≡ productShown m dst.old }

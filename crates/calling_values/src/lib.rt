@@ -1,4 +1,4 @@
-// The calls on exponents and products by their numbers, 5 to 12. Both pass by value.
+//! The calls on exponents and products by their numbers, 5 to 12. Both pass by value.
 #![tactic(auto)]
 
 pub mod inner;
@@ -7,10 +7,10 @@ ghost use Rattle.std.specs.Prelude.{◌≡◌};
 ghost use Rattle.saying.specs.Dispatch.{shown, exponents, products};
 
 use inner::{exponent_at, product_from, told_power, told_product};
-use saying::Asked;
+use saying::{Asked, Lists};
 use saying::told::Told;
 
-// 5 add, 6 multiply, 7 negate, 8 divide.
+/// 5 add, 6 multiply, 7 negate, 8 divide: `exponents` (`saying/specs/Dispatch`).
 pub fn exponent(call: u32, a: &[u32]) -> Told
     ensures { result ≡ exponents call a.now }
 {
@@ -24,17 +24,16 @@ pub fn exponent(call: u32, a: &[u32]) -> Told
     }
 }
 
-// 9 multiply, 10 divide, 11 invert, 12 power. x and y are the counts of the products; for power b has the exponent.
-pub fn product(q: Asked, a: &[u32], b: &[u32], pool: &[u8], table: &[u32], res: &mut [u32]) -> Told
-    ensures { shown result res.new ≡ products q a.now b.now pool.now table.now res.old }
+/// 9 multiply, 10 divide, 11 invert, 12 power: `products` (`saying/specs/Dispatch`). x and y are the counts of the products; for power b has the exponent.
+pub fn product(q: Asked, lists: Lists, pool: &[u8], table: &[u32], res: &mut [u32]) -> Told
+    ensures { shown result res.new ≡ products q lists.entry.a.now lists.entry.b.now pool.now table.now res.old }
 {
-    let p = product_from(a, q.x);
-    let r = product_from(b, q.y);
-    let call = q.call;
-    match call {
+    let p = product_from(lists.a, q.x);
+    let r = product_from(lists.b, q.y);
+    match q.call {
         9 => told_product(p.multiply(r, pool, table), res),
         10 => told_product(p.divide(r, pool, table), res),
         11 => told_product(p.invert(pool, table), res),
-        _ => told_product(p.power(exponent_at(b, 0), pool, table), res),
+        _ => told_product(p.power(exponent_at(lists.b, 0), pool, table), res),
     }
 }

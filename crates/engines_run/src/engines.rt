@@ -1,88 +1,60 @@
 // What each engine answers, in one form.
-use eliminating::Eliminated;
+use crate::sets::Table;
+use eliminating::{Eliminated, eliminate};
 use rules::Refusal;
-use solving::Finish;
+use solving::{Finish, solve};
+use std::alloc::{AllocError, Global};
 
-// The number of an outcome (0, 5, or the refusal's), the records of bindings or of what remains, and those of bounds.
-#[derive(Clone, Copy)]
-pub struct Told {
+/// What the words of the result buffer are before a call.
+pub const RESULT_BEFORE: u32 = 0xaaaaaaaa;
+
+/// What the words of the work buffer are before a call.
+const WORK_BEFORE: u32 = 0x55555555;
+
+/// The number of an outcome (0, 5, or the refusal's), the records of bindings or of what remains, and those of bounds; and what the buffers hold then.
+#[derive(Drop, PartialEq)]
+pub struct Outcome {
     pub number: u32,
     pub records: usize,
     pub bounds: usize,
+    pub result: Vec<u32>,
+    pub work: Vec<u32>,
 }
 
-impl Told {
-    pub fn same(self, other: Told) -> bool {
-        if self.number != other.number {
-            return false;
-        }
-        if self.records != other.records {
-            return false;
-        }
-        self.bounds == other.bounds
-    }
+/// The solver.
+pub fn solved(alloc: Global, table: &Table, words: &[u32]) -> Result<Outcome, AllocError> {
+    let mut result = vec![in alloc; RESULT_BEFORE; 8192]?;
+    let mut work = vec![in alloc; WORK_BEFORE; 16384]?;
+    let solution = solve(&table.pool, &table.ends, words, &mut result, &mut work);
+    let (number, records, bounds) = match solution.outcome {
+        Ok(Finish::Solved(bindings, bounds)) => (0, bindings, bounds),
+        Ok(Finish::Unsolved(remaining)) => (Refusal::Unsolved.number(), remaining, 0),
+        Err(why) => (why.number(), 0, 0),
+    };
+    Ok(Outcome {
+        number,
+        records,
+        bounds,
+        result,
+        work,
+    })
 }
 
-fn refused(r: Refusal) -> Told {
-    Told {
-        number: r.number(),
-        records: 0,
+/// The second engine.
+pub fn eliminated(alloc: Global, table: &Table, words: &[u32]) -> Result<Outcome, AllocError> {
+    let mut result = vec![in alloc; RESULT_BEFORE; 8192]?;
+    let mut work = vec![in alloc; WORK_BEFORE; 16384]?;
+    let answer = eliminate(&table.pool, &table.ends, words, &mut result, &mut work);
+    let (number, records) = match answer {
+        Ok(Eliminated::Bound(bindings)) => (0, bindings),
+        Ok(Eliminated::Left(remaining)) => (Refusal::Unsolved.number(), remaining),
+        Err(why) => (why.number(), 0),
+    };
+    Ok(Outcome {
+        number,
+        records,
         bounds: 0,
-    }
-}
-
-fn told_solved(o: Result<Finish, Refusal>) -> Told {
-    match o {
-        Ok(Finish::Solved(n, m)) => Told {
-            number: 0,
-            records: n,
-            bounds: m,
-        },
-        Ok(Finish::Unsolved(n)) => Told {
-            number: 5,
-            records: n,
-            bounds: 0,
-        },
-        Err(r) => refused(r),
-    }
-}
-
-fn told_eliminated(answer: Result<Eliminated, Refusal>) -> Told {
-    match answer {
-        Ok(Eliminated::Bound(n)) => Told {
-            number: 0,
-            records: n,
-            bounds: 0,
-        },
-        Ok(Eliminated::Left(n)) => Told {
-            number: 5,
-            records: n,
-            bounds: 0,
-        },
-        Err(r) => refused(r),
-    }
-}
-
-// The solver.
-pub fn solved(
-    pool: &[u8],
-    table: &[u32],
-    words: &[u32],
-    res: &mut [u32],
-    work: &mut [u32],
-) -> Told {
-    let s = solving::solve(pool, table, words, res, work);
-    let o = s.outcome;
-    told_solved(o)
-}
-
-// The second engine.
-pub fn eliminated(
-    pool: &[u8],
-    table: &[u32],
-    words: &[u32],
-    res: &mut [u32],
-    work: &mut [u32],
-) -> Told {
-    told_eliminated(eliminating::eliminate(pool, table, words, res, work))
+        result,
+        work,
+    })
 }

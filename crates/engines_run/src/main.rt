@@ -4,178 +4,99 @@
 mod engines;
 mod sets;
 
-ghost use Rattle.std.specs.Prelude.{◌≤◌, ◌<◌, length};
-
-use cases::{Tally, next_line};
-use engines::{eliminated, solved};
-use filling::fill;
-use sets::{enter_letters, two_lines, words_from};
+use anyhow::{Context, Result};
+use engines::{Outcome, RESULT_BEFORE, eliminated, solved};
+use sets::{Table, numbers, two_lines};
+use std::alloc::Global;
 use std::io;
 
-// How many sets are generated: two lines of three factors, each power one of five.
+/// How many sets are generated: two lines of three factors, each power one of five.
 const GENERATED: u32 = 15625;
 
-// The list is read as far as this.
-const LIST: usize = 65536;
-
-// How both engines' outcomes compare: all alike; or the second answers 8 alone, since the set doesn't fit it.
-#[derive(Clone, Copy)]
-pub enum Seen {
+/// How both engines' outcomes compare: all alike; or the second answers 8 alone, since the set doesn't fit it.
+#[derive(Clone, Copy, PartialEq, Eq)]
+enum Seen {
     Alike,
     Unfit,
     Differ,
 }
 
-// Each letter is a name; they are numbered in this order, which isn't that of their bytes.
-fn letters() -> [u8; 52] {
-    *b"xyzaLPMbcdefghijklmnopqrstuvwABCDEFGHIJKNOQRSTUVWXYZ"
+/// How many sets were run, and how many of them came out as they must.
+#[derive(Clone, Copy)]
+struct Tally {
+    sets: u32,
+    right: u32,
 }
 
-// Arrays of these sizes come from functions of their own, so that their callers are checked without them being written out.
-fn result_before() -> [u32; 8192] {
-    [2863311530; 8192]
-}
-
-fn work_before() -> [u32; 16384] {
-    [1431655765; 16384]
-}
-
-fn list_room() -> [u8; LIST] {
-    [0; LIST]
-}
-
-// Does the first list begin with the second?
-fn begins(a: &[u32], b: &[u32]) -> bool {
-    if a.len() < b.len() {
-        return false;
-    }
-    let mut i = 0;
-    while i < b.len() {
-        if a[i] != b[i] {
-            return false;
+impl Tally {
+    /// One set more.
+    fn with(self, right: bool) -> Tally {
+        Tally {
+            sets: self.sets.saturating_add(1),
+            right: self.right.saturating_add(right as u32),
         }
-        i += 1;
     }
-    true
 }
 
-// Both engines on a set, each with buffers of its own.
-fn both(pool: &[u8], table: &[u32], words: &[u32]) -> Seen {
-    let mut first = result_before();
-    let mut second = result_before();
-    let mut work = work_before();
-    let mut other = work_before();
-    let s = solved(pool, table, words, &mut first, &mut work);
-    let e = eliminated(pool, table, words, &mut second, &mut other);
-    if !begins(&work, &other) {
-        return Seen::Differ;
-    }
-    if s.same(e) {
-        return if begins(&first, &second) {
-            Seen::Alike
-        } else {
-            Seen::Differ
-        };
-    }
-    if e.number != 8 {
-        return Seen::Differ;
-    }
-    if begins(&second, &result_before()) {
+fn compared(solver: &Outcome, second: &Outcome) -> Seen {
+    if solver == second {
+        Seen::Alike
+    } else if second.number == 8
+        && solver.number != 8
+        && solver.work == second.work
+        && second.result.iter().all(|w| *w == RESULT_BEFORE)
+    {
         Seen::Unfit
     } else {
         Seen::Differ
     }
 }
 
-// Is it what a line with this first letter says?
-fn as_listed(letter: u8, s: Seen) -> bool {
-    match s {
-        Seen::Alike => letter == b'a',
-        Seen::Unfit => letter == b'u',
+/// Both engines on a set, each with buffers of its own.
+fn both(alloc: Global, table: &Table, words: &[u32]) -> Result<Seen> {
+    let solver = solved(alloc, table, words)?;
+    let second = eliminated(alloc, table, words)?;
+    Ok(compared(&solver, &second))
+}
+
+/// A line's set, with what it says of the outcomes before it: does it say what is seen?
+fn as_listed(alloc: Global, table: &Table, line: &str) -> Result<bool> {
+    let (expected, words) = line.split_once(':').context("no set")?;
+    let seen = both(alloc, table, &numbers(alloc, words)?)?;
+    Ok(match seen {
+        Seen::Alike => expected == "alike",
+        Seen::Unfit => expected == "unfit",
         Seen::Differ => false,
-    }
+    })
 }
 
-// Does a line with this first letter have a set?
-fn is_set(letter: u8) -> bool {
-    if letter == b'a' { true } else { letter == b'u' }
+/// Writes how many sets were run.
+fn report(rt: &impl Print, what: &str, tally: Tally) -> io::Result<()> {
+    println!(rt;
+        "{what}: {} sets, {} as they must be",
+        tally.sets, tally.right
+    )
 }
 
-// The tally with the set of a line. The comment of a set that differs, which stands from before up to it, is written.
-fn with_set(
-    rt: &impl Print,
-    t: Tally,
-    pool: &[u8],
-    table: &[u32],
-    s: &[u8],
-    before: usize,
-    at: usize,
-) -> io::Result<Tally>
-    requires { (before ≤ at) × (at < length s.now) }
-{
-    let mut words = [0u32; 8200];
-    let n = words_from(s, at, &mut words);
-    let right = as_listed(s[at], both(pool, table, &words[0..n]));
-    if !right {
-        rt.write_all(&s[before..at])?;
-    }
-    Ok(t.with(right))
-}
-
-// The sets of a list, added to those before it.
-fn run(rt: &impl Print, pool: &[u8], table: &[u32], s: &[u8], tally: Tally) -> io::Result<Tally> {
-    let mut t = tally;
-    let mut before = 0;
-    let mut at = 0;
-    while at < s.len() {
-        let next = next_line(s, at);
-        if is_set(s[at]) {
-            t = with_set(rt, t, pool, table, s, before, at)?;
+fn main(rt: HostRuntime) -> Result<()> {
+    let alloc = rt.alloc();
+    let table = Table::new(alloc)?;
+    let list = io::read_to_string(alloc, rt.reader())?;
+    let mut lines = list.lines();
+    let mut listed = Tally { sets: 0, right: 0 };
+    while let Some(about) = lines.next() {
+        let right = as_listed(alloc, &table, lines.next().context("a set is missing")?)?;
+        if !right {
+            println!(rt; "{about}")?;
         }
-        before = at;
-        at = next;
+        listed = listed.with(right);
     }
-    Ok(t)
-}
-
-// Reads the list and runs it.
-fn run_listed<R: Input + Print>(rt: &R, pool: &[u8], table: &[u32]) -> io::Result<Tally> {
-    let mut buf = list_room();
-    let n = fill(&mut rt.reader(), &mut buf)?;
-    run(rt, pool, table, &buf[..n], Tally::none())
-}
-
-// The generated set of this number.
-fn generated(pool: &[u8], table: &[u32], n: u32) -> bool {
-    as_listed(b'a', both(pool, table, &two_lines(n)))
-}
-
-// The generated sets.
-fn run_generated(pool: &[u8], table: &[u32], tally: Tally) -> Tally {
-    let mut t = tally;
-    let mut i: u32 = 0;
-    while i < GENERATED {
-        t = t.with(generated(pool, table, i));
-        i += 1;
+    report(&rt, "listed", listed)?;
+    let mut generated = Tally { sets: 0, right: 0 };
+    for n in 0..GENERATED {
+        let seen = both(alloc, &table, &two_lines(n))?;
+        generated = generated.with(seen == Seen::Alike);
     }
-    t
-}
-
-// Writes how many sets were run.
-fn report(rt: &impl Print, what: &str, t: Tally) -> io::Result<()> {
-    println!(rt; "{what}: {} sets, {} as they must be", t.cases, t.right)
-}
-
-fn main(rt: HostRuntime) -> io::Result<()> {
-    let mut pool = [0u8; 8192];
-    let mut table = [0u32; 257];
-    if enter_letters(&letters(), &mut pool, &mut table) {
-        report(&rt, "listed", run_listed(&rt, &pool, &table)?)?;
-        report(
-            &rt,
-            "generated",
-            run_generated(&pool, &table, Tally::none()),
-        )?;
-    }
+    report(&rt, "generated", generated)?;
     Ok(())
 }

@@ -1,58 +1,41 @@
 // Where sets come from: names, the words on a line, and generated lines.
-ghost use Rattle.std.specs.Prelude.{◌≤◌, length};
-
-use cases::{next_line, number_from};
+use anyhow::{Context, Result, ensure};
 use names::enter;
-use rules::{Refusal, Was};
+use rules::Was;
+use std::alloc::Global;
 
-fn is_new(got: Result<(u32, Was), Refusal>) -> bool {
-    match got {
-        Ok((_, was)) => match was {
-            Was::New => true,
-            Was::Known => false,
-        },
-        Err(_) => false,
-    }
+/// Each letter is a name; they are numbered in this order, which isn't that of their bytes.
+const LETTERS: &[u8; 52] = b"xyzaLPMbcdefghijklmnopqrstuvwABCDEFGHIJKNOQRSTUVWXYZ";
+
+/// The name table that all sets are over.
+#[derive(Drop)]
+pub struct Table {
+    pub pool: Vec<u8>,
+    pub ends: Vec<u32>,
 }
 
-// Enters each letter as a name. Is each new?
-pub fn enter_letters(s: &[u8], pool: &mut [u8], table: &mut [u32]) -> bool {
-    let mut i = 0;
-    while i < s.len() {
-        if !is_new(enter(pool, table, &s[i..i + 1])) {
-            return false;
+impl Table {
+    pub fn new(alloc: Global) -> Result<Table> {
+        let mut pool = vec![in alloc; 0; 8192]?;
+        let mut ends = vec![in alloc; 0; 257]?;
+        for letter in LETTERS {
+            let entered = enter(&mut pool, &mut ends, &[*letter]);
+            ensure!(matches!(entered, Ok((_, Was::New))), "a letter is not new");
         }
-        i += 1;
+        Ok(Table { pool, ends })
     }
-    true
 }
 
-// The numbers from a place up to another at the front of out. How many are they?
-fn numbers_between(s: &[u8], at: usize, end: usize, out: &mut [u32]) -> usize
-    ensures { result ≤ length out.old }
-{
-    let mut i = 0;
-    let mut at = at;
-    while i < out.len() {
-        let n = number_from(s, at);
-        if end <= n.next {
-            return i;
-        }
-        out[i] = n.word;
-        at = n.next;
-        i += 1;
+/// The numbers of a line.
+pub fn numbers(alloc: Global, text: &str) -> Result<Vec<u32>> {
+    let mut all = Vec::new(alloc);
+    for word in text.split_whitespace() {
+        all.push(word.parse().context("no number")?)?;
     }
-    i
+    Ok(all)
 }
 
-// The words of a line's set.
-pub fn words_from(s: &[u8], at: usize, out: &mut [u32]) -> usize
-    ensures { result ≤ length out.old }
-{
-    numbers_between(s, at, next_line(s, at), out)
-}
-
-// One of five powers; the last makes some sets leave the range.
+/// One of five powers; the last makes some sets leave the range.
 fn power(n: u32) -> u32 {
     match n % 5 {
         0 => 1,
@@ -63,9 +46,8 @@ fn power(n: u32) -> u32 {
     }
 }
 
-// Two equal-scalars of x, y and L, with powers chosen by n.
-pub fn two_lines(n: u32) -> [u32; 40] {
-    let m = n / 125;
+/// An equal-scalar of x, y and L, with powers chosen by n.
+fn line(n: u32) -> [u32; 20] {
     [
         327702,
         0,
@@ -74,38 +56,26 @@ pub fn two_lines(n: u32) -> [u32; 40] {
         262147,
         3,
         0,
-        0,
+        0, // equal-scalar, a dimension of three factors
         65547,
         0,
         power(n),
-        1,
+        1, // x
         65547,
         1,
         power(n / 5),
-        1,
+        1, // y
         65549,
         4,
         power(n / 25),
-        1,
-        327702,
-        0,
-        0,
-        0,
-        262147,
-        3,
-        0,
-        0,
-        65547,
-        0,
-        power(m),
-        1,
-        65547,
-        1,
-        power(m / 5),
-        1,
-        65549,
-        4,
-        power(m / 25),
-        1,
+        1, // L
     ]
+}
+
+/// Two of them: n has the powers of both.
+pub fn two_lines(n: u32) -> [u32; 40] {
+    let mut set = [0; 40];
+    set[..20].copy_from_slice(&line(n));
+    set[20..].copy_from_slice(&line(n / 125));
+    set
 }

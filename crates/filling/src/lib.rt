@@ -1,7 +1,7 @@
-// Fills a buffer from a reader.
+//! Fills a buffer from a reader.
 #![tactic(auto)]
 
-ghost use Rattle.std.specs.Prelude.{◌≡◌, ◌≤◌, ◌<◌, length, take, IfOk, IsOk};
+ghost use Rattle.std.specs.Prelude.{◌≡◌, ◌≤◌, ◌<◌, length, take, IsOk};
 ghost use Rattle.std.specs.Io.KnownBytes.{Consumes, IsAtEnd};
 
 use std::io;
@@ -30,14 +30,4 @@ pub fn fill_front<R: Read>(reader: &mut R, buf: &mut [u8]) -> (usize, io::Result
         }
     }
     (at, Err(io::Error::other("too many reads")))
-}
-
-/// The same for a caller to whom a read that failed is all that counts.
-pub fn fill<R: Read>(reader: &mut R, buf: &mut [u8]) -> io::Result<usize>
-    ensures within { IfOk result (λ n. n ≤ length buf.new) }
-    ensures bytes { IfOk result (λ n. Consumes (R.remaining reader.old) (R.remaining reader.new) (take n buf.new)) }
-    ensures end { IfOk result (λ n. n < length buf.old → IsAtEnd (R.remaining reader.new)) }
-{
-    let (n, read) = fill_front(reader, buf);
-    read.map(|()| n)
 }

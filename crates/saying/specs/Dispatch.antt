@@ -1,6 +1,6 @@
 -- What each call by its number comes to (docs/SERVE.md): the call's own definition of the rules on the words that were given, what is told of it in words,
 -- and what all that is lent holds then.
-use Rattle.std.specs.Prelude.{ℕ, zero, suc, List, [], ◌∷◌, ◌++◌, map, length, take, drop, ◌==◌}
+use Rattle.std.specs.Prelude.{ℕ, zero, suc, List, [], ◌∷◌, ◌++◌, map, length, take, drop, ◌==◌, slice_index}
 use Rattle.std.proofs.lemmas.List.Edits.{sets}
 use Rattle.rules.specs.Base.{Got, got, refused, collect}
 use Rattle.rules.specs.Exponents.{Exp, frac}
@@ -9,11 +9,14 @@ use Rattle.rules.specs.Products.{scalar}
 use Rattle.rules.specs.Names.{Bytes, Entered, orderBytes, tableGiven, nameAsked, part_of, enter}
 use Rattle.rules.specs.Values.{FactorValue, productValue, sumCall, timesCall, negationCall, quotientCall, multiplyCall, divideCall, inverseCall, raiseCall}
 use Rattle.rules.specs.Writing.{twos}
-use Rattle.rules.specs.Calls.{Listed, Written, AddedTo, Solution, Judged, lent, setCall, typeCall, schemeCall, bindingsCall, containsCall, closedCall, variablesCall, addCall, replaceTypeCall, replaceSetCall, solveCall, quantifyCall, generaliseCall, instantiateCall, judgeCall}
+use Rattle.rules.specs.Calls.{Listed, Written, AddedTo, Solution, Judged, lent, setCall, typeCall, schemeCall, bindingsCall, containsCall, closedCall, variablesCall}
+use Rattle.rules.specs.Calls.{addCall, replaceTypeCall, replaceSetCall, solveCall, quantifyCall, generaliseCall, instantiateCall, judgeCall}
 use Rattle.rules.specs.Batches.{Batch, batchCall}
 use Rattle.rules.specs.Ceiling.{ceilingCall}
+use Rattle.rules.specs.Lines.{checkLineCall}
 use Rattle.saying.specs.Given.{at_most, exponentAt, productAt, nameIn, entriesIn}
-use Rattle.saying.specs.Saying.{pick, word, saidAs, refusedAs, checkedAs, askedAs, numberAs, orderAs, countedAs, writtenAs, addedAs, solvedAs, ceilingAs, batchedAs}
+use Rattle.saying.specs.Saying.{pick, word, saidAs, refusedAs, checkedAs, askedAs, numberAs, orderAs}
+use Rattle.saying.specs.Saying.{countedAs, writtenAs, addedAs, solvedAs, ceilingAs, batchedAs}
 use Rattle.saying.specs.declared.Asked.{Asked}
 use Rattle.saying.specs.declared.told.Told.{Told}
 
@@ -69,13 +72,14 @@ nameAs (refused n) = refusedAs n 0 0
 unfoldable pub naming : List ℕ → List ℕ → ℕ → List ℕ → Shown
 naming pool table x result = shown (nameAs (nameAsked pool table x)) (sets result 0 (part_of (nameAsked pool table x)))
 
+-- a place whose value is another one now, with this
+abbrev pub change : ℕ → ℕ → ℕ → List ℕ
+change i before after = pick (before == after) [] (i ∷ after ∷ [])
+
 -- the places from i on, so many, where two lists differ, each with what stands there in the second
 unfoldable pub changesFrom : List ℕ → List ℕ → ℕ → ℕ → List ℕ
 changesFrom before after i zero = []
-changesFrom before after i (suc n) = pick (at before == at after) [] (i ∷ at after ∷ []) ++ changesFrom before after (suc i) n
-  where
-    at : List ℕ → ℕ
-    at l = lib.ListN.get_or l i 0
+changesFrom before after i (suc n) = change i (slice_index before i) (slice_index after i) ++ changesFrom before after (suc i) n
 
 -- the changed bytes of the pool, a word of ones, the changed words of the table; as far as the request's room for them goes
 unfoldable pub changes : List ℕ → List ℕ → Entered → List ℕ
@@ -144,7 +148,8 @@ productCalls q a b pool table =
 
 -- any other number is taken for 12
 unfoldable pub products : Asked → List ℕ → List ℕ → List ℕ → List ℕ → List ℕ → Shown
-products q a b pool table result = productShown (byNumber q.call (productCalls q a b pool table) (raiseCall pool table (productAt a q.x) (exponentAt b 0))) result
+products q a b pool table result =
+    productShown (byNumber q.call (productCalls q a b pool table) (raiseCall pool table (productAt a q.x) (exponentAt b 0))) result
 
 -- ══ Lists that are looked at: 1, 13 to 18 ══
 
@@ -214,7 +219,8 @@ sheetCalls pool table a b c d result work =
 
 -- any other number is taken for 30
 unfoldable pub sheets : Asked → List ℕ → List ℕ → List ℕ → List ℕ → List ℕ → List ℕ → List ℕ → List ℕ → Done
-sheets q pool table a b c d result work = byNumber q.call (sheetCalls pool table a b c d result work) (batchOf (at_most (at_most q.x 512) (length result)) pool table a b result work)
+sheets q pool table a b c d result work =
+    byNumber q.call (sheetCalls pool table a b c d result work) (batchOf (at_most (at_most q.x 512) (length result)) pool table a b result work)
 
 -- ══ All calls ══
 
@@ -232,7 +238,7 @@ module _ (q : Asked) (pool table a b c d result work : List ℕ) where
   abbrev enters : Named → Served
   enters s = served s.told s.pool s.table s.result work
 
-  -- the numbers of the groups; every other is a call on lists
+  -- the numbers of the groups; every other, 1 and 13 to 27 among them, is a call on lists
   abbrev pub allCalls : List (ℕ × Served)
   allCalls =
       (2, shows (naming pool table q.x result))
@@ -241,6 +247,8 @@ module _ (q : Asked) (pool table a b c d result work : List ℕ) where
       ∷ map (λ n. (n, says (exponents n a))) (5 ∷ 6 ∷ 7 ∷ 8 ∷ [])
       ++ map (λ n. (n, shows (products q a b pool table result))) (9 ∷ 10 ∷ 11 ∷ 12 ∷ [])
       ++ map (λ n. (n, does (sheets q pool table a b c d result work))) (28 ∷ 29 ∷ 30 ∷ [])
+      ++ (31, does (written (checkLineCall pool table a b c d result work)))
+      ∷ []
 
   unfoldable pub dispatch : Served
   dispatch = byNumber q.call allCalls (does (listing q pool table a b c result work))

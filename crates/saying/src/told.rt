@@ -1,4 +1,4 @@
-// What a call says, in words.
+//! What a call says, in words: `saying/specs/Saying` has each answer as one definition.
 ghost use Rattle.std.specs.Prelude.{◌≡◌};
 ghost use Rattle.rules.specs.Refusals.{number_of, told, toldBy};
 ghost use Rattle.names.specs.Told.{toldOrder};
@@ -13,7 +13,7 @@ use rules::{Refusal, Was};
 use solving::{Finish, Solution};
 use std::cmp::Ordering;
 
-// The refusal's number or 0, what the call says, completed rounds, and how many words at the front of the result buffer are the answer's.
+/// The refusal's number or 0, what the call says, completed rounds, and how many words at the front of the result buffer are the answer's.
 #[derive(Drop)]
 pub struct Told {
     pub refusal: u32,
@@ -23,7 +23,7 @@ pub struct Told {
     pub words: usize,
 }
 
-// A count as a word.
+/// A count as a word: its low 32 bits.
 pub fn short(n: usize) -> u32
     ensures { result ≡ word n }
 {
@@ -37,6 +37,7 @@ fn words_of(records: usize) -> usize
     if records < 1000000000 { records * 4 } else { 0 }
 }
 
+/// An answer: a value, a second value, and so many words at the front of the result buffer.
 pub fn said(value: u32, more: u32, words: usize) -> Told
     ensures { result ≡ saidAs value more words }
 {
@@ -49,7 +50,7 @@ pub fn said(value: u32, more: u32, words: usize) -> Told
     }
 }
 
-// A refusal after so many rounds, with so many words before it.
+/// A refusal after so many rounds, with so many words before it.
 pub fn refused(why: Refusal, rounds: u32, words: usize) -> Told
     ensures { result ≡ refusedAs (number_of why) rounds words }
 {
@@ -78,6 +79,7 @@ fn yes(b: bool) -> u32
     if b { 1 } else { 0 }
 }
 
+/// No 0, yes 1.
 pub fn asked(a: Result<bool, Refusal>) -> Told
     ensures { result ≡ askedAs (told a) }
 {
@@ -96,7 +98,7 @@ fn was_word(was: Was) -> u32
     }
 }
 
-// The number of a name that was entered, with 1 for new and 0 for known; so many words say what that changed.
+/// The number of a name that was entered, with 1 for new and 0 for known; so many words say what that changed.
 pub fn numbered(a: Result<(u32, Was), Refusal>, words: usize) -> Told
     ensures { result ≡ numberAs (told a) words }
 {
@@ -106,6 +108,7 @@ pub fn numbered(a: Result<(u32, Was), Refusal>, words: usize) -> Told
     }
 }
 
+/// Less 1, same 2, more 3.
 pub fn ordered(o: Ordering) -> Told
     ensures { result ≡ orderAs (toldOrder o) }
 {
@@ -116,6 +119,7 @@ pub fn ordered(o: Ordering) -> Told
     }
 }
 
+/// How many names were written, a word each.
 pub fn counted(c: Result<usize, Refusal>) -> Told
     ensures { result ≡ countedAs (told c) }
 {
@@ -125,6 +129,7 @@ pub fn counted(c: Result<usize, Refusal>) -> Told
     }
 }
 
+/// How many records were written, four words each.
 pub fn written(a: Result<usize, Refusal>) -> Told
     ensures { result ≡ writtenAs (told a) }
 {
@@ -134,7 +139,7 @@ pub fn written(a: Result<usize, Refusal>) -> Told
     }
 }
 
-// On a refusal the words of the set stay at the front.
+/// Satisfied 1, Violated 2, Unknown 3, and the records of the set then. On a refusal the words of the set stay at the front.
 pub fn added(a: Result<(adding::Verdict, usize), Refusal>, words: usize) -> Told
     ensures { result ≡ addedAs (toldBy counted a) words }
 {
@@ -177,6 +182,7 @@ fn remaining(n: usize, rounds: u32) -> Told
     }
 }
 
+/// The records of bindings and of bounds, or of what remains (5), and the completed rounds.
 pub fn solution(s: Solution) -> Told
     ensures { result ≡ solvedAs (solving.toldSolution s) }
 {
@@ -188,6 +194,7 @@ pub fn solution(s: Solution) -> Told
     }
 }
 
+/// The judge's no 0 or yes 1.
 pub fn judged(answer: Result<bool, Refusal>) -> Told
     ensures { result ≡ askedAs (told answer) }
 {
@@ -203,7 +210,7 @@ fn most(m: Most) -> Told
     said(m.variables, m.rounds, 0)
 }
 
-// Distinct variables, and the ceiling on rounds.
+/// Distinct variables, and the ceiling on rounds.
 pub fn limited(a: Result<Most, Refusal>) -> Told
     ensures { result ≡ ceilingAs (toldBy toldMost a) }
 {
@@ -213,7 +220,7 @@ pub fn limited(a: Result<Most, Refusal>) -> Told
     }
 }
 
-// How many records there are of all sets together, behind so many words of their answers.
+/// How many records there are of all sets together, behind so many words of their answers.
 pub fn batched(a: Result<usize, Refusal>, answers: usize) -> Told
     ensures { result ≡ batchedAs (told a) answers }
 {

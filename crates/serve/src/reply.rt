@@ -2,12 +2,13 @@
 ghost use Rattle.std.specs.Prelude.{◌≡◌, ◌≤◌};
 ghost use Rattle.serve.specs.Replies.{faultAs, flagOf, flags_of};
 
-use crate::coding::{put_word, put_words};
+use crate::coding::put_words;
 use crate::request::Header;
 use saying::told::{Told, short};
-use saying::words::all_from;
+use saying::words::{all_from, word_of};
+use std::alloc::{AllocError, Global};
 
-// What is said of a request that can't be served.
+/// What is said of a request that can't be served.
 pub fn no_request(fault: u32) -> Told
     ensures { result ≡ faultAs fault }
 {
@@ -37,55 +38,55 @@ fn flags(t: &Told, h: Header, res: &[u32], work: &[u32]) -> u32
     rest + zero + same
 }
 
-// The answer without its length.
-fn put_told(t: &Told, flags: u32, out: &mut [u8]) -> usize {
-    let a = put_word(out, 4, t.refusal);
-    let b = put_word(out, a, t.value);
-    let c = put_word(out, b, t.more);
-    let d = put_word(out, c, t.rounds);
-    let e = put_word(out, d, flags);
-    put_word(out, e, short(t.words))
+// The answer without its words, which are so many with those that are shown: its length in bytes comes first.
+fn put_told(out: &mut Vec<u8>, t: &Told, flags: u32, words: usize) -> Result<(), AllocError> {
+    let length = short(words.saturating_mul(4).saturating_add(28));
+    let head = [
+        length,
+        t.refusal,
+        t.value,
+        t.more,
+        t.rounds,
+        flags,
+        short(t.words),
+    ];
+    put_words(out, &head)
 }
 
-// Both buffers whole, where the request asks for them.
-fn put_shown(h: Header, res: &[u32], work: &[u32], at: usize, out: &mut [u8]) -> usize {
-    if h.show == 0 {
-        return at;
+/// What a call said, and what the buffers hold, in bytes. The answer's words are 0 where the result buffer is shorter; both buffers follow whole where
+/// the request asks for them.
+pub fn answer(
+    alloc: Global,
+    t: &Told,
+    h: Header,
+    res: &[u32],
+    work: &[u32],
+) -> Result<Vec<u8>, AllocError> {
+    let shown = if h.show == 0 {
+        0
+    } else {
+        res.len().saturating_add(work.len())
+    };
+    let mut out = Vec::new(alloc);
+    put_told(
+        &mut out,
+        t,
+        flags(t, h, res, work),
+        t.words.saturating_add(shown),
+    )?;
+    for i in 0..t.words {
+        put_words(&mut out, &[word_of(res, i)])?;
     }
-    let next = put_words(out, at, res, res.len());
-    put_words(out, next, work, work.len())
+    if h.show != 0 {
+        put_words(&mut out, res)?;
+        put_words(&mut out, work)?;
+    }
+    Ok(out)
 }
 
-// The length in bytes goes to the front.
-fn close(out: &mut [u8], at: usize) -> usize {
-    put_word(out, 0, short(at));
-    at
-}
-
-// What a call said, and what the buffers hold: how many bytes.
-pub fn answer(t: Told, h: Header, res: &[u32], work: &[u32], out: &mut [u8]) -> usize {
-    let at = put_told(&t, flags(&t, h, res, work), out);
-    let next = put_words(out, at, res, t.words);
-    let end = put_shown(h, res, work, next, out);
-    close(out, end)
-}
-
-// The bytes of so many words behind a place. No count here is near the bound.
-fn behind(at: usize, words: usize) -> usize
-    requires { at ≤ 1000 }
-{
-    if words < 1000000 { at + words * 4 } else { at }
-}
-
-// The head of an answer whose words follow in pieces.
-pub fn answer_head(t: Told, h: Header, res: &[u32], work: &[u32], out: &mut [u8]) -> usize {
-    put_told(&t, flags(&t, h, res, work), out);
-    put_word(out, 0, short(behind(28, t.words)));
-    28
-}
-
-// The same where no call was made.
-pub fn answer_alone(t: Told, out: &mut [u8]) -> usize {
-    let at = put_told(&t, 0, out);
-    close(out, at)
+/// The same where no call was made.
+pub fn told_alone(alloc: Global, t: &Told) -> Result<Vec<u8>, AllocError> {
+    let mut out = Vec::new(alloc);
+    put_told(&mut out, t, 0, 0)?;
+    Ok(out)
 }

@@ -5,30 +5,19 @@ ghost use Rattle.serve.specs.Requests.{head_of, overBy, roomOf, excessOf, filled
 use crate::coding::word_at;
 use calling::LAST;
 
-// How much there is room for: bytes of a head and of a body, words of a list and of the two buffers. `calling` has the pool's and the table's.
-// A larger result buffer, for the answers of 64 sets, is made for requests that ask for it.
+/// The bytes of a head.
 pub const HEAD: usize = 64;
 
-pub const BODY: usize = 98304;
-
-pub const LIST: usize = 10240;
-
-pub const RESULT: usize = 9216;
-
-pub const LARGE: usize = 533504;
-
-pub const WORK: usize = 20480;
-
-// What can be wrong with a request.
+/// What can be wrong with a request: it is torn, no call has its number, a length is over its room, its body isn't as long as its parts.
 pub const TORN: u32 = 1;
 
-pub const UNKNOWN: u32 = 2;
+const UNKNOWN: u32 = 2;
 
-pub const TOO_LONG: u32 = 3;
+const TOO_LONG: u32 = 3;
 
-pub const UNTRUE: u32 = 4;
+const UNTRUE: u32 = 4;
 
-// The words of a head, in their order.
+/// The words of a head, in their order.
 #[derive(Clone, Copy)]
 pub struct Header {
     pub body: u32,
@@ -49,6 +38,7 @@ pub struct Header {
     pub whole: u32,
 }
 
+/// The head of a request.
 pub fn header_from(s: &[u8]) -> Header
     ensures { result ≡ head_of s.now }
 {
@@ -102,7 +92,7 @@ fn excess(h: Header) -> u32
     buffers + lists + over(h.body, 98304) + over(h.show, 1) + over(h.whole, 1)
 }
 
-// The bytes of the pool with those that fill up its last word.
+/// The bytes of the pool with those that fill up its last word.
 pub fn filled(n: u32) -> usize
     requires { n ≤ 9216 }
     ensures { result ≡ filledTo n }
@@ -119,7 +109,7 @@ fn parts(h: Header) -> usize
         + (h.table as usize + h.a as usize + h.b as usize + h.c as usize + h.d as usize) * 4
 }
 
-// 0 for a request that can be served.
+/// 0 for a request that can be served, or the first thing that is wrong with it.
 pub fn fault(h: Header) -> u32
     ensures { result ≡ faultOf h }
 {

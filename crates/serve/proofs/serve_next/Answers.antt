@@ -4,4 +4,4 @@ use Rattle.serve.specs.Requests.{served}
 use Rattle.serve.proofs.serve_next.Goals as goal
 
 pub serve_body-requires : goal.serve_body-requires
-serve_body-requires g c = served _ (sym c.fault-f.ensures ∙ c.if-f-eq0.true)
+serve_body-requires g c = served _ (sym c.fault.ensures ∙ c.in-0.is)

@@ -1,6 +1,6 @@
 use mathlib.Core.Path.{◌≡◌}
 use mathlib.Core.List.{map}
-use Prim.Native.Nat.{◌-◌, ◌≤◌}
+use Prim.Native.Nat.{◌≤◌}
 use lib.ListN.{length, take}
 use Rattle.products.specs.Told.{valueIn}
 use Rattle.saying.specs.Given.{factorsFrom}
@@ -8,6 +8,3 @@ use Rattle.calling_values.proofs.inner.product_from.Given as goal
 
 abbrev pub invariant-loop-i : goal.invariant-loop-i
 invariant-loop-i l = (l.i ≤ 64) × (length l.p.factors ≡ 64) × (map valueIn (take l.i l.p.factors) ≡ factorsFrom l.a 0 l.i)
-
-abbrev pub decreases-loop-i : goal.decreases-loop-i
-decreases-loop-i l = 64 - l.i

@@ -1,5 +1,5 @@
 use mathlib.Core.Path.{◌≡◌}
-use Prim.Native.Nat.{◌*◌, ◌-◌, ◌≤◌}
+use Prim.Native.Nat.{◌*◌, ◌≤◌}
 use lib.ListN.{length, drop}
 use lib.Seq.{sets}
 use Rattle.rules.specs.Base.{collect}
@@ -10,6 +10,3 @@ use Rattle.calling_values.proofs.inner.put_factors.Given as goal
 abbrev pub invariant-loop-i : goal.invariant-loop-i
 invariant-loop-i l =
     (l.i ≤ 64) × (length l.dst ≡ length l.initial.dst) × (sets l.dst (l.i * 4) (collect factorWords (drop l.i (given l.p).factors)) ≡ sets l.initial.dst 0 (collect factorWords (given l.p).factors))
-
-abbrev pub decreases-loop-i : goal.decreases-loop-i
-decreases-loop-i l = 64 - l.i

@@ -13,5 +13,4 @@ returns-then-s-at c = simp (le-ltb _ _ c.if-s-lt4.false, lt-ltb _ _ c.if-s-at.tr
 
 pub returns : goal.returns
 unfolding word_at
-returns c =
-    simp (le-ltb _ _ c.if-s-lt4.false, le-ltb _ _ c.if-s-at.false, c.wide.ensures.0, c.wide-2.ensures.0, c.wide-3.ensures.0, c.wide-4.ensures.0)
+returns c = simp (le-ltb _ _ c.if-s-lt4.false, le-ltb _ _ c.if-s-at.false)

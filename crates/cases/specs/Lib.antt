@@ -1,3 +1,0 @@
-pub mod Text
-pub mod Steps
-pub mod Tallies
