@@ -57,8 +57,8 @@ module _ (pool table : List ℕ) (e : Entered) (pb pa tb ta : List ℕ) (m n : �
         let y : count ≡ (next + 1) + length back = rw tables at c₂ in
         omega (arith, y, z, length-append front (4294967295 ∷ back))
 
-  pub changes-told : (d₃ ≡ sets d 0 (changes pool table e)) × (count ≡ length (changes pool table e))
-  changes-told = (changes-stored, changes-counted)
+    pub changes-told : (d₃ ≡ sets d 0 (changes pool table e)) × (count ≡ length (changes pool table e))
+    changes-told = (changes-stored, changes-counted)
 
 pub entered-as : (pool table b d d' p' t' : List ℕ) (a : Got (ℕ × Was)) (count : ℕ) {t : Told}
     → ◌≡◌ {A = Entered} (record { answer = a; pool = p'; table = t' }) (enter pool table (nameIn b)) → t ≡ numberAs a count

@@ -11,10 +11,9 @@ use saying::words::{fill, fill_low, fill_words, put};
 const NAME: usize = 512;
 
 /// What changed is told of the first bytes of a pool and the first words of a table: no program lends more.
-pub const POOL: usize = 9216;
+const POOL: usize = 9216;
 
-/// See `POOL`.
-pub const TABLE: usize = 512;
+const TABLE: usize = 512;
 
 /// 2: the bytes of the name with this number, a word each, at the front of the result buffer.
 pub fn named(pool: &[u8], table: &[u32], x: u32, res: &mut [u32]) -> Told

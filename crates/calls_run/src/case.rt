@@ -25,23 +25,36 @@ pub struct Gives {
     pub words: Vec<u32>,
 }
 
-/// Of the result buffer and the work buffer so many words are lent.
+/// How much is lent: bytes of the pool, words of the table and of both buffers.
+#[derive(Clone, Copy)]
+pub struct Lent {
+    pub pool: usize,
+    pub table: usize,
+    pub result: usize,
+    pub work: usize,
+}
+
+/// The lists of a call.
 #[derive(Drop)]
-pub struct Case {
-    pub table: Table,
-    pub asked: Asked,
+pub struct Words {
     pub first: Vec<u32>,
     pub second: Vec<u32>,
     pub third: Vec<u32>,
     pub fourth: Vec<u32>,
-    pub result: usize,
-    pub work: usize,
+}
+
+#[derive(Drop)]
+pub struct Case {
+    pub table: Table,
+    pub asked: Asked,
+    pub lent: Lent,
+    pub words: Words,
     pub gives: Gives,
 }
 
 impl Table {
-    /// These names are entered in their order, and so numbered from 0.
-    fn new(alloc: Global, names: &str) -> Result<Table> {
+    /// These names are entered in their order, and so numbered from 0; so much of pool and table is lent.
+    fn new(alloc: Global, names: &str, lent: Lent) -> Result<Table> {
         let mut pool = vec![in alloc; 0; 8200]?;
         let mut ends = vec![in alloc; 0; 260]?;
         for (i, name) in names.split_whitespace().enumerate() {
@@ -51,6 +64,8 @@ impl Table {
                 "{name} is not new"
             );
         }
+        pool.truncate(lent.pool);
+        ends.truncate(lent.table);
         Ok(Table { pool, ends })
     }
 }
@@ -103,32 +118,50 @@ impl Gives {
     }
 }
 
+/// The call, and how much is lent.
+fn asks(alloc: Global, text: &str) -> Result<(Asked, Lent)> {
+    let (asks, lent) = text.split_once("lent").context("asks has a lent")?;
+    let [call, x, y] = *numbers(alloc, asks)?.as_slice() else {
+        bail!("asks has three numbers");
+    };
+    let [pool, table, result, work] = *numbers(alloc, lent)?.as_slice() else {
+        bail!("lent has four numbers");
+    };
+    let lent = Lent {
+        pool: pool as usize,
+        table: table as usize,
+        result: result as usize,
+        work: work as usize,
+    };
+    Ok((Asked { call, x, y }, lent))
+}
+
+impl Words {
+    /// The lists on the next lines.
+    fn read(alloc: Global, lines: &mut Lines) -> Result<Words>
+        ensures onward { length lines.new.rest.now ≤ length lines.old.rest.now }
+    {
+        Ok(Words {
+            first: list(alloc, behind(lines.next(), "first")?)?,
+            second: list(alloc, behind(lines.next(), "second")?)?,
+            third: list(alloc, behind(lines.next(), "third")?)?,
+            fourth: list(alloc, behind(lines.next(), "fourth")?)?,
+        })
+    }
+}
+
 impl Case {
     /// The case on the next lines.
     pub fn read(alloc: Global, lines: &mut Lines) -> Result<Case>
         ensures onward { length lines.new.rest.now ≤ length lines.old.rest.now }
     {
-        let mut table = Table::new(alloc, behind(lines.next(), "case")?)?;
-        let (asks, lent) = behind(lines.next(), "asks")?
-            .split_once("lent")
-            .context("asks has a lent")?;
-        let [call, x, y] = *numbers(alloc, asks)?.as_slice() else {
-            bail!("asks has three numbers");
-        };
-        let [pool, ends, result, work] = *numbers(alloc, lent)?.as_slice() else {
-            bail!("lent has four numbers");
-        };
-        table.pool.truncate(pool as usize);
-        table.ends.truncate(ends as usize);
+        let names = behind(lines.next(), "case")?;
+        let (asked, lent) = asks(alloc, behind(lines.next(), "asks")?)?;
         Ok(Case {
-            table,
-            asked: Asked { call, x, y },
-            first: list(alloc, behind(lines.next(), "first")?)?,
-            second: list(alloc, behind(lines.next(), "second")?)?,
-            third: list(alloc, behind(lines.next(), "third")?)?,
-            fourth: list(alloc, behind(lines.next(), "fourth")?)?,
-            result: result as usize,
-            work: work as usize,
+            table: Table::new(alloc, names, lent)?,
+            asked,
+            lent,
+            words: Words::read(alloc, lines)?,
             gives: Gives::read(alloc, behind(lines.next(), "gives")?)?,
         })
     }

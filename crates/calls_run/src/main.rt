@@ -42,13 +42,13 @@ fn begins(buffer: &[u32], words: &[u32]) -> bool {
 
 /// Does the call answer, and leave the buffers, as stored?
 fn holds(alloc: Global, mut case: Case) -> Result<bool> {
-    let mut result = vec![in alloc; RESULT_BEFORE; case.result]?;
-    let mut work = vec![in alloc; WORK_BEFORE; case.work]?;
+    let mut result = vec![in alloc; RESULT_BEFORE; case.lent.result]?;
+    let mut work = vec![in alloc; WORK_BEFORE; case.lent.work]?;
     let lists = Lists {
-        a: &case.first,
-        b: &case.second,
-        c: &case.third,
-        d: &case.fourth,
+        a: &case.words.first,
+        b: &case.words.second,
+        c: &case.words.third,
+        d: &case.words.fourth,
     };
     let told = called(
         case.asked,
