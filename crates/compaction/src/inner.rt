@@ -30,7 +30,7 @@ fn names_one(w: u32, b: u32) -> bool
 
 // Marks a name's number, if it is one and held.
 fn note(m: &mut [bool; NAMES], n: usize, named: bool, a: u32)
-    requires m_len { length m.old ≡ 256 }
+    requires places { length m.old ≡ 256 }
     requires few { n ≤ 256 }
     ensures { Noted m.old m.new n named a }
 {
@@ -42,7 +42,7 @@ fn note(m: &mut [bool; NAMES], n: usize, named: bool, a: u32)
 
 // Marks each held name that a record names.
 pub fn mark(s: &[u32], n: usize, m: &mut [bool; NAMES])
-    requires m_len { length m.old ≡ 256 }
+    requires places { length m.old ≡ 256 }
     requires few { n ≤ 256 }
     ensures { Marked m.old m.new n s.now }
 {
@@ -76,8 +76,8 @@ fn number_of(m: &[bool; NAMES], a: u32) -> u32
 
 // The new number of each name that is marked, and of every other number below 256.
 fn numbers(m: &[bool; NAMES], to: &mut [u32; NAMES])
-    requires m_len { length m.now ≡ 256 }
-    requires to_len { length to.old ≡ 256 }
+    requires places { length m.now ≡ 256 }
+    requires room { length to.old ≡ 256 }
     ensures { Numbered (marks m.now) to.new 256 }
 {
     for i in 0..256 {
@@ -87,7 +87,7 @@ fn numbers(m: &[bool; NAMES], to: &mut [u32; NAMES])
 
 // Word a of a record afterwards.
 fn new_word(m: &[bool; NAMES], to: &[u32; NAMES], w: u32, a: u32, b: u32) -> u32
-    requires m_len { length m.now ≡ 256 }
+    requires places { length m.now ≡ 256 }
     requires numbered { Numbered (marks m.now) to.now 256 }
     ensures { result ≡ renumberIf (namesOne (kindIn w) b) (marks m.now) a }
 {

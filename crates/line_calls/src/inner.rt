@@ -61,7 +61,8 @@ fn confirm(
     work: &mut [u32],
 ) -> Result<usize, Refusal>
     requires stands { (cs : List (Con ℕ)) × SetStands names.pool.now names.table.now set.now cs }
-    requires answered { (bs : List (Binding ℕ)) × ((ns : List ℕ) × FoundStands names.pool.now names.table.now found.words.now found.bindings found.bounds bs ns) }
+    requires answered { (bs : List (Binding ℕ)) ×
+        ((ns : List ℕ) × FoundStands names.pool.now names.table.now found.words.now found.bindings found.bounds bs ns) }
     requires room { 16384 ≤ length work.old }
     ensures { Confirmed names.entry.pool.now names.entry.table.now set.now found.entry.words.now found.entry.bindings found.entry.bounds v work.new result }
 {
@@ -82,7 +83,8 @@ fn confirm(
 fn settle(names: NameTable, set: &[u32], v: u32, work: &mut [u32]) -> Result<usize, Refusal>
     requires stands { (cs : List (Con ℕ)) × SetStands names.pool.now names.table.now set.now cs }
     requires room { 16384 ≤ length work.old }
-    ensures { (cs : List (Con ℕ)) → SetStands names.entry.pool.now names.entry.table.now set.now cs → Made (setType names.entry.pool.now names.entry.table.now cs v) work.new result }
+    ensures { (cs : List (Con ℕ)) → SetStands names.entry.pool.now names.entry.table.now set.now cs →
+        Made (setType names.entry.pool.now names.entry.table.now cs v) work.new result }
 {
     let n = set.len() / 4;
     if !is_unmixed(set, 0, n) {
@@ -109,7 +111,8 @@ fn settle(names: NameTable, set: &[u32], v: u32, work: &mut [u32]) -> Result<usi
 fn type_line(names: NameTable, line: Line, work: &mut [u32]) -> Result<usize, Refusal>
     requires read { (ss : List (LineStep ℕ)) × LineHeld names.pool.now names.table.now line.steps.now line.types.now line.earlier.now line.lent.now ss }
     requires room { 16384 ≤ length work.old }
-    ensures { LineTyped names.entry.pool.now names.entry.table.now line.entry.steps.now line.entry.types.now line.entry.earlier.now line.entry.lent.now work.new result }
+    ensures { LineTyped names.entry.pool.now names.entry.table.now
+        line.entry.steps.now line.entry.types.now line.entry.earlier.now line.entry.lent.now work.new result }
 {
     let mut set = [0u32; RECORD_WORDS];
     match put_line(names, line, &mut set) {
@@ -127,7 +130,8 @@ pub fn make_line(pool: &[u8], table: &[u32], line: Line, work: &mut [u32]) -> Re
     requires table_value { lentTable pool.now table.now ≡ got tt }
     requires lent { length line.steps.now ≤ length line.lent.now * 4 }
     requires room { 16384 ≤ length work.old }
-    ensures { Made (checkedLine (table_of pool.now table.now) line.entry.steps.now line.entry.types.now line.entry.earlier.now line.entry.lent.now) work.new result }
+    ensures { Made (checkedLine (table_of pool.now table.now)
+        line.entry.steps.now line.entry.types.now line.entry.earlier.now line.entry.lent.now) work.new result }
 {
     enter_line(pool, table, line)?;
     type_line(NameTable { pool, table }, line, work)

@@ -149,7 +149,8 @@ fn three_zeros(a: u32, b: u32, c: u32) -> bool
 
 // The constant with these words.
 fn constant_step(names: NameTable, types: &[u32], step: StepWords) -> Result<(), Refusal>
-    ensures { (lines : List ℕ) → told result ≡ isGiven (step_of (table_of names.entry.pool.now names.entry.table.now) (recs types.now) lines isConstant step.a step.b step.c) }
+    ensures { let t = table_of names.entry.pool.now names.entry.table.now in
+        (lines : List ℕ) → told result ≡ isGiven (step_of t (recs types.now) lines isConstant step.a step.b step.c) }
 {
     if two_zeros(step.b, step.c) {
         constant_here(names, types, step.a)
@@ -160,7 +161,8 @@ fn constant_step(names: NameTable, types: &[u32], step: StepWords) -> Result<(),
 
 // The reference with these words.
 fn reference_step(names: NameTable, line: Line, step: StepWords) -> Result<(), Refusal>
-    ensures { told result ≡ isGiven (step_of (table_of names.entry.pool.now names.entry.table.now) (recs line.entry.types.now) line.entry.earlier.now isReference step.a step.b step.c) }
+    ensures { let t = table_of names.entry.pool.now names.entry.table.now in
+        told result ≡ isGiven (step_of t (recs line.entry.types.now) line.entry.earlier.now isReference step.a step.b step.c) }
 {
     if two_zeros(step.b, step.c) {
         reference_here(names, line, step.a)
@@ -182,7 +184,8 @@ fn raise_step(step: StepWords) -> Result<(), Refusal>
 
 // The step with these words, of whatever kind.
 fn step_here(names: NameTable, line: Line, step: StepWords) -> Result<(), Refusal>
-    ensures { told result ≡ isGiven (stepGiven (table_of names.entry.pool.now names.entry.table.now) (recs line.entry.types.now) line.entry.earlier.now (four step.kind step.a step.b step.c)) }
+    ensures { let t = table_of names.entry.pool.now names.entry.table.now in
+        told result ≡ isGiven (stepGiven t (recs line.entry.types.now) line.entry.earlier.now (four step.kind step.a step.b step.c)) }
 {
     match step.kind {
         1 => constant_step(names, line.types, step),
@@ -195,7 +198,8 @@ fn step_here(names: NameTable, line: Line, step: StepWords) -> Result<(), Refusa
 
 // From the first step on, each is well formed.
 fn steps_good(names: NameTable, line: Line) -> Result<(), Refusal>
-    ensures { told result ≡ isGiven (each (stepGiven (table_of names.entry.pool.now names.entry.table.now) (recs line.entry.types.now) line.entry.earlier.now) (stepsFrom line.entry.steps.now 0)) }
+    ensures { let t = table_of names.entry.pool.now names.entry.table.now in
+        told result ≡ isGiven (each (stepGiven t (recs line.entry.types.now) line.entry.earlier.now) (stepsFrom line.entry.steps.now 0)) }
 {
     for i in 0..line.steps.len() / 4 {
         step_here(names, line, step_at(line.steps, i))?;
@@ -232,7 +236,8 @@ fn is_whole(steps: &[u32]) -> bool
 
 /// Is the line well formed (1)?
 pub fn line_good(names: NameTable, line: Line) -> Result<(), Refusal>
-    ensures { told result ≡ isGiven (lineGiven (table_of names.entry.pool.now names.entry.table.now) line.entry.steps.now line.entry.types.now line.entry.earlier.now) }
+    ensures { let t = table_of names.entry.pool.now names.entry.table.now in
+        told result ≡ isGiven (lineGiven t line.entry.steps.now line.entry.types.now line.entry.earlier.now) }
 {
     if line.steps.len() % 4 != 0 {
         return Err(Refusal::Malformed);
@@ -248,7 +253,8 @@ pub fn line_good(names: NameTable, line: Line) -> Result<(), Refusal>
 pub fn enter_line(pool: &[u8], table: &[u32], line: Line) -> Result<(), Refusal>
     requires bytes { 8192 ≤ length pool.now }
     requires words { 257 ≤ length table.now }
-    ensures { told result ≡ isGiven (lineEntered (table_of pool.now table.now) line.entry.steps.now line.entry.types.now line.entry.earlier.now line.entry.lent.now) }
+    ensures { told result ≡ isGiven (lineEntered (table_of pool.now table.now)
+        line.entry.steps.now line.entry.types.now line.entry.earlier.now line.entry.lent.now) }
 {
     if !short(line) {
         return Err(Refusal::TooLarge);

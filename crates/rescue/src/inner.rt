@@ -154,7 +154,8 @@ fn take_pieces(
 ) -> Counts
     requires short { length file.now / 16 ≤ 2048 }
     requires words { s.now ≡ words_in file.now }
-    ensures { Took (piecesIn (table_of names.entry.pool.now names.entry.table.now) (words_in file.now)) file.now kept.old kept.new skipped.old skipped.new result }
+    ensures { let t = table_of names.entry.pool.now names.entry.table.now in
+        Took (piecesIn t (words_in file.now)) file.now kept.old kept.new skipped.old skipped.new result }
 {
     let walked = walk(names, s, kept, skipped);
     Counts {
@@ -166,7 +167,8 @@ fn take_pieces(
 // The same, with the words still to be taken from the file.
 pub fn take_words(names: NameTable, file: &[u8], kept: &mut [u8], skipped: &mut [u32]) -> Counts
     requires { length file.now / 16 ≤ 2048 }
-    ensures { Took (piecesIn (table_of names.entry.pool.now names.entry.table.now) (words_in file.now)) file.now kept.old kept.new skipped.old skipped.new result }
+    ensures { let t = table_of names.entry.pool.now names.entry.table.now in
+        Took (piecesIn t (words_in file.now)) file.now kept.old kept.new skipped.old skipped.new result }
 {
     let mut words = [0; FILE_WORDS];
     fill(file, &mut words);

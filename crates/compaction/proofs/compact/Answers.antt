@@ -17,7 +17,7 @@ count-requires c = (checks-good _ _ _ _ (sym c.in_ok-check.ensures)).words
 pub mark-requires : goal.mark-requires
 mark-requires c =
     let g : Good c.args.pool.now c.args.table.now = checks-good _ _ _ _ (sym c.in_ok-check.ensures) in
-    record { m_len = refl; few = omega (arith, c.count.ensures, (good-laid g).few) }
+    record { places = refl; few = omega (arith, c.count.ensures, (good-laid g).few) }
 
 pub renumber-requires : goal.renumber-requires
 renumber-requires c = c.mark.ensures.long

@@ -122,7 +122,8 @@ fn put_factors(names: NameTable, dst: &mut [u32], out: usize, l: u32, r: u32, nu
     requires left { l < get_or names.table.now 0 0 }
     requires right { r < get_or names.table.now 0 0 }
     requires place { out < 2 ^ 59 }
-    ensures { (k : ℤ) → twos k ≡ num → dst.new ≡ sets dst.old (out * 4) (words (writeTy (dim (twoFactors (numbersOf (table_of names.entry.pool.now names.entry.table.now)) l r (frac k 1))))) }
+    ensures { let t = table_of names.entry.pool.now names.entry.table.now in
+        (k : ℤ) → twos k ≡ num → dst.new ≡ sets dst.old (out * 4) (words (writeTy (dim (twoFactors (numbersOf t) l r (frac k 1))))) }
 {
     match names.order(l, r) {
         Ordering::Less => put_pair(dst, out, l, 1, r, num),
@@ -136,7 +137,8 @@ pub fn put_product(names: NameTable, dst: &mut [u32], out: usize, o: Operands, n
     requires left { o.left < get_or names.table.now 0 0 }
     requires right { o.right < get_or names.table.now 0 0 }
     requires place { out < 2 ^ 57 }
-    ensures { (t : Two) → PowerIs t num → dst.new ≡ sets dst.old (out * 4) (words (collect writeCon (issuedByTwo (numbersOf (table_of names.entry.pool.now names.entry.table.now)) o.own t o.left o.right))) }
+    ensures { let table = table_of names.entry.pool.now names.entry.table.now in
+        (t : Two) → PowerIs t num → dst.new ≡ sets dst.old (out * 4) (words (collect writeCon (issuedByTwo (numbersOf table) o.own t o.left o.right))) }
 {
     put_dimensions(dst, out, o.left, o.right);
     put_record(dst, out + 4, View::Equal, 5);

@@ -28,7 +28,9 @@ fn put_two(names: NameTable, dst: &mut [u32], out: usize, o: Operands, k: u32)
     requires left { o.left < get_or names.table.now 0 0 }
     requires right { o.right < get_or names.table.now 0 0 }
     requires place { out < 2 ^ 57 }
-    ensures { (t : Two) → stepKind k stepNumbers ≡ some (isTwo t) → dst.new ≡ sets dst.old (out * 4) (words (collect writeCon (issuedByTwo (numbersOf (table_of names.entry.pool.now names.entry.table.now)) o.own t o.left o.right))) }
+    ensures { let table = table_of names.entry.pool.now names.entry.table.now in
+        (t : Two) → stepKind k stepNumbers ≡ some (isTwo t) →
+        dst.new ≡ sets dst.old (out * 4) (words (collect writeCon (issuedByTwo (numbersOf table) o.own t o.left o.right))) }
 {
     match k {
         3 => put_sum(dst, out, o.own, o.left, o.right),
@@ -53,7 +55,9 @@ pub fn put_step(
     requires left { o.left < get_or names.table.now 0 0 }
     requires right { o.right < get_or names.table.now 0 0 }
     requires place { out < 2 ^ 57 }
-    ensures { (s : LineStep ℕ) → Says line.entry.types.now line.entry.earlier.now step.kind step.a step.b step.c s → dst.new ≡ sets dst.old (out * 4) (words (collect writeCon (issued (numbersOf (table_of names.entry.pool.now names.entry.table.now)) o.own (deedBy s o.condition o.left o.right)))) }
+    ensures { let t = table_of names.entry.pool.now names.entry.table.now in
+        (s : LineStep ℕ) → Says line.entry.types.now line.entry.earlier.now step.kind step.a step.b step.c s →
+        dst.new ≡ sets dst.old (out * 4) (words (collect writeCon (issued (numbersOf t) o.own (deedBy s o.condition o.left o.right)))) }
 {
     match step.kind {
         1 => put_given(line.types, step.a as usize, dst, out, o.own),

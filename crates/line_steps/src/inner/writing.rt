@@ -26,7 +26,8 @@ fn put_steps(
     requires low { length stack.old ≤ 128 }
     requires zeros { (j : ℕ) → get_or stack.old j 0 < get_or names.table.now 0 0 }
     requires held { (j : ℕ) → get_or line.lent.now j 0 < get_or names.table.now 0 0 }
-    ensures { SetPut names.entry.pool.now names.entry.table.now line.entry.types.now line.entry.earlier.now line.entry.steps.now line.entry.lent.now dst.old dst.new result }
+    ensures { SetPut names.entry.pool.now names.entry.table.now line.entry.types.now line.entry.earlier.now
+        line.entry.steps.now line.entry.lent.now dst.old dst.new result }
 {
     let mut p = stack.len();
     let mut out: usize = 0;
@@ -52,7 +53,8 @@ pub fn put_line(names: NameTable, line: Line, dst: &mut [u32]) -> Result<usize, 
     requires lent { length line.steps.now / 4 ≤ length line.lent.now }
     requires short { length line.steps.now ≤ 512 }
     requires held { (j : ℕ) → get_or line.lent.now j 0 < get_or names.table.now 0 0 }
-    ensures { SetPut names.entry.pool.now names.entry.table.now line.entry.types.now line.entry.earlier.now line.entry.steps.now line.entry.lent.now dst.old dst.new result }
+    ensures { SetPut names.entry.pool.now names.entry.table.now line.entry.types.now line.entry.earlier.now
+        line.entry.steps.now line.entry.lent.now dst.old dst.new result }
 {
     let mut stack = [0; STEPS];
     put_steps(names, line, &mut stack, dst)

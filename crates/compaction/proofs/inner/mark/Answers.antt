@@ -13,7 +13,7 @@ pub loop-i-init : goal.loop-i-init
 loop-i-init c = (refl, λ x. refl)
 
 pub note-requires : goal.note-requires
-note-requires c = record { m_len = c.loop-i.invariant.0 ∙ c.requires.m_len; few = c.requires.few }
+note-requires c = record { places = c.loop-i.invariant.0 ∙ c.requires.places; few = c.requires.few }
 
 pub loop-i-preserved : goal.loop-i-preserved
 loop-i-preserved c =

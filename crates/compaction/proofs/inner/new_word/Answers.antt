@@ -9,7 +9,7 @@ pub returns-then-not-names_one : goal.returns-then-not-names_one
 returns-then-not-names_one c = let a = c.args in ap (λ (b : Bool). renumberIf b (marks a.m.now) a.a) (sym (c.if-not-names_one.true) ∙ c.names_one.ensures)
 
 pub number_of-requires : goal.number_of-requires
-number_of-requires c = c.requires.m_len
+number_of-requires c = c.requires.places
 
 pub returns-then-i-lt-NAMES : goal.returns-then-i-lt-NAMES
 returns-then-i-lt-NAMES c = let a = c.args in c.requires.numbered.is a.a c.if-i-lt-NAMES.true

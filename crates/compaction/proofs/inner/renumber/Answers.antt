@@ -10,7 +10,7 @@ use Rattle.compaction.proofs.Marks.{renumber-step, renumber-end}
 use Rattle.compaction.proofs.inner.renumber.Goals as goal
 
 pub numbers-requires : goal.numbers-requires
-numbers-requires c = record { m_len = c.requires; to_len = refl }
+numbers-requires c = record { places = c.requires; room = refl }
 
 pub loop-i-init : goal.loop-i-init
 loop-i-init c = (refl, refl)
