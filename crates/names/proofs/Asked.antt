@@ -1,12 +1,12 @@
 -- What is asked of a pool, a table and a number, check by check.
-use mathlib.Core.Path.{◌≡◌, sym}
+use mathlib.Core.Path.{◌≡◌}
 use mathlib.Core.Bool.{true, false, ◌&&◌}
 use mathlib.Core.List.{List}
 use Prim.Native.Nat.{ℕ}
 use lib.Dec.{ltb, leb}
 use lib.ListN.{get_or, length}
 use Rattle.std.proofs.lemmas.Bool.Decides.{nat_tests}
-use Rattle.rules.specs.Base.{Got, got, refused, need}
+use Rattle.rules.specs.Base.{got, refused, need}
 use Rattle.rules.specs.Names.{table_of, tableGiven, nameAsked, unchanged, enterChecks, enterChecked, enter}
 use Rattle.laws.specs.NameTable.{Good, given-good}
 use Rattle.names.specs.Told.{refusalOf}

@@ -42,11 +42,6 @@ abbrev pub Least : Names ℕ → List Bool → ℕ → Option ℕ → Type 0
 Least ν m n (Some x) = (x < n) × (get_or m x false ≡ true) × ((y : ℕ) → y < n → get_or m y false ≡ true → (y ≡ x) ⊎ (ν.order x y ≡ Ordering.lt))
 Least ν m n None = (y : ℕ) → y < n → get_or m y false ≡ true → ⊥
 
--- a name that is held
-abbrev pub HeldName : ℕ → Option ℕ → Type 0
-HeldName n (Some x) = x < n
-HeldName n None = Unit {0}
-
 -- the first of two names, or y if they are the same
 abbrev pub firstBy : Ordering → ℕ → ℕ → Option ℕ
 firstBy Ordering.lt x y = Some x

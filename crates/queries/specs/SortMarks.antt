@@ -14,7 +14,7 @@ use Rattle.laws.specs.Order.{Lawful, Tells, after}
 use Rattle.laws.specs.ReadLists.{Every}
 use Rattle.laws.specs.SortedNames.{In, same-sort, first-sort, sort-few}
 use Rattle.queries.specs.MarkLaws.{every_in, in-every, any-in, in-any}
-use Rattle.queries.specs.Marks.{Marks, Held, HeldName, picked, Least, firstBy, sooner, Filled}
+use Rattle.queries.specs.Marks.{Marks, Held, picked, Least, firstBy, sooner, Filled}
 
 clash : {A : Type 0} → true ≡ false → A
 clash e = absurd (true≢false e)
@@ -72,10 +72,6 @@ module _ (n : ℕ) (m : List Bool) (h : Held n m) where
 
 module _ (ν : Names ℕ) (law : Lawful ν.order) (n : ℕ) (tells : Tells (λ x. x < n) ν.order) (m : List Bool) (h : Held n m) where
   -- ══ The first so far ══
-
-  pub least-held : (i : ℕ) → i ≤ 256 → (best : Option ℕ) → Least ν m i best → HeldName n best
-  least-held i l (Some x) k = h.held x (omega (arith, k.0)) k.1
-  least-held i l None k = tt
 
   pub least-none : Least ν m 0 None
   least-none y l e = absurd (omega arith)

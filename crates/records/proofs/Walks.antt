@@ -5,12 +5,11 @@ use mathlib.Core.Bool.{Bool, true, false, ◌&&◌}
 use mathlib.Core.List.{List, [], ◌∷◌, map}
 use Prim.Native.Nat.{ℕ, suc, ◌+◌, ◌-◌, ◌≤◌, ◌<◌}
 use native.Mathlib.Omega.{arith}
-use borrow.Author.Tests.{ltb-true, le-leb, leb-true, eqb-true, eqb-false, eq-eqb, ne_eqb}
+use borrow.Author.Tests.{le-leb, leb-true, eqb-true, eqb-false, eq-eqb, ne_eqb}
 use lib.Dec.{leb, eqb}
-use lib.ListN.{length, get_or}
+use lib.ListN.{length}
 use Rattle.rules.specs.Base.{all}
 use Rattle.rules.specs.Exponents.{Exp, frac, goodStored}
-use Rattle.rules.specs.Names.{table_of}
 use Rattle.rules.specs.Trees as tree
 use Rattle.rules.specs.Trees.{Factor, ◌↑◌, Product, Ty, opened, basic, dim, fn, struct, list, Tys, nil, cons, Fields, noFields, field, size, sizeTys, sizeFields, depth, depthTys, depthFields, count, countFields, orderAtom}
 use Rattle.rules.specs.Writing.{twos, signed}

@@ -1,5 +1,5 @@
 // The work on records whose callers know what stands where.
-ghost use Rattle.std.specs.Prelude.{◌≡◌, [], ◌∷◌, ◌+◌, ◌-◌, ◌*◌, ◌/◌, ◌^◌, ◌≤◌, ◌<◌, length, set, get_or, ◌&&◌, eqb};
+ghost use Rattle.std.specs.Prelude.{◌≡◌, [], ◌∷◌, ◌+◌, ◌-◌, ◌*◌, ◌/◌, ◌^◌, ◌≤◌, ◌<◌, length, set, ◌&&◌, eqb};
 ghost use Rattle.std.proofs.lemmas.List.Edits.{sets};
 ghost use Rattle.std.proofs.Math.Seq.{slice};
 ghost use Rattle.rules.specs.Writing.{words};
@@ -11,7 +11,9 @@ ghost use Rattle.names.specs.Told.{toldOrder};
 ghost use Rattle.records.specs.Cut.{fit};
 ghost use Rattle.records.specs.Views.{recOf, longAt};
 ghost use Rattle.records.specs.Holds.{openOf, atomOf};
-ghost use Rattle.records.specs.Good.{Ends, closedAt, numbers, holding, follows, atomFollows, goodOpen, goodAtom, GoodFactors, GoodDim, PartsTy, GoodTy, GoodTys, GoodFields, PartsProduct, GoodProduct, GoodTwo, PartsCon, GoodCon, PartsBinding, GoodBinding, PartsBound, GoodBound, Chained, There, PartsScheme, GoodScheme};
+ghost use Rattle.records.specs.Good.{Ends, closedAt, Chained, There, numbers, holding, follows, atomFollows, goodOpen, goodAtom};
+ghost use Rattle.records.specs.Good.{GoodFactors, GoodDim, PartsTy, GoodTy, GoodTys, GoodFields, PartsProduct, GoodProduct, GoodTwo, PartsCon, GoodCon};
+ghost use Rattle.records.specs.Good.{PartsBinding, GoodBinding, PartsBound, GoodBound, PartsScheme, GoodScheme};
 
 use super::seen::{length_at, record_of, view_at};
 use super::{Atom, Open, View};
@@ -165,7 +167,8 @@ fn closed(s: &[u32], at: usize, end: Option<usize>) -> Option<usize>
 
 // Is a factor well formed, and does it come after the one before?
 fn factor_good(names: NameTable, q: u32, left: Option<Atom>, a: Atom, e: Exponent) -> bool
-    ensures { result ≡ (goodAtom names.entry.pool.now names.entry.table.now q (atomOf a) && goodStored (expOf e) && atomFollows names.entry.pool.now names.entry.table.now left (atomOf a)) }
+    ensures { result ≡ (goodAtom names.entry.pool.now names.entry.table.now q (atomOf a) && goodStored (expOf e)
+        && atomFollows names.entry.pool.now names.entry.table.now left (atomOf a)) }
 {
     if !atom_good(names, q, a) {
         return false;

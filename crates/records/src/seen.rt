@@ -3,7 +3,8 @@
 ghost use Rattle.std.specs.Prelude.{◌≡◌, [], ◌∷◌, ◌<◌};
 ghost use Rattle.rules.specs.Writing.{rec, head, kindIn, lengthIn};
 ghost use Rattle.records.specs.Cut.{fit};
-ghost use Rattle.records.specs.Views.{recOf, plain, pick, boundTable, schemeTable, otherTable, shape_of, viewAt, toldWords, recOpen, recFree, recFactor, recBound, kindOfBasic, bareOf, longAt};
+ghost use Rattle.records.specs.Views.{plain, pick, boundTable, schemeTable, otherTable, shape_of, viewAt, longAt};
+ghost use Rattle.records.specs.Views.{toldWords, recOpen, recFree, recFactor, recBound, kindOfBasic, bareOf, recOf};
 
 use super::{Atom, Basic, Open, View, Words};
 

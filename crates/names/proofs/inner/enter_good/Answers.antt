@@ -13,7 +13,7 @@ use Rattle.rules.specs.Base.{need}
 use Rattle.rules.specs.declared.Refusal.TheVariants.{NameLength}
 use Rattle.rules.specs.Names.{table_of, names_of, number_of, hasRoom, enterKnown, enterChecked}
 use Rattle.laws.specs.NameTable.{good-laid}
-use Rattle.std.specs.Prelude.{Ok, Err}
+use Rattle.std.specs.Prelude.{Err}
 use Rattle.names.specs.Told.{entered}
 use Rattle.names.proofs.inner.enter_good.Goals as goal
 use Rattle.names.proofs.inner.enter_good.Goals.{then-is_empty-via-then-is_empty, then-is_empty-via-else-is_empty+then-name-gt-NAME_BYTES}

@@ -1,9 +1,8 @@
 -- The walkers of types, lists of types and fields meet their contracts: one cycle.
 use Rattle.records.proofs.Walks.{types-none, types-fail, types-step, fields-none, fields-other, fields-fail, fields-type, fields-step, type-shallow, type-open, type-open-fail, type-basic, type-dim, type-list, type-fn-fail, type-fn, type-struct-name, type-struct-fail, type-struct, type-other}
 use Rattle.records.specs.Closing.{type-closing, field-closing}
-use Rattle.records.specs.Good.{Ends, GoodTy, GoodField, holding, follows}
+use Rattle.records.specs.Good.{Ends, GoodTy, GoodField}
 use Rattle.records.specs.Places.{seen-in}
-use Rattle.laws.specs.Lists.{and_left as both_left}
 use Rattle.rules.specs.Names.{table_of}
 use native.Mathlib.Omega.{arith}
 use mathlib.Core.Path.{sym, subst, ◌∙◌}

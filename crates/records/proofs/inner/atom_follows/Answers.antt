@@ -1,6 +1,6 @@
 -- `inner::atom_follows` meets its contract.
 use Rattle.rules.specs.WellFormed.{is_lt}
-use mathlib.Core.Path.{ap, subst, ◌∙◌}
+use mathlib.Core.Path.{ap, ◌∙◌}
 use Rattle.records.proofs.inner.atom_follows.Goals as goal
 
 pub returns-in-Some : goal.returns-in-Some

@@ -1,7 +1,6 @@
 -- `inner::name_follows` meets its contract.
-use Rattle.records.specs.Good.{HeldBefore}
 use Rattle.rules.specs.WellFormed.{is_lt}
-use mathlib.Core.Path.{ap, subst, ◌∙◌}
+use mathlib.Core.Path.{ap, ◌∙◌}
 use Rattle.records.proofs.inner.name_follows.Goals as goal
 
 pub returns-in-Some : goal.returns-in-Some

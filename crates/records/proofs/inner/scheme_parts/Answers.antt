@@ -1,5 +1,5 @@
 -- `inner::scheme_parts` meets its contract.
-use Rattle.records.proofs.Wholes.{scheme-concrete, scheme-other, scheme-type, scheme-bounds, type-within}
+use Rattle.records.proofs.Wholes.{scheme-concrete, scheme-other, scheme-type, scheme-bounds}
 use mathlib.Core.Path.{sym, ◌∙◌}
 use Rattle.records.proofs.inner.scheme_parts.Goals as goal
 
