@@ -1,10 +1,10 @@
 -- Bounds with their names renamed: those that aren't renamed stay, or are left out.
 use Rattle.std.specs.Prelude.{◌≡◌, Bool, true, false, ℕ, ◌+◌, ◌*◌, ◌/◌, ◌≤◌, ◌<◌, length}
 use Rattle.std.proofs.Math.Path.{refl, sym, ap}
-use Rattle.std.proofs.Common.{◌∙◌, arith, length-append}
+use Rattle.std.proofs.Common.{subst, ◌∙◌, arith}
 use mathlib.Core.List.{List, [], ◌∷◌, ◌++◌, map}
 use Rattle.std.proofs.Math.Option.{Option, none, some}
-use Rattle.std.proofs.lemmas.List.{length-map}
+use Rattle.std.proofs.lemmas.List.{map-append}
 use Rattle.std.proofs.lemmas.List.Edits.{sets}
 use Rattle.rules.specs.Base.{and_then, collect}
 use Rattle.rules.specs.Schemes.{renamed}
@@ -20,7 +20,12 @@ use Rattle.records.specs.declared.View.TheVariants as view
 use Rattle.records.specs.Buffers.{words-length}
 use Rattle.records.specs.Places.{seen-in}
 use Rattle.records.specs.Stores.{sets-append}
-use Rattle.replacing.specs.Runs.{FoundAt}
+use Rattle.records.specs.Cut.{fit, fits}
+use Rattle.types.specs.declared.Shape.{Shape}
+use Rattle.types.specs.declared.Shape.TheVariants as shape
+use Rattle.types.specs.declared.writer.Writer.{Writer}
+use Rattle.types.specs.Shapes.{whole}
+use Rattle.types.specs.Written.{Writes, writes-none, writes-then}
 
 abbrev pub Rename : Type 0
 Rename = tree.Open ℕ → Option (tree.Open ℕ)
@@ -45,9 +50,9 @@ unfoldable pub BoundsAt : List ℕ → List (tree.Open ℕ) → ℕ → Type 0
 BoundsAt s [] at = at ≡ length s / 4
 BoundsAt s (o ∷ bs) at = Shows s at (view.Bound (viewOpen o)) × BoundsAt s bs (at + 1)
 
--- the name that stands as a type at a place
-pub record NamesAt (v : List ℕ) (i : ℕ) (r : tree.Open ℕ) : Type 0 where
-  pub name : (o : tree.Open ℕ) → Holds v (opened o) i → r ≡ o
+-- what names become is the renaming
+abbrev pub Renames : (tree.Open ℕ → Option (Ty ℕ)) → Rename → Type 0
+Renames look f = (o : tree.Open ℕ) → look o ≡ renamed f o
 
 -- ══ One bound ══
 
@@ -63,27 +68,36 @@ bound-rec (Var x) = refl
 bound-rec (Quant i) = refl
 bound-rec (Par x) = refl
 
-module _ (v : List ℕ) (i : ℕ) where
-  pub named : (u : Open) → viewAt v i ≡ view.Opened u → NamesAt v i (openOf u)
-  unfolding Holds
-  named u e = record { name = λ o h. let z : view.Opened u ≡ view.Opened (viewOpen o) = sym e ∙ h.0 in let y : u ≡ viewOpen o = cc in ap openOf y ∙ open-view o }
-
-  pub unnamed : (r : tree.Open ℕ) → ((u : Open) → viewAt v i ≡ view.Opened u → ⊥) → NamesAt v i r
-  unfolding Holds
-  unnamed r n = record { name = λ o h. absurd (n (viewOpen o) h.0) }
-
 module _ (f : Rename) (o : tree.Open ℕ) (all : Bool) where
-  -- what was found is the new name
-  pub bound-found : (v : List ℕ) (i j : ℕ) (r : tree.Open ℕ) → FoundAt v (renamed f o) i j → NamesAt v i r → bounds_of all f o ≡ r ∷ []
-  bound-found v i j r a n = go (f o) refl
+  -- what a name becomes is its new name
+  pub bound-found : {t : Ty ℕ} (r : tree.Open ℕ) → renamed f o ≡ some t → opened r ≡ t → bounds_of all f o ≡ r ∷ []
+  bound-found r a n = go (f o) refl
     where
       go : (s : Option (tree.Open ℕ)) → f o ≡ s → orAll s all o ≡ r ∷ []
-      go none k = absurd (some≢none (sym a.is ∙ ap (λ (s : Option (tree.Open ℕ)). and_then s (λ u. some (opened u))) k))
+      go none k = absurd (some≢none (sym a ∙ ap (λ (s : Option (tree.Open ℕ)). and_then s (λ u. some (opened u))) k))
       go (some u) k =
-          let z : some (opened u) ≡ some a.type = sym (ap (λ (s : Option (tree.Open ℕ)). and_then s (λ u. some (opened u))) k) ∙ a.is in
-          let y : opened u ≡ a.type = cc in
-          let w : r ≡ u = n.name u (rw y a.held) in
-          ap (λ (x : tree.Open ℕ). x ∷ []) (sym w)
+          let z : some (opened u) ≡ some (opened r) = sym (ap (λ (s : Option (tree.Open ℕ)). and_then s (λ u. some (opened u))) k) ∙ a ∙ ap some (sym n) in
+          let y : u ≡ r = cc in
+          ap (λ (x : tree.Open ℕ). x ∷ []) y
+
+  -- and no other type
+  pub bound-open : {t : Ty ℕ} (x : Shape) → renamed f o ≡ some t → whole x ≡ t → ((u : Open) → x ≡ shape.Open u → ⊥) → ⊥
+  bound-open x a n h = go (f o) refl
+    where
+      open-only : (x : Shape) (u : tree.Open ℕ) → whole x ≡ opened u → ((v : Open) → x ≡ shape.Open v → ⊥) → ⊥
+      open-only (shape.Open v) u e h = h v refl
+      open-only (shape.Basic b) u e h = let z : ◌≡◌ {A = ℕ} 0 1 = cc in omega arith
+      open-only (shape.Dimension p) u e h = let z : ◌≡◌ {A = ℕ} 0 1 = cc in omega arith
+      open-only (shape.Function ps r) u e h = let z : ◌≡◌ {A = ℕ} 0 1 = cc in omega arith
+      open-only (shape.Struct n ts fs) u e h = let z : ◌≡◌ {A = ℕ} 0 1 = cc in omega arith
+      open-only (shape.List t) u e h = let z : ◌≡◌ {A = ℕ} 0 1 = cc in omega arith
+
+      go : (s : Option (tree.Open ℕ)) → f o ≡ s → ⊥
+      go none k = some≢none (sym a ∙ ap (λ (s : Option (tree.Open ℕ)). and_then s (λ u. some (opened u))) k)
+      go (some u) k =
+          let z : some (opened u) ≡ some (whole x) = sym (ap (λ (s : Option (tree.Open ℕ)). and_then s (λ u. some (opened u))) k) ∙ a ∙ ap some (sym n) in
+          let y : whole x ≡ opened u = cc in
+          open-only x u y h
 
   pub bound-kept : renamed f o ≡ none → bounds_of all f o ≡ ifAll all o
   bound-kept e = go (f o) refl
@@ -92,30 +106,7 @@ module _ (f : Rename) (o : tree.Open ℕ) (all : Bool) where
       go none k = refl
       go (some u) k = absurd (some≢none (ap (λ (s : Option (tree.Open ℕ)). and_then s (λ u. some (opened u))) (sym k) ∙ e))
 
-pub few : (all : Bool) (f : Rename) (o : tree.Open ℕ) → length (bounds_of all f o) ≤ 1
-few all f o = go (f o) all
-  where
-    go : (s : Option (tree.Open ℕ)) (b : Bool) → length (orAll s b o) ≤ 1
-    go none true = omega arith
-    go none false = omega arith
-    go (some u) b = omega arith
-
 -- ══ All bounds ══
-
--- these bounds were written from a place on, up to the next
-pub record PutAll (d d' : List ℕ) (out r : ℕ) (bs : List (tree.Open ℕ)) : Type 0 where
-  pub next : r ≡ out + length bs
-  pub buffer : d' ≡ sets d (out * 4) (words (map writeBound bs))
-
-map-words : (os bs : List (tree.Open ℕ)) → words (map writeBound (os ++ bs)) ≡ words (map writeBound os) ++ words (map writeBound bs)
-unfolding words writeBound
-map-words [] bs = refl
-map-words (tree.var x ∷ os) bs = let r = map-words os bs in cc
-map-words (tree.quant i ∷ os) bs = let r = map-words os bs in cc
-map-words (tree.par x ∷ os) bs = let r = map-words os bs in cc
-
-bounds-long : (os : List (tree.Open ℕ)) → length (words (map writeBound os)) ≡ length os * 4
-bounds-long os = words-length (map writeBound os) ∙ ap (λ (n : ℕ). n * 4) (length-map os writeBound)
 
 module _ (s : List ℕ) (at : ℕ) where
   -- a bound is there, or the list ends
@@ -132,28 +123,49 @@ module _ (s : List ℕ) (at : ℕ) where
   at-end [] h n = refl
   at-end (u ∷ bs) h n = absurd (n (viewOpen u) h.0)
 
--- one after another
-pub put-more : (d d₁ d₂ : List ℕ) (out n r : ℕ) (os bs : List (tree.Open ℕ)) → n ≡ length os → d₁ ≡ sets d (out * 4) (words (map writeBound os)) → PutAll d₁ d₂ (out + n) r bs → PutAll d d₂ out r (os ++ bs)
-put-more d d₁ d₂ out n r os bs e a p = record {
-  next = let l = length-append os bs in let q = p.next in omega arith;
-  buffer =
-      let l = bounds-long os in
-      let k : (out + n) * 4 ≡ out * 4 + length (words (map writeBound os)) = omega arith in
-      p.buffer ∙ rw (k, a) (sym (sets-append (words (map writeBound os)) (words (map writeBound bs)) d (out * 4)) ∙ ap (sets d (out * 4)) (sym (map-words os bs)));
-}
+-- one bound that was written
+module _ {w w' : Writer} {os : List (tree.Open ℕ)} where
+  pub bound-written : (r : Open) → os ≡ openOf r ∷ [] → Writes w w' (recOf (view.Bound r) (fit 1) ∷ []) → Writes w w' (map writeBound os)
+  bound-written r e p =
+      subst (λ (bs : List (tree.Open ℕ)). Writes w w' (map writeBound bs)) (sym e)
+      (subst (λ (x : Rec). Writes w w' (x ∷ [])) (ap (recOf (view.Bound r)) (fits 1 (omega arith)) ∙ bound-rec r) p)
 
-pub put-none : (d : List ℕ) (out : ℕ) → PutAll d d out out []
-unfolding words
-put-none d out = record { next = omega arith; buffer = refl }
+pub bound-left-out : {w : Writer} {os : List (tree.Open ℕ)} → os ≡ [] → Writes w w (map writeBound os)
+bound-left-out {w} e = subst (λ (bs : List (tree.Open ℕ)). Writes w w (map writeBound bs)) (sym e) (writes-none w)
 
--- a bound that was written, and one that was left out
-module _ (f : Rename) (o : tree.Open ℕ) (all : Bool) (d : List ℕ) (out : ℕ) where
-  abbrev pub Put : List ℕ → ℕ → Type 0
-  Put d' n = (n ≡ length (bounds_of all f o)) × (d' ≡ sets d (out * 4) (words (map writeBound (bounds_of all f o))))
+-- so many bounds were written, and the others make all
+module _ (s : List ℕ) (all : Bool) (f : Rename) (bs : List (tree.Open ℕ)) (w₀ : Writer) where
+  pub record Going (w : Writer) (i : ℕ) : Type 0 where
+    pub rest : List (tree.Open ℕ)
+    pub listed : BoundsAt s rest i
+    pub still : (w' : Writer) → Writes w w' (map writeBound (allBounds all f rest)) → Writes w₀ w' (map writeBound (allBounds all f bs))
 
-  pub written_one : (r : Open) (d' : List ℕ) → bounds_of all f o ≡ openOf r ∷ [] → d' ≡ sets d (out * 4) (words (recOf (view.Bound r) 1 ∷ [])) → Put d' 1
-  written_one r d' e h = rw e (refl, h ∙ ap (λ (x : Rec). sets d (out * 4) (words (x ∷ []))) (bound-rec r))
+  pub going-start : {at : ℕ} → BoundsAt s bs at → Going w₀ at
+  going-start h = record { rest = bs; listed = h; still = λ w' p. p }
 
-  pub written_none : bounds_of all f o ≡ [] → Put d 0
-  unfolding words
-  written_none e = rw e (refl, refl)
+  module _ {w : Writer} {i : ℕ} (g : Going w i) where
+    pub going-on : {w₁ : Writer} (o : Open) → viewAt s i ≡ view.Bound o → Writes w w₁ (map writeBound (bounds_of all f (openOf o))) → Going w₁ (i + 1)
+    unfolding collect
+    going-on {w₁} o e p =
+        let (cs, (q, (h, lt))) = at_bound s i g.rest o g.listed e in
+        record {
+          rest = cs;
+          listed = h;
+          still = λ w' r. g.still w' (
+              subst (λ (xs : List (tree.Open ℕ)). Writes w w' (map writeBound (allBounds all f xs))) (sym q)
+              (subst (Writes w w') (sym (map-append writeBound (bounds_of all f (openOf o)) (allBounds all f cs)))
+              (writes-then (map writeBound (bounds_of all f (openOf o))) (map writeBound (allBounds all f cs)) p r)));
+        }
+
+    pub going-other : i < length s / 4 → ((o : Open) → viewAt s i ≡ view.Bound o → ⊥) → ⊥
+    unfolding BoundsAt
+    going-other lt n = let k : BoundsAt s [] i = subst (λ (xs : List (tree.Open ℕ)). BoundsAt s xs i) (at-end s i g.rest g.listed n) g.listed in omega (arith, k, lt)
+
+    pub going-end : length s / 4 ≤ i → Writes w₀ w (map writeBound (allBounds all f bs))
+    unfolding BoundsAt collect
+    going-end le = go g.rest g.listed g.still
+      where
+        go : (xs : List (tree.Open ℕ)) → BoundsAt s xs i → ((w' : Writer) → Writes w w' (map writeBound (allBounds all f xs)) → Writes w₀ w' (map writeBound (allBounds all f bs)))
+            → Writes w₀ w (map writeBound (allBounds all f bs))
+        go [] h k = k w (writes-none w)
+        go (x ∷ xs) h k = absurd (let z = seen-in s i h.0 tt in omega (arith, z, le))

@@ -3,6 +3,7 @@ use Rattle.std.specs.Prelude.{◌≡◌, refl, true, List, ◌++◌, map, ℕ, �
 use Rattle.std.proofs.Common.{sym, ap, subst, ◌∙◌, arith, eq-eqb, ne_eqb, length-append}
 use Rattle.std.proofs.lemmas.List.{length-map}
 use Rattle.std.proofs.lemmas.List.Edits.{sets}
+use Rattle.std.proofs.Math.Seq.{length-sets}
 use Rattle.rules.specs.Base.{Got, got, refused, ◌>>=◌, ◌>>◌, need, bounded}
 use Rattle.rules.specs.Names.{table_of, is_held}
 use Rattle.rules.specs.Replacing.{replaceTy}
@@ -22,15 +23,18 @@ use Rattle.records.specs.Holds.{Shows}
 use Rattle.records.specs.Views.{viewAt, from}
 use Rattle.records.specs.declared.View.{View}
 use Rattle.records.specs.declared.View.TheVariants as view
-use Rattle.replacing.specs.Left.{went-same, Left, Went}
-use Rattle.replacing.specs.LineLaws.{type-left}
+use Rattle.records.specs.Cut.{cut, cut-length, short-ty}
+use Rattle.types.specs.declared.writer.Writer.{Writer}
+use Rattle.types.specs.Written.{Writes, writes-then}
+use Rattle.replacing.specs.Leaves.{Leaves}
+use Rattle.replacing.proofs.Walks.{on, stopped}
 use Rattle.replacing.specs.Well.{names as numbers, GoodTy, HeldType, Lent}
 use Rattle.replacing.specs.Written.{ty-fits}
 use Rattle.lending.specs.Told.{Made}
 use Rattle.handing.specs.Back.{back-lent, own-lent}
-use Rattle.handing.specs.Bounds.{allBounds, BoundsAt, PutAll}
+use Rattle.handing.specs.Bounds.{allBounds, BoundsAt}
 use Rattle.handing.specs.Tables.{backPlaces, ownPlaces, own_types}
-use Rattle.quantifying.specs.Core.{made-refused, made-records, written_after}
+use Rattle.quantifying.specs.Core.{made-refused, made-writes}
 
 -- the head of a scheme
 abbrev pub head_of : Scheme ℕ → View
@@ -92,37 +96,15 @@ module _ (pool table names : List ℕ) (n : ℕ) (good : Good pool table) (e : n
       → Lent pool table p v (renamed (own (is_held (table_of pool table))))
   own-tables p v a b = rw (a, b, e) (own-lent pool table few)
 
--- ══ What a walk from the start of a buffer leaves ══
+-- ══ What a walk leaves ══
 
-module _ (d d' : List ℕ) (nx : ℕ) (R : Got (Ty ℕ)) where
-  pub record Came (at out : ℕ) : Type 0 where
-    pub value : Ty ℕ
-    pub is : R ≡ got value
-    pub next : at ≡ nx
-    pub many : out ≡ size value
-    pub buffer : size value ≤ 65_535 → d' ≡ sets d (0 * 4) (words (writeTy value))
+pub record Came (w w' : Writer) (R : Got (Ty ℕ)) : Type 0 where
+  pub value : Ty ℕ
+  pub is : R ≡ got value
+  pub wrote : Writes w w' (cut (writeTy value))
 
-  pub came : {x : Went} {at out : ℕ} → x ≡ Ok (at, out) → Left size writeTy d d' nx 0 x R → Came at out
-  came {x} {at} {out} i left = go R refl (subst (λ (y : Went). Left size writeTy d d' nx 0 y R) i left)
-    where
-      go : (Q : Got (Ty ℕ)) → R ≡ Q → Left size writeTy d d' nx 0 (Ok (at, out)) R → Came at out
-      go (got u) e l =
-          let s = (subst (λ (Q : Got (Ty ℕ)). Left size writeTy d d' nx 0 (Ok (at, out)) Q) e l).says in
-          let m : out ≡ 0 + size u = (went-same s.0).1 in
-          let k : at ≡ nx = (went-same s.0).0 in
-          record { value = u; is = e; next = k; many = omega (arith, m); buffer = type-left R l u e }
-      go (refused k) e l = absurd (subst (λ (Q : Got (Ty ℕ)). Left size writeTy d d' nx 0 (Ok (at, out)) Q) e l).says
-
-  pub stopped : {x : Went} {k : Refusal} → x ≡ Err k → Left size writeTy d d' nx 0 x R → R ≡ refused (number_of k)
-  stopped {x} {k} i left = go R refl (subst (λ (y : Went). Left size writeTy d d' nx 0 y R) i left)
-    where
-      go : (Q : Got (Ty ℕ)) → R ≡ Q → Left size writeTy d d' nx 0 (Err k) R → R ≡ refused (number_of k)
-      go (got u) e l = absurd (
-          let s = (subst (λ (Q : Got (Ty ℕ)). Left size writeTy d d' nx 0 (Err k) Q) e l).says in
-          let p = s.0 in let z : ◌≡◌ {A = ℕ} 0 1 = cc in omega arith)
-      go (refused j) e l =
-          let s : number_of k ≡ j = (subst (λ (Q : Got (Ty ℕ)). Left size writeTy d d' nx 0 (Err k) Q) e l).says in
-          e ∙ ap refused (sym s)
+pub came : {w w' : Writer} {R : Got (Ty ℕ)} → Leaves writeTy w w' (Ok tt) R → Came w w' R
+came h = on h (λ u e k. record { value = u; is = e; wrote = k })
 
 -- ══ The answers ══
 
@@ -130,41 +112,48 @@ module _ (pool table names s work : List ℕ) (t : Ty ℕ) (bs : List (Open ℕ)
   abbrev Whole : Got (List Rec)
   Whole = putBackAs pool table names t bs
 
-  pub first-stopped : (w : List ℕ) (k : Refusal) → putType pool table names t ≡ refused (number_of k) → Made Whole w (Err k)
-  first-stopped w k e = made-refused Whole k w (rw e)
+  pub first-stopped : {w w' : Writer} {k : Refusal} (d : List ℕ) → Leaves writeTy w w' (Err k) (putType pool table names t) → Made Whole d (Err k)
+  first-stopped {k = k} d h = made-refused Whole k d (rw (stopped h))
 
-  module _ (d d₁ : List ℕ) (nx at out : ℕ) (long : 8192 ≤ length d) (c : Came d d₁ nx (putType pool table names t) at out) where
+  module _ {w w' : Writer} (c : Came w w' (putType pool table names t)) where
     abbrev its : Slim pool table names bs c.value
     its = y.slim c.value c.is
 
     -- the second walk begins where the first began to write
-    pub first-held : HeldType pool table d₁ c.value 0
-    first-held = record {
-      held =
-          let f = its.few in
-          let k = size-ty c.value in
-          held d₁ c.value 0 (from d (0 + length (writeTy c.value))) (ty-fits (numbers pool table) (is_held (table_of pool table)) 4_294_967_296 c.value its.well)
-          (ap (λ (x : List ℕ). from x 0) (c.buffer (omega arith)) ∙ stored d (writeTy c.value) 0 (omega arith));
-      good = its.well;
-    }
+    pub first-held : w.at ≡ 0 → 8192 ≤ length w.words.now → HeldType pool table w'.words.now c.value 0
+    first-held z long =
+        let f = its.few in
+        let k = size-ty c.value in
+        let short = short-ty c.value (omega (arith, f)) in
+        let buffer : w'.words.now ≡ sets w.words.now 0 (words (writeTy c.value)) =
+        subst (λ (i : ℕ). w'.words.now ≡ sets w.words.now (i * 4) (words (writeTy c.value))) z
+        (c.wrote.words (omega (arith, z, f, k, cut-length (writeTy c.value))) ∙ ap (λ (rs : List Rec). sets w.words.now (w.at * 4) (words rs)) short) in
+        record {
+          held =
+              held w'.words.now c.value 0 (from w.words.now (0 + length (writeTy c.value))) (ty-fits (numbers pool table) (is_held (table_of pool table)) 4_294_967_296 c.value its.well)
+              (ap (λ (x : List ℕ). from x 0) buffer ∙ stored w.words.now (writeTy c.value) 0 (omega (arith, f, k, long)));
+          good = its.well;
+        }
 
-    pub second-stopped : (w : List ℕ) (k : Refusal) → readType pool table names c.value ≡ refused (number_of k) → Made Whole w (Err k)
-    second-stopped w k e = made-refused Whole k w (rw (c.is, e))
+    pub read-near : w.at ≡ 0 → length w.words.now ≤ 8192 → length w'.words.now ≤ 4_000_000_000
+    read-near z long =
+        let f = its.few in
+        let e = c.wrote.words (omega (arith, z, f, size-ty c.value, cut-length (writeTy c.value))) in
+        omega (arith, ap (λ (d : List ℕ). length d) e, length-sets w.words.now (w.at * 4) (words (cut (writeTy c.value))), long)
 
-    module _ (w₁ : List ℕ) (nx' at' out' : ℕ) (b : Came work w₁ nx' (readType pool table names c.value) at' out') where
-      pub few-out : out' + length (newBounds pool table names bs) ≤ 2048
-      few-out = let m = b.many in let f = its.fits b.value b.is in omega arith
+    pub second-stopped : {v v' : Writer} {k : Refusal} (d : List ℕ) → Leaves writeTy v v' (Err k) (readType pool table names c.value) → Made Whole d (Err k)
+    second-stopped {k = k} d h = made-refused Whole k d (rw (c.is, stopped h))
 
-      pub all_made : (w₂ : List ℕ) (r : ℕ) → PutAll w₁ w₂ out' r (newBounds pool table names bs) → Made Whole w₂ (Ok r)
-      all_made w₂ r p =
-          let m = b.many in
-          let q = p.next in
-          let k = size-ty b.value in
-          let l = length-append (writeTy b.value) (map writeBound (newBounds pool table names bs)) in
-          let j = length-map (newBounds pool table names bs) writeBound in
-          let f = few-out in
-          made-records Whole (writeTy b.value ++ map writeBound (newBounds pool table names bs)) work w₂ r (rw (c.is, b.is)) y.work-long
-          (written_after work w₁ w₂ out' (writeTy b.value) (map writeBound (newBounds pool table names bs)) (omega arith) (b.buffer (omega arith)) p.buffer) (omega arith) (omega arith)
+    pub all_made : {v v' v₁ : Writer} → v.at ≡ 0 → v.words.now ≡ work → Came v v' (readType pool table names c.value)
+        → Writes v' v₁ (map writeBound (newBounds pool table names bs)) → Made Whole v₁.words.now (Ok v₁.at)
+    all_made {v} {v'} {v₁} z room b p =
+        let f = its.fits b.value b.is in
+        let rs : List Rec = writeTy b.value ++ map writeBound (newBounds pool table names bs) in
+        let l : length rs ≡ size b.value + length (newBounds pool table names bs) =
+        omega (arith, length-append (writeTy b.value) (map writeBound (newBounds pool table names bs)), size-ty b.value, length-map (newBounds pool table names bs) writeBound) in
+        let q : Writes v v₁ rs = writes-then (writeTy b.value) (map writeBound (newBounds pool table names bs)) (subst (Writes v v') (short-ty b.value (omega (arith, f))) b.wrote) p in
+        let n : v₁.at ≡ length rs = omega (arith, q.at, z, l, f) in
+        made-writes Whole rs v₁.at (rw (c.is, b.is)) z (omega (arith, y.work-long, ap (λ (d : List ℕ). length d) room)) q n (omega (arith, n, l, f))
 
 -- ══ The count ══
 

@@ -1,6 +1,6 @@
 -- A scheme that was written from the start of the work buffer is what quantifying makes, or it is too long.
-use Rattle.std.specs.Prelude.{Ok, Err, ◌≡◌, refl, take, drop}
-use Rattle.std.proofs.Common.{sym, ◌∙◌, take_at}
+use Rattle.std.specs.Prelude.{Ok, Err, ◌≡◌, refl, take, drop, min}
+use Rattle.std.proofs.Common.{sym, subst, ◌∙◌, take_at}
 use Rattle.std.proofs.Math.Path.{ap}
 use mathlib.Core.List.{List, [], ◌∷◌, ◌++◌, map}
 use Prim.Native.Nat.{ℕ, suc, ◌+◌, ◌*◌, ◌≤◌, ◌<◌}
@@ -19,9 +19,11 @@ use Rattle.laws.specs.Lists.{clash}
 use Rattle.laws.specs.Size.{size-ty}
 use Rattle.laws.specs.Sized.{sized-kept, sized-long}
 use Rattle.records.specs.Buffers.{words-length}
-use Rattle.records.specs.Cut.{fit, fits}
-use Rattle.records.specs.Stores.{sets-append}
-use Rattle.replacing.specs.Writes.{writes, writes-before}
+use Rattle.records.specs.Cut.{fit, fits, cut, cut-length, short-ty}
+use Rattle.records.specs.Views.{recOf}
+use Rattle.records.specs.declared.View.TheVariants as view
+use Rattle.types.specs.declared.writer.Writer.{Writer}
+use Rattle.types.specs.Written.{last, Writes, Reserves, Begins, writes-then, part-writes}
 use Rattle.lending.specs.Told.{Front, Made}
 
 -- records that were written from the start, where they fit, stand at the front
@@ -45,17 +47,13 @@ made-records m rs d d' n e room b l le = record {
 pub made-refused : (m : Got (List Rec)) (k : Refusal) (w : List ℕ) → m ≡ refused (number_of k) → Made m w (Err k)
 made-refused m k w e = record { answer = sym (rw e); front = λ rs i. clash (sym e ∙ i) }
 
-words_append : (a b : List Rec) → words (a ++ b) ≡ words a ++ words b
-unfolding words
-words_append [] b = refl
-words_append (rec k x y z ∷ a) b = let r = words_append a b in cc
-
--- one after the other, from the start
-pub written_after : (d d₁ d₂ : List ℕ) (out : ℕ) (a b : List Rec) → out ≡ length a → d₁ ≡ sets d 0 (words a) → d₂ ≡ sets d₁ (out * 4) (words b) → d₂ ≡ sets d 0 (words (a ++ b))
-written_after d d₁ d₂ out a b n e f =
-    let k = words-length a in
-    let j : out * 4 ≡ 0 + length (words a) = omega arith in
-    f ∙ rw (e, j) (sym (sets-append (words a) (words b) d 0) ∙ ap (sets d 0) (sym (words_append a b)))
+-- made: these records behind a writer that begins at the start, or a refusal
+pub made-writes : (m : Got (List Rec)) (rs : List Rec) {w w' : Writer} (n : ℕ) → m ≡ got rs → w.at ≡ 0 → 16384 ≤ length w.words.now → Writes w w' rs → n ≡ length rs → n ≤ 2048
+    → Made m w'.words.now (Ok n)
+made-writes m rs {w} {w'} n e z room p l le =
+    let b : w'.words.now ≡ sets w.words.now 0 (words rs) =
+    subst (λ (k : ℕ). w'.words.now ≡ sets w.words.now (k * 4) (words rs)) z (p.words (omega (arith, z, l))) in
+    made-records m rs w.words.now w'.words.now n e room b l le
 
 module _ (n : ℕ) (bs : List (Open ℕ)) where
   -- what quantifying makes of the renamed type
@@ -75,16 +73,23 @@ module _ (n : ℕ) (bs : List (Open ℕ)) where
     unfolding schemeLimited
     too_long w h = made-refused (limitedScheme R) TooLarge w (rw (e, sized-long (1 + (size u + length bs)) (depth u) (scheme n u bs) h))
 
-    -- the type and the bounds were written one after another, then the head, which says how many they are
-    pub made-scheme : (d d₁ d₂ d₃ : List ℕ) (out r : ℕ) → 16384 ≤ length d → out ≡ 1 + size u → d₁ ≡ sets d (1 * 4) (words (writeTy u)) → r ≡ out + length bs
-        → d₂ ≡ sets d₁ (out * 4) (words (map writeBound bs)) → r ≤ 2048 → d₃ ≡ sets d₂ (0 * 4) (words (rec (head 26 (fit r)) n 0 0 ∷ [])) → Made (limitedScheme R) d₃ (Ok r)
+    -- how far they go
+    pub past : {w w₁ w₂ w₃ : Writer} {start : ℕ} → w.at ≡ 0 → Reserves w w₁ start → Writes w₁ w₂ (cut (writeTy u)) → Writes w₂ w₃ (map writeBound bs)
+        → min w₃.at last ≡ min (1 + (size u + length bs)) last
+    past z r p q = omega (arith, z, r.at, p.at, q.at, cut-length (writeTy u), size-ty u, length-map bs writeBound)
+
+    -- room for the head was left, the type and the bounds were written behind it, then the head, which says how many they are
+    pub made-scheme : {w w₁ w₂ w₃ w₄ : Writer} {start : ℕ} → w.at ≡ 0 → 16384 ≤ length w.words.now → Reserves w w₁ start → Writes w₁ w₂ (cut (writeTy u))
+        → Writes w₂ w₃ (map writeBound bs) → w₃.at ≤ 2048 → Begins w₃ w₄ start (view.Scheme n) → Made (limitedScheme R) w₄.words.now (Ok w₃.at)
     unfolding schemeLimited writeScheme
-    made-scheme d d₁ d₂ d₃ out r room o h₁ q h₂ le h₃ =
+    made-scheme {w} {w₁} {w₂} {w₃} {w₄} z room r p q le b =
+        let k = past z r p q in
+        let many : w₃.at ≡ 1 + (size u + length bs) = omega (arith, k, le) in
         let rs : List Rec = writeTy u ++ map writeBound bs in
-        let w₂ : d₂ ≡ sets d (1 * 4) (words rs) = writes d d₁ d₂ (writeTy u) (map writeBound bs) (size u) 1 (size-ty u) h₁ (h₂ ∙ ap (λ (m : ℕ). sets d₁ (m * 4) (words (map writeBound bs))) o) in
-        let m : fit r ≡ suc (size u + length bs) = fits r (omega arith) ∙ omega arith in
-        let w₃ : d₃ ≡ sets d 0 (words (rec (head 26 (suc (size u + length bs))) n 0 0 ∷ rs)) = writes-before d d₂ d₃ (rec (head 26 (fit r)) n 0 0) rs 0 w₂ h₃ ∙ ap (λ (j : ℕ). sets d 0 (words (rec (head 26 j) n 0 0 ∷ rs))) m in
-        let k = scheme-length u in
-        made-records (limitedScheme R) (writeScheme (scheme n u bs)) d d₃ r
-        (rw (e, sized-kept (1 + (size u + length bs)) (depth u) (scheme n u bs) (omega arith) flat))
-        room w₃ (omega arith) le
+        let t : Writes w₁ w₂ (writeTy u) = subst (Writes w₁ w₂) (short-ty u (omega (arith, many, le))) p in
+        let l : suc (length rs) ≡ suc (size u + length bs) = omega (arith, length-append (writeTy u) (map writeBound bs), length-map bs writeBound, size-ty u) in
+        let f : fit (suc (length rs)) ≡ suc (size u + length bs) = ap fit l ∙ fits (suc (size u + length bs)) (omega (arith, many, le)) in
+        let all : Writes w w₄ (recOf (view.Scheme n) (fit (suc (length rs))) ∷ rs) = part-writes (view.Scheme n) rs r (writes-then (writeTy u) (map writeBound bs) t q) b in
+        made-writes (limitedScheme R) (writeScheme (scheme n u bs)) w₃.at
+        (rw (e, sized-kept (1 + (size u + length bs)) (depth u) (scheme n u bs) (omega (arith, many, le)) flat)) z room
+        (subst (λ (m : ℕ). Writes w w₄ (recOf (view.Scheme n) m ∷ rs)) f all) (omega (arith, many, scheme-length u)) le

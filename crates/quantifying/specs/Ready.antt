@@ -1,7 +1,7 @@
 -- What quantifying is given, and what it makes.
 use Rattle.std.specs.Prelude.{◌≡◌, refl, Bool, ℕ, zero, suc, ◌+◌, ◌*◌, ◌≤◌, ◌<◌, length, get_or, replicate, Ok, Err, Result}
 use Rattle.std.proofs.Common.{subst, arith}
-use mathlib.Core.List.{List, [], ◌∷◌, Memᴰ}
+use mathlib.Core.List.{List, [], ◌∷◌, Memᴰ, map}
 use Rattle.std.proofs.Math.Option.{Option}
 use Rattle.std.proofs.lemmas.List.Edits.{sets}
 use Rattle.rules.specs.Base.{Got, got, refused, bounded}
@@ -10,7 +10,7 @@ use Rattle.rules.specs.Replacing.{replaceTy}
 use Rattle.rules.specs.Refusals.{number_of}
 use Rattle.rules.specs.Schemes.{renamed}
 use Rattle.rules.specs.Trees.{Ty, Open, size, depth}
-use Rattle.rules.specs.Writing.{Rec, rec, head, words, writeTy}
+use Rattle.rules.specs.Writing.{Rec, writeTy, writeBound}
 use Rattle.rules.specs.declared.Refusal.{Refusal}
 use Rattle.rules.specs.declared.Refusal.TheVariants.{TooLarge}
 use Rattle.laws.specs.Lists.{All, in_head}
@@ -18,14 +18,17 @@ use Rattle.laws.specs.NameTable.{Good}
 use Rattle.renaming.specs.Places.{all_of}
 use Rattle.renaming.proofs.Sizes.{renamed-deep}
 use Rattle.records.specs.Cut.{fit}
-use Rattle.replacing.specs.Left.{went-same, Left, Room, Went}
-use Rattle.replacing.specs.LineLaws.{type-left}
+use Rattle.records.specs.declared.View.TheVariants as view
+use Rattle.types.specs.declared.writer.Writer.{Writer}
+use Rattle.types.specs.Written.{Writes, Reserves, Begins}
+use Rattle.replacing.specs.Leaves.{Leaves}
 use Rattle.replacing.specs.Well.{HeldType, Lent}
+use Rattle.replacing.proofs.Walks.{on, stopped}
 use Rattle.lending.specs.Told.{Made}
-use Rattle.handing.specs.Bounds.{allBounds, BoundsAt, PutAll}
+use Rattle.handing.specs.Bounds.{Renames, allBounds, BoundsAt}
 use Rattle.handing.specs.Tables.{quantPlaces, quantTypes}
 use Rattle.handing.specs.Said.{quant-lent}
-use Rattle.quantifying.specs.Core.{limitedScheme, made-refused, too_long, made-scheme}
+use Rattle.quantifying.specs.Core.{limitedScheme, made-refused, too_long, past, made-scheme}
 
 -- the renaming of handed names
 abbrev pub handed : List ℕ → List ℕ → List ℕ → Open ℕ → Option (Open ℕ)
@@ -42,7 +45,6 @@ pub record Ready (pool table s : List ℕ) (at : ℕ) (names bounds work : List 
   pub good : Good pool table
   pub type : HeldType pool table s t at
   pub flat : depth t ≤ 64
-  pub room : Room s at 1
   pub listed : BoundsAt bounds bs 0
   pub bounds-short : length bounds ≤ 8192
   pub names-few : length names ≤ 2048
@@ -54,57 +56,32 @@ at_in [] i h = absurd (omega arith)
 at_in (x ∷ xs) zero h = in_head
 at_in (x ∷ xs) (suc i) h = Memᴰ.tail (at_in xs i (omega arith))
 
--- ══ What the walk leaves ══
-
-module _ (pool table names : List ℕ) (t : Ty ℕ) (d d' : List ℕ) (nx : ℕ) where
-  -- it came to its end
-  pub record Came (out : ℕ) : Type 0 where
-    pub value : Ty ℕ
-    pub is : renamedType pool table names t ≡ got value
-    pub many : out ≡ 1 + size value
-    pub buffer : size value ≤ 65_535 → d' ≡ sets d (1 * 4) (words (writeTy value))
-    pub flat : depth value ≡ depth t
-
-  pub came : {x : Went} {q out : ℕ} → x ≡ Ok (q, out) → Left size writeTy d d' nx 1 x (renamedType pool table names t) → Came out
-  came {x} {q} {out} i left = go (renamedType pool table names t) refl (subst (λ (y : Went). Left size writeTy d d' nx 1 y (renamedType pool table names t)) i left)
-    where
-      go : (R : Got (Ty ℕ)) → renamedType pool table names t ≡ R → Left size writeTy d d' nx 1 (Ok (q, out)) (renamedType pool table names t) → Came out
-      go (got u) e l =
-          let s = (subst (λ (R : Got (Ty ℕ)). Left size writeTy d d' nx 1 (Ok (q, out)) R) e l).says in
-          let m : out ≡ 1 + size u = (went-same s.0).1 in
-          record { value = u; is = e; many = m; buffer = type-left (renamedType pool table names t) l u e; flat = renamed-deep (numbersOf (table_of pool table)) bounded (handed pool table names) t u e }
-      go (refused k) e l = absurd (subst (λ (R : Got (Ty ℕ)). Left size writeTy d d' nx 1 (Ok (q, out)) R) e l).says
-
-  -- or stopped
-  pub stopped : {x : Went} {k : Refusal} (all : Bool) (bs : List (Open ℕ)) (w : List ℕ) → x ≡ Err k → Left size writeTy d d' nx 1 x (renamedType pool table names t) → Made (quantifiedAs pool table names all t bs) w (Err k)
-  stopped {x} {k} all bs w i left = go (renamedType pool table names t) refl (subst (λ (y : Went). Left size writeTy d d' nx 1 y (renamedType pool table names t)) i left)
-    where
-      go : (R : Got (Ty ℕ)) → renamedType pool table names t ≡ R → Left size writeTy d d' nx 1 (Err k) (renamedType pool table names t) → Made (quantifiedAs pool table names all t bs) w (Err k)
-      go (got u) e l = absurd (let s = (subst (λ (R : Got (Ty ℕ)). Left size writeTy d d' nx 1 (Err k) R) e l).says in let p = s.0 in let z : ◌≡◌ {A = ℕ} 0 1 = cc in omega arith)
-      go (refused j) e l =
-          let s : number_of k ≡ j = (subst (λ (R : Got (Ty ℕ)). Left size writeTy d d' nx 1 (Err k) R) e l).says in
-          made-refused (quantifiedAs pool table names all t bs) k w (rw (e, s))
-
 -- the tables that were filled
 pub tables : (pool table names p v : List ℕ) → All (λ x. x < 256) names → length names ≤ 2048 → p ≡ quantPlaces names (replicate 512 0) → v ≡ quantTypes 0 names (replicate 1024 0) → Lent pool table p v (renamed (handed pool table names))
 tables pool table names p v small few a b = rw (a, b) (quant-lent pool table names small few)
 
--- the answers, from what the walk and the bounds left
-module _ (pool table names : List ℕ) (all : Bool) (t : Ty ℕ) (bs : List (Open ℕ)) (flat : depth t ≤ 64) (d d₁ : List ℕ) (nx out : ℕ) (c : Came pool table names t d d₁ nx out) where
+-- ══ The answers, from what the walk and the bounds left ══
+
+module _ (pool table names : List ℕ) (all : Bool) (t : Ty ℕ) (bs : List (Open ℕ)) where
   abbrev new : List (Open ℕ)
   new = allBounds all (handed pool table names) bs
 
-  shallow : depth c.value ≤ 64
-  shallow = let e = c.flat in omega arith
+  pub type-stopped : {w w' : Writer} {k : Refusal} (d : List ℕ) → Leaves writeTy w w' (Err k) (renamedType pool table names t) → Made (quantifiedAs pool table names all t bs) d (Err k)
+  type-stopped {k = k} d h = made-refused (quantifiedAs pool table names all t bs) k d (rw (stopped h))
 
-  pub type-long : (w : List ℕ) → 2048 < out → Made (quantifiedAs pool table names all t bs) w (Err TooLarge)
-  type-long w h = too_long (length names) new (renamedType pool table names t) c.value c.is shallow w (let e = c.many in omega arith)
+  module _ (flat : depth t ≤ 64) where
+    shallow : (u : Ty ℕ) → renamedType pool table names t ≡ got u → depth u ≤ 64
+    shallow u e = omega (arith, renamed-deep (numbersOf (table_of pool table)) bounded (handed pool table names) t u e, flat)
 
-  pub all-long : (d₂ w : List ℕ) (r : ℕ) → PutAll d₁ d₂ out r new → 2048 < r → Made (quantifiedAs pool table names all t bs) w (Err TooLarge)
-  all-long d₂ w r p h = too_long (length names) new (renamedType pool table names t) c.value c.is shallow w (let e = c.many in let f = p.next in omega arith)
+    pub all-long : {w w₁ w₂ w₃ : Writer} {start : ℕ} (d : List ℕ) → w.at ≡ 0 → Reserves w w₁ start → Leaves writeTy w₁ w₂ (Ok tt) (renamedType pool table names t)
+        → Writes w₂ w₃ (map writeBound new) → 2048 < w₃.at → Made (quantifiedAs pool table names all t bs) d (Err TooLarge)
+    all-long d z r p q h =
+        on p (λ u e k.
+        too_long (length names) new (renamedType pool table names t) u e (shallow u e) d
+        (omega (arith, h, past (length names) new (renamedType pool table names t) u e (shallow u e) z r k q)))
 
-  pub all_made : (d₂ d₃ : List ℕ) (r : ℕ) → 16384 ≤ length d → PutAll d₁ d₂ out r new → r ≤ 2048 → d₃ ≡ sets d₂ (0 * 4) (words (rec (head 26 (fit r)) (length names) 0 0 ∷ [])) → Made (quantifiedAs pool table names all t bs) d₃ (Ok r)
-  all_made d₂ d₃ r room p le h =
-      let m = c.many in
-      let q = p.next in
-      made-scheme (length names) new (renamedType pool table names t) c.value c.is shallow d d₁ d₂ d₃ out r room c.many (c.buffer (omega arith)) p.next p.buffer le h
+    pub all_made : {w w₁ w₂ w₃ w₄ : Writer} {start : ℕ} → w.at ≡ 0 → 16384 ≤ length w.words.now → Reserves w w₁ start
+        → Leaves writeTy w₁ w₂ (Ok tt) (renamedType pool table names t) → Writes w₂ w₃ (map writeBound new) → w₃.at ≤ 2048 → Begins w₃ w₄ start (view.Scheme (length names))
+        → Made (quantifiedAs pool table names all t bs) w₄.words.now (Ok w₃.at)
+    all_made z room r p q le b =
+        on p (λ u e k. made-scheme (length names) new (renamedType pool table names t) u e (shallow u e) z room r k q le b)

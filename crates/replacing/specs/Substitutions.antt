@@ -70,3 +70,6 @@ module _ (pool table places v : List ℕ) where
 
   pub one-look : IsProp ALook
   one-look p q = Σ_prop_path lent-once (fun_ext (λ o. says-one v (word_of places o) (p.0 o) (q.0 o) (p.1.tabled.says o) (q.1.tabled.says o)))
+
+  pub same-look : (p q : ALook) (o : Open ℕ) → p.0 o ≡ q.0 o
+  same-look p q o = ap (λ (l : ALook). l.0 o) (one-look p q)

@@ -162,7 +162,6 @@ module _ (pool table s bounds work : List ℕ) where
             good = g.checks.good;
             type = record { held = g.there.1.held; good = ty-weaker (numbers pool table) (is_held (table_of pool table)) 0 4_294_967_296 (omega arith) t g.there.1.good };
             flat = g.there.1.deep;
-            room = let s = g.checks.words-short in record { near = omega arith; small = omega arith };
             listed = given-bounds pool table bounds bs g.checks.two;
             bounds-short = g.checks.bounds-short;
             names-few = omega arith;

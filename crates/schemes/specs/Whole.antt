@@ -138,7 +138,6 @@ module _ (pool table ws bounds names : List ℕ) where
       good = n.good;
       type = (given-type pool table ws w t n.one).0;
       flat = (type-is pool table ws w t n.one).deep;
-      room = let s = n.words-short in record { near = omega arith; small = omega arith };
       listed = given-bounds pool table bounds bs n.two;
       bounds-short = n.bounds-short;
       names-few = n.names-few;

@@ -1,47 +1,48 @@
-// A type and bounds with handed names quantified, written as a scheme.
+//! A type and bounds with handed names quantified, written as a scheme.
 ghost use Rattle.std.specs.Prelude.{List, ℕ};
-ghost use Rattle.rules.specs.Trees.{Ty, Open};
+ghost use Rattle.rules.specs.Trees.{Open};
 ghost use Rattle.lending.specs.Told.{Made};
 ghost use Rattle.quantifying.specs.Ready.{Ready, quantifiedAs};
 
 use handing::inner::bounds::put_bounds;
 use handing::inner::tables::quantify_names;
+use names::tables::NameTable;
 use records::View;
-use records::inner::put_record;
-use replacing::inner::lines::replace_type;
+use replacing::inner::walk::replace_type;
+use replacing::substitution::Substitution;
 use rules::{RECORDS, Refusal};
+use types::Type;
+use types::writer::Writer;
 
-// Writes the type at a place and the bounds as a scheme, to the work buffer: how many records, or why not.
-// Where not all bounds are asked for, those of names that weren't handed are left out.
+/// Writes the type and the bounds as a scheme, to the work buffer, with the handed names quantified: how many records, or why not.
+/// Where not all bounds are asked for, those of names that weren't handed are left out.
 pub fn quantify_at(
-    pool: &[u8],
-    table: &[u32],
-    s: &[u32],
-    at: usize,
-    names: &[u32],
+    names: NameTable,
+    t: Type,
+    handed: &[u32],
     bounds: &[u32],
     all: bool,
     work: &mut [u32],
 ) -> Result<usize, Refusal>
-    requires { (t : Ty ℕ) × ((bs : List (Open ℕ)) × Ready pool.now table.now s.now at names.now bounds.now work.old t bs) }
-    ensures { (t : Ty ℕ) (bs : List (Open ℕ)) → Ready pool.now table.now s.now at names.now bounds.now work.old t bs → Made (quantifiedAs pool.now table.now names.now all t bs) work.new result }
+    requires { (bs : List (Open ℕ)) × Ready names.pool.now names.table.now t.words.now t.at handed.now bounds.now work.old t.tree.0 bs }
+    ensures { (bs : List (Open ℕ)) → Ready names.entry.pool.now names.entry.table.now t.entry.words.now t.entry.at handed.now bounds.now work.old t.entry.tree.0 bs →
+        Made (quantifiedAs names.entry.pool.now names.entry.table.now handed.now all t.entry.tree.0 bs) work.new result }
 {
     let mut places = [0u32; 512];
-    let mut v = [0u32; 1024];
-    quantify_names(names, &mut places, &mut v);
-    match replace_type(pool, table, s, at, &places, &v, work, 1) {
-        Ok((_, out)) => {
-            if RECORDS < out {
-                return Err(Refusal::TooLarge);
-            }
-            let n = put_bounds(bounds, 0, &places, &v, all, work, out);
-            if RECORDS < n {
-                Err(Refusal::TooLarge)
-            } else {
-                put_record(work, 0, View::Scheme(names.len() as u32), n);
-                Ok(n)
-            }
-        }
-        Err(k) => Err(k),
+    let mut types = [0u32; 1024];
+    quantify_names(handed, &mut places, &mut types);
+    let by = Substitution {
+        names,
+        places: &places,
+        types: &types,
+    };
+    let mut out = Writer { words: work, at: 0 };
+    let start = out.reserve();
+    replace_type(by, t, &mut out)?;
+    put_bounds(by, bounds, 0, all, &mut out);
+    if RECORDS < out.at {
+        return Err(Refusal::TooLarge);
     }
+    out.begin(start, View::Scheme(handed.len() as u32));
+    Ok(out.at)
 }

@@ -17,6 +17,7 @@ use records::inner::copy;
 use records::seen::view_at;
 use records::{View, is_scheme};
 use rules::{NAMES, RECORD_WORDS, Refusal};
+use types::Type;
 
 // A concrete type with its names, sorted, quantified; bounds of other names are left out.
 fn generalise_type(
@@ -32,7 +33,11 @@ fn generalise_type(
     let held = NameTable { pool, table };
     let mut names = [0u32; NAMES];
     let k = list_names(held, given, 1, given.len() / 4, Kind::Both, &mut names);
-    quantify_at(pool, table, given, 1, &names[..k], bounds, false, work)
+    let t = Type {
+        words: given,
+        at: 1,
+    };
+    quantify_at(held, t, &names[..k], bounds, false, work)
 }
 
 // A concrete type generalised, or another scheme as it stands.

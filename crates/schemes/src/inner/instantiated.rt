@@ -7,6 +7,7 @@ ghost use Rattle.lending.specs.Told.{Made};
 
 use super::checks::rest_checked;
 use instantiating::inner::instantiating::instantiate_scheme;
+use names::tables::NameTable;
 use records::is_scheme;
 use rules::{RECORDS, Refusal};
 
@@ -27,5 +28,6 @@ pub fn make_instantiated(
     }
     is_scheme(pool, table, given)?;
     rest_checked(pool, table, given, &[], names)?;
-    instantiate_scheme(pool, table, given, names, work)
+    let held = NameTable { pool, table };
+    instantiate_scheme(held, given, names, work)
 }

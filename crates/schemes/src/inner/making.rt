@@ -6,9 +6,11 @@ ghost use Rattle.rules.specs.Names.{table_of, lentTable};
 ghost use Rattle.lending.specs.Told.{Made};
 
 use super::checks::rest_checked;
+use names::tables::NameTable;
 use quantifying::inner::quantifying::quantify_at;
 use records::is_type;
 use rules::{RECORD_WORDS, RECORDS, Refusal};
+use types::Type;
 
 // A type and bounds with handed names quantified.
 pub fn make_quantified(
@@ -31,5 +33,7 @@ pub fn make_quantified(
     }
     is_type(pool, table, words)?;
     rest_checked(pool, table, words, bounds, names)?;
-    quantify_at(pool, table, words, 0, names, bounds, true, work)
+    let held = NameTable { pool, table };
+    let t = Type { words, at: 0 };
+    quantify_at(held, t, names, bounds, true, work)
 }

@@ -1,26 +1,27 @@
--- `inner::bounds::put_bound` meets its contract.
-use mathlib.Core.Path.{ap, ◌∙◌}
-use mathlib.Core.Bool.{Bool}
-use Rattle.rules.specs.Schemes.{renamed}
+use Rattle.std.proofs.Common.{sym, ap, ◌∙◌, Bool}
 use Rattle.records.specs.Holds.{openOf}
-use Rattle.replacing.specs.Runs.{found, not_found}
-use Rattle.handing.specs.Bounds.{ifAll, bound-found, bound-kept, written_one, written_none}
+use Rattle.handing.specs.Bounds.{ifAll, bound-found, bound-open, bound-kept, bound-written, bound-left-out}
 use Rattle.handing.proofs.inner.bounds.put_bound.Goals as goal
 
-pub returns-in-Some : goal.returns-in-Some
-returns-in-Some c = λ f l.
+pub returns-in-Open : goal.returns-in-Open
+returns-in-Open c = λ f l.
     let a = c.args in
-    let k = found (renamed f (openOf a.o)) (c.look_up.ensures (renamed f) l) c.in-Some.is in
-    written_one f (openOf a.o) a.all _ a.out c.name_at.result _ (bound-found f (openOf a.o) a.all _ _ _ _ k c.name_at.ensures) c.put_one.ensures
+    bound-written c.in-Open.u (bound-found f (openOf a.o) a.all (openOf c.in-Open.u) (sym (l (openOf a.o)) ∙ sym c.in-Some.ensures) c.in-Open.ensures) c.put.ensures
+
+pub unreachable-requires : goal.unreachable-requires
+unreachable-requires c =
+    let a = c.args in
+    let (f, l) = c.requires in
+    bound-open f (openOf a.o) a.all _ (sym (l (openOf a.o)) ∙ sym c.in-Some.ensures) c.shape.ensures c.in_default.not-Open
 
 pub returns-then-all : goal.returns-then-all
 returns-then-all c = λ f l.
     let a = c.args in
-    let e = not_found a.v.now (renamed f (openOf a.o)) (c.look_up.ensures (renamed f) l) c.in-None.is in
-    written_one f (openOf a.o) a.all _ a.out a.o _ (bound-kept f (openOf a.o) a.all e ∙ ap (λ (b : Bool). ifAll b (openOf a.o)) c.if-all.true) c.put_one-then-all.ensures
+    bound-written a.o
+    (bound-kept f (openOf a.o) a.all (sym (l (openOf a.o)) ∙ sym c.in-None.ensures) ∙ ap (λ (b : Bool). ifAll b (openOf a.o)) c.if-all.true) c.put-then-all.ensures
 
 pub returns-else-all : goal.returns-else-all
 returns-else-all c = λ f l.
     let a = c.args in
-    let e = not_found a.v.now (renamed f (openOf a.o)) (c.look_up.ensures (renamed f) l) c.in-None.is in
-    written_none f (openOf a.o) a.all _ a.out (bound-kept f (openOf a.o) a.all e ∙ ap (λ (b : Bool). ifAll b (openOf a.o)) c.if-all.false)
+    bound-left-out
+    (bound-kept f (openOf a.o) a.all (sym (l (openOf a.o)) ∙ sym c.in-None.ensures) ∙ ap (λ (b : Bool). ifAll b (openOf a.o)) c.if-all.false)

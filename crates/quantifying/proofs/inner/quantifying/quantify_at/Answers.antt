@@ -1,55 +1,71 @@
--- `inner::quantifying::quantify_at` meets its contract.
-use mathlib.Core.List.{List}
-use Prim.Native.Nat.{ℕ}
-use native.Mathlib.Omega.{arith}
+use Rattle.std.proofs.Common.{◌≡◌, List, ℕ, arith, refl, rules}
+use Rattle.std.proofs.lemmas.Result.{err_from_is_err_and}
 use Rattle.rules.specs.Schemes.{renamed}
-use Rattle.rules.specs.Trees.{Ty, Open}
-use Rattle.replacing.specs.Well.{Lent}
-use Rattle.quantifying.specs.Ready.{handed, Ready, at_in, tables, came, stopped, type-long, all-long, all_made}
+use Rattle.replacing.specs.Substitutions.{same-look}
+use Rattle.replacing.proofs.Lines.{type-as}
+use Rattle.replacing.proofs.Walks.{told}
+use Rattle.quantifying.specs.Ready.{handed, at_in, tables, type-stopped, all-long, all_made}
 use Rattle.quantifying.proofs.inner.quantifying.quantify_at.Goals as goal
 
 pub quantify_names-requires : goal.quantify_names-requires
-quantify_names-requires c = let (t, (bs, y)) = c.requires in record { names_len_bound = y.names-few; by_index = (λ i h. y.names-small _ (at_in _ i h)) }
+quantify_names-requires c = let (bs, y) = c.requires in record { names_len_bound = y.names-few; by_index = (λ i h. y.names-small _ (at_in _ i h)) }
 
-pub replace_type-requires : goal.replace_type-requires
-replace_type-requires c = let lent : (t : Ty ℕ) (bs : List (Open ℕ)) → let a = c.args in Ready a.pool.now a.table.now a.s.now a.at a.names.now a.bounds.now a.work.now t bs → Lent a.pool.now a.table.now c.quantify_names.new.places c.quantify_names.new.v (renamed (handed a.pool.now a.table.now a.names.now)) = λ t bs y. tables _ _ _ _ _ y.names-small y.names-few c.quantify_names.ensures.0 c.quantify_names.ensures.1 in
-    let (t, (bs, y)) = c.requires in
-    record { good = y.good; by_index = (t, y.type); by_index_2 = (_, lent t bs y); room = y.room }
+pub invariant_of-by : goal.invariant_of-by
+invariant_of-by c =
+    let (bs, y) = c.requires in
+    let n = c.args.names in
+    let q = c.quantify_names in
+    record {
+      lent = (
+        renamed (handed n.pool.now n.table.now c.args.handed.now),
+        tables n.pool.now n.table.now c.args.handed.now q.new.places q.new.v y.names-small y.names-few q.ensures.0 q.ensures.1,
+      );
+    }
+
+pub put_bounds-requires-clause-renames : goal.put_bounds-requires-clause-renames
+put_bounds-requires-clause-renames c =
+    let (bs, y) = c.requires in
+    let n = c.args.names in
+    let q = c.quantify_names in
+    let f = handed n.pool.now n.table.now c.args.handed.now in
+    let l = tables n.pool.now n.table.now c.args.handed.now q.new.places q.new.v y.names-small y.names-few q.ensures.0 q.ensures.1 in
+    (f, same-look n.pool.now n.table.now q.new.places q.new.v c.put_bounds-arg-1.given.0 (renamed f, l))
+
+pub returns-in_err-replace_type : goal.returns-in_err-replace_type
+returns-in_err-replace_type c = λ bs y.
+    let n = c.args.names in
+    let q = c.quantify_names in
+    let f = handed n.pool.now n.table.now c.args.handed.now in
+    let l = tables n.pool.now n.table.now c.args.handed.now q.new.places q.new.v y.names-small y.names-few q.ensures.0 q.ensures.1 in
+    let k = err_from_is_err_and c.from_residual.result c.from_residual.ensures.1 in
+    rw (k.1, k.2)
+    (type-stopped n.pool.now n.table.now c.args.handed.now c.args.all c.args.t.tree.0 bs _
+    (type-as n.pool.now n.table.now c.args.t.words.now q.new.places q.new.v c.replace_type-arg-1.given.0 (renamed f, l) refl
+    (told c.in_err-replace_type.was c.replace_type.ensures)))
 
 pub returns-then-out-gt-RECORDS : goal.returns-then-out-gt-RECORDS
-returns-then-out-gt-RECORDS c = let lent : (t : Ty ℕ) (bs : List (Open ℕ)) → let a = c.args in Ready a.pool.now a.table.now a.s.now a.at a.names.now a.bounds.now a.work.now t bs → Lent a.pool.now a.table.now c.quantify_names.new.places c.quantify_names.new.v (renamed (handed a.pool.now a.table.now a.names.now)) = λ t bs y. tables _ _ _ _ _ y.names-small y.names-few c.quantify_names.ensures.0 c.quantify_names.ensures.1 in
-    λ t bs y.
-    let l = lent t bs y in
-    let k = came _ _ _ t _ _ _ c.in-Ok.is (c.replace_type.ensures t _ y.type l) in
-    type-long _ _ _ _ t bs y.flat _ _ _ _ k _ c.if-out-gt-RECORDS.true
+returns-then-out-gt-RECORDS c = λ bs y.
+    let n = c.args.names in
+    let q = c.quantify_names in
+    let f = handed n.pool.now n.table.now c.args.handed.now in
+    let l = tables n.pool.now n.table.now c.args.handed.now q.new.places q.new.v y.names-small y.names-few q.ensures.0 q.ensures.1 in
+    all-long n.pool.now n.table.now c.args.handed.now c.args.all c.args.t.tree.0 bs y.flat _ refl c.reserve-start.ensures
+    (type-as n.pool.now n.table.now c.args.t.words.now q.new.places q.new.v c.replace_type-arg-1.given.0 (renamed f, l) refl
+    (told c.in_ok-replace_type.was c.replace_type.ensures))
+    (c.put_bounds.ensures bs f y.listed (same-look n.pool.now n.table.now q.new.places q.new.v c.put_bounds-arg-1.given.0 (renamed f, l)))
+    c.if-out-gt-RECORDS.true
 
-pub put_bounds-n-requires : goal.put_bounds-n-requires
-put_bounds-n-requires c = let lent : (t : Ty ℕ) (bs : List (Open ℕ)) → let a = c.args in Ready a.pool.now a.table.now a.s.now a.at a.names.now a.bounds.now a.work.now t bs → Lent a.pool.now a.table.now c.quantify_names.new.places c.quantify_names.new.v (renamed (handed a.pool.now a.table.now a.names.now)) = λ t bs y. tables _ _ _ _ _ y.names-small y.names-few c.quantify_names.ensures.0 c.quantify_names.ensures.1 in
-    let (t, (bs, y)) = c.requires in
-    let o = c.if-out-gt-RECORDS.false in
-    let a = c.args in
-    record { by_index = (bs, y.listed); tabled = ((handed a.pool.now a.table.now a.names.now), (lent t bs y).tabled); s_len_bound = y.bounds-short; at_bound = omega arith; at_bound_2 = omega (arith, o, y.bounds-short) }
-
-pub overflow_cast-names : goal.overflow_cast-names
-overflow_cast-names c = let (t, (bs, y)) = c.requires in omega (arith, y.names-few)
-
-pub returns-then-n-gt-RECORDS : goal.returns-then-n-gt-RECORDS
-returns-then-n-gt-RECORDS c = let lent : (t : Ty ℕ) (bs : List (Open ℕ)) → let a = c.args in Ready a.pool.now a.table.now a.s.now a.at a.names.now a.bounds.now a.work.now t bs → Lent a.pool.now a.table.now c.quantify_names.new.places c.quantify_names.new.v (renamed (handed a.pool.now a.table.now a.names.now)) = λ t bs y. tables _ _ _ _ _ y.names-small y.names-few c.quantify_names.ensures.0 c.quantify_names.ensures.1 in
-    λ t bs y.
-    let l = lent t bs y in
-    let k = came _ _ _ t _ _ _ c.in-Ok.is (c.replace_type.ensures t _ y.type l) in
-    let a = c.args in
-    all-long _ _ _ _ t bs y.flat _ _ _ _ k _ _ _ (c.put_bounds-n.ensures bs (handed a.pool.now a.table.now a.names.now) y.listed l.tabled) c.if-n-gt-RECORDS.true
-
-pub returns-else-n-gt-RECORDS : goal.returns-else-n-gt-RECORDS
-returns-else-n-gt-RECORDS c = let lent : (t : Ty ℕ) (bs : List (Open ℕ)) → let a = c.args in Ready a.pool.now a.table.now a.s.now a.at a.names.now a.bounds.now a.work.now t bs → Lent a.pool.now a.table.now c.quantify_names.new.places c.quantify_names.new.v (renamed (handed a.pool.now a.table.now a.names.now)) = λ t bs y. tables _ _ _ _ _ y.names-small y.names-few c.quantify_names.ensures.0 c.quantify_names.ensures.1 in
-    λ t bs y.
-    let l = lent t bs y in
-    let k = came _ _ _ t _ _ _ c.in-Ok.is (c.replace_type.ensures t _ y.type l) in
-    let a = c.args in
-    all_made _ _ _ _ t bs y.flat _ _ _ _ k _ _ _ y.work-long
-    (c.put_bounds-n.ensures bs (handed a.pool.now a.table.now a.names.now) y.listed l.tabled) c.if-n-gt-RECORDS.false c.put_record.ensures
-
-pub returns-in-Err : goal.returns-in-Err
-returns-in-Err c = let lent : (t : Ty ℕ) (bs : List (Open ℕ)) → let a = c.args in Ready a.pool.now a.table.now a.s.now a.at a.names.now a.bounds.now a.work.now t bs → Lent a.pool.now a.table.now c.quantify_names.new.places c.quantify_names.new.v (renamed (handed a.pool.now a.table.now a.names.now)) = λ t bs y. tables _ _ _ _ _ y.names-small y.names-few c.quantify_names.ensures.0 c.quantify_names.ensures.1 in
-    λ t bs y. stopped _ _ _ t _ _ _ _ bs _ c.in-Err.is (c.replace_type.ensures t _ y.type (lent t bs y))
+pub returns : goal.returns
+returns c = λ bs y.
+    let n = c.args.names in
+    let q = c.quantify_names in
+    let f = handed n.pool.now n.table.now c.args.handed.now in
+    let l = tables n.pool.now n.table.now c.args.handed.now q.new.places q.new.v y.names-small y.names-few q.ensures.0 q.ensures.1 in
+    let p = c.put_bounds.ensures bs f y.listed (same-look n.pool.now n.table.now q.new.places q.new.v c.put_bounds-arg-1.given.0 (renamed f, l)) in
+    let same = p.same in
+    let back : c.work-2-1.given.0 ≡ c.begin.new.self.words.now = search (rules, same) in
+    rw (back, c.begin.ensures.at)
+    (all_made n.pool.now n.table.now c.args.handed.now c.args.all c.args.t.tree.0 bs y.flat refl y.work-long c.reserve-start.ensures
+    (type-as n.pool.now n.table.now c.args.t.words.now q.new.places q.new.v c.replace_type-arg-1.given.0 (renamed f, l) refl
+    (told c.in_ok-replace_type.was c.replace_type.ensures))
+    p c.if-out-gt-RECORDS.false c.begin.ensures)

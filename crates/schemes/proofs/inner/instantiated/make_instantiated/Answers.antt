@@ -34,6 +34,9 @@ returns-in_err-rest_checked c =
     scheme-checked _ _ _ [] _ (omega arith) c.if-names-gt-RECORDS.false c.requires.table_value word _ _
     c.in_ok-is_scheme.ensures c.in_err-rest_checked.ensures))
 
+pub invariant_of-held : goal.invariant_of-held
+invariant_of-held c = record { good = scheme-table _ _ _ (sym c.in_ok-is_scheme.ensures) }
+
 pub instantiate_scheme-requires : goal.instantiate_scheme-requires
 instantiate_scheme-requires c =
     let word : Words32 c.args.given.now = record { word = λ i. (c.shared_slice_known-3-1.given i).fits } in
