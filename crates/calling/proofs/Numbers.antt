@@ -87,9 +87,20 @@ module _ (q : Asked) (pool table a b c d result work : List ℕ) where
       let one = λ (k : ℕ) (l : 2 ≤ k) (m : k ≤ 12). ne_eqb q.call k (h k l m) in
       let other = λ (k : ℕ) (l : 28 ≤ k) (m : k ≤ 31). ne_eqb q.call k (g k l m) in
       simp (
-        one 2 (omega arith) (omega arith), one 3 (omega arith) (omega arith), one 4 (omega arith) (omega arith), one 5 (omega arith) (omega arith),
-        one 6 (omega arith) (omega arith), one 7 (omega arith) (omega arith), one 8 (omega arith) (omega arith), one 9 (omega arith) (omega arith),
-        one 10 (omega arith) (omega arith), one 11 (omega arith) (omega arith), one 12 (omega arith) (omega arith),
-        other 28 (omega arith) (omega arith), other 29 (omega arith) (omega arith), other 30 (omega arith) (omega arith), other 31 (omega arith) (omega arith),
+        one 2 (omega arith) (omega arith),
+        one 3 (omega arith) (omega arith),
+        one 4 (omega arith) (omega arith),
+        one 5 (omega arith) (omega arith),
+        one 6 (omega arith) (omega arith),
+        one 7 (omega arith) (omega arith),
+        one 8 (omega arith) (omega arith),
+        one 9 (omega arith) (omega arith),
+        one 10 (omega arith) (omega arith),
+        one 11 (omega arith) (omega arith),
+        one 12 (omega arith) (omega arith),
+        other 28 (omega arith) (omega arith),
+        other 29 (omega arith) (omega arith),
+        other 30 (omega arith) (omega arith),
+        other 31 (omega arith) (omega arith),
       )
       (ap (λ (s : Done). does s) f)

@@ -112,10 +112,8 @@ pub fn sheet(
     res: &mut [u32],
     work: &mut [u32],
 ) -> Told
-    ensures {
-        done result res.new work.new ≡
-        sheets q pool.now table.now lists.entry.a.now lists.entry.b.now lists.entry.c.now lists.entry.d.now res.old work.old
-    }
+    ensures { done result res.new work.new ≡
+        sheets q pool.now table.now lists.entry.a.now lists.entry.b.now lists.entry.c.now lists.entry.d.now res.old work.old }
 {
     let Lists { a, b, c, d } = lists;
     match q.call {

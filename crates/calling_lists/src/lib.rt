@@ -14,9 +14,9 @@ use queries::{closed, contains, variables};
 use records::{is_bindings, is_scheme, is_set, is_type};
 use replacing_calls::{replace_in_set, replace_in_type};
 use rules::Refusal;
-use saying::{Asked, Lists};
 use saying::told::{Told, added, asked, checked, counted, refused, said, solution, written};
 use saying::words::fill;
+use saying::{Asked, Lists};
 use schemes::{generalise, instantiate, quantify};
 use solving::solve;
 

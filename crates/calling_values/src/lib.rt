@@ -7,8 +7,8 @@ ghost use Rattle.std.specs.Prelude.{◌≡◌};
 ghost use Rattle.saying.specs.Dispatch.{shown, exponents, products};
 
 use inner::{exponent_at, product_from, told_power, told_product};
-use saying::{Asked, Lists};
 use saying::told::Told;
+use saying::{Asked, Lists};
 
 /// 5 add, 6 multiply, 7 negate, 8 divide: `exponents` (`saying/specs/Dispatch`).
 pub fn exponent(call: u32, a: &[u32]) -> Told
