@@ -41,27 +41,34 @@ fn begins(buffer: &[u32], words: &[u32]) -> bool {
 }
 
 /// Does the call answer, and leave the buffers, as stored?
-fn holds(alloc: Global, mut case: Case) -> Result<bool> {
-    let mut result = vec![in alloc; RESULT_BEFORE; case.lent.result]?;
-    let mut work = vec![in alloc; WORK_BEFORE; case.lent.work]?;
+fn holds(alloc: Global, case: Case) -> Result<bool> {
+    let Case {
+        mut table,
+        asked,
+        lent,
+        words,
+        gives,
+    } = case;
+    let mut result = vec![in alloc; RESULT_BEFORE; lent.result]?;
+    let mut work = vec![in alloc; WORK_BEFORE; lent.work]?;
     let lists = Lists {
-        a: &case.words.first,
-        b: &case.words.second,
-        c: &case.words.third,
-        d: &case.words.fourth,
+        a: &words.first,
+        b: &words.second,
+        c: &words.third,
+        d: &words.fourth,
     };
     let told = called(
-        case.asked,
+        asked,
         lists,
-        &mut case.table.pool,
-        &mut case.table.ends,
+        &mut table.pool,
+        &mut table.ends,
         &mut result,
         &mut work,
     );
-    let after = work_after(case.asked.call, case.gives.refusal);
+    let after = work_after(asked.call, gives.refusal);
     Ok(
-        told_holds(&told, &case.gives)
-            && begins(&result, &case.gives.words)
+        told_holds(&told, &gives)
+            && begins(&result, &gives.words)
             && work.iter().all(|w| *w == after),
     )
 }
