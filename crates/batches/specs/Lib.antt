@@ -3,5 +3,4 @@ pub mod Steps
 pub mod Checks
 pub mod Promise
 pub mod Theorems
-pub mod Determined
 pub mod Cases
