@@ -8,7 +8,7 @@ use mathlib.Core.List.{[], ◌∷◌, ◌++◌}
 use Prim.Native.Nat.{Ordering}
 use Rattle.rules.specs.Base.{is_yes, all}
 use Rattle.rules.specs.Exponents.{Exp, frac, gcd, nought, one, plus, mul}
-use Rattle.rules.specs.Trees.{var, quant, par, Atom, free, base, ◌↑◌, Product, Names, Con, orderOpen, orderAtom}
+use Rattle.rules.specs.Trees.{var, quant, par, Atom, free, base, ◌↑◌, Product, Names, orderOpen, orderAtom}
 use Rattle.rules.specs.Choices.{
   Fixed,
   parameter,
@@ -24,7 +24,6 @@ use Rattle.rules.specs.Choices.{
   scaled,
   chosenFor,
   comesTo,
-  MakesTrue,
 }
 use Rattle.laws.specs.Order.{Lawful, self}
 use Rattle.laws.specs.Lists.{some≢none, and_left, and_right, and_both, no-is, yes-is, Every, every_append}
@@ -49,8 +48,7 @@ use Rattle.laws.specs.Powers.{Sound}
 use Rattle.laws.specs.Sorted.{Before}
 use Rattle.laws.specs.GoodProducts.{goodAtom, good-proper}
 use Rattle.completeness.proofs.Worth.{worth}
-use Rattle.completeness.specs.Claims.{◌⇔◌}
-use Rattle.completeness.proofs.Shapes.{Good, Shaped, scalar-of, equality-of, Right}
+use Rattle.completeness.proofs.Products.{Good}
 
 -- ══ Rational powers are fractions in lowest terms ══
 
@@ -162,12 +160,6 @@ module _ {N : Type 0} (same : Discrete N) (c : Choice N) (r : Rational c) where
   module _ (ν : Names N) (law : Lawful (orderAtom ν)) (held : N → Bool) where
     pub good-worth : (u : Fixed N) (p : Product N) → Good ν held p → power same u (comesTo c p) ≡ worth (measured same c u) p
     good-worth u p h = comes-worth (λ a. goodAtom ν held 0 a ≡ true) u p (good-proper ν law held 0 p h).each
-
-    -- a choice makes a constraint true when it is right for each parameter and base dimension
-    pub makes-right : (k : Con N) → Shaped ν held k → MakesTrue same c k ⇔ ((u : Fixed N) → Right (measured same c u) k)
-    unfolding MakesTrue
-    makes-right k (scalar-of p h e) = rw e (λ f u. sym (good-worth u p h) ∙ f u, λ f u. good-worth u p h ∙ f u)
-    makes-right k (equality-of p q h i e) = rw e (λ f u. sym (good-worth u p h) ∙ f u ∙ good-worth u q i, λ f u. good-worth u p h ∙ f u ∙ sym (good-worth u q i))
 
 -- ══ A product without variables, with a power that isn't 0 ══
 

@@ -6,11 +6,11 @@ use Rattle.std.proofs.Math.Nat.{eq-one_of_dvd-one}
 use Rattle.std.proofs.Math.Bridge.{le_by_compare, IsLe}
 use Rattle.rules.specs.Base.{got, bounded, all}
 use Rattle.rules.specs.Exponents.{Exp, frac, nought, one, lowest, plus}
-use Rattle.rules.specs.Trees.{Names, var, par, free, base, ◌↑◌, dim, basic, boolean, Con, equal, is_scalar, Binding, ◌≔◌}
+use Rattle.rules.specs.Trees.{Names, var, par, free, base, ◌↑◌, opened, dim, basic, boolean, Con, equal, isDim, is_scalar, Binding, ◌≔◌}
 use Rattle.rules.specs.Names.{table_of, numbersOf, is_held}
 use Rattle.rules.specs.Writing.{rec}
 use Rattle.rules.specs.Lengths.{sizedWords, counting}
-use Rattle.rules.specs.Solving.{accepted, solve}
+use Rattle.rules.specs.Solving.{accepted, remaining, solve}
 use Rattle.rules.specs.Calls.{setGiven, solved, unsolved, refusedAfter, solveCall}
 use Rattle.rules.specs.Rules.{rules}
 use Rattle.rules.specs.Examples.{x, y, z, L, pool, table, result, work}
@@ -31,14 +31,22 @@ use Rattle.rules.specs.Choices.{
   MakesAllTrue,
   Choosing,
   completed,
+  isSide,
+  wide,
+  sideComesTo,
+  MakesWideTrue,
+  MakesAllWideTrue,
+  ChoosingWide,
+  completedWide,
 }
 use Rattle.laws.specs.Gcd.{is-gcd}
 use Rattle.laws.specs.Fractions.{coprime-terms}
 use Rattle.laws.specs.Lists.{in_head, Every}
 use Rattle.laws.specs.ByteOrder.{numbered-lawful}
 use Rattle.laws.specs.NameTable.{Good}
-use Rattle.completeness.specs.Claims.{DimensionSet, AllChoices, Complete}
-use Rattle.completeness.proofs.Completeness.{all-choices, refused-then-none}
+use Rattle.completeness.specs.Claims.{DimensionSet, AllChoices, Complete, WideSet, WideComplete}
+use Rattle.completeness.specs.Theorems.{Within}
+use Rattle.completeness.proofs.Completeness.{all-choices, refused-then-none, wide-decided, conflict}
 use Rattle.laws.specs.Given.{held-apart}
 use Rattle.completeness.proofs.Chosen.{at_part}
 
@@ -240,3 +248,77 @@ k9-none d = d.makes (equal (dim (free (var x) ↑ one ∷ [])) (basic boolean)) 
 -- 'equal-scalar or an equality of two dimensions' can't be left out
 pub dimensions-needed : ((set : List ℕ) (cs : List (Con ℕ)) → setGiven (table_of pool table) set ≡ got cs → Complete pool table set result work cs) → ⊥
 dimensions-needed claim = ((rw k9-answer at (claim k9-words k9 k9-read).five) (λ n k e i. let j : ◌≡◌ {A = ℕ} 0 1 = cc in omega arith)).1 k9-none
+
+-- nor can 'wide' be: K9 again
+k9-none-wide : ChoosingWide same k9 → ⊥
+unfolding MakesWideTrue sideComesTo
+k9-none-wide d = d.makes (equal (dim (free (var x) ↑ one ∷ [])) (basic boolean)) in_head
+
+pub wide-needed : ((set : List ℕ) (cs : List (Con ℕ)) → setGiven (table_of pool table) set ≡ got cs → WideComplete pool table set result work cs) → ⊥
+wide-needed claim = ((rw k9-answer at (claim k9-words k9 k9-read).five) (λ n k e i. let j : ◌≡◌ {A = ℕ} 0 1 = cc in omega arith)).1 k9-none-wide
+
+-- ══ A sheet: x is a dimension, y ~ x, x ~ [L] ══
+
+abbrev lines : List (Con ℕ)
+lines = isDim (opened (var x)) ∷ equal (opened (var y)) (opened (var x)) ∷ equal (opened (var x)) (dim (base L ↑ one ∷ [])) ∷ []
+
+abbrev lines-words : List ℕ
+lines-words = sizedWords (rec 21 0 0 0 ∷ rec 1 x 0 0 ∷ rec 20 0 0 0 ∷ rec 1 y 0 0 ∷ rec 1 x 0 0 ∷ rec 20 0 0 0 ∷ rec 1 x 0 0 ∷ rec 3 1 0 0 ∷ rec 13 L 1 1 ∷ [])
+
+lines-read : setGiven (table_of pool table) lines-words ≡ got lines
+unfolding rules counting pool table
+lines-read = refl
+
+-- both are L, after three rounds: y is bound, x is bound, and nothing is left of the is-dimension
+lines-answer : (solveCall pool table lines-words result work).answer ≡ solved 6 0 3
+unfolding rules counting pool table result work
+lines-answer = refl
+
+-- ══ y ~ x alone: y is bound to x, a variable, and follows it ══
+
+abbrev follow : List (Con ℕ)
+follow = equal (opened (var y)) (opened (var x)) ∷ []
+
+follow-solved : solve names bounded follow ≡ accepted (y ≔ opened (var x) ∷ []) [] 1
+unfolding rules pool table
+follow-solved = refl
+
+follow-given : WideSet names held follow
+unfolding rules pool table isSide wide
+follow-given = record { well-formed = refl; sides = refl }
+
+pub follow-completes : (c : Choice ℕ) → Rational c → MakesAllWideTrue same (completedWide same (y ≔ opened (var x) ∷ []) c) follow
+follow-completes c r = (((wide-decided names held (numbered-lawful _) (held-apart pool table good-table) follow follow-given).all-choices _ _ _ follow-solved).completes c r).1
+
+pub follow-comes : (c : Choice ℕ) → completedWide same (y ≔ opened (var x) ∷ []) c y ≡ c x
+unfolding rules pool table sideComesTo completedWide
+follow-comes c = refl
+
+-- ══ x ~ [L] and x ~ []: 5; so with any other lines there is no choice either ══
+
+abbrev clash : List (Con ℕ)
+clash = equal (opened (var x)) (dim (base L ↑ one ∷ [])) ∷ equal (opened (var x)) (dim []) ∷ []
+
+abbrev clash-words : List ℕ
+clash-words = sizedWords (rec 20 0 0 0 ∷ rec 1 x 0 0 ∷ rec 3 1 0 0 ∷ rec 13 L 1 1 ∷ rec 20 0 0 0 ∷ rec 1 x 0 0 ∷ rec 3 0 0 0 ∷ [])
+
+clash-read : setGiven (table_of pool table) clash-words ≡ got clash
+unfolding rules counting pool table
+clash-read = refl
+
+clash-answer : (solveCall pool table clash-words result work).answer ≡ unsolved 3 2
+unfolding rules counting pool table result work
+clash-answer = refl
+
+pub clash-none : (cs : List (Con ℕ)) → Within clash cs → ChoosingWide same cs → ⊥
+unfolding isSide wide all
+clash-none = conflict pool table clash-words result work clash clash-read refl 3 2 clash-answer
+
+-- ══ A parameter as a side stays outside: it is no dimension with one factor, so the solver answers 5 where both are the same ══
+
+abbrev parameter-side : List (Con ℕ)
+parameter-side = equal (opened (par L)) (dim (free (par L) ↑ one ∷ [])) ∷ []
+
+pub parameter-outside : (all wide parameter-side ≡ false) × (solve names bounded parameter-side ≡ remaining parameter-side 0)
+unfolding rules pool table isSide wide
+parameter-outside = (refl, refl)

@@ -1,13 +1,14 @@
 pub mod Completeness
 pub mod Instances
 pub mod Worth
-pub mod Shapes
-pub mod Moves
-pub mod Rounds
+pub mod Products
 pub mod Limits
+pub mod Sides
+pub mod Rounds
 pub mod Weights
 pub mod Chosen
 pub mod Runs
 pub mod Completed
+pub mod Same
 pub mod Trees
 pub mod Words

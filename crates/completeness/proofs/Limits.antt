@@ -7,31 +7,9 @@ use mathlib.Core.List.Memᴰ
 use mathlib.Core.List.{List, [], ◌∷◌}
 use Rattle.rules.specs.Base.{Got, got, refused, bounded, each}
 use Rattle.rules.specs.Exponents.{Exp, neg, inverted, times, timesInverse, quotient}
-use Rattle.rules.specs.Trees.{Open, var, quant, par, free, base, Factor, ◌↑◌, Product, Names, Ty, dim, Con, is_scalar, Binding, ◌≔◌, orderAtom}
-use Rattle.rules.specs.Products.{single}
-use Rattle.rules.specs.Replacing.{Look, asProduct, replaceFactors, replaceProduct, replaceDim, replaceTy, replaceCon, replaceBinding, bindings}
-use Rattle.rules.specs.Rounds.{
-  Step,
-  bind,
-  split,
-  done,
-  stuck,
-  State,
-  firstRules,
-  orTry,
-  dimensions,
-  by_kind,
-  otherSide,
-  trySatisfy,
-  taken,
-  firstStep,
-  sizeState,
-  depthState,
-  limited,
-  perform,
-  performed,
-  round,
-}
+use Rattle.rules.specs.Trees.{Open, var, quant, par, free, base, Factor, ◌↑◌, Product, Names, dim, Con, is_scalar, ◌≔◌, orderAtom}
+use Rattle.rules.specs.Replacing.{Look, asProduct, replaceFactors, replaceProduct, replaceDim, bindings}
+use Rattle.rules.specs.Rounds.{Step, bind, split, done, stuck, State, orTry, otherSide, trySatisfy, taken, firstStep, sizeState, depthState, limited}
 use Rattle.laws.specs.Order.{Lawful, Tells}
 use Rattle.laws.specs.Lists.{got≢refused, All, in_head}
 use Rattle.laws.specs.Exact.{OfLimits, Below, times_below, multiply-below, divide-below, raise-below, sized-below}
@@ -39,24 +17,20 @@ use Rattle.laws.specs.ExactProducts.{multiply-exact, divide-exact, raise-exact}
 use Rattle.laws.specs.GoodProducts.{goodAtom}
 use Rattle.laws.specs.Refusing.{Refuses, given as fine, onward}
 use Rattle.laws.specs.Occurs.{one-bound}
-use Rattle.laws.specs.Turns.{Found, found}
-use Rattle.completeness.proofs.Shapes.{Shaped, scalar-of, equality-of, ShapedType}
-use Rattle.completeness.proofs.Moves.{move-shape}
-use Rattle.completeness.proofs.Rounds.{Kept, moved}
 
 -- with 7 or 8
 abbrev pub Limited : {A : Type 0} → Got A → Type 0
 Limited m = Refuses OfLimits m
 
 -- what exact arithmetic gives a value for
-below : {A : Type 0} {m n : Got A} {a : A} → Below m n → n ≡ got a → Limited m
+pub below : {A : Type 0} {m n : Got A} {a : A} → Below m n → n ≡ got a → Limited m
 below {m} {n} {a} b e = record { only = λ k i. go k (b.refuses k i) }
   where
     go : (k : ℕ) → (n ≡ refused k) ⊎ OfLimits k → OfLimits k
     go k (inl j) = absurd (got≢refused (sym e ∙ j))
     go k (inr j) = j
 
-each-limited : {A B : Type 0} (f : A → Got B) (xs : List A) → All (λ a. Limited (f a)) xs → Limited (each f xs)
+pub each-limited : {A B : Type 0} (f : A → Got B) (xs : List A) → All (λ a. Limited (f a)) xs → Limited (each f xs)
 unfolding each
 each-limited f [] h = fine
 each-limited f (x ∷ xs) h = onward (h x in_head) (λ y i. onward (each-limited f xs (λ a m. h a (Memᴰ.tail m))) (λ ys j. fine))
@@ -82,7 +56,7 @@ module _ {N : Type 0} (ν : Names N) (x : N) (d : Product N) where
           onward (below (raise-below ν d e) (raise-exact ν d e)) (λ more n.
           onward (below (multiply-below ν left more) (multiply-exact ν left more)) (λ acc' j. f acc'))))
 
-  product-limited : (p : Product N) → Limited (replaceProduct ν bounded look p)
+  pub product-limited : (p : Product N) → Limited (replaceProduct ν bounded look p)
   unfolding replaceProduct
   product-limited p = factors-limited p p
 
@@ -90,21 +64,6 @@ module _ {N : Type 0} (ν : Names N) (x : N) (d : Product N) where
   unfolding replaceDim
   dim-limited none p = onward (product-limited p) (λ q i. fine)
   dim-limited (some o) p = fine
-
-  type-limited : (held : N → Bool) (t : Ty N) → ShapedType ν held t → Limited (replaceTy ν bounded look t)
-  unfolding replaceTy
-  type-limited held t s = rw s.is (dim-limited (single s.product) s.product)
-
-  con-limited : (held : N → Bool) (c : Con N) → Shaped ν held c → Limited (replaceCon ν bounded look c)
-  unfolding replaceCon
-  con-limited held c (scalar-of p h e) = rw e (onward (product-limited p) (λ q i. fine))
-  con-limited held c (equality-of p q h k e) =
-      rw e (onward (type-limited held (dim p) (record { product = p; good = h; is = refl })) (λ s i.
-      onward (type-limited held (dim q) (record { product = q; good = k; is = refl })) (λ t j. fine)))
-
-  binding-limited : (held : N → Bool) (b : Binding N) → ((y : N) (t : Ty N) → b ≡ y ≔ t → ShapedType ν held t) → Limited (replaceBinding ν bounded look b)
-  unfolding replaceBinding
-  binding-limited held (y ≔ t) h = onward (type-limited held t (h y t refl)) (λ u i. fine)
 
 -- ══ The rules ══
 
@@ -121,11 +80,11 @@ module _ {N : Type 0} (ν : Names N) (law : Lawful (orderAtom ν)) (held : N →
   unfolding otherSide
   other-limited k (a ↑ j) = onward (quotient-limited (neg j) k) (λ e i. fine)
 
-  or-limited : (o : Option (Step N)) (m : Got (Step N)) → Limited m → Limited (orTry o m)
+  pub or-limited : (o : Option (Step N)) (m : Got (Step N)) → Limited m → Limited (orTry o m)
   or-limited none m h = h
   or-limited (some r) m h = fine
 
-  scalar-limited : (p : Product N) → Limited (trySatisfy ν bounded (is_scalar p))
+  pub scalar-limited : (p : Product N) → Limited (trySatisfy ν bounded (is_scalar p))
   unfolding trySatisfy
   scalar-limited [] = fine
   scalar-limited (free (var x) ↑ k ∷ p) = onward (each-limited (otherSide bounded k) p (λ f m. other-limited k f)) (λ q i. fine)
@@ -133,47 +92,13 @@ module _ {N : Type 0} (ν : Names N) (law : Lawful (orderAtom ν)) (held : N →
   scalar-limited (free (par x) ↑ k ∷ p) = fine
   scalar-limited (base n ↑ k ∷ p) = fine
 
-  try-limited : (c : Con N) → Shaped ν held c → Limited (trySatisfy ν bounded c)
-  unfolding trySatisfy by_kind dimensions
-  try-limited c (scalar-of p h e) = rw e (scalar-limited p)
-  try-limited c (equality-of p q h k e) = rw e (or-limited (firstRules ν (dim p) (dim q)) (by_kind ν bounded (dim p) (dim q)) (onward (below (divide-below ν p q) (divide-exact ν p q)) (λ r i. fine)))
-
-  taken-limited : (s : Step N) (c : Con N) (cs : List (Con N)) → Limited (firstStep ν bounded cs) → Limited (taken s c cs (λ _. firstStep ν bounded cs))
+  pub taken-limited : (s : Step N) (c : Con N) (cs : List (Con N)) → Limited (firstStep ν bounded cs) → Limited (taken s c cs (λ _. firstStep ν bounded cs))
   unfolding taken
   taken-limited (bind x t) c cs h = fine
   taken-limited (split new) c cs h = fine
   taken-limited done c cs h = fine
   taken-limited stuck c cs h = onward h (λ r i. fine)
 
-  first-limited : (cs : List (Con N)) → All (Shaped ν held) cs → Limited (firstStep ν bounded cs)
-  unfolding firstStep
-  first-limited [] h = fine
-  first-limited (c ∷ cs) h = onward (try-limited c (h c in_head)) (λ s i. taken-limited s c cs (first-limited cs (λ d m. h d (Memᴰ.tail m))))
-
-  state-limited : (s : State N) → Limited (limited bounded s)
+  pub state-limited : (s : State N) → Limited (limited bounded s)
   unfolding limited
   state-limited s = below (sized-below (sizeState s) (depthState s) s) refl
-
-  -- ══ A round ══
-
-  perform-limited : (s : State N) → Kept ν held s → (step : Step N) (rest : List (Con N)) → Found ν bounded s.cons step rest
-      → Limited (perform ν bounded s.binds step rest)
-  unfolding perform
-  perform-limited s k (split new) rest f = state-limited _
-  perform-limited s k done rest f = state-limited _
-  perform-limited s k stuck rest f = fine
-  perform-limited s k (bind x t) rest f = go t (move-shape ν law held f.con (bind x t) (k.cons-shaped f.con f.given) (moved ν law held tells s k (bind x t) rest f))
-    where
-      go : (t : Ty N) → ShapedType ν held t → Limited (perform ν bounded s.binds (bind x t) rest)
-      go t h =
-          rw h.is
-          (onward (each-limited _ rest (λ c m. con-limited ν x h.product held c (k.cons-shaped c (f.kept c m)))) (λ cs' i.
-          onward (each-limited _ s.binds (λ b m. binding-limited ν x h.product held b (λ y u e. k.binds-shaped y u (rw e at m)))) (λ bs' j. state-limited _)))
-
-  pub round-limited : (s : State N) → Kept ν held s → Limited (round ν bounded s)
-  unfolding round performed
-  round-limited s k = onward (first-limited s.cons k.cons-shaped) go
-    where
-      go : (r : Option (Step N × List (Con N))) → firstStep ν bounded s.cons ≡ got r → Limited (performed ν bounded s.binds r)
-      go none e = fine
-      go (some v) e = onward (perform-limited s k v.0 v.1 (found ν bounded s.cons v e)) (λ s' i. fine)

@@ -1,5 +1,6 @@
 -- The words of the theorems: the sets that W-210 speaks of, and what is said of an accepted answer. Choices stand in rules' Choices.
 use Rattle.std.specs.Prelude.{◌≡◌, Bool, true, ◌⊎◌, ℕ, ◌≤◌, length}
+use Rattle.std.proofs.Math.Option.{some}
 use mathlib.Core.List.{List, ◌++◌, map, Memᴰ}
 use Rattle.rules.specs.Base.{all, collect, sum_of}
 use Rattle.rules.specs.Trees.{var, Product, Names, Ty, dim, Con, Binding, ◌≔◌, sizeBinding}
@@ -8,7 +9,23 @@ use Rattle.rules.specs.Writing.{words, writeBinding, writeBound}
 use Rattle.rules.specs.Solving.{Answer, accepted, remaining, stopped}
 use Rattle.rules.specs.Calls.{over, Solved, solved, unsolved, refusedAfter, solveCall}
 use Rattle.rules.specs.WellFormed.{goodCon}
-use Rattle.rules.specs.Choices.{Choice, Rational, Same, comesTo, dimensional, MakesAllTrue, Choosing, completed}
+use Rattle.rules.specs.Choices.{
+  Dimension,
+  Choice,
+  Rational,
+  Same,
+  comesTo,
+  dimensional,
+  MakesAllTrue,
+  Choosing,
+  completed,
+  isSide,
+  wide,
+  sideComesTo,
+  MakesAllWideTrue,
+  ChoosingWide,
+  completedWide,
+}
 
 -- both ways
 infix 5 ◌⇔◌
@@ -79,3 +96,45 @@ pub record Complete (pool table set result work : List ℕ) (cs : List (Con ℕ)
   -- (b), (c)
   pub accepts : (records bounds rounds : ℕ) → (solveCall pool table set result work).answer ≡ solved records bounds rounds
       → Told pool table set result work cs records bounds
+
+-- ══ Wide sets: sides may be variables, and is-dimension may stand in them ══
+
+-- equal-scalars, equalities of sides and is-dimensions of sides, well formed (else 1). No other check at entry is needed
+pub record WideSet {N : Type 0} (ν : Names N) (held : N → Bool) (cs : List (Con N)) : Type 0 where
+  pub well-formed : all (goodCon ν held 0) cs ≡ true
+  pub sides : all wide cs ≡ true
+
+-- what the bindings of an accepted answer say of the choices that make a wide set true
+pub record AllWideChoices {N : Type 0} (ν : Names N) (cs : List (Con N)) (bs : List (Binding N)) : Type 0 where
+  -- every variable is bound to a dimension or a variable, and to one only
+  pub sides : (x : N) (t : Ty N) → Memᴰ (x ≔ t) bs → isSide t ≡ true
+  pub once : (x : N) (t u : Ty N) → Memᴰ (x ≔ t) bs → Memᴰ (x ≔ u) bs → t ≡ u
+  -- whatever is chosen for the open variables, the bindings complete it to a choice that makes all constraints true
+  pub completes : (c : Choice N) → Rational c → Rational (completedWide ν.same bs c) × MakesAllWideTrue ν.same (completedWide ν.same bs c) cs
+  -- the open variables alone decide what it is completed to
+  pub open-decide : (c d : Choice N) → Rational c → Rational d → ((x : N) → ((t : Ty N) → Memᴰ (x ≔ t) bs → ⊥) → Same ν.same (c x) (d x))
+      → (x : N) → Same ν.same (completedWide ν.same bs c x) (completedWide ν.same bs d x)
+  -- in every choice that makes all true, each bound variable's dimension is what its bound side comes to under that choice
+  pub bound-so : (c : Choice N) → Rational c → MakesAllWideTrue ν.same c cs
+      → (x : N) (t : Ty N) → Memᴰ (x ≔ t) bs → (d : Dimension N) → sideComesTo c t ≡ some d → Same ν.same (c x) d
+  -- so that completing it gives it back
+  pub comes-so : (c : Choice N) → Rational c → MakesAllWideTrue ν.same c cs → (x : N) → Same ν.same (c x) (completedWide ν.same bs c x)
+
+-- as `Told`
+pub record WideTold (pool table set result work : List ℕ) (cs : List (Con ℕ)) (records bounds : ℕ) : Type 0 where
+  pub bs : List (Binding ℕ)
+  pub ns : List ℕ
+  pub written : (solveCall pool table set result work).result ≡ over (words (collect writeBinding bs ++ map (λ n. writeBound (var n)) ns)) result
+  pub binding-records : sum_of sizeBinding bs ≡ records
+  pub bound-records : length ns ≡ bounds
+  pub choices : AllWideChoices (numbersOf (table_of pool table)) cs bs
+
+-- as `Complete`
+pub record WideComplete (pool table set result work : List ℕ) (cs : List (Con ℕ)) : Type 0 where
+  -- it refuses with no other number; 6 can't come
+  pub refusals : (n k : ℕ) → (solveCall pool table set result work).answer ≡ refusedAfter n k → Excepted n
+  -- it answers 5 exactly when no choice makes all constraints true
+  pub five : ((n k : ℕ) → (solveCall pool table set result work).answer ≡ refusedAfter n k → Excepted n → ⊥)
+      → Unsolved (solveCall pool table set result work).answer ⇔ (ChoosingWide (numbersOf (table_of pool table)).same cs → ⊥)
+  pub accepts : (records bounds rounds : ℕ) → (solveCall pool table set result work).answer ≡ solved records bounds rounds
+      → WideTold pool table set result work cs records bounds

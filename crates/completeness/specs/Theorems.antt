@@ -1,15 +1,16 @@
 -- Refused only when there is no choice: for sets in which every constraint is equal-scalar or an equality of two dimensions, 5 means that no choice
 -- of dimensions makes all true, and an accepted answer gives all choices that do. The functions of src promise these statements; the words stand in
 -- Claims and in rules' Choices, the proofs in proofs/.
-use Rattle.std.specs.Prelude.{◌≡◌, Bool, true, ◌⊎◌, List, ℕ}
+use Rattle.std.specs.Prelude.{◌≡◌, Bool, true, ◌⊎◌, ℕ}
+use mathlib.Core.List.{List, Memᴰ}
 use Rattle.rules.specs.Base.{got, bounded, all}
 use Rattle.rules.specs.Trees.{Names, Con, Binding}
 use Rattle.rules.specs.Names.{table_of, numbersOf}
 use Rattle.rules.specs.Solving.{accepted, stopped, solve}
-use Rattle.rules.specs.Calls.{setGiven, unsolved, solveCall}
-use Rattle.rules.specs.Choices.{dimensional, Choosing}
+use Rattle.rules.specs.Calls.{setGiven, solved, unsolved, solveCall}
+use Rattle.rules.specs.Choices.{Choice, dimensional, Choosing, wide, MakesTrue, MakesWideTrue, MakesAllWideTrue, ChoosingWide}
 use Rattle.laws.specs.Order.{Lawful, Tells}
-use Rattle.completeness.specs.Claims.{◌⇔◌, DimensionSet, AllChoices, Five, Stopped, Complete}
+use Rattle.completeness.specs.Claims.{◌⇔◌, DimensionSet, AllChoices, Five, Stopped, Complete, WideSet, AllWideChoices, WideComplete}
 
 -- ══ On trees: names whose order, by bytes, is lawful and tells the held ones apart ══
 
@@ -42,3 +43,65 @@ RefusedThenNone = (pool table set result work : List ℕ) (cs : List (Con ℕ)) 
 abbrev pub DimensionsNeeded : Type 0
 DimensionsNeeded = ¬ ((pool table set result work : List ℕ) (cs : List (Con ℕ)) → setGiven (table_of pool table) set ≡ got cs
     → Complete pool table set result work cs)
+
+-- ══ Wide sets: sides may be variables, and is-dimension may stand in them ══
+
+module _ {N : Type 0} (ν : Names N) where
+  pub record WideDecided (cs : List (Con N)) : Type 0 where
+    -- the solver stops with 7 or 8 alone
+    pub only-7-and-8 : (n k : ℕ) → solve ν bounded cs ≡ stopped n k → (n ≡ 7) ⊎ (n ≡ 8)
+    -- it answers 5 exactly when no choice makes all constraints true
+    pub five-exactly : (Stopped (solve ν bounded cs) → ⊥) → Five (solve ν bounded cs) ⇔ (ChoosingWide ν.same cs → ⊥)
+    -- when it accepts, every such choice comes from the answer by choosing its open variables
+    pub all-choices : (bs : List (Binding N)) (ns : List N) (k : ℕ) → solve ν bounded cs ≡ accepted bs ns k → AllWideChoices ν cs bs
+
+abbrev pub WideSetsDecided : Type 0 → Type 0
+WideSetsDecided N = (ν : Names N) (held : N → Bool) → Lawful ν.order → Tells (λ n. held n ≡ true) ν.order
+    → (cs : List (Con N)) → WideSet ν held cs → WideDecided ν cs
+
+-- of the call, whatever is lent, for a set that is read as wide constraints
+abbrev pub WideCallComplete : Type 0
+WideCallComplete = (pool table set result work : List ℕ) (cs : List (Con ℕ)) → setGiven (table_of pool table) set ≡ got cs → all wide cs ≡ true
+    → WideComplete pool table set result work cs
+
+-- on sets of dimensions the wide words mean what the old ones mean
+pub record SameThere {N : Type 0} (same : Discrete N) (c : Choice N) (k : Con N) : Type 0 where
+  pub also-wide : wide k ≡ true
+  pub same-truth : MakesTrue same c k ⇔ MakesWideTrue same c k
+
+abbrev pub WideIsWider : Type 0 → Type 0
+WideIsWider N = (same : Discrete N) (c : Choice N) (k : Con N) → dimensional k ≡ true → SameThere same c k
+
+-- ══ Fewer constraints are true more easily ══
+
+-- every constraint of ds stands in cs
+abbrev pub Within : {N : Type 0} → List (Con N) → List (Con N) → Type 0
+Within {N} ds cs = (k : Con N) → Memᴰ k ds → Memᴰ k cs
+
+-- a choice that makes all constraints true makes all of any part of them true
+abbrev pub FewerAreTrue : Type 0 → Type 0
+FewerAreTrue N = (same : Discrete N) (c : Choice N) (cs ds : List (Con N)) → Within ds cs → MakesAllWideTrue same c cs → MakesAllWideTrue same c ds
+
+-- so a set has no choice if some part of it, wide, is refused with 5 (a constraint that isn't wide is true under no choice, so of other sets this
+-- speaks of their wide constraints): on trees,
+abbrev pub PartRefused : Type 0 → Type 0
+PartRefused N = (ν : Names N) (held : N → Bool) → Lawful ν.order → Tells (λ n. held n ≡ true) ν.order
+    → (ds : List (Con N)) → WideSet ν held ds → Five (solve ν bounded ds) → (cs : List (Con N)) → Within ds cs → ChoosingWide ν.same cs → ⊥
+
+-- and of the call
+abbrev pub ConflictInPart : Type 0
+ConflictInPart = (pool table part result work : List ℕ) (ds : List (Con ℕ)) → setGiven (table_of pool table) part ≡ got ds → all wide ds ≡ true
+    → (records rounds : ℕ) → (solveCall pool table part result work).answer ≡ unsolved records rounds
+    → (cs : List (Con ℕ)) → Within ds cs → ChoosingWide (numbersOf (table_of pool table)).same cs → ⊥
+
+-- whatever wide lines are added to a part that is refused with 5, over the same names, the whole is never accepted
+abbrev pub ConflictStays : Type 0
+ConflictStays = (pool table part whole result result' work work' : List ℕ) (ds cs : List (Con ℕ)) → setGiven (table_of pool table) part ≡ got ds
+    → setGiven (table_of pool table) whole ≡ got cs → all wide cs ≡ true → Within ds cs
+    → (left rounds : ℕ) → (solveCall pool table part result work).answer ≡ unsolved left rounds
+    → (records bounds rounds' : ℕ) → (solveCall pool table whole result' work').answer ≡ solved records bounds rounds' → ⊥
+
+-- of sets that aren't wide completeness is false: x y = boolean
+abbrev pub WideNeeded : Type 0
+WideNeeded = ¬ ((pool table set result work : List ℕ) (cs : List (Con ℕ)) → setGiven (table_of pool table) set ≡ got cs
+    → WideComplete pool table set result work cs)

@@ -1,12 +1,11 @@
--- The whole report of a sheet, from its parts, and where the records stand that it tells of.
+-- The whole report of a sheet, from its parts.
 use Rattle.std.specs.Prelude.{◌≡◌, List, ◌++◌, map, ℕ}
 use Rattle.std.proofs.Common.{append_assoc}
 use Rattle.rules.specs.Base.{collect}
 use Rattle.rules.specs.Grammar.{ascii}
 use Rattle.rules.specs.Names.{Bytes}
 use Rattle.rules.specs.Reports.{Finding, unread, agrees, remains, shown, amount, lineShown, refusedText, bindingLine, boundLine, remainingLine, findingText, reportText}
-use Rattle.rules.specs.Trees.{var, Con, Binding}
-use Rattle.records.specs.Good.{Chain, GoodBinding, GoodBound, GoodCon}
+use Rattle.rules.specs.Trees.{Con, Binding}
 
 -- a sheet's name and ": "
 abbrev pub title : Bytes → Bytes
@@ -43,14 +42,3 @@ module _ (names : ℕ → Bytes) (name : Bytes) (cs new : ℕ) where
   pub remains-text : (ds : List (Con ℕ)) (k : ℕ) → findingText names cs new (remains ds k) ≡ leftText k ++ collect (remainingLine names) ds
   unfolding findingText
   remains-text ds k = simp append_assoc
-
-module _ (pool table s : List ℕ) (at mid end : ℕ) where
-  -- bindings up to `mid` and bounds up to `end`
-  pub record SolvedAt (bs : List (Binding ℕ)) (ns : List ℕ) : Type 0 where
-    pub binds : Chain (GoodBinding pool table 0 s) mid bs at
-    pub bounds : Chain (λ i x e. GoodBound pool table 0 s i (var x) e) end ns mid
-
-module _ (pool table s : List ℕ) (at end : ℕ) where
-  -- what remains, up to `end`
-  pub record LeftOver (cs : List (Con ℕ)) : Type 0 where
-    pub lines : Chain (GoodCon pool table 0 s) end cs at

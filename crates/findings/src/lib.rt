@@ -3,13 +3,13 @@
 
 pub mod inner;
 
-ghost use Rattle.std.specs.Prelude.{◌≡◌, ◌++◌, ℕ};
+ghost use Rattle.std.specs.Prelude.{ℕ};
 ghost use Rattle.rules.specs.Names.{Bytes};
-ghost use Rattle.rules.specs.Reports.{unread, denied, unjudged, stops, lineShown, reportText};
+ghost use Rattle.rules.specs.Reports.{unread, denied, unjudged, stops, reportText};
 ghost use Rattle.spelling.specs.Sinks.{Puts};
 ghost use Rattle.findings.specs.Whole.{title, unreadText};
 
-use reports::{put_refused, put_shown};
+use reports::{put_refused, put_shown, show_line};
 use spelling::put_digits;
 use spelling::sink::Sink;
 
@@ -76,20 +76,19 @@ fn put_unread<S: Sink>(refusal: u32, line: u32, column: u32, to: &mut S) -> Resu
     to.put(b"\n")
 }
 
-/// Puts the report of a sheet that can't be read; the refused line comes as it is shown.
+/// Puts the report of a sheet that can't be read, with the refused line as it is shown.
 pub fn tell_unread<S: Sink>(
     name: &[u8],
     refusal: u32,
     line: u32,
     column: u32,
-    kept: &[u8],
+    text: &[u8],
     to: &mut S,
 ) -> Result<(), S::Error>
-    ensures kept { Puts (S.place to.old) (title name.now ++ (unreadText refusal line column ++ kept.now)) result (S.place to.new) }
-    ensures as_shown { (bs : Bytes) → kept.now ≡ lineShown column bs → (names : ℕ → Bytes) (cs new : ℕ)
-        → Puts (S.place to.old) (reportText names name.now cs new (unread refusal line column bs)) result (S.place to.new) }
+    ensures { (names : ℕ → Bytes) (cs new : ℕ)
+        → Puts (S.place to.old) (reportText names name.now cs new (unread refusal line column text.now)) result (S.place to.new) }
 {
     put_title(name, to)?;
     put_unread(refusal, line, column, to)?;
-    to.put(kept)
+    show_line(to, column as usize, text)
 }

@@ -1,5 +1,5 @@
 -- Where every constraint is a bound: their names, and bindings and bounds in the result buffer.
-use Rattle.std.specs.Prelude.{◌≡◌, true, ℕ, ◌+◌, ◌-◌, ◌*◌, ◌/◌, ◌≤◌, ◌<◌, get_or, take}
+use Rattle.std.specs.Prelude.{◌≡◌, Bool, true, false, ℕ, ◌+◌, ◌-◌, ◌*◌, ◌/◌, ◌≤◌, ◌<◌, get_or, take}
 use Rattle.std.proofs.Math.Path.{refl, sym, ap}
 use Rattle.std.proofs.Common.{subst, ◌∙◌, zero-add, add-one}
 use Rattle.std.proofs.Math.Bool.{and-eq-true_iff}
@@ -8,8 +8,8 @@ use Rattle.std.proofs.Math.Option.{Option, none, some}
 use Rattle.std.proofs.Math.Nat.{add-zero}
 use native.Mathlib.Omega.{arith}
 use Rattle.std.proofs.Math.ListN.{length, drop, length-append, length-map}
-use Rattle.std.proofs.Math.Seq.{sets, sets-eq, slice, slice_empty, slice-cons, take_at}
-use Rattle.rules.specs.Base.{all, keep, collect, to_list, sum_of}
+use Rattle.std.proofs.Math.Seq.{sets, sets-eq, length-sets, slice, slice_empty, slice-cons, take_at}
+use Rattle.rules.specs.Base.{all, keep, collect, to_list, is_none, sum_of}
 use Rattle.rules.specs.Calls.{over, resultAfter, unsolved, solvedOf, solvedWords}
 use Rattle.rules.specs.Contents.{namesIn, sort}
 use Rattle.rules.specs.Rounds.{State}
@@ -20,12 +20,13 @@ use Rattle.laws.specs.KnownNames.{every_append, Known, con-known}
 use Rattle.laws.specs.ReadLists.{Every}
 use Rattle.laws.specs.SortedNames.{sort-few}
 use Rattle.laws.specs.Size.{set-length}
-use Rattle.records.specs.Buffers.{words-length}
+use Rattle.records.specs.Buffers.{words-length, stored}
 use Rattle.records.specs.ByView.{con-in, binding-in}
 use Rattle.records.specs.Good.{Chain, numbers, holding}
-use Rattle.records.specs.Holds.{HoldsCon, HoldsBinding}
+use Rattle.records.specs.Held.{shown}
+use Rattle.records.specs.Holds.{HoldsCon, HoldsBinding, HoldsBounds}
 use Rattle.records.specs.Stores.{sets-append}
-use Rattle.records.specs.Views.{recOf}
+use Rattle.records.specs.Views.{recOf, from}
 use Rattle.records.specs.declared.Open.TheVariants.{Var}
 use Rattle.records.specs.declared.View.TheVariants as view
 use Rattle.queries.specs.GoodOpens.{names-held}
@@ -33,17 +34,18 @@ use Rattle.queries.specs.Marks.{Filled}
 use Rattle.queries.specs.ScanLaws.{con-opens, chain-opens}
 use Rattle.queries.specs.Scans.{choose, opensIn}
 use Rattle.queries.specs.declared.Kind.TheVariants.{Both}
-use Rattle.replacing.specs.Flat.{goodLine}
+use Rattle.replacing.specs.Flat.{goodLine, PlainLines}
+use Rattle.replacing.specs.Kept.{plain-written}
 use Rattle.replacing.specs.LineLaws.{lines_long, lines_write}
 use Rattle.replacing.specs.LineRules.{Line, con, binding, sizeLine, HoldsLine}
 use Rattle.replacing.specs.Runs.{HoldsAll}
 use Rattle.replacing.specs.Writes.{words_append, writes}
 use Rattle.replacing.specs.Written.{all-length}
-use Rattle.rounds.specs.Lines.{lines-words, as-cons}
+use Rattle.rounds.specs.Lines.{long-cons, lines-words, kept-before, copied, as-cons, as-run}
 use Rattle.rounds.specs.States.{StateHeld}
 use Rattle.types.specs.Sets.{HoldsCons, IsCons, Cons, con-some, one-set}
 use Rattle.finishing.specs.declared.Finish.TheVariants.{Solved as Bound, Unsolved}
-use Rattle.finishing.specs.Told.{others, boundRec, bounds, Copied, Accepted, Finished}
+use Rattle.finishing.specs.Told.{others, boundRec, bounds, Copied, IsSolved, Accepted, Finished}
 use Rattle.finishing.specs.Others.{others-few}
 
 -- ══ Bounds written one after another ══
@@ -68,6 +70,14 @@ bound-step names d d' k out i {R} lt le e h =
 pub bound-none : (names d : List ℕ) (k out i : ℕ) → i ≡ k → d ≡ sets d ((out + i) * 4) (words (map boundRec (slice i k names)))
 unfolding words
 bound-none names d k out i e = sym (ap (λ (l : List ℕ). sets d ((out + i) * 4) (words (map boundRec l))) (ap (λ (j : ℕ). slice j k names) e ∙ slice_empty k names))
+
+-- written, they are held
+bounds-held : (s : List ℕ) (ns : List ℕ) (at : ℕ) (more : List Rec) → from s at ≡ map boundRec ns ++ more → HoldsBounds s (map (λ n. var n) ns) at
+unfolding HoldsBounds writeBound
+bounds-held s [] at more e = tt
+bounds-held s (n ∷ ns) at more e =
+    let (x, y, z) = shown s at 1 (view.Bound (Var n)) (boundRec n) (map boundRec ns ++ more) e refl tt in
+    ((x, y), bounds-held s ns (at + 1) more (sym z))
 
 -- ══ The names of bounds ══
 
@@ -130,6 +140,19 @@ cons-good pool table (c ∷ cs) g =
     let r = (and-eq-true_iff (goodLine pool table (con c)) (all (goodLine pool table) (map con cs))).0 g in
     every_append _ (opensCon c) (collect opensCon cs) (con-known (numbers pool table) (holding pool table) 0 c r.0) (cons-good pool table cs r.1)
 
+-- those that are no bounds are among them
+others-good : (pool table : List ℕ) (cs : List (Con ℕ)) → all (goodLine pool table) (map con cs) ≡ true → all (goodLine pool table) (map con (others cs)) ≡ true
+unfolding all keep
+others-good pool table [] g = refl
+others-good pool table (c ∷ cs) g =
+    let r = (and-eq-true_iff (goodLine pool table (con c)) (all (goodLine pool table) (map con cs))).0 g in
+    go (is_none (boundOf c)) r.0 (others-good pool table cs r.1)
+  where
+    go : (b : Bool) → goodLine pool table (con c) ≡ true → all (goodLine pool table) (map con (others cs)) ≡ true
+        → all (goodLine pool table) (map con (elim b [ true ↦ c ∷ others cs | false ↦ others cs ])) ≡ true
+    go true a h = (and-eq-true_iff (goodLine pool table (con c)) (all (goodLine pool table) (map con (others cs)))).1 (a, h)
+    go false a h = h
+
 module _ (pool table s : List ℕ) (n m : ℕ) (st : State ℕ) (h : StateHeld pool table s n m st) where
   pub set : IsCons s 0 n st.cons
   set = as-cons pool table s st.cons 0 n h.cons
@@ -180,8 +203,24 @@ module _ (pool table s : List ℕ) (n m : ℕ) (st : State ℕ) (h : StateHeld p
     unfolding over
     listed-front = ap (take k) listed.buffer ∙ take_at (bounds pool table st) (drop (length (bounds pool table st)) b) k (sym listed.many)
 
+    -- bindings that were copied, and bounds that were written behind them
+    rows : (d d₁ d₂ : List ℕ) → 8192 ≤ length d → d₁ ≡ sets d 0 (slice (n * 4) (m * 4) s) → d₂ ≡ sets d₁ ((m - n) * 4) (words (map boundRec (bounds pool table st)))
+        → IsSolved d₂ (m - n) k st.binds (bounds pool table st)
+    rows d d₁ d₂ room p q =
+        let a = binds-in in
+        let l : length d₁ ≡ length d = ap length p ∙ length-sets d 0 (slice (n * 4) (m * 4) s) in
+        let z : 0 + (m - n) ≡ m - n = omega arith in
+        let first : PlainLines pool table d₁ (map binding st.binds) 0 (m - n) = rw z at (copied pool table s d d₁ (map binding st.binds) n m 0 h.binds a.1 (omega (arith, h.short, a.0)) p) in
+        let kept = kept-before pool table d₁ d₂ (m - n) (words (map boundRec (bounds pool table st))) q (map binding st.binds) 0 (m - n) first (omega (arith, l, h.short, a.0)) (omega arith) in
+        let i = length-map (bounds pool table st) boundRec in
+        let there = ap (λ (v : List ℕ). from v (m - n)) q ∙ stored d₁ (map boundRec (bounds pool table st)) (m - n) (omega (arith, l, i, bounds-few, h.short, a.0)) in
+        record {
+          binds = as-run pool table d₂ st.binds 0 (m - n) kept;
+          bounds = record { held = bounds-held d₂ (bounds pool table st) (m - n) (from d₁ (m - n + length (map boundRec (bounds pool table st)))) there; ends = omega (arith, listed.many) };
+        }
+
     -- bindings, and then bounds
-    pub accepted-as : (d d₁ d₂ : List ℕ) → 8192 ≤ length d → d₁ ≡ sets d 0 (slice (n * 4) (m * 4) s) → d₂ ≡ sets d₁ ((m - n) * 4) (words (map boundRec (take k b'))) → Accepted pool table st d d₂ k
+    pub accepted-as : (d d₁ d₂ : List ℕ) → 8192 ≤ length d → d₁ ≡ sets d 0 (slice (n * 4) (m * 4) s) → d₂ ≡ sets d₁ ((m - n) * 4) (words (map boundRec (take k b'))) → Accepted pool table st d d₂ (m - n) k
     unfolding over
     accepted-as d d₁ d₂ room p q =
         let A = collect writeBinding st.binds in
@@ -191,6 +230,7 @@ module _ (pool table s : List ℕ) (n m : ℕ) (st : State ℕ) (h : StateHeld p
         let a = binds-in in
         let long : length (words (A ++ B)) ≤ 8192 = omega (arith, words-length (A ++ B), length-append A B, length-map (bounds pool table st) boundRec, binds-length, bounds-few, h.short, a.0) in
         record {
+          rows = rows d d₁ d₂ room p (q ∙ ap (λ (l : List ℕ). sets d₁ ((m - n) * 4) (words (map boundRec l))) listed-front);
           many = listed.many;
           buffer = w ∙ sets-eq (words (A ++ B)) d 0 (omega arith) ∙ ap (λ (j : ℕ). words (A ++ B) ++ drop j d) (zero-add (length (words (A ++ B))));
         }
@@ -198,18 +238,28 @@ module _ (pool table s : List ℕ) (n m : ℕ) (st : State ℕ) (h : StateHeld p
 -- ══ The answer ══
 
 module _ (pool table : List ℕ) (st : State ℕ) (d d' : List ℕ) (left : ℕ) (c : Copied d d' 0 left (others st.cons)) where
+  -- they are held where they were written
+  left-held : sum_of sizeCon st.cons ≤ 2048 → 8192 ≤ length d → all (goodLine pool table) (map con st.cons) ≡ true → IsCons d' 0 left (others st.cons)
+  left-held few room good =
+      let xs = map con (others st.cons) in
+      let w = lines_write con sizeCon writeCon HoldsCon (λ c. refl) (λ c. refl) (λ s c at h. h) (others st.cons) in
+      let n : 0 + sum_of sizeLine xs ≡ left = omega (arith, c.many, long-cons (others st.cons)) in
+      let p = plain-written pool table d d' 0 xs (others-good pool table st.cons good) (c.buffer ∙ ap (λ (l : List Rec). sets d 0 (words l)) (sym w)) (omega (arith, n, c.many, others-few st.cons, few, room)) in
+      as-cons pool table d' (others st.cons) 0 left (subst (PlainLines pool table d' xs 0) n p)
+
   -- some remain
-  pub finished-remaining : 0 < left → sum_of sizeCon st.cons ≤ 2048 → 8192 ≤ length d → Finished pool table st d d' (Unsolved left)
+  pub finished-remaining : 0 < left → sum_of sizeCon st.cons ≤ 2048 → 8192 ≤ length d → all (goodLine pool table) (map con st.cons) ≡ true → Finished pool table st d d' (Unsolved left)
   unfolding finish finished solvedOf solvedWords resultAfter over
-  finished-remaining lt few room = go (others st.cons) refl c (others-few st.cons)
+  finished-remaining lt few room good = go (others st.cons) refl c (others-few st.cons) (left-held few room good)
     where
-      go : (cs : List (Con ℕ)) → others st.cons ≡ cs → Copied d d' 0 left cs → sum_of sizeCon cs ≤ sum_of sizeCon st.cons → Finished pool table st d d' (Unsolved left)
-      go [] e k f = absurd (omega (arith, k.many))
-      go (x ∷ cs) e k f =
+      go : (cs : List (Con ℕ)) → others st.cons ≡ cs → Copied d d' 0 left cs → sum_of sizeCon cs ≤ sum_of sizeCon st.cons → IsCons d' 0 left cs → Finished pool table st d d' (Unsolved left)
+      go [] e k f g = absurd (omega (arith, k.many))
+      go (x ∷ cs) e k f g =
           let n = words-length (collect writeCon (x ∷ cs)) in
           let i = set-length (x ∷ cs) in
           record {
             answer = λ j. rw e (let z : left ≡ sum_of sizeCon (x ∷ cs) = omega (arith, k.many) in ap (λ (i : ℕ). unsolved i j) z);
+            rows = λ j. rw e (refl, g);
             buffer = λ j. rw e (k.buffer ∙ sets-eq (words (collect writeCon (x ∷ cs))) d 0 (omega arith) ∙ ap (λ (i : ℕ). words (collect writeCon (x ∷ cs)) ++ drop i d) (zero-add (length (words (collect writeCon (x ∷ cs))))));
           }
 
@@ -219,12 +269,13 @@ unfolding collect words
 none-remains d d' left [] k le = (refl, k.buffer)
 none-remains d d' left (x ∷ cs) k le = absurd (omega (arith, k.many, con-some x))
 
-pub finished-accepted : (pool table s : List ℕ) (n m : ℕ) (st : State ℕ) (d d₁ d' : List ℕ) (r : ℕ) → StateHeld pool table s n m st → others st.cons ≡ [] → d₁ ≡ d → Accepted pool table st d₁ d' r → Finished pool table st d d' (Bound (m - n) r)
+pub finished-accepted : (pool table s : List ℕ) (n m : ℕ) (st : State ℕ) (d d₁ d' : List ℕ) (r : ℕ) → StateHeld pool table s n m st → others st.cons ≡ [] → d₁ ≡ d → Accepted pool table st d₁ d' (m - n) r → Finished pool table st d d' (Bound (m - n) r)
 unfolding finish finished solvedOf solvedWords resultAfter
 finished-accepted pool table s n m st d d₁ d' r h e i a =
     let b = binds-in pool table s n m st h in
     let q : m - n ≡ sum_of sizeBinding st.binds = omega (arith, h.binds.ends, lines_long binding sizeBinding writeBinding HoldsBinding (λ b. refl) (λ b. refl) (λ s b at h. h) st.binds, b.0) in
     record {
       answer = λ j. rw e (rw (q, a.many));
+      rows = λ j. rw e (refl, a.rows);
       buffer = λ j. rw (e, ← i) a.buffer;
     }

@@ -1,5 +1,5 @@
 //! The work on a state that is held: the constraints that remain, or the bindings and bounds.
-ghost use Rattle.std.specs.Prelude.{◌≡◌, List, [], map, ℕ, ◌+◌, ◌*◌, ◌^◌, ◌≤◌, ◌<◌, length, take};
+ghost use Rattle.std.specs.Prelude.{◌≡◌, List, [], map, ℕ, ◌+◌, ◌-◌, ◌*◌, ◌^◌, ◌≤◌, ◌<◌, length, take};
 ghost use Rattle.std.proofs.lemmas.List.Edits.{sets};
 ghost use Rattle.rules.specs.Base.{collect};
 ghost use Rattle.rules.specs.Refusals.{toldOption};
@@ -84,7 +84,7 @@ fn accept(names: NameTable, s: &[u32], ends: Ends, res: &mut [u32]) -> usize
     requires standing { (st : State ℕ) × Standing names s.now ends st × (others st.cons ≡ []) }
     requires room { 8192 ≤ length res.old }
     ensures { (st : State ℕ) → Standing names.entry s.now ends st → others st.cons ≡ []
-        → Accepted names.entry.pool.now names.entry.table.now st res.old res.new result }
+        → Accepted names.entry.pool.now names.entry.table.now st res.old res.new (ends.bindings - ends.constraints) result }
 {
     let mut bounds = [0u32; NAMES];
     let k = list_names(names, s, 0, ends.constraints, Kind::Both, &mut bounds);

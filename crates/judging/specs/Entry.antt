@@ -1,12 +1,12 @@
 -- The checks of the judge at entry, and what is known where they are met.
-use Rattle.std.specs.Prelude.{◌≡◌, Bool, true, not, ◌&&◌, List, [], ◌∷◌, ◌++◌, map, ℕ, ◌/◌, ◌%◌, ◌≤◌, ◌<◌, eqb, length, replicate, Result}
+use Rattle.std.specs.Prelude.{◌≡◌, Bool, true, ◌&&◌, List, [], ◌∷◌, ◌++◌, map, ℕ, ◌/◌, ◌%◌, ◌≤◌, ◌<◌, eqb, length, replicate, Result}
 use Rattle.std.proofs.Math.Path.{refl, sym}
 use Rattle.std.proofs.Common.{◌∙◌}
 use Rattle.std.proofs.Math.Bool.{false, and-eq-true_iff}
 use borrow.Author.Tests.{leb-true, lt-leb, le-leb, eq-eqb, ne_eqb}
 use Rattle.std.proofs.Math.Dec.{leb}
 use Rattle.rules.specs.Base.{Got, got, refused, ◌>>=◌, ◌>>◌, need, bounded, all, collect}
-use Rattle.rules.specs.Calls.{Entry, shortLists, shortNumbers, tableKept, setGiven, boundsGiven, risingBounds, entriesGiven, apart, opensBinding, aloneGiven, setCall, lentWork, workAfter, judgedSet, judgeCall, differ}
+use Rattle.rules.specs.Calls.{Entry, shortLists, shortNumbers, tableKept, setGiven, boundsGiven, risingBounds, entriesGiven, apart, opensBinding, aloneGiven, setCall, lentWork, workAfter, judgedSet, judgeCall}
 use Rattle.rules.specs.Judging.{judge}
 use Rattle.rules.specs.Names.{table_of, numbersOf, tableGood, lentTable}
 use Rattle.rules.specs.Reading.{readBound}

@@ -3,3 +3,4 @@ pub mod Entry
 pub mod Proposed
 pub mod Rest
 pub mod Theorems
+pub mod Found

@@ -4,20 +4,23 @@ ghost use Rattle.rules.specs.Base.{got, need};
 ghost use Rattle.rules.specs.Calls.{Entry, judgedSet, judgeCall};
 ghost use Rattle.rules.specs.Names.{table_of, lentTable};
 ghost use Rattle.rules.specs.Refusals.{told};
-ghost use Rattle.rules.specs.Trees.{Con};
+ghost use Rattle.rules.specs.Trees.{Con, Binding};
 ghost use Rattle.entries.specs.Slotted.{Slotted};
+ghost use Rattle.trials.specs.Trials.{SetThere};
 ghost use Rattle.judging.specs.Told.{judgedAs};
+ghost use Rattle.judging.specs.Found.{FoundThere, FoundJudged};
 ghost use Rattle.judging.specs.Entry.{lentAll, entered, Entered, BoundsGiven, judgedRest};
 
 use entries::inner::{Slots, fill};
 use lending::inner::clear;
 use names::tables::NameTable;
+use places::inner::fill as note_all;
 use proposals::inner::bounds::{mark_all, rise};
 use proposals::inner::mixed::apart;
 use records::inner::bounds_good;
 use records::is_set;
 use rules::{NAMES, POOL_BYTES, RECORD_WORDS, RECORDS, Refusal, TABLE_WORDS, WORK_WORDS};
-use trials::inner::try_all;
+use trials::inner::{first_failing, try_all};
 
 // Is everything that is lent long enough?
 fn lent(pool: &[u8], table: &[u32], work: &[u32]) -> bool
@@ -141,4 +144,38 @@ pub fn judge_slots(
     let answer = judge_set(pool, table, set, types, bounds, slots, work);
     clear(work);
     answer
+}
+
+/// What solving found over a set: bindings in the records up to a place, and so many bounds behind them.
+#[derive(Clone, Copy)]
+pub struct Found<'a> {
+    pub words: &'a [u32],
+    pub bindings: usize,
+    pub bounds: usize,
+}
+
+/// Which constraint of the set isn't true once what was found is put in, the first, counted from 0? Nothing where the judge says yes.
+/// What was found is read where it stands.
+pub fn judge_found(
+    names: NameTable,
+    set: &[u32],
+    found: Found,
+    work: &mut [u32],
+) -> Result<Option<usize>, Refusal>
+    requires set_there { (cs : List (Con ℕ)) × SetThere names.pool.now names.table.now set.now cs }
+    requires found_there { (bs : List (Binding ℕ)) × ((ns : List ℕ)
+        × FoundThere names.pool.now names.table.now found.words.now found.bindings found.bounds bs ns) }
+    requires set_short { length set.now ≤ 8192 }
+    requires work_long { 8192 ≤ length work.old }
+    ensures { (cs : List (Con ℕ)) (bs : List (Binding ℕ)) (ns : List ℕ) → SetThere names.entry.pool.now names.entry.table.now set.now cs
+        → FoundThere names.entry.pool.now names.entry.table.now found.entry.words.now found.entry.bindings found.entry.bounds bs ns
+        → FoundJudged names.entry.pool.now names.entry.table.now bs ns cs result }
+{
+    let mut places = [0u32; NAMES];
+    note_all(found.words, 0, found.bindings, &mut places);
+    let mut marks = [false; NAMES];
+    let from = found.bindings * 4;
+    let to = from + found.bounds * 4;
+    mark_all(&found.words[from..to], &mut marks);
+    first_failing(names, set, &places, found.words, &marks, work)
 }

@@ -35,6 +35,7 @@ pub mod Lists
 pub mod Sized
 pub mod RuleCases
 pub mod Turns
+pub mod Nesting
 pub mod Evaluation
 pub mod KeepsGood
 pub mod Occurs

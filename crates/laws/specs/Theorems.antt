@@ -1,14 +1,14 @@
 -- What is proved of the rules by themselves. The functions of src promise these statements; the lemmas stand in the other files, the last step in proofs/.
-use Rattle.std.specs.Prelude.{◌≡◌, Bool, true, List, [], ℕ, ◌≤◌, length}
+use Rattle.std.specs.Prelude.{◌≡◌, Bool, true, List, [], ℕ, ◌+◌, ◌≤◌, length}
 use Rattle.std.proofs.Math.Option.{none, some}
 use mathlib.Core.List.{◌∷◌, ◌++◌, Memᴰ}
-use Rattle.rules.specs.Base.{got, Limits, bounded, exact, collect}
+use Rattle.rules.specs.Base.{got, ◌>>=◌, Limits, bounded, exact, each, collect}
 use Rattle.rules.specs.Exponents.{Exp, nought, one, neg, plus, mul, inverted, sum, times}
-use Rattle.rules.specs.Trees.{Open, var, Atom, Product, Names, Ty, Con, ◌≔◌, orderAtom, opens, opensCon, depth}
+use Rattle.rules.specs.Trees.{Open, var, Atom, Product, Names, Ty, Con, ◌≔◌, orderAtom, opens, opensCon, depth, depthCon}
 use Rattle.rules.specs.Products.{inverse, multiply, divide, raise}
-use Rattle.rules.specs.Replacing.{Look, replaceTy, replaceCon, bindings}
+use Rattle.rules.specs.Replacing.{Look, replaceTy, replaceCon, replaceBinding, bindings}
 use Rattle.rules.specs.WellFormed.{goodTy, goodCon}
-use Rattle.rules.specs.Rounds.{State}
+use Rattle.rules.specs.Rounds.{State, Step, bind, split, done, trySatisfy, depthState, firstStep, perform}
 use Rattle.rules.specs.Solving.{run}
 use Rattle.rules.specs.Writing.{Rec, words, writeTy, writeCon, writeBinding, writeBound}
 use Rattle.rules.specs.Reading.{read_all, readTy, readCon, readBinding, readBound, records}
@@ -18,6 +18,7 @@ use Rattle.laws.specs.Fractions.{Lowest}
 use Rattle.laws.specs.ExactProducts.{mergeE, raiseE}
 use Rattle.laws.specs.Powers.{powerOf, Proper}
 use Rattle.laws.specs.GoodProducts.{goodAtom}
+use Rattle.laws.specs.Nesting.{Shallow, counting}
 use Rattle.laws.specs.Exact.{Below}
 use Rattle.laws.specs.ExactSolve.{Settled}
 use Rattle.laws.specs.Written.{Reads, Small, Is}
@@ -49,6 +50,40 @@ pub record Leaves (N : Type 0) (ν : Names N) (held : N → Bool) (q : ℕ) (x :
 abbrev pub ReplacedIsGone : Type 0 → Type 0
 ReplacedIsGone N = (ν : Names N) → Lawful (orderAtom ν) → (held : N → Bool) (q : ℕ) → Tells (λ a. goodAtom ν held q a ≡ true) (orderAtom ν)
     → (x : N) (t : Ty N) → goodTy ν held q t ≡ true → Gone x (opens t) → Leaves N ν held q x t
+
+-- a type put in for a variable changes nothing where the variable doesn't occur, whatever the limits; in products neither
+pub record AbsentStays (N : Type 0) (ν : Names N) (l : Limits) (x : N) (t : Ty N) : Type 0 where
+  pub types : (u : Ty N) → Gone x (opens u) → replaceTy ν l (bindings ν (x ≔ t ∷ [])) u ≡ got u
+  pub constraints : (c : Con N) → Gone x (opensCon c) → replaceCon ν l (bindings ν (x ≔ t ∷ [])) c ≡ got c
+  pub bound : (y : N) (u : Ty N) → Gone x (opens u) → replaceBinding ν l (bindings ν (x ≔ t ∷ [])) (y ≔ u) ≡ got (y ≔ u)
+  pub sets : (cs : List (Con N)) → Every (λ c. Gone x (opensCon c)) cs → each (replaceCon ν l (bindings ν (x ≔ t ∷ []))) cs ≡ got cs
+
+abbrev pub AbsentVariableStays : Type 0 → Type 0
+AbsentVariableStays N = (ν : Names N) (l : Limits) (x : N) (t : Ty N) → AbsentStays N ν l x t
+
+-- ══ Nesting ══
+
+-- with types put in that are nested at most 1 + k deep nothing is made more than k deeper
+abbrev pub Deepens : (N : Type 0) → Names N → Limits → Type 0
+Deepens N ν l = (look : Look N) (k : ℕ) → ((o : Open N) (t : Ty N) → look o ≡ some t → depth t ≤ 1 + k) → (t u : Ty N) → replaceTy ν l look t ≡ got u → depth u ≤ depth t + k
+
+-- what a rule puts in the place of a constraint, or binds, is nested no deeper than the constraint
+abbrev pub NoDeeper : (N : Type 0) → Names N → Limits → Type 0
+NoDeeper N ν l = (c : Con N) (s : Step N) → trySatisfy ν l c ≡ got s → Shallow (depthCon c) s
+
+-- so in a state that keeps the limit of nesting only a binding to a type with types inside can break it: after any other step the records alone are counted
+pub record Counted (N : Type 0) (ν : Names N) (l : Limits) (s : State N) : Type 0 where
+  pub parted : (new rest : List (Con N)) → firstStep ν l s.cons ≡ got (some (split new, rest))
+      → perform ν l s.binds (split new) rest ≡ counting l (record { cons = rest ++ new; binds = s.binds })
+  pub dropped : (rest : List (Con N)) → firstStep ν l s.cons ≡ got (some (done, rest))
+      → perform ν l s.binds done rest ≡ counting l (record { cons = rest; binds = s.binds })
+  pub bound : (x : N) (t : Ty N) (rest : List (Con N)) → depth t ≤ 1 → firstStep ν l s.cons ≡ got (some (bind x t, rest))
+      → perform ν l s.binds (bind x t) rest
+      ≡ (each (replaceCon ν l (bindings ν (x ≔ t ∷ []))) rest >>= λ cs. each (replaceBinding ν l (bindings ν (x ≔ t ∷ []))) s.binds
+          >>= λ bs. counting l (record { cons = cs; binds = bs ++ (x ≔ t ∷ []) }))
+
+abbrev pub OnlyBindingDeepens : Type 0 → Type 0
+OnlyBindingDeepens N = (ν : Names N) (l : Limits) → Deepens N ν l × NoDeeper N ν l × ((s : State N) → depthState s ≤ 64 → Counted N ν l s)
 
 -- ══ Bounded arithmetic, where it answers, is exact ══
 

@@ -1,41 +1,14 @@
 -- A type none of whose open names is bound stays as it is.
 use Rattle.std.specs.Prelude.{◌≡◌, Bool, true, false}
-use Rattle.std.proofs.Math.Path.{refl}
+use Rattle.std.proofs.Math.Path.{refl, ap}
 use Rattle.std.proofs.Math.Option.{Option, none, some}
-use mathlib.Core.List.{List, [], ◌∷◌}
-use Rattle.rules.specs.Base.{got, Limits, collect, only_if, is_yes}
+use mathlib.Core.List.{List, [], ◌∷◌, Memᴰ}
+use Rattle.rules.specs.Base.{Got, got, Limits, each, collect, only_if, is_yes}
 use Rattle.rules.specs.Exponents.{Exp-dec, one}
-use Rattle.rules.specs.Trees.{
-  Open,
-  var,
-  quant,
-  par,
-  free,
-  base,
-  ◌↑◌,
-  Product,
-  Names,
-  Ty,
-  opened,
-  basic,
-  dim,
-  fn,
-  struct,
-  list,
-  Tys,
-  nil,
-  cons,
-  Fields,
-  noFields,
-  field,
-  opens,
-  opensTys,
-  opensFields,
-  openOfFactor,
-}
+use Rattle.rules.specs.Trees.{Open, var, quant, par, free, base, ◌↑◌, Product, Names, Ty, opened, basic, dim, fn, struct, list, Tys, nil, cons, Fields, noFields, field, opens, opensTys, opensFields, openOfFactor, Con, equal, isDim, is_scalar, hasField, opensCon, ◌≔◌}
 use Rattle.rules.specs.Products.{single}
-use Rattle.rules.specs.Replacing.{Look, replaceFactors, replaceProduct, replaceDim, replaceTy, replaceTys, replaceFields}
-use Rattle.laws.specs.Lists.{Every, every-left, every-right}
+use Rattle.rules.specs.Replacing.{Look, replaceFactors, replaceProduct, replaceDim, replaceTy, replaceTys, replaceFields, replaceCon, replaceBinding, find, bindings}
+use Rattle.laws.specs.Lists.{Every, every-left, every-right, all-every, is-no}
 
 module _ {N : Type 0} (look : Look N) where
   -- none of the open names is bound
@@ -86,6 +59,36 @@ module _ {N : Type 0} (ν : Names N) (l : Limits) (look : Look N) where
     fields-same noFields h = refl
     fields-same (field n t fs) h = rw (ty_same t (every-left (λ o. look o ≡ none) (opens t) (opensFields fs) h), fields-same fs (every-right (λ o. look o ≡ none) (opens t) (opensFields fs) h))
 
+  -- constraints and bindings, the product of an equal-scalar included
+  pub con_same : (c : Con N) → Unbound look (opensCon c) → replaceCon ν l look c ≡ got c
+  unfolding replaceCon replaceProduct opensCon opens
+  con_same (equal t u) h = rw (ty_same t (every-left (λ o. look o ≡ none) (opens t) (opens u) h), ty_same u (every-right (λ o. look o ≡ none) (opens t) (opens u) h))
+  con_same (isDim t) h = rw (ty_same t h)
+  con_same (is_scalar p) h = rw (factors-same p p h)
+  con_same (hasField n t u) h = rw (ty_same t (every-left (λ o. look o ≡ none) (opens t) (opens u) h), ty_same u (every-right (λ o. look o ≡ none) (opens t) (opens u) h))
+
+  pub binding_same : (x : N) (t : Ty N) → Unbound look (opens t) → replaceBinding ν l look (x ≔ t) ≡ got (x ≔ t)
+  unfolding replaceBinding
+  binding_same x t h = rw (ty_same t h)
+
   -- a closed type is never changed
   pub closed_same : (t : Ty N) → opens t ≡ [] → replaceTy ν l look t ≡ got t
   closed_same t e = ty_same t (rw e tt)
+
+-- a variable that doesn't occur is not bound by a binding of it
+module _ {N : Type 0} (ν : Names N) (x : N) (u : Ty N) where
+  unbound : (o : Open N) → (o ≡ var x → ⊥) → bindings ν (x ≔ u ∷ []) o ≡ none
+  unfolding bindings find
+  unbound (var y) h = rw (is-no (ν.same y x) (λ e. h (ap var e)), bindings, find)
+  unbound (quant i) h = refl
+  unbound (par y) h = refl
+
+  -- so what has no such open name stays under it
+  pub absent : (os : List (Open N)) → (Memᴰ (var x) os → ⊥) → Unbound (bindings ν (x ≔ u ∷ [])) os
+  absent os h = all-every (λ o. bindings ν (x ≔ u ∷ []) o ≡ none) os (λ o m. unbound o (λ e. h (rw e at m)))
+
+-- where each stays, the list stays
+pub each_same : {A : Type 0} (f : A → Got A) (xs : List A) → Every (λ a. f a ≡ got a) xs → each f xs ≡ got xs
+unfolding each
+each_same f [] h = refl
+each_same f (x ∷ xs) h = rw (h.0, each_same f xs h.1)

@@ -3,6 +3,7 @@
 #![tactic(auto)]
 
 ghost use Rattle.laws.specs.Theorems.{ClosedStays, ReplacingKeepsGood, ReplacedIsGone};
+ghost use Rattle.laws.specs.Theorems.{AbsentVariableStays, OnlyBindingDeepens};
 ghost use Rattle.laws.specs.Theorems.{BoundedIsExact, ExponentField, ProductGroup};
 ghost use Rattle.laws.specs.Theorems.{WrittenIsRead, ReadIsWritten, ReadIsShallow};
 
@@ -19,6 +20,17 @@ pub fn replacing_keeps_well_formed<N>()
 /// A variable that is replaced by a type in which it does not occur is gone (`ty-on`, `con-on`).
 pub fn replaced_variable_is_gone<N>()
     ensures { ReplacedIsGone N }
+{}
+
+/// A type put in for a variable changes nothing where the variable does not occur (`absent`, `ty_same`, `con_same`).
+pub fn absent_variable_stays<N>()
+    ensures { AbsentVariableStays N }
+{}
+
+/// What a rule puts in the place of a constraint, or binds, is nested no deeper than the constraint (`step-within`); so after a round that bound
+/// nothing a state that kept the limit of nesting keeps it (`split-counted`, `done-counted`).
+pub fn only_binding_deepens<N>()
+    ensures { OnlyBindingDeepens N }
 {}
 
 /// Where bounded arithmetic, replacing and solving answer, the exact ones answer the same (`sum_below`, `ty_below`, `run-below` and their like).

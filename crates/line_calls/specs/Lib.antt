@@ -1,3 +1,4 @@
+pub mod Nested
 pub mod Standing
 pub mod Typed
 pub mod Settled

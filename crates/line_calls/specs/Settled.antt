@@ -1,78 +1,75 @@
 -- What solving leaves for the judge: bindings and bounds, well formed and at the front of a buffer; or a refusal.
 use Rattle.std.proofs.Math.Path.{◌≡◌, refl, sym, ap, subst}
 use Rattle.std.proofs.Common.{◌∙◌, arith, le-leb}
-use Rattle.std.specs.Prelude.{Bool, true, false, List, ◌++◌, map, ℕ, ◌/◌, leb, Result, Ok, Err}
+use Rattle.std.specs.Prelude.{Bool, true, false, List, ℕ, ◌/◌, ◌≤◌, leb, Result, Ok, Err}
 use Rattle.std.proofs.Math.ListN.{length}
 use Rattle.rules.specs.Base.{Got, got, refused, ◌>>=◌, ◌>>◌, bounded, collect, sum_of}
-use Rattle.rules.specs.Trees.{var, Con, Binding, opensCon, sizeCon, sizeBinding}
+use Rattle.rules.specs.Trees.{Con, Binding, opensCon, sizeCon}
 use Rattle.rules.specs.Contents.{unmixed}
 use Rattle.rules.specs.WellFormed.{goodBinding}
 use Rattle.rules.specs.Solving.{Answer, accepted, remaining, stopped, solve}
 use Rattle.rules.specs.Judging.{judge}
 use Rattle.rules.specs.Refusals.{number_of}
 use Rattle.rules.specs.Names.{Bytes, table_of, names_of, numbered}
-use Rattle.rules.specs.Writing.{Rec, words, writeBinding, writeBound}
-use Rattle.rules.specs.Calls as calls
-use Rattle.rules.specs.Calls.{over, resultAfter, solvedOf, solvedWords}
+use Rattle.rules.specs.Writing.{Rec}
 use Rattle.rules.specs.Lines.{settled, agreed, settledSet, agreedSet}
 use Rattle.rules.specs.declared.Refusal.{Refusal}
 use Rattle.rules.specs.declared.Refusal.TheVariants.{Mixed}
-use Rattle.laws.specs.Lists.{is_all}
+use Rattle.laws.specs.Lists.{is_all, all-every}
 use Rattle.laws.specs.NameTable.{Good}
 use Rattle.soundness.proofs.Words.{numbers-ordered}
 use Rattle.soundness.proofs.Form.{solved-form}
 use Rattle.records.specs.Good.{numbers, holding}
 use Rattle.queries.specs.Scans.{opensIn}
 use Rattle.lending.specs.Told.{Made}
-use Rattle.solving.specs.Told.{toldOutcome, Answered}
+use Rattle.solving.specs.Told.{StandsBy, Stands}
+use Rattle.finishing.specs.Told.{IsSolved}
 use Rattle.finishing.specs.declared.Finish.{Finish}
 use Rattle.solving.specs.declared.Solution.{Solution}
 use Rattle.finishing.specs.declared.Finish.TheVariants as finish
-use Rattle.line_calls.specs.Standing.{SetStands, FoundStands, found-stands, set-opens}
+use Rattle.judging.specs.Found.{FoundThere}
+use Rattle.line_calls.specs.Standing.{SetStands, set-opens}
 use Rattle.line_calls.specs.Typed.{typeRecs, judgedType, setType, refused-made}
 
 -- ══ The outcomes of solving ══
 
--- so many records of bindings, so many bounds, and the words that were written
-pub record Accepts (a : Answer ℕ) (found₀ found : List ℕ) (b n : ℕ) : Type 0 where
+-- it is accepted, and its rows stand in the list
+pub record Accepts (a : Answer ℕ) (found : List ℕ) (b n : ℕ) : Type 0 where
   pub bs : List (Binding ℕ)
   pub ns : List ℕ
   pub rounds : ℕ
   pub is : a ≡ accepted bs ns rounds
-  pub many : b ≡ sum_of sizeBinding bs
-  pub bounds : n ≡ length ns
-  pub buffer : found ≡ over (words (collect writeBinding bs ++ map (λ n. writeBound (var n)) ns)) found₀
+  pub rows : IsSolved found b n bs ns
 
-module _ (a : Answer ℕ) (found₀ found : List ℕ) (s : Solution) (h : Answered (got a) found₀ found s) where
-  says : {o : Result Finish Refusal} → s.outcome ≡ o → toldOutcome o s.rounds ≡ solvedOf (got a)
-  says i = ap (λ (o : Result Finish Refusal). toldOutcome o s.rounds) (sym i) ∙ h.answer
+module _ (a : Answer ℕ) (found : List ℕ) (s : Solution) (h : Stands found s (got a)) where
+  says : {o : Result Finish Refusal} → s.outcome ≡ o → StandsBy found o s.rounds (got a)
+  says i = subst (λ (o : Result Finish Refusal). StandsBy found o s.rounds (got a)) i h.says
 
-  pub accepts : {b n : ℕ} → s.outcome ≡ Ok (finish.Solved b n) → Accepts a found₀ found b n
-  unfolding solvedOf solvedWords resultAfter
-  accepts {b} {n} i = go a refl (says i) h.buffer
+  pub accepts : {b n : ℕ} → s.outcome ≡ Ok (finish.Solved b n) → Accepts a found b n
+  accepts {b} {n} i = go a refl (says i)
     where
-      go : (x : Answer ℕ) → a ≡ x → calls.solved b n s.rounds ≡ solvedOf (got x) → found ≡ resultAfter (solvedWords (got x)) found₀ → Accepts a found₀ found b n
-      go (accepted bs ns k) e p q = let m : b ≡ sum_of sizeBinding bs = cc in let l : n ≡ length ns = cc in record { bs = bs; ns = ns; rounds = k; is = e; many = m; bounds = l; buffer = q }
-      go (remaining cs k) e p q = let z : ◌≡◌ {A = ℕ} 0 1 = cc in absurd (omega arith)
-      go (stopped j k) e p q = let z : ◌≡◌ {A = ℕ} 0 1 = cc in absurd (omega arith)
+      go : (x : Answer ℕ) → a ≡ x → StandsBy found (Ok (finish.Solved b n)) s.rounds (got x) → Accepts a found b n
+      go (accepted bs ns k) e p = record { bs = bs; ns = ns; rounds = k; is = e; rows = p.1 }
+      go (remaining cs k) e p = absurd p
+      go (stopped j k) e p = absurd p
 
   pub remains : {n : ℕ} → s.outcome ≡ Ok (finish.Unsolved n) → settled a ≡ refused 5
-  unfolding solvedOf settled
+  unfolding settled
   remains {n} i = go a (says i)
     where
-      go : (x : Answer ℕ) → calls.unsolved n s.rounds ≡ solvedOf (got x) → settled x ≡ refused 5
-      go (accepted bs ns k) p = let z : ◌≡◌ {A = ℕ} 0 1 = cc in absurd (omega arith)
+      go : (x : Answer ℕ) → StandsBy found (Ok (finish.Unsolved n)) s.rounds (got x) → settled x ≡ refused 5
+      go (accepted bs ns k) p = absurd p
       go (remaining cs k) p = refl
-      go (stopped j k) p = let z : ◌≡◌ {A = ℕ} 0 1 = cc in absurd (omega arith)
+      go (stopped j k) p = absurd p
 
   pub stops : {r : Refusal} → s.outcome ≡ Err r → settled a ≡ refused (number_of r)
-  unfolding solvedOf settled
+  unfolding settled
   stops {r} i = go a (says i)
     where
-      go : (x : Answer ℕ) → calls.refusedAfter (number_of r) s.rounds ≡ solvedOf (got x) → settled x ≡ refused (number_of r)
-      go (accepted bs ns k) p = let z : ◌≡◌ {A = ℕ} 0 1 = cc in absurd (omega arith)
-      go (remaining cs k) p = let z : ◌≡◌ {A = ℕ} 0 1 = cc in absurd (omega arith)
-      go (stopped j k) p = let z : number_of r ≡ j = cc in ap refused (sym z)
+      go : (x : Answer ℕ) → StandsBy found (Err r) s.rounds (got x) → settled x ≡ refused (number_of r)
+      go (accepted bs ns k) p = absurd p
+      go (remaining cs k) p = absurd p
+      go (stopped j k) p = ap refused (sym p.0)
 
 -- ══ The type after each of them ══
 
@@ -108,12 +105,19 @@ module _ (pool table set : List ℕ) (cs : List (Con ℕ)) (h : SetStands pool t
     pub refused-settled : (w : List ℕ) (k : Refusal) → settled (solve (numbers pool table) bounded cs) ≡ refused (number_of k) → Made (setType pool table cs v) w (Err k)
     refused-settled w k e = refused-made (setType pool table cs v) w k (after-solving ∙ rw e)
 
-    module _ (good : Good pool table) {found₀ found : List ℕ} {b' n : ℕ} (a : Accepts (solve (numbers pool table) bounded cs) found₀ found b' n) where
+    module _ (good : Good pool table) {found : List ℕ} {b' n : ℕ} (a : Accepts (solve (numbers pool table) bounded cs) found b' n) where
       -- the judge can take what was found
-      pub found-well : length found ≡ 8192 → FoundStands pool table found b' n a.bs a.ns
+      pub found-well : length found ≤ 8192 → FoundThere pool table found b' n a.bs a.ns
       found-well long =
           let f = solved-form (numbers pool table) (holding pool table) (numbers-ordered pool table good) cs (record { well-formed = h.admitted.good; apart = told_is t ∙ i }) a.bs a.ns a.rounds a.is in
-          found-stands pool table a.bs a.ns (is_all (goodBinding (numbers pool table) (holding pool table) 0) a.bs f.bindings-good) f.bounds-held found₀ found b' n a.buffer long a.many a.bounds
+          record {
+            binds = a.rows.binds;
+            bounds = a.rows.bounds.held;
+            many = omega (arith, a.rows.bounds.ends);
+            good = is_all (goodBinding (numbers pool table) (holding pool table) 0) a.bs f.bindings-good;
+            held = all-every (λ n. holding pool table n ≡ true) a.ns f.bounds-held;
+            short = long;
+          }
 
       pub judged-settled : (w : List ℕ) (r : Result ℕ Refusal) → Made (judgedType pool table cs a.bs a.ns v) w r → Made (setType pool table cs v) w r
       unfolding settled

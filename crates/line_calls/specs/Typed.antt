@@ -1,5 +1,6 @@
 -- The type of a variable once the set was solved and judged, and what each answer of the code makes of it.
-use Rattle.std.specs.Prelude.{◌≡◌, refl, Bool, List, [], ◌∷◌, ◌++◌, map, ℕ, ◌+◌, ◌*◌, ◌-◌, ◌≤◌, length, take, drop, Result, Ok, Err, None, Some}
+use Rattle.std.specs.Prelude as std
+use Rattle.std.specs.Prelude.{◌≡◌, refl, is_none, List, [], ◌∷◌, ◌++◌, map, ℕ, ◌+◌, ◌*◌, ◌-◌, ◌≤◌, length, take, drop, Result, Ok, Err, None, Some}
 use Rattle.std.proofs.Math.Path.{sym, ap}
 use Rattle.std.proofs.Common.{subst, ◌∙◌, arith, take_at}
 use Rattle.std.proofs.Math.Bool.{true, false}
@@ -10,26 +11,24 @@ use Rattle.rules.specs.Base.{Got, got, refused, ◌>>=◌, ◌>>◌, bounded}
 use Rattle.rules.specs.Trees.{var, Ty, opened, Con, Binding, size}
 use Rattle.rules.specs.Replacing.{Look, replaceTy, bindings}
 use Rattle.rules.specs.Judging.{judge}
-use Rattle.rules.specs.Refusals.{number_of, told}
-use Rattle.rules.specs.Writing.{Rec, words, word_of, writeTy}
+use Rattle.rules.specs.Refusals.{number_of, toldBy}
+use Rattle.rules.specs.Writing.{Rec, words, writeTy}
 use Rattle.rules.specs.Lines.{its, agreed, agreedSet}
 use Rattle.rules.specs.declared.Refusal.{Refusal}
 use Rattle.rules.specs.declared.Refusal.TheVariants.{NotConfirmed}
 use Rattle.laws.specs.Lists.{clash}
 use Rattle.laws.specs.Size.{size-ty, words-length}
 use Rattle.records.specs.Views.{recOf}
-use Rattle.records.specs.Good.{numbers, holding}
+use Rattle.records.specs.Good.{numbers}
 use Rattle.records.specs.ByView.{ends-in}
 use Rattle.records.specs.Held.{held-words}
 use Rattle.records.specs.declared.Open.TheVariants as opens
 use Rattle.records.specs.declared.View.TheVariants as view
-use Rattle.queries.specs.Marks.{Marks}
 use Rattle.replacing.specs.Places.{Tabled}
-use Rattle.replacing.specs.Runs.{LookedUp, found, not_found, looked-good, Found}
-use Rattle.replacing.specs.Well.{Lent}
-use Rattle.trials.specs.Trials.{Put}
+use Rattle.replacing.specs.Runs.{LookedUp, found, not_found, Found}
 use Rattle.lending.specs.Told.{Front, Made}
-use Rattle.line_calls.specs.Standing.{SetStands, FoundStands}
+use Rattle.judging.specs.Found.{FoundThere}
+use Rattle.line_calls.specs.Standing.{SetStands}
 
 -- ══ The type of a variable ══
 
@@ -105,36 +104,22 @@ module _ (pool table : List ℕ) where
   -- what an answer makes of bindings up to b, and n bounds behind them, that were found for a set
   abbrev pub Confirmed : List ℕ → List ℕ → ℕ → ℕ → ℕ → List ℕ → Result ℕ Refusal → Type 0
   Confirmed set found b n v w r =
-      (cs : List (Con ℕ)) (bs : List (Binding ℕ)) (ns : List ℕ) → SetStands pool table set cs → FoundStands pool table found b n bs ns → Made (judgedType cs bs ns v) w r
+      (cs : List (Con ℕ)) (bs : List (Binding ℕ)) (ns : List ℕ) → SetStands pool table set cs → FoundThere pool table found b n bs ns → Made (judgedType cs bs ns v) w r
 
   -- ══ The judge's verdicts ══
 
-  module _ (cs : List (Con ℕ)) (bs : List (Binding ℕ)) (ns : List ℕ) (v : ℕ) {r : Result Bool Refusal} (h : told r ≡ judge (numbers pool table) bounded bs ns cs) where
-    pub judged-no : (w : List ℕ) → r ≡ Ok false → Made (judgedType cs bs ns v) w (Err NotConfirmed)
+  module _ (cs : List (Con ℕ)) (bs : List (Binding ℕ)) (ns : List ℕ) (v : ℕ) {r : Result (std.Option ℕ) Refusal} (h : toldBy is_none r ≡ judge (numbers pool table) bounded bs ns cs) where
+    pub judged-no : (w : List ℕ) (k : ℕ) → r ≡ Ok (Some k) → Made (judgedType cs bs ns v) w (Err NotConfirmed)
     unfolding agreed
-    judged-no w i = let e : judge (numbers pool table) bounded bs ns cs ≡ got false = sym h ∙ ap told i in refused-made (judgedType cs bs ns v) w NotConfirmed (rw e)
+    judged-no w k i = let e : judge (numbers pool table) bounded bs ns cs ≡ got false = sym h ∙ ap (toldBy is_none) i in refused-made (judgedType cs bs ns v) w NotConfirmed (rw e)
 
     pub judged-refused : (w : List ℕ) (k : Refusal) → r ≡ Err k → Made (judgedType cs bs ns v) w (Err k)
     unfolding agreed
-    judged-refused w k i = let e : judge (numbers pool table) bounded bs ns cs ≡ refused (number_of k) = sym h ∙ ap told i in refused-made (judgedType cs bs ns v) w k (rw e)
+    judged-refused w k i = let e : judge (numbers pool table) bounded bs ns cs ≡ refused (number_of k) = sym h ∙ ap (toldBy is_none) i in refused-made (judgedType cs bs ns v) w k (rw e)
 
-    pub judged-yes : (w w' : List ℕ) (n : ℕ) → r ≡ Ok true → 16384 ≤ length w → Typed (bindings (numbers pool table) bs) v w w' n → Made (judgedType cs bs ns v) w' (Ok n)
+    pub judged-yes : (w w' : List ℕ) (n : ℕ) → r ≡ Ok None → 16384 ≤ length w → Typed (bindings (numbers pool table) bs) v w w' n → Made (judgedType cs bs ns v) w' (Ok n)
     unfolding agreed replaceTy
     judged-yes w w' n i room t =
-        let e : judge (numbers pool table) bounded bs ns cs ≡ got true = sym h ∙ ap told i in
+        let e : judge (numbers pool table) bounded bs ns cs ≡ got true = sym h ∙ ap (toldBy is_none) i in
         let k = size-ty t.type in
         records-made (judgedType cs bs ns v) (writeTy t.type) w w' n (rw (e, t.is)) room t.buffer (omega (arith, t.few)) (omega (arith, t.many))
-
-  -- ══ What was found ══
-
-  -- what the judge asks
-  pub put-in : {places found : List ℕ} {b n : ℕ} {bs : List (Binding ℕ)} {ns : List ℕ} → FoundStands pool table found b n bs ns → Lent pool table places found (bindings (numbers pool table) bs) → Put pool table places found bs
-  put-in {bs = bs} f l = record { lent = l; good = λ o t e. looked-good (numbers pool table) (holding pool table) 0 bs o t f.good e }
-
--- the names of the bounds that were marked
-same_names : (ns : List ℕ) → map word_of (map (λ n. var n) ns) ≡ ns
-same_names [] = refl
-same_names (n ∷ ns) = ap (n ∷◌) (same_names ns)
-
-pub marked : {m : List Bool} (ns : List ℕ) → Marks m ([] ++ map word_of (map (λ n. var n) ns)) → Marks m ns
-marked {m} ns h = subst (Marks m) (same_names ns) h

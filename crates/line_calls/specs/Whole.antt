@@ -34,6 +34,8 @@ use Rattle.lines.specs.StepLists.{isGiven}
 use Rattle.lines.specs.Entry.{line_read}
 use Rattle.lines.specs.Entered.{lineEntered, checked-entered}
 use Rattle.line_steps.specs.StepLoop.{Wrote, LineIs}
+use Rattle.laws.specs.Nesting.{Within}
+use Rattle.line_calls.specs.Nested.{constraints-flat, line-flat}
 use Rattle.line_calls.specs.Standing.{SetStands, set-stands}
 use Rattle.line_calls.specs.Typed.{setType, refused-made}
 
@@ -118,8 +120,11 @@ module _ (pool table steps types lines names : List ℕ) where
     cs-good : all (goodCon (numbers pool table) (holding pool table) 0) cs ≡ true
     cs-good = is_all (goodCon (numbers pool table) (holding pool table) 0) cs (constraints-formed (numbersOf t) (is_held t) order ss names [] (names_apart t order names h.differing h.held) its-read.formed)
 
+    cs-flat : Within 64 cs
+    cs-flat = constraints-flat (numbersOf t) ss names [] (line-flat t steps types lines ss h.read)
+
     pub set-written : (d₀ d : List ℕ) (n : ℕ) → 8192 ≤ length d₀ → Wrote cs d₀ d n → SetStands pool table (take (n * 4 - 0) d) cs
-    set-written d₀ d n room w = set-stands pool table cs cs-good d₀ d n room w
+    set-written d₀ d n room w = set-stands pool table cs cs-good cs-flat d₀ d n room w
 
     -- ══ Its type ══
 

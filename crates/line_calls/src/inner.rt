@@ -8,16 +8,17 @@ ghost use Rattle.rules.specs.Trees.{Con, Binding};
 ghost use Rattle.rules.specs.Lines.{checkedLine};
 ghost use Rattle.lending.specs.Told.{Made};
 ghost use Rattle.replacing.specs.Places.{Tabled};
-ghost use Rattle.line_calls.specs.Standing.{SetStands, FoundStands};
+ghost use Rattle.judging.specs.Found.{FoundThere};
+ghost use Rattle.line_calls.specs.Standing.{SetStands};
 ghost use Rattle.line_calls.specs.Typed.{Typed, setType, Confirmed};
 ghost use Rattle.line_calls.specs.Whole.{LineHeld, LineTyped};
 
+use judging::inner::{Found, judge_found};
 use line_steps::inner::writing::put_line;
 use lines::inner::enter_line;
 use lines::inner::given::Line;
 use names::tables::NameTable;
 use places::inner::fill;
-use proposals::inner::bounds::mark_all;
 use queries::inner::is_unmixed;
 use records::inner::{copy, put_one};
 use records::{Open, View};
@@ -25,7 +26,6 @@ use replacing::inner::bound::look_up;
 use rules::{NAMES, RECORD_WORDS, Refusal};
 use solving::Finish;
 use solving::inner::run_alone;
-use trials::inner::try_all;
 
 // Writes the type of a variable, with the bindings put in, to the front of a buffer: how many records.
 fn put_type(places: &[u32], found: &[u32], v: u32, dst: &mut [u32]) -> usize
@@ -44,14 +44,6 @@ fn put_type(places: &[u32], found: &[u32], v: u32, dst: &mut [u32]) -> usize
     }
 }
 
-// What was found over a set: so many records of bindings from the front, and so many bounds behind them.
-#[derive(Clone, Copy)]
-struct Found<'a> {
-    words: &'a [u32],
-    bindings: usize,
-    bounds: usize,
-}
-
 // Judges what was found over the set. After a yes the type of v stands in the work buffer.
 fn confirm(
     names: NameTable,
@@ -62,19 +54,17 @@ fn confirm(
 ) -> Result<usize, Refusal>
     requires stands { (cs : List (Con ℕ)) × SetStands names.pool.now names.table.now set.now cs }
     requires answered { (bs : List (Binding ℕ)) ×
-        ((ns : List ℕ) × FoundStands names.pool.now names.table.now found.words.now found.bindings found.bounds bs ns) }
+        ((ns : List ℕ) × FoundThere names.pool.now names.table.now found.words.now found.bindings found.bounds bs ns) }
     requires room { 16384 ≤ length work.old }
     ensures { Confirmed names.entry.pool.now names.entry.table.now set.now found.entry.words.now found.entry.bindings found.entry.bounds v work.new result }
 {
-    let mut places = [0u32; NAMES];
-    fill(found.words, 0, found.bindings, &mut places);
-    let mut m = [false; NAMES];
-    let from = found.bindings * 4;
-    let to = from + found.bounds * 4;
-    mark_all(&found.words[from..to], &mut m);
-    match try_all(names, set, &places, found.words, &m, work) {
-        Ok(true) => Ok(put_type(&places, found.words, v, work)),
-        Ok(false) => Err(Refusal::NotConfirmed),
+    match judge_found(names, set, found, work) {
+        Ok(None) => {
+            let mut places = [0u32; NAMES];
+            fill(found.words, 0, found.bindings, &mut places);
+            Ok(put_type(&places, found.words, v, work))
+        }
+        Ok(Some(_)) => Err(Refusal::NotConfirmed),
         Err(k) => Err(k),
     }
 }

@@ -31,7 +31,7 @@ fn atom_opens(a: Atom) -> Option<Open>
 }
 
 // The open name of the record at a place: a type's or a factor's, or a binding's variable.
-fn opens_at(s: &[u32], i: usize) -> Option<Open>
+pub fn opens_at(s: &[u32], i: usize) -> Option<Open>
     ensures { toldOpens result ≡ opensView (viewAt s.now i) }
 {
     match view_at(s, i) {

@@ -1,10 +1,14 @@
 -- Runs of stores into a buffer.
-use Rattle.std.specs.Prelude.{◌≡◌, refl, List, [], ◌∷◌, ◌++◌, ℕ, suc, ◌+◌, ◌<◌, ◌≤◌, length, get_or, set}
-use Rattle.std.proofs.Common.{sym, ap, ◌∙◌, arith, add-zero, add-suc, suc-add, add-one}
+use Rattle.std.specs.Prelude.{◌≡◌, refl, List, [], ◌∷◌, ◌++◌, ℕ, suc, ◌+◌, ◌<◌, ◌≤◌, length, get_or, set, take, drop}
+use Rattle.std.proofs.Common.{sym, ap, ◌∙◌, arith, add-zero, add-suc, suc-add, add-one, take-append-drop, length-take-le}
 use Rattle.std.proofs.Math.Numerals.{add-two, add-three}
-use Rattle.std.proofs.lemmas.List.Edits.{sets}
-use Rattle.std.proofs.Math.Seq.{slice, slice-cons}
-use Rattle.std.proofs.lemmas.List.{set_comm}
+use Rattle.std.proofs.lemmas.List.Edits.{sets, sets-eq}
+use Rattle.std.proofs.Math.Decide.{dec_le}
+use Rattle.std.proofs.Math.ListN.{drop_of_length-le}
+use Rattle.std.proofs.Math.Seq.{slice, slice-cons, length-sets, paste}
+use Rattle.std.proofs.lemmas.Slice.{put_mid-paste}
+use borrow.Rule.Slice.PartMut.{put_mid}
+use Rattle.std.proofs.lemmas.List.{set_comm, set_past, take_all}
 use Rattle.rules.specs.Writing.{rec, words}
 
 -- four stores in a row write a record
@@ -13,7 +17,7 @@ pub four : (d d₁ d₂ d₃ d₄ : List ℕ) (i k a b c : ℕ) → d₁ ≡ set
 unfolding words
 four d d₁ d₂ d₃ d₄ i k a b c p q r t = cc (add-one i, add-two i, add-three i)
 
--- a turn of the copying loop: what is left to store falls by one
+-- a turn of a copying loop: what is left to store falls by one
 pub copy_step : (v d d' : List ℕ) (i o t : ℕ) {R : List ℕ} → i < t → t ≤ length v → d' ≡ set d o (get_or v i 0)
     → sets d o (slice i t v) ≡ R → sets d' (o + 1) (slice (i + 1) t v) ≡ R
 copy_step v d d' i o t lt le e h = rw (add-one o, add-one i, e) (sym (ap (sets d o) (slice-cons i t v 0 lt le)) ∙ h)
@@ -38,3 +42,25 @@ sets-before [] b d i = rw (add-zero i)
 sets-before (x ∷ a) b d i =
     let e : i + suc (length a) ≡ suc i + length a = omega arith in
     rw e (ap (λ (f : List ℕ). sets f (suc i) a) (set-sets b d i (suc i + length a) x (omega arith)) ∙ sets-before a b (set d i x) (suc i))
+
+-- nothing is stored past the end
+pub sets-past : (b d : List ℕ) (i : ℕ) → length d ≤ i → sets d i b ≡ d
+sets-past [] d i h = refl
+sets-past (x ∷ b) d i h = rw (set_past d i x h) (sets-past b d (suc i) (omega arith))
+
+-- a run as far as the buffer goes
+pub sets-cut : (b d : List ℕ) (i n : ℕ) → i + n ≤ length d → n ≤ length b → (n < length b → length d ≤ i + n) → sets d i b ≡ paste d i b n
+sets-cut b d i n k l m =
+    let t : length (take n b) ≡ n = length-take-le n b l in
+    ap (sets d i) (sym (take-append-drop n b)) ∙ sets-append (take n b) (drop n b) d i ∙ go (dec_le (length b) n)
+    ∙ sets-eq (take n b) d i (omega (arith, t)) ∙ ap (λ (j : ℕ). take i d ++ take n b ++ drop (i + j) d) t
+  where
+    go : Dec (length b ≤ n) → sets (sets d i (take n b)) (i + length (take n b)) (drop n b) ≡ sets d i (take n b)
+    go (yes h) = ap (sets (sets d i (take n b)) (i + length (take n b))) (drop_of_length-le b h)
+    go (no h) = sets-past (drop n b) (sets d i (take n b)) (i + length (take n b)) (omega (arith, length-sets d i (take n b), length-take-le n b l, m (omega (arith, h))))
+
+-- the part that was written over
+pub part-cut : (b d p : List ℕ) (i n k : ℕ) → p ≡ take n b → n ≡ k → i + n ≤ length d → n ≤ length b → (n < length b → length d ≤ i + n) → put_mid i k d p ≡ sets d i b
+part-cut b d p i n k e q h l m =
+    let t : length (take n b) ≡ n = length-take-le n b l in
+    put_mid-paste i k d p (take n b) n e q (sym t) ∙ ap (λ (x : List ℕ). take i d ++ x ++ drop (i + n) d) (take_all n (take n b) (omega (arith, t))) ∙ sym (sets-cut b d i n h l m)

@@ -51,6 +51,17 @@ pub fn put_one(dst: &mut [u32], out: usize, v: View)
     put_record(dst, out, v, 1);
 }
 
+// Stores words from a place on, as far as the buffer goes.
+fn put_all(dst: &mut [u32], i: usize, v: &[u32])
+    ensures { dst.new ≡ sets dst.old i v.now }
+{
+    if dst.len() <= i {
+        return;
+    }
+    let n = v.len().min(dst.len() - i);
+    dst[i..i + n].copy_from_slice(&v[..n]);
+}
+
 // Copies the records from b up to e, as far as the buffer goes.
 pub fn copy(v: &[u32], b: usize, e: usize, dst: &mut [u32], out: usize)
     requires b_le_e { b ≤ e }
@@ -58,9 +69,7 @@ pub fn copy(v: &[u32], b: usize, e: usize, dst: &mut [u32], out: usize)
     requires b_bound { out + (e - b) < 2 ^ 60 }
     ensures { dst.new ≡ sets dst.old (out * 4) (slice (b * 4) (e * 4) v.now) }
 {
-    for i in b * 4..e * 4 {
-        put(dst, out * 4 + (i - b * 4), v[i]);
-    }
+    put_all(dst, out * 4, &v[b * 4..e * 4]);
 }
 
 // Is it strictly before?

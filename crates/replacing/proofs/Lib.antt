@@ -4,4 +4,6 @@ pub mod Sizes
 pub mod Walks
 pub mod Dimensions
 pub mod Constraints
+pub mod Each
+mod Touches
 pub mod Lines

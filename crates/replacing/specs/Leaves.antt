@@ -1,7 +1,7 @@
 -- What a walk leaves behind a writer.
-use Rattle.std.specs.Prelude.{Result, Ok, Err, ◌≡◌, List, ℕ}
+use Rattle.std.specs.Prelude.{Result, Ok, Err, ◌≡◌, Bool, not, List, ℕ}
 use Rattle.std.proofs.Math.Option.{get_or}
-use Rattle.rules.specs.Base.{Got, got, refused, bounded}
+use Rattle.rules.specs.Base.{Got, got, refused, bounded, is_none}
 use Rattle.rules.specs.Refusals.{number_of}
 use Rattle.rules.specs.declared.Refusal.{Refusal}
 use Rattle.rules.specs.Replacing.{Look, replaceProduct, replaceTy, replaceTys, replaceFields, replaceCon, replaceBinding}
@@ -28,6 +28,10 @@ LeavesOf ws old new (Err r) (refused k) = number_of r ≡ k
 pub record Leaves {A : Type 0} (ws : A → List Rec) (old new : Writer) (r : Result (Unit {0}) Refusal) (R : Got A) : Type 0 where
   pub same : new.words.ghost_name ≡ old.words.ghost_name
   pub says : LeavesOf ws old new r R
+
+-- is an open name replaced
+abbrev pub replaced : Look ℕ → Open ℕ → Bool
+replaced look o = not (is_none (look o))
 
 -- what becomes of each by a substitution
 module _ (by : Substitution) where

@@ -22,6 +22,7 @@ module _ (pool table : List ℕ) where
     cons = alike v w (map con st.cons) 0 n k l (omega (arith, h.binds.ends, h.short)) e h.cons;
     binds = alike v w (map binding st.binds) n m k l h.short e h.binds;
     short = h.short;
+    flat = h.flat;
   }
 
   pub front-held : (w : List ℕ) (n m : ℕ) (st : State ℕ) → 8192 ≤ length w → StateHeld pool table w n m st → StateHeld pool table (take 8192 w) n m st

@@ -1,16 +1,19 @@
 -- The other constraints, what is new, and the bindings, one after another.
-use Rattle.std.specs.Prelude.{◌≡◌, refl, false, List, [], ◌∷◌, ◌++◌, map, ℕ, ◌+◌, ◌*◌, ◌-◌, ◌≤◌, ◌<◌, length}
+use Rattle.std.specs.Prelude.{◌≡◌, refl, true, false, List, [], ◌∷◌, ◌++◌, map, ℕ, ◌+◌, ◌*◌, ◌-◌, ◌≤◌, ◌<◌, length}
 use Rattle.std.proofs.Common.{ap, ◌∙◌, arith}
 use Rattle.std.proofs.lemmas.Bool.{lt-leb}
 use Rattle.std.proofs.lemmas.List.Edits.{sets}
 use Rattle.std.proofs.Math.Seq.{slice, length-sets, length-slice}
-use Rattle.rules.specs.Base.{sum_of}
+use Rattle.rules.specs.Base.{sum_of, max_of}
 use Rattle.rules.specs.Rounds.{State}
 use Rattle.rules.specs.Trees.{Ty, Con, ◌≔◌}
-use Rattle.replacing.specs.Flat.{PlainLines, stateLines}
+use Rattle.laws.specs.Nesting.{max_both}
+use Rattle.replacing.specs.Flat.{depthLine, PlainLines, stateLines}
 use Rattle.replacing.specs.LineRules.{Line, con, binding, sizeLine}
 use Rattle.rounds.specs.Lines.{map_both, sum_both, kept-before, kept-behind, copied, plain-join}
+use Rattle.rounds.specs.Limits.{fits-in}
 use Rattle.rounds.specs.Parts.{joined, fitting, Parts, others, Made, Around, New, Bound}
+use Rattle.rounds.specs.States.{Flat}
 
 pub joined_length : (w d : List ℕ) (at e n m q : ℕ) → length (joined w d at e n m q) ≡ length d
 joined_length w d at e n m q =
@@ -28,6 +31,12 @@ module _ (pool table w : List ℕ) (at e n m : ℕ) (p : Parts) (a : Around pool
       let i = sum_both sizeLine (map con p.before) (map con p.behind) in
       let j = ap (sum_of sizeLine) (map_both con p.before p.behind) in
       omega (arith, a.before.ends, a.behind.ends, a.gap)
+
+  others-flat : Flat (map con (others p))
+  others-flat =
+      let k = max_both depthLine (map con p.before) (map con p.behind) in
+      let v = ap (max_of depthLine) (map_both con p.before p.behind) in
+      omega (arith, k, v, a.flat_before, a.flat_behind)
 
   pub place : n - (e - at) ≡ at + (n - e)
   place = omega (arith, order)
@@ -82,7 +91,7 @@ module _ (pool table w : List ℕ) (at e n m : ℕ) (p : Parts) (a : Around pool
       binds = copied pool table w d₂ d₃ (map binding p.binds) n m q a.binds (omega (arith, order, a.short)) (omega (arith, n₂)) refl;
     }
 
-  -- new constraints that pass the limit alone, or that the state is made of
+  -- the state with new constraints: the count of its records decides
   module _ (d : List ℕ) (new : List (Con ℕ)) (q : ℕ) (h : New pool table d (map con new) (n - (e - at)) q) where
     abbrev pub appended : State ℕ
     appended = record { cons = others p ++ new; binds = p.binds }
@@ -98,8 +107,18 @@ module _ (pool table w : List ℕ) (at e n m : ℕ) (p : Parts) (a : Around pool
         let i = sum_both sizeLine (map con (others p ++ new)) (map binding p.binds) in
         omega (arith, cons-long, a.binds.ends)
 
-    pub too_long : 2048 < q → fitting (stateLines appended) ≡ false
+    pub too_long : 2048 < q + (m - n) → fitting (stateLines appended) ≡ false
     too_long k = rw (lt-leb (sum_of sizeLine (stateLines appended)) 2048 (omega (arith, all-long)))
+
+    appended-flat : Flat (stateLines appended)
+    appended-flat =
+        let i = max_both depthLine (map con (others p ++ new)) (map binding p.binds) in
+        let j = max_both depthLine (map con (others p)) (map con new) in
+        let u = ap (max_of depthLine) (map_both con (others p) new) in
+        omega (arith, i, j, u, others-flat, a.flat_binds, h.flat)
+
+    pub few_enough : q + (m - n) ≤ 2048 → fitting (stateLines appended) ≡ true
+    few_enough k = fits-in (stateLines appended) (omega (arith, all-long)) appended-flat
 
     pub append-made : 8192 ≤ length w → 8192 ≤ length d → q ≤ 2048 → Made pool table (joined w d at e n m q) q (q + (m - n)) appended
     append-made wide room k = record {
@@ -117,4 +136,4 @@ module _ (pool table w : List ℕ) (at e n m : ℕ) (p : Parts) (a : Around pool
   pub bind-parts : (d : List ℕ) (q x : ℕ) (t : Ty ℕ) → New pool table d (binding (x ≔ t) ∷ []) (n - (e - at)) q → q ≤ n → 8192 ≤ length w → 8192 ≤ length d → Bound pool table (joined w d at e n m q) (n - (e - at)) q (q + (m - n)) (others p) x t p.binds
   bind-parts d q x t h k wide room =
       let j = join-parts wide d room (binding (x ≔ t) ∷ []) q (rw place at (h.held (omega (arith, order, a.short)))) (omega (arith, order, a.short)) in
-      record { cons = j.cons; new = j.new; binds = j.binds; short = omega (arith, order, a.short) }
+      record { cons = j.cons; new = j.new; binds = j.binds; short = omega (arith, order, a.short); flat_cons = others-flat; flat_binds = a.flat_binds }

@@ -8,11 +8,11 @@ use Rattle.std.proofs.Math.Seq.{slice}
 use Rattle.rules.specs.Base.{Got, got, refused, ◌>>=◌, allow, sum_of, max_of}
 use Rattle.rules.specs.Rounds.{State}
 use Rattle.rules.specs.declared.Refusal.TheVariants.{TooLarge}
-use Rattle.laws.specs.Lists.{and_left}
+use Rattle.laws.specs.Lists.{and_left, and_right, and_both}
 use Rattle.replacing.specs.Flat.{depthLine, state-limited, stateLines}
 use Rattle.replacing.specs.LineRules.{Line, con, binding, sizeLine}
 use Rattle.rounds.specs.declared.Ends.{Ends}
-use Rattle.rounds.specs.States.{Turned, Turn}
+use Rattle.rounds.specs.States.{Flat, Turned, Turn}
 use Rattle.rounds.specs.Lines.{copied, plain-split}
 use Rattle.rounds.specs.Parts.{fitting, keeps, Stands, Made}
 
@@ -24,6 +24,10 @@ module _ (pool table s : List ℕ) (m : ℕ) (xs : List Line) (h : Stands pool t
 
   pub by-depth : m ≤ 2048 → {b : Bool} → b ≡ leb (max_of depthLine xs) 64 → b ≡ fitting xs
   by-depth k e = e ∙ sym (rw (le-leb (sum_of sizeLine xs) 2048 (omega (arith, h.many))))
+
+-- few enough records, nested at most 64 deep
+pub fits-in : (xs : List Line) → sum_of sizeLine xs ≤ 2048 → Flat xs → fitting xs ≡ true
+fits-in xs k f = and_both (le-leb (sum_of sizeLine xs) 2048 k) (le-leb (max_of depthLine xs) 64 f)
 
 -- ══ What a state gives that was made ══
 
@@ -52,7 +56,7 @@ module _ (pool table : List ℕ) where
     pub over : (w w' : List ℕ) → fitting (stateLines st) ≡ false → Turned pool table w w' (Err TooLarge) (keeps st)
     over w w' e = turned_as (passed_is e) (record { says = refl })
 
-    pub few : (s : List ℕ) (n m : ℕ) → Made pool table s n m st → fitting (stateLines st) ≡ true → m ≤ 2048
+    few : (s : List ℕ) (n m : ℕ) → Made pool table s n m st → fitting (stateLines st) ≡ true → m ≤ 2048
     few s n m d e = let i = leb-true (sum_of sizeLine (stateLines st)) 2048 (and_left (leb (sum_of sizeLine (stateLines st)) 2048) _ e) in omega (arith, d.lines.many)
 
     pub within : (w s : List ℕ) (ends : Ends) → Made pool table s ends.constraints ends.bindings st → fitting (stateLines st) ≡ true
@@ -62,7 +66,7 @@ module _ (pool table : List ℕ) where
         let m = ends.bindings in
         let k = few s n m d e in
         let p = plain-split pool table s (map con st.cons) (map binding st.binds) 0 n m (omega (arith, d.first)) (d.lines.held k) in
-        turned_as (kept-is e) (record { says = record { ends = ends; is = refl; held = record { cons = p.0; binds = p.1; short = k } } })
+        turned_as (kept-is e) (record { says = record { ends = ends; is = refl; held = record { cons = p.0; binds = p.1; short = k; flat = leb-true (max_of depthLine (stateLines st)) 64 (and_right (leb (sum_of sizeLine (stateLines st)) 2048) _ e) } } })
 
     -- what was made is all that is said of the buffer
     pub anew : {w w' : List ℕ} {r : Turn} {R : Got (Option (State ℕ))} → R ≡ keeps st → Turned pool table w' w' r (keeps st) → Turned pool table w w' r R

@@ -18,7 +18,7 @@ use Rattle.replacing.specs.Flat.{goodLine, PlainLines}
 use Rattle.replacing.specs.Kept.{plain-written}
 use Rattle.replacing.specs.LineLaws.{lines_long}
 use Rattle.replacing.specs.LineRules.{Line, con, binding, sizeLine, writeLine, HoldsLine}
-use Rattle.replacing.specs.Runs.{HoldsAll}
+use Rattle.replacing.specs.Runs.{HoldsAll, Run}
 use Rattle.replacing.specs.Written.{all-length}
 use Rattle.types.specs.Sets.{HoldsCons, IsCons}
 use Rattle.rounds.specs.Slices.{slice-before, slice-behind, slice-there, own-slice}
@@ -130,3 +130,12 @@ module _ (pool table : List ℕ) where
 
   pub as-cons : (s : List ℕ) (cs : List (Con ℕ)) (at end : ℕ) → PlainLines pool table s (map con cs) at end → IsCons s at end cs
   as-cons s cs at end p = record { held = as-held s cs at p.held; ends = p.ends ∙ ap (at +◌) (long-cons cs) }
+
+  -- and bindings, as replacing has them
+  run-held : (s : List ℕ) (bs : List (Binding ℕ)) (at : ℕ) → HoldsAll HoldsLine sizeLine s (map binding bs) at → HoldsAll HoldsBinding sizeBinding s bs at
+  unfolding HoldsAll
+  run-held s [] at h = tt
+  run-held s (b ∷ bs) at h = (h.0, run-held s bs (at + sizeBinding b) h.1)
+
+  pub as-run : (s : List ℕ) (bs : List (Binding ℕ)) (at end : ℕ) → PlainLines pool table s (map binding bs) at end → Run s at end bs
+  as-run s bs at end p = record { held = run-held s bs at p.held; past = p.ends ∙ ap (at +◌) (long-binds bs) }

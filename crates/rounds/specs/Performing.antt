@@ -8,18 +8,19 @@ use Rattle.std.proofs.Math.Seq.{length-sets}
 use Rattle.rules.specs.Base.{Got, got, refused, bounded, all, each, collect, sum_of}
 use Rattle.rules.specs.Refusals.{number_of}
 use Rattle.rules.specs.Rounds.{Step, bind, split, done, stuck, trySatisfy}
-use Rattle.rules.specs.Trees.{Names, Ty, dim, Con, ◌≔◌, size, sizeCon, sizeBinding}
+use Rattle.rules.specs.Trees.{Names, Ty, dim, Con, ◌≔◌, size, sizeCon, sizeBinding, depthCon, depthBinding}
 use Rattle.rules.specs.WellFormed.{goodCon, goodBinding}
 use Rattle.rules.specs.Writing.{words, writeCon, writeBinding}
 use Rattle.rules.specs.declared.Refusal.{Refusal}
 use Rattle.laws.specs.KeepsGood.{rule-good}
 use Rattle.laws.specs.Lists.{and_both, is_all, each-parts}
+use Rattle.laws.specs.Nesting.{most, max_map, rule-within}
 use Rattle.laws.specs.RuleCases.{Sides, Rule, none-applies, equal-records, binds, two-functions, two-lists, two-structs, as-product, two-dimensions, dimension, no-factor, first-factor, closed-struct, rule}
 use Rattle.products.specs.Held.{law}
 use Rattle.records.specs.ByView.{size-pos}
 use Rattle.records.specs.Good.{numbers, holding}
 use Rattle.records.specs.Holds.{HoldsCon}
-use Rattle.replacing.specs.Flat.{goodLine}
+use Rattle.replacing.specs.Flat.{depthLine, goodLine}
 use Rattle.replacing.specs.Kept.{plain-written}
 use Rattle.replacing.specs.LineLaws.{lines_write}
 use Rattle.replacing.specs.LineRules.{Line, con, binding, sizeLine, writeLine}
@@ -29,6 +30,7 @@ use Rattle.satisfying.specs.declared.Step as code
 use Rattle.satisfying.specs.declared.Step.TheVariants.{Bind, Split, Done, Stuck}
 use Rattle.rounds.specs.Lines.{all_map, long-cons}
 use Rattle.rounds.specs.Parts.{Parts, New, Taken}
+use Rattle.rounds.specs.States.{Flat}
 
 -- ══ A binding takes no more room than the constraint it comes from ══
 
@@ -60,10 +62,11 @@ bind-fits ν c s x t (closed-struct n m as' fs u v o f j e) i = absurd (let z : 
 
 module _ (pool table : List ℕ) where
   -- lines that were written are new ones
-  written : (was d : List ℕ) (xs : List Line) (b q : ℕ) → 8192 ≤ length d → q ≡ b + sum_of sizeLine xs → all (goodLine pool table) xs ≡ true → d ≡ sets was (b * 4) (words (collect writeLine xs)) → New pool table d xs b q
-  written was d xs b q room e g w = record {
+  written : (was d : List ℕ) (xs : List Line) (b q : ℕ) → 8192 ≤ length d → q ≡ b + sum_of sizeLine xs → all (goodLine pool table) xs ≡ true → Flat xs → d ≡ sets was (b * 4) (words (collect writeLine xs)) → New pool table d xs b q
+  written was d xs b q room e g f w = record {
     many = e;
     held = λ k. let n : length d ≡ length was = ap length w ∙ length-sets was (b * 4) (words (collect writeLine xs)) in rw e (plain-written pool table was d b xs g w (omega arith));
+    flat = f;
   }
 
   module _ (w d : List ℕ) (at e n m : ℕ) (r : code.Step) (p : Parts) (c : Con ℕ) (k : Taken pool table w d at e n m r p c) where
@@ -90,7 +93,7 @@ module _ (pool table : List ℕ) where
     answered i = subst (λ (x : code.Step). Stepped k.was d out (Ok x) tried) i k.stepped
 
     pub took-bind : {q : ℕ} → 8192 ≤ length d → r ≡ Bind q → Binds q
-    unfolding all collect goodBinding
+    unfolding all collect goodBinding depthBinding
     took-bind {q} room i = go tried refl (answered i)
       where
         go : (R : Got (Step ℕ)) → tried ≡ R → Stepped k.was d out (Ok (Bind q)) R → Binds q
@@ -103,7 +106,7 @@ module _ (pool table : List ℕ) where
               name = x;
               type = t;
               is = j;
-              new = written k.was d (binding (x ≔ t) ∷ []) out q room (omega arith) (and_both (and_both g.name g.type) refl) (rw (append-nil (writeBinding (x ≔ t))) s.says.1);
+              new = written k.was d (binding (x ≔ t) ∷ []) out q room (omega arith) (and_both (and_both g.name g.type) refl) (omega (arith, rule-within (numbers pool table) bounded c (bind x t) v, k.deep)) (rw (append-nil (writeBinding (x ≔ t))) s.says.1);
               fits = omega (arith, z, bind-fits (numbers pool table) c (bind x t) x t v refl, k.ends, k.around.gap, k.around.behind.ends);
             }
         go (got (split cs)) j s = absurd (let f = s.says.0 in let z : ◌≡◌ {A = ℕ} 0 1 = cc in omega arith)
@@ -119,9 +122,11 @@ module _ (pool table : List ℕ) where
         go (got (split cs)) j s =
             let f = s.says.0 in
             let z : q ≡ out + sum_of sizeCon cs = cc in
-            let g = rule-good (numbers pool table) (law pool table) (holding pool table) 0 c (split cs) (rule (numbers pool table) bounded c (split cs) j) k.here.good in
+            let v = rule (numbers pool table) bounded c (split cs) j in
+            let g = rule-good (numbers pool table) (law pool table) (holding pool table) 0 c (split cs) v k.here.good in
+            let h = most depthCon cs (depthCon c) (rule-within (numbers pool table) bounded c (split cs) v) in
             let u = lines_write con sizeCon writeCon HoldsCon (λ c. refl) (λ c. refl) (λ s c at h. h) cs in
-            record { cons = cs; is = j; new = written k.was d (map con cs) out q room (omega (arith, long-cons cs)) (all_map (goodLine pool table) con cs ∙ is_all (goodCon (numbers pool table) (holding pool table) 0) cs g) (rw u s.says.1) }
+            record { cons = cs; is = j; new = written k.was d (map con cs) out q room (omega (arith, long-cons cs)) (all_map (goodLine pool table) con cs ∙ is_all (goodCon (numbers pool table) (holding pool table) 0) cs g) (omega (arith, max_map depthLine con cs, h, k.deep)) (rw u s.says.1) }
         go (got done) j s = absurd (let f = s.says.0 in let z : ◌≡◌ {A = ℕ} 0 1 = cc in omega arith)
         go (got stuck) j s = absurd (let f = s.says.0 in let z : ◌≡◌ {A = ℕ} 0 1 = cc in omega arith)
         go (refused l) j s = absurd s.says
@@ -139,7 +144,7 @@ module _ (pool table : List ℕ) where
     -- nothing is new
     pub none-new : New pool table d [] (n - (e - at)) (n - (e - at))
     unfolding HoldsAll all
-    none-new = record { many = omega arith; held = λ q. record { held = tt; good = refl; ends = omega arith } }
+    none-new = record { many = omega arith; held = λ q. record { held = tt; good = refl; ends = omega arith }; flat = omega arith }
 
     pub took-stuck : r ≡ Stuck → tried ≡ got stuck
     took-stuck i = go tried (answered i)

@@ -1,5 +1,5 @@
 -- A new binding put into the constraints and the older bindings.
-use Rattle.std.specs.Prelude.{◌≡◌, refl, true, List, [], ◌∷◌, ◌++◌, map, ℕ, ◌+◌, ◌*◌, ◌-◌, ◌≤◌, length, Ok, Err}
+use Rattle.std.specs.Prelude.{◌≡◌, refl, Bool, true, List, [], ◌∷◌, ◌++◌, map, ℕ, ◌+◌, ◌*◌, ◌-◌, ◌≤◌, length, Ok, Err}
 use Rattle.std.proofs.Common.{sym, ap, subst, ◌∙◌, arith}
 use Rattle.std.proofs.Math.Option.{some}
 use Rattle.std.proofs.lemmas.List.Edits.{sets}
@@ -8,15 +8,18 @@ use Rattle.rules.specs.Base.{Got, got, refused, ◌>>=◌, bounded, all, each, c
 use Rattle.rules.specs.Refusals.{number_of}
 use Rattle.rules.specs.Replacing.{Look, bindings, replaceCon, replaceBinding}
 use Rattle.rules.specs.Rounds.{State, perform}
-use Rattle.rules.specs.Trees.{Open, Ty, Con, Binding, ◌≔◌, size}
+use Rattle.rules.specs.Trees.{Open, Ty, opened, basic, dim, fn, struct, list, Con, Binding, ◌≔◌, size, depth, depthBinding}
 use Rattle.rules.specs.WellFormed.{goodTy, goodBinding}
 use Rattle.rules.specs.Writing.{Rec, words}
 use Rattle.rules.specs.declared.Refusal.{Refusal}
-use Rattle.laws.specs.Lists.{One, one-step, and_both, clash}
+use Rattle.laws.specs.Lists.{One, one-step, true≢false, and_both, clash}
 use Rattle.laws.specs.NameTable.{Good}
+use Rattle.laws.specs.Nesting.{max_both, max_map, cons-deep, bindings-deep}
 use Rattle.products.specs.Held.{law}
 use Rattle.records.specs.Good.{numbers, holding}
-use Rattle.replacing.specs.Flat.{goodLine, PlainLines, stateLines}
+use Rattle.records.specs.Holds.{Holds, HoldsBinding}
+use Rattle.records.specs.Parsed.{only}
+use Rattle.replacing.specs.Flat.{depthLine, goodLine, PlainLines, stateLines}
 use Rattle.replacing.specs.Kept.{plain-held, plain-written, plain-kept}
 use Rattle.replacing.specs.Left.{went-same, Left, Room, Went}
 use Rattle.replacing.specs.LineLaws.{cons-each, bindings-each, short-lines}
@@ -26,7 +29,8 @@ use Rattle.replacing.specs.Runs.{HoldsAll, looked-good, looked-short}
 use Rattle.replacing.specs.Well.{names, Listed, Lent}
 use Rattle.places.specs.Filling.{Fills}
 use Rattle.rounds.specs.Lines.{map_both, sum_both, all_map, long-cons, long-binds, kept-before, copied, plain-join}
-use Rattle.rounds.specs.Parts.{keeps, Made, Bound, rebinds}
+use Rattle.rounds.specs.Parts.{leaf, keeps, Known, Made, Bound, rebinds}
+use Rattle.rounds.specs.States.{Flat}
 use Rattle.rounds.specs.Sizes.{cons-size, bindings-size}
 
 -- ══ Walks ══
@@ -57,6 +61,15 @@ module _ {d d' : List ℕ} {nx out : ℕ} {r : Went} (R : Got (List Line)) (left
 one-refused : {A B : Type 0} (m : Got A) (f : A → B) (k : ℕ) → (m >>= λ a. got (f a)) ≡ refused k → m ≡ refused k
 one-refused (got a) f k e = clash (sym e)
 one-refused (refused j) f k e = cc
+
+leaf-flat : (t : Ty ℕ) → leaf t ≡ true → depth t ≤ 1
+unfolding leaf depth
+leaf-flat (opened o) e = omega arith
+leaf-flat (basic b) e = omega arith
+leaf-flat (dim p) e = omega arith
+leaf-flat (fn ps r) e = absurd (true≢false (sym e))
+leaf-flat (struct n as' fs) e = absurd (true≢false (sym e))
+leaf-flat (list t) e = absurd (true≢false (sym e))
 
 module _ (pool table next : List ℕ) (b q m : ℕ) (cs : List (Con ℕ)) (x : ℕ) (t : Ty ℕ) (bs : List (Binding ℕ)) (h : Bound pool table next b q m cs x t bs) where
   abbrev pub one : List (Binding ℕ)
@@ -100,6 +113,11 @@ module _ (pool table next : List ℕ) (b q m : ℕ) (cs : List (Con ℕ)) (x : �
 
   bound-small : (o : Open ℕ) (u : Ty ℕ) → look o ≡ some u → size u ≤ 2048
   bound-small o u i = omega (arith, looked-short (numbers pool table) one o u i, h.new.ends, in_order, h.short)
+
+  -- the type that is bound
+  pub new-held : Holds next t (b + 1)
+  unfolding HoldsAll HoldsBinding
+  new-held = h.new.held.0.1
 
   -- ══ What they make ══
 
@@ -152,6 +170,19 @@ module _ (pool table next : List ℕ) (b q m : ℕ) (cs : List (Con ℕ)) (x : �
       pub rebinds-is : rebinds pool table cs x t bs ≡ keeps rebound
       unfolding perform
       rebinds-is = rw (new-cons.gave, new-binds.gave)
+
+      rebound-flat : depth t ≤ 1 → Flat (stateLines rebound)
+      unfolding depthBinding
+      rebound-flat low =
+          let k = (cons-deep (names pool table) bounded x t 0 low cs).holds new-cons.value new-cons.gave in
+          let l = (bindings-deep (names pool table) bounded x t 0 low bs).holds new-binds.value new-binds.gave in
+          let u = max_both depthLine (map con new-cons.value) (map binding (new-binds.value ++ one)) in
+          let v = max_both depthBinding new-binds.value one in
+          omega (arith, k, l, u, v, low, h.flat_cons, h.flat_binds, max_map depthLine con new-cons.value, max_map depthLine con cs, max_map depthLine binding (new-binds.value ++ one), max_map depthLine binding bs)
+
+      -- bound to a type without types inside
+      pub plain-known : {p : Bool} (u : Ty ℕ) → Holds next u (b + 1) → p ≡ leaf u → Known p (stateLines rebound)
+      plain-known u k e i = rebound-flat (leaf-flat t (ap leaf (only next t u (b + 1) new-held k) ∙ sym e ∙ i))
 
       module _ (w w₁ w₂ w₃ : List ℕ) (n o : ℕ) (space : 8192 ≤ length w) (wide : 8192 ≤ length next) (i : n ≡ 0 + sum_of sizeLine ys) (j : o ≡ n + sum_of sizeLine zs)
           (e₁ : w₁ ≡ sets w 0 (words (cut (collect writeLine ys)))) (e₂ : w₂ ≡ sets w₁ (n * 4) (words (cut (collect writeLine zs)))) (e₃ : w₃ ≡ sets w₂ (o * 4) (slice (b * 4) (q * 4) next)) where

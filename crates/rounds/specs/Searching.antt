@@ -10,16 +10,17 @@ use native.Mathlib.Omega.{arith}
 use Rattle.std.proofs.Math.Seq.{append_snoc}
 use Rattle.rules.specs.Base.{Got, got, refused, ◌>>=◌, bounded, all, and_then}
 use Rattle.rules.specs.Rounds.{Step, bind, split, done, stuck, State, trySatisfy, taken, firstStep, perform, performed, round}
-use Rattle.rules.specs.Trees.{Con, Binding, sizeCon}
+use Rattle.rules.specs.Trees.{Con, Binding, sizeCon, depthCon}
 use Rattle.laws.specs.Lists.{and_both}
+use Rattle.laws.specs.Nesting.{max_both}
 use Rattle.records.specs.Good.{numbers}
-use Rattle.replacing.specs.Flat.{goodLine, PlainLines}
-use Rattle.replacing.specs.LineRules.{con}
+use Rattle.replacing.specs.Flat.{depthLine, goodLine, PlainLines}
+use Rattle.replacing.specs.LineRules.{con, binding}
 use Rattle.replacing.specs.Runs.{HoldsAll}
 use Rattle.satisfying.specs.Stepped.{HeldCon, Stepped}
 use Rattle.satisfying.specs.declared.Step as code
 use Rattle.types.specs.Sets.{Cons, IsCons, one-set, placed}
-use Rattle.rounds.specs.States.{StateHeld}
+use Rattle.rounds.specs.States.{Flat, StateHeld}
 use Rattle.rounds.specs.Lines.{map_both, plain-join, as-cons}
 use Rattle.rounds.specs.Parts.{Parts, others, Around, Taken, after, performs}
 
@@ -41,6 +42,8 @@ module _ (pool table : List ℕ) where
       pub is : left ≡ placed w at rest
       pub passed : PlainLines pool table w (map con before) 0 at
       pub stay : PlainLines pool table w (map con rest) at n
+      pub flat_before : Flat (map con before)
+      pub flat : Flat (map con rest)
       pub decides : round (numbers pool table) bounded st ≡ leads before rest st.binds
 
     all_left : (f : Option (Step ℕ × List (Con ℕ))) → performed (numbers pool table) bounded st.binds f ≡ performed (numbers pool table) bounded st.binds (and_then f (λ v. some (v.0, [] ++ v.1)))
@@ -56,6 +59,8 @@ module _ (pool table : List ℕ) where
       is = e ∙ ap (placed w 0) (ap (λ (c : Cons w 0 n). c.0) (one-set w 0 n (cs, k) (st.cons, as-cons pool table w st.cons 0 n h.cons)));
       passed = record { held = tt; good = refl; ends = omega arith };
       stay = h.cons;
+      flat_before = omega arith;
+      flat = let b = max_both depthLine (map con st.cons) (map binding st.binds) in omega (arith, h.flat, b);
       decides = go (firstStep (numbers pool table) bounded st.cons);
     }
       where
@@ -78,6 +83,7 @@ module _ (pool table : List ℕ) where
       pub words : x.0 ≡ w
       pub held : HeldCon pool table w x.2 x.1
       pub ends : x.1 + sizeCon x.2 ≤ n
+      pub deep : depthCon x.2 ≤ 64
       pub around : (e : ℕ) → e ≡ x.1 + sizeCon x.2 → Around pool table w x.1 e n m parts
       pub decides : round (numbers pool table) bounded st ≡ leads parts.before (x.2 ∷ parts.behind) parts.binds
       pub same : parts.binds ≡ st.binds
@@ -85,12 +91,12 @@ module _ (pool table : List ℕ) where
 
     pub found : {now : Rest} (x : List ℕ × ℕ × Con ℕ) (left : Rest) → StateHeld pool table w n m st → Search now → now ≡ x ∷ left → Found x left
     unfolding HoldsAll all
-    found {now} x left h s e = go s.rest s.stay s.decides (sym s.is ∙ e)
+    found {now} x left h s e = go s.rest s.stay s.flat s.decides (sym s.is ∙ e)
       where
-        go : (cs : List (Con ℕ)) → PlainLines pool table w (map con cs) s.at n → round (numbers pool table) bounded st ≡ leads s.before cs st.binds
+        go : (cs : List (Con ℕ)) → PlainLines pool table w (map con cs) s.at n → Flat (map con cs) → round (numbers pool table) bounded st ≡ leads s.before cs st.binds
             → placed w s.at cs ≡ x ∷ left → Found x left
-        go [] p d q = absurd (cons≢nil (sym q))
-        go (c ∷ cs) p d q =
+        go [] p k d q = absurd (cons≢nil (sym q))
+        go (c ∷ cs) p k d q =
             let first : (w, s.at, c) ≡ x = cc in
             let rest : placed w (s.at + sizeCon c) cs ≡ left = cc in
             let g = (and-eq-true_iff (goodLine pool table (con c)) (all (goodLine pool table) (map con cs))).0 p.good in
@@ -99,12 +105,16 @@ module _ (pool table : List ℕ) where
               words = refl;
               held = record { held = p.held.0; good = g.0 };
               ends = omega (arith, p.ends);
+              deep = omega (arith, k);
               around = λ e i. record {
                 before = s.passed;
                 behind = record { held = rw i p.held.1; good = g.1; ends = omega (arith, p.ends) };
                 binds = h.binds;
                 gap = omega arith;
                 short = h.short;
+                flat_before = s.flat_before;
+                flat_behind = omega (arith, k);
+                flat_binds = let b = max_both depthLine (map con st.cons) (map binding st.binds) in omega (arith, h.flat, b);
               };
               decides = d;
               same = refl;
@@ -124,7 +134,7 @@ module _ (pool table : List ℕ) where
 
       pub step : (e : ℕ) → e ≡ at + sizeCon c → (was d : List ℕ) (r : code.Step)
           → Stepped was d (n - (e - at)) (Ok r) (trySatisfy (numbers pool table) bounded c) → Taken pool table w d at e n m r p c
-      step e i was d r s = record { around = f.around e i; here = f.held; ends = i; was = was; stepped = s }
+      step e i was d r s = record { around = f.around e i; here = f.held; ends = i; deep = f.deep; was = was; stepped = s }
 
       -- a rule applies to it
       pub applied : (trySatisfy (numbers pool table) bounded c ≡ got stuck → ⊥) → round (numbers pool table) bounded st ≡ performs pool table p c
@@ -161,5 +171,7 @@ module _ (pool table : List ℕ) where
             is = f.is;
             passed = rw (map_both con p.before (c ∷ [])) (plain-join pool table w (map con p.before) (con c ∷ []) 0 at e a.before here);
             stay = a.behind;
+            flat_before = rw (map_both con p.before (c ∷ [])) (let b = max_both depthLine (map con p.before) (con c ∷ []) in omega (arith, a.flat_before, f.deep, b));
+            flat = a.flat_behind;
             decides = f.decides ∙ leads-on stuck-here ∙ ap (leads (p.before ++ c ∷ []) p.behind) f.same;
           }

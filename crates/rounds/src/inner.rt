@@ -3,9 +3,10 @@
 ghost use Rattle.std.specs.Prelude.{◌≡◌, List, ℕ, ◌+◌, ◌-◌, ◌≤◌, length};
 ghost use Rattle.rules.specs.Rounds.{State};
 ghost use Rattle.rules.specs.Trees.{Ty, Con, Binding};
+ghost use Rattle.replacing.specs.Flat.{stateLines};
 ghost use Rattle.replacing.specs.LineRules.{Line};
 ghost use Rattle.places.specs.Filling.{Fills};
-ghost use Rattle.rounds.specs.Parts.{joined, fitting, keeps, Parts, appends, others};
+ghost use Rattle.rounds.specs.Parts.{joined, fitting, leaf, Known, keeps, Parts, appends, others};
 ghost use Rattle.rounds.specs.Standing.{
   Standing,
   Turns,
@@ -30,7 +31,7 @@ use replacing::inner::lines::replace_lines;
 use rules::{NAMES, RECORD_WORDS, RECORDS, Refusal};
 use satisfying::Step;
 use satisfying::inner::try_satisfy;
-use types::Constraints;
+use types::{Constraints, Shape, Type};
 
 /// The records from a place up to another.
 #[derive(Clone, Copy)]
@@ -65,49 +66,49 @@ fn join(work: &[u32], ends: Ends, taken: Span, next: &mut [u32], end: usize)
     copy(work, ends.constraints, ends.bindings, next, end);
 }
 
-/// Are the m records at the start few enough, and nested at most 64 deep?
-fn fits(names: NameTable, s: &[u32], m: usize) -> bool
-    requires stand { (xs : List Line) × Stand names s.now m xs }
-    ensures { (xs : List Line) → Stand names.entry s.now m xs → result ≡ fitting xs }
+/// Is a type a name, a basic type or a dimension? Such a type is nested 1 deep.
+#[tactic(auto, unfolding(crate::specs::Parts::leaf))]
+fn is_leaf(t: Type) -> bool
+    ensures { result ≡ leaf t.entry.tree.0 }
+{
+    match t.shape() {
+        Shape::Open(_) => true,
+        Shape::Basic(_) => true,
+        Shape::Dimension(_) => true,
+        Shape::Function(_, _) => false,
+        Shape::Struct(_, _, _) => false,
+        Shape::List(_) => false,
+    }
+}
+
+/// Are the m records at the start few enough, and nested at most 64 deep? They are not walked where that is known of the nesting.
+fn fits(names: NameTable, s: &[u32], m: usize, flat: bool) -> bool
+    requires stand { (xs : List Line) × Stand names s.now m xs × Known flat xs }
+    ensures { (xs : List Line) → Stand names.entry s.now m xs → Known flat xs → result ≡ fitting xs }
 {
     if RECORDS < m {
         return false;
+    }
+    if flat {
+        return true;
     }
     lines_flat(names.pool, names.table, s, 0, m)
 }
 
 /// The state that was made, if it keeps the limits.
-fn limit(names: NameTable, s: &[u32], ends: Ends) -> Result<Option<Ends>, Refusal>
-    requires made { (st : State ℕ) × MadeUpTo names s.now ends st }
-    ensures { (st : State ℕ) → MadeUpTo names.entry s.now ends st → Turns names.entry s.now s.now result (keeps st) }
+fn limit(names: NameTable, s: &[u32], ends: Ends, flat: bool) -> Result<Option<Ends>, Refusal>
+    requires made { (st : State ℕ) × MadeUpTo names s.now ends st × Known flat (stateLines st) }
+    ensures { (st : State ℕ) → MadeUpTo names.entry s.now ends st → Known flat (stateLines st) → Turns names.entry s.now s.now result (keeps st) }
 {
-    if fits(names, s, ends.bindings) {
+    if fits(names, s, ends.bindings, flat) {
         Ok(Some(ends))
     } else {
         Err(Refusal::TooLarge)
     }
 }
 
-/// The same for a state that was made beside the work buffer: it is copied there.
-fn keep(
-    names: NameTable,
-    next: &[u32],
-    ends: Ends,
-    work: &mut [u32],
-) -> Result<Option<Ends>, Refusal>
-    requires made { (st : State ℕ) × MadeUpTo names next.now ends st }
-    requires next_room { 8192 ≤ length next.now }
-    requires room { 8192 ≤ length work.old }
-    ensures { (st : State ℕ) → MadeUpTo names.entry next.now ends st → Turns names.entry work.old work.new result (keeps st) }
-{
-    if !fits(names, next, ends.bindings) {
-        return Err(Refusal::TooLarge);
-    }
-    copy(next, 0, ends.bindings, work, 0);
-    Ok(Some(ends))
-}
-
-/// New constraints stand in `next` up to `end`: the others go before them, the bindings behind.
+/// New constraints stand in `next` up to `end`: the others go before them, the bindings behind. No rule makes a constraint deeper (`only_binding_deepens`), so
+/// the records are counted and no more.
 fn append(
     names: NameTable,
     work: &mut [u32],
@@ -123,16 +124,17 @@ fn append(
     ensures { (p : Parts) (cs : List (Con ℕ)) → AroundTaken names.entry work.old ends taken p
         → NewBehind names.entry next.old ends taken end cs → Turns names.entry work.old work.new result (appends p cs) }
 {
-    if RECORDS < end {
-        return Err(Refusal::TooLarge); // the constraints alone pass the limit
+    let bindings = ends.bindings - ends.constraints;
+    if RECORDS - bindings < end {
+        return Err(Refusal::TooLarge); // too many records
     }
     join(work, ends, taken, next, end);
-    let bindings = end + (ends.bindings - ends.constraints);
     let made = Ends {
         constraints: end,
-        bindings,
+        bindings: end + bindings,
     };
-    keep(names, next, made, work)
+    copy(next, 0, made.bindings, work, 0);
+    Ok(Some(made))
 }
 
 /// In `next` the constraints stand up to a new binding, and the older bindings behind it up to `end`. Writes the constraints and the older bindings with the new
@@ -162,7 +164,9 @@ fn rebind_by(
         constraints: n,
         bindings: o + (new.end - new.at),
     };
-    limit(names, work, ends)
+    let at = new.at + 1;
+    let flat = is_leaf(Type { words: next, at }); // then nothing became deeper (`only_binding_deepens`)
+    limit(names, work, ends, flat)
 }
 
 /// The same with a table of the new binding alone.

@@ -2,11 +2,35 @@
 -- of replacing is used.
 use Rattle.std.specs.Prelude.{◌≡◌, refl, Bool, true, false, not, ◌&&◌, ℕ, zero, suc, leb, eqb, pos, negsuc, nat_abs}
 use mathlib.Core.List.{List, [], ◌∷◌, ◌++◌, Memᴰ}
-use Rattle.std.proofs.Math.Option.{Option, none, some}
+use Rattle.std.proofs.Math.Option.{Option, none, some, get_or}
 use Rattle.std.proofs.Math.Decide.{ℕ_discrete}
 use Rattle.rules.specs.Base.{is_yes, all, is_none}
 use Rattle.rules.specs.Exponents.{Exp, frac, nought, one, gcdIn, gcd, lowest, plus, mul}
-use Rattle.rules.specs.Trees.{var, quant, par, Atom, free, base, ◌↑◌, Product, dim, Con, equal, isDim, is_scalar, hasField, Binding, ◌≔◌}
+use Rattle.rules.specs.Trees.{
+  var,
+  quant,
+  par,
+  Atom,
+  free,
+  base,
+  ◌↑◌,
+  Product,
+  Ty,
+  opened,
+  basic,
+  boolean,
+  dim,
+  fn,
+  struct,
+  list,
+  Con,
+  equal,
+  isDim,
+  is_scalar,
+  hasField,
+  Binding,
+  ◌≔◌,
+}
 use Rattle.rules.specs.Views.{productOf}
 
 -- ══ Dimensions and choices ══
@@ -115,6 +139,67 @@ module _ {N : Type 0} (same : Discrete N) where
   completed [] c x = c x
   completed (y ≔ t ∷ bs) c x = elim (is_yes (same x y)) [ true ↦ orChosen c (productOf t) x | false ↦ completed bs c x ]
 
+-- ══ Sides that are variables, and is-dimension ══
+
+module _ {N : Type 0} where
+  -- a dimension or a variable
+  unfoldable pub isSide : Ty N → Bool
+  isSide (opened (var x)) = true
+  isSide (opened (quant i)) = false
+  isSide (opened (par x)) = false
+  isSide (basic b) = false
+  isSide (dim p) = true
+  isSide (fn ps r) = false
+  isSide (struct n as' fs) = false
+  isSide (list t) = false
+
+  -- an equal-scalar, an equality of sides, an is-dimension of a side. What is `dimensional` is wide
+  unfoldable pub wide : Con N → Bool
+  wide (equal s t) = isSide s && isSide t
+  wide (isDim t) = isSide t
+  wide (is_scalar p) = true
+  wide (hasField n s t) = false
+
+  -- a variable comes to what was chosen for it, a dimension to its factors' dimensions; another type to none
+  unfoldable pub sideComesTo : Choice N → Ty N → Option (Dimension N)
+  sideComesTo c (opened (var x)) = some (c x)
+  sideComesTo c (opened (quant i)) = none
+  sideComesTo c (opened (par x)) = none
+  sideComesTo c (basic b) = none
+  sideComesTo c (dim p) = some (comesTo c p)
+  sideComesTo c (fn ps r) = none
+  sideComesTo c (struct n as' fs) = none
+  sideComesTo c (list t) = none
+
+module _ {N : Type 0} (same : Discrete N) where
+  -- two sides come to the same; what comes to none agrees with nothing
+  abbrev pub SidesAgree : Option (Dimension N) → Option (Dimension N) → Type 0
+  SidesAgree (some d) (some e) = Same same d e
+  SidesAgree (some d) none = ⊥
+  SidesAgree none (some e) = ⊥
+  SidesAgree none none = ⊥
+
+  -- as `MakesTrue`, for wide constraints: is-dimension of a side is true under every choice, since a choice makes each side a dimension
+  unfoldable pub MakesWideTrue : Choice N → Con N → Type 0
+  MakesWideTrue c (equal s t) = SidesAgree (sideComesTo c s) (sideComesTo c t)
+  MakesWideTrue c (isDim t) = isSide t ≡ true
+  MakesWideTrue c (is_scalar p) = (u : Fixed N) → power same u (comesTo c p) ≡ nought
+  MakesWideTrue c (hasField n s t) = ⊥
+
+  abbrev pub MakesAllWideTrue : Choice N → List (Con N) → Type 0
+  MakesAllWideTrue c cs = (k : Con N) → Memᴰ k cs → MakesWideTrue c k
+
+  -- as `completed`: a variable that is bound to a variable gets what was chosen for that one
+  unfoldable pub completedWide : List (Binding N) → Choice N → Choice N
+  completedWide [] c x = c x
+  completedWide (y ≔ t ∷ bs) c x = elim (is_yes (same x y)) [ true ↦ get_or (sideComesTo c t) (c x) | false ↦ completedWide bs c x ]
+
+-- a choice that makes all of a wide set true
+pub record ChoosingWide {N : Type 0} (same : Discrete N) (cs : List (Con N)) : Type 0 where
+  pub choice : Choice N
+  pub rational : Rational choice
+  pub makes : MakesAllWideTrue same choice cs
+
 -- ══ Some cases, computed ══
 
 -- variables 0 and 1, parameter 7, base dimension 7. Chosen: 0 is L^(1/2) a^2 with L the base dimension and a the parameter, 1 is L^-1 L^3
@@ -147,3 +232,27 @@ rational-cases : (rationalPart {N = ℕ} (parameter 0 to frac (pos 2) 4) ≡ fal
     × (rationalPart {N = ℕ} (parameter 0 to frac (negsuc 2) 4) ≡ true)
 unfolding rationalPart gcd gcdIn
 rational-cases = (refl, refl, refl)
+
+-- which constraints are wide: y = [L] and x = y are; x = boolean is not, nor is an is-dimension of a parameter
+wide-cases : (wide {N = ℕ} (equal (opened (var 1)) (dim (base 7 ↑ one ∷ []))) ≡ true) × (wide {N = ℕ} (equal (opened (var 0)) (opened (var 1))) ≡ true)
+    × (wide {N = ℕ} (isDim (opened (var 0))) ≡ true) × (wide {N = ℕ} (equal (opened (var 0)) (basic boolean)) ≡ false)
+    × (wide {N = ℕ} (isDim (opened (par 7))) ≡ false)
+unfolding isSide wide
+wide-cases = (refl, refl, refl, refl, refl)
+
+-- 1 is chosen L^2, so 1 = [L^2] comes to 2 = 2, and 1 = [L] to 2 = 1 at the base dimension L
+side-cases : (MakesWideTrue ℕ_discrete some-choice (equal (opened (var 1)) (dim (base 7 ↑ frac (pos 2) 1 ∷ [])))
+    ≡ Same ℕ_discrete (some-choice 1) (comesTo some-choice (base 7 ↑ frac (pos 2) 1 ∷ [])))
+    × (power ℕ_discrete (baseDimension 7) (some-choice 1) ≡ frac (pos 2) 1)
+    × (power ℕ_discrete (baseDimension 7) (comesTo some-choice (base 7 ↑ frac (pos 2) 1 ∷ [])) ≡ frac (pos 2) 1)
+    × (power ℕ_discrete (baseDimension 7) (comesTo some-choice (base 7 ↑ one ∷ [])) ≡ one)
+unfolding ℕ_discrete power scaled chosenFor comesTo sideComesTo MakesWideTrue plus mul lowest gcd gcdIn some-choice
+side-cases = (refl, refl, refl, refl)
+
+-- 0 bound to the variable 1 gets what was chosen for 1, L^2; 2, bound to [y^2 L], gets L^5
+completed-wide-case : (power ℕ_discrete (baseDimension 7) (completedWide ℕ_discrete (0 ≔ opened (var 1) ∷ []) some-choice 0) ≡ frac (pos 2) 1)
+    × (power ℕ_discrete (parameter 7) (completedWide ℕ_discrete (0 ≔ opened (var 1) ∷ []) some-choice 0) ≡ nought)
+    × (power ℕ_discrete (baseDimension 7)
+    (completedWide ℕ_discrete (0 ≔ opened (var 1) ∷ 2 ≔ dim (free (var 1) ↑ frac (pos 2) 1 ∷ base 7 ↑ one ∷ []) ∷ []) some-choice 2) ≡ frac (pos 5) 1)
+unfolding ℕ_discrete power scaled chosenFor comesTo sideComesTo completedWide plus mul lowest gcd gcdIn some-choice
+completed-wide-case = (refl, refl, refl)

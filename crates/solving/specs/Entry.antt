@@ -15,13 +15,14 @@ use Rattle.rules.specs.Contents.{unmixed}
 use Rattle.rules.specs.Names.{table_of, tableGood, lentTable}
 use Rattle.rules.specs.Refusals.{number_of}
 use Rattle.rules.specs.Solving.{Answer, solve}
-use Rattle.rules.specs.Trees.{Con, opensCon, sizeCon}
+use Rattle.rules.specs.Trees.{Con, opensCon, sizeCon, depthCon}
 use Rattle.rules.specs.WellFormed.{goodCon}
 use Rattle.rules.specs.declared.Refusal.{Refusal}
 use Rattle.rules.specs.declared.Refusal.TheVariants.{ShortBuffer}
 use Rattle.laws.specs.Checks.{need-passed, passed}
-use Rattle.laws.specs.Lists.{clash, and_left}
+use Rattle.laws.specs.Lists.{clash, and_left, all-every, all-is}
 use Rattle.laws.specs.NameTable.{Good, good-laid}
+use Rattle.laws.specs.Nesting.{most, max_both, max_map}
 use Rattle.records.specs.Found.{Words32}
 use Rattle.records.specs.Good as records
 use Rattle.records.specs.Good.{numbers, holding}
@@ -30,14 +31,15 @@ use Rattle.records.specs.Whole.{entry-good, set_is}
 use Rattle.queries.specs.Marks.{Small}
 use Rattle.queries.specs.Runs.{set-small, set-opens}
 use Rattle.queries.specs.Scans.{opensIn}
-use Rattle.replacing.specs.Flat.{goodLine, PlainLines}
+use Rattle.replacing.specs.Flat.{depthLine, goodLine, PlainLines, stateLines}
 use Rattle.replacing.specs.Given.{row, given-set}
 use Rattle.replacing.specs.LineRules.{con}
 use Rattle.replacing.specs.Runs.{HoldsAll}
-use Rattle.ending.proofs.Sets.{Admitted}
+use Rattle.ending.proofs.Sets.{Admitted, start}
 use Rattle.rounds.specs.Lines.{copied}
+use Rattle.rounds.specs.States.{Flat}
 use Rattle.solving.specs.declared.Solution.{Solution}
-use Rattle.solving.specs.Told.{refusedAs, solutionAs, Answered}
+use Rattle.solving.specs.Told.{refusedAs, solutionAs, Stands, Answered, answerTo}
 use Rattle.solving.specs.Running.{Begun}
 
 -- ══ A row of checks ══
@@ -153,6 +155,12 @@ module _ (pool table ws : List ℕ) where
           let r = row ws HoldsCon sizeCon (goodCon (numbers pool table) (holding pool table) 0) (records.GoodCon pool table 0 ws) (λ at a e g. (g.held, g.past, g.good)) (length ws / 4) 0 x.set (set_is pool table ws w x.set x.given) in
           record { good = r.right; small = omega (arith, r.ends, x.short) }
 
+      set-flat : Flat (stateLines (start x.set))
+      set-flat =
+          let r = row ws HoldsCon sizeCon (λ c. leb (depthCon c) 64) (records.GoodCon pool table 0 ws) (λ at a e g. (g.held, g.past, le-leb (depthCon a) 64 g.deep)) (length ws / 4) 0 x.set (set_is pool table ws w x.set x.given) in
+          let e = all-every (λ c. depthCon c ≤ 64) x.set (λ c m. leb-true (depthCon c) 64 (all-is (λ c. leb (depthCon c) 64) x.set r.right c m)) in
+          omega (arith, most depthCon x.set 64 e, max_map depthLine con x.set, max_both depthLine (map con x.set) [])
+
       pub begun : (d d' : List ℕ) → 16384 ≤ length d → d' ≡ sets d 0 (slice 0 (length ws / 4 * 4) ws) → Begun pool table d' (length ws / 4) x.set
       unfolding all HoldsAll
       begun d d' room e =
@@ -165,6 +173,7 @@ module _ (pool table ws : List ℕ) where
               cons = rw z at (copied pool table ws d d' (map con x.set) 0 (length ws / 4) 0 p (omega arith) (omega arith) e);
               binds = record { held = tt; good = refl; ends = sym (add-zero (length ws / 4)) };
               short = omega arith;
+              flat = set-flat;
             };
             admitted = set-admitted;
           }
@@ -176,12 +185,18 @@ answers-as a b result result' s e h = rw e h
 
 pub refused-answers : (a : Got (Answer ℕ)) (result : List ℕ) (r : Refusal) (s : Solution) → a ≡ refused (number_of r) → s ≡ refusedAs r 0 → Answered a result result s
 unfolding solvedOf solvedWords resultAfter
-refused-answers a result r s e i = record { answer = rw (e, i); buffer = rw e }
+refused-answers a result r s e i = record { stands = record { says = rw (e, i) (refl, refl) }; answer = rw (e, i); buffer = rw e }
 
 module _ (pool table ws result work : List ℕ) where
   pub call-short : (s : Solution) → s ≡ refusedAs ShortBuffer 0 → lent pool table result work ≡ refused 10 → solutionAs s result work ≡ solveCall pool table ws result work
   unfolding solveCall solvedOf solvedWords resultAfter workAfter
   call-short s i e = rw (i, e)
+
+  pub short-stands : (s : Solution) → s ≡ refusedAs ShortBuffer 0 → lent pool table result work ≡ refused 10 → Stands result s (answerTo pool table ws result work)
+  short-stands s i e = record { says = rw (i, e) (refl, refl) }
+
+  pub called-stands : (result' : List ℕ) (s : Solution) → lent pool table result work ≡ got tt → Answered (solvedSet (table_of pool table) ws) result result' s → Stands result' s (answerTo pool table ws result work)
+  called-stands result' s e a = rw e a.stands
 
   pub called : (w result' work' : List ℕ) (s : Solution) → length w ≡ length work → lent pool table result work ≡ got tt → Answered (solvedSet (table_of pool table) ws) result result' s → work' ≡ replicate (length w) 0 → solutionAs s result' work' ≡ solveCall pool table ws result work
   unfolding solveCall workAfter

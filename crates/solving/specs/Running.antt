@@ -18,7 +18,7 @@ use Rattle.ending.proofs.Sets.{Admitted, start}
 use Rattle.rounds.specs.declared.Ends.{Ends}
 use Rattle.rounds.specs.States.{StateHeld, Turned, Turn}
 use Rattle.std.specs.Prelude.{Ok, Err, None, Some}
-use Rattle.finishing.specs.Told.{toldFinish, Finished}
+use Rattle.finishing.specs.Told.{Finished}
 use Rattle.finishing.specs.declared.Finish.{Finish}
 use Rattle.solving.specs.declared.Solution.{Solution}
 use Rattle.solving.specs.Told.{toldSolution, refusedAs, Answered}
@@ -111,12 +111,13 @@ module _ (pool table : List ℕ) where
 
   -- ══ The answer ══
 
-  pub finish-answers : (a : Answer ℕ) (st : State ℕ) (k : ℕ) (result₀ result result' : List ℕ) (f : Finish) (s : Solution) → result ≡ result₀ → a ≡ finish (numbers pool table) k st → Finished pool table st result result' f → toldSolution s ≡ toldFinish f k → Answered (got a) result₀ result' s
-  finish-answers a st k result₀ result result' f s q e d t = record {
-    answer = t ∙ d.answer k ∙ sym (ap (λ (x : Answer ℕ). solvedOf (got x)) e);
+  pub finish-answers : (a : Answer ℕ) (st : State ℕ) (k : ℕ) (result₀ result result' : List ℕ) (f : Finish) (s : Solution) → result ≡ result₀ → a ≡ finish (numbers pool table) k st → Finished pool table st result result' f → s ≡ record { outcome = Ok f; rounds = k } → Answered (got a) result₀ result' s
+  finish-answers a st k result₀ result result' f s q e d i = record {
+    stands = record { says = rw (i, e) (d.rows k) };
+    answer = ap toldSolution i ∙ d.answer k ∙ sym (ap (λ (x : Answer ℕ). solvedOf (got x)) e);
     buffer = rw (← q, e) (d.buffer k);
   }
 
 pub stop-answers : (a : Answer ℕ) (k : ℕ) (result₀ result : List ℕ) (x : Refusal) (s : Solution) → result ≡ result₀ → a ≡ stopped (number_of x) k → s ≡ refusedAs x k → Answered (got a) result₀ result s
 unfolding solvedOf solvedWords resultAfter
-stop-answers a k result₀ result x s q e i = record { answer = rw (e, i); buffer = rw e q }
+stop-answers a k result₀ result x s q e i = record { stands = record { says = rw (e, i) (refl, refl) }; answer = rw (e, i); buffer = rw e q }

@@ -1,13 +1,14 @@
 -- The answer of solving with its two buffers as the rules tell them.
 use Rattle.std.specs.Prelude.{◌≡◌, Result, Ok, Err, List, ℕ}
-use Rattle.rules.specs.Base.{Got}
+use Rattle.rules.specs.Base.{Got, got, refused, ◌>>◌}
 use Rattle.rules.specs.Calls as calls
-use Rattle.rules.specs.Calls.{solvedOf, solvedWords, resultAfter}
+use Rattle.rules.specs.Calls.{lent, solvedOf, solvedWords, solvedSet, resultAfter}
+use Rattle.rules.specs.Names.{table_of}
 use Rattle.rules.specs.Refusals.{number_of}
-use Rattle.rules.specs.Solving.{Answer}
+use Rattle.rules.specs.Solving.{Answer, accepted, remaining, stopped}
 use Rattle.rules.specs.declared.Refusal.{Refusal}
 use Rattle.rules.specs.declared.Refusal.TheVariants as refusal
-use Rattle.finishing.specs.Told.{toldFinish}
+use Rattle.finishing.specs.Told.{toldFinish, Rows}
 use Rattle.finishing.specs.declared.Finish.{Finish}
 use Rattle.finishing.specs.declared.Finish.TheVariants.{Solved, Unsolved}
 use Rattle.solving.specs.declared.Solution.{Solution}
@@ -32,7 +33,25 @@ toldSolution s = toldOutcome s.outcome s.rounds
 abbrev pub solutionAs : Solution → List ℕ → List ℕ → calls.Solution
 solutionAs s result work = record { answer = toldSolution s; result = result; work = work }
 
+-- the outcome after k rounds is that of an answer, and the answer's rows stand at the front of a buffer
+abbrev pub StandsBy : List ℕ → Result Finish Refusal → ℕ → Got (Answer ℕ) → Type 0
+StandsBy s (Ok f) k (got a) = Rows s f k a
+StandsBy s (Ok f) k (refused n) = ⊥
+StandsBy s (Err r) k (got (accepted bs ns j)) = ⊥
+StandsBy s (Err r) k (got (remaining cs j)) = ⊥
+StandsBy s (Err r) k (got (stopped n j)) = (number_of r ≡ n) × (k ≡ j)
+StandsBy s (Err r) k (refused n) = (number_of r ≡ n) × (k ≡ 0)
+
+-- what solving leaves: bindings one after another from the front and bounds behind them; or the constraints that remain
+pub record Stands (s : List ℕ) (solution : Solution) (a : Got (Answer ℕ)) : Type 0 where
+  pub says : StandsBy s solution.outcome solution.rounds a
+
 -- this is what was answered, and the result buffer holds it
 pub record Answered (a : Got (Answer ℕ)) (result result' : List ℕ) (s : Solution) : Type 0 where
+  pub stands : Stands result' s a
   pub answer : toldSolution s ≡ solvedOf a
   pub buffer : result' ≡ resultAfter (solvedWords a) result
+
+-- the answer of the whole call: 10 where a buffer is short
+abbrev pub answerTo : List ℕ → List ℕ → List ℕ → List ℕ → List ℕ → Got (Answer ℕ)
+answerTo pool table ws result work = lent pool table result work >> solvedSet (table_of pool table) ws

@@ -6,7 +6,7 @@ pub mod theorems;
 
 ghost use Rattle.std.specs.Prelude.{◌≡◌};
 ghost use Rattle.rules.specs.Calls.{solveCall};
-ghost use Rattle.solving.specs.Told.{numberOutcome, solutionAs};
+ghost use Rattle.solving.specs.Told.{numberOutcome, solutionAs, Stands, answerTo};
 
 pub use finishing::Finish;
 use inner::{solve_set, stopped};
@@ -45,7 +45,8 @@ pub fn solve(
     res: &mut [u32],
     work: &mut [u32],
 ) -> Solution
-    ensures { solutionAs result res.new work.new ≡ solveCall pool.now table.now words.now res.old work.old }
+    ensures stands { Stands res.new result (answerTo pool.now table.now words.now res.old work.old) }
+    ensures called { solutionAs result res.new work.new ≡ solveCall pool.now table.now words.now res.old work.old }
 {
     if !lent(pool, table, res, work) {
         return stopped(Refusal::ShortBuffer, 0);

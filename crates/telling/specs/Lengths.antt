@@ -6,13 +6,19 @@ use Rattle.rules.specs.Names.{table_of, is_held}
 use Rattle.rules.specs.TextWriting.{nameText, openText, conText, setText}
 use Rattle.rules.specs.Trees.{var, Con, ◌≔◌, sizeCon, sizeBinding}
 use Rattle.rules.specs.WellFormed.{goodOpen, goodBinding}
-use Rattle.laws.specs.Lists.{and_left, and_right}
+use Rattle.laws.specs.Lists.{Every, and_left, and_right}
 use Rattle.laws.specs.NameTable.{Good}
-use Rattle.records.specs.Good.{Chain}
+use Rattle.records.specs.Good.{Chain, numbers, holding}
 use Rattle.sheets.specs.Lengths.{name-short, set-fits, ty-short}
 use Rattle.sheets.specs.Meanings.{name-length}
 use Rattle.sheet_writing.specs.Parts.{conGood, held, name_of}
 use Rattle.telling.specs.Rows.{Row, binding, bound, left, RowHere, rowText, chain-on, con-some, row-on}
+
+-- what a row has is well formed
+abbrev pub GoodRow : List ℕ → List ℕ → Row → Type 0
+GoodRow pool table (binding b) = goodBinding (numbers pool table) (holding pool table) 0 b ≡ true
+GoodRow pool table (bound x) = holding pool table x ≡ true
+GoodRow pool table (left c) = conGood pool table c ≡ true
 
 module _ (pool table s : List ℕ) (good : Good pool table) where
   held-short : (x : ℕ) → x < get_or table 0 0 → length (nameText (name_of pool table x)) ≤ 144
@@ -29,18 +35,18 @@ module _ (pool table s : List ℕ) (good : Good pool table) where
       let k = simp length-append at h in
       omega (arith, k)
 
-  row-short : (at e : ℕ) (r : Row) → RowHere pool table s at r e → length (rowText (name_of pool table) r) ≤ (e - at) * 175
+  row-short : (at e : ℕ) (r : Row) → RowHere s at r e → GoodRow pool table r → length (rowText (name_of pool table) r) ≤ (e - at) * 175
   unfolding sizeBinding goodBinding goodOpen
-  row-short at e (binding (x ≔ t)) h =
-      let n = held pool table x (and_left (is_held (table_of pool table) x) _ h.good) in
-      let k = ty-short good t (and_right (is_held (table_of pool table) x) _ h.good) in
-      simp length-append (omega (arith, open-short x n, k, h.past))
-  row-short at e (bound x) h = simp length-append (omega (arith, held-short x (held pool table x h.good), h.past))
-  row-short at e (left c) h = simp length-append (omega (arith, con-short c h.good, con-some c, h.past))
+  row-short at e (binding (x ≔ t)) h g =
+      let n = held pool table x (and_left (is_held (table_of pool table) x) _ g) in
+      let k = ty-short good t (and_right (is_held (table_of pool table) x) _ g) in
+      simp length-append (omega (arith, open-short x n, k, h.1))
+  row-short at e (bound x) h g = simp length-append (omega (arith, held-short x (held pool table x g), h.1))
+  row-short at e (left c) h g = simp length-append (omega (arith, con-short c g, con-some c, h.1))
 
-  pub rows-short : (rs : List Row) (at end : ℕ) → Chain (RowHere pool table s) end rs at → length (collect (rowText (name_of pool table)) rs) ≤ (end - at) * 175
+  pub rows-short : (rs : List Row) (at end : ℕ) → Chain (RowHere s) end rs at → Every (GoodRow pool table) rs → length (collect (rowText (name_of pool table)) rs) ≤ (end - at) * 175
   unfolding collect
-  rows-short [] at end c = omega arith
-  rows-short (r ∷ rs) at end c =
+  rows-short [] at end c g = omega arith
+  rows-short (r ∷ rs) at end c g =
       let e = c.0 in
-      simp length-append (omega (arith, row-on pool table s at e r c.1.0, row-short at e r c.1.0, chain-on pool table s rs e end c.1.1, rows-short rs e end c.1.1))
+      simp length-append (omega (arith, row-on s at e r c.1.0, row-short at e r c.1.0 g.0, chain-on s rs e end c.1.1, rows-short rs e end c.1.1 g.1))

@@ -1,16 +1,20 @@
 -- The rows of a report: a binding, a bound, or a constraint that remains, and the line that tells each.
 use Rattle.std.specs.Prelude.{◌≡◌, refl, List, [], ◌∷◌, ◌++◌, map, ℕ, ◌+◌, ◌/◌, ◌≤◌, ◌<◌, length}
-use Rattle.std.proofs.Common.{sym, ap, subst, ◌∙◌, arith, append_assoc}
-use Rattle.rules.specs.Base.{collect}
+use Rattle.std.proofs.Common.{sym, ap, subst, ◌∙◌, arith, add-zero, append_assoc}
+use Rattle.rules.specs.Base.{collect, sum_of}
 use Rattle.rules.specs.Names.{Bytes}
 use Rattle.rules.specs.Reports.{bindingLine, boundLine, remainingLine}
 use Rattle.rules.specs.TextWriting.{nameText}
 use Rattle.rules.specs.Trees.{var, Ty, Con, equal, isDim, is_scalar, hasField, Binding, ◌≔◌, sizeCon, sizeBinding}
-use Rattle.records.specs.ByView.{binding-in}
-use Rattle.records.specs.Good.{Chain, GoodBinding, GoodBound, GoodCon}
-use Rattle.records.specs.Holds.{Holds, HoldsBinding, HoldsCon, con-long, binding-long}
+use Rattle.records.specs.ByView.{con-in, binding-in}
+use Rattle.records.specs.Good.{Chain}
+use Rattle.records.specs.Holds.{Holds, HoldsBinding, HoldsBound, HoldsBounds, HoldsCon, con-long, binding-long}
 use Rattle.records.specs.Parsed.{only}
+use Rattle.records.specs.Places.{seen-in}
 use Rattle.types.specs.Once.{ATree}
+use Rattle.types.specs.Sets.{HoldsCons, IsCons}
+use Rattle.replacing.specs.Runs.{HoldsAll}
+use Rattle.finishing.specs.Told.{IsSolved}
 use Rattle.records.specs.Views.{viewAt, longAt}
 use Rattle.records.specs.declared.Open as opens
 use Rattle.records.specs.declared.View.{View}
@@ -58,12 +62,12 @@ con-some (hasField x l r) = omega arith
 pub type-is : (s : List ℕ) (at : ℕ) (x : ATree s at) (t : Ty ℕ) → Holds s t at → x.0 ≡ t
 type-is s at x t h = only s x.0 t at x.1 h
 
-module _ (pool table s : List ℕ) where
+module _ (s : List ℕ) where
   -- a row from a place up to another
   abbrev pub RowHere : ℕ → Row → ℕ → Type 0
-  RowHere at (binding b) e = GoodBinding pool table 0 s at b e
-  RowHere at (bound x) e = GoodBound pool table 0 s at (var x) e
-  RowHere at (left c) e = GoodCon pool table 0 s at c e
+  RowHere at (binding b) e = HoldsBinding s b at × (e ≡ at + sizeBinding b)
+  RowHere at (bound x) e = HoldsBound s (var x) at × (e ≡ at + 1)
+  RowHere at (left c) e = HoldsCon s c at × (e ≡ at + sizeCon c)
 
   -- rows one after another from a place up to another
   pub record RowsAt (at end : ℕ) (rs : List Row) : Type 0 where
@@ -101,45 +105,45 @@ module _ (pool table s : List ℕ) where
   pub as_binding : (at x e : ℕ) → viewAt s at ≡ view.Binding x → (r : Row) → RowHere at r e → Bind at x r
   unfolding HoldsBinding sizeBinding
   as_binding at x e v (binding (y ≔ t)) h =
-      let q : view.Binding y ≡ view.Binding x = sym h.held.0 ∙ v in
+      let q : view.Binding y ≡ view.Binding x = sym h.0.0 ∙ v in
       let z : y ≡ x = cc in
       record {
         t = t;
         is = ap (λ (n : ℕ). binding (n ≔ t)) z;
-        holds = h.held.1;
-        within = let i = binding-in s (y ≔ t) at h.held in omega (arith, i);
+        holds = h.0.1;
+        within = let i = binding-in s (y ≔ t) at h.0 in omega (arith, i);
       }
-  as_binding at x e v (bound y) h = let q : view.Bound (opens.TheVariants.Var y) ≡ view.Binding x = sym h.held.0 ∙ v in absurd (cc)
-  as_binding at x e v (left c) h = absurd ((not-con c at (view.Binding x) h.held v).0 x refl)
+  as_binding at x e v (bound y) h = let q : view.Bound (opens.TheVariants.Var y) ≡ view.Binding x = sym h.0.0 ∙ v in absurd (cc)
+  as_binding at x e v (left c) h = absurd ((not-con c at (view.Binding x) h.0 v).0 x refl)
 
   pub as_bound : (at e : ℕ) (o : opens.Open) → viewAt s at ≡ view.Bound o → (r : Row) → RowHere at r e → Bound o r
   unfolding HoldsBinding
-  as_bound at e o v (binding (y ≔ t)) h = let q : view.Binding y ≡ view.Bound o = sym h.held.0 ∙ v in absurd (cc)
+  as_bound at e o v (binding (y ≔ t)) h = let q : view.Binding y ≡ view.Bound o = sym h.0.0 ∙ v in absurd (cc)
   as_bound at e o v (bound y) h =
-      let q : view.Bound (opens.TheVariants.Var y) ≡ view.Bound o = sym h.held.0 ∙ v in
+      let q : view.Bound (opens.TheVariants.Var y) ≡ view.Bound o = sym h.0.0 ∙ v in
       let z : opens.TheVariants.Var y ≡ o = cc in
       record { x = y; is = refl; name = z }
-  as_bound at e o v (left c) h = absurd ((not-con c at (view.Bound o) h.held v).1 o refl)
+  as_bound at e o v (left c) h = absurd ((not-con c at (view.Bound o) h.0 v).1 o refl)
 
   pub as_left : (at e : ℕ) → ((x : ℕ) → viewAt s at ≡ view.Binding x → ⊥) → ((o : opens.Open) → viewAt s at ≡ view.Bound o → ⊥) → (r : Row)
       → RowHere at r e → Remains at r
   unfolding HoldsBinding
-  as_left at e p q (binding (y ≔ t)) h = absurd (p y h.held.0)
-  as_left at e p q (bound y) h = absurd (q (opens.TheVariants.Var y) h.held.0)
-  as_left at e p q (left c) h = record { c = c; is = refl; holds = h.held }
+  as_left at e p q (binding (y ≔ t)) h = absurd (p y h.0.0)
+  as_left at e p q (bound y) h = absurd (q (opens.TheVariants.Var y) h.0.0)
+  as_left at e p q (left c) h = record { c = c; is = refl; holds = h.0 }
 
   -- ══ Rows one after another ══
 
   pub row-on : (at e : ℕ) (r : Row) → RowHere at r e → at < e
   unfolding sizeBinding
-  row-on at e (binding (x ≔ t)) h = omega (arith, h.past)
-  row-on at e (bound x) h = omega (arith, h.past)
-  row-on at e (left c) h = omega (arith, con-some c, h.past)
+  row-on at e (binding (x ≔ t)) h = omega (arith, h.1)
+  row-on at e (bound x) h = omega (arith, h.1)
+  row-on at e (left c) h = omega (arith, con-some c, h.1)
 
   row-long : (at e : ℕ) (r : Row) → RowHere at r e → at + longAt s at ≡ e
-  row-long at e (binding b) h = omega (arith, binding-long s b at h.held, h.past)
-  row-long at e (bound x) h = omega (arith, h.held.1, h.past)
-  row-long at e (left c) h = omega (arith, con-long s c at h.held, h.past)
+  row-long at e (binding b) h = omega (arith, binding-long s b at h.0, h.1)
+  row-long at e (bound x) h = omega (arith, h.0.1, h.1)
+  row-long at e (left c) h = omega (arith, con-long s c at h.0, h.1)
 
   pub chain-on : (rs : List Row) (at end : ℕ) → Chain RowHere end rs at → at ≤ end
   chain-on [] at end c = omega (arith, c)
@@ -173,18 +177,43 @@ module _ (pool table s : List ℕ) where
         within = omega (arith, p, chain-on rs c.0 end c.1.1);
       }
 
+  row-in : (at e : ℕ) (r : Row) → RowHere at r e → e ≤ length s / 4
+  row-in at e (binding b) h = omega (arith, binding-in s b at h.0, h.1)
+  row-in at e (bound x) h = omega (arith, seen-in s at h.0.0 tt, h.1)
+  row-in at e (left c) h = omega (arith, con-in s c at h.0, h.1)
+
+  pub chain-in : (rs : List Row) (at end : ℕ) → at ≤ length s / 4 → Chain RowHere end rs at → end ≤ length s / 4
+  chain-in [] at end le c = omega (arith, c)
+  chain-in (r ∷ rs) at end le c = chain-in rs c.0 end (row-in at c.0 r c.1.0) c.1.1
+
   -- ══ Bindings and bounds, and what remains, as rows ══
 
-  bounds-rows : (ns : List ℕ) (at end : ℕ) → Chain (λ i x e. GoodBound pool table 0 s i (var x) e) end ns at → Chain RowHere end (map bound ns) at
-  bounds-rows [] at end c = c
-  bounds-rows (x ∷ ns) at end c = (c.0, (c.1.0, bounds-rows ns c.0 end c.1.1))
+  bounds-rows : (ns : List ℕ) (at : ℕ) → HoldsBounds s (map (λ n. var n) ns) at → Chain RowHere (at + length ns) (map bound ns) at
+  unfolding HoldsBounds
+  bounds-rows [] at h = sym (add-zero at)
+  bounds-rows (x ∷ ns) at h = let k : at + 1 + length ns ≡ at + length (x ∷ ns) = omega arith in (at + 1, ((h.0, refl), rw k at (bounds-rows ns (at + 1) h.1)))
 
-  pub solved-rows : (bs : List (Binding ℕ)) (ns : List ℕ) (at mid end : ℕ) → Chain (GoodBinding pool table 0 s) mid bs at
-      → Chain (λ i x e. GoodBound pool table 0 s i (var x) e) end ns mid
-      → Chain RowHere end (map binding bs ++ map bound ns) at
-  solved-rows [] ns at mid end b c = subst (λ (i : ℕ). Chain RowHere end (map bound ns) i) (sym b) (bounds-rows ns mid end c)
-  solved-rows (x ∷ bs) ns at mid end b c = (b.0, (b.1.0, solved-rows bs ns b.0 mid end b.1.1 c))
+  -- bindings, and then other rows
+  binds-rows : (bs : List (Binding ℕ)) (rs : List Row) (at end : ℕ) → HoldsAll HoldsBinding sizeBinding s bs at → Chain RowHere end rs (at + sum_of sizeBinding bs)
+      → Chain RowHere end (map binding bs ++ rs) at
+  unfolding HoldsAll
+  binds-rows [] rs at end h c = let z : at + 0 ≡ at = omega arith in rw z at c
+  binds-rows (b ∷ bs) rs at end h c =
+      let k : at + (sizeBinding b + sum_of sizeBinding bs) ≡ at + sizeBinding b + sum_of sizeBinding bs = omega arith in
+      (at + sizeBinding b, ((h.0, refl), binds-rows bs rs (at + sizeBinding b) end h.1 (rw k at c)))
 
-  pub left-rows : (cs : List (Con ℕ)) (at end : ℕ) → Chain (GoodCon pool table 0 s) end cs at → Chain RowHere end (map left cs) at
-  left-rows [] at end c = c
-  left-rows (x ∷ cs) at end c = (c.0, (c.1.0, left-rows cs c.0 end c.1.1))
+  pub solved-rows : (b n : ℕ) (bs : List (Binding ℕ)) (ns : List ℕ) → IsSolved s b n bs ns → RowsAt 0 (b + n) (map binding bs ++ map bound ns)
+  solved-rows b n bs ns h =
+      let k : b + length ns ≡ b + n = omega (arith, h.bounds.ends) in
+      let c = rw k at (bounds-rows ns b h.bounds.held) in
+      record { chain = binds-rows bs (map bound ns) 0 (b + n) h.binds.held (subst (λ (i : ℕ). Chain RowHere (b + n) (map bound ns) i) h.binds.past c) }
+
+  left-chain : (cs : List (Con ℕ)) (at : ℕ) → HoldsCons s cs at → Chain RowHere (at + sum_of sizeCon cs) (map left cs) at
+  unfolding HoldsCons
+  left-chain [] at h = sym (add-zero at)
+  left-chain (c ∷ cs) at h =
+      let k : at + sizeCon c + sum_of sizeCon cs ≡ at + (sizeCon c + sum_of sizeCon cs) = omega arith in
+      (at + sizeCon c, ((h.0, refl), rw k at (left-chain cs (at + sizeCon c) h.1)))
+
+  pub left-rows : (cs : List (Con ℕ)) (at end : ℕ) → IsCons s at end cs → RowsAt at end (map left cs)
+  left-rows cs at end h = record { chain = rw (sym h.ends) at (left-chain cs at h.held) }

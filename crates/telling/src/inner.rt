@@ -1,4 +1,4 @@
-//! Rows that stand in a lent slice: each function asks for records there whose names are held.
+//! Rows that stand in a lent slice: each function asks for rows that are held there.
 ghost use Rattle.std.specs.Prelude.{◌≡◌, List, ℕ, ◌++◌, ◌≤◌, length};
 ghost use Rattle.rules.specs.Base.{collect};
 ghost use Rattle.rules.specs.Grammar.{ascii};
@@ -72,8 +72,8 @@ fn put_left<S: Sink>(names: NameTable, constraint: Constraint, to: &mut S) -> Re
 // Puts the line of the binding, the bound or the constraint at a place.
 fn put_row<S: Sink>(names: NameTable, s: &[u32], at: usize, to: &mut S) -> Result<(), S::Error>
     requires near { length s.now ≤ 4_000_000_000 }
-    requires there { (r : Row) × ((e : ℕ) × RowHere names.pool.now names.table.now s.now at r e) }
-    ensures { (r : Row) (e : ℕ) → RowHere names.entry.pool.now names.entry.table.now s.now at r e
+    requires there { (r : Row) × ((e : ℕ) × RowHere s.now at r e) }
+    ensures { (r : Row) (e : ℕ) → RowHere s.now at r e
         → Puts (S.place to.old) (rowText (name_of names.entry.pool.now names.entry.table.now) r) result (S.place to.new) }
 {
     match view_at(s, at) {
@@ -92,8 +92,8 @@ pub fn put_rows<S: Sink>(
     to: &mut S,
 ) -> Result<(), S::Error>
     requires near { length s.now ≤ 4_000_000_000 }
-    requires there { (rs : List Row) × RowsAt names.pool.now names.table.now s.now at end rs }
-    ensures { (rs : List Row) → RowsAt names.entry.pool.now names.entry.table.now s.now at end rs
+    requires there { (rs : List Row) × RowsAt s.now at end rs }
+    ensures { (rs : List Row) → RowsAt s.now at end rs
         → Puts (S.place to.old) (collect (rowText (name_of names.entry.pool.now names.entry.table.now)) rs) result (S.place to.new) }
 {
     if end <= at {

@@ -1,19 +1,19 @@
 -- One constraint after another: bindings put in, measured, tested.
 use Rattle.std.specs.Prelude.{◌≡◌, Bool, false, ℕ, ◌+◌, ◌/◌, ◌≤◌, ◌<◌, leb, eqb, length, Result, Ok, Err}
 use Rattle.std.proofs.Math.Path.{refl, sym, ap, subst}
-use Rattle.std.proofs.Common.{◌∙◌}
+use Rattle.std.proofs.Common.{◌∙◌, add-one}
 use Rattle.std.proofs.Math.Bool.{true, and-eq-true_iff}
 use mathlib.Core.List.{List, [], ◌∷◌, map, append-nil}
-use Rattle.std.proofs.Math.Option.{some}
+use Rattle.std.proofs.Math.Option.{Option, none, some}
 use Rattle.std.proofs.Math.Decide.{dec_le}
 use native.Mathlib.Omega.{arith}
 use borrow.Author.Tests.{leb-true, le-leb, eq-eqb, ne_eqb}
 use Rattle.std.proofs.Math.Seq.{sets}
 use Rattle.rules.specs.Base.{Got, got, refused, ◌>>=◌, bounded, sized, all, collect, sum_of, max_of}
-use Rattle.rules.specs.Judging.{failed, judgeCon, judge}
+use Rattle.rules.specs.Judging.{failed, judgeCon}
 use Rattle.rules.specs.Meaning.{holds}
 use Rattle.rules.specs.Names.{table_of, names_of}
-use Rattle.rules.specs.Refusals.{number_of, told, toldBy}
+use Rattle.rules.specs.Refusals.{number_of, toldBy}
 use Rattle.rules.specs.Replacing.{replaceCon, bindings}
 use Rattle.rules.specs.Trees.{Open, Ty, Con, Binding, sizeCon, depthCon, opensCon}
 use Rattle.rules.specs.WellFormed.{goodTy, goodCon}
@@ -37,6 +37,7 @@ use Rattle.replacing.specs.Left.{went-same, Left, Went}
 use Rattle.replacing.specs.LineRules.{con, sizeLine, writeLine, HeldLine, replaceLine, line-some}
 use Rattle.replacing.specs.Runs.{HoldsAll}
 use Rattle.replacing.specs.Well.{Lent}
+use Rattle.trials.specs.Failing.{failing}
 
 -- ══ 6 counts as failure ══
 
@@ -197,14 +198,19 @@ module _ (pool table : List ℕ) where
   SetThere set cs = PlainLines pool table set (map con cs) 0 (length set / 4)
 
   module _ (set : List ℕ) (bs : List (Binding ℕ)) (xs : List ℕ) (cs : List (Con ℕ)) where
-    -- what is left, and that it decides
-    pub record Going (at : ℕ) : Type 0 where
+    -- which constraint fails first, where k come before these
+    abbrev fails-in : ℕ → List (Con ℕ) → Got (Option ℕ)
+    fails-in k ds = failing (numbers pool table) bounded bs xs k ds
+
+    -- what is left after k of them, and that it decides
+    pub record Going (k at : ℕ) : Type 0 where
+      pub few : k ≤ at
       pub rest : List (Con ℕ)
       pub plain : PlainLines pool table set (map con rest) at (length set / 4)
-      pub decides : judge (numbers pool table) bounded bs xs cs ≡ judge (numbers pool table) bounded bs xs rest
+      pub decides : fails-in 0 cs ≡ fails-in k rest
 
-    pub going_start : SetThere set cs → Going 0
-    going_start h = record { rest = cs; plain = h; decides = refl }
+    pub going_start : SetThere set cs → Going 0 0
+    going_start h = record { few = omega arith; rest = cs; plain = h; decides = refl }
 
     -- the first of what is left
     pub record First (at : ℕ) (rest : List (Con ℕ)) : Type 0 where
@@ -214,9 +220,9 @@ module _ (pool table : List ℕ) where
       pub there : ConThere set at one
       pub plain : PlainLines pool table set (map con others) (at + sizeCon one) (length set / 4)
 
-    pub first : (at : ℕ) → at < length set / 4 → (g : Going at) → First at g.rest
+    pub first : (k at : ℕ) → at < length set / 4 → (g : Going k at) → First at g.rest
     unfolding HoldsAll all
-    first at lt g = go g.rest g.plain
+    first k at lt g = go g.rest g.plain
       where
         go : (rest : List (Con ℕ)) → PlainLines pool table set (map con rest) at (length set / 4) → First at rest
         go [] p = absurd (omega (arith, p.ends))
@@ -231,39 +237,40 @@ module _ (pool table : List ℕ) where
               plain = record { held = p.held.1; good = r.1; ends = omega (arith, p.ends) };
             }
 
-    module _ (at : ℕ) (lt : at < length set / 4) (g : Going at) where
-      turn : judge (numbers pool table) bounded bs xs cs ≡ judge (numbers pool table) bounded bs xs ((first at lt g).one ∷ (first at lt g).others)
-      turn = g.decides ∙ ap (judge (numbers pool table) bounded bs xs) (first at lt g).is
+    module _ (k at : ℕ) (lt : at < length set / 4) (g : Going k at) where
+      turn : fails-in 0 cs ≡ fails-in k ((first k at lt g).one ∷ (first k at lt g).others)
+      turn = g.decides ∙ ap (fails-in k) (first k at lt g).is
 
-      pub going-refused : {k : Refusal} → Tried bs xs (first at lt g).one at (Err k) → refused (number_of k) ≡ judge (numbers pool table) bounded bs xs cs
-      unfolding judge
+      pub going-refused : {r : Refusal} → Tried bs xs (first k at lt g).one at (Err r) → refused (number_of r) ≡ fails-in 0 cs
+      unfolding failing
       going-refused t = sym (turn ∙ rw (← t.says))
 
-      module _ {b : Bool} {next : ℕ} (t : Tried bs xs (first at lt g).one at (Ok (b, next))) where
-        pub going-no : b ≡ false → got false ≡ judge (numbers pool table) bounded bs xs cs
-        unfolding judge
-        going-no i = let e : got false ≡ judgeCon (numbers pool table) bounded bs xs (first at lt g).one = rw (← i) t.says in sym (turn ∙ rw (← e))
+      module _ {b : Bool} {next : ℕ} (t : Tried bs xs (first k at lt g).one at (Ok (b, next))) where
+        pub going-no : b ≡ false → got (some k) ≡ fails-in 0 cs
+        unfolding failing
+        going-no i = let e : got false ≡ judgeCon (numbers pool table) bounded bs xs (first k at lt g).one = rw (← i) t.says in sym (turn ∙ rw (← e))
 
-        ends : b ≡ true → next ≡ at + sizeCon (first at lt g).one
+        ends : b ≡ true → next ≡ at + sizeCon (first k at lt g).one
         ends i = t.ends next (rw i)
 
-        pub going_on : b ≡ true → Going next
-        unfolding judge
-        going_on i = let e : got true ≡ judgeCon (numbers pool table) bounded bs xs (first at lt g).one = rw (← i) t.says in record {
-          rest = (first at lt g).others;
-          plain = subst (λ (k : ℕ). PlainLines pool table set (map con (first at lt g).others) k (length set / 4)) (sym (ends i)) (first at lt g).plain;
-          decides = turn ∙ rw (← e);
+        pub going_on : b ≡ true → Going (k + 1) next
+        unfolding failing
+        going_on i = let e : got true ≡ judgeCon (numbers pool table) bounded bs xs (first k at lt g).one = rw (← i) t.says in record {
+          few = omega (arith, ends i, g.few, line-some (con (first k at lt g).one));
+          rest = (first k at lt g).others;
+          plain = subst (λ (i : ℕ). PlainLines pool table set (map con (first k at lt g).others) i (length set / 4)) (sym (ends i)) (first k at lt g).plain;
+          decides = turn ∙ rw (← e, add-one k);
         }
 
         pub further : b ≡ true → (at < next) × (next ≤ length set / 4)
         further i =
             let e = ends i in
-            (omega (arith, e, line-some (con (first at lt g).one)), omega (arith, e, (first at lt g).plain.ends))
+            (omega (arith, e, line-some (con (first k at lt g).one)), omega (arith, e, (first k at lt g).plain.ends))
 
-    pub going_end : (at : ℕ) → length set / 4 ≤ at → Going at → got true ≡ judge (numbers pool table) bounded bs xs cs
-    unfolding judge
-    going_end at le g = sym (g.decides ∙ go g.rest g.plain)
+    pub going_end : (k at : ℕ) → length set / 4 ≤ at → Going k at → got none ≡ fails-in 0 cs
+    unfolding failing
+    going_end k at le g = sym (g.decides ∙ go g.rest g.plain)
       where
-        go : (rest : List (Con ℕ)) → PlainLines pool table set (map con rest) at (length set / 4) → judge (numbers pool table) bounded bs xs rest ≡ got true
+        go : (rest : List (Con ℕ)) → PlainLines pool table set (map con rest) at (length set / 4) → fails-in k rest ≡ got none
         go [] p = refl
         go (c ∷ rest) p = absurd (omega (arith, p.ends, line-some (con c)))

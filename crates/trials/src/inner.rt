@@ -2,10 +2,11 @@
 ghost use Rattle.std.specs.Prelude.{◌≡◌, List, ℕ, ◌≤◌, length};
 ghost use Rattle.rules.specs.Base.{bounded, refused};
 ghost use Rattle.rules.specs.Judging.{failed, judge};
-ghost use Rattle.rules.specs.Refusals.{number_of, told};
+ghost use Rattle.rules.specs.Refusals.{number_of, told, toldBy, toldOption};
 ghost use Rattle.rules.specs.Trees.{Con, Binding};
 ghost use Rattle.records.specs.Good.{numbers};
 ghost use Rattle.queries.specs.Marks.{Marks};
+ghost use Rattle.trials.specs.Failing.{failing};
 ghost use Rattle.trials.specs.Trials.{ConStands, tested, Put, ConThere, Tried, SetThere};
 
 use meaning::inner::truth::holds;
@@ -63,7 +64,39 @@ fn try_con(
     }
 }
 
-// Are all constraints of the set true? The first that isn't, or has no answer, decides.
+/// Which constraint of the set isn't true, the first, counted from 0? The first that isn't, or has no answer, decides.
+pub fn first_failing(
+    names: NameTable,
+    set: &[u32],
+    places: &[u32],
+    types: &[u32],
+    bounds: &[bool; NAMES],
+    work: &mut [u32],
+) -> Result<Option<usize>, Refusal>
+    requires there { (cs : List (Con ℕ)) × SetThere names.pool.now names.table.now set.now cs }
+    requires put { (bs : List (Binding ℕ)) × Put names.pool.now names.table.now places.now types.now bs }
+    requires marked { (xs : List ℕ) × Marks bounds.now xs }
+    requires set_short { length set.now ≤ 8192 }
+    requires work_long { 8192 ≤ length work.old }
+    ensures { (cs : List (Con ℕ)) (bs : List (Binding ℕ)) (xs : List ℕ) →
+        SetThere names.entry.pool.now names.entry.table.now set.now cs → Put names.entry.pool.now names.entry.table.now places.now types.now bs → Marks bounds.now xs →
+        toldBy toldOption result ≡ failing (numbers names.entry.pool.now names.entry.table.now) bounded bs xs 0 cs }
+{
+    let n = set.len() / 4;
+    let mut at = 0;
+    let mut before = 0;
+    while at < n {
+        let (holds, next) = try_con(names, set, at, places, types, bounds, work)?;
+        if !holds {
+            return Ok(Some(before));
+        }
+        at = next;
+        before += 1;
+    }
+    Ok(None)
+}
+
+/// Are all constraints of the set true?
 pub fn try_all(
     names: NameTable,
     set: &[u32],
@@ -81,14 +114,9 @@ pub fn try_all(
         SetThere names.entry.pool.now names.entry.table.now set.now cs → Put names.entry.pool.now names.entry.table.now places.now types.now bs → Marks bounds.now xs →
         told result ≡ judge (numbers names.entry.pool.now names.entry.table.now) bounded bs xs cs }
 {
-    let n = set.len() / 4;
-    let mut at = 0;
-    while at < n {
-        let (holds, next) = try_con(names, set, at, places, types, bounds, work)?;
-        if !holds {
-            return Ok(false);
-        }
-        at = next;
+    match first_failing(names, set, places, types, bounds, work) {
+        Ok(None) => Ok(true),
+        Ok(Some(_)) => Ok(false),
+        Err(why) => Err(why),
     }
-    Ok(true)
 }

@@ -1,4 +1,5 @@
 mod Asked
+mod Bound
 mod FieldsFound
 mod OneVariable
 mod Seen

@@ -1,3 +1,4 @@
+pub mod Binds
 pub mod Once
 pub mod Puts
 pub mod Sets

@@ -38,7 +38,7 @@ use Rattle.records.specs.declared.View.{View}
 pub ℕ-set : IsSet ℕ
 ℕ-set = hedberg ℕ_discrete
 
-View-set : IsSet View
+pub View-set : IsSet View
 View-set = Prim.hlevel (⊎_set, ℕ-set)
 
 module _ (s : List ℕ) where

@@ -2,7 +2,7 @@
 use Rattle.std.specs.Prelude.{ℕ, List, [], ◌∷◌, Option, None, Some}
 use Rattle.rules.specs.Exponents.{frac}
 use Rattle.rules.specs.Trees as tree
-use Rattle.rules.specs.Trees.{◌↑◌}
+use Rattle.rules.specs.Trees.{◌↑◌, ◌≔◌}
 use Rattle.rules.specs.Writing.{signed}
 use Rattle.records.specs.Holds.{openOf, atomOf, basicOf}
 use Rattle.types.specs.Sets.{placed}
@@ -13,6 +13,8 @@ use Rattle.types.specs.declared.Factor as factors
 use Rattle.types.specs.declared.Product as products
 use Rattle.types.specs.declared.Constraint as cons
 use Rattle.types.specs.declared.Constraints as sets
+use Rattle.types.specs.declared.Binding as bound
+use Rattle.types.specs.declared.Bindings as bindings
 use Rattle.types.specs.declared.Demand.{Demand}
 use Rattle.types.specs.declared.Demand.TheVariants as demand
 use Rattle.types.specs.declared.Shape.{Shape}
@@ -78,3 +80,15 @@ cons_of cs = placed cs.words.now cs.at cs.trees.0
 abbrev pub constraints_together : Option (cons.Constraint × sets.Constraints) → List (List ℕ × ℕ × tree.Con ℕ)
 constraints_together None = []
 constraints_together (Some v) = con_of v.0 ∷ cons_of v.1
+
+-- a binding
+abbrev pub binding_of : bound.Binding → tree.Binding ℕ
+binding_of b = b.name ≔ b.to.tree.0
+
+abbrev pub bindings_of : bindings.Bindings → List (tree.Binding ℕ)
+bindings_of bs = bs.trees.0
+
+-- the bindings that a first one and the rest are
+abbrev pub bindings_together : Option (bound.Binding × bindings.Bindings) → List (tree.Binding ℕ)
+bindings_together None = []
+bindings_together (Some v) = binding_of v.0 ∷ bindings_of v.1

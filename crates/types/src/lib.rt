@@ -11,6 +11,7 @@ pub mod writing;
 ghost use Rattle.std.specs.Prelude.{◌≡◌, ◌≤◌, length};
 ghost use Rattle.types.specs.Once.{ATree, ACon, Trees, FieldTrees, Factors, one-tree, one-con, one-list, one-field-list, one-product};
 ghost use Rattle.types.specs.Sets.{Cons, one-set};
+ghost use Rattle.types.specs.Binds.{Binds, one-binds};
 
 use records::{Atom, Basic, Open};
 
@@ -90,6 +91,23 @@ pub struct Constraints<'a> {
     pub end: usize,
     pub ghost near: { length words.now ≤ 4_000_000_000 },
     pub ghost trees: { Cons words.now at end } by { one-set words.now at end },
+}
+
+/// A binding: a variable, and the type that it is bound to.
+#[derive(Clone, Copy)]
+pub struct Binding<'a> {
+    pub name: u32,
+    pub to: Type<'a>,
+}
+
+/// Bindings, one after another up to a place.
+#[derive(Clone, Copy)]
+pub struct Bindings<'a> {
+    pub words: &'a [u32],
+    pub at: usize,
+    pub end: usize,
+    pub ghost near: { length words.now ≤ 4_000_000_000 },
+    pub ghost trees: { Binds words.now at end } by { one-binds words.now at end },
 }
 
 /// What a constraint asks: that two types are equal, that a type is a dimension, that a dimension is a scalar, or that a type has the field of that name, and

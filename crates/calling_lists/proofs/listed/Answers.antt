@@ -22,7 +22,7 @@ returns-in-22 c =
 
 pub returns-in-23 : goal.returns-in-23
 returns-in-23 c =
-    list-23 _ _ _ _ _ _ _ _ c.in-23.is c.solution.ensures c.solve.ensures
+    list-23 _ _ _ _ _ _ _ _ c.in-23.is c.solution.ensures c.solve.ensures.called
 
 pub returns-in-24 : goal.returns-in-24
 returns-in-24 c =

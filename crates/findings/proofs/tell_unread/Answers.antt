@@ -4,23 +4,15 @@ use Rattle.findings.specs.Whole.{titled, unread-text}
 use Rattle.findings.proofs.tell_unread.Goals as goal
 
 pub returns-in_err-put_title : goal.returns-in_err-put_title
-returns-in_err-put_title g c = record {
-  kept = cut _ _ c.from_residual.ensures.0 c.in_err-put_title.ensures;
-  as_shown = λ bs e names cs new. rw titled (cut _ _ c.from_residual.ensures.0 c.in_err-put_title.ensures);
-}
+returns-in_err-put_title g c = λ names cs new. rw titled (cut _ _ c.from_residual.ensures.0 c.in_err-put_title.ensures)
 
 pub returns-in_err-put_unread : goal.returns-in_err-put_unread
 returns-in_err-put_unread g c =
-    let k = c.from_residual-in_err-put_unread.ensures.0 in
-    record {
-      kept = then _ c.in_ok-put_title.ensures (cut _ _ k c.in_err-put_unread.ensures);
-      as_shown = λ bs e names cs new.
-          rw (titled, unread-text names c.args.name.now cs new) (then _ c.in_ok-put_title.ensures (cut _ _ k c.in_err-put_unread.ensures));
-    }
+    λ names cs new.
+    rw (titled, unread-text names c.args.name.now cs new)
+    (then _ c.in_ok-put_title.ensures (cut _ _ c.from_residual-in_err-put_unread.ensures.0 c.in_err-put_unread.ensures))
 
 pub returns : goal.returns
-returns g c = record {
-  kept = then _ c.in_ok-put_title.ensures (then _ c.in_ok-put_unread.ensures c.put.ensures);
-  as_shown = λ bs e names cs new.
-      rw (titled, unread-text names c.args.name.now cs new) (then _ c.in_ok-put_title.ensures (then _ c.in_ok-put_unread.ensures (rw e at c.put.ensures)));
-}
+returns g c =
+    λ names cs new.
+    rw (titled, unread-text names c.args.name.now cs new) (then _ c.in_ok-put_title.ensures (then _ c.in_ok-put_unread.ensures c.show_line.ensures))

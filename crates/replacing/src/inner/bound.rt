@@ -1,14 +1,18 @@
 //! Looking open names up.
 ghost use Rattle.std.specs.Prelude.{◌≡◌, ℕ, ◌≤◌, get_or};
+ghost use Rattle.rules.specs.Base.{any};
 ghost use Rattle.rules.specs.Refusals.{toldOptionBy};
 ghost use Rattle.rules.specs.Replacing.{Look};
+ghost use Rattle.records.specs.Views.{viewAt};
 ghost use Rattle.records.specs.Holds.{openOf};
+ghost use Rattle.queries.specs.Scans.{opensIn, opensView};
 ghost use Rattle.types.specs.Shapes.{tree_of};
 ghost use Rattle.replacing.specs.Places.{nameWord, Tabled, word_of};
 ghost use Rattle.replacing.specs.Runs.{LookedUp};
+ghost use Rattle.replacing.specs.Leaves.{replaced};
 
 use crate::substitution::Substitution;
-use queries::inner::end_of;
+use queries::inner::{end_of, opens_at};
 use records::Open;
 use types::Type;
 
@@ -67,5 +71,27 @@ impl<'a> Substitution<'a> {
             words: self.types,
             at: w as usize - 1,
         })
+    }
+
+    /// Is the open name of the record at a place replaced, if it has one?
+    fn changes(self, s: &[u32], i: usize) -> bool
+        ensures { result ≡ any (replaced self.entry.lent.0) (opensView (viewAt s.now i)) }
+    {
+        match opens_at(s, i) {
+            Some(o) => self.look_up(o).is_some(),
+            None => false,
+        }
+    }
+
+    /// Is one of the open names in the records from b up to e replaced?
+    pub fn touches(self, s: &[u32], b: usize, e: usize) -> bool
+        ensures { result ≡ any (replaced self.entry.lent.0) (opensIn s.now b e) }
+    {
+        for i in b..e {
+            if self.changes(s, i) {
+                return true;
+            }
+        }
+        false
     }
 }

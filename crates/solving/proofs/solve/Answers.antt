@@ -1,13 +1,14 @@
 -- `solve` meets its contract.
 use Rattle.lending.specs.Lent.{Long, long, short}
-use Rattle.solving.specs.Entry.{call-short, called, long-table}
+use Rattle.solving.specs.Entry.{short-stands, called-stands, call-short, called, long-table}
 use mathlib.Core.Bool.{not}
 use mathlib.Core.Path.{ap}
 use Rattle.solving.proofs.solve.Goals as goal
 
 pub returns-then-not-lent : goal.returns-then-not-lent
 returns-then-not-lent c =
-    call-short _ _ _ _ _ _ c.stopped.ensures (short _ _ _ _ c.lent.result c.lent.ensures (ap not c.if-not-lent.true))
+    let e = short _ _ _ _ c.lent.result c.lent.ensures (ap not c.if-not-lent.true) in
+    record { stands = short-stands _ _ c.args.words.now _ _ _ c.stopped.ensures e; called = call-short _ _ _ _ _ _ c.stopped.ensures e }
 
 pub is_good-good-requires : goal.is_good-good-requires
 is_good-good-requires c = let enough : Long c.args.pool.now c.args.table.now c.args.res.now c.args.work.now = long _ _ _ _ c.lent.result c.lent.ensures (ap not c.if-not-lent.false) in
@@ -21,4 +22,7 @@ solve_set-s-requires c = let enough : Long c.args.pool.now c.args.table.now c.ar
 
 pub returns : goal.returns
 returns c = let enough : Long c.args.pool.now c.args.table.now c.args.res.now c.args.work.now = long _ _ _ _ c.lent.result c.lent.ensures (ap not c.if-not-lent.false) in
-    called _ _ _ _ _ c.solve_set-s.new.work _ _ _ c.solve_set-s.auto.work (enough).met c.solve_set-s.ensures c.clear.ensures
+    record {
+      stands = called-stands _ _ _ _ _ _ _ enough.met c.solve_set-s.ensures;
+      called = called _ _ _ _ _ c.solve_set-s.new.work _ _ _ c.solve_set-s.auto.work enough.met c.solve_set-s.ensures c.clear.ensures;
+    }

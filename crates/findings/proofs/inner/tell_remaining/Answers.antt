@@ -17,12 +17,12 @@ returns-in_err-put_remaining g c =
 pub put_rows-requires : goal.put_rows-requires
 put_rows-requires g c =
     let w = c.requires.there in
-    record { near = c.requires.near; there = (_, record { chain = left-rows _ _ c.args.s.now w.0 c.args.at c.args.end w.1.lines }) }
+    record { near = c.requires.near; there = (_, left-rows c.args.s.now w.0 0 c.args.end w.1) }
 
 pub returns : goal.returns
 returns g c =
     λ cs new ds h.
-    let lines = c.put_rows.ensures _ (record { chain = left-rows _ _ c.args.s.now ds c.args.at c.args.end h.lines }) in
+    let lines = c.put_rows.ensures _ (left-rows c.args.s.now ds 0 c.args.end h) in
     rw (titled, remains-text (name_of c.args.names.pool.now c.args.names.table.now) c.args.name.now cs new)
     (then _ c.in_ok-put_title.ensures (then _ c.in_ok-put_remaining.ensures
     (rw (left-text (name_of c.args.names.pool.now c.args.names.table.now) ds) at lines)))

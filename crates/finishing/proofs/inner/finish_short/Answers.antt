@@ -12,7 +12,7 @@ pub returns-then-left-gt0 : goal.returns-then-left-gt0
 returns-then-left-gt0 c = λ st h.
     let b = binds-in _ _ _ _ _ st h in
     let k = set _ _ _ _ _ st h in
-    finished-remaining _ _ st _ _ _ (of-state _ _ _ _ _ st h c.copy_others-arg-2-1.given.1.0 c.copy_others-left.ensures) c.if-left-gt0.true (omega (arith, h.short, b.0, k.ends)) c.requires.room
+    finished-remaining _ _ st _ _ _ (of-state _ _ _ _ _ st h c.copy_others-arg-2-1.given.1.0 c.copy_others-left.ensures) c.if-left-gt0.true (omega (arith, h.short, b.0, k.ends)) c.requires.room h.cons.good
 
 pub accept-bounds-requires-clause-standing : goal.accept-bounds-requires-clause-standing
 accept-bounds-requires-clause-standing c =

@@ -1,36 +1,29 @@
 -- `inner::confirm` meets its contract.
-use mathlib.Core.List.{[], map}
-use native.Mathlib.Omega.{arith}
-use Rattle.rules.specs.Trees.{var}
-use Rattle.queries.specs.MarkLaws.{marks-none}
-use Rattle.line_calls.specs.Typed.{judged-yes, judged-no, judged-refused, put-in, marked}
+use Rattle.std.specs.Prelude.{Ok}
+use Rattle.std.proofs.Common.{ap, ◌∙◌, arith}
+use Rattle.judging.specs.Found.{listed}
+use Rattle.line_calls.specs.Typed.{judged-yes, judged-no, judged-refused}
 use Rattle.line_calls.proofs.inner.confirm.Goals as goal
 
-pub try_all-requires : goal.try_all-requires
-try_all-requires c =
+pub judge_found-requires : goal.judge_found-requires
+judge_found-requires c =
     let (cs, h) = c.requires.stands in
-    let (bs, (ns, f)) = c.requires.answered in
-    record {
-      there = (cs, h.there);
-      put = (bs, put-in _ _ f (c.fill.ensures _ _ bs c.args.names.good f.listed));
-      marked = (ns, marked ns (c.mark_all.ensures c.args.names.pool.now c.args.names.table.now (map (λ n. var n) ns) [] f.bounds marks-none));
-      set_short = h.short;
-      work_long = omega (arith, c.requires.room);
-    }
+    record { set_there = (cs, h.there); found_there = c.requires.answered; set_short = h.short; work_long = omega (arith, c.requires.room) }
 
 pub put_type-requires : goal.put_type-requires
 put_type-requires c =
     let (bs, (ns, f)) = c.requires.answered in
-    (_, (c.fill.ensures _ _ bs c.args.names.good f.listed).tabled)
+    (_, (c.fill.ensures _ _ bs c.args.names.good (listed _ _ _ _ _ bs ns f)).tabled)
 
-pub returns-in-Ok-true : goal.returns-in-Ok-true
-returns-in-Ok-true c = λ cs bs ns h f.
-    judged-yes _ _ cs bs ns _ (c.try_all.ensures cs bs ns h.there (put-in _ _ f (c.fill.ensures _ _ bs c.args.names.good f.listed)) (marked ns (c.mark_all.ensures c.args.names.pool.now c.args.names.table.now (map (λ n. var n) ns) [] f.bounds marks-none))) _ _ _ (rw c.in-Ok-true.field-0-test at c.in-Ok-true.is) (omega (arith, c.try_all.auto.work, c.requires.room)) (c.put_type.ensures _ (c.fill.ensures _ _ bs c.args.names.good f.listed).tabled)
+pub returns-in-Ok-None : goal.returns-in-Ok-None
+returns-in-Ok-None c = λ cs bs ns h f.
+    judged-yes _ _ cs bs ns _ (c.judge_found.ensures cs bs ns h.there f).verdict _ _ _ (c.in-Ok-None.is ∙ ap Ok c.in-Ok-None.field-0-is)
+    (omega (arith, c.judge_found.auto.work, c.requires.room)) (c.put_type.ensures _ (c.fill.ensures _ _ bs c.args.names.good (listed _ _ _ _ _ bs ns f)).tabled)
 
-pub returns-in-Ok-false : goal.returns-in-Ok-false
-returns-in-Ok-false c = λ cs bs ns h f.
-    judged-no _ _ cs bs ns _ (c.try_all.ensures cs bs ns h.there (put-in _ _ f (c.fill.ensures _ _ bs c.args.names.good f.listed)) (marked ns (c.mark_all.ensures c.args.names.pool.now c.args.names.table.now (map (λ n. var n) ns) [] f.bounds marks-none))) _ (rw c.in-Ok-false.field-0-test at c.in-Ok-false.is)
+pub returns-in-Ok-Some : goal.returns-in-Ok-Some
+returns-in-Ok-Some c = λ cs bs ns h f.
+    judged-no _ _ cs bs ns _ (c.judge_found.ensures cs bs ns h.there f).verdict _ _ (c.in-Ok-Some.is ∙ ap Ok c.in-Ok-Some.field-0-is)
 
 pub returns-in-Err : goal.returns-in-Err
 returns-in-Err c = λ cs bs ns h f.
-    judged-refused _ _ cs bs ns _ (c.try_all.ensures cs bs ns h.there (put-in _ _ f (c.fill.ensures _ _ bs c.args.names.good f.listed)) (marked ns (c.mark_all.ensures c.args.names.pool.now c.args.names.table.now (map (λ n. var n) ns) [] f.bounds marks-none))) _ _ c.in-Err.is
+    judged-refused _ _ cs bs ns _ (c.judge_found.ensures cs bs ns h.there f).verdict _ _ c.in-Err.is

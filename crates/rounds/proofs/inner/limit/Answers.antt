@@ -5,10 +5,10 @@ use Rattle.rounds.specs.Limits.{over, within}
 use Rattle.rounds.proofs.inner.limit.Goals as goal
 
 pub fits-requires : goal.fits-requires
-fits-requires c = let (st, d) = c.requires.made in record { stand = (stateLines st, d.lines) }
+fits-requires c = let (st, d, k) = c.requires.made in record { stand = (stateLines st, d.lines, k) }
 
 pub returns-then-fits : goal.returns-then-fits
-returns-then-fits c = λ st d. within _ _ st _ _ _ d (sym (c.fits.ensures (stateLines st) d.lines) ∙ c.if-fits.true)
+returns-then-fits c = λ st d k. within _ _ st _ _ _ d (sym (c.fits.ensures (stateLines st) d.lines k) ∙ c.if-fits.true)
 
 pub returns-else-fits : goal.returns-else-fits
-returns-else-fits c = λ st d. over _ _ st _ _ (sym (c.fits.ensures (stateLines st) d.lines) ∙ c.if-fits.false)
+returns-else-fits c = λ st d k. over _ _ st _ _ (sym (c.fits.ensures (stateLines st) d.lines k) ∙ c.if-fits.false)

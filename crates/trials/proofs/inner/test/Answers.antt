@@ -1,6 +1,4 @@
-use mathlib.Core.Path.{sym, ap, ◌∙◌}
 use mathlib.Core.List.{[], ◌∷◌}
-use Rattle.rules.specs.Base.{got}
 use Rattle.replacing.specs.LineRules.{con}
 use Rattle.trials.specs.Trials.{long, there, deep, stands, flat}
 use Rattle.trials.proofs.inner.test.Goals as goal

@@ -1,9 +1,6 @@
 use native.Mathlib.Omega.{arith}
-use mathlib.Core.Path.{◌∙◌}
-use mathlib.Core.List.{List, []}
-use Prim.Native.Nat.{ℕ}
+use mathlib.Core.List.{[]}
 use Rattle.std.proofs.lemmas.Result.{err_from_is_err_and}
-use Rattle.rules.specs.Trees.{Con, Binding}
 use Rattle.replacing.specs.LineRules.{con}
 use Rattle.trials.specs.Trials.{came, stops, written, tried, untested, fails, has-none}
 use Rattle.trials.proofs.inner.try_con.Goals as goal

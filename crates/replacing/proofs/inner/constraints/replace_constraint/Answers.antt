@@ -1,7 +1,23 @@
 use Rattle.std.proofs.lemmas.Result.{err_from_is_err_and}
-use Rattle.replacing.proofs.Walks.{told}
+use Rattle.std.proofs.Common.{sym, subst, arith, ◌∙◌, ◌≤◌}
+use Rattle.rules.specs.Base.{bounded}
+use Rattle.rules.specs.Trees.{sizeCon}
+use Rattle.laws.specs.Untouched.{con_same}
+use Rattle.records.specs.Cut.{short-con}
+use Rattle.types.specs.Written.{Writes}
+use Rattle.replacing.specs.Well.{names}
+use Rattle.replacing.proofs.Touches.{con-untouched}
+use Rattle.replacing.proofs.Walks.{told, leaves}
 use Rattle.replacing.proofs.Constraints.{equal-good, has-good, is-good, scalar-good, equal-here, left-stop, right-stop, has-here, of-stop, asked-stop, is-here, is-stop, scalar-here, scalar-stop}
 use Rattle.replacing.proofs.inner.constraints.replace_constraint.Goals as goal
+
+pub returns-then-not-touches : goal.returns-then-not-touches
+returns-then-not-touches c =
+    let a = c.args in
+    let t = a.c.tree in
+    let u = con-untouched a.by.lent.0 a.c.words.now t.0 a.c.at c.end.result t.1 c.end.ensures (sym c.if-not-touches.true ∙ c.touches.ensures) in
+    let k : sizeCon t.0 ≤ 65_535 = omega arith in
+    leaves t.0 (con_same (names a.by.names.pool.now a.by.names.table.now) bounded a.by.lent.0 t.0 u) (subst (Writes _ _) (sym (short-con t.0 k)) c.copy_constraint.ensures)
 
 pub replace_type-requires : goal.replace_type-requires
 replace_type-requires c =

@@ -2,6 +2,7 @@
 use Rattle.std.proofs.Common.{◌≡◌, ◌+◌, ◌-◌, ◌≤◌, ◌++◌, refl, sym, ap, ◌∙◌, arith, length, take}
 use Rattle.std.proofs.lemmas.List.{drop-drop}
 use Rattle.std.proofs.lemmas.Slice.{take-put_mid, drop-put_mid}
+use Rattle.spelling.specs.Sinks.{behind}
 use Rattle.spelling.proofs.sink.FrontSink.put.Goals as goal
 
 pub returns : goal.returns
@@ -13,9 +14,11 @@ returns c =
     let e : ys ≡ bs = c.copy_from_slice.ensures.after in
     let k : length ys ≡ length bs = ap length e in
     let h : l ≤ length xs = omega arith in
+    let p = take-put_mid l (l + length bs - l) xs ys (l + length bs) (omega (arith, k)) h ∙ ap (take l xs ++◌) e in
     record {
-      puts = take-put_mid l (l + length bs - l) xs ys (l + length bs) (omega (arith, k)) h ∙ ap (take l xs ++◌) e;
+      puts = p;
       rest = drop-put_mid l (l + length bs - l) xs ys (l + length bs) (omega arith) h (omega (arith, k)) ∙ sym (drop-drop (length bs) l xs);
       full = tt;
+      kept = behind _ _ bs p;
       same = refl;
     }
