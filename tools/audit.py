@@ -1,12 +1,14 @@
 #!/usr/bin/env python3
-"""Holds the pages against the source: README.md and the pages of docs/.
+"""Holds the pages against the source: README.md, the pages of docs/ and the notes of docs/requests/.
 
-In back quotes `crate/specs/File` or `crate/proofs/File` names a file of definitions, statements or theorems, `crate/edit` a file of that crate's must-fail/,
+A bare name in back quotes stands somewhere in the source: as a word of a .rt or .antt file, of the header, of the bindings or of a script, or as the name of a file, a folder or
+an edit. In back quotes `crate/specs/File` or `crate/proofs/File` names a file of definitions, statements or theorems, `crate/specs/File.name` one of them, `crate/edit` a file of that crate's must-fail/,
 `crate::function` a public function, or another item or a module of its source. In AUDIT.md's and README.md's tables the names in back quotes behind a file or
 a function stand in that file, or are public functions of that crate. A table that was measured says so in a line
     Measured at COMMIT, KIT, MACHINE, DATE, of: CRATE ..
-and has to be measured again once the source of one of these crates has changed since.
-Prints each name that isn't found and each measured line that is too old, and how many were looked up; ends with 1 if there is one."""
+and is older than the code once the source of one of these crates has changed since: a warning.
+Prints each name that isn't found and each measured line that is too old, and how many were looked up; ends with 1 if a name isn't found."""
+import functools
 import re
 import subprocess
 import sys
@@ -14,8 +16,10 @@ from pathlib import Path
 
 ROOT = Path(__file__).resolve().parent.parent
 CRATES = ROOT / "crates"
-# what these two say of older forms is no longer there
-PAGES = [ROOT / "README.md"] + [p for p in sorted((ROOT / "docs").glob("*.md")) if not p.name.startswith("PORT")]
+# what the pages PORT.. say of older forms is no longer there
+PAGES = [ROOT / "README.md"] + [p for p in sorted((ROOT / "docs").rglob("*.md")) if not p.name.startswith("PORT")]
+SOURCES = ["crates", "include", "bindings", "compare", "tools", "examples"]
+KINDS = {".rt", ".antt", ".edit", ".h", ".c", ".rs", ".py", ".sh", ".toml", ".sheet", ".txt"}
 
 
 def source(crate):
@@ -36,6 +40,24 @@ def public(crate, name):
 def item(crate, path):
     """`crate::a::b`: is b an item, a variant or a module of the crate's source?"""
     return re.search(r"\b" + re.escape(path.split("::")[-1]) + r"\b", source(crate)) is not None
+
+
+@functools.cache
+def words():
+    """Each word of the sources, and the name of each file, folder and edit."""
+    found = set((ROOT / "crates.txt").read_text(encoding="utf-8").split())
+    for path in (p for top in SOURCES for p in (ROOT / top).rglob("*")):
+        if "out" in path.parts or "target" in path.parts:
+            continue  # what the kit and cargo make
+        found.update((path.name, path.stem))
+        if path.suffix in KINDS and path.is_file():
+            found.update(re.findall(r"[A-Za-z_][\w'-]*", path.read_text(encoding="utf-8", errors="replace")))
+    return found
+
+
+def bare(word):
+    """A name by itself: no path, no command, no letter or number alone, no word in capitals."""
+    return re.fullmatch(r"[A-Za-z_][\w'-]{2,}", word) is not None and not word.isupper()
 
 
 def file_of(item):
@@ -61,12 +83,15 @@ def tables(page):
             elif "/out/" in it:
                 continue  # what the kit makes
             elif word and "/" in it and ((CRATES / head).is_dir() or (ROOT / head).exists()):
-                here, crate = file_of(it), head
-                good = here is not None
+                path, _, name = it.partition(".") if file_of(it) is None else (it, "", "")
+                here, crate = file_of(path), head
+                good = here is not None and (not name or declared(here, name))
             elif word and strict and line.startswith("|") and here is not None and here.suffix == ".antt":
                 good = declared(here, it) or (crate is not None and public(crate, it))
             elif word and strict and line.startswith("|") and crate is not None and not (CRATES / it).is_dir():
                 good = item(crate, it)
+            elif bare(it):
+                good = it in words()
             else:
                 continue
             yield None if good else f"{page.relative_to(ROOT)}, line {number}: {it}"
@@ -77,15 +102,17 @@ def measured(page):
         said = re.match(r"Measured at ([0-9a-f]{7,40}), .*, of: ([\w ]+)\.?$", line)
         if said:
             paths = [f"crates/{c}/src" for c in said.group(2).split()]
-            same = subprocess.run(["git", "diff", "--quiet", said.group(1), "--", *paths], cwd=ROOT).returncode == 0
-            yield None if same else f"{page.relative_to(ROOT)}, line {number}: measured before the code changed"
+            same = subprocess.run(["git", "diff", "--quiet", said.group(1), "--", *paths], cwd=ROOT, stderr=subprocess.DEVNULL).returncode == 0
+            yield None if same else f"{page.relative_to(ROOT)}, line {number}: warning: measured at {said.group(1)}, before the code changed"
 
 
 def main():
-    said = [s for page in PAGES for s in (*tables(page), *measured(page))]
-    missing = [s for s in said if s is not None]
-    print(*missing, sep="\n", end="\n" if missing else "")
-    print(f"{len(said)} looked up, {len(missing)} missing")
+    names = [s for page in PAGES for s in tables(page)]
+    old = [s for page in PAGES for s in measured(page) if s is not None]
+    missing = [s for s in names if s is not None]
+    for line in (*missing, *old):
+        print(line)
+    print(f"{len(names)} looked up, {len(missing)} missing; {len(old)} tables were measured before the code changed")
     return 1 if missing else 0
 
 
