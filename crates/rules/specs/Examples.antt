@@ -60,7 +60,7 @@ pub record Example : Type 0 where
   pub judged : Option Bool
 
 -- in `solved b n k`, b records of bindings, n bounds and k rounds; in `unsolved r k`, refusal 5 with r records; `refusedAfter` a refusal and rounds
-pub examples : List Example
+unfoldable pub examples : List Example
 examples =
     -- K1: the empty set
     record { set = []; added = refused 1; answer = solved 0 0 0; records = []; judged = some true }
@@ -172,7 +172,7 @@ sameSolved (refusedAfter n k) (solved c m j) = false
 sameSolved (refusedAfter n k) (unsolved s j) = false
 sameSolved (refusedAfter n k) (refusedAfter m j) = eqb n m && eqb k j
 
-pub same_words : List ℕ → List ℕ → Bool
+unfoldable pub same_words : List ℕ → List ℕ → Bool
 unfolding ℕ_discrete list-dec
 same_words v w = is_yes (list-dec ℕ_discrete v w)
 

@@ -20,6 +20,7 @@ pub mod WellFormed
 pub mod Refusals
 pub mod Values
 pub mod Calls
+pub mod Confirming
 pub mod Batches
 pub mod Ceiling
 pub mod Numbers
@@ -41,6 +42,7 @@ pub mod Lengths
 pub mod Examples
 pub mod CasesOfValues
 pub mod CasesOfLists
+pub mod CasesOfConfirming
 pub mod CasesOfRescue
 pub mod CasesOfCompaction
 pub mod CasesOfElimination

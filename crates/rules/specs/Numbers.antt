@@ -25,6 +25,7 @@ pub data Outcome : Type 0 where
   listed : Listed → Outcome
   added : AddedTo → Outcome
   written : Written → Outcome
+  -- of solving, and of the call that confirms
   solution : Solution → Outcome
   judged : Judged → Outcome
   most : Got Ceiling → Outcome
@@ -38,7 +39,7 @@ unfoldable pub refusalIn : {A : Type 0} → Got A → ℕ
 refusalIn (got a) = 0
 refusalIn (refused n) = n
 
--- 'no rule applies and a constraint remains': 5
+-- 'no rule applies and a constraint remains': 5. Of the call that confirms, 11 is one of the refusals
 unfoldable pub refusalOf : Solved → ℕ
 refusalOf (solved bindings bounds k) = 0
 refusalOf (unsolved left k) = 5

@@ -1,4 +1,5 @@
--- The refusals and their numbers, of which 11 says that the judge doesn't confirm a line, and 12 that a line is outside the grammar. And how the code's answers are told.
+-- The refusals and their numbers, of which 11 says that the judge doesn't confirm a line, or an answer of solving, and 12 that a line is outside the grammar.
+-- And how the code's answers are told.
 use Rattle.std.specs.Prelude.{ℕ, Result, Ok, Err, Option, None, Some}
 use Rattle.std.proofs.Math.Option as may
 use Rattle.rules.specs.Base.{Got, got, refused}
