@@ -53,6 +53,46 @@ enum shupkelen_refusal {
     SHUPKELEN_NOT_GRAMMAR = 12    /* a line outside the grammar */
 };
 
+/* The kinds of records (docs/RECORDS.md), and word 0 of a record: its kind, and how many records the part has that it begins, itself counted. */
+enum shupkelen_kind {
+    SHUPKELEN_KIND_VARIABLE = 1,           /* a: name */
+    SHUPKELEN_KIND_PARAMETER = 2,          /* a: name */
+    SHUPKELEN_KIND_DIMENSION = 3,          /* a: how many factors, which follow */
+    SHUPKELEN_KIND_BOOLEAN = 4,
+    SHUPKELEN_KIND_STRING = 5,
+    SHUPKELEN_KIND_DATETIME = 6,
+    SHUPKELEN_KIND_FUNCTION = 7,           /* a: how many parameters, which follow; then the type returned */
+    SHUPKELEN_KIND_STRUCT = 8,             /* a: name, b: how many arguments, c: how many fields; these follow */
+    SHUPKELEN_KIND_FIELD = 9,              /* a: name; its type follows */
+    SHUPKELEN_KIND_LIST = 10,              /* the type of its elements follows */
+    SHUPKELEN_KIND_VARIABLE_FACTOR = 11,   /* a: name, b: numerator, c: denominator */
+    SHUPKELEN_KIND_PARAMETER_FACTOR = 12,  /* as 11 */
+    SHUPKELEN_KIND_BASE_FACTOR = 13,       /* as 11 */
+    SHUPKELEN_KIND_QUANTIFIED = 14,        /* a: index; in schemes only */
+    SHUPKELEN_KIND_QUANTIFIED_FACTOR = 15, /* a: index, b: numerator, c: denominator; in schemes only */
+    SHUPKELEN_KIND_EQUAL = 20,             /* two types follow */
+    SHUPKELEN_KIND_IS_DIMENSION = 21,      /* a type follows */
+    SHUPKELEN_KIND_EQUAL_SCALAR = 22,      /* a dimension follows */
+    SHUPKELEN_KIND_HAS_FIELD = 23,         /* a: the field's name; the struct's type and the field's follow */
+    SHUPKELEN_KIND_BINDING = 24,           /* a: the variable's name; its type follows */
+    SHUPKELEN_KIND_BOUND = 25,             /* a: name; in a scheme, with b 1, an index */
+    SHUPKELEN_KIND_SCHEME = 26             /* a: how many quantified variables; b: 1 if concrete; a type and bounds follow */
+};
+#define SHUPKELEN_RECORD(kind, length) ((uint32_t)(kind) + UINT32_C(65536) * (uint32_t)(length))
+
+/* The steps of a calculation line. */
+enum shupkelen_step {
+    SHUPKELEN_STEP_CONSTANT = 1,  /* a: the place of its type in types */
+    SHUPKELEN_STEP_REFERENCE = 2, /* a: the number of an earlier line */
+    SHUPKELEN_STEP_ADD = 3,
+    SHUPKELEN_STEP_SUBTRACT = 4,
+    SHUPKELEN_STEP_MULTIPLY = 5,
+    SHUPKELEN_STEP_DIVIDE = 6,
+    SHUPKELEN_STEP_RAISE = 7,     /* b: numerator, c: denominator */
+    SHUPKELEN_STEP_COMPARE = 8,
+    SHUPKELEN_STEP_CHOOSE = 9     /* condition, then both arms */
+};
+
 /* Sizes. */
 enum {
     SHUPKELEN_POOL_BYTES = 8192,

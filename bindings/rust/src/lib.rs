@@ -61,6 +61,28 @@ pub mod kind {
     pub const SCHEME: u32 = 26;
 }
 
+/// The steps of a calculation line ([`Solver::check_line`]), in postfix order, four words each: the step's number, then a, b, c, which are 0 where it doesn't use them.
+pub mod step {
+    /// A constant; a: the place of its type in `types`.
+    pub const CONSTANT: u32 = 1;
+    /// A reference; a: the number of an earlier line.
+    pub const REFERENCE: u32 = 2;
+    /// Adds two operands of one dimension.
+    pub const ADD: u32 = 3;
+    /// Subtracts an operand from another of its dimension.
+    pub const SUBTRACT: u32 = 4;
+    /// Multiplies two operands.
+    pub const MULTIPLY: u32 = 5;
+    /// Divides an operand by another.
+    pub const DIVIDE: u32 = 6;
+    /// Raises an operand to a fraction; b: numerator, c: denominator.
+    pub const RAISE: u32 = 7;
+    /// Compares two operands of one dimension: a boolean.
+    pub const COMPARE: u32 = 8;
+    /// Chooses by a condition, a boolean, between two operands of one type.
+    pub const CHOOSE: u32 = 9;
+}
+
 /// A record: its kind, how many records the part has that it begins (itself counted), and its words a, b, c.
 pub fn record(kind: u32, length: u32, a: u32, b: u32, c: u32) -> [u32; 4] {
     [kind + 65_536 * length, a, b, c]
