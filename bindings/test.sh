@@ -5,6 +5,7 @@ missing() { echo "bindings/test.sh: $*, so nothing was built and nothing tested"
 [ "$(uname -sm)" = "Linux x86_64" ] || missing "this is $(uname -sm), and the archive links only into x86-64 Linux programs"
 for tool in rt cc cargo; do command -v $tool >/dev/null || missing "there is no $tool here"; done
 set -e
+python3 tools/header.py
 mkdir -p target/bindings
 (cd crates/shupkelen && rt lib) > target/bindings/library.log || { tail -n 20 target/bindings/library.log; exit 1; }
 tail -n 1 target/bindings/library.log

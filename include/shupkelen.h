@@ -24,7 +24,7 @@
  *   Order of refusals at entry: 10, 8, 1, 4, 9. Stack: up to 1 MB (docs/CALLERS.md).
  *
  * What each function does on every input is proved; this file says it in words. crates/shupkelen/src has the contracts, and
- * docs/CONTRACTS.md says which definition each call equals. This file is compared with that source by bindings/rust/tests/declarations.rs.
+ * docs/CONTRACTS.md says which definition each call equals. This file is compared with that source by tools/header.py.
  */
 #ifndef SHUPKELEN_H
 #define SHUPKELEN_H

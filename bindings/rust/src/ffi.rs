@@ -1,5 +1,5 @@
-//! The exported functions as the archive has them: a slice is a pointer and a count of elements. `tests/declarations.rs` compares this file with the
-//! header and with the source of the crate `shupkelen`.
+//! The exported functions as the archive has them: a slice is a pointer and a count of elements. The repository's
+//! tools/header.py compares this file with the header and with the source of the crate `shupkelen`.
 
 extern "C" {
     pub fn shupkelen_compare(
