@@ -1,10 +1,33 @@
 -- W-213: room back in the name table. Names that occur in no set are dropped, the others move up and the sets are renumbered.
-use Rattle.std.specs.Prelude.{Bool, true, false, ◌&&◌, ◌||◌, List, [], ◌∷◌, ◌++◌, ℕ, zero, suc, ◌+◌, ◌*◌, ◌-◌, eqb, leb, ltb, length, replicate}
-use Rattle.rules.specs.Base.{Got, got, refused, ◌>>◌, need, all, collect, sum_of}
+use Rattle.std.specs.Prelude.{
+  ◌≡◌,
+  Bool,
+  true,
+  false,
+  ◌&&◌,
+  ◌||◌,
+  List,
+  [],
+  ◌∷◌,
+  ◌++◌,
+  ℕ,
+  zero,
+  suc,
+  ◌+◌,
+  ◌*◌,
+  ◌-◌,
+  eqb,
+  leb,
+  ltb,
+  length,
+  get_or,
+  replicate,
+}
+use Rattle.rules.specs.Base.{Got, got, refused, ◌>>◌, need, any, all, collect, sum_of}
 use Rattle.rules.specs.Batches.{cutSets}
 use Rattle.rules.specs.Calls.{over, tableKept, setGiven}
-use Rattle.rules.specs.Names.{Bytes, Table, table_of, held, names_of, used, lentTable}
-use Rattle.rules.specs.Offices.{namesOne}
+use Rattle.rules.specs.Names.{Bytes, Table, table_of, held, names_of, used, sameBytes, lentTable}
+use Rattle.rules.specs.Offices.{namesOne, ReadAlike}
 use Rattle.rules.specs.Writing.{kindIn}
 
 -- ══ What occurs, and its new number ══
@@ -114,3 +137,28 @@ compactIf (refused n) pool table sets = record { answer = refused n; pool = pool
 
 unfoldable pub compactCall : List ℕ → List ℕ → List ℕ → List ℕ → Compacted
 compactCall pool table sets lengths = compactIf (compactChecks pool table sets lengths) pool table sets
+
+-- ══ Two offices ══
+
+-- is it the name of a number of the table
+unfoldable pub namesIt : Table → Bytes → Bool
+namesIt t n = any (sameBytes n) (names_of t)
+
+-- two calls, each over its own table
+module _ (pool table sets lengths pool' table' sets' lengths' : List ℕ) where
+  abbrev pub after : Compacted
+  after = compactCall pool table sets lengths
+
+  abbrev pub after' : Compacted
+  after' = compactCall pool' table' sets' lengths'
+
+  pub record CompactedAlike : Type 0 where
+    -- a set that read alike in both still does, each over what is left of its table, whatever sets the other office put into either call,
+    -- and also where one is refused
+    pub each : (k k' : ℕ) → ReadAlike (table_of pool table) (table_of pool' table') (get_or (cutSets lengths sets) k []) (get_or (cutSets lengths' sets') k' [])
+        → ReadAlike (table_of after.pool after.table) (table_of after'.pool after'.table) (get_or (cutSets lengths after.sets) k []) (get_or (cutSets lengths' after'.sets) k' [])
+    -- where all sets read alike, the answers are the same,
+    pub answer : lengths ≡ lengths' → ReadAlike (table_of pool table) (table_of pool' table') sets sets' → after.answer ≡ after'.answer
+    -- and the same names are kept; their order is that of each table, so it may differ, as their numbers may
+    pub names : lengths ≡ lengths' → ReadAlike (table_of pool table) (table_of pool' table') sets sets' → (n : ℕ) → after.answer ≡ got n
+        → (m : Bytes) → namesIt (table_of after.pool after.table) m ≡ namesIt (table_of after'.pool after'.table) m

@@ -15,6 +15,9 @@ use Rattle.rules.specs.Solving.{Answer, accepted, remaining, stopped}
 use Rattle.rules.specs.Calls.{Written, Listed, Solved, solved, unsolved, refusedAfter, Solution, AddedTo, Entry, setCall, typeCall, schemeCall}
 use Rattle.rules.specs.Batches.{Batch, batchCall}
 use Rattle.rules.specs.Ceiling.{ceilingCall}
+use Rattle.rules.specs.Elimination.{Eliminated, allBound, someLeft, refusedWith, Elimination}
+use Rattle.rules.specs.Rescue.{words_in, Rescued}
+use Rattle.rules.specs.TextReading.{ReadAnswer, wasRead, notRead, TextRead}
 use Rattle.rules.specs.Calls.{
   bindingsCall,
   containsCall,
@@ -209,6 +212,63 @@ pub record BatchAlike (t t' : Table) (n : ℕ) (b b' : Batch) : Type 0 where
   pub answer : b.answer ≡ b'.answer
   pub told : frontTold b.answer n b.answers ≡ frontTold b'.answer n b'.answers
   pub records : ReadAlike t t' (front b.answer b.result) (front b'.answer b'.result)
+
+-- the second engine (W-209)
+abbrev pub frontEliminated : Eliminated → List ℕ → List ℕ
+frontEliminated (allBound n) buffer = take (n * 4) buffer
+frontEliminated (someLeft n) buffer = take (n * 4) buffer
+frontEliminated (refusedWith k) buffer = []
+
+-- the same count or refusal; bindings, or what remains, read alike, in the same order
+pub record EliminatedAlike (t t' : Table) (e e' : Elimination) : Type 0 where
+  pub answer : e.answer ≡ e'.answer
+  pub records : ReadAlike t t' (frontEliminated e.answer e.result) (frontEliminated e'.answer e'.result)
+
+-- a set written as text (W-202): the same count or refusal, and the same bytes
+pub record TextAlike (w w' : Listed) : Type 0 where
+  pub answer : w.answer ≡ w'.answer
+  pub bytes : frontListed w.answer w.result ≡ frontListed w'.answer w'.result
+
+-- reading text enters names, so how many of them are new may differ
+abbrev pub newAside : ReadAnswer → ReadAnswer
+newAside (wasRead records constraints fresh) = wasRead records constraints 0
+newAside (notRead n l c) = notRead n l c
+
+abbrev pub meetsThree : ReadAnswer → Bool
+meetsThree (wasRead records constraints fresh) = false
+meetsThree (notRead n l c) = eqb n 3
+
+abbrev pub frontRead : ReadAnswer → List ℕ → List ℕ
+frontRead (wasRead records constraints fresh) buffer = take (records * 4) buffer
+frontRead (notRead n l c) buffer = []
+
+-- a sheet that was read (W-202): as many records and constraints, which read alike, each over its table with the names that were entered;
+-- or the same refusal, at the same line and column
+pub record TextReadAlike (r r' : TextRead) : Type 0 where
+  pub answer : newAside r.answer ≡ newAside r'.answer
+  pub records : ReadAlike (table_of r.pool r.table) (table_of r'.pool r'.table) (frontRead r.answer r.result) (frontRead r'.answer r'.result)
+
+-- the bytes of the records that are kept, and the places of those that are not
+abbrev pub frontKept : Got (ℕ × ℕ) → List ℕ → List ℕ
+frontKept (got v) buffer = take (v.0 * 16) buffer
+frontKept (refused k) buffer = []
+
+abbrev pub frontSkipped : Got (ℕ × ℕ) → List ℕ → List ℕ
+frontSkipped (got v) buffer = take v.1 buffer
+frontSkipped (refused k) buffer = []
+
+-- a rescued file (W-212): the same counts or refusal, the kept records read alike, and the same places were skipped
+pub record RescuedAlike (t t' : Table) (r r' : Rescued) : Type 0 where
+  pub answer : r.answer ≡ r'.answer
+  pub kept : ReadAlike t t' (words_in (frontKept r.answer r.kept)) (words_in (frontKept r'.answer r'.kept))
+  pub skipped : frontSkipped r.answer r.skipped ≡ frontSkipped r'.answer r'.skipped
+
+-- two files of bytes, as long as one another, whose records read alike
+pub record FilesAlike (t t' : Table) (file file' : List ℕ) : Type 0 where
+  pub bytes : all (λ b. ltb b 256) file ≡ true
+  pub bytes' : all (λ b. ltb b 256) file' ≡ true
+  pub long : length file ≡ length file'
+  pub records : ReadAlike t t' (words_in file) (words_in file')
 
 -- variables of entries that are alike, each with the same place
 pub record EntriesAlike (t t' : Table) (es es' : List Entry) : Type 0 where
