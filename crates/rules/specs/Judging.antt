@@ -1,5 +1,6 @@
 -- Are all constraints true once all bindings are put in, at once?
-use Rattle.std.specs.Prelude.{Bool, true, false, List, [], ◌∷◌, eqb}
+use Rattle.std.specs.Prelude.{Bool, true, false, List, [], ◌∷◌, ℕ, suc, eqb}
+use Rattle.std.proofs.Math.Option.{Option, none, some}
 use Rattle.rules.specs.Base.{Got, got, refused, ◌>>=◌, Limits, sized}
 use Rattle.rules.specs.Trees.{Names, Con, Binding, sizeCon, depthCon}
 use Rattle.rules.specs.Replacing.{replaceCon, bindings}
@@ -22,3 +23,8 @@ module _ {N : Type 0} (ν : Names N) (l : Limits) where
   unfoldable pub judge : List (Binding N) → List N → List (Con N) → Got Bool
   judge bs bounds [] = got true
   judge bs bounds (c ∷ cs) = judgeCon bs bounds c >>= λ b. elim b [ true ↦ judge bs bounds cs | false ↦ got false ]
+
+  -- which constraint fails first, by its number, where k come before these: the judge says yes where there is none
+  unfoldable pub failing : List (Binding N) → List N → ℕ → List (Con N) → Got (Option ℕ)
+  failing bs bounds k [] = got none
+  failing bs bounds k (c ∷ cs) = judgeCon bs bounds c >>= λ b. elim b [ true ↦ failing bs bounds (suc k) cs | false ↦ got (some k) ]

@@ -73,7 +73,7 @@ use Rattle.rules.specs.Rounds.{
 use Rattle.rules.specs.Solving.{boundOf, finished, finish, after, run, solve}
 use Rattle.rules.specs.Schemes.{renamedBounds, schemeLimited, back, quantifies, quantifyFrom, quantify, generalise, put_back, instantiate}
 use Rattle.rules.specs.Meaning.{means, amongBounds, holds, inProducts, productsOf}
-use Rattle.rules.specs.Judging.{failed, judgeCon, judge}
+use Rattle.rules.specs.Judging.{failed, judgeCon, judge, failing}
 use Rattle.rules.specs.Writing.{
   head,
   kindIn,
@@ -178,7 +178,7 @@ unfolding ℕ_discrete any all keep list-dec each collect ℤ-dec Exp-dec gcdIn 
     countsDiffer solid kindsDiffer addEqual addDim addTest stored add pairs asProducts variableLeft functions lists bindTo firstRules structs dimensions
     by_kind dimensionParts otherSide fieldStep trySatisfy taken sizeState depthState limited firstStep perform performed round boundOf finished finish after
     run solve renamedBounds schemeLimited back quantifies quantifyFrom quantify generalise put_back instantiate means amongBounds holds inProducts productsOf
-    failed judgeCon judge head kindIn lengthIn twos by_sign signed writeFactor writeProduct writeTy writeCon writeBinding writeBound writeScheme words
+    failed judgeCon judge failing head kindIn lengthIn twos by_sign signed writeFactor writeProduct writeTy writeCon writeBinding writeBound writeScheme words
     readFactors readTys readFields readTy readCon readBinding readBound read_all records schemeOf rising goodOpen goodFactor goodProduct goodTy goodCon
     goodBinding sumCall timesCall negationCall quotientCall kind_of number_in atomIn value_of factorIn factorsIn productValue productIn productGiven
     multiplyCall divideCall inverseCall raiseCall lentResult lentWork lent shortLists shortNumbers only listGiven tableKept setGiven typeGiven bindingsGiven

@@ -23,6 +23,9 @@ pub const POOL_BYTES: usize = 8192;
 
 pub const TABLE_WORDS: usize = 257;
 
+// The bytes of a sheet's file, at most.
+pub const SHEET_BYTES: usize = 1_048_576;
+
 // What a name was before it was entered: nowhere in the table, or held there.
 #[derive(Clone, Copy, PartialEq, Eq)]
 pub enum Was {
@@ -67,4 +70,19 @@ impl Refusal {
             Refusal::NotGrammar => 12,
         }
     }
+}
+
+// Why a file can't be had: it can't be opened; it can't be read to its end; it is longer than a sheet may be.
+#[derive(Clone, Copy, PartialEq, Eq)]
+pub enum Unseen {
+    NotOpened,
+    NotRead,
+    TooLong,
+}
+
+// Which pages of a report are shown: all, or quietly only those of sheets that aren't accepted.
+#[derive(Clone, Copy, PartialEq, Eq)]
+pub enum Shown {
+    All,
+    Quiet,
 }

@@ -1,8 +1,0 @@
-use Rattle.edition.specs.Ahead.{Ahead}
-use Rattle.edition.proofs.line_in.Given as goal
-
-abbrev pub invariant-loop-left : goal.invariant-loop-left
-invariant-loop-left l = Ahead l.text l.number l.at l.left
-
-abbrev pub decreases-loop-left : goal.decreases-loop-left
-decreases-loop-left l = l.left
