@@ -1,4 +1,5 @@
--- The grammar stays in its line: every place it comes to, and every column it tells, is one of the line's or that of the line's end.
+-- The grammar stays in its line: every place it comes to, and every column it tells, is one of the line's or that of the line's end. And the types
+-- that it reads are nested at most 64 deep.
 use Rattle.std.specs.Prelude.{◌≡◌, Bool, length}
 use Rattle.std.proofs.Math.Path.{refl}
 use Rattle.std.proofs.Math.Bool.{true, false}
@@ -18,6 +19,7 @@ use Rattle.rules.specs.Grammar.{factor, moreFactors, factors, dimension, opened,
 use Rattle.rules.specs.Grammar.{structure, types, tooDeep, deepTypes, type, ConAt, equalAt, isDimAt, isScalarAt, hasFieldAt, afterType, afterDimension, typed}
 use Rattle.rules.specs.Grammar.{hasField, constraint, signsAt, line, ◌>>=◌, ◌>>◌}
 use Rattle.laws.specs.Lists.{Every}
+use Rattle.sheet_lines.specs.Deep.{depthAt, depthTysAt, depthFieldsAt, depthConAt}
 
 -- ══ Parts of the longer rules ══
 
@@ -330,69 +332,79 @@ module _ (e : ℕ) where
     FieldsIn noneAt = Unit {0}
     FieldsIn (field_at n t fs) = NameIn n × TyIn t × FieldsIn fs
 
+  -- in the line, and nested at most d deep
+  abbrev Types : ℕ → TyAt → Type 0
+  Types d t = TyIn t × (depthAt t ≤ d)
+
+  abbrev Lists : ℕ → TysAt → Type 0
+  Lists d ts = TysIn ts × (depthTysAt ts ≤ d)
+
+  abbrev Members : ℕ → FieldsAt → Type 0
+  Members d fs = FieldsIn fs × (depthFieldsAt fs ≤ d)
+
   abbrev factorsThere : Rule (List FactorAt)
   factorsThere = ifSign "]" (give []) factors
 
-  dimension-in : Stays dimension TyIn
-  unfolding dimension TyIn
-  dimension-in =
+  dimension-in : (d : ℕ) → Stays dimension (Types (suc d))
+  unfolding dimension TyIn depthAt
+  dimension-in b =
       in-turn column (λ c. sign "[" >> (factorsThere >>= λ fs. column >>= λ d. sign "]" >> give (dimAt c fs d))) column-in
       (λ c hc. in-turn (sign "[") (λ u. factorsThere >>= λ fs. column >>= λ d. sign "]" >> give (dimAt c fs d)) (sign-in (ascii "["))
       (λ u hu. in-turn factorsThere (λ fs. column >>= λ d. sign "]" >> give (dimAt c fs d)) (if-sign {Q = Every FactorIn} "]" (give []) factors
       (given [] tt) factors-in)
       (λ fs hf. in-turn column (λ d. sign "]" >> give (dimAt c fs d)) column-in
       (λ d hd. in-turn (sign "]") (λ w. give (dimAt c fs d)) (sign-in (ascii "]"))
-      (λ w hw. given (dimAt c fs d) (record { first = hc; inside = hf; last = hd }))))))
+      (λ w hw. given (dimAt c fs d) (record { first = hc; inside = hf; last = hd }, omega arith))))))
 
-  opened_in : (x : Char) (f : NameAt → Open NameAt) → ((n : NameAt) → NameIn n → OpenIn (f n)) → Stays (opened x f) TyIn
-  unfolding TyIn
-  opened_in x f k =
+  opened_in : (d : ℕ) (x : Char) (f : NameAt → Open NameAt) → ((n : NameAt) → NameIn n → OpenIn (f n)) → Stays (opened x f) (Types (suc d))
+  unfolding TyIn depthAt
+  opened_in d x f k =
       in-turn column (λ c. mark x >> (name >>= λ n. give (open_at c (f n)))) column-in
       (λ c hc. in-turn (mark x) (λ u. name >>= λ n. give (open_at c (f n))) (sign-in (code x ∷ []))
-      (λ u hu. in-turn name (λ n. give (open_at c (f n))) name_in (λ n hn. given (open_at c (f n)) (hc, k n hn))))
+      (λ u hu. in-turn name (λ n. give (open_at c (f n))) name_in (λ n hn. given (open_at c (f n)) ((hc, k n hn), omega arith))))
 
-  keyword-in : (ws : Bytes) (b : Basic) → Stays (column >>= λ c. (λ p. spell ws (skip p)) >> give (basicAt c b)) TyIn
-  unfolding TyIn
-  keyword-in ws b =
+  keyword-in : (d : ℕ) (ws : Bytes) (b : Basic) → Stays (column >>= λ c. (λ p. spell ws (skip p)) >> give (basicAt c b)) (Types (suc d))
+  unfolding TyIn depthAt
+  keyword-in d ws b =
       in-turn column (λ c. (λ p. spell ws (skip p)) >> give (basicAt c b)) column-in
-      (λ c hc. in-turn (λ p. spell ws (skip p)) (λ u. give (basicAt c b)) (sign-in ws) (λ u hu. given (basicAt c b) hc))
+      (λ c hc. in-turn (λ p. spell ws (skip p)) (λ u. give (basicAt c b)) (sign-in ws) (λ u hu. given (basicAt c b) (hc, omega arith)))
 
-  -- types whose inside stays in the line
-  module _ (ty : Rule TyAt) (inner : Stays ty TyIn) where
-    more-tys : (n : ℕ) → Stays (moreTys ty n) TysIn
-    unfolding moreTys TyIn
-    more-tys zero = given nilAt tt
+  -- types whose inside stays in the line, nested at most d deep
+  module _ (ty : Rule TyAt) (d : ℕ) (inner : Stays ty (Types d)) where
+    more-tys : (n : ℕ) → Stays (moreTys ty n) (Lists d)
+    unfolding moreTys TyIn depthAt
+    more-tys zero = given nilAt (tt, omega arith)
     more-tys (suc n) =
-        if-sign {Q = TysIn} "," (sign "," >> (ty >>= λ t. moreTys ty n >>= λ ts. give (consAt t ts))) (give nilAt)
+        if-sign {Q = Lists d} "," (sign "," >> (ty >>= λ t. moreTys ty n >>= λ ts. give (consAt t ts))) (give nilAt)
         (in-turn (sign ",") (λ u. ty >>= λ t. moreTys ty n >>= λ ts. give (consAt t ts)) (sign-in (ascii ","))
         (λ u hu. in-turn ty (λ t. moreTys ty n >>= λ ts. give (consAt t ts)) inner
-        (λ t ht. in-turn (moreTys ty n) (λ ts. give (consAt t ts)) (more-tys n) (λ ts hs. given (consAt t ts) (ht, hs)))))
-        (given nilAt tt)
+        (λ t ht. in-turn (moreTys ty n) (λ ts. give (consAt t ts)) (more-tys n) (λ ts hs. given (consAt t ts) ((ht.0, hs.0), omega (arith, ht.1, hs.1))))))
+        (given nilAt (tt, omega arith))
 
-    tys-in : Stays (tys ty) TysIn
-    unfolding TyIn
+    tys-in : Stays (tys ty) (Lists d)
+    unfolding TyIn depthAt
     tys-in =
         in-turn ty (λ t. left >>= λ n. moreTys ty n >>= λ ts. give (consAt t ts)) inner
         (λ t ht. in-turn left (λ n. moreTys ty n >>= λ ts. give (consAt t ts)) left_in
-        (λ n hn. in-turn (moreTys ty n) (λ ts. give (consAt t ts)) (more-tys n) (λ ts hs. given (consAt t ts) (ht, hs))))
+        (λ n hn. in-turn (moreTys ty n) (λ ts. give (consAt t ts)) (more-tys n) (λ ts hs. given (consAt t ts) ((ht.0, hs.0), omega (arith, ht.1, hs.1)))))
 
-    result-in : (c : ℕ) (ps : TysAt) → c ≤ e → TysIn ps → Stays (result_of ty c ps) TyIn
-    unfolding TyIn
+    result-in : (c : ℕ) (ps : TysAt) → c ≤ e → Lists d ps → Stays (result_of ty c ps) (Types (suc d))
+    unfolding TyIn depthAt
     result-in c ps hc hp =
         in-turn ty (λ r. sign "]" >> give (fn_at c ps r)) inner
-        (λ r hr. in-turn (sign "]") (λ u. give (fn_at c ps r)) (sign-in (ascii "]")) (λ u hu. given (fn_at c ps r) (hc, hp, hr)))
+        (λ r hr. in-turn (sign "]") (λ u. give (fn_at c ps r)) (sign-in (ascii "]")) (λ u hu. given (fn_at c ps r) ((hc, hp.0, hr.0), omega (arith, hp.1, hr.1))))
 
-    params_in : Stays (ifSign ")" (give nilAt) (tys ty)) TysIn
-    unfolding TyIn
-    params_in = if-sign {Q = TysIn} ")" (give nilAt) (tys ty) (given nilAt tt) tys-in
+    params_in : Stays (ifSign ")" (give nilAt) (tys ty)) (Lists d)
+    unfolding TyIn depthAt
+    params_in = if-sign {Q = Lists d} ")" (give nilAt) (tys ty) (given nilAt (tt, omega arith)) tys-in
 
-    arrow-in : (c : ℕ) → c ≤ e → Stays (arrow ty c) TyIn
+    arrow-in : (c : ℕ) → c ≤ e → Stays (arrow ty c) (Types (suc d))
     arrow-in c hc =
         in-turn (ifSign ")" (give nilAt) (tys ty)) (λ ps. sign ")" >> (sign "->" >> result_of ty c ps)) params_in
         (λ ps hp. in-turn (sign ")") (λ u. sign "->" >> result_of ty c ps) (sign-in (ascii ")"))
         (λ u hu. in-turn (sign "->") (λ v. result_of ty c ps) (sign-in (ascii "->")) (λ v hv. result-in c ps hc hp)))
 
-    function-in : Stays (function ty) TyIn
+    function-in : Stays (function ty) (Types (suc d))
     unfolding function
     function-in =
         in-turn column (λ c. sign "Fn" >> (sign "[" >> (sign "(" >> arrow ty c))) column-in
@@ -400,35 +412,35 @@ module _ (e : ℕ) where
         (λ u hu. in-turn (sign "[") (λ v. sign "(" >> arrow ty c) (sign-in (ascii "["))
         (λ v hv. in-turn (sign "(") (λ w. arrow ty c) (sign-in (ascii "(")) (λ w hw. arrow-in c hc))))
 
-    listed_in : Stays (listed ty) TyIn
-    unfolding listed TyIn
+    listed_in : Stays (listed ty) (Types (suc d))
+    unfolding listed TyIn depthAt
     listed_in =
         in-turn column (λ c. sign "List" >> (sign "<" >> (ty >>= λ t. sign ">" >> give (listAt c t)))) column-in
         (λ c hc. in-turn (sign "List") (λ u. sign "<" >> (ty >>= λ t. sign ">" >> give (listAt c t))) (sign-in (ascii "List"))
         (λ u hu. in-turn (sign "<") (λ v. ty >>= λ t. sign ">" >> give (listAt c t)) (sign-in (ascii "<"))
         (λ v hv. in-turn ty (λ t. sign ">" >> give (listAt c t)) inner
-        (λ t ht. in-turn (sign ">") (λ w. give (listAt c t)) (sign-in (ascii ">")) (λ w hw. given (listAt c t) (hc, ht))))))
+        (λ t ht. in-turn (sign ">") (λ w. give (listAt c t)) (sign-in (ascii ">")) (λ w hw. given (listAt c t) ((hc, ht.0), omega (arith, ht.1)))))))
 
-    more-fields : (n : ℕ) → Stays (moreFields ty n) FieldsIn
-    unfolding moreFields TyIn
-    more-fields zero = given noneAt tt
+    more-fields : (n : ℕ) → Stays (moreFields ty n) (Members d)
+    unfolding moreFields TyIn depthAt
+    more-fields zero = given noneAt (tt, omega arith)
     more-fields (suc n) =
-        if-sign {Q = FieldsIn} "," (sign "," >> (fieldName >>= λ x. sign ":" >> (ty >>= λ t. moreFields ty n >>= λ fs. give (field_at x t fs)))) (give noneAt)
+        if-sign {Q = Members d} "," (sign "," >> (fieldName >>= λ x. sign ":" >> (ty >>= λ t. moreFields ty n >>= λ fs. give (field_at x t fs)))) (give noneAt)
         (in-turn (sign ",") (λ u. fieldName >>= λ x. sign ":" >> (ty >>= λ t. moreFields ty n >>= λ fs. give (field_at x t fs))) (sign-in (ascii ","))
         (λ u hu. in-turn fieldName (λ x. sign ":" >> (ty >>= λ t. moreFields ty n >>= λ fs. give (field_at x t fs))) field-name
         (λ x hx. in-turn (sign ":") (λ v. ty >>= λ t. moreFields ty n >>= λ fs. give (field_at x t fs)) (sign-in (ascii ":"))
         (λ v hv. in-turn ty (λ t. moreFields ty n >>= λ fs. give (field_at x t fs)) inner
-        (λ t ht. in-turn (moreFields ty n) (λ fs. give (field_at x t fs)) (more-fields n) (λ fs hs. given (field_at x t fs) (hx, ht, hs)))))))
-        (given noneAt tt)
+        (λ t ht. in-turn (moreFields ty n) (λ fs. give (field_at x t fs)) (more-fields n) (λ fs hs. given (field_at x t fs) ((hx, ht.0, hs.0), omega (arith, ht.1, hs.1))))))))
+        (given noneAt (tt, omega arith))
 
-    fields_in : Stays (fields ty) FieldsIn
-    unfolding TyIn
+    fields_in : Stays (fields ty) (Members d)
+    unfolding TyIn depthAt
     fields_in =
         in-turn fieldName (λ x. sign ":" >> (ty >>= λ t. left >>= λ n. moreFields ty n >>= λ fs. give (field_at x t fs))) field-name
         (λ x hx. in-turn (sign ":") (λ v. ty >>= λ t. left >>= λ n. moreFields ty n >>= λ fs. give (field_at x t fs)) (sign-in (ascii ":"))
         (λ v hv. in-turn ty (λ t. left >>= λ n. moreFields ty n >>= λ fs. give (field_at x t fs)) inner
         (λ t ht. in-turn left (λ n. moreFields ty n >>= λ fs. give (field_at x t fs)) left_in
-        (λ n hn. in-turn (moreFields ty n) (λ fs. give (field_at x t fs)) (more-fields n) (λ fs hs. given (field_at x t fs) (hx, ht, hs))))))
+        (λ n hn. in-turn (moreFields ty n) (λ fs. give (field_at x t fs)) (more-fields n) (λ fs hs. given (field_at x t fs) ((hx, ht.0, hs.0), omega (arith, ht.1, hs.1)))))))
 
     abbrev types_in : Rule TysAt
     types_in = (sign "<" >> tys ty) >>= λ ts. sign ">" >> give ts
@@ -436,13 +448,13 @@ module _ (e : ℕ) where
     abbrev typesThere : Rule TysAt
     typesThere = ifSign "<" types_in (give nilAt)
 
-    types-there : Stays typesThere TysIn
-    unfolding TyIn
+    types-there : Stays typesThere (Lists d)
+    unfolding TyIn depthAt
     types-there =
-        if-sign {Q = TysIn} "<" types_in (give nilAt)
+        if-sign {Q = Lists d} "<" types_in (give nilAt)
         (in-turn (sign "<" >> tys ty) (λ ts. sign ">" >> give ts) (in-turn (sign "<") (λ u. tys ty) (sign-in (ascii "<")) (λ u hu. tys-in))
         (λ ts hs. in-turn (sign ">") (λ w. give ts) (sign-in (ascii ">")) (λ w hw. given ts hs)))
-        (given nilAt tt)
+        (given nilAt (tt, omega arith))
 
     abbrev fieldsInside : Rule FieldsAt
     fieldsInside = (sign "{" >> fields ty) >>= λ fs. sign "}" >> give fs
@@ -450,56 +462,56 @@ module _ (e : ℕ) where
     abbrev fieldsThere : Rule FieldsAt
     fieldsThere = ifSign "{" fieldsInside (give noneAt)
 
-    fields-there : Stays fieldsThere FieldsIn
-    unfolding TyIn
+    fields-there : Stays fieldsThere (Members d)
+    unfolding TyIn depthAt
     fields-there =
-        if-sign {Q = FieldsIn} "{" fieldsInside (give noneAt)
+        if-sign {Q = Members d} "{" fieldsInside (give noneAt)
         (in-turn (sign "{" >> fields ty) (λ fs. sign "}" >> give fs) (in-turn (sign "{") (λ u. fields ty) (sign-in (ascii "{")) (λ u hu. fields_in))
         (λ fs hs. in-turn (sign "}") (λ w. give fs) (sign-in (ascii "}")) (λ w hw. given fs hs)))
-        (given noneAt tt)
+        (given noneAt (tt, omega arith))
 
-    structure-in : Stays (structure ty) TyIn
-    unfolding structure TyIn
+    structure-in : Stays (structure ty) (Types (suc d))
+    unfolding structure TyIn depthAt
     structure-in =
         in-turn column (λ c. sign "@" >> (name >>= λ n. typesThere >>= λ ts. fieldsThere >>= λ fs. give (struct_at c n ts fs))) column-in
         (λ c hc. in-turn (sign "@") (λ u. name >>= λ n. typesThere >>= λ ts. fieldsThere >>= λ fs. give (struct_at c n ts fs)) (sign-in (ascii "@"))
         (λ u hu. in-turn name (λ n. typesThere >>= λ ts. fieldsThere >>= λ fs. give (struct_at c n ts fs)) name_in
         (λ n hn. in-turn typesThere (λ ts. fieldsThere >>= λ fs. give (struct_at c n ts fs)) types-there
-        (λ ts ht. in-turn fieldsThere (λ fs. give (struct_at c n ts fs)) fields-there (λ fs hf. given (struct_at c n ts fs) (hc, hn, ht, hf))))))
+        (λ ts ht. in-turn fieldsThere (λ fs. give (struct_at c n ts fs)) fields-there (λ fs hf. given (struct_at c n ts fs) ((hc, hn, ht.0, hf.0), omega (arith, ht.1, hf.1)))))))
 
-    types-in : Every (λ (x : Char × Rule TyAt). Stays x.1 TyIn) (types ty)
+    types-in : Every (λ (x : Char × Rule TyAt). Stays x.1 (Types (suc d))) (types ty)
     types-in = (
-      opened_in "?" var (λ n h. h),
+      opened_in d "?" var (λ n h. h),
       (
-        opened_in "!" par (λ n h. h),
+        opened_in d "!" par (λ n h. h),
         (
-          dimension-in,
+          dimension-in d,
           (
-            keyword-in (ascii "Bool") boolean,
+            keyword-in d (ascii "Bool") boolean,
             (
-              keyword-in (ascii "String") string,
-              (keyword-in (ascii "DateTime") datetime, (function-in, (listed_in, (structure-in, tt)))),
+              keyword-in d (ascii "String") string,
+              (keyword-in d (ascii "DateTime") datetime, (function-in, (listed_in, (structure-in, tt)))),
             ),
           ),
         ),
       ),
     )
 
-  deep_in : Stays tooDeep TyIn
-  unfolding TyIn
-  deep_in = record { from = λ p h. (column-of p h, tt) }
+  deep_in : Stays tooDeep (Types 0)
+  unfolding TyIn depthAt
+  deep_in = record { from = λ p h. ((column-of p h, omega arith), tt) }
 
-  nothing-deep : TyIn (deepAt 0)
-  unfolding TyIn
-  nothing-deep = omega arith
+  nothing-deep : (d : ℕ) → Types d (deepAt 0)
+  unfolding TyIn depthAt
+  nothing-deep d = (omega arith, omega arith)
 
-  type-in : (d : ℕ) → Stays (type d) TyIn
+  type-in : (d : ℕ) → Stays (type d) (Types d)
   unfolding type
-  type-in zero = choose-in TyIn (deepAt 0) deepTypes nothing-deep (
+  type-in zero = choose-in (Types 0) (deepAt 0) deepTypes (nothing-deep 0) (
     deep_in,
     (deep_in, (deep_in, (deep_in, (deep_in, (deep_in, (deep_in, (deep_in, (deep_in, tt)))))))),
   )
-  type-in (suc d) = choose-in TyIn (deepAt 0) (types (type d)) nothing-deep (types-in (type d) (type-in d))
+  type-in (suc d) = choose-in (Types (suc d)) (deepAt 0) (types (type d)) (nothing-deep (suc d)) (types-in (type d) d (type-in d))
 
   -- ══ Lines ══
 
@@ -509,25 +521,30 @@ module _ (e : ℕ) where
   ConIn (isScalarAt c d fs k) = (c ≤ e) × DimIn d fs k
   ConIn (hasFieldAt c s n t) = (c ≤ e) × TyIn s × NameIn n × TyIn t
 
-  abbrev RulesIn : List (Char × Rule ConAt) → Type 0
-  RulesIn xs = Every (λ (x : Char × Rule ConAt). Stays x.1 ConIn) xs
+  -- and its types are nested at most 64 deep
+  abbrev pub Shallow : ConAt → Type 0
+  Shallow c = ConIn c × (depthConAt c ≤ 64)
 
-  after-type : (c : ℕ) (l : TyAt) (xs : List (Char × Rule ConAt)) → c ≤ e → TyIn l → RulesIn xs → RulesIn (afterType c l xs)
+  abbrev RulesIn : List (Char × Rule ConAt) → Type 0
+  RulesIn xs = Every (λ (x : Char × Rule ConAt). Stays x.1 Shallow) xs
+
+  after-type : (c : ℕ) (l : TyAt) (xs : List (Char × Rule ConAt)) → c ≤ e → Types 64 l → RulesIn xs → RulesIn (afterType c l xs)
+  unfolding depthConAt
   after-type c l xs hc hl hx = (
     in-turn (sign "~" >> type 64) (λ r. give (equalAt c l r)) (in-turn (sign "~") (λ u. type 64) (sign-in (ascii "~")) (λ u hu. type-in 64))
-        (λ r hr. given (equalAt c l r) (hc, hl, hr)),
+        (λ r hr. given (equalAt c l r) ((hc, hl.0, hr.0), omega (arith, hl.1, hr.1))),
     (
       in-turn (sign ":" >> sign "DType") (λ u. give (isDimAt c l)) (in-turn (sign ":") (λ u. sign "DType") (sign-in (ascii ":"))
-          (λ u hu. sign-in (ascii "DType"))) (λ u hu. given (isDimAt c l) (hc, hl)),
+          (λ u hu. sign-in (ascii "DType"))) (λ u hu. given (isDimAt c l) ((hc, hl.0), hl.1)),
       hx,
     ),
   )
 
   after-dimension : (c : ℕ) (l : TyAt) → c ≤ e → TyIn l → RulesIn (afterDimension c l)
-  unfolding TyIn
+  unfolding TyIn depthConAt
   after-dimension c (dimAt d fs k) hc hl = (
     in-turn (sign "=" >> sign "Scalar") (λ u. give (isScalarAt c d fs k))
-        (in-turn (sign "=") (λ u. sign "Scalar") (sign-in (ascii "=")) (λ u hu. sign-in (ascii "Scalar"))) (λ u hu. given (isScalarAt c d fs k) (hc, hl)),
+        (in-turn (sign "=") (λ u. sign "Scalar") (sign-in (ascii "=")) (λ u hu. sign-in (ascii "Scalar"))) (λ u hu. given (isScalarAt c d fs k) ((hc, hl), omega arith)),
     tt,
   )
   after-dimension c (open_at d o) hc hl = tt
@@ -537,26 +554,27 @@ module _ (e : ℕ) where
   after-dimension c (struct_at d n ts fs) hc hl = tt
   after-dimension c (deepAt d) hc hl = tt
 
-  typed-in : Stays typed ConIn
-  unfolding typed
+  typed-in : Stays typed Shallow
+  unfolding typed depthConAt
   typed-in =
       in-turn column (λ c. type 64 >>= λ l. choose (isDimAt c l) (afterType c l (afterDimension c l))) column-in
       (λ c hc. in-turn (type 64) (λ l. choose (isDimAt c l) (afterType c l (afterDimension c l))) (type-in 64)
-      (λ l hl. choose-in ConIn (isDimAt c l) (afterType c l (afterDimension c l)) (hc, hl)
-      (after-type c l (afterDimension c l) hc hl (after-dimension c l hc hl))))
+      (λ l hl. choose-in Shallow (isDimAt c l) (afterType c l (afterDimension c l)) ((hc, hl.0), hl.1)
+      (after-type c l (afterDimension c l) hc hl (after-dimension c l hc hl.0))))
 
-  last-type : (c : ℕ) (s : TyAt) (n : NameAt) → c ≤ e → TyIn s → NameIn n → Stays (lastType c s n) ConIn
+  last-type : (c : ℕ) (s : TyAt) (n : NameAt) → c ≤ e → Types 64 s → NameIn n → Stays (lastType c s n) Shallow
+  unfolding depthConAt
   last-type c s n hc hs hn =
       in-turn (type 64) (λ t. sign ")" >> give (hasFieldAt c s n t)) (type-in 64)
-      (λ t ht. in-turn (sign ")") (λ u. give (hasFieldAt c s n t)) (sign-in (ascii ")")) (λ u hu. given (hasFieldAt c s n t) (hc, hs, hn, ht)))
+      (λ t ht. in-turn (sign ")") (λ u. give (hasFieldAt c s n t)) (sign-in (ascii ")")) (λ u hu. given (hasFieldAt c s n t) ((hc, hs.0, hn, ht.0), omega (arith, hs.1, ht.1))))
 
-  quoted-in : (c : ℕ) (s : TyAt) → c ≤ e → TyIn s → Stays (quoted c s) ConIn
+  quoted-in : (c : ℕ) (s : TyAt) → c ≤ e → Types 64 s → Stays (quoted c s) Shallow
   quoted-in c s hc hs =
       in-turn name (λ n. spell (ascii "\"") >> (sign "," >> lastType c s n)) name_in
       (λ n hn. in-turn (spell (ascii "\"")) (λ u. sign "," >> lastType c s n) (spell-in (ascii "\""))
       (λ u hu. in-turn (sign ",") (λ v. lastType c s n) (sign-in (ascii ",")) (λ v hv. last-type c s n hc hs hn)))
 
-  has-field : Stays hasField ConIn
+  has-field : Stays hasField Shallow
   unfolding hasField
   has-field =
       in-turn column (λ c. sign "HasField" >> (sign "(" >> (type 64 >>= λ s. sign "," >> (sign "\"" >> quoted c s)))) column-in
@@ -568,12 +586,12 @@ module _ (e : ℕ) where
 
   abbrev pub LineIn : Option ConAt → Type 0
   LineIn none = Unit {0}
-  LineIn (some c) = ConIn c
+  LineIn (some c) = Shallow c
 
   constraint-in : Stays constraint LineIn
   unfolding constraint
   constraint-in =
-      in-turn (ifSign "H" hasField typed) (λ c. ended >> give (some c)) (if-sign {Q = ConIn} "H" hasField typed has-field typed-in)
+      in-turn (ifSign "H" hasField typed) (λ c. ended >> give (some c)) (if-sign {Q = Shallow} "H" hasField typed has-field typed-in)
       (λ c hc. in-turn ended (λ u. give (some c)) ended-in (λ u hu. given {Q = LineIn} (some c) hc))
 
   signs-at : (p : Place) → InLine p → Ends LineIn (signsAt p)

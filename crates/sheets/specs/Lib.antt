@@ -4,4 +4,5 @@ pub mod ReadBack
 pub mod TypesBack
 pub mod Lengths
 pub mod Claims
+pub mod Entry
 pub mod Theorems
