@@ -45,6 +45,7 @@ use Rattle.laws.specs.Lists.{in_head, Every}
 use Rattle.laws.specs.ByteOrder.{numbered-lawful}
 use Rattle.laws.specs.NameTable.{Good}
 use Rattle.completeness.specs.Claims.{DimensionSet, AllChoices, Complete, WideSet, WideComplete}
+use Rattle.completeness.specs.Examples.{k9, k9-words}
 use Rattle.completeness.specs.Theorems.{Within}
 use Rattle.completeness.proofs.Completeness.{all-choices, refused-then-none, wide-decided, conflict}
 use Rattle.laws.specs.Given.{held-apart}
@@ -227,13 +228,7 @@ unfolding dimensional all
 outside = refl
 
 -- K9, dimension x = boolean: accepted, and no choice of a dimension makes it true; so the statement is about dimensions alone
-abbrev k9 : List (Con ℕ)
-k9 = equal (dim (free (var x) ↑ one ∷ [])) (basic boolean) ∷ []
-
-abbrev k9-words : List ℕ
-k9-words = sizedWords (rec 20 0 0 0 ∷ rec 3 1 0 0 ∷ rec 11 x 1 1 ∷ rec 4 0 0 0 ∷ [])
-
-k9-read : setGiven (table_of pool table) k9-words ≡ got k9
+pub k9-read : setGiven (table_of pool table) k9-words ≡ got k9
 unfolding rules counting pool table
 k9-read = refl
 
@@ -246,16 +241,16 @@ unfolding MakesTrue
 k9-none d = d.makes (equal (dim (free (var x) ↑ one ∷ [])) (basic boolean)) in_head
 
 -- 'equal-scalar or an equality of two dimensions' can't be left out
-pub dimensions-needed : ((set : List ℕ) (cs : List (Con ℕ)) → setGiven (table_of pool table) set ≡ got cs → Complete pool table set result work cs) → ⊥
-dimensions-needed claim = ((rw k9-answer at (claim k9-words k9 k9-read).five) (λ n k e i. let j : ◌≡◌ {A = ℕ} 0 1 = cc in omega arith)).1 k9-none
+pub dimensions-needed : ¬ (Complete pool table k9-words result work k9)
+dimensions-needed claim = ((rw k9-answer at claim.five) (λ n k e i. let j : ◌≡◌ {A = ℕ} 0 1 = cc in omega arith)).1 k9-none
 
--- nor can 'wide' be: K9 again
+-- nor can 'wide' be
 k9-none-wide : ChoosingWide same k9 → ⊥
 unfolding MakesWideTrue sideComesTo
 k9-none-wide d = d.makes (equal (dim (free (var x) ↑ one ∷ [])) (basic boolean)) in_head
 
-pub wide-needed : ((set : List ℕ) (cs : List (Con ℕ)) → setGiven (table_of pool table) set ≡ got cs → WideComplete pool table set result work cs) → ⊥
-wide-needed claim = ((rw k9-answer at (claim k9-words k9 k9-read).five) (λ n k e i. let j : ◌≡◌ {A = ℕ} 0 1 = cc in omega arith)).1 k9-none-wide
+pub wide-needed : ¬ (WideComplete pool table k9-words result work k9)
+wide-needed claim = ((rw k9-answer at claim.five) (λ n k e i. let j : ◌≡◌ {A = ℕ} 0 1 = cc in omega arith)).1 k9-none-wide
 
 -- ══ A sheet: x is a dimension, y ~ x, x ~ [L] ══
 

@@ -8,8 +8,10 @@ use Rattle.rules.specs.Trees.{Names, Con, Binding}
 use Rattle.rules.specs.Names.{table_of, numbersOf}
 use Rattle.rules.specs.Solving.{accepted, stopped, solve}
 use Rattle.rules.specs.Calls.{setGiven, solved, unsolved, solveCall}
+use Rattle.rules.specs.Examples.{pool, table, result, work}
 use Rattle.rules.specs.Choices.{Choice, dimensional, Choosing, wide, MakesTrue, MakesWideTrue, MakesAllWideTrue, ChoosingWide}
 use Rattle.laws.specs.Order.{Lawful, Tells}
+use Rattle.completeness.specs.Examples.{k9, k9-words}
 use Rattle.completeness.specs.Claims.{◌⇔◌, DimensionSet, AllChoices, Five, Stopped, Complete, WideSet, AllWideChoices, WideComplete}
 
 -- ══ On trees: names whose order, by bytes, is lawful and tells the held ones apart ══
@@ -39,10 +41,10 @@ RefusedThenNone = (pool table set result work : List ℕ) (cs : List (Con ℕ)) 
     → (records rounds : ℕ) → (solveCall pool table set result work).answer ≡ unsolved records rounds
     → Choosing (numbersOf (table_of pool table)).same cs → ⊥
 
--- of other sets that is false: x y = boolean, y = scalar
-abbrev pub DimensionsNeeded : Type 0
-DimensionsNeeded = ¬ ((pool table set result work : List ℕ) (cs : List (Con ℕ)) → setGiven (table_of pool table) set ≡ got cs
-    → Complete pool table set result work cs)
+-- of other sets that is false: K9, dimension x = boolean, is read, and what is said of dimension lines doesn't hold of it
+pub record DimensionsNeeded : Type 0 where
+  pub read : setGiven (table_of pool table) k9-words ≡ got k9
+  pub not-complete : ¬ (Complete pool table k9-words result work k9)
 
 -- ══ Wide sets: sides may be variables, and is-dimension may stand in them ══
 
@@ -101,7 +103,7 @@ ConflictStays = (pool table part whole result result' work work' : List ℕ) (ds
     → (left rounds : ℕ) → (solveCall pool table part result work).answer ≡ unsolved left rounds
     → (records bounds rounds' : ℕ) → (solveCall pool table whole result' work').answer ≡ solved records bounds rounds' → ⊥
 
--- of sets that aren't wide completeness is false: x y = boolean
-abbrev pub WideNeeded : Type 0
-WideNeeded = ¬ ((pool table set result work : List ℕ) (cs : List (Con ℕ)) → setGiven (table_of pool table) set ≡ got cs
-    → WideComplete pool table set result work cs)
+-- of sets that aren't wide completeness is false: of K9
+pub record WideNeeded : Type 0 where
+  pub read : setGiven (table_of pool table) k9-words ≡ got k9
+  pub not-complete : ¬ (WideComplete pool table k9-words result work k9)

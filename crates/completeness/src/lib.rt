@@ -32,7 +32,7 @@ pub fn refused_then_none()
     ensures { RefusedThenNone }
 {}
 
-/// Of sets with other constraints that is false (`dimensions-needed`).
+/// Of sets with other constraints that is false: of K9, dimension x = boolean (`dimensions-needed`).
 pub fn dimensions_are_needed()
     ensures { DimensionsNeeded }
 {}
@@ -74,7 +74,7 @@ pub fn conflict_stays()
     ensures { ConflictStays }
 {}
 
-/// Of sets that aren't wide completeness is false (`wide-needed`).
+/// Of sets that aren't wide completeness is false: of K9, dimension x = boolean (`wide-needed`).
 pub fn wide_is_needed()
     ensures { WideNeeded }
 {}

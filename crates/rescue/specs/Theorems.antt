@@ -43,10 +43,16 @@ abbrev pub KeptIsASet : Type 0
 KeptIsASet = (pool table file : List ℕ) → Bytes file → KeptWell pool table file
 
 -- a file that was good comes out the same, with an empty list
+pub record GoodStays (pool table file : List ℕ) : Type 0 where
+  -- of its pieces, whatever is lent
+  pub same : (keptBytes (piecesOf pool table file) ≡ file) × (placesIn (piecesOf pool table file) file ≡ [])
+  -- of the call, where what is lent suffices
+  pub outcome : (kept skipped : List ℕ) → rescueGiven pool table file (length kept) (length skipped) ≡ got tt
+      → rescueCall pool table file kept skipped ≡ record { answer = got (length file / 16, 0); kept = over file kept; skipped = skipped }
+
 abbrev pub GoodFileStays : Type 0
 GoodFileStays = (pool table file : List ℕ) → Bytes file → length file % 16 ≡ 0 → (cs : List (Con ℕ)) → setGiven (table_of pool table) (words_in file) ≡ got cs
-    → (kept skipped : List ℕ) → rescueGiven pool table file (length kept) (length skipped) ≡ got tt
-    → rescueCall pool table file kept skipped ≡ record { answer = got (length file / 16, 0); kept = over file kept; skipped = skipped }
+    → GoodStays pool table file
 
 -- rescuing what was rescued changes nothing
 abbrev pub RescuedAgain : Type 0

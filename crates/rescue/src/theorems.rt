@@ -14,7 +14,7 @@ pub fn kept_is_a_set()
     ensures { KeptIsASet }
 {}
 
-/// A file that was good comes out the same, with an empty list of places (`good-outcome`).
+/// A file that was good comes out the same, with an empty list of places (`good-same`; of the call `good-outcome`).
 pub fn good_file_stays()
     ensures { GoodFileStays }
 {}

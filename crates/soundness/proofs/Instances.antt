@@ -1,6 +1,6 @@
 -- Instances: K2, K5 and K8 of the rules meet the premise of soundness; K10 doesn't, and the judge says no to its answer.
 -- Two accepted sets with a constraint that adding answers Violated: one meets the premise, the other doesn't.
-use Rattle.std.specs.Prelude.{◌≡◌, refl, Bool, true, false, List, [], ◌∷◌, ℕ, ltb, ℤ, pos, negsuc}
+use Rattle.std.specs.Prelude.{◌≡◌, refl, true, false, List, [], ◌∷◌, ℕ, pos, negsuc}
 use Rattle.std.proofs.Common.{ap, sym, subst, ltb-true}
 use mathlib.Core.List.Memᴰ
 use Rattle.std.proofs.Math.Option.{some}
@@ -8,11 +8,9 @@ use Rattle.rules.specs.Base.{got, bounded}
 use Rattle.rules.specs.Exponents.{frac}
 use Rattle.rules.specs.Trees.{
   var,
-  free,
   base,
   Factor,
   ◌↑◌,
-  Names,
   Ty,
   opened,
   basic,
@@ -29,7 +27,6 @@ use Rattle.rules.specs.Trees.{
   Binding,
   ◌≔◌,
 }
-use Rattle.rules.specs.Names.{Bytes, numbered}
 use Rattle.rules.specs.Replacing.{asProduct, find}
 use Rattle.rules.specs.Adding.{violated, addTest}
 use Rattle.rules.specs.Solving.{accepted, solve}
@@ -40,43 +37,11 @@ use Rattle.laws.specs.ByteOrder.{numbered-lawful}
 use Rattle.laws.specs.NameTable.{numbered-tells}
 use Rattle.laws.specs.Lists.{some≢none, got≢refused}
 use Rattle.soundness.specs.Claims.{Ordered, Given}
-
--- the names x, y, z, L, P and f, by their numbers
-abbrev x : ℕ
-x = 0
-
-abbrev y : ℕ
-y = 1
-
-abbrev z : ℕ
-z = 2
-
-abbrev L : ℕ
-L = 3
-
-abbrev P : ℕ
-P = 4
-
-abbrev f : ℕ
-f = 5
-
-abbrev bytes : List Bytes
-bytes = (120 ∷ []) ∷ (121 ∷ []) ∷ (122 ∷ []) ∷ (76 ∷ []) ∷ (80 ∷ []) ∷ (102 ∷ []) ∷ []
-
-unfoldable pub names : Names ℕ
-unfolding numbered
-names = numbered bytes
-
-unfoldable pub held : ℕ → Bool
-held n = ltb n 6
+use Rattle.soundness.specs.Examples.{x, y, L, P, f, bytes, names, held, to, k10, k10-bindings}
 
 pub ordered : Ordered names held
 unfolding rules names held
 ordered = record { lawful = numbered-lawful bytes; tells = record { same = λ i j h k. (numbered-tells bytes refl).same i j (ltb-true i 6 h) (ltb-true j 6 k) } }
-
--- a variable to a whole power
-abbrev to : ℕ → ℤ → Factor ℕ
-to v k = free (var v) ↑ frac k 1
 
 -- ══ The sets and their answers ══
 
@@ -100,13 +65,6 @@ k8 = isDim (dim (to x (pos 1) ∷ to y (negsuc 0) ∷ [])) ∷ []
 
 abbrev pub k8-bounds : List ℕ
 k8-bounds = x ∷ y ∷ []
-
--- x y = x z, then x = boolean
-abbrev pub k10 : List (Con ℕ)
-k10 = equal (dim (to x (pos 1) ∷ to y (pos 1) ∷ [])) (dim (to x (pos 1) ∷ to z (pos 1) ∷ [])) ∷ equal (opened (var x)) (basic boolean) ∷ []
-
-abbrev pub k10-bindings : List (Binding ℕ)
-k10-bindings = x ≔ basic boolean ∷ y ≔ dim (to z (pos 1) ∷ []) ∷ []
 
 -- P without fields = P with a field f: boolean
 abbrev pub fields : Con ℕ

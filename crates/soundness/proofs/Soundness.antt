@@ -14,9 +14,8 @@ use Rattle.soundness.proofs.Runs as Runs
 use Rattle.soundness.proofs.Judged as Judged
 use Rattle.soundness.proofs.Words as Words
 use Rattle.soundness.proofs.Own as Own
+use Rattle.soundness.specs.Examples.{names, held, k10, k10-bindings}
 use Rattle.soundness.proofs.Instances.{
-  names,
-  held,
   ordered,
   k2,
   k2-bindings,
@@ -33,8 +32,6 @@ use Rattle.soundness.proofs.Instances.{
   k8-given,
   k8-accepted,
   k8-premise,
-  k10,
-  k10-bindings,
   k10-given,
   k10-accepted,
   k10-no-premise,

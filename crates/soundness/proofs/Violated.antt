@@ -20,9 +20,8 @@ use Rattle.soundness.proofs.Alike.{same-means}
 use Rattle.soundness.proofs.Runs as Runs
 use Rattle.soundness.proofs.Judged as Judged
 use Rattle.soundness.proofs.Unmet as Unmet
+use Rattle.soundness.specs.Examples.{names, held}
 use Rattle.soundness.proofs.Instances.{
-  names,
-  held,
   ordered,
   fields,
   fields-given,

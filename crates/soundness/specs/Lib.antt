@@ -1,3 +1,4 @@
 pub mod Claims
 pub mod Excepted
+pub mod Examples
 pub mod Theorems

@@ -14,6 +14,7 @@ use Rattle.rules.specs.Judging.{judge}
 use Rattle.rules.specs.Calls.{lentWork, solved, solveCall, addCall, Entry, judgeCall}
 use Rattle.soundness.specs.Claims.{Ordered, Given, SolvedForm, Fails, YesOrLimits, Proposes, pointed, bindingsIn, boundsIn, SoundAnswer, JudgedSet}
 use Rattle.soundness.specs.Excepted.{OtherFields, ViolatedLine}
+use Rattle.soundness.specs.Examples.{names, held, k10, k10-bindings}
 
 -- ══ An accepted answer ══
 
@@ -29,11 +30,15 @@ AcceptedIsTrue N = (ν : Names N) (held : N → Bool) → Ordered ν held → (c
     → (bs : List (Binding N)) (bounds : List N) (rounds : ℕ) → solve ν bounded cs ≡ accepted bs bounds rounds
     → Premise ν cs bs → Solves ν cs bs bounds
 
--- without its premise that is false
-abbrev pub PremiseIsNeeded : Type 0
-PremiseIsNeeded = ¬ ((ν : Names ℕ) (held : ℕ → Bool) → Ordered ν held → (cs : List (Con ℕ)) → Given ν held cs
-    → (bs : List (Binding ℕ)) (bounds : List ℕ) (rounds : ℕ) → solve ν bounded cs ≡ accepted bs bounds rounds
-    → Solves ν cs bs bounds)
+-- without its premise that is false:
+pub record PremiseIsNeeded : Type 0 where
+  -- K10, x y = x z then x = boolean, is a given set, it is accepted, and its answer doesn't make it true
+  pub given : Given names held k10
+  pub accepts : solve names bounded k10 ≡ accepted k10-bindings [] 3
+  pub no-solution : ¬ (Solves names k10 k10-bindings [])
+  -- so at these names not every accepted answer makes its set true
+  pub needed : ¬ ((cs : List (Con ℕ)) (bs : List (Binding ℕ)) (bounds : List ℕ) (rounds : ℕ) → Given names held cs
+      → solve names bounded cs ≡ accepted bs bounds rounds → Solves names cs bs bounds)
 
 -- on the solver's own answer, under that premise, the judge says yes, 7 or 8
 abbrev pub OwnAnswerIsConfirmed : Type 0 → Type 0
@@ -134,11 +139,9 @@ module _ (pool table con : List ℕ) where
 abbrev pub ViolatedCallIsFinal : Type 0
 ViolatedCallIsFinal = (pool table con : List ℕ) → ViolatedWords pool table con
 
--- the exception is real, and the premise is needed
+-- the exception is real, and the premise is needed: both at the names of the examples
 pub record ViolatedLimits : Type 0 where
-  pub exception : ¬ ((ν : Names ℕ) (held : ℕ → Bool) → Ordered ν held → (cs : List (Con ℕ)) → Given ν held cs
-      → (bs : List (Binding ℕ)) (bounds : List ℕ) (rounds : ℕ) → solve ν bounded cs ≡ accepted bs bounds rounds → Premise ν cs bs
-      → (c : Con ℕ) → Memᴰ c cs → ¬ (addTest ν c ≡ violated))
-  pub premise : ¬ ((ν : Names ℕ) (held : ℕ → Bool) → Ordered ν held → (cs : List (Con ℕ)) → Given ν held cs
-      → (bs : List (Binding ℕ)) (bounds : List ℕ) (rounds : ℕ) → solve ν bounded cs ≡ accepted bs bounds rounds
-      → (c : Con ℕ) → Memᴰ c cs → addTest ν c ≡ violated → OtherFields ν c)
+  pub exception : ¬ ((cs : List (Con ℕ)) (bs : List (Binding ℕ)) (bounds : List ℕ) (rounds : ℕ) → Given names held cs
+      → solve names bounded cs ≡ accepted bs bounds rounds → Premise names cs bs → (c : Con ℕ) → Memᴰ c cs → ¬ (addTest names c ≡ violated))
+  pub premise : ¬ ((cs : List (Con ℕ)) (bs : List (Binding ℕ)) (bounds : List ℕ) (rounds : ℕ) → Given names held cs
+      → solve names bounded cs ≡ accepted bs bounds rounds → (c : Con ℕ) → Memᴰ c cs → addTest names c ≡ violated → OtherFields names c)

@@ -16,7 +16,7 @@ pub fn accepted_is_true<N>()
     ensures { AcceptedIsTrue N }
 {}
 
-/// Without its premise that is false: K10 is accepted, and its answer is no solution (`premise-needed`).
+/// Without its premise that is false: K10, x y = x z then x = boolean, is accepted, and its answer is no solution (`k10-fails`, `premise-needed`).
 pub fn premise_is_needed()
     ensures { PremiseIsNeeded }
 {}
@@ -79,8 +79,8 @@ pub fn violated_call_is_final()
     ensures { ViolatedCallIsFinal }
 {}
 
-/// The exception is met by a set that is accepted under the premise; without the premise a set is accepted that holds another Violated
-/// constraint (`exception-needed`, `premise-needed` of Violated).
+/// At the names of the examples a set that is accepted under the premise meets the exception; without the premise a set is accepted that holds
+/// another Violated constraint (`exception-needed`, `premise-needed` of Violated).
 pub fn violated_limits_are_needed()
     ensures { ViolatedLimits }
 {}

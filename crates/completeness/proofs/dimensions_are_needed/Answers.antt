@@ -1,5 +1,5 @@
-use Rattle.completeness.proofs.Instances.{dimensions-needed}
+use Rattle.completeness.proofs.Instances.{k9-read, dimensions-needed}
 use Rattle.completeness.proofs.dimensions_are_needed.Goals as goal
 
 pub returns : goal.returns
-returns c = λ claim. dimensions-needed (λ set cs read. claim _ _ set _ _ cs read)
+returns c = record { read = k9-read; not-complete = dimensions-needed }

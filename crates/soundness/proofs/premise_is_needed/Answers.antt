@@ -1,6 +1,11 @@
-use Rattle.soundness.proofs.Instances.{names, held, ordered}
-use Rattle.soundness.proofs.Soundness.{premise-needed}
+use Rattle.soundness.proofs.Instances.{k10-given, k10-accepted}
+use Rattle.soundness.proofs.Soundness.{k10-fails, premise-needed}
 use Rattle.soundness.proofs.premise_is_needed.Goals as goal
 
 pub returns : goal.returns
-returns c = λ claim. premise-needed (λ cs bs bounds rounds given accepts. claim names held ordered cs given bs bounds rounds accepts)
+returns c = record {
+  given = k10-given;
+  accepts = k10-accepted;
+  no-solution = λ s. k10-fails.fails (s k10-fails.constraint k10-fails.given);
+  needed = premise-needed;
+}
