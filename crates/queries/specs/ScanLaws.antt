@@ -1,7 +1,7 @@
 -- The open names of records that hold a tree are those of the tree.
 use Rattle.std.specs.Prelude.{◌≡◌, Bool, true, false, ◌||◌, length}
 use Rattle.std.proofs.Math.Path.{refl, ap}
-use Rattle.std.proofs.Common.{◌⊎◌, ⊎_elim, sym, ap₂, ◌∙◌, add-zero}
+use Rattle.std.proofs.Common.{sym, ap₂, ◌∙◌, add-zero}
 use mathlib.Core.List.{List, [], ◌∷◌, ◌++◌, append_assoc}
 use Prim.Native.Nat.{ℕ, zero, suc, ◌+◌, ◌-◌, ◌<◌, ◌≤◌}
 use native.Mathlib.Omega.{arith}
@@ -34,20 +34,6 @@ unfolding variablesIn parametersIn namesIn collect
 choose-none Variables = refl
 choose-none Parameters = refl
 choose-none Both = refl
-
--- a variable is chosen among variables, and where both are asked for
-pub choose-var : (k : Kind) (x : ℕ) → (k ≡ Variables) ⊎ (k ≡ Both) → x ∷ [] ≡ choose k (tree.var x ∷ [])
-unfolding variablesIn parametersIn namesIn collect
-choose-var Variables x h = refl
-choose-var Both x h = refl
-choose-var Parameters x h = ⊎_elim (λ e. let z : ◌≡◌ {A = ℕ} 0 1 = cc in absurd (omega arith)) (λ e. let z : ◌≡◌ {A = ℕ} 0 1 = cc in absurd (omega arith)) h
-
--- a parameter among parameters, and where both are asked for
-pub choose-par : (k : Kind) (x : ℕ) → (k ≡ Parameters) ⊎ (k ≡ Both) → x ∷ [] ≡ choose k (tree.par x ∷ [])
-unfolding variablesIn parametersIn namesIn collect
-choose-par Parameters x h = refl
-choose-par Both x h = refl
-choose-par Variables x h = ⊎_elim (λ e. let z : ◌≡◌ {A = ℕ} 0 1 = cc in absurd (omega arith)) (λ e. let z : ◌≡◌ {A = ℕ} 0 1 = cc in absurd (omega arith)) h
 
 pub choose-quant : (k : Kind) (i : ℕ) → choose k (tree.quant i ∷ []) ≡ []
 unfolding variablesIn parametersIn namesIn collect

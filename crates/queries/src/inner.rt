@@ -4,7 +4,7 @@ ghost use Rattle.std.specs.Prelude.{◌≡◌, List, [], ◌∷◌, ◌++◌, �
 ghost use Rattle.rules.specs.Base.{any, isNil};
 ghost use Rattle.rules.specs.Trees.{Ty, size};
 ghost use Rattle.rules.specs.Names.{Bytes, numbered};
-ghost use Rattle.rules.specs.Contents.{closed, contains, unmixed, sort};
+ghost use Rattle.rules.specs.Contents.{closed, unmixed, sort};
 ghost use Rattle.laws.specs.ReadLists.{Every};
 ghost use Rattle.names.specs.Told.{toldOrder};
 ghost use Rattle.records.specs.Views.{viewAt};
@@ -48,13 +48,15 @@ pub fn chosen(k: Kind, o: Open) -> Option<u32>
 {
     match o {
         Open::Var(x) => match k {
-            Kind::Variables | Kind::Both => Some(x),
+            Kind::Variables => Some(x),
             Kind::Parameters => None,
+            Kind::Both => Some(x),
         },
         Open::Quant(_) => None,
         Open::Par(x) => match k {
-            Kind::Parameters | Kind::Both => Some(x),
             Kind::Variables => None,
+            Kind::Parameters => Some(x),
+            Kind::Both => Some(x),
         },
     }
 }
@@ -157,14 +159,6 @@ pub fn end_of(s: &[u32], at: usize) -> usize
     ensures { (t : Ty ℕ) → Holds s.now t at → result ≡ at + size t }
 {
     at + length_at(s, at)
-}
-
-// Is x a variable of the type at a place?
-pub fn contains_at(s: &[u32], at: usize, x: u32) -> bool
-    requires { (t : Ty ℕ) × Holds s.now t at }
-    ensures { (t : Ty ℕ) (names : List Bytes) → Holds s.now t at → result ≡ contains (numbered names) x t }
-{
-    occurs(s, at, end_of(s, at), Kind::Variables, x)
 }
 
 // Is the type at a place closed?
