@@ -4,7 +4,7 @@ use Rattle.std.proofs.Common.{ap, sym, ◌∙◌}
 use Rattle.rules.specs.Adding as rules
 use Rattle.rules.specs.Calls.{AddedTo}
 use Rattle.rules.specs.Numbers.{refusalIn, number}
-use Rattle.laws.specs.Numbers.{toldBy-injective}
+use Rattle.laws.specs.Numbers.{toldBy-injective, answer-in-by}
 use Rattle.adding.specs.declared.Verdict.{Verdict}
 use Rattle.adding.specs.declared.Verdict.TheVariants.{Satisfied, Violated, Unknown}
 use Rattle.adding.specs.Told.{toldVerdict, counted, addedAs}
@@ -34,4 +34,4 @@ add-determined pool table buffer count con p q a b h k =
 
 pub add-numbered : AddNumbered
 unfolding number
-add-numbered pool table buffer count con p a h = ap (λ (r : AddedTo). refusalIn r.answer) h
+add-numbered pool table buffer count con p a h = answer-in-by counted p ∙ ap (λ (r : AddedTo). refusalIn r.answer) h

@@ -2,11 +2,11 @@
 use Rattle.std.specs.Prelude.{◌≡◌, List, ℕ, Result}
 use Rattle.rules.specs.Calls.{addCall}
 use Rattle.rules.specs.Numbers as numbers
-use Rattle.rules.specs.Numbers.{refusalIn, number}
-use Rattle.rules.specs.Refusals.{toldBy}
+use Rattle.rules.specs.Numbers.{number}
+use Rattle.rules.specs.Refusals.{numberAnswer}
 use Rattle.rules.specs.declared.Refusal.{Refusal}
 use Rattle.adding.specs.declared.Verdict.{Verdict}
-use Rattle.adding.specs.Told.{counted, addedAs}
+use Rattle.adding.specs.Told.{addedAs}
 
 -- the contract of `add` leaves no choice: two results that it allows coincide, the answer and the buffer
 abbrev pub AddDetermined : Type 0
@@ -17,4 +17,4 @@ AddDetermined = (pool table buffer : List ℕ) (count : ℕ) (con : List ℕ) (p
 abbrev pub AddNumbered : Type 0
 AddNumbered = (pool table buffer : List ℕ) (count : ℕ) (con : List ℕ) (p : Result (Verdict × ℕ) Refusal) (a : List ℕ)
     → addedAs p a ≡ addCall pool table buffer count con
-    → refusalIn (toldBy counted p) ≡ number (numbers.added (addCall pool table buffer count con))
+    → numberAnswer p ≡ number (numbers.added (addCall pool table buffer count con))

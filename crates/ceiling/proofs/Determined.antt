@@ -3,7 +3,7 @@ use Rattle.std.specs.Prelude.{◌≡◌}
 use Rattle.std.proofs.Common.{sym, ap, ◌∙◌}
 use Rattle.rules.specs.Ceiling.{Ceiling}
 use Rattle.rules.specs.Numbers.{refusalIn, number}
-use Rattle.laws.specs.Numbers.{toldBy-injective}
+use Rattle.laws.specs.Numbers.{toldBy-injective, answer-in-by}
 use Rattle.ceiling.specs.declared.Most.{Most}
 use Rattle.ceiling.specs.Told.{toldMost}
 use Rattle.ceiling.specs.Theorems.{CeilingDetermined, CeilingNumbered}
@@ -16,4 +16,4 @@ ceiling-determined pool table words p q h k = toldBy-injective toldMost most-inj
 
 pub ceiling-numbered : CeilingNumbered
 unfolding number
-ceiling-numbered pool table words p h = ap refusalIn h
+ceiling-numbered pool table words p h = answer-in-by toldMost p ∙ ap refusalIn h

@@ -5,10 +5,10 @@ use Rattle.std.proofs.Math.Path.{ap}
 use Rattle.std.proofs.Common.{sym, ◌∙◌}
 use Rattle.rules.specs.Exponents.{Exp}
 use Rattle.rules.specs.Numbers.{power, refusalIn, number}
-use Rattle.rules.specs.Refusals.{toldBy}
+use Rattle.rules.specs.Refusals.{toldBy, numberAnswer}
 use Rattle.rules.specs.declared.Refusal.{Refusal}
 use Rattle.rules.specs.Base.{Got}
-use Rattle.laws.specs.Numbers.{toldBy-injective}
+use Rattle.laws.specs.Numbers.{toldBy-injective, answer-in-by}
 use Rattle.exponents.specs.declared.Exponent.{Exponent}
 use Rattle.exponents.specs.Answers.{expOf}
 
@@ -23,6 +23,6 @@ module _ (g : Got Exp) (p : Result Exponent Refusal) (h : toldBy expOf p ≡ g) 
   pub determined : (q : Result Exponent Refusal) → toldBy expOf q ≡ g → p ≡ q
   determined q k = toldBy-injective expOf exp-injective p q (h ∙ sym k)
 
-  pub numbered : refusalIn (toldBy expOf p) ≡ number (power g)
+  pub numbered : numberAnswer p ≡ number (power g)
   unfolding number
-  numbered = ap refusalIn h
+  numbered = answer-in-by expOf p ∙ ap refusalIn h

@@ -2,8 +2,8 @@
 use Rattle.std.specs.Prelude.{◌≡◌, ℕ, pos, negsuc, Result}
 use Rattle.rules.specs.Base.{Got, got, refused}
 use Rattle.rules.specs.Exponents.{Exp, frac}
-use Rattle.rules.specs.Numbers.{power, refusalIn, number}
-use Rattle.rules.specs.Refusals.{toldBy}
+use Rattle.rules.specs.Numbers.{power, number}
+use Rattle.rules.specs.Refusals.{toldBy, numberAnswer}
 use Rattle.rules.specs.Values.{sumCall, timesCall, negationCall, quotientCall}
 use Rattle.rules.specs.Writing.{signed}
 use Rattle.rules.specs.declared.Refusal.{Refusal}
@@ -23,7 +23,7 @@ pub record CallsDetermined : Type 0 where
 
 -- and the number of such a result is the rules': 0, or that of its refusal
 abbrev pub Numbered : Got Exp → Type 0
-Numbered g = (p : Result Exponent Refusal) → toldBy expOf p ≡ g → refusalIn (toldBy expOf p) ≡ number (power g)
+Numbered g = (p : Result Exponent Refusal) → toldBy expOf p ≡ g → numberAnswer p ≡ number (power g)
 
 pub record CallsNumbered : Type 0 where
   pub adding : (a b : Exp) → Numbered (sumCall a b)

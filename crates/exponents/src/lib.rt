@@ -52,20 +52,11 @@ impl Exponent {
         self.num.cast_unsigned()
     }
 
-    /// The denominator as a word.
-    pub fn den_word(self) -> u32
-        ensures { result ≡ self.den }
-    {
-        self.den
-    }
-
-    /// The constants: the rules' zero and one.
-    pub fn constants() -> (Exponent, Exponent)
-        ensures zero { expOf result.0 ≡ nought }
-        ensures one { expOf result.1 ≡ one }
-    {
-        (Exponent::ZERO, Exponent::ONE)
-    }
+    /// The constants are the rules' zero and one.
+    pub fn constants()
+        ensures zero { expOf Exponent.ZERO ≡ nought }
+        ensures one { expOf Exponent.ONE ≡ one }
+    {}
 
     /// Is it 1, with the denominator 1?
     pub fn is_one(self) -> bool

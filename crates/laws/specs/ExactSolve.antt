@@ -126,7 +126,7 @@ module _ {N : Type 0} (ν : Names N) where
   con-below look (is_scalar p) = next (factors-below ν look p p) (λ q. same _)
   con-below look (hasField n s t) = next (ty_below ν look s) (λ s'. next (ty_below ν look t) (λ t'. same _))
 
-  binding-below : (look : Look N) (b : Binding N) → Below (replaceBinding ν bounded look b) (replaceBinding ν exact look b)
+  pub binding-below : (look : Look N) (b : Binding N) → Below (replaceBinding ν bounded look b) (replaceBinding ν exact look b)
   unfolding replaceBinding
   binding-below look (x ≔ t) = next (ty_below ν look t) (λ t'. same _)
 

@@ -262,7 +262,7 @@ module _ {N : Type 0} (ν : Names N) (l : Limits) (s : State N) (flat : depthSta
       let r = most depthCon rest 64 (rest-flat rest f.kept) in
       same-given (each (replaceCon ν l (bindings ν (x ≔ t ∷ []))) rest) (λ cs. each (replaceBinding ν l (bindings ν (x ≔ t ∷ []))) s.binds >>= λ bs. limited l (record { cons = cs; binds = bs ++ (x ≔ t ∷ []) })) (λ cs. each (replaceBinding ν l (bindings ν (x ≔ t ∷ []))) s.binds >>= λ bs. counting l (record { cons = cs; binds = bs ++ (x ≔ t ∷ []) })) (λ cs i.
       same-given (each (replaceBinding ν l (bindings ν (x ≔ t ∷ []))) s.binds) (λ bs. limited l (record { cons = cs; binds = bs ++ (x ≔ t ∷ []) })) (λ bs. counting l (record { cons = cs; binds = bs ++ (x ≔ t ∷ []) })) (λ bs j.
-          let u = (cons-deep ν l x t 0 low rest).holds cs i in
-          let v = (bindings-deep ν l x t 0 low s.binds).holds bs j in
-          let w = max_both depthBinding bs (x ≔ t ∷ []) in
-          counted l (record { cons = cs; binds = bs ++ (x ≔ t ∷ []) }) (omega (arith, flat, r, u, v, w, low))))
+      let u = (cons-deep ν l x t 0 low rest).holds cs i in
+      let v = (bindings-deep ν l x t 0 low s.binds).holds bs j in
+      let w = max_both depthBinding bs (x ≔ t ∷ []) in
+      counted l (record { cons = cs; binds = bs ++ (x ≔ t ∷ []) }) (omega (arith, flat, r, u, v, w, low))))

@@ -12,12 +12,14 @@ pub fn closed_types_stay<N>()
     ensures { ClosedStays N }
 {}
 
-/// Replacing by well formed types makes of a well formed type or constraint a well formed one, or refuses (`ty_kept`, `con-kept`).
+/// Replacing by well formed types makes of a well formed product, type, constraint or binding a well formed one, or refuses (`product-kept`,
+/// `ty_kept`, `con-kept`, `binding-kept`).
 pub fn replacing_keeps_well_formed<N>()
     ensures { ReplacingKeepsGood N }
 {}
 
-/// A variable that is replaced by a type in which it does not occur is gone (`ty-on`, `con-on`).
+/// A variable that is replaced by a type in which it does not occur is gone; and each open name that then stands there is one of the type put in, or
+/// another one that stood there before (`ty-on`, `con-on`).
 pub fn replaced_variable_is_gone<N>()
     ensures { ReplacedIsGone N }
 {}
@@ -33,29 +35,31 @@ pub fn only_binding_deepens<N>()
     ensures { OnlyBindingDeepens N }
 {}
 
-/// Where bounded arithmetic, replacing and solving answer, the exact ones answer the same (`sum_below`, `ty_below`, `run-below` and their like).
+/// Where bounded arithmetic, replacing and solving answer, the exact ones answer the same (`sum_below`, `ty_below`, `con-below`, `run-below` and
+/// their like).
 pub fn bounded_answers_are_exact<N>()
     ensures { BoundedIsExact N }
 {}
 
-/// Exponents in lowest terms are a field (`plus_comm` to `mul-plus`).
+/// Exponents in lowest terms are a field: its operations don't leave it, and its laws hold (`nought-lowest` to `mul-plus`).
 pub fn exponents_are_a_field()
     ensures { ExponentField }
 {}
 
-/// Products are a commutative group with powers; multiplying adds the powers of each atom, and the powers decide the product (`merge-power` to
-/// `raise-mul`, `by-powers`).
+/// Products as they are held are a commutative group with powers: its operations don't leave it, and its laws hold; multiplying adds the powers of
+/// each atom, and the powers decide the product (`merge-proper` to `inverse-inverse`).
 pub fn products_are_a_group<N>()
     ensures { ProductGroup N }
 {}
 
-/// What was written is read back, so that words hold one set at the most (`read-con`, `read_set`, `words_back`, `one_set`).
+/// What was written is read back: factors, types, constraints, bindings, bounds and sets, so that words hold one set at the most (`read-factors`,
+/// `read-ty`, `read-con`, `read-binding`, `read-bound`, `read_set`, `words_back`, `one_set`).
 pub fn written_is_read_back()
     ensures { WrittenIsRead }
 {}
 
-/// What was read is what stands there: a record's length is that of its part, and a list with a false length is no list (`ty-read`, `con-read`,
-/// `binding-read`, `bound-read`, `all_read`, `taken`).
+/// What was read is what stands there: a record's length is that of its part, and a list with a false length is no list (`factors-read`, `ty-read`,
+/// `con-read`, `binding-read`, `bound-read`, `all_read`, `taken`).
 pub fn read_is_what_stands()
     ensures { ReadIsWritten }
 {}

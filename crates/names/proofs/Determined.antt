@@ -8,10 +8,10 @@ use Rattle.rules.specs.Base.{Got, got, refused}
 use Rattle.rules.specs.Names.{Bytes, orderBytes, tableGiven, nameAsked, partAsked, Entered, enter}
 use Rattle.rules.specs.Numbers as numbers
 use Rattle.rules.specs.Numbers.{refusalIn, number}
-use Rattle.rules.specs.Refusals.{told}
+use Rattle.rules.specs.Refusals.{told, numberAnswer}
 use Rattle.rules.specs.declared.Refusal.{Refusal}
 use Rattle.rules.specs.declared.Was.{Was}
-use Rattle.laws.specs.Numbers.{told-injective}
+use Rattle.laws.specs.Numbers.{told-injective, answer-in}
 use Rattle.std.specs.declared.cmp.Ordering.{Ordering}
 use Rattle.std.specs.declared.cmp.Ordering.TheVariants.{Less, Equal, Greater}
 use Rattle.names.specs.Theorems.{OneResult}
@@ -47,25 +47,25 @@ module _ (pool table : List ℕ) where
   pub check-table-determined : (p q : Result (Unit {0}) Refusal) → told p ≡ tableGiven pool table → told q ≡ tableGiven pool table → p ≡ q
   check-table-determined p q h k = told-injective p q (h ∙ sym k)
 
-  pub check-table-numbered : (p : Result (Unit {0}) Refusal) → told p ≡ tableGiven pool table → refusalIn (told p) ≡ number (numbers.checked (tableGiven pool table))
+  pub check-table-numbered : (p : Result (Unit {0}) Refusal) → told p ≡ tableGiven pool table → numberAnswer p ≡ number (numbers.checked (tableGiven pool table))
   unfolding number
-  check-table-numbered p h = ap refusalIn h
+  check-table-numbered p h = answer-in p ∙ ap refusalIn h
 
   -- `check_number`
   pub check-number-determined : (i : ℕ) (p q : Result (Unit {0}) Refusal) → told p ≡ refusalOf (nameAsked pool table i) → told q ≡ refusalOf (nameAsked pool table i) → p ≡ q
   check-number-determined i p q h k = told-injective p q (h ∙ sym k)
 
-  pub check-number-numbered : (i : ℕ) (p : Result (Unit {0}) Refusal) → told p ≡ refusalOf (nameAsked pool table i) → refusalIn (told p) ≡ number (numbers.named (nameAsked pool table i))
+  pub check-number-numbered : (i : ℕ) (p : Result (Unit {0}) Refusal) → told p ≡ refusalOf (nameAsked pool table i) → numberAnswer p ≡ number (numbers.named (nameAsked pool table i))
   unfolding number
-  check-number-numbered i p h = ap refusalIn h ∙ asked_in (nameAsked pool table i)
+  check-number-numbered i p h = answer-in p ∙ ap refusalIn h ∙ asked_in (nameAsked pool table i)
 
   -- `enter`: the answer, and all that pool and table hold afterwards
   pub enter-determined : (name : Bytes) (a b : Result (ℕ × Was) Refusal) (p q t u : List ℕ) → entered a p t ≡ enter pool table name → entered b q u ≡ enter pool table name → OneResult a b p q t u
   enter-determined name a b p q t u h k = entered-tells a b p q t u (h ∙ sym k)
 
-  pub enter-numbered : (name : Bytes) (a : Result (ℕ × Was) Refusal) (p t : List ℕ) → entered a p t ≡ enter pool table name → refusalIn (told a) ≡ number (numbers.entered (enter pool table name))
+  pub enter-numbered : (name : Bytes) (a : Result (ℕ × Was) Refusal) (p t : List ℕ) → entered a p t ≡ enter pool table name → numberAnswer a ≡ number (numbers.entered (enter pool table name))
   unfolding number
-  enter-numbered name a p t h = ap (λ (e : Entered). refusalIn e.answer) h
+  enter-numbered name a p t h = answer-in a ∙ ap (λ (e : Entered). refusalIn e.answer) h
 
 -- `name_of`: the place and the bytes. Its number is that of `check_number`
 pub name-of-determined : (pool : Bor (List ℕ)) (table : List ℕ) (i : ℕ) (p q : Bor (List ℕ)) → IsPart pool p (partAsked pool.now table i) → IsPart pool q (partAsked pool.now table i) → (p.ref_ptr ≡ q.ref_ptr) × (p.now ≡ q.now)

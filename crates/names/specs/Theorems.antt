@@ -5,8 +5,8 @@ use Rattle.std.specs.declared.cmp.Ordering.{Ordering}
 use Rattle.rules.specs.Base.{Got}
 use Rattle.rules.specs.Names.{Bytes, orderBytes, tableGiven, nameAsked, partAsked, enter}
 use Rattle.rules.specs.Numbers as numbers
-use Rattle.rules.specs.Numbers.{refusalIn, number}
-use Rattle.rules.specs.Refusals.{told}
+use Rattle.rules.specs.Numbers.{number}
+use Rattle.rules.specs.Refusals.{told, numberAnswer}
 use Rattle.rules.specs.declared.Refusal.{Refusal}
 use Rattle.rules.specs.declared.Was.{Was}
 use Rattle.laws.specs.Entering.{SameFront}
@@ -39,11 +39,11 @@ pub record CallsDetermined : Type 0 where
 -- the number of an answer is the rules': 0, or that of its refusal. `compare` refuses nothing, and the number of `name_of` is that of `check_number`
 pub record CallsNumbered : Type 0 where
   pub checking : (pool table : List ℕ) (p : Result (Unit {0}) Refusal) → told p ≡ tableGiven pool table
-      → refusalIn (told p) ≡ number (numbers.checked (tableGiven pool table))
+      → numberAnswer p ≡ number (numbers.checked (tableGiven pool table))
   pub asking : (pool table : List ℕ) (i : ℕ) (p : Result (Unit {0}) Refusal) → told p ≡ refusalOf (nameAsked pool table i)
-      → refusalIn (told p) ≡ number (numbers.named (nameAsked pool table i))
+      → numberAnswer p ≡ number (numbers.named (nameAsked pool table i))
   pub entering : (pool table : List ℕ) (name : Bytes) (a : Result (ℕ × Was) Refusal) (p t : List ℕ) → entered a p t ≡ enter pool table name
-      → refusalIn (told a) ≡ number (numbers.entered (enter pool table name))
+      → numberAnswer a ≡ number (numbers.entered (enter pool table name))
 
 -- ══ What names promise ══
 

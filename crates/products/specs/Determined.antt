@@ -4,12 +4,12 @@ use Rattle.std.proofs.Math.Path.{◌≡◌, ap, sym}
 use Rattle.std.specs.Prelude.{Result, refl, ℕ, List, [], ◌∷◌, map}
 use Rattle.std.proofs.Common.{ap₂, ◌∙◌, arith}
 use Rattle.rules.specs.Base.{Got, got, refused}
-use Rattle.rules.specs.Refusals.{toldBy}
+use Rattle.rules.specs.Refusals.{toldBy, numberAnswer}
 use Rattle.rules.specs.Numbers as numbers
 use Rattle.rules.specs.Numbers.{refusalIn, number}
 use Rattle.rules.specs.Values.{FactorValue, ProductValue}
 use Rattle.rules.specs.declared.Refusal.{Refusal}
-use Rattle.laws.specs.Numbers.{toldBy-injective}
+use Rattle.laws.specs.Numbers.{toldBy-injective, answer-in-by}
 use Rattle.exponents.specs.Determined.{exp-injective}
 use Rattle.products.specs.declared.Factor.{Factor}
 use Rattle.products.specs.declared.Product.{Product}
@@ -46,6 +46,6 @@ module _ (p : Result Product Refusal) (m : Got Tree) (h : toldBy given p ≡ ans
   pub determined : (q : Result Product Refusal) → toldBy given q ≡ answer m → p ≡ q
   determined q k = toldBy-injective given given-injective p q (h ∙ sym k)
 
-  pub numbered : refusalIn (toldBy given p) ≡ number (numbers.product m)
+  pub numbered : numberAnswer p ≡ number (numbers.product m)
   unfolding number
-  numbered = ap refusalIn h ∙ refusal-in m
+  numbered = answer-in-by given p ∙ ap refusalIn h ∙ refusal-in m

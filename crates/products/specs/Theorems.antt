@@ -3,9 +3,9 @@ use Rattle.std.specs.Prelude.{◌≡◌, List, ℕ, Result}
 use Rattle.rules.specs.Base.{Got}
 use Rattle.rules.specs.Exponents.{Exp}
 use Rattle.rules.specs.Numbers as numbers
-use Rattle.rules.specs.Numbers.{refusalIn, number}
+use Rattle.rules.specs.Numbers.{number}
 use Rattle.rules.specs.Products.{scalar}
-use Rattle.rules.specs.Refusals.{toldBy}
+use Rattle.rules.specs.Refusals.{toldBy, numberAnswer}
 use Rattle.rules.specs.Values.{ProductValue, productValue, multiplyCall, divideCall, inverseCall, raiseCall}
 use Rattle.rules.specs.declared.Refusal.{Refusal}
 use Rattle.products.specs.declared.Product.{Product}
@@ -24,7 +24,7 @@ pub record CallsDetermined : Type 0 where
 
 -- and the number of such a result is the rules': 0, or that of its refusal
 abbrev pub Numbered : Got Tree → Type 0
-Numbered m = (p : Result Product Refusal) → toldBy given p ≡ answer m → refusalIn (toldBy given p) ≡ number (numbers.product m)
+Numbered m = (p : Result Product Refusal) → toldBy given p ≡ answer m → numberAnswer p ≡ number (numbers.product m)
 
 pub record CallsNumbered : Type 0 where
   pub multiplying : (pool table : List ℕ) (v w : ProductValue) → Numbered (multiplyCall pool table v w)

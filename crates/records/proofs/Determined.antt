@@ -5,7 +5,7 @@ use Rattle.std.proofs.Common.{sym, ◌∙◌}
 use Rattle.rules.specs.Base.{Got}
 use Rattle.rules.specs.Numbers.{refusalIn, number}
 use Rattle.rules.specs.Writing.{Rec, rec}
-use Rattle.laws.specs.Numbers.{told-injective}
+use Rattle.laws.specs.Numbers.{told-injective, answer-in}
 use Rattle.names.specs.Theorems.{OneAnswer}
 use Rattle.records.specs.declared.Words.{Words}
 use Rattle.records.specs.Theorems.{OneRecord, NumberedAs}
@@ -15,7 +15,7 @@ answer-determined g p q h k = told-injective p q (h ∙ sym k)
 
 pub answer-numbered : (g : Got (Unit {0})) → NumberedAs g
 unfolding number
-answer-numbered g p h = ap refusalIn h
+answer-numbered g p h = answer-in p ∙ ap refusalIn h
 
 pub record-determined : (r : Rec) → OneRecord r
 record-determined r p q h k = same p.kind q.kind p.a q.a p.b q.b p.c q.c (h ∙ sym k)

@@ -2,8 +2,8 @@
 use Rattle.std.specs.Prelude.{◌≡◌, List, ℕ, Result}
 use Rattle.rules.specs.Base.{Got}
 use Rattle.rules.specs.Calls.{aloneGiven, setCall, typeCall, schemeCall, bindingsCall}
-use Rattle.rules.specs.Numbers.{checked, refusalIn, number}
-use Rattle.rules.specs.Refusals.{told}
+use Rattle.rules.specs.Numbers.{checked, number}
+use Rattle.rules.specs.Refusals.{told, numberAnswer}
 use Rattle.rules.specs.Writing.{Rec}
 use Rattle.rules.specs.declared.Refusal.{Refusal}
 use Rattle.names.specs.Theorems.{OneAnswer}
@@ -18,7 +18,7 @@ OneRecord r = (p q : Words) → toldWords p ≡ r → toldWords q ≡ r → p �
 
 -- what a clause `told result ≡ g` allows has the number of that outcome: 0, or that of the refusal
 abbrev pub NumberedAs : Got (Unit {0}) → Type 0
-NumberedAs g = (p : Result (Unit {0}) Refusal) → told p ≡ g → refusalIn (told p) ≡ number (checked g)
+NumberedAs g = (p : Result (Unit {0}) Refusal) → told p ≡ g → numberAnswer p ≡ number (checked g)
 
 pub record CallsDetermined : Type 0 where
   pub entering : (pool table words : List ℕ) → OneAnswer (aloneGiven pool table words)

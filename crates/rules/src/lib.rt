@@ -1,6 +1,8 @@
 // What all code shares: the refusals with their numbers, and the limits.
 #![tactic(auto)]
 
+pub mod examples;
+
 ghost use Rattle.std.specs.Prelude.{◌≡◌};
 ghost use Rattle.rules.specs.Refusals.{number_of};
 
