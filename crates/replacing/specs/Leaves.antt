@@ -5,13 +5,15 @@ use Rattle.rules.specs.Base.{Got, got, refused, bounded, is_none}
 use Rattle.rules.specs.Refusals.{number_of}
 use Rattle.rules.specs.declared.Refusal.{Refusal}
 use Rattle.rules.specs.Replacing.{Look, replaceProduct, replaceTy, replaceTys, replaceFields, replaceCon, replaceBinding}
-use Rattle.rules.specs.Trees.{Open, Product, Ty, opened, Tys, Fields, Con, Binding}
-use Rattle.rules.specs.Writing.{Rec}
+use Rattle.rules.specs.Trees.{Open, Product, Ty, opened, Tys, Fields, Con, Binding, sizeTys, sizeFields}
+use Rattle.rules.specs.Writing.{Rec, writeTys, writeFields}
 use Rattle.records.specs.Cut.{cut}
 use Rattle.types.specs.declared.writer.Writer.{Writer}
 use Rattle.types.specs.Written.{Writes}
 use Rattle.replacing.specs.declared.substitution.Substitution.{Substitution}
-use Rattle.replacing.specs.Well.{names}
+use Rattle.replacing.specs.declared.inner.walk.Parts.{Parts}
+use Rattle.replacing.specs.declared.inner.walk.Parts.TheVariants as parts
+use Rattle.replacing.specs.Well.{names, GoodTys, GoodFields}
 
 -- what an open name becomes
 abbrev pub becomes : Look ℕ → Open ℕ → Ty ℕ
@@ -52,3 +54,17 @@ module _ (by : Substitution) where
 
   abbrev pub bindingBy : Binding ℕ → Got (Binding ℕ)
   bindingBy b = replaceBinding (names by.names.pool.now by.names.table.now) bounded by.lent.0 b
+
+  -- parts in a row: types, or fields
+  abbrev pub LeavesParts : Writer → Writer → Result (Unit {0}) Refusal → Parts → Type 0
+  LeavesParts old new r (parts.Types ts) = Leaves writeTys old new r (typesBy ts.trees.0)
+  LeavesParts old new r (parts.Fields fs) = Leaves writeFields old new r (fieldsBy fs.trees.0)
+
+abbrev pub GoodParts : List ℕ → List ℕ → Parts → Type 0
+GoodParts pool table (parts.Types ts) = GoodTys pool table ts.trees.0
+GoodParts pool table (parts.Fields fs) = GoodFields pool table fs.trees.0
+
+-- how many records they have
+abbrev pub sizeParts : Parts → ℕ
+sizeParts (parts.Types ts) = sizeTys ts.trees.0
+sizeParts (parts.Fields fs) = sizeFields fs.trees.0

@@ -64,7 +64,11 @@ pub fn replace_binding(by: Substitution, x: u32, t: Type, out: &mut Writer) -> R
 }
 
 /// Writes constraints one after another with their bound variables replaced.
-pub fn replace_constraints(by: Substitution, cs: Constraints, out: &mut Writer) -> Result<(), Refusal>
+pub fn replace_constraints(
+    by: Substitution,
+    cs: Constraints,
+    out: &mut Writer,
+) -> Result<(), Refusal>
     requires { Every (GoodCon by.names.pool.now by.names.table.now) cs.trees.0 }
     ensures { Leaves (collect writeCon) out.old out.new result (each (conBy by.entry) cs.entry.trees.0) }
 {

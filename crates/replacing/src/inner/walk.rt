@@ -1,13 +1,13 @@
 //! Replacing in types: each bound variable becomes its type, and bound types aren't replaced again.
 ghost use Rattle.std.specs.Prelude.{◌≡◌, ◌+◌, ◌<◌, min};
 ghost use Rattle.rules.specs.Trees.{dim};
-ghost use Rattle.rules.specs.Writing.{writeProduct, writeTy, writeTys, writeFields};
+ghost use Rattle.rules.specs.Writing.{writeProduct, writeTy};
 ghost use Rattle.products.specs.Told.{productOf};
 ghost use Rattle.products.specs.Held.{Sound};
 ghost use Rattle.records.specs.Holds.{openOf};
 ghost use Rattle.types.specs.Written.{Writes};
-ghost use Rattle.replacing.specs.Well.{GoodProduct, GoodTy, GoodTys, GoodFields};
-ghost use Rattle.replacing.specs.Leaves.{becomes, Leaves, productBy, typeBy, typesBy, fieldsBy};
+ghost use Rattle.replacing.specs.Well.{GoodProduct, GoodTy};
+ghost use Rattle.replacing.specs.Leaves.{becomes, Leaves, LeavesParts, GoodParts, productBy, typeBy};
 
 use super::dims::replace_factors;
 use super::factors::alone;
@@ -18,6 +18,13 @@ use rules::Refusal;
 use types::writer::{LAST, Writer};
 use types::writing::past;
 use types::{Fields, Product, Shape, Type, Types};
+
+/// What stands one after another in a type: a function's parameters or a struct's arguments, or a struct's fields.
+#[derive(Clone, Copy)]
+pub enum Parts<'a> {
+    Types(Types<'a>),
+    Fields(Fields<'a>),
+}
 
 /// Writes an open name, or what it becomes.
 fn replace_open(by: Substitution, o: Open, out: &mut Writer)
@@ -85,15 +92,15 @@ pub fn replace_type(by: Substitution, t: Type, out: &mut Writer) -> Result<(), R
         Shape::Dimension(p) => replace_dimension(by, t, p, out),
         Shape::Function(parameters, to) => {
             let start = out.reserve();
-            replace_list(by, parameters, out)?;
+            replace_list(by, Parts::Types(parameters), out)?;
             replace_type(by, to, out)?;
             out.begin(start, View::Function(parameters.count));
             Ok(())
         }
         Shape::Struct(name, arguments, fields) => {
             let start = out.reserve();
-            replace_list(by, arguments, out)?;
-            replace_fields(by, fields, out)?;
+            replace_list(by, Parts::Types(arguments), out)?;
+            replace_list(by, Parts::Fields(fields), out)?;
             out.begin(start, View::Struct(name, arguments.count, fields.count));
             Ok(())
         }
@@ -106,30 +113,28 @@ pub fn replace_type(by: Substitution, t: Type, out: &mut Writer) -> Result<(), R
     }
 }
 
-/// Writes types with their bound variables replaced.
+/// Writes parameters, arguments or fields, one after another, with the bound variables of their types replaced.
 #[cycle(replace)]
-pub fn replace_list(by: Substitution, types: Types, out: &mut Writer) -> Result<(), Refusal>
-    requires { GoodTys by.names.pool.now by.names.table.now types.trees.0 }
-    ensures { Leaves writeTys out.old out.new result (typesBy by.entry types.entry.trees.0) }
+pub fn replace_list(by: Substitution, parts: Parts, out: &mut Writer) -> Result<(), Refusal>
+    requires { GoodParts by.names.pool.now by.names.table.now parts }
+    ensures { LeavesParts by.entry out.old out.new result parts.entry }
 {
-    let Some((first, rest)) = types.split_first() else {
-        return Ok(());
-    };
-    replace_type(by, first, out)?;
-    replace_list(by, rest, out)
-}
-
-/// Writes fields with the bound variables of their types replaced.
-#[cycle(replace)]
-pub fn replace_fields(by: Substitution, fields: Fields, out: &mut Writer) -> Result<(), Refusal>
-    requires { GoodFields by.names.pool.now by.names.table.now fields.trees.0 }
-    ensures { Leaves writeFields out.old out.new result (fieldsBy by.entry fields.entry.trees.0) }
-{
-    let Some((name, first, rest)) = fields.split_first() else {
-        return Ok(());
-    };
-    let start = out.reserve();
-    replace_type(by, first, out)?;
-    out.begin(start, View::Field(name));
-    replace_fields(by, rest, out)
+    match parts {
+        Parts::Types(types) => {
+            let Some((first, rest)) = types.split_first() else {
+                return Ok(());
+            };
+            replace_type(by, first, out)?;
+            replace_list(by, Parts::Types(rest), out)
+        }
+        Parts::Fields(fields) => {
+            let Some((name, first, rest)) = fields.split_first() else {
+                return Ok(());
+            };
+            let start = out.reserve();
+            replace_type(by, first, out)?;
+            out.begin(start, View::Field(name));
+            replace_list(by, Parts::Fields(rest), out)
+        }
+    }
 }

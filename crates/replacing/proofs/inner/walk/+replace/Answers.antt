@@ -1,51 +1,11 @@
--- `replace_type`, `replace_list` and `replace_fields` call one another: the number of records left falls.
-use Rattle.std.proofs.Common.{arith}
+-- `replace_type` and `replace_list` call one another: the number of records left falls.
+use Rattle.std.proofs.Common.{arith, ap}
 use Rattle.std.proofs.lemmas.Result.{err_from_is_err_and}
 use Rattle.records.specs.ByView.{size-pos}
 use Rattle.records.specs.Holds.{openOf}
+use Rattle.replacing.specs.Leaves.{sizeParts}
 use Rattle.replacing.proofs.Walks.{told, sizes, sizes-fields, sizes-function, sizes-struct, sizes-list, fn-good, struct-good, list-good, dim-good, cons-good, field-good, becomes-short, open-here, basic-here, list-here, list-stop, function-here, function-stop, return-stop, struct-here, struct-stop, fields-stop, none-here, some-here, first-stop, no-fields, field-here, field-stop}
 use Rattle.replacing.proofs.inner.walk.+replace.Goals as goal
-
-pub replace_fields-returns-in_default : goal.replace_fields-returns-in_default
-replace_fields-returns-in_default t c =
-    no-fields c.args.by.names.pool.now c.args.by.names.table.now c.args.by.lent.0 c.in_default.ensures
-
-pub replace_fields-replace_type-requires : goal.replace_fields-replace_type-requires
-replace_fields-replace_type-requires t c =
-    let i = c.in-Some in (omega (arith, c.decreases, sizes-fields _ _ _ _ i.ensures), (field-good c.args.by.names.pool.now c.args.by.names.table.now _ _ _ i.ensures c.requires).0)
-
-pub replace_fields-replace_fields-requires : goal.replace_fields-replace_fields-requires
-replace_fields-replace_fields-requires t c =
-    let i = c.in-Some in (omega (arith, c.decreases, sizes-fields _ _ _ _ i.ensures), (field-good c.args.by.names.pool.now c.args.by.names.table.now _ _ _ i.ensures c.requires).1)
-
-pub replace_fields-returns-in_err-replace_type : goal.replace_fields-returns-in_err-replace_type
-replace_fields-returns-in_err-replace_type t c =
-    let k = err_from_is_err_and c.from_residual.result c.from_residual.ensures.1 in rw (k.1, k.2)
-    (field-stop c.args.by.names.pool.now c.args.by.names.table.now c.args.by.lent.0 c.in-Some.ensures c.reserve-start.ensures (told c.in_err-replace_type.was c.replace_type.ensures))
-
-pub replace_fields-returns : goal.replace_fields-returns
-replace_fields-returns t c =
-    field-here c.args.by.names.pool.now c.args.by.names.table.now c.args.by.lent.0 c.in-Some.ensures c.reserve-start.ensures (told c.in_ok-replace_type.was c.replace_type.ensures) c.begin.ensures c.replace_fields.ensures
-
-pub replace_list-returns-in_default : goal.replace_list-returns-in_default
-replace_list-returns-in_default t c =
-    none-here c.args.by.names.pool.now c.args.by.names.table.now c.args.by.lent.0 c.in_default.ensures
-
-pub replace_list-replace_type-requires : goal.replace_list-replace_type-requires
-replace_list-replace_type-requires t c =
-    let i = c.in-Some in (omega (arith, c.decreases, sizes _ _ _ i.ensures), (cons-good c.args.by.names.pool.now c.args.by.names.table.now _ _ i.ensures c.requires).0)
-
-pub replace_list-replace_list-requires : goal.replace_list-replace_list-requires
-replace_list-replace_list-requires t c =
-    let i = c.in-Some in (omega (arith, c.decreases, sizes _ _ _ i.ensures, size-pos i.first.tree.0), (cons-good c.args.by.names.pool.now c.args.by.names.table.now _ _ i.ensures c.requires).1)
-
-pub replace_list-returns-in_err-replace_type : goal.replace_list-returns-in_err-replace_type
-replace_list-returns-in_err-replace_type t c =
-    let k = err_from_is_err_and c.from_residual.result c.from_residual.ensures.1 in rw (k.1, k.2) (first-stop c.args.by.names.pool.now c.args.by.names.table.now c.args.by.lent.0 c.in-Some.ensures (told c.in_err-replace_type.was c.replace_type.ensures))
-
-pub replace_list-returns : goal.replace_list-returns
-replace_list-returns t c =
-    some-here c.args.by.names.pool.now c.args.by.names.table.now c.args.by.lent.0 c.in-Some.ensures (told c.in_ok-replace_type.was c.replace_type.ensures) c.replace_list.ensures
 
 pub replace_type-replace_dimension-requires-clause-good : goal.replace_type-replace_dimension-requires-clause-good
 replace_type-replace_dimension-requires-clause-good t c =
@@ -94,21 +54,21 @@ replace_type-returns-in_err-replace_list-in-Struct t c =
     let k = err_from_is_err_and c.from_residual-in_err-replace_list-in-Struct.result c.from_residual-in_err-replace_list-in-Struct.ensures.1 in rw (k.1, k.2)
     (struct-stop c.args.by.names.pool.now c.args.by.names.table.now c.args.by.lent.0 c.in-Struct.ensures c.reserve-start-in-Struct.ensures (told c.in_err-replace_list-in-Struct.was c.replace_list-in-Struct.ensures))
 
-pub replace_type-replace_fields-requires : goal.replace_type-replace_fields-requires
-replace_type-replace_fields-requires t c =
+pub replace_type-replace_list-requires-in-Struct-2 : goal.replace_type-replace_list-requires-in-Struct-2
+replace_type-replace_list-requires-in-Struct-2 t c =
     let i = c.in-Struct in (omega (arith, c.decreases, sizes-struct _ _ _ _ i.ensures), (struct-good c.args.by.names.pool.now c.args.by.names.table.now _ _ _ i.ensures c.requires).1)
 
-pub replace_type-returns-in_err-replace_fields-in-Struct : goal.replace_type-returns-in_err-replace_fields-in-Struct
-replace_type-returns-in_err-replace_fields-in-Struct t c =
-    let k = err_from_is_err_and c.from_residual-in_err-replace_fields-in-Struct.result c.from_residual-in_err-replace_fields-in-Struct.ensures.1 in rw (k.1, k.2)
+pub replace_type-returns-in_err-replace_list-in-Struct-2 : goal.replace_type-returns-in_err-replace_list-in-Struct-2
+replace_type-returns-in_err-replace_list-in-Struct-2 t c =
+    let k = err_from_is_err_and c.from_residual-in_err-replace_list-in-Struct-2.result c.from_residual-in_err-replace_list-in-Struct-2.ensures.1 in rw (k.1, k.2)
     (fields-stop c.args.by.names.pool.now c.args.by.names.table.now c.args.by.lent.0 c.in-Struct.ensures c.reserve-start-in-Struct.ensures (told c.in_ok-replace_list-in-Struct.was c.replace_list-in-Struct.ensures)
-    (told c.in_err-replace_fields-in-Struct.was c.replace_fields.ensures))
+    (told c.in_err-replace_list-in-Struct-2.was c.replace_list-in-Struct-2.ensures))
 
-pub replace_type-returns-in_ok-replace_fields-in-Struct : goal.replace_type-returns-in_ok-replace_fields-in-Struct
-replace_type-returns-in_ok-replace_fields-in-Struct t c =
+pub replace_type-returns-in_ok-replace_list-in-Struct-2 : goal.replace_type-returns-in_ok-replace_list-in-Struct-2
+replace_type-returns-in_ok-replace_list-in-Struct-2 t c =
     let i = c.in-Struct in
     struct-here c.args.by.names.pool.now c.args.by.names.table.now c.args.by.lent.0 i.ensures i.arguments.trees.1.many i.fields.trees.1.many c.reserve-start-in-Struct.ensures
-    (told c.in_ok-replace_list-in-Struct.was c.replace_list-in-Struct.ensures) (told c.in_ok-replace_fields-in-Struct.was c.replace_fields.ensures) c.begin-in-Struct.ensures
+    (told c.in_ok-replace_list-in-Struct.was c.replace_list-in-Struct.ensures) (told c.in_ok-replace_list-in-Struct-2.was c.replace_list-in-Struct-2.ensures) c.begin-in-Struct.ensures
 
 pub replace_type-replace_type-requires-in-List : goal.replace_type-replace_type-requires-in-List
 replace_type-replace_type-requires-in-List t c =
@@ -122,3 +82,47 @@ replace_type-returns-in_err-replace_type-in-List t c =
 pub replace_type-returns-in_ok-replace_type-in-List : goal.replace_type-returns-in_ok-replace_type-in-List
 replace_type-returns-in_ok-replace_type-in-List t c =
     list-here c.args.by.names.pool.now c.args.by.names.table.now c.args.by.lent.0 c.in-List.ensures c.reserve-start-in-List.ensures (told c.in_ok-replace_type-in-List.was c.replace_type-in-List.ensures) c.begin-in-List.ensures
+
+pub replace_list-returns-in_default : goal.replace_list-returns-in_default
+replace_list-returns-in_default t c = rw c.in-Types.is (none-here c.args.by.names.pool.now c.args.by.names.table.now c.args.by.lent.0 c.in_default.ensures)
+
+pub replace_list-replace_type-requires : goal.replace_list-replace_type-requires
+replace_list-replace_type-requires t c =
+    let i = c.in-Some in
+    (omega (arith, c.decreases, ap sizeParts c.in-Types.is, sizes _ _ _ i.ensures), (cons-good c.args.by.names.pool.now c.args.by.names.table.now _ _ i.ensures (rw c.in-Types.is at c.requires)).0)
+
+pub replace_list-replace_list-requires : goal.replace_list-replace_list-requires
+replace_list-replace_list-requires t c =
+    let i = c.in-Some in
+    (omega (arith, c.decreases, ap sizeParts c.in-Types.is, sizes _ _ _ i.ensures, size-pos i.first.tree.0), (cons-good c.args.by.names.pool.now c.args.by.names.table.now _ _ i.ensures (rw c.in-Types.is at c.requires)).1)
+
+pub replace_list-returns-in_err-replace_type-in-Types : goal.replace_list-returns-in_err-replace_type-in-Types
+replace_list-returns-in_err-replace_type-in-Types t c =
+    let k = err_from_is_err_and c.from_residual.result c.from_residual.ensures.1 in rw (k.1, k.2, c.in-Types.is)
+    (first-stop c.args.by.names.pool.now c.args.by.names.table.now c.args.by.lent.0 c.in-Some.ensures (told c.in_err-replace_type-in-Types.was c.replace_type.ensures))
+
+pub replace_list-returns-in_ok-replace_type-in-Types : goal.replace_list-returns-in_ok-replace_type-in-Types
+replace_list-returns-in_ok-replace_type-in-Types t c =
+    rw c.in-Types.is (some-here c.args.by.names.pool.now c.args.by.names.table.now c.args.by.lent.0 c.in-Some.ensures (told c.in_ok-replace_type-in-Types.was c.replace_type.ensures) c.replace_list.ensures)
+
+pub replace_list-returns-in_default-split_first : goal.replace_list-returns-in_default-split_first
+replace_list-returns-in_default-split_first t c = rw c.in-Fields.is (no-fields c.args.by.names.pool.now c.args.by.names.table.now c.args.by.lent.0 c.in_default-split_first.ensures)
+
+pub replace_list-replace_type-requires-in-Fields : goal.replace_list-replace_type-requires-in-Fields
+replace_list-replace_type-requires-in-Fields t c =
+    let i = c.in-Some-split_first in
+    (omega (arith, c.decreases, ap sizeParts c.in-Fields.is, sizes-fields _ _ _ _ i.ensures), (field-good c.args.by.names.pool.now c.args.by.names.table.now _ _ _ i.ensures (rw c.in-Fields.is at c.requires)).0)
+
+pub replace_list-replace_list-requires-in-Fields : goal.replace_list-replace_list-requires-in-Fields
+replace_list-replace_list-requires-in-Fields t c =
+    let i = c.in-Some-split_first in
+    (omega (arith, c.decreases, ap sizeParts c.in-Fields.is, sizes-fields _ _ _ _ i.ensures, size-pos i.first.tree.0), (field-good c.args.by.names.pool.now c.args.by.names.table.now _ _ _ i.ensures (rw c.in-Fields.is at c.requires)).1)
+
+pub replace_list-returns-in_err-replace_type-in-Fields : goal.replace_list-returns-in_err-replace_type-in-Fields
+replace_list-returns-in_err-replace_type-in-Fields t c =
+    let k = err_from_is_err_and c.from_residual-in_err-replace_type-in-Fields.result c.from_residual-in_err-replace_type-in-Fields.ensures.1 in rw (k.1, k.2, c.in-Fields.is)
+    (field-stop c.args.by.names.pool.now c.args.by.names.table.now c.args.by.lent.0 c.in-Some-split_first.ensures c.reserve-start.ensures (told c.in_err-replace_type-in-Fields.was c.replace_type-in-Fields.ensures))
+
+pub replace_list-returns-in_ok-replace_type-in-Fields : goal.replace_list-returns-in_ok-replace_type-in-Fields
+replace_list-returns-in_ok-replace_type-in-Fields t c =
+    rw c.in-Fields.is (field-here c.args.by.names.pool.now c.args.by.names.table.now c.args.by.lent.0 c.in-Some-split_first.ensures c.reserve-start.ensures (told c.in_ok-replace_type-in-Fields.was c.replace_type-in-Fields.ensures) c.begin.ensures c.replace_list-in-Fields.ensures)
