@@ -30,3 +30,4 @@ pub mod Batches
 pub mod Judges
 pub mod Own
 pub mod Histories
+pub mod ReadsText
