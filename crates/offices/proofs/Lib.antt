@@ -30,4 +30,3 @@ pub mod Batches
 pub mod Judges
 pub mod Own
 pub mod Histories
-pub mod ReadsText

@@ -42,7 +42,7 @@ module _ {pool table : List ℕ} (g : Good pool table) where
   one_answer {i} {j} {v} {w} e = let p : ◌≡◌ {A = ℕ × Was} (i, v) (j, w) = cc in (ap (λ q. q.0) p, ap (λ q. q.1) p)
 
   module _ (n : Bytes) where
-    pub is-enter : enterName pool table n ≡ enter pool table n
+    is-enter : enterName pool table n ≡ enter pool table n
     unfolding enterName enter enterChecks
     is-enter = rw (good-given g)
 
