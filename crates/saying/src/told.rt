@@ -14,7 +14,7 @@ use solving::{Finish, Solution};
 use std::cmp::Ordering;
 
 /// The refusal's number or 0, what the call says, completed rounds, and how many words at the front of the result buffer are the answer's.
-#[derive(Drop)]
+#[derive(Clone, Copy)]
 pub struct Told {
     pub refusal: u32,
     pub value: u32,
