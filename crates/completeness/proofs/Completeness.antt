@@ -10,11 +10,11 @@ use Rattle.rules.specs.Trees.{Names, Con, Binding}
 use Rattle.rules.specs.Names.{table_of, numbersOf}
 use Rattle.rules.specs.Solving.{Answer, accepted, remaining, stopped, solve}
 use Rattle.rules.specs.Calls.{setGiven, solved, unsolved, solveCall}
-use Rattle.rules.specs.Choices.{Choice, dimensional, Choosing, wide, MakesAllWideTrue, ChoosingWide, completedWide}
+use Rattle.rules.specs.Choices.{Choice, Rational, dimensional, Choosing, wide, MakesAllWideTrue, ChoosingWide, completedWide}
 use Rattle.laws.specs.Lists.{all-is, is_all}
 use Rattle.laws.specs.Order.{Lawful, Tells}
 use Rattle.completeness.specs.Claims.{◌⇔◌, DimensionSet, AllChoices, Five, Stopped, Complete, WideSet, AllWideChoices, WideComplete}
-use Rattle.completeness.specs.Theorems.{WideDecided, SameThere, Within}
+use Rattle.completeness.specs.Theorems.{WideDecided, SameThere, Within, MakesWideOnesTrue}
 use Rattle.completeness.proofs.Trees as Trees
 use Rattle.completeness.proofs.Words as CallWords
 use Rattle.completeness.proofs.Same as Same
@@ -71,21 +71,25 @@ wide-complete pool table set result work cs read sides = CallWords.wide-complete
 pub fewer : {N : Type 0} (same : Discrete N) (c : Choice N) (cs ds : List (Con N)) → Within ds cs → MakesAllWideTrue same c cs → MakesAllWideTrue same c ds
 fewer same c cs ds part makes k m = makes k (part k m)
 
+-- of a whole, what makes its wide constraints true is a choice of a part of them
+narrowed : {N : Type 0} (same : Discrete N) (cs ds : List (Con N)) → Within ds cs → all wide ds ≡ true
+    → (c : Choice N) → Rational c → MakesWideOnesTrue same c cs → ChoosingWide same ds
+unfolding all
+narrowed same cs ds within sides c r makes = record { choice = c; rational = r; makes = λ k m. makes k (within k m) (all-is wide ds sides k m) }
+
 pub conflict : (pool table part result work : List ℕ) (ds : List (Con ℕ)) → setGiven (table_of pool table) part ≡ got ds → all wide ds ≡ true
     → (records rounds : ℕ) → (solveCall pool table part result work).answer ≡ unsolved records rounds
-    → (cs : List (Con ℕ)) → Within ds cs → ChoosingWide (numbersOf (table_of pool table)).same cs → ⊥
-conflict pool table part result work ds read sides r k e cs within d =
+    → (cs : List (Con ℕ)) → Within ds cs → (c : Choice ℕ) → Rational c → MakesWideOnesTrue (numbersOf (table_of pool table)).same c cs → ⊥
+conflict pool table part result work ds read sides r k e cs within c rational makes =
     ((wide-complete pool table part result work ds read sides).five (λ n j i h. let z : ◌≡◌ {A = ℕ} 0 1 = cc in omega arith)).0 (rw e tt)
-    (record { choice = d.choice; rational = d.rational; makes = fewer _ d.choice cs ds within d.makes })
-
--- a choice of the whole is one of the part
-narrowed : {N : Type 0} (same : Discrete N) (cs ds : List (Con N)) → Within ds cs → ChoosingWide same cs → ChoosingWide same ds
-narrowed same cs ds within d = record { choice = d.choice; rational = d.rational; makes = fewer same d.choice cs ds within d.makes }
+    (narrowed (numbersOf (table_of pool table)).same cs ds within sides c rational makes)
 
 module _ {N : Type 0} (ν : Names N) (held : N → Bool) (lawful : Lawful ν.order) (tells : Tells (λ n. held n ≡ true) ν.order) where
-  pub part-refused : (ds : List (Con N)) → WideSet ν held ds → Five (solve ν bounded ds) → (cs : List (Con N)) → Within ds cs → ChoosingWide ν.same cs → ⊥
-  part-refused ds given five cs within d =
-      ((wide-decided ν held lawful tells ds given).five-exactly (λ s. both (solve ν bounded ds) five s)).0 five (narrowed ν.same cs ds within d)
+  pub part-refused : (ds : List (Con N)) → WideSet ν held ds → Five (solve ν bounded ds)
+      → (cs : List (Con N)) → Within ds cs → (c : Choice N) → Rational c → MakesWideOnesTrue ν.same c cs → ⊥
+  part-refused ds given five cs within c r makes =
+      ((wide-decided ν held lawful tells ds given).five-exactly (λ s. both (solve ν bounded ds) five s)).0 five
+      (narrowed ν.same cs ds within given.sides c r makes)
     where
       both : (a : Answer N) → Five a → Stopped a → ⊥
       both (accepted bs ns k) f s = f
@@ -101,7 +105,7 @@ module _ (pool table part whole result result' work work' : List ℕ) (ds cs : L
       let told = (wide-complete pool table whole result' work' cs whole-read sides).accepts r b j i in
       let c = told.choices.completes (λ x. []) (λ x. refl) in
       conflict pool table part result work ds read (is_all wide ds (λ d m. all-is wide cs sides d (within d m))) l k e cs within
-      (record { choice = completedWide (numbersOf (table_of pool table)).same told.bs (λ x. []); rational = c.0; makes = c.1 })
+      (completedWide (numbersOf (table_of pool table)).same told.bs (λ x. [])) c.0 (λ d m h. c.1 d m)
 
 -- ══ On sets of dimensions both say the same ══
 

@@ -46,7 +46,7 @@ use Rattle.laws.specs.ByteOrder.{numbered-lawful}
 use Rattle.laws.specs.NameTable.{Good}
 use Rattle.completeness.specs.Claims.{DimensionSet, AllChoices, Complete, WideSet, WideComplete}
 use Rattle.completeness.specs.Examples.{k9, k9-words}
-use Rattle.completeness.specs.Theorems.{Within}
+use Rattle.completeness.specs.Theorems.{Within, MakesWideOnesTrue}
 use Rattle.completeness.proofs.Completeness.{all-choices, refused-then-none, wide-decided, conflict}
 use Rattle.laws.specs.Given.{held-apart}
 use Rattle.completeness.proofs.Chosen.{at_part}
@@ -305,7 +305,7 @@ clash-answer : (solveCall pool table clash-words result work).answer ≡ unsolve
 unfolding rules counting pool table result work
 clash-answer = refl
 
-pub clash-none : (cs : List (Con ℕ)) → Within clash cs → ChoosingWide same cs → ⊥
+pub clash-none : (cs : List (Con ℕ)) → Within clash cs → (c : Choice ℕ) → Rational c → MakesWideOnesTrue same c cs → ⊥
 unfolding isSide wide all
 clash-none = conflict pool table clash-words result work clash clash-read refl 3 2 clash-answer
 

@@ -9,7 +9,7 @@ use Rattle.rules.specs.Names.{table_of, numbersOf}
 use Rattle.rules.specs.Solving.{accepted, stopped, solve}
 use Rattle.rules.specs.Calls.{setGiven, solved, unsolved, solveCall}
 use Rattle.rules.specs.Examples.{pool, table, result, work}
-use Rattle.rules.specs.Choices.{Choice, dimensional, Choosing, wide, MakesTrue, MakesWideTrue, MakesAllWideTrue, ChoosingWide}
+use Rattle.rules.specs.Choices.{Choice, Rational, dimensional, Choosing, wide, MakesTrue, MakesWideTrue, MakesAllWideTrue, ChoosingWide}
 use Rattle.laws.specs.Order.{Lawful, Tells}
 use Rattle.completeness.specs.Examples.{k9, k9-words}
 use Rattle.completeness.specs.Claims.{◌⇔◌, DimensionSet, AllChoices, Five, Stopped, Complete, WideSet, AllWideChoices, WideComplete}
@@ -84,17 +84,22 @@ Within {N} ds cs = (k : Con N) → Memᴰ k ds → Memᴰ k cs
 abbrev pub FewerAreTrue : Type 0 → Type 0
 FewerAreTrue N = (same : Discrete N) (c : Choice N) (cs ds : List (Con N)) → Within ds cs → MakesAllWideTrue same c cs → MakesAllWideTrue same c ds
 
--- so a set has no choice if some part of it, wide, is refused with 5 (a constraint that isn't wide is true under no choice, so of other sets this
--- speaks of their wide constraints): on trees,
+-- a choice that makes every wide constraint of a set true; of its other constraints nothing is asked
+abbrev pub MakesWideOnesTrue : {N : Type 0} → Discrete N → Choice N → List (Con N) → Type 0
+MakesWideOnesTrue {N} same c cs = (k : Con N) → Memᴰ k cs → wide k ≡ true → MakesWideTrue same c k
+
+-- so a set, whatever other constraints it has, has no such choice if some part of it, wide, is refused with 5: on trees,
 abbrev pub PartRefused : Type 0 → Type 0
 PartRefused N = (ν : Names N) (held : N → Bool) → Lawful ν.order → Tells (λ n. held n ≡ true) ν.order
-    → (ds : List (Con N)) → WideSet ν held ds → Five (solve ν bounded ds) → (cs : List (Con N)) → Within ds cs → ChoosingWide ν.same cs → ⊥
+    → (ds : List (Con N)) → WideSet ν held ds → Five (solve ν bounded ds)
+    → (cs : List (Con N)) → Within ds cs → (c : Choice N) → Rational c → MakesWideOnesTrue ν.same c cs → ⊥
 
 -- and of the call
 abbrev pub ConflictInPart : Type 0
 ConflictInPart = (pool table part result work : List ℕ) (ds : List (Con ℕ)) → setGiven (table_of pool table) part ≡ got ds → all wide ds ≡ true
     → (records rounds : ℕ) → (solveCall pool table part result work).answer ≡ unsolved records rounds
-    → (cs : List (Con ℕ)) → Within ds cs → ChoosingWide (numbersOf (table_of pool table)).same cs → ⊥
+    → (cs : List (Con ℕ)) → Within ds cs
+    → (c : Choice ℕ) → Rational c → MakesWideOnesTrue (numbersOf (table_of pool table)).same c cs → ⊥
 
 -- whatever wide lines are added to a part that is refused with 5, over the same names, the whole is never accepted
 abbrev pub ConflictStays : Type 0

@@ -58,13 +58,12 @@ pub fn fewer_are_true<N>()
     ensures { FewerAreTrue N }
 {}
 
-/// A set with a part that is refused with 5 has no choice, whatever other lines stand in it; a line that isn't wide is true under no choice
-/// (`part-refused`).
+/// Where a part of a set, wide, is refused with 5, no choice makes the set's wide lines true, whatever other lines stand in it (`part-refused`).
 pub fn part_is_refused<N>()
     ensures { PartRefused N }
 {}
 
-/// The same of the call: no assignment saves a set with such a part (`conflict`).
+/// The same of the call: no choice of dimensions saves a set with such a part (`conflict`).
 pub fn conflict_in_part()
     ensures { ConflictInPart }
 {}
