@@ -1,9 +1,10 @@
-pub mod Others
-pub mod Lefts
-pub mod Sizes
-pub mod Walks
-pub mod Dimensions
 pub mod Constraints
+pub mod Dimensions
 pub mod Each
-mod Touches
+pub mod Lefts
 pub mod Lines
+mod Nested
+pub mod Others
+pub mod Sizes
+mod Touches
+pub mod Walks

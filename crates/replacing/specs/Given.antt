@@ -19,6 +19,8 @@ use Rattle.replacing.specs.Well.{names, HeldType, Listed}
 use Rattle.laws.specs.Weaker.{ty-weaker, con-weaker, binding-weaker}
 use Rattle.replacing.specs.LineRules.{con, HeldLines}
 use Rattle.replacing.specs.LineLaws.{set_lines}
+use Rattle.types.specs.Sets.{IsCons}
+use Rattle.replacing.specs.Written.{cons-all}
 
 -- parts one after another, each well formed
 module _ {A : Type 0} (s : List ℕ) (one : List ℕ → A → ℕ → Type 0) (long : A → ℕ) (good : A → Bool) (P : ℕ → A → ℕ → Type 0)
@@ -60,3 +62,8 @@ module _ (pool table s : List ℕ) (w : Words32 s) where
       let r = row s HoldsCon sizeCon (goodCon (names pool table) (is_held (table_of pool table)) 4_294_967_296) (records.GoodCon pool table 0 s)
       (λ at a e g. (g.held, g.past, con-weaker (names pool table) (is_held (table_of pool table)) 0 4_294_967_296 weak a g.good)) (length s / 4) 0 cs (set_is pool table s w cs h) in
       subst (HeldLines pool table s (map con cs) 0) (sym r.ends) (set_lines pool table s cs 0 r.held r.right)
+
+  pub given-cons : (cs : List (Con ℕ)) → setGiven (table_of pool table) s ≡ got cs → IsCons s 0 (length s / 4) cs × (all (records.goodCon pool table 0) cs ≡ true)
+  given-cons cs h =
+      let r = row s HoldsCon sizeCon (records.goodCon pool table 0) (records.GoodCon pool table 0 s) (λ at a e g. (g.held, g.past, g.good)) (length s / 4) 0 cs (set_is pool table s w cs h) in
+      (record { held = cons-all s cs 0 r.held; ends = r.ends }, r.right)

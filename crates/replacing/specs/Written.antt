@@ -1,7 +1,7 @@
--- Lines that were written to a buffer are held there.
+-- Constraints and bindings that were written to a buffer are held there.
 use Rattle.std.specs.Prelude.{◌≡◌, Bool, true, not, ◌&&◌, leb, eqb, length}
 use Rattle.std.proofs.Math.Path.{refl, ap₂}
-use Rattle.std.proofs.Common.{sym, ap, ◌∙◌, arith, leb-true}
+use Rattle.std.proofs.Common.{sym, ap, ◌∙◌, arith, leb-true, zero-add}
 use mathlib.Core.List.{List, [], ◌∷◌, ◌++◌, map}
 use Prim.Native.Nat.{ℕ, ◌+◌, ◌*◌, ◌/◌, ◌≤◌}
 use Rattle.std.proofs.Math.ListN.{length-append}
@@ -13,15 +13,17 @@ use Rattle.rules.specs.Names.{table_of, is_held}
 use Rattle.rules.specs.Trees.{free, base, ◌↑◌, Product, Ty, opened, basic, dim, fn, struct, list, Tys, nil, cons, Fields, noFields, field, Con, equal, isDim, is_scalar, hasField, Binding, ◌≔◌, Names, size, sizeCon, sizeBinding, orderAtom}
 use Rattle.rules.specs.WellFormed.{goodOpen, goodFactor, goodProduct, goodTy, goodTys, goodFields, goodCon, goodBinding, rising, atomOf, fieldNames}
 use Rattle.rules.specs.Writing.{Rec, words, writeProduct, writeTy, writeCon, writeBinding}
-use Rattle.laws.specs.Lists.{and_left as both_left, and_right as both_right}
+use Rattle.laws.specs.Lists.{and_left as both_left, and_right as both_right, Every}
 use Rattle.laws.specs.Reading.{FitsProduct, Fits, FitsTys, FitsFields}
-use Rattle.laws.specs.Size.{size-ty}
+use Rattle.laws.specs.Size.{size-ty, size-con, size-binding, set-length, bindings-length}
 use Rattle.records.specs.Views.{from}
 use Rattle.records.specs.Buffers.{stored}
 use Rattle.records.specs.Holds.{HoldsCon, HoldsBinding}
 use Rattle.records.specs.Held.{held, product-held, parted, shown}
 use Rattle.records.specs.declared.View.TheVariants as view
-use Rattle.replacing.specs.Runs.{HoldsAll}
+use Rattle.types.specs.Binds.{HoldsBinds, IsBinds}
+use Rattle.types.specs.Sets.{HoldsCons, IsCons}
+use Rattle.replacing.specs.Runs.{HoldsAll, Run}
 use Rattle.replacing.specs.Well as well
 use Rattle.replacing.specs.LineRules.{Line, con, binding, sizeLine, writeLine, HoldsLine, GoodLine, EachGood, HeldLines, line-length}
 
@@ -73,6 +75,11 @@ module _ (ν : Names ℕ) (known : ℕ → Bool) (q : ℕ) where
 
 -- ══ Written, so held ══
 
+-- constraints, and bindings behind them
+pub record Both (d : List ℕ) (cs : List (Con ℕ)) (bs : List (Binding ℕ)) : Type 0 where
+  pub cons : IsCons d 0 (sum_of sizeCon cs) cs
+  pub binds : IsBinds d (sum_of sizeCon cs) (sum_of sizeCon cs + sum_of sizeBinding bs) bs
+
 module _ (pool table : List ℕ) where
   abbrev known' : ℕ → Bool
   known' = is_held (table_of pool table)
@@ -81,7 +88,7 @@ module _ (pool table : List ℕ) where
     abbrev fitting : (t : Ty ℕ) → goodTy (well.names pool table) known' 4_294_967_296 t ≡ true → Fits t
     fitting = ty-fits (well.names pool table) known' 4_294_967_296
 
-    con-held : (c : Con ℕ) (at : ℕ) (rest : List Rec) → well.GoodCon pool table c → from s at ≡ writeCon c ++ rest → HoldsCon s c at
+    pub con-held : (c : Con ℕ) (at : ℕ) (rest : List Rec) → well.GoodCon pool table c → from s at ≡ writeCon c ++ rest → HoldsCon s c at
     unfolding HoldsCon writeCon goodCon
     con-held (equal l r) at rest g e =
         let (x, y, z) = shown s at (sizeCon (equal l r)) view.Equal _ ((writeTy l ++ writeTy r) ++ rest) e refl tt in
@@ -99,11 +106,26 @@ module _ (pool table : List ℕ) where
         let a = both_left (known' n && goodTy _ _ _ l) (goodTy _ _ _ r) g in
         (x, held s l (at + 1) (writeTy r ++ rest) (fitting l (both_right (known' n) (goodTy _ _ _ l) a)) u, held s r (at + 1 + size l) rest (fitting r (both_right (known' n && goodTy _ _ _ l) (goodTy _ _ _ r) g)) v, y)
 
-    binding-held : (x : Binding ℕ) (at : ℕ) (rest : List Rec) → well.GoodBinding pool table x → from s at ≡ writeBinding x ++ rest → HoldsBinding s x at
+    pub binding-held : (x : Binding ℕ) (at : ℕ) (rest : List Rec) → well.GoodBinding pool table x → from s at ≡ writeBinding x ++ rest → HoldsBinding s x at
     unfolding HoldsBinding writeBinding goodBinding
     binding-held (n ≔ t) at rest g e =
         let (x, y, z) = shown s at (sizeBinding (n ≔ t)) (view.Binding n) _ (writeTy t ++ rest) e refl tt in
         (x, held s t (at + 1) rest (fitting t (both_right (known' n) (goodTy _ _ _ t) g)) (sym z), y)
+
+    cons-held : (cs : List (Con ℕ)) (at : ℕ) (rest : List Rec) → Every (well.GoodCon pool table) cs → from s at ≡ collect writeCon cs ++ rest → HoldsCons s cs at
+    unfolding HoldsCons collect
+    cons-held [] at rest g e = tt
+    cons-held (c ∷ cs) at rest g e =
+        let (u, v) = parted s (writeCon c) (collect writeCon cs) rest at (sizeCon c) (size-con c) e in
+        (con-held c at (collect writeCon cs ++ rest) g.0 u, cons-held cs (at + sizeCon c) rest g.1 v)
+
+    pub binds-held : (bs : List (Binding ℕ)) (at : ℕ) (rest : List Rec) → Every (well.GoodBinding pool table) bs → from s at ≡ collect writeBinding bs ++ rest
+        → HoldsBinds s bs at
+    unfolding HoldsBinds collect
+    binds-held [] at rest g e = tt
+    binds-held (b ∷ bs) at rest g e =
+        let (u, v) = parted s (writeBinding b) (collect writeBinding bs) rest at (sizeBinding b) (size-binding b) e in
+        (binding-held b at (collect writeBinding bs ++ rest) g.0 u, binds-held bs (at + sizeBinding b) rest g.1 v)
 
     line-held : (x : Line) (at : ℕ) (rest : List Rec) → GoodLine pool table x → from s at ≡ writeLine x ++ rest → HoldsLine s x at
     line-held (con c) at rest g e = con-held c at rest g e
@@ -116,6 +138,32 @@ module _ (pool table : List ℕ) where
         let (u, v) = parted s (writeLine x) (collect writeLine xs) rest at (sizeLine x) (line-length x) e in
         (line-held x at (collect writeLine xs ++ rest) g.0 u, lines-held xs (at + sizeLine x) rest g.1 v)
 
+  -- well formed constraints that were written where there is room; and bindings
+  pub written-cons : (d d' : List ℕ) (out : ℕ) (cs : List (Con ℕ)) → d' ≡ sets d (out * 4) (words (collect writeCon cs)) → out + sum_of sizeCon cs ≤ length d / 4
+      → Every (well.GoodCon pool table) cs → IsCons d' out (out + sum_of sizeCon cs) cs
+  written-cons d d' out cs e le g =
+      let n = set-length cs in
+      let z : from d' out ≡ collect writeCon cs ++ from d (out + length (collect writeCon cs)) =
+      ap (λ (l : List ℕ). from l out) e ∙ stored d (collect writeCon cs) out (omega (arith, n)) in
+      record { held = cons-held d' cs out _ g z; ends = refl }
+
+  pub written-binds : (d d' : List ℕ) (out : ℕ) (bs : List (Binding ℕ)) → d' ≡ sets d (out * 4) (words (collect writeBinding bs)) → out + sum_of sizeBinding bs ≤ length d / 4
+      → Every (well.GoodBinding pool table) bs → IsBinds d' out (out + sum_of sizeBinding bs) bs
+  written-binds d d' out bs e le g =
+      let n = bindings-length bs in
+      let z : from d' out ≡ collect writeBinding bs ++ from d (out + length (collect writeBinding bs)) =
+      ap (λ (l : List ℕ). from l out) e ∙ stored d (collect writeBinding bs) out (omega (arith, n)) in
+      record { held = binds-held d' bs out _ g z; ends = refl }
+
+  pub written-both : (d d' : List ℕ) (cs : List (Con ℕ)) (bs : List (Binding ℕ)) → d' ≡ sets d 0 (words (collect writeCon cs ++ collect writeBinding bs))
+      → sum_of sizeCon cs + sum_of sizeBinding bs ≤ length d / 4 → Every (well.GoodCon pool table) cs → Every (well.GoodBinding pool table) bs → Both d' cs bs
+  written-both d d' cs bs e le g h =
+      let rs : List Rec = collect writeCon cs ++ collect writeBinding bs in
+      let n : 0 + length rs ≤ length d / 4 = omega (arith, le, length-append (collect writeCon cs) (collect writeBinding bs), set-length cs, bindings-length bs) in
+      let z : from d' 0 ≡ rs ++ from d (0 + length rs) = ap (λ (l : List ℕ). from l 0) e ∙ stored d rs 0 n in
+      let (u, v) = parted d' (collect writeCon cs) (collect writeBinding bs) (from d (0 + length rs)) 0 (sum_of sizeCon cs) (set-length cs) z in
+      record { cons = record { held = cons-held d' cs 0 _ g u; ends = omega arith }; binds = record { held = binds-held d' bs (sum_of sizeCon cs) _ h (rw (zero-add (sum_of sizeCon cs)) at v); ends = refl } }
+
   pub all-length : (xs : List Line) → length (collect writeLine xs) ≡ sum_of sizeLine xs
   unfolding collect
   all-length [] = refl
@@ -127,3 +175,18 @@ module _ (pool table : List ℕ) where
       let n = all-length xs in
       let z : from d' out ≡ collect writeLine xs ++ from d (out + length (collect writeLine xs)) = ap (λ (l : List ℕ). from l out) e ∙ stored d (collect writeLine xs) out (omega arith) in
       record { held = lines-held d' xs out _ g z; good = g; ends = refl }
+
+-- bindings as a run
+run-held : (s : List ℕ) (bs : List (Binding ℕ)) (at : ℕ) → HoldsBinds s bs at → HoldsAll HoldsBinding sizeBinding s bs at
+unfolding HoldsAll HoldsBinds
+run-held s [] at h = tt
+run-held s (b ∷ bs) at h = (h.0, run-held s bs (at + sizeBinding b) h.1)
+
+pub as-run : (s : List ℕ) (bs : List (Binding ℕ)) (at end : ℕ) → IsBinds s at end bs → Run s at end bs
+as-run s bs at end h = record { held = run-held s bs at h.held; past = h.ends }
+
+-- constraints and bindings that stand one after another, as `types` has them
+pub cons-all : (s : List ℕ) (cs : List (Con ℕ)) (at : ℕ) → HoldsAll HoldsCon sizeCon s cs at → HoldsCons s cs at
+unfolding HoldsAll HoldsCons
+cons-all s [] at h = tt
+cons-all s (c ∷ cs) at h = (h.0, cons-all s cs (at + sizeCon c) h.1)

@@ -1,36 +1,95 @@
 -- Types and constraints that were written.
-use Rattle.std.specs.Prelude.{◌≡◌, List, [], ◌∷◌, ◌++◌, ℕ, suc, ◌+◌, ◌*◌, ◌/◌, ◌≤◌, length}
-use Rattle.std.proofs.Common.{arith, ap, subst, ◌∙◌}
-use Rattle.std.proofs.lemmas.List.Edits.{sets}
+use Rattle.std.specs.Prelude.{◌≡◌, List, [], ◌∷◌, ◌++◌, ℕ, suc, ◌+◌, ◌*◌, ◌/◌, ◌≤◌, ◌<◌, length}
+use Rattle.std.proofs.Common.{arith, ap, sym, subst, ◌∙◌, add-zero, append_assoc}
 use Rattle.std.proofs.Math.Seq.{slice}
-use Rattle.rules.specs.Base.{collect}
-use Rattle.rules.specs.Trees.{Ty, Tys, nil, cons, count, equal, size, sizeTys, sizeCon}
+use Rattle.rules.specs.Base.{collect, sum_of}
+use Rattle.rules.specs.Trees.{Ty, Tys, nil, cons, Con, Binding, count, equal, size, sizeTys, sizeCon, sizeBinding}
 use Rattle.rules.specs.Rounds.{pairs}
-use Rattle.rules.specs.Writing.{rec, head, words, writeTy, writeCon}
+use Rattle.rules.specs.Writing.{rec, head, words, writeTy, writeCon, writeBinding}
 use Rattle.records.specs.Cut.{fit, fits}
-use Rattle.laws.specs.Size.{size-con}
-use Rattle.records.specs.Held.{held-words, con-written}
+use Rattle.laws.specs.Size.{size-con, set-length, bindings-length}
+use Rattle.records.specs.Held.{held-words, con-written, binding-written}
 use Rattle.records.specs.Places.{words-from}
-use Rattle.records.specs.ByView.{con-in, ends-in}
+use Rattle.records.specs.ByView.{con-in, binding-in, ends-in}
 use Rattle.records.specs.Views.{from, recOf}
 use Rattle.records.specs.declared.View.TheVariants as view
 use Rattle.types.specs.declared.writer.Writer.{Writer}
+use Rattle.types.specs.Binds.{HoldsBinds, Binds, binding-some}
 use Rattle.types.specs.Once.{ATree, ACon}
+use Rattle.types.specs.Sets.{HoldsCons, Cons, con-some}
 use Rattle.types.specs.Written.{Writes, writes-then, writes-none}
 
 pub short : (s : List ℕ) (at : ℕ) (t : ATree s at) → length s ≤ 4_000_000_000 → size t.0 ≤ 1_000_000_000
 short s at t n = omega (arith, ends-in s t.0 at t.1)
 
-pub type-words : (s d d' : List ℕ) (at e out : ℕ) (t : ATree s at) → e ≡ at + size t.0 → d' ≡ sets d (out * 4) (slice (at * 4) (e * 4) s)
-    → d' ≡ sets d (out * 4) (words (writeTy t.0))
-type-words s d d' at e out t q b = b ∙ ap (sets d (out * 4)) (ap (λ (k : ℕ). slice (at * 4) (k * 4) s) q ∙ held-words s t.0 at t.1)
+pub type-words : (s : List ℕ) (at e : ℕ) (t : ATree s at) → e ≡ at + size t.0 → slice (at * 4) (e * 4) s ≡ words (writeTy t.0)
+type-words s at e t q = ap (λ (k : ℕ). slice (at * 4) (k * 4) s) q ∙ held-words s t.0 at t.1
 
-pub con-words : (s d d' : List ℕ) (at e out : ℕ) (c : ACon s at) → e ≡ at + sizeCon c.0 → d' ≡ sets d (out * 4) (slice (at * 4) (e * 4) s)
-    → d' ≡ sets d (out * 4) (words (writeCon c.0))
-con-words s d d' at e out c q b =
+pub con-words : (s : List ℕ) (at e : ℕ) (c : ACon s at) → e ≡ at + sizeCon c.0 → slice (at * 4) (e * 4) s ≡ words (writeCon c.0)
+con-words s at e c q =
     let le : at ≤ length s / 4 = omega (arith, con-in s c.0 at c.1) in
-    b ∙ ap (sets d (out * 4)) (ap (λ (k : ℕ). slice (at * 4) (k * 4) s) q
-    ∙ rw (size-con c.0) at (words-from s (writeCon c.0) (from s (at + sizeCon c.0)) at le (con-written s c.0 at c.1)))
+    ap (λ (k : ℕ). slice (at * 4) (k * 4) s) q
+    ∙ rw (size-con c.0) at (words-from s (writeCon c.0) (from s (at + sizeCon c.0)) at le (con-written s c.0 at c.1))
+
+-- constraints one after another; and bindings
+module _ (s : List ℕ) where
+  cons-from : (cs : List (Con ℕ)) (at : ℕ) → HoldsCons s cs at → from s at ≡ collect writeCon cs ++ from s (at + sum_of sizeCon cs)
+  unfolding HoldsCons collect
+  cons-from [] at h = rw (add-zero at)
+  cons-from (c ∷ cs) at h =
+      let i : at + sizeCon c + sum_of sizeCon cs ≡ at + (sizeCon c + sum_of sizeCon cs) = omega arith in
+      con-written s c at h.0 ∙ ap (writeCon c ++◌) (cons-from cs (at + sizeCon c) h.1 ∙ ap (λ (j : ℕ). collect writeCon cs ++ from s j) i)
+      ∙ sym (append_assoc (writeCon c) (collect writeCon cs) (from s (at + (sizeCon c + sum_of sizeCon cs))))
+
+  pub binds-from : (bs : List (Binding ℕ)) (at : ℕ) → HoldsBinds s bs at → from s at ≡ collect writeBinding bs ++ from s (at + sum_of sizeBinding bs)
+  unfolding HoldsBinds collect
+  binds-from [] at h = rw (add-zero at)
+  binds-from (b ∷ bs) at h =
+      let i : at + sizeBinding b + sum_of sizeBinding bs ≡ at + (sizeBinding b + sum_of sizeBinding bs) = omega arith in
+      binding-written s b at h.0 ∙ ap (writeBinding b ++◌) (binds-from bs (at + sizeBinding b) h.1 ∙ ap (λ (j : ℕ). collect writeBinding bs ++ from s j) i)
+      ∙ sym (append_assoc (writeBinding b) (collect writeBinding bs) (from s (at + (sizeBinding b + sum_of sizeBinding bs))))
+
+  pub cons-in : (cs : List (Con ℕ)) (at : ℕ) → at ≤ length s / 4 → HoldsCons s cs at → at + sum_of sizeCon cs ≤ length s / 4
+  unfolding HoldsCons
+  cons-in [] at le h = omega arith
+  cons-in (c ∷ cs) at le h = omega (arith, cons-in cs (at + sizeCon c) (con-in s c at h.0) h.1)
+
+  pub binds-in : (bs : List (Binding ℕ)) (at : ℕ) → at ≤ length s / 4 → HoldsBinds s bs at → at + sum_of sizeBinding bs ≤ length s / 4
+  unfolding HoldsBinds
+  binds-in [] at le h = omega arith
+  binds-in (b ∷ bs) at le h = omega (arith, binds-in bs (at + sizeBinding b) (binding-in s b at h.0) h.1)
+
+  -- where there are any, they lie within
+  pub set-within : (at end : ℕ) (h : Cons s at end) → at < end → end ≤ length s / 4
+  unfolding HoldsCons
+  set-within at end ([], k) lt = absurd (omega (arith, k.ends, lt))
+  set-within at end (c ∷ cs, k) lt = omega (arith, k.ends, cons-in cs (at + sizeCon c) (con-in s c at k.held.0) k.held.1)
+
+  pub binds-within : (at end : ℕ) (h : Binds s at end) → at < end → end ≤ length s / 4
+  unfolding HoldsBinds
+  binds-within at end ([], k) lt = absurd (omega (arith, k.ends, lt))
+  binds-within at end (b ∷ bs, k) lt = omega (arith, k.ends, binds-in bs (at + sizeBinding b) (binding-in s b at k.held.0) k.held.1)
+
+  pub set-words : (at end : ℕ) (h : Cons s at end) → end ≤ length s / 4 → slice (at * 4) (end * 4) s ≡ words (collect writeCon h.0)
+  set-words at end (cs, k) le =
+      let e : at + length (collect writeCon cs) ≡ end = omega (arith, k.ends, set-length cs) in
+      rw e at (words-from s (collect writeCon cs) (from s (at + sum_of sizeCon cs)) at (omega (arith, k.ends)) (cons-from cs at k.held))
+
+  pub binds-words : (at end : ℕ) (h : Binds s at end) → end ≤ length s / 4 → slice (at * 4) (end * 4) s ≡ words (collect writeBinding h.0)
+  binds-words at end (bs, k) le =
+      let e : at + length (collect writeBinding bs) ≡ end = omega (arith, k.ends, bindings-length bs) in
+      rw e at (words-from s (collect writeBinding bs) (from s (at + sum_of sizeBinding bs)) at (omega (arith, k.ends)) (binds-from bs at k.held))
+
+  -- none: nothing is written
+  pub no-set : (w : Writer) (at end : ℕ) (h : Cons s at end) → end ≤ at → Writes w w (collect writeCon h.0)
+  unfolding collect
+  no-set w at end ([], k) le = writes-none w
+  no-set w at end (c ∷ cs, k) le = absurd (omega (arith, k.ends, con-some c))
+
+  pub no-bindings : (w : Writer) (at end : ℕ) (h : Binds s at end) → end ≤ at → Writes w w (collect writeBinding h.0)
+  unfolding collect
+  no-bindings w at end ([], k) le = writes-none w
+  no-bindings w at end (b ∷ bs, k) le = absurd (omega (arith, k.ends, binding-some b))
 
 pub equal-writes : {w w₁ w₂ w₃ : Writer} (t u : Ty ℕ) (n : ℕ) → n ≡ 1 + size t + size u → n ≤ 65_535 → Writes w w₁ (recOf view.Equal (fit n) ∷ [])
     → Writes w₁ w₂ (writeTy t) → Writes w₂ w₃ (writeTy u)

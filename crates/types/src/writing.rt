@@ -1,15 +1,16 @@
 //! Writing records, types and constraints.
-ghost use Rattle.std.specs.Prelude.{◌≡◌, [], ◌∷◌, ◌+◌, ◌<◌, min};
+ghost use Rattle.std.specs.Prelude.{◌≡◌, List, [], ◌∷◌, ◌+◌, ◌*◌, ◌≤◌, ◌<◌, length, min};
+ghost use Rattle.std.proofs.Math.Seq.{slice};
 ghost use Rattle.rules.specs.Base.{collect};
 ghost use Rattle.rules.specs.Trees.{equal, size, sizeTys};
 ghost use Rattle.rules.specs.Rounds.{pairs};
-ghost use Rattle.rules.specs.Writing.{writeTy, writeCon};
+ghost use Rattle.rules.specs.Writing.{Rec, words, writeTy, writeCon, writeBinding};
 ghost use Rattle.records.specs.Cut.{fit};
 ghost use Rattle.records.specs.Views.{recOf};
 ghost use Rattle.types.specs.Written.{last, Writes, Reserves, Begins};
 
 use super::writer::{LAST, Writer};
-use super::{Constraint, Type, Types};
+use super::{Bindings, Constraint, Constraints, Type, Types};
 use records::View;
 use records::inner::{copy, put_record};
 
@@ -32,27 +33,49 @@ impl<'a> Writer<'a> {
         }
     }
 
+    /// The records of a list from a place up to another.
+    fn copy_records(&mut self, source: &[u32], from: usize, to: usize)
+        requires order { from ≤ to }
+        requires within { to * 4 ≤ length source.now }
+        requires near { length source.now ≤ 4_000_000_000 }
+        ensures { (rs : List Rec) → to ≡ from + length rs → slice (from * 4) (to * 4) source.now ≡ words rs → Writes self.old self.new rs }
+    {
+        let at = self.at;
+        self.at = past(at, to - from);
+        if self.at < LAST {
+            copy(source, from, to, self.words, at);
+        }
+    }
+
     /// The records of a type.
     pub fn copy(&mut self, t: Type)
         ensures { Writes self.old self.new (writeTy t.entry.tree.0) }
     {
-        let at = self.at;
-        let n = t.len();
-        self.at = past(at, n);
-        if self.at < LAST {
-            copy(t.words, t.at, t.end(), self.words, at);
-        }
+        self.copy_records(t.words, t.at, t.end());
     }
 
     /// The records of a constraint.
     pub fn copy_constraint(&mut self, c: Constraint)
         ensures { Writes self.old self.new (writeCon c.entry.tree.0) }
     {
-        let at = self.at;
-        let n = c.len();
-        self.at = past(at, n);
-        if self.at < LAST {
-            copy(c.words, c.at, c.end(), self.words, at);
+        self.copy_records(c.words, c.at, c.end());
+    }
+
+    /// The records of constraints, all at once.
+    pub fn copy_constraints(&mut self, cs: Constraints)
+        ensures { Writes self.old self.new (collect writeCon cs.entry.trees.0) }
+    {
+        if cs.at < cs.end {
+            self.copy_records(cs.words, cs.at, cs.end);
+        }
+    }
+
+    /// The records of bindings, all at once.
+    pub fn copy_bindings(&mut self, bs: Bindings)
+        ensures { Writes self.old self.new (collect writeBinding bs.entry.trees.0) }
+    {
+        if bs.at < bs.end {
+            self.copy_records(bs.words, bs.at, bs.end);
         }
     }
 

@@ -1,26 +1,17 @@
-use Rattle.std.proofs.Common.{arith, refl}
+use Rattle.std.proofs.Common.{arith}
 use Rattle.laws.specs.Size.{size-ty}
 use Rattle.records.specs.ByView.{ends-in}
 use Rattle.types.specs.Puts.{type-words}
 use Rattle.types.proofs.writer.Writer.copy.Goals as goal
 
-pub copy-requires-clause-e_in_bounds : goal.copy-requires-clause-e_in_bounds
-copy-requires-clause-e_in_bounds c = omega (arith, c.end.ensures, ends-in c.args.t.words.now c.args.t.tree.0 c.args.t.at c.args.t.tree.1)
+pub copy_records-requires : goal.copy_records-requires
+copy_records-requires c =
+    let t = c.args.t in
+    let e = c.end.ensures in
+    record { order = omega arith; within = omega (arith, e, ends-in t.words.now t.tree.0 t.at t.tree.1); near = t.near }
 
-pub returns-then-self-lt-LAST : goal.returns-then-self-lt-LAST
-returns-then-self-lt-LAST c =
-    let n = size-ty c.args.t.tree.0 in
-    record {
-      same = refl;
-      at = omega (arith, n, c.len-n.ensures, c.past-self.ensures);
-      words = λ k. type-words _ _ _ _ _ _ c.args.t.tree c.end.ensures c.copy.ensures;
-    }
-
-pub returns-else-self-lt-LAST : goal.returns-else-self-lt-LAST
-returns-else-self-lt-LAST c =
-    let n = size-ty c.args.t.tree.0 in
-    record {
-      same = refl;
-      at = omega (arith, n, c.len-n.ensures, c.past-self.ensures);
-      words = λ k. absurd (omega (arith, k, n, c.len-n.ensures, c.past-self.ensures, c.if-self-lt-LAST.false));
-    }
+pub returns : goal.returns
+returns c =
+    let t = c.args.t in
+    let e = c.end.ensures in
+    c.copy_records.ensures _ (omega (arith, e, size-ty t.tree.0)) (type-words _ _ _ t.tree e)
