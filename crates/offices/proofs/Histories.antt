@@ -17,15 +17,15 @@ GoodIn s = Good s.pool s.table
 -- ══ Names stay ══
 
 -- a later state has the same names under the same numbers, and perhaps more
-record Grown (s s' : Shared) : Type 0 where
-  good : GoodIn s'
-  more : List Bytes
-  names : names_of (tableIn s') ≡ names_of (tableIn s) ++ more
+pub record Grown (s s' : Shared) : Type 0 where
+  pub good : GoodIn s'
+  pub more : List Bytes
+  pub names : names_of (tableIn s') ≡ names_of (tableIn s) ++ more
 
 grown-same : (s : Shared) → GoodIn s → Grown s s
 grown-same s g = record { good = g; more = []; names = sym (append-nil (names_of (tableIn s))) }
 
-grown-entry : (s : Shared) → GoodIn s → (n : Bytes) → Grown s (entered s n)
+pub grown-entry : (s : Shared) → GoodIn s → (n : Bytes) → Grown s (entered s n)
 unfolding entered
 grown-entry s g n = go (enter-case s.pool s.table n)
   where
@@ -48,7 +48,7 @@ good-after es s g = (grown-all es s g).good
 
 -- ══ One entry ══
 
-data Stands (t : Table) : Got ℕ → Got Name → Type 0 where
+pub data Stands (t : Table) : Got ℕ → Got Name → Type 0 where
   refusal : (k : ℕ) → Stands t (refused k) (refused k)
   number : (i : ℕ) (n : Bytes) → i < length (names_of t) → get_or (names_of t) i [] ≡ n → Stands t (got i) (got (named n))
 
@@ -61,7 +61,7 @@ name-held : (t : Table) (i : ℕ) (n : Bytes) → is_held t i ≡ true → get_o
 unfolding nameNo
 name-held t i n h e = rw (h, e)
 
-name-is : (s : Shared) → GoodIn s → (a : Got ℕ) (x : Got Name) → Stands (tableIn s) a x → mapGot (nameNo (tableIn s)) a ≡ x
+pub name-is : (s : Shared) → GoodIn s → (a : Got ℕ) (x : Got Name) → Stands (tableIn s) a x → mapGot (nameNo (tableIn s)) a ≡ x
 name-is s g a x (refusal k) = refl
 name-is s g a x (number i n h e) = ap got (name-held (tableIn s) i n (held-is s.pool s.table i ∙ lt-ltb i (get_or s.table 0 0) (omega (arith, h, length-names (good-laid g)))) e)
 
@@ -89,7 +89,7 @@ entry-passed s g n t h = go (enter-case s.pool s.table n)
         (number (get_or s.table 0 0) n (rw (names-with en, length-append (names_of (tableIn s)) (n ∷ [])) (omega (arith, length-names (good-laid g))))
         (ap (λ (ns : List Bytes). get_or ns (get_or s.table 0 0) []) (names-with en) ∙ get_or_at (names_of (tableIn s)) n [] [] (get_or s.table 0 0) (length-names (good-laid g))))
 
-entry-stands : (s : Shared) → GoodIn s → (n : Bytes) → noThree (answered s n) ≡ true → Stands (tableIn (entered s n)) (answered s n) (answerFor n)
+pub entry-stands : (s : Shared) → GoodIn s → (n : Bytes) → noThree (answered s n) ≡ true → Stands (tableIn (entered s n)) (answered s n) (answerFor n)
 entry-stands s g n h = go (leb 1 (length n) && leb (length n) 48) refl
   where
     go : (b : Bool) → (leb 1 (length n) && leb (length n) 48) ≡ b → Stands (tableIn (entered s n)) (answered s n) (answerFor n)

@@ -30,3 +30,10 @@ pub mod Batches
 pub mod Judges
 pub mod Own
 pub mod Histories
+pub mod Texts
+pub mod Rows
+pub mod Eliminates
+pub mod Rescues
+pub mod Steps
+pub mod Readings
+pub mod Sheets

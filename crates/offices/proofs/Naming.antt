@@ -58,7 +58,7 @@ module _ {pool table : List ℕ} (good : Good pool table) where
       go true e = rw (found i (few i e))
       go false e = refl
 
-  bytes-are : (i : ℕ) → bytesIn (nameNo (table_of pool table) i) ≡ get_or (names_of (table_of pool table)) i []
+  pub bytes-are : (i : ℕ) → bytesIn (nameNo (table_of pool table) i) ≡ get_or (names_of (table_of pool table)) i []
   unfolding nameNo
   bytes-are i = go (is_held (table_of pool table) i) refl
     where

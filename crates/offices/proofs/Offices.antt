@@ -31,6 +31,10 @@ use Rattle.offices.proofs.Adds.{add-alike}
 use Rattle.offices.proofs.Solves.{solve-alike}
 use Rattle.offices.proofs.Batches.{batch-alike, ceiling-alike}
 use Rattle.offices.proofs.Judges.{judge-alike}
+use Rattle.offices.proofs.Eliminates.{eliminate-alike}
+use Rattle.offices.proofs.Texts.{write-text}
+use Rattle.offices.proofs.Sheets.{read-text}
+use Rattle.offices.proofs.Rescues.{rescue-alike}
 use Rattle.offices.proofs.Histories.{good-after, all_named}
 
 -- ══ Lists that read alike are answered alike ══
@@ -59,6 +63,10 @@ numbering' g g' = record {
   generalise = generalise-alike g g';
   instantiate = instantiate-alike g g';
   judge = judge-alike g g';
+  eliminate = eliminate-alike g g';
+  writeText = write-text g g';
+  readText = read-text g g';
+  rescue = rescue-alike g g';
 }
 
 pub numbering : {pool table pool' table' : List ℕ} → tableGiven pool table ≡ got tt → tableGiven pool' table' ≡ got tt → CallsAlike pool table pool' table'

@@ -14,7 +14,7 @@ use Rattle.offices.proofs.Options.{only-map}
 use Rattle.offices.proofs.Over.{Over, next, gives, same_over, within-over}
 
 module _ {N M : Type 0} (f : N → M) where
-  put_map : (a : Atom N) (e : Exp) (p : Product N) → put (mapAtom f a) e (map (mapFactor f) p) ≡ map (mapFactor f) (put a e p)
+  pub put_map : (a : Atom N) (e : Exp) (p : Product N) → put (mapAtom f a) e (map (mapFactor f) p) ≡ map (mapFactor f) (put a e p)
   put_map a e p = go (isZero e) refl
     where
       go : (b : Bool) → isZero e ≡ b → put (mapAtom f a) e (map (mapFactor f) p) ≡ map (mapFactor f) (put a e p)

@@ -129,7 +129,7 @@ unfoldable mutual
   fieldsSeen noFields = []
   fieldsSeen (field n t fs) = line 9 (suc (size t)) (name n) 0 0 ∷ (tySeen t ++ fieldsSeen fs)
 
-conSeen : Con Name → List Seen
+pub conSeen : Con Name → List Seen
 conSeen (equal l r) = line 20 (sizeCon (equal l r)) (number 0) 0 0 ∷ (tySeen l ++ tySeen r)
 conSeen (isDim t) = line 21 (sizeCon (isDim t)) (number 0) 0 0 ∷ tySeen t
 conSeen (is_scalar p) = line 22 (sizeCon (is_scalar p)) (number 0) 0 0 ∷ productSeen p
@@ -203,7 +203,7 @@ module _ (t : Table) where
         let first = name-line 9 (suc (size u)) n 0 0 (omega arith) refl in
         rw (size-map (nameNo t) u, first, map-append (seen t) (writeTy u) (writeFields fs), ty-seen u, fields-seen fs)
 
-  con-seen : (c : Con ℕ) → map (seen t) (writeCon c) ≡ conSeen (mapCon (nameNo t) c)
+  pub con-seen : (c : Con ℕ) → map (seen t) (writeCon c) ≡ conSeen (mapCon (nameNo t) c)
   unfolding writeCon mapCon conSeen namesOne any
   con-seen (equal l r) =
       let first = number-line 20 (sizeCon (equal l r)) 0 0 0 (omega arith) refl in
@@ -254,6 +254,10 @@ module _ (t t' : Table) where
   pub set-written : (cs cs' : List (Con ℕ)) → map (mapCon (nameNo t)) cs ≡ map (mapCon (nameNo t')) cs'
       → map (seen t) (collect writeCon cs) ≡ map (seen t') (collect writeCon cs')
   set-written cs cs' e = set-seen t cs ∙ ap (collect conSeen) e ∙ sym (set-seen t' cs')
+
+  pub bindings-written : (bs bs' : List (Binding ℕ)) → map (mapBinding (nameNo t)) bs ≡ map (mapBinding (nameNo t')) bs'
+      → map (seen t) (collect writeBinding bs) ≡ map (seen t') (collect writeBinding bs')
+  bindings-written bs bs' e = bindings-seen t bs ∙ ap (collect bindingSeen) e ∙ sym (bindings-seen t' bs')
 
   pub scheme-written : (s s' : Scheme ℕ) → mapScheme (nameNo t) s ≡ mapScheme (nameNo t') s' → map (seen t) (writeScheme s) ≡ map (seen t') (writeScheme s')
   scheme-written s s' e = scheme-seen t s ∙ ap schemeSeen e ∙ sym (scheme-seen t' s')

@@ -1,7 +1,7 @@
-mod Steps
+pub mod Steps
 mod Answers
 mod Bytes
-mod Promise
+pub mod Promise
 mod Outcome
 mod NeverOne
 mod Determined

@@ -15,9 +15,10 @@ use Rattle.rules.specs.Solving.{Answer, accepted, remaining, stopped}
 use Rattle.rules.specs.Calls.{Written, Listed, Solved, solved, unsolved, refusedAfter, Solution, AddedTo, Entry, setCall, typeCall, schemeCall}
 use Rattle.rules.specs.Batches.{Batch, batchCall}
 use Rattle.rules.specs.Ceiling.{ceilingCall}
-use Rattle.rules.specs.Elimination.{Eliminated, allBound, someLeft, refusedWith, Elimination}
-use Rattle.rules.specs.Rescue.{words_in, Rescued}
-use Rattle.rules.specs.TextReading.{ReadAnswer, wasRead, notRead, TextRead}
+use Rattle.rules.specs.Elimination.{Eliminated, allBound, someLeft, refusedWith, Elimination, eliminateCall}
+use Rattle.rules.specs.Rescue.{words_in, Rescued, rescueCall}
+use Rattle.rules.specs.TextWriting.{writeTextCall}
+use Rattle.rules.specs.TextReading.{ReadAnswer, wasRead, notRead, TextRead, readTextCall}
 use Rattle.rules.specs.Calls.{
   bindingsCall,
   containsCall,
@@ -345,6 +346,19 @@ module _ (pool table pool' table' : List ℕ) where
     pub judge : (ws ws' : List ℕ) (es es' : List Entry) (ts ts' bs bs' work work' : List ℕ)
         → Lists ws ws' → EntriesAlike (table_of pool table) (table_of pool' table') es es' → Lists ts ts' → Lists bs bs' → length work ≡ length work'
         → (judgeCall pool table ws es ts bs work).answer ≡ (judgeCall pool' table' ws' es' ts' bs' work').answer
+    -- the second engine
+    pub eliminate : (ws ws' result result' work work' : List ℕ) → Lists ws ws' → LentAlike result result' work work'
+        → EliminatedAlike (table_of pool table) (table_of pool' table') (eliminateCall pool table ws result work) (eliminateCall pool' table' ws' result' work')
+    -- text: written, byte for byte; and read, where neither reading meets 3
+    pub writeText : (ws ws' : List ℕ) (text text' : Bytes) → Lists ws ws' → length text ≡ length text'
+        → TextAlike (writeTextCall pool table ws text) (writeTextCall pool' table' ws' text')
+    pub readText : (text : Bytes) (result result' work work' : List ℕ) → LentAlike result result' work work'
+        → meetsThree (readTextCall pool table text result work).answer ≡ false → meetsThree (readTextCall pool' table' text result' work').answer ≡ false
+        → TextReadAlike (readTextCall pool table text result work) (readTextCall pool' table' text result' work')
+    -- damaged files
+    pub rescue : (file file' kept kept' skipped skipped' : List ℕ) → FilesAlike (table_of pool table) (table_of pool' table') file file'
+        → length kept ≡ length kept' → length skipped ≡ length skipped'
+        → RescuedAlike (table_of pool table) (table_of pool' table') (rescueCall pool table file kept skipped) (rescueCall pool' table' file' kept' skipped')
 
 -- ══ Two offices ══
 
