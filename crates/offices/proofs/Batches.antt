@@ -52,10 +52,10 @@ module _ (t : Table) where
   back-drop (suc n) (k ∷ a ∷ b ∷ c ∷ ws) = rw (four-more n) (back-drop n ws)
 
 module _ (t t' : Table) (n : ℕ) (ws ws' : List ℕ) (e : ReadAlike t t' ws ws') where
-  take-alike : ReadAlike t t' (take (n * 4) ws) (take (n * 4) ws')
+  pub take-alike : ReadAlike t t' (take (n * 4) ws) (take (n * 4) ws')
   take-alike = record { words = back-take t n ws ∙ ap (take (n * 4)) e.words ∙ sym (back-take t' n ws') }
 
-  drop-alike : ReadAlike t t' (drop (n * 4) ws) (drop (n * 4) ws')
+  pub drop-alike : ReadAlike t t' (drop (n * 4) ws) (drop (n * 4) ws')
   drop-alike = record { words = back-drop t n ws ∙ ap (drop (n * 4)) e.words ∙ sym (back-drop t' n ws') }
 
 -- what was written stands in front

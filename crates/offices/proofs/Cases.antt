@@ -1,13 +1,18 @@
 -- Small histories by computation: what one office may not rely on, so that the exceptions in the promise are needed.
 use Rattle.std.specs.Prelude.{◌≡◌, refl, List, [], ◌∷◌, ◌++◌, map, ℕ, zero, suc, replicate, take}
 use Rattle.rules.specs.Base.{Got, got, refused}
-use Rattle.rules.specs.Names.{Bytes, enter}
+use Rattle.rules.specs.Names.{Bytes, table_of, names_of, enter}
 use Rattle.rules.specs.declared.Was.{Was}
 use Rattle.rules.specs.declared.Was.TheVariants.{New, Known}
 use Rattle.rules.specs.Writing.{Rec, rec, head, words}
 use Rattle.rules.specs.Lengths.{sized, sizedWords, counting}
 use Rattle.rules.specs.Calls.{Solved, solved, refusedAfter, setCall, solveCall}
+use Rattle.rules.specs.Batches.{cutSets}
+use Rattle.rules.specs.Compaction.{Compacted, occurs, keeps, newNumber, renumbered, keptFrom, joined, endsFrom, poolOf, endsOver, eachGiven, compactChecks, squeezed, compactIf, compactCall}
+use Rattle.rules.specs.Grammar.{ascii}
+use Rattle.rules.specs.TextReading.{ReadAnswer, wasRead, notRead, readTextCall}
 use Rattle.rules.specs.Rules.{rules}
+use Rattle.rules.specs.Sheets.{sheets}
 use Rattle.rules.specs.Examples.{pool, table, result, work, x}
 use Rattle.rules.specs.Offices.{
   named,
@@ -121,3 +126,28 @@ answered rs = (solveCall pool table (sizedWords rs) result work).answer
 within-one-set : map answered (variableSet ∷ parameterSet ∷ (variableSet ++ parameterSet) ∷ []) ≡ solved 2 0 1 ∷ solved 0 1 0 ∷ refusedAfter 4 0 ∷ []
 unfolding rules counting pool table result work
 within-one-set = refl
+
+-- how many names of a sheet are new depends on the other office: 'x' is new in the first history, known in the second
+abbrev typed : Bytes → Shared → ReadAnswer
+typed text s = (readTextCall s.pool s.table text result work).answer
+
+news-differ : map (typed (ascii "?x ~ Bool")) (empty ∷ afterAll empty (enters there (120 ∷ []) ∷ []) ∷ []) ≡ wasRead 3 1 1 ∷ wasRead 3 1 0 ∷ []
+unfolding rules sheets result work entered afterAll
+news-differ = refl
+
+-- where one reading meets 3, the other may not
+three-on-one : map (typed (ascii "?AB ~ Bool")) (almostFull ∷ afterAll almostFull (enters there (255 ∷ []) ∷ []) ∷ []) ≡ wasRead 3 1 1 ∷ notRead 3 1 2 ∷ []
+unfolding rules sheets up_to result work entered afterAll
+three-on-one = refl
+
+-- compaction keeps the same names, in the order of each table: 'a', 'b' and 'b', 'a'
+abbrev left : Shared → List ℕ → List Bytes
+left s sets = names_of (table_of c.pool c.table)
+  where
+    c : Compacted
+    c = compactCall s.pool s.table sets (4 ∷ [])
+
+orders-differ : left alone (words twoBounds) ∷ left second (words (map (fill (1 ∷ 0 ∷ [])) twoBounds)) ∷ []
+    ≡ ((97 ∷ []) ∷ (98 ∷ []) ∷ []) ∷ ((98 ∷ []) ∷ (97 ∷ []) ∷ []) ∷ []
+unfolding rules counting entered afterAll namesOne fill cutSets compactCall compactIf compactChecks squeezed eachGiven poolOf endsOver endsFrom joined keptFrom occurs keeps newNumber renumbered
+orders-differ = refl

@@ -1,7 +1,8 @@
 -- The judge with other names in the set, the bindings and the bounds: the same verdict.
-use Rattle.std.specs.Prelude.{◌≡◌, Bool}
+use Rattle.std.specs.Prelude.{◌≡◌, Bool, ℕ, suc}
 use Rattle.std.proofs.Math.Path.{refl, ap}
 use Rattle.std.proofs.Math.Bool.{true, false}
+use Rattle.std.proofs.Math.Option.{Option, some}
 use mathlib.Core.List.{List, [], ◌∷◌, map}
 use Rattle.rules.specs.Base.{Got, got, ◌>>=◌, Limits, and_then}
 use Rattle.rules.specs.Trees.{Names, Ty, Con, equal, isDim, is_scalar, hasField, Binding, opens, sizeCon, depthCon}
@@ -10,7 +11,7 @@ use Rattle.rules.specs.Contents.{fieldIn, namesIn, among}
 use Rattle.rules.specs.Plain.{plain}
 use Rattle.rules.specs.Replacing.{bindings}
 use Rattle.rules.specs.Meaning.{means, amongBounds, holds}
-use Rattle.rules.specs.Judging.{failed, judgeCon, judge}
+use Rattle.rules.specs.Judging.{failed, judgeCon, judge, failing}
 use Rattle.rules.specs.Offices.{Keeps, mapOpen, mapFactor, mapTy, mapCon, mapBinding}
 use Rattle.offices.proofs.Over.{next, gives, sized-over, over-same}
 use Rattle.offices.proofs.Options.{then_map, none-map, and-map}
@@ -51,3 +52,9 @@ module _ {N M : Type 0} (ν : Names N) (μ : Names M) (f : N → M) (keeps : Kee
   unfolding judge
   judge-map bs bounds [] = refl
   judge-map bs bounds (c ∷ cs) = rw (judge-con bs bounds c) (ap (λ (m : Got Bool). judgeCon ν l bs bounds c >>= λ b. elim b [ true ↦ m | false ↦ got false ]) (judge-map bs bounds cs))
+
+  pub failing-map : (bs : List (Binding N)) (bounds : List N) (k : ℕ) (cs : List (Con N))
+      → failing μ l (map (mapBinding f) bs) (map f bounds) k (map (mapCon f) cs) ≡ failing ν l bs bounds k cs
+  unfolding failing
+  failing-map bs bounds k [] = refl
+  failing-map bs bounds k (c ∷ cs) = rw (judge-con bs bounds c) (ap (λ (m : Got (Option ℕ)). judgeCon ν l bs bounds c >>= λ b. elim b [ true ↦ m | false ↦ got (some k) ]) (failing-map bs bounds (suc k) cs))

@@ -32,6 +32,7 @@ pub mod Grammar
 pub mod TextReading
 pub mod TextWriting
 pub mod Reports
+pub mod Apart
 pub mod Steps
 pub mod Lines
 pub mod Running
