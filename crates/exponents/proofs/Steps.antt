@@ -12,7 +12,7 @@ use borrow.Author.Tests.{le-leb, lt-leb, eqb-true, eqb-false}
 use lib.Dec.{leb, ltb}
 use lib.IntN.{ℤ, pos, negsuc, nat_abs, neg_ℤ, ◌+ℤ◌, ◌-ℤ◌, ◌*ℤ◌, +ℤ_idl}
 use mir.Syntax.{w32, w64}
-use mir.Val.{Fits, SFits, to_z, of_z}
+use mir.Val.{SFits, to_z, of_z}
 use Rattle.std.proofs.lemmas.Int.{fits_signed_from_abs, to_z-of_z, of_z-to_z}
 use Rattle.std.proofs.lemmas.Bool.Decides.{nat_tests}
 use Rattle.rules.specs.Base.{got, refused, bounded}
@@ -112,9 +112,6 @@ product_small n m h k = rw (nat_abs_mul n m) (small h k)
 
 pub product-fits : (n m : ℤ) → nat_abs n ≤ top → nat_abs m ≤ top → SFits w64 (n *ℤ m)
 product-fits n m h k = fits_signed_from_abs w64 (n *ℤ m) (omega (arith, product_small n m h k))
-
-pub dens-fit : {d e : ℕ} → d ≤ top → e ≤ top → Fits w64 (d * e)
-dens-fit g k = record { fits = omega (arith, small g k) }
 
 pub sum-fits : {n m : ℤ} {d e : ℕ} → Good n d → Good m e → SFits w64 (n *ℤ pos e +ℤ m *ℤ pos d)
 sum-fits {n} {m} {d} {e} g k =

@@ -5,7 +5,7 @@ use borrow.Author.Tests.{eqb-true, eqb-false}
 use mathlib.Core.Path.{◌≡◌, refl, sym, ap, subst, ◌∙◌}
 use mathlib.Core.Bool.{Bool, true, false}
 use mathlib.Core.List.{List}
-use Prim.Native.Nat.{ℕ, ◌+◌, ◌/◌, ◌≤◌}
+use Prim.Native.Nat.{ℕ, ◌+◌, ◌/◌}
 use native.Mathlib.Omega.{arith}
 use lib.Dec.{eqb}
 use lib.ListN.{length}
@@ -13,7 +13,6 @@ use Rattle.rules.specs.Trees as tree
 use Rattle.rules.specs.Trees.{Ty, size}
 use Rattle.rules.specs.Schemes.{concrete, scheme}
 use Rattle.records.specs.Views.{viewAt}
-use Rattle.records.specs.ByView.{ends-in}
 use Rattle.records.specs.declared.View.TheVariants as view
 use Rattle.records.specs.Parsed.{only}
 use Rattle.records.specs.Good.{Ends, There, GoodTy, GoodBound, PartsScheme, Chain, Chained}
@@ -88,6 +87,3 @@ module _ (pool table s : List ℕ) where
     pub scheme-bounds : (e : ℕ) → Ends (GoodTy pool table n s 64 1) (Some e) → (b : Bool) → Chained (GoodBound pool table n s) (length s / 4) e b → Scheme' b
     scheme-bounds e (t, g) true (bs, c) = (scheme n t bs, (v, (e, (g, c))))
     scheme-bounds e (t, g) false bad = bounds-none e t g bad
-
-    pub type-within : (e : ℕ) → Ends (GoodTy pool table n s 64 1) (Some e) → e ≤ length s / 4
-    type-within e (t, g) = omega (arith, g.past, ends-in s t 1 g.held)

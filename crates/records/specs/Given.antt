@@ -17,7 +17,6 @@ use Rattle.records.specs.Views.{recs, from}
 use Rattle.records.specs.Places.{recAt, recs-length, from-none, from_some}
 use Rattle.rules.specs.Reading.{readTy, readCon, readBinding}
 use Rattle.rules.specs.Trees.{size, sizeCon, sizeBinding}
-use Rattle.laws.specs.Written.{Reads}
 use Rattle.records.specs.ByView.{ends-in, size-pos}
 use Rattle.records.specs.Parsed.{read, con-read, binding-read}
 use Rattle.records.specs.Found.{Words32, found, con-found, binding-found}
@@ -249,9 +248,6 @@ module _ {A : Type 0} (s : List ℕ) (r : Reader A) (good : A → Bool) (P : ℕ
 -- ══ The readers of the rules ══
 
 module _ (pool table : List ℕ) (s : List ℕ) (w : Words32 s) where
-  reads_of : {A : Type 0} {o : Option (A × List Rec)} {Q : A → List Rec → Type 0} → Reads o Q → (a : A) (rest : List Rec) → o ≡ some (a, rest) → Q a rest
-  reads_of h a rest e = h.holds a rest e
-
   pub con-reader : Reader-of s readCon (goodCon pool table 0) (GoodCon pool table 0 s)
   con-reader = record {
     reads = λ at a e g. con-read s a at g.held g.deep ∙ ap (λ (k : ℕ). some (a, from s k)) (sym g.past);

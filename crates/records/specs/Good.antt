@@ -1,5 +1,5 @@
 -- What the walkers find: a well formed part that is held at a place, and where it ends.
-use Rattle.std.specs.Prelude.{Option, Some, None, ◌≡◌, Bool, true, false, List, [], ◌∷◌, map, ℕ, suc, ◌+◌, ◌/◌, ◌≤◌, ◌<◌, eqb, length, get_or}
+use Rattle.std.specs.Prelude.{Option, Some, None, ◌≡◌, Bool, true, false, List, [], ◌∷◌, map, ℕ, suc, ◌+◌, ◌/◌, ◌≤◌, eqb, length}
 use Rattle.rules.specs.Base.{all}
 use Rattle.rules.specs.Trees as tree
 use Rattle.rules.specs.Trees.{Names, Product, Ty, Tys, Fields, Con, Binding, orderAtom, size, sizeTys, sizeFields, sizeCon, sizeBinding, depth, depthTys, depthFields, depthCon, depthBinding, count, countFields}
@@ -10,8 +10,6 @@ use Rattle.rules.specs.WellFormed.{is_lt, rising, fieldNames}
 use Rattle.records.specs.Holds.{atomOf, viewOpen, Shows, Long, HoldsFactors, HoldsProduct, Holds, HoldsTys, HoldsFields, HoldsCon, HoldsBinding, HoldsBound, Body, BodyCon, BodyBinding}
 use Rattle.records.specs.Views.{longAt}
 use Rattle.records.specs.declared.Atom.{Atom}
-use Rattle.records.specs.declared.Atom.TheVariants as atoms
-use Rattle.records.specs.declared.Open as names
 use Rattle.records.specs.declared.View.TheVariants as view
 
 -- some part ends there; or none does
@@ -27,21 +25,6 @@ endIf false e = None
 abbrev pub closedAt : List ℕ → ℕ → Option ℕ → Option ℕ
 closedAt s at (Some e) = endIf (eqb (at + longAt s at) e) e
 closedAt s at None = None
-
--- the names of an open name or an atom are held
-abbrev pub HeldOpen : List ℕ → names.Open → Type 0
-HeldOpen table (names.TheVariants.Var x) = x < get_or table 0 0
-HeldOpen table (names.TheVariants.Quant i) = Unit {0}
-HeldOpen table (names.TheVariants.Par x) = x < get_or table 0 0
-
-abbrev pub HeldAtom : List ℕ → Atom → Type 0
-HeldAtom table (atoms.Free o) = HeldOpen table o
-HeldAtom table (atoms.Base x) = x < get_or table 0 0
-
--- the field's name that came before
-abbrev pub HeldBefore : List ℕ → Option ℕ → Type 0
-HeldBefore table None = Unit {0}
-HeldBefore table (Some x) = x < get_or table 0 0
 
 module _ (pool table : List ℕ) where
   abbrev pub numbers : Names ℕ

@@ -3,7 +3,6 @@ use Rattle.std.specs.Prelude.{◌≡◌, List, [], ◌∷◌, ℕ, suc, ◌+◌,
 use Rattle.rules.specs.Exponents.{frac}
 use Rattle.rules.specs.Trees.{Factor, ◌↑◌, Product, Ty, opened, basic, dim, fn, struct, list, Tys, nil, cons, Fields, noFields, field, Con, equal, isDim, is_scalar, hasField, Binding, ◌≔◌, size, sizeTys, sizeCon, sizeBinding, count, countFields}
 use Rattle.rules.specs.Trees as tree
-use Rattle.rules.specs.Schemes.{Scheme, concrete, scheme}
 use Rattle.rules.specs.Writing.{twos, signed}
 use Rattle.records.specs.Views.{viewAt, longAt}
 use Rattle.records.specs.declared.Open as names
@@ -98,10 +97,6 @@ HoldsBound s o at = Shows s at (view.Bound (viewOpen o)) × Long s at 1
 unfoldable pub HoldsBounds : List ℕ → List (tree.Open ℕ) → ℕ → Type 0
 HoldsBounds s [] at = Unit {0}
 HoldsBounds s (o ∷ os) at = HoldsBound s o at × HoldsBounds s os (at + 1)
-
-unfoldable pub HoldsScheme : List ℕ → Scheme ℕ → ℕ → Type 0
-HoldsScheme s (concrete t) at = Shows s at view.Concrete × Holds s t (at + 1) × Long s at (suc (size t))
-HoldsScheme s (scheme n t bs) at = Shows s at (view.Scheme n) × Holds s t (at + 1) × HoldsBounds s bs (at + 1 + size t) × Long s at (suc (size t + length bs))
 
 -- ══ Held, but for the length that the first record says ══
 
