@@ -6,5 +6,5 @@ mod Determined
 mod Kept
 mod HeldNames
 mod Alike
-mod Promise
+pub mod Promise
 mod Twice

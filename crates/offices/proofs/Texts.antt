@@ -104,10 +104,10 @@ module _ {pool table : List ℕ} (good : Good pool table) where
   abbrev ν : ℕ → Name
   ν = nameNo (table_of pool table)
 
-  name-shown : (x : ℕ) → nameText (g x) ≡ nameText (bytesIn (ν x))
+  pub name-shown : (x : ℕ) → nameText (g x) ≡ nameText (bytesIn (ν x))
   name-shown x = ap nameText (sym (bytes-are good x))
 
-  open-shown : (o : Open ℕ) → openText g o ≡ openShown (mapOpen ν o)
+  pub open-shown : (o : Open ℕ) → openText g o ≡ openShown (mapOpen ν o)
   unfolding openText
   open-shown (var x) = ap (code "?" ∷◌) (name-shown x)
   open-shown (quant i) = refl

@@ -4,7 +4,7 @@ use Rattle.std.proofs.Math.Option.{Option, none, some}
 use Rattle.rules.specs.Trees.{Con, Binding}
 use Rattle.rules.specs.Names.{Bytes, Table, table_of}
 use Rattle.rules.specs.Offices.{Name, nameNo, mapCon, mapBinding}
-use Rattle.rules.specs.Reports.{Finding, unread, agrees, remains, Edition, findingOf}
+use Rattle.rules.specs.Reports.{Finding, unread, agrees, remains, isAccepted, Page, Edition, findingOf, pageText}
 use Rattle.rules.specs.declared.Unseen.{Unseen}
 
 -- a file's name, and its bytes or why it can't be had
@@ -41,3 +41,17 @@ metThree (some (accepts bs ns k)) = false
 metThree (some (leaves cs k)) = false
 metThree (some (says (unread n l c))) = eqb n 3
 metThree (some (says f)) = false
+
+-- ══ Its page ══
+
+abbrev pub pageAt : Edition → ℕ → Option Page
+pageAt e k = get_or (map some e.pages) k none
+
+-- without how many of its names are new
+abbrev pub uncounted : Page → Page
+uncounted p = record { name = p.name; text = p.text; new = 0; content = p.content }
+
+-- two pages, each told over a table: byte for byte the same but for that count, and both accepted or neither
+pub record PagesAlike (t t' : Table) (p p' : Page) : Type 0 where
+  pub text : pageText t (uncounted p) ≡ pageText t' (uncounted p')
+  pub accepted : isAccepted (findingOf t p.content) ≡ isAccepted (findingOf t' p'.content)

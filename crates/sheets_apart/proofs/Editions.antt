@@ -7,7 +7,7 @@ use Rattle.rules.specs.Trees.{Con}
 use Rattle.rules.specs.Names.{Bytes, Table, table_of}
 use Rattle.rules.specs.TextReading.{Sofar, Sheet, sheet, refusedIn, sheetRead}
 use Rattle.rules.specs.Reports.{Page, page_of, page_without, Edition, onPage, readOn, namesAfter, editionGiven}
-use Rattle.rules.specs.Apart.{File, fileAt}
+use Rattle.rules.specs.Apart.{File, fileAt, pageAt}
 use Rattle.rules.specs.declared.Unseen.{Unseen}
 use Rattle.laws.specs.NameTable.{Good}
 use Rattle.offices.proofs.Steps.{Grows, grows-same, grows-on}
@@ -62,9 +62,6 @@ pageOf pool table name (Err u) = page_without name u
 abbrev Leaves : List ℕ → List ℕ → Result Bytes Unseen → Table → Type 0
 Leaves pool table (Ok text) t = (cs : List (Con ℕ)) (s : Sofar) → sheetRead pool table text ≡ sheet cs s → Grows (table_of s.pool s.table) t
 Leaves pool table (Err u) t = Unit {0}
-
-abbrev pub pageAt : Edition → ℕ → Option Page
-pageAt e k = get_or (map some e.pages) k none
 
 pub record Stands (e : Edition) (k : ℕ) (f : File) : Type 0 where
   pub pool : List ℕ

@@ -1,3 +1,4 @@
 mod Findings
+mod Pages
 mod Editions
 mod Apart
