@@ -7,7 +7,7 @@ use Rattle.rules.specs.Base.{Got, got, refused, need, all, collect}
 use Rattle.rules.specs.Calls.{shortLists, tableKept, setGiven, apart, solvedSet}
 use Rattle.rules.specs.Contents.{unmixed}
 use Rattle.rules.specs.Names.{Table, table_of, numbersOf, is_held, lentTable}
-use Rattle.rules.specs.Refusals.{toldBy}
+use Rattle.rules.specs.Refusals.{toldBy, toldOption}
 use Rattle.rules.specs.Solving.{Answer, accepted, remaining, stopped}
 use Rattle.rules.specs.Trees.{Names, Con, Binding, opensCon}
 use Rattle.rules.specs.WellFormed.{goodBinding}
@@ -27,7 +27,7 @@ use Rattle.soundness.specs.Claims.{Given}
 use Rattle.soundness.proofs.Form.{solved-form}
 use Rattle.soundness.proofs.Words.{numbers-ordered}
 use Rattle.trials.specs.Trials.{SetThere}
-use Rattle.judging.specs.Found.{FoundThere, FoundJudged, JudgedAs}
+use Rattle.judging.specs.Found.{FoundThere, FoundJudged, JudgedAs, PlacedAs}
 use Rattle.judging.specs.Rest.{set_there}
 
 module _ (pool table set : List ℕ) where
@@ -94,24 +94,27 @@ module _ (pool table set : List ℕ) where
         go (got (remaining ds k)) e q = absurd q
         go (got (stopped j k)) e q = absurd q
 
-    -- nothing is judged where there is no accepted answer
-    pub left-unjudged : {n : ℕ} → solution.outcome ≡ Ok (finish.Unsolved n) → (ν : Names ℕ) (cs : List (Con ℕ)) (j : Got Bool) → JudgedAs ν cs (solvedSet t set) j
-    left-unjudged {n} i ν cs j = go (solvedSet t set) (says i)
-      where
-        go : (m : Got (Answer ℕ)) → StandsBy s (Ok (finish.Unsolved n)) solution.rounds m → JudgedAs ν cs m j
-        go (refused j) q = tt
-        go (got (accepted bs ns k)) q = absurd q
-        go (got (remaining ds k)) q = tt
-        go (got (stopped j k)) q = tt
+    abbrev Verdict : Names ℕ → List (Con ℕ) → Result (std.Option ℕ) Refusal → Type 0
+    Verdict ν cs r = JudgedAs ν cs (solvedSet t set) (toldBy is_none r) × PlacedAs ν cs (solvedSet t set) (toldBy toldOption r)
 
-    pub stopped-unjudged : {r : Refusal} → solution.outcome ≡ Err r → (ν : Names ℕ) (cs : List (Con ℕ)) (j : Got Bool) → JudgedAs ν cs (solvedSet t set) j
-    stopped-unjudged {r} i ν cs j = go (solvedSet t set) (says i)
+    -- nothing is judged where there is no accepted answer
+    pub left-unjudged : {n : ℕ} → solution.outcome ≡ Ok (finish.Unsolved n) → (ν : Names ℕ) (cs : List (Con ℕ)) (r : Result (std.Option ℕ) Refusal) → Verdict ν cs r
+    left-unjudged {n} i ν cs r = go (solvedSet t set) (says i)
       where
-        go : (m : Got (Answer ℕ)) → StandsBy s (Err r) solution.rounds m → JudgedAs ν cs m j
-        go (refused j) q = tt
+        go : (m : Got (Answer ℕ)) → StandsBy s (Ok (finish.Unsolved n)) solution.rounds m → JudgedAs ν cs m (toldBy is_none r) × PlacedAs ν cs m (toldBy toldOption r)
+        go (refused j) q = (tt, tt)
         go (got (accepted bs ns k)) q = absurd q
-        go (got (remaining ds k)) q = tt
-        go (got (stopped j k)) q = tt
+        go (got (remaining ds k)) q = (tt, tt)
+        go (got (stopped j k)) q = (tt, tt)
+
+    pub stopped-unjudged : {n : Refusal} → solution.outcome ≡ Err n → (ν : Names ℕ) (cs : List (Con ℕ)) (r : Result (std.Option ℕ) Refusal) → Verdict ν cs r
+    stopped-unjudged {n} i ν cs r = go (solvedSet t set) (says i)
+      where
+        go : (m : Got (Answer ℕ)) → StandsBy s (Err n) solution.rounds m → JudgedAs ν cs m (toldBy is_none r) × PlacedAs ν cs m (toldBy toldOption r)
+        go (refused j) q = (tt, tt)
+        go (got (accepted bs ns k)) q = absurd q
+        go (got (remaining ds k)) q = (tt, tt)
+        go (got (stopped j k)) q = (tt, tt)
 
   module _ {s : List ℕ} {b n : ℕ} (o : Own s b n) where
     pub stands : Words32 set → SetThere pool table set o.cs
@@ -120,3 +123,7 @@ module _ (pool table set : List ℕ) where
     pub judged : {r : Result (std.Option ℕ) Refusal} → FoundJudged pool table o.bs o.ns o.cs r → (cs : List (Con ℕ)) → setGiven t set ≡ got cs
         → JudgedAs (numbers pool table) cs (solvedSet t set) (toldBy is_none r)
     judged f cs e = let z : o.cs ≡ cs = cc in rw (o.is, ← z) f.verdict
+
+    pub placed : {r : Result (std.Option ℕ) Refusal} → FoundJudged pool table o.bs o.ns o.cs r → (cs : List (Con ℕ)) → setGiven t set ≡ got cs
+        → PlacedAs (numbers pool table) cs (solvedSet t set) (toldBy toldOption r)
+    placed f cs e = let z : o.cs ≡ cs = cc in rw (o.is, ← z) f.place

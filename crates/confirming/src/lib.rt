@@ -5,11 +5,11 @@ ghost use Rattle.std.specs.Prelude.{◌≡◌, List, ℕ, ◌≤◌, length, is_
 ghost use Rattle.rules.specs.Base.{got};
 ghost use Rattle.rules.specs.Calls.{setGiven, solvedSet};
 ghost use Rattle.rules.specs.Names.{table_of, tableGood, lentTable};
-ghost use Rattle.rules.specs.Refusals.{toldBy};
+ghost use Rattle.rules.specs.Refusals.{toldBy, toldOption};
 ghost use Rattle.rules.specs.Trees.{Con};
 ghost use Rattle.records.specs.Good.{numbers};
 ghost use Rattle.solving.specs.Told.{Stands, Answered};
-ghost use Rattle.judging.specs.Found.{JudgedAs};
+ghost use Rattle.judging.specs.Found.{JudgedAs, PlacedAs};
 
 use judging::inner::{Found, judge_found};
 use names::tables::NameTable;
@@ -37,8 +37,10 @@ fn verdict_on(
     requires stands { Stands rows.now solution (solvedSet (table_of pool.now table.now) words.now) }
     requires short { length rows.now ≤ 8192 }
     requires room { 8192 ≤ length work.old }
-    ensures { (cs : List (Con ℕ)) → setGiven (table_of pool.now table.now) words.now ≡ got cs
+    ensures judged { (cs : List (Con ℕ)) → setGiven (table_of pool.now table.now) words.now ≡ got cs
         → JudgedAs (numbers pool.now table.now) cs (solvedSet (table_of pool.now table.now) words.now) (toldBy is_none result) }
+    ensures placed { (cs : List (Con ℕ)) → setGiven (table_of pool.now table.now) words.now ≡ got cs
+        → PlacedAs (numbers pool.now table.now) cs (solvedSet (table_of pool.now table.now) words.now) (toldBy toldOption result) }
 {
     match solution.outcome {
         Ok(Finish::Solved(bindings, bounds)) => {
@@ -70,6 +72,8 @@ pub fn solve_and_judge(
     ensures answered { Answered (solvedSet (table_of pool.now table.now) words.now) res.old res.new result.solution }
     ensures judged { (cs : List (Con ℕ)) → setGiven (table_of pool.now table.now) words.now ≡ got cs
         → JudgedAs (numbers pool.now table.now) cs (solvedSet (table_of pool.now table.now) words.now) (toldBy is_none result.verdict) }
+    ensures placed { (cs : List (Con ℕ)) → setGiven (table_of pool.now table.now) words.now ≡ got cs
+        → PlacedAs (numbers pool.now table.now) cs (solvedSet (table_of pool.now table.now) words.now) (toldBy toldOption result.verdict) }
 {
     let solution = solve_set(pool, table, good, words, res, work);
     let verdict = verdict_on(pool, table, words, solution, res, work);

@@ -3,10 +3,11 @@ use Rattle.std.specs.Prelude as std
 use Rattle.std.specs.Prelude.{◌≡◌, refl, Bool, true, Result, is_none, List, [], ◌∷◌, ◌++◌, map, ℕ, ◌+◌, ◌*◌, ◌-◌, ◌/◌, ◌≤◌, ◌<◌, length, take, drop}
 use Rattle.std.proofs.Common.{sym, ap, subst, ◌∙◌, arith, add-zero}
 use Rattle.std.proofs.Math.Bool.{and-eq-true_iff}
+use Rattle.std.proofs.Math.Option.{Option}
 use Rattle.std.proofs.Math.Seq.{slice}
 use Rattle.std.proofs.lemmas.List.{length-map, drop-take}
 use Rattle.rules.specs.Base.{Got, got, refused, all, bounded, sum_of}
-use Rattle.rules.specs.Judging.{judge}
+use Rattle.rules.specs.Judging.{judge, failing}
 use Rattle.rules.specs.Refusals.{toldBy, toldOption}
 use Rattle.rules.specs.Replacing.{bindings}
 use Rattle.rules.specs.Solving.{Answer, accepted, remaining, stopped}
@@ -29,7 +30,6 @@ use Rattle.queries.specs.Marks.{Marks}
 use Rattle.replacing.specs.Runs.{HoldsAll, Run, looked-good}
 use Rattle.replacing.specs.Well.{Listed, Lent}
 use Rattle.proposals.specs.Bounds.{BoundsThere}
-use Rattle.trials.specs.Failing.{failing}
 use Rattle.trials.specs.Trials.{Put}
 
 -- bindings in the records up to b, and n bounds behind them, all well formed
@@ -52,6 +52,13 @@ JudgedAs ν cs (refused n) j = Unit {0}
 JudgedAs ν cs (got (accepted bs ns k)) j = j ≡ judge ν bounded bs ns cs
 JudgedAs ν cs (got (remaining ds k)) j = Unit {0}
 JudgedAs ν cs (got (stopped n k)) j = Unit {0}
+
+-- and the place that is told with it is that of the first constraint that fails, if there is one
+abbrev pub PlacedAs : Names ℕ → List (Con ℕ) → Got (Answer ℕ) → Got (Option ℕ) → Type 0
+PlacedAs ν cs (refused n) j = Unit {0}
+PlacedAs ν cs (got (accepted bs ns k)) j = j ≡ failing ν bounded bs ns 0 cs
+PlacedAs ν cs (got (remaining ds k)) j = Unit {0}
+PlacedAs ν cs (got (stopped n k)) j = Unit {0}
 
 abbrev boundRecs : List ℕ → List Rec
 boundRecs ns = map (λ n. writeBound (var n)) ns

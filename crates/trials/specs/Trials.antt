@@ -10,7 +10,7 @@ use native.Mathlib.Omega.{arith}
 use borrow.Author.Tests.{leb-true, le-leb, eq-eqb, ne_eqb}
 use Rattle.std.proofs.Math.Seq.{sets}
 use Rattle.rules.specs.Base.{Got, got, refused, ◌>>=◌, bounded, sized, all, collect, sum_of, max_of}
-use Rattle.rules.specs.Judging.{failed, judgeCon}
+use Rattle.rules.specs.Judging.{failed, judgeCon, failing}
 use Rattle.rules.specs.Meaning.{holds}
 use Rattle.rules.specs.Names.{table_of, names_of}
 use Rattle.rules.specs.Refusals.{number_of, toldBy}
@@ -37,7 +37,6 @@ use Rattle.replacing.specs.Left.{went-same, Left, Went}
 use Rattle.replacing.specs.LineRules.{con, sizeLine, writeLine, HeldLine, replaceLine, line-some}
 use Rattle.replacing.specs.Runs.{HoldsAll}
 use Rattle.replacing.specs.Well.{Lent}
-use Rattle.trials.specs.Failing.{failing}
 
 -- ══ 6 counts as failure ══
 

@@ -1,12 +1,11 @@
 // A constraint is written with the bindings put in, measured, and tested; the first that isn't true decides.
 ghost use Rattle.std.specs.Prelude.{◌≡◌, List, ℕ, ◌≤◌, length};
 ghost use Rattle.rules.specs.Base.{bounded, refused};
-ghost use Rattle.rules.specs.Judging.{failed, judge};
+ghost use Rattle.rules.specs.Judging.{failed, failing, judge};
 ghost use Rattle.rules.specs.Refusals.{number_of, told, toldBy, toldOption};
 ghost use Rattle.rules.specs.Trees.{Con, Binding};
 ghost use Rattle.records.specs.Good.{numbers};
 ghost use Rattle.queries.specs.Marks.{Marks};
-ghost use Rattle.trials.specs.Failing.{failing};
 ghost use Rattle.trials.specs.Trials.{ConStands, tested, Put, ConThere, Tried, SetThere};
 
 use meaning::inner::truth::holds;

@@ -2,7 +2,7 @@
 use Rattle.std.specs.Prelude.{Ok}
 use Rattle.std.proofs.Common.{◌≡◌, ap, ◌∙◌}
 use Rattle.records.specs.Found.{Words32}
-use Rattle.confirming.specs.Own.{own, stands, judged}
+use Rattle.confirming.specs.Own.{own, stands, judged, placed}
 use Rattle.confirming.proofs.verdict_on.Goals as goal
 
 pub invariant_of-judge_found : goal.invariant_of-judge_found
@@ -35,4 +35,5 @@ returns-in-Ok-Solved c =
     let i : c.args.solution.outcome ≡ Ok c.in-Ok-Solved.field-0 = c.in-Ok-Solved.is in
     let o = own _ _ c.args.words.now c.args.rows.now c.args.solution c.requires.stands c.requires.table_value c.requires.short (i ∙ ap Ok (rw i at c.in-Ok-Solved.field-0-is)) in
     let w : Words32 c.args.words.now = record { word = λ i. (c.shared_slice_known-3-1.given i).fits } in
-    judged _ _ _ o (c.judge_found.ensures o.cs o.bs o.ns (stands _ _ _ o w) o.found)
+    let f = c.judge_found.ensures o.cs o.bs o.ns (stands _ _ _ o w) o.found in
+    record { judged = judged _ _ _ o f; placed = placed _ _ _ o f }
