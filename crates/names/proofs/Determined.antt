@@ -47,7 +47,8 @@ module _ (pool table : List ℕ) where
   pub check-table-determined : (p q : Result (Unit {0}) Refusal) → told p ≡ tableGiven pool table → told q ≡ tableGiven pool table → p ≡ q
   check-table-determined p q h k = told-injective p q (h ∙ sym k)
 
-  pub check-table-numbered : (p : Result (Unit {0}) Refusal) → told p ≡ tableGiven pool table → numberAnswer p ≡ number (numbers.checked (tableGiven pool table))
+  pub check-table-numbered : (p : Result (Unit {0}) Refusal) → told p ≡ tableGiven pool table
+      → numberAnswer p ≡ number (numbers.checked (tableGiven pool table))
   unfolding number
   check-table-numbered p h = answer-in p ∙ ap refusalIn h
 
@@ -55,7 +56,8 @@ module _ (pool table : List ℕ) where
   pub check-number-determined : (i : ℕ) (p q : Result (Unit {0}) Refusal) → told p ≡ refusalOf (nameAsked pool table i) → told q ≡ refusalOf (nameAsked pool table i) → p ≡ q
   check-number-determined i p q h k = told-injective p q (h ∙ sym k)
 
-  pub check-number-numbered : (i : ℕ) (p : Result (Unit {0}) Refusal) → told p ≡ refusalOf (nameAsked pool table i) → numberAnswer p ≡ number (numbers.named (nameAsked pool table i))
+  pub check-number-numbered : (i : ℕ) (p : Result (Unit {0}) Refusal) → told p ≡ refusalOf (nameAsked pool table i)
+      → numberAnswer p ≡ number (numbers.named (nameAsked pool table i))
   unfolding number
   check-number-numbered i p h = answer-in p ∙ ap refusalIn h ∙ asked_in (nameAsked pool table i)
 
@@ -63,7 +65,8 @@ module _ (pool table : List ℕ) where
   pub enter-determined : (name : Bytes) (a b : Result (ℕ × Was) Refusal) (p q t u : List ℕ) → entered a p t ≡ enter pool table name → entered b q u ≡ enter pool table name → OneResult a b p q t u
   enter-determined name a b p q t u h k = entered-tells a b p q t u (h ∙ sym k)
 
-  pub enter-numbered : (name : Bytes) (a : Result (ℕ × Was) Refusal) (p t : List ℕ) → entered a p t ≡ enter pool table name → numberAnswer a ≡ number (numbers.entered (enter pool table name))
+  pub enter-numbered : (name : Bytes) (a : Result (ℕ × Was) Refusal) (p t : List ℕ) → entered a p t ≡ enter pool table name
+      → numberAnswer a ≡ number (numbers.entered (enter pool table name))
   unfolding number
   enter-numbered name a p t h = answer-in a ∙ ap (λ (e : Entered). refusalIn e.answer) h
 
