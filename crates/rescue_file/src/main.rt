@@ -45,10 +45,15 @@ fn argument<R: Env + AllocGlobal>(rt: &R, i: usize) -> Option<Result<String>> {
     }
 }
 
-/// Writes what is kept to a file, and prints the counts and the places.
-fn tell<R: Files + Print>(rt: &R, to: &str, kept: &[u8], skipped: &[u32], c: Counts) -> Result<()> {
+/// Writes what is kept to a file.
+fn write_kept<R: Files>(rt: &R, to: &str, kept: &[u8], c: Counts) -> Result<()> {
     let n = (c.kept.min(RECORDS) * 16).min(kept.len());
     fs::write(rt, to, &kept[..n]).context(format_args!("{to}"))?;
+    Ok(())
+}
+
+/// Prints the counts and the places.
+fn print_counts<R: Print>(rt: &R, skipped: &[u32], c: Counts) -> Result<()> {
     println!(rt; "{} records kept", c.kept)?;
     println!(rt; "{} places skipped", c.skipped)?;
     for place in &skipped[..c.skipped.min(skipped.len())] {
@@ -80,7 +85,12 @@ fn rescue_one<R: Files + Print + Eprint>(
     let mut kept = [0u8; KEPT_BYTES];
     let mut skipped = [0u32; PLACES];
     match rescue(pool, table, &file[..n], &mut kept, &mut skipped) {
-        Ok(c) => tell(rt, to, &kept, &skipped, c)?,
+        Ok(c) => {
+            write_kept(rt, to, &kept, c)?;
+            print_counts(rt, &skipped, c).context(format_args!(
+                "{from}: {to} was written, but printing failed"
+            ))?;
+        }
         Err(r) => bail!("{from}: refused with {}", r.number()),
     }
     Ok(whole)
