@@ -1,8 +1,8 @@
 -- The contracts leave no choice: two results that one of them allows coincide (`determined`). And each answer has the number that the
 -- rules give to its outcome (`numbered`).
 use Rattle.std.proofs.Math.Path.{◌≡◌, ap, sym}
-use Rattle.std.specs.Prelude.{Result, refl, ℕ, List, [], ◌∷◌, map}
-use Rattle.std.proofs.Common.{ap₂, ◌∙◌, arith}
+use Rattle.std.specs.Prelude.{Result, refl, List, [], ◌∷◌, map}
+use Rattle.std.proofs.Common.{ap₂, ◌∙◌}
 use Rattle.rules.specs.Base.{Got, got, refused}
 use Rattle.rules.specs.Refusals.{toldBy, numberAnswer}
 use Rattle.rules.specs.Numbers as numbers
