@@ -254,7 +254,7 @@ module _ (e : ℕ) where
 
   abbrev pub OpenIn : Open NameAt → Type 0
   OpenIn (var n) = NameIn n
-  OpenIn (quant i) = Unit {0}
+  OpenIn (quant i) = ⊥
   OpenIn (par n) = NameIn n
 
   abbrev pub AtomIn : Atom NameAt → Type 0
@@ -392,7 +392,8 @@ module _ (e : ℕ) where
     unfolding TyIn depthAt
     result-in c ps hc hp =
         in-turn ty (λ r. sign "]" >> give (fn_at c ps r)) inner
-        (λ r hr. in-turn (sign "]") (λ u. give (fn_at c ps r)) (sign-in (ascii "]")) (λ u hu. given (fn_at c ps r) ((hc, hp.0, hr.0), omega (arith, hp.1, hr.1))))
+        (λ r hr. in-turn (sign "]") (λ u. give (fn_at c ps r)) (sign-in (ascii "]"))
+        (λ u hu. given (fn_at c ps r) ((hc, hp.0, hr.0), omega (arith, hp.1, hr.1))))
 
     params_in : Stays (ifSign ")" (give nilAt) (tys ty)) (Lists d)
     unfolding TyIn depthAt
@@ -430,7 +431,8 @@ module _ (e : ℕ) where
         (λ u hu. in-turn fieldName (λ x. sign ":" >> (ty >>= λ t. moreFields ty n >>= λ fs. give (field_at x t fs))) field-name
         (λ x hx. in-turn (sign ":") (λ v. ty >>= λ t. moreFields ty n >>= λ fs. give (field_at x t fs)) (sign-in (ascii ":"))
         (λ v hv. in-turn ty (λ t. moreFields ty n >>= λ fs. give (field_at x t fs)) inner
-        (λ t ht. in-turn (moreFields ty n) (λ fs. give (field_at x t fs)) (more-fields n) (λ fs hs. given (field_at x t fs) ((hx, ht.0, hs.0), omega (arith, ht.1, hs.1))))))))
+        (λ t ht. in-turn (moreFields ty n) (λ fs. give (field_at x t fs)) (more-fields n)
+        (λ fs hs. given (field_at x t fs) ((hx, ht.0, hs.0), omega (arith, ht.1, hs.1))))))))
         (given noneAt (tt, omega arith))
 
     fields_in : Stays (fields ty) (Members d)
@@ -440,7 +442,8 @@ module _ (e : ℕ) where
         (λ x hx. in-turn (sign ":") (λ v. ty >>= λ t. left >>= λ n. moreFields ty n >>= λ fs. give (field_at x t fs)) (sign-in (ascii ":"))
         (λ v hv. in-turn ty (λ t. left >>= λ n. moreFields ty n >>= λ fs. give (field_at x t fs)) inner
         (λ t ht. in-turn left (λ n. moreFields ty n >>= λ fs. give (field_at x t fs)) left_in
-        (λ n hn. in-turn (moreFields ty n) (λ fs. give (field_at x t fs)) (more-fields n) (λ fs hs. given (field_at x t fs) ((hx, ht.0, hs.0), omega (arith, ht.1, hs.1)))))))
+        (λ n hn. in-turn (moreFields ty n) (λ fs. give (field_at x t fs)) (more-fields n)
+        (λ fs hs. given (field_at x t fs) ((hx, ht.0, hs.0), omega (arith, ht.1, hs.1)))))))
 
     abbrev types_in : Rule TysAt
     types_in = (sign "<" >> tys ty) >>= λ ts. sign ">" >> give ts
@@ -477,7 +480,8 @@ module _ (e : ℕ) where
         (λ c hc. in-turn (sign "@") (λ u. name >>= λ n. typesThere >>= λ ts. fieldsThere >>= λ fs. give (struct_at c n ts fs)) (sign-in (ascii "@"))
         (λ u hu. in-turn name (λ n. typesThere >>= λ ts. fieldsThere >>= λ fs. give (struct_at c n ts fs)) name_in
         (λ n hn. in-turn typesThere (λ ts. fieldsThere >>= λ fs. give (struct_at c n ts fs)) types-there
-        (λ ts ht. in-turn fieldsThere (λ fs. give (struct_at c n ts fs)) fields-there (λ fs hf. given (struct_at c n ts fs) ((hc, hn, ht.0, hf.0), omega (arith, ht.1, hf.1)))))))
+        (λ ts ht. in-turn fieldsThere (λ fs. give (struct_at c n ts fs)) fields-there
+        (λ fs hf. given (struct_at c n ts fs) ((hc, hn, ht.0, hf.0), omega (arith, ht.1, hf.1)))))))
 
     types-in : Every (λ (x : Char × Rule TyAt). Stays x.1 (Types (suc d))) (types ty)
     types-in = (
@@ -544,7 +548,8 @@ module _ (e : ℕ) where
   unfolding TyIn depthConAt
   after-dimension c (dimAt d fs k) hc hl = (
     in-turn (sign "=" >> sign "Scalar") (λ u. give (isScalarAt c d fs k))
-        (in-turn (sign "=") (λ u. sign "Scalar") (sign-in (ascii "=")) (λ u hu. sign-in (ascii "Scalar"))) (λ u hu. given (isScalarAt c d fs k) ((hc, hl), omega arith)),
+        (in-turn (sign "=") (λ u. sign "Scalar") (sign-in (ascii "=")) (λ u hu. sign-in (ascii "Scalar")))
+        (λ u hu. given (isScalarAt c d fs k) ((hc, hl), omega arith)),
     tt,
   )
   after-dimension c (open_at d o) hc hl = tt
@@ -566,7 +571,8 @@ module _ (e : ℕ) where
   unfolding depthConAt
   last-type c s n hc hs hn =
       in-turn (type 64) (λ t. sign ")" >> give (hasFieldAt c s n t)) (type-in 64)
-      (λ t ht. in-turn (sign ")") (λ u. give (hasFieldAt c s n t)) (sign-in (ascii ")")) (λ u hu. given (hasFieldAt c s n t) ((hc, hs.0, hn, ht.0), omega (arith, hs.1, ht.1))))
+      (λ t ht. in-turn (sign ")") (λ u. give (hasFieldAt c s n t)) (sign-in (ascii ")"))
+      (λ u hu. given (hasFieldAt c s n t) ((hc, hs.0, hn, ht.0), omega (arith, hs.1, ht.1))))
 
   quoted-in : (c : ℕ) (s : TyAt) → c ≤ e → Types 64 s → Stays (quoted c s) Shallow
   quoted-in c s hc hs =

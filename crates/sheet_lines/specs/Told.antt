@@ -136,7 +136,8 @@ module _ (e : ℕ) where
   tells a q = record { at = λ s i. (q, i) }
 
   module _ (I : Sofar → Type 0) (counting : (s : Sofar) (k : ℕ) → s.records + k ≤ 2048 → I s → I (withRecords s k))
-      (entering : (s : Sofar) (b : Bytes) (r : ℕ × Was) → (enterName s.pool s.table b).answer ≡ got r → I s → I (withName s (enterName s.pool s.table b) r.1)) where
+      (entering : (s : Sofar) (b : Bytes) (r : ℕ × Was) → (enterName s.pool s.table b).answer ≡ got r → I s
+      → I (withName s (enterName s.pool s.table b) r.1)) where
     abbrev Keeps : {A : Type 0} → (A → Type 0) → Step A → Type 0
     Keeps Q m = Tells I I Q m
 
@@ -169,7 +170,7 @@ module _ (e : ℕ) where
 
     open_in : (o : Open NameAt) → OpenIn e o → Keeps Any (openNamed o)
     open_in (var n) h = in-turn (named n) (λ x. give (var x)) (named_in n h) (λ x v. tells (var x) tt)
-    open_in (quant i) h = tells (quant i) tt
+    open_in (quant i) h = absurd h
     open_in (par n) h = in-turn (named n) (λ x. give (par x)) (named_in n h) (λ x v. tells (par x) tt)
 
     atom-in : (a : Atom NameAt) → AtomIn e a → Keeps Any (atomNamed a)
@@ -185,7 +186,10 @@ module _ (e : ℕ) where
         (atom-in f.atom h.atom)
         (λ a v. in-turn (placed f.power.column (powerOf f.power)) (λ k s. placed f.column (multiply (namesSofar s) bounded p (put a k [])) s)
         (placed-in f.power.column (powerOf f.power) h.power (power-fits f.power))
-        (λ k hk. record { at = λ s i. placed-at f.column (multiply (namesSofar s) bounded p (put a k [])) h.mark (product-fits s p (put a k []) hp (put-fits a k hk)) s i }))
+        (λ k hk. record {
+          at = λ s i. placed-at f.column (multiply (namesSofar s) bounded p (put a k [])) h.mark
+              (product-fits s p (put a k []) hp (put-fits a k hk)) s i;
+        }))
 
     factors-in : (fs : List FactorAt) (p : Product ℕ) → Every (FactorIn e) fs → Factors p → Keeps Factors (factorsOf fs p)
     unfolding factorsOf

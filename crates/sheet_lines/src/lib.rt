@@ -10,8 +10,9 @@ pub fn refusals_stay_in_the_line()
     ensures { ColumnInLine }
 {}
 
-/// What was read from a sheet is what is read from its words, over whatever table they are read: at most 2,048 constraints. A table that was well formed
-/// still is, with at most 256 new names (`read-back`, `read-few`, `read-keeps-good`).
+/// What was read from a sheet is what is read from its words, over whatever table they are read, if anything is: at most 2,048 constraints. A table that was
+/// well formed still is, with at most 256 new names, and over it each call that takes a set takes these words (`read-back`, `read-few`, `read-keeps-good`,
+/// `read-sound`).
 pub fn what_is_read_is_read_back()
     ensures { ReadIsReadBack }
 {}

@@ -6,7 +6,7 @@ use Rattle.sheet_reading.specs.Loop.{put-back}
 use Rattle.sheet_reading.proofs.inner.read_sheet.Goals as goal
 
 pub copy_from_slice-requires : goal.copy_from_slice-requires
-copy_from_slice-requires c = sym (length-take-le 8192 c.args.pool.now c.requires.bytes)
+copy_from_slice-requires c = omega (arith, length-take-le 8192 c.args.pool.now c.requires.bytes)
 
 pub slice_bounds-copy_from_slice-end-in-Err-2 : goal.slice_bounds-copy_from_slice-end-in-Err-2
 slice_bounds-copy_from_slice-end-in-Err-2 c =
@@ -16,7 +16,7 @@ slice_bounds-copy_from_slice-end-in-Err-2 c =
 pub copy_from_slice-requires-in-Err : goal.copy_from_slice-requires-in-Err
 copy_from_slice-requires-in-Err c =
     let h : 8192 ≤ length c.read_lines.new.pool = omega (arith, c.requires.bytes, c.read_lines.auto.pool) in
-    length-take-le 8192 c.read_lines.new.pool h ∙ sym c.copy_from_slice.ensures.len
+    omega (arith, length-take-le 8192 c.read_lines.new.pool h, c.copy_from_slice.ensures.len)
 
 pub slice_bounds-copy_from_slice-end-in-Err-5 : goal.slice_bounds-copy_from_slice-end-in-Err-5
 slice_bounds-copy_from_slice-end-in-Err-5 c =
@@ -26,7 +26,7 @@ slice_bounds-copy_from_slice-end-in-Err-5 c =
 pub copy_from_slice-requires-in-Err-2 : goal.copy_from_slice-requires-in-Err-2
 copy_from_slice-requires-in-Err-2 c =
     let h : 257 ≤ length c.read_lines.new.table = omega (arith, c.requires.words, c.read_lines.auto.table) in
-    length-take-le 257 c.read_lines.new.table h ∙ sym c.copy_from_slice-2.ensures.len
+    omega (arith, length-take-le 257 c.read_lines.new.table h, c.copy_from_slice-2.ensures.len)
 
 pub returns-in-Err : goal.returns-in-Err
 returns-in-Err c =
