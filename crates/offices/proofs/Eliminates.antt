@@ -81,7 +81,8 @@ module _ {pool table pool' table' : List ℕ} (good : Good pool table) (good' : 
   record Same (m m' : Got (Settled ℕ)) : Type 0 where
     answer : eliminatedOf m ≡ eliminatedOf m'
     records : (b b' : List ℕ)
-        → ReadAlike T₁ T₂ (frontEliminated (eliminatedOf m) (resultAfter (eliminatedWords m) b)) (frontEliminated (eliminatedOf m') (resultAfter (eliminatedWords m') b'))
+        → ReadAlike T₁ T₂ (frontEliminated (eliminatedOf m) (resultAfter (eliminatedWords m) b))
+        (frontEliminated (eliminatedOf m') (resultAfter (eliminatedWords m') b'))
 
   same-settled : (a a' : Settled ℕ) → mapSettled ν₁ a ≡ mapSettled ν₂ a' → Same (got a) (got a')
   unfolding eliminatedOf eliminatedWords resultAfter

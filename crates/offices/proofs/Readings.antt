@@ -27,7 +27,7 @@ use Rattle.offices.proofs.Both.{Both, Pair, neither, pair, through}
 use Rattle.offices.proofs.Both as both
 use Rattle.offices.proofs.Naming.{keeps}
 use Rattle.offices.proofs.Products.{put_map, multiply-map}
-use Rattle.offices.proofs.Steps.{Grows, grows-same, grows-on, Behind, Related, Out, three, three', refusal, Beside, in-turn, gives, Equal, Nothing}
+use Rattle.offices.proofs.Steps.{Grows, Onward, further, still, Behind, Related, Out, three, three', refusal, Beside, in-turn, gives, Equal, Nothing}
 use Rattle.offices.proofs.Steps.{counted-alike, placed-same, OneName, one-later, named-alike}
 use Rattle.offices.proofs.Steps as steps
 
@@ -35,16 +35,16 @@ use Rattle.offices.proofs.Steps as steps
 
 -- trees with the same names in them, over all tables that the two readings may still reach
 pub record Later {A B : Type 0} (g : (ℕ → Name) → A → B) (t t' : Table) (a a' : A) : Type 0 where
-  pub at : (u u' : Table) → Grows t u → Grows t' u' → g (nameNo u) a ≡ g (nameNo u') a'
+  pub at : (u u' : Table) → Onward t t' u u' → g (nameNo u) a ≡ g (nameNo u') a'
 
-pub later-on : {A B : Type 0} {g : (ℕ → Name) → A → B} {t t' u u' : Table} {a a' : A} → Grows t u → Grows t' u' → Later g t t' a a' → Later g u u' a a'
-later-on k k' r = record { at = λ v v' l l'. r.at v v' (grows-on k l) (grows-on k' l') }
+pub later-on : {A B : Type 0} {g : (ℕ → Name) → A → B} {t t' u u' : Table} {a a' : A} → Onward t t' u u' → Later g t t' a a' → Later g u u' a a'
+later-on k r = record { at = λ v v' l. r.at v v' (further k l) }
 
 pub now : {A B : Type 0} {g : (ℕ → Name) → A → B} {t t' : Table} {a a' : A} → Later g t t' a a' → g (nameNo t) a ≡ g (nameNo t') a'
-now {t} {t'} r = r.at t t' (grows-same t) (grows-same t')
+now {t} {t'} r = r.at t t' (still t t')
 
-name-later : {t t' : Table} {x x' : ℕ} → OneName t t' x x' → (u u' : Table) → Grows t u → Grows t' u' → nameNo u x ≡ nameNo u' x'
-name-later r u u' k k' = (one-later k k' r).same
+name-later : {t t' : Table} {x x' : ℕ} → OneName t t' x x' → (u u' : Table) → Onward t t' u u' → nameNo u x ≡ nameNo u' x'
+name-later r u u' k = (one-later k r).same
 
 -- ══ Open names and products, whose names are held ══
 
@@ -101,25 +101,36 @@ record OneProduct (t t' : Table) (p p' : Product ℕ) : Type 0 where
   held : Every (HeldFactor t) p
   held' : Every (HeldFactor t') p'
 
-atom-later : {t t' u u' : Table} {a a' : Atom ℕ} → Grows t u → Grows t' u' → OneAtom t t' a a' → OneAtom u u' a a'
-atom-later {a} {a'} g g' r = record { same = atom-same g a r.held ∙ r.same ∙ sym (atom-same g' a' r.held'); held = atom-held g a r.held; held' = atom-held g' a' r.held' }
+atom-later : {t t' u u' : Table} {a a' : Atom ℕ} → Onward t t' u u' → OneAtom t t' a a' → OneAtom u u' a a'
+atom-later {a} {a'} k r = record {
+  same = atom-same k.here a r.held ∙ r.same ∙ sym (atom-same k.there a' r.held');
+  held = atom-held k.here a r.held;
+  held' = atom-held k.there a' r.held';
+}
 
-product-later : {t t' u u' : Table} {p p' : Product ℕ} → Grows t u → Grows t' u' → OneProduct t t' p p' → OneProduct u u' p p'
-product-later {p} {p'} g g' r =
-    record { same = product-same g p r.held ∙ r.same ∙ sym (product-same g' p' r.held'); held = product-held g p r.held; held' = product-held g' p' r.held' }
+product-later : {t t' u u' : Table} {p p' : Product ℕ} → Onward t t' u u' → OneProduct t t' p p' → OneProduct u u' p p'
+product-later {p} {p'} k r = record {
+  same = product-same k.here p r.held ∙ r.same ∙ sym (product-same k.there p' r.held');
+  held = product-held k.here p r.held;
+  held' = product-held k.there p' r.held';
+}
 
 open-later : {t t' : Table} {o o' : Open ℕ} → OneOpen t t' o o' → Later (λ f u. mapTy f u) t t' (opened o) (opened o')
 unfolding mapTy
-open-later {o} {o'} r = record { at = λ u u' k k'. ap opened (open-same k o r.held ∙ r.same ∙ sym (open-same k' o' r.held')) }
+open-later {o} {o'} r = record { at = λ u u' k. ap opened (open-same k.here o r.held ∙ r.same ∙ sym (open-same k.there o' r.held')) }
 
 open-alike : {t t' : Table} (o : Open NameAt) → Beside OneOpen t t' (openNamed o) (openNamed o)
-open-alike (var n) = in-turn (named-alike n) (λ u u' k k' x x' r. gives (var x) (var x') (λ v v' l l'. let w = one-later l l' r in record { same = ap var w.same; held = w.held; held' = w.held' }))
-open-alike (quant i) = gives (quant i) (quant i) (λ u u' k k'. record { same = refl; held = tt; held' = tt })
-open-alike (par n) = in-turn (named-alike n) (λ u u' k k' x x' r. gives (par x) (par x') (λ v v' l l'. let w = one-later l l' r in record { same = ap par w.same; held = w.held; held' = w.held' }))
+open-alike (var n) = in-turn (named-alike n)
+    (λ u u' k x x' r. gives (var x) (var x') (λ v v' l. let w = one-later l r in record { same = ap var w.same; held = w.held; held' = w.held' }))
+open-alike (quant i) = gives (quant i) (quant i) (λ u u' k. record { same = refl; held = tt; held' = tt })
+open-alike (par n) = in-turn (named-alike n)
+    (λ u u' k x x' r. gives (par x) (par x') (λ v v' l. let w = one-later l r in record { same = ap par w.same; held = w.held; held' = w.held' }))
 
 atom-alike : {t t' : Table} (a : Atom NameAt) → Beside OneAtom t t' (atomNamed a) (atomNamed a)
-atom-alike (free o) = in-turn (open-alike o) (λ u u' k k' x x' r. gives (free x) (free x') (λ v v' l l'. atom-later l l' (record { same = ap free r.same; held = r.held; held' = r.held' })))
-atom-alike (base n) = in-turn (named-alike n) (λ u u' k k' x x' r. gives (base x) (base x') (λ v v' l l'. let w = one-later l l' r in record { same = ap base w.same; held = w.held; held' = w.held' }))
+atom-alike (free o) = in-turn (open-alike o)
+    (λ u u' k x x' r. gives (free x) (free x') (λ v v' l. atom-later l (record { same = ap free r.same; held = r.held; held' = r.held' })))
+atom-alike (base n) = in-turn (named-alike n)
+    (λ u u' k x x' r. gives (base x) (base x') (λ v v' l. let w = one-later l r in record { same = ap base w.same; held = w.held; held' = w.held' }))
 
 -- ══ Dimensions ══
 
@@ -138,9 +149,11 @@ single-alike {t} {t'} {a} {a'} e r = record {
         go true q = rw (q, put) tt
         go false q = rw (q, put) (h, tt)
 
-multiply-held : (w : Table) (p q : Product ℕ) → Every (HeldFactor w) p → Every (HeldFactor w) q → Gives (multiply (numbersOf w) bounded p q) (Every (HeldFactor w))
+multiply-held : (w : Table) (p q : Product ℕ) → Every (HeldFactor w) p → Every (HeldFactor w) q
+    → Gives (multiply (numbersOf w) bounded p q) (Every (HeldFactor w))
 unfolding multiply
-multiply-held w p q h k = next (merge-each (HeldFactor w) (numbersOf w) bounded (λ a b e d r x y u z. x) p q h k) (λ r g. allowed (leb (length r) 64) 8 r (λ u. g))
+multiply-held w p q h k = next (merge-each (HeldFactor w) (numbersOf w) bounded (λ a b e d r x y u z. x) p q h k)
+    (λ r g. allowed (leb (length r) 64) 8 r (λ u. g))
 
 module _ {pool table pool' table' : List ℕ} (good : Good pool table) (good' : Good pool' table') where
   abbrev T₁ : Table
@@ -167,19 +180,20 @@ placed-product c s s' h m m' g g' (both.both p p' e) = steps.both p p' s s' h (r
 multiplied-alike : {t t' : Table} (p p' : Product ℕ) (f : FactorAt) → OneProduct t t' p p' → Beside OneProduct t t' (multiplied p f) (multiplied p' f)
 unfolding multiplied
 multiplied-alike p p' f r =
-    in-turn (atom-alike f.atom) (λ u u' k k' a a' i.
-    in-turn (placed-same f.power.column (powerOf f.power)) (λ v v' l l' e e' j. rw (← j) (record {
+    in-turn (atom-alike f.atom) (λ u u' k a a' i.
+    in-turn (placed-same f.power.column (powerOf f.power)) (λ v v' l e e' j. rw (← j) (record {
       at = λ s s' h.
-          let q = product-later h.grown h.grown' (product-later (grows-on k l) (grows-on k' l') r) in
-          let o = single-alike e (atom-later h.grown h.grown' (atom-later l l' i)) in
-          placed-product f.column s s' h _ _ (multiply-held (table_of s.pool s.table) p (put a e []) q.held o.held) (multiply-held (table_of s'.pool s'.table) p' (put a' e []) q.held' o.held')
+          let q = product-later h.grown (product-later (further k l) r) in
+          let o = single-alike e (atom-later h.grown (atom-later l i)) in
+          placed-product f.column s s' h _ _ (multiply-held (table_of s.pool s.table) p (put a e []) q.held o.held)
+          (multiply-held (table_of s'.pool s'.table) p' (put a' e []) q.held' o.held')
           (pair _ _ (multiply-alike h.good h.good' p p' (put a e []) (put a' e []) q o));
     })))
 
 factors-alike : {t t' : Table} (fs : List FactorAt) (p p' : Product ℕ) → OneProduct t t' p p' → Beside OneProduct t t' (factorsOf fs p) (factorsOf fs p')
 unfolding factorsOf
-factors-alike [] p p' r = gives p p' (λ u u' k k'. product-later k k' r)
-factors-alike (f ∷ fs) p p' r = in-turn (multiplied-alike p p' f r) (λ u u' k k' q q' i. factors-alike fs q q' i)
+factors-alike [] p p' r = gives p p' (λ u u' k. product-later k r)
+factors-alike (f ∷ fs) p p' r = in-turn (multiplied-alike p p' f r) (λ u u' k q q' i. factors-alike fs q q' i)
 
 as_many : {t t' : Table} (p p' : Product ℕ) → OneProduct t t' p p' → length p ≡ length p'
 as_many {t} {t'} p p' r = sym (length-map p (mapFactor (nameNo t))) ∙ ap length r.same ∙ length-map p' (mapFactor (nameNo t'))
@@ -187,9 +201,9 @@ as_many {t} {t'} p p' r = sym (length-map p (mapFactor (nameNo t))) ∙ ap lengt
 product-alike : {t t' : Table} (c : ℕ) (fs : List FactorAt) (e : ℕ) → Beside OneProduct t t' (productOf c fs e) (productOf c fs e)
 unfolding productOf
 product-alike c fs e =
-    in-turn (counted-alike 1 1 c refl) (λ u u' k k' x x' i.
-    in-turn (factors-alike fs [] [] (record { same = refl; held = tt; held' = tt })) (λ v v' l l' p p' r.
-    in-turn (counted-alike (length p) (length p') e (as_many p p' r)) (λ w w' m m' y y' j. gives p p' (λ z z' n n'. product-later (grows-on m n) (grows-on m' n') r))))
+    in-turn (counted-alike 1 1 c refl) (λ u u' k x x' i.
+    in-turn (factors-alike fs [] [] (record { same = refl; held = tt; held' = tt })) (λ v v' l p p' r.
+    in-turn (counted-alike (length p) (length p') e (as_many p p' r)) (λ w w' m y y' j. gives p p' (λ z z' n. product-later (further m n) r))))
 
 -- ══ Types ══
 
@@ -198,18 +212,18 @@ data MaybeName (t t' : Table) : Option ℕ → Option ℕ → Type 0 where
   somebody : (x x' : ℕ) → OneName t t' x x' → MaybeName t t' (some x) (some x')
 
 rises-alike : {t t' : Table} (y y' : Option ℕ) (x x' c : ℕ) → MaybeName t t' y y' → OneName t t' x x' → Beside Nothing t t' (rises y x c) (rises y' x' c)
-rises-alike y y' x x' c nobody r = gives tt tt (λ u u' k k'. tt)
+rises-alike y y' x x' c nobody r = gives tt tt (λ u u' k. tt)
 rises-alike {t} {t'} y y' x x' c (somebody z z' q) r = record {
-  at = λ s s' h. rw (order-alike h.good h.good' z z' x x' (one-later h.grown h.grown' q) (one-later h.grown h.grown' r)) (by (is_lt ((namesSofar s').order z' x')) s s' h);
+  at = λ s s' h. rw (order-alike h.good h.good' z z' x x' (one-later h.grown q) (one-later h.grown r)) (by (is_lt ((namesSofar s').order z' x')) s s' h);
 }
   where
     by : (b : Bool) (s s' : Sofar) → Behind t t' s s' → Out Nothing t t' (placed c (need b 1) s) (placed c (need b 1) s')
     by true s s' h = steps.both tt tt s s' h tt
     by false s s' h = refusal 1 c
 
-maybe-later : {t t' u u' : Table} {y y' : Option ℕ} → Grows t u → Grows t' u' → MaybeName t t' y y' → MaybeName u u' y y'
-maybe-later k k' nobody = nobody
-maybe-later k k' (somebody x x' r) = somebody x x' (one-later k k' r)
+maybe-later : {t t' u u' : Table} {y y' : Option ℕ} → Onward t t' u u' → MaybeName t t' y y' → MaybeName u u' y y'
+maybe-later k nobody = nobody
+maybe-later k (somebody x x' r) = somebody x x' (one-later k r)
 
 struct-same : {n m : Name} {us vs : Tys Name} {fs gs : Fields Name} → n ≡ m → us ≡ vs → fs ≡ gs → struct n us fs ≡ struct m vs gs
 struct-same e f g = rw (e, f, g)
@@ -233,34 +247,44 @@ mutual
   unfolding ty_of mapTy
 
   ty-alike : {t t' : Table} (w : TyAt) → Beside Types t t' (ty_of w) (ty_of w)
-  ty-alike (open_at c o) = in-turn (in-turn (counted-alike 1 1 c refl) (λ u u' k k' x x' i. open-alike o)) (λ u u' k k' x x' r. gives (opened x) (opened x') (λ v v' l l'. later-on l l' (open-later r)))
-  ty-alike (basicAt c b) = in-turn (counted-alike 1 1 c refl) (λ u u' k k' x x' i. gives (basic b) (basic b) (λ v v' l l'. record { at = λ w w' m m'. refl }))
-  ty-alike (dimAt c fs e) = in-turn (product-alike c fs e) (λ u u' k k' p p' r. gives (dim p) (dim p') (λ v v' l l'. record { at = λ w w' m m'. ap dim (product-later (grows-on l m) (grows-on l' m') r).same }))
+  ty-alike (open_at c o) = in-turn (in-turn (counted-alike 1 1 c refl) (λ u u' k x x' i. open-alike o))
+      (λ u u' k x x' r. gives (opened x) (opened x') (λ v v' l. later-on l (open-later r)))
+  ty-alike (basicAt c b) = in-turn (counted-alike 1 1 c refl) (λ u u' k x x' i. gives (basic b) (basic b) (λ v v' l. record { at = λ w w' m. refl }))
+  ty-alike (dimAt c fs e) = in-turn (product-alike c fs e)
+      (λ u u' k p p' r. gives (dim p) (dim p') (λ v v' l. record { at = λ w w' m. ap dim (product-later (further l m) r).same }))
   ty-alike (fn_at c ps w) =
-      in-turn (in-turn (counted-alike 1 1 c refl) (λ u u' k k' x x' i. tys-alike ps)) (λ u u' k k' ts ts' r.
-      in-turn (ty-alike w) (λ v v' l l' a a' q. gives (fn ts a) (fn ts' a') (λ z z' m m'. record { at = λ w w' n n'. ap₂ (λ (us : Tys Name) (b : Ty Name). fn us b) (r.at w w' (grows-on l (grows-on m n)) (grows-on l' (grows-on m' n'))) (q.at w w' (grows-on m n) (grows-on m' n')) })))
-  ty-alike (listAt c w) = in-turn (in-turn (counted-alike 1 1 c refl) (λ u u' k k' x x' i. ty-alike w)) (λ u u' k k' a a' r. gives (list a) (list a') (λ v v' l l'. record { at = λ w w' m m'. ap list (r.at w w' (grows-on l m) (grows-on l' m')) }))
+      in-turn (in-turn (counted-alike 1 1 c refl) (λ u u' k x x' i. tys-alike ps)) (λ u u' k ts ts' r.
+      in-turn (ty-alike w) (λ v v' l a a' q. gives (fn ts a) (fn ts' a')
+      (λ z z' m. record { at = λ w w' n. ap₂ (λ (us : Tys Name) (b : Ty Name). fn us b) (r.at w w' (further l (further m n))) (q.at w w' (further m n)) })))
+  ty-alike (listAt c w) = in-turn (in-turn (counted-alike 1 1 c refl) (λ u u' k x x' i. ty-alike w))
+      (λ u u' k a a' r. gives (list a) (list a') (λ v v' l. record { at = λ w w' m. ap list (r.at w w' (further l m)) }))
   ty-alike (struct_at c n ps fs) =
-      in-turn (in-turn (counted-alike 1 1 c refl) (λ u u' k k' x x' i. named-alike n)) (λ u u' k k' x x' i.
-      in-turn (tys-alike ps) (λ v v' l l' ts ts' r.
-      in-turn (fields-alike fs none none nobody) (λ w w' m m' gs gs' q. gives (struct x ts gs) (struct x' ts' gs') (λ y y' p p'. record {
-        at = λ z z' o o'. struct-same (name-later i z z' (grows-on l (grows-on m (grows-on p o))) (grows-on l' (grows-on m' (grows-on p' o')))) (r.at z z' (grows-on m (grows-on p o)) (grows-on m' (grows-on p' o'))) (q.at z z' (grows-on p o) (grows-on p' o'));
+      in-turn (in-turn (counted-alike 1 1 c refl) (λ u u' k x x' i. named-alike n)) (λ u u' k x x' i.
+      in-turn (tys-alike ps) (λ v v' l ts ts' r.
+      in-turn (fields-alike fs none none nobody) (λ w w' m gs gs' q. gives (struct x ts gs) (struct x' ts' gs') (λ y y' p. record {
+        at = λ z z' o. struct-same (name-later i z z' (further l (further m (further p o)))) (r.at z z' (further m (further p o))) (q.at z z' (further p o));
       }))))
   ty-alike (deepAt c) = record { at = λ s s' h. refusal 1 c }
 
   tys-alike : {t t' : Table} (ws : TysAt) → Beside TypeLists t t' (tys_of ws) (tys_of ws)
-  tys-alike nilAt = gives nil nil (λ u u' k k'. record { at = λ w w' m m'. refl })
+  tys-alike nilAt = gives nil nil (λ u u' k. record { at = λ w w' m. refl })
   tys-alike (consAt w ws) =
-      in-turn (ty-alike w) (λ u u' k k' a a' r.
-      in-turn (tys-alike ws) (λ v v' l l' ts ts' q. gives (cons a ts) (cons a' ts') (λ z z' m m'. record { at = λ w w' n n'. ap₂ (λ (b : Ty Name) (us : Tys Name). cons b us) (r.at w w' (grows-on l (grows-on m n)) (grows-on l' (grows-on m' n'))) (q.at w w' (grows-on m n) (grows-on m' n')) })))
+      in-turn (ty-alike w) (λ u u' k a a' r.
+      in-turn (tys-alike ws) (λ v v' l ts ts' q. gives (cons a ts) (cons a' ts')
+      (λ z z' m. record {
+        at = λ w w' n. ap₂ (λ (b : Ty Name) (us : Tys Name). cons b us) (r.at w w' (further l (further m n)))
+            (q.at w w' (further m n));
+      })))
 
   fields-alike : {t t' : Table} (fs : FieldsAt) (y y' : Option ℕ) → MaybeName t t' y y' → Beside FieldLists t t' (fields_of fs y) (fields_of fs y')
-  fields-alike noneAt y y' r = gives noFields noFields (λ u u' k k'. record { at = λ w w' m m'. refl })
+  fields-alike noneAt y y' r = gives noFields noFields (λ u u' k. record { at = λ w w' m. refl })
   fields-alike (field_at n w fs) y y' r =
-      in-turn (named-alike n) (λ u u' k k' x x' i.
-      in-turn (in-turn (in-turn (rises-alike y y' x x' n.column (maybe-later k k' r) i) (λ v v' l l' z z' j. counted-alike 1 1 n.column refl)) (λ v v' l l' z z' j. ty-alike w)) (λ v v' l l' a a' q.
-      in-turn (fields-alike fs (some x) (some x') (somebody x x' (one-later l l' i))) (λ z z' m m' gs gs' p. gives (field x a gs) (field x' a' gs') (λ e e' o o'. record {
-        at = λ d d' h h'. field-same (name-later i d d' (grows-on l (grows-on m (grows-on o h))) (grows-on l' (grows-on m' (grows-on o' h')))) (q.at d d' (grows-on m (grows-on o h)) (grows-on m' (grows-on o' h'))) (p.at d d' (grows-on o h) (grows-on o' h'));
+      in-turn (named-alike n) (λ u u' k x x' i.
+      in-turn (in-turn (in-turn (rises-alike y y' x x' n.column (maybe-later k r) i) (λ v v' l z z' j. counted-alike 1 1 n.column refl))
+      (λ v v' l z z' j. ty-alike w)) (λ v v' l a a' q.
+      in-turn (fields-alike fs (some x) (some x') (somebody x x' (one-later l i)))
+      (λ z z' m gs gs' p. gives (field x a gs) (field x' a' gs') (λ e e' o. record {
+        at = λ d d' h. field-same (name-later i d d' (further l (further m (further o h)))) (q.at d d' (further m (further o h))) (p.at d d' (further o h));
       }))))
 
 -- ══ Lines ══
@@ -268,15 +292,18 @@ mutual
 con-alike : {t t' : Table} (c : ConAt) → Beside Cons t t' (conOf c) (conOf c)
 unfolding conOf mapCon
 con-alike (equalAt c l r) =
-    in-turn (in-turn (counted-alike 1 1 c refl) (λ u u' k k' x x' i. ty-alike l)) (λ u u' k k' a a' p.
-    in-turn (ty-alike r) (λ v v' m m' b b' q. gives (equal a b) (equal a' b') (λ w w' n n'. record { at = λ z z' o o'. ap₂ (λ (c d : Ty Name). equal c d) (p.at z z' (grows-on m (grows-on n o)) (grows-on m' (grows-on n' o'))) (q.at z z' (grows-on n o) (grows-on n' o')) })))
-con-alike (isDimAt c w) = in-turn (in-turn (counted-alike 1 1 c refl) (λ u u' k k' x x' i. ty-alike w)) (λ u u' k k' a a' p. gives (isDim a) (isDim a') (λ v v' m m'. record { at = λ z z' n n'. ap isDim (p.at z z' (grows-on m n) (grows-on m' n')) }))
-con-alike (isScalarAt c d fs e) = in-turn (in-turn (counted-alike 1 1 c refl) (λ u u' k k' x x' i. product-alike d fs e)) (λ u u' k k' p p' r. gives (is_scalar p) (is_scalar p') (λ v v' m m'. record { at = λ z z' n n'. ap is_scalar (product-later (grows-on m n) (grows-on m' n') r).same }))
+    in-turn (in-turn (counted-alike 1 1 c refl) (λ u u' k x x' i. ty-alike l)) (λ u u' k a a' p.
+    in-turn (ty-alike r) (λ v v' m b b' q. gives (equal a b) (equal a' b')
+    (λ w w' n. record { at = λ z z' o. ap₂ (λ (c d : Ty Name). equal c d) (p.at z z' (further m (further n o))) (q.at z z' (further n o)) })))
+con-alike (isDimAt c w) = in-turn (in-turn (counted-alike 1 1 c refl) (λ u u' k x x' i. ty-alike w))
+    (λ u u' k a a' p. gives (isDim a) (isDim a') (λ v v' m. record { at = λ z z' n. ap isDim (p.at z z' (further m n)) }))
+con-alike (isScalarAt c d fs e) = in-turn (in-turn (counted-alike 1 1 c refl) (λ u u' k x x' i. product-alike d fs e))
+    (λ u u' k p p' r. gives (is_scalar p) (is_scalar p') (λ v v' m. record { at = λ z z' n. ap is_scalar (product-later (further m n) r).same }))
 con-alike (hasFieldAt c w n x) =
-    in-turn (in-turn (counted-alike 1 1 c refl) (λ u u' k k' x x' i. ty-alike w)) (λ u u' k k' a a' p.
-    in-turn (named-alike n) (λ v v' l l' y y' i.
-    in-turn (ty-alike x) (λ w w' m m' b b' q. gives (hasField y a b) (hasField y' a' b') (λ z z' o o'. record {
-      at = λ d d' h h'. has-same (name-later i d d' (grows-on m (grows-on o h)) (grows-on m' (grows-on o' h'))) (p.at d d' (grows-on l (grows-on m (grows-on o h))) (grows-on l' (grows-on m' (grows-on o' h')))) (q.at d d' (grows-on o h) (grows-on o' h'));
+    in-turn (in-turn (counted-alike 1 1 c refl) (λ u u' k x x' i. ty-alike w)) (λ u u' k a a' p.
+    in-turn (named-alike n) (λ v v' l y y' i.
+    in-turn (ty-alike x) (λ w w' m b b' q. gives (hasField y a b) (hasField y' a' b') (λ z z' o. record {
+      at = λ d d' h. has-same (name-later i d d' (further m (further o h))) (p.at d d' (further l (further m (further o h)))) (q.at d d' (further o h));
     }))))
   where
     has-same : {n m : Name} {u v a b : Ty Name} → n ≡ m → u ≡ v → a ≡ b → hasField n u a ≡ hasField m v b
@@ -288,8 +315,9 @@ Sets = Later (λ f cs. map (mapCon f) cs)
 meant-alike : {t t' : Table} (p : Parsed (Option ConAt)) → Beside Sets t t' (meant p) (meant p)
 unfolding meant
 meant-alike (bad c) = record { at = λ s s' h. refusal 12 c }
-meant-alike (read none p) = gives [] [] (λ u u' k k'. record { at = λ w w' m m'. refl })
-meant-alike (read (some c) p) = in-turn (con-alike c) (λ u u' k k' d d' r. gives (d ∷ []) (d' ∷ []) (λ v v' l l'. record { at = λ w w' m m'. ap (λ (e : Con Name). e ∷ []) (r.at w w' (grows-on l m) (grows-on l' m')) }))
+meant-alike (read none p) = gives [] [] (λ u u' k. record { at = λ w w' m. refl })
+meant-alike (read (some c) p) = in-turn (con-alike c)
+    (λ u u' k d d' r. gives (d ∷ []) (d' ∷ []) (λ v v' l. record { at = λ w w' m. ap (λ (e : Con Name). e ∷ []) (r.at w w' (further l m)) }))
 
 -- ══ Sheets ══
 
@@ -301,23 +329,23 @@ pub data SheetsOut (t t' : Table) : Sheet → Sheet → Type 0 where
   both-read : (cs cs' : List (Con ℕ)) (s s' : Sofar) → Behind t t' s s' → Sets (table_of s.pool s.table) (table_of s'.pool s'.table) cs cs'
       → SheetsOut t t' (sheet cs s) (sheet cs' s')
 
-joined : {t t' u u' : Table} {cs cs' : List (Con ℕ)} {x x' : Sheet} → Grows t u → Grows t' u' → Sets u u' cs cs' → SheetsOut u u' x x'
+joined : {t t' u u' : Table} {cs cs' : List (Con ℕ)} {x x' : Sheet} → Onward t t' u u' → Sets u u' cs cs' → SheetsOut u u' x x'
     → SheetsOut t t' (with cs x) (with cs' x')
-joined {cs} {cs'} k k' r (three-at l c x) = three-at l c (with cs' x)
-joined {cs} {cs'} k k' r (three-at' x l c) = three-at' (with cs x) l c
-joined k k' r (refused-at n l c) = refused-at n l c
-joined {cs} {cs'} k k' r (both-read ds ds' s s' h q) = both-read (cs ++ ds) (cs' ++ ds') s s'
-    (record { good = h.good; good' = h.good'; grown = grows-on k h.grown; grown' = grows-on k' h.grown'; records = h.records })
+joined {cs} {cs'} k r (three-at l c x) = three-at l c (with cs' x)
+joined {cs} {cs'} k r (three-at' x l c) = three-at' (with cs x) l c
+joined k r (refused-at n l c) = refused-at n l c
+joined {cs} {cs'} k r (both-read ds ds' s s' h q) = both-read (cs ++ ds) (cs' ++ ds') s s'
+    (record { good = h.good; good' = h.good'; grown = further k h.grown; records = h.records })
     (record {
-      at = λ v v' l l'.
+      at = λ v v' l.
           map-append (mapCon (nameNo v)) cs ds
-          ∙ ap₂ (λ (as' bs : List (Con Name)). as' ++ bs) (r.at v v' (grows-on h.grown l) (grows-on h.grown' l')) (q.at v v' l l')
+          ∙ ap₂ (λ (as' bs : List (Con Name)). as' ++ bs) (r.at v v' (further h.grown l)) (q.at v v' l)
           ∙ sym (map-append (mapCon (nameNo v')) cs' ds');
     })
 
 lines-alike : (k : ℕ) (ls : List Bytes) (t t' : Table) (s s' : Sofar) → Behind t t' s s' → SheetsOut t t' (lines_read k ls s) (lines_read k ls s')
 unfolding lines_read lineRead
-lines-alike k [] t t' s s' h = both-read [] [] s s' h (record { at = λ u u' l l'. refl })
+lines-alike k [] t t' s s' h = both-read [] [] s s' h (record { at = λ u u' l. refl })
 lines-alike k (l ∷ ls) t t' s s' h = go ((meant-alike (line l)).at s s' h) (λ u u'. lines-alike (suc k) ls u u')
   where
     go : {x x' : Told (List (Con ℕ))} → Out Sets t t' x x'
@@ -326,12 +354,13 @@ lines-alike k (l ∷ ls) t t' s s' h = go ((meant-alike (line l)).at s s' h) (λ
     go (three c x) f = three-at k c _
     go (three' x c) f = three-at' _ k c
     go (refusal n c) f = refused-at n k c
-    go (steps.both cs cs' s s' b r) f = joined b.grown b.grown' r (f (table_of s.pool s.table) (table_of s'.pool s'.table) s s'
-        (record { good = b.good; good' = b.good'; grown = grows-same (table_of s.pool s.table); grown' = grows-same (table_of s'.pool s'.table); records = b.records }))
+    go (steps.both cs cs' s s' b r) f = joined b.grown r (f (table_of s.pool s.table) (table_of s'.pool s'.table) s s'
+        (record { good = b.good; good' = b.good'; grown = still (table_of s.pool s.table) (table_of s'.pool s'.table); records = b.records }))
 
 -- the same text, read over two tables
 pub sheets-alike : {pool table pool' table' : List ℕ} → Good pool table → Good pool' table' → (text : Bytes)
     → SheetsOut (table_of pool table) (table_of pool' table') (sheetRead pool table text) (sheetRead pool' table' text)
 unfolding sheetRead
-sheets-alike {pool} {table} {pool'} {table'} g g' text = lines-alike 1 (lines_of text) (table_of pool table) (table_of pool' table') (unread pool table) (unread pool' table')
-    (record { good = g; good' = g'; grown = grows-same (table_of pool table); grown' = grows-same (table_of pool' table'); records = refl })
+sheets-alike {pool} {table} {pool'} {table'} g g' text = lines-alike 1 (lines_of text) (table_of pool table) (table_of pool' table')
+    (unread pool table) (unread pool' table')
+    (record { good = g; good' = g'; grown = still (table_of pool table) (table_of pool' table'); records = refl })

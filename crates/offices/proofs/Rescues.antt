@@ -106,7 +106,8 @@ module _ (t : Table) where
 
 -- what is kept stands in front, and is read back as these records
 kept-front : (pool table file kept : List ℕ) → Bytes file
-    → words_in (take (length (keptIn (piecesIn (table_of pool table) (words_in file))) * 16) (over (keptBytes (piecesIn (table_of pool table) (words_in file))) kept))
+    → words_in (take (length (keptIn (piecesIn (table_of pool table) (words_in file))) * 16)
+    (over (keptBytes (piecesIn (table_of pool table) (words_in file))) kept))
     ≡ words (keptIn (piecesIn (table_of pool table) (words_in file)))
 kept-front pool table file kept b =
     let rs = keptIn (piecesIn (table_of pool table) (words_in file)) in
@@ -132,7 +133,8 @@ module _ {pool table pool' table' : List ℕ} (good : Good pool table) (good' : 
 
   well-formed : (c c' : Con ℕ) → mapCon ν₁ c ≡ mapCon ν₂ c' → goodCon (numbersOf T₁) (is_held T₁) 0 c ≡ goodCon (numbersOf T₂) (is_held T₂) 0 c'
   well-formed c c' e =
-      sym (good-con _ byBytes ν₁ (keeps good) _ isNamed (held-named T₁) 0 c) ∙ ap (goodCon byBytes isNamed 0) e ∙ good-con _ byBytes ν₂ (keeps good') _ isNamed (held-named T₂) 0 c'
+      sym (good-con _ byBytes ν₁ (keeps good) _ isNamed (held-named T₁) 0 c) ∙ ap (goodCon byBytes isNamed 0) e
+      ∙ good-con _ byBytes ν₂ (keeps good') _ isNamed (held-named T₂) 0 c'
 
   abbrev Starts : Option (Con ℕ × List Rec) → Option (Con ℕ × List Rec) → Type 0
   Starts = reading.Cases T₁ T₂ (mapCon ν₁) (mapCon ν₂)
@@ -146,7 +148,8 @@ module _ {pool table pool' table' : List ℕ} (good : Good pool table) (good' : 
       by false v v' i f = reading.neither
 
       go : {x x' : Option (Con ℕ × List Rec)} → Starts x x'
-          → Starts (and_then x (λ v. only_if (goodCon (numbersOf T₁) (is_held T₁) 0 v.0) v)) (and_then x' (λ v. only_if (goodCon (numbersOf T₂) (is_held T₂) 0 v.0) v))
+          → Starts (and_then x (λ v. only_if (goodCon (numbersOf T₁) (is_held T₁) 0 v.0) v))
+          (and_then x' (λ v. only_if (goodCon (numbersOf T₂) (is_held T₂) 0 v.0) v))
       go reading.neither = reading.neither
       go (reading.both v v' i f) = rw (well-formed v.0 v'.0 i) (by (goodCon (numbersOf T₂) (is_held T₂) 0 v'.0) v v' i f)
 
@@ -159,7 +162,8 @@ module _ {pool table pool' table' : List ℕ} (good : Good pool table) (good' : 
   pieces-alike (suc n) [] [] e = refl
   pieces-alike (suc n) [] (r ∷ rs) e = absurd (unlike e)
   pieces-alike (suc n) (r ∷ rs) [] e = absurd (unlike (sym e))
-  pieces-alike (suc n) (r ∷ rs) (r' ∷ rs') e = go (startsHere T₁ (r ∷ rs)) refl (startsHere T₂ (r' ∷ rs')) refl (starts-alike (r ∷ rs) (r' ∷ rs') e) (pieces-alike n)
+  pieces-alike (suc n) (r ∷ rs) (r' ∷ rs') e = go (startsHere T₁ (r ∷ rs)) refl (startsHere T₂ (r' ∷ rs')) refl (starts-alike (r ∷ rs) (r' ∷ rs') e)
+      (pieces-alike n)
     where
       go : (x : Option (Con ℕ × List Rec)) → startsHere T₁ (r ∷ rs) ≡ x → (x' : Option (Con ℕ × List Rec)) → startsHere T₂ (r' ∷ rs') ≡ x' → Starts x x'
           → ((qs qs' : List Rec) → Records qs qs' → Pieces (pieces T₁ n qs) (pieces T₂ n qs'))
@@ -167,7 +171,8 @@ module _ {pool table pool' table' : List ℕ} (good : Good pool table) (good' : 
       go none i none i' reading.neither h = rw (pieces, i, i') (ap₂ (λ (s : Seen) (ps : List PieceSeen). left_out s ∷ ps) (head e) (h rs rs' (tail e)))
       go none i (some v') i' c h = elim c [ ]
       go (some v) i none i' c h = elim c [ ]
-      go (some v) i (some v') i' (reading.both w w' j f) h = rw (pieces, i, i') (ap₂ (λ (c : Con Name) (ps : List PieceSeen). whole_one c ∷ ps) j (h w.1 w'.1 f))
+      go (some v) i (some v') i' (reading.both w w' j f) h = rw (pieces, i, i')
+          (ap₂ (λ (c : Con Name) (ps : List PieceSeen). whole_one c ∷ ps) j (h w.1 w'.1 f))
 
   pieces-in : (ws ws' : List ℕ) → Alike good good' ws ws' → Pieces (piecesIn T₁ ws) (piecesIn T₂ ws')
   unfolding piecesIn
@@ -197,14 +202,16 @@ module _ {pool table pool' table' : List ℕ} (good : Good pool table) (good' : 
 
     same-places : placesIn ps file ≡ placesIn ps' file'
     unfolding placesIn tornIn
-    same-places = rw e.long (ap (λ (n : List ℕ). n ++ unless (eqb (length file' % 16) 0) (length file' / 16)) (skipped-seen T₁ 0 ps ∙ ap (skippedSeen 0) same-pieces ∙ sym (skipped-seen T₂ 0 ps')))
+    same-places = rw e.long (ap (λ (n : List ℕ). n ++ unless (eqb (length file' % 16) 0) (length file' / 16))
+        (skipped-seen T₁ 0 ps ∙ ap (skippedSeen 0) same-pieces ∙ sym (skipped-seen T₂ 0 ps')))
 
   byte-file : (file : List ℕ) → all (λ b. ltb b 256) file ≡ true → Bytes file
   unfolding all
   byte-file [] h = tt
   byte-file (b ∷ bs) h = (ltb-true b 256 (and_left (ltb b 256) _ h), byte-file bs (and_right (ltb b 256) _ h))
 
-  pub rescue-alike : (file file' kept kept' skipped skipped' : List ℕ) → FilesAlike T₁ T₂ file file' → length kept ≡ length kept' → length skipped ≡ length skipped'
+  pub rescue-alike : (file file' kept kept' skipped skipped' : List ℕ) → FilesAlike T₁ T₂ file file' → length kept ≡ length kept'
+      → length skipped ≡ length skipped'
       → RescuedAlike T₁ T₂ (rescueCall pool table file kept skipped) (rescueCall pool' table' file' kept' skipped')
   unfolding rescueCall resultAfter words_in
   rescue-alike file file' kept kept' skipped skipped' e f g =
@@ -233,6 +240,7 @@ module _ {pool table pool' table' : List ℕ} (good : Good pool table) (good' : 
       go (refused n) = record { answer = refl; kept = nothing T₁ T₂; skipped = refl }
       go (got u) = record {
         answer = ap₂ (λ (a b : ℕ). got (a, b)) (same_length T₁ T₂ rs rs' (kept-records file file' e)) (ap length (same-places file file' e));
-        kept = rw (kept-front pool table file kept (byte-file file e.bytes), kept-front pool' table' file' kept' (byte-file file' e.bytes')) (words-alike T₁ T₂ rs rs' (kept-records file file' e));
+        kept = rw (kept-front pool table file kept (byte-file file e.bytes), kept-front pool' table' file' kept' (byte-file file' e.bytes'))
+            (words-alike T₁ T₂ rs rs' (kept-records file file' e));
         skipped = front-over is skipped ∙ same-places file file' e ∙ sym (front-over is' skipped');
       }

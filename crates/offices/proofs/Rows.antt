@@ -121,7 +121,8 @@ module _ {N M : Type 0} (f : N → M) where
   eliminate-map cols zero rows vs = gives refl
   eliminate-map cols (suc n) [] vs = gives refl
   eliminate-map cols (suc n) (r ∷ rows) vs = rw (fate-map cols r)
-      (turned-map (fate cols r) r rows vs (λ qs us. eliminate cols n qs us) (λ qs us. eliminate (map (mapAtom f) cols) n qs us) (λ qs us. eliminate-map cols n qs us))
+      (turned-map (fate cols r) r rows vs (λ qs us. eliminate cols n qs us) (λ qs us. eliminate (map (mapAtom f) cols) n qs us)
+      (λ qs us. eliminate-map cols n qs us))
 
   -- ══ Read off ══
 
@@ -139,7 +140,8 @@ module _ {N M : Type 0} (f : N → M) where
   all-bound cols [] = refl
   all-bound cols (v ∷ vs) = ap₂ (λ (b : Binding M) (bs : List (Binding M)). b ∷ bs) (bound-by cols v) (all-bound cols vs)
 
-  left-map : (cols : List (Atom N)) (rows : List Row) → map (λ r. is_scalar (factors (map (mapAtom f) cols) r)) rows ≡ map (mapCon f) (map (λ r. is_scalar (factors cols r)) rows)
+  left-map : (cols : List (Atom N)) (rows : List Row)
+      → map (λ r. is_scalar (factors (map (mapAtom f) cols) r)) rows ≡ map (mapCon f) (map (λ r. is_scalar (factors cols r)) rows)
   unfolding mapCon
   left-map cols [] = refl
   left-map cols (r ∷ rows) = ap₂ (λ (p : Product M) (cs : List (Con M)). is_scalar p ∷ cs) (factors-map cols r) (left-map cols rows)
@@ -217,4 +219,5 @@ module _ {N M : Type 0} (ν : Names N) (μ : Names M) (f : N → M) (keeps : Kee
   pub eliminated-map : (ps : List (Product N)) → Over (mapSettled f) (eliminated ν ps) (eliminated μ (map (mapProduct f) ps))
   unfolding eliminated
   eliminated-map ps = rw (columns-map ps, length-map ps (mapProduct f), rows-map (columns ν ps) ps)
-      (next (eliminate-map f (columns ν ps) (length ps) (map (row_of ν (columns ν ps)) ps) []) (λ d d' i. rw i (gives (settled-by f (columns ν ps) d.left d.values))))
+      (next (eliminate-map f (columns ν ps) (length ps) (map (row_of ν (columns ν ps)) ps) [])
+      (λ d d' i. rw i (gives (settled-by f (columns ν ps) d.left d.values))))

@@ -36,8 +36,10 @@ module _ {pool table pool' table' : List ℕ} (good : Good pool table) (good' : 
         let ν' = nameNo (table_of s'.pool s'.table) in
         let e : map (mapCon ν) cs ≡ map (mapCon ν') cs' = now r in
         record {
-          answer = same-counts (sym (size-cons ν cs) ∙ ap (sum_of sizeCon) e ∙ size-cons ν' cs') (sym (length-map cs (mapCon ν)) ∙ ap length e ∙ length-map cs' (mapCon ν'));
-          records = fronts (table_of s.pool s.table) (table_of s'.pool s'.table) (collect writeCon cs) (collect writeCon cs') (sum_of sizeCon cs) (sum_of sizeCon cs') result result'
+          answer = same-counts (sym (size-cons ν cs) ∙ ap (sum_of sizeCon) e ∙ size-cons ν' cs')
+              (sym (length-map cs (mapCon ν)) ∙ ap length e ∙ length-map cs' (mapCon ν'));
+          records = fronts (table_of s.pool s.table) (table_of s'.pool s'.table) (collect writeCon cs) (collect writeCon cs') (sum_of sizeCon cs)
+              (sum_of sizeCon cs') result result'
               (set-length cs) (set-length cs') (set-written (table_of s.pool s.table) (table_of s'.pool s'.table) cs cs' e);
         }
       where
@@ -61,7 +63,8 @@ module _ {pool table pool' table' : List ℕ} (good : Good pool table) (good' : 
       go : (m m' : Got (Unit {0})) → m ≡ m'
           → meetsThree (handed pool table result w (fromEntry m (sheetRead pool table text))).answer ≡ false
           → meetsThree (handed pool' table' result' w' (fromEntry m' (sheetRead pool' table' text))).answer ≡ false
-          → TextReadAlike (handed pool table result w (fromEntry m (sheetRead pool table text))) (handed pool' table' result' w' (fromEntry m' (sheetRead pool' table' text)))
+          → TextReadAlike (handed pool table result w (fromEntry m (sheetRead pool table text)))
+          (handed pool' table' result' w' (fromEntry m' (sheetRead pool' table' text)))
       go (got u) (got v) e k k' = outcome result result' w w' (sheets-alike good good' text) k k'
       go (got u) (refused n) e k k' = absurd (let z : ◌≡◌ {A = ℕ} 0 1 = cc in omega arith)
       go (refused n) (got v) e k k' = absurd (let z : ◌≡◌ {A = ℕ} 0 1 = cc in omega arith)

@@ -31,26 +31,46 @@ module _ {pool table pool' table' : List ℕ} (good : Good pool table) (good' : 
   held-more : (i : ℕ) → is_held (table_of pool table) i ≡ true → is_held (table_of pool' table') i ≡ true
   held-more i h =
       let k = ltb-true i (get_or table 0 0) (sym (held-is pool table i) ∙ h) in
-      held-is pool' table' i ∙ lt-ltb i (get_or table' 0 0) (omega (arith, k, length-names (good-laid good), length-names (good-laid good'), ap length names, length-append (names_of (table_of pool table)) more))
+      held-is pool' table' i ∙ lt-ltb i (get_or table' 0 0)
+      (omega (
+        arith,
+        k,
+        length-names (good-laid good),
+        length-names (good-laid good'),
+        ap length names,
+        length-append (names_of (table_of pool table)) more,
+      ))
 
   pub grows-more : Grows (table_of pool table) (table_of pool' table')
   unfolding nameNo
   grows-more = record {
     same = λ i h.
         let k = ltb-true i (get_or table 0 0) (sym (held-is pool table i) ∙ h) in
-        let e : get_or (names_of (table_of pool' table')) i [] ≡ get_or (names_of (table_of pool table)) i [] = ap (λ (ns : List Bytes). get_or ns i []) names ∙ get_or-append (names_of (table_of pool table)) more [] i (omega (arith, k, length-names (good-laid good))) in
+        let e : get_or (names_of (table_of pool' table')) i [] ≡ get_or (names_of (table_of pool table)) i [] = ap
+        (λ (ns : List Bytes). get_or ns i []) names
+        ∙ get_or-append (names_of (table_of pool table)) more [] i (omega (arith, k, length-names (good-laid good))) in
         rw (h, held-more i h, e);
     held = held-more;
   }
 
 -- ══ Two readings ══
 
+-- both tables have grown
+pub record Onward (t t' u u' : Table) : Type 0 where
+  pub here : Grows t u
+  pub there : Grows t' u'
+
+pub further : {t t' u u' v v' : Table} → Onward t t' u u' → Onward u u' v v' → Onward t t' v v'
+further k l = record { here = grows-on k.here l.here; there = grows-on k.there l.there }
+
+pub still : (t t' : Table) → Onward t t' t t'
+still t t' = record { here = grows-same t; there = grows-same t' }
+
 -- two states of the readings, behind two tables
 pub record Behind (t t' : Table) (s s' : Sofar) : Type 0 where
   pub good : Good s.pool s.table
   pub good' : Good s'.pool s'.table
-  pub grown : Grows t (table_of s.pool s.table)
-  pub grown' : Grows t' (table_of s'.pool s'.table)
+  pub grown : Onward t t' (table_of s.pool s.table) (table_of s'.pool s'.table)
   pub records : s.records ≡ s'.records
 
 -- how values of the two readings belong together, over the tables that they have reached
@@ -67,15 +87,15 @@ pub data Out {A B : Type 0} (R : Related A B) (t t' : Table) : Told A → Told B
 pub record Beside {A B : Type 0} (R : Related A B) (t t' : Table) (m : Step A) (m' : Step B) : Type 0 where
   pub at : (s s' : Sofar) → Behind t t' s s' → Out R t t' (m s) (m' s')
 
-back-to : {A B : Type 0} {R : Related A B} {t t' u u' : Table} → Grows t u → Grows t' u' → {x : Told A} {x' : Told B} → Out R u u' x x' → Out R t t' x x'
-back-to g g' (three c x) = three c x
-back-to g g' (three' x c) = three' x c
-back-to g g' (refusal n c) = refusal n c
-back-to g g' (both a b s s' h r) =
-    both a b s s' (record { good = h.good; good' = h.good'; grown = grows-on g h.grown; grown' = grows-on g' h.grown'; records = h.records }) r
+back-to : {A B : Type 0} {R : Related A B} {t t' u u' : Table} → Onward t t' u u' → {x : Told A} {x' : Told B} → Out R u u' x x' → Out R t t' x x'
+back-to k (three c x) = three c x
+back-to k (three' x c) = three' x c
+back-to k (refusal n c) = refusal n c
+back-to k (both a b s s' h r) =
+    both a b s s' (record { good = h.good; good' = h.good'; grown = further k h.grown; records = h.records }) r
 
 pub in-turn : {A A' B B' : Type 0} {R : Related A A'} {Q : Related B B'} {t t' : Table} {m : Step A} {m' : Step A'} {f : A → Step B} {f' : A' → Step B'}
-    → Beside R t t' m m' → ((u u' : Table) → Grows t u → Grows t' u' → (a : A) (a' : A') → R u u' a a' → Beside Q u u' (f a) (f' a'))
+    → Beside R t t' m m' → ((u u' : Table) → Onward t t' u u' → (a : A) (a' : A') → R u u' a a' → Beside Q u u' (f a) (f' a'))
     → Beside Q t t' (λ s. onward (m s) f) (λ s. onward (m' s) f')
 in-turn {A} {A'} {B} {B'} {R} {Q} {t} {t'} {m} {m'} {f} {f'} x k = record { at = λ s s' h. go (x.at s s' h) }
   where
@@ -83,12 +103,12 @@ in-turn {A} {A'} {B} {B'} {R} {Q} {t} {t'} {m} {m'} {f} {f'} x k = record { at =
     go (three c y) = three c (onward y f')
     go (three' y c) = three' (onward y f) c
     go (refusal n c) = refusal n c
-    go (both a a' s s' h r) = back-to h.grown h.grown' ((k (table_of s.pool s.table) (table_of s'.pool s'.table) h.grown h.grown' a a' r).at s s'
-        (record { good = h.good; good' = h.good'; grown = grows-same (table_of s.pool s.table); grown' = grows-same (table_of s'.pool s'.table); records = h.records }))
+    go (both a a' s s' h r) = back-to h.grown ((k (table_of s.pool s.table) (table_of s'.pool s'.table) h.grown a a' r).at s s'
+        (record { good = h.good; good' = h.good'; grown = still (table_of s.pool s.table) (table_of s'.pool s'.table); records = h.records }))
 
 -- a value that both have, wherever they are
-pub gives : {A B : Type 0} {R : Related A B} {t t' : Table} (a : A) (b : B) → ((u u' : Table) → Grows t u → Grows t' u' → R u u' a b) → Beside R t t' (give a) (give b)
-gives a b r = record { at = λ s s' h. both a b s s' h (r (table_of s.pool s.table) (table_of s'.pool s'.table) h.grown h.grown') }
+pub gives : {A B : Type 0} {R : Related A B} {t t' : Table} (a : A) (b : B) → ((u u' : Table) → Onward t t' u u' → R u u' a b) → Beside R t t' (give a) (give b)
+gives a b r = record { at = λ s s' h. both a b s s' h (r (table_of s.pool s.table) (table_of s'.pool s'.table) h.grown) }
 
 -- values that hold no names
 abbrev pub Equal : {A : Type 0} → Related A A
@@ -104,8 +124,11 @@ pub counted-alike : {t t' : Table} (k k' c : ℕ) → k ≡ k' → Beside Nothin
 unfolding counted
 counted-alike {t} {t'} k k' c e = record { at = go }
   where
-    by : (s s' : Sofar) (b : Bool) → Behind t t' s s' → leb (s.records + k) 2048 ≡ b → leb (s'.records + k') 2048 ≡ b → Out Nothing t t' (counted k c s) (counted k' c s')
-    by s s' true h i i' = rw (counted, i, i') (both tt tt (with-records s k) (with-records s' k') (record { good = h.good; good' = h.good'; grown = h.grown; grown' = h.grown'; records = ap₂ (λ (m n : ℕ). m + n) h.records e }) tt)
+    by : (s s' : Sofar) (b : Bool) → Behind t t' s s' → leb (s.records + k) 2048 ≡ b → leb (s'.records + k') 2048 ≡ b
+        → Out Nothing t t' (counted k c s) (counted k' c s')
+    by s s' true h i i' = rw (counted, i, i')
+        (both tt tt (with-records s k) (with-records s' k')
+        (record { good = h.good; good' = h.good'; grown = h.grown; records = ap₂ (λ (m n : ℕ). m + n) h.records e }) tt)
     by s s' false h i i' = rw (counted, i, i') (refusal 8 c)
 
     go : (s s' : Sofar) → Behind t t' s s' → Out Nothing t t' (counted k c s) (counted k' c s')
@@ -123,8 +146,12 @@ pub record OneName (t t' : Table) (x x' : ℕ) : Type 0 where
   pub held : is_held t x ≡ true
   pub held' : is_held t' x' ≡ true
 
-pub one-later : {t t' u u' : Table} {x x' : ℕ} → Grows t u → Grows t' u' → OneName t t' x x' → OneName u u' x x'
-one-later {x} {x'} g g' n = record { same = g.same x n.held ∙ n.same ∙ sym (g'.same x' n.held'); held = g.held x n.held; held' = g'.held x' n.held' }
+pub one-later : {t t' u u' : Table} {x x' : ℕ} → Onward t t' u u' → OneName t t' x x' → OneName u u' x x'
+one-later {x} {x'} k n = record {
+  same = k.here.same x n.held ∙ n.same ∙ sym (k.there.same x' n.held');
+  held = k.here.held x n.held;
+  held' = k.there.held x' n.held';
+}
 
 abbrev shared : Sofar → Shared
 shared s = record { pool = s.pool; table = s.table }
@@ -150,7 +177,8 @@ entry-tells s g n a i = go a (eqs i) (λ k. entry-stands (shared s) g n k)
     eqs : (enter s.pool s.table n).answer ≡ a → answered (shared s) n ≡ mapGot (λ r. r.0) a
     eqs i = ap (mapGot (λ r. r.0)) i
 
-    go : (a : Got (ℕ × Was)) → answered (shared s) n ≡ mapGot (λ r. r.0) a → (noThree (answered (shared s) n) ≡ true → Stands t (answered (shared s) n) (answerFor n))
+    go : (a : Got (ℕ × Was)) → answered (shared s) n ≡ mapGot (λ r. r.0) a
+        → (noThree (answered (shared s) n) ≡ true → Stands t (answered (shared s) n) (answerFor n))
         → Tells t (answerFor n) a
     go (got r) e k = answer (got r) (subst (λ (b : Got ℕ). Stands t b (answerFor n)) e (k (ap noThree e)))
     go (refused m) e k = by (eqb m 3) refl
@@ -162,12 +190,17 @@ entry-tells s g n a i = go a (eqs i) (λ k. entry-stands (shared s) g n k)
 -- a number that was told has that name
 is-named : {pool table : List ℕ} → Good pool table → (i : ℕ) (m : Bytes) → Stands (table_of pool table) (got i) (got (offices.named m))
     → (nameNo (table_of pool table) i ≡ offices.named m) × (is_held (table_of pool table) i ≡ true)
-is-named {pool} {table} g i m (number j n l q) = (inside (name-is (record { pool = pool; table = table }) g (got j) (got (offices.named n)) (number j n l q)), held-is pool table j ∙ lt-ltb j (get_or table 0 0) (omega (arith, l, length-names (good-laid g))))
+is-named {pool} {table} g i m (number j n l q) = (
+  inside (name-is (record { pool = pool; table = table }) g (got j) (got (offices.named n)) (number j n l q)),
+  held-is pool table j
+      ∙ lt-ltb j (get_or table 0 0) (omega (arith, l, length-names (good-laid g))),
+)
   where
     inside : {x y : Name} → got x ≡ got y → x ≡ y
     inside e = cc
 
-same-name : {pool table pool' table' : List ℕ} → Good pool table → Good pool' table' → (i i' : ℕ) (x : Got Name) → Stands (table_of pool table) (got i) x → Stands (table_of pool' table') (got i') x
+same-name : {pool table pool' table' : List ℕ} → Good pool table → Good pool' table' → (i i' : ℕ) (x : Got Name)
+    → Stands (table_of pool table) (got i) x → Stands (table_of pool' table') (got i') x
     → OneName (table_of pool table) (table_of pool' table') i i'
 same-name g g' i i' x (number j m l q) v' =
     let a = is-named g j m (number j m l q) in
@@ -209,8 +242,7 @@ module _ {t t' : Table} (c : ℕ) (s s' : Sofar) (n : Bytes) (h : Behind t t' s 
       numbers r r' v v' = both r.0 r'.0 _ _ (record {
         good = good-entered s h.good;
         good' = good-entered s' h.good';
-        grown = grows-on h.grown (grows-entered s h.good);
-        grown' = grows-on h.grown' (grows-entered s' h.good');
+        grown = further h.grown (record { here = grows-entered s h.good; there = grows-entered s' h.good' });
         records = h.records;
       }) (same-name (good-entered s h.good) (good-entered s' h.good') r.0 r'.0 x v v')
 

@@ -140,7 +140,8 @@ module _ {pool table : List ℕ} (good : Good pool table) where
     ty-shown (basic b) = refl
     ty-shown (dim p) = dimension-shown p
     ty-shown (fn ps r) = ap₂ (λ (a b : Bytes). ascii "Fn[(" ++ (a ++ (ascii ") -> " ++ (b ++ ascii "]")))) (tys-shown ps) (ty-shown r)
-    ty-shown (struct n as' fs) = rw (name-shown n) (ap₂ (λ (a b : Bytes). ascii "@" ++ (nameText (bytesIn (ν n)) ++ (a ++ b))) (arguments-shown as') (fields-shown fs))
+    ty-shown (struct n as' fs) = rw (name-shown n)
+        (ap₂ (λ (a b : Bytes). ascii "@" ++ (nameText (bytesIn (ν n)) ++ (a ++ b))) (arguments-shown as') (fields-shown fs))
     ty-shown (list u) = ap (λ (b : Bytes). ascii "List<" ++ (b ++ ascii ">")) (ty-shown u)
 
     tys-shown : (us : Tys ℕ) → tysText g us ≡ tysShown (map_tys ν us)
@@ -157,18 +158,22 @@ module _ {pool table : List ℕ} (good : Good pool table) where
 
     fields-shown : (fs : Fields ℕ) → fieldsText g fs ≡ fieldsShown (mapFields ν fs)
     fields-shown noFields = refl
-    fields-shown (field n u fs) = rw (name-shown n) (ap₂ (λ (a b : Bytes). ascii "{" ++ (nameText (bytesIn (ν n)) ++ (ascii ": " ++ (a ++ (b ++ ascii "}"))))) (ty-shown u) (more-fields-shown fs))
+    fields-shown (field n u fs) = rw (name-shown n)
+        (ap₂ (λ (a b : Bytes). ascii "{" ++ (nameText (bytesIn (ν n)) ++ (ascii ": " ++ (a ++ (b ++ ascii "}"))))) (ty-shown u) (more-fields-shown fs))
 
     more-fields-shown : (fs : Fields ℕ) → moreFieldsText g fs ≡ moreFieldsShown (mapFields ν fs)
     more-fields-shown noFields = refl
-    more-fields-shown (field n u fs) = rw (name-shown n) (ap₂ (λ (a b : Bytes). ascii ", " ++ (nameText (bytesIn (ν n)) ++ (ascii ": " ++ (a ++ b)))) (ty-shown u) (more-fields-shown fs))
+    more-fields-shown (field n u fs) = rw (name-shown n)
+        (ap₂ (λ (a b : Bytes). ascii ", " ++ (nameText (bytesIn (ν n)) ++ (ascii ": " ++ (a ++ b)))) (ty-shown u) (more-fields-shown fs))
 
   pub con-shown : (c : Con ℕ) → conText g c ≡ conShown (mapCon ν c)
   unfolding conText conShown mapCon
   con-shown (equal l r) = ap₂ (λ (a b : Bytes). a ++ (ascii " ~ " ++ b)) (ty-shown l) (ty-shown r)
   con-shown (isDim u) = ap (λ (a : Bytes). a ++ ascii ": DType") (ty-shown u)
   con-shown (is_scalar p) = ap (λ (a : Bytes). a ++ ascii " = Scalar") (dimension-shown p)
-  con-shown (hasField n s u) = rw (name-shown n) (ap₂ (λ (a b : Bytes). ascii "HasField(" ++ (a ++ (ascii ", \"" ++ (nameText (bytesIn (ν n)) ++ (ascii "\", " ++ (b ++ ascii ")")))))) (ty-shown s) (ty-shown u))
+  con-shown (hasField n s u) = rw (name-shown n)
+      (ap₂ (λ (a b : Bytes). ascii "HasField(" ++ (a ++ (ascii ", \"" ++ (nameText (bytesIn (ν n)) ++ (ascii "\", " ++ (b ++ ascii ")"))))))
+      (ty-shown s) (ty-shown u))
 
   set-shown : (cs : List (Con ℕ)) → setText g cs ≡ collect (λ c. conShown c ++ ascii "\n") (map (mapCon ν) cs)
   unfolding setText collect
@@ -190,10 +195,12 @@ module _ {pool table pool' table' : List ℕ} (good : Good pool table) (good' : 
   abbrev ν₂ : ℕ → Name
   ν₂ = nameNo (table_of pool' table')
 
-  pub set-text : (cs cs' : List (Con ℕ)) → map (mapCon ν₁) cs ≡ map (mapCon ν₂) cs' → setText (namesIn (table_of pool table)) cs ≡ setText (namesIn (table_of pool' table')) cs'
+  pub set-text : (cs cs' : List (Con ℕ)) → map (mapCon ν₁) cs ≡ map (mapCon ν₂) cs'
+      → setText (namesIn (table_of pool table)) cs ≡ setText (namesIn (table_of pool' table')) cs'
   set-text cs cs' e = set-shown good cs ∙ ap (collect (λ c. conShown c ++ ascii "\n")) e ∙ sym (set-shown good' cs')
 
-  text-alike : (ws ws' : List ℕ) (text text' : Bytes) → Alike good good' ws ws' → length text ≡ length text' → text_of pool table ws text ≡ text_of pool' table' ws' text'
+  text-alike : (ws ws' : List ℕ) (text text' : Bytes) → Alike good good' ws ws' → length text ≡ length text'
+      → text_of pool table ws text ≡ text_of pool' table' ws' text'
   unfolding text_of
   text-alike ws ws' text text' e r = equal-answers
       (checked (lent-table good good')

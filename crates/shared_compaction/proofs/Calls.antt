@@ -44,7 +44,8 @@ module _ (pool table sets lengths : List ℕ) where
   set_at ws k = get_or (cutSets lengths ws) k []
 
   -- what was refused is as before
-  refused-same : (n : ℕ) → compactChecks pool table sets lengths ≡ refused n → compactCall pool table sets lengths ≡ record { answer = refused n; pool = pool; table = table; sets = sets }
+  refused-same : (n : ℕ) → compactChecks pool table sets lengths ≡ refused n
+      → compactCall pool table sets lengths ≡ record { answer = refused n; pool = pool; table = table; sets = sets }
   unfolding compactCall compactIf
   refused-same n e = rw e
 
@@ -56,9 +57,11 @@ module _ (pool table sets lengths : List ℕ) where
       moved : (r : Compacted) → Promised pool table sets lengths r → ReadAlike now (table_of r.pool r.table) (set_at sets k) (set_at r.sets k)
       moved r p =
           let q = keeps (table_of pool table).count sets in
-          let there : set_at r.sets k ≡ renumbered q (set_at sets k) = ap (λ (ss : List (List ℕ)). get_or ss k []) p.cuts ∙ get_or-map (renumbered q) (cutSets lengths sets) k [] in
+          let there : set_at r.sets k ≡ renumbered q (set_at sets k) = ap (λ (ss : List (List ℕ)). get_or ss k []) p.cuts
+          ∙ get_or-map (renumbered q) (cutSets lengths sets) k [] in
           record {
-            words = (every-get (λ s. ReadAlike now (table_of r.pool r.table) s (renumbered q s)) (cutSets lengths sets) k (nothing now (table_of r.pool r.table)) p.sets).words
+            words = (every-get (λ s. ReadAlike now (table_of r.pool r.table) s (renumbered q s)) (cutSets lengths sets) k
+                (nothing now (table_of r.pool r.table)) p.sets).words
                 ∙ ap (readBack (table_of r.pool r.table)) (sym there);
           }
 
@@ -76,7 +79,8 @@ module _ (pool table sets lengths : List ℕ) where
   was-checked n e = go (compactChecks pool table sets lengths) refl
     where
       go : (m : Got (Unit {0})) → compactChecks pool table sets lengths ≡ m → compactChecks pool table sets lengths ≡ got tt
-      go (refused k) i = absurd (let y : refused k ≡ got n = sym (ap (λ (r : Compacted). r.answer) (refused-same k i)) ∙ e in let z : ◌≡◌ {A = ℕ} 0 1 = cc in omega arith)
+      go (refused k) i = absurd (let y : refused k ≡ got n = sym (ap (λ (r : Compacted). r.answer) (refused-same k i)) ∙ e in
+          let z : ◌≡◌ {A = ℕ} 0 1 = cc in omega arith)
       go (got u) i = i
 
 -- ══ Two calls ══
@@ -118,10 +122,12 @@ module _ {pool table pool' table' : List ℕ} (good : Good pool table) (good' : 
     unfolding namesIt
     same-answer = go (compactChecks pool table sets lengths) refl
       where
-        counted : Promised pool table sets lengths r → Promised pool' table' sets' lengths r' → compactChecks pool table sets lengths ≡ got tt → r.answer ≡ r'.answer
+        counted : Promised pool table sets lengths r → Promised pool' table' sets' lengths r' → compactChecks pool table sets lengths ≡ got tt
+            → r.answer ≡ r'.answer
         counted p p' i =
             p.many
-            ∙ ap (λ (n : ℕ). got n) (as-many (names_of (table_of r.pool r.table)) (names_of (table_of r'.pool r'.table)) (good-distinct (given-good p.good)) (good-distinct (given-good p'.good)) (same-names i))
+            ∙ ap (λ (n : ℕ). got n) (as-many (names_of (table_of r.pool r.table)) (names_of (table_of r'.pool r'.table))
+            (good-distinct (given-good p.good)) (good-distinct (given-good p'.good)) (same-names i))
             ∙ sym p'.many
 
         go : (m : Got (Unit {0})) → compactChecks pool table sets lengths ≡ m → r.answer ≡ r'.answer
@@ -133,7 +139,10 @@ pub offices-compacted : (pool table sets lengths pool' table' sets' lengths' : L
     → Words sets → Words sets' → CompactedAlike pool table sets lengths pool' table' sets' lengths'
 offices-compacted pool table sets lengths pool' table' sets' lengths' g g' w w' = record {
   each = λ k k' e. record { words = sym (as-before pool table sets lengths w k).words ∙ e.words ∙ (as-before pool' table' sets' lengths' w' k').words };
-  answer = λ i e. subst (λ (ls : List ℕ). (compactCall pool table sets lengths).answer ≡ (compactCall pool' table' sets' ls).answer) i (same-answer (given-good g) (given-good g') sets sets' lengths w w' e);
-  names = λ i e n a m. subst (λ (ls : List ℕ). namesIt (table_of (compactCall pool table sets lengths).pool (compactCall pool table sets lengths).table) m ≡ namesIt (table_of (compactCall pool' table' sets' ls).pool (compactCall pool' table' sets' ls).table) m) i
+  answer = λ i e. subst (λ (ls : List ℕ). (compactCall pool table sets lengths).answer ≡ (compactCall pool' table' sets' ls).answer) i
+      (same-answer (given-good g) (given-good g') sets sets' lengths w w' e);
+  names = λ i e n a m. subst (λ (ls : List ℕ). namesIt
+      (table_of (compactCall pool table sets lengths).pool (compactCall pool table sets lengths).table) m
+      ≡ namesIt (table_of (compactCall pool' table' sets' ls).pool (compactCall pool' table' sets' ls).table) m) i
       (same-names (given-good g) (given-good g') sets sets' lengths w w' e (was-checked pool table sets lengths n a) m);
 }

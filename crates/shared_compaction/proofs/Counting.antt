@@ -31,7 +31,8 @@ unfolding any keep
 among-keep q m [] = refl
 among-keep q m (n ∷ ns) = go (q n) refl (sameBytes m n) refl (among-keep q m ns)
   where
-    go : (b : Bool) → q n ≡ b → (c : Bool) → sameBytes m n ≡ c → Among m (keep q ns) ≡ (Among m ns && q m) → Among m (keep q (n ∷ ns)) ≡ (Among m (n ∷ ns) && q m)
+    go : (b : Bool) → q n ≡ b → (c : Bool) → sameBytes m n ≡ c → Among m (keep q ns) ≡ (Among m ns && q m)
+        → Among m (keep q (n ∷ ns)) ≡ (Among m (n ∷ ns) && q m)
     go true i true j h = let k : q m ≡ true = ap q (same-is m n j) ∙ i in rw (i, keep, any, j, k)
     go true i false j h = rw (i, keep, any, j) h
     go false i true j h = let k : q m ≡ false = ap q (same-is m n j) ∙ i in rw (i, keep, any, j, h, k) (none-left (Among m ns))

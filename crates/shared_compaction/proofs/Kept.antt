@@ -62,7 +62,8 @@ module _ {pool table : List ℕ} (g : Good pool table) where
           let d : i ≡ a = distinct-same names (good-distinct g) i a h (few a k) q in
           let y : true ≡ false = sym (eq-eqb a i (sym d)) ∙ e in
           let z : ◌≡◌ {A = ℕ} 0 1 = cc in omega arith))
-      go false k true e = absurd (let y : true ≡ false = sym (held i h) ∙ ap (is_held (table_of pool table)) (sym (eqb-true a i e)) ∙ k in let z : ◌≡◌ {A = ℕ} 0 1 = cc in omega arith)
+      go false k true e = absurd (let y : true ≡ false = sym (held i h) ∙ ap (is_held (table_of pool table)) (sym (eqb-true a i e)) ∙ k in
+          let z : ◌≡◌ {A = ℕ} 0 1 = cc in omega arith)
       go false k false e = rw (k, e)
 
   -- a held number occurs where its name stands
@@ -130,6 +131,7 @@ module _ {pool table : List ℕ} (g : Good pool table) where
       none true = refl
       none false = refl
 
-      both : (b : Bool) → stands (readBack (table_of pool table) ws) m ≡ b → (Among m names && stands (readBack (table_of pool table) ws) m) ≡ stands (readBack (table_of pool table) ws) m
+      both : (b : Bool) → stands (readBack (table_of pool table) ws) m ≡ b
+          → (Among m names && stands (readBack (table_of pool table) ws) m) ≡ stands (readBack (table_of pool table) ws) m
       both true e = ap (◌&& stands (readBack (table_of pool table) ws) m) (stands-among m ws e)
       both false e = rw e (none (Among m names))

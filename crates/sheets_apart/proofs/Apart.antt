@@ -54,7 +54,8 @@ module _ (e e' : Edition) (k k' : ℕ) (name : Bytes) where
       go x i x' i' (three-at l c y) h h' = absurd (let z : ◌≡◌ {A = ℕ} 0 1 = cc in omega arith)
       go x i x' i' (three-at' y l c) h h' = absurd (let z : ◌≡◌ {A = ℕ} 0 1 = cc in omega arith)
       go x i x' i' (refused-at n l c) h h' = refl
-      go x i x' i' (both-read cs cs' s s' b q) h h' = held-alike w.last w'.last cs cs' (q.at t t' (w.leaves cs s i) (w'.leaves cs' s' i'))
+      go x i x' i' (both-read cs cs' s s' b q) h h' = held-alike w.last w'.last cs cs'
+          (q.at t t' (record { here = w.leaves cs s i; there = w'.leaves cs' s' i' }))
 
   -- as many constraints, and the same name and text
   same-many : (r : Result Bytes Unseen) (w : Stands e k (name, r)) (w' : Stands e' k' (name, r))
@@ -75,7 +76,8 @@ module _ (e e' : Edition) (k k' : ℕ) (name : Bytes) where
           sym (length-map cs (mapCon (nameNo (table_of s.pool s.table)))) ∙ ap length m ∙ length-map cs' (mapCon (nameNo (table_of s'.pool s'.table)))
 
   same-name : (r : Result Bytes Unseen) (w : Stands e k (name, r)) (w' : Stands e' k' (name, r))
-      → ((pageOf w.pool w.table name r).name ≡ (pageOf w'.pool w'.table name r).name) × ((pageOf w.pool w.table name r).text ≡ (pageOf w'.pool w'.table name r).text)
+      → ((pageOf w.pool w.table name r).name ≡ (pageOf w'.pool w'.table name r).name) ×
+      ((pageOf w.pool w.table name r).text ≡ (pageOf w'.pool w'.table name r).text)
   unfolding page_of
   same-name (Err u) w w' = (refl, refl)
   same-name (Ok text) w w' = go (sheetRead w.pool w.table text) (sheetRead w'.pool w'.table text)
@@ -87,13 +89,15 @@ module _ (e e' : Edition) (k k' : ℕ) (name : Bytes) where
       go (refusedIn n l c) (refusedIn n' l' c') = (refl, refl)
 
   -- so what is told of them is the same
-  same-told : (g : Good e.pool e.table) (g' : Good e'.pool e'.table) (p p' : Page) → foundOn t p ≡ foundOn t' p' → constraintsIn p.content ≡ constraintsIn p'.content
+  same-told : (g : Good e.pool e.table) (g' : Good e'.pool e'.table) (p p' : Page) → foundOn t p ≡ foundOn t' p'
+      → constraintsIn p.content ≡ constraintsIn p'.content
       → (p.name ≡ p'.name) × (p.text ≡ p'.text) → PagesAlike t t' p p'
   unfolding pageText reportText
   same-told g g' p p' i m n = record {
     text = put-together (ap (map shown) n.0)
         (place-found t p.text (findingOf t p.content) ∙ ap₂ foundPlace n.1 i ∙ sym (place-found t' p'.text (findingOf t' p'.content)))
-        (text-found g p.text (constraintsIn p.content) 0 (findingOf t p.content) ∙ told-of n.1 m i ∙ sym (text-found g' p'.text (constraintsIn p'.content) 0 (findingOf t' p'.content)));
+        (text-found g p.text (constraintsIn p.content) 0 (findingOf t p.content) ∙ told-of n.1 m i
+        ∙ sym (text-found g' p'.text (constraintsIn p'.content) 0 (findingOf t' p'.content)));
     accepted = accepted-found t (findingOf t p.content) ∙ ap foundAccepted i ∙ sym (accepted-found t' (findingOf t' p'.content));
   }
     where
@@ -137,6 +141,7 @@ pages pool table pool' table' g g' files files' k k' f e e' d d' i i' h h' p p' 
     let m = ap metThree (sym (found-page e k q w.page)) ∙ h in
     let m' = ap metThree (sym (found-page e' k' q' w'.page)) ∙ h' in
     let z : PagesAlike (table_of e.pool e.table) (table_of e'.pool e'.table) q q' =
-    same-told e e' k k' f.0 w.last w'.last q q' (same-page e e' k k' f.0 f.1 w w' m m') (same-many e e' k k' f.0 f.1 w w' m m') (same-name e e' k k' f.0 f.1 w w') in
+    same-told e e' k k' f.0 w.last w'.last q q' (same-page e e' k k' f.0 f.1 w w' m m') (same-many e e' k k' f.0 f.1 w w' m m')
+    (same-name e e' k k' f.0 f.1 w w') in
     subst (λ (x : Page). PagesAlike (table_of e.pool e.table) (table_of e'.pool e'.table) x p') (one-page (sym w.page ∙ j))
     (subst (λ (x : Page). PagesAlike (table_of e.pool e.table) (table_of e'.pool e'.table) q x) (one-page (sym w'.page ∙ j')) z)

@@ -29,10 +29,11 @@ sheet-left {pool} {table} g text cs s e = go (sheets-alike g g text) e e
     go (refused-at n l c) e f = absurd (let z : ◌≡◌ {A = ℕ} 0 1 = cc in omega arith)
     go (both-read ds ds' r r' b q) e f =
         let i : r ≡ s = cc in
-        subst (λ (z : Sofar). Left pool table z.pool z.table) i (record { good = b.good; grown = b.grown })
+        subst (λ (z : Sofar). Left pool table z.pool z.table) i (record { good = b.good; grown = b.grown.here })
 
 -- what is left behind all files
-all-left : (files : List File) (pool table : List ℕ) → Good pool table → Left pool table (editionGiven pool table files).pool (editionGiven pool table files).table
+all-left : (files : List File) (pool table : List ℕ) → Good pool table
+    → Left pool table (editionGiven pool table files).pool (editionGiven pool table files).table
 unfolding editionGiven
 all-left [] pool table g = record { good = g; grown = grows-same (table_of pool table) }
 all-left (f ∷ fs) pool table g = given f.1 (all-left fs)
@@ -105,7 +106,8 @@ none-there e = let z : ◌≡◌ {A = ℕ} 0 1 = cc in omega arith
 same-file : {f h : File} → some h ≡ some f → h ≡ f
 same-file e = cc
 
-pub stands : (files : List File) (pool table : List ℕ) → Good pool table → (k : ℕ) (f : File) → fileAt files k ≡ some f → Stands (editionGiven pool table files) k f
+pub stands : (files : List File) (pool table : List ℕ) → Good pool table → (k : ℕ) (f : File) → fileAt files k ≡ some f
+    → Stands (editionGiven pool table files) k f
 stands [] pool table g k f e = absurd (none-there e)
 stands (h ∷ fs) pool table g zero f e = subst (λ (x : File). Stands (editionGiven pool table (h ∷ fs)) 0 x) (same-file e) (first-stands pool table g h.0 fs h.1)
 stands (h ∷ fs) pool table g (suc k) f e = later-stands pool table g h.0 fs h.1 k f (λ p t i. stands fs p t i k f e)

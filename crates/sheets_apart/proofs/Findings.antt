@@ -47,14 +47,16 @@ module _ {pool table pool' table' : List ℕ} (good : Good pool table) (good' : 
             → failing byBytes bounded as' ms 0 ds ≡ failing byBytes bounded bs ns 0 es
         all-three e f g = rw (e, f, g)
 
-    told : (m : Got (Option ℕ)) (bs bs' : List (Binding ℕ)) (ns ns' : List ℕ) (k : ℕ) → map (mapBinding ν₁) bs ≡ map (mapBinding ν₂) bs' → map ν₁ ns ≡ map ν₂ ns'
+    told : (m : Got (Option ℕ)) (bs bs' : List (Binding ℕ)) (ns ns' : List ℕ) (k : ℕ) → map (mapBinding ν₁) bs ≡ map (mapBinding ν₂) bs'
+        → map ν₁ ns ≡ map ν₂ ns'
         → found T₁ (judgedBy m bs ns k) ≡ found T₂ (judgedBy m bs' ns' k)
     unfolding found
     told (got none) bs bs' ns ns' k i j = ap₂ (λ (as' : List (Binding Name)) (ms : List Name). accepts as' ms k) i j
     told (got (some n)) bs bs' ns ns' k i j = refl
     told (refused n) bs bs' ns ns' k i j = refl
 
-    of_answers : (a a' : Answer ℕ) → mapAnswer ν₁ a ≡ mapAnswer ν₂ a' → found T₁ (finding (numbersOf T₁) cs (got a)) ≡ found T₂ (finding (numbersOf T₂) cs' (got a'))
+    of_answers : (a a' : Answer ℕ) → mapAnswer ν₁ a ≡ mapAnswer ν₂ a'
+        → found T₁ (finding (numbersOf T₁) cs (got a)) ≡ found T₂ (finding (numbersOf T₂) cs' (got a'))
     unfolding finding found mapAnswer
     of_answers (accepted bs ns k) (accepted bs' ns' k') i =
         let x : map (mapBinding ν₁) bs ≡ map (mapBinding ν₂) bs' = cc in
@@ -76,11 +78,14 @@ module _ {pool table pool' table' : List ℕ} (good : Good pool table) (good' : 
         let z : k ≡ k' = cc in
         rw (x, z)
 
-    by-answers : {m m' : Got (Answer ℕ)} → Pair (mapAnswer ν₁) (mapAnswer ν₂) m m' → found T₁ (finding (numbersOf T₁) cs m) ≡ found T₂ (finding (numbersOf T₂) cs' m')
+    by-answers : {m m' : Got (Answer ℕ)} → Pair (mapAnswer ν₁) (mapAnswer ν₂) m m'
+        → found T₁ (finding (numbersOf T₁) cs m) ≡ found T₂ (finding (numbersOf T₂) cs' m')
     unfolding finding found
     by-answers (neither n) = refl
     by-answers (both a a' i) = of_answers a a' i
 
     pub held-alike : found T₁ (findingOf T₁ (holding cs)) ≡ found T₂ (findingOf T₂ (holding cs'))
     unfolding findingOf
-    held-alike = by-answers (pair _ _ (solved-set good good' (words (collect writeCon cs)) (words (collect writeCon cs')) (words-alike T₁ T₂ (collect writeCon cs) (collect writeCon cs') (set-written T₁ T₂ cs cs' e))))
+    held-alike = by-answers (pair _ _
+        (solved-set good good' (words (collect writeCon cs)) (words (collect writeCon cs'))
+        (words-alike T₁ T₂ (collect writeCon cs) (collect writeCon cs') (set-written T₁ T₂ cs cs' e))))

@@ -74,11 +74,14 @@ module _ {pool table : List ℕ} (good : Good pool table) where
   text-found text cs new (unseen u) = refl
   text-found text cs new (unread n l c) = refl
   text-found text cs new (agrees bs ns k) =
-      ap₂ (λ (a b : Bytes). ascii "accepted: " ++ (quantity cs (ascii " constraint") ++ (ascii ", " ++ (quantity k (ascii " round") ++ (ascii ", " ++ (quantity new (ascii " new name") ++ (ascii "\n" ++ (a ++ b))))))))
+      ap₂ (λ (a b : Bytes). ascii "accepted: " ++
+      (quantity cs (ascii " constraint") ++
+      (ascii ", " ++ (quantity k (ascii " round") ++ (ascii ", " ++ (quantity new (ascii " new name") ++ (ascii "\n" ++ (a ++ b))))))))
       (bindings-shown bs) (bounds-shown ns)
   text-found text cs new (denied i) = refl
   text-found text cs new (unjudged n) = refl
-  text-found text cs new (remains ds k) = ap (λ (a : Bytes). refusedText 5 ++ (ascii " after " ++ (quantity k (ascii " round") ++ (ascii "\n" ++ a)))) (remaining-shown ds)
+  text-found text cs new (remains ds k) = ap (λ (a : Bytes). refusedText 5 ++ (ascii " after " ++ (quantity k (ascii " round") ++ (ascii "\n" ++ a))))
+      (remaining-shown ds)
   text-found text cs new (stops n k) = refl
 
 pub place-found : (t : Table) (text : Bytes) (f : Finding) → placeText text f ≡ foundPlace text (found t f)
