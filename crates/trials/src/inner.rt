@@ -1,18 +1,21 @@
 // A constraint is written with the bindings put in, measured, and tested; the first that isn't true decides.
-ghost use Rattle.std.specs.Prelude.{◌≡◌, List, ℕ, ◌≤◌, length};
+ghost use Rattle.std.specs.Prelude.{◌≡◌, true, List, ℕ, ◌≤◌, length};
 ghost use Rattle.rules.specs.Base.{bounded, refused};
 ghost use Rattle.rules.specs.Judging.{failed, failing, judge};
 ghost use Rattle.rules.specs.Refusals.{number_of, told, toldBy, toldOption};
 ghost use Rattle.rules.specs.Trees.{Con, Binding};
-ghost use Rattle.records.specs.Good.{numbers};
+ghost use Rattle.records.specs.Good.{goodCon, numbers};
 ghost use Rattle.queries.specs.Marks.{Marks};
-ghost use Rattle.trials.specs.Trials.{ConStands, tested, Put, ConThere, Tried, SetThere};
+ghost use Rattle.trials.specs.Trials.{ConStands, tested, Put, SetThere, Plain, lookOf, judgedBy};
 
 use meaning::inner::truth::holds;
 use names::tables::NameTable;
-use replacing::inner::flat::lines_flat;
-use replacing::inner::lines::replace_line;
+use records::inner::con_end;
+use replacing::inner::constraints::replace_constraint;
+use replacing::substitution::Substitution;
 use rules::{NAMES, RECORDS, Refusal};
+use types::writer::Writer;
+use types::{Constraint, Constraints};
 
 // A refusal of replacing: 6 counts as failure.
 fn stopped(why: Refusal) -> Result<bool, Refusal>
@@ -32,34 +35,35 @@ fn test(names: NameTable, w: &[u32], n: usize, bounds: &[bool; NAMES]) -> Result
     ensures { (d : Con ℕ) (xs : List ℕ) → ConStands names.entry.pool.now names.entry.table.now w.now n d → Marks bounds.now xs →
         told result ≡ tested names.entry.pool.now names.entry.table.now xs d }
 {
-    if RECORDS < n || !lines_flat(names.pool, names.table, w, 0, n) {
+    if RECORDS < n {
         return Err(Refusal::TooLarge);
     }
-    Ok(holds(w, 0, bounds))
+    match con_end(names, w, 0) {
+        Some(_) => Ok(holds(w, 0, bounds)),
+        None => Err(Refusal::TooLarge), // nested over 64
+    }
 }
 
-// Is the constraint at a place true, with what the table says put in at the start of the work buffer? And where it ends.
-fn try_con(
-    names: NameTable,
-    set: &[u32],
-    at: usize,
-    places: &[u32],
-    types: &[u32],
+// Is a constraint true, once what is bound is put in at the start of the work buffer?
+fn is_true(
+    by: Substitution,
+    c: Constraint,
     bounds: &[bool; NAMES],
     work: &mut [u32],
-) -> Result<(bool, usize), Refusal>
-    requires there { (c : Con ℕ) × ConThere names.pool.now names.table.now set.now at c }
-    requires put { (bs : List (Binding ℕ)) × Put names.pool.now names.table.now places.now types.now bs }
+) -> Result<bool, Refusal>
+    requires good { goodCon by.names.pool.now by.names.table.now 0 c.tree.0 ≡ true }
+    requires plain { Plain by }
     requires bounds_len { length bounds.now ≡ 256 }
-    requires set_short { length set.now ≤ 8192 }
     requires work_long { 8192 ≤ length work.old }
-    ensures { (c : Con ℕ) (bs : List (Binding ℕ)) (xs : List ℕ) →
-        ConThere names.entry.pool.now names.entry.table.now set.now at c → Put names.entry.pool.now names.entry.table.now places.now types.now bs → Marks bounds.now xs →
-        Tried names.entry.pool.now names.entry.table.now bs xs c at result }
+    ensures { (bs : List (Binding ℕ)) (xs : List ℕ) → by.entry.lent.0 ≡ lookOf by.entry bs → Marks bounds.now xs →
+        told result ≡ judgedBy by.entry bs xs c.entry.tree.0 }
 {
-    match replace_line(names.pool, names.table, set, at, places, types, work, 0) {
-        Ok((next, n)) => Ok((test(names, work, n, bounds)?, next)),
-        Err(why) => Ok((stopped(why)?, at)),
+    let mut out = Writer { words: work, at: 0 };
+    let put = replace_constraint(by, c, &mut out);
+    let n = out.at;
+    match put {
+        Ok(()) => test(by.names, work, n, bounds),
+        Err(why) => stopped(why),
     }
 }
 
@@ -81,15 +85,21 @@ pub fn first_failing(
         SetThere names.entry.pool.now names.entry.table.now set.now cs → Put names.entry.pool.now names.entry.table.now places.now types.now bs → Marks bounds.now xs →
         toldBy toldOption result ≡ failing (numbers names.entry.pool.now names.entry.table.now) bounded bs xs 0 cs }
 {
-    let n = set.len() / 4;
-    let mut at = 0;
+    let by = Substitution {
+        names,
+        places,
+        types,
+    };
+    let constraints = Constraints {
+        words: set,
+        at: 0,
+        end: set.len() / 4,
+    };
     let mut before = 0;
-    while at < n {
-        let (holds, next) = try_con(names, set, at, places, types, bounds, work)?;
-        if !holds {
+    'search: for c in constraints {
+        if !is_true(by, c, bounds, work)? {
             return Ok(Some(before));
         }
-        at = next;
         before += 1;
     }
     Ok(None)

@@ -1,68 +1,59 @@
-use mathlib.Core.Path.{refl, ◌∙◌}
-use native.Mathlib.Omega.{arith}
+use Rattle.std.specs.Prelude.{List, ℕ}
+use Rattle.std.proofs.Common.{refl, ap, sym, ◌∙◌, arith}
 use Rattle.std.proofs.lemmas.Result.{err_from_is_err_and}
-use Rattle.trials.specs.Trials.{going_start, first, further, going-refused, going-no, going_on, going_end}
+use Rattle.rules.specs.Replacing.{Look}
+use Rattle.replacing.specs.Substitutions.{ALook, one-look}
+use Rattle.types.specs.Sets.{alone, placed-alone}
+use Rattle.trials.specs.Trials.{set-held, going_start, going_end, first-good, count-few, going-refused, going-no, going_on, same-look}
 use Rattle.trials.proofs.inner.first_failing.Goals as goal
 
-pub loop-at-init : goal.loop-at-init
-loop-at-init c = (refl, (omega arith, λ cs bs xs h l m. going_start _ _ _ bs xs cs h))
+pub invariant_of-c-items : goal.invariant_of-c-items
+invariant_of-c-items c = let (cs, h) = c.requires.there in record { near = omega (arith, c.requires.set_short); trees = (cs, set-held _ _ _ cs h) }
 
-pub try_con-requires-clause-there : goal.try_con-requires-clause-there
-try_con-requires-clause-there c =
+pub search-init : goal.search-init
+search-init c = (
+  refl,
+  λ cs bs xs h l m.
+      rw c.into_iter-c-iterator.ensures.into_iter_gives (rw (placed-alone c.args.set.now 0 _) (going_start _ _ _ bs xs cs h c.into_iter-arg-1.given.1.0)),
+)
+
+pub is_true-requires-clause-good : goal.is_true-requires-clause-good
+is_true-requires-clause-good c =
     let (cs, h) = c.requires.there in
     let (bs, l) = c.requires.put in
     let (xs, m) = c.requires.marked in
-    let f = first _ _ _ bs xs cs _ _ c.loop-at-test.true (c.loop-at.invariant.1.1 cs bs xs h l m) in
-    (f.one, f.there)
+    first-good _ _ _ bs xs cs (c.search.invariant.1 cs bs xs h l m) _ _ (ap alone c.in-Some.ensures.steps)
 
-pub returns-in_err-holds : goal.returns-in_err-holds
-returns-in_err-holds c = λ cs bs xs h l m.
-    let g = c.loop-at.invariant.1.1 cs bs xs h l m in
-    let f = first _ _ _ bs xs cs _ _ c.loop-at-test.true g in
+pub is_true-requires-clause-plain : goal.is_true-requires-clause-plain
+is_true-requires-clause-plain c =
+    let (bs, l) = c.requires.put in
+    λ o t e. l.good o t (ap (λ (k : Look ℕ). k o) (sym (same-look _ _ _ _ bs l c.is_true-arg-in-search-1.given.0)) ∙ e)
+
+pub returns-in_err-is_true : goal.returns-in_err-is_true
+returns-in_err-is_true c = λ cs bs xs h l m.
     let p = err_from_is_err_and c.from_residual.result c.from_residual.ensures.1 in
-    rw (p.1, p.2) (going-refused _ _ _ bs xs cs _ _ c.loop-at-test.true g (c.in_err-holds.ensures f.one bs xs f.there l m))
+    rw (p.1, p.2) (going-refused _ _ _ bs xs cs (c.search.invariant.1 cs bs xs h l m) _ _ (ap alone c.in-Some.ensures.steps)
+    (c.is_true.ensures bs xs (same-look _ _ _ _ bs l c.is_true-arg-in-search-1.given.0) m) c.in_err-is_true.was)
 
-pub returns-then-not-holds : goal.returns-then-not-holds
-returns-then-not-holds c = λ cs bs xs h l m.
-    let g = c.loop-at.invariant.1.1 cs bs xs h l m in
-    let f = first _ _ _ bs xs cs _ _ c.loop-at-test.true g in
-    going-no _ _ _ bs xs cs _ _ c.loop-at-test.true g (c.in_ok-holds.ensures f.one bs xs f.there l m) c.if-not-holds.true
+pub returns-then-not-branch : goal.returns-then-not-branch
+returns-then-not-branch c = λ cs bs xs h l m.
+    going-no _ _ _ bs xs cs (c.search.invariant.1 cs bs xs h l m) _ _ (ap alone c.in-Some.ensures.steps)
+    (c.is_true.ensures bs xs (same-look _ _ _ _ bs l c.is_true-arg-in-search-1.given.0) m) c.in_ok-is_true.was c.if-not-branch.true
 
 pub overflow_add-before : goal.overflow_add-before
 overflow_add-before c =
     let (cs, h) = c.requires.there in
     let (bs, l) = c.requires.put in
     let (xs, m) = c.requires.marked in
-    let g = c.loop-at.invariant.1.1 cs bs xs h l m in
-    omega (arith, g.few, c.loop-at-test.true, c.requires.set_short)
+    omega (arith, count-few _ _ _ bs xs cs (c.search.invariant.1 cs bs xs h l m) _ _ (ap alone c.in-Some.ensures.steps), c.requires.set_short)
 
-pub loop-at-smaller : goal.loop-at-smaller
-loop-at-smaller c =
-    let (cs, h) = c.requires.there in
-    let (bs, l) = c.requires.put in
-    let (xs, m) = c.requires.marked in
-    let g = c.loop-at.invariant.1.1 cs bs xs h l m in
-    let f = first _ _ _ bs xs cs _ _ c.loop-at-test.true g in
-    let z = further _ _ _ bs xs cs _ _ c.loop-at-test.true g (c.in_ok-holds.ensures f.one bs xs f.there l m) c.if-not-holds.false in
-    omega (arith, z.0, z.1)
-
-pub loop-at-preserved : goal.loop-at-preserved
-loop-at-preserved c =
-    let (cs₀, h₀) = c.requires.there in
-    let (bs₀, l₀) = c.requires.put in
-    let (xs₀, m₀) = c.requires.marked in
-    let g₀ = c.loop-at.invariant.1.1 cs₀ bs₀ xs₀ h₀ l₀ m₀ in
-    let f₀ = first _ _ _ bs₀ xs₀ cs₀ _ _ c.loop-at-test.true g₀ in
-    let z = further _ _ _ bs₀ xs₀ cs₀ _ _ c.loop-at-test.true g₀ (c.in_ok-holds.ensures f₀.one bs₀ xs₀ f₀.there l₀ m₀) c.if-not-holds.false in (
-      c.try_con.auto.work ∙ c.loop-at.invariant.0,
-      (
-        z.1,
-        λ cs bs xs h l m.
-            let g = c.loop-at.invariant.1.1 cs bs xs h l m in
-            let f = first _ _ _ bs xs cs _ _ c.loop-at-test.true g in
-            going_on _ _ _ bs xs cs _ _ c.loop-at-test.true g (c.in_ok-holds.ensures f.one bs xs f.there l m) c.if-not-holds.false,
-      ),
-    )
+pub search-preserved : goal.search-preserved
+search-preserved c = (
+  c.is_true.auto.work ∙ c.search.invariant.0,
+  λ cs bs xs h l m.
+      going_on _ _ _ bs xs cs (c.search.invariant.1 cs bs xs h l m) _ _ (ap alone c.in-Some.ensures.steps)
+      (c.is_true.ensures bs xs (same-look _ _ _ _ bs l c.is_true-arg-in-search-1.given.0) m) c.in_ok-is_true.was c.if-not-branch.false,
+)
 
 pub returns : goal.returns
-returns c = λ cs bs xs h l m. going_end _ _ _ bs xs cs _ _ (omega (arith, c.loop-at-test.false)) (c.loop-at.invariant.1.1 cs bs xs h l m)
+returns c = λ cs bs xs h l m. going_end _ _ _ bs xs cs (c.search.invariant.1 cs bs xs h l m) (ap alone c.in-None.ensures.steps.0)
