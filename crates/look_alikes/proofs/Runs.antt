@@ -8,7 +8,8 @@ use Rattle.look_alikes.specs.Alike.{alike, alikeTo, alikePairs, hasFormat, oneIf
 
 module _ (ns : List Bytes) (j : ℕ) where
   module _ (h : j < length ns) where
-    pub to_next : (i : ℕ) (n : Bytes) → alikeTo i n j (drop j ns) ≡ oneIf (alike n (get_or ns j [])) (record { first = i; second = j }) ++ alikeTo i n (j + 1) (drop (j + 1) ns)
+    pub to_next : (i : ℕ) (n : Bytes)
+        → alikeTo i n j (drop j ns) ≡ oneIf (alike n (get_or ns j [])) (record { first = i; second = j }) ++ alikeTo i n (j + 1) (drop (j + 1) ns)
     unfolding alikeTo
     to_next i n = rw (drop-cons ns j [] h, add-one j) refl
 
@@ -36,20 +37,27 @@ module _ (ns : List Bytes) (j : ℕ) where
 -- what was found before a name, with it, and behind it, is all
 module _ (ns : List Bytes) (j : ℕ) (h : j < length ns) where
   module _ (i : ℕ) (n : Bytes) (found all : List Pair) (before : found ++ alikeTo i n j (drop j ns) ≡ all) where
-    pub pair_more : true ≡ alike n (get_or ns j []) → (found' : List Pair) → found' ≡ found ++ record { first = i; second = j } ∷ [] → found' ++ alikeTo i n (j + 1) (drop (j + 1) ns) ≡ all
-    pair_more y found' e = rw (e, append_assoc found (record { first = i; second = j } ∷ []) (alikeTo i n (j + 1) (drop (j + 1) ns))) (rw (to_next ns j h i n, ← y) at before)
+    pub pair_more : true ≡ alike n (get_or ns j []) → (found' : List Pair) → found' ≡ found ++ record { first = i; second = j } ∷ []
+        → found' ++ alikeTo i n (j + 1) (drop (j + 1) ns) ≡ all
+    pair_more y found' e =
+        rw (e, append_assoc found (record { first = i; second = j } ∷ []) (alikeTo i n (j + 1) (drop (j + 1) ns)))
+        (rw (to_next ns j h i n, ← y) at before)
 
     pub pair_none : false ≡ alike n (get_or ns j []) → found ++ alikeTo i n (j + 1) (drop (j + 1) ns) ≡ all
     pair_none y = rw (to_next ns j h i n, ← y) at before
 
   module _ (found all : List Pair) (before : found ++ alikePairs j (drop j ns) ≡ all) where
-    pub pairs_more : (found' : List Pair) → found' ≡ found ++ alikeTo j (get_or ns j []) (j + 1) (drop (j + 1) ns) → found' ++ alikePairs (j + 1) (drop (j + 1) ns) ≡ all
+    pub pairs_more : (found' : List Pair) → found' ≡ found ++ alikeTo j (get_or ns j []) (j + 1) (drop (j + 1) ns)
+        → found' ++ alikePairs (j + 1) (drop (j + 1) ns) ≡ all
     pairs_more found' e =
-        rw (e, append_assoc found (alikeTo j (get_or ns j []) (j + 1) (drop (j + 1) ns)) (alikePairs (j + 1) (drop (j + 1) ns))) (rw (pairs_next ns j h) at before)
+        rw (e, append_assoc found (alikeTo j (get_or ns j []) (j + 1) (drop (j + 1) ns)) (alikePairs (j + 1) (drop (j + 1) ns)))
+        (rw (pairs_next ns j h) at before)
 
   module _ (found all : List ℕ) (before : found ++ withFormat j (drop j ns) ≡ all) where
-    pub format_more : true ≡ hasFormat (get_or ns j []) → (found' : List ℕ) → found' ≡ found ++ j ∷ [] → found' ++ withFormat (j + 1) (drop (j + 1) ns) ≡ all
-    format_more y found' e = rw (e, append_assoc found (j ∷ []) (withFormat (j + 1) (drop (j + 1) ns))) (rw (format_next ns j h, ← y) at before)
+    pub format_more : true ≡ hasFormat (get_or ns j []) → (found' : List ℕ) → found' ≡ found ++ j ∷ []
+        → found' ++ withFormat (j + 1) (drop (j + 1) ns) ≡ all
+    format_more y found' e =
+        rw (e, append_assoc found (j ∷ []) (withFormat (j + 1) (drop (j + 1) ns))) (rw (format_next ns j h, ← y) at before)
 
     pub format_none : false ≡ hasFormat (get_or ns j []) → found ++ withFormat (j + 1) (drop (j + 1) ns) ≡ all
     format_none y = rw (format_next ns j h, ← y) at before

@@ -33,7 +33,8 @@ module _ (a b : Bytes) where
   matched u v true h = rw (is_utf8-from_IsUtf8 a u, is_utf8-from_IsUtf8 b v) (sym (same-yes _ _ (h.0 (search rules))))
   matched u v false h = rw (is_utf8-from_IsUtf8 a u, is_utf8-from_IsUtf8 b v) (sym (same-no _ _ (λ e. let bad : false ≡ true = h.1 e in cc)))
 
-  pub if_matched : IsUtf8 a → IsUtf8 b → (r : Result Bool AllocError) → IfOk r (λ y. IsTrue y ↔ IsCompatibilityMatch (chars a) (chars b)) → IfOk r (λ y. y ≡ alike a b)
+  pub if_matched : IsUtf8 a → IsUtf8 b → (r : Result Bool AllocError)
+      → IfOk r (λ y. IsTrue y ↔ IsCompatibilityMatch (chars a) (chars b)) → IfOk r (λ y. y ≡ alike a b)
   if_matched u v (Ok y) h = matched u v y h
   if_matched u v (Err e) h = tt
 

@@ -6,7 +6,8 @@ use Rattle.look_alikes.proofs.alike_pairs.Goals as goal
 
 pub loop-first-preserved : goal.loop-first-preserved
 loop-first-preserved c =
-    let here : c.loop-first.first < length (names_of (table_of c.args.names.pool.now c.args.names.table.now)) = omega (arith, length-names (good-laid c.args.names.good), c.count-first-end.ensures) in
+    let here : c.loop-first.first < length (names_of (table_of c.args.names.pool.now c.args.names.table.now))
+    = omega (arith, length-names (good-laid c.args.names.good), c.count-first-end.ensures) in
     pairs_more _ _ here _ _ c.loop-first.invariant _ (search rules)
 
 pub returns : goal.returns

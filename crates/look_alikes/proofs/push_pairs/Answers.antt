@@ -12,7 +12,8 @@ overflow_step-second c = Fits-below {n = 257} tt (omega (arith, c.requires, (goo
 
 pub loop-second-preserved : goal.loop-second-preserved
 loop-second-preserved c =
-    let here : c.loop-second.second < length (names_of (table_of c.args.names.pool.now c.args.names.table.now)) = omega (arith, length-names (good-laid c.args.names.good), c.count-second-end.ensures) in
+    let here : c.loop-second.second < length (names_of (table_of c.args.names.pool.now c.args.names.table.now))
+    = omega (arith, length-names (good-laid c.args.names.good), c.count-second-end.ensures) in
     let told : c.in_ok-is_alike.field-0 ≡ alike c.name-name.result.now c.name.result.now = c.in_ok-is_alike.ensures in
     elim c.if-branch.branch [
       | then-branch+in_ok-push w ↦ pair_more _ _ here _ _ _ _ c.loop-second.invariant (search (rules, told)) _ (search rules)
@@ -20,4 +21,5 @@ loop-second-preserved c =
     ]
 
 pub returns : goal.returns
-returns c = pair_done _ c.loop-second.second (omega (arith, length-names (good-laid c.args.names.good), c.count-second-end.ensures)) _ _ _ _ c.loop-second.invariant
+returns c =
+    pair_done _ c.loop-second.second (omega (arith, length-names (good-laid c.args.names.good), c.count-second-end.ensures)) _ _ _ _ c.loop-second.invariant
