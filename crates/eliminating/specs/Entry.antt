@@ -83,9 +83,9 @@ module _ (pool table ws : List ℕ) where
     unfolding shortLists all
     set-short s = leb-true (length ws) 8192 (and_left (leb (length ws) 8192) true (need-passed (leb (length ws) 8192 && true) 8 s))
 
-    first_of : (m n : Got (Unit {0})) → (m >> n) ≡ got tt → m ≡ got tt
-    first_of (got x) n e = refl
-    first_of (refused i) n e = clash e
+    first-got : (m n : Got (Unit {0})) → (m >> n) ≡ got tt → m ≡ got tt
+    first-got (got x) n e = refl
+    first-got (refused i) n e = clash e
 
     pub came-in : entered ≡ got tt → Entered
     unfolding setCall aloneGiven eliminatedSet setChecked
@@ -94,7 +94,7 @@ module _ (pool table ws : List ℕ) where
         let l = set-short p.short in
         record {
           set = p.value;
-          good = entry-good pool table ws (alone-given (first_of (setCall pool table ws) (need (unmixed (numbers pool table) (opensIn ws 0 (length ws / 4))) 4) e));
+          good = entry-good pool table ws (alone-given (first-got (setCall pool table ws) (need (unmixed (numbers pool table) (opensIn ws 0 (length ws / 4))) 4) e));
           few = omega (arith, l);
           chain = set_is pool table ws w p.value p.is;
           all = ap (◌>>= λ cs. fitting (numbers pool table) cs >>= λ ps. eliminated (numbers pool table) ps) p.all;
