@@ -7,8 +7,8 @@ use Rattle.rules.specs.declared.Was.TheVariants.{New, Known}
 use Rattle.rules.specs.Writing.{Rec, rec, head, words}
 use Rattle.rules.specs.Lengths.{sized, sizedWords, counting}
 use Rattle.rules.specs.Calls.{Solved, solved, refusedAfter, setCall, solveCall}
-use Rattle.rules.specs.Batches.{cutSets}
-use Rattle.rules.specs.Compaction.{Compacted, occurs, keeps, newNumber, renumbered, keptFrom, joined, endsFrom, poolOf, endsOver, eachGiven, compactChecks, squeezed, compactIf, compactCall}
+use Rattle.rules.specs.CasesOfCompaction.{group}
+use Rattle.rules.specs.Compaction.{Compacted, compactCall}
 use Rattle.rules.specs.Grammar.{ascii}
 use Rattle.rules.specs.TextReading.{ReadAnswer, wasRead, notRead, readTextCall}
 use Rattle.rules.specs.Rules.{rules}
@@ -149,5 +149,5 @@ left s sets = names_of (table_of c.pool c.table)
 
 orders-differ : left alone (words twoBounds) ∷ left second (words (map (fill (1 ∷ 0 ∷ [])) twoBounds)) ∷ []
     ≡ ((97 ∷ []) ∷ (98 ∷ []) ∷ []) ∷ ((98 ∷ []) ∷ (97 ∷ []) ∷ []) ∷ []
-unfolding rules counting entered afterAll namesOne fill cutSets compactCall compactIf compactChecks squeezed eachGiven poolOf endsOver endsFrom joined keptFrom occurs keeps newNumber renumbered
+unfolding rules group counting entered afterAll fill
 orders-differ = refl

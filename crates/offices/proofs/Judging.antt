@@ -57,4 +57,5 @@ module _ {N M : Type 0} (ν : Names N) (μ : Names M) (f : N → M) (keeps : Kee
       → failing μ l (map (mapBinding f) bs) (map f bounds) k (map (mapCon f) cs) ≡ failing ν l bs bounds k cs
   unfolding failing
   failing-map bs bounds k [] = refl
-  failing-map bs bounds k (c ∷ cs) = rw (judge-con bs bounds c) (ap (λ (m : Got (Option ℕ)). judgeCon ν l bs bounds c >>= λ b. elim b [ true ↦ m | false ↦ got (some k) ]) (failing-map bs bounds (suc k) cs))
+  failing-map bs bounds k (c ∷ cs) = rw (judge-con bs bounds c)
+      (ap (λ (m : Got (Option ℕ)). judgeCon ν l bs bounds c >>= λ b. elim b [ true ↦ m | false ↦ got (some k) ]) (failing-map bs bounds (suc k) cs))

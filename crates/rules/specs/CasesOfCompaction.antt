@@ -33,7 +33,7 @@ first = sizedWords (rec 20 0 0 0 ∷ rec 1 1 0 0 ∷ rec 4 0 0 0 ∷ [])
 abbrev second : List ℕ
 second = sizedWords (rec 23 5 0 0 ∷ rec 1 2 0 0 ∷ rec 2 2 0 0 ∷ [])
 
-unfoldable group : Type 0
+unfoldable pub group : Type 0
 unfolding rules counting pool table namesOne cutSets compactCall compactIf compactChecks squeezed eachGiven poolOf endsOver endsFrom joined keptFrom
     renumbered newNumber keeps occurs
 group = Unit {0}

@@ -156,7 +156,8 @@ module _ (pool table sets lengths pool' table' sets' lengths' : List ℕ) where
     -- a set that read alike in both still does, each over what is left of its table, whatever sets the other office put into either call,
     -- and also where one is refused
     pub each : (k k' : ℕ) → ReadAlike (table_of pool table) (table_of pool' table') (get_or (cutSets lengths sets) k []) (get_or (cutSets lengths' sets') k' [])
-        → ReadAlike (table_of after.pool after.table) (table_of after'.pool after'.table) (get_or (cutSets lengths after.sets) k []) (get_or (cutSets lengths' after'.sets) k' [])
+        → ReadAlike (table_of after.pool after.table) (table_of after'.pool after'.table) (get_or (cutSets lengths after.sets) k [])
+        (get_or (cutSets lengths' after'.sets) k' [])
     -- where all sets read alike, the answers are the same,
     pub answer : lengths ≡ lengths' → ReadAlike (table_of pool table) (table_of pool' table') sets sets' → after.answer ≡ after'.answer
     -- and the same names are kept; their order is that of each table, so it may differ, as their numbers may

@@ -2,3 +2,4 @@ mod Findings
 mod Pages
 mod Editions
 mod Apart
+mod Cases

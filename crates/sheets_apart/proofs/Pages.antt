@@ -9,7 +9,8 @@ use Rattle.rules.specs.Grammar.{ascii}
 use Rattle.rules.specs.Names.{Bytes, Table, table_of}
 use Rattle.rules.specs.TextWriting.{nameText, namesIn}
 use Rattle.rules.specs.Offices.{Name, bytesIn, nameNo, mapCon, mapBinding}
-use Rattle.rules.specs.Reports.{Finding, unseen, unread, agrees, denied, unjudged, remains, stops, isAccepted, quantity, refusedText, placeText, bindingLine, boundLine, remainingLine, findingText}
+use Rattle.rules.specs.Reports.{Finding, unseen, unread, agrees, denied, unjudged, remains, stops, isAccepted, quantity, refusedText, placeText}
+use Rattle.rules.specs.Reports.{bindingLine, boundLine, remainingLine, findingText}
 use Rattle.rules.specs.Apart.{Found, accepts, leaves, says, found}
 use Rattle.laws.specs.NameTable.{Good}
 use Rattle.offices.proofs.Texts.{openShown, tyShown, conShown, name-shown, open-shown, ty-shown, con-shown}
