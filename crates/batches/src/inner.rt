@@ -12,7 +12,7 @@ ghost use Rattle.batches.specs.Steps.{Written, Stepped, Begun, Finished};
 
 use records::inner::put;
 use rules::{POOL_BYTES, RECORD_WORDS, Refusal, TABLE_WORDS, WORK_WORDS};
-use solving::inner::solve_set;
+use solving::inner::{records, solve_set};
 use solving::{Finish, Solution};
 
 /// How many sets one call takes.
@@ -67,18 +67,6 @@ pub fn fits(sets: &[u32], lengths: &[u32]) -> Result<(), Refusal>
         Ok(())
     } else {
         Err(Refusal::Malformed)
-    }
-}
-
-// How many records a set's answer has.
-fn records(s: Solution) -> usize
-    requires { recordsOf (toldSolution s) ≤ 2048 }
-    ensures { result ≡ recordsOf (toldSolution s) }
-{
-    match s.outcome {
-        Ok(Finish::Solved(b, n)) => b + n,
-        Ok(Finish::Unsolved(n)) => n,
-        Err(_) => 0,
     }
 }
 

@@ -18,6 +18,9 @@ use rules::Refusal;
 /// bounds. It answers how many records were written.
 /// Refusals of the whole: 10, something that is lent is too short; 8, more than 64 sets; 1, the lengths don't add up. They leave the result buffer
 /// and `answers` as they were. But for 10 the work buffer is left all zero.
+///
+/// Each set's answer is worth what that of `solving::solve` is: an accepted set's constraints are true where no variable that stands in one of its
+/// dimension products is bound to anything but a dimension or a variable; elsewhere ask the judge, or `confirming::confirm`.
 pub fn solve_all(
     pool: &[u8],
     table: &[u32],

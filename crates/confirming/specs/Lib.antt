@@ -1,1 +1,3 @@
+pub mod Told
 pub mod Own
+pub mod Theorems

@@ -3,12 +3,12 @@ use Rattle.std.specs.Prelude.{◌≡◌, refl, Bool, true, ◌&&◌, List, [], �
 use Rattle.std.specs.Prelude as std
 use Rattle.std.proofs.Common.{subst, arith}
 use borrow.Author.Tests.{leb-true}
-use Rattle.rules.specs.Base.{Got, got, refused, need, all, collect}
+use Rattle.rules.specs.Base.{Got, got, refused, need, bounded, all, collect}
 use Rattle.rules.specs.Calls.{shortLists, tableKept, setGiven, apart, solvedSet}
 use Rattle.rules.specs.Contents.{unmixed}
 use Rattle.rules.specs.Names.{Table, table_of, numbersOf, is_held, lentTable}
 use Rattle.rules.specs.Refusals.{toldBy, toldOption}
-use Rattle.rules.specs.Solving.{Answer, accepted, remaining, stopped}
+use Rattle.rules.specs.Solving.{Answer, accepted, remaining, stopped, solve}
 use Rattle.rules.specs.Trees.{Names, Con, Binding, opensCon}
 use Rattle.rules.specs.WellFormed.{goodBinding}
 use Rattle.rules.specs.declared.Refusal.{Refusal}
@@ -34,42 +34,57 @@ module _ (pool table set : List ℕ) where
   abbrev t : Table
   t = table_of pool table
 
-  -- an accepted answer to the set that the words are, whose rows stand in s
-  pub record Own (s : List ℕ) (b n : ℕ) : Type 0 where
+  -- a set that passed the checks, and was accepted
+  pub record Passed (bs : List (Binding ℕ)) (ns : List ℕ) (rounds : ℕ) : Type 0 where
     pub cs : List (Con ℕ)
-    pub bs : List (Binding ℕ)
-    pub ns : List ℕ
-    pub rounds : ℕ
     pub good : Good pool table
     pub short : length set ≤ 8192
+    pub kept : tableKept t ≡ got tt
     pub read : setGiven t set ≡ got cs
-    pub is : solvedSet t set ≡ got (accepted bs ns rounds)
-    pub found : FoundThere pool table s b n bs ns
+    pub given : Given (numbersOf t) (is_held t) cs
+    pub accepts : solve (numbersOf t) bounded cs ≡ accepted bs ns rounds
 
   set-short : shortLists (set ∷ []) ≡ got tt → length set ≤ 8192
   unfolding shortLists all
   set-short e = leb-true (length set) 8192 (and_left (leb (length set) 8192) true (need-passed (leb (length set) 8192 && true) 8 e))
 
-  accepted-own : lentTable pool table ≡ got tt → (s : List ℕ) (b n : ℕ) → length s ≤ 8192 → (bs : List (Binding ℕ)) (ns : List ℕ) (k : ℕ)
-      → solvedSet t set ≡ got (accepted bs ns k) → IsSolved s b n bs ns → Own s b n
+  pub passed : lentTable pool table ≡ got tt → (bs : List (Binding ℕ)) (ns : List ℕ) (k : ℕ) → solvedSet t set ≡ got (accepted bs ns k) → Passed bs ns k
   unfolding solvedSet apart
-  accepted-own h s b n long bs ns k e r =
+  passed h bs ns k e =
       let p = bound-step (shortLists (set ∷ [])) _ (accepted bs ns k) e in
       let q = bound-step (tableKept t) _ (accepted bs ns k) p.2 in
       let c = bound-step (setGiven t set) _ (accepted bs ns k) q.2 in
       let d = bound-step (need (unmixed (numbersOf t) (collect opensCon c.0)) 4) _ (accepted bs ns k) c.2 in
       let l = lent-long pool table tt h in
-      let g : Good pool table = record { bytes = l.0; words = l.1; good = kept-good t q.0 q.1 } in
-      let given : Given (numbersOf t) (is_held t) c.0 = record { well-formed = (set-read t set c.0 c.1).0; apart = need-passed (unmixed (numbersOf t) (collect opensCon c.0)) 4 d.1 } in
-      let f = solved-form (numbersOf t) (is_held t) (numbers-ordered pool table g) c.0 given bs ns k (cc d.2) in
       record {
         cs = c.0;
+        good = record { bytes = l.0; words = l.1; good = kept-good t q.0 q.1 };
+        short = set-short p.1;
+        kept = q.1;
+        read = c.1;
+        given = record { well-formed = (set-read t set c.0 c.1).0; apart = need-passed (unmixed (numbersOf t) (collect opensCon c.0)) 4 d.1 };
+        accepts = cc d.2;
+      }
+
+  -- an accepted answer to the set that the words are, whose rows stand in s
+  pub record Own (s : List ℕ) (b n : ℕ) : Type 0 where
+    pub bs : List (Binding ℕ)
+    pub ns : List ℕ
+    pub rounds : ℕ
+    pub passes : Passed bs ns rounds
+    pub is : solvedSet t set ≡ got (accepted bs ns rounds)
+    pub found : FoundThere pool table s b n bs ns
+
+  accepted-own : lentTable pool table ≡ got tt → (s : List ℕ) (b n : ℕ) → length s ≤ 8192 → (bs : List (Binding ℕ)) (ns : List ℕ) (k : ℕ)
+      → solvedSet t set ≡ got (accepted bs ns k) → IsSolved s b n bs ns → Own s b n
+  accepted-own h s b n long bs ns k e r =
+      let p = passed h bs ns k e in
+      let f = solved-form (numbersOf t) (is_held t) (numbers-ordered pool table p.good) p.cs p.given bs ns k p.accepts in
+      record {
         bs = bs;
         ns = ns;
         rounds = k;
-        good = g;
-        short = set-short p.1;
-        read = c.1;
+        passes = p;
         is = e;
         found = record {
           binds = r.binds;
@@ -117,13 +132,16 @@ module _ (pool table set : List ℕ) where
         go (got (stopped j k)) q = (tt, tt)
 
   module _ {s : List ℕ} {b n : ℕ} (o : Own s b n) where
-    pub stands : Words32 set → SetThere pool table set o.cs
-    stands w = set_there pool table set [] o.cs [] (record { good = o.good; given = o.read; short = o.short; types-short = omega arith }) w
+    abbrev p : Passed o.bs o.ns o.rounds
+    p = o.passes
 
-    pub judged : {r : Result (std.Option ℕ) Refusal} → FoundJudged pool table o.bs o.ns o.cs r → (cs : List (Con ℕ)) → setGiven t set ≡ got cs
+    pub stands : Words32 set → SetThere pool table set p.cs
+    stands w = set_there pool table set [] p.cs [] (record { good = p.good; given = p.read; short = p.short; types-short = omega arith }) w
+
+    pub judged : {r : Result (std.Option ℕ) Refusal} → FoundJudged pool table o.bs o.ns p.cs r → (cs : List (Con ℕ)) → setGiven t set ≡ got cs
         → JudgedAs (numbers pool table) cs (solvedSet t set) (toldBy is_none r)
-    judged f cs e = let z : o.cs ≡ cs = cc in rw (o.is, ← z) f.verdict
+    judged f cs e = let z : p.cs ≡ cs = (let r = p.read in cc) in rw (o.is, ← z) f.verdict
 
-    pub placed : {r : Result (std.Option ℕ) Refusal} → FoundJudged pool table o.bs o.ns o.cs r → (cs : List (Con ℕ)) → setGiven t set ≡ got cs
+    pub placed : {r : Result (std.Option ℕ) Refusal} → FoundJudged pool table o.bs o.ns p.cs r → (cs : List (Con ℕ)) → setGiven t set ≡ got cs
         → PlacedAs (numbers pool table) cs (solvedSet t set) (toldBy toldOption r)
-    placed f cs e = let z : o.cs ≡ cs = cc in rw (o.is, ← z) f.place
+    placed f cs e = let z : p.cs ≡ cs = (let r = p.read in cc) in rw (o.is, ← z) f.place

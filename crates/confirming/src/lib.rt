@@ -1,81 +1,45 @@
-//! A set is solved, and an accepted answer is put before the judge over the same set, where it stands.
+//! The public call that solves a set and confirms its answer: what it answers makes every constraint of the set true.
 #![tactic(auto)]
 
-ghost use Rattle.std.specs.Prelude.{◌≡◌, List, ℕ, ◌≤◌, length, is_none};
-ghost use Rattle.rules.specs.Base.{got};
-ghost use Rattle.rules.specs.Calls.{setGiven, solvedSet};
-ghost use Rattle.rules.specs.Names.{table_of, tableGood, lentTable};
-ghost use Rattle.rules.specs.Refusals.{toldBy, toldOption};
-ghost use Rattle.rules.specs.Trees.{Con};
-ghost use Rattle.records.specs.Good.{numbers};
-ghost use Rattle.solving.specs.Told.{Stands, Answered};
-ghost use Rattle.judging.specs.Found.{JudgedAs, PlacedAs};
+pub mod inner;
+pub mod theorems;
 
-use judging::inner::{Found, judge_found};
-use names::tables::NameTable;
-use rules::Refusal;
-use solving::inner::solve_set;
-use solving::{Finish, Solution};
+ghost use Rattle.std.specs.Prelude.{◌≡◌};
+ghost use Rattle.rules.specs.Confirming.{confirmCall};
+ghost use Rattle.solving.specs.Told.{solutionAs};
 
-/// What solving answered, and what the judge says of an accepted answer: which constraint isn't true, the first, counted from 0, if any.
-#[derive(Clone, Copy)]
-pub struct Confirmed {
-    pub solution: Solution,
-    pub verdict: Result<Option<usize>, Refusal>,
-}
+pub use inner::{Confirmed, solve_and_judge};
+use lending::inner::clear;
+use lending::lent;
+use names::inner::is_good;
+use records::inner::copy;
+use rules::{RECORD_WORDS, Refusal};
+use solving::Solution;
+use solving::inner::{records, stopped};
 
-// What the judge says of an answer whose rows stand at the front of a list; of one that isn't accepted nothing is asked.
-fn verdict_on(
+/// Solves a set of constraints, and answers only what the judge confirms over the same set: bindings and bounds under which every constraint of the
+/// set is true, with no premise. They stand at the front of the result buffer, whose rest stays as it was.
+///
+/// Refusals, in this order: those of `solving::solve` (10, 8, 1, 4, then those of the rounds, 5 among them); then, of an answer that solving accepts,
+/// 7 or 8 where the judge meets them, and 11 for its no. Where constraints remain (5) they stand at the front of the result buffer; every other refusal
+/// leaves it as it was. Rounds are those of solving, beside 11 too. But for 10 the work buffer is left all zero.
+pub fn confirm(
     pool: &[u8],
     table: &[u32],
-    words: &[u32],
-    solution: Solution,
-    rows: &[u32],
-    work: &mut [u32],
-) -> Result<Option<usize>, Refusal>
-    requires table_value { lentTable pool.now table.now ≡ got tt }
-    requires stands { Stands rows.now solution (solvedSet (table_of pool.now table.now) words.now) }
-    requires short { length rows.now ≤ 8192 }
-    requires room { 8192 ≤ length work.old }
-    ensures judged { (cs : List (Con ℕ)) → setGiven (table_of pool.now table.now) words.now ≡ got cs
-        → JudgedAs (numbers pool.now table.now) cs (solvedSet (table_of pool.now table.now) words.now) (toldBy is_none result) }
-    ensures placed { (cs : List (Con ℕ)) → setGiven (table_of pool.now table.now) words.now ≡ got cs
-        → PlacedAs (numbers pool.now table.now) cs (solvedSet (table_of pool.now table.now) words.now) (toldBy toldOption result) }
-{
-    match solution.outcome {
-        Ok(Finish::Solved(bindings, bounds)) => {
-            let found = Found {
-                words: rows,
-                bindings,
-                bounds,
-            };
-            judge_found(NameTable { pool, table }, words, found, work)
-        }
-        Ok(Finish::Unsolved(_)) => Ok(None),
-        Err(_) => Ok(None),
-    }
-}
-
-/// Solves a set and judges the answer, past the checks of 10 and of the table. The result buffer has 2,048 records.
-pub fn solve_and_judge(
-    pool: &[u8],
-    table: &[u32],
-    good: bool,
-    words: &[u32],
+    set: &[u32],
     res: &mut [u32],
     work: &mut [u32],
-) -> Confirmed
-    requires table_value { lentTable pool.now table.now ≡ got tt }
-    requires good_value { good ≡ tableGood (table_of pool.now table.now) }
-    requires result_room { length res.old ≡ 8192 }
-    requires room { 16384 ≤ length work.old }
-    ensures answered { Answered (solvedSet (table_of pool.now table.now) words.now) res.old res.new result.solution }
-    ensures judged { (cs : List (Con ℕ)) → setGiven (table_of pool.now table.now) words.now ≡ got cs
-        → JudgedAs (numbers pool.now table.now) cs (solvedSet (table_of pool.now table.now) words.now) (toldBy is_none result.verdict) }
-    ensures placed { (cs : List (Con ℕ)) → setGiven (table_of pool.now table.now) words.now ≡ got cs
-        → PlacedAs (numbers pool.now table.now) cs (solvedSet (table_of pool.now table.now) words.now) (toldBy toldOption result.verdict) }
+) -> Solution
+    ensures { solutionAs result res.new work.new ≡ confirmCall pool.now table.now set.now res.old work.old }
 {
-    let solution = solve_set(pool, table, good, words, res, work);
-    let verdict = verdict_on(pool, table, words, solution, res, work);
-    Confirmed { solution, verdict }
+    if !lent(pool, table, res, work) {
+        return stopped(Refusal::ShortBuffer, 0);
+    }
+    let good = is_good(pool, table);
+    // An answer stands here until the judge has said yes.
+    let mut found = [0u32; RECORD_WORDS];
+    let solution = solve_and_judge(pool, table, good, set, &mut found, work).ruled();
+    copy(&found, 0, records(solution), res, 0);
+    clear(work);
+    solution
 }

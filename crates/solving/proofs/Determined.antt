@@ -39,7 +39,7 @@ one-result a b result result' work work' e =
       works = ap (λ (s : calls.Solution). s.work) e;
     }
 
-outcome-in : (a : Result Finish Refusal) (k : ℕ) → numberOutcome a ≡ numbers.refusalOf (toldOutcome a k)
+pub outcome-in : (a : Result Finish Refusal) (k : ℕ) → numberOutcome a ≡ numbers.refusalOf (toldOutcome a k)
 unfolding numbers.refusalOf
 outcome-in (Ok (Solved b n)) k = refl
 outcome-in (Ok (Unsolved n)) k = refl

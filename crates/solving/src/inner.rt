@@ -1,17 +1,19 @@
 //! The steps of solving, past the check of 10.
 ghost use Rattle.std.specs.Prelude.{◌≡◌, List, ℕ, ◌≤◌, length};
 ghost use Rattle.rules.specs.Base.{got, bounded};
+ghost use Rattle.rules.specs.Batches.{recordsOf};
 ghost use Rattle.rules.specs.Calls.{setCall, solvedSet};
 ghost use Rattle.rules.specs.Names.{table_of, tableGood, lentTable};
 ghost use Rattle.rules.specs.Refusals.{told};
 ghost use Rattle.rules.specs.Solving.{solve};
 ghost use Rattle.rules.specs.Trees.{Con};
 ghost use Rattle.records.specs.Good.{numbers};
-ghost use Rattle.solving.specs.Told.{refusedAs, Answered};
+ghost use Rattle.solving.specs.Told.{toldSolution, refusedAs, Answered};
 ghost use Rattle.solving.specs.Running.{Begun};
 ghost use Rattle.solving.specs.Entry.{entered};
 
 use super::Solution;
+use finishing::Finish;
 use finishing::inner::finish;
 use names::tables::NameTable;
 use queries::inner::is_unmixed;
@@ -27,6 +29,18 @@ pub fn stopped(r: Refusal, completed: u32) -> Solution
     Solution {
         outcome: Err(r),
         rounds: completed,
+    }
+}
+
+/// How many records an answer has at the front of the result buffer.
+pub fn records(s: Solution) -> usize
+    requires { recordsOf (toldSolution s) ≤ 2048 }
+    ensures { result ≡ recordsOf (toldSolution s) }
+{
+    match s.outcome {
+        Ok(Finish::Solved(b, n)) => b + n,
+        Ok(Finish::Unsolved(n)) => n,
+        Err(_) => 0,
     }
 }
 

@@ -38,6 +38,9 @@ impl Solution {
 /// Solves a set of constraints: bindings and bounds, or the constraints that remain, at the front of the result buffer, whose rest stays as it was.
 /// Refusals, in this order: 10, a buffer is short; 8 and 1, the set is too long or not well formed; 4, one name is a variable and a parameter; and
 /// those of the rounds (6, 7, 8). A refusal leaves the result buffer as it was. But for 10 the work buffer is left all zero.
+///
+/// What is answered makes every constraint of the set true where no variable that stands in a dimension product of the set is bound to anything but a
+/// dimension or a variable; elsewhere it may not (K10: x y = x z, with x boolean, is accepted). `confirming::confirm` answers only what does.
 pub fn solve(
     pool: &[u8],
     table: &[u32],

@@ -4,7 +4,7 @@ use native.Mathlib.Omega.{arith}
 use Rattle.std.specs.Prelude.{Ok}
 use Rattle.finishing.specs.declared.Finish.TheVariants.{Solved, Unsolved}
 use Rattle.rules.specs.Batches.{recordsOf}
-use Rattle.batches.proofs.inner.records.Goals as goal
+use Rattle.solving.proofs.inner.records.Goals as goal
 
 pub overflow_add-result : goal.overflow_add-result
 unfolding recordsOf

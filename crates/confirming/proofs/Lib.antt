@@ -1,0 +1,4 @@
+mod Ruled
+mod Handed
+pub mod Promise
+pub mod Determined
