@@ -367,6 +367,30 @@ def parameters_stay():
             yield 'instantiating beside parameters', of('instantiate (scheme 1 %s (bounds a (q 0))) (names %s)' % (t, n))
 
 
+def confirmed():
+    """the call that solves and judges: K1 to K14, what the judge denies, what it refuses, and what it is lent"""
+    for why, line in K:
+        yield 'confirming, ' + why, of(line.replace('solve', 'confirm', 1))
+    x, p = '(dim (v x 1 1) (v y 1 1))', '(dim (p a 1 1) (b L 1 1))'
+    for s in ('(eq %s (dim (v x 1 1) (v z 1 1))) (eq (var x) (bool))' % x, '(eq (var x) (bool)) (eq %s (dim (v x 1 1) (v z 1 1)))' % x, '(eq %s (dim (v x 1 1) (v z 1 1))) (eq (var x) %s)' % (x, p),
+              '(isdim (dim (v x 1 1))) (eq (var x) (bool))', '(eq (dim (v x 1 1)) (var y)) (eq (var x) (bool))', '(isdim (var x)) (eq (var y) (var x))', '(eq (var x) (str)) (eq (var x) (bool))'):
+        yield 'confirming', of('confirm ' + s)
+    # put in at once, the first constraint nests as deep as both together, where solving has taken a list from it
+    for n, m in ((31, 32), (32, 32), (1, 62), (1, 63)):
+        yield 'nesting in what is confirmed', of('confirm (eq %s %s) (eq (var y) %s)' % (nest(n, '(var x)'), nest(n, '(var y)'), nest(m, '(bool)')))
+    for n in (46340, 46341):
+        yield 'powers in what is confirmed', of('confirm (eq (dim (v x %d 1)) (dim (v y %d 1))) (eq (list (var y)) (list (dim (b L %d 1))))' % (n, n, n))
+    for room in ({'result': 8191}, {'work': 16383}, {'result': 8192, 'work': 16384}, {'result': 8200, 'work': 16400}):
+        yield 'what confirming is lent', of('confirm (eq (var x) (bool))', **room)
+        yield 'what confirming is lent', of(K[9][1].replace('solve', 'confirm', 1), **room)
+    yield 'what confirming is lent', Request(32, pool=bytes(8191), table=[0] * 257, whole=0)
+    yield 'what confirming is lent', Request(32, pool=bytes(8192), table=[0] * 256, whole=0)
+    for n in (8192, 8193):
+        yield 'what confirming is lent', Request(32, lists=[[0] * n])
+    yield 'confirming what is no set', Request(32, ('x',), [[1, 0, 0, 0]])
+    yield 'confirming what is no set', Request(32, ('x',), [[20, 0, 0, 0, 1, 0, 0, 0]])
+
+
 def new_records():
     """constraints that a split makes, alone over 2,048 records: 3 a parameter"""
     for n in (680, 681, 682, 683):
@@ -402,7 +426,7 @@ def cases(last=24):
     out = [(why, of(line)) for why, line in rules()]
     # the same with other numbers: the first name isn't number 0
     out += [(why + ', other numbers', of(line, order=('L', 'f', 'y', 'b', 'P', 'a', 'x'))) for why, line in rules() if line.split()[0] in ('solve', 'vars', 'replaceset')]
-    parts = [values(), names(), limits(), malformed()] + [schemes()] * (last >= 25) + [judge()] * (last >= 28) + [sheets()] * (last >= 29) + [kinds_differ(), same_meaning(), parameters_stay(), new_records()] + [false_lengths()]
+    parts = [values(), names(), limits(), malformed()] + [schemes()] * (last >= 25) + [judge()] * (last >= 28) + [sheets()] * (last >= 29) + [kinds_differ(), same_meaning(), parameters_stay(), new_records()] + [confirmed()] * (last >= 32) + [false_lengths()]
     for part in parts:
         out += list(part)
     return [(why, q) for why, q in out if q.call <= last and max(map(len, q.lists)) <= 10240]

@@ -18,6 +18,8 @@ def cases():
     yield 'solve functions of 670 parameters', Request(23, ('x',), [[20, 0, 0, 0, 7, 670, 0, 0] + [1, 0, 0, 0] * 671 + [7, 670, 0, 0] + [4, 0, 0, 0] * 671])
     yield 'solve functions of 680 parameters, struct by struct', Request(23, ('x', 'P'), [[20, 0, 0, 0, 7, 680, 0, 0] + [8, 1, 0, 0] * 681 + [7, 680, 0, 0] + [8, 1, 0, 0] * 680 + [4, 0, 0, 0]])
     yield 'solve: a function of 2,038 parameters takes a binding', Request(23, ('x', 'y'), [[20, 0, 0, 0, 1, 0, 0, 0, 7, 2038, 0, 0] + [1, 1, 0, 0] * 2039 + [20, 0, 0, 0, 1, 1, 0, 0, 4, 0, 0, 0]])
+    yield 'confirm: the same function', Request(32, ('x', 'y'), [[20, 0, 0, 0, 1, 0, 0, 0, 7, 2038, 0, 0] + [1, 1, 0, 0] * 2039 + [20, 0, 0, 0, 1, 1, 0, 0, 4, 0, 0, 0]])
+    yield 'confirm 682 equalities of 250 variables', Request(32, v, [words])
     yield 'solve 16 equalities of 62 nested lists', of('solve ' + ' '.join('(eq %s %s)' % (nest(62, '(var x)'), nest(62, '(var y)')) for _ in range(16)))
     yield 'solve a chain of 200 functions', Request(23, v, [[w for i in range(200) for w in (20, 0, 0, 0, 1, i, 0, 0, 7, 1, 0, 0, 1, i + 1, 0, 0, 4, 0, 0, 0)]])
     yield 'solve 31 products of 64 factors', of('solve ' + ' '.join('(scalar (v x%02d 1 2) %s)' % (i, dims(63, i % 5, '3 7')) for i in range(31)))

@@ -1,5 +1,5 @@
 #!/usr/bin/env python3
-"""Calculation lines (W-211) once more: what the steps issue, the judge, and the answer, over the solver of model.py. It makes the line cases of calls_run:
+"""Calculation lines (W-211) once more: what the steps issue, and the answer, over the solver and the judge of model.py. It makes the line cases of calls_run:
 lines.py SERVE crates/calls_run/stdin puts them behind the others, in place of those of before. SERVE is the program `serve`; a case is stored only if it answers what is said
 here, and leaves the buffers so. lines.py SERVE random COUNT SEED compares random lines, some with open references."""
 import os, random, subprocess, sys
@@ -34,39 +34,6 @@ def issued(v, step, st):
     return both + [('eq', var(l), var(r)), ('eq', var(v), ('bool',) if k == '?' else var(l))]
 
 
-def meant(t):
-    """a type as the judge compares it: one variable to the power 1 is the variable, and a struct is its name and arguments"""
-    h = t[0]
-    if h == 'dim':
-        o = model.onevar(t)
-        return ('var', o[1]) if o else t
-    if h == 'fn':
-        return ('fn', tuple(map(meant, t[1])), meant(t[2]))
-    if h == 'list':
-        return ('list', meant(t[1]))
-    return ('struct', t[1], tuple(map(meant, t[2]))) if h == 'struct' else t
-
-
-def true(c, bounds):
-    if c[0] == 'eq':
-        return meant(c[1]) == meant(c[2])
-    return c[1][0] in ('dim', 'var', 'par') and all(n in bounds for _, n in model.raw(c[1], True))
-
-
-def judged(cs, bs, bounds):
-    """0 for yes, 11 for no, 7 or 8; 6 is a no"""
-    for c in cs:
-        try:
-            d = model.repc(c, bs)
-        except model.Refuse as e:
-            return 11 if e.no == 6 else e.no
-        if model.crecs(d) > 2048 or any(model.nest(t) > 64 for t in model.ctypes(d)):
-            return 8
-        if not true(d, bounds):
-            return 11
-    return 0
-
-
 def answer(steps, names):
     """the refusal past the checks at entry, or the type of the last step"""
     cs, st = [], []
@@ -78,9 +45,8 @@ def answer(steps, names):
     said = model.parse(model.solve(cs))
     if said[0] != 'accepted':
         return {'unsolved': 5, 'nondim': 6}.get(said[0]) or int(said[0][-1])
-    bs = [(('v', b[1]), model.rd(b[2])) for b in said[2:] if b[0] == 'bind']
-    no = judged(cs, bs, [b[1] for b in said[2:] if b[0] == 'bound'])
-    return no or model.rep(var(names[len(steps) - 1]), bs)
+    bs, bounds = model.found(said)
+    return model.judged(cs, bs, bounds) or model.rep(var(names[len(steps) - 1]), bs)
 
 
 class Line:

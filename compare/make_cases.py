@@ -13,7 +13,7 @@ THIN = {'one word is wrong': 24, 'kinds': 12, 'cut off': 12, 'exponents': 4, 'no
         'replaced in a type': 2, 'a type': 3, 'comparing': 3, 'pool and table lent': 3, 'quantifying': 3, 'instantiating': 2, 'the work buffer': 3, 'nesting of what is given': 3,
         'added to a long set': 11, 'asking for a name': 3, 'entering': 2, 'a table': 3, 'length of a list': 4, 'records': 2, 'records, then 6': 2, 'judged': 23, 'bounds of the judge': 6, 'places': 5, 'a list of types': 3, 'many entries': 2, 'nesting in the judge': 3, 'records in the judge': 2, 'long lists of the judge': 3, 'what the judge is lent': 4,
         'the ceiling': 8, 'the ceiling of what is no set': 3, 'what the ceiling is lent': 2, 'several sets over no table': 3, 'work for several sets': 2, 'several sets': 6,
-        'lengths': 5, 'a false length': 24, 'room for answers': 3, 'room for several sets': 3, 'a name is both, for the judge': 2, 'the first failure, 7 or 8': 2, 'one of several is no set': 3, 'a dimension and another kind': 5, 'meaning the same': 5, 'instantiating beside parameters': 4, 'records of new constraints': 5}
+        'lengths': 5, 'a false length': 24, 'room for answers': 3, 'room for several sets': 3, 'a name is both, for the judge': 2, 'the first failure, 7 or 8': 2, 'one of several is no set': 3, 'a dimension and another kind': 5, 'meaning the same': 5, 'instantiating beside parameters': 4, 'records of new constraints': 5, 'what confirming is lent': 3}
 RANDOM = (('small', 500), ('rich', 260), ('structs', 260), ('wide', 240), ('shared', 60), ('limits', 6), ('damaged', 80))
 # a long case is left out: the list is for reading, too
 LONG = 900

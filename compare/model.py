@@ -266,6 +266,47 @@ def solve(cs, limit=5000):
     if rem: return ' '.join(['unsolved %d' % rounds] + list(map(wc, rem)))
     names = sorted({c[1][1] for c in cs})
     return ' '.join(['accepted %d' % rounds] + ['(bind %s %s)' % (nm(x), w(t)) for x, t in bs] + ['(bound %s)' % n for n in names])
+# ---------- the judge
+def meant(t):
+    """a type as the judge compares it: one variable to the power 1 is the variable, and a struct is its name and arguments"""
+    h = t[0]
+    if h == 'dim':
+        o = onevar(t)
+        return ('var', o[1]) if o else t
+    if h == 'fn':
+        return ('fn', tuple(map(meant, t[1])), meant(t[2]))
+    if h == 'list':
+        return ('list', meant(t[1]))
+    return ('struct', t[1], tuple(map(meant, t[2]))) if h == 'struct' else t
+def true(c, bounds):
+    if c[0] == 'eq':
+        return meant(c[1]) == meant(c[2])
+    if c[0] == 'scalar':
+        return not c[1]
+    if c[0] == 'hasfield':
+        return c[1][0] == 'struct' and any(n == c[2] and meant(t) == meant(c[3]) for n, t in c[1][3])
+    return c[1][0] in ('dim', 'var', 'par') and all(n in bounds for _, n in raw(c[1], True))
+def judged(cs, bs, bounds):
+    """0 for yes, 11 for no, 7 or 8; 6 is a no"""
+    for c in cs:
+        try:
+            d = repc(c, bs)
+        except Refuse as e:
+            return 11 if e.no == 6 else e.no
+        if crecs(d) > 2048 or any(nest(t) > 64 for t in ctypes(d)):
+            return 8
+        if not true(d, bounds):
+            return 11
+    return 0
+def found(said):
+    """bindings and bounds of an accepted answer"""
+    return [(('v', b[1]), rd(b[2])) for b in said[2:] if b[0] == 'bind'], [b[1] for b in said[2:] if b[0] == 'bound']
+def confirm(cs):
+    """what solving answers, where the judge says yes to it: 11 for its no, or what it refuses, after the rounds of solving"""
+    a = solve(cs)
+    said = parse(a)
+    no = said[0] == 'accepted' and judged(cs, *found(said))
+    return 'refused%d %s' % (no, said[1]) if no else a
 # ---------- schemes
 def wb(bs): return '(bounds%s)' % ''.join(' ' + nm(b) for b in bs)
 def quantify(t, bs, names):
@@ -296,6 +337,7 @@ def answer(line):
     c, a = a[0], a[1:]
     try:
         if c == 'solve': return solve([rc(x) for x in a])
+        if c == 'confirm': return confirm([rc(x) for x in a])
         if c == 'addsolve': return solve([x for x in map(rc, a) if add(x) != 'satisfied'])
         if c == 'add': return add(rc(a[0]))
         if c == 'satisfy':

@@ -6,13 +6,13 @@ import model
 CALLS = {'check_table': 1, 'name_of': 2, 'enter': 3, 'compare': 4, 'exp add': 5, 'exp mul': 6, 'exp neg': 7, 'exp div': 8,
          'prod mul': 9, 'prod div': 10, 'prod inv': 11, 'prod pow': 12, 'is_set': 13, 'is_type': 14, 'is_scheme': 15, 'is_bindings': 16,
          'contains': 17, 'closed': 18, 'vars': 19, 'add': 20, 'replace': 21, 'replaceset': 22, 'solve': 23, 'lent': 24,
-         'quantify': 25, 'generalize': 26, 'instantiate': 27, 'judge': 28, 'ceiling': 29, 'batch': 30, 'line': 31}
+         'quantify': 25, 'generalize': 26, 'instantiate': 27, 'judge': 28, 'ceiling': 29, 'batch': 30, 'line': 31, 'confirm': 32}
 RESULT_WAS, WORK_WAS = 0xaaaaaaaa, 0x55555555
 
 # ---- word 0 of a record: the only place that knows its form
 
 # which lists of a call are records
-RECORDS = {**{n: (0,) for n in (13, 14, 15, 16, 17, 18, 19, 23, 27, 29, 30)}, **{n: (0, 1) for n in (20, 21, 22, 25, 26)}, 28: (0, 2, 3), 31: (1,)}
+RECORDS = {**{n: (0,) for n in (13, 14, 15, 16, 17, 18, 19, 23, 27, 29, 30, 32)}, **{n: (0, 1) for n in (20, 21, 22, 25, 26)}, 28: (0, 2, 3), 31: (1,)}
 
 
 def head(kind, n):
@@ -171,7 +171,7 @@ def of(line, order=(), **more):
         c, p = 'prod ' + a[0], w.factors(model.rd(a[1])[1])
         q = [int(n) & 0xffffffff for n in a[2:]] if a[0] == 'pow' else w.factors(model.rd(a[2])[1]) if len(a) > 2 else []
         lists, x, y = [p, q], len(p) // 4, 0 if a[0] == 'pow' else len(q) // 4
-    elif c in ('solve', 'is_set', 'ceiling'):
+    elif c in ('solve', 'confirm', 'is_set', 'ceiling'):
         lists = [w.set(a)]
     elif c == 'judge':    # the set, bindings, bounds
         lists = [w.set(a[0][1:]), [], [], []]

@@ -9,7 +9,7 @@
  *   What is returned. The number of the refusal (enum shupkelen_refusal), 0 where there is none; only shupkelen_compare returns its answer.
  *
  *   answer. SHUPKELEN_ANSWER_WORDS words: value, more, rounds. Each call below says what value and more mean; rounds is 0 but for
- *   shupkelen_solve and shupkelen_read_text. On a refusal all three are written too: 0, but for the rounds that were completed, for 5 of a set, where
+ *   shupkelen_confirm, shupkelen_solve and shupkelen_read_text. On a refusal all three are written too: 0, but for the rounds that were completed, for 5 of a set, where
  *   value counts the records that remain, and for shupkelen_read_text, which says where. Of a shorter slice only the words that it has are written.
  *
  *   pool, table. A name table: SHUPKELEN_POOL_BYTES bytes or more, SHUPKELEN_TABLE_WORDS words or more. An empty one is all zero. Word 0 of the
@@ -41,15 +41,15 @@ enum shupkelen_refusal {
     SHUPKELEN_ACCEPTED = 0,
     SHUPKELEN_MALFORMED = 1,      /* a table, list, product or exponent that is not well formed */
     SHUPKELEN_NAME_LENGTH = 2,    /* a name of no byte, or of over 48 */
-    SHUPKELEN_NO_ROOM = 3,        /* no room for a name; also a number that no name has */
+    SHUPKELEN_NO_ROOM = 3,        /* no room for a name; also a number that no name has, where it is asked for or lent (contains, quantify and instantiate say 1) */
     SHUPKELEN_MIXED = 4,          /* one name is both a variable and a parameter; a name lent for a line is given twice or used in it */
     SHUPKELEN_UNSOLVED = 5,       /* no rule applies and constraints remain */
     SHUPKELEN_NOT_DIMENSION = 6,  /* a type that is no dimension would enter a product */
     SHUPKELEN_OUT_OF_RANGE = 7,   /* an exponent out of range */
     SHUPKELEN_TOO_LARGE = 8,      /* over 2,048 records, names or entries, 64 nestings, 64 factors, 64 sets or 128 steps; a set that the second engine doesn't take */
-    SHUPKELEN_WRONG_COUNT = 9,    /* as many names as the scheme has must be handed */
+    SHUPKELEN_WRONG_COUNT = 9,    /* as many names as the scheme has must be handed, and a concrete type is no scheme to instantiate */
     SHUPKELEN_SHORT_BUFFER = 10,  /* a lent buffer is too short */
-    SHUPKELEN_NOT_CONFIRMED = 11, /* the judge does not confirm a line */
+    SHUPKELEN_NOT_CONFIRMED = 11, /* the judge does not confirm a line, or what solving a set found */
     SHUPKELEN_NOT_GRAMMAR = 12    /* a line outside the grammar */
 };
 
@@ -179,13 +179,18 @@ uint32_t shupkelen_add(const uint8_t *pool, size_t pool_len, const uint32_t *tab
 uint32_t shupkelen_replace_in_type(const uint8_t *pool, size_t pool_len, const uint32_t *table, size_t table_len, const uint32_t *words, size_t words_len, const uint32_t *bindings, size_t bindings_len, uint32_t *result, size_t result_len, uint32_t *work, size_t work_len, uint32_t *answer, size_t answer_len);
 uint32_t shupkelen_replace_in_set(const uint8_t *pool, size_t pool_len, const uint32_t *table, size_t table_len, const uint32_t *set, size_t set_len, const uint32_t *bindings, size_t bindings_len, uint32_t *result, size_t result_len, uint32_t *work, size_t work_len, uint32_t *answer, size_t answer_len);
 
+/* Solves a set, and answers only what the judge confirms: what is answered makes every constraint of the set true. Use this call where somebody relies on an answer. All as
+ * shupkelen_solve, but of what that accepts: 11 where the judge says no, 7 or 8 where it meets them, with result unchanged and the rounds of solving. */
+uint32_t shupkelen_confirm(const uint8_t *pool, size_t pool_len, const uint32_t *table, size_t table_len, const uint32_t *set, size_t set_len, uint32_t *result, size_t result_len, uint32_t *work, size_t work_len, uint32_t *answer, size_t answer_len);
+
 /* Solves a set. result: the records of the bindings, then of the bounds. value: records of the bindings; more: bounds, a record each; rounds: completed rounds. On 5 result
- * begins with the constraints that remain, and value counts their records. 10, 8, 1, 4, then 5, 6, 7, 8. */
+ * begins with the constraints that remain, and value counts their records. 10, 8, 1, 4, then 5, 6, 7, 8. What is answered makes every constraint true where no variable that stands
+ * in a dimension product of the set is bound to anything but a dimension or a variable; elsewhere it may not (x y = x z, with x boolean, is answered). */
 uint32_t shupkelen_solve(const uint8_t *pool, size_t pool_len, const uint32_t *table, size_t table_len, const uint32_t *set, size_t set_len, uint32_t *result, size_t result_len, uint32_t *work, size_t work_len, uint32_t *answer, size_t answer_len);
 
 /* Solves up to SHUPKELEN_SETS sets that stand back to back in sets; lengths: their records. With n sets, result has n x SHUPKELEN_LIST_WORDS words or more and
  * answers n x 4. Of each set four words go into answers: refusal, completed rounds, records of bindings (on 5: of what remains), bounds; result has their records back to
- * back. value: these records together. 10, 8, 1; a refused set does not stop those after it. */
+ * back. value: these records together. 10, 8, 1; a refused set does not stop those after it. Each answer is worth what that of shupkelen_solve is. */
 uint32_t shupkelen_solve_all(const uint8_t *pool, size_t pool_len, const uint32_t *table, size_t table_len, const uint32_t *sets, size_t sets_len, const uint32_t *lengths, size_t lengths_len, uint32_t *result, size_t result_len, uint32_t *answers, size_t answers_len, uint32_t *work, size_t work_len, uint32_t *answer, size_t answer_len);
 
 /* The second engine, for sets of equal-scalar constraints alone: up to 24 of them, over up to 24 variables and up to 24 parameters and base dimensions.
@@ -193,8 +198,7 @@ uint32_t shupkelen_solve_all(const uint8_t *pool, size_t pool_len, const uint32_
 uint32_t shupkelen_eliminate(const uint8_t *pool, size_t pool_len, const uint32_t *table, size_t table_len, const uint32_t *set, size_t set_len, uint32_t *result, size_t result_len, uint32_t *work, size_t work_len, uint32_t *answer, size_t answer_len);
 
 /* Is this a solution of the set, whoever proposed it? entries: pairs of words, a variable's number and the place, in records, of its type in types; an odd last word is
- * not looked at. bounds: records of bounds. value: 1 yes, 0 no. 10, 8, 1, 4, then 7, 8. Over 2,048 pairs are refused (8, where it is not 10), but only after time that
- * grows with the square of their number. */
+ * not looked at. bounds: records of bounds. value: 1 yes, 0 no; 0 is returned for a no, too: look at the value. 10, 8, 1, 4, then 7, 8. Over 2,048 pairs are 8. */
 uint32_t shupkelen_judge(const uint8_t *pool, size_t pool_len, const uint32_t *table, size_t table_len, const uint32_t *set, size_t set_len, const uint32_t *entries, size_t entries_len, const uint32_t *types, size_t types_len, const uint32_t *bounds, size_t bounds_len, uint32_t *work, size_t work_len, uint32_t *answer, size_t answer_len);
 
 /* Checks a whole calculation line. steps: its steps, four words each, in postfix order: the step's number (1 constant, 2 reference, 3 add, 4 subtract, 5 multiply,

@@ -1,4 +1,4 @@
-/* K2 of the rules: the set of the one constraint x = boolean. Prints what the solver gives. */
+/* K2 of the rules: the set of the one constraint x = boolean. Prints what the solver gives and the judge confirms. */
 #include <stdio.h>
 #include <string.h>
 
@@ -19,7 +19,7 @@ int main(void) {
     uint32_t x = answer[0];
     /* word 0: the kind plus 65,536 times the records of the part: equal 20, variable 1, boolean 4 */
     const uint32_t set[] = {20 + 65536 * 3, 0, 0, 0, 1 + 65536 * 1, x, 0, 0, 4 + 65536 * 1, 0, 0, 0};
-    refusal = shupkelen_solve(pool, SHUPKELEN_POOL_BYTES, table, SHUPKELEN_TABLE_WORDS, set, sizeof set / sizeof set[0], result, SHUPKELEN_LIST_WORDS, work, SHUPKELEN_WORK_WORDS, answer, SHUPKELEN_ANSWER_WORDS);
+    refusal = shupkelen_confirm(pool, SHUPKELEN_POOL_BYTES, table, SHUPKELEN_TABLE_WORDS, set, sizeof set / sizeof set[0], result, SHUPKELEN_LIST_WORDS, work, SHUPKELEN_WORK_WORDS, answer, SHUPKELEN_ANSWER_WORDS);
     printf("refusal %u, records of bindings %u, bounds %u, rounds %u\n", (unsigned)refusal, (unsigned)answer[0], (unsigned)answer[1], (unsigned)answer[2]);
     for (uint32_t i = 0; i < answer[0]; i++) {
         const uint32_t *r = result + i * 4;

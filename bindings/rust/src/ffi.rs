@@ -88,6 +88,10 @@ extern "C" {
         pool: *const u8, pool_len: usize, table: *const u32, table_len: usize, set: *const u32, set_len: usize, bindings: *const u32,
         bindings_len: usize, result: *mut u32, result_len: usize, work: *mut u32, work_len: usize, answer: *mut u32, answer_len: usize,
     ) -> u32;
+    pub fn shupkelen_confirm(
+        pool: *const u8, pool_len: usize, table: *const u32, table_len: usize, set: *const u32, set_len: usize, result: *mut u32, result_len: usize,
+        work: *mut u32, work_len: usize, answer: *mut u32, answer_len: usize,
+    ) -> u32;
     pub fn shupkelen_solve(
         pool: *const u8, pool_len: usize, table: *const u32, table_len: usize, set: *const u32, set_len: usize, result: *mut u32, result_len: usize,
         work: *mut u32, work_len: usize, answer: *mut u32, answer_len: usize,

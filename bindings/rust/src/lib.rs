@@ -12,7 +12,7 @@
 //! // the constraint 'x = boolean'
 //! let set = [record(kind::EQUAL, 3, 0, 0, 0), record(kind::VARIABLE, 1, x, 0, 0), record(kind::BOOLEAN, 1, 0, 0, 0)].concat();
 //! let mut solver = Solver::new();
-//! let solution = solver.solve(&names, &set)?;
+//! let solution = solver.confirm(&names, &set)?;
 //! assert_eq!(solution.rounds, 1);
 //! assert_eq!(solution.bindings, [record(kind::BINDING, 2, x, 0, 0), record(kind::BOOLEAN, 1, 0, 0, 0)].concat());
 //! assert!(solution.bounds.is_empty());
@@ -152,7 +152,7 @@ impl fmt::Display for Refusal {
             Refusal::TooLarge => "over a limit of size: records, nestings, factors, sets, steps, or what the second engine takes",
             Refusal::WrongCount => "the scheme has another count of names",
             Refusal::ShortBuffer => "a lent buffer is too short",
-            Refusal::NotConfirmed => "the judge does not confirm the line",
+            Refusal::NotConfirmed => "the judge does not confirm the line, or what solving the set found",
             Refusal::NotGrammar => "a line outside the grammar",
         };
         write!(f, "{why} ({})", self.number())
@@ -321,6 +321,34 @@ pub struct Solution<'a> {
     pub rounds: u32,
 }
 
+impl Solution<'_> {
+    /// The bindings as [`Solver::judge`] takes them, with `bindings` as the list of types: for each its variable's number, and the place of its type,
+    /// behind the record that begins the binding.
+    ///
+    /// ```
+    /// use shupkelen::{kind, record, NameTable, Solver};
+    /// let mut names = NameTable::new();
+    /// let x = names.enter(b"x").unwrap().number;
+    /// let set = [record(kind::EQUAL, 3, 0, 0, 0), record(kind::VARIABLE, 1, x, 0, 0), record(kind::BOOLEAN, 1, 0, 0, 0)].concat();
+    /// let mut solver = Solver::new();
+    /// let solution = solver.solve(&names, &set).unwrap();
+    /// let entries = solution.entries();
+    /// assert_eq!(entries, [(x, 1)]);
+    /// let (bindings, bounds) = (solution.bindings.to_vec(), solution.bounds.to_vec());
+    /// assert_eq!(solver.judge(&names, &set, &entries, &bindings, &bounds), Ok(true));
+    /// ```
+    pub fn entries(&self) -> Vec<(u32, u32)> {
+        let mut entries = Vec::new();
+        let mut place = 0;
+        // Word 0 of a binding's record says how many records the binding has, itself counted: at least two.
+        while let Some(&[head, variable, ..]) = self.bindings.get(place * 4..) {
+            entries.push((variable, place as u32 + 1));
+            place += (head / 65_536) as usize;
+        }
+        entries
+    }
+}
+
 /// Why solving gave no solution, after how many rounds, and, where it is [`Refusal::Unsolved`], the constraints that remain.
 #[derive(Clone, Debug, PartialEq, Eq)]
 pub struct Stopped {
@@ -418,9 +446,32 @@ impl Solver {
         Solver { result: vec![0; LIST_WORDS], work: vec![0; WORK_WORDS] }
     }
 
-    /// Solves a set.
+    /// Solves a set, and answers only what the judge confirms: with the bindings put in, every constraint of the set is true. The call to use where somebody
+    /// relies on an answer. It refuses as [`Solver::solve`] does and, of what that accepts, with [`Refusal::NotConfirmed`] for the judge's no.
+    ///
+    /// ```
+    /// use shupkelen::{NameTable, Refusal, Solver};
+    /// let (mut names, mut solver) = (NameTable::new(), Solver::new());
+    /// // K10: solving accepts it with x boolean, though a boolean has no place in a product
+    /// let set = solver.read_text(&mut names, b"[?x * ?y] ~ [?x * ?z]\n?x ~ Bool\n").unwrap().records.to_vec();
+    /// assert!(solver.solve(&names, &set).is_ok());
+    /// let stopped = solver.confirm(&names, &set).unwrap_err();
+    /// assert_eq!((stopped.refusal, stopped.rounds), (Refusal::NotConfirmed, 3));
+    /// assert!(stopped.remaining.is_empty());
+    /// ```
+    pub fn confirm(&mut self, names: &NameTable, set: &[u32]) -> Result<Solution<'_>, Stopped> {
+        let t = raw::confirm(&names.pool, &names.table, set, &mut self.result, &mut self.work);
+        self.solution(t)
+    }
+
+    /// Solves a set. With the bindings put in every constraint is true where no variable that stands in a dimension product of the set is bound to
+    /// anything but a dimension or a variable; elsewhere a constraint may be false. [`Solver::confirm`] answers only what is true.
     pub fn solve(&mut self, names: &NameTable, set: &[u32]) -> Result<Solution<'_>, Stopped> {
         let t = raw::solve(&names.pool, &names.table, set, &mut self.result, &mut self.work);
+        self.solution(t)
+    }
+
+    fn solution(&self, t: raw::Told) -> Result<Solution<'_>, Stopped> {
         let first = t.value as usize * 4;
         if let Err(refusal) = good(t.refusal) {
             return Err(Stopped { refusal, rounds: t.rounds, remaining: self.result[..first].to_vec() });
@@ -439,7 +490,8 @@ impl Solver {
         }
     }
 
-    /// Is this a solution of the set? Each entry is a variable's number and the place, in records, of its type in `types`.
+    /// Is this a solution of the set, whoever proposed it? Each entry is a variable's number and the place, in records, of its type in `types`;
+    /// [`Solution::entries`] makes those of an answer.
     pub fn judge(&mut self, names: &NameTable, set: &[u32], entries: &[(u32, u32)], types: &[u32], bounds: &[u32]) -> Result<bool, Refusal> {
         let pairs: Vec<u32> = entries.iter().flat_map(|&(v, p)| [v, p]).collect();
         said(raw::judge(&names.pool, &names.table, set, &pairs, types, bounds, &mut self.work)).map(|t| t.value == 1)
@@ -582,7 +634,8 @@ pub struct Answered {
     pub bounds: Vec<u32>,
 }
 
-/// Solves up to 64 sets over one table (W-201); each is answered as by itself.
+/// Solves up to 64 sets over one table (W-201); each is answered as by itself, and each answer is worth what that of [`Solver::solve`] is: where somebody
+/// relies on one, ask [`Solver::confirm`] of its set.
 pub fn solve_all(names: &NameTable, sets: &[&[u32]]) -> Result<Vec<Answered>, Refusal> {
     let lengths: Vec<u32> = sets.iter().map(|s| (s.len() / 4) as u32).collect();
     let mut result = vec![0; LIST_WORDS * sets.len()];

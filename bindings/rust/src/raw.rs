@@ -136,6 +136,10 @@ pub fn replace_in_set(pool: &[u8], table: &[u32], set: &[u32], bindings: &[u32],
     ask!(shupkelen_replace_in_set, &pool, &table, &set, &bindings, mut result, mut work)
 }
 
+pub fn confirm(pool: &[u8], table: &[u32], set: &[u32], result: &mut [u32], work: &mut [u32]) -> Told {
+    ask!(shupkelen_confirm, &pool, &table, &set, mut result, mut work)
+}
+
 pub fn solve(pool: &[u8], table: &[u32], set: &[u32], result: &mut [u32], work: &mut [u32]) -> Told {
     ask!(shupkelen_solve, &pool, &table, &set, mut result, mut work)
 }

@@ -44,7 +44,7 @@ fn shorten(r: &mut Random, l: &mut Lent) {
 }
 
 fn writes_records(call: u32) -> bool {
-    matches!(call, 21 | 22 | 23 | 25 | 26 | 27 | 31)
+    matches!(call, 21 | 22 | 23 | 25 | 26 | 27 | 31 | 32)
 }
 
 fn try_one(r: &mut Random, stored: &Case) -> u32 {
@@ -70,7 +70,7 @@ fn again(c: &Case, l: &Lent, words: usize) {
     let refusal = match c.call {
         21 | 31 => raw::is_type(&l.pool, &l.table, front),
         22 => raw::is_set(&l.pool, &l.table, front),
-        23 => raw::is_bindings(&l.pool, &l.table, front),
+        23 | 32 => raw::is_bindings(&l.pool, &l.table, front),
         _ => raw::is_scheme(&l.pool, &l.table, front),
     };
     assert_eq!(refusal, 0, "{}", c.comment);

@@ -1,11 +1,11 @@
 //! The stored cases of all calls, K1 to K14 first: the archive must answer them, and leave every buffer, as stored.
 mod common;
 use common::{ask, lend, stored, Case, RESULT_BEFORE, WORK_BEFORE};
-use shupkelen::{NameTable, Solver};
+use shupkelen::{NameTable, Refusal, Solver};
 
 /// What the work buffer's words are after a call: zero where the call has one, except after a 10.
 fn work_after(call: u32, refusal: u32) -> u32 {
-    let has_one = matches!(call, 21 | 22 | 23 | 25 | 26 | 27 | 28 | 30 | 31);
+    let has_one = matches!(call, 21 | 22 | 23 | 25 | 26 | 27 | 28 | 30 | 31 | 32);
     if has_one && refusal != 10 {
         0
     } else {
@@ -27,7 +27,7 @@ fn holds(c: &Case) {
 #[test]
 fn all_as_stored() {
     let cases = stored();
-    assert_eq!(cases.len(), 2377);
+    assert_eq!(cases.len(), 2411);
     cases.iter().for_each(holds);
 }
 
@@ -60,7 +60,7 @@ fn k1_to_k14() {
     }
 }
 
-/// K2's binding is confirmed by the judge, and K10's is not.
+/// K2's binding is confirmed by the judge, and K10's is not: by the two calls, and by the one.
 #[test]
 fn the_judge_on_k2_and_k10() {
     let cases = stored();
@@ -72,19 +72,11 @@ fn the_judge_on_k2_and_k10() {
             names.enter(n.as_bytes()).unwrap();
         }
         let solved = solver.solve(&names, &c.lists[0]).unwrap();
-        let (bindings, bounds) = (solved.bindings.to_vec(), solved.bounds.to_vec());
-        let entries = places(&bindings);
+        let (entries, bindings, bounds) = (solved.entries(), solved.bindings.to_vec(), solved.bounds.to_vec());
         assert_eq!(solver.judge(&names, &c.lists[0], &entries, &bindings, &bounds), Ok(yes), "K{k}");
+        match solver.confirm(&names, &c.lists[0]) {
+            Ok(s) => assert_eq!((yes, s.bindings, s.bounds), (true, &bindings[..], &bounds[..]), "K{k}"),
+            Err(s) => assert_eq!((yes, s.refusal, s.rounds), (false, Refusal::NotConfirmed, c.rounds), "K{k}"),
+        }
     }
-}
-
-/// Each binding as an entry: its variable, and the place of its type behind the binding's own record.
-fn places(bindings: &[u32]) -> Vec<(u32, u32)> {
-    let mut out = Vec::new();
-    let mut at = 0;
-    while at < bindings.len() / 4 {
-        out.push((bindings[at * 4 + 1], at as u32 + 1));
-        at += (bindings[at * 4] / 65_536) as usize;
-    }
-    out
 }

@@ -14,14 +14,14 @@ use crate::typed_ast::{DType, DTypeFactor, StructInfo, StructKind, Type};
 use crate::wire::Request;
 use std::sync::Arc;
 
-pub struct Gen { pub r: Random, v: Vec<String>, p: Vec<String>, b: Vec<String>, f: Vec<String>, structs: bool, wide: bool, rich: bool, kind: String, pub calls: u32 }
+pub struct Gen { pub r: Random, v: Vec<String>, p: Vec<String>, b: Vec<String>, f: Vec<String>, structs: bool, wide: bool, rich: bool, kind: String, pub calls: u64 }
 fn list(s: &[&str]) -> Vec<String> { s.iter().map(|s| s.to_string()).collect() }
 fn span() -> Span { Span { start: ByteIndex(0), end: ByteIndex(0), code_source_id: 0 } }
 const PLAIN: [(i128, i128); 17] = [(1, 1), (1, 1), (1, 1), (1, 1), (1, 1), (1, 1), (-1, 1), (-1, 1), (-1, 1), (2, 1), (2, 1), (-2, 1), (1, 2), (-1, 2), (-3, 2), (3, 1), (2, 3)];
 const FAR: [(i128, i128); 10] = [(2147483647, 1), (-2147483647, 1), (1, 2147483647), (-1, 2147483647), (46341, 1), (1, 46341), (65536, 65537), (1073741824, 1), (2147483646, 2147483647), (46340, 46341)];
 
 impl Gen {
-    pub fn new(kind: &str, seed: u64, calls: u32) -> Self {
+    pub fn new(kind: &str, seed: u64, calls: u64) -> Self {
         let mut g = Gen { r: Random::new(seed ^ kind.bytes().fold(7u64, |a, b| a.wrapping_mul(31).wrapping_add(b as u64))), v: list(&["x", "y", "z"]), p: list(&["a", "b"]), b: list(&["L", "M"]), f: list(&["f", "g"]),
             structs: false, wide: false, rich: false, kind: kind.to_string(), calls };
         g.setting(kind);
@@ -224,7 +224,7 @@ impl Gen {
                 q.result.1 = q.x + 8192 * n as u32 + *self.r.pick(&[0, 0, 0, 0, 1, 500]);
                 if self.r.chance(3) { q.result.1 -= 1.min(q.result.1) }
             }
-            13 | 23 | 29 => { let cs = if limits { self.large() } else { self.cons() }; for c in &cs { records::write_con(c, &mut nm, &mut l[0]) } }
+            13 | 23 | 29 | 32 => { let cs = if limits { self.large() } else { self.cons() }; for c in &cs { records::write_con(c, &mut nm, &mut l[0]) } }
             14 | 17 | 18 | 19 => {
                 let t = if limits { let t = self.ty(2, 0); let n = 55 + self.r.below(12); self.nest(n, t) } else { self.ty(2, 0) };
                 records::write(&t, &mut nm, &mut l[0]);
@@ -310,6 +310,7 @@ impl Gen {
         if self.calls >> 28 & 1 == 1 && self.r.chance(10) { return 28; }
         if self.calls >> 29 & 1 == 1 && self.r.chance(2) { return 29; }
         if self.calls >> 30 & 1 == 1 && self.r.chance(2) { return 30; }
+        if self.calls >> 32 & 1 == 1 && self.r.chance(10) { return 32; }
         loop {
             let c = *self.r.pick(&Self::CALLS);
             if self.calls >> c & 1 == 1 { return c; }
@@ -325,7 +326,7 @@ impl Gen {
     }
     /// which lists of a call are records
     pub fn record_lists(call: u32) -> &'static [usize] {
-        match call { 13..=19 | 23 | 27 | 29 | 30 => &[0], 20 | 21 | 22 | 25 | 26 => &[0, 1], 28 => &[0, 2, 3], _ => &[] }
+        match call { 13..=19 | 23 | 27 | 29 | 30 | 32 => &[0], 20 | 21 | 22 | 25 | 26 => &[0, 1], 28 => &[0, 2, 3], _ => &[] }
     }
     fn change_length(&mut self, l: &mut [u32]) {
         let i = self.r.below(l.len() / 4) * 4;

@@ -80,7 +80,7 @@ pub fn set_alone(q: &Request, r: &Reply) -> bool {
 /// the whole answer, with the flags for the buffers
 pub fn expect(q: &Request) -> Expected { flagged(q, plain(q)) }
 fn flagged(q: &Request, mut e: Expected) -> Expected {
-    let uses_work = matches!(q.call, 21 | 22 | 23 | 25 | 26 | 27 | 28 | 30);
+    let uses_work = matches!(q.call, 21 | 22 | 23 | 25 | 26 | 27 | 28 | 30 | 32);
     let ten = e.reply.refusal == 10;
     let zero = uses_work && !ten;
     let empty = q.work.1 == 0;
@@ -113,15 +113,15 @@ fn plain(q: &Request) -> Expected {
         _ => {}
     }
     // 10
-    let uses_result = matches!(q.call, 19 | 20 | 21 | 22 | 23 | 25 | 26 | 27);
-    let uses_work = matches!(q.call, 21 | 22 | 23 | 25 | 26 | 27 | 28);
+    let uses_result = matches!(q.call, 19 | 20 | 21 | 22 | 23 | 25 | 26 | 27 | 32);
+    let uses_work = matches!(q.call, 21 | 22 | 23 | 25 | 26 | 27 | 28 | 32);
     let set_words = if q.call == 20 { a.clone() } else { vec![] };
     let no = |n: u32| { let mut r = refuse(n); r.words = set_words.clone(); if (9..=12).contains(&q.call) { r.words = blank(&[]) } paper(r) };
     let names = match names_of(q) { Err(n) => return no(n), Ok(v) => v };
     if uses_result && q.result.1 < 8192 || uses_work && q.work.1 < 16384 { return no(10); }
     // 8
     let long = match q.call {
-        13..=19 | 23 | 29 => a.len() > 8192,
+        13..=19 | 23 | 29 | 32 => a.len() > 8192,
         20 => q.x > 2048 || b.len() > 8192,
         21 | 22 | 26 => a.len() > 8192 || b.len() > 8192,
         28 => a.len() > 8192 || b.len() / 2 > 2048 || c.len() > 8192 || d.len() > 8192,
@@ -270,11 +270,13 @@ fn listed(q: &Request, nm: &Names) -> Option<Expected> {
                 Ok(Ok(())) => { let w = records::words(|o| for c in access::constraints_of(&s) { records::write_con(c, &mut out, o) }); numbat(say(w.len() as u32 / 4, 0, w), text) }
             }
         }
-        23 => {
+        23 | 32 => {
             let cs = records::set(a, nm)?;
-            let text = format!("solve{}", cs.iter().map(|c| format!(" {}", text::con(c))).collect::<String>());
+            let call = if q.call == 23 { "solve" } else { "confirm" };
+            let text = format!("{call}{}", cs.iter().map(|c| format!(" {}", text::con(c))).collect::<String>());
             if mixed(|o| for c in &cs { o.con(c) }) { return Some(rule(11, refuse(4), text)); }
-            solve(access::set_of(cs), &mut out, text)
+            let e = solve(access::set_of(cs.clone()), &mut out, text);
+            if q.call == 23 { e } else { confirmed(&cs, e, &out) }
         }
         28 => {
             let cs = records::set(a, nm)?;
@@ -462,6 +464,18 @@ fn judged(cs: &[Constraint], bs: &Substitution, bounds: &[String]) -> Reply {
         if !holds(&d, bounds) { return say(0, 0, vec![]); }
     }
     say(1, 0, vec![])
+}
+/// what numbat accepts goes to the judge: 11 for its no, or what it refuses, after as many rounds, and nothing is written
+fn confirmed(cs: &[Constraint], e: Expected, nm: &Names) -> Expected {
+    let r = &e.reply;
+    if r.refusal != 0 || e.stopped.is_some() { return e; }
+    let (bindings, bounds) = r.words.split_at(r.value as usize * 4);
+    let bs = records::bindings(bindings, nm).expect("numbat's bindings are well formed");
+    let bounds: Vec<String> = records::bounds(bounds, nm).expect("and its bounds").iter().map(text::var).collect();
+    let j = judged(cs, &Substitution(bs), &bounds);
+    let refusal = match (j.refusal, j.value) { (0, 1) => return e, (0, _) => 11, (n, _) => n };
+    let reply = Reply { refusal, rounds: r.rounds, ..Default::default() };
+    Expected { reply, from: From::Paper, ..e }
 }
 /// a single variable to the power 1 as the variable, and no fields
 fn read_plainly(t: &Type) -> Type {

@@ -74,7 +74,7 @@ pub fn main(args: &[String]) -> i32 {
     let a: Vec<&str> = args.iter().map(|s| s.as_str()).collect();
     match a[..] {
         ["compare", serve, kind, seed, count, calls] => {
-            let (seed, count, calls): (u64, u64, u32) = (seed.parse().unwrap(), count.parse().unwrap(), calls.parse().unwrap());
+            let (seed, count, calls): (u64, u64, u64) = (seed.parse().unwrap(), count.parse().unwrap(), calls.parse().unwrap());
             let mut g = Gen::new(kind, seed, calls);
             let (mut s, mut alone) = (Serve::start(serve), Serve::start(serve));
             let mut k = Counts::default();

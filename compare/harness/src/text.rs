@@ -61,7 +61,7 @@ fn all<T>(tag: String, v: &[T], f: impl Fn(&T) -> String) -> String { v.iter().f
 /// what a reply says, as text; None where its words can't be read
 pub fn answer(call: u32, r: &Reply, nm: &Names) -> Option<String> {
     let w = &r.words;
-    if call == 23 {
+    if matches!(call, 23 | 32) {
         if r.refusal == 5 { return Some(all(format!("unsolved {}", r.rounds), &records::set(w, nm)?, con)); }
         if r.refusal == 6 { return Some(format!("nondim {}", r.rounds)); }
         if r.refusal != 0 { return Some(format!("refused{} {}", r.refusal, r.rounds)); }

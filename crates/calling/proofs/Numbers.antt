@@ -7,11 +7,12 @@ use borrow.Author.Tests.{ne_eqb}
 use Rattle.std.specs.Prelude.{◌≢◌}
 use Rattle.std.proofs.Math.Decide.{dec_lt}
 use Rattle.rules.specs.Base.{Got}
-use Rattle.rules.specs.Calls.{Written}
+use Rattle.rules.specs.Calls.{Written, Solved, Solution}
+use Rattle.rules.specs.Confirming.{confirmCall}
 use Rattle.rules.specs.Lines.{checkLineCall}
-use Rattle.saying.specs.Saying.{writtenAs}
+use Rattle.saying.specs.Saying.{writtenAs, solvedAs}
 use Rattle.saying.specs.Dispatch.{Shown, Done, Named, Served, shown, done, named, served, byNumber, naming, entering, comparing, exponents, products}
-use Rattle.saying.specs.Dispatch.{sheets, listing, written, allCalls, dispatch}
+use Rattle.saying.specs.Dispatch.{sheets, listing, written, solution, allCalls, dispatch}
 use Rattle.saying.specs.declared.Asked.{Asked}
 use Rattle.saying.specs.declared.told.Told.{Told}
 
@@ -79,13 +80,19 @@ module _ (q : Asked) (pool table a b c d result work : List ℕ) where
   unfolding dispatch
   call-31 e {res = res} {work' = work'} f g = rw e (ap (λ (t : Told). served t pool table res work') f ∙ ap (λ (w : Written). does (written w)) g)
 
-  pub call-list : ((k : ℕ) → 2 ≤ k → k ≤ 12 → q.call ≢ k) → ((k : ℕ) → 28 ≤ k → k ≤ 31 → q.call ≢ k)
+  pub call-32 : q.call ≡ 32 → {t : Told} {x : Solved} {res work' : List ℕ} → t ≡ solvedAs x
+      → ◌≡◌ {A = Solution} (record { answer = x; result = res; work = work' }) (confirmCall pool table a result work)
+      → served t pool table res work' ≡ all
+  unfolding dispatch
+  call-32 e {res = res} {work' = work'} f g = rw e (ap (λ (t : Told). served t pool table res work') f ∙ ap (λ (s : Solution). does (solution s)) g)
+
+  pub call-list : ((k : ℕ) → 2 ≤ k → k ≤ 12 → q.call ≢ k) → ((k : ℕ) → 28 ≤ k → k ≤ 32 → q.call ≢ k)
       → {t : Told} {res work' : List ℕ} → done t res work' ≡ listing q pool table a b c result work
       → served t pool table res work' ≡ all
   unfolding dispatch
   call-list h g f =
       let one = λ (k : ℕ) (l : 2 ≤ k) (m : k ≤ 12). ne_eqb q.call k (h k l m) in
-      let other = λ (k : ℕ) (l : 28 ≤ k) (m : k ≤ 31). ne_eqb q.call k (g k l m) in
+      let other = λ (k : ℕ) (l : 28 ≤ k) (m : k ≤ 32). ne_eqb q.call k (g k l m) in
       simp (
         one 2 (omega arith) (omega arith),
         one 3 (omega arith) (omega arith),
@@ -102,5 +109,6 @@ module _ (q : Asked) (pool table a b c d result work : List ℕ) where
         other 29 (omega arith) (omega arith),
         other 30 (omega arith) (omega arith),
         other 31 (omega arith) (omega arith),
+        other 32 (omega arith) (omega arith),
       )
       (ap (λ (s : Done). does s) f)

@@ -9,14 +9,15 @@ ghost use Rattle.saying.specs.Dispatch.{served, dispatch};
 
 use calling_lists::listed;
 use calling_values::{exponent, product};
+use confirming::confirm;
 use line_calls::check_line;
 use named::{compared, entered, named};
-use saying::told::{Told, written};
+use saying::told::{Told, solution, written};
 use saying::{Asked, Lists};
 use sheets::sheet;
 
 /// The calls have the numbers 1 to this.
-pub const LAST: u32 = 31;
+pub const LAST: u32 = 32;
 
 /// The call that is asked for. What it says stands at the front of the result buffer, in `words` words. For every number, what is said and what all
 /// that is lent holds then is `dispatch` (`saying/specs/Dispatch`); numbers that no call has are taken for 18.
@@ -40,6 +41,7 @@ pub fn called(
         9 | 10 | 11 | 12 => product(q, lists, pool, table, res),
         28 | 29 | 30 => sheet(q, lists, pool, table, res, work),
         31 => written(check_line(pool, table, a, b, c, d, res, work)),
+        32 => solution(confirm(pool, table, a, res, work)),
         _ => listed(q, lists, pool, table, res, work),
     }
 }

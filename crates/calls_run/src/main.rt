@@ -21,7 +21,7 @@ const WORK_BEFORE: u32 = 0x55555555;
 fn work_after(call: u32, refusal: u32) -> u32 {
     match (call, refusal) {
         (_, 10) => WORK_BEFORE,
-        (21..=23 | 25..=28 | 30 | 31, _) => 0,
+        (21..=23 | 25..=28 | 30..=32, _) => 0,
         _ => WORK_BEFORE,
     }
 }

@@ -13,6 +13,7 @@ use Rattle.rules.specs.Calls.{Listed, Written, AddedTo, Solution, Judged, lent, 
 use Rattle.rules.specs.Calls.{addCall, replaceTypeCall, replaceSetCall, solveCall, quantifyCall, generaliseCall, instantiateCall, judgeCall}
 use Rattle.rules.specs.Batches.{Batch, batchCall}
 use Rattle.rules.specs.Ceiling.{ceilingCall}
+use Rattle.rules.specs.Confirming.{confirmCall}
 use Rattle.rules.specs.Lines.{checkLineCall}
 use Rattle.saying.specs.Given.{at_most, exponentAt, productAt, nameIn, entriesIn}
 use Rattle.saying.specs.Saying.{pick, word, saidAs, refusedAs, checkedAs, askedAs, numberAs, orderAs}
@@ -248,6 +249,7 @@ module _ (q : Asked) (pool table a b c d result work : List ℕ) where
       ++ map (λ n. (n, shows (products q a b pool table result))) (9 ∷ 10 ∷ 11 ∷ 12 ∷ [])
       ++ map (λ n. (n, does (sheets q pool table a b c d result work))) (28 ∷ 29 ∷ 30 ∷ [])
       ++ (31, does (written (checkLineCall pool table a b c d result work)))
+      ∷ (32, does (solution (confirmCall pool table a result work)))
       ∷ []
 
   unfoldable pub dispatch : Served

@@ -53,7 +53,7 @@ parts_of h = filledTo h.pool + (h.table + h.a + h.b + h.c + h.d) * 4
 
 -- 2: no call has this number; 3: something is over its room; 4: the body is not as long as its parts; 0: it can be served
 unfoldable pub faultOf : Header → ℕ
-faultOf h = pick (ltb h.call 1) 2 (pick (ltb 31 h.call) 2 (pick (ltb 0 (excessOf h)) 3 (pick (eqb h.body (parts_of h)) 0 4)))
+faultOf h = pick (ltb h.call 1) 2 (pick (ltb 32 h.call) 2 (pick (ltb 0 (excessOf h)) 3 (pick (eqb h.body (parts_of h)) 0 4)))
 
 -- everything has room
 pub record Fits (h : Header) : Type 0 where
@@ -108,6 +108,6 @@ served h = first (ltb h.call 1)
     second true z = absurd (omega arith)
     second false z = third (ltb 0 (excessOf h)) refl z
 
-    first : (t : Bool) → ◌≡◌ {A = ℕ} (pick t 2 (pick (ltb 31 h.call) 2 (pick (ltb 0 (excessOf h)) 3 (pick (eqb h.body (parts_of h)) 0 4)))) 0 → Fits h
+    first : (t : Bool) → ◌≡◌ {A = ℕ} (pick t 2 (pick (ltb 32 h.call) 2 (pick (ltb 0 (excessOf h)) 3 (pick (eqb h.body (parts_of h)) 0 4)))) 0 → Fits h
     first true z = absurd (omega arith)
-    first false z = second (ltb 31 h.call) z
+    first false z = second (ltb 32 h.call) z

@@ -2,6 +2,7 @@
 ghost use Rattle.std.specs.Prelude.{◌≡◌};
 ghost use Rattle.rules.specs.Calls.{addCall, replaceTypeCall, replaceSetCall, solveCall, judgeCall, quantifyCall, generaliseCall, instantiateCall};
 ghost use Rattle.rules.specs.Batches.{batchCall};
+ghost use Rattle.rules.specs.Confirming.{confirmCall};
 ghost use Rattle.rules.specs.Elimination.{eliminateCall};
 ghost use Rattle.rules.specs.Lines.{checkLineCall};
 ghost use Rattle.pairs.specs.Pairs.{entriesIn};
@@ -9,6 +10,7 @@ ghost use Rattle.shupkelen.specs.Exports.{out, addedOut, writtenOut, solvedOut, 
 
 use adding::add;
 use batches::solve_all;
+use confirming::confirm;
 use eliminating::eliminate;
 use line_calls::check_line;
 use pairs::judge_pairs;
@@ -81,7 +83,9 @@ pub extern "C" fn shupkelen_replace_in_set(
 
 /// Solves a set, round by round: the bindings, then the bounds (variables that may be any dimension), at the front of `res`. Says how many records of
 /// bindings, how many bounds, a record each, and how many rounds were completed; the work buffer is left all zero. On 5 `res` begins with the constraints
-/// that remain, and their records are said. Refuses with 10, 8, 1, 4, then 5, 6, 7 and 8.
+/// that remain, and their records are said. Refuses with 10, 8, 1, 4, then 5, 6, 7 and 8. What is answered makes every constraint true where no variable that
+/// stands in a dimension product of the set is bound to anything but a dimension or a variable, and elsewhere it may not: `shupkelen_confirm` answers only
+/// what does.
 #[unsafe(no_mangle)]
 pub extern "C" fn shupkelen_solve(
     pool: &[u8],
@@ -96,9 +100,27 @@ pub extern "C" fn shupkelen_solve(
     hand(solution(solve(pool, table, set, res, work)), answer)
 }
 
+/// Solves a set, and answers only what the judge confirms over the same set: what is answered makes every constraint of the set true, whatever the set. The
+/// call to use where somebody relies on an answer. It writes and says what `shupkelen_solve` does, and refuses as it does; then, of what solving accepts,
+/// with 7 or 8 where the judge meets them, and with 11 for its no. `res` is then as before; the rounds are those of solving.
+#[unsafe(no_mangle)]
+pub extern "C" fn shupkelen_confirm(
+    pool: &[u8],
+    table: &[u32],
+    set: &[u32],
+    res: &mut [u32],
+    work: &mut [u32],
+    answer: &mut [u32],
+) -> u32
+    ensures { out result answer.new (res.new, work.new) ≡ solvedOut (confirmCall pool.now table.now set.now res.old work.old) answer.old }
+{
+    hand(solution(confirm(pool, table, set, res, work)), answer)
+}
+
 /// Solves up to 64 sets that stand back to back, each by itself; `lengths` has their records. Of each set four words go to `answers`: the refusal,
 /// completed rounds, records of bindings (on 5: of what remains), bounds; `res` has their records back to back, and says how many these are together.
-/// With n sets `res` has 8,192 n words and `answers` 4 n, or more. Refuses with 10, 8 and 1; a refused set doesn't stop those after it.
+/// With n sets `res` has 8,192 n words and `answers` 4 n, or more. Refuses with 10, 8 and 1; a refused set doesn't stop those after it. Each answer is worth
+/// what that of `shupkelen_solve` is: of an accepted set ask the judge, or `shupkelen_confirm`.
 #[unsafe(no_mangle)]
 pub extern "C" fn shupkelen_solve_all(
     pool: &[u8],
@@ -137,8 +159,8 @@ pub extern "C" fn shupkelen_eliminate(
 }
 
 /// Is this a solution of the set, whoever proposed it? Entries are pairs of words: a variable's number, and the place of its type in `types`, in records;
-/// an odd last word is not looked at. `bounds` has records of bounds. Says 1 for yes and 0 for no; the work buffer is left all zero. Refuses with 10, 8,
-/// 1, 4, then 7 and 8.
+/// an odd last word is not looked at. `bounds` has records of bounds. Says 1 for yes and 0 for no, and returns 0 for a no, too; the work buffer is left all
+/// zero. Refuses with 10, 8, 1, 4, then 7 and 8.
 #[unsafe(no_mangle)]
 pub extern "C" fn shupkelen_judge(
     pool: &[u8],

@@ -159,6 +159,7 @@ pub fn ask(c: &Case, l: &mut Lent) -> (Told, Vec<u32>) {
         29 => raw::ceiling(pool, table, a),
         30 => return batch(c, l),
         31 => raw::check_line(pool, table, a, b, cc, d, result, work),
+        32 => raw::confirm(pool, table, a, result, work),
         other => panic!("no call has the number {other}"),
     };
     let words = words_of(c, t);
@@ -172,8 +173,8 @@ fn words_of(c: &Case, t: Told) -> usize {
         (20, 0) => t.more as usize * 4,
         (20, _) => c.lists[0].len(),
         (21 | 22 | 25 | 26 | 27 | 31, 0) => t.value as usize * 4,
-        (23, 0) => (t.value + t.more) as usize * 4,
-        (23, 5) => t.value as usize * 4,
+        (23 | 32, 0) => (t.value + t.more) as usize * 4,
+        (23 | 32, 5) => t.value as usize * 4,
         _ => 0,
     }
 }

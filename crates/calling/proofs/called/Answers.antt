@@ -1,6 +1,6 @@
 -- `called` meets its contract: by the number.
 use native.Mathlib.Omega.{arith}
-use Rattle.calling.proofs.Numbers.{call-2, call-3, call-4, call-exponent, call-product, call-sheet, call-31, call-list}
+use Rattle.calling.proofs.Numbers.{call-2, call-3, call-4, call-exponent, call-product, call-sheet, call-31, call-32, call-list}
 use Rattle.calling.proofs.called.Goals as goal
 use Rattle.calling.proofs.called.Goals.{in_default-via-then-q-lt2, in_default-via-else-q-lt2+else-q-lt9+else-q-lt13+then-q-lt28, in_default-via-else-q-lt2+else-q-lt9+else-q-lt13+else-q-lt28+else-q-lt31}
 
@@ -24,6 +24,9 @@ returns-in-28 c = call-sheet _ _ _ _ _ _ _ _ _ (omega arith) (omega arith) c.she
 
 pub returns-in-31 : goal.returns-in-31
 returns-in-31 c = call-31 _ _ _ _ _ _ _ _ _ c.in-31.is c.written.ensures c.check_line.ensures
+
+pub returns-in-32 : goal.returns-in-32
+returns-in-32 c = call-32 _ _ _ _ _ _ _ _ _ c.in-32.is c.solution.ensures c.confirm.ensures
 
 pub returns-in_default : goal.returns-in_default
 returns-in_default c =
