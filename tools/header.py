@@ -1,7 +1,7 @@
 #!/usr/bin/env python3
 """Compares what C and Rust declare with what the library exports. It needs no archive.
 
-The functions that crates/shupkelen/src exports, the prototypes of include/shupkelen.h and the declarations of the Rust crate's src/ffi.rs have the same names, and parameters of the same names,
+The functions that crates/shupkelen/src exports, the prototypes of include/shupkelen.h and the declarations of bindings/rust-sys have the same names, and parameters of the same names,
 order and kinds; the refusals and sizes of the header and of the Rust crate are those of the crates rules and text. Prints what differs and ends with 1 if something does."""
 import re
 import sys
@@ -56,7 +56,7 @@ def header():
 
 
 def declarations():
-    found = re.findall(r"pub fn (\w+)\(([^)]*)\) -> u32;", read(f"{RUST}/ffi.rs"))
+    found = re.findall(r"pub fn (\w+)\(([^)]*)\) -> u32;", read(f"bindings/rust-sys/src/lib.rs"))
     return {name: [(n, {**POINTERS, **NUMBERS}[kind]) for n, kind in map(named, each(ps))] for name, ps in found}
 
 
@@ -98,7 +98,7 @@ def numbers():
 
 def main():
     ours = source()
-    found = [*functions(ours, header(), "the header"), *functions(ours, declarations(), f"{RUST}/ffi.rs"), *numbers()]
+    found = [*functions(ours, header(), "the header"), *functions(ours, declarations(), f"bindings/rust-sys/src/lib.rs"), *numbers()]
     for line in found:
         print(line)
     print(f"declarations: {len(ours)} functions, {len(found)} differences")

@@ -38,16 +38,28 @@ fn measure(what: &str, size: String, mut call: impl FnMut() -> u32 + Send + 'sta
     let what = what.to_string();
     let run = move || {
         let mut refusal = 0;
-        let best = (0..10).map(|_| { let t = Instant::now(); refusal = call(); t.elapsed() }).min().unwrap();
-        let stack = painted(&mut || { call(); });
-        println!("| {what} | {size} | {refusal} | {:.2} ms | {} KB |", best.as_secs_f64() * 1e3, (stack + 1023) / 1024);
+        let best = (0..10)
+            .map(|_| {
+                let t = Instant::now();
+                refusal = call();
+                t.elapsed()
+            })
+            .min()
+            .unwrap();
+        let stack = painted(&mut || {
+            call();
+        });
+        println!("| {what} | {size} | {refusal} | {:.2} ms | {} KB |", best.as_secs_f64() * 1e3, stack.div_ceil(1024));
     };
     std::thread::Builder::new().stack_size(8 << 20).spawn(run).unwrap().join().unwrap();
 }
 
 fn reading(what: &str, text: String) {
     let size = format!("{} bytes", text.len());
-    measure(what, size, move || { let mut lent = Lent::new(); lent.read(text.as_bytes()).refusal });
+    measure(what, size, move || {
+        let mut lent = Lent::new();
+        lent.read(text.as_bytes()).refusal
+    });
 }
 
 fn writing(what: &str, text: &str) {
@@ -60,8 +72,26 @@ fn writing(what: &str, text: &str) {
 
 /// 31 products of 64 base dimensions whose names are 48 bytes that are escaped, with long powers.
 fn long_products() -> String {
-    let name = |i: usize| format!("#{}", (0..48).map(|k| format!("\\{:02x}", if k < 46 { 1 } else if k == 46 { 1 + i / 16 } else { 1 + i % 16 })).collect::<String>());
-    (0..31).map(|r| format!("[{}] = Scalar\n", (0..64).map(|i| format!("{}^(-2147483647/{})", name(i), 2147483629 - r)).collect::<Vec<_>>().join(" * "))).collect()
+    let name = |i: usize| {
+        format!(
+            "#{}",
+            (0..48)
+                .map(|k| format!(
+                    "\\{:02x}",
+                    if k < 46 {
+                        1
+                    } else if k == 46 {
+                        1 + i / 16
+                    } else {
+                        1 + i % 16
+                    }
+                ))
+                .collect::<String>()
+        )
+    };
+    (0..31)
+        .map(|r| format!("[{}] = Scalar\n", (0..64).map(|i| format!("{}^(-2147483647/{})", name(i), 2147483629 - r)).collect::<Vec<_>>().join(" * ")))
+        .collect()
 }
 
 fn function(parameters: usize) -> String {
@@ -86,8 +116,18 @@ fn main() {
     writing("write_text: 31 products of 64 factors, names and powers as long as can be", &long_products());
     writing("write_text: a function of 2,045 parameters", &function(2045));
     writing("write_text: 63 nested lists", &nested(63));
-    let rows: String = (0..24).map(|r| format!("[{} * {}] = Scalar\n", (0..24).map(|i| format!("?x{i:02}^({})", 1 + (i * 5 + r * r) % 7)).collect::<Vec<_>>().join(" * "), (0..24).map(|i| format!("#b{i:02}^({})", 1 + (i + r) % 3)).collect::<Vec<_>>().join(" * "))).collect();
-    let plain: String = (0..24).map(|r| format!("[?x{r:02}^(2) * {}] = Scalar\n", (0..24).map(|i| format!("#b{i:02}^({})", 1 + (i + r) % 3)).collect::<Vec<_>>().join(" * "))).collect();
+    let rows: String = (0..24)
+        .map(|r| {
+            format!(
+                "[{} * {}] = Scalar\n",
+                (0..24).map(|i| format!("?x{i:02}^({})", 1 + (i * 5 + r * r) % 7)).collect::<Vec<_>>().join(" * "),
+                (0..24).map(|i| format!("#b{i:02}^({})", 1 + (i + r) % 3)).collect::<Vec<_>>().join(" * ")
+            )
+        })
+        .collect();
+    let plain: String = (0..24)
+        .map(|r| format!("[?x{r:02}^(2) * {}] = Scalar\n", (0..24).map(|i| format!("#b{i:02}^({})", 1 + (i + r) % 3)).collect::<Vec<_>>().join(" * ")))
+        .collect();
     for (what, text) in [("eliminate: 24 full rows", rows), ("eliminate: 24 rows of one variable each", plain)] {
         let mut lent = Lent::new();
         let told = lent.read(text.as_bytes());

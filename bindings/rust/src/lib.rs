@@ -1,63 +1,96 @@
 //! Safe bindings to Shupkelen, a proved solver for constraints on types and dimensions.
 //!
-//! A [`NameTable`] owns names, a [`Solver`] the buffers that a call is lent. Sets of constraints are slices of records, four words each
-//! ([`record`]); `include/shupkelen.h` and the documents say which kinds there are. [`raw`] has every call over plain slices.
+//! A [`NameTable`] owns names, a [`Solver`] the buffers that a call is lent. A set of constraints is read from the text of a sheet ([`Solver::read_text`]), made of trees
+//! ([`Constraint`], [`records_of`]), or written as records, four words each ([`record`], docs/RECORDS.md of the repository). [`raw`] has every call over plain slices.
 //!
 //! ```
-//! use shupkelen::{kind, record, NameTable, Solver};
+//! use shupkelen::{NameTable, Solver};
 //!
-//! # fn main() -> Result<(), Box<dyn std::error::Error>> {
-//! let mut names = NameTable::new();
-//! let x = names.enter(b"x")?.number;
-//! // the constraint 'x = boolean'
-//! let set = [record(kind::EQUAL, 3, 0, 0, 0), record(kind::VARIABLE, 1, x, 0, 0), record(kind::BOOLEAN, 1, 0, 0, 0)].concat();
-//! let mut solver = Solver::new();
-//! let solution = solver.confirm(&names, &set)?;
-//! assert_eq!(solution.rounds, 1);
-//! assert_eq!(solution.bindings, [record(kind::BINDING, 2, x, 0, 0), record(kind::BOOLEAN, 1, 0, 0, 0)].concat());
-//! assert!(solution.bounds.is_empty());
-//! # Ok(())
-//! # }
+//! let (mut names, mut solver) = (NameTable::new(), Solver::new());
+//! let sheet = solver.read_text(&mut names, b"?distance ~ [#km]\n[?distance * ?rate] ~ [#euro]\n")?;
+//! let solution = solver.solve(&names, &sheet.records)?;
+//! let lines: Vec<String> = solution.bindings(&names)?.iter().map(|b| b.to_string()).collect();
+//! assert_eq!(lines, ["?distance ~ [#km]", "?rate ~ [#euro * #km^(-1)]"]);
+//! # Ok::<(), Box<dyn std::error::Error>>(())
 //! ```
-mod ffi;
+//!
+//! A call needs up to 1 MB of stack: the usual main thread (8 MB) and Rust's threads (2 MB) have it. Calls on separate values may run on separate threads.
+#![warn(missing_docs)]
+
 pub mod raw;
+mod tree;
+
+pub use tree::{records_of, Base, Binding, Constraint, Factor, Name, Power, Type};
 
 use std::error::Error;
 use std::fmt;
 
-/// Sizes of what is lent, as in the header.
+/// Bytes of a name table's pool.
 pub const POOL_BYTES: usize = 8192;
+/// Words of a name table: how many names, and where each of up to 256 ends in the pool.
 pub const TABLE_WORDS: usize = 257;
+/// Words of a list of 2,048 records, and of a result buffer.
 pub const LIST_WORDS: usize = 8192;
+/// Words of a work buffer.
 pub const WORK_WORDS: usize = 16384;
+/// Words of a product of 64 factors.
 pub const PRODUCT_WORDS: usize = 256;
+/// Bytes that a rescued file can have.
 pub const KEPT_BYTES: usize = 32768;
+/// Places that a rescue can name.
 pub const SKIPPED_WORDS: usize = 2049;
+/// Bytes that a set can have as text.
 pub const TEXT_BYTES: usize = 354304;
+/// How many sets [`solve_all`] takes.
+pub const SETS: usize = 64;
+/// How deep a type may be nested.
+pub const NESTED: usize = 64;
 
-/// The kinds of records.
+/// The kinds of records (docs/RECORDS.md of the repository has their words).
 pub mod kind {
+    /// A variable.
     pub const VARIABLE: u32 = 1;
+    /// A parameter.
     pub const PARAMETER: u32 = 2;
+    /// A dimension; its factors follow.
     pub const DIMENSION: u32 = 3;
+    /// Boolean.
     pub const BOOLEAN: u32 = 4;
+    /// String.
     pub const STRING: u32 = 5;
+    /// Date and time.
     pub const DATETIME: u32 = 6;
+    /// A function; its parameters' types and the returned type follow.
     pub const FUNCTION: u32 = 7;
+    /// A struct; its arguments' types and fields follow.
     pub const STRUCT: u32 = 8;
+    /// A field; its type follows.
     pub const FIELD: u32 = 9;
+    /// A list; its elements' type follows.
     pub const LIST: u32 = 10;
+    /// A factor: a variable.
     pub const VARIABLE_FACTOR: u32 = 11;
+    /// A factor: a parameter.
     pub const PARAMETER_FACTOR: u32 = 12;
+    /// A factor: a base dimension.
     pub const BASE_FACTOR: u32 = 13;
+    /// A quantified variable, in schemes.
     pub const QUANTIFIED: u32 = 14;
+    /// A factor: a quantified variable, in schemes.
     pub const QUANTIFIED_FACTOR: u32 = 15;
+    /// Two types, which follow, are the same.
     pub const EQUAL: u32 = 20;
+    /// The type that follows is a dimension.
     pub const IS_DIMENSION: u32 = 21;
+    /// The dimension that follows is the scalar.
     pub const EQUAL_SCALAR: u32 = 22;
+    /// The type that follows has a field of the type behind it.
     pub const HAS_FIELD: u32 = 23;
+    /// A variable is bound to the type that follows.
     pub const BINDING: u32 = 24;
+    /// A name stands for a dimension.
     pub const BOUND: u32 = 25;
+    /// A scheme; its type and bounds follow.
     pub const SCHEME: u32 = 26;
 }
 
@@ -84,25 +117,42 @@ pub mod step {
 }
 
 /// A record: its kind, how many records the part has that it begins (itself counted), and its words a, b, c.
-pub fn record(kind: u32, length: u32, a: u32, b: u32, c: u32) -> [u32; 4] {
+///
+/// # Panics
+/// Where the kind or the length is over 65,535: no word has room for both.
+pub const fn record(kind: u32, length: u32, a: u32, b: u32, c: u32) -> [u32; 4] {
+    assert!(kind <= 65_535 && length <= 65_535, "a kind and a length are at most 65,535");
     [kind + 65_536 * length, a, b, c]
 }
 
 /// Why a call gives no answer.
 #[derive(Clone, Copy, Debug, PartialEq, Eq, Hash)]
 #[repr(u32)]
+#[non_exhaustive]
 pub enum Refusal {
+    /// A table, list, product or exponent that is not well formed; a number that no name has, in a list.
     Malformed = 1,
+    /// A name of no byte, or of over 48.
     NameLength = 2,
+    /// No room for a name; or a number was asked for that no name has.
     NoRoom = 3,
+    /// One name is both a variable and a parameter; a name lent for a line is given twice or used in it.
     Mixed = 4,
+    /// No rule applies, and constraints remain.
     Unsolved = 5,
+    /// A type that is no dimension would enter a product.
     NotDimension = 6,
+    /// An exponent is out of range.
     OutOfRange = 7,
+    /// Over a limit of size: 2,048 records, names or entries, 64 nestings, 64 factors, 64 sets, 128 steps; or a set that the second engine doesn't take.
     TooLarge = 8,
+    /// Another count of names than the scheme has; or a concrete type.
     WrongCount = 9,
+    /// A lent buffer is too short.
     ShortBuffer = 10,
+    /// The judge says no.
     NotConfirmed = 11,
+    /// A line outside the grammar.
     NotGrammar = 12,
 }
 
@@ -126,16 +176,32 @@ impl Refusal {
     pub fn number(self) -> u32 {
         self as u32
     }
+}
 
-    /// The refusal with this number, if one has it.
-    ///
-    /// ```
-    /// use shupkelen::Refusal;
-    /// assert_eq!(Refusal::from_number(5), Some(Refusal::Unsolved));
-    /// assert_eq!(Refusal::from_number(0), None);
-    /// ```
-    pub fn from_number(n: u32) -> Option<Refusal> {
-        Refusal::ALL.into_iter().find(|r| r.number() == n)
+/// No refusal has this number.
+#[derive(Clone, Copy, Debug, PartialEq, Eq)]
+pub struct NoRefusal(pub u32);
+
+impl fmt::Display for NoRefusal {
+    fn fmt(&self, f: &mut fmt::Formatter<'_>) -> fmt::Result {
+        write!(f, "no refusal has the number {}", self.0)
+    }
+}
+
+impl Error for NoRefusal {}
+
+/// The refusal with this number.
+///
+/// ```
+/// use shupkelen::Refusal;
+/// assert_eq!(Refusal::try_from(5), Ok(Refusal::Unsolved));
+/// assert!(Refusal::try_from(0).is_err());
+/// ```
+impl TryFrom<u32> for Refusal {
+    type Error = NoRefusal;
+
+    fn try_from(n: u32) -> Result<Self, NoRefusal> {
+        Refusal::ALL.into_iter().find(|r| r.number() == n).ok_or(NoRefusal(n))
     }
 }
 
@@ -152,7 +218,7 @@ impl fmt::Display for Refusal {
             Refusal::TooLarge => "over a limit of size: records, nestings, factors, sets, steps, or what the second engine takes",
             Refusal::WrongCount => "the scheme has another count of names",
             Refusal::ShortBuffer => "a lent buffer is too short",
-            Refusal::NotConfirmed => "the judge does not confirm the line, or what solving the set found",
+            Refusal::NotConfirmed => "the judge says no",
             Refusal::NotGrammar => "a line outside the grammar",
         };
         write!(f, "{why} ({})", self.number())
@@ -170,13 +236,15 @@ fn good(number: u32) -> Result<(), Refusal> {
     if number == 0 {
         return Ok(());
     }
-    Err(Refusal::from_number(number).expect("the library refuses with 1 to 12"))
+    Err(Refusal::try_from(number).expect("the library refuses with 1 to 12"))
 }
 
 /// A name's number, and whether it was entered just now.
 #[derive(Clone, Copy, Debug, PartialEq, Eq)]
 pub struct Entered {
+    /// Its number.
     pub number: u32,
+    /// It was not in the table before.
     pub new: bool,
 }
 
@@ -185,16 +253,23 @@ pub struct Entered {
 /// ```
 /// use shupkelen::{NameTable, Refusal};
 /// let mut names = NameTable::new();
-/// assert_eq!(names.enter(b"payee").unwrap().number, 0);
-/// assert!(!names.enter(b"payee").unwrap().new);
+/// assert_eq!(names.enter(b"payee")?.number, 0);
+/// assert!(!names.enter(b"payee")?.new);
 /// assert_eq!(names.name(0), Ok(&b"payee"[..]));
 /// assert_eq!(names.name(1), Err(Refusal::NoRoom));
 /// assert_eq!(names.enter(&[b'a'; 49]), Err(Refusal::NameLength));
+/// # Ok::<(), Refusal>(())
 /// ```
-#[derive(Clone, Debug, PartialEq, Eq)]
+#[derive(Clone, PartialEq, Eq)]
 pub struct NameTable {
     pool: Vec<u8>,
     table: Vec<u32>,
+}
+
+impl fmt::Debug for NameTable {
+    fn fmt(&self, f: &mut fmt::Formatter<'_>) -> fmt::Result {
+        f.debug_struct("NameTable").field("names", &self.len()).finish_non_exhaustive()
+    }
 }
 
 impl Default for NameTable {
@@ -209,16 +284,21 @@ impl NameTable {
         NameTable { pool: vec![0; POOL_BYTES], table: vec![0; TABLE_WORDS] }
     }
 
-    /// A table that was stored. It is checked.
+    /// A table that was stored, from its pool and its table.
+    ///
+    /// # Errors
+    /// [`Refusal::ShortBuffer`] of one that is too short, then [`Refusal::Malformed`].
     pub fn from_parts(pool: Vec<u8>, table: Vec<u32>) -> Result<Self, Refusal> {
         good(raw::check_table(&pool, &table))?;
         Ok(NameTable { pool, table })
     }
 
+    /// The pool: the names' bytes, one name behind another.
     pub fn pool(&self) -> &[u8] {
         &self.pool
     }
 
+    /// The table: how many names, and where each ends in the pool.
     pub fn table(&self) -> &[u32] {
         &self.table
     }
@@ -228,17 +308,24 @@ impl NameTable {
         self.table[0] as usize
     }
 
+    /// Are there none?
     pub fn is_empty(&self) -> bool {
         self.len() == 0
     }
 
     /// Enters a name, or finds it.
+    ///
+    /// # Errors
+    /// [`Refusal::NameLength`], then [`Refusal::NoRoom`] of a new name; the table is then as it was.
     pub fn enter(&mut self, name: &[u8]) -> Result<Entered, Refusal> {
         let t = said(raw::enter(&mut self.pool, &mut self.table, name))?;
         Ok(Entered { number: t.value, new: t.more == 1 })
     }
 
     /// The bytes of the name with this number.
+    ///
+    /// # Errors
+    /// [`Refusal::NoRoom`] where no name has it.
     pub fn name(&self, number: u32) -> Result<&[u8], Refusal> {
         let t = said(raw::name_of(&self.pool, &self.table, number))?;
         let start = t.value as usize;
@@ -247,54 +334,82 @@ impl NameTable {
 
     /// Keeps the names that these sets use (back to back, with their lengths in records), and renumbers the sets. Gives the count of names kept. Numbers
     /// from before the call mean nothing outside these sets.
+    ///
+    /// # Errors
+    /// [`Refusal::TooLarge`] of over 64 sets, or one of over 2,048 records; then [`Refusal::Malformed`] of a set, or lengths that don't add up. Nothing changes then.
     pub fn compact(&mut self, sets: &mut [u32], lengths: &[u32]) -> Result<usize, Refusal> {
         said(raw::compact(&mut self.pool, &mut self.table, sets, lengths)).map(|t| t.value as usize)
     }
 
     /// Is it a set of constraints over these names?
+    ///
+    /// # Errors
+    /// [`Refusal::TooLarge`] of over 2,048 records, then [`Refusal::Malformed`].
     pub fn check_set(&self, words: &[u32]) -> Result<(), Refusal> {
         good(raw::is_set(&self.pool, &self.table, words))
     }
 
     /// Is it one type over these names?
+    ///
+    /// # Errors
+    /// As [`NameTable::check_set`].
     pub fn check_type(&self, words: &[u32]) -> Result<(), Refusal> {
         good(raw::is_type(&self.pool, &self.table, words))
     }
 
     /// Is it a scheme over these names?
+    ///
+    /// # Errors
+    /// As [`NameTable::check_set`].
     pub fn check_scheme(&self, words: &[u32]) -> Result<(), Refusal> {
         good(raw::is_scheme(&self.pool, &self.table, words))
     }
 
     /// Are these bindings over these names?
+    ///
+    /// # Errors
+    /// As [`NameTable::check_set`].
     pub fn check_bindings(&self, words: &[u32]) -> Result<(), Refusal> {
         good(raw::is_bindings(&self.pool, &self.table, words))
     }
 
     /// Does a type contain the variable of this name or, if asked, the parameter?
+    ///
+    /// # Errors
+    /// [`Refusal::TooLarge`], [`Refusal::Malformed`] (of the type, or of a number that no name has), [`Refusal::Mixed`], in this order.
     pub fn contains(&self, words: &[u32], name: u32, parameters: bool) -> Result<bool, Refusal> {
         said(raw::contains(&self.pool, &self.table, words, name, parameters)).map(|t| t.value == 1)
     }
 
     /// Has a type no variable and no parameter?
+    ///
+    /// # Errors
+    /// [`Refusal::TooLarge`], [`Refusal::Malformed`], [`Refusal::Mixed`], in this order.
     pub fn closed(&self, words: &[u32]) -> Result<bool, Refusal> {
         said(raw::closed(&self.pool, &self.table, words)).map(|t| t.value == 1)
     }
 
-    /// The most rounds that solving a set can take (W-208).
+    /// The most rounds that solving a set can take.
+    ///
+    /// # Errors
+    /// As [`NameTable::check_set`].
     pub fn ceiling(&self, set: &[u32]) -> Result<u32, Refusal> {
         said(raw::ceiling(&self.pool, &self.table, set)).map(|t| t.more)
     }
 
-    /// A set as text, a line a constraint (W-202).
+    /// A set as text, a line a constraint.
     ///
     /// ```
-    /// use shupkelen::{kind, record, NameTable};
+    /// use shupkelen::{kind, record, NameTable, Refusal};
     /// let mut names = NameTable::new();
-    /// let x = names.enter(b"x").unwrap().number;
+    /// let x = names.enter(b"x")?.number;
     /// let set = [record(kind::IS_DIMENSION, 2, 0, 0, 0), record(kind::VARIABLE, 1, x, 0, 0)].concat();
-    /// assert_eq!(names.write_text(&set).unwrap(), b"?x: DType\n");
+    /// assert_eq!(names.write_text(&set)?, b"?x: DType\n");
+    /// # Ok::<(), Refusal>(())
     /// ```
+    ///
+    /// # Errors
+    /// As [`NameTable::check_set`].
     pub fn write_text(&self, set: &[u32]) -> Result<Vec<u8>, Refusal> {
         let mut text = vec![0; TEXT_BYTES];
         let t = said(raw::write_text(&self.pool, &self.table, set, &mut text))?;
@@ -302,48 +417,84 @@ impl NameTable {
         Ok(text)
     }
 
-    /// What is well formed of a damaged set file: the bytes that are kept, and the places (in records) of those that are not (W-212).
-    pub fn rescue(&self, file: &[u8]) -> Result<(Vec<u8>, Vec<u32>), Refusal> {
+    /// What is well formed of a damaged set file.
+    ///
+    /// # Errors
+    /// [`Refusal::TooLarge`] of over 2,048 whole records.
+    pub fn rescue(&self, file: &[u8]) -> Result<Rescued, Refusal> {
         let mut kept = vec![0; KEPT_BYTES];
         let mut skipped = vec![0; SKIPPED_WORDS];
         let t = said(raw::rescue(&self.pool, &self.table, file, &mut kept, &mut skipped))?;
         kept.truncate(t.value as usize * 16);
         skipped.truncate(t.more as usize);
-        Ok((kept, skipped))
+        Ok(Rescued { kept, skipped })
     }
 }
 
-/// What solving a set gives: records of bindings, records of bounds, and the completed rounds.
+/// What was rescued of a damaged set file.
+#[derive(Clone, Debug, PartialEq, Eq)]
+pub struct Rescued {
+    /// The records that are kept, as the file has them: a set.
+    pub kept: Vec<u8>,
+    /// The places, in records, of those that are not, in their order.
+    pub skipped: Vec<u32>,
+}
+
+/// A variable, and the place, in records, of its type in a list: what the judge is asked about.
 #[derive(Clone, Copy, Debug, PartialEq, Eq)]
-pub struct Solution<'a> {
-    pub bindings: &'a [u32],
-    pub bounds: &'a [u32],
+pub struct Entry {
+    /// The variable's number.
+    pub variable: u32,
+    /// The place of its type.
+    pub place: u32,
+}
+
+/// What solving a set gives: bindings, bounds, and the completed rounds.
+///
+/// Solving alone doesn't say that the bindings make the constraints true where a variable that stands in a product is bound to a type that is no dimension: [`Solver::confirm`]
+/// answers nothing then.
+#[derive(Clone, Debug, PartialEq, Eq)]
+pub struct Solution {
+    bindings: Vec<u32>,
+    bounds: Vec<u32>,
+    /// The completed rounds.
     pub rounds: u32,
 }
 
-impl Solution<'_> {
-    /// The bindings as [`Solver::judge`] takes them, with `bindings` as the list of types: for each its variable's number, and the place of its type,
-    /// behind the record that begins the binding.
+impl Solution {
+    /// The records of the bindings, in the order in which they were made.
+    pub fn binding_records(&self) -> &[u32] {
+        &self.bindings
+    }
+
+    /// The records of the bounds, by the bytes of their names.
+    pub fn bound_records(&self) -> &[u32] {
+        &self.bounds
+    }
+
+    /// The bindings as names with types. The table is the one that the set was solved over.
     ///
-    /// ```
-    /// use shupkelen::{kind, record, NameTable, Solver};
-    /// let mut names = NameTable::new();
-    /// let x = names.enter(b"x").unwrap().number;
-    /// let set = [record(kind::EQUAL, 3, 0, 0, 0), record(kind::VARIABLE, 1, x, 0, 0), record(kind::BOOLEAN, 1, 0, 0, 0)].concat();
-    /// let mut solver = Solver::new();
-    /// let solution = solver.solve(&names, &set).unwrap();
-    /// let entries = solution.entries();
-    /// assert_eq!(entries, [(x, 1)]);
-    /// let (bindings, bounds) = (solution.bindings.to_vec(), solution.bounds.to_vec());
-    /// assert_eq!(solver.judge(&names, &set, &entries, &bindings, &bounds), Ok(true));
-    /// ```
-    pub fn entries(&self) -> Vec<(u32, u32)> {
+    /// # Errors
+    /// [`Refusal::Malformed`] over a table that hasn't these names.
+    pub fn bindings(&self, names: &NameTable) -> Result<Vec<Binding>, Refusal> {
+        names.bindings_from(&self.bindings)
+    }
+
+    /// The names that stand for dimensions.
+    ///
+    /// # Errors
+    /// [`Refusal::NoRoom`] over a table that hasn't these names.
+    pub fn bounds(&self, names: &NameTable) -> Result<Vec<Name>, Refusal> {
+        self.bounds.chunks(4).map(|r| names.name(r[1]).map(Name::from)).collect()
+    }
+
+    /// The bindings as the judge takes them: their places are places in [`Solution::binding_records`].
+    pub fn entries(&self) -> Vec<Entry> {
         let mut entries = Vec::new();
-        let mut place = 0;
-        // Word 0 of a binding's record says how many records the binding has, itself counted: at least two.
-        while let Some(&[head, variable, ..]) = self.bindings.get(place * 4..) {
-            entries.push((variable, place as u32 + 1));
-            place += (head / 65_536) as usize;
+        let mut at = 0;
+        while let Some(&[head, variable]) = self.bindings.get(at * 4..at * 4 + 2).and_then(|w| w.first_chunk()) {
+            entries.push(Entry { variable, place: at as u32 + 1 });
+            at += (head / 65_536) as usize;
         }
         entries
     }
@@ -352,22 +503,22 @@ impl Solution<'_> {
 /// Why solving gave no solution, after how many rounds, and, where it is [`Refusal::Unsolved`], the constraints that remain.
 #[derive(Clone, Debug, PartialEq, Eq)]
 pub struct Stopped {
+    /// Why.
     pub refusal: Refusal,
+    /// The completed rounds.
     pub rounds: u32,
+    /// The records of what remains; none where it is another refusal.
     pub remaining: Vec<u32>,
 }
 
 impl fmt::Display for Stopped {
     fn fmt(&self, f: &mut fmt::Formatter<'_>) -> fmt::Result {
-        write!(f, "{}, after {} rounds", self.refusal, self.rounds)
+        let rounds = if self.rounds == 1 { "round" } else { "rounds" };
+        write!(f, "{}, after {} {rounds}", self.refusal, self.rounds)
     }
 }
 
-impl Error for Stopped {
-    fn source(&self) -> Option<&(dyn Error + 'static)> {
-        Some(&self.refusal)
-    }
-}
+impl Error for Stopped {}
 
 impl From<Stopped> for Refusal {
     fn from(s: Stopped) -> Refusal {
@@ -376,18 +527,24 @@ impl From<Stopped> for Refusal {
 }
 
 /// A sheet that was read: the records of its set, how many constraints they are, and how many names were new.
-#[derive(Clone, Copy, Debug, PartialEq, Eq)]
-pub struct Sheet<'a> {
-    pub records: &'a [u32],
+#[derive(Clone, Debug, PartialEq, Eq)]
+pub struct Sheet {
+    /// The records of its set.
+    pub records: Vec<u32>,
+    /// How many constraints it has.
     pub constraints: u32,
+    /// How many of its names were new.
     pub new_names: u32,
 }
 
 /// Why a sheet was not read, with the line, counted from 1, and the column, counted in bytes from 1; 0 and 0 where no line is at fault.
 #[derive(Clone, Copy, Debug, PartialEq, Eq)]
 pub struct Unread {
+    /// Why.
     pub refusal: Refusal,
+    /// The line.
     pub line: u32,
+    /// The column.
     pub column: u32,
 }
 
@@ -397,11 +554,7 @@ impl fmt::Display for Unread {
     }
 }
 
-impl Error for Unread {
-    fn source(&self) -> Option<&(dyn Error + 'static)> {
-        Some(&self.refusal)
-    }
-}
+impl Error for Unread {}
 
 impl From<Unread> for Refusal {
     fn from(u: Unread) -> Refusal {
@@ -412,27 +565,37 @@ impl From<Unread> for Refusal {
 /// What a constraint is, when it is added.
 #[derive(Clone, Copy, Debug, PartialEq, Eq)]
 pub enum Added {
+    /// It is true whatever its names stand for; it isn't stored.
     Satisfied,
+    /// Nothing makes it true, but for structs whose fields differ; it is stored.
     Violated,
+    /// It depends; it is stored.
     Unknown,
 }
 
 /// The result and the work buffer of the calls that write records.
 ///
 /// ```
-/// use shupkelen::{kind, record, NameTable, Refusal, Solver};
+/// use shupkelen::{records_of, Constraint, NameTable, Refusal, Solver, Type};
 /// let mut names = NameTable::new();
-/// let x = names.enter(b"x").unwrap().number;
-/// // 'list of x = x' has no solution (K4)
-/// let set = [record(kind::EQUAL, 4, 0, 0, 0), record(kind::LIST, 2, 0, 0, 0), record(kind::VARIABLE, 1, x, 0, 0), record(kind::VARIABLE, 1, x, 0, 0)].concat();
+/// // 'list of x = x' has no solution
+/// let x = Type::Variable("x".into());
+/// let set = records_of(&[Constraint::Equal(Type::List(Box::new(x.clone())), x)], &mut names)?;
 /// let stopped = Solver::new().solve(&names, &set).unwrap_err();
 /// assert_eq!(stopped.refusal, Refusal::Unsolved);
 /// assert_eq!(stopped.remaining, set);
+/// # Ok::<(), Refusal>(())
 /// ```
-#[derive(Clone, Debug)]
+#[derive(Clone)]
 pub struct Solver {
     result: Vec<u32>,
     work: Vec<u32>,
+}
+
+impl fmt::Debug for Solver {
+    fn fmt(&self, f: &mut fmt::Formatter<'_>) -> fmt::Result {
+        f.debug_struct("Solver").finish_non_exhaustive()
+    }
 }
 
 impl Default for Solver {
@@ -442,158 +605,202 @@ impl Default for Solver {
 }
 
 impl Solver {
+    /// New buffers.
     pub fn new() -> Self {
         Solver { result: vec![0; LIST_WORDS], work: vec![0; WORK_WORDS] }
     }
 
-    /// Solves a set, and answers only what the judge confirms: with the bindings put in, every constraint of the set is true. The call to use where somebody
-    /// relies on an answer. It refuses as [`Solver::solve`] does and, of what that accepts, with [`Refusal::NotConfirmed`] for the judge's no.
+    /// What a call said of a set, whose answer stands at the front of the result buffer.
+    fn solution(&self, t: raw::Told, bounds: u32, rounds: u32) -> Result<Solution, Stopped> {
+        let (bindings, rest) = self.result.split_at(t.value as usize * 4);
+        match good(t.refusal) {
+            Ok(()) => Ok(Solution { bindings: bindings.to_vec(), bounds: rest[..bounds as usize * 4].to_vec(), rounds }),
+            Err(refusal) => Err(Stopped { refusal, rounds, remaining: bindings.to_vec() }),
+        }
+    }
+
+    /// Solves a set. Whoever ships by the answer asks [`Solver::confirm`]: an accepted answer makes every constraint true where no variable that stands in a product is bound
+    /// to anything but a dimension or a variable, and this call doesn't test that.
+    ///
+    /// # Errors
+    /// [`Refusal::TooLarge`], [`Refusal::Malformed`], [`Refusal::Mixed`] at entry, in this order; then [`Refusal::Unsolved`] with what remains, or
+    /// [`Refusal::NotDimension`], [`Refusal::OutOfRange`], [`Refusal::TooLarge`], whichever is met first.
+    pub fn solve(&mut self, names: &NameTable, set: &[u32]) -> Result<Solution, Stopped> {
+        let t = raw::solve(&names.pool, &names.table, set, &mut self.result, &mut self.work);
+        self.solution(t, t.more, t.rounds)
+    }
+
+    /// Solves a set and lets the judge confirm the answer: what is answered makes every constraint true, with all bindings put in at once, in exact arithmetic.
     ///
     /// ```
     /// use shupkelen::{NameTable, Refusal, Solver};
     /// let (mut names, mut solver) = (NameTable::new(), Solver::new());
-    /// // K10: solving accepts it with x boolean, though a boolean has no place in a product
-    /// let set = solver.read_text(&mut names, b"[?x * ?y] ~ [?x * ?z]\n?x ~ Bool\n").unwrap().records.to_vec();
-    /// assert!(solver.solve(&names, &set).is_ok());
-    /// let stopped = solver.confirm(&names, &set).unwrap_err();
-    /// assert_eq!((stopped.refusal, stopped.rounds), (Refusal::NotConfirmed, 3));
-    /// assert!(stopped.remaining.is_empty());
+    /// // solving accepts this: x becomes boolean, which is no dimension
+    /// let sheet = solver.read_text(&mut names, b"[?x * ?y] ~ [?x * ?z]\n?x ~ Bool\n")?;
+    /// assert!(solver.solve(&names, &sheet.records).is_ok());
+    /// assert_eq!(solver.confirm(&names, &sheet.records).unwrap_err().refusal, Refusal::NotConfirmed);
+    /// # Ok::<(), shupkelen::Unread>(())
     /// ```
-    pub fn confirm(&mut self, names: &NameTable, set: &[u32]) -> Result<Solution<'_>, Stopped> {
+    ///
+    /// # Errors
+    /// As [`Solver::solve`]; then [`Refusal::NotConfirmed`] where the judge says no, or the judge's [`Refusal::OutOfRange`] or [`Refusal::TooLarge`].
+    pub fn confirm(&mut self, names: &NameTable, set: &[u32]) -> Result<Solution, Stopped> {
         let t = raw::confirm(&names.pool, &names.table, set, &mut self.result, &mut self.work);
-        self.solution(t)
+        self.solution(t, t.more, t.rounds)
     }
 
-    /// Solves a set. With the bindings put in every constraint is true where no variable that stands in a dimension product of the set is bound to
-    /// anything but a dimension or a variable; elsewhere a constraint may be false. [`Solver::confirm`] answers only what is true.
-    pub fn solve(&mut self, names: &NameTable, set: &[u32]) -> Result<Solution<'_>, Stopped> {
-        let t = raw::solve(&names.pool, &names.table, set, &mut self.result, &mut self.work);
-        self.solution(t)
-    }
-
-    fn solution(&self, t: raw::Told) -> Result<Solution<'_>, Stopped> {
-        let first = t.value as usize * 4;
-        if let Err(refusal) = good(t.refusal) {
-            return Err(Stopped { refusal, rounds: t.rounds, remaining: self.result[..first].to_vec() });
-        }
-        let end = first + t.more as usize * 4;
-        Ok(Solution { bindings: &self.result[..first], bounds: &self.result[first..end], rounds: t.rounds })
-    }
-
-    /// The second engine, for sets of equal-scalar constraints over few names (W-209): the bindings. It counts no rounds.
-    pub fn eliminate(&mut self, names: &NameTable, set: &[u32]) -> Result<&[u32], Stopped> {
+    /// The second engine, for sets of equal-scalar constraints over few names: the bindings. It counts no rounds.
+    ///
+    /// # Errors
+    /// [`Refusal::TooLarge`], [`Refusal::Malformed`], [`Refusal::Mixed`] as [`Solver::solve`]; [`Refusal::TooLarge`] of a set that it doesn't take: another constraint, over 24
+    /// variables, over 24 other names, over 24 rows; then [`Refusal::Unsolved`] with what remains, [`Refusal::OutOfRange`] or [`Refusal::TooLarge`].
+    pub fn eliminate(&mut self, names: &NameTable, set: &[u32]) -> Result<Solution, Stopped> {
         let t = raw::eliminate(&names.pool, &names.table, set, &mut self.result, &mut self.work);
-        let end = t.value as usize * 4;
-        match good(t.refusal) {
-            Ok(()) => Ok(&self.result[..end]),
-            Err(refusal) => Err(Stopped { refusal, rounds: 0, remaining: self.result[..end].to_vec() }),
-        }
+        self.solution(t, 0, 0)
     }
 
-    /// Is this a solution of the set, whoever proposed it? Each entry is a variable's number and the place, in records, of its type in `types`;
-    /// [`Solution::entries`] makes those of an answer.
-    pub fn judge(&mut self, names: &NameTable, set: &[u32], entries: &[(u32, u32)], types: &[u32], bounds: &[u32]) -> Result<bool, Refusal> {
-        let pairs: Vec<u32> = entries.iter().flat_map(|&(v, p)| [v, p]).collect();
+    /// Is this a solution of the set: does it make every constraint true, put in at once, in exact arithmetic? The entries' types stand in `types`; [`Solution::entries`] has those
+    /// of an answer.
+    ///
+    /// # Errors
+    /// [`Refusal::TooLarge`], [`Refusal::Malformed`], [`Refusal::Mixed`] at entry; then the first [`Refusal::OutOfRange`] or [`Refusal::TooLarge`] that is met.
+    pub fn judge(&mut self, names: &NameTable, set: &[u32], entries: &[Entry], types: &[u32], bounds: &[u32]) -> Result<bool, Refusal> {
+        let pairs: Vec<u32> = entries.iter().flat_map(|e| [e.variable, e.place]).collect();
         said(raw::judge(&names.pool, &names.table, set, &pairs, types, bounds, &mut self.work)).map(|t| t.value == 1)
     }
 
-    /// Reads a sheet as a set and enters its new names, or changes no name (W-202).
+    /// Reads a sheet as a set and enters its new names.
     ///
     /// ```
     /// use shupkelen::{NameTable, Refusal, Solver};
     /// let (mut names, mut solver) = (NameTable::new(), Solver::new());
-    /// let sheet = solver.read_text(&mut names, b"?x ~ Bool\n?y: DType\n").unwrap();
+    /// let sheet = solver.read_text(&mut names, b"?x ~ Bool\n?y: DType\n")?;
     /// assert_eq!((sheet.constraints, sheet.new_names), (2, 2));
-    /// assert_eq!(names.write_text(sheet.records).unwrap(), b"?x ~ Bool\n?y: DType\n");
+    /// assert_eq!(names.write_text(&sheet.records).unwrap(), b"?x ~ Bool\n?y: DType\n");
     /// let unread = solver.read_text(&mut names, b"?new ~ Bool\n?: DType").unwrap_err();
     /// assert_eq!((unread.refusal, unread.line, unread.column), (Refusal::NameLength, 2, 2));
     /// assert_eq!(names.len(), 2);
+    /// # Ok::<(), shupkelen::Unread>(())
     /// ```
-    pub fn read_text(&mut self, names: &mut NameTable, text: &[u8]) -> Result<Sheet<'_>, Unread> {
+    ///
+    /// # Errors
+    /// Of the first bad line [`Refusal::NotGrammar`], else the leftmost of [`Refusal::Malformed`], [`Refusal::NameLength`], [`Refusal::NoRoom`], [`Refusal::OutOfRange`],
+    /// [`Refusal::TooLarge`]. The names are then as they were.
+    pub fn read_text(&mut self, names: &mut NameTable, text: &[u8]) -> Result<Sheet, Unread> {
         let t = raw::read_text(&mut names.pool, &mut names.table, text, &mut self.result, &mut self.work);
         match good(t.refusal) {
-            Ok(()) => Ok(Sheet { records: &self.result[..t.value as usize * 4], constraints: t.more, new_names: t.rounds }),
+            Ok(()) => Ok(Sheet { records: self.result[..t.value as usize * 4].to_vec(), constraints: t.more, new_names: t.rounds }),
             Err(refusal) => Err(Unread { refusal, line: t.value, column: t.more }),
         }
     }
 
-    /// The type of a calculation line's last step (W-211). Steps are four words each; `lines` has the places of the earlier lines' types in `types`;
+    /// The type of a calculation line's last step, as records. Steps are four words each ([`step`]); `lines` has the places of the earlier lines' types in `types`;
     /// `lent` are numbers of names for the steps, one each or more.
     ///
     /// ```
-    /// use shupkelen::{kind, record, NameTable, Refusal, Solver};
+    /// use shupkelen::{kind, record, step, NameTable, Refusal, Solver, Type};
     /// let (mut names, mut solver) = (NameTable::new(), Solver::new());
-    /// let km = names.enter(b"km").unwrap().number;
-    /// let lent: Vec<u32> = [&b"a"[..], b"b", b"c"].iter().map(|n| names.enter(n).unwrap().number).collect();
+    /// let km = names.enter(b"km")?.number;
+    /// let lent: Vec<u32> = [&b"a"[..], b"b", b"c"].iter().map(|n| Ok(names.enter(n)?.number)).collect::<Result<_, Refusal>>()?;
     /// let types = [record(kind::DIMENSION, 2, 1, 0, 0), record(kind::BASE_FACTOR, 1, km, 1, 1), record(kind::BOOLEAN, 1, 0, 0, 0)].concat();
     /// // a constant in km times another
-    /// let steps = [[1, 0, 0, 0], [1, 0, 0, 0], [5, 0, 0, 0]].concat();
-    /// let squared = [record(kind::DIMENSION, 2, 1, 0, 0), record(kind::BASE_FACTOR, 1, km, 2, 1)].concat();
-    /// assert_eq!(solver.check_line(&names, &steps, &types, &[], &lent), Ok(&squared[..]));
+    /// let steps = [[step::CONSTANT, 0, 0, 0], [step::CONSTANT, 0, 0, 0], [step::MULTIPLY, 0, 0, 0]].concat();
+    /// let squared = solver.check_line(&names, &steps, &types, &[], &lent)?;
+    /// assert_eq!(names.type_from(&squared)?.to_string(), "[#km^(2)]");
     /// // and times a boolean
-    /// let steps = [[1, 2, 0, 0], [1, 0, 0, 0], [5, 0, 0, 0]].concat();
+    /// let steps = [[step::CONSTANT, 2, 0, 0], [step::CONSTANT, 0, 0, 0], [step::MULTIPLY, 0, 0, 0]].concat();
     /// assert_eq!(solver.check_line(&names, &steps, &types, &[], &lent), Err(Refusal::NotDimension));
+    /// # Ok::<(), Refusal>(())
     /// ```
-    pub fn check_line(&mut self, names: &NameTable, steps: &[u32], types: &[u32], lines: &[u32], lent: &[u32]) -> Result<&[u32], Refusal> {
+    ///
+    /// # Errors
+    /// [`Refusal::ShortBuffer`] of fewer lent names than steps, [`Refusal::TooLarge`], [`Refusal::Malformed`], [`Refusal::Mixed`] of a name that isn't fresh, [`Refusal::NoRoom`]; then
+    /// the solver's and the judge's, and [`Refusal::NotConfirmed`] where the judge says no.
+    pub fn check_line(&mut self, names: &NameTable, steps: &[u32], types: &[u32], lines: &[u32], lent: &[u32]) -> Result<Vec<u32>, Refusal> {
         let t = raw::check_line(&names.pool, &names.table, steps, types, lines, lent, &mut self.result, &mut self.work);
         self.records(t)
     }
 
-    fn records(&self, t: raw::Told) -> Result<&[u32], Refusal> {
-        said(t).map(|t| &self.result[..t.value as usize * 4])
+    fn records(&self, t: raw::Told) -> Result<Vec<u32>, Refusal> {
+        said(t).map(|t| self.result[..t.value as usize * 4].to_vec())
     }
 
     /// A type with bindings put in.
-    pub fn replace_in_type(&mut self, names: &NameTable, words: &[u32], bindings: &[u32]) -> Result<&[u32], Refusal> {
+    ///
+    /// # Errors
+    /// [`Refusal::TooLarge`], [`Refusal::Malformed`], [`Refusal::Mixed`] at entry; then [`Refusal::NotDimension`], [`Refusal::OutOfRange`], [`Refusal::TooLarge`].
+    pub fn replace_in_type(&mut self, names: &NameTable, words: &[u32], bindings: &[u32]) -> Result<Vec<u32>, Refusal> {
         let t = raw::replace_in_type(&names.pool, &names.table, words, bindings, &mut self.result, &mut self.work);
         self.records(t)
     }
 
     /// A set with bindings put in.
-    pub fn replace_in_set(&mut self, names: &NameTable, set: &[u32], bindings: &[u32]) -> Result<&[u32], Refusal> {
+    ///
+    /// # Errors
+    /// As [`Solver::replace_in_type`].
+    pub fn replace_in_set(&mut self, names: &NameTable, set: &[u32], bindings: &[u32]) -> Result<Vec<u32>, Refusal> {
         let t = raw::replace_in_set(&names.pool, &names.table, set, bindings, &mut self.result, &mut self.work);
         self.records(t)
     }
 
     /// A scheme from a type and bounds, with handed names quantified.
-    pub fn quantify(&mut self, names: &NameTable, words: &[u32], bounds: &[u32], handed: &[u32]) -> Result<&[u32], Refusal> {
+    ///
+    /// # Errors
+    /// [`Refusal::TooLarge`], [`Refusal::Malformed`] (of a handed number that no name has, too), [`Refusal::Mixed`]; then [`Refusal::OutOfRange`], [`Refusal::TooLarge`].
+    pub fn quantify(&mut self, names: &NameTable, words: &[u32], bounds: &[u32], handed: &[u32]) -> Result<Vec<u32>, Refusal> {
         let t = raw::quantify(&names.pool, &names.table, words, bounds, handed, &mut self.result, &mut self.work);
         self.records(t)
     }
 
     /// A concrete scheme with all open names of its type quantified, and of the bounds those of names that the type contains; any other scheme is unchanged.
-    pub fn generalise(&mut self, names: &NameTable, scheme: &[u32], bounds: &[u32]) -> Result<&[u32], Refusal> {
+    ///
+    /// # Errors
+    /// As [`Solver::quantify`].
+    pub fn generalise(&mut self, names: &NameTable, scheme: &[u32], bounds: &[u32]) -> Result<Vec<u32>, Refusal> {
         let t = raw::generalise(&names.pool, &names.table, scheme, bounds, &mut self.result, &mut self.work);
         self.records(t)
     }
 
     /// The type of a scheme, then its bounds, with handed names put back.
-    pub fn instantiate(&mut self, names: &NameTable, scheme: &[u32], handed: &[u32]) -> Result<&[u32], Refusal> {
+    ///
+    /// # Errors
+    /// As [`Solver::quantify`]; [`Refusal::WrongCount`] behind [`Refusal::Mixed`], of another count of names than the scheme has, and of a concrete type.
+    pub fn instantiate(&mut self, names: &NameTable, scheme: &[u32], handed: &[u32]) -> Result<Vec<u32>, Refusal> {
         let t = raw::instantiate(&names.pool, &names.table, scheme, handed, &mut self.result, &mut self.work);
         self.records(t)
     }
 
     /// The numbers of a type's variables and, if asked, parameters, by the bytes of their names.
-    pub fn variables(&mut self, names: &NameTable, words: &[u32], parameters: bool) -> Result<&[u32], Refusal> {
+    ///
+    /// # Errors
+    /// [`Refusal::TooLarge`], [`Refusal::Malformed`], [`Refusal::Mixed`], in this order.
+    pub fn variables(&mut self, names: &NameTable, words: &[u32], parameters: bool) -> Result<Vec<u32>, Refusal> {
         let t = said(raw::variables(&names.pool, &names.table, words, parameters, &mut self.result))?;
-        Ok(&self.result[..t.value as usize])
+        Ok(self.result[..t.value as usize].to_vec())
     }
 }
 
 /// A set of constraints that grows, up to 2,048 records.
 ///
 /// ```
-/// use shupkelen::{kind, record, Added, ConstraintSet, NameTable};
-/// let names = NameTable::new();
+/// use shupkelen::{Added, Constraint, ConstraintSet, NameTable, Refusal, Type};
+/// let mut names = NameTable::new();
 /// let mut set = ConstraintSet::new();
-/// let same = [record(kind::EQUAL, 3, 0, 0, 0), record(kind::BOOLEAN, 1, 0, 0, 0), record(kind::BOOLEAN, 1, 0, 0, 0)].concat();
+/// let same = Constraint::Equal(Type::Boolean, Type::Boolean).records(&mut names)?;
 /// assert_eq!(set.add(&names, &same), Ok(Added::Satisfied));
 /// assert!(set.words().is_empty());
+/// # Ok::<(), Refusal>(())
 /// ```
-#[derive(Clone, Debug)]
+#[derive(Clone)]
 pub struct ConstraintSet {
     buffer: Vec<u32>,
     count: usize,
+}
+
+impl fmt::Debug for ConstraintSet {
+    fn fmt(&self, f: &mut fmt::Formatter<'_>) -> fmt::Result {
+        f.debug_struct("ConstraintSet").field("records", &self.count).finish_non_exhaustive()
+    }
 }
 
 impl Default for ConstraintSet {
@@ -603,6 +810,7 @@ impl Default for ConstraintSet {
 }
 
 impl ConstraintSet {
+    /// No constraints.
     pub fn new() -> Self {
         ConstraintSet { buffer: vec![0; LIST_WORDS], count: 0 }
     }
@@ -613,6 +821,9 @@ impl ConstraintSet {
     }
 
     /// Tests a constraint, and stores it unless it is satisfied.
+    ///
+    /// # Errors
+    /// [`Refusal::Malformed`] of what isn't one constraint over these names; [`Refusal::TooLarge`] where it has no room. The set is then as it was.
     pub fn add(&mut self, names: &NameTable, constraint: &[u32]) -> Result<Added, Refusal> {
         let t = said(raw::add(&names.pool, &names.table, &mut self.buffer, self.count, constraint))?;
         self.count = t.more as usize;
@@ -624,32 +835,55 @@ impl ConstraintSet {
     }
 }
 
-/// What one set of several was answered: its refusal, or the records of its bindings and of its bounds; and the completed rounds.
-#[derive(Clone, Debug, PartialEq, Eq)]
-pub struct Answered {
-    pub refusal: Option<Refusal>,
-    pub rounds: u32,
-    /// On [`Refusal::Unsolved`] the constraints that remain.
-    pub bindings: Vec<u32>,
-    pub bounds: Vec<u32>,
-}
-
-/// Solves up to 64 sets over one table (W-201); each is answered as by itself, and each answer is worth what that of [`Solver::solve`] is: where somebody
-/// relies on one, ask [`Solver::confirm`] of its set.
-pub fn solve_all(names: &NameTable, sets: &[&[u32]]) -> Result<Vec<Answered>, Refusal> {
+/// Solves up to [`SETS`] sets over one table; each is answered as [`Solver::solve`] answers it by itself.
+///
+/// ```
+/// use shupkelen::{solve_all, NameTable, Refusal};
+/// let names = NameTable::new();
+/// let answers = solve_all(&names, &[&[], &[7]])?;
+/// assert!(answers[0].is_ok());
+/// assert_eq!(answers[1].as_ref().unwrap_err().refusal, Refusal::Malformed);
+/// # Ok::<(), Refusal>(())
+/// ```
+///
+/// # Errors
+/// [`Refusal::TooLarge`] of over [`SETS`] sets; nothing is solved then.
+pub fn solve_all(names: &NameTable, sets: &[&[u32]]) -> Result<Vec<Result<Solution, Stopped>>, Refusal> {
+    if sets.len() > SETS {
+        return Err(Refusal::TooLarge);
+    }
+    // a list that is too long or torn would spoil the others' places: it is refused here, as by itself, and the empty set stands in its place
+    let own: Vec<Option<Refusal>> = sets.iter().map(|s| refused_alone(s)).collect();
+    let sets: Vec<&[u32]> = sets.iter().zip(&own).map(|(s, r)| if r.is_some() { &[][..] } else { s }).collect();
     let lengths: Vec<u32> = sets.iter().map(|s| (s.len() / 4) as u32).collect();
     let mut result = vec![0; LIST_WORDS * sets.len()];
     let mut answers = vec![0; 4 * sets.len()];
     let mut work = vec![0; WORK_WORDS];
     said(raw::solve_all(&names.pool, &names.table, &sets.concat(), &lengths, &mut result, &mut answers, &mut work))?;
-    let mut at = 0;
+    let mut rest = &result[..];
     let mut take = |records: u32| {
-        let from = at;
-        at += records as usize * 4;
-        result[from..at].to_vec()
+        let (front, behind) = rest.split_at(records as usize * 4);
+        rest = behind;
+        front.to_vec()
     };
-    Ok(answers
-        .chunks(4)
-        .map(|a| Answered { refusal: Refusal::from_number(a[0]), rounds: a[1], bindings: take(a[2]), bounds: take(a[3]) })
-        .collect())
+    let answers = answers.chunks(4).map(|a| {
+        let (bindings, bounds, rounds) = (take(a[2]), take(a[3]), a[1]);
+        match good(a[0]) {
+            Ok(()) => Ok(Solution { bindings, bounds, rounds }),
+            Err(refusal) => Err(Stopped { refusal, rounds, remaining: bindings }),
+        }
+    });
+    let stopped = |refusal| Err(Stopped { refusal, rounds: 0, remaining: Vec::new() });
+    Ok(answers.zip(own).map(|(answer, own)| own.map_or(answer, stopped)).collect())
+}
+
+/// Why a list can't be a set, whatever its records are.
+fn refused_alone(set: &[u32]) -> Option<Refusal> {
+    if set.len() > LIST_WORDS {
+        Some(Refusal::TooLarge)
+    } else if set.len() % 4 != 0 {
+        Some(Refusal::Malformed)
+    } else {
+        None
+    }
 }

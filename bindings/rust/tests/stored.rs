@@ -49,7 +49,7 @@ fn k1_to_k14() {
             match solver.solve(&names, &c.lists[0]) {
                 Ok(s) => {
                     assert_eq!((0, s.rounds), (c.refusal, c.rounds), "K{k}");
-                    assert_eq!((s.bindings, s.bounds), c.words.split_at(split), "K{k}");
+                    assert_eq!((s.binding_records(), s.bound_records()), c.words.split_at(split), "K{k}");
                 }
                 Err(s) => {
                     assert_eq!((s.refusal.number(), s.rounds), (c.refusal, c.rounds), "K{k}");
@@ -72,10 +72,10 @@ fn the_judge_on_k2_and_k10() {
             names.enter(n.as_bytes()).unwrap();
         }
         let solved = solver.solve(&names, &c.lists[0]).unwrap();
-        let (entries, bindings, bounds) = (solved.entries(), solved.bindings.to_vec(), solved.bounds.to_vec());
-        assert_eq!(solver.judge(&names, &c.lists[0], &entries, &bindings, &bounds), Ok(yes), "K{k}");
+        let (bindings, bounds) = (solved.binding_records(), solved.bound_records());
+        assert_eq!(solver.judge(&names, &c.lists[0], &solved.entries(), bindings, bounds), Ok(yes), "K{k}");
         match solver.confirm(&names, &c.lists[0]) {
-            Ok(s) => assert_eq!((yes, s.bindings, s.bounds), (true, &bindings[..], &bounds[..]), "K{k}"),
+            Ok(s) => assert_eq!((yes, s), (true, solved), "K{k}"),
             Err(s) => assert_eq!((yes, s.refusal, s.rounds), (false, Refusal::NotConfirmed, c.rounds), "K{k}"),
         }
     }
