@@ -9,9 +9,15 @@ python3 tools/header.py
 mkdir -p target/bindings
 (cd crates/shupkelen && rt lib) > target/bindings/library.log || { tail -n 20 target/bindings/library.log; exit 1; }
 tail -n 1 target/bindings/library.log
-cc -std=c99 -Wall -Wextra -Werror -O2 -Iinclude bindings/c/k2.c crates/shupkelen/out/libshupkelen.a -o target/bindings/k2
+for program in k2 sheet; do
+    cc -std=c99 -Wall -Wextra -Werror -pedantic -O2 -Iinclude bindings/c/$program.c crates/shupkelen/out/libshupkelen.a -o target/bindings/$program
+done
 target/bindings/k2 | cmp - bindings/c/k2.out
-echo "C: K2 as in the rules"
-cd bindings/rust
-CARGO_TARGET_DIR=../../target/bindings cargo test --offline --quiet
+target/bindings/sheet < examples/01-kilometres.sheet | cmp - bindings/c/sheet.out
+echo "C: K2 as in the rules, and a sheet"
+cd bindings
+cargo fmt --check
+CARGO_TARGET_DIR=../target/bindings RUSTDOCFLAGS="-D warnings" cargo doc --offline --no-deps --quiet
+CARGO_TARGET_DIR=../target/bindings cargo clippy --offline --quiet --all-targets -- -D warnings
+CARGO_TARGET_DIR=../target/bindings cargo test --offline --quiet
 echo "bindings: all tests pass"

@@ -32,6 +32,10 @@
 #include <stddef.h>
 #include <stdint.h>
 
+/* The version of this header: 10,000 for each first number, 100 for each second, 1 for each third. */
+#define SHUPKELEN_VERSION 100
+#define SHUPKELEN_VERSION_TEXT "0.1.0"
+
 #ifdef __cplusplus
 extern "C" {
 #endif
@@ -231,6 +235,104 @@ uint32_t shupkelen_write_text(const uint8_t *pool, size_t pool_len, const uint32
  * value is the line, from 1, and more the column, in bytes from 1 (of 2^32 or more their low 32 bits), 0 and 0 where no line is at fault; pool, table and result are unchanged.
  * 10, 1, then 12, 1, 2, 3, 7 or 8 of the first line that is refused. */
 uint32_t shupkelen_read_text(uint8_t *pool, size_t pool_len, uint32_t *table, size_t table_len, const uint8_t *text, size_t text_len, uint32_t *result, size_t result_len, uint32_t *work, size_t work_len, uint32_t *answer, size_t answer_len);
+
+/* ---- Thin calls: over names and buffers that a caller keeps, so that no count is written by hand ---- */
+
+/* A name table; all zero: no names. */
+struct shupkelen_names {
+    uint8_t pool[SHUPKELEN_POOL_BYTES];
+    uint32_t table[SHUPKELEN_TABLE_WORDS];
+};
+
+/* What a call that writes records is lent. */
+struct shupkelen_buffers {
+    uint32_t result[SHUPKELEN_LIST_WORDS];
+    uint32_t work[SHUPKELEN_WORK_WORDS];
+};
+
+/* The words of an answer. */
+struct shupkelen_answer {
+    uint32_t value;
+    uint32_t more;
+    uint32_t rounds;
+};
+
+/* A calculation line, as shupkelen_check_line takes it. */
+struct shupkelen_line {
+    const uint32_t *steps;
+    size_t steps_len;
+    const uint32_t *types;
+    size_t types_len;
+    const uint32_t *lines;
+    size_t lines_len;
+    const uint32_t *names;
+    size_t names_len;
+};
+
+static inline uint32_t shupkelen_answered(uint32_t refusal, const uint32_t *words, struct shupkelen_answer *answer) {
+    answer->value = words[0];
+    answer->more = words[1];
+    answer->rounds = words[2];
+    return refusal;
+}
+
+/* shupkelen_enter. */
+static inline uint32_t shupkelen_enter_name(struct shupkelen_names *names, const uint8_t *name, size_t name_len, struct shupkelen_answer *answer) {
+    uint32_t words[SHUPKELEN_ANSWER_WORDS];
+    uint32_t refusal = shupkelen_enter(names->pool, SHUPKELEN_POOL_BYTES, names->table, SHUPKELEN_TABLE_WORDS, name, name_len, words, SHUPKELEN_ANSWER_WORDS);
+    return shupkelen_answered(refusal, words, answer);
+}
+
+/* shupkelen_read_text: the set stands at the front of buffers->result. */
+static inline uint32_t shupkelen_read_sheet(struct shupkelen_names *names, const uint8_t *text, size_t text_len, struct shupkelen_buffers *buffers, struct shupkelen_answer *answer) {
+    uint32_t words[SHUPKELEN_ANSWER_WORDS];
+    uint32_t refusal = shupkelen_read_text(names->pool, SHUPKELEN_POOL_BYTES, names->table, SHUPKELEN_TABLE_WORDS, text, text_len, buffers->result, SHUPKELEN_LIST_WORDS,
+        buffers->work, SHUPKELEN_WORK_WORDS, words, SHUPKELEN_ANSWER_WORDS);
+    return shupkelen_answered(refusal, words, answer);
+}
+
+/* shupkelen_confirm; set doesn't stand in buffers. */
+static inline uint32_t shupkelen_confirm_set(const struct shupkelen_names *names, const uint32_t *set, size_t set_len, struct shupkelen_buffers *buffers, struct shupkelen_answer *answer) {
+    uint32_t words[SHUPKELEN_ANSWER_WORDS];
+    uint32_t refusal = shupkelen_confirm(names->pool, SHUPKELEN_POOL_BYTES, names->table, SHUPKELEN_TABLE_WORDS, set, set_len, buffers->result, SHUPKELEN_LIST_WORDS,
+        buffers->work, SHUPKELEN_WORK_WORDS, words, SHUPKELEN_ANSWER_WORDS);
+    return shupkelen_answered(refusal, words, answer);
+}
+
+/* shupkelen_check_line. */
+static inline uint32_t shupkelen_check_steps(const struct shupkelen_names *names, const struct shupkelen_line *line, struct shupkelen_buffers *buffers, struct shupkelen_answer *answer) {
+    uint32_t words[SHUPKELEN_ANSWER_WORDS];
+    uint32_t refusal = shupkelen_check_line(names->pool, SHUPKELEN_POOL_BYTES, names->table, SHUPKELEN_TABLE_WORDS, line->steps, line->steps_len, line->types, line->types_len,
+        line->lines, line->lines_len, line->names, line->names_len, buffers->result, SHUPKELEN_LIST_WORDS, buffers->work, SHUPKELEN_WORK_WORDS, words, SHUPKELEN_ANSWER_WORDS);
+    return shupkelen_answered(refusal, words, answer);
+}
+
+/* shupkelen_write_text. */
+static inline uint32_t shupkelen_write_set(const struct shupkelen_names *names, const uint32_t *set, size_t set_len, uint8_t *text, size_t text_len, struct shupkelen_answer *answer) {
+    uint32_t words[SHUPKELEN_ANSWER_WORDS];
+    uint32_t refusal = shupkelen_write_text(names->pool, SHUPKELEN_POOL_BYTES, names->table, SHUPKELEN_TABLE_WORDS, set, set_len, text, text_len, words, SHUPKELEN_ANSWER_WORDS);
+    return shupkelen_answered(refusal, words, answer);
+}
+
+/* A refusal in words; of another number an empty text. */
+static inline const char *shupkelen_refusal_text(uint32_t refusal) {
+    switch (refusal) {
+    case SHUPKELEN_ACCEPTED: return "accepted";
+    case SHUPKELEN_MALFORMED: return "a table, list, product or exponent is not well formed";
+    case SHUPKELEN_NAME_LENGTH: return "a name has 1 to 48 bytes";
+    case SHUPKELEN_NO_ROOM: return "there is no room for the name, or no name has the number";
+    case SHUPKELEN_MIXED: return "one name is both a variable and a parameter, or a name lent for a line is not fresh";
+    case SHUPKELEN_UNSOLVED: return "no rule applies and constraints remain";
+    case SHUPKELEN_NOT_DIMENSION: return "a type that is no dimension would enter a product";
+    case SHUPKELEN_OUT_OF_RANGE: return "an exponent is out of range";
+    case SHUPKELEN_TOO_LARGE: return "over a limit of size";
+    case SHUPKELEN_WRONG_COUNT: return "another count of names than the scheme has, or a concrete type";
+    case SHUPKELEN_SHORT_BUFFER: return "a lent buffer is too short";
+    case SHUPKELEN_NOT_CONFIRMED: return "the judge says no";
+    case SHUPKELEN_NOT_GRAMMAR: return "a line is outside the grammar";
+    default: return "";
+    }
+}
 
 #ifdef __cplusplus
 }
