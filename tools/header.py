@@ -2,7 +2,7 @@
 """Compares what C and Rust declare with what the library exports. It needs no archive.
 
 The functions that crates/shupkelen/src exports, the prototypes of include/shupkelen.h and the declarations of bindings/rust-sys have the same names, and parameters of the same names,
-order and kinds; the refusals and sizes of the header and of the Rust crate are those of the crates rules and text. Prints what differs and ends with 1 if something does."""
+order and kinds; the refusals and sizes of the header and of the Rust crate are those of the crates rules and text; the version is that of the file VERSION. Prints what differs and ends with 1 if something does."""
 import re
 import sys
 from pathlib import Path
@@ -56,7 +56,7 @@ def header():
 
 
 def declarations():
-    found = re.findall(r"pub fn (\w+)\(([^)]*)\) -> u32;", read(f"bindings/rust-sys/src/lib.rs"))
+    found = re.findall(r"pub fn (\w+)\(([^)]*)\) -> u32;", read("bindings/rust-sys/src/lib.rs"))
     return {name: [(n, {**POINTERS, **NUMBERS}[kind]) for n, kind in map(named, each(ps))] for name, ps in found}
 
 
@@ -96,9 +96,24 @@ def numbers():
             yield f"{name} differs between the header and the Rust crate"
 
 
+def versions():
+    version = read("VERSION").strip()
+    first, second, third = map(int, version.split("."))
+    said = re.search(r'SHUPKELEN_VERSION (\d+)\n#define SHUPKELEN_VERSION_TEXT "([^"]*)"', read("include/shupkelen.h"))
+    if said.groups() != (str(first * 10_000 + second * 100 + third), version):
+        yield "the header has another version"
+    if f'version = "{version}"\nedition' not in read("bindings/Cargo.toml"):
+        yield "the Rust crates have another version"
+    if f'shupkelen-sys = {{ path = "../rust-sys", version = "{version}" }}' not in read("bindings/rust/Cargo.toml"):
+        yield "shupkelen asks for another version of shupkelen-sys"
+    for path in sorted((ROOT / "crates/check_edition/src").rglob("*.rt")):
+        if any(other != version for other in re.findall(r'\.version\("([^"]*)"\)', path.read_text(encoding="utf-8"))):
+            yield "check_edition has another version"
+
+
 def main():
     ours = source()
-    found = [*functions(ours, header(), "the header"), *functions(ours, declarations(), f"bindings/rust-sys/src/lib.rs"), *numbers()]
+    found = [*functions(ours, header(), "the header"), *functions(ours, declarations(), "bindings/rust-sys/src/lib.rs"), *numbers(), *versions()]
     for line in found:
         print(line)
     print(f"declarations: {len(ours)} functions, {len(found)} differences")
