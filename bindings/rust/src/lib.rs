@@ -835,7 +835,8 @@ impl ConstraintSet {
     }
 }
 
-/// Solves up to [`SETS`] sets over one table; each is answered as [`Solver::solve`] answers it by itself.
+/// Solves up to [`SETS`] sets over one table; each is answered as [`Solver::solve`] answers it by itself, and each answer is worth what that one is: where somebody relies on one,
+/// ask [`Solver::confirm`] of its set.
 ///
 /// ```
 /// use shupkelen::{solve_all, NameTable, Refusal};
