@@ -1,0 +1,35 @@
+-- `tell_edition` meets its contract: pages, and then the last line.
+use Rattle.std.specs.Prelude.{refl, Ok}
+use Rattle.std.proofs.Common.{rules, ◌≡◌, Err, ap, ◌∙◌}
+use Rattle.rules.specs.Names.{table_of}
+use Rattle.rules.specs.Reports.{acceptedIn}
+use Rattle.edition.specs.Files.{as-many}
+use Rattle.edition.specs.Told.{whole-told, whole-cut}
+use Rattle.edition.proofs.tell_edition.Goals as goal
+
+pub returns-in_err-accepted : goal.returns-in_err-accepted
+returns-in_err-accepted g c =
+    let r : c.from_residual.result ≡ Err c.in_err-accepted.field-0.0 = search rules in
+    record {
+      told = λ e h. rw r (whole-cut c.args.shown _ _ c.args.sheets.now e h (c.in_err-accepted.ensures.told _ h.holds) _ refl);
+      counted = λ e h. rw r tt;
+    }
+
+pub returns-in_err-put_total : goal.returns-in_err-put_total
+returns-in_err-put_total g c =
+    let r : c.from_residual-in_err-put_total.result ≡ Err c.in_err-put_total.field-0.0 = search rules in
+    record {
+      told = λ e h. rw r (whole-told c.args.shown _ _ c.args.sheets.now e h (c.in_ok-accepted.ensures.told _ h.holds) (c.in_ok-accepted.ensures.counted _ h.holds) _
+          c.in_err-put_total.ensures);
+      counted = λ e h. rw r tt;
+    }
+
+pub returns : goal.returns
+returns g c = record {
+  told = λ e h. whole-told c.args.shown _ _ c.args.sheets.now e h (c.in_ok-accepted.ensures.told _ h.holds) (c.in_ok-accepted.ensures.counted _ h.holds) _
+      c.in_ok-put_total.ensures;
+  counted = λ e h. record {
+    all = as-many c.args.sheets.now e.pages h.holds;
+    yes = c.in_ok-accepted.ensures.counted _ h.holds ∙ rw (h.pools, h.tables) refl;
+  };
+}

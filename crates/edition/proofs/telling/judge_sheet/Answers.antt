@@ -1,0 +1,37 @@
+-- `judge_sheet` meets its contract: by what the sheet holds.
+use Rattle.std.specs.Prelude.{refl}
+use Rattle.std.proofs.Common.{sym}
+use Rattle.rules.specs.Calls.{solvedSet}
+use Rattle.rules.specs.Names.{table_of, numbersOf}
+use Rattle.edition.specs.Judged.{placed-same, found-set, found-unread, found-unseen}
+use Rattle.edition.specs.Pages.{lent-given}
+use Rattle.edition.proofs.telling.judge_sheet.Goals as goal
+
+pub solve_and_judge-confirmed-requires-clause-table_value : goal.solve_and_judge-confirmed-requires-clause-table_value
+solve_and_judge-confirmed-requires-clause-table_value c = lent-given c.args.names.good
+
+pub returns-in-Set : goal.returns-in-Set
+returns-in-Set c =
+    let t = table_of c.args.names.pool.now c.args.names.table.now in
+    let ws = c.args.sheet.now.records.items in
+    let x = c.solve_and_judge-confirmed.ensures in
+    record {
+      found = λ p h.
+          let k = rw c.in-Set.is at h.holds in
+          found-set t ws _ k.0 k.1.1.0 _ _ p k.1.0
+          (c.of.ensures.found _ (solvedSet t ws) (rw c.deref.ensures.value at x.answered.stands) (numbersOf t) k.0
+          (placed-same t ws _ k.0 k.1.1.0 _ (rw c.deref.ensures.value at x.placed)));
+      there = c.of.ensures.there _ _ x.answered.stands;
+    }
+
+pub returns-in-Refused : goal.returns-in-Refused
+returns-in-Refused c = record {
+  found = λ p h. let k = rw c.in-Refused.is at h.holds in found-unread _ p _ _ _ k.0;
+  there = (_, refl);
+}
+
+pub returns-in-Unseen : goal.returns-in-Unseen
+returns-in-Unseen c = record {
+  found = λ p h. let k = rw c.in-Unseen.is at h.holds in found-unseen _ p k.0;
+  there = (_, refl);
+}

@@ -1,0 +1,53 @@
+-- What a report leaves, whatever it answers.
+use Rattle.std.specs.Prelude.{◌≡◌, ℕ, List, ◌++◌, length, Result, Ok, Err, OnOk, IfOk}
+use Rattle.rules.specs.Base.{Got, got, refused}
+use Rattle.rules.specs.Names.{Bytes, table_of}
+use Rattle.rules.specs.Refusals.{number_of}
+use Rattle.rules.specs.Reports.{Edition, acceptedIn}
+use Rattle.spelling.specs.Sinks.{Place, Keeps, Puts}
+use Rattle.edition.specs.Pages.{done}
+use Rattle.edition.specs.declared.Counts.{Counts}
+use Rattle.edition.specs.declared.Failed.{Failed}
+use Rattle.edition.specs.declared.Failed.TheVariants as failed
+
+-- all sheets, and those of them that are accepted
+pub record Counted (sheets accepted : ℕ) (e : Edition) : Type 0 where
+  pub all : sheets ≡ length e.pages
+  pub yes : accepted ≡ acceptedIn (table_of e.pool e.table) e.pages
+
+-- pool and table with the names of all sheets that were read
+pub record Named (pool' table' : List ℕ) (e : Edition) : Type 0 where
+  pub pools : pool' ≡ e.pool
+  pub tables : table' ≡ e.table
+
+-- nothing is changed and nothing put
+pub record Untouched (pool table pool' table' : List ℕ) (old new : Place) : Type 0 where
+  pub pools : pool' ≡ pool
+  pub tables : table' ≡ table
+  pub sink : new ≡ old
+
+-- The table is tested first, and a report that is refused for it changes nothing. Without memory nothing is put; what names there are then is not said.
+-- Where the sink refuses, what it held is at the front of what it holds, and all sheets were read.
+abbrev pub Leaves : {A E : Type 0} → Result A (Failed E) → Got (Unit {0}) → List ℕ → List ℕ → List ℕ → List ℕ → Place → Place → Edition → Type 0
+Leaves (Ok a) m pool table pool' table' old new e = (m ≡ got tt) × Named pool' table' e
+Leaves (Err (failed.Names why)) m pool table pool' table' old new e = (m ≡ refused (number_of why)) × Untouched pool table pool' table' old new
+Leaves (Err (failed.Memory a)) m pool table pool' table' old new e = (m ≡ got tt) × (new ≡ old)
+Leaves (Err (failed.Sink v)) m pool table pool' table' old new e = (m ≡ got tt) × (Named pool' table' e × Keeps old.held new.held)
+
+abbrev pub sunkOf : {A E : Type 0} → Result A E → Result A (Failed E)
+sunkOf (Ok a) = Ok a
+sunkOf (Err v) = Err (failed.Sink v)
+
+module _ {A E : Type 0} {old new : Place} {bs : Bytes} where
+  pub sunk-told : (r : Result A E) → Puts {E = E} old bs (done r) new → OnOk (sunkOf r) (new.held ≡ old.held ++ bs)
+  sunk-told (Ok a) p = p.puts
+  sunk-told (Err v) p = tt
+
+  pub sunk-leaves : (r : Result A E) → Puts {E = E} old bs (done r) new → {m : Got (Unit {0})} → m ≡ got tt → (pool table : List ℕ) {pool' table' : List ℕ} {e : Edition}
+      → Named pool' table' e → Leaves (sunkOf r) m pool table pool' table' old new e
+  sunk-leaves (Ok a) p m pool table n = (m, n)
+  sunk-leaves (Err v) p m pool table n = (m, (n, p.kept))
+
+pub sunk-counted : {E : Type 0} (e : Edition) (r : Result Counts E) → IfOk r (λ n. Counted n.sheets n.accepted e) → IfOk (sunkOf r) (λ n. Counted n.sheets n.accepted e)
+sunk-counted e (Ok a) h = h
+sunk-counted e (Err v) h = tt

@@ -1,0 +1,14 @@
+//! What a report of an edition is worth: theorems, each the contract of a function that does nothing.
+ghost use Rattle.edition.specs.Theorems.{AcceptedSheetsAreTrue, DeniedOnlyWithoutPremise};
+
+/// Every page of an edition that says 'accepted' is true, whatever the files hold: under the bindings and bounds that it prints, put in at once and in
+/// exact arithmetic, each constraint of its sheet is true (`edition-true`).
+pub fn accepted_sheets_are_true()
+    ensures { AcceptedSheetsAreTrue }
+{}
+
+/// The judge's no is told only where the premise under which an accepted answer is true fails: a variable that stands in a product of the sheet is bound to
+/// what is no dimension and no variable. The constraint whose line is named isn't true under the answer (`edition-denied`).
+pub fn denied_only_without_premise()
+    ensures { DeniedOnlyWithoutPremise }
+{}
