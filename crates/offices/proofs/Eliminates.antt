@@ -4,7 +4,7 @@ use Rattle.std.specs.Prelude.{refl, ℕ}
 use Rattle.std.proofs.Common.{sym, ◌∙◌, arith}
 use mathlib.Core.List.{List, [], ◌∷◌, map}
 use Rattle.rules.specs.Base.{Got, got, each, collect, sum_of}
-use Rattle.rules.specs.Trees.{Con, Product, opensCon, sizeCon, sizeBinding}
+use Rattle.rules.specs.Trees.{Con, opensCon, sizeCon, sizeBinding}
 use Rattle.rules.specs.Names.{Table, table_of, numbersOf}
 use Rattle.rules.specs.Calls.{resultAfter}
 use Rattle.rules.specs.Elimination.{

@@ -1,12 +1,12 @@
 -- Reading text over two tables: dimensions, types, lines and whole sheets.
-use Rattle.std.specs.Prelude.{◌≡◌, Bool, ℕ, suc, ◌&&◌, leb, length}
+use Rattle.std.specs.Prelude.{◌≡◌, Bool, ℕ, suc, leb, length}
 use Rattle.std.proofs.Math.Path.{refl}
 use Rattle.std.proofs.Common.{sym, ap, ap₂, ◌∙◌}
 use Rattle.std.proofs.Math.Bool.{true, false}
 use Rattle.std.proofs.Math.Option.{Option, none, some}
 use mathlib.Core.List.{List, [], ◌∷◌, ◌++◌, map, map-append}
 use Rattle.std.proofs.lemmas.List.{length-map}
-use Rattle.rules.specs.Base.{Got, got, refused, need, bounded}
+use Rattle.rules.specs.Base.{Got, need, bounded}
 use Rattle.rules.specs.Exponents.{Exp, isZero}
 use Rattle.rules.specs.Trees.{Open, var, quant, par, Atom, free, base, Factor, ◌↑◌, Product, Ty, opened, basic, dim, fn, struct, list, Tys, nil, cons}
 use Rattle.rules.specs.Trees.{Fields, noFields, field, Con, equal, isDim, is_scalar, hasField}
@@ -15,8 +15,8 @@ use Rattle.rules.specs.Names.{Bytes, Table, table_of, numbersOf, is_held}
 use Rattle.rules.specs.WellFormed.{is_lt}
 use Rattle.rules.specs.Grammar.{Parsed, read, bad, NameAt, FactorAt, TyAt, open_at, basicAt, dimAt, fn_at, listAt, struct_at, deepAt, TysAt, nilAt}
 use Rattle.rules.specs.Grammar.{consAt, FieldsAt, noneAt, field_at, ConAt, equalAt, isDimAt, isScalarAt, hasFieldAt, line, lines_of}
-use Rattle.rules.specs.TextReading.{Sofar, Told, told, refusedAt, Step, give, placed, counted, named, openNamed, atomNamed, powerOf, namesSofar}
-use Rattle.rules.specs.TextReading.{multiplied, factorsOf, productOf, rises, ty_of, tys_of, fields_of, conOf, meant, lineRead, ◌>>=◌, ◌>>◌}
+use Rattle.rules.specs.TextReading.{Sofar, Told, placed, openNamed, atomNamed, powerOf, namesSofar}
+use Rattle.rules.specs.TextReading.{multiplied, factorsOf, productOf, rises, ty_of, tys_of, fields_of, conOf, meant, lineRead}
 use Rattle.rules.specs.TextReading.{Sheet, sheet, refusedIn, with, nextLine, lines_read, unread, sheetRead}
 use Rattle.rules.specs.Offices.{Name, byBytes, nameNo, mapOpen, mapAtom, mapFactor, mapTy, map_tys, mapFields, mapCon}
 use Rattle.laws.specs.Lists.{Every}

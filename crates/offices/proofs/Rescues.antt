@@ -1,19 +1,19 @@
 -- Rescue: files whose records read alike are taken apart alike.
-use Rattle.std.specs.Prelude.{◌≡◌, Bool, ◌*◌, ◌/◌, ◌%◌, eqb, ltb, leb, length}
+use Rattle.std.specs.Prelude.{◌≡◌, Bool, ◌*◌, ◌/◌, ◌%◌, eqb, ltb, length}
 use Rattle.std.proofs.Math.Path.{refl, ap, ap₂}
 use Rattle.std.proofs.Common.{sym, ◌∙◌, arith, ltb-true}
 use Rattle.std.proofs.Math.Bool.{true, false}
 use Rattle.std.proofs.Math.Option.{Option, none, some}
 use mathlib.Core.List.{List, [], ◌∷◌, ◌++◌, map, map-append}
-use Prim.Native.Nat.{ℕ, zero, suc, ◌+◌, ◌<◌}
-use Rattle.std.proofs.Math.ListN.{take, length-map}
-use Rattle.rules.specs.Base.{Got, got, refused, ◌>>=◌, ◌>>◌, need, and_then, only_if, all}
+use Prim.Native.Nat.{ℕ, zero, suc, ◌+◌}
+use Rattle.std.proofs.Math.ListN.{take}
+use Rattle.rules.specs.Base.{Got, got, refused, ◌>>=◌, and_then, only_if, all}
 use Rattle.rules.specs.Trees.{Con, sizeCon}
-use Rattle.rules.specs.Names.{Table, table_of, numbersOf, is_held, lentTable}
+use Rattle.rules.specs.Names.{Table, table_of, numbersOf, is_held}
 use Rattle.rules.specs.Writing.{Rec, rec, words, writeCon}
 use Rattle.rules.specs.Reading.{readCon}
 use Rattle.rules.specs.WellFormed.{goodCon}
-use Rattle.rules.specs.Calls.{over, tableKept, resultAfter}
+use Rattle.rules.specs.Calls.{over, resultAfter}
 use Rattle.rules.specs.Rescue.{
   words_in,
   recordsIn,
@@ -34,13 +34,12 @@ use Rattle.rules.specs.Rescue.{
   rescueCall,
 }
 use Rattle.rules.specs.Offices.{Word, Name, byBytes, nameNo, mapCon, readBack, FilesAlike, RescuedAlike}
-use Rattle.laws.specs.Lists.{Every, and_left, and_right}
+use Rattle.laws.specs.Lists.{and_left, and_right}
 use Rattle.laws.specs.NameTable.{Good}
 use Rattle.laws.specs.Size.{words-length}
 use Rattle.rescue.specs.Told.{Bytes, keptBytes}
 use Rattle.rescue.proofs.Steps.{bytes-length}
 use Rattle.rescue.proofs.Promise.{kept_read}
-use Rattle.offices.proofs.Both.{Both, Pair, neither, both, pair, hence, alike, checked, two-checks, equal-answers}
 use Rattle.offices.proofs.Sizes.{size-con}
 use Rattle.offices.proofs.Naming.{isNamed, held-named, keeps}
 use Rattle.offices.proofs.WellFormed.{good-con}
@@ -48,7 +47,7 @@ use Rattle.offices.proofs.Reading as reading
 use Rattle.offices.proofs.Reading.{Seen, seen, unlike, head, tail, same_length, con-agree}
 use Rattle.offices.proofs.Writing.{conSeen, con-seen, words-alike}
 use Rattle.offices.proofs.Results.{front-over, nothing}
-use Rattle.offices.proofs.Given.{Alike, as_long, kept-alike, lent-table}
+use Rattle.offices.proofs.Given.{Alike, kept-alike, lent-table}
 
 -- ══ Records of words ══
 

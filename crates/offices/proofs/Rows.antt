@@ -1,15 +1,13 @@
 -- The second engine with other names in the products: the same rows, the same steps, and other names in what comes out.
-use Rattle.std.specs.Prelude.{◌≡◌, Bool, not, ◌&&◌, leb, length, get_or, set}
+use Rattle.std.specs.Prelude.{◌≡◌, Bool, not, length}
 use Rattle.std.proofs.Math.Path.{refl, ap, ap₂}
 use Rattle.std.proofs.Math.Bool.{true, false}
 use mathlib.Core.List.{List, [], ◌∷◌, ◌++◌, map, map-append}
 use Prim.Native.Nat.{ℕ, zero, suc}
 use Rattle.std.proofs.lemmas.List.{length-map}
-use Rattle.rules.specs.Base.{Got, got, ◌>>=◌, bounded, is_yes, keep, each, collect}
-use Rattle.rules.specs.Exponents.{Exp, nought, isZero}
-use Rattle.rules.specs.Trees.{Open, var, quant, par, Atom, free, base, ◌↑◌, Product, Names, dim, Con, equal, isDim, is_scalar, hasField, Binding, ◌≔◌}
-use Rattle.rules.specs.Products.{put}
-use Rattle.rules.specs.Contents.{sort}
+use Rattle.rules.specs.Base.{Got, is_yes, keep, each, collect}
+use Rattle.rules.specs.Exponents.{Exp, isZero}
+use Rattle.rules.specs.Trees.{var, quant, par, Atom, free, base, ◌↑◌, Product, Names, dim, Con, equal, isDim, is_scalar, hasField, Binding, ◌≔◌}
 use Rattle.rules.specs.WellFormed.{atomOf}
 use Rattle.rules.specs.Elimination.{
   Row,

@@ -1,17 +1,17 @@
 -- Reading text: the same sheet, read over two tables, is answered alike where neither reading meets 3.
-use Rattle.std.specs.Prelude.{◌≡◌, false, length, eqb}
+use Rattle.std.specs.Prelude.{◌≡◌, false, length}
 use Rattle.std.proofs.Math.Path.{refl, ap}
 use Rattle.std.proofs.Common.{sym, ◌∙◌, arith}
-use mathlib.Core.List.{List, [], map}
+use mathlib.Core.List.{List, map}
 use Prim.Native.Nat.{ℕ}
 use Rattle.std.proofs.lemmas.List.{length-map}
 use Rattle.rules.specs.Base.{Got, got, refused, ◌>>◌, collect, sum_of}
-use Rattle.rules.specs.Trees.{Con, sizeCon}
+use Rattle.rules.specs.Trees.{sizeCon}
 use Rattle.rules.specs.Names.{Bytes, table_of}
 use Rattle.rules.specs.Writing.{writeCon}
 use Rattle.rules.specs.Calls.{lent, tableKept, workAfter}
-use Rattle.rules.specs.TextReading.{Sheet, sheet, refusedIn, sheetRead, wasRead, notRead, handed, fromEntry, sheetGiven, readTextCall}
-use Rattle.rules.specs.Offices.{Name, nameNo, mapCon, LentAlike, meetsThree, TextReadAlike}
+use Rattle.rules.specs.TextReading.{Sheet, sheetRead, wasRead, notRead, handed, fromEntry, sheetGiven, readTextCall}
+use Rattle.rules.specs.Offices.{nameNo, mapCon, LentAlike, meetsThree, TextReadAlike}
 use Rattle.laws.specs.NameTable.{Good}
 use Rattle.laws.specs.Size.{set-length}
 use Rattle.offices.proofs.Both.{two-checks}
@@ -19,7 +19,6 @@ use Rattle.offices.proofs.Sizes.{size-cons}
 use Rattle.offices.proofs.Writing.{set-written}
 use Rattle.offices.proofs.Results.{nothing, fronts}
 use Rattle.offices.proofs.Given.{kept-alike, lent_alike}
-use Rattle.offices.proofs.Steps.{Behind}
 use Rattle.offices.proofs.Readings.{now, SheetsOut, three-at, three-at', refused-at, both-read, sheets-alike}
 
 module _ {pool table pool' table' : List ℕ} (good : Good pool table) (good' : Good pool' table') where

@@ -6,7 +6,7 @@ use Rattle.rules.specs.Base.{Got, got, refused}
 use Rattle.rules.specs.Names.{Bytes, Table, table_of, names_of, is_held, enterChecks, Entered, enter}
 use Rattle.rules.specs.declared.Was.{Was}
 use Rattle.rules.specs.Grammar.{NameAt}
-use Rattle.rules.specs.TextReading.{Sofar, Told, told, refusedAt, Step, onward, give, placed, counted, enterName, newIn, entered, named}
+use Rattle.rules.specs.TextReading.{Sofar, Told, told, refusedAt, Step, onward, give, placed, counted, enterName, entered, named}
 use Rattle.rules.specs.Offices.{Name, nameNo, mapGot, Shared, answered, answerFor, noThree}
 use Rattle.rules.specs.Offices as offices
 use Rattle.laws.specs.NameTable.{Good, good-given, good-laid, length-names, held-is}

@@ -1,18 +1,18 @@
 -- Which names compaction keeps, by what the sets' words read with names: those that stand there.
 use Rattle.std.proofs.Math.Path.{◌≡◌, refl, sym, ap, ap₂}
 use Rattle.std.proofs.Common.{◌∙◌, zero-add, add-zero, lt-ltb, ltb-true, eqb-true, eq-eqb}
-use Rattle.std.specs.Prelude.{Bool, ◌||◌, ltb, length, get_or}
+use Rattle.std.specs.Prelude.{Bool, ◌||◌, length, get_or}
 use Rattle.std.proofs.Math.Bool.{true, false, ◌&&◌}
 use mathlib.Core.List.{List, [], ◌∷◌}
 use Prim.Native.Nat.{ℕ, zero, suc, ◌+◌, ◌<◌}
 use native.Mathlib.Omega.{arith}
 use Rattle.std.proofs.Math.Dec.{eqb}
 use Rattle.rules.specs.Base.{any, keep}
-use Rattle.rules.specs.Compaction.{occurs, keeps, consIf, keptFrom}
+use Rattle.rules.specs.Compaction.{occurs, keeps, keptFrom}
 use Rattle.rules.specs.Names.{Bytes, table_of, names_of, sameBytes, is_held}
 use Rattle.rules.specs.Offices.{Name, named, stray, Word, number, name, nameNo, namesOne, wordIf, readBack}
 use Rattle.rules.specs.Writing.{kindIn}
-use Rattle.laws.specs.NameTable.{Good, good-laid, good-distinct, length-names, held-is, distinct-same, same-yes, same-no, same-is}
+use Rattle.laws.specs.NameTable.{Good, good-laid, good-distinct, length-names, held-is, distinct-same, same-yes, same-no}
 use Rattle.shared_compaction.proofs.Counting.{Among, among-keep}
 
 -- ══ A name among words ══

@@ -1,6 +1,6 @@
 -- A set that reads alike over two tables has the same finding, with names in place of numbers.
 use Rattle.std.specs.Prelude.{◌≡◌}
-use Rattle.std.proofs.Math.Path.{refl, ap, ap₂}
+use Rattle.std.proofs.Math.Path.{refl, ap₂}
 use Rattle.std.proofs.Common.{sym, ◌∙◌, arith}
 use Rattle.std.proofs.Math.Option.{Option, none, some}
 use mathlib.Core.List.{List, map}
@@ -9,12 +9,11 @@ use Rattle.rules.specs.Base.{Got, got, refused, bounded, collect}
 use Rattle.rules.specs.Trees.{Con, Binding}
 use Rattle.rules.specs.Names.{Table, table_of, numbersOf}
 use Rattle.rules.specs.Writing.{words, writeCon}
-use Rattle.rules.specs.Calls.{solvedSet}
 use Rattle.rules.specs.Solving.{Answer, accepted, remaining, stopped}
 use Rattle.rules.specs.Judging.{failing}
 use Rattle.rules.specs.Offices.{Name, byBytes, nameNo, mapCon, mapBinding, mapAnswer}
 use Rattle.rules.specs.Reports.{judgedBy, finding, holding, findingOf}
-use Rattle.rules.specs.Apart.{Found, accepts, leaves, says, found}
+use Rattle.rules.specs.Apart.{accepts, leaves, found}
 use Rattle.laws.specs.NameTable.{Good}
 use Rattle.offices.proofs.Both.{Pair, neither, both, pair}
 use Rattle.offices.proofs.Judging.{failing-map}
