@@ -41,12 +41,13 @@ def edges(write):
         for f in (ROOT / "crates" / c).rglob("*"):
             if f.suffix in (".rt", ".antt") and f.relative_to(ROOT / "crates" / c).parts[0] in ("src", "specs", "proofs"):
                 text[c] += re.sub(r"(--|//).*", "", f.read_text(encoding="utf-8"))
-    own = lambda c, d: re.search(r"^\s*(?:pub )?mod %s;" % d, text[c], re.M) is not None
-    cites = lambda c, d: re.search(r"\bRattle\.%s\.|\b%s::" % (d, d), text[c]) is not None
+    own = {c: set(re.findall(r"^[ \t]*(?:pub )?mod (\w+);", text[c], re.M)) for c in listed}
+    named = {c: set(re.findall(r"\bRattle\.(\w+)\.|\b(\w+)::", text[c])) for c in listed}
+    cited = {c: {d for pair in named[c] for d in pair if d} for c in listed}
+    used_by = {c: set(re.findall(r"\bRattle\.(\w+)\.(?:specs|proofs)\.", text[c])) | set(re.findall(r"^[ \t]*(?:pub |ghost )*use (\w+)::", text[c], re.M)) for c in listed}
     for c, (head, uses) in listed.items():
-        idle = [d for d in uses if d in listed and not cites(c, d)]
-        asked = [d for d in listed if d != c and d not in uses and not own(c, d)
-                 and re.search(r"\bRattle\.%s\.(specs|proofs)\.|^\s*(?:pub |ghost )*use %s::" % (d, d), text[c], re.M)]
+        idle = [d for d in uses if d in listed and d not in cited[c]]
+        asked = [d for d in listed if d != c and d not in uses and d not in own[c] and d in used_by[c]]
         if write:
             listed[c] = (head, [d for d in uses if d not in idle] + asked)
         else:
