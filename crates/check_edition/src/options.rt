@@ -1,0 +1,98 @@
+// The command line.
+use clap::{Arg, ArgAction, ArgMatches, Command};
+use rules::Shown;
+use std::alloc::{AllocError, Global};
+
+/// As lines, or as one value of JSON.
+#[derive(Clone, Copy)]
+pub enum Form {
+    Text,
+    Json,
+}
+
+/// What was asked for beside the files.
+#[derive(Clone, Copy)]
+pub struct Options {
+    pub shown: Shown,
+    pub form: Form,
+    pub names: bool,
+    pub separate: bool,
+    pub strict: bool,
+}
+
+impl Options {
+    /// By the flags that were given.
+    pub fn of(matches: &ArgMatches) -> Options {
+        Options {
+            shown: if matches.get_flag("quiet") {
+                Shown::Quiet
+            } else {
+                Shown::All
+            },
+            form: if matches.get_flag("json") {
+                Form::Json
+            } else {
+                Form::Text
+            },
+            names: matches.get_flag("names"),
+            separate: matches.get_flag("separate"),
+            strict: matches.get_flag("strict"),
+        }
+    }
+}
+
+/// What stands behind the options in the help.
+const AFTER: &str =
+    "Each sheet is told by itself: sheets are not compared with one another, so ?price may be euros in one and Bool in the next. \
+All sheets share one table of 256 names; --separate gives each a table of its own, 256 names a sheet in place of 256 an edition.
+
+A page begins with the file's name, and the place where one is known, NAME:LINE:COLUMN:. \
+Notes on standard error (names that look alike, sheets without a constraint) are no part of a verdict.
+
+Exit status: 0 every sheet is accepted; 1 one isn't, a file that can't be read among them; 2 a mistake on the command line; \
+3 no whole report (no memory, or the output can't be written).";
+
+fn flag<'a>(alloc: Global, name: &'a str, help: &'a str) -> Arg<'a> {
+    Arg::new(alloc, name)
+        .long(name)
+        .help(help)
+        .action(ArgAction::SetTrue)
+}
+
+/// The words that the program takes.
+pub fn command<'a>(alloc: Global) -> Result<Command<'a>, AllocError> {
+    let files = Arg::new(alloc, "FILE")
+        .help("Sheets, one file each; none, or -, is standard input")
+        .action(ArgAction::Append)
+        .num_args(0..);
+    let quiet = flag(
+        alloc,
+        "quiet",
+        "Leave out the pages of sheets that are accepted",
+    )
+    .short('q');
+    let names = flag(
+        alloc,
+        "names",
+        "List each sheet's new names behind the report",
+    );
+    let json = flag(alloc, "json", "Write one value of JSON in place of lines");
+    let separate = flag(
+        alloc,
+        "separate",
+        "Give each sheet a table of names of its own",
+    );
+    let strict = flag(alloc, "strict", "Count a note as not accepted");
+    Command::new(alloc, "check_edition")
+        .version("0.1.0")
+        .about(
+            "Checks sheets of type and dimension constraints: each is solved, and what solves it is judged",
+        )
+        .after_help(AFTER)
+        .arg(files)?
+        .arg(quiet)?
+        .arg(names)?
+        .arg(json)?
+        .arg(separate)?
+        .arg(strict)
+}
