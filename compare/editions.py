@@ -1,10 +1,10 @@
 #!/usr/bin/env python3
-"""Time and memory of check_edition on made editions: editions.py [PROGRAM]. The least processor time of five runs, and the most memory of one. The sheets are made in a folder that
-is removed again. A mixed sheet of n constraints gives each of 100 variables a product of six base dimensions and relates them in pairs; a long one has the heaviest set of
+"""Time and memory of check_edition on made editions: editions.py [PROGRAM]. The least processor time of five runs, and the memory of one more.
+The sheets are made in a folder that is removed again. A mixed sheet of n constraints gives each of 100 variables a product of four base dimensions and relates them in pairs; a long one has the heaviest set of
 docs/EXTREMES.md, 682 equalities of 250 variables."""
 import os, resource, subprocess, sys, tempfile
 
-DIMS = 6
+DIMS = 4
 
 
 def powers(i):
@@ -34,12 +34,19 @@ def long(sheet):
     return ''.join('?v%03d ~ ?v%03d\n' % (i % 250, (i * 7 + 1) % 250) for i in range(682))
 
 
-def run(program, args):
-    """Status, processor time in ms, memory in KB."""
+def time_of(program, args):
+    """Status, and processor time in ms."""
     child = subprocess.Popen([program] + args, stdout=subprocess.DEVNULL, stderr=subprocess.DEVNULL)
     _, status, used = os.wait4(child.pid, 0)
     child.returncode = os.waitstatus_to_exitcode(status)
-    return child.returncode, (used.ru_utime + used.ru_stime) * 1000, used.ru_maxrss
+    return child.returncode, (used.ru_utime + used.ru_stime) * 1000
+
+
+def memory_of(program, args, told):
+    """Memory in KB, as /usr/bin/time tells it, which is small itself."""
+    subprocess.run(['/usr/bin/time', '-o', told, '-f', '%M', program] + args, stdout=subprocess.DEVNULL, stderr=subprocess.DEVNULL)
+    with open(told) as f:
+        return int(f.read().split()[-1])
 
 
 def measure(program, name, texts, options=()):
@@ -49,10 +56,11 @@ def measure(program, name, texts, options=()):
             files.append(os.path.join(folder, '%03d.sheet' % k))
             with open(files[-1], 'w') as f:
                 f.write(text)
-        runs = [run(program, list(options) + files) for _ in range(5)]
-    size = sum(len(t) for t in texts)
+        args = list(options) + files
+        runs = [time_of(program, args) for _ in range(5)]
+        memory = memory_of(program, args, os.path.join(folder, 'memory'))
     print('| %s | %d | %s | %d | %.0f ms | %.1f MB |' % (
-        name, len(texts), '{:,}'.format(size), runs[0][0], min(r[1] for r in runs), max(r[2] for r in runs) / 1024), flush=True)
+        name, len(texts), '{:,}'.format(sum(len(t) for t in texts)), runs[0][0], min(r[1] for r in runs), memory / 1024), flush=True)
 
 
 def main():
