@@ -475,7 +475,7 @@ fn confirmed(cs: &[Constraint], e: Expected, nm: &Names) -> Expected {
     let j = judged(cs, &Substitution(bs), &bounds);
     let refusal = match (j.refusal, j.value) { (0, 1) => return e, (0, _) => 11, (n, _) => n };
     let reply = Reply { refusal, rounds: r.rounds, ..Default::default() };
-    Expected { reply, from: From::Paper, ..e }
+    Expected { reply, ..e }
 }
 /// a single variable to the power 1 as the variable, and no fields
 fn read_plainly(t: &Type) -> Type {
