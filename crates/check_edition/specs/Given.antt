@@ -1,7 +1,9 @@
 -- What is had of the files that were named.
 use Rattle.std.specs.Prelude.{◌≡◌, ℕ, ◌≤◌, ◌<◌, ⊤, List, map, length, replicate, Result, Ok, Err, Vec}
-use Rattle.rules.specs.Names.{Bytes}
-use Rattle.rules.specs.Reports.{Edition, editionGiven}
+use Rattle.rules.specs.Base.{collect}
+use Rattle.rules.specs.Names.{Bytes, table_of}
+use Rattle.rules.specs.Reports.{Edition, editionGiven, pageShown}
+use Rattle.rules.specs.declared.Shown.{Shown}
 use Rattle.rules.specs.declared.Unseen.{Unseen}
 use Rattle.rules.specs.declared.Unseen.TheVariants.{NotOpened, NotRead, TooLong}
 use Rattle.std.specs.declared.alloc.Global.{Global}
@@ -25,3 +27,7 @@ IsSheetOf bs (Err NotOpened) = ⊥
 -- the edition of these files, over a table without names
 abbrev pub editionOf : List Given → Edition
 editionOf gs = editionGiven (replicate 8192 0) (replicate 257 0) (given_of gs)
+
+-- its pages, as they are shown
+abbrev pub pagesOf : Shown → List Given → Bytes
+pagesOf shown gs = collect (pageShown shown (table_of (editionOf gs).pool (editionOf gs).table)) (editionOf gs).pages

@@ -1,4 +1,7 @@
 // Sheets each over a name table of its own.
+ghost use Rattle.std.specs.Prelude.{◌≡◌, ◌++◌, [], ◌∷◌, OnOk};
+ghost use Rattle.check_edition.specs.Given.{pagesOf};
+
 use crate::files::{Given, front, read};
 use crate::listing::list;
 use crate::notes::Notes;
@@ -24,14 +27,16 @@ struct Apart {
     room: Room,
 }
 
-// Tells of one sheet.
+// Tells of one sheet: its page is that of the edition that it is alone.
 fn check_one<R: Eprint + AllocGlobal, W: Write + Drop>(
     rt: &R,
     given: &Given,
     options: Options,
     so_far: &mut Apart,
     out: &mut Written<W>,
-) -> Result<()> {
+) -> Result<()>
+    ensures { OnOk result (out.new.passed.items ≡ out.old.passed.items ++ pagesOf options.shown (given.now ∷ [])) }
+{
     let alloc = rt.alloc();
     let files = [given.file()];
     let mut tables = Tables::new(alloc)?;

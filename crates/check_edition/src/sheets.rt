@@ -1,5 +1,6 @@
 // Sheets read over a name table that is empty at first.
 ghost use Rattle.std.specs.Prelude.{◌≡◌, replicate, IfOk};
+ghost use Rattle.edition.specs.Files.{ReadAll};
 
 use anyhow::{Result, bail};
 use edition::reading::{Unready, read_all};
@@ -28,7 +29,9 @@ impl Tables {
     }
 
     /// The names that are held.
-    pub fn names(&self) -> Result<NameTable<'_>> {
+    pub fn names(&self) -> Result<NameTable<'_>>
+        ensures { IfOk result (λ t. (t.pool.now ≡ self.now.pool.items) × (t.table.now ≡ self.now.table.items)) }
+    {
         match NameTable::new(&self.pool, &self.table) {
             Ok(names) => Ok(names),
             Err(why) => bail!("the name table is refused with {}", why.number()),
@@ -49,7 +52,10 @@ impl Tables {
         alloc: Global,
         files: &[File<'a>],
         room: &mut Room,
-    ) -> Result<Vec<Sheet<'a>>> {
+    ) -> Result<Vec<Sheet<'a>>>
+        ensures { IfOk result
+            (λ xs. ReadAll self.old.pool.items self.old.table.items files.now xs.items self.new.pool.items self.new.table.items) }
+    {
         match read_all(alloc, &mut self.pool, &mut self.table, files, room) {
             Ok(sheets) => Ok(sheets),
             Err(Unready::Names(why)) => bail!("the name table is refused with {}", why.number()),
