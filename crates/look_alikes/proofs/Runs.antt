@@ -1,6 +1,6 @@
 -- One step of the runs over the names from a number on.
-use Rattle.std.specs.Prelude.{◌≡◌, Bool, true, false, ℕ, suc, ◌+◌, ◌<◌, ◌≤◌, List, [], ◌∷◌, ◌++◌, length, drop, get_or}
-use Rattle.std.proofs.Common.{sym, ap, ◌∙◌, refl, arith, append_assoc, append-nil, drop-cons, drop_of_length-le}
+use Rattle.std.specs.Prelude.{◌≡◌, true, false, ℕ, ◌+◌, ◌<◌, ◌≤◌, List, [], ◌∷◌, ◌++◌, length, drop, get_or}
+use Rattle.std.proofs.Common.{sym, ◌∙◌, refl, append_assoc, append-nil, drop-cons, drop_of_length-le}
 use Rattle.std.proofs.Math.Numerals.{add-one}
 use Rattle.rules.specs.Names.{Bytes}
 use Rattle.look_alikes.specs.declared.Pair.{Pair}

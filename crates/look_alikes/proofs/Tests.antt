@@ -1,12 +1,12 @@
 -- What the tests of two names and of one say.
-use Rattle.std.specs.Prelude.{◌≡◌, Result, Ok, Err, IfOk, Bool, true, false, not, ◌&&◌, ℕ, IsTrue, ◌↔◌, chars, IsUtf8}
+use Rattle.std.specs.Prelude.{◌≡◌, Result, Ok, Err, IfOk, Bool, true, false, IsTrue, ◌↔◌, chars, IsUtf8}
 use Rattle.std.specs.List.{list_any}
 use Rattle.std.specs.Str.{is_utf8}
 use Rattle.std.specs.declared.alloc.AllocError.{AllocError}
-use Rattle.std.proofs.Common.{sym, ◌∙◌, rules, refl}
+use Rattle.std.proofs.Common.{sym, rules, refl}
 use Rattle.std.proofs.lemmas.Str.{IsUtf8-from_is_utf8, is_utf8-from_IsUtf8}
-use Rattle.caseless.specs.Caseless.{compatibility_key, IsCompatibilityMatch}
-use Rattle.rules.specs.Names.{Bytes, sameBytes}
+use Rattle.caseless.specs.Caseless.{IsCompatibilityMatch}
+use Rattle.rules.specs.Names.{Bytes}
 use Rattle.laws.specs.NameTable.{same-yes, same-no}
 use Rattle.ucd_category.specs.declared.GeneralCategory.{GeneralCategory}
 use Rattle.ucd_category.specs.declared.GeneralCategory.TheVariants.{Format}

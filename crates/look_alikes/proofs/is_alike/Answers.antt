@@ -1,4 +1,3 @@
-use Rattle.std.proofs.Common.{sym, rules}
 use Rattle.look_alikes.proofs.Tests.{first_no_text, second_no_text, if_matched}
 use Rattle.look_alikes.proofs.is_alike.Goals as goal
 

@@ -1,4 +1,4 @@
-use Rattle.std.proofs.Common.{ap, rules}
+use Rattle.std.proofs.Common.{ap}
 use Rattle.look_alikes.specs.Alike.{isFormat, isCf}
 use Rattle.look_alikes.proofs.Tests.{not_cf}
 use Rattle.look_alikes.proofs.is_format.Goals as goal

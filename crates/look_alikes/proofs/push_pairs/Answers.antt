@@ -1,4 +1,4 @@
-use Rattle.std.proofs.Common.{◌≡◌, ◌<◌, arith, sym, ◌∙◌, ap, rules, length}
+use Rattle.std.proofs.Common.{◌≡◌, ◌<◌, arith, rules, length}
 use Rattle.std.proofs.Math.Facts.{Fits-below}
 use Rattle.rules.specs.Names.{table_of, names_of}
 use Rattle.laws.specs.NameTable.{good-laid, length-names}

@@ -1,4 +1,4 @@
-use Rattle.std.proofs.Common.{arith, sym, rules, ◌≡◌, ◌<◌, ◌≤◌, length}
+use Rattle.std.proofs.Common.{arith, rules, ◌<◌, length}
 use Rattle.rules.specs.Names.{table_of, names_of}
 use Rattle.laws.specs.NameTable.{good-laid, length-names}
 use Rattle.look_alikes.proofs.Runs.{format_more, format_none, format_done}
