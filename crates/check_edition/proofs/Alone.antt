@@ -9,7 +9,7 @@ use Rattle.rules.specs.declared.Shown.{Shown}
 use Rattle.spelling.specs.Sinks.{Place, Puts}
 use Rattle.edition.specs.Files.{files_of, text_of as lent_text}
 use Rattle.edition.specs.Pages.{done}
-use Rattle.edition.specs.declared.sheets.File.{File}
+use Rattle.edition.specs.declared.model.File.{File}
 use Rattle.check_edition.specs.declared.files.Given.{Given}
 use Rattle.check_edition.specs.Given.{editionOf, text_of}
 

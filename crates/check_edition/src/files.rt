@@ -5,7 +5,7 @@ ghost use Rattle.check_edition.specs.Given.{given_of, text_of, IsSheetOf};
 
 use crate::words::Words;
 use anyhow::Result;
-use edition::sheets::File;
+use edition::model::File;
 use filling::fill_front;
 use rules::Unseen;
 use std::alloc::{AllocError, Global};

@@ -1,7 +1,7 @@
 // The names of sheets: each with the sheet that has it first.
-use crate::sheets::Tables;
+use crate::tables::Tables;
 use anyhow::Result;
-use edition::sheets::{File, Room, Sheet};
+use edition::model::{File, Room, Sheet};
 use names::tables::NameTable;
 use reporting::shown::put_shown;
 use spelling::put_name;

@@ -1,6 +1,6 @@
 // Notes on an edition: what a person should look at, though no verdict rests on it.
 use anyhow::Result;
-use edition::sheets::File;
+use edition::model::File;
 use look_alikes::{alike_pairs, has_format, with_format};
 use names::tables::NameTable;
 use reporting::lines::constraint_line;

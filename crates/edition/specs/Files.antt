@@ -8,11 +8,11 @@ use Rattle.rules.specs.Reports.{Page, Edition, onPage, readOn, editionGiven}
 use Rattle.rules.specs.declared.Unseen.{Unseen}
 use Rattle.laws.specs.NameTable.{Good}
 use Rattle.edition.specs.Pages.{IsPage}
-use Rattle.edition.specs.declared.sheets.File.{File}
-use Rattle.edition.specs.declared.sheets.Sheet.{Sheet}
-use Rattle.edition.specs.declared.sheets.Content.TheVariants as content
-use Rattle.edition.specs.declared.reading.Unready.{Unready}
-use Rattle.edition.specs.declared.reading.Unready.TheVariants as unready
+use Rattle.edition.specs.declared.model.File.{File}
+use Rattle.edition.specs.declared.model.Sheet.{Sheet}
+use Rattle.edition.specs.declared.model.Content.TheVariants as content
+use Rattle.edition.specs.declared.intake.Unready.{Unready}
+use Rattle.edition.specs.declared.intake.Unready.TheVariants as unready
 
 -- what is had of a file
 abbrev pub text_of : File → Result Bytes Unseen

@@ -13,8 +13,8 @@ use Rattle.rules.specs.declared.Unseen.{Unseen}
 use Rattle.rules.specs.declared.Shown.{Shown}
 use Rattle.rules.specs.declared.Shown.TheVariants.{All, Quiet}
 use Rattle.laws.specs.NameTable.{Good}
-use Rattle.edition.specs.declared.sheets.Content.{Content}
-use Rattle.edition.specs.declared.sheets.Content.TheVariants as content
+use Rattle.edition.specs.declared.model.Content.{Content}
+use Rattle.edition.specs.declared.model.Content.TheVariants as content
 
 -- whether something was done
 abbrev pub done : {A E : Type 0} → Result A E → Result (Unit {0}) E

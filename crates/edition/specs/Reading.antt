@@ -11,10 +11,10 @@ use Rattle.sheet_reading.specs.declared.Read.{Read}
 use Rattle.sheet_reading.specs.declared.NotRead as stop
 use Rattle.edition.specs.Files.{text_of, FileRead}
 use Rattle.edition.specs.Sheets.{ReadTo}
-use Rattle.edition.specs.declared.sheets.Content as kind
-use Rattle.edition.specs.declared.sheets.Content.TheVariants as content
-use Rattle.edition.specs.declared.sheets.File.{File}
-use Rattle.edition.specs.declared.sheets.Sheet as kept
+use Rattle.edition.specs.declared.model.Content as kind
+use Rattle.edition.specs.declared.model.Content.TheVariants as content
+use Rattle.edition.specs.declared.model.File.{File}
+use Rattle.edition.specs.declared.model.Sheet as kept
 
 -- what a text holds, by how it was read
 abbrev pub contentOf : Result Read stop.NotRead → kind.Content

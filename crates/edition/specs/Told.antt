@@ -9,7 +9,7 @@ use Rattle.rules.specs.declared.Shown.{Shown}
 use Rattle.laws.specs.Contents.{collect-append}
 use Rattle.spelling.specs.Sinks.{Place, Puts, nothing, then, cut}
 use Rattle.edition.specs.Files.{IsSheet, HoldsAll, as-many, PageAt, page-at}
-use Rattle.edition.specs.declared.sheets.Sheet.{Sheet}
+use Rattle.edition.specs.declared.model.Sheet.{Sheet}
 
 module _ (shown : Shown) (t : Table) (old : Place) where
   -- the first i are told, and so many of them are accepted

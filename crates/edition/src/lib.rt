@@ -1,8 +1,8 @@
 //! An edition checked: all its sheets read over one name table, then solved, judged and told one after another.
 #![tactic(auto)]
 
-pub mod reading;
-pub mod sheets;
+pub mod intake;
+pub mod model;
 pub mod telling;
 pub mod theorems;
 
@@ -16,11 +16,11 @@ ghost use Rattle.edition.specs.Report.{Counted, Leaves, sunkOf};
 ghost use Rattle.edition.specs.Told.{Whole};
 ghost use Rattle.edition.specs.Theorems.{AllTrue};
 
+use intake::{Unready, read_all};
+use model::{File, Room, Sheet};
 use names::tables::NameTable;
-use reading::{Unready, read_all};
 use reporting::words::put_total;
 use rules::{Refusal, Shown};
-use sheets::{File, Room, Sheet};
 use spelling::sink::Sink;
 use std::alloc::{AllocError, Global};
 use telling::tell_all;

@@ -8,7 +8,7 @@ ghost use Rattle.spelling.specs.Sinks.{Puts};
 ghost use Rattle.edition.specs.Files.{HoldsAll, IsSheet};
 ghost use Rattle.edition.specs.Pages.{Tells, done, shownIf};
 
-use crate::sheets::{Content, Room, Sheet};
+use crate::model::{Content, Room, Sheet};
 use confirming::solve_and_judge;
 use names::tables::NameTable;
 use reporting::pages::{Outcome, Page, put_page};

@@ -3,8 +3,8 @@ ghost use Rattle.std.specs.Prelude.{◌≡◌, replicate, IfOk};
 ghost use Rattle.edition.specs.Files.{ReadAll};
 
 use anyhow::{Result, bail};
-use edition::reading::{Unready, read_all};
-use edition::sheets::{File, Room, Sheet};
+use edition::intake::{Unready, read_all};
+use edition::model::{File, Room, Sheet};
 use names::tables::NameTable;
 use rules::{POOL_BYTES, TABLE_WORDS};
 use std::alloc::Global;

@@ -1,5 +1,5 @@
 use Rattle.edition.specs.Files.{ReadSoFar}
-use Rattle.edition.proofs.reading.read_files.Given as goal
+use Rattle.edition.proofs.intake.read_files.Given as goal
 
 abbrev pub invariant-loop-file : goal.invariant-loop-file
 invariant-loop-file l = ReadSoFar l.initial.pool l.initial.table l.files l.file-index l.sheets.items l.pool l.table

@@ -1,7 +1,7 @@
 -- `read_file` meets its contract: a file that is had is read, and one that isn't leaves the names as they are.
 use Rattle.std.specs.Prelude.{refl}
 use Rattle.edition.specs.Reading.{text-read, file-unseen}
-use Rattle.edition.proofs.reading.read_file.Goals as goal
+use Rattle.edition.proofs.intake.read_file.Goals as goal
 
 pub returns-in_ok-sheet-in-Ok : goal.returns-in_ok-sheet-in-Ok
 returns-in_ok-sheet-in-Ok c = text-read c.requires c.args.file _ _ _ refl c.in-Ok.text.now (rw c.in-Ok.is refl) refl _ c.content_of.ensures c.in_ok-sheet-in-Ok.ensures.read

@@ -2,7 +2,7 @@
 use native.Mathlib.Omega.{arith}
 use Rattle.std.proofs.Common.{sym, length-take-le}
 use Rattle.edition.specs.Sheets.{was-ok, was-err, read-fits}
-use Rattle.edition.proofs.reading.read_one.Goals as goal
+use Rattle.edition.proofs.intake.read_one.Goals as goal
 
 pub overflow_mul-end : goal.overflow_mul-end
 overflow_mul-end c =

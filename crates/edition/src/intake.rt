@@ -7,7 +7,7 @@ ghost use Rattle.edition.specs.Files.{FileRead, IsUnseen, ReadAll, Reads};
 ghost use Rattle.edition.specs.Reading.{contentOf};
 ghost use Rattle.edition.specs.Sheets.{ReadTo};
 
-use crate::sheets::{Content, File, Room, Sheet};
+use crate::model::{Content, File, Room, Sheet};
 use names::check_table;
 use rules::{Refusal, Unseen};
 use sheet_reading::{NotRead, Read};
