@@ -36,7 +36,7 @@ cp include/shupkelen.h dist/include/
 cp docs/*.1 dist/share/man/man1/
 cp NOTICE LICENSE dist/
 sed "s/@VERSION@/$version/" tools/shupkelen.pc.in >dist/lib/pkgconfig/shupkelen.pc
-printf 'shupkelen %s\nmade of the commit %s\nwith %s\nfor x86-64 Linux, any processor of the x86-64 baseline\n' "$version" "$(git rev-parse HEAD)" "$(rt version | head -n 1)" >dist/VERSION
+printf 'shupkelen %s\nmade of the commit %s\nwith %s\nfor x86-64 Linux, processors of the level x86-64-v2 (2009) and later\n' "$version" "$(git rev-parse HEAD)" "$(rt version | head -n 1)" >dist/VERSION
 (cd dist && find . -type f ! -name SHA256SUMS ! -name VERSION | LC_ALL=C sort | xargs sha256sum >SHA256SUMS)
 if [ -f "$log/before" ]; then
     if cmp -s "$log/before" dist/SHA256SUMS; then echo "dist/: the same bytes as before"; else echo "dist/: other bytes than before"; diff "$log/before" dist/SHA256SUMS; fi
