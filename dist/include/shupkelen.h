@@ -1,0 +1,341 @@
+/* Shupkelen: numbat's type and dimension constraint solver, proved, as a static library for x86-64 Linux (rt lib in crates/shupkelen).
+ *
+ * What every call has in common
+ *
+ *   Lent slices. A slice is a pointer and a count of its elements: bytes of a uint8_t slice, words of a uint32_t slice. Each pointer must be
+ *   valid for so many elements for the whole call, aligned, and never NULL, not even for 0 elements. A slice that is not const must overlap no other slice of the
+ *   same call. Nothing is kept after the call: there is no heap and no state, so calls on separate buffers may run on separate threads.
+ *
+ *   What is returned. The number of the refusal (enum shupkelen_refusal), 0 where there is none; only shupkelen_compare returns its answer.
+ *
+ *   answer. SHUPKELEN_ANSWER_WORDS words: value, more, rounds. Each call below says what value and more mean; rounds is 0 but for
+ *   shupkelen_confirm, shupkelen_solve and shupkelen_read_text. On a refusal all three are written too: 0, but for the rounds that were completed, for 5 of a set, where
+ *   value counts the records that remain, and for shupkelen_read_text, which says where. Of a shorter slice only the words that it has are written.
+ *
+ *   pool, table. A name table: SHUPKELEN_POOL_BYTES bytes or more, SHUPKELEN_TABLE_WORDS words or more. An empty one is all zero. Word 0 of the
+ *   table counts its names, word k + 1 is where the name with number k ends in the pool.
+ *
+ *   Records. Lists of types, constraints, bindings, bounds and schemes are records of four words: word 0 is the kind plus 65,536 times the number of
+ *   records of the part that it begins, then a, b, c (crates/rules/specs/Writing.antt). A list has SHUPKELEN_LIST_WORDS words at the most.
+ *
+ *   result, work. SHUPKELEN_LIST_WORDS words or more, SHUPKELEN_WORK_WORDS words or more. Past the answer, and on a refusal other than 5, the result buffer
+ *   is unchanged. The work buffer may hold anything before the call and is all zero after it, but for 10, which changes nothing.
+ *
+ *   Order of refusals at entry: 10, 8, 1, 4, 9. Stack: up to 1 MB (docs/CALLERS.md).
+ *
+ * What each function does on every input is proved; this file says it in words. crates/shupkelen/src has the contracts, and
+ * docs/CONTRACTS.md says which definition each call equals. This file is compared with that source by tools/header.py.
+ */
+#ifndef SHUPKELEN_H
+#define SHUPKELEN_H
+
+#include <stddef.h>
+#include <stdint.h>
+
+/* The version of this header: 10,000 for each first number, 100 for each second, 1 for each third. */
+#define SHUPKELEN_VERSION 100
+#define SHUPKELEN_VERSION_TEXT "0.1.0"
+
+#ifdef __cplusplus
+extern "C" {
+#endif
+
+/* Why a call gives no answer. */
+enum shupkelen_refusal {
+    SHUPKELEN_ACCEPTED = 0,
+    SHUPKELEN_MALFORMED = 1,      /* a table, list, product or exponent that is not well formed */
+    SHUPKELEN_NAME_LENGTH = 2,    /* a name of no byte, or of over 48 */
+    SHUPKELEN_NO_ROOM = 3,        /* no room for a name; also a number that no name has, where it is asked for or lent (contains, quantify and instantiate say 1) */
+    SHUPKELEN_MIXED = 4,          /* one name is both a variable and a parameter; a name lent for a line is given twice or used in it */
+    SHUPKELEN_UNSOLVED = 5,       /* no rule applies and constraints remain */
+    SHUPKELEN_NOT_DIMENSION = 6,  /* a type that is no dimension would enter a product */
+    SHUPKELEN_OUT_OF_RANGE = 7,   /* an exponent out of range */
+    SHUPKELEN_TOO_LARGE = 8,      /* over 2,048 records, names or entries, 64 nestings, 64 factors, 64 sets or 128 steps; a set that the second engine doesn't take */
+    SHUPKELEN_WRONG_COUNT = 9,    /* as many names as the scheme has must be handed, and a concrete type is no scheme to instantiate */
+    SHUPKELEN_SHORT_BUFFER = 10,  /* a lent buffer is too short */
+    SHUPKELEN_NOT_CONFIRMED = 11, /* the judge does not confirm a line, or what solving a set found */
+    SHUPKELEN_NOT_GRAMMAR = 12    /* a line outside the grammar */
+};
+
+/* The kinds of records (docs/RECORDS.md), and word 0 of a record: its kind, and how many records the part has that it begins, itself counted. */
+enum shupkelen_kind {
+    SHUPKELEN_KIND_VARIABLE = 1,           /* a: name */
+    SHUPKELEN_KIND_PARAMETER = 2,          /* a: name */
+    SHUPKELEN_KIND_DIMENSION = 3,          /* a: how many factors, which follow */
+    SHUPKELEN_KIND_BOOLEAN = 4,
+    SHUPKELEN_KIND_STRING = 5,
+    SHUPKELEN_KIND_DATETIME = 6,
+    SHUPKELEN_KIND_FUNCTION = 7,           /* a: how many parameters, which follow; then the type returned */
+    SHUPKELEN_KIND_STRUCT = 8,             /* a: name, b: how many arguments, c: how many fields; these follow */
+    SHUPKELEN_KIND_FIELD = 9,              /* a: name; its type follows */
+    SHUPKELEN_KIND_LIST = 10,              /* the type of its elements follows */
+    SHUPKELEN_KIND_VARIABLE_FACTOR = 11,   /* a: name, b: numerator, c: denominator */
+    SHUPKELEN_KIND_PARAMETER_FACTOR = 12,  /* as 11 */
+    SHUPKELEN_KIND_BASE_FACTOR = 13,       /* as 11 */
+    SHUPKELEN_KIND_QUANTIFIED = 14,        /* a: index; in schemes only */
+    SHUPKELEN_KIND_QUANTIFIED_FACTOR = 15, /* a: index, b: numerator, c: denominator; in schemes only */
+    SHUPKELEN_KIND_EQUAL = 20,             /* two types follow */
+    SHUPKELEN_KIND_IS_DIMENSION = 21,      /* a type follows */
+    SHUPKELEN_KIND_EQUAL_SCALAR = 22,      /* a dimension follows */
+    SHUPKELEN_KIND_HAS_FIELD = 23,         /* a: the field's name; the struct's type and the field's follow */
+    SHUPKELEN_KIND_BINDING = 24,           /* a: the variable's name; its type follows */
+    SHUPKELEN_KIND_BOUND = 25,             /* a: name; in a scheme, with b 1, an index */
+    SHUPKELEN_KIND_SCHEME = 26             /* a: how many quantified variables; b: 1 if concrete; a type and bounds follow */
+};
+#define SHUPKELEN_RECORD(kind, length) ((uint32_t)(kind) + UINT32_C(65536) * (uint32_t)(length))
+
+/* The steps of a calculation line. */
+enum shupkelen_step {
+    SHUPKELEN_STEP_CONSTANT = 1,  /* a: the place of its type in types */
+    SHUPKELEN_STEP_REFERENCE = 2, /* a: the number of an earlier line */
+    SHUPKELEN_STEP_ADD = 3,
+    SHUPKELEN_STEP_SUBTRACT = 4,
+    SHUPKELEN_STEP_MULTIPLY = 5,
+    SHUPKELEN_STEP_DIVIDE = 6,
+    SHUPKELEN_STEP_RAISE = 7,     /* b: numerator, c: denominator */
+    SHUPKELEN_STEP_COMPARE = 8,
+    SHUPKELEN_STEP_CHOOSE = 9     /* condition, then both arms */
+};
+
+/* Sizes. */
+enum {
+    SHUPKELEN_POOL_BYTES = 8192,
+    SHUPKELEN_TABLE_WORDS = 257,
+    SHUPKELEN_NAMES = 256,
+    SHUPKELEN_NAME_BYTES = 48,
+    SHUPKELEN_RECORDS = 2048,
+    SHUPKELEN_LIST_WORDS = 8192,
+    SHUPKELEN_WORK_WORDS = 16384,
+    SHUPKELEN_ANSWER_WORDS = 3,
+    SHUPKELEN_FACTORS = 64,
+    SHUPKELEN_PRODUCT_WORDS = 256,
+    SHUPKELEN_SETS = 64,
+    SHUPKELEN_KEPT_BYTES = 32768,
+    SHUPKELEN_SKIPPED_WORDS = 2049,
+    SHUPKELEN_TEXT_BYTES = 354304
+};
+
+/* ---- Names ---- */
+
+/* Two names, by their bytes. Returns 1 (less), 2 (same) or 3 (more). */
+uint32_t shupkelen_compare(const uint8_t *first, size_t first_len, const uint8_t *second, size_t second_len);
+
+/* Is it a name table? 10, 1. */
+uint32_t shupkelen_check_table(const uint8_t *pool, size_t pool_len, const uint32_t *table, size_t table_len);
+
+/* Has a name this number? 10, 1, 3. */
+uint32_t shupkelen_check_number(const uint8_t *pool, size_t pool_len, const uint32_t *table, size_t table_len, uint32_t name);
+
+/* Where the name with this number stands in the pool. value: its first byte; more: how many bytes. 10, 1, 3. */
+uint32_t shupkelen_name_of(const uint8_t *pool, size_t pool_len, const uint32_t *table, size_t table_len, uint32_t name, uint32_t *answer, size_t answer_len);
+
+/* Enters a name. value: its number; more: 1 where it is new, 0 where it was known. A refusal changes neither pool nor table. 10, 1, 2, 3. */
+uint32_t shupkelen_enter(uint8_t *pool, size_t pool_len, uint32_t *table, size_t table_len, const uint8_t *name, size_t name_len, uint32_t *answer, size_t answer_len);
+
+/* ---- Exponents: fractions in lowest terms, numerator and denominator up to 2,147,483,647 ---- */
+
+/* value: the numerator in two's complement, cast it to int32_t; more: the denominator. 1, 7. */
+uint32_t shupkelen_exponent_add(int32_t num, uint32_t den, int32_t num2, uint32_t den2, uint32_t *answer, size_t answer_len);
+uint32_t shupkelen_exponent_multiply(int32_t num, uint32_t den, int32_t num2, uint32_t den2, uint32_t *answer, size_t answer_len);
+uint32_t shupkelen_exponent_negate(int32_t num, uint32_t den, uint32_t *answer, size_t answer_len);
+uint32_t shupkelen_exponent_divide(int32_t num, uint32_t den, int32_t num2, uint32_t den2, uint32_t *answer, size_t answer_len);
+
+/* ---- Products: factors of four words: 11 variable, 12 parameter, 13 base dimension or 15 quantified; name or index; numerator; denominator ---- */
+
+/* first, second: up to 64 factors each; a torn last factor, like a 65th, makes the product malformed. result: SHUPKELEN_PRODUCT_WORDS words, all 64 places of the product,
+ * with (0, 0, 0, 1) in those that are unused; of a shorter buffer only the words that it has are written. value: the count of factors. On a
+ * refusal result is unchanged. 10, 1, 7, 8. */
+uint32_t shupkelen_product_multiply(const uint8_t *pool, size_t pool_len, const uint32_t *table, size_t table_len, const uint32_t *first, size_t first_len, const uint32_t *second, size_t second_len, uint32_t *result, size_t result_len, uint32_t *answer, size_t answer_len);
+uint32_t shupkelen_product_divide(const uint8_t *pool, size_t pool_len, const uint32_t *table, size_t table_len, const uint32_t *first, size_t first_len, const uint32_t *second, size_t second_len, uint32_t *result, size_t result_len, uint32_t *answer, size_t answer_len);
+uint32_t shupkelen_product_invert(const uint8_t *pool, size_t pool_len, const uint32_t *table, size_t table_len, const uint32_t *first, size_t first_len, uint32_t *result, size_t result_len, uint32_t *answer, size_t answer_len);
+uint32_t shupkelen_product_power(const uint8_t *pool, size_t pool_len, const uint32_t *table, size_t table_len, const uint32_t *first, size_t first_len, int32_t num, uint32_t den, uint32_t *result, size_t result_len, uint32_t *answer, size_t answer_len);
+
+/* ---- Lists of records ---- */
+
+/* Is it well formed? 10, 8, 1. */
+uint32_t shupkelen_is_set(const uint8_t *pool, size_t pool_len, const uint32_t *table, size_t table_len, const uint32_t *words, size_t words_len);
+uint32_t shupkelen_is_type(const uint8_t *pool, size_t pool_len, const uint32_t *table, size_t table_len, const uint32_t *words, size_t words_len);
+uint32_t shupkelen_is_scheme(const uint8_t *pool, size_t pool_len, const uint32_t *table, size_t table_len, const uint32_t *words, size_t words_len);
+uint32_t shupkelen_is_bindings(const uint8_t *pool, size_t pool_len, const uint32_t *table, size_t table_len, const uint32_t *words, size_t words_len);
+
+/* Are the four buffers of a call that writes records long enough? 10. */
+uint32_t shupkelen_lent(const uint8_t *pool, size_t pool_len, const uint32_t *table, size_t table_len, const uint32_t *result, size_t result_len, const uint32_t *work, size_t work_len);
+
+/* words: a type. Does it contain the variable of this name or, where parameters is 1, the parameter? value: 1 yes, 0 no. 10, 8, 1, 4. */
+uint32_t shupkelen_contains(const uint8_t *pool, size_t pool_len, const uint32_t *table, size_t table_len, const uint32_t *words, size_t words_len, uint32_t name, uint32_t parameters, uint32_t *answer, size_t answer_len);
+
+/* words: a type. Has it no variable and no parameter? value: 1 yes, 0 no. 10, 8, 1, 4. */
+uint32_t shupkelen_closed(const uint8_t *pool, size_t pool_len, const uint32_t *table, size_t table_len, const uint32_t *words, size_t words_len, uint32_t *answer, size_t answer_len);
+
+/* words: a type. result: the numbers of its variables and, where parameters is 1, parameters, each once, by the bytes of their names. value: how many. 10, 8, 1, 4. */
+uint32_t shupkelen_variables(const uint8_t *pool, size_t pool_len, const uint32_t *table, size_t table_len, const uint32_t *words, size_t words_len, uint32_t parameters, uint32_t *result, size_t result_len, uint32_t *answer, size_t answer_len);
+
+/* What a watchdog may count on. value: distinct variables of the set; more: the most rounds that solving it can take. 10, 8, 1. */
+uint32_t shupkelen_ceiling(const uint8_t *pool, size_t pool_len, const uint32_t *table, size_t table_len, const uint32_t *set, size_t set_len, uint32_t *answer, size_t answer_len);
+
+/* ---- Sets ---- */
+
+/* buffer: SHUPKELEN_LIST_WORDS words or more, whose first count records are a set. constraint: one constraint, which is tested, and stored behind the set unless
+ * it is satisfied. value: 1 Satisfied, 2 Violated, 3 Unknown; more: the records of the set then. 10, 8, 1, then 8 where the constraint has no room; a refusal leaves the buffer as it was. */
+uint32_t shupkelen_add(const uint8_t *pool, size_t pool_len, const uint32_t *table, size_t table_len, uint32_t *buffer, size_t buffer_len, size_t count, const uint32_t *constraint, size_t constraint_len, uint32_t *answer, size_t answer_len);
+
+/* words: a type; set: a set. result: the same with the bindings put in. value: its records. 10, 8, 1, 4, then 6, 7, 8. */
+uint32_t shupkelen_replace_in_type(const uint8_t *pool, size_t pool_len, const uint32_t *table, size_t table_len, const uint32_t *words, size_t words_len, const uint32_t *bindings, size_t bindings_len, uint32_t *result, size_t result_len, uint32_t *work, size_t work_len, uint32_t *answer, size_t answer_len);
+uint32_t shupkelen_replace_in_set(const uint8_t *pool, size_t pool_len, const uint32_t *table, size_t table_len, const uint32_t *set, size_t set_len, const uint32_t *bindings, size_t bindings_len, uint32_t *result, size_t result_len, uint32_t *work, size_t work_len, uint32_t *answer, size_t answer_len);
+
+/* Solves a set, and answers only what the judge confirms: what is answered makes every constraint of the set true. Use this call where somebody relies on an answer. All as
+ * shupkelen_solve, but of what that accepts: 11 where the judge says no, 7 or 8 where it meets them, with result unchanged and the rounds of solving. */
+uint32_t shupkelen_confirm(const uint8_t *pool, size_t pool_len, const uint32_t *table, size_t table_len, const uint32_t *set, size_t set_len, uint32_t *result, size_t result_len, uint32_t *work, size_t work_len, uint32_t *answer, size_t answer_len);
+
+/* Solves a set. result: the records of the bindings, then of the bounds. value: records of the bindings; more: bounds, a record each; rounds: completed rounds. On 5 result
+ * begins with the constraints that remain, and value counts their records. 10, 8, 1, 4, then 5, 6, 7, 8. What is answered makes every constraint true where no variable that stands
+ * in a dimension product of the set is bound to anything but a dimension or a variable; elsewhere it may not (x y = x z, with x boolean, is answered). */
+uint32_t shupkelen_solve(const uint8_t *pool, size_t pool_len, const uint32_t *table, size_t table_len, const uint32_t *set, size_t set_len, uint32_t *result, size_t result_len, uint32_t *work, size_t work_len, uint32_t *answer, size_t answer_len);
+
+/* Solves up to SHUPKELEN_SETS sets that stand back to back in sets; lengths: their records. With n sets, result has n x SHUPKELEN_LIST_WORDS words or more and
+ * answers n x 4. Of each set four words go into answers: refusal, completed rounds, records of bindings (on 5: of what remains), bounds; result has their records back to
+ * back. value: these records together. 10, 8, 1; a refused set does not stop those after it. Each answer is worth what that of shupkelen_solve is. */
+uint32_t shupkelen_solve_all(const uint8_t *pool, size_t pool_len, const uint32_t *table, size_t table_len, const uint32_t *sets, size_t sets_len, const uint32_t *lengths, size_t lengths_len, uint32_t *result, size_t result_len, uint32_t *answers, size_t answers_len, uint32_t *work, size_t work_len, uint32_t *answer, size_t answer_len);
+
+/* The second engine, for sets of equal-scalar constraints alone: up to 24 of them, over up to 24 variables and up to 24 parameters and base dimensions.
+ * result: the bindings; on 5 what remains. value: their records. 10, 8, 1, 4, then 8 where the set is no such set, 5, 7. */
+uint32_t shupkelen_eliminate(const uint8_t *pool, size_t pool_len, const uint32_t *table, size_t table_len, const uint32_t *set, size_t set_len, uint32_t *result, size_t result_len, uint32_t *work, size_t work_len, uint32_t *answer, size_t answer_len);
+
+/* Is this a solution of the set, whoever proposed it? entries: pairs of words, a variable's number and the place, in records, of its type in types; an odd last word is
+ * not looked at. bounds: records of bounds. value: 1 yes, 0 no; 0 is returned for a no, too: look at the value. 10, 8, 1, 4, then 7, 8. Over 2,048 pairs are 8. */
+uint32_t shupkelen_judge(const uint8_t *pool, size_t pool_len, const uint32_t *table, size_t table_len, const uint32_t *set, size_t set_len, const uint32_t *entries, size_t entries_len, const uint32_t *types, size_t types_len, const uint32_t *bounds, size_t bounds_len, uint32_t *work, size_t work_len, uint32_t *answer, size_t answer_len);
+
+/* Checks a whole calculation line. steps: its steps, four words each, in postfix order: the step's number (1 constant, 2 reference, 3 add, 4 subtract, 5 multiply,
+ * 6 divide, 7 raise, 8 compare, 9 choose), then a, b, c, 0 where unused: the place in types (1) or in lines (2), or in b and c the fraction (7). types: records of types; lines:
+ * the places, in records, of the earlier lines' types there; names: the numbers of names lent for the steps, one each or more. result: the type of the last step. value: its
+ * records. 10, 8, 1, 4, 3, then 5, 6, 7, 8, 4, 11; on 5 nothing remains to be told: value is 0, result unchanged. */
+uint32_t shupkelen_check_line(const uint8_t *pool, size_t pool_len, const uint32_t *table, size_t table_len, const uint32_t *steps, size_t steps_len, const uint32_t *types, size_t types_len, const uint32_t *lines, size_t lines_len, const uint32_t *names, size_t names_len, uint32_t *result, size_t result_len, uint32_t *work, size_t work_len, uint32_t *answer, size_t answer_len);
+
+/* ---- Schemes: names are words, a number each ---- */
+
+/* result: a scheme (quantify, generalise); the type, then the bounds, of a scheme with names put back (instantiate). value: its records. 10, 8, 1, 4, 9, then 6, 7, 8. */
+uint32_t shupkelen_quantify(const uint8_t *pool, size_t pool_len, const uint32_t *table, size_t table_len, const uint32_t *words, size_t words_len, const uint32_t *bounds, size_t bounds_len, const uint32_t *names, size_t names_len, uint32_t *result, size_t result_len, uint32_t *work, size_t work_len, uint32_t *answer, size_t answer_len);
+uint32_t shupkelen_generalise(const uint8_t *pool, size_t pool_len, const uint32_t *table, size_t table_len, const uint32_t *scheme, size_t scheme_len, const uint32_t *bounds, size_t bounds_len, uint32_t *result, size_t result_len, uint32_t *work, size_t work_len, uint32_t *answer, size_t answer_len);
+uint32_t shupkelen_instantiate(const uint8_t *pool, size_t pool_len, const uint32_t *table, size_t table_len, const uint32_t *scheme, size_t scheme_len, const uint32_t *names, size_t names_len, uint32_t *result, size_t result_len, uint32_t *work, size_t work_len, uint32_t *answer, size_t answer_len);
+
+/* ---- Files, the table, text ---- */
+
+/* file: the bytes of a damaged set file, words of four bytes, the lowest first. kept: SHUPKELEN_KEPT_BYTES bytes or more, gets the records that are well formed; skipped:
+ * SHUPKELEN_SKIPPED_WORDS words or more, the places of the others. value: records kept; more: places skipped. 10, 8, 1. */
+uint32_t shupkelen_rescue(const uint8_t *pool, size_t pool_len, const uint32_t *table, size_t table_len, const uint8_t *file, size_t file_len, uint8_t *kept, size_t kept_len, uint32_t *skipped, size_t skipped_len, uint32_t *answer, size_t answer_len);
+
+/* Keeps the names that the sets use, moves them up and renumbers the sets, up to SHUPKELEN_SETS of them, back to back; lengths: their records. value: names kept. Numbers
+ * outside these sets mean nothing afterwards. 10, 8, 1; a refusal changes nothing. */
+uint32_t shupkelen_compact(uint8_t *pool, size_t pool_len, uint32_t *table, size_t table_len, uint32_t *sets, size_t sets_len, const uint32_t *lengths, size_t lengths_len, uint32_t *answer, size_t answer_len);
+
+/* text: SHUPKELEN_TEXT_BYTES bytes or more, begins with the set as text, a line a constraint. value: its bytes. 10, 8, 1. */
+uint32_t shupkelen_write_text(const uint8_t *pool, size_t pool_len, const uint32_t *table, size_t table_len, const uint32_t *set, size_t set_len, uint8_t *text, size_t text_len, uint32_t *answer, size_t answer_len);
+
+/* Reads text, any bytes, as a set (docs/GRAMMAR.md), and enters the names that are new. result: the set. value: its records; more: its constraints; rounds: new names. On a refusal
+ * value is the line, from 1, and more the column, in bytes from 1 (of 2^32 or more their low 32 bits), 0 and 0 where no line is at fault; pool, table and result are unchanged.
+ * 10, 1, then 12, 1, 2, 3, 7 or 8 of the first line that is refused. */
+uint32_t shupkelen_read_text(uint8_t *pool, size_t pool_len, uint32_t *table, size_t table_len, const uint8_t *text, size_t text_len, uint32_t *result, size_t result_len, uint32_t *work, size_t work_len, uint32_t *answer, size_t answer_len);
+
+/* ---- Thin calls: over names and buffers that a caller keeps, so that no count is written by hand ---- */
+
+/* A name table; all zero: no names. */
+struct shupkelen_names {
+    uint8_t pool[SHUPKELEN_POOL_BYTES];
+    uint32_t table[SHUPKELEN_TABLE_WORDS];
+};
+
+/* What a call that writes records is lent. */
+struct shupkelen_buffers {
+    uint32_t result[SHUPKELEN_LIST_WORDS];
+    uint32_t work[SHUPKELEN_WORK_WORDS];
+};
+
+/* The words of an answer. */
+struct shupkelen_answer {
+    uint32_t value;
+    uint32_t more;
+    uint32_t rounds;
+};
+
+/* A calculation line, as shupkelen_check_line takes it. */
+struct shupkelen_line {
+    const uint32_t *steps;
+    size_t steps_len;
+    const uint32_t *types;
+    size_t types_len;
+    const uint32_t *lines;
+    size_t lines_len;
+    const uint32_t *names;
+    size_t names_len;
+};
+
+static inline uint32_t shupkelen_answered(uint32_t refusal, const uint32_t *words, struct shupkelen_answer *answer) {
+    answer->value = words[0];
+    answer->more = words[1];
+    answer->rounds = words[2];
+    return refusal;
+}
+
+/* shupkelen_enter. */
+static inline uint32_t shupkelen_enter_name(struct shupkelen_names *names, const uint8_t *name, size_t name_len, struct shupkelen_answer *answer) {
+    uint32_t words[SHUPKELEN_ANSWER_WORDS];
+    uint32_t refusal = shupkelen_enter(names->pool, SHUPKELEN_POOL_BYTES, names->table, SHUPKELEN_TABLE_WORDS, name, name_len, words, SHUPKELEN_ANSWER_WORDS);
+    return shupkelen_answered(refusal, words, answer);
+}
+
+/* shupkelen_read_text: the set stands at the front of buffers->result. */
+static inline uint32_t shupkelen_read_sheet(struct shupkelen_names *names, const uint8_t *text, size_t text_len, struct shupkelen_buffers *buffers, struct shupkelen_answer *answer) {
+    uint32_t words[SHUPKELEN_ANSWER_WORDS];
+    uint32_t refusal = shupkelen_read_text(names->pool, SHUPKELEN_POOL_BYTES, names->table, SHUPKELEN_TABLE_WORDS, text, text_len, buffers->result, SHUPKELEN_LIST_WORDS,
+        buffers->work, SHUPKELEN_WORK_WORDS, words, SHUPKELEN_ANSWER_WORDS);
+    return shupkelen_answered(refusal, words, answer);
+}
+
+/* shupkelen_confirm; set doesn't stand in buffers. */
+static inline uint32_t shupkelen_confirm_set(const struct shupkelen_names *names, const uint32_t *set, size_t set_len, struct shupkelen_buffers *buffers, struct shupkelen_answer *answer) {
+    uint32_t words[SHUPKELEN_ANSWER_WORDS];
+    uint32_t refusal = shupkelen_confirm(names->pool, SHUPKELEN_POOL_BYTES, names->table, SHUPKELEN_TABLE_WORDS, set, set_len, buffers->result, SHUPKELEN_LIST_WORDS,
+        buffers->work, SHUPKELEN_WORK_WORDS, words, SHUPKELEN_ANSWER_WORDS);
+    return shupkelen_answered(refusal, words, answer);
+}
+
+/* shupkelen_check_line. */
+static inline uint32_t shupkelen_check_steps(const struct shupkelen_names *names, const struct shupkelen_line *line, struct shupkelen_buffers *buffers, struct shupkelen_answer *answer) {
+    uint32_t words[SHUPKELEN_ANSWER_WORDS];
+    uint32_t refusal = shupkelen_check_line(names->pool, SHUPKELEN_POOL_BYTES, names->table, SHUPKELEN_TABLE_WORDS, line->steps, line->steps_len, line->types, line->types_len,
+        line->lines, line->lines_len, line->names, line->names_len, buffers->result, SHUPKELEN_LIST_WORDS, buffers->work, SHUPKELEN_WORK_WORDS, words, SHUPKELEN_ANSWER_WORDS);
+    return shupkelen_answered(refusal, words, answer);
+}
+
+/* shupkelen_write_text. */
+static inline uint32_t shupkelen_write_set(const struct shupkelen_names *names, const uint32_t *set, size_t set_len, uint8_t *text, size_t text_len, struct shupkelen_answer *answer) {
+    uint32_t words[SHUPKELEN_ANSWER_WORDS];
+    uint32_t refusal = shupkelen_write_text(names->pool, SHUPKELEN_POOL_BYTES, names->table, SHUPKELEN_TABLE_WORDS, set, set_len, text, text_len, words, SHUPKELEN_ANSWER_WORDS);
+    return shupkelen_answered(refusal, words, answer);
+}
+
+/* A refusal in words; of another number an empty text. */
+static inline const char *shupkelen_refusal_text(uint32_t refusal) {
+    switch (refusal) {
+    case SHUPKELEN_ACCEPTED: return "accepted";
+    case SHUPKELEN_MALFORMED: return "a table, list, product or exponent is not well formed";
+    case SHUPKELEN_NAME_LENGTH: return "a name has 1 to 48 bytes";
+    case SHUPKELEN_NO_ROOM: return "there is no room for the name, or no name has the number";
+    case SHUPKELEN_MIXED: return "one name is both a variable and a parameter, or a name lent for a line is not fresh";
+    case SHUPKELEN_UNSOLVED: return "no rule applies and constraints remain";
+    case SHUPKELEN_NOT_DIMENSION: return "a type that is no dimension would enter a product";
+    case SHUPKELEN_OUT_OF_RANGE: return "an exponent is out of range";
+    case SHUPKELEN_TOO_LARGE: return "over a limit of size";
+    case SHUPKELEN_WRONG_COUNT: return "another count of names than the scheme has, or a concrete type";
+    case SHUPKELEN_SHORT_BUFFER: return "a lent buffer is too short";
+    case SHUPKELEN_NOT_CONFIRMED: return "the judge says no";
+    case SHUPKELEN_NOT_GRAMMAR: return "a line is outside the grammar";
+    default: return "";
+    }
+}
+
+#ifdef __cplusplus
+}
+#endif
+
+#endif
