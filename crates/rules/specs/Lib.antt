@@ -21,6 +21,7 @@ pub mod Refusals
 pub mod Values
 pub mod Calls
 pub mod Confirming
+pub mod Conflicts
 pub mod Batches
 pub mod Ceiling
 pub mod Numbers
@@ -44,6 +45,7 @@ pub mod Examples
 pub mod CasesOfValues
 pub mod CasesOfLists
 pub mod CasesOfConfirming
+pub mod CasesOfConflicts
 pub mod CasesOfRescue
 pub mod CasesOfCompaction
 pub mod CasesOfElimination
