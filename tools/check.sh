@@ -8,5 +8,5 @@ python3 tools/records.py
 python3 tools/header.py
 before=$(cksum <docs/house.svg)
 python3 tools/house.py >/dev/null
-[ "$before" = "$(cksum <docs/house.svg)" ] || { echo "docs/house.svg is drawn anew: the crates or README's table changed"; exit 1; }
+[ "$before" = "$(cksum <docs/house.svg)" ] || { echo "docs/house.svg is drawn anew: the crates or docs/CRATES.md changed"; exit 1; }
 [ "$1" = --pages ] || sh bindings/test.sh

@@ -1,5 +1,5 @@
 #!/usr/bin/env python3
-"""Draws docs/house.svg: the crates of crates.txt as rooms, grouped as README's table of rooms groups them, with an arrow from each crate to those it uses.
+"""Draws docs/house.svg: the crates of crates.txt as boxes, grouped as docs/CRATES.md groups them, with an arrow from each crate to those it uses.
 
 An arrow that follows from others is left out. Users stand above what they use; the wing of theorems stands apart, on the right.
 It warns of each crate that crates.txt lists for another whose files don't cite it, and of each that is cited and not listed;
@@ -58,9 +58,9 @@ def edges(write):
 
 
 def groups():
-    """crate: its group in README's table."""
+    """crate: its group in the table of docs/CRATES.md."""
     group, found = "", {}
-    for line in (ROOT / "README.md").read_text(encoding="utf-8").splitlines():
+    for line in (ROOT / "docs" / "CRATES.md").read_text(encoding="utf-8").splitlines():
         head = re.match(r"\| \*\*(.+?)\*\* \|", line)
         row = re.match(r"\| ((?:`\w+`(?:, )?)+) \|", line)
         if head:
@@ -126,7 +126,7 @@ def main():
         out.append(f'<rect x="{x:.0f}" y="{y}" width="14" height="14" fill="{colour[g]}" stroke="#555"/><text x="{x + 20:.0f}" y="{y + 11}">{g}</text>')
     (ROOT / "docs" / "house.svg").write_text("\n".join(out + ["</svg>", ""]), encoding="utf-8")
     lost = [c for c in uses if c not in group]
-    print(f"{len(uses)} rooms, {sum(map(len, uses.values()))} arrows" + (f"; not in README's table: {', '.join(lost)}" if lost else ""))
+    print(f"{len(uses)} crates, {sum(map(len, uses.values()))} arrows" + (f"; not in docs/CRATES.md: {', '.join(lost)}" if lost else ""))
 
 
 if __name__ == "__main__":
