@@ -117,21 +117,21 @@ module _ (s : List ℕ) where
   none_left at n (nil, k) e = refl
   none_left at n (cons t ts, k) e = absurd (omega (arith, k.many))
 
-  pub first_of : (at n : ℕ) (h : Trees s at (suc n)) → First at n h.0
+  pub first_here : (at n : ℕ) (h : Trees s at (suc n)) → First at n h.0
   unfolding count HoldsTys
-  first_of at n (nil, k) = absurd (omega (arith, k.many))
-  first_of at n (cons t ts, k) = record { first = (t, k.held.0); rest = (ts, record { held = k.held.1; many = omega (arith, k.many) }); is = refl }
+  first_here at n (nil, k) = absurd (omega (arith, k.many))
+  first_here at n (cons t ts, k) = record { first = (t, k.held.0); rest = (ts, record { held = k.held.1; many = omega (arith, k.many) }); is = refl }
 
   -- whichever trees stand at those places, they are the parts
   pub none-are : (at n : ℕ) (h : Trees s at n) → n ≡ 0 → nil ≡ h.0
   none-are at n h e = sym (none_left at n h e)
 
   some_of : (at n m : ℕ) (h : Trees s at m) → suc n ≡ m → First at n h.0
-  some_of at n m h e = first_of at n (h.0, record { held = h.1.held; many = h.1.many ∙ sym e })
+  some_of at n m h e = first_here at n (h.0, record { held = h.1.held; many = h.1.many ∙ sym e })
 
   pub first_tree : (at m : ℕ) → Trees s at m → (m ≡ 0 → ⊥) → ATree s at
   first_tree at zero h z = absurd (z refl)
-  first_tree at (suc n) h z = (first_of at n h).first
+  first_tree at (suc n) h z = (first_here at n h).first
 
   pub rest_trees : (at m e : ℕ) → Trees s at m → (m ≡ 0 → ⊥) → (t : ATree s at) → e ≡ at + size t.0 → Trees s e (m - 1)
   rest_trees at m e h z t q =
