@@ -33,7 +33,9 @@ module _ (pool table : List ℕ) where
 
   -- in the order in which the call refuses
   unfoldable pub checks : List ℕ → ℕ → List ℕ → Got (Unit {0})
-  checks buffer count con = lentBuffer buffer >> ((need (leb count 2048) 8 >> shortLists (con ∷ [])) >> (tableKept (table_of pool table) >> (passing (setGiven (table_of pool table) (take (count * 4) buffer)) >> passing (oneGiven con))))
+  checks buffer count con = lentBuffer buffer
+      >> ((need (leb count 2048) 8 >> shortLists (con ∷ []))
+      >> (tableKept (table_of pool table) >> (passing (setGiven (table_of pool table) (take (count * 4) buffer)) >> passing (oneGiven con))))
 
 -- ══ One constraint ══
 
@@ -66,7 +68,8 @@ module _ (pool table s : List ℕ) where
 
     pub one-checked : length s % 4 ≡ 0 → (b : Bool) → Whole b → need b 1 ≡ passing (oneGiven pool table s)
     unfolding setGiven
-    one-checked e b h = sym (one_told s readCon (goodCon pool table 0) (GoodCon pool table 0 s) (con-reader pool table s w) b h ∙ rw (eq-eqb (length s % 4) 0 e) refl)
+    one-checked e b h = sym (one_told s readCon (goodCon pool table 0) (GoodCon pool table 0 s) (con-reader pool table s w) b h
+        ∙ rw (eq-eqb (length s % 4) 0 e) refl)
 
 -- ══ The checks, one after another ══
 
@@ -107,7 +110,8 @@ module _ (pool table buffer : List ℕ) (count : ℕ) (con : List ℕ) where
 
     module _ (h : count ≤ 2048) (k : length con ≤ 8192) where
       part-short : leb (length (take (count * 4) buffer)) 8192 ≡ true
-      part-short = le-leb (length (take (count * 4) buffer)) 8192 (omega (arith, length-take-le (count * 4) buffer (omega (arith, room pool table buffer l)), h))
+      part-short = le-leb (length (take (count * 4) buffer)) 8192
+          (omega (arith, length-take-le (count * 4) buffer (omega (arith, room pool table buffer l)), h))
 
       -- the set's checks, then those of the constraint
       checks-then : checks pool table buffer count con ≡ (setCall pool table (take (count * 4) buffer) >> passing (oneGiven pool table con))

@@ -45,7 +45,8 @@ module _ (buffer : List ℕ) (n : ℕ) (con : List ℕ) (cs : List (Con ℕ)) (c
     unfolding add stored bufferAfter
     kept e = rw (e, h.many) refl
 
-    pub full : (w : Added) → addTest ν c ≡ w → (w ≡ satisfied → ⊥) → 2048 < n + length con / 4 → record { answer = refused 8; buffer = buffer } ≡ addedWith ν buffer n con cs c
+    pub full : (w : Added) → addTest ν c ≡ w → (w ≡ satisfied → ⊥) → 2048 < n + length con / 4
+        → record { answer = refused 8; buffer = buffer } ≡ addedWith ν buffer n con cs c
     unfolding add stored bufferAfter
     full satisfied e f l = absurd (f refl)
     full violated e f l = rw (e, sum, lt-leb (n + length con / 4) 2048 l) refl
@@ -60,7 +61,8 @@ module _ (buffer : List ℕ) (n : ℕ) (con : List ℕ) (cs : List (Con ℕ)) (c
           k ∙ ap (sets buffer (n * 4)) (ap (λ (j : ℕ). slice 0 j con) z ∙ take-length con)
           ∙ sets-eq con buffer (n * 4) (omega (arith, h.room)) ∙ rw (append_assoc, drop-drop) refl
 
-      pub appended : (w : Added) → addTest ν c ≡ w → (w ≡ satisfied → ⊥) → record { answer = got (w, n + length con / 4); buffer = d } ≡ addedWith ν buffer n con cs c
+      pub appended : (w : Added) → addTest ν c ≡ w → (w ≡ satisfied → ⊥)
+          → record { answer = got (w, n + length con / 4); buffer = d } ≡ addedWith ν buffer n con cs c
       unfolding add stored bufferAfter
       appended satisfied e f = absurd (f refl)
       appended violated e f = rw (e, sum, le-leb (n + length con / 4) 2048 l, sum, behind) refl

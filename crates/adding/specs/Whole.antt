@@ -55,7 +55,8 @@ module _ {A B C : Type 0} (l s k : Got (Unit {0})) (m : Got A) (o : Got B) (f : 
     pub two : o ≡ got second
     pub is : all' ≡ f first second
 
-stops : {A B C : Type 0} (l s k : Got (Unit {0})) (m : Got A) (o : Got B) (f : A → B → Got C) (n : ℕ) → row l s k m o f ≡ refused n → all' l s k m o f ≡ refused n
+stops : {A B C : Type 0} (l s k : Got (Unit {0})) (m : Got A) (o : Got B) (f : A → B → Got C) (n : ℕ) → row l s k m o f ≡ refused n
+    → all' l s k m o f ≡ refused n
 stops (got u) (got v) (got w) (got a) (got b) f n e = clash (sym e)
 stops (got u) (got v) (got w) (got a) (refused j) f n e = cc
 stops (got u) (got v) (got w) (refused j) o f n e = cc
@@ -90,7 +91,9 @@ module _ (pool table : List ℕ) where
       where
         go : (b : Bool) → eqb (length con % 4) 0 ≡ b → length con % 4 ≡ 0
         go true q = eqb-true (length con % 4) 0 q
-        go false q = clash {n = 1} (sym (rw (list-broken con readCon (goodCon pool table 0) (GoodCon pool table 0 con) (con-reader pool table con w) (eqb-false (length con % 4) 0 q))) ∙ e)
+        go false q = clash {n = 1} (sym (rw
+            (list-broken con readCon (goodCon pool table 0) (GoodCon pool table 0 con) (con-reader pool table con w)
+            (eqb-false (length con % 4) 0 q))) ∙ e)
 
   module _ (buffer : List ℕ) (count : ℕ) (con : List ℕ) where
     abbrev made : List (Con ℕ) → Con ℕ → Got (Added × ℕ)
@@ -104,11 +107,13 @@ module _ (pool table : List ℕ) where
     )
 
     abbrev Checks : Type 0
-    Checks = Met (lentBuffer pool table buffer) (need (leb count 2048) 8 >> shortLists (con ∷ [])) (tableKept (table_of pool table)) (setGiven (table_of pool table) (take (count * 4) buffer)) (oneGiven pool table con) made
+    Checks = Met (lentBuffer pool table buffer) (need (leb count 2048) 8 >> shortLists (con ∷ [])) (tableKept (table_of pool table))
+        (setGiven (table_of pool table) (take (count * 4) buffer)) (oneGiven pool table con) made
 
     checks-met : checks pool table buffer count con ≡ got tt → Checks
     unfolding checks
-    checks-met e = met (lentBuffer pool table buffer) (need (leb count 2048) 8 >> shortLists (con ∷ [])) (tableKept (table_of pool table)) (setGiven (table_of pool table) (take (count * 4) buffer)) (oneGiven pool table con) made e
+    checks-met e = met (lentBuffer pool table buffer) (need (leb count 2048) 8 >> shortLists (con ∷ [])) (tableKept (table_of pool table))
+        (setGiven (table_of pool table) (take (count * 4) buffer)) (oneGiven pool table con) made e
 
     -- the set and the constraint that were given
     pub given : checks pool table buffer count con ≡ got tt → List (Con ℕ) × Con ℕ
@@ -121,7 +126,8 @@ module _ (pool table : List ℕ) where
         let (few, short) = lists-short x.short in
         let long = room pool table buffer x.lent in
         let n : length (take (count * 4) buffer) ≡ count * 4 = length-take-le (count * 4) buffer (omega arith) in
-        let t = chain-sum (take (count * 4) buffer) (length (take (count * 4) buffer) / 4) x.first 0 (set_is pool table (take (count * 4) buffer) (part-words (count * 4) buffer v) x.first x.one) in
+        let t = chain-sum (take (count * 4) buffer) (length (take (count * 4) buffer) / 4) x.first 0
+        (set_is pool table (take (count * 4) buffer) (part-words (count * 4) buffer v) x.first x.one) in
         let g = one-held con w x.second x.two in
         record {
           few = few;
@@ -132,10 +138,13 @@ module _ (pool table : List ℕ) where
           short = short;
         }
 
-    pub called : (e : checks pool table buffer count con ≡ got tt) → addedWith (numbers pool table) buffer count con (given e).0 (given e).1 ≡ addCall pool table buffer count con
+    pub called : (e : checks pool table buffer count con ≡ got tt)
+        → addedWith (numbers pool table) buffer count con (given e).0 (given e).1 ≡ addCall pool table buffer count con
     unfolding addCall addedTo given checks-met
     called e = sym (rw (checks-met e).is refl)
 
-    pub refusing : (n : ℕ) → checks pool table buffer count con ≡ refused n → record { answer = refused n; buffer = buffer } ≡ addCall pool table buffer count con
+    pub refusing : (n : ℕ) → checks pool table buffer count con ≡ refused n
+        → record { answer = refused n; buffer = buffer } ≡ addCall pool table buffer count con
     unfolding addCall addedTo bufferAfter checks
-    refusing n e = sym (rw (stops (lentBuffer pool table buffer) (need (leb count 2048) 8 >> shortLists (con ∷ [])) (tableKept (table_of pool table)) (setGiven (table_of pool table) (take (count * 4) buffer)) (oneGiven pool table con) made n e) refl)
+    refusing n e = sym (rw (stops (lentBuffer pool table buffer) (need (leb count 2048) 8 >> shortLists (con ∷ [])) (tableKept (table_of pool table))
+        (setGiven (table_of pool table) (take (count * 4) buffer)) (oneGiven pool table con) made n e) refl)

@@ -126,7 +126,8 @@ module _ (pool table set : List ℕ) where
       bracket (setGiven t set) _ _ ∙ same_after (setGiven t set) _ _ (λ cs. bracket (apart t (collect opensCon cs)) _ _))))
 
   -- a set that passed, and fits: the engine's answer is the solver's after some rounds
-  module _ (u : Unit {0}) (long : lentTable pool table ≡ got u) (cs : List (Con ℕ)) (ps : List (Product ℕ)) (checked : setChecked t set ≡ got cs) (fit : Fits cs ps) where
+  module _ (u : Unit {0}) (long : lentTable pool table ≡ got u) (cs : List (Con ℕ)) (ps : List (Product ℕ)) (checked : setChecked t set ≡ got cs)
+      (fit : Fits cs ps) where
     fits_both : (k : ℕ) × (solve ν bounded cs ≡ answered k (eliminated ν ps))
     unfolding setChecked tableKept fitting
     fits_both =
@@ -140,7 +141,8 @@ module _ (pool table set : List ℕ) where
         let p : e.0 ≡ ps = cc f.2 in
         let l = lent-long pool table u long in
         let is : cs ≡ map is_scalar ps = scalars cs ps (e.1 ∙ ap got p) in
-        let good = products-good ν (is_held t) ps (subst (λ (x : List (Con ℕ)). all (goodCon ν (is_held t) 0) x ≡ true) (same ∙ is) (set-read t set c.0 c.1).0) in
+        let good = products-good ν (is_held t) ps
+        (subst (λ (x : List (Con ℕ)). all (goodCon ν (is_held t) 0) x ≡ true) (same ∙ is) (set-read t set c.0 c.1).0) in
         let tells = held-apart pool table (record { bytes = l.0; words = l.1; good = need-passed (tableGood t) 1 b.1 }) in
         let few : fits ν ps ≡ true = subst (λ (x : List (Product ℕ)). fits ν x ≡ true) p (need-passed (fits ν e.0) 8 f.1) in
         let r = as-solved ν (atom-lawful ν (numbered-lawful _)) (is_held t) tells ps good few in
@@ -241,7 +243,8 @@ module _ (pool table set result work : List ℕ) where
     where
       after-fit : (u : Unit {0}) → first ≡ got u → (cs : List (Con ℕ)) → setChecked (table_of pool table) set ≡ got cs → (m : Got (List (Product ℕ)))
           → fitting (numbersOf (table_of pool table)) cs ≡ m → Agree pool table set result work ⊎ Unfit pool table set result work
-      after-fit u i cs j (refused n) f = inr (record { cs = cs; long = i; checked = j; unfit = f ∙ ap refused (fitting-refuses (numbersOf (table_of pool table)) cs n f) })
+      after-fit u i cs j (refused n) f = inr
+          (record { cs = cs; long = i; checked = j; unfit = f ∙ ap refused (fitting-refuses (numbersOf (table_of pool table)) cs n f) })
       after-fit u i cs j (got ps) f =
           let v = lent-table u i in
           let b = fits_both pool table set v.0 v.1 cs ps j f in
@@ -262,7 +265,8 @@ module _ (pool table set result work : List ℕ) where
   unfit-answer h = rw (h.long, h.checked, h.unfit) refl
 
   -- on every set that fits
-  pub on-fitting : ((cs : List (Con ℕ)) → setChecked (table_of pool table) set ≡ got cs → (ps : List (Product ℕ)) × (fitting (numbersOf (table_of pool table)) cs ≡ got ps))
+  pub on-fitting : ((cs : List (Con ℕ)) → setChecked (table_of pool table) set ≡ got cs → (ps : List (Product ℕ))
+      × (fitting (numbersOf (table_of pool table)) cs ≡ got ps))
       → Agree pool table set result work
   on-fitting fit = go always
     where
@@ -295,7 +299,8 @@ module _ (pool table set result work : List ℕ) where
   unfolding lent lentTable lentResult lentWork
   lent-refuses =
       next (lentTable pool table >> lentResult result) _
-      (next (lentTable pool table) _ (need-refuses (leb 8192 (length pool) && leb 257 (length table)) 10 ten) (λ _. need-refuses (leb 8192 (length result)) 10 ten)) (λ _. need-refuses (leb 16384 (length work)) 10 ten)
+      (next (lentTable pool table) _ (need-refuses (leb 8192 (length pool) && leb 257 (length table)) 10 ten)
+      (λ _. need-refuses (leb 8192 (length result)) 10 ten)) (λ _. need-refuses (leb 16384 (length work)) 10 ten)
     where
       ten : Known 10
       ten = inl refl
@@ -305,7 +310,8 @@ module _ (pool table set result work : List ℕ) where
   given-refuses =
       next (orRefuse 1 (records set)) _ (or-refuses 1 (records set) one) (λ rs.
       next (orRefuse 1 (read_all readCon (length rs) rs)) _ (or-refuses 1 (read_all readCon (length rs) rs) one) (λ cs.
-      next (need (all (goodCon (numbersOf (table_of pool table)) (is_held (table_of pool table)) 0) cs) 1) _ (need-refuses (all (goodCon (numbersOf (table_of pool table)) (is_held (table_of pool table)) 0) cs) 1 one) (λ _. given)))
+      next (need (all (goodCon (numbersOf (table_of pool table)) (is_held (table_of pool table)) 0) cs) 1) _
+      (need-refuses (all (goodCon (numbersOf (table_of pool table)) (is_held (table_of pool table)) 0) cs) 1 one) (λ _. given)))
     where
       one : Known 1
       one = inr (inl refl)
@@ -316,14 +322,16 @@ module _ (pool table set result work : List ℕ) where
       next (shortLists (set ∷ [])) _ (need-refuses (all (λ ws. leb (length ws) 8192) (set ∷ [])) 8 (inr (inr (inr (inl refl))))) (λ _.
       next (tableKept (table_of pool table)) _ (need-refuses (tableGood (table_of pool table)) 1 (inr (inl refl))) (λ _.
       next (setGiven (table_of pool table) set) _ given-refuses (λ cs.
-      next (apart (table_of pool table) (collect opensCon cs)) _ (need-refuses (unmixed (numbersOf (table_of pool table)) (collect opensCon cs)) 4 (inr (inr (inl refl)))) (λ _. given))))
+      next (apart (table_of pool table) (collect opensCon cs)) _
+      (need-refuses (unmixed (numbersOf (table_of pool table)) (collect opensCon cs)) 4 (inr (inr (inl refl)))) (λ _. given))))
 
   call-refuses : Refuses Known eliminating
   unfolding eliminatedSet
   call-refuses =
       next first _ lent-refuses (λ _.
       next (setChecked (table_of pool table) set) _ checks-refuse (λ cs.
-      next (fitting (numbersOf (table_of pool table)) cs) _ (record { only = λ n e. inr (inr (inr (inl (fitting-refuses (numbersOf (table_of pool table)) cs n e)))) }) (λ ps.
+      next (fitting (numbersOf (table_of pool table)) cs) _
+      (record { only = λ n e. inr (inr (inr (inl (fitting-refuses (numbersOf (table_of pool table)) cs n e)))) }) (λ ps.
       record { only = λ n e. inr (inr (inr (inr ((eliminated-seven (numbersOf (table_of pool table)) ps).only n e)))) })))
 
   answer-refuses : (n : ℕ) → (eliminateCall pool table set result work).answer ≡ refusedWith n → Known n

@@ -90,12 +90,14 @@ module _ {N : Type 0} (ν : Names N) (law : Lawful (orderAtom ν)) where
   NotZero (a ↑ e) = isZero e ≡ false
 
   -- an atom in the first column, and one in a later column
-  module _ (a b : Atom N) (e : Exp) (cols : List (Atom N)) (p : Product N) (u : Every (λ c. orderAtom ν a c ≡ Ordering.lt) cols) (s : Before ν b p) (o : Over (a ∷ cols) p) where
+  module _ (a b : Atom N) (e : Exp) (cols : List (Atom N)) (p : Product N) (u : Every (λ c. orderAtom ν a c ≡ Ordering.lt) cols) (s : Before ν b p)
+      (o : Over (a ∷ cols) p) where
     first : isZero e ≡ false → b ≡ a → (Over cols p → factors cols (row_of ν cols p) ≡ p) → factors (a ∷ cols) (row_of ν (a ∷ cols) (b ↑ e ∷ p)) ≡ b ↑ e ∷ p
     unfolding row_of
     first z i more =
         let power : powerIn ν (b ↑ e ∷ p) a ≡ e = ap (powerIn ν (b ↑ e ∷ p)) (sym i) ∙ power-here ν b e p in
-        let rest : row_of ν cols (b ↑ e ∷ p) ≡ row_of ν cols p = behind b e p cols (subst (λ (x : Atom N). Every (λ c. orderAtom ν x c ≡ Ordering.lt) cols) (sym i) u) in
+        let rest : row_of ν cols (b ↑ e ∷ p) ≡ row_of ν cols p =
+        behind b e p cols (subst (λ (x : Atom N). Every (λ c. orderAtom ν x c ≡ Ordering.lt) cols) (sym i) u) in
         ap₂ (λ (x : Exp) (r : Row). factors (a ∷ cols) (x ∷ r)) power rest
         ∙ factors-kept a cols e (row_of ν cols p) z
         ∙ ap (a ↑ e ∷◌) (more (further-in a cols p (subst (λ (x : Atom N). Before ν x p) i s) o))
@@ -234,7 +236,8 @@ module _ {N : Type 0} (ν : Names N) (law : Lawful (orderAtom ν)) (held : N →
         let few = few-rows in
         let rows = map (row_of ν cols) ps in
         let n : length rows ≡ length ps = length-map ps (row_of ν cols) in
-        let t = row-by-row ν law cols few.1 rising (length ps) enough 0 [] rows [] n (omega (arith, few.0)) tt (rows_fit ps good) tt (omega (arith, n, few.0)) in
+        let t = row-by-row ν law cols few.1 rising (length ps) enough 0 [] rows [] n (omega (arith, few.0)) tt (rows_fit ps good) tt
+        (omega (arith, n, few.0)) in
         (t.0, ap (λ cs. run ν bounded enough 0 (record { cons = cs; binds = [] })) (sym (rows_back ps good columns-hold)) ∙ t.1)
 
     -- rows that stand for the same products, with zeros past the columns, come to the same
@@ -248,7 +251,8 @@ module _ {N : Type 0} (ν : Names N) (law : Lawful (orderAtom ν)) (held : N →
 
     -- in particular the rows themselves, with zeros up to any width
     pub padded-rows : (width : ℕ)
-        → (eliminate cols (length ps) (map (λ p. row_of ν cols p ++ replicate (width - length (row_of ν cols p)) nought) ps) [] >>= λ d. got (settledBy cols d.left d.values)) ≡ eliminated ν ps
+        → (eliminate cols (length ps) (map (λ p. row_of ν cols p ++ replicate (width - length (row_of ν cols p)) nought) ps) []
+        >>= λ d. got (settledBy cols d.left d.values)) ≡ eliminated ν ps
     padded-rows width =
         any-rows (map padded ps) (length-map ps padded) (all_fit ps good) (all_back ps good columns-hold)
       where
@@ -257,11 +261,16 @@ module _ {N : Type 0} (ν : Names N) (law : Lawful (orderAtom ν)) (held : N →
 
         all_fit : (qs : List (Product N)) → Every (λ p. goodProduct ν held 0 p ≡ true) qs → Every (Fit cols) (map padded qs)
         all_fit [] h = tt
-        all_fit (p ∷ qs) h = (fit-padded cols (row_of ν cols p) (width - length (row_of ν cols p)) (row-fit cols p (good-product ν law held 0 p h.0).each), all_fit qs h.1)
+        all_fit (p ∷ qs) h = (
+          fit-padded cols (row_of ν cols p) (width - length (row_of ν cols p))
+              (row-fit cols p (good-product ν law held 0 p h.0).each),
+          all_fit qs h.1,
+        )
 
         all_back : (qs : List (Product N)) → Every (λ p. goodProduct ν held 0 p ≡ true) qs → Every (Over ν law cols) qs
             → map (λ r. is_scalar (factors cols r)) (map padded qs) ≡ map is_scalar qs
         all_back [] h o = refl
         all_back (p ∷ qs) h o =
             let g = good-product ν law held 0 p h.0 in
-            ap₂ ◌∷◌ (ap is_scalar (factors-padded cols (row_of ν cols p) (width - length (row_of ν cols p)) (row-fit cols p g.each) ∙ given_back ν law cols p rising g.in_order (not-zero p g.each) o.0)) (all_back qs h.1 o.1)
+            ap₂ ◌∷◌ (ap is_scalar (factors-padded cols (row_of ν cols p) (width - length (row_of ν cols p)) (row-fit cols p g.each)
+            ∙ given_back ν law cols p rising g.in_order (not-zero p g.each) o.0)) (all_back qs h.1 o.1)

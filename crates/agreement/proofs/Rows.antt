@@ -182,10 +182,12 @@ module _ {N : Type 0} (ν : Names N) (law : Lawful (orderAtom ν)) where
       by-power (λ e. Alike (Stands (a ∷ cols)) (timesRow k (e ∷ r)) (raise ν bounded (factors (a ∷ cols) (e ∷ r)) k)) e h.0
       (rw (nought-times k g) (one_more _ more (λ s q t. both (record { fit = (nought-good, t.fit); is = t.is }))))
       (λ z. rw (factors-kept a cols e r z)
-      (same_step (times bounded e k) _ _ (times-good e k h.0 g) (λ s i. onward _ _ more (λ rs q t. both (record { fit = (i, t.fit); is = ap (put a s) t.is })))))
+      (same_step (times bounded e k) _ _ (times-good e k h.0 g)
+      (λ s i. onward _ _ more (λ rs q t. both (record { fit = (i, t.fit); is = ap (put a s) t.is })))))
 
   -- row + row, a column further
-  module _ (a : Atom N) (cols : List (Atom N)) (r m : Row) (u : Rising ν (a ∷ cols)) (more : Alike (Stands cols) (plusRow r m) (merge ν bounded (factors cols r) (factors cols m))) where
+  module _ (a : Atom N) (cols : List (Atom N)) (r m : Row) (u : Rising ν (a ∷ cols))
+      (more : Alike (Stands cols) (plusRow r m) (merge ν bounded (factors cols r) (factors cols m))) where
     abbrev Sum : Exp → Exp → Type 0
     Sum e d = Alike (Stands (a ∷ cols)) (plusRow (e ∷ r) (d ∷ m)) (merge ν bounded (factors (a ∷ cols) (e ∷ r)) (factors (a ∷ cols) (d ∷ m)))
 
@@ -213,7 +215,8 @@ module _ {N : Type 0} (ν : Names N) (law : Lawful (orderAtom ν)) where
 
     column-sum : (e d : Exp) → Good e → Good d → Sum e d
     column-sum e d g i =
-        by-power (λ e. Sum e d) e g (by-power (λ d. Sum nought d) d i none-there (second-there d i)) (λ y. by-power (λ d. Sum e d) d i (first-there e g y) (λ z. both-there e d g i y z))
+        by-power (λ e. Sum e d) e g (by-power (λ d. Sum nought d) d i none-there (second-there d i))
+        (λ y. by-power (λ d. Sum e d) d i (first-there e g y) (λ z. both-there e d g i y z))
 
   plus-row : (cols : List (Atom N)) (r m : Row) → Rising ν cols → Fit cols r → Fit cols m
       → Alike (Stands cols) (plusRow r m) (merge ν bounded (factors cols r) (factors cols m))
@@ -221,7 +224,8 @@ module _ {N : Type 0} (ν : Names N) (law : Lawful (orderAtom ν)) where
   plus-row [] [] [] u h k = both (record { fit = tt; is = refl })
   plus-row [] [] (d ∷ m) u h k = both (record { fit = tt; is = refl })
   plus-row [] (e ∷ r) [] u h k = both (record { fit = h; is = refl })
-  plus-row [] (e ∷ r) (d ∷ m) u h k = rw (h.0, k.0, sum-nought nought nought-good) (one_more _ (plus-row [] r m u h.1 k.1) (λ s q t. both (record { fit = (refl, t.fit); is = t.is })))
+  plus-row [] (e ∷ r) (d ∷ m) u h k = rw (h.0, k.0, sum-nought nought nought-good)
+      (one_more _ (plus-row [] r m u h.1 k.1) (λ s q t. both (record { fit = (refl, t.fit); is = t.is })))
   plus-row (a ∷ cols) [] m u h k = absurd h
   plus-row (a ∷ cols) (e ∷ r) [] u h k = absurd k
   plus-row (a ∷ cols) (e ∷ r) (d ∷ m) u h k = column-sum a cols r m u (plus-row cols r m u.1 h.1 k.1) e d h.0 k.0
@@ -249,7 +253,8 @@ module _ {N : Type 0} (ν : Names N) (law : Lawful (orderAtom ν)) where
       let o : orderAtom ν b a ≡ Ordering.lt = at_every (λ x. orderAtom ν b x ≡ Ordering.lt) cols c a u.0 k in
       let more = cleared cols r c a u.1 h.1 k z in
       by-power (λ e. merge ν bounded (factors (b ∷ cols) (e ∷ r)) (a ↑ neg (get_or r c nought) ∷ []) ≡ got (factors (b ∷ cols) (e ∷ set r c nought))) e h.0 more
-      (λ y. rw (factors-kept b cols e r y, merge-first ν b e (factors cols r) (a ↑ neg (get_or r c nought) ∷ []) (o, tt), more) (ap got (sym (factors-kept b cols e (set r c nought) y))))
+      (λ y. rw (factors-kept b cols e r y, merge-first ν b e (factors cols r) (a ↑ neg (get_or r c nought) ∷ []) (o, tt), more)
+      (ap got (sym (factors-kept b cols e (set r c nought) y))))
 
   divided : (cols : List (Atom N)) (r : Row) (c : ℕ) (a : Atom N) → length cols ≤ 64 → Rising ν cols → Fit cols r → At cols c a
       → isZero (get_or r c nought) ≡ false
@@ -302,19 +307,22 @@ module _ {N : Type 0} (ν : Names N) (law : Lawful (orderAtom ν)) where
     unfolding replaceFactors exchanged asProduct
     met e fs acc h =
         rw (look-x, replaceFactors)
-        (same_after (divide ν bounded acc (free (var x) ↑ e ∷ [])) _ _ (λ left. same_after (raise ν bounded q e) _ _ (λ more. last (multiply ν bounded left more))))
+        (same_after (divide ν bounded acc (free (var x) ↑ e ∷ [])) _ _
+        (λ left. same_after (raise ν bounded q e) _ _ (λ more. last (multiply ν bounded left more))))
       where
         last : (m : Got (Product N)) → (m >>= λ acc'. replaceFactors ν bounded look fs acc') ≡ m
         last (got p) = skipped fs p h
         last (refused n) = refl
 
     walked : (cols : List (Atom N)) (r : Row) (c : ℕ) (acc : Product N) → Rising ν cols → Fit cols r → At cols c (free (var x))
-        → (isZero (get_or r c nought) ≡ true → replaceFactors ν bounded look (factors cols r) acc ≡ got acc) × (isZero (get_or r c nought) ≡ false → replaceFactors ν bounded look (factors cols r) acc ≡ exchanged (get_or r c nought) acc)
+        → (isZero (get_or r c nought) ≡ true → replaceFactors ν bounded look (factors cols r) acc ≡ got acc)
+        × (isZero (get_or r c nought) ≡ false → replaceFactors ν bounded look (factors cols r) acc ≡ exchanged (get_or r c nought) acc)
     unfolding factors
     walked [] r c acc u h k = absurd k
     walked (b ∷ cols) [] c acc u h k = absurd h
     walked (b ∷ cols) (e ∷ r) zero acc u h k =
-        let before : Before ν (free (var x)) (factors cols r) = before-factors ν (free (var x)) cols r (subst (λ (a : Atom N). Every (λ y. orderAtom ν a y ≡ Ordering.lt) cols) k u.0) in
+        let before : Before ν (free (var x)) (factors cols r) =
+        before-factors ν (free (var x)) cols r (subst (λ (a : Atom N). Every (λ y. orderAtom ν a y ≡ Ordering.lt) cols) k u.0) in
         (λ z. rw (zero_is e h.0 z) (skipped (factors cols r) acc before), λ z. rw (factors-kept b cols e r z, k) (met e (factors cols r) acc before))
     walked (b ∷ cols) (e ∷ r) (suc c) acc u h k =
         let o : orderAtom ν b (free (var x)) ≡ Ordering.lt = at_every (λ y. orderAtom ν b y ≡ Ordering.lt) cols c (free (var x)) u.0 k in
@@ -325,7 +333,8 @@ module _ {N : Type 0} (ν : Names N) (law : Lawful (orderAtom ν)) where
         (λ z. same ∙ more.0 z, λ z. same ∙ more.1 z)
 
   -- a variable put into a row, and into the product that the row stands for
-  module _ (cols : List (Atom N)) (few : length cols ≤ 64) (rise : Rising ν cols) (c : ℕ) (x : N) (at : At cols c (free (var x))) (w : Row) (fw : Fit cols w) where
+  module _ (cols : List (Atom N)) (few : length cols ≤ 64) (rise : Rising ν cols) (c : ℕ) (x : N) (at : At cols c (free (var x))) (w : Row)
+      (fw : Fit cols w) where
     abbrev Q : Product N
     Q = factors cols w
 
@@ -340,7 +349,8 @@ module _ {N : Type 0} (ν : Names N) (law : Lawful (orderAtom ν)) where
         go true z = rw (untouched cols c w r fw h z, (walked x Q cols r c (factors cols r) rise h at).0 z) (both (record { fit = h; is = refl }))
         go false z =
             rw ((walked x Q cols r c (factors cols r) rise h at).1 z, divided cols r c (free (var x)) few rise h at z)
-            (onward _ _ (times-row cols w (get_or r c nought) fw (fit_at cols r c h)) (λ m p t. rw t.is (multiply-row cols (set r c nought) m few rise (fit-set cols r c h) t.fit)))
+            (onward _ _ (times-row cols w (get_or r c nought) fw (fit_at cols r c h))
+            (λ m p t. rw t.is (multiply-row cols (set r c nought) m few rise (fit-set cols r c h) t.fit)))
 
     -- raised to the power 1
     raise-one : raise ν bounded Q one ≡ got Q
@@ -380,7 +390,8 @@ module _ {N : Type 0} (ν : Names N) (law : Lawful (orderAtom ν)) where
       → Alike (Stands cols) (each (λ j. quotient bounded (neg j) k) r) (each (otherSide bounded k) (factors cols r))
   unfolding each otherSide factors
   other_row [] [] k h g z = both (record { fit = tt; is = refl })
-  other_row [] (e ∷ r) k h g z = rw (h.0, nought-quotient k g z) (one_more _ (other_row [] r k h.1 g z) (λ s q t. both (record { fit = (refl, t.fit); is = t.is })))
+  other_row [] (e ∷ r) k h g z = rw (h.0, nought-quotient k g z)
+      (one_more _ (other_row [] r k h.1 g z) (λ s q t. both (record { fit = (refl, t.fit); is = t.is })))
   other_row (a ∷ cols) [] k h g z = absurd h
   other_row (a ∷ cols) (e ∷ r) k h g z =
       let more : Alike (Stands cols) (each (λ j. quotient bounded (neg j) k) r) (each (otherSide bounded k) (factors cols r)) = other_row cols r k h.1 g z in
@@ -388,7 +399,12 @@ module _ {N : Type 0} (ν : Names N) (law : Lawful (orderAtom ν)) where
       (rw (nought-quotient k g z) (one_more _ more (λ s q t. both (record { fit = (nought-good, t.fit); is = t.is }))))
       (λ y. rw (factors-kept a cols e r y, bracket (quotient bounded (neg e) k) (λ s. got (a ↑ s)) _)
       (same_step (quotient bounded (neg e) k) _ _ (together (quotient-good (neg e) k (neg-good e h.0) g) (its_own (quotient bounded (neg e) k)))
-      (λ s i. onward _ _ more (λ rs q t. both (record { fit = (i.0, t.fit); is = ap (a ↑ s ∷◌) t.is ∙ sym (factors-kept a cols s rs (quotient-not-zero e k s (good-lowest e h.0) (good-lowest k g) y i.1)) })))))
+      (λ s i. onward _ _ more (λ rs q t. both
+      (record {
+        fit = (i.0, t.fit);
+        is = ap (a ↑ s ∷◌) t.is
+            ∙ sym (factors-kept a cols s rs (quotient-not-zero e k s (good-lowest e h.0) (good-lowest k g) y i.1));
+      })))))
 
   -- a row's fate is what the solver does with its product
   pub data Does (cols : List (Atom N)) (r : Row) : Fate N → Type 0 where
@@ -396,7 +412,8 @@ module _ {N : Type 0} (ν : Names N) (law : Lawful (orderAtom ν)) where
     is_stuck : trySatisfy ν bounded (is_scalar (factors cols r)) ≡ got stuck
         → ((c : ℕ) (x : N) → At cols c (free (var x)) → isZero (get_or r c nought) ≡ true) → Does cols r stays
     is_bound : {c : ℕ} {x : N} → At cols c (free (var x)) → isZero (get_or r c nought) ≡ false
-        → Alike (λ w s. Fit cols w × (s ≡ bind x (dim (factors cols w)))) (solvedFor c r) (trySatisfy ν bounded (is_scalar (factors cols r))) → Does cols r (binds c x)
+        → Alike (λ w s. Fit cols w × (s ≡ bind x (dim (factors cols w)))) (solvedFor c r) (trySatisfy ν bounded (is_scalar (factors cols r)))
+        → Does cols r (binds c x)
 
   further : (a : Atom N) (cols : List (Atom N)) (r : Row) → Fit cols r → (f : Fate N) → Does cols r f → Does (a ∷ cols) (nought ∷ r) (oneFurther f)
   unfolding oneFurther factors solvedFor each
@@ -422,9 +439,14 @@ module _ {N : Type 0} (ν : Names N) (law : Lawful (orderAtom ν)) where
   here (free (var x)) cols e r u h z =
       is_bound {c = 0} {x = x} refl z (rw (factors-kept (free (var x)) cols e r z, nought-quotient e h.0 z)
       (onward _ _ (other_row cols r e h.1 h.0 z) (λ w q t. both ((nought-good, t.fit), ap (λ (p : Product N). bind x (dim p)) t.is))))
-  here (free (quant i)) cols e r u h z = is_stuck (rw (factors-kept (free (quant i)) cols e r z)) (no-variable (free (quant i)) cols e r u.0 (λ x k. let z : ◌≡◌ {A = ℕ} 0 1 = cc in omega arith) (λ x k. let z : ◌≡◌ {A = ℕ} 0 1 = cc in omega arith))
-  here (free (par y)) cols e r u h z = is_stuck (rw (factors-kept (free (par y)) cols e r z)) (no-variable (free (par y)) cols e r u.0 (λ x k. let z : ◌≡◌ {A = ℕ} 0 1 = cc in omega arith) (λ x k. let z : ◌≡◌ {A = ℕ} 0 1 = cc in omega arith))
-  here (base n) cols e r u h z = is_stuck (rw (factors-kept (base n) cols e r z)) (no-variable (base n) cols e r u.0 (λ x k. let z : ◌≡◌ {A = ℕ} 0 1 = cc in omega arith) (λ x k. let z : ◌≡◌ {A = ℕ} 0 1 = cc in omega arith))
+  here (free (quant i)) cols e r u h z = is_stuck (rw (factors-kept (free (quant i)) cols e r z))
+      (no-variable (free (quant i)) cols e r u.0 (λ x k. let z : ◌≡◌ {A = ℕ} 0 1 = cc in omega arith)
+      (λ x k. let z : ◌≡◌ {A = ℕ} 0 1 = cc in omega arith))
+  here (free (par y)) cols e r u h z = is_stuck (rw (factors-kept (free (par y)) cols e r z))
+      (no-variable (free (par y)) cols e r u.0 (λ x k. let z : ◌≡◌ {A = ℕ} 0 1 = cc in omega arith)
+      (λ x k. let z : ◌≡◌ {A = ℕ} 0 1 = cc in omega arith))
+  here (base n) cols e r u h z = is_stuck (rw (factors-kept (base n) cols e r z))
+      (no-variable (base n) cols e r u.0 (λ x k. let z : ◌≡◌ {A = ℕ} 0 1 = cc in omega arith) (λ x k. let z : ◌≡◌ {A = ℕ} 0 1 = cc in omega arith))
 
   pub does : (cols : List (Atom N)) (r : Row) → Rising ν cols → Fit cols r → Does cols r (fate cols r)
   unfolding fate factors

@@ -121,7 +121,9 @@ module _ {N : Type 0} (ν : Names N) (law : Lawful (orderAtom ν)) (cols : List 
   in-limits : (S rows : List Row) (vs : List (Value N)) → length S + length rows + length vs ≤ 24 → limited bounded (state S rows vs) ≡ got (state S rows vs)
   unfolding limited sizeState depthState
   in-limits S rows vs h =
-      sized-kept (sum_of sizeCon (map con S ++ map con rows) + sum_of sizeBinding (map (boundBy cols) vs)) (max (max_of depthCon (map con S ++ map con rows)) (max_of depthBinding (map (boundBy cols) vs))) (state S rows vs) (omega (arith, two_size S rows, values-size vs)) (omega (arith, cons-depth S rows, values-depth vs))
+      sized-kept (sum_of sizeCon (map con S ++ map con rows) + sum_of sizeBinding (map (boundBy cols) vs))
+      (max (max_of depthCon (map con S ++ map con rows)) (max_of depthBinding (map (boundBy cols) vs))) (state S rows vs)
+      (omega (arith, two_size S rows, values-size vs)) (omega (arith, cons-depth S rows, values-depth vs))
 
   -- ══ The rows in front are passed ══
 
@@ -149,12 +151,15 @@ module _ {N : Type 0} (ν : Names N) (law : Lawful (orderAtom ν)) (cols : List 
 
   -- what is done in a round with the first row that doesn't stay
   round-at : (S : List Row) (r : Row) (rows : List Row) (vs : List (Value N)) → Every Stuck S
-      → round ν bounded (state S (r ∷ rows) vs) ≡ (trySatisfy ν bounded (con r) >>= λ s. taken s (con r) (map con rows) (λ _. firstStep ν bounded (map con rows)) >>= λ f. performed ν bounded (map (boundBy cols) vs) (beyond (map con S) f))
+      → round ν bounded (state S (r ∷ rows) vs)
+      ≡ (trySatisfy ν bounded (con r) >>= λ s. taken s (con r) (map con rows) (λ _. firstStep ν bounded (map con rows))
+      >>= λ f. performed ν bounded (map (boundBy cols) vs) (beyond (map con S) f))
   unfolding round firstStep
   round-at S r rows vs h =
       rw (search-on S (map con (r ∷ rows)) h)
       (bracket (firstStep ν bounded (map con (r ∷ rows))) (λ f. got (beyond (map con S) f)) (performed ν bounded (map (boundBy cols) vs))
-      ∙ bracket (trySatisfy ν bounded (con r)) (λ s. taken s (con r) (map con rows) (λ _. firstStep ν bounded (map con rows))) (λ f. performed ν bounded (map (boundBy cols) vs) (beyond (map con S) f)))
+      ∙ bracket (trySatisfy ν bounded (con r)) (λ s. taken s (con r) (map con rows) (λ _. firstStep ν bounded (map con rows)))
+      (λ f. performed ν bounded (map (boundBy cols) vs) (beyond (map con S) f)))
 
   -- a row without factors: done
   gone-round : (S : List Row) (r : Row) (rows : List Row) (vs : List (Value N)) → Every Stuck S → factors cols r ≡ [] → length S + length rows + length vs ≤ 24
@@ -217,7 +222,8 @@ module _ {N : Type 0} (ν : Names N) (law : Lawful (orderAtom ν)) (cols : List 
         → record { cons = map con S ++ cs'; binds = bs' ++ (x ≔ dim (factors cols w) ∷ []) } ≡ state S rows' (vs' ++ (x gets w ∷ []))
     unfolding boundBy
     state-is S rows' vs' cs' bs' i j =
-        ap₂ (λ (cs : List (Con N)) (bs : List (Binding N)). record { cons = map con S ++ cs; binds = bs }) i (ap (λ (bs : List (Binding N)). bs ++ (x ≔ dim (factors cols w) ∷ [])) j ∙ sym (map-append (boundBy cols) vs' (x gets w ∷ [])))
+        ap₂ (λ (cs : List (Con N)) (bs : List (Binding N)). record { cons = map con S ++ cs; binds = bs }) i
+        (ap (λ (bs : List (Binding N)). bs ++ (x ≔ dim (factors cols w) ∷ [])) j ∙ sym (map-append (boundBy cols) vs' (x gets w ∷ [])))
 
     one-more-value : (vs : List (Value N)) → length (vs ++ (x gets w ∷ [])) ≡ suc (length vs)
     one-more-value [] = refl
@@ -243,7 +249,8 @@ module _ {N : Type 0} (ν : Names N) (law : Lawful (orderAtom ν)) (cols : List 
       → Every FitValue vs → length S + suc (length rows) + length vs ≤ 24
       → At cols c (free (var x)) → Alike (λ w s. Fit cols w × (s ≡ bind x (dim (factors cols w)))) (solvedFor c r) (trySatisfy ν bounded (con r))
       → Alike (λ p o. (s : State N) × Left S (length rows) p s × (o ≡ some s))
-      (solvedFor c r >>= λ w. each (putInRow c w) rows >>= λ rows'. each (putInValue c w) vs >>= λ vs'. got (rows', vs' ++ (x gets w ∷ []))) (round ν bounded (state S (r ∷ rows) vs))
+      (solvedFor c r >>= λ w. each (putInRow c w) rows >>= λ rows'. each (putInValue c w) vs >>= λ vs'. got (rows', vs' ++ (x gets w ∷ [])))
+      (round ν bounded (state S (r ∷ rows) vs))
   unfolding taken performed
   bound-round S r rows vs c x h fr fv n at i =
       other-is (sym (round-at S r rows vs h))
@@ -255,7 +262,8 @@ module _ {N : Type 0} (ν : Names N) (law : Lawful (orderAtom ν)) (cols : List 
   Told f k S rows vs m = (k' : ℕ) × (run ν bounded f k (state S rows vs) ≡ answered k' (m >>= λ d. got (settledBy cols (S ++ d.left) d.values)))
 
   abbrev Claim : ℕ → Type 0
-  Claim n = (f k : ℕ) (S rows : List Row) (vs : List (Value N)) → length rows ≡ n → n < f → Every Stuck S → Every (Fit cols) rows → Every FitValue vs → length S + length rows + length vs ≤ 24
+  Claim n = (f k : ℕ) (S rows : List Row) (vs : List (Value N)) → length rows ≡ n → n < f → Every Stuck S → Every (Fit cols) rows → Every FitValue vs
+      → length S + length rows + length vs ≤ 24
       → Told f k S rows vs (eliminate cols n rows vs)
 
   -- no bounds, and every constraint counts
@@ -291,12 +299,15 @@ module _ {N : Type 0} (ν : Names N) (law : Lawful (orderAtom ν)) (cols : List 
     turn-stays : Stuck r → Told (suc f) k S (r ∷ rows) vs (turned stays r rows vs rest)
     unfolding turned
     turn-stays st =
-        let moved : map con (S ++ (r ∷ [])) ++ map con rows ≡ map con S ++ map con (r ∷ rows) = ap (λ (cs : List (Con N)). cs ++ map con rows) (map-append con S (r ∷ [])) ∙ append_assoc (map con S) (con r ∷ []) (map con rows) in
+        let moved : map con (S ++ (r ∷ [])) ++ map con rows ≡ map con S ++ map con (r ∷ rows) =
+        ap (λ (cs : List (Con N)). cs ++ map con rows) (map-append con S (r ∷ [])) ∙ append_assoc (map con S) (con r ∷ []) (map con rows) in
         let b = again (suc f) k (S ++ (r ∷ [])) rows vs l (omega arith) (every_append Stuck S (r ∷ []) h (st, tt)) fr.1 fv (omega (arith, one-longer S)) in (
           b.0,
           ap (λ (cs : List (Con N)). run ν bounded (suc f) k (record { cons = cs; binds = map (boundBy cols) vs })) (sym moved)
               ∙ b.1
-              ∙ ap (answered b.0) (same_after (rest rows vs) _ _ (λ d. ap (λ (q : List Row). got (settledBy cols q d.values)) (append_assoc S (r ∷ []) d.left)) ∙ sym (bracket (rest rows vs) _ read)),
+              ∙ ap (answered b.0) (same_after (rest rows vs) _ _
+              (λ d. ap (λ (q : List Row). got (settledBy cols q d.values)) (append_assoc S (r ∷ []) d.left))
+              ∙ sym (bracket (rest rows vs) _ read)),
         )
       where
         one-longer : (q : List Row) → length (q ++ (r ∷ [])) ≡ suc (length q)
@@ -310,7 +321,10 @@ module _ {N : Type 0} (ν : Names N) (law : Lawful (orderAtom ν)) (cols : List 
     in_pairs : (c : ℕ) (x : N) → turned (binds c x) r rows vs rest ≡ (pairs c x >>= λ q. rest q.0 q.1)
     unfolding turned
     in_pairs c x =
-        sym (bracket (solvedFor c r) _ _ ∙ same_after (solvedFor c r) _ _ (λ w. bracket (each (putInRow c w) rows) _ _ ∙ same_after (each (putInRow c w) rows) _ _ (λ rows'. bracket (each (putInValue c w) vs) _ _)))
+        sym (bracket (solvedFor c r) _ _
+        ∙ same_after (solvedFor c r) _ _
+        (λ w. bracket (each (putInRow c w) rows) _ _
+        ∙ same_after (each (putInRow c w) rows) _ _ (λ rows'. bracket (each (putInValue c w) vs) _ _)))
 
     stop-answer : (j : ℕ) → stopped j k ≡ answered k (◌>>=◌ {A = Reduced N} (refused j) read)
     unfolding answered
@@ -325,10 +339,16 @@ module _ {N : Type 0} (ν : Names N) (law : Lawful (orderAtom ν)) (cols : List 
         went : (o : Got (Option (State N))) (p : Got (List Row × List (Value N))) → Alike (λ p o. (s : State N) × Left S (length rows) p s × (o ≡ some s)) p o
             → round ν bounded (state S (r ∷ rows) vs) ≡ o → pairs c x ≡ p → Told (suc f) k S (r ∷ rows) vs (turned (binds c x) r rows vs rest)
         went o p (both {a = q} {b = v} j) e g =
-            let b = again f (suc k) S q.0 q.1 (j.1.2 ∙ l) m h j.1.0 j.1.1 j.1.3 in
-            (b.0, run-goes ν f k (state S (r ∷ rows) vs) j.0 (e ∙ ap got j.2) ∙ ap (run ν bounded f (suc k)) j.1.4 ∙ b.1 ∙ ap (λ (d : Got (Reduced N)). answered b.0 (d >>= read)) (sym (in_pairs c x ∙ ap (◌>>= λ q. rest q.0 q.1) g)))
-        went o p (neither {n = j}) e g =
-            (k, run-stops ν f k j (state S (r ∷ rows) vs) e ∙ stop-answer j ∙ ap (λ (d : Got (Reduced N)). answered k (d >>= read)) (sym (in_pairs c x ∙ ap (◌>>= λ q. rest q.0 q.1) g)))
+            let b = again f (suc k) S q.0 q.1 (j.1.2 ∙ l) m h j.1.0 j.1.1 j.1.3 in (
+              b.0,
+              run-goes ν f k (state S (r ∷ rows) vs) j.0 (e ∙ ap got j.2) ∙ ap (run ν bounded f (suc k)) j.1.4 ∙ b.1
+                  ∙ ap (λ (d : Got (Reduced N)). answered b.0 (d >>= read)) (sym (in_pairs c x ∙ ap (◌>>= λ q. rest q.0 q.1) g)),
+            )
+        went o p (neither {n = j}) e g = (
+          k,
+          run-stops ν f k j (state S (r ∷ rows) vs) e ∙ stop-answer j
+              ∙ ap (λ (d : Got (Reduced N)). answered k (d >>= read)) (sym (in_pairs c x ∙ ap (◌>>= λ q. rest q.0 q.1) g)),
+        )
 
   by-fate : (n : ℕ) → Claim n → (f k : ℕ) (S : List Row) (r : Row) (rows : List Row) (vs : List (Value N)) → length rows ≡ n → n < f
       → Every Stuck S → Fit cols r × Every (Fit cols) rows → Every FitValue vs → length S + suc (length rows) + length vs ≤ 24
@@ -347,7 +367,8 @@ module _ {N : Type 0} (ν : Names N) (law : Lawful (orderAtom ν)) (cols : List 
   unfolding eliminate
   one-row n again zero k S rows vs l m h fr fv q = absurd (omega arith)
   one-row n again (suc f) k S [] vs l m h fr fv q = absurd (omega arith)
-  one-row n again (suc f) k S (r ∷ rows) vs l m h fr fv q = by-fate n again f k S r rows vs (omega arith) (omega arith) h fr fv q (fate cols r) (does ν law cols r rise fr.0)
+  one-row n again (suc f) k S (r ∷ rows) vs l m h fr fv q = by-fate n again f k S r rows vs (omega arith) (omega arith) h fr fv q (fate cols r)
+      (does ν law cols r rise fr.0)
 
   pub row-by-row : (n : ℕ) → Claim n
   row-by-row zero = none_left

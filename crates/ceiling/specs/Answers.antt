@@ -30,14 +30,16 @@ module _ (pool table ws : List ℕ) where
   unfolding setCall ceilingCall
   ceiling-refused n e = stopped (aloneGiven pool table ws) (setGiven (table_of pool table) ws) _ n e
 
-  pub ceiling-given : Words32 ws → setCall pool table ws ≡ got tt → (v : ℕ) → Distinct (choose Variables (opensIn ws 0 (length ws / 4))) v → ceilingCall pool table ws ≡ got (ceilingFor v)
+  pub ceiling-given : Words32 ws → setCall pool table ws ≡ got tt → (v : ℕ) → Distinct (choose Variables (opensIn ws 0 (length ws / 4))) v
+      → ceilingCall pool table ws ≡ got (ceilingFor v)
   unfolding setCall ceilingCall variablesOf
   ceiling-given w e v d =
       let (cs, (a, g)) = passed (aloneGiven pool table ws) (setGiven (table_of pool table) ws) e in
       let good = entry-good pool table ws a in
       let chain = set_is pool table ws w cs g in
       let known = names-held pool table 0 (collect opensCon cs) (set_known pool table 0 ws cs 0 (length ws / 4) chain) Variables in
-      let many = distinct-sorted (get_or table 0 0) (good-laid good).few (choose Variables (collect opensCon cs)) known (numbers pool table) (numbered-lawful (names_of (table_of pool table))) (held_tells good) v
+      let many = distinct-sorted (get_or table 0 0) (good-laid good).few (choose Variables (collect opensCon cs)) known (numbers pool table)
+      (numbered-lawful (names_of (table_of pool table))) (held_tells good) v
       (rw (set-opens pool table 0 ws cs 0 (length ws / 4) chain) at d) in
       rw (a, g, many)
 

@@ -47,7 +47,11 @@ counted_none = record { marks = marks-none; many = refl }
 
 module _ (m : List Bool) (v : ℕ) (xs : List ℕ) (k : Counted m v xs) where
   pub count-put : (x : ℕ) → x < 256 → Counted (set m x true) (v + added (get_or m x false)) (xs ++ x ∷ [])
-  count-put x h = record { marks = mark-put m xs k.marks x h; many = ap (◌+ added (get_or m x false)) k.many ∙ sym (picked-set m 0 x (omega (arith, k.marks.long))) }
+  count-put x h = record {
+    marks = mark-put m xs k.marks x h;
+    many = ap (◌+ added (get_or m x false)) k.many
+        ∙ sym (picked-set m 0 x (omega (arith, k.marks.long)));
+  }
 
   -- a name that can't be marked
   pub count-out : (x : ℕ) → 256 ≤ x → Counted m v (xs ++ x ∷ [])
@@ -60,7 +64,8 @@ counted-from : (ys : List ℕ) (m : List Bool) (v : ℕ) → Counted m v ys → 
 counted-from ys m v k [] = (v, record { marked = m; counted = count_none m v ys k })
 counted-from ys m v k (x ∷ xs) = rw (← append_assoc ys (x ∷ []) xs) (go (ltb x 256) refl (λ m' v' k'. counted-from (ys ++ x ∷ []) m' v' k' xs))
   where
-    go : (b : Bool) → ltb x 256 ≡ b → ((m' : List Bool) (v' : ℕ) → Counted m' v' (ys ++ x ∷ []) → (w : ℕ) × Distinct ((ys ++ x ∷ []) ++ xs) w) → (w : ℕ) × Distinct ((ys ++ x ∷ []) ++ xs) w
+    go : (b : Bool) → ltb x 256 ≡ b → ((m' : List Bool) (v' : ℕ) → Counted m' v' (ys ++ x ∷ []) → (w : ℕ) × Distinct ((ys ++ x ∷ []) ++ xs) w)
+        → (w : ℕ) × Distinct ((ys ++ x ∷ []) ++ xs) w
     go true e f = f (set m x true) (v + added (get_or m x false)) (count-put m v ys k x (ltb-true x 256 e))
     go false e f = f m v (count-out m v ys k x (ltb-false x 256 e))
 

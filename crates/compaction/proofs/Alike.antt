@@ -25,13 +25,17 @@ module _ {pool table : List ℕ} (g : Good pool table) (p : ℕ → Bool) where
   t' = table_of (poolAfter g p) (tableAfter g p)
 
   -- a kept number and its new one have the same name
-  pub same_name : (i : ℕ) → is_held (table_of pool table) i ≡ true → p i ≡ true → nameNo (table_of pool table) i ≡ nameNo (table_of (poolAfter g p) (tableAfter g p)) (newNumber p i)
+  pub same_name : (i : ℕ) → is_held (table_of pool table) i ≡ true → p i ≡ true
+      → nameNo (table_of pool table) i ≡ nameNo (table_of (poolAfter g p) (tableAfter g p)) (newNumber p i)
   same_name i h e =
       let few = ltb-true i (get_or table 0 0) (sym (held-is pool table i) ∙ h) in
       let k = kept-get p (names_of t) i (omega (arith, length-names (good-laid g), few)) e in
-      let many : length (keptFrom p 0 (names_of t)) ≡ get_or (tableAfter g p) 0 0 = sym (ap length (after-names g p)) ∙ length-names (good-laid (after-good g p)) in
-      let there : is_held t' (newNumber p i) ≡ true = held-is (poolAfter g p) (tableAfter g p) (newNumber p i) ∙ lt-ltb (newNumber p i) (get_or (tableAfter g p) 0 0) (omega (arith, k.1, many)) in
-      name-held t i h ∙ ap named (sym k.0 ∙ sym (ap (λ (ns : List Bytes). get_or ns (newNumber p i) []) (after-names g p))) ∙ sym (name-held t' (newNumber p i) there)
+      let many : length (keptFrom p 0 (names_of t)) ≡ get_or (tableAfter g p) 0 0 = sym (ap length (after-names g p))
+      ∙ length-names (good-laid (after-good g p)) in
+      let there : is_held t' (newNumber p i) ≡ true = held-is (poolAfter g p) (tableAfter g p) (newNumber p i)
+      ∙ lt-ltb (newNumber p i) (get_or (tableAfter g p) 0 0) (omega (arith, k.1, many)) in
+      name-held t i h ∙ ap named (sym k.0 ∙ sym (ap (λ (ns : List Bytes). get_or ns (newNumber p i) []) (after-names g p)))
+      ∙ sym (name-held t' (newNumber p i) there)
 
   -- every number that words name is kept
   unfoldable pub KeptWords : List ℕ → Type 0
@@ -41,7 +45,8 @@ module _ {pool table : List ℕ} (g : Good pool table) (p : ℕ → Bool) where
   KeptWords (w ∷ a ∷ b ∷ []) = Unit {0}
   KeptWords (w ∷ a ∷ b ∷ c ∷ ws) = (namesOne (kindIn w) b ≡ true → p a ≡ true) × KeptWords ws
 
-  word-alike : (w a b : ℕ) → HeldRec t (rec w a b 0) → (namesOne (kindIn w) b ≡ true → p a ≡ true) → wordIf (namesOne (kindIn w) b) t a ≡ wordIf (namesOne (kindIn w) b) t' (renumberIf (namesOne (kindIn w) b) p a)
+  word-alike : (w a b : ℕ) → HeldRec t (rec w a b 0) → (namesOne (kindIn w) b ≡ true → p a ≡ true)
+      → wordIf (namesOne (kindIn w) b) t a ≡ wordIf (namesOne (kindIn w) b) t' (renumberIf (namesOne (kindIn w) b) p a)
   word-alike w a b h k = go (namesOne (kindIn w) b) h k
     where
       go : (n : Bool) → (n ≡ true → is_held t a ≡ true) → (n ≡ true → p a ≡ true) → wordIf n t a ≡ wordIf n t' (renumberIf n p a)
@@ -58,7 +63,8 @@ module _ {pool table : List ℕ} (g : Good pool table) (p : ℕ → Bool) where
       ap₂ {C = List Word} (λ (x : Word) (xs : List Word). number w ∷ x ∷ number b ∷ number c ∷ xs) (word-alike w a b h.0 k.0) (read_alike ws h.1 k.1)
 
   -- a list whose numbers are held and kept reads alike afterwards
-  pub alike : (ws : List ℕ) → HeldWords (table_of pool table) ws → KeptWords ws → ReadAlike (table_of pool table) (table_of (poolAfter g p) (tableAfter g p)) ws (renumbered p ws)
+  pub alike : (ws : List ℕ) → HeldWords (table_of pool table) ws → KeptWords ws
+      → ReadAlike (table_of pool table) (table_of (poolAfter g p) (tableAfter g p)) ws (renumbered p ws)
   alike ws h k = record { words = read_alike ws h k }
 
 -- ══ What occurs in a set occurs in them all ══
@@ -74,7 +80,8 @@ module _ {pool table : List ℕ} (g : Good pool table) (whole : List ℕ) where
   unfolding keeps
   kept_if a h e = ap₂ ◌&&◌ h e
 
-  pub kept-words : (ws : List ℕ) → ((i : ℕ) → occurs ws i ≡ true → occurs whole i ≡ true) → HeldWords (table_of pool table) ws → KeptWords g (keeps (table_of pool table).count whole) ws
+  pub kept-words : (ws : List ℕ) → ((i : ℕ) → occurs ws i ≡ true → occurs whole i ≡ true) → HeldWords (table_of pool table) ws
+      → KeptWords g (keeps (table_of pool table).count whole) ws
   unfolding HeldWords KeptWords occurs
   kept-words [] f h = tt
   kept-words (w ∷ []) f h = tt

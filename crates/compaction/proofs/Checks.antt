@@ -38,21 +38,25 @@ module _ (lengths : List ℕ) where
     pub few-step : get_or lengths i 0 ≤ 2048 → all (λ n. leb n 2048) (drop (i + 1) lengths) ≡ all (λ n. leb n 2048) (drop i lengths)
     few-step h = sym (here ∙ ap (◌&& all short (drop (i + 1) lengths)) (le-leb (get_or lengths i 0) 2048 h))
 
-    pub few-large : 2048 < get_or lengths i 0 → all (λ n. leb n 2048) (drop i lengths) ≡ all (λ n. leb n 2048) lengths → false ≡ (leb (length lengths) 64 && all (λ n. leb n 2048) lengths)
+    pub few-large : 2048 < get_or lengths i 0 → all (λ n. leb n 2048) (drop i lengths) ≡ all (λ n. leb n 2048) lengths
+        → false ≡ (leb (length lengths) 64 && all (λ n. leb n 2048) lengths)
     few-large h e =
         let z : all short (drop i lengths) ≡ false = here ∙ ap (◌&& all short (drop (i + 1) lengths)) (lt-leb (get_or lengths i 0) 2048 h) in
         sym (ap (leb (length lengths) 64 &&◌) (sym e ∙ z) ∙ and-false (leb (length lengths) 64))
 
-  pub few-end : (i : ℕ) → length lengths ≤ 64 → length lengths ≤ i → all (λ n. leb n 2048) (drop i lengths) ≡ all (λ n. leb n 2048) lengths → true ≡ (leb (length lengths) 64 && all (λ n. leb n 2048) lengths)
+  pub few-end : (i : ℕ) → length lengths ≤ 64 → length lengths ≤ i → all (λ n. leb n 2048) (drop i lengths) ≡ all (λ n. leb n 2048) lengths
+      → true ≡ (leb (length lengths) 64 && all (λ n. leb n 2048) lengths)
   unfolding all
   few-end i h k e = sym (rw (le-leb (length lengths) 64 h, ← e, drop_of_length-le lengths {i = i} k))
 
 -- ══ Sets one after another: 1 ══
 
-pub set-met : (pool table ws : List ℕ) → Words32 ws → length ws % 4 ≡ 0 → (b : Bool) → Chained (GoodCon pool table 0 ws) (length ws / 4) 0 b → need b 1 ≡ metSet (table_of pool table) ws
+pub set-met : (pool table ws : List ℕ) → Words32 ws → length ws % 4 ≡ 0 → (b : Bool) → Chained (GoodCon pool table 0 ws) (length ws / 4) 0 b
+    → need b 1 ≡ metSet (table_of pool table) ws
 unfolding setGiven
 set-met pool table ws w z b h =
-    ap (λ (a : Bool). need (a && b) 1) (sym (eq-eqb (length ws % 4) 0 z)) ∙ sym (list-told ws readCon (goodCon pool table 0) (GoodCon pool table 0 ws) (con-reader pool table ws w) b h)
+    ap (λ (a : Bool). need (a && b) 1) (sym (eq-eqb (length ws % 4) 0 z))
+    ∙ sym (list-told ws readCon (goodCon pool table 0) (GoodCon pool table 0 ws) (con-reader pool table ws w) b h)
 
 eqb_same : (a b c d : ℕ) → (a ≡ b → c ≡ d) → (c ≡ d → a ≡ b) → eqb a b ≡ eqb c d
 eqb_same a b c d f g = go (eqb a b) refl
@@ -105,7 +109,8 @@ module _ (t : Table) (lengths words : List ℕ) (i from : ℕ) where
     long = get_or lengths i 0 * 4
 
     here-is : metSets t (get_or lengths i 0 ∷ drop (i + 1) lengths) (drop from words) ≡ metSets t lengths words
-    here-is = sym (ap (λ (ls : List ℕ). metSets t ls (drop from words)) (drop-cons lengths i 0 more ∙ ap (λ (k : ℕ). get_or lengths i 0 ∷ drop k lengths) (sym (add-one i)))) ∙ left
+    here-is = sym (ap (λ (ls : List ℕ). metSets t ls (drop from words))
+        (drop-cons lengths i 0 more ∙ ap (λ (k : ℕ). get_or lengths i 0 ∷ drop k lengths) (sym (add-one i)))) ∙ left
 
     pub left-short : length words - from < long → refused 1 ≡ metSets t lengths words
     left-short h = sym (met-short t (get_or lengths i 0) (drop (i + 1) lengths) (drop from words) (omega (arith, length-drop from words))) ∙ here-is
@@ -115,12 +120,14 @@ module _ (t : Table) (lengths words : List ℕ) (i from : ℕ) where
       met-here = e ∙ ap (λ (k : ℕ). metSet t (take k (drop from words))) (let q : from + long - from ≡ long = omega arith in q)
 
       pub left-bad : not b ≡ true → refused 1 ≡ metSets t lengths words
-      left-bad h = sym (met-bad t (get_or lengths i 0) (drop (i + 1) lengths) (drop from words) (sym met-here ∙ ap (λ (c : Bool). need c 1) (not-true b h))) ∙ here-is
+      left-bad h = sym (met-bad t (get_or lengths i 0) (drop (i + 1) lengths) (drop from words)
+          (sym met-here ∙ ap (λ (c : Bool). need c 1) (not-true b h))) ∙ here-is
 
       pub left-next : not b ≡ false → long ≤ length words - from → metSets t (drop (i + 1) lengths) (drop (from + long) words) ≡ metSets t lengths words
       left-next h k =
           sym (ap (metSets t (drop (i + 1) lengths)) (drop-drop long from words))
-          ∙ sym (met-step t (get_or lengths i 0) (drop (i + 1) lengths) (drop from words) (omega (arith, length-drop from words)) (sym met-here ∙ ap (λ (c : Bool). need c 1) (not-false b h)))
+          ∙ sym (met-step t (get_or lengths i 0) (drop (i + 1) lengths) (drop from words) (omega (arith, length-drop from words))
+          (sym met-here ∙ ap (λ (c : Bool). need c 1) (not-false b h)))
           ∙ here-is
 
   pub left_end : length lengths ≤ i → from ≤ length words → Left → need (eqb from (length words)) 1 ≡ metSets t lengths words
@@ -175,7 +182,11 @@ module _ (pool table words lengths : List ℕ) where
       let lent = leb 8192 (length pool) && leb 257 (length table) in
       let few = leb (length lengths) 64 && all (λ n. leb n 2048) lengths in
       let l = go lent few (tableGood (table_of pool table)) (metSets (table_of pool table) lengths words) e in
-      record { bytes = leb-true 8192 (length pool) (and_left (leb 8192 (length pool)) _ l.0); words = leb-true 257 (length table) (and_right (leb 8192 (length pool)) _ l.0); good = l.1 }
+      record {
+        bytes = leb-true 8192 (length pool) (and_left (leb 8192 (length pool)) _ l.0);
+        words = leb-true 257 (length table) (and_right (leb 8192 (length pool)) _ l.0);
+        good = l.1;
+      }
     where
       go : (a b c : Bool) (m : Got (Unit {0})) → (need a 10 >>= λ _. need b 8 >>= λ _. need c 1 >>= λ _. m) ≡ got tt → (a ≡ true) × (c ≡ true)
       go true true true m e = (refl, refl)
@@ -185,9 +196,11 @@ module _ (pool table words lengths : List ℕ) where
 
   pub checks-each : compactChecks pool table words lengths ≡ got tt → eachGiven (table_of pool table) (cutSets lengths words) ≡ got tt
   unfolding compactChecks
-  checks-each e = go (lentTable pool table) (leb (length lengths) 64 && all (λ n. leb n 2048) lengths) (tableKept (table_of pool table)) (eqb (sum_of (λ n. n) lengths * 4) (length words)) (eachGiven (table_of pool table) (cutSets lengths words)) e
+  checks-each e = go (lentTable pool table) (leb (length lengths) 64 && all (λ n. leb n 2048) lengths) (tableKept (table_of pool table))
+      (eqb (sum_of (λ n. n) lengths * 4) (length words)) (eachGiven (table_of pool table) (cutSets lengths words)) e
     where
-      go : (a : Got (Unit {0})) (b : Bool) (c : Got (Unit {0})) (d : Bool) (m : Got (Unit {0})) → (a >>= λ _. need b 8 >>= λ _. c >>= λ _. need d 1 >>= λ _. m) ≡ got tt → m ≡ got tt
+      go : (a : Got (Unit {0})) (b : Bool) (c : Got (Unit {0})) (d : Bool) (m : Got (Unit {0}))
+          → (a >>= λ _. need b 8 >>= λ _. c >>= λ _. need d 1 >>= λ _. m) ≡ got tt → m ≡ got tt
       go (refused k) b c d m e = clash e
       go (got u) false c d m e = clash e
       go (got u) true (refused k) d m e = clash e
@@ -195,11 +208,14 @@ module _ (pool table words lengths : List ℕ) where
       go (got u) true (got v) true m e = e
 
   -- the row of checks, met one by one
-  pub checks-row : compactChecks pool table words lengths ≡ got tt → ((leb (length lengths) 64 && all (λ n. leb n 2048) lengths) ≡ true) × (eqb (sum_of (λ n. n) lengths * 4) (length words) ≡ true)
+  pub checks-row : compactChecks pool table words lengths ≡ got tt → ((leb (length lengths) 64 && all (λ n. leb n 2048) lengths) ≡ true)
+      × (eqb (sum_of (λ n. n) lengths * 4) (length words) ≡ true)
   unfolding compactChecks
-  checks-row e = go (lentTable pool table) (leb (length lengths) 64 && all (λ n. leb n 2048) lengths) (tableKept (table_of pool table)) (eqb (sum_of (λ n. n) lengths * 4) (length words)) (eachGiven (table_of pool table) (cutSets lengths words)) e
+  checks-row e = go (lentTable pool table) (leb (length lengths) 64 && all (λ n. leb n 2048) lengths) (tableKept (table_of pool table))
+      (eqb (sum_of (λ n. n) lengths * 4) (length words)) (eachGiven (table_of pool table) (cutSets lengths words)) e
     where
-      go : (a : Got (Unit {0})) (b : Bool) (c : Got (Unit {0})) (d : Bool) (m : Got (Unit {0})) → (a >>= λ _. need b 8 >>= λ _. c >>= λ _. need d 1 >>= λ _. m) ≡ got tt → (b ≡ true) × (d ≡ true)
+      go : (a : Got (Unit {0})) (b : Bool) (c : Got (Unit {0})) (d : Bool) (m : Got (Unit {0}))
+          → (a >>= λ _. need b 8 >>= λ _. c >>= λ _. need d 1 >>= λ _. m) ≡ got tt → (b ≡ true) × (d ≡ true)
       go (refused k) b c d m e = clash e
       go (got u) false c d m e = clash e
       go (got u) true (refused k) d m e = clash e

@@ -13,7 +13,20 @@ use Rattle.rules.specs.Base.{any, collect}
 use Rattle.rules.specs.Calls.{over}
 use Rattle.rules.specs.Names.{Bytes, table_of, names_of, held, used, cut, lengthsGood, sameBytes, distinct}
 use Rattle.laws.specs.Lists.{Every, and_left, and_right}
-use Rattle.laws.specs.NameTable.{Good, good-laid, good-is, good-distinct, length-names, endsOf, ends-are, count-is, lengths-step, lengths-within, used-is, used-within}
+use Rattle.laws.specs.NameTable.{
+  Good,
+  good-laid,
+  good-is,
+  good-distinct,
+  length-names,
+  endsOf,
+  ends-are,
+  count-is,
+  lengths-step,
+  lengths-within,
+  used-is,
+  used-within,
+}
 use Rattle.rules.specs.Compaction.{oneIf, newNumber, consIf, keptFrom, joined, endsFrom, poolOf, endsOver}
 use Rattle.compaction.proofs.Moves.{ends-many}
 
@@ -41,7 +54,8 @@ module _ (p : ℕ → Bool) where
   kept-shorter i [] = omega arith
   kept-shorter i (n ∷ ns) = go (p i) (kept-shorter (suc i) ns)
     where
-      go : (b : Bool) → length (joined (keptFrom p (suc i) ns)) ≤ length (joined ns) → length (joined (consIf b n (keptFrom p (suc i) ns))) ≤ length (n ++ joined ns)
+      go : (b : Bool) → length (joined (keptFrom p (suc i) ns)) ≤ length (joined ns)
+          → length (joined (consIf b n (keptFrom p (suc i) ns))) ≤ length (n ++ joined ns)
       go true k = omega (arith, length-append n (joined ns), length-append n (joined (keptFrom p (suc i) ns)))
       go false k = omega (arith, length-append n (joined ns))
 
@@ -59,7 +73,8 @@ module _ (p : ℕ → Bool) where
   kept_any q i [] h = refl
   kept_any q i (n ∷ ns) h = go (p i) (q n) refl h (λ e. kept_any q (suc i) ns e)
     where
-      go : (b c : Bool) → q n ≡ c → (c || any q ns) ≡ false → (any q ns ≡ false → any q (keptFrom p (suc i) ns) ≡ false) → any q (consIf b n (keptFrom p (suc i) ns)) ≡ false
+      go : (b c : Bool) → q n ≡ c → (c || any q ns) ≡ false → (any q ns ≡ false → any q (keptFrom p (suc i) ns) ≡ false)
+          → any q (consIf b n (keptFrom p (suc i) ns)) ≡ false
       go b true e h k = absurd (let z : ◌≡◌ {A = ℕ} 0 1 = cc in omega arith)
       go true false e h k = ap (◌|| any q (keptFrom p (suc i) ns)) e ∙ k h
       go false false e h k = k h
@@ -71,7 +86,8 @@ module _ (p : ℕ → Bool) where
     where
       go : (b c : Bool) → any (sameBytes n) ns ≡ c → distinct (keptFrom p (suc i) ns) ≡ true → distinct (consIf b n (keptFrom p (suc i) ns)) ≡ true
       go false c e k = k
-      go true true e k = absurd (let y : not true ≡ true = sym (ap not e) ∙ and_left (not (any (sameBytes n) ns)) _ h in let z : ◌≡◌ {A = ℕ} 0 1 = cc in omega arith)
+      go true true e k = absurd (let y : not true ≡ true = sym (ap not e) ∙ and_left (not (any (sameBytes n) ns)) _ h in let z : ◌≡◌ {A = ℕ} 0 1 = cc
+          in omega arith)
       go true false e k = ap₂ (λ (a b : Bool). not a && b) (kept_any (sameBytes n) (suc i) ns e) k
 
   -- how many of the j names from i on are kept
@@ -82,25 +98,29 @@ module _ (p : ℕ → Bool) where
   rank-from : (i j : ℕ) → newNumber p i + rank i j ≡ newNumber p (i + j)
   unfolding newNumber rank
   rank-from i zero = rw (add-zero i) (add-zero (newNumber p i))
-  rank-from i (suc j) = let e : newNumber p i + (oneIf (p i) + rank (suc i) j) ≡ newNumber p i + oneIf (p i) + rank (suc i) j = omega arith in e ∙ rank-from (suc i) j ∙ ap (newNumber p) (let s : suc i + j ≡ i + suc j = omega arith in s)
+  rank-from i (suc j) = let e : newNumber p i + (oneIf (p i) + rank (suc i) j) ≡ newNumber p i + oneIf (p i) + rank (suc i) j = omega arith in e
+      ∙ rank-from (suc i) j ∙ ap (newNumber p) (let s : suc i + j ≡ i + suc j = omega arith in s)
 
   pub new-rank : (j : ℕ) → newNumber p j ≡ rank 0 j
   unfolding newNumber
   new-rank j = sym (ap (newNumber p) (zero-add j)) ∙ sym (rank-from 0 j) ∙ zero-add (rank 0 j)
 
-  rank-get : (i : ℕ) (ns : List Bytes) (j : ℕ) → j < length ns → p (i + j) ≡ true → (get_or (keptFrom p i ns) (rank i j) [] ≡ get_or ns j []) × (rank i j < length (keptFrom p i ns))
+  rank-get : (i : ℕ) (ns : List Bytes) (j : ℕ) → j < length ns → p (i + j) ≡ true → (get_or (keptFrom p i ns) (rank i j) [] ≡ get_or ns j [])
+      × (rank i j < length (keptFrom p i ns))
   unfolding keptFrom rank
   rank-get i [] j h e = absurd (omega arith)
   rank-get i (n ∷ ns) zero h e = rw (sym (ap p (add-zero i)) ∙ e) (refl, omega arith)
   rank-get i (n ∷ ns) (suc j) h e = go (p i) (rank-get (suc i) ns j (omega arith) (sym (ap p (let s : i + suc j ≡ suc i + j = omega arith in s)) ∙ e))
     where
       go : (b : Bool) → (get_or (keptFrom p (suc i) ns) (rank (suc i) j) [] ≡ get_or ns j []) × (rank (suc i) j < length (keptFrom p (suc i) ns))
-          → (get_or (consIf b n (keptFrom p (suc i) ns)) (oneIf b + rank (suc i) j) [] ≡ get_or ns j []) × (oneIf b + rank (suc i) j < length (consIf b n (keptFrom p (suc i) ns)))
+          → (get_or (consIf b n (keptFrom p (suc i) ns)) (oneIf b + rank (suc i) j) [] ≡ get_or ns j [])
+          × (oneIf b + rank (suc i) j < length (consIf b n (keptFrom p (suc i) ns)))
       go true k = rw (let s : 1 + rank (suc i) j ≡ suc (rank (suc i) j) = omega arith in s) (k.0, omega (arith, k.1))
       go false k = rw (zero-add (rank (suc i) j)) k
 
   -- each kept name has its new number
-  pub kept-get : (ns : List Bytes) (j : ℕ) → j < length ns → p j ≡ true → (get_or (keptFrom p 0 ns) (newNumber p j) [] ≡ get_or ns j []) × (newNumber p j < length (keptFrom p 0 ns))
+  pub kept-get : (ns : List Bytes) (j : ℕ) → j < length ns → p j ≡ true → (get_or (keptFrom p 0 ns) (newNumber p j) [] ≡ get_or ns j [])
+      × (newNumber p j < length (keptFrom p 0 ns))
   kept-get ns j h e = rw (new-rank j) (rank-get 0 ns j h (ap p (zero-add j) ∙ e))
 
 -- ══ Names behind one another ══
@@ -109,18 +129,21 @@ lengths-made : (at : ℕ) (ns : List Bytes) → Every Short ns → at + length (
 unfolding lengthsGood endsFrom joined collect
 lengths-made at [] h k = le-leb at 8192 (omega arith)
 lengths-made at (n ∷ ns) h k =
-    rw (lt-ltb at (at + length n) (omega (arith, h.0.0)), le-leb (at + length n) (at + 48) (omega (arith, h.0.1))) (lengths-made (at + length n) ns h.1 (omega (arith, length-append n (joined ns))))
+    rw (lt-ltb at (at + length n) (omega (arith, h.0.0)), le-leb (at + length n) (at + 48) (omega (arith, h.0.1)))
+    (lengths-made (at + length n) ns h.1 (omega (arith, length-append n (joined ns))))
 
 used-made : (at : ℕ) (ns : List Bytes) → used at (endsFrom at ns) ≡ at + length (joined ns)
 unfolding used endsFrom joined collect
 used-made at [] = sym (add-zero at)
-used-made at (n ∷ ns) = used-made (at + length n) ns ∙ (let e : at + length n + length (joined ns) ≡ at + length (n ++ joined ns) = omega (arith, length-append n (joined ns)) in e)
+used-made at (n ∷ ns) = used-made (at + length n) ns
+    ∙ (let e : at + length n + length (joined ns) ≡ at + length (n ++ joined ns) = omega (arith, length-append n (joined ns)) in e)
 
 cut-joined : (pre : List ℕ) (ns : List Bytes) (rest : List ℕ) (at : ℕ) → length pre ≡ at → cut at (endsFrom at ns) (pre ++ (joined ns ++ rest)) ≡ ns
 unfolding cut endsFrom joined collect
 cut-joined pre [] rest at h = refl
 cut-joined pre (n ∷ ns) rest at h =
-    let whole : pre ++ ((n ++ joined ns) ++ rest) ≡ (pre ++ n) ++ (joined ns ++ rest) = ap (pre ++◌) (append_assoc n (joined ns) rest) ∙ sym (append_assoc pre n (joined ns ++ rest)) in
+    let whole : pre ++ ((n ++ joined ns) ++ rest) ≡ (pre ++ n) ++ (joined ns ++ rest) = ap (pre ++◌) (append_assoc n (joined ns) rest)
+    ∙ sym (append_assoc pre n (joined ns ++ rest)) in
     let first : take (at + length n - at) (drop at (pre ++ ((n ++ joined ns) ++ rest))) ≡ n =
     ap (take (at + length n - at)) (drop_at pre ((n ++ joined ns) ++ rest) at h ∙ append_assoc n (joined ns) rest)
     ∙ take_at n (joined ns ++ rest) (at + length n - at) (let e : length n ≡ at + length n - at = omega arith in e) in
@@ -128,15 +151,20 @@ cut-joined pre (n ∷ ns) rest at h =
     (ap (cut (at + length n) (endsFrom (at + length n) ns)) whole ∙ cut-joined (pre ++ n) ns rest (at + length n) (length-append pre n ∙ ap (◌+ length n) h))
 
 -- names that were cut from a table with good lengths
-cut_short : (at : ℕ) (es pool : List ℕ) → lengthsGood at es ≡ true → 8192 ≤ length pool → Every Short (cut at es pool) × (at + length (joined (cut at es pool)) ≡ used at es)
+cut_short : (at : ℕ) (es pool : List ℕ) → lengthsGood at es ≡ true → 8192 ≤ length pool → Every Short (cut at es pool)
+    × (at + length (joined (cut at es pool)) ≡ used at es)
 unfolding cut joined collect used
 cut_short at [] pool h k = (tt, add-zero at)
 cut_short at (e ∷ es) pool h k =
     let s = lengths-step at e es h in
     let w = lengths-within e es s.rest in
     let long : length (take (e - at) (drop at pool)) ≡ e - at = length-take-le (e - at) (drop at pool) (omega (arith, length-drop at pool, s.rises)) in
-    let r = cut_short e es pool s.rest k in
-    (((omega (arith, long, s.rises), omega (arith, long, s.short)), r.0), (let q : at + length (take (e - at) (drop at pool) ++ joined (cut e es pool)) ≡ e + length (joined (cut e es pool)) = omega (arith, long, s.rises, length-append (take (e - at) (drop at pool)) (joined (cut e es pool))) in q) ∙ r.1)
+    let r = cut_short e es pool s.rest k in (
+      ((omega (arith, long, s.rises), omega (arith, long, s.short)), r.0),
+      (let q : at + length (take (e - at) (drop at pool) ++ joined (cut e es pool))
+          ≡ e + length (joined (cut e es pool)) = omega (arith, long, s.rises, length-append (take (e - at) (drop at pool)) (joined (cut e es pool)))
+          in q) ∙ r.1,
+    )
 
 -- ══ A table made of these names ══
 
@@ -144,7 +172,8 @@ over-length : (ws b : List ℕ) → length ws ≤ length b → length (over ws b
 unfolding over
 over-length ws b h = omega (arith, length-append ws (drop (length ws) b), length-drop (length ws) b)
 
-module _ (pool table : List ℕ) (ns : List Bytes) (end count : ℕ) (bytes : 8192 ≤ length pool) (words : 257 ≤ length table) (few : length ns ≤ count) (most : count ≤ 256) (inside : length (joined ns) ≤ end) (within : end ≤ 8192) where
+module _ (pool table : List ℕ) (ns : List Bytes) (end count : ℕ) (bytes : 8192 ≤ length pool) (words : 257 ≤ length table) (few : length ns ≤ count)
+    (most : count ≤ 256) (inside : length (joined ns) ≤ end) (within : end ≤ 8192) where
   abbrev pool' : List ℕ
   pool' = poolOf ns end pool
 
@@ -153,11 +182,22 @@ module _ (pool table : List ℕ) (ns : List Bytes) (end count : ℕ) (bytes : 81
 
   made_bytes : length pool' ≡ length pool
   unfolding poolOf
-  made_bytes = over-length (joined ns ++ replicate (end - length (joined ns)) 0) pool (omega (arith, length-append (joined ns) (replicate {A = ℕ} (end - length (joined ns)) 0), length-replicate {A = ℕ} (end - length (joined ns)) 0))
+  made_bytes = over-length (joined ns ++ replicate (end - length (joined ns)) 0) pool
+      (omega (
+        arith,
+        length-append (joined ns) (replicate {A = ℕ} (end - length (joined ns)) 0),
+        length-replicate {A = ℕ} (end - length (joined ns)) 0,
+      ))
 
   made-words : length table' ≡ length table
   unfolding endsOver
-  made-words = over-length (length ns ∷ (endsFrom 0 ns ++ replicate (count - length ns) 0)) table (omega (arith, length-append (endsFrom 0 ns) (replicate {A = ℕ} (count - length ns) 0), length-replicate {A = ℕ} (count - length ns) 0, ends-many 0 ns))
+  made-words = over-length (length ns ∷ (endsFrom 0 ns ++ replicate (count - length ns) 0)) table
+      (omega (
+        arith,
+        length-append (endsFrom 0 ns) (replicate {A = ℕ} (count - length ns) 0),
+        length-replicate {A = ℕ} (count - length ns) 0,
+        ends-many 0 ns,
+      ))
 
   made-count : get_or table' 0 0 ≡ length ns
   unfolding endsOver over
@@ -168,7 +208,8 @@ module _ (pool table : List ℕ) (ns : List Bytes) (end count : ℕ) (bytes : 81
   made_ends =
       let Z = replicate {A = ℕ} (count - length ns) 0 in
       let D = drop (length (length ns ∷ (endsFrom 0 ns ++ Z))) table in
-      take-take (length ns) 256 ((endsFrom 0 ns ++ Z) ++ D) (omega arith) ∙ ap (take (length ns)) (append_assoc (endsFrom 0 ns) Z D) ∙ take_at (endsFrom 0 ns) (Z ++ D) (length ns) (ends-many 0 ns)
+      take-take (length ns) 256 ((endsFrom 0 ns ++ Z) ++ D) (omega arith) ∙ ap (take (length ns)) (append_assoc (endsFrom 0 ns) Z D)
+      ∙ take_at (endsFrom 0 ns) (Z ++ D) (length ns) (ends-many 0 ns)
 
   made-front : take (length (joined ns)) pool' ≡ joined ns
   unfolding poolOf over
@@ -182,7 +223,8 @@ module _ (pool table : List ℕ) (ns : List Bytes) (end count : ℕ) (bytes : 81
   made-names =
       let J = length (joined ns) in
       let rest = drop J (take 8192 pool') in
-      let front : take 8192 pool' ≡ joined ns ++ rest = sym (take-append-drop J (take 8192 pool')) ∙ ap (◌++ rest) (take-take J 8192 pool' (omega arith) ∙ made-front) in
+      let front : take 8192 pool' ≡ joined ns ++ rest = sym (take-append-drop J (take 8192 pool'))
+      ∙ ap (◌++ rest) (take-take J 8192 pool' (omega arith) ∙ made-front) in
       ap₂ (cut 0) (ends-are pool' table' ∙ made_ends) (pool-is ∙ front) ∙ cut-joined [] ns rest 0 refl
     where
       pool-is : (table_of pool' table').pool ≡ take 8192 pool'
@@ -212,7 +254,8 @@ module _ {pool table : List ℕ} (g : Good pool table) (p : ℕ → Bool) where
 
   old : Every Short (names_of (table_of pool table)) × (0 + length (joined (names_of (table_of pool table))) ≡ used 0 (held (table_of pool table)))
   unfolding names_of
-  old = cut_short 0 (held (table_of pool table)) (table_of pool table).pool (ap (lengthsGood 0) (ends-are pool table) ∙ (good-laid g).rising) (omega (arith, ap length (pool-front pool table), length-take-le 8192 pool g.bytes))
+  old = cut_short 0 (held (table_of pool table)) (table_of pool table).pool (ap (lengthsGood 0) (ends-are pool table) ∙ (good-laid g).rising)
+      (omega (arith, ap length (pool-front pool table), length-take-le 8192 pool g.bytes))
 
   few : length kept ≤ (table_of pool table).count
   few = omega (arith, kept-fewer p 0 (names_of (table_of pool table)), length-names (good-laid g), count-is pool table)

@@ -1,6 +1,54 @@
 -- Marks at the names that occur, and what is done by them: record by record.
-use Rattle.std.specs.Prelude.{◌≡◌, refl, Bool, true, false, ◌&&◌, ◌||◌, List, [], ◌∷◌, ◌++◌, ℕ, zero, suc, ◌+◌, ◌-◌, ◌≤◌, ◌<◌, eqb, ltb, length, take, drop, get_or, set}
-use Rattle.std.proofs.Common.{sym, ap, ap₂, ◌∙◌, append_assoc, arith, lt-ltb, le-ltb, eqb-true, add-zero, zero-add, suc-add, add-one, length-set, length-drop, take-append-drop, get_or-set_same, get_or-set_other, drop-cons, drop-set-lt, take-add}
+use Rattle.std.specs.Prelude.{
+  ◌≡◌,
+  refl,
+  Bool,
+  true,
+  false,
+  ◌&&◌,
+  ◌||◌,
+  List,
+  [],
+  ◌∷◌,
+  ◌++◌,
+  ℕ,
+  zero,
+  suc,
+  ◌+◌,
+  ◌-◌,
+  ◌≤◌,
+  ◌<◌,
+  eqb,
+  ltb,
+  length,
+  take,
+  drop,
+  get_or,
+  set,
+}
+use Rattle.std.proofs.Common.{
+  sym,
+  ap,
+  ap₂,
+  ◌∙◌,
+  append_assoc,
+  arith,
+  lt-ltb,
+  le-ltb,
+  eqb-true,
+  add-zero,
+  zero-add,
+  suc-add,
+  add-one,
+  length-set,
+  length-drop,
+  take-append-drop,
+  get_or-set_same,
+  get_or-set_other,
+  drop-cons,
+  drop-set-lt,
+  take-add,
+}
 use Rattle.std.proofs.Math.Bool.{or-true, or-false}
 use Rattle.std.proofs.lemmas.Bool.{eqb-false}
 use Rattle.std.proofs.Math.Numerals.{add-two, add-three}
@@ -13,7 +61,8 @@ use Rattle.rules.specs.Compaction.{occurs, keeps, oneIf, newNumber, renumberIf, 
 
 -- ══ The next record ══
 
-pub next-four : (s : List ℕ) (j : ℕ) → 4 ≤ length s - j → drop j s ≡ get_or s j 0 ∷ get_or s (j + 1) 0 ∷ get_or s (j + 2) 0 ∷ get_or s (j + 3) 0 ∷ drop (j + 4) s
+pub next-four : (s : List ℕ) (j : ℕ) → 4 ≤ length s - j
+    → drop j s ≡ get_or s j 0 ∷ get_or s (j + 1) 0 ∷ get_or s (j + 2) 0 ∷ get_or s (j + 3) 0 ∷ drop (j + 4) s
 next-four s j h =
     let e : j + 4 ≡ suc (suc (suc (suc j))) = omega arith in
     rw (add-one j, add-two j, add-three j, e)
@@ -51,10 +100,12 @@ module _ (m : List Bool) (n : ℕ) where
       go : (i : ℕ) (b : Bool) → eqb a i ≡ b → marks (set m a true) i ≡ (marks m i || (ltb i n && (true && eqb a i)))
       go i true e =
           let q : a ≡ i = eqb-true a i e in
-          rw (e, lt-ltb i n (omega arith)) (ap (λ (z : ℕ). get_or (set m a true) z false) (sym q) ∙ get_or-set_same m a true false k ∙ sym (or-true (marks m i)))
+          rw (e, lt-ltb i n (omega arith))
+          (ap (λ (z : ℕ). get_or (set m a true) z false) (sym q) ∙ get_or-set_same m a true false k ∙ sym (or-true (marks m i)))
       go i false e = rw e (get_or-set_other m a i true false (λ q. eqb-false a i e (sym q)) ∙ sym (none_here (marks m i) (ltb i n)))
 
-pub mark-step : (s : List ℕ) (n j : ℕ) (m m' : List Bool) → 4 ≤ length s - j → (named : Bool) → named ≡ namesOne (kindIn (get_or s j 0)) (get_or s (j + 2) 0) → Noted m m' n named (get_or s (j + 1) 0)
+pub mark-step : (s : List ℕ) (n j : ℕ) (m m' : List Bool) → 4 ≤ length s - j → (named : Bool)
+    → named ≡ namesOne (kindIn (get_or s j 0)) (get_or s (j + 2) 0) → Noted m m' n named (get_or s (j + 1) 0)
     → (i : ℕ) → (marks m' i || keeps n (drop (j + 4) s) i) ≡ (marks m i || keeps n (drop j s) i)
 unfolding keeps occurs
 mark-step s n j m m' h named e r i =
@@ -73,7 +124,8 @@ occurs-short (w ∷ a ∷ b ∷ c ∷ ws) i h = absurd (omega arith)
 
 pub mark-end : (s : List ℕ) (n j : ℕ) (m : List Bool) → length s - j < 4 → (i : ℕ) → (marks m i || keeps n (drop j s) i) ≡ marks m i
 unfolding keeps
-mark-end s n j m h i = ap (λ (b : Bool). marks m i || (ltb i n && b)) (occurs-short (drop j s) i (omega (arith, length-drop j s))) ∙ none_here (marks m i) (ltb i n)
+mark-end s n j m h i = ap (λ (b : Bool). marks m i || (ltb i n && b)) (occurs-short (drop j s) i (omega (arith, length-drop j s)))
+    ∙ none_here (marks m i) (ltb i n)
 
 -- ══ New numbers ══
 
@@ -89,12 +141,14 @@ number-still m i (suc d) h = rw (suc-add d i, get_or-eq_default m false {n = d +
 pub number_past : (m : List Bool) (i a : ℕ) → length m ≤ i → i ≤ a → newNumber (marks m) i ≡ newNumber (marks m) a
 number_past m i a h l = let e : a ≡ (a - i) + i = omega arith in sym (ap (newNumber (marks m)) e ∙ number-still m i (a - i) h)
 
-pub renumber-step : (p : ℕ → Bool) (s : List ℕ) (j v : ℕ) → 4 ≤ length s - j → v ≡ renumberIf (namesOne (kindIn (get_or s j 0)) (get_or s (j + 2) 0)) p (get_or s (j + 1) 0)
+pub renumber-step : (p : ℕ → Bool) (s : List ℕ) (j v : ℕ) → 4 ≤ length s - j
+    → v ≡ renumberIf (namesOne (kindIn (get_or s j 0)) (get_or s (j + 2) 0)) p (get_or s (j + 1) 0)
     → take (j + 4) (set s (j + 1) v) ++ renumbered p (drop (j + 4) (set s (j + 1) v)) ≡ take j s ++ renumbered p (drop j s)
 unfolding renumbered
 renumber-step p s j v h e =
     let s' = set s (j + 1) v in
-    let four : drop j s' ≡ get_or s j 0 ∷ v ∷ get_or s (j + 2) 0 ∷ get_or s (j + 3) 0 ∷ drop (j + 4) s = drop-set-add j s 1 v ∙ ap (λ (t : List ℕ). set t 1 v) (next-four s j h) in
+    let four : drop j s' ≡ get_or s j 0 ∷ v ∷ get_or s (j + 2) 0 ∷ get_or s (j + 3) 0 ∷ drop (j + 4) s = drop-set-add j s 1 v
+    ∙ ap (λ (t : List ℕ). set t 1 v) (next-four s j h) in
     let front : take (j + 4) s' ≡ take j s ++ (get_or s j 0 ∷ v ∷ get_or s (j + 2) 0 ∷ get_or s (j + 3) 0 ∷ []) =
     take-add j 4 s' ∙ ap₂ (λ (a b : List ℕ). a ++ b) (take-set-le j s (j + 1) v (omega arith)) (ap (take 4) four) in
     ap₂ (λ (a b : List ℕ). a ++ renumbered p b) front (drop-set-lt (j + 4) s (j + 1) v (omega arith))

@@ -10,7 +10,24 @@ use Rattle.std.proofs.lemmas.List.Edits.{sets-eq}
 use Rattle.rules.specs.Names.{Bytes, table_of, names_of, held, used}
 use Rattle.rules.specs.Base.{collect}
 use Rattle.rules.specs.Calls.{over}
-use Rattle.laws.specs.NameTable.{Good, good-laid, placed, part_of, part_length, names-step, names-end, start_at, start_is, endsOf, lengths-within, lengths-drop, used-is, used-within, ends-are, count-is}
+use Rattle.laws.specs.NameTable.{
+  Good,
+  good-laid,
+  placed,
+  part_of,
+  part_length,
+  names-step,
+  names-end,
+  start_at,
+  start_is,
+  endsOf,
+  lengths-within,
+  lengths-drop,
+  used-is,
+  used-within,
+  ends-are,
+  count-is,
+}
 use Rattle.records.specs.Stores.{sets-append, sets-before}
 use Rattle.compaction.specs.Told.{Squeezed}
 use Rattle.rules.specs.Compaction.{consIf, keptFrom, joined, endsFrom, poolOf, endsOver}
@@ -128,7 +145,8 @@ module _ {p : ℕ → Bool} {pool table : List ℕ} (g : Good pool table) where
       pub within : end ≤ 8192
       within = place.1
 
-      rest : keptFrom p i (drop i (names_of (table_of pool table))) ≡ consIf (p i) (part_of pool table i) (keptFrom p (suc i) (drop (suc i) (names_of (table_of pool table))))
+      rest : keptFrom p i (drop i (names_of (table_of pool table)))
+          ≡ consIf (p i) (part_of pool table i) (keptFrom p (suc i) (drop (suc i) (names_of (table_of pool table))))
       unfolding keptFrom
       rest = ap (keptFrom p i) (names-step (good-laid g) i more)
 
@@ -143,7 +161,9 @@ module _ {p : ℕ → Bool} {pool table : List ℕ} (g : Good pool table) where
         ends = d.ends;
         long = d.long;
         many = d.many;
-        left = rw (add-one i) (ap (d.done ++◌) (sym (rest ∙ ap (λ (b : Bool). consIf b (part_of pool table i) (keptFrom p (suc i) (drop (suc i) (names_of (table_of pool table))))) e)) ∙ d.left);
+        left = rw (add-one i) (ap (d.done ++◌)
+            (sym (rest ∙ ap (λ (b : Bool). consIf b (part_of pool table i) (keptFrom p (suc i) (drop (suc i) (names_of (table_of pool table))))) e))
+            ∙ d.left);
       }
 
       abbrev part : Bytes
@@ -158,7 +178,8 @@ module _ {p : ℕ → Bool} {pool table : List ℕ} (g : Good pool table) where
       part-long : length part ≡ end - from
       part-long = rw (d.start, add-one i) (part_length (good-laid g) i more)
 
-      pub doing-keep : p i ≡ true → {pool'' table'' : List ℕ} → pool'' ≡ sets pool' out (slice from end pool') → table'' ≡ set table' (k + 1) (out + (end - from))
+      pub doing-keep : p i ≡ true → {pool'' table'' : List ℕ} → pool'' ≡ sets pool' out (slice from end pool')
+          → table'' ≡ set table' (k + 1) (out + (end - from))
           → Doing p pool table pool'' table'' (i + 1) end (k + 1) (out + (end - from))
       doing-keep e q r = record {
         done = d.done ++ part ∷ [];
@@ -173,23 +194,30 @@ module _ {p : ℕ → Bool} {pool table : List ℕ} (g : Good pool table) where
             ∙ ap (sets pool 0) (sym (joined-more d.done part));
         ends =
             r ∙ ap (λ (b : List ℕ). set b (k + 1) (out + (end - from))) d.ends
-            ∙ ap₂ (λ (n v : ℕ). set (sets table 1 (endsFrom 0 d.done)) n v) (let z : k + 1 ≡ 1 + length (endsFrom 0 d.done) = omega (arith, ends-many 0 d.done, d.many) in z) (let z : out + (end - from) ≡ 0 + length (joined d.done) + length part = omega (arith, d.long, part-long) in z)
+            ∙ ap₂ (λ (n v : ℕ). set (sets table 1 (endsFrom 0 d.done)) n v)
+            (let z : k + 1 ≡ 1 + length (endsFrom 0 d.done) = omega (arith, ends-many 0 d.done, d.many) in z)
+            (let z : out + (end - from) ≡ 0 + length (joined d.done) + length part = omega (arith, d.long, part-long) in z)
             ∙ sym (sets-append (endsFrom 0 d.done) ((0 + length (joined d.done) + length part) ∷ []) table 1)
             ∙ ap (sets table 1) (sym (ends_more 0 d.done part));
         long = ap length (joined-more d.done part) ∙ length-append (joined d.done) part ∙ ap₂ ◌+◌ d.long part-long;
         many = length-append d.done (part ∷ []) ∙ ap (◌+ 1) d.many;
-        left = rw (add-one i) (append_assoc d.done (part ∷ []) (keptFrom p (suc i) (drop (suc i) (names_of (table_of pool table)))) ∙ ap (d.done ++◌) (sym (rest ∙ ap (λ (b : Bool). consIf b part (keptFrom p (suc i) (drop (suc i) (names_of (table_of pool table))))) e)) ∙ d.left);
+        left = rw (add-one i) (append_assoc d.done (part ∷ []) (keptFrom p (suc i) (drop (suc i) (names_of (table_of pool table))))
+            ∙ ap (d.done ++◌) (sym (rest ∙ ap (λ (b : Bool). consIf b part (keptFrom p (suc i) (drop (suc i) (names_of (table_of pool table))))) e))
+            ∙ d.left);
       }
 
-    pub doing-last : get_or table 0 0 ≤ i → {pool'' table'' table''' : List ℕ} → pool'' ≡ sets pool' out (replicate (from - out) 0) → table'' ≡ sets table' (k + 1) (replicate (get_or table 0 0 + 1 - (k + 1)) 0)
+    pub doing-last : get_or table 0 0 ≤ i → {pool'' table'' table''' : List ℕ} → pool'' ≡ sets pool' out (replicate (from - out) 0)
+        → table'' ≡ sets table' (k + 1) (replicate (get_or table 0 0 + 1 - (k + 1)) 0)
         → table''' ≡ set table'' 0 k → Squeezed p pool table pool'' table''' k
     unfolding keptFrom poolOf endsOver
     doing-last h q r s =
         let laid = good-laid g in
         let all_seen : i ≡ get_or table 0 0 = omega (arith, d.inside) in
         let none : drop i (names_of (table_of pool table)) ≡ [] = ap (λ (n : ℕ). drop n (names_of (table_of pool table))) all_seen ∙ names-end laid in
-        let kept : d.done ≡ keptFrom p 0 (names_of (table_of pool table)) = sym (append-nil d.done) ∙ sym (ap (λ (ns : List Bytes). d.done ++ keptFrom p i ns) none) ∙ d.left in
-        let last : from ≡ used 0 (held (table_of pool table)) = d.start ∙ ap (start_at table) all_seen ∙ sym (used-is table laid.words laid.few) ∙ sym (ap (used 0) (ends-are pool table)) in
+        let kept : d.done ≡ keptFrom p 0 (names_of (table_of pool table)) = sym (append-nil d.done)
+        ∙ sym (ap (λ (ns : List Bytes). d.done ++ keptFrom p i ns) none) ∙ d.left in
+        let last : from ≡ used 0 (held (table_of pool table)) = d.start ∙ ap (start_at table) all_seen ∙ sym (used-is table laid.words laid.few)
+        ∙ sym (ap (used 0) (ends-are pool table)) in
         let inside : from ≤ 8192 = rw (d.start, all_seen) (used-within laid) in
         let J = joined d.done in
         let E = endsFrom 0 d.done in
@@ -200,14 +228,29 @@ module _ {p : ℕ → Bool} {pool table : List ℕ} (g : Good pool table) where
           bytes =
               q ∙ ap₂ (λ (b : List ℕ) (n : ℕ). sets b n Z) d.bytes (let z : out ≡ 0 + length J = omega (arith, d.long) in z)
               ∙ sym (sets-append J Z pool 0)
-              ∙ over-is (J ++ Z) pool (omega (arith, length-append J Z, length-replicate (from - out) (let z : ℕ = 0 in z), d.long, d.behind, inside, laid.bytes))
+              ∙ over-is (J ++ Z) pool (omega
+              (arith, length-append J Z, length-replicate (from - out) (let z : ℕ = 0 in z), d.long, d.behind, inside, laid.bytes))
               ∙ ap₂ (λ (a b : ℕ). over (J ++ replicate (a - b) 0) pool) last (sym d.long)
               ∙ ap (λ (ns : List Bytes). poolOf ns (used 0 (held (table_of pool table))) pool) kept;
           ends =
-              s ∙ ap (λ (b : List ℕ). set b 0 k) (r ∙ ap₂ (λ (b : List ℕ) (n : ℕ). sets b n Y) d.ends (let z : k + 1 ≡ 1 + length E = omega (arith, ends-many 0 d.done, d.many) in z) ∙ sym (sets-append E Y table 1))
+              s ∙ ap (λ (b : List ℕ). set b 0 k)
+              (r ∙ ap₂ (λ (b : List ℕ) (n : ℕ). sets b n Y) d.ends
+              (let z : k + 1 ≡ 1 + length E = omega (arith, ends-many 0 d.done, d.many) in z) ∙ sym (sets-append E Y table 1))
               ∙ sets-before (k ∷ []) (E ++ Y) table 0
-              ∙ over-is (k ∷ (E ++ Y)) table (omega (arith, length-append E Y, length-replicate (get_or table 0 0 + 1 - (k + 1)) (let z : ℕ = 0 in z), ends-many 0 d.done, d.many, d.few, d.inside, laid.words, laid.few))
-              ∙ ap₂ (λ (a b : ℕ). over (a ∷ (E ++ replicate b 0)) table) (sym d.many) (let z : get_or table 0 0 + 1 - (k + 1) ≡ get_or table 0 0 - length d.done = omega (arith, d.many) in z)
+              ∙ over-is (k ∷ (E ++ Y)) table
+              (omega (
+                arith,
+                length-append E Y,
+                length-replicate (get_or table 0 0 + 1 - (k + 1)) (let z : ℕ = 0 in z),
+                ends-many 0 d.done,
+                d.many,
+                d.few,
+                d.inside,
+                laid.words,
+                laid.few,
+              ))
+              ∙ ap₂ (λ (a b : ℕ). over (a ∷ (E ++ replicate b 0)) table) (sym d.many)
+              (let z : get_or table 0 0 + 1 - (k + 1) ≡ get_or table 0 0 - length d.done = omega (arith, d.many) in z)
               ∙ ap (λ (n : ℕ). endsOver d.done n table) (sym (count-is pool table))
               ∙ ap (λ (ns : List Bytes). endsOver ns (table_of pool table).count table) kept;
         }

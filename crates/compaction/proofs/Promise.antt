@@ -53,7 +53,8 @@ module _ (p : ℕ → Bool) where
   unfolding cutSets
   cut-renumbered [] ws = refl
   cut-renumbered (n ∷ ns) ws =
-      ap₂ {C = List (List ℕ)} (λ (s : List ℕ) (ss : List (List ℕ)). s ∷ ss) (take-renumbered n ws) (ap (cutSets ns) (drop-renumbered n ws) ∙ cut-renumbered ns (drop (n * 4) ws))
+      ap₂ {C = List (List ℕ)} (λ (s : List ℕ) (ss : List (List ℕ)). s ∷ ss) (take-renumbered n ws)
+      (ap (cutSets ns) (drop-renumbered n ws) ∙ cut-renumbered ns (drop (n * 4) ws))
 
 -- what occurs in a part occurs
 behind-one : (x y z : Bool) → (y ≡ true → z ≡ true) → (x || y) ≡ true → (x || z) ≡ true
@@ -108,7 +109,8 @@ module _ {pool table : List ℕ} (g : Good pool table) (whole : List ℕ) where
   abbrev pub Alikes : List (List ℕ) → Type 0
   Alikes = Every (λ s. ReadAlike (table_of pool table) (table_of (poolAfter g p) (tableAfter g p)) s (renumbered p s))
 
-  pub sets-alike : (lengths ws : List ℕ) → ((i : ℕ) → occurs ws i ≡ true → occurs whole i ≡ true) → Words ws → eachGiven (table_of pool table) (cutSets lengths ws) ≡ got tt → Alikes (cutSets lengths ws)
+  pub sets-alike : (lengths ws : List ℕ) → ((i : ℕ) → occurs ws i ≡ true → occurs whole i ≡ true) → Words ws
+      → eachGiven (table_of pool table) (cutSets lengths ws) ≡ got tt → Alikes (cutSets lengths ws)
   unfolding cutSets eachGiven
   sets-alike [] ws f w e = tt
   sets-alike (n ∷ ns) ws f w e =
@@ -121,11 +123,13 @@ module _ {pool table : List ℕ} (g : Good pool table) (whole : List ℕ) where
 
 -- ══ The promise ══
 
-entered-next : {pool table : List ℕ} (g : Good pool table) (name : Bytes) (free : ℕ) → used 0 (held (table_of pool table)) ≡ free → enterNew pool table name ≡ goingOn pool table name (length (names_of (table_of pool table))) free
+entered-next : {pool table : List ℕ} (g : Good pool table) (name : Bytes) (free : ℕ) → used 0 (held (table_of pool table)) ≡ free
+    → enterNew pool table name ≡ goingOn pool table name (length (names_of (table_of pool table))) free
 unfolding enterNew
 entered-next {pool} {table} g name free e = ap₂ {C = Entered} (goingOn pool table name) (count-is pool table ∙ sym (length-names (good-laid g))) e
 
-pub promised : (pool table words lengths : List ℕ) → Words words → compactChecks pool table words lengths ≡ got tt → Promised pool table words lengths (compactCall pool table words lengths)
+pub promised : (pool table words lengths : List ℕ) → Words words → compactChecks pool table words lengths ≡ got tt
+    → Promised pool table words lengths (compactCall pool table words lengths)
 unfolding compactCall compactIf squeezed
 promised pool table words lengths w e =
     let g = checks-good pool table words lengths e in

@@ -18,7 +18,26 @@ use Rattle.laws.specs.Lists.{Every, clash, and_right}
 use Rattle.laws.specs.NameTable.{Good, good-laid, length-names, count-is, held-is}
 use Rattle.laws.specs.ReadLists.{Words}
 use Rattle.offices.proofs.Given.{set_given}
-use Rattle.rules.specs.Compaction.{Compacted, oneIf, occurs, keeps, newNumber, renumberIf, renumbered, consIf, keptFrom, joined, endsFrom, poolOf, endsOver, eachGiven, compactChecks, compactCall, compactIf, squeezed}
+use Rattle.rules.specs.Compaction.{
+  Compacted,
+  oneIf,
+  occurs,
+  keeps,
+  newNumber,
+  renumberIf,
+  renumbered,
+  consIf,
+  keptFrom,
+  joined,
+  endsFrom,
+  poolOf,
+  endsOver,
+  eachGiven,
+  compactChecks,
+  compactCall,
+  compactIf,
+  squeezed,
+}
 use Rattle.compaction.proofs.Checks.{checks-good, checks-each, checks-row, checks-met}
 use Rattle.compaction.proofs.HeldNames.{HeldWords, set-held}
 use Rattle.compaction.proofs.Kept.{rank, new-rank, kept-get, kept, after-names, after-good, after-used, poolAfter, tableAfter}
@@ -32,12 +51,14 @@ module _ (p : ℕ → Bool) where
   unfolding keptFrom
   keep_all i [] h = refl
   keep_all i (n ∷ ns) h =
-      ap₂ {C = List Bytes} (λ (b : Bool) (ms : List Bytes). consIf b n ms) (sym (ap p (add-zero i)) ∙ h 0 (omega arith)) (keep_all (suc i) ns (λ j k. ap p (let s : suc i + j ≡ i + suc j = omega arith in s) ∙ h (suc j) (omega arith)))
+      ap₂ {C = List Bytes} (λ (b : Bool) (ms : List Bytes). consIf b n ms) (sym (ap p (add-zero i)) ∙ h 0 (omega arith))
+      (keep_all (suc i) ns (λ j k. ap p (let s : suc i + j ≡ i + suc j = omega arith in s) ∙ h (suc j) (omega arith)))
 
   number-all : (a : ℕ) → ((j : ℕ) → j < a → p j ≡ true) → newNumber p a ≡ a
   unfolding newNumber
   number-all zero h = refl
-  number-all (suc a) h = ap₂ (λ (n : ℕ) (b : Bool). n + oneIf b) (number-all a (λ j k. h j (omega arith))) (h a (omega arith)) ∙ (let s : a + 1 ≡ suc a = omega arith in s)
+  number-all (suc a) h = ap₂ (λ (n : ℕ) (b : Bool). n + oneIf b) (number-all a (λ j k. h j (omega arith))) (h a (omega arith))
+      ∙ (let s : a + 1 ≡ suc a = omega arith in s)
 
   -- each name that is left was kept under its number
   pub record Source (ns : List Bytes) (i j : ℕ) : Type 0 where
@@ -59,7 +80,8 @@ module _ (p : ℕ → Bool) where
         ranked = ap₂ (λ (c : Bool) (r : ℕ). oneIf c + r) e s.ranked ∙ q;
       }
 
-      go : (b : Bool) → p i ≡ b → (j : ℕ) → j < length (consIf b n (keptFrom p (suc i) ns)) → ((k : ℕ) → k < length (keptFrom p (suc i) ns) → Source ns (suc i) k) → Source (n ∷ ns) i j
+      go : (b : Bool) → p i ≡ b → (j : ℕ) → j < length (consIf b n (keptFrom p (suc i) ns))
+          → ((k : ℕ) → k < length (keptFrom p (suc i) ns) → Source ns (suc i) k) → Source (n ∷ ns) i j
       go true e zero h f = record { from = 0; inside = omega arith; chosen = ap p (add-zero i) ∙ e; ranked = refl }
       go true e (suc j) h f = later true j (suc j) e (omega arith) (f j (omega arith))
       go false e j h f = later false j j e (zero-add j) (f j h)
@@ -103,7 +125,8 @@ again-pool ns end pool =
     let Z = replicate {A = ℕ} (end - length J) 0 in
     let D = drop (length (J ++ Z)) pool in
     let e : over (J ++ Z) pool ≡ J ++ (Z ++ D) = over-made (J ++ Z) pool ∙ append_assoc J Z D in
-    ap₂ (λ (k : ℕ) (b : List ℕ). over (J ++ replicate k 0) b) (let z : length J - length J ≡ 0 = omega arith in z) e ∙ ap (λ (j : List ℕ). over j (J ++ (Z ++ D))) (append-nil J) ∙ over-front J (Z ++ D) ∙ sym e
+    ap₂ (λ (k : ℕ) (b : List ℕ). over (J ++ replicate k 0) b) (let z : length J - length J ≡ 0 = omega arith in z) e
+    ∙ ap (λ (j : List ℕ). over j (J ++ (Z ++ D))) (append-nil J) ∙ over-front J (Z ++ D) ∙ sym e
 
 again-table : (ns : List Bytes) (count : ℕ) (table : List ℕ) → endsOver ns (length ns) (endsOver ns count table) ≡ endsOver ns count table
 unfolding endsOver
@@ -112,7 +135,8 @@ again-table ns count table =
     let Z = replicate {A = ℕ} (count - length ns) 0 in
     let D = drop (length (E ++ Z)) table in
     let e : over (E ++ Z) table ≡ E ++ (Z ++ D) = over-made (E ++ Z) table ∙ append_assoc E Z D in
-    ap₂ (λ (k : ℕ) (b : List ℕ). over (E ++ replicate k 0) b) (let z : length ns - length ns ≡ 0 = omega arith in z) e ∙ ap (λ (j : List ℕ). over j (E ++ (Z ++ D))) (append-nil E) ∙ over-front E (Z ++ D) ∙ sym e
+    ap₂ (λ (k : ℕ) (b : List ℕ). over (E ++ replicate k 0) b) (let z : length ns - length ns ≡ 0 = omega arith in z) e
+    ∙ ap (λ (j : List ℕ). over j (E ++ (Z ++ D))) (append-nil E) ∙ over-front E (Z ++ D) ∙ sym e
 
 -- ══ All words name held numbers ══
 
@@ -144,7 +168,8 @@ right_of a b e = and_right a b e
 
 -- ══ The second time ══
 
-given-too : {A A' B : Type 0} (f : A → B) (f' : A' → B) (m : Got A) (m' : Got A') (k k' : Got (Unit {0})) → mapGot f m ≡ mapGot f' m' → (m >> k) ≡ got tt → k' ≡ got tt → (m' >> k') ≡ got tt
+given-too : {A A' B : Type 0} (f : A → B) (f' : A' → B) (m : Got A) (m' : Got A') (k k' : Got (Unit {0})) → mapGot f m ≡ mapGot f' m'
+    → (m >> k) ≡ got tt → k' ≡ got tt → (m' >> k') ≡ got tt
 given-too f f' (refused n) m' k k' s e h = clash e
 given-too f f' (got a) (refused n) k k' s e h = absurd (let z : ◌≡◌ {A = ℕ} 0 1 = cc in omega arith)
 given-too f f' (got a) (got b) k k' s e h = h
@@ -168,12 +193,14 @@ module _ {pool table : List ℕ} (g : Good pool table) (words : List ℕ) where
   abbrev p' : ℕ → Bool
   p' = keeps t'.count (renumbered p words)
 
-  each_again : (ss : List (List ℕ)) → Every (λ s. ReadAlike t t' s (renumbered p s)) ss → eachGiven t ss ≡ got tt → eachGiven t' (map (renumbered p) ss) ≡ got tt
+  each_again : (ss : List (List ℕ)) → Every (λ s. ReadAlike t t' s (renumbered p s)) ss → eachGiven t ss ≡ got tt
+      → eachGiven t' (map (renumbered p) ss) ≡ got tt
   unfolding eachGiven
   each_again [] h e = refl
   each_again (s ∷ ss) h e =
       let b = both-given (setGiven t s) (eachGiven t ss) e in
-      given-too (map (mapCon (nameNo t))) (map (mapCon (nameNo t'))) (setGiven t s) (setGiven t' (renumbered p s)) (eachGiven t ss) (eachGiven t' (map (renumbered p) ss))
+      given-too (map (mapCon (nameNo t))) (map (mapCon (nameNo t'))) (setGiven t s) (setGiven t' (renumbered p s)) (eachGiven t ss)
+      (eachGiven t' (map (renumbered p) ss))
       (set_given g (after-good g p) s (renumbered p s) h.0).is e (each_again ss h.1 b.1)
 
   count-after : t'.count ≡ length (kept g p)
@@ -189,7 +216,8 @@ module _ {pool table : List ℕ} (g : Good pool table) (words : List ℕ) where
       let s = source p 0 (names_of t) j h in
       let chosen : p s.from ≡ true = sym (ap p (zero-add s.from)) ∙ s.chosen in
       let same : newNumber p s.from ≡ j = new-rank p s.from ∙ s.ranked in
-      ap₂ ◌&&◌ (lt-ltb j t'.count (omega (arith, count-after))) (sym (ap (occurs (renumbered p words)) same) ∙ occurs-again p words s.from (right_of (ltb s.from t.count) (occurs words s.from) chosen))
+      ap₂ ◌&&◌ (lt-ltb j t'.count (omega (arith, count-after)))
+      (sym (ap (occurs (renumbered p words)) same) ∙ occurs-again p words s.from (right_of (ltb s.from t.count) (occurs words s.from) chosen))
 
   renumbered-again : (ws : List ℕ) → HeldWords t ws → KeptWords g p ws → renumbered p' (renumbered p ws) ≡ renumbered p ws
   unfolding renumbered HeldWords KeptWords
@@ -216,12 +244,14 @@ module _ {pool table : List ℕ} (g : Good pool table) (words : List ℕ) where
       let ws = renumbered p' (renumbered p words) in
       ap (λ (ns : List Bytes). made ns (used 0 (held t')) t'.count ws) kept_again
       ∙ ap₂ {C = Compacted} (λ (u c : ℕ). made (kept g p) u c ws) (after-used g p) count-after
-      ∙ ap (λ (v : List ℕ). made (kept g p) (length (joined (kept g p))) (length (kept g p)) v) (renumbered-again words h (kept-words g words words (λ i o. o) h))
+      ∙ ap (λ (v : List ℕ). made (kept g p) (length (joined (kept g p))) (length (kept g p)) v)
+      (renumbered-again words h (kept-words g words words (λ i o. o) h))
       ∙ ap₂ {C = Compacted} (λ (x y : List ℕ). record { answer = got (length (kept g p)); pool = x; table = y; sets = renumbered p words })
       (again-pool (kept g p) (used 0 (held t)) pool)
       (again-table (kept g p) t.count table)
 
-  checks-again : (lengths : List ℕ) → Words words → compactChecks pool table words lengths ≡ got tt → compactChecks pool' table' (renumbered p words) lengths ≡ got tt
+  checks-again : (lengths : List ℕ) → Words words → compactChecks pool table words lengths ≡ got tt
+      → compactChecks pool' table' (renumbered p words) lengths ≡ got tt
   checks-again lengths w e =
       let r = checks-row pool table words lengths e in
       let each = checks-each pool table words lengths e in
@@ -229,26 +259,31 @@ module _ {pool table : List ℕ} (g : Good pool table) (words : List ℕ) where
       (ap (eqb (sum_of (λ n. n) lengths * 4)) (length-renumbered p words) ∙ r.1)
       (ap (eachGiven t') (cut-renumbered p lengths words) ∙ each_again (cutSets lengths words) (sets-alike g words lengths words (λ i o. o) w each) each)
 
-  call-again : (lengths : List ℕ) → Words words → compactChecks pool table words lengths ≡ got tt → compactCall pool' table' (renumbered p words) lengths ≡ squeezed p pool table words
+  call-again : (lengths : List ℕ) → Words words → compactChecks pool table words lengths ≡ got tt
+      → compactCall pool' table' (renumbered p words) lengths ≡ squeezed p pool table words
   unfolding compactCall compactIf
   call-again lengths w e =
-      let h = held_all t lengths words (eqb-true (sum_of (λ n. n) lengths * 4) (length words) (checks-row pool table words lengths e).1) w (checks-each pool table words lengths e) in
+      let h = held_all t lengths words (eqb-true (sum_of (λ n. n) lengths * 4) (length words) (checks-row pool table words lengths e).1) w
+      (checks-each pool table words lengths e) in
       rw (checks-again lengths w e) (squeezed-again h)
 
-refused-again : (pool table words lengths : List ℕ) (n : ℕ) → compactChecks pool table words lengths ≡ refused n → compactCall pool table words lengths ≡ record { answer = refused n; pool = pool; table = table; sets = words }
+refused-again : (pool table words lengths : List ℕ) (n : ℕ) → compactChecks pool table words lengths ≡ refused n
+    → compactCall pool table words lengths ≡ record { answer = refused n; pool = pool; table = table; sets = words }
 unfolding compactCall compactIf
 refused-again pool table words lengths n e = rw e
 
 abbrev again : List ℕ → Compacted → Compacted
 again lengths r = compactCall r.pool r.table r.sets lengths
 
-twice-by : (pool table words lengths : List ℕ) → Words words → (m : Got (Unit {0})) → compactChecks pool table words lengths ≡ m → again lengths (compactIf m pool table words) ≡ compactIf m pool table words
+twice-by : (pool table words lengths : List ℕ) → Words words → (m : Got (Unit {0})) → compactChecks pool table words lengths ≡ m
+    → again lengths (compactIf m pool table words) ≡ compactIf m pool table words
 unfolding compactIf squeezed
 twice-by pool table words lengths w (refused n) e = refused-again pool table words lengths n e
 twice-by pool table words lengths w (got tt) e = call-again (checks-good pool table words lengths e) words lengths w e
 
 -- compacting what was compacted, with the same lengths, changes nothing and answers the same; so does compacting again what was refused
 pub twice : (pool table words lengths : List ℕ) → Words words
-    → compactCall (compactCall pool table words lengths).pool (compactCall pool table words lengths).table (compactCall pool table words lengths).sets lengths ≡ compactCall pool table words lengths
+    → compactCall (compactCall pool table words lengths).pool (compactCall pool table words lengths).table
+    (compactCall pool table words lengths).sets lengths ≡ compactCall pool table words lengths
 unfolding compactCall
 twice pool table words lengths w = twice-by pool table words lengths w (compactChecks pool table words lengths) refl

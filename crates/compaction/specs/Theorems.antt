@@ -29,11 +29,13 @@ pub record Promised (pool table words lengths : List ℕ) (r : Compacted) : Type
   pub good : tableGiven r.pool r.table ≡ got tt
   -- each set reads alike before and after
   pub cuts : cutSets lengths r.sets ≡ map (renumbered (keeps (table_of pool table).count words)) (cutSets lengths words)
-  pub sets : Every (λ s. ReadAlike (table_of pool table) (table_of r.pool r.table) s (renumbered (keeps (table_of pool table).count words) s)) (cutSets lengths words)
+  pub sets : Every (λ s. ReadAlike (table_of pool table) (table_of r.pool r.table) s (renumbered (keeps (table_of pool table).count words) s))
+      (cutSets lengths words)
   -- so every call answers alike
   pub calls : CallsAlike pool table r.pool r.table
   -- entering goes on where the kept names end, at the first freed byte, with the next number
-  pub next : (name : Bytes) → enterNew r.pool r.table name ≡ goingOn r.pool r.table name (length (names_of (table_of r.pool r.table))) (length (joined (names_of (table_of r.pool r.table))))
+  pub next : (name : Bytes) → enterNew r.pool r.table name
+      ≡ goingOn r.pool r.table name (length (names_of (table_of r.pool r.table))) (length (joined (names_of (table_of r.pool r.table))))
 
 -- the names that occur are kept, each once and in the old order; each set reads as before, so every call answers as before
 abbrev pub NamesKept : Type 0

@@ -5,7 +5,27 @@ use mathlib.Core.List.{List, [], ◌∷◌}
 use Rattle.rules.specs.Base.{is_yes}
 use Rattle.rules.specs.Exponents.{frac}
 use Rattle.rules.specs.Names.{Bytes, numbered}
-use Rattle.rules.specs.Trees.{◌↑◌, Product, Ty, opened, basic, dim, fn, struct, list, Tys, nil, cons, Fields, noFields, field, size, sizeTys, sizeFields, ty-dec}
+use Rattle.rules.specs.Trees.{
+  ◌↑◌,
+  Product,
+  Ty,
+  opened,
+  basic,
+  dim,
+  fn,
+  struct,
+  list,
+  Tys,
+  nil,
+  cons,
+  Fields,
+  noFields,
+  field,
+  size,
+  sizeTys,
+  sizeFields,
+  ty-dec,
+}
 use Rattle.rules.specs.Writing.{words, writeTy}
 use Rattle.laws.specs.Lists.{is-yes, is-no}
 use Rattle.records.specs.Views.{viewAt, longAt, longOf, view_of}
@@ -53,8 +73,10 @@ module _ (s t : List ℕ) where
   factors-too : (p : Product ℕ) (at k : ℕ) → Alike at k (length p) → HoldsFactors s p at → HoldsFactors t p k
   unfolding HoldsFactors
   factors-too [] at k a h = tt
-  factors-too (f ↑ frac n d ∷ p) at k a h =
-      ((shown at k (suc (length p)) (omega arith) a ∙ h.0.0, h.0.1, long at k (suc (length p)) (omega arith) a ∙ h.0.2), factors-too p (at + 1) (k + 1) (part at k (suc (length p)) 1 (length p) (omega arith) a) h.1)
+  factors-too (f ↑ frac n d ∷ p) at k a h = (
+    (shown at k (suc (length p)) (omega arith) a ∙ h.0.0, h.0.1, long at k (suc (length p)) (omega arith) a ∙ h.0.2),
+    factors-too p (at + 1) (k + 1) (part at k (suc (length p)) 1 (length p) (omega arith) a) h.1,
+  )
 
   mutual
     unfolding Holds HoldsProduct size
@@ -79,7 +101,8 @@ module _ (s t : List ℕ) where
         let rest = part at k n 1 (sizeTys as' + sizeFields fs) (omega arith) a in (
           shown at k n (omega arith) a ∙ h.0,
           tys-too as' (at + 1) (k + 1) (part at k n 1 (sizeTys as') (omega arith) a) h.1,
-          fields-too fs (at + 1 + sizeTys as') (k + 1 + sizeTys as') (part (at + 1) (k + 1) (sizeTys as' + sizeFields fs) (sizeTys as') (sizeFields fs) (omega arith) rest) h.2,
+          fields-too fs (at + 1 + sizeTys as') (k + 1 + sizeTys as')
+              (part (at + 1) (k + 1) (sizeTys as' + sizeFields fs) (sizeTys as') (sizeFields fs) (omega arith) rest) h.2,
           long at k n (omega arith) a ∙ h.3,
         )
     held-too (list x) at k a h =
@@ -119,7 +142,12 @@ module _ (s t : List ℕ) where
           rw (e, f) (w.each (i * 4 + j) (omega arith))
 
       same : recAt s (at + i) ≡ recAt t (k + i)
-      same = rw (rw (add-zero ((at + i) * 4), add-zero ((k + i) * 4)) at (word 0 (omega arith)), word 1 (omega arith), word 2 (omega arith), word 3 (omega arith))
+      same = rw (
+        rw (add-zero ((at + i) * 4), add-zero ((k + i) * 4)) at (word 0 (omega arith)),
+        word 1 (omega arith),
+        word 2 (omega arith),
+        word 3 (omega arith),
+      )
 
 module _ (s : List ℕ) (x : Ty ℕ) (at : ℕ) (h : Holds s x at) (t : List ℕ) (y : Ty ℕ) (k : ℕ) (g : Holds t y k) where
   words-type : size x ≡ size y → SameWords s (at * 4) t (k * 4) (size x * 4) → x ≡ y
@@ -134,7 +162,8 @@ module _ (s : List ℕ) (x : Ty ℕ) (at : ℕ) (h : Holds s x at) (t : List ℕ
       word u z i hz d l = let le : i * 4 + d < (i + size z) * 4 = omega arith in rw (← held-words u z i hz, get_or-drop, get_or-take)
 
   -- the answers
-  pub told_same : (names : List Bytes) (b : Bool) → size x ≡ size y → Tells b (SameWords s (at * 4) t (k * 4) (size x * 4)) → b ≡ is_yes (ty-dec (numbered names) x y)
+  pub told_same : (names : List Bytes) (b : Bool) → size x ≡ size y → Tells b (SameWords s (at * 4) t (k * 4) (size x * 4))
+      → b ≡ is_yes (ty-dec (numbered names) x y)
   told_same names true e w = sym (is-yes (ty-dec (numbered names) x y) (words-type e w))
   told_same names false e w = sym (is-no (ty-dec (numbered names) x y) (λ q. w (type-words q)))
 

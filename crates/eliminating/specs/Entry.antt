@@ -34,14 +34,16 @@ module _ {A : Type 0} (u : A → Got (Unit {0})) where
     pub is : m ≡ got value
     pub all : whole s k m ≡ got value
 
-  met : (l s k : Got (Unit {0})) (m : Got A) (w : Got (Unit {0})) → ((a : A) → m ≡ got a → w ≡ u a) → (l >> s >> k >> m >> got (tt {0}) >> w) ≡ got tt → Met s k m
+  met : (l s k : Got (Unit {0})) (m : Got A) (w : Got (Unit {0})) → ((a : A) → m ≡ got a → w ≡ u a)
+      → (l >> s >> k >> m >> got (tt {0}) >> w) ≡ got tt → Met s k m
   met (refused i) s k m w h e = clash e
   met (got x) (refused i) k m w h e = clash e
   met (got x) (got y) (refused i) m w h e = clash e
   met (got x) (got y) (got z) (refused i) w h e = clash e
   met (got x) (got y) (got z) (got a) w h e = record { value = a; short = refl; is = refl; all = rw (← h a refl, e) }
 
-  unmet : (l s k : Got (Unit {0})) (m : Got A) (w : Got (Unit {0})) (n : ℕ) → l ≡ got tt → ((a : A) → m ≡ got a → w ≡ u a) → (l >> s >> k >> m >> got (tt {0}) >> w) ≡ refused n → whole s k m ≡ refused n
+  unmet : (l s k : Got (Unit {0})) (m : Got A) (w : Got (Unit {0})) (n : ℕ) → l ≡ got tt → ((a : A) → m ≡ got a → w ≡ u a)
+      → (l >> s >> k >> m >> got (tt {0}) >> w) ≡ refused n → whole s k m ≡ refused n
   unmet (refused i) s k m w n l h e = clash l
   unmet (got x) (refused i) k m w n l h e = cc
   unmet (got x) (got y) (refused i) m w n l h e = cc
@@ -67,7 +69,8 @@ module _ (pool table ws : List ℕ) where
       set-small pool table 0 ws cs 0 (length ws / 4) (set_is pool table ws w cs g) (good-laid (entry-good pool table ws a)).few
 
   module _ (w : Words32 ws) where
-    opened : (cs : List (Con ℕ)) → setGiven (table_of pool table) ws ≡ got cs → need (unmixed (numbers pool table) (opensIn ws 0 (length ws / 4))) 4 ≡ apart (table_of pool table) (collect opensCon cs)
+    opened : (cs : List (Con ℕ)) → setGiven (table_of pool table) ws ≡ got cs
+        → need (unmixed (numbers pool table) (opensIn ws 0 (length ws / 4))) 4 ≡ apart (table_of pool table) (collect opensCon cs)
     unfolding apart
     opened cs g = rw (set-opens pool table 0 ws cs 0 (length ws / 4) (set_is pool table ws w cs g))
 
@@ -90,11 +93,14 @@ module _ (pool table ws : List ℕ) where
     pub came-in : entered ≡ got tt → Entered
     unfolding setCall aloneGiven eliminatedSet setChecked
     came-in e =
-        let p = met (λ cs. apart (table_of pool table) (collect opensCon cs)) (lentTable pool table) (shortLists (ws ∷ [])) (tableKept (table_of pool table)) (setGiven (table_of pool table) ws) (need (unmixed (numbers pool table) (opensIn ws 0 (length ws / 4))) 4) opened e in
+        let p = met (λ cs. apart (table_of pool table) (collect opensCon cs)) (lentTable pool table) (shortLists (ws ∷ []))
+        (tableKept (table_of pool table)) (setGiven (table_of pool table) ws)
+        (need (unmixed (numbers pool table) (opensIn ws 0 (length ws / 4))) 4) opened e in
         let l = set-short p.short in
         record {
           set = p.value;
-          good = entry-good pool table ws (alone-given (first-got (setCall pool table ws) (need (unmixed (numbers pool table) (opensIn ws 0 (length ws / 4))) 4) e));
+          good = entry-good pool table ws
+              (alone-given (first-got (setCall pool table ws) (need (unmixed (numbers pool table) (opensIn ws 0 (length ws / 4))) 4) e));
           few = omega (arith, l);
           chain = set_is pool table ws w p.value p.is;
           all = ap (◌>>= λ cs. fitting (numbers pool table) cs >>= λ ps. eliminated (numbers pool table) ps) p.all;
@@ -104,7 +110,9 @@ module _ (pool table ws : List ℕ) where
     unfolding setCall aloneGiven eliminatedSet setChecked
     kept_out n l e =
         ap (◌>>= λ cs. fitting (numbers pool table) cs >>= λ ps. eliminated (numbers pool table) ps)
-        (unmet (λ cs. apart (table_of pool table) (collect opensCon cs)) (lentTable pool table) (shortLists (ws ∷ [])) (tableKept (table_of pool table)) (setGiven (table_of pool table) ws) (need (unmixed (numbers pool table) (opensIn ws 0 (length ws / 4))) 4) n l opened e)
+        (unmet (λ cs. apart (table_of pool table) (collect opensCon cs)) (lentTable pool table) (shortLists (ws ∷ []))
+        (tableKept (table_of pool table)) (setGiven (table_of pool table) ws)
+        (need (unmixed (numbers pool table) (opensIn ws 0 (length ws / 4))) 4) n l opened e)
 
 -- ══ The call ══
 
@@ -116,6 +124,8 @@ module _ (pool table ws result work : List ℕ) where
   unfolding eliminateCall eliminatedOf eliminatedWords resultAfter workAfter
   call-short e = rw e
 
-  pub called : (w result' work' : List ℕ) (o : Answer) → length w ≡ length work → lent pool table result work ≡ got tt → Answered (eliminatedSet (table_of pool table) ws) result result' o → work' ≡ replicate (length w) 0 → eliminationAs o result' work' ≡ eliminateCall pool table ws result work
+  pub called : (w result' work' : List ℕ) (o : Answer) → length w ≡ length work → lent pool table result work ≡ got tt
+      → Answered (eliminatedSet (table_of pool table) ws) result result' o → work' ≡ replicate (length w) 0
+      → eliminationAs o result' work' ≡ eliminateCall pool table ws result work
   unfolding eliminateCall workAfter
   called w result' work' o n e a z = rw (e, a.answer, a.buffer, z, n)

@@ -51,16 +51,19 @@ put-more d d' d'' out n m rs qs h k =
     let l : out * 4 + length (words rs) ≡ (out + n) * 4 = omega (arith, words-length rs, h.many) in
     record {
       many = omega (arith, h.many, k.many, length-append rs qs);
-      buffer = k.buffer ∙ ap₂ (λ (x : List ℕ) (i : ℕ). sets x i (words qs)) h.buffer (sym l) ∙ sym (sets-append (words rs) (words qs) d (out * 4)) ∙ ap (sets d (out * 4)) (sym (words_append rs qs));
+      buffer = k.buffer ∙ ap₂ (λ (x : List ℕ) (i : ℕ). sets x i (words qs)) h.buffer (sym l) ∙ sym (sets-append (words rs) (words qs) d (out * 4))
+          ∙ ap (sets d (out * 4)) (sym (words_append rs qs));
     }
 
 -- what stands before is written last
-pub put-before : (d d' d'' : List ℕ) (out n m : ℕ) (rs qs : List Rec) → n ≡ length rs → Put d d' (out + n) m qs → d'' ≡ sets d' (out * 4) (words rs) → Put d d'' out (n + m) (rs ++ qs)
+pub put-before : (d d' d'' : List ℕ) (out n m : ℕ) (rs qs : List Rec) → n ≡ length rs → Put d d' (out + n) m qs → d'' ≡ sets d' (out * 4) (words rs)
+    → Put d d'' out (n + m) (rs ++ qs)
 put-before d d' d'' out n m rs qs h k e =
     let l : (out + n) * 4 ≡ out * 4 + length (words rs) = omega (arith, words-length rs, h) in
     record {
       many = omega (arith, h, k.many, length-append rs qs);
-      buffer = e ∙ ap (λ (x : List ℕ). sets x (out * 4) (words rs)) (k.buffer ∙ ap (λ (i : ℕ). sets d i (words qs)) l) ∙ sets-before (words rs) (words qs) d (out * 4) ∙ ap (sets d (out * 4)) (sym (words_append rs qs));
+      buffer = e ∙ ap (λ (x : List ℕ). sets x (out * 4) (words rs)) (k.buffer ∙ ap (λ (i : ℕ). sets d i (words qs)) l)
+          ∙ sets-before (words rs) (words qs) d (out * 4) ∙ ap (sets d (out * 4)) (sym (words_append rs qs));
     }
 
 -- ══ The factors of a row, column by column ══
@@ -88,15 +91,19 @@ module _ (d d' : List ℕ) (out n j : ℕ) (cols : List (Atom ℕ)) (r : Row) (g
   pub putting-skip : isZero this ≡ true → Putting d d' out n (j + 1) cols r
   putting-skip z = record { done = g.done; whole = g.whole ∙ ap (g.done ++◌) (next ∙ rw (z, put) refl); written = g.written; few = omega (arith, g.few) }
 
-  pub putting-put : (d'' : List ℕ) (v : Rec) → isZero this ≡ false → v ≡ writeFactor (here ↑ this) → d'' ≡ sets d' ((out + n) * 4) (words (v ∷ [])) → Putting d d'' out (n + 1) (j + 1) cols r
+  pub putting-put : (d'' : List ℕ) (v : Rec) → isZero this ≡ false → v ≡ writeFactor (here ↑ this) → d'' ≡ sets d' ((out + n) * 4) (words (v ∷ []))
+      → Putting d d'' out (n + 1) (j + 1) cols r
   putting-put d'' v z e w = record {
     done = g.done ++ (here ↑ this ∷ []);
     whole = g.whole ∙ ap (g.done ++◌) (next ∙ rw (z, put) refl) ∙ sym (append_assoc g.done (here ↑ this ∷ []) (factors (drop (j + 1) cols) (drop (j + 1) r)));
-    written = subst (Put d d'' out (n + 1)) (sym (map-append writeFactor g.done (here ↑ this ∷ []))) (put-more d d' d'' out n 1 (map writeFactor g.done) (writeFactor (here ↑ this) ∷ []) g.written (record { many = refl; buffer = w ∙ ap (λ (x : Rec). sets d' ((out + n) * 4) (words (x ∷ []))) e }));
+    written = subst (Put d d'' out (n + 1)) (sym (map-append writeFactor g.done (here ↑ this ∷ [])))
+        (put-more d d' d'' out n 1 (map writeFactor g.done) (writeFactor (here ↑ this) ∷ []) g.written
+        (record { many = refl; buffer = w ∙ ap (λ (x : Rec). sets d' ((out + n) * 4) (words (x ∷ []))) e }));
     few = omega (arith, g.few);
   }
 
-pub putting-done : (d d' : List ℕ) (out n j : ℕ) (cols : List (Atom ℕ)) (r : Row) → Putting d d' out n j cols r → length cols ≤ j → Put d d' out n (map writeFactor (factors cols r))
+pub putting-done : (d d' : List ℕ) (out n j : ℕ) (cols : List (Atom ℕ)) (r : Row) → Putting d d' out n j cols r → length cols ≤ j
+    → Put d d' out n (map writeFactor (factors cols r))
 unfolding factors
 putting-done d d' out n j cols r g h =
     let e : factors cols r ≡ g.done = g.whole ∙ ap (g.done ++◌) (rw (drop_of_length-le cols {i = j} h) refl) ∙ append-nil g.done in
@@ -111,12 +118,14 @@ pub one-few : {d d' : List ℕ} {at n : ℕ} {a : Atom ℕ} {e : Exp} → OneFac
 one-few (left_out z i b) = omega arith
 one-few (put-in z i b) = omega arith
 
-pub putting-on : (d d' d'' : List ℕ) (out n m j : ℕ) (cols : List (Atom ℕ)) (r : Row) → Putting d d' out n j cols r → j < length cols → j < length r → OneFactor d' d'' (out + n) m (get_or cols j (base 0)) (get_or r j nought)
+pub putting-on : (d d' d'' : List ℕ) (out n m j : ℕ) (cols : List (Atom ℕ)) (r : Row) → Putting d d' out n j cols r → j < length cols → j < length r
+    → OneFactor d' d'' (out + n) m (get_or cols j (base 0)) (get_or r j nought)
     → Putting d d'' out (n + m) (j + 1) cols r
 putting-on d d' d'' out n m j cols r g h k (left_out z i b) =
     let e : n + m ≡ n = omega arith in
     rw (e, b) (putting-skip d d' out n j cols r g h k z)
-putting-on d d' d'' out n m j cols r g h k (put-in z i b) = rw i (putting-put d d' out n j cols r g h k d'' (writeFactor (get_or cols j (base 0) ↑ get_or r j nought)) z refl b)
+putting-on d d' d'' out n m j cols r g h k (put-in z i b) = rw i
+    (putting-put d d' out n j cols r g h k d'' (writeFactor (get_or cols j (base 0) ↑ get_or r j nought)) z refl b)
 
 -- a product of n factors: one record more
 pub record PutProduct (d d' : List ℕ) (out n : ℕ) (p : Product ℕ) : Type 0 where
@@ -129,26 +138,42 @@ pub record PutSmall (d d' : List ℕ) (out n : ℕ) (rs : List Rec) : Type 0 whe
   pub put : Put d d' out n rs
   pub few : n ≤ 50
 
-pub put-product : (d d' d'' : List ℕ) (out n : ℕ) (p : Product ℕ) → Put d d' (out + 1) n (map writeFactor p) → n ≤ 48 → d'' ≡ sets d' (out * 4) (words (rec (head 3 (fit (n + 1))) n 0 0 ∷ [])) → PutProduct d d'' out n p
+pub put-product : (d d' d'' : List ℕ) (out n : ℕ) (p : Product ℕ) → Put d d' (out + 1) n (map writeFactor p) → n ≤ 48
+    → d'' ≡ sets d' (out * 4) (words (rec (head 3 (fit (n + 1))) n 0 0 ∷ [])) → PutProduct d d'' out n p
 unfolding writeProduct
 put-product d d' d'' out n p h l e =
     let m : n ≡ length p = h.many ∙ length-map p writeFactor in
     let f : fit (n + 1) ≡ suc (length p) = fits (n + 1) (omega arith) ∙ omega (arith, m) in
-    record { many = m; few = l; put = put-before d d' d'' out 1 n (rec (head 3 (suc (length p))) (length p) 0 0 ∷ []) (map writeFactor p) refl h (e ∙ rw (f, m) refl) }
+    record {
+      many = m;
+      few = l;
+      put = put-before d d' d'' out 1 n (rec (head 3 (suc (length p))) (length p) 0 0 ∷ []) (map writeFactor p) refl h
+          (e ∙ rw (f, m) refl);
+    }
 
-pub put-binding : (d d' d'' : List ℕ) (out n x : ℕ) (cols : List (Atom ℕ)) (r : Row) → PutProduct d d' (out + 1) n (factors cols r) → d'' ≡ sets d' (out * 4) (words (rec (head 24 (fit (n + 2))) x 0 0 ∷ [])) → PutSmall d d'' out (n + 2) (writeBinding (boundBy cols (x gets r)))
+pub put-binding : (d d' d'' : List ℕ) (out n x : ℕ) (cols : List (Atom ℕ)) (r : Row) → PutProduct d d' (out + 1) n (factors cols r)
+    → d'' ≡ sets d' (out * 4) (words (rec (head 24 (fit (n + 2))) x 0 0 ∷ [])) → PutSmall d d'' out (n + 2) (writeBinding (boundBy cols (x gets r)))
 unfolding writeBinding writeTy boundBy sizeBinding size
 put-binding d d' d'' out n x cols r h e =
     let f : fit (n + 2) ≡ suc (suc (length (factors cols r))) = fits (n + 2) (omega (arith, h.few)) ∙ omega (arith, h.many) in
     let c : 1 + (1 + n) ≡ n + 2 = omega arith in
-    record { put = rw c at (put-before d d' d'' out 1 (1 + n) (rec (head 24 (suc (suc (length (factors cols r))))) x 0 0 ∷ []) (writeProduct (factors cols r)) refl h.put (e ∙ rw f refl)); few = omega (arith, h.few) }
+    record {
+      put = rw c at (put-before d d' d'' out 1 (1 + n) (rec (head 24 (suc (suc (length (factors cols r))))) x 0 0 ∷ [])
+          (writeProduct (factors cols r)) refl h.put (e ∙ rw f refl));
+      few = omega (arith, h.few);
+    }
 
-pub put-line : (d d' d'' : List ℕ) (out n : ℕ) (cols : List (Atom ℕ)) (r : Row) → PutProduct d d' (out + 1) n (factors cols r) → d'' ≡ sets d' (out * 4) (words (rec (head 22 (fit (n + 2))) 0 0 0 ∷ [])) → PutSmall d d'' out (n + 2) (writeCon (is_scalar (factors cols r)))
+pub put-line : (d d' d'' : List ℕ) (out n : ℕ) (cols : List (Atom ℕ)) (r : Row) → PutProduct d d' (out + 1) n (factors cols r)
+    → d'' ≡ sets d' (out * 4) (words (rec (head 22 (fit (n + 2))) 0 0 0 ∷ [])) → PutSmall d d'' out (n + 2) (writeCon (is_scalar (factors cols r)))
 unfolding writeCon sizeCon size
 put-line d d' d'' out n cols r h e =
     let f : fit (n + 2) ≡ suc (suc (length (factors cols r))) = fits (n + 2) (omega (arith, h.few)) ∙ omega (arith, h.many) in
     let c : 1 + (1 + n) ≡ n + 2 = omega arith in
-    record { put = rw c at (put-before d d' d'' out 1 (1 + n) (rec (head 22 (suc (suc (length (factors cols r))))) 0 0 0 ∷ []) (writeProduct (factors cols r)) refl h.put (e ∙ rw f refl)); few = omega (arith, h.few) }
+    record {
+      put = rw c at (put-before d d' d'' out 1 (1 + n) (rec (head 22 (suc (suc (length (factors cols r))))) 0 0 0 ∷ [])
+          (writeProduct (factors cols r)) refl h.put (e ∙ rw f refl));
+      few = omega (arith, h.few);
+    }
 
 pub factor-record : (a : atoms.Atom) (n : ℤ) (d : ℕ) → recOf (view.Factor a (twos n) d) 1 ≡ writeFactor (atomOf a ↑ frac n d)
 unfolding writeFactor
@@ -172,12 +197,18 @@ module _ {A : Type 0} (f : A → List Rec) (as' : List A) where
   unfolding collect
   parts-start d = record { written = put-none d 0; few = omega arith }
 
-  pub parts-on : (d d' d'' : List ℕ) (n m i : ℕ) (x : A) → i < length as' → Parts d d' n i → PutSmall d' d'' n m (f (get_or as' i x)) → Parts d d'' (n + m) (i + 1)
+  pub parts-on : (d d' d'' : List ℕ) (n m i : ℕ) (x : A) → i < length as' → Parts d d' n i → PutSmall d' d'' n m (f (get_or as' i x))
+      → Parts d d'' (n + m) (i + 1)
   unfolding collect
   parts-on d d' d'' n m i x h g p =
       let z : 0 + n ≡ n = omega arith in
-      let e : collect f (take (i + 1) as') ≡ collect f (take i as') ++ f (get_or as' i x) = rw (add-one i, take-suc as' i x h) (collect-append f (take i as') (get_or as' i x ∷ []) ∙ ap (collect f (take i as') ++◌) (append-nil (f (get_or as' i x)))) in
-      record { written = rw e (put-more d d' d'' 0 n m (collect f (take i as')) (f (get_or as' i x)) g.written (rw z p.put)); few = omega (arith, g.few, p.few) }
+      let e : collect f (take (i + 1) as') ≡ collect f (take i as') ++ f (get_or as' i x) =
+      rw (add-one i, take-suc as' i x h)
+      (collect-append f (take i as') (get_or as' i x ∷ []) ∙ ap (collect f (take i as') ++◌) (append-nil (f (get_or as' i x)))) in
+      record {
+        written = rw e (put-more d d' d'' 0 n m (collect f (take i as')) (f (get_or as' i x)) g.written (rw z p.put));
+        few = omega (arith, g.few, p.few);
+      }
 
   pub parts-done : (d d' : List ℕ) (n i : ℕ) → length as' ≤ i → Parts d d' n i → Put d d' 0 n (collect f as')
   parts-done d d' n i h g = rw (take_all i as' h) at g.written
@@ -204,11 +235,14 @@ pair-long (x ∷ xs) [] h = absurd (omega arith)
 pair-long (x ∷ xs) (r ∷ rs) h = ap suc (pair-long xs rs (omega arith))
 
 module _ (cols : List (Atom ℕ)) (xs : List ℕ) (rs : List Row) (m : ℕ) (h : m ≤ length xs) (k : m ≤ length rs) where
-  pub value-at : (i : ℕ) → i < m → get_or (map (boundBy cols) (pairValues (take m xs) (take m rs))) i (boundBy cols (0 gets [])) ≡ boundBy cols (get_or xs i 0 gets get_or rs i [])
+  pub value-at : (i : ℕ) → i < m → get_or (map (boundBy cols) (pairValues (take m xs) (take m rs))) i (boundBy cols (0 gets []))
+      ≡ boundBy cols (get_or xs i 0 gets get_or rs i [])
   value-at i l =
       get_or-map (boundBy cols) (pairValues (take m xs) (take m rs)) i (0 gets [])
-      ∙ ap (boundBy cols) (pair-at (take m xs) (take m rs) i (omega (arith, length-take-le m xs h)) (omega (arith, length-take-le m rs k)) ∙ ap₂ ◌gets◌ (get_or-take m xs i 0 l) (get_or-take m rs i [] l))
+      ∙ ap (boundBy cols) (pair-at (take m xs) (take m rs) i (omega (arith, length-take-le m xs h)) (omega (arith, length-take-le m rs k))
+      ∙ ap₂ ◌gets◌ (get_or-take m xs i 0 l) (get_or-take m rs i [] l))
 
   pub values-long : length (map (boundBy cols) (pairValues (take m xs) (take m rs))) ≡ m
   values-long =
-      length-map (pairValues (take m xs) (take m rs)) (boundBy cols) ∙ pair-long (take m xs) (take m rs) (length-take-le m xs h ∙ sym (length-take-le m rs k)) ∙ length-take-le m xs h
+      length-map (pairValues (take m xs) (take m rs)) (boundBy cols)
+      ∙ pair-long (take m xs) (take m rs) (length-take-le m xs h ∙ sym (length-take-le m rs k)) ∙ length-take-le m xs h

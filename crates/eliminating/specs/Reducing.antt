@@ -67,7 +67,8 @@ module _ (pool table : List ℕ) (cs : List (Con ℕ)) where
       go (refused n) i = let z : ◌≡◌ {A = Got (List Row)} (refused n) (refused j) = rw i at e in let y : n ≡ j = cc in rw (i, y) refl
       go (got ps) i = few ps i (leb (length ps) 24) refl
 
-  module _ (s : List ℕ) (e : ℕ) (chain : Chain (GoodCon pool table 0 s) e cs 0) (names : List Bytes) (cols : List (Atom ℕ)) (rows : List Row) (laid : laidOut names cols cs ≡ got rows) where
+  module _ (s : List ℕ) (e : ℕ) (chain : Chain (GoodCon pool table 0 s) e cs 0) (names : List Bytes) (cols : List (Atom ℕ)) (rows : List Row)
+      (laid : laidOut names cols cs ≡ got rows) where
     abbrev out : LaidSo names cols cs rows
     out = laid-so names cols cs rows laid
 
@@ -86,7 +87,8 @@ module _ (pool table : List ℕ) (cs : List (Con ℕ)) where
         go true k = let t = fits-then pool table s out.products e scalar-chain k in clash (sym i ∙ few-enough ν s e t.1 t.2)
         go false k = let y = (listed-eight ν s e).only j i in rw (out.all, k, y) refl
 
-  goods : (s : List ℕ) (e : ℕ) (ps : List (Product ℕ)) (at : ℕ) → Chain (GoodCon pool table 0 s) e (map is_scalar ps) at → Every (λ p. goodProduct ν (holding pool table) 0 p ≡ true) ps
+  goods : (s : List ℕ) (e : ℕ) (ps : List (Product ℕ)) (at : ℕ) → Chain (GoodCon pool table 0 s) e (map is_scalar ps) at
+      → Every (λ p. goodProduct ν (holding pool table) 0 p ≡ true) ps
   unfolding goodCon
   goods s e [] at c = tt
   goods s e (p ∷ ps) at c = (c.1.0.good, goods s e ps c.0 c.1.1)
@@ -106,6 +108,7 @@ module _ (pool table : List ℕ) (cs : List (Con ℕ)) where
       ap (◌>>= λ d. got (settledBy (colsIn k) d.left d.values)) q
       ∙ ap (λ (c : List (Atom ℕ)). eliminate c n rows [] >>= λ d. got (settledBy c d.left d.values)) cols
       ∙ ap (λ (x : ℕ). eliminate (columns ν ps) x rows [] >>= λ d. got (settledBy (columns ν ps) d.left d.values)) many
-      ∙ ap (λ (x : List Row). eliminate (columns ν ps) (length ps) x [] >>= λ d. got (settledBy (columns ν ps) d.left d.values)) (o.is ∙ ap (λ (c : List (Atom ℕ)). paddedRows (names_of (table_of pool table)) c ps) cols)
+      ∙ ap (λ (x : List Row). eliminate (columns ν ps) (length ps) x [] >>= λ d. got (settledBy (columns ν ps) d.left d.values))
+      (o.is ∙ ap (λ (c : List (Atom ℕ)). paddedRows (names_of (table_of pool table)) c ps) cols)
       ∙ padded-rows ν (atom-lawful ν (numbered-lawful _)) (holding pool table) (held-apart pool table good) ps (goods s e ps 0 ch) fit 48
       ∙ sym (rw (o.all, fit) refl)

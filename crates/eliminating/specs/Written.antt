@@ -31,7 +31,8 @@ few-all f g (x ∷ xs) h = omega (arith, length-append (f (g x)) (collect f (map
 
 put-over : (d d' : List ℕ) (n : ℕ) (rs : List Rec) → Put d d' 0 n rs → length rs ≤ 2048 → 8192 ≤ length d → d' ≡ over (words rs) d
 unfolding over
-put-over d d' n rs h l k = h.buffer ∙ sets-eq (words rs) d 0 (omega (arith, words-length rs)) ∙ ap (λ (j : ℕ). words rs ++ drop j d) (zero-add (length (words rs)))
+put-over d d' n rs h l k = h.buffer ∙ sets-eq (words rs) d 0 (omega (arith, words-length rs))
+    ∙ ap (λ (j : ℕ). words rs ++ drop j d) (zero-add (length (words rs)))
 
 module _ (k : Columns) (l : Laid k) where
   line-few : (r : Row) → length (writeCon (is_scalar (factors (colsIn k) r))) ≤ 50
@@ -58,16 +59,21 @@ module _ (k : Columns) (l : Laid k) where
   unfolding settledBy eliminatedOf eliminatedWords resultAfter
   bound-answered vs d d' n q m h = record {
     answer = ap allBound (h.many ∙ bindings-length (map (boundBy (colsIn k)) vs));
-    buffer = put-over d d' n (collect writeBinding (map (boundBy (colsIn k)) vs)) h (omega (arith, few-all writeBinding (boundBy (colsIn k)) vs value-few, q)) m;
+    buffer = put-over d d' n (collect writeBinding (map (boundBy (colsIn k)) vs)) h
+        (omega (arith, few-all writeBinding (boundBy (colsIn k)) vs value-few, q)) m;
   }
 
   module _ (m : Machine) (u : Running m) (d d' : List ℕ) (n : ℕ) (room : 8192 ≤ length d) where
-    pub lines-written : 0 < m.stay → Put d d' 0 n (collect writeCon (map (λ r. is_scalar (factors (colsIn k) r)) (take m.stay (rowsIn m.kept)))) → Answered (got (settledIn k m)) d d' (Ok (Left n))
+    pub lines-written : 0 < m.stay → Put d d' 0 n (collect writeCon (map (λ r. is_scalar (factors (colsIn k) r)) (take m.stay (rowsIn m.kept))))
+        → Answered (got (settledIn k m)) d d' (Ok (Left n))
     lines-written p h =
         let e = length-take-le m.stay (rowsIn m.kept) (omega (arith, grid-long m.kept u.kept-wide, u.room)) in
-        left-answered (take m.stay (rowsIn m.kept)) (pairValues (take m.found m.names) (take m.found (rowsIn m.values))) d d' n (omega (arith, e, p)) (omega (arith, e, u.room)) room h
+        left-answered (take m.stay (rowsIn m.kept)) (pairValues (take m.found m.names) (take m.found (rowsIn m.values))) d d' n (omega (arith, e, p))
+        (omega (arith, e, u.room)) room h
 
-    pub values-written : m.stay ≡ 0 → Put d d' 0 n (collect writeBinding (map (boundBy (colsIn k)) (pairValues (take m.found m.names) (take m.found (rowsIn m.values))))) → Answered (got (settledIn k m)) d d' (Ok (Bound n))
+    pub values-written : m.stay ≡ 0 → Put d d' 0 n
+        (collect writeBinding (map (boundBy (colsIn k)) (pairValues (take m.found m.names) (take m.found (rowsIn m.values)))))
+        → Answered (got (settledIn k m)) d d' (Ok (Bound n))
     values-written z h =
         let a = length-take-le m.found m.names (omega (arith, u.named, u.room)) in
         let b = length-take-le m.found (rowsIn m.values) (omega (arith, grid-long m.values u.values-wide, u.room)) in

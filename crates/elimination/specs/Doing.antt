@@ -32,7 +32,8 @@ module _ {A : Type 0} (f : A → Got Exp) (ws : List A) where
     unfolding each
     this = rw (drop-cons ws j d h, add-one j) refl
 
-    pub onward : (out out' : Row) (y : Exp) → Doing f ws j out → j < 48 → f (get_or ws j d) ≡ got y → Wide out' → row_in out' ≡ set (row_in out) j y → Doing f ws (j + 1) out'
+    pub onward : (out out' : Row) (y : Exp) → Doing f ws j out → j < 48 → f (get_or ws j d) ≡ got y → Wide out' → row_in out' ≡ set (row_in out) j y
+        → Doing f ws (j + 1) out'
     onward out out' y g k e w i = record { wide = w; is = g.is ∙ rw (this, e) (again (each f (drop (j + 1) ws))) }
       where
         kept : take (j + 1) (row_in out') ≡ take j (row_in out) ++ (y ∷ [])
@@ -105,7 +106,8 @@ pub row_at : (r : Row) (j : ℕ) (d : Exponent) → Wide r → j < 48 → expOf 
 unfolding row_in
 row_at r j d w h = map_at r.powers j d (omega (arith, w.long))
 
-pub row-set : (r : Row) (j : ℕ) (e : Exponent) → Wide r → goodExp (expOf e) ≡ true → Wide (record { powers = set r.powers j e }) × (row_in (record { powers = set r.powers j e }) ≡ set (row_in r) j (expOf e))
+pub row-set : (r : Row) (j : ℕ) (e : Exponent) → Wide r → goodExp (expOf e) ≡ true → Wide (record { powers = set r.powers j e })
+    × (row_in (record { powers = set r.powers j e }) ≡ set (row_in r) j (expOf e))
 unfolding row_in
 row-set r j e w g =
     let i = map-set r.powers j e in

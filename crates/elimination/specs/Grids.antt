@@ -1,7 +1,21 @@
 -- The code's grids as lists of rows, and a loop over rows.
 use Rattle.std.specs.Prelude.{◌≡◌, true, false, List, [], ◌∷◌, ◌++◌, map, ℕ, zero, suc, ◌+◌, ◌<◌, ◌≤◌, length, take, drop, get_or, set}
 use Rattle.std.proofs.Math.Path.{refl}
-use Rattle.std.proofs.Common.{ap, ◌∙◌, sym, append_assoc, arith, length-set, length-drop, drop_of_length-le, take-suc-set, drop-cons, length-take-le, get_or-take, get_or-drop}
+use Rattle.std.proofs.Common.{
+  ap,
+  ◌∙◌,
+  sym,
+  append_assoc,
+  arith,
+  length-set,
+  length-drop,
+  drop_of_length-le,
+  take-suc-set,
+  drop-cons,
+  length-take-le,
+  get_or-take,
+  get_or-drop,
+}
 use Rattle.std.proofs.Math.Numerals.{add-one}
 use Rattle.std.proofs.Math.Decide.{dec_lt}
 use Rattle.std.proofs.lemmas.List.{length-map}
@@ -30,7 +44,8 @@ pub record First (r : Rows.Row) (n j : ℕ) : Type 0 where
   pub zeros : (i : ℕ) → i < j → isZero (get_or r i nought) ≡ true
   pub there : j < n → isZero (get_or r j nought) ≡ false
 
-pub zeros-more : (r : Rows.Row) (j : ℕ) → ((i : ℕ) → i < j → isZero (get_or r i nought) ≡ true) → isZero (get_or r j nought) ≡ true → (i : ℕ) → i < j + 1 → isZero (get_or r i nought) ≡ true
+pub zeros-more : (r : Rows.Row) (j : ℕ) → ((i : ℕ) → i < j → isZero (get_or r i nought) ≡ true) → isZero (get_or r j nought) ≡ true → (i : ℕ)
+    → i < j + 1 → isZero (get_or r i nought) ≡ true
 zeros-more r j f e i h = go (dec_lt i j)
   where
     go : Dec (i < j) → isZero (get_or r i nought) ≡ true
@@ -63,7 +78,8 @@ pub grid-at : (g : Grid) (i : ℕ) (d : Row) → WideGrid g → i < 24 → Wide 
 unfolding rowsIn
 grid-at g i d w h = (rows-wide-at g.rows i d w.each-wide (omega (arith, w.long)), map_at g.rows i d [] (omega (arith, w.long)))
 
-pub grid-set : (g : Grid) (i : ℕ) (r : Row) → WideGrid g → Wide r → WideGrid (record { rows = set g.rows i r }) × (rowsIn (record { rows = set g.rows i r }) ≡ set (rowsIn g) i (row_in r))
+pub grid-set : (g : Grid) (i : ℕ) (r : Row) → WideGrid g → Wide r → WideGrid (record { rows = set g.rows i r })
+    × (rowsIn (record { rows = set g.rows i r }) ≡ set (rowsIn g) i (row_in r))
 unfolding rowsIn
 grid-set g i r w h = (record { long = length-set g.rows i r ∙ w.long; each-wide = rows-wide-set g.rows i r w.each-wide h }, map-set g.rows i r)
 
@@ -93,7 +109,8 @@ module _ {A B : Type 0} (f : A → Got B) (ws : List A) where
     unfolding each
     this = rw (drop-cons ws j d h, add-one j) refl
 
-    pub onward : (outs outs' : List B) (y : B) → Sofar f ws j outs → j < length outs → f (get_or ws j d) ≡ got y → outs' ≡ set outs j y → Sofar f ws (j + 1) outs'
+    pub onward : (outs outs' : List B) (y : B) → Sofar f ws j outs → j < length outs → f (get_or ws j d) ≡ got y → outs' ≡ set outs j y
+        → Sofar f ws (j + 1) outs'
     onward outs outs' y g k e i = record { is = g.is ∙ rw (this, e) (again (each f (drop (j + 1) ws))) }
       where
         kept : take (j + 1) outs' ≡ take j outs ++ (y ∷ [])

@@ -15,7 +15,23 @@ use Rattle.elimination.specs.declared.inner.grids.Grid.{Grid}
 use Rattle.elimination.specs.declared.inner.grids.Machine.{Machine}
 use Rattle.rules.specs.Refusals.{number_of}
 use Rattle.rules.specs.declared.Refusal.{Refusal}
-use Rattle.rules.specs.Elimination.{Row, Value, ◌gets◌, solvedFor, putInRow, putInValue, gone, stays, binds, atColumn, oneFurther, fate, turned, Reduced, eliminate}
+use Rattle.rules.specs.Elimination.{
+  Row,
+  Value,
+  ◌gets◌,
+  solvedFor,
+  putInRow,
+  putInValue,
+  gone,
+  stays,
+  binds,
+  atColumn,
+  oneFurther,
+  fate,
+  turned,
+  Reduced,
+  eliminate,
+}
 use Rattle.elimination.specs.Grids.{rowsIn, WideGrid, grid-long}
 
 -- ══ Columns ══
@@ -50,7 +66,8 @@ unfoldable pub whole : List (Atom ℕ) → ℕ → List Row → List Row → Lis
 whole cols n rows kept vs = eliminate cols n rows vs >>= λ d. behind kept d
 
 unfoldable pub rest : List (Atom ℕ) → Machine → Got (Reduced ℕ)
-rest cols m = whole cols m.left (take m.left (drop m.at (rowsIn m.rows))) (take m.stay (rowsIn m.kept)) (pairValues (take m.found m.names) (take m.found (rowsIn m.values)))
+rest cols m = whole cols m.left (take m.left (drop m.at (rowsIn m.rows))) (take m.stay (rowsIn m.kept))
+    (pairValues (take m.found m.names) (take m.found (rowsIn m.values)))
 
 pub record Running (m : Machine) : Type 0 where
   pub rows-wide : WideGrid m.rows
@@ -68,7 +85,16 @@ unfoldable pub keepingOf : Machine → Grid → Machine
 keepingOf m g = record { rows = m.rows; at = m.at + 1; left = m.left - 1; kept = g; stay = m.stay + 1; names = m.names; values = m.values; found = m.found }
 
 unfoldable pub boundOf : Machine → ℕ → Grid → Grid → Machine
-boundOf m x rows g = record { rows = rows; at = 0; left = m.left - 1; kept = m.kept; stay = m.stay; names = set m.names m.found x; values = g; found = m.found + 1 }
+boundOf m x rows g = record {
+  rows = rows;
+  at = 0;
+  left = m.left - 1;
+  kept = m.kept;
+  stay = m.stay;
+  names = set m.names m.found x;
+  values = g;
+  found = m.found + 1;
+}
 
 -- a step: on with the rest, or refused as the rest is
 abbrev pub Went : List (Atom ℕ) → Machine → Result Machine Refusal → Type 0
@@ -107,7 +133,8 @@ pub variable-name : (k : Columns) (j : ℕ) → Laid k → j < k.variables → g
 variable-name k j l h =
     let n = length-take-le k.variables k.vars (omega (arith, l.vars-long, l.few-variables)) in
     ap (λ (xs : List ℕ). get_or xs j 0) (append_assoc (take k.variables k.vars) (take k.parameters k.pars) (take k.dimensions k.bases))
-    ∙ get_or-append (take k.variables k.vars) (take k.parameters k.pars ++ take k.dimensions k.bases) 0 j (omega (arith, n)) ∙ get_or-take k.variables k.vars j 0 h
+    ∙ get_or-append (take k.variables k.vars) (take k.parameters k.pars ++ take k.dimensions k.bases) 0 j (omega (arith, n))
+    ∙ get_or-take k.variables k.vars j 0 h
 
 -- ══ One row ══
 
@@ -133,29 +160,35 @@ module _ (cols : List (Atom ℕ)) (n : ℕ) (r : Row) (rows kept : List Row) (vs
     unfolding whole eliminate turned
     whole-refused-rows j w f g = rw (e, f, g) refl
 
-    whole-refused-values : (j : ℕ) (w : Row) (rows' : List Row) → solvedFor c r ≡ got w → each (putInRow c w) rows ≡ got rows' → each (putInValue c w) vs ≡ refused j → whole cols (suc n) (r ∷ rows) kept vs ≡ refused j
+    whole-refused-values : (j : ℕ) (w : Row) (rows' : List Row) → solvedFor c r ≡ got w → each (putInRow c w) rows ≡ got rows'
+        → each (putInValue c w) vs ≡ refused j → whole cols (suc n) (r ∷ rows) kept vs ≡ refused j
     unfolding whole eliminate turned
     whole-refused-values j w rows' f g h = rw (e, f, g, h) refl
 
-    whole-binds : (w : Row) (rows' : List Row) (vs' : List (Value ℕ)) → solvedFor c r ≡ got w → each (putInRow c w) rows ≡ got rows' → each (putInValue c w) vs ≡ got vs'
+    whole-binds : (w : Row) (rows' : List Row) (vs' : List (Value ℕ)) → solvedFor c r ≡ got w → each (putInRow c w) rows ≡ got rows'
+        → each (putInValue c w) vs ≡ got vs'
         → whole cols (suc n) (r ∷ rows) kept vs ≡ whole cols n rows' kept (vs' ++ (x gets w ∷ []))
     unfolding whole eliminate turned
     whole-binds w rows' vs' f g h = rw (e, f, g, h) refl
 
 -- values are put into as rows are
-pair_put : (c : ℕ) (w : Row) (xs : List ℕ) (rs : List Row) → length xs ≡ length rs → each (putInValue c w) (pairValues xs rs) ≡ (each (putInRow c w) rs >>= λ ss. got (pairValues xs ss))
+pair_put : (c : ℕ) (w : Row) (xs : List ℕ) (rs : List Row) → length xs ≡ length rs
+    → each (putInValue c w) (pairValues xs rs) ≡ (each (putInRow c w) rs >>= λ ss. got (pairValues xs ss))
 unfolding each pairValues putInValue
 pair_put c w [] [] h = refl
 pair_put c w [] (r ∷ rs) h = absurd (omega arith)
 pair_put c w (x ∷ xs) [] h = absurd (omega arith)
 pair_put c w (x ∷ xs) (r ∷ rs) h = rw (pair_put c w xs rs (omega arith)) (go (putInRow c w r) (each (putInRow c w) rs))
   where
-    go : (m : Got Row) (n : Got (List Row)) → ((m >>= λ s. got (x gets s)) >>= λ y. (n >>= λ ss. got (pairValues xs ss)) >>= λ ys. got (y ∷ ys)) ≡ ((m >>= λ y. n >>= λ ys. got (y ∷ ys)) >>= λ ss. got (pairValues (x ∷ xs) ss))
+    go : (m : Got Row) (n : Got (List Row))
+        → ((m >>= λ s. got (x gets s)) >>= λ y. (n >>= λ ss. got (pairValues xs ss)) >>= λ ys. got (y ∷ ys))
+        ≡ ((m >>= λ y. n >>= λ ys. got (y ∷ ys)) >>= λ ss. got (pairValues (x ∷ xs) ss))
     go (got s) (got ss) = refl
     go (got s) (refused k) = refl
     go (refused k) n = refl
 
-pair-snoc : (xs : List ℕ) (rs : List Row) (x : ℕ) (r : Row) → length xs ≡ length rs → pairValues (xs ++ (x ∷ [])) (rs ++ (r ∷ [])) ≡ pairValues xs rs ++ (x gets r ∷ [])
+pair-snoc : (xs : List ℕ) (rs : List Row) (x : ℕ) (r : Row) → length xs ≡ length rs
+    → pairValues (xs ++ (x ∷ [])) (rs ++ (r ∷ [])) ≡ pairValues xs rs ++ (x gets r ∷ [])
 unfolding pairValues
 pair-snoc [] [] x r h = refl
 pair-snoc [] (s ∷ rs) x r h = absurd (omega arith)
@@ -193,16 +226,32 @@ module _ (m : Machine) (h : Running m) (l : 0 < m.left) where
   pub went-dropped : (cols : List (Atom ℕ)) → fate cols (firstRow m) ≡ gone → Went cols m (Ok (droppedOf m))
   unfolding rest droppedOf
   went-dropped cols e = (
-    record { rows-wide = h.rows-wide; kept-wide = h.kept-wide; values-wide = h.values-wide; named = h.named; here = omega (arith, h.here); room = omega (arith, h.room) },
+    record {
+      rows-wide = h.rows-wide;
+      kept-wide = h.kept-wide;
+      values-wide = h.values-wide;
+      named = h.named;
+      here = omega (arith, h.here);
+      room = omega (arith, h.room);
+    },
     omega arith,
     sym (opened cols ∙ whole-gone cols (m.left - 1) (firstRow m) others K bs e),
   )
 
-  pub went-keeping : (cols : List (Atom ℕ)) (g : Grid) → WideGrid g → rowsIn g ≡ set (rowsIn m.kept) m.stay (firstRow m) → fate cols (firstRow m) ≡ stays → Went cols m (Ok (keepingOf m g))
+  pub went-keeping : (cols : List (Atom ℕ)) (g : Grid) → WideGrid g → rowsIn g ≡ set (rowsIn m.kept) m.stay (firstRow m)
+      → fate cols (firstRow m) ≡ stays → Went cols m (Ok (keepingOf m g))
   unfolding rest keepingOf
   went-keeping cols g w i e =
-      let kept : take (m.stay + 1) (rowsIn g) ≡ K ++ (firstRow m ∷ []) = rw (i, add-one m.stay) (take-suc-set (rowsIn m.kept) m.stay (firstRow m) (omega (arith, grid-long m.kept h.kept-wide, h.room))) in (
-        record { rows-wide = h.rows-wide; kept-wide = w; values-wide = h.values-wide; named = h.named; here = omega (arith, h.here); room = omega (arith, h.room) },
+      let kept : take (m.stay + 1) (rowsIn g) ≡ K ++ (firstRow m ∷ []) =
+      rw (i, add-one m.stay) (take-suc-set (rowsIn m.kept) m.stay (firstRow m) (omega (arith, grid-long m.kept h.kept-wide, h.room))) in (
+        record {
+          rows-wide = h.rows-wide;
+          kept-wide = w;
+          values-wide = h.values-wide;
+          named = h.named;
+          here = omega (arith, h.here);
+          room = omega (arith, h.room);
+        },
         omega arith,
         ap (λ (k : List Row). whole cols (m.left - 1) others k bs) kept ∙ sym (opened cols ∙ whole-stays cols (m.left - 1) (firstRow m) others K bs e),
       )
@@ -218,33 +267,52 @@ module _ (m : Machine) (h : Running m) (l : 0 < m.left) where
     -- the names and the values, as many
     as_many : length (take m.found m.names) ≡ length (take m.found (rowsIn m.values))
     as_many =
-        length-take-le m.found m.names (omega (arith, h.named, h.room)) ∙ sym (length-take-le m.found (rowsIn m.values) (omega (arith, grid-long m.values h.values-wide, h.room)))
+        length-take-le m.found m.names (omega (arith, h.named, h.room))
+        ∙ sym (length-take-le m.found (rowsIn m.values) (omega (arith, grid-long m.values h.values-wide, h.room)))
 
-    pub went-refused-values : (k : ℕ) (w : Row) (rows' : List Row) → solvedFor c (firstRow m) ≡ got w → each (putInRow c w) others ≡ got rows' → each (putInRow c w) (take m.found (rowsIn m.values)) ≡ refused k → rest cols m ≡ refused k
+    pub went-refused-values : (k : ℕ) (w : Row) (rows' : List Row) → solvedFor c (firstRow m) ≡ got w → each (putInRow c w) others ≡ got rows'
+        → each (putInRow c w) (take m.found (rowsIn m.values)) ≡ refused k → rest cols m ≡ refused k
     went-refused-values k w rows' f i j =
         opened cols
-        ∙ whole-refused-values cols (m.left - 1) (firstRow m) others K bs c x e k w rows' f i (pair_put c w (take m.found m.names) (take m.found (rowsIn m.values)) as_many ∙ ap (◌>>= λ ss. got (pairValues (take m.found m.names) ss)) j)
+        ∙ whole-refused-values cols (m.left - 1) (firstRow m) others K bs c x e k w rows' f i
+        (pair_put c w (take m.found m.names) (take m.found (rowsIn m.values)) as_many
+        ∙ ap (◌>>= λ ss. got (pairValues (take m.found m.names) ss)) j)
 
-    pub went-bound : (w : Row) (rows values g : Grid) → WideGrid rows → WideGrid values → WideGrid g → rowsIn g ≡ set (rowsIn values) m.found w → solvedFor c (firstRow m) ≡ got w
-        → each (putInRow c w) others ≡ got (take (m.left - 1) (rowsIn rows)) → each (putInRow c w) (take m.found (rowsIn m.values)) ≡ got (take m.found (rowsIn values)) → Went cols m (Ok (boundOf m x rows g))
+    pub went-bound : (w : Row) (rows values g : Grid) → WideGrid rows → WideGrid values → WideGrid g → rowsIn g ≡ set (rowsIn values) m.found w
+        → solvedFor c (firstRow m) ≡ got w
+        → each (putInRow c w) others ≡ got (take (m.left - 1) (rowsIn rows))
+        → each (putInRow c w) (take m.found (rowsIn m.values)) ≡ got (take m.found (rowsIn values)) → Went cols m (Ok (boundOf m x rows g))
     unfolding rest boundOf
     went-bound w rows values g wr wv wg k f i j =
-        let names : take (m.found + 1) (set m.names m.found x) ≡ take m.found m.names ++ (x ∷ []) = rw (add-one m.found) (take-suc-set m.names m.found x (omega (arith, h.named, h.room))) in
-        let vals : take (m.found + 1) (rowsIn g) ≡ take m.found (rowsIn values) ++ (w ∷ []) = rw (k, add-one m.found) (take-suc-set (rowsIn values) m.found w (omega (arith, grid-long values wv, h.room))) in
+        let names : take (m.found + 1) (set m.names m.found x) ≡ take m.found m.names ++ (x ∷ []) =
+        rw (add-one m.found) (take-suc-set m.names m.found x (omega (arith, h.named, h.room))) in
+        let vals : take (m.found + 1) (rowsIn g) ≡ take m.found (rowsIn values) ++ (w ∷ []) =
+        rw (k, add-one m.found) (take-suc-set (rowsIn values) m.found w (omega (arith, grid-long values wv, h.room))) in
         let many : length (take m.found m.names) ≡ length (take m.found (rowsIn values)) =
-        length-take-le m.found m.names (omega (arith, h.named, h.room)) ∙ sym (length-take-le m.found (rowsIn values) (omega (arith, grid-long values wv, h.room))) in
+        length-take-le m.found m.names (omega (arith, h.named, h.room))
+        ∙ sym (length-take-le m.found (rowsIn values) (omega (arith, grid-long values wv, h.room))) in
         let put : each (putInValue c w) bs ≡ got (pairValues (take m.found m.names) (take m.found (rowsIn values))) =
         pair_put c w (take m.found m.names) (take m.found (rowsIn m.values)) as_many ∙ ap (◌>>= λ ss. got (pairValues (take m.found m.names) ss)) j in (
-          record { rows-wide = wr; kept-wide = h.kept-wide; values-wide = wg; named = length-set m.names m.found x ∙ h.named; here = omega (arith, h.here); room = omega (arith, h.room) },
+          record {
+            rows-wide = wr;
+            kept-wide = h.kept-wide;
+            values-wide = wg;
+            named = length-set m.names m.found x ∙ h.named;
+            here = omega (arith, h.here);
+            room = omega (arith, h.room);
+          },
           omega arith,
-          ap (λ (v : List (Value ℕ)). whole cols (m.left - 1) (take (m.left - 1) (rowsIn rows)) K v) (ap₂ pairValues names vals ∙ pair-snoc (take m.found m.names) (take m.found (rowsIn values)) x w many)
-              ∙ sym (opened cols ∙ whole-binds cols (m.left - 1) (firstRow m) others K bs c x e w (take (m.left - 1) (rowsIn rows)) (pairValues (take m.found m.names) (take m.found (rowsIn values))) f i put),
+          ap (λ (v : List (Value ℕ)). whole cols (m.left - 1) (take (m.left - 1) (rowsIn rows)) K v)
+              (ap₂ pairValues names vals ∙ pair-snoc (take m.found m.names) (take m.found (rowsIn values)) x w many)
+              ∙ sym (opened cols ∙ whole-binds cols (m.left - 1) (firstRow m) others K bs c x e w (take (m.left - 1) (rowsIn rows))
+              (pairValues (take m.found m.names) (take m.found (rowsIn values))) f i put),
         )
 
 -- nothing is left to do
 pub at-end : (cols : List (Atom ℕ)) (m : Machine) → m.left ≡ 0 → rest cols m ≡ got (endOf m)
 unfolding rest whole eliminate
-at-end cols m e = rw e (ap (λ (l : List Row). got (record { left = l; values = pairValues (take m.found m.names) (take m.found (rowsIn m.values)) })) (append-nil (take m.stay (rowsIn m.kept))))
+at-end cols m e = rw e (ap (λ (l : List Row). got (record { left = l; values = pairValues (take m.found m.names) (take m.found (rowsIn m.values)) }))
+    (append-nil (take m.stay (rowsIn m.kept))))
   where
     append-nil : (xs : List Row) → xs ++ [] ≡ xs
     append-nil [] = refl
@@ -266,21 +334,27 @@ fate-none zero zero (x ∷ xs) (e ∷ r) z h = rw (z 0 (omega arith), fate, fate
 fate-none zero (suc p) (x ∷ xs) (e ∷ r) z h = rw (z 0 (omega arith), fate, fate-none zero p xs r (next-zeros e r (length xs) z) (omega arith)) refl
 fate-none (suc v) p (x ∷ xs) (e ∷ r) z h = rw (z 0 (omega arith), fate, fate-none v p xs r (next-zeros e r (length xs) z) (omega arith)) refl
 
-pub fate-other : (v p : ℕ) (xs : List ℕ) (r : Row) (j : ℕ) → j < length xs → length xs ≤ length r → v ≤ j → Zeros r j → isZero (get_or r j nought) ≡ false → fate (atomsFrom v p xs) r ≡ stays
+pub fate-other : (v p : ℕ) (xs : List ℕ) (r : Row) (j : ℕ) → j < length xs → length xs ≤ length r → v ≤ j → Zeros r j
+    → isZero (get_or r j nought) ≡ false → fate (atomsFrom v p xs) r ≡ stays
 unfolding atomsFrom fate oneFurther atColumn
 fate-other v p [] r j h l k z e = absurd (omega arith)
 fate-other v p (x ∷ xs) [] j h l k z e = absurd (omega arith)
 fate-other zero zero (x ∷ xs) (d ∷ r) zero h l k z e = rw (e, fate) refl
 fate-other zero (suc p) (x ∷ xs) (d ∷ r) zero h l k z e = rw (e, fate) refl
 fate-other (suc v) p (x ∷ xs) (d ∷ r) zero h l k z e = absurd (omega arith)
-fate-other zero zero (x ∷ xs) (d ∷ r) (suc j) h l k z e = rw (z 0 (omega arith), fate, fate-other zero zero xs r j (omega arith) (omega arith) (omega arith) (next-zeros d r j z) e) refl
-fate-other zero (suc p) (x ∷ xs) (d ∷ r) (suc j) h l k z e = rw (z 0 (omega arith), fate, fate-other zero p xs r j (omega arith) (omega arith) (omega arith) (next-zeros d r j z) e) refl
-fate-other (suc v) p (x ∷ xs) (d ∷ r) (suc j) h l k z e = rw (z 0 (omega arith), fate, fate-other v p xs r j (omega arith) (omega arith) (omega arith) (next-zeros d r j z) e) refl
+fate-other zero zero (x ∷ xs) (d ∷ r) (suc j) h l k z e =
+    rw (z 0 (omega arith), fate, fate-other zero zero xs r j (omega arith) (omega arith) (omega arith) (next-zeros d r j z) e) refl
+fate-other zero (suc p) (x ∷ xs) (d ∷ r) (suc j) h l k z e =
+    rw (z 0 (omega arith), fate, fate-other zero p xs r j (omega arith) (omega arith) (omega arith) (next-zeros d r j z) e) refl
+fate-other (suc v) p (x ∷ xs) (d ∷ r) (suc j) h l k z e =
+    rw (z 0 (omega arith), fate, fate-other v p xs r j (omega arith) (omega arith) (omega arith) (next-zeros d r j z) e) refl
 
-pub fate-variable : (v p : ℕ) (xs : List ℕ) (r : Row) (j : ℕ) → j < length xs → length xs ≤ length r → j < v → Zeros r j → isZero (get_or r j nought) ≡ false → fate (atomsFrom v p xs) r ≡ binds j (get_or xs j 0)
+pub fate-variable : (v p : ℕ) (xs : List ℕ) (r : Row) (j : ℕ) → j < length xs → length xs ≤ length r → j < v → Zeros r j
+    → isZero (get_or r j nought) ≡ false → fate (atomsFrom v p xs) r ≡ binds j (get_or xs j 0)
 unfolding atomsFrom fate oneFurther atColumn
 fate-variable v p [] r j h l k z e = absurd (omega arith)
 fate-variable v p (x ∷ xs) [] j h l k z e = absurd (omega arith)
 fate-variable zero p (x ∷ xs) (d ∷ r) j h l k z e = absurd (omega arith)
 fate-variable (suc v) p (x ∷ xs) (d ∷ r) zero h l k z e = rw (e, fate) refl
-fate-variable (suc v) p (x ∷ xs) (d ∷ r) (suc j) h l k z e = rw (z 0 (omega arith), fate, fate-variable v p xs r j (omega arith) (omega arith) (omega arith) (next-zeros d r j z) e) refl
+fate-variable (suc v) p (x ∷ xs) (d ∷ r) (suc j) h l k z e =
+    rw (z 0 (omega arith), fate, fate-variable v p xs r j (omega arith) (omega arith) (omega arith) (next-zeros d r j z) e) refl

@@ -5,7 +5,27 @@ use Rattle.rules.specs.Base.{Got, bounded, allow, each}
 use Rattle.rules.specs.Exponents.{Exp, nought, neg, plus, mul, in_range, inverted, sum, times, timesInverse, quotient}
 use Rattle.rules.specs.Trees.{Atom, Product, Names}
 use Rattle.laws.specs.Refusing.{Refuses, given, next, refusing}
-use Rattle.rules.specs.Elimination.{Row, Value, ◌gets◌, solvedFor, timesRow, plusRow, putInRow, putInValue, Fate, gone, stays, binds, fate, turned, Reduced, eliminate, columns, row_of, eliminated}
+use Rattle.rules.specs.Elimination.{
+  Row,
+  Value,
+  ◌gets◌,
+  solvedFor,
+  timesRow,
+  plusRow,
+  putInRow,
+  putInValue,
+  Fate,
+  gone,
+  stays,
+  binds,
+  fate,
+  turned,
+  Reduced,
+  eliminate,
+  columns,
+  row_of,
+  eliminated,
+}
 
 abbrev pub Seven : {A : Type 0} → Got A → Type 0
 Seven m = Refuses (λ n. n ≡ 7) m
@@ -55,7 +75,9 @@ unfolding turned solvedFor
 turned-seven gone r rows vs more h = h rows vs
 turned-seven stays r rows vs more h = next (more rows vs) _ (h rows vs) (λ d. given)
 turned-seven (binds c x) r rows vs more h =
-    next (solvedFor c r) _ (each-seven _ (λ j. quotient-seven (neg j) (get_or r c nought)) (set r c nought)) (λ w. next (each (putInRow c w) rows) _ (each-seven _ (put-seven c w) rows) (λ rows'. next (each (putInValue c w) vs) _ (each-seven _ (value-seven c w) vs) (λ vs'. h rows' (vs' ++ (x gets w ∷ [])))))
+    next (solvedFor c r) _ (each-seven _ (λ j. quotient-seven (neg j) (get_or r c nought)) (set r c nought))
+    (λ w. next (each (putInRow c w) rows) _ (each-seven _ (put-seven c w) rows)
+    (λ rows'. next (each (putInValue c w) vs) _ (each-seven _ (value-seven c w) vs) (λ vs'. h rows' (vs' ++ (x gets w ∷ [])))))
 
 eliminate-seven : {N : Type 0} (cols : List (Atom N)) (n : ℕ) (rows : List Row) (vs : List (Value N)) → Seven (eliminate cols n rows vs)
 unfolding eliminate
@@ -65,4 +87,5 @@ eliminate-seven cols (suc n) (r ∷ rows) vs = turned-seven (fate cols r) r rows
 
 pub eliminated-seven : {N : Type 0} (ν : Names N) (ps : List (Product N)) → Seven (eliminated ν ps)
 unfolding eliminated
-eliminated-seven ν ps = next (eliminate (columns ν ps) (length ps) (map (row_of ν (columns ν ps)) ps) []) _ (eliminate-seven (columns ν ps) (length ps) (map (row_of ν (columns ν ps)) ps) []) (λ d. given)
+eliminated-seven ν ps = next (eliminate (columns ν ps) (length ps) (map (row_of ν (columns ν ps)) ps) []) _
+    (eliminate-seven (columns ν ps) (length ps) (map (row_of ν (columns ν ps)) ps) []) (λ d. given)

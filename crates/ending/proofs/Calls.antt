@@ -79,7 +79,10 @@ stop-told (remaining cs j) n k e = cc
 stop-told (stopped m j) n k e = cc
 
 -- what holds of refusals at entry, which have a number and no rounds, and of the answer for every set that passed the checks, holds of the answer of the call
-module _ (pool table set result work : List ℕ) (small : Words set) (Q : Solved → Type 0) (refusal : (n : ℕ) → 0 < n → Q (refusedAfter n 0)) (every : Good pool table → (cs : List (Con ℕ)) → setGiven (table_of pool table) set ≡ got cs → Admitted (numbersOf (table_of pool table)) (is_held (table_of pool table)) cs → Q (solvedOf (got (solve (numbersOf (table_of pool table)) bounded cs)))) where
+module _ (pool table set result work : List ℕ) (small : Words set) (Q : Solved → Type 0) (refusal : (n : ℕ) → 0 < n → Q (refusedAfter n 0))
+    (every : Good pool table → (cs : List (Con ℕ)) → setGiven (table_of pool table) set ≡ got cs
+    → Admitted (numbersOf (table_of pool table)) (is_held (table_of pool table)) cs
+    → Q (solvedOf (got (solve (numbersOf (table_of pool table)) bounded cs)))) where
   abbrev call : Got (Answer ℕ)
   call = lent pool table result work >> solvedSet (table_of pool table) set
 
@@ -121,7 +124,8 @@ alone-yields pool table ws =
     let a = leb 8192 (length pool) in
     let b = leb 257 (length table) in
     let d = leb (length ws) 8192 in
-    next {P = λ u. ((a && b) ≡ true) × ((d && true) ≡ true)} (next (need-yields (a && b) 10 (omega arith)) (λ u e. weaken (need-yields (d && true) 8 (omega arith)) (λ v i. (e, i)))) (λ u p.
+    next {P = λ u. ((a && b) ≡ true) × ((d && true) ≡ true)}
+    (next (need-yields (a && b) 10 (omega arith)) (λ u e. weaken (need-yields (d && true) 8 (omega arith)) (λ v i. (e, i)))) (λ u p.
     weaken (need-yields (tableGood (table_of pool table)) 1 (omega arith)) (λ v g. (
       record { bytes = leb-true 8192 (length pool) (and_left a b p.0); words = leb-true 257 (length table) (and_right a b p.0); good = g },
       leb-true (length ws) 8192 (and_left d true p.1),

@@ -17,7 +17,8 @@ use Rattle.ending.proofs.Calls.{rounds-told, stop-told, call-answers, ceiling-of
 
 -- ══ A well formed set of at most 2,048 records, over a well formed table ══
 
-module _ {pool table : List ℕ} (good : Good pool table) {cs : List (Con ℕ)} (admitted : Admitted (numbersOf (table_of pool table)) (is_held (table_of pool table)) cs) where
+module _ {pool table : List ℕ} (good : Good pool table) {cs : List (Con ℕ)}
+    (admitted : Admitted (numbersOf (table_of pool table)) (is_held (table_of pool table)) cs) where
   abbrev ν : Names ℕ
   ν = numbersOf (table_of pool table)
 
@@ -77,6 +78,7 @@ pub call-ceiling : (pool table set result work : List ℕ) → Words set
     → Under pool table set (ceilingCall pool table set) (solveCall pool table set result work).answer
 call-ceiling pool table set result work small = record {
   rounds = λ m e. let g = ceiling-of pool table set small m e in rw g.is ((call_ends pool table set result work small).by-variables g.cons g.given);
-  binding = λ m e cs i. let g = ceiling-of pool table set small m e in let same : g.cons ≡ cs = cc g.given in rw (g.is, ← same) (bindings-at-most g.good g.admitted);
+  binding = λ m e cs i. let g = ceiling-of pool table set small m e in let same : g.cons ≡ cs = cc g.given
+      in rw (g.is, ← same) (bindings-at-most g.good g.admitted);
   none = no-ceiling pool table set result work;
 }

@@ -118,7 +118,12 @@ module _ {N : Type 0} (ν : Names N) (law : Lawful (orderAtom ν)) (xs : List N)
   perform-ok w bs (bind x t) rest b k =
       next (each-yields _ (con-replaced bounded x t k.1) rest k.2) (λ cs' c.
       next (each-yields _ (binding-replaced bounded x t k.1) bs b) (λ bs' d.
-      limited-ok _ (λ i. (record { ok = c.0; bound = every_append (OkBinding ν) bs' (x ≔ t ∷ []) d.0 (fine-any bounded x t k.1, tt); light = i }, shorter ν x xs k.0, simp length-append (omega (arith, d.1))))))
-  perform-ok w bs (split new) rest b k = limited-ok _ (λ i. (record { ok = every_append (Ok ν xs) rest new k.1 k.0; bound = b; light = i }, rw weigh-append k.2, refl))
+      limited-ok _ (λ i. (
+        record { ok = c.0; bound = every_append (OkBinding ν) bs' (x ≔ t ∷ []) d.0 (fine-any bounded x t k.1, tt); light = i },
+        shorter ν x xs k.0,
+        simp length-append (omega (arith, d.1)),
+      ))))
+  perform-ok w bs (split new) rest b k = limited-ok _
+      (λ i. (record { ok = every_append (Ok ν xs) rest new k.1 k.0; bound = b; light = i }, rw weigh-append k.2, refl))
   perform-ok w bs done rest b k = limited-ok _ (λ i. (record { ok = k.0; bound = b; light = i }, k.1, refl))
   perform-ok w bs stuck rest b k = absurd k

@@ -51,7 +51,8 @@ module _ {N : Type 0} (ν : Names N) (law : Lawful (orderAtom ν)) where
       go (refused n) e = refuses n (first.numbered n e) (rw e)
       go (got nothing) e = ends (rw e)
       go (got (some v)) e =
-          after-step v e (perform-ok ν law xs (weighAll s.cons) s.binds v.0 v.1 h.bound (chosen (first.value.holds (some v) e))) (perform ν bounded s.binds v.0 v.1) refl
+          after-step v e (perform-ok ν law xs (weighAll s.cons) s.binds v.0 v.1 h.bound (chosen (first.value.holds (some v) e)))
+          (perform ν bounded s.binds v.0 v.1) refl
 
   -- after a completed round: fewer variables by as many as it bound, and a lower measure
   record Falls (xs : List N) (s : State N) (b : ℕ) (s' : State N) : Type 0 where
@@ -104,7 +105,8 @@ module _ {N : Type 0} (ν : Names N) (law : Lawful (orderAtom ν)) where
       Goal : Type 0
       Goal = Ended (k + measure xs s) (bindingRounds ν bounded (suc f) s + length s.binds) (run ν bounded (suc f) k s)
 
-      go : Rounded xs s → ((ys : List N) (s' : State N) → Over ν ys s' → measure ys s' < f → Ended (suc k + measure ys s') (bindingRounds ν bounded f s' + length s'.binds) (run ν bounded f (suc k) s'))
+      go : Rounded xs s → ((ys : List N) (s' : State N) → Over ν ys s' → measure ys s' < f
+          → Ended (suc k + measure ys s') (bindingRounds ν bounded f s' + length s'.binds) (run ν bounded f (suc k) s'))
           → Goal
       go (refuses n p e) r = rw e record {
         rounds = omega arith;
@@ -132,7 +134,8 @@ module _ {N : Type 0} (ν : Names N) (law : Lawful (orderAtom ν)) where
   run-same (suc f) zero k xs s h i j = absurd (omega arith)
   run-same (suc f) (suc g) k xs s h i j = go (rounded xs s h) (run-same f g (suc k))
     where
-      go : Rounded xs s → ((ys : List N) (s' : State N) → Over ν ys s' → measure ys s' < f → measure ys s' < g → run ν bounded f (suc k) s' ≡ run ν bounded g (suc k) s')
+      go : Rounded xs s → ((ys : List N) (s' : State N) → Over ν ys s' → measure ys s' < f → measure ys s' < g
+          → run ν bounded f (suc k) s' ≡ run ν bounded g (suc k) s')
           → run ν bounded (suc f) k s ≡ run ν bounded (suc g) k s
       go (refuses n p e) r = rw e
       go (ends e) r = rw e

@@ -99,7 +99,10 @@ module _ {N : Type 0} {ν : Names N} {held : N → Bool} (known : Known ν held)
   -- over the set's own variables
   by-variables : Over ν (variablesOf ν cs) (start cs)
   unfolding variablesOf goodOpen
-  by-variables = over-start (variablesOf ν cs) (all_in (variablesOf ν cs) (collect opensCon cs) (λ x m. sort-to ν (λ x. held x ≡ true) known.tells (variablesIn (collect opensCon cs)) (variables-all (λ x. held x ≡ true) (Held ν held 0) (λ x g. g) (collect opensCon cs) goods) x m))
+  by-variables = over-start (variablesOf ν cs)
+      (all_in (variablesOf ν cs) (collect opensCon cs)
+      (λ x m. sort-to ν (λ x. held x ≡ true) known.tells (variablesIn (collect opensCon cs))
+      (variables-all (λ x. held x ≡ true) (Held ν held 0) (λ x g. g) (collect opensCon cs) goods) x m))
 
   -- ══ Solving ends ══
 

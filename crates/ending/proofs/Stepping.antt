@@ -288,7 +288,8 @@ module _ {N : Type 0} (ν : Names N) (xs : List N) where
       inside nothing m = absent
       inside (some v) (present m) = found (fieldIn ν n v.2) (weighTys v.1 + weighFields v.2) m.2 (heavier (omega arith) (field_in n v.2 m.1))
 
-      go : (b : Bool) → Maybe (Stepped ν xs (weigh s + weigh t)) (and_then (only_if b s) (λ c. and_then (struct_of c) (λ v. and_then (fieldIn ν n v.2) (λ u. some (split (equal u t ∷ []))))))
+      go : (b : Bool) → Maybe (Stepped ν xs (weigh s + weigh t))
+          (and_then (only_if b s) (λ c. and_then (struct_of c) (λ v. and_then (fieldIn ν n v.2) (λ u. some (split (equal u t ∷ []))))))
       go false = absent
       go true = inside (struct_of s) (struct-in s h)
 

@@ -86,7 +86,10 @@ module _ {N : Type 0} (ν : Names N) {P Q R : Open N → Type 0} (h : (o : Open 
     change (basic b) f a = tt
     change (dim p) f a = record { sorted = f.sorted; atoms = change-atoms p f.atoms a }
     change (fn ps r) f a = (changeTys ps f.0 (every-left Q (opensTys ps) (opens r) a), change r f.1 (every-right Q (opensTys ps) (opens r) a))
-    change (struct n as' fs) f a = (changeTys as' f.0 (every-left Q (opensTys as') (opensFields fs) a), changeFields fs f.1 (every-right Q (opensTys as') (opensFields fs) a))
+    change (struct n as' fs) f a = (
+      changeTys as' f.0 (every-left Q (opensTys as') (opensFields fs) a),
+      changeFields fs f.1 (every-right Q (opensTys as') (opensFields fs) a),
+    )
     change (list t) f a = change t f a
 
     changeTys : (ts : Tys N) → FineTys ν P ts → Every Q (opensTys ts) → FineTys ν R ts
@@ -95,7 +98,10 @@ module _ {N : Type 0} (ν : Names N) {P Q R : Open N → Type 0} (h : (o : Open 
 
     changeFields : (fs : Fields N) → FineFields ν P fs → Every Q (opensFields fs) → FineFields ν R fs
     changeFields noFields f a = tt
-    changeFields (field n t fs) f a = (change t f.0 (every-left Q (opens t) (opensFields fs) a), changeFields fs f.1 (every-right Q (opens t) (opensFields fs) a))
+    changeFields (field n t fs) f a = (
+      change t f.0 (every-left Q (opens t) (opensFields fs) a),
+      changeFields fs f.1 (every-right Q (opens t) (opensFields fs) a),
+    )
 
 -- any open name
 abbrev pub Any : {N : Type 0} → Open N → Type 0
@@ -132,7 +138,10 @@ module _ {N : Type 0} (ν : Names N) (law : Lawful (orderAtom ν)) (held : N →
   good-atoms : (p : Product N) → all (goodFactor ν held q) p ≡ true → Atoms (Named Good) p
   unfolding all goodFactor
   good-atoms [] t = tt
-  good-atoms (free o ↑ e ∷ p) t = (and_left (goodOpen ν held q o) _ (and_left (goodOpen ν held q o && goodStored e) _ t), good-atoms p (and_right (goodOpen ν held q o && goodStored e) _ t))
+  good-atoms (free o ↑ e ∷ p) t = (
+    and_left (goodOpen ν held q o) _ (and_left (goodOpen ν held q o && goodStored e) _ t),
+    good-atoms p (and_right (goodOpen ν held q o && goodStored e) _ t),
+  )
   good-atoms (base n ↑ e ∷ p) t = (tt, good-atoms p (and_right (held n && goodStored e) _ t))
 
   pub good-product : (p : Product N) → goodProduct ν held q p ≡ true → Neat ν (Named Good) p

@@ -61,7 +61,8 @@ single-atoms P Q (free (par x) ↑ e ∷ []) o e' h a = absurd (some≢none (sym
 single-atoms P Q (base n ↑ e ∷ []) o e' h a = absurd (some≢none (sym e'))
 
 -- x is replaced by t: names of which P held are names of which Q holds, all but x
-module _ {N : Type 0} (ν : Names N) (law : Lawful (orderAtom ν)) (l : Limits) (P Q : Open N → Type 0) (x : N) (t : Ty N) (other : (o : Open N) → P o → (var x ≡ o → ⊥) → Q o) (fine : Fine ν Q t) where
+module _ {N : Type 0} (ν : Names N) (law : Lawful (orderAtom ν)) (l : Limits) (P Q : Open N → Type 0) (x : N) (t : Ty N)
+    (other : (o : Open N) → P o → (var x ≡ o → ⊥) → Q o) (fine : Fine ν Q t) where
   abbrev look : Open N → Option (Ty N)
   look = bindings ν (x ≔ t ∷ [])
 
@@ -123,7 +124,8 @@ module _ {N : Type 0} (ν : Names N) (law : Lawful (orderAtom ν)) (l : Limits) 
   factors-neat pre (base n ↑ e ∷ p) h a b =
       rw append_assoc at (factors-neat (pre ++ (base n ↑ e ∷ [])) p (rw append_assoc h) (every_append _ pre (base n ↑ e ∷ []) a (tt, tt)) b.1)
   factors-neat pre (free o ↑ e ∷ p) h a b =
-      go (looked o) (λ j. rw append_assoc at (factors-neat (pre ++ (free o ↑ e ∷ [])) p (rw append_assoc h) (every_append _ pre (free o ↑ e ∷ []) a (j, tt)) b.1))
+      go (looked o) (λ j. rw append_assoc at
+      (factors-neat (pre ++ (free o ↑ e ∷ [])) p (rw append_assoc h) (every_append _ pre (free o ↑ e ∷ []) a (j, tt)) b.1))
     where
       go : Looked o → (Q o → Yields (replaceFactors ν l look p (pre ++ (free o ↑ e ∷ p))) (Neat ν (Named Q)))
           → Yields (replaceFactors ν l look (free o ↑ e ∷ p) (pre ++ (free o ↑ e ∷ p))) (Neat ν (Named Q))
@@ -134,7 +136,8 @@ module _ {N : Type 0} (ν : Names N) (law : Lawful (orderAtom ν)) (l : Limits) 
           (next product-neat (λ d m.
           next (divide-away ν law l pre p (free o) e h) (λ left k.
           next (raise-neat ν law l e m) (λ more n.
-          next (multiply-neat ν law l {p = left} (rw k (record { sorted = sorted-less pre p (free o) e h; atoms = every_append _ pre p a (apart-atoms x other p b.1 w) })) n) (λ acc s.
+          next (multiply-neat ν law l {p = left}
+          (rw k (record { sorted = sorted-less pre p (free o) e h; atoms = every_append _ pre p a (apart-atoms x other p b.1 w) })) n) (λ acc s.
           rw (idle p acc w) (yields s))))))
 
   -- an equal-scalar's product is replaced as a product

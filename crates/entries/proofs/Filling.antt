@@ -41,7 +41,8 @@ module _ (pool table types : List ℕ) (x : ℕ) where
 
   -- whether a type starts at the place of a held name decides
   module _ (place : ℕ) where
-    pub word-there : (r : Option ℕ) → x < get_or table 0 0 → Ends (GoodTy pool table 0 types 64 place) r → is_some r ≡ true → Fits pool table types x (Some place)
+    pub word-there : (r : Option ℕ) → x < get_or table 0 0 → Ends (GoodTy pool table 0 types 64 place) r → is_some r ≡ true
+        → Fits pool table types x (Some place)
     word-there None l bad i = absurd (true≢false (sym i))
     word-there (Some e) l (t, g) i = λ at q. let k : place ≡ at = cc in (l, (t, (e, subst (λ (j : ℕ). GoodTy pool table 0 types 64 j t e) k g)))
 
@@ -69,14 +70,22 @@ module _ (pool table types : List ℕ) (slots : List (Option ℕ)) (places₀ : 
 
   pub at-start : SoFar places₀ 0 0
   unfolding taken
-  at-start = record { within = omega arith; few = omega arith; same = refl; counted = refl; fits = λ x l. absurd (omega arith); copied = λ x l. absurd (omega arith) }
+  at-start = record {
+    within = omega arith;
+    few = omega arith;
+    same = refl;
+    counted = refl;
+    fits = λ x l. absurd (omega arith);
+    copied = λ x l. absurd (omega arith);
+  }
 
   module _ (places : List ℕ) (n v : ℕ) (s : SoFar places n v) (l : v < 256) where
     add-more : (b : ℕ) → b ≡ bit (get_or slots v None) → n + b ≡ taken slots (v + 1)
     unfolding taken
     add-more b e = rw (add-one v, s.counted, e)
 
-    pub one_more : 256 ≤ length places₀ → (word m : ℕ) → word ≡ slotWord (get_or slots v None) → m ≡ n + bit (get_or slots v None) → Fits pool table types v (get_or slots v None) → SoFar (set places v word) m (v + 1)
+    pub one_more : 256 ≤ length places₀ → (word m : ℕ) → word ≡ slotWord (get_or slots v None) → m ≡ n + bit (get_or slots v None)
+        → Fits pool table types v (get_or slots v None) → SoFar (set places v word) m (v + 1)
     one_more long word m e q fits =
         let o : Option ℕ = get_or slots v None in
         let i : v < length places = omega (arith, s.same) in
@@ -91,7 +100,8 @@ module _ (pool table types : List ℕ) (slots : List (Option ℕ)) (places₀ : 
               (get_or-set_same places v word 0 i ∙ e);
         }
 
-  pub at-end : (places : List ℕ) (n v : ℕ) → SoFar places n v → 256 ≤ v → length types % 4 ≡ 0 → (repeated : Bool) → repeated ≡ false → (count : ℕ) → Filled pool table types slots repeated count places (eqb n count)
+  pub at-end : (places : List ℕ) (n v : ℕ) → SoFar places n v → 256 ≤ v → length types % 4 ≡ 0 → (repeated : Bool) → repeated ≡ false → (count : ℕ)
+      → Filled pool table types slots repeated count places (eqb n count)
   at-end places n v s l whole repeated once count = go (eqb n count) refl
     where
       last : v ≡ 256

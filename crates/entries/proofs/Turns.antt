@@ -24,13 +24,15 @@ abbrev pub repeated : List Entry → Bool
 repeated es = not (differ (variablesOf (told es)))
 
 -- the entry at i is for x
-pub found_here : (ys : List Entry) (i : ℕ) (d : Entry) (x : ℕ) → i < length ys → (get_or ys i d).variable ≡ x → lookUp (drop i ys) x ≡ some (get_or ys i d).place
+pub found_here : (ys : List Entry) (i : ℕ) (d : Entry) (x : ℕ) → i < length ys → (get_or ys i d).variable ≡ x
+    → lookUp (drop i ys) x ≡ some (get_or ys i d).place
 found_here [] i d x l e = absurd (not-suc-le-zero l)
 found_here (y ∷ ys) zero d x l e = rw (eq-eqb y.variable x e)
 found_here (y ∷ ys) (suc i) d x l e = found_here ys i d x (le_of_suc-le-suc l) e
 
 -- it is not
-pub found-later : (ys : List Entry) (i : ℕ) (d : Entry) (x : ℕ) → i < length ys → ((get_or ys i d).variable ≡ x → ⊥) → lookUp (drop i ys) x ≡ lookUp (drop (suc i) ys) x
+pub found-later : (ys : List Entry) (i : ℕ) (d : Entry) (x : ℕ) → i < length ys → ((get_or ys i d).variable ≡ x → ⊥)
+    → lookUp (drop i ys) x ≡ lookUp (drop (suc i) ys) x
 found-later [] i d x l f = absurd (not-suc-le-zero l)
 found-later (y ∷ ys) zero d x l f = rw (ne_eqb y.variable x f)
 found-later (y ∷ ys) (suc i) d x l f = found-later ys i d x (le_of_suc-le-suc l) f
@@ -47,7 +49,8 @@ not-both true b = refl
 not-both false b = refl
 
 -- whether the variable of the entry at i stands among those after it decides
-pub repeated-at : (ys : List Entry) (i : ℕ) (d : Entry) → i < length ys → repeated (drop i ys) ≡ (stands (drop (suc i) ys) (get_or ys i d).variable || repeated (drop (suc i) ys))
+pub repeated-at : (ys : List Entry) (i : ℕ) (d : Entry) → i < length ys
+    → repeated (drop i ys) ≡ (stands (drop (suc i) ys) (get_or ys i d).variable || repeated (drop (suc i) ys))
 unfolding differ
 repeated-at [] i d l = absurd (not-suc-le-zero l)
 repeated-at (y ∷ ys) zero d l = not-both (stands ys y.variable) (differ (variablesOf (told ys)))

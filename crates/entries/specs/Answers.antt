@@ -50,11 +50,13 @@ module _ (t : Table) where
 
   one-binding : (rs : List Rec) (e : Entry) → OrOne (bindingOf t rs e)
   unfolding bindingOf numbersGiven
-  one-binding rs e = one-need (all (is_held t) (e.variable ∷ [])) _ (one_then (type_at t rs e.place) _ (one_type rs e.place) (λ ty. value (e.variable ≔ ty) refl))
+  one-binding rs e = one-need (all (is_held t) (e.variable ∷ [])) _
+      (one_then (type_at t rs e.place) _ (one_type rs e.place) (λ ty. value (e.variable ≔ ty) refl))
 
   pub one-given : (es : List Entry) (types : List ℕ) → OrOne (entriesGiven t es types)
   unfolding entriesGiven
-  one-given es types = one-or (records types) _ (λ rs. one-need (differ (variablesOf es)) (each (bindingOf t rs) es) (one_each (bindingOf t rs) (one-binding rs) es))
+  one-given es types = one-or (records types) _
+      (λ rs. one-need (differ (variablesOf es)) (each (bindingOf t rs) es) (one_each (bindingOf t rs) (one-binding rs) es))
 
 -- ══ The answers ══
 
@@ -71,8 +73,15 @@ module _ (pool table : List ℕ) (es : List Entry) (types places : List ℕ) whe
     where
       go : OrOne (entriesGiven (table_of pool table) es types) → (bs : List (Binding ℕ)) × Bound bs
       go (value bs e) =
-          let q = parts pool table types es bs e in
-          (bs, record { given = e; tabled = (p.given bs e).1; once = rw (same-variables pool table types es bs q.bound) q.once; good = good-all pool table types es bs q.bound })
+          let q = parts pool table types es bs e in (
+            bs,
+            record {
+              given = e;
+              tabled = (p.given bs e).1;
+              once = rw (same-variables pool table types es bs q.bound) q.once;
+              good = good-all pool table types es bs q.bound;
+            },
+          )
       go (one e) = absurd (true≢false (p.refuses e))
 
   pub placed-no : Placed pool table es types places false → entriesGiven (table_of pool table) es types ≡ refused 1

@@ -30,7 +30,8 @@ unfolding notedBelow
 noted-at es zero x h l = absurd (omega arith)
 noted-at es (suc k) x h l = go (eqb x k) refl (λ i. noted-at es k x i (omega arith))
   where
-    go : (b : Bool) → eqb x k ≡ b → (x < k → get_or (notedBelow es k) x std.None ≡ slot_of (place_of es x)) → get_or (set (notedBelow es k) k (slot_of (place_of es k))) x std.None ≡ slot_of (place_of es x)
+    go : (b : Bool) → eqb x k ≡ b → (x < k → get_or (notedBelow es k) x std.None ≡ slot_of (place_of es x))
+        → get_or (set (notedBelow es k) k (slot_of (place_of es k))) x std.None ≡ slot_of (place_of es x)
     go true e ih =
         let q : x ≡ k = eqb-true x k e in
         let i : k < length (notedBelow es k) = omega (arith, noted-length es k) in
@@ -47,7 +48,8 @@ pub slot-told : (r : std.Option ℕ) → slot_of (toldOption r) ≡ r
 slot-told std.None = refl
 slot-told (std.Some p) = refl
 
-pub noted-more : (es : List Entry) (k : ℕ) (s : List (std.Option ℕ)) (r : std.Option ℕ) → s ≡ notedBelow es k → toldOption r ≡ place_of es k → set s k r ≡ notedBelow es (k + 1)
+pub noted-more : (es : List Entry) (k : ℕ) (s : List (std.Option ℕ)) (r : std.Option ℕ) → s ≡ notedBelow es k → toldOption r ≡ place_of es k
+    → set s k r ≡ notedBelow es (k + 1)
 unfolding notedBelow
 noted-more es k s r e f = rw (add-one k, e, sym (slot-told r) ∙ ap slot_of f)
 
@@ -61,7 +63,8 @@ unfolding any there
 stands-place [] x = refl
 stands-place (e ∷ es) x = go (eqb e.variable x) refl (stands-place es x)
   where
-    go : (b : Bool) → eqb e.variable x ≡ b → there (place_of es x) ≡ any (eqb x) (variablesOf es) → there (place_of (e ∷ es) x) ≡ any (eqb x) (variablesOf (e ∷ es))
+    go : (b : Bool) → eqb e.variable x ≡ b → there (place_of es x) ≡ any (eqb x) (variablesOf es)
+        → there (place_of (e ∷ es) x) ≡ any (eqb x) (variablesOf (e ∷ es))
     go true q h = rw (q, eq-eqb x e.variable (sym (eqb-true e.variable x q)))
     go false q h = rw (q, ne_eqb x e.variable (λ i. eqb-false e.variable x q (sym i))) h
 
@@ -161,7 +164,8 @@ unfolding any
 unbound [] x h = refl
 unbound (e ∷ es) x h = go (eqb x e.variable) refl h (unbound es x)
   where
-    go : (b : Bool) → eqb x e.variable ≡ b → any (eqb x) (variablesOf (e ∷ es)) ≡ false → (any (eqb x) (variablesOf es) ≡ false → place_of es x ≡ none) → place_of (e ∷ es) x ≡ none
+    go : (b : Bool) → eqb x e.variable ≡ b → any (eqb x) (variablesOf (e ∷ es)) ≡ false
+        → (any (eqb x) (variablesOf es) ≡ false → place_of es x ≡ none) → place_of (e ∷ es) x ≡ none
     go true q h f = absurd (true≢false (sym (rw q) ∙ h))
     go false q h f = away e es x (λ i. eqb-false x e.variable q (sym i)) ∙ f (sym (rw q) ∙ h)
 
@@ -197,7 +201,8 @@ unfolding any
 first_past e es [] h p = tt
 first_past e es (f ∷ fs) h p = go (eqb e.variable f.variable) refl h (λ i. first_past e es fs i p.1)
   where
-    go : (b : Bool) → eqb e.variable f.variable ≡ b → any (eqb e.variable) (variablesOf (f ∷ fs)) ≡ false → (any (eqb e.variable) (variablesOf fs) ≡ false → First (e ∷ es) fs) → First (e ∷ es) (f ∷ fs)
+    go : (b : Bool) → eqb e.variable f.variable ≡ b → any (eqb e.variable) (variablesOf (f ∷ fs)) ≡ false
+        → (any (eqb e.variable) (variablesOf fs) ≡ false → First (e ∷ es) fs) → First (e ∷ es) (f ∷ fs)
     go true q h r = absurd (true≢false (sym (rw q) ∙ h))
     go false q h r = (away e es f.variable (eqb-false e.variable f.variable q) ∙ p.0, r (sym (rw q) ∙ h))
 

@@ -67,14 +67,17 @@ module _ (pool table types : List ℕ) where
         no : {B : Type 0} → refused 1 ≡ got ty → B
         no e = absurd (got≢refused (sym e))
 
-        tested : (u : Ty ℕ) (rest : List Rec) → readTy 64 (from types at) ≡ some (u, rest) → (b : Bool) → goodTy pool table 0 u ≡ b → (need b 1 >> got u) ≡ got ty → (e : ℕ) × GoodTy pool table 0 types 64 at ty e
+        tested : (u : Ty ℕ) (rest : List Rec) → readTy 64 (from types at) ≡ some (u, rest) → (b : Bool) → goodTy pool table 0 u ≡ b
+            → (need b 1 >> got u) ≡ got ty → (e : ℕ) × GoodTy pool table 0 types 64 at ty e
         tested u rest p true q h =
             let i : u ≡ ty = cc in
             let (e, (g, k)) = (type-reader pool table types w).finds at u rest p q in
             (e, subst (λ (x : Ty ℕ). GoodTy pool table 0 types 64 at x e) i g)
         tested u rest p false q h = no h
 
-        go : (o : Option (Ty ℕ × List Rec)) → readTy 64 (from types at) ≡ o → (orRefuse 1 (and_then o (λ r. some r.0)) >>= λ ty. need (goodTy pool table 0 ty) 1 >> got ty) ≡ got ty → (e : ℕ) × GoodTy pool table 0 types 64 at ty e
+        go : (o : Option (Ty ℕ × List Rec)) → readTy 64 (from types at) ≡ o
+            → (orRefuse 1 (and_then o (λ r. some r.0)) >>= λ ty. need (goodTy pool table 0 ty) 1 >> got ty) ≡ got ty → (e : ℕ)
+            × GoodTy pool table 0 types 64 at ty e
         go none p h = no h
         go (some v) p h = tested v.0 v.1 p (goodTy pool table 0 v.0) refl h
 
@@ -144,9 +147,11 @@ module _ (pool table types : List ℕ) where
       let p = each-parts (bindingOf t rs) e es bs h in
       let b = binding-is e p.first p.gave in
       let q : (e.variable ≔ b.type) ∷ p.second ≡ bs = ap (λ (c : Binding ℕ). c ∷ p.second) (sym b.is) ∙ p.both in
-      subst (λ (cs : List (Binding ℕ)). Agrees (place_of (e ∷ es) x) (find ν cs x)) q (go b.type p.second b.at (agrees es p.second p.then x) (eqb e.variable x) refl)
+      subst (λ (cs : List (Binding ℕ)). Agrees (place_of (e ∷ es) x) (find ν cs x)) q
+      (go b.type p.second b.at (agrees es p.second p.then x) (eqb e.variable x) refl)
     where
-      go : (ty : Ty ℕ) (cs : List (Binding ℕ)) → type_at t rs e.place ≡ got ty → Agrees (place_of es x) (find ν cs x) → (b : Bool) → eqb e.variable x ≡ b → Agrees (place_of (e ∷ es) x) (find ν (e.variable ≔ ty ∷ cs) x)
+      go : (ty : Ty ℕ) (cs : List (Binding ℕ)) → type_at t rs e.place ≡ got ty → Agrees (place_of es x) (find ν cs x) → (b : Bool)
+          → eqb e.variable x ≡ b → Agrees (place_of (e ∷ es) x) (find ν (e.variable ≔ ty ∷ cs) x)
       go ty cs g ih true q = rw (q, found e.variable ty cs x (eqb-true e.variable x q)) g
       go ty cs g ih false q = rw (q, passed e.variable ty cs x (eqb-false e.variable x q)) ih
 
@@ -174,7 +179,8 @@ module _ (pool table types : List ℕ) where
       let b = binding-is e p.first p.gave in
       rw (← p.both, b.is, same-variables es p.second p.then)
 
-  pub bindings-there : Words32 types → (fs : List Entry) → ((x : ℕ) → x < 256 → Fits pool table types x (slot_of (place_of fs x))) → (es : List Entry) → Below 256 es → First fs es → (bs : List (Binding ℕ)) × (each (bindingOf t rs) es ≡ got bs)
+  pub bindings-there : Words32 types → (fs : List Entry) → ((x : ℕ) → x < 256 → Fits pool table types x (slot_of (place_of fs x)))
+      → (es : List Entry) → Below 256 es → First fs es → (bs : List (Binding ℕ)) × (each (bindingOf t rs) es ≡ got bs)
   unfolding each
   bindings-there w fs fits [] b p = ([], refl)
   bindings-there w fs fits (e ∷ es) b p =

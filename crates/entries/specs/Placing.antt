@@ -50,15 +50,19 @@ module _ (pool table types : List ℕ) (w : Words32 types) (es : List Entry) whe
         whole = p.whole;
         once = ap not p.once;
         fits = λ x l at q.
-            let e = slot-place (place_of es x) at (sym (slot_at es x l) ∙ q) in
-            (place-below _ es x at held e, types-at (find (numbers pool table) bs x) x at (subst (λ (o : Option ℕ). Agrees pool table types o (find (numbers pool table) bs x)) e (agrees pool table types es bs p.bound x)));
+            let e = slot-place (place_of es x) at (sym (slot_at es x l) ∙ q) in (
+              place-below _ es x at held e,
+              types-at (find (numbers pool table) bs x) x at
+                  (subst (λ (o : Option ℕ). Agrees pool table types o (find (numbers pool table) bs x)) e (agrees pool table types es bs p.bound x)),
+            );
         all = below-taken es p.once (below_more (get_or table 0 0) 256 (good-laid good).few es held);
       }
 
   parts-of : Asks → (bs : List (Binding ℕ)) × Parts pool table types es bs
   parts-of a =
       let once = not-false (differ (variablesOf es)) a.once in
-      let (bs, q) = bindings-there pool table types w es (λ x l. subst (Fits pool table types x) (slot_at es x l) (a.fits x l)) es (taken-below es a.all) (first-is es once) in
+      let (bs, q) = bindings-there pool table types w es (λ x l. subst (Fits pool table types x) (slot_at es x l) (a.fits x l)) es
+      (taken-below es a.all) (first-is es once) in
       (bs, record { whole = a.whole; once = once; bound = q })
 
   -- the word of a slot, where looking up agrees
@@ -66,7 +70,8 @@ module _ (pool table types : List ℕ) (w : Words32 types) (es : List Entry) whe
   says word none none q g = q
   says word none (some ty) q g = absurd g
   says word (some at) none q g = absurd g
-  says word (some at) (some ty) q g = let k = (type-is pool table types w at ty g).1 in record { at = at; word = q; held = k.held; deep = k.deep; good = k.good }
+  says word (some at) (some ty) q g = let k = (type-is pool table types w at ty g).1
+      in record { at = at; word = q; held = k.held; deep = k.deep; good = k.good }
 
   module _ (good : Good pool table) (places : List ℕ) where
     abbrev Given : List (Binding ℕ) → Type 0
@@ -75,8 +80,13 @@ module _ (pool table types : List ℕ) (w : Words32 types) (es : List Entry) whe
     placed_by : (r : Bool) → Filled pool table types (slots_of es) (not (differ (variablesOf es))) (length es) places r → Placed pool table es types places r
     placed_by true (a, same) = record {
       given = λ bs h.
-          let p = parts pool table types es bs h in
-          (refl, record { says = λ x l. says (get_or places x 0) (place_of es x) (find (numbers pool table) bs x) (same x l ∙ ap slotWord (slot_at es x l)) (agrees pool table types es bs p.bound x) });
+          let p = parts pool table types es bs h in (
+            refl,
+            record {
+              says = λ x l. says (get_or places x 0) (place_of es x) (find (numbers pool table) bs x)
+                  (same x l ∙ ap slotWord (slot_at es x l)) (agrees pool table types es bs p.bound x);
+            },
+          );
       refuses = λ h. let (bs, p) = parts-of a in absurd (got≢refused (sym (whole-given pool table types es bs p) ∙ h));
     }
     placed_by false f = record {
@@ -85,7 +95,9 @@ module _ (pool table types : List ℕ) (w : Words32 types) (es : List Entry) whe
     }
 
 -- what `fill` makes of the slots, the repeat and the count of the entries is what is promised
-pub placed : (pool table types : List ℕ) → Good pool table → (es : List Entry) (slots : List (std.Option ℕ)) (repeated : Bool) (count : ℕ) (places : List ℕ) (r : Bool)
-    → slots ≡ (slots_of es) → repeated ≡ not (differ (variablesOf es)) → count ≡ length es → Made pool table types slots repeated count places r → Placed pool table es types places r
+pub placed : (pool table types : List ℕ) → Good pool table
+    → (es : List Entry) (slots : List (std.Option ℕ)) (repeated : Bool) (count : ℕ) (places : List ℕ) (r : Bool)
+    → slots ≡ (slots_of es) → repeated ≡ not (differ (variablesOf es)) → count ≡ length es → Made pool table types slots repeated count places r
+    → Placed pool table es types places r
 placed pool table types good es slots repeated count places r a b c m =
     placed_by pool table types m.words es good places r (rw (a, b, c) at m.filled)

@@ -37,7 +37,8 @@ unfoldable word_for : Option ℕ → ℕ → ℕ
 word_for none w = w
 word_for (some x) w = x + 1
 
-back-word : (i : ℕ) (xs d : List ℕ) (k n : ℕ) → n ≡ 512 + (i + k) → 512 + (i + length xs) ≤ length d → get_or (backPlaces i xs d) n 0 ≡ word_for (get_elem? xs k) (get_or d n 0)
+back-word : (i : ℕ) (xs d : List ℕ) (k n : ℕ) → n ≡ 512 + (i + k) → 512 + (i + length xs) ≤ length d
+    → get_or (backPlaces i xs d) n 0 ≡ word_for (get_elem? xs k) (get_or d n 0)
 unfolding backPlaces word_for
 back-word i [] d k n e h = refl
 back-word i (x ∷ xs) d zero n e h =
@@ -120,17 +121,25 @@ module _ (pool table : List ℕ) (few : get_or table 0 0 ≤ 256) where
     unfolding back Holds word_for
     back-says (tree.var x) = low_word x 0 (omega arith)
     back-says (tree.par x) = low_word x 256 (omega arith)
-    back-says (tree.quant i) = go (get_elem? names i) refl (back-word 0 names (replicate 2560 0) i (512 + i) (omega arith) (let n = length-replicate {A = ℕ} 2560 0 in omega arith))
+    back-says (tree.quant i) = go (get_elem? names i) refl
+        (back-word 0 names (replicate 2560 0) i (512 + i) (omega arith) (let n = length-replicate {A = ℕ} 2560 0 in omega arith))
       where
-        go : (s : Option ℕ) → get_elem? names i ≡ s → get_or backedPlaces (512 + i) 0 ≡ word_for (get_elem? names i) (get_or (replicate 2560 0) (512 + i) 0) → SaysAt ownedTypes (get_or backedPlaces (512 + i) 0) (and_then (and_then s (λ x. some (tree.var x))) (λ u. some (opened u)))
+        go : (s : Option ℕ) → get_elem? names i ≡ s
+            → get_or backedPlaces (512 + i) 0 ≡ word_for (get_elem? names i) (get_or (replicate 2560 0) (512 + i) 0)
+            → SaysAt ownedTypes (get_or backedPlaces (512 + i) 0) (and_then (and_then s (λ x. some (tree.var x))) (λ u. some (opened u)))
         go none e w = w ∙ ap (λ (s : Option ℕ). word_for s (get_or (replicate 2560 0) (512 + i) 0)) e ∙ zeros 2560 (512 + i)
-        go (some x) e w = record { at = x; word = w ∙ ap (λ (s : Option ℕ). word_for s (get_or (replicate 2560 0) (512 + i) 0)) e; held = own-there x (known x (there-in names i x e)) }
+        go (some x) e w = record {
+          at = x;
+          word = w ∙ ap (λ (s : Option ℕ). word_for s (get_or (replicate 2560 0) (512 + i) 0)) e;
+          held = own-there x (known x (there-in names i x e));
+        }
 
     pub back-lent : Lent pool table backedPlaces ownedTypes (renamed (back names))
     unfolding goodTy goodOpen back
     back-lent = record {
       tabled = record { says = back-says; few = renamed-few (back names) };
-      good = renamed-good pool table (back names) (λ o u e. let (i, (x, (j, (k, l)))) = back_is names o u e in rw k (held-is pool table x ∙ lt-ltb x held (known x (there-in names i x l))));
+      good = renamed-good pool table (back names)
+          (λ o u e. let (i, (x, (j, (k, l)))) = back_is names o u e in rw k (held-is pool table x ∙ lt-ltb x held (known x (there-in names i x l))));
       near = types-near;
     }
 
@@ -142,12 +151,22 @@ module _ (pool table : List ℕ) (few : get_or table 0 0 ≤ 256) where
   own-says : (o : tree.Open ℕ) → SaysAt ownedTypes (word_of ownedPlaces o) (renamed (own (is_held (table_of pool table))) o)
   unfolding own Holds
   own-says (tree.quant i) = past ownedPlaces (512 + i) (let l = own-places-long held (replicate 256 0) in let n = length-replicate {A = ℕ} 256 0 in omega arith)
-  own-says (tree.par x) = none_said (ltb x 256) (get_or ownedPlaces (256 + x) 0) (past ownedPlaces (256 + x) (let l = own-places-long held (replicate 256 0) in let n = length-replicate {A = ℕ} 256 0 in omega arith))
+  own-says (tree.par x) = none_said (ltb x 256) (get_or ownedPlaces (256 + x) 0)
+      (past ownedPlaces (256 + x) (let l = own-places-long held (replicate 256 0) in let n = length-replicate {A = ℕ} 256 0 in omega arith))
   own-says (tree.var x) = go (dec_lt x held)
     where
-      go : Dec (x < held) → SaysAt ownedTypes (cond (ltb x 256) (get_or ownedPlaces (0 + x) 0) 0) (and_then (only_if (is_held (table_of pool table) x) (tree.var x)) (λ u. some (opened u)))
-      go (yes i) = rw (held-is pool table x, lt-ltb x held i, lt-ltb x 256 (omega arith)) (record { at = x; word = ap (λ (n : ℕ). get_or ownedPlaces n 0) (zero-add x) ∙ own-word held (replicate 256 0) x (let n = length-replicate {A = ℕ} 256 0 in omega arith) i; held = own-there x i })
-      go (no i) = rw (held-is pool table x, le-ltb x held (omega arith)) (none_said (ltb x 256) (get_or ownedPlaces (0 + x) 0) (ap (λ (n : ℕ). get_or ownedPlaces n 0) (zero-add x) ∙ own-rest held (replicate 256 0) x (omega arith) ∙ zeros 256 x))
+      go : Dec (x < held) → SaysAt ownedTypes (cond (ltb x 256) (get_or ownedPlaces (0 + x) 0) 0)
+          (and_then (only_if (is_held (table_of pool table) x) (tree.var x)) (λ u. some (opened u)))
+      go (yes i) = rw (held-is pool table x, lt-ltb x held i, lt-ltb x 256 (omega arith))
+          (record {
+            at = x;
+            word = ap (λ (n : ℕ). get_or ownedPlaces n 0) (zero-add x)
+                ∙ own-word held (replicate 256 0) x (let n = length-replicate {A = ℕ} 256 0 in omega arith) i;
+            held = own-there x i;
+          })
+      go (no i) = rw (held-is pool table x, le-ltb x held (omega arith))
+          (none_said (ltb x 256) (get_or ownedPlaces (0 + x) 0)
+          (ap (λ (n : ℕ). get_or ownedPlaces n 0) (zero-add x) ∙ own-rest held (replicate 256 0) x (omega arith) ∙ zeros 256 x))
 
   pub own-lent : Lent pool table ownedPlaces ownedTypes (renamed (own (is_held (table_of pool table))))
   unfolding goodTy goodOpen
@@ -158,4 +177,5 @@ module _ (pool table : List ℕ) (few : get_or table 0 0 ≤ 256) where
   }
     where
       own-good : (o u : tree.Open ℕ) → own (is_held (table_of pool table)) o ≡ some u → GoodTy pool table (opened u)
-      own-good o u e = let (x, (i, j)) = own_is (is_held (table_of pool table)) o u e in rw (j, i) (own-known (is_held (table_of pool table)) x (sym (ap (own (is_held (table_of pool table))) i) ∙ e))
+      own-good o u e = let (x, (i, j)) = own_is (is_held (table_of pool table)) o u e
+          in rw (j, i) (own-known (is_held (table_of pool table)) x (sym (ap (own (is_held (table_of pool table))) i) ∙ e))

@@ -110,7 +110,8 @@ module _ (f : Rename) (o : tree.Open ℕ) (all : Bool) where
 
 module _ (s : List ℕ) (at : ℕ) where
   -- a bound is there, or the list ends
-  pub at_bound : (bs : List (tree.Open ℕ)) (o : Open) → BoundsAt s bs at → viewAt s at ≡ view.Bound o → (cs : List (tree.Open ℕ)) × ((bs ≡ openOf o ∷ cs) × (BoundsAt s cs (at + 1) × (at < length s / 4)))
+  pub at_bound : (bs : List (tree.Open ℕ)) (o : Open) → BoundsAt s bs at → viewAt s at ≡ view.Bound o → (cs : List (tree.Open ℕ))
+      × ((bs ≡ openOf o ∷ cs) × (BoundsAt s cs (at + 1) × (at < length s / 4)))
   unfolding BoundsAt
   at_bound [] o h e = absurd (let z = seen-in s at e tt in omega arith)
   at_bound (u ∷ bs) o h e =
@@ -159,13 +160,15 @@ module _ (s : List ℕ) (all : Bool) (f : Rename) (bs : List (tree.Open ℕ)) (w
 
     pub going-other : i < length s / 4 → ((o : Open) → viewAt s i ≡ view.Bound o → ⊥) → ⊥
     unfolding BoundsAt
-    going-other lt n = let k : BoundsAt s [] i = subst (λ (xs : List (tree.Open ℕ)). BoundsAt s xs i) (at-end s i g.rest g.listed n) g.listed in omega (arith, k, lt)
+    going-other lt n = let k : BoundsAt s [] i = subst (λ (xs : List (tree.Open ℕ)). BoundsAt s xs i) (at-end s i g.rest g.listed n) g.listed
+        in omega (arith, k, lt)
 
     pub going-end : length s / 4 ≤ i → Writes w₀ w (map writeBound (allBounds all f bs))
     unfolding BoundsAt collect
     going-end le = go g.rest g.listed g.still
       where
-        go : (xs : List (tree.Open ℕ)) → BoundsAt s xs i → ((w' : Writer) → Writes w w' (map writeBound (allBounds all f xs)) → Writes w₀ w' (map writeBound (allBounds all f bs)))
+        go : (xs : List (tree.Open ℕ)) → BoundsAt s xs i
+            → ((w' : Writer) → Writes w w' (map writeBound (allBounds all f xs)) → Writes w₀ w' (map writeBound (allBounds all f bs)))
             → Writes w₀ w (map writeBound (allBounds all f bs))
         go [] h k = k w (writes-none w)
         go (x ∷ xs) h k = absurd (let z = seen-in s i h.0 tt in omega (arith, z, le))

@@ -56,7 +56,8 @@ module _ (d : List ℕ) (x : ℕ) (k a b c : ℕ) where
       let z : y * 4 ≡ y * 4 + 0 = omega arith in
       let i : y < length d / 4 = seen-in d y q.0 tt in
       let l = long in
-      let e0 : get_or d' (y * 4) 0 ≡ get_or d (y * 4) 0 = ap (λ (n : ℕ). get_or d' n 0) z ∙ word_kept y 0 h (omega arith) ∙ ap (λ (n : ℕ). get_or d n 0) (sym z) in
+      let e0 : get_or d' (y * 4) 0 ≡ get_or d (y * 4) 0 = ap (λ (n : ℕ). get_or d' n 0) z ∙ word_kept y 0 h (omega arith)
+      ∙ ap (λ (n : ℕ). get_or d n 0) (sym z) in
       let e1 = word_kept y 1 h (omega arith) in
       let e2 = word_kept y 2 h (omega arith) in
       let e3 = word_kept y 3 h (omega arith) in
@@ -94,9 +95,22 @@ module _ (ν : Names ℕ) (pd vd : List ℕ) (pl : 512 ≤ length pd) (vl : 1024
       other : (n : ℕ) → ¬ (n ≡ y) → ¬ (n ≡ 256 + y) → get_or (set (set A y (y + 1)) (256 + y) (y + 1)) n 0 ≡ get_or A n 0
       other n a b = get_or-set_other (set A y (y + 1)) (256 + y) n (y + 1) 0 b ∙ get_or-set_other A y n (y + 1) 0 a
 
-      kept : ¬ (y ≡ x) → (s : Option (tree.Open ℕ)) → QuantAt s x A B → QuantAt s x (set (set A y (y + 1)) (256 + y) (y + 1)) (sets B (y * 4) (words (rec (head 14 1) i 0 0 ∷ [])))
-      kept n none (a, b) = (other x (λ e. n (sym e)) (λ e. let z = small in omega arith) ∙ a, other (256 + x) (λ e. let z = small in omega arith) (λ e. n (omega arith)) ∙ b)
-      kept n (some u) (a, (b, c)) = (other x (λ e. n (sym e)) (λ e. let z = small in omega arith) ∙ a, (other (256 + x) (λ e. let z = small in omega arith) (λ e. n (omega arith)) ∙ b, held-far B y (head 14 1) i 0 0 x u (λ e. n (sym e)) c))
+      kept : ¬ (y ≡ x) → (s : Option (tree.Open ℕ)) → QuantAt s x A B
+          → QuantAt s x (set (set A y (y + 1)) (256 + y) (y + 1)) (sets B (y * 4) (words (rec (head 14 1) i 0 0 ∷ [])))
+      kept n none (a, b) = (
+        other x (λ e. n (sym e)) (λ e. let z = small in omega arith)
+            ∙ a,
+        other (256 + x) (λ e. let z = small in omega arith) (λ e. n (omega arith)) ∙ b,
+      )
+      kept n (some u) (a, (b, c)) = (
+        other x (λ e. n (sym e)) (λ e. let z = small in omega arith)
+            ∙ a,
+        (
+          other (256 + x) (λ e. let z = small in omega arith) (λ e. n (omega arith))
+              ∙ b,
+          held-far B y (head 14 1) i 0 0 x u (λ e. n (sym e)) c,
+        ),
+      )
 
       found : y ≡ x → QuantAt (some (tree.quant i)) x (set (set A y (y + 1)) (256 + y) (y + 1)) (sets B (y * 4) (words (rec (head 14 1) i 0 0 ∷ [])))
       found e =
@@ -108,6 +122,7 @@ module _ (ν : Names ℕ) (pd vd : List ℕ) (pl : 512 ≤ length pd) (vl : 1024
             (get_or-set_same (set A x (x + 1)) (256 + x) (x + 1) 0 (omega arith), held-here B x (head 14 1) i 0 0 (tree.quant i) refl (omega arith)),
           )
 
-      go : (b : Bool) → is_yes (ν.same y x) ≡ b → QuantAt (first_equal ν (suc i) xs x) x A B → QuantAt (first_equal ν i (y ∷ xs) x) x (set (set A y (y + 1)) (256 + y) (y + 1)) (sets B (y * 4) (words (rec (head 14 1) i 0 0 ∷ [])))
+      go : (b : Bool) → is_yes (ν.same y x) ≡ b → QuantAt (first_equal ν (suc i) xs x) x A B
+          → QuantAt (first_equal ν i (y ∷ xs) x) x (set (set A y (y + 1)) (256 + y) (y + 1)) (sets B (y * 4) (words (rec (head 14 1) i 0 0 ∷ [])))
       go true j r = rw (j, first_equal) (found (yes-is (ν.same y x) j))
       go false j r = rw (j, first_equal) (kept (no-is (ν.same y x) j) (first_equal ν (suc i) xs x) r)

@@ -39,11 +39,13 @@ module _ (names : List ℕ) (i j : ℕ) (e : i ≡ j + 1) (h : j < length names)
   more : drop j names ≡ get_or names j 0 ∷ drop i names
   more = let k : suc j ≡ i = omega arith in drop-cons names j 0 h ∙ ap (λ (n : ℕ). get_or names j 0 ∷ drop n names) k
 
-  pub quant-places : (d p p' : List ℕ) → p ≡ quantPlaces (drop i names) d → p' ≡ set (set p (get_or names j 0) (get_or names j 0 + 1)) (256 + get_or names j 0) (get_or names j 0 + 1) → p' ≡ quantPlaces (drop j names) d
+  pub quant-places : (d p p' : List ℕ) → p ≡ quantPlaces (drop i names) d
+      → p' ≡ set (set p (get_or names j 0) (get_or names j 0 + 1)) (256 + get_or names j 0) (get_or names j 0 + 1) → p' ≡ quantPlaces (drop j names) d
   unfolding quantPlaces
   quant-places d p p' a b = b ∙ rw (more, a)
 
-  pub quant-types : (d v v' : List ℕ) → v ≡ quantTypes i (drop i names) d → v' ≡ sets v (get_or names j 0 * 4) (words (rec (head 14 1) j 0 0 ∷ [])) → v' ≡ quantTypes j (drop j names) d
+  pub quant-types : (d v v' : List ℕ) → v ≡ quantTypes i (drop i names) d → v' ≡ sets v (get_or names j 0 * 4) (words (rec (head 14 1) j 0 0 ∷ []))
+      → v' ≡ quantTypes j (drop j names) d
   unfolding quantTypes
   quant-types d v v' a b = let k : i ≡ suc j = omega arith in b ∙ rw (more, a, k)
 

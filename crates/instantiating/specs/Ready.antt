@@ -130,7 +130,8 @@ module _ (pool table names s work : List ℕ) (t : Ty ℕ) (bs : List (Open ℕ)
         (c.wrote.words (omega (arith, z, f, k, cut-length (writeTy c.value))) ∙ ap (λ (rs : List Rec). sets w.words.now (w.at * 4) (words rs)) short) in
         record {
           held =
-              held w'.words.now c.value 0 (from w.words.now (0 + length (writeTy c.value))) (ty-fits (numbers pool table) (is_held (table_of pool table)) 4_294_967_296 c.value its.well)
+              held w'.words.now c.value 0 (from w.words.now (0 + length (writeTy c.value)))
+              (ty-fits (numbers pool table) (is_held (table_of pool table)) 4_294_967_296 c.value its.well)
               (ap (λ (x : List ℕ). from x 0) buffer ∙ stored w.words.now (writeTy c.value) 0 (omega (arith, f, k, long)));
           good = its.well;
         }
@@ -150,8 +151,14 @@ module _ (pool table names s work : List ℕ) (t : Ty ℕ) (bs : List (Open ℕ)
         let f = its.fits b.value b.is in
         let rs : List Rec = writeTy b.value ++ map writeBound (newBounds pool table names bs) in
         let l : length rs ≡ size b.value + length (newBounds pool table names bs) =
-        omega (arith, length-append (writeTy b.value) (map writeBound (newBounds pool table names bs)), size-ty b.value, length-map (newBounds pool table names bs) writeBound) in
-        let q : Writes v v₁ rs = writes-then (writeTy b.value) (map writeBound (newBounds pool table names bs)) (subst (Writes v v') (short-ty b.value (omega (arith, f))) b.wrote) p in
+        omega (
+          arith,
+          length-append (writeTy b.value) (map writeBound (newBounds pool table names bs)),
+          size-ty b.value,
+          length-map (newBounds pool table names bs) writeBound,
+        ) in
+        let q : Writes v v₁ rs = writes-then (writeTy b.value) (map writeBound (newBounds pool table names bs))
+        (subst (Writes v v') (short-ty b.value (omega (arith, f))) b.wrote) p in
         let n : v₁.at ≡ length rs = omega (arith, q.at, z, l, f) in
         made-writes Whole rs v₁.at (rw (c.is, b.is)) z (omega (arith, y.work-long, ap (λ (d : List ℕ). length d) room)) q n (omega (arith, n, l, f))
 

@@ -17,8 +17,10 @@ words_of a = answeredWords (solvedWords a)
 abbrev pub manyOf : Got (Answer ℕ) → ℕ
 manyOf a = recordsOf (solvedOf a)
 
-records-length : (bs : List (Binding ℕ)) (ns : List ℕ) → length (collect writeBinding bs ++ map (λ n. writeBound (var n)) ns) ≡ sum_of sizeBinding bs + length ns
-records-length bs ns = length-append (collect writeBinding bs) (map (λ n. writeBound (var n)) ns) ∙ ap₂ ◌+◌ (bindings-length bs) (length-map ns (λ n. writeBound (var n)))
+records-length : (bs : List (Binding ℕ)) (ns : List ℕ)
+    → length (collect writeBinding bs ++ map (λ n. writeBound (var n)) ns) ≡ sum_of sizeBinding bs + length ns
+records-length bs ns = length-append (collect writeBinding bs) (map (λ n. writeBound (var n)) ns)
+    ∙ ap₂ ◌+◌ (bindings-length bs) (length-map ns (λ n. writeBound (var n)))
 
 -- four words a record
 pub answer-long : (a : Got (Answer ℕ)) → length (words_of a) ≡ manyOf a * 4

@@ -165,7 +165,8 @@ trans (x ∷ xs) [] c h k = cc
 trans (x ∷ xs) (y ∷ ys) [] h k = cc
 trans (x ∷ xs) (y ∷ ys) (z ∷ zs) h k = go (way x y) (way y z) (trans xs ys zs)
   where
-    go : Way x y → Way y z → (orderBytes xs ys ≡ Ordering.lt → orderBytes ys zs ≡ Ordering.lt → orderBytes xs zs ≡ Ordering.lt) → orderBytes (x ∷ xs) (z ∷ zs) ≡ Ordering.lt
+    go : Way x y → Way y z → (orderBytes xs ys ≡ Ordering.lt → orderBytes ys zs ≡ Ordering.lt → orderBytes xs zs ≡ Ordering.lt)
+        → orderBytes (x ∷ xs) (z ∷ zs) ≡ Ordering.lt
     go (above l) w r = cc (cons-above x y xs ys l)
     go (below l) (above m) r = cc (cons-above y z ys zs m)
     go (equal l) (above m) r = cc (cons-above y z ys zs m)

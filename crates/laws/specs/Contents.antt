@@ -49,9 +49,15 @@ told (no h) b f g = sym (g h)
 pub contains-eqb : (names : List Bytes) (x : ℕ) (os : List (Open ℕ)) → any (λ o. is_yes (open-dec (numbered names) (var x) o)) os ≡ any (eqb x) (variablesIn os)
 unfolding any variablesIn collect
 contains-eqb names x [] = refl
-contains-eqb names x (var y ∷ os) = ap₂ ◌||◌ (told (open-dec (numbered names) (var x) (var y)) (eqb x y) (λ e. eq-eqb x y (cc)) (λ f. ne_eqb x y (λ e. f (ap var e)))) (contains-eqb names x os)
-contains-eqb names x (quant i ∷ os) = ap (◌|| any (λ o. is_yes (open-dec (numbered names) (var x) o)) os) (told (open-dec (numbered names) (var x) (quant i)) false (λ e. absurd (let z : ◌≡◌ {A = ℕ} 0 1 = cc in omega arith)) (λ f. refl)) ∙ contains-eqb names x os
-contains-eqb names x (par y ∷ os) = ap (◌|| any (λ o. is_yes (open-dec (numbered names) (var x) o)) os) (told (open-dec (numbered names) (var x) (par y)) false (λ e. absurd (let z : ◌≡◌ {A = ℕ} 0 1 = cc in omega arith)) (λ f. refl)) ∙ contains-eqb names x os
+contains-eqb names x (var y ∷ os) = ap₂ ◌||◌
+    (told (open-dec (numbered names) (var x) (var y)) (eqb x y) (λ e. eq-eqb x y (cc)) (λ f. ne_eqb x y (λ e. f (ap var e))))
+    (contains-eqb names x os)
+contains-eqb names x (quant i ∷ os) = ap (◌|| any (λ o. is_yes (open-dec (numbered names) (var x) o)) os)
+    (told (open-dec (numbered names) (var x) (quant i)) false (λ e. absurd (let z : ◌≡◌ {A = ℕ} 0 1 = cc in omega arith)) (λ f. refl))
+    ∙ contains-eqb names x os
+contains-eqb names x (par y ∷ os) = ap (◌|| any (λ o. is_yes (open-dec (numbered names) (var x) o)) os)
+    (told (open-dec (numbered names) (var x) (par y)) false (λ e. absurd (let z : ◌≡◌ {A = ℕ} 0 1 = cc in omega arith)) (λ f. refl))
+    ∙ contains-eqb names x os
 
 -- ══ Names of variables and of parameters ══
 
@@ -79,7 +85,8 @@ module _ {N : Type 0} (ν : Names N) where
   not-mixed os h x m p =
       let v : Memᴰ x (variablesIn os) = collect-to (λ o. to_list (variable o)) os (var x) x m in_head in
       let w : Memᴰ x (parametersIn os) = collect-to (λ o. to_list (parameter o)) os (par x) x p in_head in
-      let n : among ν x (parametersIn os) ≡ false = not-true (among ν x (parametersIn os)) (all-is (λ y. not (among ν y (parametersIn os))) (variablesIn os) h x v) in
+      let n : among ν x (parametersIn os) ≡ false = not-true (among ν x (parametersIn os))
+      (all-is (λ y. not (among ν y (parametersIn os))) (variablesIn os) h x v) in
       true≢false (sym (is_any (λ y. is_yes (ν.same x y)) (parametersIn os) x w (is-yes (ν.same x x) refl)) ∙ n)
 
   -- names of variables that are no parameters' are apart from those of parameters
@@ -91,4 +98,5 @@ module _ {N : Type 0} (ν : Names N) where
       go x m false i = refl
       go x m true i =
           let s = any-is (λ y. is_yes (ν.same x y)) (parametersIn os) i in
-          absurd (h x (from-variables os x m) (k x (from-parameters os x (subst (λ (z : N). Memᴰ z (parametersIn os)) (sym (yes-is (ν.same x s.one) s.fits)) s.within))))
+          absurd (h x (from-variables os x m)
+          (k x (from-parameters os x (subst (λ (z : N). Memᴰ z (parametersIn os)) (sym (yes-is (ν.same x s.one) s.fits)) s.within))))

@@ -31,7 +31,8 @@ any-read : {A : Type 0} (o : Option (A × List Rec)) → Reads o (λ a rest. Uni
 any-read o = record { holds = λ a rest e. tt }
 
 -- whatever length it says
-lasts-too : {A : Type 0} (u : ℕ) (P : A → Type 0) (o : Option (A × List Rec)) (rs : List Rec) → Reads o (λ a rest. P a) → Reads (lasting (lengthIn u) (suc (length rs)) o) (λ a rest. P a)
+lasts-too : {A : Type 0} (u : ℕ) (P : A → Type 0) (o : Option (A × List Rec)) (rs : List Rec) → Reads o (λ a rest. P a)
+    → Reads (lasting (lengthIn u) (suc (length rs)) o) (λ a rest. P a)
 lasts-too u P o rs h = record { holds = λ a rest e. ((lasting-read (lengthIn u) (suc (length rs)) o h).holds a rest e).0 }
 
 module _ (d : ℕ) (ty : Reader (Ty ℕ)) (r : (s : List Rec) → Reads (ty s) (λ t rest. depth t ≤ d)) where
@@ -73,31 +74,32 @@ pub depth-read : (d : ℕ) (s : List Rec) → Reads (readTy d s) (λ t rest. dep
 unfolding readTy depth
 depth-read zero s = nothing
 depth-read (suc d) [] = nothing
-depth-read (suc d) (rec u a b c ∷ rs) = lasts-too u (λ t. depth t ≤ suc d) (typeKinds (readTy d) (kindIn u) a b c rs) rs (picked (kindIn u) rs (typeTable (readTy d) a b c) (
-  (λ e. plain (b ∷ c ∷ []) (give (opened (var a))) rs (λ z. leaf-deep d (opened (var a)) rs (omega arith))),
-  (
-    (λ e. plain (b ∷ c ∷ []) (give (opened (par a))) rs (λ z. leaf-deep d (opened (par a)) rs (omega arith))),
-    (
-      (λ e. plain (b ∷ c ∷ []) (give (opened (quant a))) rs (λ z. leaf-deep d (opened (quant a)) rs (omega arith))),
+depth-read (suc d) (rec u a b c ∷ rs) = lasts-too u (λ t. depth t ≤ suc d) (typeKinds (readTy d) (kindIn u) a b c rs) rs
+    (picked (kindIn u) rs (typeTable (readTy d) a b c) (
+      (λ e. plain (b ∷ c ∷ []) (give (opened (var a))) rs (λ z. leaf-deep d (opened (var a)) rs (omega arith))),
       (
-        (λ e. plain (b ∷ c ∷ []) (readDim a) rs (λ z. dim-deep d a rs)),
+        (λ e. plain (b ∷ c ∷ []) (give (opened (par a))) rs (λ z. leaf-deep d (opened (par a)) rs (omega arith))),
         (
-          (λ e. plain (a ∷ b ∷ c ∷ []) (give (basic boolean)) rs (λ z. leaf-deep d (basic boolean) rs (omega arith))),
+          (λ e. plain (b ∷ c ∷ []) (give (opened (quant a))) rs (λ z. leaf-deep d (opened (quant a)) rs (omega arith))),
           (
-            (λ e. plain (a ∷ b ∷ c ∷ []) (give (basic string)) rs (λ z. leaf-deep d (basic string) rs (omega arith))),
+            (λ e. plain (b ∷ c ∷ []) (readDim a) rs (λ z. dim-deep d a rs)),
             (
-              (λ e. plain (a ∷ b ∷ c ∷ []) (give (basic datetime)) rs (λ z. leaf-deep d (basic datetime) rs (omega arith))),
+              (λ e. plain (a ∷ b ∷ c ∷ []) (give (basic boolean)) rs (λ z. leaf-deep d (basic boolean) rs (omega arith))),
               (
-                (λ e. plain (b ∷ c ∷ []) (readFn (readTy d) a) rs (λ z. fn-deep d (readTy d) (depth-read d) a rs)),
+                (λ e. plain (a ∷ b ∷ c ∷ []) (give (basic string)) rs (λ z. leaf-deep d (basic string) rs (omega arith))),
                 (
-                  (λ e. struct-deep d (readTy d) (depth-read d) a b c rs),
-                  ((λ e. plain (a ∷ b ∷ c ∷ []) (readList (readTy d)) rs (λ z. list-deep d (readTy d) (depth-read d) rs)), tt),
+                  (λ e. plain (a ∷ b ∷ c ∷ []) (give (basic datetime)) rs (λ z. leaf-deep d (basic datetime) rs (omega arith))),
+                  (
+                    (λ e. plain (b ∷ c ∷ []) (readFn (readTy d) a) rs (λ z. fn-deep d (readTy d) (depth-read d) a rs)),
+                    (
+                      (λ e. struct-deep d (readTy d) (depth-read d) a b c rs),
+                      ((λ e. plain (a ∷ b ∷ c ∷ []) (readList (readTy d)) rs (λ z. list-deep d (readTy d) (depth-read d) rs)), tt),
+                    ),
+                  ),
                 ),
               ),
             ),
           ),
         ),
       ),
-    ),
-  ),
-))
+    ))

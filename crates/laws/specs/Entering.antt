@@ -124,7 +124,8 @@ cut-alike at (e ∷ es) p q h k =
     (sym (drop-take at e p) ∙ ap (drop at) first ∙ drop-take at e q)
     (cut-alike e es p q s.rest k)
 
-lengths-more : (at : ℕ) (es : List ℕ) (e : ℕ) → lengthsGood at es ≡ true → used at es < e → e ≤ used at es + 48 → e ≤ 8192 → lengthsGood at (es ++ (e ∷ [])) ≡ true
+lengths-more : (at : ℕ) (es : List ℕ) (e : ℕ) → lengthsGood at es ≡ true → used at es < e → e ≤ used at es + 48 → e ≤ 8192
+    → lengthsGood at (es ++ (e ∷ [])) ≡ true
 unfolding lengthsGood used
 lengths-more at [] e h r s w = rw (lt-ltb at e r, le-leb e (at + 48) s, le-leb e 8192 w)
 lengths-more at (d ∷ es) e h r s w =
@@ -145,12 +146,14 @@ unfolding distinct any
 distinct_more [] n d h = refl
 distinct_more (m ∷ ns) n d h = go (sameBytes n m) refl (any (sameBytes m) ns) refl (distinct_more ns n)
   where
-    go : (b : Bool) → sameBytes n m ≡ b → (c : Bool) → any (sameBytes m) ns ≡ c → (distinct ns ≡ true → any (sameBytes n) ns ≡ false → distinct (ns ++ (n ∷ [])) ≡ true)
+    go : (b : Bool) → sameBytes n m ≡ b → (c : Bool) → any (sameBytes m) ns ≡ c
+        → (distinct ns ≡ true → any (sameBytes n) ns ≡ false → distinct (ns ++ (n ∷ [])) ≡ true)
         → not (any (sameBytes m) (ns ++ (n ∷ []))) && distinct (ns ++ (n ∷ [])) ≡ true
     go true e c f r = let z : true ≡ false = rw e at h in cc
     go false e true f r = let z : false ≡ true = rw f at d in cc
     go false e false f r =
-        rw (any-more (sameBytes m) ns n f (same-no m n (λ q. let z : true ≡ false = sym (same-yes n m (sym q)) ∙ e in let y : ◌≡◌ {A = ℕ} 0 1 = cc in omega arith)))
+        rw (any-more (sameBytes m) ns n f
+        (same-no m n (λ q. let z : true ≡ false = sym (same-yes n m (sym q)) ∙ e in let y : ◌≡◌ {A = ℕ} 0 1 = cc in omega arith)))
         (r (rw f at d) (rw e at h))
 
 -- ══ One name more ══
@@ -189,7 +192,8 @@ module _ {pool table : List ℕ} {name : Bytes} (en : Enters pool table name) wh
   pool-is = ap (λ r. r.pool) (new_is laid name) ∙ ap (λ (f : ℕ). take f pool ++ name ++ drop (f + length name) pool) (sym free-is)
 
   table_is : tableWith pool table name ≡ set (set table 0 (suc (get_or table 0 0))) (suc (get_or table 0 0)) (free + length name)
-  table_is = ap (λ r. r.table) (new_is laid name) ∙ ap (λ (f : ℕ). set (set table 0 (suc (get_or table 0 0))) (suc (get_or table 0 0)) (f + length name)) (sym free-is)
+  table_is = ap (λ r. r.table) (new_is laid name)
+      ∙ ap (λ (f : ℕ). set (set table 0 (suc (get_or table 0 0))) (suc (get_or table 0 0)) (f + length name)) (sym free-is)
 
   pub count-with : get_or (tableWith pool table name) 0 0 ≡ suc (get_or table 0 0)
   count-with =
@@ -228,7 +232,8 @@ module _ {pool table : List ℕ} {name : Bytes} (en : Enters pool table name) wh
   names-with =
       ap (λ (es : List ℕ). cut 0 es (take 8192 (poolWith pool table name))) ends_with
       ∙ cut-more 0 (endsOf table) (free + length name) (take 8192 (poolWith pool table name))
-      ∙ ap₂ {C = List Bytes} (λ ns n. ns ++ (n ∷ [])) (cut-alike 0 (endsOf table) (take 8192 (poolWith pool table name)) (take 8192 pool) laid.rising front) behind
+      ∙ ap₂ {C = List Bytes} (λ ns n. ns ++ (n ∷ []))
+      (cut-alike 0 (endsOf table) (take 8192 (poolWith pool table name)) (take 8192 pool) laid.rising front) behind
 
   pub good-with : Good (poolWith pool table name) (tableWith pool table name)
   unfolding free
@@ -252,7 +257,9 @@ module _ {pool table : List ℕ} {name : Bytes} (en : Enters pool table name) wh
       ap (λ (k : ℕ). drop k (poolWith pool table name)) n
       ∙ sym (drop-drop (8192 - (free + length name)) (free + length name) (poolWith pool table name))
       ∙ ap (λ (p : List ℕ). drop (8192 - (free + length name)) (drop (free + length name) p)) pool-is
-      ∙ ap (drop (8192 - (free + length name))) (drop_at (take free pool ++ name) all (free + length name) (length-append (take free pool) name ∙ ap (λ (k : ℕ). k + length name) free-within))
+      ∙ ap (drop (8192 - (free + length name)))
+      (drop_at (take free pool ++ name) all (free + length name)
+      (length-append (take free pool) name ∙ ap (λ (k : ℕ). k + length name) free-within))
       ∙ drop-drop (8192 - (free + length name)) (free + length name) pool
       ∙ ap (λ (k : ℕ). drop k pool) (sym n)
 
@@ -271,7 +278,8 @@ pub record Missing (pool table : List ℕ) (name : Bytes) : Type 0 where
 pub data Case (pool table : List ℕ) (name : Bytes) : Type 0 where
   stopped : (k : ℕ) → enterChecks pool table name ≡ refused k → enter pool table name ≡ unchanged pool table (refused k) → Case pool table name
   known : (i : ℕ) → Asked pool table i name → enter pool table name ≡ unchanged pool table (got (i, Known)) → Case pool table name
-  full : Good pool table → any (sameBytes name) (names_of (table_of pool table)) ≡ false → Missing pool table name → enter pool table name ≡ unchanged pool table (refused 3) → Case pool table name
+  full : Good pool table → any (sameBytes name) (names_of (table_of pool table)) ≡ false → Missing pool table name
+      → enter pool table name ≡ unchanged pool table (refused 3) → Case pool table name
   new : Enters pool table name → enter pool table name ≡ enterNew pool table name → Case pool table name
 
 module _ (pool table : List ℕ) (name : Bytes) where
@@ -284,7 +292,8 @@ module _ (pool table : List ℕ) (name : Bytes) where
 
   pub checks-refuse : (k : ℕ) → enterChecks pool table name ≡ refused k → k ≡ 3 → ⊥
   unfolding enterChecks tableGiven lentTable
-  checks-refuse k h e = not_three (leb 8192 (length pool) && leb 257 (length table)) (tableGood (table_of pool table)) (leb 1 (length name) && leb (length name) 48) k h e
+  checks-refuse k h e = not_three (leb 8192 (length pool) && leb 257 (length table)) (tableGood (table_of pool table))
+      (leb 1 (length name) && leb (length name) 48) k h e
 
   pub record Passed : Type 0 where
     pub good : Good pool table
@@ -311,7 +320,8 @@ module _ (pool table : List ℕ) (name : Bytes) where
     where
       go : (b : Bool) → ltb (get_or table 0 0) 256 ≡ b → (b && leb (start_at table (get_or table 0 0) + length name) 8192) ≡ false → Missing pool table name
       go false e k = record { room = inl (ltb-false (get_or table 0 0) 256 e) }
-      go true e k = let l = leb-false (start_at table (get_or table 0 0) + length name) 8192 k in record { room = inr (omega (arith, used-within (good-laid g))) }
+      go true e k = let l = leb-false (start_at table (get_or table 0 0) + length name) 8192 k
+          in record { room = inr (omega (arith, used-within (good-laid g))) }
 
   with-room : Passed → any (sameBytes name) (names_of (table_of pool table)) ≡ false → hasRoom (table_of pool table) name ≡ true → Enters pool table name
   with-room p a h =
@@ -336,7 +346,8 @@ module _ (pool table : List ℕ) (name : Bytes) where
         held = omega (arith, f.held, length-names (good-laid p.good));
         name = ap (λ (j : ℕ). get_or (names_of (table_of pool table)) j []) z ∙ f.name;
       }) h
-  searched p none e false r h = full p.good (search-any 0 name (names_of (table_of pool table)) ∙ ap (λ (f : Option ℕ). not (is_none f)) e) (without-room p.good r) h
+  searched p none e false r h = full p.good (search-any 0 name (names_of (table_of pool table)) ∙ ap (λ (f : Option ℕ). not (is_none f)) e)
+      (without-room p.good r) h
   searched p none e true r h = new (with-room p (search-any 0 name (names_of (table_of pool table)) ∙ ap (λ (f : Option ℕ). not (is_none f)) e) r) h
 
   -- entering ends in one of these cases
@@ -346,7 +357,8 @@ module _ (pool table : List ℕ) (name : Bytes) where
     where
       go : (c : Got (Unit {0})) → enterChecks pool table name ≡ c → Case pool table name
       go (refused k) e = stopped k e (rw (e, enter, enterChecked))
-      go (got u) e = searched (checks-pass e) (number_of 0 name (names_of (table_of pool table))) refl (hasRoom (table_of pool table) name) refl (rw (e, enter, enterChecked))
+      go (got u) e = searched (checks-pass e) (number_of 0 name (names_of (table_of pool table))) refl (hasRoom (table_of pool table) name) refl
+          (rw (e, enter, enterChecked))
 
 -- ══ What lies behind is not read ══
 
@@ -379,7 +391,8 @@ answer_of : Got (Unit {0}) → Table → Bytes → Got (ℕ × Was)
 answer_of (refused k) t name = refused k
 answer_of (got u) t name = answerFrom (number_of 0 name (names_of t)) (hasRoom t name) t.count
 
-known-answer : (pool table : List ℕ) (name : Bytes) (f : Option ℕ) (b : Bool) → (enterKnown f b pool table name).answer ≡ answerFrom f b (table_of pool table).count
+known-answer : (pool table : List ℕ) (name : Bytes) (f : Option ℕ) (b : Bool)
+    → (enterKnown f b pool table name).answer ≡ answerFrom f b (table_of pool table).count
 unfolding enterKnown answerFrom enterNew
 known-answer pool table name (some i) b = refl
 known-answer pool table name none false = refl

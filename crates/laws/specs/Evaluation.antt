@@ -112,7 +112,8 @@ module _ {N : Type 0} (ν : Names N) {Held : Atom N → Type 0} (law : Lawful (o
     pub exchange : (d : Product N) → Proper ν Held d → mergeE ν (mergeE ν a b) (mergeE ν c d) ≡ mergeE ν (mergeE ν a c) (mergeE ν b d)
     exchange d hd =
         merge-assoc ν law tells a b (mergeE ν c d) ha hb (merge-proper ν law tells c d hc hd)
-        ∙ ap (mergeE ν a) (sym (merge-assoc ν law tells b c d hb hc hd) ∙ ap (λ (x : Product N). mergeE ν x d) (merge-comm ν law tells b c hb hc) ∙ merge-assoc ν law tells c b d hc hb hd)
+        ∙ ap (mergeE ν a) (sym (merge-assoc ν law tells b c d hb hc hd) ∙ ap (λ (x : Product N). mergeE ν x d) (merge-comm ν law tells b c hb hc)
+        ∙ merge-assoc ν law tells c b d hc hb hd)
         ∙ sym (merge-assoc ν law tells a c (mergeE ν b d) ha hc (merge-proper ν law tells b d hb hd))
 
   pub one-proper : (a : Atom N) (e : Exp) → Sound Held (a ↑ e) → Proper ν Held (a ↑ e ∷ [])
@@ -145,7 +146,8 @@ module _ {N : Type 0} (ν : Names N) {Held : Atom N → Type 0} (law : Lawful (o
         go : (b : Bool) → isZero s ≡ b → valued ν v (put a s r) ≡ mergeE ν (raiseE (v a) s) (valued ν v r)
         go true z =
             rw (z, put)
-            (sym (ap (λ (x : Product N). mergeE ν x (valued ν v r)) (ap (raiseE (v a)) (zero-is-nought s k z) ∙ raise-nought ν law tells (v a) (vp a h)) ∙ scalar-merge ν (valued ν v r)))
+            (sym (ap (λ (x : Product N). mergeE ν x (valued ν v r))
+            (ap (raiseE (v a)) (zero-is-nought s k z) ∙ raise-nought ν law tells (v a) (vp a h)) ∙ scalar-merge ν (valued ν v r)))
         go false z = rw (z, put)
 
     valued_one : (a : Atom N) (e : Exp) (p : Product N) (m : Product N → Product N) → Sound Held (a ↑ e) → Every (Sound Held) p
@@ -182,7 +184,8 @@ module _ {N : Type 0} (ν : Names N) {Held : Atom N → Type 0} (law : Lawful (o
             → valued ν v (mergeOneE ν a e p m (b ↑ d ∷ q)) ≡ mergeE ν (valued ν v (a ↑ e ∷ p)) (valued ν v (b ↑ d ∷ q))
         go Ordering.lt o r =
             rw (o, mergeOneE)
-            (ap (mergeE ν A) (f (b ↑ d ∷ q) k) ∙ sym (merge-assoc ν law tells A (valued ν v p) (mergeE ν D (valued ν v q)) hA hp (merge-proper ν law tells D (valued ν v q) hD hq)))
+            (ap (mergeE ν A) (f (b ↑ d ∷ q) k)
+            ∙ sym (merge-assoc ν law tells A (valued ν v p) (mergeE ν D (valued ν v q)) hA hp (merge-proper ν law tells D (valued ν v q) hD hq)))
         go Ordering.eq o r =
             rw (o, mergeOneE) (valued-put a (plus e d) (m q) h.0 (plus-in-lowest e d h.1 k.0.1) ∙ both (tells.same a b h.0 k.0.0 o))
         go Ordering.gt o r =
@@ -220,7 +223,8 @@ module _ {N : Type 0} (ν : Names N) {Held : Atom N → Type 0} (law : Lawful (o
         let hP = valued-proper p h in
         let hQ = valued-proper q k.each in
         let hI = inverse-proper ν law tells Q hQ in
-        let nothing : mergeE ν P (inverse Q) ≡ [] = sym (valued-merge p (inverse q) h (inverse-proper ν law tells q k).each ∙ ap (mergeE ν P) (valued-inverse q k.each)) ∙ e in
+        let nothing : mergeE ν P (inverse Q) ≡ [] = sym
+        (valued-merge p (inverse q) h (inverse-proper ν law tells q k).each ∙ ap (mergeE ν P) (valued-inverse q k.each)) ∙ e in
         sym (merge-scalar ν P)
         ∙ ap (mergeE ν P) (sym (merge-comm ν law tells (inverse Q) Q hI hQ ∙ merge-inverse ν law tells Q hQ))
         ∙ sym (merge-assoc ν law tells P (inverse Q) Q hP hI hQ)
@@ -246,7 +250,8 @@ module _ {N : Type 0} (ν : Names N) {Held : Atom N → Type 0} (law : Lawful (o
         go none i r = r
         go (some t) i r = changed t (f.0.bound t i) r
 
-    replace-changes : (p acc : Product N) → Every (Sound Held) p → Fits ν Held look p → Proper ν Held acc → replaceFactors ν exact look p acc ≡ got (mergeE ν acc (change ν look p))
+    replace-changes : (p acc : Product N) → Every (Sound Held) p → Fits ν Held look p → Proper ν Held acc
+        → replaceFactors ν exact look p acc ≡ got (mergeE ν acc (change ν look p))
     unfolding replaceFactors change changedAt changedBy inverse
     replace-changes [] acc h f k = ap got (sym (merge-scalar ν acc))
     replace-changes (base n ↑ e ∷ p) acc h f k = replace-changes p acc h.1 f k
@@ -255,8 +260,10 @@ module _ {N : Type 0} (ν : Names N) {Held : Atom N → Type 0} (law : Lawful (o
         rest : Proper ν Held (change ν look p)
         rest = change-proper p h.1 f.1
 
-        step : (t : Ty N) (d : Dimension ν Held t) → ((acc' : Product N) → Proper ν Held acc' → replaceFactors ν exact look p acc' ≡ got (mergeE ν acc' (change ν look p)))
-            → (asProduct t >>= λ d. divide ν exact acc (free o ↑ e ∷ []) >>= λ left. raise ν exact d e >>= λ more. multiply ν exact left more >>= λ acc'. replaceFactors ν exact look p acc')
+        step : (t : Ty N) (d : Dimension ν Held t)
+            → ((acc' : Product N) → Proper ν Held acc' → replaceFactors ν exact look p acc' ≡ got (mergeE ν acc' (change ν look p)))
+            → (asProduct t >>= λ d. divide ν exact acc (free o ↑ e ∷ []) >>= λ left. raise ν exact d e >>= λ more. multiply ν exact left more
+            >>= λ acc'. replaceFactors ν exact look p acc')
             ≡ got (mergeE ν acc (changedBy ν (asProduct t) o e (change ν look p)))
         step t d r =
             let out : Proper ν Held (free o ↑ neg e ∷ []) = one-proper (free o) (neg e) (neg-sound (free o) e h.0) in
@@ -266,9 +273,12 @@ module _ {N : Type 0} (ν : Names N) {Held : Atom N → Type 0} (law : Lawful (o
             (r _ (merge-proper ν law tells _ _ left inn)
             ∙ ap got
             (ap (λ (x : Product N). mergeE ν x (change ν look p)) (merge-assoc ν law tells acc (free o ↑ neg e ∷ []) (raiseE d.product e) k out inn)
-            ∙ merge-assoc ν law tells acc (mergeE ν (free o ↑ neg e ∷ []) (raiseE d.product e)) (change ν look p) k (merge-proper ν law tells _ _ out inn) rest))
+            ∙ merge-assoc ν law tells acc (mergeE ν (free o ↑ neg e ∷ []) (raiseE d.product e)) (change ν look p) k
+            (merge-proper ν law tells _ _ out inn) rest))
 
-        go : (t : Option (Ty N)) → look o ≡ t → ((acc' : Product N) → Proper ν Held acc' → replaceFactors ν exact look p acc' ≡ got (mergeE ν acc' (change ν look p))) → replaceFactors ν exact look (free o ↑ e ∷ p) acc ≡ got (mergeE ν acc (change ν look (free o ↑ e ∷ p)))
+        go : (t : Option (Ty N)) → look o ≡ t
+            → ((acc' : Product N) → Proper ν Held acc' → replaceFactors ν exact look p acc' ≡ got (mergeE ν acc' (change ν look p)))
+            → replaceFactors ν exact look (free o ↑ e ∷ p) acc ≡ got (mergeE ν acc (change ν look (free o ↑ e ∷ p)))
         go none i r = rw (i, replaceFactors, change) (r acc k)
         go (some t) i r = rw (i, replaceFactors, change) (step t (f.0.bound t i) r)
 
@@ -333,10 +343,15 @@ module _ {N : Type 0} (ν : Names N) {Held : Atom N → Type 0} (law : Lawful (o
         rest : Proper ν Held (change ν look p)
         rest = change-proper look p h.each.1 f.1
 
-        bound : (t : Ty N) → Dimension ν Held t → valued ν (value_of look) p ≡ mergeE ν p (change ν look p) → mergeE ν (raiseE (orSelf (asProduct t) (free o)) e) (valued ν (value_of look) p) ≡ mergeE ν (free o ↑ e ∷ p) (changedBy ν (asProduct t) o e (change ν look p))
-        bound t d r = rw (d.is, orSelf, changedBy) (goes (free o) e p (valued ν (value_of look) p) (change ν look p) h rest r (raiseE d.product e) (raise-proper ν law tells d.product e d.proper h.each.0.1))
+        bound : (t : Ty N) → Dimension ν Held t → valued ν (value_of look) p ≡ mergeE ν p (change ν look p)
+            → mergeE ν (raiseE (orSelf (asProduct t) (free o)) e) (valued ν (value_of look) p)
+            ≡ mergeE ν (free o ↑ e ∷ p) (changedBy ν (asProduct t) o e (change ν look p))
+        bound t d r = rw (d.is, orSelf, changedBy)
+            (goes (free o) e p (valued ν (value_of look) p) (change ν look p) h rest r (raiseE d.product e)
+            (raise-proper ν law tells d.product e d.proper h.each.0.1))
 
-        go : (t : Option (Ty N)) → look o ≡ t → valued ν (value_of look) p ≡ mergeE ν p (change ν look p) → mergeE ν (raiseE (meantBy t (free o)) e) (valued ν (value_of look) p) ≡ mergeE ν (free o ↑ e ∷ p) (changedAt ν t o e (change ν look p))
+        go : (t : Option (Ty N)) → look o ≡ t → valued ν (value_of look) p ≡ mergeE ν p (change ν look p)
+            → mergeE ν (raiseE (meantBy t (free o)) e) (valued ν (value_of look) p) ≡ mergeE ν (free o ↑ e ∷ p) (changedAt ν t o e (change ν look p))
         go none i r = stays (free o) e p (valued ν (value_of look) p) (change ν look p) h rest r
         go (some t) i r = bound t (f.0.bound t i) r
 
@@ -359,7 +374,8 @@ module _ {N : Type 0} (ν : Names N) {Held : Atom N → Type 0} (law : Lawful (o
           rest : Proper ν Held (change ν look p)
           rest = change-proper look p h.1 f.1
 
-          bound : (t : Ty N) → look o ≡ some t → Dimension ν Held t → valued ν v (change ν look p) ≡ [] → valued ν v (changedBy ν (asProduct t) o e (change ν look p)) ≡ []
+          bound : (t : Ty N) → look o ≡ some t → Dimension ν Held t → valued ν v (change ν look p) ≡ []
+              → valued ν v (changedBy ν (asProduct t) o e (change ν look p)) ≡ []
           bound t i d r =
               let X = raiseE (v (free o)) e in
               let hX : Proper ν Held X = raise-proper ν law tells (v (free o)) e (vp (free o) h.0.0) h.0.1 in
@@ -382,7 +398,8 @@ module _ {N : Type 0} (ν : Names N) {Held : Atom N → Type 0} (law : Lawful (o
           go none i r = r
           go (some t) i r = bound t i (f.0.bound t i) r
 
-      pub replace-worth : (p q : Product N) → Proper ν Held p → Fits ν Held look p → All Kept (collect openOfFactor p) → replaceProduct ν exact look p ≡ got q → valued ν v q ≡ valued ν v p
+      pub replace-worth : (p q : Product N) → Proper ν Held p → Fits ν Held look p → All Kept (collect openOfFactor p)
+          → replaceProduct ν exact look p ≡ got q → valued ν v q ≡ valued ν v p
       unfolding replaceProduct
       replace-worth p q h f kept e =
           let i : mergeE ν p (change ν look p) ≡ q = let j : got (mergeE ν p (change ν look p)) ≡ got q = sym (replace-changes look p p h.each f h) ∙ e in cc in
@@ -398,7 +415,8 @@ module _ {N : Type 0} (ν : Names N) {Held : Atom N → Type 0} (law : Lawful (o
   other-is k i n a j f e = let z : got (a ↑ mul (neg j) i) ≡ got f = rw n at e in cc
 
   -- each power j becomes -j/k: raised to k again, that is the inverse
-  pub other-raised : (k i : Exp) → Lowest k → inverted k ≡ some i → (p q : Product N) → Every (Sound Held) p → each (otherSide exact k) p ≡ got q → raiseE q k ≡ inverse p
+  pub other-raised : (k i : Exp) → Lowest k → inverted k ≡ some i → (p q : Product N) → Every (Sound Held) p → each (otherSide exact k) p ≡ got q
+      → raiseE q k ≡ inverse p
   unfolding each raiseE inverse
   other-raised k i l n [] q h e = let z : [] ≡ q = cc in rw (sym z)
   other-raised k i l n (a ↑ j ∷ p) q h e =

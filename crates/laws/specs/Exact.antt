@@ -79,12 +79,14 @@ unfolding times
 times_below e d = ranged_below (mul e d)
 
 module _ {N : Type 0} (ν : Names N) where
-  one_below : (a : Atom N) (e : Exp) (p : Product N) (f g : Product N → Got (Product N)) → ((q : Product N) → Below (f q) (g q)) → (q : Product N) → Below (mergeOne ν bounded a e p f q) (mergeOne ν exact a e p g q)
+  one_below : (a : Atom N) (e : Exp) (p : Product N) (f g : Product N → Got (Product N)) → ((q : Product N) → Below (f q) (g q)) → (q : Product N)
+      → Below (mergeOne ν bounded a e p f q) (mergeOne ν exact a e p g q)
   unfolding mergeOne
   one_below a e p f g h [] = same _
   one_below a e p f g h (b ↑ d ∷ q) = go (orderAtom ν a b) refl (one_below a e p f g h q)
     where
-      go : (o : Ordering) → orderAtom ν a b ≡ o → Below (mergeOne ν bounded a e p f q) (mergeOne ν exact a e p g q) → Below (mergeOne ν bounded a e p f (b ↑ d ∷ q)) (mergeOne ν exact a e p g (b ↑ d ∷ q))
+      go : (o : Ordering) → orderAtom ν a b ≡ o → Below (mergeOne ν bounded a e p f q) (mergeOne ν exact a e p g q)
+          → Below (mergeOne ν bounded a e p f (b ↑ d ∷ q)) (mergeOne ν exact a e p g (b ↑ d ∷ q))
       go Ordering.lt i k = rw (i, mergeOne) (next (h (b ↑ d ∷ q)) (λ r. same _))
       go Ordering.eq i k = rw (i, mergeOne) (next (sum_below e d) (λ s. next (h q) (λ r. same _)))
       go Ordering.gt i k = rw (i, mergeOne) (next k (λ r. same _))
@@ -114,7 +116,8 @@ module _ {N : Type 0} (ν : Names N) (look : Look N) where
   factors-below (base n ↑ e ∷ p) acc = factors-below p acc
   factors-below (free o ↑ e ∷ p) acc = go (look o) refl (factors-below p)
     where
-      go : (t : Option (Ty N)) → look o ≡ t → ((acc : Product N) → Below (replaceFactors ν bounded look p acc) (replaceFactors ν exact look p acc)) → Below (replaceFactors ν bounded look (free o ↑ e ∷ p) acc) (replaceFactors ν exact look (free o ↑ e ∷ p) acc)
+      go : (t : Option (Ty N)) → look o ≡ t → ((acc : Product N) → Below (replaceFactors ν bounded look p acc) (replaceFactors ν exact look p acc))
+          → Below (replaceFactors ν bounded look (free o ↑ e ∷ p) acc) (replaceFactors ν exact look (free o ↑ e ∷ p) acc)
       go none q h = rw (q, replaceFactors) (h acc)
       go (some t) q h =
           rw (q, replaceFactors)

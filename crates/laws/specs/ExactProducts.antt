@@ -47,12 +47,14 @@ module _ {N : Type 0} (ν : Names N) where
   unfolding mergeE
   scalar-merge q = refl
 
-  one-exact : (a : Atom N) (e : Exp) (p : Product N) (m : Product N → Got (Product N)) (n : Product N → Product N) → ((q : Product N) → m q ≡ got (n q)) → (q : Product N) → mergeOne ν exact a e p m q ≡ got (mergeOneE a e p n q)
+  one-exact : (a : Atom N) (e : Exp) (p : Product N) (m : Product N → Got (Product N)) (n : Product N → Product N)
+      → ((q : Product N) → m q ≡ got (n q)) → (q : Product N) → mergeOne ν exact a e p m q ≡ got (mergeOneE a e p n q)
   unfolding mergeOne mergeOneE sum
   one-exact a e p m n h [] = refl
   one-exact a e p m n h (b ↑ d ∷ q) = go (orderAtom ν a b) refl (one-exact a e p m n h q)
     where
-      go : (o : Ordering) → orderAtom ν a b ≡ o → mergeOne ν exact a e p m q ≡ got (mergeOneE a e p n q) → mergeOne ν exact a e p m (b ↑ d ∷ q) ≡ got (mergeOneE a e p n (b ↑ d ∷ q))
+      go : (o : Ordering) → orderAtom ν a b ≡ o → mergeOne ν exact a e p m q ≡ got (mergeOneE a e p n q)
+          → mergeOne ν exact a e p m (b ↑ d ∷ q) ≡ got (mergeOneE a e p n (b ↑ d ∷ q))
       go Ordering.lt j r = rw (j, mergeOne, mergeOneE, h)
       go Ordering.eq j r = rw (j, mergeOne, mergeOneE, h)
       go Ordering.gt j r = rw (j, mergeOne, mergeOneE, r)

@@ -107,7 +107,8 @@ module _ {N : Type 0} (ν : Names N) where
   try-below (is_scalar (base n ↑ k ∷ p)) = same _
   try-below (hasField n s t) = same _
 
-  taken-below : (s : Step N) (c : Con N) (cs : List (Con N)) (m n : Unit {0} → Got (Option (Step N × List (Con N)))) → Below (m tt) (n tt) → Below (taken s c cs m) (taken s c cs n)
+  taken-below : (s : Step N) (c : Con N) (cs : List (Con N)) (m n : Unit {0} → Got (Option (Step N × List (Con N)))) → Below (m tt) (n tt)
+      → Below (taken s c cs m) (taken s c cs n)
   unfolding taken
   taken-below (bind x t) c cs m n h = same _
   taken-below (split new) c cs m n h = same _
@@ -158,7 +159,8 @@ module _ {N : Type 0} (ν : Names N) where
   Settled (remaining cs k) = Unit {0}
   Settled (stopped n k) = ⊥
 
-  after-below : (m n : Got (Option (State N))) (k : ℕ) (s : State N) (f g : State N → Answer N) → Below m n → ((s : State N) → Settled (f s) → g s ≡ f s) → Settled (after ν m k s f) → after ν n k s g ≡ after ν m k s f
+  after-below : (m n : Got (Option (State N))) (k : ℕ) (s : State N) (f g : State N → Answer N) → Below m n
+      → ((s : State N) → Settled (f s) → g s ≡ f s) → Settled (after ν m k s f) → after ν n k s g ≡ after ν m k s f
   unfolding after
   after-below (refused r) n k s f g b h t = absurd t
   after-below (got none) n k s f g b h t = rw (b.gives none refl)

@@ -306,13 +306,15 @@ mul-inverted (frac (pos zero) d) b l e = let z : ◌≡◌ {A = ℕ} 0 1 = cc in
 mul-inverted (frac (pos (suc n)) d) b l e =
     let h = (lowest-terms (pos (suc n)) d l).positive in
     let is : frac (pos d) (suc n) ≡ b = cc in
-    ap (mul (frac (pos (suc n)) d)) (sym is) ∙ ap (λ (k : ℕ). lowest (pos k) (d * suc n)) (mul_comm (suc n) d) ∙ lowest-one (d * suc n) (mul-pos h (omega arith))
+    ap (mul (frac (pos (suc n)) d)) (sym is) ∙ ap (λ (k : ℕ). lowest (pos k) (d * suc n)) (mul_comm (suc n) d)
+    ∙ lowest-one (d * suc n) (mul-pos h (omega arith))
 mul-inverted (frac (negsuc n) d) b l e =
     let h = (lowest-terms (negsuc n) d l).positive in
     let is : frac (neg_ℤ (pos d)) (suc n) ≡ b = cc in
     ap (mul (frac (negsuc n) d)) (sym is)
     ∙ ap (λ (x : ℤ). lowest x (d * suc n))
-    (*ℤ_comm (negsuc n) (neg_ℤ (pos d)) ∙ neg-mul (pos d) (negsuc n) ∙ ap neg_ℤ (*ℤ_comm (pos d) (negsuc n)) ∙ neg_ℤ-neg_ℤ (pos (suc n * d)) ∙ ap pos (mul_comm (suc n) d))
+    (*ℤ_comm (negsuc n) (neg_ℤ (pos d)) ∙ neg-mul (pos d) (negsuc n) ∙ ap neg_ℤ (*ℤ_comm (pos d) (negsuc n)) ∙ neg_ℤ-neg_ℤ (pos (suc n * d))
+    ∙ ap pos (mul_comm (suc n) d))
     ∙ lowest-one (d * suc n) (mul-pos h (omega arith))
 
 pub inverted-none : (a : Exp) → Lowest a → inverted a ≡ none → a ≡ nought

@@ -49,7 +49,8 @@ records-few (k ∷ a ∷ b ∷ c ∷ ws) rs e = go (records ws) refl (records-fe
     go : (o : Option (List Rec)) → records ws ≡ o → ((qs : List Rec) → records ws ≡ some qs → length qs * 4 ≤ length ws)
         → length rs * 4 ≤ length (k ∷ a ∷ b ∷ c ∷ ws)
     go none i r = let z : none ≡ some rs = rw (i, records) at e in absurd (some≢none (sym z))
-    go (some qs) i r = let z : some (rec k a b c ∷ qs) ≡ some rs = rw (i, records) at e in let y : rec k a b c ∷ qs ≡ rs = cc in rw (sym y) (omega (arith, r qs i))
+    go (some qs) i r = let z : some (rec k a b c ∷ qs) ≡ some rs = rw (i, records) at e in let y : rec k a b c ∷ qs ≡ rs = cc
+        in rw (sym y) (omega (arith, r qs i))
 
 pub read-few : {A : Type 0} (r : Reader A) (n : ℕ) (rs : List Rec) (as' : List A) → read_all r n rs ≡ some as' → length as' ≤ n
 unfolding read_all
@@ -61,7 +62,8 @@ read-few {A} r (suc n) (x ∷ xs) as' e = go (r (x ∷ xs)) refl (read-few r n)
     more : (v : A × List Rec) → r (x ∷ xs) ≡ some v → ((qs : List Rec) (bs : List A) → read_all r n qs ≡ some bs → length bs ≤ n)
         → (p : Option (List A)) → read_all r n v.1 ≡ p → length as' ≤ suc n
     more v i again none j = let z : none ≡ some as' = rw (i, read_all, j) at e in absurd (some≢none (sym z))
-    more v i again (some bs) j = let z : some (v.0 ∷ bs) ≡ some as' = rw (i, read_all, j) at e in let y : v.0 ∷ bs ≡ as' = cc in rw (sym y) (omega (arith, again v.1 bs j))
+    more v i again (some bs) j = let z : some (v.0 ∷ bs) ≡ some as' = rw (i, read_all, j) at e in let y : v.0 ∷ bs ≡ as' = cc
+        in rw (sym y) (omega (arith, again v.1 bs j))
 
     go : (o : Option (A × List Rec)) → r (x ∷ xs) ≡ o → ((qs : List Rec) (bs : List A) → read_all r n qs ≡ some bs → length bs ≤ n) → length as' ≤ suc n
     go none i again = let z : none ≡ some as' = rw (i, read_all) at e in absurd (some≢none (sym z))

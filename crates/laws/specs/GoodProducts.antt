@@ -99,7 +99,8 @@ module _ {N : Type 0} (ν : Names N) (law : Lawful (orderAtom ν)) (held : N →
 
   -- ══ The bounded steps ══
 
-  adds : (a b : Atom N) (e d s : Exp) → GoodFactor ν held q (a ↑ e) → GoodFactor ν held q (b ↑ d) → sum bounded e d ≡ got s → isZero s ≡ false → GoodFactor ν held q (a ↑ s)
+  adds : (a b : Atom N) (e d s : Exp) → GoodFactor ν held q (a ↑ e) → GoodFactor ν held q (b ↑ d) → sum bounded e d ≡ got s → isZero s ≡ false
+      → GoodFactor ν held q (a ↑ s)
   adds a b e d s h k i z = (h.0, is-stored s z ((sum-good e d (stored-good e h.1) (stored-good d k.1)).holds s i))
 
   few-left : (r : Product N) → Gives (within bounded (length r) 64 r) (λ s. (s ≡ r) × (length r ≤ 64))
@@ -111,7 +112,8 @@ module _ {N : Type 0} (ν : Names N) (law : Lawful (orderAtom ν)) (held : N →
       next (together (merge-sorted ν law bounded p r g.in_order h.in_order) (merge-each (GoodFactor ν held q) ν bounded adds p r g.each h.each)) (λ s i.
       weaken (few-left s) (λ t j. rw j.0 (record { in_order = i.0.0; each = i.1; few = j.1 })))
 
-  pub multiply_good : (p r : Product N) → goodProduct ν held q p ≡ true → goodProduct ν held q r ≡ true → Gives (multiply ν bounded p r) (λ s. goodProduct ν held q s ≡ true)
+  pub multiply_good : (p r : Product N) → goodProduct ν held q p ≡ true → goodProduct ν held q r ≡ true
+      → Gives (multiply ν bounded p r) (λ s. goodProduct ν held q s ≡ true)
   multiply_good p r h k = weaken (multiply-facts p r (good-product p h) (good-product r k)) product-good
 
   inverse-length : (p : Product N) → length (inverse p) ≡ length p
@@ -124,11 +126,13 @@ module _ {N : Type 0} (ν : Names N) (law : Lawful (orderAtom ν)) (held : N →
       let g = good-product p h in
       product-good (inverse p) (record {
         in_order = inverse-sorted ν law p g.in_order;
-        each = inverse-each (GoodFactor ν held q) (λ a e i. (i.0, is-stored (neg e) (neg-zero e ∙ stored-not-zero e i.1) (neg-good e (stored-good e i.1)))) p g.each;
+        each = inverse-each (GoodFactor ν held q)
+            (λ a e i. (i.0, is-stored (neg e) (neg-zero e ∙ stored-not-zero e i.1) (neg-good e (stored-good e i.1)))) p g.each;
         few = rw (inverse-length p) g.few;
       })
 
-  pub divide-good : (p r : Product N) → goodProduct ν held q p ≡ true → goodProduct ν held q r ≡ true → Gives (divide ν bounded p r) (λ s. goodProduct ν held q s ≡ true)
+  pub divide-good : (p r : Product N) → goodProduct ν held q p ≡ true → goodProduct ν held q r ≡ true
+      → Gives (divide ν bounded p r) (λ s. goodProduct ν held q s ≡ true)
   unfolding divide
   divide-good p r h k = multiply_good p (inverse r) h (inverse-good r k)
 
@@ -144,7 +148,8 @@ module _ {N : Type 0} (ν : Names N) (law : Lawful (orderAtom ν)) (held : N →
           go true z = rw (z, put) (omega arith)
           go false z = rw (z, put) (omega arith)
 
-  pub raise-good : (p : Product N) (k : Exp) → goodProduct ν held q p ≡ true → goodExp k ≡ true → Gives (raise ν bounded p k) (λ s. goodProduct ν held q s ≡ true)
+  pub raise-good : (p : Product N) (k : Exp) → goodProduct ν held q p ≡ true → goodExp k ≡ true
+      → Gives (raise ν bounded p k) (λ s. goodProduct ν held q s ≡ true)
   raise-good p k h l = record {
     holds = λ s e. product-good s (record {
       in_order = (raise-sorted ν law bounded p k g.in_order).holds s e;

@@ -156,13 +156,17 @@ module _ {N : Type 0} (ν : Names N) (law : Lawful (orderAtom ν)) (held : N →
   -- ══ Replacing ══
 
   module _ (look : Look N) (bound : (o : Open N) (t : Ty N) → look o ≡ some t → GoodTy t) where
-    factors-good : (p acc : Product N) → Every (GoodFactor ν held q) p → goodProduct ν held q acc ≡ true → Gives (replaceFactors ν bounded look p acc) (λ r. goodProduct ν held q r ≡ true)
+    factors-good : (p acc : Product N) → Every (GoodFactor ν held q) p → goodProduct ν held q acc ≡ true
+        → Gives (replaceFactors ν bounded look p acc) (λ r. goodProduct ν held q r ≡ true)
     unfolding replaceFactors
     factors-good [] acc h k = gives k
     factors-good (base n ↑ e ∷ p) acc h k = factors-good p acc h.1 k
     factors-good (free o ↑ e ∷ p) acc h k = go (look o) refl (λ acc' i. factors-good p acc' h.1 i)
       where
-        go : (t : Option (Ty N)) → look o ≡ t → ((acc' : Product N) → goodProduct ν held q acc' ≡ true → Gives (replaceFactors ν bounded look p acc') (λ r. goodProduct ν held q r ≡ true)) → Gives (replaceFactors ν bounded look (free o ↑ e ∷ p) acc) (λ r. goodProduct ν held q r ≡ true)
+        go : (t : Option (Ty N)) → look o ≡ t
+            → ((acc' : Product N) → goodProduct ν held q acc' ≡ true
+            → Gives (replaceFactors ν bounded look p acc') (λ r. goodProduct ν held q r ≡ true))
+            → Gives (replaceFactors ν bounded look (free o ↑ e ∷ p) acc) (λ r. goodProduct ν held q r ≡ true)
         go none i r = rw (i, replaceFactors) (r acc k)
         go (some t) i r =
             rw (i, replaceFactors)
@@ -194,18 +198,26 @@ module _ {N : Type 0} (ν : Names N) (law : Lawful (orderAtom ν)) (held : N →
       ty_kept (opened o) h = gives (or-else-good o (opened o) h)
       ty_kept (basic b) h = gives refl
       ty_kept (dim p) h = dim-kept (single p) p h
-      ty_kept (fn ps r) h = next (tys_kept ps (and_left (goodTys ν held q ps) _ h)) (λ ps' i. next (ty_kept r (and_right (goodTys ν held q ps) _ h)) (λ r' j. gives (and_both i j)))
+      ty_kept (fn ps r) h = next (tys_kept ps (and_left (goodTys ν held q ps) _ h))
+          (λ ps' i. next (ty_kept r (and_right (goodTys ν held q ps) _ h)) (λ r' j. gives (and_both i j)))
       ty_kept (struct n as' fs) h =
-          next (tys_kept as' (and_right (held n) _ (and_left (held n && goodTys ν held q as') _ (and_left (held n && goodTys ν held q as' && goodFields ν held q fs) _ h)))) (λ as'' i.
-          next (fields-kept fs (and_right (held n && goodTys ν held q as') _ (and_left (held n && goodTys ν held q as' && goodFields ν held q fs) _ h))) (λ fs' j.
-          gives (and_both (and_both (and_both (and_left (held n) _ (and_left (held n && goodTys ν held q as') _ (and_left (held n && goodTys ν held q as' && goodFields ν held q fs) _ h))) i) j.0) (rw j.1 (and_right (held n && goodTys ν held q as' && goodFields ν held q fs) _ h)))))
+          next (tys_kept as' (and_right (held n) _
+          (and_left (held n && goodTys ν held q as') _ (and_left (held n && goodTys ν held q as' && goodFields ν held q fs) _ h)))) (λ as'' i.
+          next (fields-kept fs (and_right (held n && goodTys ν held q as') _
+          (and_left (held n && goodTys ν held q as' && goodFields ν held q fs) _ h))) (λ fs' j.
+          gives (and_both (and_both (and_both
+          (and_left (held n) _ (and_left (held n && goodTys ν held q as') _
+          (and_left (held n && goodTys ν held q as' && goodFields ν held q fs) _ h))) i) j.0)
+          (rw j.1 (and_right (held n && goodTys ν held q as' && goodFields ν held q fs) _ h)))))
       ty_kept (list t) h = next (ty_kept t h) (λ u i. gives i)
 
       pub tys_kept : (ts : Tys N) → goodTys ν held q ts ≡ true → Gives (replaceTys ν bounded look ts) (λ us. goodTys ν held q us ≡ true)
       tys_kept nil h = gives refl
-      tys_kept (cons t ts) h = next (ty_kept t (and_left (goodTy ν held q t) _ h)) (λ u i. next (tys_kept ts (and_right (goodTy ν held q t) _ h)) (λ us j. gives (and_both i j)))
+      tys_kept (cons t ts) h = next (ty_kept t (and_left (goodTy ν held q t) _ h))
+          (λ u i. next (tys_kept ts (and_right (goodTy ν held q t) _ h)) (λ us j. gives (and_both i j)))
 
-      pub fields-kept : (fs : Fields N) → goodFields ν held q fs ≡ true → Gives (replaceFields ν bounded look fs) (λ gs. (goodFields ν held q gs ≡ true) × (fieldNames gs ≡ fieldNames fs))
+      pub fields-kept : (fs : Fields N) → goodFields ν held q fs ≡ true
+          → Gives (replaceFields ν bounded look fs) (λ gs. (goodFields ν held q gs ≡ true) × (fieldNames gs ≡ fieldNames fs))
       fields-kept noFields h = gives (refl, refl)
       fields-kept (field n t fs) h =
           next (ty_kept t (and_right (held n) _ (and_left (held n && goodTy ν held q t) _ h))) (λ u i.
@@ -214,7 +226,8 @@ module _ {N : Type 0} (ν : Names N) (law : Lawful (orderAtom ν)) (held : N →
 
     pub con-kept : (c : Con N) → GoodCon c → Gives (replaceCon ν bounded look c) GoodCon
     unfolding replaceCon goodCon
-    con-kept (equal s t) h = next (ty_kept s (and_left (goodTy ν held q s) _ h)) (λ s' i. next (ty_kept t (and_right (goodTy ν held q s) _ h)) (λ t' j. gives (and_both i j)))
+    con-kept (equal s t) h = next (ty_kept s (and_left (goodTy ν held q s) _ h))
+        (λ s' i. next (ty_kept t (and_right (goodTy ν held q s) _ h)) (λ t' j. gives (and_both i j)))
     con-kept (isDim t) h = next (ty_kept t h) (λ t' i. gives i)
     con-kept (is_scalar p) h = next (product-kept p h) (λ r i. gives i)
     con-kept (hasField n s t) h =
@@ -230,11 +243,20 @@ module _ {N : Type 0} (ν : Names N) (law : Lawful (orderAtom ν)) (held : N →
 
   -- 'the other factors with -j/k for each power j'
   module _ (k : Exp) (h : goodStored k ≡ true) where
-    other-good : (a : Atom N) (j : Exp) → GoodFactor ν held q (a ↑ j) → Gives (otherSide bounded k (a ↑ j)) (λ f. (e : Exp) × (f ≡ a ↑ e) × GoodFactor ν held q (a ↑ e))
+    other-good : (a : Atom N) (j : Exp) → GoodFactor ν held q (a ↑ j)
+        → Gives (otherSide bounded k (a ↑ j)) (λ f. (e : Exp) × (f ≡ a ↑ e) × GoodFactor ν held q (a ↑ e))
     unfolding otherSide
     other-good a j g =
         next (together (quotient-good (neg j) k (neg-good j (stored-good j g.1)) (stored-good k h)) (its_own (quotient bounded (neg j) k))) (λ s i.
-        gives (s, refl, (g.0, is-stored s (quotient-not-zero j k s (good-lowest j (stored-good j g.1)) (good-lowest k (stored-good k h)) (stored-not-zero j g.1) i.1) i.0)))
+        gives (
+          s,
+          refl,
+          (
+            g.0,
+            is-stored s
+                (quotient-not-zero j k s (good-lowest j (stored-good j g.1)) (good-lowest k (stored-good k h)) (stored-not-zero j g.1) i.1) i.0,
+          ),
+        ))
 
     -- good factors of the same atoms
     abbrev Alongside : Product N → Product N → Type 0
@@ -247,7 +269,8 @@ module _ {N : Type 0} (ν : Names N) (law : Lawful (orderAtom ν)) (held : N →
         next (other-good a j g.0) (λ f i. next (others-good p g.1) (λ r m.
         gives (rw i.1 ((i.2, m.0), ap (a ∷◌) m.1))))
 
-    pub other-side-good : (a : Atom N) (p : Product N) → goodProduct ν held q (a ↑ k ∷ p) ≡ true → Gives (each (otherSide bounded k) p) (λ r. goodProduct ν held q r ≡ true)
+    pub other-side-good : (a : Atom N) (p : Product N) → goodProduct ν held q (a ↑ k ∷ p) ≡ true
+        → Gives (each (otherSide bounded k) p) (λ r. goodProduct ν held q r ≡ true)
     other-side-good a p g =
         let f = good-product ν law held q (a ↑ k ∷ p) g in
         weaken (others-good p f.each.1) (λ r i. product-good ν law held q r (record {
@@ -279,7 +302,8 @@ module _ {N : Type 0} (ν : Names N) (law : Lawful (orderAtom ν)) (held : N →
   field-good n (field m t fs) u h e = go (is_yes (ν.same n m)) refl (field-good n fs u (and_right (held m && goodTy ν held q t) _ h))
     where
       go : (b : Bool) → is_yes (ν.same n m) ≡ b → (fieldIn ν n fs ≡ some u → GoodTy u) → GoodTy u
-      go true i r = let z : some t ≡ some u = rw (i, fieldIn) at e in let y : t ≡ u = cc in rw (sym y) (and_right (held m) _ (and_left (held m && goodTy ν held q t) _ h))
+      go true i r = let z : some t ≡ some u = rw (i, fieldIn) at e in let y : t ≡ u = cc
+          in rw (sym y) (and_right (held m) _ (and_left (held m && goodTy ν held q t) _ h))
       go false i r = r (rw (i, fieldIn) at e)
 
   pub record GoodBind (x : N) (t : Ty N) : Type 0 where
@@ -289,8 +313,10 @@ module _ {N : Type 0} (ν : Names N) (law : Lawful (orderAtom ν)) (held : N →
   -- the two sides of a well formed equality
   pub sides-good : (c : Con N) (s t : Ty N) → Sides c s t → GoodCon c → GoodTy s × GoodTy t
   unfolding goodCon
-  sides-good c s t (inl e) h = let g : (goodTy ν held q s && goodTy ν held q t) ≡ true = rw e at h in (and_left (goodTy ν held q s) _ g, and_right (goodTy ν held q s) _ g)
-  sides-good c s t (inr e) h = let g : (goodTy ν held q t && goodTy ν held q s) ≡ true = rw e at h in (and_right (goodTy ν held q t) _ g, and_left (goodTy ν held q t) _ g)
+  sides-good c s t (inl e) h = let g : (goodTy ν held q s && goodTy ν held q t) ≡ true = rw e at h
+      in (and_left (goodTy ν held q s) _ g, and_right (goodTy ν held q s) _ g)
+  sides-good c s t (inr e) h = let g : (goodTy ν held q t && goodTy ν held q s) ≡ true = rw e at h
+      in (and_right (goodTy ν held q t) _ g, and_left (goodTy ν held q t) _ g)
 
   -- what a rule puts in, or binds, is well formed
   pub rule-good : (c : Con N) (s : Step N) → Rule ν bounded c s → GoodCon c → After (All GoodCon) GoodBind s
@@ -300,14 +326,16 @@ module _ {N : Type 0} (ν : Names N) (law : Lawful (orderAtom ν)) (held : N →
   rule-good c s (binds x side t i r n e) h = let g = sides-good c side t i h in rw e (record { name = reads_held x side r g.0; type = g.1 })
   rule-good c s (two-functions ps qs r r' n i e) h =
       let g = sides-good c (fn ps r) (fn qs r') (inl i) h in
-      rw e (all_cons GoodCon (and_both (and_right (goodTys ν held q ps) _ g.0) (and_right (goodTys ν held q qs) _ g.1)) (pairs-good ps qs (and_left (goodTys ν held q ps) _ g.0) (and_left (goodTys ν held q qs) _ g.1)))
+      rw e (all_cons GoodCon (and_both (and_right (goodTys ν held q ps) _ g.0) (and_right (goodTys ν held q qs) _ g.1))
+      (pairs-good ps qs (and_left (goodTys ν held q ps) _ g.0) (and_left (goodTys ν held q qs) _ g.1)))
   rule-good c s (two-lists t u i e) h = let g = sides-good c (list t) (list u) (inl i) h in rw e (all_cons GoodCon (and_both g.0 g.1) (all_nil GoodCon))
   rule-good c s (two-structs n as' bs fs gs k i e) h =
       let g = sides-good c (struct n as' fs) (struct n bs gs) (inl i) h in
       rw e (pairs-good as' bs (arguments-good n as' fs g.0) (arguments-good n bs gs g.1))
     where
       arguments-good : (n : N) (ts : Tys N) (fs : Fields N) → GoodTy (struct n ts fs) → goodTys ν held q ts ≡ true
-      arguments-good n ts fs h = and_right (held n) _ (and_left (held n && goodTys ν held q ts) _ (and_left (held n && goodTys ν held q ts && goodFields ν held q fs) _ h))
+      arguments-good n ts fs h = and_right (held n) _
+          (and_left (held n && goodTys ν held q ts) _ (and_left (held n && goodTys ν held q ts && goodFields ν held q fs) _ h))
   rule-good c s (as-product x d i m e) h =
       let g = sides-good c (opened (var x)) (dim d) i h in
       rw e (all_cons GoodCon (and_both (just-good (var x) g.0) g.1) (all_nil GoodCon))
@@ -329,4 +357,6 @@ module _ {N : Type 0} (ν : Names N) (law : Lawful (orderAtom ν)) (held : N →
   rule-good c s (closed-struct n m as' fs t u o f i e) h =
       let g : (held n && goodTy ν held q (struct m as' fs) && goodTy ν held q t) ≡ true = rw i at h in
       let k = and_right (held n) _ (and_left (held n && goodTy ν held q (struct m as' fs)) _ g) in
-      rw e (all_cons GoodCon (and_both (field-good n fs u (and_right (held m && goodTys ν held q as') _ (and_left (held m && goodTys ν held q as' && goodFields ν held q fs) _ k)) f) (and_right (held n && goodTy ν held q (struct m as' fs)) _ g)) (all_nil GoodCon))
+      rw e (all_cons GoodCon (and_both (field-good n fs u
+      (and_right (held m && goodTys ν held q as') _ (and_left (held m && goodTys ν held q as' && goodFields ν held q fs) _ k)) f)
+      (and_right (held n && goodTy ν held q (struct m as' fs)) _ g)) (all_nil GoodCon))

@@ -69,33 +69,39 @@ module _ {N : Type 0} (ν : Names N) (held : N → Bool) (q : ℕ) where
     ty-known (basic b) h = tt
     ty-known (dim p) h = product-known p h
     ty-known (fn ps r) h =
-        every_append Known (opensTys ps) (opens r) (tys-known ps (and_left (goodTys ν held q ps) (goodTy ν held q r) h)) (ty-known r (and_right (goodTys ν held q ps) (goodTy ν held q r) h))
+        every_append Known (opensTys ps) (opens r) (tys-known ps (and_left (goodTys ν held q ps) (goodTy ν held q r) h))
+        (ty-known r (and_right (goodTys ν held q ps) (goodTy ν held q r) h))
     ty-known (struct n as' fs) h =
         let a = goodTys ν held q as' in
         let f = goodFields ν held q fs in
         let k = and_left (held n && a && f) (rising ν.order (fieldNames fs)) h in
-        every_append Known (opensTys as') (opensFields fs) (tys-known as' (and_right (held n) a (and_left (held n && a) f k))) (fields-known fs (and_right (held n && a) f k))
+        every_append Known (opensTys as') (opensFields fs) (tys-known as' (and_right (held n) a (and_left (held n && a) f k)))
+        (fields-known fs (and_right (held n && a) f k))
     ty-known (list t) h = ty-known t h
 
     tys-known : (ts : Tys N) → goodTys ν held q ts ≡ true → Every Known (opensTys ts)
     tys-known nil h = tt
     tys-known (cons t ts) h =
-        every_append Known (opens t) (opensTys ts) (ty-known t (and_left (goodTy ν held q t) (goodTys ν held q ts) h)) (tys-known ts (and_right (goodTy ν held q t) (goodTys ν held q ts) h))
+        every_append Known (opens t) (opensTys ts) (ty-known t (and_left (goodTy ν held q t) (goodTys ν held q ts) h))
+        (tys-known ts (and_right (goodTy ν held q t) (goodTys ν held q ts) h))
 
     fields-known : (fs : Fields N) → goodFields ν held q fs ≡ true → Every Known (opensFields fs)
     fields-known noFields h = tt
     fields-known (field n t fs) h =
         let k = and_left (held n && goodTy ν held q t) (goodFields ν held q fs) h in
-        every_append Known (opens t) (opensFields fs) (ty-known t (and_right (held n) (goodTy ν held q t) k)) (fields-known fs (and_right (held n && goodTy ν held q t) (goodFields ν held q fs) h))
+        every_append Known (opens t) (opensFields fs) (ty-known t (and_right (held n) (goodTy ν held q t) k))
+        (fields-known fs (and_right (held n && goodTy ν held q t) (goodFields ν held q fs) h))
 
   pub con-known : (c : Con N) → goodCon ν held q c ≡ true → Every Known (opensCon c)
   unfolding goodCon opensCon
-  con-known (equal l r) h = every_append Known (opens l) (opens r) (ty-known l (and_left (goodTy ν held q l) (goodTy ν held q r) h)) (ty-known r (and_right (goodTy ν held q l) (goodTy ν held q r) h))
+  con-known (equal l r) h = every_append Known (opens l) (opens r) (ty-known l (and_left (goodTy ν held q l) (goodTy ν held q r) h))
+      (ty-known r (and_right (goodTy ν held q l) (goodTy ν held q r) h))
   con-known (isDim t) h = ty-known t h
   con-known (is_scalar p) h = product-known p h
   con-known (hasField n l r) h =
       let k = and_left (held n && goodTy ν held q l) (goodTy ν held q r) h in
-      every_append Known (opens l) (opens r) (ty-known l (and_right (held n) (goodTy ν held q l) k)) (ty-known r (and_right (held n && goodTy ν held q l) (goodTy ν held q r) h))
+      every_append Known (opens l) (opens r) (ty-known l (and_right (held n) (goodTy ν held q l) k))
+      (ty-known r (and_right (held n && goodTy ν held q l) (goodTy ν held q r) h))
 
   pub binding-known : (b : Binding N) → goodBinding ν held q b ≡ true → Every Known (opensBinding b)
   unfolding goodBinding opensBinding goodOpen
@@ -105,4 +111,5 @@ module _ {N : Type 0} (ν : Names N) (held : N → Bool) (q : ℕ) where
   unfolding all collect
   set_known [] h = tt
   set_known (c ∷ cs) h =
-      every_append Known (opensCon c) (collect opensCon cs) (con-known c (and_left (goodCon ν held q c) (all (goodCon ν held q) cs) h)) (set_known cs (and_right (goodCon ν held q c) (all (goodCon ν held q) cs) h))
+      every_append Known (opensCon c) (collect opensCon cs) (con-known c (and_left (goodCon ν held q c) (all (goodCon ν held q) cs) h))
+      (set_known cs (and_right (goodCon ν held q c) (all (goodCon ν held q) cs) h))

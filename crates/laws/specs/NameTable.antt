@@ -224,7 +224,8 @@ module _ {pool table : List ℕ} (laid : Laid pool table) where
       cut-drop 0 (endsOf table) (take 8192 pool) k
       ∙ ap (λ (s : ℕ). cut s (drop k (endsOf table)) (take 8192 pool)) (start_is table laid.words laid.few k h)
 
-  pub names-step : (k : ℕ) → k < get_or table 0 0 → drop k (names_of (table_of pool table)) ≡ part_of pool table k ∷ drop (suc k) (names_of (table_of pool table))
+  pub names-step : (k : ℕ) → k < get_or table 0 0
+      → drop k (names_of (table_of pool table)) ≡ part_of pool table k ∷ drop (suc k) (names_of (table_of pool table))
   unfolding cut
   names-step k h =
       let p = placed k h in
@@ -286,7 +287,8 @@ pub record Good (pool table : List ℕ) : Type 0 where
   pub good : tableGood (table_of pool table) ≡ true
 
 -- the test, in its three parts
-pub good-is : (pool table : List ℕ) → tableGood (table_of pool table) ≡ (leb (get_or table 0 0) 256 && lengthsGood 0 (endsOf table) && distinct (names_of (table_of pool table)))
+pub good-is : (pool table : List ℕ) → tableGood (table_of pool table)
+    ≡ (leb (get_or table 0 0) 256 && lengthsGood 0 (endsOf table) && distinct (names_of (table_of pool table)))
 unfolding tableGood table_of endsOf
 good-is pool table = refl
 
@@ -318,7 +320,8 @@ unfolding any number_of
 search-any i n [] = refl
 search-any i n (m ∷ ms) = go (sameBytes n m) refl (search-any (suc i) n ms)
   where
-    go : (b : Bool) → sameBytes n m ≡ b → any (sameBytes n) ms ≡ not (is_none (number_of (suc i) n ms)) → sameBytes n m || any (sameBytes n) ms ≡ not (is_none (number_of i n (m ∷ ms)))
+    go : (b : Bool) → sameBytes n m ≡ b → any (sameBytes n) ms ≡ not (is_none (number_of (suc i) n ms))
+        → sameBytes n m || any (sameBytes n) ms ≡ not (is_none (number_of i n (m ∷ ms)))
     go true e r = rw (e, number_of)
     go false e r = rw (e, number_of) r
 
@@ -389,7 +392,8 @@ module _ {pool table : List ℕ} where
       let k : rest ≡ got n = next-passed rest n (tableGiven pool table) h in
       record {
         good = given-good (first-passed rest n (tableGiven pool table) h);
-        held = ltb-true i (get_or table 0 0) (need-passed _ 3 (first-passed (got (get_or (names_of (table_of pool table)) i [])) n (need (ltb i (get_or table 0 0)) 3) k));
+        held = ltb-true i (get_or table 0 0)
+            (need-passed _ 3 (first-passed (got (get_or (names_of (table_of pool table)) i [])) n (need (ltb i (get_or table 0 0)) 3) k));
         name = cc (next-passed (got (get_or (names_of (table_of pool table)) i [])) n (need (ltb i (get_or table 0 0)) 3) k);
       }
 

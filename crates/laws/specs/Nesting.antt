@@ -188,7 +188,8 @@ module _ {N : Type 0} (ν : Names N) (l : Limits) (look : Look N) (k : ℕ) (low
   unfolding replaceBinding depthBinding
   binding-deep (x ≔ t) = next (ty-deep t) (λ u i. gives (omega arith))
 
-each-deep : {A : Type 0} (f : A → Got A) (deep : A → ℕ) (k : ℕ) → ((a : A) → Gives (f a) (λ b. deep b ≤ deep a + k)) → (xs : List A) → Gives (each f xs) (λ ys. max_of deep ys ≤ max_of deep xs + k)
+each-deep : {A : Type 0} (f : A → Got A) (deep : A → ℕ) (k : ℕ) → ((a : A) → Gives (f a) (λ b. deep b ≤ deep a + k)) → (xs : List A)
+    → Gives (each f xs) (λ ys. max_of deep ys ≤ max_of deep xs + k)
 unfolding each
 each-deep f deep k h [] = gives (omega arith)
 each-deep f deep k h (x ∷ xs) = next (h x) (λ y i. next (each-deep f deep k h xs) (λ ys j. gives (omega arith)))
@@ -208,7 +209,8 @@ module _ {N : Type 0} (ν : Names N) (l : Limits) (x : N) (t : Ty N) (k : ℕ) (
   pub cons-deep : (cs : List (Con N)) → Gives (each (replaceCon ν l (bindings ν (x ≔ t ∷ []))) cs) (λ ds. max_of depthCon ds ≤ max_of depthCon cs + k)
   cons-deep cs = each-deep (replaceCon ν l (bindings ν (x ≔ t ∷ []))) depthCon k (con-deep ν l (bindings ν (x ≔ t ∷ [])) k found-deep) cs
 
-  pub bindings-deep : (bs : List (Binding N)) → Gives (each (replaceBinding ν l (bindings ν (x ≔ t ∷ []))) bs) (λ cs. max_of depthBinding cs ≤ max_of depthBinding bs + k)
+  pub bindings-deep : (bs : List (Binding N))
+      → Gives (each (replaceBinding ν l (bindings ν (x ≔ t ∷ []))) bs) (λ cs. max_of depthBinding cs ≤ max_of depthBinding bs + k)
   bindings-deep bs = each-deep (replaceBinding ν l (bindings ν (x ≔ t ∷ []))) depthBinding k (binding-deep ν l (bindings ν (x ≔ t ∷ [])) k found-deep) bs
 
 -- ══ A round ══
@@ -242,11 +244,13 @@ module _ {N : Type 0} (ν : Names N) (l : Limits) (s : State N) (flat : depthSta
   split-counted new rest e =
       let f = found ν l s.cons (split new, rest) e in
       let k = con-flat f.con f.given in
-      let w = every-as {P = λ c. depthCon c ≤ depthCon f.con} {Q = λ c. depthCon c ≤ 64} (λ c h. omega (arith, h, k)) new (step-within ν l f.con (split new) f.tried) in
+      let w = every-as {P = λ c. depthCon c ≤ depthCon f.con} {Q = λ c. depthCon c ≤ 64} (λ c h. omega (arith, h, k)) new
+      (step-within ν l f.con (split new) f.tried) in
       let d = most depthCon (rest ++ new) 64 (every_append (λ c. depthCon c ≤ 64) rest new (rest-flat rest f.kept) w) in
       counted l (record { cons = rest ++ new; binds = s.binds }) (omega (arith, flat, d))
 
-  pub done-counted : (rest : List (Con N)) → firstStep ν l s.cons ≡ got (some (done, rest)) → perform ν l s.binds done rest ≡ counting l (record { cons = rest; binds = s.binds })
+  pub done-counted : (rest : List (Con N)) → firstStep ν l s.cons ≡ got (some (done, rest))
+      → perform ν l s.binds done rest ≡ counting l (record { cons = rest; binds = s.binds })
   unfolding perform depthState
   done-counted rest e =
       let f = found ν l s.cons (done, rest) e in
@@ -255,13 +259,19 @@ module _ {N : Type 0} (ν : Names N) (l : Limits) (s : State N) (flat : depthSta
 
   -- and after a binding to a type nested 1 deep: a variable, a parameter, a basic type, a dimension
   pub bound-counted : (x : N) (t : Ty N) (rest : List (Con N)) → depth t ≤ 1 → firstStep ν l s.cons ≡ got (some (bind x t, rest))
-      → perform ν l s.binds (bind x t) rest ≡ (each (replaceCon ν l (bindings ν (x ≔ t ∷ []))) rest >>= λ cs. each (replaceBinding ν l (bindings ν (x ≔ t ∷ []))) s.binds >>= λ bs. counting l (record { cons = cs; binds = bs ++ (x ≔ t ∷ []) }))
+      → perform ν l s.binds (bind x t) rest
+      ≡ (each (replaceCon ν l (bindings ν (x ≔ t ∷ []))) rest >>= λ cs. each (replaceBinding ν l (bindings ν (x ≔ t ∷ []))) s.binds
+      >>= λ bs. counting l (record { cons = cs; binds = bs ++ (x ≔ t ∷ []) }))
   unfolding perform depthState depthBinding
   bound-counted x t rest low e =
       let f = found ν l s.cons (bind x t, rest) e in
       let r = most depthCon rest 64 (rest-flat rest f.kept) in
-      same-given (each (replaceCon ν l (bindings ν (x ≔ t ∷ []))) rest) (λ cs. each (replaceBinding ν l (bindings ν (x ≔ t ∷ []))) s.binds >>= λ bs. limited l (record { cons = cs; binds = bs ++ (x ≔ t ∷ []) })) (λ cs. each (replaceBinding ν l (bindings ν (x ≔ t ∷ []))) s.binds >>= λ bs. counting l (record { cons = cs; binds = bs ++ (x ≔ t ∷ []) })) (λ cs i.
-      same-given (each (replaceBinding ν l (bindings ν (x ≔ t ∷ []))) s.binds) (λ bs. limited l (record { cons = cs; binds = bs ++ (x ≔ t ∷ []) })) (λ bs. counting l (record { cons = cs; binds = bs ++ (x ≔ t ∷ []) })) (λ bs j.
+      same-given (each (replaceCon ν l (bindings ν (x ≔ t ∷ []))) rest)
+      (λ cs. each (replaceBinding ν l (bindings ν (x ≔ t ∷ []))) s.binds >>= λ bs. limited l (record { cons = cs; binds = bs ++ (x ≔ t ∷ []) }))
+      (λ cs. each (replaceBinding ν l (bindings ν (x ≔ t ∷ []))) s.binds >>= λ bs. counting l (record { cons = cs; binds = bs ++ (x ≔ t ∷ []) }))
+      (λ cs i.
+      same-given (each (replaceBinding ν l (bindings ν (x ≔ t ∷ []))) s.binds) (λ bs. limited l (record { cons = cs; binds = bs ++ (x ≔ t ∷ []) }))
+      (λ bs. counting l (record { cons = cs; binds = bs ++ (x ≔ t ∷ []) })) (λ bs j.
       let u = (cons-deep ν l x t 0 low rest).holds cs i in
       let v = (bindings-deep ν l x t 0 low s.binds).holds bs j in
       let w = max_both depthBinding bs (x ≔ t ∷ []) in

@@ -116,10 +116,12 @@ module _ {N : Type 0} (P : Open N → Type 0) where
     inverse-on p h = inverse-each OnFactor (λ a e x. same-atom a e (neg e) x) p h
 
     -- a product that was put in has the atoms of what was put in
-    pub valued-on : (v : Atom N → Product N) (p : Product N) → ((n : N) → Every OnFactor (v (base n))) → ((o : Open N) → Memᴰ o (collect openOfFactor p) → Every OnFactor (v (free o))) → Every OnFactor (valued ν v p)
+    pub valued-on : (v : Atom N → Product N) (p : Product N) → ((n : N) → Every OnFactor (v (base n)))
+        → ((o : Open N) → Memᴰ o (collect openOfFactor p) → Every OnFactor (v (free o))) → Every OnFactor (valued ν v p)
     unfolding valued collect
     valued-on v [] b h = tt
-    valued-on v (free o ↑ e ∷ p) b h = merge_on (raiseE (v (free o)) e) (valued ν v p) (raise-on (v (free o)) e (h o in_head)) (valued-on v p b (λ u m. h u (Memᴰ.tail m)))
+    valued-on v (free o ↑ e ∷ p) b h = merge_on (raiseE (v (free o)) e) (valued ν v p) (raise-on (v (free o)) e (h o in_head))
+        (valued-on v p b (λ u m. h u (Memᴰ.tail m)))
     valued-on v (base n ↑ e ∷ p) b h = merge_on (raiseE (v (base n)) e) (valued ν v p) (raise-on (v (base n)) e (b n)) (valued-on v p b h)
 
 module _ {N : Type 0} where
@@ -132,7 +134,8 @@ module _ {N : Type 0} where
       let o = one-step (quotient l (neg j) k) (λ s. a ↑ s) t.first t.gave in
       rw (sym t.both, sym o.is) (again a o.value t.second (other-opens l k p t.second t.then))
     where
-      again : (a : Atom N) (s : Exp) (r' : Product N) → collect openOfFactor r' ≡ collect openOfFactor p → openOfFactor (a ↑ s) ++ collect openOfFactor r' ≡ openOfFactor (a ↑ j) ++ collect openOfFactor p
+      again : (a : Atom N) (s : Exp) (r' : Product N) → collect openOfFactor r' ≡ collect openOfFactor p
+          → openOfFactor (a ↑ s) ++ collect openOfFactor r' ≡ openOfFactor (a ↑ j) ++ collect openOfFactor p
       again (free o) s r' i = ap (o ∷◌) i
       again (base n) s r' i = i
 
@@ -156,17 +159,21 @@ module _ {N : Type 0} where
     products-occur (opened u) o m = absurd (Memᴰ.not-nil m)
     products-occur (basic b) o m = m
     products-occur (dim p) o m = m
-    products-occur (fn ps r) o m = append-parts (inProductsTys ps) (opensTys ps) (inProducts r) (opens r) (λ i. products-occur-tys ps o i) (λ i. products-occur r o i) m
-    products-occur (struct n as' fs) o m = append-parts (inProductsTys as') (opensTys as') (inProductsFields fs) (opensFields fs) (λ i. products-occur-tys as' o i) (λ i. products-occur-fields fs o i) m
+    products-occur (fn ps r) o m = append-parts (inProductsTys ps) (opensTys ps) (inProducts r) (opens r) (λ i. products-occur-tys ps o i)
+        (λ i. products-occur r o i) m
+    products-occur (struct n as' fs) o m = append-parts (inProductsTys as') (opensTys as') (inProductsFields fs) (opensFields fs)
+        (λ i. products-occur-tys as' o i) (λ i. products-occur-fields fs o i) m
     products-occur (list t) o m = products-occur t o m
 
     pub products-occur-tys : (ts : Tys N) (o : Open N) → Memᴰ o (inProductsTys ts) → Memᴰ o (opensTys ts)
     products-occur-tys nil o m = m
-    products-occur-tys (cons t ts) o m = append-parts (inProducts t) (opens t) (inProductsTys ts) (opensTys ts) (λ i. products-occur t o i) (λ i. products-occur-tys ts o i) m
+    products-occur-tys (cons t ts) o m = append-parts (inProducts t) (opens t) (inProductsTys ts) (opensTys ts) (λ i. products-occur t o i)
+        (λ i. products-occur-tys ts o i) m
 
     pub products-occur-fields : (fs : Fields N) (o : Open N) → Memᴰ o (inProductsFields fs) → Memᴰ o (opensFields fs)
     products-occur-fields noFields o m = m
-    products-occur-fields (field n t fs) o m = append-parts (inProducts t) (opens t) (inProductsFields fs) (opensFields fs) (λ i. products-occur t o i) (λ i. products-occur-fields fs o i) m
+    products-occur-fields (field n t fs) o m = append-parts (inProducts t) (opens t) (inProductsFields fs) (opensFields fs)
+        (λ i. products-occur t o i) (λ i. products-occur-fields fs o i) m
 
 module _ {N : Type 0} (ν : Names N) where
   -- a field's open names occur in the struct
@@ -180,11 +187,13 @@ module _ {N : Type 0} (ν : Names N) where
       go false i r = Memᴰ.append_right (opens t) (r (rw (i, fieldIn) at e))
 
   -- one binding: a name is the bound variable, or it isn't bound
-  pub one-bound : (x : N) (t : Ty N) (o : Open N) → ((o ≡ var x) × (bindings ν (x ≔ t ∷ []) o ≡ some t)) ⊎ ((o ≡ var x → ⊥) × (bindings ν (x ≔ t ∷ []) o ≡ none))
+  pub one-bound : (x : N) (t : Ty N) (o : Open N)
+      → ((o ≡ var x) × (bindings ν (x ≔ t ∷ []) o ≡ some t)) ⊎ ((o ≡ var x → ⊥) × (bindings ν (x ≔ t ∷ []) o ≡ none))
   unfolding bindings find
   one-bound x t (var y) = go (is_yes (ν.same y x)) refl
     where
-      go : (b : Bool) → is_yes (ν.same y x) ≡ b → ((var y ≡ var x) × (bindings ν (x ≔ t ∷ []) (var y) ≡ some t)) ⊎ ((var y ≡ var x → ⊥) × (bindings ν (x ≔ t ∷ []) (var y) ≡ none))
+      go : (b : Bool) → is_yes (ν.same y x) ≡ b
+          → ((var y ≡ var x) × (bindings ν (x ≔ t ∷ []) (var y) ≡ some t)) ⊎ ((var y ≡ var x → ⊥) × (bindings ν (x ≔ t ∷ []) (var y) ≡ none))
       go true i = inl (ap var (yes-is (ν.same y x) i), rw (i, find))
       go false i = inr (λ e. no-is (ν.same y x) i (cc), rw (i, find))
   one-bound x t (quant i) = inr (λ e. some≢none (ap variable (sym e)), refl)
@@ -199,20 +208,32 @@ module _ {N : Type 0} (ν : Names N) where
 
 module _ {N : Type 0} (ν : Names N) (law : Lawful (orderAtom ν)) (held : N → Bool) (q : ℕ) where
   -- where replacing a product gave a value, all that is bound in it is a dimension
-  pub fits-got : (l : Limits) (look : Look N) → ((o : Open N) (t : Ty N) → look o ≡ some t → GoodTy ν law held q t) → (p acc r : Product N) → replaceFactors ν l look p acc ≡ got r → Fits ν (λ a. goodAtom ν held q a ≡ true) look p
+  pub fits-got : (l : Limits) (look : Look N) → ((o : Open N) (t : Ty N) → look o ≡ some t → GoodTy ν law held q t) → (p acc r : Product N)
+      → replaceFactors ν l look p acc ≡ got r → Fits ν (λ a. goodAtom ν held q a ≡ true) look p
   unfolding replaceFactors
   fits-got l look g [] acc r e = tt
   fits-got l look g (base n ↑ k ∷ p) acc r e = fits-got l look g p acc r e
   fits-got l look g (free o ↑ k ∷ p) acc r e = go (look o) refl (λ acc' i. fits-got l look g p acc' r i)
     where
-      go : (t : Option (Ty N)) → look o ≡ t → ((acc' : Product N) → replaceFactors ν l look p acc' ≡ got r → Fits ν (λ a. goodAtom ν held q a ≡ true) look p) → Fit ν (λ a. goodAtom ν held q a ≡ true) look o × Fits ν (λ a. goodAtom ν held q a ≡ true) look p
+      go : (t : Option (Ty N)) → look o ≡ t
+          → ((acc' : Product N) → replaceFactors ν l look p acc' ≡ got r → Fits ν (λ a. goodAtom ν held q a ≡ true) look p)
+          → Fit ν (λ a. goodAtom ν held q a ≡ true) look o × Fits ν (λ a. goodAtom ν held q a ≡ true) look p
       go none i f = (record { bound = λ t j. absurd (some≢none (sym j ∙ i)) }, f acc (rw (i, replaceFactors) at e))
       go (some t) i f =
           let a = bound-step (asProduct t) _ r (rw (i, replaceFactors) at e) in
           let b = bound-step (divide ν l acc (free o ↑ k ∷ [])) _ r a.2 in
           let c = bound-step (raise ν l a.0 k) _ r b.2 in
-          let d = bound-step (multiply ν l b.0 c.0) _ r c.2 in
-          (record { bound = λ u j. let z : some t ≡ some u = sym i ∙ j in let y : t ≡ u = cc in rw (sym y) (record { product = a.0; is = a.1; proper = good-proper ν law held q a.0 ((dimension-good ν law held q t (g o t i)).holds a.0 a.1) }) }, f d.0 d.2)
+          let d = bound-step (multiply ν l b.0 c.0) _ r c.2 in (
+            record {
+              bound = λ u j. let z : some t ≡ some u = sym i ∙ j in let y : t ≡ u = cc
+                  in rw (sym y) (record {
+                    product = a.0;
+                    is = a.1;
+                    proper = good-proper ν law held q a.0 ((dimension-good ν law held q t (g o t i)).holds a.0 a.1);
+                  });
+            },
+            f d.0 d.2,
+          )
 
 module _ {N : Type 0} (ν : Names N) (Held : Atom N → Type 0) (look : Look N) where
   pub fits-fit : (p : Product N) → Fits ν Held look p → (o : Open N) → Memᴰ o (collect openOfFactor p) → Fit ν Held look o
@@ -233,7 +254,8 @@ module _ {N : Type 0} (ν : Names N) (Held : Atom N → Type 0) (look : Look N) 
 
 -- ══ Replacing one variable ══
 
-module _ {N : Type 0} (ν : Names N) (law : Lawful (orderAtom ν)) (held : N → Bool) (q : ℕ) (tells : Tells (λ a. goodAtom ν held q a ≡ true) (orderAtom ν)) (x : N) (t : Ty N) (tg : GoodTy ν law held q t) where
+module _ {N : Type 0} (ν : Names N) (law : Lawful (orderAtom ν)) (held : N → Bool) (q : ℕ)
+    (tells : Tells (λ a. goodAtom ν held q a ≡ true) (orderAtom ν)) (x : N) (t : Ty N) (tg : GoodTy ν law held q t) where
   abbrev look : Look N
   look = bindings ν (x ≔ t ∷ [])
 
@@ -252,9 +274,12 @@ module _ {N : Type 0} (ν : Names N) (law : Lawful (orderAtom ν)) (held : N →
         let f = one-fits p r e in
         let z : got (valued ν (value_of look) p) ≡ got r = sym (replace-exact ν law tells look p (good-proper ν law held q p g) f) ∙ e in
         let y : valued ν (value_of look) p ≡ r = cc in
-        rw (sym y) (each_opens P (valued ν (value_of look) p) (valued-on P ν (value_of look) p (λ n. (tt, tt)) (λ o m. value o m (one-bound ν x t o) (fits-fit ν (λ a. goodAtom ν held q a ≡ true) look p f o m))))
+        rw (sym y) (each_opens P (valued ν (value_of look) p)
+        (valued-on P ν (value_of look) p (λ n. (tt, tt))
+        (λ o m. value o m (one-bound ν x t o) (fits-fit ν (λ a. goodAtom ν held q a ≡ true) look p f o m))))
       where
-        value : (o : Open N) → Memᴰ o (collect openOfFactor p) → ((o ≡ var x) × (look o ≡ some t)) ⊎ ((o ≡ var x → ⊥) × (look o ≡ none)) → Fit ν (λ a. goodAtom ν held q a ≡ true) look o → Every (OnFactor P) (value_of look (free o))
+        value : (o : Open N) → Memᴰ o (collect openOfFactor p) → ((o ≡ var x) × (look o ≡ some t)) ⊎ ((o ≡ var x → ⊥) × (look o ≡ none))
+            → Fit ν (λ a. goodAtom ν held q a ≡ true) look o → Every (OnFactor P) (value_of look (free o))
         value o m (inl i) f =
             let d = f.bound t i.1 in
             rw (i.1, meantBy, d.is, orSelf) (opens-each P d.product (k d.product d.is (rw i.0 at m)))
@@ -276,11 +301,13 @@ module _ {N : Type 0} (ν : Names N) (law : Lawful (orderAtom ν)) (held : N →
         go (inl i) = let g : All P (opens (dim d)) = rw i at h in g
         go (inr (o, i, j)) = let g : All P (opens (opened o)) = rw i at h in rw j g
 
-    single-on : (p : Product N) (o : Open N) → single p ≡ some o → All (λ u. (u ≡ var x → ⊥) → P u) (collect openOfFactor p) → (o ≡ var x → ⊥) → All P (collect openOfFactor p)
+    single-on : (p : Product N) (o : Open N) → single p ≡ some o → All (λ u. (u ≡ var x → ⊥) → P u) (collect openOfFactor p) → (o ≡ var x → ⊥)
+        → All P (collect openOfFactor p)
     unfolding collect
     single-on p o e h n = let z : p ≡ just o = single-is p o e in rw z (all_cons P (h o (rw z in_head) n) (all_nil P))
 
-    dim-on : (s : Option (Open N)) (p : Product N) (u' : Ty N) → single p ≡ s → goodProduct ν held q p ≡ true → replaceDim ν exact look s p ≡ got u' → All (λ o. (o ≡ var x → ⊥) → P o) (collect openOfFactor p) → All P (opens t) → All P (opens u')
+    dim-on : (s : Option (Open N)) (p : Product N) (u' : Ty N) → single p ≡ s → goodProduct ν held q p ≡ true → replaceDim ν exact look s p ≡ got u'
+        → All (λ o. (o ≡ var x → ⊥) → P o) (collect openOfFactor p) → All P (opens t) → All P (opens u')
     unfolding replaceDim opens
     dim-on (some o) p u' i g e h k = name-on o (dim p) u' (cc) (λ u. All P (opens u)) (single-on p o i h) k
     dim-on none p u' i g e h k =
@@ -300,24 +327,36 @@ module _ {N : Type 0} (ν : Names N) (law : Lawful (orderAtom ν)) (held : N →
       ty-on (dim p) u' g e h k = dim-on (single p) p u' refl g e h k
       ty-on (fn ps r) u' g e h k =
           let s = two_steps (replaceTys ν exact look ps) (λ _. replaceTy ν exact look r) fn u' e in
-          rw (sym s.both) (all_append P (opensTys s.first) (tys-on ps s.first (and_left (goodTys ν held q ps) _ g) s.gave (λ o m. h o (Memᴰ.append_left (opens r) m)) k) (ty-on r s.second (and_right (goodTys ν held q ps) _ g) s.then (λ o m. h o (Memᴰ.append_right (opensTys ps) m)) k))
+          rw (sym s.both) (all_append P (opensTys s.first)
+          (tys-on ps s.first (and_left (goodTys ν held q ps) _ g) s.gave (λ o m. h o (Memᴰ.append_left (opens r) m)) k)
+          (ty-on r s.second (and_right (goodTys ν held q ps) _ g) s.then (λ o m. h o (Memᴰ.append_right (opensTys ps) m)) k))
       ty-on (struct n as' fs) u' g e h k =
           let s = two_steps (replaceTys ν exact look as') (λ _. replaceFields ν exact look fs) (struct n) u' e in
           let ga = and_left (held n && goodTys ν held q as' && goodFields ν held q fs) _ g in
-          rw (sym s.both) (all_append P (opensTys s.first) (tys-on as' s.first (and_right (held n) _ (and_left (held n && goodTys ν held q as') _ ga)) s.gave (λ o m. h o (Memᴰ.append_left (opensFields fs) m)) k) (fields-on fs s.second (and_right (held n && goodTys ν held q as') _ ga) s.then (λ o m. h o (Memᴰ.append_right (opensTys as') m)) k))
+          rw (sym s.both) (all_append P (opensTys s.first)
+          (tys-on as' s.first (and_right (held n) _ (and_left (held n && goodTys ν held q as') _ ga)) s.gave
+          (λ o m. h o (Memᴰ.append_left (opensFields fs) m)) k)
+          (fields-on fs s.second (and_right (held n && goodTys ν held q as') _ ga) s.then (λ o m. h o (Memᴰ.append_right (opensTys as') m)) k))
       ty-on (list u) u' g e h k = let s = one-step (replaceTy ν exact look u) list u' e in rw (sym s.is) (ty-on u s.value g s.gave h k)
 
-      pub tys-on : (us us' : Tys N) → goodTys ν held q us ≡ true → replaceTys ν exact look us ≡ got us' → Stays (opensTys us) → All P (opens t) → All P (opensTys us')
+      pub tys-on : (us us' : Tys N) → goodTys ν held q us ≡ true → replaceTys ν exact look us ≡ got us' → Stays (opensTys us) → All P (opens t)
+          → All P (opensTys us')
       tys-on nil us' g e h k = let z : nil ≡ us' = cc in rw (sym z) (all_nil P)
       tys-on (cons u us) us' g e h k =
           let s = two_steps (replaceTy ν exact look u) (λ _. replaceTys ν exact look us) cons us' e in
-          rw (sym s.both) (all_append P (opens s.first) (ty-on u s.first (and_left (goodTy ν held q u) _ g) s.gave (λ o m. h o (Memᴰ.append_left (opensTys us) m)) k) (tys-on us s.second (and_right (goodTy ν held q u) _ g) s.then (λ o m. h o (Memᴰ.append_right (opens u) m)) k))
+          rw (sym s.both) (all_append P (opens s.first)
+          (ty-on u s.first (and_left (goodTy ν held q u) _ g) s.gave (λ o m. h o (Memᴰ.append_left (opensTys us) m)) k)
+          (tys-on us s.second (and_right (goodTy ν held q u) _ g) s.then (λ o m. h o (Memᴰ.append_right (opens u) m)) k))
 
-      pub fields-on : (fs fs' : Fields N) → goodFields ν held q fs ≡ true → replaceFields ν exact look fs ≡ got fs' → Stays (opensFields fs) → All P (opens t) → All P (opensFields fs')
+      pub fields-on : (fs fs' : Fields N) → goodFields ν held q fs ≡ true → replaceFields ν exact look fs ≡ got fs' → Stays (opensFields fs)
+          → All P (opens t) → All P (opensFields fs')
       fields-on noFields fs' g e h k = let z : noFields ≡ fs' = cc in rw (sym z) (all_nil P)
       fields-on (field n u fs) fs' g e h k =
           let s = two_steps (replaceTy ν exact look u) (λ _. replaceFields ν exact look fs) (field n) fs' e in
-          rw (sym s.both) (all_append P (opens s.first) (ty-on u s.first (and_right (held n) _ (and_left (held n && goodTy ν held q u) _ g)) s.gave (λ o m. h o (Memᴰ.append_left (opensFields fs) m)) k) (fields-on fs s.second (and_right (held n && goodTy ν held q u) _ g) s.then (λ o m. h o (Memᴰ.append_right (opens u) m)) k))
+          rw (sym s.both) (all_append P (opens s.first)
+          (ty-on u s.first (and_right (held n) _ (and_left (held n && goodTy ν held q u) _ g)) s.gave
+          (λ o m. h o (Memᴰ.append_left (opensFields fs) m)) k)
+          (fields-on fs s.second (and_right (held n && goodTy ν held q u) _ g) s.then (λ o m. h o (Memᴰ.append_right (opens u) m)) k))
 
     -- ══ in dimension products ══
 
@@ -325,15 +364,18 @@ module _ {N : Type 0} (ν : Names N) (law : Lawful (orderAtom ν)) (held : N →
     abbrev Enters : List (Open N) → Type 0
     Enters os = (o : Open N) → t ≡ opened o → Memᴰ (var x) os → P o
 
-    scalar-in : (p r : Product N) → goodProduct ν held q p ≡ true → replaceProduct ν exact look p ≡ got r → Stays (collect openOfFactor p) → Enters (collect openOfFactor p) → All P (inProducts t) → All P (collect openOfFactor r)
+    scalar-in : (p r : Product N) → goodProduct ν held q p ≡ true → replaceProduct ν exact look p ≡ got r → Stays (collect openOfFactor p)
+        → Enters (collect openOfFactor p) → All P (inProducts t) → All P (collect openOfFactor r)
     unfolding inProducts collect
     scalar-in p r g e h n k = product-on p r g e h (λ d j m. entered d (as-product-is t d j) m)
       where
-        entered : (d : Product N) → (t ≡ dim d) ⊎ ((o : Open N) × (t ≡ opened o) × (d ≡ just o)) → Memᴰ (var x) (collect openOfFactor p) → All P (collect openOfFactor d)
+        entered : (d : Product N) → (t ≡ dim d) ⊎ ((o : Open N) × (t ≡ opened o) × (d ≡ just o)) → Memᴰ (var x) (collect openOfFactor p)
+            → All P (collect openOfFactor d)
         entered d (inl i) m = let y : All P (inProducts (dim d)) = rw i at k in y
         entered d (inr (o, i, j)) m = rw (j, collect) (all_cons P (n o i m) (all_nil P))
 
-    dim-in : (s : Option (Open N)) (p : Product N) (u' : Ty N) → single p ≡ s → goodProduct ν held q p ≡ true → replaceDim ν exact look s p ≡ got u' → Stays (collect openOfFactor p) → Enters (collect openOfFactor p) → All P (inProducts t) → All P (inProducts u')
+    dim-in : (s : Option (Open N)) (p : Product N) (u' : Ty N) → single p ≡ s → goodProduct ν held q p ≡ true → replaceDim ν exact look s p ≡ got u'
+        → Stays (collect openOfFactor p) → Enters (collect openOfFactor p) → All P (inProducts t) → All P (inProducts u')
     unfolding replaceDim inProducts
     dim-in (some o) p u' i g e h n k = name-on o (dim p) u' (cc) (λ u. All P (inProducts u)) (single-on p o i h) k
     dim-in none p u' i g e h n k =
@@ -343,38 +385,49 @@ module _ {N : Type 0} (ν : Names N) (law : Lawful (orderAtom ν)) (held : N →
     mutual
       unfolding replaceTy inProducts goodTy
 
-      pub ty-in : (u u' : Ty N) → goodTy ν held q u ≡ true → replaceTy ν exact look u ≡ got u' → Stays (inProducts u) → Enters (inProducts u) → All P (inProducts t) → All P (inProducts u')
+      pub ty-in : (u u' : Ty N) → goodTy ν held q u ≡ true → replaceTy ν exact look u ≡ got u' → Stays (inProducts u) → Enters (inProducts u)
+          → All P (inProducts t) → All P (inProducts u')
       ty-in (opened o) u' g e h n k = name-on o (opened o) u' (cc) (λ u. All P (inProducts u)) (λ i. all_nil P) k
       ty-in (basic b) u' g e h n k = let z : basic b ≡ u' = cc in rw (sym z) (all_nil P)
       ty-in (dim p) u' g e h n k = dim-in (single p) p u' refl g e h n k
       ty-in (fn ps r) u' g e h n k =
           let s = two_steps (replaceTys ν exact look ps) (λ _. replaceTy ν exact look r) fn u' e in
           rw (sym s.both) (all_append P (inProductsTys s.first)
-          (tys-in ps s.first (and_left (goodTys ν held q ps) _ g) s.gave (λ o m. h o (Memᴰ.append_left (inProducts r) m)) (λ o i m. n o i (Memᴰ.append_left (inProducts r) m)) k)
-          (ty-in r s.second (and_right (goodTys ν held q ps) _ g) s.then (λ o m. h o (Memᴰ.append_right (inProductsTys ps) m)) (λ o i m. n o i (Memᴰ.append_right (inProductsTys ps) m)) k))
+          (tys-in ps s.first (and_left (goodTys ν held q ps) _ g) s.gave (λ o m. h o (Memᴰ.append_left (inProducts r) m))
+          (λ o i m. n o i (Memᴰ.append_left (inProducts r) m)) k)
+          (ty-in r s.second (and_right (goodTys ν held q ps) _ g) s.then (λ o m. h o (Memᴰ.append_right (inProductsTys ps) m))
+          (λ o i m. n o i (Memᴰ.append_right (inProductsTys ps) m)) k))
       ty-in (struct m as' fs) u' g e h n k =
           let s = two_steps (replaceTys ν exact look as') (λ _. replaceFields ν exact look fs) (struct m) u' e in
           let ga = and_left (held m && goodTys ν held q as' && goodFields ν held q fs) _ g in
           rw (sym s.both) (all_append P (inProductsTys s.first)
-          (tys-in as' s.first (and_right (held m) _ (and_left (held m && goodTys ν held q as') _ ga)) s.gave (λ o i. h o (Memᴰ.append_left (inProductsFields fs) i)) (λ o i j. n o i (Memᴰ.append_left (inProductsFields fs) j)) k)
-          (fields_in fs s.second (and_right (held m && goodTys ν held q as') _ ga) s.then (λ o i. h o (Memᴰ.append_right (inProductsTys as') i)) (λ o i j. n o i (Memᴰ.append_right (inProductsTys as') j)) k))
+          (tys-in as' s.first (and_right (held m) _ (and_left (held m && goodTys ν held q as') _ ga)) s.gave
+          (λ o i. h o (Memᴰ.append_left (inProductsFields fs) i)) (λ o i j. n o i (Memᴰ.append_left (inProductsFields fs) j)) k)
+          (fields_in fs s.second (and_right (held m && goodTys ν held q as') _ ga) s.then (λ o i. h o (Memᴰ.append_right (inProductsTys as') i))
+          (λ o i j. n o i (Memᴰ.append_right (inProductsTys as') j)) k))
       ty-in (list u) u' g e h n k = let s = one-step (replaceTy ν exact look u) list u' e in rw (sym s.is) (ty-in u s.value g s.gave h n k)
 
-      pub tys-in : (us us' : Tys N) → goodTys ν held q us ≡ true → replaceTys ν exact look us ≡ got us' → Stays (inProductsTys us) → Enters (inProductsTys us) → All P (inProducts t) → All P (inProductsTys us')
+      pub tys-in : (us us' : Tys N) → goodTys ν held q us ≡ true → replaceTys ν exact look us ≡ got us' → Stays (inProductsTys us)
+          → Enters (inProductsTys us) → All P (inProducts t) → All P (inProductsTys us')
       tys-in nil us' g e h n k = let z : nil ≡ us' = cc in rw (sym z) (all_nil P)
       tys-in (cons u us) us' g e h n k =
           let s = two_steps (replaceTy ν exact look u) (λ _. replaceTys ν exact look us) cons us' e in
           rw (sym s.both) (all_append P (inProducts s.first)
-          (ty-in u s.first (and_left (goodTy ν held q u) _ g) s.gave (λ o m. h o (Memᴰ.append_left (inProductsTys us) m)) (λ o i m. n o i (Memᴰ.append_left (inProductsTys us) m)) k)
-          (tys-in us s.second (and_right (goodTy ν held q u) _ g) s.then (λ o m. h o (Memᴰ.append_right (inProducts u) m)) (λ o i m. n o i (Memᴰ.append_right (inProducts u) m)) k))
+          (ty-in u s.first (and_left (goodTy ν held q u) _ g) s.gave (λ o m. h o (Memᴰ.append_left (inProductsTys us) m))
+          (λ o i m. n o i (Memᴰ.append_left (inProductsTys us) m)) k)
+          (tys-in us s.second (and_right (goodTy ν held q u) _ g) s.then (λ o m. h o (Memᴰ.append_right (inProducts u) m))
+          (λ o i m. n o i (Memᴰ.append_right (inProducts u) m)) k))
 
-      pub fields_in : (fs fs' : Fields N) → goodFields ν held q fs ≡ true → replaceFields ν exact look fs ≡ got fs' → Stays (inProductsFields fs) → Enters (inProductsFields fs) → All P (inProducts t) → All P (inProductsFields fs')
+      pub fields_in : (fs fs' : Fields N) → goodFields ν held q fs ≡ true → replaceFields ν exact look fs ≡ got fs' → Stays (inProductsFields fs)
+          → Enters (inProductsFields fs) → All P (inProducts t) → All P (inProductsFields fs')
       fields_in noFields fs' g e h n k = let z : noFields ≡ fs' = cc in rw (sym z) (all_nil P)
       fields_in (field m u fs) fs' g e h n k =
           let s = two_steps (replaceTy ν exact look u) (λ _. replaceFields ν exact look fs) (field m) fs' e in
           rw (sym s.both) (all_append P (inProducts s.first)
-          (ty-in u s.first (and_right (held m) _ (and_left (held m && goodTy ν held q u) _ g)) s.gave (λ o i. h o (Memᴰ.append_left (inProductsFields fs) i)) (λ o i j. n o i (Memᴰ.append_left (inProductsFields fs) j)) k)
-          (fields_in fs s.second (and_right (held m && goodTy ν held q u) _ g) s.then (λ o i. h o (Memᴰ.append_right (inProducts u) i)) (λ o i j. n o i (Memᴰ.append_right (inProducts u) j)) k))
+          (ty-in u s.first (and_right (held m) _ (and_left (held m && goodTy ν held q u) _ g)) s.gave
+          (λ o i. h o (Memᴰ.append_left (inProductsFields fs) i)) (λ o i j. n o i (Memᴰ.append_left (inProductsFields fs) j)) k)
+          (fields_in fs s.second (and_right (held m && goodTy ν held q u) _ g) s.then (λ o i. h o (Memᴰ.append_right (inProducts u) i))
+          (λ o i j. n o i (Memᴰ.append_right (inProducts u) j)) k))
 
     -- ══ in constraints ══
 
@@ -382,24 +435,34 @@ module _ {N : Type 0} (ν : Names N) (law : Lawful (orderAtom ν)) (held : N →
     unfolding replaceCon opensCon goodCon opens
     con-on (equal u w) c' g e h k =
         let s = two_steps (replaceTy ν exact look u) (λ _. replaceTy ν exact look w) equal c' e in
-        rw (sym s.both) (all_append P (opens s.first) (ty-on u s.first (and_left (goodTy ν held q u) _ g) s.gave (λ o m. h o (Memᴰ.append_left (opens w) m)) k) (ty-on w s.second (and_right (goodTy ν held q u) _ g) s.then (λ o m. h o (Memᴰ.append_right (opens u) m)) k))
+        rw (sym s.both) (all_append P (opens s.first)
+        (ty-on u s.first (and_left (goodTy ν held q u) _ g) s.gave (λ o m. h o (Memᴰ.append_left (opens w) m)) k)
+        (ty-on w s.second (and_right (goodTy ν held q u) _ g) s.then (λ o m. h o (Memᴰ.append_right (opens u) m)) k))
     con-on (isDim u) c' g e h k = let s = one-step (replaceTy ν exact look u) isDim c' e in rw (sym s.is) (ty-on u s.value g s.gave h k)
-    con-on (is_scalar p) c' g e h k = let s = one-step (replaceProduct ν exact look p) is_scalar c' e in rw (sym s.is) (product-on p s.value g s.gave h (λ d j m. as-product-on d j k))
+    con-on (is_scalar p) c' g e h k = let s = one-step (replaceProduct ν exact look p) is_scalar c' e
+        in rw (sym s.is) (product-on p s.value g s.gave h (λ d j m. as-product-on d j k))
     con-on (hasField n u w) c' g e h k =
         let s = two_steps (replaceTy ν exact look u) (λ _. replaceTy ν exact look w) (hasField n) c' e in
-        rw (sym s.both) (all_append P (opens s.first) (ty-on u s.first (and_right (held n) _ (and_left (held n && goodTy ν held q u) _ g)) s.gave (λ o m. h o (Memᴰ.append_left (opens w) m)) k) (ty-on w s.second (and_right (held n && goodTy ν held q u) _ g) s.then (λ o m. h o (Memᴰ.append_right (opens u) m)) k))
+        rw (sym s.both) (all_append P (opens s.first)
+        (ty-on u s.first (and_right (held n) _ (and_left (held n && goodTy ν held q u) _ g)) s.gave (λ o m. h o (Memᴰ.append_left (opens w) m))
+        k) (ty-on w s.second (and_right (held n && goodTy ν held q u) _ g) s.then (λ o m. h o (Memᴰ.append_right (opens u) m)) k))
 
-    pub con-in : (c c' : Con N) → goodCon ν held q c ≡ true → replaceCon ν exact look c ≡ got c' → Stays (productsOf c) → Enters (productsOf c) → All P (inProducts t) → All P (productsOf c')
+    pub con-in : (c c' : Con N) → goodCon ν held q c ≡ true → replaceCon ν exact look c ≡ got c' → Stays (productsOf c) → Enters (productsOf c)
+        → All P (inProducts t) → All P (productsOf c')
     unfolding replaceCon productsOf goodCon inProducts
     con-in (equal u w) c' g e h n k =
         let s = two_steps (replaceTy ν exact look u) (λ _. replaceTy ν exact look w) equal c' e in
         rw (sym s.both) (all_append P (inProducts s.first)
-        (ty-in u s.first (and_left (goodTy ν held q u) _ g) s.gave (λ o m. h o (Memᴰ.append_left (inProducts w) m)) (λ o i m. n o i (Memᴰ.append_left (inProducts w) m)) k)
-        (ty-in w s.second (and_right (goodTy ν held q u) _ g) s.then (λ o m. h o (Memᴰ.append_right (inProducts u) m)) (λ o i m. n o i (Memᴰ.append_right (inProducts u) m)) k))
+        (ty-in u s.first (and_left (goodTy ν held q u) _ g) s.gave (λ o m. h o (Memᴰ.append_left (inProducts w) m))
+        (λ o i m. n o i (Memᴰ.append_left (inProducts w) m)) k)
+        (ty-in w s.second (and_right (goodTy ν held q u) _ g) s.then (λ o m. h o (Memᴰ.append_right (inProducts u) m))
+        (λ o i m. n o i (Memᴰ.append_right (inProducts u) m)) k))
     con-in (isDim u) c' g e h n k = let s = one-step (replaceTy ν exact look u) isDim c' e in rw (sym s.is) (ty-in u s.value g s.gave h n k)
     con-in (is_scalar p) c' g e h n k = let s = one-step (replaceProduct ν exact look p) is_scalar c' e in rw (sym s.is) (scalar-in p s.value g s.gave h n k)
     con-in (hasField m u w) c' g e h n k =
         let s = two_steps (replaceTy ν exact look u) (λ _. replaceTy ν exact look w) (hasField m) c' e in
         rw (sym s.both) (all_append P (inProducts s.first)
-        (ty-in u s.first (and_right (held m) _ (and_left (held m && goodTy ν held q u) _ g)) s.gave (λ o i. h o (Memᴰ.append_left (inProducts w) i)) (λ o i j. n o i (Memᴰ.append_left (inProducts w) j)) k)
-        (ty-in w s.second (and_right (held m && goodTy ν held q u) _ g) s.then (λ o i. h o (Memᴰ.append_right (inProducts u) i)) (λ o i j. n o i (Memᴰ.append_right (inProducts u) j)) k))
+        (ty-in u s.first (and_right (held m) _ (and_left (held m && goodTy ν held q u) _ g)) s.gave (λ o i. h o (Memᴰ.append_left (inProducts w) i))
+        (λ o i j. n o i (Memᴰ.append_left (inProducts w) j)) k)
+        (ty-in w s.second (and_right (held m && goodTy ν held q u) _ g) s.then (λ o i. h o (Memᴰ.append_right (inProducts u) i))
+        (λ o i j. n o i (Memᴰ.append_right (inProducts u) j)) k))

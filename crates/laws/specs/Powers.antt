@@ -151,7 +151,8 @@ module _ {N : Type 0} (ν : Names N) {Held : Atom N → Type 0} (law : Lawful (o
   one_power c a e p m h i j f g [] k n = sym (plus-nought (powerOf ν c (a ↑ e ∷ p)) (power-lowest ν Held c (a ↑ e ∷ p) (h, j)))
   one_power c a e p m h i j f g (b ↑ d ∷ q) k n = go (orderAtom ν a b) refl (one_power c a e p m h i j f g q k.1 n.1)
     where
-      first : orderAtom ν a b ≡ Ordering.lt → (x : Dec (c ≡ a)) → pick x e (powerOf ν c (m (b ↑ d ∷ q))) ≡ plus (pick x e (powerOf ν c p)) (powerOf ν c (b ↑ d ∷ q))
+      first : orderAtom ν a b ≡ Ordering.lt → (x : Dec (c ≡ a))
+          → pick x e (powerOf ν c (m (b ↑ d ∷ q))) ≡ plus (pick x e (powerOf ν c p)) (powerOf ν c (b ↑ d ∷ q))
       first o (yes t) =
           sym (ap (plus e) (ap (λ (x : Atom N). powerOf ν x (b ↑ d ∷ q)) t ∙ absent a (b ↑ d ∷ q) (o, sooner ν law a b q o k.0)) ∙ plus-nought e h.1)
       first o (no t) = f (b ↑ d ∷ q) k n
@@ -163,7 +164,8 @@ module _ {N : Type 0} (ν : Names N) {Held : Atom N → Type 0} (law : Lawful (o
       second : orderAtom ν b a ≡ Ordering.lt → powerOf ν c (mergeOneE ν a e p m q) ≡ plus (powerOf ν c (a ↑ e ∷ p)) (powerOf ν c q) → (x : Dec (c ≡ b))
           → pick x d (powerOf ν c (mergeOneE ν a e p m q)) ≡ plus (powerOf ν c (a ↑ e ∷ p)) (pick x d (powerOf ν c q))
       second o r (yes t) =
-          sym (ap (λ (x : Exp). plus x d) (ap (λ (x : Atom N). powerOf ν x (a ↑ e ∷ p)) t ∙ absent b (a ↑ e ∷ p) (o, sooner ν law b a p o i)) ∙ nought-plus d n.0.1)
+          sym (ap (λ (x : Exp). plus x d) (ap (λ (x : Atom N). powerOf ν x (a ↑ e ∷ p)) t ∙ absent b (a ↑ e ∷ p) (o, sooner ν law b a p o i))
+          ∙ nought-plus d n.0.1)
       second o r (no t) = r
 
       go : (o : Ordering) → orderAtom ν a b ≡ o → powerOf ν c (mergeOneE ν a e p m q) ≡ plus (powerOf ν c (a ↑ e ∷ p)) (powerOf ν c q)
@@ -172,10 +174,12 @@ module _ {N : Type 0} (ν : Names N) {Held : Atom N → Type 0} (law : Lawful (o
       go Ordering.eq o r =
           rw (o, mergeOneE)
           (put-power c a (plus e d) (m q) (g q k.1 (beside ν law a b q o k.0)) (plus-in-lowest e d h.1 n.0.1)
-          ∙ subst (λ (x : Atom N). pick (atom-dec ν c a) (plus e d) (powerOf ν c (m q)) ≡ plus (powerOf ν c (a ↑ e ∷ p)) (powerOf ν c (x ↑ d ∷ q))) (tells.same a b h.0 n.0.0 o) (both (atom-dec ν c a)))
+          ∙ subst (λ (x : Atom N). pick (atom-dec ν c a) (plus e d) (powerOf ν c (m q)) ≡ plus (powerOf ν c (a ↑ e ∷ p)) (powerOf ν c (x ↑ d ∷ q)))
+          (tells.same a b h.0 n.0.0 o) (both (atom-dec ν c a)))
       go Ordering.gt o r = rw (o, mergeOneE) (second (after law a b o) r (atom-dec ν c b))
 
-  merge-powers : (c : Atom N) (p q : Product N) → Sorted ν p → Every (Sound Held) p → Sorted ν q → Every (Sound Held) q → powerOf ν c (mergeE ν p q) ≡ plus (powerOf ν c p) (powerOf ν c q)
+  merge-powers : (c : Atom N) (p q : Product N) → Sorted ν p → Every (Sound Held) p → Sorted ν q → Every (Sound Held) q
+      → powerOf ν c (mergeE ν p q) ≡ plus (powerOf ν c p) (powerOf ν c q)
   unfolding powerOf mergeE
   merge-powers c [] q h i j k = sym (nought-plus (powerOf ν c q) (power-lowest ν Held c q k))
   merge-powers c (a ↑ e ∷ p) q h i j k =
@@ -216,7 +220,8 @@ module _ {N : Type 0} (ν : Names N) {Held : Atom N → Type 0} (law : Lawful (o
   some-power : (e : Exp) → isZero e ≡ false → ¬ (e ≡ nought)
   some-power e h i = let j : true ≡ false = sym (ap isZero i) ∙ h in let z : ◌≡◌ {A = ℕ} 0 1 = cc in omega arith
 
-  determined : (p q : Product N) → Sorted ν p → Every (Sound Held) p → Sorted ν q → Every (Sound Held) q → ((c : Atom N) → powerOf ν c p ≡ powerOf ν c q) → p ≡ q
+  determined : (p q : Product N) → Sorted ν p → Every (Sound Held) p → Sorted ν q → Every (Sound Held) q
+      → ((c : Atom N) → powerOf ν c p ≡ powerOf ν c q) → p ≡ q
   unfolding powerOf
   determined [] [] h i j k f = refl
   determined [] (b ↑ d ∷ q) h i j k f = absurd (some-power d k.0.2 (sym (power-here ν b d q) ∙ sym (f b)))

@@ -124,7 +124,13 @@ inverted-good (frac (negsuc n) d) b h e =
     let is : frac (neg_ℤ (pos d)) (suc n) ≡ b = cc in
     subst (λ (x : Exp). goodExp x ≡ true) is
     (is-good (neg_ℤ (pos d)) (suc n)
-    (record { num = rw (natAbs-neg (pos d)) g.den; positive = omega arith; den = g.num; coprime = ap (λ (k : ℕ). gcd k (suc n)) (natAbs-neg (pos d)) ∙ gcd-comm d (suc n) ∙ g.coprime }))
+    (record {
+      num = rw (natAbs-neg (pos d)) g.den;
+      positive = omega arith;
+      den = g.num;
+      coprime = ap (λ (k : ℕ). gcd k (suc n)) (natAbs-neg (pos d))
+          ∙ gcd-comm d (suc n) ∙ g.coprime;
+    }))
 
 module _ (a b : Exp) (h : goodExp a ≡ true) (k : goodExp b ≡ true) where
   pub sum-good : Gives (sum bounded a b) (λ r. goodExp r ≡ true)
@@ -150,7 +156,8 @@ checked true m f = f refl
 checked false m f = refuses
 
 module _ (a b : Exp) where
-  two : (m : Got Exp) → (goodExp a ≡ true → goodExp b ≡ true → Gives m (λ r. goodExp r ≡ true)) → Gives (need (goodExp a && goodExp b) 1 >> m) (λ r. goodExp r ≡ true)
+  two : (m : Got Exp) → (goodExp a ≡ true → goodExp b ≡ true → Gives m (λ r. goodExp r ≡ true))
+      → Gives (need (goodExp a && goodExp b) 1 >> m) (λ r. goodExp r ≡ true)
   two m f =
       checked (goodExp a && goodExp b) m (λ t. let p = (and-eq-true_iff (goodExp a) (goodExp b)).0 t in f p.0 p.1)
 

@@ -78,11 +78,14 @@ read-con (equal l r) rest f h =
     (rw (append_assoc (writeTy l) (writeTy r) rest, read-ty l 63 (writeTy r ++ rest) f.0 (omega arith), read-ty r 63 rest f.1 (omega arith)))
     (head-length (writeTy l ++ writeTy r) rest (sizeCon (equal l r)) (size-con (equal l r)))
 read-con (isDim t) rest f h =
-    next-back (conKinds (readTy 64)) 21 (sizeCon (isDim t)) 0 0 0 (writeTy t ++ rest) rest _ (omega arith) (rw (read-ty t 63 rest f h)) (head-length (writeTy t) rest (sizeCon (isDim t)) (size-con (isDim t)))
+    next-back (conKinds (readTy 64)) 21 (sizeCon (isDim t)) 0 0 0 (writeTy t ++ rest) rest _ (omega arith) (rw (read-ty t 63 rest f h))
+    (head-length (writeTy t) rest (sizeCon (isDim t)) (size-con (isDim t)))
 read-con (is_scalar p) rest f h =
     let one : next scalarKinds (writeProduct p ++ rest) ≡ some (is_scalar p, rest) =
-    next-back scalarKinds 3 (suc (length p)) (length p) 0 0 (map writeFactor p ++ rest) rest _ (omega arith) (rw (read-factors p rest f)) (head-length (map writeFactor p) rest (suc (length p)) (ap suc (length-map p writeFactor))) in
-    next-back (conKinds (readTy 64)) 22 (sizeCon (is_scalar p)) 0 0 0 (writeProduct p ++ rest) rest _ (omega arith) one (head-length (writeProduct p) rest (sizeCon (is_scalar p)) (size-con (is_scalar p)))
+    next-back scalarKinds 3 (suc (length p)) (length p) 0 0 (map writeFactor p ++ rest) rest _ (omega arith) (rw (read-factors p rest f))
+    (head-length (map writeFactor p) rest (suc (length p)) (ap suc (length-map p writeFactor))) in
+    next-back (conKinds (readTy 64)) 22 (sizeCon (is_scalar p)) 0 0 0 (writeProduct p ++ rest) rest _ (omega arith) one
+    (head-length (writeProduct p) rest (sizeCon (is_scalar p)) (size-con (is_scalar p)))
 read-con (hasField n s t) rest f h =
     next-back (conKinds (readTy 64)) 23 (sizeCon (hasField n s t)) n 0 0 ((writeTy s ++ writeTy t) ++ rest) rest _ (omega arith)
     (rw (append_assoc (writeTy s) (writeTy t) rest, read-ty s 63 (writeTy t ++ rest) f.0 (omega arith), read-ty t 63 rest f.1 (omega arith)))
@@ -91,7 +94,8 @@ read-con (hasField n s t) rest f h =
 pub read-binding : (b : Binding ℕ) (rest : List Rec) → FitsBinding b → depthBinding b ≤ 64 → readBinding (writeBinding b ++ rest) ≡ some (b, rest)
 unfolding readBinding writeBinding all depthBinding
 read-binding (x ≔ t) rest f h =
-    next-back bindingKinds 24 (sizeBinding (x ≔ t)) x 0 0 (writeTy t ++ rest) rest _ (omega arith) (rw (read-ty t 63 rest f h)) (head-length (writeTy t) rest (sizeBinding (x ≔ t)) (size-binding (x ≔ t)))
+    next-back bindingKinds 24 (sizeBinding (x ≔ t)) x 0 0 (writeTy t ++ rest) rest _ (omega arith) (rw (read-ty t 63 rest f h))
+    (head-length (writeTy t) rest (sizeBinding (x ≔ t)) (size-binding (x ≔ t)))
 
 -- a bound outside or inside a scheme: a name or an index
 abbrev pub IsBound : Open ℕ → Type 0
@@ -121,7 +125,8 @@ module _ {A : Type 0} (r : Reader A) where
       go (some vs) = refl
 
   -- a list that was written is read back
-  module _ (w : A → List Rec) (P : A → Type 0) (some-record : (a : A) → 1 ≤ length (w a)) (back : (a : A) (rest : List Rec) → P a → r (w a ++ rest) ≡ some (a, rest)) where
+  module _ (w : A → List Rec) (P : A → Type 0) (some-record : (a : A) → 1 ≤ length (w a))
+      (back : (a : A) (rest : List Rec) → P a → r (w a ++ rest) ≡ some (a, rest)) where
     pub read-all : (as' : List A) (n : ℕ) → length (collect w as') ≤ n → Every P as' → read_all r n (collect w as') ≡ some as'
     unfolding collect read_all
     read-all [] zero h p = refl
@@ -167,7 +172,11 @@ factors-there : (a : ℕ) (rs : List Rec) → Small rs → Reads (readScalar a r
 unfolding writeProduct
 factors-there a rs h =
     then (factors-read a rs h) (λ p s i.
-    given (record { product = p; is = refl; begins = record { body = map writeFactor p; is = rw (length-map p writeFactor, i.1) refl; stands = i.0.0; small = i.0.1 } }))
+    given (record {
+      product = p;
+      is = refl;
+      begins = record { body = map writeFactor p; is = rw (length-map p writeFactor, i.1) refl; stands = i.0.0; small = i.0.1 };
+    }))
 
 scalar-begins : (s rest : List Rec) (x : Con ℕ) (p : Product ℕ) → x ≡ is_scalar p → Is s (writeProduct p) rest → Begins 22 0 0 0 s (writeCon x) rest
 unfolding writeCon
@@ -253,7 +262,8 @@ module _ {A : Type 0} (w : A → List Rec) where
   one_more a s rest (some vs) e k = this-read (a ∷ vs) s (e ∙ ap (w a ++◌) (k.same vs refl))
 
   module _ (r : Reader A) (stands : (s : List Rec) → Small s → Reads (r s) (λ a rest. Is s (w a) rest)) where
-    step : (n : ℕ) (x : Rec) (xs : List Rec) (o : Option (A × List Rec)) → r (x ∷ xs) ≡ o → Small (x ∷ xs) → ((s : List Rec) → Small s → Lists (read_all r n s) s) → Lists (read_all r (suc n) (x ∷ xs)) (x ∷ xs)
+    step : (n : ℕ) (x : Rec) (xs : List Rec) (o : Option (A × List Rec)) → r (x ∷ xs) ≡ o → Small (x ∷ xs)
+        → ((s : List Rec) → Small s → Lists (read_all r n s) s) → Lists (read_all r (suc n) (x ∷ xs)) (x ∷ xs)
     unfolding read_all
     step n x xs none e h k = rw (e, read_all) (none_read (x ∷ xs))
     step n x xs (some v) e h k =
@@ -286,10 +296,12 @@ none-taken ws = record { back = λ rs e. let z : ◌≡◌ {A = ℕ} 0 1 = cc in
 this-taken : (ws : List ℕ) (rs : List Rec) → words rs ≡ ws → Small rs → Taken ws (some rs)
 this-taken ws rs e h = record { back = λ rs' f. let g : rs ≡ rs' = cc in (ap words (sym g) ∙ e, subst Small g h) }
 
-four-taken : (k a b c : ℕ) (ws : List ℕ) (o : Option (List Rec)) → b < 4_294_967_296 → Taken ws o → Taken (k ∷ a ∷ b ∷ c ∷ ws) (elim o [ none ↦ none | some rs ↦ some (rec k a b c ∷ rs) ])
+four-taken : (k a b c : ℕ) (ws : List ℕ) (o : Option (List Rec)) → b < 4_294_967_296 → Taken ws o
+    → Taken (k ∷ a ∷ b ∷ c ∷ ws) (elim o [ none ↦ none | some rs ↦ some (rec k a b c ∷ rs) ])
 unfolding words
 four-taken k a b c ws none h t = none-taken (k ∷ a ∷ b ∷ c ∷ ws)
-four-taken k a b c ws (some rs) h t = this-taken (k ∷ a ∷ b ∷ c ∷ ws) (rec k a b c ∷ rs) (ap (λ v. k ∷ a ∷ b ∷ c ∷ v) (t.back rs refl).0) (h, (t.back rs refl).1)
+four-taken k a b c ws (some rs) h t = this-taken (k ∷ a ∷ b ∷ c ∷ ws) (rec k a b c ∷ rs) (ap (λ v. k ∷ a ∷ b ∷ c ∷ v) (t.back rs refl).0)
+    (h, (t.back rs refl).1)
 
 pub taken : (ws : List ℕ) → Words ws → Taken ws (records ws)
 unfolding records words
@@ -317,6 +329,7 @@ read_set cs h = read-all readCon writeCon Writable con-records (λ c rest w. rea
 
 pub one_set : (cs ds : List (Con ℕ)) → Every Writable cs → Every Writable ds → words (collect writeCon cs) ≡ words (collect writeCon ds) → cs ≡ ds
 one_set cs ds h k e =
-    let f : collect writeCon cs ≡ collect writeCon ds = let g : ◌≡◌ {A = Option (List Rec)} (some (collect writeCon cs)) (some (collect writeCon ds)) = sym (words_back (collect writeCon cs)) ∙ ap records e ∙ words_back (collect writeCon ds) in cc in
+    let f : collect writeCon cs ≡ collect writeCon ds = let g : ◌≡◌ {A = Option (List Rec)} (some (collect writeCon cs))
+    (some (collect writeCon ds)) = sym (words_back (collect writeCon cs)) ∙ ap records e ∙ words_back (collect writeCon ds) in cc in
     let g : ◌≡◌ {A = Option (List (Con ℕ))} (some cs) (some ds) = sym (read_set cs h) ∙ ap (λ rs. read_all readCon (length rs) rs) f ∙ read_set ds k in
     cc

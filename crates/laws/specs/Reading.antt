@@ -96,7 +96,8 @@ deep (fn ps r) = omega arith
 deep (struct n as' fs) = omega arith
 deep (list t) = omega arith
 
-pub lift : (t : Ty ℕ) (d : ℕ) (rest : List Rec) → depth t ≤ d → ((e : ℕ) → depth t ≤ suc e → readTy (suc e) (writeTy t ++ rest) ≡ some (t, rest)) → readTy d (writeTy t ++ rest) ≡ some (t, rest)
+pub lift : (t : Ty ℕ) (d : ℕ) (rest : List Rec) → depth t ≤ d → ((e : ℕ) → depth t ≤ suc e → readTy (suc e) (writeTy t ++ rest) ≡ some (t, rest))
+    → readTy d (writeTy t ++ rest) ≡ some (t, rest)
 lift t zero rest h k = absurd (omega (arith, deep t))
 lift t (suc e) rest h k = k e h
 
@@ -115,11 +116,19 @@ mutual
       (head-length (map writeFactor p) rest (suc (length p)) (ap suc (length-map p writeFactor)))
   read-ty (fn ps r) d rest f h =
       next-back (typeKinds (readTy d)) 7 (size (fn ps r)) (count ps) 0 0 ((writeTys ps ++ writeTy r) ++ rest) rest _ (omega arith)
-      (rw (append_assoc (writeTys ps) (writeTy r) rest, read-tys ps d (writeTy r ++ rest) f.0 (omega arith), lift r d rest (omega arith) (λ e k. read-ty r e rest f.1 k)))
+      (rw (
+        append_assoc (writeTys ps) (writeTy r) rest,
+        read-tys ps d (writeTy r ++ rest) f.0 (omega arith),
+        lift r d rest (omega arith) (λ e k. read-ty r e rest f.1 k),
+      ))
       (head-length (writeTys ps ++ writeTy r) rest (size (fn ps r)) (size-ty (fn ps r)))
   read-ty (struct n as' fs) d rest f h =
       next-back (typeKinds (readTy d)) 8 (size (struct n as' fs)) n (count as') (countFields fs) ((writeTys as' ++ writeFields fs) ++ rest) rest _ (omega arith)
-      (rw (append_assoc (writeTys as') (writeFields fs) rest, read-tys as' d (writeFields fs ++ rest) f.0 (omega arith), read-fields fs d rest f.1 (omega arith)))
+      (rw (
+        append_assoc (writeTys as') (writeFields fs) rest,
+        read-tys as' d (writeFields fs ++ rest) f.0 (omega arith),
+        read-fields fs d rest f.1 (omega arith),
+      ))
       (head-length (writeTys as' ++ writeFields fs) rest (size (struct n as' fs)) (size-ty (struct n as' fs)))
   read-ty (list t) d rest f h =
       next-back (typeKinds (readTy d)) 10 (size (list t)) 0 0 0 (writeTy t ++ rest) rest _ (omega arith)
@@ -128,12 +137,18 @@ mutual
   pub read-tys : (ts : Tys ℕ) (d : ℕ) (rest : List Rec) → FitsTys ts → depthTys ts ≤ d → readTys (readTy d) (count ts) (writeTys ts ++ rest) ≡ some (ts, rest)
   read-tys nil d rest f h = refl
   read-tys (cons t ts) d rest f h =
-      rw (append_assoc (writeTy t) (writeTys ts) rest, lift t d (writeTys ts ++ rest) (omega arith) (λ e k. read-ty t e (writeTys ts ++ rest) f.0 k), read-tys ts d rest f.1 (omega arith))
+      rw (
+        append_assoc (writeTy t) (writeTys ts) rest,
+        lift t d (writeTys ts ++ rest) (omega arith) (λ e k. read-ty t e (writeTys ts ++ rest) f.0 k),
+        read-tys ts d rest f.1 (omega arith),
+      )
 
-  pub read-fields : (fs : Fields ℕ) (d : ℕ) (rest : List Rec) → FitsFields fs → depthFields fs ≤ d → readFields (readTy d) (countFields fs) (writeFields fs ++ rest) ≡ some (fs, rest)
+  pub read-fields : (fs : Fields ℕ) (d : ℕ) (rest : List Rec) → FitsFields fs → depthFields fs ≤ d
+      → readFields (readTy d) (countFields fs) (writeFields fs ++ rest) ≡ some (fs, rest)
   read-fields noFields d rest f h = refl
   read-fields (field n t fs) d rest f h =
-      let one : next (fieldKinds (readTy d)) (rec (head 9 (suc (size t))) n 0 0 ∷ (writeTy t ++ (writeFields fs ++ rest))) ≡ some ((n, t), writeFields fs ++ rest) =
+      let one : next (fieldKinds (readTy d)) (rec (head 9 (suc (size t))) n 0 0 ∷ (writeTy t ++ (writeFields fs ++ rest)))
+      ≡ some ((n, t), writeFields fs ++ rest) =
       next-back (fieldKinds (readTy d)) 9 (suc (size t)) n 0 0 (writeTy t ++ (writeFields fs ++ rest)) (writeFields fs ++ rest) _ (omega arith)
       (rw (lift t d (writeFields fs ++ rest) (omega arith) (λ e k. read-ty t e (writeFields fs ++ rest) f.0 k)))
       (head-length (writeTy t) (writeFields fs ++ rest) (suc (size t)) (ap suc (size-ty t))) in
@@ -167,11 +182,14 @@ module _ (ν : Names ℕ) (held : ℕ → Bool) (q : ℕ) where
     pub good-fits : (t : Ty ℕ) → goodTy ν held q t ≡ true → Fits t
     good-fits (opened o) h = tt
     good-fits (basic b) h = tt
-    good-fits (dim p) h = factors-fit p (and_left (all (goodFactor ν held q) p) _ (and_left (all (goodFactor ν held q) p && rising (orderAtom ν) (map atomOf p)) _ h))
+    good-fits (dim p) h = factors-fit p (and_left (all (goodFactor ν held q) p) _
+        (and_left (all (goodFactor ν held q) p && rising (orderAtom ν) (map atomOf p)) _ h))
     good-fits (fn ps r) h = (good-fits-all ps (and_left (goodTys ν held q ps) _ h), good-fits r (and_right (goodTys ν held q ps) _ h))
     good-fits (struct n as' fs) h =
-        let f = and_left (held n && goodTys ν held q as' && goodFields ν held q fs) _ h in
-        (good-fits-all as' (and_right (held n) _ (and_left (held n && goodTys ν held q as') _ f)), good-fits-fields fs (and_right (held n && goodTys ν held q as') _ f))
+        let f = and_left (held n && goodTys ν held q as' && goodFields ν held q fs) _ h in (
+          good-fits-all as' (and_right (held n) _ (and_left (held n && goodTys ν held q as') _ f)),
+          good-fits-fields fs (and_right (held n && goodTys ν held q as') _ f),
+        )
     good-fits (list t) h = good-fits t h
 
     pub good-fits-all : (ts : Tys ℕ) → goodTys ν held q ts ≡ true → FitsTys ts

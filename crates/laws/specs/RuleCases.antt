@@ -111,13 +111,16 @@ module _ {N : Type 0} (ν : Names N) (l : Limits) where
     binds : (x : N) (side t : Ty N) → Sides c side t → Reads x side → contains ν x t ≡ false → s ≡ bind x t → Rule c s
     two-functions : (ps qs : Tys N) (r q : Ty N) → count ps ≡ count qs → c ≡ equal (fn ps r) (fn qs q) → s ≡ split (equal r q ∷ pairs ps qs) → Rule c s
     two-lists : (t u : Ty N) → c ≡ equal (list t) (list u) → s ≡ split (equal t u ∷ []) → Rule c s
-    two-structs : (n : N) (as' bs : Tys N) (fs gs : Fields N) → count as' ≡ count bs → c ≡ equal (struct n as' fs) (struct n bs gs) → s ≡ split (pairs as' bs) → Rule c s
-    as-product : (x : N) (d : Product N) → Sides c (opened (var x)) (dim d) → Memᴰ (var x) (opens (dim d)) → s ≡ split (equal (dim (just (var x))) (dim d) ∷ []) → Rule c s
+    two-structs : (n : N) (as' bs : Tys N) (fs gs : Fields N) → count as' ≡ count bs → c ≡ equal (struct n as' fs) (struct n bs gs)
+        → s ≡ split (pairs as' bs) → Rule c s
+    as-product : (x : N) (d : Product N) → Sides c (opened (var x)) (dim d) → Memᴰ (var x) (opens (dim d))
+        → s ≡ split (equal (dim (just (var x))) (dim d) ∷ []) → Rule c s
     two-dimensions : (d e q : Product N) → divide ν l d e ≡ got q → c ≡ equal (dim d) (dim e) → s ≡ split (is_scalar q ∷ []) → Rule c s
     dimension : (p : Product N) → c ≡ isDim (dim p) → s ≡ split (parts p) → Rule c s
     no-factor : c ≡ is_scalar [] → s ≡ done → Rule c s
     first-factor : (x : N) (k : Exp) (p q : Product N) → each (otherSide l k) p ≡ got q → c ≡ is_scalar (free (var x) ↑ k ∷ p) → s ≡ bind x (dim q) → Rule c s
-    closed-struct : (n m : N) (as' : Tys N) (fs : Fields N) (t u : Ty N) → opens (struct m as' fs) ≡ [] → fieldIn ν n fs ≡ some u → c ≡ hasField n (struct m as' fs) t → s ≡ split (equal u t ∷ []) → Rule c s
+    closed-struct : (n m : N) (as' : Tys N) (fs : Fields N) (t u : Ty N) → opens (struct m as' fs) ≡ [] → fieldIn ν n fs ≡ some u
+        → c ≡ hasField n (struct m as' fs) t → s ≡ split (equal u t ∷ []) → Rule c s
 
 -- ══ Views ══
 
@@ -257,11 +260,14 @@ module _ {N : Type 0} (ν : Names N) (l : Limits) where
       go₃ (inl i) = right (asVar u) (λ y j. inl (as-var u y j)) i
       go₃ (inr i) = go₄ (or-else _ _ s i)
 
-      go₂ : (bindTo ν (asVar t) u ≡ some s) ⊎ ((bindTo ν (asVar u) t or_else bindTo ν (asPower t) u or_else bindTo ν (asPower u) t) ≡ some s) → Rule ν l (equal t u) s
+      go₂ : (bindTo ν (asVar t) u ≡ some s) ⊎ ((bindTo ν (asVar u) t or_else bindTo ν (asPower t) u or_else bindTo ν (asPower u) t) ≡ some s)
+          → Rule ν l (equal t u) s
       go₂ (inl i) = left (asVar t) (λ y j. inl (as-var t y j)) i
       go₂ (inr i) = go₃ (or-else _ _ s i)
 
-      go₁ : (only_if (is_yes (ty-dec ν t u)) done ≡ some s) ⊎ ((bindTo ν (asVar t) u or_else bindTo ν (asVar u) t or_else bindTo ν (asPower t) u or_else bindTo ν (asPower u) t) ≡ some s) → Rule ν l (equal t u) s
+      go₁ : (only_if (is_yes (ty-dec ν t u)) done ≡ some s)
+          ⊎ ((bindTo ν (asVar t) u or_else bindTo ν (asVar u) t or_else bindTo ν (asPower t) u or_else bindTo ν (asPower u) t) ≡ some s)
+          → Rule ν l (equal t u) s
       go₁ (inl i) = let o = only-if (is_yes (ty-dec ν t u)) done s i in let q : t ≡ u = yes-is (ty-dec ν t u) o.0 in equal-records t (rw q) (sym o.1)
       go₁ (inr i) = go₂ (or-else _ _ s i)
 
@@ -282,12 +288,14 @@ module _ {N : Type 0} (ν : Names N) (l : Limits) where
       not-bound ν x t c.0
 
   -- rule 7: a variable against a dimension
-  products-step : (x : Option N) (d : Product N) (s : Step N) → asProducts x d ≡ s → (s ≡ stuck) ⊎ ((y : N) × (x ≡ some y) × (s ≡ split (equal (dim (just (var y))) (dim d) ∷ [])))
+  products-step : (x : Option N) (d : Product N) (s : Step N) → asProducts x d ≡ s
+      → (s ≡ stuck) ⊎ ((y : N) × (x ≡ some y) × (s ≡ split (equal (dim (just (var y))) (dim d) ∷ [])))
   unfolding asProducts
   products-step none d s e = inl (sym e)
   products-step (some y) d s e = inr (y, refl, sym e)
 
-  variable-left : (o : Open N) (u : Ty N) (d : Option (Product N)) (s : Step N) → productOf u ≡ d → firstRules ν (opened o) u ≡ none → variableLeft (variable o) d ≡ s → Rule ν l (equal (opened o) u) s
+  variable-left : (o : Open N) (u : Ty N) (d : Option (Product N)) (s : Step N) → productOf u ≡ d → firstRules ν (opened o) u ≡ none
+      → variableLeft (variable o) d ≡ s → Rule ν l (equal (opened o) u) s
   unfolding variableLeft
   variable-left o u none s i n e = none-applies (sym e)
   variable-left o u (some d) s i n e = go (products-step (variable o) d s e)
@@ -302,7 +310,8 @@ module _ {N : Type 0} (ν : Names N) (l : Limits) where
           let c : contains ν y u ≡ true = contained-left y u (rw v at n) in
           as-product y d (inl (cc (q))) (rw q at (contained ν y u c)) k
 
-  dimension-left : (d : Product N) (u : Ty N) (e : Option (Product N)) (s : Step N) → productOf u ≡ e → firstRules ν (dim d) u ≡ none → dimensions ν l d e (asVar u) ≡ got s → Rule ν l (equal (dim d) u) s
+  dimension-left : (d : Product N) (u : Ty N) (e : Option (Product N)) (s : Step N) → productOf u ≡ e → firstRules ν (dim d) u ≡ none
+      → dimensions ν l d e (asVar u) ≡ got s → Rule ν l (equal (dim d) u) s
   unfolding dimensions
   dimension-left d u (some e) s i n h =
       let o = one-step (divide ν l d e) (λ q. split (is_scalar q ∷ [])) s h in
@@ -328,7 +337,8 @@ module _ {N : Type 0} (ν : Names N) (l : Limits) where
       go true j = two-functions ps f.0 r f.1 (eqb→eq (count ps) (count f.0) (rw j tt)) (ap (equal (fn ps r)) q) (sym (rw (j, functions) at e))
       go false j = none-applies (sym (rw (j, functions) at e))
 
-  struct_left : (m : N) (as' : Tys N) (fs : Fields N) (u : Ty N) (v : Option (N × Tys N × Fields N)) (s : Step N) → struct_of u ≡ v → structs ν m as' v ≡ s → Rule ν l (equal (struct m as' fs) u) s
+  struct_left : (m : N) (as' : Tys N) (fs : Fields N) (u : Ty N) (v : Option (N × Tys N × Fields N)) (s : Step N) → struct_of u ≡ v
+      → structs ν m as' v ≡ s → Rule ν l (equal (struct m as' fs) u) s
   unfolding structs
   struct_left m as' fs u none s i e = none-applies (sym e)
   struct_left m as' fs u (some v) s i e = go (is_yes (ν.same m v.0) && eqb (count as') (count v.1)) refl
@@ -340,7 +350,8 @@ module _ {N : Type 0} (ν : Names N) (l : Limits) where
       go true j =
           let k : m ≡ v.0 = yes-is (ν.same m v.0) (and_left (is_yes (ν.same m v.0)) _ j) in
           let c : eqb (count as') (count v.1) ≡ true = and_right (is_yes (ν.same m v.0)) _ j in
-          two-structs m as' v.1 fs v.2 (eqb→eq (count as') (count v.1) (rw c tt)) (ap (equal (struct m as' fs)) (q ∙ ap (λ (n : N). struct n v.1 v.2) (sym k))) (sym (rw (j, structs) at e))
+          two-structs m as' v.1 fs v.2 (eqb→eq (count as') (count v.1) (rw c tt))
+          (ap (equal (struct m as' fs)) (q ∙ ap (λ (n : N). struct n v.1 v.2) (sym k))) (sym (rw (j, structs) at e))
       go false j = none-applies (sym (rw (j, structs) at e))
 
   list_left : (t u : Ty N) (v : Option (Ty N)) (s : Step N) → list_of u ≡ v → lists t v ≡ s → Rule ν l (equal (list t) u) s
@@ -418,6 +429,8 @@ module _ {N : Type 0} where
   naming os o y m e = collect-to (λ o. to_list (name_of o)) os o y m (rw e in_head)
 
   -- is-dimension of one of the names
-  pub part_of : (p : Product N) (c : Con N) → Memᴰ c (parts p) → (y : N) × (c ≡ isDim (opened (var y))) × (Memᴰ (var y) (opens (dim p)) ⊎ Memᴰ (par y) (opens (dim p)))
+  pub part_of : (p : Product N) (c : Con N) → Memᴰ c (parts p) → (y : N) × (c ≡ isDim (opened (var y)))
+      × (Memᴰ (var y) (opens (dim p)) ⊎ Memᴰ (par y) (opens (dim p)))
   unfolding opens
-  part_of p c m = let i = map-from (λ x. isDim (opened (var x))) (namesIn (collect openOfFactor p)) c m in (i.one, i.is, named (collect openOfFactor p) i.one i.within)
+  part_of p c m = let i = map-from (λ x. isDim (opened (var x))) (namesIn (collect openOfFactor p)) c m
+      in (i.one, i.is, named (collect openOfFactor p) i.one i.within)

@@ -54,7 +54,8 @@ module _ {N : Type 0} (ν : Names N) (law : Lawful (orderAtom ν)) where
   abbrev Joined : Product N → Product N → Product N → Type 0
   Joined p q r = Sorted ν r × ((c : Atom N) → Before ν c p → Before ν c q → Before ν c r)
 
-  put-sorted : (a : Atom N) (e : Exp) (r : Product N) → Before ν a r → Sorted ν r → Sorted ν (put a e r) × ((c : Atom N) → orderAtom ν c a ≡ Ordering.lt → Before ν c r → Before ν c (put a e r))
+  put-sorted : (a : Atom N) (e : Exp) (r : Product N) → Before ν a r → Sorted ν r → Sorted ν (put a e r)
+      × ((c : Atom N) → orderAtom ν c a ≡ Ordering.lt → Before ν c r → Before ν c (put a e r))
   put-sorted a e r h k = go (isZero e) refl
     where
       go : (b : Bool) → isZero e ≡ b → Sorted ν (put a e r) × ((c : Atom N) → orderAtom ν c a ≡ Ordering.lt → Before ν c r → Before ν c (put a e r))
@@ -62,12 +63,15 @@ module _ {N : Type 0} (ν : Names N) (law : Lawful (orderAtom ν)) where
       go false q = rw (q, put) ((h, k), λ c i j. (i, j))
 
   module _ (l : Limits) where
-    one-sorted : (a : Atom N) (e : Exp) (p : Product N) (m : Product N → Got (Product N)) → Before ν a p → Sorted ν p → ((q : Product N) → Sorted ν q → Gives (m q) (Joined p q)) → (q : Product N) → Sorted ν q → Gives (mergeOne ν l a e p m q) (Joined (a ↑ e ∷ p) q)
+    one-sorted : (a : Atom N) (e : Exp) (p : Product N) (m : Product N → Got (Product N)) → Before ν a p → Sorted ν p
+        → ((q : Product N) → Sorted ν q → Gives (m q) (Joined p q)) → (q : Product N) → Sorted ν q
+        → Gives (mergeOne ν l a e p m q) (Joined (a ↑ e ∷ p) q)
     unfolding mergeOne
     one-sorted a e p m h i f [] k = gives ((h, i), λ c j n. j)
     one-sorted a e p m h i f (b ↑ d ∷ q) k = go (orderAtom ν a b) refl (one-sorted a e p m h i f q k.1)
       where
-        go : (o : Ordering) → orderAtom ν a b ≡ o → Gives (mergeOne ν l a e p m q) (Joined (a ↑ e ∷ p) q) → Gives (mergeOne ν l a e p m (b ↑ d ∷ q)) (Joined (a ↑ e ∷ p) (b ↑ d ∷ q))
+        go : (o : Ordering) → orderAtom ν a b ≡ o → Gives (mergeOne ν l a e p m q) (Joined (a ↑ e ∷ p) q)
+            → Gives (mergeOne ν l a e p m (b ↑ d ∷ q)) (Joined (a ↑ e ∷ p) (b ↑ d ∷ q))
         go Ordering.lt j r =
             rw (j, mergeOne) (next (f (b ↑ d ∷ q) k) (λ s g.
             gives ((g.1 a h (j, sooner a b q j k.0), g.0), λ c x y. (x.0, g.1 c x.1 y))))
@@ -126,7 +130,8 @@ module _ {N : Type 0} (P : Factor N → Type 0) where
   module _ (ν : Names N) (l : Limits) where
     -- merging keeps what sums of exponents keep
     module _ (adds : (a b : Atom N) (e d s : Exp) → P (a ↑ e) → P (b ↑ d) → sum l e d ≡ got s → isZero s ≡ false → P (a ↑ s)) where
-      one_each : (a : Atom N) (e : Exp) (p : Product N) (m : Product N → Got (Product N)) → P (a ↑ e) → Every P p → ((q : Product N) → Every P q → Gives (m q) (Every P)) → (q : Product N) → Every P q → Gives (mergeOne ν l a e p m q) (Every P)
+      one_each : (a : Atom N) (e : Exp) (p : Product N) (m : Product N → Got (Product N)) → P (a ↑ e) → Every P p
+          → ((q : Product N) → Every P q → Gives (m q) (Every P)) → (q : Product N) → Every P q → Gives (mergeOne ν l a e p m q) (Every P)
       unfolding mergeOne
       one_each a e p m h i f [] k = gives (h, i)
       one_each a e p m h i f (b ↑ d ∷ q) k = go (orderAtom ν a b) refl (one_each a e p m h i f q k.1)
@@ -142,7 +147,8 @@ module _ {N : Type 0} (P : Factor N → Type 0) where
       merge-each (a ↑ e ∷ p) q h k = one_each a e p _ h.0 h.1 (λ q i. merge-each p q h.1 i) q k
 
     -- raising keeps what products of exponents keep
-    pub raise-each : (k : Exp) → ((a : Atom N) (e s : Exp) → P (a ↑ e) → times l e k ≡ got s → isZero s ≡ false → P (a ↑ s)) → (p : Product N) → Every P p → Gives (raise ν l p k) (Every P)
+    pub raise-each : (k : Exp) → ((a : Atom N) (e s : Exp) → P (a ↑ e) → times l e k ≡ got s → isZero s ≡ false → P (a ↑ s)) → (p : Product N)
+        → Every P p → Gives (raise ν l p k) (Every P)
     unfolding raise
     raise-each k f [] h = gives tt
     raise-each k f (a ↑ e ∷ p) h = next (its_own (times l e k)) (λ s u. next (raise-each k f p h.1) (λ r g. gives (put-each a s r (f a e s h.0 u) g)))

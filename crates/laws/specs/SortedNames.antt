@@ -52,7 +52,8 @@ module _ {N : Type 0} (ν : Names N) where
 
   -- the three places of a name before a rising list
   module _ (Q : List N → Type 0) (x y : N) (ys : List N) where
-    by_order : (ν.order x y ≡ Ordering.lt → Q (x ∷ y ∷ ys)) → (ν.order x y ≡ Ordering.eq → Q (y ∷ ys)) → (ν.order x y ≡ Ordering.gt → Q (y ∷ sorted ν x ys)) → Q (sorted ν x (y ∷ ys))
+    by_order : (ν.order x y ≡ Ordering.lt → Q (x ∷ y ∷ ys)) → (ν.order x y ≡ Ordering.eq → Q (y ∷ ys))
+        → (ν.order x y ≡ Ordering.gt → Q (y ∷ sorted ν x ys)) → Q (sorted ν x (y ∷ ys))
     unfolding sorted
     by_order f g h = go (ν.order x y) refl
       where
@@ -170,17 +171,20 @@ module _ {N : Type 0} (ν : Names N) (law : Lawful ν.order) where
       (λ z i. ⊎_elim (λ q. absurd (never-self y (subst (λ (w : N). ν.order y w ≡ Ordering.lt) (q ∙ e) (in-every _ ys k.0 z i)))) (λ j. j) (g z (inr i))))
     where
       first : x ≡ y
-      first = ⊎_elim (λ q. q) (λ i. ⊎_elim (λ q. sym q) (λ j. absurd (never_both x y (in-every _ xs h.0 y j) (in-every _ ys k.0 x i))) (g y (inl refl))) (f x (inl refl))
+      first = ⊎_elim (λ q. q) (λ i. ⊎_elim (λ q. sym q) (λ j. absurd (never_both x y (in-every _ xs h.0 y j) (in-every _ ys k.0 x i)))
+          (g y (inl refl))) (f x (inl refl))
 
   module _ (P : N → Type 0) (tells : Tells P ν.order) where
     -- ══ Sorting depends on what occurs ══
 
     pub same-sort : (xs ys : List N) → Every P xs → Every P ys → ((z : N) → In z xs → In z ys) → ((z : N) → In z ys → In z xs) → sort ν xs ≡ sort ν ys
     same-sort xs ys p q f g =
-        one-rising (sort ν xs) (sort ν ys) (sort-rises xs) (sort-rises ys) (λ z i. of-sort ν P tells ys q z (f z (sort-of ν xs z i))) (λ z i. of-sort ν P tells xs p z (g z (sort-of ν ys z i)))
+        one-rising (sort ν xs) (sort ν ys) (sort-rises xs) (sort-rises ys) (λ z i. of-sort ν P tells ys q z (f z (sort-of ν xs z i)))
+        (λ z i. of-sort ν P tells xs p z (g z (sort-of ν ys z i)))
 
     -- the first of them, then the others
-    pub first-sort : (x : N) (xs ys : List N) → Every P xs → Every P ys → In x xs → ((z : N) → In z xs → (z ≡ x) ⊎ In z ys) → ((z : N) → In z ys → In z xs × (ν.order x z ≡ Ordering.lt)) → sort ν xs ≡ x ∷ sort ν ys
+    pub first-sort : (x : N) (xs ys : List N) → Every P xs → Every P ys → In x xs → ((z : N) → In z xs → (z ≡ x) ⊎ In z ys)
+        → ((z : N) → In z ys → In z xs × (ν.order x z ≡ Ordering.lt)) → sort ν xs ≡ x ∷ sort ν ys
     first-sort x xs ys p q i f g =
         one-rising (sort ν xs) (x ∷ sort ν ys) (sort-rises xs) (every_in _ (sort ν ys) (λ z j. (g z (sort-of ν ys z j)).1), sort-rises ys)
         (λ z j. ⊎_elim (λ e. inl e) (λ k. inr (of-sort ν P tells ys q z k)) (f z (sort-of ν xs z j)))

@@ -79,7 +79,8 @@ AbsentVariableStays N = (ν : Names N) (l : Limits) (x : N) (t : Ty N) → Absen
 
 -- with types put in that are nested at most 1 + k deep nothing is made more than k deeper
 abbrev pub Deepens : (N : Type 0) → Names N → Limits → Type 0
-Deepens N ν l = (look : Look N) (k : ℕ) → ((o : Open N) (t : Ty N) → look o ≡ some t → depth t ≤ 1 + k) → (t u : Ty N) → replaceTy ν l look t ≡ got u → depth u ≤ depth t + k
+Deepens N ν l = (look : Look N) (k : ℕ) → ((o : Open N) (t : Ty N) → look o ≡ some t → depth t ≤ 1 + k) → (t u : Ty N) → replaceTy ν l look t ≡ got u
+    → depth u ≤ depth t + k
 
 -- what a rule puts in the place of a constraint, or binds, is nested no deeper than the constraint
 abbrev pub NoDeeper : (N : Type 0) → Names N → Limits → Type 0

@@ -73,7 +73,8 @@ module _ {N : Type 0} (ν : Names N) (l : Limits) where
       go d (inl i) = inr (Memᴰ.head i)
       go d (inr i) = more d (f.others d i)
 
-  module _ (c : Con N) (cs : List (Con N)) (v : Step N × List (Con N)) (again : (w : Step N × List (Con N)) → firstStep ν l cs ≡ got (some w) → Found cs w.0 w.1) where
+  module _ (c : Con N) (cs : List (Con N)) (v : Step N × List (Con N))
+      (again : (w : Step N × List (Con N)) → firstStep ν l cs ≡ got (some w) → Found cs w.0 w.1) where
     taken-found : (s : Step N) → trySatisfy ν l c ≡ got s → taken s c cs (λ _. firstStep ν l cs) ≡ got (some v) → Found (c ∷ cs) v.0 v.1
     unfolding taken
     taken-found (bind x t) i e = let q : (bind x t, cs) ≡ v = cc in rw (sym q) (step-apart (λ z. let y : ◌≡◌ {A = ℕ} 0 1 = cc in omega arith) c cs i)
@@ -94,7 +95,8 @@ module _ {N : Type 0} (ν : Names N) (l : Limits) where
   found [] v e = let y : none ≡ some v = cc in absurd (some≢none (sym y))
   found (c ∷ cs) v e = go (trySatisfy ν l c) refl (found cs)
     where
-      go : (r : Got (Step N)) → trySatisfy ν l c ≡ r → ((w : Step N × List (Con N)) → firstStep ν l cs ≡ got (some w) → Found cs w.0 w.1) → Found (c ∷ cs) v.0 v.1
+      go : (r : Got (Step N)) → trySatisfy ν l c ≡ r → ((w : Step N × List (Con N)) → firstStep ν l cs ≡ got (some w) → Found cs w.0 w.1)
+          → Found (c ∷ cs) v.0 v.1
       go (refused n) i h = let z : refused n ≡ got (some v) = rw (i, firstStep) at e in absurd (got≢refused (sym z))
       go (got s) i h = taken-found c cs v h s i (rw (i, firstStep) at e)
 
@@ -104,15 +106,26 @@ module _ {N : Type 0} (ν : Names N) (l : Limits) where
 
   performed-turn : (s s' : State N) (step : Step N) (rest : List (Con N)) → Found s.cons step rest → perform ν l s.binds step rest ≡ got s' → Turn s s'
   unfolding perform
-  performed-turn s s' (bind x t) rest f e = go (each (replaceCon ν l (bindings ν (x ≔ t ∷ []))) rest) refl (each (replaceBinding ν l (bindings ν (x ≔ t ∷ []))) s.binds) refl
+  performed-turn s s' (bind x t) rest f e = go (each (replaceCon ν l (bindings ν (x ≔ t ∷ []))) rest) refl
+      (each (replaceBinding ν l (bindings ν (x ≔ t ∷ []))) s.binds) refl
     where
-      go : (r : Got (List (Con N))) → each (replaceCon ν l (bindings ν (x ≔ t ∷ []))) rest ≡ r → (q : Got (List (Binding N))) → each (replaceBinding ν l (bindings ν (x ≔ t ∷ []))) s.binds ≡ q → Turn s s'
+      go : (r : Got (List (Con N))) → each (replaceCon ν l (bindings ν (x ≔ t ∷ []))) rest ≡ r → (q : Got (List (Binding N)))
+          → each (replaceBinding ν l (bindings ν (x ≔ t ∷ []))) s.binds ≡ q → Turn s s'
       go (refused n) i q j = let z : refused n ≡ got s' = rw (i, perform) at e in absurd (got≢refused (sym z))
       go (got cs') i (refused n) j = let z : refused n ≡ got s' = rw (i, j, perform) at e in absurd (got≢refused (sym z))
       go (got cs') i (got bs') j =
           let z : limited l (record { cons = cs'; binds = bs' ++ (x ≔ t ∷ []) }) ≡ got s' = rw (i, j, perform) at e in
           let w : record { cons = cs'; binds = bs' ++ (x ≔ t ∷ []) } ≡ s' = limited-same _ s' z in
-          bound (record { x = x; t = t; rest = rest; found = f; older = bs'; replaced = i ∙ ap (λ (u : State N). got u.cons) w; replacedBinds = j; appended = ap (λ (u : State N). u.binds) (sym w) })
+          bound (record {
+            x = x;
+            t = t;
+            rest = rest;
+            found = f;
+            older = bs';
+            replaced = i ∙ ap (λ (u : State N). got u.cons) w;
+            replacedBinds = j;
+            appended = ap (λ (u : State N). u.binds) (sym w);
+          })
   performed-turn s s' (split new) rest f e =
       let w : record { cons = rest ++ new; binds = s.binds } ≡ s' = limited-same _ s' e in
       parted (record { new = new; rest = rest; found = f; joined = ap (λ (u : State N). u.cons) (sym w); same = ap (λ (u : State N). u.binds) (sym w) })
@@ -132,7 +145,8 @@ module _ {N : Type 0} (ν : Names N) (l : Limits) where
         where
           more : (r : Got (State N)) → perform ν l s.binds v.0 v.1 ≡ r → (perform ν l s.binds v.0 v.1 >>= λ s''. got (some s'')) ≡ got (some s') → Turn s s'
           more (refused n) j h = let z : refused n ≡ got (some s') = rw j at h in absurd (got≢refused (sym z))
-          more (got u) j h = let z : got (some u) ≡ got (some s') = rw j at h in let q : u ≡ s' = cc in performed-turn s s' v.0 v.1 (found s.cons v i) (j ∙ ap got q)
+          more (got u) j h = let z : got (some u) ≡ got (some s') = rw j at h in let q : u ≡ s' = cc
+              in performed-turn s s' v.0 v.1 (found s.cons v i) (j ∙ ap got q)
 
 -- ══ A run ══
 
@@ -143,12 +157,14 @@ pub record Ended {N : Type 0} (ν : Names N) (bs : List (Binding N)) (ns : List 
   pub bounds : ns ≡ sort ν (collect (λ c. to_list (boundOf c)) s.cons)
 
 module _ {N : Type 0} (ν : Names N) (l : Limits) (bs : List (Binding N)) (ns : List N) (j : ℕ) where
-  finished-ended : (cs : List (Con N)) (k : ℕ) (s : State N) → keep (λ c. is_none (boundOf c)) s.cons ≡ cs → finished ν cs k s ≡ accepted bs ns j → Ended ν bs ns s
+  finished-ended : (cs : List (Con N)) (k : ℕ) (s : State N) → keep (λ c. is_none (boundOf c)) s.cons ≡ cs → finished ν cs k s ≡ accepted bs ns j
+      → Ended ν bs ns s
   unfolding finished
   finished-ended [] k s i e = record { left = i; binds = cc; bounds = cc }
   finished-ended (c ∷ cs) k s i e = let z : ◌≡◌ {A = ℕ} 0 1 = cc in absurd (omega arith)
 
-  after-back : (P : State N → Type 0) → ((s : State N) → Ended ν bs ns s → P s) → ((s s' : State N) → Turn ν l s s' → P s' → P s) → (k : ℕ) (s : State N) (more : State N → Answer N) → ((s' : State N) → more s' ≡ accepted bs ns j → P s')
+  after-back : (P : State N → Type 0) → ((s : State N) → Ended ν bs ns s → P s) → ((s s' : State N) → Turn ν l s s' → P s' → P s)
+      → (k : ℕ) (s : State N) (more : State N → Answer N) → ((s' : State N) → more s' ≡ accepted bs ns j → P s')
       → (r : Got (Option (State N))) → round ν l s ≡ r → after ν r k s more ≡ accepted bs ns j → P s
   unfolding after finish
   after-back P end step k s more again (refused n) i e = let z : ◌≡◌ {A = ℕ} 0 1 = cc in absurd (omega arith)
@@ -156,7 +172,8 @@ module _ {N : Type 0} (ν : Names N) (l : Limits) (bs : List (Binding N)) (ns : 
   after-back P end step k s more again (got (some s')) i e = step s s' (turn ν l s s' i) (again s' e)
 
   -- what holds at the end, and before a round if after it, holds from the start
-  pub run-back : (P : State N → Type 0) → ((s : State N) → Ended ν bs ns s → P s) → ((s s' : State N) → Turn ν l s s' → P s' → P s) → (f k : ℕ) (s : State N) → run ν l f k s ≡ accepted bs ns j → P s
+  pub run-back : (P : State N → Type 0) → ((s : State N) → Ended ν bs ns s → P s) → ((s s' : State N) → Turn ν l s s' → P s' → P s)
+      → (f k : ℕ) (s : State N) → run ν l f k s ≡ accepted bs ns j → P s
   unfolding run
   run-back P end step zero k s e = let z : ◌≡◌ {A = ℕ} 0 1 = cc in absurd (omega arith)
   run-back P end step (suc f) k s e = after-back P end step k s (λ s'. run ν l f (suc k) s') (λ s' i. run-back P end step f (suc k) s' i) (round ν l s) refl e

@@ -176,7 +176,8 @@ gcd-one a = eq-one_of_dvd-one (is-gcd a 1).right
 -- common factors 2 come out, and the others don't count
 pub gcd-apart : (i j x y : ℕ) → x % 2 ≡ 1 → i ≤ j → gcd (x * 2 ^ i) (y * 2 ^ j) ≡ gcd x y * 2 ^ i
 gcd-apart i j x y o l =
-    let p : y * 2 ^ j ≡ 2 ^ i * (y * 2 ^ (j - i)) = ap (λ (k : ℕ). y * 2 ^ k) (let e : j ≡ i + (j - i) = omega arith in e) ∙ ap (λ (k : ℕ). y * k) (pow-add 2 i (j - i)) ∙ mul_left_comm y (2 ^ i) (2 ^ (j - i)) in
+    let p : y * 2 ^ j ≡ 2 ^ i * (y * 2 ^ (j - i)) = ap (λ (k : ℕ). y * 2 ^ k) (let e : j ≡ i + (j - i) = omega arith in e)
+    ∙ ap (λ (k : ℕ). y * k) (pow-add 2 i (j - i)) ∙ mul_left_comm y (2 ^ i) (2 ^ (j - i)) in
     ap₂ gcd (mul_comm x (2 ^ i)) p
     ∙ gcd-scale (2 ^ i) (pow_pos i) x (y * 2 ^ (j - i))
     ∙ ap (λ (k : ℕ). 2 ^ i * k) (gcd-twos (j - i) x y o)

@@ -5,9 +5,55 @@ use Rattle.std.proofs.Math.Option.{Option, none, some}
 use mathlib.Core.List.{List, [], ◌∷◌, Memᴰ}
 use Rattle.rules.specs.Base.{Got, got, Limits, each, collect, only_if, is_yes}
 use Rattle.rules.specs.Exponents.{Exp-dec, one}
-use Rattle.rules.specs.Trees.{Open, var, quant, par, free, base, ◌↑◌, Product, Names, Ty, opened, basic, dim, fn, struct, list, Tys, nil, cons, Fields, noFields, field, opens, opensTys, opensFields, openOfFactor, Con, equal, isDim, is_scalar, hasField, opensCon, ◌≔◌}
+use Rattle.rules.specs.Trees.{
+  Open,
+  var,
+  quant,
+  par,
+  free,
+  base,
+  ◌↑◌,
+  Product,
+  Names,
+  Ty,
+  opened,
+  basic,
+  dim,
+  fn,
+  struct,
+  list,
+  Tys,
+  nil,
+  cons,
+  Fields,
+  noFields,
+  field,
+  opens,
+  opensTys,
+  opensFields,
+  openOfFactor,
+  Con,
+  equal,
+  isDim,
+  is_scalar,
+  hasField,
+  opensCon,
+  ◌≔◌,
+}
 use Rattle.rules.specs.Products.{single}
-use Rattle.rules.specs.Replacing.{Look, replaceFactors, replaceProduct, replaceDim, replaceTy, replaceTys, replaceFields, replaceCon, replaceBinding, find, bindings}
+use Rattle.rules.specs.Replacing.{
+  Look,
+  replaceFactors,
+  replaceProduct,
+  replaceDim,
+  replaceTy,
+  replaceTys,
+  replaceFields,
+  replaceCon,
+  replaceBinding,
+  find,
+  bindings,
+}
 use Rattle.laws.specs.Lists.{Every, every-left, every-right, all-every, is-no}
 
 module _ {N : Type 0} (look : Look N) where
@@ -47,25 +93,43 @@ module _ {N : Type 0} (ν : Names N) (l : Limits) (look : Look N) where
     ty_same (opened o) h = rw h.0
     ty_same (basic b) h = refl
     ty_same (dim p) h = dim-same p (single p) refl h
-    ty_same (fn ps r) h = rw (tys_same ps (every-left (λ o. look o ≡ none) (opensTys ps) (opens r) h), ty_same r (every-right (λ o. look o ≡ none) (opensTys ps) (opens r) h))
-    ty_same (struct n as' fs) h = rw (tys_same as' (every-left (λ o. look o ≡ none) (opensTys as') (opensFields fs) h), fields-same fs (every-right (λ o. look o ≡ none) (opensTys as') (opensFields fs) h))
+    ty_same (fn ps r) h = rw (
+      tys_same ps (every-left (λ o. look o ≡ none) (opensTys ps) (opens r) h),
+      ty_same r (every-right (λ o. look o ≡ none) (opensTys ps) (opens r) h),
+    )
+    ty_same (struct n as' fs) h = rw (
+      tys_same as' (every-left (λ o. look o ≡ none) (opensTys as') (opensFields fs) h),
+      fields-same fs (every-right (λ o. look o ≡ none) (opensTys as') (opensFields fs) h),
+    )
     ty_same (list t) h = rw (ty_same t h)
 
     pub tys_same : (ts : Tys N) → Unbound look (opensTys ts) → replaceTys ν l look ts ≡ got ts
     tys_same nil h = refl
-    tys_same (cons t ts) h = rw (ty_same t (every-left (λ o. look o ≡ none) (opens t) (opensTys ts) h), tys_same ts (every-right (λ o. look o ≡ none) (opens t) (opensTys ts) h))
+    tys_same (cons t ts) h = rw (
+      ty_same t (every-left (λ o. look o ≡ none) (opens t) (opensTys ts) h),
+      tys_same ts (every-right (λ o. look o ≡ none) (opens t) (opensTys ts) h),
+    )
 
     pub fields-same : (fs : Fields N) → Unbound look (opensFields fs) → replaceFields ν l look fs ≡ got fs
     fields-same noFields h = refl
-    fields-same (field n t fs) h = rw (ty_same t (every-left (λ o. look o ≡ none) (opens t) (opensFields fs) h), fields-same fs (every-right (λ o. look o ≡ none) (opens t) (opensFields fs) h))
+    fields-same (field n t fs) h = rw (
+      ty_same t (every-left (λ o. look o ≡ none) (opens t) (opensFields fs) h),
+      fields-same fs (every-right (λ o. look o ≡ none) (opens t) (opensFields fs) h),
+    )
 
   -- constraints and bindings, the product of an equal-scalar included
   pub con_same : (c : Con N) → Unbound look (opensCon c) → replaceCon ν l look c ≡ got c
   unfolding replaceCon replaceProduct opensCon opens
-  con_same (equal t u) h = rw (ty_same t (every-left (λ o. look o ≡ none) (opens t) (opens u) h), ty_same u (every-right (λ o. look o ≡ none) (opens t) (opens u) h))
+  con_same (equal t u) h = rw (
+    ty_same t (every-left (λ o. look o ≡ none) (opens t) (opens u) h),
+    ty_same u (every-right (λ o. look o ≡ none) (opens t) (opens u) h),
+  )
   con_same (isDim t) h = rw (ty_same t h)
   con_same (is_scalar p) h = rw (factors-same p p h)
-  con_same (hasField n t u) h = rw (ty_same t (every-left (λ o. look o ≡ none) (opens t) (opens u) h), ty_same u (every-right (λ o. look o ≡ none) (opens t) (opens u) h))
+  con_same (hasField n t u) h = rw (
+    ty_same t (every-left (λ o. look o ≡ none) (opens t) (opens u) h),
+    ty_same u (every-right (λ o. look o ≡ none) (opens t) (opens u) h),
+  )
 
   pub binding_same : (x : N) (t : Ty N) → Unbound look (opens t) → replaceBinding ν l look (x ≔ t) ≡ got (x ≔ t)
   unfolding replaceBinding

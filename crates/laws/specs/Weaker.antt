@@ -59,8 +59,11 @@ module _ {N : Type 0} (ν : Names N) (held : N → Bool) (q r : ℕ) (le : q ≤
   pub product-weaker : (p : Product N) → goodProduct ν held q p ≡ true → goodProduct ν held r p ≡ true
   unfolding goodProduct
   product-weaker p h =
-      both (all (goodFactor ν held q) p && rising (orderAtom ν) (map atomOf p)) (leb (length p) 64) (all (goodFactor ν held r) p && rising (orderAtom ν) (map atomOf p)) (leb (length p) 64) h
-      (λ x. both (all (goodFactor ν held q) p) (rising (orderAtom ν) (map atomOf p)) (all (goodFactor ν held r) p) (rising (orderAtom ν) (map atomOf p)) x (λ y. is_all (goodFactor ν held r) p (λ f m. factor-weaker f (all-is (goodFactor ν held q) p y f m))) (λ y. y)) (λ y. y)
+      both (all (goodFactor ν held q) p && rising (orderAtom ν) (map atomOf p)) (leb (length p) 64)
+      (all (goodFactor ν held r) p && rising (orderAtom ν) (map atomOf p)) (leb (length p) 64) h
+      (λ x. both (all (goodFactor ν held q) p) (rising (orderAtom ν) (map atomOf p)) (all (goodFactor ν held r) p)
+      (rising (orderAtom ν) (map atomOf p)) x
+      (λ y. is_all (goodFactor ν held r) p (λ f m. factor-weaker f (all-is (goodFactor ν held q) p y f m))) (λ y. y)) (λ y. y)
 
   mutual
     unfolding goodTy
@@ -69,16 +72,19 @@ module _ {N : Type 0} (ν : Names N) (held : N → Bool) (q r : ℕ) (le : q ≤
     ty-weaker (opened o) h = open-weaker o h
     ty-weaker (basic b) h = refl
     ty-weaker (dim p) h = product-weaker p h
-    ty-weaker (fn ps u) h = both (goodTys ν held q ps) (goodTy ν held q u) (goodTys ν held r ps) (goodTy ν held r u) h (λ x. tys-weaker ps x) (λ x. ty-weaker u x)
+    ty-weaker (fn ps u) h = both (goodTys ν held q ps) (goodTy ν held q u) (goodTys ν held r ps) (goodTy ν held r u) h (λ x. tys-weaker ps x)
+        (λ x. ty-weaker u x)
     ty-weaker (struct n as' fs) h =
-        both (held n && goodTys ν held q as' && goodFields ν held q fs) (rising ν.order (fieldNames fs)) (held n && goodTys ν held r as' && goodFields ν held r fs) (rising ν.order (fieldNames fs)) h
+        both (held n && goodTys ν held q as' && goodFields ν held q fs) (rising ν.order (fieldNames fs))
+        (held n && goodTys ν held r as' && goodFields ν held r fs) (rising ν.order (fieldNames fs)) h
         (λ x. both (held n && goodTys ν held q as') (goodFields ν held q fs) (held n && goodTys ν held r as') (goodFields ν held r fs) x
         (λ y. both (held n) (goodTys ν held q as') (held n) (goodTys ν held r as') y (λ z. z) (λ x. tys-weaker as' x)) (λ x. fields-weaker fs x)) (λ x. x)
     ty-weaker (list t) h = ty-weaker t h
 
     pub tys-weaker : (ts : Tys N) → goodTys ν held q ts ≡ true → goodTys ν held r ts ≡ true
     tys-weaker nil h = refl
-    tys-weaker (cons t ts) h = both (goodTy ν held q t) (goodTys ν held q ts) (goodTy ν held r t) (goodTys ν held r ts) h (λ x. ty-weaker t x) (λ x. tys-weaker ts x)
+    tys-weaker (cons t ts) h = both (goodTy ν held q t) (goodTys ν held q ts) (goodTy ν held r t) (goodTys ν held r ts) h (λ x. ty-weaker t x)
+        (λ x. tys-weaker ts x)
 
     pub fields-weaker : (fs : Fields N) → goodFields ν held q fs ≡ true → goodFields ν held r fs ≡ true
     fields-weaker noFields h = refl
@@ -92,7 +98,8 @@ module _ {N : Type 0} (ν : Names N) (held : N → Bool) (q r : ℕ) (le : q ≤
   con-weaker (isDim t) h = ty-weaker t h
   con-weaker (is_scalar p) h = product-weaker p h
   con-weaker (hasField n x y) h =
-      both (held n && goodTy ν held q x) (goodTy ν held q y) (held n && goodTy ν held r x) (goodTy ν held r y) h (λ z. both (held n) (goodTy ν held q x) (held n) (goodTy ν held r x) z (λ u. u) (ty-weaker x)) (ty-weaker y)
+      both (held n && goodTy ν held q x) (goodTy ν held q y) (held n && goodTy ν held r x) (goodTy ν held r y) h
+      (λ z. both (held n) (goodTy ν held q x) (held n) (goodTy ν held r x) z (λ u. u) (ty-weaker x)) (ty-weaker y)
 
   pub binding-weaker : (x : Binding N) → goodBinding ν held q x ≡ true → goodBinding ν held r x ≡ true
   unfolding goodBinding

@@ -46,7 +46,8 @@ nothing = record { holds = λ a r e. let z : ◌≡◌ {A = ℕ} 0 1 = cc in abs
 pub given : {A : Type 0} {P : A → List Rec → Type 0} {a : A} {s : List Rec} → P a s → Reads (some (a, s)) P
 given {A} {P} {a} {s} p = record { holds = λ b r e. let t : ◌≡◌ {A = A × List Rec} (a, s) (b, r) = cc in subst (λ (v : A × List Rec). P v.0 v.1) t p }
 
-pub then : {A B : Type 0} {o : Option (A × List Rec)} {f : A → Reader B} {P : A → List Rec → Type 0} {Q : B → List Rec → Type 0} → Reads o P → ((a : A) (s : List Rec) → P a s → Reads (f a s) Q) → Reads (pass o f) Q
+pub then : {A B : Type 0} {o : Option (A × List Rec)} {f : A → Reader B} {P : A → List Rec → Type 0} {Q : B → List Rec → Type 0} → Reads o P
+    → ((a : A) (s : List Rec) → P a s → Reads (f a s) Q) → Reads (pass o f) Q
 then {o} {f} {P} {Q} h k = go o refl
   where
     go : (p : Option _) → o ≡ p → Reads (pass p f) Q
@@ -98,7 +99,8 @@ abbrev pub Is : List Rec → List Rec → List Rec → Type 0
 Is s w rest = (s ≡ w ++ rest) × Small rest
 
 -- what is read and lasts as long as it says is as stated
-pub lasting-read : {A : Type 0} {P : A → List Rec → Type 0} (n m : ℕ) (o : Option (A × List Rec)) → Reads o P → Reads (lasting n m o) (λ a rest. P a rest × (n + length rest ≡ m))
+pub lasting-read : {A : Type 0} {P : A → List Rec → Type 0} (n m : ℕ) (o : Option (A × List Rec)) → Reads o P
+    → Reads (lasting n m o) (λ a rest. P a rest × (n + length rest ≡ m))
 lasting-read n m none h = nothing
 lasting-read {A} {P} n m (some r) h = go (eqb (n + length r.1) m) refl
   where
@@ -122,9 +124,13 @@ begun u a b c rs w rest g e =
 
 -- a part is read by its first record
 pub first_read : {A : Type 0} (w : A → List Rec) (f : ℕ → ℕ → ℕ → ℕ → Reader A) (u a b c : ℕ) (rs : List Rec)
-    → Reads (f (kindIn u) a b c rs) (λ x rest. Begins (kindIn u) a b c rs (w x) rest) → Reads (next f (rec u a b c ∷ rs)) (λ x rest. Is (rec u a b c ∷ rs) (w x) rest)
+    → Reads (f (kindIn u) a b c rs) (λ x rest. Begins (kindIn u) a b c rs (w x) rest)
+    → Reads (next f (rec u a b c ∷ rs)) (λ x rest. Is (rec u a b c ∷ rs) (w x) rest)
 first_read w f u a b c rs h =
-    record { holds = λ x rest e. let i = (lasting-read (lengthIn u) (suc (length rs)) (f (kindIn u) a b c rs) h).holds x rest e in begun u a b c rs (w x) rest i.0 i.1 }
+    record {
+      holds = λ x rest e. let i = (lasting-read (lengthIn u) (suc (length rs)) (f (kindIn u) a b c rs) h).holds x rest e
+          in begun u a b c rs (w x) rest i.0 i.1;
+    }
 
 -- a leaf: one record
 leaf : (k a b c : ℕ) (rs w : List Rec) → w ≡ rec (head k 1) a b c ∷ [] → Small rs → Begins k a b c rs w rs
@@ -160,7 +166,8 @@ Types-read ty = (s : List Rec) → Small s → Reads (ty s) (λ t rest. Is s (wr
 pub after : (s s' w v rest : List Rec) → s ≡ w ++ s' → s' ≡ v ++ rest → s ≡ (w ++ v) ++ rest
 after s s' w v rest i j = i ∙ ap (w ++◌) j ∙ sym (append_assoc w v rest)
 
-tys-read : (ty : Reader (Ty ℕ)) → Types-read ty → (n : ℕ) (s : List Rec) → Small s → Reads (readTys ty n s) (λ ts rest. Is s (writeTys ts) rest × (count ts ≡ n))
+tys-read : (ty : Reader (Ty ℕ)) → Types-read ty → (n : ℕ) (s : List Rec) → Small s
+    → Reads (readTys ty n s) (λ ts rest. Is s (writeTys ts) rest × (count ts ≡ n))
 unfolding readTys writeTy count
 tys-read ty r zero s h = given ((refl, h), refl)
 tys-read ty r (suc n) s h =
@@ -180,7 +187,8 @@ field-read ty r (rec u a b c ∷ rs) h = first_read writeField (fieldKinds ty) u
   tt,
 ))
 
-fields_read : (ty : Reader (Ty ℕ)) → Types-read ty → (n : ℕ) (s : List Rec) → Small s → Reads (readFields ty n s) (λ fs rest. Is s (writeFields fs) rest × (countFields fs ≡ n))
+fields_read : (ty : Reader (Ty ℕ)) → Types-read ty → (n : ℕ) (s : List Rec) → Small s
+    → Reads (readFields ty n s) (λ fs rest. Is s (writeFields fs) rest × (countFields fs ≡ n))
 unfolding readFields writeTy countFields
 fields_read ty r zero s h = given ((refl, h), refl)
 fields_read ty r (suc n) s h =
@@ -197,7 +205,8 @@ leaf-read t k a b c rs e h = given (leaf k a b c rs (writeTy t) e h)
 
 dim-read : (a : ℕ) (rs : List Rec) → Small rs → Body 3 a 0 0 rs (readDim a rs)
 unfolding writeTy writeProduct
-dim-read a rs h = then (factors-read a rs h) (λ p s i. given (record { body = map writeFactor p; is = rw (length-map p writeFactor, i.1) refl; stands = i.0.0; small = i.0.1 }))
+dim-read a rs h = then (factors-read a rs h)
+    (λ p s i. given (record { body = map writeFactor p; is = rw (length-map p writeFactor, i.1) refl; stands = i.0.0; small = i.0.1 }))
 
 module _ (ty : Reader (Ty ℕ)) (r : Types-read ty) where
   fn-read : (a : ℕ) (rs : List Rec) → Small rs → Body 7 a 0 0 rs (readFn ty a rs)
@@ -214,7 +223,12 @@ module _ (ty : Reader (Ty ℕ)) (r : Types-read ty) where
       then (tys-read ty r b rs h) (λ as' s i.
       then (fields_read ty r c s i.0.1) (λ fs s' j.
       let n : suc (length (writeTys as' ++ writeFields fs)) ≡ size (struct a as' fs) = size-ty (struct a as' fs) in
-      given (record { body = writeTys as' ++ writeFields fs; is = rw (n, i.1, j.1) refl; stands = after rs s (writeTys as') (writeFields fs) s' i.0.0 j.0.0; small = j.0.1 })))
+      given (record {
+        body = writeTys as' ++ writeFields fs;
+        is = rw (n, i.1, j.1) refl;
+        stands = after rs s (writeTys as') (writeFields fs) s' i.0.0 j.0.0;
+        small = j.0.1;
+      })))
 
   list_read : (rs : List Rec) → Small rs → Body 10 0 0 0 rs (readList ty rs)
   unfolding writeTy

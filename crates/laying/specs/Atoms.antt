@@ -1,7 +1,21 @@
 -- Atoms of the code and of the trees, and rows with zeros past their columns.
 use Rattle.std.specs.Prelude.{◌≡◌, Bool, true, false, cond, eqb, length, take, drop, get_or, set, replicate}
 use Rattle.std.proofs.Math.Path.{refl}
-use Rattle.std.proofs.Common.{ap, ◌∙◌, sym, arith, add-one, eqb-true, eq-eqb, length-append, drop_of_length-le, length-take-le, take-suc, get_or-take, get_or-append-add}
+use Rattle.std.proofs.Common.{
+  ap,
+  ◌∙◌,
+  sym,
+  arith,
+  add-one,
+  eqb-true,
+  eq-eqb,
+  length-append,
+  drop_of_length-le,
+  length-take-le,
+  take-suc,
+  get_or-take,
+  get_or-append-add,
+}
 use mathlib.Core.List.{List, [], ◌∷◌, ◌++◌, append_assoc}
 use Prim.Native.Nat.{ℕ, zero, suc, ◌+◌, ◌-◌, ◌≤◌, ◌<◌}
 use Rattle.std.proofs.lemmas.List.{length-replicate, length-map, set_at}
@@ -103,7 +117,10 @@ pub atom-other : (a b : Atom) → sameAtom a b ≡ false → atomOf a ≡ atomOf
 unfolding sameAtom
 atom-other a b e i =
     let p : ◌≡◌ {A = ℕ × ℕ} (atomRank a, atomNumber a) (atomRank b, atomNumber b) = sym (ranked-is a) ∙ ap ranked i ∙ ranked-is b in
-    true≢false (sym (rw (eq-eqb (atomRank a) (atomRank b) (ap (λ (q : ℕ × ℕ). q.0) p), eq-eqb (atomNumber a) (atomNumber b) (ap (λ (q : ℕ × ℕ). q.1) p)) refl) ∙ e)
+    true≢false (sym (rw (
+      eq-eqb (atomRank a) (atomRank b) (ap (λ (q : ℕ × ℕ). q.0) p),
+      eq-eqb (atomNumber a) (atomNumber b) (ap (λ (q : ℕ × ℕ). q.1) p),
+    ) refl) ∙ e)
 
 -- ══ Held products, and their rows ══
 
@@ -134,11 +151,16 @@ atom-back (tree.base x) = refl
 
 -- ══ The power of an atom, factor by factor ══
 
-power-step : (names : List Bytes) (f : Factor ℕ) (q : Product ℕ) (a : tree.Atom ℕ) → (a ≡ atomIn f → powerIn (numbered names) (f ∷ q) a ≡ powerOf f) × ((a ≡ atomIn f → ⊥) → powerIn (numbered names) (f ∷ q) a ≡ powerIn (numbered names) q a)
+power-step : (names : List Bytes) (f : Factor ℕ) (q : Product ℕ) (a : tree.Atom ℕ) → (a ≡ atomIn f → powerIn (numbered names) (f ∷ q) a ≡ powerOf f)
+    × ((a ≡ atomIn f → ⊥) → powerIn (numbered names) (f ∷ q) a ≡ powerIn (numbered names) q a)
 unfolding powerIn
-power-step names (c ↑ e) q a = (λ i. rw (is-yes ((atomNames (numbered names)).same a c) i, powerIn) refl, λ i. rw (is-no ((atomNames (numbered names)).same a c) i, powerIn) refl)
+power-step names (c ↑ e) q a = (
+  λ i. rw (is-yes ((atomNames (numbered names)).same a c) i, powerIn) refl,
+  λ i. rw (is-no ((atomNames (numbered names)).same a c) i, powerIn) refl,
+)
 
-module _ (names : List Bytes) (s : List ℕ) (p : Product ℕ) (at i : ℕ) (a b : Atom) (num den : ℕ) (h : HoldsFactors s p at) (l : i < length p) (v : viewAt s (at + i) ≡ view.Factor b num den) where
+module _ (names : List Bytes) (s : List ℕ) (p : Product ℕ) (at i : ℕ) (a b : Atom) (num den : ℕ) (h : HoldsFactors s p at) (l : i < length p)
+    (v : viewAt s (at + i) ≡ view.Factor b num den) where
   -- the factor at this place
   here : (f : Factor ℕ) → HoldsFactor s f (at + i) → (atomOf b ≡ atomIn f) × (frac (signed num) den ≡ powerOf f)
   here (c ↑ frac n d) k =
@@ -184,7 +206,8 @@ module _ (d : tree.Atom ℕ) where
   column-base (suc v) p (x ∷ xs) zero h k = absurd (omega arith)
   column-base (suc v) p (x ∷ xs) (suc j) h k = column-base v p xs j (omega arith) (omega arith)
 
-  pub column-parameter : (v p : ℕ) (xs : List ℕ) (j : ℕ) → j < length xs → v ≤ j → j < v + p → get_or (atomsFrom v p xs) j d ≡ tree.free (tree.par (get_or xs j 0))
+  pub column-parameter : (v p : ℕ) (xs : List ℕ) (j : ℕ) → j < length xs → v ≤ j → j < v + p
+      → get_or (atomsFrom v p xs) j d ≡ tree.free (tree.par (get_or xs j 0))
   unfolding atomsFrom
   column-parameter v p [] j h k l = absurd (omega arith)
   column-parameter zero zero (x ∷ xs) j h k l = absurd (omega arith)
@@ -248,7 +271,8 @@ pub no-columns : (r : Row) → row_in r ≡ replicate 48 nought → RowIs r []
 no-columns r e = record { wide = record { long = ap length e ∙ length-replicate 48 nought; good = rw e (zeros-good 48) }; is = e }
 
 -- one more column
-pub one_more : (r r' : Row) (l : Rows.Row) (j : ℕ) (e : Exp) → j < length l → length l ≤ 48 → RowIs r (take j l) → e ≡ get_or l j nought → Wide r' → row_in r' ≡ set (row_in r) j e → RowIs r' (take (j + 1) l)
+pub one_more : (r r' : Row) (l : Rows.Row) (j : ℕ) (e : Exp) → j < length l → length l ≤ 48 → RowIs r (take j l) → e ≡ get_or l j nought → Wide r'
+    → row_in r' ≡ set (row_in r) j e → RowIs r' (take (j + 1) l)
 one_more r r' l j e h m g i w k =
     let n : length (take j l) ≡ j = length-take-le j l (omega arith) in
     let t : take (j + 1) l ≡ take j l ++ (get_or l j nought ∷ []) = rw (add-one j) (take-suc l j nought h) in
@@ -256,24 +280,29 @@ one_more r r' l j e h m g i w k =
     let z : 48 - j ≡ suc (48 - (j + 1)) = omega arith in
     record {
       wide = w;
-      is = k ∙ rw (g.is, n, n', z, t, i) (set_at (take j l) nought (replicate (48 - (j + 1)) nought) (get_or l j nought) j n ∙ sym (append_assoc (take j l) (get_or l j nought ∷ []) (replicate (48 - (j + 1)) nought)));
+      is = k ∙ rw (g.is, n, n', z, t, i)
+          (set_at (take j l) nought (replicate (48 - (j + 1)) nought) (get_or l j nought) j n
+          ∙ sym (append_assoc (take j l) (get_or l j nought ∷ []) (replicate (48 - (j + 1)) nought)));
     }
 
 pub row-long : (names : List Bytes) (cols : List (tree.Atom ℕ)) (p : Product ℕ) → length (row_of (numbered names) cols p) ≡ length cols
 unfolding row_of
 row-long names cols p = length-map cols (powerIn (numbered names) p)
 
-pub row_at : (names : List Bytes) (cols : List (tree.Atom ℕ)) (p : Product ℕ) (j : ℕ) (d : tree.Atom ℕ) → j < length cols → powerIn (numbered names) p (get_or cols j d) ≡ get_or (row_of (numbered names) cols p) j nought
+pub row_at : (names : List Bytes) (cols : List (tree.Atom ℕ)) (p : Product ℕ) (j : ℕ) (d : tree.Atom ℕ) → j < length cols
+    → powerIn (numbered names) p (get_or cols j d) ≡ get_or (row_of (numbered names) cols p) j nought
 unfolding row_of
 row_at names [] p j d h = absurd (omega arith)
 row_at names (a ∷ cols) p zero d h = refl
 row_at names (a ∷ cols) p (suc j) d h = row_at names cols p j d (omega arith)
 
-pub power-good : (names : List Bytes) (p : Product ℕ) (a : tree.Atom ℕ) → Every (λ f. goodExp (powerOf f) ≡ true) p → goodExp (powerIn (numbered names) p a) ≡ true
+pub power-good : (names : List Bytes) (p : Product ℕ) (a : tree.Atom ℕ) → Every (λ f. goodExp (powerOf f) ≡ true) p
+    → goodExp (powerIn (numbered names) p a) ≡ true
 unfolding powerIn
 power-good names [] a h = nought-good
 power-good names (b ↑ e ∷ p) a h = go (is_yes ((atomNames (numbered names)).same a b)) refl (power-good names p a h.1)
   where
-    go : (t : Bool) → is_yes ((atomNames (numbered names)).same a b) ≡ t → goodExp (powerIn (numbered names) p a) ≡ true → goodExp (powerIn (numbered names) (b ↑ e ∷ p) a) ≡ true
+    go : (t : Bool) → is_yes ((atomNames (numbered names)).same a b) ≡ t → goodExp (powerIn (numbered names) p a) ≡ true
+        → goodExp (powerIn (numbered names) (b ↑ e ∷ p) a) ≡ true
     go true i g = rw (i, powerIn) h.0
     go false i g = rw (i, powerIn) g

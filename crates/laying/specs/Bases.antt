@@ -22,7 +22,8 @@ module _ (s : List ℕ) where
   from-append (suc m) n at =
       let z : suc m + n ≡ suc (m + n) = omega arith in
       let y : at + 1 + m ≡ at + suc m = omega arith in
-      rw z (ap (basesView (viewAt s at) ++◌) (from-append m n (at + 1) ∙ ap (λ (x : ℕ). basesFrom s m (at + 1) ++ basesFrom s n x) y) ∙ sym (append_assoc (basesView (viewAt s at)) (basesFrom s m (at + 1)) (basesFrom s n (at + suc m))))
+      rw z (ap (basesView (viewAt s at) ++◌) (from-append m n (at + 1) ∙ ap (λ (x : ℕ). basesFrom s m (at + 1) ++ basesFrom s n x) y)
+      ∙ sym (append_assoc (basesView (viewAt s at)) (basesFrom s m (at + 1)) (basesFrom s n (at + suc m))))
 
   factor-bases : (f : Factor ℕ) (at : ℕ) → HoldsFactor s f at → basesView (viewAt s at) ≡ basesOf (atomOf f ∷ [])
   factor-bases (free (var x) ↑ frac n d) at h = ap basesView h.0
@@ -45,5 +46,8 @@ module _ (s : List ℕ) where
   set-bases (p ∷ ps) at e l =
       let m = sizeCon (is_scalar p) in
       let r = set-bases ps (at + m) e l.2 in
-      let z : e - at ≡ m + (e - (at + m)) = omega (arith, r.0) in
-      (omega (arith, r.0), rw z (from-append m (e - (at + m)) at ∙ ap₂ ◌++◌ (con-bases p at l.0) r.1 ∙ sym (bases-append (map atomOf p) (collect (λ p. map atomOf p) ps))))
+      let z : e - at ≡ m + (e - (at + m)) = omega (arith, r.0) in (
+        omega (arith, r.0),
+        rw z (from-append m (e - (at + m)) at ∙ ap₂ ◌++◌ (con-bases p at l.0) r.1
+            ∙ sym (bases-append (map atomOf p) (collect (λ p. map atomOf p) ps))),
+      )

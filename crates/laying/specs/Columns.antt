@@ -109,9 +109,11 @@ module _ (ν : Names ℕ) (s : List ℕ) (e : ℕ) where
   pub too-many : (24 < length (vars ν s e)) ⊎ (24 < length (pars ν s e) + length (bases ν s e)) → listed ν s e ≡ refused 8
   unfolding listed
   too-many (inl h) = rw (lt-leb (length (vars ν s e)) 24 h) refl
-  too-many (inr h) = rw (lt-leb (length (pars ν s e) + length (bases ν s e)) 24 h) (either-many (leb (length (vars ν s e)) 24) (got (length (vars ν s e), length (pars ν s e), vars ν s e ++ pars ν s e ++ bases ν s e)))
+  too-many (inr h) = rw (lt-leb (length (pars ν s e) + length (bases ν s e)) 24 h)
+      (either-many (leb (length (vars ν s e)) 24) (got (length (vars ν s e), length (pars ν s e), vars ν s e ++ pars ν s e ++ bases ν s e)))
 
-  pub few-enough : length (vars ν s e) ≤ 24 → length (pars ν s e) + length (bases ν s e) ≤ 24 → listed ν s e ≡ got (length (vars ν s e), length (pars ν s e), vars ν s e ++ pars ν s e ++ bases ν s e)
+  pub few-enough : length (vars ν s e) ≤ 24 → length (pars ν s e) + length (bases ν s e) ≤ 24
+      → listed ν s e ≡ got (length (vars ν s e), length (pars ν s e), vars ν s e ++ pars ν s e ++ bases ν s e)
   unfolding listed
   few-enough v o = rw (le-leb (length (vars ν s e)) 24 v, le-leb (length (pars ν s e) + length (bases ν s e)) 24 o) refl
 
@@ -119,7 +121,8 @@ module _ (ν : Names ℕ) (s : List ℕ) (e : ℕ) where
   unfolding listed
   listed-eight =
       next (need (leb (length (vars ν s e)) 24) 8) _ (need-eight (leb (length (vars ν s e)) 24))
-      (λ _. next (need (leb (length (pars ν s e) + length (bases ν s e)) 24) 8) _ (need-eight (leb (length (pars ν s e) + length (bases ν s e)) 24)) (λ _. given))
+      (λ _. next (need (leb (length (pars ν s e) + length (bases ν s e)) 24) 8) _ (need-eight (leb (length (pars ν s e) + length (bases ν s e)) 24))
+      (λ _. given))
     where
       need-eight : (b : Bool) → Refuses (λ n. n ≡ 8) (need b 8)
       need-eight true = given
@@ -147,7 +150,8 @@ module _ (ν : Names ℕ) (s : List ℕ) (e : ℕ) where
         few-others = leb-true _ _ (need-passed (leb (length (pars ν s e) + length (bases ν s e)) 24) 8 b.1);
       }
 
-  module _ (k : Columns) (vb pb bb : List ℕ) (fv : Filled (vars ν s e) k.variables vb k.vars) (fp : Filled (pars ν s e) k.parameters pb k.pars) (fb : Filled (bases ν s e) k.dimensions bb k.bases) (hv : k.variables ≤ 24) (ho : k.parameters + k.dimensions ≤ 24) where
+  module _ (k : Columns) (vb pb bb : List ℕ) (fv : Filled (vars ν s e) k.variables vb k.vars) (fp : Filled (pars ν s e) k.parameters pb k.pars)
+      (fb : Filled (bases ν s e) k.dimensions bb k.bases) (hv : k.variables ≤ 24) (ho : k.parameters + k.dimensions ≤ 24) where
     pub laid-well : length vb ≡ 256 → length pb ≡ 256 → length bb ≡ 256 → k.len ≡ k.variables + k.parameters + k.dimensions → Laid k
     laid-well lv lp lb all = record {
       vars-long = ap length fv.buffer ∙ over-long (vars ν s e) vb lv (omega (arith, fv.many));
@@ -163,5 +167,6 @@ module _ (ν : Names ℕ) (s : List ℕ) (e : ℕ) where
     listed-well =
         rw (le-leb (length (vars ν s e)) 24 (omega (arith, fv.many)), le-leb (length (pars ν s e) + length (bases ν s e)) 24 (omega (arith, fp.many, fb.many)))
         (ap got (ap₂ (λ (x : ℕ × ℕ) (xs : List ℕ). (x.0, x.1, xs)) (ap₂ (λ (x y : ℕ). (x, y)) fv.many fp.many)
-        (ap₂ ◌++◌ (ap₂ ◌++◌ (ap (take k.variables) fv.buffer ∙ over-front (vars ν s e) vb k.variables fv.many) (ap (take k.parameters) fp.buffer ∙ over-front (pars ν s e) pb k.parameters fp.many))
+        (ap₂ ◌++◌ (ap₂ ◌++◌ (ap (take k.variables) fv.buffer ∙ over-front (vars ν s e) vb k.variables fv.many)
+        (ap (take k.parameters) fp.buffer ∙ over-front (pars ν s e) pb k.parameters fp.many))
         (ap (take k.dimensions) fb.buffer ∙ over-front (bases ν s e) bb k.dimensions fb.many))))

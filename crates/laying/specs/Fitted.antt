@@ -80,7 +80,8 @@ module _ (pool table s : List ℕ) where
     all_named : (qs : List (Product ℕ)) (at : ℕ) → Chain (GoodCon pool table 0 s) e (map is_scalar qs) at → Every Named (collect (λ p. map atomOf p) qs)
     unfolding collect goodCon
     all_named [] at c = tt
-    all_named (p ∷ qs) at c = factors-named p (collect (λ p. map atomOf p) qs) (good-product ν (atom-lawful ν law) (holding pool table) 0 p c.1.0.good).each (all_named qs c.0 c.1.1)
+    all_named (p ∷ qs) at c = factors-named p (collect (λ p. map atomOf p) qs)
+        (good-product ν (atom-lawful ν law) (holding pool table) 0 p c.1.0.good).each (all_named qs c.0 c.1.1)
 
     vars-are : vars ν s e ≡ sort ν (varsOf atoms)
     vars-are = ap (λ (os : List (Open ℕ)). sort ν (variablesIn os)) (set-opens pool table 0 s (map is_scalar ps) 0 e chain) ∙ ap (sort ν) (set-variables ps)
@@ -114,30 +115,40 @@ module _ (pool table s : List ℕ) where
 
     pub fits-so : length ps ≤ 24 → length (vars ν s e) ≤ 24 → length (pars ν s e) + length (bases ν s e) ≤ 24 → fits ν ps ≡ true
     unfolding fits
-    fits-so n v o = simp (le-leb (length ps) 24 n, many-variables, le-leb (length (vars ν s e)) 24 v, many-others, le-leb (length (pars ν s e) + length (bases ν s e)) 24 o)
+    fits-so n v o = simp (
+      le-leb (length ps) 24 n,
+      many-variables,
+      le-leb (length (vars ν s e)) 24 v,
+      many-others,
+      le-leb (length (pars ν s e) + length (bases ν s e)) 24 o,
+    )
 
     -- and where it does, all three counts are so
     pub fits-then : fits ν ps ≡ true → (length ps ≤ 24) × (length (vars ν s e) ≤ 24) × (length (pars ν s e) + length (bases ν s e) ≤ 24)
     unfolding fits
     fits-then f =
         let l = and_left (leb (length ps) 24 && leb (length (keep isVariable (columns ν ps))) 24) _ f in
-        let r = leb-true (length (keep (λ a. not (isVariable a)) (columns ν ps))) 24 (and_right (leb (length ps) 24 && leb (length (keep isVariable (columns ν ps))) 24) _ f) in
+        let r = leb-true (length (keep (λ a. not (isVariable a)) (columns ν ps))) 24
+        (and_right (leb (length ps) 24 && leb (length (keep isVariable (columns ν ps))) 24) _ f) in
         let v = leb-true (length (keep isVariable (columns ν ps))) 24 (and_right (leb (length ps) 24) _ l) in
         (leb-true (length ps) 24 (and_left (leb (length ps) 24) _ l), omega (arith, v, many-variables), omega (arith, r, many-others))
 
     -- ══ All names are held ══
 
-    factors-bases : (p : Product ℕ) (as' : List (Atom ℕ)) → Every (GoodFactor ν (holding pool table) 0) p → Below.Every (λ x. x < get_or table 0 0) (basesOf as') → Below.Every (λ x. x < get_or table 0 0) (basesOf (map atomOf p ++ as'))
+    factors-bases : (p : Product ℕ) (as' : List (Atom ℕ)) → Every (GoodFactor ν (holding pool table) 0) p
+        → Below.Every (λ x. x < get_or table 0 0) (basesOf as') → Below.Every (λ x. x < get_or table 0 0) (basesOf (map atomOf p ++ as'))
     factors-bases [] as' h k = k
     factors-bases (free (var x) ↑ d ∷ p) as' h k = factors-bases p as' h.1 k
     factors-bases (free (quant i) ↑ d ∷ p) as' h k = factors-bases p as' h.1 k
     factors-bases (free (par x) ↑ d ∷ p) as' h k = factors-bases p as' h.1 k
     factors-bases (base n ↑ d ∷ p) as' h k = (rw (count-is pool table) at (ltb-true n (table_of pool table).count h.0.0), factors-bases p as' h.1 k)
 
-    all-bases : (qs : List (Product ℕ)) (at : ℕ) → Chain (GoodCon pool table 0 s) e (map is_scalar qs) at → Below.Every (λ x. x < get_or table 0 0) (basesOf (collect (λ p. map atomOf p) qs))
+    all-bases : (qs : List (Product ℕ)) (at : ℕ) → Chain (GoodCon pool table 0 s) e (map is_scalar qs) at
+        → Below.Every (λ x. x < get_or table 0 0) (basesOf (collect (λ p. map atomOf p) qs))
     unfolding collect goodCon
     all-bases [] at c = tt
-    all-bases (p ∷ qs) at c = factors-bases p (collect (λ p. map atomOf p) qs) (good-product ν (atom-lawful ν law) (holding pool table) 0 p c.1.0.good).each (all-bases qs c.0 c.1.1)
+    all-bases (p ∷ qs) at c = factors-bases p (collect (λ p. map atomOf p) qs)
+        (good-product ν (atom-lawful ν law) (holding pool table) 0 p c.1.0.good).each (all-bases qs c.0 c.1.1)
 
     pub known : Known (get_or table 0 0) s e
     known =

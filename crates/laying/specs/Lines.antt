@@ -213,7 +213,13 @@ module _ (names : List Bytes) (cols : List (tree.Atom ℕ)) (s : List ℕ) (cs :
   scalar-con at (isDim t) h p e = absurd (true≢false (sym e ∙ ap saysScalar h.0))
   scalar-con at (is_scalar q) h p e =
       let two : at + 1 + 1 ≡ at + 2 = omega arith in
-      record { product = q; is = refl; count = ap countOf h.1.0; held = record { held = subst (HoldsFactors s q) two h.1.1; long = refl; good = p.0 }; few = p.1 }
+      record {
+        product = q;
+        is = refl;
+        count = ap countOf h.1.0;
+        held = record { held = subst (HoldsFactors s q) two h.1.1; long = refl; good = p.0 };
+        few = p.1;
+      }
   scalar-con at (hasField n l r) h p e = absurd (true≢false (sym e ∙ ap saysScalar h.0))
 
   pub other-con : (at : ℕ) (c : Con ℕ) → HoldsCon s c at → saysScalar (viewAt s at) ≡ false → scalarOf c ≡ refused 8
@@ -247,7 +253,8 @@ module _ (names : List Bytes) (cols : List (tree.Atom ℕ)) (s : List ℕ) (cs :
             let m : length ps ≡ length w.done + length a.value = ap length (sym a.is) ∙ length-append w.done a.value in
             omega (arith, l, m, w.many, k)
 
-    pub going_on : (c : Scalar at this.con) (g' : Grid) (r : Row) → n < 24 → WideGrid g → RowIs r (row_of (numbered names) cols c.product) → rowsIn g' ≡ set (rowsIn g) n (row_in r)
+    pub going_on : (c : Scalar at this.con) (g' : Grid) (r : Row) → n < 24 → WideGrid g → RowIs r (row_of (numbered names) cols c.product)
+        → rowsIn g' ≡ set (rowsIn g) n (row_in r)
         → Going names cols s cs (at + 2 + length c.product) e (n + 1) g'
     unfolding each sizeCon size scalarOf
     going_on c g' r k wide ri i =
@@ -256,14 +263,16 @@ module _ (names : List Bytes) (cols : List (tree.Atom ℕ)) (s : List ℕ) (cs :
           done = w.done ++ (c.product ∷ []);
           more = this.others;
           lined = subst (λ (x : ℕ). Lined s this.others x e) past this.next;
-          whole = w.whole ∙ ap (λ (m : List (Con ℕ)). each scalarOf m >>= λ qs. got (w.done ++ qs)) (this.is ∙ ap (◌∷ this.others) c.is) ∙ again (each scalarOf this.others);
+          whole = w.whole ∙ ap (λ (m : List (Con ℕ)). each scalarOf m >>= λ qs. got (w.done ++ qs)) (this.is ∙ ap (◌∷ this.others) c.is)
+              ∙ again (each scalarOf this.others);
           many = omega (arith, w.many, length-append w.done (c.product ∷ []));
           rows = rw (add-one n, i) (take-suc-set (rowsIn g) n (row_in r) (omega (arith, grid-long g wide)))
               ∙ ap₂ (λ (xs : List Rows.Row) (x : Rows.Row). xs ++ (x ∷ [])) w.rows ri.is
               ∙ sym (map-append (λ p. padded (row_of (numbered names) cols p)) w.done (c.product ∷ []));
         }
       where
-        again : (m : Got (List (Product ℕ))) → ((m >>= λ qs. got (c.product ∷ qs)) >>= λ qs. got (w.done ++ qs)) ≡ (m >>= λ qs. got ((w.done ++ (c.product ∷ [])) ++ qs))
+        again : (m : Got (List (Product ℕ)))
+            → ((m >>= λ qs. got (c.product ∷ qs)) >>= λ qs. got (w.done ++ qs)) ≡ (m >>= λ qs. got ((w.done ++ (c.product ∷ [])) ++ qs))
         again (got qs) = ap got (sym (append_assoc w.done (c.product ∷ []) qs))
         again (refused j) = refl
 

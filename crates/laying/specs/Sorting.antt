@@ -54,33 +54,40 @@ module _ {N : Type 0} (ν : Names N) where
   put-base z [] = refl
   put-base z (y ∷ zs) = go (ν.order z y) refl (put-base z zs)
     where
-      go : (o : Ordering) → ν.order z y ≡ o → sorted (atomNames ν) (base z) (map base zs) ≡ map base (sorted ν z zs) → sorted (atomNames ν) (base z) (base y ∷ map base zs) ≡ map base (sorted ν z (y ∷ zs))
+      go : (o : Ordering) → ν.order z y ≡ o → sorted (atomNames ν) (base z) (map base zs) ≡ map base (sorted ν z zs)
+          → sorted (atomNames ν) (base z) (base y ∷ map base zs) ≡ map base (sorted ν z (y ∷ zs))
       go Ordering.lt e r = rw (e, sorted) refl
       go Ordering.eq e r = rw (e, sorted) refl
       go Ordering.gt e r = rw (e, sorted) (ap (base y ∷◌) r)
 
-  past-parameters : (z : N) (ys : List N) (rest : List (Atom N)) → sorted (atomNames ν) (base z) (map (λ y. free (par y)) ys ++ rest) ≡ map (λ y. free (par y)) ys ++ sorted (atomNames ν) (base z) rest
+  past-parameters : (z : N) (ys : List N) (rest : List (Atom N))
+      → sorted (atomNames ν) (base z) (map (λ y. free (par y)) ys ++ rest) ≡ map (λ y. free (par y)) ys ++ sorted (atomNames ν) (base z) rest
   unfolding sorted orderAtom
   past-parameters z [] rest = refl
   past-parameters z (y ∷ ys) rest = ap (free (par y) ∷◌) (past-parameters z ys rest)
 
-  base-past : (z : N) (xs : List N) (rest : List (Atom N)) → sorted (atomNames ν) (base z) (map (λ x. free (var x)) xs ++ rest) ≡ map (λ x. free (var x)) xs ++ sorted (atomNames ν) (base z) rest
+  base-past : (z : N) (xs : List N) (rest : List (Atom N))
+      → sorted (atomNames ν) (base z) (map (λ x. free (var x)) xs ++ rest) ≡ map (λ x. free (var x)) xs ++ sorted (atomNames ν) (base z) rest
   unfolding sorted orderAtom
   base-past z [] rest = refl
   base-past z (x ∷ xs) rest = ap (free (var x) ∷◌) (base-past z xs rest)
 
-  parameter-past : (y : N) (xs : List N) (rest : List (Atom N)) → sorted (atomNames ν) (free (par y)) (map (λ x. free (var x)) xs ++ rest) ≡ map (λ x. free (var x)) xs ++ sorted (atomNames ν) (free (par y)) rest
+  parameter-past : (y : N) (xs : List N) (rest : List (Atom N))
+      → sorted (atomNames ν) (free (par y)) (map (λ x. free (var x)) xs ++ rest) ≡ map (λ x. free (var x)) xs
+      ++ sorted (atomNames ν) (free (par y)) rest
   unfolding sorted orderAtom orderOpen
   parameter-past y [] rest = refl
   parameter-past y (x ∷ xs) rest = ap (free (var x) ∷◌) (parameter-past y xs rest)
 
-  put-parameter : (y : N) (ys zs : List N) → sorted (atomNames ν) (free (par y)) (map (λ y. free (par y)) ys ++ map base zs) ≡ map (λ y. free (par y)) (sorted ν y ys) ++ map base zs
+  put-parameter : (y : N) (ys zs : List N)
+      → sorted (atomNames ν) (free (par y)) (map (λ y. free (par y)) ys ++ map base zs) ≡ map (λ y. free (par y)) (sorted ν y ys) ++ map base zs
   unfolding sorted orderAtom orderOpen
   put-parameter y [] [] = refl
   put-parameter y [] (z ∷ zs) = refl
   put-parameter y (w ∷ ys) zs = go (ν.order y w) refl (put-parameter y ys zs)
     where
-      go : (o : Ordering) → ν.order y w ≡ o → sorted (atomNames ν) (free (par y)) (map (λ y. free (par y)) ys ++ map base zs) ≡ map (λ y. free (par y)) (sorted ν y ys) ++ map base zs
+      go : (o : Ordering) → ν.order y w ≡ o
+          → sorted (atomNames ν) (free (par y)) (map (λ y. free (par y)) ys ++ map base zs) ≡ map (λ y. free (par y)) (sorted ν y ys) ++ map base zs
           → sorted (atomNames ν) (free (par y)) (map (λ y. free (par y)) (w ∷ ys) ++ map base zs) ≡ map (λ y. free (par y)) (sorted ν y (w ∷ ys)) ++ map base zs
       go Ordering.lt e r = rw (e, sorted) refl
       go Ordering.eq e r = rw (e, sorted) refl
@@ -93,7 +100,8 @@ module _ {N : Type 0} (ν : Names N) where
   put-variable x [] (y ∷ ys) zs = refl
   put-variable x (w ∷ xs) ys zs = go (ν.order x w) refl (put-variable x xs ys zs)
     where
-      go : (o : Ordering) → ν.order x w ≡ o → sorted (atomNames ν) (free (var x)) (in_turn xs ys zs) ≡ in_turn (sorted ν x xs) ys zs → sorted (atomNames ν) (free (var x)) (in_turn (w ∷ xs) ys zs) ≡ in_turn (sorted ν x (w ∷ xs)) ys zs
+      go : (o : Ordering) → ν.order x w ≡ o → sorted (atomNames ν) (free (var x)) (in_turn xs ys zs) ≡ in_turn (sorted ν x xs) ys zs
+          → sorted (atomNames ν) (free (var x)) (in_turn (w ∷ xs) ys zs) ≡ in_turn (sorted ν x (w ∷ xs)) ys zs
       go Ordering.lt e r = rw (e, sorted) refl
       go Ordering.eq e r = rw (e, sorted) refl
       go Ordering.gt e r = rw (e, sorted) (ap (free (var w) ∷◌) r)
@@ -101,7 +109,8 @@ module _ {N : Type 0} (ν : Names N) where
   pub in-turn : (as' : List (Atom N)) → Every Named as' → sort (atomNames ν) as' ≡ in_turn (sort ν (varsOf as')) (sort ν (parsOf as')) (sort ν (basesOf as'))
   unfolding sort
   in-turn [] h = refl
-  in-turn (free (var x) ∷ as') h = ap (sorted (atomNames ν) (free (var x))) (in-turn as' h.1) ∙ put-variable x (sort ν (varsOf as')) (sort ν (parsOf as')) (sort ν (basesOf as'))
+  in-turn (free (var x) ∷ as') h = ap (sorted (atomNames ν) (free (var x))) (in-turn as' h.1)
+      ∙ put-variable x (sort ν (varsOf as')) (sort ν (parsOf as')) (sort ν (basesOf as'))
   in-turn (free (quant i) ∷ as') h = absurd h.0
   in-turn (free (par y) ∷ as') h =
       ap (sorted (atomNames ν) (free (par y))) (in-turn as' h.1)
@@ -110,7 +119,8 @@ module _ {N : Type 0} (ν : Names N) where
   in-turn (base z ∷ as') h =
       ap (sorted (atomNames ν) (base z)) (in-turn as' h.1)
       ∙ base-past z (sort ν (varsOf as')) _
-      ∙ ap (map (λ x. free (var x)) (sort ν (varsOf as')) ++◌) (past-parameters z (sort ν (parsOf as')) _ ∙ ap (map (λ y. free (par y)) (sort ν (parsOf as')) ++◌) (put-base z (sort ν (basesOf as'))))
+      ∙ ap (map (λ x. free (var x)) (sort ν (varsOf as')) ++◌)
+      (past-parameters z (sort ν (parsOf as')) _ ∙ ap (map (λ y. free (par y)) (sort ν (parsOf as')) ++◌) (put-base z (sort ν (basesOf as'))))
 
 -- ══ As the code has them ══
 

@@ -18,7 +18,8 @@ pub record OneResult (a b : Result ℕ Refusal) (result result' work work' : Lis
   pub results : result ≡ result'
   pub works : work ≡ work'
 
-pub one-result : (a b : Result ℕ Refusal) (result result' work work' : List ℕ) → writtenAs a result work ≡ writtenAs b result' work' → OneResult a b result result' work work'
+pub one-result : (a b : Result ℕ Refusal) (result result' work work' : List ℕ) → writtenAs a result work ≡ writtenAs b result' work'
+    → OneResult a b result result' work work'
 one-result a b result result' work work' e = record {
   answer = told-injective a b (ap (λ (w : Written). w.answer) e);
   results = ap (λ (w : Written). w.result) e;

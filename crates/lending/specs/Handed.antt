@@ -35,21 +35,25 @@ module _ (m : Got (List Rec)) (w : List ℕ) where
       record { records = rs; is = e; many = q; front = x.front rs e }
 
   module _ (result : List ℕ) where
-    put : (n : ℕ) (rs : List Rec) (d' z : List ℕ) → m ≡ got rs → n ≡ length rs → d' ≡ words rs ++ drop (length (words rs)) result → z ≡ replicate (length w) 0 → writtenAs (Ok n) d' z ≡ handed m result w
+    put : (n : ℕ) (rs : List Rec) (d' z : List ℕ) → m ≡ got rs → n ≡ length rs → d' ≡ words rs ++ drop (length (words rs)) result
+        → z ≡ replicate (length w) 0 → writtenAs (Ok n) d' z ≡ handed m result w
     unfolding resultAfter over
     put n rs d' z e q y k = rw (e, q, y, k)
 
-    pub copied : {r : Result ℕ Refusal} (n : ℕ) (d' z : List ℕ) → r ≡ Ok n → Made m w r → 8192 ≤ length result → d' ≡ sets result 0 (slice 0 (n * 4) w) → z ≡ replicate (length w) 0 → writtenAs (Ok n) d' z ≡ handed m result w
+    pub copied : {r : Result ℕ Refusal} (n : ℕ) (d' z : List ℕ) → r ≡ Ok n → Made m w r → 8192 ≤ length result
+        → d' ≡ sets result 0 (slice 0 (n * 4) w) → z ≡ replicate (length w) 0 → writtenAs (Ok n) d' z ≡ handed m result w
     copied n d' z i h room c k =
         let s = stood n i h in
         let rs = s.records in
         let f : slice 0 (n * 4) w ≡ words rs = ap (λ (j : ℕ). slice 0 (j * 4) w) s.many ∙ s.front.there in
         let a = words-length rs in
         let le = s.front.few in
-        let y : d' ≡ words rs ++ drop (length (words rs)) result = c ∙ ap (sets result 0) f ∙ sets-eq (words rs) result 0 (omega arith) ∙ ap (λ (j : ℕ). words rs ++ drop j result) (zero-add (length (words rs))) in
+        let y : d' ≡ words rs ++ drop (length (words rs)) result = c ∙ ap (sets result 0) f ∙ sets-eq (words rs) result 0 (omega arith)
+        ∙ ap (λ (j : ℕ). words rs ++ drop j result) (zero-add (length (words rs))) in
         put n rs d' z s.is s.many y k
 
-    pub left : {r : Result ℕ Refusal} (k : Refusal) (z : List ℕ) → r ≡ Err k → Made m w r → z ≡ replicate (length w) 0 → writtenAs (Err k) result z ≡ handed m result w
+    pub left : {r : Result ℕ Refusal} (k : Refusal) (z : List ℕ) → r ≡ Err k → Made m w r → z ≡ replicate (length w) 0
+        → writtenAs (Err k) result z ≡ handed m result w
     unfolding resultAfter
     left k z i h c = let e = uncounted m (number_of k) (subst (λ (a : Result ℕ Refusal). Made m w a) i h).answer in rw (e, c)
 

@@ -51,7 +51,8 @@ module _ (pool table result work : List ℕ) where
       record {
         table-met = first-passed (lentResult result) tt (lentTable pool table) f;
         result-long = leb-true 8192 (length result) (need-passed (leb 8192 (length result)) 10 (next-passed (lentResult result) tt (lentTable pool table) f));
-        work-long = leb-true 16384 (length work) (need-passed (leb 16384 (length work)) 10 (next-passed (lentWork work) tt (lentTable pool table >> lentResult result) g));
+        work-long = leb-true 16384 (length work)
+            (need-passed (leb 16384 (length work)) 10 (next-passed (lentWork work) tt (lentTable pool table >> lentResult result) g));
         met = g;
       }
 

@@ -27,7 +27,8 @@ pub record CallsDetermined : Type 0 where
 
 pub record CallsNumbered : Type 0 where
   -- no is 10
-  pub lending : (pool table result work : List ℕ) (p : Bool) → need p 10 ≡ lent pool table result work → numberLent p ≡ number (checked (lent pool table result work))
+  pub lending : (pool table result work : List ℕ) (p : Bool) → need p 10 ≡ lent pool table result work
+      → numberLent p ≡ number (checked (lent pool table result work))
   pub writing : (w : Written) → NumberedAs w
   pub replacingInTypes : (pool table words bindings result work : List ℕ) → NumberedAs (replaceTypeCall pool table words bindings result work)
   pub replacingInSets : (pool table words bindings result work : List ℕ) → NumberedAs (replaceSetCall pool table words bindings result work)

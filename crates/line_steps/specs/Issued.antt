@@ -25,25 +25,31 @@ use Rattle.rules.specs.Steps.{Two, adds, subtracts, multiplies, divides, compare
 use Rattle.rules.specs.Lines.{its, dimensions, twoFactors, issuedByTwo, issued}
 
 module _ (d d₁ d₂ d₃ : List ℕ) (out : ℕ) where
-  three : (a b c : Rec) → d₁ ≡ sets d (out * 4) (words (a ∷ [])) → d₂ ≡ sets d₁ ((out + 1) * 4) (words (b ∷ [])) → d₃ ≡ sets d₂ ((out + 2) * 4) (words (c ∷ [])) → d₃ ≡ sets d (out * 4) (words (a ∷ b ∷ c ∷ []))
+  three : (a b c : Rec) → d₁ ≡ sets d (out * 4) (words (a ∷ [])) → d₂ ≡ sets d₁ ((out + 1) * 4) (words (b ∷ []))
+      → d₃ ≡ sets d₂ ((out + 2) * 4) (words (c ∷ [])) → d₃ ≡ sets d (out * 4) (words (a ∷ b ∷ c ∷ []))
   three a b c p q r = writes d d₂ d₃ (a ∷ b ∷ []) (c ∷ []) 2 out refl (writes d d₁ d₂ (a ∷ []) (b ∷ []) 1 out refl p q) r
 
-  module _ (x : ℕ) (p : d₁ ≡ sets d (out * 4) (words (recOf view.Equal (fit 3) ∷ []))) (q : d₂ ≡ sets d₁ ((out + 1) * 4) (words (recOf (view.Opened (opens.Var x)) 1 ∷ []))) where
-    pub same-put : (y : ℕ) → d₃ ≡ sets d₂ ((out + 2) * 4) (words (recOf (view.Opened (opens.Var y)) 1 ∷ [])) → d₃ ≡ sets d (out * 4) (words (writeCon (equal (its x) (its y))))
+  module _ (x : ℕ) (p : d₁ ≡ sets d (out * 4) (words (recOf view.Equal (fit 3) ∷ [])))
+      (q : d₂ ≡ sets d₁ ((out + 1) * 4) (words (recOf (view.Opened (opens.Var x)) 1 ∷ []))) where
+    pub same-put : (y : ℕ) → d₃ ≡ sets d₂ ((out + 2) * 4) (words (recOf (view.Opened (opens.Var y)) 1 ∷ []))
+        → d₃ ≡ sets d (out * 4) (words (writeCon (equal (its x) (its y))))
     unfolding writeCon writeTy sizeCon size fit
     same-put y r = three (recOf view.Equal 3) (recOf (view.Opened (opens.Var x)) 1) (recOf (view.Opened (opens.Var y)) 1) p q r
 
-    pub boolean-put : d₃ ≡ sets d₂ ((out + 2) * 4) (words (recOf (view.Basic basics.Boolean) 1 ∷ [])) → d₃ ≡ sets d (out * 4) (words (writeCon (equal (its x) (basic boolean))))
+    pub boolean-put : d₃ ≡ sets d₂ ((out + 2) * 4) (words (recOf (view.Basic basics.Boolean) 1 ∷ []))
+        → d₃ ≡ sets d (out * 4) (words (writeCon (equal (its x) (basic boolean))))
     unfolding writeCon writeTy sizeCon size fit
     boolean-put r = three (recOf view.Equal 3) (recOf (view.Opened (opens.Var x)) 1) (recOf (view.Basic basics.Boolean) 1) p q r
 
-pub dim-put : (d d₁ d₂ : List ℕ) (out x : ℕ) → d₁ ≡ sets d (out * 4) (words (recOf view.IsDim (fit 2) ∷ [])) → d₂ ≡ sets d₁ ((out + 1) * 4) (words (recOf (view.Opened (opens.Var x)) 1 ∷ [])) → d₂ ≡ sets d (out * 4) (words (writeCon (isDim (its x))))
+pub dim-put : (d d₁ d₂ : List ℕ) (out x : ℕ) → d₁ ≡ sets d (out * 4) (words (recOf view.IsDim (fit 2) ∷ []))
+    → d₂ ≡ sets d₁ ((out + 1) * 4) (words (recOf (view.Opened (opens.Var x)) 1 ∷ [])) → d₂ ≡ sets d (out * 4) (words (writeCon (isDim (its x))))
 unfolding writeCon writeTy sizeCon size fit
 dim-put d d₁ d₂ out x p q = writes d d₁ d₂ (recOf view.IsDim 2 ∷ []) (recOf (view.Opened (opens.Var x)) 1 ∷ []) 1 out refl p q
 
 -- ══ What a step issues ══
 
-pub dimensions-put : (d d₁ d₂ : List ℕ) (out l r : ℕ) → d₁ ≡ sets d (out * 4) (words (writeCon (isDim (its l)))) → d₂ ≡ sets d₁ ((out + 2) * 4) (words (writeCon (isDim (its r)))) → d₂ ≡ sets d (out * 4) (words (collect writeCon (dimensions l r)))
+pub dimensions-put : (d d₁ d₂ : List ℕ) (out l r : ℕ) → d₁ ≡ sets d (out * 4) (words (writeCon (isDim (its l))))
+    → d₂ ≡ sets d₁ ((out + 2) * 4) (words (writeCon (isDim (its r)))) → d₂ ≡ sets d (out * 4) (words (collect writeCon (dimensions l r)))
 unfolding writeCon writeTy collect
 dimensions-put d d₁ d₂ out l r p q = writes d d₁ d₂ (writeCon (isDim (its l))) (writeCon (isDim (its r))) 2 out refl p q
 
@@ -54,19 +60,23 @@ module _ (ν : Names ℕ) (d d₁ d₂ d₃ : List ℕ) (out v l r : ℕ) where
   abbrev Same : ℕ → Type 0
   Same n = d₂ ≡ sets d₁ ((out + n) * 4) (words (writeCon (equal (its l) (its r))))
 
-  pub sum-put : Dims → Same 4 → d₃ ≡ sets d₂ ((out + 7) * 4) (words (writeCon (equal (its v) (its l)))) → d₃ ≡ sets d (out * 4) (words (collect writeCon (issuedByTwo ν v adds l r)))
+  pub sum-put : Dims → Same 4 → d₃ ≡ sets d₂ ((out + 7) * 4) (words (writeCon (equal (its v) (its l))))
+      → d₃ ≡ sets d (out * 4) (words (collect writeCon (issuedByTwo ν v adds l r)))
   unfolding writeCon writeTy collect issuedByTwo
   sum-put p q e =
       let w = writes d d₁ d₂ (collect writeCon (dimensions l r)) (writeCon (equal (its l) (its r))) 4 out refl p q in
       writes d d₂ d₃ (collect writeCon (dimensions l r) ++ writeCon (equal (its l) (its r))) (writeCon (equal (its v) (its l))) 7 out refl w e
 
-  pub comparison-put : Dims → Same 4 → d₃ ≡ sets d₂ ((out + 7) * 4) (words (writeCon (equal (its v) (basic boolean)))) → d₃ ≡ sets d (out * 4) (words (collect writeCon (issuedByTwo ν v compares l r)))
+  pub comparison-put : Dims → Same 4 → d₃ ≡ sets d₂ ((out + 7) * 4) (words (writeCon (equal (its v) (basic boolean))))
+      → d₃ ≡ sets d (out * 4) (words (collect writeCon (issuedByTwo ν v compares l r)))
   unfolding writeCon writeTy collect issuedByTwo
   comparison-put p q e =
       let w = writes d d₁ d₂ (collect writeCon (dimensions l r)) (writeCon (equal (its l) (its r))) 4 out refl p q in
       writes d d₂ d₃ (collect writeCon (dimensions l r) ++ writeCon (equal (its l) (its r))) (writeCon (equal (its v) (basic boolean))) 7 out refl w e
 
-  pub choice-put : (c : ℕ) → d₁ ≡ sets d (out * 4) (words (writeCon (equal (its c) (basic boolean)))) → Same 3 → d₃ ≡ sets d₂ ((out + 6) * 4) (words (writeCon (equal (its v) (its l)))) → d₃ ≡ sets d (out * 4) (words (collect writeCon (issued ν v (chosen c l r))))
+  pub choice-put : (c : ℕ) → d₁ ≡ sets d (out * 4) (words (writeCon (equal (its c) (basic boolean)))) → Same 3
+      → d₃ ≡ sets d₂ ((out + 6) * 4) (words (writeCon (equal (its v) (its l))))
+      → d₃ ≡ sets d (out * 4) (words (collect writeCon (issued ν v (chosen c l r))))
   unfolding writeCon writeTy collect issued
   choice-put c p q e =
       let w = writes d d₁ d₂ (writeCon (equal (its c) (basic boolean))) (writeCon (equal (its l) (its r))) 3 out refl p q in
@@ -109,7 +119,9 @@ powerOf x n d = recOf (view.Factor (atoms.Free (opens.Var x)) n d) 1
 abbrev pub pair_of : ℕ → ℕ → ℕ → ℕ → List Rec
 pair_of x m y n = recOf (view.Dim 2) 3 ∷ powerOf x m 1 ∷ powerOf y n 1 ∷ []
 
-pub pair_put : (d d₁ d₂ d₃ : List ℕ) (out x m y n : ℕ) → d₁ ≡ sets d (out * 4) (words (recOf (view.Dim 2) (fit 3) ∷ [])) → d₂ ≡ sets d₁ ((out + 1) * 4) (words (powerOf x m 1 ∷ [])) → d₃ ≡ sets d₂ ((out + 2) * 4) (words (powerOf y n 1 ∷ [])) → d₃ ≡ sets d (out * 4) (words (pair_of x m y n))
+pub pair_put : (d d₁ d₂ d₃ : List ℕ) (out x m y n : ℕ) → d₁ ≡ sets d (out * 4) (words (recOf (view.Dim 2) (fit 3) ∷ []))
+    → d₂ ≡ sets d₁ ((out + 1) * 4) (words (powerOf x m 1 ∷ [])) → d₃ ≡ sets d₂ ((out + 2) * 4) (words (powerOf y n 1 ∷ []))
+    → d₃ ≡ sets d (out * 4) (words (pair_of x m y n))
 unfolding fit
 pair_put d d₁ d₂ d₃ out x m y n p q r = three d d₁ d₂ d₃ out (recOf (view.Dim 2) 3) (powerOf x m 1) (powerOf y n 1) p q r
 
@@ -162,8 +174,10 @@ module _ (ν : Names ℕ) (d d₁ : List ℕ) (out l r n : ℕ) where
 
 -- the product of two operands, after the two demands
 module _ (ν : Names ℕ) (d d₁ d₂ d₃ d₄ : List ℕ) (out v l r : ℕ) where
-  by-power : (e : Exp) → d₁ ≡ sets d (out * 4) (words (collect writeCon (dimensions l r))) → d₂ ≡ sets d₁ ((out + 4) * 4) (words (recOf view.Equal (fit 5) ∷ []))
-      → d₃ ≡ sets d₂ ((out + 5) * 4) (words (recOf (view.Opened (opens.Var v)) 1 ∷ [])) → d₄ ≡ sets d₃ ((out + 6) * 4) (words (writeTy (dim (twoFactors ν l r e))))
+  by-power : (e : Exp) → d₁ ≡ sets d (out * 4) (words (collect writeCon (dimensions l r)))
+      → d₂ ≡ sets d₁ ((out + 4) * 4) (words (recOf view.Equal (fit 5) ∷ []))
+      → d₃ ≡ sets d₂ ((out + 5) * 4) (words (recOf (view.Opened (opens.Var v)) 1 ∷ []))
+      → d₄ ≡ sets d₃ ((out + 6) * 4) (words (writeTy (dim (twoFactors ν l r e))))
       → d₄ ≡ sets d (out * 4) (words (collect writeCon (dimensions l r ++ equal (its v) (dim (twoFactors ν l r e)) ∷ [])))
   unfolding writeCon writeTy sizeCon collect fit size
   by-power e p q s t =
@@ -175,10 +189,13 @@ module _ (ν : Names ℕ) (d d₁ d₂ d₃ d₄ : List ℕ) (out v l r : ℕ) w
       let u = writes d d₃ d₄ (ds ++ a ∷ b ∷ []) (writeTy (dim (twoFactors ν l r e))) 6 out refl w' t in
       let m : 5 ≡ sizeCon (equal (its v) (dim (twoFactors ν l r e))) = omega (arith, long-two ν l r e) in
       u ∙ ap (λ (n : ℕ). sets d (out * 4) (words (ds ++ recOf view.Equal n ∷ b ∷ writeTy (dim (twoFactors ν l r e))))) m
-      ∙ ap (λ (rs : List Rec). sets d (out * 4) (words (ds ++ recOf view.Equal (sizeCon (equal (its v) (dim (twoFactors ν l r e)))) ∷ b ∷ rs))) (sym (no_more (writeTy (dim (twoFactors ν l r e)))))
+      ∙ ap (λ (rs : List Rec). sets d (out * 4) (words (ds ++ recOf view.Equal (sizeCon (equal (its v) (dim (twoFactors ν l r e)))) ∷ b ∷ rs)))
+      (sym (no_more (writeTy (dim (twoFactors ν l r e)))))
 
-  pub product-put : (num : ℕ) → d₁ ≡ sets d (out * 4) (words (collect writeCon (dimensions l r))) → d₂ ≡ sets d₁ ((out + 4) * 4) (words (recOf view.Equal (fit 5) ∷ []))
-      → d₃ ≡ sets d₂ ((out + 5) * 4) (words (recOf (view.Opened (opens.Var v)) 1 ∷ [])) → ((k : ℤ) → twos k ≡ num → d₄ ≡ sets d₃ ((out + 6) * 4) (words (writeTy (dim (twoFactors ν l r (frac k 1))))))
+  pub product-put : (num : ℕ) → d₁ ≡ sets d (out * 4) (words (collect writeCon (dimensions l r)))
+      → d₂ ≡ sets d₁ ((out + 4) * 4) (words (recOf view.Equal (fit 5) ∷ []))
+      → d₃ ≡ sets d₂ ((out + 5) * 4) (words (recOf (view.Opened (opens.Var v)) 1 ∷ []))
+      → ((k : ℤ) → twos k ≡ num → d₄ ≡ sets d₃ ((out + 6) * 4) (words (writeTy (dim (twoFactors ν l r (frac k 1))))))
       → (o : Two) → PowerIs o num → d₄ ≡ sets d (out * 4) (words (collect writeCon (issuedByTwo ν v o l r)))
   unfolding issuedByTwo neg twos
   product-put num p q s f multiplies e = by-power (frac (pos 1) 1) p q s (f (pos 1) (sym e))
@@ -195,12 +212,15 @@ subtracts-as-adds ν v l r = refl
 -- ══ Powers ══
 
 module _ (d d₁ d₂ d₃ : List ℕ) (out v : ℕ) (q : d₂ ≡ sets d₁ ((out + 1) * 4) (words (recOf (view.Opened (opens.Var v)) 1 ∷ []))) where
-  pub scalar-put : d₁ ≡ sets d (out * 4) (words (recOf view.Equal (fit 3) ∷ [])) → d₃ ≡ sets d₂ ((out + 2) * 4) (words (recOf (view.Dim 0) 1 ∷ [])) → d₃ ≡ sets d (out * 4) (words (writeCon (equal (its v) (dim []))))
+  pub scalar-put : d₁ ≡ sets d (out * 4) (words (recOf view.Equal (fit 3) ∷ [])) → d₃ ≡ sets d₂ ((out + 2) * 4) (words (recOf (view.Dim 0) 1 ∷ []))
+      → d₃ ≡ sets d (out * 4) (words (writeCon (equal (its v) (dim []))))
   unfolding writeCon writeTy writeProduct sizeCon size fit
   scalar-put p r = three d d₁ d₂ d₃ out (recOf view.Equal 3) (recOf (view.Opened (opens.Var v)) 1) (recOf (view.Dim 0) 1) p q r
 
-  pub raised-put : (d₄ : List ℕ) (x num den : ℕ) → d₁ ≡ sets d (out * 4) (words (recOf view.Equal (fit 4) ∷ [])) → d₃ ≡ sets d₂ ((out + 2) * 4) (words (recOf (view.Dim 1) (fit 2) ∷ []))
-      → d₄ ≡ sets d₃ ((out + 3) * 4) (words (powerOf x num den ∷ [])) → (k : ℤ) → twos k ≡ num → d₄ ≡ sets d (out * 4) (words (writeCon (equal (its v) (dim (free (var x) ↑ frac k den ∷ [])))))
+  pub raised-put : (d₄ : List ℕ) (x num den : ℕ) → d₁ ≡ sets d (out * 4) (words (recOf view.Equal (fit 4) ∷ []))
+      → d₃ ≡ sets d₂ ((out + 2) * 4) (words (recOf (view.Dim 1) (fit 2) ∷ []))
+      → d₄ ≡ sets d₃ ((out + 3) * 4) (words (powerOf x num den ∷ [])) → (k : ℤ) → twos k ≡ num
+      → d₄ ≡ sets d (out * 4) (words (writeCon (equal (its v) (dim (free (var x) ↑ frac k den ∷ [])))))
   unfolding writeCon writeTy writeProduct writeFactor sizeCon size fit
   raised-put d₄ x num den p r s k e =
       let a : Rec = recOf view.Equal 4 in
@@ -226,7 +246,8 @@ module _ (ν : Names ℕ) (d d₁ d₂ : List ℕ) (out v x num den : ℕ) (p : 
   abbrev Power : Type 0
   Power = d₂ ≡ sets d (out * 4) (words (collect writeCon (issued ν v (raised (frac (signed num) den) x))))
 
-  of-product : (f : Product ℕ) → put (free (var x)) (frac (signed num) den) [] ≡ f → d₂ ≡ sets d₁ ((out + 2) * 4) (words (writeCon (equal (its v) (dim f)))) → Power
+  of-product : (f : Product ℕ) → put (free (var x)) (frac (signed num) den) [] ≡ f
+      → d₂ ≡ sets d₁ ((out + 2) * 4) (words (writeCon (equal (its v) (dim f)))) → Power
   unfolding collect issued writeCon writeTy
   of-product f e q =
       let w = writes d d₁ d₂ (writeCon (isDim (its x))) (writeCon (equal (its v) (dim f))) 2 out refl p q in
@@ -236,5 +257,6 @@ module _ (ν : Names ℕ) (d d₁ d₂ : List ℕ) (out v x num den : ℕ) (p : 
   pub power-none : num ≡ 0 → d₂ ≡ sets d₁ ((out + 2) * 4) (words (writeCon (equal (its v) (dim [])))) → Power
   power-none z q = of-product [] (rw (word-zero num den z, put)) q
 
-  pub power-some : (num ≡ 0 → ⊥) → num < 4_294_967_296 → ((k : ℤ) → twos k ≡ num → d₂ ≡ sets d₁ ((out + 2) * 4) (words (writeCon (equal (its v) (dim (free (var x) ↑ frac k den ∷ [])))))) → Power
+  pub power-some : (num ≡ 0 → ⊥) → num < 4_294_967_296
+      → ((k : ℤ) → twos k ≡ num → d₂ ≡ sets d₁ ((out + 2) * 4) (words (writeCon (equal (its v) (dim (free (var x) ↑ frac k den ∷ [])))))) → Power
   power-some f h q = of-product (free (var x) ↑ frac (signed num) den ∷ []) (rw (word-nonzero num den f, put)) (q (signed num) (unsigned num h))

@@ -33,7 +33,8 @@ use Rattle.rules.specs.declared.Refusal.TheVariants.{TooLarge}
 
 -- ══ Operands from a stack ══
 
-takes-by : (s : LineStep ℕ) (st : List ℕ) → operands s ≤ length st → takes s st ≡ some (deedBy s (get_or st 2 0) (get_or st 1 0) (get_or st 0 0), drop (operands s) st)
+takes-by : (s : LineStep ℕ) (st : List ℕ) → operands s ≤ length st
+    → takes s st ≡ some (deedBy s (get_or st 2 0) (get_or st 1 0) (get_or st 0 0), drop (operands s) st)
 unfolding takes
 takes-by (constant t) st h = refl
 takes-by (reference t) st h = refl
@@ -48,7 +49,8 @@ takes-by chooses (a ∷ b ∷ []) h = absurd (omega arith)
 takes-by chooses (a ∷ b ∷ c ∷ st) h = refl
 
 one_more : (ν : Names ℕ) (v : ℕ) (vs st : List ℕ) (s : LineStep ℕ) (ss : List (LineStep ℕ)) → operands s ≤ length st
-    → constraints ν (v ∷ vs) st (s ∷ ss) ≡ issued ν v (deedBy s (get_or st 2 0) (get_or st 1 0) (get_or st 0 0)) ++ constraints ν vs (v ∷ drop (operands s) st) ss
+    → constraints ν (v ∷ vs) st (s ∷ ss) ≡ issued ν v (deedBy s (get_or st 2 0) (get_or st 1 0) (get_or st 0 0))
+    ++ constraints ν vs (v ∷ drop (operands s) st) ss
 unfolding constraints
 one_more ν v vs st s ss h = rw (takes-by s st h, constraints)
 
@@ -83,7 +85,8 @@ module _ (pool table types lines steps names : List ℕ) where
     pub low : p ≤ length stack
     pub high : length stack ≤ p + i
 
-  pub going-first : (stack d : List ℕ) (ss : List (LineStep ℕ)) → each (stepGiven t (recs types) lines) (stepsFrom steps 0) ≡ got ss → whole 0 ss ≡ true → Going stack d d 0 (length stack) 0 (constraints ν names [] ss)
+  pub going-first : (stack d : List ℕ) (ss : List (LineStep ℕ)) → each (stepGiven t (recs types) lines) (stepsFrom steps 0) ≡ got ss
+      → whole 0 ss ≡ true → Going stack d d 0 (length stack) 0 (constraints ν names [] ss)
   unfolding collect words
   going-first stack d ss r w =
       let z : 0 ≡ length stack - length stack = omega arith in
@@ -117,9 +120,11 @@ module _ (pool table types lines steps names : List ℕ) where
     pub next : Next
     unfolding whole
     next =
-        let f = each-parts (stepGiven t (recs types) lines) (this steps i h) (stepsFrom steps (i + 1)) g.rest (ap (each (stepGiven t (recs types) lines)) (sym (steps-some steps i h)) ∙ g.read) in
+        let f = each-parts (stepGiven t (recs types) lines) (this steps i h) (stepsFrom steps (i + 1)) g.rest
+        (ap (each (stepGiven t (recs types) lines)) (sym (steps-some steps i h)) ∙ g.read) in
         let o = of_number t (recs types) lines k (get_or steps (i * 4 + 1) 0) (get_or steps (i * 4 + 2) 0) (get_or steps (i * 4 + 3) 0) f.first f.gave in
-        let u : (leb (operands f.first) (length stack - p) && whole (suc (length stack - p - operands f.first)) f.second) ≡ true = ap (whole (length stack - p)) f.both ∙ g.wholly in
+        let u : (leb (operands f.first) (length stack - p) && whole (suc (length stack - p - operands f.first)) f.second) ≡ true =
+        ap (whole (length stack - p)) f.both ∙ g.wholly in
         let e = leb-true (operands f.first) (length stack - p) (and_left (leb (operands f.first) (length stack - p)) _ u) in
         record {
           step = f.first;
@@ -139,7 +144,8 @@ module _ (pool table types lines steps names : List ℕ) where
     its-deed = deedBy next.step (get_or stack (p + 2) 0) (get_or stack (p + 1) 0) (get_or stack p 0)
 
     -- what is left begins with what the step issues
-    begins : i < length names → constraints ν (drop i names) (drop p stack) g.rest ≡ issued ν v its-deed ++ constraints ν (drop (i + 1) names) (v ∷ drop (p + operandsOf k) stack) next.more
+    begins : i < length names → constraints ν (drop i names) (drop p stack) g.rest ≡ issued ν v its-deed
+        ++ constraints ν (drop (i + 1) names) (v ∷ drop (p + operandsOf k) stack) next.more
     begins l =
         let n = next in
         let a : drop i names ≡ v ∷ drop (i + 1) names = drop-cons names i 0 l ∙ ap (λ (j : ℕ). v ∷ drop j names) (sym (add-one i)) in
@@ -150,7 +156,8 @@ module _ (pool table types lines steps names : List ℕ) where
         ∙ one_more ν v (drop (i + 1) names) (drop p stack) n.step n.more m
         ∙ rw (get_or-drop p stack 2 0, get_or-drop p stack 1 0, get_or-drop p stack 0 0, z, drop-drop (operands n.step) p stack, n.takes)
 
-    pub going_on : (d' : List ℕ) (m p' : ℕ) → i < length names → d' ≡ sets d (out * 4) (words (collect writeCon (issued ν v its-deed))) → Sized m next.step → p' + 1 ≡ p + operandsOf k → Going (set stack p' v) d₀ d' (i + 1) p' (out + m) cs
+    pub going_on : (d' : List ℕ) (m p' : ℕ) → i < length names → d' ≡ sets d (out * 4) (words (collect writeCon (issued ν v its-deed)))
+        → Sized m next.step → p' + 1 ≡ p + operandsOf k → Going (set stack p' v) d₀ d' (i + 1) p' (out + m) cs
     going_on d' m p' l q s e =
         let n = next in
         let len = length-set stack p' v in
@@ -159,14 +166,18 @@ module _ (pool table types lines steps names : List ℕ) where
         let long = set-length g.done in
         let z : p + operandsOf k ≡ suc p' = omega (arith, e) in
         let y : suc (length stack - p - operandsOf k) ≡ length (set stack p' v) - p' = omega (arith, e, len, n.enough, g.low) in
-        let q' : d' ≡ sets d ((0 + out) * 4) (words (collect writeCon is)) = q ∙ ap (λ (x : ℕ). sets d (x * 4) (words (collect writeCon is))) (sym (zero-add out)) in
+        let q' : d' ≡ sets d ((0 + out) * 4) (words (collect writeCon is)) = q
+        ∙ ap (λ (x : ℕ). sets d (x * 4) (words (collect writeCon is))) (sym (zero-add out)) in
         record {
           done = g.done ++ is;
           rest = n.more;
           read = n.then;
-          left = append_assoc g.done is _ ∙ ap (λ (st : List ℕ). g.done ++ (is ++ constraints ν (drop (i + 1) names) st n.more)) (pushed stack p' v b ∙ ap (λ (j : ℕ). v ∷ drop j stack) (sym z)) ∙ ap (g.done ++◌) (sym (begins l)) ∙ g.left;
+          left = append_assoc g.done is _
+              ∙ ap (λ (st : List ℕ). g.done ++ (is ++ constraints ν (drop (i + 1) names) st n.more))
+              (pushed stack p' v b ∙ ap (λ (j : ℕ). v ∷ drop j stack) (sym z)) ∙ ap (g.done ++◌) (sym (begins l)) ∙ g.left;
           wholly = subst (λ (x : ℕ). whole x n.more ≡ true) y n.wholly;
-          wrote = writes d₀ d d' (collect writeCon g.done) (collect writeCon is) out 0 (long ∙ sym g.many) g.wrote q' ∙ ap (λ (rs : List Rec). sets d₀ 0 (words rs)) (sym (collect-append writeCon g.done is));
+          wrote = writes d₀ d d' (collect writeCon g.done) (collect writeCon is) out 0 (long ∙ sym g.many) g.wrote q'
+              ∙ ap (λ (rs : List Rec). sets d₀ 0 (words rs)) (sym (collect-append writeCon g.done is));
           many = omega (arith, g.many, s.long ν v (get_or stack (p + 2) 0) (get_or stack (p + 1) 0) (get_or stack p 0), sum-append g.done is);
           low = omega (arith, len, b);
           high = omega (arith, len, e, g.high);
@@ -175,7 +186,8 @@ module _ (pool table types lines steps names : List ℕ) where
     -- the set passes 2,048 records
     pub too_many : (m : ℕ) → i < length names → Sized m next.step → 2048 - out < m → out ≤ 2048 → 2048 < sum_of sizeCon cs
     too_many m l s f o =
-        let c : g.done ++ (issued ν v its-deed ++ constraints ν (drop (i + 1) names) (v ∷ drop (p + operandsOf k) stack) next.more) ≡ cs = ap (g.done ++◌) (sym (begins l)) ∙ g.left in
+        let c : g.done ++ (issued ν v its-deed ++ constraints ν (drop (i + 1) names) (v ∷ drop (p + operandsOf k) stack) next.more) ≡ cs =
+        ap (g.done ++◌) (sym (begins l)) ∙ g.left in
         let x = ap (sum_of sizeCon) (sym c) in
         let y = sum-append g.done (issued ν v its-deed ++ constraints ν (drop (i + 1) names) (v ∷ drop (p + operandsOf k) stack) next.more) in
         let z = sum-append (issued ν v its-deed) (constraints ν (drop (i + 1) names) (v ∷ drop (p + operandsOf k) stack) next.more) in
@@ -236,35 +248,48 @@ module _ (pool table types lines steps : List ℕ) where
       pub on : (ss : List (LineStep ℕ)) → LineIs ss → Going pool table types lines steps names stack d₀ d i p out (all_of ss)
 
     pub way-first : (stack d : List ℕ) → ((j : ℕ) → get_or stack j 0 < get_or table 0 0) → OnWay stack stack d d 0 (length stack) 0
-    way-first stack d h = record { within = omega arith; held = h; same = refl; as_long = refl; on = λ ss l. going-first pool table types lines steps names stack d ss l.read l.wholly }
+    way-first stack d h = record {
+      within = omega arith;
+      held = h;
+      same = refl;
+      as_long = refl;
+      on = λ ss l. going-first pool table types lines steps names stack d ss l.read l.wholly;
+    }
 
     module _ {stack₀ stack d₀ d : List ℕ} {i p out : ℕ} (w : Words32 types) (o : OnWay stack₀ stack d₀ d i p out) where
       -- what the stack has room for
       module _ (h : i < length steps / 4) (line : ((ss : List (LineStep ℕ)) × LineIs ss)) where
-        pub way-room : length steps / 4 ≤ length stack₀ → length stack₀ ≤ 128 → (1 ≤ p) × (p + operandsOf (get_or steps (i * 4) 0) ≤ length stack) × (length stack ≤ 128)
+        pub way-room : length steps / 4 ≤ length stack₀ → length stack₀ ≤ 128 → (1 ≤ p) × (p + operandsOf (get_or steps (i * 4) 0) ≤ length stack)
+            × (length stack ≤ 128)
         way-room a b =
             let g = o.on line.0 line.1 in
             let e = o.same in
             let f = (next pool table types lines steps names w g h).enough in
             (omega (arith, g.high, e), omega (arith, g.low, f), omega (arith, e))
 
-        pub way-says : (s : LineStep ℕ) × Says types lines (get_or steps (i * 4) 0) (get_or steps (i * 4 + 1) 0) (get_or steps (i * 4 + 2) 0) (get_or steps (i * 4 + 3) 0) s
+        pub way-says : (s : LineStep ℕ) × Says types lines (get_or steps (i * 4) 0) (get_or steps (i * 4 + 1) 0) (get_or steps (i * 4 + 2) 0)
+            (get_or steps (i * 4 + 3) 0) s
         way-says = let f = next pool table types lines steps names w (o.on line.0 line.1) h in (f.step, f.says)
 
       module _ (h : i < length steps / 4) (l : i < length names) where
         abbrev Its : (LineStep ℕ → Type 0) → Type 0
-        Its P = (s : LineStep ℕ) → Says types lines (get_or steps (i * 4) 0) (get_or steps (i * 4 + 1) 0) (get_or steps (i * 4 + 2) 0) (get_or steps (i * 4 + 3) 0) s → P s
+        Its P = (s : LineStep ℕ) → Says types lines (get_or steps (i * 4) 0) (get_or steps (i * 4 + 1) 0) (get_or steps (i * 4 + 2) 0)
+            (get_or steps (i * 4 + 3) 0) s → P s
 
         pub way_on : (d' : List ℕ) (m p' : ℕ) → ((j : ℕ) → get_or names j 0 < get_or table 0 0)
-            → Its (λ s. d' ≡ sets d (out * 4) (words (collect writeCon (issued (numbersOf (table_of pool table)) (get_or names i 0) (deedBy s (get_or stack (p + 2) 0) (get_or stack (p + 1) 0) (get_or stack p 0))))))
-            → Its (Sized m) → length d' ≡ length d → m ≤ 2048 - out → p' + 1 ≡ p + operandsOf (get_or steps (i * 4) 0) → OnWay stack₀ (set stack p' (get_or names i 0)) d₀ d' (i + 1) p' (out + m)
+            → Its (λ s. d' ≡ sets d (out * 4)
+            (words (collect writeCon (issued (numbersOf (table_of pool table)) (get_or names i 0)
+            (deedBy s (get_or stack (p + 2) 0) (get_or stack (p + 1) 0) (get_or stack p 0))))))
+            → Its (Sized m) → length d' ≡ length d → m ≤ 2048 - out → p' + 1 ≡ p + operandsOf (get_or steps (i * 4) 0)
+            → OnWay stack₀ (set stack p' (get_or names i 0)) d₀ d' (i + 1) p' (out + m)
         way_on d' m p' n q s y u e =
             record {
               within = omega (arith, u, o.within);
               held = kept-held stack p' (get_or names i 0) (get_or table 0 0) (n i) o.held;
               as_long = y ∙ o.as_long;
               same = length-set stack p' (get_or names i 0) ∙ o.same;
-              on = λ ss x. let f = next pool table types lines steps names w (o.on ss x) h in going_on pool table types lines steps names w (o.on ss x) h d' m p' l (q f.step f.says) (s f.step f.says) e;
+              on = λ ss x. let f = next pool table types lines steps names w (o.on ss x) h
+                  in going_on pool table types lines steps names w (o.on ss x) h d' m p' l (q f.step f.says) (s f.step f.says) e;
             }
 
         pub way-over : (m : ℕ) → Its (Sized m) → 2048 - out < m → (ss : List (LineStep ℕ)) → LineIs ss → 2048 < sum_of sizeCon (all_of ss)
@@ -276,9 +301,12 @@ module _ (pool table types lines steps : List ℕ) where
       unfolding each constraints
       way_end h ss x =
           let g = o.on ss x in
-          let r : got [] ≡ got g.rest = ap (λ (ws : List StepWords). each (stepGiven (table_of pool table) (recs types) lines) ws) (sym (none_left steps i h)) ∙ g.read in
+          let r : got [] ≡ got g.rest = ap (λ (ws : List StepWords). each (stepGiven (table_of pool table) (recs types) lines) ws)
+          (sym (none_left steps i h)) ∙ g.read in
           let e : [] ≡ g.rest = cc in
-          let c : g.done ≡ all_of ss = sym (nothing-more g.done) ∙ ap (λ (rs : List (LineStep ℕ)). g.done ++ constraints (numbersOf (table_of pool table)) (drop i names) (drop p stack) rs) e ∙ g.left in
+          let c : g.done ≡ all_of ss = sym (nothing-more g.done)
+          ∙ ap (λ (rs : List (LineStep ℕ)). g.done ++ constraints (numbersOf (table_of pool table)) (drop i names) (drop p stack) rs) e ∙ g.left
+          in
           record {
             many = g.many ∙ ap (sum_of sizeCon) c;
             within = o.within;

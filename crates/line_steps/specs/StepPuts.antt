@@ -17,7 +17,41 @@ use Rattle.records.specs.Views.{recs}
 use Rattle.records.specs.Holds.{Holds}
 use Rattle.records.specs.Found.{Words32}
 use Rattle.entries.specs.Given.{type-is}
-use Rattle.rules.specs.Steps.{Two, adds, subtracts, multiplies, divides, compares, LineStep, constant, reference, raises, joins, chooses, Deed, gives, raised, joined, chosen, four, StepKind, isConstant, isReference, isRaise, isChoose, isTwo, stepNumbers, stepKind, zeros, number_at, constantAt, referenceTo, raiseBy, step_of, stepGiven}
+use Rattle.rules.specs.Steps.{
+  Two,
+  adds,
+  subtracts,
+  multiplies,
+  divides,
+  compares,
+  LineStep,
+  constant,
+  reference,
+  raises,
+  joins,
+  chooses,
+  Deed,
+  gives,
+  raised,
+  joined,
+  chosen,
+  four,
+  StepKind,
+  isConstant,
+  isReference,
+  isRaise,
+  isChoose,
+  isTwo,
+  stepNumbers,
+  stepKind,
+  zeros,
+  number_at,
+  constantAt,
+  referenceTo,
+  raiseBy,
+  step_of,
+  stepGiven,
+}
 use Rattle.lines.specs.StepLists.{unknown}
 use Rattle.lines.specs.Entry.{number_is}
 use Rattle.rules.specs.Lines.{issuedByTwo, issued}
@@ -58,7 +92,8 @@ is-compares (suc (suc (suc (suc (suc (suc (suc zero))))))) o h f₃ f₄ f₅ f�
 is-compares (suc (suc (suc (suc (suc (suc (suc (suc zero)))))))) o h f₃ f₄ f₅ f₆ = cc
 is-compares (suc (suc (suc (suc (suc (suc (suc (suc (suc zero))))))))) o h f₃ f₄ f₅ f₆ = cc
 is-compares (suc (suc (suc (suc (suc (suc (suc (suc (suc (suc k)))))))))) o h f₃ f₄ f₅ f₆ =
-    let u : stepKind (suc (suc (suc (suc (suc (suc (suc (suc (suc (suc k)))))))))) stepNumbers ≡ none = unknown (suc (suc (suc (suc (suc (suc (suc (suc (suc (suc k)))))))))) (omega arith) in
+    let u : stepKind (suc (suc (suc (suc (suc (suc (suc (suc (suc (suc k)))))))))) stepNumbers ≡ none =
+    unknown (suc (suc (suc (suc (suc (suc (suc (suc (suc (suc k)))))))))) (omega arith) in
     let p : none ≡ some (isTwo o) = sym u ∙ h in
     cc
 
@@ -88,7 +123,9 @@ number_of (suc (suc (suc (suc (suc (suc zero)))))) x h = let e : isTwo divides �
 number_of (suc (suc (suc (suc (suc (suc (suc zero))))))) x h = let e : isRaise ≡ x = cc in ap numberFor e
 number_of (suc (suc (suc (suc (suc (suc (suc (suc zero)))))))) x h = let e : isTwo compares ≡ x = cc in ap numberFor e
 number_of (suc (suc (suc (suc (suc (suc (suc (suc (suc zero))))))))) x h = let e : isChoose ≡ x = cc in ap numberFor e
-number_of (suc (suc (suc (suc (suc (suc (suc (suc (suc (suc k)))))))))) x h = let u : stepKind (suc (suc (suc (suc (suc (suc (suc (suc (suc (suc k)))))))))) stepNumbers ≡ none = unknown (suc (suc (suc (suc (suc (suc (suc (suc (suc (suc k)))))))))) (omega arith) in let p : none ≡ some x = sym u ∙ h in cc
+number_of (suc (suc (suc (suc (suc (suc (suc (suc (suc (suc k)))))))))) x h =
+    let u : stepKind (suc (suc (suc (suc (suc (suc (suc (suc (suc (suc k)))))))))) stepNumbers ≡ none =
+    unknown (suc (suc (suc (suc (suc (suc (suc (suc (suc (suc k)))))))))) (omega arith) in let p : none ≡ some x = sym u ∙ h in cc
 
 -- what a step does with the three operands at the top of the stack, as far as it takes them
 abbrev pub deedBy : LineStep ℕ → ℕ → ℕ → ℕ → Deed ℕ ℕ
@@ -150,7 +187,8 @@ module _ (types lines : List ℕ) (k a b c : ℕ) where
   by-choose P e f (joins o) h = let z : ◌≡◌ {A = ℕ} 0 1 = not_at k o h 9 e in absurd (omega (arith, z))
   by-choose P e f chooses h = f
 
-  pub by_two : (P : LineStep ℕ → Type 0) → (k ≡ 1 → ⊥) → (k ≡ 2 → ⊥) → (k ≡ 7 → ⊥) → (k ≡ 9 → ⊥) → ((o : Two) → stepKind k stepNumbers ≡ some (isTwo o) → P (joins o)) → (s : LineStep ℕ) → Says s → P s
+  pub by_two : (P : LineStep ℕ → Type 0) → (k ≡ 1 → ⊥) → (k ≡ 2 → ⊥) → (k ≡ 7 → ⊥) → (k ≡ 9 → ⊥)
+      → ((o : Two) → stepKind k stepNumbers ≡ some (isTwo o) → P (joins o)) → (s : LineStep ℕ) → Says s → P s
   by_two P f₁ f₂ f₇ f₉ f (constant t) h = absurd (f₁ h.0)
   by_two P f₁ f₂ f₇ f₉ f (reference t) h = absurd (f₂ h.0)
   by_two P f₁ f₂ f₇ f₉ f (raises x) h = absurd (f₇ h.0)
@@ -177,13 +215,16 @@ module _ (types lines : List ℕ) (k a b c : ℕ) where
     pub put-reference : (at : ℕ) → at ≡ get_or lines a 0 → k ≡ 2 → Given at → (s : LineStep ℕ) → Says s → Put s
     put-reference at p e f s h = by-reference Put e (λ t g. f ν t (subst (Holds types t) (sym p) g)) s h
 
-    pub put-raise : k ≡ 7 → ((μ : Names ℕ) → d₁ ≡ sets d (out * 4) (words (collect writeCon (issued μ v (raised (frac (signed b) c) r))))) → (s : LineStep ℕ) → Says s → Put s
+    pub put-raise : k ≡ 7 → ((μ : Names ℕ) → d₁ ≡ sets d (out * 4) (words (collect writeCon (issued μ v (raised (frac (signed b) c) r)))))
+        → (s : LineStep ℕ) → Says s → Put s
     put-raise e f s h = by-raise Put e (f ν) s h
 
     pub put-choose : k ≡ 9 → ((μ : Names ℕ) → d₁ ≡ sets d (out * 4) (words (collect writeCon (issued μ v (chosen q l r))))) → (s : LineStep ℕ) → Says s → Put s
     put-choose e f s h = by-choose Put e (f ν) s h
 
-    pub put_both : (k ≡ 1 → ⊥) → (k ≡ 2 → ⊥) → (k ≡ 7 → ⊥) → (k ≡ 9 → ⊥) → ((o : Two) → stepKind k stepNumbers ≡ some (isTwo o) → d₁ ≡ sets d (out * 4) (words (collect writeCon (issuedByTwo ν v o l r)))) → (s : LineStep ℕ) → Says s → Put s
+    pub put_both : (k ≡ 1 → ⊥) → (k ≡ 2 → ⊥) → (k ≡ 7 → ⊥) → (k ≡ 9 → ⊥)
+        → ((o : Two) → stepKind k stepNumbers ≡ some (isTwo o) → d₁ ≡ sets d (out * 4) (words (collect writeCon (issuedByTwo ν v o l r))))
+        → (s : LineStep ℕ) → Says s → Put s
     unfolding issued
     put_both f₁ f₂ f₇ f₉ f s h = by_two Put f₁ f₂ f₇ f₉ f s h
 
@@ -200,7 +241,8 @@ module _ (ν : Names ℕ) (d d₁ : List ℕ) (out v l r k : ℕ) where
   put-adds e f o h = subst Two-put (is-adds k o h e) (f ν)
 
   pub put-subtracts : k ≡ 4 → ((μ : Names ℕ) → d₁ ≡ sets d (out * 4) (words (collect writeCon (issuedByTwo μ v adds l r)))) → Each
-  put-subtracts e f o h = subst Two-put (is-subtracts k o h e) (f ν ∙ ap (λ (cs : List (Con ℕ)). sets d (out * 4) (words (collect writeCon cs))) (subtracts-as-adds ν v l r))
+  put-subtracts e f o h = subst Two-put (is-subtracts k o h e)
+      (f ν ∙ ap (λ (cs : List (Con ℕ)). sets d (out * 4) (words (collect writeCon cs))) (subtracts-as-adds ν v l r))
 
   pub put-multiplies : k ≡ 5 → ((o : Two) → PowerIs o 1 → Two-put o) → Each
   put-multiplies e f o h = subst Two-put (is-multiplies k o h e) (f multiplies refl)
@@ -208,7 +250,8 @@ module _ (ν : Names ℕ) (d d₁ : List ℕ) (out v l r k : ℕ) where
   pub put-divides : k ≡ 6 → ((o : Two) → PowerIs o 4_294_967_295 → Two-put o) → Each
   put-divides e f o h = subst Two-put (is-divides k o h e) (f divides refl)
 
-  pub put-compares : (k ≡ 3 → ⊥) → (k ≡ 4 → ⊥) → (k ≡ 5 → ⊥) → (k ≡ 6 → ⊥) → ((μ : Names ℕ) → d₁ ≡ sets d (out * 4) (words (collect writeCon (issuedByTwo μ v compares l r)))) → Each
+  pub put-compares : (k ≡ 3 → ⊥) → (k ≡ 4 → ⊥) → (k ≡ 5 → ⊥) → (k ≡ 6 → ⊥)
+      → ((μ : Names ℕ) → d₁ ≡ sets d (out * 4) (words (collect writeCon (issuedByTwo μ v compares l r)))) → Each
   put-compares f₃ f₄ f₅ f₆ f o h = subst Two-put (is-compares k o h f₃ f₄ f₅ f₆) (f ν)
 
 -- ══ A step that was read says so ══
@@ -217,7 +260,8 @@ module _ (pool table types lines : List ℕ) (w : Words32 types) where
   abbrev t : Table
   t = table_of pool table
 
-  of-kind : (k a b c : ℕ) (x : StepKind) (s : LineStep ℕ) → stepKind k stepNumbers ≡ some x → step_of t (recs types) lines x a b c ≡ got s → Says types lines k a b c s
+  of-kind : (k a b c : ℕ) (x : StepKind) (s : LineStep ℕ) → stepKind k stepNumbers ≡ some x → step_of t (recs types) lines x a b c ≡ got s
+      → Says types lines k a b c s
   unfolding step_of constantAt referenceTo raiseBy
   of-kind k a b c isConstant s n h =
       let p = next-passed (constantAt t (recs types) lines a) s (zeros (b ∷ c ∷ [])) h in
@@ -251,6 +295,7 @@ module _ (pool table types lines : List ℕ) (w : Words32 types) where
   unfolding stepGiven
   step-says k a b c s h = go (stepKind k stepNumbers) refl h
     where
-      go : (o : Option StepKind) → stepKind k stepNumbers ≡ o → (orRefuse 1 o >>= λ kind. step_of t (recs types) lines kind a b c) ≡ got s → Says types lines k a b c s
+      go : (o : Option StepKind) → stepKind k stepNumbers ≡ o → (orRefuse 1 o >>= λ kind. step_of t (recs types) lines kind a b c) ≡ got s
+          → Says types lines k a b c s
       go none e h = let z : ◌≡◌ {A = ℕ} 0 1 = cc in absurd (omega (arith, z))
       go (some x) e h = of-kind k a b c x s e h

@@ -39,14 +39,21 @@ module _ (types lines : List ℕ) (k a b c n : ℕ) where
   unfolding issued sizeCon size
   size-scalar e z m s h =
       by-raise types lines k a b c (Sized n) e
-      (record { long = λ ν v q l r. let p : put (free (var r)) (frac (signed b) c) [] ≡ [] = rw (word-zero b c z, put) in m ∙ ap (λ (f : Product ℕ). sum_of sizeCon (isDim (its r) ∷ equal (its v) (dim f) ∷ [])) (sym p) })
+      (record {
+        long = λ ν v q l r. let p : put (free (var r)) (frac (signed b) c) [] ≡ [] = rw (word-zero b c z, put) in m
+            ∙ ap (λ (f : Product ℕ). sum_of sizeCon (isDim (its r) ∷ equal (its v) (dim f) ∷ [])) (sym p);
+      })
       s h
 
   pub size-power : k ≡ 7 → (b ≡ 0 → ⊥) → n ≡ 6 → (s : LineStep ℕ) → Says types lines k a b c s → Sized n s
   unfolding issued sizeCon size
   size-power e z m s h =
       by-raise types lines k a b c (Sized n) e
-      (record { long = λ ν v q l r. let p : put (free (var r)) (frac (signed b) c) [] ≡ free (var r) ↑ frac (signed b) c ∷ [] = rw (word-nonzero b c z, put) in m ∙ ap (λ (f : Product ℕ). sum_of sizeCon (isDim (its r) ∷ equal (its v) (dim f) ∷ [])) (sym p) })
+      (record {
+        long = λ ν v q l r. let p : put (free (var r)) (frac (signed b) c) []
+            ≡ free (var r) ↑ frac (signed b) c ∷ [] = rw (word-nonzero b c z, put) in m
+            ∙ ap (λ (f : Product ℕ). sum_of sizeCon (isDim (its r) ∷ equal (its v) (dim f) ∷ [])) (sym p);
+      })
       s h
 
   product-long : (e : Exp) → n ≡ 9 → (ν : Names ℕ) (v l r : ℕ) → n ≡ sum_of sizeCon (dimensions l r ++ equal (its v) (dim (twoFactors ν l r e)) ∷ [])
@@ -56,12 +63,14 @@ module _ (types lines : List ℕ) (k a b c n : ℕ) where
   module _ (m : n ≡ 9) where
     pub size-multiplies : k ≡ 5 → (s : LineStep ℕ) → Says types lines k a b c s → Sized n s
     unfolding issued issuedByTwo
-    size-multiplies e s h = by_two types lines k a b c (Sized n) (λ i. omega (arith, i, e)) (λ i. omega (arith, i, e)) (λ i. omega (arith, i, e)) (λ i. omega (arith, i, e))
+    size-multiplies e s h = by_two types lines k a b c (Sized n) (λ i. omega (arith, i, e)) (λ i. omega (arith, i, e)) (λ i. omega (arith, i, e))
+        (λ i. omega (arith, i, e))
         (λ o i. subst (λ (x : Two). Sized n (joins x)) (is-multiplies k o i e) (record { long = λ ν v q l r. product-long one m ν v l r })) s h
 
     pub size-divides : k ≡ 6 → (s : LineStep ℕ) → Says types lines k a b c s → Sized n s
     unfolding issued issuedByTwo
-    size-divides e s h = by_two types lines k a b c (Sized n) (λ i. omega (arith, i, e)) (λ i. omega (arith, i, e)) (λ i. omega (arith, i, e)) (λ i. omega (arith, i, e))
+    size-divides e s h = by_two types lines k a b c (Sized n) (λ i. omega (arith, i, e)) (λ i. omega (arith, i, e)) (λ i. omega (arith, i, e))
+        (λ i. omega (arith, i, e))
         (λ o i. subst (λ (x : Two). Sized n (joins x)) (is-divides k o i e) (record { long = λ ν v q l r. product-long (neg one) m ν v l r })) s h
 
   module _ (f₁ : k ≡ 1 → ⊥) (f₂ : k ≡ 2 → ⊥) (f₇ : k ≡ 7 → ⊥) (f₉ : k ≡ 9 → ⊥) where

@@ -39,7 +39,8 @@ use Rattle.line_theorems.proofs.RunFlow.{Comes, accepts, limit, out, solves}
 use Rattle.line_theorems.proofs.RunBegins.{begins}
 use Rattle.line_theorems.proofs.OtherNames.{paired, firsts-paired, seconds-paired, lents, few, checked}
 
-module _ {N : Type 0} (ν : Names N) (held : N → Bool) (ord : Ordered ν held) (ps : List (N × N)) (o : Once (firsts ps)) (o' : Once (seconds ps)) (lent' : All (Lent ν held ord ps) ps)
+module _ {N : Type 0} (ν : Names N) (held : N → Bool) (ord : Ordered ν held) (ps : List (N × N)) (o : Once (firsts ps)) (o' : Once (seconds ps))
+    (lent' : All (Lent ν held ord ps) ps)
     (ss : List (LineStep N)) (formed : Every (FormedStep ν held ord) ss) (rdy : Every Ready ss) where
   abbrev cs : List (Con N)
   cs = constraints ν (firsts ps) [] ss
@@ -84,7 +85,8 @@ module _ {N : Type 0} (ν : Names N) (held : N → Bool) (ord : Ordered ν held)
     where
       judged : (f : List (Binding N) × List N) → settledSet ν cs ≡ got f → YesOrLimits (judge ν bounded f.0 f.1 cs)
           → ((ty : Ty N) × (this ≡ got ty)) ⊎ Limit this
-      judged f e (inl j) = let l = last-there ν held ord ps o o' lent' ss formed rdy f e j complete long in inl (_, answers ν held ord ps o o' lent' ss formed rdy f l.0 e j l.1)
+      judged f e (inl j) = let l = last-there ν held ord ps o o' lent' ss formed rdy f e j complete long
+          in inl (_, answers ν held ord ps o o' lent' ss formed rdy f l.0 e j l.1)
       judged f e (inr j) = inr (limit-met ν held ord ps o o' lent' ss formed rdy f e j)
 
       go : ((f : List (Binding N) × List N) × (settledSet ν cs ≡ got f)) ⊎ Limit (settledSet ν cs) → ((ty : Ty N) × (this ≡ got ty)) ⊎ Limit this
@@ -93,7 +95,8 @@ module _ {N : Type 0} (ν : Names N) (held : N → Bool) (ord : Ordered ν held)
 
 -- ══ On words ══
 
-module _ (pool table steps types lines names result work : List ℕ) (given : tableGiven pool table ≡ got tt) (ss : List (LineStep ℕ)) (read : lineGiven (table_of pool table) steps types lines ≡ got ss)
+module _ (pool table steps types lines names result work : List ℕ) (given : tableGiven pool table ≡ got tt) (ss : List (LineStep ℕ))
+    (read : lineGiven (table_of pool table) steps types lines ≡ got ss)
     (closed : closedLine ss ≡ true) (new : fresh names ss ≡ true) (known : all (is_held (table_of pool table)) names ≡ true) where
   abbrev t : Table
   t = table_of pool table
@@ -128,9 +131,12 @@ module _ (pool table steps types lines names result work : List ℕ) (given : ta
       let long : length ss ≤ length (firsts ps) = subst (λ (k : List ℕ). length ss ≤ length k) (sym i) (few (length ss) (length names) (rw r.long at many)) in
       let rdy = ready ν (is_held t) order ss r.formed closed in
       let f = begins ν (is_held t) order ss names [] [] left tt (names_apart t order names differing known) (all_nil _) rdy r.formed runs in
-      let c = subst (λ (k : List ℕ). Comes ν (atom-lawful ν order.lawful) (atom-tells ν (is_held t) 0 order.tells) (solve ν bounded (constraints ν k [] ss))) (sym i) (solves ν (atom-lawful ν order.lawful) (atom-tells ν (is_held t) 0 order.tells) (constraints ν names [] ss) f) in
+      let c = subst (λ (k : List ℕ). Comes ν (atom-lawful ν order.lawful) (atom-tells ν (is_held t) 0 order.tells)
+      (solve ν bounded (constraints ν k [] ss))) (sym i)
+      (solves ν (atom-lawful ν order.lawful) (atom-tells ν (is_held t) 0 order.tells) (constraints ν names [] ss) f) in
       let g = is_all (goodCon ν (is_held t) 0) (constraints ν (firsts ps) [] ss) (good-cs ν (is_held t) order ps o o' l ss r.formed rdy) in
-      let a = type-comes ν (is_held t) order ps o o' l ss r.formed rdy r.complete long c (λ s. (ends good (record { good = g; small = leb-true (sum_of sizeCon (constraints ν (firsts ps) [] ss)) 2048 s })).0) in
+      let a = type-comes ν (is_held t) order ps o o' l ss r.formed rdy r.complete long c
+      (λ s. (ends good (record { good = g; small = leb-true (sum_of sizeCon (constraints ν (firsts ps) [] ss)) 2048 s })).0) in
       subst (λ (k : List ℕ). ((ty : Ty ℕ) × (lineType ν ss k ≡ got ty)) ⊎ ((lineType ν ss k ≡ refused 7) ⊎ (lineType ν ss k ≡ refused 8))) i a
 
   kept : tableKept t ≡ got tt
@@ -150,11 +156,13 @@ module _ (pool table steps types lines names result work : List ℕ) (given : ta
 
   pub answered : (u w : Unit {0}) → lineLent pool table steps names result work ≡ got u → lineShort steps types lines names ≡ got w
       → (left : List (Ty ℕ)) → runLine ν ss ≡ ran left
-      → ((n : ℕ) × ((checkLineCall pool table steps types lines names result work).answer ≡ got n)) ⊎ MeetsLimit (checkLineCall pool table steps types lines names result work)
+      → ((n : ℕ) × ((checkLineCall pool table steps types lines names result work).answer ≡ got n))
+      ⊎ MeetsLimit (checkLineCall pool table steps types lines names result work)
   answered u w room short left runs = go (line-type u room left runs)
     where
       go : ((ty : Ty ℕ) × (lineType ν ss names ≡ got ty)) ⊎ ((lineType ν ss names ≡ refused 7) ⊎ (lineType ν ss names ≡ refused 8))
-          → ((n : ℕ) × ((checkLineCall pool table steps types lines names result work).answer ≡ got n)) ⊎ MeetsLimit (checkLineCall pool table steps types lines names result work)
+          → ((n : ℕ) × ((checkLineCall pool table steps types lines names result work).answer ≡ got n))
+          ⊎ MeetsLimit (checkLineCall pool table steps types lines names result work)
       go (inl (ty, e)) = inl (length (writeTy ty), call-is u w room short (got ty) e)
       go (inr (inl e)) = inr (inl (call-is u w room short (refused 7) e))
       go (inr (inr e)) = inr (inr (call-is u w room short (refused 8) e))

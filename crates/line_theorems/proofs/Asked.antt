@@ -110,7 +110,8 @@ module _ {N : Type 0} (ν : Names N) (law : Lawful (orderAtom ν)) (P : N × N �
     ended k s a e = go s.cons refl
       where
         go : (cs : List (Con N)) → s.cons ≡ cs → (s.cons ≡ []) × (s.binds ≡ bs)
-        go [] i = let z : finish ν k (record { cons = []; binds = s.binds }) ≡ accepted bs ns j = subst (λ (cs : List (Con N)). finish ν k (record { cons = cs; binds = s.binds }) ≡ accepted bs ns j) i e in (i, cc (z))
+        go [] i = let z : finish ν k (record { cons = []; binds = s.binds }) ≡ accepted bs ns j =
+            subst (λ (cs : List (Con N)). finish ν k (record { cons = cs; binds = s.binds }) ≡ accepted bs ns j) i e in (i, cc (z))
         go (c ∷ cs) i =
             let z = subst (λ (cs : List (Con N)). finish ν k (record { cons = cs; binds = s.binds }) ≡ accepted bs ns j) i e in
             let y : remaining (c ∷ keep (λ c. is_none (boundOf c)) cs) k ≡ accepted bs ns j = rw (no_bound ν law P c (rw i at a c in_head), keep) at z in
@@ -118,7 +119,8 @@ module _ {N : Type 0} (ν : Names N) (law : Lawful (orderAtom ν)) (P : N × N �
             absurd (omega arith)
 
     -- a property of the state that holds at the end, and before a round if after it
-    module _ (Q : State N → Type 0) (last : (s : State N) → s.cons ≡ [] → s.binds ≡ bs → Q s) (back : (s s' r r' : State N) → States ν law P s s' → States ν law P r r' → Turn ν bounded s r → Q r → Q s) where
+    module _ (Q : State N → Type 0) (last : (s : State N) → s.cons ≡ [] → s.binds ≡ bs → Q s)
+        (back : (s s' r r' : State N) → States ν law P s s' → States ν law P r r' → Turn ν bounded s r → Q r → Q s) where
       turned : (f k : ℕ) (s s' : State N) → States ν law P s s' → {m m' : Got (Option (State N))} → Alike (Onward ν law P s s') m m'
           → round ν bounded s ≡ m → after ν m k s (λ r. run ν bounded f (suc k) r) ≡ accepted bs ns j
           → ((r r' : State N) → States ν law P r r' → run ν bounded f (suc k) r ≡ accepted bs ns j → Q r) → Q s
@@ -136,7 +138,8 @@ module _ {N : Type 0} (ν : Names N) (law : Lawful (orderAtom ν)) (P : N × N �
     stays-back s s' r a (bound t) h b m =
         let z : got s.binds ≡ got t.older = sym (binds-same (bindings ν (t.x ≔ t.t ∷ [])) a.bound) ∙ t.replacedBinds in
         let y : s.binds ≡ t.older = cc in
-        h b (subst (λ (l : List (Binding N)). Memᴰ b l) (ap (λ (l : List (Binding N)). l ++ t.x ≔ t.t ∷ []) y ∙ sym t.appended) (Memᴰ.append_left (t.x ≔ t.t ∷ []) m))
+        h b (subst (λ (l : List (Binding N)). Memᴰ b l) (ap (λ (l : List (Binding N)). l ++ t.x ≔ t.t ∷ []) y ∙ sym t.appended)
+        (Memᴰ.append_left (t.x ≔ t.t ∷ []) m))
     stays-back s s' r a (parted t) h b m = h b (subst (λ (l : List (Binding N)). Memᴰ b l) (sym t.same) m)
     stays-back s s' r a (dropped t) h b m = h b (subst (λ (l : List (Binding N)). Memᴰ b l) (sym t.same) m)
 
@@ -161,7 +164,8 @@ module _ {N : Type 0} (ν : Names N) (law : Lawful (orderAtom ν)) (P : N × N �
 
     asked-back : (x : N) (t : Ty N) → Memᴰ (x ≔ t) bs → Shut t → (u u' : Ty N) → Plain u → replaceTy ν bounded (bindings ν (x ≔ t ∷ [])) u ≡ got u'
         → Dim (isDim u') → Dim (isDim u)
-    asked-back x t m h u u' (inl s) e d = let z : got u ≡ got u' = sym (shut-same ν bounded (bindings ν (x ≔ t ∷ [])) u s) ∙ e in let y : u ≡ u' = cc in subst (λ (v : Ty N). Dim (isDim v)) (sym y) d
+    asked-back x t m h u u' (inl s) e d = let z : got u ≡ got u' = sym (shut-same ν bounded (bindings ν (x ≔ t ∷ [])) u s) ∙ e in let y : u ≡ u' = cc
+        in subst (λ (v : Ty N). Dim (isDim v)) (sym y) d
     asked-back x t m h u u' (inr (y, i)) e d = go (one-bound ν x t (var y))
       where
         e' : replaceTy ν bounded (bindings ν (x ≔ t ∷ [])) (opened (var y)) ≡ got u'
@@ -217,9 +221,13 @@ module _ {N : Type 0} (ν : Names N) (law : Lawful (orderAtom ν)) (P : N × N �
             either (inr i) = d c i
 
         go : Turn ν bounded s r → All AskedPlain s.cons → All Dim s.cons
-        go (parted b) p = was (split b.new) b.rest b.found p (λ c m. h.dims c (subst (λ (l : List (Con N)). Memᴰ c l) (sym b.joined) (Memᴰ.append_left b.new m)))
+        go (parted b) p = was (split b.new) b.rest b.found p
+            (λ c m. h.dims c (subst (λ (l : List (Con N)). Memᴰ c l) (sym b.joined) (Memᴰ.append_left b.new m)))
         go (dropped b) p = was done r.cons b.found p h.dims
-        go (bound b) p = was (bind b.x b.t) b.rest b.found p (λ c m. let w = each-went (replaceCon ν bounded (bindings ν (b.x ≔ b.t ∷ []))) b.rest r.cons b.replaced c m in replaced-back b.x b.t (h.stays (b.x ≔ b.t) new) (binds-shut a'.bound (b.x ≔ b.t) new) c w.to (p c (b.found.kept c m)) w.by (h.dims w.to w.within))
+        go (bound b) p = was (bind b.x b.t) b.rest b.found p
+            (λ c m. let w = each-went (replaceCon ν bounded (bindings ν (b.x ≔ b.t ∷ []))) b.rest r.cons b.replaced c m
+            in replaced-back b.x b.t (h.stays (b.x ≔ b.t) new) (binds-shut a'.bound (b.x ≔ b.t) new) c w.to (p c (b.found.kept c m)) w.by
+            (h.dims w.to w.within))
           where
             new : Memᴰ (b.x ≔ b.t) r.binds
             new = subst (λ (l : List (Binding N)). Memᴰ (b.x ≔ b.t) l) (sym b.appended) (Memᴰ.append_right b.older in_head)
@@ -228,5 +236,8 @@ module _ {N : Type 0} (ν : Names N) (law : Lawful (orderAtom ν)) (P : N × N �
     pub asked-dimensions : (cs cs' : List (Con N)) → F [] cs cs' → solve ν bounded cs ≡ accepted bs ns j → All Dim cs
     unfolding solve
     asked-dimensions cs cs' f e =
-        (through Fine (λ s i k. record { stays = λ b m. subst (λ (l : List (Binding N)). Memᴰ b l) k m; dims = subst (All Dim) (sym i) (all_nil Dim) }) fine_back
+        (through Fine (λ s i k. record {
+          stays = λ b m. subst (λ (l : List (Binding N)). Memᴰ b l) k m;
+          dims = subst (All Dim) (sym i) (all_nil Dim);
+        }) fine_back
         enough 0 (record { cons = cs; binds = [] }) (record { cons = cs'; binds = [] }) (record { flows = f; bound = unbound }) e).dims

@@ -69,7 +69,10 @@ module _ {N : Type 0} (ν : Names N) (held : N → Bool) (ord : Ordered ν held)
     sides p m = pair p.0 p.1 m
 
     apart : (p q : N × N) → Memᴰ p K → Memᴰ q K → Differs ν p.0 p.1 q → (¬ (ν.order q.0 p.0 ≡ Ordering.eq)) × (¬ (ν.order q.1 p.1 ≡ Ordering.eq))
-    apart p q m n d = (λ e. d.0 (ord.tells.same q.0 p.0 (known q n).first-held (known p m).first-held e), λ e. d.1 (ord.tells.same q.1 p.1 (known q n).second-held (known p m).second-held e))
+    apart p q m n d = (
+      λ e. d.0 (ord.tells.same q.0 p.0 (known q n).first-held (known p m).first-held e),
+      λ e. d.1 (ord.tells.same q.1 p.1 (known q n).second-held (known p m).second-held e),
+    )
 
     power-term : (x x' : N) (e : Exp) → Memᴰ (x, x') K → Lowest e → Term ν K (dim (put (free (var x)) e [])) (dim (put (free (var x')) e []))
     power-term x x' e m low = go (isZero e) refl
@@ -87,21 +90,30 @@ module _ {N : Type 0} (ν : Names N) (held : N → Bool) (ord : Ordered ν held)
       def t = define v.0 v.1 lent d t rest
 
       power-flow : (x : N × N) (e : Exp) → Memᴰ x K → Lowest e
-          → F K (isDim (its x.0) ∷ equal (its v.0) (dim (put (free (var x.0)) e [])) ∷ cs) (isDim (its x.1) ∷ equal (its v.1) (dim (put (free (var x.1)) e [])) ∷ cs')
+          → F K (isDim (its x.0) ∷ equal (its v.0) (dim (put (free (var x.0)) e [])) ∷ cs)
+          (isDim (its x.1) ∷ equal (its v.1) (dim (put (free (var x.1)) e [])) ∷ cs')
       power-flow x e m low = beside (dimension (sides x m)) (def (power-term x.0 x.1 e m low))
 
       two-flow : (o : Two) (l r : N × N) → Memᴰ l K → Memᴰ r K → Differs ν r.0 r.1 l
           → F K (issuedByTwo ν v.0 o l.0 r.0 ++ cs) (issuedByTwo ν v.1 o l.1 r.1 ++ cs')
       unfolding issuedByTwo
-      two-flow adds l r m n k = beside (dimension (sides l m)) (beside (dimension (sides r n)) (beside (equality (sides l m) (sides r n)) (def (side (sides l m)))))
-      two-flow subtracts l r m n k = beside (dimension (sides l m)) (beside (dimension (sides r n)) (beside (equality (sides l m) (sides r n)) (def (side (sides l m)))))
-      two-flow multiplies l r m n k = let a = apart r l n m k in beside (dimension (sides l m)) (beside (dimension (sides r n)) (def (two l.0 l.1 r.0 r.1 one m n a.0 a.1 one-lowest)))
-      two-flow divides l r m n k = let a = apart r l n m k in beside (dimension (sides l m)) (beside (dimension (sides r n)) (def (two l.0 l.1 r.0 r.1 (neg one) m n a.0 a.1 (neg-lowest one one-lowest))))
-      two-flow compares l r m n k = beside (dimension (sides l m)) (beside (dimension (sides r n)) (beside (equality (sides l m) (sides r n)) (def (side (shut (basic boolean) boolean-shut)))))
+      two-flow adds l r m n k = beside (dimension (sides l m))
+          (beside (dimension (sides r n)) (beside (equality (sides l m) (sides r n)) (def (side (sides l m)))))
+      two-flow subtracts l r m n k = beside (dimension (sides l m))
+          (beside (dimension (sides r n)) (beside (equality (sides l m) (sides r n)) (def (side (sides l m)))))
+      two-flow multiplies l r m n k = let a = apart r l n m k
+          in beside (dimension (sides l m)) (beside (dimension (sides r n)) (def (two l.0 l.1 r.0 r.1 one m n a.0 a.1 one-lowest)))
+      two-flow divides l r m n k = let a = apart r l n m k
+          in beside (dimension (sides l m))
+          (beside (dimension (sides r n)) (def (two l.0 l.1 r.0 r.1 (neg one) m n a.0 a.1 (neg-lowest one one-lowest))))
+      two-flow compares l r m n k = beside (dimension (sides l m))
+          (beside (dimension (sides r n)) (beside (equality (sides l m) (sides r n)) (def (side (shut (basic boolean) boolean-shut)))))
 
       choice-flow : (c l r : N × N) → Memᴰ c K → Memᴰ l K → Memᴰ r K
-          → F K (equal (its c.0) (basic boolean) ∷ equal (its l.0) (its r.0) ∷ equal (its v.0) (its l.0) ∷ cs) (equal (its c.1) (basic boolean) ∷ equal (its l.1) (its r.1) ∷ equal (its v.1) (its l.1) ∷ cs')
-      choice-flow c l r k m n = beside (equality (sides c k) (shut (basic boolean) boolean-shut)) (beside (equality (sides l m) (sides r n)) (def (side (sides l m))))
+          → F K (equal (its c.0) (basic boolean) ∷ equal (its l.0) (its r.0) ∷ equal (its v.0) (its l.0) ∷ cs)
+          (equal (its c.1) (basic boolean) ∷ equal (its l.1) (its r.1) ∷ equal (its v.1) (its l.1) ∷ cs')
+      choice-flow c l r k m n = beside (equality (sides c k) (shut (basic boolean) boolean-shut))
+          (beside (equality (sides l m) (sides r n)) (def (side (sides l m))))
 
   -- ══ The whole line ══
 

@@ -62,7 +62,8 @@ boolean-closed : {N : Type 0} → opens {N = N} (basic boolean) ≡ []
 unfolding opens
 boolean-closed = refl
 
-module _ {N : Type 0} (ν : Names N) (held : N → Bool) (ord : Ordered ν held) (bs bs' : List (Binding N)) (good : All (λ b. goodBinding ν held 0 b ≡ true) bs) (good' : All (λ b. goodBinding ν held 0 b ≡ true) bs')
+module _ {N : Type 0} (ν : Names N) (held : N → Bool) (ord : Ordered ν held) (bs bs' : List (Binding N))
+    (good : All (λ b. goodBinding ν held 0 b ≡ true) bs) (good' : All (λ b. goodBinding ν held 0 b ≡ true) bs')
     (Lent : N × N → Type 0) (alike : (p : N × N) → Lent p → (t : Ty N) → bindings ν bs (var p.0) ≡ some t → bindings ν bs' (var p.1) ≡ some t) where
   abbrev M : N → Ty N → Type 0
   M = Matches ν held ord bs [] good
@@ -94,7 +95,8 @@ module _ {N : Type 0} (ν : Names N) (held : N → Bool) (ord : Ordered ν held)
       go : (o : Option (Ty N)) → bindings ν bs (var p.0) ≡ o → M' p.1 t
       go none e = absurd (closed-reads t (var p.0) m.closed (sym m.same ∙ ap (λ (o : Option (Ty N)). plain (get_or o (opened (var p.0))) false) e))
       go (some u) e = record {
-        same = ap (λ (o : Option (Ty N)). plain (get_or o (opened (var p.1))) false) (alike p h u e) ∙ sym (ap (λ (o : Option (Ty N)). plain (get_or o (opened (var p.0))) false) e) ∙ m.same;
+        same = ap (λ (o : Option (Ty N)). plain (get_or o (opened (var p.1))) false) (alike p h u e)
+            ∙ sym (ap (λ (o : Option (Ty N)). plain (get_or o (opened (var p.0))) false) e) ∙ m.same;
         closed = m.closed;
       }
 
@@ -112,15 +114,18 @@ module _ {N : Type 0} (ν : Names N) (held : N → Bool) (ord : Ordered ν held)
   unfolding issued
   power-carried v x h k e t low b m g =
       let c = moved-bound x k t b in
-      all_cons T' (dimension-true ν held ord bs' [] good' x.1 t c) (all_cons T' (power-true ν held ord bs' [] good' x.1 e t c low v.1 (g _ (Memᴰ.tail in_head)) (moved v h _ m)) (all_nil T'))
+      all_cons T' (dimension-true ν held ord bs' [] good' x.1 t c)
+      (all_cons T' (power-true ν held ord bs' [] good' x.1 e t c low v.1 (g _ (Memᴰ.tail in_head)) (moved v h _ m)) (all_nil T'))
 
   module _ (v l r : N × N) (hv : Lent v) (hl : Lent l) (hr : Lent r) (s t : Ty N) (m : M l.0 s) (n : M r.0 t) where
     sides-carried : TrueUnder ν bs [] (equal (its l.0) (its r.0)) → T' (equal (its l.1) (its r.1))
     sides-carried f =
-        same_true ν held ord bs' [] good' l.1 r.1 ((moved l hl s m).same ∙ sym m.same ∙ sides ν held ord bs [] good l.0 r.0 f ∙ n.same ∙ sym (moved r hr t n).same)
+        same_true ν held ord bs' [] good' l.1 r.1
+        ((moved l hl s m).same ∙ sym m.same ∙ sides ν held ord bs [] good l.0 r.0 f ∙ n.same ∙ sym (moved r hr t n).same)
 
     dims-carried : B l.0 s → B r.0 t → {cs : List (Con N)} → All T' cs → All T' (isDim (its l.1) ∷ isDim (its r.1) ∷ cs)
-    dims-carried a b f = all_cons T' (dimension-true ν held ord bs' [] good' l.1 s (moved-bound l hl s a)) (all_cons T' (dimension-true ν held ord bs' [] good' r.1 t (moved-bound r hr t b)) f)
+    dims-carried a b f = all_cons T' (dimension-true ν held ord bs' [] good' l.1 s (moved-bound l hl s a))
+        (all_cons T' (dimension-true ν held ord bs' [] good' r.1 t (moved-bound r hr t b)) f)
 
     left-carried : M v.0 s → T' (equal (its v.1) (its l.1))
     left-carried k = same_true ν held ord bs' [] good' v.1 l.1 ((moved v hv s k).same ∙ sym (moved l hl s m).same)
@@ -130,26 +135,33 @@ module _ {N : Type 0} (ν : Names N) (held : N → Bool) (ord : Ordered ν held)
     two-carried adds f g =
         let h = all-every H _ f in
         let b = two-bound ν held ord bs [] good l.0 r.0 s t m n h.0 h.1.0 in
-        dims-carried b.0 b.1 (all_cons T' (sides-carried h.1.1.0.true-under) (all_cons T' (left-carried (of-same ν held ord bs [] good v.0 l.0 s m h.1.1.1.0.true-under)) (all_nil T')))
+        dims-carried b.0 b.1 (all_cons T' (sides-carried h.1.1.0.true-under)
+        (all_cons T' (left-carried (of-same ν held ord bs [] good v.0 l.0 s m h.1.1.1.0.true-under)) (all_nil T')))
     two-carried subtracts f g =
         let h = all-every H _ f in
         let b = two-bound ν held ord bs [] good l.0 r.0 s t m n h.0 h.1.0 in
-        dims-carried b.0 b.1 (all_cons T' (sides-carried h.1.1.0.true-under) (all_cons T' (left-carried (of-same ν held ord bs [] good v.0 l.0 s m h.1.1.1.0.true-under)) (all_nil T')))
+        dims-carried b.0 b.1 (all_cons T' (sides-carried h.1.1.0.true-under)
+        (all_cons T' (left-carried (of-same ν held ord bs [] good v.0 l.0 s m h.1.1.1.0.true-under)) (all_nil T')))
     two-carried multiplies f g =
         let h = all-every H _ f in
         let b = two-bound ν held ord bs [] good l.0 r.0 s t m n h.0 h.1.0 in
         let k = moved v hv _ (of-product ν held ord bs [] good l.0 r.0 s t b.0 b.1 v.0 h.1.1.0) in
-        dims-carried b.0 b.1 (all_cons T' (product-true ν held ord bs' [] good' l.1 r.1 s t (moved-bound l hl s b.0) (moved-bound r hr t b.1) v.1 (g _ (Memᴰ.tail (Memᴰ.tail in_head))) k) (all_nil T'))
+        dims-carried b.0 b.1 (all_cons T'
+        (product-true ν held ord bs' [] good' l.1 r.1 s t (moved-bound l hl s b.0) (moved-bound r hr t b.1) v.1
+        (g _ (Memᴰ.tail (Memᴰ.tail in_head))) k) (all_nil T'))
     two-carried divides f g =
         let h = all-every H _ f in
         let b = two-bound ν held ord bs [] good l.0 r.0 s t m n h.0 h.1.0 in
         let k = moved v hv _ (of-quotient ν held ord bs [] good l.0 r.0 s t b.0 b.1 v.0 h.1.1.0) in
-        dims-carried b.0 b.1 (all_cons T' (quotient-true ν held ord bs' [] good' l.1 r.1 s t (moved-bound l hl s b.0) (moved-bound r hr t b.1) v.1 (g _ (Memᴰ.tail (Memᴰ.tail in_head))) k) (all_nil T'))
+        dims-carried b.0 b.1 (all_cons T'
+        (quotient-true ν held ord bs' [] good' l.1 r.1 s t (moved-bound l hl s b.0) (moved-bound r hr t b.1) v.1
+        (g _ (Memᴰ.tail (Memᴰ.tail in_head))) k) (all_nil T'))
     two-carried compares f g =
         let h = all-every H _ f in
         let b = two-bound ν held ord bs [] good l.0 r.0 s t m n h.0 h.1.0 in
         let k = moved v hv (basic boolean) (of-closed ν held ord bs [] good v.0 (basic boolean) boolean-closed h.1.1.1.0.true-under) in
-        dims-carried b.0 b.1 (all_cons T' (sides-carried h.1.1.0.true-under) (all_cons T' (closed-true ν held ord bs' [] good' v.1 (basic boolean) k) (all_nil T')))
+        dims-carried b.0 b.1 (all_cons T' (sides-carried h.1.1.0.true-under)
+        (all_cons T' (closed-true ν held ord bs' [] good' v.1 (basic boolean) k) (all_nil T')))
 
     choice-carried : (c : N × N) → Lent c → All H (issued ν v.0 (chosen c.0 l.0 r.0)) → All T' (issued ν v.1 (chosen c.1 l.1 r.1))
     unfolding issued
@@ -185,18 +197,21 @@ module _ {N : Type 0} (ν : Names N) (held : N → Bool) (ord : Ordered ν held)
   back P xs ys h c m = h c (Memᴰ.append_right xs m)
 
   pub carries : (ss : List (LineStep N)) (ps st : List (N × N)) (ts : List (Ty N)) → Typed st ts → Every Lent st → Every Lent ps → Every Ready ss
-      → All H (constraints ν (firsts ps) (firsts st) ss) → All Good (constraints ν (seconds ps) (seconds st) ss) → All T' (constraints ν (seconds ps) (seconds st) ss)
+      → All H (constraints ν (firsts ps) (firsts st) ss) → All Good (constraints ν (seconds ps) (seconds st) ss)
+      → All T' (constraints ν (seconds ps) (seconds st) ss)
   unfolding constraints takes
   carries [] ps st ts m a c r f g = all_nil T'
   carries (s ∷ ss) [] st ts m a c r f g = all_nil T'
   carries (constant t ∷ ss) (p ∷ ps) st ts m a c r f g =
       let x = issued ν p.0 (gives t) in
       let k = of-closed ν held ord bs [] good p.0 t r.0 (type-fact p t (front H x _ f)) in
-      all_append T' (issued ν p.1 (gives t)) (type-carried p c.0 t k) (carries ss ps (p ∷ st) (t ∷ ts) (k, m) (c.0, a) c.1 r.1 (back H x _ f) (back Good (issued ν p.1 (gives t)) _ g))
+      all_append T' (issued ν p.1 (gives t)) (type-carried p c.0 t k)
+      (carries ss ps (p ∷ st) (t ∷ ts) (k, m) (c.0, a) c.1 r.1 (back H x _ f) (back Good (issued ν p.1 (gives t)) _ g))
   carries (reference t ∷ ss) (p ∷ ps) st ts m a c r f g =
       let x = issued ν p.0 (gives t) in
       let k = of-closed ν held ord bs [] good p.0 t r.0 (type-fact p t (front H x _ f)) in
-      all_append T' (issued ν p.1 (gives t)) (type-carried p c.0 t k) (carries ss ps (p ∷ st) (t ∷ ts) (k, m) (c.0, a) c.1 r.1 (back H x _ f) (back Good (issued ν p.1 (gives t)) _ g))
+      all_append T' (issued ν p.1 (gives t)) (type-carried p c.0 t k)
+      (carries ss ps (p ∷ st) (t ∷ ts) (k, m) (c.0, a) c.1 r.1 (back H x _ f) (back Good (issued ν p.1 (gives t)) _ g))
   carries (raises e ∷ ss) (p ∷ ps) [] ts m a c r f g = all_nil T'
   carries (raises e ∷ ss) (p ∷ ps) (x ∷ st) [] m a c r f g = absurd m
   carries (raises e ∷ ss) (p ∷ ps) (x ∷ st) (t ∷ ts) m a c r f g =
@@ -204,7 +219,8 @@ module _ {N : Type 0} (ν : Names N) (held : N → Bool) (ord : Ordered ν held)
       let i' = issued ν p.1 (raised e x.1) in
       let b = power-bound x t e p m.0 (front H i _ f) in
       let k = power-matches x t e p r.0 b (front H i _ f) in
-      all_append T' i' (power-carried p x c.0 a.0 e t r.0 b k (front Good i' _ g)) (carries ss ps (p ∷ st) (dim (raiseE b.product e) ∷ ts) (k, m.1) (c.0, a.1) c.1 r.1 (back H i _ f) (back Good i' _ g))
+      all_append T' i' (power-carried p x c.0 a.0 e t r.0 b k (front Good i' _ g))
+      (carries ss ps (p ∷ st) (dim (raiseE b.product e) ∷ ts) (k, m.1) (c.0, a.1) c.1 r.1 (back H i _ f) (back Good i' _ g))
   carries (joins o ∷ ss) (p ∷ ps) [] ts m a c r f g = all_nil T'
   carries (joins o ∷ ss) (p ∷ ps) (y ∷ []) ts m a c r f g = all_nil T'
   carries (joins o ∷ ss) (p ∷ ps) (y ∷ x ∷ st) [] m a c r f g = absurd m
@@ -213,7 +229,8 @@ module _ {N : Type 0} (ν : Names N) (held : N → Bool) (ord : Ordered ν held)
       let i = issued ν p.0 (joined o x.0 y.0) in
       let i' = issued ν p.1 (joined o x.1 y.1) in
       let k = by_two ν held ord bs [] good x.0 y.0 s t m.1.0 m.0 o p.0 (front H i _ f) in
-      all_append T' i' (two-carried p x y c.0 a.1.0 a.0 s t m.1.0 m.0 o (front H i _ f) (front Good i' _ g)) (carries ss ps (p ∷ st) (k.type ∷ ts) (k.matches, m.1.1) (c.0, a.1.1) c.1 r.1 (back H i _ f) (back Good i' _ g))
+      all_append T' i' (two-carried p x y c.0 a.1.0 a.0 s t m.1.0 m.0 o (front H i _ f) (front Good i' _ g))
+      (carries ss ps (p ∷ st) (k.type ∷ ts) (k.matches, m.1.1) (c.0, a.1.1) c.1 r.1 (back H i _ f) (back Good i' _ g))
   carries (chooses ∷ ss) (p ∷ ps) [] ts m a c r f g = all_nil T'
   carries (chooses ∷ ss) (p ∷ ps) (y ∷ []) ts m a c r f g = all_nil T'
   carries (chooses ∷ ss) (p ∷ ps) (y ∷ x ∷ []) ts m a c r f g = all_nil T'
@@ -224,4 +241,5 @@ module _ {N : Type 0} (ν : Names N) (held : N → Bool) (ord : Ordered ν held)
       let i = issued ν p.0 (chosen z.0 x.0 y.0) in
       let i' = issued ν p.1 (chosen z.1 x.1 y.1) in
       let k = by-choice ν held ord bs [] good x.0 y.0 s t m.1.0 m.0 z.0 u m.1.1.0 p.0 (front H i _ f) in
-      all_append T' i' (choice-carried p x y c.0 a.1.0 a.0 s t m.1.0 m.0 z a.1.1.0 (front H i _ f)) (carries ss ps (p ∷ st) (k.type ∷ ts) (k.matches, m.1.1.1) (c.0, a.1.1.1) c.1 r.1 (back H i _ f) (back Good i' _ g))
+      all_append T' i' (choice-carried p x y c.0 a.1.0 a.0 s t m.1.0 m.0 z a.1.1.0 (front H i _ f))
+      (carries ss ps (p ∷ st) (k.type ∷ ts) (k.matches, m.1.1.1) (c.0, a.1.1.1) c.1 r.1 (back H i _ f) (back Good i' _ g))

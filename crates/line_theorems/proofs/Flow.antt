@@ -97,4 +97,5 @@ module _ {N : Type 0} (ν : Names N) where
     unfolding sizeCon depthCon size depth
     flow-size end = (refl, refl)
     flow-size (beside c f) = let a = line-size c in let b = flow-size f in (ap₂ (λ (m n : ℕ). m + n) a.0 b.0, ap₂ max a.1 b.1)
-    flow-size (define v v' p d t f) = let a = term-size t in let b = flow-size f in (ap₂ (λ (m n : ℕ). suc (1 + m) + n) a.0 b.0, ap₂ (λ (m n : ℕ). max (max 1 m) n) a.1 b.1)
+    flow-size (define v v' p d t f) = let a = term-size t in let b = flow-size f
+        in (ap₂ (λ (m n : ℕ). suc (1 + m) + n) a.0 b.0, ap₂ (λ (m n : ℕ). max (max 1 m) n) a.1 b.1)

@@ -161,7 +161,10 @@ module _ {N : Type 0} (ν : Names N) (held : N → Bool) (ord : Ordered ν held)
   onward chooses v [] vs a f = tt
   onward chooses v (r ∷ []) vs a f = tt
   onward chooses v (r ∷ l ∷ []) vs a f = tt
-  onward chooses v (r ∷ l ∷ c ∷ st) vs a f = (choice-issued v a.coming-held.0 l r a.stack-held.1.0 a.stack-held.0 c a.stack-held.1.1.0, pushed v st vs (popped c st (v ∷ vs) (popped l (c ∷ st) (v ∷ vs) (popped r (l ∷ c ∷ st) (v ∷ vs) a))))
+  onward chooses v (r ∷ l ∷ c ∷ st) vs a f = (
+    choice-issued v a.coming-held.0 l r a.stack-held.1.0 a.stack-held.0 c a.stack-held.1.1.0,
+    pushed v st vs (popped c st (v ∷ vs) (popped l (c ∷ st) (v ∷ vs) (popped r (l ∷ c ∷ st) (v ∷ vs) a))),
+  )
 
   pub constraints-formed : (ss : List (LineStep N)) (vs st : List N) → Apart st vs → Every FormedStep ss → All Good (constraints ν vs st ss)
   unfolding constraints

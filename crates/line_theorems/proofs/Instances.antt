@@ -33,7 +33,8 @@ unfolding lines closedLine
 speed-closed = refl
 
 -- by the theorem, not by running it
-speed-runs : RunsTo (numbersOf (table_of pool table)) (accepted-line pool table speed types earlier lent result work 3 speed-answered).ss (accepted-line pool table speed types earlier lent result work 3 speed-answered).type
+speed-runs : RunsTo (numbersOf (table_of pool table)) (accepted-line pool table speed types earlier lent result work 3 speed-answered).ss
+    (accepted-line pool table speed types earlier lent result work 3 speed-answered).type
 speed-runs =
     let a = accepted-line pool table speed types earlier lent result work 3 speed-answered in
     let z : got a.ss ≡ got speedSteps = sym a.read ∙ speed-read in
@@ -63,7 +64,8 @@ sum-stops = refl
 
 -- so the promise is false without closed references
 closed-needed : ¬ ((steps : List ℕ) (n : ℕ) (e : (checkLineCall pool table steps types earlier lent result work).answer ≡ got n)
-    → RunsTo (numbersOf (table_of pool table)) (accepted-line pool table steps types earlier lent result work n e).ss (accepted-line pool table steps types earlier lent result work n e).type)
+    → RunsTo (numbersOf (table_of pool table)) (accepted-line pool table steps types earlier lent result work n e).ss
+    (accepted-line pool table steps types earlier lent result work n e).type)
 closed-needed claim =
     let a = accepted-line pool table sum types earlier lent result work 2 sum-answered in
     let z : got a.ss ≡ got sumSteps = sym a.read ∙ sum-read in

@@ -94,16 +94,20 @@ module _ {N : Type 0} (ν : Names N) (P : N × N → Type 0) where
   unfolding opensCon
   line-no-par (closed c h) = (shut-no-par _ h, shut-no-par _ h)
   line-no-par (dimension s) = side-no-par s
-  line-no-par (equality {s} {s'} {t} {t'} l r) = let a = side-no-par l in let b = side-no-par r in (all_append NoPar (opens s) a.0 b.0, all_append NoPar (opens s') a.1 b.1)
+  line-no-par (equality {s} {s'} {t} {t'} l r) = let a = side-no-par l in let b = side-no-par r
+      in (all_append NoPar (opens s) a.0 b.0, all_append NoPar (opens s') a.1 b.1)
 
   pub flow-no-par : {K : List (N × N)} {cs cs' : List (Con N)} → Flow ν P K cs cs' → All NoPar (collect opensCon cs) × All NoPar (collect opensCon cs')
   unfolding collect opensCon opens
   flow-no-par end = (all_nil NoPar, all_nil NoPar)
-  flow-no-par (beside {c = c} {c' = c'} l f) = let a = line-no-par l in let b = flow-no-par f in (all_append NoPar (opensCon c) a.0 b.0, all_append NoPar (opensCon c') a.1 b.1)
+  flow-no-par (beside {c = c} {c' = c'} l f) = let a = line-no-par l in let b = flow-no-par f
+      in (all_append NoPar (opensCon c) a.0 b.0, all_append NoPar (opensCon c') a.1 b.1)
   flow-no-par (define v v' {t = t} {t' = t'} p d u f) =
       let a = term-no-par u in
-      let b = flow-no-par f in
-      (all_append NoPar (var v ∷ opens t) (all_cons NoPar (var-no-par v) a.0) b.0, all_append NoPar (var v' ∷ opens t') (all_cons NoPar (var-no-par v') a.1) b.1)
+      let b = flow-no-par f in (
+        all_append NoPar (var v ∷ opens t) (all_cons NoPar (var-no-par v) a.0) b.0,
+        all_append NoPar (var v' ∷ opens t') (all_cons NoPar (var-no-par v') a.1) b.1,
+      )
 
   pub unmixed-set : (os : List (Open N)) → All NoPar os → unmixed ν os ≡ true
   unmixed-set os h = apart-names ν (λ x. ⊥) os (λ x m e. e) (λ x m. h (par x) m x refl)
@@ -141,16 +145,24 @@ module _ {N : Type 0} where
   last-pair (p ∷ ps) (s ∷ []) v e = (p, in_head, cc, refl)
   last-pair (p ∷ ps) (s ∷ s' ∷ ss) v e = let r = last-pair ps (s' ∷ ss) v e in (r.0, Memᴰ.tail r.1, r.2, r.3)
 
-module _ {N : Type 0} (ν : Names N) (held : N → Bool) (ord : Ordered ν held) (ps : List (N × N)) (once : Once (firsts ps)) (once' : Once (seconds ps)) (lent : All (Lent ν held ord ps) ps) where
+module _ {N : Type 0} (ν : Names N) (held : N → Bool) (ord : Ordered ν held) (ps : List (N × N)) (once : Once (firsts ps))
+    (once' : Once (seconds ps)) (lent : All (Lent ν held ord ps) ps) where
   abbrev P : N × N → Type 0
   P = Lent ν held ord ps
 
   coming : (K qs : List (N × N)) → Once (firsts qs) → Once (seconds qs) → All (λ p. All (Differs ν p.0 p.1) K) qs → All P qs → Coming ν held ord ps K qs
   coming K [] o o' d h = tt
-  coming K (p ∷ qs) o o' d h = (h p in_head, d p in_head, coming (p ∷ K) qs o.1 o'.1 (λ q m. all_cons _ (differs q m) (d q (Memᴰ.tail m))) (λ q m. h q (Memᴰ.tail m)))
+  coming K (p ∷ qs) o o' d h = (
+    h p in_head,
+    d p in_head,
+    coming (p ∷ K) qs o.1 o'.1 (λ q m. all_cons _ (differs q m) (d q (Memᴰ.tail m))) (λ q m. h q (Memᴰ.tail m)),
+  )
     where
       differs : (q : N × N) → Memᴰ q qs → Differs ν q.0 q.1 p
-      differs q m = (λ e. o.0 (subst (λ (x : N). Memᴰ x (firsts qs)) (sym e) (map-to (λ (s : N × N). s.0) qs q m)), λ e. o'.0 (subst (λ (x : N). Memᴰ x (seconds qs)) (sym e) (map-to (λ (s : N × N). s.1) qs q m)))
+      differs q m = (
+        λ e. o.0 (subst (λ (x : N). Memᴰ x (firsts qs)) (sym e) (map-to (λ (s : N × N). s.0) qs q m)),
+        λ e. o'.0 (subst (λ (x : N). Memᴰ x (seconds qs)) (sym e) (map-to (λ (s : N × N). s.1) qs q m)),
+      )
 
   -- what is bound on the left is bound on the right, to the same type
   finds : {bs bs' : List (Binding N)} → Binds ν (atom-lawful ν ord.lawful) P bs bs' → (p : N × N) → P p → (t : Ty N) → find ν bs p.0 ≡ some t
@@ -165,7 +177,10 @@ module _ {N : Type 0} (ν : Names N) (held : N → Bool) (ord : Ordered ν held)
           let w : some u ≡ some t = rw (i, find) at e in
           rw (is-yes (ν.same p.1 y') (ap (λ (s : N × N). s.1) q), find) w
       go false i more =
-          rw (is-no (ν.same p.1 y') (λ j. no-is (ν.same p.0 y) i (ap (λ (s : N × N). s.0) (second-once ps once' p (y, y') h.listed k.listed j))), find) (more (rw (i, find) at e))
+          rw (
+            is-no (ν.same p.1 y') (λ j. no-is (ν.same p.0 y) i (ap (λ (s : N × N). s.0) (second-once ps once' p (y, y') h.listed k.listed j))),
+            find,
+          ) (more (rw (i, find) at e))
 
   module _ (ss : List (LineStep N)) (formed : Every (FormedStep ν held ord) ss) (ready : Every Ready ss) where
     abbrev cs : List (Con N)
@@ -215,10 +230,12 @@ module _ {N : Type 0} (ν : Names N) (held : N → Bool) (ord : Ordered ν held)
     seconds-held (q ∷ qs) h = ((h q in_head).second-held, seconds-held qs (λ r m. h r (Memᴰ.tail m)))
 
     pub good-cs : All (λ c. goodCon ν held 0 c ≡ true) cs
-    good-cs = constraints-formed ν held ord ss (firsts ps) [] (record { stack = tt; coming = once; disjoint = tt; stack-held = tt; coming-held = firsts-held ps lent }) formed
+    good-cs = constraints-formed ν held ord ss (firsts ps) []
+        (record { stack = tt; coming = once; disjoint = tt; stack-held = tt; coming-held = firsts-held ps lent }) formed
 
     good-cs' : All (λ c. goodCon ν held 0 c ≡ true) cs'
-    good-cs' = constraints-formed ν held ord ss (seconds ps) [] (record { stack = tt; coming = once'; disjoint = tt; stack-held = tt; coming-held = seconds-held ps lent }) formed
+    good-cs' = constraints-formed ν held ord ss (seconds ps) []
+        (record { stack = tt; coming = once'; disjoint = tt; stack-held = tt; coming-held = seconds-held ps lent }) formed
 
     -- bindings that the solver gave are well formed
     bindings-good : (ds : List (Con N)) → All (λ c. goodCon ν held 0 c ≡ true) ds → (f : List (Binding N) × List N) → settledSet ν ds ≡ got f
@@ -232,10 +249,12 @@ module _ {N : Type 0} (ν : Names N) (held : N → Bool) (ord : Ordered ν held)
         → length ss ≤ length (firsts ps) → (v : N) × (last_of (firsts ps) ss ≡ some v)
     last-there f e j complete long =
         let good = bindings-good cs good-cs f e in
-        let n = runs ν held ord f.0 f.1 good ss (firsts ps) [] [] tt complete long ready (λ c m. record { formed = good-cs c m; true-under = yes-solves ν cs f.0 f.1 j c m }) in
+        let n = runs ν held ord f.0 f.1 good ss (firsts ps) [] [] tt complete long ready
+        (λ c m. record { formed = good-cs c m; true-under = yes-solves ν cs f.0 f.1 j c m }) in
         (n.variable, last-from (firsts ps) ss ∙ n.last)
 
-    module _ (f f' : List (Binding N) × List N) (e : settledSet ν cs ≡ got f) (e' : settledSet ν cs' ≡ got f') (found : Found f f') (yes' : judge ν bounded f.0 f.1 cs ≡ got true) where
+    module _ (f f' : List (Binding N) × List N) (e : settledSet ν cs ≡ got f) (e' : settledSet ν cs' ≡ got f') (found : Found f f')
+        (yes' : judge ν bounded f.0 f.1 cs ≡ got true) where
       good : All (λ b. goodBinding ν held 0 b ≡ true) f.0
       good = bindings-good cs good-cs f e
 
@@ -266,7 +285,8 @@ module _ {N : Type 0} (ν : Names N) (held : N → Bool) (ord : Ordered ν held)
         where
           go : (o : Option (Ty N)) → bindings ν f.0 (var p.0) ≡ o → got (get_or (bindings ν f'.0 (var p.1)) (opened (var p.1))) ≡ got ty
           go none i = absurd (closed-reads u (var p.0) m.closed (sym m.same ∙ ap (λ (o : Option (Ty N)). plain (get_or o (opened (var p.0))) false) i))
-          go (some w) i = ap (λ (o : Option (Ty N)). got (get_or o (opened (var p.1)))) (same-bound p h w i) ∙ sym (ap (λ (o : Option (Ty N)). got (get_or o (opened (var p.0)))) i) ∙ k
+          go (some w) i = ap (λ (o : Option (Ty N)). got (get_or o (opened (var p.1)))) (same-bound p h w i)
+              ∙ sym (ap (λ (o : Option (Ty N)). got (get_or o (opened (var p.0)))) i) ∙ k
 
       -- the type of the last step's variable
       last-type : whole 0 ss ≡ true → length ss ≤ length (firsts ps) → (v : N) (ty : Ty N) → last_of (firsts ps) ss ≡ some v
@@ -278,7 +298,8 @@ module _ {N : Type 0} (ν : Names N) (held : N → Bool) (ord : Ordered ν held)
           let n = runs ν held ord f.0 [] good ss (firsts ps) [] [] tt complete long ready facts in
           let i : some n.variable ≡ some v = sym n.last ∙ sym (last-from (firsts ps) ss) ∙ l in
           let j : n.variable ≡ q.0.0 = cc q.2 in
-          let k : got (get_or (bindings ν f.0 (var q.0.0)) (opened (var q.0.0))) ≡ got ty = ap (λ (x : N). got (get_or (bindings ν f.0 (var x)) (opened (var x)))) q.2 ∙ r in
+          let k : got (get_or (bindings ν f.0 (var q.0.0)) (opened (var q.0.0))) ≡ got ty =
+          ap (λ (x : N). got (get_or (bindings ν f.0 (var x)) (opened (var x)))) q.2 ∙ r in
           let m = subst (λ (x : N). Matches ν held ord f.0 [] good x n.type) j n.matches in
           (q.0.1, q.3, bound-type q.0 (lent q.0 q.1) n.type m ty k)
 

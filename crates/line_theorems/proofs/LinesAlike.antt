@@ -62,7 +62,9 @@ fresh-map : {pool table : List ℕ} (good : Good pool table) (names : List ℕ) 
 unfolding fresh freshNamed
 fresh-map {pool} {table} good names ss =
     rw (collect-over (map_step ν) ν namesOfStep namesOfStep (step-names ν) ss)
-    (ap₂ (λ (a b : Bool). a && b) (differ-map good names) (all_map ν (λ n. not (any (eqb n) used)) (λ n. not (among byBytes n (map ν used))) (λ n. ap not (among-map _ byBytes ν (keeps good) n used ∙ same-eqb (names_of (table_of pool table)) n used)) names))
+    (ap₂ (λ (a b : Bool). a && b) (differ-map good names)
+    (all_map ν (λ n. not (any (eqb n) used)) (λ n. not (among byBytes n (map ν used)))
+    (λ n. ap not (among-map _ byBytes ν (keeps good) n used ∙ same-eqb (names_of (table_of pool table)) n used)) names))
   where
     ν : ℕ → Name
     ν = nameNo (table_of pool table)
@@ -129,7 +131,8 @@ module _ {pool table pool' table' : List ℕ} (good : Good pool table) (good' : 
     steps_alike : (ws : List StepWords) → Both (map (map_step ν₁)) (map (map_step ν₂)) (each (stepGiven T₁ rs lines) ws) (each (stepGiven T₂ rs' lines) ws)
     unfolding each
     steps_alike [] = alike refl
-    steps_alike (w ∷ ws) = hence (step-alike w) (λ s s' e. hence (steps_alike ws) (λ ss ss' i. alike (ap₂ (λ (x : LineStep Name) (xs : List (LineStep Name)). x ∷ xs) e i)))
+    steps_alike (w ∷ ws) = hence (step-alike w)
+        (λ s s' e. hence (steps_alike ws) (λ ss ss' i. alike (ap₂ (λ (x : LineStep Name) (xs : List (LineStep Name)). x ∷ xs) e i)))
 
   whole-alike : (ss ss' : List (LineStep ℕ)) → map (map_step ν₁) ss ≡ map (map_step ν₂) ss' → whole 0 ss ≡ whole 0 ss'
   whole-alike ss ss' e = sym (whole-map ν₁ 0 ss) ∙ ap (whole 0) e ∙ whole-map ν₂ 0 ss'
@@ -143,26 +146,31 @@ module _ {pool table pool' table' : List ℕ} (good : Good pool table) (good' : 
           (orRefuse 1 o >>= λ ws. orRefuse 1 (records types) >>= λ rs. each (stepGiven T₁ rs lines) ws >>= λ ss. need (whole 0 ss) 1 >>= λ _. got ss)
           (orRefuse 1 o >>= λ ws. orRefuse 1 (records types') >>= λ rs. each (stepGiven T₂ rs lines) ws >>= λ ss. need (whole 0 ss) 1 >>= λ _. got ss)
       go none = record { is = refl }
-      go (some ws) = hence (there 1 (records types) (records types') (records-alike T₁ T₂ types types' e)) (λ rs rs' h. hence (steps_alike rs rs' h lines ws) (λ ss ss' i. hence (needed 1 (whole-alike ss ss' i)) (λ x y z. alike i)))
+      go (some ws) = hence (there 1 (records types) (records types') (records-alike T₁ T₂ types types' e))
+          (λ rs rs' h. hence (steps_alike rs rs' h lines ws) (λ ss ss' i. hence (needed 1 (whole-alike ss ss' i)) (λ x y z. alike i)))
 
   fresh-alike : (names names' : List ℕ) (ss ss' : List (LineStep ℕ)) → map ν₁ names ≡ map ν₂ names' → map (map_step ν₁) ss ≡ map (map_step ν₂) ss'
       → fresh names ss ≡ fresh names' ss'
-  fresh-alike names names' ss ss' e i = sym (fresh-map good names ss) ∙ ap₂ (λ (ns : List Name) (us : List (LineStep Name)). freshNamed ns (collect namesOfStep us)) e i ∙ fresh-map good' names' ss'
+  fresh-alike names names' ss ss' e i = sym (fresh-map good names ss)
+      ∙ ap₂ (λ (ns : List Name) (us : List (LineStep Name)). freshNamed ns (collect namesOfStep us)) e i ∙ fresh-map good' names' ss'
 
   held-alike : (names names' : List ℕ) → map ν₁ names ≡ map ν₂ names' → all (is_held T₁) names ≡ all (is_held T₂) names'
-  held-alike names names' e = sym (all_map ν₁ (is_held T₁) isNamed (held-named T₁) names) ∙ ap (all isNamed) e ∙ all_map ν₂ (is_held T₂) isNamed (held-named T₂) names'
+  held-alike names names' e = sym (all_map ν₁ (is_held T₁) isNamed (held-named T₁) names) ∙ ap (all isNamed) e
+      ∙ all_map ν₂ (is_held T₂) isNamed (held-named T₂) names'
 
   -- ══ The call ══
 
   type-alike : (names names' : List ℕ) (ss ss' : List (LineStep ℕ)) → map ν₁ names ≡ map ν₂ names' → map (map_step ν₁) ss ≡ map (map_step ν₂) ss'
       → Both (mapTy ν₁) (mapTy ν₂) (lineType (numbersOf T₁) ss names) (lineType (numbersOf T₂) ss' names')
-  type-alike names names' ss ss' e i = through (type-map _ byBytes ν₁ (keeps good) ss names) (type-map _ byBytes ν₂ (keeps good') ss' names') (ap₂ (lineType byBytes) i e)
+  type-alike names names' ss ss' e i = through (type-map _ byBytes ν₁ (keeps good) ss names) (type-map _ byBytes ν₂ (keeps good') ss' names')
+      (ap₂ (lineType byBytes) i e)
 
   short-alike : (steps types types' lines names names' : List ℕ) → length types ≡ length types' → length names ≡ length names'
       → lineShort steps types lines names ≡ lineShort steps types' lines names'
   unfolding lineShort
   short-alike steps types types' lines names names' e f =
-      ap₂ (λ (a b : Got (Unit {0})). need (leb (length steps) 512) 8 >> a >> shortNumbers lines >> b) (short (types ∷ []) (types' ∷ []) (rw e)) (few names names' f)
+      ap₂ (λ (a b : Got (Unit {0})). need (leb (length steps) 512) 8 >> a >> shortNumbers lines >> b) (short (types ∷ []) (types' ∷ []) (rw e))
+      (few names names' f)
 
   checked-alike : (steps types types' lines names names' : List ℕ) → Alike good good' types types' → NumbersAlike T₁ T₂ names names'
       → Both (map (seen T₁)) (map (seen T₂)) (checkedLine T₁ steps types lines names) (checkedLine T₂ steps types' lines names')
@@ -178,7 +186,8 @@ module _ {pool table pool' table' : List ℕ} (good : Good pool table) (good' : 
   room-alike : (steps names names' result result' work work' : List ℕ) → length names ≡ length names' → LentAlike result result' work work'
       → lineLent pool table steps names result work ≡ lineLent pool' table' steps names' result' work'
   unfolding lineLent
-  room-alike steps names names' result result' work work' e r = two-checks (lent_alike good good' result result' work work' r) (ap (λ (n : ℕ). need (leb (length steps) (n * 4)) 10) e)
+  room-alike steps names names' result result' work work' e r =
+      two-checks (lent_alike good good' result result' work work' r) (ap (λ (n : ℕ). need (leb (length steps) (n * 4)) 10) e)
 
   -- the same count or refusal, and a type that reads alike
   pub line-alike : (steps types types' lines names names' result result' work work' : List ℕ) → Alike good good' types types'
@@ -187,4 +196,5 @@ module _ {pool table pool' table' : List ℕ} (good : Good pool table) (good' : 
   unfolding checkLineCall
   line-alike steps types types' lines names names' result result' work work' e f r =
       rw (room-alike steps names names' result result' work work' (as_many f) r)
-      (writing-alike T₁ T₂ (lineLent pool' table' steps names' result' work') (checkedLine T₁ steps types lines names) (checkedLine T₂ steps types' lines names') result result' work work' (checked-alike steps types types' lines names names' e f))
+      (writing-alike T₁ T₂ (lineLent pool' table' steps names' result' work') (checkedLine T₁ steps types lines names)
+      (checkedLine T₂ steps types' lines names') result result' work work' (checked-alike steps types types' lines names names' e f))

@@ -111,7 +111,8 @@ module _ {N : Type 0} (ν : Names N) (law : Lawful (orderAtom ν)) (P : N × N �
       → Alike Binds (each (replaceBinding ν bounded look) bs) (each (replaceBinding ν bounded look') bs')
   unfolding each replaceBinding
   binds-stay look look' unbound = both unbound
-  binds-stay look look' (binds x x' t p h b) = rw (shut-same ν bounded look t h, shut-same ν bounded look' t h) (hence (binds-stay look look' b) (λ as' bs q. both (binds x x' t p h q)))
+  binds-stay look look' (binds x x' t p h b) = rw (shut-same ν bounded look t h, shut-same ν bounded look' t h)
+      (hence (binds-stay look look' b) (λ as' bs q. both (binds x x' t p h q)))
 
   binds-more : (x x' : N) (t : Ty N) {bs bs' : List (Binding N)} → P (x, x') → Shut t → Binds bs bs' → Binds (bs ++ x ≔ t ∷ []) (bs' ++ x' ≔ t ∷ [])
   binds-more x x' t p h unbound = binds x x' t p h unbound
@@ -136,7 +137,8 @@ module _ {N : Type 0} (ν : Names N) (law : Lawful (orderAtom ν)) (P : N × N �
   limited-alike s s' a =
       let f = flow-size ν a.flows in
       let b = binds-size a.bound in
-      rw (f.0, f.1, b.0, b.1) (limits (sum_of sizeCon s'.cons + sum_of sizeBinding s'.binds) (max (max_of depthCon s'.cons) (max_of depthBinding s'.binds)) s s' a)
+      rw (f.0, f.1, b.0, b.1) (limits (sum_of sizeCon s'.cons + sum_of sizeBinding s'.binds)
+      (max (max_of depthCon s'.cons) (max_of depthBinding s'.binds)) s s' a)
 
   -- ══ The first constraint to which a rule applies ══
 
@@ -185,7 +187,8 @@ module _ {N : Type 0} (ν : Names N) (law : Lawful (orderAtom ν)) (P : N × N �
       not_in true i = absurd (h (var v) (contained ν v t i))
 
   stepped : (c : Con N) {cs cs' : List (Con N)} → ShutCon c → F [] cs cs' → Alike (Next cs cs') (firstStep ν bounded cs) (firstStep ν bounded cs')
-      → (s : Step N) → After (All ShutCon) (λ x t. ⊥) s → Alike (Next (c ∷ cs) (c ∷ cs')) (taken s c cs (λ _. firstStep ν bounded cs)) (taken s c cs' (λ _. firstStep ν bounded cs'))
+      → (s : Step N) → After (All ShutCon) (λ x t. ⊥) s
+      → Alike (Next (c ∷ cs) (c ∷ cs')) (taken s c cs (λ _. firstStep ν bounded cs)) (taken s c cs' (λ _. firstStep ν bounded cs'))
   unfolding taken
   stepped c h f k (bind x t) a = absurd a
   stepped c h f k (split new) a = both (parts new a f)
@@ -205,17 +208,25 @@ module _ {N : Type 0} (ν : Names N) (law : Lawful (orderAtom ν)) (P : N × N �
   first : {cs cs' : List (Con N)} → F [] cs cs' → Alike (Next cs cs') (firstStep ν bounded cs) (firstStep ν bounded cs')
   unfolding firstStep taken
   first end = both (nothing refl (all_nil ShutCon))
-  first (beside {c} {c'} {cs} {cs'} l f) = let a = line-shut l in subst (λ (d : Con N). Alike (Next (c ∷ cs) (d ∷ cs')) (firstStep ν bounded (c ∷ cs)) (firstStep ν bounded (d ∷ cs'))) a.0 (tried c a.1 f (first f))
+  first (beside {c} {c'} {cs} {cs'} l f) = let a = line-shut l
+      in subst (λ (d : Con N). Alike (Next (c ∷ cs) (d ∷ cs')) (firstStep ν bounded (c ∷ cs)) (firstStep ν bounded (d ∷ cs'))) a.0
+      (tried c a.1 f (first f))
   first (define v v' {t} {t'} {cs} {cs'} p d u f) =
       let a = term-shut u in
-      subst (λ (w : Ty N). Alike (Next (equal (opened (var v)) t ∷ cs) (equal (opened (var v')) w ∷ cs')) (firstStep ν bounded (equal (opened (var v)) t ∷ cs)) (firstStep ν bounded (equal (opened (var v')) w ∷ cs'))) a.0
+      subst (λ (w : Ty N). Alike (Next (equal (opened (var v)) t ∷ cs) (equal (opened (var v')) w ∷ cs'))
+      (firstStep ν bounded (equal (opened (var v)) t ∷ cs)) (firstStep ν bounded (equal (opened (var v')) w ∷ cs'))) a.0
       (rw (defines v t a.1, defines v' t a.1) (both (binding v v' t p a.1 f)))
 
   -- ══ A round ══
 
   -- the one pair that was defined before is the one that is bound
   only-pair : (v v' : N) (t : Ty N) (h : Shut t) → Without ν law t h v v' ((v, v') ∷ []) []
-  only-pair v v' t h = record { here = in_head; splits = λ x x' m. inl (ap (λ (p : N × N). p.0) (Memᴰ.eq_of_singleton m), ap (λ (p : N × N). p.1) (Memᴰ.eq_of_singleton m)); within' = all_nil _ }
+  only-pair v v' t h = record {
+    here = in_head;
+    splits = λ x x' m. inl (ap (λ (p : N × N). p.0) (Memᴰ.eq_of_singleton m), ap (λ (p : N × N). p.1) (Memᴰ.eq_of_singleton m));
+    within' =
+        all_nil _;
+  }
 
   flow-more : {K : List (N × N)} {cs cs' : List (Con N)} (new : List (Con N)) → All ShutCon new → F K cs cs' → F K (cs ++ new) (cs' ++ new)
   flow-more [] a end = end
@@ -238,14 +249,18 @@ module _ {N : Type 0} (ν : Names N) (law : Lawful (orderAtom ν)) (P : N × N �
   bound-both v v' t p h b f =
       hence (flow-put ν law t h v v' (only-pair v v' t h) f) (λ cs cs' g.
       hence (binds-stay _ _ b) (λ bs bs' c.
-      limited-alike (record { cons = cs; binds = bs ++ v ≔ t ∷ [] }) (record { cons = cs'; binds = bs' ++ v' ≔ t ∷ [] }) (record { flows = g; bound = binds-more v v' t p h c })))
+      limited-alike (record { cons = cs; binds = bs ++ v ≔ t ∷ [] }) (record { cons = cs'; binds = bs' ++ v' ≔ t ∷ [] })
+      (record { flows = g; bound = binds-more v v' t p h c })))
 
   performs : {s s' : State N} {o o' : Option (Step N × List (Con N))} → Binds s.binds s'.binds → Next s.cons s'.cons o o'
       → Alike (Onward s s') (performed ν bounded s.binds o) (performed ν bounded s'.binds o')
   unfolding performed perform
   performs b (nothing e a) = both (over e a)
-  performs {s} {s'} b (parts new {rest} {rest'} a f) = goes_on (limited-alike (record { cons = rest ++ new; binds = s.binds }) (record { cons = rest' ++ new; binds = s'.binds }) (record { flows = flow-more new a f; bound = b }))
-  performs {s} {s'} b (gone {rest} {rest'} f) = goes_on (limited-alike (record { cons = rest; binds = s.binds }) (record { cons = rest'; binds = s'.binds }) (record { flows = f; bound = b }))
+  performs {s} {s'} b (parts new {rest} {rest'} a f) = goes_on
+      (limited-alike (record { cons = rest ++ new; binds = s.binds }) (record { cons = rest' ++ new; binds = s'.binds })
+      (record { flows = flow-more new a f; bound = b }))
+  performs {s} {s'} b (gone {rest} {rest'} f) = goes_on
+      (limited-alike (record { cons = rest; binds = s.binds }) (record { cons = rest'; binds = s'.binds }) (record { flows = f; bound = b }))
   performs b (binding v v' t p h f) = goes_on (bound-both v v' t p h b f)
 
   pub rounds : (s s' : State N) → States s s' → Alike (Onward s s') (round ν bounded s) (round ν bounded s')
@@ -272,7 +287,8 @@ module _ {N : Type 0} (ν : Names N) (law : Lawful (orderAtom ν)) (P : N × N �
   no_bound (is_scalar p) h = refl
   no_bound (hasField n s t) h = refl
 
-  ends-alike : (cs : List (Con N)) → All ShutCon cs → (k : ℕ) (bs bs' : List (Binding N)) → Binds bs bs' → Answers (finish ν k (record { cons = cs; binds = bs })) (finish ν k (record { cons = cs; binds = bs' }))
+  ends-alike : (cs : List (Con N)) → All ShutCon cs → (k : ℕ) (bs bs' : List (Binding N)) → Binds bs bs'
+      → Answers (finish ν k (record { cons = cs; binds = bs })) (finish ν k (record { cons = cs; binds = bs' }))
   unfolding finish finished keep collect sort
   ends-alike [] a k bs bs' b = accepts k b
   ends-alike (c ∷ cs) a k bs bs' b = rw (no_bound c (a c in_head), keep) (remains (c ∷ keep (λ c. is_none (boundOf c)) cs) k)
@@ -282,7 +298,9 @@ module _ {N : Type 0} (ν : Names N) (law : Lawful (orderAtom ν)) (P : N × N �
       → Answers (after ν m k s (λ r. run ν bounded f (suc k) r)) (after ν m' k s' (λ r. run ν bounded f (suc k) r))
   unfolding after
   turned f k s s' a (neither n) more = stops n k
-  turned f k s s' a (both (over e c)) more = subst (λ (cs : List (Con N)). Answers (finish ν k s) (finish ν k (record { cons = cs; binds = s'.binds }))) e (ends-alike s.cons c k s.binds s'.binds a.bound)
+  turned f k s s' a (both (over e c)) more = subst
+      (λ (cs : List (Con N)). Answers (finish ν k s) (finish ν k (record { cons = cs; binds = s'.binds }))) e
+      (ends-alike s.cons c k s.binds s'.binds a.bound)
   turned f k s s' a (both (on {a = r} {b = r'} b)) more = more r r' b
 
   runs-alike : (f k : ℕ) (s s' : State N) → States s s' → Answers (run ν bounded f k s) (run ν bounded f k s')

@@ -126,7 +126,8 @@ module _ {N : Type 0} (ν : Names N) where
   unfolding holds amongBounds namesIn collect all
   closed-holds ns p c = rw c
 
-module _ {N : Type 0} (ν : Names N) (held : N → Bool) (ord : Ordered ν held) (bs : List (Binding N)) (ns : List N) (good : All (λ b. goodBinding ν held 0 b ≡ true) bs) where
+module _ {N : Type 0} (ν : Names N) (held : N → Bool) (ord : Ordered ν held) (bs : List (Binding N)) (ns : List N)
+    (good : All (λ b. goodBinding ν held 0 b ≡ true) bs) where
   abbrev law : Lawful (orderAtom ν)
   law = atom-lawful ν ord.lawful
 
@@ -324,18 +325,28 @@ module _ {N : Type 0} (ν : Names N) (held : N → Bool) (ord : Ordered ν held)
 
   pub closed-true : (v : N) (t : Ty N) → Matches v t → TrueUnder ν bs ns (equal (its v) t)
   unfolding replaceTy
-  closed-true v t m = equals-holds ν bs ns (its v) t (record { left = typeOfVar v; right = t; putLeft = refl; putRight = closed_same ν exact σ t m.closed; same = m.same })
+  closed-true v t m = equals-holds ν bs ns (its v) t
+      (record { left = typeOfVar v; right = t; putLeft = refl; putRight = closed_same ν exact σ t m.closed; same = m.same })
 
   pub dimension-true : (v : N) (t : Ty N) → Bound v t → TrueUnder ν bs ns (isDim (its v))
   unfolding replaceTy
-  dimension-true v t b = dimensional-holds ν bs ns (its v) (record { type = dim b.product; put_in = rw b.bound; holding = closed-holds ν ns b.product b.closed })
+  dimension-true v t b = dimensional-holds ν bs ns (its v)
+      (record { type = dim b.product; put_in = rw b.bound; holding = closed-holds ν ns b.product b.closed })
 
   put-true : (v : N) (p q : Product N) → goodCon ν held 0 (equal (its v) (dim p)) ≡ true → All (Fit ν Held σ) (collect openOfFactor p)
       → valued ν (value_of σ) p ≡ q → plain (typeOfVar v) false ≡ plain (dim q) false → TrueUnder ν bs ns (equal (its v) (dim p))
   unfolding goodCon goodTy replaceTy
   put-true v p q g f i e =
       let d = put-dim ν law held 0 tells σ σg p (and_right (goodTy ν held 0 (its v)) _ g) f in
-      equals-holds ν bs ns (its v) (dim p) (record { left = typeOfVar v; right = d.type; putLeft = refl; putRight = d.put_in; same = e ∙ ap (λ (r : Product N). plain (dim r) false) (sym i) ∙ sym (d.reads false) })
+      equals-holds ν bs ns (its v) (dim p)
+      (record {
+        left = typeOfVar v;
+        right = d.type;
+        putLeft = refl;
+        putRight = d.put_in;
+        same = e
+            ∙ ap (λ (r : Product N). plain (dim r) false) (sym i) ∙ sym (d.reads false);
+      })
 
   pub power-true : (x : N) (e : Exp) (t : Ty N) (b : Bound x t) → Lowest e → (v : N) → goodCon ν held 0 (equal (its v) (dim (put (free (var x)) e []))) ≡ true
       → Matches v (dim (raiseE b.product e)) → TrueUnder ν bs ns (equal (its v) (dim (put (free (var x)) e [])))
@@ -365,4 +376,5 @@ module _ {N : Type 0} (ν : Names N) (held : N → Bool) (ord : Ordered ν held)
     pub of-quotient : Fact (equal (its v) (dim (twoFactors ν l r (neg one)))) → Matches v (dim (mergeE ν a.product (inverse b.product)))
     of-quotient h =
         let e = inverse-is ν law tells b.product (proper r t b) in
-        subst (λ (p : Product N). Matches v (dim (mergeE ν a.product p))) (sym e) (of_two l r (neg one) s t a b (subst (Proper ν Held) e (inverse-proper ν law tells b.product (proper r t b))) v h)
+        subst (λ (p : Product N). Matches v (dim (mergeE ν a.product p))) (sym e)
+        (of_two l r (neg one) s t a b (subst (Proper ν Held) e (inverse-proper ν law tells b.product (proper r t b))) v h)

@@ -83,7 +83,8 @@ module _ {N : Type 0} (ν : Names N) where
   one-var x y all m e = let z : isDim (its y) ≡ isDim (its x) = cc in subst (λ (c : Con N). Memᴰ c all) z m
 
   both-asked : (xs ys : List (Con N)) → AskedIn xs xs → AskedIn ys ys → AskedIn (xs ++ ys) (xs ++ ys)
-  both-asked xs ys f g x m = go (Memᴰ.append_cases (collect productsOf xs) (subst (λ (os : List (Open N)). Memᴰ (var x) os) (collect-append productsOf xs ys) m))
+  both-asked xs ys f g x m = go (Memᴰ.append_cases (collect productsOf xs)
+      (subst (λ (os : List (Open N)). Memᴰ (var x) os) (collect-append productsOf xs ys) m))
     where
       go : Memᴰ (var x) (collect productsOf xs) ⊎ Memᴰ (var x) (collect productsOf ys) → Memᴰ (isDim (its x)) (xs ++ ys)
       go (inl i) = Memᴰ.append_left ys (f x i)
@@ -91,7 +92,8 @@ module _ {N : Type 0} (ν : Names N) where
 
   closed-asked : (v : N) (t : Ty N) → opens t ≡ [] → AskedIn (issued ν v (gives t)) (issued ν v (gives t))
   unfolding issued productsOf inProducts
-  closed-asked v t e = with-products (equal (its v) t) [] _ (λ x m. absurd (Memᴰ.not-nil (subst (λ (os : List (Open N)). Memᴰ (var x) os) e (products-occur t (var x) m)))) (nothing-asked _)
+  closed-asked v t e = with-products (equal (its v) t) [] _
+      (λ x m. absurd (Memᴰ.not-nil (subst (λ (os : List (Open N)). Memᴰ (var x) os) e (products-occur t (var x) m)))) (nothing-asked _)
 
   power-var : (x y : N) (e : Exp) (all : List (Con N)) → Memᴰ (isDim (its y)) all → Memᴰ (var x) (inProducts (dim (put (free (var y)) e [])))
       → Memᴰ (isDim (its x)) all
@@ -104,7 +106,8 @@ module _ {N : Type 0} (ν : Names N) where
 
   power-asked : (v y : N) (e : Exp) → AskedIn (issued ν v (raised e y)) (issued ν v (raised e y))
   unfolding issued productsOf inProducts
-  power-asked v y e = no-products (isDim (its y)) _ _ refl (with-products (equal (its v) (dim (put (free (var y)) e []))) [] _ (λ x m. power-var x y e _ in_head m) (nothing-asked _))
+  power-asked v y e = no-products (isDim (its y)) _ _ refl
+      (with-products (equal (its v) (dim (put (free (var y)) e []))) [] _ (λ x m. power-var x y e _ in_head m) (nothing-asked _))
 
   two-var : (x l r : N) (e : Exp) (all : List (Con N)) → Memᴰ (isDim (its l)) all → Memᴰ (isDim (its r)) all
       → Memᴰ (var x) (inProducts (dim (twoFactors ν l r e))) → Memᴰ (isDim (its x)) all
@@ -127,8 +130,10 @@ module _ {N : Type 0} (ν : Names N) where
   unfolding issuedByTwo productsOf inProducts
   two-asked v l r adds = no-products _ _ _ refl (no-products _ _ _ refl (no-products _ _ _ refl (no-products _ _ _ refl (nothing-asked _))))
   two-asked v l r subtracts = no-products _ _ _ refl (no-products _ _ _ refl (no-products _ _ _ refl (no-products _ _ _ refl (nothing-asked _))))
-  two-asked v l r multiplies = no-products _ _ _ refl (no-products _ _ _ refl (with-products _ _ _ (λ x m. two-var x l r one _ in_head (Memᴰ.tail in_head) m) (nothing-asked _)))
-  two-asked v l r divides = no-products _ _ _ refl (no-products _ _ _ refl (with-products _ _ _ (λ x m. two-var x l r (neg one) _ in_head (Memᴰ.tail in_head) m) (nothing-asked _)))
+  two-asked v l r multiplies = no-products _ _ _ refl
+      (no-products _ _ _ refl (with-products _ _ _ (λ x m. two-var x l r one _ in_head (Memᴰ.tail in_head) m) (nothing-asked _)))
+  two-asked v l r divides = no-products _ _ _ refl
+      (no-products _ _ _ refl (with-products _ _ _ (λ x m. two-var x l r (neg one) _ in_head (Memᴰ.tail in_head) m) (nothing-asked _)))
   two-asked v l r compares = no-products _ _ _ refl (no-products _ _ _ refl (no-products _ _ _ refl (no-products _ _ _ refl (nothing-asked _))))
 
   choice-asked : (v c l r : N) → AskedIn (issued ν v (chosen c l r)) (issued ν v (chosen c l r))
@@ -172,12 +177,14 @@ module _ {N : Type 0} (ν : Names N) where
 
 -- ══ The judge on the solver's answer ══
 
-module _ {N : Type 0} (ν : Names N) (held : N → Bool) (ord : Ordered ν held) (ps : List (N × N)) (once : Once (firsts ps)) (once' : Once (seconds ps)) (lent : All (Lent ν held ord ps) ps)
+module _ {N : Type 0} (ν : Names N) (held : N → Bool) (ord : Ordered ν held) (ps : List (N × N)) (once : Once (firsts ps))
+    (once' : Once (seconds ps)) (lent : All (Lent ν held ord ps) ps)
     (ss : List (LineStep N)) (formed : Every (FormedStep ν held ord) ss) (ready : Every Ready ss) where
   abbrev cs : List (Con N)
   cs = constraints ν (firsts ps) [] ss
 
-  module _ (bs : List (Binding N)) (ns : List N) (k : ℕ) (unmixed-set : unmixed ν (collect opensCon cs) ≡ true) (accepts : solve ν bounded cs ≡ accepted bs ns k) where
+  module _ (bs : List (Binding N)) (ns : List N) (k : ℕ) (unmixed-set : unmixed ν (collect opensCon cs) ≡ true)
+      (accepts : solve ν bounded cs ≡ accepted bs ns k) where
     given : Given ν held cs
     given = record { well-formed = is_all (goodCon ν held 0) cs (good-cs ν held ord ps once once' lent ss formed ready); apart = unmixed-set }
 
@@ -188,7 +195,8 @@ module _ {N : Type 0} (ν : Names N) (held : N → Bool) (ord : Ordered ν held)
     premise : Premise ν cs bs
     premise =
         let form = solved-form ν held ord cs given bs ns k accepts in
-        let dims = asked-dimensions ν (atom-lawful ν ord.lawful) (Lent ν held ord ps) bs ns k form.once cs _ (flow ν held ord ps once once' lent ss formed ready) accepts in
+        let dims = asked-dimensions ν (atom-lawful ν ord.lawful) (Lent ν held ord ps) bs ns k form.once cs _
+        (flow ν held ord ps once once' lent ss formed ready) accepts in
         record { dimensions = λ x m t e. dims (isDim (its x)) (asked ν ss (firsts ps) [] ready x m) t (put-bound x t e) }
 
     pub never-no : YesOrLimits (judge ν bounded bs ns cs)

@@ -103,11 +103,13 @@ module _ (pool table steps types lines result work : List ℕ) (ss : List (LineS
       unfolding checkLineCall
       refused-same n e =
           ap₂ (λ (m : Got (Unit {0})) (l : Got (List Rec)). writing m l result work) room-same
-          (checked names new known ∙ ap (λ (g : Got (Unit {0})). rest g (lineType (numbersOf t) ss names)) e ∙ sym (checked names' new' known' ∙ ap (λ (g : Got (Unit {0})). rest g (lineType (numbersOf t) ss names')) (sym short-same ∙ e)))
+          (checked names new known ∙ ap (λ (g : Got (Unit {0})). rest g (lineType (numbersOf t) ss names)) e
+          ∙ sym (checked names' new' known' ∙ ap (λ (g : Got (Unit {0})). rest g (lineType (numbersOf t) ss names')) (sym short-same ∙ e)))
 
       type-same : lineType (numbersOf t) ss names ≡ lineType (numbersOf t) ss names' → Outcome names ≡ Outcome names'
       unfolding checkLineCall
-      type-same i = ap₂ (λ (m : Got (Unit {0})) (l : Got (List Rec)). writing m l result work) room-same (checked names new known ∙ ap₂ rest short-same i ∙ sym (checked names' new' known'))
+      type-same i = ap₂ (λ (m : Got (Unit {0})) (l : Got (List Rec)). writing m l result work) room-same
+          (checked names new known ∙ ap₂ rest short-same i ∙ sym (checked names' new' known'))
 
       room-refused : (n : ℕ) → room names ≡ refused n → Outcome names ≡ Outcome names'
       unfolding checkLineCall writing resultAfter
@@ -115,7 +117,8 @@ module _ (pool table steps types lines result work : List ℕ) (ss : List (LineS
 
       -- the two outcomes, by what becomes of the types
       both-outcomes : tableKept t ≡ got tt → (u : Unit {0}) → room names ≡ got u
-          → (lineType (numbersOf t) ss names ≡ lineType (numbersOf t) ss names') ⊎ (Met' (lineType (numbersOf t) ss names) ⊎ Met' (lineType (numbersOf t) ss names'))
+          → (lineType (numbersOf t) ss names ≡ lineType (numbersOf t) ss names')
+          ⊎ (Met' (lineType (numbersOf t) ss names) ⊎ Met' (lineType (numbersOf t) ss names'))
           → (Outcome names ≡ Outcome names') ⊎ (Met (Outcome names) ⊎ Met (Outcome names'))
       both-outcomes k u r (inl i) = inl (type-same i)
       both-outcomes k u r (inr i) = go (lineShort steps types lines names) refl i
@@ -145,10 +148,14 @@ module _ (pool table steps types lines result work : List ℕ) (ss : List (LineS
               let l = lents t order ps names names' (all-is (is_held t) names known) (all-is (is_held t) names' known') (λ p m. m) in
               let o : Once (firsts ps) = subst Once (sym i) (once names (and_left (differ names) _ new)) in
               let o' : Once (seconds ps) = subst Once (sym j) (once names' (and_left (differ names') _ new')) in
-              let long : length ss ≤ length (firsts ps) = subst (λ (k : List ℕ). length ss ≤ length k) (sym i) (few (length ss) (length names) (rw r.long at many)) in
-              let a = Eleven.same-but-limits (numbersOf t) (is_held t) order ps o o' l ss r.formed (ready (numbersOf t) (is_held t) order ss r.formed c) r.complete long in
-              let b = subst (λ (k : List ℕ). (lineType (numbersOf t) ss k ≡ lineType (numbersOf t) ss (seconds ps)) ⊎ (Met' (lineType (numbersOf t) ss k) ⊎ Met' (lineType (numbersOf t) ss (seconds ps)))) i a in
-              let d = subst (λ (k : List ℕ). (lineType (numbersOf t) ss names ≡ lineType (numbersOf t) ss k) ⊎ (Met' (lineType (numbersOf t) ss names) ⊎ Met' (lineType (numbersOf t) ss k))) j b in
+              let long : length ss ≤ length (firsts ps) = subst (λ (k : List ℕ). length ss ≤ length k) (sym i)
+              (few (length ss) (length names) (rw r.long at many)) in
+              let a = Eleven.same-but-limits (numbersOf t) (is_held t) order ps o o' l ss r.formed
+              (ready (numbersOf t) (is_held t) order ss r.formed c) r.complete long in
+              let b = subst (λ (k : List ℕ). (lineType (numbersOf t) ss k ≡ lineType (numbersOf t) ss (seconds ps))
+              ⊎ (Met' (lineType (numbersOf t) ss k) ⊎ Met' (lineType (numbersOf t) ss (seconds ps)))) i a in
+              let d = subst (λ (k : List ℕ). (lineType (numbersOf t) ss names ≡ lineType (numbersOf t) ss k)
+              ⊎ (Met' (lineType (numbersOf t) ss names) ⊎ Met' (lineType (numbersOf t) ss k))) j b in
               both-outcomes (rw good.good) u e d
 
 -- ══ The judge's no ══
@@ -158,7 +165,8 @@ module _ (pool table steps types lines names : List ℕ) (table-good : tableGive
   T = table_of pool table
 
   pub never-no : (ss : List (LineStep ℕ)) → lineGiven T steps types lines ≡ got ss → closedLine ss ≡ true → differ names ≡ true → all (is_held T) names ≡ true
-      → (f : List (Binding ℕ) × List ℕ) → settledSet (numbersOf T) (constraints (numbersOf T) names [] ss) ≡ got f → YesOrLimits (judge (numbersOf T) bounded f.0 f.1 (constraints (numbersOf T) names [] ss))
+      → (f : List (Binding ℕ) × List ℕ) → settledSet (numbersOf T) (constraints (numbersOf T) names [] ss) ≡ got f
+      → YesOrLimits (judge (numbersOf T) bounded f.0 f.1 (constraints (numbersOf T) names [] ss))
   never-no ss read c apart known f e =
       let order = numbers-ordered pool table (given-good table-good) in
       let r = line_read T order steps types lines ss read in
@@ -169,6 +177,7 @@ module _ (pool table steps types lines names : List ℕ) (table-good : tableGive
       let l = lents T order ps names names h h (λ q m. m) in
       let o : Once (firsts ps) = subst Once (sym i) (once names apart) in
       let o' : Once (seconds ps) = subst Once (sym j) (once names apart) in
-      let s = set-settled (numbersOf T) (constraints (numbersOf T) (firsts ps) [] ss) f (subst (λ (k : List ℕ). settledSet (numbersOf T) (constraints (numbersOf T) k [] ss) ≡ got f) (sym i) e) in
+      let s = set-settled (numbersOf T) (constraints (numbersOf T) (firsts ps) [] ss) f
+      (subst (λ (k : List ℕ). settledSet (numbersOf T) (constraints (numbersOf T) k [] ss) ≡ got f) (sym i) e) in
       let a = Eleven.never-no (numbersOf T) (is_held T) order ps o o' l ss r.formed (ready (numbersOf T) (is_held T) order ss r.formed c) f.0 f.1 s.0 s.1 s.2 in
       subst (λ (k : List ℕ). YesOrLimits (judge (numbersOf T) bounded f.0 f.1 (constraints (numbersOf T) k [] ss))) i a

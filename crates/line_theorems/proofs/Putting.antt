@@ -107,7 +107,8 @@ module _ {N : Type 0} (ν : Names N) (law : Lawful (orderAtom ν)) where
 
   product-shut : (p q r : Product N) → Shut (dim p) → Shut (dim q) → multiply ν bounded p q ≡ got r → Shut (dim r)
   unfolding opens
-  product-shut p q r h k i = rw (multiply-value ν p q r i) (each_opens Never (mergeE ν p q) (merge_on Never ν p q (opens-each Never p h) (opens-each Never q k)))
+  product-shut p q r h k i = rw (multiply-value ν p q r i)
+      (each_opens Never (mergeE ν p q) (merge_on Never ν p q (opens-each Never p h) (opens-each Never q k)))
 
   module _ (t : Ty N) (ts : Shut t) where
     -- ══ A bound factor ══
@@ -134,13 +135,15 @@ module _ {N : Type 0} (ν : Names N) (law : Lawful (orderAtom ν)) where
           rest (refused n) = refl
 
           steps : (d : Product N) (w : Got (Product N)) (m : Got (Product N))
-              → (w >>= λ left. m >>= λ more. multiply ν bounded left more >>= λ acc. replaceFactors ν bounded look p acc) ≡ (w >>= λ left. m >>= λ more. multiply ν bounded left more)
+              → (w >>= λ left. m >>= λ more. multiply ν bounded left more >>= λ acc. replaceFactors ν bounded look p acc)
+              ≡ (w >>= λ left. m >>= λ more. multiply ν bounded left more)
           steps d (refused n) m = refl
           steps d (got left) (refused n) = refl
           steps d (got left) (got more) = rest (multiply ν bounded left more)
 
           go : (m : Got (Product N))
-              → (m >>= λ d. divide ν bounded (free (var x) ↑ e ∷ p) (free (var x) ↑ e ∷ []) >>= λ left. raise ν bounded d e >>= λ more. multiply ν bounded left more >>= λ acc. replaceFactors ν bounded look p acc)
+              → (m >>= λ d. divide ν bounded (free (var x) ↑ e ∷ p) (free (var x) ↑ e ∷ []) >>= λ left. raise ν bounded d e
+              >>= λ more. multiply ν bounded left more >>= λ acc. replaceFactors ν bounded look p acc)
               ≡ (m >>= λ d. within bounded (length p) 64 p >>= λ left. raise ν bounded d e >>= λ more. multiply ν bounded left more)
           go (refused n) = refl
           go (got d) = rw (left_out (free (var x)) e p low) (steps d (within bounded (length p) 64 p) (raise ν bounded d e))
@@ -152,13 +155,15 @@ module _ {N : Type 0} (ν : Names N) (law : Lawful (orderAtom ν)) where
         one-put d h (got more) e = front-put y j more (power-shut d more i h e)
 
         second-done : (d : Product N) (m : Got (Product N))
-            → (m >>= λ more. multiply ν bounded (free (var y) ↑ j ∷ []) more >>= λ acc. replaceFactors ν bounded look (free (var y) ↑ j ∷ []) acc) ≡ (m >>= λ more. multiply ν bounded (free (var y) ↑ j ∷ []) more)
+            → (m >>= λ more. multiply ν bounded (free (var y) ↑ j ∷ []) more >>= λ acc. replaceFactors ν bounded look (free (var y) ↑ j ∷ []) acc)
+            ≡ (m >>= λ more. multiply ν bounded (free (var y) ↑ j ∷ []) more)
         unfolding replaceFactors
         second-done d (refused n) = refl
         second-done d (got more) = rw (hy, replaceFactors) (same-got (multiply ν bounded (free (var y) ↑ j ∷ []) more))
 
         all_done : (m : Got (Product N))
-            → (m >>= λ more. multiply ν bounded (free (var y) ↑ j ∷ []) more >>= λ acc. got acc) ≡ (m >>= λ more. multiply ν bounded (free (var y) ↑ j ∷ []) more)
+            → (m >>= λ more. multiply ν bounded (free (var y) ↑ j ∷ []) more >>= λ acc. got acc)
+            ≡ (m >>= λ more. multiply ν bounded (free (var y) ↑ j ∷ []) more)
         all_done (refused n) = refl
         all_done (got more) = same-got (multiply ν bounded (free (var y) ↑ j ∷ []) more)
 
@@ -168,10 +173,12 @@ module _ {N : Type 0} (ν : Names N) (law : Lawful (orderAtom ν)) where
         first-replaced = rw (hx, replaceFactors) (go (asProduct t) refl)
           where
             go : (m : Got (Product N)) → asProduct t ≡ m
-                → (m >>= λ d. divide ν bounded (free (var x) ↑ i ∷ free (var y) ↑ j ∷ []) (free (var x) ↑ i ∷ []) >>= λ left. raise ν bounded d i >>= λ more. multiply ν bounded left more >>= λ acc. replaceFactors ν bounded look (free (var y) ↑ j ∷ []) acc)
+                → (m >>= λ d. divide ν bounded (free (var x) ↑ i ∷ free (var y) ↑ j ∷ []) (free (var x) ↑ i ∷ []) >>= λ left. raise ν bounded d i
+                >>= λ more. multiply ν bounded left more >>= λ acc. replaceFactors ν bounded look (free (var y) ↑ j ∷ []) acc)
                 ≡ (m >>= λ d. raise ν bounded d i >>= λ more. within bounded (suc (length more)) 64 (free (var y) ↑ j ∷ more))
             go (refused n) e = refl
-            go (got d) e = rw (left_out (free (var x)) i (free (var y) ↑ j ∷ []) low) (second-done d (raise ν bounded d i) ∙ one-put d (dimension-shut t d ts e) (raise ν bounded d i) refl)
+            go (got d) e = rw (left_out (free (var x)) i (free (var y) ↑ j ∷ []) low)
+                (second-done d (raise ν bounded d i) ∙ one-put d (dimension-shut t d ts e) (raise ν bounded d i) refl)
 
         second-replaced : orderAtom ν (free (var y)) (free (var x)) ≡ Ordering.lt
             → replaceFactors ν bounded look (free (var y) ↑ j ∷ free (var x) ↑ i ∷ []) (free (var y) ↑ j ∷ free (var x) ↑ i ∷ []) ≡ besideOne y j i
@@ -179,10 +186,12 @@ module _ {N : Type 0} (ν : Names N) (law : Lawful (orderAtom ν)) where
         second-replaced o = rw (hy, replaceFactors) (rw (hx, replaceFactors) (go (asProduct t) refl))
           where
             go : (m : Got (Product N)) → asProduct t ≡ m
-                → (m >>= λ d. divide ν bounded (free (var y) ↑ j ∷ free (var x) ↑ i ∷ []) (free (var x) ↑ i ∷ []) >>= λ left. raise ν bounded d i >>= λ more. multiply ν bounded left more >>= λ acc. got acc)
+                → (m >>= λ d. divide ν bounded (free (var y) ↑ j ∷ free (var x) ↑ i ∷ []) (free (var x) ↑ i ∷ []) >>= λ left. raise ν bounded d i
+                >>= λ more. multiply ν bounded left more >>= λ acc. got acc)
                 ≡ (m >>= λ d. raise ν bounded d i >>= λ more. within bounded (suc (length more)) 64 (free (var y) ↑ j ∷ more))
             go (refused n) e = refl
-            go (got d) e = rw (behind-out (free (var y)) (free (var x)) j i o low) (all_done (raise ν bounded d i) ∙ one-put d (dimension-shut t d ts e) (raise ν bounded d i) refl)
+            go (got d) e = rw (behind-out (free (var y)) (free (var x)) j i o low)
+                (all_done (raise ν bounded d i) ∙ one-put d (dimension-shut t d ts e) (raise ν bounded d i) refl)
 
       -- x^e beside base dimensions, as a type: to the power 1 and alone it becomes t itself
       pub half-put : (x : N) (e : Exp) (p : Product N) → Lowest e → Shut (dim p) → look (var x) ≡ some t
@@ -260,12 +269,15 @@ module _ {N : Type 0} (ν : Names N) (law : Lawful (orderAtom ν)) where
           more p h false = neither 8
 
           power : (d : Product N) → Shut (dim d) → (m : Got (Product N)) → raise ν bounded d i ≡ m
-              → Alike (Term ν K) (m >>= (λ p. within bounded (suc (length p)) 64 (free (var y) ↑ j ∷ p)) >>= λ q. got (dim q)) (m >>= (λ p. within bounded (suc (length p)) 64 (free (var y') ↑ j ∷ p)) >>= λ q. got (dim q))
+              → Alike (Term ν K) (m >>= (λ p. within bounded (suc (length p)) 64 (free (var y) ↑ j ∷ p)) >>= λ q. got (dim q))
+              (m >>= (λ p. within bounded (suc (length p)) 64 (free (var y') ↑ j ∷ p)) >>= λ q. got (dim q))
           power d h (refused n) e = neither n
           power d h (got p) e = more p (power-shut d p i h e) (leb (suc (length p)) 64)
 
           go : (m : Got (Product N)) → asProduct t ≡ m
-              → Alike (Term ν K) (m >>= (λ d. raise ν bounded d i >>= λ p. within bounded (suc (length p)) 64 (free (var y) ↑ j ∷ p)) >>= λ q. got (dim q)) (m >>= (λ d. raise ν bounded d i >>= λ p. within bounded (suc (length p)) 64 (free (var y') ↑ j ∷ p)) >>= λ q. got (dim q))
+              → Alike (Term ν K) (m >>= (λ d. raise ν bounded d i >>= λ p. within bounded (suc (length p)) 64 (free (var y) ↑ j ∷ p))
+              >>= λ q. got (dim q)) (m >>= (λ d. raise ν bounded d i >>= λ p. within bounded (suc (length p)) 64 (free (var y') ↑ j ∷ p))
+              >>= λ q. got (dim q))
           go (refused n) e = neither n
           go (got d) e = power d (dimension-shut t d ts e) (raise ν bounded d i) refl
 
@@ -294,7 +306,8 @@ module _ {N : Type 0} (ν : Names N) (law : Lawful (orderAtom ν)) where
     pub half-stays : (look : Look N) (x : N) (e : Exp) (p : Product N) → Shut (dim p) → look (var x) ≡ none
         → replaceTy ν bounded look (dim (free (var x) ↑ e ∷ p)) ≡ got (dim (free (var x) ↑ e ∷ p))
     unfolding opens collect
-    half-stays look x e p h i = ty_same ν bounded look (dim (free (var x) ↑ e ∷ p)) (i, all-every (λ o. look o ≡ none) (collect openOfFactor p) (λ o m. absurd (h o m)))
+    half-stays look x e p h i = ty_same ν bounded look (dim (free (var x) ↑ e ∷ p))
+        (i, all-every (λ o. look o ≡ none) (collect openOfFactor p) (λ o m. absurd (h o m)))
 
     module _ (v v' : N) where
       abbrev σ : Look N
@@ -338,11 +351,14 @@ module _ {N : Type 0} (ν : Names N) (law : Lawful (orderAtom ν)) where
                 → Alike (Term ν K) (replaceTy ν bounded σ (dim (twoFactors ν l r e))) (replaceTy ν bounded σ' (dim (twoFactors ν l' r' e)))
             go (inl (i, i')) (inl (j, j')) = absurd (d (same_name l r v i j))
             go (inl (i, i')) (inr (k, f, f')) =
-                rw (left-put σ l r e low d (at_bound v l i) (at_other v r f), left-put σ' l' r' e low d' (at_bound v' l' i') (at_other v' r' f')) (one_alike r r' e one k low)
+                rw (left-put σ l r e low d (at_bound v l i) (at_other v r f), left-put σ' l' r' e low d' (at_bound v' l' i') (at_other v' r' f'))
+                (one_alike r r' e one k low)
             go (inr (k, f, f')) (inl (j, j')) =
-                rw (right-put σ l r e low d (at_bound v r j) (at_other v l f), right-put σ' l' r' e low d' (at_bound v' r' j') (at_other v' l' f')) (one_alike l l' one e k one-lowest)
+                rw (right-put σ l r e low d (at_bound v r j) (at_other v l f), right-put σ' l' r' e low d' (at_bound v' r' j') (at_other v' l' f'))
+                (one_alike l l' one e k one-lowest)
             go (inr (k, f, f')) (inr (k', g, g')) =
-                rw (none-put σ l r e low d (at_other v l f) (at_other v r g), none-put σ' l' r' e low d' (at_other v' l' f') (at_other v' r' g')) (both (two l l' r r' e k k' d d' low))
+                rw (none-put σ l r e low d (at_other v l f) (at_other v r g), none-put σ' l' r' e low d' (at_other v' l' f') (at_other v' r' g'))
+                (both (two l l' r r' e k k' d d' low))
 
         line-put : {c c' : Con N} → Line ν M c c' → Alike (Line ν K) (replaceCon ν bounded σ c) (replaceCon ν bounded σ' c')
         unfolding replaceCon
@@ -356,10 +372,18 @@ module _ {N : Type 0} (ν : Names N) (law : Lawful (orderAtom ν)) where
 
       -- a further pair is defined
       wider : {M K : List (N × N)} (x x' : N) → Without M K → All (Differs ν x x') M → Without ((x, x') ∷ M) ((x, x') ∷ K)
-      wider {M} {K} x x' w d = record { here = Memᴰ.tail w.here; splits = λ y y' m. go y y' (Memᴰ.cases_cons m); within' = all_cons _ in_head (λ p m. Memᴰ.tail (w.within' p m)) }
+      wider {M} {K} x x' w d = record {
+        here = Memᴰ.tail w.here;
+        splits = λ y y' m. go y y' (Memᴰ.cases_cons m);
+        within' = all_cons _ in_head (λ p m. Memᴰ.tail (w.within' p m));
+      }
         where
           go : (y y' : N) → (◌≡◌ {A = N × N} (y, y') (x, x')) ⊎ Memᴰ (y, y') M → Which ((x, x') ∷ K) y y'
-          go y y' (inl e) = inr (Memᴰ.head e, (λ i. (d (v, v') w.here).0 (sym i ∙ ap (λ (p : N × N). p.0) e)), (λ i. (d (v, v') w.here).1 (sym i ∙ ap (λ (p : N × N). p.1) e)))
+          go y y' (inl e) = inr (
+            Memᴰ.head e,
+            (λ i. (d (v, v') w.here).0 (sym i ∙ ap (λ (p : N × N). p.0) e)),
+            (λ i. (d (v, v') w.here).1 (sym i ∙ ap (λ (p : N × N). p.1) e)),
+          )
           go y y' (inr m) = wide y y' (w.splits y y' m)
 
       pub flow-put : {P : N × N → Type 0} {M K : List (N × N)} {cs cs' : List (Con N)} → Without M K → Flow ν P M cs cs'
@@ -372,7 +396,8 @@ module _ {N : Type 0} (ν : Names N) (law : Lawful (orderAtom ν)) where
           (go (term-put w u) (flow-put (wider x x' w d) f))
         where
           go : {m m' : Got (Ty N)} {n n' : Got (List (Con N))} → Alike (Term ν K) m m' → Alike (Flow ν P ((x, x') ∷ K)) n n'
-              → Alike (Flow ν P K) (m >>= (λ a. got (equal (opened (var x)) a)) >>= λ c. n >>= λ cs. got (c ∷ cs)) (m' >>= (λ a. got (equal (opened (var x')) a)) >>= λ c. n' >>= λ cs. got (c ∷ cs))
+              → Alike (Flow ν P K) (m >>= (λ a. got (equal (opened (var x)) a)) >>= λ c. n >>= λ cs. got (c ∷ cs))
+              (m' >>= (λ a. got (equal (opened (var x')) a)) >>= λ c. n' >>= λ cs. got (c ∷ cs))
           go (neither n) f = neither n
           go (both r) (neither n) = neither n
           go (both r) (both q) = both (define x x' p (λ y m. d y (w.within' y m)) r q)

@@ -144,8 +144,17 @@ line_read t order steps types lines ss e =
 pub once : (ns : List ℕ) → differ ns ≡ true → Once ns
 unfolding differ
 once [] e = tt
-once (n ∷ ns) e = (λ m. true≢false (sym (is_any (eqb n) ns n m (eq-eqb n n refl)) ∙ not-true (any (eqb n) ns) (and_left (not (any (eqb n) ns)) _ e)), once ns (and_right (not (any (eqb n) ns)) _ e))
+once (n ∷ ns) e = (
+  λ m. true≢false (sym (is_any (eqb n) ns n m (eq-eqb n n refl)) ∙ not-true (any (eqb n) ns) (and_left (not (any (eqb n) ns)) _ e)),
+  once ns (and_right (not (any (eqb n) ns)) _ e),
+)
 
 pub names_apart : (t : Table) (order : Ordered (numbersOf t) (is_held t)) (names : List ℕ) → differ names ≡ true → all (is_held t) names ≡ true
     → Apart (numbersOf t) (is_held t) order [] names
-names_apart t order names d h = record { stack = tt; coming = once names d; disjoint = tt; stack-held = tt; coming-held = all-every (λ n. is_held t n ≡ true) names (all-is (is_held t) names h) }
+names_apart t order names d h = record {
+  stack = tt;
+  coming = once names d;
+  disjoint = tt;
+  stack-held = tt;
+  coming-held = all-every (λ n. is_held t n ≡ true) names (all-is (is_held t) names h);
+}

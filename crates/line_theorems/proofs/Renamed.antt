@@ -216,7 +216,9 @@ module _ {N M : Type 0} (ν : Names N) (μ : Names M) (f : N → M) (keeps : Kee
           → ((rest : List N) → constraints μ (map f vs) (map f (v ∷ rest)) (map (map_step f) ss) ≡ map (mapCon f) (constraints ν vs (v ∷ rest) ss))
           → constraints μ (map f (v ∷ vs)) (map f st) (map (map_step f) (s ∷ ss)) ≡ map (mapCon f) (constraints ν (v ∷ vs) st (s ∷ ss))
       go none e more = rw (takes-map f s st ∙ ap (mapOption (λ d. (mapDeed f d.0, map f d.1))) e, e, constraints)
-      go (some d) e more = rw (takes-map f s st ∙ ap (mapOption (λ d. (mapDeed f d.0, map f d.1))) e, e, constraints) (ap₂ (λ (xs ys : List (Con M)). xs ++ ys) (issued-map v d.0) (more d.1) ∙ sym (map-append (mapCon f) (issued ν v d.0) (constraints ν vs (v ∷ d.1) ss)))
+      go (some d) e more = rw (takes-map f s st ∙ ap (mapOption (λ d. (mapDeed f d.0, map f d.1))) e, e, constraints)
+          (ap₂ (λ (xs ys : List (Con M)). xs ++ ys) (issued-map v d.0) (more d.1)
+          ∙ sym (map-append (mapCon f) (issued ν v d.0) (constraints ν vs (v ∷ d.1) ss)))
 
   -- bindings and bounds with other names in them
   abbrev mapFound : List (Binding N) × List N → List (Binding M) × List M
@@ -231,10 +233,16 @@ module _ {N M : Type 0} (ν : Names N) (μ : Names M) (f : N → M) (keeps : Kee
   set-map : (cs : List (Con N)) → Over mapFound (settledSet ν cs) (settledSet μ (map (mapCon f) cs))
   unfolding settledSet
   set-map cs =
-      rw (size-cons f cs, collect-over (mapCon f) (mapOpen f) opensCon opensCon (opens-con f) cs, unmixed-map ν μ f keeps (collect opensCon cs), solve-map ν μ f keeps bounded cs)
+      rw (
+        size-cons f cs,
+        collect-over (mapCon f) (mapOpen f) opensCon opensCon (opens-con f) cs,
+        unmixed-map ν μ f keeps (collect opensCon cs),
+        solve-map ν μ f keeps bounded cs,
+      )
       (go (leb (sum_of sizeCon cs) 2048) (unmixed ν (collect opensCon cs)))
     where
-      go : (b c : Bool) → Over mapFound (need b 8 >>= λ _. need c 4 >>= λ _. settled (solve ν bounded cs)) (need b 8 >>= λ _. need c 4 >>= λ _. settled (mapAnswer f (solve ν bounded cs)))
+      go : (b c : Bool) → Over mapFound (need b 8 >>= λ _. need c 4 >>= λ _. settled (solve ν bounded cs))
+          (need b 8 >>= λ _. need c 4 >>= λ _. settled (mapAnswer f (solve ν bounded cs)))
       go false c = record { is = refl }
       go true false = record { is = refl }
       go true true = settled-map (solve ν bounded cs)
@@ -258,4 +266,6 @@ module _ {N M : Type 0} (ν : Names N) (μ : Names M) (f : N → M) (keeps : Kee
   unfolding lineType mapTy
   type-map ss names =
       rw (constraints-map ss names [])
-      (next (agreed-map (constraints ν names [] ss)) (λ bs bs' i. next (last-over names ss) (λ v v' j. rw (i, j) (ty-map ν μ f keeps bounded (bindings ν bs) (bindings μ (map (mapBinding f) bs)) (looks-map ν μ f keeps bs) (its v)))))
+      (next (agreed-map (constraints ν names [] ss))
+      (λ bs bs' i. next (last-over names ss)
+      (λ v v' j. rw (i, j) (ty-map ν μ f keeps bounded (bindings ν bs) (bindings μ (map (mapBinding f) bs)) (looks-map ν μ f keeps bs) (its v)))))

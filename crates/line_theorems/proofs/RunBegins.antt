@@ -106,8 +106,11 @@ module _ {N : Type 0} (ν : Names N) where
   same-ran s t x u h =
       let a = ran-step (dimensionOf ν s) _ u h in
       let b = ran-step (dimensionOf ν t) _ u a.2 in
-      let c = ran-step (asks (means ν s t) Fault.unequal) _ u b.2 in
-      (record { left = a.0; right = b.0; is-left = dimension-ran s a.0 a.1; is_right = dimension-ran t b.0 b.1 }, same-means ν s t (asked (means ν s t) Fault.unequal c.0 c.1), cc c.2)
+      let c = ran-step (asks (means ν s t) Fault.unequal) _ u b.2 in (
+        record { left = a.0; right = b.0; is-left = dimension-ran s a.0 a.1; is_right = dimension-ran t b.0 b.1 },
+        same-means ν s t (asked (means ν s t) Fault.unequal c.0 c.1),
+        cc c.2,
+      )
 
   product-ran : (s t u : Ty N) → doesTwo ν multiplies s t ≡ ran u → (d : Dims s t) × (dim (mergeE ν d.left d.right) ≡ u)
   unfolding doesTwo ofDimensions
@@ -179,11 +182,13 @@ module _ {N : Type 0} (ν : Names N) (held : N → Bool) (ord : Ordered ν held)
 
   power-sound : (d : Product N) (e : Exp) → Shut (dim d) → Proper ν Held d → Lowest e → Sound (dim (raiseE d e))
   unfolding opens
-  power-sound d e h k low = dim-sound (raiseE d e) (each_opens Never (raiseE d e) (raise-on Never ν d e (opens-each Never d h))) (raise-proper ν law tells d e k low)
+  power-sound d e h k low = dim-sound (raiseE d e) (each_opens Never (raiseE d e) (raise-on Never ν d e (opens-each Never d h)))
+      (raise-proper ν law tells d e k low)
 
   product-sound : (p q : Product N) → Shut (dim p) → Shut (dim q) → Proper ν Held p → Proper ν Held q → Sound (dim (mergeE ν p q))
   unfolding opens
-  product-sound p q h k hp kp = dim-sound (mergeE ν p q) (each_opens Never (mergeE ν p q) (merge_on Never ν p q (opens-each Never p h) (opens-each Never q k))) (merge-proper ν law tells p q hp kp)
+  product-sound p q h k hp kp = dim-sound (mergeE ν p q)
+      (each_opens Never (mergeE ν p q) (merge_on Never ν p q (opens-each Never p h) (opens-each Never q k))) (merge-proper ν law tells p q hp kp)
 
   inverse-shut : (q : Product N) → Shut (dim q) → Shut (dim (inverse q))
   unfolding opens
@@ -210,18 +215,21 @@ module _ {N : Type 0} (ν : Names N) (held : N → Bool) (ord : Ordered ν held)
         go true i =
             let j : raiseE d e ≡ [] = ap (raiseE d) (zero-is-nought e low i) ∙ raise-nought ν law tells d dp in
             rw (i, put) (subst (λ (p : Product N). Term K (dim []) (dim p)) (sym j) (side (shut (dim []) scalar-shut)))
-        go false i = rw (i, put) (subst (λ (p : Product N). Term K (dim (free (var x) ↑ e ∷ [])) (dim p)) (scalar-merge ν (raiseE d e)) (half x e [] d m low scalar-shut (scalar-proper ν law tells) dp))
+        go false i = rw (i, put) (subst (λ (p : Product N). Term K (dim (free (var x) ↑ e ∷ [])) (dim p)) (scalar-merge ν (raiseE d e))
+            (half x e [] d m low scalar-shut (scalar-proper ν law tells) dp))
 
     apart : (l r : N) → held l ≡ true → held r ≡ true → ¬ (l ≡ r) → ¬ (ν.order l r ≡ Ordering.eq)
     apart l r h k n e = n (ord.tells.same l r h k e)
 
     product_term : (l r : N) (p q : Product N) → Memᴰ (l, dim p) K → Memᴰ (r, dim q) K → ¬ (ν.order l r ≡ Ordering.eq) → Proper ν Held p
         → Proper ν Held q → Term K (dim (twoFactors ν l r one)) (dim (mergeE ν p q))
-    product_term l r p q m n o pp qp = subst (λ (x : Product N). Term K (dim (twoFactors ν l r one)) (dim (mergeE ν p x))) (raise-one ν law tells q qp) (two l r one p q m n o one-lowest pp qp)
+    product_term l r p q m n o pp qp = subst (λ (x : Product N). Term K (dim (twoFactors ν l r one)) (dim (mergeE ν p x)))
+        (raise-one ν law tells q qp) (two l r one p q m n o one-lowest pp qp)
 
     quotient-term : (l r : N) (p q : Product N) → Memᴰ (l, dim p) K → Memᴰ (r, dim q) K → ¬ (ν.order l r ≡ Ordering.eq) → Proper ν Held p
         → Proper ν Held q → Term K (dim (twoFactors ν l r (neg one))) (dim (mergeE ν p (inverse q)))
-    quotient-term l r p q m n o pp qp = subst (λ (x : Product N). Term K (dim (twoFactors ν l r (neg one))) (dim (mergeE ν p x))) (sym (inverse-is ν law tells q qp)) (two l r (neg one) p q m n o (neg-lowest one one-lowest) pp qp)
+    quotient-term l r p q m n o pp qp = subst (λ (x : Product N). Term K (dim (twoFactors ν l r (neg one))) (dim (mergeE ν p x)))
+        (sym (inverse-is ν law tells q qp)) (two l r (neg one) p q m n o (neg-lowest one one-lowest) pp qp)
 
     asks-dim : (x : N) (t : Ty N) (d : Product N) → t ≡ dim d → Memᴰ (x, t) K → {cs : List (Con N)} → F K cs → F K (isDim (its x) ∷ cs)
     asks-dim x t d e m f = beside (dimension d (subst (λ (u : Ty N). Side K (its x) u) e (pair x t m))) f
@@ -239,7 +247,8 @@ module _ {N : Type 0} (ν : Names N) (held : N → Bool) (ord : Ordered ν held)
         let m' = subst (λ (w : Ty N). Memᴰ (x, w) K) a.1 m in
         subst (λ (w : Ty N). Stepped w (isDim (its x) ∷ equal (its v) (dim (put (free (var x)) e [])) ∷ [])) a.2 (record {
           sound = power-sound a.0 e (subst Shut a.1 s.closed) dp low;
-          front = λ cs f. asks-dim x t a.0 a.1 m (def (dim (raiseE a.0 e)) (power-sound a.0 e (subst Shut a.1 s.closed) dp low) (power-term x e a.0 m' low dp) f);
+          front = λ cs f. asks-dim x t a.0 a.1 m
+              (def (dim (raiseE a.0 e)) (power-sound a.0 e (subst Shut a.1 s.closed) dp low) (power-term x e a.0 m' low dp) f);
         })
 
     module _ (l r : N) (s t : Ty N) (m : Memᴰ (l, s) K) (n : Memᴰ (r, t) K) (ls : Sound s) (rs : Sound t) (o : ¬ (ν.order l r ≡ Ordering.eq)) where
@@ -250,10 +259,13 @@ module _ {N : Type 0} (ν : Names N) (held : N → Bool) (ord : Ordered ν held)
       sides-equal e f = beside (equality (pair l s m) (pair r t n) e) f
 
       product-step : (d : Dims ν s t) → Sound (dim (mergeE ν d.left d.right))
-      product-step d = product-sound d.left d.right (subst Shut d.is-left ls.closed) (subst Shut d.is_right rs.closed) (ls.proper d.left d.is-left) (rs.proper d.right d.is_right)
+      product-step d = product-sound d.left d.right (subst Shut d.is-left ls.closed) (subst Shut d.is_right rs.closed) (ls.proper d.left d.is-left)
+          (rs.proper d.right d.is_right)
 
       quotient-step : (d : Dims ν s t) → Sound (dim (mergeE ν d.left (inverse d.right)))
-      quotient-step d = product-sound d.left (inverse d.right) (subst Shut d.is-left ls.closed) (inverse-shut d.right (subst Shut d.is_right rs.closed)) (ls.proper d.left d.is-left) (inverse-proper ν law tells d.right (rs.proper d.right d.is_right))
+      quotient-step d = product-sound d.left (inverse d.right) (subst Shut d.is-left ls.closed)
+          (inverse-shut d.right (subst Shut d.is_right rs.closed)) (ls.proper d.left d.is-left)
+          (inverse-proper ν law tells d.right (rs.proper d.right d.is_right))
 
       left-mem : (d : Dims ν s t) → Memᴰ (l, dim d.left) K
       left-mem d = subst (λ (w : Ty N). Memᴰ (l, w) K) d.is-left m
@@ -265,28 +277,49 @@ module _ {N : Type 0} (ν : Names N) (held : N → Bool) (ord : Ordered ν held)
       unfolding issued issuedByTwo does doesTwo
       two-step adds u h =
           let a = same-ran ν s t s u h in
-          subst (λ (w : Ty N). Stepped w (issuedByTwo ν v adds l r)) a.2 (record { sound = ls; front = λ cs f. both-dims a.0 (sides-equal a.1 (def s ls (side (pair l s m)) f)) })
+          subst (λ (w : Ty N). Stepped w (issuedByTwo ν v adds l r)) a.2
+          (record { sound = ls; front = λ cs f. both-dims a.0 (sides-equal a.1 (def s ls (side (pair l s m)) f)) })
       two-step subtracts u h =
           let a = same-ran ν s t s u h in
-          subst (λ (w : Ty N). Stepped w (issuedByTwo ν v subtracts l r)) a.2 (record { sound = ls; front = λ cs f. both-dims a.0 (sides-equal a.1 (def s ls (side (pair l s m)) f)) })
+          subst (λ (w : Ty N). Stepped w (issuedByTwo ν v subtracts l r)) a.2
+          (record { sound = ls; front = λ cs f. both-dims a.0 (sides-equal a.1 (def s ls (side (pair l s m)) f)) })
       two-step compares u h =
           let a = same-ran ν s t (basic boolean) u h in
-          subst (λ (w : Ty N). Stepped w (issuedByTwo ν v compares l r)) a.2 (record { sound = boolean-sound; front = λ cs f. both-dims a.0 (sides-equal a.1 (def (basic boolean) boolean-sound (side (shut (basic boolean) boolean-sound.closed)) f)) })
+          subst (λ (w : Ty N). Stepped w (issuedByTwo ν v compares l r)) a.2
+          (record {
+            sound = boolean-sound;
+            front = λ cs f. both-dims a.0 (sides-equal a.1
+                (def (basic boolean) boolean-sound (side (shut (basic boolean) boolean-sound.closed)) f));
+          })
       two-step multiplies u h =
           let a = product-ran ν s t u h in
           let d = a.0 in
-          subst (λ (w : Ty N). Stepped w (issuedByTwo ν v multiplies l r)) a.1 (record { sound = product-step d; front = λ cs f. both-dims d (def (dim (mergeE ν d.left d.right)) (product-step d) (product_term l r d.left d.right (left-mem d) (right-mem d) o (ls.proper d.left d.is-left) (rs.proper d.right d.is_right)) f) })
+          subst (λ (w : Ty N). Stepped w (issuedByTwo ν v multiplies l r)) a.1
+          (record {
+            sound = product-step d;
+            front = λ cs f. both-dims d (def (dim (mergeE ν d.left d.right)) (product-step d)
+                (product_term l r d.left d.right (left-mem d) (right-mem d) o (ls.proper d.left d.is-left) (rs.proper d.right d.is_right)) f);
+          })
       two-step divides u h =
           let a = quotient-ran ν s t u h in
           let d = a.0 in
-          subst (λ (w : Ty N). Stepped w (issuedByTwo ν v divides l r)) a.1 (record { sound = quotient-step d; front = λ cs f. both-dims d (def (dim (mergeE ν d.left (inverse d.right))) (quotient-step d) (quotient-term l r d.left d.right (left-mem d) (right-mem d) o (ls.proper d.left d.is-left) (rs.proper d.right d.is_right)) f) })
+          subst (λ (w : Ty N). Stepped w (issuedByTwo ν v divides l r)) a.1
+          (record {
+            sound = quotient-step d;
+            front = λ cs f. both-dims d (def (dim (mergeE ν d.left (inverse d.right))) (quotient-step d)
+                (quotient-term l r d.left d.right (left-mem d) (right-mem d) o (ls.proper d.left d.is-left) (rs.proper d.right d.is_right)) f);
+          })
 
       choice-step : (c : N) (w u : Ty N) → Memᴰ (c, w) K → does ν (chosen w s t) ≡ ran u → Stepped u (issued ν v (chosen c l r))
       unfolding issued
       choice-step c w u k h =
           let a = choice-ran ν w s t u h in
           subst (λ (x : Ty N). Stepped x (equal (its c) (basic boolean) ∷ equal (its l) (its r) ∷ equal (its v) (its l) ∷ [])) a.2
-          (record { sound = ls; front = λ cs f. beside (equality (pair c w k) (shut (basic boolean) boolean-sound.closed) a.0) (sides-equal a.1 (def s ls (side (pair l s m)) f)) })
+          (record {
+            sound = ls;
+            front = λ cs f. beside (equality (pair c w k) (shut (basic boolean) boolean-sound.closed) a.0)
+                (sides-equal a.1 (def s ls (side (pair l s m)) f));
+          })
 
   abbrev names : List (N × Ty N) → List N
   names st = map (λ (p : N × Ty N). p.0) st
@@ -311,11 +344,13 @@ module _ {N : Type 0} (ν : Names N) (held : N → Bool) (ord : Ordered ν held)
   type-first : (v : N) (vs : List N) (K st : List (N × Ty N)) (left : List (Ty N)) (t : Ty N) (ss : List (LineStep N)) → OnStack K st
       → Apart ν held ord (names st) (v ∷ vs) → Used K (v ∷ vs) → Sound t
       → (ran t >>= λ t. run_from ν (t ∷ typesOn st) ss) ≡ ran left
-      → (OnStack ((v, t) ∷ K) ((v, t) ∷ st) → Apart ν held ord (names ((v, t) ∷ st)) vs → Used ((v, t) ∷ K) vs → run_from ν (typesOn ((v, t) ∷ st)) ss ≡ ran left → F ((v, t) ∷ K) (constraints ν vs (names ((v, t) ∷ st)) ss))
+      → (OnStack ((v, t) ∷ K) ((v, t) ∷ st) → Apart ν held ord (names ((v, t) ∷ st)) vs → Used ((v, t) ∷ K) vs
+      → run_from ν (typesOn ((v, t) ∷ st)) ss ≡ ran left → F ((v, t) ∷ K) (constraints ν vs (names ((v, t) ∷ st)) ss))
       → F K (issued ν v (gives t) ++ constraints ν vs (v ∷ names st) ss)
   unfolding issued
   type-first v vs K st left t ss h a d s e more =
-      def v (unlike v vs d) t s (side (shut t s.closed)) (more (in_head, s, wider K (v, t) st h) (pushed ν held ord v (names st) vs a) (used-on v t vs a.coming.0 d) e)
+      def v (unlike v vs d) t s (side (shut t s.closed))
+      (more (in_head, s, wider K (v, t) st h) (pushed ν held ord v (names st) vs a) (used-on v t vs a.coming.0 d) e)
 
   pub begins : (ss : List (LineStep N)) (vs : List N) (K st : List (N × Ty N)) (left : List (Ty N)) → OnStack K st → Apart ν held ord (names st) vs
       → Used K vs → Every Ready ss → Every (FormedStep ν held ord) ss
@@ -346,5 +381,8 @@ module _ {N : Type 0} (ν : Names N) (held : N → Bool) (ord : Ordered ν held)
   begins (chooses ∷ ss) (v ∷ vs) K (q ∷ p ∷ c ∷ st) left h a d r g e =
       let b = ran-step (does ν (chosen c.1 p.1 q.1)) (λ t. run_from ν (t ∷ typesOn st) ss) left e in
       let s = choice-step v (unlike v vs d) p.0 q.0 p.1 q.1 h.2.0 h.0 h.2.1 h.1 (two-apart p.0 q.0 (c.0 ∷ names st) (v ∷ vs) a) c.0 c.1 b.0 h.2.2.0 b.1 in
-      let a' = pushed ν held ord v (names st) vs (popped ν held ord c.0 (names st) (v ∷ vs) (popped ν held ord p.0 (c.0 ∷ names st) (v ∷ vs) (popped ν held ord q.0 (p.0 ∷ c.0 ∷ names st) (v ∷ vs) a))) in
-      s.front _ (begins ss vs ((v, b.0) ∷ K) ((v, b.0) ∷ st) left (in_head, s.sound, wider K (v, b.0) st h.2.2.2) a' (used-on v b.0 vs a.coming.0 d) r.1 g.1 b.2)
+      let a' = pushed ν held ord v (names st) vs
+      (popped ν held ord c.0 (names st) (v ∷ vs)
+      (popped ν held ord p.0 (c.0 ∷ names st) (v ∷ vs) (popped ν held ord q.0 (p.0 ∷ c.0 ∷ names st) (v ∷ vs) a))) in
+      s.front _ (begins ss vs ((v, b.0) ∷ K) ((v, b.0) ∷ st) left (in_head, s.sound, wider K (v, b.0) st h.2.2.2) a' (used-on v b.0 vs a.coming.0 d)
+      r.1 g.1 b.2)

@@ -109,7 +109,8 @@ module _ {N : Type 0} (ν : Names N) (law : Lawful (orderAtom ν)) {Held : Atom 
 
   merged-shut : (p d : Product N) (e : Exp) → Shut (dim p) → Shut (dim d) → Shut (dim (mergeE ν p (raiseE d e)))
   unfolding opens
-  merged-shut p d e h k = each_opens Never (mergeE ν p (raiseE d e)) (merge_on Never ν p (raiseE d e) (opens-each Never p h) (raise-on Never ν d e (opens-each Never d k)))
+  merged-shut p d e h k = each_opens Never (mergeE ν p (raiseE d e))
+      (merge_on Never ν p (raiseE d e) (opens-each Never p h) (raise-on Never ν d e (opens-each Never d k)))
 
   raised-shut : (d : Product N) (e : Exp) → Shut (dim d) → Shut (dim (raiseE d e))
   unfolding opens
@@ -119,19 +120,25 @@ module _ {N : Type 0} (ν : Names N) (law : Lawful (orderAtom ν)) {Held : Atom 
     base-fares : (e : Exp) (p : Product N) → Fares (λ q. q ≡ mergeE ν p (raiseE d e)) (besideBase ν law t ts e p)
     base-fares e p =
         rw (as-dim t d is)
-        (onward (allowed (leb (length p) 64) p) (λ left i. onward (raised d e) (λ more j. subst (λ (z : Product N). Fares (λ q. q ≡ z) (multiply ν bounded left more)) (ap₂ (mergeE ν) i j) (multiplied left more))))
+        (onward (allowed (leb (length p) 64) p)
+        (λ left i. onward (raised d e)
+        (λ more j. subst (λ (z : Product N). Fares (λ q. q ≡ z) (multiply ν bounded left more)) (ap₂ (mergeE ν) i j) (multiplied left more))))
 
     half-fares : (e : Exp) (p : Product N) → Fares (λ u. u ≡ dim (mergeE ν p (raiseE d e))) (halfGot ν law t ts e p)
     unfolding halfGot
     half-fares e [] = go (is_yes (Exp-dec e one)) refl
       where
         go : (b : Bool) → is_yes (Exp-dec e one) ≡ b → Fares (λ u. u ≡ dim (mergeE ν [] (raiseE d e))) (halfGot ν law t ts e [])
-        go true i = rw (i, halfGot) (fine (is ∙ ap dim (sym (scalar-merge ν (raiseE d e) ∙ ap (raiseE d) (yes-is (Exp-dec e one) i) ∙ raise-one ν law tells d dp))))
+        go true i = rw (i, halfGot) (fine
+            (is ∙ ap dim (sym (scalar-merge ν (raiseE d e) ∙ ap (raiseE d) (yes-is (Exp-dec e one) i) ∙ raise-one ν law tells d dp))))
         go false i = rw (i, halfGot) (onward (base-fares e []) (λ q j. fine (ap dim j)))
     half-fares e (f ∷ p) = onward (base-fares e (f ∷ p)) (λ q j. fine (ap dim j))
 
     one-fares : (y : N) (j i : Exp) → Fares (λ q. q ≡ free (var y) ↑ j ∷ raiseE d i) (besideOne ν law t ts y j i)
-    one-fares y j i = rw (as-dim t d is) (onward (raised d i) (λ more k. subst (λ (z : Product N). Fares (λ q. q ≡ free (var y) ↑ j ∷ z) (within bounded (suc (length more)) 64 (free (var y) ↑ j ∷ more))) k (allowed (leb (suc (length more)) 64) (free (var y) ↑ j ∷ more))))
+    one-fares y j i = rw (as-dim t d is)
+        (onward (raised d i) (λ more k. subst
+        (λ (z : Product N). Fares (λ q. q ≡ free (var y) ↑ j ∷ z) (within bounded (suc (length more)) 64 (free (var y) ↑ j ∷ more))) k
+        (allowed (leb (suc (length more)) 64) (free (var y) ↑ j ∷ more))))
 
   module _ (t : Ty N) (ts : Shut t) (v : N) where
     abbrev σ : Look N
@@ -159,15 +166,18 @@ module _ {N : Type 0} (ν : Names N) (law : Lawful (orderAtom ν)) {Held : Atom 
           → g ≡ free (var r) ↑ e ∷ raiseE p one → RTerm K (dim g) (dim (mergeE ν p (raiseE q e)))
       left-half l r e p q g k low h pp qp z =
           let y : raiseE p one ≡ p = raise-one ν law tells p pp in
-          subst (λ (x : Product N). RTerm K (dim x) (dim (mergeE ν p (raiseE q e)))) (sym (z ∙ ap (λ (x : Product N). free (var r) ↑ e ∷ x) y)) (half r e p q k low h pp qp)
+          subst (λ (x : Product N). RTerm K (dim x) (dim (mergeE ν p (raiseE q e)))) (sym (z ∙ ap (λ (x : Product N). free (var r) ↑ e ∷ x) y))
+          (half r e p q k low h pp qp)
 
       right-half : (l r : N) (e : Exp) (p q g : Product N) → Memᴰ (l, dim p) K → Lowest e → Shut (dim q) → Proper ν Held p → Proper ν Held q
           → g ≡ free (var l) ↑ one ∷ raiseE q e → RTerm K (dim g) (dim (mergeE ν p (raiseE q e)))
       right-half l r e p q g k low h pp qp z =
           let rp = raise-proper ν law tells q e qp low in
-          let y : mergeE ν (raiseE q e) (raiseE p one) ≡ mergeE ν p (raiseE q e) = ap (mergeE ν (raiseE q e)) (raise-one ν law tells p pp) ∙ merge-comm ν law tells (raiseE q e) p rp pp in
+          let y : mergeE ν (raiseE q e) (raiseE p one) ≡ mergeE ν p (raiseE q e) = ap (mergeE ν (raiseE q e)) (raise-one ν law tells p pp)
+          ∙ merge-comm ν law tells (raiseE q e) p rp pp in
           subst (λ (x : Product N). RTerm K (dim x) (dim (mergeE ν p (raiseE q e)))) (sym z)
-          (subst (λ (x : Product N). RTerm K (dim (free (var l) ↑ one ∷ raiseE q e)) (dim x)) y (half l one (raiseE q e) p k one-lowest (raised-shut q e h) rp pp))
+          (subst (λ (x : Product N). RTerm K (dim (free (var l) ↑ one ∷ raiseE q e)) (dim x)) y
+          (half l one (raiseE q e) p k one-lowest (raised-shut q e h) rp pp))
 
     module _ {M K : List (N × Ty N)} (w : Without M K) where
       side-put : {s u : Ty N} → RSide M s u → Fares (λ s'. RSide K s' u) (replaceTy ν bounded σ s)
@@ -175,7 +185,8 @@ module _ {N : Type 0} (ν : Names N) (law : Lawful (orderAtom ν)) {Held : Atom 
       side-put (pair x u m) = go (w.splits x u m)
         where
           go : Which K x u → Fares (λ s'. RSide K s' u) (replaceTy ν bounded σ (opened (var x)))
-          go (inl (i, j)) = rw (open-put ν law t ts σ x (at_bound ν law t ts v x i)) (subst (λ (z : Ty N). Fares (λ s'. RSide K s' z) (got t)) (sym j) (fine (shut t ts)))
+          go (inl (i, j)) = rw (open-put ν law t ts σ x (at_bound ν law t ts v x i))
+              (subst (λ (z : Ty N). Fares (λ s'. RSide K s' z) (got t)) (sym j) (fine (shut t ts)))
           go (inr (k, d)) = rw (open_stays ν law t ts σ x (at_other ν law t ts v x d)) (fine (pair x u k))
 
       term-put : {s u : Ty N} → Shut u → RTerm M s u → Fares (λ s'. RTerm K s' u) (replaceTy ν bounded σ s)
@@ -198,7 +209,8 @@ module _ {N : Type 0} (ν : Names N) (law : Lawful (orderAtom ν)) {Held : Atom 
           go (inr (k, x)) (inl (i, j)) =
               rw (right-put ν law t ts σ l r e low o (at_bound ν law t ts v r i) (at_other ν law t ts v l x))
               (onward (one-fares t ts q (sym j) qp l one e) (λ g z. fine (right-half l r e p q g k low (subst Shut (sym j) ts) pp qp z)))
-          go (inr (k, x)) (inr (k', x')) = rw (none-put ν law t ts σ l r e low o (at_other ν law t ts v l x) (at_other ν law t ts v r x')) (fine (two l r e p q k k' o low pp qp))
+          go (inr (k, x)) (inr (k', x')) = rw (none-put ν law t ts σ l r e low o (at_other ν law t ts v l x) (at_other ν law t ts v r x'))
+              (fine (two l r e p q k k' o low pp qp))
 
       line-put : {c : Con N} → RLine M c → Fares (RLine K) (replaceCon ν bounded σ c)
       unfolding replaceCon
@@ -211,7 +223,11 @@ module _ {N : Type 0} (ν : Names N) (law : Lawful (orderAtom ν)) {Held : Atom 
     wide y z (inr (m, d)) = inr (Memᴰ.tail m, d)
 
     wider : {M K : List (N × Ty N)} (x : N) (u : Ty N) → Without M K → All (Other x) M → Without ((x, u) ∷ M) ((x, u) ∷ K)
-    wider {M} {K} x u w d = record { here = Memᴰ.tail w.here; splits = λ y z m. go y z (Memᴰ.cases_cons m); within' = all_cons _ in_head (λ p m. Memᴰ.tail (w.within' p m)) }
+    wider {M} {K} x u w d = record {
+      here = Memᴰ.tail w.here;
+      splits = λ y z m. go y z (Memᴰ.cases_cons m);
+      within' = all_cons _ in_head (λ p m. Memᴰ.tail (w.within' p m));
+    }
       where
         go : (y : N) (z : Ty N) → (◌≡◌ {A = N × Ty N} (y, z) (x, u)) ⊎ Memᴰ (y, z) M → Which ((x, u) ∷ K) y z
         go y z (inl e) = inr (Memᴰ.head e, λ i. d (v, t) w.here (sym i ∙ ap (λ (p : N × Ty N). p.0) e))
@@ -221,7 +237,8 @@ module _ {N : Type 0} (ν : Names N) (law : Lawful (orderAtom ν)) {Held : Atom 
     unfolding each replaceCon
     flow-put w end = fine end
     flow-put w (beside c f) = onward (line-put w c) (λ a r. onward (flow-put w f) (λ as' q. fine (beside r q)))
-    flow-put {M} {K} w (define x u {t = s} {cs = cs} us d tm f) = rw (open_stays ν law t ts σ x (at_other ν law t ts v x (λ i. d (v, t) w.here (sym i)))) (go (term-put w us tm) (flow-put (wider x u w d) f))
+    flow-put {M} {K} w (define x u {t = s} {cs = cs} us d tm f) =
+        rw (open_stays ν law t ts σ x (at_other ν law t ts v x (λ i. d (v, t) w.here (sym i)))) (go (term-put w us tm) (flow-put (wider x u w d) f))
       where
         go : {m : Got (Ty N)} {n : Got (List (Con N))} → Fares (λ s'. RTerm K s' u) m → Fares (RFlow ((x, u) ∷ K)) n
             → Fares (RFlow K) (m >>= (λ a. got (equal (opened (var x)) a)) >>= λ c. n >>= λ cs. got (c ∷ cs))
@@ -231,7 +248,12 @@ module _ {N : Type 0} (ν : Names N) (law : Lawful (orderAtom ν)) {Held : Atom 
 
   -- the one variable that was defined before is the one that is bound
   pub only : (t : Ty N) (ts : Shut t) (v : N) → Without t ts v ((v, t) ∷ []) []
-  only t ts v = record { here = in_head; splits = λ x u m. inl (ap (λ (p : N × Ty N). p.0) (Memᴰ.eq_of_singleton m), ap (λ (p : N × Ty N). p.1) (Memᴰ.eq_of_singleton m)); within' = all_nil _ }
+  only t ts v = record {
+    here = in_head;
+    splits = λ x u m. inl (ap (λ (p : N × Ty N). p.0) (Memᴰ.eq_of_singleton m), ap (λ (p : N × Ty N). p.1) (Memᴰ.eq_of_singleton m));
+    within' =
+        all_nil _;
+  }
 
   -- ══ Rounds ══
 
@@ -268,7 +290,12 @@ module _ {N : Type 0} (ν : Names N) (law : Lawful (orderAtom ν)) {Held : Atom 
   unfolding opensCon
   line-truly (truly c h) = h
   line-truly (dimension d s) = record { closed = side-shut s; holds = (d, side-closed s) }
-  line-truly (equality {s} {t} {u} {w} l r e) = record { closed = equal-shut s t (side-shut l) (side-shut r); holds = ap (λ (x : Ty N). plain x false) (side-closed l) ∙ e ∙ sym (ap (λ (x : Ty N). plain x false) (side-closed r)) }
+  line-truly (equality {s} {t} {u} {w} l r e) =
+      record {
+        closed = equal-shut s t (side-shut l) (side-shut r);
+        holds = ap (λ (x : Ty N). plain x false) (side-closed l) ∙ e
+            ∙ sym (ap (λ (x : Ty N). plain x false) (side-closed r));
+      }
 
   flow-more : {K : List (N × Ty N)} {cs : List (Con N)} (new : List (Con N)) → All Truly new → RFlow K cs → RFlow K (cs ++ new)
   flow-more [] a end = end
@@ -304,7 +331,8 @@ module _ {N : Type 0} (ν : Names N) (law : Lawful (orderAtom ν)) {Held : Atom 
       → Fares (Goes s) (firstStep ν bounded (c ∷ cs) >>= λ f. performed ν bounded s.binds f)
   unfolding firstStep taken performed perform
   taken-good s h c cs f (inl i) = rw i (goes_on (limited-good (record { cons = cs; binds = s.binds }) (record { flows = f; closed-binds = h })))
-  taken-good s h c cs f (inr p) = rw p.is (goes_on (limited-good (record { cons = cs ++ p.new; binds = s.binds }) (record { flows = flow-more p.new p.truly f; closed-binds = h })))
+  taken-good s h c cs f (inr p) = rw p.is
+      (goes_on (limited-good (record { cons = cs ++ p.new; binds = s.binds }) (record { flows = flow-more p.new p.truly f; closed-binds = h })))
 
   first : (s : State N) → All (λ b. Shut (type_of b)) s.binds → {cs : List (Con N)} → s.cons ≡ cs → RFlow [] cs
       → Fares (Goes s) (firstStep ν bounded cs >>= λ f. performed ν bounded s.binds f)

@@ -92,7 +92,8 @@ module _ {N : Type 0} where
   pairs-shut nil us h k = all_nil ShutCon
   pairs-shut (cons t ts) nil h k = all_nil ShutCon
   pairs-shut (cons t ts) (cons u us) h k =
-      all_cons ShutCon (equal-shut t u (shut-left (opens t) (opensTys ts) h) (shut-left (opens u) (opensTys us) k)) (pairs-shut ts us (shut-right (opens t) (opensTys ts) h) (shut-right (opens u) (opensTys us) k))
+      all_cons ShutCon (equal-shut t u (shut-left (opens t) (opensTys ts) h) (shut-left (opens u) (opensTys us) k))
+      (pairs-shut ts us (shut-right (opens t) (opensTys ts) h) (shut-right (opens u) (opensTys us) k))
 
   reads-open : (x : N) (side : Ty N) → Reads x side → Shut side → ⊥
   unfolding opens collect
@@ -110,7 +111,8 @@ module _ {N : Type 0} where
 module _ {N : Type 0} (ν : Names N) where
   quotient-shut : (d e q : Product N) → Shut (dim d) → Shut (dim e) → q ≡ mergeE ν d (inverse e) → Shut (dim q)
   unfolding opens
-  quotient-shut d e q h k i = rw i (each_opens Never (mergeE ν d (inverse e)) (merge_on Never ν d (inverse e) (opens-each Never d h) (inverse-on Never ν e (opens-each Never e k))))
+  quotient-shut d e q h k i = rw i (each_opens Never (mergeE ν d (inverse e))
+      (merge_on Never ν d (inverse e) (opens-each Never d h) (inverse-on Never ν e (opens-each Never e k))))
 
   -- what a rule does with a closed constraint
   pub shut-rule : (c : Con N) (s : Step N) → Rule ν bounded c s → ShutCon c → After (All ShutCon) (λ x t. ⊥) s
@@ -120,7 +122,8 @@ module _ {N : Type 0} (ν : Names N) where
   shut-rule c s (binds x side t i r n e) h = absurd (reads-open x side r (sides-shut c side t i h).0)
   shut-rule c s (two-functions ps qs r q n i e) h =
       let g = sides-shut c (fn ps r) (fn qs q) (inl i) h in
-      rw e (all_cons ShutCon (equal-shut r q (shut-right (opensTys ps) (opens r) g.0) (shut-right (opensTys qs) (opens q) g.1)) (pairs-shut ps qs (shut-left (opensTys ps) (opens r) g.0) (shut-left (opensTys qs) (opens q) g.1)))
+      rw e (all_cons ShutCon (equal-shut r q (shut-right (opensTys ps) (opens r) g.0) (shut-right (opensTys qs) (opens q) g.1))
+      (pairs-shut ps qs (shut-left (opensTys ps) (opens r) g.0) (shut-left (opensTys qs) (opens q) g.1)))
   shut-rule c s (two-lists t u i e) h = let g = sides-shut c (list t) (list u) (inl i) h in rw e (all_cons ShutCon (equal-shut t u g.0 g.1) (all_nil ShutCon))
   shut-rule c s (two-structs n as' bs fs gs k i e) h =
       let g = sides-shut c (struct n as' fs) (struct n bs gs) (inl i) h in
@@ -141,7 +144,9 @@ module _ {N : Type 0} (ν : Names N) where
   shut-rule c s (first-factor x k p q n i e) h = absurd (scalar-open x k p (rw i at h))
   shut-rule c s (closed-struct n m as' fs t u o f i e) h =
       let g : All Never (opens (struct m as' fs) ++ opens t) = rw i at h in
-      rw e (all_cons ShutCon (equal-shut u t (λ w k. shut-right (opensTys as') (opensFields fs) (shut-left (opens (struct m as' fs)) (opens t) g) w (field-occurs ν n fs u f w k)) (shut-right (opens (struct m as' fs)) (opens t) g)) (all_nil ShutCon))
+      rw e (all_cons ShutCon (equal-shut u t
+      (λ w k. shut-right (opensTys as') (opensFields fs) (shut-left (opens (struct m as' fs)) (opens t) g) w (field-occurs ν n fs u f w k))
+      (shut-right (opens (struct m as' fs)) (opens t) g)) (all_nil ShutCon))
 
   -- ══ Replacing ══
 

@@ -92,7 +92,8 @@ module _ {N : Type 0} (ν : Names N) where
   unfolding sameDimensions dimensionOf alike
   same_runs s t u p q i j e = rw (e, i, j)
 
-module _ {N : Type 0} (ν : Names N) (held : N → Bool) (ord : Ordered ν held) (bs : List (Binding N)) (ns : List N) (good : All (λ b. goodBinding ν held 0 b ≡ true) bs) where
+module _ {N : Type 0} (ν : Names N) (held : N → Bool) (ord : Ordered ν held) (bs : List (Binding N)) (ns : List N)
+    (good : All (λ b. goodBinding ν held 0 b ≡ true) bs) where
   abbrev pub Match : N → Ty N → Type 0
   Match = Matches ν held ord bs ns good
 
@@ -154,14 +155,26 @@ module _ {N : Type 0} (ν : Names N) (held : N → Bool) (ord : Ordered ν held)
     by_two multiplies v facts =
         let h = all-every Holding _ facts in
         let b = two-bound h.0 h.1.0 in
-        record { type = dim (mergeE ν b.0.product b.1.product); leaves = product-runs ν s t b.0.product b.1.product b.0.is b.1.is; matches = of-product ν held ord bs ns good l r s t b.0 b.1 v h.1.1.0 }
+        record {
+          type = dim (mergeE ν b.0.product b.1.product);
+          leaves = product-runs ν s t b.0.product b.1.product b.0.is b.1.is;
+          matches = of-product ν held ord bs ns good l r s t b.0 b.1 v h.1.1.0;
+        }
     by_two divides v facts =
         let h = all-every Holding _ facts in
         let b = two-bound h.0 h.1.0 in
-        record { type = dim (mergeE ν b.0.product (inverse b.1.product)); leaves = quotient-runs ν s t b.0.product b.1.product b.0.is b.1.is; matches = of-quotient ν held ord bs ns good l r s t b.0 b.1 v h.1.1.0 }
+        record {
+          type = dim (mergeE ν b.0.product (inverse b.1.product));
+          leaves = quotient-runs ν s t b.0.product b.1.product b.0.is b.1.is;
+          matches = of-quotient ν held ord bs ns good l r s t b.0 b.1 v h.1.1.0;
+        }
     by_two compares v facts =
         let h = all-every Holding _ facts in
-        record { type = basic boolean; leaves = same-sides (two-bound h.0 h.1.0) h.1.1.0 (basic boolean); matches = of-closed ν held ord bs ns good v (basic boolean) refl h.1.1.1.0.true-under }
+        record {
+          type = basic boolean;
+          leaves = same-sides (two-bound h.0 h.1.0) h.1.1.0 (basic boolean);
+          matches = of-closed ν held ord bs ns good v (basic boolean) refl h.1.1.1.0.true-under;
+        }
 
     pub by-choice : (c : N) (u : Ty N) → Match c u → (v : N) → All Holding (issued ν v (chosen c l r)) → Left v (chosen u s t)
     unfolding issued does isCondition alike

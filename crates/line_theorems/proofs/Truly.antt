@@ -130,7 +130,8 @@ module _ {N : Type 0} where
   pairs-truly nil us h k e = all_nil Truly
   pairs-truly (cons t ts) nil h k e = all_nil Truly
   pairs-truly (cons t ts) (cons u us) h k e =
-      all_cons Truly (equal-truly t u (shut-left (opens t) (opensTys ts) h) (shut-left (opens u) (opensTys us) k) (cc)) (pairs-truly ts us (shut-right (opens t) (opensTys ts) h) (shut-right (opens u) (opensTys us) k) (cc))
+      all_cons Truly (equal-truly t u (shut-left (opens t) (opensTys ts) h) (shut-left (opens u) (opensTys us) k) (cc))
+      (pairs-truly ts us (shut-right (opens t) (opensTys ts) h) (shut-right (opens u) (opensTys us) k) (cc))
 
   -- ══ No variable to bind ══
 
@@ -184,7 +185,8 @@ module _ {N : Type 0} (ν : Names N) where
       record {
         new = equal r q ∷ pairs ps qs;
         is = rw (eq-eqb (count ps) (count qs) (same_count ps qs i), functions);
-        truly = all_cons Truly (equal-truly r q (shut-right (opensTys ps) (opens r) h) (shut-right (opensTys qs) (opens q) k) j) (pairs-truly ps qs (shut-left (opensTys ps) (opens r) h) (shut-left (opensTys qs) (opens q) k) i);
+        truly = all_cons Truly (equal-truly r q (shut-right (opensTys ps) (opens r) h) (shut-right (opensTys qs) (opens q) k) j)
+            (pairs-truly ps qs (shut-left (opensTys ps) (opens r) h) (shut-left (opensTys qs) (opens q) k) i);
       }
 
   same-structs : (n m : N) (as' bs : Tys N) (fs gs : Fields N) → Shut (struct n as' fs) → Shut (struct m bs gs)
@@ -201,7 +203,8 @@ module _ {N : Type 0} (ν : Names N) where
 
   same_lists : (t u : Ty N) → Shut (list t) → Shut (list u) → plain (list t) false ≡ plain (list u) false → Parts (by_kind ν bounded (list t) (list u))
   unfolding by_kind lists plain opens
-  same_lists t u h k e = let i : plain t false ≡ plain u false = cc in record { new = equal t u ∷ []; is = refl; truly = all_cons Truly (equal-truly t u h k i) (all_nil Truly) }
+  same_lists t u h k e = let i : plain t false ≡ plain u false = cc
+      in record { new = equal t u ∷ []; is = refl; truly = all_cons Truly (equal-truly t u h k i) (all_nil Truly) }
 
   kind-true : (s t : Ty N) → Shut s → Shut t → ¬ (s ≡ t) → plain s false ≡ plain t false → Parts (by_kind ν bounded s t)
   unfolding plain opens
@@ -210,10 +213,12 @@ module _ {N : Type 0} (ν : Names N) where
   kind-true (dim d) t h k n e = absurd (n (sym (same-dim t d (none_in (opens t) k) e)))
   kind-true (fn ps r) t h k n e =
       let q = like-fn t (plainTys ps false) (plain r false) (sym e) in
-      subst (λ (u : Ty N). Parts (by_kind ν bounded (fn ps r) u)) (sym q.2) (two-fns ps q.0 r q.1 h (subst Shut q.2 k) (e ∙ ap (λ (u : Ty N). plain u false) q.2))
+      subst (λ (u : Ty N). Parts (by_kind ν bounded (fn ps r) u)) (sym q.2)
+      (two-fns ps q.0 r q.1 h (subst Shut q.2 k) (e ∙ ap (λ (u : Ty N). plain u false) q.2))
   kind-true (struct m as' fs) t h k n e =
       let q = like-struct t m (plainTys as' false) (plainFields fs false) (sym e) in
-      subst (λ (u : Ty N). Parts (by_kind ν bounded (struct m as' fs) u)) (sym q.3) (same-structs m q.0 as' q.1 fs q.2 h (subst Shut q.3 k) (e ∙ ap (λ (u : Ty N). plain u false) q.3))
+      subst (λ (u : Ty N). Parts (by_kind ν bounded (struct m as' fs) u)) (sym q.3)
+      (same-structs m q.0 as' q.1 fs q.2 h (subst Shut q.3 k) (e ∙ ap (λ (u : Ty N). plain u false) q.3))
   kind-true (list u) t h k n e =
       let q = like-list t (plain u false) (sym e) in
       subst (λ (w : Ty N). Parts (by_kind ν bounded (list u) w)) (sym q.1) (same_lists u q.0 h (subst Shut q.1 k) (e ∙ ap (λ (w : Ty N). plain w false) q.1))

@@ -116,7 +116,8 @@ module _ {N : Type 0} (ν : Names N) (held : N → Bool) (order : Ordered ν hel
   ready (s ∷ ss) f c = (step-ready s f.0 (and_left (closed_step s) _ c), ready ss f.1 (and_right (closed_step s) _ c))
 
   -- a well formed line over held names that differ, solved and judged
-  module _ (ss : List (LineStep N)) (names : List N) (formed : Every (FormedStep ν held order) ss) (complete : whole 0 ss ≡ true) (long : length ss ≤ length names)
+  module _ (ss : List (LineStep N)) (names : List N) (formed : Every (FormedStep ν held order) ss) (complete : whole 0 ss ≡ true)
+      (long : length ss ≤ length names)
       (apart : Apart ν held order [] names) (bs : List (Binding N)) (agreed' : Agreed ν (constraints ν names [] ss) bs) where
     abbrev cs : List (Con N)
     cs = constraints ν names [] ss
@@ -135,12 +136,14 @@ module _ {N : Type 0} (ν : Names N) (held : N → Bool) (order : Ordered ν hel
     unfolding runLine replaceTy
     line-runs v type l p c =
         let good = (solved-form ν held order cs given bs agreed'.ns agreed'.rounds agreed'.accepts).bindings-good in
-        let e = runs ν held order bs agreed'.ns good ss names [] [] tt complete long (ready ss formed c) (λ d m. record { formed = cons-good d m; true-under = all_true d m }) in
+        let e = runs ν held order bs agreed'.ns good ss names [] [] tt complete long (ready ss formed c)
+        (λ d m. record { formed = cons-good d m; true-under = all_true d m }) in
         let i : some e.variable ≡ some v = sym e.last ∙ sym (last-from names ss) ∙ l in
         let j : e.variable ≡ v = cc in
         let k : got (get_or (bindings ν bs (var v)) (opened (var v))) ≡ got type = p in
         let q : get_or (bindings ν bs (var v)) (opened (var v)) ≡ type = cc in
-        let r : get_or (bindings ν bs (var e.variable)) (opened (var e.variable)) ≡ type = ap (λ (x : N). get_or (bindings ν bs (var x)) (opened (var x))) j ∙ q in
+        let r : get_or (bindings ν bs (var e.variable)) (opened (var e.variable)) ≡ type =
+        ap (λ (x : N). get_or (bindings ν bs (var x)) (opened (var x))) j ∙ q in
         record { left = e.type; ends = e.left; same = means-same ν e.type type (sym e.matches.same ∙ ap (λ (t : Ty N). plain t false) r) }
 
 -- ══ On words ══

@@ -36,16 +36,21 @@ module _ {A B : Type 0} (g : A → Got B) where
   after-given (refused n) p q = refl
 
 -- what comes after: the set is solved and judged, and the last variable's type written
-pub checked-entered : (t : Table) (steps types lines names : List ℕ) → checkedLine t steps types lines names ≡ (lineEntered t steps types lines names >>= λ ss. lineType (numbersOf t) ss names >>= λ ty. got (writeTy ty))
+pub checked-entered : (t : Table) (steps types lines names : List ℕ)
+    → checkedLine t steps types lines names
+    ≡ (lineEntered t steps types lines names >>= λ ss. lineType (numbersOf t) ss names >>= λ ty. got (writeTy ty))
 unfolding checkedLine lineEntered
 checked-entered t steps types lines names = go (lineShort steps types lines names) (tableKept t)
   where
     go : (a b : Got (Unit {0})) →
-        (a >> (b >> (lineGiven t steps types lines >>= λ ss. need (fresh names ss) 4 >> (need (all (is_held t) names) 3 >> (lineType (numbersOf t) ss names >>= λ ty. got (writeTy ty))))))
-        ≡ ((a >> (b >> (lineGiven t steps types lines >>= λ ss. need (fresh names ss) 4 >> (need (all (is_held t) names) 3 >> got ss)))) >>= λ ss. lineType (numbersOf t) ss names >>= λ ty. got (writeTy ty))
+        (a >> (b >> (lineGiven t steps types lines >>= λ ss. need (fresh names ss) 4
+        >> (need (all (is_held t) names) 3 >> (lineType (numbersOf t) ss names >>= λ ty. got (writeTy ty))))))
+        ≡ ((a >> (b >> (lineGiven t steps types lines >>= λ ss. need (fresh names ss) 4 >> (need (all (is_held t) names) 3 >> got ss))))
+        >>= λ ss. lineType (numbersOf t) ss names >>= λ ty. got (writeTy ty))
     go (refused n) b = refl
     go (got u) (refused n) = refl
-    go (got u) (got v) = after-given (λ ss. lineType (numbersOf t) ss names >>= λ ty. got (writeTy ty)) (lineGiven t steps types lines) (fresh names) (λ ss. all (is_held t) names)
+    go (got u) (got v) = after-given (λ ss. lineType (numbersOf t) ss names >>= λ ty. got (writeTy ty)) (lineGiven t steps types lines) (fresh names)
+        (λ ss. all (is_held t) names)
 
 -- ══ The answers of the code ══
 
@@ -73,7 +78,8 @@ module _ (pool table steps types lines names : List ℕ) where
       unfolding lineEntered tableKept
       enter-form n h = rw (← s, k) (go (lineGiven t steps types lines) h)
         where
-          go : (m : Got (List (LineStep ℕ))) → isGiven m ≡ refused n → refused n ≡ isGiven (m >>= λ ss. need (fresh names ss) 4 >> (need (all (is_held t) names) 3 >> got ss))
+          go : (m : Got (List (LineStep ℕ))) → isGiven m ≡ refused n
+              → refused n ≡ isGiven (m >>= λ ss. need (fresh names ss) 4 >> (need (all (is_held t) names) 3 >> got ss))
           go (got ss) h = cc
           go (refused j) h = sym h
 
@@ -86,8 +92,11 @@ module _ (pool table steps types lines names : List ℕ) where
           last true false ss = refl
           last false b ss = refl
 
-          go : (m : Got (List (LineStep ℕ))) → lineGiven t steps types lines ≡ m → isGiven m ≡ got tt → namesChecked table types lines steps names ≡ isGiven (m >>= λ ss. need (fresh names ss) 4 >> (need (all (is_held t) names) 3 >> got ss))
+          go : (m : Got (List (LineStep ℕ))) → lineGiven t steps types lines ≡ m → isGiven m ≡ got tt
+              → namesChecked table types lines steps names
+              ≡ isGiven (m >>= λ ss. need (fresh names ss) 4 >> (need (all (is_held t) names) 3 >> got ss))
           go (refused j) e h = cc
           go (got ss) e h =
-              ap (λ (b : Bool). need b 4 >> need (all (λ x. ltb x (get_or table 0 0)) names) 3) (fresh-words pool table types lines steps names w ss (line_read t steps types lines ss e))
+              ap (λ (b : Bool). need b 4 >> need (all (λ x. ltb x (get_or table 0 0)) names) 3)
+              (fresh-words pool table types lines steps names w ss (line_read t steps types lines ss e))
               ∙ last (fresh names ss) (all (is_held t) names) ss

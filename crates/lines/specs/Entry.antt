@@ -24,7 +24,34 @@ use Rattle.records.specs.Given.{records-whole, records-broken}
 use Rattle.records.specs.Found.{Words32}
 use Rattle.records.specs.Good.{GoodTy}
 use Rattle.entries.specs.Given.{type-there, type-is}
-use Rattle.rules.specs.Steps.{adds, subtracts, multiplies, divides, compares, LineStep, constant, reference, raises, joins, chooses, whole, StepWords, four, isConstant, isReference, isRaise, stepKind, zeros, number_at, constantAt, referenceTo, raiseBy, step_of, stepGiven, lineGiven}
+use Rattle.rules.specs.Steps.{
+  adds,
+  subtracts,
+  multiplies,
+  divides,
+  compares,
+  LineStep,
+  constant,
+  reference,
+  raises,
+  joins,
+  chooses,
+  whole,
+  StepWords,
+  four,
+  isConstant,
+  isReference,
+  isRaise,
+  stepKind,
+  zeros,
+  number_at,
+  constantAt,
+  referenceTo,
+  raiseBy,
+  step_of,
+  stepGiven,
+  lineGiven,
+}
 use Rattle.lines.specs.StepLists.{isGiven, fourOf, stepsFrom, operandsOf, wholeFrom, unknown, steps-whole, steps-broken, whole_words}
 use Rattle.rules.specs.Lines.{lineLent}
 
@@ -35,7 +62,8 @@ module _ (pool table steps names result work : List ℕ) where
   unfolding lineLent
   room-no h = rw (← h)
 
-  room_by : (b : Bool) → need true 10 ≡ lent pool table result work → leb (length steps) (length names * 4) ≡ b → need b 10 ≡ lineLent pool table steps names result work
+  room_by : (b : Bool) → need true 10 ≡ lent pool table result work → leb (length steps) (length names * 4) ≡ b
+      → need b 10 ≡ lineLent pool table steps names result work
   unfolding lineLent
   room_by b h e = rw (← h, e)
 
@@ -45,7 +73,8 @@ module _ (pool table steps names result work : List ℕ) where
   pub room-less : need true 10 ≡ lent pool table result work → length names < length steps / 4 → need false 10 ≡ lineLent pool table steps names result work
   room-less h l = room_by false h (lt-leb (length steps) (length names * 4) (omega arith))
 
-  pub room-same : need true 10 ≡ lent pool table result work → length names ≤ length steps / 4 → length steps / 4 ≤ length names → need (eqb (length steps % 4) 0) 10 ≡ lineLent pool table steps names result work
+  pub room-same : need true 10 ≡ lent pool table result work → length names ≤ length steps / 4 → length steps / 4 ≤ length names
+      → need (eqb (length steps % 4) 0) 10 ≡ lineLent pool table steps names result work
   room-same h l k = go (eqb (length steps % 4) 0) refl
     where
       go : (b : Bool) → eqb (length steps % 4) 0 ≡ b → need b 10 ≡ lineLent pool table steps names result work
@@ -54,7 +83,8 @@ module _ (pool table steps names result work : List ℕ) where
 
 -- ══ A type at a place ══
 
-either : {A : Type 0} (o : Option A) (good : A → Bool) → ((a : A) → (orRefuse 1 o >>= λ x. need (good x) 1 >> got x) ≡ got a → ⊥) → (orRefuse 1 o >>= λ x. need (good x) 1 >> got x) ≡ refused 1
+either : {A : Type 0} (o : Option A) (good : A → Bool) → ((a : A) → (orRefuse 1 o >>= λ x. need (good x) 1 >> got x) ≡ got a → ⊥)
+    → (orRefuse 1 o >>= λ x. need (good x) 1 >> got x) ≡ refused 1
 either none good h = refl
 either (some a) good h = go (good a) refl
   where
@@ -158,7 +188,8 @@ module _ (t : Table) (rs : List Rec) (lines : List ℕ) where
       go true s = refl
       go false s = refl
 
-  pub constant-made : (a b c : ℕ) (r : Bool) → need r 1 ≡ zeros (b ∷ c ∷ []) → r ≡ true → isGiven (constantAt t rs lines a) ≡ isGiven (step_of t rs lines isConstant a b c)
+  pub constant-made : (a b c : ℕ) (r : Bool) → need r 1 ≡ zeros (b ∷ c ∷ []) → r ≡ true
+      → isGiven (constantAt t rs lines a) ≡ isGiven (step_of t rs lines isConstant a b c)
   unfolding step_of
   constant-made a b c r h e = zeros-then (b ∷ c ∷ []) (constantAt t rs lines a) r h e
 
@@ -166,7 +197,8 @@ module _ (t : Table) (rs : List Rec) (lines : List ℕ) where
   unfolding step_of
   constant-not a b c r h e = zeros-stop (b ∷ c ∷ []) (constantAt t rs lines a) r h e
 
-  pub reference-made : (a b c : ℕ) (r : Bool) → need r 1 ≡ zeros (b ∷ c ∷ []) → r ≡ true → isGiven (referenceTo t rs lines a) ≡ isGiven (step_of t rs lines isReference a b c)
+  pub reference-made : (a b c : ℕ) (r : Bool) → need r 1 ≡ zeros (b ∷ c ∷ []) → r ≡ true
+      → isGiven (referenceTo t rs lines a) ≡ isGiven (step_of t rs lines isReference a b c)
   unfolding step_of
   reference-made a b c r h e = zeros-then (b ∷ c ∷ []) (referenceTo t rs lines a) r h e
 
@@ -234,7 +266,8 @@ module _ (s : List ℕ) (i : ℕ) (h : i < length s / 4) where
   pub steps-some : stepsFrom s i ≡ this ∷ stepsFrom s (i + 1)
   steps-some = ap (map fourOf) (from_some s i h)
 
-  pub whole-on : (n : ℕ) → operandsOf (get_or s (i * 4) 0) ≤ n → wholeFrom (n - operandsOf (get_or s (i * 4) 0) + 1) (stepsFrom s (i + 1)) ≡ wholeFrom n (stepsFrom s i)
+  pub whole-on : (n : ℕ) → operandsOf (get_or s (i * 4) 0) ≤ n
+      → wholeFrom (n - operandsOf (get_or s (i * 4) 0) + 1) (stepsFrom s (i + 1)) ≡ wholeFrom n (stepsFrom s i)
   unfolding wholeFrom
   whole-on n l = rw (steps-some, le-leb (operandsOf (get_or s (i * 4) 0)) n l, add-one (n - operandsOf (get_or s (i * 4) 0)))
 

@@ -13,7 +13,34 @@ use Rattle.rules.specs.Calls.{type_at}
 use Rattle.laws.specs.Checks.{next-passed}
 use Rattle.laws.specs.Lists.{bound-step, each-parts}
 use Rattle.records.specs.Views.{recs, from}
-use Rattle.rules.specs.Steps.{LineStep, constant, reference, raises, joins, chooses, operands, whole, StepWords, four, stepWords, StepKind, isConstant, isReference, isRaise, isChoose, isTwo, stepNumbers, stepKind, zeros, number_at, constantAt, referenceTo, raiseBy, step_of, stepGiven}
+use Rattle.rules.specs.Steps.{
+  LineStep,
+  constant,
+  reference,
+  raises,
+  joins,
+  chooses,
+  operands,
+  whole,
+  StepWords,
+  four,
+  stepWords,
+  StepKind,
+  isConstant,
+  isReference,
+  isRaise,
+  isChoose,
+  isTwo,
+  stepNumbers,
+  stepKind,
+  zeros,
+  number_at,
+  constantAt,
+  referenceTo,
+  raiseBy,
+  step_of,
+  stepGiven,
+}
 
 -- of a value is said only that there is one
 abbrev pub isGiven : {A : Type 0} → Got A → Got (Unit {0})
@@ -58,7 +85,8 @@ unfolding stepKind all
 past k [] h = refl
 past k (x ∷ xs) h = go (eqb k x.0) refl h (past k xs)
   where
-    go : (b : Bool) → eqb k x.0 ≡ b → (not b && all (λ x. not (eqb k x.0)) xs) ≡ true → (all (λ x. not (eqb k x.0)) xs ≡ true → stepKind k xs ≡ none) → stepKind k (x ∷ xs) ≡ none
+    go : (b : Bool) → eqb k x.0 ≡ b → (not b && all (λ x. not (eqb k x.0)) xs) ≡ true → (all (λ x. not (eqb k x.0)) xs ≡ true → stepKind k xs ≡ none)
+        → stepKind k (x ∷ xs) ≡ none
     go true q h ih = cc
     go false q h ih = rw (q, stepKind) (ih h)
 
@@ -66,7 +94,17 @@ pub unknown : (k : ℕ) → 10 ≤ k → stepKind k stepNumbers ≡ none
 unfolding all
 unknown k h =
     let n : (m : ℕ) → m < 10 → eqb k m ≡ false = λ m l. ne_eqb k m (λ e. omega arith) in
-    past k stepNumbers (rw (n 1 (omega arith), n 2 (omega arith), n 3 (omega arith), n 4 (omega arith), n 5 (omega arith), n 6 (omega arith), n 7 (omega arith), n 8 (omega arith), n 9 (omega arith)))
+    past k stepNumbers (rw (
+      n 1 (omega arith),
+      n 2 (omega arith),
+      n 3 (omega arith),
+      n 4 (omega arith),
+      n 5 (omega arith),
+      n 6 (omega arith),
+      n 7 (omega arith),
+      n 8 (omega arith),
+      n 9 (omega arith),
+    ))
 
 -- operands by numbers
 pub taken-two : (k : ℕ) → 3 ≤ k → k < 7 → operandsOf k ≡ 2

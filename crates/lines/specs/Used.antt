@@ -27,7 +27,31 @@ use Rattle.records.specs.Found.{Words32}
 use Rattle.records.specs.declared.View.{View}
 use Rattle.records.specs.declared.View.TheVariants as view
 use Rattle.entries.specs.Given.{type-is}
-use Rattle.rules.specs.Steps.{LineStep, constant, reference, raises, joins, chooses, StepWords, four, StepKind, isConstant, isReference, isRaise, isChoose, isTwo, stepNumbers, stepKind, zeros, number_at, constantAt, referenceTo, raiseBy, step_of, stepGiven}
+use Rattle.rules.specs.Steps.{
+  LineStep,
+  constant,
+  reference,
+  raises,
+  joins,
+  chooses,
+  StepWords,
+  four,
+  StepKind,
+  isConstant,
+  isReference,
+  isRaise,
+  isChoose,
+  isTwo,
+  stepNumbers,
+  stepKind,
+  zeros,
+  number_at,
+  constantAt,
+  referenceTo,
+  raiseBy,
+  step_of,
+  stepGiven,
+}
 use Rattle.lines.specs.StepLists.{unknown, stepsFrom}
 use Rattle.lines.specs.Entry.{number_is, this, steps-some}
 use Rattle.rules.specs.Lines.{namesOfFactor, namesOfTy, namesOfTys, namesOfFields, namesOfStep, fresh}
@@ -118,9 +142,11 @@ module _ (s : List ℕ) where
     ty-names (opened o) at h = one at 0 h.0 ∙ rw (open-back o) (nothing (to_list (name_of o)))
     ty-names (basic b) at h = one at 0 h.0
     ty-names (dim p) at h = one at (length p) h.0 ∙ factors-names p (at + 1) h.1
-    ty-names (fn ps r) at h = one at (sizeTys ps + size r) h.0 ∙ two (at + 1) (sizeTys ps) (size r) (tys-names ps (at + 1) h.1) (ty-names r (at + 1 + sizeTys ps) h.2)
+    ty-names (fn ps r) at h = one at (sizeTys ps + size r) h.0
+        ∙ two (at + 1) (sizeTys ps) (size r) (tys-names ps (at + 1) h.1) (ty-names r (at + 1 + sizeTys ps) h.2)
     ty-names (struct n as' fs) at h =
-        one at (sizeTys as' + sizeFields fs) h.0 ∙ ap (n ∷◌) (two (at + 1) (sizeTys as') (sizeFields fs) (tys-names as' (at + 1) h.1) (fields-names fs (at + 1 + sizeTys as') h.2))
+        one at (sizeTys as' + sizeFields fs) h.0
+        ∙ ap (n ∷◌) (two (at + 1) (sizeTys as') (sizeFields fs) (tys-names as' (at + 1) h.1) (fields-names fs (at + 1 + sizeTys as') h.2))
     ty-names (list t) at h = one at (size t) h.0 ∙ ty-names t (at + 1) h.1
 
     tys-names : (ts : Tys ℕ) (at : ℕ) → HoldsTys s ts at → namesFrom (sizeTys ts) at ≡ namesOfTys ts
@@ -130,7 +156,8 @@ module _ (s : List ℕ) where
     fields-names : (fs : Fields ℕ) (at : ℕ) → HoldsFields s fs at → namesFrom (sizeFields fs) at ≡ namesOfFields fs
     fields-names noFields at h = refl
     fields-names (field n t fs) at h =
-        one at (size t + sizeFields fs) h.0 ∙ ap (n ∷◌) (two (at + 1) (size t) (sizeFields fs) (ty-names t (at + 1) h.1) (fields-names fs (at + 1 + size t) h.2))
+        one at (size t + sizeFields fs) h.0
+        ∙ ap (n ∷◌) (two (at + 1) (size t) (sizeFields fs) (ty-names t (at + 1) h.1) (fields-names fs (at + 1 + size t) h.2))
 
   -- the names of the part that starts at a place
   abbrev pub names_at : ℕ → List ℕ
@@ -176,7 +203,8 @@ module _ (types lines : List ℕ) where
   word-other (suc (suc (suc (suc (suc (suc (suc zero))))))) a f g = refl
   word-other (suc (suc (suc (suc (suc (suc (suc (suc zero)))))))) a f g = refl
   word-other (suc (suc (suc (suc (suc (suc (suc (suc (suc zero))))))))) a f g = refl
-  word-other (suc (suc (suc (suc (suc (suc (suc (suc (suc (suc k)))))))))) a f g = ap (λ (o : Option StepKind). namesBy o a) (unknown (suc (suc (suc (suc (suc (suc (suc (suc (suc (suc k)))))))))) (omega arith))
+  word-other (suc (suc (suc (suc (suc (suc (suc (suc (suc (suc k)))))))))) a f g =
+      ap (λ (o : Option StepKind). namesBy o a) (unknown (suc (suc (suc (suc (suc (suc (suc (suc (suc (suc k)))))))))) (omega arith))
 
   module _ (pool table : List ℕ) (w : Words32 types) where
     abbrev t : Table
@@ -221,7 +249,8 @@ module _ (types lines : List ℕ) where
         go none h = cc
         go (some x) h = of-kind x a b c s h
 
-    pub line-names : (ws : List StepWords) (ss : List (LineStep ℕ)) → each (stepGiven t (recs types) lines) ws ≡ got ss → collect namesWord ws ≡ collect namesOfStep ss
+    pub line-names : (ws : List StepWords) (ss : List (LineStep ℕ)) → each (stepGiven t (recs types) lines) ws ≡ got ss
+        → collect namesWord ws ≡ collect namesOfStep ss
     unfolding each collect
     line-names [] ss h = let e : [] ≡ ss = cc in rw (← e)
     line-names (x ∷ ws) ss h =
@@ -301,9 +330,11 @@ used-none types lines s x i h = rw (from-none s i h)
 abbrev pub freshWords : List ℕ → List ℕ → List ℕ → List ℕ → Bool
 freshWords types lines steps names = differ names && all (λ n. not (any (eqb n) (collect (namesWord types lines) (stepsFrom steps 0)))) names
 
-pub fresh-words : (pool table types lines steps names : List ℕ) → Words32 types → (ss : List (LineStep ℕ)) → each (stepGiven (table_of pool table) (recs types) lines) (stepsFrom steps 0) ≡ got ss → freshWords types lines steps names ≡ fresh names ss
+pub fresh-words : (pool table types lines steps names : List ℕ) → Words32 types → (ss : List (LineStep ℕ))
+    → each (stepGiven (table_of pool table) (recs types) lines) (stepsFrom steps 0) ≡ got ss → freshWords types lines steps names ≡ fresh names ss
 unfolding fresh
-fresh-words pool table types lines steps names w ss h = ap (λ (xs : List ℕ). differ names && all (λ n. not (any (eqb n) xs)) names) (line-names types lines pool table w (stepsFrom steps 0) ss h)
+fresh-words pool table types lines steps names w ss h = ap (λ (xs : List ℕ). differ names && all (λ n. not (any (eqb n) xs)) names)
+    (line-names types lines pool table w (stepsFrom steps 0) ss h)
 
 pub past-zero : (xs : List ℕ) (i : ℕ) → length xs ≤ i → 0 ≡ get_or xs i 0
 past-zero [] i h = refl

@@ -38,7 +38,8 @@ compared [] (y ∷ b) = refl
 compared (x ∷ a) [] = refl
 compared (x ∷ a) (y ∷ b) = go (nat_cmp x y) (ordered x y) (compared a b)
   where
-    go : (o : std.Ordering) → toldOrder o ≡ compare x y → toldOrder (slice_cmp nat_cmp a b) ≡ orderBytes a b → toldOrder (ordering_then o (slice_cmp nat_cmp a b)) ≡ then (compare x y) (orderBytes a b)
+    go : (o : std.Ordering) → toldOrder o ≡ compare x y → toldOrder (slice_cmp nat_cmp a b) ≡ orderBytes a b
+        → toldOrder (ordering_then o (slice_cmp nat_cmp a b)) ≡ then (compare x y) (orderBytes a b)
     go Less e h = rw (← e)
     go Equal e h = rw (← e) h
     go Greater e h = rw (← e)

@@ -53,7 +53,8 @@ module _ (pool table : List ℕ) where
   check-table-numbered p h = answer-in p ∙ ap refusalIn h
 
   -- `check_number`
-  pub check-number-determined : (i : ℕ) (p q : Result (Unit {0}) Refusal) → told p ≡ refusalOf (nameAsked pool table i) → told q ≡ refusalOf (nameAsked pool table i) → p ≡ q
+  pub check-number-determined : (i : ℕ) (p q : Result (Unit {0}) Refusal) → told p ≡ refusalOf (nameAsked pool table i)
+      → told q ≡ refusalOf (nameAsked pool table i) → p ≡ q
   check-number-determined i p q h k = told-injective p q (h ∙ sym k)
 
   pub check-number-numbered : (i : ℕ) (p : Result (Unit {0}) Refusal) → told p ≡ refusalOf (nameAsked pool table i)
@@ -62,7 +63,8 @@ module _ (pool table : List ℕ) where
   check-number-numbered i p h = answer-in p ∙ ap refusalIn h ∙ asked_in (nameAsked pool table i)
 
   -- `enter`: the answer, and all that pool and table hold afterwards
-  pub enter-determined : (name : Bytes) (a b : Result (ℕ × Was) Refusal) (p q t u : List ℕ) → entered a p t ≡ enter pool table name → entered b q u ≡ enter pool table name → OneResult a b p q t u
+  pub enter-determined : (name : Bytes) (a b : Result (ℕ × Was) Refusal) (p q t u : List ℕ) → entered a p t ≡ enter pool table name
+      → entered b q u ≡ enter pool table name → OneResult a b p q t u
   enter-determined name a b p q t u h k = entered-tells a b p q t u (h ∙ sym k)
 
   pub enter-numbered : (name : Bytes) (a : Result (ℕ × Was) Refusal) (p t : List ℕ) → entered a p t ≡ enter pool table name
@@ -71,5 +73,6 @@ module _ (pool table : List ℕ) where
   enter-numbered name a p t h = answer-in a ∙ ap (λ (e : Entered). refusalIn e.answer) h
 
 -- `name_of`: the place and the bytes. Its number is that of `check_number`
-pub name-of-determined : (pool : Bor (List ℕ)) (table : List ℕ) (i : ℕ) (p q : Bor (List ℕ)) → IsPart pool p (partAsked pool.now table i) → IsPart pool q (partAsked pool.now table i) → (p.ref_ptr ≡ q.ref_ptr) × (p.now ≡ q.now)
+pub name-of-determined : (pool : Bor (List ℕ)) (table : List ℕ) (i : ℕ) (p q : Bor (List ℕ)) → IsPart pool p (partAsked pool.now table i)
+    → IsPart pool q (partAsked pool.now table i) → (p.ref_ptr ≡ q.ref_ptr) × (p.now ≡ q.now)
 name-of-determined pool table i p q h k = (h.place ∙ sym k.place, h.bytes ∙ sym k.bytes)

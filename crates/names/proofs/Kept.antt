@@ -6,13 +6,68 @@ use Rattle.std.proofs.Math.Logic.{⊎_elim}
 use Rattle.std.proofs.Math.ListN.{length, take, get_or-append}
 use Rattle.std.proofs.lemmas.List.{get_or_at}
 use Rattle.rules.specs.Base.{Got, got, refused, any}
-use Rattle.rules.specs.Names.{Bytes, orderBytes, numbered, sameBytes, table_of, names_of, tableGiven, nameAsked, partFrom, partAsked, Entered, unchanged, enterChecks, enterNew, enter}
+use Rattle.rules.specs.Names.{
+  Bytes,
+  orderBytes,
+  numbered,
+  sameBytes,
+  table_of,
+  names_of,
+  tableGiven,
+  nameAsked,
+  partFrom,
+  partAsked,
+  Entered,
+  unchanged,
+  enterChecks,
+  enterNew,
+  enter,
+}
 use Rattle.rules.specs.declared.Was.{Was}
 use Rattle.rules.specs.declared.Was.TheVariants.{New, Known}
 use Rattle.laws.specs.Order.{self}
 use Rattle.laws.specs.ByteOrder.{bytes-lawful}
-use Rattle.laws.specs.NameTable.{Good, good-laid, good-given, length-names, good-distinct, distinct-same, held_tells, Asked, asked-name, name-asked, search-none, free-is, start_at, part_of, start-in, part_length, name-is, placed, new_is}
-use Rattle.laws.specs.Entering.{Enters, Passed, checks-refuse, pass-checks, Case, stopped, known, full, new, enter-case, count-with, names-with, good-with, pool-behind, table-behind, SameFront, same_answer, same_asked}
+use Rattle.laws.specs.NameTable.{
+  Good,
+  good-laid,
+  good-given,
+  length-names,
+  good-distinct,
+  distinct-same,
+  held_tells,
+  Asked,
+  asked-name,
+  name-asked,
+  search-none,
+  free-is,
+  start_at,
+  part_of,
+  start-in,
+  part_length,
+  name-is,
+  placed,
+  new_is,
+}
+use Rattle.laws.specs.Entering.{
+  Enters,
+  Passed,
+  checks-refuse,
+  pass-checks,
+  Case,
+  stopped,
+  known,
+  full,
+  new,
+  enter-case,
+  count-with,
+  names-with,
+  good-with,
+  pool-behind,
+  table-behind,
+  SameFront,
+  same_answer,
+  same_asked,
+}
 use Rattle.names.specs.Promises.{Unheld, NoRoom, Promises, NumberPromises, FrontDecides, Alike}
 
 -- ══ Numbers ══
@@ -80,7 +135,8 @@ module _ (pool table : List ℕ) (name : Bytes) where
             ∙ ap got (get_or_at (names_of (table_of pool table)) name [] [] (get_or table 0 0) (length-names (good-laid en.good)));
       }
 
-  new-keeps : Enters pool table name → (j : ℕ) (n : Bytes) → nameAsked pool table j ≡ got n → nameAsked (enterNew pool table name).pool (enterNew pool table name).table j ≡ got n
+  new-keeps : Enters pool table name → (j : ℕ) (n : Bytes) → nameAsked pool table j ≡ got n
+      → nameAsked (enterNew pool table name).pool (enterNew pool table name).table j ≡ got n
   new-keeps en j n k =
       let a = asked-name k in
       let l = length-names (good-laid en.good) in
@@ -143,7 +199,8 @@ module _ (pool table : List ℕ) (name : Bytes) where
             newAlways = λ _. sym y.1;
           }
 
-  without-room : enterChecks pool table name ≡ got tt → Unheld pool table name → NoRoom pool table name → enter pool table name ≡ unchanged pool table (refused 3)
+  without-room : enterChecks pool table name ≡ got tt → Unheld pool table name → NoRoom pool table name
+      → enter pool table name ≡ unchanged pool table (refused 3)
   unfolding table_of
   without-room c u r = go (enter-case pool table name)
     where

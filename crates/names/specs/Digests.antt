@@ -30,7 +30,8 @@ pub record Digests (pool table digests : List ℕ) (n : ℕ) : Type 0 where
 pub digests-none : {pool table digests : List ℕ} → 256 ≤ length digests → Digests pool table digests 0
 digests-none h = record { long = h; each = λ j l. absurd (omega arith) }
 
-pub digests-more : {pool table digests : List ℕ} {k : ℕ} (v : ℕ) → k < 256 → v ≡ digestOf (nameIn pool table k) → Digests pool table digests k → Digests pool table (set digests k v) (k + 1)
+pub digests-more : {pool table digests : List ℕ} {k : ℕ} (v : ℕ) → k < 256 → v ≡ digestOf (nameIn pool table k) → Digests pool table digests k
+    → Digests pool table (set digests k v) (k + 1)
 digests-more {pool} {table} {digests} {k} v h e d = record {
   long = simp length-set d.long;
   each = λ j l. at j l (ℕ_discrete j k);

@@ -1,6 +1,7 @@
 -- What entering a name promises. A name without room is refused, never replaced by another.
 -- `nameAsked pool table i ≡ got n` reads: the number i has the name n. `enter pool table name` is the answer, and what pool and table hold
--- afterwards; the contract of the code is an equation with it. The answer is a number with new or known, or a refusal. Each promise is proved in Kept, for every pool, table and name.
+-- afterwards; the contract of the code is an equation with it. The answer is a number with new or known, or a refusal. Each promise is proved in
+-- Kept, for every pool, table and name.
 use Rattle.std.specs.Prelude.{◌≡◌, ◌⊎◌, List, [], ℕ, ◌-◌, ◌≤◌, ◌<◌, length, take, drop, get_or}
 use Prim.Native.Nat.{Ordering}
 use Rattle.rules.specs.Base.{got, refused}
@@ -19,11 +20,14 @@ module _ (pool table : List ℕ) (name : Bytes) where
 
   pub record Promises : Type 0 where
     -- where the answer is a number, pool and table pass every check afterwards,
-    pub wellFormed : (i : ℕ) (w : Was) → (enter pool table name).answer ≡ got (i, w) → tableGiven (enter pool table name).pool (enter pool table name).table ≡ got tt
+    pub wellFormed : (i : ℕ) (w : Was) → (enter pool table name).answer ≡ got (i, w)
+        → tableGiven (enter pool table name).pool (enter pool table name).table ≡ got tt
     -- that number has the entered name,
-    pub named : (i : ℕ) (w : Was) → (enter pool table name).answer ≡ got (i, w) → nameAsked (enter pool table name).pool (enter pool table name).table i ≡ got name
+    pub named : (i : ℕ) (w : Was) → (enter pool table name).answer ≡ got (i, w)
+        → nameAsked (enter pool table name).pool (enter pool table name).table i ≡ got name
     -- and no other
-    pub noOther : (i : ℕ) (w : Was) (n : Bytes) → (enter pool table name).answer ≡ got (i, w) → nameAsked (enter pool table name).pool (enter pool table name).table i ≡ got n → n ≡ name
+    pub noOther : (i : ℕ) (w : Was) (n : Bytes) → (enter pool table name).answer ≡ got (i, w)
+        → nameAsked (enter pool table name).pool (enter pool table name).table i ≡ got n → n ≡ name
     -- every number keeps the name that it had
     pub kept : (j : ℕ) (n : Bytes) → nameAsked pool table j ≡ got n → nameAsked (enter pool table name).pool (enter pool table name).table j ≡ got n
     -- a name that is held gets its number again and is said to be known, also when the table is full, and nothing changes
@@ -36,7 +40,8 @@ module _ (pool table : List ℕ) (name : Bytes) where
     pub newAlways : (i : ℕ) (w : Was) → (enter pool table name).answer ≡ got (i, w) → Unheld → w ≡ New
     -- once it is entered, entering it again says known with the same number, and nothing changes
     pub twice : (i : ℕ) (w : Was) → (enter pool table name).answer ≡ got (i, w)
-        → enter (enter pool table name).pool (enter pool table name).table name ≡ unchanged (enter pool table name).pool (enter pool table name).table (got (i, Known))
+        → enter (enter pool table name).pool (enter pool table name).table name
+        ≡ unchanged (enter pool table name).pool (enter pool table name).table (got (i, Known))
     -- a new name without room is refused with 3,
     pub withoutRoom : enterChecks pool table name ≡ got tt → Unheld → NoRoom → enter pool table name ≡ unchanged pool table (refused 3)
     -- and a 3 means just this
@@ -63,5 +68,6 @@ pub record FrontDecides (pool table pool' table' : List ℕ) : Type 0 where
 -- of two held numbers: the same number, the same name, equal in the order of bytes, all or none
 pub record Alike (pool table : List ℕ) (i j : ℕ) : Type 0 where
   pub toNames : i ≡ j → get_or (names_of (table_of pool table)) i [] ≡ get_or (names_of (table_of pool table)) j []
-  pub toOrder : get_or (names_of (table_of pool table)) i [] ≡ get_or (names_of (table_of pool table)) j [] → (numbersOf (table_of pool table)).order i j ≡ Ordering.eq
+  pub toOrder : get_or (names_of (table_of pool table)) i [] ≡ get_or (names_of (table_of pool table)) j []
+      → (numbersOf (table_of pool table)).order i j ≡ Ordering.eq
   pub toNumbers : (numbersOf (table_of pool table)).order i j ≡ Ordering.eq → i ≡ j

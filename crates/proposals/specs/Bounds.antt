@@ -35,7 +35,8 @@ module _ (pool table s : List ℕ) where
 
   nth-from : (os : List (Open ℕ)) (at i n : ℕ) → Chain (GoodBound pool table 0 s) n os at → at + i < n → Nth (at + i) (get_or (map word_of os) i 0)
   nth-from [] at i n c h = absurd (omega (arith, c))
-  nth-from (o ∷ os) at zero n c h = let z : at ≡ at + 0 = omega arith in record { bound = o; held = subst (HoldsBound s o) z c.1.0.held; is = refl; below = word_below o c.1.0.good }
+  nth-from (o ∷ os) at zero n c h = let z : at ≡ at + 0 = omega arith
+      in record { bound = o; held = subst (HoldsBound s o) z c.1.0.held; is = refl; below = word_below o c.1.0.good }
   nth-from (o ∷ os) at (suc i) n c h =
       let z : c.0 + i ≡ at + suc i = omega (arith, c.1.0.past) in
       subst (λ (k : ℕ). Nth k (get_or (map word_of os) i 0)) z (nth-from os c.0 i n c.1.1 (omega (arith, z)))
@@ -54,7 +55,8 @@ module _ (pool table s : List ℕ) where
 -- ══ Rising ══
 
 module _ (o : ℕ → ℕ → Ordering) where
-  rising_step : (xs : List ℕ) (i : ℕ) → suc i < length xs → rising o (drop i xs) ≡ (is_lt (o (get_or xs i 0) (get_or xs (suc i) 0)) && rising o (drop (suc i) xs))
+  rising_step : (xs : List ℕ) (i : ℕ) → suc i < length xs
+      → rising o (drop i xs) ≡ (is_lt (o (get_or xs i 0) (get_or xs (suc i) 0)) && rising o (drop (suc i) xs))
   unfolding rising
   rising_step xs i h =
       let a : drop i xs ≡ get_or xs i 0 ∷ drop (suc i) xs = drop-cons xs i 0 (omega arith) in
@@ -72,7 +74,8 @@ module _ (o : ℕ → ℕ → Ordering) where
       let z : suc (i - 1) ≡ i = omega arith in
       rising_step xs (i - 1) (omega arith) ∙ rw (z, e)
 
-  pub rise-on : (xs : List ℕ) (i : ℕ) → 1 ≤ i → i < length xs → is_lt (o (get_or xs (i - 1) 0) (get_or xs i 0)) ≡ true → rising o (drop (i - 1) xs) ≡ rising o (drop (i + 1 - 1) xs)
+  pub rise-on : (xs : List ℕ) (i : ℕ) → 1 ≤ i → i < length xs → is_lt (o (get_or xs (i - 1) 0) (get_or xs i 0)) ≡ true
+      → rising o (drop (i - 1) xs) ≡ rising o (drop (i + 1 - 1) xs)
   rise-on xs i p h e =
       let z : suc (i - 1) ≡ i = omega arith in
       let y : i + 1 - 1 ≡ i = omega arith in

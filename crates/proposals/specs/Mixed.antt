@@ -47,13 +47,15 @@ module _ (types : List ℕ) (x w : ℕ) (k : Kind) where
   unbound (some t) xs h e m = absurd (omega (arith, h.word))
 
   -- the variable, then its type
-  pub bound : {e : ℕ} {n : List ℕ} {m : List Bool} (t : Option (Ty ℕ)) (xs : List ℕ) → SaysAt types w t → (w ≡ 0 → ⊥) → ((u : Ty ℕ) → Holds types u (w - 1) → e ≡ w - 1 + size u) → n ≡ choose k (var x ∷ [])
+  pub bound : {e : ℕ} {n : List ℕ} {m : List Bool} (t : Option (Ty ℕ)) (xs : List ℕ) → SaysAt types w t → (w ≡ 0 → ⊥)
+      → ((u : Ty ℕ) → Holds types u (w - 1) → e ≡ w - 1 + size u) → n ≡ choose k (var x ∷ [])
       → Marks m ((xs ++ n) ++ choose k (opensIn types (w - 1) e)) → Marks m (xs ++ choose k (opens_of x t))
   bound {e} t xs h z f q m =
       let (u, (i, held)) = says_some types w t h z in
       let o : opensIn types (w - 1) e ≡ opens u = rw (f u held) (type-opens types u (w - 1) held) in
       rw (i, choose-append k (var x ∷ []) (opens u), ← append_assoc xs, ← q, ← o) m
 
-pub below_on : (k : Kind) (names : List Bytes) (bs : List (Binding ℕ)) (xs : List ℕ) (x : ℕ) → (xs ++ choose k (opensBelow names bs x)) ++ choose k (opens_of x (find (numbered names) bs x)) ≡ xs ++ choose k (opensBelow names bs (x + 1))
+pub below_on : (k : Kind) (names : List Bytes) (bs : List (Binding ℕ)) (xs : List ℕ) (x : ℕ)
+    → (xs ++ choose k (opensBelow names bs x)) ++ choose k (opens_of x (find (numbered names) bs x)) ≡ xs ++ choose k (opensBelow names bs (x + 1))
 unfolding opensBelow
 below_on k names bs xs x = rw (add-one, choose-append k (opensBelow names bs x) (opens_of x (find (numbered names) bs x)), append_assoc)

@@ -85,7 +85,8 @@ module _ (names : List Bytes) where
         test (no l) = le-ltb x n (omega arith) ∙ sym (le-ltb x (suc n) (omega arith))
 
     -- below n, a binding more
-    below_more : (x : ℕ) (t : Ty ℕ) (bs : List (Binding ℕ)) (n : ℕ) → find (numbered names) bs x ≡ none → has (opensBelow names (x ≔ t ∷ bs) n) ≡ ((ltb x n && has (opens_of x (some t))) || has (opensBelow names bs n))
+    below_more : (x : ℕ) (t : Ty ℕ) (bs : List (Binding ℕ)) (n : ℕ) → find (numbered names) bs x ≡ none
+        → has (opensBelow names (x ≔ t ∷ bs) n) ≡ ((ltb x n && has (opens_of x (some t))) || has (opensBelow names bs n))
     unfolding opensBelow
     below_more x t bs zero h = has-nil ∙ sym (rw (le-ltb x 0 (omega arith), has-nil))
     below_more x t bs (suc n) h = go (ℕ_discrete n x) (below_more x t bs n h)
@@ -98,7 +99,10 @@ module _ (names : List Bytes) where
             let i : has (opensBelow names (x ≔ t ∷ bs) n) ≡ has (opensBelow names bs n) = ih ∙ rw (le-ltb x n (omega arith)) in
             let l : has (opensBelow names (x ≔ t ∷ bs) (suc n)) ≡ (has (opensBelow names bs n) || has (opens_of n (some t))) =
             has-append (opensBelow names (x ≔ t ∷ bs) n) (opens_of n (find (numbered names) (x ≔ t ∷ bs) n)) ∙ ap₂ ◌||◌ i (ap (λ m. has (opens_of n m)) a) in
-            let r : has (opensBelow names bs (suc n)) ≡ has (opensBelow names bs n) = has-append (opensBelow names bs n) (opens_of n (find (numbered names) bs n)) ∙ ap (λ m. has (opensBelow names bs n) || has (opens_of n m)) b ∙ ap (has (opensBelow names bs n) ||◌) has-nil ∙ or-false (has (opensBelow names bs n)) in
+            let r : has (opensBelow names bs (suc n)) ≡ has (opensBelow names bs n) =
+            has-append (opensBelow names bs n) (opens_of n (find (numbered names) bs n))
+            ∙ ap (λ m. has (opensBelow names bs n) || has (opens_of n m)) b ∙ ap (has (opensBelow names bs n) ||◌) has-nil
+            ∙ or-false (has (opensBelow names bs n)) in
             l ∙ or_swap (has (opensBelow names bs n)) (has (opens_of n (some t))) ∙ sym (rw (lt-ltb x (suc n) (omega arith), r, p))
         go (no p) ih =
             let a : find (numbered names) (x ≔ t ∷ bs) n ≡ find (numbered names) bs n = find-other x t bs n p in
@@ -109,7 +113,8 @@ module _ (names : List Bytes) where
             ∙ ap (λ b. (ltb x (suc n) && has (opens_of x (some t))) || b) (sym (has-append (opensBelow names bs n) (opens_of n (find (numbered names) bs n))))
 
     -- all of them
-    pub same_names : (bs : List (Binding ℕ)) → differ (map variable bs) ≡ true → ((x : ℕ) (t : Ty ℕ) → find (numbered names) bs x ≡ some t → x < 256) → has (opensBelow names bs 256) ≡ has (collect opensBinding bs)
+    pub same_names : (bs : List (Binding ℕ)) → differ (map variable bs) ≡ true → ((x : ℕ) (t : Ty ℕ) → find (numbered names) bs x ≡ some t → x < 256)
+        → has (opensBelow names bs 256) ≡ has (collect opensBinding bs)
     unfolding differ collect opensBinding opensBelow find
     same_names [] d h = none_below 256
       where
@@ -126,7 +131,8 @@ module _ (names : List Bytes) where
         ∙ sym (has-append (opensBinding (x ≔ t)) (collect opensBinding bs))
 
 -- so the same marks
-pub same-marks : (types places : List ℕ) (names : List Bytes) (bs : List (Binding ℕ)) (k : Kind) (os : List (Open ℕ)) {m : List Bool} → Table types places names bs → Marks m (choose k os ++ choose k (opensBelow names bs 256)) → Marks m (choose k (os ++ collect opensBinding bs))
+pub same-marks : (types places : List ℕ) (names : List Bytes) (bs : List (Binding ℕ)) (k : Kind) (os : List (Open ℕ)) {m : List Bool}
+    → Table types places names bs → Marks m (choose k os ++ choose k (opensBelow names bs 256)) → Marks m (choose k (os ++ collect opensBinding bs))
 unfolding has
 same-marks types places names bs k os h m = record {
   long = m.long;

@@ -38,7 +38,8 @@ front d d' rs room e le =
     }
 
 -- made: these records, or a refusal
-pub made-records : (m : Got (List Rec)) (rs : List Rec) (d d' : List ℕ) (n : ℕ) → m ≡ got rs → 16384 ≤ length d → d' ≡ sets d 0 (words rs) → n ≡ length rs → n ≤ 2048 → Made m d' (Ok n)
+pub made-records : (m : Got (List Rec)) (rs : List Rec) (d d' : List ℕ) (n : ℕ) → m ≡ got rs → 16384 ≤ length d → d' ≡ sets d 0 (words rs)
+    → n ≡ length rs → n ≤ 2048 → Made m d' (Ok n)
 made-records m rs d d' n e room b l le = record {
   answer = rw (e, l);
   front = λ ss i. let z : rs ≡ ss = let k : got rs ≡ got ss = sym e ∙ i in cc in rw (sym z) (front d d' rs room b (omega arith));
@@ -48,7 +49,8 @@ pub made-refused : (m : Got (List Rec)) (k : Refusal) (w : List ℕ) → m ≡ r
 made-refused m k w e = record { answer = sym (rw e); front = λ rs i. clash (sym e ∙ i) }
 
 -- made: these records behind a writer that begins at the start, or a refusal
-pub made-writes : (m : Got (List Rec)) (rs : List Rec) {w w' : Writer} (n : ℕ) → m ≡ got rs → w.at ≡ 0 → 16384 ≤ length w.words.now → Writes w w' rs → n ≡ length rs → n ≤ 2048
+pub made-writes : (m : Got (List Rec)) (rs : List Rec) {w w' : Writer} (n : ℕ) → m ≡ got rs → w.at ≡ 0 → 16384 ≤ length w.words.now → Writes w w' rs
+    → n ≡ length rs → n ≤ 2048
     → Made m w'.words.now (Ok n)
 made-writes m rs {w} {w'} n e z room p l le =
     let b : w'.words.now ≡ sets w.words.now 0 (words rs) =
@@ -87,9 +89,11 @@ module _ (n : ℕ) (bs : List (Open ℕ)) where
         let many : w₃.at ≡ 1 + (size u + length bs) = omega (arith, k, le) in
         let rs : List Rec = writeTy u ++ map writeBound bs in
         let t : Writes w₁ w₂ (writeTy u) = subst (Writes w₁ w₂) (short-ty u (omega (arith, many, le))) p in
-        let l : suc (length rs) ≡ suc (size u + length bs) = omega (arith, length-append (writeTy u) (map writeBound bs), length-map bs writeBound, size-ty u) in
+        let l : suc (length rs) ≡ suc (size u + length bs) = omega
+        (arith, length-append (writeTy u) (map writeBound bs), length-map bs writeBound, size-ty u) in
         let f : fit (suc (length rs)) ≡ suc (size u + length bs) = ap fit l ∙ fits (suc (size u + length bs)) (omega (arith, many, le)) in
-        let all : Writes w w₄ (recOf (view.Scheme n) (fit (suc (length rs))) ∷ rs) = part-writes (view.Scheme n) rs r (writes-then (writeTy u) (map writeBound bs) t q) b in
+        let all : Writes w w₄ (recOf (view.Scheme n) (fit (suc (length rs))) ∷ rs) =
+        part-writes (view.Scheme n) rs r (writes-then (writeTy u) (map writeBound bs) t q) b in
         made-writes (limitedScheme R) (writeScheme (scheme n u bs)) w₃.at
         (rw (e, sized-kept (1 + (size u + length bs)) (depth u) (scheme n u bs) (omega (arith, many, le)) flat)) z room
         (subst (λ (m : ℕ). Writes w w₄ (recOf (view.Scheme n) m ∷ rs)) f all) (omega (arith, many, scheme-length u)) le

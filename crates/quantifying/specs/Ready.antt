@@ -57,7 +57,8 @@ at_in (x ∷ xs) zero h = in_head
 at_in (x ∷ xs) (suc i) h = Memᴰ.tail (at_in xs i (omega arith))
 
 -- the tables that were filled
-pub tables : (pool table names p v : List ℕ) → All (λ x. x < 256) names → length names ≤ 2048 → p ≡ quantPlaces names (replicate 512 0) → v ≡ quantTypes 0 names (replicate 1024 0) → Lent pool table p v (renamed (handed pool table names))
+pub tables : (pool table names p v : List ℕ) → All (λ x. x < 256) names → length names ≤ 2048 → p ≡ quantPlaces names (replicate 512 0)
+    → v ≡ quantTypes 0 names (replicate 1024 0) → Lent pool table p v (renamed (handed pool table names))
 tables pool table names p v small few a b = rw (a, b) (quant-lent pool table names small few)
 
 -- ══ The answers, from what the walk and the bounds left ══
@@ -66,14 +67,16 @@ module _ (pool table names : List ℕ) (all : Bool) (t : Ty ℕ) (bs : List (Ope
   abbrev new : List (Open ℕ)
   new = allBounds all (handed pool table names) bs
 
-  pub type-stopped : {w w' : Writer} {k : Refusal} (d : List ℕ) → Leaves writeTy w w' (Err k) (renamedType pool table names t) → Made (quantifiedAs pool table names all t bs) d (Err k)
+  pub type-stopped : {w w' : Writer} {k : Refusal} (d : List ℕ) → Leaves writeTy w w' (Err k) (renamedType pool table names t)
+      → Made (quantifiedAs pool table names all t bs) d (Err k)
   type-stopped {k = k} d h = made-refused (quantifiedAs pool table names all t bs) k d (rw (stopped h))
 
   module _ (flat : depth t ≤ 64) where
     shallow : (u : Ty ℕ) → renamedType pool table names t ≡ got u → depth u ≤ 64
     shallow u e = omega (arith, renamed-deep (numbersOf (table_of pool table)) bounded (handed pool table names) t u e, flat)
 
-    pub all-long : {w w₁ w₂ w₃ : Writer} {start : ℕ} (d : List ℕ) → w.at ≡ 0 → Reserves w w₁ start → Leaves writeTy w₁ w₂ (Ok tt) (renamedType pool table names t)
+    pub all-long : {w w₁ w₂ w₃ : Writer} {start : ℕ} (d : List ℕ) → w.at ≡ 0 → Reserves w w₁ start
+        → Leaves writeTy w₁ w₂ (Ok tt) (renamedType pool table names t)
         → Writes w₂ w₃ (map writeBound new) → 2048 < w₃.at → Made (quantifiedAs pool table names all t bs) d (Err TooLarge)
     all-long d z r p q h =
         on p (λ u e k.
@@ -81,7 +84,8 @@ module _ (pool table names : List ℕ) (all : Bool) (t : Ty ℕ) (bs : List (Ope
         (omega (arith, h, past (length names) new (renamedType pool table names t) u e (shallow u e) z r k q)))
 
     pub all_made : {w w₁ w₂ w₃ w₄ : Writer} {start : ℕ} → w.at ≡ 0 → 16384 ≤ length w.words.now → Reserves w w₁ start
-        → Leaves writeTy w₁ w₂ (Ok tt) (renamedType pool table names t) → Writes w₂ w₃ (map writeBound new) → w₃.at ≤ 2048 → Begins w₃ w₄ start (view.Scheme (length names))
+        → Leaves writeTy w₁ w₂ (Ok tt) (renamedType pool table names t) → Writes w₂ w₃ (map writeBound new) → w₃.at ≤ 2048
+        → Begins w₃ w₄ start (view.Scheme (length names))
         → Made (quantifiedAs pool table names all t bs) w₄.words.now (Ok w₃.at)
     all_made z room r p q le b =
         on p (λ u e k. made-scheme (length names) new (renamedType pool table names t) u e (shallow u e) z room r k q le b)

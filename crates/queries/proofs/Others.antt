@@ -19,7 +19,8 @@ use Rattle.queries.specs.Scans.{toldOpens, opensView, opensIn}
 use Rattle.queries.specs.ScanLaws.{nil-hit, nil-miss}
 
 -- no open name stands in a record that is no open type, no factor and no binding
-module _ (v : View) (opened : (o : code.Open) → v ≡ view.Opened o → ⊥) (factor : (a : atoms.Atom) (n d : ℕ) → v ≡ view.Factor a n d → ⊥) (binding : (x : ℕ) → v ≡ view.Binding x → ⊥) where
+module _ (v : View) (opened : (o : code.Open) → v ≡ view.Opened o → ⊥) (factor : (a : atoms.Atom) (n d : ℕ) → v ≡ view.Factor a n d → ⊥)
+    (binding : (x : ℕ) → v ≡ view.Binding x → ⊥) where
   others : (u : View) → v ≡ u → opensView u ≡ []
   others (view.Opened o) e = absurd (opened o e)
   others (view.Basic b) e = refl

@@ -8,7 +8,20 @@ use Rattle.rules.specs.Base.{Got, got, refused, ◌>>=◌, ◌>>◌, need, any, 
 use Rattle.rules.specs.Trees.{Ty, opens, size}
 use Rattle.rules.specs.Names.{table_of, names_of, lentTable}
 use Rattle.rules.specs.Contents.{closed, contains, containsName, variables, unmixed, sort, namesIn}
-use Rattle.rules.specs.Calls.{lentResult, typeGiven, numbersGiven, apart, Listed, listing, resultAfter, aloneGiven, typeCall, containsCall, closedCall, variablesCall}
+use Rattle.rules.specs.Calls.{
+  lentResult,
+  typeGiven,
+  numbersGiven,
+  apart,
+  Listed,
+  listing,
+  resultAfter,
+  aloneGiven,
+  typeCall,
+  containsCall,
+  closedCall,
+  variablesCall,
+}
 use Rattle.laws.specs.NameTable.{Good, good-laid}
 use Rattle.laws.specs.Checks.{passed, stopped}
 use Rattle.laws.specs.ReadLists.{Every}
@@ -35,7 +48,9 @@ unfolding listing resultAfter
 lent-short true r m result e = rw e
 lent-short false r m result e = refl
 
-lent-stopped : {A : Type 0} (l r a : Got (Unit {0})) (m : Got A) (f : A → Got (List ℕ)) (n : ℕ) (result : List ℕ) → r ≡ got tt → ((j : ℕ) → l ≡ refused j → a ≡ refused j) → (a >> m >> got (tt {0})) ≡ refused n → listing ((l >> r) >> (a >>= λ _. m >>= f)) result ≡ unlisted n result
+lent-stopped : {A : Type 0} (l r a : Got (Unit {0})) (m : Got A) (f : A → Got (List ℕ)) (n : ℕ) (result : List ℕ) → r ≡ got tt
+    → ((j : ℕ) → l ≡ refused j → a ≡ refused j) → (a >> m >> got (tt {0})) ≡ refused n
+    → listing ((l >> r) >> (a >>= λ _. m >>= f)) result ≡ unlisted n result
 unfolding listing resultAfter
 lent-stopped (got u) r a m f n result e g h = rw (e, stopped a m f n h)
 lent-stopped (refused j) r a m f n result e g h =
@@ -94,17 +109,21 @@ module _ (pool table ws : List ℕ) where
     contains-refused n e = stopped (aloneGiven pool table ws) (typeGiven (table_of pool table) ws) _ n e
 
     module _ (t : Ty ℕ) (k : Typed t) where
-      contains-call : containsCall pool table ws x p ≡ (need (ltb x (get_or table 0 0) && true) 1 >> (need (unmixed (numbers pool table) (opens t)) 4 >> got (containsName (numbers pool table) p x t)))
+      contains-call : containsCall pool table ws x p
+          ≡ (need (ltb x (get_or table 0 0) && true) 1
+          >> (need (unmixed (numbers pool table) (opens t)) 4 >> got (containsName (numbers pool table) p x t)))
       unfolding containsCall numbersGiven apart all table_of
       contains-call = rw (k.alone, k.typed)
 
       pub contains-unheld : ltb x (get_or table 0 0) ≡ false → containsCall pool table ws x p ≡ refused 1
       contains-unheld e = contains-call ∙ rw e
 
-      pub contains-mixed : ltb x (get_or table 0 0) ≡ true → unmixed (numbers pool table) (opensIn ws 0 (length ws / 4)) ≡ false → containsCall pool table ws x p ≡ refused 4
+      pub contains-mixed : ltb x (get_or table 0 0) ≡ true → unmixed (numbers pool table) (opensIn ws 0 (length ws / 4)) ≡ false
+          → containsCall pool table ws x p ≡ refused 4
       contains-mixed e q = let z = rw (typed-opens t k) at q in contains-call ∙ rw (e, z)
 
-      pub contains-said : ltb x (get_or table 0 0) ≡ true → unmixed (numbers pool table) (opensIn ws 0 (length ws / 4)) ≡ true → got (any (eqb x) (choose (kind_of p) (opensIn ws 0 (length ws / 4)))) ≡ containsCall pool table ws x p
+      pub contains-said : ltb x (get_or table 0 0) ≡ true → unmixed (numbers pool table) (opensIn ws 0 (length ws / 4)) ≡ true
+          → got (any (eqb x) (choose (kind_of p) (opensIn ws 0 (length ws / 4)))) ≡ containsCall pool table ws x p
       contains-said e q =
           let z = rw (typed-opens t k) at q in
           rw (typed-opens t k) (ap got (names-said pool table x p t) ∙ sym (contains-call ∙ rw (e, z)))
@@ -137,20 +156,31 @@ module _ (pool table ws : List ℕ) where
     pub variables-refused : (n : ℕ) → 8192 ≤ length result → typeCall pool table ws ≡ refused n → unlisted n result ≡ variablesCall pool table ws p result
     unfolding variablesCall typeCall lentResult aloneGiven
     variables-refused n h e =
-        sym (lent-stopped (lentTable pool table) (lentResult result) (aloneGiven pool table ws) (typeGiven (table_of pool table) ws) _ n result (rw (le-leb 8192 (length result) h)) (λ j q. rw q) e)
+        sym (lent-stopped (lentTable pool table) (lentResult result) (aloneGiven pool table ws) (typeGiven (table_of pool table) ws) _ n result
+        (rw (le-leb 8192 (length result) h)) (λ j q. rw q) e)
 
     module _ (t : Ty ℕ) (k : Typed t) (h : 8192 ≤ length result) where
-      variables-call : variablesCall pool table ws p result ≡ listing (need (unmixed (numbers pool table) (opens t)) 4 >> got (variables (numbers pool table) p t)) result
+      variables-call : variablesCall pool table ws p result
+          ≡ listing (need (unmixed (numbers pool table) (opens t)) 4 >> got (variables (numbers pool table) p t)) result
       unfolding variablesCall lentTable lentResult apart
-      variables-call = rw (le-leb 8192 (length pool) (typed-good t k).bytes, le-leb 257 (length table) (typed-good t k).words, le-leb 8192 (length result) h, k.alone, k.typed)
+      variables-call = rw (
+        le-leb 8192 (length pool) (typed-good t k).bytes,
+        le-leb 257 (length table) (typed-good t k).words,
+        le-leb 8192 (length result) h,
+        k.alone,
+        k.typed,
+      )
 
       pub variables-mixed : unmixed (numbers pool table) (opensIn ws 0 (length ws / 4)) ≡ false → unlisted 4 result ≡ variablesCall pool table ws p result
       unfolding listing resultAfter
       variables-mixed q = let z = rw (typed-opens t k) at q in sym (variables-call ∙ rw z)
 
-      pub variables-said : unmixed (numbers pool table) (opensIn ws 0 (length ws / 4)) ≡ true → (r : ℕ) (after : List ℕ) → Filled (sort (numbers pool table) (choose (kind_of p) (opensIn ws 0 (length ws / 4)))) r result after → record { answer = got r; result = after } ≡ variablesCall pool table ws p result
+      pub variables-said : unmixed (numbers pool table) (opensIn ws 0 (length ws / 4)) ≡ true → (r : ℕ) (after : List ℕ)
+          → Filled (sort (numbers pool table) (choose (kind_of p) (opensIn ws 0 (length ws / 4)))) r result after
+          → record { answer = got r; result = after } ≡ variablesCall pool table ws p result
       unfolding listing resultAfter
       variables-said q r after f =
           let z = rw (typed-opens t k) at q in
-          let s : sort (numbers pool table) (choose (kind_of p) (opensIn ws 0 (length ws / 4))) ≡ variables (numbers pool table) p t = ap (λ os. sort (numbers pool table) (choose (kind_of p) os)) (typed-opens t k) ∙ sym (names-sorted pool table p t) in
+          let s : sort (numbers pool table) (choose (kind_of p) (opensIn ws 0 (length ws / 4))) ≡ variables (numbers pool table) p t =
+          ap (λ os. sort (numbers pool table) (choose (kind_of p) os)) (typed-opens t k) ∙ sym (names-sorted pool table p t) in
           rw (f.many, f.buffer, s) (sym (variables-call ∙ rw z))

@@ -1,6 +1,49 @@
 -- What marks say of the names that they stand for.
-use Rattle.std.specs.Prelude.{◌≡◌, refl, Bool, true, false, not, ◌&&◌, ◌||◌, List, [], ◌∷◌, ◌++◌, ℕ, zero, suc, ◌+◌, ◌<◌, ◌≤◌, eqb, length, get_or, set, drop, replicate}
-use Rattle.std.proofs.Common.{sym, ap, ◌∙◌, append-nil, arith, eqb-true, eq-eqb, ne_eqb, add-one, drop_of_length-le, length-set, drop-cons, get_or-set_same, get_or-set_other, inl, inr, ⊎_elim}
+use Rattle.std.specs.Prelude.{
+  ◌≡◌,
+  refl,
+  Bool,
+  true,
+  false,
+  not,
+  ◌&&◌,
+  ◌||◌,
+  List,
+  [],
+  ◌∷◌,
+  ◌++◌,
+  ℕ,
+  zero,
+  suc,
+  ◌+◌,
+  ◌<◌,
+  ◌≤◌,
+  eqb,
+  length,
+  get_or,
+  set,
+  drop,
+  replicate,
+}
+use Rattle.std.proofs.Common.{
+  sym,
+  ap,
+  ◌∙◌,
+  append-nil,
+  arith,
+  eqb-true,
+  eq-eqb,
+  ne_eqb,
+  add-one,
+  drop_of_length-le,
+  length-set,
+  drop-cons,
+  get_or-set_same,
+  get_or-set_other,
+  inl,
+  inr,
+  ⊎_elim,
+}
 use Rattle.std.proofs.Math.Bool.{or-true, or-false, and-false}
 use Rattle.std.proofs.lemmas.Bool.{eqb-false}
 use Rattle.std.proofs.lemmas.List.{length-replicate, get_or-replicate}
@@ -71,12 +114,18 @@ module _ (m : List Bool) (xs : List ℕ) (k : Marks m xs) where
       go y l true e =
           let q : y ≡ x = eqb-true y x e in
           let i : x < length m = omega (arith, k.long) in
-          ap (λ (z : ℕ). get_or (set m x true) z false) q ∙ get_or-set_same m x true false i ∙ sym (any_last y x xs ∙ ap (any (eqb y) xs ||◌) e ∙ or-true (any (eqb y) xs))
-      go y l false e = get_or-set_other m x y true false (eqb-false y x e) ∙ k.each y l ∙ sym (any_last y x xs ∙ ap (any (eqb y) xs ||◌) e ∙ or-false (any (eqb y) xs))
+          ap (λ (z : ℕ). get_or (set m x true) z false) q ∙ get_or-set_same m x true false i
+          ∙ sym (any_last y x xs ∙ ap (any (eqb y) xs ||◌) e ∙ or-true (any (eqb y) xs))
+      go y l false e = get_or-set_other m x y true false (eqb-false y x e) ∙ k.each y l
+          ∙ sym (any_last y x xs ∙ ap (any (eqb y) xs ||◌) e ∙ or-false (any (eqb y) xs))
 
   -- a name that can't be marked
   pub mark-out : (x : ℕ) → 256 ≤ x → Marks m (xs ++ x ∷ [])
-  mark-out x h = record { long = k.long; each = λ y l. k.each y l ∙ sym (any_last y x xs ∙ ap (any (eqb y) xs ||◌) (ne_eqb y x (λ e. omega arith)) ∙ or-false (any (eqb y) xs)) }
+  mark-out x h = record {
+    long = k.long;
+    each = λ y l. k.each y l
+        ∙ sym (any_last y x xs ∙ ap (any (eqb y) xs ||◌) (ne_eqb y x (λ e. omega arith)) ∙ or-false (any (eqb y) xs));
+  }
 
   pub mark-none : Marks m (xs ++ [])
   mark-none = rw (append-nil xs) k
@@ -84,17 +133,21 @@ module _ (m : List Bool) (xs : List ℕ) (k : Marks m xs) where
 -- ══ Marked in both ══
 
 -- place by place
-disjoint-step : (v p : List Bool) (i : ℕ) → i < length v → i < length p → disjoint (drop i v) (drop i p) ≡ (not (get_or v i false && get_or p i false) && disjoint (drop (i + 1) v) (drop (i + 1) p))
+disjoint-step : (v p : List Bool) (i : ℕ) → i < length v → i < length p
+    → disjoint (drop i v) (drop i p) ≡ (not (get_or v i false && get_or p i false) && disjoint (drop (i + 1) v) (drop (i + 1) p))
 unfolding disjoint
 disjoint-step v p i h k = rw (add-one i, drop-cons v i false h, drop-cons p i false k)
 
-pub both-marked : (v p : List Bool) (i : ℕ) → i < length v → i < length p → get_or v i false ≡ true → get_or p i false ≡ true → disjoint (drop i v) (drop i p) ≡ false
+pub both-marked : (v p : List Bool) (i : ℕ) → i < length v → i < length p → get_or v i false ≡ true → get_or p i false ≡ true
+    → disjoint (drop i v) (drop i p) ≡ false
 both-marked v p i h k e q = disjoint-step v p i h k ∙ rw (e, q) refl
 
-pub first-unmarked : (v p : List Bool) (i : ℕ) → i < length v → i < length p → get_or v i false ≡ false → disjoint (drop i v) (drop i p) ≡ disjoint (drop (i + 1) v) (drop (i + 1) p)
+pub first-unmarked : (v p : List Bool) (i : ℕ) → i < length v → i < length p → get_or v i false ≡ false
+    → disjoint (drop i v) (drop i p) ≡ disjoint (drop (i + 1) v) (drop (i + 1) p)
 first-unmarked v p i h k e = disjoint-step v p i h k ∙ rw e refl
 
-pub second-unmarked : (v p : List Bool) (i : ℕ) → i < length v → i < length p → get_or p i false ≡ false → disjoint (drop i v) (drop i p) ≡ disjoint (drop (i + 1) v) (drop (i + 1) p)
+pub second-unmarked : (v p : List Bool) (i : ℕ) → i < length v → i < length p → get_or p i false ≡ false
+    → disjoint (drop i v) (drop i p) ≡ disjoint (drop (i + 1) v) (drop (i + 1) p)
 second-unmarked v p i h k e =
     disjoint-step v p i h k
     ∙ ap (λ (b : Bool). not b && disjoint (drop (i + 1) v) (drop (i + 1) p)) (ap (get_or v i false &&◌) e ∙ and-false (get_or v i false))
@@ -133,7 +186,8 @@ all-not q xs x e f = go (all q xs) refl
     go true h = let s = any-is (eqb x) xs e in unequal (sym (all-is q xs h s.one s.within) ∙ ap q (sym (eqb-true x s.one s.fits)) ∙ f)
     go false h = h
 
-pub unmixed-marks : (os : List (Open ℕ)) (v p : List Bool) → Marks v (variablesIn os) → Marks p (parametersIn os) → Small os → (names : List Bytes) → disjoint v p ≡ unmixed (numbered names) os
+pub unmixed-marks : (os : List (Open ℕ)) (v p : List Bool) → Marks v (variablesIn os) → Marks p (parametersIn os) → Small os → (names : List Bytes)
+    → disjoint v p ≡ unmixed (numbered names) os
 unfolding unmixed
 unmixed-marks os v p a b h names = go (disjoint v p) refl
   where

@@ -22,7 +22,8 @@ module _ (pool table : List ℕ) (q : ℕ) (s : List ℕ) where
   part : (at n e : ℕ) {os : List (Open ℕ)} → e ≡ at + n → opensFrom s n at ≡ os → (at ≤ e) × (opensIn s at e ≡ os)
   part at n e p h = let z : e - at ≡ n = omega (arith, p) in (omega (arith, p), rw z h)
 
-  chain-known : {A : Type 0} (P : ℕ → A → ℕ → Type 0) (of : A → List (Open ℕ)) → ((at : ℕ) (a : A) (e : ℕ) → P at a e → AllKnown (of a)) → (as' : List A) (at n : ℕ) → Chain P n as' at → AllKnown (collect of as')
+  chain-known : {A : Type 0} (P : ℕ → A → ℕ → Type 0) (of : A → List (Open ℕ)) → ((at : ℕ) (a : A) (e : ℕ) → P at a e → AllKnown (of a))
+      → (as' : List A) (at n : ℕ) → Chain P n as' at → AllKnown (collect of as')
   unfolding collect
   chain-known P of f [] at n c = tt
   chain-known P of f (a ∷ as') at n c = every_append _ (of a) (collect of as') (f at a c.0 c.1.0) (chain-known P of f as' c.0 n c.1.1)
@@ -44,10 +45,12 @@ module _ (pool table : List ℕ) (q : ℕ) (s : List ℕ) where
 
   module _ (bs : List (Binding ℕ)) (at n : ℕ) (c : Chain (GoodBinding pool table q s) n bs at) where
     pub bindings-opens : opensIn s at n ≡ collect opensBinding bs
-    bindings-opens = (chain-opens s (GoodBinding pool table q s) opensBinding (λ at a e g. part at (sizeBinding a) e g.past (binding-opens s a at g.held)) bs at n c).1
+    bindings-opens = (chain-opens s (GoodBinding pool table q s) opensBinding
+        (λ at a e g. part at (sizeBinding a) e g.past (binding-opens s a at g.held)) bs at n c).1
 
     pub bindings-known : AllKnown (collect opensBinding bs)
-    bindings-known = chain-known (GoodBinding pool table q s) opensBinding (λ at a e g. binding-known (numbers pool table) (holding pool table) q a g.good) bs at n c
+    bindings-known = chain-known (GoodBinding pool table q s) opensBinding
+        (λ at a e g. binding-known (numbers pool table) (holding pool table) q a g.good) bs at n c
 
     pub bindings-small : get_or table 0 0 ≤ 256 → Small (opensIn s at n)
     bindings-small l = rw bindings-opens (names-small pool table q (collect opensBinding bs) bindings-known l)

@@ -8,7 +8,40 @@ use native.Mathlib.Omega.{arith}
 use Rattle.rules.specs.Base.{any, collect, isNil}
 use Rattle.rules.specs.Exponents.{frac}
 use Rattle.rules.specs.Trees as tree
-use Rattle.rules.specs.Trees.{◌↑◌, Product, Ty, opened, basic, dim, fn, struct, list, Tys, nil, cons, Fields, noFields, field, Con, equal, isDim, is_scalar, hasField, Binding, ◌≔◌, openOfFactor, opens, opensTys, opensFields, opensCon, size, sizeTys, sizeFields, sizeCon, sizeBinding}
+use Rattle.rules.specs.Trees.{
+  ◌↑◌,
+  Product,
+  Ty,
+  opened,
+  basic,
+  dim,
+  fn,
+  struct,
+  list,
+  Tys,
+  nil,
+  cons,
+  Fields,
+  noFields,
+  field,
+  Con,
+  equal,
+  isDim,
+  is_scalar,
+  hasField,
+  Binding,
+  ◌≔◌,
+  openOfFactor,
+  opens,
+  opensTys,
+  opensFields,
+  opensCon,
+  size,
+  sizeTys,
+  sizeFields,
+  sizeCon,
+  sizeBinding,
+}
 use Rattle.rules.specs.Contents.{variablesIn, parametersIn, namesIn}
 use Rattle.rules.specs.Calls.{opensBinding}
 use Rattle.laws.specs.Contents.{any_append, collect-append}
@@ -65,13 +98,15 @@ module _ (s : List ℕ) where
     pub names-step : (k : Kind) → choose k (opensIn s i e) ≡ choose k (opensView (viewAt s i)) ++ choose k (opensIn s (i + 1) e)
     names-step k = ap (choose k) (opens-step i e h) ∙ choose-append k (opensView (viewAt s i)) (opensIn s (i + 1) e)
 
-    any_step : (k : Kind) (p : ℕ → Bool) → any p (choose k (opensIn s i e)) ≡ (any p (choose k (opensView (viewAt s i))) || any p (choose k (opensIn s (i + 1) e)))
+    any_step : (k : Kind) (p : ℕ → Bool)
+        → any p (choose k (opensIn s i e)) ≡ (any p (choose k (opensView (viewAt s i))) || any p (choose k (opensIn s (i + 1) e)))
     any_step k p = ap (any p) (names-step k) ∙ any_append p (choose k (opensView (viewAt s i))) (choose k (opensIn s (i + 1) e))
 
     pub any-hit : (k : Kind) (p : ℕ → Bool) → any p (choose k (opensView (viewAt s i))) ≡ true → any p (choose k (opensIn s i e)) ≡ true
     any-hit k p q = any_step k p ∙ ap (◌|| any p (choose k (opensIn s (i + 1) e))) q
 
-    pub any-miss : (k : Kind) (p : ℕ → Bool) → any p (choose k (opensView (viewAt s i))) ≡ false → any p (choose k (opensIn s i e)) ≡ any p (choose k (opensIn s (i + 1) e))
+    pub any-miss : (k : Kind) (p : ℕ → Bool) → any p (choose k (opensView (viewAt s i))) ≡ false
+        → any p (choose k (opensIn s i e)) ≡ any p (choose k (opensIn s (i + 1) e))
     any-miss k p q = any_step k p ∙ ap (◌|| any p (choose k (opensIn s (i + 1) e))) q
 
     pub nil-hit : (o : tree.Open ℕ) → o ∷ [] ≡ opensView (viewAt s i) → isNil (opensIn s i e) ≡ false
@@ -107,9 +142,11 @@ module _ (s : List ℕ) where
     ty-opens (opened o) at h = one at 0 h.0 ∙ rw (open-back o)
     ty-opens (basic b) at h = one at 0 h.0
     ty-opens (dim p) at h = product-opens p at h
-    ty-opens (fn ps r) at h = one at (sizeTys ps + size r) h.0 ∙ two (at + 1) (sizeTys ps) (size r) (tys-opens ps (at + 1) h.1) (ty-opens r (at + 1 + sizeTys ps) h.2)
+    ty-opens (fn ps r) at h = one at (sizeTys ps + size r) h.0
+        ∙ two (at + 1) (sizeTys ps) (size r) (tys-opens ps (at + 1) h.1) (ty-opens r (at + 1 + sizeTys ps) h.2)
     ty-opens (struct n as' fs) at h =
-        one at (sizeTys as' + sizeFields fs) h.0 ∙ two (at + 1) (sizeTys as') (sizeFields fs) (tys-opens as' (at + 1) h.1) (fields-opens fs (at + 1 + sizeTys as') h.2)
+        one at (sizeTys as' + sizeFields fs) h.0
+        ∙ two (at + 1) (sizeTys as') (sizeFields fs) (tys-opens as' (at + 1) h.1) (fields-opens fs (at + 1 + sizeTys as') h.2)
     ty-opens (list t) at h = one at (size t) h.0 ∙ ty-opens t (at + 1) h.1
 
     pub tys-opens : (ts : Tys ℕ) (at : ℕ) → HoldsTys s ts at → opensFrom s (sizeTys ts) at ≡ opensTys ts
@@ -137,7 +174,8 @@ module _ (s : List ℕ) where
   binding-opens (x ≔ t) at h = one at (size t) h.0 ∙ ap (tree.var x ∷◌) (ty-opens t (at + 1) h.1)
 
   -- of parts one after another, each from its place to its end
-  module _ {A : Type 0} (P : ℕ → A → ℕ → Type 0) (of : A → List (tree.Open ℕ)) (each : (at : ℕ) (a : A) (e : ℕ) → P at a e → (at ≤ e) × (opensIn s at e ≡ of a)) where
+  module _ {A : Type 0} (P : ℕ → A → ℕ → Type 0) (of : A → List (tree.Open ℕ))
+      (each : (at : ℕ) (a : A) (e : ℕ) → P at a e → (at ≤ e) × (opensIn s at e ≡ of a)) where
     pub chain-opens : (as' : List A) (at n : ℕ) → Chain P n as' at → (at ≤ n) × (opensIn s at n ≡ collect of as')
     unfolding collect
     chain-opens [] at n c = (omega (arith, c), opens-none at n (omega (arith, c)))

@@ -93,7 +93,11 @@ module _ (ν : Names ℕ) (law : Lawful ν.order) (n : ℕ) (tells : Tells (λ x
   taken i l e (Some x) k = go (ν.order i x) refl
     where
       go : (o : Ordering) → ν.order i x ≡ o → Least ν m (i + 1) (firstBy o i x)
-      go Ordering.lt p = (omega arith, e, λ y j q. split i y j (λ z. inl z) (λ z. inr (⊎_elim (λ w. ap (ν.order i) w ∙ p) (λ w. law.trans i x y p w) (k.2 y z q))))
+      go Ordering.lt p = (
+        omega arith,
+        e,
+        λ y j q. split i y j (λ z. inl z) (λ z. inr (⊎_elim (λ w. ap (ν.order i) w ∙ p) (λ w. law.trans i x y p w) (k.2 y z q))),
+      )
       go Ordering.eq p = absurd (let z : i ≡ x = tells.same i x (h.held i l e) (h.held x (omega (arith, k.0)) k.1) p in omega (arith, k.0))
       go Ordering.gt p = (omega (arith, k.0), k.1, λ y j q. split i y j (λ z. inr (ap (ν.order x) z ∙ after law i x p)) (λ z. k.2 y z q))
 
@@ -101,7 +105,8 @@ module _ (ν : Names ℕ) (law : Lawful ν.order) (n : ℕ) (tells : Tells (λ x
 
   pub sort-next : (x : ℕ) → Least ν m 256 (Some x) → sort ν (picked 0 m) ≡ x ∷ sort ν (picked 0 (set m x false))
   sort-next x k =
-      first-sort ν law (λ y. y < n) tells x (picked 0 m) (picked 0 (set m x false)) (picked-held n m h) (picked-held n (set m x false) (held-less n m h x)) (picks m x k.1)
+      first-sort ν law (λ y. y < n) tells x (picked 0 m) (picked 0 (set m x false)) (picked-held n m h)
+      (picked-held n (set m x false) (held-less n m h x)) (picks m x k.1)
       (λ z i. there z (picks_of m z i) (ℕ_discrete z x))
       (λ z i. back z (picks_of (set m x false) z i) (ℕ_discrete z x))
     where
@@ -142,7 +147,14 @@ pub over-put : (xs : List ℕ) (d : List ℕ) (k x : ℕ) → length xs ≡ k �
 unfolding over
 over-put xs d k x e h =
     let q : length (xs ++ x ∷ []) ≡ suc k = length-append xs (x ∷ []) ∙ omega arith in
-    rw (q, e, drop-cons d k 0 h, ← e, set-append_seam xs (get_or d (length xs) 0) (drop (suc (length xs)) d) x, append_assoc xs (x ∷ []) (drop (suc (length xs)) d))
+    rw (
+      q,
+      e,
+      drop-cons d k 0 h,
+      ← e,
+      set-append_seam xs (get_or d (length xs) 0) (drop (suc (length xs)) d) x,
+      append_assoc xs (x ∷ []) (drop (suc (length xs)) d),
+    )
 
 pub over_none : (d : List ℕ) → over [] d ≡ d
 unfolding over
@@ -181,7 +193,8 @@ module _ (ν : Names ℕ) (law : Lawful ν.order) (n : ℕ) (tells : Tells (λ x
       sorting_step h = record {
         held = held-less n left s.held x;
         written = s.written ++ x ∷ [];
-        rest = append_assoc s.written (x ∷ []) (sort ν (picked 0 (set left x false))) ∙ ap (s.written ++◌) (sym (sort-next ν law n tells left s.held x l)) ∙ s.rest;
+        rest = append_assoc s.written (x ∷ []) (sort ν (picked 0 (set left x false)))
+            ∙ ap (s.written ++◌) (sym (sort-next ν law n tells left s.held x l)) ∙ s.rest;
         many = length-append s.written (x ∷ []) ∙ omega (arith, s.many);
         buffer = ap (λ d. set d k x) s.buffer ∙ over-put s.written before k x s.many (omega (arith, sorting-few));
         same = length-set now k x ∙ s.same;

@@ -20,7 +20,8 @@ answer-numbered g p h = answer-in p ∙ ap refusalIn h
 pub record-determined : (r : Rec) → OneRecord r
 record-determined r p q h k = same p.kind q.kind p.a q.a p.b q.b p.c q.c (h ∙ sym k)
   where
-    same : (k k' a a' b b' c c' : ℕ) → rec k a b c ≡ rec k' a' b' c' → ◌≡◌ {A = Words} (record { kind = k; a = a; b = b; c = c }) (record { kind = k'; a = a'; b = b'; c = c' })
+    same : (k k' a a' b b' c c' : ℕ) → rec k a b c ≡ rec k' a' b' c'
+        → ◌≡◌ {A = Words} (record { kind = k; a = a; b = b; c = c }) (record { kind = k'; a = a'; b = b'; c = c' })
     same k k' a a' b b' c c' e =
         let x : k ≡ k' = cc in
         let y : a ≡ a' = cc in

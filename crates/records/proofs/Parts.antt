@@ -18,7 +18,26 @@ use Rattle.records.specs.Holds.{openOf, viewOpen, Holds, BodyCon, BodyBinding}
 use Rattle.records.specs.ByView.{ArmsCon, con-by-body}
 use Rattle.records.specs.Moves.{bound-moves}
 use Rattle.records.specs.Parsed.{only, only-con, only-binding}
-use Rattle.records.specs.Good.{Ends, holding, goodOpen, goodTy, goodCon, GoodDim, GoodTy, PartsProduct, GoodProduct, GoodTwo, PartsCon, GoodCon, PartsBinding, GoodBinding, PartsBound, GoodBound, Chain, Chained}
+use Rattle.records.specs.Good.{
+  Ends,
+  holding,
+  goodOpen,
+  goodTy,
+  goodCon,
+  GoodDim,
+  GoodTy,
+  PartsProduct,
+  GoodProduct,
+  GoodTwo,
+  PartsCon,
+  GoodCon,
+  PartsBinding,
+  GoodBinding,
+  PartsBound,
+  GoodBound,
+  Chain,
+  Chained,
+}
 use Rattle.records.specs.declared.Open as names
 use Rattle.records.specs.declared.View.{View}
 use Rattle.records.specs.declared.View.TheVariants as view
@@ -43,7 +62,8 @@ module _ (pool table : List ℕ) (q : ℕ) (s : List ℕ) where
     pub two-fail : Ends (GoodTy pool table q s 64 at) None → Ends (GoodTwo pool table q s at) None
     two-fail bad (l, r) e g = bad l (at + size l) (record { held = g.left; past = refl; deep = g.deepLeft; good = g.goodLeft })
 
-    pub two-step : (m : ℕ) → Ends (GoodTy pool table q s 64 at) (Some m) → (r : Option ℕ) → Ends (GoodTy pool table q s 64 m) r → Ends (GoodTwo pool table q s at) r
+    pub two-step : (m : ℕ) → Ends (GoodTy pool table q s 64 at) (Some m) → (r : Option ℕ) → Ends (GoodTy pool table q s 64 m) r
+        → Ends (GoodTwo pool table q s at) r
     two-step m (l, f) (Some e) (r, g) = (
       (l, r),
       record {
@@ -136,7 +156,8 @@ module _ (pool table : List ℕ) (q : ℕ) (s : List ℕ) where
 
     -- the views of the kinds that begin no constraint
     -- no kind of constraint
-    module _ (v : View) (equal' : v ≡ view.Equal → ⊥) (dim : v ≡ view.IsDim → ⊥) (scalar : v ≡ view.IsScalar → ⊥) (field : (x : ℕ) → v ≡ view.HasField x → ⊥) where
+    module _ (v : View) (equal' : v ≡ view.Equal → ⊥) (dim : v ≡ view.IsDim → ⊥) (scalar : v ≡ view.IsScalar → ⊥)
+        (field : (x : ℕ) → v ≡ view.HasField x → ⊥) where
       con-others : (u : View) → v ≡ u → ArmsCon s NoCon at u
       con-others (view.Opened o) e = tt
       con-others (view.Basic b) e = tt
@@ -171,15 +192,26 @@ module _ (pool table : List ℕ) (q : ℕ) (s : List ℕ) where
 
       pub binding-name : holding pool table x ≡ false → Ends (PartsBinding pool table q s at) None
       unfolding BodyBinding rules.goodBinding
-      binding-name t (y ≔ u) e g = false-true (sym t ∙ subst (λ (w : ℕ). holding pool table w ≡ true) (same_name y g.held.0) (both_left (holding pool table y) (goodTy pool table q u) g.good))
+      binding-name t (y ≔ u) e g = false-true
+          (sym t ∙ subst (λ (w : ℕ). holding pool table w ≡ true) (same_name y g.held.0)
+          (both_left (holding pool table y) (goodTy pool table q u) g.good))
 
       binding-none : ((t : Ty ℕ) (e : ℕ) → GoodTy pool table q s 64 (at + 1) t e → ⊥) → Ends (PartsBinding pool table q s at) None
       unfolding BodyBinding depthBinding rules.goodBinding
-      binding-none bad (y ≔ u) e g = bad u (at + 1 + size u) (record { held = g.held.1; past = refl; deep = g.deep; good = both_right (holding pool table y) (goodTy pool table q u) g.good })
+      binding-none bad (y ≔ u) e g = bad u (at + 1 + size u)
+          (record { held = g.held.1; past = refl; deep = g.deep; good = both_right (holding pool table y) (goodTy pool table q u) g.good })
 
       pub binding-type : holding pool table x ≡ true → (r : Option ℕ) → Ends (GoodTy pool table q s 64 (at + 1)) r → Ends (PartsBinding pool table q s at) r
       unfolding BodyBinding sizeBinding depthBinding rules.goodBinding
-      binding-type t (Some e) (u, g) = (x ≔ u, record { held = (v, g.held); past = omega (arith, g.past); deep = g.deep; good = both (holding pool table x) (goodTy pool table q u) t g.good })
+      binding-type t (Some e) (u, g) = (
+        x ≔ u,
+        record {
+          held = (v, g.held);
+          past = omega (arith, g.past);
+          deep = g.deep;
+          good = both (holding pool table x) (goodTy pool table q u) t g.good;
+        },
+      )
       binding-type t None bad = binding-none bad
 
     pub bound-other : ((o : names.Open) → viewAt s at ≡ view.Bound o → ⊥) → Ends (PartsBound pool table q s at) None
@@ -235,7 +267,8 @@ module _ (pool table : List ℕ) (q : ℕ) (s : List ℕ) where
   bounds-stop at None h e i = chain-fail (GoodBound pool table q s) (length s / 4) at h e
   bounds-stop at (Some m) h e i = false-true (sym i)
 
-  pub bounds-on : (at : ℕ) (r : Option ℕ) → at < length s / 4 → Ends (GoodBound pool table q s at) r → is_some r ≡ true → (b : Bool) → Bounds (at + 1) b → Bounds at b
+  pub bounds-on : (at : ℕ) (r : Option ℕ) → at < length s / 4 → Ends (GoodBound pool table q s at) r → is_some r ≡ true → (b : Bool)
+      → Bounds (at + 1) b → Bounds at b
   bounds-on at None h e i b c = false-true i
   bounds-on at (Some m) h e i b c =
       chain-step (GoodBound pool table q s) (length s / 4) at (one-bound pool table q s at) m h e b (subst (λ (k : ℕ). Bounds k b) (sym e.1.past) c)
@@ -245,7 +278,8 @@ module _ (pool table : List ℕ) (q : ℕ) (s : List ℕ) where
   past-none from h [] c = omega arith
   past-none from h (o ∷ os) c = let m = bound-moves pool table q s from o c.0 c.1.0 in omega (arith, m.0, m.1)
 
-  pub bounds-end : (from at : ℕ) → (from ≤ length s / 4 → at ≤ length s / 4) → length s / 4 ≤ at → ((b : Bool) → Bounds at b → Bounds from b) → Bounds from (leb from (length s / 4))
+  pub bounds-end : (from at : ℕ) → (from ≤ length s / 4 → at ≤ length s / 4) → length s / 4 ≤ at → ((b : Bool) → Bounds at b → Bounds from b)
+      → Bounds from (leb from (length s / 4))
   bounds-end from at within past h = go (leb from (length s / 4)) refl
     where
       go : (b : Bool) → leb from (length s / 4) ≡ b → Bounds from b

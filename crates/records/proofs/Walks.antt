@@ -11,7 +11,33 @@ use lib.ListN.{length}
 use Rattle.rules.specs.Base.{all}
 use Rattle.rules.specs.Exponents.{Exp, frac, goodStored}
 use Rattle.rules.specs.Trees as tree
-use Rattle.rules.specs.Trees.{Factor, ◌↑◌, Product, Ty, opened, basic, dim, fn, struct, list, Tys, nil, cons, Fields, noFields, field, size, sizeTys, sizeFields, depth, depthTys, depthFields, count, countFields, orderAtom}
+use Rattle.rules.specs.Trees.{
+  Factor,
+  ◌↑◌,
+  Product,
+  Ty,
+  opened,
+  basic,
+  dim,
+  fn,
+  struct,
+  list,
+  Tys,
+  nil,
+  cons,
+  Fields,
+  noFields,
+  field,
+  size,
+  sizeTys,
+  sizeFields,
+  depth,
+  depthTys,
+  depthFields,
+  count,
+  countFields,
+  orderAtom,
+}
 use Rattle.rules.specs.Writing.{twos, signed}
 use Rattle.rules.specs.WellFormed as rules
 use Rattle.rules.specs.WellFormed.{rising, fieldNames}
@@ -21,7 +47,28 @@ use Rattle.records.specs.Views.{viewAt, longAt}
 use Rattle.records.specs.Holds.{openOf, viewOpen, atomOf, viewAtom, basicOf, viewBasic, Long, HoldsFactor, HoldsFactors, Holds, HoldsTys, HoldsFields, Body}
 use Rattle.records.specs.ByView.{Arms, by-body, factor-by-view}
 use Rattle.records.specs.Parsed.{only, only-tys}
-use Rattle.records.specs.Good.{Ends, numbers, holding, follows, risingFrom, atomFollows, atomsFrom, goodOpen, goodAtom, goodFactors, goodTy, goodTys, goodFields, GoodFactors, GoodDim, PartsTy, GoodTy, GoodTys, GoodField, GoodFields}
+use Rattle.records.specs.Good.{
+  Ends,
+  numbers,
+  holding,
+  follows,
+  risingFrom,
+  atomFollows,
+  atomsFrom,
+  goodOpen,
+  goodAtom,
+  goodFactors,
+  goodTy,
+  goodTys,
+  goodFields,
+  GoodFactors,
+  GoodDim,
+  PartsTy,
+  GoodTy,
+  GoodTys,
+  GoodField,
+  GoodFields,
+}
 use Rattle.records.specs.declared.Atom as atoms
 use Rattle.records.specs.declared.Open as names
 use Rattle.records.specs.declared.Basic as basics
@@ -79,7 +126,8 @@ module _ (pool table : List ℕ) where
   rises-name None x xs = refl
   rises-name (Some y) x xs = refl
 
-  rises-atom : (l : Option atoms.Atom) (a : atoms.Atom) (as' : List (tree.Atom ℕ)) → atomsFrom pool table l (atomOf a ∷ as') ≡ (atomFollows pool table l (atomOf a) && atomsFrom pool table (Some a) as')
+  rises-atom : (l : Option atoms.Atom) (a : atoms.Atom) (as' : List (tree.Atom ℕ))
+      → atomsFrom pool table l (atomOf a ∷ as') ≡ (atomFollows pool table l (atomOf a) && atomsFrom pool table (Some a) as')
   unfolding rising
   rises-atom None a as' = refl
   rises-atom (Some b) a as' = refl
@@ -94,7 +142,8 @@ module _ (pool table : List ℕ) where
   no-atoms None = refl
   no-atoms (Some b) = refl
 
-  factor-good : (q : ℕ) (a : tree.Atom ℕ) (e : Exp) → rules.goodFactor (numbers pool table) (holding pool table) q (a ↑ e) ≡ (goodAtom pool table q a && goodStored e)
+  factor-good : (q : ℕ) (a : tree.Atom ℕ) (e : Exp)
+      → rules.goodFactor (numbers pool table) (holding pool table) q (a ↑ e) ≡ (goodAtom pool table q a && goodStored e)
   unfolding rules.goodFactor
   factor-good q (tree.free o) e = refl
   factor-good q (tree.base x) e = refl
@@ -149,13 +198,20 @@ module _ (pool table : List ℕ) where
             let G : Factor ℕ → Bool = rules.goodFactor (numbers pool table) (holding pool table) q in
             let k : (G x && goodFactors pool table q p) ≡ true = subst (λ (y : Factor ℕ). (G y && goodFactors pool table q p) ≡ true) i g.good in
             let u : (A && S) ≡ true = sym (factor-good q (atomOf a) (frac (signed num) den)) ∙ both_left (G x) (goodFactors pool table q p) k in
-            let w : atomsFrom pool table l (atomOf a ∷ map rules.atomOf p) ≡ true = subst (λ (y : Factor ℕ). atomsFrom pool table l (rules.atomOf y ∷ map rules.atomOf p) ≡ true) i g.rises in
+            let w : atomsFrom pool table l (atomOf a ∷ map rules.atomOf p) ≡ true =
+            subst (λ (y : Factor ℕ). atomsFrom pool table l (rules.atomOf y ∷ map rules.atomOf p) ≡ true) i g.rises in
             let R : Bool = atomsFrom pool table (Some a) (map rules.atomOf p) in
             let y : (F && R) ≡ true = sym (rises-atom l a (map rules.atomOf p)) ∙ w in
             let many : suc (length p) ≡ n = g.many in
             record {
               test = both L Fine (eq-eqb (longAt s at) 1 (factor-long f at g.held.0)) (both (A && S) F u (both_left F R y));
-              rest = record { held = g.held.1; many = omega arith; past = omega (arith, g.past); good = both_right (G x) (goodFactors pool table q p) k; rises = both_right F R y };
+              rest = record {
+                held = g.held.1;
+                many = omega arith;
+                past = omega (arith, g.past);
+                good = both_right (G x) (goodFactors pool table q p) k;
+                rises = both_right F R y;
+              };
             }
 
         pub factors-fail : Test ≡ false → Factors None
@@ -190,19 +246,34 @@ module _ (pool table : List ℕ) where
     pub dim-many : (at n : ℕ) → 64 < n → Ends (GoodDim pool table q s at n) None
     unfolding rules.goodProduct
     dim-many at n h p e g =
-        let k : leb (length p) 64 ≡ true = both_right (goodFactors pool table q p && rising (orderAtom (numbers pool table)) (map rules.atomOf p)) (leb (length p) 64) g.good in
+        let k : leb (length p) 64 ≡ true = both_right (goodFactors pool table q p && rising (orderAtom (numbers pool table)) (map rules.atomOf p))
+        (leb (length p) 64) g.good in
         omega (arith, leb-true (length p) 64 k, g.many)
 
     pub dim-few : (at n : ℕ) → n ≤ 64 → (r : Option ℕ) → Ends (GoodFactors pool table q s at n None) r → Ends (GoodDim pool table q s at n) r
     unfolding rules.goodProduct
     dim-few at n h (Some e) (p, g) =
         let R : Bool = rising (orderAtom (numbers pool table)) (map rules.atomOf p) in
-        let k : length p ≤ 64 = omega (arith, g.many) in
-        (p, record { held = g.held; many = g.many; past = g.past; good = both (goodFactors pool table q p && R) (leb (length p) 64) (both (goodFactors pool table q p) R g.good g.rises) (le-leb (length p) 64 k) })
+        let k : length p ≤ 64 = omega (arith, g.many) in (
+          p,
+          record {
+            held = g.held;
+            many = g.many;
+            past = g.past;
+            good = both (goodFactors pool table q p && R) (leb (length p) 64) (both (goodFactors pool table q p) R g.good g.rises)
+                (le-leb (length p) 64 k);
+          },
+        )
     dim-few at n h None bad = λ p e g.
         let R : Bool = rising (orderAtom (numbers pool table)) (map rules.atomOf p) in
         let k : (goodFactors pool table q p && R) ≡ true = both_left (goodFactors pool table q p && R) (leb (length p) 64) g.good in
-        bad p e (record { held = g.held; many = g.many; past = g.past; good = both_left (goodFactors pool table q p) R k; rises = both_right (goodFactors pool table q p) R k })
+        bad p e (record {
+          held = g.held;
+          many = g.many;
+          past = g.past;
+          good = both_left (goodFactors pool table q p) R k;
+          rises = both_right (goodFactors pool table q p) R k;
+        })
 
     -- ══ Lists of types ══
 
@@ -218,10 +289,16 @@ module _ (pool table : List ℕ) where
       unfolding Holds rules.goodTy sizeTys depthTys count
       types-fail z bad nil e g = z (sym g.many)
       types-fail z bad (cons t ts) e g =
-          bad t (at + size t) (record { held = g.held.0; past = refl; deep = omega (arith, g.deep); good = both_left (goodTy pool table q t) (goodTys pool table q ts) g.good })
+          bad t (at + size t) (record {
+            held = g.held.0;
+            past = refl;
+            deep = omega (arith, g.deep);
+            good = both_left (goodTy pool table q t) (goodTys pool table q ts) g.good;
+          })
 
       -- what is left of a list whose first type is t
-      types-left : (m : ℕ) (t : Ty ℕ) → GoodTy pool table q s d at t m → ((n ≡ 0) → ⊥) → ((ts : Tys ℕ) (e : ℕ) → GoodTys pool table q s d m (n - 1) ts e → ⊥) → Types None
+      types-left : (m : ℕ) (t : Ty ℕ) → GoodTy pool table q s d at t m → ((n ≡ 0) → ⊥)
+          → ((ts : Tys ℕ) (e : ℕ) → GoodTys pool table q s d m (n - 1) ts e → ⊥) → Types None
       unfolding Holds rules.goodTy sizeTys depthTys count
       types-left m t h z bad nil e g = z (sym g.many)
       types-left m t h z bad (cons u ts) e g =
@@ -236,7 +313,8 @@ module _ (pool table : List ℕ) where
             good = both_right (goodTy pool table q u) (goodTys pool table q ts) g.good;
           })
 
-      pub types-step : (m : ℕ) → ((n ≡ 0) → ⊥) → Ends (GoodTy pool table q s d at) (Some m) → (r : Option ℕ) → Ends (GoodTys pool table q s d m (n - 1)) r → Types r
+      pub types-step : (m : ℕ) → ((n ≡ 0) → ⊥) → Ends (GoodTy pool table q s d at) (Some m) → (r : Option ℕ)
+          → Ends (GoodTys pool table q s d m (n - 1)) r → Types r
       unfolding Holds rules.goodTy sizeTys depthTys count
       types-step m z (t, h) (Some e) (ts, g) = (
         cons t ts,
@@ -313,7 +391,8 @@ module _ (pool table : List ℕ) where
         fields-type bad noFields e g = z (sym g.many)
         fields-type bad (field y u fs) e g = bad u (at + 1 + size u) (apart-field y u fs e g).type
 
-        fields-left : (m : ℕ) (t : Ty ℕ) → GoodField pool table q s d at t m → ((fs : Fields ℕ) (e : ℕ) → GoodFields pool table q s d m (n - 1) (Some x) fs e → ⊥) → Fields' None
+        fields-left : (m : ℕ) (t : Ty ℕ) → GoodField pool table q s d at t m
+            → ((fs : Fields ℕ) (e : ℕ) → GoodFields pool table q s d m (n - 1) (Some x) fs e → ⊥) → Fields' None
         unfolding countFields
         fields-left m t h bad noFields e g = z (sym g.many)
         fields-left m t h bad (field y u fs) e g =
@@ -322,7 +401,8 @@ module _ (pool table : List ℕ) where
             let k : at + 1 + size u ≡ m = omega (arith, h.type.past) in
             bad fs e (subst (λ (w : ℕ). GoodFields pool table q s d w (n - 1) (Some x) fs e) k a.rest)
 
-        pub fields-step : (m : ℕ) → (H && W) ≡ true → Ends (GoodField pool table q s d at) (Some m) → (r : Option ℕ) → Ends (GoodFields pool table q s d m (n - 1) (Some x)) r → Fields' r
+        pub fields-step : (m : ℕ) → (H && W) ≡ true → Ends (GoodField pool table q s d at) (Some m) → (r : Option ℕ)
+            → Ends (GoodFields pool table q s d m (n - 1) (Some x)) r → Fields' r
         unfolding Holds rules.goodTy sizeFields depthFields countFields
         fields-step m t (u, h) (Some e) (fs, g) =
             let T' : Bool = goodTy pool table q u in
@@ -392,16 +472,24 @@ module _ (pool table : List ℕ) where
         pub type-fn-fail : (n : ℕ) → viewAt s at ≡ view.Function n → Ends (GoodTys pool table q s (d - 1) (at + 1) n) None → Type' None
         unfolding depth rules.goodTy
         type-fn-fail n v bad = type-none v (λ ps r m h i k g.
-            bad ps (at + 1 + sizeTys ps) (record { held = h; many = m; past = refl; deep = omega arith; good = both_left (goodTys pool table q ps) (goodTy pool table q r) g }))
+            bad ps (at + 1 + sizeTys ps) (record
+            { held = h; many = m; past = refl; deep = omega arith; good = both_left (goodTys pool table q ps) (goodTy pool table q r) g }))
 
-        fn-left : (n m : ℕ) (ps : Tys ℕ) → viewAt s at ≡ view.Function n → GoodTys pool table q s (d - 1) (at + 1) n ps m → ((t : Ty ℕ) (e : ℕ) → GoodTy pool table q s (d - 1) m t e → ⊥) → Type' None
+        fn-left : (n m : ℕ) (ps : Tys ℕ) → viewAt s at ≡ view.Function n → GoodTys pool table q s (d - 1) (at + 1) n ps m
+            → ((t : Ty ℕ) (e : ℕ) → GoodTy pool table q s (d - 1) m t e → ⊥) → Type' None
         unfolding depth rules.goodTy
         fn-left n m ps v f bad = type-none v (λ qs r c h i k g.
             let j : sizeTys qs ≡ sizeTys ps = ap sizeTys (only-tys s qs ps (at + 1) (c ∙ sym f.many) h f.held) in
             let l : at + 1 + sizeTys qs ≡ m = omega (arith, f.past) in
-            bad r (m + size r) (record { held = subst (Holds s r) l i; past = refl; deep = omega arith; good = both_right (goodTys pool table q qs) (goodTy pool table q r) g }))
+            bad r (m + size r) (record {
+              held = subst (Holds s r) l i;
+              past = refl;
+              deep = omega arith;
+              good = both_right (goodTys pool table q qs) (goodTy pool table q r) g;
+            }))
 
-        pub type-fn : (n m : ℕ) → viewAt s at ≡ view.Function n → Ends (GoodTys pool table q s (d - 1) (at + 1) n) (Some m) → (r : Option ℕ) → Ends (GoodTy pool table q s (d - 1) m) r → Type' r
+        pub type-fn : (n m : ℕ) → viewAt s at ≡ view.Function n → Ends (GoodTys pool table q s (d - 1) (at + 1) n) (Some m) → (r : Option ℕ)
+            → Ends (GoodTy pool table q s (d - 1) m) r → Type' r
         unfolding Body size depth rules.goodTy
         type-fn n m v (ps, f) (Some e) (t, g) = (
           fn ps t,
@@ -441,14 +529,23 @@ module _ (pool table : List ℕ) where
           type-struct-fail bad = type-none v (λ as' fs i j h k m g.
               bad as' (at + 1 + sizeTys as') (record { held = h; many = i; past = refl; deep = omega arith; good = (parts as' fs g).args }))
 
-          struct_left : (m : ℕ) (as' : Tys ℕ) → GoodTys pool table q s (d - 1) (at + 1) n as' m → ((fs : Fields ℕ) (e : ℕ) → GoodFields pool table q s (d - 1) m c None fs e → ⊥) → Type' None
+          struct_left : (m : ℕ) (as' : Tys ℕ) → GoodTys pool table q s (d - 1) (at + 1) n as' m
+              → ((fs : Fields ℕ) (e : ℕ) → GoodFields pool table q s (d - 1) m c None fs e → ⊥) → Type' None
           unfolding depth
           struct_left m as' f bad = type-none v (λ bs fs i j h k l g.
               let y : sizeTys bs ≡ sizeTys as' = ap sizeTys (only-tys s bs as' (at + 1) (i ∙ sym f.many) h f.held) in
               let w : at + 1 + sizeTys bs ≡ m = omega (arith, f.past) in
-              bad fs (m + sizeFields fs) (record { held = subst (HoldsFields s fs) w k; many = j; past = refl; deep = omega arith; good = (parts bs fs g).fields; rises = (parts bs fs g).rises }))
+              bad fs (m + sizeFields fs) (record {
+                held = subst (HoldsFields s fs) w k;
+                many = j;
+                past = refl;
+                deep = omega arith;
+                good = (parts bs fs g).fields;
+                rises = (parts bs fs g).rises;
+              }))
 
-          pub type-struct : (m : ℕ) → holding pool table x ≡ true → Ends (GoodTys pool table q s (d - 1) (at + 1) n) (Some m) → (r : Option ℕ) → Ends (GoodFields pool table q s (d - 1) m c None) r → Type' r
+          pub type-struct : (m : ℕ) → holding pool table x ≡ true → Ends (GoodTys pool table q s (d - 1) (at + 1) n) (Some m) → (r : Option ℕ)
+              → Ends (GoodFields pool table q s (d - 1) m c None) r → Type' r
           unfolding Body size depth rules.goodTy
           type-struct m t (as', f) (Some e) (fs, g) =
               let H : Bool = holding pool table x in
@@ -465,7 +562,8 @@ module _ (pool table : List ℕ) where
           type-struct m t (as', f) None bad = struct_left m as' f bad
 
         -- no kind of type
-        module _ (v : View) (opened' : (o : names.Open) → v ≡ view.Opened o → ⊥) (basic' : (b : basics.Basic) → v ≡ view.Basic b → ⊥) (dim' : (n : ℕ) → v ≡ view.Dim n → ⊥)
+        module _ (v : View) (opened' : (o : names.Open) → v ≡ view.Opened o → ⊥) (basic' : (b : basics.Basic) → v ≡ view.Basic b → ⊥)
+            (dim' : (n : ℕ) → v ≡ view.Dim n → ⊥)
             (function : (n : ℕ) → v ≡ view.Function n → ⊥) (struct' : (x n m : ℕ) → v ≡ view.Struct x n m → ⊥) (list' : v ≡ view.List → ⊥) where
           others : (u : View) → v ≡ u → Arms s No at u
           others (view.Opened o) e = absurd (opened' o e)

@@ -7,11 +7,63 @@ use native.Mathlib.Omega.{arith}
 use Rattle.std.proofs.Math.ListN.{length}
 use Rattle.rules.specs.Exponents.{frac}
 use Rattle.rules.specs.Trees as tree
-use Rattle.rules.specs.Trees.{Factor, ◌↑◌, Product, Ty, opened, basic, dim, fn, struct, list, Tys, nil, cons, Fields, noFields, field, Con, equal, isDim, is_scalar, hasField, Binding, ◌≔◌, size, sizeTys, sizeFields, sizeCon, sizeBinding, count, countFields}
+use Rattle.rules.specs.Trees.{
+  Factor,
+  ◌↑◌,
+  Product,
+  Ty,
+  opened,
+  basic,
+  dim,
+  fn,
+  struct,
+  list,
+  Tys,
+  nil,
+  cons,
+  Fields,
+  noFields,
+  field,
+  Con,
+  equal,
+  isDim,
+  is_scalar,
+  hasField,
+  Binding,
+  ◌≔◌,
+  size,
+  sizeTys,
+  sizeFields,
+  sizeCon,
+  sizeBinding,
+  count,
+  countFields,
+}
 use Rattle.rules.specs.Writing.{twos, signed}
 use Rattle.records.specs.Views.{viewAt}
 use Rattle.records.specs.Places.{seen-in}
-use Rattle.records.specs.Holds.{openOf, viewOpen, atomOf, viewAtom, basicOf, viewBasic, HoldsFactor, HoldsFactors, HoldsProduct, Holds, HoldsTys, HoldsFields, HoldsCon, HoldsBinding, Body, BodyCon, BodyBinding, holds-body, con-body, binding-body}
+use Rattle.records.specs.Holds.{
+  openOf,
+  viewOpen,
+  atomOf,
+  viewAtom,
+  basicOf,
+  viewBasic,
+  HoldsFactor,
+  HoldsFactors,
+  HoldsProduct,
+  Holds,
+  HoldsTys,
+  HoldsFields,
+  HoldsCon,
+  HoldsBinding,
+  Body,
+  BodyCon,
+  BodyBinding,
+  holds-body,
+  con-body,
+  binding-body,
+}
 use Rattle.records.specs.declared.View.{View}
 use Rattle.records.specs.declared.View.TheVariants as view
 
@@ -46,7 +98,8 @@ module _ (s : List ℕ) where
   Arms P at (view.Basic b) = P (basic (basicOf b))
   Arms P at (view.Dim n) = (p : Product ℕ) → length p ≡ n → HoldsFactors s p (at + 1) → P (dim p)
   Arms P at (view.Function n) = (ps : Tys ℕ) (r : Ty ℕ) → count ps ≡ n → HoldsTys s ps (at + 1) → Holds s r (at + 1 + sizeTys ps) → P (fn ps r)
-  Arms P at (view.Struct x n m) = (as' : Tys ℕ) (fs : Fields ℕ) → count as' ≡ n → countFields fs ≡ m → HoldsTys s as' (at + 1) → HoldsFields s fs (at + 1 + sizeTys as') → P (struct x as' fs)
+  Arms P at (view.Struct x n m) = (as' : Tys ℕ) (fs : Fields ℕ) → count as' ≡ n → countFields fs ≡ m → HoldsTys s as' (at + 1)
+      → HoldsFields s fs (at + 1 + sizeTys as') → P (struct x as' fs)
   Arms P at view.List = (t : Ty ℕ) → Holds s t (at + 1) → P (list t)
   Arms P at (view.Field x) = Unit {0}
   Arms P at (view.Factor f n d) = Unit {0}

@@ -9,7 +9,25 @@ use Rattle.rules.specs.Schemes.{Scheme, concrete, scheme}
 use Rattle.records.specs.Views.{longAt}
 use Rattle.records.specs.Holds.{Long, HoldsProduct, holds-long, holds-body, body-holds, con-long, con-body, body-con, binding-long, binding-body, body-binding}
 use Rattle.records.specs.Parsed.{only, only-body, only-con-body, only-binding-body}
-use Rattle.records.specs.Good.{Ends, endIf, closedAt, GoodTy, PartsTy, GoodField, GoodProduct, PartsProduct, GoodCon, PartsCon, GoodBinding, PartsBinding, GoodBound, PartsBound, There, PartsScheme, GoodScheme}
+use Rattle.records.specs.Good.{
+  Ends,
+  endIf,
+  closedAt,
+  GoodTy,
+  PartsTy,
+  GoodField,
+  GoodProduct,
+  PartsProduct,
+  GoodCon,
+  PartsCon,
+  GoodBinding,
+  PartsBinding,
+  GoodBound,
+  PartsBound,
+  There,
+  PartsScheme,
+  GoodScheme,
+}
 use Rattle.records.specs.declared.View.TheVariants as view
 
 -- P is G but for the length
@@ -47,7 +65,8 @@ module _ (pool table : List ℕ) (q : ℕ) (s : List ℕ) where
       (λ t e p l. record { held = (p.shows, p.held, omega (arith, l, p.past)); past = p.past; good = p.good })
       (λ t e g. record { shows = g.held.0; held = g.held.1; past = g.past; good = g.good })
       (λ t e g. omega (arith, g.held.2, g.past))
-      (λ t u e f p r. let z : view.Dim (length t) ≡ view.Dim (length u) = sym p.shows ∙ r.shows in let n : length t ≡ length u = cc in omega (arith, p.past, r.past))
+      (λ t u e f p r. let z : view.Dim (length t) ≡ view.Dim (length u) = sym p.shows ∙ r.shows in let n : length t ≡ length u = cc
+      in omega (arith, p.past, r.past))
 
   pub con-closing : (at : ℕ) (r : Option ℕ) → Ends (PartsCon pool table q s at) r → Ends (GoodCon pool table q s at) (closedAt s at r)
   con-closing at = closing s at (PartsCon pool table q s at) (GoodCon pool table q s at)

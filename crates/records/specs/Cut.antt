@@ -5,7 +5,43 @@ use Rattle.std.proofs.lemmas.Bool.{lt-leb}
 use Rattle.rules.specs.Writing.{Rec, rec, head, kindIn, lengthIn, writeFactor, writeProduct, writeTy, writeTys, writeFields, writeCon, writeBinding}
 use Rattle.rules.specs.Base.{collect, sum_of}
 use Rattle.rules.specs.Exponents.{frac}
-use Rattle.rules.specs.Trees.{var, quant, par, free, base, boolean, string, datetime, ◌↑◌, Product, Ty, opened, basic, dim, fn, struct, list, Tys, nil, cons, Fields, noFields, field, Con, equal, isDim, is_scalar, hasField, Binding, ◌≔◌, size, sizeTys, sizeFields, sizeCon, sizeBinding}
+use Rattle.rules.specs.Trees.{
+  var,
+  quant,
+  par,
+  free,
+  base,
+  boolean,
+  string,
+  datetime,
+  ◌↑◌,
+  Product,
+  Ty,
+  opened,
+  basic,
+  dim,
+  fn,
+  struct,
+  list,
+  Tys,
+  nil,
+  cons,
+  Fields,
+  noFields,
+  field,
+  Con,
+  equal,
+  isDim,
+  is_scalar,
+  hasField,
+  Binding,
+  ◌≔◌,
+  size,
+  sizeTys,
+  sizeFields,
+  sizeCon,
+  sizeBinding,
+}
 use Rattle.laws.specs.Heads.{kind-head, length-head}
 
 abbrev pub fitIf : Bool → ℕ → ℕ
@@ -86,7 +122,8 @@ mutual
   short-ty (fn ps r) h =
       ap₂ ◌∷◌ (short-head 7 (size (fn ps r)) _ 0 0 (omega arith) h) (joined (writeTys ps) (writeTy r) (short-tys ps (omega arith)) (short-ty r (omega arith)))
   short-ty (struct n as' fs) h =
-      ap₂ ◌∷◌ (short-head 8 (size (struct n as' fs)) n _ _ (omega arith) h) (joined (writeTys as') (writeFields fs) (short-tys as' (omega arith)) (short-fields fs (omega arith)))
+      ap₂ ◌∷◌ (short-head 8 (size (struct n as' fs)) n _ _ (omega arith) h)
+      (joined (writeTys as') (writeFields fs) (short-tys as' (omega arith)) (short-fields fs (omega arith)))
   short-ty (list t) h = ap₂ ◌∷◌ (short-head 10 (size (list t)) 0 0 0 (omega arith) h) (short-ty t (omega arith))
 
   pub short-tys : (ts : Tys ℕ) → sizeTys ts ≤ 65_535 → cut (writeTys ts) ≡ writeTys ts
@@ -96,21 +133,25 @@ mutual
   pub short-fields : (fs : Fields ℕ) → sizeFields fs ≤ 65_535 → cut (writeFields fs) ≡ writeFields fs
   short-fields noFields h = refl
   short-fields (field n t fs) h =
-      ap₂ ◌∷◌ (short-head 9 (suc (size t)) n 0 0 (omega arith) (omega arith)) (joined (writeTy t) (writeFields fs) (short-ty t (omega arith)) (short-fields fs (omega arith)))
+      ap₂ ◌∷◌ (short-head 9 (suc (size t)) n 0 0 (omega arith) (omega arith))
+      (joined (writeTy t) (writeFields fs) (short-ty t (omega arith)) (short-fields fs (omega arith)))
 
 pub short-con : (c : Con ℕ) → sizeCon c ≤ 65_535 → cut (writeCon c) ≡ writeCon c
 unfolding sizeCon size writeCon
-short-con (equal l r) h = ap₂ ◌∷◌ (short-head 20 (sizeCon (equal l r)) 0 0 0 (omega arith) h) (joined (writeTy l) (writeTy r) (short-ty l (omega arith)) (short-ty r (omega arith)))
+short-con (equal l r) h = ap₂ ◌∷◌ (short-head 20 (sizeCon (equal l r)) 0 0 0 (omega arith) h)
+    (joined (writeTy l) (writeTy r) (short-ty l (omega arith)) (short-ty r (omega arith)))
 short-con (isDim t) h = ap₂ ◌∷◌ (short-head 21 (sizeCon (isDim t)) 0 0 0 (omega arith) h) (short-ty t (omega arith))
 short-con (is_scalar p) h = ap₂ ◌∷◌ (short-head 22 (sizeCon (is_scalar p)) 0 0 0 (omega arith) h) (short-product p (omega arith))
-short-con (hasField n l r) h = ap₂ ◌∷◌ (short-head 23 (sizeCon (hasField n l r)) n 0 0 (omega arith) h) (joined (writeTy l) (writeTy r) (short-ty l (omega arith)) (short-ty r (omega arith)))
+short-con (hasField n l r) h = ap₂ ◌∷◌ (short-head 23 (sizeCon (hasField n l r)) n 0 0 (omega arith) h)
+    (joined (writeTy l) (writeTy r) (short-ty l (omega arith)) (short-ty r (omega arith)))
 
 pub short-binding : (b : Binding ℕ) → sizeBinding b ≤ 65_535 → cut (writeBinding b) ≡ writeBinding b
 unfolding sizeBinding writeBinding
 short-binding (x ≔ t) h = ap₂ ◌∷◌ (short-head 24 (sizeBinding (x ≔ t)) x 0 0 (omega arith) h) (short-ty t (omega arith))
 
 -- parts one after another
-pub short-all : {A : Type 0} (long : A → ℕ) (w : A → List Rec) → ((a : A) → long a ≤ 65_535 → cut (w a) ≡ w a) → (as' : List A) → sum_of long as' ≤ 65_535 → cut (collect w as') ≡ collect w as'
+pub short-all : {A : Type 0} (long : A → ℕ) (w : A → List Rec) → ((a : A) → long a ≤ 65_535 → cut (w a) ≡ w a) → (as' : List A)
+    → sum_of long as' ≤ 65_535 → cut (collect w as') ≡ collect w as'
 unfolding collect
 short-all long w one [] h = refl
 short-all long w one (a ∷ as') h = joined (w a) (collect w as') (one a (omega arith)) (short-all long w one as' (omega arith))

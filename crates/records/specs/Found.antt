@@ -8,14 +8,89 @@ use native.Mathlib.Omega.{arith}
 use Rattle.std.proofs.Math.ListN.{length}
 use Rattle.rules.specs.Base.{all}
 use Rattle.rules.specs.Trees as tree
-use Rattle.rules.specs.Trees.{Factor, Product, Ty, opened, basic, Tys, Fields, Con, equal, isDim, is_scalar, hasField, Binding, ◌≔◌, size, sizeTys, sizeFields, sizeCon, sizeBinding, depth, depthTys, depthFields, depthCon, depthBinding, count, countFields}
+use Rattle.rules.specs.Trees.{
+  Factor,
+  Product,
+  Ty,
+  opened,
+  basic,
+  Tys,
+  Fields,
+  Con,
+  equal,
+  isDim,
+  is_scalar,
+  hasField,
+  Binding,
+  ◌≔◌,
+  size,
+  sizeTys,
+  sizeFields,
+  sizeCon,
+  sizeBinding,
+  depth,
+  depthTys,
+  depthFields,
+  depthCon,
+  depthBinding,
+  count,
+  countFields,
+}
 use Rattle.rules.specs.Writing.{Rec, rec, kindIn, lengthIn, twos, signed}
-use Rattle.rules.specs.Reading.{Reader, pass, give, next, factorTable, factorKinds, readFactors, readTys, readFields, readField, fieldTable, fieldKinds, readDim, readFn, readStruct, readList, typeTable, typeKinds, readTy, readCon, conTable, conKinds, scalarTable, scalarKinds, readBinding, bindingTable, bindingKinds}
+use Rattle.rules.specs.Reading.{
+  Reader,
+  pass,
+  give,
+  next,
+  factorTable,
+  factorKinds,
+  readFactors,
+  readTys,
+  readFields,
+  readField,
+  fieldTable,
+  fieldKinds,
+  readDim,
+  readFn,
+  readStruct,
+  readList,
+  typeTable,
+  typeKinds,
+  readTy,
+  readCon,
+  conTable,
+  conKinds,
+  scalarTable,
+  scalarKinds,
+  readBinding,
+  bindingTable,
+  bindingKinds,
+}
 use Rattle.laws.specs.Written.{Reads, nothing, given, then, picked, lasting-read, unsigned}
 use Rattle.laws.specs.Written as laws
 use Rattle.records.specs.Views.{plain, shape_of, view_of, longOf, longAt, from}
 use Rattle.records.specs.Places.{◌&◌, recAt, long-some, from-length, first}
-use Rattle.records.specs.Holds.{Shows, Long, HoldsFactor, HoldsFactors, HoldsProduct, Holds, HoldsTys, HoldsFields, HoldsCon, HoldsBinding, BodyFactor, body-factor, holds-long, Body, body-holds, BodyCon, body-con, BodyBinding, body-binding}
+use Rattle.records.specs.Holds.{
+  Shows,
+  Long,
+  HoldsFactor,
+  HoldsFactors,
+  HoldsProduct,
+  Holds,
+  HoldsTys,
+  HoldsFields,
+  HoldsCon,
+  HoldsBinding,
+  BodyFactor,
+  body-factor,
+  holds-long,
+  Body,
+  body-holds,
+  BodyCon,
+  body-con,
+  BodyBinding,
+  body-binding,
+}
 use Rattle.records.specs.ByView.{in_reach, body-in, ends-in, factors-in, con-body-in, binding-body-in}
 use Rattle.records.specs.declared.View.{View}
 use Rattle.records.specs.declared.View.TheVariants as view
@@ -65,7 +140,8 @@ module _ (s : List ℕ) where
   here at u a b c rs e q = let f = first s at (rec u a b c) rs e in (f.view ∙ q, f.rest)
 
   -- a part of n records was read there, and lasts as long as it says
-  pub long-found : (at u a b c n : ℕ) (rs rest : List Rec) → from s at ≡ rec u a b c ∷ rs → lengthIn u + length rest ≡ suc (length rs) → rest ≡ from s (at + n) → at + n ≤ length s / 4 → Long s at n
+  pub long-found : (at u a b c n : ℕ) (rs rest : List Rec) → from s at ≡ rec u a b c ∷ rs → lengthIn u + length rest ≡ suc (length rs)
+      → rest ≡ from s (at + n) → at + n ≤ length s / 4 → Long s at n
   unfolding longOf
   long-found at u a b c n rs rest e l q h =
       let f = first s at (rec u a b c) rs e in
@@ -89,7 +165,8 @@ module _ (s : List ℕ) where
         let q : get_or s (at * 4 + 2) 0 ≡ b = cc in
         unsigned b (subst (λ (x : ℕ). x < 4_294_967_296) q (w.word (at * 4 + 2)))
 
-    factor-shape : (at k a b c : ℕ) (rs : List Rec) → from s at ≡ rec k a b c ∷ rs → Reads (factorKinds (kindIn k) a b c rs) (λ f rest. BodyFactor s f at × (rest ≡ from s (at + 1)))
+    factor-shape : (at k a b c : ℕ) (rs : List Rec) → from s at ≡ rec k a b c ∷ rs
+        → Reads (factorKinds (kindIn k) a b c rs) (λ f rest. BodyFactor s f at × (rest ≡ from s (at + 1)))
     unfolding shape_of plain all
     factor-shape at k a b c rs e =
         let x = small at k a b c rs e in
@@ -154,7 +231,14 @@ module _ (s : List ℕ) where
           (λ f rest i l.
           let q : at + 1 + size f.1 ≡ at + suc (size f.1) = omega arith in
           let p : rest ≡ from s (at + suc (size f.1)) = rw (← q) i.1.place in
-          record { shows = i.0; held = i.1.held; long = long-found at k a b c (suc (size f.1)) rs rest e l p (omega (arith, ends-in s f.1 (at + 1) i.1.held)); place = p; deep = i.1.deep })
+          record {
+            shows = i.0;
+            held = i.1.held;
+            long = long-found at k a b c (suc (size f.1)) rs rest e l p (omega (arith, ends-in s f.1 (at + 1) i.1.held));
+            place = p;
+            deep =
+                i.1.deep;
+          })
 
       fields-finds : (n at : ℕ) → Reads (readFields ty n (from s at)) (FoundFields d n at)
       unfolding readFields Holds sizeFields depthFields countFields
@@ -209,22 +293,32 @@ module _ (s : List ℕ) where
         let q : at + 1 + a ≡ at + suc a = omega arith in
         given (record { held = (rw i.many h, i.held); place = rw (i.many, ← q) i.place; deep = omega arith }))
 
-    leaf-found : (t : Ty ℕ) (d at : ℕ) (rs : List Rec) → Body s t at → size t ≡ 1 → depth t ≡ 1 → rs ≡ from s (at + 1) → Reads (give t rs) (FoundBody (suc d) at)
+    leaf-found : (t : Ty ℕ) (d at : ℕ) (rs : List Rec) → Body s t at → size t ≡ 1 → depth t ≡ 1 → rs ≡ from s (at + 1)
+        → Reads (give t rs) (FoundBody (suc d) at)
     leaf-found t d at rs h e k q = given (record { held = h; place = rw e q; deep = omega arith })
 
-    first-shape : (d at : ℕ) → Finds (readTy d) d → (k a b c : ℕ) (rs : List Rec) → from s at ≡ rec k a b c ∷ rs → Reads (typeKinds (readTy d) (kindIn k) a b c rs) (FoundBody (suc d) at)
+    first-shape : (d at : ℕ) → Finds (readTy d) d → (k a b c : ℕ) (rs : List Rec) → from s at ≡ rec k a b c ∷ rs
+        → Reads (typeKinds (readTy d) (kindIn k) a b c rs) (FoundBody (suc d) at)
     unfolding shape_of plain all Body size depth
     first-shape d at r k a b c rs e = picked (kindIn k) rs (typeTable (readTy d) a b c) (
-        (λ q. laws.plain (b ∷ c ∷ []) (give (opened (tree.var a))) rs (λ z. let (u, v) = here at k a b c rs e (rw (q, z.0, z.1.0)) in leaf-found (opened (tree.var a)) d at rs u refl refl v))
-        & (λ q. laws.plain (b ∷ c ∷ []) (give (opened (tree.par a))) rs (λ z. let (u, v) = here at k a b c rs e (rw (q, z.0, z.1.0)) in leaf-found (opened (tree.par a)) d at rs u refl refl v))
-        & (λ q. laws.plain (b ∷ c ∷ []) (give (opened (tree.quant a))) rs (λ z. let (u, v) = here at k a b c rs e (rw (q, z.0, z.1.0)) in leaf-found (opened (tree.quant a)) d at rs u refl refl v))
+        (λ q. laws.plain (b ∷ c ∷ []) (give (opened (tree.var a))) rs
+        (λ z. let (u, v) = here at k a b c rs e (rw (q, z.0, z.1.0)) in leaf-found (opened (tree.var a)) d at rs u refl refl v))
+        & (λ q. laws.plain (b ∷ c ∷ []) (give (opened (tree.par a))) rs
+        (λ z. let (u, v) = here at k a b c rs e (rw (q, z.0, z.1.0)) in leaf-found (opened (tree.par a)) d at rs u refl refl v))
+        & (λ q. laws.plain (b ∷ c ∷ []) (give (opened (tree.quant a))) rs
+        (λ z. let (u, v) = here at k a b c rs e (rw (q, z.0, z.1.0)) in leaf-found (opened (tree.quant a)) d at rs u refl refl v))
         & (λ q. laws.plain (b ∷ c ∷ []) (readDim a) rs (λ z. let (u, v) = here at k a b c rs e (rw (q, z.0, z.1.0)) in rw v (dim-found d at a u)))
-        & (λ q. laws.plain (a ∷ b ∷ c ∷ []) (give (basic tree.boolean)) rs (λ z. let (u, v) = here at k a b c rs e (rw (q, z.0, z.1.0, z.1.1.0)) in leaf-found (basic tree.boolean) d at rs u refl refl v))
-        & (λ q. laws.plain (a ∷ b ∷ c ∷ []) (give (basic tree.string)) rs (λ z. let (u, v) = here at k a b c rs e (rw (q, z.0, z.1.0, z.1.1.0)) in leaf-found (basic tree.string) d at rs u refl refl v))
-        & (λ q. laws.plain (a ∷ b ∷ c ∷ []) (give (basic tree.datetime)) rs (λ z. let (u, v) = here at k a b c rs e (rw (q, z.0, z.1.0, z.1.1.0)) in leaf-found (basic tree.datetime) d at rs u refl refl v))
-        & (λ q. laws.plain (b ∷ c ∷ []) (readFn (readTy d) a) rs (λ z. let (u, v) = here at k a b c rs e (rw (q, z.0, z.1.0)) in rw v (fn-found (readTy d) d r at a u)))
+        & (λ q. laws.plain (a ∷ b ∷ c ∷ []) (give (basic tree.boolean)) rs
+        (λ z. let (u, v) = here at k a b c rs e (rw (q, z.0, z.1.0, z.1.1.0)) in leaf-found (basic tree.boolean) d at rs u refl refl v))
+        & (λ q. laws.plain (a ∷ b ∷ c ∷ []) (give (basic tree.string)) rs
+        (λ z. let (u, v) = here at k a b c rs e (rw (q, z.0, z.1.0, z.1.1.0)) in leaf-found (basic tree.string) d at rs u refl refl v))
+        & (λ q. laws.plain (a ∷ b ∷ c ∷ []) (give (basic tree.datetime)) rs
+        (λ z. let (u, v) = here at k a b c rs e (rw (q, z.0, z.1.0, z.1.1.0)) in leaf-found (basic tree.datetime) d at rs u refl refl v))
+        & (λ q. laws.plain (b ∷ c ∷ []) (readFn (readTy d) a) rs
+        (λ z. let (u, v) = here at k a b c rs e (rw (q, z.0, z.1.0)) in rw v (fn-found (readTy d) d r at a u)))
         & (λ q. let (u, v) = here at k a b c rs e (rw q) in rw v (struct-found (readTy d) d r at a b c u))
-        & (λ q. laws.plain (a ∷ b ∷ c ∷ []) (readList (readTy d)) rs (λ z. let (u, v) = here at k a b c rs e (rw (q, z.0, z.1.0, z.1.1.0)) in rw v (list-found (readTy d) d r at u)))
+        & (λ q. laws.plain (a ∷ b ∷ c ∷ []) (readList (readTy d)) rs
+        (λ z. let (u, v) = here at k a b c rs e (rw (q, z.0, z.1.0, z.1.1.0)) in rw v (list-found (readTy d) d r at u)))
         & tt)
 
     first_found : (d at : ℕ) → Finds (readTy d) d → (l : List Rec) → from s at ≡ l → Reads (next (typeKinds (readTy d)) l) (Found (suc d) at)
@@ -252,7 +346,9 @@ module _ (s : List ℕ) where
     BindingBody at b rest = FoundPart BodyBinding sizeBinding depthBinding s 64 at b rest
 
     -- two types after a record
-    two-found : {A : Type 0} (at : ℕ) (f : Ty ℕ → Ty ℕ → A) (P : A → List Rec → Type 0) → ((l r : Ty ℕ) (rest : List Rec) → Holds s l (at + 1) → Holds s r (at + 1 + size l) → max (depth l) (depth r) ≤ 64 → rest ≡ from s (at + suc (size l + size r)) → P (f l r) rest)
+    two-found : {A : Type 0} (at : ℕ) (f : Ty ℕ → Ty ℕ → A) (P : A → List Rec → Type 0)
+        → ((l r : Ty ℕ) (rest : List Rec) → Holds s l (at + 1) → Holds s r (at + 1 + size l) → max (depth l) (depth r) ≤ 64
+        → rest ≡ from s (at + suc (size l + size r)) → P (f l r) rest)
         → Reads (pass (readTy 64 (from s (at + 1))) (λ l s'. pass (readTy 64 s') (λ r. give (f l r)))) P
     two-found at f P k =
         then (found 64 (at + 1)) (λ l rest i.
@@ -261,7 +357,8 @@ module _ (s : List ℕ) where
         given (k l r rest' i.held j.held (omega (arith, i.deep, j.deep)) (rw (← q) j.place)))))
 
     -- one type after a record
-    one_found : {A : Type 0} (at : ℕ) (f : Ty ℕ → A) (P : A → List Rec → Type 0) → ((t : Ty ℕ) (rest : List Rec) → Holds s t (at + 1) → depth t ≤ 64 → rest ≡ from s (at + suc (size t)) → P (f t) rest)
+    one_found : {A : Type 0} (at : ℕ) (f : Ty ℕ → A) (P : A → List Rec → Type 0)
+        → ((t : Ty ℕ) (rest : List Rec) → Holds s t (at + 1) → depth t ≤ 64 → rest ≡ from s (at + suc (size t)) → P (f t) rest)
         → Reads (pass (readTy 64 (from s (at + 1))) (λ t. give (f t))) P
     one_found at f P k =
         then (found 64 (at + 1)) (λ t rest i.
@@ -294,7 +391,8 @@ module _ (s : List ℕ) where
         rw v (scalar-factors at a u)))
         & tt)
 
-    scalar-whole : (at : ℕ) (x : Con ℕ) (p : Product ℕ) (rest : List Rec) → x ≡ is_scalar p → Shows s at view.IsScalar → HoldsProduct s p (at + 1) → rest ≡ from s (at + 1 + suc (length p)) → ConBody at x rest
+    scalar-whole : (at : ℕ) (x : Con ℕ) (p : Product ℕ) (rest : List Rec) → x ≡ is_scalar p → Shows s at view.IsScalar → HoldsProduct s p (at + 1)
+        → rest ≡ from s (at + 1 + suc (length p)) → ConBody at x rest
     unfolding BodyCon sizeCon size depthCon
     scalar-whole at x p rest e h g q =
         let n : at + 1 + suc (length p) ≡ at + suc (suc (length p)) = omega arith in

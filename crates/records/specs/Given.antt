@@ -52,7 +52,8 @@ from_start s = refl
 -- ══ One part after another is read ══
 
 module _ {A : Type 0} (r : Reader A) where
-  read_more : (k : ℕ) (x : Rec) (xs : List Rec) (v : A × List Rec) (as' : List A) → r (x ∷ xs) ≡ some v → read_all r k v.1 ≡ some as' → read_all r (suc k) (x ∷ xs) ≡ some (v.0 ∷ as')
+  read_more : (k : ℕ) (x : Rec) (xs : List Rec) (v : A × List Rec) (as' : List A) → r (x ∷ xs) ≡ some v → read_all r k v.1 ≡ some as'
+      → read_all r (suc k) (x ∷ xs) ≡ some (v.0 ∷ as')
   unfolding read_all
   read_more k x xs v as' p q = rw (p, read_all, q)
 
@@ -139,7 +140,8 @@ module _ {A : Type 0} (s : List ℕ) (r : Reader A) (good : A → Bool) (P : ℕ
   no_more at [] as' e h p = at-end zero at as' e h p
   no_more at (x ∷ xs) as' e h p = absurd-some p
 
-  one_more : (k : ℕ) → Reads-chain k → (at : ℕ) (l : List Rec) (as' : List A) → from s at ≡ l → at ≤ N → read_all r (suc k) l ≡ some as' → all good as' ≡ true → Chain P N as' at
+  one_more : (k : ℕ) → Reads-chain k → (at : ℕ) (l : List Rec) (as' : List A) → from s at ≡ l → at ≤ N → read_all r (suc k) l ≡ some as'
+      → all good as' ≡ true → Chain P N as' at
   unfolding all
   one_more k ih at [] as' e h p g = at-end (suc k) at as' e h p
   one_more k ih at (x ∷ xs) as' e h p g =
@@ -253,7 +255,8 @@ module _ (pool table : List ℕ) (s : List ℕ) (w : Words32 s) where
     reads = λ at a e g. con-read s a at g.held g.deep ∙ ap (λ (k : ℕ). some (a, from s k)) (sym g.past);
     right = λ at a e g. g.good;
     moves = λ at a e g. con-moves pool table 0 s at a e g;
-    finds = λ at a rest e g. let f = (con-found s w at).holds a rest e in (at + sizeCon a, (record { held = f.held; past = refl; deep = f.deep; good = g }, f.place));
+    finds = λ at a rest e g. let f = (con-found s w at).holds a rest e
+        in (at + sizeCon a, (record { held = f.held; past = refl; deep = f.deep; good = g }, f.place));
   }
 
   pub binding-reader : Reader-of s readBinding (goodBinding pool table 0) (GoodBinding pool table 0 s)
@@ -261,7 +264,8 @@ module _ (pool table : List ℕ) (s : List ℕ) (w : Words32 s) where
     reads = λ at a e g. binding-read s a at g.held g.deep ∙ ap (λ (k : ℕ). some (a, from s k)) (sym g.past);
     right = λ at a e g. g.good;
     moves = λ at a e g. binding-moves pool table 0 s at a e g;
-    finds = λ at a rest e g. let f = (binding-found s w at).holds a rest e in (at + sizeBinding a, (record { held = f.held; past = refl; deep = f.deep; good = g }, f.place));
+    finds = λ at a rest e g. let f = (binding-found s w at).holds a rest e
+        in (at + sizeBinding a, (record { held = f.held; past = refl; deep = f.deep; good = g }, f.place));
   }
 
   pub type-reader : Reader-of s (readTy 64) (goodTy pool table 0) (GoodTy pool table 0 s 64)
@@ -269,5 +273,6 @@ module _ (pool table : List ℕ) (s : List ℕ) (w : Words32 s) where
     reads = λ at a e g. read s a 64 at g.held g.deep ∙ ap (λ (k : ℕ). some (a, from s k)) (sym g.past);
     right = λ at a e g. g.good;
     moves = λ at a e g. (omega (arith, g.past, size-pos a), omega (arith, g.past, ends-in s a at g.held));
-    finds = λ at a rest e g. let f = (found s w 64 at).holds a rest e in (at + size a, (record { held = f.held; past = refl; deep = f.deep; good = g }, f.place));
+    finds = λ at a rest e g. let f = (found s w 64 at).holds a rest e
+        in (at + size a, (record { held = f.held; past = refl; deep = f.deep; good = g }, f.place));
   }

@@ -2,12 +2,49 @@
 use Rattle.std.specs.Prelude.{Option, Some, None, ◌≡◌, Bool, true, false, List, [], ◌∷◌, map, ℕ, suc, ◌+◌, ◌/◌, ◌≤◌, eqb, length}
 use Rattle.rules.specs.Base.{all}
 use Rattle.rules.specs.Trees as tree
-use Rattle.rules.specs.Trees.{Names, Product, Ty, Tys, Fields, Con, Binding, orderAtom, size, sizeTys, sizeFields, sizeCon, sizeBinding, depth, depthTys, depthFields, depthCon, depthBinding, count, countFields}
+use Rattle.rules.specs.Trees.{
+  Names,
+  Product,
+  Ty,
+  Tys,
+  Fields,
+  Con,
+  Binding,
+  orderAtom,
+  size,
+  sizeTys,
+  sizeFields,
+  sizeCon,
+  sizeBinding,
+  depth,
+  depthTys,
+  depthFields,
+  depthCon,
+  depthBinding,
+  count,
+  countFields,
+}
 use Rattle.rules.specs.Schemes.{Scheme, concrete, scheme}
 use Rattle.rules.specs.Names.{table_of, numbersOf, is_held}
 use Rattle.rules.specs.WellFormed as rules
 use Rattle.rules.specs.WellFormed.{is_lt, rising, fieldNames}
-use Rattle.records.specs.Holds.{atomOf, viewOpen, Shows, Long, HoldsFactors, HoldsProduct, Holds, HoldsTys, HoldsFields, HoldsCon, HoldsBinding, HoldsBound, Body, BodyCon, BodyBinding}
+use Rattle.records.specs.Holds.{
+  atomOf,
+  viewOpen,
+  Shows,
+  Long,
+  HoldsFactors,
+  HoldsProduct,
+  Holds,
+  HoldsTys,
+  HoldsFields,
+  HoldsCon,
+  HoldsBinding,
+  HoldsBound,
+  Body,
+  BodyCon,
+  BodyBinding,
+}
 use Rattle.records.specs.Views.{longAt}
 use Rattle.records.specs.declared.Atom.{Atom}
 use Rattle.records.specs.declared.View.TheVariants as view
@@ -208,9 +245,11 @@ There {A} P false = (a : A) → P a → ⊥
 -- a scheme takes all records: its type, then its bounds
 abbrev pub PartsScheme : List ℕ → List ℕ → List ℕ → Scheme ℕ → Type 0
 PartsScheme pool table s (concrete t) = Shows s 0 view.Concrete × GoodTy pool table 0 s 64 1 t (length s / 4)
-PartsScheme pool table s (scheme n t bs) = Shows s 0 (view.Scheme n) × ((e : ℕ) × (GoodTy pool table n s 64 1 t e × Chain (GoodBound pool table n s) (length s / 4) bs e))
+PartsScheme pool table s (scheme n t bs) = Shows s 0 (view.Scheme n)
+    × ((e : ℕ) × (GoodTy pool table n s 64 1 t e × Chain (GoodBound pool table n s) (length s / 4) bs e))
 
 -- and its length is that of the list
 abbrev pub GoodScheme : List ℕ → List ℕ → List ℕ → Scheme ℕ → Type 0
 GoodScheme pool table s (concrete t) = Shows s 0 view.Concrete × GoodTy pool table 0 s 64 1 t (length s / 4) × Long s 0 (length s / 4)
-GoodScheme pool table s (scheme n t bs) = Shows s 0 (view.Scheme n) × ((e : ℕ) × (GoodTy pool table n s 64 1 t e × Chain (GoodBound pool table n s) (length s / 4) bs e)) × Long s 0 (length s / 4)
+GoodScheme pool table s (scheme n t bs) = Shows s 0 (view.Scheme n)
+    × ((e : ℕ) × (GoodTy pool table n s 64 1 t e × Chain (GoodBound pool table n s) (length s / 4) bs e)) × Long s 0 (length s / 4)

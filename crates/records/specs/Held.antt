@@ -6,7 +6,38 @@ use mathlib.Core.List.{List, [], ◌∷◌, ◌++◌, map, append_assoc}
 use Rattle.std.proofs.Math.Seq.{slice}
 use Rattle.rules.specs.Exponents.{frac}
 use Rattle.rules.specs.Trees as tree
-use Rattle.rules.specs.Trees.{Factor, ◌↑◌, Product, Ty, opened, basic, dim, fn, struct, list, Tys, nil, cons, Fields, noFields, field, Con, equal, isDim, is_scalar, hasField, Binding, ◌≔◌, size, sizeTys, sizeFields, sizeCon, sizeBinding, count, countFields}
+use Rattle.rules.specs.Trees.{
+  Factor,
+  ◌↑◌,
+  Product,
+  Ty,
+  opened,
+  basic,
+  dim,
+  fn,
+  struct,
+  list,
+  Tys,
+  nil,
+  cons,
+  Fields,
+  noFields,
+  field,
+  Con,
+  equal,
+  isDim,
+  is_scalar,
+  hasField,
+  Binding,
+  ◌≔◌,
+  size,
+  sizeTys,
+  sizeFields,
+  sizeCon,
+  sizeBinding,
+  count,
+  countFields,
+}
 use Rattle.rules.specs.Writing.{Rec, rec, head, twos, writeFactor, writeProduct, writeTy, writeTys, writeFields, writeCon, writeBinding, words}
 use Rattle.laws.specs.Size.{size-ty, size-tys}
 use Rattle.laws.specs.Reading.{FitsProduct, Fits, FitsTys, FitsFields, sign}
@@ -56,12 +87,14 @@ module _ (s : List ℕ) where
   unfolding HoldsFactors
   factors-written [] at h = rw (add-zero at)
   factors-written (a ↑ frac n d ∷ p) at h =
-      joined (writeFactor (a ↑ frac n d) ∷ []) (map writeFactor p) at 1 (length p) (suc (length p)) (one at h.0.0 h.0.2 tt (rec-factor a n d)) (factors-written p (at + 1) h.1) (omega arith)
+      joined (writeFactor (a ↑ frac n d) ∷ []) (map writeFactor p) at 1 (length p) (suc (length p)) (one at h.0.0 h.0.2 tt (rec-factor a n d))
+      (factors-written p (at + 1) h.1) (omega arith)
 
   pub product-written : (p : Product ℕ) (at : ℕ) → HoldsProduct s p at → Stands (writeProduct p) at (suc (length p))
   unfolding HoldsProduct writeProduct
   product-written p at h =
-      joined (rec (head 3 (suc (length p))) (length p) 0 0 ∷ []) (map writeFactor p) at 1 (length p) (suc (length p)) (one at h.0 h.2 tt refl) (factors-written p (at + 1) h.1) (omega arith)
+      joined (rec (head 3 (suc (length p))) (length p) 0 0 ∷ []) (map writeFactor p) at 1 (length p) (suc (length p)) (one at h.0 h.2 tt refl)
+      (factors-written p (at + 1) h.1) (omega arith)
 
   mutual
     unfolding Holds size writeTy
@@ -71,38 +104,52 @@ module _ (s : List ℕ) where
     written (basic b) at h = seen s at h.0 h.1 tt ∙ ap (◌++ from s (at + 1)) (sym (rec-basic b))
     written (dim p) at h = product-written p at h
     written (fn ps r) at h =
-        joined (rec (head 7 (size (fn ps r))) (count ps) 0 0 ∷ []) (writeTys ps ++ writeTy r) at 1 (sizeTys ps + size r) (size (fn ps r)) (one at h.0 h.3 tt refl)
-        (joined (writeTys ps) (writeTy r) (at + 1) (sizeTys ps) (size r) (sizeTys ps + size r) (tys-written ps (at + 1) h.1) (written r (at + 1 + sizeTys ps) h.2) refl) (omega arith)
+        joined (rec (head 7 (size (fn ps r))) (count ps) 0 0 ∷ []) (writeTys ps ++ writeTy r) at 1 (sizeTys ps + size r) (size (fn ps r))
+        (one at h.0 h.3 tt refl)
+        (joined (writeTys ps) (writeTy r) (at + 1) (sizeTys ps) (size r) (sizeTys ps + size r) (tys-written ps (at + 1) h.1)
+        (written r (at + 1 + sizeTys ps) h.2) refl) (omega arith)
     written (struct n as' fs) at h =
-        joined (rec (head 8 (size (struct n as' fs))) n (count as') (countFields fs) ∷ []) (writeTys as' ++ writeFields fs) at 1 (sizeTys as' + sizeFields fs) (size (struct n as' fs)) (one at h.0 h.3 tt refl)
-        (joined (writeTys as') (writeFields fs) (at + 1) (sizeTys as') (sizeFields fs) (sizeTys as' + sizeFields fs) (tys-written as' (at + 1) h.1) (fields-written fs (at + 1 + sizeTys as') h.2) refl) (omega arith)
-    written (list t) at h = joined (rec (head 10 (size (list t))) 0 0 0 ∷ []) (writeTy t) at 1 (size t) (size (list t)) (one at h.0 h.2 tt refl) (written t (at + 1) h.1) (omega arith)
+        joined (rec (head 8 (size (struct n as' fs))) n (count as') (countFields fs) ∷ []) (writeTys as' ++ writeFields fs) at 1
+        (sizeTys as' + sizeFields fs) (size (struct n as' fs)) (one at h.0 h.3 tt refl)
+        (joined (writeTys as') (writeFields fs) (at + 1) (sizeTys as') (sizeFields fs) (sizeTys as' + sizeFields fs) (tys-written as' (at + 1) h.1)
+        (fields-written fs (at + 1 + sizeTys as') h.2) refl) (omega arith)
+    written (list t) at h = joined (rec (head 10 (size (list t))) 0 0 0 ∷ []) (writeTy t) at 1 (size t) (size (list t)) (one at h.0 h.2 tt refl)
+        (written t (at + 1) h.1) (omega arith)
 
     pub tys-written : (ts : Tys ℕ) (at : ℕ) → HoldsTys s ts at → Stands (writeTys ts) at (sizeTys ts)
     tys-written nil at h = rw (add-zero at)
-    tys-written (cons t ts) at h = joined (writeTy t) (writeTys ts) at (size t) (sizeTys ts) (size t + sizeTys ts) (written t at h.0) (tys-written ts (at + size t) h.1) refl
+    tys-written (cons t ts) at h = joined (writeTy t) (writeTys ts) at (size t) (sizeTys ts) (size t + sizeTys ts) (written t at h.0)
+        (tys-written ts (at + size t) h.1) refl
 
     pub fields-written : (fs : Fields ℕ) (at : ℕ) → HoldsFields s fs at → Stands (writeFields fs) at (sizeFields fs)
     fields-written noFields at h = rw (add-zero at)
     fields-written (field n t fs) at h =
-        joined (rec (head 9 (suc (size t))) n 0 0 ∷ []) (writeTy t ++ writeFields fs) at 1 (size t + sizeFields fs) (sizeFields (field n t fs)) (one at h.0 h.3 tt refl)
-        (joined (writeTy t) (writeFields fs) (at + 1) (size t) (sizeFields fs) (size t + sizeFields fs) (written t (at + 1) h.1) (fields-written fs (at + 1 + size t) h.2) refl) (omega arith)
+        joined (rec (head 9 (suc (size t))) n 0 0 ∷ []) (writeTy t ++ writeFields fs) at 1 (size t + sizeFields fs) (sizeFields (field n t fs))
+        (one at h.0 h.3 tt refl)
+        (joined (writeTy t) (writeFields fs) (at + 1) (size t) (sizeFields fs) (size t + sizeFields fs) (written t (at + 1) h.1)
+        (fields-written fs (at + 1 + size t) h.2) refl) (omega arith)
 
   pub con-written : (c : Con ℕ) (at : ℕ) → HoldsCon s c at → Stands (writeCon c) at (sizeCon c)
   unfolding HoldsCon sizeCon writeCon size
   con-written (equal l r) at h =
       joined (rec (head 20 (sizeCon (equal l r))) 0 0 0 ∷ []) (writeTy l ++ writeTy r) at 1 (size l + size r) (suc (size l + size r)) (one at h.0 h.3 tt refl)
-      (joined (writeTy l) (writeTy r) (at + 1) (size l) (size r) (size l + size r) (written l (at + 1) h.1) (written r (at + 1 + size l) h.2) refl) (omega arith)
-  con-written (isDim t) at h = joined (rec (head 21 (sizeCon (isDim t))) 0 0 0 ∷ []) (writeTy t) at 1 (size t) (suc (size t)) (one at h.0 h.2 tt refl) (written t (at + 1) h.1) (omega arith)
+      (joined (writeTy l) (writeTy r) (at + 1) (size l) (size r) (size l + size r) (written l (at + 1) h.1) (written r (at + 1 + size l) h.2) refl)
+      (omega arith)
+  con-written (isDim t) at h = joined (rec (head 21 (sizeCon (isDim t))) 0 0 0 ∷ []) (writeTy t) at 1 (size t) (suc (size t))
+      (one at h.0 h.2 tt refl) (written t (at + 1) h.1) (omega arith)
   con-written (is_scalar p) at h =
-      joined (rec (head 22 (sizeCon (is_scalar p))) 0 0 0 ∷ []) (writeProduct p) at 1 (suc (length p)) (suc (suc (length p))) (one at h.0 h.2 tt refl) (product-written p (at + 1) h.1) (omega arith)
+      joined (rec (head 22 (sizeCon (is_scalar p))) 0 0 0 ∷ []) (writeProduct p) at 1 (suc (length p)) (suc (suc (length p)))
+      (one at h.0 h.2 tt refl) (product-written p (at + 1) h.1) (omega arith)
   con-written (hasField n l r) at h =
-      joined (rec (head 23 (sizeCon (hasField n l r))) n 0 0 ∷ []) (writeTy l ++ writeTy r) at 1 (size l + size r) (suc (size l + size r)) (one at h.0 h.3 tt refl)
-      (joined (writeTy l) (writeTy r) (at + 1) (size l) (size r) (size l + size r) (written l (at + 1) h.1) (written r (at + 1 + size l) h.2) refl) (omega arith)
+      joined (rec (head 23 (sizeCon (hasField n l r))) n 0 0 ∷ []) (writeTy l ++ writeTy r) at 1 (size l + size r) (suc (size l + size r))
+      (one at h.0 h.3 tt refl)
+      (joined (writeTy l) (writeTy r) (at + 1) (size l) (size r) (size l + size r) (written l (at + 1) h.1) (written r (at + 1 + size l) h.2) refl)
+      (omega arith)
 
   pub binding-written : (b : Binding ℕ) (at : ℕ) → HoldsBinding s b at → Stands (writeBinding b) at (sizeBinding b)
   unfolding HoldsBinding sizeBinding writeBinding
-  binding-written (x ≔ t) at h = joined (rec (head 24 (sizeBinding (x ≔ t))) x 0 0 ∷ []) (writeTy t) at 1 (size t) (suc (size t)) (one at h.0 h.2 tt refl) (written t (at + 1) h.1) (omega arith)
+  binding-written (x ≔ t) at h = joined (rec (head 24 (sizeBinding (x ≔ t))) x 0 0 ∷ []) (writeTy t) at 1 (size t) (suc (size t))
+      (one at h.0 h.2 tt refl) (written t (at + 1) h.1) (omega arith)
 
   -- the words at the place are those of the type
   pub held-words : (t : Ty ℕ) (at : ℕ) → Holds s t at → slice (at * 4) ((at + size t) * 4) s ≡ words (writeTy t)
@@ -113,7 +160,8 @@ module _ (s : List ℕ) where
   -- ══ Written, so held ══
 
   -- the record that says v and is n long stands first
-  pub shown : (at n : ℕ) (v : View) (r : Rec) (rs : List Rec) → from s at ≡ r ∷ rs → r ≡ recOf v n → Written v → Shows s at v × Long s at n × (rs ≡ from s (at + 1))
+  pub shown : (at n : ℕ) (v : View) (r : Rec) (rs : List Rec) → from s at ≡ r ∷ rs → r ≡ recOf v n → Written v → Shows s at v × Long s at n
+      × (rs ≡ from s (at + 1))
   shown at n v r rs e q a =
       let f = first s at (recOf v n) rs (e ∙ ap (λ (x : Rec). x ∷ rs) q) in
       (f.view ∙ rec-view v n a, f.long ∙ rec-long v n, f.rest)

@@ -1,7 +1,37 @@
 -- The words at a place hold this tree.
 use Rattle.std.specs.Prelude.{◌≡◌, List, [], ◌∷◌, ℕ, suc, ◌+◌, length}
 use Rattle.rules.specs.Exponents.{frac}
-use Rattle.rules.specs.Trees.{Factor, ◌↑◌, Product, Ty, opened, basic, dim, fn, struct, list, Tys, nil, cons, Fields, noFields, field, Con, equal, isDim, is_scalar, hasField, Binding, ◌≔◌, size, sizeTys, sizeCon, sizeBinding, count, countFields}
+use Rattle.rules.specs.Trees.{
+  Factor,
+  ◌↑◌,
+  Product,
+  Ty,
+  opened,
+  basic,
+  dim,
+  fn,
+  struct,
+  list,
+  Tys,
+  nil,
+  cons,
+  Fields,
+  noFields,
+  field,
+  Con,
+  equal,
+  isDim,
+  is_scalar,
+  hasField,
+  Binding,
+  ◌≔◌,
+  size,
+  sizeTys,
+  sizeCon,
+  sizeBinding,
+  count,
+  countFields,
+}
 use Rattle.rules.specs.Trees as tree
 use Rattle.rules.specs.Writing.{twos, signed}
 use Rattle.records.specs.Views.{viewAt, longAt}
@@ -70,7 +100,8 @@ unfoldable mutual
   Holds s (basic b) at = Shows s at (view.Basic (viewBasic b)) × Long s at 1
   Holds s (dim p) at = HoldsProduct s p at
   Holds s (fn ps r) at = Shows s at (view.Function (count ps)) × HoldsTys s ps (at + 1) × Holds s r (at + 1 + sizeTys ps) × Long s at (size (fn ps r))
-  Holds s (struct n as' fs) at = Shows s at (view.Struct n (count as') (countFields fs)) × HoldsTys s as' (at + 1) × HoldsFields s fs (at + 1 + sizeTys as') × Long s at (size (struct n as' fs))
+  Holds s (struct n as' fs) at = Shows s at (view.Struct n (count as') (countFields fs)) × HoldsTys s as' (at + 1)
+      × HoldsFields s fs (at + 1 + sizeTys as') × Long s at (size (struct n as' fs))
   Holds s (list t) at = Shows s at view.List × Holds s t (at + 1) × Long s at (size (list t))
 
   pub HoldsTys : List ℕ → Tys ℕ → ℕ → Type 0

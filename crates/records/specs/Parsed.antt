@@ -11,12 +11,80 @@ use Rattle.laws.specs.Heads.{next-back}
 use Rattle.rules.specs.Base.{all}
 use Rattle.rules.specs.Exponents.{frac}
 use Rattle.rules.specs.Trees as tree
-use Rattle.rules.specs.Trees.{◌↑◌, Product, Ty, opened, basic, dim, fn, struct, list, Tys, nil, cons, Fields, noFields, field, Con, equal, isDim, is_scalar, hasField, Binding, ◌≔◌, size, sizeTys, sizeFields, sizeCon, sizeBinding, depth, depthTys, depthFields, depthCon, depthBinding, count, countFields}
+use Rattle.rules.specs.Trees.{
+  ◌↑◌,
+  Product,
+  Ty,
+  opened,
+  basic,
+  dim,
+  fn,
+  struct,
+  list,
+  Tys,
+  nil,
+  cons,
+  Fields,
+  noFields,
+  field,
+  Con,
+  equal,
+  isDim,
+  is_scalar,
+  hasField,
+  Binding,
+  ◌≔◌,
+  size,
+  sizeTys,
+  sizeFields,
+  sizeCon,
+  sizeBinding,
+  depth,
+  depthTys,
+  depthFields,
+  depthCon,
+  depthBinding,
+  count,
+  countFields,
+}
 use Rattle.rules.specs.Writing.{Rec, rec, head, twos}
-use Rattle.rules.specs.Reading.{Reader, next, factorKinds, readFactors, readTys, fieldKinds, readFields, typeKinds, readTy, scalarKinds, conKinds, readCon, bindingKinds, readBinding}
+use Rattle.rules.specs.Reading.{
+  Reader,
+  next,
+  factorKinds,
+  readFactors,
+  readTys,
+  fieldKinds,
+  readFields,
+  typeKinds,
+  readTy,
+  scalarKinds,
+  conKinds,
+  readCon,
+  bindingKinds,
+  readBinding,
+}
 use Rattle.records.specs.Views.{from}
 use Rattle.records.specs.Places.{from-length, seen-in, seen}
-use Rattle.records.specs.Holds.{viewOpen, viewBasic, Shows, Long, HoldsFactor, HoldsFactors, HoldsProduct, Holds, HoldsTys, HoldsFields, HoldsCon, HoldsBinding, Body, BodyCon, BodyBinding, con-body, binding-body}
+use Rattle.records.specs.Holds.{
+  viewOpen,
+  viewBasic,
+  Shows,
+  Long,
+  HoldsFactor,
+  HoldsFactors,
+  HoldsProduct,
+  Holds,
+  HoldsTys,
+  HoldsFields,
+  HoldsCon,
+  HoldsBinding,
+  Body,
+  BodyCon,
+  BodyBinding,
+  con-body,
+  binding-body,
+}
 use Rattle.records.specs.ByView.{open-back, basic-back, by-body, con-by-body, product-in, ends-in, con-in, binding-in}
 use Rattle.records.specs.declared.View.TheVariants as view
 
@@ -42,10 +110,14 @@ module _ (s : List ℕ) where
   by_first f k n a b c at x h e g p i = ap (next f) e ∙ next-back f k n a b c (from s (at + 1)) (from s (at + n)) x h g (part_length at n p i)
 
   factor-read : (a : tree.Atom ℕ) (n : lib.IntN.ℤ) (d at : ℕ) → HoldsFactor s (a ↑ frac n d) at → Gives (next factorKinds (from s at)) (a ↑ frac n d) (at + 1)
-  factor-read (tree.free (tree.var x)) n d at h = by_first factorKinds 11 1 x (twos n) d at _ (omega arith) (seen s at h.0 h.2 tt) (rw h.1) (omega arith) (omega (arith, seen-in s at h.0 tt))
-  factor-read (tree.free (tree.quant i)) n d at h = by_first factorKinds 15 1 i (twos n) d at _ (omega arith) (seen s at h.0 h.2 tt) (rw h.1) (omega arith) (omega (arith, seen-in s at h.0 tt))
-  factor-read (tree.free (tree.par x)) n d at h = by_first factorKinds 12 1 x (twos n) d at _ (omega arith) (seen s at h.0 h.2 tt) (rw h.1) (omega arith) (omega (arith, seen-in s at h.0 tt))
-  factor-read (tree.base x) n d at h = by_first factorKinds 13 1 x (twos n) d at _ (omega arith) (seen s at h.0 h.2 tt) (rw h.1) (omega arith) (omega (arith, seen-in s at h.0 tt))
+  factor-read (tree.free (tree.var x)) n d at h = by_first factorKinds 11 1 x (twos n) d at _ (omega arith) (seen s at h.0 h.2 tt) (rw h.1)
+      (omega arith) (omega (arith, seen-in s at h.0 tt))
+  factor-read (tree.free (tree.quant i)) n d at h = by_first factorKinds 15 1 i (twos n) d at _ (omega arith) (seen s at h.0 h.2 tt) (rw h.1)
+      (omega arith) (omega (arith, seen-in s at h.0 tt))
+  factor-read (tree.free (tree.par x)) n d at h = by_first factorKinds 12 1 x (twos n) d at _ (omega arith) (seen s at h.0 h.2 tt) (rw h.1)
+      (omega arith) (omega (arith, seen-in s at h.0 tt))
+  factor-read (tree.base x) n d at h = by_first factorKinds 13 1 x (twos n) d at _ (omega arith) (seen s at h.0 h.2 tt) (rw h.1) (omega arith)
+      (omega (arith, seen-in s at h.0 tt))
 
   pub factors-read : (p : Product ℕ) (at : ℕ) → HoldsFactors s p at → Gives (readFactors (length p) (from s at)) p (at + length p)
   unfolding HoldsFactors readFactors
@@ -56,15 +128,21 @@ module _ (s : List ℕ) where
 
   open-read : (o : tree.Open ℕ) (d at : ℕ) → Shows s at (view.Opened (viewOpen o)) → Long s at 1 → Gives (readTy (suc d) (from s at)) (opened o) (at + 1)
   unfolding readTy all
-  open-read (tree.var x) d at h l = by_first (typeKinds (readTy d)) 1 1 x 0 0 at _ (omega arith) (seen s at h l tt) refl (omega arith) (omega (arith, seen-in s at h tt))
-  open-read (tree.quant i) d at h l = by_first (typeKinds (readTy d)) 14 1 i 0 0 at _ (omega arith) (seen s at h l tt) refl (omega arith) (omega (arith, seen-in s at h tt))
-  open-read (tree.par x) d at h l = by_first (typeKinds (readTy d)) 2 1 x 0 0 at _ (omega arith) (seen s at h l tt) refl (omega arith) (omega (arith, seen-in s at h tt))
+  open-read (tree.var x) d at h l = by_first (typeKinds (readTy d)) 1 1 x 0 0 at _ (omega arith) (seen s at h l tt) refl (omega arith)
+      (omega (arith, seen-in s at h tt))
+  open-read (tree.quant i) d at h l = by_first (typeKinds (readTy d)) 14 1 i 0 0 at _ (omega arith) (seen s at h l tt) refl (omega arith)
+      (omega (arith, seen-in s at h tt))
+  open-read (tree.par x) d at h l = by_first (typeKinds (readTy d)) 2 1 x 0 0 at _ (omega arith) (seen s at h l tt) refl (omega arith)
+      (omega (arith, seen-in s at h tt))
 
   basic-read : (b : tree.Basic) (d at : ℕ) → Shows s at (view.Basic (viewBasic b)) → Long s at 1 → Gives (readTy (suc d) (from s at)) (basic b) (at + 1)
   unfolding readTy all
-  basic-read tree.boolean d at h l = by_first (typeKinds (readTy d)) 4 1 0 0 0 at _ (omega arith) (seen s at h l tt) refl (omega arith) (omega (arith, seen-in s at h tt))
-  basic-read tree.string d at h l = by_first (typeKinds (readTy d)) 5 1 0 0 0 at _ (omega arith) (seen s at h l tt) refl (omega arith) (omega (arith, seen-in s at h tt))
-  basic-read tree.datetime d at h l = by_first (typeKinds (readTy d)) 6 1 0 0 0 at _ (omega arith) (seen s at h l tt) refl (omega arith) (omega (arith, seen-in s at h tt))
+  basic-read tree.boolean d at h l = by_first (typeKinds (readTy d)) 4 1 0 0 0 at _ (omega arith) (seen s at h l tt) refl (omega arith)
+      (omega (arith, seen-in s at h tt))
+  basic-read tree.string d at h l = by_first (typeKinds (readTy d)) 5 1 0 0 0 at _ (omega arith) (seen s at h l tt) refl (omega arith)
+      (omega (arith, seen-in s at h tt))
+  basic-read tree.datetime d at h l = by_first (typeKinds (readTy d)) 6 1 0 0 0 at _ (omega arith) (seen s at h l tt) refl (omega arith)
+      (omega (arith, seen-in s at h tt))
 
   mutual
     unfolding Holds HoldsProduct size depth count countFields readTy readTys readFields all
@@ -75,7 +153,8 @@ module _ (s : List ℕ) where
     read (dim p) d at h k =
         let q : at + 1 + length p ≡ at + suc (length p) = omega arith in
         deeper (λ x. Gives (readTy x (from s at)) (dim p) (at + suc (length p))) 0 d k (λ e i.
-        by_first (typeKinds (readTy e)) 3 (suc (length p)) (length p) 0 0 at (dim p) (omega arith) (seen s at h.0 h.2 tt) (rw (factors-read p (at + 1) h.1, q)) (omega arith) (product-in s p at h))
+        by_first (typeKinds (readTy e)) 3 (suc (length p)) (length p) 0 0 at (dim p) (omega arith) (seen s at h.0 h.2 tt)
+        (rw (factors-read p (at + 1) h.1, q)) (omega arith) (product-in s p at h))
     read (fn ps r) d at h k =
         let q : at + 1 + sizeTys ps + size r ≡ at + suc (sizeTys ps + size r) = omega arith in
         deeper (λ x. Gives (readTy x (from s at)) (fn ps r) (at + suc (sizeTys ps + size r))) (max (depthTys ps) (depth r)) d k (λ e i.
@@ -84,12 +163,15 @@ module _ (s : List ℕ) where
     read (struct n as' fs) d at h k =
         let q : at + 1 + sizeTys as' + sizeFields fs ≡ at + suc (sizeTys as' + sizeFields fs) = omega arith in
         deeper (λ x. Gives (readTy x (from s at)) (struct n as' fs) (at + suc (sizeTys as' + sizeFields fs))) (max (depthTys as') (depthFields fs)) d k (λ e i.
-        by_first (typeKinds (readTy e)) 8 (suc (sizeTys as' + sizeFields fs)) n (count as') (countFields fs) at (struct n as' fs) (omega arith) (seen s at h.0 h.3 tt)
-        (rw (tys-read as' e (at + 1) h.1 (omega arith), fields_read fs e (at + 1 + sizeTys as') h.2 (omega arith), q)) (omega arith) (ends-in s (struct n as' fs) at h))
+        by_first (typeKinds (readTy e)) 8 (suc (sizeTys as' + sizeFields fs)) n (count as') (countFields fs) at (struct n as' fs) (omega arith)
+        (seen s at h.0 h.3 tt)
+        (rw (tys-read as' e (at + 1) h.1 (omega arith), fields_read fs e (at + 1 + sizeTys as') h.2 (omega arith), q)) (omega arith)
+        (ends-in s (struct n as' fs) at h))
     read (list t) d at h k =
         let q : at + 1 + size t ≡ at + suc (size t) = omega arith in
         deeper (λ x. Gives (readTy x (from s at)) (list t) (at + suc (size t))) (depth t) d k (λ e i.
-        by_first (typeKinds (readTy e)) 10 (suc (size t)) 0 0 0 at (list t) (omega arith) (seen s at h.0 h.2 tt) (rw (read t e (at + 1) h.1 i, q)) (omega arith) (ends-in s (list t) at h))
+        by_first (typeKinds (readTy e)) 10 (suc (size t)) 0 0 0 at (list t) (omega arith) (seen s at h.0 h.2 tt) (rw (read t e (at + 1) h.1 i, q))
+        (omega arith) (ends-in s (list t) at h))
 
     pub tys-read : (ts : Tys ℕ) (d at : ℕ) → HoldsTys s ts at → depthTys ts ≤ d → Gives (readTys (readTy d) (count ts) (from s at)) ts (at + sizeTys ts)
     tys-read nil d at h k = rw (add-zero at)
@@ -97,13 +179,15 @@ module _ (s : List ℕ) where
         let q : at + size t + sizeTys ts ≡ at + (size t + sizeTys ts) = omega arith in
         rw (read t d at h.0 (omega arith), tys-read ts d (at + size t) h.1 (omega arith), q)
 
-    pub fields_read : (fs : Fields ℕ) (d at : ℕ) → HoldsFields s fs at → depthFields fs ≤ d → Gives (readFields (readTy d) (countFields fs) (from s at)) fs (at + sizeFields fs)
+    pub fields_read : (fs : Fields ℕ) (d at : ℕ) → HoldsFields s fs at → depthFields fs ≤ d
+        → Gives (readFields (readTy d) (countFields fs) (from s at)) fs (at + sizeFields fs)
     fields_read noFields d at h k = rw (add-zero at)
     fields_read (field n t fs) d at h k =
         let q : at + suc (size t) + sizeFields fs ≡ at + suc (size t + sizeFields fs) = omega arith in
         let u : at + 1 + size t ≡ at + suc (size t) = omega arith in
         let one : Gives (next (fieldKinds (readTy d)) (from s at)) (n, t) (at + suc (size t)) =
-        by_first (fieldKinds (readTy d)) 9 (suc (size t)) n 0 0 at (n, t) (omega arith) (seen s at h.0 h.3 tt) (rw (read t d (at + 1) h.1 (omega arith), u)) (omega arith) (omega (arith, ends-in s t (at + 1) h.1)) in
+        by_first (fieldKinds (readTy d)) 9 (suc (size t)) n 0 0 at (n, t) (omega arith) (seen s at h.0 h.3 tt)
+        (rw (read t d (at + 1) h.1 (omega arith), u)) (omega arith) (omega (arith, ends-in s t (at + 1) h.1)) in
         rw (one, ← u) (rw (fields_read fs d (at + 1 + size t) h.2 (omega arith), u, q))
 
   pub con-read : (c : Con ℕ) (at : ℕ) → HoldsCon s c at → depthCon c ≤ 64 → Gives (readCon (from s at)) c (at + sizeCon c)
@@ -114,13 +198,16 @@ module _ (s : List ℕ) where
       (rw (read l 64 (at + 1) h.1 (omega arith), read r 64 (at + 1 + size l) h.2 (omega arith), q)) (omega arith) (con-in s (equal l r) at h)
   con-read (isDim t) at h k =
       let q : at + 1 + size t ≡ at + suc (size t) = omega arith in
-      by_first (conKinds (readTy 64)) 21 (suc (size t)) 0 0 0 at (isDim t) (omega arith) (seen s at h.0 h.2 tt) (rw (read t 64 (at + 1) h.1 k, q)) (omega arith) (con-in s (isDim t) at h)
+      by_first (conKinds (readTy 64)) 21 (suc (size t)) 0 0 0 at (isDim t) (omega arith) (seen s at h.0 h.2 tt) (rw (read t 64 (at + 1) h.1 k, q))
+      (omega arith) (con-in s (isDim t) at h)
   con-read (is_scalar p) at h k =
       let q : at + 1 + 1 + length p ≡ at + 1 + suc (length p) = omega arith in
       let u : at + 1 + suc (length p) ≡ at + suc (suc (length p)) = omega arith in
       let one : Gives (next scalarKinds (from s (at + 1))) (is_scalar p) (at + 1 + suc (length p)) =
-      by_first scalarKinds 3 (suc (length p)) (length p) 0 0 (at + 1) (is_scalar p) (omega arith) (seen s (at + 1) h.1.0 h.1.2 tt) (rw (factors-read p (at + 1 + 1) h.1.1, q)) (omega arith) (product-in s p (at + 1) h.1) in
-      by_first (conKinds (readTy 64)) 22 (suc (suc (length p))) 0 0 0 at (is_scalar p) (omega arith) (seen s at h.0 h.2 tt) (rw (one, u)) (omega arith) (con-in s (is_scalar p) at h)
+      by_first scalarKinds 3 (suc (length p)) (length p) 0 0 (at + 1) (is_scalar p) (omega arith) (seen s (at + 1) h.1.0 h.1.2 tt)
+      (rw (factors-read p (at + 1 + 1) h.1.1, q)) (omega arith) (product-in s p (at + 1) h.1) in
+      by_first (conKinds (readTy 64)) 22 (suc (suc (length p))) 0 0 0 at (is_scalar p) (omega arith) (seen s at h.0 h.2 tt) (rw (one, u))
+      (omega arith) (con-in s (is_scalar p) at h)
   con-read (hasField n l r) at h k =
       let q : at + 1 + size l + size r ≡ at + suc (size l + size r) = omega arith in
       by_first (conKinds (readTy 64)) 23 (suc (size l + size r)) n 0 0 at (hasField n l r) (omega arith) (seen s at h.0 h.3 tt)
@@ -130,7 +217,8 @@ module _ (s : List ℕ) where
   unfolding HoldsBinding sizeBinding depthBinding readBinding all
   binding-read (x ≔ t) at h k =
       let q : at + 1 + size t ≡ at + suc (size t) = omega arith in
-      by_first bindingKinds 24 (suc (size t)) x 0 0 at (x ≔ t) (omega arith) (seen s at h.0 h.2 tt) (rw (read t 64 (at + 1) h.1 k, q)) (omega arith) (binding-in s (x ≔ t) at h)
+      by_first bindingKinds 24 (suc (size t)) x 0 0 at (x ≔ t) (omega arith) (seen s at h.0 h.2 tt) (rw (read t 64 (at + 1) h.1 k, q)) (omega arith)
+      (binding-in s (x ≔ t) at h)
 
   -- ══ One tree at most is held at a place ══
 
@@ -160,7 +248,8 @@ module _ (s : List ℕ) where
       let n : length p ≡ length q = cc in
       only-factors p q (at + 1) n h.1 k.1
 
-  only_two : (f : Ty ℕ → Ty ℕ → Con ℕ) (l r l' r' : Ty ℕ) (at : ℕ) → Holds s l at → Holds s r (at + size l) → Holds s l' at → Holds s r' (at + size l') → f l r ≡ f l' r'
+  only_two : (f : Ty ℕ → Ty ℕ → Con ℕ) (l r l' r' : Ty ℕ) (at : ℕ) → Holds s l at → Holds s r (at + size l) → Holds s l' at
+      → Holds s r' (at + size l') → f l r ≡ f l' r'
   only_two f l r l' r' at h i h' i' =
       let e = only l l' at h h' in
       ap₂ f e (only r r' (at + size l) i (subst (λ (t : Ty ℕ). Holds s r' (at + size t)) (sym e) i'))
@@ -184,7 +273,8 @@ module _ (s : List ℕ) where
   only-con-body c (equal l r) at h k = con-by-body s (λ x. x ≡ equal l r) c at h k.0 (λ l' r' i j. only_two equal l' r' l r (at + 1) i j k.1 k.2)
   only-con-body c (isDim t) at h k = con-by-body s (λ x. x ≡ isDim t) c at h k.0 (λ u i. ap isDim (only u t (at + 1) i k.1))
   only-con-body c (is_scalar p) at h k = con-by-body s (λ x. x ≡ is_scalar p) c at h k.0 (λ q i. ap is_scalar (only-product q p (at + 1) i k.1))
-  only-con-body c (hasField n l r) at h k = con-by-body s (λ x. x ≡ hasField n l r) c at h k.0 (λ l' r' i j. only_two (hasField n) l' r' l r (at + 1) i j k.1 k.2)
+  only-con-body c (hasField n l r) at h k = con-by-body s (λ x. x ≡ hasField n l r) c at h k.0
+      (λ l' r' i j. only_two (hasField n) l' r' l r (at + 1) i j k.1 k.2)
 
   pub only-con : (c d : Con ℕ) (at : ℕ) → HoldsCon s c at → HoldsCon s d at → c ≡ d
   only-con c d at h k = only-con-body c d at (con-body s c at h) (con-body s d at k)

@@ -16,7 +16,28 @@ use Rattle.rules.specs.Writing.{Rec, rec, head, kindIn, lengthIn, words}
 use Rattle.laws.specs.Heads.{head-back, kind-head, length-head}
 use Rattle.laws.specs.Written.{Zeros}
 use Rattle.records.specs.Cut.{fit, cutRec, cut-head}
-use Rattle.records.specs.Views.{either, plain, pick, view_of, recOpen, recFactor, recBound, kindOfBasic, bareOf, lengthened, recOf, longOf, recs, from, viewAt, longAt, boundTable, schemeTable, typeTable, otherTable}
+use Rattle.records.specs.Views.{
+  either,
+  plain,
+  pick,
+  view_of,
+  recOpen,
+  recFactor,
+  recBound,
+  kindOfBasic,
+  bareOf,
+  lengthened,
+  recOf,
+  longOf,
+  recs,
+  from,
+  viewAt,
+  longAt,
+  boundTable,
+  schemeTable,
+  typeTable,
+  otherTable,
+}
 use Rattle.records.specs.declared.Open as names
 use Rattle.records.specs.declared.Atom as atoms
 use Rattle.records.specs.declared.Basic as basics
@@ -220,8 +241,10 @@ view-rec (rec u a b c) =
     & (λ e. by-plain r (a ∷ b ∷ c ∷ []) _ (λ z s. rw (kept u e, z.0, z.1.0, z.1.1.0)))
     & (λ e. by-plain r (b ∷ c ∷ []) _ (λ z s. rw (kept u e, z.0, z.1.0)))
     & (λ e. by-plain r (b ∷ c ∷ []) _ (λ z s. rw (kept u e, z.0, z.1.0)))
-    & (λ e. by-kind r b (boundTable a c) ((λ f. by-plain r (c ∷ []) _ (λ z s. rw (kept u e, f, z.0))) & (λ f. by-plain r (c ∷ []) _ (λ z s. rw (kept u e, f, z.0))) & tt))
-    & (λ e. by-plain r (c ∷ []) _ (λ z. by-kind r b (schemeTable a) ((λ f s. rw (kept u e, f, z.0)) & (λ f. by-plain r (a ∷ []) _ (λ y s. rw (kept u e, f, z.0, y.0))) & tt)))
+    & (λ e. by-kind r b (boundTable a c)
+    ((λ f. by-plain r (c ∷ []) _ (λ z s. rw (kept u e, f, z.0))) & (λ f. by-plain r (c ∷ []) _ (λ z s. rw (kept u e, f, z.0))) & tt))
+    & (λ e. by-plain r (c ∷ []) _ (λ z. by-kind r b (schemeTable a)
+    ((λ f s. rw (kept u e, f, z.0)) & (λ f. by-plain r (a ∷ []) _ (λ y s. rw (kept u e, f, z.0, y.0))) & tt)))
     & tt)
 
 -- ══ The records from a place on ══

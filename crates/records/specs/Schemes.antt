@@ -37,15 +37,18 @@ module _ (s : List ℕ) where
 
   bound-read : (o : tree.Open ℕ) (at : ℕ) → HoldsBound s o at → readBound (from s at) ≡ some (o, from s (at + 1))
   unfolding readBound plain all
-  bound-read (tree.var x) at h = by_first s boundKinds 25 1 x 0 0 at (tree.var x) (omega arith) (seen s at h.0 h.1 tt) refl (omega arith) (omega (arith, seen-in s at h.0 tt))
-  bound-read (tree.quant i) at h = by_first s boundKinds 25 1 i 1 0 at (tree.quant i) (omega arith) (seen s at h.0 h.1 tt) refl (omega arith) (omega (arith, seen-in s at h.0 tt))
+  bound-read (tree.var x) at h = by_first s boundKinds 25 1 x 0 0 at (tree.var x) (omega arith) (seen s at h.0 h.1 tt) refl (omega arith)
+      (omega (arith, seen-in s at h.0 tt))
+  bound-read (tree.quant i) at h = by_first s boundKinds 25 1 i 1 0 at (tree.quant i) (omega arith) (seen s at h.0 h.1 tt) refl (omega arith)
+      (omega (arith, seen-in s at h.0 tt))
   bound-read (tree.par x) at h =
       let f = first s at (rec (head 25 1) x 0 0) (from s (at + 1)) (seen s at h.0 h.1 tt) in
       let e : view.Bound (viewOpen (tree.par x)) ≡ view.Bound (viewOpen (tree.var x)) = sym h.0 ∙ f.view ∙ rec-view (view.Bound (viewOpen (tree.var x))) 1 tt in
       let z : ◌≡◌ {A = ℕ} 0 1 = cc in
       absurd (omega arith)
 
-  bound-shape : (at k a b c : ℕ) (rs : List Rec) → from s at ≡ rec k a b c ∷ rs → Reads (boundKinds (kindIn k) a b c rs) (λ o rest. Shows s at (view.Bound (viewOpen o)) × (rest ≡ from s (at + 1)))
+  bound-shape : (at k a b c : ℕ) (rs : List Rec) → from s at ≡ rec k a b c ∷ rs
+      → Reads (boundKinds (kindIn k) a b c rs) (λ o rest. Shows s at (view.Bound (viewOpen o)) × (rest ≡ from s (at + 1)))
   unfolding shape_of plain all
   bound-shape at k a b c rs e = picked (kindIn k) rs ((25, pick b (boundTable a c)) ∷ []) (
       (λ q. picked b rs (boundTable a c) (
@@ -80,14 +83,24 @@ module _ (s : List ℕ) where
     scheme-yes (concrete t) (v, g, l) =
         let r : readTy 64 (from s 1) ≡ some (t, from s N) = read s t 64 1 g.held g.deep ∙ ap (λ (k : ℕ). some (t, from s k)) (sym g.past) in
         let i : 0 < N = seen-in s 0 v tt in
-        let m : N ≡ suc (length (from s 1)) = omega (arith, from-length s 1 (omega arith)) in
-        (rw (seen s 0 v l tt, length-head 26 N (omega arith), kind-head 26 N (omega arith), eq-eqb N (suc (length (from s 1))) m, r, from-none s N (omega arith)) refl, g.good)
+        let m : N ≡ suc (length (from s 1)) = omega (arith, from-length s 1 (omega arith)) in (
+          rw (
+            seen s 0 v l tt,
+            length-head 26 N (omega arith),
+            kind-head 26 N (omega arith),
+            eq-eqb N (suc (length (from s 1))) m,
+            r,
+            from-none s N (omega arith),
+          ) refl,
+          g.good,
+        )
     scheme-yes (scheme n t bs) (v, (e, (g, c)), l) =
         let r : readTy 64 (from s 1) ≡ some (t, from s e) = read s t 64 1 g.held g.deep ∙ ap (λ (k : ℕ). some (t, from s k)) (sym g.past) in
         let i : 0 < N = seen-in s 0 v tt in
         let m : N ≡ suc (length (from s 1)) = omega (arith, from-length s 1 (omega arith)) in
         let w : e ≤ N = omega (arith, g.past, ends-in s t 1 g.held) in
-        let (p, h) = chain-read s readBound (goodOpen pool table n) (GoodBound pool table n s) (bound-reader pool table n) bs (length (from s e)) e c (omega (arith, from-length s e w)) in
+        let (p, h) = chain-read s readBound (goodOpen pool table n) (GoodBound pool table n s) (bound-reader pool table n) bs (length (from s e)) e c
+        (omega (arith, from-length s e w)) in
         (rw (seen s 0 v l tt, length-head 26 N (omega arith), kind-head 26 N (omega arith), eq-eqb N (suc (length (from s 1))) m, r, p) refl, rw (g.good, h))
 
     -- what stands before the bounds
@@ -108,29 +121,45 @@ module _ (s : List ℕ) where
       head-found : (k n b c : ℕ) (rs : List Rec) → from s 0 ≡ rec k n b c ∷ rs → Reads (heads (kindIn k) n b c rs) Head
       unfolding shape_of plain all
       head-found k n b c rs e = picked (kindIn k) rs ((26, unused (c ∷ []) (pick b ((0, quantified n) ∷ (1, unused (n ∷ []) simple) ∷ []))) ∷ []) (
-          (λ q. laws.plain (c ∷ []) (pick b ((0, quantified n) ∷ (1, unused (n ∷ []) simple) ∷ [])) rs (λ z. picked b rs ((0, quantified n) ∷ (1, unused (n ∷ []) simple) ∷ []) (
+          (λ q. laws.plain (c ∷ []) (pick b ((0, quantified n) ∷ (1, unused (n ∷ []) simple) ∷ [])) rs
+          (λ z. picked b rs ((0, quantified n) ∷ (1, unused (n ∷ []) simple) ∷ []) (
           (λ p. let (u, v) = here s 0 k n b c rs e (rw (q, p, z.0)) in rw v (then (found s w 64 1) (λ t rest i. given (bounded n t rest u i))))
-          & (λ p. laws.plain (n ∷ []) simple rs (λ y. let (u, v) = here s 0 k n b c rs e (rw (q, p, z.0, y.0)) in rw v (then (found s w 64 1) (λ t rest i. given (alone t rest u i)))))
+          & (λ p. laws.plain (n ∷ []) simple rs
+          (λ y. let (u, v) = here s 0 k n b c rs e (rw (q, p, z.0, y.0)) in rw v (then (found s w 64 1) (λ t rest i. given (alone t rest u i)))))
           & tt)))
           & tt)
 
-      whole-bounds : (n : ℕ) (t : Ty ℕ) (rest : List Rec) (bs : List (tree.Open ℕ)) → Found s 64 1 t rest → read_all readBound (length rest) rest ≡ some bs → all (goodOpen pool table n) bs ≡ true → Chain (GoodBound pool table n s) (length s / 4) bs (1 + size t)
+      whole-bounds : (n : ℕ) (t : Ty ℕ) (rest : List Rec) (bs : List (tree.Open ℕ)) → Found s 64 1 t rest
+          → read_all readBound (length rest) rest ≡ some bs → all (goodOpen pool table n) bs ≡ true
+          → Chain (GoodBound pool table n s) (length s / 4) bs (1 + size t)
       whole-bounds n t rest bs f p g =
           let h : 1 + size t ≤ length s / 4 = ends-in s t 1 f.held in
-          read-chain s readBound (goodOpen pool table n) (GoodBound pool table n s) (bound-reader pool table n) (length rest) (1 + size t) bs h (ap (read_all readBound (length rest)) (sym f.place) ∙ p) g
+          read-chain s readBound (goodOpen pool table n) (GoodBound pool table n s) (bound-reader pool table n) (length rest) (1 + size t) bs h
+          (ap (read_all readBound (length rest)) (sym f.place) ∙ p) g
 
       -- a scheme that was read, and is well formed, is there
       abbrev Right : Scheme ℕ → Type 0
       Right sc = goodScheme (table_of pool table) sc ≡ true → Long s 0 N → GoodScheme pool table s sc
 
-      right-bounds : (n : ℕ) (t : Ty ℕ) (rest : List Rec) (bs : List (tree.Open ℕ)) → Shows s 0 (view.Scheme n) → Found s 64 1 t rest → read_all readBound (length rest) rest ≡ some bs → Right (scheme n t bs)
+      right-bounds : (n : ℕ) (t : Ty ℕ) (rest : List Rec) (bs : List (tree.Open ℕ)) → Shows s 0 (view.Scheme n) → Found s 64 1 t rest
+          → read_all readBound (length rest) rest ≡ some bs → Right (scheme n t bs)
       unfolding goodScheme
       right-bounds n t rest bs u f p g l =
           let T' : Bool = goodTy pool table n t in
-          let B : Bool = all (goodOpen pool table n) bs in
-          (u, (1 + size t, (record { held = f.held; past = refl; deep = f.deep; good = both_left T' B g }, whole-bounds n t rest bs f p (both_right T' B g))), l)
+          let B : Bool = all (goodOpen pool table n) bs in (
+            u,
+            (
+              1 + size t,
+              (
+                record { held = f.held; past = refl; deep = f.deep; good = both_left T' B g },
+                whole-bounds n t rest bs f p (both_right T' B g),
+              ),
+            ),
+            l,
+          )
 
-      right-alone : (t : Ty ℕ) (rest : List Rec) → Shows s 0 view.Concrete → Found s 64 1 t rest → read_all readBound (length rest) rest ≡ some [] → Right (concrete t)
+      right-alone : (t : Ty ℕ) (rest : List Rec) → Shows s 0 view.Concrete → Found s 64 1 t rest → read_all readBound (length rest) rest ≡ some []
+          → Right (concrete t)
       unfolding goodScheme all
       right-alone t rest u f p g l = (u, record { held = f.held; past = sym (whole-bounds 0 t rest [] f p refl); deep = f.deep; good = g }, l)
 
@@ -138,7 +167,8 @@ module _ (s : List ℕ) where
         is : {sc sd : Scheme ℕ} → schemeOf (rec k n b c ∷ rs) ≡ some sc → schemeOf (rec k n b c ∷ rs) ≡ some sd → Right sc → Right sd
         is {sc} {sd} p q r = let e : some sc ≡ some sd = sym p ∙ q in let i : sc ≡ sd = cc in subst Right i r
 
-        finish : {sc : Scheme ℕ} {rest : List Rec} → Head sc rest → heads (kindIn k) n b c rs ≡ some (sc, rest) → (o : Option (List (tree.Open ℕ))) → read_all readBound (length rest) rest ≡ o → (sd : Scheme ℕ) → schemeOf (rec k n b c ∷ rs) ≡ some sd → Right sd
+        finish : {sc : Scheme ℕ} {rest : List Rec} → Head sc rest → heads (kindIn k) n b c rs ≡ some (sc, rest) → (o : Option (List (tree.Open ℕ)))
+            → read_all readBound (length rest) rest ≡ o → (sd : Scheme ℕ) → schemeOf (rec k n b c ∷ rs) ≡ some sd → Right sd
         unfolding schemeOf
         finish (bounded m t rest u f) p none q sd e = absurd-some {a = sd} (sym (rw (l, p, q)) ∙ e)
         finish (bounded m t rest u f) p (some bs) q sd e = is {sc = scheme m t bs} (rw (l, p, q)) e (right-bounds m t rest bs u f q)
@@ -156,7 +186,8 @@ module _ (s : List ℕ) where
           let i : 0 < N = f.inside in
           m ∙ omega (arith, eqb-true (lengthIn k) (suc (length rs)) l, y, from-length s 1 (omega arith))
 
-      scheme-found : (l : List Rec) → from s 0 ≡ l → (sd : Scheme ℕ) → schemeOf l ≡ some sd → goodScheme (table_of pool table) sd ≡ true → GoodScheme pool table s sd
+      scheme-found : (l : List Rec) → from s 0 ≡ l → (sd : Scheme ℕ) → schemeOf l ≡ some sd → goodScheme (table_of pool table) sd ≡ true
+          → GoodScheme pool table s sd
       unfolding schemeOf
       scheme-found [] e sd h g = absurd-some h
       scheme-found (rec k n b c ∷ rs) e sd h g = lasting (eqb (lengthIn k) (suc (length rs))) refl
@@ -216,7 +247,8 @@ module _ (pool table ws : List ℕ) (w : Words32 ws) where
       no : {B : Type 0} → refused 1 ≡ got sc → B
       no e = let z : ◌≡◌ {A = ℕ} 0 1 = cc in absurd (omega arith)
 
-      good : length ws % 4 ≡ 0 → (sd : Scheme ℕ) → schemeOf (recs ws) ≡ some sd → (b : Bool) → goodScheme (table_of pool table) sd ≡ b → GoodScheme pool table ws sc
+      good : length ws % 4 ≡ 0 → (sd : Scheme ℕ) → schemeOf (recs ws) ≡ some sd → (b : Bool) → goodScheme (table_of pool table) sd ≡ b
+          → GoodScheme pool table ws sc
       good m sd p true q =
           let i : got sd ≡ got sc = sym (rw (records-whole ws m, p, q)) ∙ h in
           let j : sd ≡ sc = cc in

@@ -57,10 +57,13 @@ sets-cut b d i n k l m =
   where
     go : Dec (length b ≤ n) → sets (sets d i (take n b)) (i + length (take n b)) (drop n b) ≡ sets d i (take n b)
     go (yes h) = ap (sets (sets d i (take n b)) (i + length (take n b))) (drop_of_length-le b h)
-    go (no h) = sets-past (drop n b) (sets d i (take n b)) (i + length (take n b)) (omega (arith, length-sets d i (take n b), length-take-le n b l, m (omega (arith, h))))
+    go (no h) = sets-past (drop n b) (sets d i (take n b)) (i + length (take n b))
+        (omega (arith, length-sets d i (take n b), length-take-le n b l, m (omega (arith, h))))
 
 -- the part that was written over
-pub part-cut : (b d p : List ℕ) (i n k : ℕ) → p ≡ take n b → n ≡ k → i + n ≤ length d → n ≤ length b → (n < length b → length d ≤ i + n) → put_mid i k d p ≡ sets d i b
+pub part-cut : (b d p : List ℕ) (i n k : ℕ) → p ≡ take n b → n ≡ k → i + n ≤ length d → n ≤ length b → (n < length b → length d ≤ i + n)
+    → put_mid i k d p ≡ sets d i b
 part-cut b d p i n k e q h l m =
     let t : length (take n b) ≡ n = length-take-le n b l in
-    put_mid-paste i k d p (take n b) n e q (sym t) ∙ ap (λ (x : List ℕ). take i d ++ x ++ drop (i + n) d) (take_all n (take n b) (omega (arith, t))) ∙ sym (sets-cut b d i n h l m)
+    put_mid-paste i k d p (take n b) n e q (sym t) ∙ ap (λ (x : List ℕ). take i d ++ x ++ drop (i + n) d) (take_all n (take n b) (omega (arith, t)))
+    ∙ sym (sets-cut b d i n h l m)

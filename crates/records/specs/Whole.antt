@@ -64,7 +64,8 @@ module _ (pool table ws : List ℕ) (w : Words32 ws) where
   unfolding setGiven
   set_given cs h c = list-yes ws readCon (goodCon pool table 0) (GoodCon pool table 0 ws) (con-reader pool table ws w) cs h c
 
-  pub bindings-given : (bs : List (Binding ℕ)) → length ws % 4 ≡ 0 → Chain (GoodBinding pool table 0 ws) N bs 0 → bindingsGiven (table_of pool table) ws ≡ got bs
+  pub bindings-given : (bs : List (Binding ℕ)) → length ws % 4 ≡ 0 → Chain (GoodBinding pool table 0 ws) N bs 0
+      → bindingsGiven (table_of pool table) ws ≡ got bs
   unfolding bindingsGiven
   bindings-given bs h c = list-yes ws readBinding (goodBinding pool table 0) (GoodBinding pool table 0 ws) (binding-reader pool table ws w) bs h c
 

@@ -47,7 +47,8 @@ module _ {N : Type 0} where
   back_is vs (par x) u e = absurd (some≢none (sym e))
   back_is vs (quant i) u e = go (get_elem? vs i) refl e
     where
-      go : (t : Option N) → get_elem? vs i ≡ t → and_then t (λ x. some (var x)) ≡ some u → (j : ℕ) × ((x : N) × ((◌≡◌ {A = Open N} (quant i) (quant j)) × ((u ≡ var x) × (get_elem? vs j ≡ some x))))
+      go : (t : Option N) → get_elem? vs i ≡ t → and_then t (λ x. some (var x)) ≡ some u → (j : ℕ)
+          × ((x : N) × ((◌≡◌ {A = Open N} (quant i) (quant j)) × ((u ≡ var x) × (get_elem? vs j ≡ some x))))
       go none j k = absurd (some≢none (sym k))
       go (some x) j k = (i, (x, (refl, (cc, j))))
 
@@ -119,7 +120,8 @@ module _ {N : Type 0} (ν : Names N) (law : Lawful (orderAtom ν)) (held : N →
     dimension = λ o u p e. let (i, (x, (j, (k, l)))) = back_is vs o u e in rw k;
     good = λ o u p e. let (i, (x, (j, (k, l)))) = back_is vs o u e in rw k (a.names-held x (there-in vs i x l));
     new = λ o u p e. let (i, (x, (j, (k, l)))) = back_is vs o u e in inr (λ w b c. none_left i x l w b (c ∙ k));
-    apart = λ o w u p b e c. let (i, (x, (j, (k, l)))) = back_is vs o u e in let (i', (x', (j', (k', l')))) = back_is vs w u c in same o w u i i' x x' p b j j' k k' l l';
+    apart = λ o w u p b e c. let (i, (x, (j, (k, l)))) = back_is vs o u e in let (i', (x', (j', (k', l')))) = back_is vs w u c
+        in same o w u i i' x x' p b j j' k k' l l';
   }
     where
       same : (o w u : Open N) (i j : ℕ) (x y : N) → Becomes P f o → Becomes P f w → o ≡ quant i → w ≡ quant j → u ≡ var x → u ≡ var y
@@ -195,7 +197,8 @@ module _ {N : Type 0} (ν : Names N) (law : Lawful (orderAtom ν)) (held : N →
   unfolding andLater asProduct goodOpen
   then-own = record {
     first = again-renames;
-    second = own-renames ν law held q tells (Becomes P h) (record { known = λ o p. named.known o (as_before o p); none-quantified = λ j p. named.none-quantified j (as_before (quant j) p) });
+    second = own-renames ν law held q tells (Becomes P h)
+        (record { known = λ o p. named.known o (as_before o p); none-quantified = λ j p. named.none-quantified j (as_before (quant j) p) });
     whole = own-renames ν law held q tells P named;
     same = λ o p. one' o p (h o) refl;
     still = λ o u p e. let (x, (i, j)) = again-is o u p e in inl (rw i);
@@ -260,7 +263,8 @@ module _ {N : Type 0} (ν : Names N) (law : Lawful (orderAtom ν)) (held : N →
           rw (j, l) (all_cons P p (all_nil P))
 
       names-there : (w : Ty N) → replaceTy ν bounded (renamed h) t ≡ got w → All P (opens w)
-      names-there w e = ty-occurs ν law held q tells (renamed h) good-put P P (λ o p i. p) names-put t w (ty-weaker ν held 0 q (omega arith) t good) e (λ o m. m)
+      names-there w e = ty-occurs ν law held q tells (renamed h) good-put P P (λ o p i. p) names-put t w (ty-weaker ν held 0 q (omega arith) t good)
+          e (λ o m. m)
 
   -- ══ The caller's law ══
 
@@ -298,8 +302,11 @@ module _ {N : Type 0} (ν : Names N) (law : Lawful (orderAtom ν)) (held : N →
   back-again bs k s e =
       let r = again in
       let g = ty-weaker ν held 0 q (omega arith) t good in
-      let made : schemeLimited bounded 1 r.type (renamedBounds f bs) (scheme (length vs) r.type (renamedBounds f bs)) ≡ got s = sym (quantify-once ν law held q tells vs t bs le good unmix ∙ rw r.quantified) ∙ e in
-      let is : scheme (length vs) r.type (renamedBounds f bs) ≡ s = sized_same (1 + (size r.type + length (renamedBounds f bs))) (depth r.type) (scheme (length vs) r.type (renamedBounds f bs)) bounded s made in
+      let made : schemeLimited bounded 1 r.type (renamedBounds f bs) (scheme (length vs) r.type (renamedBounds f bs)) ≡ got s =
+      sym (quantify-once ν law held q tells vs t bs le good unmix ∙ rw r.quantified) ∙ e in
+      let is : scheme (length vs) r.type (renamedBounds f bs) ≡ s =
+      sized_same (1 + (size r.type + length (renamedBounds f bs))) (depth r.type) (scheme (length vs) r.type (renamedBounds f bs)) bounded s made
+      in
       let few = sized-small (1 + (size r.type + length (renamedBounds f bs))) (depth r.type) (scheme (length vs) r.type (renamedBounds f bs)) s made in
       let flat = not-deep (1 + (size r.type + length (renamedBounds f bs))) (depth r.type) (scheme (length vs) r.type (renamedBounds f bs)) s made in
       let less = plain_size ν law held q tells P f (all-renames ν held q 0 vs P (omega arith) fair) t r.type g (λ o m. m) r.quantified in

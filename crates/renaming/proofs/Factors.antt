@@ -152,7 +152,10 @@ module _ {N : Type 0} (ν : Names N) (law : Lawful (orderAtom ν)) where
       go : (o : Ordering) → orderAtom ν b a ≡ o → (r : Product N) × ((merge ν bounded p (a ↑ e ∷ []) ≡ got r) × Inserted (a ↑ e) p r)
           → (r : Product N) × ((merge ν bounded (b ↑ d ∷ p) (a ↑ e ∷ []) ≡ got r) × Inserted (a ↑ e) (b ↑ d ∷ p) r)
       go Ordering.eq o r = absurd (h (b ↑ d) in_head o)
-      go Ordering.gt o r = (a ↑ e ∷ b ↑ d ∷ p, (merge-here b d p a e o, record { kept = λ x m. Memᴰ.tail m; new = in_head; from = λ x m. Memᴰ.cases_cons m; longer = refl }))
+      go Ordering.gt o r = (
+        a ↑ e ∷ b ↑ d ∷ p,
+        (merge-here b d p a e o, record { kept = λ x m. Memᴰ.tail m; new = in_head; from = λ x m. Memᴰ.cases_cons m; longer = refl }),
+      )
       go Ordering.lt o (r, (i, k)) = (
         b ↑ d ∷ r,
         (
@@ -201,7 +204,8 @@ module _ {N : Type 0} (ν : Names N) (law : Lawful (orderAtom ν)) where
       joined : a ↑ e ≡ b ↑ d → (((x : Factor N) → Memᴰ x p → Memᴰ x q) → ((x : Factor N) → Memᴰ x q → Memᴰ x p) → p ≡ q) → a ↑ e ∷ p ≡ b ↑ d ∷ q
       joined i again =
           let x : a ≡ b = cc in
-          let r : p ≡ q = again (inner p q i (behind a e p s) (λ y m. Memᴰ.cases_cons (f y (Memᴰ.tail m)))) (inner q p i (λ y m. rw x (behind b d q t y m)) (λ y m. swap y (Memᴰ.cases_cons (g y (Memᴰ.tail m))))) in
+          let r : p ≡ q = again (inner p q i (behind a e p s) (λ y m. Memᴰ.cases_cons (f y (Memᴰ.tail m))))
+          (inner q p i (λ y m. rw x (behind b d q t y m)) (λ y m. swap y (Memᴰ.cases_cons (g y (Memᴰ.tail m))))) in
           cc
         where
           swap : (y : Factor N) → (y ≡ a ↑ e) ⊎ Memᴰ y p → (y ≡ b ↑ d) ⊎ Memᴰ y p
@@ -228,7 +232,8 @@ module _ {N : Type 0} (ν : Names N) (law : Lawful (orderAtom ν)) where
     pub long : length r ≡ length p
 
   pub swapped : (o u : Open N) (e : Exp) (p : Product N) → goodStored e ≡ true → Sorted ν p → length p ≤ 64 → Memᴰ (free o ↑ e) p
-      → ((left : Product N) → Removed (free o ↑ e) p left → All (λ x. ¬ (orderAtom ν (atomOf x) (free u) ≡ Ordering.eq)) left) → (r : Product N) × Swapped o u e p r
+      → ((left : Product N) → Removed (free o ↑ e) p left → All (λ x. ¬ (orderAtom ν (atomOf x) (free u) ≡ Ordering.eq)) left) → (r : Product N)
+      × Swapped o u e p r
   unfolding divide multiply inverse
   swapped o u e p g s few m free' =
       let (left, (i, out)) = removed (free o) e p g s m in

@@ -171,7 +171,8 @@ module _ {N : Type 0} (ν : Names N) where
     turn-fair i v P le h = record {
       known = λ u (o, (p, e)). rw e (kept o p (quantifies ν i v o) refl);
       below = λ j (o, (p, e)). under j o p e (quantifies ν i v o) refl;
-      apart = λ x (o, (p, e)) (w, (k, l)). h.apart x (rw (sym (only-name o (var x) e (λ n z. other-var n z))) at p) (rw (sym (only-name w (par x) l (λ n z. other-par n z))) at k);
+      apart = λ x (o, (p, e)) (w, (k, l)). h.apart x (rw (sym (only-name o (var x) e (λ n z. other-var n z))) at p)
+          (rw (sym (only-name w (par x) l (λ n z. other-par n z))) at k);
     }
       where
         that : (b : Bool) (u : Open N) → only_if b (quant i) ≡ some u → u ≡ quant i
@@ -231,11 +232,14 @@ module _ {N : Type 0} (ν : Names N) (law : Lawful (orderAtom ν)) (held : N →
       → quantifyFrom ν bounded i vs t bs ≡ (replaceTy ν bounded (renamed (all_of ν i vs)) t >>= λ u. got (u, renamedBounds (all_of ν i vs) bs))
   unfolding quantifyFrom opens
   in-turn i [] t bs P le h g k =
-      let z : replaceTy ν bounded (renamed (all_of ν i [])) t ≡ got t = ty_same ν bounded (renamed (all_of ν i [])) t (all-every (λ o. renamed (all_of ν i []) o ≡ none) (opens t) (λ o m. rw (nothing-handed ν i o))) in
+      let z : replaceTy ν bounded (renamed (all_of ν i [])) t ≡ got t =
+      ty_same ν bounded (renamed (all_of ν i [])) t
+      (all-every (λ o. renamed (all_of ν i []) o ≡ none) (opens t) (λ o m. rw (nothing-handed ν i o))) in
       sym (rw z (ap (λ (cs : List (Open N)). got (t, cs)) (no-bounds ν i bs)))
   in-turn i (v ∷ vs) t bs P le h g k =
       let (u, (a, b)) = ty-twice ν law held q tells P (quantifies ν i v) (all_of ν (suc i) vs) (all_of ν i (v ∷ vs)) (turns-twice i v vs P le h) t g k in
-      go u a b (in-turn (suc i) vs u (renamedBounds (quantifies ν i v) bs) (Becomes P (quantifies ν i v)) (omega arith) (turn-fair ν held q i v P (omega arith) h))
+      go u a b (in-turn (suc i) vs u (renamedBounds (quantifies ν i v) bs) (Becomes P (quantifies ν i v)) (omega arith)
+      (turn-fair ν held q i v P (omega arith) h))
     where
       good_turn : (o : Open N) (w : Ty N) → renamed (quantifies ν i v) o ≡ some w → GoodTy ν law held q w
       good_turn o w e = put-in i (v ∷ []) (omega arith) o w (ap (λ (x : Option (Open N)). and_then x (λ y. some (opened y))) (sym (one-turn ν i v o)) ∙ e)
@@ -252,15 +256,19 @@ module _ {N : Type 0} (ν : Names N) (law : Lawful (orderAtom ν)) (held : N →
         where
           go : (x : Option (Open N)) → quantifies ν i v o ≡ x → and_then x (λ y. some (opened y)) ≡ some w → All (Becomes P (quantifies ν i v)) (opens w)
           go none j l = absurd (some≢none (sym l))
-          go (some y) j l = let z : opened y ≡ w = cc in rw (sym z) (all_cons (Becomes P (quantifies ν i v)) (o, (p, rw j)) (all_nil (Becomes P (quantifies ν i v))))
+          go (some y) j l = let z : opened y ≡ w = cc
+              in rw (sym z) (all_cons (Becomes P (quantifies ν i v)) (o, (p, rw j)) (all_nil (Becomes P (quantifies ν i v))))
 
       go : (u : Ty N) → replaceTy ν bounded (renamed (quantifies ν i v)) t ≡ got u
           → replaceTy ν bounded (renamed (all_of ν (suc i) vs)) u ≡ replaceTy ν bounded (renamed (all_of ν i (v ∷ vs))) t
-          → (goodTy ν held q u ≡ true → All (Becomes P (quantifies ν i v)) (opens u) → quantifyFrom ν bounded (suc i) vs u (renamedBounds (quantifies ν i v) bs) ≡
+          → (goodTy ν held q u ≡ true → All (Becomes P (quantifies ν i v)) (opens u)
+          → quantifyFrom ν bounded (suc i) vs u (renamedBounds (quantifies ν i v) bs) ≡
           (replaceTy ν bounded (renamed (all_of ν (suc i) vs)) u >>= λ w. got (w, renamedBounds (all_of ν (suc i) vs) (renamedBounds (quantifies ν i v) bs))))
-          → quantifyFrom ν bounded i (v ∷ vs) t bs ≡ (replaceTy ν bounded (renamed (all_of ν i (v ∷ vs))) t >>= λ w. got (w, renamedBounds (all_of ν i (v ∷ vs)) bs))
+          → quantifyFrom ν bounded i (v ∷ vs) t bs
+          ≡ (replaceTy ν bounded (renamed (all_of ν i (v ∷ vs))) t >>= λ w. got (w, renamedBounds (all_of ν i (v ∷ vs)) bs))
       go u a b again =
-          rw a (again ((ty_kept ν law held q (renamed (quantifies ν i v)) good_turn t g).holds u a) (ty-occurs ν law held q tells (renamed (quantifies ν i v)) good_turn P (Becomes P (quantifies ν i v)) becomes becomes-put t u g a k)
+          rw a (again ((ty_kept ν law held q (renamed (quantifies ν i v)) good_turn t g).holds u a)
+          (ty-occurs ν law held q tells (renamed (quantifies ν i v)) good_turn P (Becomes P (quantifies ν i v)) becomes becomes-put t u g a k)
           ∙ rw (b, bounds-rest ν i v vs bs))
 
   -- a well formed type, none of whose names is a variable and a parameter
@@ -274,8 +282,10 @@ module _ {N : Type 0} (ν : Names N) (law : Lawful (orderAtom ν)) (held : N →
 
   -- quantifying is one replacing, and the count of all names that were handed
   pub quantify-once : (vs : List N) (t : Ty N) (bs : List (Open N)) → length vs ≤ q → goodTy ν held 0 t ≡ true → unmixed ν (opens t) ≡ true
-      → quantify ν bounded vs t bs ≡ (replaceTy ν bounded (renamed (all_of ν 0 vs)) t >>= λ u. schemeLimited bounded 1 u (renamedBounds (all_of ν 0 vs) bs) (scheme (length vs) u (renamedBounds (all_of ν 0 vs) bs)))
+      → quantify ν bounded vs t bs ≡ (replaceTy ν bounded (renamed (all_of ν 0 vs)) t
+      >>= λ u. schemeLimited bounded 1 u (renamedBounds (all_of ν 0 vs) bs) (scheme (length vs) u (renamedBounds (all_of ν 0 vs) bs)))
   unfolding quantify
   quantify-once vs t bs le g m =
       let e = in-turn 0 vs t bs (λ o. Memᴰ o (opens t)) (omega arith) (given-fair t g m) (ty-weaker ν held 0 q (omega arith) t g) (λ o i. i) in
-      rw e (bind-got (replaceTy ν bounded (renamed (all_of ν 0 vs)) t) (λ u. (u, renamedBounds (all_of ν 0 vs) bs)) (λ w. schemeLimited bounded 1 w.0 w.1 (scheme (length vs) w.0 w.1)))
+      rw e (bind-got (replaceTy ν bounded (renamed (all_of ν 0 vs)) t) (λ u. (u, renamedBounds (all_of ν 0 vs) bs))
+      (λ w. schemeLimited bounded 1 w.0 w.1 (scheme (length vs) w.0 w.1)))

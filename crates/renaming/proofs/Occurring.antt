@@ -52,7 +52,9 @@ module _ {N : Type 0} (ν : Names N) (law : Lawful (orderAtom ν)) (held : N →
       let f = fits-got ν law held q exact look good p p r i in
       let z : got (valued ν (value_of look) p) ≡ got r = sym (replace-exact ν law tells look p (good-proper ν law held q p g) f) ∙ i in
       let y : valued ν (value_of look) p ≡ r = cc in
-      rw (sym y) (each_opens Q (valued ν (value_of look) p) (valued-on Q ν (value_of look) p (λ n. (tt, tt)) (λ o m. value o (h o m) (fits-fit ν (λ a. goodAtom ν held q a ≡ true) look p f o m) (look o) refl)))
+      rw (sym y) (each_opens Q (valued ν (value_of look) p)
+      (valued-on Q ν (value_of look) p (λ n. (tt, tt))
+      (λ o m. value o (h o m) (fits-fit ν (λ a. goodAtom ν held q a ≡ true) look p f o m) (look o) refl)))
     where
       factors : (o : Open N) (t : Ty N) (d : Product N) → P o → look o ≡ some t → (t ≡ dim d) ⊎ ((u : Open N) × (t ≡ opened u) × (d ≡ just u))
           → All Q (collect openOfFactor d)
@@ -96,20 +98,26 @@ module _ {N : Type 0} (ν : Names N) (law : Lawful (orderAtom ν)) (held : N →
     ty-occurs (struct n as' fs) u' g e h =
         let s = two_steps (replaceTys ν bounded look as') (λ _. replaceFields ν bounded look fs) (struct n) u' e in
         let ga = and_left (held n && goodTys ν held q as' && goodFields ν held q fs) _ g in
-        rw (sym s.both) (all_append Q (opensTys s.first) (tys-occur as' s.first (and_right (held n) _ (and_left (held n && goodTys ν held q as') _ ga)) s.gave (λ o m. h o
-        (Memᴰ.append_left (opensFields fs) m))) (fields-occur fs s.second (and_right (held n && goodTys ν held q as') _ ga) s.then (λ o m. h o (Memᴰ.append_right (opensTys as') m))))
+        rw (sym s.both) (all_append Q (opensTys s.first)
+        (tys-occur as' s.first (and_right (held n) _ (and_left (held n && goodTys ν held q as') _ ga)) s.gave (λ o m. h o
+        (Memᴰ.append_left (opensFields fs) m)))
+        (fields-occur fs s.second (and_right (held n && goodTys ν held q as') _ ga) s.then (λ o m. h o (Memᴰ.append_right (opensTys as') m))))
     ty-occurs (list u) u' g e h = let s = one-step (replaceTy ν bounded look u) list u' e in rw (sym s.is) (ty-occurs u s.value g s.gave h)
 
     tys-occur : (us us' : Tys N) → goodTys ν held q us ≡ true → replaceTys ν bounded look us ≡ got us' → All P (opensTys us) → All Q (opensTys us')
     tys-occur nil us' g e h = let z : nil ≡ us' = cc in rw (sym z) (all_nil Q)
     tys-occur (cons u us) us' g e h =
         let s = two_steps (replaceTy ν bounded look u) (λ _. replaceTys ν bounded look us) cons us' e in
-        rw (sym s.both) (all_append Q (opens s.first) (ty-occurs u s.first (and_left (goodTy ν held q u) _ g) s.gave (λ o m. h o (Memᴰ.append_left (opensTys us) m))) (tys-occur us s.second (and_right (goodTy ν held q u) _ g) s.then (λ o m. h o (Memᴰ.append_right (opens u) m))))
+        rw (sym s.both) (all_append Q (opens s.first)
+        (ty-occurs u s.first (and_left (goodTy ν held q u) _ g) s.gave (λ o m. h o (Memᴰ.append_left (opensTys us) m)))
+        (tys-occur us s.second (and_right (goodTy ν held q u) _ g) s.then (λ o m. h o (Memᴰ.append_right (opens u) m))))
 
     fields-occur : (fs fs' : Fields N) → goodFields ν held q fs ≡ true → replaceFields ν bounded look fs ≡ got fs' → All P (opensFields fs)
         → All Q (opensFields fs')
     fields-occur noFields fs' g e h = let z : noFields ≡ fs' = cc in rw (sym z) (all_nil Q)
     fields-occur (field n u fs) fs' g e h =
         let s = two_steps (replaceTy ν bounded look u) (λ _. replaceFields ν bounded look fs) (field n) fs' e in
-        rw (sym s.both) (all_append Q (opens s.first) (ty-occurs u s.first (and_right (held n) _ (and_left (held n && goodTy ν held q u) _ g)) s.gave (λ o m. h o
-        (Memᴰ.append_left (opensFields fs) m))) (fields-occur fs s.second (and_right (held n && goodTy ν held q u) _ g) s.then (λ o m. h o (Memᴰ.append_right (opens u) m))))
+        rw (sym s.both) (all_append Q (opens s.first)
+        (ty-occurs u s.first (and_right (held n) _ (and_left (held n && goodTy ν held q u) _ g)) s.gave (λ o m. h o
+        (Memᴰ.append_left (opensFields fs) m)))
+        (fields-occur fs s.second (and_right (held n && goodTy ν held q u) _ g) s.then (λ o m. h o (Memᴰ.append_right (opens u) m))))

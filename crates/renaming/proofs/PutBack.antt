@@ -72,7 +72,12 @@ module _ {N : Type 0} (ν : Names N) (law : Lawful (orderAtom ν)) (held : N →
   named = record { known = λ o p. p.0; none-quantified = λ j p. p.1 j refl }
 
   none-renamed : Renames ν held q Q (λ o. none)
-  none-renamed = record { dimension = λ o u p e. absurd (some≢none (sym e)); good = λ o u p e. absurd (some≢none (sym e)); new = λ o u p e. absurd (some≢none (sym e)); apart = λ o w u p k e d. absurd (some≢none (sym e)) }
+  none-renamed = record {
+    dimension = λ o u p e. absurd (some≢none (sym e));
+    good = λ o u p e. absurd (some≢none (sym e));
+    new = λ o u p e. absurd (some≢none (sym e));
+    apart = λ o w u p k e d. absurd (some≢none (sym e));
+  }
 
   module _ (t : Ty N) (bs : List (Open N)) (good : goodTy ν held (length vs) t ≡ true) (short : size t + length bs ≤ 2048) (flat : depth t ≤ 64) where
     -- what comes of the type
@@ -87,10 +92,12 @@ module _ {N : Type 0} (ν : Names N) (law : Lawful (orderAtom ν)) (held : N →
     put-back u e =
         let g : goodTy ν held q t ≡ true = ty-weaker ν held (length vs) q le t good in
         let w : goodTy ν held q u ≡ true = (ty_kept ν law held q (renamed (back vs)) good-put t g).holds u e in
-        let names = ty-occurs ν law held q tells (renamed (back vs)) good-put P Q stays goes t u g e (every-all P (opens t) (ty-known ν held (length vs) t good)) in
+        let names = ty-occurs ν law held q tells (renamed (back vs)) good-put P Q stays goes t u g e
+        (every-all P (opens t) (ty-known ν held (length vs) t good)) in
         let r = plain-once ν law held q tells Q named u w names in
         let a = ty-short ν law (back vs) (back-away ν law vs) held q t u g e in
-        let b = plain_size ν law held q tells Q (λ o. none) none-renamed u u w names (ty_same ν bounded (renamed (λ o. none)) u (all-every (λ o. renamed (λ o. none) o ≡ none) (opens u) (λ o m. refl))) in
+        let b = plain_size ν law held q tells Q (λ o. none) none-renamed u u w names
+        (ty_same ν bounded (renamed (λ o. none)) u (all-every (λ o. renamed (λ o. none) o ≡ none) (opens u) (λ o m. refl))) in
         let c = renamed-deep ν bounded (back vs) t u e in
         let d = renamed-deep ν bounded (own held) u (plain u true) r in
         record { well = w; reads = r; fits = omega arith; first_fits = a; shallow = omega arith }
@@ -112,4 +119,5 @@ module _ {N : Type 0} (ν : Names N) (law : Lawful (orderAtom ν)) (held : N →
         go (got u) e =
             let b = put-back u e in
             let f = b.fits in
-            sized-kept (0 + (size (plain u true) + length bs)) (depth (plain u true)) (plain u true, renamedBounds (back vs) bs) (omega arith) b.shallow ∙ sym (rw b.reads)
+            sized-kept (0 + (size (plain u true) + length bs)) (depth (plain u true)) (plain u true, renamedBounds (back vs) bs) (omega arith)
+            b.shallow ∙ sym (rw b.reads)

@@ -145,9 +145,11 @@ module _ {N : Type 0} (ν : Names N) (law : Lawful (orderAtom ν)) where
 
         moved_on : (u : Open N) → f o ≡ some u
             → ((acc' : Product N) → Sorted ν acc' → Waiting rest acc' → replaceFactors ν bounded (renamed f) rest acc' ≡ got r → length r ≤ length acc')
-            → (divide ν bounded acc (free o ↑ k ∷ []) >>= λ left. multiply ν bounded left (free u ↑ k ∷ []) >>= λ acc'. replaceFactors ν bounded (renamed f) rest acc') ≡ got r → length r ≤ length acc
+            → (divide ν bounded acc (free o ↑ k ∷ []) >>= λ left. multiply ν bounded left (free u ↑ k ∷ [])
+            >>= λ acc'. replaceFactors ν bounded (renamed f) rest acc') ≡ got r → length r ≤ length acc
         moved_on u i again j =
-            let (left, a, b) = bound-step (divide ν bounded acc (free o ↑ k ∷ [])) (λ left. multiply ν bounded left (free u ↑ k ∷ []) >>= λ acc'. replaceFactors ν bounded (renamed f) rest acc') r j in
+            let (left, a, b) = bound-step (divide ν bounded acc (free o ↑ k ∷ []))
+            (λ left. multiply ν bounded left (free u ↑ k ∷ []) >>= λ acc'. replaceFactors ν bounded (renamed f) rest acc') r j in
             let (acc', c, d) = bound-step (multiply ν bounded left (free u ↑ k ∷ [])) (λ acc'. replaceFactors ν bounded (renamed f) rest acc') r b in
             let (left', (p, out)) = removed ν law (free o) k acc (g (free o ↑ k) in_head) t (w o u k in_head i) in
             let q : merge ν bounded acc (free o ↑ neg k ∷ []) ≡ got left = multiply-is acc (free o ↑ neg k ∷ []) left a in
@@ -156,7 +158,9 @@ module _ {N : Type 0} (ν : Names N) (law : Lawful (orderAtom ν)) where
             let sl : Sorted ν left = ((merge-sorted ν law bounded acc (free o ↑ neg k ∷ []) t (tt, tt)).holds left q).0 in
             let more = added (free u) k left acc' m in
             let out' : Removed (free o ↑ k) acc left = rw same at out in
-            let n = again acc' ((merge-sorted ν law bounded left (free u ↑ k ∷ []) sl (tt, tt)).holds acc' m).0 (λ v x y l z. more.kept (free v ↑ y) (stays left out' v y l (out'.kept (free v ↑ y) (w v x y (Memᴰ.tail l) z))) (h.apart o u v x i z)) d in
+            let n = again acc' ((merge-sorted ν law bounded left (free u ↑ k ∷ []) sl (tt, tt)).holds acc' m).0
+            (λ v x y l z. more.kept (free v ↑ y) (stays left out' v y l (out'.kept (free v ↑ y) (w v x y (Memᴰ.tail l) z)))
+            (h.apart o u v x i z)) d in
             let a1 = out'.shorter in
             let a2 = more.short in
             omega arith

@@ -110,65 +110,69 @@ module _ {N : Type 0} (ν : Names N) (l : Limits) (f : Open N → Option (Open N
 
 -- ══ Records ══
 
-module _ {N : Type 0} (ν : Names N) (law : Lawful (orderAtom ν)) (held : N → Bool) (q : ℕ) (tells : Tells (λ a. goodAtom ν held q a ≡ true) (orderAtom ν)) (P : Open N → Type 0) (f : Open N → Option (Open N)) (h : Renames ν held q P f) where
-  -- a type has a record at the least
-  some-record : (t : Ty N) → 1 ≤ size t
-  unfolding size
-  some-record (opened o) = omega arith
-  some-record (basic b) = omega arith
-  some-record (dim p) = omega arith
-  some-record (fn ps r) = omega arith
-  some-record (struct n as' fs) = omega arith
-  some-record (list t) = omega arith
+module _ {N : Type 0} (ν : Names N) (law : Lawful (orderAtom ν)) (held : N → Bool) (q : ℕ)
+    (tells : Tells (λ a. goodAtom ν held q a ≡ true) (orderAtom ν)) (P : Open N → Type 0) (f : Open N → Option (Open N)) (h : Renames ν held q P f)
+  where
+    -- a type has a record at the least
+    some-record : (t : Ty N) → 1 ≤ size t
+    unfolding size
+    some-record (opened o) = omega arith
+    some-record (basic b) = omega arith
+    some-record (dim p) = omega arith
+    some-record (fn ps r) = omega arith
+    some-record (struct n as' fs) = omega arith
+    some-record (list t) = omega arith
 
-  dim-size : (s : Option (Open N)) (p : Product N) (u : Ty N) → goodProduct ν held q p ≡ true → All P (collect openOfFactor p)
-      → replaceDim ν bounded (renamed f) s p ≡ got u → size (plainDim s p) ≤ size u
-  unfolding replaceDim plainDim size
-  dim-size (some o) p u g k e = some-record u
-  dim-size none p u g k e =
-      let (r, m) = product-renamed ν law held q tells P f h p g k in
-      let z : got (dim r) ≡ got u = sym (rw m.is) ∙ e in
-      let y : dim r ≡ u = cc in
-      rw (sym y) (let n = m.long in omega arith)
+    dim-size : (s : Option (Open N)) (p : Product N) (u : Ty N) → goodProduct ν held q p ≡ true → All P (collect openOfFactor p)
+        → replaceDim ν bounded (renamed f) s p ≡ got u → size (plainDim s p) ≤ size u
+    unfolding replaceDim plainDim size
+    dim-size (some o) p u g k e = some-record u
+    dim-size none p u g k e =
+        let (r, m) = product-renamed ν law held q tells P f h p g k in
+        let z : got (dim r) ≡ got u = sym (rw m.is) ∙ e in
+        let y : dim r ≡ u = cc in
+        rw (sym y) (let n = m.long in omega arith)
 
-  mutual
-    unfolding replaceTy opens goodTy plain size
+    mutual
+      unfolding replaceTy opens goodTy plain size
 
-    -- with single variables read as variables it has no more records than renamed
-    pub plain_size : (t u : Ty N) → goodTy ν held q t ≡ true → All P (opens t) → replaceTy ν bounded (renamed f) t ≡ got u → size (plain t true) ≤ size u
-    plain_size (opened o) u g k e = some-record u
-    plain_size (basic b) u g k e = some-record u
-    plain_size (dim p) u g k e = dim-size (single p) p u g k e
-    plain_size (fn ps r) u g k e =
-        let s = two_steps (replaceTys ν bounded (renamed f) ps) (λ _. replaceTy ν bounded (renamed f) r) fn u e in
-        let a = plain-sizes ps s.first (and_left (goodTys ν held q ps) _ g) (λ o m. k o (Memᴰ.append_left (opens r) m)) s.gave in
-        let b = plain_size r s.second (and_right (goodTys ν held q ps) _ g) (λ o m. k o (Memᴰ.append_right (opensTys ps) m)) s.then in
-        rw (sym s.both) (omega arith)
-    plain_size (struct n as' fs) u g k e =
-        let s = two_steps (replaceTys ν bounded (renamed f) as') (λ _. replaceFields ν bounded (renamed f) fs) (struct n) u e in
-        let ga = and_left (held n && goodTys ν held q as' && goodFields ν held q fs) _ g in
-        let a = plain-sizes as' s.first (and_right (held n) _ (and_left (held n && goodTys ν held q as') _ ga)) (λ o m. k o (Memᴰ.append_left (opensFields fs) m)) s.gave in
-        let b = plain-field-sizes fs s.second (and_right (held n && goodTys ν held q as') _ ga) (λ o m. k o (Memᴰ.append_right (opensTys as') m)) s.then in
-        rw (sym s.both) (omega arith)
-    plain_size (list t) u g k e =
-        let s = one-step (replaceTy ν bounded (renamed f) t) list u e in
-        let a = plain_size t s.value g k s.gave in
-        rw (sym s.is) (omega arith)
+      -- with single variables read as variables it has no more records than renamed
+      pub plain_size : (t u : Ty N) → goodTy ν held q t ≡ true → All P (opens t) → replaceTy ν bounded (renamed f) t ≡ got u → size (plain t true) ≤ size u
+      plain_size (opened o) u g k e = some-record u
+      plain_size (basic b) u g k e = some-record u
+      plain_size (dim p) u g k e = dim-size (single p) p u g k e
+      plain_size (fn ps r) u g k e =
+          let s = two_steps (replaceTys ν bounded (renamed f) ps) (λ _. replaceTy ν bounded (renamed f) r) fn u e in
+          let a = plain-sizes ps s.first (and_left (goodTys ν held q ps) _ g) (λ o m. k o (Memᴰ.append_left (opens r) m)) s.gave in
+          let b = plain_size r s.second (and_right (goodTys ν held q ps) _ g) (λ o m. k o (Memᴰ.append_right (opensTys ps) m)) s.then in
+          rw (sym s.both) (omega arith)
+      plain_size (struct n as' fs) u g k e =
+          let s = two_steps (replaceTys ν bounded (renamed f) as') (λ _. replaceFields ν bounded (renamed f) fs) (struct n) u e in
+          let ga = and_left (held n && goodTys ν held q as' && goodFields ν held q fs) _ g in
+          let a = plain-sizes as' s.first (and_right (held n) _ (and_left (held n && goodTys ν held q as') _ ga))
+          (λ o m. k o (Memᴰ.append_left (opensFields fs) m)) s.gave in
+          let b = plain-field-sizes fs s.second (and_right (held n && goodTys ν held q as') _ ga) (λ o m. k o (Memᴰ.append_right (opensTys as') m)) s.then in
+          rw (sym s.both) (omega arith)
+      plain_size (list t) u g k e =
+          let s = one-step (replaceTy ν bounded (renamed f) t) list u e in
+          let a = plain_size t s.value g k s.gave in
+          rw (sym s.is) (omega arith)
 
-    plain-sizes : (ts us : Tys N) → goodTys ν held q ts ≡ true → All P (opensTys ts) → replaceTys ν bounded (renamed f) ts ≡ got us
-        → sizeTys (plainTys ts true) ≤ sizeTys us
-    plain-sizes nil us g k e = omega arith
-    plain-sizes (cons t ts) us g k e =
-        let s = two_steps (replaceTy ν bounded (renamed f) t) (λ _. replaceTys ν bounded (renamed f) ts) cons us e in
-        let a = plain_size t s.first (and_left (goodTy ν held q t) _ g) (λ o m. k o (Memᴰ.append_left (opensTys ts) m)) s.gave in
-        let b = plain-sizes ts s.second (and_right (goodTy ν held q t) _ g) (λ o m. k o (Memᴰ.append_right (opens t) m)) s.then in
-        rw (sym s.both) (omega arith)
+      plain-sizes : (ts us : Tys N) → goodTys ν held q ts ≡ true → All P (opensTys ts) → replaceTys ν bounded (renamed f) ts ≡ got us
+          → sizeTys (plainTys ts true) ≤ sizeTys us
+      plain-sizes nil us g k e = omega arith
+      plain-sizes (cons t ts) us g k e =
+          let s = two_steps (replaceTy ν bounded (renamed f) t) (λ _. replaceTys ν bounded (renamed f) ts) cons us e in
+          let a = plain_size t s.first (and_left (goodTy ν held q t) _ g) (λ o m. k o (Memᴰ.append_left (opensTys ts) m)) s.gave in
+          let b = plain-sizes ts s.second (and_right (goodTy ν held q t) _ g) (λ o m. k o (Memᴰ.append_right (opens t) m)) s.then in
+          rw (sym s.both) (omega arith)
 
-    plain-field-sizes : (fs gs : Fields N) → goodFields ν held q fs ≡ true → All P (opensFields fs) → replaceFields ν bounded (renamed f) fs ≡ got gs
-        → sizeFields (plainFields fs true) ≤ sizeFields gs
-    plain-field-sizes noFields gs g k e = omega arith
-    plain-field-sizes (field n t fs) gs g k e =
-        let s = two_steps (replaceTy ν bounded (renamed f) t) (λ _. replaceFields ν bounded (renamed f) fs) (field n) gs e in
-        let a = plain_size t s.first (and_right (held n) _ (and_left (held n && goodTy ν held q t) _ g)) (λ o m. k o (Memᴰ.append_left (opensFields fs) m)) s.gave in
-        let b = plain-field-sizes fs s.second (and_right (held n && goodTy ν held q t) _ g) (λ o m. k o (Memᴰ.append_right (opens t) m)) s.then in
-        rw (sym s.both) (omega arith)
+      plain-field-sizes : (fs gs : Fields N) → goodFields ν held q fs ≡ true → All P (opensFields fs) → replaceFields ν bounded (renamed f) fs ≡ got gs
+          → sizeFields (plainFields fs true) ≤ sizeFields gs
+      plain-field-sizes noFields gs g k e = omega arith
+      plain-field-sizes (field n t fs) gs g k e =
+          let s = two_steps (replaceTy ν bounded (renamed f) t) (λ _. replaceFields ν bounded (renamed f) fs) (field n) gs e in
+          let a = plain_size t s.first (and_right (held n) _ (and_left (held n && goodTy ν held q t) _ g))
+          (λ o m. k o (Memᴰ.append_left (opensFields fs) m)) s.gave in
+          let b = plain-field-sizes fs s.second (and_right (held n && goodTy ν held q t) _ g) (λ o m. k o (Memᴰ.append_right (opens t) m)) s.then in
+          rw (sym s.both) (omega arith)

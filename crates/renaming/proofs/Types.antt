@@ -74,7 +74,8 @@ module _ {N : Type 0} where
       go none i = rw i
       go (some u) i = rw i
 
-module _ {N : Type 0} (ν : Names N) (law : Lawful (orderAtom ν)) (held : N → Bool) (q : ℕ) (tells : Tells (λ a. goodAtom ν held q a ≡ true) (orderAtom ν)) (P : Open N → Type 0) where
+module _ {N : Type 0} (ν : Names N) (law : Lawful (orderAtom ν)) (held : N → Bool) (q : ℕ)
+    (tells : Tells (λ a. goodAtom ν held q a ≡ true) (orderAtom ν)) (P : Open N → Type 0) where
   -- ══ Twice is once ══
 
   -- f, then g, on the names of P is h; a parameter that f renames, g leaves alone
@@ -181,19 +182,31 @@ module _ {N : Type 0} (ν : Names N) (law : Lawful (orderAtom ν)) (held : N →
         product : (r s s' : Product N) → single p ≡ none → Renamed ν law held q tells P f w.first p r
             → Renamed ν law held q tells (Becomes P f) g w.second r s → Renamed ν law held q tells P h w.whole p s' → (b : Option (Open N))
             → single r ≡ b → Both (dim p)
-        product r s s' i a c d none j = (dim r, (rw (i, replaceDim) (rw a.is), rw (j, i, replaceDim) (rw (c.is, d.is) (ap (λ (x : Product N). got (dim x)) (product-once p r s s' k a c.moves d.moves)))))
+        product r s s' i a c d none j = (
+          dim r,
+          (
+            rw (i, replaceDim) (rw a.is),
+            rw (j, i, replaceDim) (rw (c.is, d.is) (ap (λ (x : Product N). got (dim x)) (product-once p r s s' k a c.moves d.moves))),
+          ),
+        )
         product r s s' i a c d (some u) j =
             let n : g u ≡ none = alone p r u k a i j in
             let v : r ≡ just u = single-is r u j in
             let x : got s ≡ got r = sym c.is ∙ ap (replaceProduct ν bounded (renamed g)) v ∙ alone-stays u n ∙ ap got (sym v) in
-            let y : s ≡ r = cc in
-            (dim r, (rw (i, replaceDim) (rw a.is), rw (j, i, replaceDim) (rw (n, d.is) (ap (λ (x : Product N). got (dim x)) (sym y ∙ product-once p r s s' k a c.moves d.moves)))))
+            let y : s ≡ r = cc in (
+              dim r,
+              (
+                rw (i, replaceDim) (rw a.is),
+                rw (j, i, replaceDim) (rw (n, d.is) (ap (λ (x : Product N). got (dim x)) (sym y ∙ product-once p r s s' k a c.moves d.moves))),
+              ),
+            )
 
         go : (b : Option (Open N)) → single p ≡ b → Both (dim p)
         go (some o) i = let l : P o = k o (rw (single-is p o i) in_head) in one_name o i l (f o) refl (w.same o l)
         go none i =
             let (r, a) = product-renamed ν law held q tells P f w.first p good k in
-            let (s, c) = product-renamed ν law held q tells (Becomes P f) g w.second r (renamed-good ν law held q tells P f w.first p r good k a) (renamed-names ν law held q tells P f w.first p r good k a) in
+            let (s, c) = product-renamed ν law held q tells (Becomes P f) g w.second r (renamed-good ν law held q tells P f w.first p r good k a)
+            (renamed-names ν law held q tells P f w.first p r good k a) in
             let (s', d) = product-renamed ν law held q tells P h w.whole p good k in
             product r s s' i a c d (single r) refl
 
@@ -201,7 +214,10 @@ module _ {N : Type 0} (ν : Names N) (law : Lawful (orderAtom ν)) (held : N →
       unfolding replaceTy opens goodTy andLater
 
       pub ty-twice : (t : Ty N) → goodTy ν held q t ≡ true → All P (opens t) → Both t
-      ty-twice (opened o) good k = (opened (moved f o), (ap got (opened-renamed f o), ap got (opened-renamed g (moved f o) ∙ ap opened (sym (once o (k o in_head))) ∙ sym (opened-renamed h o))))
+      ty-twice (opened o) good k = (
+        opened (moved f o),
+        (ap got (opened-renamed f o), ap got (opened-renamed g (moved f o) ∙ ap opened (sym (once o (k o in_head))) ∙ sym (opened-renamed h o))),
+      )
       ty-twice (basic b) good k = (basic b, (refl, refl))
       ty-twice (dim p) good k = dim-twice p good k
       ty-twice (fn ps r) good k =
@@ -210,7 +226,8 @@ module _ {N : Type 0} (ν : Names N) (law : Lawful (orderAtom ν)) (held : N →
           (fn us u, (rw (a, c), rw (b, d)))
       ty-twice (struct n as' fs) good k =
           let ga = and_left (held n && goodTys ν held q as' && goodFields ν held q fs) _ good in
-          let (us, (a, b)) = tys_twice as' (and_right (held n) _ (and_left (held n && goodTys ν held q as') _ ga)) (λ o m. k o (Memᴰ.append_left (opensFields fs) m)) in
+          let (us, (a, b)) = tys_twice as' (and_right (held n) _ (and_left (held n && goodTys ν held q as') _ ga))
+          (λ o m. k o (Memᴰ.append_left (opensFields fs) m)) in
           let (gs, (c, d)) = fields-twice fs (and_right (held n && goodTys ν held q as') _ ga) (λ o m. k o (Memᴰ.append_right (opensTys as') m)) in
           (struct n us gs, (rw (a, c), rw (b, d)))
       ty-twice (list t) good k = let (u, (a, b)) = ty-twice t good k in (list u, (rw a, rw b))
@@ -224,9 +241,11 @@ module _ {N : Type 0} (ν : Names N) (law : Lawful (orderAtom ν)) (held : N →
           (cons u us, (rw (a, c), rw (b, d)))
 
       fields-twice : (fs : Fields N) → goodFields ν held q fs ≡ true → All P (opensFields fs)
-          → (gs : Fields N) × ((replaceFields ν bounded (renamed f) fs ≡ got gs) × (replaceFields ν bounded (renamed g) gs ≡ replaceFields ν bounded (renamed h) fs))
+          → (gs : Fields N) × ((replaceFields ν bounded (renamed f) fs ≡ got gs)
+          × (replaceFields ν bounded (renamed g) gs ≡ replaceFields ν bounded (renamed h) fs))
       fields-twice noFields good k = (noFields, (refl, refl))
       fields-twice (field n t fs) good k =
-          let (u, (a, b)) = ty-twice t (and_right (held n) _ (and_left (held n && goodTy ν held q t) _ good)) (λ o m. k o (Memᴰ.append_left (opensFields fs) m)) in
+          let (u, (a, b)) = ty-twice t (and_right (held n) _ (and_left (held n && goodTy ν held q t) _ good))
+          (λ o m. k o (Memᴰ.append_left (opensFields fs) m)) in
           let (gs, (c, d)) = fields-twice fs (and_right (held n && goodTy ν held q t) _ good) (λ o m. k o (Memᴰ.append_right (opens t) m)) in
           (field n u gs, (rw (a, c), rw (b, d)))

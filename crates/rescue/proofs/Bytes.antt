@@ -87,4 +87,6 @@ bytes_back (a ∷ b ∷ c ∷ d ∷ bs) h e =
     let w = h.1.0 in
     let x = h.1.1.0 in
     let y = h.1.1.1.0 in
-    ap₂ ◌∷◌ (first_back a b c d h.0 w x y) (ap₂ ◌∷◌ (second_back a b c d h.0 w x y) (ap₂ ◌∷◌ (third_back a b c d h.0 w x y) (ap₂ ◌∷◌ (fourth-back a b c d h.0 w x y) (bytes_back bs h.1.1.1.1 (omega arith)))))
+    ap₂ ◌∷◌ (first_back a b c d h.0 w x y)
+    (ap₂ ◌∷◌ (second_back a b c d h.0 w x y)
+    (ap₂ ◌∷◌ (third_back a b c d h.0 w x y) (ap₂ ◌∷◌ (fourth-back a b c d h.0 w x y) (bytes_back bs h.1.1.1.1 (omega arith)))))

@@ -8,13 +8,80 @@ use Prim.Native.Nat.{ℕ, zero, suc, ◌<◌, Ordering}
 use native.Mathlib.Omega.{arith}
 use Rattle.rules.specs.Base.{Got, got, refused, ◌>>=◌, ◌>>◌, Limits, bounded, exact, need, allow, within, sized, each, collect}
 use Rattle.rules.specs.Exponents.{Exp, in_range, plus, mul, neg, sum, times, inverted, timesInverse, quotient}
-use Rattle.rules.specs.Trees.{Open, var, quant, par, Atom, free, base, Factor, ◌↑◌, Product, Names, Ty, opened, basic, dim, fn, struct, list, Tys, nil, cons, Fields, noFields, field, Con, equal, isDim, is_scalar, hasField, Binding, ◌≔◌, orderAtom, opensCon}
+use Rattle.rules.specs.Trees.{
+  Open,
+  var,
+  quant,
+  par,
+  Atom,
+  free,
+  base,
+  Factor,
+  ◌↑◌,
+  Product,
+  Names,
+  Ty,
+  opened,
+  basic,
+  dim,
+  fn,
+  struct,
+  list,
+  Tys,
+  nil,
+  cons,
+  Fields,
+  noFields,
+  field,
+  Con,
+  equal,
+  isDim,
+  is_scalar,
+  hasField,
+  Binding,
+  ◌≔◌,
+  orderAtom,
+  opensCon,
+}
 use Rattle.rules.specs.Views.{productOf, asVar}
 use Rattle.rules.specs.Names.{Table, table_of, numbersOf, lentTable}
 use Rattle.rules.specs.Contents.{unmixed}
 use Rattle.rules.specs.Products.{inverse, mergeOne, merge, multiply, divide, raise, single}
-use Rattle.rules.specs.Replacing.{Look, asProduct, replaceFactors, replaceProduct, replaceDim, replaceTy, replaceTys, replaceFields, replaceCon, replaceBinding, bindings}
-use Rattle.rules.specs.Rounds.{Step, bind, split, done, stuck, State, dimensions, by_kind, orTry, otherSide, firstRules, trySatisfy, taken, sizeState, depthState, limited, firstStep, perform, performed, round}
+use Rattle.rules.specs.Replacing.{
+  Look,
+  asProduct,
+  replaceFactors,
+  replaceProduct,
+  replaceDim,
+  replaceTy,
+  replaceTys,
+  replaceFields,
+  replaceCon,
+  replaceBinding,
+  bindings,
+}
+use Rattle.rules.specs.Rounds.{
+  Step,
+  bind,
+  split,
+  done,
+  stuck,
+  State,
+  dimensions,
+  by_kind,
+  orTry,
+  otherSide,
+  firstRules,
+  trySatisfy,
+  taken,
+  sizeState,
+  depthState,
+  limited,
+  firstStep,
+  perform,
+  performed,
+  round,
+}
 use Rattle.rules.specs.Solving.{Answer, accepted, remaining, stopped, finished, finish, after, enough, run, solve}
 use Rattle.rules.specs.Calls.{lent, lentResult, lentWork, apart, refusedAfter, solvedOf, solvedSet, solveCall}
 use Rattle.rules.specs.Rescue.{words_in, piecesIn, rescueGiven}

@@ -29,12 +29,14 @@ module _ (pool table file : List ℕ) where
   handled kept skipped g k m n = simp (le-leb _ _ g.bytes, le-leb _ _ g.words, le-leb _ _ k, le-leb _ _ m, le-leb _ _ n, g.good)
 
   -- 'what is kept is a well formed set'
-  pub kept-passes : Bytes file → (k m : ℕ) → rescueGiven pool table file k m ≡ got tt → setCall pool table (words_in (keptBytes (piecesIn (table_of pool table) (words_in file)))) ≡ got tt
+  pub kept-passes : Bytes file → (k m : ℕ) → rescueGiven pool table file k m ≡ got tt
+      → setCall pool table (words_in (keptBytes (piecesIn (table_of pool table) (words_in file)))) ≡ got tt
   unfolding setCall aloneGiven lentTable shortLists tableKept all
   kept-passes b k m e =
       let g = given-good pool table file k m e in
       let ps = piecesIn (table_of pool table) (words_in file) in
-      let n : length (words_in (keptBytes ps)) ≤ 8192 = omega (arith, ap length (kept_read pool table file b), words-length (keptIn ps), all-counted pool table file b, g.short) in
+      let n : length (words_in (keptBytes ps)) ≤ 8192 = omega
+      (arith, ap length (kept_read pool table file b), words-length (keptIn ps), all-counted pool table file b, g.short) in
       simp (le-leb _ _ g.good.bytes, le-leb _ _ g.good.words, le-leb _ _ n, g.good.good, kept-well pool table file b)
 
   -- 'a file that was good comes out the same, with an empty list'
@@ -57,5 +59,6 @@ module _ (pool table file : List ℕ) where
   kept-solved b k m e =
       let g = given-good pool table file k m e in
       let ps = piecesIn (table_of pool table) (words_in file) in
-      let n : length (words_in (keptBytes ps)) ≤ 8192 = omega (arith, ap length (kept_read pool table file b), words-length (keptIn ps), all-counted pool table file b, g.short) in
+      let n : length (words_in (keptBytes ps)) ≤ 8192 = omega
+      (arith, ap length (kept_read pool table file b), words-length (keptIn ps), all-counted pool table file b, g.short) in
       simp (le-leb _ _ n, g.good.good, kept-well pool table file b)

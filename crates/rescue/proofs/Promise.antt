@@ -69,7 +69,8 @@ module _ (t : Table) where
     by-pieces (suc n) [] h = end
     by-pieces (suc n) (r ∷ rs) h = go (startsHere t (r ∷ rs)) refl (by-pieces n)
       where
-        go : (o : Option (Con ℕ × List Rec)) → startsHere t (r ∷ rs) ≡ o → ((qs : List Rec) → Small qs → P qs (pieces t n qs)) → P (r ∷ rs) (pieces t (suc n) (r ∷ rs))
+        go : (o : Option (Con ℕ × List Rec)) → startsHere t (r ∷ rs) ≡ o → ((qs : List Rec) → Small qs → P qs (pieces t n qs))
+            → P (r ∷ rs) (pieces t (suc n) (r ∷ rs))
         go none e k = rw (e, pieces) (skip r rs (pieces t n rs) (k rs (rest-small r rs h)))
         go (some v) e k =
             let i = (con-read (r ∷ rs) h).holds v.0 v.1 (starts_is (r ∷ rs) v e).0 in
@@ -85,7 +86,8 @@ pub named : (as' bs : List Piece) (at : ℕ) → skippedFrom at (as' ++ bs) ≡ 
 unfolding skippedFrom collect
 named [] bs at = ap (λ (k : ℕ). skippedFrom k bs) (sym (add-zero at))
 named (sound c ∷ as') bs at =
-    let n : at + sizeCon c + length (collect recordsOf as') ≡ at + length (writeCon c ++ collect recordsOf as') = omega (arith, size-con c, length-append (writeCon c) (collect recordsOf as')) in
+    let n : at + sizeCon c + length (collect recordsOf as') ≡ at + length (writeCon c ++ collect recordsOf as') =
+    omega (arith, size-con c, length-append (writeCon c) (collect recordsOf as')) in
     named as' bs (at + sizeCon c) ∙ ap (λ (k : ℕ). skippedFrom (at + sizeCon c) as' ++ skippedFrom k bs) n
 named (lost r ∷ as') bs at =
     let n : at + 1 + length (collect recordsOf as') ≡ at + suc (length (collect recordsOf as')) = omega arith in
@@ -95,7 +97,12 @@ named (lost r ∷ as') bs at =
 pub counted : (ps : List Piece) (at : ℕ) → length (keptIn ps) + length (skippedFrom at ps) ≡ length (collect recordsOf ps)
 unfolding keptIn skippedFrom collect
 counted [] at = refl
-counted (sound c ∷ ps) at = omega (arith, counted ps (at + sizeCon c), length-append (writeCon c) (keptIn ps), length-append (writeCon c) (collect recordsOf ps))
+counted (sound c ∷ ps) at = omega (
+  arith,
+  counted ps (at + sizeCon c),
+  length-append (writeCon c) (keptIn ps),
+  length-append (writeCon c) (collect recordsOf ps),
+)
 counted (lost r ∷ ps) at = omega (arith, counted ps (at + 1))
 
 kept_cons : (ps : List Piece) → keptIn ps ≡ collect writeCon (consIn ps)
@@ -109,7 +116,9 @@ pub kept-words : (t : Table) (n : ℕ) (rs : List Rec) → Small rs → Words (w
 unfolding keptIn words
 kept-words t n rs h = by-pieces t (λ qs ps. Words (words qs) → Words (words (keptIn ps))) (λ w. tt) (λ r qs ps f w. f (rest-words r qs w)) (λ c qs ps f w.
     let v : Words (words (writeCon c) ++ words qs) = subst Words (words_append (writeCon c) qs) w in
-    subst Words (sym (words_append (writeCon c) (keptIn ps))) (every_append _ (words (writeCon c)) (words (keptIn ps)) (every-left _ (words (writeCon c)) (words qs) v) (f (every-right _ (words (writeCon c)) (words qs) v)))) n rs h
+    subst Words (sym (words_append (writeCon c) (keptIn ps)))
+    (every_append _ (words (writeCon c)) (words (keptIn ps)) (every-left _ (words (writeCon c)) (words qs) v)
+    (f (every-right _ (words (writeCon c)) (words qs) v)))) n rs h
   where
     rest-words : (r : Rec) (qs : List Rec) → Words (words (r ∷ qs)) → Words (words qs)
     rest-words (rec k a b c) qs w = w.1.1.1.1
@@ -123,12 +132,17 @@ Well t c = (goodCon (numbersOf t) (is_held t) 0 c ≡ true) × (depthCon c ≤ 6
 -- such a constraint can be written and read back
 con-fits : (t : Table) (c : Con ℕ) → goodCon (numbersOf t) (is_held t) 0 c ≡ true → FitsCon c
 unfolding goodCon goodTy
-con-fits t (equal l r) h = (good-fits (numbersOf t) (is_held t) 0 l (and_left (goodTy (numbersOf t) (is_held t) 0 l) _ h), good-fits (numbersOf t) (is_held t) 0 r (and_right (goodTy (numbersOf t) (is_held t) 0 l) _ h))
+con-fits t (equal l r) h = (
+  good-fits (numbersOf t) (is_held t) 0 l (and_left (goodTy (numbersOf t) (is_held t) 0 l) _ h),
+  good-fits (numbersOf t) (is_held t) 0 r (and_right (goodTy (numbersOf t) (is_held t) 0 l) _ h),
+)
 con-fits t (isDim u) h = good-fits (numbersOf t) (is_held t) 0 u h
 con-fits t (is_scalar p) h = good-fits (numbersOf t) (is_held t) 0 (dim p) h
 con-fits t (hasField n l r) h =
-    let a = and_left (is_held t n && goodTy (numbersOf t) (is_held t) 0 l) _ h in
-    (good-fits (numbersOf t) (is_held t) 0 l (and_right (is_held t n) _ a), good-fits (numbersOf t) (is_held t) 0 r (and_right (is_held t n && goodTy (numbersOf t) (is_held t) 0 l) _ h))
+    let a = and_left (is_held t n && goodTy (numbersOf t) (is_held t) 0 l) _ h in (
+      good-fits (numbersOf t) (is_held t) 0 l (and_right (is_held t n) _ a),
+      good-fits (numbersOf t) (is_held t) 0 r (and_right (is_held t n && goodTy (numbersOf t) (is_held t) 0 l) _ h),
+    )
 
 wells-writable : (t : Table) (cs : List (Con ℕ)) → Every (Well t) cs → Every Writable cs
 wells-writable t [] h = tt
@@ -160,14 +174,17 @@ module _ (pool table s : List ℕ) (ww : Words s) where
   well-cons zero at = no-cons (from s at)
   well-cons (suc n) at = place (ltb at N) refl (well-cons n)
     where
-      one : at < N → ((at' : ℕ) → Every (Well t) (consIn (pieces t n (from s at')))) → (o : Option (Con ℕ × List Rec)) → startsHere t (from s at) ≡ o → Every (Well t) (consIn (pieces t (suc n) (recAt s at ∷ from s (at + 1))))
+      one : at < N → ((at' : ℕ) → Every (Well t) (consIn (pieces t n (from s at')))) → (o : Option (Con ℕ × List Rec)) → startsHere t (from s at) ≡ o
+          → Every (Well t) (consIn (pieces t (suc n) (recAt s at ∷ from s (at + 1))))
       one lt k none e = rw (ap (startsHere t) (sym (from_some s at lt)) ∙ e, pieces) (k (at + 1))
       one lt k (some v) e =
           let i = starts_is t (from s at) v e in
           let (j, (g, q)) = (con-reader pool table s (words-32 s ww)).finds at v.0 v.1 i.0 i.1 in
-          rw (ap (startsHere t) (sym (from_some s at lt)) ∙ e, pieces) ((i.1, g.deep), subst (λ (x : List Rec). Every (Well t) (consIn (pieces t n x))) (sym q) (k j))
+          rw (ap (startsHere t) (sym (from_some s at lt)) ∙ e, pieces)
+          ((i.1, g.deep), subst (λ (x : List Rec). Every (Well t) (consIn (pieces t n x))) (sym q) (k j))
 
-      place : (b : Bool) → ltb at N ≡ b → ((at' : ℕ) → Every (Well t) (consIn (pieces t n (from s at')))) → Every (Well t) (consIn (pieces t (suc n) (from s at)))
+      place : (b : Bool) → ltb at N ≡ b → ((at' : ℕ) → Every (Well t) (consIn (pieces t n (from s at'))))
+          → Every (Well t) (consIn (pieces t (suc n) (from s at)))
       place true q k = let lt = ltb-true at N q in rw (from_some s at lt) (one lt k (startsHere t (from s at)) refl)
       place false q k = rw (from-none s at (ltb-false at N q)) tt
 
@@ -251,5 +268,6 @@ pub rescue-again : (pool table file : List ℕ) → Bytes file → (kept : List 
     → (keptBytes (piecesIn (table_of pool table) (words_in kept)) ≡ kept) × (placesIn (piecesIn (table_of pool table) (words_in kept)) kept ≡ [])
 rescue-again pool table file b kept e =
     let ps = piecesIn (table_of pool table) (words_in file) in
-    good-same pool table kept (subst Bytes (sym e) (bytes-bytes (words (keptIn ps)))) (omega (arith, ap length e, bytes-length (words (keptIn ps)), words-length (keptIn ps))) (consIn ps)
+    good-same pool table kept (subst Bytes (sym e) (bytes-bytes (words (keptIn ps))))
+    (omega (arith, ap length e, bytes-length (words (keptIn ps)), words-length (keptIn ps))) (consIn ps)
     (ap (λ (x : List ℕ). setGiven (table_of pool table) (words_in x)) e ∙ kept-well pool table file b)

@@ -25,7 +25,23 @@ use Rattle.records.specs.Moves.{con-moves}
 use Rattle.records.specs.Places.{recs-length, recAt, from-none, from_some, words-from}
 use Rattle.records.specs.Stores.{sets-append}
 use Rattle.records.specs.Views.{recs, from}
-use Rattle.rules.specs.Rescue.{wordFrom, words_in, recordsIn, bytes_of, Piece, sound, lost, startsHere, pieces, piecesIn, keptIn, skippedFrom, unless, tornIn, placesIn}
+use Rattle.rules.specs.Rescue.{
+  wordFrom,
+  words_in,
+  recordsIn,
+  bytes_of,
+  Piece,
+  sound,
+  lost,
+  startsHere,
+  pieces,
+  piecesIn,
+  keptIn,
+  skippedFrom,
+  unless,
+  tornIn,
+  placesIn,
+}
 use Rattle.rescue.specs.Told.{keptBytes, Walked, Noted}
 use Rattle.rescue.specs.declared.Counts.{Counts}
 
@@ -41,7 +57,8 @@ words-in-length (a ∷ b ∷ c ∷ d ∷ bs) = omega (arith, words-in-length bs)
 
 -- the word with the number i
 word_in : (bs : List ℕ) (i : ℕ) → i < length bs / 4
-    → wordFrom (get_or bs (i * 4) 0) (get_or bs (suc (i * 4)) 0) (get_or bs (suc (suc (i * 4))) 0) (get_or bs (suc (suc (suc (i * 4)))) 0) ≡ get_or (words_in bs) i 0
+    → wordFrom (get_or bs (i * 4) 0) (get_or bs (suc (i * 4)) 0) (get_or bs (suc (suc (i * 4))) 0) (get_or bs (suc (suc (suc (i * 4)))) 0)
+    ≡ get_or (words_in bs) i 0
 unfolding words_in
 word_in [] i h = absurd (omega arith)
 word_in (a ∷ []) i h = absurd (omega arith)
@@ -81,7 +98,8 @@ records-are (w ∷ a ∷ b ∷ c ∷ ws) = ap (rec w a b c ∷◌) (records-are 
 -- ══ Stores ══
 
 -- a turn of the filling loop
-pub fill_step : (v d d' : List ℕ) (i : ℕ) {R : List ℕ} → i < length v → d' ≡ set d i (get_or v i 0) → sets d i (drop i v) ≡ R → sets d' (i + 1) (drop (i + 1) v) ≡ R
+pub fill_step : (v d d' : List ℕ) (i : ℕ) {R : List ℕ} → i < length v → d' ≡ set d i (get_or v i 0) → sets d i (drop i v) ≡ R
+    → sets d' (i + 1) (drop (i + 1) v) ≡ R
 fill_step v d d' i lt e h = rw (add-one i, e) (sym (ap (sets d i) (drop-cons v i 0 lt)) ∙ h)
 
 -- four stores in a row write a word
@@ -97,7 +115,8 @@ bytes-step v d d' i o t lt le e h =
     let w : List ℕ = get_or v i 0 ∷ [] in
     let q : bytes_of (slice i t v) ≡ bytes_of w ++ bytes_of (slice (suc i) t v) = ap bytes_of (slice-cons i t v 0 lt le) ∙ bytes-append w (slice (suc i) t v) in
     let n : length (bytes_of w) ≡ 4 = bytes-length w in
-    rw (add-one i, e) (ap (λ (k : ℕ). sets (sets d o (bytes_of w)) (o + k) (bytes_of (slice (suc i) t v))) (sym n) ∙ sym (sets-append (bytes_of w) (bytes_of (slice (suc i) t v)) d o) ∙ ap (sets d o) (sym q) ∙ h)
+    rw (add-one i, e) (ap (λ (k : ℕ). sets (sets d o (bytes_of w)) (o + k) (bytes_of (slice (suc i) t v))) (sym n)
+    ∙ sym (sets-append (bytes_of w) (bytes_of (slice (suc i) t v)) d o) ∙ ap (sets d o) (sym q) ∙ h)
 
 -- from the front, where it fits
 pub over-is : (ws b : List ℕ) → length ws ≤ length b → sets b 0 ws ≡ over ws b
@@ -116,7 +135,8 @@ module _ (file skipped : List ℕ) (m : ℕ) where
   torn-one f skipped' e = record { place = rw (ne_eqb (length file % 16) 0 f) e; few = rw (ne_eqb (length file % 16) 0 f) refl }
 
   -- behind the places of the walk
-  pub torn-behind : (ps : List Piece) (first skipped' : List ℕ) (r : ℕ) → m ≡ length (skippedFrom 0 ps) → first ≡ sets skipped 0 (skippedFrom 0 ps) → Noted file m first skipped' r
+  pub torn-behind : (ps : List Piece) (first skipped' : List ℕ) (r : ℕ) → m ≡ length (skippedFrom 0 ps) → first ≡ sets skipped 0 (skippedFrom 0 ps)
+      → Noted file m first skipped' r
       → (skipped' ≡ sets skipped 0 (placesIn ps file)) × (r ≡ length (placesIn ps file))
   unfolding placesIn
   torn-behind ps first skipped' r n e t =
@@ -142,7 +162,8 @@ module _ (pool table s : List ℕ) where
     pub fuel : ℕ
     pub enough : length s / 4 ≤ at + fuel
     pub bytes : sets kept (k * 16) (keptBytes (pieces (table_of pool table) fuel (from s at))) ≡ sets kept₀ 0 (keptBytes (piecesIn (table_of pool table) s))
-    pub places : sets skipped m (skippedFrom at (pieces (table_of pool table) fuel (from s at))) ≡ sets skipped₀ 0 (skippedFrom 0 (piecesIn (table_of pool table) s))
+    pub places : sets skipped m (skippedFrom at (pieces (table_of pool table) fuel (from s at)))
+        ≡ sets skipped₀ 0 (skippedFrom 0 (piecesIn (table_of pool table) s))
     pub many : k + length (keptIn (pieces (table_of pool table) fuel (from s at))) ≡ length (keptIn (piecesIn (table_of pool table) s))
     pub few : m + length (skippedFrom at (pieces (table_of pool table) fuel (from s at))) ≡ length (skippedFrom 0 (piecesIn (table_of pool table) s))
 
@@ -169,7 +190,8 @@ module _ (pool table s : List ℕ) (w : Words32 s) where
       go none e = refl
       go (some v) e = test v e (goodCon pool table 0 v.0) refl
 
-  one-sound : (n : ℕ) (r : Rec) (rs : List Rec) (v : Con ℕ × List Rec) → startsHere (table_of pool table) (r ∷ rs) ≡ some v → some-pieces (suc n) (r ∷ rs) ≡ sound v.0 ∷ some-pieces n v.1
+  one-sound : (n : ℕ) (r : Rec) (rs : List Rec) (v : Con ℕ × List Rec) → startsHere (table_of pool table) (r ∷ rs) ≡ some v
+      → some-pieces (suc n) (r ∷ rs) ≡ sound v.0 ∷ some-pieces n v.1
   unfolding pieces
   one-sound n r rs v e = rw (e, pieces)
 
@@ -182,7 +204,8 @@ module _ (pool table s : List ℕ) (w : Words32 s) where
       let q = from_some s at lt in
       rw q (one-sound n (recAt s at) (from s (at + 1)) (c, from s e) (ap (startsHere (table_of pool table)) (sym q) ∙ here-sound at e c g))
 
-  pub pieces-lost : (n at : ℕ) → at < N → ((c : Con ℕ) (e : ℕ) → GoodCon pool table 0 s at c e → ⊥) → some-pieces (suc n) (from s at) ≡ lost (recAt s at) ∷ some-pieces n (from s (at + 1))
+  pub pieces-lost : (n at : ℕ) → at < N → ((c : Con ℕ) (e : ℕ) → GoodCon pool table 0 s at c e → ⊥)
+      → some-pieces (suc n) (from s at) ≡ lost (recAt s at) ∷ some-pieces n (from s (at + 1))
   pieces-lost n at lt f =
       let q = from_some s at lt in
       rw q (one-lost n (recAt s at) (from s (at + 1)) (ap (startsHere (table_of pool table)) (sym q) ∙ here-lost at f))
@@ -214,11 +237,13 @@ module _ (pool table s : List ℕ) (w : Words32 s) where
 
     module _ (kept skipped : List ℕ) (at k m : ℕ) (lt : at < N) where
       -- a constraint was written
-      module _ (e : ℕ) (c : Con ℕ) (g : GoodCon pool table 0 s at c e) (kept' : List ℕ) (wrote : kept' ≡ sets kept (k * 16) (bytes_of (slice (at * 4) (e * 4) s))) where
+      module _ (e : ℕ) (c : Con ℕ) (g : GoodCon pool table 0 s at c e) (kept' : List ℕ)
+          (wrote : kept' ≡ sets kept (k * 16) (bytes_of (slice (at * 4) (e * 4) s))) where
         its-words : slice (at * 4) (e * 4) s ≡ words (writeCon c)
         its-words =
             let stands : from s at ≡ writeCon c ++ from s (at + sizeCon c) = con-written s c at g.held in
-            let x : slice (at * 4) ((at + length (writeCon c)) * 4) s ≡ words (writeCon c) = words-from s (writeCon c) (from s (at + sizeCon c)) at (omega arith) stands in
+            let x : slice (at * 4) ((at + length (writeCon c)) * 4) s ≡ words (writeCon c) =
+            words-from s (writeCon c) (from s (at + sizeCon c)) at (omega arith) stands in
             let y : (at + length (writeCon c)) * 4 ≡ e * 4 = omega (arith, g.past, size-con c) in
             ap (λ (j : ℕ). slice (at * 4) j s) (sym y) ∙ x
 
@@ -230,7 +255,8 @@ module _ (pool table s : List ℕ) (w : Words32 s) where
         wrote_then ps =
             let b : List ℕ = bytes_of (words (writeCon c)) in
             let n : (k + (e - at)) * 16 ≡ k * 16 + length b = omega (arith, its-size, bytes-length (words (writeCon c)), words-length (writeCon c)) in
-            let q : keptBytes (sound c ∷ ps) ≡ b ++ keptBytes ps = ap bytes_of (words_append (writeCon c) (keptIn ps)) ∙ bytes-append (words (writeCon c)) (words (keptIn ps)) in
+            let q : keptBytes (sound c ∷ ps) ≡ b ++ keptBytes ps = ap bytes_of (words_append (writeCon c) (keptIn ps))
+            ∙ bytes-append (words (writeCon c)) (words (keptIn ps)) in
             let z : kept' ≡ sets kept (k * 16) b = wrote ∙ ap (λ (v : List ℕ). sets kept (k * 16) (bytes_of v)) its-words in
             ap₂ (λ (d : List ℕ) (j : ℕ). sets d j (keptBytes ps)) z n ∙ sym (sets-append b (keptBytes ps) kept (k * 16)) ∙ ap (sets kept (k * 16)) (sym q)
 
@@ -290,7 +316,8 @@ module _ (pool table s : List ℕ) (w : Words32 s) where
                 let rest = some-pieces n (from s (at + 1)) in
                 let q = pieces-lost n at lt none_here in
                 let u : keptIn rest ≡ keptIn (some-pieces (suc n) (from s at)) = sym (ap keptIn q ∙ kept_same (recAt s at) rest) in
-                let v : at ∷ skippedFrom (at + 1) rest ≡ skippedFrom at (some-pieces (suc n) (from s at)) = sym (ap (skippedFrom at) q ∙ place-more (recAt s at) rest) in
+                let v : at ∷ skippedFrom (at + 1) rest ≡ skippedFrom at (some-pieces (suc n) (from s at)) =
+                sym (ap (skippedFrom at) q ∙ place-more (recAt s at) rest) in
                 let i : m + 1 ≡ suc m = add-one m in
                 record {
                   fuel = n;

@@ -89,7 +89,8 @@ unfolding rules sheets reports pool table
 asked-of-bool = refl
 
 -- the judge's refusal
-judge-refuses : reportText (namesIn (table_of pool table)) (ascii "s") [] 1 0 (unjudged 7) ≡ ascii "s: not accepted (7): a power leaves its range, by the judge\n"
+judge-refuses : reportText (namesIn (table_of pool table)) (ascii "s") [] 1 0 (unjudged 7)
+    ≡ ascii "s: not accepted (7): a power leaves its range, by the judge\n"
 unfolding reports rules sheets
 judge-refuses = refl
 

@@ -325,7 +325,8 @@ readBack = (refl, refl, refl)
 -- 10 and a table's 1 come with line 0 and column 0; a refused sheet leaves pool, table and result as they were
 refusedCalls : ((readTextCall pool table (ascii "~") (replicate 8191 7) work).answer ≡ notRead 10 0 0)
     × ((readTextCall pool (257 ∷ replicate 256 0) (ascii "~") result work).answer ≡ notRead 1 0 0)
-    × (readTextCall pool table (ascii "?new ~ Bool\n?: DType") result work ≡ record { answer = notRead 2 2 2; pool = pool; table = table; result = result; work = replicate 16384 0 })
+    × (readTextCall pool table (ascii "?new ~ Bool\n?: DType") result work
+    ≡ record { answer = notRead 2 2 2; pool = pool; table = table; result = result; work = replicate 16384 0 })
 unfolding rules sheets pool table result work
 refusedCalls = (refl, refl, refl)
 

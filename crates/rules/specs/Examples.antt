@@ -187,7 +187,8 @@ type_of (v ≔ t) = writeTy t
 -- the judge on the solver's own answer: refused where there is none
 judgedBy : List Rec → Got (Answer ℕ) → Got Bool
 judgedBy s (refused n) = refused n
-judgedBy s (got (accepted bs ns k)) = (judgeCall pool table (sizedWords s) (entriesFrom 0 bs) (words (collect type_of bs)) (collect (λ n. sizedWords (rec 25 n 0 0 ∷ [])) ns) work).answer
+judgedBy s (got (accepted bs ns k)) = (judgeCall pool table (sizedWords s) (entriesFrom 0 bs) (words (collect type_of bs))
+    (collect (λ n. sizedWords (rec 25 n 0 0 ∷ [])) ns) work).answer
 judgedBy s (got (remaining cs k)) = refused 5
 judgedBy s (got (stopped n k)) = refused n
 

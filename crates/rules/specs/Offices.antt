@@ -331,7 +331,8 @@ module _ (pool table pool' table' : List ℕ) where
         → SolvedAlike (table_of pool table) (table_of pool' table') (solveCall pool table ws result work) (solveCall pool' table' ws' result' work')
     pub batch : (ws ws' lengths result result' answers answers' work work' : List ℕ) → Lists ws ws' → LentAlike result result' work work' → length answers
         ≡ length answers'
-        → BatchAlike (table_of pool table) (table_of pool' table') (length lengths) (batchCall pool table ws lengths result answers work) (batchCall pool' table' ws' lengths result' answers' work')
+        → BatchAlike (table_of pool table) (table_of pool' table') (length lengths) (batchCall pool table ws lengths result answers work)
+        (batchCall pool' table' ws' lengths result' answers' work')
     -- the ceiling on rounds
     pub ceiling : (ws ws' : List ℕ) → Lists ws ws' → ceilingCall pool table ws ≡ ceilingCall pool' table' ws'
     -- schemes

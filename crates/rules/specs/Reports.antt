@@ -1,5 +1,32 @@
 -- What is told of the sheets of an edition, byte by byte: 'accepted' stands only where the solver accepted a sheet and the judge says yes.
-use Rattle.std.specs.Prelude.{Bool, true, false, not, ◌&&◌, ◌||◌, List, [], ◌∷◌, ◌++◌, map, ℕ, zero, suc, ◌-◌, eqb, leb, ltb, length, take, drop, replicate, get_or, Result, Ok, Err}
+use Rattle.std.specs.Prelude.{
+  Bool,
+  true,
+  false,
+  not,
+  ◌&&◌,
+  ◌||◌,
+  List,
+  [],
+  ◌∷◌,
+  ◌++◌,
+  map,
+  ℕ,
+  zero,
+  suc,
+  ◌-◌,
+  eqb,
+  leb,
+  ltb,
+  length,
+  take,
+  drop,
+  replicate,
+  get_or,
+  Result,
+  Ok,
+  Err,
+}
 use Rattle.std.proofs.Math.Option.{Option, none, some}
 use Rattle.rules.specs.Base.{Got, got, refused, bounded, collect, sum_of}
 use Rattle.rules.specs.Trees.{var, Names, Con, Binding, ◌≔◌}

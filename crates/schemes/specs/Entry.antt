@@ -24,7 +24,8 @@ use Rattle.records.specs.Schemes.{bound-reader}
 use Rattle.queries.specs.Scans.{opensIn}
 
 abbrev pub numbersChecked : List ℕ → List ℕ → List ℕ → List ℕ → Got (Unit {0})
-numbersChecked pool table ws names = numbersGiven (table_of pool table) names >> need (unmixed (numbersOf (table_of pool table)) (opensIn ws 0 (length ws / 4))) 4
+numbersChecked pool table ws names = numbersGiven (table_of pool table) names
+    >> need (unmixed (numbersOf (table_of pool table)) (opensIn ws 0 (length ws / 4))) 4
 
 abbrev pub boundsChecked : List ℕ → List ℕ → List ℕ → Got (Unit {0})
 boundsChecked pool table bounds = boundsGiven (table_of pool table) bounds >> got tt
@@ -56,7 +57,8 @@ module _ (pool table : List ℕ) where
   held_all [] = refl
   held_all (x ∷ xs) = rw (held-is pool table x, held_all xs)
 
-  pub numbers-told : (ws names : List ℕ) (b : Bool) → b ≡ all (λ x. ltb x (get_or table 0 0)) names → numbersChecked pool table ws names ≡ (need b 1 >> need (unmixed (numbersOf (table_of pool table)) (opensIn ws 0 (length ws / 4))) 4)
+  pub numbers-told : (ws names : List ℕ) (b : Bool) → b ≡ all (λ x. ltb x (get_or table 0 0)) names
+      → numbersChecked pool table ws names ≡ (need b 1 >> need (unmixed (numbersOf (table_of pool table)) (opensIn ws 0 (length ws / 4))) 4)
   unfolding numbersGiven
   numbers-told ws names b e = rw (held_all names, e)
 
@@ -67,9 +69,11 @@ module _ (pool table : List ℕ) where
     unfolding boundsGiven
     bounds-broken h = sym (rw (list-broken bounds readBound (goodOpen pool table 0) (GoodBound pool table 0 bounds) (bound-reader bounds pool table 0) h))
 
-    pub bounds-told : (b : Bool) → length bounds % 4 ≡ 0 → Chained (GoodBound pool table 0 bounds) (length bounds / 4) 0 b → need b 1 ≡ boundsChecked pool table bounds
+    pub bounds-told : (b : Bool) → length bounds % 4 ≡ 0 → Chained (GoodBound pool table 0 bounds) (length bounds / 4) 0 b
+        → need b 1 ≡ boundsChecked pool table bounds
     unfolding boundsGiven
-    bounds-told b h c = sym (list-told bounds readBound (goodOpen pool table 0) (GoodBound pool table 0 bounds) (bound-reader bounds pool table 0) b c ∙ rw (eq-eqb (length bounds % 4) 0 h))
+    bounds-told b h c = sym (list-told bounds readBound (goodOpen pool table 0) (GoodBound pool table 0 bounds) (bound-reader bounds pool table 0) b
+        c ∙ rw (eq-eqb (length bounds % 4) 0 h))
 
 -- ══ A row of checks ══
 
@@ -83,7 +87,8 @@ module _ {A B : Type 0} (f : A → Got (Unit {0})) where
   last (refused n) p = refl
 
   -- each list alone, then the rest
-  apart-then : (l s k : Got (Unit {0})) (m : Got A) (b : Got B) (n u : Got (Unit {0})) → l ≡ got tt → ((a : A) → m ≡ got a → u ≡ f a) → (l >> s >> k >> m >> got (tt {0}) >> (b >> got (tt {0}) >> (n >> u))) ≡ (row s k m b n >> got (tt {0}))
+  apart-then : (l s k : Got (Unit {0})) (m : Got A) (b : Got B) (n u : Got (Unit {0})) → l ≡ got tt → ((a : A) → m ≡ got a → u ≡ f a)
+      → (l >> s >> k >> m >> got (tt {0}) >> (b >> got (tt {0}) >> (n >> u))) ≡ (row s k m b n >> got (tt {0}))
   apart-then (refused i) s k m b n u e h = clash e
   apart-then (got x) (refused i) k m b n u e h = refl
   apart-then (got x) (got y) (refused i) m b n u e h = refl
@@ -109,7 +114,8 @@ module _ {A B : Type 0} (f : A → Got (Unit {0})) where
   met-in (refused n) p e = clash e
 
   met : (s k : Got (Unit {0})) (m : Got A) (b : Got B) (n : Got (Unit {0})) → (row s k m b n >> got (tt {0})) ≡ got tt → Met s k m b n
-  met (got u) (got v) (got a) (got c) (got w) e = let p = met-in (f a) (a, c) e in record { first = a; second = c; short = refl; kept = refl; one = refl; two = refl; numbers = refl; passes = p; is = rw p }
+  met (got u) (got v) (got a) (got c) (got w) e = let p = met-in (f a) (a, c) e
+      in record { first = a; second = c; short = refl; kept = refl; one = refl; two = refl; numbers = refl; passes = p; is = rw p }
   met (got u) (got v) (got a) (got c) (refused j) e = clash e
   met (got u) (got v) (got a) (refused j) n e = clash e
   met (got u) (got v) (refused j) b n e = clash e
@@ -122,7 +128,8 @@ module _ {A B : Type 0} (f : A → Got (Unit {0})) where
     behind (got u) p = refl
     behind (refused j) p = refl
 
-    pub row-then : (s k : Got (Unit {0})) (m : Got A) (b : Got B) (n : Got (Unit {0})) → (s >> (k >> (m >>= λ a. b >>= λ c. n >> (f a >> g a c)))) ≡ (row s k m b n >>= λ p. g p.0 p.1)
+    pub row-then : (s k : Got (Unit {0})) (m : Got A) (b : Got B) (n : Got (Unit {0}))
+        → (s >> (k >> (m >>= λ a. b >>= λ c. n >> (f a >> g a c)))) ≡ (row s k m b n >>= λ p. g p.0 p.1)
     row-then (got u) (got v) (got a) (got c) (got w) = behind (f a) (a, c)
     row-then (got u) (got v) (got a) (got c) (refused j) = refl
     row-then (got u) (got v) (got a) (refused j) n = refl
@@ -170,9 +177,13 @@ module _ (pool table ws bounds names : List ℕ) {A : Type 0} (m : Got A) (os : 
       go true = refl
       go false = refl
 
-  pub checked : length bounds ≤ 8192 → length names ≤ 2048 → lentTable pool table ≡ got tt → ((a : A) → m ≡ got a → opensIn ws 0 (length ws / 4) ≡ os a) → restChecked pool table ws bounds names (aloneGiven pool table ws >> m >> got tt) ≡ (entered >> got (tt {0}))
+  pub checked : length bounds ≤ 8192 → length names ≤ 2048 → lentTable pool table ≡ got tt
+      → ((a : A) → m ≡ got a → opensIn ws 0 (length ws / 4) ≡ os a)
+      → restChecked pool table ws bounds names (aloneGiven pool table ws >> m >> got tt) ≡ (entered >> got (tt {0}))
   unfolding entered aloneGiven apart
-  checked h k l opened = rw (short-alone h k) (apart-then (λ a. apart T (os a)) (lentTable pool table) (shortLists (ws ∷ [])) (tableKept T) m (boundsGiven T bounds) (numbersGiven T names) _ l (λ a e. rw (opened a e)))
+  checked h k l opened = rw (short-alone h k)
+      (apart-then (λ a. apart T (os a)) (lentTable pool table) (shortLists (ws ∷ [])) (tableKept T) m (boundsGiven T bounds) (numbersGiven T names) _
+      l (λ a e. rw (opened a e)))
 
   -- what was given, and what is known of it
   pub record Entered (a : A) (bs : List (Open ℕ)) : Type 0 where
@@ -201,12 +212,15 @@ module _ (pool table ws bounds names : List ℕ) {A : Type 0} (m : Got A) (os : 
 
   first_short : (shortLists (ws ∷ bounds ∷ []) >> shortNumbers names) ≡ got tt → length bounds ≤ 8192 → length names ≤ 2048 → length ws ≤ 8192
   unfolding shortLists all
-  first_short s h k = leb-true (length ws) 8192 (and_left (leb (length ws) 8192) true (need-passed (leb (length ws) 8192 && true) 8 (sym (short-alone h k) ∙ s)))
+  first_short s h k = leb-true (length ws) 8192
+      (and_left (leb (length ws) 8192) true (need-passed (leb (length ws) 8192 && true) 8 (sym (short-alone h k) ∙ s)))
 
-  pub came-in : length bounds ≤ 8192 → length names ≤ 2048 → lentTable pool table ≡ got tt → (entered >> got (tt {0})) ≡ got tt → (a : A) × ((bs : List (Open ℕ)) × ((entered ≡ got (a, bs)) × Entered a bs))
+  pub came-in : length bounds ≤ 8192 → length names ≤ 2048 → lentTable pool table ≡ got tt → (entered >> got (tt {0})) ≡ got tt → (a : A)
+      × ((bs : List (Open ℕ)) × ((entered ≡ got (a, bs)) × Entered a bs))
   unfolding entered apart
   came-in h k l e =
-      let p = met (λ a. apart T (os a)) (shortLists (ws ∷ bounds ∷ []) >> shortNumbers names) (tableKept T) m (boundsGiven T bounds) (numbersGiven T names) e in (
+      let p = met (λ a. apart T (os a)) (shortLists (ws ∷ bounds ∷ []) >> shortNumbers names) (tableKept T) m (boundsGiven T bounds)
+      (numbersGiven T names) e in (
         p.first,
         (
           p.second,

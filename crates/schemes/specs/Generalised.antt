@@ -60,13 +60,15 @@ module _ (ν : Names ℕ) where
     kept ws = renamedBounds f (map tree.var (keep (λ b. among ν b ns) ws))
 
     -- a bound that is renamed stays, another goes
-    one_kept : (o : tree.Open ℕ) (x : ℕ) (ws : List ℕ) (rest : List (tree.Open ℕ)) → kept ws ≡ rest → kept (x ∷ ws) ≡ orAll (first_equal ν 0 ns x) false o ++ rest
+    one_kept : (o : tree.Open ℕ) (x : ℕ) (ws : List ℕ) (rest : List (tree.Open ℕ)) → kept ws ≡ rest
+        → kept (x ∷ ws) ≡ orAll (first_equal ν 0 ns x) false o ++ rest
     unfolding renamedBounds all_of
     one_kept o x ws rest r = go (first_equal ν 0 ns x) refl
       where
         go : (s : Option (tree.Open ℕ)) → first_equal ν 0 ns x ≡ s → kept (x ∷ ws) ≡ orAll s false o ++ rest
         go none i = ap (λ (l : List ℕ). renamedBounds f (map tree.var l)) (keep-more (λ b. among ν b ns) x ws false (among_first 0 ns x ∙ ap given i)) ∙ r
-        go (some u) i = ap (λ (l : List ℕ). renamedBounds f (map tree.var l)) (keep-more (λ b. among ν b ns) x ws true (among_first 0 ns x ∙ ap given i)) ∙ rw i (ap (u ∷◌) r)
+        go (some u) i = ap (λ (l : List ℕ). renamedBounds f (map tree.var l))
+            (keep-more (λ b. among ν b ns) x ws true (among_first 0 ns x ∙ ap given i)) ∙ rw i (ap (u ∷◌) r)
 
     -- bounds of names that aren't handed go
     pub kept-bounds : (bs : List (tree.Open ℕ)) → All (λ o. (j : ℕ) → o ≡ tree.quant j → ⊥) bs → kept (map word_of bs) ≡ allBounds false f bs
@@ -81,12 +83,17 @@ module _ (pool table : List ℕ) (good : Good pool table) (t : Ty ℕ) (bs : Lis
   abbrev pub ordered : List ℕ
   ordered = sort (numbersOf (table_of pool table)) (namesIn (opens t))
 
-  pub generalise-made : goodTy (numbersOf (table_of pool table)) (is_held (table_of pool table)) 0 t ≡ true → unmixed (numbersOf (table_of pool table)) (opens t) ≡ true → length ordered ≤ 2048 → All (λ o. (j : ℕ) → o ≡ tree.quant j → ⊥) bs
-      → quantifiedAs pool table ordered false t bs ≡ (generalise (numbersOf (table_of pool table)) bounded (map word_of bs) (concrete t) >>= λ s. got (writeScheme s))
+  pub generalise-made : goodTy (numbersOf (table_of pool table)) (is_held (table_of pool table)) 0 t ≡ true
+      → unmixed (numbersOf (table_of pool table)) (opens t) ≡ true → length ordered ≤ 2048 → All (λ o. (j : ℕ) → o ≡ tree.quant j → ⊥) bs
+      → quantifiedAs pool table ordered false t bs
+      ≡ (generalise (numbersOf (table_of pool table)) bounded (map word_of bs) (concrete t) >>= λ s. got (writeScheme s))
   unfolding generalise
   generalise-made g m few h =
       let ν : Names ℕ = numbersOf (table_of pool table) in
       let cs = map tree.var (keep (λ b. among ν b ordered) (map word_of bs)) in
-      let q = quantify-once ν (law pool table) (is_held (table_of pool table)) 4_294_967_296 (tells pool table 4_294_967_296 good) ordered t cs (omega arith) g m in
+      let q = quantify-once ν (law pool table) (is_held (table_of pool table)) 4_294_967_296 (tells pool table 4_294_967_296 good) ordered t cs
+      (omega arith) g m in
       rw (q, sym (kept-bounds ν ordered bs h))
-      (sym (bind-twice (replaceTy ν bounded (renamed (all_of ν 0 ordered)) t) (λ u. schemeLimited bounded 1 u (renamedBounds (all_of ν 0 ordered) cs) (scheme (length ordered) u (renamedBounds (all_of ν 0 ordered) cs))) (λ s. got (writeScheme s))))
+      (sym (bind-twice (replaceTy ν bounded (renamed (all_of ν 0 ordered)) t)
+      (λ u. schemeLimited bounded 1 u (renamedBounds (all_of ν 0 ordered) cs)
+      (scheme (length ordered) u (renamedBounds (all_of ν 0 ordered) cs))) (λ s. got (writeScheme s))))

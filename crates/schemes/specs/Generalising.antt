@@ -54,22 +54,26 @@ use Rattle.schemes.specs.Wholes.{generalisedFrom}
 -- ══ A scheme's records are those it is written by ══
 
 module _ (pool table s : List ℕ) where
-  bounds-written : (q n at : ℕ) (bs : List (tree.Open ℕ)) → Chain (GoodBound pool table q s) n bs at → (from s at ≡ map writeBound bs ++ from s n) × (n ≡ at + length bs)
+  bounds-written : (q n at : ℕ) (bs : List (tree.Open ℕ)) → Chain (GoodBound pool table q s) n bs at → (from s at ≡ map writeBound bs ++ from s n)
+      × (n ≡ at + length bs)
   bounds-written q n at [] c = (ap (from s) c, omega arith)
   bounds-written q n at (o ∷ bs) (e, (g, c)) =
       let (a, b) = bounds-written q n e bs c in
       let p = g.past in
-      let r : from s at ≡ writeBound o ∷ from s (at + 1) = seen s at g.held.0 g.held.1 tt ∙ ap (λ (x : Rec). x ∷ from s (at + 1)) (bound-rec (viewOpen o) ∙ ap writeBound (open-view o)) in
+      let r : from s at ≡ writeBound o ∷ from s (at + 1) = seen s at g.held.0 g.held.1 tt
+      ∙ ap (λ (x : Rec). x ∷ from s (at + 1)) (bound-rec (viewOpen o) ∙ ap writeBound (open-view o)) in
       (r ∙ ap (λ (k : ℕ). writeBound o ∷ from s k) (sym p) ∙ ap (writeBound o ∷◌) a, omega arith)
 
   -- the words of all records, and how many these are
-  pub scheme-words : (n : ℕ) (t : Ty ℕ) (bs : List (tree.Open ℕ)) → GoodScheme pool table s (scheme n t bs) → (length s / 4 ≡ length (writeScheme (scheme n t bs))) × (slice 0 (length s / 4 * 4) s ≡ words (writeScheme (scheme n t bs)))
+  pub scheme-words : (n : ℕ) (t : Ty ℕ) (bs : List (tree.Open ℕ)) → GoodScheme pool table s (scheme n t bs)
+      → (length s / 4 ≡ length (writeScheme (scheme n t bs))) × (slice 0 (length s / 4 * 4) s ≡ words (writeScheme (scheme n t bs)))
   unfolding writeScheme
   scheme-words n t bs (v, (e, (g, c)), m) =
       let (a, b) = bounds-written n (length s / 4) e bs c in
       let p = g.past in
       let rs : List Rec = writeTy t ++ map writeBound bs in
-      let h : from s 1 ≡ rs ++ from s (length s / 4) = written s t 1 g.held ∙ ap (λ (k : ℕ). writeTy t ++ from s k) (sym p) ∙ ap (writeTy t ++◌) a ∙ sym (append_assoc (writeTy t) (map writeBound bs) (from s (length s / 4))) in
+      let h : from s 1 ≡ rs ++ from s (length s / 4) = written s t 1 g.held ∙ ap (λ (k : ℕ). writeTy t ++ from s k) (sym p) ∙ ap (writeTy t ++◌) a
+      ∙ sym (append_assoc (writeTy t) (map writeBound bs) (from s (length s / 4))) in
       let j : length s / 4 ≡ suc (size t + length bs) = omega arith in
       let f : Rec = rec (head 26 (suc (size t + length bs))) n 0 0 in
       let z : from s 0 ≡ (f ∷ rs) ++ from s (length s / 4) = seen s 0 v (m ∙ j) tt ∙ ap (f ∷◌) h in
@@ -87,10 +91,13 @@ module _ (pool table : List ℕ) where
   chain-named s n at [] c = tt
   chain-named s n at (o ∷ bs) (e, (g, c)) = (open-named o g.good, chain-named s n e bs c)
 
-  pub bounds-named : (bounds : List ℕ) (bs : List (tree.Open ℕ)) → boundsGiven (table_of pool table) bounds ≡ got bs → All (λ o. (j : ℕ) → o ≡ tree.quant j → ⊥) bs
+  pub bounds-named : (bounds : List ℕ) (bs : List (tree.Open ℕ)) → boundsGiven (table_of pool table) bounds ≡ got bs
+      → All (λ o. (j : ℕ) → o ≡ tree.quant j → ⊥) bs
   unfolding boundsGiven
   bounds-named bounds bs e =
-      every-all (λ o. (j : ℕ) → o ≡ tree.quant j → ⊥) bs (chain-named bounds (length bounds / 4) 0 bs (list-is bounds readBound (goodOpen pool table 0) (GoodBound pool table 0 bounds) (bound-reader bounds pool table 0) bs e))
+      every-all (λ o. (j : ℕ) → o ≡ tree.quant j → ⊥) bs
+      (chain-named bounds (length bounds / 4) 0 bs
+      (list-is bounds readBound (goodOpen pool table 0) (GoodBound pool table 0 bounds) (bound-reader bounds pool table 0) bs e))
 
 -- ══ What the steps are given ══
 
@@ -108,21 +115,25 @@ module _ (pool table s bounds work : List ℕ) where
   not-both n h e = let z : view.Scheme n ≡ view.Concrete = sym h ∙ e in let y : ◌≡◌ {A = ℕ} 0 1 = cc in omega arith
 
   -- a list that begins as a concrete type's is one
-  pub the_type : (sc : Scheme ℕ) (bs : List (tree.Open ℕ)) → Given pool table s bounds work sc bs → viewAt s 0 ≡ view.Concrete → (t : Ty ℕ) × Given pool table s bounds work (concrete t) bs
+  pub the_type : (sc : Scheme ℕ) (bs : List (tree.Open ℕ)) → Given pool table s bounds work sc bs → viewAt s 0 ≡ view.Concrete → (t : Ty ℕ)
+      × Given pool table s bounds work (concrete t) bs
   the_type (concrete t) bs g e = (t, g)
   the_type (scheme n t os) bs g e = absurd (not-both n g.there.0 e)
 
-  pub the-type-made : (w : List ℕ) (r : Result ℕ Refusal) (sc : Scheme ℕ) → viewAt s 0 ≡ view.Concrete → ((t : Ty ℕ) → Generalises pool table s bounds work w r (concrete t)) → Generalises pool table s bounds work w r sc
+  pub the-type-made : (w : List ℕ) (r : Result ℕ Refusal) (sc : Scheme ℕ) → viewAt s 0 ≡ view.Concrete
+      → ((t : Ty ℕ) → Generalises pool table s bounds work w r (concrete t)) → Generalises pool table s bounds work w r sc
   the-type-made w r (concrete t) e h = h t
   the-type-made w r (scheme n t os) e h = λ bs g. absurd (not-both n g.there.0 e)
 
   -- another scheme is unchanged
-  pub the-scheme : (sc : Scheme ℕ) (bs : List (tree.Open ℕ)) → Given pool table s bounds work sc bs → (viewAt s 0 ≡ view.Concrete → ⊥) → (w : List ℕ) → w ≡ sets work 0 (slice 0 (length s / 4 * 4) s) → Made (generalisedFrom pool table s sc bs) w (Ok (length s / 4))
+  pub the-scheme : (sc : Scheme ℕ) (bs : List (tree.Open ℕ)) → Given pool table s bounds work sc bs → (viewAt s 0 ≡ view.Concrete → ⊥) → (w : List ℕ)
+      → w ≡ sets work 0 (slice 0 (length s / 4 * 4) s) → Made (generalisedFrom pool table s sc bs) w (Ok (length s / 4))
   unfolding generalise
   the-scheme (concrete t) bs g f w e = absurd (f g.there.0)
   the-scheme (scheme n t os) bs g f w e =
       let (l, z) = scheme-words pool table s n t os g.there in
-      made-records (generalisedFrom pool table s (scheme n t os) bs) (writeScheme (scheme n t os)) work w (length s / 4) refl g.work-long (e ∙ ap (sets work 0) z) l (let k = g.checks.words-short in omega arith)
+      made-records (generalisedFrom pool table s (scheme n t os) bs) (writeScheme (scheme n t os)) work w (length s / 4) refl g.work-long
+      (e ∙ ap (sets work 0) z) l (let k = g.checks.words-short in omega arith)
 
   -- ══ A concrete type ══
 
@@ -160,16 +171,21 @@ module _ (pool table s bounds work : List ℕ) where
           let below = (good-laid g.checks.good).few in
           rw listed-front (record {
             good = g.checks.good;
-            type = record { held = g.there.1.held; good = ty-weaker (numbers pool table) (is_held (table_of pool table)) 0 4_294_967_296 (omega arith) t g.there.1.good };
+            type = record {
+              held = g.there.1.held;
+              good = ty-weaker (numbers pool table) (is_held (table_of pool table)) 0 4_294_967_296 (omega arith) t g.there.1.good;
+            };
             flat = g.there.1.deep;
             listed = given-bounds pool table bounds bs g.checks.two;
             bounds-short = g.checks.bounds-short;
             names-few = omega arith;
-            names-small = λ x i. let z = every-all (λ x. x < get_or table 0 0) named (sort-every (numbers pool table) (λ x. x < get_or table 0 0) (namesIn (opens t)) type-held) x i in omega arith;
+            names-small = λ x i. let z = every-all (λ x. x < get_or table 0 0) named
+                (sort-every (numbers pool table) (λ x. x < get_or table 0 0) (namesIn (opens t)) type-held) x i in omega arith;
             work-long = g.work-long;
           })
 
-      pub type-made : length b' ≡ 256 → (w : List ℕ) (r : Result ℕ Refusal) → Made (quantifiedAs pool table (take k b') false t bs) w r → Made (generalisedFrom pool table s (concrete t) bs) w r
+      pub type-made : length b' ≡ 256 → (w : List ℕ) (r : Result ℕ Refusal) → Made (quantifiedAs pool table (take k b') false t bs) w r
+          → Made (generalisedFrom pool table s (concrete t) bs) w r
       unfolding opensScheme
       type-made l w r h =
           let few = listed-few l in
@@ -180,10 +196,13 @@ module _ (pool table s bounds work : List ℕ) where
 -- ══ The call ══
 
 module _ (pool table result work : List ℕ) (s bounds : List ℕ) where
-  pub generalise-short : lent pool table result work ≡ refused 10 → record { answer = refused 10; result = result; work = work } ≡ generaliseCall pool table s bounds result work
+  pub generalise-short : lent pool table result work ≡ refused 10
+      → record { answer = refused 10; result = result; work = work } ≡ generaliseCall pool table s bounds result work
   unfolding generaliseCall
   generalise-short e = unwritten (lent pool table result work) (generalised (table_of pool table) s bounds) result work e
 
-  pub generalise-called : (w : List ℕ) → length w ≡ length work → lent pool table result work ≡ got tt → handed (generalised (table_of pool table) s bounds) result w ≡ generaliseCall pool table s bounds result work
+  pub generalise-called : (w : List ℕ) → length w ≡ length work → lent pool table result work ≡ got tt
+      → handed (generalised (table_of pool table) s bounds) result w ≡ generaliseCall pool table s bounds result work
   unfolding generaliseCall
-  generalise-called w n e = handed-on pool table result work (generalised (table_of pool table) s bounds) w n ∙ as_written (lent pool table result work) (generalised (table_of pool table) s bounds) result work e
+  generalise-called w n e = handed-on pool table result work (generalised (table_of pool table) s bounds) w n
+      ∙ as_written (lent pool table result work) (generalised (table_of pool table) s bounds) result work e

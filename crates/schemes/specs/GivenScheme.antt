@@ -40,7 +40,8 @@ module _ (pool table s : List ℕ) where
       let p = g.past in
       (omega arith, opens-step s at e (omega arith) ∙ rw g.held.0 (opens-none s (at + 1) e (omega arith)))
 
-  pub bounds-opens : (q at : ℕ) (bs : List (tree.Open ℕ)) → Chain (GoodBound pool table q s) (length s / 4) bs at → (at ≤ length s / 4) × (opensIn s at (length s / 4) ≡ [])
+  pub bounds-opens : (q at : ℕ) (bs : List (tree.Open ℕ)) → Chain (GoodBound pool table q s) (length s / 4) bs at → (at ≤ length s / 4)
+      × (opensIn s at (length s / 4) ≡ [])
   bounds-opens q at bs c = let (a, b) = chain-opens s (GoodBound pool table q s) without (bound-opens q) bs at (length s / 4) c in (a, b ∙ no-opens bs)
 
   pub scheme-opens : (sc : Scheme ℕ) → GoodScheme pool table s sc → opensIn s 0 (length s / 4) ≡ opensScheme sc
@@ -68,8 +69,10 @@ module _ (pool table s : List ℕ) where
       small sc (scheme-is pool table s w sc g) (good-laid (entry-good pool table s a)).few
     where
       small : (sc : Scheme ℕ) → GoodScheme pool table s sc → get_or table 0 0 ≤ 256 → Small (opensIn s 0 (length s / 4))
-      small (concrete t) (v, g, m) few = rw (scheme-opens (concrete t) (v, g, m)) (names-small pool table 0 (opens t) (ty-known (numbers pool table) (holding pool table) 0 t g.good) few)
-      small (scheme n t bs) (v, (e, (g, c)), m) few = rw (scheme-opens (scheme n t bs) (v, (e, (g, c)), m)) (names-small pool table n (opens t) (ty-known (numbers pool table) (holding pool table) n t g.good) few)
+      small (concrete t) (v, g, m) few = rw (scheme-opens (concrete t) (v, g, m))
+          (names-small pool table 0 (opens t) (ty-known (numbers pool table) (holding pool table) 0 t g.good) few)
+      small (scheme n t bs) (v, (e, (g, c)), m) few = rw (scheme-opens (scheme n t bs) (v, (e, (g, c)), m))
+          (names-small pool table n (opens t) (ty-known (numbers pool table) (holding pool table) n t g.good) few)
 
   -- what the code's checks say
   pub scheme-checked : (bounds names : List ℕ) → length bounds ≤ 8192 → length names ≤ 2048 → lentTable pool table ≡ got tt → Words32 s

@@ -95,9 +95,11 @@ module _ (pool table s names : List ℕ) (w : Words32 s) (sc : Scheme ℕ) (none
     short = let m = bounds-many s bs (1 + size t) behind in let k = n.words-short in omega arith
 
     backed : (u : Ty ℕ) → replaceTy ν bounded (renamed (back names)) t ≡ got u
-        → Back ν (law pool table) held 4_294_967_296 (tells pool table 4_294_967_296 n.good) names known few t bs type-good.good (omega (arith, short)) type-good.deep u
+        → Back ν (law pool table) held 4_294_967_296 (tells pool table 4_294_967_296 n.good) names known few t bs type-good.good
+        (omega (arith, short)) type-good.deep u
     backed u e =
-        put-back ν (law pool table) held 4_294_967_296 (tells pool table 4_294_967_296 n.good) names known few t bs type-good.good (omega (arith, short)) type-good.deep u e
+        put-back ν (law pool table) held 4_294_967_296 (tells pool table 4_294_967_296 n.good) names known few t bs type-good.good
+        (omega (arith, short)) type-good.deep u e
 
     slim : (u : Ty ℕ) → replaceTy ν bounded (renamed (back names)) t ≡ got u → Slim pool table names bs u
     slim u e =
@@ -128,7 +130,8 @@ module _ (pool table s names : List ℕ) (w : Words32 s) (sc : Scheme ℕ) (none
     -- two walks and the bounds are what instantiating says
     put-made : putBackAs pool table names t bs ≡ (put_back ν bounded names t bs >>= λ r. got (writeTy r.0 ++ map writeBound r.1))
     put-made =
-        let p = put-back-twice ν (law pool table) held 4_294_967_296 (tells pool table 4_294_967_296 n.good) names known few t bs type-good.good (omega (arith, short)) type-good.deep in
+        let p = put-back-twice ν (law pool table) held 4_294_967_296 (tells pool table 4_294_967_296 n.good) names known few t bs type-good.good
+        (omega (arith, short)) type-good.deep in
         rw (all_renamed (back names) bs, p)
         (written_out (replaceTy ν bounded (renamed (back names)) t) (λ u. replaceTy ν bounded (renamed (own held)) u) (renamedBounds (back names) bs))
 

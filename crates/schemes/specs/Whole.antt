@@ -6,7 +6,21 @@ use mathlib.Core.List.{List, [], ◌∷◌}
 use Rattle.std.proofs.Math.Option.{Option, none, some}
 use Rattle.std.proofs.Math.ListN.{length}
 use Rattle.rules.specs.Base.{Got, got, refused, ◌>>=◌, ◌>>◌, bounded, collect}
-use Rattle.rules.specs.Calls.{shortLists, shortNumbers, tableKept, typeGiven, boundsGiven, numbersGiven, apart, aloneGiven, typeCall, lent, resultAfter, quantified, quantifyCall}
+use Rattle.rules.specs.Calls.{
+  shortLists,
+  shortNumbers,
+  tableKept,
+  typeGiven,
+  boundsGiven,
+  numbersGiven,
+  apart,
+  aloneGiven,
+  typeCall,
+  lent,
+  resultAfter,
+  quantified,
+  quantifyCall,
+}
 use Rattle.rules.specs.Names.{table_of, lentTable, numbersOf, is_held}
 use Rattle.rules.specs.Reading.{readBound}
 use Rattle.rules.specs.Replacing.{replaceTy}
@@ -44,20 +58,24 @@ use Rattle.schemes.specs.Entry.{restChecked, entered, bounds-long, names-long, r
 
 -- ══ A call is its checks, then what it makes ══
 
-module _ (pool table ws bounds names : List ℕ) {A : Type 0} (m : Got A) (os : A → List (tree.Open ℕ)) (make : A → List (tree.Open ℕ) → Got (List Rec)) (all : Got (List Rec)) where
+module _ (pool table ws bounds names : List ℕ) {A : Type 0} (m : Got A) (os : A → List (tree.Open ℕ))
+    (make : A → List (tree.Open ℕ) → Got (List Rec)) (all : Got (List Rec)) where
   abbrev pub Whole : Type 0
   Whole = all ≡ (entered pool table ws bounds names m os >>= λ p. make p.0 p.1)
 
   pub bounds-made : Whole → (w : List ℕ) → 8192 < length bounds → Made all w (Err TooLarge)
-  bounds-made h w l = made-refused all TooLarge w (h ∙ ap (λ (x : Got (A × List (tree.Open ℕ))). x >>= λ p. make p.0 p.1) (bounds-long pool table ws bounds names m os l))
+  bounds-made h w l = made-refused all TooLarge w
+      (h ∙ ap (λ (x : Got (A × List (tree.Open ℕ))). x >>= λ p. make p.0 p.1) (bounds-long pool table ws bounds names m os l))
 
   pub names-made : Whole → (w : List ℕ) → 2048 < length names → Made all w (Err TooLarge)
-  names-made h w l = made-refused all TooLarge w (h ∙ ap (λ (x : Got (A × List (tree.Open ℕ))). x >>= λ p. make p.0 p.1) (names-long pool table ws bounds names m os l))
+  names-made h w l = made-refused all TooLarge w
+      (h ∙ ap (λ (x : Got (A × List (tree.Open ℕ))). x >>= λ p. make p.0 p.1) (names-long pool table ws bounds names m os l))
 
   pub unmet-made : Whole → (w : List ℕ) (k : Refusal) → (entered pool table ws bounds names m os >> got (tt {0})) ≡ refused (number_of k) → Made all w (Err k)
   unmet-made h w k e = made-refused all k w (h ∙ stops (entered pool table ws bounds names m os) (λ p. make p.0 p.1) (number_of k) e)
 
-  pub met-made : Whole → (w : List ℕ) (r : Result ℕ Refusal) (a : A) (bs : List (tree.Open ℕ)) → entered pool table ws bounds names m os ≡ got (a, bs) → Made (make a bs) w r → Made all w r
+  pub met-made : Whole → (w : List ℕ) (r : Result ℕ Refusal) (a : A) (bs : List (tree.Open ℕ))
+      → entered pool table ws bounds names m os ≡ got (a, bs) → Made (make a bs) w r → Made all w r
   met-made h w r a bs e k = subst (λ (x : Got (List Rec)). Made x w r) (sym (h ∙ ap (λ (x : Got (A × List (tree.Open ℕ))). x >>= λ p. make p.0 p.1) e)) k
 
 -- ══ Bounds that were given ══
@@ -70,12 +88,15 @@ module _ (pool table : List ℕ) where
 
   pub given-bounds : (bounds : List ℕ) (bs : List (tree.Open ℕ)) → boundsGiven (table_of pool table) bounds ≡ got bs → BoundsAt bounds bs 0
   unfolding boundsGiven
-  given-bounds bounds bs e = chain-bounds 0 bounds 0 bs (list-is bounds readBound (goodOpen pool table 0) (GoodBound pool table 0 bounds) (bound-reader bounds pool table 0) bs e)
+  given-bounds bounds bs e = chain-bounds 0 bounds 0 bs
+      (list-is bounds readBound (goodOpen pool table 0) (GoodBound pool table 0 bounds) (bound-reader bounds pool table 0) bs e)
 
   -- the order tells the atoms of well formed products apart
-  pub tells : (q : ℕ) → Good pool table → Tells (λ a. goodAtom (numbersOf (table_of pool table)) (is_held (table_of pool table)) q a ≡ true) (orderAtom (numbersOf (table_of pool table)))
+  pub tells : (q : ℕ) → Good pool table → Tells (λ a. goodAtom (numbersOf (table_of pool table)) (is_held (table_of pool table)) q a ≡ true)
+      (orderAtom (numbersOf (table_of pool table)))
   tells q g = atom-tells (numbersOf (table_of pool table)) (is_held (table_of pool table)) q (record {
-    same = λ a b h k e. (held_tells g).same a b (ltb-true a (get_or table 0 0) (sym (held-is pool table a) ∙ h)) (ltb-true b (get_or table 0 0) (sym (held-is pool table b) ∙ k)) e;
+    same = λ a b h k e. (held_tells g).same a b (ltb-true a (get_or table 0 0) (sym (held-is pool table a) ∙ h))
+        (ltb-true b (get_or table 0 0) (sym (held-is pool table b) ∙ k)) e;
   })
 
 -- with all bounds asked for, each is renamed or stays
@@ -106,9 +127,12 @@ module _ (pool table ws bounds names : List ℕ) where
   abbrev pub quantifiedFrom : Ty ℕ → List (tree.Open ℕ) → Got (List Rec)
   quantifiedFrom t bs = quantify (numbersOf (table_of pool table)) bounded names t bs >>= λ s. got (writeScheme s)
 
-  pub quantify-whole : Whole pool table ws bounds names (typeGiven (table_of pool table) ws) opens quantifiedFrom (quantified (table_of pool table) ws bounds names)
+  pub quantify-whole : Whole pool table ws bounds names (typeGiven (table_of pool table) ws) opens quantifiedFrom
+      (quantified (table_of pool table) ws bounds names)
   unfolding quantified entered
-  quantify-whole = row-then (λ t. apart (table_of pool table) (opens t)) quantifiedFrom (shortLists _ >> shortNumbers names) (tableKept (table_of pool table)) (typeGiven (table_of pool table) ws) (boundsGiven (table_of pool table) bounds) (numbersGiven (table_of pool table) names)
+  quantify-whole = row-then (λ t. apart (table_of pool table) (opens t)) quantifiedFrom (shortLists _ >> shortNumbers names)
+      (tableKept (table_of pool table)) (typeGiven (table_of pool table) ws) (boundsGiven (table_of pool table) bounds)
+      (numbersGiven (table_of pool table) names)
 
   -- what the code's checks say
   pub quantify-checked : length bounds ≤ 8192 → length names ≤ 2048 → lentTable pool table ≡ got tt → Words32 ws
@@ -129,7 +153,8 @@ module _ (pool table ws bounds names : List ℕ) where
   quantify-came h k l w e g =
       came-in pool table ws bounds names (typeGiven (table_of pool table) ws) opens h k l (quantify-checked h k l w (got tt) (got tt) e g)
 
-  module _ (w : Words32 ws) (work : List ℕ) (room : 16384 ≤ length work) (t : Ty ℕ) (bs : List (tree.Open ℕ)) (n : Entered pool table ws bounds names (typeGiven (table_of pool table) ws) opens t bs) where
+  module _ (w : Words32 ws) (work : List ℕ) (room : 16384 ≤ length work) (t : Ty ℕ) (bs : List (tree.Open ℕ))
+      (n : Entered pool table ws bounds names (typeGiven (table_of pool table) ws) opens t bs) where
     few-names : All (λ x. x < 256) names
     few-names x i = let a = n.names-held x i in let b = (good-laid n.good).few in omega arith
 
@@ -149,9 +174,12 @@ module _ (pool table ws bounds names : List ℕ) where
     quantify-made : quantifiedAs pool table names true t bs ≡ quantifiedFrom t bs
     quantify-made =
         let ν : Names ℕ = numbersOf (table_of pool table) in
-        let q = quantify-once ν (law pool table) (is_held (table_of pool table)) 4_294_967_296 (tells pool table 4_294_967_296 n.good) names t bs (let k = n.names-few in omega arith) (type-is pool table ws w t n.one).good n.unmix in
+        let q = quantify-once ν (law pool table) (is_held (table_of pool table)) 4_294_967_296 (tells pool table 4_294_967_296 n.good) names t bs
+        (let k = n.names-few in omega arith) (type-is pool table ws w t n.one).good n.unmix in
         rw (all_renamed (all_of ν 0 names) bs, q)
-        (sym (bind-twice (replaceTy ν bounded (renamed (all_of ν 0 names)) t) (λ u. schemeLimited bounded 1 u (renamedBounds (all_of ν 0 names) bs) (scheme (length names) u (renamedBounds (all_of ν 0 names) bs))) (λ s. got (writeScheme s))))
+        (sym (bind-twice (replaceTy ν bounded (renamed (all_of ν 0 names)) t)
+        (λ u. schemeLimited bounded 1 u (renamedBounds (all_of ν 0 names) bs) (scheme (length names) u (renamedBounds (all_of ν 0 names) bs)))
+        (λ s. got (writeScheme s))))
 
     pub quantify-met : (w' : List ℕ) (r : Result ℕ Refusal) → Made (quantifiedAs pool table names true t bs) w' r → Made (quantifiedFrom t bs) w' r
     quantify-met w' r k = subst (λ (m : Got (List Rec)). Made m w' r) quantify-made k
@@ -161,12 +189,19 @@ module _ (pool table ws bounds names : List ℕ) where
 module _ (pool table : List ℕ) (result work : List ℕ) where
   -- a work buffer of the same length is left the same
   pub handed-on : (m : Got (List Rec)) (w : List ℕ) → length w ≡ length work → handed m result w ≡ handed m result work
-  handed-on m w e = ap (λ (n : ℕ). record { answer = m >>= λ rs. got (length rs); result = resultAfter (m >>= λ rs. got (words rs)) result; work = replicate n 0 }) e
+  handed-on m w e = ap (λ (n : ℕ). record {
+    answer = m >>= λ rs. got (length rs);
+    result = resultAfter (m >>= λ rs. got (words rs)) result;
+    work = replicate n 0;
+  }) e
 
-  pub quantify-short : (ws bounds names : List ℕ) → lent pool table result work ≡ refused 10 → record { answer = refused 10; result = result; work = work } ≡ quantifyCall pool table ws bounds names result work
+  pub quantify-short : (ws bounds names : List ℕ) → lent pool table result work ≡ refused 10
+      → record { answer = refused 10; result = result; work = work } ≡ quantifyCall pool table ws bounds names result work
   unfolding quantifyCall
   quantify-short ws bounds names e = unwritten (lent pool table result work) (quantified (table_of pool table) ws bounds names) result work e
 
-  pub quantify-called : (ws bounds names w : List ℕ) → length w ≡ length work → lent pool table result work ≡ got tt → handed (quantified (table_of pool table) ws bounds names) result w ≡ quantifyCall pool table ws bounds names result work
+  pub quantify-called : (ws bounds names w : List ℕ) → length w ≡ length work → lent pool table result work ≡ got tt
+      → handed (quantified (table_of pool table) ws bounds names) result w ≡ quantifyCall pool table ws bounds names result work
   unfolding quantifyCall
-  quantify-called ws bounds names w n e = handed-on (quantified (table_of pool table) ws bounds names) w n ∙ as_written (lent pool table result work) (quantified (table_of pool table) ws bounds names) result work e
+  quantify-called ws bounds names w n e = handed-on (quantified (table_of pool table) ws bounds names) w n
+      ∙ as_written (lent pool table result work) (quantified (table_of pool table) ws bounds names) result work e

@@ -6,7 +6,8 @@ use Rattle.serve.specs.declared.request.Header.{Header}
 
 -- the word whose four bytes stand at a place; 0 past the end
 unfoldable pub word_at : List ℕ → ℕ → ℕ
-word_at s at = pick (ltb (length s) 4) 0 (pick (ltb (length s - 4) at) 0 (get_or s at 0 + get_or s (at + 1) 0 * 256 + get_or s (at + 2) 0 * 65536 + get_or s (at + 3) 0 * 16777216))
+word_at s at = pick (ltb (length s) 4) 0
+    (pick (ltb (length s - 4) at) 0 (get_or s at 0 + get_or s (at + 1) 0 * 256 + get_or s (at + 2) 0 * 65536 + get_or s (at + 3) 0 * 16777216))
 
 abbrev pub head_of : List ℕ → Header
 head_of s = record {

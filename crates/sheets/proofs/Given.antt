@@ -57,19 +57,21 @@ scalar-deep (rec u a b c ∷ rs) = lasts Deep (lengthIn u) (suc (length rs)) (sc
 con-deep : (s : List Rec) → Reads (readCon s) (λ c rest. Deep c)
 unfolding readCon depthCon
 con-deep [] = nothing
-con-deep (rec u a b c ∷ rs) = lasts Deep (lengthIn u) (suc (length rs)) (conKinds (readTy 64) (kindIn u) a b c rs) (picked (kindIn u) rs (conTable (readTy 64) a b c) (
-  (λ e. plain (a ∷ b ∷ c ∷ []) (readEqual (readTy 64)) rs (λ z. then (depth-read 64 rs) (λ l s h. then (depth-read 64 s) (λ r s' k. given (omega arith))))),
-  (
-    (λ e. plain (a ∷ b ∷ c ∷ []) (readIsDim (readTy 64)) rs (λ z. then (depth-read 64 rs) (λ t s h. given h))),
-    (
-      (λ e. plain (a ∷ b ∷ c ∷ []) (next scalarKinds) rs (λ z. scalar-deep rs)),
+con-deep (rec u a b c ∷ rs) = lasts Deep (lengthIn u) (suc (length rs)) (conKinds (readTy 64) (kindIn u) a b c rs)
+    (picked (kindIn u) rs (conTable (readTy 64) a b c) (
+      (λ e. plain (a ∷ b ∷ c ∷ []) (readEqual (readTy 64)) rs (λ z. then (depth-read 64 rs) (λ l s h. then (depth-read 64 s) (λ r s' k. given (omega arith))))),
       (
-        (λ e. plain (b ∷ c ∷ []) (readHasField (readTy 64) a) rs (λ z. then (depth-read 64 rs) (λ l s h. then (depth-read 64 s) (λ r s' k. given (omega arith))))),
-        tt,
+        (λ e. plain (a ∷ b ∷ c ∷ []) (readIsDim (readTy 64)) rs (λ z. then (depth-read 64 rs) (λ t s h. given h))),
+        (
+          (λ e. plain (a ∷ b ∷ c ∷ []) (next scalarKinds) rs (λ z. scalar-deep rs)),
+          (
+            (λ e. plain (b ∷ c ∷ []) (readHasField (readTy 64) a) rs
+                (λ z. then (depth-read 64 rs) (λ l s h. then (depth-read 64 s) (λ r s' k. given (omega arith))))),
+            tt,
+          ),
+        ),
       ),
-    ),
-  ),
-))
+    ))
 
 tail-deep : (c : Con ℕ) (o : Option (List (Con ℕ))) (cs : List (Con ℕ)) → Deep c → ((ds : List (Con ℕ)) → o ≡ some ds → Every Deep ds)
     → (elim o as (λ x. Option (List (Con ℕ))) [ none ↦ none | some vs ↦ some (c ∷ vs) ]) ≡ some cs → Every Deep cs

@@ -147,14 +147,18 @@ module _ {pool table : List ℕ} (good : Good pool table) (bytes : Every IsByte 
       → Finds (typed (here 1 (tyText name_of l ++ (32 ∷ 126 ∷ 32 ∷ tyText name_of r)))) (Meanings.ConMeans good (equal l r)) []
   unfolding typed skip skipFrom isBlank spell spellFrom
   equal-found l r g k h i =
-      rw (skip-type l g 1 (32 ∷ 126 ∷ 32 ∷ tyText name_of r)) (then _ (ty-found good bytes l 63 g h 1 (32 ∷ 126 ∷ 32 ∷ tyText name_of r) (tilde-stops (32 ∷ tyText name_of r))) (λ v b m.
-      rw (blank-type 64 (suc (suc b)) (tyText name_of r)) (then _ (last_found r k i (suc (suc (suc b)))) (λ w e n. found (Meanings.equal-means good 1 l r v w m n)))))
+      rw (skip-type l g 1 (32 ∷ 126 ∷ 32 ∷ tyText name_of r))
+      (then _ (ty-found good bytes l 63 g h 1 (32 ∷ 126 ∷ 32 ∷ tyText name_of r) (tilde-stops (32 ∷ tyText name_of r))) (λ v b m.
+      rw (blank-type 64 (suc (suc b)) (tyText name_of r))
+      (then _ (last_found r k i (suc (suc (suc b)))) (λ w e n. found (Meanings.equal-means good 1 l r v w m n)))))
 
   isDim-found : (t : Ty ℕ) → isGood t ≡ true → depth t ≤ 64
       → Finds (typed (here 1 (tyText name_of t ++ (58 ∷ 32 ∷ 68 ∷ 84 ∷ 121 ∷ 112 ∷ 101 ∷ [])))) (Meanings.ConMeans good (isDim t)) []
   unfolding typed skip skipFrom isBlank spell spellFrom
   isDim-found t g h =
-      rw (skip-type t g 1 (58 ∷ 32 ∷ 68 ∷ 84 ∷ 121 ∷ 112 ∷ 101 ∷ [])) (then _ (ty-found good bytes t 63 g h 1 (58 ∷ 32 ∷ 68 ∷ 84 ∷ 121 ∷ 112 ∷ 101 ∷ []) (colon-stops (32 ∷ 68 ∷ 84 ∷ 121 ∷ 112 ∷ 101 ∷ []))) (λ w b m.
+      rw (skip-type t g 1 (58 ∷ 32 ∷ 68 ∷ 84 ∷ 121 ∷ 112 ∷ 101 ∷ []))
+      (then _ (ty-found good bytes t 63 g h 1 (58 ∷ 32 ∷ 68 ∷ 84 ∷ 121 ∷ 112 ∷ 101 ∷ []) (colon-stops (32 ∷ 68 ∷ 84 ∷ 121 ∷ 112 ∷ 101 ∷ [])))
+      (λ w b m.
       found (Meanings.isDim-means good 1 t w m)))
 
   abbrev scalar : Bytes
@@ -179,9 +183,12 @@ module _ {pool table : List ℕ} (good : Good pool table) (bytes : Every IsByte 
       → Finds (G.hasField (here 1 (asked (tyText name_of s) (nameText (name_of x)) (tyText name_of t)))) (Meanings.ConMeans good (hasField x s t)) []
   unfolding G.hasField skip skipFrom isBlank spell spellFrom
   hasField-found x s t l g k h i =
-      then _ (ty-found good bytes s 63 g h 10 (44 ∷ 32 ∷ 34 ∷ (nameText (name_of x) ++ (34 ∷ 44 ∷ 32 ∷ (tyText name_of t ++ (41 ∷ []))))) (comma-stops (32 ∷ 34 ∷ (nameText (name_of x) ++ (34 ∷ 44 ∷ 32 ∷ (tyText name_of t ++ (41 ∷ []))))))) (λ v b m.
-      then _ (name-found good bytes x (suc (suc (suc b))) (34 ∷ 44 ∷ 32 ∷ (tyText name_of t ++ (41 ∷ []))) l (quote-ends (44 ∷ 32 ∷ (tyText name_of t ++ (41 ∷ []))))) (λ n e j.
-      rw (blank-type 64 (suc (suc e)) (tyText name_of t ++ (41 ∷ []))) (then _ (ty-found good bytes t 63 k i (suc (suc (suc e))) (41 ∷ []) (paren-stops []).stops) (λ w o q.
+      then _ (ty-found good bytes s 63 g h 10 (44 ∷ 32 ∷ 34 ∷ (nameText (name_of x) ++ (34 ∷ 44 ∷ 32 ∷ (tyText name_of t ++ (41 ∷ [])))))
+      (comma-stops (32 ∷ 34 ∷ (nameText (name_of x) ++ (34 ∷ 44 ∷ 32 ∷ (tyText name_of t ++ (41 ∷ []))))))) (λ v b m.
+      then _ (name-found good bytes x (suc (suc (suc b))) (34 ∷ 44 ∷ 32 ∷ (tyText name_of t ++ (41 ∷ []))) l
+      (quote-ends (44 ∷ 32 ∷ (tyText name_of t ++ (41 ∷ []))))) (λ n e j.
+      rw (blank-type 64 (suc (suc e)) (tyText name_of t ++ (41 ∷ [])))
+      (then _ (ty-found good bytes t 63 k i (suc (suc (suc e))) (41 ∷ []) (paren-stops []).stops) (λ w o q.
       found (Meanings.hasField-means good 1 x s t n v w l j m q)))))
 
   line-asked : (s n t : Bytes) → line (asked s n t) ≡ pass (G.hasField (here 1 (asked s n t))) (λ c. ended >> give (some c))
@@ -197,8 +204,10 @@ module _ {pool table : List ℕ} (good : Good pool table) (bytes : Every IsByte 
   con-found (is_scalar p) g h = whole-line (is_scalar p) (dim p) scalar g refl (isScalar-found p (Meanings.good-dim good p g) g)
   con-found (hasField x s t) g h =
       let k = and_left (is_held (table_of pool table) x && isGood s) _ g in
-      rw (line-asked (tyText name_of s) (nameText (name_of x)) (tyText name_of t)) (then _ (hasField-found x s t (Meanings.held good x (and_left (is_held (table_of pool table) x) _ k))
-      (and_right (is_held (table_of pool table) x) _ k) (and_right (is_held (table_of pool table) x && isGood s) _ g) (omega arith) (omega arith)) (λ w b m. found (record { con = w; is = refl; means = m })))
+      rw (line-asked (tyText name_of s) (nameText (name_of x)) (tyText name_of t))
+      (then _ (hasField-found x s t (Meanings.held good x (and_left (is_held (table_of pool table) x) _ k))
+      (and_right (is_held (table_of pool table) x) _ k) (and_right (is_held (table_of pool table) x && isGood s) _ g) (omega arith) (omega arith))
+      (λ w b m. found (record { con = w; is = refl; means = m })))
 
   -- a written line is read as its constraint; only the records are more
   pub line-back : (c : Con ℕ) → goodCon (numbersOf (table_of pool table)) (is_held (table_of pool table)) 0 c ≡ true → depthCon c ≤ 64 → (j r q : ℕ)

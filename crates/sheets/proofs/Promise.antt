@@ -69,8 +69,12 @@ module _ {pool table : List ℕ} (good : Good pool table) (bytes : Every IsByte 
   set_back [] g d k j r q e m = no_lines k (Meanings.state good j r) ∙ ap (λ (n : ℕ). sheet [] (Meanings.state good j n)) (omega arith)
   set_back (c ∷ cs) g d k j r q e m =
       let gc = and_left (isGood c) _ g in
-      rw (append_assoc (conText (Meanings.name_of good) c) (10 ∷ []) (setText (Meanings.name_of good) cs), first-line (conText (Meanings.name_of good) c) (setText (Meanings.name_of good) cs) (con-flat good c gc))
-      (rw (line-back good bytes c gc d.0 j r (r + sizeCon c) refl (omega arith)) (rw (set_back cs (and_right (isGood c) _ g) d.1 (suc k) j (r + sizeCon c) q (omega arith) m)))
+      rw (
+        append_assoc (conText (Meanings.name_of good) c) (10 ∷ []) (setText (Meanings.name_of good) cs),
+        first-line (conText (Meanings.name_of good) c) (setText (Meanings.name_of good) cs) (con-flat good c gc),
+      )
+      (rw (line-back good bytes c gc d.0 j r (r + sizeCon c) refl (omega arith))
+      (rw (set_back cs (and_right (isGood c) _ g) d.1 (suc k) j (r + sizeCon c) q (omega arith) m)))
 
 -- every well formed set is written, in at most 173 bytes a record, and read back over the same table to the same records, with no new name
 module _ (pool table set text result work : List ℕ) (formed : setCall pool table set ≡ got tt) (bytes : Every IsByte pool) (small : Words set)
@@ -87,7 +91,14 @@ module _ (pool table set text result work : List ℕ) (formed : setCall pool tab
   written-text : text_of pool table set text ≡ got (setText (namesIn (table_of pool table)) given.cs)
   unfolding text_of lentTable shortLists tableKept all
   written-text =
-      rw (le-leb 8192 (length pool) good.bytes, le-leb 257 (length table) good.words, le-leb 354304 (length text) room, le-leb (length set) 8192 given.short, good.good, given.given)
+      rw (
+        le-leb 8192 (length pool) good.bytes,
+        le-leb 257 (length table) good.words,
+        le-leb 354304 (length text) room,
+        le-leb (length set) 8192 given.short,
+        good.good,
+        given.given,
+      )
 
   read_again : sheetRead pool table (setText (namesIn (table_of pool table)) given.cs) ≡ sheet given.cs (Meanings.state good 0 (sum_of sizeCon given.cs))
   unfolding sheetRead
@@ -95,7 +106,12 @@ module _ (pool table set text result work : List ℕ) (formed : setCall pool tab
 
   all-lent : lent pool table result work ≡ got tt
   unfolding lent lentTable lentResult lentWork
-  all-lent = rw (le-leb 8192 (length pool) good.bytes, le-leb 257 (length table) good.words, le-leb 8192 (length result) results, le-leb 16384 (length work) works)
+  all-lent = rw (
+    le-leb 8192 (length pool) good.bytes,
+    le-leb 257 (length table) good.words,
+    le-leb 8192 (length result) results,
+    le-leb 16384 (length work) works,
+  )
 
   many : sum_of sizeCon given.cs ≡ length set / 4
   many = omega (arith, cons.many)
@@ -223,7 +239,8 @@ read-on [] more first start cs s e =
 read-on (l ∷ ls) more first start cs s e = go (lineRead l start) refl (λ t ds. read-on ls more (suc first) t ds s)
   where
     go : (t : Told (List (Con ℕ))) → lineRead l start ≡ t
-        → ((u : Sofar) (ds : List (Con ℕ)) → lines_read (suc first) ls u ≡ sheet ds s → lines_read (suc first) (ls ++ more) u ≡ with ds (lines_read (suc first + length ls) more s))
+        → ((u : Sofar) (ds : List (Con ℕ)) → lines_read (suc first) ls u ≡ sheet ds s
+        → lines_read (suc first) (ls ++ more) u ≡ with ds (lines_read (suc first + length ls) more s))
         → lines_read first ((l ∷ ls) ++ more) start ≡ with cs (lines_read (first + length (l ∷ ls)) more s)
     go (refusedAt m d) q f = let w : refusedIn m first d ≡ sheet cs s = rw q at e in let z : ◌≡◌ {A = ℕ} 0 1 = cc in absurd (omega arith)
     go (told ds u) q f =
@@ -232,7 +249,8 @@ read-on (l ∷ ls) more first start cs s e = go (lineRead l start) refl (λ t ds
         rw q (ap (with ds) (f u b.rest b.is) ∙ with-both ds b.rest (lines_read (suc first + length ls) more s)
         ∙ ap (λ (l : List (Con ℕ)). with l (lines_read (suc first + length ls) more s)) (sym b.whole) ∙ ap (λ (n : ℕ). with cs (lines_read n more s)) k)
 
-module _ (pool table : List ℕ) (before : List Bytes) (flat : Lines before) (cs : List (Con ℕ)) (s : Sofar) (read : lines_read 1 before (unread pool table) ≡ sheet cs s) where
+module _ (pool table : List ℕ) (before : List Bytes) (flat : Lines before) (cs : List (Con ℕ)) (s : Sofar)
+    (read : lines_read 1 before (unread pool table) ≡ sheet cs s) where
   as-text : sheetRead pool table (joined before) ≡ sheet cs s
   unfolding sheetRead
   as-text =
@@ -286,5 +304,6 @@ pub refused-line : (pool table text result work : List ℕ) (n k c : ℕ) → (r
     → RefusedText pool table text n (suc k) c
 unfolding readTextCall sheetGiven
 refused-line pool table text result work n k c e =
-    refused-text pool table text n (suc k) c (in-a-line (Base.◌>>◌ (lent pool table result work) (tableKept (table_of pool table))) (sheetRead pool table text) n k c
+    refused-text pool table text n (suc k) c
+    (in-a-line (Base.◌>>◌ (lent pool table result work) (tableKept (table_of pool table))) (sheetRead pool table text) n k c
     (handed-refused pool table result (workAfter (lent pool table result work) work) (sheetGiven pool table text result work) n (suc k) c e))

@@ -163,7 +163,8 @@ denominator-fits d = go (eqb d 1) refl
   where
     go : (t : Bool) → eqb d 1 ≡ t → Fits (denominatorText d) 11
     go true e = record { short = rw (e, denominatorText) (omega arith); flat = rw (e, denominatorText) (record { every = tt }) }
-    go false e = let h = decimal-fits 10 d in record { short = rw (e, denominatorText) (omega (arith, h.short)); flat = rw (e, denominatorText) (plus (lit (ascii "/") refl) h.flat) }
+    go false e = let h = decimal-fits 10 d
+        in record { short = rw (e, denominatorText) (omega (arith, h.short)); flat = rw (e, denominatorText) (plus (lit (ascii "/") refl) h.flat) }
 
 -- '25 for a power'
 power-fits : (e : Exp) → Fits (powerText e) 25
@@ -310,7 +311,10 @@ module _ {pool table : List ℕ} (good : Good pool table) where
     arguments-fit (cons t ts) g =
         let h = ty-fits t (and_left (isGood t) _ g) in
         let k = more-types-fit ts (and_right (isGood t) _ g) in
-        record { short = simp length-append (omega (arith, h.short, k.short)); flat = plus (lit (ascii "<") refl) (plus h.flat (plus k.flat (lit (ascii ">") refl))) }
+        record {
+          short = simp length-append (omega (arith, h.short, k.short));
+          flat = plus (lit (ascii "<") refl) (plus h.flat (plus k.flat (lit (ascii ">") refl)));
+        }
 
     more-fields-fit : (fs : Fields ℕ) → fieldsGood fs ≡ true → Fits (moreFieldsText name_of fs) (sizeFields fs * 173)
     more-fields-fit noFields g = record { short = omega arith; flat = record { every = tt } }
@@ -373,7 +377,8 @@ module _ {pool table : List ℕ} (good : Good pool table) where
       let m = ty-fits t (and_right (is_held (table_of pool table) x && isGood s) _ g) in
       record {
         short = simp length-append (omega (arith, h.short, l.short, m.short));
-        flat = plus (lit (ascii "HasField(") refl) (plus l.flat (plus (lit (ascii ", \"") refl) (plus h.flat (plus (lit (ascii "\", ") refl) (plus m.flat (lit (ascii ")") refl))))));
+        flat = plus (lit (ascii "HasField(") refl)
+            (plus l.flat (plus (lit (ascii ", \"") refl) (plus h.flat (plus (lit (ascii "\", ") refl) (plus m.flat (lit (ascii ")") refl))))));
       }
 
   -- no line feed in a written line

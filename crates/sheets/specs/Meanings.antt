@@ -184,7 +184,8 @@ module _ {pool table : List ℕ} (good : Good pool table) where
   state j r = record { pool = pool; table = table; fresh = j; records = r }
 
   pub held_bytes : Every IsByte pool → (x : ℕ) → Held x → Every IsByte (name_of x)
-  held_bytes b x h = rw (name-is (good-laid good) x h) (every_take (get_or table (suc x) 0 - start_at table x) (drop (start_at table x) pool) (every_drop (start_at table x) pool b))
+  held_bytes b x h = rw (name-is (good-laid good) x h)
+      (every_take (get_or table (suc x) 0 - start_at table x) (drop (start_at table x) pool) (every_drop (start_at table x) pool b))
 
   pub name-length : (x : ℕ) → Held x → (1 ≤ length (name_of x)) × (length (name_of x) ≤ 48)
   name-length x h =
@@ -220,8 +221,10 @@ module _ {pool table : List ℕ} (good : Good pool table) where
   good-dim p g =
       let h = and_left (all (goodFactor ν (is_held (table_of pool table)) 0) p && rising (orderAtom ν) (map atomOf p)) _ g in
       record {
-        each = all-every (λ f. goodFactor ν (is_held (table_of pool table)) 0 f ≡ true) p (all-is (goodFactor ν (is_held (table_of pool table)) 0) p (and_left (all (goodFactor ν (is_held (table_of pool table)) 0) p) _ h));
-        in_order = sorted ν (atom-lawful ν (numbered-lawful (names_of (table_of pool table)))) p (and_right (all (goodFactor ν (is_held (table_of pool table)) 0) p) _ h);
+        each = all-every (λ f. goodFactor ν (is_held (table_of pool table)) 0 f ≡ true) p
+            (all-is (goodFactor ν (is_held (table_of pool table)) 0) p (and_left (all (goodFactor ν (is_held (table_of pool table)) 0) p) _ h));
+        in_order = sorted ν (atom-lawful ν (numbered-lawful (names_of (table_of pool table)))) p
+            (and_right (all (goodFactor ν (is_held (table_of pool table)) 0) p) _ h);
         few = leb-true (length p) 64 (and_right (all (goodFactor ν (is_held (table_of pool table)) 0) p && rising (orderAtom ν) (map atomOf p)) _ g);
       }
 
@@ -281,7 +284,8 @@ module _ {pool table : List ℕ} (good : Good pool table) where
       → q ≡ r + suc (length p) → q ≤ 2048
       → productOf c ws e (state j r) ≡ told p (state j q)
   unfolding productOf
-  dimension-means c e p ws h s l j r q k m = rw (counts 1 c j r (r + 1) refl (omega arith), h [] j (r + 1) s l) (rw (counts (length p) e j (r + 1) q (omega arith) m))
+  dimension-means c e p ws h s l j r q k m = rw (counts 1 c j r (r + 1) refl (omega arith), h [] j (r + 1) s l)
+      (rw (counts (length p) e j (r + 1) q (omega arith) m))
 
   -- ══ Types ══
 
@@ -341,7 +345,8 @@ module _ {pool table : List ℕ} (good : Good pool table) where
       → ConMeans (hasField x s t) (hasFieldAt c v n w)
   unfolding conOf sizeCon
   hasField-means c x s t n v w b i g h j r q e m =
-      rw (counts 1 c j r (r + 1) refl (omega arith), g j (r + 1) (r + 1 + size s) refl (omega arith)) (rw (known x b n i j (r + 1 + size s), h j (r + 1 + size s) q (omega arith) m))
+      rw (counts 1 c j r (r + 1) refl (omega arith), g j (r + 1) (r + 1 + size s) refl (omega arith))
+      (rw (known x b n i j (r + 1 + size s), h j (r + 1 + size s) q (omega arith) m))
 
   pub dim-means : (c e : ℕ) (p : Product ℕ) (ws : List FactorAt) → FactorsMean p ws → Sorted ν p → length p ≤ 64 → TyMeans (dim p) (dimAt c ws e)
   unfolding ty_of size

@@ -88,8 +88,10 @@ pub record ListStops (rest : Bytes) : Type 0 where
 stored-small : (n : ℤ) (d : ℕ) → goodStored (frac n d) ≡ true → (nat_abs n ≤ top) × (d ≤ top)
 unfolding goodStored goodExp in_range
 stored-small n d g =
-    let r = and_left (in_range (frac n d)) _ (and_right (not (isZero (frac n d))) _ g) in
-    (leb-true (nat_abs n) top (and_left (leb (nat_abs n) top) _ (and_left (leb (nat_abs n) top && leb 1 d) _ r)), leb-true d top (and_right (leb (nat_abs n) top && leb 1 d) _ r))
+    let r = and_left (in_range (frac n d)) _ (and_right (not (isZero (frac n d))) _ g) in (
+      leb-true (nat_abs n) top (and_left (leb (nat_abs n) top) _ (and_left (leb (nat_abs n) top && leb 1 d) _ r)),
+      leb-true d top (and_right (leb (nat_abs n) top && leb 1 d) _ r),
+    )
 
 pub as' : {A : Type 0} {m : Parsed A} {P Q : A → Type 0} {rest : Bytes} → Finds m P rest → ((a : A) → P a → Q a) → Finds m Q rest
 as' h k = record { what = h.what; column = h.column; is = h.is; fits = k h.what h.fits }
@@ -161,7 +163,8 @@ module _ {pool table : List ℕ} (good : Good pool table) (bytes : Every IsByte 
   unfolding goodFactor goodOpen factor skip skipFrom isBlank spell spellFrom
   var-found x n d g c rest stop =
       let h = Meanings.held good x (and_left (is_held (table_of pool table) x) _ g) in
-      then _ (then _ (name-found x (suc c) (powerText (frac n d) ++ rest) h (power-ends (frac n d) rest stop)) (λ m b i. found (λ j r. rw (Meanings.known good x h m i j r)))) (λ w b means.
+      then _ (then _ (name-found x (suc c) (powerText (frac n d) ++ rest) h (power-ends (frac n d) rest stop))
+      (λ m b i. found (λ j r. rw (Meanings.known good x h m i j r)))) (λ w b means.
       power-found c w (free (var x)) n d (and_right (is_held (table_of pool table) x) _ g) means b rest stop)
 
   par-found : (x : ℕ) (n : ℤ) (d : ℕ) → IsGood (free (par x) ↑ frac n d) → (c : ℕ) (rest : Bytes) → FactorStops rest
@@ -169,7 +172,8 @@ module _ {pool table : List ℕ} (good : Good pool table) (bytes : Every IsByte 
   unfolding goodFactor goodOpen factor skip skipFrom isBlank spell spellFrom
   par-found x n d g c rest stop =
       let h = Meanings.held good x (and_left (is_held (table_of pool table) x) _ g) in
-      then _ (then _ (name-found x (suc c) (powerText (frac n d) ++ rest) h (power-ends (frac n d) rest stop)) (λ m b i. found (λ j r. rw (Meanings.known good x h m i j r)))) (λ w b means.
+      then _ (then _ (name-found x (suc c) (powerText (frac n d) ++ rest) h (power-ends (frac n d) rest stop))
+      (λ m b i. found (λ j r. rw (Meanings.known good x h m i j r)))) (λ w b means.
       power-found c w (free (par x)) n d (and_right (is_held (table_of pool table) x) _ g) means b rest stop)
 
   base-found : (x : ℕ) (n : ℤ) (d : ℕ) → IsGood (base x ↑ frac n d) → (c : ℕ) (rest : Bytes) → FactorStops rest
@@ -177,7 +181,8 @@ module _ {pool table : List ℕ} (good : Good pool table) (bytes : Every IsByte 
   unfolding goodFactor factor skip skipFrom isBlank spell spellFrom
   base-found x n d g c rest stop =
       let h = Meanings.held good x (and_left (is_held (table_of pool table) x) _ g) in
-      then _ (then _ (name-found x (suc c) (powerText (frac n d) ++ rest) h (power-ends (frac n d) rest stop)) (λ m b i. found (λ j r. rw (Meanings.known good x h m i j r)))) (λ w b means.
+      then _ (then _ (name-found x (suc c) (powerText (frac n d) ++ rest) h (power-ends (frac n d) rest stop))
+      (λ m b i. found (λ j r. rw (Meanings.known good x h m i j r)))) (λ w b means.
       power-found c w (base x) n d (and_right (is_held (table_of pool table) x) _ g) means b rest stop)
 
   factor-found : (f : Factor ℕ) → IsGood f → FactorFound f
@@ -213,7 +218,10 @@ module _ {pool table : List ℕ} (good : Good pool table) (bytes : Every IsByte 
   more-factors-found [] (suc n) h g c rest = found (Meanings.no-factors good)
   more-factors-found (f ∷ p) zero h g c rest = absurd (omega arith)
   more-factors-found (f ∷ p) (suc n) h g c rest =
-      rw (append_assoc (factorText name_of f) (moreFactorsText name_of p) (93 ∷ rest), blank-factor (suc (suc c)) (factorText name_of f ++ (moreFactorsText name_of p ++ (93 ∷ rest))))
+      rw (
+        append_assoc (factorText name_of f) (moreFactorsText name_of p) (93 ∷ rest),
+        blank-factor (suc (suc c)) (factorText name_of f ++ (moreFactorsText name_of p ++ (93 ∷ rest))),
+      )
       (then _ (factor-found f g.0 (suc (suc (suc c))) (moreFactorsText name_of p ++ (93 ∷ rest)) (factor-stops p rest)) (λ w b m.
       then _ (more-factors-found p n (omega arith) g.1 b rest) (λ ws e k. found (Meanings.more-factors good f p w ws m k))))
 
@@ -235,7 +243,8 @@ module _ {pool table : List ℕ} (good : Good pool table) (bytes : Every IsByte 
       → Finds (G.factors (here c (factorText name_of f ++ (moreFactorsText name_of p ++ (93 ∷ rest))))) (Meanings.FactorsMean good (f ∷ p)) (93 ∷ rest)
   factors-found f p g k c rest =
       then _ (factor-found f g c (moreFactorsText name_of p ++ (93 ∷ rest)) (factor-stops p rest)) (λ w b m.
-      then _ (more-factors-found p (length (moreFactorsText name_of p ++ (93 ∷ rest))) (many-factors p (93 ∷ rest)) k b rest) (λ ws e k. found (Meanings.more-factors good f p w ws m k)))
+      then _ (more-factors-found p (length (moreFactorsText name_of p ++ (93 ∷ rest))) (many-factors p (93 ∷ rest)) k b rest)
+      (λ ws e k. found (Meanings.more-factors good f p w ws m k)))
 
   bracket-found : (p : Product ℕ) → Every IsGood p → (c : ℕ) (rest : Bytes)
       → Finds (dimension (here c (91 ∷ (factorsText name_of p ++ (93 ∷ rest))))) (Dimension p) rest

@@ -140,7 +140,8 @@ NumberEnds rest = (n c : ℕ) → digitsFrom n c rest ≡ read n (here c rest)
 
 digit-step : (n c d : ℕ) (bs : Bytes) → d < 10 → digitsFrom n c ((d + 48) ∷ bs) ≡ digitsFrom (n * 10 + d) (suc c) bs
 unfolding digitsFrom isDigit
-digit-step n c d bs h = rw (le-leb 48 (d + 48) (omega arith), le-leb (d + 48) 57 (omega arith), digitsFrom) (ap (λ (k : ℕ). digitsFrom (n * 10 + k) (suc c) bs) (omega arith))
+digit-step n c d bs h = rw (le-leb 48 (d + 48) (omega arith), le-leb (d + 48) 57 (omega arith), digitsFrom)
+    (ap (λ (k : ℕ). digitsFrom (n * 10 + k) (suc c) bs) (omega arith))
 
 -- digits of n, and then what follows
 decimal-back : (k n : ℕ) → n < 10 ^ k → (c : ℕ) (rest : Bytes) → (d : ℕ) × (digitsFrom 0 c (decimal k n ++ rest) ≡ digitsFrom n d rest)
@@ -151,7 +152,10 @@ decimal-back (suc k) n h c rest = go (ltb n 10) refl (decimal-back k (n / 10) (o
     go : (t : Bool) → ltb n 10 ≡ t → (d : ℕ) × (digitsFrom 0 c (decimal k (n / 10) ++ ((n % 10 + 48) ∷ rest)) ≡ digitsFrom (n / 10) d ((n % 10 + 48) ∷ rest))
         → (d : ℕ) × (digitsFrom 0 c (decimal (suc k) n ++ rest) ≡ digitsFrom n d rest)
     go true e g = rw (e, decimal) (suc c, digit-step 0 c n rest (ltb-true n 10 e) ∙ ap (λ (m : ℕ). digitsFrom m (suc c) rest) (omega arith))
-    go false e g = rw (e, decimal) (suc g.0, rw append_assoc (g.1 ∙ digit-step (n / 10) g.0 (n % 10) rest (omega arith) ∙ ap (λ (m : ℕ). digitsFrom m (suc g.0) rest) (omega arith)))
+    go false e g = rw (e, decimal) (
+      suc g.0,
+      rw append_assoc (g.1 ∙ digit-step (n / 10) g.0 (n % 10) rest (omega arith) ∙ ap (λ (m : ℕ). digitsFrom m (suc g.0) rest) (omega arith)),
+    )
 
 -- they begin with a digit
 record Leads (bs : Bytes) : Type 0 where
@@ -183,7 +187,13 @@ no_minus c bs h = rw (h.is, skip-digit c h.digit h.others h.small, ne_eqb (h.dig
 
 lead-digit : (c : ℕ) (bs : Bytes) → Leads bs → digits (here c bs) ≡ digitsFrom 0 c bs
 unfolding digitsAt isDigit
-lead-digit c bs h = rw (h.is, skip-digit c h.digit h.others h.small, le-leb 48 (h.digit + 48) (omega arith), le-leb (h.digit + 48) 57 (omega (arith, h.small)), digitsAt)
+lead-digit c bs h = rw (
+  h.is,
+  skip-digit c h.digit h.others h.small,
+  le-leb 48 (h.digit + 48) (omega arith),
+  le-leb (h.digit + 48) 57 (omega (arith, h.small)),
+  digitsAt,
+)
 
 pub number-back : (n : ℕ) → n < 10 ^ 10 → (c : ℕ) (rest : Bytes) → NumberEnds rest → Comes (digits (here c (decimal 10 n ++ rest))) n rest
 number-back n h c rest stop =
@@ -220,7 +230,8 @@ tail-back rest c minus n d h a = go (eqb d 1) refl
   where
     go : (t : Bool) → eqb d 1 ≡ t → Finds (tail c minus n (here a (ending rest d))) (IsPower (signedBy minus n) d) rest
     go true e = rw (e, denominatorText) (found (record { num = refl; den = sym (eqb-true d 1 e) }))
-    go false e = rw (e, denominatorText) (then _ (number-back d (omega arith) (suc a) (41 ∷ rest) (λ n c. refl)) (λ m b q. found (record { num = refl; den = q })))
+    go false e = rw (e, denominatorText)
+        (then _ (number-back d (omega arith) (suc a) (41 ∷ rest) (λ n c. refl)) (λ m b q. found (record { num = refl; den = q })))
 
 pub power-back : (n : ℤ) (d : ℕ) → nat_abs n ≤ top → d ≤ top → (c : ℕ) (rest : Bytes)
     → Finds (power (here c (94 ∷ 40 ∷ (numeratorText n ++ (denominatorText d ++ (41 ∷ rest)))))) (IsPower n d) rest

@@ -208,17 +208,26 @@ module _ {pool table : List ℕ} (good : Good pool table) (bytes : Every IsByte 
   fn-text : (ps : Tys ℕ) (r : Ty ℕ) (rest : Bytes)
       → tyText name_of (fn ps r) ++ rest ≡ 70 ∷ 110 ∷ 91 ∷ 40 ∷ (tysText name_of ps ++ (41 ∷ 32 ∷ 45 ∷ 62 ∷ 32 ∷ (tyText name_of r ++ (93 ∷ rest))))
   unfolding tyText
-  fn-text ps r rest = rw (append_assoc (tysText name_of ps) (41 ∷ 32 ∷ 45 ∷ 62 ∷ 32 ∷ (tyText name_of r ++ (93 ∷ []))) rest, append_assoc (tyText name_of r) (93 ∷ []) rest)
+  fn-text ps r rest = rw (
+    append_assoc (tysText name_of ps) (41 ∷ 32 ∷ 45 ∷ 62 ∷ 32 ∷ (tyText name_of r ++ (93 ∷ []))) rest,
+    append_assoc (tyText name_of r) (93 ∷ []) rest,
+  )
 
   struct-text : (x : ℕ) (as' : Tys ℕ) (fs : Fields ℕ) (rest : Bytes)
       → tyText name_of (struct x as' fs) ++ rest ≡ 64 ∷ (nameText (name_of x) ++ (argumentsText name_of as' ++ (fieldsText name_of fs ++ rest)))
   unfolding tyText
-  struct-text x as' fs rest = rw (append_assoc (nameText (name_of x)) (argumentsText name_of as' ++ fieldsText name_of fs) rest, append_assoc (argumentsText name_of as') (fieldsText name_of fs) rest)
+  struct-text x as' fs rest = rw (
+    append_assoc (nameText (name_of x)) (argumentsText name_of as' ++ fieldsText name_of fs) rest,
+    append_assoc (argumentsText name_of as') (fieldsText name_of fs) rest,
+  )
 
   arguments-text : (t : Ty ℕ) (ts : Tys ℕ) (rest : Bytes)
       → argumentsText name_of (cons t ts) ++ rest ≡ 60 ∷ (tyText name_of t ++ (moreTysText name_of ts ++ (62 ∷ rest)))
   unfolding tyText
-  arguments-text t ts rest = rw (append_assoc (tyText name_of t) (moreTysText name_of ts ++ (62 ∷ [])) rest, append_assoc (moreTysText name_of ts) (62 ∷ []) rest)
+  arguments-text t ts rest = rw (
+    append_assoc (tyText name_of t) (moreTysText name_of ts ++ (62 ∷ [])) rest,
+    append_assoc (moreTysText name_of ts) (62 ∷ []) rest,
+  )
 
   more-text : (t : Ty ℕ) (ts : Tys ℕ) (rest : Bytes)
       → moreTysText name_of (cons t ts) ++ rest ≡ 44 ∷ 32 ∷ (tyText name_of t ++ (moreTysText name_of ts ++ rest))
@@ -230,7 +239,8 @@ module _ {pool table : List ℕ} (good : Good pool table) (bytes : Every IsByte 
   parameters-text t ts rest = append_assoc (tyText name_of t) (moreTysText name_of ts) rest
 
   fields-text : (n : ℕ) (t : Ty ℕ) (fs : Fields ℕ) (rest : Bytes)
-      → fieldsText name_of (field n t fs) ++ rest ≡ 123 ∷ (nameText (name_of n) ++ (58 ∷ 32 ∷ (tyText name_of t ++ (moreFieldsText name_of fs ++ (125 ∷ rest)))))
+      → fieldsText name_of (field n t fs) ++ rest
+      ≡ 123 ∷ (nameText (name_of n) ++ (58 ∷ 32 ∷ (tyText name_of t ++ (moreFieldsText name_of fs ++ (125 ∷ rest)))))
   unfolding tyText
   fields-text n t fs rest = rw (
     append_assoc (nameText (name_of n)) (58 ∷ 32 ∷ (tyText name_of t ++ (moreFieldsText name_of fs ++ (125 ∷ [])))) rest,
@@ -239,9 +249,13 @@ module _ {pool table : List ℕ} (good : Good pool table) (bytes : Every IsByte 
   )
 
   more-fields-text : (n : ℕ) (t : Ty ℕ) (fs : Fields ℕ) (rest : Bytes)
-      → moreFieldsText name_of (field n t fs) ++ rest ≡ 44 ∷ 32 ∷ (nameText (name_of n) ++ (58 ∷ 32 ∷ (tyText name_of t ++ (moreFieldsText name_of fs ++ rest))))
+      → moreFieldsText name_of (field n t fs) ++ rest
+      ≡ 44 ∷ 32 ∷ (nameText (name_of n) ++ (58 ∷ 32 ∷ (tyText name_of t ++ (moreFieldsText name_of fs ++ rest))))
   unfolding tyText
-  more-fields-text n t fs rest = rw (append_assoc (nameText (name_of n)) (58 ∷ 32 ∷ (tyText name_of t ++ moreFieldsText name_of fs)) rest, append_assoc (tyText name_of t) (moreFieldsText name_of fs) rest)
+  more-fields-text n t fs rest = rw (
+    append_assoc (nameText (name_of n)) (58 ∷ 32 ∷ (tyText name_of t ++ moreFieldsText name_of fs)) rest,
+    append_assoc (tyText name_of t) (moreFieldsText name_of fs) rest,
+  )
 
   -- ══ Types ══
 
@@ -254,11 +268,13 @@ module _ {pool table : List ℕ} (good : Good pool table) (bytes : Every IsByte 
 
   var-found : (x d : ℕ) → Meanings.Held good x → TyFound (suc d) (opened (var x))
   unfolding type skip skipFrom isBlank spell spellFrom tyText openText
-  var-found x d h c rest s = then _ (name-found good bytes x (suc c) rest h s.ends) (λ m b i. found (Meanings.open-means good c (var x) (var m) (λ j r. rw (Meanings.known good x h m i j r))))
+  var-found x d h c rest s = then _ (name-found good bytes x (suc c) rest h s.ends)
+      (λ m b i. found (Meanings.open-means good c (var x) (var m) (λ j r. rw (Meanings.known good x h m i j r))))
 
   par-found : (x d : ℕ) → Meanings.Held good x → TyFound (suc d) (opened (par x))
   unfolding type skip skipFrom isBlank spell spellFrom tyText openText
-  par-found x d h c rest s = then _ (name-found good bytes x (suc c) rest h s.ends) (λ m b i. found (Meanings.open-means good c (par x) (par m) (λ j r. rw (Meanings.known good x h m i j r))))
+  par-found x d h c rest s = then _ (name-found good bytes x (suc c) rest h s.ends)
+      (λ m b i. found (Meanings.open-means good c (par x) (par m) (λ j r. rw (Meanings.known good x h m i j r))))
 
   basic-found : (b : Basic) (d : ℕ) → TyFound (suc d) (basic b)
   unfolding type skip skipFrom isBlank spell spellFrom tyText
@@ -281,11 +297,13 @@ module _ {pool table : List ℕ} (good : Good pool table) (bytes : Every IsByte 
   -- types with what is found in them
   list-found : (t : Ty ℕ) (d : ℕ) → TyFound d t → TyFound (suc d) (list t)
   unfolding type listed skip skipFrom isBlank spell spellFrom
-  list-found t d f c rest s = rw (list-text t rest) (then _ (f (suc (suc (suc (suc (suc c))))) (62 ∷ rest) (greater-stops rest).stops) (λ w b m. found (Meanings.list-means good c t w m)))
+  list-found t d f c rest s = rw (list-text t rest)
+      (then _ (f (suc (suc (suc (suc (suc c))))) (62 ∷ rest) (greater-stops rest).stops) (λ w b m. found (Meanings.list-means good c t w m)))
 
   -- the rules for what stands in brackets
   abbrev MoreFound : ℕ → Tys ℕ → Type 0
-  MoreFound d ts = (n : ℕ) → count ts ≤ n → (c : ℕ) (rest : Bytes) → ListStops rest → Finds (moreTys (type d) n (here c (moreTysText name_of ts ++ rest))) (Meanings.TysMean good ts) rest
+  MoreFound d ts = (n : ℕ) → count ts ≤ n → (c : ℕ) (rest : Bytes) → ListStops rest
+      → Finds (moreTys (type d) n (here c (moreTysText name_of ts ++ rest))) (Meanings.TysMean good ts) rest
 
   more-none : (d : ℕ) → MoreFound d nil
   unfolding moreTys tyText
@@ -297,7 +315,8 @@ module _ {pool table : List ℕ} (good : Good pool table) (bytes : Every IsByte 
   more-cons d t ts f g zero h c rest s = absurd (omega arith)
   more-cons d t ts f g (suc n) h c rest s =
       rw (more-text t ts rest) (rw (blank-type d (suc c) (tyText name_of t ++ (moreTysText name_of ts ++ rest)))
-      (then _ (f (suc (suc c)) (moreTysText name_of ts ++ rest) (types-stop ts rest s.stops)) (λ w b m. then _ (g n (omega arith) b rest s) (λ ws e k. found (Meanings.cons-means good t ts w ws m k)))))
+      (then _ (f (suc (suc c)) (moreTysText name_of ts ++ rest) (types-stop ts rest s.stops))
+      (λ w b m. then _ (g n (omega arith) b rest s) (λ ws e k. found (Meanings.cons-means good t ts w ws m k)))))
 
   tys-found : (d : ℕ) (t : Ty ℕ) (ts : Tys ℕ) → TyFound d t → MoreFound d ts → (c : ℕ) (rest : Bytes) → ListStops rest
       → Finds (tys (type d) (here c (tyText name_of t ++ (moreTysText name_of ts ++ rest)))) (Meanings.TysMean good (cons t ts)) rest
@@ -306,7 +325,8 @@ module _ {pool table : List ℕ} (good : Good pool table) (bytes : Every IsByte 
       then _ (g (length (moreTysText name_of ts ++ rest)) (many-types ts rest) b rest s) (λ ws e k. found (Meanings.cons-means good t ts w ws m k)))
 
   abbrev ParametersFound : ℕ → Tys ℕ → Type 0
-  ParametersFound d ps = (c : ℕ) (rest : Bytes) → Finds (ifSign ")" (give nilAt) (tys (type d)) (here c (tysText name_of ps ++ (41 ∷ rest)))) (Meanings.TysMean good ps) (41 ∷ rest)
+  ParametersFound d ps = (c : ℕ) (rest : Bytes)
+      → Finds (ifSign ")" (give nilAt) (tys (type d)) (here c (tysText name_of ps ++ (41 ∷ rest)))) (Meanings.TysMean good ps) (41 ∷ rest)
 
   no-parameters : (d : ℕ) → ParametersFound d nil
   unfolding tyText skip skipFrom isBlank
@@ -314,13 +334,15 @@ module _ {pool table : List ℕ} (good : Good pool table) (bytes : Every IsByte 
 
   parameters-found : (d : ℕ) (t : Ty ℕ) (ts : Tys ℕ) → isGood t ≡ true → TyFound d t → MoreFound d ts → ParametersFound d (cons t ts)
   parameters-found d t ts g f k c rest =
-      rw (parameters-text t ts (41 ∷ rest)) (rw (no-paren t g c (moreTysText name_of ts ++ (41 ∷ rest))) (tys-found d t ts f k c (41 ∷ rest) (paren-stops rest)))
+      rw (parameters-text t ts (41 ∷ rest))
+      (rw (no-paren t g c (moreTysText name_of ts ++ (41 ∷ rest))) (tys-found d t ts f k c (41 ∷ rest) (paren-stops rest)))
 
   fn-found : (d : ℕ) (ps : Tys ℕ) (r : Ty ℕ) → ParametersFound d ps → TyFound d r → TyFound (suc d) (fn ps r)
   unfolding type function skip skipFrom isBlank spell spellFrom
   fn-found d ps r f g c rest s =
       rw (fn-text ps r rest) (then _ (f (suc (suc (suc (suc c)))) (32 ∷ 45 ∷ 62 ∷ 32 ∷ (tyText name_of r ++ (93 ∷ rest)))) (λ vs b k.
-      rw (blank-type d (suc (suc (suc (suc b)))) (tyText name_of r ++ (93 ∷ rest))) (then _ (g (suc (suc (suc (suc (suc b))))) (93 ∷ rest) (bracket-stops rest)) (λ w e m.
+      rw (blank-type d (suc (suc (suc (suc b)))) (tyText name_of r ++ (93 ∷ rest)))
+      (then _ (g (suc (suc (suc (suc (suc b))))) (93 ∷ rest) (bracket-stops rest)) (λ w e m.
       found (Meanings.fn-means good c ps r vs w k m)))))
 
   -- ══ Structs ══
@@ -329,7 +351,8 @@ module _ {pool table : List ℕ} (good : Good pool table) (bytes : Every IsByte 
   arguments d = ifSign "<" (sign "<" >> tys (type d) >>= λ ts. sign ">" >> give ts) (give nilAt)
 
   abbrev ArgumentsFound : ℕ → Tys ℕ → Type 0
-  ArgumentsFound d as' = (c : ℕ) (rest : Bytes) → ((c : ℕ) → starts "<" (skip (here c rest)) ≡ false) → Finds (arguments d (here c (argumentsText name_of as' ++ rest))) (Meanings.TysMean good as') rest
+  ArgumentsFound d as' = (c : ℕ) (rest : Bytes) → ((c : ℕ) → starts "<" (skip (here c rest)) ≡ false)
+      → Finds (arguments d (here c (argumentsText name_of as' ++ rest))) (Meanings.TysMean good as') rest
 
   no-arguments-found : (d : ℕ) → ArgumentsFound d nil
   unfolding tyText
@@ -341,7 +364,8 @@ module _ {pool table : List ℕ} (good : Good pool table) (bytes : Every IsByte 
       rw (arguments-text t ts rest) (then _ (tys-found d t ts f k (suc c) (62 ∷ rest) (greater-stops rest)) (λ ws b m. found m))
 
   abbrev MoreFieldsFound : ℕ → Fields ℕ → Type 0
-  MoreFieldsFound d fs = (n : ℕ) → countFields fs ≤ n → (c : ℕ) (rest : Bytes) → ListStops rest → Finds (moreFields (type d) n (here c (moreFieldsText name_of fs ++ rest))) (Meanings.FieldsMean good fs) rest
+  MoreFieldsFound d fs = (n : ℕ) → countFields fs ≤ n → (c : ℕ) (rest : Bytes) → ListStops rest
+      → Finds (moreFields (type d) n (here c (moreFieldsText name_of fs ++ rest))) (Meanings.FieldsMean good fs) rest
 
   more-no-fields : (d : ℕ) → MoreFieldsFound d noFields
   unfolding moreFields tyText
@@ -366,7 +390,9 @@ module _ {pool table : List ℕ} (good : Good pool table) (bytes : Every IsByte 
 
   after-name-found : (d m n : ℕ) (x : NameAt) (t : Ty ℕ) (fs : Fields ℕ) → Meanings.Held good n → x.bytes ≡ name_of n → TyFound d t
       → MoreFieldsFound d fs → countFields fs ≤ m
-      → (c : ℕ) (rest : Bytes) → ListStops rest → Finds (afterName d m x (here c (58 ∷ 32 ∷ (tyText name_of t ++ (moreFieldsText name_of fs ++ rest))))) (Meanings.FieldsMean good (field n t fs)) rest
+      → (c : ℕ) (rest : Bytes) → ListStops rest
+      → Finds (afterName d m x (here c (58 ∷ 32 ∷ (tyText name_of t ++ (moreFieldsText name_of fs ++ rest)))))
+      (Meanings.FieldsMean good (field n t fs)) rest
   unfolding skip skipFrom isBlank spell spellFrom
   after-name-found d m n x t fs l i f g h c rest s =
       rw (blank-type d (suc c) (tyText name_of t ++ (moreFieldsText name_of fs ++ rest)))
@@ -378,26 +404,30 @@ module _ {pool table : List ℕ} (good : Good pool table) (bytes : Every IsByte 
   unfolding moreFields countFields skip skipFrom isBlank spell spellFrom
   more-fields-cons d n t fs l f g zero h c rest s = absurd (omega arith)
   more-fields-cons d n t fs l f g (suc m) h c rest s = rw (more-fields-text n t fs rest) (rw (blank-name (suc c) _)
-      (then _ (field-name-found n (suc (suc c)) (32 ∷ (tyText name_of t ++ (moreFieldsText name_of fs ++ rest))) l) (λ x b i. after-name-found d m n x t fs l i f g (omega arith) b rest s)))
+      (then _ (field-name-found n (suc (suc c)) (32 ∷ (tyText name_of t ++ (moreFieldsText name_of fs ++ rest))) l)
+      (λ x b i. after-name-found d m n x t fs l i f g (omega arith) b rest s)))
 
   abbrev braces : ℕ → Rule FieldsAt
   braces d = ifSign "{" (sign "{" >> fields (type d) >>= λ fs. sign "}" >> give fs) (give noneAt)
 
   abbrev FieldsFound : ℕ → Fields ℕ → Type 0
-  FieldsFound d fs = (c : ℕ) (rest : Bytes) → ((c : ℕ) → starts "{" (skip (here c rest)) ≡ false) → Finds (braces d (here c (fieldsText name_of fs ++ rest))) (Meanings.FieldsMean good fs) rest
+  FieldsFound d fs = (c : ℕ) (rest : Bytes) → ((c : ℕ) → starts "{" (skip (here c rest)) ≡ false)
+      → Finds (braces d (here c (fieldsText name_of fs ++ rest))) (Meanings.FieldsMean good fs) rest
 
   no-fields-found : (d : ℕ) → FieldsFound d noFields
   unfolding tyText
   no-fields-found d c rest h = rw (h c) (found (Meanings.none-means good))
 
   in-braces : (d n : ℕ) (t : Ty ℕ) (fs : Fields ℕ) → Meanings.Held good n → TyFound d t → MoreFieldsFound d fs → (c : ℕ) (rest : Bytes) → ListStops rest
-      → Finds (fields (type d) (here c (nameText (name_of n) ++ (58 ∷ 32 ∷ (tyText name_of t ++ (moreFieldsText name_of fs ++ rest)))))) (Meanings.FieldsMean good (field n t fs)) rest
+      → Finds (fields (type d) (here c (nameText (name_of n) ++ (58 ∷ 32 ∷ (tyText name_of t ++ (moreFieldsText name_of fs ++ rest))))))
+      (Meanings.FieldsMean good (field n t fs)) rest
   unfolding skip skipFrom isBlank spell spellFrom
   in-braces d n t fs l f g c rest s =
       then _ (field-name-found n c (32 ∷ (tyText name_of t ++ (moreFieldsText name_of fs ++ rest))) l) (λ x b i.
       rw (blank-type d (suc b) (tyText name_of t ++ (moreFieldsText name_of fs ++ rest)))
       (then _ (f (suc (suc b)) (moreFieldsText name_of fs ++ rest) (fields-stop fs rest s.stops)) (λ w e k.
-      then _ (g (length (moreFieldsText name_of fs ++ rest)) (many-fields fs rest) e rest s) (λ ws o q. found (Meanings.field-means good n t fs x w ws l i k q)))))
+      then _ (g (length (moreFieldsText name_of fs ++ rest)) (many-fields fs rest) e rest s)
+      (λ ws o q. found (Meanings.field-means good n t fs x w ws l i k q)))))
 
   fields-found : (d n : ℕ) (t : Ty ℕ) (fs : Fields ℕ) → Meanings.Held good n → TyFound d t → MoreFieldsFound d fs → FieldsFound d (field n t fs)
   unfolding skip skipFrom isBlank spell spellFrom
@@ -408,7 +438,8 @@ module _ {pool table : List ℕ} (good : Good pool table) (bytes : Every IsByte 
       → FieldsFound d fs → TyFound (suc d) (struct x as' fs)
   unfolding type structure skip skipFrom isBlank spell spellFrom
   struct-found d x as' fs l k f g c rest s =
-      rw (struct-text x as' fs rest) (then _ (name-found good bytes x (suc c) (argumentsText name_of as' ++ (fieldsText name_of fs ++ rest)) l (struct-ends as' fs rest s)) (λ m b i.
+      rw (struct-text x as' fs rest) (then _
+      (name-found good bytes x (suc c) (argumentsText name_of as' ++ (fieldsText name_of fs ++ rest)) l (struct-ends as' fs rest s)) (λ m b i.
       then _ (f b (fieldsText name_of fs ++ rest) (no-arguments-in fs rest s)) (λ vs e p.
       then _ (g e rest s.no_fields) (λ ws o q. found (Meanings.struct-means good c x as' fs m vs ws l i p q k)))))
 
@@ -424,13 +455,15 @@ module _ {pool table : List ℕ} (good : Good pool table) (bytes : Every IsByte 
     ty-found (basic b) d g h = basic-found b d
     ty-found (dim p) d g h = dim-found p d (Meanings.good-dim good p g)
     ty-found (fn ps r) d g h =
-        fn-found d ps r (parameters ps d (and_left (areGood ps) _ g) (omega arith)) (lift r d (omega arith) (λ e k. ty-found r e (and_right (areGood ps) _ g) k))
+        fn-found d ps r (parameters ps d (and_left (areGood ps) _ g) (omega arith))
+        (lift r d (omega arith) (λ e k. ty-found r e (and_right (areGood ps) _ g) k))
     ty-found (struct n as' fs) d g h =
         let k = and_left (is_held (table_of pool table) n && areGood as' && fieldsGood fs) _ g in
         let i = and_left (is_held (table_of pool table) n && areGood as') _ k in
         struct-found d n as' fs (Meanings.held good n (and_left (is_held (table_of pool table) n) _ i))
         (rises-all fs (and_right (is_held (table_of pool table) n && areGood as' && fieldsGood fs) _ g))
-        (in-arrows as' d (and_right (is_held (table_of pool table) n) _ i) (omega arith)) (all-fields fs d (and_right (is_held (table_of pool table) n && areGood as') _ k) (omega arith))
+        (in-arrows as' d (and_right (is_held (table_of pool table) n) _ i) (omega arith))
+        (all-fields fs d (and_right (is_held (table_of pool table) n && areGood as') _ k) (omega arith))
     ty-found (list t) d g h = list-found t d (lift t d (omega arith) (λ e k. ty-found t e g k))
 
     more-types : (ts : Tys ℕ) (d : ℕ) → areGood ts ≡ true → depthTys ts ≤ d → MoreFound d ts
@@ -441,23 +474,27 @@ module _ {pool table : List ℕ} (good : Good pool table) (bytes : Every IsByte 
     parameters : (ts : Tys ℕ) (d : ℕ) → areGood ts ≡ true → depthTys ts ≤ d → ParametersFound d ts
     parameters nil d g h = no-parameters d
     parameters (cons t ts) d g h =
-        parameters-found d t ts (and_left (isGood t) _ g) (lift t d (omega arith) (λ e k. ty-found t e (and_left (isGood t) _ g) k)) (more-types ts d (and_right (isGood t) _ g) (omega arith))
+        parameters-found d t ts (and_left (isGood t) _ g) (lift t d (omega arith) (λ e k. ty-found t e (and_left (isGood t) _ g) k))
+        (more-types ts d (and_right (isGood t) _ g) (omega arith))
 
     in-arrows : (ts : Tys ℕ) (d : ℕ) → areGood ts ≡ true → depthTys ts ≤ d → ArgumentsFound d ts
     in-arrows nil d g h = no-arguments-found d
     in-arrows (cons t ts) d g h =
-        arguments-found d t ts (lift t d (omega arith) (λ e k. ty-found t e (and_left (isGood t) _ g) k)) (more-types ts d (and_right (isGood t) _ g) (omega arith))
+        arguments-found d t ts (lift t d (omega arith) (λ e k. ty-found t e (and_left (isGood t) _ g) k))
+        (more-types ts d (and_right (isGood t) _ g) (omega arith))
 
     more-fields : (fs : Fields ℕ) (d : ℕ) → fieldsGood fs ≡ true → depthFields fs ≤ d → MoreFieldsFound d fs
     more-fields noFields d g h = more-no-fields d
     more-fields (field n t fs) d g h =
         let k = and_left (is_held (table_of pool table) n && isGood t) _ g in
-        more-fields-cons d n t fs (Meanings.held good n (and_left (is_held (table_of pool table) n) _ k)) (lift t d (omega arith) (λ e i. ty-found t e (and_right (is_held (table_of pool table) n) _ k) i))
+        more-fields-cons d n t fs (Meanings.held good n (and_left (is_held (table_of pool table) n) _ k))
+        (lift t d (omega arith) (λ e i. ty-found t e (and_right (is_held (table_of pool table) n) _ k) i))
         (more-fields fs d (and_right (is_held (table_of pool table) n && isGood t) _ g) (omega arith))
 
     all-fields : (fs : Fields ℕ) (d : ℕ) → fieldsGood fs ≡ true → depthFields fs ≤ d → FieldsFound d fs
     all-fields noFields d g h = no-fields-found d
     all-fields (field n t fs) d g h =
         let k = and_left (is_held (table_of pool table) n && isGood t) _ g in
-        fields-found d n t fs (Meanings.held good n (and_left (is_held (table_of pool table) n) _ k)) (lift t d (omega arith) (λ e i. ty-found t e (and_right (is_held (table_of pool table) n) _ k) i))
+        fields-found d n t fs (Meanings.held good n (and_left (is_held (table_of pool table) n) _ k))
+        (lift t d (omega arith) (λ e i. ty-found t e (and_right (is_held (table_of pool table) n) _ k) i))
         (more-fields fs d (and_right (is_held (table_of pool table) n && isGood t) _ g) (omega arith))

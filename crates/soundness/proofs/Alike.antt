@@ -151,7 +151,8 @@ module _ {N : Type 0} (ν : Names N) where
       where
         go : (r : Bool) → is_yes (ν.same n k) ≡ r
             → and' (fieldIn ν n fs) (λ u. means ν u b) ≡ and' (fieldIn ν n (plainFields fs true)) (λ u. means ν u (plain b true))
-            → and' (fieldIn ν n (field k t fs)) (λ u. means ν u b) ≡ and' (fieldIn ν n (field k (plain t true) (plainFields fs true))) (λ u. means ν u (plain b true))
+            → and' (fieldIn ν n (field k t fs)) (λ u. means ν u b)
+            ≡ and' (fieldIn ν n (field k (plain t true) (plainFields fs true))) (λ u. means ν u (plain b true))
         go true i r = rw (i, fieldIn) (means-plain t b)
         go false i r = rw (i, fieldIn) r
 

@@ -153,7 +153,13 @@ module _ {N : Type 0} (ν : Names N) (law : Lawful (orderAtom ν)) (held : N →
   pairs-equal (cons t ts) (cons u us) n h =
       let a = equals ν bs bounds t u (h (equal t u) in_head) in
       let b = pairs-equal ts us (ap pred n) (λ c m. h c (Memᴰ.tail m)) in
-      record { left = cons a.left b.left; right = cons a.right b.right; putLeft = rw (a.putLeft, b.putLeft); putRight = rw (a.putRight, b.putRight); same = ap₂ cons a.same b.same }
+      record {
+        left = cons a.left b.left;
+        right = cons a.right b.right;
+        putLeft = rw (a.putLeft, b.putLeft);
+        putRight = rw (a.putRight, b.putRight);
+        same = ap₂ cons a.same b.same;
+      }
 
   -- ══ Products ══
 
@@ -166,7 +172,14 @@ module _ {N : Type 0} (ν : Names N) (law : Lawful (orderAtom ν)) (held : N →
   dims-equal d e g h f k i =
       let a = put-dim ν law held q tells σ σg d g f in
       let b = put-dim ν law held q tells σ σg e h k in
-      record { left = a.type; right = b.type; putLeft = a.put_in; putRight = b.put_in; same = a.reads false ∙ ap (λ (p : Product N). plain (dim p) false) i ∙ sym (b.reads false) }
+      record {
+        left = a.type;
+        right = b.type;
+        putLeft = a.put_in;
+        putRight = b.put_in;
+        same = a.reads false
+            ∙ ap (λ (p : Product N). plain (dim p) false) i ∙ sym (b.reads false);
+      }
 
   -- a quotient that is scalar
   divided-equal : (d e r : Product N) → goodProduct ν held q d ≡ true → goodProduct ν held q e ≡ true → All Fit (collect openOfFactor d)
@@ -176,7 +189,8 @@ module _ {N : Type 0} (ν : Names N) (law : Lawful (orderAtom ν)) (held : N →
       let w : r ≡ mergeE ν d (inverse e) = divide-value ν d e r i in
       let z : got (worth r) ≡ got [] = sym (put-product ν law held q tells σ σg r m n) ∙ scalar ν bs bounds r t in
       let y : worth r ≡ [] = cc in
-      dims-equal d e g h f k (valued-divided ν law tells (value_of σ) vp d e (good-proper ν law held q d g).each (good-proper ν law held q e h) (ap worth (sym w) ∙ y))
+      dims-equal d e g h f k (valued-divided ν law tells (value_of σ) vp d e (good-proper ν law held q d g).each (good-proper ν law held q e h)
+      (ap worth (sym w) ∙ y))
 
   -- x^k p is scalar where x is worth the other side of it
   power-scalar : (x : N) (k : Exp) (p r : Product N) → goodProduct ν held q (free (var x) ↑ k ∷ p) ≡ true → goodProduct ν held q r ≡ true
@@ -257,8 +271,15 @@ module _ {N : Type 0} (ν : Names N) (law : Lawful (orderAtom ν)) (held : N →
       let d = put-dim ν law held q tells σ σg p g f in
       let b : All Bounded (collect openOfFactor (worth p)) =
       each_opens Bounded (worth p) (valued-on Bounded ν (value_of σ) p (λ m. (tt, tt)) (λ o m.
-      becomes-bounded o (f o m) (λ y e. h (isDim (opened (var y))) (map-to (λ x. isDim (opened (var x))) (namesIn (collect openOfFactor p)) y (naming (collect openOfFactor p) o y m e))) (λ y e. n y (rw e at m)))) in
-      dimensional-holds ν bs bounds (dim p) (record { type = d.type; put_in = d.put_in; holding = dim-alike ν bounds d.type (dim (worth p)) (d.reads true) (among-all (collect openOfFactor (worth p)) b) })
+      becomes-bounded o (f o m) (λ y e. h (isDim (opened (var y)))
+      (map-to (λ x. isDim (opened (var x))) (namesIn (collect openOfFactor p)) y (naming (collect openOfFactor p) o y m e)))
+      (λ y e. n y (rw e at m)))) in
+      dimensional-holds ν bs bounds (dim p)
+      (record {
+        type = d.type;
+        put_in = d.put_in;
+        holding = dim-alike ν bounds d.type (dim (worth p)) (d.reads true) (among-all (collect openOfFactor (worth p)) b);
+      })
 
   -- ══ The rules ══
 
@@ -269,14 +290,27 @@ module _ {N : Type 0} (ν : Names N) (law : Lawful (orderAtom ν)) (held : N →
   bind-equal : (x : N) (side t : Ty N) → Reads x side → TrueBind x t → Equal side t
   bind-equal x side t r b =
       let w = reads-put x side r in
-      record { left = w.0; right = b.respected.type; putLeft = w.1; putRight = b.respected.put_in; same = w.2 false ∙ alike_same (named_by (var x)) b.respected.type b.respected.alike }
+      record {
+        left = w.0;
+        right = b.respected.type;
+        putLeft = w.1;
+        putRight = b.respected.put_in;
+        same = w.2 false
+            ∙ alike_same (named_by (var x)) b.respected.type b.respected.alike;
+      }
 
   functions-equal : (ps qs : Tys N) (r r' : Ty N) → count ps ≡ count qs → All True (equal r r' ∷ pairs ps qs) → Equal (fn ps r) (fn qs r')
   unfolding replaceTy plain
   functions-equal ps qs r r' n h =
       let a = equals ν bs bounds r r' (h (equal r r') in_head) in
       let b = pairs-equal ps qs n (λ c m. h c (Memᴰ.tail m)) in
-      record { left = fn b.left a.left; right = fn b.right a.right; putLeft = rw (b.putLeft, a.putLeft); putRight = rw (b.putRight, a.putRight); same = ap₂ fn b.same a.same }
+      record {
+        left = fn b.left a.left;
+        right = fn b.right a.right;
+        putLeft = rw (b.putLeft, a.putLeft);
+        putRight = rw (b.putRight, a.putRight);
+        same = ap₂ fn b.same a.same;
+      }
 
   lists-equal : (t u : Ty N) → All True (equal t u ∷ []) → Equal (list t) (list u)
   unfolding replaceTy plain
@@ -287,7 +321,9 @@ module _ {N : Type 0} (ν : Names N) (law : Lawful (orderAtom ν)) (held : N →
   fields_value : (n : N) (ts : Tys N) (fs : Fields N) → GoodTy ν law held q (struct n ts fs) → All Fit (inProducts (struct n ts fs))
       → (gs : Fields N) × (replaceFields ν exact σ fs ≡ got gs)
   unfolding goodTy inProducts
-  fields_value n ts fs g f = put-fields ν law held q tells σ σg fs (and_right (held n && goodTys ν held q ts) _ (and_left (held n && goodTys ν held q ts && goodFields ν held q fs) _ g)) (λ o m. f o (Memᴰ.append_right (inProductsTys ts) m))
+  fields_value n ts fs g f = put-fields ν law held q tells σ σg fs
+      (and_right (held n && goodTys ν held q ts) _ (and_left (held n && goodTys ν held q ts && goodFields ν held q fs) _ g))
+      (λ o m. f o (Memᴰ.append_right (inProductsTys ts) m))
 
   structs-equal : (n : N) (ts us : Tys N) (fs gs : Fields N) → count ts ≡ count us → GoodTy ν law held q (struct n ts fs)
       → GoodTy ν law held q (struct n us gs) → All Fit (inProducts (struct n ts fs)) → All Fit (inProducts (struct n us gs)) → All True (pairs ts us)
@@ -297,14 +333,21 @@ module _ {N : Type 0} (ν : Names N) (law : Lawful (orderAtom ν)) (held : N →
       let b = pairs-equal ts us k h in
       let x = fields_value n ts fs g f in
       let y = fields_value n us gs g' f' in
-      record { left = struct n b.left x.0; right = struct n b.right y.0; putLeft = rw (b.putLeft, x.1); putRight = rw (b.putRight, y.1); same = ap₂ (struct n) b.same (no_fields x.0 ∙ sym (no_fields y.0)) }
+      record {
+        left = struct n b.left x.0;
+        right = struct n b.right y.0;
+        putLeft = rw (b.putLeft, x.1);
+        putRight = rw (b.putRight, y.1);
+        same = ap₂ (struct n) b.same (no_fields x.0 ∙ sym (no_fields y.0));
+      }
 
   field-true : (n m : N) (ts : Tys N) (fs : Fields N) (t u : Ty N) → opens (struct m ts fs) ≡ [] → fieldIn ν n fs ≡ some u → True (equal u t)
       → True (hasField n (struct m ts fs) t)
   unfolding replaceCon holds opens
   field-true n m ts fs t u c i h =
       let a = equals ν bs bounds u t h in
-      let e : opens u ≡ [] = none_in (opens u) (λ o j. Memᴰ.not-nil (subst (λ (os : List (Open N)). Memᴰ o os) c (Memᴰ.append_right (opensTys ts) (field-occurs ν n fs u i o j)))) in
+      let e : opens u ≡ [] = none_in (opens u)
+      (λ o j. Memᴰ.not-nil (subst (λ (os : List (Open N)). Memᴰ o os) c (Memᴰ.append_right (opensTys ts) (field-occurs ν n fs u i o j)))) in
       let z : got u ≡ got a.left = sym (closed_same ν exact σ u e) ∙ a.putLeft in
       let y : u ≡ a.left = cc in
       record {
@@ -329,7 +372,14 @@ module _ {N : Type 0} (ν : Names N) (law : Lawful (orderAtom ν)) (held : N →
       let w = power-put x in
       let z : got e.left ≡ got w.0 = sym e.putLeft ∙ w.1 in
       let y : e.left ≡ w.0 = cc in
-      record { left = named_by (var x); right = e.right; putLeft = refl; putRight = e.putRight; same = sym (w.2 false) ∙ ap (λ (u : Ty N). plain u false) (sym y) ∙ e.same }
+      record {
+        left = named_by (var x);
+        right = e.right;
+        putLeft = refl;
+        putRight = e.putRight;
+        same = sym (w.2 false)
+            ∙ ap (λ (u : Ty N). plain u false) (sym y) ∙ e.same;
+      }
 
   dims-divided : (d e r : Product N) → GoodTy ν law held q (dim d) → GoodTy ν law held q (dim e) → All Fit (inProducts (dim d))
       → All Fit (inProducts (dim e)) → divide ν bounded d e ≡ got r → TrueCon (is_scalar r) → Equal (dim d) (dim e)
@@ -376,7 +426,8 @@ module _ {N : Type 0} (ν : Names N) (law : Lawful (orderAtom ν)) (held : N →
       sides-true c (dim d) (dim e) (inl i) (dims-divided d e r x.0 x.1 y.0 y.1 k t)
   rule-true c s (dimension d i e) n g f p a =
       let h : All TrueCon (parts d) = subst (After (All TrueCon) TrueBind) e a in
-      rw i (dimension-true d (good-dim d (subst (λ (b : Con N). goodCon ν held q b ≡ true) i g)) (subst (λ (b : Con N). All Fit (productsOf b)) i f) (subst (λ (b : Con N). (y : N) → Memᴰ (par y) (opensCon b) → find ν bs y ≡ none) i p) (λ b m. (h b m).holding))
+      rw i (dimension-true d (good-dim d (subst (λ (b : Con N). goodCon ν held q b ≡ true) i g)) (subst (λ (b : Con N). All Fit (productsOf b)) i f)
+      (subst (λ (b : Con N). (y : N) → Memᴰ (par y) (opensCon b) → find ν bs y ≡ none) i p) (λ b m. (h b m).holding))
   rule-true c s (no-factor i e) n g f p a = rw i (scalar-holds ν bs bounds [] nothing)
   rule-true c s (first-factor x k d r z i e) n g f p a =
       let h : TrueBind x (dim r) = subst (After (All TrueCon) TrueBind) e a in

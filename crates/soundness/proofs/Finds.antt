@@ -153,7 +153,8 @@ module _ {N : Type 0} (ν : Names N) (bs : List (Binding N)) where
 
       -- a bound variable after the round
       moved : (x : N) (t : Ty N) → find ν s.binds x ≡ some t → (t' : Ty N) × (find ν s'.binds x ≡ some t') × (replaceTy ν l look t ≡ got t')
-      moved x t i = let r = replaced-some ν l look s.binds b.older x t b.replacedBinds i in (r.0, rw b.appended (find_first ν b.older (b.x ≔ b.t ∷ []) x r.0 r.1), r.2)
+      moved x t i = let r = replaced-some ν l look s.binds b.older x t b.replacedBinds i
+          in (r.0, rw b.appended (find_first ν b.older (b.x ≔ b.t ∷ []) x r.0 r.1), r.2)
 
       -- a variable that wasn't bound
       fresh : (z : N) → find ν s.binds z ≡ none → find ν s'.binds z ≡ look (var z)
@@ -173,5 +174,11 @@ module _ {N : Type 0} (ν : Names N) (bs : List (Binding N)) where
 
   pub twins-turn : (l : Limits) (s s' : State N) → Turn ν l s s' → Twins ν bs s' → Twins ν bs s
   twins-turn l s s' (bound b) w = twins-bound l s s' b w
-  twins-turn l s s' (parted b) w = record { waits = λ x z i j. w.waits x z (rw b.same i) (rw b.same j); same = λ x z t i j. w.same x z t (rw b.same i) (rw b.same j) }
-  twins-turn l s s' (dropped b) w = record { waits = λ x z i j. w.waits x z (rw b.same i) (rw b.same j); same = λ x z t i j. w.same x z t (rw b.same i) (rw b.same j) }
+  twins-turn l s s' (parted b) w = record {
+    waits = λ x z i j. w.waits x z (rw b.same i) (rw b.same j);
+    same = λ x z t i j. w.same x z t (rw b.same i) (rw b.same j);
+  }
+  twins-turn l s s' (dropped b) w = record {
+    waits = λ x z i j. w.waits x z (rw b.same i) (rw b.same j);
+    same = λ x z t i j. w.same x z t (rw b.same i) (rw b.same j);
+  }

@@ -112,7 +112,8 @@ module _ {N : Type 0} (ν : Names N) (held : N → Bool) (ord : Ordered ν held)
       go : {c : Con N} → (c ≡ isDim (opened (var y))) ⊎ (c ≡ isDim (opened (par y))) → goodCon ν held 0 c ≡ true
           → ConOk (ParameterOf cs) (keys s.binds) c → (held y ≡ true) × (¬ (Memᴰ y (keys s.binds)))
       go (inl i) g h = let h' : ConOk (ParameterOf cs) (keys s.binds) (isDim (opened (var y))) = rw i at h in (rw i at g, h' (var y) in_head)
-      go (inr i) g h = let h' : ConOk (ParameterOf cs) (keys s.binds) (isDim (opened (par y))) = rw i at h in (rw i at g, λ n. k.keys-ok y n (h' (par y) in_head))
+      go (inr i) g h = let h' : ConOk (ParameterOf cs) (keys s.binds) (isDim (opened (par y))) = rw i at h
+          in (rw i at g, λ n. k.keys-ok y n (h' (par y) in_head))
 
   ended-form : (bs : List (Binding N)) (ns : List N) (s : State N) → AllKept s → Ended ν bs ns s → SolvedForm ν held bs ns
   ended-form bs ns s k e = record {
@@ -140,7 +141,8 @@ module _ {N : Type 0} (ν : Names N) (held : N → Bool) (ord : Ordered ν held)
   pub final : Given ν held cs → (bs : List (Binding N)) (ns : List N) (k : ℕ) → solve ν bounded cs ≡ accepted bs ns k → Final bs ns
   unfolding solve
   final g bs ns k e =
-      run-back ν bounded bs ns k (λ s. AllKept s → Final bs ns) (λ s d h. record { state = s; kept = h; ended = d }) (λ s s' t r h. r (turn-kept ν _ held 0 _ (ParameterOf cs) s s' h t))
+      run-back ν bounded bs ns k (λ s. AllKept s → Final bs ns) (λ s d h. record { state = s; kept = h; ended = d })
+      (λ s s' t r h. r (turn-kept ν _ held 0 _ (ParameterOf cs) s s' h t))
       enough 0 (record { cons = cs; binds = [] }) e (start-kept g)
 
   pub solved-form : Given ν held cs → (bs : List (Binding N)) (ns : List N) (k : ℕ) → solve ν bounded cs ≡ accepted bs ns k → SolvedForm ν held bs ns

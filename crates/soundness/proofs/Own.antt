@@ -56,7 +56,22 @@ use Rattle.rules.specs.Solving.{Answer, accepted, boundOf, finished, finish, aft
 use Rattle.rules.specs.Writing.{Rec, rec, head, kindIn, words, word_of, writeFactor, writeProduct, writeTy, writeTys, writeFields, writeBinding, writeBound}
 use Rattle.rules.specs.Reading.{readBound, read_all}
 use Rattle.rules.specs.WellFormed.{rising, goodOpen, goodTy, goodBinding}
-use Rattle.rules.specs.Calls.{lentWork, shortLists, shortNumbers, listGiven, boundsGiven, numbersGiven, over, Entry, differ, type_at, bindingOf, entriesGiven, risingBounds, solveCall}
+use Rattle.rules.specs.Calls.{
+  lentWork,
+  shortLists,
+  shortNumbers,
+  listGiven,
+  boundsGiven,
+  numbersGiven,
+  over,
+  Entry,
+  differ,
+  type_at,
+  bindingOf,
+  entriesGiven,
+  risingBounds,
+  solveCall,
+}
 use Rattle.laws.specs.Checks.{need-passed}
 use Rattle.laws.specs.Given.{set-read}
 use Rattle.laws.specs.Heads.{kind-head}
@@ -78,7 +93,8 @@ module _ {N : Type 0} (ν : Names N) where
 
   limited-flat : (s s' : State N) → limited bounded s ≡ got s' → Flat s'
   unfolding limited
-  limited-flat s s' e = subst Flat (sized_same (sizeState s) (depthState s) s bounded s' e) (record { small = sized-small (sizeState s) (depthState s) s s' e; flat = sized-flat (sizeState s) (depthState s) s s' e })
+  limited-flat s s' e = subst Flat (sized_same (sizeState s) (depthState s) s bounded s' e)
+      (record { small = sized-small (sizeState s) (depthState s) s s' e; flat = sized-flat (sizeState s) (depthState s) s s' e })
 
   performed-flat : (bs : List (Binding N)) (step : Step N) (rest : List (Con N)) (s' : State N) → (step ≡ stuck → ⊥)
       → perform ν bounded bs step rest ≡ got s' → Flat s'
@@ -289,8 +305,10 @@ module _ (t : Table) where
   unfolding each collect bindingOf numbersGiven goodBinding writeBinding all depthBinding entriesFrom
   bindings-back rs [] at e g d = refl
   bindings-back rs (x ≔ ty ∷ bs) at e g d =
-      let one : drop (suc at) rs ≡ writeTy ty ++ collect writeBinding bs = ap (λ (n : ℕ). drop n rs) (sym (add-one at)) ∙ sym (drop-drop 1 at rs) ∙ ap (drop 1) e in
-      let two : drop (suc at + size ty) rs ≡ collect writeBinding bs = sym (drop-drop (size ty) (suc at) rs) ∙ ap (drop (size ty)) one ∙ drop_at (writeTy ty) (collect writeBinding bs) (size ty) (size-ty ty) in
+      let one : drop (suc at) rs ≡ writeTy ty ++ collect writeBinding bs = ap (λ (n : ℕ). drop n rs) (sym (add-one at)) ∙ sym (drop-drop 1 at rs)
+      ∙ ap (drop 1) e in
+      let two : drop (suc at + size ty) rs ≡ collect writeBinding bs = sym (drop-drop (size ty) (suc at) rs) ∙ ap (drop (size ty)) one
+      ∙ drop_at (writeTy ty) (collect writeBinding bs) (size ty) (size-ty ty) in
       let h : is_held t x ≡ true = and_left (is_held t x) _ g.0 in
       let b : type_at t rs (suc at) ≡ got ty = type-back rs ty (suc at) (collect writeBinding bs) one (and_right (is_held t x) _ g.0) (omega arith) in
       rw (h, b, bindings-back rs bs (suc at + size ty) two g.1 (omega arith))
@@ -298,7 +316,8 @@ module _ (t : Table) where
   entries-back : (bs : List (Binding ℕ)) → Once (keys bs) → Every (λ b. goodBinding (numbersOf t) (is_held t) 0 b ≡ true) bs
       → max_of depthBinding bs ≤ 64 → entriesGiven t (entriesFrom 0 bs) (words (collect writeBinding bs)) ≡ got bs
   unfolding entriesGiven
-  entries-back bs o g d = rw (words_back (collect writeBinding bs), entries-keys bs 0, once-differ (keys bs) o) (bindings-back (collect writeBinding bs) bs 0 refl g d)
+  entries-back bs o g d = rw (words_back (collect writeBinding bs), entries-keys bs 0, once-differ (keys bs) o)
+      (bindings-back (collect writeBinding bs) bs 0 refl g d)
 
   one_each : (ns : List ℕ) → collect (λ o. writeBound o ∷ []) (map (λ n. var n) ns) ≡ boundRecs ns
   unfolding collect
@@ -312,11 +331,13 @@ module _ (t : Table) where
   bounds-there : (ns : List ℕ) → read_all readBound (length (boundRecs ns)) (boundRecs ns) ≡ some (map (λ n. var n) ns)
   bounds-there ns =
       rw (one_each ns) at
-      (read-all readBound (λ o. writeBound o ∷ []) IsBound (λ o. omega arith) (λ o rest h. read-bound o rest h) (map (λ n. var n) ns) (length (boundRecs ns)) (omega (arith, ap length (one_each ns))) (all-names ns))
+      (read-all readBound (λ o. writeBound o ∷ []) IsBound (λ o. omega arith) (λ o rest h. read-bound o rest h) (map (λ n. var n) ns)
+      (length (boundRecs ns)) (omega (arith, ap length (one_each ns))) (all-names ns))
 
   all_held : (ns : List ℕ) → All (λ n. is_held t n ≡ true) ns → all (goodOpen (numbersOf t) (is_held t) 0) (map (λ n. var n) ns) ≡ true
   unfolding goodOpen
-  all_held ns h = is_all (goodOpen (numbersOf t) (is_held t) 0) (map (λ n. var n) ns) (λ o m. let i = map-from (λ n. var n) ns o m in rw i.is (h i.one i.within))
+  all_held ns h = is_all (goodOpen (numbersOf t) (is_held t) 0) (map (λ n. var n) ns)
+      (λ o m. let i = map-from (λ n. var n) ns o m in rw i.is (h i.one i.within))
 
   same_names : (ns : List ℕ) → map word_of (map (λ n. var n) ns) ≡ ns
   same_names [] = refl
@@ -347,7 +368,8 @@ module _ (pool table set result work : List ℕ) (records bounds rounds : ℕ) (
 
   left_is : left ≡ words bindingRecs ++ (words (boundRecs s.ns) ++ rest)
   unfolding over
-  left_is = s.written ∙ ap (λ (l : List ℕ). l ++ rest) (words_append bindingRecs (boundRecs s.ns)) ∙ append_assoc (words bindingRecs) (words (boundRecs s.ns)) rest
+  left_is = s.written ∙ ap (λ (l : List ℕ). l ++ rest) (words_append bindingRecs (boundRecs s.ns))
+      ∙ append_assoc (words bindingRecs) (words (boundRecs s.ns)) rest
 
   bindings-long : length (words bindingRecs) ≡ records * 4
   bindings-long = words-length bindingRecs ∙ ap (λ (n : ℕ). n * 4) (bindings-length s.bs ∙ s.binding-records)
@@ -369,8 +391,10 @@ module _ (pool table set result work : List ℕ) (records bounds rounds : ℕ) (
   unfolding shortLists shortNumbers all
   all_short =
       let h : leb (length set) 8192 ≡ true = and_left (leb (length set) 8192) _ (need-passed _ 8 s.short) in
-      let a : leb (length (words bindingRecs)) 8192 ≡ true = le-leb (length (words bindingRecs)) 8192 (omega (arith, bindings-long, s.binding-records, within.small)) in
-      let b : leb (length (words (boundRecs s.ns))) 8192 ≡ true = le-leb (length (words (boundRecs s.ns))) 8192 (omega (arith, bounds-long, s.bound-records, within.few)) in
+      let a : leb (length (words bindingRecs)) 8192 ≡ true = le-leb (length (words bindingRecs)) 8192
+      (omega (arith, bindings-long, s.binding-records, within.small)) in
+      let b : leb (length (words (boundRecs s.ns))) 8192 ≡ true =
+      le-leb (length (words (boundRecs s.ns))) 8192 (omega (arith, bounds-long, s.bound-records, within.few)) in
       let c : leb (length (entriesFrom 0 s.bs)) 2048 ≡ true = le-leb (length (entriesFrom 0 s.bs)) 2048 (omega (arith, entries-few s.bs 0, within.small)) in
       rw (h, a, b, c)
 
@@ -378,7 +402,9 @@ module _ (pool table set result work : List ℕ) (records bounds rounds : ℕ) (
   pub own-proposed : (buffer : List ℕ) → lentWork buffer ≡ got tt
       → Proposes pool table set s.bs s.ns (pointed 0 (bindingsIn left records)) (bindingsIn left records) (boundsIn left records bounds) buffer
   own-proposed buffer lent = rw (bindings-part, bounds-part, pointed-is s.bs 0) (record {
-    entries-read = entries-back (table_of pool table) s.bs s.form.once (all-every (λ b. goodBinding (numbersOf (table_of pool table)) (is_held (table_of pool table)) 0 b ≡ true) s.bs s.form.bindings-good) within.flat;
+    entries-read = entries-back (table_of pool table) s.bs s.form.once
+        (all-every (λ b. goodBinding (numbersOf (table_of pool table)) (is_held (table_of pool table)) 0 b ≡ true) s.bs s.form.bindings-good)
+        within.flat;
     bounds-read = bounds-back (table_of pool table) s.ns s.form.bounds-held s.form.bounds-rise;
     short = all_short;
     lent = lent;

@@ -46,7 +46,9 @@ use Rattle.laws.specs.Occurs.{as-product-is, one-bound, fit-fits, one-fits}
 use Rattle.laws.specs.Evaluation.{valued, value_of, meantBy, orSelf, Fit, Proper-look, value-proper, valued-just, replace-exact, replace-worth}
 use Rattle.soundness.proofs.Alike.{Alike, plain-product, plain-injective}
 
-module _ {N : Type 0} (ν : Names N) (law : Lawful (orderAtom ν)) (held : N → Bool) (q : ℕ) (tells : Tells (λ a. goodAtom ν held q a ≡ true) (orderAtom ν)) (σ : Look N) (σg : (o : Open N) (t : Ty N) → σ o ≡ some t → GoodTy ν law held q t) where
+module _ {N : Type 0} (ν : Names N) (law : Lawful (orderAtom ν)) (held : N → Bool) (q : ℕ)
+    (tells : Tells (λ a. goodAtom ν held q a ≡ true) (orderAtom ν)) (σ : Look N)
+    (σg : (o : Open N) (t : Ty N) → σ o ≡ some t → GoodTy ν law held q t) where
   abbrev pub Held : Atom N → Type 0
   Held a = goodAtom ν held q a ≡ true
 
@@ -100,7 +102,12 @@ module _ {N : Type 0} (ν : Names N) (law : Lawful (orderAtom ν)) (held : N →
       go (some o) e =
           let j : p ≡ just o = single-is p o e in
           let h : Fitting o = f o (rw j in_head) in
-          record { type = get_or (σ o) (dim p); put_in = rw e; reads = λ k. read o j h (σ o) refl k ∙ ap (λ (r : Product N). plain (dim r) k) (sym (one' o j h)) }
+          record {
+            type = get_or (σ o) (dim p);
+            put_in = rw e;
+            reads = λ k. read o j h (σ o) refl k
+                ∙ ap (λ (r : Product N). plain (dim r) k) (sym (one' o j h));
+          }
 
   -- ══ A value ══
 
@@ -145,7 +152,8 @@ module _ {N : Type 0} (ν : Names N) (law : Lawful (orderAtom ν)) (held : N →
     pub put_in : replaceTy ν exact σ t ≡ got type
     pub alike : Alike (name (var x)) type
 
-  module _ (x : N) (t : Ty N) (tg : GoodTy ν law held q t) (r : Respected x t) (tf : All Fitting (inProducts t)) (te : (o : Open N) → t ≡ opened o → Fitting (var x) → Fitting o) where
+  module _ (x : N) (t : Ty N) (tg : GoodTy ν law held q t) (r : Respected x t) (tf : All Fitting (inProducts t))
+      (te : (o : Open N) → t ≡ opened o → Fitting (var x) → Fitting o) where
     pub worth-kept : (d : Product N) → asProduct t ≡ got d → Fitting (var x) → valued ν value d ≡ value (free (var x))
     unfolding goodTy inProducts asProduct replaceTy
     worth-kept d e f = go (as-product-is t d e)
@@ -165,7 +173,8 @@ module _ {N : Type 0} (ν : Names N) (law : Lawful (orderAtom ν)) (held : N →
             let y : r.type ≡ name o = cc in
             let h : goodOpen ν held q o ≡ true = rw i at tg in
             let w : valued ν value d ≡ value (free o) = rw j (valued-just ν law tells value (value-proper ν law tells σ proper-look) (free o) h) in
-            w ∙ plain-injective (value (free o)) (value (free (var x))) (sym (name-value o true a (te o i f)) ∙ ap (λ (u : Ty N). plain u true) (sym y) ∙ sym r.alike ∙ own)
+            w ∙ plain-injective (value (free o)) (value (free (var x)))
+            (sym (name-value o true a (te o i f)) ∙ ap (λ (u : Ty N). plain u true) (sym y) ∙ sym r.alike ∙ own)
 
     abbrev τ : Look N
     τ = bindings ν (x ≔ t ∷ [])
@@ -225,7 +234,9 @@ module _ {N : Type 0} (ν : Names N) (law : Lawful (orderAtom ν)) (held : N →
         name-same o (dim p) w (cc) g f d.type d.put_in (λ j.
         let z : p ≡ just (var x) = single-is p o i ∙ ap just j in
         let fx : Fitting (var x) = f (var x) (rw z in_head) in
-        d.reads true ∙ ap (λ (u : Product N). plain (dim u) true) (ap (valued ν value) z ∙ valued-just ν law tells value (value-proper ν law tells σ proper-look) (free (var x)) (rw z at (good-proper ν law held q p g)).each.0.0) ∙ sym (name-value (var x) true refl fx))
+        d.reads true ∙ ap (λ (u : Product N). plain (dim u) true)
+        (ap (valued ν value) z ∙ valued-just ν law tells value (value-proper ν law tells σ proper-look) (free (var x))
+        (rw z at (good-proper ν law held q p g)).each.0.0) ∙ sym (name-value (var x) true refl fx))
     dim-same none p w i g h f k e =
         let s = one-step (replaceProduct ν exact τ p) dim w e in
         subst (λ (u : Ty N). Same (dim p) u) s.is (two-dims p s.value g (rw (sym s.is) at h) f (rw (sym s.is) at k) s.gave)
@@ -246,11 +257,23 @@ module _ {N : Type 0} (ν : Names N) (law : Lawful (orderAtom ν)) (held : N →
 
     fn_same : (ps ps' : Tys N) (r r' : Ty N) → SameTys ps ps' → Same r r' → Same (fn ps r) (fn ps' r')
     unfolding replaceTy plain
-    fn_same ps ps' r r' a b = record { left = fn a.left b.left; right = fn a.right b.right; putLeft = rw (a.putLeft, b.putLeft); putRight = rw (a.putRight, b.putRight); alike = ap₂ fn a.alike b.alike }
+    fn_same ps ps' r r' a b = record {
+      left = fn a.left b.left;
+      right = fn a.right b.right;
+      putLeft = rw (a.putLeft, b.putLeft);
+      putRight = rw (a.putRight, b.putRight);
+      alike = ap₂ fn a.alike b.alike;
+    }
 
     struct-same : (n : N) (ts ts' : Tys N) (fs fs' : Fields N) → SameTys ts ts' → SameFields fs fs' → Same (struct n ts fs) (struct n ts' fs')
     unfolding replaceTy plain
-    struct-same n ts ts' fs fs' a b = record { left = struct n a.left b.left; right = struct n a.right b.right; putLeft = rw (a.putLeft, b.putLeft); putRight = rw (a.putRight, b.putRight); alike = ap₂ (struct n) a.alike b.alike }
+    struct-same n ts ts' fs fs' a b = record {
+      left = struct n a.left b.left;
+      right = struct n a.right b.right;
+      putLeft = rw (a.putLeft, b.putLeft);
+      putRight = rw (a.putRight, b.putRight);
+      alike = ap₂ (struct n) a.alike b.alike;
+    }
 
     list_same : (u w : Ty N) → Same u w → Same (list u) (list w)
     unfolding replaceTy plain
@@ -258,11 +281,23 @@ module _ {N : Type 0} (ν : Names N) (law : Lawful (orderAtom ν)) (held : N →
 
     cons_same : (u w : Ty N) (us ws : Tys N) → Same u w → SameTys us ws → SameTys (cons u us) (cons w ws)
     unfolding replaceTy plain
-    cons_same u w us ws a b = record { left = cons a.left b.left; right = cons a.right b.right; putLeft = rw (a.putLeft, b.putLeft); putRight = rw (a.putRight, b.putRight); alike = ap₂ cons a.alike b.alike }
+    cons_same u w us ws a b = record {
+      left = cons a.left b.left;
+      right = cons a.right b.right;
+      putLeft = rw (a.putLeft, b.putLeft);
+      putRight = rw (a.putRight, b.putRight);
+      alike = ap₂ cons a.alike b.alike;
+    }
 
     field-same : (n : N) (u w : Ty N) (fs gs : Fields N) → Same u w → SameFields fs gs → SameFields (field n u fs) (field n w gs)
     unfolding replaceTy plain
-    field-same n u w fs gs a b = record { left = field n a.left b.left; right = field n a.right b.right; putLeft = rw (a.putLeft, b.putLeft); putRight = rw (a.putRight, b.putRight); alike = ap₂ (field n) a.alike b.alike }
+    field-same n u w fs gs a b = record {
+      left = field n a.left b.left;
+      right = field n a.right b.right;
+      putLeft = rw (a.putLeft, b.putLeft);
+      putRight = rw (a.putRight, b.putRight);
+      alike = ap₂ (field n) a.alike b.alike;
+    }
 
     mutual
       unfolding replaceTy inProducts goodTy plain
@@ -278,8 +313,10 @@ module _ {N : Type 0} (ν : Names N) (law : Lawful (orderAtom ν)) (held : N →
           let h' : goodTy ν held q (fn s.first s.second) ≡ true = subst (λ u. goodTy ν held q u ≡ true) (sym s.both) h in
           let k' : All Fitting (inProducts (fn s.first s.second)) = subst (λ u. All Fitting (inProducts u)) (sym s.both) k in
           subst (Same (fn ps r)) s.both (fn_same ps s.first r s.second
-          (tys-put ps s.first (and_left (goodTys ν held q ps) _ g) (and_left (goodTys ν held q s.first) _ h') (λ o m. f o (Memᴰ.append_left (inProducts r) m)) (λ o m. k' o (Memᴰ.append_left (inProducts s.second) m)) s.gave)
-          (ty-put r s.second (and_right (goodTys ν held q ps) _ g) (and_right (goodTys ν held q s.first) _ h') (λ o m. f o (Memᴰ.append_right (inProductsTys ps) m)) (λ o m. k' o (Memᴰ.append_right (inProductsTys s.first) m)) s.then))
+          (tys-put ps s.first (and_left (goodTys ν held q ps) _ g) (and_left (goodTys ν held q s.first) _ h')
+          (λ o m. f o (Memᴰ.append_left (inProducts r) m)) (λ o m. k' o (Memᴰ.append_left (inProducts s.second) m)) s.gave)
+          (ty-put r s.second (and_right (goodTys ν held q ps) _ g) (and_right (goodTys ν held q s.first) _ h')
+          (λ o m. f o (Memᴰ.append_right (inProductsTys ps) m)) (λ o m. k' o (Memᴰ.append_right (inProductsTys s.first) m)) s.then))
       ty-put (struct n as' fs) w g h f k e =
           let s = two_steps (replaceTys ν exact τ as') (λ _. replaceFields ν exact τ fs) (struct n) w e in
           let h' : goodTy ν held q (struct n s.first s.second) ≡ true = subst (λ u. goodTy ν held q u ≡ true) (sym s.both) h in
@@ -287,8 +324,11 @@ module _ {N : Type 0} (ν : Names N) (law : Lawful (orderAtom ν)) (held : N →
           let ga = and_left (held n && goodTys ν held q as' && goodFields ν held q fs) _ g in
           let ha = and_left (held n && goodTys ν held q s.first && goodFields ν held q s.second) _ h' in
           subst (Same (struct n as' fs)) s.both (struct-same n as' s.first fs s.second
-          (tys-put as' s.first (and_right (held n) _ (and_left (held n && goodTys ν held q as') _ ga)) (and_right (held n) _ (and_left (held n && goodTys ν held q s.first) _ ha)) (λ o m. f o (Memᴰ.append_left (inProductsFields fs) m)) (λ o m. k' o (Memᴰ.append_left (inProductsFields s.second) m)) s.gave)
-          (fields-put fs s.second (and_right (held n && goodTys ν held q as') _ ga) (and_right (held n && goodTys ν held q s.first) _ ha) (λ o m. f o (Memᴰ.append_right (inProductsTys as') m)) (λ o m. k' o (Memᴰ.append_right (inProductsTys s.first) m)) s.then))
+          (tys-put as' s.first (and_right (held n) _ (and_left (held n && goodTys ν held q as') _ ga))
+          (and_right (held n) _ (and_left (held n && goodTys ν held q s.first) _ ha)) (λ o m. f o (Memᴰ.append_left (inProductsFields fs) m))
+          (λ o m. k' o (Memᴰ.append_left (inProductsFields s.second) m)) s.gave)
+          (fields-put fs s.second (and_right (held n && goodTys ν held q as') _ ga) (and_right (held n && goodTys ν held q s.first) _ ha)
+          (λ o m. f o (Memᴰ.append_right (inProductsTys as') m)) (λ o m. k' o (Memᴰ.append_right (inProductsTys s.first) m)) s.then))
       ty-put (list u) w g h f k e =
           let s = one-step (replaceTy ν exact τ u) list w e in
           let h' : goodTy ν held q (list s.value) ≡ true = subst (λ u. goodTy ν held q u ≡ true) (sym s.is) h in
@@ -303,16 +343,22 @@ module _ {N : Type 0} (ν : Names N) (law : Lawful (orderAtom ν)) (held : N →
           let h' : goodTys ν held q (cons s.first s.second) ≡ true = subst (λ u. goodTys ν held q u ≡ true) (sym s.both) h in
           let k' : All Fitting (inProductsTys (cons s.first s.second)) = subst (λ u. All Fitting (inProductsTys u)) (sym s.both) k in
           subst (SameTys (cons u us)) s.both (cons_same u s.first us s.second
-          (ty-put u s.first (and_left (goodTy ν held q u) _ g) (and_left (goodTy ν held q s.first) _ h') (λ o m. f o (Memᴰ.append_left (inProductsTys us) m)) (λ o m. k' o (Memᴰ.append_left (inProductsTys s.second) m)) s.gave)
-          (tys-put us s.second (and_right (goodTy ν held q u) _ g) (and_right (goodTy ν held q s.first) _ h') (λ o m. f o (Memᴰ.append_right (inProducts u) m)) (λ o m. k' o (Memᴰ.append_right (inProducts s.first) m)) s.then))
+          (ty-put u s.first (and_left (goodTy ν held q u) _ g) (and_left (goodTy ν held q s.first) _ h')
+          (λ o m. f o (Memᴰ.append_left (inProductsTys us) m)) (λ o m. k' o (Memᴰ.append_left (inProductsTys s.second) m)) s.gave)
+          (tys-put us s.second (and_right (goodTy ν held q u) _ g) (and_right (goodTy ν held q s.first) _ h')
+          (λ o m. f o (Memᴰ.append_right (inProducts u) m)) (λ o m. k' o (Memᴰ.append_right (inProducts s.first) m)) s.then))
 
       pub fields-put : (fs gs : Fields N) → goodFields ν held q fs ≡ true → goodFields ν held q gs ≡ true → All Fitting (inProductsFields fs)
           → All Fitting (inProductsFields gs) → replaceFields ν exact τ fs ≡ got gs → SameFields fs gs
-      fields-put noFields gs g h f k e = let z : noFields ≡ gs = cc in rw (sym z) (record { left = noFields; right = noFields; putLeft = refl; putRight = refl; alike = refl })
+      fields-put noFields gs g h f k e = let z : noFields ≡ gs = cc
+          in rw (sym z) (record { left = noFields; right = noFields; putLeft = refl; putRight = refl; alike = refl })
       fields-put (field n u fs) gs g h f k e =
           let s = two_steps (replaceTy ν exact τ u) (λ _. replaceFields ν exact τ fs) (field n) gs e in
           let h' : goodFields ν held q (field n s.first s.second) ≡ true = subst (λ u. goodFields ν held q u ≡ true) (sym s.both) h in
           let k' : All Fitting (inProductsFields (field n s.first s.second)) = subst (λ u. All Fitting (inProductsFields u)) (sym s.both) k in
           subst (SameFields (field n u fs)) s.both (field-same n u s.first fs s.second
-          (ty-put u s.first (and_right (held n) _ (and_left (held n && goodTy ν held q u) _ g)) (and_right (held n) _ (and_left (held n && goodTy ν held q s.first) _ h')) (λ o m. f o (Memᴰ.append_left (inProductsFields fs) m)) (λ o m. k' o (Memᴰ.append_left (inProductsFields s.second) m)) s.gave)
-          (fields-put fs s.second (and_right (held n && goodTy ν held q u) _ g) (and_right (held n && goodTy ν held q s.first) _ h') (λ o m. f o (Memᴰ.append_right (inProducts u) m)) (λ o m. k' o (Memᴰ.append_right (inProducts s.first) m)) s.then))
+          (ty-put u s.first (and_right (held n) _ (and_left (held n && goodTy ν held q u) _ g))
+          (and_right (held n) _ (and_left (held n && goodTy ν held q s.first) _ h')) (λ o m. f o (Memᴰ.append_left (inProductsFields fs) m))
+          (λ o m. k' o (Memᴰ.append_left (inProductsFields s.second) m)) s.gave)
+          (fields-put fs s.second (and_right (held n && goodTy ν held q u) _ g) (and_right (held n && goodTy ν held q s.first) _ h')
+          (λ o m. f o (Memᴰ.append_right (inProducts u) m)) (λ o m. k' o (Memᴰ.append_right (inProducts s.first) m)) s.then))

@@ -115,7 +115,8 @@ module _ {N : Type 0} (ν : Names N) (held : N → Bool) (ord : Ordered ν held)
 
     opened-true : (o : Open N) (y : N) → name_of o ≡ some y → bindings ν bs o ≡ none → Memᴰ y ns → True (isDim (opened o))
     unfolding replaceTy holds amongBounds opens namesIn collect all among
-    opened-true o y e i m = dimensional-holds ν bs ns (opened o) (record { type = opened o; put_in = rw i; holding = rw (e, is_any (λ z. is_yes (ν.same y z)) ns y m (is-yes (ν.same y y) refl)) })
+    opened-true o y e i m = dimensional-holds ν bs ns (opened o)
+        (record { type = opened o; put_in = rw i; holding = rw (e, is_any (λ z. is_yes (ν.same y z)) ns y m (is-yes (ν.same y y) refl)) })
 
     end-con : (s : State N) → KeptAll s → Ended ν bs ns s → (c : Con N) → Memᴰ c s.cons → True c
     unfolding bindings
@@ -127,7 +128,8 @@ module _ {N : Type 0} (ν : Names N) (held : N → Bool) (ord : Ordered ν held)
         among-these y i = collect-to (λ d. to_list (boundOf d)) s.cons c y m (rw i in_head)
 
         in_bounds : (y : N) → boundOf c ≡ some y → Memᴰ y ns
-        in_bounds y i = rw e.bounds (sort-to ν (λ n. held n ≡ true) ord.tells (collect (λ d. to_list (boundOf d)) s.cons) (all-every (λ n. held n ≡ true) _ (λ z n. (bound-ok ν held ord cs s k z n).0)) y (among-these y i))
+        in_bounds y i = rw e.bounds (sort-to ν (λ n. held n ≡ true) ord.tells (collect (λ d. to_list (boundOf d)) s.cons)
+            (all-every (λ n. held n ≡ true) _ (λ z n. (bound-ok ν held ord cs s k z n).0)) y (among-these y i))
 
         not-bound : (y : N) → boundOf c ≡ some y → find ν bs y ≡ none
         not-bound y i = rw e.binds (find_none ν s.binds y (bound-ok ν held ord cs s k y (among-these y i)).1)
@@ -147,7 +149,9 @@ module _ {N : Type 0} (ν : Names N) (held : N → Bool) (ord : Ordered ν held)
 
     split-premised : (s s' : State N) → Split ν bounded s s' → Premised s → Premised s'
     split-premised s s' b p = record {
-      cons-fit = rw b.joined (all_append (λ c. All Fits (productsOf c)) b.rest (λ c m. p.cons-fit c (b.found.kept c m)) (rule-in ν law held 0 Fits b.found.con (split b.new) (rule ν bounded b.found.con (split b.new) b.found.tried) (p.cons-fit b.found.con b.found.given)));
+      cons-fit = rw b.joined (all_append (λ c. All Fits (productsOf c)) b.rest (λ c m. p.cons-fit c (b.found.kept c m))
+          (rule-in ν law held 0 Fits b.found.con (split b.new) (rule ν bounded b.found.con (split b.new) b.found.tried)
+          (p.cons-fit b.found.con b.found.given)));
       binds-fit = rw b.same p.binds-fit;
     }
 
@@ -159,10 +163,12 @@ module _ {N : Type 0} (ν : Names N) (held : N → Bool) (ord : Ordered ν held)
       look = bindings ν (b.x ≔ b.t ∷ [])
 
       good-bind : GoodBind ν law held 0 b.x b.t
-      good-bind = rule-good ν law held 0 b.found.con (bind b.x b.t) (rule ν bounded b.found.con (bind b.x b.t) b.found.tried) (k.cons-good b.found.con b.found.given)
+      good-bind = rule-good ν law held 0 b.found.con (bind b.x b.t) (rule ν bounded b.found.con (bind b.x b.t) b.found.tried)
+          (k.cons-good b.found.con b.found.given)
 
       type-fits : All Fits (inProducts b.t)
-      type-fits = rule-in ν law held 0 Fits b.found.con (bind b.x b.t) (rule ν bounded b.found.con (bind b.x b.t) b.found.tried) (p.cons-fit b.found.con b.found.given)
+      type-fits = rule-in ν law held 0 Fits b.found.con (bind b.x b.t) (rule ν bounded b.found.con (bind b.x b.t) b.found.tried)
+          (p.cons-fit b.found.con b.found.given)
 
       new-bound : Memᴰ (b.x ≔ b.t) s'.binds
       new-bound = subst (λ (l : List (Binding N)). Memᴰ (b.x ≔ b.t) l) (sym b.appended) (mathlib.Core.List.Memᴰ.append_right b.older in_head)
@@ -172,7 +178,8 @@ module _ {N : Type 0} (ν : Names N) (held : N → Bool) (ord : Ordered ν held)
       unfolding bindings opens
       twin-fits (quant i) e f = record { bound = λ u j. absurd (some≢none (sym j)) }
       twin-fits (par y) e f = record { bound = λ u j. absurd (some≢none (sym j)) }
-      twin-fits (var z) e f = go (w.waits b.x z (find-once ν s'.binds (b.x ≔ b.t) k'.once new-bound ∙ ap some e) (find_none ν s'.binds z (k'.binds-ok (b.x ≔ b.t) new-bound (var z) (rw e in_head)).1))
+      twin-fits (var z) e f = go (w.waits b.x z (find-once ν s'.binds (b.x ≔ b.t) k'.once new-bound ∙ ap some e)
+          (find_none ν s'.binds z (k'.binds-ok (b.x ≔ b.t) new-bound (var z) (rw e in_head)).1))
         where
           go : (find ν bs z ≡ none) ⊎ (find ν bs b.x ≡ find ν bs z) → Fits (var z)
           go (inl i) = record { bound = λ u j. absurd (some≢none (sym j ∙ i)) }
@@ -190,7 +197,9 @@ module _ {N : Type 0} (ν : Names N) (held : N → Bool) (ord : Ordered ν held)
       bound-premised : Premised s'
       bound-premised = record {
         cons-fit = λ d m. let c = con-from d m in con-fits c.of d (b.found.kept c.of c.within) c.by;
-        binds-fit = subst (λ (l : List (Binding N)). All (λ c. All Fits (inProducts (type_of c))) l) (sym b.appended) (all_append (λ c. All Fits (inProducts (type_of c))) b.older old-fits (all_cons (λ c. All Fits (inProducts (type_of c))) type-fits (all_nil (λ c. All Fits (inProducts (type_of c))))));
+        binds-fit = subst (λ (l : List (Binding N)). All (λ c. All Fits (inProducts (type_of c))) l) (sym b.appended)
+            (all_append (λ c. All Fits (inProducts (type_of c))) b.older old-fits
+            (all_cons (λ c. All Fits (inProducts (type_of c))) type-fits (all_nil (λ c. All Fits (inProducts (type_of c))))));
       }
         where
           con-fits : (c d : Con N) → Memᴰ c s.cons → replaceCon ν bounded look c ≡ got d → All Fits (productsOf d)
@@ -201,7 +210,8 @@ module _ {N : Type 0} (ν : Names N) (held : N → Bool) (ord : Ordered ν held)
           old-fits : All (λ c. All Fits (inProducts (type_of c))) b.older
           old-fits c m =
               let d = bind-from c m in
-              ty-in ν law held 0 tells b.x b.t good-bind.type Fits (type_of d.of) (type_of c) (type-good ν law held 0 tells (ParameterOf cs) d.of (k.binds-good d.of d.within)) (old-type d.of c d.by)
+              ty-in ν law held 0 tells b.x b.t good-bind.type Fits (type_of d.of) (type_of c)
+              (type-good ν law held 0 tells (ParameterOf cs) d.of (k.binds-good d.of d.within)) (old-type d.of c d.by)
               (λ o i n. p.binds-fit d.of d.within o i) (λ o i j. twin-fits o i (p.binds-fit d.of d.within (var b.x) j)) type-fits
 
     -- ══ Truth, a round back ══
@@ -218,7 +228,8 @@ module _ {N : Type 0} (ν : Names N) (held : N → Bool) (ord : Ordered ν held)
     -- the constraint that a rule took away
     module _ (s : State N) (k : KeptAll s) (p : Premised s) (step : Step N) (rest : List (Con N)) (g : Found ν bounded s.cons step rest) where
       taken_true : After (All (TrueCon ν law held 0 tells bs ns σg)) (TrueBind ν law held 0 tells bs ns σg) step → True g.con
-      taken_true a = rule-true ν law held 0 tells bs ns σg g.con step (rule ν bounded g.con step g.tried) g.moves (k.cons-good g.con g.given) (p.cons-fit g.con g.given) (parameter-free s k g.con g.given) a
+      taken_true a = rule-true ν law held 0 tells bs ns σg g.con step (rule ν bounded g.con step g.tried) g.moves (k.cons-good g.con g.given)
+          (p.cons-fit g.con g.given) (parameter-free s k g.con g.given) a
 
       all_true : After (All (TrueCon ν law held 0 tells bs ns σg)) (TrueBind ν law held 0 tells bs ns σg) step → All True rest → All True s.cons
       all_true a h c m = go (g.others c m)
@@ -229,7 +240,10 @@ module _ {N : Type 0} (ν : Names N) (held : N → Bool) (ord : Ordered ν held)
 
     split-right : (s s' : State N) → Split ν bounded s s' → KeptAll s → KeptAll s' → Premised s → Premised s' → Right s' → Right s
     split-right s s' b k k' p p' r = record {
-      cons-true = all_true s k p (split b.new) b.rest b.found (λ d m. let n = there d (mathlib.Core.List.Memᴰ.append_right b.rest m) in record { good = k'.cons-good d n; fits = p'.cons-fit d n; holding = r.cons-true d n }) (λ c m. r.cons-true c (there c (mathlib.Core.List.Memᴰ.append_left b.new m)));
+      cons-true = all_true s k p (split b.new) b.rest b.found
+          (λ d m. let n = there d (mathlib.Core.List.Memᴰ.append_right b.rest m)
+          in record { good = k'.cons-good d n; fits = p'.cons-fit d n; holding = r.cons-true d n })
+          (λ c m. r.cons-true c (there c (mathlib.Core.List.Memᴰ.append_left b.new m)));
       binds-true = rw (sym b.same) r.binds-true;
     }
       where
@@ -270,21 +284,27 @@ module _ {N : Type 0} (ν : Names N) (held : N → Bool) (ord : Ordered ν held)
         rest-true c m =
             let d = each-went (replaceCon ν bounded (bindings ν (x ≔ t ∷ []))) b.rest s'.cons b.replaced c m in
             let i = b.found.kept c m in
-            con-back ν law held 0 tells bs ns σg x t tg rx tf te c d.to (k.cons-good c i) (k'.cons-good d.to d.within) (p.cons-fit c i) (p'.cons-fit d.to d.within) ((con-below ν (bindings ν (x ≔ t ∷ [])) c).gives d.to d.by) (r.cons-true d.to d.within)
+            con-back ν law held 0 tells bs ns σg x t tg rx tf te c d.to (k.cons-good c i) (k'.cons-good d.to d.within) (p.cons-fit c i)
+            (p'.cons-fit d.to d.within) ((con-below ν (bindings ν (x ≔ t ∷ [])) c).gives d.to d.by) (r.cons-true d.to d.within)
 
         older-true : All (λ c. Kept-by (key c) (type_of c)) s.binds
         older-true c m =
             let d = each-went (replaceBinding ν bounded (bindings ν (x ≔ t ∷ []))) s.binds b.older b.replacedBinds c m in
-            let n : Memᴰ d.to s'.binds = subst (λ (l : List (Binding N)). Memᴰ d.to l) (sym b.appended) (mathlib.Core.List.Memᴰ.append_left (x ≔ t ∷ []) d.within) in
+            let n : Memᴰ d.to s'.binds = subst (λ (l : List (Binding N)). Memᴰ d.to l) (sym b.appended)
+            (mathlib.Core.List.Memᴰ.append_left (x ≔ t ∷ []) d.within) in
             let h = r.binds-true d.to n in
-            let g = ty-put ν law held 0 tells (bindings ν bs) σg x t tg rx tf te (type_of c) (type_of d.to) (type-good ν law held 0 tells (ParameterOf cs) c (k.binds-good c m)) (type-good ν law held 0 tells (ParameterOf cs) d.to (k'.binds-good d.to n)) (p.binds-fit c m) (p'.binds-fit d.to n) (old-type s s' b k k' w p c d.to d.by) in
+            let g = ty-put ν law held 0 tells (bindings ν bs) σg x t tg rx tf te (type_of c) (type_of d.to)
+            (type-good ν law held 0 tells (ParameterOf cs) c (k.binds-good c m))
+            (type-good ν law held 0 tells (ParameterOf cs) d.to (k'.binds-good d.to n)) (p.binds-fit c m) (p'.binds-fit d.to n)
+            (old-type s s' b k k' w p c d.to d.by) in
             let z : got h.type ≡ got g.right = sym h.put_in ∙ g.putRight in
             let y : h.type ≡ g.right = cc in
             let i : key d.to ≡ key c = (same_key ν bounded (bindings ν (x ≔ t ∷ [])) c d.to d.by).0 in
             record {
               type = g.left;
               put_in = g.putLeft;
-              alike = ap (λ (v : N). plain (get_or (bindings ν bs (var v)) (opened (var v))) true) (sym i) ∙ h.alike ∙ ap (λ (u : Ty N). plain u true) y ∙ sym g.alike;
+              alike = ap (λ (v : N). plain (get_or (bindings ν bs (var v)) (opened (var v))) true) (sym i) ∙ h.alike
+                  ∙ ap (λ (u : Ty N). plain u true) y ∙ sym g.alike;
             }
 
     -- ══ The run ══
@@ -294,7 +314,10 @@ module _ {N : Type 0} (ν : Names N) (held : N → Bool) (ord : Ordered ν held)
       right : KeptAll s → Premised s → Right s
 
     sound-turn : (s s' : State N) → Turn ν bounded s s' → Sound s' → Sound s
-    sound-turn s s' t h = record { twins = twins-turn ν bs bounded s s' t h.twins; right = λ k p. go t k p (turn-kept ν law held 0 tells (ParameterOf cs) s s' k t) }
+    sound-turn s s' t h = record {
+      twins = twins-turn ν bs bounded s s' t h.twins;
+      right = λ k p. go t k p (turn-kept ν law held 0 tells (ParameterOf cs) s s' k t);
+    }
       where
         go : Turn ν bounded s s' → KeptAll s → Premised s → KeptAll s' → Right s
         go (bound b) k p k' = let p' = bound-premised s s' b k k' h.twins p in bound-right s s' b k k' h.twins p p' (h.right k' p')
@@ -310,14 +333,23 @@ module _ {N : Type 0} (ν : Names N) (held : N → Bool) (ord : Ordered ν held)
     start-premised p = record { cons-fit = λ c m o i. fit c m o i; binds-fit = all_nil (λ b. All Fits (inProducts (type_of b))) }
       where
         fit : (c : Con N) → Memᴰ c cs → (o : Open N) → Memᴰ o (productsOf c) → Fits o
-        fit c m (var x) i = record { bound = λ u j. let d = p.dimensions x (collect-to productsOf cs c (var x) m i) u j in record { product = d.0; is = d.1; proper = good-proper ν law held 0 d.0 ((dimension-good ν law held 0 u (σg (var x) u j)).holds d.0 d.1) } }
+        fit c m (var x) i = record {
+          bound = λ u j. let d = p.dimensions x (collect-to productsOf cs c (var x) m i) u j
+              in record {
+                product = d.0;
+                is = d.1;
+                proper = good-proper ν law held 0 d.0 ((dimension-good ν law held 0 u (σg (var x) u j)).holds d.0 d.1);
+              };
+        }
         fit c m (quant n) i = record { bound = λ u j. absurd (some≢none (sym j)) }
         fit c m (par x) i = record { bound = λ u j. absurd (some≢none (sym j)) }
 
   -- the judge's check 4 passes on the set and the solver's own answer
   pub answer-apart : Given ν held cs → Final ν held ord cs bs ns → unmixed ν (collect opensCon cs ++ collect opensBinding bs) ≡ true
   unfolding opensBinding
-  answer-apart g f = apart-names ν (ParameterOf cs) (collect opensCon cs ++ collect opensBinding bs) (λ x m. variables x (mathlib.Core.List.Memᴰ.append_cases (collect opensCon cs) m)) (λ x m. parameters x (mathlib.Core.List.Memᴰ.append_cases (collect opensCon cs) m))
+  answer-apart g f = apart-names ν (ParameterOf cs) (collect opensCon cs ++ collect opensBinding bs)
+      (λ x m. variables x (mathlib.Core.List.Memᴰ.append_cases (collect opensCon cs) m))
+      (λ x m. parameters x (mathlib.Core.List.Memᴰ.append_cases (collect opensCon cs) m))
     where
       s : State N
       s = f.state
@@ -334,7 +366,8 @@ module _ {N : Type 0} (ν : Names N) (held : N → Bool) (ord : Ordered ν held)
       variables x (inr m) p = let o = collect-from opensBinding bs (var x) m in go o (part (var x) o.one o.from)
         where
           go : (o : Origin opensBinding (var x) bs) → (var x ≡ var (key o.one)) ⊎ Memᴰ (var x) (opens (type_of o.one)) → ⊥
-          go o (inl e) = f.kept.keys-ok x (let z : x ≡ key o.one = cc in subst (λ (y : N). Memᴰ y (keys s.binds)) (sym z) (map-to key s.binds o.one (held_in o.one o.within))) p
+          go o (inl e) = f.kept.keys-ok x
+              (let z : x ≡ key o.one = cc in subst (λ (y : N). Memᴰ y (keys s.binds)) (sym z) (map-to key s.binds o.one (held_in o.one o.within))) p
           go o (inr i) = (f.kept.binds-ok o.one (held_in o.one o.within) (var x) i).0 p
 
       parameters : (x : N) → Memᴰ (par x) (collect opensCon cs) ⊎ Memᴰ (par x) (collect opensBinding bs) → ParameterOf cs x
@@ -349,4 +382,5 @@ module _ {N : Type 0} (ν : Names N) (held : N → Bool) (ord : Ordered ν held)
   unfolding solve
   solves g k e p =
       let f = final ν held ord cs g bs ns k e in
-      ((run-back ν bounded bs ns k (Sound f) (sound-end f) (sound-turn f) enough 0 (record { cons = cs; binds = [] }) e).right (start-kept ν held ord cs g) (start-premised f p)).cons-true
+      ((run-back ν bounded bs ns k (Sound f) (sound-end f) (sound-turn f) enough 0 (record { cons = cs; binds = [] }) e).right
+      (start-kept ν held ord cs g) (start-premised f p)).cons-true

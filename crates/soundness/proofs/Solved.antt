@@ -94,7 +94,8 @@ module _ {N : Type 0} where
       let w = each-parts (replaceBinding ν l look) b bs bs' e in
       rw (sym w.both) (ap₂ ◌∷◌ (same_key ν l look b w.first w.gave).0 (same_keys ν l look bs w.second w.then))
 
-module _ {N : Type 0} (ν : Names N) (law : Lawful (orderAtom ν)) (held : N → Bool) (q : ℕ) (tells : Tells (λ a. goodAtom ν held q a ≡ true) (orderAtom ν)) (Parameter : N → Type 0) where
+module _ {N : Type 0} (ν : Names N) (law : Lawful (orderAtom ν)) (held : N → Bool) (q : ℕ)
+    (tells : Tells (λ a. goodAtom ν held q a ≡ true) (orderAtom ν)) (Parameter : N → Type 0) where
   abbrev Good : Con N → Type 0
   Good = GoodCon ν law held q
 
@@ -122,7 +123,8 @@ module _ {N : Type 0} (ν : Names N) (law : Lawful (orderAtom ν)) (held : N →
       record {
         cons-good = rw b.joined (all_append Good b.rest (λ c m. k.cons-good c (f.kept c m)) (rule-good ν law held q f.con (split b.new) r g));
         binds-good = rw b.same k.binds-good;
-        cons_ok = rw (b.joined, ks) (all_append (ConOk Parameter (keys s.binds)) b.rest (λ c m. k.cons_ok c (f.kept c m)) (rule-open ν law held q Parameter (keys s.binds) (λ y p m. k.keys-ok y m p) f.con (split b.new) r g o));
+        cons_ok = rw (b.joined, ks) (all_append (ConOk Parameter (keys s.binds)) b.rest (λ c m. k.cons_ok c (f.kept c m))
+            (rule-open ν law held q Parameter (keys s.binds) (λ y p m. k.keys-ok y m p) f.con (split b.new) r g o));
         binds-ok = rw b.same k.binds-ok;
         keys-ok = rw b.same k.keys-ok;
         once = rw b.same k.once;
@@ -142,10 +144,13 @@ module _ {N : Type 0} (ν : Names N) (law : Lawful (orderAtom ν)) (held : N →
   unfolding goodBinding
   bound-kept s s' k b = record {
     cons-good = λ d m. let w = from d m in (con-kept ν law held q look lg w.of (k.cons-good w.of (f.kept w.of w.within))).holds d w.by;
-    binds-good = rw b.appended (all_append (λ c. goodBinding ν held q c ≡ true) b.older old-good (all_cons (λ c. goodBinding ν held q c ≡ true) new-good (all_nil (λ c. goodBinding ν held q c ≡ true))));
+    binds-good = rw b.appended (all_append (λ c. goodBinding ν held q c ≡ true) b.older old-good
+        (all_cons (λ c. goodBinding ν held q c ≡ true) new-good (all_nil (λ c. goodBinding ν held q c ≡ true))));
     cons_ok = rw ks (λ d m. let w = from d m in con-ok w.of d (k.cons-good w.of (f.kept w.of w.within)) (k.cons_ok w.of (f.kept w.of w.within)) w.by);
-    binds-ok = rw ks (subst (λ (bs : List (Binding N)). All TypeOk bs) (sym b.appended) (all_append TypeOk b.older old_ok (all_cons TypeOk type-ok (all_nil TypeOk))));
-    keys-ok = rw ks (all_append (λ y. ¬ (Parameter y)) (keys s.binds) k.keys-ok (all_cons (λ y. ¬ (Parameter y)) o.variable.0 (all_nil (λ y. ¬ (Parameter y)))));
+    binds-ok = rw ks (subst (λ (bs : List (Binding N)). All TypeOk bs) (sym b.appended)
+        (all_append TypeOk b.older old_ok (all_cons TypeOk type-ok (all_nil TypeOk))));
+    keys-ok = rw ks (all_append (λ y. ¬ (Parameter y)) (keys s.binds) k.keys-ok
+        (all_cons (λ y. ¬ (Parameter y)) o.variable.0 (all_nil (λ y. ¬ (Parameter y)))));
     once = rw ks (once_more (keys s.binds) x k.once o.variable.1);
   }
     where
@@ -165,7 +170,8 @@ module _ {N : Type 0} (ν : Names N) (law : Lawful (orderAtom ν)) (held : N →
       g = rule-good ν law held q f.con (bind x t) (rule ν bounded f.con (bind x t) f.tried) (k.cons-good f.con f.given)
 
       o : BindOk Parameter (keys s.binds) x t
-      o = rule-open ν law held q Parameter (keys s.binds) (λ y p m. k.keys-ok y m p) f.con (bind x t) (rule ν bounded f.con (bind x t) f.tried) (k.cons-good f.con f.given) (k.cons_ok f.con f.given)
+      o = rule-open ν law held q Parameter (keys s.binds) (λ y p m. k.keys-ok y m p) f.con (bind x t) (rule ν bounded f.con (bind x t) f.tried)
+          (k.cons-good f.con f.given) (k.cons_ok f.con f.given)
 
       lg : (u : Open N) (w : Ty N) → look u ≡ some w → GoodTy ν law held q w
       lg = bound-good ν (GoodTy ν law held q) x t g.type
@@ -184,7 +190,8 @@ module _ {N : Type 0} (ν : Names N) (law : Lawful (orderAtom ν)) (held : N →
       con-ok c d gc h e =
           let i = (con-below ν look c).gives d e in
           let r : All (okFor Parameter (keys s.binds ++ (x ∷ [])) c) (opensCon d) =
-          con-on ν law held q tells x t g.type (okFor Parameter (keys s.binds ++ (x ∷ [])) c) c d gc i (λ u m n. ok-more Parameter (keys s.binds) x c u (h u m) n) (λ u m. ok-weaken Parameter (keys s.binds ++ (x ∷ [])) c u (type-ok u m)) in
+          con-on ν law held q tells x t g.type (okFor Parameter (keys s.binds ++ (x ∷ [])) c) c d gc i
+          (λ u m n. ok-more Parameter (keys s.binds) x c u (h u m) n) (λ u m. ok-weaken Parameter (keys s.binds ++ (x ∷ [])) c u (type-ok u m)) in
           λ u m. same_kind Parameter (keys s.binds ++ (x ∷ [])) ν exact look c d i u (r u m)
 
       TypeOk : Binding N → Type 0
@@ -203,7 +210,8 @@ module _ {N : Type 0} (ν : Names N) (law : Lawful (orderAtom ν)) (held : N →
       old_ok c m =
           let w = old-from c m in
           let i = (ty_below ν look (type_of w.of)).gives (type_of c) (same_key ν bounded look w.of c w.by).1 in
-          ty-on ν law held q tells x t g.type (OpenOk Parameter (keys s.binds ++ (x ∷ []))) (type_of w.of) (type_of c) (type-good w.of (k.binds-good w.of w.within)) i
+          ty-on ν law held q tells x t g.type (OpenOk Parameter (keys s.binds ++ (x ∷ []))) (type_of w.of) (type_of c)
+          (type-good w.of (k.binds-good w.of w.within)) i
           (λ u n j. open_more Parameter (keys s.binds) x u (k.binds-ok w.of w.within u n) j) type-ok
 
   pub turn-kept : (s s' : State N) → Kept s → Turn ν bounded s s' → Kept s'

@@ -82,7 +82,8 @@ module _ (pool table set : List ℕ) (entries : List Entry) (types bounds work :
 
 -- what solving wrote, judged where it stands: an entry for each written binding points at its type in the result buffer, the bounds are the
 -- records behind the bindings, and nothing is copied
-module _ (pool table set result work : List ℕ) (records bounds rounds : ℕ) (accepts : (solveCall pool table set result work).answer ≡ solved records bounds rounds) where
+module _ (pool table set result work : List ℕ) (records bounds rounds : ℕ)
+    (accepts : (solveCall pool table set result work).answer ≡ solved records bounds rounds) where
   abbrev answer : SoundAnswer pool table set result work records bounds rounds
   answer = solve-call pool table set result work records bounds rounds accepts
 
@@ -125,5 +126,6 @@ pub k10-fails : Fails names k10 k10-bindings []
 k10-fails = no-fails names k10 k10-bindings [] k10-judged
 
 -- so soundness is false without its premise
-pub premise-needed : ¬ ((cs : List (Con ℕ)) (bs : List (Binding ℕ)) (bounds : List ℕ) (rounds : ℕ) → Given names held cs → solve names bounded cs ≡ accepted bs bounds rounds → Solves names cs bs bounds)
+pub premise-needed : ¬ ((cs : List (Con ℕ)) (bs : List (Binding ℕ)) (bounds : List ℕ) (rounds : ℕ) → Given names held cs
+    → solve names bounded cs ≡ accepted bs bounds rounds → Solves names cs bs bounds)
 premise-needed claim = k10-fails.fails (claim k10 k10-bindings [] 3 k10-given k10-accepted k10-fails.constraint k10-fails.given)

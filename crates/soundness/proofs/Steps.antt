@@ -102,13 +102,17 @@ module _ {N : Type 0} where
   -- the two sides of an equality
   sides-on : (P : Open N → Type 0) (c : Con N) (s t : Ty N) → Sides c s t → All P (opensCon c) → All P (opens s) × All P (opens t)
   unfolding opensCon
-  sides-on P c s t (inl i) h = let g : All P (opens s ++ opens t) = rw i at h in (λ o m. g o (Memᴰ.append_left (opens t) m), λ o m. g o (Memᴰ.append_right (opens s) m))
-  sides-on P c s t (inr i) h = let g : All P (opens t ++ opens s) = rw i at h in (λ o m. g o (Memᴰ.append_right (opens t) m), λ o m. g o (Memᴰ.append_left (opens s) m))
+  sides-on P c s t (inl i) h = let g : All P (opens s ++ opens t) = rw i at h
+      in (λ o m. g o (Memᴰ.append_left (opens t) m), λ o m. g o (Memᴰ.append_right (opens s) m))
+  sides-on P c s t (inr i) h = let g : All P (opens t ++ opens s) = rw i at h
+      in (λ o m. g o (Memᴰ.append_right (opens t) m), λ o m. g o (Memᴰ.append_left (opens s) m))
 
   pub sides-in : (P : Open N → Type 0) (c : Con N) (s t : Ty N) → Sides c s t → All P (productsOf c) → All P (inProducts s) × All P (inProducts t)
   unfolding productsOf
-  sides-in P c s t (inl i) h = let g : All P (inProducts s ++ inProducts t) = rw i at h in (λ o m. g o (Memᴰ.append_left (inProducts t) m), λ o m. g o (Memᴰ.append_right (inProducts s) m))
-  sides-in P c s t (inr i) h = let g : All P (inProducts t ++ inProducts s) = rw i at h in (λ o m. g o (Memᴰ.append_right (inProducts t) m), λ o m. g o (Memᴰ.append_left (inProducts s) m))
+  sides-in P c s t (inl i) h = let g : All P (inProducts s ++ inProducts t) = rw i at h
+      in (λ o m. g o (Memᴰ.append_left (inProducts t) m), λ o m. g o (Memᴰ.append_right (inProducts s) m))
+  sides-in P c s t (inr i) h = let g : All P (inProducts t ++ inProducts s) = rw i at h
+      in (λ o m. g o (Memᴰ.append_right (inProducts t) m), λ o m. g o (Memᴰ.append_left (inProducts s) m))
 
   both-sides : (P : Open N → Type 0) (s t : Ty N) → All P (opens s) → All P (opens t) → All P (opensCon (equal s t))
   unfolding opensCon
@@ -116,8 +120,10 @@ module _ {N : Type 0} where
 
   sides-equal : (Parameter : N → Type 0) (keys : List N) (c : Con N) (s t : Ty N) → Sides c s t → ConOk Parameter keys c
       → All (OpenOk Parameter keys) (opens s) × All (OpenOk Parameter keys) (opens t)
-  sides-equal Parameter keys c s t (inl i) h = let g : ConOk Parameter keys (equal s t) = rw i at h in sides-on (OpenOk Parameter keys) (equal s t) s t (inl refl) g
-  sides-equal Parameter keys c s t (inr i) h = let g : ConOk Parameter keys (equal t s) = rw i at h in sides-on (OpenOk Parameter keys) (equal t s) s t (inr refl) g
+  sides-equal Parameter keys c s t (inl i) h = let g : ConOk Parameter keys (equal s t) = rw i at h
+      in sides-on (OpenOk Parameter keys) (equal s t) s t (inl refl) g
+  sides-equal Parameter keys c s t (inr i) h = let g : ConOk Parameter keys (equal t s) = rw i at h
+      in sides-on (OpenOk Parameter keys) (equal t s) s t (inr refl) g
 
 module _ {N : Type 0} (ν : Names N) (law : Lawful (orderAtom ν)) (held : N → Bool) (q : ℕ) where
   -- the first variable of a product stands nowhere else in it
@@ -163,7 +169,8 @@ module _ {N : Type 0} (ν : Names N) (law : Lawful (orderAtom ν)) (held : N →
         let k = sides-equal Parameter keys c (fn ps r) (fn qs r') (inl i) h in
         rw e (all_cons OkCon (both-sides Ok r r' (λ o m. k.0 o (Memᴰ.append_right (opensTys ps) m)) (λ o m. k.1 o (Memᴰ.append_right (opensTys qs) m)))
         (pairs-ok ps qs (λ o m. k.0 o (Memᴰ.append_left (opens r) m)) (λ o m. k.1 o (Memᴰ.append_left (opens r') m))))
-    rule-open c s (two-lists t u i e) g h = let k = sides-equal Parameter keys c (list t) (list u) (inl i) h in rw e (all_cons OkCon (both-sides Ok t u k.0 k.1) (all_nil OkCon))
+    rule-open c s (two-lists t u i e) g h = let k = sides-equal Parameter keys c (list t) (list u) (inl i) h
+        in rw e (all_cons OkCon (both-sides Ok t u k.0 k.1) (all_nil OkCon))
     rule-open c s (two-structs n as' bs fs gs j i e) g h =
         let k = sides-equal Parameter keys c (struct n as' fs) (struct n bs gs) (inl i) h in
         rw e (pairs-ok as' bs (λ o m. k.0 o (Memᴰ.append_left (opensFields fs) m)) (λ o m. k.1 o (Memᴰ.append_left (opensFields gs) m)))
@@ -173,7 +180,8 @@ module _ {N : Type 0} (ν : Names N) (law : Lawful (orderAtom ν)) (held : N →
     rule-open c s (two-dimensions d e r j i z) g h =
         let k = sides-equal Parameter keys c (dim d) (dim e) (inl i) h in
         let w : r ≡ mergeE ν d (inverse e) = divide-value ν d e r j in
-        rw z (all_cons OkCon (rw w (each_opens Ok (mergeE ν d (inverse e)) (merge_on Ok ν d (inverse e) (opens-each Ok d k.0) (inverse-on Ok ν e (opens-each Ok e k.1))))) (all_nil OkCon))
+        rw z (all_cons OkCon (rw w (each_opens Ok (mergeE ν d (inverse e))
+        (merge_on Ok ν d (inverse e) (opens-each Ok d k.0) (inverse-on Ok ν e (opens-each Ok e k.1))))) (all_nil OkCon))
     rule-open c s (dimension p i e) g h =
         let k : OkCon (isDim (dim p)) = rw i at h in
         rw e (λ d m. let o = part_of p d m in rw o.1 (all_cons (DimOk Parameter keys) (named o.0 k o.2) (all_nil (DimOk Parameter keys))))
@@ -193,7 +201,9 @@ module _ {N : Type 0} (ν : Names N) (law : Lawful (orderAtom ν)) (held : N →
         })
     rule-open c s (closed-struct n m as' fs t u o f i e) g h =
         let k : OkCon (hasField n (struct m as' fs) t) = rw i at h in
-        rw e (all_cons OkCon (both-sides Ok u t (λ v j. absurd (Memᴰ.not-nil (rw o at (Memᴰ.append_right (opensTys as') (field-occurs ν n fs u f v j))))) (λ v j. k v (Memᴰ.append_right (opensTys as' ++ opensFields fs) j))) (all_nil OkCon))
+        rw e (all_cons OkCon (both-sides Ok u t
+        (λ v j. absurd (Memᴰ.not-nil (rw o at (Memᴰ.append_right (opensTys as') (field-occurs ν n fs u f v j)))))
+        (λ v j. k v (Memᴰ.append_right (opensTys as' ++ opensFields fs) j))) (all_nil OkCon))
 
   -- what stands in dimension products stood there before
   module _ (P : Open N → Type 0) where
@@ -231,7 +241,8 @@ module _ {N : Type 0} (ν : Names N) (law : Lawful (orderAtom ν)) (held : N →
     rule-in c s (two-dimensions d e r j i z) h =
         let k = sides-in P c (dim d) (dim e) (inl i) h in
         let w : r ≡ mergeE ν d (inverse e) = divide-value ν d e r j in
-        rw z (all_cons InOk (rw w (each_opens P (mergeE ν d (inverse e)) (merge_on P ν d (inverse e) (opens-each P d k.0) (inverse-on P ν e (opens-each P e k.1))))) (all_nil InOk))
+        rw z (all_cons InOk (rw w (each_opens P (mergeE ν d (inverse e))
+        (merge_on P ν d (inverse e) (opens-each P d k.0) (inverse-on P ν e (opens-each P e k.1))))) (all_nil InOk))
     rule-in c s (dimension p i e) h = rw e (λ d m. let o = part_of p d m in rw o.1 (all_nil P))
     rule-in c s (no-factor i e) h = rw e tt
     rule-in c s (first-factor x j p r n i e) h =
@@ -239,4 +250,6 @@ module _ {N : Type 0} (ν : Names N) (law : Lawful (orderAtom ν)) (held : N →
         rw e (rw (other-opens bounded j p r n) (λ o m. k o (Memᴰ.tail m)))
     rule-in c s (closed-struct n m as' fs t u o f i e) h =
         let k : InOk (hasField n (struct m as' fs) t) = rw i at h in
-        rw e (all_cons InOk (both-in u t (λ v j. absurd (Memᴰ.not-nil (rw o at (Memᴰ.append_right (opensTys as') (field-occurs ν n fs u f v (products-occur u v j)))))) (λ v j. k v (Memᴰ.append_right (inProducts (struct m as' fs)) j))) (all_nil InOk))
+        rw e (all_cons InOk (both-in u t
+        (λ v j. absurd (Memᴰ.not-nil (rw o at (Memᴰ.append_right (opensTys as') (field-occurs ν n fs u f v (products-occur u v j))))))
+        (λ v j. k v (Memᴰ.append_right (inProducts (struct m as' fs)) j))) (all_nil InOk))

@@ -34,7 +34,13 @@ module _ {N : Type 0} (ν : Names N) (bs : List (Binding N)) (bounds : List N) w
   unfolding replaceCon holds
   equals s t h =
       let w = two_steps (replaceTy ν exact (bindings ν bs) s) (λ _. replaceTy ν exact (bindings ν bs) t) equal h.replaced h.put_in in
-      record { left = w.first; right = w.second; putLeft = w.gave; putRight = w.then; same = same-means ν w.first w.second (subst (λ (c : Con N). holds ν bounds c ≡ true) (sym w.both) h.holding) }
+      record {
+        left = w.first;
+        right = w.second;
+        putLeft = w.gave;
+        putRight = w.then;
+        same = same-means ν w.first w.second (subst (λ (c : Con N). holds ν bounds c ≡ true) (sym w.both) h.holding);
+      }
 
   pub equals-holds : (s t : Ty N) → Equals s t → TrueUnder ν bs bounds (equal s t)
   unfolding replaceCon holds
@@ -50,7 +56,8 @@ module _ {N : Type 0} (ν : Names N) (bs : List (Binding N)) (bounds : List N) w
 
   pub dimensional : (t : Ty N) → TrueUnder ν bs bounds (isDim t) → Dimensional t
   unfolding replaceCon
-  dimensional t h = let w = one-step (replaceTy ν exact (bindings ν bs) t) isDim h.replaced h.put_in in record { type = w.value; put_in = w.gave; holding = subst (λ (c : Con N). holds ν bounds c ≡ true) (sym w.is) h.holding }
+  dimensional t h = let w = one-step (replaceTy ν exact (bindings ν bs) t) isDim h.replaced h.put_in
+      in record { type = w.value; put_in = w.gave; holding = subst (λ (c : Con N). holds ν bounds c ≡ true) (sym w.is) h.holding }
 
   pub dimensional-holds : (t : Ty N) → Dimensional t → TrueUnder ν bs bounds (isDim t)
   unfolding replaceCon
@@ -82,7 +89,8 @@ module _ {N : Type 0} (ν : Names N) (law : Lawful (orderAtom ν)) (held : N →
 
   -- ══ A replaced constraint ══
 
-  module _ (x : N) (t : Ty N) (tg : GoodTy ν law held q t) (r : Respects x t) (tf : All FitsIn (inProducts t)) (te : (o : Open N) → t ≡ opened o → FitsIn (var x) → FitsIn o) where
+  module _ (x : N) (t : Ty N) (tg : GoodTy ν law held q t) (r : Respects x t) (tf : All FitsIn (inProducts t))
+      (te : (o : Open N) → t ≡ opened o → FitsIn (var x) → FitsIn o) where
     abbrev τ : Look N
     τ = bindings ν (x ≔ t ∷ [])
 
@@ -105,7 +113,8 @@ module _ {N : Type 0} (ν : Names N) (law : Lawful (orderAtom ν)) (held : N →
           right = b.left;
           putLeft = a.putLeft;
           putRight = b.putLeft;
-          same = alike_same a.left a.right a.alike ∙ ap (λ (w : Ty N). plain w false) (sym i') ∙ e.same ∙ ap (λ (w : Ty N). plain w false) j' ∙ sym (alike_same b.left b.right b.alike);
+          same = alike_same a.left a.right a.alike ∙ ap (λ (w : Ty N). plain w false) (sym i') ∙ e.same ∙ ap (λ (w : Ty N). plain w false) j'
+              ∙ sym (alike_same b.left b.right b.alike);
         })
 
     dim-back : (u u' : Ty N) → Like u u' → Holds (isDim u') → Holds (isDim u)
@@ -113,7 +122,11 @@ module _ {N : Type 0} (ν : Names N) (law : Lawful (orderAtom ν)) (held : N →
         let d = dimensional ν bs bounds u' h in
         let i : got d.type ≡ got a.right = sym d.put_in ∙ a.putRight in
         let j : d.type ≡ a.right = cc in
-        dimensional-holds ν bs bounds u (record { type = a.left; put_in = a.putLeft; holding = dim-alike ν bounds a.left d.type (a.alike ∙ ap (λ (w : Ty N). plain w true) (sym j)) d.holding })
+        dimensional-holds ν bs bounds u (record {
+          type = a.left;
+          put_in = a.putLeft;
+          holding = dim-alike ν bounds a.left d.type (a.alike ∙ ap (λ (w : Ty N). plain w true) (sym j)) d.holding;
+        })
 
     field_back : (n : N) (s u s' u' : Ty N) → Like s s' → Like u u' → Holds (hasField n s' u') → Holds (hasField n s u)
     unfolding replaceCon
@@ -126,13 +139,16 @@ module _ {N : Type 0} (ν : Names N) (law : Lawful (orderAtom ν)) (held : N →
         record {
           replaced = hasField n a.left b.left;
           put_in = rw (a.putLeft, b.putLeft);
-          holding = field_alike ν bounds n a.left b.left w.first w.second (a.alike ∙ ap (λ (v : Ty N). plain v true) (sym i')) (b.alike ∙ ap (λ (v : Ty N). plain v true) (sym j')) (subst (λ (c : Con N). holds ν bounds c ≡ true) (sym w.both) h.holding);
+          holding = field_alike ν bounds n a.left b.left w.first w.second (a.alike ∙ ap (λ (v : Ty N). plain v true) (sym i'))
+              (b.alike ∙ ap (λ (v : Ty N). plain v true) (sym j')) (subst (λ (c : Con N). holds ν bounds c ≡ true) (sym w.both) h.holding);
         }
 
     scalar-back : (p s : Product N) → goodProduct ν held q p ≡ true → goodProduct ν held q s ≡ true → All FitsIn (collect openOfFactor p)
         → All FitsIn (collect openOfFactor s) → replaceProduct ν exact τ p ≡ got s → Holds (is_scalar s) → Holds (is_scalar p)
     scalar-back p s g g' f f' e h =
-        scalar-holds ν bs bounds p (put-product ν law held q tells σ σg p g f ∙ ap got (sym (product-same ν law held q tells σ σg x t tg r tf te p s g f e)) ∙ sym (put-product ν law held q tells σ σg s g' f') ∙ scalar ν bs bounds s h)
+        scalar-holds ν bs bounds p (put-product ν law held q tells σ σg p g f
+        ∙ ap got (sym (product-same ν law held q tells σ σg x t tg r tf te p s g f e)) ∙ sym (put-product ν law held q tells σ σg s g' f')
+        ∙ scalar ν bs bounds s h)
 
     pub con-back : (c d : Con N) → goodCon ν held q c ≡ true → goodCon ν held q d ≡ true → All FitsIn (productsOf c) → All FitsIn (productsOf d)
         → replaceCon ν exact τ c ≡ got d → Holds d → Holds c
@@ -142,20 +158,27 @@ module _ {N : Type 0} (ν : Names N) (law : Lawful (orderAtom ν)) (held : N →
         let g'' : goodCon ν held q (equal w.first w.second) ≡ true = subst (λ (c : Con N). goodCon ν held q c ≡ true) (sym w.both) g' in
         let f'' : All FitsIn (productsOf (equal w.first w.second)) = subst (λ (c : Con N). All FitsIn (productsOf c)) (sym w.both) f' in
         equal-back s u w.first w.second
-        (put s w.first (and_left (goodTy ν held q s) _ g) (and_left (goodTy ν held q w.first) _ g'') (λ o m. f o (Memᴰ.append_left (inProducts u) m)) (λ o m. f'' o (Memᴰ.append_left (inProducts w.second) m)) w.gave)
-        (put u w.second (and_right (goodTy ν held q s) _ g) (and_right (goodTy ν held q w.first) _ g'') (λ o m. f o (Memᴰ.append_right (inProducts s) m)) (λ o m. f'' o (Memᴰ.append_right (inProducts w.first) m)) w.then)
+        (put s w.first (and_left (goodTy ν held q s) _ g) (and_left (goodTy ν held q w.first) _ g'') (λ o m. f o (Memᴰ.append_left (inProducts u) m))
+        (λ o m. f'' o (Memᴰ.append_left (inProducts w.second) m)) w.gave)
+        (put u w.second (and_right (goodTy ν held q s) _ g) (and_right (goodTy ν held q w.first) _ g'')
+        (λ o m. f o (Memᴰ.append_right (inProducts s) m)) (λ o m. f'' o (Memᴰ.append_right (inProducts w.first) m)) w.then)
         (subst Holds (sym w.both) h)
     con-back (isDim u) d g g' f f' e h =
         let w = one-step (replaceTy ν exact τ u) isDim d e in
-        dim-back u w.value (put u w.value g (subst (λ (c : Con N). goodCon ν held q c ≡ true) (sym w.is) g') f (subst (λ (c : Con N). All FitsIn (productsOf c)) (sym w.is) f') w.gave) (subst Holds (sym w.is) h)
+        dim-back u w.value (put u w.value g (subst (λ (c : Con N). goodCon ν held q c ≡ true) (sym w.is) g') f
+        (subst (λ (c : Con N). All FitsIn (productsOf c)) (sym w.is) f') w.gave) (subst Holds (sym w.is) h)
     con-back (is_scalar p) d g g' f f' e h =
         let w = one-step (replaceProduct ν exact τ p) is_scalar d e in
-        scalar-back p w.value g (subst (λ (c : Con N). goodCon ν held q c ≡ true) (sym w.is) g') f (subst (λ (c : Con N). All FitsIn (productsOf c)) (sym w.is) f') w.gave (subst Holds (sym w.is) h)
+        scalar-back p w.value g (subst (λ (c : Con N). goodCon ν held q c ≡ true) (sym w.is) g') f
+        (subst (λ (c : Con N). All FitsIn (productsOf c)) (sym w.is) f') w.gave (subst Holds (sym w.is) h)
     con-back (hasField n s u) d g g' f f' e h =
         let w = two_steps (replaceTy ν exact τ s) (λ _. replaceTy ν exact τ u) (hasField n) d e in
         let g'' : goodCon ν held q (hasField n w.first w.second) ≡ true = subst (λ (c : Con N). goodCon ν held q c ≡ true) (sym w.both) g' in
         let f'' : All FitsIn (productsOf (hasField n w.first w.second)) = subst (λ (c : Con N). All FitsIn (productsOf c)) (sym w.both) f' in
         field_back n s u w.first w.second
-        (put s w.first (and_right (held n) _ (and_left (held n && goodTy ν held q s) _ g)) (and_right (held n) _ (and_left (held n && goodTy ν held q w.first) _ g'')) (λ o m. f o (Memᴰ.append_left (inProducts u) m)) (λ o m. f'' o (Memᴰ.append_left (inProducts w.second) m)) w.gave)
-        (put u w.second (and_right (held n && goodTy ν held q s) _ g) (and_right (held n && goodTy ν held q w.first) _ g'') (λ o m. f o (Memᴰ.append_right (inProducts s) m)) (λ o m. f'' o (Memᴰ.append_right (inProducts w.first) m)) w.then)
+        (put s w.first (and_right (held n) _ (and_left (held n && goodTy ν held q s) _ g))
+        (and_right (held n) _ (and_left (held n && goodTy ν held q w.first) _ g'')) (λ o m. f o (Memᴰ.append_left (inProducts u) m))
+        (λ o m. f'' o (Memᴰ.append_left (inProducts w.second) m)) w.gave)
+        (put u w.second (and_right (held n && goodTy ν held q s) _ g) (and_right (held n && goodTy ν held q w.first) _ g'')
+        (λ o m. f o (Memᴰ.append_right (inProducts s) m)) (λ o m. f'' o (Memᴰ.append_right (inProducts w.first) m)) w.then)
         (subst Holds (sym w.both) h)

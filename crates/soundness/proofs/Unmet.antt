@@ -154,7 +154,8 @@ module _ {N : Type 0} (ν : Names N) (bs : List (Binding N)) where
   dim-kept : (p : Product N) (s : Option (Open N)) (u : Ty N) → single p ≡ s → solid (dim p) ≡ true → replaceDim ν exact (bindings ν bs) s p ≡ got u
       → face (plain u false) ≡ 3
   unfolding replaceDim solid bindings
-  dim-kept p none u i h e = let w = one-step (replaceProduct ν exact (bindings ν bs) p) dim u e in subst (λ (t : Ty N). face (plain t false) ≡ 3) w.is (dim-face w.value)
+  dim-kept p none u i h e = let w = one-step (replaceProduct ν exact (bindings ν bs) p) dim u e
+      in subst (λ (t : Ty N). face (plain t false) ≡ 3) w.is (dim-face w.value)
   dim-kept p (some (var x)) u i h e = absurd (true≢false (sym (rw i at h)))
   dim-kept p (some (quant j)) u i h e = let z : dim p ≡ u = cc in subst (λ (t : Ty N). face (plain t false) ≡ 3) z (dim-face p)
   dim-kept p (some (par x)) u i h e = let z : dim p ≡ u = cc in subst (λ (t : Ty N). face (plain t false) ≡ 3) z (dim-face p)
@@ -165,8 +166,10 @@ module _ {N : Type 0} (ν : Names N) (bs : List (Binding N)) where
   kind-kept (opened o) u h e = absurd (true≢false (sym h))
   kind-kept (basic b) u h e = let z : basic b ≡ u = cc in subst (λ (v : Ty N). face (plain v false) ≡ kindBasic b) z refl
   kind-kept (dim p) u h e = dim-kept p (single p) u refl h e
-  kind-kept (fn ps r) u h e = let w = two_steps (replaceTys ν exact (bindings ν bs) ps) (λ _. put r) fn u e in subst (λ (v : Ty N). face (plain v false) ≡ 7) w.both refl
-  kind-kept (struct n as' fs) u h e = let w = two_steps (replaceTys ν exact (bindings ν bs) as') (λ _. replaceFields ν exact (bindings ν bs) fs) (struct n) u e in subst (λ (v : Ty N). face (plain v false) ≡ 8) w.both refl
+  kind-kept (fn ps r) u h e = let w = two_steps (replaceTys ν exact (bindings ν bs) ps) (λ _. put r) fn u e
+      in subst (λ (v : Ty N). face (plain v false) ≡ 7) w.both refl
+  kind-kept (struct n as' fs) u h e = let w = two_steps (replaceTys ν exact (bindings ν bs) as') (λ _. replaceFields ν exact (bindings ν bs) fs)
+      (struct n) u e in subst (λ (v : Ty N). face (plain v false) ≡ 8) w.both refl
   kind-kept (list t) u h e = let w = one-step (put t) list u e in subst (λ (v : Ty N). face (plain v false) ≡ 10) w.is refl
 
   -- a function keeps its count of parameters
@@ -294,17 +297,21 @@ module _ {N : Type 0} where
     closed-plain (opened o) h = absurd h.0
     closed-plain (basic b) h = refl
     closed-plain (dim p) h = closed-product p h
-    closed-plain (fn ps r) h = ap₂ fn (closed-tys ps (every-left (λ _. ⊥) (opensTys ps) (opens r) h)) (closed-plain r (every-right (λ _. ⊥) (opensTys ps) (opens r) h))
-    closed-plain (struct n as' fs) h = ap₂ (struct n) (closed-tys as' (every-left (λ _. ⊥) (opensTys as') (opensFields fs) h)) (closed-fields fs (every-right (λ _. ⊥) (opensTys as') (opensFields fs) h))
+    closed-plain (fn ps r) h = ap₂ fn (closed-tys ps (every-left (λ _. ⊥) (opensTys ps) (opens r) h))
+        (closed-plain r (every-right (λ _. ⊥) (opensTys ps) (opens r) h))
+    closed-plain (struct n as' fs) h = ap₂ (struct n) (closed-tys as' (every-left (λ _. ⊥) (opensTys as') (opensFields fs) h))
+        (closed-fields fs (every-right (λ _. ⊥) (opensTys as') (opensFields fs) h))
     closed-plain (list t) h = ap list (closed-plain t h)
 
     closed-tys : (ts : Tys N) → None (opensTys ts) → plainTys ts true ≡ ts
     closed-tys nil h = refl
-    closed-tys (cons t ts) h = ap₂ cons (closed-plain t (every-left (λ _. ⊥) (opens t) (opensTys ts) h)) (closed-tys ts (every-right (λ _. ⊥) (opens t) (opensTys ts) h))
+    closed-tys (cons t ts) h = ap₂ cons (closed-plain t (every-left (λ _. ⊥) (opens t) (opensTys ts) h))
+        (closed-tys ts (every-right (λ _. ⊥) (opens t) (opensTys ts) h))
 
     closed-fields : (fs : Fields N) → None (opensFields fs) → plainFields fs true ≡ fs
     closed-fields noFields h = refl
-    closed-fields (field n t fs) h = ap₂ (field n) (closed-plain t (every-left (λ _. ⊥) (opens t) (opensFields fs) h)) (closed-fields fs (every-right (λ _. ⊥) (opens t) (opensFields fs) h))
+    closed-fields (field n t fs) h = ap₂ (field n) (closed-plain t (every-left (λ _. ⊥) (opens t) (opensFields fs) h))
+        (closed-fields fs (every-right (λ _. ⊥) (opens t) (opensFields fs) h))
 
   pub unread : (t : Ty N) → closed t ≡ true → plain t true ≡ t
   unfolding closed

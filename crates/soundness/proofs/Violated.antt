@@ -61,9 +61,11 @@ module _ {N : Type 0} (ν : Names N) where
 
   -- ══ So no accepted set holds one, under the premise of soundness; nor does the judge say yes to a set that does ══
 
-  pub none-violated : (held : N → Bool) (order : Ordered ν held) (cs : List (Con N)) (given : Given ν held cs) (bs : List (Binding N)) (bounds : List N) (rounds : ℕ)
+  pub none-violated : (held : N → Bool) (order : Ordered ν held) (cs : List (Con N)) (given : Given ν held cs) (bs : List (Binding N))
+      (bounds : List N) (rounds : ℕ)
       → solve ν bounded cs ≡ accepted bs bounds rounds → Premise ν cs bs → (c : Con N) → Memᴰ c cs → addTest ν c ≡ violated → OtherFields ν c
-  none-violated held order cs given bs bounds rounds accepts premise c within says = violated-final c says bs bounds (Runs.solves ν held order cs bs bounds given rounds accepts premise c within)
+  none-violated held order cs given bs bounds rounds accepts premise c within says =
+      violated-final c says bs bounds (Runs.solves ν held order cs bs bounds given rounds accepts premise c within)
 
   pub none-judged : (cs : List (Con N)) (bs : List (Binding N)) (bounds : List N) → judge ν bounded bs bounds cs ≡ got true → (c : Con N) → Memᴰ c cs
       → addTest ν c ≡ violated → OtherFields ν c
@@ -77,8 +79,10 @@ module _ (pool table con : List ℕ) where
   add-call buffer count records says = Unmet.add-call pool table con buffer count records says
 
   -- an answer that `solveCall` accepted, of a set that holds it
-  pub accepted-line : {set result work : List ℕ} {records bounds rounds : ℕ} (line : ViolatedLine pool table con) (answer : SoundAnswer pool table set result work records bounds rounds)
-      → Premise (numbersOf (table_of pool table)) answer.cs answer.bs → Memᴰ line.constraint answer.cs → OtherFields (numbersOf (table_of pool table)) line.constraint
+  pub accepted-line : {set result work : List ℕ} {records bounds rounds : ℕ} (line : ViolatedLine pool table con)
+      (answer : SoundAnswer pool table set result work records bounds rounds)
+      → Premise (numbersOf (table_of pool table)) answer.cs answer.bs → Memᴰ line.constraint answer.cs
+      → OtherFields (numbersOf (table_of pool table)) line.constraint
   accepted-line line answer premise within = line.final answer.bs answer.ns (answer.sound premise line.constraint within)
 
 -- ══ The exception is real, and the premise is needed ══
@@ -87,7 +91,8 @@ module _ (pool table con : List ℕ) where
 pub exception-met : OtherFields names fields
 exception-met = none-violated names held ordered (fields ∷ []) fields-given [] [] 1 fields-accepted fields-premise fields in_head fields-violated
 
-pub exception-needed : ¬ ((cs : List (Con ℕ)) (bs : List (Binding ℕ)) (bounds : List ℕ) (rounds : ℕ) → Given names held cs → solve names bounded cs ≡ accepted bs bounds rounds → Premise names cs bs → (c : Con ℕ) → Memᴰ c cs → ¬ (addTest names c ≡ violated))
+pub exception-needed : ¬ ((cs : List (Con ℕ)) (bs : List (Binding ℕ)) (bounds : List ℕ) (rounds : ℕ) → Given names held cs
+    → solve names bounded cs ≡ accepted bs bounds rounds → Premise names cs bs → (c : Con ℕ) → Memᴰ c cs → ¬ (addTest names c ≡ violated))
 exception-needed claim = claim (fields ∷ []) [] [] 1 fields-given fields-accepted fields-premise fields in_head fields-violated
 
 -- so the judge says yes to it
@@ -106,5 +111,6 @@ no-exception : ¬ (OtherFields names product)
 unfolding rules
 no-exception o = let l : product-left ≡ o.left = cc in true≢false (sym (ap closed l ∙ o.left-closed))
 
-pub premise-needed : ¬ ((cs : List (Con ℕ)) (bs : List (Binding ℕ)) (bounds : List ℕ) (rounds : ℕ) → Given names held cs → solve names bounded cs ≡ accepted bs bounds rounds → (c : Con ℕ) → Memᴰ c cs → addTest names c ≡ violated → OtherFields names c)
+pub premise-needed : ¬ ((cs : List (Con ℕ)) (bs : List (Binding ℕ)) (bounds : List ℕ) (rounds : ℕ) → Given names held cs
+    → solve names bounded cs ≡ accepted bs bounds rounds → (c : Con ℕ) → Memᴰ c cs → addTest names c ≡ violated → OtherFields names c)
 premise-needed claim = no-exception (claim products products-bindings [] 2 products-given products-accepted product in_head product-violated)

@@ -10,7 +10,29 @@ use Rattle.rules.specs.Contents.{unmixed}
 use Rattle.rules.specs.Solving.{Answer, accepted, remaining, stopped, solve}
 use Rattle.rules.specs.Meaning.{Solves, Premise}
 use Rattle.rules.specs.Judging.{judge}
-use Rattle.rules.specs.Calls.{lentResult, lentWork, lent, shortLists, shortNumbers, tableKept, setGiven, apart, opensBinding, resultAfter, solved, refusedAfter, solvedOf, solvedWords, solvedSet, solveCall, Entry, entriesGiven, risingBounds, judgedSet, judgeCall}
+use Rattle.rules.specs.Calls.{
+  lentResult,
+  lentWork,
+  lent,
+  shortLists,
+  shortNumbers,
+  tableKept,
+  setGiven,
+  apart,
+  opensBinding,
+  resultAfter,
+  solved,
+  refusedAfter,
+  solvedOf,
+  solvedWords,
+  solvedSet,
+  solveCall,
+  Entry,
+  entriesGiven,
+  risingBounds,
+  judgedSet,
+  judgeCall,
+}
 use Rattle.laws.specs.Checks.{need-passed}
 use Rattle.laws.specs.Given.{held-apart, lent-long, kept-good, set-read}
 use Rattle.laws.specs.ByteOrder.{numbered-lawful}
@@ -68,7 +90,9 @@ module _ (pool table set : List ℕ) where
       → YesOrLimits (judgeCall pool table set entries types bounds work).answer
   unfolding judgeCall judgedSet apart
   own-judged u h bs ns k p q entries types bounds work r =
-      let m : unmixed (numbersOf t) (collect opensCon p.cs ++ collect opensBinding bs) ≡ true = answer-apart (numbersOf t) (is_held t) p.order p.cs bs ns p.given (final (numbersOf t) (is_held t) p.order p.cs p.given bs ns k p.accepts) in
+      let m : unmixed (numbersOf t) (collect opensCon p.cs ++ collect opensBinding bs) ≡ true =
+      answer-apart (numbersOf t) (is_held t) p.order p.cs bs ns p.given (final (numbersOf t) (is_held t) p.order p.cs p.given bs ns k p.accepts)
+      in
       let s : Solves (numbersOf t) p.cs bs ns = solves (numbersOf t) (is_held t) p.order p.cs bs ns p.given k p.accepts q in
       rw (h, r.lent, r.short, p.kept.1, p.read, r.entries-read, r.bounds-read, m) (solution-judged (numbersOf t) bs ns p.cs s)
 
@@ -120,8 +144,26 @@ module _ (pool table set : List ℕ) (entries : List Entry) (types bounds work :
 
   pub judge-call-yes : (judgeCall pool table set entries types bounds work).answer ≡ got true
       → JudgedSet pool table set entries types bounds (λ cs bs ns. Solves (numbersOf (table_of pool table)) cs bs ns)
-  judge-call-yes e = let s = said true e in record { cs = s.cs; bs = s.bs; ns = s.ns; read = s.read; proposed = s.proposed; bounded-by = s.bounded-by; verdict = yes-solves (numbersOf (table_of pool table)) s.bs s.ns s.cs s.verdict }
+  judge-call-yes e = let s = said true e
+      in record {
+        cs = s.cs;
+        bs = s.bs;
+        ns = s.ns;
+        read = s.read;
+        proposed = s.proposed;
+        bounded-by = s.bounded-by;
+        verdict = yes-solves (numbersOf (table_of pool table)) s.bs s.ns s.cs s.verdict;
+      }
 
   pub judge-call-no : (judgeCall pool table set entries types bounds work).answer ≡ got false
       → JudgedSet pool table set entries types bounds (λ cs bs ns. Fails (numbersOf (table_of pool table)) cs bs ns)
-  judge-call-no e = let s = said false e in record { cs = s.cs; bs = s.bs; ns = s.ns; read = s.read; proposed = s.proposed; bounded-by = s.bounded-by; verdict = no-fails (numbersOf (table_of pool table)) s.bs s.ns s.cs s.verdict }
+  judge-call-no e = let s = said false e
+      in record {
+        cs = s.cs;
+        bs = s.bs;
+        ns = s.ns;
+        read = s.read;
+        proposed = s.proposed;
+        bounded-by = s.bounded-by;
+        verdict = no-fails (numbersOf (table_of pool table)) s.bs s.ns s.cs s.verdict;
+      }

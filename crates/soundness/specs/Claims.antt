@@ -104,7 +104,8 @@ pub record SoundAnswer (pool table set result work : List ℕ) (records bounds r
       → Proposes pool table set bs ns entries types bounds work → YesOrLimits (judgeCall pool table set entries types bounds work).answer
 
 -- the verdict was said of these
-pub record JudgedSet (pool table set : List ℕ) (entries : List Entry) (types bounds : List ℕ) (Verdict : List (Con ℕ) → List (Binding ℕ) → List ℕ → Type 0) : Type 0 where
+pub record JudgedSet (pool table set : List ℕ) (entries : List Entry) (types bounds : List ℕ)
+    (Verdict : List (Con ℕ) → List (Binding ℕ) → List ℕ → Type 0) : Type 0 where
   pub cs : List (Con ℕ)
   pub bs : List (Binding ℕ)
   pub ns : List ℕ

@@ -10,7 +10,8 @@ pub most-requires : goal.most-requires
 most-requires c = counted-few c.distinct.ensures.counted
 
 pub returns : goal.returns
-returns c = ap got c.most.ensures ∙ sym (ceiling-given _ _ _ (record { word = λ i. (c.type_inv.words i).fits }) (sym c.in_ok-is_set.ensures) _ c.distinct.ensures)
+returns c = ap got c.most.ensures ∙ sym (ceiling-given _ _ _ (record { word = λ i. (c.type_inv.words i).fits }) (sym c.in_ok-is_set.ensures) _
+    c.distinct.ensures)
 
 pub returns-in_err-is_set : goal.returns-in_err-is_set
 returns-in_err-is_set c =

@@ -18,7 +18,8 @@ returns-then-not-small c =
 
 pub returns-then-not-is_good : goal.returns-then-not-is_good
 returns-then-not-is_good c =
-    bad-table _ _ _ _ c.if-pool-lt-POOL_BYTES.false c.if-table-lt-TABLE_WORDS.false c.small.result c.small.ensures (ap not c.if-not-small.false) c.is_good.result c.is_good.ensures
+    bad-table _ _ _ _ c.if-pool-lt-POOL_BYTES.false c.if-table-lt-TABLE_WORDS.false c.small.result c.small.ensures (ap not c.if-not-small.false)
+    c.is_good.result c.is_good.ensures
     (ap not c.if-not-is_good.true)
 
 pub returns-then-sets_given : goal.returns-then-sets_given

@@ -17,7 +17,8 @@ slice_range-put_mid : (a k n : ℕ) (xs ys : List ℕ) → a ≤ length xs → n
 slice_range-put_mid a k n xs ys within fits =
     let same : (a + n) - a ≡ n = omega arith in
     let after = post_of a k xs in
-    ap (take ((a + n) - a)) (drop_at (take a xs) (ys ++ after) a (length-take-le a xs within)) ∙ ap (λ m. take m (ys ++ after)) same ∙ take-append-le n ys after fits
+    ap (take ((a + n) - a)) (drop_at (take a xs) (ys ++ after) a (length-take-le a xs within)) ∙ ap (λ m. take m (ys ++ after)) same
+    ∙ take-append-le n ys after fits
 
 pub loop-preserved : goal.loop-preserved
 loop-preserved g c =
@@ -27,8 +28,19 @@ loop-preserved g c =
     elim c.match-read.branch [
       | in-Ok w ↦
           let part = slice_range-put_mid from room w.in-Ok.n c.loop.buf c.read.new.buf within w.in-Ok.ensures.bound.0 in
-          let joined = take_split from (from + w.in-Ok.n) c.loop.buf (put_mid from room c.loop.buf c.read.new.buf) (omega arith) (take-put_mid_below _ _ _ _ _ (le_refl _) within) in
-          rw w.at-is (search rules, search rules, subst (Consumes _ _) (ap (λ l. take from c.loop.buf ++ l) (sym part) ∙ joined) (Consumes-trans _ _ _ _ _ c.loop.invariant.2 w.in-Ok.ensures.bytes.0))
+          let joined = take_split from (from + w.in-Ok.n) c.loop.buf (put_mid from room c.loop.buf c.read.new.buf) (omega arith)
+          (take-put_mid_below _ _ _ _ _ (le_refl _) within) in
+          rw w.at-is (
+            search rules,
+            search rules,
+            subst (Consumes _ _) (ap (λ l. take from c.loop.buf ++ l) (sym part) ∙ joined)
+                (Consumes-trans _ _ _ _ _ c.loop.invariant.2 w.in-Ok.ensures.bytes.0),
+          )
       | in-Err+else-ne w ↦
-          rw w.at-is (search rules, search rules, subst (Consumes _ _) (sym (take-put_mid_below _ _ _ _ _ (le_refl _) within)) (Consumes-kept _ _ _ _ c.loop.invariant.2 w.in-Err.ensures.bytes))
+          rw w.at-is (
+            search rules,
+            search rules,
+            subst (Consumes _ _) (sym (take-put_mid_below _ _ _ _ _ (le_refl _) within))
+                (Consumes-kept _ _ _ _ c.loop.invariant.2 w.in-Err.ensures.bytes),
+          )
     ]

@@ -4,4 +4,5 @@ use Rattle.std.specs.Io.KnownBytes.{Consumes}
 use Rattle.filling.proofs.fill_front.Given as goal
 
 abbrev pub invariant-loop : goal.invariant-loop
-invariant-loop g l = (length l.buf ≡ length l.initial.buf) × (l.at ≤ length l.buf) × Consumes (g.R.Read.remaining l.initial.reader) (g.R.Read.remaining l.reader) (take l.at l.buf)
+invariant-loop g l = (length l.buf ≡ length l.initial.buf) × (l.at ≤ length l.buf)
+    × Consumes (g.R.Read.remaining l.initial.reader) (g.R.Read.remaining l.reader) (take l.at l.buf)

@@ -11,7 +11,8 @@ pub returns-then-pool-lt-POOL_BYTES : goal.returns-then-pool-lt-POOL_BYTES
 returns-then-pool-lt-POOL_BYTES c = elim c.then-pool-lt-POOL_BYTES.branch [
   | then-pool-lt-POOL_BYTES-via-then-pool-lt-POOL_BYTES w ↦ short-pool _ _ _ _ w.if-pool-lt-POOL_BYTES.true
   | then-pool-lt-POOL_BYTES-via-else-pool-lt-POOL_BYTES+then-table-lt-TABLE_WORDS w ↦ short-table _ _ _ _ w.if-table-lt-TABLE_WORDS.true
-  | then-pool-lt-POOL_BYTES-via-else-pool-lt-POOL_BYTES+else-table-lt-TABLE_WORDS+then-res-lt-RECORD_WORDS w ↦ short-result _ _ _ _ w.if-res-lt-RECORD_WORDS.true
+  | then-pool-lt-POOL_BYTES-via-else-pool-lt-POOL_BYTES+else-table-lt-TABLE_WORDS+then-res-lt-RECORD_WORDS w ↦ short-result _ _ _ _
+      w.if-res-lt-RECORD_WORDS.true
 ]
 
 pub returns : goal.returns

@@ -18,7 +18,8 @@ module _ (p t : List ℕ) (i : ℕ) where
   unfolding nameAsked table_of
   held h = go (tableGiven p t) refl (ltb i (get_or t 0 0)) refl h
     where
-      go : (a : Got (Unit {0})) → tableGiven p t ≡ a → (b : Bool) → ltb i (get_or t 0 0) ≡ b → got tt ≡ refusalOf (a >> (need b 3 >> got (get_or (names_of (table_of p t)) i [])))
+      go : (a : Got (Unit {0})) → tableGiven p t ≡ a → (b : Bool) → ltb i (get_or t 0 0) ≡ b
+          → got tt ≡ refusalOf (a >> (need b 3 >> got (get_or (names_of (table_of p t)) i [])))
           → Good p t × (i < get_or t 0 0)
       go (refused k) e b f h = let z : ◌≡◌ {A = ℕ} 0 1 = cc in absurd (omega arith)
       go (got u) e false f h = let z : ◌≡◌ {A = ℕ} 0 1 = cc in absurd (omega arith)
@@ -49,5 +50,6 @@ pub returns-in-Err : goal.returns-in-Err
 unfolding partAsked partFrom
 returns-in-Err c =
     let a = c.args in
-    let e = nothing (start_in (table_of a.pool.now a.table.now) a.number) (nameAsked a.pool.now a.table.now a.number) (rw c.in-Err.is at c.check_number.ensures) in
+    let e = nothing (start_in (table_of a.pool.now a.table.now) a.number) (nameAsked a.pool.now a.table.now a.number)
+    (rw c.in-Err.is at c.check_number.ensures) in
     subst (IsPart a.pool _) e (record { place = refl; bytes = refl })

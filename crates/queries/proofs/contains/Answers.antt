@@ -33,7 +33,8 @@ pub returns-then-not-is_unmixed : goal.returns-then-not-is_unmixed
 returns-then-not-is_unmixed c =
     let a = c.args in
     let (t, k) = typed a.pool.now a.table.now a.words.now (record { word = λ i. (c.type_inv.words i).fits }) (sym c.in_ok-is_type.ensures) in
-    sym (contains-mixed _ _ _ a.x a.parameters t k (sym c.if-not-is_held.ensures) (sym (c.is_unmixed.ensures (names_of (table_of a.pool.now a.table.now))) ∙ c.if-not-is_unmixed.true))
+    sym (contains-mixed _ _ _ a.x a.parameters t k (sym c.if-not-is_held.ensures)
+    (sym (c.is_unmixed.ensures (names_of (table_of a.pool.now a.table.now))) ∙ c.if-not-is_unmixed.true))
 
 pub returns-then-not-is_held : goal.returns-then-not-is_held
 returns-then-not-is_held c =

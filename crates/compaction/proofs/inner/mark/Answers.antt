@@ -27,4 +27,8 @@ loop-i-preserved c =
     )
 
 pub returns : goal.returns
-returns c = let l = c.loop-i in record { long = l.invariant.0; is = λ x. sym (mark-end _ _ (l.i * 4) l.m (omega (arith, c.loop-i-test.false)) x) ∙ l.invariant.1 x }
+returns c = let l = c.loop-i in record {
+  long = l.invariant.0;
+  is = λ x. sym (mark-end _ _ (l.i * 4) l.m (omega (arith, c.loop-i-test.false)) x)
+      ∙ l.invariant.1 x;
+}

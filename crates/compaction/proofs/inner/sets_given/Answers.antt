@@ -25,7 +25,8 @@ returns-then-not-set_given c = let l = c.loop-n in
 pub loop-n-preserved : goal.loop-n-preserved
 loop-n-preserved c = let l = c.loop-n in (
   omega (arith, c.if-sets-from.false, l.invariant.0),
-  left-next _ _ _ l.n-index l.from c.loop-n-test.true l.invariant.1 c.set_given.result c.set_given.ensures (ap not c.if-not-set_given.false) c.if-sets-from.false,
+  left-next _ _ _ l.n-index l.from c.loop-n-test.true l.invariant.1 c.set_given.result c.set_given.ensures (ap not c.if-not-set_given.false)
+      c.if-sets-from.false,
 )
 
 pub returns : goal.returns

@@ -29,16 +29,23 @@ loop-i-preserved c =
     let names : c.args.m ≤ length c.args.names = omega (arith, c.requires.few, c.requires.named) in
     let all : List (Binding ℕ) = map (boundBy cols) (pairValues (take c.args.m c.args.names) (take c.args.m (rowsIn c.args.g))) in
     let same : boundBy cols (get_or c.args.names c.loop-i.i 0 gets row_in c.row_at.result) ≡ get_or all c.loop-i.i (boundBy cols (0 gets [])) =
-    ap (λ (x : Row). boundBy cols (get_or c.args.names c.loop-i.i 0 gets x)) c.row_at.ensures.1 ∙ sym (value-at cols c.args.names (rowsIn c.args.g) c.args.m names rows c.loop-i.i c.loop-i-test.true) in (
+    ap (λ (x : Row). boundBy cols (get_or c.args.names c.loop-i.i 0 gets x)) c.row_at.ensures.1
+    ∙ sym (value-at cols c.args.names (rowsIn c.args.g) c.args.m names rows c.loop-i.i c.loop-i-test.true) in (
       c.put_binding-n.auto.dst ∙ c.loop-i.invariant.0,
       parts-on writeBinding all c.args.dst.now c.loop-i.dst c.put_binding-n.new.dst c.loop-i.n c.put_binding-n.result c.loop-i.i (boundBy cols (0 gets []))
           (omega (arith, c.loop-i-test.true, values-long cols c.args.names (rowsIn c.args.g) c.args.m names rows)) c.loop-i.invariant.1
-          (subst (λ (x : Binding ℕ). PutSmall c.loop-i.dst c.put_binding-n.new.dst c.loop-i.n c.put_binding-n.result (writeBinding x)) same c.put_binding-n.ensures),
+          (subst (λ (x : Binding ℕ). PutSmall c.loop-i.dst c.put_binding-n.new.dst c.loop-i.n c.put_binding-n.result (writeBinding x)) same
+          c.put_binding-n.ensures),
     )
 
 pub returns : goal.returns
 returns c =
     let cols = colsIn c.args.k in
     let h = c.requires.few in
-    parts-done writeBinding (map (boundBy cols) (pairValues (take c.args.m c.args.names) (take c.args.m (rowsIn c.args.g)))) c.args.dst.now c.loop-i.dst c.loop-i.n c.loop-i.i
-    (omega (arith, values-long cols c.args.names (rowsIn c.args.g) c.args.m (omega (arith, h, c.requires.named)) (omega (arith, h, grid-long c.args.g c.requires.wide_grid)))) c.loop-i.invariant.1
+    parts-done writeBinding (map (boundBy cols) (pairValues (take c.args.m c.args.names) (take c.args.m (rowsIn c.args.g)))) c.args.dst.now
+    c.loop-i.dst c.loop-i.n c.loop-i.i
+    (omega (
+      arith,
+      values-long cols c.args.names (rowsIn c.args.g) c.args.m (omega (arith, h, c.requires.named))
+          (omega (arith, h, grid-long c.args.g c.requires.wide_grid)),
+    )) c.loop-i.invariant.1

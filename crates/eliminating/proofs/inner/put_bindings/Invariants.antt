@@ -9,4 +9,5 @@ use Rattle.eliminating.specs.Put.{Parts}
 use Rattle.eliminating.proofs.inner.put_bindings.Given as goal
 
 abbrev pub invariant-loop-i : goal.invariant-loop-i
-invariant-loop-i l = (length l.dst ≡ length l.initial.dst) × Parts writeBinding (map (boundBy (colsIn l.k)) (pairValues (take l.m l.names) (take l.m (rowsIn l.g)))) l.initial.dst l.dst l.n l.i
+invariant-loop-i l = (length l.dst ≡ length l.initial.dst)
+    × Parts writeBinding (map (boundBy (colsIn l.k)) (pairValues (take l.m l.names) (take l.m (rowsIn l.g)))) l.initial.dst l.dst l.n l.i

@@ -15,4 +15,5 @@ returns-then-is_zero c = left_out (ap isZero (sym c.power_at-e.ensures) ∙ sym 
 pub returns : goal.returns
 returns c =
     put-in (ap isZero (sym c.power_at-e.ensures) ∙ sym c.is_zero.ensures ∙ c.if-is_zero.false) refl
-    (c.put_one.ensures ∙ ap (λ (x : Rec). sets c.args.dst.now (c.args.at * 4) (words (x ∷ []))) (c.factor_view.ensures ∙ ap₂ (λ (a : Atom ℕ) (c : Exp). writeFactor (a ↑ c)) c.atom_at.ensures c.power_at-e.ensures))
+    (c.put_one.ensures ∙ ap (λ (x : Rec). sets c.args.dst.now (c.args.at * 4) (words (x ∷ [])))
+    (c.factor_view.ensures ∙ ap₂ (λ (a : Atom ℕ) (c : Exp). writeFactor (a ↑ c)) c.atom_at.ensures c.power_at-e.ensures))

@@ -26,10 +26,14 @@ pub loop-i-preserved : goal.loop-i-preserved
 loop-i-preserved c =
     let F : Row → Con ℕ = λ r. is_scalar (factors (colsIn c.args.k) r) in
     let many : c.args.m ≤ length (rowsIn c.args.g) = omega (arith, c.requires.few, grid-long c.args.g c.requires.wide_grid) in
-    let same : F (row_in c.row_at.result) ≡ get_or (map F (take c.args.m (rowsIn c.args.g))) c.loop-i.i (F []) = ap F c.row_at.ensures.1 ∙ sym (line_at F (rowsIn c.args.g) c.args.m c.loop-i.i c.loop-i-test.true) in (
+    let same : F (row_in c.row_at.result) ≡ get_or (map F (take c.args.m (rowsIn c.args.g))) c.loop-i.i (F []) = ap F c.row_at.ensures.1
+    ∙ sym (line_at F (rowsIn c.args.g) c.args.m c.loop-i.i c.loop-i-test.true) in (
       c.put_line-n.auto.dst ∙ c.loop-i.invariant.0,
-      parts-on writeCon (map F (take c.args.m (rowsIn c.args.g))) c.args.dst.now c.loop-i.dst c.put_line-n.new.dst c.loop-i.n c.put_line-n.result c.loop-i.i (F [])
-          (omega (arith, c.loop-i-test.true, lines_long F (rowsIn c.args.g) c.args.m many)) c.loop-i.invariant.1 (subst (λ (x : Con ℕ). PutSmall c.loop-i.dst c.put_line-n.new.dst c.loop-i.n c.put_line-n.result (writeCon x)) same c.put_line-n.ensures),
+      parts-on writeCon (map F (take c.args.m (rowsIn c.args.g))) c.args.dst.now c.loop-i.dst c.put_line-n.new.dst c.loop-i.n c.put_line-n.result
+          c.loop-i.i (F [])
+          (omega (arith, c.loop-i-test.true, lines_long F (rowsIn c.args.g) c.args.m many)) c.loop-i.invariant.1
+          (subst (λ (x : Con ℕ). PutSmall c.loop-i.dst c.put_line-n.new.dst c.loop-i.n c.put_line-n.result (writeCon x)) same
+          c.put_line-n.ensures),
     )
 
 pub returns : goal.returns

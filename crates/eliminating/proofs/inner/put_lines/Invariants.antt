@@ -10,4 +10,5 @@ use Rattle.eliminating.specs.Put.{Parts}
 use Rattle.eliminating.proofs.inner.put_lines.Given as goal
 
 abbrev pub invariant-loop-i : goal.invariant-loop-i
-invariant-loop-i l = (length l.dst ≡ length l.initial.dst) × Parts writeCon (map (λ r. is_scalar (factors (colsIn l.k) r)) (take l.m (rowsIn l.g))) l.initial.dst l.dst l.n l.i
+invariant-loop-i l = (length l.dst ≡ length l.initial.dst)
+    × Parts writeCon (map (λ r. is_scalar (factors (colsIn l.k) r)) (take l.m (rowsIn l.g))) l.initial.dst l.dst l.n l.i

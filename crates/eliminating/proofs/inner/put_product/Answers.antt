@@ -6,11 +6,13 @@ use Rattle.eliminating.specs.Put.{row-few, put-product}
 use Rattle.eliminating.proofs.inner.put_product.Goals as goal
 
 pub overflow_cast-n : goal.overflow_cast-n
-overflow_cast-n c = let few : c.put_factors-n.result ≤ 48 = row-few c.args.k (row_in c.args.r) c.put_factors-n.result c.requires.laid c.put_factors-n.ensures.many in
+overflow_cast-n c = let few : c.put_factors-n.result
+    ≤ 48 = row-few c.args.k (row_in c.args.r) c.put_factors-n.result c.requires.laid c.put_factors-n.ensures.many in
     omega (arith, few)
 
 pub overflow_add-n : goal.overflow_add-n
-overflow_add-n c = let few : c.put_factors-n.result ≤ 48 = row-few c.args.k (row_in c.args.r) c.put_factors-n.result c.requires.laid c.put_factors-n.ensures.many in
+overflow_add-n c = let few : c.put_factors-n.result
+    ≤ 48 = row-few c.args.k (row_in c.args.r) c.put_factors-n.result c.requires.laid c.put_factors-n.ensures.many in
     omega (arith, few)
 
 pub returns : goal.returns

@@ -13,7 +13,12 @@ returns-then-m-gt0 c =
 
 pub put_bindings-requires : goal.put_bindings-requires
 put_bindings-requires c =
-    record { laid = c.requires.laid; wide_grid = c.requires.running.values-wide; named = c.requires.running.named; few = omega (arith, c.requires.running.room) }
+    record {
+      laid = c.requires.laid;
+      wide_grid = c.requires.running.values-wide;
+      named = c.requires.running.named;
+      few = omega (arith, c.requires.running.room);
+    }
 
 pub returns : goal.returns
 returns c =

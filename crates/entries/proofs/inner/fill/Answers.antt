@@ -14,6 +14,10 @@ loop-v-preserved c =
     let a = c.args in
     let w = c.in-Some.ensures in
     elim c.if-is_some.branch [
-      | then-is_some v ↦ rw c.put.ensures (one_more a.names.pool.now a.names.table.now a.types.now a.slots.places a.places.now _ _ _ c.loop-v.invariant c.loop-v-test.true c.requires.long _ _ w.1 (v.taken-is ∙ ap (λ (k : ℕ). c.loop-v.taken + k) (bit-yes _ v.if-is_some.ensures)) w.0)
-      | else-is_some v ↦ rw c.put.ensures (one_more a.names.pool.now a.names.table.now a.types.now a.slots.places a.places.now _ _ _ c.loop-v.invariant c.loop-v-test.true c.requires.long _ _ w.1 (v.taken-is ∙ sym (add-zero _) ∙ ap (λ (k : ℕ). c.loop-v.taken + k) (bit-no _ v.if-is_some.ensures)) w.0)
+      | then-is_some v ↦ rw c.put.ensures
+          (one_more a.names.pool.now a.names.table.now a.types.now a.slots.places a.places.now _ _ _ c.loop-v.invariant c.loop-v-test.true
+          c.requires.long _ _ w.1 (v.taken-is ∙ ap (λ (k : ℕ). c.loop-v.taken + k) (bit-yes _ v.if-is_some.ensures)) w.0)
+      | else-is_some v ↦ rw c.put.ensures
+          (one_more a.names.pool.now a.names.table.now a.types.now a.slots.places a.places.now _ _ _ c.loop-v.invariant c.loop-v-test.true
+          c.requires.long _ _ w.1 (v.taken-is ∙ sym (add-zero _) ∙ ap (λ (k : ℕ). c.loop-v.taken + k) (bit-no _ v.if-is_some.ensures)) w.0)
     ]

@@ -17,7 +17,8 @@ returns-then-is_some c =
     let d : Entry = record { variable = 0; place = 0 } in
     let x = (get_or es c.loop-i.i d).variable in
     let behind = take_all (length es - (c.loop-i.i + 1)) (drop (c.loop-i.i + 1) es) (omega (arith, length-drop (c.loop-i.i + 1) es)) in
-    let there : stands (drop (suc c.loop-i.i) es) x ≡ true = rw (← (add-one c.loop-i.i)) (sym (found-is (told (drop (c.loop-i.i + 1) es)) x _ (rw behind at c.look_up.ensures)) ∙ sym c.if-is_some.ensures) in
+    let there : stands (drop (suc c.loop-i.i) es) x ≡ true = rw (← (add-one c.loop-i.i))
+    (sym (found-is (told (drop (c.loop-i.i + 1) es)) x _ (rw behind at c.look_up.ensures)) ∙ sym c.if-is_some.ensures) in
     sym (rw there at (repeated-at es c.loop-i.i d (omega arith))) ∙ c.loop-i.invariant
 
 pub loop-i-preserved : goal.loop-i-preserved
@@ -26,7 +27,8 @@ loop-i-preserved c =
     let d : Entry = record { variable = 0; place = 0 } in
     let x = (get_or es c.loop-i.i d).variable in
     let behind = take_all (length es - (c.loop-i.i + 1)) (drop (c.loop-i.i + 1) es) (omega (arith, length-drop (c.loop-i.i + 1) es)) in
-    let none : stands (drop (suc c.loop-i.i) es) x ≡ false = rw (← (add-one c.loop-i.i)) (sym (found-is (told (drop (c.loop-i.i + 1) es)) x _ (rw behind at c.look_up.ensures)) ∙ sym c.if-is_some.ensures) in
+    let none : stands (drop (suc c.loop-i.i) es) x ≡ false = rw (← (add-one c.loop-i.i))
+    (sym (found-is (told (drop (c.loop-i.i + 1) es)) x _ (rw behind at c.look_up.ensures)) ∙ sym c.if-is_some.ensures) in
     rw (add-one c.loop-i.i) (sym (rw none at (repeated-at es c.loop-i.i d (omega arith))) ∙ c.loop-i.invariant)
 
 pub returns : goal.returns

@@ -11,7 +11,8 @@ pub returns-then-j-k : goal.returns-then-j-k
 unfolding colsIn
 returns-then-j-k c =
     let k = c.args.k in
-    sym (column-variable (base 0) k.variables k.parameters (namesIn k) c.args.j (omega (arith, names-long k c.requires.laid)) (omega arith) ∙ ap (λ (x : ℕ). free (var x)) (variable-name k c.args.j c.requires.laid c.if-j-k.true))
+    sym (column-variable (base 0) k.variables k.parameters (namesIn k) c.args.j (omega (arith, names-long k c.requires.laid)) (omega arith)
+    ∙ ap (λ (x : ℕ). free (var x)) (variable-name k c.args.j c.requires.laid c.if-j-k.true))
 
 pub returns-then-i-k : goal.returns-then-i-k
 unfolding colsIn

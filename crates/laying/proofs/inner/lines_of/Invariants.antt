@@ -8,7 +8,8 @@ use Rattle.laying.specs.Lines.{Lined, Going}
 use Rattle.laying.proofs.inner.lines_of.Given as goal
 
 abbrev pub invariant-loop-at : goal.invariant-loop-at
-invariant-loop-at l = (l.at ≤ l.e) × (l.len ≤ 24) × WideGrid l.grid × ((cs : List (Con ℕ)) (names : List Bytes) → Lined l.s cs 0 l.e → Going names (colsIn l.k) l.s cs l.at l.e l.len l.grid)
+invariant-loop-at l = (l.at ≤ l.e) × (l.len ≤ 24) × WideGrid l.grid
+    × ((cs : List (Con ℕ)) (names : List Bytes) → Lined l.s cs 0 l.e → Going names (colsIn l.k) l.s cs l.at l.e l.len l.grid)
 
 abbrev pub decreases-loop-at : goal.decreases-loop-at
 decreases-loop-at l = l.e - l.at

@@ -19,4 +19,6 @@ pub returns : goal.returns
 returns c =
     let a = c.args in
     let g = c.args.names.good in
-    rw (marks-sort (get_or a.names.table.now 0 0) (good-laid g).few _ (basesIn a.s.now 0 a.e) (c.mark_bases.ensures [] marks-none) c.requires.held (numbers a.names.pool.now a.names.table.now) (numbered-lawful (names_of (table_of a.names.pool.now a.names.table.now))) (held_tells g)) at c.sort_names.ensures
+    rw (marks-sort (get_or a.names.table.now 0 0) (good-laid g).few _ (basesIn a.s.now 0 a.e) (c.mark_bases.ensures [] marks-none) c.requires.held
+    (numbers a.names.pool.now a.names.table.now) (numbered-lawful (names_of (table_of a.names.pool.now a.names.table.now))) (held_tells g)) at
+    c.sort_names.ensures

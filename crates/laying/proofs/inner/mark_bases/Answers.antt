@@ -17,7 +17,8 @@ loop-i-preserved c =
     let (ys, k, q) = c.loop-i.invariant xs h in (
       ys ++ option_to_list c.base_at.result,
       c.mark.ensures ys k,
-      ap (λ z. (ys ++ z) ++ basesIn a.s.now (i + 1) a.e) (c.base_at.ensures ∙ ap basesView c.view_at.ensures) ∙ append_assoc ys _ _ ∙ ap (ys ++◌) (sym (bases-step a.s.now i a.e c.loop-i-test.true)) ∙ q,
+      ap (λ z. (ys ++ z) ++ basesIn a.s.now (i + 1) a.e) (c.base_at.ensures ∙ ap basesView c.view_at.ensures) ∙ append_assoc ys _ _
+          ∙ ap (ys ++◌) (sym (bases-step a.s.now i a.e c.loop-i-test.true)) ∙ q,
     )
 
 pub returns : goal.returns

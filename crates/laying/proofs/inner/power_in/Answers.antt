@@ -38,11 +38,15 @@ pub returns-then-same_atom : goal.returns-then-same_atom
 returns-then-same_atom c p names h k =
     let a = c.args in
     c.from_words.ensures
-    ∙ sym (c.loop-i.invariant p names h k ∙ power-met names a.s.now p a.at c.loop-i.i a.a _ _ _ h (omega arith) (sym c.view_at.ensures ∙ c.in-Factor.is) (sym c.same_atom.ensures ∙ c.if-same_atom.true))
+    ∙ sym (c.loop-i.invariant p names h k
+    ∙ power-met names a.s.now p a.at c.loop-i.i a.a _ _ _ h (omega arith) (sym c.view_at.ensures ∙ c.in-Factor.is)
+    (sym c.same_atom.ensures ∙ c.if-same_atom.true))
 
 pub loop-i-preserved : goal.loop-i-preserved
 loop-i-preserved c p names h k =
-    let a = c.args in c.loop-i.invariant p names h k ∙ power-passed names a.s.now p a.at c.loop-i.i a.a _ _ _ h (omega arith) (sym c.view_at.ensures ∙ c.in-Factor.is) (sym c.same_atom.ensures ∙ c.if-same_atom.false)
+    let a = c.args in c.loop-i.invariant p names h k
+    ∙ power-passed names a.s.now p a.at c.loop-i.i a.a _ _ _ h (omega arith) (sym c.view_at.ensures ∙ c.in-Factor.is)
+    (sym c.same_atom.ensures ∙ c.if-same_atom.false)
 
 pub returns : goal.returns
 returns c p names h k =

@@ -8,4 +8,5 @@ use Rattle.rules.specs.Elimination.{powerIn}
 use Rattle.laying.proofs.inner.power_in.Given as goal
 
 abbrev pub invariant-loop-i : goal.invariant-loop-i
-invariant-loop-i l = (p : Tree) (names : List Bytes) → HoldsFactors l.s p l.at → length p ≡ l.n → powerIn (numbered names) p (atomOf l.a) ≡ powerIn (numbered names) (drop l.i p) (atomOf l.a)
+invariant-loop-i l = (p : Tree) (names : List Bytes) → HoldsFactors l.s p l.at → length p ≡ l.n
+    → powerIn (numbered names) p (atomOf l.a) ≡ powerIn (numbered names) (drop l.i p) (atomOf l.a)

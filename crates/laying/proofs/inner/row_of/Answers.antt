@@ -26,10 +26,15 @@ power_in-requires c = c.requires.place
 
 pub with_power-out-requires : goal.with_power-out-requires
 with_power-out-requires c =
-    let q = c.requires.held in record { wide = c.loop-j.invariant.0; column = omega (arith, laid-few c.args.k c.requires.laid, c.loop-j-test.true); power = subst (λ (e : Exp). goodExp e ≡ true) (sym (c.power_in.ensures q.0 [] q.1.held q.1.long)) (power-good [] q.0 _ q.1.good) }
+    let q = c.requires.held in record {
+      wide = c.loop-j.invariant.0;
+      column = omega (arith, laid-few c.args.k c.requires.laid, c.loop-j-test.true);
+      power = subst (λ (e : Exp). goodExp e ≡ true) (sym (c.power_in.ensures q.0 [] q.1.held q.1.long)) (power-good [] q.0 _ q.1.good);
+    }
 
 pub loop-j-preserved : goal.loop-j-preserved
-loop-j-preserved c = let this-power : (p : Tree) (names : List Bytes) → let a = c.args in HeldGood a.s.now a.at a.n p → expOf c.power_in.result ≡ get_or (row_of (numbered names) (colsIn a.k) p) c.loop-j.j nought = λ p names h.
+loop-j-preserved c = let this-power : (p : Tree) (names : List Bytes) → let a = c.args in HeldGood a.s.now a.at a.n p
+    → expOf c.power_in.result ≡ get_or (row_of (numbered names) (colsIn a.k) p) c.loop-j.j nought = λ p names h.
     c.power_in.ensures p names h.held h.long
     ∙ ap (powerIn (numbered names) p) c.atom_at.ensures
     ∙ row_at names (colsIn c.args.k) p c.loop-j.j (base 0) (omega (arith, cols-long c.args.k c.requires.laid, c.loop-j-test.true)) in (
@@ -37,9 +42,11 @@ loop-j-preserved c = let this-power : (p : Tree) (names : List Bytes) → let a 
       λ p names h.
           one_more c.loop-j.out c.with_power-out.result (row_of (numbered names) (colsIn c.args.k) p) c.loop-j.j (expOf c.power_in.result)
           (omega (arith, row-long names (colsIn c.args.k) p, cols-long c.args.k c.requires.laid, c.loop-j-test.true))
-          (omega (arith, row-long names (colsIn c.args.k) p, cols-long c.args.k c.requires.laid, laid-few c.args.k c.requires.laid)) (c.loop-j.invariant.1 p names h) (this-power p names h) c.with_power-out.ensures.0 c.with_power-out.ensures.1,
+          (omega (arith, row-long names (colsIn c.args.k) p, cols-long c.args.k c.requires.laid, laid-few c.args.k c.requires.laid))
+          (c.loop-j.invariant.1 p names h) (this-power p names h) c.with_power-out.ensures.0 c.with_power-out.ensures.1,
     )
 
 pub returns : goal.returns
 returns c p names h =
-    subst (RowIs c.loop-j.out) (take_all c.loop-j.j (row_of (numbered names) (colsIn c.args.k) p) (omega (arith, row-long names (colsIn c.args.k) p, cols-long c.args.k c.requires.laid, c.loop-j-test.false))) (c.loop-j.invariant.1 p names h)
+    subst (RowIs c.loop-j.out) (take_all c.loop-j.j (row_of (numbered names) (colsIn c.args.k) p)
+    (omega (arith, row-long names (colsIn c.args.k) p, cols-long c.args.k c.requires.laid, c.loop-j-test.false))) (c.loop-j.invariant.1 p names h)

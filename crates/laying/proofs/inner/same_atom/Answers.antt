@@ -18,4 +18,5 @@ unfolding sameAtom
 returns-else-rank c =
     let a = c.args in
     ne_eqb _ _ c.if-rank.false
-    ∙ sym (ap (λ (x : Bool). cond x (eqb (atomNumber a.a) (atomNumber a.b)) false) (ne_eqb _ _ (λ e. c.if-rank.false (c.rank.ensures ∙ e ∙ sym c.rank-2.ensures))))
+    ∙ sym (ap (λ (x : Bool). cond x (eqb (atomNumber a.a) (atomNumber a.b)) false)
+    (ne_eqb _ _ (λ e. c.if-rank.false (c.rank.ensures ∙ e ∙ sym c.rank-2.ensures))))

@@ -12,12 +12,23 @@ returns-then-line-gt-STEP_WORDS c = rw (lt-leb (length c.args.line.steps.now) 51
 
 pub returns-then-line-gt-RECORD_WORDS : goal.returns-then-line-gt-RECORD_WORDS
 unfolding lineShort shortLists shortNumbers all
-returns-then-line-gt-RECORD_WORDS c = rw (le-leb (length c.args.line.steps.now) 512 c.if-line-gt-STEP_WORDS.false, lt-leb (length c.args.line.types.now) 8192 c.if-line-gt-RECORD_WORDS.true)
+returns-then-line-gt-RECORD_WORDS c = rw (
+  le-leb (length c.args.line.steps.now) 512 c.if-line-gt-STEP_WORDS.false,
+  lt-leb (length c.args.line.types.now) 8192 c.if-line-gt-RECORD_WORDS.true,
+)
 
 pub returns-then-line-gt-RECORDS : goal.returns-then-line-gt-RECORDS
 unfolding lineShort shortLists shortNumbers all
-returns-then-line-gt-RECORDS c = rw (le-leb (length c.args.line.steps.now) 512 c.if-line-gt-STEP_WORDS.false, le-leb (length c.args.line.types.now) 8192 c.if-line-gt-RECORD_WORDS.false, lt-leb (length c.args.line.earlier.now) 2048 c.if-line-gt-RECORDS.true)
+returns-then-line-gt-RECORDS c = rw (
+  le-leb (length c.args.line.steps.now) 512 c.if-line-gt-STEP_WORDS.false,
+  le-leb (length c.args.line.types.now) 8192 c.if-line-gt-RECORD_WORDS.false,
+  lt-leb (length c.args.line.earlier.now) 2048 c.if-line-gt-RECORDS.true,
+)
 
 pub returns : goal.returns
 unfolding lineShort shortLists shortNumbers all
-returns c = rw (le-leb (length c.args.line.steps.now) 512 c.if-line-gt-STEP_WORDS.false, le-leb (length c.args.line.types.now) 8192 c.if-line-gt-RECORD_WORDS.false, le-leb (length c.args.line.earlier.now) 2048 c.if-line-gt-RECORDS.false)
+returns c = rw (
+  le-leb (length c.args.line.steps.now) 512 c.if-line-gt-STEP_WORDS.false,
+  le-leb (length c.args.line.types.now) 8192 c.if-line-gt-RECORD_WORDS.false,
+  le-leb (length c.args.line.earlier.now) 2048 c.if-line-gt-RECORDS.false,
+)

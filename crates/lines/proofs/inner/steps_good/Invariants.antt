@@ -8,4 +8,7 @@ use Rattle.lines.proofs.inner.steps_good.Given as goal
 
 abbrev pub invariant-loop-i : goal.invariant-loop-i
 invariant-loop-i l =
-    isGiven (each (stepGiven (table_of l.names.pool.now l.names.table.now) (recs l.line.types.now) l.line.earlier.now) (stepsFrom l.line.steps.now l.i)) ≡ isGiven (each (stepGiven (table_of l.names.pool.now l.names.table.now) (recs l.line.types.now) l.line.earlier.now) (stepsFrom l.line.steps.now 0))
+    isGiven (each (stepGiven (table_of l.names.pool.now l.names.table.now) (recs l.line.types.now) l.line.earlier.now)
+    (stepsFrom l.line.steps.now l.i))
+    ≡ isGiven (each (stepGiven (table_of l.names.pool.now l.names.table.now) (recs l.line.types.now) l.line.earlier.now)
+    (stepsFrom l.line.steps.now 0))

@@ -12,7 +12,8 @@ unfolding digestFrom
 loop-b-preserved c =
     let name = c.args.name.now in (
       omega (arith, c.with_byte-d.ensures.1),
-      rw (c.with_byte-d.ensures.0, add-one c.loop-b.b-index) (ap (digestFrom c.loop-b.d) (sym (drop-cons name c.loop-b.b-index 0 (omega arith))) ∙ c.loop-b.invariant.1),
+      rw (c.with_byte-d.ensures.0, add-one c.loop-b.b-index)
+          (ap (digestFrom c.loop-b.d) (sym (drop-cons name c.loop-b.b-index 0 (omega arith))) ∙ c.loop-b.invariant.1),
     )
 
 pub returns : goal.returns

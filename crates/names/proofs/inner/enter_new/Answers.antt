@@ -43,11 +43,19 @@ module _ {p t : List ℕ} (g : Good p t) (n : List ℕ) where
     no_bytes h = rw (room-is (good-laid g) n, ← number, lt-ltb k 256 few, lt-leb (start_at t k + length n) 8192 h)
 
     stored : (y : List ℕ) → start_at t k + length n ≤ 8192 → y ≡ n ++ drop (length n) (take (length p - start_at t k) (drop (start_at t k) p))
-        → entered (Ok (get_or t 0 0, New)) (take (start_at t k) p ++ (y ++ drop (length p - start_at t k) (drop (start_at t k) p))) (set (set t 0 (get_or t 0 0 + 1)) (k + 1) (start_at t k + length n))
+        → entered (Ok (get_or t 0 0, New)) (take (start_at t k) p ++ (y ++ drop (length p - start_at t k) (drop (start_at t k) p)))
+        (set (set t 0 (get_or t 0 0 + 1)) (k + 1) (start_at t k + length n))
         ≡ enterKnown none (hasRoom (table_of p t) n) p t n
     unfolding enterKnown
     stored y h e =
-        rw (room-is (good-laid g) n, ← number, lt-ltb k 256 few, le-leb (start_at t k + length n) 8192 h, back p n y (start_at t k) (omega (arith, g.bytes)) e, add-one k)
+        rw (
+          room-is (good-laid g) n,
+          ← number,
+          lt-ltb k 256 few,
+          le-leb (start_at t k + length n) 8192 h,
+          back p n y (start_at t k) (omega (arith, g.bytes)) e,
+          add-one k,
+        )
         (sym (rw (← number) at (new_is (good-laid g) n)))
 
 pub returns-then-k-ge-NAMES : goal.returns-then-k-ge-NAMES

@@ -27,7 +27,8 @@ module _ (at e : ℕ) (es : List ℕ) where
   passes h k = rw (lt-ltb at e h, le-leb e (at + 48) k)
 
 -- the ends from this turn's on
-turn : (table : List ℕ) (k at : ℕ) → 257 ≤ length table → get_or table 0 0 ≤ 256 → k < get_or table 0 0 → lengthsGood at (drop k (endsOf table)) ≡ lengthsGood 0 (endsOf table)
+turn : (table : List ℕ) (k at : ℕ) → 257 ≤ length table → get_or table 0 0 ≤ 256 → k < get_or table 0 0
+    → lengthsGood at (drop k (endsOf table)) ≡ lengthsGood 0 (endsOf table)
     → lengthsGood at (get_or table (k + 1) 0 ∷ drop (k + 1) (endsOf table)) ≡ lengthsGood 0 (endsOf table)
 turn table k at long few h e = rw (add-one k) (ap (lengthsGood at) (sym (ends-step table long few k h)) ∙ e)
 

@@ -14,7 +14,8 @@ record Part (first last size : ℕ) : Type 0 where
   within : last ≤ 8192
   bytes : 8192 ≤ size
 
-part : (pool table : List ℕ) (k start : ℕ) → Laid pool table → k < get_or table 0 0 → start ≡ start_at table k → Part start (get_or table (k + 1) 0) (length pool)
+part : (pool table : List ℕ) (k start : ℕ) → Laid pool table → k < get_or table 0 0 → start ≡ start_at table k
+    → Part start (get_or table (k + 1) 0) (length pool)
 part pool table k start laid h e =
     let p = placed laid k h in
     record { rises = rw (e, add-one k) p.rises; within = rw (add-one k) p.within; bytes = laid.bytes }

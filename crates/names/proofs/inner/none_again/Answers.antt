@@ -12,7 +12,8 @@ use Rattle.names.specs.Digests.{repeated, fresh}
 use Rattle.names.proofs.inner.none_again.Goals as goal
 
 -- the names from this turn's on
-turn : (names : List Bytes) (k : ℕ) → k < length names → distinct (drop k names) ≡ distinct names → distinct (get_or names k [] ∷ drop (k + 1) names) ≡ distinct names
+turn : (names : List Bytes) (k : ℕ) → k < length names → distinct (drop k names) ≡ distinct names
+    → distinct (get_or names k [] ∷ drop (k + 1) names) ≡ distinct names
 turn names k h e = rw (add-one k) (ap distinct (sym (drop-cons names k [] h)) ∙ e)
 
 pub returns-then-held_again : goal.returns-then-held_again

@@ -8,4 +8,5 @@ pub returns-in-Equal : goal.returns-in-Equal
 returns-in-Equal c = sym (hit _ _ (rw (c.in-Equal.is, c.name_at-2.ensures.bytes, c.name_at.ensures.bytes) at c.compare.ensures))
 
 pub returns-in-Less : goal.returns-in-Less
-returns-in-Less c = sym (missed _ _ c.compare.result (rw (c.name_at-2.ensures.bytes, c.name_at.ensures.bytes) at c.compare.ensures) (opened c.in-Less.in-Less-own.keys2))
+returns-in-Less c = sym (missed _ _ c.compare.result (rw (c.name_at-2.ensures.bytes, c.name_at.ensures.bytes) at c.compare.ensures)
+    (opened c.in-Less.in-Less-own.keys2))

@@ -36,13 +36,15 @@ overflow_cast-result c = omega (arith, c.requires.laid.few)
 
 pub returns-in-Equal : goal.returns-in-Equal
 returns-in-Equal c =
-    let told : toldOrder c.compare.result ≡ orderBytes c.args.name.now (part_of c.args.pool.now c.args.table.now c.loop-k.k) = rw (c.loop-k.invariant.0, add-one c.loop-k.k) at c.compare.ensures in
+    let told : toldOrder c.compare.result ≡ orderBytes c.args.name.now (part_of c.args.pool.now c.args.table.now c.loop-k.k) =
+    rw (c.loop-k.invariant.0, add-one c.loop-k.k) at c.compare.ensures in
     let step = ap (number_of c.loop-k.k c.args.name.now) (sym (names-step c.requires.laid c.loop-k.k (omega arith))) ∙ c.loop-k.invariant.1 in
     sym (search-hit _ _ _ _ (hit _ _ (rw c.in-Equal.is at (told)))) ∙ step
 
 pub loop-k-preserved : goal.loop-k-preserved
 loop-k-preserved c =
-    let told : toldOrder c.compare.result ≡ orderBytes c.args.name.now (part_of c.args.pool.now c.args.table.now c.loop-k.k) = rw (c.loop-k.invariant.0, add-one c.loop-k.k) at c.compare.ensures in
+    let told : toldOrder c.compare.result ≡ orderBytes c.args.name.now (part_of c.args.pool.now c.args.table.now c.loop-k.k) =
+    rw (c.loop-k.invariant.0, add-one c.loop-k.k) at c.compare.ensures in
     let step = ap (number_of c.loop-k.k c.args.name.now) (sym (names-step c.requires.laid c.loop-k.k (omega arith))) ∙ c.loop-k.invariant.1 in (
       rw (add-one c.loop-k.k) refl,
       rw (add-one c.loop-k.k) (sym (search-miss _ _ _ _ (missed _ _ c.compare.result (told) (opened c.in-Less.in-Less-own.keys2))) ∙ step),
@@ -52,5 +54,6 @@ pub returns : goal.returns
 unfolding number_of
 returns c =
     let e : c.loop-k.k ≡ get_or c.args.table.now 0 0 = omega arith in
-    sym (ap (number_of c.loop-k.k c.args.name.now) (ap (λ (k : ℕ). drop k (names_of (table_of c.args.pool.now c.args.table.now))) e ∙ names-end c.requires.laid))
+    sym (ap (number_of c.loop-k.k c.args.name.now)
+    (ap (λ (k : ℕ). drop k (names_of (table_of c.args.pool.now c.args.table.now))) e ∙ names-end c.requires.laid))
     ∙ c.loop-k.invariant.1

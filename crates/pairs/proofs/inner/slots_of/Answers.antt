@@ -28,4 +28,8 @@ returns-then-count-le-RECORDS c =
 pub returns-else-count-le-RECORDS : goal.returns-else-count-le-RECORDS
 returns-else-count-le-RECORDS c =
     let ws = c.args.pairs.now in
-    record { slots = all-noted ws _ c.loop-v.v (omega arith) c.loop-v.invariant; again = λ few. absurd (omega (arith, few, c.if-count-le-RECORDS.false)); many = count ws }
+    record {
+      slots = all-noted ws _ c.loop-v.v (omega arith) c.loop-v.invariant;
+      again = λ few. absurd (omega (arith, few, c.if-count-le-RECORDS.false));
+      many = count ws;
+    }

@@ -8,7 +8,10 @@ use Rattle.queries.specs.MarkLaws.{marks-none, unmixed-marks}
 use Rattle.queries.proofs.inner.apart.Goals as goal
 
 pub is_disjoint-requires : goal.is_disjoint-requires
-is_disjoint-requires c = record { v_len = (c.marks-2.ensures _ (c.marks.ensures [] marks-none)).long; p_len = (c.marks-4.ensures _ (c.marks-3.ensures [] marks-none)).long }
+is_disjoint-requires c = record {
+  v_len = (c.marks-2.ensures _ (c.marks.ensures [] marks-none)).long;
+  p_len = (c.marks-4.ensures _ (c.marks-3.ensures [] marks-none)).long;
+}
 
 pub returns : goal.returns
 returns c =

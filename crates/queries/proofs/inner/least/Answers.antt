@@ -30,7 +30,8 @@ loop-i-preserved c =
     let n = get_or a.names.table.now 0 0 in (
       omega arith,
       elim c.if-m-i.branch [
-        | then-m-i w ↦ rw (w.best-is, w.sooner-best.ensures) (taken nu law n (held_tells g) a.m.now h c.loop-i.i c.loop-i-test.true w.if-m-i.true c.loop-i.best c.loop-i.invariant.1)
+        | then-m-i w ↦ rw (w.best-is, w.sooner-best.ensures)
+            (taken nu law n (held_tells g) a.m.now h c.loop-i.i c.loop-i-test.true w.if-m-i.true c.loop-i.best c.loop-i.invariant.1)
         | else-m-i w ↦ rw w.best-is (skipped nu law n (held_tells g) a.m.now h c.loop-i.i w.if-m-i.false c.loop-i.best c.loop-i.invariant.1)
       ],
     )

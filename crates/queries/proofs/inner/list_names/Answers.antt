@@ -26,4 +26,5 @@ returns c =
     let n = get_or a.names.table.now 0 0 in
     let xs = choose a.k (opensIn a.s.now a.b a.e) in
     let k = c.marks.ensures [] marks-none in
-    rw (marks-sort n (good-laid g).few _ xs k c.requires.every (numbers a.names.pool.now a.names.table.now) (numbered-lawful (names_of (table_of a.names.pool.now a.names.table.now))) (held_tells g)) at c.sort_names.ensures
+    rw (marks-sort n (good-laid g).few _ xs k c.requires.every (numbers a.names.pool.now a.names.table.now)
+    (numbered-lawful (names_of (table_of a.names.pool.now a.names.table.now))) (held_tells g)) at c.sort_names.ensures

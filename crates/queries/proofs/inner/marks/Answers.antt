@@ -14,10 +14,17 @@ pub loop-i-preserved : goal.loop-i-preserved
 loop-i-preserved c =
     let a = c.args in
     let i = c.loop-i.i in
-    λ xs h. let (ys, k, q) = c.loop-i.invariant xs h in (ys ++ option_to_list c.name_at.result, c.mark.ensures ys k, ap (λ z. (ys ++ z) ++ choose a.k (opensIn a.s.now (i + 1) a.e)) c.name_at.ensures ∙ append_assoc ys _ _ ∙ ap (ys ++◌) (sym (names-step a.s.now i a.e c.loop-i-test.true a.k)) ∙ q)
+    λ xs h. let (ys, k, q) = c.loop-i.invariant xs h
+    in (
+      ys ++ option_to_list c.name_at.result,
+      c.mark.ensures ys k,
+      ap (λ z. (ys ++ z) ++ choose a.k (opensIn a.s.now (i + 1) a.e)) c.name_at.ensures ∙ append_assoc ys _ _
+          ∙ ap (ys ++◌) (sym (names-step a.s.now i a.e c.loop-i-test.true a.k)) ∙ q,
+    )
 
 pub returns : goal.returns
 returns c =
     let a = c.args in
     let i = c.loop-i.i in
-    λ xs h. let (ys, k, q) = c.loop-i.invariant xs h in let z = ap (ys ++◌) (ap (choose a.k) (opens-none a.s.now i a.e c.loop-i-test.false) ∙ choose-none a.k) ∙ append-nil ys in rw (← (sym z ∙ q)) k
+    λ xs h. let (ys, k, q) = c.loop-i.invariant xs h in let z =
+    ap (ys ++◌) (ap (choose a.k) (opens-none a.s.now i a.e c.loop-i-test.false) ∙ choose-none a.k) ∙ append-nil ys in rw (← (sym z ∙ q)) k

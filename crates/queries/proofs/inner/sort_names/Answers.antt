@@ -53,7 +53,8 @@ overflow_add-k c =
     let law = numbered-lawful (names_of (table_of a.names.pool.now a.names.table.now)) in
     let nu = numbers a.names.pool.now a.names.table.now in
     let n = get_or a.names.table.now 0 0 in
-    let f = sorting-few nu law n (held_tells g) a.m a.out.now c.loop-x.left c.loop-x.out c.loop-x.k h.long c.loop-x.invariant _ (rw c.in-Some.is at c.least.ensures) in
+    let f = sorting-few nu law n (held_tells g) a.m a.out.now c.loop-x.left c.loop-x.out c.loop-x.k h.long c.loop-x.invariant _
+    (rw c.in-Some.is at c.least.ensures) in
     omega (arith, f)
 
 pub loop-x-smaller : goal.loop-x-smaller
@@ -74,4 +75,5 @@ loop-x-preserved c =
     let law = numbered-lawful (names_of (table_of a.names.pool.now a.names.table.now)) in
     let nu = numbers a.names.pool.now a.names.table.now in
     let n = get_or a.names.table.now 0 0 in
-    rw c.put.ensures (sorting_step nu law n (held_tells g) a.m a.out.now c.loop-x.left c.loop-x.out c.loop-x.k h.long c.loop-x.invariant _ (rw c.in-Some.is at c.least.ensures) c.requires.in_bounds)
+    rw c.put.ensures (sorting_step nu law n (held_tells g) a.m a.out.now c.loop-x.left c.loop-x.out c.loop-x.k h.long c.loop-x.invariant _
+    (rw c.in-Some.is at c.least.ensures) c.requires.in_bounds)

@@ -8,4 +8,5 @@ pub returns : goal.returns
 returns c =
     let a = c.args in
     let s = a.s.now in
-    subst (Ends (GoodBinding a.names.pool.now a.names.table.now 0 s a.at)) (sym c.closed.ensures) (binding-closing a.names.pool.now a.names.table.now 0 s a.at c.binding_parts.result c.binding_parts.ensures)
+    subst (Ends (GoodBinding a.names.pool.now a.names.table.now 0 s a.at)) (sym c.closed.ensures)
+    (binding-closing a.names.pool.now a.names.table.now 0 s a.at c.binding_parts.result c.binding_parts.ensures)

@@ -8,4 +8,5 @@ pub returns : goal.returns
 returns c =
     let a = c.args in
     let s = a.s.now in
-    subst (Ends (GoodBound a.names.pool.now a.names.table.now a.q s a.at)) (sym c.closed.ensures) (bound-closing a.names.pool.now a.names.table.now a.q s a.at c.bound_parts.result c.bound_parts.ensures)
+    subst (Ends (GoodBound a.names.pool.now a.names.table.now a.q s a.at)) (sym c.closed.ensures)
+    (bound-closing a.names.pool.now a.names.table.now a.q s a.at c.bound_parts.result c.bound_parts.ensures)

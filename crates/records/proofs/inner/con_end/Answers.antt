@@ -8,4 +8,5 @@ pub returns : goal.returns
 returns c =
     let a = c.args in
     let s = a.s.now in
-    subst (Ends (GoodCon a.names.pool.now a.names.table.now 0 s a.at)) (sym c.closed.ensures) (con-closing a.names.pool.now a.names.table.now 0 s a.at c.con_parts.result c.con_parts.ensures)
+    subst (Ends (GoodCon a.names.pool.now a.names.table.now 0 s a.at)) (sym c.closed.ensures)
+    (con-closing a.names.pool.now a.names.table.now 0 s a.at c.con_parts.result c.con_parts.ensures)

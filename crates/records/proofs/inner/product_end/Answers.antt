@@ -8,4 +8,5 @@ pub returns : goal.returns
 returns c =
     let a = c.args in
     let s = a.s.now in
-    subst (Ends (GoodProduct a.names.pool.now a.names.table.now a.q s a.at)) (sym c.closed.ensures) (product-closing a.names.pool.now a.names.table.now a.q s a.at c.product_parts.result c.product_parts.ensures)
+    subst (Ends (GoodProduct a.names.pool.now a.names.table.now a.q s a.at)) (sym c.closed.ensures)
+    (product-closing a.names.pool.now a.names.table.now a.q s a.at c.product_parts.result c.product_parts.ensures)

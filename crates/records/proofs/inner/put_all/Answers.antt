@@ -10,4 +10,5 @@ returns-then-dst-i c = sym (sets-past c.args.v.now c.args.dst.now c.args.i (omeg
 pub returns : goal.returns
 returns c =
     let m = c.min-n.ensures in
-    part-cut c.args.v.now c.args.dst.now _ c.args.i c.min-n.result _ c.copy_from_slice.ensures.after (omega arith) (omega (arith, m, c.if-dst-i.false)) (omega (arith, m)) (λ h. omega (arith, m, h))
+    part-cut c.args.v.now c.args.dst.now _ c.args.i c.min-n.result _ c.copy_from_slice.ensures.after (omega arith)
+    (omega (arith, m, c.if-dst-i.false)) (omega (arith, m)) (λ h. omega (arith, m, h))

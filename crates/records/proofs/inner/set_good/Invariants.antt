@@ -7,7 +7,9 @@ use Rattle.records.proofs.inner.set_good.Given as goal
 
 abbrev pub invariant-loop-at : goal.invariant-loop-at
 invariant-loop-at l =
-    (l.n ≡ length l.s / 4) × (l.at ≤ l.n) × ((b : Bool) → Chained (GoodCon l.names.pool.now l.names.table.now 0 l.s) l.n l.at b → Chained (GoodCon l.names.pool.now l.names.table.now 0 l.s) l.n 0 b)
+    (l.n ≡ length l.s / 4) × (l.at ≤ l.n)
+    × ((b : Bool) → Chained (GoodCon l.names.pool.now l.names.table.now 0 l.s) l.n l.at b
+    → Chained (GoodCon l.names.pool.now l.names.table.now 0 l.s) l.n 0 b)
 
 abbrev pub decreases-loop-at : goal.decreases-loop-at
 decreases-loop-at l = l.n - l.at

@@ -42,4 +42,18 @@ pub returns-in-26 : goal.returns-in-26
 returns-in-26 c = simp c.in-26.is (c.plain_one.ensures ∙ ap (plain (c.args.c ∷ [])) c.scheme_shape.ensures)
 
 pub returns-in_default : goal.returns-in_default
-returns-in_default c = let r = c.in_default.in_default-own.rest in simp (ne_eqb _ _ r.0.0.0.0.0.0.0.0.0.0.0.1, ne_eqb _ _ r.0.0.0.0.0.0.0.0.0.0.1, ne_eqb _ _ r.0.0.0.0.0.0.0.0.0.1, ne_eqb _ _ r.0.0.0.0.0.0.0.0.1, ne_eqb _ _ r.0.0.0.0.0.0.0.1, ne_eqb _ _ r.0.0.0.0.0.0.1, ne_eqb _ _ r.0.0.0.0.0.1, ne_eqb _ _ r.0.0.0.0.1, ne_eqb _ _ r.0.0.0.1, ne_eqb _ _ r.0.0.1, ne_eqb _ _ r.0.1, ne_eqb _ _ r.1)
+returns-in_default c = let r = c.in_default.in_default-own.rest
+    in simp (
+      ne_eqb _ _ r.0.0.0.0.0.0.0.0.0.0.0.1,
+      ne_eqb _ _ r.0.0.0.0.0.0.0.0.0.0.1,
+      ne_eqb _ _ r.0.0.0.0.0.0.0.0.0.1,
+      ne_eqb _ _ r.0.0.0.0.0.0.0.0.1,
+      ne_eqb _ _ r.0.0.0.0.0.0.0.1,
+      ne_eqb _ _ r.0.0.0.0.0.0.1,
+      ne_eqb _ _ r.0.0.0.0.0.1,
+      ne_eqb _ _ r.0.0.0.0.1,
+      ne_eqb _ _ r.0.0.0.1,
+      ne_eqb _ _ r.0.0.1,
+      ne_eqb _ _ r.0.1,
+      ne_eqb _ _ r.1,
+    )

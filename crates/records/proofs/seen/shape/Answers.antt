@@ -45,4 +45,17 @@ returns-in-10 c = simp c.in-10.is c.plain_three-in-10.ensures
 
 pub returns-in_default : goal.returns-in_default
 unfolding view_of
-returns-in_default c = let r = c.in_default.in_default-own.rest in simp (ne_eqb _ _ r.0.0.0.0.0.0.0.0.0.1, ne_eqb _ _ r.0.0.0.0.0.0.0.0.1, ne_eqb _ _ r.0.0.0.0.0.0.0.1, ne_eqb _ _ r.0.0.0.0.0.0.1, ne_eqb _ _ r.0.0.0.0.0.1, ne_eqb _ _ r.0.0.0.0.1, ne_eqb _ _ r.0.0.0.1, ne_eqb _ _ r.0.0.1, ne_eqb _ _ r.0.1, ne_eqb _ _ r.1) c.other_shape.ensures
+returns-in_default c = let r = c.in_default.in_default-own.rest
+    in simp (
+      ne_eqb _ _ r.0.0.0.0.0.0.0.0.0.1,
+      ne_eqb _ _ r.0.0.0.0.0.0.0.0.1,
+      ne_eqb _ _ r.0.0.0.0.0.0.0.1,
+      ne_eqb _ _ r.0.0.0.0.0.0.1,
+      ne_eqb _ _ r.0.0.0.0.0.1,
+      ne_eqb _ _ r.0.0.0.0.1,
+      ne_eqb _ _ r.0.0.0.1,
+      ne_eqb _ _ r.0.0.1,
+      ne_eqb _ _ r.0.1,
+      ne_eqb _ _ r.1,
+    )
+    c.other_shape.ensures

@@ -16,7 +16,8 @@ loop-i-preserved c =
     let l = c.loop-i in
     let p = c.put in (
       p.auto.dst ∙ l.invariant.0,
-      fill_step (words_in a.file.now) l.dst p.new.dst l.i (omega (arith, words-in-length a.file.now)) (p.ensures ∙ ap (set l.dst l.i) c.word_at.ensures) l.invariant.1,
+      fill_step (words_in a.file.now) l.dst p.new.dst l.i (omega (arith, words-in-length a.file.now))
+          (p.ensures ∙ ap (set l.dst l.i) c.word_at.ensures) l.invariant.1,
     )
 
 pub shape_of-dst : goal.shape_of-dst

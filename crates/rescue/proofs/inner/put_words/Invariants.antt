@@ -7,4 +7,5 @@ use Rattle.rescue.proofs.inner.put_words.Given as goal
 
 abbrev pub invariant-loop-i : goal.invariant-loop-i
 invariant-loop-i l =
-    (length l.dst ≡ length l.initial.dst) × (sets l.dst (l.out + (l.i - l.b) * 4) (bytes_of (slice l.i l.e l.s)) ≡ sets l.initial.dst l.out (bytes_of (slice l.b l.e l.s)))
+    (length l.dst ≡ length l.initial.dst)
+    × (sets l.dst (l.out + (l.i - l.b) * 4) (bytes_of (slice l.i l.e l.s)) ≡ sets l.initial.dst l.out (bytes_of (slice l.b l.e l.s)))

@@ -23,4 +23,5 @@ returns c =
     let w = c.walk-walked in
     let n = c.note_torn in
     took _ c.args.file.now _ _ c.args.skipped.now w.new.skipped n.new.skipped w.result n.result
-    (subst (λ (v : List ℕ). Walked (piecesIn (table_of c.args.names.pool.now c.args.names.table.now) v) c.args.kept.now w.new.kept c.args.skipped.now w.new.skipped w.result) c.requires.words w.ensures) n.ensures
+    (subst (λ (v : List ℕ). Walked (piecesIn (table_of c.args.names.pool.now c.args.names.table.now) v) c.args.kept.now w.new.kept c.args.skipped.now
+    w.new.skipped w.result) c.requires.words w.ensures) n.ensures

@@ -12,4 +12,8 @@ pub take_pieces-requires : goal.take_pieces-requires
 take_pieces-requires c =
     let file = c.args.file.now in
     let n = length file / 4 - 0 in
-    record { short = c.requires; words = ap (take n) c.fill.ensures ∙ front _ (words_in file) n (omega (arith, words-in-length file)) (omega (arith, c.requires)) }
+    record {
+      short = c.requires;
+      words = ap (take n) c.fill.ensures
+          ∙ front _ (words_in file) n (omega (arith, words-in-length file)) (omega (arith, c.requires));
+    }

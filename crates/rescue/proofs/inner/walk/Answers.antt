@@ -26,8 +26,14 @@ found pool table s at e u =
 
 pub loop-at-init : goal.loop-at-init
 loop-at-init c =
-    let a = c.args in
-    (refl, omega arith, omega arith, refl, refl, left-start a.names.pool.now a.names.table.now a.s.now (record { word = λ i. (c.type_inv.s i).fits }) a.kept.now a.skipped.now)
+    let a = c.args in (
+      refl,
+      omega arith,
+      omega arith,
+      refl,
+      refl,
+      left-start a.names.pool.now a.names.table.now a.s.now (record { word = λ i. (c.type_inv.s i).fits }) a.kept.now a.skipped.now,
+    )
 
 pub overflow_mul-at : goal.overflow_mul-at
 overflow_mul-at c = let f : Found c.args.names.pool.now c.args.names.table.now c.args.s.now c.loop-at.at c.in-Some.e = found _ _ _ _ _ c.in-Some.ensures in
@@ -43,7 +49,12 @@ overflow_mul-k c = let f : Found c.args.names.pool.now c.args.names.table.now c.
 
 pub put_words-requires : goal.put_words-requires
 put_words-requires c = let f : Found c.args.names.pool.now c.args.names.table.now c.args.s.now c.loop-at.at c.in-Some.e = found _ _ _ _ _ c.in-Some.ensures in
-    record { turned = omega (arith, f.moves); within = omega (arith, f.within); few = omega (arith, c.requires); place = omega (arith, f.moves, f.within, c.loop-at.invariant.2, c.requires) }
+    record {
+      turned = omega (arith, f.moves);
+      within = omega (arith, f.within);
+      few = omega (arith, c.requires);
+      place = omega (arith, f.moves, f.within, c.loop-at.invariant.2, c.requires);
+    }
 
 pub overflow_sub-k : goal.overflow_sub-k
 overflow_sub-k c = let f : Found c.args.names.pool.now c.args.names.table.now c.args.s.now c.loop-at.at c.in-Some.e = found _ _ _ _ _ c.in-Some.ensures in
@@ -54,11 +65,13 @@ overflow_add-k c = let f : Found c.args.names.pool.now c.args.names.table.now c.
     omega (arith, f.moves, f.within, c.loop-at.invariant.2, c.requires)
 
 pub loop-at-smaller-in-Some : goal.loop-at-smaller-in-Some
-loop-at-smaller-in-Some c = let f : Found c.args.names.pool.now c.args.names.table.now c.args.s.now c.loop-at.at c.in-Some.e = found _ _ _ _ _ c.in-Some.ensures in
+loop-at-smaller-in-Some c = let f : Found c.args.names.pool.now c.args.names.table.now c.args.s.now c.loop-at.at c.in-Some.e =
+    found _ _ _ _ _ c.in-Some.ensures in
     omega (arith, f.moves, f.within)
 
 pub loop-at-preserved-in-Some : goal.loop-at-preserved-in-Some
-loop-at-preserved-in-Some c = let f : Found c.args.names.pool.now c.args.names.table.now c.args.s.now c.loop-at.at c.in-Some.e = found _ _ _ _ _ c.in-Some.ensures in
+loop-at-preserved-in-Some c = let f : Found c.args.names.pool.now c.args.names.table.now c.args.s.now c.loop-at.at c.in-Some.e =
+    found _ _ _ _ _ c.in-Some.ensures in
     let words32 : Words32 c.args.s.now = record { word = λ i. (c.type_inv.s i).fits } in
     let a = c.args in
     let l = c.loop-at in

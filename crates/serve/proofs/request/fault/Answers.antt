@@ -22,9 +22,19 @@ parts-requires c = fits _ (rw c.excess.ensures at c.if-excess-gt0.false)
 pub returns-then-h-parts : goal.returns-then-h-parts
 unfolding faultOf
 returns-then-h-parts c =
-    simp (le-ltb _ _ c.if-h-lt1.false, le-ltb _ _ c.if-h-gt-LAST.false, le-ltb _ _ (rw c.excess.ensures at c.if-excess-gt0.false), eq-eqb _ _ (c.if-h-parts.true ∙ c.parts.ensures))
+    simp (
+      le-ltb _ _ c.if-h-lt1.false,
+      le-ltb _ _ c.if-h-gt-LAST.false,
+      le-ltb _ _ (rw c.excess.ensures at c.if-excess-gt0.false),
+      eq-eqb _ _ (c.if-h-parts.true ∙ c.parts.ensures),
+    )
 
 pub returns-else-h-parts : goal.returns-else-h-parts
 unfolding faultOf
 returns-else-h-parts c =
-    simp (le-ltb _ _ c.if-h-lt1.false, le-ltb _ _ c.if-h-gt-LAST.false, le-ltb _ _ (rw c.excess.ensures at c.if-excess-gt0.false), ne_eqb _ _ (λ e. c.if-h-parts.false (e ∙ sym c.parts.ensures)))
+    simp (
+      le-ltb _ _ c.if-h-lt1.false,
+      le-ltb _ _ c.if-h-gt-LAST.false,
+      le-ltb _ _ (rw c.excess.ensures at c.if-excess-gt0.false),
+      ne_eqb _ _ (λ e. c.if-h-parts.false (e ∙ sym c.parts.ensures)),
+    )

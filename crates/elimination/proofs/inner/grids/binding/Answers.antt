@@ -14,7 +14,8 @@ use Rattle.elimination.specs.Machine.{Went, firstRow, went-refused, went-refused
 use Rattle.elimination.proofs.inner.grids.binding.Goals as goal
 
 -- the machine's first row is the row that binds
-first : (m : Machine) (r : code.Row) (c x : ℕ) (cols : List (Atom ℕ)) → fate cols (row_in r) ≡ binds c x → firstRow m ≡ row_in r → fate cols (firstRow m) ≡ binds c x
+first : (m : Machine) (r : code.Row) (c x : ℕ) (cols : List (Atom ℕ)) → fate cols (row_in r) ≡ binds c x → firstRow m ≡ row_in r
+    → fate cols (firstRow m) ≡ binds c x
 first m r c x cols e i = ap (fate cols) i ∙ e
 
 solved : (m : Machine) (r : code.Row) (c : ℕ) (s : Got Row) → firstRow m ≡ row_in r → s ≡ solvedFor c (row_in r) → solvedFor c (firstRow m) ≡ s
@@ -24,21 +25,24 @@ pub returns-in_err-w : goal.returns-in_err-w
 returns-in_err-w c cols e i =
     let a = c.args in
     let p = err_from_is_err_and c.from_residual.result c.from_residual.ensures.1 in
-    rw (p.1, p.2) (went-refused a.m c.requires.running c.requires.left cols a.c a.x (first a.m a.r a.c a.x cols e i) _ (solved a.m a.r a.c _ i c.in_err-w.ensures.is))
+    rw (p.1, p.2) (went-refused a.m c.requires.running c.requires.left cols a.c a.x (first a.m a.r a.c a.x cols e i) _
+    (solved a.m a.r a.c _ i c.in_err-w.ensures.is))
 
 pub returns-in_err-rows : goal.returns-in_err-rows
 returns-in_err-rows c cols e i =
     let a = c.args in
     let p = err_from_is_err_and c.from_residual-in_err-rows.result c.from_residual-in_err-rows.ensures.1 in
     rw (p.1, p.2)
-    (went-refused-rows a.m c.requires.running c.requires.left cols a.c a.x (first a.m a.r a.c a.x cols e i) _ _ (solved a.m a.r a.c _ i c.in_ok-w.ensures.is) (sym c.in_err-rows.ensures.is))
+    (went-refused-rows a.m c.requires.running c.requires.left cols a.c a.x (first a.m a.r a.c a.x cols e i) _ _
+    (solved a.m a.r a.c _ i c.in_ok-w.ensures.is) (sym c.in_err-rows.ensures.is))
 
 pub returns-in_err-values : goal.returns-in_err-values
 returns-in_err-values c cols e i =
     let a = c.args in
     let p = err_from_is_err_and c.from_residual-in_err-values.result c.from_residual-in_err-values.ensures.1 in
     rw (p.1, p.2)
-    (went-refused-values a.m c.requires.running c.requires.left cols a.c a.x (first a.m a.r a.c a.x cols e i) _ _ _ (solved a.m a.r a.c _ i c.in_ok-w.ensures.is)
+    (went-refused-values a.m c.requires.running c.requires.left cols a.c a.x (first a.m a.r a.c a.x cols e i) _ _ _
+    (solved a.m a.r a.c _ i c.in_ok-w.ensures.is)
     (sym c.in_ok-rows.ensures.is) (sym c.in_err-values.ensures.is))
 
 pub returns : goal.returns

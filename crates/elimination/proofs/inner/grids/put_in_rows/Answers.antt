@@ -12,7 +12,8 @@ use Rattle.elimination.specs.Grids.{rowsIn, grid-long, start, onward, stop, done
 use Rattle.elimination.proofs.inner.grids.put_in_rows.Goals as goal
 
 -- the row at a place of a part, put into
-row-here : (f : Row → Got Row) (rows : List Row) (s m i : ℕ) (r : Row) (q : Got Row) → s + m ≤ length rows → i < m → r ≡ get_or rows (s + i) [] → q ≡ f r → f (get_or (take m (drop s rows)) i []) ≡ q
+row-here : (f : Row → Got Row) (rows : List Row) (s m i : ℕ) (r : Row) (q : Got Row) → s + m ≤ length rows → i < m → r ≡ get_or rows (s + i) []
+    → q ≡ f r → f (get_or (take m (drop s rows)) i []) ≡ q
 row-here f rows s m i r q h k e j = ap f (part_at rows s m h i [] k ∙ sym e) ∙ sym j
 
 pub loop-i-init : goal.loop-i-init
@@ -40,5 +41,6 @@ pub returns-clause-is : goal.returns-clause-is
 returns-clause-is c =
     let a = c.args in
     let i : c.loop-i.i ≡ a.m = omega arith in
-    sym (done _ _ c.loop-i.i (rowsIn c.loop-i.out) c.loop-i.invariant.1 (omega (arith, part-long (rowsIn a.g) a.s a.m (omega (arith, grid-long a.g c.requires.wide_grid, c.requires.places))))
+    sym (done _ _ c.loop-i.i (rowsIn c.loop-i.out) c.loop-i.invariant.1
+    (omega (arith, part-long (rowsIn a.g) a.s a.m (omega (arith, grid-long a.g c.requires.wide_grid, c.requires.places))))
     ∙ ap (λ (k : ℕ). got (take k (rowsIn c.loop-i.out))) i)

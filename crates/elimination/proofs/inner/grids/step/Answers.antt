@@ -10,7 +10,20 @@ use Rattle.elimination.specs.declared.inner.rows.Row.{Row}
 use Rattle.rules.specs.Elimination.{fate, gone, stays, binds}
 use Rattle.elimination.specs.Told.{row_in, Wide}
 use Rattle.elimination.specs.Grids.{First, rowsIn}
-use Rattle.elimination.specs.Machine.{namesIn, colsIn, Laid, laid-few, names-long, variable-name, Went, went-dropped, went-keeping, fate-none, fate-other, fate-variable}
+use Rattle.elimination.specs.Machine.{
+  namesIn,
+  colsIn,
+  Laid,
+  laid-few,
+  names-long,
+  variable-name,
+  Went,
+  went-dropped,
+  went-keeping,
+  fate-none,
+  fate-other,
+  fate-variable,
+}
 use Rattle.elimination.proofs.inner.grids.step.Goals as goal
 
 -- what becomes of the row, where its first power that isn't 0 is in column j
@@ -39,7 +52,10 @@ module _ (k : Columns) (l : Laid k) (r : Row) (w : Wide r) (j : ℕ) (f : First 
 
 pub returns-then-k-c : goal.returns-then-k-c
 returns-then-k-c c =
-    subst (λ (q : Machine). Went (colsIn c.args.k) c.args.m (Ok q)) (sym c.dropped.ensures) (went-dropped c.args.m c.requires.running c.requires.left (colsIn c.args.k) (ap (fate (colsIn c.args.k)) (sym c.row_at-r.ensures.1) ∙ none-there c.args.k c.requires.laid c.row_at-r.result c.row_at-r.ensures.0 c.first_in-c.result c.first_in-c.ensures c.if-k-c.true))
+    subst (λ (q : Machine). Went (colsIn c.args.k) c.args.m (Ok q)) (sym c.dropped.ensures)
+    (went-dropped c.args.m c.requires.running c.requires.left (colsIn c.args.k)
+    (ap (fate (colsIn c.args.k)) (sym c.row_at-r.ensures.1)
+    ∙ none-there c.args.k c.requires.laid c.row_at-r.result c.row_at-r.ensures.0 c.first_in-c.result c.first_in-c.ensures c.if-k-c.true))
 
 pub binding-requires : goal.binding-requires
 binding-requires c =
@@ -47,10 +63,15 @@ binding-requires c =
 
 pub returns-then-c-k : goal.returns-then-c-k
 returns-then-c-k c =
-    c.binding.ensures (colsIn c.args.k) (variable-there c.args.k c.requires.laid c.row_at-r.result c.row_at-r.ensures.0 c.first_in-c.result c.first_in-c.ensures (omega arith) (omega arith)) (sym c.row_at-r.ensures.1)
+    c.binding.ensures (colsIn c.args.k) (variable-there c.args.k c.requires.laid c.row_at-r.result c.row_at-r.ensures.0 c.first_in-c.result
+    c.first_in-c.ensures (omega arith) (omega arith)) (sym c.row_at-r.ensures.1)
 
 pub returns : goal.returns
 returns c =
     let b = c.keeping.ensures in
     subst (λ (q : Machine). Went (colsIn c.args.k) c.args.m (Ok q)) (sym b.1.2)
-    (went-keeping c.args.m c.requires.running c.requires.left (colsIn c.args.k) b.0 b.1.0 (b.1.1 ∙ ap (set (rowsIn c.args.m.kept) c.args.m.stay) c.row_at-r.ensures.1) (ap (fate (colsIn c.args.k)) (sym c.row_at-r.ensures.1) ∙ other-there c.args.k c.requires.laid c.row_at-r.result c.row_at-r.ensures.0 c.first_in-c.result c.first_in-c.ensures (omega arith) (omega arith)))
+    (went-keeping c.args.m c.requires.running c.requires.left (colsIn c.args.k) b.0 b.1.0
+    (b.1.1 ∙ ap (set (rowsIn c.args.m.kept) c.args.m.stay) c.row_at-r.ensures.1)
+    (ap (fate (colsIn c.args.k)) (sym c.row_at-r.ensures.1)
+    ∙ other-there c.args.k c.requires.laid c.row_at-r.result c.row_at-r.ensures.0 c.first_in-c.result c.first_in-c.ensures (omega arith)
+    (omega arith)))

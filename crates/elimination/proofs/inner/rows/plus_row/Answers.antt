@@ -31,7 +31,10 @@ pub loop-j-init : goal.loop-j-init
 loop-j-init c = start _ _ c.args.a c.requires.left
 
 pub sum_of-requires : goal.sum_of-requires
-sum_of-requires c = (rw c.power_at.ensures (wide_at c.args.a c.loop-j.j c.requires.left (omega arith)), rw c.power_at-in-loop-j.ensures (wide_at c.args.b c.loop-j.j c.requires.right (omega arith)))
+sum_of-requires c = (
+  rw c.power_at.ensures (wide_at c.args.a c.loop-j.j c.requires.left (omega arith)),
+  rw c.power_at-in-loop-j.ensures (wide_at c.args.b c.loop-j.j c.requires.right (omega arith)),
+)
 
 pub returns-in_err-e-clause-is : goal.returns-in_err-e-clause-is
 returns-in_err-e-clause-is c =
@@ -40,19 +43,22 @@ returns-in_err-e-clause-is c =
     let stepped = summed a.a a.b c.loop-j.j _ _ _ c.requires.left c.requires.right c.power_at.ensures c.power_at-in-loop-j.ensures c.in_err-e.ensures in
     rw (p.1, p.2)
     (sym (plus-each (row_in a.a) (row_in a.b) (as_long a.a a.b c.requires.left c.requires.right)
-    ∙ stop _ (pairUp (row_in a.a) (row_in a.b)) c.loop-j.j (nought, nought) (omega (arith, pairs-long a.a a.b c.requires.left c.requires.right)) c.loop-j.out _ c.loop-j.invariant stepped))
+    ∙ stop _ (pairUp (row_in a.a) (row_in a.b)) c.loop-j.j (nought, nought) (omega (arith, pairs-long a.a a.b c.requires.left c.requires.right))
+    c.loop-j.out _ c.loop-j.invariant stepped))
 
 pub with_power-out-requires : goal.with_power-out-requires
 with_power-out-requires c =
     let of-a : goodExp (expOf c.power_at.result) ≡ true = rw c.power_at.ensures (wide_at c.args.a c.loop-j.j c.requires.left (omega arith)) in
-    let of-b : goodExp (expOf c.power_at-in-loop-j.result) ≡ true = rw c.power_at-in-loop-j.ensures (wide_at c.args.b c.loop-j.j c.requires.right (omega arith)) in
+    let of-b : goodExp (expOf c.power_at-in-loop-j.result) ≡ true =
+    rw c.power_at-in-loop-j.ensures (wide_at c.args.b c.loop-j.j c.requires.right (omega arith)) in
     record { wide = c.loop-j.invariant.wide; column = omega arith; power = (sum-good _ _ of-a of-b).holds _ (sym c.in_ok-e.ensures) }
 
 pub loop-j-preserved : goal.loop-j-preserved
 loop-j-preserved c =
     let a = c.args in
     let stepped = summed a.a a.b c.loop-j.j _ _ _ c.requires.left c.requires.right c.power_at.ensures c.power_at-in-loop-j.ensures c.in_ok-e.ensures in
-    onward _ (pairUp (row_in a.a) (row_in a.b)) c.loop-j.j (nought, nought) (omega (arith, pairs-long a.a a.b c.requires.left c.requires.right)) c.loop-j.out c.with_power-out.result _ c.loop-j.invariant (omega arith)
+    onward _ (pairUp (row_in a.a) (row_in a.b)) c.loop-j.j (nought, nought) (omega (arith, pairs-long a.a a.b c.requires.left c.requires.right))
+    c.loop-j.out c.with_power-out.result _ c.loop-j.invariant (omega arith)
     stepped c.with_power-out.ensures.0 c.with_power-out.ensures.1
 
 pub returns-clause-is : goal.returns-clause-is

@@ -6,7 +6,8 @@ use Rattle.handing.proofs.inner.bounds.put_bound.Goals as goal
 pub returns-in-Open : goal.returns-in-Open
 returns-in-Open c = λ f l.
     let a = c.args in
-    bound-written c.in-Open.u (bound-found f (openOf a.o) a.all (openOf c.in-Open.u) (sym (l (openOf a.o)) ∙ sym c.in-Some.ensures) c.in-Open.ensures) c.put.ensures
+    bound-written c.in-Open.u (bound-found f (openOf a.o) a.all (openOf c.in-Open.u) (sym (l (openOf a.o)) ∙ sym c.in-Some.ensures)
+    c.in-Open.ensures) c.put.ensures
 
 pub unreachable-requires : goal.unreachable-requires
 unreachable-requires c =
@@ -18,7 +19,8 @@ pub returns-then-all : goal.returns-then-all
 returns-then-all c = λ f l.
     let a = c.args in
     bound-written a.o
-    (bound-kept f (openOf a.o) a.all (sym (l (openOf a.o)) ∙ sym c.in-None.ensures) ∙ ap (λ (b : Bool). ifAll b (openOf a.o)) c.if-all.true) c.put-then-all.ensures
+    (bound-kept f (openOf a.o) a.all (sym (l (openOf a.o)) ∙ sym c.in-None.ensures) ∙ ap (λ (b : Bool). ifAll b (openOf a.o)) c.if-all.true)
+    c.put-then-all.ensures
 
 pub returns-else-all : goal.returns-else-all
 returns-else-all c = λ f l.

@@ -15,12 +15,20 @@ quantify_name-requires c = let i = c.loop-i.i in c.requires.by_index (i - 1) (om
 pub loop-i-preserved : goal.loop-i-preserved
 loop-i-preserved c =
     let l = c.loop-i in
-    let n = c.args.names.now in
-    (omega arith, (quant-places n l.i (l.i - 1) (omega arith) (omega arith) _ _ _ l.invariant.1.0 c.quantify_name.ensures.0, quant-types n l.i (l.i - 1) (omega arith) (omega arith) _ _ _ l.invariant.1.1 c.quantify_name.ensures.1))
+    let n = c.args.names.now in (
+      omega arith,
+      (
+        quant-places n l.i (l.i - 1) (omega arith) (omega arith) _ _ _ l.invariant.1.0 c.quantify_name.ensures.0,
+        quant-types n l.i (l.i - 1) (omega arith) (omega arith) _ _ _ l.invariant.1.1 c.quantify_name.ensures.1,
+      ),
+    )
 
 pub returns : goal.returns
 returns c =
     let l = c.loop-i in
     let a = c.args in
-    let e : l.i ≡ 0 = omega arith in
-    (l.invariant.1.0 ∙ ap (λ (k : ℕ). quantPlaces (drop k a.names.now) a.places.now) e, l.invariant.1.1 ∙ ap (λ (k : ℕ). quantTypes k (drop k a.names.now) a.v.now) e)
+    let e : l.i ≡ 0 = omega arith in (
+      l.invariant.1.0 ∙ ap (λ (k : ℕ). quantPlaces (drop k a.names.now) a.places.now) e,
+      l.invariant.1.1
+          ∙ ap (λ (k : ℕ). quantTypes k (drop k a.names.now) a.v.now) e,
+    )

@@ -18,7 +18,11 @@ use Rattle.instantiating.specs.Ready.{back-tables, own-tables, came, first-stopp
 use Rattle.instantiating.proofs.inner.instantiating.put_back.Goals as goal
 
 pub put_names_back-requires : goal.put_names_back-requires
-put_names_back-requires c = let (bs, y) = c.requires.ready in record { names_len_bound = y.names-few; by_index = (λ i h. let k = y.names-held _ (at_in _ i h) in let f = (good-laid y.good).few in omega arith) }
+put_names_back-requires c = let (bs, y) = c.requires.ready
+    in record {
+      names_len_bound = y.names-few;
+      by_index = (λ i h. let k = y.names-held _ (at_in _ i h) in let f = (good-laid y.good).few in omega arith);
+    }
 
 pub keep_names-requires : goal.keep_names-requires
 keep_names-requires c = let (bs, y) = c.requires.ready in let f = (good-laid y.good).few in let e = c.count.ensures in omega arith
@@ -67,7 +71,8 @@ invariant_of-read c =
     let p = c.put_names_back.new.places in
     let v = c.keep_names.new.v in
     let l = back-tables n.pool.now n.table.now h _ y.good c.count.ensures _ _ y.names-held y.names-few c.put_names_back.ensures c.keep_names.ensures.1 in
-    let once = came (type-as n.pool.now n.table.now s p v c.replace_type-arg-1.given.0 (renamed (back h), l) refl (told c.in_ok-replace_type.was c.replace_type.ensures)) in
+    let once = came (type-as n.pool.now n.table.now s p v c.replace_type-arg-1.given.0 (renamed (back h), l) refl
+    (told c.in_ok-replace_type.was c.replace_type.ensures)) in
     let held = first-held n.pool.now n.table.now h s c.args.work.now c.args.t.tree.0 bs y once refl (omega (arith, length-replicate {A = ℕ} 8192 0)) in
     let between : c.between-2-1.given.0 ≡ c.replace_type.new.out.words.now = search rules in
     record {
@@ -84,7 +89,8 @@ replace_type-requires-2 c =
     let p = c.put_names_back.new.places in
     let v = c.keep_names.new.v in
     let l = back-tables n.pool.now n.table.now h _ y.good c.count.ensures _ _ y.names-held y.names-few c.put_names_back.ensures c.keep_names.ensures.1 in
-    let once = came (type-as n.pool.now n.table.now s p v c.replace_type-arg-1.given.0 (renamed (back h), l) refl (told c.in_ok-replace_type.was c.replace_type.ensures)) in
+    let once = came (type-as n.pool.now n.table.now s p v c.replace_type-arg-1.given.0 (renamed (back h), l) refl
+    (told c.in_ok-replace_type.was c.replace_type.ensures)) in
     let held = first-held n.pool.now n.table.now h s c.args.work.now c.args.t.tree.0 bs y once refl (omega (arith, length-replicate {A = ℕ} 8192 0)) in
     let between : c.between-2-1.given.0 ≡ c.replace_type.new.out.words.now = search rules in
     let u = c.replace_type-arg-3-1.given.1.0 in
@@ -100,12 +106,14 @@ returns-in_err-replace_type-2 c = λ bs y.
     let v = c.keep_names.new.v in
     let l = back-tables n.pool.now n.table.now h _ y.good c.count.ensures _ _ y.names-held y.names-few c.put_names_back.ensures c.keep_names.ensures.1 in
     let o = own-tables n.pool.now n.table.now h _ y.good c.count.ensures _ _ c.keep_names.ensures.0 c.keep_names.ensures.1 in
-    let once = came (type-as n.pool.now n.table.now s p v c.replace_type-arg-1.given.0 (renamed (back h), l) refl (told c.in_ok-replace_type.was c.replace_type.ensures)) in
+    let once = came (type-as n.pool.now n.table.now s p v c.replace_type-arg-1.given.0 (renamed (back h), l) refl
+    (told c.in_ok-replace_type.was c.replace_type.ensures)) in
     let held = first-held n.pool.now n.table.now h s c.args.work.now c.args.t.tree.0 bs y once refl (omega (arith, length-replicate {A = ℕ} 8192 0)) in
     let between : c.between-2-1.given.0 ≡ c.replace_type.new.out.words.now = search rules in
     let u = c.replace_type-arg-3-1.given.1.0 in
     let one = only c.between-2-1.given.0 u.0 once.value 0 u.1 (rw between held.held) in
-    let again = type-as n.pool.now n.table.now s c.keep_names.new.places v c.replace_type-arg-2-1.given.0 (renamed (own (is_held (table_of n.pool.now n.table.now))), o) one
+    let again = type-as n.pool.now n.table.now s c.keep_names.new.places v c.replace_type-arg-2-1.given.0
+    (renamed (own (is_held (table_of n.pool.now n.table.now))), o) one
     (told c.in_err-replace_type-2.was c.replace_type-2.ensures) in
     let k = err_from_is_err_and c.from_residual-in_err-replace_type-2.result c.from_residual-in_err-replace_type-2.ensures.1 in
     rw (k.1, k.2) (second-stopped n.pool.now n.table.now h s c.args.work.now c.args.t.tree.0 bs y once _ again)
@@ -130,12 +138,14 @@ returns c = λ bs y.
     let v = c.keep_names.new.v in
     let l = back-tables n.pool.now n.table.now h _ y.good c.count.ensures _ _ y.names-held y.names-few c.put_names_back.ensures c.keep_names.ensures.1 in
     let o = own-tables n.pool.now n.table.now h _ y.good c.count.ensures _ _ c.keep_names.ensures.0 c.keep_names.ensures.1 in
-    let once = came (type-as n.pool.now n.table.now s p v c.replace_type-arg-1.given.0 (renamed (back h), l) refl (told c.in_ok-replace_type.was c.replace_type.ensures)) in
+    let once = came (type-as n.pool.now n.table.now s p v c.replace_type-arg-1.given.0 (renamed (back h), l) refl
+    (told c.in_ok-replace_type.was c.replace_type.ensures)) in
     let held = first-held n.pool.now n.table.now h s c.args.work.now c.args.t.tree.0 bs y once refl (omega (arith, length-replicate {A = ℕ} 8192 0)) in
     let between : c.between-2-1.given.0 ≡ c.replace_type.new.out.words.now = search rules in
     let u = c.replace_type-arg-3-1.given.1.0 in
     let one = only c.between-2-1.given.0 u.0 once.value 0 u.1 (rw between held.held) in
-    let again = type-as n.pool.now n.table.now s c.keep_names.new.places v c.replace_type-arg-2-1.given.0 (renamed (own (is_held (table_of n.pool.now n.table.now))), o) one
+    let again = type-as n.pool.now n.table.now s c.keep_names.new.places v c.replace_type-arg-2-1.given.0
+    (renamed (own (is_held (table_of n.pool.now n.table.now))), o) one
     (told c.in_ok-replace_type-2.was c.replace_type-2.ensures) in
     let place = subst (BoundsAt s bs) (sym (c.end.ensures ∙ ap (λ (k : ℕ). k + size c.args.t.tree.0) c.requires.first)) y.listed in
     let b = c.put_bounds.ensures bs (back h) place (same-look n.pool.now n.table.now p v c.put_bounds-arg-2-1.given.0 (renamed (back h), l)) in

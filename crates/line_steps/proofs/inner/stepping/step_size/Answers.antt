@@ -7,13 +7,16 @@ pub returns-in-1 : goal.returns-in-1
 returns-in-1 c = let g = c.args in λ x. size-constant g.line.types.now g.line.earlier.now g.step.kind g.step.a g.step.b x _ c.in-1.is c.given_size.ensures
 
 pub returns-in-2 : goal.returns-in-2
-returns-in-2 c = let g = c.args in λ x. size-reference g.line.types.now g.line.earlier.now g.step.kind g.step.a g.step.b x _ c.place_of.result c.place_of.ensures c.in-2.is c.given_size-in-2.ensures
+returns-in-2 c = let g = c.args in λ x. size-reference g.line.types.now g.line.earlier.now g.step.kind g.step.a g.step.b x _ c.place_of.result
+    c.place_of.ensures c.in-2.is c.given_size-in-2.ensures
 
 pub returns-then-step-eq0 : goal.returns-then-step-eq0
-returns-then-step-eq0 c = let g = c.args in λ x. size-scalar g.line.types.now g.line.earlier.now g.step.kind g.step.a g.step.b x 5 c.in-7.is c.if-step-eq0.true refl
+returns-then-step-eq0 c = let g = c.args
+    in λ x. size-scalar g.line.types.now g.line.earlier.now g.step.kind g.step.a g.step.b x 5 c.in-7.is c.if-step-eq0.true refl
 
 pub returns-else-step-eq0 : goal.returns-else-step-eq0
-returns-else-step-eq0 c = let g = c.args in λ x. size-power g.line.types.now g.line.earlier.now g.step.kind g.step.a g.step.b x 6 c.in-7.is c.if-step-eq0.false refl
+returns-else-step-eq0 c = let g = c.args
+    in λ x. size-power g.line.types.now g.line.earlier.now g.step.kind g.step.a g.step.b x 6 c.in-7.is c.if-step-eq0.false refl
 
 pub returns-in-9 : goal.returns-in-9
 returns-in-9 c = let g = c.args in λ x. size-choose g.line.types.now g.line.earlier.now g.step.kind g.step.a g.step.b x 9 c.in-9.is refl

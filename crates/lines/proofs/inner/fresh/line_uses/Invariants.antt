@@ -6,4 +6,5 @@ use Rattle.lines.specs.Used.{namesWord}
 use Rattle.lines.proofs.inner.fresh.line_uses.Given as goal
 
 abbrev pub invariant-loop-i : goal.invariant-loop-i
-invariant-loop-i l = any (eqb l.x) (collect (namesWord l.types l.lines) (stepsFrom l.steps l.i)) ≡ any (eqb l.x) (collect (namesWord l.types l.lines) (stepsFrom l.steps 0))
+invariant-loop-i l = any (eqb l.x) (collect (namesWord l.types l.lines) (stepsFrom l.steps l.i))
+    ≡ any (eqb l.x) (collect (namesWord l.types l.lines) (stepsFrom l.steps 0))

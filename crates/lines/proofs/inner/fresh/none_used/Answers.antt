@@ -8,11 +8,17 @@ use Rattle.lines.specs.Used.{namesWord, all-hit, all-miss, rest-none}
 use Rattle.lines.proofs.inner.fresh.none_used.Goals as goal
 
 pub returns-then-line_uses : goal.returns-then-line_uses
-returns-then-line_uses c = let n = c.args.names.now in let i = c.loop-i.i in all-miss n i c.loop-i-test.true (λ x. not (any (eqb x) (collect (namesWord c.args.types.now c.args.lines.now) (stepsFrom c.args.steps.now 0)))) (ap not (sym c.line_uses.ensures ∙ c.if-line_uses.true)) ∙ c.loop-i.invariant
+returns-then-line_uses c = let n = c.args.names.now in let i = c.loop-i.i
+    in all-miss n i c.loop-i-test.true (λ x. not
+    (any (eqb x) (collect (namesWord c.args.types.now c.args.lines.now) (stepsFrom c.args.steps.now 0))))
+    (ap not (sym c.line_uses.ensures ∙ c.if-line_uses.true)) ∙ c.loop-i.invariant
 
 pub loop-i-preserved : goal.loop-i-preserved
-loop-i-preserved c = let n = c.args.names.now in let i = c.loop-i.i in all-hit n i c.loop-i-test.true (λ x. not (any (eqb x) (collect (namesWord c.args.types.now c.args.lines.now) (stepsFrom c.args.steps.now 0)))) (ap not (sym c.line_uses.ensures ∙ c.if-line_uses.false)) ∙ c.loop-i.invariant
+loop-i-preserved c = let n = c.args.names.now in let i = c.loop-i.i
+    in all-hit n i c.loop-i-test.true (λ x. not (any (eqb x) (collect (namesWord c.args.types.now c.args.lines.now) (stepsFrom c.args.steps.now 0))))
+    (ap not (sym c.line_uses.ensures ∙ c.if-line_uses.false)) ∙ c.loop-i.invariant
 
 pub returns : goal.returns
 unfolding all
-returns c = sym (ap (all (λ x. not (any (eqb x) (collect (namesWord c.args.types.now c.args.lines.now) (stepsFrom c.args.steps.now 0))))) (rest-none _ _ c.loop-i-test.false)) ∙ c.loop-i.invariant
+returns c = sym (ap (all (λ x. not (any (eqb x) (collect (namesWord c.args.types.now c.args.lines.now) (stepsFrom c.args.steps.now 0)))))
+    (rest-none _ _ c.loop-i-test.false)) ∙ c.loop-i.invariant

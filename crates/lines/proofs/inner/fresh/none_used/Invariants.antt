@@ -8,4 +8,5 @@ use Rattle.lines.specs.Used.{namesWord}
 use Rattle.lines.proofs.inner.fresh.none_used.Given as goal
 
 abbrev pub invariant-loop-i : goal.invariant-loop-i
-invariant-loop-i l = all (λ x. not (any (eqb x) (collect (namesWord l.types l.lines) (stepsFrom l.steps 0)))) (drop l.i l.names) ≡ all (λ x. not (any (eqb x) (collect (namesWord l.types l.lines) (stepsFrom l.steps 0)))) l.names
+invariant-loop-i l = all (λ x. not (any (eqb x) (collect (namesWord l.types l.lines) (stepsFrom l.steps 0)))) (drop l.i l.names)
+    ≡ all (λ x. not (any (eqb x) (collect (namesWord l.types l.lines) (stepsFrom l.steps 0)))) l.names

@@ -10,8 +10,10 @@ pub returns-in-1 : goal.returns-in-1
 returns-in-1 c = c.part_uses.ensures ∙ ap (any (eqb c.args.x)) (word-constant c.args.types.now c.args.lines.now _ _ c.in-1.is)
 
 pub returns-in-2 : goal.returns-in-2
-returns-in-2 c = c.part_uses-in-2.ensures ∙ ap (λ (p : ℕ). any (eqb c.args.x) (names_at c.args.types.now p)) c.place_of.ensures ∙ ap (any (eqb c.args.x)) (word-reference c.args.types.now c.args.lines.now _ _ c.in-2.is)
+returns-in-2 c = c.part_uses-in-2.ensures ∙ ap (λ (p : ℕ). any (eqb c.args.x) (names_at c.args.types.now p)) c.place_of.ensures
+    ∙ ap (any (eqb c.args.x)) (word-reference c.args.types.now c.args.lines.now _ _ c.in-2.is)
 
 pub returns-in_default : goal.returns-in_default
 unfolding any
-returns-in_default c = sym (ap (any (eqb c.args.x)) (word-other c.args.types.now c.args.lines.now _ _ c.in_default.in_default-own.rest.0.1 c.in_default.in_default-own.rest.1))
+returns-in_default c = sym (ap (any (eqb c.args.x))
+    (word-other c.args.types.now c.args.lines.now _ _ c.in_default.in_default-own.rest.0.1 c.in_default.in_default-own.rest.1))

@@ -17,4 +17,5 @@ returns-in-Bound c = λ o h.
 
 pub returns-in_default : goal.returns-in_default
 returns-in_default c = λ o h.
-    absurd (untagged c.view_at.result (0 ∷ 1 ∷ 2 ∷ 3 ∷ 4 ∷ 5 ∷ 6 ∷ 7 ∷ 8 ∷ 9 ∷ 10 ∷ 11 ∷ 12 ∷ 14 ∷ 15 ∷ 16 ∷ []) 13 tt (opened c.in_default.in_default-own.keys2) (view.Bound (viewOpen o)) refl (c.view_at.ensures ∙ h.0))
+    absurd (untagged c.view_at.result (0 ∷ 1 ∷ 2 ∷ 3 ∷ 4 ∷ 5 ∷ 6 ∷ 7 ∷ 8 ∷ 9 ∷ 10 ∷ 11 ∷ 12 ∷ 14 ∷ 15 ∷ 16 ∷ []) 13 tt
+    (opened c.in_default.in_default-own.keys2) (view.Bound (viewOpen o)) refl (c.view_at.ensures ∙ h.0))

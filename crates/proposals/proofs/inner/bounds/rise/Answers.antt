@@ -18,8 +18,11 @@ returns-then-not-is_less c = λ os h.
     let a = nth c.args.names.pool.now c.args.names.table.now c.args.s.now os h (c.loop-i.i - 1) (omega (arith, c.loop-i-test.true)) in
     let b = nth c.args.names.pool.now c.args.names.table.now c.args.s.now os h c.loop-i.i c.loop-i-test.true in
     let z = many c.args.names.pool.now c.args.names.table.now c.args.s.now os h in
-    let e : c.is_less.result ≡ is_lt ((numbers c.args.names.pool.now c.args.names.table.now).order (get_or (map word_of os) (c.loop-i.i - 1) 0) (get_or (map word_of os) c.loop-i.i 0)) =
-    c.is_less.ensures ∙ ap is_lt (c.order.ensures ∙ ap₂ (numbers c.args.names.pool.now c.args.names.table.now).order (c.name_of.ensures a.bound a.held ∙ a.is) (c.name_of-in-loop-i.ensures b.bound b.held ∙ b.is)) in
+    let e : c.is_less.result ≡ is_lt ((numbers c.args.names.pool.now c.args.names.table.now).order (get_or (map word_of os) (c.loop-i.i - 1) 0)
+    (get_or (map word_of os) c.loop-i.i 0)) =
+    c.is_less.ensures ∙ ap is_lt (c.order.ensures
+    ∙ ap₂ (numbers c.args.names.pool.now c.args.names.table.now).order (c.name_of.ensures a.bound a.held ∙ a.is)
+    (c.name_of-in-loop-i.ensures b.bound b.held ∙ b.is)) in
     sym (c.loop-i.invariant os h ∙ rise-no _ (map word_of os) c.loop-i.i c.loop-i.auto.i (omega (arith, z, c.loop-i-test.true)) (sym e ∙ c.if-not-is_less.true))
 
 pub loop-i-preserved : goal.loop-i-preserved
@@ -27,8 +30,11 @@ loop-i-preserved c = λ os h.
     let a = nth c.args.names.pool.now c.args.names.table.now c.args.s.now os h (c.loop-i.i - 1) (omega (arith, c.loop-i-test.true)) in
     let b = nth c.args.names.pool.now c.args.names.table.now c.args.s.now os h c.loop-i.i c.loop-i-test.true in
     let z = many c.args.names.pool.now c.args.names.table.now c.args.s.now os h in
-    let e : c.is_less.result ≡ is_lt ((numbers c.args.names.pool.now c.args.names.table.now).order (get_or (map word_of os) (c.loop-i.i - 1) 0) (get_or (map word_of os) c.loop-i.i 0)) =
-    c.is_less.ensures ∙ ap is_lt (c.order.ensures ∙ ap₂ (numbers c.args.names.pool.now c.args.names.table.now).order (c.name_of.ensures a.bound a.held ∙ a.is) (c.name_of-in-loop-i.ensures b.bound b.held ∙ b.is)) in
+    let e : c.is_less.result ≡ is_lt ((numbers c.args.names.pool.now c.args.names.table.now).order (get_or (map word_of os) (c.loop-i.i - 1) 0)
+    (get_or (map word_of os) c.loop-i.i 0)) =
+    c.is_less.ensures ∙ ap is_lt (c.order.ensures
+    ∙ ap₂ (numbers c.args.names.pool.now c.args.names.table.now).order (c.name_of.ensures a.bound a.held ∙ a.is)
+    (c.name_of-in-loop-i.ensures b.bound b.held ∙ b.is)) in
     c.loop-i.invariant os h ∙ rise-on _ (map word_of os) c.loop-i.i c.loop-i.auto.i (omega (arith, z, c.loop-i-test.true)) (sym e ∙ c.if-not-is_less.false)
 
 pub returns : goal.returns

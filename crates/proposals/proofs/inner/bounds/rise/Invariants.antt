@@ -13,4 +13,5 @@ use Rattle.proposals.proofs.inner.bounds.rise.Given as goal
 abbrev pub invariant-loop-i : goal.invariant-loop-i
 invariant-loop-i l =
     (os : List (Open ℕ)) → BoundsThere l.names.pool.now l.names.table.now l.s os →
-    rising (numbers l.names.pool.now l.names.table.now).order (map word_of os) ≡ rising (numbers l.names.pool.now l.names.table.now).order (drop (l.i - 1) (map word_of os))
+    rising (numbers l.names.pool.now l.names.table.now).order (map word_of os)
+    ≡ rising (numbers l.names.pool.now l.names.table.now).order (drop (l.i - 1) (map word_of os))

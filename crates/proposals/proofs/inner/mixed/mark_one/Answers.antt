@@ -13,4 +13,5 @@ end_of-end-requires c =
     (u, k)
 
 pub returns : goal.returns
-returns c = λ t xs h m. bound c.args.types.now c.args.x c.args.w c.args.k t xs h c.if-w-eq0.false c.end_of-end.ensures c.chosen.ensures (c.marks.ensures _ (c.mark.ensures xs m))
+returns c = λ t xs h m. bound c.args.types.now c.args.x c.args.w c.args.k t xs h c.if-w-eq0.false c.end_of-end.ensures c.chosen.ensures
+    (c.marks.ensures _ (c.mark.ensures xs m))

@@ -41,8 +41,11 @@ pub quantify_at-requires : goal.quantify_at-requires
 quantify_at-requires c =
     let (t, (bs, g)) = c.requires in
     let y = type-ready _ _ _ _ _ t bs g _ _ _ c.list_names-k.ensures c.list_names-k.auto.out in
-    let u = c.quantify_at-arg-3-1.given.1.0 in
-    (bs, subst (λ (x : Ty ℕ). Ready c.args.pool.now c.args.table.now c.args.given.now 1 (take c.list_names-k.result c.list_names-k.new.out) c.args.bounds.now c.args.work.now x bs) (only c.args.given.now t u.0 1 y.type.held u.1) y)
+    let u = c.quantify_at-arg-3-1.given.1.0 in (
+      bs,
+      subst (λ (x : Ty ℕ). Ready c.args.pool.now c.args.table.now c.args.given.now 1 (take c.list_names-k.result c.list_names-k.new.out)
+          c.args.bounds.now c.args.work.now x bs) (only c.args.given.now t u.0 1 y.type.held u.1) y,
+    )
 
 pub returns : goal.returns
 returns c = λ t bs g.
@@ -50,6 +53,9 @@ returns c = λ t bs g.
     let y = type-ready _ _ _ _ _ t bs g _ _ _ c.list_names-k.ensures n in
     let u = c.quantify_at-arg-3-1.given.1.0 in
     let one = only c.args.given.now u.0 t 1 u.1 y.type.held in
-    let m = c.quantify_at.ensures bs (subst (λ (x : Ty ℕ). Ready c.args.pool.now c.args.table.now c.args.given.now 1 (take c.list_names-k.result c.list_names-k.new.out) c.args.bounds.now c.args.work.now x bs) (sym one) y) in
+    let m = c.quantify_at.ensures bs (subst
+    (λ (x : Ty ℕ). Ready c.args.pool.now c.args.table.now c.args.given.now 1 (take c.list_names-k.result c.list_names-k.new.out)
+    c.args.bounds.now c.args.work.now x bs) (sym one) y) in
     type-made _ _ _ _ _ t bs g _ _ _ c.list_names-k.ensures n _ _
-    (subst (λ (x : Ty ℕ). Made (quantifiedAs c.args.pool.now c.args.table.now (take c.list_names-k.result c.list_names-k.new.out) false x bs) c.quantify_at.new.work c.quantify_at.result) one m)
+    (subst (λ (x : Ty ℕ). Made (quantifiedAs c.args.pool.now c.args.table.now (take c.list_names-k.result c.list_names-k.new.out) false x bs)
+    c.quantify_at.new.work c.quantify_at.result) one m)
