@@ -20,7 +20,7 @@ ghost use Rattle.dimensions.specs.Times.{HeldIf, Timed};
 
 use exponents::Exponent;
 use names::tables::NameTable;
-use products::inner::{multiplied, put};
+use products::inner::multiplied;
 use products::{Factor, Product};
 use reading::inner::{byte_at, mark, next_is, next_sign, read_power, refuse};
 use reading::power_value;
@@ -136,11 +136,12 @@ fn single(factor: Factor) -> Product
     requires { Kind factor.kind }
     ensures { given result ≡ productValue (put (atomBy factor.kind factor.name) (expOf factor.exp) []) }
 {
-    let none = Product::scalar();
+    let mut product = Product::scalar();
     if factor.exp.is_zero() {
-        return none;
+        return product;
     }
-    put(none, factor)
+    product.push(factor);
+    product
 }
 
 /// Multiplies by a factor: 7 or 8 at its mark, unless the sheet is refused already.
@@ -155,7 +156,7 @@ fn times(q: Product, factor: Factor, at: usize, s: Stand, names: NameTable) -> M
             stand: s,
             product: q,
         },
-        Ok(_) => match multiplied(q, single(factor), names) {
+        Ok(_) => match multiplied(&q, &single(factor), names) {
             Ok(product) => Multiplied { stand: s, product },
             Err(why) => Multiplied {
                 stand: Err(At { why, at }),

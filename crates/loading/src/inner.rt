@@ -12,7 +12,6 @@ ghost use Rattle.products.specs.Kinds.{Kind};
 ghost use Rattle.products.specs.Held.{Sound};
 
 use exponents::Exponent;
-use products::inner::put;
 use products::{Factor, Product};
 use records::inner::{put_one, put_record};
 use records::seen::view_at;
@@ -58,7 +57,7 @@ pub fn load(s: &[u32], at: usize, n: usize) -> Product
         let View::Factor(a, num, den) = view_at(s, at + i) else {
             return Product::scalar();
         };
-        out = put(out, factor_of(a, num, den));
+        out.push(factor_of(a, num, den));
     }
     out
 }
@@ -81,15 +80,14 @@ fn view_of(f: Factor) -> View
 }
 
 // A product as a dimension: its count of factors, and the factors.
-pub fn store(p: Product, dst: &mut [u32], out: usize)
-    requires sound { Sound p }
-    requires out_bound { out + p.len < 2 ^ 60 }
-    ensures { dst.new ≡ sets dst.old (out * 4) (words (writeProduct (productOf p))) }
+pub fn store(p: &Product, dst: &mut [u32], out: usize)
+    requires sound { Sound p.now }
+    requires out_bound { out + p.now.len < 2 ^ 60 }
+    ensures { dst.new ≡ sets dst.old (out * 4) (words (writeProduct (productOf p.now))) }
 {
     let n = p.len;
     put_record(dst, out, View::Dim(n as u32), n + 1);
     for i in 0..n {
-        let f = p.factors[i];
-        put_one(dst, out + 1 + i, view_of(f));
+        put_one(dst, out + 1 + i, view_of(p.factors[i]));
     }
 }

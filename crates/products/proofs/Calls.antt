@@ -1,16 +1,13 @@
 -- The calls, check by check, as rules for `grind`.
-use mathlib.Core.Path.{◌≡◌, sym}
-use mathlib.Core.Bool.{true, false}
+use mathlib.Core.Path.{◌≡◌}
 use mathlib.Core.List.{List}
 use Prim.Native.Nat.{ℕ}
 use lib.ListN.{length}
 use Rattle.std.proofs.lemmas.Bool.Decides.{nat_tests}
-use Rattle.rules.specs.Base.{got, refused}
-use Rattle.rules.specs.Names.{tableGiven}
-use Rattle.rules.specs.Values.{ProductValue, productGiven}
-use Rattle.laws.specs.NameTable.{Good, given-good}
+use Rattle.rules.specs.Base.{got}
+use Rattle.laws.specs.NameTable.{Good}
 use Rattle.products.specs.declared.Product.{Product}
-use Rattle.products.specs.Told.{given, isGot, answer}
+use Rattle.products.specs.Told.{given}
 use Rattle.products.specs.Held.{Well, taken-well, well-sound, refused-one}
 use Rattle.products.specs.Places.{given-len}
 use Rattle.products.specs.Entry.{Entered, entry_of, entered, entry-good, multiply-stopped, multiply-both, multiply-one, divide-stopped, divide-both, divide-one, inverse-stopped, inverse-goes, raise-stopped, raise-goes}

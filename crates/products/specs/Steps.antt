@@ -1,17 +1,15 @@
 -- The loops over factors, turn by turn: what a product holds so far, and that doing the rest completes the whole.
 use Rattle.std.specs.Prelude.{◌≡◌, Bool, true, false, cond, ◌⊎◌, ℕ, ◌<◌, ◌≤◌, length}
 use Rattle.std.proofs.Math.Path.{refl}
-use Rattle.std.proofs.Common.{ap, ◌∙◌, sym, subst, inl, inr, arith, length-append}
+use Rattle.std.proofs.Common.{ap, ◌∙◌, sym, inl, inr, arith, length-append}
 use mathlib.Core.List.{[], ◌∷◌, ◌++◌, append_assoc, append-nil}
 use Prim.Native.Nat.{Ordering}
 use Rattle.rules.specs.Base.{Got, got, refused, ◌>>=◌, bounded, within}
 use Rattle.rules.specs.Exponents.{Exp, isZero, neg, sum, times}
 use Rattle.rules.specs.Products.{put, inverse, mergeOne, merge, multiply, raise}
-use Rattle.rules.specs.Refusals.{number_of}
 use Rattle.rules.specs.Trees as Trees
 use Rattle.rules.specs.Trees.{Atom, ◌↑◌, Names, orderAtom}
 use Rattle.rules.specs.Values.{productValue, value_of}
-use Rattle.rules.specs.declared.Refusal.{Refusal}
 use Rattle.exponents.specs.Answers.{expOf}
 use Rattle.exponents.specs.declared.Exponent.{Exponent}
 use Rattle.products.specs.declared.Factor.{Factor}

@@ -1,7 +1,6 @@
 -- The code's products and answers as values of the rules.
 use Rattle.std.specs.Prelude.{Bool, true, false, cond, List, map, ℕ, ◌+◌, eqb, ltb, pos, take, get_or, set}
 use Rattle.std.proofs.Math.Option
-use Rattle.std.proofs.Math.Option.{Option, none, some}
 use Rattle.rules.specs.Base.{Got, got, refused, and'}
 use Rattle.rules.specs.Exponents.{isZero}
 use Rattle.rules.specs.Trees as Trees

@@ -79,29 +79,42 @@ pub fn order(x: Factor, y: Factor, names: NameTable) -> Ordering
     }
 }
 
-// One factor more. Past the 64th it is counted and not kept.
-pub fn put(p: Product, f: Factor) -> Product
-    requires { p.len < 1000 }
-    ensures { result ≡ put_of p f }
-{
-    let mut q = p;
-    let n = q.len;
-    if n < FACTORS {
-        q.factors[n] = f;
+impl Product {
+    /// One factor more. Past the 64th it is counted and not kept.
+    pub fn push(&mut self, f: Factor)
+        requires { self.old.len < 1000 }
+        ensures { self.new ≡ put_of self.old f }
+    {
+        let n = self.len;
+        if n < FACTORS {
+            self.factors[n] = f;
+        }
+        self.len = n + 1;
     }
-    q.len = n + 1;
-    q
-}
 
-// One factor more, with this power, unless the power is 0.
-fn keep(p: Product, x: Factor, e: Exponent) -> Product
-    requires { p.len < 1000 }
-    ensures { result ≡ kept_of p x e }
-{
-    if e.is_zero() {
-        return p;
+    // One factor more, with this power, unless the power is 0.
+    fn keep(&mut self, x: Factor, e: Exponent)
+        requires { self.old.len < 1000 }
+        ensures { self.new ≡ kept_of self.old x e }
+    {
+        if !e.is_zero() {
+            self.push(Factor { exp: e, ..x });
+        }
     }
-    put(p, Factor { exp: e, ..x })
+
+    // The factors of p from a place on, behind those that are here.
+    fn append(&mut self, p: &Product, from: usize)
+        requires sound { Sound p.now }
+        requires len_bound { (self.old.len ≤ 128) × (from ≤ p.now.len) }
+        ensures { (acc : Tree) → given self.old ≡ productValue acc → given self.new ≡ productValue (acc ++ drop from (productOf p.now)) }
+    {
+        let n = p.len;
+        let mut i = from;
+        while i < n {
+            self.push(p.factors[i]);
+            i += 1;
+        }
+    }
 }
 
 // Over 64 factors left is 8.
@@ -115,28 +128,11 @@ fn counted(p: Product) -> Result<Product, Refusal>
     Ok(p)
 }
 
-// The factors of p from a place on, behind those of out.
-fn append(out: Product, p: Product, from: usize) -> Product
-    requires sound { Sound p }
-    requires len_bound { (out.len ≤ 128) × (from ≤ p.len) }
-    ensures { (acc : Tree) → given out ≡ productValue acc → given result ≡ productValue (acc ++ drop from (productOf p)) }
-{
-    let n = p.len;
-    let mut q = out;
-    let mut i = from;
-    while i < n {
-        let f = p.factors[i];
-        q = put(q, f);
-        i = i + 1;
-    }
-    q
-}
-
 // Merges the two lists, adds exponents and drops zeros.
-pub fn multiplied(a: Product, b: Product, names: NameTable) -> Result<Product, Refusal>
-    requires well { Well names.pool.now names.table.now a }
-    requires well_2 { Well names.pool.now names.table.now b }
-    ensures { toldBy given result ≡ answer (multiply (numbersOf (table_of names.entry.pool.now names.entry.table.now)) bounded (productOf a) (productOf b)) }
+pub fn multiplied(a: &Product, b: &Product, names: NameTable) -> Result<Product, Refusal>
+    requires well { Well names.pool.now names.table.now a.now }
+    requires well_2 { Well names.pool.now names.table.now b.now }
+    ensures { toldBy given result ≡ answer (multiply (numbersOf (table_of names.entry.pool.now names.entry.table.now)) bounded (productOf a.now) (productOf b.now)) }
 {
     let m = a.len;
     let n = b.len;
@@ -148,42 +144,44 @@ pub fn multiplied(a: Product, b: Product, names: NameTable) -> Result<Product, R
         let y = b.factors[j];
         match order(x, y, names) {
             Ordering::Less => {
-                out = put(out, x);
-                i = i + 1;
+                out.push(x);
+                i += 1;
             }
             Ordering::Greater => {
-                out = put(out, y);
-                j = j + 1;
+                out.push(y);
+                j += 1;
             }
             Ordering::Equal => {
                 let e = exponents::inner::sum_of(x.exp, y.exp)?;
-                out = keep(out, x, e);
-                i = i + 1;
-                j = j + 1;
+                out.keep(x, e);
+                i += 1;
+                j += 1;
             }
         }
     }
-    counted(append(append(out, a, i), b, j))
+    out.append(a, i);
+    out.append(b, j);
+    counted(out)
 }
 
 // Each power's sign turned.
-pub fn inverted(a: Product) -> Product
-    requires { Sound a }
-    ensures { given result ≡ productValue (inverse (productOf a)) }
+pub fn inverted(a: &Product) -> Product
+    requires { Sound a.now }
+    ensures { given result ≡ productValue (inverse (productOf a.now)) }
 {
     let mut out = Product::scalar();
     for x in &a.factors[..a.len] {
         let exp = exponents::inner::negative_of(x.exp);
-        out = put(out, Factor { exp, ..*x });
+        out.push(Factor { exp, ..*x });
     }
     out
 }
 
 // Multiplies each exponent and drops zeros.
-pub fn raised(a: Product, e: Exponent) -> Result<Product, Refusal>
-    requires sound { Sound a }
+pub fn raised(a: &Product, e: Exponent) -> Result<Product, Refusal>
+    requires sound { Sound a.now }
     requires e_value { goodExp (expOf e) ≡ true }
-    ensures { (ν : Names ℕ) → toldBy given result ≡ answer (raise ν bounded (productOf a) (expOf e)) }
+    ensures { (ν : Names ℕ) → toldBy given result ≡ answer (raise ν bounded (productOf a.now) (expOf e)) }
 {
     let n = a.len;
     let mut out = Product::scalar();
@@ -191,24 +189,24 @@ pub fn raised(a: Product, e: Exponent) -> Result<Product, Refusal>
     while i < n {
         let x = a.factors[i];
         let k = exponents::inner::product_of(x.exp, e)?;
-        out = keep(out, x, k);
-        i = i + 1;
+        out.keep(x, k);
+        i += 1;
     }
     Ok(out)
 }
 
 // Multiplies by the inverse.
-pub fn divided(a: Product, b: Product, names: NameTable) -> Result<Product, Refusal>
-    requires well { Well names.pool.now names.table.now a }
-    requires well_2 { Well names.pool.now names.table.now b }
-    ensures { toldBy given result ≡ answer (divide (numbersOf (table_of names.entry.pool.now names.entry.table.now)) bounded (productOf a) (productOf b)) }
+pub fn divided(a: &Product, b: &Product, names: NameTable) -> Result<Product, Refusal>
+    requires well { Well names.pool.now names.table.now a.now }
+    requires well_2 { Well names.pool.now names.table.now b.now }
+    ensures { toldBy given result ≡ answer (divide (numbersOf (table_of names.entry.pool.now names.entry.table.now)) bounded (productOf a.now) (productOf b.now)) }
 {
-    multiplied(a, inverted(b), names)
+    multiplied(a, &inverted(b), names)
 }
 
 // Is the product well formed?
-pub fn fits(p: Product, names: NameTable) -> bool
-    ensures { result ≡ isGot (productGiven names.entry.pool.now names.entry.table.now (given p)) }
+pub fn fits(p: &Product, names: NameTable) -> bool
+    ensures { result ≡ isGot (productGiven names.entry.pool.now names.entry.table.now (given p.now)) }
 {
     let n = p.len;
     if FACTORS < n {
@@ -232,7 +230,7 @@ pub fn fits(p: Product, names: NameTable) -> bool
             Ordering::Equal | Ordering::Greater => return false,
         }
         last = next;
-        i = i + 1;
+        i += 1;
     }
     true
 }

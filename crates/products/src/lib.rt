@@ -48,8 +48,8 @@ impl Product {
 
     // What each operation asks first: pool and table, and then the product.
     #[tactic(auto, using(crate::proofs::Calls::entering))]
-    fn enter<'a>(self, pool: &'a [u8], table: &'a [u32]) -> Result<NameTable<'a>, Refusal>
-        ensures answer { toldBy unit_of result ≡ entry_of pool.now table.now (given self) }
+    fn enter<'a>(&self, pool: &'a [u8], table: &'a [u32]) -> Result<NameTable<'a>, Refusal>
+        ensures answer { toldBy unit_of result ≡ entry_of pool.now table.now (given self.now) }
         ensures same { IfOk result (λ t. (t.pool.now ≡ pool.now) × (t.table.now ≡ table.now)) }
     {
         let names = NameTable::new(pool, table)?;
@@ -67,10 +67,10 @@ impl Product {
         ensures { toldBy given result ≡ answer (multiplyCall pool.now table.now (given self) (given other)) }
     {
         let names = self.enter(pool, table)?;
-        if !inner::fits(other, names) {
+        if !inner::fits(&other, names) {
             return Err(Refusal::Malformed);
         }
-        inner::multiplied(self, other, names)
+        inner::multiplied(&self, &other, names)
     }
 
     /// Multiplies by the inverse, and refuses as `multiply` does.
@@ -79,10 +79,10 @@ impl Product {
         ensures { toldBy given result ≡ answer (divideCall pool.now table.now (given self) (given other)) }
     {
         let names = self.enter(pool, table)?;
-        if !inner::fits(other, names) {
+        if !inner::fits(&other, names) {
             return Err(Refusal::Malformed);
         }
-        inner::divided(self, other, names)
+        inner::divided(&self, &other, names)
     }
 
     /// Turns each exponent's sign: 10 and 1 for what is not well formed.
@@ -91,7 +91,7 @@ impl Product {
         ensures { toldBy given result ≡ answer (inverseCall pool.now table.now (given self)) }
     {
         let _ = self.enter(pool, table)?;
-        Ok(inner::inverted(self))
+        Ok(inner::inverted(&self))
     }
 
     /// Multiplies each exponent, and drops what is 0 then: 10 and 1 for what is not well formed, 7 for a product out of range.
@@ -103,6 +103,6 @@ impl Product {
         if !e.well_formed() {
             return Err(Refusal::Malformed);
         }
-        inner::raised(self, e)
+        inner::raised(&self, e)
     }
 }

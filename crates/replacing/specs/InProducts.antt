@@ -12,7 +12,7 @@ use Rattle.rules.specs.Exponents.{Exp, goodExp, goodStored}
 use Rattle.rules.specs.Names.{table_of, is_held}
 use Rattle.rules.specs.Products.{divide, raise, multiply}
 use Rattle.rules.specs.Replacing.{Look, asProduct, replaceFactors, replaceProduct}
-use Rattle.rules.specs.Trees.{Open, Atom, free, base, Factor, ◌↑◌, Names, Ty, opened, basic, dim, fn, struct, list}
+use Rattle.rules.specs.Trees.{Atom, free, base, Factor, ◌↑◌, Names, Ty, opened, basic, dim, fn, struct, list}
 use Rattle.rules.specs.Values.{ProductValue, productValue}
 use Rattle.rules.specs.WellFormed.{goodOpen, goodFactor, goodProduct, rising}
 use Rattle.laws.specs.GoodProducts.{multiply_good, divide-good, raise-good, goodAtom}
@@ -26,7 +26,6 @@ use Rattle.products.specs.Places.{at_place, length-product}
 use Rattle.products.specs.Held.{law, made, made-long, Taken}
 use Rattle.products.specs.declared.Factor as code
 use Rattle.products.specs.declared.Product.{Product}
-use Rattle.replacing.specs.Alone.{open_in}
 use Rattle.replacing.specs.Well.{names, GoodFactor, GoodProduct, GoodTy, Whole, LooksGood}
 
 -- a dimension of at most 64 factors, or another type
@@ -207,23 +206,14 @@ module _ (pool table : List ℕ) where
 
   -- ══ One factor by what is bound ══
 
+  -- the type that an atom becomes is well formed
+  pub atom-good : (look : Look ℕ) → LooksGood pool table look → (x : Factor ℕ) (t : Ty ℕ) → atomLooked look x ≡ some t → GoodTy pool table t
+  atom-good look g (free o ↑ e) t k = g o t k
+  atom-good look g (base n ↑ e) t k = absurd (let z : ◌≡◌ {A = ℕ} 0 1 = cc in omega arith)
+
   module _ (f : code.Factor) (look : Look ℕ) where
     abbrev pub Looked : Option (Ty ℕ)
     Looked = atomLooked look (tree_of f)
-
-    pub bound-free : (o : Open ℕ) → open_in (tree_of f) ≡ some o → Looked ≡ look o
-    bound-free o = go (tree_of f)
-      where
-        go : (x : Factor ℕ) → open_in x ≡ some o → atomLooked look x ≡ look o
-        go (free p ↑ e) h = let z : p ≡ o = cc in ap look z
-        go (base n ↑ e) h = absurd (let z : ◌≡◌ {A = ℕ} 0 1 = cc in omega arith)
-
-    pub bound-base : open_in (tree_of f) ≡ none → Looked ≡ none
-    bound-base = go (tree_of f)
-      where
-        go : (x : Factor ℕ) → open_in x ≡ none → atomLooked look x ≡ none
-        go (free p ↑ e) h = absurd (let z : ◌≡◌ {A = ℕ} 0 1 = cc in omega arith)
-        go (base n ↑ e) h = refl
 
     pub put-none : (a : Tree) → Looked ≡ none → got a ≡ put_in (names pool table) Looked (tree_of f) a
     unfolding put_in
@@ -234,11 +224,7 @@ module _ (pool table : List ℕ) where
 
     -- a factor's replacement is well formed again
     pub factor-good : (a : Tree) → Fine (names pool table) (heldIn table) f → LooksGood pool table look → GoodProduct pool table a → Gives (put_in (names pool table) Looked (tree_of f) a) (GoodProduct pool table)
-    factor-good a fine g h = put-good Looked (tree_of f) a (go (tree_of f) refl) (fine-good f fine) h
-      where
-        go : (x : Factor ℕ) → tree_of f ≡ x → (t : Ty ℕ) → atomLooked look x ≡ some t → GoodTy pool table t
-        go (free o ↑ e) q t k = g o t k
-        go (base n ↑ e) q t k = absurd (let z : ◌≡◌ {A = ℕ} 0 1 = cc in omega arith)
+    factor-good a fine g h = put-good Looked (tree_of f) a (atom-good look g (tree_of f)) (fine-good f fine) h
 
   -- ══ All factors ══
 

@@ -23,7 +23,7 @@ fn put_product(q: Product, s: Stand, r: Stand, dst: &mut [u32])
     let Ok(_) = r else {
         return;
     };
-    store(q, dst, before.records);
+    store(&q, dst, before.records);
 }
 
 /// A dimension and its records.

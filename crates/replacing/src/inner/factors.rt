@@ -1,16 +1,16 @@
-//! Factors and products by value.
-ghost use Rattle.std.specs.Prelude.{◌≡◌, ◌<◌};
+//! Factors by value.
+ghost use Rattle.std.specs.Prelude.{◌≡◌};
 ghost use Rattle.rules.specs.Products.{single};
 ghost use Rattle.rules.specs.Refusals.{toldOptionBy};
 ghost use Rattle.rules.specs.Trees.{◌↑◌, free};
 ghost use Rattle.rules.specs.Values.{value_of};
 ghost use Rattle.exponents.specs.Answers.{expOf};
-ghost use Rattle.products.specs.Told.{valueIn, tree_of, factorAt};
+ghost use Rattle.products.specs.Told.{valueIn, tree_of};
 ghost use Rattle.records.specs.Holds.{openOf};
 ghost use Rattle.replacing.specs.Alone.{open_in};
 
 use exponents::Exponent;
-use products::{Factor, Product};
+use products::Factor;
 use records::{Atom, Open};
 
 /// The power of an open name, as a factor.
@@ -34,14 +34,6 @@ pub fn free_factor(o: Open, exp: Exponent) -> Factor
             exp,
         },
     }
-}
-
-/// The factor at a place.
-pub fn factor_at(p: Product, i: usize) -> Factor
-    requires { i < 64 }
-    ensures { result ≡ factorAt p i }
-{
-    p.factors[i]
 }
 
 /// The open name of a factor; a base dimension has none.

@@ -37,9 +37,9 @@ fn replace_open(by: Substitution, o: Open, out: &mut Writer)
 }
 
 /// Writes a product that was made.
-fn put_product(p: products::Product, out: &mut Writer)
-    requires { Sound p }
-    ensures { Writes out.old out.new (writeProduct (productOf p)) }
+fn put_product(p: &products::Product, out: &mut Writer)
+    requires { Sound p.now }
+    ensures { Writes out.old out.new (writeProduct (productOf p.now)) }
 {
     let at = out.at;
     out.at = past(at, 1 + p.len);
@@ -53,8 +53,8 @@ pub fn replace_product(by: Substitution, p: Product, out: &mut Writer) -> Result
     requires { GoodProduct by.names.pool.now by.names.table.now p.factors.0 }
     ensures { Leaves writeProduct out.old out.new result (productBy by.entry p.entry.factors.0) }
 {
-    let made = replace_factors(by, load(p.words, p.at, p.count as usize))?;
-    put_product(made, out);
+    let made = replace_factors(by, &load(p.words, p.at, p.count as usize))?;
+    put_product(&made, out);
     Ok(())
 }
 

@@ -39,10 +39,10 @@ fn as_product(x: Option<u32>, dimension: Type, out: &mut Writer) -> Step
 }
 
 /// A product as a dimension.
-fn put_product(p: products::Product, out: &mut Writer)
-    requires sound { Sound p }
+fn put_product(p: &products::Product, out: &mut Writer)
+    requires sound { Sound p.now }
     requires small { out.old.at ≤ 1_000_000_000 }
-    ensures { Writes out.old out.new (writeProduct (productOf p)) }
+    ensures { Writes out.old out.new (writeProduct (productOf p.now)) }
 {
     store(p, out.words, out.at);
     out.at += 1 + p.len;
@@ -62,9 +62,9 @@ fn quotient(
 {
     let p = load(left.words, left.at, left.count as usize);
     let q = load(right.words, right.at, right.count as usize);
-    let made = divided(p, q, names)?;
+    let made = divided(&p, &q, names)?;
     out.put(View::IsScalar, 2 + made.len);
-    put_product(made, out);
+    put_product(&made, out);
     Ok(Step::Split(out.at))
 }
 

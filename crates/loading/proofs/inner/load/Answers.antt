@@ -42,12 +42,12 @@ unfolding put_of
 loop-i-preserved c =
     let a = c.args in
     let more : c.loop-i.i < c.loop-i.i + 1 = omega arith in (
-      rw c.put-out.ensures (omega arith),
+      rw c.push.ensures (omega arith),
       λ p h e.
           let j : c.loop-i.i < length p = omega arith in
           let t = holds_at a.s.now p a.at c.loop-i.i h j in
           let w = c.factor_of.ensures ∙ factor-value a.s.now t.factor (a.at + c.loop-i.i) _ _ _ t.holds (sym c.view_at.ensures ∙ c.in-Factor.is) in
-          rw c.put-out.ensures (doing-put (c.loop-i.invariant.1 p h e) _ t.factor _ _ w more (ap got t.rest)),
+          rw c.push.ensures (doing-put (c.loop-i.invariant.1 p h e) _ t.factor _ _ w more (ap got t.rest)),
     )
 
 pub returns : goal.returns

@@ -1,5 +1,4 @@
 use mathlib.Core.Path.{◌≡◌}
-use Prim.Native.Nat.{◌-◌}
 use lib.ListN.{length, drop}
 use Rattle.rules.specs.Base.{got}
 use Rattle.records.specs.Holds.{HoldsFactors}

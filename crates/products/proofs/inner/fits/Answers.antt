@@ -28,20 +28,20 @@ later Equal t h = let z : ◌≡◌ {A = ℕ} 0 1 = cc in omega arith
 later Greater t h = let z : ◌≡◌ {A = ℕ} 0 1 = cc in omega arith
 
 pub returns-then-n-gt-FACTORS : goal.returns-then-n-gt-FACTORS
-returns-then-n-gt-FACTORS c = let long : length c.args.p.factors ≡ 64 = c.well_formed.0.1.1.0.1.0.1 in
-    sym (not_taken _ _ c.args.p (long) (λ w. omega (arith, w.few, c.if-n-gt-FACTORS.true)))
+returns-then-n-gt-FACTORS c = let long : length c.args.p.now.factors ≡ 64 = omega arith in
+    sym (not_taken _ _ c.args.p.now (long) (λ w. omega (arith, w.few, c.if-n-gt-FACTORS.true)))
 
 pub returns-then-n-eq0 : goal.returns-then-n-eq0
-returns-then-n-eq0 c = let long : length c.args.p.factors ≡ 64 = c.well_formed.0.1.1.0.1.0.1 in
-    let w = seen-well (omega arith) (long) (subst (Seen c.args.names.pool.now c.args.names.table.now c.args.p) (sym c.if-n-eq0.true) seen_none) in
-    sym (ap isGot (well-given _ _ c.args.p w))
+returns-then-n-eq0 c = let long : length c.args.p.now.factors ≡ 64 = omega arith in
+    let w = seen-well (omega arith) (long) (subst (Seen c.args.names.pool.now c.args.names.table.now c.args.p.now) (sym c.if-n-eq0.true) seen_none) in
+    sym (ap isGot (well-given _ _ c.args.p.now w))
 
 pub returns-then-not-is_sound : goal.returns-then-not-is_sound
 returns-then-not-is_sound c = let names : Names ℕ = numbersOf (table_of c.args.names.pool.now c.args.names.table.now) in
     let held : List ℕ = c.args.names.table.now in
-    let long : length c.args.p.factors ≡ 64 = c.well_formed.0.1.1.0.1.0.1 in
-    let n : fine (names) (heldIn (held)) (factorAt c.args.p 0) ≡ false = sym (c.is_sound.ensures (names)) ∙ c.if-not-is_sound.true in
-    sym (not_taken _ _ c.args.p (long) (λ w. not-fine _ _ _ n (w.each 0 (omega arith))))
+    let long : length c.args.p.now.factors ≡ 64 = omega arith in
+    let n : fine (names) (heldIn (held)) (factorAt c.args.p.now 0) ≡ false = sym (c.is_sound.ensures (names)) ∙ c.if-not-is_sound.true in
+    sym (not_taken _ _ c.args.p.now (long) (λ w. not-fine _ _ _ n (w.each 0 (omega arith))))
 
 pub loop-i-init : goal.loop-i-init
 loop-i-init c = let names : Names ℕ = numbersOf (table_of c.args.names.pool.now c.args.names.table.now) in
@@ -50,22 +50,22 @@ loop-i-init c = let names : Names ℕ = numbersOf (table_of c.args.names.pool.no
 pub returns-then-not-is_sound-2 : goal.returns-then-not-is_sound-2
 returns-then-not-is_sound-2 c = let names : Names ℕ = numbersOf (table_of c.args.names.pool.now c.args.names.table.now) in
     let held : List ℕ = c.args.names.table.now in
-    let long : length c.args.p.factors ≡ 64 = c.well_formed.0.1.1.0.1.0.1 in
-    let within : (c.loop-i.i < c.args.p.len) × (c.args.p.len ≤ 64) = (omega arith, omega arith) in
-    let n : fine (names) (heldIn (held)) (factorAt c.args.p c.loop-i.i) ≡ false = sym (c.is_sound-in-loop-i.ensures (names)) ∙ c.if-not-is_sound-2.true in
-    sym (not_taken _ _ c.args.p (long) (λ w. not-fine _ _ _ n (w.each _ (within).0)))
+    let long : length c.args.p.now.factors ≡ 64 = omega arith in
+    let within : (c.loop-i.i < c.args.p.now.len) × (c.args.p.now.len ≤ 64) = (omega arith, omega arith) in
+    let n : fine (names) (heldIn (held)) (factorAt c.args.p.now c.loop-i.i) ≡ false = sym (c.is_sound-in-loop-i.ensures (names)) ∙ c.if-not-is_sound-2.true in
+    sym (not_taken _ _ c.args.p.now (long) (λ w. not-fine _ _ _ n (w.each _ (within).0)))
 
 pub order-requires : goal.order-requires
 order-requires c = let names : Names ℕ = numbersOf (table_of c.args.names.pool.now c.args.names.table.now) in
     let held : List ℕ = c.args.names.table.now in
-    let fined : Fine (names) (heldIn (held)) (factorAt c.args.p c.loop-i.i) = fine-facts _ _ _ (sym (c.is_sound-in-loop-i.ensures (names)) ∙ c.if-not-is_sound-2.false) in
+    let fined : Fine (names) (heldIn (held)) (factorAt c.args.p.now c.loop-i.i) = fine-facts _ _ _ (sym (c.is_sound-in-loop-i.ensures (names)) ∙ c.if-not-is_sound-2.false) in
     let k : c.loop-i.i - 1 < c.loop-i.i = omega arith in
     record { fine = rw c.loop-i.invariant.2 (c.loop-i.invariant.3.each _ k); fine_2 = fined }
 
 pub returns-in-Equal : goal.returns-in-Equal
-returns-in-Equal c = let long : length c.args.p.factors ≡ 64 = c.well_formed.0.1.1.0.1.0.1 in
+returns-in-Equal c = let long : length c.args.p.now.factors ≡ 64 = omega arith in
     let names : Names ℕ = numbersOf (table_of c.args.names.pool.now c.args.names.table.now) in
-    let p = c.args.p in
+    let p = c.args.p.now in
     let i : suc (c.loop-i.i - 1) ≡ c.loop-i.i = omega arith in
     let j : suc (c.loop-i.i - 1) < p.len = omega arith in
     sym (not_taken _ _ p (long) (λ w.
@@ -74,18 +74,18 @@ returns-in-Equal c = let long : length c.args.p.factors ≡ 64 = c.well_formed.0
 
 pub loop-i-preserved : goal.loop-i-preserved
 loop-i-preserved c = let names : Names ℕ = numbersOf (table_of c.args.names.pool.now c.args.names.table.now) in
-    let within : (c.loop-i.i < c.args.p.len) × (c.args.p.len ≤ 64) = (omega arith, omega arith) in
+    let within : (c.loop-i.i < c.args.p.now.len) × (c.args.p.now.len ≤ 64) = (omega arith, omega arith) in
     let held : List ℕ = c.args.names.table.now in
-    let fined : Fine (names) (heldIn (held)) (factorAt c.args.p c.loop-i.i) = fine-facts _ _ _ (sym (c.is_sound-in-loop-i.ensures (names)) ∙ c.if-not-is_sound-2.false) in
-    let p = c.args.p in
+    let fined : Fine (names) (heldIn (held)) (factorAt c.args.p.now c.loop-i.i) = fine-facts _ _ _ (sym (c.is_sound-in-loop-i.ensures (names)) ∙ c.if-not-is_sound-2.false) in
+    let p = c.args.p.now in
     let k : c.loop-i.i ≡ c.loop-i.i + 1 - 1 = omega arith in
     let o : orderAtom (names) (atomAt (factorAt p (c.loop-i.i - 1))) (atomAt (factorAt p c.loop-i.i)) ≡ Ordering.lt =
     rw c.loop-i.invariant.2 at (sym c.order.ensures ∙ ap toldOrder c.in-Less.is) in
     (omega arith, omega (arith, within), ap (factorAt p) k, seen_more c.loop-i.i c.loop-i.invariant.0 c.loop-i.invariant.3 (fined) o)
 
 pub returns : goal.returns
-returns c = let long : length c.args.p.factors ≡ 64 = c.well_formed.0.1.1.0.1.0.1 in
-    let p = c.args.p in
+returns c = let long : length c.args.p.now.factors ≡ 64 = omega arith in
+    let p = c.args.p.now in
     let i : c.loop-i.i ≡ p.len = omega arith in
     let w = seen-well (omega arith) (long) (subst (Seen c.args.names.pool.now c.args.names.table.now p) i c.loop-i.invariant.3) in
     sym (ap isGot (well-given _ _ p w))

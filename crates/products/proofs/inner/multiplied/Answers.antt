@@ -49,35 +49,35 @@ loop-i-init c = (omega arith, omega arith, doing-start _ _ c.scalar-out.ensures)
 pub order-requires : goal.order-requires
 order-requires c = record { fine = c.requires.well.each c.loop-i.i (omega arith); fine_2 = c.requires.well_2.each c.loop-i.j c.if-j-n.true }
 
-pub put-out-requires : goal.put-out-requires
-put-out-requires c = omega (arith, doing-len c.loop-i.invariant.2, c.requires.well.few, c.requires.well_2.few)
+pub push-requires : goal.push-requires
+push-requires c = omega (arith, doing-len c.loop-i.invariant.2, c.requires.well.few, c.requires.well_2.few)
 
 pub loop-i-preserved-in-Less : goal.loop-i-preserved-in-Less
 loop-i-preserved-in-Less c =
     let i = c.loop-i.i in
     let j = c.loop-i.j in
-    let h : i < c.args.a.len = omega arith in
+    let h : i < c.args.a.now.len = omega arith in
     let step : i + j < i + 1 + j = omega arith in (
       omega arith,
       omega arith,
-      rw c.put-out.ensures
-          (doing-put c.loop-i.invariant.2 (factorAt c.args.a i) (tree_of (factorAt c.args.a i)) _ _ (value-back (factorAt c.args.a i) (c.requires.well.each i h).kind) step
+      rw c.push.ensures
+          (doing-put c.loop-i.invariant.2 (factorAt c.args.a.now i) (tree_of (factorAt c.args.a.now i)) _ _ (value-back (factorAt c.args.a.now i) (c.requires.well.each i h).kind) step
           (less c.requires.well c.requires.well_2 i j h c.if-j-n.true (sym c.order.ensures ∙ ap toldOrder c.in-Less.is))),
     )
 
-pub put-out-requires-in-Greater : goal.put-out-requires-in-Greater
-put-out-requires-in-Greater c = omega (arith, doing-len c.loop-i.invariant.2, c.requires.well.few, c.requires.well_2.few)
+pub push-requires-in-Greater : goal.push-requires-in-Greater
+push-requires-in-Greater c = omega (arith, doing-len c.loop-i.invariant.2, c.requires.well.few, c.requires.well_2.few)
 
 pub loop-i-preserved-in-Greater : goal.loop-i-preserved-in-Greater
 loop-i-preserved-in-Greater c =
     let i = c.loop-i.i in
     let j = c.loop-i.j in
-    let h : i < c.args.a.len = omega arith in
+    let h : i < c.args.a.now.len = omega arith in
     let step : i + j < i + (j + 1) = omega arith in (
       omega arith,
       omega arith,
-      rw c.put-out-in-Greater.ensures
-          (doing-put c.loop-i.invariant.2 (factorAt c.args.b j) (tree_of (factorAt c.args.b j)) _ _ (value-back (factorAt c.args.b j) (c.requires.well_2.each j c.if-j-n.true).kind) step
+      rw c.push-in-Greater.ensures
+          (doing-put c.loop-i.invariant.2 (factorAt c.args.b.now j) (tree_of (factorAt c.args.b.now j)) _ _ (value-back (factorAt c.args.b.now j) (c.requires.well_2.each j c.if-j-n.true).kind) step
           (more c.requires.well c.requires.well_2 i j h c.if-j-n.true (sym c.order.ensures ∙ ap toldOrder c.in-Greater.is))),
     )
 
@@ -93,19 +93,19 @@ returns-in_err-e-in-Equal c =
     (sym (ap answer (multiply-refused (numbersOf (table_of c.args.names.pool.now c.args.names.table.now)) _ _ _ (doing-stop c.loop-i.invariant.2 _
     (same c.requires.well c.requires.well_2 c.loop-i.i c.loop-i.j (omega arith) c.if-j-n.true (sym c.order.ensures ∙ ap toldOrder c.in-Equal.is) _ c.in_err-e-in-Equal.ensures)))))
 
-pub keep-out-requires : goal.keep-out-requires
-keep-out-requires c = omega (arith, doing-len c.loop-i.invariant.2, c.requires.well.few, c.requires.well_2.few)
+pub keep-requires : goal.keep-requires
+keep-requires c = omega (arith, doing-len c.loop-i.invariant.2, c.requires.well.few, c.requires.well_2.few)
 
 pub loop-i-preserved : goal.loop-i-preserved
 loop-i-preserved c =
     let i = c.loop-i.i in
     let j = c.loop-i.j in
-    let h : i < c.args.a.len = omega arith in
+    let h : i < c.args.a.now.len = omega arith in
     let step : i + j < i + 1 + (j + 1) = omega arith in (
       omega arith,
       omega arith,
-      rw c.keep-out.ensures
-          (doing-kept c.loop-i.invariant.2 (factorAt c.args.a i) c.in_ok-e-in-Equal.e _ _ (c.requires.well.each i h).kind step
+      rw c.keep.ensures
+          (doing-kept c.loop-i.invariant.2 (factorAt c.args.a.now i) c.in_ok-e-in-Equal.e _ _ (c.requires.well.each i h).kind step
           (same c.requires.well c.requires.well_2 i j h c.if-j-n.true (sym c.order.ensures ∙ ap toldOrder c.in-Equal.is) _ c.in_ok-e-in-Equal.ensures)),
     )
 
@@ -117,25 +117,25 @@ append-requires c =
 pub append-requires-2 : goal.append-requires-2
 append-requires-2 c =
     let g = c.loop-i.invariant.2 in
-    let A = productOf c.args.a in
-    let n = given-len c.append.result (g.acc ++ drop c.loop-i.i A) (c.append.ensures g.acc g.is) in
-    let few : c.append.result.len ≤ 128 =
-    omega (arith, n, length-append g.acc (drop c.loop-i.i A), length-drop c.loop-i.i A, length-product c.args.a c.requires.well.long c.requires.well.few, g.few, c.requires.well.few, c.requires.well_2.few) in
+    let A = productOf c.args.a.now in
+    let n = given-len c.append.new.self (g.acc ++ drop c.loop-i.i A) (c.append.ensures g.acc g.is) in
+    let few : c.append.new.self.len ≤ 128 =
+    omega (arith, n, length-append g.acc (drop c.loop-i.i A), length-drop c.loop-i.i A, length-product c.args.a.now c.requires.well.long c.requires.well.few, g.few, c.requires.well.few, c.requires.well_2.few) in
     record { sound = well-sound c.requires.well_2; len_bound = (few, c.loop-i.invariant.1) }
 
 pub returns : goal.returns
 returns c =
     let g = c.loop-i.invariant.2 in
-    let A = drop c.loop-i.i (productOf c.args.a) in
-    let B = drop c.loop-i.j (productOf c.args.b) in
+    let A = drop c.loop-i.i (productOf c.args.a.now) in
+    let B = drop c.loop-i.j (productOf c.args.b.now) in
     let ended : (A ≡ []) ⊎ (B ≡ []) =
     elim c.loop-i-test.branch [
       | then-loop-i-test+else-j-n w ↦
-          let h : c.loop-i.j ≡ c.args.b.len = omega (arith, w.if-j-n.false) in
-          inr (ap (λ (k : ℕ). drop k (productOf c.args.b)) h ∙ at-end c.args.b c.requires.well_2.long c.requires.well_2.few)
+          let h : c.loop-i.j ≡ c.args.b.now.len = omega (arith, w.if-j-n.false) in
+          inr (ap (λ (k : ℕ). drop k (productOf c.args.b.now)) h ∙ at-end c.args.b.now c.requires.well_2.long c.requires.well_2.few)
       | else-loop-i-test w ↦
-          let h : c.loop-i.i ≡ c.args.a.len = omega (arith, w.loop-i-test.false) in
-          inl (ap (λ (k : ℕ). drop k (productOf c.args.a)) h ∙ at-end c.args.a c.requires.well.long c.requires.well.few)
+          let h : c.loop-i.i ≡ c.args.a.now.len = omega (arith, w.loop-i-test.false) in
+          inl (ap (λ (k : ℕ). drop k (productOf c.args.a.now)) h ∙ at-end c.args.a.now c.requires.well.long c.requires.well.few)
     ] in
     let two' = c.append-2.ensures (g.acc ++ A) (c.append.ensures g.acc g.is) in
     let whole = doing_end g (A ++ B) (merge-left (numbersOf (table_of c.args.names.pool.now c.args.names.table.now)) A B ended) ∙ ap got (sym (append_assoc g.acc A B)) in

@@ -2,13 +2,13 @@
 use mathlib.Core.Path.{◌≡◌, sym, ◌∙◌, ap, ap₂}
 use mathlib.Core.Bool.{cond}
 use Prim.Native.Nat.{compare}
-use borrow.Author.Tests.{eq-eqb, ne_eqb, ltb-true}
+use borrow.Author.Tests.{eq-eqb, ne_eqb}
 use lib.Dec.{eqb}
 use Rattle.rules.specs.Names.{then, table_of, numbersOf}
 use Rattle.rules.specs.Trees.{orderAtom}
 use Rattle.names.specs.Told.{toldOrder}
 use Rattle.products.specs.Told.{atomAt, heldIn, rank_of}
-use Rattle.products.specs.Kinds.{Fine, held_by, same_rank, order-by}
+use Rattle.products.specs.Kinds.{Fine, order-by}
 use Rattle.products.proofs.inner.order.Goals as goal
 
 pub returns-then-x-eq15 : goal.returns-then-x-eq15

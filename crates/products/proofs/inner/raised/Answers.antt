@@ -1,7 +1,7 @@
 -- `products::inner::raised` meets its contract. The invariant: what `out` holds, and that raising the rest completes it.
 use mathlib.Core.Path.{◌≡◌, sym, ◌∙◌, ap}
 use mathlib.Core.List.{[]}
-use Prim.Native.Nat.{ℕ, ◌+◌, ◌≤◌, ◌<◌}
+use Prim.Native.Nat.{ℕ, ◌+◌, ◌<◌}
 use native.Mathlib.Omega.{arith}
 use lib.ListN.{drop}
 use Rattle.std.proofs.lemmas.Result.{err_from_is_err_and}
@@ -37,28 +37,28 @@ unfolding answer
 returns-in_err-k c ν =
     let p = err_from_is_err_and c.from_residual.result c.from_residual.ensures.1 in
     rw (p.1, p.2)
-    (sym (ap answer (doing-stop (c.loop-i.invariant.1 ν) _ (turn ν c.args.a c.requires.sound (expOf c.args.e) c.loop-i.i (omega arith) _ c.in_err-k.ensures))))
+    (sym (ap answer (doing-stop (c.loop-i.invariant.1 ν) _ (turn ν c.args.a.now c.requires.sound (expOf c.args.e) c.loop-i.i (omega arith) _ c.in_err-k.ensures))))
 
-pub keep-out-requires : goal.keep-out-requires
-keep-out-requires c = omega (arith, doing-len (c.loop-i.invariant.1 (numbered [])), c.requires.sound.few)
+pub keep-requires : goal.keep-requires
+keep-requires c = omega (arith, doing-len (c.loop-i.invariant.1 (numbered [])), c.requires.sound.few)
 
 pub loop-i-preserved : goal.loop-i-preserved
 loop-i-preserved c =
     let i = c.loop-i.i in
-    let h : i < c.args.a.len = omega arith in
+    let h : i < c.args.a.now.len = omega arith in
     let step : i < i + 1 = omega arith in (
       omega arith,
       λ ν.
-          rw c.keep-out.ensures
-          (doing-kept (c.loop-i.invariant.1 ν) (factorAt c.args.a i) c.in_ok-k.k _ _ (c.requires.sound.kind i h) step (turn ν c.args.a c.requires.sound (expOf c.args.e) i h _ c.in_ok-k.ensures)),
+          rw c.keep.ensures
+          (doing-kept (c.loop-i.invariant.1 ν) (factorAt c.args.a.now i) c.in_ok-k.k _ _ (c.requires.sound.kind i h) step (turn ν c.args.a.now c.requires.sound (expOf c.args.e) i h _ c.in_ok-k.ensures)),
     )
 
 pub returns : goal.returns
 unfolding answer
 returns c ν =
     let g = c.loop-i.invariant.1 ν in
-    let i : c.loop-i.i ≡ c.args.a.len = omega arith in
-    let done : raise ν bounded (drop c.loop-i.i (productOf c.args.a)) (expOf c.args.e) ≡ got [] =
-    ap (λ (k : ℕ). raise ν bounded (drop k (productOf c.args.a)) (expOf c.args.e)) i
-    ∙ ap (λ (r : Tree). raise ν bounded r (expOf c.args.e)) (at-end c.args.a c.requires.sound.long c.requires.sound.few) ∙ raise-done ν (expOf c.args.e) in
+    let i : c.loop-i.i ≡ c.args.a.now.len = omega arith in
+    let done : raise ν bounded (drop c.loop-i.i (productOf c.args.a.now)) (expOf c.args.e) ≡ got [] =
+    ap (λ (k : ℕ). raise ν bounded (drop k (productOf c.args.a.now)) (expOf c.args.e)) i
+    ∙ ap (λ (r : Tree). raise ν bounded r (expOf c.args.e)) (at-end c.args.a.now c.requires.sound.long c.requires.sound.few) ∙ raise-done ν (expOf c.args.e) in
     ap got g.is ∙ sym (ap answer (doing-done g done))

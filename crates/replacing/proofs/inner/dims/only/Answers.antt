@@ -1,14 +1,12 @@
 -- `only` meets its contract.
-use mathlib.Core.Path.{ap, ◌∙◌}
-use mathlib.Core.List.{[]}
-use native.Mathlib.Omega.{arith}
-use Rattle.products.specs.Told.{given, tree_of}
-use Rattle.products.specs.Kinds.{value-back}
+use Rattle.std.specs.Prelude.{[]}
+use Rattle.std.proofs.Common.{arith, ap, ◌∙◌}
+use Rattle.products.specs.Told.{given}
 use Rattle.products.specs.Places.{put-given, given-len}
 use Rattle.replacing.proofs.inner.dims.only.Goals as goal
 
-pub put-requires : goal.put-requires
-put-requires c = omega (arith, given-len c.scalar.result [] c.scalar.ensures)
+pub push-requires : goal.push-requires
+push-requires c = omega (arith, given-len c.scalar-p.result [] c.scalar-p.ensures)
 
 pub returns : goal.returns
-returns c = ap given c.put.ensures ∙ put-given c.scalar.result c.args.f [] (tree_of c.args.f) c.scalar.ensures (value-back c.args.f c.requires)
+returns c = λ t v. ap given c.push.ensures ∙ put-given c.scalar-p.result c.args.f [] t c.scalar-p.ensures v

@@ -12,6 +12,6 @@ returns c =
     let s = c.requires.sound in
     record {
       same = refl;
-      at = omega (arith, c.requires.small, size-ty (dim (productOf c.args.p)), length-product c.args.p s.long s.few);
+      at = omega (arith, c.requires.small, size-ty (dim (productOf c.args.p.now)), length-product c.args.p.now s.long s.few);
       words = λ k. c.store.ensures;
     }

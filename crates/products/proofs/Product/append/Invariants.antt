@@ -6,10 +6,10 @@ use Rattle.rules.specs.Base.{got}
 use Rattle.rules.specs.Values.{productValue}
 use Rattle.products.specs.Told.{Tree, given, productOf}
 use Rattle.products.specs.Steps.{Doing}
-use Rattle.products.proofs.inner.append.Given as goal
+use Rattle.products.proofs.Product.append.Given as goal
 
 abbrev pub invariant-loop-i : goal.invariant-loop-i
-invariant-loop-i l = (l.from ≤ l.i) × (l.i ≤ l.n) × (l.q.len + l.from ≡ l.initial.q.len + l.i) × ((acc : Tree) → given l.initial.q ≡ productValue acc → Doing (got (drop l.i (productOf l.p))) (got (acc ++ drop l.from (productOf l.p))) (length acc + l.i) l.q)
+invariant-loop-i l = (l.from ≤ l.i) × (l.i ≤ l.n) × (l.self.len + l.from ≡ l.initial.self.len + l.i) × ((acc : Tree) → given l.initial.self ≡ productValue acc → Doing (got (drop l.i (productOf l.p))) (got (acc ++ drop l.from (productOf l.p))) (length acc + l.i) l.self)
 
 abbrev pub decreases-loop-i : goal.decreases-loop-i
 decreases-loop-i l = l.n - l.i

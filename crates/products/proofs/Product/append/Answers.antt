@@ -10,31 +10,31 @@ use Rattle.products.specs.Told.{tree_of, productOf, factorAt, put_of}
 use Rattle.products.specs.Kinds.{value-back}
 use Rattle.products.specs.Places.{at_place, at-end}
 use Rattle.products.specs.Steps.{doing-put, doing-done, got-injective}
-use Rattle.products.proofs.inner.append.Goals as goal
+use Rattle.products.proofs.Product.append.Goals as goal
 
 pub loop-i-init : goal.loop-i-init
 loop-i-init c = (omega arith, omega arith, refl, λ acc h. record { acc = acc; is = h; few = omega arith; rest = refl })
 
-pub put-q-requires : goal.put-q-requires
-put-q-requires c = omega (arith, c.requires.sound.few)
+pub push-requires : goal.push-requires
+push-requires c = omega (arith, c.requires.sound.few)
 
 pub loop-i-preserved : goal.loop-i-preserved
 unfolding put_of
 loop-i-preserved c =
-    let h : c.loop-i.i < c.args.p.len = omega arith in
-    let f = factorAt c.args.p c.loop-i.i in
-    let e = at_place c.args.p c.requires.sound.long c.requires.sound.few c.loop-i.i h in (
+    let h : c.loop-i.i < c.args.p.now.len = omega arith in
+    let f = factorAt c.args.p.now c.loop-i.i in
+    let e = at_place c.args.p.now c.requires.sound.long c.requires.sound.few c.loop-i.i h in (
       omega arith,
       omega arith,
-      rw c.put-q.ensures (omega arith),
+      rw c.push.ensures (omega arith),
       λ acc k.
           let more : length acc + c.loop-i.i < length acc + (c.loop-i.i + 1) = omega arith in
-          rw c.put-q.ensures (doing-put (c.loop-i.invariant.3 acc k) f (tree_of f) _ _ (value-back f (c.requires.sound.kind _ h)) more (ap got e)),
+          rw c.push.ensures (doing-put (c.loop-i.invariant.3 acc k) f (tree_of f) _ _ (value-back f (c.requires.sound.kind _ h)) more (ap got e)),
     )
 
 pub returns : goal.returns
 returns c acc h =
     let g = c.loop-i.invariant.3 acc h in
-    let i : c.loop-i.i ≡ c.args.p.len = omega arith in
-    let done : drop c.loop-i.i (productOf c.args.p) ≡ [] = ap (λ (k : ℕ). drop k (productOf c.args.p)) i ∙ at-end c.args.p c.requires.sound.long c.requires.sound.few in
+    let i : c.loop-i.i ≡ c.args.p.now.len = omega arith in
+    let done : drop c.loop-i.i (productOf c.args.p.now) ≡ [] = ap (λ (k : ℕ). drop k (productOf c.args.p.now)) i ∙ at-end c.args.p.now c.requires.sound.long c.requires.sound.few in
     g.is ∙ ap productValue (sym (got-injective (doing-done g (ap got done))))
