@@ -9,16 +9,16 @@ use Rattle.exponents.specs.Answers.{expOf}
 use Rattle.products.specs.declared.Factor.{Factor}
 use Rattle.products.specs.declared.Product.{Product}
 use Rattle.products.specs.Told.{valueIn, given, unread}
-use Rattle.wording.specs.Factors.{factorAt, first_of, productAt, words_of, numIn, denIn}
+use Rattle.wording.specs.Factors.{factorAt, front_factors, productAt, words_of, numIn, denIn}
 
 map-append : (xs ys : List Factor) → map valueIn (xs ++ ys) ≡ map valueIn xs ++ map valueIn ys
 map-append [] ys = refl
 map-append (x ∷ xs) ys = ap (λ (r : List FactorValue). valueIn x ∷ r) (map-append xs ys)
 
 -- one factor more is read
-pub read-on : (ws : List ℕ) (fs : List Factor) (i : ℕ) (f : Factor) → i < length fs → valueIn f ≡ factorAt ws i → map valueIn (take i fs) ≡ first_of ws i
-    → map valueIn (take (i + 1) (set fs i f)) ≡ first_of ws (i + 1)
-unfolding first_of
+pub read-on : (ws : List ℕ) (fs : List Factor) (i : ℕ) (f : Factor) → i < length fs → valueIn f ≡ factorAt ws i → map valueIn (take i fs) ≡ front_factors ws i
+    → map valueIn (take (i + 1) (set fs i f)) ≡ front_factors ws (i + 1)
+unfolding front_factors
 read-on ws fs i f h e g = rw (add-one i, take-suc-set fs i f h, map-append (take i fs) (f ∷ []), g, e)
 
 -- the scalar has 64 places
@@ -27,11 +27,11 @@ unfolding given productValue
 scalar-long p e = sym (length-map p.factors valueIn) ∙ ap (λ (v : ProductValue). length v.factors) e
 
 -- all 64 are read
-pub all_read : (ws : List ℕ) (fs : List Factor) (i : ℕ) → length fs ≡ 64 → i ≡ 64 → map valueIn (take i fs) ≡ first_of ws i
+pub all_read : (ws : List ℕ) (fs : List Factor) (i : ℕ) → length fs ≡ 64 → i ≡ 64 → map valueIn (take i fs) ≡ front_factors ws i
     → given (record { factors = fs; len = (length ws + 3) / 4 }) ≡ productAt ws
 unfolding given productAt
 all_read ws fs i l e h =
-    let a : map valueIn fs ≡ first_of ws 64 = ap (map valueIn) (sym (take_all 64 fs (omega (arith, l)))) ∙ (rw (← e) (h)) in
+    let a : map valueIn fs ≡ front_factors ws 64 = ap (map valueIn) (sym (take_all 64 fs (omega (arith, l)))) ∙ (rw (← e) (h)) in
     ap (λ (vs : List FactorValue). record { factors = vs; len = (length ws + 3) / 4 }) a
 
 -- one factor more is stored, by four words

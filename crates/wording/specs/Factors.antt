@@ -18,13 +18,13 @@ factorAt ws i = record {
 }
 
 -- the first n factors
-unfoldable pub first_of : List ℕ → ℕ → List FactorValue
-first_of ws zero = []
-first_of ws (suc n) = first_of ws n ++ (factorAt ws n ∷ [])
+unfoldable pub front_factors : List ℕ → ℕ → List FactorValue
+front_factors ws zero = []
+front_factors ws (suc n) = front_factors ws n ++ (factorAt ws n ∷ [])
 
 -- as many factors as words were begun: a torn last one has a denominator of 0, so such a product is malformed, like one of over 64
 unfoldable pub productAt : List ℕ → ProductValue
-productAt ws = record { factors = first_of ws 64; len = (length ws + 3) / 4 }
+productAt ws = record { factors = front_factors ws 64; len = (length ws + 3) / 4 }
 
 -- ══ Out ══
 

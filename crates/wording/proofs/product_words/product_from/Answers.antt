@@ -2,12 +2,12 @@
 use mathlib.Core.Path.{refl, ◌∙◌}
 use native.Mathlib.Omega.{arith}
 use lib.ListN.{length-set}
-use Rattle.wording.specs.Factors.{first_of}
+use Rattle.wording.specs.Factors.{front_factors}
 use Rattle.wording.proofs.Stores.{read-on, scalar-long, all_read}
 use Rattle.wording.proofs.product_words.product_from.Goals as goal
 
 pub loop-i-init : goal.loop-i-init
-unfolding first_of
+unfolding front_factors
 loop-i-init c = (scalar-long _ c.scalar-p.ensures, refl)
 
 pub loop-i-preserved : goal.loop-i-preserved
