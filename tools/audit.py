@@ -7,7 +7,8 @@ an edit. In back quotes `crate/specs/File` or `crate/proofs/File` names a file o
 a function stand in that file, or are public functions of that crate. A table that was measured says so in a line
     Measured at COMMIT, KIT, MACHINE, DATE, of: CRATE ..
 and is older than the code once the source of one of these crates has changed since: a warning.
-Prints each name that isn't found and each measured line that is too old, and how many were looked up; ends with 1 if a name isn't found."""
+The figures of AUDIT.md are counted anew: `--write` writes them.
+Prints each name that isn't found, each figure that is wrong and each measured line that is too old, and how many were looked up; ends with 1 if a name isn't found or a figure is wrong."""
 import functools
 import re
 import subprocess
@@ -106,14 +107,50 @@ def measured(page):
             yield None if same else f"{page.relative_to(ROOT)}, line {number}: warning: measured at {said.group(1)}, before the code changed"
 
 
+def bare_lines(path):
+    """The lines of definitions in a file: without comments, imports and blank lines."""
+    text = re.sub(r"^use [^{\n]*(\{[^}]*\})?.*$", "", path.read_text(encoding="utf-8"), flags=re.M)
+    return sum(1 for line in text.splitlines() if line.strip() and not line.strip().startswith("--"))
+
+
+def counted():
+    """What AUDIT.md says in figures, counted."""
+    specs = [f for f in (CRATES / "rules" / "specs").glob("*.antt")]
+    # cases, and the lists that open all definitions for a computation
+    told = [f for f in specs if not re.match(r"CasesOf|Examples|Lengths|Lib|Rules|Engine|Sheets$", f.stem)]
+    code = "\n".join(f.read_text(encoding="utf-8") for f in sorted(CRATES.glob("*/src/**/*.rt")))
+    return {
+        "lines of definitions": sum(map(bare_lines, told)),
+        "functions": len(re.findall(r"^\s*(?:pub(?:\(\w+\))? )?(?:const |unsafe )?(?:extern \"C\" )?fn \w+", code, re.M)),
+        "theorems": len(re.findall(r"pub fn \w+(?:<[^>]*>)?\(\)\s*\n(?:\s+ensures[^\n]*\n)+\{\}", code)),
+        "edits": len(list(CRATES.glob("*/must-fail/*.edit"))),
+    }
+
+
+def figures(write):
+    """Each row `| what | number | ..` of AUDIT.md whose number isn't what is counted."""
+    page = ROOT / "docs" / "AUDIT.md"
+    text = page.read_text(encoding="utf-8")
+    for what, number in counted().items():
+        row = re.search(r"^\| " + what + r" \| ([\d,]+) \|", text, re.M)
+        said = None if row is None else int(row.group(1).replace(",", ""))
+        if said != number and row is not None and write:
+            text = text[: row.start(1)] + f"{number:,}" + text[row.end(1) :]
+        elif said != number:
+            yield f"docs/AUDIT.md: {what} are {number:,}, not {said}: tools/audit.py --write"
+    if write:
+        page.write_text(text, encoding="utf-8")
+
+
 def main():
+    wrong = list(figures("--write" in sys.argv))
     names = [s for page in PAGES for s in tables(page)]
     old = [s for page in PAGES for s in measured(page) if s is not None]
     missing = [s for s in names if s is not None]
-    for line in (*missing, *old):
+    for line in (*wrong, *missing, *old):
         print(line)
     print(f"{len(names)} looked up, {len(missing)} missing; {len(old)} tables were measured before the code changed")
-    return 1 if missing else 0
+    return 1 if missing or wrong else 0
 
 
 if __name__ == "__main__":
