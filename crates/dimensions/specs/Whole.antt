@@ -52,7 +52,7 @@ sign-place (Ok (Some j)) e b h i n f = e
 sign-place (Ok None) e b h i n f = absurd (h i n refl f)
 sign-place (Err j) e b h i n f = absurd b
 
-written-length : (t : Tree) → length (writeProduct t) ≡ suc (length t)
+pub written-length : (t : Tree) → length (writeProduct t) ≡ suc (length t)
 unfolding writeProduct
 written-length t = ap suc (length-map t writeFactor)
 

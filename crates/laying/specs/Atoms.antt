@@ -31,7 +31,7 @@ use Rattle.laws.specs.Lists.{Every, is-yes, is-no, true≢false}
 use Rattle.records.specs.Views.{viewAt}
 use Rattle.records.specs.Holds.{openOf, viewOpen, atomOf, viewAtom, HoldsFactor, HoldsFactors}
 use Rattle.records.specs.declared.View.TheVariants as view
-use Rattle.loading.specs.Loaded.{holds_at}
+use Rattle.types.specs.Held.{holds_at}
 use Rattle.records.specs.declared.Open.{Open}
 use Rattle.records.specs.declared.Open.TheVariants.{Var, Quant, Par}
 use Rattle.records.specs.declared.Atom.{Atom}

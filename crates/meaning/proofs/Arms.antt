@@ -22,7 +22,7 @@ use Rattle.records.specs.declared.Basic as basics
 use Rattle.records.specs.declared.View.{View}
 use Rattle.records.specs.declared.View.TheVariants as view
 use Rattle.records.specs.contracts.View as views
-use Rattle.loading.specs.Loaded.{holds_at}
+use Rattle.types.specs.Held.{holds_at}
 use Rattle.meaning.specs.Heads.{Decides, SaysFactor, TellsFactors, head_of, headAtom, reads}
 use Rattle.meaning.specs.HeadLaws.{same-heads, same-atoms, factor-is, same-words, words_are}
 use Rattle.meaning.specs.declared.inner.Head.{Head}

@@ -16,7 +16,7 @@ use Rattle.records.specs.ByView.{atom-back, factor-by-view}
 use Rattle.records.specs.declared.Atom as atoms
 use Rattle.records.specs.declared.View.{View}
 use Rattle.records.specs.declared.View.TheVariants as view
-use Rattle.loading.specs.Loaded.{Says, says}
+use Rattle.types.specs.Held.{Says, says}
 use Rattle.meaning.specs.Heads.{SaysFactor, headAtom, headAlone, headDim, reads}
 use Rattle.meaning.specs.declared.inner.Head.{Head}
 

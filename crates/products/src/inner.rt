@@ -1,5 +1,5 @@
 // The work on products that were tested before, with a pool and a table that were tested before.
-ghost use Rattle.std.specs.Prelude.{◌≡◌, true, ◌++◌, length, drop};
+ghost use Rattle.std.specs.Prelude.{◌≡◌, true, ◌++◌, ◌^◌, length, drop};
 ghost use Prim.Native.Nat.{ℕ, ◌<◌, ◌≤◌, ◌+◌, compare};
 ghost use Rattle.rules.specs.Base.{and', bounded, within};
 ghost use Rattle.rules.specs.Exponents.{goodExp};
@@ -82,7 +82,7 @@ pub fn order(x: Factor, y: Factor, names: NameTable) -> Ordering
 impl Product {
     /// One factor more. Past the 64th it is counted and not kept.
     pub fn push(&mut self, f: Factor)
-        requires { self.old.len < 1000 }
+        requires { self.old.len < 2 ^ 32 }
         ensures { self.new ≡ put_of self.old f }
     {
         let n = self.len;

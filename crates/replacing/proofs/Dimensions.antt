@@ -1,5 +1,5 @@
 -- A dimension with its bound variables replaced, and the products that stand for types.
-use Rattle.std.specs.Prelude.{◌≡◌, List, [], ℕ, ◌+◌, ◌≤◌, length, Result, Ok, Err, refl}
+use Rattle.std.specs.Prelude.{◌≡◌, List, [], ℕ, ◌≤◌, length, Result, Ok, Err, refl}
 use Rattle.std.proofs.Common.{arith, ap, sym, subst, ◌∙◌}
 use Rattle.std.proofs.Math.Option.{none, some, get_or}
 use Rattle.rules.specs.Base.{Got, got, refused, bounded}
@@ -11,16 +11,12 @@ use Rattle.rules.specs.Replacing.{Look, asProduct, replaceProduct, replaceDim, r
 use Rattle.rules.specs.Trees as tree
 use Rattle.rules.specs.Trees.{Ty, opened, dim, size}
 use Rattle.rules.specs.Values.{productValue}
-use Rattle.rules.specs.WellFormed.{goodTy}
 use Rattle.rules.specs.Writing.{writeProduct, writeTy}
 use Rattle.laws.specs.GoodProducts.{good-product}
-use Rattle.laws.specs.Size.{size-ty}
 use Rattle.products.specs.Told.{Tree, given, answer, productOf}
 use Rattle.products.specs.Held.{Sound, well-sound, law}
-use Rattle.products.specs.Places.{length-product}
 use Rattle.products.specs.declared.Product.{Product}
 use Rattle.records.specs.Cut.{short-product}
-use Rattle.records.specs.Holds.{HoldsFactors}
 use Rattle.records.specs.declared.Open as names
 use Rattle.types.specs.declared.Shape.{Shape}
 use Rattle.types.specs.declared.Shape.TheVariants as shape
@@ -30,7 +26,7 @@ use Rattle.types.specs.Shapes.{whole}
 use Rattle.types.specs.Written.{Writes, writes-none}
 use Rattle.replacing.specs.Well as well
 use Rattle.replacing.specs.Well.{GoodProduct, Whole, LooksGood}
-use Rattle.replacing.specs.InProducts.{FewFactors, done, taken, told-stop, fine-told, product-kept}
+use Rattle.replacing.specs.InProducts.{done, taken, told-stop, fine-told, product-kept}
 use Rattle.replacing.specs.Leaves.{Leaves}
 use Rattle.replacing.proofs.Walks.{leaves, stops, behind, short-writes}
 
@@ -54,25 +50,9 @@ module _ {t : Ty ℕ} where
       go (shape.Struct n as' fs) a d = refl
       go (shape.List u) a d = refl
 
-  pub few-of : {p : Tree} → dim p ≡ t → FewFactors t → length p ≤ 64
-  few-of {p} e h = subst FewFactors (sym e) h
-
 module _ (pool table : List ℕ) where
   pub few : (p : Tree) → GoodProduct pool table p → length p ≤ 64
   few p g = (good-product (well.names pool table) (law pool table) (is_held (table_of pool table)) 4_294_967_296 p g).few
-
-  pub few-good : (t : Ty ℕ) → well.GoodTy pool table t → FewFactors t
-  unfolding goodTy
-  few-good (opened o) g = tt
-  few-good (tree.basic b) g = tt
-  few-good (dim p) g = few p g
-  few-good (tree.fn ps r) g = tt
-  few-good (tree.struct n as' fs) g = tt
-  few-good (tree.list u) g = tt
-
-  pub loaded : (s : List ℕ) (at n : ℕ) {P : Product} (p : Tree) → HoldsFactors s p at → length p ≡ n → GoodProduct pool table p
-      → ((q : Tree) → HoldsFactors s q at → length q ≡ n → given P ≡ productValue q) → Whole pool table P p
-  loaded s at n p h l g f = record { is = f p h l; good = g }
 
   -- ══ A product with its bound variables replaced ══
 
@@ -123,7 +103,3 @@ module _ (pool table : List ℕ) where
   pub dimension-short : {t : Ty ℕ} {p : Tree} → dim p ≡ t → GoodProduct pool table p → size t ≤ 65_535
   unfolding size
   dimension-short {p = p} e g = omega (arith, ap size e, few p g)
-
-pub product-length : (P : Product) → Sound P → length (writeProduct (productOf P)) ≡ 1 + P.len
-unfolding writeTy size
-product-length P s = omega (arith, size-ty (dim (productOf P)), length-product P s.long s.few)

@@ -12,7 +12,7 @@ use Rattle.rules.specs.Exponents.{Exp, goodExp, goodStored}
 use Rattle.rules.specs.Names.{table_of, is_held}
 use Rattle.rules.specs.Products.{divide, raise, multiply}
 use Rattle.rules.specs.Replacing.{Look, asProduct, replaceFactors, replaceProduct}
-use Rattle.rules.specs.Trees.{Atom, free, base, Factor, ◌↑◌, Names, Ty, opened, basic, dim, fn, struct, list}
+use Rattle.rules.specs.Trees.{Atom, free, base, Factor, ◌↑◌, Names, Ty}
 use Rattle.rules.specs.Values.{ProductValue, productValue}
 use Rattle.rules.specs.WellFormed.{goodOpen, goodFactor, goodProduct, rising}
 use Rattle.laws.specs.GoodProducts.{multiply_good, divide-good, raise-good, goodAtom}
@@ -27,15 +27,6 @@ use Rattle.products.specs.Held.{law, made, made-long, Taken}
 use Rattle.products.specs.declared.Factor as code
 use Rattle.products.specs.declared.Product.{Product}
 use Rattle.replacing.specs.Well.{names, GoodFactor, GoodProduct, GoodTy, Whole, LooksGood}
-
--- a dimension of at most 64 factors, or another type
-abbrev pub FewFactors : Ty ℕ → Type 0
-FewFactors (opened o) = Unit {0}
-FewFactors (basic b) = Unit {0}
-FewFactors (dim p) = length p ≤ 64
-FewFactors (fn ps r) = Unit {0}
-FewFactors (struct n as' fs) = Unit {0}
-FewFactors (list t) = Unit {0}
 
 -- what the atom of a factor is bound to
 abbrev pub atomLooked : Look ℕ → Factor ℕ → Option (Ty ℕ)

@@ -1,5 +1,5 @@
 -- Two dimensions divided: what the division asks, and what is written of the quotient.
-use Rattle.std.specs.Prelude.{◌≡◌, List, [], ◌∷◌, ℕ, ◌+◌, ◌≤◌, length, Ok, Err, refl}
+use Rattle.std.specs.Prelude.{◌≡◌, List, [], ◌∷◌, ℕ, ◌+◌, length, Ok, Err, refl}
 use Rattle.std.proofs.Common.{arith, ap, ap₂, sym, subst, ◌∙◌}
 use Rattle.rules.specs.Base.{Got, got, refused, bounded}
 use Rattle.rules.specs.Names.{table_of, is_held}
@@ -9,20 +9,18 @@ use Rattle.rules.specs.Refusals.{number_of}
 use Rattle.rules.specs.Values.{ProductValue, productValue}
 use Rattle.rules.specs.Writing.{writeProduct}
 use Rattle.rules.specs.declared.Refusal.{Refusal}
-use Rattle.laws.specs.GoodProducts.{good-product, divide-good}
+use Rattle.laws.specs.GoodProducts.{divide-good}
 use Rattle.products.specs.Told.{Tree, given, answer, productOf as treeIn}
 use Rattle.products.specs.Held.{Well, Sound, well-sound, law}
 use Rattle.products.specs.Places.{length-product}
 use Rattle.products.specs.declared.Product as code
 use Rattle.records.specs.Cut.{fit}
-use Rattle.records.specs.Holds.{HoldsFactors}
 use Rattle.records.specs.Views.{recOf}
 use Rattle.records.specs.declared.View.TheVariants as view
 use Rattle.replacing.specs.InProducts.{Fresh, fresh, taken, told-stop}
 use Rattle.replacing.specs.Well as well
 use Rattle.replacing.specs.Well.{Whole, GoodProduct}
 use Rattle.types.specs.declared.writer.Writer.{Writer}
-use Rattle.types.specs.Once.{Factors}
 use Rattle.types.specs.Written.{Writes}
 use Rattle.satisfying.specs.Applied.{Applied}
 use Rattle.satisfying.specs.Parts.{asScalar}
@@ -30,13 +28,9 @@ use Rattle.satisfying.specs.declared.Step.TheVariants.{Split}
 use Rattle.satisfying.proofs.Written.{split-is, scalar-written, product-as}
 
 module _ (pool table : List ℕ) where
-  -- a product that was loaded
-  pub whole : {s : List ℕ} {at n : ℕ} {P : code.Product} (p : Factors s at n) → GoodProduct pool table p.0
-      → ((q : Tree) → HoldsFactors s q at → length q ≡ n → given P ≡ productValue q) → Whole pool table P p.0
-  whole p g f = record { is = f p.0 p.1.held p.1.many; good = g }
-
-  pub few : {s : List ℕ} {at n : ℕ} (p : Factors s at n) → GoodProduct pool table p.0 → n ≤ 64
-  few p g = omega (arith, p.1.many, (good-product (well.names pool table) (law pool table) (is_held (table_of pool table)) 4_294_967_296 p.0 g).few)
+  -- a product that was read
+  pub whole : {P : code.Product} {p : Tree} → GoodProduct pool table p → given P ≡ productValue p → Whole pool table P p
+  whole g f = record { is = f; good = g }
 
   pub whole-well : {P : code.Product} (p : Tree) → Whole pool table P p → Well pool table P
   whole-well {P} p w = (taken pool table P p w).well

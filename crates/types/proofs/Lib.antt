@@ -1,5 +1,6 @@
 mod Asked
 mod Bound
+mod Factors
 mod FieldsFound
 mod OneVariable
 mod Seen

@@ -1,4 +1,5 @@
 pub mod Binds
+pub mod Held
 pub mod Once
 pub mod Puts
 pub mod Sets

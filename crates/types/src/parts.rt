@@ -1,4 +1,4 @@
-//! Going over types, fields and factors.
+//! Going over types, fields and factors, and a product by value.
 ghost use Rattle.std.specs.Prelude.{◌≡◌, List};
 ghost use Rattle.std.specs.Iterator.{YieldsFirstBy, item_count};
 ghost use Rattle.rules.specs.Base.{and_then};
@@ -6,7 +6,9 @@ ghost use Rattle.rules.specs.Contents.{fieldIn};
 ghost use Rattle.rules.specs.Names.{Bytes, numbered};
 ghost use Rattle.rules.specs.Products.{single};
 ghost use Rattle.rules.specs.Refusals.{toldOption, toldOptionBy};
+ghost use Rattle.rules.specs.Values.{productValue, value_of};
 ghost use Rattle.rules.specs.Views.{variable};
+ghost use Rattle.products.specs.Told.{valueIn, given};
 ghost use Rattle.records.specs.Holds.{openOf};
 ghost use Rattle.types.specs.Shapes.{fields_together, multiplied, factor_of, factors_of, tree_of, trees_of};
 
@@ -80,6 +82,26 @@ fn variable(o: Open) -> Option<u32>
     }
 }
 
+impl Factor {
+    /// The factor by value.
+    #[tactic(auto, unfolding(rules::specs::Values::value_of, rules::specs::Values::kind_of, rules::specs::Values::number_in))]
+    pub fn value(self) -> products::Factor
+        ensures { valueIn result ≡ value_of (factor_of self) }
+    {
+        let (kind, name) = match self.atom {
+            Atom::Free(Open::Var(x)) => (11, x),
+            Atom::Free(Open::Quant(i)) => (15, i),
+            Atom::Free(Open::Par(x)) => (12, x),
+            Atom::Base(x) => (13, x),
+        };
+        products::Factor {
+            kind,
+            name,
+            exp: Exponent::from_words(self.num, self.den),
+        }
+    }
+}
+
 impl<'a> Product<'a> {
     /// The first factor, and those after it.
     pub fn split_first(self) -> Option<(Factor, Product<'a>)>
@@ -101,6 +123,17 @@ impl<'a> Product<'a> {
             }
             _ => unreachable!(),
         }
+    }
+
+    /// The product by value. Past the 64th factor it counts them.
+    pub fn value(self) -> products::Product
+        ensures { given result ≡ productValue self.entry.factors.0 }
+    {
+        let mut out = products::Product::scalar();
+        'factors: for factor in self {
+            out.push(factor.value());
+        }
+        out
     }
 
     /// The variable, where it is one variable to the power 1.

@@ -6,10 +6,10 @@ ghost use Rattle.terms.specs.Effects.{lent, Ready};
 ghost use Rattle.dimensions.specs.Whole.{productPut, DimDone};
 
 use super::factors::enter_factors;
-use loading::inner::store;
 use products::Product;
 use reading::inner::{mark, next_sign};
 use terms::inner::{Reached, Stand, count, place_of};
+use types::writer::Writer;
 
 /// Writes a product from the place that s counted on, if all of it was counted up to r.
 fn put_product(q: Product, s: Stand, r: Stand, dst: &mut [u32])
@@ -23,7 +23,11 @@ fn put_product(q: Product, s: Stand, r: Stand, dst: &mut [u32])
     let Ok(_) = r else {
         return;
     };
-    store(&q, dst, before.records);
+    let mut out = Writer {
+        words: dst,
+        at: before.records,
+    };
+    out.product(&q);
 }
 
 /// A dimension and its records.

@@ -11,12 +11,11 @@ ghost use Rattle.records.specs.Holds.{openOf};
 ghost use Rattle.types.specs.Shapes.{tree_of as type_of};
 ghost use Rattle.replacing.specs.Well.{names as numbers, GoodTy, Whole};
 ghost use Rattle.replacing.specs.Leaves.{productBy};
-ghost use Rattle.replacing.specs.InProducts.{FewFactors, put_in, atomLooked};
+ghost use Rattle.replacing.specs.InProducts.{put_in, atomLooked};
 
 use super::factors::{free_factor, open_of};
 use crate::substitution::Substitution;
 use exponents::Exponent;
-use loading::inner::load;
 use names::tables::NameTable;
 use products::inner::{divided, multiplied, raised};
 use products::{Factor, Product};
@@ -45,12 +44,11 @@ fn just(o: Open) -> Result<Product, Refusal>
 
 /// A bound type as a product: a variable counts as that variable, and any other type but a dimension is 6.
 fn as_product(t: Type) -> Result<Product, Refusal>
-    requires { FewFactors t.tree.0 }
     ensures { toldBy given result ≡ answer (asProduct t.entry.tree.0) }
 {
     match t.shape() {
         Shape::Open(o) => just(o),
-        Shape::Dimension(p) => Ok(load(p.words, p.at, p.count as usize)),
+        Shape::Dimension(p) => Ok(p.value()),
         _ => Err(Refusal::NotDimension),
     }
 }

@@ -2,8 +2,6 @@
 ghost use Rattle.std.specs.Prelude.{◌≡◌, ◌+◌, ◌<◌, min};
 ghost use Rattle.rules.specs.Trees.{dim};
 ghost use Rattle.rules.specs.Writing.{writeProduct, writeTy};
-ghost use Rattle.products.specs.Told.{productOf};
-ghost use Rattle.products.specs.Held.{Sound};
 ghost use Rattle.records.specs.Holds.{openOf};
 ghost use Rattle.types.specs.Written.{Writes};
 ghost use Rattle.replacing.specs.Well.{GoodProduct, GoodTy};
@@ -12,11 +10,9 @@ ghost use Rattle.replacing.specs.Leaves.{becomes, Leaves, LeavesParts, GoodParts
 use super::dims::replace_factors;
 use super::factors::alone;
 use crate::substitution::Substitution;
-use loading::inner::{load, store};
 use records::{Open, View};
 use rules::Refusal;
-use types::writer::{LAST, Writer};
-use types::writing::past;
+use types::writer::Writer;
 use types::{Fields, Product, Shape, Type, Types};
 
 /// What stands one after another in a type: a function's parameters or a struct's arguments, or a struct's fields.
@@ -36,25 +32,13 @@ fn replace_open(by: Substitution, o: Open, out: &mut Writer)
     }
 }
 
-/// Writes a product that was made.
-fn put_product(p: &products::Product, out: &mut Writer)
-    requires { Sound p.now }
-    ensures { Writes out.old out.new (writeProduct (productOf p.now)) }
-{
-    let at = out.at;
-    out.at = past(at, 1 + p.len);
-    if out.at < LAST {
-        store(p, out.words, at);
-    }
-}
-
 /// Writes a product with its bound variables replaced. It stays a product even at power 1.
 pub fn replace_product(by: Substitution, p: Product, out: &mut Writer) -> Result<(), Refusal>
     requires { GoodProduct by.names.pool.now by.names.table.now p.factors.0 }
     ensures { Leaves writeProduct out.old out.new result (productBy by.entry p.entry.factors.0) }
 {
-    let made = replace_factors(by, &load(p.words, p.at, p.count as usize))?;
-    put_product(&made, out);
+    let made = replace_factors(by, &p.value())?;
+    out.product(&made);
     Ok(())
 }
 

@@ -15,7 +15,6 @@ ghost use Rattle.satisfying.specs.Parts.{asScalar};
 ghost use Rattle.satisfying.specs.Applied.{Applied};
 
 use super::super::Step;
-use loading::inner::{load, store};
 use names::tables::NameTable;
 use products::inner::divided;
 use records::{Atom, Open, View};
@@ -38,16 +37,6 @@ fn as_product(x: Option<u32>, dimension: Type, out: &mut Writer) -> Step
     Step::Split(out.at)
 }
 
-/// A product as a dimension.
-fn put_product(p: &products::Product, out: &mut Writer)
-    requires sound { Sound p.now }
-    requires small { out.old.at ≤ 1_000_000_000 }
-    ensures { Writes out.old out.new (writeProduct (productOf p.now)) }
-{
-    store(p, out.words, out.at);
-    out.at += 1 + p.len;
-}
-
 /// Two dimensions: left divided by right is a scalar.
 fn quotient(
     names: NameTable,
@@ -60,11 +49,9 @@ fn quotient(
     requires small { out.old.at < 1_000_000_000 }
     ensures { Applied out.old out.new result (asScalar (divide (numbers names.entry.pool.now names.entry.table.now) bounded left.entry.factors.0 right.entry.factors.0)) }
 {
-    let p = load(left.words, left.at, left.count as usize);
-    let q = load(right.words, right.at, right.count as usize);
-    let made = divided(&p, &q, names)?;
+    let made = divided(&left.value(), &right.value(), names)?;
     out.put(View::IsScalar, 2 + made.len);
-    put_product(&made, out);
+    out.product(&made);
     Ok(Step::Split(out.at))
 }
 

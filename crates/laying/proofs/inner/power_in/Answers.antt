@@ -11,7 +11,7 @@ use Rattle.records.specs.declared.Atom.{Atom}
 use Rattle.records.specs.declared.View.{View}
 use Rattle.records.specs.declared.View.TheVariants as view
 use Rattle.records.specs.contracts.View as views
-use Rattle.loading.specs.Loaded.{holds_at, says}
+use Rattle.types.specs.Held.{holds_at, says}
 use Rattle.laying.specs.Atoms.{power-met, power-passed, power-none}
 use borrow.Enum.Refused.{opened}
 use Rattle.laying.proofs.inner.power_in.Goals as goal

@@ -3,11 +3,7 @@ use Rattle.std.proofs.lemmas.Result.{err_from_is_err_and}
 use Rattle.products.specs.Held.{well-sound}
 use Rattle.products.specs.Kinds.{value-back}
 use Rattle.replacing.specs.InProducts.{taken, only-whole, exp-good, D, L, M, put_first, put_second, put-third, put_last}
-use Rattle.replacing.proofs.Dimensions.{few-good}
 use Rattle.replacing.proofs.inner.dims.put_in.Goals as goal
-
-pub as_product-requires : goal.as_product-requires
-as_product-requires c = few-good c.args.names.pool.now c.args.names.table.now c.args.t.tree.0 c.requires.good
 
 pub returns-in_err-bound : goal.returns-in_err-bound
 returns-in_err-bound c = λ a w.

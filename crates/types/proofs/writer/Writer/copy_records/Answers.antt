@@ -1,4 +1,4 @@
-use Rattle.std.proofs.Common.{◌*◌, List, ℕ, arith, refl, ap, ◌∙◌}
+use Rattle.std.proofs.Common.{◌*◌, arith, refl, ap, ◌∙◌}
 use Rattle.std.proofs.lemmas.List.Edits.{sets}
 use Rattle.types.proofs.writer.Writer.copy_records.Goals as goal
 
