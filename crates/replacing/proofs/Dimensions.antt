@@ -1,15 +1,15 @@
 -- A dimension with its bound variables replaced, and the products that stand for types.
-use Rattle.std.specs.Prelude.{◌≡◌, List, [], ℕ, ◌≤◌, length, Result, Ok, Err, refl}
+use Rattle.std.specs.Prelude.{◌≡◌, false, List, [], ℕ, ◌+◌, ◌≤◌, length, Result, Ok, Err, refl}
 use Rattle.std.proofs.Common.{arith, ap, sym, subst, ◌∙◌}
 use Rattle.std.proofs.Math.Option.{none, some, get_or}
-use Rattle.rules.specs.Base.{Got, got, refused, bounded}
+use Rattle.rules.specs.Base.{Got, got, refused, bounded, any}
 use Rattle.rules.specs.Names.{table_of, is_held}
 use Rattle.rules.specs.Products.{single}
 use Rattle.rules.specs.Refusals.{number_of}
 use Rattle.rules.specs.declared.Refusal.{Refusal}
 use Rattle.rules.specs.Replacing.{Look, asProduct, replaceProduct, replaceDim, replaceTy}
 use Rattle.rules.specs.Trees as tree
-use Rattle.rules.specs.Trees.{Ty, opened, dim, size}
+use Rattle.rules.specs.Trees.{Ty, opened, dim, size, opens}
 use Rattle.rules.specs.Values.{productValue}
 use Rattle.rules.specs.Writing.{writeProduct, writeTy}
 use Rattle.laws.specs.GoodProducts.{good-product}
@@ -27,7 +27,12 @@ use Rattle.types.specs.Written.{Writes, writes-none}
 use Rattle.replacing.specs.Well as well
 use Rattle.replacing.specs.Well.{GoodProduct, Whole, LooksGood}
 use Rattle.replacing.specs.InProducts.{done, taken, told-stop, fine-told, product-kept}
-use Rattle.replacing.specs.Leaves.{Leaves}
+use Rattle.replacing.specs.Leaves.{Leaves, replaced}
+use Rattle.laws.specs.Untouched.{Unbound}
+use Rattle.queries.specs.Scans.{opensIn}
+use Rattle.queries.specs.ScanLaws.{type-opens}
+use Rattle.records.specs.Holds.{Holds}
+use Rattle.replacing.proofs.Touches.{none-replaced}
 use Rattle.replacing.proofs.Walks.{leaves, stops, behind, short-writes}
 
 -- ══ Types as products ══
@@ -103,3 +108,7 @@ module _ (pool table : List ℕ) where
   pub dimension-short : {t : Ty ℕ} {p : Tree} → dim p ≡ t → GoodProduct pool table p → size t ≤ 65_535
   unfolding size
   dimension-short {p = p} e g = omega (arith, ap size e, few p g)
+
+-- where none of its open names is replaced, a type stays
+pub untouched : (look : Look ℕ) (s : List ℕ) (t : Ty ℕ) (at e : ℕ) → Holds s t at → e ≡ at + size t → false ≡ any (replaced look) (opensIn s at e) → Unbound look (opens t)
+untouched look s t at e h p q = none-replaced look (opens t) (sym (q ∙ ap (any (replaced look)) (ap (opensIn s at) p ∙ type-opens s t at h)))

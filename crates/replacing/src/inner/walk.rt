@@ -49,7 +49,11 @@ fn replace_dimension(by: Substitution, t: Type, p: Product, out: &mut Writer) ->
     ensures { Leaves writeTy out.old out.new result (typeBy by.entry t.entry.tree.0) }
 {
     let Some(o) = alone(p) else {
-        return replace_product(by, p, out);
+        if by.touches(t.words, t.at, t.end()) {
+            return replace_product(by, p, out);
+        }
+        out.copy(t); // nothing in it is replaced
+        return Ok(());
     };
     match by.look_up(o) {
         Some(bound) => out.copy(bound),
