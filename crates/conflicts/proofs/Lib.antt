@@ -1,0 +1,6 @@
+pub mod Marks
+pub mod Halving
+pub mod Steps
+pub mod Testing
+pub mod Finding
+pub mod Entering
