@@ -1,6 +1,7 @@
 -- What the first record of a type says of its tree, and where its parts stand.
 use Rattle.std.specs.Prelude.{◌≡◌, List, [], ◌∷◌, ℕ, zero, suc, ◌+◌, ◌-◌, ◌<◌, ◌≤◌, refl, length}
 use Rattle.std.proofs.Common.{arith, ap, ap₂, sym, subst, ◌∙◌}
+use Rattle.std.proofs.Math.Option.{none}
 use Rattle.rules.specs.Exponents.{frac}
 use Rattle.rules.specs.Trees as tree
 use Rattle.rules.specs.Trees.{
@@ -24,10 +25,11 @@ use Rattle.rules.specs.Trees.{
   count,
   countFields,
 }
+use Rattle.rules.specs.Views.{asVar, productOf}
 use Rattle.rules.specs.Writing.{twos, signed}
 use Rattle.records.specs.Views.{viewAt, longAt}
 use Rattle.records.specs.Places.{seen-in}
-use Rattle.records.specs.Holds.{openOf, atomOf, viewAtom, basicOf, HoldsFactor, HoldsFactors, Holds, HoldsTys, HoldsFields, holds-long}
+use Rattle.records.specs.Holds.{openOf, atomOf, viewAtom, basicOf, HoldsFactor, HoldsFactors, HoldsProduct, Holds, HoldsTys, HoldsFields, holds-long}
 use Rattle.records.specs.ByView.{Arms, by-view, factor-by-view, in_reach, ends-in}
 use Rattle.records.specs.declared.Open as names
 use Rattle.records.specs.declared.Atom as atoms
@@ -105,6 +107,26 @@ module _ (s : List ℕ) where
       go (view.Scheme n) y a b c d e f = y
       go view.Concrete y a b c d e f = y
       go view.Bad y a b c d e f = y
+
+  -- a type that doesn't begin with an open name is no variable
+  pub no-variable : (at : ℕ) (h : ATree s at) → ((o : names.Open) → viewAt s at ≡ view.Opened o → ⊥) → none ≡ asVar h.0
+  unfolding Holds
+  no-variable at (opened o, k) n = absurd (n _ k.0)
+  no-variable at (basic b, k) n = refl
+  no-variable at (dim p, k) n = refl
+  no-variable at (fn ps r, k) n = refl
+  no-variable at (struct x as' fs, k) n = refl
+  no-variable at (list t, k) n = refl
+
+  -- and one that doesn't begin with the record of a product is no dimension
+  pub no-dimension : (at : ℕ) (h : ATree s at) → ((n : ℕ) → viewAt s at ≡ view.Dim n → ⊥) → none ≡ productOf h.0
+  unfolding Holds HoldsProduct
+  no-dimension at (opened o, k) n = refl
+  no-dimension at (basic b, k) n = refl
+  no-dimension at (dim p, k) n = absurd (n _ k.0)
+  no-dimension at (fn ps r, k) n = refl
+  no-dimension at (struct x as' fs, k) n = refl
+  no-dimension at (list t, k) n = refl
 
   -- the first of some types, and those after it
   pub record First (at : ℕ) (n : ℕ) (ts : Tys ℕ) : Type 0 where

@@ -72,7 +72,7 @@ impl<'a> Fields<'a> {
 }
 
 /// The variable, where an open name is one.
-fn variable(o: Open) -> Option<u32>
+pub fn variable(o: Open) -> Option<u32>
     ensures { toldOption result ≡ variable (openOf o) }
 {
     match o {

@@ -3,15 +3,16 @@ ghost use Rattle.std.specs.Prelude.{◌≡◌, List, ◌+◌};
 ghost use Rattle.rules.specs.Trees.{size, sizeTys};
 ghost use Rattle.rules.specs.Contents.{closed, contains};
 ghost use Rattle.rules.specs.Names.{Bytes, numbered};
-ghost use Rattle.rules.specs.Refusals.{toldOption};
-ghost use Rattle.rules.specs.Views.{asPower, asVar};
-ghost use Rattle.types.specs.Shapes.{asked, whole, together};
+ghost use Rattle.rules.specs.Refusals.{toldOption, toldOptionBy};
+ghost use Rattle.rules.specs.Views.{asPower, asVar, productOf};
+ghost use Rattle.types.specs.Shapes.{asked, factors_of, whole, together};
 
+use super::parts::variable;
 use super::{Constraint, Demand, Fields, Product, Shape, Type, Types};
 use queries::Kind;
 use queries::inner::{none_open, occurs};
+use records::View;
 use records::seen::{length_at, view_at};
-use records::{Open, View};
 
 impl<'a> Type<'a> {
     /// The place past its last record.
@@ -46,8 +47,22 @@ impl<'a> Type<'a> {
     pub fn variable(self) -> Option<u32>
         ensures { toldOption result ≡ asVar self.entry.tree.0 }
     {
-        match self.shape() {
-            Shape::Open(Open::Var(x)) => Some(x),
+        match view_at(self.words, self.at) {
+            View::Opened(o) => variable(o),
+            _ => None,
+        }
+    }
+
+    /// The product, where it is a dimension.
+    pub fn dimension(self) -> Option<Product<'a>>
+        ensures { toldOptionBy factors_of result ≡ productOf self.entry.tree.0 }
+    {
+        match view_at(self.words, self.at) {
+            View::Dim(count) => {
+                let at = self.at + 1;
+                let words = self.words;
+                Some(Product { words, at, count })
+            }
             _ => None,
         }
     }
@@ -56,10 +71,7 @@ impl<'a> Type<'a> {
     pub fn power_variable(self) -> Option<u32>
         ensures { toldOption result ≡ asPower self.entry.tree.0 }
     {
-        match self.shape() {
-            Shape::Dimension(product) => product.variable(),
-            _ => None,
-        }
+        self.dimension()?.variable()
     }
 
     /// Which type it is, and its parts.
