@@ -1,15 +1,15 @@
 -- A dimension with its bound variables replaced, and the products that stand for types.
-use Rattle.std.specs.Prelude.{◌≡◌, false, List, [], ℕ, ◌+◌, ◌≤◌, length, Result, Ok, Err, refl}
+use Rattle.std.specs.Prelude.{◌≡◌, Bool, true, false, ◌||◌, List, [], ◌∷◌, ℕ, ◌+◌, ◌≤◌, length, Result, Ok, Err, refl}
 use Rattle.std.proofs.Common.{arith, ap, sym, subst, ◌∙◌}
 use Rattle.std.proofs.Math.Option.{none, some, get_or}
-use Rattle.rules.specs.Base.{Got, got, refused, bounded, any}
+use Rattle.rules.specs.Base.{Got, got, refused, bounded, any, collect}
 use Rattle.rules.specs.Names.{table_of, is_held}
 use Rattle.rules.specs.Products.{single}
 use Rattle.rules.specs.Refusals.{number_of}
 use Rattle.rules.specs.declared.Refusal.{Refusal}
 use Rattle.rules.specs.Replacing.{Look, asProduct, replaceProduct, replaceDim, replaceTy}
 use Rattle.rules.specs.Trees as tree
-use Rattle.rules.specs.Trees.{Ty, opened, dim, size, opens}
+use Rattle.rules.specs.Trees.{Ty, opened, dim, size, opens, openOfFactor}
 use Rattle.rules.specs.Values.{productValue}
 use Rattle.rules.specs.Writing.{writeProduct, writeTy}
 use Rattle.laws.specs.GoodProducts.{good-product}
@@ -28,11 +28,7 @@ use Rattle.replacing.specs.Well as well
 use Rattle.replacing.specs.Well.{GoodProduct, Whole, LooksGood}
 use Rattle.replacing.specs.InProducts.{done, taken, told-stop, fine-told, product-kept}
 use Rattle.replacing.specs.Leaves.{Leaves, replaced}
-use Rattle.laws.specs.Untouched.{Unbound}
-use Rattle.queries.specs.Scans.{opensIn}
-use Rattle.queries.specs.ScanLaws.{type-opens}
-use Rattle.records.specs.Holds.{Holds}
-use Rattle.replacing.proofs.Touches.{none-replaced}
+use Rattle.replacing.proofs.Touches.{any-join}
 use Rattle.replacing.proofs.Walks.{leaves, stops, behind, short-writes}
 
 -- ══ Types as products ══
@@ -109,6 +105,19 @@ module _ (pool table : List ℕ) where
   unfolding size
   dimension-short {p = p} e g = omega (arith, ap size e, few p g)
 
--- where none of its open names is replaced, a type stays
-pub untouched : (look : Look ℕ) (s : List ℕ) (t : Ty ℕ) (at e : ℕ) → Holds s t at → e ≡ at + size t → false ≡ any (replaced look) (opensIn s at e) → Unbound look (opens t)
-untouched look s t at e h p q = none-replaced look (opens t) (sym (q ∙ ap (any (replaced look)) (ap (opensIn s at) p ∙ type-opens s t at h)))
+-- ══ Products in which nothing is replaced ══
+
+module _ (look : Look ℕ) {f : tree.Factor ℕ} {p q : Tree} (e : p ≡ f ∷ q) where
+  first-or-rest : any (replaced look) (opens (dim p)) ≡ (any (replaced look) (openOfFactor f) || any (replaced look) (opens (dim q)))
+  unfolding opens collect
+  first-or-rest = rw e (any-join (replaced look) (openOfFactor f) (opens (dim q)))
+
+  pub product-hit : any (replaced look) (openOfFactor f) ≡ true → any (replaced look) (opens (dim p)) ≡ true
+  product-hit h = first-or-rest ∙ ap (λ (b : Bool). b || any (replaced look) (opens (dim q))) h
+
+  pub product-miss : any (replaced look) (openOfFactor f) ≡ false → any (replaced look) (opens (dim p)) ≡ any (replaced look) (opens (dim q))
+  product-miss h = first-or-rest ∙ ap (λ (b : Bool). b || any (replaced look) (opens (dim q))) h
+
+pub product-empty : (look : Look ℕ) (p : Tree) → p ≡ [] → any (replaced look) (opens (dim p)) ≡ false
+unfolding opens collect any
+product-empty look p e = rw e refl

@@ -16,7 +16,7 @@ use Rattle.queries.specs.Scans.{opensView, opensFrom, opensIn}
 use Rattle.queries.specs.ScanLaws.{opens-step, opens-none, con-opens}
 use Rattle.replacing.specs.Leaves.{replaced}
 
-any-join : {A : Type 0} (p : A → Bool) (xs ys : List A) → any p (xs ++ ys) ≡ (any p xs || any p ys)
+pub any-join : {A : Type 0} (p : A → Bool) (xs ys : List A) → any p (xs ++ ys) ≡ (any p xs || any p ys)
 unfolding any
 any-join p [] ys = refl
 any-join p (x ∷ xs) ys = go (p x) refl (any-join p xs ys)

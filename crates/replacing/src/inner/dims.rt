@@ -3,14 +3,16 @@ ghost use Rattle.std.specs.Prelude.{◌≡◌, ℕ, [], ◌∷◌};
 ghost use Rattle.std.proofs.Math.Option.{some};
 ghost use Rattle.rules.specs.Refusals.{toldBy, toldOptionBy};
 ghost use Rattle.rules.specs.Replacing.{asProduct};
-ghost use Rattle.rules.specs.Trees.{Factor as FactorTree, opened};
+ghost use Rattle.rules.specs.Base.{any};
+ghost use Rattle.rules.specs.Exponents.{Exp};
+ghost use Rattle.rules.specs.Trees.{Factor as FactorTree, ◌↑◌, dim, opened, openOfFactor, opens};
 ghost use Rattle.rules.specs.Values.{productValue, value_of};
 ghost use Rattle.products.specs.Told.{Tree, given, answer, tree_of, valueIn, heldIn};
 ghost use Rattle.products.specs.Kinds.{Fine};
-ghost use Rattle.records.specs.Holds.{openOf};
+ghost use Rattle.records.specs.Holds.{atomOf, openOf};
 ghost use Rattle.types.specs.Shapes.{tree_of as type_of};
 ghost use Rattle.replacing.specs.Well.{names as numbers, GoodTy, Whole};
-ghost use Rattle.replacing.specs.Leaves.{productBy};
+ghost use Rattle.replacing.specs.Leaves.{productBy, replaced};
 ghost use Rattle.replacing.specs.InProducts.{put_in, atomLooked};
 
 use super::factors::{free_factor, open_of};
@@ -19,7 +21,7 @@ use exponents::Exponent;
 use names::tables::NameTable;
 use products::inner::{divided, multiplied, raised};
 use products::{Factor, Product};
-use records::Open;
+use records::{Atom, Open};
 use rules::Refusal;
 use types::{Shape, Type};
 
@@ -68,6 +70,28 @@ fn put_in(names: NameTable, acc: &Product, f: Factor, t: Type) -> Result<Product
 }
 
 impl<'a> Substitution<'a> {
+    /// Is the name of a factor replaced?
+    fn replaces(self, a: Atom) -> bool
+        ensures { (e : Exp) → result ≡ any (replaced self.entry.lent.0) (openOfFactor (atomOf a ↑ e)) }
+    {
+        match a {
+            Atom::Free(o) => self.look_up(o).is_some(),
+            Atom::Base(_) => false,
+        }
+    }
+
+    /// Is the name of one of the factors replaced?
+    pub fn touches_product(self, p: types::Product) -> bool
+        ensures { result ≡ any (replaced self.entry.lent.0) (opens (dim p.entry.factors.0)) }
+    {
+        'factors: for factor in p {
+            if self.replaces(factor.atom) {
+                return true;
+            }
+        }
+        false
+    }
+
     /// The type that a factor's name becomes; nothing where it stays.
     fn bound(self, f: Factor) -> Option<Type<'a>>
         ensures { toldOptionBy type_of result ≡ atomLooked self.entry.lent.0 (tree_of f) }

@@ -49,7 +49,7 @@ fn replace_dimension(by: Substitution, t: Type, p: Product, out: &mut Writer) ->
     ensures { Leaves writeTy out.old out.new result (typeBy by.entry t.entry.tree.0) }
 {
     let Some(o) = alone(p) else {
-        if by.touches(t.words, t.at, t.end()) {
+        if by.touches_product(p) {
             return replace_product(by, p, out);
         }
         out.copy(t); // nothing in it is replaced
