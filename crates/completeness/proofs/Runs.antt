@@ -192,7 +192,7 @@ module _ {N : Type 0} (ν : Names N) where
 
 -- ══ What is kept ══
 
-kept-in : {A : Type 0} (p : A → Bool) (xs : List A) (a : A) → Memᴰ a (keep p xs) → Memᴰ a xs × (p a ≡ true)
+pub kept-in : {A : Type 0} (p : A → Bool) (xs : List A) (a : A) → Memᴰ a (keep p xs) → Memᴰ a xs × (p a ≡ true)
 unfolding keep
 kept-in p [] a m = absurd (Memᴰ.not-nil m)
 kept-in p (x ∷ xs) a m = go (p x) refl (kept-in p xs a)

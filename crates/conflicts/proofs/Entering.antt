@@ -59,7 +59,8 @@ module _ (pool table ws : List ℕ) (w : Words32 ws) (h : lentTable pool table �
   outside res k e =
       let t = table_of pool table in
       let z : conflictOf t ws ≡ refused (number_of k) =
-      row-refused (shortLists (ws ∷ [])) (tableKept t) (setGiven t ws) (λ cs. apart t (collect opensCon cs)) (solve (numbersOf t) bounded) (conflictIn (numbersOf t))
+      row-refused (shortLists (ws ∷ [])) (tableKept t) (setGiven t ws) (λ cs. apart t (collect opensCon cs)) (solve (numbersOf t) bounded)
+      (conflictIn (numbersOf t))
       (number_of k) (kept_out pool table ws w (number_of k) h e) in
       record { answer = rw z refl; buffer = rw z refl }
 
@@ -89,7 +90,8 @@ module _ (pool table ws : List ℕ) (w : Words32 ws) (h : lentTable pool table �
     inside c res res' r f =
         let t = table_of pool table in
         let z : conflictOf t ws ≡ conflictIn (numbersOf t) x.set =
-        row-passed (shortLists (ws ∷ [])) (tableKept t) (setGiven t ws) (λ cs. apart t (collect opensCon cs)) (solve (numbersOf t) bounded) (conflictIn (numbersOf t))
+        row-passed (shortLists (ws ∷ [])) (tableKept t) (setGiven t ws) (λ cs. apart t (collect opensCon cs)) (solve (numbersOf t) bounded)
+        (conflictIn (numbersOf t))
         x.set _ x.given x.all in
         rw (z, ← same-lines c) f
 

@@ -48,7 +48,8 @@ module _ (ν : Names ℕ) (cs : List (Con ℕ)) where
         let z : conflictIn ν cs ≡ got none = ap byTest (sym first ∙ ap told e) in
         record { answer = rw z refl; buffer = rw z (sym (over_none res)) }
 
-    module _ (e : r ≡ Ok true) (n : ℕ) (counts : n ≡ length cs) (m : List Bool) (s : Result (Unit {0}) Refusal) (left : LeftOut cs ν 11 0 n (replicate 2048 true) m s) where
+    module _ (e : r ≡ Ok true) (n : ℕ) (counts : n ≡ length cs) (m : List Bool) (s : Result (Unit {0}) Refusal)
+        (left : LeftOut cs ν 11 0 n (replicate 2048 true) m s) where
       searches : conflictIn ν cs ≡ bySearch (leaveOut ν 11 [] lines [])
       unfolding conflictIn
       searches = ap byTest (sym first ∙ ap told e)

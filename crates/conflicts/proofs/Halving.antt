@@ -1,5 +1,30 @@
 -- Leaving out lines of a run of places, as the rules do it.
-use Rattle.std.specs.Prelude.{Result, Ok, Err, ◌≡◌, Bool, true, false, List, [], ◌++◌, ◌⊎◌, ℕ, zero, suc, ◌+◌, ◌-◌, ◌/◌, ◌≤◌, ◌<◌, leb, length, take, drop, get_or}
+use Rattle.std.specs.Prelude.{
+  Result,
+  Ok,
+  Err,
+  ◌≡◌,
+  Bool,
+  true,
+  false,
+  List,
+  [],
+  ◌++◌,
+  ◌⊎◌,
+  ℕ,
+  zero,
+  suc,
+  ◌+◌,
+  ◌-◌,
+  ◌/◌,
+  ◌≤◌,
+  ◌<◌,
+  leb,
+  length,
+  take,
+  drop,
+  get_or,
+}
 use Rattle.std.proofs.Common.{ap, ap₂, sym, ◌∙◌, arith, append-nil, inl, inr}
 use Rattle.std.proofs.Math.Seq.{take-append_seam, drop-append_seam}
 use borrow.Author.Tests.{le-leb, lt-leb}
@@ -9,7 +34,19 @@ use Rattle.rules.specs.Refusals.{told, toldBy, number_of}
 use Rattle.rules.specs.Trees.{Names, Con}
 use Rattle.rules.specs.declared.Refusal.{Refusal}
 use Rattle.conflicts.specs.Standing.{standing, On, Outside, Switched, before, behind, run, LeftOut}
-use Rattle.conflicts.proofs.Marks.{lines-both, lines-long, stand-all, stand-none, stand-alike, run-long, few-before, before-both, behind-both, run-both, whole-both}
+use Rattle.conflicts.proofs.Marks.{
+  lines-both,
+  lines-long,
+  stand-all,
+  stand-none,
+  stand-alike,
+  run-long,
+  few-before,
+  before-both,
+  behind-both,
+  run-both,
+  whole-both,
+}
 
 -- ══ The rules' steps ══
 
@@ -27,23 +64,23 @@ module _ {N : Type 0} (ν : Names N) (kept ls rest : List (Line N)) where
   abbrev atLast : Got Bool → Got (List (Line N))
   atLast m = m >>= λ r. elim r [ true ↦ got kept | false ↦ got (kept ++ ls) ]
 
-  out-all : (d : ℕ) → conflicting ν (kept ++ rest) ≡ got true → leaveOut ν d kept ls rest ≡ got kept
+  pub out-all : (d : ℕ) → conflicting ν (kept ++ rest) ≡ got true → leaveOut ν d kept ls rest ≡ got kept
   unfolding leaveOut
   out-all zero e = ap atLast e
   out-all (suc d) e = ap (byTest d) e
 
-  out-refused : (d n : ℕ) → conflicting ν (kept ++ rest) ≡ refused n → leaveOut ν d kept ls rest ≡ refused n
+  pub out-refused : (d n : ℕ) → conflicting ν (kept ++ rest) ≡ refused n → leaveOut ν d kept ls rest ≡ refused n
   unfolding leaveOut
   out-refused zero n e = ap atLast e
   out-refused (suc d) n e = ap (byTest d) e
 
-  out-kept : (d : ℕ) → conflicting ν (kept ++ rest) ≡ got false → (d ≡ 0) ⊎ (length ls ≤ 1) → leaveOut ν d kept ls rest ≡ got (kept ++ ls)
+  pub out-kept : (d : ℕ) → conflicting ν (kept ++ rest) ≡ got false → (d ≡ 0) ⊎ (length ls ≤ 1) → leaveOut ν d kept ls rest ≡ got (kept ++ ls)
   unfolding leaveOut
   out-kept zero e h = ap atLast e
   out-kept (suc d) e (inl z) = absurd (omega (arith, z))
   out-kept (suc d) e (inr k) = ap (byTest d) e ∙ ap (byLength d) (le-leb (length ls) 1 k)
 
-  out-halves : (d : ℕ) → conflicting ν (kept ++ rest) ≡ got false → 1 < length ls → leaveOut ν (suc d) kept ls rest ≡ halved d
+  pub out-halves : (d : ℕ) → conflicting ν (kept ++ rest) ≡ got false → 1 < length ls → leaveOut ν (suc d) kept ls rest ≡ halved d
   unfolding leaveOut
   out-halves d e k = ap (byTest d) e ∙ ap (byLength d) (lt-leb (length ls) 1 k)
 

@@ -4,3 +4,5 @@ pub mod Steps
 pub mod Testing
 pub mod Finding
 pub mod Entering
+pub mod Needed
+pub mod Worth

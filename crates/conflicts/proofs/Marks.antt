@@ -112,4 +112,5 @@ module _ (cs : List (Con ℕ)) where
 pub whole-both : (cs : List (Con ℕ)) (m : List Bool) (k : ℕ) → k ≤ length cs → standing m 0 cs ≡ before cs m k ++ behind cs m k
 whole-both cs m k le =
     let e : 0 + length (take k cs) ≡ k = omega (arith, length-take-le k cs le) in
-    ap (standing m 0) (sym (take-append-drop k cs)) ∙ stands-both m 0 (take k cs) (drop k cs) ∙ ap (λ (j : ℕ). standing m 0 (take k cs) ++ standing m j (drop k cs)) e
+    ap (standing m 0) (sym (take-append-drop k cs)) ∙ stands-both m 0 (take k cs) (drop k cs)
+    ∙ ap (λ (j : ℕ). standing m 0 (take k cs) ++ standing m j (drop k cs)) e

@@ -62,13 +62,16 @@ module _ (m : List Bool) where
       one : suc place ≡ place + 1
       one = omega arith
 
-      pub putting-first : (w₁ : Writer) → get_or m place false ≡ true → wide x.2 ≡ true → Writes w w₁ (writeCon x.2) → Putting m w₀ w₁ (place + 1) (alone left) cs
+      pub putting-first : (w₁ : Writer) → get_or m place false ≡ true → wide x.2 ≡ true → Writes w w₁ (writeCon x.2)
+          → Putting m w₀ w₁ (place + 1) (alone left) cs
       unfolding collect
       putting-first w₁ s k h = record {
         places = next;
         rest = λ w' q.
-            let q' : Writes w₁ w' (collect writeCon (part (suc place) (alone left))) = subst (λ (i : ℕ). Writes w₁ w' (collect writeCon (part i (alone left)))) (sym one) q in
-            let all : Writes w w' (collect writeCon (x.2 ∷ part (suc place) (alone left))) = writes-then (writeCon x.2) (collect writeCon (part (suc place) (alone left))) h q' in
+            let q' : Writes w₁ w' (collect writeCon (part (suc place) (alone left))) =
+            subst (λ (i : ℕ). Writes w₁ w' (collect writeCon (part i (alone left)))) (sym one) q in
+            let all : Writes w w' (collect writeCon (x.2 ∷ part (suc place) (alone left))) =
+            writes-then (writeCon x.2) (collect writeCon (part (suc place) (alone left))) h q' in
             p.rest w' (asked (subst (λ (l : List (Con ℕ)). Writes w w' (collect writeCon l)) (sym (part-first place x.2 (alone left) s k)) all));
       }
 
@@ -76,7 +79,8 @@ module _ (m : List Bool) where
       passed i = record {
         places = next;
         rest = λ w' q.
-            let q' : Writes w w' (collect writeCon (part (suc place) (alone left))) = subst (λ (i : ℕ). Writes w w' (collect writeCon (part i (alone left)))) (sym one) q in
+            let q' : Writes w w' (collect writeCon (part (suc place) (alone left))) =
+            subst (λ (i : ℕ). Writes w w' (collect writeCon (part i (alone left)))) (sym one) q in
             p.rest w' (asked (subst (λ (l : List (Con ℕ)). Writes w w' (collect writeCon l)) (sym i) q'));
       }
 
@@ -106,7 +110,8 @@ module _ (m : List Bool) where
           same = refl;
         }
 
-    module _ (buffer : List ℕ) (many place : ℕ) (now left : List Seen) (x : Seen) (e : now ≡ x ∷ left) (p : Placing m before buffer many place (alone now) cs) where
+    module _ (buffer : List ℕ) (many place : ℕ) (now left : List Seen) (x : Seen) (e : now ≡ x ∷ left)
+        (p : Placing m before buffer many place (alone now) cs) where
       abbrev seen : alone now ≡ x.2 ∷ alone left
       seen = ap alone e
 

@@ -55,7 +55,8 @@ module _ (pool table : List ℕ) where
     less i (c ∷ cs) = go (get_or m i false) (wide c) refl refl (less (suc i) cs)
       where
         without : part m i (c ∷ cs) ≡ part m (suc i) cs → Less (part m (suc i) cs) cs → Less (part m i (c ∷ cs)) (c ∷ cs)
-        without e l = rw e (record { passes = λ g. l.passes (and_right (good c) (all good cs) g); small = omega (arith, l.small); flat = omega (arith, l.flat) })
+        without e l =
+            rw e (record { passes = λ g. l.passes (and_right (good c) (all good cs) g); small = omega (arith, l.small); flat = omega (arith, l.flat) })
 
         go : (a b : Bool) → get_or m i false ≡ a → wide c ≡ b → Less (part m (suc i) cs) cs → Less (part m i (c ∷ cs)) (c ∷ cs)
         go true true e w l =
@@ -78,7 +79,8 @@ module _ (pool table : List ℕ) where
   collect-lines [] = refl
   collect-lines (c ∷ cs) = ap (writeCon c ++◌) (collect-lines cs)
 
-  module _ (ds : List (Con ℕ)) (f : Fine pool table ds) (w w' : Writer) (z : w.at ≡ 0) (h : Writes w w' (collect writeCon ds)) (room : 8192 ≤ length w.words.now) where
+  module _ (ds : List (Con ℕ)) (f : Fine pool table ds) (w w' : Writer) (z : w.at ≡ 0) (h : Writes w w' (collect writeCon ds))
+      (room : 8192 ≤ length w.words.now) where
     count : length (collect writeCon ds) ≡ sum_of sizeCon ds
     count = set-length ds
 

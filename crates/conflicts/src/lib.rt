@@ -2,6 +2,7 @@
 #![tactic(auto)]
 
 pub mod inner;
+pub mod theorems;
 
 ghost use Rattle.std.specs.Prelude.{◌≡◌};
 ghost use Rattle.rules.specs.Conflicts.{conflictCall};

@@ -10,7 +10,8 @@ standing-init c =
 
 pub standing-preserved-then-is_wide : goal.standing-preserved-then-is_wide
 standing-preserved-then-is_wide c =
-    putting-first _ _ _ _ _ _ _ _ c.in-Some.ensures.steps c.standing.invariant _ c.if-here.true (sym c.is_wide.ensures ∙ c.if-is_wide.true) c.copy_constraint.ensures
+    putting-first _ _ _ _ _ _ _ _ c.in-Some.ensures.steps c.standing.invariant _ c.if-here.true
+    (sym c.is_wide.ensures ∙ c.if-is_wide.true) c.copy_constraint.ensures
 
 pub standing-preserved : goal.standing-preserved
 standing-preserved c = elim c.else-here.branch [

@@ -9,7 +9,9 @@ use Rattle.conflicts.proofs.inner.Lines.find.Goals as goal
 pub returns-in_err-is_refused : goal.returns-in_err-is_refused
 returns-in_err-is_refused c =
     let p = err_from_is_err_and c.from_residual.result c.from_residual.ensures.1 in
-    rw (p.1, p.2) (find-refused _ c.args.self.set.trees.0 (omega (arith, few c.args.self.set.trees.0, c.args.self.fine.small)) _ c.is_refused.ensures _ _ c.in_err-is_refused.was)
+    rw (p.1, p.2)
+    (find-refused _ c.args.self.set.trees.0
+    (omega (arith, few c.args.self.set.trees.0, c.args.self.fine.small)) _ c.is_refused.ensures _ _ c.in_err-is_refused.was)
 
 pub returns-then-not-branch : goal.returns-then-not-branch
 returns-then-not-branch c =
