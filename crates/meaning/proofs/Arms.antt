@@ -78,11 +78,13 @@ module _ (s : List ℕ) (at : ℕ) {v : View} (e : v ≡ viewAt s at) where
 
   pub fn-read : {n m : ℕ} → v ≡ view.Function n → m ≡ n → Read (record { kind = 7; name = 0; many = m + 1 })
   unfolding plain
-  fn-read {m = m} k h t i = by-view s (λ t. record { kind = 7; name = 0; many = m + 1 } ≡ reads t) t at i (sym e ∙ k) (λ ps u c x y. ap (λ (n : ℕ). record { kind = 7; name = 0; many = n + 1 }) (h ∙ sym c ∙ sym (plain-count ps false)))
+  fn-read {m = m} k h t i = by-view s (λ t. record { kind = 7; name = 0; many = m + 1 } ≡ reads t) t at i (sym e ∙ k)
+      (λ ps u c x y. ap (λ (n : ℕ). record { kind = 7; name = 0; many = n + 1 }) (h ∙ sym c ∙ sym (plain-count ps false)))
 
   pub struct-read : {x n f m : ℕ} → v ≡ view.Struct x n f → m ≡ n → Read (record { kind = 8; name = x; many = m })
   unfolding plain
-  struct-read {x = x} {m = m} k h t i = by-view s (λ t. record { kind = 8; name = x; many = m } ≡ reads t) t at i (sym e ∙ k) (λ ps fs c c₂ a b. ap (λ (n : ℕ). record { kind = 8; name = x; many = n }) (h ∙ sym c ∙ sym (plain-count ps false)))
+  struct-read {x = x} {m = m} k h t i = by-view s (λ t. record { kind = 8; name = x; many = m } ≡ reads t) t at i (sym e ∙ k)
+      (λ ps fs c c₂ a b. ap (λ (n : ℕ). record { kind = 8; name = x; many = n }) (h ∙ sym c ∙ sym (plain-count ps false)))
 
   pub list_read : v ≡ view.List → Read (record { kind = 10; name = 0; many = 1 })
   unfolding plain
@@ -118,7 +120,8 @@ module _ {v w : View} {a b : atoms.Atom} {n m d e : ℕ} (p : v ≡ view.Factor 
 held-says : (s : List ℕ) (at : ℕ) (v : View) (f : Factor ℕ) → v ≡ viewAt s at → HoldsFactor s f at → SaysFactor v f
 held-says s at v (a ↑ frac n d) e h = (e ∙ h.0, h.1)
 
-module _ (s : List ℕ) (at : ℕ) (t : List ℕ) (k i : ℕ) (v w : View) (e : v ≡ viewAt s (at + i)) (o : w ≡ viewAt t (k + i)) (p q : Product ℕ) (h : HoldsFactors s p at) (j : HoldsFactors t q k) (l : i < length p) (m : i < length q) where
+module _ (s : List ℕ) (at : ℕ) (t : List ℕ) (k i : ℕ) (v w : View) (e : v ≡ viewAt s (at + i)) (o : w ≡ viewAt t (k + i)) (p q : Product ℕ)
+    (h : HoldsFactors s p at) (j : HoldsFactors t q k) (l : i < length p) (m : i < length q) where
   pub factors-on : TellsFactors v w true → drop (i + 1) p ≡ drop (i + 1) q → drop i p ≡ drop i q
   factors-on d x =
       let f = holds_at s p at i h l in

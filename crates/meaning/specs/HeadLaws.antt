@@ -44,7 +44,8 @@ not-one (a ↑ e ∷ g ∷ p) f = refl
 
 module _ (s : List ℕ) (at : ℕ) where
   -- the one factor is the one that the record says
-  pub one-factor : (p : Product ℕ) {v : View} {a : atoms.Atom} {n d : ℕ} → HoldsFactors s p at → length p ≡ 1 → v ≡ viewAt s at → v ≡ view.Factor a n d → p ≡ atomOf a ↑ frac (signed n) d ∷ []
+  pub one-factor : (p : Product ℕ) {v : View} {a : atoms.Atom} {n d : ℕ} → HoldsFactors s p at → length p ≡ 1 → v ≡ viewAt s at → v
+      ≡ view.Factor a n d → p ≡ atomOf a ↑ frac (signed n) d ∷ []
   unfolding HoldsFactors
   one-factor [] h e i k = absurd (omega arith)
   one-factor (f ∷ g ∷ p) h e i k = absurd (omega arith)

@@ -20,6 +20,22 @@ entered-well pool table p long h = (entered pool table p long h).well
 
 pub ruleset entering = (taken-well, refused-one, entry-good)
 
-pub ruleset calls = (entered, entered-good, entered-well, taken-well, well-sound, multiply-stopped, multiply-both, multiply-one, divide-stopped, divide-both, divide-one, inverse-stopped, inverse-goes, raise-stopped, raise-goes)
+pub ruleset calls = (
+  entered,
+  entered-good,
+  entered-well,
+  taken-well,
+  well-sound,
+  multiply-stopped,
+  multiply-both,
+  multiply-one,
+  divide-stopped,
+  divide-both,
+  divide-one,
+  inverse-stopped,
+  inverse-goes,
+  raise-stopped,
+  raise-goes,
+)
 
 pub ruleset counting = (nat_tests, given-len)

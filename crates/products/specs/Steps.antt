@@ -46,7 +46,8 @@ module _ {left whole : Got Tree} {n : ℕ} {out : Product} (g : Doing left whole
   doing-len = rw (given-len out g.acc g.is) g.few
 
   -- one factor more
-  pub doing-put : (f : Factor) (t : Trees.Factor ℕ) (left' : Got Tree) (m : ℕ) → valueIn f ≡ value_of t → n < m → left ≡ prepend (t ∷ []) left' → Doing left' whole m (put_of out f)
+  pub doing-put : (f : Factor) (t : Trees.Factor ℕ) (left' : Got Tree) (m : ℕ) → valueIn f ≡ value_of t → n < m → left ≡ prepend (t ∷ []) left'
+      → Doing left' whole m (put_of out f)
   doing-put f t left' m v h e = record {
     acc = g.acc ++ (t ∷ []);
     is = put-given out f g.acc t g.is v;
@@ -86,7 +87,8 @@ some-joined a (got r) e z = rw (z, put)
 some-joined a (refused n) e z = refl
 
 -- one factor more with a new power, unless the power is 0
-pub doing-kept : {left whole : Got Tree} {n : ℕ} {out : Product} → Doing left whole n out → (x : Factor) (e : Exponent) (left' : Got Tree) (m : ℕ) → Kind x.kind → n < m
+pub doing-kept : {left whole : Got Tree} {n : ℕ} {out : Product} → Doing left whole n out → (x : Factor) (e : Exponent) (left' : Got Tree) (m : ℕ)
+    → Kind x.kind → n < m
     → left ≡ joined (atomAt x) (got (expOf e)) left' → Doing left' whole m (kept_of out x e)
 doing-kept {left} {whole} {n} {out} g x e left' m k h j = go (isZero (expOf e)) refl
   where
@@ -107,15 +109,18 @@ module _ (ν : Names ℕ) where
   merge-end (a ↑ e ∷ A) = refl
 
   module _ (x y : Factor) (A B : Tree) where
-    pub merge_less : orderAtom ν (atomAt x) (atomAt y) ≡ Ordering.lt → merge ν bounded (tree_of x ∷ A) (tree_of y ∷ B) ≡ prepend (tree_of x ∷ []) (merge ν bounded A (tree_of y ∷ B))
+    pub merge_less : orderAtom ν (atomAt x) (atomAt y) ≡ Ordering.lt → merge ν bounded (tree_of x ∷ A) (tree_of y ∷ B)
+        ≡ prepend (tree_of x ∷ []) (merge ν bounded A (tree_of y ∷ B))
     unfolding merge mergeOne
     merge_less h = rw (h, mergeOne)
 
-    pub merge-more : orderAtom ν (atomAt x) (atomAt y) ≡ Ordering.gt → merge ν bounded (tree_of x ∷ A) (tree_of y ∷ B) ≡ prepend (tree_of y ∷ []) (merge ν bounded (tree_of x ∷ A) B)
+    pub merge-more : orderAtom ν (atomAt x) (atomAt y) ≡ Ordering.gt → merge ν bounded (tree_of x ∷ A) (tree_of y ∷ B)
+        ≡ prepend (tree_of y ∷ []) (merge ν bounded (tree_of x ∷ A) B)
     unfolding merge mergeOne
     merge-more h = rw (h, mergeOne)
 
-    pub merge-same : orderAtom ν (atomAt x) (atomAt y) ≡ Ordering.eq → merge ν bounded (tree_of x ∷ A) (tree_of y ∷ B) ≡ joined (atomAt x) (sum bounded (expOf x.exp) (expOf y.exp)) (merge ν bounded A B)
+    pub merge-same : orderAtom ν (atomAt x) (atomAt y) ≡ Ordering.eq → merge ν bounded (tree_of x ∷ A) (tree_of y ∷ B)
+        ≡ joined (atomAt x) (sum bounded (expOf x.exp) (expOf y.exp)) (merge ν bounded A B)
     unfolding merge mergeOne
     merge-same h = rw (h, mergeOne)
 
@@ -127,7 +132,8 @@ module _ (ν : Names ℕ) where
     pub turn_more : orderAtom ν (atomAt x) (atomAt y) ≡ Ordering.gt → merge ν bounded A B ≡ prepend (tree_of y ∷ []) (merge ν bounded A B')
     turn_more h = rw (a, b) (merge-more x y A' B' h)
 
-    pub turn-same : orderAtom ν (atomAt x) (atomAt y) ≡ Ordering.eq → merge ν bounded A B ≡ joined (atomAt x) (sum bounded (expOf x.exp) (expOf y.exp)) (merge ν bounded A' B')
+    pub turn-same : orderAtom ν (atomAt x) (atomAt y) ≡ Ordering.eq → merge ν bounded A B
+        ≡ joined (atomAt x) (sum bounded (expOf x.exp) (expOf y.exp)) (merge ν bounded A' B')
     turn-same h = rw (a, b) (merge-same x y A' B' h)
 
   -- one of the two lists at its end
@@ -143,7 +149,8 @@ module _ (ν : Names ℕ) where
   unfolding multiply
   multiply-refused A B k h = rw h
 
-  pub raise-turn : (x : Factor) (A : Tree) (k : Exp) → raise ν bounded (tree_of x ∷ A) k ≡ joined (atomAt x) (times bounded (expOf x.exp) k) (raise ν bounded A k)
+  pub raise-turn : (x : Factor) (A : Tree) (k : Exp) → raise ν bounded (tree_of x ∷ A) k
+      ≡ joined (atomAt x) (times bounded (expOf x.exp) k) (raise ν bounded A k)
   unfolding raise
   raise-turn x A k = refl
 

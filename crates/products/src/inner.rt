@@ -132,7 +132,8 @@ fn counted(p: Product) -> Result<Product, Refusal>
 pub fn multiplied(a: &Product, b: &Product, names: NameTable) -> Result<Product, Refusal>
     requires well { Well names.pool.now names.table.now a.now }
     requires well_2 { Well names.pool.now names.table.now b.now }
-    ensures { toldBy given result ≡ answer (multiply (numbersOf (table_of names.entry.pool.now names.entry.table.now)) bounded (productOf a.now) (productOf b.now)) }
+    ensures { toldBy given result ≡
+        answer (multiply (numbersOf (table_of names.entry.pool.now names.entry.table.now)) bounded (productOf a.now) (productOf b.now)) }
 {
     let m = a.len;
     let n = b.len;
@@ -199,7 +200,8 @@ pub fn raised(a: &Product, e: Exponent) -> Result<Product, Refusal>
 pub fn divided(a: &Product, b: &Product, names: NameTable) -> Result<Product, Refusal>
     requires well { Well names.pool.now names.table.now a.now }
     requires well_2 { Well names.pool.now names.table.now b.now }
-    ensures { toldBy given result ≡ answer (divide (numbersOf (table_of names.entry.pool.now names.entry.table.now)) bounded (productOf a.now) (productOf b.now)) }
+    ensures { toldBy given result ≡
+        answer (divide (numbersOf (table_of names.entry.pool.now names.entry.table.now)) bounded (productOf a.now) (productOf b.now)) }
 {
     multiplied(a, &inverted(b), names)
 }

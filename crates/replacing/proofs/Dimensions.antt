@@ -39,11 +39,13 @@ module _ {t : Ty ℕ} where
   as-dim {p} P e h = fine-told P p h ∙ ap (λ (u : Ty ℕ). answer (asProduct u)) e
 
   -- all but an open name and a dimension are 6
-  pub as-other : (s : Shape) → whole s ≡ t → ((o : names.Open) → s ≡ shape.Open o → ⊥) → ((p : types.Product) → s ≡ shape.Dimension p → ⊥) → refused 6 ≡ answer (asProduct t)
+  pub as-other : (s : Shape) → whole s ≡ t → ((o : names.Open) → s ≡ shape.Open o → ⊥) → ((p : types.Product) → s ≡ shape.Dimension p → ⊥) → refused 6
+      ≡ answer (asProduct t)
   unfolding asProduct answer
   as-other s e a d = go s a d ∙ ap (λ (u : Ty ℕ). answer (asProduct u)) e
     where
-      go : (s : Shape) → ((o : names.Open) → s ≡ shape.Open o → ⊥) → ((p : types.Product) → s ≡ shape.Dimension p → ⊥) → refused 6 ≡ answer (asProduct (whole s))
+      go : (s : Shape) → ((o : names.Open) → s ≡ shape.Open o → ⊥) → ((p : types.Product) → s ≡ shape.Dimension p → ⊥) → refused 6
+          ≡ answer (asProduct (whole s))
       go (shape.Open o) a d = absurd (a o refl)
       go (shape.Basic b) a d = refl
       go (shape.Dimension p) a d = absurd (d p refl)
@@ -73,7 +75,8 @@ module _ (pool table : List ℕ) where
         let x = taken pool table P d.tree (record { is = d.value; good = (product-kept pool table p look g good).holds d.tree d.is }) in
         record { tree = d.tree; is = d.is; sound = well-sound x.well; product = x.is }
 
-    pub product-leaves : {w w' : Writer} (P : Product) → got (given P) ≡ answer Replaced' → Writes w w' (writeProduct (productOf P)) → Leaves writeProduct w w' (Ok tt) Replaced'
+    pub product-leaves : {w w' : Writer} (P : Product) → got (given P) ≡ answer Replaced' → Writes w w' (writeProduct (productOf P))
+        → Leaves writeProduct w w' (Ok tt) Replaced'
     product-leaves {w} {w'} P h b =
         let m = made P h in
         let l = few m.tree ((product-kept pool table p look g good).holds m.tree m.is) in
@@ -99,7 +102,8 @@ module _ (pool table : List ℕ) where
         → Leaves writeTy w w' (Ok tt) Ty''
     unfolding replaceTy replaceDim
     dimension-becomes {o = o} u s k l h =
-        leaves u (subst (λ (x : Ty ℕ). replaceTy (well.names pool table) bounded look x ≡ got u) e (rw (← s) (ap got (ap (get_or (look o)) e ∙ k)))) (short-writes refl l h)
+        leaves u (subst (λ (x : Ty ℕ). replaceTy (well.names pool table) bounded look x ≡ got u) e (rw (← s) (ap got (ap (get_or (look o)) e ∙ k))))
+        (short-writes refl l h)
 
   pub dimension-short : {t : Ty ℕ} {p : Tree} → dim p ≡ t → GoodProduct pool table p → size t ≤ 65_535
   unfolding size

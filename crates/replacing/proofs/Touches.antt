@@ -26,7 +26,8 @@ any-join p (x ∷ xs) ys = go (p x) refl (any-join p xs ys)
     go false i h = rw i h
 
 module _ (look : Look ℕ) where
-  pub changed : {m : Option (Ty ℕ)} {b : Bool} {T : Type 0} (f : T → Ty ℕ) (r : std.Option T) → toldOptionBy f r ≡ m → b ≡ is_some r → b ≡ (not (is_none m) || false)
+  pub changed : {m : Option (Ty ℕ)} {b : Bool} {T : Type 0} (f : T → Ty ℕ) (r : std.Option T) → toldOptionBy f r ≡ m → b ≡ is_some r → b
+      ≡ (not (is_none m) || false)
   changed f std.None e i = i ∙ ap (λ (m : Option (Ty ℕ)). not (is_none m) || false) e
   changed f (std.Some x) e i = i ∙ ap (λ (m : Option (Ty ℕ)). not (is_none m) || false) e
 
@@ -49,7 +50,8 @@ module _ (look : Look ℕ) where
       go none i r = (i, r (rw i at q))
       go (some t) i r = absurd (true≢false (rw i at q))
 
-  pub con-untouched : (s : List ℕ) (c : Con ℕ) (at e : ℕ) → HoldsCon s c at → e ≡ at + sizeCon c → false ≡ any (replaced look) (opensIn s at e) → Unbound look (opensCon c)
+  pub con-untouched : (s : List ℕ) (c : Con ℕ) (at e : ℕ) → HoldsCon s c at → e ≡ at + sizeCon c → false ≡ any (replaced look) (opensIn s at e)
+      → Unbound look (opensCon c)
   con-untouched s c at e h p q =
       let n : e - at ≡ sizeCon c = omega arith in
       none-replaced (opensCon c) (sym (q ∙ ap (any (replaced look)) (ap (λ (k : ℕ). opensFrom s k at) n ∙ con-opens s c at h)))

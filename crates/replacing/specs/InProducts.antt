@@ -54,14 +54,17 @@ module _ (ν : Names ℕ) where
       go (got c) = refl
 
   -- one factor, then the rest
-  pub factor-step : (look : Look ℕ) (f : Factor ℕ) (fs acc : Tree) → replaceFactors ν bounded look (f ∷ fs) acc ≡ (put_in (atomLooked look f) f acc >>= λ acc'. replaceFactors ν bounded look fs acc')
+  pub factor-step : (look : Look ℕ) (f : Factor ℕ) (fs acc : Tree) → replaceFactors ν bounded look (f ∷ fs) acc
+      ≡ (put_in (atomLooked look f) f acc >>= λ acc'. replaceFactors ν bounded look fs acc')
   unfolding replaceFactors put_in
   factor-step look (base n ↑ e) fs acc = refl
   factor-step look (free o ↑ e) fs acc = go (look o) refl
     where
-      go : (m : Option (Ty ℕ)) → look o ≡ m → replaceFactors ν bounded look (free o ↑ e ∷ fs) acc ≡ (put_in m (free o ↑ e) acc >>= λ acc'. replaceFactors ν bounded look fs acc')
+      go : (m : Option (Ty ℕ)) → look o ≡ m → replaceFactors ν bounded look (free o ↑ e ∷ fs) acc
+          ≡ (put_in m (free o ↑ e) acc >>= λ acc'. replaceFactors ν bounded look fs acc')
       go none h = rw (replaceFactors, h)
-      go (some t) h = rw (replaceFactors, h) (deep (asProduct t) (divide ν bounded acc (free o ↑ e ∷ [])) (λ d. raise ν bounded d e) (multiply ν bounded) (replaceFactors ν bounded look fs))
+      go (some t) h = rw (replaceFactors, h)
+          (deep (asProduct t) (divide ν bounded acc (free o ↑ e ∷ [])) (λ d. raise ν bounded d e) (multiply ν bounded) (replaceFactors ν bounded look fs))
 
 -- ══ What was made ══
 
@@ -117,7 +120,8 @@ module _ (pool table : List ℕ) where
   factor-exp (free o) e h = stored-good e ((and-eq-true_iff (goodOpen _ _ _ o) (goodStored e)).0 h).1
   factor-exp (base n) e h = stored-good e ((and-eq-true_iff (is_held (table_of pool table) n) (goodStored e)).0 h).1
 
-  pub put-good : (m : Option (Ty ℕ)) (f : Factor ℕ) (a : Tree) → ((t : Ty ℕ) → m ≡ some t → GoodTy pool table t) → GoodFactor pool table f → GoodProduct pool table a → Gives (put_in (names pool table) m f a) (GoodProduct pool table)
+  pub put-good : (m : Option (Ty ℕ)) (f : Factor ℕ) (a : Tree) → ((t : Ty ℕ) → m ≡ some t → GoodTy pool table t) → GoodFactor pool table f
+      → GoodProduct pool table a → Gives (put_in (names pool table) m f a) (GoodProduct pool table)
   unfolding put_in
   put-good none f a g h k = gives k
   put-good (some t) (x ↑ e) a g h k =
@@ -131,7 +135,8 @@ module _ (pool table : List ℕ) where
   -- the factors of a value that passed the test
   pub fine-good : (f : code.Factor) → Fine (names pool table) (heldIn table) f → GoodFactor pool table (tree_of f)
   unfolding table_of
-  fine-good f g = tree-good (names pool table) (heldIn table) (atomAt f) (expOf f.exp) ∙ (and-eq-true_iff (goodAtom (names pool table) (heldIn table) 4_294_967_296 (atomAt f)) (goodStored (expOf f.exp))).1 (g.atom, g.stored)
+  fine-good f g = tree-good (names pool table) (heldIn table) (atomAt f) (expOf f.exp)
+      ∙ (and-eq-true_iff (goodAtom (names pool table) (heldIn table) 4_294_967_296 (atomAt f)) (goodStored (expOf f.exp))).1 (g.atom, g.stored)
 
   -- a product that was made is well formed
   pub record Fresh (P : Product) (m : Got Tree) : Type 0 where
@@ -168,13 +173,15 @@ module _ (pool table : List ℕ) where
           → x ≡ answer (divide (names pool table) bounded a (tree_of f ∷ []))
       divided-is x q = rw ((taken acc a w).is, (taken o (tree_of f ∷ []) u).is) q
 
-      pub put_second : (n : ℕ) → refused n ≡ answer (divide (names pool table) bounded (productOf acc) (productOf o)) → refused n ≡ answer (put_in (names pool table) (some t) (tree_of f) a)
+      pub put_second : (n : ℕ) → refused n ≡ answer (divide (names pool table) bounded (productOf acc) (productOf o)) → refused n
+          ≡ answer (put_in (names pool table) (some t) (tree_of f) a)
       unfolding put_in
       put_second n q = rw D.is (ended n _ (divided-is _ q) _)
 
       module _ (left : Product) (q : got (given left) ≡ answer (divide (names pool table) bounded (productOf acc) (productOf o))) where
         pub L : Fresh left (divide (names pool table) bounded a (tree_of f ∷ []))
-        L = fresh left _ (divided-is _ q) (divide-good (names pool table) (law pool table) (is_held (table_of pool table)) 4_294_967_296 a (tree_of f ∷ []) w.good u.good)
+        L = fresh left _ (divided-is _ q)
+            (divide-good (names pool table) (law pool table) (is_held (table_of pool table)) 4_294_967_296 a (tree_of f ∷ []) w.good u.good)
 
         -- what raising that product says
         abbrev pub Raised : Got ProductValue → Type 0
@@ -189,9 +196,11 @@ module _ (pool table : List ℕ) where
 
         module _ (more : Product) (r : Raised (got (given more))) where
           pub M : Fresh more (raise (names pool table) bounded D.tree (expOf f.exp))
-          M = fresh more _ (raised_is _ r) (raise-good (names pool table) (law pool table) (is_held (table_of pool table)) 4_294_967_296 D.tree (expOf f.exp) D.whole.good exp-good)
+          M = fresh more _ (raised_is _ r)
+              (raise-good (names pool table) (law pool table) (is_held (table_of pool table)) 4_294_967_296 D.tree (expOf f.exp) D.whole.good exp-good)
 
-          pub put_last : (x : Got ProductValue) → x ≡ answer (multiply (names pool table) bounded (productOf left) (productOf more)) → x ≡ answer (put_in (names pool table) (some t) (tree_of f) a)
+          pub put_last : (x : Got ProductValue) → x ≡ answer (multiply (names pool table) bounded (productOf left) (productOf more)) → x
+              ≡ answer (put_in (names pool table) (some t) (tree_of f) a)
           unfolding put_in
           put_last x y = rw (D.is, L.is, M.is) (rw ((taken left L.tree L.whole).is, (taken more M.tree M.whole).is) y)
 
@@ -210,11 +219,13 @@ module _ (pool table : List ℕ) where
     unfolding put_in
     put-none a e = rw e
 
-    pub put-bound : (a : Tree) (t : Ty ℕ) (x : Got ProductValue) → Looked ≡ some t → x ≡ answer (put_in (names pool table) (some t) (tree_of f) a) → x ≡ answer (put_in (names pool table) Looked (tree_of f) a)
+    pub put-bound : (a : Tree) (t : Ty ℕ) (x : Got ProductValue) → Looked ≡ some t → x ≡ answer (put_in (names pool table) (some t) (tree_of f) a) → x
+        ≡ answer (put_in (names pool table) Looked (tree_of f) a)
     put-bound a t x e h = h ∙ ap (λ (o : Option (Ty ℕ)). answer (put_in (names pool table) o (tree_of f) a)) (sym e)
 
     -- a factor's replacement is well formed again
-    pub factor-good : (a : Tree) → Fine (names pool table) (heldIn table) f → LooksGood pool table look → GoodProduct pool table a → Gives (put_in (names pool table) Looked (tree_of f) a) (GoodProduct pool table)
+    pub factor-good : (a : Tree) → Fine (names pool table) (heldIn table) f → LooksGood pool table look → GoodProduct pool table a
+        → Gives (put_in (names pool table) Looked (tree_of f) a) (GoodProduct pool table)
     factor-good a fine g h = put-good Looked (tree_of f) a (atom-good look g (tree_of f)) (fine-good f fine) h
 
   -- ══ All factors ══
@@ -238,19 +249,28 @@ module _ (pool table : List ℕ) where
       drop_at i h = let t = taken p a w in rw t.is (at_place p t.well.long t.well.few i h)
 
       module _ (acc : Product) (i : ℕ) (h : i < p.len) (g : Going acc i) where
-        turn : replaceProduct (names pool table) bounded look a ≡ (put_in (names pool table) (Looked (factorAt p i) look) (tree_of (factorAt p i)) g.tree >>= λ x. replaceFactors (names pool table) bounded look (drop (i + 1) a) x)
+        turn : replaceProduct (names pool table) bounded look a
+            ≡ (put_in (names pool table) (Looked (factorAt p i) look) (tree_of (factorAt p i)) g.tree >>= λ x. replaceFactors (names pool table)
+            bounded look (drop (i + 1) a) x)
         turn =
             sym g.rest
             ∙ ap (λ (l : Tree). replaceFactors (names pool table) bounded look l g.tree) (drop_at i h)
             ∙ factor-step (names pool table) look (tree_of (factorAt p i)) (drop (i + 1) a) g.tree
 
-        pub going-stop : (n : ℕ) → refused n ≡ answer (put_in (names pool table) (Looked (factorAt p i) look) (tree_of (factorAt p i)) g.tree) → refused n ≡ answer (replaceProduct (names pool table) bounded look a)
+        pub going-stop : (n : ℕ) → refused n ≡ answer (put_in (names pool table) (Looked (factorAt p i) look) (tree_of (factorAt p i)) g.tree)
+            → refused n ≡ answer (replaceProduct (names pool table) bounded look a)
         going-stop n e = rw turn (ended n _ e _)
 
-        pub going_on : LooksGood pool table look → (P : Product) → got (given P) ≡ answer (put_in (names pool table) (Looked (factorAt p i) look) (tree_of (factorAt p i)) g.tree) → Going P (i + 1)
+        pub going_on : LooksGood pool table look → (P : Product) → got (given P)
+            ≡ answer (put_in (names pool table) (Looked (factorAt p i) look) (tree_of (factorAt p i)) g.tree) → Going P (i + 1)
         going_on b P e =
             let f = fresh P _ e (factor-good (factorAt p i) look g.tree (fine-at i h) b g.whole.good) in
-            record { tree = f.tree; whole = f.whole; rest = sym (turn ∙ ap (λ (m : Got Tree). m >>= λ x. replaceFactors (names pool table) bounded look (drop (i + 1) a) x) f.is) }
+            record {
+              tree = f.tree;
+              whole = f.whole;
+              rest =
+                  sym (turn ∙ ap (λ (m : Got Tree). m >>= λ x. replaceFactors (names pool table) bounded look (drop (i + 1) a) x) f.is);
+            }
 
       pub going_end : (acc : Product) (i : ℕ) → p.len ≤ i → (g : Going acc i) → replaceProduct (names pool table) bounded look a ≡ got g.tree
       unfolding replaceFactors
@@ -260,5 +280,6 @@ module _ (pool table : List ℕ) where
           sym g.rest ∙ ap (λ (l : Tree). replaceFactors (names pool table) bounded look l g.tree) z
 
   -- a product that was replaced is well formed again
-  pub product-kept : (p : Tree) (look : Look ℕ) → GoodProduct pool table p → LooksGood pool table look → Gives (replaceProduct (names pool table) bounded look p) (GoodProduct pool table)
+  pub product-kept : (p : Tree) (look : Look ℕ) → GoodProduct pool table p → LooksGood pool table look
+      → Gives (replaceProduct (names pool table) bounded look p) (GoodProduct pool table)
   product-kept p look h g = laws.product-kept (names pool table) (law pool table) (is_held (table_of pool table)) 4_294_967_296 look g p h

@@ -60,10 +60,12 @@ unfolding writeProduct
 write-head {w₀} {w} n p l h put w' q =
     let long : fit (1 + n) ≡ suc n = fits (1 + n) (omega arith) ∙ omega arith in
     let here : Writes w₀ w (rec (head 3 (suc n)) n 0 0 ∷ []) = subst (λ (k : ℕ). Writes w₀ w (recOf (view.Dim n) k ∷ [])) long put in
-    writes-then (rec (head 3 (suc (length p))) (length p) 0 0 ∷ []) (map writeFactor p) (subst (λ (k : ℕ). Writes w₀ w (rec (head 3 (suc k)) k 0 0 ∷ [])) (sym l) here) q
+    writes-then (rec (head 3 (suc (length p))) (length p) 0 0 ∷ []) (map writeFactor p)
+    (subst (λ (k : ℕ). Writes w₀ w (rec (head 3 (suc k)) k 0 0 ∷ [])) (sym l) here) q
 
 module _ {w₀ w : Writer} (left whole : Tree) (t : ToWrite w₀ w left whole) where
-  pub write-factor : {w₁ : Writer} (v : View) (f : tree.Factor ℕ) (rest : Tree) → left ≡ f ∷ rest → recOf v 1 ≡ writeFactor f → Writes w w₁ (recOf v (fit 1) ∷ [])
+  pub write-factor : {w₁ : Writer} (v : View) (f : tree.Factor ℕ) (rest : Tree) → left ≡ f ∷ rest → recOf v 1 ≡ writeFactor f
+      → Writes w w₁ (recOf v (fit 1) ∷ [])
       → ToWrite w₀ w₁ rest whole
   write-factor {w₁} v f rest e r put w' q =
       let here : Writes w w₁ (writeFactor f ∷ []) = subst (λ (k : Rec). Writes w w₁ (k ∷ [])) (ap (recOf v) (fits 1 (omega arith)) ∙ r) put in

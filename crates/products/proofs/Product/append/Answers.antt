@@ -36,5 +36,6 @@ pub returns : goal.returns
 returns c acc h =
     let g = c.loop-i.invariant.3 acc h in
     let i : c.loop-i.i ≡ c.args.p.now.len = omega arith in
-    let done : drop c.loop-i.i (productOf c.args.p.now) ≡ [] = ap (λ (k : ℕ). drop k (productOf c.args.p.now)) i ∙ at-end c.args.p.now c.requires.sound.long c.requires.sound.few in
+    let done : drop c.loop-i.i (productOf c.args.p.now) ≡ [] = ap (λ (k : ℕ). drop k (productOf c.args.p.now)) i
+    ∙ at-end c.args.p.now c.requires.sound.long c.requires.sound.few in
     g.is ∙ ap productValue (sym (got-injective (doing-done g (ap got done))))

@@ -9,7 +9,9 @@ use Rattle.products.specs.Steps.{Doing}
 use Rattle.products.proofs.Product.append.Given as goal
 
 abbrev pub invariant-loop-i : goal.invariant-loop-i
-invariant-loop-i l = (l.from ≤ l.i) × (l.i ≤ l.n) × (l.self.len + l.from ≡ l.initial.self.len + l.i) × ((acc : Tree) → given l.initial.self ≡ productValue acc → Doing (got (drop l.i (productOf l.p))) (got (acc ++ drop l.from (productOf l.p))) (length acc + l.i) l.self)
+invariant-loop-i l = (l.from ≤ l.i) × (l.i ≤ l.n) × (l.self.len + l.from ≡ l.initial.self.len + l.i)
+    × ((acc : Tree) → given l.initial.self ≡ productValue acc → Doing (got (drop l.i (productOf l.p))) (got (acc ++ drop l.from (productOf l.p)))
+    (length acc + l.i) l.self)
 
 abbrev pub decreases-loop-i : goal.decreases-loop-i
 decreases-loop-i l = l.n - l.i

@@ -58,7 +58,8 @@ returns-then-not-is_sound-2 c = let names : Names ℕ = numbersOf (table_of c.ar
 pub order-requires : goal.order-requires
 order-requires c = let names : Names ℕ = numbersOf (table_of c.args.names.pool.now c.args.names.table.now) in
     let held : List ℕ = c.args.names.table.now in
-    let fined : Fine (names) (heldIn (held)) (factorAt c.args.p.now c.loop-i.i) = fine-facts _ _ _ (sym (c.is_sound-in-loop-i.ensures (names)) ∙ c.if-not-is_sound-2.false) in
+    let fined : Fine (names) (heldIn (held)) (factorAt c.args.p.now c.loop-i.i) =
+    fine-facts _ _ _ (sym (c.is_sound-in-loop-i.ensures (names)) ∙ c.if-not-is_sound-2.false) in
     let k : c.loop-i.i - 1 < c.loop-i.i = omega arith in
     record { fine = rw c.loop-i.invariant.2 (c.loop-i.invariant.3.each _ k); fine_2 = fined }
 
@@ -76,7 +77,8 @@ pub loop-i-preserved : goal.loop-i-preserved
 loop-i-preserved c = let names : Names ℕ = numbersOf (table_of c.args.names.pool.now c.args.names.table.now) in
     let within : (c.loop-i.i < c.args.p.now.len) × (c.args.p.now.len ≤ 64) = (omega arith, omega arith) in
     let held : List ℕ = c.args.names.table.now in
-    let fined : Fine (names) (heldIn (held)) (factorAt c.args.p.now c.loop-i.i) = fine-facts _ _ _ (sym (c.is_sound-in-loop-i.ensures (names)) ∙ c.if-not-is_sound-2.false) in
+    let fined : Fine (names) (heldIn (held)) (factorAt c.args.p.now c.loop-i.i) =
+    fine-facts _ _ _ (sym (c.is_sound-in-loop-i.ensures (names)) ∙ c.if-not-is_sound-2.false) in
     let p = c.args.p.now in
     let k : c.loop-i.i ≡ c.loop-i.i + 1 - 1 = omega arith in
     let o : orderAtom (names) (atomAt (factorAt p (c.loop-i.i - 1))) (atomAt (factorAt p c.loop-i.i)) ≡ Ordering.lt =

@@ -46,7 +46,8 @@ loop-x-preserved c =
 pub returns : goal.returns
 returns c =
     let g = c.loop-x.invariant in
-    let i : c.loop-x.x-index ≡ c.args.a.now.len = omega (arith, c.loop-x-test.false, c.loop-x.auto.x-index-end, length-take c.args.a.now.len c.args.a.now.factors, c.requires.few, c.requires.long) in
+    let i : c.loop-x.x-index ≡ c.args.a.now.len =
+    omega (arith, c.loop-x-test.false, c.loop-x.auto.x-index-end, length-take c.args.a.now.len c.args.a.now.factors, c.requires.few, c.requires.long) in
     let done : inverse (drop c.loop-x.x-index (productOf c.args.a.now)) ≡ [] =
     ap (λ (k : ℕ). inverse (drop k (productOf c.args.a.now))) i ∙ ap inverse (at-end c.args.a.now c.requires.long c.requires.few) ∙ inverse-done in
     g.is ∙ ap productValue (sym (got-injective (doing-done g (ap got done))))

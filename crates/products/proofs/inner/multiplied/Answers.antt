@@ -31,14 +31,17 @@ module _ {pool table : List ℕ} {a b : Product} (w : Well pool table a) (v : We
   abbrev Ordered : Ordering → Type 0
   Ordered o = orderAtom ν (atomAt (factorAt a i)) (atomAt (factorAt b j)) ≡ o
 
-  less : Ordered Ordering.lt → merge ν bounded (drop i (productOf a)) (drop j (productOf b)) ≡ prepend (tree_of (factorAt a i) ∷ []) (merge ν bounded (drop (i + 1) (productOf a)) (drop j (productOf b)))
+  less : Ordered Ordering.lt → merge ν bounded (drop i (productOf a)) (drop j (productOf b))
+      ≡ prepend (tree_of (factorAt a i) ∷ []) (merge ν bounded (drop (i + 1) (productOf a)) (drop j (productOf b)))
   less o = turn-less ν (factorAt a i) (factorAt b j) _ _ _ _ (at_place a w.long w.few i h) (at_place b v.long v.few j k) o
 
-  more : Ordered Ordering.gt → merge ν bounded (drop i (productOf a)) (drop j (productOf b)) ≡ prepend (tree_of (factorAt b j) ∷ []) (merge ν bounded (drop i (productOf a)) (drop (j + 1) (productOf b)))
+  more : Ordered Ordering.gt → merge ν bounded (drop i (productOf a)) (drop j (productOf b))
+      ≡ prepend (tree_of (factorAt b j) ∷ []) (merge ν bounded (drop i (productOf a)) (drop (j + 1) (productOf b)))
   more o = turn_more ν (factorAt a i) (factorAt b j) _ _ _ _ (at_place a w.long w.few i h) (at_place b v.long v.few j k) o
 
   same : Ordered Ordering.eq → (s : Got Exp) → s ≡ sum bounded (expOf (factorAt a i).exp) (expOf (factorAt b j).exp)
-      → merge ν bounded (drop i (productOf a)) (drop j (productOf b)) ≡ joined (atomAt (factorAt a i)) s (merge ν bounded (drop (i + 1) (productOf a)) (drop (j + 1) (productOf b)))
+      → merge ν bounded (drop i (productOf a)) (drop j (productOf b))
+      ≡ joined (atomAt (factorAt a i)) s (merge ν bounded (drop (i + 1) (productOf a)) (drop (j + 1) (productOf b)))
   same o s e =
       turn-same ν (factorAt a i) (factorAt b j) _ _ _ _ (at_place a w.long w.few i h) (at_place b v.long v.few j k) o
       ∙ ap (λ (m : Got Exp). joined (atomAt (factorAt a i)) m (merge ν bounded (drop (i + 1) (productOf a)) (drop (j + 1) (productOf b)))) (sym e)
@@ -61,7 +64,8 @@ loop-i-preserved-in-Less c =
       omega arith,
       omega arith,
       rw c.push.ensures
-          (doing-put c.loop-i.invariant.2 (factorAt c.args.a.now i) (tree_of (factorAt c.args.a.now i)) _ _ (value-back (factorAt c.args.a.now i) (c.requires.well.each i h).kind) step
+          (doing-put c.loop-i.invariant.2 (factorAt c.args.a.now i) (tree_of (factorAt c.args.a.now i)) _ _
+          (value-back (factorAt c.args.a.now i) (c.requires.well.each i h).kind) step
           (less c.requires.well c.requires.well_2 i j h c.if-j-n.true (sym c.order.ensures ∙ ap toldOrder c.in-Less.is))),
     )
 
@@ -77,7 +81,8 @@ loop-i-preserved-in-Greater c =
       omega arith,
       omega arith,
       rw c.push-in-Greater.ensures
-          (doing-put c.loop-i.invariant.2 (factorAt c.args.b.now j) (tree_of (factorAt c.args.b.now j)) _ _ (value-back (factorAt c.args.b.now j) (c.requires.well_2.each j c.if-j-n.true).kind) step
+          (doing-put c.loop-i.invariant.2 (factorAt c.args.b.now j) (tree_of (factorAt c.args.b.now j)) _ _
+          (value-back (factorAt c.args.b.now j) (c.requires.well_2.each j c.if-j-n.true).kind) step
           (more c.requires.well c.requires.well_2 i j h c.if-j-n.true (sym c.order.ensures ∙ ap toldOrder c.in-Greater.is))),
     )
 
@@ -91,7 +96,8 @@ returns-in_err-e-in-Equal c =
     let p = err_from_is_err_and c.from_residual.result c.from_residual.ensures.1 in
     rw (p.1, p.2)
     (sym (ap answer (multiply-refused (numbersOf (table_of c.args.names.pool.now c.args.names.table.now)) _ _ _ (doing-stop c.loop-i.invariant.2 _
-    (same c.requires.well c.requires.well_2 c.loop-i.i c.loop-i.j (omega arith) c.if-j-n.true (sym c.order.ensures ∙ ap toldOrder c.in-Equal.is) _ c.in_err-e-in-Equal.ensures)))))
+    (same c.requires.well c.requires.well_2 c.loop-i.i c.loop-i.j (omega arith) c.if-j-n.true (sym c.order.ensures ∙ ap toldOrder c.in-Equal.is) _
+    c.in_err-e-in-Equal.ensures)))))
 
 pub keep-requires : goal.keep-requires
 keep-requires c = omega (arith, doing-len c.loop-i.invariant.2, c.requires.well.few, c.requires.well_2.few)
@@ -120,7 +126,17 @@ append-requires-2 c =
     let A = productOf c.args.a.now in
     let n = given-len c.append.new.self (g.acc ++ drop c.loop-i.i A) (c.append.ensures g.acc g.is) in
     let few : c.append.new.self.len ≤ 128 =
-    omega (arith, n, length-append g.acc (drop c.loop-i.i A), length-drop c.loop-i.i A, length-product c.args.a.now c.requires.well.long c.requires.well.few, g.few, c.requires.well.few, c.requires.well_2.few) in
+    omega (
+      arith,
+      n,
+      length-append g.acc (drop c.loop-i.i A),
+      length-drop c.loop-i.i A,
+      length-product c.args.a.now c.requires.well.long
+          c.requires.well.few,
+      g.few,
+      c.requires.well.few,
+      c.requires.well_2.few,
+    ) in
     record { sound = well-sound c.requires.well_2; len_bound = (few, c.loop-i.invariant.1) }
 
 pub returns : goal.returns
@@ -138,5 +154,7 @@ returns c =
           inl (ap (λ (k : ℕ). drop k (productOf c.args.a.now)) h ∙ at-end c.args.a.now c.requires.well.long c.requires.well.few)
     ] in
     let two' = c.append-2.ensures (g.acc ++ A) (c.append.ensures g.acc g.is) in
-    let whole = doing_end g (A ++ B) (merge-left (numbersOf (table_of c.args.names.pool.now c.args.names.table.now)) A B ended) ∙ ap got (sym (append_assoc g.acc A B)) in
-    c.counted.ensures ((g.acc ++ A) ++ B) two' ∙ sym (ap answer (multiply-got (numbersOf (table_of c.args.names.pool.now c.args.names.table.now)) _ _ ((g.acc ++ A) ++ B) whole))
+    let whole = doing_end g (A ++ B) (merge-left (numbersOf (table_of c.args.names.pool.now c.args.names.table.now)) A B ended)
+    ∙ ap got (sym (append_assoc g.acc A B)) in
+    c.counted.ensures ((g.acc ++ A) ++ B) two' ∙ sym
+    (ap answer (multiply-got (numbersOf (table_of c.args.names.pool.now c.args.names.table.now)) _ _ ((g.acc ++ A) ++ B) whole))

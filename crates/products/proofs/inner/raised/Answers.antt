@@ -37,7 +37,8 @@ unfolding answer
 returns-in_err-k c ν =
     let p = err_from_is_err_and c.from_residual.result c.from_residual.ensures.1 in
     rw (p.1, p.2)
-    (sym (ap answer (doing-stop (c.loop-i.invariant.1 ν) _ (turn ν c.args.a.now c.requires.sound (expOf c.args.e) c.loop-i.i (omega arith) _ c.in_err-k.ensures))))
+    (sym (ap answer (doing-stop (c.loop-i.invariant.1 ν) _
+    (turn ν c.args.a.now c.requires.sound (expOf c.args.e) c.loop-i.i (omega arith) _ c.in_err-k.ensures))))
 
 pub keep-requires : goal.keep-requires
 keep-requires c = omega (arith, doing-len (c.loop-i.invariant.1 (numbered [])), c.requires.sound.few)
@@ -50,7 +51,8 @@ loop-i-preserved c =
       omega arith,
       λ ν.
           rw c.keep.ensures
-          (doing-kept (c.loop-i.invariant.1 ν) (factorAt c.args.a.now i) c.in_ok-k.k _ _ (c.requires.sound.kind i h) step (turn ν c.args.a.now c.requires.sound (expOf c.args.e) i h _ c.in_ok-k.ensures)),
+          (doing-kept (c.loop-i.invariant.1 ν) (factorAt c.args.a.now i) c.in_ok-k.k _ _ (c.requires.sound.kind i h) step
+          (turn ν c.args.a.now c.requires.sound (expOf c.args.e) i h _ c.in_ok-k.ensures)),
     )
 
 pub returns : goal.returns

@@ -11,4 +11,5 @@ returns c =
     let sound = c.requires.sound in
     let few = c.requires.few _ _ c.in-Ok.is in
     let back : c.dst-1.given.0 ≡ c.product.new.self.words.now = search rules in
-    rw (c.in-Ok.is, c.in-Ok-r.is) (back ∙ c.product.ensures.words (omega (arith, few, written-length (productOf q), length-product q sound.long sound.few, sound.few)))
+    rw (c.in-Ok.is, c.in-Ok-r.is)
+    (back ∙ c.product.ensures.words (omega (arith, few, written-length (productOf q), length-product q sound.long sound.few, sound.few)))

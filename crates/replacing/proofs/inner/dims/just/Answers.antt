@@ -11,7 +11,8 @@ use Rattle.replacing.proofs.inner.dims.just.Goals as goal
 
 pub returns-in-Var : goal.returns-in-Var
 unfolding asProduct
-returns-in-Var c = fine-told _ (just (openOf c.args.o)) (c.only.ensures (free (openOf c.args.o) ↑ one) c.free_factor.ensures) ∙ ⊎_elim (λ v. rw v.1 refl) (λ v. rw v.1 refl) c.in-Var.is
+returns-in-Var c = fine-told _ (just (openOf c.args.o)) (c.only.ensures (free (openOf c.args.o) ↑ one) c.free_factor.ensures)
+    ∙ ⊎_elim (λ v. rw v.1 refl) (λ v. rw v.1 refl) c.in-Var.is
 
 pub returns-in-Par : goal.returns-in-Par
 unfolding asProduct

@@ -17,7 +17,8 @@ divided-requires-clause-well c = (taken c.args.names.pool.now c.args.names.table
 pub divided-requires-clause-well_2 : goal.divided-requires-clause-well_2
 divided-requires-clause-well_2 c =
     let s = c.args in
-    (taken s.names.pool.now s.names.table.now c.only.result _ (only-whole s.names.pool.now s.names.table.now s.f c.requires.fine c.only.result (c.only.ensures _ (value-back s.f c.requires.fine.kind)))).well
+    (taken s.names.pool.now s.names.table.now c.only.result _
+    (only-whole s.names.pool.now s.names.table.now s.f c.requires.fine c.only.result (c.only.ensures _ (value-back s.f c.requires.fine.kind)))).well
 
 pub returns-in_err-left : goal.returns-in_err-left
 returns-in_err-left c = λ a w.
@@ -25,14 +26,16 @@ returns-in_err-left c = λ a w.
     let o = only-whole s.names.pool.now s.names.table.now s.f c.requires.fine c.only.result (c.only.ensures _ (value-back s.f c.requires.fine.kind)) in
     let p = err_from_is_err_and c.from_residual-in_err-left.result c.from_residual-in_err-left.ensures.1 in
     rw (p.1, p.2)
-    (put_second s.names.pool.now s.names.table.now s.f c.requires.fine s.acc.now c.only.result a s.t.tree.0 w o c.requires.good c.in_ok-bound.bound c.in_ok-bound.ensures _ c.in_err-left.ensures)
+    (put_second s.names.pool.now s.names.table.now s.f c.requires.fine s.acc.now c.only.result a s.t.tree.0 w o c.requires.good c.in_ok-bound.bound
+    c.in_ok-bound.ensures _ c.in_err-left.ensures)
 
 pub raised-requires-clause-sound : goal.raised-requires-clause-sound
 raised-requires-clause-sound c =
     let s = c.args in
     let t = s.t.tree.0 in
     let o = only-whole s.names.pool.now s.names.table.now s.f c.requires.fine c.only.result (c.only.ensures _ (value-back s.f c.requires.fine.kind)) in
-    let d = D s.names.pool.now s.names.table.now s.f c.requires.fine s.acc.now c.only.result c.requires.whole.0 t c.requires.whole.1 o c.requires.good c.in_ok-bound.bound c.in_ok-bound.ensures in
+    let d = D s.names.pool.now s.names.table.now s.f c.requires.fine s.acc.now c.only.result c.requires.whole.0 t c.requires.whole.1 o c.requires.good
+    c.in_ok-bound.bound c.in_ok-bound.ensures in
     well-sound (taken s.names.pool.now s.names.table.now _ d.tree d.whole).well
 
 pub raised-requires-clause-e_value : goal.raised-requires-clause-e_value
@@ -44,7 +47,8 @@ returns-in_err-more c = λ a w.
     let o = only-whole s.names.pool.now s.names.table.now s.f c.requires.fine c.only.result (c.only.ensures _ (value-back s.f c.requires.fine.kind)) in
     let p = err_from_is_err_and c.from_residual-in_err-more.result c.from_residual-in_err-more.ensures.1 in
     rw (p.1, p.2)
-    (put-third s.names.pool.now s.names.table.now s.f c.requires.fine s.acc.now c.only.result a s.t.tree.0 w o c.requires.good c.in_ok-bound.bound c.in_ok-bound.ensures
+    (put-third s.names.pool.now s.names.table.now s.f c.requires.fine s.acc.now c.only.result a s.t.tree.0 w o c.requires.good c.in_ok-bound.bound
+    c.in_ok-bound.ensures
     c.in_ok-left.left c.in_ok-left.ensures _ c.in_err-more.ensures)
 
 pub multiplied-requires-clause-well : goal.multiplied-requires-clause-well
@@ -52,7 +56,8 @@ multiplied-requires-clause-well c =
     let s = c.args in
     let t = s.t.tree.0 in
     let o = only-whole s.names.pool.now s.names.table.now s.f c.requires.fine c.only.result (c.only.ensures _ (value-back s.f c.requires.fine.kind)) in
-    let l = L s.names.pool.now s.names.table.now s.f c.requires.fine s.acc.now c.only.result c.requires.whole.0 t c.requires.whole.1 o c.requires.good c.in_ok-bound.bound c.in_ok-bound.ensures
+    let l = L s.names.pool.now s.names.table.now s.f c.requires.fine s.acc.now c.only.result c.requires.whole.0 t c.requires.whole.1 o c.requires.good
+    c.in_ok-bound.bound c.in_ok-bound.ensures
     c.in_ok-left.left c.in_ok-left.ensures in
     (taken s.names.pool.now s.names.table.now _ l.tree l.whole).well
 
@@ -61,7 +66,8 @@ multiplied-requires-clause-well_2 c =
     let s = c.args in
     let t = s.t.tree.0 in
     let o = only-whole s.names.pool.now s.names.table.now s.f c.requires.fine c.only.result (c.only.ensures _ (value-back s.f c.requires.fine.kind)) in
-    let m = M s.names.pool.now s.names.table.now s.f c.requires.fine s.acc.now c.only.result c.requires.whole.0 t c.requires.whole.1 o c.requires.good c.in_ok-bound.bound c.in_ok-bound.ensures
+    let m = M s.names.pool.now s.names.table.now s.f c.requires.fine s.acc.now c.only.result c.requires.whole.0 t c.requires.whole.1 o c.requires.good
+    c.in_ok-bound.bound c.in_ok-bound.ensures
     c.in_ok-left.left c.in_ok-left.ensures c.in_ok-more.more c.in_ok-more.ensures in
     (taken s.names.pool.now s.names.table.now _ m.tree m.whole).well
 
@@ -69,5 +75,6 @@ pub returns : goal.returns
 returns c = λ a w.
     let s = c.args in
     let o = only-whole s.names.pool.now s.names.table.now s.f c.requires.fine c.only.result (c.only.ensures _ (value-back s.f c.requires.fine.kind)) in
-    put_last s.names.pool.now s.names.table.now s.f c.requires.fine s.acc.now c.only.result a s.t.tree.0 w o c.requires.good c.in_ok-bound.bound c.in_ok-bound.ensures
+    put_last s.names.pool.now s.names.table.now s.f c.requires.fine s.acc.now c.only.result a s.t.tree.0 w o c.requires.good c.in_ok-bound.bound
+    c.in_ok-bound.ensures
     c.in_ok-left.left c.in_ok-left.ensures c.in_ok-more.more c.in_ok-more.ensures _ c.multiplied.ensures

@@ -27,7 +27,8 @@ put_in-requires c =
     record {
       whole = (g.tree, g.whole);
       fine = fine-at s.by.names.pool.now s.by.names.table.now s.p.now a s.by.lent.0 w n.i c.loop-i-test.true;
-      good = atom-good s.by.names.pool.now s.by.names.table.now s.by.lent.0 s.by.lent.1.good (tree_of (factorAt s.p.now n.i)) c.in-Some.t.tree.0 (sym c.bound.ensures ∙ ap (toldOptionBy type_of) c.in-Some.is);
+      good = atom-good s.by.names.pool.now s.by.names.table.now s.by.lent.0 s.by.lent.1.good (tree_of (factorAt s.p.now n.i)) c.in-Some.t.tree.0
+          (sym c.bound.ensures ∙ ap (toldOptionBy type_of) c.in-Some.is);
     }
 
 pub returns-in_err-acc : goal.returns-in_err-acc
@@ -38,7 +39,8 @@ returns-in_err-acc c = λ a w.
     let f = factorAt s.p.now n.i in
     let pool = s.by.names.pool.now in
     let table = s.by.names.table.now in
-    let h = put-bound pool table f s.by.lent.0 g.tree c.in-Some.t.tree.0 _ (sym c.bound.ensures ∙ ap (toldOptionBy type_of) c.in-Some.is) (c.in_err-acc.ensures g.tree g.whole) in
+    let h = put-bound pool table f s.by.lent.0 g.tree c.in-Some.t.tree.0 _ (sym c.bound.ensures ∙ ap (toldOptionBy type_of) c.in-Some.is)
+    (c.in_err-acc.ensures g.tree g.whole) in
     let p = err_from_is_err_and c.from_residual.result c.from_residual.ensures.1 in
     rw (p.1, p.2) (going-stop pool table s.p.now a s.by.lent.0 w n.acc n.i c.loop-i-test.true g _ h)
 
@@ -54,10 +56,12 @@ loop-i-preserved c = (
       let table = s.by.names.table.now in
       elim c.match-bound.branch [
         | in-Some+in_ok-acc v ↦
-            let h = put-bound pool table f s.by.lent.0 g.tree v.in-Some.t.tree.0 _ (sym c.bound.ensures ∙ ap (toldOptionBy type_of) v.in-Some.is) (v.in_ok-acc.ensures g.tree g.whole) in
+            let h = put-bound pool table f s.by.lent.0 g.tree v.in-Some.t.tree.0 _ (sym c.bound.ensures ∙ ap (toldOptionBy type_of) v.in-Some.is)
+            (v.in_ok-acc.ensures g.tree g.whole) in
             rw v.acc-is (going_on pool table s.p.now a s.by.lent.0 w n.acc n.i c.loop-i-test.true g s.by.lent.1.good _ h)
         | in_default v ↦
-            let h = fine-told _ g.tree g.whole.is ∙ ap answer (put-none pool table f s.by.lent.0 g.tree (sym c.bound.ensures ∙ ap (toldOptionBy type_of) v.in_default.is)) in
+            let h = fine-told _ g.tree g.whole.is ∙ ap answer
+            (put-none pool table f s.by.lent.0 g.tree (sym c.bound.ensures ∙ ap (toldOptionBy type_of) v.in_default.is)) in
             rw v.acc-is (going_on pool table s.p.now a s.by.lent.0 w n.acc n.i c.loop-i-test.true g s.by.lent.1.good _ h)
       ],
 )

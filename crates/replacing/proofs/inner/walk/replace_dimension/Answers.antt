@@ -22,7 +22,8 @@ returns-in_default c =
     let by = c.args.by in
     let t = c.args.t.tree.0 in
     let none = none-replaced by.lent.0 _ (sym c.touches_product.ensures ∙ c.if-touches_product.false) in
-    let same = ty_same (names by.names.pool.now by.names.table.now) bounded by.lent.0 t (subst (λ (u : Ty _). Unbound by.lent.0 (opens u)) c.requires.is none) in
+    let same = ty_same (names by.names.pool.now by.names.table.now) bounded by.lent.0 t
+    (subst (λ (u : Ty _). Unbound by.lent.0 (opens u)) c.requires.is none) in
     let short = short-ty t (dimension-short by.names.pool.now by.names.table.now c.requires.is c.requires.good) in
     leaves t same (subst (Writes _ _) (sym short) c.copy.ensures)
 
@@ -32,11 +33,13 @@ returns-in-Some-look_up c =
     let u = c.in-Some-look_up.bound.tree.0 in
     let e = c.in-Some-look_up.ensures in
     dimension-becomes by.names.pool.now by.names.table.now by.lent.0 c.requires.is u c.in-Some.ensures
-    (ap (λ (m : Option (Ty _)). get_or m c.args.t.tree.0) (sym e)) (omega (arith, by.lent.1.tabled.few (openOf c.in-Some.o) u (sym e))) c.copy-in-Some-look_up.ensures
+    (ap (λ (m : Option (Ty _)). get_or m c.args.t.tree.0) (sym e)) (omega (arith, by.lent.1.tabled.few (openOf c.in-Some.o) u (sym e)))
+    c.copy-in-Some-look_up.ensures
 
 pub returns-in-None : goal.returns-in-None
 returns-in-None c =
     let by = c.args.by in
     dimension-becomes by.names.pool.now by.names.table.now by.lent.0 c.requires.is c.args.t.tree.0 c.in-Some.ensures
-    (ap (λ (m : Option (Ty _)). get_or m c.args.t.tree.0) (sym c.in-None.ensures)) (dimension-short by.names.pool.now by.names.table.now c.requires.is c.requires.good)
+    (ap (λ (m : Option (Ty _)). get_or m c.args.t.tree.0) (sym c.in-None.ensures))
+    (dimension-short by.names.pool.now by.names.table.now c.requires.is c.requires.good)
     c.copy-in-None.ensures

@@ -7,7 +7,8 @@ pub divided-requires-clause-well : goal.divided-requires-clause-well
 divided-requires-clause-well c = let n = c.args.names in whole-well n.pool.now n.table.now _ (whole n.pool.now n.table.now c.requires.left_good c.value.ensures)
 
 pub divided-requires-clause-well_2 : goal.divided-requires-clause-well_2
-divided-requires-clause-well_2 c = let n = c.args.names in whole-well n.pool.now n.table.now _ (whole n.pool.now n.table.now c.requires.right_good c.value-2.ensures)
+divided-requires-clause-well_2 c = let n = c.args.names in
+    whole-well n.pool.now n.table.now _ (whole n.pool.now n.table.now c.requires.right_good c.value-2.ensures)
 
 pub returns-in_err-made : goal.returns-in_err-made
 returns-in_err-made c =

@@ -15,7 +15,8 @@ loop-i-preserved c =
     let p = c.args.p.now in
     let r = c.requires in
     let i = c.loop-i.i in
-    write-factor _ (productOf p) c.loop-i.invariant c.record_of.result (tree_of (factorAt p i)) _ (at_place p r.long r.few i c.loop-i-test.true) c.record_of.ensures
+    write-factor _ (productOf p) c.loop-i.invariant c.record_of.result (tree_of (factorAt p i)) _ (at_place p r.long r.few i c.loop-i-test.true)
+    c.record_of.ensures
     c.put-in-loop-i.ensures
 
 pub returns : goal.returns
