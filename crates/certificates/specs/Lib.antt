@@ -1,0 +1,4 @@
+pub mod Cases
+pub mod Certificates
+pub mod Proposals
+pub mod Theorems
