@@ -14,12 +14,13 @@ if [ -z "$SHUPKELEN_LIB" ]; then
     SHUPKELEN_LIB=$PWD/crates/shupkelen/out
 fi
 export SHUPKELEN_LIB
-for program in k2 sheet; do
+for program in k2 sheet empty; do
     cc -std=c99 -Wall -Wextra -Werror -pedantic -O2 -Iinclude bindings/c/$program.c "$SHUPKELEN_LIB/libshupkelen.a" -o target/bindings/$program
 done
 target/bindings/k2 | cmp - bindings/c/k2.out
 target/bindings/sheet < examples/01-kilometres.sheet | cmp - bindings/c/sheet.out
 echo "C: K2 as in the rules, and a sheet"
+target/bindings/empty || { echo "bindings/c/empty.c: NULL with 0 elements isn't an empty slice"; exit 1; }
 cd bindings
 cargo fmt --check
 CARGO_TARGET_DIR=../target/bindings RUSTDOCFLAGS="-D warnings" cargo doc --offline --no-deps --quiet

@@ -3,8 +3,8 @@
 //!
 //! # Safety
 //!
-//! Of every function: each pointer is valid for as many elements as its count says, during the whole call, aligned, and not null, not even for 0 elements; what is lent to be
-//! changed overlaps nothing else that is lent to the same call. Nothing is kept after a call. A call needs up to 1 MB of stack.
+//! Of every function: each pointer is valid for as many elements as its count says, during the whole call, and aligned; null is allowed for 0 elements (the header says what
+//! that rests on); what is lent to be changed overlaps nothing else that is lent to the same call. Nothing is kept after a call. A call needs up to 1 MB of stack.
 #![allow(clippy::missing_safety_doc)]
 
 extern "C" {
