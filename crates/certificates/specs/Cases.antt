@@ -1,5 +1,5 @@
 -- A few certificates, and what is said to them: of the set x = boolean, over the names of the rules' own examples.
-use Rattle.std.specs.Prelude.{◌≡◌, true, false, [], ◌∷◌, List, ℕ}
+use Rattle.std.specs.Prelude.{◌≡◌, Bool, true, false, [], ◌∷◌, List, ℕ}
 use Rattle.rules.specs.Base.{Got, got, refused}
 use Rattle.rules.specs.Examples.{x, pool, table}
 use Rattle.rules.specs.Lengths.{sizedWords}
@@ -10,7 +10,7 @@ use Rattle.certificates.specs.Certificates.{verified}
 abbrev set : List ℕ
 set = sizedWords (rec 20 0 0 0 ∷ rec 1 x 0 0 ∷ rec 4 0 0 0 ∷ [])
 
-abbrev pub said : List Rec → Got _
+abbrev pub said : List Rec → Got Bool
 said lines = verified pool table set (sizedWords lines)
 
 pub record Examples : Type 0 where
