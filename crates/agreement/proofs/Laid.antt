@@ -41,7 +41,7 @@ use Rattle.agreement.proofs.Powers.{Good}
 use Rattle.agreement.proofs.Rows.{Fit, Rising, factors-kept}
 use Rattle.agreement.proofs.Runs.{answered, row-by-row}
 
--- answers that are the same but for the rounds come from the same
+-- answers that are the same except for the rounds come from the same
 answered-same : {N : Type 0} (j k : ℕ) (a b : Got (Settled N)) → answered j a ≡ answered k b → a ≡ b
 unfolding answered
 answered-same j k (refused n) (refused m) e = let z : n ≡ m = cc in ap refused z

@@ -71,7 +71,7 @@ module _ (pool table steps types lines result work : List ℕ) (given : tableGiv
 -- ══ A line that runs ══
 
 -- the other way: a line whose references are closed, which passes the checks at entry and runs to its end, is answered, or refused with 7 or 8. So
--- of such lines none is refused that would run but for 7 and 8, and by (a) none is answered that would not
+-- of such lines none is refused that would run except for 7 and 8, and by (a) none is answered that would not
 module _ (pool table steps types lines names result work : List ℕ) (given : tableGiven pool table ≡ got tt)
     (ss : List (LineStep ℕ)) (read : lineGiven (table_of pool table) steps types lines ≡ got ss) (closed : closedLine ss ≡ true) where
   pub answered-if-it-runs : fresh names ss ≡ true → all (is_held (table_of pool table)) names ≡ true

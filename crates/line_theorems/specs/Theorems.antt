@@ -39,7 +39,7 @@ module _ (pool table steps types lines result work : List ℕ) (ss : List (LineS
         → (found : List (Binding ℕ) × List ℕ) → settledSet (numbersOf t) (constraints (numbersOf t) names [] ss) ≡ got found
         → YesOrLimits (judge (numbersOf t) bounded found.0 found.1 (constraints (numbersOf t) names [] ss))
     -- and the other way: one that passes the checks at entry and runs to its end is answered, or refused with 7 or 8. So none is refused that
-    -- would run, but for 7 and 8, and none is answered that would not
+    -- would run, except for 7 and 8, and none is answered that would not
     pub answered-if-it-runs : (names : List ℕ) → fresh names ss ≡ true → all (is_held t) names ≡ true
         → (u w : Unit {0}) → lineLent pool table steps names result work ≡ got u → lineShort steps types lines names ≡ got w
         → (left : List (Ty ℕ)) → runLine (numbersOf t) ss ≡ ran left

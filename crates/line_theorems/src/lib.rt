@@ -10,7 +10,7 @@ pub fn answered_is_sound()
 {}
 
 /// Of a line whose references are closed: other fresh lent names give the same outcome, or one of the calls is refused with 7 or 8; the judge never
-/// says no; and one that passes the checks at entry and would run is answered, but for 7 and 8 (`lent-names`, `never-no`, `answered-if-it-runs`).
+/// says no; and one that passes the checks at entry and would run is answered, except for 7 and 8 (`lent-names`, `never-no`, `answered-if-it-runs`).
 pub fn closed_lines_run()
     ensures { ClosedLinesRun }
 {}

@@ -13,7 +13,7 @@ use judging::inner::judge_slots;
 use rules::Refusal;
 
 /// Is each constraint of the set true once the bindings of the pairs are put in: of each a variable, and the place of its type? An odd last word is not
-/// looked at. Refused as `judging::judge` refuses; the work buffer is left all zero, but for a refusal 10.
+/// looked at. Refused as `judging::judge` refuses; the work buffer is left all zero, except for a refusal 10.
 pub fn judge_pairs(
     pool: &[u8],
     table: &[u32],

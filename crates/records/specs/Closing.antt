@@ -1,4 +1,4 @@
--- A part that was found but for the length that its first record says, and that length.
+-- A part that was found except for the length that its first record says, and that length.
 use Rattle.std.specs.Prelude.{Option, Some, None, ◌≡◌, refl, Bool, true, false, List, ℕ, ◌+◌, ◌/◌, eqb}
 use Rattle.std.proofs.Math.Path.{sym}
 use Rattle.std.proofs.Common.{ap, ◌∙◌, arith, eqb-true}
@@ -30,7 +30,7 @@ use Rattle.records.specs.Good.{
 }
 use Rattle.records.specs.declared.View.TheVariants as view
 
--- P is G but for the length
+-- P is G except for the length
 module _ {A : Type 0} (s : List ℕ) (at : ℕ) (P G : A → ℕ → Type 0)
     (there : (a : A) (e : ℕ) → P a e → at + longAt s at ≡ e → G a e)
     (back : (a : A) (e : ℕ) → G a e → P a e)

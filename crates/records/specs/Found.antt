@@ -116,7 +116,7 @@ module _ (s : List ℕ) where
     pub place : rest ≡ from s (at + size t)
     pub deep : depth t ≤ d
 
-  -- but for the length that its first record says
+  -- except for the length that its first record says
   record FoundBody (d at : ℕ) (t : Ty ℕ) (rest : List Rec) : Type 0 where
     held : Body s t at
     place : rest ≡ from s (at + size t)
@@ -338,7 +338,7 @@ module _ (s : List ℕ) where
     abbrev pub FoundBinding : ℕ → Binding ℕ → List Rec → Type 0
     FoundBinding at b rest = FoundPart HoldsBinding sizeBinding depthBinding s 64 at b rest
 
-    -- but for the length that their first record says
+    -- except for the length that their first record says
     abbrev ConBody : ℕ → Con ℕ → List Rec → Type 0
     ConBody at c rest = FoundPart BodyCon sizeCon depthCon s 64 at c rest
 
@@ -368,7 +368,7 @@ module _ (s : List ℕ) where
     abbrev scalar : ℕ → Reader (Con ℕ)
     scalar a = λ s. pass (readFactors a s) (λ p. give (is_scalar p))
 
-    -- the product of an equal-scalar, but for the length that its first record says
+    -- the product of an equal-scalar, except for the length that its first record says
     record ScalarBody (at : ℕ) (c : Con ℕ) (rest : List Rec) : Type 0 where
       product : Product ℕ
       is : c ≡ is_scalar product

@@ -138,7 +138,7 @@ module _ (pool table : List ℕ) where
         pub deep : depth t ≤ d
         pub good : goodTy t ≡ true
 
-      -- but for the length that its first record says
+      -- except for the length that its first record says
       pub record PartsTy (d at : ℕ) (t : Ty ℕ) (e : ℕ) : Type 0 where
         pub held : Body s t at
         pub past : e ≡ at + size t

@@ -129,7 +129,7 @@ unfoldable pub HoldsBounds : List ℕ → List (tree.Open ℕ) → ℕ → Type 
 HoldsBounds s [] at = Unit {0}
 HoldsBounds s (o ∷ os) at = HoldsBound s o at × HoldsBounds s os (at + 1)
 
--- ══ Held, but for the length that the first record says ══
+-- ══ Held, except for the length that the first record says ══
 
 abbrev pub BodyFactor : List ℕ → Factor ℕ → ℕ → Type 0
 BodyFactor s (a ↑ frac n d) at = Shows s at (view.Factor (viewAtom a) (twos n) d) × (signed (twos n) ≡ n)

@@ -254,7 +254,7 @@ module _ (s : List ℕ) where
       let e = only l l' at h h' in
       ap₂ f e (only r r' (at + size l) i (subst (λ (t : Ty ℕ). Holds s r' (at + size t)) (sym e) i'))
 
-  -- also but for the length that the first record says
+  -- also except for the length that the first record says
   pub only-body : (t u : Ty ℕ) (at : ℕ) → Body s t at → Body s u at → t ≡ u
   unfolding Body
   only-body t (opened o) at h k = by-body s (λ x. x ≡ opened o) t at h k (ap opened (open-back o))

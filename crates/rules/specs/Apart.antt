@@ -51,7 +51,7 @@ pageAt e k = get_or (map some e.pages) k none
 abbrev pub uncounted : Page → Page
 uncounted p = record { name = p.name; text = p.text; new = 0; content = p.content }
 
--- two pages, each told over a table: byte for byte the same but for that count, and both accepted or neither
+-- two pages, each told over a table: byte for byte the same except for that count, and both accepted or neither
 pub record PagesAlike (t t' : Table) (p p' : Page) : Type 0 where
   pub text : pageText t (uncounted p) ≡ pageText t' (uncounted p')
   pub accepted : isAccepted (findingOf t p.content) ≡ isAccepted (findingOf t' p'.content)

@@ -15,7 +15,7 @@ confirms s = confirmCall pool table (sizedWords s) result work
 
 -- ══ K1 to K13 ══
 
--- accepted, but for K4 and K13 (5), K6 (6) and K11 (4); K10, which solving accepts after 3 rounds, is 11 after as many
+-- accepted, except for K4 and K13 (5), K6 (6) and K11 (4); K10, which solving accepts after 3 rounds, is 11 after as many
 K1-to-K13 : map (λ (e : Example). (confirms e.set).answer) examples
     ≡ solved 0 0 0 ∷ solved 2 0 1 ∷ solved 2 0 3 ∷ unsolved 4 0 ∷ solved 3 0 1 ∷ refusedAfter 6 1 ∷ solved 0 1 0 ∷ solved 0 2 1 ∷ solved 2 0 1
     ∷ refusedAfter 11 3 ∷ refusedAfter 4 0 ∷ solved 2 0 2 ∷ unsolved 3 0 ∷ []
@@ -31,7 +31,7 @@ numbered = refl
 leaves : List Rec → Solution → Bool
 leaves front s = same_words s.result (sizedWords front ++ drop (length (sizedWords front)) result) && same_words s.work (replicate 16384 0)
 
--- as solving leaves them (bindings and bounds, or what remains), but for K10, whose words aren't written
+-- as solving leaves them (bindings and bounds, or what remains), except for K10, whose words aren't written
 front : Option Bool → List Rec → List Rec
 front (some true) rs = rs
 front (some false) rs = []

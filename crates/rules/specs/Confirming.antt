@@ -31,7 +31,7 @@ confirmedSet t set = do
   got (confirmed (numbersOf t) cs a)
 
 -- 10 first; the buffers as solving leaves them: the result buffer begins with the answer or, on 5, with what remains, and is unchanged past it
--- and on every other refusal (11, too); the work buffer is all zero but for 10
+-- and on every other refusal (11, too); the work buffer is all zero except for 10
 unfoldable pub confirmCall : List ℕ → List ℕ → List ℕ → List ℕ → List ℕ → Solution
 confirmCall pool table set result work = record {
   answer = solvedOf (lent pool table result work >> confirmedSet (table_of pool table) set);

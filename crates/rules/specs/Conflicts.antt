@@ -90,7 +90,7 @@ pub record Conflicts : Type 0 where
   pub work : List ℕ
 
 -- 10 first. The places of the lines that conflict stand at the front of the result buffer, which is unchanged past them, and where nothing conflicts or
--- the answer is a refusal; the work buffer is all zero but for 10
+-- the answer is a refusal; the work buffer is all zero except for 10
 unfoldable pub conflictCall : List ℕ → List ℕ → List ℕ → List ℕ → List ℕ → Conflicts
 conflictCall pool table set result work = record {
   answer = lent pool table result work >> conflictOf (table_of pool table) set >>= λ f. got (manyOf f);

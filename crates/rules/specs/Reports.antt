@@ -87,7 +87,7 @@ isAccepted (stops n k) = false
 unfoldable pub lineIn : ℕ → Bytes → Bytes
 lineIn l text = get_or (lines_of text) (l - 1) []
 
--- a line holds a constraint, but for one with nothing but blanks, and one whose first sign is "-", as in a comment
+-- a line holds a constraint, except for one with nothing but blanks, and one whose first sign is "-", as in a comment
 abbrev pub someAt : Place → Bool
 someAt (here c []) = false
 someAt (here c (b ∷ bs)) = not (eqb b 45)

@@ -1,4 +1,4 @@
--- What adding answers Violated isn't true under any bindings and bounds, but for closed types that differ in structs' fields.
+-- What adding answers Violated isn't true under any bindings and bounds, except for closed types that differ in structs' fields.
 use Rattle.std.specs.Prelude.{◌≡◌, Bool, ◌&&◌, ◌||◌, ℕ, ◌*◌, leb, eqb, take}
 use Rattle.std.proofs.Math.Path.{refl, sym, ap, subst}
 use Rattle.std.proofs.Common.{ap₂, ◌∙◌, eq-eqb}

@@ -40,7 +40,7 @@ use Rattle.soundness.proofs.Instances.{
   product-violated,
 }
 
--- ══ A Violated constraint has no solution, but for one exception ══
+-- ══ A Violated constraint has no solution, except for one exception ══
 
 module _ {N : Type 0} (ν : Names N) where
   -- whatever the bindings and bounds, and whoever proposed them: they don't make it true

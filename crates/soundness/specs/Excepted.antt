@@ -17,7 +17,7 @@ pub record OtherFields {N : Type 0} (ν : Names N) (c : Con N) : Type 0 where
   pub same-meaning : means ν left right ≡ true
   pub other-records : ¬ (left ≡ right)
 
--- these words were read as a constraint that no bindings and bounds make true, but for the exception
+-- these words were read as a constraint that no bindings and bounds make true, except for the exception
 pub record ViolatedLine (pool table con : List ℕ) : Type 0 where
   pub constraint : Con ℕ
   pub read : setGiven (table_of pool table) con ≡ got (constraint ∷ [])

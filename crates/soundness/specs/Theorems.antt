@@ -105,7 +105,7 @@ EntriesPointAtTypes = pointed 0 (head 24 2 ∷ 0 ∷ 0 ∷ 0 ∷ head 4 1 ∷ 0 
 
 module _ {N : Type 0} (ν : Names N) where
   pub record Final (c : Con N) : Type 0 where
-    -- whatever the bindings and bounds, and whoever proposed them: they don't make it true, but for one exception
+    -- whatever the bindings and bounds, and whoever proposed them: they don't make it true, except for one exception
     pub final : addTest ν c ≡ violated → (bs : List (Binding N)) (bounds : List N) → TrueUnder ν bs bounds c → OtherFields ν c
     -- the exception is exact: such an equality is answered Violated, and is true under all bindings and bounds
     pub exception-violated : OtherFields ν c → addTest ν c ≡ violated

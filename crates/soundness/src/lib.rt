@@ -58,13 +58,13 @@ pub fn entries_point_at_types()
     ensures { EntriesPointAtTypes }
 {}
 
-/// No bindings make a Violated constraint true, but for an equality of two structs that differ in fields alone; that exception is exact
+/// No bindings make a Violated constraint true, except for an equality of two structs that differ in fields alone; that exception is exact
 /// (`violated-final`, `exception-violated`, `exception-true`, `exception-fields`).
 pub fn violated_is_final<N>()
     ensures { ViolatedIsFinal N }
 {}
 
-/// So no set that the solver accepts holds a Violated constraint, under the premise and but for that exception (`none-violated`).
+/// So no set that the solver accepts holds a Violated constraint, under the premise and except for that exception (`none-violated`).
 pub fn none_accepted<N>()
     ensures { NoneAccepted N }
 {}

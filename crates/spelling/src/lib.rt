@@ -82,7 +82,7 @@ fn put_numerator<S: Sink>(to: &mut S, b: u32) -> Result<(), S::Error>
     put_digits(to, 10, 4294967295 - b + 1)
 }
 
-// Puts a denominator, but for 1.
+// Puts a denominator, except for 1.
 #[tactic(auto, unfolding(rules::specs::TextWriting::denominatorText))]
 fn put_denominator<S: Sink>(to: &mut S, d: u32) -> Result<(), S::Error>
     ensures { Puts (S.place to.old) (denominatorText d) result (S.place to.new) }
@@ -94,7 +94,7 @@ fn put_denominator<S: Sink>(to: &mut S, d: u32) -> Result<(), S::Error>
     put_digits(to, 10, d)
 }
 
-/// Puts a power, but for 1; it comes as the words of a factor's record.
+/// Puts a power, except for 1; it comes as the words of a factor's record.
 #[tactic(auto, unfolding(rules::specs::TextWriting::powerText))]
 pub fn put_power<S: Sink>(to: &mut S, b: u32, d: u32) -> Result<(), S::Error>
     ensures { Puts (S.place to.old) (powerText (frac (signed b) d)) result (S.place to.new) }
