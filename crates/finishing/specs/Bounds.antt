@@ -19,11 +19,10 @@ use Rattle.rules.specs.Writing.{Rec, words, writeCon, writeBinding, writeBound}
 use Rattle.laws.specs.KnownNames.{every_append, Known, con-known}
 use Rattle.laws.specs.ReadLists.{Every}
 use Rattle.laws.specs.SortedNames.{sort-few}
-use Rattle.laws.specs.Size.{set-length}
+use Rattle.laws.specs.Size.{set-length, bindings-length}
 use Rattle.records.specs.Buffers.{words-length, stored}
-use Rattle.records.specs.ByView.{con-in, binding-in}
-use Rattle.records.specs.Good.{Chain, numbers, holding}
-use Rattle.records.specs.Held.{shown}
+use Rattle.records.specs.Good.{Chain, goodCon, numbers, holding}
+use Rattle.records.specs.Held.{shown, parted}
 use Rattle.records.specs.Holds.{HoldsCon, HoldsBinding, HoldsBounds}
 use Rattle.records.specs.Stores.{sets-append}
 use Rattle.records.specs.Views.{recOf, from}
@@ -34,15 +33,11 @@ use Rattle.queries.specs.Marks.{Filled}
 use Rattle.queries.specs.ScanLaws.{con-opens, chain-opens}
 use Rattle.queries.specs.Scans.{choose, opensIn}
 use Rattle.queries.specs.declared.Kind.TheVariants.{Both}
-use Rattle.replacing.specs.Flat.{goodLine, PlainLines}
-use Rattle.replacing.specs.Kept.{plain-written}
-use Rattle.replacing.specs.LineLaws.{lines_long, lines_write}
-use Rattle.replacing.specs.LineRules.{Line, con, binding, sizeLine, HoldsLine}
-use Rattle.replacing.specs.Runs.{HoldsAll}
+use Rattle.replacing.specs.Kept.{cons-weaker, binds-weaker}
 use Rattle.replacing.specs.Writes.{words_append, writes}
-use Rattle.replacing.specs.Written.{all-length}
-use Rattle.rounds.specs.Lines.{long-cons, lines-words, kept-before, copied, as-cons, as-run}
+use Rattle.replacing.specs.Written.{written-cons, binds-held, as-run}
 use Rattle.rounds.specs.States.{StateHeld}
+use Rattle.types.specs.Puts.{binds-words as bound-words, binds-from, binds-in as bound-in, cons-in}
 use Rattle.types.specs.Sets.{HoldsCons, IsCons, Cons, con-some, one-set}
 use Rattle.finishing.specs.declared.Finish.TheVariants.{Solved as Bound, Unsolved}
 use Rattle.finishing.specs.Told.{others, boundRec, bounds, Copied, IsSolved, Accepted, Finished}
@@ -120,75 +115,55 @@ module _ (s : List ℕ) where
   set-opens : (cs : List (Con ℕ)) (n : ℕ) → IsCons s 0 n cs → opensIn s 0 n ≡ collect opensCon cs
   set-opens cs n h = (chain-opens s (λ at c e. HoldsCon s c at × (e ≡ at + sizeCon c)) opensCon (λ at c e k. part c at e k) cs 0 n (chained cs 0 n h.held h.ends)).1
 
-  -- ══ Lines that are held lie within ══
-
-  line-in : (x : Line) (at : ℕ) → HoldsLine s x at → at + sizeLine x ≤ length s / 4
-  line-in (con c) at h = con-in s c at h
-  line-in (binding b) at h = binding-in s b at h
-
-  lines-in : (xs : List Line) (at : ℕ) → at ≤ length s / 4 → HoldsAll HoldsLine sizeLine s xs at → at + sum_of sizeLine xs ≤ length s / 4
-  unfolding HoldsAll
-  lines-in [] at le h = omega arith
-  lines-in (x ∷ xs) at le h = omega (arith, lines-in xs (at + sizeLine x) (line-in x at h.0) h.1)
-
 -- ══ A state whose constraints are bounds ══
 
-cons-good : (pool table : List ℕ) (cs : List (Con ℕ)) → all (goodLine pool table) (map con cs) ≡ true → Every (Known (numbers pool table) (holding pool table) 0) (collect opensCon cs)
+cons-good : (pool table : List ℕ) (cs : List (Con ℕ)) → all (goodCon pool table 0) cs ≡ true → Every (Known (numbers pool table) (holding pool table) 0) (collect opensCon cs)
 unfolding all collect
 cons-good pool table [] g = tt
 cons-good pool table (c ∷ cs) g =
-    let r = (and-eq-true_iff (goodLine pool table (con c)) (all (goodLine pool table) (map con cs))).0 g in
+    let r = (and-eq-true_iff (goodCon pool table 0 c) (all (goodCon pool table 0) cs)).0 g in
     every_append _ (opensCon c) (collect opensCon cs) (con-known (numbers pool table) (holding pool table) 0 c r.0) (cons-good pool table cs r.1)
 
 -- those that are no bounds are among them
-others-good : (pool table : List ℕ) (cs : List (Con ℕ)) → all (goodLine pool table) (map con cs) ≡ true → all (goodLine pool table) (map con (others cs)) ≡ true
+others-good : (pool table : List ℕ) (cs : List (Con ℕ)) → all (goodCon pool table 0) cs ≡ true → all (goodCon pool table 0) (others cs) ≡ true
 unfolding all keep
 others-good pool table [] g = refl
 others-good pool table (c ∷ cs) g =
-    let r = (and-eq-true_iff (goodLine pool table (con c)) (all (goodLine pool table) (map con cs))).0 g in
+    let r = (and-eq-true_iff (goodCon pool table 0 c) (all (goodCon pool table 0) cs)).0 g in
     go (is_none (boundOf c)) r.0 (others-good pool table cs r.1)
   where
-    go : (b : Bool) → goodLine pool table (con c) ≡ true → all (goodLine pool table) (map con (others cs)) ≡ true
-        → all (goodLine pool table) (map con (elim b [ true ↦ c ∷ others cs | false ↦ others cs ])) ≡ true
-    go true a h = (and-eq-true_iff (goodLine pool table (con c)) (all (goodLine pool table) (map con (others cs)))).1 (a, h)
+    go : (b : Bool) → goodCon pool table 0 c ≡ true → all (goodCon pool table 0) (others cs) ≡ true
+        → all (goodCon pool table 0) (elim b [ true ↦ c ∷ others cs | false ↦ others cs ]) ≡ true
+    go true a h = (and-eq-true_iff (goodCon pool table 0 c) (all (goodCon pool table 0) (others cs))).1 (a, h)
     go false a h = h
 
 module _ (pool table s : List ℕ) (n m : ℕ) (st : State ℕ) (h : StateHeld pool table s n m st) where
-  pub set : IsCons s 0 n st.cons
-  set = as-cons pool table s st.cons 0 n h.cons
-
   -- whichever constraints stand there, they are those of the state
   pub of-state : {d d' : List ℕ} {k : ℕ} (x : Cons s 0 n) → Copied d d' 0 k (others x.0) → Copied d d' 0 k (others st.cons)
-  of-state {d} {d'} {k} x c = subst (λ (y : Cons s 0 n). Copied d d' 0 k (others y.0)) (one-set s 0 n x (st.cons, set)) c
+  of-state {d} {d'} {k} x c = subst (λ (y : Cons s 0 n). Copied d d' 0 k (others y.0)) (one-set s 0 n x (st.cons, h.cons)) c
 
   -- what `list_names` asks
   pub names-known : Every (λ x. x < get_or table 0 0) (choose Both (opensIn s 0 n))
-  names-known = rw (set-opens s st.cons n set) (names-held pool table 0 (collect opensCon st.cons) (cons-good pool table st.cons h.cons.good) Both)
+  names-known = rw (set-opens s st.cons n h.cons) (names-held pool table 0 (collect opensCon st.cons) (cons-good pool table st.cons h.sound_cons.good) Both)
 
   pub names-are : others st.cons ≡ [] → choose Both (opensIn s 0 n) ≡ collect (λ c. to_list (boundOf c)) st.cons
-  names-are e = ap (choose Both) (set-opens s st.cons n set) ∙ names-bounds st.cons e
+  names-are e = ap (choose Both) (set-opens s st.cons n h.cons) ∙ names-bounds st.cons e
 
   -- what `copy` asks
   pub binds-in : (n ≤ m) × (m * 4 ≤ length s)
   binds-in =
-      let a = lines-in s (map con st.cons) 0 (omega arith) h.cons.held in
-      let b = lines-in s (map binding st.binds) n (omega (arith, a, h.cons.ends)) h.binds.held in
+      let a = cons-in s st.cons 0 (omega arith) h.cons.held in
+      let b = bound-in s st.binds n (omega (arith, a, h.cons.ends)) h.binds.held in
       (omega (arith, h.binds.ends), omega (arith, b, h.binds.ends))
 
   binds-words : slice (n * 4) (m * 4) s ≡ words (collect writeBinding st.binds)
-  binds-words =
-      let a = lines-in s (map con st.cons) 0 (omega arith) h.cons.held in
-      lines-words pool table s (map binding st.binds) n m (omega (arith, a, h.cons.ends)) h.binds
-      ∙ ap words (lines_write binding sizeBinding writeBinding HoldsBinding (λ b. refl) (λ b. refl) (λ s b at h. h) st.binds)
+  binds-words = bound-words s n m (st.binds, h.binds) (omega (arith, binds-in))
 
   binds-length : length (collect writeBinding st.binds) ≡ m - n
-  binds-length =
-      let a = binds-in in
-      let l = lines_write binding sizeBinding writeBinding HoldsBinding (λ b. refl) (λ b. refl) (λ s b at h. h) st.binds in
-      omega (arith, ap length l, all-length pool table (map binding st.binds), h.binds.ends, a.0)
+  binds-length = omega (arith, bindings-length st.binds, h.binds.ends, binds-in.0)
 
   pub bounds-few : length (bounds pool table st) ≤ n
-  bounds-few = omega (arith, sort-few (numbers pool table) (collect (λ c. to_list (boundOf c)) st.cons), names-few st.cons, set.ends)
+  bounds-few = omega (arith, sort-few (numbers pool table) (collect (λ c. to_list (boundOf c)) st.cons), names-few st.cons, h.cons.ends)
 
   -- the names that were listed, in a buffer of 256
   module _ (e : others st.cons ≡ []) (b b' : List ℕ) (k : ℕ) (f : Filled (sort (numbers pool table) (choose Both (opensIn s 0 n))) k b b') where
@@ -203,22 +178,6 @@ module _ (pool table s : List ℕ) (n m : ℕ) (st : State ℕ) (h : StateHeld p
     unfolding over
     listed-front = ap (take k) listed.buffer ∙ take_at (bounds pool table st) (drop (length (bounds pool table st)) b) k (sym listed.many)
 
-    -- bindings that were copied, and bounds that were written behind them
-    rows : (d d₁ d₂ : List ℕ) → 8192 ≤ length d → d₁ ≡ sets d 0 (slice (n * 4) (m * 4) s) → d₂ ≡ sets d₁ ((m - n) * 4) (words (map boundRec (bounds pool table st)))
-        → IsSolved d₂ (m - n) k st.binds (bounds pool table st)
-    rows d d₁ d₂ room p q =
-        let a = binds-in in
-        let l : length d₁ ≡ length d = ap length p ∙ length-sets d 0 (slice (n * 4) (m * 4) s) in
-        let z : 0 + (m - n) ≡ m - n = omega arith in
-        let first : PlainLines pool table d₁ (map binding st.binds) 0 (m - n) = rw z at (copied pool table s d d₁ (map binding st.binds) n m 0 h.binds a.1 (omega (arith, h.short, a.0)) p) in
-        let kept = kept-before pool table d₁ d₂ (m - n) (words (map boundRec (bounds pool table st))) q (map binding st.binds) 0 (m - n) first (omega (arith, l, h.short, a.0)) (omega arith) in
-        let i = length-map (bounds pool table st) boundRec in
-        let there = ap (λ (v : List ℕ). from v (m - n)) q ∙ stored d₁ (map boundRec (bounds pool table st)) (m - n) (omega (arith, l, i, bounds-few, h.short, a.0)) in
-        record {
-          binds = as-run pool table d₂ st.binds 0 (m - n) kept;
-          bounds = record { held = bounds-held d₂ (bounds pool table st) (m - n) (from d₁ (m - n + length (map boundRec (bounds pool table st)))) there; ends = omega (arith, listed.many) };
-        }
-
     -- bindings, and then bounds
     pub accepted-as : (d d₁ d₂ : List ℕ) → 8192 ≤ length d → d₁ ≡ sets d 0 (slice (n * 4) (m * 4) s) → d₂ ≡ sets d₁ ((m - n) * 4) (words (map boundRec (take k b'))) → Accepted pool table st d d₂ (m - n) k
     unfolding over
@@ -228,9 +187,17 @@ module _ (pool table s : List ℕ) (n m : ℕ) (st : State ℕ) (h : StateHeld p
         let z : (0 + (m - n)) * 4 ≡ (m - n) * 4 = omega arith in
         let w : d₂ ≡ sets d 0 (words (A ++ B)) = writes d d₁ d₂ A B (m - n) 0 binds-length (p ∙ ap (sets d 0) binds-words) (rw z (q ∙ ap (λ (l : List ℕ). sets d₁ ((m - n) * 4) (words (map boundRec l))) listed-front)) in
         let a = binds-in in
-        let long : length (words (A ++ B)) ≤ 8192 = omega (arith, words-length (A ++ B), length-append A B, length-map (bounds pool table st) boundRec, binds-length, bounds-few, h.short, a.0) in
+        let i = length-map (bounds pool table st) boundRec in
+        let l = length-append A B in
+        let long : length (words (A ++ B)) ≤ 8192 = omega (arith, words-length (A ++ B), l, i, binds-length, bounds-few, h.short, a.0) in
+        let there : from d₂ 0 ≡ (A ++ B) ++ from d (0 + length (A ++ B)) = ap (λ (v : List ℕ). from v 0) w ∙ stored d (A ++ B) 0 (omega (arith, l, i, binds-length, bounds-few, h.short, a.0, room)) in
+        let (u, v) = parted d₂ A B (from d (0 + length (A ++ B))) 0 (m - n) binds-length there in
+        let v' : from d₂ (m - n) ≡ B ++ from d (0 + length (A ++ B)) = rw (zero-add (m - n)) at v in
         record {
-          rows = rows d d₁ d₂ room p (q ∙ ap (λ (l : List ℕ). sets d₁ ((m - n) * 4) (words (map boundRec l))) listed-front);
+          rows = record {
+            binds = as-run d₂ st.binds 0 (m - n) (record { held = binds-held pool table d₂ st.binds 0 _ (binds-weaker pool table st.binds h.sound_binds.good) u; ends = omega (arith, h.binds.ends, a.0) });
+            bounds = record { held = bounds-held d₂ (bounds pool table st) (m - n) _ v'; ends = omega (arith, listed.many) };
+          };
           many = listed.many;
           buffer = w ∙ sets-eq (words (A ++ B)) d 0 (omega arith) ∙ ap (λ (j : ℕ). words (A ++ B) ++ drop j d) (zero-add (length (words (A ++ B))));
         }
@@ -239,16 +206,13 @@ module _ (pool table s : List ℕ) (n m : ℕ) (st : State ℕ) (h : StateHeld p
 
 module _ (pool table : List ℕ) (st : State ℕ) (d d' : List ℕ) (left : ℕ) (c : Copied d d' 0 left (others st.cons)) where
   -- they are held where they were written
-  left-held : sum_of sizeCon st.cons ≤ 2048 → 8192 ≤ length d → all (goodLine pool table) (map con st.cons) ≡ true → IsCons d' 0 left (others st.cons)
+  left-held : sum_of sizeCon st.cons ≤ 2048 → 8192 ≤ length d → all (goodCon pool table 0) st.cons ≡ true → IsCons d' 0 left (others st.cons)
   left-held few room good =
-      let xs = map con (others st.cons) in
-      let w = lines_write con sizeCon writeCon HoldsCon (λ c. refl) (λ c. refl) (λ s c at h. h) (others st.cons) in
-      let n : 0 + sum_of sizeLine xs ≡ left = omega (arith, c.many, long-cons (others st.cons)) in
-      let p = plain-written pool table d d' 0 xs (others-good pool table st.cons good) (c.buffer ∙ ap (λ (l : List Rec). sets d 0 (words l)) (sym w)) (omega (arith, n, c.many, others-few st.cons, few, room)) in
-      as-cons pool table d' (others st.cons) 0 left (subst (PlainLines pool table d' xs 0) n p)
+      let n : 0 + sum_of sizeCon (others st.cons) ≡ left = omega (arith, c.many) in
+      rw n at (written-cons pool table d d' 0 (others st.cons) c.buffer (omega (arith, others-few st.cons, few, room)) (cons-weaker pool table (others st.cons) (others-good pool table st.cons good)))
 
   -- some remain
-  pub finished-remaining : 0 < left → sum_of sizeCon st.cons ≤ 2048 → 8192 ≤ length d → all (goodLine pool table) (map con st.cons) ≡ true → Finished pool table st d d' (Unsolved left)
+  pub finished-remaining : 0 < left → sum_of sizeCon st.cons ≤ 2048 → 8192 ≤ length d → all (goodCon pool table 0) st.cons ≡ true → Finished pool table st d d' (Unsolved left)
   unfolding finish finished solvedOf solvedWords resultAfter over
   finished-remaining lt few room good = go (others st.cons) refl c (others-few st.cons) (left-held few room good)
     where
@@ -273,7 +237,7 @@ pub finished-accepted : (pool table s : List ℕ) (n m : ℕ) (st : State ℕ) (
 unfolding finish finished solvedOf solvedWords resultAfter
 finished-accepted pool table s n m st d d₁ d' r h e i a =
     let b = binds-in pool table s n m st h in
-    let q : m - n ≡ sum_of sizeBinding st.binds = omega (arith, h.binds.ends, lines_long binding sizeBinding writeBinding HoldsBinding (λ b. refl) (λ b. refl) (λ s b at h. h) st.binds, b.0) in
+    let q : m - n ≡ sum_of sizeBinding st.binds = omega (arith, h.binds.ends, b.0) in
     record {
       answer = λ j. rw e (rw (q, a.many));
       rows = λ j. rw e (refl, a.rows);

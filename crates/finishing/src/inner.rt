@@ -19,7 +19,7 @@ use queries::inner::list_names;
 use records::inner::{copy, put_one};
 use records::{Open, View};
 use rounds::Ends;
-use rules::{NAMES, RECORD_WORDS};
+use rules::NAMES;
 use types::writer::Writer;
 use types::{Constraint, Constraints, Demand, Shape};
 
@@ -93,10 +93,10 @@ fn accept(names: NameTable, s: &[u32], ends: Ends, res: &mut [u32]) -> usize
     k
 }
 
-/// What is answered where no rule applies to a state, in a list that is not too long.
-fn finish_short(names: NameTable, s: &[u32], ends: Ends, res: &mut [u32]) -> Finish
+/// What is answered where no rule applies to a state.
+pub fn finish(names: NameTable, s: &[u32], ends: Ends, res: &mut [u32]) -> Finish
     requires standing { (st : State ℕ) × Standing names s.now ends st }
-    requires near { length s.now ≤ 100_000 }
+    requires near { length s.now ≤ 4_000_000_000 }
     requires room { 8192 ≤ length res.old }
     ensures { (st : State ℕ) → Standing names.entry s.now ends st → Finished names.entry.pool.now names.entry.table.now st res.old res.new result }
 {
@@ -114,14 +114,4 @@ fn finish_short(names: NameTable, s: &[u32], ends: Ends, res: &mut [u32]) -> Fin
     }
     let bounds = accept(names, s, ends, res);
     Finish::Solved(ends.bindings - ends.constraints, bounds)
-}
-
-/// The same of a state in the first 8,192 words of a list.
-pub fn finish(names: NameTable, s: &[u32], ends: Ends, res: &mut [u32]) -> Finish
-    requires standing { (st : State ℕ) × Standing names s.now ends st }
-    requires state_room { 8192 ≤ length s.now }
-    requires room { 8192 ≤ length res.old }
-    ensures { (st : State ℕ) → Standing names.entry s.now ends st → Finished names.entry.pool.now names.entry.table.now st res.old res.new result }
-{
-    finish_short(names, &s[..RECORD_WORDS], ends, res)
 }

@@ -22,9 +22,7 @@ use Rattle.queries.specs.GoodOpens.{names-small}
 use Rattle.queries.specs.Marks.{Small}
 use Rattle.queries.specs.Runs.{AllKnown, set-opens, set_known}
 use Rattle.queries.specs.Scans.{opensIn}
-use Rattle.replacing.specs.Flat.{goodLine}
-use Rattle.replacing.specs.Given.{row, given-set}
-use Rattle.replacing.specs.LineRules.{con}
+use Rattle.replacing.specs.Given.{given-cons}
 use Rattle.entries.specs.Answers.{Bound, placed-yes, placed-no}
 use Rattle.entries.specs.Placing.{placed}
 use Rattle.entries.specs.Tables.{Made}
@@ -62,18 +60,8 @@ module _ (pool table set types : List ℕ) (cs : List (Con ℕ)) (es : List Entr
     small bs g =
         rw opened (names-small pool table 0 (collect opensCon cs ++ collect opensBinding bs) (every_append _ (collect opensCon cs) (collect opensBinding bs) (set_known pool table 0 set cs 0 (length set / 4) (set_is pool table set w cs n.given)) (bindings-known bs g)) (good-laid n.good).few)
 
-    cons-good : (ds : List (Con ℕ)) → all (goodCon (numbers pool table) (holding pool table) 0) ds ≡ true → all (goodLine pool table) (map con ds) ≡ true
-    unfolding all
-    cons-good [] g = refl
-    cons-good (c ∷ ds) g =
-        let r = (and-eq-true_iff (goodLine pool table (con c)) (all (goodCon (numbers pool table) (holding pool table) 0) ds)).0 g in
-        (and-eq-true_iff (goodLine pool table (con c)) (all (goodLine pool table) (map con ds))).1 (r.0, cons-good ds r.1)
-
     pub set_there : SetThere pool table set cs
-    set_there =
-        let h = given-set pool table set w cs n.given in
-        let r = row set HoldsCon sizeCon (goodCon (numbers pool table) (holding pool table) 0) (records.GoodCon pool table 0 set) (λ at a e g. (g.held, g.past, g.good)) (length set / 4) 0 cs (set_is pool table set w cs n.given) in
-        record { held = h.held; good = cons-good cs r.right; ends = h.ends }
+    set_there = let h = given-cons pool table set w cs n.given in record { held = h.0; good = h.1 }
 
     module _ (bounds : List ℕ) (bs : List (Binding ℕ)) (given : entriesGiven (table_of pool table) es types ≡ got bs) where
       pub no-bounds : risingBounds (table_of pool table) bounds ≡ refused 1 → refused 1 ≡ judgedRest pool table es types bounds cs

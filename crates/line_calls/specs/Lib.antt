@@ -1,6 +1,7 @@
 pub mod Nested
-pub mod Standing
-pub mod Typed
 pub mod Settled
-pub mod Whole
+pub mod Slices
+pub mod Standing
 pub mod Theorems
+pub mod Typed
+pub mod Whole

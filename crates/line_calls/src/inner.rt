@@ -25,7 +25,7 @@ use records::{Open, View};
 use replacing::inner::bound::look_up;
 use rules::{NAMES, RECORD_WORDS, Refusal};
 use solving::Finish;
-use solving::inner::run_alone;
+use solving::inner::run;
 
 // Writes the type of a variable, with the bindings put in, to the front of a buffer: how many records.
 fn put_type(places: &[u32], found: &[u32], v: u32, dst: &mut [u32]) -> usize
@@ -80,9 +80,8 @@ fn settle(names: NameTable, set: &[u32], v: u32, work: &mut [u32]) -> Result<usi
     if !is_unmixed(set, 0, n) {
         return Err(Refusal::Mixed);
     }
-    copy(set, 0, n, work, 0);
     let mut words = [0u32; RECORD_WORDS];
-    let s = run_alone(names, n, &mut words, work);
+    let s = run(names, set, &mut words, work);
     match s.outcome {
         Ok(Finish::Solved(bindings, bounds)) => {
             let found = Found {

@@ -1,12 +1,3 @@
-pub mod States
-pub mod Slices
-pub mod Lines
 pub mod Parts
-pub mod Limits
-pub mod Joining
-pub mod Sizes
-pub mod Rebinding
-pub mod Performing
-pub mod Searching
-pub mod Fronts
 pub mod Standing
+pub mod States

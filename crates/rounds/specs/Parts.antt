@@ -1,25 +1,25 @@
 -- What the steps of a round ask and what they leave.
-use Rattle.std.specs.Prelude.{◌≡◌, Bool, true, false, ◌&&◌, List, [], ◌∷◌, ◌++◌, map, ℕ, ◌+◌, ◌*◌, ◌-◌, ◌≤◌, leb, Ok}
+use Rattle.std.specs.Prelude.{◌≡◌, Bool, true, false, List, [], ◌∷◌, ◌++◌, ℕ, ◌+◌, ◌≤◌, length, min, Ok, Err, Some}
 use Rattle.std.proofs.Math.Option.{Option, none, some}
-use Rattle.std.proofs.lemmas.List.Edits.{sets}
-use Rattle.std.proofs.Math.Seq.{slice}
-use Rattle.rules.specs.Base.{Got, got, refused, ◌>>=◌, bounded, sum_of, max_of}
-use Rattle.rules.specs.Rounds.{Step, bind, split, done, stuck, State, trySatisfy, limited, perform}
-use Rattle.rules.specs.Trees.{Ty, opened, basic, dim, fn, struct, list, Con, Binding, ◌≔◌, sizeCon, depthCon}
-use Rattle.records.specs.Good.{numbers}
-use Rattle.replacing.specs.Flat.{depthLine, PlainLines, stateLines}
-use Rattle.replacing.specs.LineRules.{Line, con, binding, sizeLine}
-use Rattle.satisfying.specs.Stepped.{HeldCon, Stepped}
+use Rattle.std.specs.Prelude as std
+use Rattle.rules.specs.Base.{Got, got, refused, ◌>>=◌, bounded, all}
+use Rattle.rules.specs.Rounds.{Step, bind, split, done, stuck, State, trySatisfy, limited, perform, sizeState, depthState}
+use Rattle.rules.specs.Trees.{Ty, opened, basic, dim, fn, struct, list, Con, Binding, ◌≔◌, depth, depthCon, sizeCon}
+use Rattle.rules.specs.declared.Refusal.TheVariants.{TooLarge}
+use Rattle.records.specs.Good.{numbers, goodBinding, goodCon}
+use Rattle.replacing.specs.declared.substitution.Substitution.{Substitution}
+use Rattle.rules.specs.Replacing.{bindings}
+use Rattle.satisfying.specs.Stepped.{Stepped}
 use Rattle.satisfying.specs.declared.Step as code
-use Rattle.rounds.specs.States.{Flat}
-
--- the records before `at`, those from e up to n, and from q on those from n up to m
-abbrev pub joined : List ℕ → List ℕ → ℕ → ℕ → ℕ → ℕ → ℕ → List ℕ
-joined w d at e n m q = sets (sets (sets d 0 (slice 0 (at * 4) w)) (at * 4) (slice (e * 4) (n * 4) w)) (q * 4) (slice (n * 4) (m * 4) w)
-
--- the limits of a state
-abbrev pub fitting : List Line → Bool
-fitting xs = leb (sum_of sizeLine xs) 2048 && leb (max_of depthLine xs) 64
+use Rattle.types.specs.declared.Bindings.{Bindings}
+use Rattle.types.specs.declared.writer.Writer.{Writer}
+use Rattle.types.specs.Binds.{IsBinds}
+use Rattle.types.specs.Sets.{IsCons}
+use Rattle.types.specs.Written.{last}
+use Rattle.rounds.specs.declared.Ends.{Ends}
+use Rattle.rounds.specs.declared.Others.{Others}
+pub use Rattle.rounds.specs.States.{SoundSet, SoundBinds}
+use Rattle.rounds.specs.States.{Turn, Turned}
 
 -- a type with no place for types inside
 unfoldable pub leaf : Ty ℕ → Bool
@@ -30,81 +30,76 @@ leaf (fn ps r) = false
 leaf (struct n as' fs) = false
 leaf (list t) = false
 
--- lines that are known to be flat, where it says so
-abbrev pub Known : Bool → List Line → Type 0
-Known b xs = b ≡ true → Flat xs
+-- a state that is known to be flat, where it says so
+abbrev pub Known : Bool → State ℕ → Type 0
+Known b st = b ≡ true → depthState st ≤ 64
 
 abbrev pub keeps : State ℕ → Got (Option (State ℕ))
 keeps st = limited bounded st >>= λ s. got (some s)
 
--- a set without one of its constraints, and the bindings
-pub record Parts : Type 0 where
-  pub before : List (Con ℕ)
-  pub behind : List (Con ℕ)
-  pub binds : List (Binding ℕ)
+-- what names become by a substitution is what one binding says
+abbrev pub Puts : Substitution → ℕ → Ty ℕ → Type 0
+Puts by x t = by.lent.0 ≡ bindings (numbers by.names.pool.now by.names.table.now) (x ≔ t ∷ [])
 
-abbrev pub others : Parts → List (Con ℕ)
-others p = p.before ++ p.behind
+-- the state is kept, and that is told; or it is too large
+abbrev pub Limited : Ends → State ℕ → Turn → Got (Option (State ℕ)) → Type 0
+Limited ends st (Ok o) R = (R ≡ got (some st)) × (o ≡ Some ends)
+Limited ends st (Err r) R = (R ≡ refused 8) × (r ≡ TooLarge)
 
-abbrev pub appends : Parts → List (Con ℕ) → Got (Option (State ℕ))
-appends p new = keeps (record { cons = others p ++ new; binds = p.binds })
+-- the constraints beside the one that is taken, and the state with new ones behind them
+abbrev pub others : Others → List (Con ℕ)
+others o = o.before.trees.0 ++ o.behind.trees.0
+
+abbrev pub appends : Others → List (Con ℕ) → Got (Option (State ℕ))
+appends o new = keeps (record { cons = others o ++ new; binds = o.bindings.trees.0 })
 
 module _ (pool table : List ℕ) where
-  -- m records of these lines at the start, where they are not too many
-  pub record Stands (s : List ℕ) (m : ℕ) (xs : List Line) : Type 0 where
-    pub many : m ≡ sum_of sizeLine xs
-    pub held : m ≤ 2048 → PlainLines pool table s xs 0 m
+  pub record SoundOthers (o : Others) : Type 0 where
+    pub before : SoundSet pool table o.before.trees.0
+    pub behind : SoundSet pool table o.behind.trees.0
+    pub bindings : SoundBinds pool table o.bindings.trees.0
 
-  -- a state at the start, its constraints up to n
-  pub record Made (s : List ℕ) (n m : ℕ) (st : State ℕ) : Type 0 where
-    pub first : n ≡ sum_of sizeLine (map con st.cons)
-    pub lines : Stands s m (stateLines st)
+  -- one binding, which is new
+  pub record BoundTo (b : Bindings) (x : ℕ) (t : Ty ℕ) : Type 0 where
+    pub is : b.trees.0 ≡ x ≔ t ∷ []
+    pub good : goodBinding pool table 0 (x ≔ t) ≡ true
+    pub deep : depth t ≤ 64
+    pub short : b.end ≤ b.at + 2048
 
-  -- what stands around the constraint from `at` up to e
-  pub record Around (w : List ℕ) (at e n m : ℕ) (p : Parts) : Type 0 where
-    pub before : PlainLines pool table w (map con p.before) 0 at
-    pub behind : PlainLines pool table w (map con p.behind) e n
-    pub binds : PlainLines pool table w (map binding p.binds) n m
-    pub gap : at ≤ e
-    pub short : m ≤ 2048
-    pub flat_before : Flat (map con p.before)
-    pub flat_behind : Flat (map con p.behind)
-    pub flat_binds : Flat (map binding p.binds)
+  -- a state that was written, where it is not too large
+  pub record Made (w : List ℕ) (ends : Ends) (st : State ℕ) : Type 0 where
+    pub many : min ends.bindings last ≡ min (sizeState st) last
+    pub near : ends.bindings ≤ 2048 → length w ≤ 4_000_000_000
+    pub cons : ends.bindings ≤ 2048 → IsCons w 0 ends.constraints st.cons
+    pub binds : ends.bindings ≤ 2048 → IsBinds w ends.constraints ends.bindings st.binds
+    pub good_cons : all (goodCon pool table 0) st.cons ≡ true
+    pub good_binds : all (goodBinding pool table 0) st.binds ≡ true
 
-  -- new lines from b up to q, where there is room
-  pub record New (d : List ℕ) (xs : List Line) (b q : ℕ) : Type 0 where
-    pub many : q ≡ b + sum_of sizeLine xs
-    pub held : q ≤ 2048 → PlainLines pool table d xs b q
-    pub flat : Flat xs
+  -- the next state was written
+  pub record Next (old new : Writer) (r : Turn) (R : Got (Option (State ℕ))) : Type 0 where
+    pub same : new.words.ghost_name ≡ old.words.ghost_name
+    pub turned : Turned pool table new.words.now r R
 
-  -- the constraints up to b, a new binding up to q, the older ones up to m
-  pub record Bound (d : List ℕ) (b q m : ℕ) (cs : List (Con ℕ)) (x : ℕ) (t : Ty ℕ) (bs : List (Binding ℕ)) : Type 0 where
-    pub cons : PlainLines pool table d (map con cs) 0 b
-    pub new : PlainLines pool table d (binding (x ≔ t) ∷ []) b q
-    pub binds : PlainLines pool table d (map binding bs) q m
-    pub short : m ≤ 2048
-    pub flat_cons : Flat (map con cs)
-    pub flat_binds : Flat (map binding bs)
-
+  -- what the round gives where a new binding is put in
   abbrev pub rebinds : List (Con ℕ) → ℕ → Ty ℕ → List (Binding ℕ) → Got (Option (State ℕ))
   rebinds cs x t bs = perform (numbers pool table) bounded bs (bind x t) cs >>= λ s. got (some s)
 
-  -- a step of the constraint from `at` up to e
-  pub record Taken (w d : List ℕ) (at e n m : ℕ) (r : code.Step) (p : Parts) (c : Con ℕ) : Type 0 where
-    pub around : Around w at e n m p
-    pub here : HeldCon pool table w c at
-    pub ends : e ≡ at + sizeCon c
+  -- a step of a constraint that is taken
+  pub record Taken (d : List ℕ) (o : Others) (r : code.Step) (c : Con ℕ) : Type 0 where
+    pub sound : SoundOthers o
+    pub good : goodCon pool table 0 c ≡ true
     pub deep : depthCon c ≤ 64
+    pub short : sizeCon c ≤ 2048
     pub was : List ℕ
-    pub stepped : Stepped was d (n - (e - at)) (Ok r) (trySatisfy (numbers pool table) bounded c)
+    pub stepped : Stepped was d 0 (Ok r) (trySatisfy (numbers pool table) bounded c)
 
   -- what the round gives after it
-  abbrev pub after : Parts → Got (Step ℕ) → Got (Option (State ℕ))
-  after p (got (bind x t)) = rebinds (others p) x t p.binds
-  after p (got (split new)) = appends p new
-  after p (got done) = appends p []
-  after p (got stuck) = got none
-  after p (refused k) = refused k
+  abbrev pub after : Others → Got (Step ℕ) → Got (Option (State ℕ))
+  after o (got (bind x t)) = rebinds (others o) x t o.bindings.trees.0
+  after o (got (split new)) = appends o new
+  after o (got done) = appends o []
+  after o (got stuck) = got none
+  after o (refused k) = refused k
 
-  abbrev pub performs : Parts → Con ℕ → Got (Option (State ℕ))
-  performs p c = after p (trySatisfy (numbers pool table) bounded c)
+  abbrev pub performs : Others → Con ℕ → Got (Option (State ℕ))
+  performs o c = after o (trySatisfy (numbers pool table) bounded c)

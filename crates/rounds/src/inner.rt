@@ -1,70 +1,21 @@
-//! One round on constraints and bindings that stand one after another in a buffer.
-//! It answers where the state after it ends; nothing where no rule applies; or why it stops.
-ghost use Rattle.std.specs.Prelude.{◌≡◌, List, ℕ, ◌+◌, ◌-◌, ◌≤◌, length};
+//! One round: the first constraint to which a rule applies is taken, and the state after it is written to another buffer, in the order of the rules.
+ghost use Rattle.std.specs.Prelude.{◌≡◌, List, [], ◌∷◌, ℕ, ◌≤◌, length};
 ghost use Rattle.rules.specs.Rounds.{State};
-ghost use Rattle.rules.specs.Trees.{Ty, Con, Binding};
-ghost use Rattle.replacing.specs.Flat.{stateLines};
-ghost use Rattle.replacing.specs.LineRules.{Line};
-ghost use Rattle.places.specs.Filling.{Fills};
-ghost use Rattle.rounds.specs.Parts.{joined, fitting, leaf, Known, keeps, Parts, appends, others};
-ghost use Rattle.rounds.specs.Standing.{
-  Standing,
-  Turns,
-  rounded,
-  Stand,
-  MadeUpTo,
-  AroundTaken,
-  NewBehind,
-  BindingBehind,
-  Rebinding,
-  rebound,
-  TakenBy,
-  performed,
-};
+ghost use Rattle.rules.specs.Trees.{Ty, Con, ◌≔◌};
+ghost use Rattle.rounds.specs.Parts.{appends, BoundTo, Known, keeps, leaf, Limited, Made, Next, Puts, SoundOthers, SoundSet};
+ghost use Rattle.rounds.specs.Standing.{performed, rebound, rounded, SoundState, Standing, stateOf, TakenBy, Turns};
 
-use super::Ends;
+use super::{Ends, Others};
 use names::tables::NameTable;
 use places::inner::fill;
-use records::inner::copy;
-use replacing::inner::flat::lines_flat;
-use replacing::inner::lines::replace_lines;
-use rules::{NAMES, RECORD_WORDS, RECORDS, Refusal};
+use replacing::inner::constraints::{replace_bindings, replace_constraints};
+use replacing::inner::flat::{bindings_flat, constraints_flat};
+use replacing::substitution::Substitution;
+use rules::{NAMES, RECORDS, Refusal};
 use satisfying::Step;
 use satisfying::inner::try_satisfy;
-use types::{Constraints, Shape, Type};
-
-/// The records from a place up to another.
-#[derive(Clone, Copy)]
-pub struct Span {
-    pub at: usize,
-    pub end: usize,
-}
-
-impl Ends {
-    /// Where the constraints end without the one that is taken.
-    fn without(self, taken: Span) -> usize
-        requires gap { taken.at ≤ taken.end }
-        requires within { taken.end ≤ self.constraints }
-        ensures { result ≡ self.constraints - (taken.end - taken.at) }
-    {
-        self.constraints - (taken.end - taken.at)
-    }
-}
-
-/// Copies the constraints beside the one that is taken, and the bindings to the place `end`.
-fn join(work: &[u32], ends: Ends, taken: Span, next: &mut [u32], end: usize)
-    requires gap { taken.at ≤ taken.end }
-    requires within { taken.end ≤ ends.constraints }
-    requires ordered { ends.constraints ≤ ends.bindings }
-    requires short { ends.bindings ≤ 2048 }
-    requires end_short { end ≤ 2048 }
-    requires room { 8192 ≤ length work.now }
-    ensures { next.new ≡ joined work.now next.old taken.at taken.end ends.constraints ends.bindings end }
-{
-    copy(work, 0, taken.at, next, 0);
-    copy(work, taken.end, ends.constraints, next, taken.at);
-    copy(work, ends.constraints, ends.bindings, next, end);
-}
+use types::writer::Writer;
+use types::{Bindings, Constraints, Shape, Type};
 
 /// Is a type a name, a basic type or a dimension? Such a type is nested 1 deep.
 #[tactic(auto, unfolding(crate::specs::Parts::leaf))]
@@ -81,220 +32,238 @@ fn is_leaf(t: Type) -> bool
     }
 }
 
-/// Are the m records at the start few enough, and nested at most 64 deep? They are not walked where that is known of the nesting.
-fn fits(names: NameTable, s: &[u32], m: usize, flat: bool) -> bool
-    requires stand { (xs : List Line) × Stand names s.now m xs × Known flat xs }
-    ensures { (xs : List Line) → Stand names.entry s.now m xs → Known flat xs → result ≡ fitting xs }
+/// Is the first of some bindings one to such a type?
+fn binds_leaf(bindings: Bindings) -> bool
+    ensures { (x : ℕ) (t : Ty ℕ) → bindings.entry.trees.0 ≡ x ≔ t ∷ [] → result ≡ leaf t }
 {
-    if RECORDS < m {
-        return false;
+    match bindings.split_first() {
+        Some((first, _)) => is_leaf(first.to),
+        None => true,
+    }
+}
+
+/// The state that was made, if it keeps the limits. It is not walked where it is known to be flat.
+fn limited(names: NameTable, out: &Writer, ends: Ends, flat: bool) -> Result<Option<Ends>, Refusal>
+    requires made { (st : State ℕ) × Made names.pool.now names.table.now out.now.words.now ends st × Known flat st }
+    ensures { (st : State ℕ) → Made names.entry.pool.now names.entry.table.now out.now.words.now ends st → Known flat st → Limited ends st result (keeps st) }
+{
+    if RECORDS < ends.bindings {
+        return Err(Refusal::TooLarge);
     }
     if flat {
-        return true;
+        return Ok(Some(ends));
     }
-    lines_flat(names.pool, names.table, s, 0, m)
+    let constraints = Constraints {
+        words: out.words,
+        at: 0,
+        end: ends.constraints,
+    };
+    if !constraints_flat(names, constraints) {
+        return Err(Refusal::TooLarge);
+    }
+    let bindings = Bindings {
+        words: out.words,
+        at: ends.constraints,
+        end: ends.bindings,
+    };
+    if !bindings_flat(names, bindings) {
+        return Err(Refusal::TooLarge);
+    }
+    Ok(Some(ends))
 }
 
-/// The state that was made, if it keeps the limits.
-fn limit(names: NameTable, s: &[u32], ends: Ends, flat: bool) -> Result<Option<Ends>, Refusal>
-    requires made { (st : State ℕ) × MadeUpTo names s.now ends st × Known flat (stateLines st) }
-    ensures { (st : State ℕ) → MadeUpTo names.entry s.now ends st → Known flat (stateLines st) → Turns names.entry s.now s.now result (keeps st) }
+/// Writes the other constraints, the new ones behind them, and the bindings. No rule makes a constraint deeper (`only_binding_deepens`), so the records are
+/// counted and no more.
+fn append(rest: Others, new: Constraints, out: &mut Writer) -> Result<Option<Ends>, Refusal>
+    requires front { out.old.at ≡ 0 }
+    requires room { 8192 ≤ length out.old.words.now }
+    ensures { (pool table : List ℕ) → SoundOthers pool table rest.entry → SoundSet pool table new.entry.trees.0
+        → Next pool table out.old out.new result (appends rest.entry new.entry.trees.0) }
 {
-    if fits(names, s, ends.bindings, flat) {
-        Ok(Some(ends))
-    } else {
-        Err(Refusal::TooLarge)
-    }
-}
-
-/// New constraints stand in `next` up to `end`: the others go before them, the bindings behind. No rule makes a constraint deeper (`only_binding_deepens`), so
-/// the records are counted and no more.
-fn append(
-    names: NameTable,
-    work: &mut [u32],
-    next: &mut [u32],
-    ends: Ends,
-    taken: Span,
-    end: usize,
-) -> Result<Option<Ends>, Refusal>
-    requires around { (p : Parts) × AroundTaken names work.old ends taken p }
-    requires new { (cs : List (Con ℕ)) × NewBehind names next.old ends taken end cs }
-    requires room { 8192 ≤ length work.old }
-    requires next_room { 8192 ≤ length next.old }
-    ensures { (p : Parts) (cs : List (Con ℕ)) → AroundTaken names.entry work.old ends taken p
-        → NewBehind names.entry next.old ends taken end cs → Turns names.entry work.old work.new result (appends p cs) }
-{
-    let bindings = ends.bindings - ends.constraints;
-    if RECORDS - bindings < end {
+    out.copy_constraints(rest.before);
+    out.copy_constraints(rest.behind);
+    out.copy_constraints(new);
+    let constraints = out.at;
+    out.copy_bindings(rest.bindings);
+    if RECORDS < out.at {
         return Err(Refusal::TooLarge); // too many records
     }
-    join(work, ends, taken, next, end);
-    let made = Ends {
-        constraints: end,
-        bindings: end + bindings,
-    };
-    copy(next, 0, made.bindings, work, 0);
-    Ok(Some(made))
+    Ok(Some(Ends {
+        constraints,
+        bindings: out.at,
+    }))
 }
 
-/// In `next` the constraints stand up to a new binding, and the older bindings behind it up to `end`. Writes the constraints and the older bindings with the new
-/// binding put in to the work buffer, and the new binding behind them.
-fn rebind_by(
-    names: NameTable,
-    next: &[u32],
-    places: &[u32],
-    new: Span,
-    end: usize,
-    work: &mut [u32],
+/// Writes the other constraints and the bindings with what is bound put in, and the new binding behind them.
+fn rebind(
+    by: Substitution,
+    rest: Others,
+    new: Bindings,
+    out: &mut Writer,
 ) -> Result<Option<Ends>, Refusal>
-    requires bound { (cs : List (Con ℕ)) × (x : ℕ) × (t : Ty ℕ) × (bs : List (Binding ℕ)) × Rebinding names next.now new end cs x t bs }
-    requires next_room { 8192 ≤ length next.now }
-    requires near { length next.now ≤ 1_000_000 }
-    requires room { 8192 ≤ length work.old }
-    requires fills { Fills next.now new.at new.end places.now }
-    ensures { (cs : List (Con ℕ)) (x : ℕ) (t : Ty ℕ) (bs : List (Binding ℕ)) → Rebinding names.entry next.now new end cs x t bs
-        → Turns names.entry work.old work.new result (rebound names.entry cs x t bs) }
+    requires sound { SoundOthers by.names.pool.now by.names.table.now rest }
+    requires bound { (x : ℕ) × (t : Ty ℕ) × BoundTo by.names.pool.now by.names.table.now new x t × Puts by x t }
+    requires front { out.old.at ≡ 0 }
+    requires room { 8192 ≤ length out.old.words.now }
+    requires near { length out.old.words.now ≤ 4_000_000_000 }
+    ensures { (x : ℕ) (t : Ty ℕ) → BoundTo by.entry.names.pool.now by.entry.names.table.now new.entry x t → Puts by.entry x t
+        → Next by.entry.names.pool.now by.entry.names.table.now out.old out.new result (rebound by.entry.names rest.entry x t) }
 {
-    let pool = names.pool;
-    let table = names.table;
-    let (_, n) = replace_lines(pool, table, next, 0, new.at, places, next, work, 0)?;
-    let (_, o) = replace_lines(pool, table, next, new.end, end, places, next, work, n)?;
-    copy(next, new.at, new.end, work, o);
+    replace_constraints(by, rest.before, out)?;
+    replace_constraints(by, rest.behind, out)?;
+    let constraints = out.at;
+    replace_bindings(by, rest.bindings, out)?;
+    out.copy_bindings(new);
     let ends = Ends {
-        constraints: n,
-        bindings: o + (new.end - new.at),
+        constraints,
+        bindings: out.at,
     };
-    let at = new.at + 1;
-    let flat = is_leaf(Type { words: next, at }); // then nothing became deeper (`only_binding_deepens`)
-    limit(names, work, ends, flat)
+    let flat = binds_leaf(new); // then nothing became deeper (`only_binding_deepens`)
+    limited(by.names, out, ends, flat)
 }
 
 /// The same with a table of the new binding alone.
-fn rebind(
-    names: NameTable,
-    next: &[u32],
-    new: Span,
-    end: usize,
-    work: &mut [u32],
-) -> Result<Option<Ends>, Refusal>
-    requires bound { (cs : List (Con ℕ)) × (x : ℕ) × (t : Ty ℕ) × (bs : List (Binding ℕ)) × Rebinding names next.now new end cs x t bs }
-    requires next_room { 8192 ≤ length next.now }
-    requires near { length next.now ≤ 1_000_000 }
-    requires room { 8192 ≤ length work.old }
-    ensures { (cs : List (Con ℕ)) (x : ℕ) (t : Ty ℕ) (bs : List (Binding ℕ)) → Rebinding names.entry next.now new end cs x t bs
-        → Turns names.entry work.old work.new result (rebound names.entry cs x t bs) }
-{
-    let mut places = [0u32; NAMES];
-    fill(next, new.at, new.end, &mut places);
-    rebind_by(names, next, &places, new, end, work)
-}
-
-/// The new binding stands in `next` up to `end`: the constraints go before it, the older bindings behind, and it is put into both.
 fn bind(
     names: NameTable,
-    work: &mut [u32],
-    next: &mut [u32],
-    ends: Ends,
-    taken: Span,
-    end: usize,
+    rest: Others,
+    new: Bindings,
+    out: &mut Writer,
 ) -> Result<Option<Ends>, Refusal>
-    requires around { (p : Parts) × AroundTaken names work.old ends taken p }
-    requires new { (x : ℕ) × (t : Ty ℕ) × BindingBehind names next.old ends taken end x t }
-    requires small { end ≤ ends.constraints }
-    requires room { 8192 ≤ length work.old }
-    requires next_room { 8192 ≤ length next.old }
-    requires near { length next.old ≤ 1_000_000 }
-    ensures { (p : Parts) (x : ℕ) (t : Ty ℕ) → AroundTaken names.entry work.old ends taken p
-        → BindingBehind names.entry next.old ends taken end x t
-        → Turns names.entry work.old work.new result (rebound names.entry (others p) x t p.binds) }
+    requires sound { SoundOthers names.pool.now names.table.now rest }
+    requires bound { (x : ℕ) × (t : Ty ℕ) × BoundTo names.pool.now names.table.now new x t }
+    requires front { out.old.at ≡ 0 }
+    requires room { 8192 ≤ length out.old.words.now }
+    requires near { length out.old.words.now ≤ 4_000_000_000 }
+    ensures { (x : ℕ) (t : Ty ℕ) → BoundTo names.entry.pool.now names.entry.table.now new.entry x t
+        → Next names.entry.pool.now names.entry.table.now out.old out.new result (rebound names.entry rest.entry x t) }
 {
-    join(work, ends, taken, next, end);
-    let new = Span {
-        at: ends.without(taken),
-        end,
-    };
-    rebind(
+    let mut places = [0u32; NAMES];
+    fill(new.words, new.at, new.end, &mut places);
+    let by = Substitution {
         names,
-        next,
-        new,
-        end + (ends.bindings - ends.constraints),
-        work,
-    )
+        places: &places,
+        types: new.words,
+    };
+    rebind(by, rest, new, out)
 }
 
-/// Does what the step of the constraint that is taken says.
+/// Does what the step of the constraint that is taken says; what is new stands at the front of `new`.
 fn perform(
     names: NameTable,
-    work: &mut [u32],
-    next: &mut [u32],
-    ends: Ends,
-    taken: Span,
+    rest: Others,
     step: Step,
+    new: &[u32],
+    out: &mut Writer,
 ) -> Result<Option<Ends>, Refusal>
-    requires taken { (p : Parts) × (c : Con ℕ) × TakenBy names work.old next.old ends taken step p c }
-    requires room { 8192 ≤ length work.old }
-    requires next_room { 8192 ≤ length next.old }
-    requires near { length next.old ≤ 1_000_000 }
-    ensures { (p : Parts) (c : Con ℕ) → TakenBy names.entry work.old next.old ends taken step p c
-        → Turns names.entry work.old work.new result (performed names.entry p c) }
+    requires taken { (c : Con ℕ) × TakenBy names new.now rest step c }
+    requires new_room { 8192 ≤ length new.now }
+    requires new_near { length new.now ≤ 4_000_000_000 }
+    requires front { out.old.at ≡ 0 }
+    requires room { 8192 ≤ length out.old.words.now }
+    requires near { length out.old.words.now ≤ 4_000_000_000 }
+    ensures { (c : Con ℕ) → TakenBy names.entry new.now rest.entry step c
+        → Next names.entry.pool.now names.entry.table.now out.old out.new result (performed names.entry rest.entry c) }
 {
     match step {
-        Step::Bind(end) => bind(names, work, next, ends, taken, end),
-        Step::Split(end) => append(names, work, next, ends, taken, end),
-        Step::Done => append(names, work, next, ends, taken, ends.without(taken)),
+        Step::Bind(end) => {
+            let bindings = Bindings {
+                words: new,
+                at: 0,
+                end,
+            };
+            bind(names, rest, bindings, out)
+        }
+        Step::Split(end) => {
+            if RECORDS < end {
+                return Err(Refusal::TooLarge);
+            }
+            let constraints = Constraints {
+                words: new,
+                at: 0,
+                end,
+            };
+            append(rest, constraints, out)
+        }
+        Step::Done => {
+            let constraints = Constraints {
+                words: new,
+                at: 0,
+                end: 0,
+            };
+            append(rest, constraints, out)
+        }
         Step::Stuck => Ok(None),
     }
 }
 
-/// One round in buffers that are not too long: the first constraint to which a rule applies is taken.
-fn take_turn(
+/// The first constraint to which a rule applies is taken, and the next state written.
+fn turn<'x>(
     names: NameTable,
-    work: &mut [u32],
-    next: &mut [u32],
-    ends: Ends,
+    constraints: Constraints<'x>,
+    bindings: Bindings<'x>,
+    new: &mut [u32],
+    out: &mut Writer,
 ) -> Result<Option<Ends>, Refusal>
-    requires standing { (st : State ℕ) × Standing names work.old ends st }
-    requires room { 8192 ≤ length work.old }
-    requires near { length work.old ≤ 100_000 }
-    requires next_room { 8192 ≤ length next.old }
-    requires next_near { length next.old ≤ 100_000 }
-    ensures { (st : State ℕ) → Standing names.entry work.old ends st → Turns names.entry work.old work.new result (rounded names.entry st) }
+    requires sound { SoundState names constraints bindings }
+    requires new_room { 8192 ≤ length new.old }
+    requires new_near { length new.old ≤ 4_000_000_000 }
+    requires front { out.old.at ≡ 0 }
+    requires room { 8192 ≤ length out.old.words.now }
+    requires near { length out.old.words.now ≤ 4_000_000_000 }
+    ensures { Next names.entry.pool.now names.entry.table.now out.old out.new result (rounded names.entry (stateOf constraints.entry bindings.entry)) }
 {
-    let constraints = Constraints {
-        words: work,
-        at: 0,
-        end: ends.constraints,
-    };
     'search: for c in constraints {
-        let taken = Span {
-            at: c.at,
-            end: c.end(),
-        };
-        let step = try_satisfy(names, c, next, ends.without(taken))?;
+        let step = try_satisfy(names, c, new, 0)?;
         let Step::Stuck = step else {
-            return perform(names, work, next, ends, taken, step);
+            let before = Constraints {
+                words: constraints.words,
+                at: constraints.at,
+                end: c.at,
+            };
+            let at = c.end();
+            let behind = Constraints {
+                words: constraints.words,
+                at,
+                end: constraints.end,
+            };
+            let rest = Others {
+                before,
+                behind,
+                bindings,
+            };
+            return perform(names, rest, step, new, out);
         };
     }
     Ok(None)
 }
 
-/// One round: the state stands in the first 8,192 words of `work`, and `next` is used to make the next one.
-/// A refusal says nothing of `work`; where no rule applies it is as it was.
+/// One round on the state that ends at `ends` in the list `state`: the state after it stands at the front of `next`, and it answers where that ends; nothing
+/// where no rule applies. A refusal says nothing of `next`. `new` is room for what one step makes.
 pub fn round(
     names: NameTable,
-    work: &mut [u32],
-    next: &mut [u32],
+    state: &[u32],
     ends: Ends,
+    new: &mut [u32],
+    next: &mut [u32],
 ) -> Result<Option<Ends>, Refusal>
-    requires standing { (st : State ℕ) × Standing names work.old ends st }
-    requires room { 8192 ≤ length work.old }
-    requires next_room { 8192 ≤ length next.old }
-    ensures { (st : State ℕ) → Standing names.entry work.old ends st → Turns names.entry work.old work.new result (rounded names.entry st) }
+    requires standing { (st : State ℕ) × Standing names state.now ends st }
+    requires state_near { length state.now ≤ 4_000_000_000 }
+    requires new_room { 8192 ≤ length new.old }
+    requires new_near { length new.old ≤ 4_000_000_000 }
+    requires room { 8192 ≤ length next.old }
+    requires near { length next.old ≤ 4_000_000_000 }
+    ensures { (st : State ℕ) → Standing names.entry state.now ends st → Turns names.entry next.new result (rounded names.entry st) }
 {
-    take_turn(
-        names,
-        &mut work[..RECORD_WORDS],
-        &mut next[..RECORD_WORDS],
-        ends,
-    )
+    let constraints = Constraints {
+        words: state,
+        at: 0,
+        end: ends.constraints,
+    };
+    let bindings = Bindings {
+        words: state,
+        at: ends.constraints,
+        end: ends.bindings,
+    };
+    let mut out = Writer { words: next, at: 0 };
+    turn(names, constraints, bindings, new, &mut out)
 }

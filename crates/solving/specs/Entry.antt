@@ -9,7 +9,7 @@ use borrow.Author.Tests.{leb-true, le-leb, lt-leb}
 use Rattle.std.proofs.Math.ListN.{length}
 use Rattle.std.proofs.lemmas.List.Edits.{sets}
 use Rattle.std.proofs.Math.Seq.{slice}
-use Rattle.rules.specs.Base.{Got, got, refused, ◌>>=◌, ◌>>◌, need, bounded, all, collect}
+use Rattle.rules.specs.Base.{Got, got, refused, ◌>>=◌, ◌>>◌, need, bounded, all, collect, max_of}
 use Rattle.rules.specs.Calls.{shortLists, tableKept, setGiven, apart, aloneGiven, setCall, lent, resultAfter, workAfter, solvedOf, solvedWords, solvedSet, solveCall}
 use Rattle.rules.specs.Contents.{unmixed}
 use Rattle.rules.specs.Names.{table_of, tableGood, lentTable}
@@ -22,7 +22,7 @@ use Rattle.rules.specs.declared.Refusal.TheVariants.{ShortBuffer}
 use Rattle.laws.specs.Checks.{need-passed, passed}
 use Rattle.laws.specs.Lists.{clash, and_left, all-every, all-is}
 use Rattle.laws.specs.NameTable.{Good, good-laid}
-use Rattle.laws.specs.Nesting.{most, max_both, max_map}
+use Rattle.laws.specs.Nesting.{most}
 use Rattle.records.specs.Found.{Words32}
 use Rattle.records.specs.Good as records
 use Rattle.records.specs.Good.{numbers, holding}
@@ -31,13 +31,8 @@ use Rattle.records.specs.Whole.{entry-good, set_is}
 use Rattle.queries.specs.Marks.{Small}
 use Rattle.queries.specs.Runs.{set-small, set-opens}
 use Rattle.queries.specs.Scans.{opensIn}
-use Rattle.replacing.specs.Flat.{depthLine, goodLine, PlainLines, stateLines}
-use Rattle.replacing.specs.Given.{row, given-set}
-use Rattle.replacing.specs.LineRules.{con}
-use Rattle.replacing.specs.Runs.{HoldsAll}
-use Rattle.ending.proofs.Sets.{Admitted, start}
-use Rattle.rounds.specs.Lines.{copied}
-use Rattle.rounds.specs.States.{Flat}
+use Rattle.replacing.specs.Given.{row, given-cons}
+use Rattle.ending.proofs.Sets.{Admitted}
 use Rattle.solving.specs.declared.Solution.{Solution}
 use Rattle.solving.specs.Told.{refusedAs, solutionAs, Stands, Answered, answerTo}
 use Rattle.solving.specs.Running.{Begun}
@@ -143,40 +138,19 @@ module _ (pool table ws : List ℕ) where
     -- ══ The set in the work buffer ══
 
     module _ (x : Entered) where
-      cons-good : (cs : List (Con ℕ)) → all (goodCon (numbers pool table) (holding pool table) 0) cs ≡ true → all (goodLine pool table) (map con cs) ≡ true
-      unfolding all
-      cons-good [] g = refl
-      cons-good (c ∷ cs) g =
-          let r = (and-eq-true_iff (goodLine pool table (con c)) (all (goodCon (numbers pool table) (holding pool table) 0) cs)).0 g in
-          (and-eq-true_iff (goodLine pool table (con c)) (all (goodLine pool table) (map con cs))).1 (r.0, cons-good cs r.1)
-
       set-admitted : Admitted (numbers pool table) (holding pool table) x.set
       set-admitted =
-          let r = row ws HoldsCon sizeCon (goodCon (numbers pool table) (holding pool table) 0) (records.GoodCon pool table 0 ws) (λ at a e g. (g.held, g.past, g.good)) (length ws / 4) 0 x.set (set_is pool table ws w x.set x.given) in
-          record { good = r.right; small = omega (arith, r.ends, x.short) }
+          let h = given-cons pool table ws w x.set x.given in
+          record { good = h.1; small = omega (arith, h.0.ends, x.short) }
 
-      set-flat : Flat (stateLines (start x.set))
+      set-flat : max_of depthCon x.set ≤ 64
       set-flat =
           let r = row ws HoldsCon sizeCon (λ c. leb (depthCon c) 64) (records.GoodCon pool table 0 ws) (λ at a e g. (g.held, g.past, le-leb (depthCon a) 64 g.deep)) (length ws / 4) 0 x.set (set_is pool table ws w x.set x.given) in
           let e = all-every (λ c. depthCon c ≤ 64) x.set (λ c m. leb-true (depthCon c) 64 (all-is (λ c. leb (depthCon c) 64) x.set r.right c m)) in
-          omega (arith, most depthCon x.set 64 e, max_map depthLine con x.set, max_both depthLine (map con x.set) [])
+          most depthCon x.set 64 e
 
-      pub begun : (d d' : List ℕ) → 16384 ≤ length d → d' ≡ sets d 0 (slice 0 (length ws / 4 * 4) ws) → Begun pool table d' (length ws / 4) x.set
-      unfolding all HoldsAll
-      begun d d' room e =
-          let h = given-set pool table ws w x.set x.given in
-          let l = x.short in
-          let p : PlainLines pool table ws (map con x.set) 0 (length ws / 4) = record { held = h.held; good = cons-good x.set set-admitted.good; ends = h.ends } in
-          let z : 0 + (length ws / 4 - 0) ≡ length ws / 4 = omega arith in
-          record {
-            held = record {
-              cons = rw z at (copied pool table ws d d' (map con x.set) 0 (length ws / 4) 0 p (omega arith) (omega arith) e);
-              binds = record { held = tt; good = refl; ends = sym (add-zero (length ws / 4)) };
-              short = omega arith;
-              flat = set-flat;
-            };
-            admitted = set-admitted;
-          }
+      pub begun : Begun pool table ws x.set
+      begun = record { held = (given-cons pool table ws w x.set x.given).0; sound = record { good = set-admitted.good; flat = set-flat }; short = x.short; admitted = set-admitted }
 
 -- ══ The call ══
 

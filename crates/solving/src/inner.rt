@@ -21,6 +21,7 @@ use records::inner::{copy, set_good};
 use rounds::Ends;
 use rounds::inner::round;
 use rules::{RECORD_WORDS, Refusal};
+use std::mem::swap;
 
 /// Why there is no answer.
 pub fn stopped(r: Refusal, completed: u32) -> Solution
@@ -44,29 +45,35 @@ pub fn records(s: Solution) -> usize
     }
 }
 
-/// Round after round on the constraints in the records up to n, and what is answered at the end.
-fn run(names: NameTable, n: usize, res: &mut [u32], work: &mut [u32], next: &mut [u32]) -> Solution
-    requires begun { (cs : List (Con ℕ)) × Begun names.pool.now names.table.now work.old n cs }
+/// Round after round on the constraints of a set, and what is answered at the end. A round writes the next state to one half of the work buffer while it reads
+/// the other, and then the halves change places.
+pub fn run(names: NameTable, set: &[u32], res: &mut [u32], work: &mut [u32]) -> Solution
+    requires begun { (cs : List (Con ℕ)) × Begun names.pool.now names.table.now set.now cs }
     requires result_room { 8192 ≤ length res.old }
-    requires room { 8192 ≤ length work.old }
-    requires next_room { 8192 ≤ length next.old }
-    ensures { (cs : List (Con ℕ)) → Begun names.entry.pool.now names.entry.table.now work.old n cs
+    requires room { 16384 ≤ length work.old }
+    ensures { (cs : List (Con ℕ)) → Begun names.entry.pool.now names.entry.table.now set.now cs
         → Answered (got (solve (numbers names.entry.pool.now names.entry.table.now) bounded cs)) res.old res.new result }
 {
+    let mut new = [0u32; RECORD_WORDS];
+    let (mut state, behind) = work.split_at_mut(RECORD_WORDS);
+    let (mut next, _) = behind.split_at_mut(RECORD_WORDS);
+    let n = set.len() / 4;
+    copy(set, 0, n, state, 0);
     let mut ends = Ends {
         constraints: n,
         bindings: n,
     };
     let mut completed = 0;
     'turns: loop {
-        match round(names, work, next, ends) {
+        match round(names, state, ends, &mut new, next) {
             Ok(Some(made)) => {
                 ends = made;
                 completed += 1;
+                swap(&mut state, &mut next);
             }
             Ok(None) => {
                 return Solution {
-                    outcome: Ok(finish(names, work, ends, res)),
+                    outcome: Ok(finish(names, state, ends, res)),
                     rounds: completed,
                 };
             }
@@ -75,18 +82,6 @@ fn run(names: NameTable, n: usize, res: &mut [u32], work: &mut [u32], next: &mut
             }
         }
     }
-}
-
-/// The same with a buffer of its own for the next state.
-pub fn run_alone(names: NameTable, n: usize, res: &mut [u32], work: &mut [u32]) -> Solution
-    requires begun { (cs : List (Con ℕ)) × Begun names.pool.now names.table.now work.old n cs }
-    requires result_room { 8192 ≤ length res.old }
-    requires room { 8192 ≤ length work.old }
-    ensures { (cs : List (Con ℕ)) → Begun names.entry.pool.now names.entry.table.now work.old n cs
-        → Answered (got (solve (numbers names.entry.pool.now names.entry.table.now) bounded cs)) res.old res.new result }
-{
-    let mut next = [0u32; RECORD_WORDS];
-    run(names, n, res, work, &mut next)
 }
 
 /// Is the set well formed (8, 1)? Whether the table is good is handed on, so that one check of it serves many sets.
@@ -143,11 +138,7 @@ pub fn solve_set(
     ensures { Answered (solvedSet (table_of pool.now table.now) words.now) res.old res.new result }
 {
     match enter(pool, table, good, words) {
-        Ok(()) => {
-            let n = words.len() / 4;
-            copy(words, 0, n, work, 0);
-            run_alone(NameTable { pool, table }, n, res, work)
-        }
+        Ok(()) => run(NameTable { pool, table }, words, res, work),
         Err(r) => stopped(r, 0),
     }
 }

@@ -1,48 +1,50 @@
--- `inner::perform` meets its contract.
-use mathlib.Core.Path.{refl, ap}
-use mathlib.Core.List.{[]}
-use native.Mathlib.Omega.{arith}
-use Rattle.rounds.specs.Limits.{turned_as}
-use Rattle.rounds.specs.Parts.{after}
-use Rattle.rounds.specs.Performing.{took-bind, took-split, took-done, none-new, took-stuck}
+use Rattle.std.specs.Prelude.{[], List}
+use Rattle.std.proofs.Common.{refl, ap, sym, subst, ◌∙◌, arith}
+use Rattle.rounds.specs.Parts.{after, appends, SoundSet}
+use Rattle.rounds.proofs.Limits.{sound-none}
+use Rattle.rounds.proofs.Performing.{took-bind, took-split, took-done, none-there, binds-same, set-same}
+use Rattle.rounds.proofs.Written.{append-over, next-as, next-stops}
 use Rattle.rounds.proofs.inner.perform.Goals as goal
 
-pub bind-requires : goal.bind-requires
-bind-requires c =
-    let (p, d, k) = c.requires.taken in
-    let b = took-bind _ _ _ _ _ _ _ _ _ p d k c.requires.next_room c.in-Bind.is in
-    record { around = (p, k.around); new = (b.name, b.type, b.new); small = b.fits; room = c.requires.room; next_room = c.requires.next_room; near = c.requires.near }
+pub invariant_of-bindings : goal.invariant_of-bindings
+invariant_of-bindings c =
+    let (k, t) = c.requires.taken in
+    record { near = c.requires.new_near; trees = (_, (took-bind _ _ _ _ _ k t c.requires.new_room c.in-Bind.is).there) }
 
-pub append-requires : goal.append-requires
-append-requires c =
-    let (p, d, k) = c.requires.taken in
-    let b = took-split _ _ _ _ _ _ _ _ _ p d k c.requires.next_room c.in-Split.is in
-    record { around = (p, k.around); new = (b.cons, b.new); room = c.requires.room; next_room = c.requires.next_room }
-
-pub without-requires : goal.without-requires
-without-requires c =
-    let (p, d, k) = c.requires.taken in
-    record { gap = k.around.gap; within = omega (arith, k.around.gap, k.around.behind.ends) }
-
-pub append-requires-in-Done : goal.append-requires-in-Done
-append-requires-in-Done c =
-    let (p, d, k) = c.requires.taken in
-    record { around = (p, k.around); new = ([], rw c.without.ensures (none-new _ _ _ _ _ _ _ _ _ p d k)); room = c.requires.room; next_room = c.requires.next_room }
+pub bind-requires-clause-bound : goal.bind-requires-clause-bound
+bind-requires-clause-bound c =
+    let (k, t) = c.requires.taken in
+    let b = took-bind _ _ _ _ _ k t c.requires.new_room c.in-Bind.is in
+    (b.name, b.type, record { is = binds-same _ _ _ _ b.there c.bind-arg-in-Bind-1.given.1.0; good = b.good; deep = b.deep; short = omega (arith, b.fits) })
 
 pub returns-in-Bind : goal.returns-in-Bind
-returns-in-Bind c = λ p d k.
-    let b = took-bind _ _ _ _ _ _ _ _ _ p d k c.requires.next_room c.in-Bind.is in
-    turned_as _ _ (ap (after c.args.names.pool.now c.args.names.table.now p) b.is) (c.bind.ensures p b.name b.type k.around b.new)
+returns-in-Bind c = λ k t.
+    let b = took-bind _ _ _ _ _ k t c.requires.new_room c.in-Bind.is in
+    next-as (ap (after c.args.names.pool.now c.args.names.table.now c.args.rest) b.is)
+    (c.bind.ensures b.name b.type (record { is = binds-same _ _ _ _ b.there c.bind-arg-in-Bind-1.given.1.0; good = b.good; deep = b.deep; short = omega (arith, b.fits) }))
 
-pub returns-in-Split : goal.returns-in-Split
-returns-in-Split c = λ p d k.
-    let b = took-split _ _ _ _ _ _ _ _ _ p d k c.requires.next_room c.in-Split.is in
-    turned_as _ _ (ap (after c.args.names.pool.now c.args.names.table.now p) b.is) (c.append.ensures p b.cons k.around b.new)
+pub invariant_of-constraints : goal.invariant_of-constraints
+invariant_of-constraints c =
+    let (k, t) = c.requires.taken in
+    record { near = c.requires.new_near; trees = (_, (took-split _ _ _ _ _ k t c.requires.new_room c.in-Split.is).there c.if-end-gt-RECORDS.false) }
+
+pub returns-then-end-gt-RECORDS : goal.returns-then-end-gt-RECORDS
+returns-then-end-gt-RECORDS c = λ k t.
+    let b = took-split _ _ _ _ _ k t c.requires.new_room c.in-Split.is in
+    next-stops refl (ap (after c.args.names.pool.now c.args.names.table.now c.args.rest) b.is ∙ append-over c.args.rest b.cons (omega (arith, b.many, c.if-end-gt-RECORDS.true)))
+
+pub returns-else-end-gt-RECORDS : goal.returns-else-end-gt-RECORDS
+returns-else-end-gt-RECORDS c = λ k t.
+    let b = took-split _ _ _ _ _ k t c.requires.new_room c.in-Split.is in
+    let e = set-same _ _ _ _ (b.there c.if-end-gt-RECORDS.false) c.append-arg-in-Split-1.given.1.0 in
+    next-as (ap (after c.args.names.pool.now c.args.names.table.now c.args.rest) b.is ∙ ap (appends c.args.rest) (sym e))
+    (c.append.ensures c.args.names.pool.now c.args.names.table.now t.sound (subst (SoundSet c.args.names.pool.now c.args.names.table.now) (sym e) b.sound))
+
+pub invariant_of-constraints-in-Done : goal.invariant_of-constraints-in-Done
+invariant_of-constraints-in-Done c = record { near = c.requires.new_near; trees = ([], none-there _) }
 
 pub returns-in-Done : goal.returns-in-Done
-returns-in-Done c = λ p d k.
-    turned_as _ _ (ap (after c.args.names.pool.now c.args.names.table.now p) (took-done _ _ _ _ _ _ _ _ _ p d k c.in-Done.is)) (c.append-in-Done.ensures p [] k.around (rw c.without.ensures (none-new _ _ _ _ _ _ _ _ _ p d k)))
-
-pub returns-in-Stuck : goal.returns-in-Stuck
-returns-in-Stuck c = λ p d k.
-    turned_as _ _ (ap (after c.args.names.pool.now c.args.names.table.now p) (took-stuck _ _ _ _ _ _ _ _ _ p d k c.in-Stuck.is)) (record { says = (refl, refl) })
+returns-in-Done c = λ k t.
+    let e = set-same _ _ _ _ (none-there _) c.append-arg-in-Done-2-1.given.1.0 in
+    next-as (ap (after c.args.names.pool.now c.args.names.table.now c.args.rest) (took-done _ _ _ _ _ k t c.in-Done.is) ∙ ap (appends c.args.rest) (sym e))
+    (c.append-in-Done.ensures c.args.names.pool.now c.args.names.table.now t.sound (subst (SoundSet c.args.names.pool.now c.args.names.table.now) (sym e) (sound-none c.args.names.pool.now c.args.names.table.now)))

@@ -1,0 +1,5 @@
+mod Limits
+mod Performing
+mod Rebinding
+mod Searching
+mod Written
