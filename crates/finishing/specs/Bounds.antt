@@ -1,5 +1,5 @@
 -- Where every constraint is a bound: their names, and bindings and bounds in the result buffer.
-use Rattle.std.specs.Prelude.{◌≡◌, Bool, true, false, ℕ, ◌+◌, ◌-◌, ◌*◌, ◌/◌, ◌≤◌, ◌<◌, get_or, take}
+use Rattle.std.specs.Prelude.{◌≡◌, Bool, true, false, ℕ, ◌+◌, ◌-◌, ◌*◌, ◌≤◌, ◌<◌, get_or, take}
 use Rattle.std.proofs.Math.Path.{refl, sym, ap}
 use Rattle.std.proofs.Common.{subst, ◌∙◌, zero-add, add-one}
 use Rattle.std.proofs.Math.Bool.{and-eq-true_iff}
@@ -8,7 +8,7 @@ use Rattle.std.proofs.Math.Option.{Option, none, some}
 use Rattle.std.proofs.Math.Nat.{add-zero}
 use native.Mathlib.Omega.{arith}
 use Rattle.std.proofs.Math.ListN.{length, drop, length-append, length-map}
-use Rattle.std.proofs.Math.Seq.{sets, sets-eq, length-sets, slice, slice_empty, slice-cons, take_at}
+use Rattle.std.proofs.Math.Seq.{sets, sets-eq, slice, slice_empty, slice-cons, take_at}
 use Rattle.rules.specs.Base.{all, keep, collect, to_list, is_none, sum_of}
 use Rattle.rules.specs.Calls.{over, resultAfter, unsolved, solvedOf, solvedWords}
 use Rattle.rules.specs.Contents.{namesIn, sort}
@@ -23,7 +23,7 @@ use Rattle.laws.specs.Size.{set-length, bindings-length}
 use Rattle.records.specs.Buffers.{words-length, stored}
 use Rattle.records.specs.Good.{Chain, goodCon, numbers, holding}
 use Rattle.records.specs.Held.{shown, parted}
-use Rattle.records.specs.Holds.{HoldsCon, HoldsBinding, HoldsBounds}
+use Rattle.records.specs.Holds.{HoldsCon, HoldsBounds}
 use Rattle.records.specs.Stores.{sets-append}
 use Rattle.records.specs.Views.{recOf, from}
 use Rattle.records.specs.declared.Open.TheVariants.{Var}
@@ -37,10 +37,10 @@ use Rattle.replacing.specs.Kept.{cons-weaker, binds-weaker}
 use Rattle.replacing.specs.Writes.{words_append, writes}
 use Rattle.replacing.specs.Written.{written-cons, binds-held, as-run}
 use Rattle.rounds.specs.States.{StateHeld}
-use Rattle.types.specs.Puts.{binds-words as bound-words, binds-from, binds-in as bound-in, cons-in}
+use Rattle.types.specs.Puts.{binds-words as bound-words, binds-in as bound-in, cons-in}
 use Rattle.types.specs.Sets.{HoldsCons, IsCons, Cons, con-some, one-set}
 use Rattle.finishing.specs.declared.Finish.TheVariants.{Solved as Bound, Unsolved}
-use Rattle.finishing.specs.Told.{others, boundRec, bounds, Copied, IsSolved, Accepted, Finished}
+use Rattle.finishing.specs.Told.{others, boundRec, bounds, Copied, Accepted, Finished}
 use Rattle.finishing.specs.Others.{others-few}
 
 -- ══ Bounds written one after another ══

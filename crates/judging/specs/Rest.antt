@@ -1,22 +1,20 @@
 -- The judge past its set: entries, bounds, names that are both, then the constraints.
 use Rattle.std.specs.Prelude.{◌≡◌, Bool, true, false, ℕ, ◌/◌, ◌≤◌, length}
-use Rattle.std.proofs.Math.Path.{refl, ap}
+use Rattle.std.proofs.Math.Path.{ap}
 use Rattle.std.proofs.Common.{sym}
 use Rattle.std.proofs.Math.Bool.{and-eq-true_iff}
-use mathlib.Core.List.{List, [], ◌∷◌, ◌++◌, map}
+use mathlib.Core.List.{List, [], ◌∷◌, ◌++◌}
 use Rattle.rules.specs.Base.{got, refused, need, bounded, all, collect}
 use Rattle.rules.specs.Calls.{Entry, entriesGiven, risingBounds, apart, opensBinding}
 use Rattle.rules.specs.Contents.{unmixed}
 use Rattle.rules.specs.Judging.{judge}
 use Rattle.rules.specs.Names.{table_of}
-use Rattle.rules.specs.Trees.{Con, Binding, opensCon, sizeCon}
-use Rattle.rules.specs.WellFormed.{goodCon}
+use Rattle.rules.specs.Trees.{Con, Binding, opensCon}
 use Rattle.laws.specs.KnownNames.{every_append, binding-known}
 use Rattle.laws.specs.NameTable.{good-laid}
 use Rattle.records.specs.Found.{Words32}
 use Rattle.records.specs.Good as records
 use Rattle.records.specs.Good.{numbers, holding}
-use Rattle.records.specs.Holds.{HoldsCon}
 use Rattle.records.specs.Whole.{set_is}
 use Rattle.queries.specs.GoodOpens.{names-small}
 use Rattle.queries.specs.Marks.{Small}

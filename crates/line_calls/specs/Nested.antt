@@ -1,11 +1,11 @@
 -- The constraints of a line are nested at most 64 deep, as the types are that its steps point to.
 use Rattle.std.specs.Prelude.{◌≡◌, List, [], ◌∷◌, ◌++◌, ℕ, ◌≤◌, drop}
 use Rattle.std.proofs.Common.{arith}
-use Rattle.std.proofs.Math.Path.{refl, ap, subst}
+use Rattle.std.proofs.Math.Path.{subst}
 use Rattle.std.proofs.Math.Option.{Option, none, some}
-use Rattle.rules.specs.Base.{Got, got, need, orRefuse, and_then, each}
+use Rattle.rules.specs.Base.{got, need, orRefuse, and_then, each}
 use Rattle.rules.specs.Exponents.{frac, goodExp}
-use Rattle.rules.specs.Trees.{Names, Ty, Con, depth, depthCon}
+use Rattle.rules.specs.Trees.{Names, Ty, depth, depthCon}
 use Rattle.rules.specs.Contents.{closed}
 use Rattle.rules.specs.Names.{Table, numbersOf, is_held}
 use Rattle.rules.specs.Writing.{Rec, signed}

@@ -1,8 +1,8 @@
 -- A set as it stands in a buffer.
 use Rattle.std.specs.Prelude.{◌≡◌, true, ℕ, ◌+◌, ◌*◌, ◌-◌, ◌/◌, ◌≤◌, take}
 use Rattle.std.proofs.Math.Path.{refl, sym, ap}
-use Rattle.std.proofs.Common.{subst, ◌∙◌, add-zero}
-use mathlib.Core.List.{List, [], ◌∷◌, map}
+use Rattle.std.proofs.Common.{subst, ◌∙◌}
+use mathlib.Core.List.{List, [], ◌∷◌}
 use native.Mathlib.Omega.{arith}
 use Rattle.std.proofs.Math.ListN.{length}
 use Rattle.std.proofs.lemmas.List.Edits.{sets}

@@ -1,12 +1,12 @@
 -- The limits of a state, and the soundness of lists that are put together.
-use Rattle.std.specs.Prelude.{◌≡◌, refl, Bool, true, false, List, [], ◌∷◌, ◌++◌, ℕ, ◌+◌, ◌≤◌, ◌<◌, leb, max, min, Ok, Err, Some}
+use Rattle.std.specs.Prelude.{◌≡◌, refl, Bool, true, false, List, [], ◌∷◌, ◌++◌, ℕ, ◌+◌, ◌≤◌, ◌<◌, leb, max, Ok, Err, Some}
 use Rattle.std.proofs.Common.{arith, ap, sym, subst, ◌∙◌, le-leb, leb-true}
 use Rattle.std.proofs.Math.Decide.{dec_le}
 use Rattle.std.proofs.Math.Bool.{and-eq-true_iff}
 use Rattle.std.proofs.Math.Option.{some}
-use Rattle.rules.specs.Base.{got, refused, bounded, all, sum_of, max_of}
+use Rattle.rules.specs.Base.{got, refused, all, sum_of, max_of}
 use Rattle.rules.specs.Rounds.{State, limited, sizeState, depthState}
-use Rattle.rules.specs.Trees.{Ty, opened, basic, dim, fn, struct, list, Con, Binding, depth, depthCon, depthBinding, sizeCon, sizeBinding}
+use Rattle.rules.specs.Trees.{Ty, opened, basic, dim, fn, struct, list, Con, depth, depthCon, depthBinding, sizeCon, sizeBinding}
 use Rattle.rules.specs.declared.Refusal.TheVariants.{TooLarge}
 use Rattle.laws.specs.Lists.{true≢false}
 use Rattle.laws.specs.Nesting.{max_both}
@@ -15,7 +15,7 @@ use Rattle.records.specs.Good.{goodBinding, goodCon}
 use Rattle.types.specs.Binds.{Binds, one-binds}
 use Rattle.types.specs.Sets.{Cons, one-set}
 use Rattle.rounds.specs.declared.Ends.{Ends}
-use Rattle.rounds.specs.States.{SoundSet, SoundBinds}
+use Rattle.rounds.specs.States.{SoundSet}
 use Rattle.rounds.specs.Parts.{keeps, leaf, Limited, Made}
 
 module _ (st : State ℕ) where

@@ -2,14 +2,14 @@
 use Rattle.std.proofs.Math.Path.{◌≡◌, refl}
 use Rattle.std.proofs.Common.{sym, ap, subst, ◌∙◌, append-nil, inl, inr}
 use Rattle.std.proofs.lemmas.List.Edits.{sets}
-use Rattle.std.specs.Prelude.{true, List, [], ◌∷◌, ℕ, suc, ◌+◌, ◌*◌, ◌-◌, ◌/◌, ◌≤◌, ◌<◌, length, Ok, Err}
+use Rattle.std.specs.Prelude.{true, List, [], ◌∷◌, ℕ, suc, ◌+◌, ◌≤◌, length, Ok, Err}
 use native.Mathlib.Omega.{arith}
 use Rattle.std.proofs.Math.Seq.{length-sets}
 use Rattle.rules.specs.Base.{Got, got, refused, bounded, all, each, collect, sum_of}
 use Rattle.rules.specs.Refusals.{number_of}
 use Rattle.rules.specs.Rounds.{Step, bind, split, done, stuck, trySatisfy}
 use Rattle.rules.specs.Trees.{Names, Ty, dim, Con, Binding, ◌≔◌, size, sizeCon, sizeBinding, depth, depthCon}
-use Rattle.rules.specs.WellFormed.{goodCon, goodBinding}
+use Rattle.rules.specs.WellFormed.{goodBinding}
 use Rattle.rules.specs.Writing.{words, writeCon, writeBinding}
 use Rattle.rules.specs.declared.Refusal.{Refusal}
 use Rattle.laws.specs.KeepsGood.{rule-good}

@@ -1,16 +1,16 @@
 -- A new binding put into the constraints and the older bindings, and written behind them.
-use Rattle.std.specs.Prelude.{◌≡◌, refl, Bool, true, List, [], ◌∷◌, ◌++◌, ℕ, ◌+◌, ◌≤◌, ◌<◌, min, length, Result, Ok, Err, Some}
+use Rattle.std.specs.Prelude.{◌≡◌, refl, Bool, true, List, [], ◌∷◌, ◌++◌, ℕ, ◌≤◌, min, length, Result, Ok, Err}
 use Rattle.std.proofs.Common.{arith, ap, sym, subst, ◌∙◌}
 use Rattle.std.proofs.Math.Option.{Option, some}
 use Rattle.rules.specs.Base.{Got, got, refused, ◌>>=◌, bounded, all, each, collect, sum_of}
 use Rattle.rules.specs.Refusals.{number_of}
 use Rattle.rules.specs.Replacing.{Look, bindings, replaceCon, replaceBinding}
-use Rattle.rules.specs.Rounds.{State, perform, sizeState, depthState}
-use Rattle.rules.specs.Trees.{Open, Ty, Con, Binding, ◌≔◌, size, sizeCon, sizeBinding, depth, depthCon, depthBinding}
+use Rattle.rules.specs.Rounds.{State, perform, sizeState}
+use Rattle.rules.specs.Trees.{Open, Ty, Con, Binding, ◌≔◌, sizeCon, sizeBinding, depthCon, depthBinding}
 use Rattle.rules.specs.Writing.{Rec, writeCon, writeBinding}
 use Rattle.rules.specs.declared.Refusal.{Refusal}
 use Rattle.laws.specs.Contents.{collect-append}
-use Rattle.laws.specs.Lists.{Every, and_both}
+use Rattle.laws.specs.Lists.{and_both}
 use Rattle.laws.specs.NameTable.{Good}
 use Rattle.laws.specs.Nesting.{max_both, cons-deep, bindings-deep}
 use Rattle.laws.specs.Size.{set-length, bindings-length}
@@ -28,7 +28,6 @@ use Rattle.types.specs.declared.writer.Writer.{Writer}
 use Rattle.types.specs.Binds.{IsBinds}
 use Rattle.types.specs.Written.{last, Writes, writes-then}
 use Rattle.rounds.specs.declared.Others.{Others}
-use Rattle.rounds.specs.States.{SoundSet, SoundBinds}
 use Rattle.rounds.specs.Parts.{keeps, Known, leaf, Made, others, rebinds, SoundOthers, BoundTo}
 use Rattle.rounds.proofs.Limits.{all_both, depth-is, leaf-flat, size-is, sum_both}
 use Rattle.rounds.proofs.Written.{cons-there, binds-there, long-same}

@@ -1,5 +1,5 @@
 -- The first constraint to which a rule applies: what is left of the search.
-use Rattle.std.specs.Prelude.{◌≡◌, Bool, true, refl, List, [], ◌∷◌, ◌++◌, ℕ, ◌+◌, ◌≤◌}
+use Rattle.std.specs.Prelude.{◌≡◌, true, refl, List, [], ◌∷◌, ◌++◌, ℕ, ◌+◌, ◌≤◌}
 use Rattle.std.proofs.Common.{ap, arith, sym, subst, ◌∙◌}
 use Rattle.std.proofs.Math.Bool.{and-eq-true_iff}
 use mathlib.Core.List.{append-nil, cons≢nil}
@@ -11,7 +11,6 @@ use Rattle.rules.specs.Trees.{Con, Binding, sizeCon, depthCon}
 use Rattle.laws.specs.Lists.{and_both}
 use Rattle.records.specs.Good.{goodCon, numbers}
 use Rattle.records.specs.Holds.{HoldsCon}
-use Rattle.types.specs.Once.{ACon}
 use Rattle.types.specs.Sets.{HoldsCons, IsCons, placed}
 use Rattle.rounds.specs.declared.Others.{Others}
 use Rattle.rounds.specs.States.{SoundSet}

@@ -1,12 +1,12 @@
 -- A state that was written stands there.
-use Rattle.std.specs.Prelude.{◌≡◌, refl, true, List, [], ◌∷◌, ◌++◌, ℕ, ◌+◌, ◌*◌, ◌≤◌, ◌<◌, min, length, Ok, Err, Some}
+use Rattle.std.specs.Prelude.{◌≡◌, refl, true, List, ◌++◌, ℕ, ◌+◌, ◌*◌, ◌≤◌, ◌<◌, min, length, Ok, Err, Some}
 use Rattle.std.proofs.Common.{arith, ap, sym, subst, ◌∙◌, length-append}
 use Rattle.std.proofs.Math.Option.{Option, some}
 use Rattle.std.proofs.lemmas.List.Edits.{sets}
 use Rattle.std.proofs.Math.Seq.{length-sets}
 use Rattle.rules.specs.Base.{Got, got, refused, all, collect, sum_of}
 use Rattle.rules.specs.Rounds.{State, sizeState, depthState}
-use Rattle.rules.specs.Trees.{Con, Binding, sizeCon, sizeBinding, depthCon, depthBinding}
+use Rattle.rules.specs.Trees.{Con, sizeCon, sizeBinding}
 use Rattle.rules.specs.Writing.{Rec, words, writeCon, writeBinding}
 use Rattle.std.proofs.Math.Decide.{dec_le}
 use Rattle.rules.specs.Refusals.{number_of}
@@ -24,7 +24,7 @@ use Rattle.types.specs.Sets.{IsCons}
 use Rattle.types.specs.Written.{last, Writes, writes-then}
 use Rattle.rounds.specs.declared.Ends.{Ends}
 use Rattle.rounds.specs.declared.Others.{Others}
-use Rattle.rounds.specs.States.{SoundSet, SoundBinds, StateHeld, Turn, Turned}
+use Rattle.rounds.specs.States.{SoundSet, Turn, Turned}
 use Rattle.rounds.specs.Parts.{appends, keeps, Limited, others, SoundOthers, Made, Next}
 use Rattle.rounds.proofs.Limits.{kept, long, deep, size-is, depth-is, sound-both, sum_both}
 

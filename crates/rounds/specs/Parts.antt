@@ -1,7 +1,6 @@
 -- What the steps of a round ask and what they leave.
 use Rattle.std.specs.Prelude.{◌≡◌, Bool, true, false, List, [], ◌∷◌, ◌++◌, ℕ, ◌+◌, ◌≤◌, length, min, Ok, Err, Some}
 use Rattle.std.proofs.Math.Option.{Option, none, some}
-use Rattle.std.specs.Prelude as std
 use Rattle.rules.specs.Base.{Got, got, refused, ◌>>=◌, bounded, all}
 use Rattle.rules.specs.Rounds.{Step, bind, split, done, stuck, State, trySatisfy, limited, perform, sizeState, depthState}
 use Rattle.rules.specs.Trees.{Ty, opened, basic, dim, fn, struct, list, Con, Binding, ◌≔◌, depth, depthCon, sizeCon}

@@ -1,5 +1,5 @@
 -- What the functions of a round ask and leave, said of a name table and of places.
-use Rattle.std.specs.Prelude.{◌≡◌, List, [], ℕ, ◌+◌, ◌≤◌}
+use Rattle.std.specs.Prelude.{List, ℕ, ◌≤◌}
 use Rattle.std.proofs.Math.Option.{Option}
 use Rattle.rules.specs.Base.{Got, bounded, sum_of}
 use Rattle.rules.specs.Rounds.{State, round}

@@ -1,14 +1,12 @@
 -- The checks of a set past that of 10, and what is known where they are met; and the whole call.
-use Rattle.std.specs.Prelude.{◌≡◌, Bool, false, ◌&&◌, ℕ, ◌+◌, ◌*◌, ◌/◌, ◌-◌, ◌≤◌, ◌<◌, leb, replicate}
+use Rattle.std.specs.Prelude.{◌≡◌, Bool, false, ◌&&◌, ℕ, ◌/◌, ◌≤◌, ◌<◌, leb, replicate}
 use Rattle.std.proofs.Math.Path.{refl, sym}
-use Rattle.std.proofs.Common.{◌∙◌, add-zero}
+use Rattle.std.proofs.Common.{◌∙◌}
 use Rattle.std.proofs.Math.Bool.{true, and-eq-true_iff}
-use mathlib.Core.List.{List, [], ◌∷◌, map}
+use mathlib.Core.List.{List, [], ◌∷◌}
 use native.Mathlib.Omega.{arith}
 use borrow.Author.Tests.{leb-true, le-leb, lt-leb}
 use Rattle.std.proofs.Math.ListN.{length}
-use Rattle.std.proofs.lemmas.List.Edits.{sets}
-use Rattle.std.proofs.Math.Seq.{slice}
 use Rattle.rules.specs.Base.{Got, got, refused, ◌>>=◌, ◌>>◌, need, bounded, all, collect, max_of}
 use Rattle.rules.specs.Calls.{shortLists, tableKept, setGiven, apart, aloneGiven, setCall, lent, resultAfter, workAfter, solvedOf, solvedWords, solvedSet, solveCall}
 use Rattle.rules.specs.Contents.{unmixed}
@@ -16,7 +14,6 @@ use Rattle.rules.specs.Names.{table_of, tableGood, lentTable}
 use Rattle.rules.specs.Refusals.{number_of}
 use Rattle.rules.specs.Solving.{Answer, solve}
 use Rattle.rules.specs.Trees.{Con, opensCon, sizeCon, depthCon}
-use Rattle.rules.specs.WellFormed.{goodCon}
 use Rattle.rules.specs.declared.Refusal.{Refusal}
 use Rattle.rules.specs.declared.Refusal.TheVariants.{ShortBuffer}
 use Rattle.laws.specs.Checks.{need-passed, passed}

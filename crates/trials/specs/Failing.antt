@@ -3,7 +3,7 @@ use Rattle.std.specs.Prelude.{◌≡◌, refl, Bool, true, false, List, [], ◌�
 use Rattle.std.specs.Prelude as std
 use Rattle.std.specs.Option as code
 use Rattle.std.proofs.Common.{sym, ap, ◌∙◌}
-use Rattle.std.proofs.Math.Option.{Option, none, some}
+use Rattle.std.proofs.Math.Option.{Option, some}
 use Rattle.rules.specs.Base.{Got, got, refused, ◌>>=◌, Limits, is_none}
 use Rattle.rules.specs.Judging.{judgeCon, judge, failing}
 use Rattle.rules.specs.Refusals.{toldBy, toldOption}

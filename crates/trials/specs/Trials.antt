@@ -1,5 +1,5 @@
 -- One constraint after another: bindings put in, measured, tested.
-use Rattle.std.specs.Prelude.{Option, Some, None, ◌≡◌, Bool, true, false, List, [], ◌∷◌, map, ℕ, suc, ◌+◌, ◌*◌, ◌/◌, ◌≤◌, ◌<◌, min, eqb, length, refl, Result, Ok, Err}
+use Rattle.std.specs.Prelude.{Some, None, ◌≡◌, Bool, true, false, List, [], ◌∷◌, ℕ, ◌+◌, ◌*◌, ◌/◌, ◌≤◌, ◌<◌, min, eqb, length, refl, Result, Ok, Err}
 use Rattle.std.proofs.Common.{sym, ap, subst, ◌∙◌, add-one, append-nil, arith, eq-eqb, ne_eqb}
 use Rattle.std.proofs.Math.Bool.{and-eq-true_iff}
 use Rattle.std.proofs.Math.Option as opt
@@ -11,13 +11,13 @@ use Rattle.rules.specs.Judging.{failed, failing, judgeCon}
 use Rattle.rules.specs.Meaning.{holds}
 use Rattle.rules.specs.Names.{table_of, names_of}
 use Rattle.rules.specs.Refusals.{number_of, told}
-use Rattle.rules.specs.Replacing.{Look, replaceCon, bindings}
+use Rattle.rules.specs.Replacing.{Look, bindings}
 use Rattle.rules.specs.Trees.{Open, Ty, Con, Binding, sizeCon, depthCon, opensCon}
 use Rattle.rules.specs.Writing.{words, writeCon}
 use Rattle.rules.specs.declared.Refusal.{Refusal}
 use Rattle.laws.specs.KeepsGood as laws
 use Rattle.laws.specs.KnownNames.{con-known}
-use Rattle.laws.specs.Lists.{true≢false, clash, Every}
+use Rattle.laws.specs.Lists.{true≢false, clash}
 use Rattle.laws.specs.NameTable.{Good, good-laid}
 use Rattle.laws.specs.Size.{size-con}
 use Rattle.laws.specs.Sized.{sized-kept, sized-long, sized-deep}
@@ -30,11 +30,8 @@ use Rattle.queries.specs.GoodOpens.{names-small}
 use Rattle.queries.specs.Marks.{Marks, Small}
 use Rattle.meaning.specs.Truth.{ConTrue}
 use Rattle.replacing.specs.declared.substitution.Substitution.{Substitution}
-use Rattle.replacing.specs.Flat.{goodLine, PlainLines}
 use Rattle.replacing.specs.Kept.{cons-weaker}
 use Rattle.replacing.specs.Leaves.{Leaves, LeavesOf, conBy}
-use Rattle.replacing.specs.LineRules.{con, sizeLine, HoldsLine}
-use Rattle.replacing.specs.Runs.{HoldsAll}
 use Rattle.replacing.specs.Substitutions.{ALook, one-look}
 use Rattle.replacing.specs.Well.{Lent}
 use Rattle.replacing.specs.Written.{written-cons}
@@ -110,27 +107,9 @@ module _ (pool table : List ℕ) where
     pub good : (o : Open ℕ) (t : Ty ℕ) → bindings (numbers pool table) bs o ≡ some t → goodTy pool table 0 t ≡ true
 
   -- a set of well formed constraints, which is the whole list
-  abbrev pub SetThere : List ℕ → List (Con ℕ) → Type 0
-  SetThere set cs = PlainLines pool table set (map con cs) 0 (length set / 4)
-
-  lines-held : (s : List ℕ) (cs : List (Con ℕ)) (at : ℕ) → HoldsAll HoldsLine sizeLine s (map con cs) at → HoldsCons s cs at
-  unfolding HoldsAll HoldsCons
-  lines-held s [] at h = tt
-  lines-held s (c ∷ cs) at h = (h.0, lines-held s cs (at + sizeCon c) h.1)
-
-  lines-long : (cs : List (Con ℕ)) → sum_of sizeLine (map con cs) ≡ sum_of sizeCon cs
-  lines-long [] = refl
-  lines-long (c ∷ cs) = ap (sizeCon c +◌) (lines-long cs)
-
-  lines-good : (cs : List (Con ℕ)) → all (goodLine pool table) (map con cs) ≡ true → all (goodCon pool table 0) cs ≡ true
-  unfolding all
-  lines-good [] g = refl
-  lines-good (c ∷ cs) g =
-      let r = (and-eq-true_iff (goodCon pool table 0 c) (all (goodLine pool table) (map con cs))).0 g in
-      (and-eq-true_iff (goodCon pool table 0 c) (all (goodCon pool table 0) cs)).1 (r.0, lines-good cs r.1)
-
-  pub set-held : (set : List ℕ) (cs : List (Con ℕ)) → SetThere set cs → IsCons set 0 (length set / 4) cs
-  set-held set cs h = record { held = lines-held set cs 0 h.held; ends = omega (arith, h.ends, lines-long cs) }
+  pub record SetThere (set : List ℕ) (cs : List (Con ℕ)) : Type 0 where
+    pub held : IsCons set 0 (length set / 4) cs
+    pub good : all (goodCon pool table 0) cs ≡ true
 
 -- whichever way it is told what the names become, it is what the bindings say
 pub same-look : (pool table places types : List ℕ) (bs : List (Binding ℕ)) → Put pool table places types bs → (p : ALook pool table places types)
@@ -227,8 +206,8 @@ module _ (pool table set : List ℕ) where
       pub decides : fails-in 0 cs ≡ fails-in k rest
 
     pub going_start : SetThere pool table set cs → (h : Cons set 0 (length set / 4)) → Going 0 h.0
-    going_start t h = subst (λ (x : Cons set 0 (length set / 4)). Going 0 x.0) (one-set set 0 (length set / 4) (cs, set-held pool table set cs t) h)
-        (record { few = omega (arith, (set-held pool table set cs t).ends, set-few cs); good = lines-good pool table cs t.good; decides = refl })
+    going_start t h = subst (λ (x : Cons set 0 (length set / 4)). Going 0 x.0) (one-set set 0 (length set / 4) (cs, t.held) h)
+        (record { few = omega (arith, t.held.ends, set-few cs); good = t.good; decides = refl })
 
     module _ {k : ℕ} {now : List (Con ℕ)} (g : Going k now) where
       pub going_end : now ≡ [] → got none ≡ fails-in 0 cs

@@ -2,7 +2,6 @@ use Rattle.std.specs.Prelude.{◌≡◌, [], ◌∷◌}
 use Rattle.std.proofs.Common.{ap, sym, ◌∙◌}
 use mathlib.Core.List.{cons≢nil}
 use Rattle.rules.specs.Trees.{◌≔◌}
-use Rattle.types.specs.Shapes.{binding_of, bindings_of}
 use Rattle.rounds.specs.Parts.{leaf}
 use Rattle.rounds.proofs.inner.binds_leaf.Goals as goal
 

@@ -1,4 +1,3 @@
-use Rattle.std.proofs.Common.{arith}
 use Rattle.rounds.proofs.Limits.{limit-long, limit-kept, limit-cons, limit-binds, limit-flat, cons-good, binds-good}
 use Rattle.rounds.proofs.inner.limited.Goals as goal
 

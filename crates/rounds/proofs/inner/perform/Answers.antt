@@ -1,4 +1,4 @@
-use Rattle.std.specs.Prelude.{[], List}
+use Rattle.std.specs.Prelude.{[]}
 use Rattle.std.proofs.Common.{refl, ap, sym, subst, ◌∙◌, arith}
 use Rattle.rounds.specs.Parts.{after, appends, SoundSet}
 use Rattle.rounds.proofs.Limits.{sound-none}

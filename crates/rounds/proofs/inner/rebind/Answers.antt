@@ -1,4 +1,4 @@
-use Rattle.std.proofs.Common.{◌≡◌, rules, ◌∙◌, arith}
+use Rattle.std.proofs.Common.{◌∙◌}
 use Rattle.std.proofs.lemmas.Result.{err_from_is_err_and}
 use Rattle.replacing.specs.Kept.{cons-weaker, binds-weaker}
 use Rattle.rounds.proofs.Rebinding.{came, stopped, first-stops, second-stops, third-stops, rebound, rebinds-is, known, rebind-made}

@@ -1,5 +1,5 @@
 -- `inner::run` meets its contract. The invariant: the rounds that are left give the whole answer.
-use Rattle.std.proofs.Common.{refl, sym, ap, subst, ◌∙◌, arith, List, ℕ, ◌≡◌, ◌≤◌, length, take, drop, ◌++◌, append-nil}
+use Rattle.std.proofs.Common.{refl, ap, ◌∙◌, arith, List, ℕ, ◌≡◌, ◌≤◌, length, take, drop, ◌++◌, append-nil}
 use Rattle.std.proofs.Math.Seq.{drop-length, take-length}
 use Rattle.std.specs.Prelude.{Ok}
 use Rattle.rules.specs.Rounds.{State}

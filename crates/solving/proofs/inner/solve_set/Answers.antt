@@ -1,6 +1,5 @@
 -- `inner::solve_set` meets its contract.
 use mathlib.Core.Path.{sym, ap, ◌∙◌}
-use native.Mathlib.Omega.{arith}
 use Rattle.rules.specs.Refusals.{told}
 use Rattle.records.specs.Found.{Words32}
 use Rattle.solving.specs.Entry.{Entered, came-in, kept_out, begun, answers-as, refused-answers}

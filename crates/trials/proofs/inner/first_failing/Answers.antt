@@ -1,14 +1,13 @@
-use Rattle.std.specs.Prelude.{List, ℕ}
+use Rattle.std.specs.Prelude.{ℕ}
 use Rattle.std.proofs.Common.{refl, ap, sym, ◌∙◌, arith}
 use Rattle.std.proofs.lemmas.Result.{err_from_is_err_and}
 use Rattle.rules.specs.Replacing.{Look}
-use Rattle.replacing.specs.Substitutions.{ALook, one-look}
 use Rattle.types.specs.Sets.{alone, placed-alone}
-use Rattle.trials.specs.Trials.{set-held, going_start, going_end, first-good, count-few, going-refused, going-no, going_on, same-look}
+use Rattle.trials.specs.Trials.{going_start, going_end, first-good, count-few, going-refused, going-no, going_on, same-look}
 use Rattle.trials.proofs.inner.first_failing.Goals as goal
 
 pub invariant_of-c-items : goal.invariant_of-c-items
-invariant_of-c-items c = let (cs, h) = c.requires.there in record { near = omega (arith, c.requires.set_short); trees = (cs, set-held _ _ _ cs h) }
+invariant_of-c-items c = let (cs, h) = c.requires.there in record { near = omega (arith, c.requires.set_short); trees = (cs, h.held) }
 
 pub search-init : goal.search-init
 search-init c = (
