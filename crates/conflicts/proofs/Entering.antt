@@ -74,15 +74,7 @@ module _ (pool table ws : List ℕ) (w : Words32 ws) (h : lentTable pool table �
     same-lines c = ap (λ (k : Cons ws 0 (length ws / 4)). k.0) (one-set ws 0 (length ws / 4) c lines-there)
 
     pub fine-set : Fine pool table x.set
-    fine-set =
-        let d : List ℕ = replicate 16384 0 in
-        let long : length d ≡ 16384 = length-replicate {A = ℕ} 16384 0 in
-        let b = begun pool table ws w x d (sets d 0 (slice 0 (length ws / 4 * 4) ws)) (omega (arith, long)) refl in
-        record {
-          good = b.admitted.good;
-          small = b.admitted.small;
-          flat = omega (arith, b.held.flat, max_map depthLine con x.set, max_both depthLine (map con x.set) []);
-        }
+    fine-set = let b = begun pool table ws w x in record { good = b.admitted.good; small = b.admitted.small; flat = b.sound.flat }
 
     pub inside : (c : Cons ws 0 (length ws / 4)) (res res' : List ℕ) (r : Result (std.Option ℕ) Refusal)
         → FoundAs (conflictIn (numbers pool table) c.0) res res' r → FoundAs (conflictOf (table_of pool table) ws) res res' r

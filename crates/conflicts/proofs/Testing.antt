@@ -1,7 +1,8 @@
 -- The part of a set that is under test: it stands at the front of the work buffer, ready to be solved; and what its answer says.
-use Rattle.std.specs.Prelude.{Result, Ok, Err, ◌≡◌, refl, Bool, true, false, List, [], ◌∷◌, ◌++◌, map, ℕ, suc, ◌+◌, ◌*◌, ◌≤◌, length, get_or}
-use Rattle.std.proofs.Common.{ap, sym, subst, ◌∙◌, arith, add-zero}
-use Rattle.std.proofs.lemmas.List.Edits.{sets}
+use Rattle.std.specs.Prelude.{Result, Ok, Err, ◌≡◌, refl, Bool, true, false, List, [], ◌∷◌, ◌++◌, map, ℕ, suc, ◌+◌, ◌*◌, ◌≤◌, length, get_or, take, drop, ◌/◌}
+use Rattle.std.proofs.Common.{ap, sym, subst, ◌∙◌, arith, append-nil, take_at}
+use Rattle.std.proofs.lemmas.List.Edits.{sets, sets-eq}
+use Rattle.std.proofs.Math.ListN.{drop_of_length-le}
 use Rattle.rules.specs.Base.{got, refused, bounded, all, keep, collect, sum_of, max_of}
 use Rattle.rules.specs.Calls.{solved, unsolved, refusedAfter, solvedOf}
 use Rattle.rules.specs.Choices.{wide}
@@ -13,20 +14,17 @@ use Rattle.rules.specs.Trees.{Names, Con, sizeCon, depthCon}
 use Rattle.rules.specs.WellFormed.{goodCon}
 use Rattle.rules.specs.Writing.{words, writeCon}
 use Rattle.laws.specs.Lists.{and_left, and_right, and_both}
-use Rattle.laws.specs.Nesting.{max_both, max_map}
 use Rattle.laws.specs.Size.{set-length}
 use Rattle.records.specs.Good.{numbers, holding}
-use Rattle.replacing.specs.Flat.{depthLine, goodLine, PlainLines}
-use Rattle.replacing.specs.Kept.{plain-written}
-use Rattle.replacing.specs.LineRules.{con, sizeLine, writeLine}
-use Rattle.replacing.specs.Runs.{HoldsAll}
-use Rattle.rounds.specs.Lines.{long-cons, all_map}
+use Rattle.records.specs.Buffers.{words-length}
+use Rattle.replacing.specs.Kept.{cons-weaker}
+use Rattle.replacing.specs.Written.{written-cons}
 use Rattle.finishing.specs.declared.Finish.{Finish}
 use Rattle.finishing.specs.declared.Finish.TheVariants as finish
 use Rattle.solving.specs.declared.Solution.{Solution}
 use Rattle.solving.specs.Told.{toldOutcome, toldSolution}
 use Rattle.solving.specs.Running.{Begun}
-use Rattle.types.specs.Sets.{con-some}
+use Rattle.types.specs.Sets.{con-some, IsCons}
 use Rattle.types.specs.declared.writer.Writer.{Writer}
 use Rattle.types.specs.Written.{Writes}
 use Rattle.conflicts.specs.Standing.{Fine}
@@ -74,44 +72,40 @@ module _ (pool table : List ℕ) where
 
   -- ══ Ready to be solved ══
 
-  collect-lines : (cs : List (Con ℕ)) → collect writeLine (map con cs) ≡ collect writeCon cs
-  unfolding collect
-  collect-lines [] = refl
-  collect-lines (c ∷ cs) = ap (writeCon c ++◌) (collect-lines cs)
+  module _ (ds : List (Con ℕ)) (f : Fine pool table ds) (w w' : Writer) (z : w.at ≡ 0) (h : Writes w w' (collect writeCon ds)) (room : 8192 ≤ length w.words.now) where
+    abbrev written : List ℕ
+    written = words (collect writeCon ds)
 
-  module _ (ds : List (Con ℕ)) (f : Fine pool table ds) (w w' : Writer) (z : w.at ≡ 0) (h : Writes w w' (collect writeCon ds))
-      (room : 8192 ≤ length w.words.now) where
     count : length (collect writeCon ds) ≡ sum_of sizeCon ds
     count = set-length ds
+
+    long : length written ≡ sum_of sizeCon ds * 4
+    long = words-length (collect writeCon ds) ∙ ap (λ (n : ℕ). n * 4) count
 
     pub ends : w'.at ≡ sum_of sizeCon ds
     ends = omega (arith, h.at, count, f.small, z)
 
-    front : w'.words.now ≡ sets w.words.now (0 * 4) (words (collect writeLine (map con ds)))
+    pub many : w'.at * 4 ≤ 8192
+    many = omega (arith, ends, f.small)
+
+    front : take (w'.at * 4) w'.words.now ≡ written
     front =
-        h.words (omega (arith, count, f.small, z)) ∙ ap (λ (k : ℕ). sets w.words.now (k * 4) (words (collect writeCon ds))) z
-        ∙ ap (λ (rs : List _). sets w.words.now (0 * 4) (words rs)) (sym (collect-lines ds))
+        let left = drop (0 + length written) w.words.now in
+        let e : w'.words.now ≡ written ++ left =
+        h.words (omega (arith, count, f.small, z)) ∙ ap (λ (k : ℕ). sets w.words.now (k * 4) written) z ∙ sets-eq written w.words.now 0 (omega (arith, long, f.small, room)) in
+        ap (take (w'.at * 4)) e ∙ take_at written left (w'.at * 4) (omega (arith, long, ends))
 
-    goods : all (goodLine pool table) (map con ds) ≡ true
-    goods = all_map (goodLine pool table) con ds ∙ f.good
+    own : written ≡ sets written 0 written
+    own = sym (sets-eq written written 0 (omega arith) ∙ ap (λ (x : List ℕ). written ++ x) (drop_of_length-le {A = ℕ} written (omega arith)) ∙ append-nil written)
 
-    lines : PlainLines pool table w'.words.now (map con ds) 0 w'.at
-    lines =
-        let e : 0 + sum_of sizeLine (map con ds) ≡ w'.at = omega (arith, ends, long-cons ds) in
-        subst (PlainLines pool table w'.words.now (map con ds) 0) e
-        (plain-written pool table w.words.now w'.words.now 0 (map con ds) goods front (omega (arith, long-cons ds, f.small, room)))
-
-    pub ready : Begun pool table w'.words.now w'.at ds
-    unfolding all HoldsAll
-    ready = record {
-      held = record {
-        cons = lines;
-        binds = record { held = tt; good = refl; ends = sym (add-zero w'.at) };
-        short = omega (arith, ends, f.small);
-        flat = omega (arith, f.flat, max_map depthLine con ds, max_both depthLine (map con ds) []);
-      };
+    pub ready : {d : List ℕ} {k : ℕ} → d ≡ w'.words.now → k ≡ w'.at * 4 → Begun pool table (take k d) ds
+    ready i j = rw (i, j, front) (record {
+      held = let e : 0 + sum_of sizeCon ds ≡ length written / 4 = omega (arith, long) in
+          subst (λ (k : ℕ). IsCons written 0 k ds) e (written-cons pool table written written 0 ds own (omega (arith, long)) (cons-weaker pool table ds f.good));
+      sound = record { good = f.good; flat = f.flat };
+      short = omega (arith, long, f.small);
       admitted = record { good = f.good; small = f.small };
-    }
+    })
 
 -- ══ What its answer says ══
 

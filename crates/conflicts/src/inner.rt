@@ -21,7 +21,7 @@ use queries::inner::is_unmixed;
 use records::inner::put;
 use records::{Open, is_set};
 use rules::{RECORD_WORDS, RECORDS, Refusal};
-use solving::inner::run_alone;
+use solving::inner::run;
 use types::writer::Writer;
 use types::{Constraint, Constraints, Demand, Shape, Type};
 
@@ -136,18 +136,23 @@ pub struct Lines<'a> {
 }
 
 impl<'a> Lines<'a> {
-    /// Are those that stand refused with 5? The set under test is written to the front of the work buffer.
+    /// Are those that stand refused with 5?
     fn is_refused(self, stands: &[bool; RECORDS], work: &mut [u32]) -> Result<bool, Refusal>
         requires long { length stands.now ≡ 2048 }
         requires room { 16384 ≤ length work.old }
         ensures { told result ≡ conflicting (numbers self.entry.names.pool.now self.entry.names.table.now) (standing stands.now 0 self.entry.set.trees.0) }
     {
         let Lines { names, set } = self;
-        let mut out = Writer { words: work, at: 0 };
+        let mut tested = [0u32; RECORD_WORDS];
+        let mut out = Writer {
+            words: &mut tested,
+            at: 0,
+        };
         put_standing(set, stands, &mut out);
         let n = out.at;
+        let end = n * 4;
         let mut res = [0u32; RECORD_WORDS];
-        match run_alone(names, n, &mut res, work).outcome {
+        match run(names, &tested[0..end], &mut res, work).outcome {
             Ok(Finish::Solved(_, _)) => Ok(false),
             Ok(Finish::Unsolved(_)) => Ok(true),
             Err(why) => Err(why),
