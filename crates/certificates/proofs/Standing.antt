@@ -10,7 +10,6 @@ use Rattle.laws.specs.Checks.{need-passed, first-passed, next-passed, passed}
 use Rattle.laws.specs.Lists.{and_left}
 use Rattle.records.specs.Found.{Words32}
 use Rattle.records.specs.Whole.{entry-good}
-use Rattle.trials.specs.Trials.{set-held}
 use Rattle.types.specs.Sets.{Cons, IsCons, one-set}
 use Rattle.judging.specs.Rest.{set_there}
 
@@ -32,8 +31,7 @@ module _ (pool table s : List ℕ) (w : Words32 s) (e : setCall pool table s ≡
   read = let p = passed (aloneGiven pool table s) (setGiven (table_of pool table) s) e in (p.0, p.1.1)
 
   pub lines-stand : (ds : List (Con ℕ)) → setGiven (table_of pool table) s ≡ got ds → IsCons s 0 (length s / 4) ds
-  lines-stand ds g = set-held pool table s ds
-      (set_there pool table s [] ds [] (record { good = entry-good pool table s alone; given = g; short = short; types-short = omega arith }) w)
+  lines-stand ds g = (set_there pool table s [] ds [] (record { good = entry-good pool table s alone; given = g; short = short; types-short = omega arith }) w).held
 
   -- whichever lines stand there, they are those, and few
   pub same : (h : Cons s 0 (length s / 4)) (ds : List (Con ℕ)) → setGiven (table_of pool table) s ≡ got ds → h.0 ≡ ds
