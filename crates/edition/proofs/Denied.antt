@@ -9,7 +9,7 @@ use Rattle.rules.specs.Calls.{shortLists, tableKept, setGiven, solvedSet, apart}
 use Rattle.rules.specs.Contents.{unmixed}
 use Rattle.rules.specs.Judging.{judge, judgeCon, failing}
 use Rattle.rules.specs.Meaning.{TrueUnder, Premise}
-use Rattle.rules.specs.Names.{Bytes, Table, table_of, tableGiven, numbersOf, is_held}
+use Rattle.rules.specs.Names.{Bytes, Table, table_of, numbersOf, is_held}
 use Rattle.rules.specs.Reports.{Finding, unseen, unread, agrees, denied, unjudged, remains, stops, judgedBy, finding, findingOf, Content, holding, refusing, lacking, Page, page_of, onPage, namesAfter, readOn, Edition, editionGiven}
 use Rattle.rules.specs.Solving.{Answer, accepted, remaining, stopped, solve}
 use Rattle.rules.specs.TextReading.{Sheet, sheet, refusedIn, sheetRead}

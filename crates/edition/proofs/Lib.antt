@@ -1,2 +1,4 @@
-pub mod Denied
+mod Denied
+mod Lines
+mod Seen
 pub mod Truth

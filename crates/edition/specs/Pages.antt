@@ -9,9 +9,7 @@ use Rattle.rules.specs.Reports.{findingOf, holding, refusing, lacking, Page, con
 use Rattle.rules.specs.TextWriting.{namesIn}
 use Rattle.rules.specs.Trees.{Con}
 use Rattle.rules.specs.Writing.{words, writeCon}
-use Rattle.rules.specs.declared.Unseen.{Unseen}
 use Rattle.rules.specs.declared.Shown.{Shown}
-use Rattle.rules.specs.declared.Shown.TheVariants.{All, Quiet}
 use Rattle.laws.specs.NameTable.{Good}
 use Rattle.edition.specs.declared.model.Content.{Content}
 use Rattle.edition.specs.declared.model.Content.TheVariants as content

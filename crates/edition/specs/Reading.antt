@@ -1,8 +1,7 @@
 -- A file that is read: its page, and the names that are left.
 use Rattle.std.specs.Prelude.{◌≡◌, refl, List, [], ℕ, Result, Ok, Err}
 use Rattle.rules.specs.Names.{Bytes}
-use Rattle.rules.specs.Refusals.{number_of}
-use Rattle.rules.specs.Reports.{holding, refusing, lacking, page_of, readOn}
+use Rattle.rules.specs.Reports.{holding, refusing, lacking, page_of}
 use Rattle.rules.specs.TextReading.{Sheet, sheet, refusedIn, sheetRead}
 use Rattle.rules.specs.declared.Unseen.{Unseen}
 use Rattle.laws.specs.NameTable.{Good}

@@ -1,10 +1,11 @@
 -- What a report of an edition is worth. The functions of src/theorems.rt promise these statements; the proofs stand in proofs/.
-use Rattle.std.specs.Prelude.{◌≡◌, List, ◌∷◌, ℕ, suc, length, drop, Result}
-use Rattle.rules.specs.Base.{got, collect}
+use Rattle.std.specs.Prelude.{◌≡◌, Bool, false, List, ◌∷◌, ◌++◌, map, ℕ, suc, ltb, length, drop, Result}
+use Rattle.rules.specs.Base.{got, any, collect}
 use Rattle.rules.specs.Calls.{solvedSet}
+use Rattle.rules.specs.Grammar.{ascii}
 use Rattle.rules.specs.Meaning.{TrueUnder, Solves, Premise}
 use Rattle.rules.specs.Names.{Bytes, Table, table_of, tableGiven, numbersOf}
-use Rattle.rules.specs.Reports.{agrees, denied, findingOf, reportText, Content, holding, refusing, lacking, Page, Edition, editionGiven, pageText}
+use Rattle.rules.specs.Reports.{agrees, denied, shown, findingOf, reportText, Content, holding, refusing, lacking, Page, Edition, editionGiven, pageText}
 use Rattle.rules.specs.Solving.{accepted}
 use Rattle.rules.specs.TextWriting.{namesIn}
 use Rattle.rules.specs.Trees.{Con, Binding}
@@ -64,3 +65,33 @@ DeniedWithoutPremise t p = (i : ℕ) → findingOf t p.content ≡ denied i → 
 abbrev pub DeniedOnlyWithoutPremise : Type 0
 DeniedOnlyWithoutPremise = (pool table : List ℕ) → tableGiven pool table ≡ got tt → (files : List (Bytes × Result Bytes Unseen))
     → Every (DeniedWithoutPremise (table_of (editionGiven pool table files).pool (editionGiven pool table files).table)) (editionGiven pool table files).pages
+
+-- ══ The lines of a page ══
+
+-- a byte below the blank: a line feed, a carriage return, an escape
+abbrev pub belowBlank : ℕ → Bool
+belowBlank b = ltb b 32
+
+-- none of them
+abbrev pub Flat : Bytes → Type 0
+Flat bs = any belowBlank bs ≡ false
+
+-- two blanks, what is told, and the line feed that ends it
+abbrev pub lineBelow : Bytes → Bytes
+lineBelow l = ascii "  " ++ (l ++ ascii "\n")
+
+-- the first line begins with the file's name as it is shown, and each line below it with two blanks; no byte below the blank stands in any of
+-- them, so that the line feeds that end them are all that there are
+pub record InLines (name page : Bytes) : Type 0 where
+  pub told : Bytes
+  pub below : List Bytes
+  pub is : page ≡ map shown name ++ (told ++ (ascii "\n" ++ collect lineBelow below))
+  pub first : Flat (map shown name ++ told)
+  pub others : Every Flat below
+
+abbrev pub AllInLines : Edition → Type 0
+AllInLines e = Every (λ p. InLines p.name (pageText (table_of e.pool e.table) p)) e.pages
+
+-- every page is one line of its sheet's and lines below it, whatever the files' names and their texts hold
+abbrev pub PagesInLines : Type 0
+PagesInLines = (pool table : List ℕ) (files : List (Bytes × Result Bytes Unseen)) → AllInLines (editionGiven pool table files)

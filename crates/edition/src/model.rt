@@ -1,5 +1,5 @@
 //! Files of an edition, and their sheets as they were read.
-ghost use Rattle.std.specs.Prelude.{◌≡◌};
+ghost use Rattle.std.specs.Prelude.{◌≡◌, replicate};
 ghost use Rattle.edition.specs.Pages.{constraintsOf, namesOf};
 
 use rules::{RECORD_WORDS, Unseen, WORK_WORDS};

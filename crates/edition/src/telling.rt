@@ -11,7 +11,8 @@ ghost use Rattle.edition.specs.Pages.{Tells, done, shownIf};
 use crate::model::{Content, Room, Sheet};
 use confirming::solve_and_judge;
 use names::tables::NameTable;
-use reporting::pages::{Outcome, Page, put_page};
+use reporting::inner::put_page;
+use reporting::pages::{Outcome, Page};
 use rules::Shown;
 use spelling::sink::Sink;
 

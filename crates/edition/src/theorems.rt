@@ -1,5 +1,5 @@
 //! What a report of an edition is worth: theorems, each the contract of a function that does nothing.
-ghost use Rattle.edition.specs.Theorems.{AcceptedSheetsAreTrue, DeniedOnlyWithoutPremise};
+ghost use Rattle.edition.specs.Theorems.{AcceptedSheetsAreTrue, DeniedOnlyWithoutPremise, PagesInLines};
 
 /// Every page of an edition that says 'accepted' is true, whatever the files hold: under the bindings and bounds that it prints, put in at once and in
 /// exact arithmetic, each constraint of its sheet is true (`edition-true`).
@@ -11,4 +11,10 @@ pub fn accepted_sheets_are_true()
 /// what is no dimension and no variable. The constraint whose line is named isn't true under the answer (`edition-denied`).
 pub fn denied_only_without_premise()
     ensures { DeniedOnlyWithoutPremise }
+{}
+
+/// Every page of an edition is one line that begins with the file's name as it is shown, and lines below it that begin with two blanks, whatever the files
+/// are called and hold: no line feed, and no other byte below the blank, stands in any of these lines (`pages-in-lines`).
+pub fn pages_in_lines()
+    ensures { PagesInLines }
 {}

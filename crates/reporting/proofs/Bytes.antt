@@ -1,6 +1,6 @@
 -- Bytes as they are shown, and blanks under them, one byte after another.
 use Rattle.std.proofs.Common.{◌≡◌, refl, ◌++◌, ◌∷◌, [], ◌+◌, ◌-◌, ◌<◌, ◌≤◌, ℕ, zero, suc}
-use Rattle.std.proofs.Common.{map, take, drop, get_or, length, ap, ◌∙◌, append-nil, add-one, take-suc, length-append, arith}
+use Rattle.std.proofs.Common.{map, take, get_or, length, ap, ◌∙◌, append-nil, add-one, take-suc, length-append, arith}
 use Rattle.std.specs.Prelude.{Ok}
 use Rattle.std.proofs.lemmas.List.{map-append}
 use Rattle.rules.specs.Base.{collect}

@@ -2,6 +2,7 @@
 //! as "?", and, where there is a place, ":LINE:COLUMN" or ":LINE"; then come ": " and "accepted" or "not accepted". Its other lines begin with two blanks.
 #![tactic(auto)]
 
+pub mod inner;
 pub mod lines;
 pub mod pages;
 pub mod rows;

@@ -1,23 +1,20 @@
-//! The page of a sheet, for each thing that can become of it.
-ghost use Rattle.std.specs.Prelude.{◌≡◌, List, ℕ, ◌++◌, ◌≤◌, length};
+//! What became of a sheet, and the parts of its page for each of these.
+ghost use Rattle.std.specs.Prelude.{◌≡◌, List, ℕ, ◌++◌};
 ghost use Rattle.rules.specs.Base.{Got};
 ghost use Rattle.rules.specs.Grammar.{ascii};
 ghost use Rattle.rules.specs.Names.{Bytes};
 ghost use Rattle.rules.specs.Refusals.{number_of, toldBy, toldOption};
-ghost use Rattle.rules.specs.Reports.{Finding, unread, denied, unjudged, stops, finding, isAccepted, amount, placeText, findingText, reportText};
+ghost use Rattle.rules.specs.Reports.{Finding, unread, denied, unjudged, stops, finding, isAccepted, amount, placeText, findingText};
 ghost use Rattle.rules.specs.Solving.{Answer};
 ghost use Rattle.rules.specs.Trees.{Names, Con};
 ghost use Rattle.judging.specs.Found.{PlacedAs};
-ghost use Rattle.sheet_writing.specs.Parts.{name_of};
 ghost use Rattle.solving.specs.Told.{Stands};
 ghost use Rattle.spelling.specs.Sinks.{Puts};
 ghost use Rattle.reporting.specs.Found.{IsFinding, acceptedText, leftText};
 
 use crate::lines::{constraint_line, line_in};
-use crate::rows::put_rows;
-use crate::shown::{put_part, put_shown, show_line};
-use crate::words::{put_amount, put_quantity, put_refused, put_unseen};
-use names::tables::NameTable;
+use crate::shown::{put_part, show_line};
+use crate::words::{put_amount, put_quantity, put_refused};
 use rules::{Refusal, Unseen};
 use sheet_reading::NotRead;
 use solving::{Finish, Solution};
@@ -92,9 +89,9 @@ pub struct Page<'a> {
     pub new: usize,
 }
 
-// Puts where in a text it is.
+/// Puts where in a text it is.
 #[tactic(auto, unfolding(rules::specs::Reports::placeText))]
-fn put_place<S: Sink>(text: &[u8], outcome: Outcome, to: &mut S) -> Result<(), S::Error>
+pub fn put_place<S: Sink>(text: &[u8], outcome: Outcome, to: &mut S) -> Result<(), S::Error>
     ensures { (s : List ℕ) (f : Finding) → IsFinding s outcome f → Puts (S.place to.old) (placeText text.now f) result (S.place to.new) }
 {
     match outcome {
@@ -121,8 +118,8 @@ fn put_point<S: Sink>(to: &mut S, line: usize, column: usize) -> Result<(), S::E
     put_amount(to, column)
 }
 
-// Puts why a text is refused, and the line.
-fn put_unread<S: Sink>(text: &[u8], stop: NotRead, to: &mut S) -> Result<(), S::Error>
+/// Puts why a text is refused, and the line.
+pub fn put_unread<S: Sink>(text: &[u8], stop: NotRead, to: &mut S) -> Result<(), S::Error>
     ensures { (names : ℕ → Bytes) (cs new : ℕ)
         → Puts (S.place to.old) (findingText names text.now cs new (unread (number_of stop.why) stop.line stop.column)) result (S.place to.new) }
 {
@@ -131,8 +128,8 @@ fn put_unread<S: Sink>(text: &[u8], stop: NotRead, to: &mut S) -> Result<(), S::
     show_line(to, stop.column, line_in(text, stop.line))
 }
 
-// Puts that the judge says no, and the line of the first constraint that fails.
-fn put_denied<S: Sink>(text: &[u8], k: usize, to: &mut S) -> Result<(), S::Error>
+/// Puts that the judge says no, and the line of the first constraint that fails.
+pub fn put_denied<S: Sink>(text: &[u8], k: usize, to: &mut S) -> Result<(), S::Error>
     ensures { (names : ℕ → Bytes) (cs new : ℕ) → Puts (S.place to.old) (findingText names text.now cs new (denied k)) result (S.place to.new) }
 {
     to.put(
@@ -141,8 +138,8 @@ fn put_denied<S: Sink>(text: &[u8], k: usize, to: &mut S) -> Result<(), S::Error
     put_part(to, 0, line_in(text, constraint_line(text, k)))
 }
 
-// Puts the first line of a sheet that is accepted.
-fn put_accepted<S: Sink>(page: Page, rounds: u32, to: &mut S) -> Result<(), S::Error>
+/// Puts the first line of a sheet that is accepted.
+pub fn put_accepted<S: Sink>(page: Page, rounds: u32, to: &mut S) -> Result<(), S::Error>
     ensures { Puts (S.place to.old) (acceptedText page.entry.constraints rounds page.entry.new) result (S.place to.new) }
 {
     to.put(b"accepted: ")?;
@@ -154,8 +151,8 @@ fn put_accepted<S: Sink>(page: Page, rounds: u32, to: &mut S) -> Result<(), S::E
     to.put(b"\n")
 }
 
-// Puts that constraints remain.
-fn put_remaining<S: Sink>(rounds: u32, to: &mut S) -> Result<(), S::Error>
+/// Puts that constraints remain.
+pub fn put_remaining<S: Sink>(rounds: u32, to: &mut S) -> Result<(), S::Error>
     ensures { Puts (S.place to.old) (leftText rounds) result (S.place to.new) }
 {
     put_refused(to, Refusal::Unsolved)?;
@@ -164,8 +161,8 @@ fn put_remaining<S: Sink>(rounds: u32, to: &mut S) -> Result<(), S::Error>
     to.put(b"\n")
 }
 
-// Puts another refusal of the solver.
-fn put_stopped<S: Sink>(why: Refusal, rounds: u32, to: &mut S) -> Result<(), S::Error>
+/// Puts another refusal of the solver.
+pub fn put_stopped<S: Sink>(why: Refusal, rounds: u32, to: &mut S) -> Result<(), S::Error>
     ensures { (names : ℕ → Bytes) (text : Bytes) (cs new : ℕ)
         → Puts (S.place to.old) (findingText names text cs new (stops (number_of why) rounds)) result (S.place to.new) }
 {
@@ -175,68 +172,11 @@ fn put_stopped<S: Sink>(why: Refusal, rounds: u32, to: &mut S) -> Result<(), S::
     to.put(b"\n")
 }
 
-// Puts the judge's refusal.
-fn put_unjudged<S: Sink>(why: Refusal, to: &mut S) -> Result<(), S::Error>
+/// Puts the judge's refusal.
+pub fn put_unjudged<S: Sink>(why: Refusal, to: &mut S) -> Result<(), S::Error>
     ensures { (names : ℕ → Bytes) (text : Bytes) (cs new : ℕ)
         → Puts (S.place to.old) (findingText names text cs new (unjudged (number_of why))) result (S.place to.new) }
 {
     put_refused(to, why)?;
     to.put(b", by the judge\n")
-}
-
-// Puts what became of a sheet, with the rows that stand at the front of a list.
-fn put_outcome<S: Sink>(
-    names: NameTable,
-    page: Page,
-    outcome: Outcome,
-    records: &[u32],
-    to: &mut S,
-) -> Result<(), S::Error>
-    requires near { length records.now ≤ 4_000_000_000 }
-    requires there { (f : Finding) × IsFinding records.now outcome f }
-    ensures { (f : Finding) → IsFinding records.now outcome f
-        → Puts (S.place to.old)
-        (findingText (name_of names.entry.pool.now names.entry.table.now) page.entry.text.now page.entry.constraints page.entry.new f)
-        result (S.place to.new) }
-{
-    match outcome {
-        Outcome::Unseen(why) => put_unseen(to, why),
-        Outcome::Unread(stop) => put_unread(page.text, stop, to),
-        Outcome::Agrees {
-            bindings,
-            bounds,
-            rounds,
-        } => {
-            put_accepted(page, rounds, to)?;
-            put_rows(names, records, 0, bindings + bounds, to)
-        }
-        Outcome::Denied(k) => put_denied(page.text, k, to),
-        Outcome::Unjudged(why) => put_unjudged(why, to),
-        Outcome::Remains { end, rounds } => {
-            put_remaining(rounds, to)?;
-            put_rows(names, records, 0, end, to)
-        }
-        Outcome::Stops { why, rounds } => put_stopped(why, rounds, to),
-    }
-}
-
-/// Puts the page of a sheet. It asks for rows of what was found at the front of the records.
-pub fn put_page<S: Sink>(
-    names: NameTable,
-    page: Page,
-    outcome: Outcome,
-    records: &[u32],
-    to: &mut S,
-) -> Result<(), S::Error>
-    requires near { length records.now ≤ 4_000_000_000 }
-    requires there { (f : Finding) × IsFinding records.now outcome f }
-    ensures { (f : Finding) → IsFinding records.now outcome f
-        → Puts (S.place to.old)
-        (reportText (name_of names.entry.pool.now names.entry.table.now) page.entry.name.now page.entry.text.now page.entry.constraints page.entry.new f)
-        result (S.place to.new) }
-{
-    put_shown(to, page.name)?;
-    put_place(page.text, outcome, to)?;
-    to.put(b": ")?;
-    put_outcome(names, page, outcome, records, to)
 }

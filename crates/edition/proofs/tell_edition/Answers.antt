@@ -1,8 +1,6 @@
 -- `tell_edition` meets its contract: pages, and then the last line.
-use Rattle.std.specs.Prelude.{refl, Ok}
-use Rattle.std.proofs.Common.{rules, ◌≡◌, Err, ap, ◌∙◌}
-use Rattle.rules.specs.Names.{table_of}
-use Rattle.rules.specs.Reports.{acceptedIn}
+use Rattle.std.specs.Prelude.{refl}
+use Rattle.std.proofs.Common.{rules, ◌≡◌, Err, ◌∙◌}
 use Rattle.edition.specs.Files.{as-many}
 use Rattle.edition.specs.Told.{whole-told, whole-cut}
 use Rattle.edition.proofs.tell_edition.Goals as goal

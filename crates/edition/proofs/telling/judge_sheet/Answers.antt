@@ -1,6 +1,5 @@
 -- `judge_sheet` meets its contract: by what the sheet holds.
 use Rattle.std.specs.Prelude.{refl}
-use Rattle.std.proofs.Common.{sym}
 use Rattle.rules.specs.Calls.{solvedSet}
 use Rattle.rules.specs.Names.{table_of, numbersOf}
 use Rattle.edition.specs.Judged.{placed-same, found-set, found-unread, found-unseen}

@@ -1,7 +1,7 @@
 -- `put_row` meets its contract: by what the record at the place says.
 use Rattle.std.proofs.Common.{arith, sym, ◌∙◌}
 use Rattle.reporting.specs.Rows.{as_binding, as_bound, as_left}
-use Rattle.reporting.proofs.rows.put_row.Goals as goal
+use Rattle.reporting.proofs.inner.put_row.Goals as goal
 
 pub overflow_add-at : goal.overflow_add-at
 overflow_add-at g c =

@@ -1,7 +1,7 @@
 -- `put_page` meets its contract: piece by piece.
 use Rattle.rules.specs.Reports.{reportText}
 use Rattle.spelling.specs.Sinks.{cut, then}
-use Rattle.reporting.proofs.pages.put_page.Goals as goal
+use Rattle.reporting.proofs.inner.put_page.Goals as goal
 
 pub returns-in_err-put_shown : goal.returns-in_err-put_shown
 unfolding reportText

@@ -5,7 +5,7 @@ use Rattle.sheet_writing.specs.Parts.{name_of}
 use Rattle.spelling.specs.Sinks.{cut, then}
 use Rattle.reporting.specs.Found.{agrees-text, remains-text, left-there, solved-in, solved-there}
 use Rattle.reporting.specs.Rows.{left-rows, left-text, solved-rows, solved-text}
-use Rattle.reporting.proofs.pages.put_outcome.Goals as goal
+use Rattle.reporting.proofs.inner.put_outcome.Goals as goal
 
 pub returns-in-Unseen : goal.returns-in-Unseen
 unfolding findingText
