@@ -62,7 +62,10 @@ pub struct Room {
 
 impl Room {
     /// All zero.
-    pub fn new() -> Room {
+    pub fn new() -> Room
+        ensures res { result.res ≡ replicate 8192 0 }
+        ensures work { result.work ≡ replicate 16384 0 }
+    {
         Room {
             res: [0; RECORD_WORDS],
             work: [0; WORK_WORDS],
