@@ -6,3 +6,4 @@ pub mod Finding
 pub mod Entering
 pub mod Needed
 pub mod Worth
+pub mod Determined

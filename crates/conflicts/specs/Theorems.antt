@@ -1,5 +1,6 @@
 -- What an answer of `conflict` is worth. The functions of src/theorems promise these statements; the proofs stand in proofs/.
-use Rattle.std.specs.Prelude.{◌≡◌, List, [], ◌∷◌, ◌⊎◌, map, ℕ, length}
+use Rattle.std.specs.Prelude as std
+use Rattle.std.specs.Prelude.{Result, ◌≡◌, List, [], ◌∷◌, ◌⊎◌, map, ℕ, length}
 use Rattle.std.proofs.Math.Option.{some, none}
 use Rattle.rules.specs.Base.{got, keep}
 use Rattle.rules.specs.Calls.{setGiven, over}
@@ -7,6 +8,8 @@ use Rattle.rules.specs.Choices.{wide, ChoosingWide}
 use Rattle.rules.specs.Conflicts.{Conflict, Line, linesFrom, conflictCall}
 use Rattle.rules.specs.Names.{table_of, numbersOf}
 use Rattle.rules.specs.Trees.{Con}
+use Rattle.rules.specs.declared.Refusal.{Refusal}
+use Rattle.conflicts.specs.Told.{conflictsAs}
 
 -- some of a list, in its order
 abbrev pub PartOf : {A : Type 0} → List A → List A → Type 0
@@ -45,3 +48,15 @@ ConflictsAreTold = (pool table set result work : List ℕ) (many : ℕ) → (con
 abbrev pub NoneOnlyWithChoice : Type 0
 NoneOnlyWithChoice = (pool table set result work : List ℕ) → (conflictCall pool table set result work).answer ≡ got none
     → NoneTold pool table set result work
+
+-- ══ The contract decides ══
+
+pub record OneAnswer (p q : Result (std.Option ℕ) Refusal) (result result' work work' : List ℕ) : Type 0 where
+  pub answers : p ≡ q
+  pub results : result ≡ result'
+  pub works : work ≡ work'
+
+-- the contract of `conflict` leaves no choice: two results that it allows coincide
+abbrev pub ConflictDetermined : Type 0
+ConflictDetermined = (pool table set result work : List ℕ) (p q : Result (std.Option ℕ) Refusal) (a b c d : List ℕ)
+    → conflictsAs p a c ≡ conflictCall pool table set result work → conflictsAs q b d ≡ conflictCall pool table set result work → OneAnswer p q a b c d
