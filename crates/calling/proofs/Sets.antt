@@ -43,4 +43,5 @@ pub batch-is : (pool table a b result work front rest res' work' : List ℕ) (x 
 batch-is pool table a b result work front rest res' work' x n e i j h f w =
     let z : n ≡ at_most (at_most x 512) (length result) = e ∙ lesser _ _ ∙ ap (λ (k : ℕ). at_most k (length result)) (lesser x 512) in
     rw (f, w, ← z)
-    (ap (λ (s : Batch). batched n s) (h ∙ ap (λ (r : List ℕ). batchCall pool table a b r front work) j ∙ ap (λ (r : List ℕ). batchCall pool table a b (drop n result) r work) i))
+    (ap (λ (s : Batch). batched n s) (h ∙ ap (λ (r : List ℕ). batchCall pool table a b r front work) j
+    ∙ ap (λ (r : List ℕ). batchCall pool table a b (drop n result) r work) i))

@@ -5,7 +5,27 @@ use Rattle.std.proofs.Common.{◌∙◌}
 use Rattle.std.proofs.lemmas.List.Edits.{sets}
 use Rattle.rules.specs.Base.{Got}
 use Rattle.rules.specs.Names.{tableGiven}
-use Rattle.rules.specs.Calls.{Listed, Written, Solved, Solution, lent, setCall, typeCall, schemeCall, bindingsCall, containsCall, closedCall, variablesCall, addCall, replaceTypeCall, replaceSetCall, solveCall, quantifyCall, generaliseCall, instantiateCall}
+use Rattle.rules.specs.Calls.{
+  Listed,
+  Written,
+  Solved,
+  Solution,
+  lent,
+  setCall,
+  typeCall,
+  schemeCall,
+  bindingsCall,
+  containsCall,
+  closedCall,
+  variablesCall,
+  addCall,
+  replaceTypeCall,
+  replaceSetCall,
+  solveCall,
+  quantifyCall,
+  generaliseCall,
+  instantiateCall,
+}
 use Rattle.saying.specs.Saying.{checkedAs, askedAs, countedAs, writtenAs, addedAs, solvedAs}
 use Rattle.saying.specs.Dispatch.{done, looking, listing, listed, written, solution}
 use Rattle.saying.specs.declared.Asked.{Asked}
@@ -46,7 +66,8 @@ module _ (q : Asked) (pool table a : List ℕ) where
 -- ══ 19 to 27 ══
 
 module _ (q : Asked) (pool table a b c result work : List ℕ) where
-  pub list-19 : q.call ≡ 19 → {t : Told} {m : Got ℕ} {res : List ℕ} → t ≡ countedAs m → ◌≡◌ {A = Listed} (record { answer = m; result = res }) (variablesCall pool table a (eqb q.y 1) result)
+  pub list-19 : q.call ≡ 19 → {t : Told} {m : Got ℕ} {res : List ℕ} → t ≡ countedAs m
+      → ◌≡◌ {A = Listed} (record { answer = m; result = res }) (variablesCall pool table a (eqb q.y 1) result)
       → done t res work ≡ listing q pool table a b c result work
   unfolding listing
   list-19 e {res = res} f g = rw e (ap (λ (t : Told). done t res work) f ∙ ap (λ (l : Listed). listed l work) g)
@@ -59,7 +80,8 @@ module _ (q : Asked) (pool table a b c result work : List ℕ) where
 
   -- a call that writes records
   abbrev Wrote : Written → Type 0
-  Wrote w = (t : Told) (m : Got ℕ) (res work' : List ℕ) → t ≡ writtenAs m → ◌≡◌ {A = Written} (record { answer = m; result = res; work = work' }) w → done t res work' ≡ listing q pool table a b c result work
+  Wrote w = (t : Told) (m : Got ℕ) (res work' : List ℕ) → t ≡ writtenAs m → ◌≡◌ {A = Written} (record { answer = m; result = res; work = work' }) w
+      → done t res work' ≡ listing q pool table a b c result work
 
   wrote : (w : Written) → written w ≡ listing q pool table a b c result work → Wrote w
   wrote w e t m res work' f g = ap (λ (t : Told). done t res work') f ∙ ap written g ∙ e
@@ -72,7 +94,8 @@ module _ (q : Asked) (pool table a b c result work : List ℕ) where
   unfolding listing
   list-22 e = wrote _ (rw e refl)
 
-  pub list-23 : q.call ≡ 23 → {t : Told} {m : Solved} {res work' : List ℕ} → t ≡ solvedAs m → ◌≡◌ {A = Solution} (record { answer = m; result = res; work = work' }) (solveCall pool table a result work)
+  pub list-23 : q.call ≡ 23 → {t : Told} {m : Solved} {res work' : List ℕ} → t ≡ solvedAs m
+      → ◌≡◌ {A = Solution} (record { answer = m; result = res; work = work' }) (solveCall pool table a result work)
       → done t res work' ≡ listing q pool table a b c result work
   unfolding listing
   list-23 e {res = res} {work' = work'} f g = rw e (ap (λ (t : Told). done t res work') f ∙ ap solution g)

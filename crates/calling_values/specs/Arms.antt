@@ -11,7 +11,19 @@ use Rattle.rules.specs.Base.{Got, got, refused, collect}
 use Rattle.rules.specs.Exponents.{Exp}
 use Rattle.rules.specs.Refusals.{number_of}
 use Rattle.rules.specs.declared.Refusal.{Refusal}
-use Rattle.rules.specs.Values.{FactorValue, ProductValue, productValue, sumCall, timesCall, negationCall, quotientCall, multiplyCall, divideCall, inverseCall, raiseCall}
+use Rattle.rules.specs.Values.{
+  FactorValue,
+  ProductValue,
+  productValue,
+  sumCall,
+  timesCall,
+  negationCall,
+  quotientCall,
+  multiplyCall,
+  divideCall,
+  inverseCall,
+  raiseCall,
+}
 use Rattle.records.specs.Stores.{sets-append}
 use Rattle.products.specs.declared.Factor.{Factor}
 use Rattle.products.specs.declared.Product.{Product}
@@ -53,11 +65,13 @@ from-whole a p i count h k l e =
 
 -- ══ A product to words ══
 
-pub four-words : (d d₁ d₂ d₃ d₄ : List ℕ) (i k a b c : ℕ) → d₁ ≡ set d i k → d₂ ≡ set d₁ (i + 1) a → d₃ ≡ set d₂ (i + 2) b → d₄ ≡ set d₃ (i + 3) c → d₄ ≡ sets d i (k ∷ a ∷ b ∷ c ∷ [])
+pub four-words : (d d₁ d₂ d₃ d₄ : List ℕ) (i k a b c : ℕ) → d₁ ≡ set d i k → d₂ ≡ set d₁ (i + 1) a → d₃ ≡ set d₂ (i + 2) b → d₄ ≡ set d₃ (i + 3) c
+    → d₄ ≡ sets d i (k ∷ a ∷ b ∷ c ∷ [])
 four-words d d₁ d₂ d₃ d₄ i k a b c p q r t = cc (add-one i, add-two i, add-three i)
 
 -- one factor more: what is left to store falls by it
-pub put_step : (p : Product) (d d' : List ℕ) (i : ℕ) {R : List ℕ} → i < 64 → length p.factors ≡ 64 → d' ≡ sets d (i * 4) (factorWords (valueIn (get_or p.factors i unread)))
+pub put_step : (p : Product) (d d' : List ℕ) (i : ℕ) {R : List ℕ} → i < 64 → length p.factors ≡ 64
+    → d' ≡ sets d (i * 4) (factorWords (valueIn (get_or p.factors i unread)))
     → sets d (i * 4) (collect factorWords (drop i (given p).factors)) ≡ R → sets d' ((i + 1) * 4) (collect factorWords (drop (i + 1) (given p).factors)) ≡ R
 unfolding collect given
 put_step p d d' i h l e r =
@@ -67,9 +81,11 @@ put_step p d d' i h l e r =
     let lt : i < length fs = rw (length-map p.factors valueIn) (omega arith) in
     let e' : d' ≡ sets d (i * 4) (factorWords (get_or fs i (valueIn unread))) = e ∙ ap (λ (v : FactorValue). sets d (i * 4) (factorWords v)) f in
     rw (n, add-one i, e')
-    (sym (sets-append (factorWords (get_or fs i (valueIn unread))) (collect factorWords (drop (suc i) fs)) d (i * 4)) ∙ sym (ap (λ (l : List FactorValue). sets d (i * 4) (collect factorWords l)) (drop-cons fs i (valueIn unread) lt)) ∙ r)
+    (sym (sets-append (factorWords (get_or fs i (valueIn unread))) (collect factorWords (drop (suc i) fs)) d (i * 4))
+    ∙ sym (ap (λ (l : List FactorValue). sets d (i * 4) (collect factorWords l)) (drop-cons fs i (valueIn unread) lt)) ∙ r)
 
-pub put-end : (p : Product) (d : List ℕ) (i : ℕ) {R : List ℕ} → 64 ≤ i → length p.factors ≡ 64 → sets d (i * 4) (collect factorWords (drop i (given p).factors)) ≡ R → d ≡ R
+pub put-end : (p : Product) (d : List ℕ) (i : ℕ) {R : List ℕ} → 64 ≤ i → length p.factors ≡ 64
+    → sets d (i * 4) (collect factorWords (drop i (given p).factors)) ≡ R → d ≡ R
 unfolding collect given
 put-end p d i h l r =
     let le : length (map valueIn p.factors) ≤ i = rw (length-map p.factors valueIn) (omega arith) in
@@ -90,7 +106,8 @@ module _ (p : Product) (m : Got Tree) where
   pub made_long : got (given p) ≡ answer m → length p.factors ≡ 64
   made_long e = made-long [] [] p (productOr m) (made-value e)
 
-  pub told-made : (d d' : List ℕ) (r : said.Told) → got (given p) ≡ answer m → d' ≡ sets d 0 (collect factorWords (given p).factors) → r ≡ saidAs (word p.len) 0 256 → shown r d' ≡ productShown m d
+  pub told-made : (d d' : List ℕ) (r : said.Told) → got (given p) ≡ answer m → d' ≡ sets d 0 (collect factorWords (given p).factors)
+      → r ≡ saidAs (word p.len) 0 256 → shown r d' ≡ productShown m d
   unfolding productShown answer given productValue
   told-made d d' r e w h = go m e
     where
@@ -135,17 +152,21 @@ module _ (n : ℕ) (a : List ℕ) (x y : Exp) (i : x ≡ exponentAt a 0) (j : y 
 module _ (q : Asked) (a b pool table result : List ℕ) (v w : ProductValue) (i : v ≡ productAt a q.x) (j : w ≡ productAt b q.y) {s : Shown} where
   pub product-9 : q.call ≡ 9 → s ≡ productShown (multiplyCall pool table v w) result → s ≡ products q a b pool table result
   unfolding products
-  product-9 e g = rw e (g ∙ ap (λ (v : ProductValue). productShown (multiplyCall pool table v w) result) i ∙ ap (λ (w : ProductValue). productShown (multiplyCall pool table (productAt a q.x) w) result) j)
+  product-9 e g = rw e (g ∙ ap (λ (v : ProductValue). productShown (multiplyCall pool table v w) result) i
+      ∙ ap (λ (w : ProductValue). productShown (multiplyCall pool table (productAt a q.x) w) result) j)
 
   pub product-10 : q.call ≡ 10 → s ≡ productShown (divideCall pool table v w) result → s ≡ products q a b pool table result
   unfolding products
-  product-10 e g = rw e (g ∙ ap (λ (v : ProductValue). productShown (divideCall pool table v w) result) i ∙ ap (λ (w : ProductValue). productShown (divideCall pool table (productAt a q.x) w) result) j)
+  product-10 e g = rw e (g ∙ ap (λ (v : ProductValue). productShown (divideCall pool table v w) result) i
+      ∙ ap (λ (w : ProductValue). productShown (divideCall pool table (productAt a q.x) w) result) j)
 
   pub product-11 : q.call ≡ 11 → s ≡ productShown (inverseCall pool table v) result → s ≡ products q a b pool table result
   unfolding products
   product-11 e g = rw e (g ∙ ap (λ (v : ProductValue). productShown (inverseCall pool table v) result) i)
 
-  pub product-12 : eqb q.call 9 ≡ false → eqb q.call 10 ≡ false → eqb q.call 11 ≡ false → (x : Exp) → x ≡ exponentAt b 0 → s ≡ productShown (raiseCall pool table v x) result → s ≡ products q a b pool table result
+  pub product-12 : eqb q.call 9 ≡ false → eqb q.call 10 ≡ false → eqb q.call 11 ≡ false → (x : Exp) → x ≡ exponentAt b 0
+      → s ≡ productShown (raiseCall pool table v x) result → s ≡ products q a b pool table result
   unfolding products
   product-12 e₁ e₂ e₃ x k g =
-      rw (e₁, e₂, e₃) (g ∙ ap (λ (v : ProductValue). productShown (raiseCall pool table v x) result) i ∙ ap (λ (x : Exp). productShown (raiseCall pool table (productAt a q.x) x) result) k)
+      rw (e₁, e₂, e₃) (g ∙ ap (λ (v : ProductValue). productShown (raiseCall pool table v x) result) i
+      ∙ ap (λ (x : Exp). productShown (raiseCall pool table (productAt a q.x) x) result) k)

@@ -58,7 +58,8 @@ module _ {N : Type 0} where
 
   part-reduced : (f : Part N) → rationalPart f ≡ true → Reduced f
   unfolding rationalPart
-  part-reduced (u to frac n d) h = terms-lowest n d (coprime-terms n d (leb-true 1 d (and_left (leb 1 d) _ h)) (eqb-true (gcd (nat_abs n) d) 1 (and_right (leb 1 d) _ h)))
+  part-reduced (u to frac n d) h = terms-lowest n d
+      (coprime-terms n d (leb-true 1 d (and_left (leb 1 d) _ h)) (eqb-true (gcd (nat_abs n) d) 1 (and_right (leb 1 d) _ h)))
 
   reduced-part : (f : Part N) → Reduced f → rationalPart f ≡ true
   unfolding rationalPart
@@ -90,7 +91,8 @@ module _ {N : Type 0} where
     pub comes-reduced : (Held : Atom N → Type 0) (p : Product N) → Every (Sound Held) p → Every Reduced (comesTo c p)
     unfolding comesTo
     comes-reduced Held [] h = tt
-    comes-reduced Held (a ↑ e ∷ p) h = every_append Reduced (scaled (chosenFor c a) e) (comesTo c p) (scaled-reduced (chosenFor c a) e (chosen-reduced a) h.0.1) (comes-reduced Held p h.1)
+    comes-reduced Held (a ↑ e ∷ p) h = every_append Reduced (scaled (chosenFor c a) e) (comesTo c p)
+        (scaled-reduced (chosenFor c a) e (chosen-reduced a) h.0.1) (comes-reduced Held p h.1)
 
 -- ══ One parameter or base dimension ══
 
@@ -154,7 +156,8 @@ module _ {N : Type 0} (same : Discrete N) (c : Choice N) (r : Rational c) where
   unfolding power comesTo worth
   comes-worth Held u [] h = refl
   comes-worth Held u (a ↑ e ∷ p) h =
-      power-append same u (scaled (chosenFor c a) e) (comesTo c p) (scaled-reduced (chosenFor c a) e (chosen-reduced c r a) h.0.1) (comes-reduced c r Held p h.1)
+      power-append same u (scaled (chosenFor c a) e) (comesTo c p) (scaled-reduced (chosenFor c a) e (chosen-reduced c r a) h.0.1)
+      (comes-reduced c r Held p h.1)
       ∙ ap₂ plus (power-scaled same u (chosenFor c a) e (chosen-reduced c r a) h.0.1) (comes-worth Held u p h.1)
 
   module _ (ν : Names N) (law : Lawful (orderAtom ν)) (held : N → Bool) where
@@ -198,7 +201,8 @@ module _ {N : Type 0} (ν : Names N) (law : Lawful ν.order) (c : Choice N) wher
   later-power (free (par x)) (free (var y)) u e o = let z : ◌≡◌ {A = ℕ} 0 1 = cc in absurd (omega arith)
   later-power (free (par x)) (free (quant j)) u e o = let z : ◌≡◌ {A = ℕ} 0 1 = cc in absurd (omega arith)
   later-power (free (par x)) (free (par y)) u e o = let z : parameter x ≡ u = cc in rw (sym z) (other (parameter x) (parameter y) (λ i. unordered x y o (cc)))
-  later-power (free (par x)) (base m) u e o = let z : parameter x ≡ u = cc in rw (sym z) (other (parameter x) (baseDimension m) (λ i. let y : ◌≡◌ {A = ℕ} 0 1 = cc in omega arith))
+  later-power (free (par x)) (base m) u e o = let z : parameter x ≡ u = cc
+      in rw (sym z) (other (parameter x) (baseDimension m) (λ i. let y : ◌≡◌ {A = ℕ} 0 1 = cc in omega arith))
   later-power (base n) (free p) u e o = let z : ◌≡◌ {A = ℕ} 0 1 = cc in absurd (omega arith)
   later-power (base n) (base m) u e o = let z : baseDimension n ≡ u = cc in rw (sym z) (other (baseDimension n) (baseDimension m) (λ i. unordered n m o (cc)))
 

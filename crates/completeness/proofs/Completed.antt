@@ -43,8 +43,10 @@ module _ {N : Type 0} (same : Discrete N) (c d : Choice N) (u : Fixed N) where
       → worth (measured same c u) p ≡ worth (measured same d u) p
   unfolding worth opens collect
   worth-same [] h = refl
-  worth-same (free o ↑ e ∷ p) h = ap₂ (λ (y z : Exp). plus (mul y e) z) (measured-same (free o) (λ x i. h x (let j : o ≡ var x = cc in rw j in_head))) (worth-same p (λ x m. h x (Memᴰ.tail m)))
-  worth-same (base n ↑ e ∷ p) h = ap₂ (λ (y z : Exp). plus (mul y e) z) (measured-same (base n) (λ x i. let z : ◌≡◌ {A = ℕ} 0 1 = cc in absurd (omega arith))) (worth-same p h)
+  worth-same (free o ↑ e ∷ p) h = ap₂ (λ (y z : Exp). plus (mul y e) z)
+      (measured-same (free o) (λ x i. h x (let j : o ≡ var x = cc in rw j in_head))) (worth-same p (λ x m. h x (Memᴰ.tail m)))
+  worth-same (base n ↑ e ∷ p) h = ap₂ (λ (y z : Exp). plus (mul y e) z)
+      (measured-same (base n) (λ x i. let z : ◌≡◌ {A = ℕ} 0 1 = cc in absurd (omega arith))) (worth-same p h)
 
 -- ══ What a side comes to ══
 
@@ -101,7 +103,8 @@ module _ {N : Type 0} (ν : Names N) (held : N → Bool) (w : Bool) (c d : Choic
       → value (measured ν.same c u) t ≡ value (measured ν.same d u) t
   unfolding opens chosenFor
   value-same t (a-product p h e) f = rw e (worth-same ν.same c d u p (rw e at f))
-  value-same t (a-variable y v h e) f = let g : (z : N) → Memᴰ (var z) (var y ∷ []) → power ν.same u (c z) ≡ power ν.same u (d z) = rw e at f in rw e (g y in_head)
+  value-same t (a-variable y v h e) f = let g : (z : N) → Memᴰ (var z) (var y ∷ [])
+      → power ν.same u (c z) ≡ power ν.same u (d z) = rw e at f in rw e (g y in_head)
 
 -- ══ Bindings in solved form ══
 

@@ -21,7 +21,8 @@ use Rattle.completeness.proofs.Same as Same
 
 -- ══ On trees: names whose order, by bytes, is lawful and tells the held ones apart ══
 
-module _ {N : Type 0} (ν : Names N) (held : N → Bool) (lawful : Lawful ν.order) (tells : Tells (λ n. held n ≡ true) ν.order) (cs : List (Con N)) (given : DimensionSet ν held cs) where
+module _ {N : Type 0} (ν : Names N) (held : N → Bool) (lawful : Lawful ν.order) (tells : Tells (λ n. held n ≡ true) ν.order) (cs : List (Con N))
+    (given : DimensionSet ν held cs) where
   -- the solver stops with 7 or 8 alone: 6 can't come, and the rounds never run out
   pub only-7-and-8 : (n k : ℕ) → solve ν bounded cs ≡ stopped n k → (n ≡ 7) ⊎ (n ≡ 8)
   only-7-and-8 = Trees.dims-only-limits ν held lawful tells cs given
@@ -50,7 +51,8 @@ module _ (pool table set result work : List ℕ) (cs : List (Con ℕ)) (read : s
 
 -- ══ Wide sets: sides may be variables, and is-dimension may stand in them ══
 
-module _ {N : Type 0} (ν : Names N) (held : N → Bool) (lawful : Lawful ν.order) (tells : Tells (λ n. held n ≡ true) ν.order) (cs : List (Con N)) (given : WideSet ν held cs) where
+module _ {N : Type 0} (ν : Names N) (held : N → Bool) (lawful : Lawful ν.order) (tells : Tells (λ n. held n ≡ true) ν.order) (cs : List (Con N))
+    (given : WideSet ν held cs) where
   -- 7 or 8 alone; 5 exactly when there is no choice; an accepted answer gives all choices
   pub wide-decided : WideDecided ν cs
   wide-decided =

@@ -155,7 +155,8 @@ choices-differ = (refl, refl)
 -- y is L, x nothing: that is no choice which makes it true, so bound variables aren't free to choose
 pub not-any : MakesAllTrue same y-is-L open-two → ⊥
 unfolding rules pool table power scaled chosenFor comesTo MakesTrue y-is-L
-not-any f = let e : one ≡ nought = f (is_scalar (free (var x) ↑ one ∷ free (var y) ↑ one ∷ free (var z) ↑ one ∷ [])) in_head (baseDimension L) in let i : ◌≡◌ {A = ℕ} 0 1 = cc in omega arith
+not-any f = let e : one ≡ nought = f (is_scalar (free (var x) ↑ one ∷ free (var y) ↑ one ∷ free (var z) ↑ one ∷ [])) in_head (baseDimension L)
+    in let i : ◌≡◌ {A = ℕ} 0 1 = cc in omega arith
 
 -- ══ K5, equal-scalar x^2 L^-3: x is L^(3/2), and whole powers alone wouldn't do ══
 
@@ -194,7 +195,8 @@ whole-power u (v to e ∷ d) h = at_part same u Whole v e d (λ i. whole_sum e (
 pub whole-none : (c : Choice ℕ) → Rational c → ((v : ℕ) → Every WholePart (c v)) → MakesAllTrue same c k5 → ⊥
 unfolding rules pool table power scaled chosenFor comesTo
 whole-none c r w f =
-    let e : power same (baseDimension L) (c x) ≡ frac (pos 3) 2 = (told k5 k5-bindings 1 k5-given k5-solved).bound-so c r f x (base L ↑ frac (pos 3) 2 ∷ []) in_head (baseDimension L) in
+    let e : power same (baseDimension L) (c x) ≡ frac (pos 3) 2 =
+    (told k5 k5-bindings 1 k5-given k5-solved).bound-so c r f x (base L ↑ frac (pos 3) 2 ∷ []) in_head (baseDimension L) in
     let n = whole-power (baseDimension L) (c x) (w x) in
     let i : frac n.0 1 ≡ frac (pos 3) 2 = sym n.1 ∙ e in
     let j : ◌≡◌ {A = ℕ} 1 2 = cc in omega arith
@@ -218,7 +220,11 @@ k14-answer = refl
 -- nothing for every variable
 pub k14-choice : Choosing same k14
 unfolding rules pool table power scaled chosenFor comesTo MakesTrue
-k14-choice = record { choice = λ v. []; rational = λ v. refl; makes = λ k m. subst (λ (c : Con ℕ). MakesTrue same (λ v. []) c) (sym (Memᴰ.eq_of_singleton m)) (λ u. refl) }
+k14-choice = record {
+  choice = λ v. [];
+  rational = λ v. refl;
+  makes = λ k m. subst (λ (c : Con ℕ). MakesTrue same (λ v. []) c) (sym (Memᴰ.eq_of_singleton m)) (λ u. refl);
+}
 
 -- ══ Outside: not every side is a dimension ══
 
@@ -283,7 +289,8 @@ unfolding rules pool table isSide wide
 follow-given = record { well-formed = refl; sides = refl }
 
 pub follow-completes : (c : Choice ℕ) → Rational c → MakesAllWideTrue same (completedWide same (y ≔ opened (var x) ∷ []) c) follow
-follow-completes c r = (((wide-decided names held (numbered-lawful _) (held-apart pool table good-table) follow follow-given).all-choices _ _ _ follow-solved).completes c r).1
+follow-completes c r = (((wide-decided names held (numbered-lawful _) (held-apart pool table good-table) follow follow-given).all-choices _ _ _
+    follow-solved).completes c r).1
 
 pub follow-comes : (c : Choice ℕ) → completedWide same (y ≔ opened (var x) ∷ []) c y ≡ c x
 unfolding rules pool table sideComesTo completedWide

@@ -82,8 +82,10 @@ module _ {N : Type 0} (ν : Names N) (law : Lawful (orderAtom ν)) (held : N →
         let le = good-lowest e (stored-good e h.1) in
         let X = mul (g (free o)) e in
         let lX : Lowest X = mul-in-lowest (g (free o)) e (low (free o)) le in
-        let more-worth : worth g more ≡ X = ap (worth g) (raise-value ν d e more j) ∙ worth-raise ν law tells g low d e (proper d gd).each le ∙ ap (λ (y : Exp). mul y e) (sym same) in
-        let left-worth : worth g left ≡ plus (worth g acc) (neg X) = divide-worth acc (free o ↑ e ∷ []) left ga f i ∙ ap (λ (y : Exp). plus (worth g acc) (neg y)) (factor-worth o e h) in
+        let more-worth : worth g more ≡ X = ap (worth g) (raise-value ν d e more j) ∙ worth-raise ν law tells g low d e (proper d gd).each le
+        ∙ ap (λ (y : Exp). mul y e) (sym same) in
+        let left-worth : worth g left ≡ plus (worth g acc) (neg X) = divide-worth acc (free o ↑ e ∷ []) left ga f i
+        ∙ ap (λ (y : Exp). plus (worth g acc) (neg y)) (factor-worth o e h) in
         ap (worth g) (multiply-value ν left more r k)
         ∙ worth-merge ν law tells g low left more (proper left gl).each (proper more gm).each
         ∙ ap₂ plus left-worth more-worth
@@ -102,7 +104,8 @@ module _ {N : Type 0} (ν : Names N) (law : Lawful (orderAtom ν)) (held : N →
         go (inr i) f = rw (i.1, replaceFactors) (f acc k)
         go (inl i) f =
             rw (i.1, replaceFactors)
-            (next (together (divide-good ν law held 0 acc (free o ↑ e ∷ []) k (one-factor o e h.0)) (its_own (divide ν bounded acc (free o ↑ e ∷ [])))) (λ left m.
+            (next (together (divide-good ν law held 0 acc (free o ↑ e ∷ []) k (one-factor o e h.0))
+            (its_own (divide ν bounded acc (free o ↑ e ∷ [])))) (λ left m.
             next (together (raise-good ν law held 0 d e gd (stored-good e h.0.1)) (its_own (raise ν bounded d e))) (λ more n.
             next (together (multiply_good ν law held 0 left more m.0 n.0) (its_own (multiply ν bounded left more))) (λ acc' j.
             weaken (f acc' j.0) (λ r z. z ∙ step-worth o e h.0 (ap (λ (u : Open N). g (free u)) i.0 ∙ keeps) acc left more acc' k m.0 n.0 m.1 n.1 j.1)))))
@@ -115,7 +118,8 @@ module _ {N : Type 0} (ν : Names N) (law : Lawful (orderAtom ν)) where
   -- a variable stands before none of its own name
   pub alone : (x : N) (f : Factor N) → orderAtom ν (free (var x)) (atomOf f) ≡ Ordering.lt → OnFactor (λ o. o ≡ var x → ⊥) f
   alone x (base n ↑ e) h = tt
-  alone x (free o ↑ e) h = λ i. let j : orderAtom ν (free (var x)) (free o) ≡ Ordering.eq = rw i (self law (free (var x))) in let z : ◌≡◌ {A = ℕ} 0 1 = cc in omega arith
+  alone x (free o ↑ e) h = λ i. let j : orderAtom ν (free (var x)) (free o) ≡ Ordering.eq = rw i (self law (free (var x)))
+      in let z : ◌≡◌ {A = ℕ} 0 1 = cc in omega arith
 
 -- ══ An equal-scalar, and what its first variable is bound to ══
 

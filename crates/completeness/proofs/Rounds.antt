@@ -8,13 +8,51 @@ use mathlib.Core.List.Memᴰ
 use mathlib.Core.List.{List, [], ◌∷◌, ◌++◌, Memᴰ}
 use Rattle.rules.specs.Base.{got, bounded, each, collect}
 use Rattle.rules.specs.Exponents.{Exp, neg, plus}
-use Rattle.rules.specs.Trees.{Open, openOfFactor, opensCon, var, Atom, free, ◌↑◌, Product, Names, Ty, opened, dim, Con, equal, isDim, is_scalar, hasField, Binding, ◌≔◌, orderAtom, opens}
+use Rattle.rules.specs.Trees.{
+  Open,
+  openOfFactor,
+  opensCon,
+  var,
+  Atom,
+  free,
+  ◌↑◌,
+  Product,
+  Names,
+  Ty,
+  opened,
+  dim,
+  Con,
+  equal,
+  isDim,
+  is_scalar,
+  hasField,
+  Binding,
+  ◌≔◌,
+  orderAtom,
+  opens,
+}
 use Rattle.rules.specs.Products.{just, inverse}
 use Rattle.rules.specs.Replacing.{Look, replaceTy, replaceCon, replaceBinding, bindings}
 use Rattle.rules.specs.Rounds.{Step, bind, split, done, stuck, State, firstRules, dimensions, by_kind, trySatisfy, firstStep, perform, performed, round}
 use Rattle.rules.specs.WellFormed.{goodProduct, goodTy, goodCon}
 use Rattle.laws.specs.Order.{Lawful, Tells}
-use Rattle.laws.specs.Lists.{true≢false, and_left, and_right, and_both, All, all_nil, all_cons, all_append, in_head, one-step, Every, every-as, Came, each-came, each-went}
+use Rattle.laws.specs.Lists.{
+  true≢false,
+  and_left,
+  and_right,
+  and_both,
+  All,
+  all_nil,
+  all_cons,
+  all_append,
+  in_head,
+  one-step,
+  Every,
+  every-as,
+  Came,
+  each-came,
+  each-went,
+}
 use Rattle.laws.specs.Fractions.{Lowest}
 use Rattle.laws.specs.ExactProducts.{mergeE, divide-value, divide-exact}
 use Rattle.laws.specs.ExactSolve.{con-below}
@@ -23,13 +61,57 @@ use Rattle.laws.specs.Exact.{divide-below, ty_below}
 use Rattle.laws.specs.GoodProducts.{goodAtom, good-product}
 use Rattle.laws.specs.KeepsGood.{GoodBind, rule-good, other-side-good}
 use Rattle.laws.specs.Refusing.{given as fine, onward}
-use Rattle.laws.specs.RuleCases.{Reads, Sides, After, Rule, rule, part_of, not-contained, none-applies, equal-records, binds, two-functions, two-lists, two-structs, as-product, two-dimensions, dimension, no-factor, first-factor, closed-struct}
+use Rattle.laws.specs.RuleCases.{
+  Reads,
+  Sides,
+  After,
+  Rule,
+  rule,
+  part_of,
+  not-contained,
+  none-applies,
+  equal-records,
+  binds,
+  two-functions,
+  two-lists,
+  two-structs,
+  as-product,
+  two-dimensions,
+  dimension,
+  no-factor,
+  first-factor,
+  closed-struct,
+}
 use Rattle.laws.specs.Turns.{Found, found, Bound, Split, Taken, Turn, bound, parted, dropped}
 use Rattle.completeness.specs.Claims.{◌⇔◌}
 use Rattle.completeness.proofs.Worth.{same-difference, no_difference, worth, worth-just}
 use Rattle.completeness.proofs.Products.{Good, worth-low, divide-worth, first-right, alone}
 use Rattle.completeness.proofs.Limits.{Limited, below, each-limited, or-limited, scalar-limited, taken-limited, state-limited}
-use Rattle.completeness.proofs.Sides.{sideIn, wideIn, Sided, a-product, a-variable, sided, sided-good, Wide, scalar-of, equality-of, dimension-of, widely, wide-good, wide-wide, value, RightWide, BoundWide, type-side, con-side, type-limits, con-limits, con-value, bound-value}
+use Rattle.completeness.proofs.Sides.{
+  sideIn,
+  wideIn,
+  Sided,
+  a-product,
+  a-variable,
+  sided,
+  sided-good,
+  Wide,
+  scalar-of,
+  equality-of,
+  dimension-of,
+  widely,
+  wide-good,
+  wide-wide,
+  value,
+  RightWide,
+  BoundWide,
+  type-side,
+  con-side,
+  type-limits,
+  con-limits,
+  con-value,
+  bound-value,
+}
 
 -- ══ Bindings, replaced in order ══
 
@@ -161,7 +243,11 @@ module _ {N : Type 0} (ν : Names N) (law : Lawful (orderAtom ν)) (held : N →
       let f' : All P (opensCon (is_scalar (free (var x) ↑ j ∷ p))) = rw i at f in
       let g = good-product ν law held 0 (free (var x) ↑ j ∷ p) (rw i at k) in
       let same : collect openOfFactor q ≡ collect openOfFactor p = other-opens bounded j p q n in
-      rw (e, same) (f' (var x) in_head, λ o m. f' o (Memᴰ.tail m), λ m. each_opens (λ o. o ≡ var x → ⊥) p (every-as (alone ν law x) p g.in_order.0) (var x) m refl)
+      rw (e, same) (
+        f' (var x) in_head,
+        λ o m. f' o (Memᴰ.tail m),
+        λ m. each_opens (λ o. o ≡ var x → ⊥) p (every-as (alone ν law x) p g.in_order.0) (var x) m refl,
+      )
   after-open c s h k (closed-struct m o as' fs t u a b i e) f = outside w c _ h i refl
 
 -- ══ Truth after a rule ══
@@ -184,7 +270,8 @@ module _ {N : Type 0} (ν : Names N) (law : Lawful (orderAtom ν)) (held : N →
 
   good-dims : (c : Con N) (p q : Product N) → goodCon ν held 0 c ≡ true → c ≡ equal (dim p) (dim q) → Good ν held p × Good ν held q
   unfolding goodCon goodTy
-  good-dims c p q h e = let k = rw e at h in (and_left (goodProduct ν held 0 p) (goodProduct ν held 0 q) k, and_right (goodProduct ν held 0 p) (goodProduct ν held 0 q) k)
+  good-dims c p q h e = let k = rw e at h
+      in (and_left (goodProduct ν held 0 p) (goodProduct ν held 0 q) k, and_right (goodProduct ν held 0 p) (goodProduct ν held 0 q) k)
 
   good-scalar : (c : Con N) (p : Product N) → goodCon ν held 0 c ≡ true → c ≡ is_scalar p → Good ν held p
   unfolding goodCon
@@ -327,13 +414,17 @@ module _ {N : Type 0} (ν : Names N) (law : Lawful (orderAtom ν)) (held : N →
           go : Wide ν held w c → All (Unbound s'.binds) (opensBinding c')
           go (scalar-of p h i) = on (rw i (rw i at f))
           go (equality-of u v h k i) = on (rw i (rw i at f))
-          go (dimension-of u v h i) = let o = one-step (replaceTy ν bounded (bindings ν (b.x ≔ b.t ∷ [])) u) isDim c' (rw i at e) in rw (sym o.is) (all_nil (Unbound s'.binds))
+          go (dimension-of u v h i) = let o = one-step (replaceTy ν bounded (bindings ν (b.x ≔ b.t ∷ [])) u) isDim c' (rw i at e)
+              in rw (sym o.is) (all_nil (Unbound s'.binds))
 
       bound-fit : K s'
       bound-fit = record {
-        cons-wide = λ c' m. let c = con-came c' m in (con-side ν law held w b.x b.t new-sided c.of (rest-wide s k (bind b.x b.t) b.rest b.found c.of c.within)).holds c' c.by;
+        cons-wide = λ c' m. let c = con-came c' m
+            in (con-side ν law held w b.x b.t new-sided c.of (rest-wide s k (bind b.x b.t) b.rest b.found c.of c.within)).holds c' c.by;
         binds-sided = λ y t' m. go y t' (bindings-after y t' m);
-        cons-open = λ c' m. let c = con-came c' m in con-opened c.of c' (rest-wide s k (bind b.x b.t) b.rest b.found c.of c.within) (rest-open s k (bind b.x b.t) b.rest b.found c.of c.within) c.by;
+        cons-open = λ c' m. let c = con-came c' m
+            in con-opened c.of c' (rest-wide s k (bind b.x b.t) b.rest b.found c.of c.within)
+            (rest-open s k (bind b.x b.t) b.rest b.found c.of c.within) c.by;
         binds-open = λ y t' m. bind-opened y t' (bindings-after y t' m);
         once = λ y t u m n. one_only y t u (bindings-after y t m) (bindings-after y u n);
       }
@@ -365,7 +456,8 @@ module _ {N : Type 0} (ν : Names N) (law : Lawful (orderAtom ν)) (held : N →
   turn-fit tells s s' k (parted b) = record {
     cons-wide = rw b.joined (all_append (Wide ν held w) b.rest (rest-wide s k (split b.new) b.rest b.found) (put s k (split b.new) b.rest b.found));
     binds-sided = rw b.same k.binds-sided;
-    cons-open = rw (b.joined, b.same) (all_append (λ c. All (Unbound s.binds) (opensBinding c)) b.rest (rest-open s k (split b.new) b.rest b.found) (put-open s k (split b.new) b.rest b.found));
+    cons-open = rw (b.joined, b.same) (all_append (λ c. All (Unbound s.binds) (opensBinding c)) b.rest (rest-open s k (split b.new) b.rest b.found)
+        (put-open s k (split b.new) b.rest b.found));
     binds-open = rw b.same k.binds-open;
     once = rw b.same k.once;
   }
@@ -439,8 +531,12 @@ module _ {N : Type 0} (ν : Names N) (law : Lawful (orderAtom ν)) (held : N →
 
     split-wide : (s s' : State N) → K s → Split ν bounded s s' → AllWide g s ⇔ AllWide g s'
     split-wide s s' k b = (
-      λ r. let p = parted-right.0 r.cons_right in record { cons_right = rw b.joined (all_append (RightWide g) b.rest p.1 (iff.0 p.0)); binds-right = rw b.same r.binds-right },
-      λ r. record { cons_right = parted-right.1 (iff.1 (λ c m. there r c (Memᴰ.append_right b.rest m)), λ c m. there r c (Memᴰ.append_left b.new m)); binds-right = rw (sym b.same) r.binds-right },
+      λ r. let p = parted-right.0 r.cons_right
+          in record { cons_right = rw b.joined (all_append (RightWide g) b.rest p.1 (iff.0 p.0)); binds-right = rw b.same r.binds-right },
+      λ r. record {
+        cons_right = parted-right.1 (iff.1 (λ c m. there r c (Memᴰ.append_right b.rest m)), λ c m. there r c (Memᴰ.append_left b.new m));
+        binds-right = rw (sym b.same) r.binds-right;
+      },
     )
       where
         iff : RightWide g b.found.con ⇔ All (RightWide g) b.new
@@ -486,7 +582,8 @@ module _ {N : Type 0} (ν : Names N) (law : Lawful (orderAtom ν)) (held : N →
     first-limits [] h = fine
     first-limits (c ∷ cs) h = onward (try-limits c (h c in_head)) (λ s i. taken-limited ν law held tells s c cs (first-limits cs (λ d m. h d (Memᴰ.tail m))))
 
-    binding-limits : (x : N) (t : Ty N) → Sided ν held w t → (b : Binding N) → ((y : N) (u : Ty N) → b ≡ y ≔ u → Sided ν held w u) → Limited (replaceBinding ν bounded (bindings ν (x ≔ t ∷ [])) b)
+    binding-limits : (x : N) (t : Ty N) → Sided ν held w t → (b : Binding N) → ((y : N) (u : Ty N) → b ≡ y ≔ u → Sided ν held w u)
+        → Limited (replaceBinding ν bounded (bindings ν (x ≔ t ∷ [])) b)
     unfolding replaceBinding
     binding-limits x t st (y ≔ u) h = onward (type-limits ν law held w x t st u (h y u refl)) (λ v i. fine)
 

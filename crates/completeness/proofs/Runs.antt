@@ -11,7 +11,24 @@ use Rattle.rules.specs.Base.{Got, got, refused, bounded, only_if, ◌or_else◌,
 use Rattle.rules.specs.Exponents.{Exp}
 use Rattle.rules.specs.Trees.{var, Atom, Product, Names, Ty, opened, dim, Con, equal, isDim, is_scalar, hasField, ty-dec, orderAtom, opens}
 use Rattle.rules.specs.Contents.{contains}
-use Rattle.rules.specs.Rounds.{Step, bind, split, done, stuck, State, bindTo, firstRules, orTry, dimensions, by_kind, dimensionParts, variableLeft, asProducts, trySatisfy, round}
+use Rattle.rules.specs.Rounds.{
+  Step,
+  bind,
+  split,
+  done,
+  stuck,
+  State,
+  bindTo,
+  firstRules,
+  orTry,
+  dimensions,
+  by_kind,
+  dimensionParts,
+  variableLeft,
+  asProducts,
+  trySatisfy,
+  round,
+}
 use Rattle.rules.specs.Solving.{Answer, accepted, remaining, stopped, boundOf, finished, finish, after, run, solve}
 use Rattle.rules.specs.Choices.{Fixed, Choice, Rational}
 use Rattle.laws.specs.Order.{Lawful, Tells}
@@ -51,7 +68,8 @@ module _ {N : Type 0} (ν : Names N) where
   taken_none (bind x t) c cs e = let z : ◌≡◌ {A = ℕ} 0 1 = cc in absurd (omega arith)
   taken_none (split new) c cs e = let z : ◌≡◌ {A = ℕ} 0 1 = cc in absurd (omega arith)
   taken_none done c cs e = let z : ◌≡◌ {A = ℕ} 0 1 = cc in absurd (omega arith)
-  taken_none stuck c cs e = let o = one-step (firstStep ν bounded cs) (λ r. and_then r (λ v. some (v.0, c ∷ v.1))) none e in (refl, o.gave ∙ ap got (go o.value o.is))
+  taken_none stuck c cs e = let o = one-step (firstStep ν bounded cs) (λ r. and_then r (λ v. some (v.0, c ∷ v.1))) none e
+      in (refl, o.gave ∙ ap got (go o.value o.is))
     where
       go : (r : Option (Step N × List (Con N))) → and_then {B = Step N × List (Con N)} r (λ v. some (v.0, c ∷ v.1)) ≡ none → r ≡ none
       go none i = refl
@@ -93,7 +111,8 @@ module _ {N : Type 0} (ν : Names N) where
   pub first-moves : (s t : Ty N) → Moving (firstRules ν s t)
   unfolding firstRules Moving
   first-moves s t =
-      or-moving (only_if (is_yes (ty-dec ν s t)) done) _ (λ e. let o = only-if (is_yes (ty-dec ν s t)) done stuck e in let i : done ≡ stuck = o.1 in let z : ◌≡◌ {A = ℕ} 0 1 = cc in omega arith)
+      or-moving (only_if (is_yes (ty-dec ν s t)) done) _
+      (λ e. let o = only-if (is_yes (ty-dec ν s t)) done stuck e in let i : done ≡ stuck = o.1 in let z : ◌≡◌ {A = ℕ} 0 1 = cc in omega arith)
       (or-moving (bindTo ν (asVar s) t) _ (binding-moves (asVar s) t)
       (or-moving (bindTo ν (asVar t) s) _ (binding-moves (asVar t) s)
       (or-moving (bindTo ν (asPower s) t) (bindTo ν (asPower t) s) (binding-moves (asPower s) t) (binding-moves (asPower t) s))))

@@ -34,7 +34,8 @@ module _ {N : Type 0} where
   also-wide (is_scalar p) h = refl
   also-wide (hasField n s t) h = absurd (true≢false (sym h))
 
-  equal-truth : (same : Discrete N) (c : Choice N) (s t : Ty N) (p q : Product N) → s ≡ dim p → t ≡ dim q → MakesTrue same c (equal s t) ⇔ MakesWideTrue same c (equal s t)
+  equal-truth : (same : Discrete N) (c : Choice N) (s t : Ty N) (p q : Product N) → s ≡ dim p → t ≡ dim q
+      → MakesTrue same c (equal s t) ⇔ MakesWideTrue same c (equal s t)
   unfolding MakesTrue MakesWideTrue sideComesTo
   equal-truth same c s t p q i j = rw (i, j) (λ f. f, λ f. f)
 

@@ -6,7 +6,32 @@ use Rattle.std.proofs.Math.Option.{Option, none, some, get_or}
 use mathlib.Core.List.{[], ◌∷◌}
 use Rattle.rules.specs.Base.{got, bounded}
 use Rattle.rules.specs.Exponents.{Exp, nought}
-use Rattle.rules.specs.Trees.{Open, var, quant, par, Atom, free, base, ◌↑◌, Product, Names, Ty, opened, basic, dim, fn, struct, list, Con, equal, isDim, is_scalar, hasField, ◌≔◌, orderAtom}
+use Rattle.rules.specs.Trees.{
+  Open,
+  var,
+  quant,
+  par,
+  Atom,
+  free,
+  base,
+  ◌↑◌,
+  Product,
+  Names,
+  Ty,
+  opened,
+  basic,
+  dim,
+  fn,
+  struct,
+  list,
+  Con,
+  equal,
+  isDim,
+  is_scalar,
+  hasField,
+  ◌≔◌,
+  orderAtom,
+}
 use Rattle.rules.specs.Choices.{dimensional, isSide, wide}
 use Rattle.rules.specs.Views.{productOf}
 use Rattle.rules.specs.Base.{is_none}
@@ -182,7 +207,8 @@ module _ {N : Type 0} (ν : Names N) (law : Lawful (orderAtom ν)) (held : N →
 
 module _ {N : Type 0} (ν : Names N) (x : N) (t : Ty N) (d : Product N) (is : asProduct t ≡ got d) where
   -- in a product it makes no difference
-  pub factors-same : (p acc : Product N) → replaceFactors ν bounded (bindings ν (x ≔ t ∷ [])) p acc ≡ replaceFactors ν bounded (bindings ν (x ≔ dim d ∷ [])) p acc
+  pub factors-same : (p acc : Product N)
+      → replaceFactors ν bounded (bindings ν (x ≔ t ∷ [])) p acc ≡ replaceFactors ν bounded (bindings ν (x ≔ dim d ∷ [])) p acc
   unfolding replaceFactors asProduct
   factors-same [] acc = refl
   factors-same (base n ↑ e ∷ p) acc = factors-same p acc
@@ -191,10 +217,12 @@ module _ {N : Type 0} (ν : Names N) (x : N) (t : Ty N) (d : Product N) (is : as
       go : ((o ≡ var x) × (bindings ν (x ≔ t ∷ []) o ≡ some t)) ⊎ ((o ≡ var x → ⊥) × (bindings ν (x ≔ t ∷ []) o ≡ none))
           → ((o ≡ var x) × (bindings ν (x ≔ dim d ∷ []) o ≡ some (dim d))) ⊎ ((o ≡ var x → ⊥) × (bindings ν (x ≔ dim d ∷ []) o ≡ none))
           → ((acc' : Product N) → replaceFactors ν bounded (bindings ν (x ≔ t ∷ [])) p acc' ≡ replaceFactors ν bounded (bindings ν (x ≔ dim d ∷ [])) p acc')
-          → replaceFactors ν bounded (bindings ν (x ≔ t ∷ [])) (free o ↑ e ∷ p) acc ≡ replaceFactors ν bounded (bindings ν (x ≔ dim d ∷ [])) (free o ↑ e ∷ p) acc
+          → replaceFactors ν bounded (bindings ν (x ≔ t ∷ [])) (free o ↑ e ∷ p) acc
+          ≡ replaceFactors ν bounded (bindings ν (x ≔ dim d ∷ [])) (free o ↑ e ∷ p) acc
       go (inl i) (inl j) f =
           rw (i.1, j.1, is, replaceFactors, asProduct)
-          (same_after (divide ν bounded acc (free o ↑ e ∷ [])) _ _ (λ left. same_after (raise ν bounded d e) _ _ (λ more. same_after (multiply ν bounded left more) _ _ f)))
+          (same_after (divide ν bounded acc (free o ↑ e ∷ [])) _ _
+          (λ left. same_after (raise ν bounded d e) _ _ (λ more. same_after (multiply ν bounded left more) _ _ f)))
       go (inr i) (inr j) f = rw (i.1, j.1, replaceFactors) (f acc)
       go (inl i) (inr j) f = absurd (j.0 i.0)
       go (inr i) (inl j) f = absurd (i.0 j.0)
@@ -257,7 +285,8 @@ module _ {N : Type 0} (ν : Names N) (law : Lawful (orderAtom ν)) (held : N →
 
   -- ══ What is worth what ══
 
-  module _ (tells : Tells (λ a. goodAtom ν held 0 a ≡ true) (orderAtom ν)) (g : Atom N → Exp) (low : (a : Atom N) → Lowest (g a)) (keeps : BoundWide g x t) where
+  module _ (tells : Tells (λ a. goodAtom ν held 0 a ≡ true) (orderAtom ν)) (g : Atom N → Exp) (low : (a : Atom N) → Lowest (g a))
+      (keeps : BoundWide g x t) where
     counts-worth : (u : Ty N) → Sided ν held w u → (d : Product N) → asProduct u ≡ got d → worth g d ≡ value g u
     unfolding asProduct
     counts-worth u (a-product p h e) d i = let j : got p ≡ got d = rw e at i in let z : p ≡ d = cc in rw (e, sym z) refl
@@ -281,7 +310,9 @@ module _ {N : Type 0} (ν : Names N) (law : Lawful (orderAtom ν)) (held : N →
     pub type-value : (u : Ty N) → Sided ν held w u → Gives (replaceTy ν bounded look u) (λ u'. value g u' ≡ value g u)
     unfolding replaceTy
     type-value u (a-product p h e) = rw e (dim-value (single p) p refl h)
-    type-value u (a-variable y v h e) = rw e (gives (became (λ u'. value g u' ≡ g (free (var y))) (var y) (opened (var y)) (λ j. sym keeps ∙ ap (λ (u : Open N). g (free u)) (sym j)) refl))
+    type-value u (a-variable y v h e) = rw e
+        (gives (became (λ u'. value g u' ≡ g (free (var y))) (var y) (opened (var y)) (λ j. sym keeps ∙ ap (λ (u : Open N). g (free u)) (sym j))
+        refl))
 
     -- a constraint is as true as before
     pub con-value : (c c' : Con N) → Wide ν held w c → replaceCon ν bounded look c ≡ got c' → RightWide g c ⇔ RightWide g c'

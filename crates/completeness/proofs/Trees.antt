@@ -11,7 +11,24 @@ use Rattle.rules.specs.Trees.{var, Atom, Product, dim, Names, Ty, Con, Binding, 
 use Rattle.rules.specs.Rounds.{State}
 use Rattle.rules.specs.Solving.{Answer, accepted, remaining, stopped, solve}
 use Rattle.rules.specs.WellFormed.{goodCon}
-use Rattle.rules.specs.Choices.{Fixed, Dimension, Choice, Rational, power, Same, comesTo, dimensional, MakesAllTrue, Choosing, completed, sideComesTo, wide, MakesAllWideTrue, ChoosingWide, completedWide}
+use Rattle.rules.specs.Choices.{
+  Fixed,
+  Dimension,
+  Choice,
+  Rational,
+  power,
+  Same,
+  comesTo,
+  dimensional,
+  MakesAllTrue,
+  Choosing,
+  completed,
+  sideComesTo,
+  wide,
+  MakesAllWideTrue,
+  ChoosingWide,
+  completedWide,
+}
 use Rattle.laws.specs.Order.{Lawful, Tells}
 use Rattle.laws.specs.ByteOrder.{atom-lawful}
 use Rattle.laws.specs.Exact.{OfLimits}
@@ -156,11 +173,13 @@ module _ {N : Type 0} (same : Discrete N) (c : Choice N) where
   completed-same [] d x = refl
   completed-same (y ≔ u ∷ bs) d x = go (is_yes (same x y)) refl (completed-same bs (λ z t m. d z t (Memᴰ.tail m)) x)
     where
-      go : (b : Bool) → is_yes (same x y) ≡ b → completedWide same bs c x ≡ completed same bs c x → completedWide same (y ≔ u ∷ bs) c x ≡ completed same (y ≔ u ∷ bs) c x
+      go : (b : Bool) → is_yes (same x y) ≡ b → completedWide same bs c x ≡ completed same bs c x
+          → completedWide same (y ≔ u ∷ bs) c x ≡ completed same (y ≔ u ∷ bs) c x
       go true i r = let p = d y u in_head in rw (i, completed, completedWide, p.1) refl
       go false i r = rw (i, completed, completedWide) r
 
-module _ {N : Type 0} (ν : Names N) (held : N → Bool) (ord : Lawful ν.order) (apart : Tells (λ n. held n ≡ true) ν.order) (cs : List (Con N)) (given : DimensionSet ν held cs) where
+module _ {N : Type 0} (ν : Names N) (held : N → Bool) (ord : Lawful ν.order) (apart : Tells (λ n. held n ≡ true) ν.order) (cs : List (Con N))
+    (given : DimensionSet ν held cs) where
   dims : (c : Con N) → Memᴰ c cs → dimensional c ≡ true
   dims = all-is dimensional cs given.dimensions
 
@@ -174,7 +193,8 @@ module _ {N : Type 0} (ν : Names N) (held : N → Bool) (ord : Lawful ν.order)
   dims-only-limits = only-limits ν held false ord apart cs given.well-formed sides
 
   pub dims-none-left : (rs : List (Con N)) (k : ℕ) → solve ν bounded cs ≡ remaining rs k → Choosing ν.same cs → ⊥
-  dims-none-left rs k e d = none_left ν held false ord apart cs given.well-formed sides rs k e (record { choice = d.choice; rational = d.rational; makes = (truth d.choice).0 d.makes })
+  dims-none-left rs k e d = none_left ν held false ord apart cs given.well-formed sides rs k e
+      (record { choice = d.choice; rational = d.rational; makes = (truth d.choice).0 d.makes })
 
   a-dimension : (t : Ty N) → Sided ν held false t → (p : Product N) × (t ≡ dim p)
   a-dimension t (a-product p h e) = (p, e)
@@ -189,8 +209,10 @@ module _ {N : Type 0} (ν : Names N) (held : N → Bool) (ord : Lawful ν.order)
         dimensions = bound-dims;
         once = s.choices.once;
         completes = λ c r.
-            let b = s.choices.completes c r in
-            (subst (λ (d : Choice N). Rational d) (full c) b.0, (truth (completed ν.same bs c)).1 (subst (λ (d : Choice N). MakesAllWideTrue ν.same d cs) (full c) b.1));
+            let b = s.choices.completes c r in (
+              subst (λ (d : Choice N). Rational d) (full c) b.0,
+              (truth (completed ν.same bs c)).1 (subst (λ (d : Choice N). MakesAllWideTrue ν.same d cs) (full c) b.1),
+            );
         open-decide = λ c d rc rd f x u. ap (power ν.same u) (sym (at c x)) ∙ s.choices.open-decide c d rc rd f x u ∙ ap (power ν.same u) (at d x);
         bound-so = λ c r f x p m. s.choices.bound-so c r ((truth c).0 f) x (dim p) m (comesTo c p) refl;
         comes-so = λ c r f x u. s.choices.comes-so c r ((truth c).0 f) x u ∙ ap (power ν.same u) (at c x);

@@ -7,14 +7,49 @@ use Rattle.std.proofs.Math.Option.{Option, none, some}
 use mathlib.Core.List.{List, [], ◌∷◌, ◌++◌, map, Memᴰ}
 use Prim.Native.Nat.{ℕ, ◌+◌, ◌*◌, ◌<◌, ◌≤◌}
 use Rattle.rules.specs.Base.{Got, got, refused, bounded, each, collect, sum_of}
-use Rattle.rules.specs.Trees.{var, Product, Names, Ty, opened, basic, dim, fn, struct, list, Con, equal, isDim, is_scalar, hasField, ◌≔◌, openOfFactor, size, sizeCon}
+use Rattle.rules.specs.Trees.{
+  var,
+  Product,
+  Names,
+  Ty,
+  opened,
+  basic,
+  dim,
+  fn,
+  struct,
+  list,
+  Con,
+  equal,
+  isDim,
+  is_scalar,
+  hasField,
+  ◌≔◌,
+  openOfFactor,
+  size,
+  sizeCon,
+}
 use Rattle.rules.specs.Views.{productOf}
 use Rattle.rules.specs.Contents.{namesIn}
 use Rattle.rules.specs.Replacing.{Look, replaceFactors, replaceTy, replaceProduct, replaceCon, replaceBinding, bindings}
 use Rattle.rules.specs.Rounds.{Step, bind, split, done, stuck, State, trySatisfy, taken, firstStep, sizeState, depthState, limited, perform, performed, round}
 use Rattle.laws.specs.Lists.{got≢refused, some≢none, in_head, one-step, two_steps, each-parts, bound-step}
 use Rattle.laws.specs.Sized.{sized_same, sized-small}
-use Rattle.laws.specs.RuleCases.{Rule, rule, none-applies, equal-records, binds, two-functions, two-lists, two-structs, as-product, two-dimensions, dimension, no-factor, first-factor, closed-struct}
+use Rattle.laws.specs.RuleCases.{
+  Rule,
+  rule,
+  none-applies,
+  equal-records,
+  binds,
+  two-functions,
+  two-lists,
+  two-structs,
+  as-product,
+  two-dimensions,
+  dimension,
+  no-factor,
+  first-factor,
+  closed-struct,
+}
 use Rattle.laws.specs.Turns.{found}
 use Rattle.completeness.proofs.Sides.{sideIn, wideIn, wide-wide}
 use Rattle.completeness.proofs.Rounds.{IsWide, outside, Fit}
@@ -155,7 +190,8 @@ module _ {N : Type 0} (ν : Names N) where
     tried : trySatisfy ν bounded con ≡ got v.0
     weighs : (f : Con N → ℕ) → sum_of f cs ≡ f con + sum_of f v.1
 
-  module _ (c : Con N) (cs : List (Con N)) (v : Step N × List (Con N)) (again : (w : Step N × List (Con N)) → firstStep ν bounded cs ≡ got (some w) → Weighed cs w) where
+  module _ (c : Con N) (cs : List (Con N)) (v : Step N × List (Con N))
+      (again : (w : Step N × List (Con N)) → firstStep ν bounded cs ≡ got (some w) → Weighed cs w) where
     here : (s : Step N) → trySatisfy ν bounded c ≡ got s → (s, cs) ≡ v → Weighed (c ∷ cs) v
     here s i q = rw (sym q) (record { con = c; given = in_head; tried = i; weighs = λ f. refl })
 

@@ -15,7 +15,24 @@ use Rattle.rules.specs.Solving.{Answer, accepted, remaining, stopped, solve}
 use Rattle.rules.specs.Choices.{dimensional, Choosing, wide, ChoosingWide}
 use Rattle.rules.specs.WellFormed.{goodCon}
 use Rattle.rules.specs.Writing.{words, writeBinding, writeBound}
-use Rattle.rules.specs.Calls.{over, lentResult, lentWork, lent, shortLists, tableKept, setGiven, apart, resultAfter, solved, unsolved, refusedAfter, solvedOf, solvedWords, solvedSet, solveCall}
+use Rattle.rules.specs.Calls.{
+  over,
+  lentResult,
+  lentWork,
+  lent,
+  shortLists,
+  tableKept,
+  setGiven,
+  apart,
+  resultAfter,
+  solved,
+  unsolved,
+  refusedAfter,
+  solvedOf,
+  solvedWords,
+  solvedSet,
+  solveCall,
+}
 use Rattle.laws.specs.Order.{Lawful, Tells}
 use Rattle.laws.specs.Checks.{need-passed}
 use Rattle.laws.specs.Given.{held-apart, lent-long, set-read}
@@ -24,7 +41,17 @@ use Rattle.laws.specs.Exact.{OfLimits}
 use Rattle.laws.specs.ByteOrder.{numbered-lawful}
 use Rattle.laws.specs.Lists.{got≢refused, and_left, bound-step}
 use Rattle.completeness.specs.Claims.{◌⇔◌, DimensionSet, AllChoices, Excepted, Unsolved, Complete, WideSet, AllWideChoices, WideComplete}
-use Rattle.completeness.proofs.Trees.{only-limits, none_left, all-choices, some-choice, wide-sides, dims-only-limits, dims-none-left, dims-all-choices, dims-some-choice}
+use Rattle.completeness.proofs.Trees.{
+  only-limits,
+  none_left,
+  all-choices,
+  some-choice,
+  wide-sides,
+  dims-only-limits,
+  dims-none-left,
+  dims-all-choices,
+  dims-some-choice,
+}
 
 -- ══ The checks at entry ══
 
@@ -43,7 +70,8 @@ pub record Checked (pool table set : List ℕ) (cs : List (Con ℕ)) : Type 0 wh
 pub record Known (pool table set : List ℕ) (cs : List (Con ℕ)) (C : Type 0) (All : List (Binding ℕ) → Type 0) : Type 0 where
   pub only : Checked pool table set cs → (n k : ℕ) → solve (numbersOf (table_of pool table)) bounded cs ≡ stopped n k → OfLimits n
   pub none : Checked pool table set cs → (rs : List (Con ℕ)) (k : ℕ) → solve (numbersOf (table_of pool table)) bounded cs ≡ remaining rs k → C → ⊥
-  pub every : Checked pool table set cs → (bs : List (Binding ℕ)) (ns : List ℕ) (k : ℕ) → solve (numbersOf (table_of pool table)) bounded cs ≡ accepted bs ns k → All bs
+  pub every : Checked pool table set cs → (bs : List (Binding ℕ)) (ns : List ℕ) (k : ℕ)
+      → solve (numbersOf (table_of pool table)) bounded cs ≡ accepted bs ns k → All bs
   pub some : Checked pool table set cs → (bs : List (Binding ℕ)) → All bs → C
 
 -- what was written, and what it says
@@ -72,7 +100,8 @@ module _ (pool table set : List ℕ) (cs : List (Con ℕ)) (read : setGiven (tab
     lent-refuses : Refuses Excepted (lent pool table result work)
     unfolding lent lentTable lentResult lentWork
     lent-refuses =
-        onward (onward (need-refuses Excepted (leb 8192 (length pool) && leb 257 (length table)) 10 ten) (λ u e. need-refuses Excepted (leb 8192 (length result)) 10 ten))
+        onward (onward (need-refuses Excepted (leb 8192 (length pool) && leb 257 (length table)) 10 ten)
+        (λ u e. need-refuses Excepted (leb 8192 (length result)) 10 ten))
         (λ u e. need-refuses Excepted (leb 16384 (length work)) 10 ten)
       where
         ten : Excepted 10
@@ -105,7 +134,8 @@ module _ (pool table set : List ℕ) (cs : List (Con ℕ)) (read : setGiven (tab
         let same : h.0 ≡ cs = let z : got h.0 ≡ got cs = sym h.1 ∙ read in cc in
         let i = bound-step (need (unmixed ν (collect opensCon h.0)) 4) _ a h.2 in
         let l = lent-long pool table d.0 d.1 in
-        let short : length set ≤ 8192 = leb-true (length set) 8192 (and_left (leb (length set) 8192) true (need-passed (leb (length set) 8192 && true) 8 f.1)) in
+        let short : length set ≤ 8192 = leb-true (length set) 8192
+        (and_left (leb (length set) 8192) true (need-passed (leb (length set) 8192 && true) 8 f.1)) in
         let r = set-read t set cs read in
         record {
           checked = record {
@@ -156,7 +186,8 @@ module _ (pool table set : List ℕ) (cs : List (Con ℕ)) (read : setGiven (tab
         where
           go : (m : Got (Answer ℕ)) → call ≡ m → Put pool table set result work All r b
           go (refused n) i = let z : refusedAfter n 0 ≡ solved r b k = rw i at e in let y : ◌≡◌ {A = ℕ} 0 1 = cc in absurd (omega arith)
-          go (got (remaining rs j)) i = let z : unsolved (sum_of sizeCon rs) j ≡ solved r b k = rw i at e in let y : ◌≡◌ {A = ℕ} 0 1 = cc in absurd (omega arith)
+          go (got (remaining rs j)) i = let z : unsolved (sum_of sizeCon rs) j ≡ solved r b k = rw i at e in let y : ◌≡◌ {A = ℕ} 0 1 = cc
+              in absurd (omega arith)
           go (got (stopped n j)) i = let z : refusedAfter n j ≡ solved r b k = rw i at e in let y : ◌≡◌ {A = ℕ} 0 1 = cc in absurd (omega arith)
           go (got (accepted bs ns j)) i =
               let z : solved (sum_of sizeBinding bs) (length ns) j ≡ solved r b k = rw i at e in

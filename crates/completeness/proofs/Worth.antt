@@ -66,7 +66,8 @@ module _ {N : Type 0} where
   worth g [] = nought
   worth g (a ↑ e ∷ p) = plus (mul (g a) e) (worth g p)
 
-module _ {N : Type 0} (ν : Names N) {Held : Atom N → Type 0} (law : Lawful (orderAtom ν)) (tells : Tells Held (orderAtom ν)) (g : Atom N → Exp) (low : (a : Atom N) → Lowest (g a)) where
+module _ {N : Type 0} (ν : Names N) {Held : Atom N → Type 0} (law : Lawful (orderAtom ν)) (tells : Tells Held (orderAtom ν)) (g : Atom N → Exp)
+    (low : (a : Atom N) → Lowest (g a)) where
   pub worth-lowest : (p : Product N) → Every (Sound Held) p → Lowest (worth g p)
   unfolding worth
   worth-lowest [] h = nought-lowest
@@ -77,7 +78,8 @@ module _ {N : Type 0} (ν : Names N) {Held : Atom N → Type 0} (law : Lawful (o
   worth-put a s r h k = go (isZero s) refl
     where
       go : (b : Bool) → isZero s ≡ b → worth g (put a s r) ≡ plus (mul (g a) s) (worth g r)
-      go true z = rw (z, put) (sym (ap (λ (x : Exp). plus x (worth g r)) (ap (mul (g a)) (zero-is-nought s h z) ∙ mul-nought (g a) (low a)) ∙ nought-plus (worth g r) k))
+      go true z = rw (z, put) (sym (ap (λ (x : Exp). plus x (worth g r)) (ap (mul (g a)) (zero-is-nought s h z) ∙ mul-nought (g a) (low a))
+          ∙ nought-plus (worth g r) k))
       go false z = rw (z, put)
 
   worth-one : (a : Atom N) (e : Exp) (p : Product N) (m : Product N → Product N) → Sound Held (a ↑ e) → Every (Sound Held) p
@@ -115,7 +117,8 @@ module _ {N : Type 0} (ν : Names N) {Held : Atom N → Type 0} (law : Lawful (o
 
       go : (o : Ordering) → orderAtom ν a b ≡ o → worth g (mergeOneE ν a e p m q) ≡ plus (worth g (a ↑ e ∷ p)) (worth g q)
           → worth g (mergeOneE ν a e p m (b ↑ d ∷ q)) ≡ plus (worth g (a ↑ e ∷ p)) (worth g (b ↑ d ∷ q))
-      go Ordering.lt o r = rw (o, mergeOneE) (ap (plus A) (f (b ↑ d ∷ q) k) ∙ sym (plus_assoc A (worth g p) (plus D (worth g q)) lA lp (plus-in-lowest D (worth g q) lD lq)))
+      go Ordering.lt o r = rw (o, mergeOneE)
+          (ap (plus A) (f (b ↑ d ∷ q) k) ∙ sym (plus_assoc A (worth g p) (plus D (worth g q)) lA lp (plus-in-lowest D (worth g q) lD lq)))
       go Ordering.eq o r = rw (o, mergeOneE) (worth-put a (plus e d) (m q) (plus-in-lowest e d h.1 k.0.1) mq ∙ both (tells.same a b h.0 k.0.0 o))
       go Ordering.gt o r = rw (o, mergeOneE) (ap (plus D) r ∙ swap (plus A (worth g p)) D (worth g q) (plus-in-lowest A (worth g p) lA lp) lD lq)
 

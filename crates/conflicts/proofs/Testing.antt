@@ -72,7 +72,8 @@ module _ (pool table : List ℕ) where
 
   -- ══ Ready to be solved ══
 
-  module _ (ds : List (Con ℕ)) (f : Fine pool table ds) (w w' : Writer) (z : w.at ≡ 0) (h : Writes w w' (collect writeCon ds)) (room : 8192 ≤ length w.words.now) where
+  module _ (ds : List (Con ℕ)) (f : Fine pool table ds) (w w' : Writer) (z : w.at ≡ 0) (h : Writes w w' (collect writeCon ds))
+      (room : 8192 ≤ length w.words.now) where
     abbrev written : List ℕ
     written = words (collect writeCon ds)
 
@@ -92,16 +93,19 @@ module _ (pool table : List ℕ) where
     front =
         let left = drop (0 + length written) w.words.now in
         let e : w'.words.now ≡ written ++ left =
-        h.words (omega (arith, count, f.small, z)) ∙ ap (λ (k : ℕ). sets w.words.now (k * 4) written) z ∙ sets-eq written w.words.now 0 (omega (arith, long, f.small, room)) in
+        h.words (omega (arith, count, f.small, z)) ∙ ap (λ (k : ℕ). sets w.words.now (k * 4) written) z
+        ∙ sets-eq written w.words.now 0 (omega (arith, long, f.small, room)) in
         ap (take (w'.at * 4)) e ∙ take_at written left (w'.at * 4) (omega (arith, long, ends))
 
     own : written ≡ sets written 0 written
-    own = sym (sets-eq written written 0 (omega arith) ∙ ap (λ (x : List ℕ). written ++ x) (drop_of_length-le {A = ℕ} written (omega arith)) ∙ append-nil written)
+    own = sym (sets-eq written written 0 (omega arith) ∙ ap (λ (x : List ℕ). written ++ x) (drop_of_length-le {A = ℕ} written (omega arith))
+        ∙ append-nil written)
 
     pub ready : {d : List ℕ} {k : ℕ} → d ≡ w'.words.now → k ≡ w'.at * 4 → Begun pool table (take k d) ds
     ready i j = rw (i, j, front) (record {
       held = let e : 0 + sum_of sizeCon ds ≡ length written / 4 = omega (arith, long) in
-          subst (λ (k : ℕ). IsCons written 0 k ds) e (written-cons pool table written written 0 ds own (omega (arith, long)) (cons-weaker pool table ds f.good));
+          subst (λ (k : ℕ). IsCons written 0 k ds) e
+          (written-cons pool table written written 0 ds own (omega (arith, long)) (cons-weaker pool table ds f.good));
       sound = record { good = f.good; flat = f.flat };
       short = omega (arith, long, f.small);
       admitted = record { good = f.good; small = f.small };

@@ -66,7 +66,8 @@ module _ (s : List ℕ) where
   last-held : (ps : Tys ℕ) (r : Ty ℕ) (i : ℕ) → HoldsTys s ps i → Holds s r (i + sizeTys ps) → HoldsTys s (andLast ps r) i
   unfolding Holds andLast size
   last-held nil r i h k = (rw add-zero at k, tt)
-  last-held (cons t ts) r i h k = let e : i + (size t + sizeTys ts) ≡ i + size t + sizeTys ts = omega arith in (h.0, last-held ts r (i + size t) h.1 (rw e at k))
+  last-held (cons t ts) r i h k = let e : i + (size t + sizeTys ts) ≡ i + size t + sizeTys ts = omega arith
+      in (h.0, last-held ts r (i + size t) h.1 (rw e at k))
 
   parts_held : (x : Ty ℕ) (at : ℕ) → Holds s x at → HoldsTys s (parts x) (at + 1)
   unfolding Holds
@@ -117,12 +118,15 @@ module _ (s : List ℕ) (at : ℕ) (t : List ℕ) (k : ℕ) where
   abbrev pub AllMeant : ℕ → Bool → Type 0
   AllMeant n r = (xs ys : Tys ℕ) (names : List Bytes) → HoldsTys s xs at → count xs ≡ n → HoldsTys t ys k → count ys ≡ n → r ≡ meansAll (numbered names) xs ys
 
-module _ (s : List ℕ) (at : ℕ) (t : List ℕ) (k : ℕ) (a b : Head) (ha : (x : Ty ℕ) → Holds s x at → a ≡ reads x) (hb : (y : Ty ℕ) → Holds t y k → b ≡ reads y) where
+module _ (s : List ℕ) (at : ℕ) (t : List ℕ) (k : ℕ) (a b : Head) (ha : (x : Ty ℕ) → Holds s x at → a ≡ reads x)
+    (hb : (y : Ty ℕ) → Holds t y k → b ≡ reads y) where
   pub other-heads : (a ≡ b → ⊥) → Meant s at t k false
   other-heads f x y names h j = heads-differ (numbered names) x y (λ e. f (ha x h ∙ e ∙ sym (hb y j)))
 
   module _ (e : a ≡ b) where
-    pub same-products : (r : Bool) → a.kind ≡ 3 → ((p q : Product ℕ) → HoldsFactors s p (at + 1) → HoldsFactors t q (k + 1) → length p ≡ a.many → length q ≡ a.many → Decides r (p ≡ q)) → Meant s at t k r
+    pub same-products : (r : Bool) → a.kind ≡ 3
+        → ((p q : Product ℕ) → HoldsFactors s p (at + 1) → HoldsFactors t q (k + 1) → length p ≡ a.many → length q ≡ a.many → Decides r (p ≡ q))
+        → Meant s at t k r
     same-products r i d x y names h j =
         let f = factors s x at a h (ha x h) i in
         let g = factors t y k a j (e ∙ hb y j) i in
@@ -167,9 +171,11 @@ module _ (s : List ℕ) (at : ℕ) (t : List ℕ) (k n : ℕ) where
     all-stop m (cons x xs) nil names h c j d = absurd (nz (sym d))
     all-stop m (cons x xs) (cons y ys) names h c j d = rw (← m x y names h.0 j.0)
 
-    pub all-on : (e f : ℕ) (r : Bool) → ((x : Ty ℕ) → Holds s x at → e ≡ at + size x) → ((y : Ty ℕ) → Holds t y k → f ≡ k + size y) → Meant s at t k true → AllMeant s e t f (n - 1) r → AllMeant s at t k n r
+    pub all-on : (e f : ℕ) (r : Bool) → ((x : Ty ℕ) → Holds s x at → e ≡ at + size x) → ((y : Ty ℕ) → Holds t y k → f ≡ k + size y)
+        → Meant s at t k true → AllMeant s e t f (n - 1) r → AllMeant s at t k n r
     unfolding meansAll count Holds
     all-on e f r he hf m g nil ys names h c j d = absurd (nz (sym c))
     all-on e f r he hf m g (cons x xs) nil names h c j d = absurd (nz (sym d))
     all-on e f r he hf m g (cons x xs) (cons y ys) names h c j d =
-        rw (← m x y names h.0 j.0) (g xs ys names (subst (HoldsTys s xs) (sym (he x h.0)) h.1) (omega arith) (subst (HoldsTys t ys) (sym (hf y j.0)) j.1) (omega arith))
+        rw (← m x y names h.0 j.0) (g xs ys names (subst (HoldsTys s xs) (sym (he x h.0)) h.1) (omega arith)
+        (subst (HoldsTys t ys) (sym (hf y j.0)) j.1) (omega arith))

@@ -12,7 +12,31 @@ use lib.Dec.{eqb}
 use lib.ListN.{length, get_or}
 use Rattle.rules.specs.Base.{and'}
 use Rattle.rules.specs.Names.{Bytes, numbered}
-use Rattle.rules.specs.Trees.{Ty, opened, basic, dim, fn, struct, list, Tys, nil, cons, Fields, noFields, field, Con, equal, isDim, is_scalar, hasField, opensCon, count, countFields, size, sizeTys}
+use Rattle.rules.specs.Trees.{
+  Ty,
+  opened,
+  basic,
+  dim,
+  fn,
+  struct,
+  list,
+  Tys,
+  nil,
+  cons,
+  Fields,
+  noFields,
+  field,
+  Con,
+  equal,
+  isDim,
+  is_scalar,
+  hasField,
+  opensCon,
+  count,
+  countFields,
+  size,
+  sizeTys,
+}
 use Rattle.rules.specs.Contents.{fieldIn}
 use Rattle.rules.specs.Meaning.{means, amongBounds, holds}
 use Rattle.laws.specs.Lists.{true≢false}
@@ -118,7 +142,9 @@ module _ (s : List ℕ) where
         sought-hit e noFields names h c = absurd (nz (sym c))
         sought-hit e (field m t fs) names h c = subst (Found s (place.Some (at + 1))) (sym (field-hit (numbered names) x m t fs (e ∙ same_name m h.0))) h.1
 
-        pub sought-on : (e : ℕ) (r : place.Option ℕ) → (x ≡ y → ⊥) → ((t : Ty ℕ) → Holds s t (at + 1) → e ≡ at + 1 + size t) → ((fs : Fields ℕ) (names : List Bytes) → HoldsFields s fs e → countFields fs ≡ n - 1 → Found s r (fieldIn (numbered names) x fs)) → Sought r
+        pub sought-on : (e : ℕ) (r : place.Option ℕ) → (x ≡ y → ⊥) → ((t : Ty ℕ) → Holds s t (at + 1) → e ≡ at + 1 + size t)
+            → ((fs : Fields ℕ) (names : List Bytes) → HoldsFields s fs e → countFields fs ≡ n - 1 → Found s r (fieldIn (numbered names) x fs))
+            → Sought r
         unfolding countFields Holds
         sought-on e r f he g noFields names h c = absurd (nz (sym c))
         sought-on e r f he g (field m t fs) names h c =
@@ -142,7 +168,8 @@ module _ (s : List ℕ) where
     pub scalar_read : {n : ℕ} → v ≡ view.Dim n → ScalarTrue s at (eqb n 0)
     unfolding holds HoldsProduct
     scalar_read {n} q [] names xs h = let z : view.Dim n ≡ view.Dim 0 = sym q ∙ p ∙ h.0 in let e : n ≡ 0 = cc in rw e
-    scalar_read {n} q (f ∷ l) names xs h = let z : view.Dim n ≡ view.Dim (suc (length l)) = sym q ∙ p ∙ h.0 in let e : n ≡ suc (length l) = cc in ne_eqb n 0 (omega arith)
+    scalar_read {n} q (f ∷ l) names xs h = let z : view.Dim n ≡ view.Dim (suc (length l)) = sym q ∙ p ∙ h.0 in let e : n ≡ suc (length l) = cc
+        in ne_eqb n 0 (omega arith)
 
     pub scalar-unsaid : Tagged undimensioned v → ScalarTrue s at false
     unfolding HoldsProduct
@@ -156,11 +183,13 @@ module _ (s : List ℕ) where
 
     pub open-among : (m : List Bool) (r : Bool) {o : names.Open} → v ≡ view.Opened o → Among m r → DimTrue s at m r
     unfolding holds
-    open-among m r q a t names xs h k j = by-view s (λ t. r ≡ amongBounds (numbered names) xs t → r ≡ holds (numbered names) xs (isDim t)) t at h (sym p ∙ q) (λ e. e) (a t names xs h k j)
+    open-among m r q a t names xs h k j = by-view s (λ t. r ≡ amongBounds (numbered names) xs t → r ≡ holds (numbered names) xs (isDim t)) t at h
+        (sym p ∙ q) (λ e. e) (a t names xs h k j)
 
     pub dim-among : (m : List Bool) (r : Bool) {n : ℕ} → v ≡ view.Dim n → Among m r → DimTrue s at m r
     unfolding holds
-    dim-among m r q a t names xs h k j = by-view s (λ t. r ≡ amongBounds (numbered names) xs t → r ≡ holds (numbered names) xs (isDim t)) t at h (sym p ∙ q) (λ l c f e. e) (a t names xs h k j)
+    dim-among m r q a t names xs h k j = by-view s (λ t. r ≡ amongBounds (numbered names) xs t → r ≡ holds (numbered names) xs (isDim t)) t at h
+        (sym p ∙ q) (λ l c f e. e) (a t names xs h k j)
 
     pub none-among : (m : List Bool) → Tagged unopened v → DimTrue s at m false
     unfolding holds Holds HoldsProduct
@@ -191,28 +220,34 @@ module _ (s : List ℕ) where
       struct_row (l, r, h, j) = by-view s (λ t. Row s (at + 1) n) l at h (sym p ∙ q) (λ as' fs c d a b. (as', a, c))
 
       pub struct_fields : Two at → (e : ℕ) → Past s (at + 1) n e → FieldRow e m
-      struct_fields (l, r, h, j) e f = by-view s (λ t. FieldRow e m) l at h (sym p ∙ q) (λ as' fs c d a b. (fs, subst (HoldsFields s fs) (sym (f as' a c)) b, d))
+      struct_fields (l, r, h, j) e f = by-view s (λ t. FieldRow e m) l at h (sym p ∙ q)
+          (λ as' fs c d a b. (fs, subst (HoldsFields s fs) (sym (f as' a c)) b, d))
 
       module _ (e : ℕ) (f : Past s (at + 1) n e) (w : place.Option ℕ) (g : Sought e m x w) where
         -- what was found, of the struct that stands there
-        found : (l : Ty ℕ) (names : List Bytes) → Holds s l at → (P : Ty ℕ → Type 0) → ((as' : Tys ℕ) (fs : Fields ℕ) → Found s w (fieldIn (numbered names) x fs) → P (struct y as' fs)) → P l
+        found : (l : Ty ℕ) (names : List Bytes) → Holds s l at → (P : Ty ℕ → Type 0)
+            → ((as' : Tys ℕ) (fs : Fields ℕ) → Found s w (fieldIn (numbered names) x fs) → P (struct y as' fs)) → P l
         found l names h P k = by-view s P l at h (sym p ∙ q) (λ as' fs c d a b. k as' fs (g fs names (subst (HoldsFields s fs) (sym (f as' a c)) b) d))
 
         pub field-nowhere : w ≡ place.None → FieldTrue s at x false
         unfolding holds
         field-nowhere i l u names xs h j =
-            found l names h (λ l. false ≡ holds (numbered names) xs (hasField x l u)) (λ as' fs k. nothing-found (fieldIn (numbered names) x fs) (λ t. means (numbered names) t u) (subst (λ (z : place.Option ℕ). Found s z (fieldIn (numbered names) x fs)) i k))
+            found l names h (λ l. false ≡ holds (numbered names) xs (hasField x l u))
+            (λ as' fs k. nothing-found (fieldIn (numbered names) x fs) (λ t. means (numbered names) t u)
+            (subst (λ (z : place.Option ℕ). Found s z (fieldIn (numbered names) x fs)) i k))
 
         module _ {i : ℕ} (z : w ≡ place.Some i) where
           pub field-asks : Two at → (t : Ty ℕ) × Holds s t i
-          field-asks (l, r, h, j) = found l [] h (λ l. (t : Ty ℕ) × Holds s t i) (λ as' fs k. found_type i (fieldIn (numbered []) x fs) (subst (λ (z : place.Option ℕ). Found s z (fieldIn (numbered []) x fs)) z k))
+          field-asks (l, r, h, j) = found l [] h (λ l. (t : Ty ℕ) × Holds s t i)
+              (λ as' fs k. found_type i (fieldIn (numbered []) x fs) (subst (λ (z : place.Option ℕ). Found s z (fieldIn (numbered []) x fs)) z k))
 
           pub field-met : (b : ℕ) (r : Bool) → ((t : Ty ℕ) → Holds s t at → b ≡ at + size t) → Meant s i s b r → FieldTrue s at x r
           unfolding holds
           field-met b r hb d l u names xs h j =
               let u' : Holds s u b = subst (Holds s u) (sym (hb l h)) j in
               found l names h (λ l. r ≡ holds (numbered names) xs (hasField x l u)) (λ as' fs k.
-              type-found i (fieldIn (numbered names) x fs) (λ t. means (numbered names) t u) r (subst (λ (z : place.Option ℕ). Found s z (fieldIn (numbered names) x fs)) z k) (λ t ht. d t u names ht u'))
+              type-found i (fieldIn (numbered names) x fs) (λ t. means (numbered names) t u) r
+              (subst (λ (z : place.Option ℕ). Found s z (fieldIn (numbered names) x fs)) z k) (λ t ht. d t u names ht u'))
 
   -- the type after the first
   pub second : (at b : ℕ) → ((t : Ty ℕ) → Holds s t at → b ≡ at + size t) → Two at → (t : Ty ℕ) × Holds s t b
@@ -246,11 +281,13 @@ module _ (s : List ℕ) where
     module _ (m : List Bool) (r : Bool) where
       pub equal-true : (b : ℕ) → v ≡ view.Equal → ((t : Ty ℕ) → Holds s t (at + 1) → b ≡ at + 1 + size t) → Meant s (at + 1) s b r → ConTrue s at m r
       unfolding holds
-      equal-true b q f d c names xs h k j = con-by-view s (λ c. r ≡ holds (numbered names) xs c) c at h (sym p ∙ q) (λ l u hl hu. d l u names hl (subst (Holds s u) (sym (f l hl)) hu))
+      equal-true b q f d c names xs h k j = con-by-view s (λ c. r ≡ holds (numbered names) xs c) c at h (sym p ∙ q)
+          (λ l u hl hu. d l u names hl (subst (Holds s u) (sym (f l hl)) hu))
 
       pub dim-true : v ≡ view.IsDim → DimTrue s (at + 1) m r → ConTrue s at m r
       unfolding opensCon
-      dim-true q d c names xs h k j = con-by-view s (λ c. Small (opensCon c) → r ≡ holds (numbered names) xs c) c at h (sym p ∙ q) (λ t a k. d t names xs a k j) k
+      dim-true q d c names xs h k j = con-by-view s (λ c. Small (opensCon c) → r ≡ holds (numbered names) xs c) c at h (sym p ∙ q)
+          (λ t a k. d t names xs a k j) k
 
       pub scalar-true : v ≡ view.IsScalar → ScalarTrue s (at + 1) r → ConTrue s at m r
       scalar-true q d c names xs h k j = con-by-view s (λ c. r ≡ holds (numbered names) xs c) c at h (sym p ∙ q) (λ l a. d l names xs a)

@@ -62,7 +62,8 @@ abbrev built : Head → Tys ℕ → Product ℕ → Ty ℕ
 built h ts p =
     let n = dim p in
     get_or
-    (n ∷ opened (tree.var h.name) ∷ opened (tree.par h.name) ∷ dim p ∷ basic tree.boolean ∷ basic tree.string ∷ basic tree.datetime ∷ fn (front ts) (back ts) ∷ struct h.name ts noFields ∷ n ∷ list (back ts) ∷ n ∷ n ∷ n ∷ opened (tree.quant h.name) ∷ [])
+    (n ∷ opened (tree.var h.name) ∷ opened (tree.par h.name) ∷ dim p ∷ basic tree.boolean ∷ basic tree.string ∷ basic tree.datetime
+    ∷ fn (front ts) (back ts) ∷ struct h.name ts noFields ∷ n ∷ list (back ts) ∷ n ∷ n ∷ n ∷ opened (tree.quant h.name) ∷ [])
     h.kind
     n
 
@@ -123,7 +124,8 @@ module _ (ν : Names ℕ) where
   all_same nil nil e = refl
   all_same nil (cons y ys) e = absurd (true≢false (sym e))
   all_same (cons x xs) nil e = absurd (true≢false (sym e))
-  all_same (cons x xs) (cons y ys) e = ap₂ cons (yes-is (ty-dec ν (plain x false) (plain y false)) (and_left (means ν x y) (meansAll ν xs ys) e)) (all_same xs ys (and_right (means ν x y) (meansAll ν xs ys) e))
+  all_same (cons x xs) (cons y ys) e = ap₂ cons (yes-is (ty-dec ν (plain x false) (plain y false)) (and_left (means ν x y) (meansAll ν xs ys) e))
+      (all_same xs ys (and_right (means ν x y) (meansAll ν xs ys) e))
 
   same-all : (xs ys : Tys ℕ) → plainTys xs false ≡ plainTys ys false → meansAll ν xs ys ≡ true
   unfolding plain meansAll means
@@ -169,5 +171,6 @@ module _ (ν : Names ℕ) where
         let p : factorsIn (plain x false) ≡ factorsIn (plain y false) = no-factors (plain x false) f ∙ sym (no-factors (plain y false) g) in
         both_ways (meansAll ν (parts x) (parts y)) (is_yes d) (λ a.
         let b : parts (plain x false) ≡ parts (plain y false) = plain-parts x ∙ all_same (parts x) (parts y) a ∙ sym (plain-parts y) in
-        is-yes d (sym (built-back x) ∙ ap₂ (λ (h : Head) (w : Tys ℕ × Product ℕ). built h w.0 w.1) e (ap₂ (λ (ts : Tys ℕ) (q : Product ℕ). (ts, q)) b p) ∙ built-back y)) λ a.
+        is-yes d (sym (built-back x) ∙ ap₂ (λ (h : Head) (w : Tys ℕ × Product ℕ). built h w.0 w.1) e
+        (ap₂ (λ (ts : Tys ℕ) (q : Product ℕ). (ts, q)) b p) ∙ built-back y)) λ a.
         same-all (parts x) (parts y) (sym (plain-parts x) ∙ ap parts (yes-is d a) ∙ plain-parts y)

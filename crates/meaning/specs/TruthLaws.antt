@@ -21,7 +21,8 @@ decided-as false true h f g = absurd (h (g refl))
 decided-as false false h f g = refl
 
 -- the names of a type are among the bounds when their marks are
-pub within-bounds : (v b : List Bool) (os : List (Open ℕ)) (t : Ty ℕ) (xs : List ℕ) (names : List Bytes) (r : Bool) → os ≡ opens t → Marks v (namesIn os) → Marks b xs → Small (opens t) → Decides r (Within v b 256) → r ≡ amongBounds (numbered names) xs t
+pub within-bounds : (v b : List Bool) (os : List (Open ℕ)) (t : Ty ℕ) (xs : List ℕ) (names : List Bytes) (r : Bool) → os ≡ opens t
+    → Marks v (namesIn os) → Marks b xs → Small (opens t) → Decides r (Within v b 256) → r ≡ amongBounds (numbered names) xs t
 unfolding amongBounds
 within-bounds v b os t xs names r o mo mb small d =
     let mv = subst (λ (os : List (Open ℕ)). Marks v (namesIn os)) o mo in

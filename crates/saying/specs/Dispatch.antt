@@ -9,7 +9,21 @@ use Rattle.rules.specs.Products.{scalar}
 use Rattle.rules.specs.Names.{Bytes, Entered, orderBytes, tableGiven, nameAsked, part_of, enter}
 use Rattle.rules.specs.Values.{FactorValue, productValue, sumCall, timesCall, negationCall, quotientCall, multiplyCall, divideCall, inverseCall, raiseCall}
 use Rattle.rules.specs.Writing.{twos}
-use Rattle.rules.specs.Calls.{Listed, Written, AddedTo, Solution, Judged, lent, setCall, typeCall, schemeCall, bindingsCall, containsCall, closedCall, variablesCall}
+use Rattle.rules.specs.Calls.{
+  Listed,
+  Written,
+  AddedTo,
+  Solution,
+  Judged,
+  lent,
+  setCall,
+  typeCall,
+  schemeCall,
+  bindingsCall,
+  containsCall,
+  closedCall,
+  variablesCall,
+}
 use Rattle.rules.specs.Calls.{addCall, replaceTypeCall, replaceSetCall, solveCall, quantifyCall, generaliseCall, instantiateCall, judgeCall}
 use Rattle.rules.specs.Batches.{Batch, batchCall}
 use Rattle.rules.specs.Ceiling.{ceilingCall}

@@ -24,7 +24,8 @@ unfolding refusalIn
 number_is (got n) e = ap refusalIn e
 number_is (refused k) e = ap refusalIn e
 
-said-as : (x : Got Bytes) (v m : ℕ) (q : PoolPart) → refusalIn x ≡ refusalIn {A = Unit {0}} (got tt) → v ≡ q.start → m ≡ word (length q.bytes) → saidAs v m 0 ≡ placeAs x q
+said-as : (x : Got Bytes) (v m : ℕ) (q : PoolPart) → refusalIn x ≡ refusalIn {A = Unit {0}} (got tt) → v ≡ q.start → m ≡ word (length q.bytes)
+    → saidAs v m 0 ≡ placeAs x q
 unfolding refusalIn
 said-as x v m q h e f = rw (h, ← e, ← f) (refl)
 
@@ -38,7 +39,8 @@ module _ (p t : List ℕ) (i : ℕ) where
   unfolding nameAsked table_of
   held h = go (tableGiven p t) refl (ltb i (get_or t 0 0)) refl h
     where
-      go : (a : Got (Unit {0})) → tableGiven p t ≡ a → (b : Bool) → ltb i (get_or t 0 0) ≡ b → got tt ≡ refusalOf (a >> (need b 3 >> got (get_or (names_of (table_of p t)) i [])))
+      go : (a : Got (Unit {0})) → tableGiven p t ≡ a → (b : Bool) → ltb i (get_or t 0 0) ≡ b
+          → got tt ≡ refusalOf (a >> (need b 3 >> got (get_or (names_of (table_of p t)) i [])))
           → Good p t × (i < get_or t 0 0)
       go (refused k) e b f h = let z : ◌≡◌ {A = ℕ} 0 1 = cc in absurd (omega arith)
       go (got u) e false f h = let z : ◌≡◌ {A = ℕ} 0 1 = cc in absurd (omega arith)

@@ -2,7 +2,11 @@
 use native.Mathlib.Omega.{arith}
 use Rattle.calling.proofs.Numbers.{call-2, call-3, call-4, call-exponent, call-product, call-sheet, call-31, call-32, call-list}
 use Rattle.calling.proofs.called.Goals as goal
-use Rattle.calling.proofs.called.Goals.{in_default-via-then-q-lt2, in_default-via-else-q-lt2+else-q-lt9+else-q-lt13+then-q-lt28, in_default-via-else-q-lt2+else-q-lt9+else-q-lt13+else-q-lt28+else-q-lt31}
+use Rattle.calling.proofs.called.Goals.{
+  in_default-via-then-q-lt2,
+  in_default-via-else-q-lt2+else-q-lt9+else-q-lt13+then-q-lt28,
+  in_default-via-else-q-lt2+else-q-lt9+else-q-lt13+else-q-lt28+else-q-lt31,
+}
 
 pub returns-in-2 : goal.returns-in-2
 returns-in-2 c = call-2 _ _ _ _ _ _ _ _ _ c.in-2.is c.named.ensures

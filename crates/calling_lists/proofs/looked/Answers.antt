@@ -23,4 +23,6 @@ returns-in-17 c =
     look-17 _ _ _ _ c.in-17.is c.asked.ensures c.contains.ensures
 
 pub returns-in_default : goal.returns-in_default
-returns-in_default c = let r = c.in_default.in_default-own.rest in look-18 _ _ _ _ (ne_eqb _ _ r.0.0.0.0.0.1) (ne_eqb _ _ r.0.0.0.0.1) (ne_eqb _ _ r.0.0.0.1) (ne_eqb _ _ r.0.0.1) (ne_eqb _ _ r.0.1) (ne_eqb _ _ r.1) c.asked-in_default.ensures c.closed.ensures
+returns-in_default c = let r = c.in_default.in_default-own.rest
+    in look-18 _ _ _ _ (ne_eqb _ _ r.0.0.0.0.0.1) (ne_eqb _ _ r.0.0.0.0.1) (ne_eqb _ _ r.0.0.0.1) (ne_eqb _ _ r.0.0.1) (ne_eqb _ _ r.0.1)
+    (ne_eqb _ _ r.1) c.asked-in_default.ensures c.closed.ensures

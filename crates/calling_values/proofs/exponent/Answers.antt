@@ -17,4 +17,6 @@ returns-in-7 c =
 
 pub returns-in_default : goal.returns-in_default
 returns-in_default c =
-    let r = c.in_default.in_default-own.rest in exponent-8 _ _ _ _ c.exponent_at-e.ensures c.exponent_at-f.ensures c.told_power-in_default.ensures (ne_eqb _ _ r.0.0.1) (ne_eqb _ _ r.0.1) (ne_eqb _ _ r.1) c.divide.ensures
+    let r = c.in_default.in_default-own.rest
+    in exponent-8 _ _ _ _ c.exponent_at-e.ensures c.exponent_at-f.ensures c.told_power-in_default.ensures (ne_eqb _ _ r.0.0.1) (ne_eqb _ _ r.0.1)
+    (ne_eqb _ _ r.1) c.divide.ensures

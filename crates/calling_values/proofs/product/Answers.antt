@@ -29,4 +29,6 @@ returns-in-11 c =
 
 pub returns-in_default : goal.returns-in_default
 returns-in_default c =
-    let r = c.in_default.in_default-own.rest in product-12 _ _ _ _ _ _ _ _ c.product_from-p.ensures c.product_from-r.ensures (ne_eqb _ _ r.0.0.1) (ne_eqb _ _ r.0.1) (ne_eqb _ _ r.1) _ c.exponent_at.ensures (c.told_product-in_default.ensures _ c.power.ensures)
+    let r = c.in_default.in_default-own.rest
+    in product-12 _ _ _ _ _ _ _ _ c.product_from-p.ensures c.product_from-r.ensures (ne_eqb _ _ r.0.0.1) (ne_eqb _ _ r.0.1) (ne_eqb _ _ r.1) _
+    c.exponent_at.ensures (c.told_product-in_default.ensures _ c.power.ensures)

@@ -10,4 +10,5 @@ unfolding comparing
 returns c =
     let a = c.args in
     c.ordered.ensures
-    ∙ ap orderAs (c.compare.ensures ∙ ap₂ orderBytes (name-bytes a.a.now _ _ refl c.min.ensures c.fill_low.ensures) (name-bytes a.b.now _ _ refl c.min-2.ensures c.fill_low-2.ensures))
+    ∙ ap orderAs (c.compare.ensures ∙ ap₂ orderBytes (name-bytes a.a.now _ _ refl c.min.ensures c.fill_low.ensures)
+    (name-bytes a.b.now _ _ refl c.min-2.ensures c.fill_low-2.ensures))

@@ -15,8 +15,12 @@ loop-i-init c =
 
 pub loop-i-preserved : goal.loop-i-preserved
 loop-i-preserved c =
-    let l = c.loop-i in
-    (omega arith, length-set l.p.factors l.i c.factor_at.result ∙ l.invariant.1, from_step c.args.a.now l.p.factors l.i c.factor_at.result (omega (arith, l.invariant.1)) c.factor_at.ensures l.invariant.2)
+    let l = c.loop-i in (
+      omega arith,
+      length-set l.p.factors l.i c.factor_at.result
+          ∙ l.invariant.1,
+      from_step c.args.a.now l.p.factors l.i c.factor_at.result (omega (arith, l.invariant.1)) c.factor_at.ensures l.invariant.2,
+    )
 
 pub returns : goal.returns
 returns c =

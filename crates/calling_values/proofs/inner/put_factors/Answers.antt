@@ -9,8 +9,11 @@ loop-i-init c = (omega arith, refl, refl)
 
 pub loop-i-preserved : goal.loop-i-preserved
 loop-i-preserved c =
-    let l = c.loop-i in
-    (omega arith, c.put_factor.auto.dst ∙ l.invariant.1, put_step c.args.p l.dst c.put_factor.new.dst l.i (omega arith) c.requires c.put_factor.ensures l.invariant.2)
+    let l = c.loop-i in (
+      omega arith,
+      c.put_factor.auto.dst ∙ l.invariant.1,
+      put_step c.args.p l.dst c.put_factor.new.dst l.i (omega arith) c.requires c.put_factor.ensures l.invariant.2,
+    )
 
 pub returns : goal.returns
 returns c =

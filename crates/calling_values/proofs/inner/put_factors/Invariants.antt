@@ -9,4 +9,5 @@ use Rattle.calling_values.proofs.inner.put_factors.Given as goal
 
 abbrev pub invariant-loop-i : goal.invariant-loop-i
 invariant-loop-i l =
-    (l.i ≤ 64) × (length l.dst ≡ length l.initial.dst) × (sets l.dst (l.i * 4) (collect factorWords (drop l.i (given l.p).factors)) ≡ sets l.initial.dst 0 (collect factorWords (given l.p).factors))
+    (l.i ≤ 64) × (length l.dst ≡ length l.initial.dst)
+    × (sets l.dst (l.i * 4) (collect factorWords (drop l.i (given l.p).factors)) ≡ sets l.initial.dst 0 (collect factorWords (given l.p).factors))

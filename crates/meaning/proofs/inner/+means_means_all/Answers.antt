@@ -98,7 +98,8 @@ means_all-means_all-requires t c =
 pub means_all-returns : goal.means_all-returns
 means_all-returns t c =
     let a = c.args in
-    all-on a.s.now a.at a.t.now a.k a.n c.if-n-eq0.false c.end_of.result c.end_of-2.result c.means_all.result c.end_of.ensures c.end_of-2.ensures (rw c.if-not-means.false at c.means.ensures) c.means_all.ensures
+    all-on a.s.now a.at a.t.now a.k a.n c.if-n-eq0.false c.end_of.result c.end_of-2.result c.means_all.result c.end_of.ensures c.end_of-2.ensures
+    (rw c.if-not-means.false at c.means.ensures) c.means_all.ensures
 
 pub means_all-returns-then-not-means : goal.means_all-returns-then-not-means
 means_all-returns-then-not-means t c =

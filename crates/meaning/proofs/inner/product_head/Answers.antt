@@ -9,7 +9,8 @@ use borrow.Enum.Refused.{opened}
 use Rattle.meaning.proofs.inner.product_head.Goals as goal
 
 pub returns-in-Factor : goal.returns-in-Factor
-returns-in-Factor c = λ p h e. c.factor_head.ensures ∙ ap (λ (q : Product ℕ). reads (dim q)) (sym (one-factor _ _ p h (e ∙ c.if-n-eq1.true) c.view_at.ensures c.in-Factor.is))
+returns-in-Factor c = λ p h e. c.factor_head.ensures
+    ∙ ap (λ (q : Product ℕ). reads (dim q)) (sym (one-factor _ _ p h (e ∙ c.if-n-eq1.true) c.view_at.ensures c.in-Factor.is))
 
 pub returns-in_default : goal.returns-in_default
 returns-in_default c = λ p h e. absurd (no-factor (c.view_at.ensures ∙ (says-one _ _ p h (e ∙ c.if-n-eq1.true)).is) (opened c.in_default.in_default-own.keys2))

@@ -12,7 +12,8 @@ loop-i-preserved c = λ p q h j m n e.
     let x : i < length p = omega arith in
     let y : i < length q = omega arith in
     c.loop-i.invariant p q h j m n
-    (factors-on a.s.now a.at a.t.now a.k i c.view_at.result c.view_at-in-loop-i.result c.view_at.ensures c.view_at-in-loop-i.ensures p q h j x y (rw c.if-not-same_factor.false at c.same_factor.ensures) e)
+    (factors-on a.s.now a.at a.t.now a.k i c.view_at.result c.view_at-in-loop-i.result c.view_at.ensures c.view_at-in-loop-i.ensures p q h j x y
+    (rw c.if-not-same_factor.false at c.same_factor.ensures) e)
 
 pub returns-then-not-same_factor : goal.returns-then-not-same_factor
 returns-then-not-same_factor c p q h j m n e =
@@ -20,7 +21,8 @@ returns-then-not-same_factor c p q h j m n e =
     let i = c.loop-i.i in
     let x : i < length p = omega arith in
     let y : i < length q = omega arith in
-    factors-stop a.s.now a.at a.t.now a.k i c.view_at.result c.view_at-in-loop-i.result c.view_at.ensures c.view_at-in-loop-i.ensures p q h j x y (rw c.if-not-same_factor.true at c.same_factor.ensures) e
+    factors-stop a.s.now a.at a.t.now a.k i c.view_at.result c.view_at-in-loop-i.result c.view_at.ensures c.view_at-in-loop-i.ensures p q h j x y
+    (rw c.if-not-same_factor.true at c.same_factor.ensures) e
 
 pub returns : goal.returns
 returns c p q h j m n =

@@ -19,7 +19,8 @@ equal_scalar-requires-clause-powers_good c = powers-good c.args.names.pool.now c
 
 pub returns-in-IsDimension : goal.returns-in-IsDimension
 unfolding trySatisfy
-returns-in-IsDimension c = applied-as (ap (trySatisfy (numbers c.args.names.pool.now c.args.names.table.now) bounded) (sym c.in-IsDimension.ensures)) c.is_dimension.ensures
+returns-in-IsDimension c = applied-as (ap (trySatisfy (numbers c.args.names.pool.now c.args.names.table.now) bounded) (sym c.in-IsDimension.ensures))
+    c.is_dimension.ensures
 
 pub returns-in-HasField : goal.returns-in-HasField
 unfolding trySatisfy

@@ -11,8 +11,10 @@ unfolding given
 loop-i-init c = (refl, refl)
 
 pub loop-i-preserved : goal.loop-i-preserved
-loop-i-preserved c = let long : length c.args.p.factors ≡ 64 = c.well_formed.0.1.1.0.1.0.1 in
-    (c.put_factor.auto.dst ∙ c.loop-i.invariant.0, store-on c.loop-i.dst _ _ c.args.p.factors c.loop-i.i (omega (arith, long)) c.put_factor.ensures c.loop-i.invariant.1)
+loop-i-preserved c = let long : length c.args.p.factors ≡ 64 = c.well_formed.0.1.1.0.1.0.1 in (
+  c.put_factor.auto.dst ∙ c.loop-i.invariant.0,
+  store-on c.loop-i.dst _ _ c.args.p.factors c.loop-i.i (omega (arith, long)) c.put_factor.ensures c.loop-i.invariant.1,
+)
 
 pub returns : goal.returns
 unfolding given

@@ -9,4 +9,5 @@ use Rattle.wording.proofs.inner.put_factors.Given as goal
 
 abbrev pub invariant-loop-i : goal.invariant-loop-i
 invariant-loop-i l =
-    (length l.dst ≡ length l.initial.dst) × (sets l.dst (l.i * 4) (words_of (map valueIn (drop l.i l.p.factors))) ≡ sets l.initial.dst 0 (words_of (given l.p).factors))
+    (length l.dst ≡ length l.initial.dst)
+    × (sets l.dst (l.i * 4) (words_of (map valueIn (drop l.i l.p.factors))) ≡ sets l.initial.dst 0 (words_of (given l.p).factors))

@@ -11,8 +11,12 @@ unfolding front_factors
 loop-i-init c = (scalar-long _ c.scalar-p.ensures, refl)
 
 pub loop-i-preserved : goal.loop-i-preserved
-loop-i-preserved c =
-    (length-set c.loop-i.p.factors c.loop-i.i _ ∙ c.loop-i.invariant.0, read-on c.args.words.now c.loop-i.p.factors c.loop-i.i _ (let h = c.loop-i.invariant.0 in omega (arith, h)) c.factor_at.ensures c.loop-i.invariant.1)
+loop-i-preserved c = (
+  length-set c.loop-i.p.factors c.loop-i.i _
+      ∙ c.loop-i.invariant.0,
+  read-on c.args.words.now c.loop-i.p.factors c.loop-i.i _ (let h = c.loop-i.invariant.0 in omega (arith, h))
+      c.factor_at.ensures c.loop-i.invariant.1,
+)
 
 pub returns : goal.returns
 returns c =

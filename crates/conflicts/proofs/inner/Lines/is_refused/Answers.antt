@@ -21,7 +21,9 @@ returns-in-Ok-Solved c =
     let cs = a.self.set.trees.0 in
     let back : c.tested-2-1.given.0 ≡ c.put_standing.new.out.words.now = search rules in
     let i : c.run.result.outcome ≡ Ok c.in-Ok-Solved.field-0 = c.in-Ok-Solved.is in
-    not-refused _ _ _ (c.run.ensures (part a.stands.now 0 cs) (ready _ _ _ (fine-part _ _ a.stands.now cs a.self.fine) _ _ refl c.put_standing.ensures (omega arith) back (omega arith))).answer _ _ (i ∙ ap Ok (rw i at c.in-Ok-Solved.field-0-is))
+    not-refused _ _ _ (c.run.ensures (part a.stands.now 0 cs)
+    (ready _ _ _ (fine-part _ _ a.stands.now cs a.self.fine) _ _ refl c.put_standing.ensures (omega arith) back (omega arith))).answer _ _
+    (i ∙ ap Ok (rw i at c.in-Ok-Solved.field-0-is))
 
 pub returns-in-Ok-Unsolved : goal.returns-in-Ok-Unsolved
 returns-in-Ok-Unsolved c =
@@ -29,14 +31,18 @@ returns-in-Ok-Unsolved c =
     let cs = a.self.set.trees.0 in
     let back : c.tested-2-1.given.0 ≡ c.put_standing.new.out.words.now = search rules in
     let i : c.run.result.outcome ≡ Ok c.in-Ok-Unsolved.field-0 = c.in-Ok-Unsolved.is in
-    is-refused _ _ _ (c.run.ensures (part a.stands.now 0 cs) (ready _ _ _ (fine-part _ _ a.stands.now cs a.self.fine) _ _ refl c.put_standing.ensures (omega arith) back (omega arith))).answer _ (i ∙ ap Ok (rw i at c.in-Ok-Unsolved.field-0-is))
+    is-refused _ _ _ (c.run.ensures (part a.stands.now 0 cs)
+    (ready _ _ _ (fine-part _ _ a.stands.now cs a.self.fine) _ _ refl c.put_standing.ensures (omega arith) back (omega arith))).answer _
+    (i ∙ ap Ok (rw i at c.in-Ok-Unsolved.field-0-is))
 
 pub returns-in-Err : goal.returns-in-Err
 returns-in-Err c =
     let a = c.args in
     let cs = a.self.set.trees.0 in
     let back : c.tested-2-1.given.0 ≡ c.put_standing.new.out.words.now = search rules in
-    stops _ _ _ (c.run.ensures (part a.stands.now 0 cs) (ready _ _ _ (fine-part _ _ a.stands.now cs a.self.fine) _ _ refl c.put_standing.ensures (omega arith) back (omega arith))).answer _ c.in-Err.is
+    stops _ _ _ (c.run.ensures (part a.stands.now 0 cs)
+    (ready _ _ _ (fine-part _ _ a.stands.now cs a.self.fine) _ _ refl c.put_standing.ensures (omega arith) back (omega arith))).answer _
+    c.in-Err.is
 
 pub overflow_mul-end : goal.overflow_mul-end
 overflow_mul-end c =

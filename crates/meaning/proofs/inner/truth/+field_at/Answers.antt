@@ -42,4 +42,5 @@ field_at-requires t c =
 pub returns : goal.returns
 returns t c =
     let a = c.args in
-    sought-on a.s.now a.at a.n a.x c.if-n-eq0.false c.view_at.ensures c.in-Field.is c.end_of.result c.field_at.result c.if-x-y.false c.end_of.ensures c.field_at.ensures
+    sought-on a.s.now a.at a.n a.x c.if-n-eq0.false c.view_at.ensures c.in-Field.is c.end_of.result c.field_at.result c.if-x-y.false c.end_of.ensures
+    c.field_at.ensures

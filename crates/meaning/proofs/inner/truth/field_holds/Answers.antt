@@ -32,9 +32,14 @@ returns-in_default-field_at c =
 
 pub means-requires : goal.means-requires
 means-requires c =
-    let a = c.args in record { left = field-asks a.s.now a.at a.x c.view_at.ensures c.in-Struct.is c.past.result c.past.ensures c.field_at.result c.field_at.ensures c.in-Some.is c.requires; right = second a.s.now a.at c.end_of.result c.end_of.ensures c.requires }
+    let a = c.args in record {
+      left = field-asks a.s.now a.at a.x c.view_at.ensures c.in-Struct.is c.past.result c.past.ensures c.field_at.result
+          c.field_at.ensures c.in-Some.is c.requires;
+      right = second a.s.now a.at c.end_of.result c.end_of.ensures c.requires;
+    }
 
 pub returns : goal.returns
 returns c =
     let a = c.args in
-    field-met a.s.now a.at a.x c.view_at.ensures c.in-Struct.is c.past.result c.past.ensures c.field_at.result c.field_at.ensures c.in-Some.is c.end_of.result c.means.result c.end_of.ensures c.means.ensures
+    field-met a.s.now a.at a.x c.view_at.ensures c.in-Struct.is c.past.result c.past.ensures c.field_at.result c.field_at.ensures c.in-Some.is
+    c.end_of.result c.means.result c.end_of.ensures c.means.ensures

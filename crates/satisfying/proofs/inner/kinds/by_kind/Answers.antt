@@ -42,13 +42,15 @@ returns-in-Dimension-Open c =
 pub returns-in-Open-Dimension : goal.returns-in-Open-Dimension
 returns-in-Open-Dimension c =
     let i = c.in-Open-Dimension in
-    applied-as (open-dimension (names c.args.names.pool.now c.args.names.table.now) i.ensures i.ensures' ∙ products-as _ (sym c.variable-in-Open-Dimension.ensures))
+    applied-as (open-dimension (names c.args.names.pool.now c.args.names.table.now) i.ensures i.ensures'
+    ∙ products-as _ (sym c.variable-in-Open-Dimension.ensures))
     (c.as_product-in-Open-Dimension.ensures _ (sym i.ensures'))
 
 pub returns-in-Function-Function : goal.returns-in-Function-Function
 returns-in-Function-Function c =
     let i = c.in-Function-Function in
-    split-is _ (two-functions (names c.args.names.pool.now c.args.names.table.now) i.ensures i.ensures' (i.ps.trees.1.many ∙ c.if-ps-qs.true ∙ sym i.qs.trees.1.many))
+    split-is _ (two-functions (names c.args.names.pool.now c.args.names.table.now) i.ensures i.ensures'
+    (i.ps.trees.1.many ∙ c.if-ps-qs.true ∙ sym i.qs.trees.1.many))
     (cons-con _ _ c.equal.ensures c.pairs.ensures)
 
 pub returns-in-Struct-Struct : goal.returns-in-Struct-Struct
@@ -66,15 +68,18 @@ returns-in_default c = let d = c.in_default in stuck-is
     (dimension-other (names c.args.names.pool.now c.args.names.table.now) _ c.shape-2.ensures d.ensures d.not-Dimension-1 d.not-Open-1)
 
 pub returns-in_default-2 : goal.returns-in_default-2
-returns-in_default-2 c = let d = c.in_default in stuck-is (open-other (names c.args.names.pool.now c.args.names.table.now) _ c.shape-2.ensures d.ensures d.not-Dimension-1)
+returns-in_default-2 c = let d = c.in_default
+    in stuck-is (open-other (names c.args.names.pool.now c.args.names.table.now) _ c.shape-2.ensures d.ensures d.not-Dimension-1)
 
 pub returns-in_default-3 : goal.returns-in_default-3
 returns-in_default-3 c =
     let i = c.in-Function-Function in
-    stuck-is (two-counts (names c.args.names.pool.now c.args.names.table.now) i.ensures i.ensures' (λ q. c.if-ps-qs.false (sym i.ps.trees.1.many ∙ q ∙ i.qs.trees.1.many)))
+    stuck-is (two-counts (names c.args.names.pool.now c.args.names.table.now) i.ensures i.ensures'
+    (λ q. c.if-ps-qs.false (sym i.ps.trees.1.many ∙ q ∙ i.qs.trees.1.many)))
 
 pub returns-in_default-4 : goal.returns-in_default-4
-returns-in_default-4 c = let d = c.in_default in stuck-is (one-function (names c.args.names.pool.now c.args.names.table.now) _ c.shape-2.ensures d.ensures d.not-Function-1)
+returns-in_default-4 c = let d = c.in_default
+    in stuck-is (one-function (names c.args.names.pool.now c.args.names.table.now) _ c.shape-2.ensures d.ensures d.not-Function-1)
 
 pub returns-in_default-5 : goal.returns-in_default-5
 returns-in_default-5 c =
@@ -87,10 +92,12 @@ returns-in_default-6 c = let i = c.in-Struct-Struct in
     stuck-is (two-names (names_of (table_of c.args.names.pool.now c.args.names.table.now)) i.ensures i.ensures' c.if-x-y.false)
 
 pub returns-in_default-7 : goal.returns-in_default-7
-returns-in_default-7 c = let d = c.in_default in stuck-is (one-struct (names c.args.names.pool.now c.args.names.table.now) _ c.shape-2.ensures d.ensures d.not-Struct-1)
+returns-in_default-7 c = let d = c.in_default
+    in stuck-is (one-struct (names c.args.names.pool.now c.args.names.table.now) _ c.shape-2.ensures d.ensures d.not-Struct-1)
 
 pub returns-in_default-8 : goal.returns-in_default-8
-returns-in_default-8 c = let d = c.in_default in stuck-is (one-list (names c.args.names.pool.now c.args.names.table.now) _ c.shape-2.ensures d.ensures d.not-List-1)
+returns-in_default-8 c = let d = c.in_default
+    in stuck-is (one-list (names c.args.names.pool.now c.args.names.table.now) _ c.shape-2.ensures d.ensures d.not-List-1)
 
 pub returns-in_default-9 : goal.returns-in_default-9
 returns-in_default-9 c = stuck-is (basic-left (names c.args.names.pool.now c.args.names.table.now) _ c.in_default.ensures)
