@@ -20,7 +20,7 @@ done
 target/bindings/k2 | cmp - bindings/c/k2.out
 target/bindings/sheet < examples/01-kilometres.sheet | cmp - bindings/c/sheet.out
 echo "C: K2 as in the rules, and a sheet"
-target/bindings/empty || { echo "bindings/c/empty.c: NULL with 0 elements isn't an empty slice"; exit 1; }
+target/bindings/empty || { echo "bindings/c/empty.c: NULL with 0 elements isn't an empty slice, or another version"; exit 1; }
 cd bindings
 cargo fmt --check
 CARGO_TARGET_DIR=../target/bindings RUSTDOCFLAGS="-D warnings" cargo doc --offline --no-deps --quiet

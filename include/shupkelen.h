@@ -11,7 +11,7 @@
  *   with NULL and once with a valid pointer, and compares all that is left. The thin calls below put a valid pointer in the place of NULL themselves, so
  *   they don't rest on it.
  *
- *   What is returned. The number of the refusal (enum shupkelen_refusal), 0 where there is none; only shupkelen_compare returns its answer.
+ *   What is returned. The number of the refusal (enum shupkelen_refusal), 0 where there is none; only shupkelen_compare and shupkelen_version return their answer.
  *
  *   answer. SHUPKELEN_ANSWER_WORDS words: value, more, rounds. Each call below says what value and more mean; rounds is 0 but for
  *   shupkelen_confirm, shupkelen_solve and shupkelen_read_text. On a refusal all three are written too: 0, but for the rounds that were completed, for 5 of a set, where
@@ -119,6 +119,11 @@ enum {
     SHUPKELEN_SKIPPED_WORDS = 2049,
     SHUPKELEN_TEXT_BYTES = 354304
 };
+
+/* ---- The version ---- */
+
+/* That of the library: SHUPKELEN_VERSION of the header that belongs to it. */
+uint32_t shupkelen_version(void);
 
 /* ---- Names ---- */
 

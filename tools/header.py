@@ -52,7 +52,8 @@ def source():
 
 def header():
     found = re.findall(r"^uint32_t (shupkelen_\w+)\(([^)]*)\);", read("include/shupkelen.h"), re.M)
-    return {name: [(p[len(kind):], IN_C[kind.strip()]) for p in each(ps) for kind in [re.match(r".*[ *]", p).group()]] for name, ps in found}
+    found = [(name, each(ps) if ps != "void" else []) for name, ps in found]
+    return {name: [(p[len(kind):], IN_C[kind.strip()]) for p in ps for kind in [re.match(r".*[ *]", p).group()]] for name, ps in found}
 
 
 def declarations():
@@ -102,6 +103,8 @@ def versions():
     said = re.search(r'SHUPKELEN_VERSION (\d+)\n#define SHUPKELEN_VERSION_TEXT "([^"]*)"', read("include/shupkelen.h"))
     if said.groups() != (str(first * 10_000 + second * 100 + third), version):
         yield "the header has another version"
+    if f"ensures {{ result ≡ version {first} {second} {third} }}" not in read("crates/shupkelen/src/version.rt"):
+        yield "the library has another version"
     if f'version = "{version}"\nedition' not in read("bindings/Cargo.toml"):
         yield "the Rust crates have another version"
     if f'shupkelen-sys = {{ path = "../rust-sys", version = "{version}" }}' not in read("bindings/rust/Cargo.toml"):

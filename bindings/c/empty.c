@@ -150,6 +150,10 @@ static unsigned tried(const struct call *c) {
 
 int main(void) {
     unsigned choices = 0;
+    if (shupkelen_version() != SHUPKELEN_VERSION) {
+        printf("the library is version %u, and the header %u\n", (unsigned)shupkelen_version(), (unsigned)SHUPKELEN_VERSION);
+        return 1;
+    }
     memset(work, 7, sizeof work);
     memset(result, 9, sizeof result);
     keep(before, UINT32_MAX);
@@ -158,6 +162,6 @@ int main(void) {
         if (more == 0) return 1;
         choices += more;
     }
-    printf("%u calls, %u choices of empty slices: the same with NULL\n", (unsigned)CALLS, choices);
+    printf("version %s; %u calls, %u choices of empty slices: the same with NULL\n", SHUPKELEN_VERSION_TEXT, (unsigned)CALLS, choices);
     return 0;
 }

@@ -8,6 +8,8 @@
 #![allow(clippy::missing_safety_doc)]
 
 extern "C" {
+    /// The version of the library: 10,000 for each first number, 100 for each second, 1 for each third.
+    pub fn shupkelen_version() -> u32;
     /// Two names, by their bytes. Returns 1 (less), 2 (same) or 3 (more).
     pub fn shupkelen_compare(first: *const u8, first_len: usize, second: *const u8, second_len: usize) -> u32;
     /// Is it a name table? 10, 1.

@@ -36,6 +36,12 @@ macro_rules! ask {
     }};
 }
 
+/// The version of the library that is linked, as one number: 10,000 for each first number, 100 for each second, 1 for each third.
+pub fn version() -> u32 {
+    // SAFETY: nothing is lent
+    unsafe { shupkelen_sys::shupkelen_version() }
+}
+
 /// Two names, by their bytes. Returns 1 (less), 2 (same) or 3 (more).
 pub fn compare(first: &[u8], second: &[u8]) -> u32 {
     lend!(shupkelen_compare, &first, &second)

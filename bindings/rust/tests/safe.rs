@@ -21,6 +21,13 @@ fn type_of(names: &mut NameTable, line: &str) -> Vec<u32> {
     set.records[4..].to_vec()
 }
 
+/// The archive that is linked is of this crate's version.
+#[test]
+fn version() {
+    let numbers: Vec<u32> = env!("CARGO_PKG_VERSION").split('.').map(|n| n.parse().unwrap()).collect();
+    assert_eq!(shupkelen::raw::version(), numbers[0] * 10_000 + numbers[1] * 100 + numbers[2]);
+}
+
 #[test]
 fn names() {
     let mut names = NameTable::new();

@@ -1,7 +1,7 @@
 -- What each exported call leaves behind, from the outcome of the call behind it: the number that is returned, the lent words of the answer, and each
 -- other buffer that is lent to be changed.
 use Rattle.std.specs.Prelude.{Bool, List}
-use Prim.Native.Nat.{ℕ, Ordering}
+use Prim.Native.Nat.{ℕ, Ordering, ◌+◌, ◌*◌}
 use Rattle.rules.specs.Base.{Got}
 use Rattle.rules.specs.Exponents.{Exp}
 use Rattle.rules.specs.Trees.{Product}
@@ -102,3 +102,7 @@ textOut l answer = handed (countAs l.answer) answer l.result
 -- records, constraints and new names, or the line and the column of the refusal; pool, table, result and work buffer
 abbrev pub textReadOut : TextRead → List ℕ → Out (List ℕ × (List ℕ × (List ℕ × List ℕ)))
 textReadOut t answer = handed (sheetAs t.answer) answer (t.pool, (t.table, (t.result, t.work)))
+
+-- the three numbers of a version as one, that rises with them
+abbrev pub version : ℕ → ℕ → ℕ → ℕ
+version first second third = first * 10_000 + second * 100 + third
