@@ -1,24 +1,24 @@
 -- What was written at the start of the work buffer is at most 2,048 records long and nested at most 64, or refused as 8.
-use Rattle.std.specs.Prelude.{Some, None, ◌≡◌, Bool, true, false, List, ℕ, ◌≤◌, ◌<◌, leb}
+use Rattle.std.specs.Prelude.{Some, None, ◌≡◌, Bool, true, false, List, ℕ, ◌≤◌, ◌<◌, leb, min, length}
 use Rattle.std.proofs.Common.{sym, ap, subst, ◌∙◌, arith, leb-true, le-leb}
 use Rattle.std.proofs.Math.Decide.{dec_le}
-use Rattle.rules.specs.Base.{Got, got, refused, ◌>>=◌, bounded, sized, sum_of, max_of}
-use Rattle.rules.specs.Trees.{Ty, size, depth}
+use Rattle.rules.specs.Base.{Got, got, refused, ◌>>=◌, bounded, sized, all, sum_of, max_of}
+use Rattle.rules.specs.Trees.{Ty, Con, size, depth, sizeCon, depthCon}
 use Rattle.rules.specs.WellFormed.{goodTy}
 use Rattle.laws.specs.Lists.{true≢false}
 use Rattle.laws.specs.Sized.{sized-kept, sized-long, sized-deep}
-use Rattle.records.specs.Good.{Ends, GoodTy, numbers, holding}
+use Rattle.records.specs.Good.{Ends, GoodTy, goodCon, numbers, holding}
 use Rattle.records.specs.Holds.{Holds}
 use Rattle.records.specs.Parsed.{only}
-use Rattle.replacing.specs.Flat.{depthLine, PlainLines}
-use Rattle.replacing.specs.LineRules.{Line, sizeLine}
+use Rattle.types.specs.Sets.{Cons, IsCons, one-set}
+use Rattle.types.specs.Written.{last}
 
 -- how many records a value has, or 8
 module _ {A : Type 0} (long deep : A → ℕ) where
   abbrev pub counted : A → Got ℕ
   counted a = sized bounded (long a) (deep a) a >>= λ b. got (long b)
 
-  module _ (n : ℕ) (a : A) (many : n ≡ long a) where
+  module _ (n : ℕ) (a : A) (many : min n last ≡ min (long a) last) where
     pub too_long : 2048 < n → refused 8 ≡ counted a
     too_long h = let k : 2048 < long a = omega (arith, many) in sym (rw (sized-long (long a) (deep a) a k))
 
@@ -26,7 +26,10 @@ module _ {A : Type 0} (long deep : A → ℕ) where
     too-deep h = sym (rw (sized-deep (long a) (deep a) a h))
 
     pub fitting : n ≤ 2048 → deep a ≤ 64 → got n ≡ counted a
-    fitting h k = let i : long a ≤ 2048 = omega (arith, many) in ap got many ∙ sym (rw (sized-kept (long a) (deep a) a i k))
+    fitting h k =
+        let i : long a ≤ 2048 = omega (arith, many) in
+        let e : n ≡ long a = omega (arith, many) in
+        ap got e ∙ sym (rw (sized-kept (long a) (deep a) a i k))
 
 -- ══ A type ══
 
@@ -35,7 +38,7 @@ typeCounted u = counted size depth u
 
 -- n records of u stand at the start of w, where they are not too many
 pub record TypeStands (pool table w : List ℕ) (n : ℕ) (u : Ty ℕ) : Type 0 where
-  pub many : n ≡ size u
+  pub many : min n last ≡ min (size u) last
   pub held : size u ≤ 2048 → Holds w u 0
   pub good : goodTy (numbers pool table) (holding pool table) 0 u ≡ true
 
@@ -53,25 +56,42 @@ module _ (pool table w : List ℕ) (n : ℕ) (u : Ty ℕ) (s : TypeStands pool t
       go (yes k) = absurd (f u (size u) (record { held = there; past = omega arith; deep = k; good = s.good }))
       go (no k) = too-deep size depth n u s.many (omega arith)
 
--- ══ The lines of a set ══
+-- ══ A set ══
 
-abbrev pub linesCounted : List Line → Got ℕ
-linesCounted xs = counted (sum_of sizeLine) (max_of depthLine) xs
+abbrev pub setCounted : List (Con ℕ) → Got ℕ
+setCounted cs = counted (sum_of sizeCon) (max_of depthCon) cs
 
-pub record LinesStand (pool table w : List ℕ) (n : ℕ) (xs : List Line) : Type 0 where
-  pub many : n ≡ sum_of sizeLine xs
-  pub held : sum_of sizeLine xs ≤ 2048 → PlainLines pool table w xs 0 n
+-- n records of these constraints stand at the start of w, where they are not too many
+pub record SetStands (pool table w : List ℕ) (n : ℕ) (cs : List (Con ℕ)) : Type 0 where
+  pub many : min n last ≡ min (sum_of sizeCon cs) last
+  pub held : sum_of sizeCon cs ≤ 2048 → IsCons w 0 n cs
+  pub near : sum_of sizeCon cs ≤ 2048 → length w ≤ 4_000_000_000
+  pub good : all (goodCon pool table 0) cs ≡ true
 
-module _ (pool table w : List ℕ) (n : ℕ) (xs : List Line) (s : LinesStand pool table w n xs) (h : n ≤ 2048) where
-  pub lines-there : PlainLines pool table w xs 0 n
-  lines-there = s.held (omega (arith, s.many))
+module _ (pool table w : List ℕ) (n : ℕ) (cs : List (Con ℕ)) (s : SetStands pool table w n cs) (h : n ≤ 2048) where
+  pub cons-there : IsCons w 0 n cs
+  cons-there = s.held (omega (arith, s.many))
 
-  pub lines-shallow : {b : Bool} → b ≡ leb (max_of depthLine xs) 64 → b ≡ true → got n ≡ linesCounted xs
-  lines-shallow e i = fitting (sum_of sizeLine) (max_of depthLine) n xs s.many h (leb-true (max_of depthLine xs) 64 (sym e ∙ i))
+  pub near-there : length w ≤ 4_000_000_000
+  near-there = s.near (omega (arith, s.many))
 
-  pub lines-deep : {b : Bool} → b ≡ leb (max_of depthLine xs) 64 → b ≡ false → refused 8 ≡ linesCounted xs
-  lines-deep e i = go (dec_le (max_of depthLine xs) 64)
-    where
-      go : Dec (max_of depthLine xs ≤ 64) → refused 8 ≡ linesCounted xs
-      go (yes k) = absurd (true≢false (sym (le-leb (max_of depthLine xs) 64 k) ∙ sym e ∙ i))
-      go (no k) = too-deep (sum_of sizeLine) (max_of depthLine) n xs s.many (omega arith)
+  -- whichever way it is told which constraints stand there
+  same-there : (p : Cons w 0 n) → cs ≡ p.0
+  same-there p = ap (λ (x : Cons w 0 n). x.0) (one-set w 0 n (cs, cons-there) p)
+
+  pub there-good : (p : Cons w 0 n) → all (goodCon pool table 0) p.0 ≡ true
+  there-good p = rw (← same-there p) s.good
+
+  module _ (p : Cons w 0 n) {b : Bool} (e : b ≡ leb (max_of depthCon p.0) 64) where
+    told : b ≡ leb (max_of depthCon cs) 64
+    told = rw (same-there p) e
+
+    pub set-shallow : b ≡ true → got n ≡ setCounted cs
+    set-shallow i = fitting (sum_of sizeCon) (max_of depthCon) n cs s.many h (leb-true (max_of depthCon cs) 64 (sym told ∙ i))
+
+    pub set-deep : b ≡ false → refused 8 ≡ setCounted cs
+    set-deep i = go (dec_le (max_of depthCon cs) 64)
+      where
+        go : Dec (max_of depthCon cs ≤ 64) → refused 8 ≡ setCounted cs
+        go (yes k) = absurd (true≢false (sym (le-leb (max_of depthCon cs) 64 k) ∙ sym told ∙ i))
+        go (no k) = too-deep (sum_of sizeCon) (max_of depthCon) n cs s.many (omega arith)

@@ -2,26 +2,28 @@
 ghost use Rattle.std.specs.Prelude.{◌≡◌, List, ℕ, ◌/◌, ◌≤◌, length};
 ghost use Rattle.rules.specs.Base.{got, need};
 ghost use Rattle.rules.specs.Names.{table_of, lentTable};
-ghost use Rattle.rules.specs.Calls.{setGiven, typeGiven, replacedSet, replacedType};
+ghost use Rattle.rules.specs.Calls.{replacedSet, replacedType};
 ghost use Rattle.rules.specs.Trees.{Ty, Con, Binding};
-ghost use Rattle.laws.specs.NameTable.{Good};
 ghost use Rattle.queries.specs.Marks.{Small};
 ghost use Rattle.queries.specs.Scans.{opensIn};
 ghost use Rattle.lending.specs.Told.{Made};
 ghost use Rattle.rules.specs.Refusals.{told};
-ghost use Rattle.replacing.specs.LineRules.{Line};
-ghost use Rattle.replacing_calls.specs.Entry.{withBindings, Entered};
-ghost use Rattle.replacing_calls.specs.Stands.{TypeStands, LinesStand, typeCounted, linesCounted};
-ghost use Rattle.replacing_calls.specs.Made.{madeType, madeSet};
+ghost use Rattle.replacing_calls.specs.Entry.{withBindings};
+ghost use Rattle.replacing_calls.specs.Stands.{TypeStands, SetStands, typeCounted, setCounted};
+ghost use Rattle.replacing_calls.specs.Made.{madeType, madeSet, TypeEntered, SetEntered};
 
 use names::tables::NameTable;
 use places::inner::fill;
 use queries::inner::apart;
 use records::inner::type_end;
 use records::{is_bindings, is_set, is_type};
-use replacing::inner::flat::lines_flat;
-use replacing::inner::lines::{replace_lines, replace_type};
+use replacing::inner::constraints::replace_constraints;
+use replacing::inner::flat::constraints_flat;
+use replacing::inner::walk::replace_type;
+use replacing::substitution::Substitution;
 use rules::{NAMES, NESTED, RECORD_WORDS, RECORDS, Refusal};
+use types::writer::Writer;
+use types::{Constraints, Type};
 
 // No, as refusal 4.
 fn unmixed_or(yes: bool) -> Result<(), Refusal>
@@ -48,14 +50,12 @@ fn with_bindings(
 }
 
 // Is the type at the start, of n records, short and flat enough? How many records, or 8.
-fn type_fits(pool: &[u8], table: &[u32], w: &[u32], n: usize) -> Result<usize, Refusal>
-    requires { Good pool.now table.now }
-    ensures { (u : Ty ℕ) → TypeStands pool.now table.now w.now n u → told result ≡ typeCounted u }
+fn type_fits(names: NameTable, w: &[u32], n: usize) -> Result<usize, Refusal>
+    ensures { (u : Ty ℕ) → TypeStands names.entry.pool.now names.entry.table.now w.now n u → told result ≡ typeCounted u }
 {
     if RECORDS < n {
         return Err(Refusal::TooLarge);
     }
-    let names = NameTable { pool, table };
     match type_end(names, 0, w, 0, NESTED) {
         Some(_) => Ok(n),
         None => Err(Refusal::TooLarge),
@@ -63,58 +63,90 @@ fn type_fits(pool: &[u8], table: &[u32], w: &[u32], n: usize) -> Result<usize, R
 }
 
 // The same of the constraints at the start, of n records.
-fn set_fits(pool: &[u8], table: &[u32], w: &[u32], n: usize) -> Result<usize, Refusal>
-    requires good { Good pool.now table.now }
-    requires lines_stand { (xs : List Line) × LinesStand pool.now table.now w.now n xs }
-    ensures { (xs : List Line) → LinesStand pool.now table.now w.now n xs → told result ≡ linesCounted xs }
+fn set_fits(names: NameTable, w: &[u32], n: usize) -> Result<usize, Refusal>
+    requires { (cs : List (Con ℕ)) × SetStands names.pool.now names.table.now w.now n cs }
+    ensures { (cs : List (Con ℕ)) → SetStands names.entry.pool.now names.entry.table.now w.now n cs → told result ≡ setCounted cs }
 {
     if RECORDS < n {
         return Err(Refusal::TooLarge);
     }
-    if lines_flat(pool, table, w, 0, n) {
+    let made = Constraints {
+        words: w,
+        at: 0,
+        end: n,
+    };
+    if constraints_flat(names, made) {
         Ok(n)
     } else {
         Err(Refusal::TooLarge)
     }
 }
 
-// Writes the type with its bound variables replaced to the work buffer: how many records, or why not.
+// Writes the type with its bound variables replaced to the front of the work buffer: how many records, or why not.
 fn type_into(
-    pool: &[u8],
-    table: &[u32],
+    names: NameTable,
     words: &[u32],
     binds: &[u32],
     work: &mut [u32],
 ) -> Result<usize, Refusal>
-    requires by_index { (t : Ty ℕ) × ((bs : List (Binding ℕ)) × Entered pool.now table.now words.now binds.now (typeGiven (table_of pool.now table.now) words.now) t bs) }
-    requires in_bounds { 16384 ≤ length work.old }
-    ensures { (t : Ty ℕ) (bs : List (Binding ℕ)) → Entered pool.now table.now words.now binds.now (typeGiven (table_of pool.now table.now) words.now) t bs → Made (madeType pool.now table.now t bs) work.new result }
+    requires entered { (t : Ty ℕ) × ((bs : List (Binding ℕ)) × TypeEntered names words.now binds.now t bs) }
+    requires room { 16384 ≤ length work.old }
+    ensures { (t : Ty ℕ) (bs : List (Binding ℕ)) → TypeEntered names.entry words.now binds.now t bs
+        → Made (madeType names.entry.pool.now names.entry.table.now t bs) work.new result }
 {
     let mut places = [0u32; NAMES];
     fill(binds, 0, binds.len() / 4, &mut places);
-    match replace_type(pool, table, words, 0, &places, binds, work, 0) {
-        Ok((_, n)) => type_fits(pool, table, work, n),
+    let by = Substitution {
+        names,
+        places: &places,
+        types: binds,
+    };
+    let (front, _) = work.split_at_mut(RECORD_WORDS);
+    let mut out = Writer {
+        words: front,
+        at: 0,
+    };
+    let put = replace_type(by, Type { words, at: 0 }, &mut out);
+    let n = out.at;
+    match put {
+        Ok(()) => type_fits(names, front, n),
         Err(k) => Err(k),
     }
 }
 
 // The same for a set.
 fn set_into(
-    pool: &[u8],
-    table: &[u32],
+    names: NameTable,
     words: &[u32],
     binds: &[u32],
     work: &mut [u32],
 ) -> Result<usize, Refusal>
-    requires by_index { (cs : List (Con ℕ)) × ((bs : List (Binding ℕ)) × Entered pool.now table.now words.now binds.now (setGiven (table_of pool.now table.now) words.now) cs bs) }
-    requires in_bounds { 16384 ≤ length work.old }
-    ensures { (cs : List (Con ℕ)) (bs : List (Binding ℕ)) → Entered pool.now table.now words.now binds.now (setGiven (table_of pool.now table.now) words.now) cs bs → Made (madeSet pool.now table.now cs bs) work.new result }
+    requires entered { (cs : List (Con ℕ)) × ((bs : List (Binding ℕ)) × SetEntered names words.now binds.now cs bs) }
+    requires room { 16384 ≤ length work.old }
+    ensures { (cs : List (Con ℕ)) (bs : List (Binding ℕ)) → SetEntered names.entry words.now binds.now cs bs
+        → Made (madeSet names.entry.pool.now names.entry.table.now cs bs) work.new result }
 {
     let mut places = [0u32; NAMES];
     fill(binds, 0, binds.len() / 4, &mut places);
-    let n = words.len() / 4;
-    match replace_lines(pool, table, words, 0, n, &places, binds, work, 0) {
-        Ok((_, k)) => set_fits(pool, table, work, k),
+    let by = Substitution {
+        names,
+        places: &places,
+        types: binds,
+    };
+    let set = Constraints {
+        words,
+        at: 0,
+        end: words.len() / 4,
+    };
+    let (front, _) = work.split_at_mut(RECORD_WORDS);
+    let mut out = Writer {
+        words: front,
+        at: 0,
+    };
+    let put = replace_constraints(by, set, &mut out);
+    let n = out.at;
+    match put {
+        Ok(()) => set_fits(names, front, n),
         Err(k) => Err(k),
     }
 }
@@ -135,7 +167,7 @@ pub fn make_type(
         return Err(Refusal::TooLarge);
     }
     with_bindings(is_type(pool, table, words), pool, table, words, binds)?;
-    type_into(pool, table, words, binds, work)
+    type_into(NameTable { pool, table }, words, binds, work)
 }
 
 /// The same for a set.
@@ -154,5 +186,5 @@ pub fn make_set(
         return Err(Refusal::TooLarge);
     }
     with_bindings(is_set(pool, table, words), pool, table, words, binds)?;
-    set_into(pool, table, words, binds, work)
+    set_into(NameTable { pool, table }, words, binds, work)
 }

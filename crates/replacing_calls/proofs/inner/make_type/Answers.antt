@@ -13,13 +13,21 @@ returns-then-binds-gt-RECORD_WORDS c = long-made _ _ _ _ _ _ _ _ (type-whole _ _
 pub with_bindings-requires : goal.with_bindings-requires
 with_bindings-requires c = λ e. type-small _ _ _ (record { word = λ i. (c.shared_slice_known-3-1.given i).fits }) (sym c.is_type.ensures ∙ e)
 
+pub invariant_of-type_into : goal.invariant_of-type_into
+invariant_of-type_into c =
+    let word : Words32 c.args.words.now = record { word = λ i. (c.shared_slice_known-3-1.given i).fits } in
+    let binds-word : Words32 c.args.binds.now = record { word = λ i. (c.shared_slice_known-4-1.given i).fits } in
+    let (t, (bs, (e, n))) = type-met _ _ _ _ c.if-binds-gt-RECORD_WORDS.false c.requires.table_value word binds-word _ _ c.is_type.ensures c.with_bindings.ensures
+    (ap told c.in_ok-with_bindings.was) in
+    record { good = n.good }
+
 pub type_into-requires : goal.type_into-requires
 type_into-requires c =
     let word : Words32 c.args.words.now = record { word = λ i. (c.shared_slice_known-3-1.given i).fits } in
     let binds-word : Words32 c.args.binds.now = record { word = λ i. (c.shared_slice_known-4-1.given i).fits } in
     let (t, (bs, (e, n))) = type-met _ _ _ _ c.if-binds-gt-RECORD_WORDS.false c.requires.table_value word binds-word _ _ c.is_type.ensures c.with_bindings.ensures
     (ap told c.in_ok-with_bindings.was) in
-    record { by_index = (t, (bs, n)); in_bounds = c.requires.in_bounds }
+    record { entered = (t, (bs, n)); room = c.requires.in_bounds }
 
 pub returns : goal.returns
 returns c =

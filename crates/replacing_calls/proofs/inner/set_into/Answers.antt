@@ -1,61 +1,71 @@
 -- `inner::set_into` meets its contract.
-use mathlib.Core.Path.{refl}
-use mathlib.Core.List.{map}
-use native.Mathlib.Omega.{arith}
+use Rattle.std.proofs.Common.{◌≡◌, refl, rules, arith}
 use Rattle.rules.specs.Base.{sum_of, max_of, collect}
+use Rattle.rules.specs.Trees.{sizeCon, depthCon}
+use Rattle.rules.specs.Writing.{writeCon}
+use Rattle.laws.specs.Size.{set-length}
 use Rattle.records.specs.Found.{Words32}
-use Rattle.replacing.specs.Flat.{depthLine}
-use Rattle.replacing.specs.LineLaws.{short-lines}
-use Rattle.replacing.specs.LineRules.{con, sizeLine, writeLine}
-use Rattle.replacing.specs.Written.{all-length}
-use Rattle.replacing_calls.specs.Made.{set-asks, set-made, lines-stand, came, made-to, made-stop}
+use Rattle.replacing_calls.specs.Made.{set-binds, set-held, set-good, set-left, set-stands, set-made, came, made-to, made-stop, short-set}
 use Rattle.replacing_calls.proofs.inner.set_into.Goals as goal
 
 pub fill-requires : goal.fill-requires
-fill-requires c = let word : Words32 c.args.words.now = record { word = λ i. (c.shared_slice_known-3-1.given i).fits } in
-    let binds-word : Words32 c.args.binds.now = record { word = λ i. (c.shared_slice_known-4-1.given i).fits } in
-    let (cs, (bs, n)) = c.requires.by_index in
-    let l = (set-asks _ _ _ _ (word) (binds-word) bs cs n).1.0 in
+fill-requires c =
+    let word : Words32 c.args.words.now = record { word = λ i. (c.type_inv.words i).fits } in
+    let binds-word : Words32 c.args.binds.now = record { word = λ i. (c.type_inv.binds i).fits } in
+    let (cs, (bs, n)) = c.requires.entered in
+    let l = set-binds _ _ _ _ word binds-word bs cs n in
     record { run = (bs, l.run); near = l.near; empty = refl }
 
-pub replace_lines-requires : goal.replace_lines-requires
-replace_lines-requires c = let word : Words32 c.args.words.now = record { word = λ i. (c.shared_slice_known-3-1.given i).fits } in
-    let binds-word : Words32 c.args.binds.now = record { word = λ i. (c.shared_slice_known-4-1.given i).fits } in
-    let (cs, (bs, n)) = c.requires.by_index in
-    let g = set-asks _ _ _ _ (word) (binds-word) bs cs n in
-    let l = c.fill.ensures _ _ bs n.good g.1.0 in
-    record { good = n.good; held_lines = (map con cs, g.0); by_index = (_, l); end_in_bounds = omega arith; room = g.1.1 }
+pub invariant_of-by : goal.invariant_of-by
+invariant_of-by c =
+    let word : Words32 c.args.words.now = record { word = λ i. (c.type_inv.words i).fits } in
+    let binds-word : Words32 c.args.binds.now = record { word = λ i. (c.type_inv.binds i).fits } in
+    let (cs, (bs, n)) = c.requires.entered in
+    record { lent = (_, c.fill.ensures _ _ bs n.good (set-binds _ _ _ _ word binds-word bs cs n)) }
+
+pub invariant_of-set : goal.invariant_of-set
+invariant_of-set c =
+    let word : Words32 c.args.words.now = record { word = λ i. (c.type_inv.words i).fits } in
+    let binds-word : Words32 c.args.binds.now = record { word = λ i. (c.type_inv.binds i).fits } in
+    let (cs, (bs, n)) = c.requires.entered in
+    record { near = omega (arith, n.words-short); trees = (cs, set-held _ _ _ _ word binds-word bs cs n) }
+
+pub replace_constraints-put-requires : goal.replace_constraints-put-requires
+replace_constraints-put-requires c =
+    let word : Words32 c.args.words.now = record { word = λ i. (c.type_inv.words i).fits } in
+    let binds-word : Words32 c.args.binds.now = record { word = λ i. (c.type_inv.binds i).fits } in
+    let (cs, (bs, n)) = c.requires.entered in
+    set-good _ _ _ _ word binds-word bs cs n c.replace_constraints-arg-2-1.given.1.0
 
 pub set_fits-requires : goal.set_fits-requires
-set_fits-requires c = let word : Words32 c.args.words.now = record { word = λ i. (c.shared_slice_known-3-1.given i).fits } in
-    let binds-word : Words32 c.args.binds.now = record { word = λ i. (c.shared_slice_known-4-1.given i).fits } in
-    let (cs, (bs, n)) = c.requires.by_index in
-    let space = c.requires.in_bounds in
-    let a = c.args in
-    let g = set-asks _ _ _ _ (word) (binds-word) bs cs n in
-    let l = c.fill.ensures _ _ bs n.good g.1.0 in
-    let k = came (sum_of sizeLine) (max_of depthLine) (collect writeLine) (all-length a.pool.now a.table.now) short-lines _ _ _ space _ c.in-Ok.is (c.replace_lines.ensures (map con cs) _ g.0 l) in
-    record { good = n.good; lines_stand = (k.value, lines-stand _ _ _ _ (word) (binds-word) bs cs n _ _ _ _ space k) }
+set_fits-requires c =
+    let word : Words32 c.args.words.now = record { word = λ i. (c.type_inv.words i).fits } in
+    let binds-word : Words32 c.args.binds.now = record { word = λ i. (c.type_inv.binds i).fits } in
+    let (cs, (bs, n)) = c.requires.entered in
+    let back : c.front-1.given.0 ≡ c.replace_constraints-put.new.out.words.now = search rules in
+    let f = c.fill.ensures _ _ bs n.good (set-binds _ _ _ _ word binds-word bs cs n) in
+    let left = set-left _ _ _ _ word binds-word bs cs n f c.replace_constraints-arg-1.given.0 c.replace_constraints-arg-2-1.given.1.0 c.replace_constraints-put.ensures in
+    let k = came (sum_of sizeCon) (max_of depthCon) (collect writeCon) set-length short-set _ _ refl (omega (arith, c.split_at_mut-front.ensures.front_len)) _ c.in-Ok.is left in
+    (k.value, rw back (set-stands _ _ _ _ word binds-word bs cs n _ _ _ k.value (omega (arith, c.split_at_mut-front.ensures.front_len)) k.is k.many k.buffer))
 
 pub returns-in-Ok : goal.returns-in-Ok
-returns-in-Ok c = let word : Words32 c.args.words.now = record { word = λ i. (c.shared_slice_known-3-1.given i).fits } in
-    let binds-word : Words32 c.args.binds.now = record { word = λ i. (c.shared_slice_known-4-1.given i).fits } in
+returns-in-Ok c =
+    let word : Words32 c.args.words.now = record { word = λ i. (c.type_inv.words i).fits } in
+    let binds-word : Words32 c.args.binds.now = record { word = λ i. (c.type_inv.binds i).fits } in
+    let back : c.front-1.given.0 ≡ c.replace_constraints-put.new.out.words.now = search rules in
     λ cs bs n.
-    let space = c.requires.in_bounds in
-    let a = c.args in
-    let g = set-asks _ _ _ _ (word) (binds-word) bs cs n in
-    let l = c.fill.ensures _ _ bs n.good g.1.0 in
-    let k = came (sum_of sizeLine) (max_of depthLine) (collect writeLine) (all-length a.pool.now a.table.now) short-lines _ _ _ space _ c.in-Ok.is (c.replace_lines.ensures (map con cs) _ g.0 l) in
-    set-made _ _ cs bs _ _
-    (made-to (sum_of sizeLine) (max_of depthLine) (collect writeLine) (all-length a.pool.now a.table.now) short-lines _ _ _ space _ _ _ k (c.set_fits.ensures k.value (lines-stand _ _ _ _ (word) (binds-word) bs cs n _ _ _ _ space k)))
+    let f = c.fill.ensures _ _ bs n.good (set-binds _ _ _ _ word binds-word bs cs n) in
+    let left = set-left _ _ _ _ word binds-word bs cs n f c.replace_constraints-arg-1.given.0 c.replace_constraints-arg-2-1.given.1.0 c.replace_constraints-put.ensures in
+    let k = came (sum_of sizeCon) (max_of depthCon) (collect writeCon) set-length short-set _ _ refl (omega (arith, c.split_at_mut-front.ensures.front_len)) _ c.in-Ok.is left in
+    let s = set-stands _ _ _ _ word binds-word bs cs n _ _ _ k.value (omega (arith, c.split_at_mut-front.ensures.front_len)) k.is k.many k.buffer in
+    rw back (set-made _ _ cs bs _ _ (made-to (sum_of sizeCon) (max_of depthCon) (collect writeCon) set-length short-set _ _ refl (omega (arith, c.split_at_mut-front.ensures.front_len)) _ _ _ k
+    (c.set_fits.ensures k.value (rw back s))))
 
 pub returns-in-Err : goal.returns-in-Err
-returns-in-Err c = let word : Words32 c.args.words.now = record { word = λ i. (c.shared_slice_known-3-1.given i).fits } in
-    let binds-word : Words32 c.args.binds.now = record { word = λ i. (c.shared_slice_known-4-1.given i).fits } in
+returns-in-Err c =
+    let word : Words32 c.args.words.now = record { word = λ i. (c.type_inv.words i).fits } in
+    let binds-word : Words32 c.args.binds.now = record { word = λ i. (c.type_inv.binds i).fits } in
     λ cs bs n.
-    let space = c.requires.in_bounds in
-    let a = c.args in
-    let g = set-asks _ _ _ _ (word) (binds-word) bs cs n in
-    let l = c.fill.ensures _ _ bs n.good g.1.0 in
-    set-made _ _ cs bs _ _
-    (made-stop (sum_of sizeLine) (max_of depthLine) (collect writeLine) (all-length a.pool.now a.table.now) short-lines _ _ _ space _ c.in-Err.is (c.replace_lines.ensures (map con cs) _ g.0 l))
+    let f = c.fill.ensures _ _ bs n.good (set-binds _ _ _ _ word binds-word bs cs n) in
+    let left = set-left _ _ _ _ word binds-word bs cs n f c.replace_constraints-arg-1.given.0 c.replace_constraints-arg-2-1.given.1.0 c.replace_constraints-put.ensures in
+    set-made _ _ cs bs _ _ (made-stop (sum_of sizeCon) (max_of depthCon) (collect writeCon) set-length short-set _ _ refl (omega (arith, c.split_at_mut-front.ensures.front_len)) _ _ c.in-Err.is left)
