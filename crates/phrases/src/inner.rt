@@ -1,6 +1,6 @@
 //! Types: a type's record is counted at its first byte, and written when its parts are there.
 pub mod leaves;
-pub mod types;
+pub mod nested;
 
 ghost use Rattle.std.specs.Prelude.{◌≡◌, List, ℕ, ◌+◌, ◌≤◌, min, length};
 ghost use Rattle.rules.specs.TextReading.{ty_of};

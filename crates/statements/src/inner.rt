@@ -9,7 +9,7 @@ ghost use Rattle.terms.specs.Effects.{lent, Room, Ready, Writes, Done};
 ghost use Rattle.statements.specs.Statements.{end_of, SaysScalar, stated, meantOf, LineTold, LineDone};
 ghost use Rattle.statements.specs.Answers.{standIn, countIn, answer_of};
 
-use phrases::inner::types::enter_type;
+use phrases::inner::nested::enter_type;
 use reading::inner::{Point, byte_at, mark, next_is, next_sign, refuse, sign};
 use records::View;
 use rules::{NESTED, Refusal};

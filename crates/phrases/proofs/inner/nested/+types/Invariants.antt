@@ -3,7 +3,7 @@ use Rattle.reading.specs.Points.{left_at}
 use Rattle.terms.specs.Effects.{lent}
 use Rattle.phrases.specs.Rows.{TysLoop, FieldsLoop}
 use Prim.Native.Nat.{◌+◌, ◌*◌}
-use Rattle.phrases.proofs.inner.types.+types.Given as goal
+use Rattle.phrases.proofs.inner.nested.+types.Given as goal
 
 abbrev pub decreases-enter_arguments : goal.decreases-enter_arguments
 decreases-enter_arguments l = l.d * 8 + 6

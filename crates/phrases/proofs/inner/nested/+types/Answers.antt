@@ -10,7 +10,7 @@ use Rattle.phrases.specs.Parts.{from-counted, list_done, function-done}
 use Rattle.phrases.specs.Members.{ready-tested, field-by, structure-done}
 use Rattle.phrases.specs.Rows.{tys-start, tys-turn, tys-fall, tys-done, fields-start, fields-turn, fields-fall, fields-done, some-params, no-params}
 use Rattle.phrases.specs.Rows.{some-types, no-types, some-fields, no_fields, done-by, type-zero, type-some}
-use Rattle.phrases.proofs.inner.types.+types.Goals as goal
+use Rattle.phrases.proofs.inner.nested.+types.Goals as goal
 
 pub enter_arguments-enter_types-ts-requires : goal.enter_arguments-enter_types-ts-requires
 enter_arguments-enter_types-ts-requires t c =
