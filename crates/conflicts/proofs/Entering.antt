@@ -18,9 +18,7 @@ use Rattle.laws.specs.Lists.{clash, got≢refused}
 use Rattle.laws.specs.Nesting.{max_both, max_map}
 use Rattle.records.specs.Found.{Words32}
 use Rattle.records.specs.Good.{numbers}
-use Rattle.replacing.specs.Flat.{depthLine}
 use Rattle.replacing.specs.Given.{given-cons}
-use Rattle.replacing.specs.LineRules.{con}
 use Rattle.solving.specs.Entry.{entered, Entered, kept_out, begun}
 use Rattle.types.specs.Sets.{Cons, one-set}
 use Rattle.conflicts.specs.Standing.{Fine}

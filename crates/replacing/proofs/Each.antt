@@ -1,16 +1,15 @@
 -- Constraints or bindings written one after another: what is left to write decides.
 use Rattle.std.specs.Prelude.{◌≡◌, List, [], ◌∷◌, Result, Ok, Err, refl}
-use Rattle.std.proofs.Common.{ap, sym, subst, ◌∙◌}
+use Rattle.std.proofs.Common.{sym, subst, ◌∙◌}
 use Rattle.std.proofs.lemmas.List.{nil_from_length}
-use Rattle.rules.specs.Base.{Got, got, refused, ◌>>=◌, each, collect}
-use Rattle.rules.specs.Refusals.{number_of}
+use Rattle.rules.specs.Base.{Got, got, refused, each, collect}
 use Rattle.rules.specs.declared.Refusal.{Refusal}
 use Rattle.rules.specs.Writing.{Rec}
 use Rattle.laws.specs.Lists.{Every}
 use Rattle.records.specs.Cut.{cut, cut-length}
 use Rattle.types.specs.declared.writer.Writer.{Writer}
 use Rattle.types.specs.Written.{Writes, writes-none}
-use Rattle.replacing.specs.Leaves.{LeavesOf, Leaves}
+use Rattle.replacing.specs.Leaves.{Leaves}
 use Rattle.replacing.proofs.Walks.{on, stopped, leaves, stops, after}
 
 module _ {A : Type 0} (write : A → List Rec) (f : A → Got A) (good : A → Type 0) where

@@ -1,10 +1,8 @@
 pub mod Constraints
 pub mod Dimensions
 pub mod Each
-pub mod Lefts
-pub mod Lines
+pub mod Looks
 mod Nested
 pub mod Others
-pub mod Sizes
 mod Touches
 pub mod Walks

@@ -5,7 +5,7 @@ use Rattle.std.proofs.Math.Bool.{and-eq-true_iff}
 use Rattle.std.proofs.Math.Decide.{dec_le}
 use Rattle.std.proofs.lemmas.Bool.{lt-leb}
 use Rattle.rules.specs.Base.{all, max_of}
-use Rattle.rules.specs.Trees.{Ty, Con, Binding, ◌≔◌, size, depth, sizeCon, depthCon, depthBinding}
+use Rattle.rules.specs.Trees.{Ty, Con, ◌≔◌, size, depth, sizeCon, depthCon, depthBinding}
 use Rattle.rules.specs.WellFormed as rules
 use Rattle.laws.specs.Lists.{and_right}
 use Rattle.records.specs.Good.{Ends, GoodCon, GoodTy, goodBinding, goodCon, goodTy}

@@ -4,7 +4,7 @@ use Rattle.std.specs.Prelude.{◌≡◌, Bool, true, false, not, ◌||◌, List,
 use Rattle.std.specs.Option.{is_some}
 use Rattle.std.proofs.Common.{arith, ap, sym, ◌∙◌}
 use Rattle.std.proofs.Math.Option.{Option, none, some}
-use Rattle.rules.specs.Base.{got, bounded, any, is_none}
+use Rattle.rules.specs.Base.{any, is_none}
 use Rattle.rules.specs.Refusals.{toldOptionBy}
 use Rattle.rules.specs.Replacing.{Look}
 use Rattle.rules.specs.Trees.{Open, Ty, Con, opensCon, sizeCon}
@@ -13,7 +13,7 @@ use Rattle.laws.specs.Untouched.{Unbound}
 use Rattle.records.specs.Views.{viewAt}
 use Rattle.records.specs.Holds.{HoldsCon}
 use Rattle.queries.specs.Scans.{opensView, opensFrom, opensIn}
-use Rattle.queries.specs.ScanLaws.{opens-step, opens-none, con-opens}
+use Rattle.queries.specs.ScanLaws.{opens-step, con-opens}
 use Rattle.replacing.specs.Leaves.{replaced}
 
 pub any-join : {A : Type 0} (p : A → Bool) (xs ys : List A) → any p (xs ++ ys) ≡ (any p xs || any p ys)

@@ -1,14 +1,14 @@
--- What was given as words is held as the walks ask: a type, a run of bindings, the lines of a set.
+-- What was given as words is held as the walks ask: a type, a run of bindings, the constraints of a set.
 use Rattle.std.specs.Prelude.{◌≡◌, Bool, true, ℕ, ◌+◌, ◌/◌, ◌≤◌, length}
 use Rattle.std.proofs.Math.Path.{refl, sym, subst}
 use Rattle.std.proofs.Common.{◌∙◌, add-zero, arith}
 use Rattle.std.proofs.Math.Bool.{and-eq-true_iff}
-use mathlib.Core.List.{List, [], ◌∷◌, map}
+use mathlib.Core.List.{List, [], ◌∷◌}
 use Rattle.rules.specs.Base.{got, all, sum_of}
 use Rattle.rules.specs.Calls.{typeGiven, setGiven, bindingsGiven}
 use Rattle.rules.specs.Names.{table_of, is_held}
 use Rattle.rules.specs.Trees.{Ty, Con, Binding, size, sizeCon, sizeBinding}
-use Rattle.rules.specs.WellFormed.{goodCon, goodBinding}
+use Rattle.rules.specs.WellFormed.{goodBinding}
 use Rattle.records.specs.Found.{Words32}
 use Rattle.records.specs.Good as records
 use Rattle.records.specs.Good.{Chain}
@@ -16,9 +16,7 @@ use Rattle.records.specs.Whole.{type-is, set_is, bindings-is}
 use Rattle.records.specs.Holds.{HoldsCon, HoldsBinding}
 use Rattle.replacing.specs.Runs.{HoldsAll}
 use Rattle.replacing.specs.Well.{names, HeldType, Listed}
-use Rattle.laws.specs.Weaker.{ty-weaker, con-weaker, binding-weaker}
-use Rattle.replacing.specs.LineRules.{con, HeldLines}
-use Rattle.replacing.specs.LineLaws.{set_lines}
+use Rattle.laws.specs.Weaker.{ty-weaker, binding-weaker}
 use Rattle.types.specs.Sets.{IsCons}
 use Rattle.replacing.specs.Written.{cons-all}
 
@@ -56,12 +54,6 @@ module _ (pool table s : List ℕ) (w : Words32 s) where
       let r = row s HoldsBinding sizeBinding (goodBinding (names pool table) (is_held (table_of pool table)) 4_294_967_296) (records.GoodBinding pool table 0 s)
       (λ at a e g. (g.held, g.past, binding-weaker (names pool table) (is_held (table_of pool table)) 0 4_294_967_296 weak a g.good)) (length s / 4) 0 bs (bindings-is pool table s w bs h) in
       record { run = record { held = r.held; past = r.ends }; good = r.right; short = omega arith; near = omega arith }
-
-  pub given-set : (cs : List (Con ℕ)) → setGiven (table_of pool table) s ≡ got cs → HeldLines pool table s (map con cs) 0 (length s / 4)
-  given-set cs h =
-      let r = row s HoldsCon sizeCon (goodCon (names pool table) (is_held (table_of pool table)) 4_294_967_296) (records.GoodCon pool table 0 s)
-      (λ at a e g. (g.held, g.past, con-weaker (names pool table) (is_held (table_of pool table)) 0 4_294_967_296 weak a g.good)) (length s / 4) 0 cs (set_is pool table s w cs h) in
-      subst (HeldLines pool table s (map con cs) 0) (sym r.ends) (set_lines pool table s cs 0 r.held r.right)
 
   pub given-cons : (cs : List (Con ℕ)) → setGiven (table_of pool table) s ≡ got cs → IsCons s 0 (length s / 4) cs × (all (records.goodCon pool table 0) cs ≡ true)
   given-cons cs h =

@@ -5,11 +5,7 @@ pub mod Alone
 pub mod Writes
 pub mod Well
 pub mod InProducts
-pub mod Left
 pub mod Leaves
-pub mod LineRules
-pub mod LineLaws
-pub mod Flat
 pub mod Given
 pub mod Written
 pub mod Kept

@@ -1,6 +1,6 @@
 -- Constraints and bindings that were written to a buffer are held there.
 use Rattle.std.specs.Prelude.{◌≡◌, Bool, true, not, ◌&&◌, leb, eqb, length}
-use Rattle.std.proofs.Math.Path.{refl, ap₂}
+use Rattle.std.proofs.Math.Path.{refl}
 use Rattle.std.proofs.Common.{sym, ap, ◌∙◌, arith, leb-true, zero-add}
 use mathlib.Core.List.{List, [], ◌∷◌, ◌++◌, map}
 use Prim.Native.Nat.{ℕ, ◌+◌, ◌*◌, ◌/◌, ◌≤◌}
@@ -25,7 +25,6 @@ use Rattle.types.specs.Binds.{HoldsBinds, IsBinds}
 use Rattle.types.specs.Sets.{HoldsCons, IsCons}
 use Rattle.replacing.specs.Runs.{HoldsAll, Run}
 use Rattle.replacing.specs.Well as well
-use Rattle.replacing.specs.LineRules.{Line, con, binding, sizeLine, writeLine, HoldsLine, GoodLine, EachGood, HeldLines, line-length}
 
 -- ══ Well formed numerators fit a word ══
 
@@ -127,17 +126,6 @@ module _ (pool table : List ℕ) where
         let (u, v) = parted s (writeBinding b) (collect writeBinding bs) rest at (sizeBinding b) (size-binding b) e in
         (binding-held b at (collect writeBinding bs ++ rest) g.0 u, binds-held bs (at + sizeBinding b) rest g.1 v)
 
-    line-held : (x : Line) (at : ℕ) (rest : List Rec) → GoodLine pool table x → from s at ≡ writeLine x ++ rest → HoldsLine s x at
-    line-held (con c) at rest g e = con-held c at rest g e
-    line-held (binding x) at rest g e = binding-held x at rest g e
-
-    lines-held : (xs : List Line) (at : ℕ) (rest : List Rec) → EachGood pool table xs → from s at ≡ collect writeLine xs ++ rest → HoldsAll HoldsLine sizeLine s xs at
-    unfolding HoldsAll collect
-    lines-held [] at rest g e = tt
-    lines-held (x ∷ xs) at rest g e =
-        let (u, v) = parted s (writeLine x) (collect writeLine xs) rest at (sizeLine x) (line-length x) e in
-        (line-held x at (collect writeLine xs ++ rest) g.0 u, lines-held xs (at + sizeLine x) rest g.1 v)
-
   -- well formed constraints that were written where there is room; and bindings
   pub written-cons : (d d' : List ℕ) (out : ℕ) (cs : List (Con ℕ)) → d' ≡ sets d (out * 4) (words (collect writeCon cs)) → out + sum_of sizeCon cs ≤ length d / 4
       → Every (well.GoodCon pool table) cs → IsCons d' out (out + sum_of sizeCon cs) cs
@@ -163,18 +151,6 @@ module _ (pool table : List ℕ) where
       let z : from d' 0 ≡ rs ++ from d (0 + length rs) = ap (λ (l : List ℕ). from l 0) e ∙ stored d rs 0 n in
       let (u, v) = parted d' (collect writeCon cs) (collect writeBinding bs) (from d (0 + length rs)) 0 (sum_of sizeCon cs) (set-length cs) z in
       record { cons = record { held = cons-held d' cs 0 _ g u; ends = omega arith }; binds = record { held = binds-held d' bs (sum_of sizeCon cs) _ h (rw (zero-add (sum_of sizeCon cs)) at v); ends = refl } }
-
-  pub all-length : (xs : List Line) → length (collect writeLine xs) ≡ sum_of sizeLine xs
-  unfolding collect
-  all-length [] = refl
-  all-length (x ∷ xs) = length-append (writeLine x) (collect writeLine xs) ∙ ap₂ ◌+◌ (line-length x) (all-length xs)
-
-  -- well formed lines that were written where there is room are held there
-  pub written-lines : (d d' : List ℕ) (out : ℕ) (xs : List Line) → d' ≡ sets d (out * 4) (words (collect writeLine xs)) → out + sum_of sizeLine xs ≤ length d / 4 → EachGood pool table xs → HeldLines pool table d' xs out (out + sum_of sizeLine xs)
-  written-lines d d' out xs e le g =
-      let n = all-length xs in
-      let z : from d' out ≡ collect writeLine xs ++ from d (out + length (collect writeLine xs)) = ap (λ (l : List ℕ). from l out) e ∙ stored d (collect writeLine xs) out (omega arith) in
-      record { held = lines-held d' xs out _ g z; good = g; ends = refl }
 
 -- bindings as a run
 run-held : (s : List ℕ) (bs : List (Binding ℕ)) (at : ℕ) → HoldsBinds s bs at → HoldsAll HoldsBinding sizeBinding s bs at

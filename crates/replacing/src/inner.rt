@@ -4,5 +4,4 @@ pub mod constraints;
 pub mod dims;
 pub mod factors;
 pub mod flat;
-pub mod lines;
 pub mod walk;

@@ -10,7 +10,7 @@ use Rattle.renaming.proofs.Own.{own}
 use Rattle.records.specs.Parsed.{only}
 use Rattle.replacing.specs.Substitutions.{same-look}
 use Rattle.replacing.specs.Well.{GoodTy}
-use Rattle.replacing.proofs.Lines.{type-as}
+use Rattle.replacing.proofs.Looks.{type-as}
 use Rattle.replacing.proofs.Walks.{told}
 use Rattle.handing.specs.Bounds.{BoundsAt}
 use Rattle.quantifying.specs.Ready.{at_in}
@@ -60,7 +60,7 @@ returns-in_err-replace_type c = λ bs y.
     let k = err_from_is_err_and c.from_residual.result c.from_residual.ensures.1 in
     rw (k.1, k.2)
     (first-stopped n.pool.now n.table.now h s c.args.work.now c.args.t.tree.0 bs y _
-    (type-as n.pool.now n.table.now s p v c.replace_type-arg-1.given.0 (renamed (back h), l) refl (told c.in_err-replace_type.was c.replace_type.ensures)))
+    (type-as n.pool.now n.table.now p v c.replace_type-arg-1.given.0 (renamed (back h), l) refl (told c.in_err-replace_type.was c.replace_type.ensures)))
 
 pub invariant_of-read : goal.invariant_of-read
 invariant_of-read c =
@@ -71,7 +71,7 @@ invariant_of-read c =
     let p = c.put_names_back.new.places in
     let v = c.keep_names.new.v in
     let l = back-tables n.pool.now n.table.now h _ y.good c.count.ensures _ _ y.names-held y.names-few c.put_names_back.ensures c.keep_names.ensures.1 in
-    let once = came (type-as n.pool.now n.table.now s p v c.replace_type-arg-1.given.0 (renamed (back h), l) refl
+    let once = came (type-as n.pool.now n.table.now p v c.replace_type-arg-1.given.0 (renamed (back h), l) refl
     (told c.in_ok-replace_type.was c.replace_type.ensures)) in
     let held = first-held n.pool.now n.table.now h s c.args.work.now c.args.t.tree.0 bs y once refl (omega (arith, length-replicate {A = ℕ} 8192 0)) in
     let between : c.between-2-1.given.0 ≡ c.replace_type.new.out.words.now = search rules in
@@ -89,7 +89,7 @@ replace_type-requires-2 c =
     let p = c.put_names_back.new.places in
     let v = c.keep_names.new.v in
     let l = back-tables n.pool.now n.table.now h _ y.good c.count.ensures _ _ y.names-held y.names-few c.put_names_back.ensures c.keep_names.ensures.1 in
-    let once = came (type-as n.pool.now n.table.now s p v c.replace_type-arg-1.given.0 (renamed (back h), l) refl
+    let once = came (type-as n.pool.now n.table.now p v c.replace_type-arg-1.given.0 (renamed (back h), l) refl
     (told c.in_ok-replace_type.was c.replace_type.ensures)) in
     let held = first-held n.pool.now n.table.now h s c.args.work.now c.args.t.tree.0 bs y once refl (omega (arith, length-replicate {A = ℕ} 8192 0)) in
     let between : c.between-2-1.given.0 ≡ c.replace_type.new.out.words.now = search rules in
@@ -106,13 +106,13 @@ returns-in_err-replace_type-2 c = λ bs y.
     let v = c.keep_names.new.v in
     let l = back-tables n.pool.now n.table.now h _ y.good c.count.ensures _ _ y.names-held y.names-few c.put_names_back.ensures c.keep_names.ensures.1 in
     let o = own-tables n.pool.now n.table.now h _ y.good c.count.ensures _ _ c.keep_names.ensures.0 c.keep_names.ensures.1 in
-    let once = came (type-as n.pool.now n.table.now s p v c.replace_type-arg-1.given.0 (renamed (back h), l) refl
+    let once = came (type-as n.pool.now n.table.now p v c.replace_type-arg-1.given.0 (renamed (back h), l) refl
     (told c.in_ok-replace_type.was c.replace_type.ensures)) in
     let held = first-held n.pool.now n.table.now h s c.args.work.now c.args.t.tree.0 bs y once refl (omega (arith, length-replicate {A = ℕ} 8192 0)) in
     let between : c.between-2-1.given.0 ≡ c.replace_type.new.out.words.now = search rules in
     let u = c.replace_type-arg-3-1.given.1.0 in
     let one = only c.between-2-1.given.0 u.0 once.value 0 u.1 (rw between held.held) in
-    let again = type-as n.pool.now n.table.now s c.keep_names.new.places v c.replace_type-arg-2-1.given.0
+    let again = type-as n.pool.now n.table.now c.keep_names.new.places v c.replace_type-arg-2-1.given.0
     (renamed (own (is_held (table_of n.pool.now n.table.now))), o) one
     (told c.in_err-replace_type-2.was c.replace_type-2.ensures) in
     let k = err_from_is_err_and c.from_residual-in_err-replace_type-2.result c.from_residual-in_err-replace_type-2.ensures.1 in
@@ -138,13 +138,13 @@ returns c = λ bs y.
     let v = c.keep_names.new.v in
     let l = back-tables n.pool.now n.table.now h _ y.good c.count.ensures _ _ y.names-held y.names-few c.put_names_back.ensures c.keep_names.ensures.1 in
     let o = own-tables n.pool.now n.table.now h _ y.good c.count.ensures _ _ c.keep_names.ensures.0 c.keep_names.ensures.1 in
-    let once = came (type-as n.pool.now n.table.now s p v c.replace_type-arg-1.given.0 (renamed (back h), l) refl
+    let once = came (type-as n.pool.now n.table.now p v c.replace_type-arg-1.given.0 (renamed (back h), l) refl
     (told c.in_ok-replace_type.was c.replace_type.ensures)) in
     let held = first-held n.pool.now n.table.now h s c.args.work.now c.args.t.tree.0 bs y once refl (omega (arith, length-replicate {A = ℕ} 8192 0)) in
     let between : c.between-2-1.given.0 ≡ c.replace_type.new.out.words.now = search rules in
     let u = c.replace_type-arg-3-1.given.1.0 in
     let one = only c.between-2-1.given.0 u.0 once.value 0 u.1 (rw between held.held) in
-    let again = type-as n.pool.now n.table.now s c.keep_names.new.places v c.replace_type-arg-2-1.given.0
+    let again = type-as n.pool.now n.table.now c.keep_names.new.places v c.replace_type-arg-2-1.given.0
     (renamed (own (is_held (table_of n.pool.now n.table.now))), o) one
     (told c.in_ok-replace_type-2.was c.replace_type-2.ensures) in
     let place = subst (BoundsAt s bs) (sym (c.end.ensures ∙ ap (λ (k : ℕ). k + size c.args.t.tree.0) c.requires.first)) y.listed in

@@ -2,7 +2,7 @@ use Rattle.std.proofs.Common.{◌≡◌, List, ℕ, arith, refl, rules}
 use Rattle.std.proofs.lemmas.Result.{err_from_is_err_and}
 use Rattle.rules.specs.Schemes.{renamed}
 use Rattle.replacing.specs.Substitutions.{same-look}
-use Rattle.replacing.proofs.Lines.{type-as}
+use Rattle.replacing.proofs.Looks.{type-as}
 use Rattle.replacing.proofs.Walks.{told}
 use Rattle.quantifying.specs.Ready.{handed, at_in, tables, type-stopped, all-long, all_made}
 use Rattle.quantifying.proofs.inner.quantifying.quantify_at.Goals as goal
@@ -40,7 +40,7 @@ returns-in_err-replace_type c = λ bs y.
     let k = err_from_is_err_and c.from_residual.result c.from_residual.ensures.1 in
     rw (k.1, k.2)
     (type-stopped n.pool.now n.table.now c.args.handed.now c.args.all c.args.t.tree.0 bs _
-    (type-as n.pool.now n.table.now c.args.t.words.now q.new.places q.new.v c.replace_type-arg-1.given.0 (renamed f, l) refl
+    (type-as n.pool.now n.table.now q.new.places q.new.v c.replace_type-arg-1.given.0 (renamed f, l) refl
     (told c.in_err-replace_type.was c.replace_type.ensures)))
 
 pub returns-then-out-gt-RECORDS : goal.returns-then-out-gt-RECORDS
@@ -50,7 +50,7 @@ returns-then-out-gt-RECORDS c = λ bs y.
     let f = handed n.pool.now n.table.now c.args.handed.now in
     let l = tables n.pool.now n.table.now c.args.handed.now q.new.places q.new.v y.names-small y.names-few q.ensures.0 q.ensures.1 in
     all-long n.pool.now n.table.now c.args.handed.now c.args.all c.args.t.tree.0 bs y.flat _ refl c.reserve-start.ensures
-    (type-as n.pool.now n.table.now c.args.t.words.now q.new.places q.new.v c.replace_type-arg-1.given.0 (renamed f, l) refl
+    (type-as n.pool.now n.table.now q.new.places q.new.v c.replace_type-arg-1.given.0 (renamed f, l) refl
     (told c.in_ok-replace_type.was c.replace_type.ensures))
     (c.put_bounds.ensures bs f y.listed (same-look n.pool.now n.table.now q.new.places q.new.v c.put_bounds-arg-1.given.0 (renamed f, l)))
     c.if-out-gt-RECORDS.true
@@ -66,6 +66,6 @@ returns c = λ bs y.
     let back : c.work-2-1.given.0 ≡ c.begin.new.self.words.now = search (rules, same) in
     rw (back, c.begin.ensures.at)
     (all_made n.pool.now n.table.now c.args.handed.now c.args.all c.args.t.tree.0 bs y.flat refl y.work-long c.reserve-start.ensures
-    (type-as n.pool.now n.table.now c.args.t.words.now q.new.places q.new.v c.replace_type-arg-1.given.0 (renamed f, l) refl
+    (type-as n.pool.now n.table.now q.new.places q.new.v c.replace_type-arg-1.given.0 (renamed f, l) refl
     (told c.in_ok-replace_type.was c.replace_type.ensures))
     p c.if-out-gt-RECORDS.false c.begin.ensures)

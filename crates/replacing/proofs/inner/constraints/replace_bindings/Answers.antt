@@ -1,5 +1,4 @@
 -- What is left to write decides.
-use Rattle.std.proofs.Common.{ap}
 use Rattle.std.proofs.lemmas.Result.{err_from_is_err_and}
 use Rattle.rules.specs.WellFormed.{goodBinding}
 use Rattle.laws.specs.Lists.{and_right}

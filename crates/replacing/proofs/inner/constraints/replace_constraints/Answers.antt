@@ -1,7 +1,6 @@
 -- What is left to write decides.
 use Rattle.std.proofs.Common.{ap}
 use Rattle.std.proofs.lemmas.Result.{err_from_is_err_and}
-use Rattle.laws.specs.Lists.{and_right}
 use Rattle.types.specs.Sets.{alone, placed-alone}
 use Rattle.replacing.proofs.Each.{still-all, still-good, still-more, still-stops, still-ends}
 use Rattle.replacing.proofs.Walks.{told}

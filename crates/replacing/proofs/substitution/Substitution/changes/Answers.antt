@@ -1,5 +1,5 @@
 -- `changes` meets its contract.
-use Rattle.std.proofs.Common.{refl, ap, sym, ◌∙◌}
+use Rattle.std.proofs.Common.{ap, sym, ◌∙◌}
 use Rattle.rules.specs.Base.{any}
 use Rattle.queries.specs.Scans.{toldOpens}
 use Rattle.replacing.specs.Leaves.{replaced}

@@ -1,9 +1,6 @@
-use Rattle.std.proofs.Common.{refl, ◌∙◌}
+use Rattle.std.proofs.Common.{refl}
 use Rattle.rules.specs.Base.{any}
-use Rattle.rules.specs.Trees.{◌↑◌, openOfFactor}
-use Rattle.records.specs.Holds.{atomOf}
 use Rattle.types.specs.Shapes.{tree_of}
-use Rattle.replacing.specs.Leaves.{replaced}
 use Rattle.replacing.proofs.Touches.{changed}
 use Rattle.replacing.proofs.substitution.Substitution.replaces.Goals as goal
 
