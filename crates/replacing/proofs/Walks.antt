@@ -158,9 +158,6 @@ open-rec (names.TheVariants.Quant i) = refl
 open-rec (names.TheVariants.Par x) = refl
 
 module _ (look : Look ℕ) (o : tree.Open ℕ) where
-  pub becomes-it : (t : Ty ℕ) → some t ≡ look o → t ≡ becomes look o
-  becomes-it t e = ap (λ (m : Option (Ty ℕ)). get_or m (opened o)) e
-
   pub becomes-short : ((t : Ty ℕ) → look o ≡ some t → size t ≤ 2048) → size (becomes look o) ≤ 65_535
   unfolding size
   becomes-short few = go (look o) refl

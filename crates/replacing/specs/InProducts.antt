@@ -90,10 +90,6 @@ unfolding answer
 told-stop n (got p) h = absurd (let y : ◌≡◌ {A = ℕ} 0 1 = cc in omega arith)
 told-stop n (refused k) h = let z : k ≡ n = cc in ap refused z
 
-pub told-value : (P : Product) (p : Tree) → got (given P) ≡ answer (got p) → given P ≡ productValue p
-unfolding answer
-told-value P p h = cc
-
 -- a value made of a product
 pub fine-told : (P : Product) (p : Tree) → given P ≡ productValue p → got (given P) ≡ answer (got p)
 unfolding answer

@@ -4,7 +4,6 @@ use Rattle.std.proofs.Common.{sym, ap, ◌∙◌, arith}
 use Rattle.std.proofs.lemmas.List.Edits.{sets}
 use Rattle.rules.specs.Writing.{Rec, words}
 use Rattle.records.specs.Buffers.{words-length}
-use Rattle.records.specs.Cut.{cut, cut-append, cut-length}
 use Rattle.records.specs.Stores.{sets-append, sets-before}
 pub use Rattle.laws.specs.Size.{words_append}
 
@@ -13,10 +12,6 @@ pub writes : (d d₁ d₂ : List ℕ) (a b : List Rec) (n out : ℕ) → length 
 writes d d₁ d₂ a b n out l p q =
     let e : (out + n) * 4 ≡ out * 4 + length (words a) = omega (arith, words-length a) in
     q ∙ rw (p, e) (sym (sets-append (words a) (words b) d (out * 4))) ∙ ap (sets d (out * 4)) (sym (words_append a b))
-
--- the same as they are cut
-pub cut-writes : (d d₁ d₂ : List ℕ) (a b : List Rec) (n out : ℕ) → length a ≡ n → d₁ ≡ sets d (out * 4) (words (cut a)) → d₂ ≡ sets d₁ ((out + n) * 4) (words (cut b)) → d₂ ≡ sets d (out * 4) (words (cut (a ++ b)))
-cut-writes d d₁ d₂ a b n out l p q = writes d d₁ d₂ (cut a) (cut b) n out (cut-length a ∙ l) p q ∙ ap (λ (r : List Rec). sets d (out * 4) (words r)) (sym (cut-append a b))
 
 -- others, and then a record before them
 pub writes-before : (d d₁ d₂ : List ℕ) (r : Rec) (b : List Rec) (out : ℕ) → d₁ ≡ sets d ((out + 1) * 4) (words b) → d₂ ≡ sets d₁ (out * 4) (words (r ∷ [])) → d₂ ≡ sets d (out * 4) (words (r ∷ b))
