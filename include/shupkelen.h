@@ -13,8 +13,8 @@
  *
  *   What is returned. The number of the refusal (enum shupkelen_refusal), 0 where there is none; only shupkelen_compare and shupkelen_version return their answer.
  *
- *   answer. SHUPKELEN_ANSWER_WORDS words: value, more, rounds. Each call below says what value and more mean; rounds is 0 but for
- *   shupkelen_confirm, shupkelen_solve and shupkelen_read_text. On a refusal all three are written too: 0, but for the rounds that were completed, for 5 of a set, where
+ *   answer. SHUPKELEN_ANSWER_WORDS words: value, more, rounds. Each call below says what value and more mean; rounds is 0 except for
+ *   shupkelen_confirm, shupkelen_solve and shupkelen_read_text. On a refusal all three are written too: 0, except for the rounds that were completed, for 5 of a set, where
  *   value counts the records that remain, and for shupkelen_read_text, which says where. Of a shorter slice only the words that it has are written.
  *
  *   pool, table. A name table: SHUPKELEN_POOL_BYTES bytes or more, SHUPKELEN_TABLE_WORDS words or more. An empty one is all zero. Word 0 of the
@@ -24,7 +24,7 @@
  *   records of the part that it begins, then a, b, c (crates/rules/specs/Writing.antt). A list has SHUPKELEN_LIST_WORDS words at the most.
  *
  *   result, work. SHUPKELEN_LIST_WORDS words or more, SHUPKELEN_WORK_WORDS words or more. Past the answer, and on a refusal other than 5, the result buffer
- *   is unchanged. The work buffer may hold anything before the call and is all zero after it, but for 10, which changes nothing.
+ *   is unchanged. The work buffer may hold anything before the call and is all zero after it, except for 10, which changes nothing.
  *
  *   Order of refusals at entry: 10, 8, 1, 4, 9. Stack: up to 1 MB (docs/CALLERS.md).
  *

@@ -567,7 +567,7 @@ impl From<Unread> for Refusal {
 pub enum Added {
     /// It is true whatever its names stand for; it isn't stored.
     Satisfied,
-    /// Nothing makes it true, but for structs whose fields differ; it is stored.
+    /// Nothing makes it true, except for structs whose fields differ; it is stored.
     Violated,
     /// It depends; it is stored.
     Unknown,

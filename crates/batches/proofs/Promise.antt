@@ -19,7 +19,8 @@ use Rattle.batches.specs.Steps.{fourOf}
 
 module _ {A : Type 0} (f : A → List ℕ) (g : A → ℕ) (long : (a : A) → length (f a) ≡ g a) where
   -- the i-th part stands behind those before it
-  piece : (as' : List A) (i : ℕ) (d : A) (rest : List ℕ) → i < length as' → take (g (get_or as' i d)) (drop (sum_of g (take i as')) (collect f as' ++ rest)) ≡ f (get_or as' i d)
+  piece : (as' : List A) (i : ℕ) (d : A) (rest : List ℕ) → i < length as'
+      → take (g (get_or as' i d)) (drop (sum_of g (take i as')) (collect f as' ++ rest)) ≡ f (get_or as' i d)
   unfolding collect
   piece [] i d rest h = absurd (omega arith)
   piece (a ∷ as') zero d rest h = ap (take (g a)) (append_assoc (f a) (collect f as') rest) ∙ take_at (f a) (collect f as' ++ rest) (g a) (long a)
@@ -65,11 +66,13 @@ module _ (pool table set fresh work : List ℕ) (room : lent pool table fresh wo
   front (got ws) n e = take_at ws (drop (length ws) fresh) n e
   front (refused k) n e = ap (λ (j : ℕ). take j fresh) (sym e)
 
-  alone-words : take (recordsOf (solveCall pool table set fresh work).answer * 4) (solveCall pool table set fresh work).result ≡ words_of (solvedSet (table_of pool table) set)
+  alone-words : take (recordsOf (solveCall pool table set fresh work).answer * 4) (solveCall pool table set fresh work).result
+      ≡ words_of (solvedSet (table_of pool table) set)
   unfolding solveCall
   alone-words = let a = solvedSet (table_of pool table) set in rw room (front (solvedWords a) (manyOf a * 4) (answer-long a))
 
-module _ (pool table words lengths result answers work : List ℕ) (met : batchLent pool table lengths result answers work ≡ got tt) (fit : batchFits words lengths ≡ got tt) where
+module _ (pool table words lengths result answers work : List ℕ) (met : batchLent pool table lengths result answers work ≡ got tt)
+    (fit : batchFits words lengths ≡ got tt) where
   abbrev t : Table
   t = table_of pool table
 
@@ -85,13 +88,15 @@ module _ (pool table words lengths result answers work : List ℕ) (met : batchL
   batch-result = rw (met, fit)
 
   pub by_itself : (i : ℕ) → i < length lengths → (fresh w : List ℕ) → lent pool table fresh w ≡ got tt
-      → AsAlone pool table (set_at words lengths i) i (place_of t words lengths i) (batchCall pool table words lengths result answers work).answers (batchCall pool table words lengths result answers work).result fresh w
+      → AsAlone pool table (set_at words lengths i) i (place_of t words lengths i) (batchCall pool table words lengths result answers work).answers
+      (batchCall pool table words lengths result answers work).result fresh w
   unfolding over eachSolved set_at place_of
   by_itself i h fresh w room =
       let one = solvedSet t (set_at words lengths i) in
       let picked : get_or all i (solvedSet t []) ≡ one = get_d_map (solvedSet t) (cutSets lengths words) i [] in
       let many : recordsOf (solveCall pool table (set_at words lengths i) fresh w).answer * 4 ≡ manyOf (get_or all i (solvedSet t [])) * 4 =
-      ap (λ (s : Solved). recordsOf s * 4) (alone-answer pool table (set_at words lengths i) fresh w room) ∙ sym (ap (λ (a : Got (Answer ℕ)). manyOf a * 4) picked) in
+      ap (λ (s : Solved). recordsOf s * 4) (alone-answer pool table (set_at words lengths i) fresh w room)
+      ∙ sym (ap (λ (a : Got (Answer ℕ)). manyOf a * 4) picked) in
       let inside : i < length all = omega (arith, map-length (solvedSet t) (cutSets lengths words), cut-length lengths words) in
       record {
         told =
@@ -112,7 +117,8 @@ pub moved : (pool table words lengths result answers work words' lengths' result
     → batchLent pool table lengths result answers work ≡ got tt → batchFits words lengths ≡ got tt → i < length lengths
     → batchLent pool table lengths' result' answers' work' ≡ got tt → batchFits words' lengths' ≡ got tt → j < length lengths'
     → set_at words lengths i ≡ set_at words' lengths' j → (fresh w : List ℕ) → lent pool table fresh w ≡ got tt
-    → take 4 (drop (i * 4) (batchCall pool table words lengths result answers work).answers) ≡ take 4 (drop (j * 4) (batchCall pool table words' lengths' result' answers' work').answers)
+    → take 4 (drop (i * 4) (batchCall pool table words lengths result answers work).answers)
+    ≡ take 4 (drop (j * 4) (batchCall pool table words' lengths' result' answers' work').answers)
 moved pool table words lengths result answers work words' lengths' result' answers' work' i j m f h m' f' h' same fresh w room =
     (by_itself pool table words lengths result answers work m f i h fresh w room).told
     ∙ ap (λ (set : List ℕ). fourWords (solveCall pool table set fresh w).answer) same

@@ -28,6 +28,7 @@ unfolding rules counting pool table work cutSets fourWords recordsOf answeredWor
 two-sets = (refl, refl, refl)
 
 -- lengths that don't add up: 1; `answers` too short: 10
-unfit : (batchCall pool table (k13 ++ k2) (3 ∷ 2 ∷ []) room told work).answer ∷ (batchCall pool table (k13 ++ k2) (3 ∷ 3 ∷ []) room (7 ∷ []) work).answer ∷ [] ≡ refused 1 ∷ refused 10 ∷ []
+unfit : (batchCall pool table (k13 ++ k2) (3 ∷ 2 ∷ []) room told work).answer
+    ∷ (batchCall pool table (k13 ++ k2) (3 ∷ 3 ∷ []) room (7 ∷ []) work).answer ∷ [] ≡ refused 1 ∷ refused 10 ∷ []
 unfolding rules counting pool table work cutSets fourWords recordsOf answeredWords eachSolved batchLent batchFits writtenOver batchCall
 unfit = refl

@@ -33,11 +33,21 @@ module _ (pool table lengths result answers work : List ℕ) where
     module _ (r : length lengths * 8192 ≤ length result) where
       pub short-answers : length answers < length lengths * 4 → need false 10 ≡ batchLent pool table lengths result answers work
       unfolding batchLent lentTable
-      short-answers h = sym (rw (le-leb 8192 (length pool) p, le-leb 257 (length table) t, le-leb (length lengths * 8192) (length result) r, lt-leb (length lengths * 4) (length answers) h))
+      short-answers h = sym (rw (
+        le-leb 8192 (length pool) p,
+        le-leb 257 (length table) t,
+        le-leb (length lengths * 8192) (length result) r,
+        lt-leb (length lengths * 4) (length answers) h,
+      ))
 
       pub long_rest : length lengths * 4 ≤ length answers → need (leb 16384 (length work)) 10 ≡ batchLent pool table lengths result answers work
       unfolding batchLent lentTable lentWork
-      long_rest a = sym (rw (le-leb 8192 (length pool) p, le-leb 257 (length table) t, le-leb (length lengths * 8192) (length result) r, le-leb (length lengths * 4) (length answers) a))
+      long_rest a = sym (rw (
+        le-leb 8192 (length pool) p,
+        le-leb 257 (length table) t,
+        le-leb (length lengths * 8192) (length result) r,
+        le-leb (length lengths * 4) (length answers) a,
+      ))
 
   -- what a caller knows who asked
   pub record Room : Type 0 where
@@ -47,7 +57,8 @@ module _ (pool table lengths result answers work : List ℕ) where
     pub works : 16384 ≤ length work
     pub met : batchLent pool table lengths result answers work ≡ got tt
 
-  all-four : (x : Got (Unit {0})) (b c d : Bool) → (x >>= λ _. need b 10 >>= λ _. need c 10 >>= λ _. need d 10) ≡ got tt → (x ≡ got tt) × (b ≡ true) × (c ≡ true) × (d ≡ true)
+  all-four : (x : Got (Unit {0})) (b c d : Bool) → (x >>= λ _. need b 10 >>= λ _. need c 10 >>= λ _. need d 10) ≡ got tt → (x ≡ got tt) × (b ≡ true)
+      × (c ≡ true) × (d ≡ true)
   all-four (refused n) b c d e = clash e
   all-four (got tt) false c d e = clash e
   all-four (got tt) true false d e = clash e
@@ -58,7 +69,8 @@ module _ (pool table lengths result answers work : List ℕ) where
   unfolding batchLent lentWork
   roomy b e i =
       let g : batchLent pool table lengths result answers work ≡ got tt = sym e ∙ ap (λ (c : Bool). need c 10) (not-false b i) in
-      let f = all-four (lentTable pool table) (leb (length lengths * 8192) (length result)) (leb (length lengths * 4) (length answers)) (leb 16384 (length work)) g in
+      let f = all-four (lentTable pool table) (leb (length lengths * 8192) (length result)) (leb (length lengths * 4) (length answers))
+      (leb 16384 (length work)) g in
       record {
         table-met = f.0;
         results = leb-true (length lengths * 8192) (length result) f.1;
@@ -67,7 +79,8 @@ module _ (pool table lengths result answers work : List ℕ) where
         met = g;
       }
 
-  pub cramped : (b : Bool) → need b 10 ≡ batchLent pool table lengths result answers work → not b ≡ true → batchLent pool table lengths result answers work ≡ refused 10
+  pub cramped : (b : Bool) → need b 10 ≡ batchLent pool table lengths result answers work → not b ≡ true
+      → batchLent pool table lengths result answers work ≡ refused 10
   cramped b e i = sym e ∙ ap (λ (c : Bool). need c 10) (not-true b i)
 
 -- ══ Do the lengths add up ══
@@ -86,7 +99,8 @@ module _ (words lengths : List ℕ) where
   fitted true false e = clash e
   fitted true true e = (refl, refl)
 
-  pub begun : (result answers work : List ℕ) → length lengths * 8192 ≤ length result → length lengths * 4 ≤ length answers → 16384 ≤ length work → batchFits words lengths ≡ got tt → Begun words lengths result answers work
+  pub begun : (result answers work : List ℕ) → length lengths * 8192 ≤ length result → length lengths * 4 ≤ length answers → 16384 ≤ length work
+      → batchFits words lengths ≡ got tt → Begun words lengths result answers work
   unfolding batchFits
   begun result answers work r a w e =
       let f = fitted (leb (length lengths) 64) (eqb (sum_of (λ n. n) lengths * 4) (length words)) e in
@@ -95,16 +109,20 @@ module _ (words lengths : List ℕ) where
 -- ══ The call ══
 
 module _ (pool table words lengths result answers work : List ℕ) where
-  pub call-short : batchLent pool table lengths result answers work ≡ refused 10 → record { answer = refused 10; result = result; answers = answers; work = work } ≡ batchCall pool table words lengths result answers work
+  pub call-short : batchLent pool table lengths result answers work ≡ refused 10
+      → record { answer = refused 10; result = result; answers = answers; work = work } ≡ batchCall pool table words lengths result answers work
   unfolding batchCall writtenOver workAfter
   call-short e = rw e
 
-  pub call-unfit : (n : ℕ) (w work' : List ℕ) → length w ≡ length work → batchLent pool table lengths result answers work ≡ got tt → batchFits words lengths ≡ refused n → work' ≡ replicate (length w) 0
+  pub call-unfit : (n : ℕ) (w work' : List ℕ) → length w ≡ length work → batchLent pool table lengths result answers work ≡ got tt
+      → batchFits words lengths ≡ refused n → work' ≡ replicate (length w) 0
       → record { answer = refused n; result = result; answers = answers; work = work' } ≡ batchCall pool table words lengths result answers work
   unfolding batchCall writtenOver workAfter
   call-unfit n w work' l e f z = rw (e, f, z, l)
 
-  pub called : (n : ℕ) (w result' answers' work' : List ℕ) → length w ≡ length work → batchLent pool table lengths result answers work ≡ got tt → batchFits words lengths ≡ got tt
-      → Finished (table_of pool table) words lengths result result' answers answers' n → work' ≡ replicate (length w) 0 → batchAs (Ok n) result' answers' work' ≡ batchCall pool table words lengths result answers work
+  pub called : (n : ℕ) (w result' answers' work' : List ℕ) → length w ≡ length work → batchLent pool table lengths result answers work ≡ got tt
+      → batchFits words lengths ≡ got tt
+      → Finished (table_of pool table) words lengths result result' answers answers' n → work' ≡ replicate (length w) 0
+      → batchAs (Ok n) result' answers' work' ≡ batchCall pool table words lengths result answers work
   unfolding batchCall writtenOver workAfter
   called n w result' answers' work' l e f d z = rw (e, f, d.many, d.buffer, d.told, z, l)

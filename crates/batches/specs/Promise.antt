@@ -18,4 +18,5 @@ place_of t words lengths i = sum_of manyOf (take i (eachSolved t words lengths))
 -- a set's four words and records in the buffers of a batch are those that `solve` gives for it in a fresh buffer
 pub record AsAlone (pool table set : List ℕ) (i place : ℕ) (answers result fresh work : List ℕ) : Type 0 where
   pub told : take 4 (drop (i * 4) answers) ≡ fourWords (solveCall pool table set fresh work).answer
-  pub written : take (recordsOf (solveCall pool table set fresh work).answer * 4) (drop (place * 4) result) ≡ take (recordsOf (solveCall pool table set fresh work).answer * 4) (solveCall pool table set fresh work).result
+  pub written : take (recordsOf (solveCall pool table set fresh work).answer * 4) (drop (place * 4) result)
+      ≡ take (recordsOf (solveCall pool table set fresh work).answer * 4) (solveCall pool table set fresh work).result

@@ -80,16 +80,19 @@ module _ (a : Got (Answer ℕ)) (result part : List ℕ) (at k : ℕ) (room : at
 
   put : (m : Got (List ℕ)) → part ≡ resultAfter m (take k tail) → length (answeredWords m) ≤ k → whole ≡ sets result at (answeredWords m)
   unfolding resultAfter over answeredWords
-  put (refused n) e l = ap (λ (p : List ℕ). take at result ++ (p ++ drop k tail)) e ∙ ap (take at result ++◌) (take-append-drop k tail) ∙ take-append-drop at result
+  put (refused n) e l = ap (λ (p : List ℕ). take at result ++ (p ++ drop k tail)) e ∙ ap (take at result ++◌) (take-append-drop k tail)
+      ∙ take-append-drop at result
   put (got ws) e l =
       let rest : drop (length ws) (take k tail) ++ drop k tail ≡ drop (at + length ws) result =
-      sym (drop-append-le (length ws) (take k tail) (drop k tail) (omega (arith, inside))) ∙ ap (drop (length ws)) (take-append-drop k tail) ∙ drop-drop (length ws) at result in
+      sym (drop-append-le (length ws) (take k tail) (drop k tail) (omega (arith, inside))) ∙ ap (drop (length ws)) (take-append-drop k tail)
+      ∙ drop-drop (length ws) at result in
       ap (λ (p : List ℕ). take at result ++ (p ++ drop k tail)) e
       ∙ ap (take at result ++◌) (append_assoc ws (drop (length ws) (take k tail)) (drop k tail) ∙ ap (ws ++◌) rest)
       ∙ sym (append_assoc (take at result) ws (drop (at + length ws) result))
       ∙ sym (sets-eq ws result at (omega arith))
 
-  pub one_written : {s : Solved} → length part ≡ length (take k tail) → s ≡ solvedOf a → part ≡ resultAfter (solvedWords a) (take k tail) → Written a s result whole at
+  pub one_written : {s : Solved} → length part ≡ length (take k tail) → s ≡ solvedOf a → part ≡ resultAfter (solvedWords a) (take k tail)
+      → Written a s result whole at
   one_written kept i is =
       let f = fits kept (solvedWords a) is in
       record { answer = i; buffer = put (solvedWords a) is f; long = answer-long a; few = omega (arith, answer-long a, f) }
@@ -151,7 +154,9 @@ module _ (t : Table) (words lengths : List ℕ) where
       unfolding eachSolved cutSets
       rest-is =
           ap (λ (ls : List ℕ). map (solvedSet t) (cutSets ls (drop from words))) (drop-cons lengths i 0 more)
-          ∙ rw (add-one i) (ap₂ (λ (set rest : List ℕ). solvedSet t set ∷ map (solvedSet t) (cutSets (drop (suc i) lengths) rest)) (ap (λ (k : ℕ). take k (drop from words)) (let k : get_or lengths i 0 * 4 ≡ to - from = omega arith in k)) (drop-drop (get_or lengths i 0 * 4) from words))
+          ∙ rw (add-one i) (ap₂ (λ (set rest : List ℕ). solvedSet t set ∷ map (solvedSet t) (cutSets (drop (suc i) lengths) rest))
+          (ap (λ (k : ℕ). take k (drop from words)) (let k : get_or lengths i 0 * 4 ≡ to - from = omega arith in k))
+          (drop-drop (get_or lengths i 0 * 4) from words))
 
       module _ {result' answers' : List ℕ} {r : ℕ} (s : Stepped (solvedSet t next) i out result result' answers answers' r) where
         abbrev a : Got (Answer ℕ)
@@ -164,13 +169,16 @@ module _ (t : Table) (words lengths : List ℕ) where
           said = d.said ++ fourOf a;
           inside = omega arith;
           sums = omega (arith, d.sums, rest_sum lengths i more);
-          buffer = s.buffer ∙ ap₂ (λ (b : List ℕ) (k : ℕ). sets b k (words_of a)) d.buffer (omega (arith, d.long)) ∙ sym (sets-append d.done (words_of a) result₀ 0);
+          buffer = s.buffer ∙ ap₂ (λ (b : List ℕ) (k : ℕ). sets b k (words_of a)) d.buffer (omega (arith, d.long))
+              ∙ sym (sets-append d.done (words_of a) result₀ 0);
           told = s.told ∙ ap₂ (λ (b : List ℕ) (k : ℕ). sets b k (fourOf a)) d.told (omega (arith, d.wide)) ∙ sym (sets-append d.said (fourOf a) answers₀ 0);
           long = omega (arith, length-append d.done (words_of a), d.long, s.long, s.many);
           wide = omega (arith, length-append d.said (fourOf a), d.wide, four-long (solvedOf a));
           few = omega (arith, d.few, s.few, s.many);
-          left = append_assoc d.done (words_of a) (collect words_of (from_on to (i + 1))) ∙ sym (ap (λ (l : List (Got (Answer ℕ))). d.done ++ collect words_of l) rest-is) ∙ d.left;
-          leftSaid = append_assoc d.said (fourOf a) (collect fourOf (from_on to (i + 1))) ∙ sym (ap (λ (l : List (Got (Answer ℕ))). d.said ++ collect fourOf l) rest-is) ∙ d.leftSaid;
+          left = append_assoc d.done (words_of a) (collect words_of (from_on to (i + 1)))
+              ∙ sym (ap (λ (l : List (Got (Answer ℕ))). d.done ++ collect words_of l) rest-is) ∙ d.left;
+          leftSaid = append_assoc d.said (fourOf a) (collect fourOf (from_on to (i + 1)))
+              ∙ sym (ap (λ (l : List (Got (Answer ℕ))). d.said ++ collect fourOf l) rest-is) ∙ d.leftSaid;
           count = omega (arith, s.many, d.count, ap (sum_of manyOf) rest-is);
         }
 
@@ -178,12 +186,15 @@ module _ (t : Table) (words lengths : List ℕ) where
     pub room-left : i < length lengths → length lengths * 8192 ≤ length result₀ → out * 4 + 8192 ≤ length result
     room-left more p = omega (arith, d.few, ap length d.buffer ∙ length-sets result₀ 0 d.done)
 
-    pub doing-last : length lengths ≤ i → length lengths * 8192 ≤ length result₀ → length lengths * 4 ≤ length answers₀ → Finished t words lengths result₀ result answers₀ answers out
+    pub doing-last : length lengths ≤ i → length lengths * 8192 ≤ length result₀ → length lengths * 4 ≤ length answers₀
+        → Finished t words lengths result₀ result answers₀ answers out
     unfolding eachSolved cutSets collect over
     doing-last h p q =
         let z : from_on from i ≡ [] = ap (λ (ls : List ℕ). map (solvedSet t) (cutSets ls (drop from words))) (drop_of_length-le lengths h) in
-        let w : d.done ≡ collect words_of (eachSolved t words lengths) = sym (append-nil d.done) ∙ sym (ap (λ (l : List (Got (Answer ℕ))). d.done ++ collect words_of l) z) ∙ d.left in
-        let v : d.said ≡ collect fourOf (eachSolved t words lengths) = sym (append-nil d.said) ∙ sym (ap (λ (l : List (Got (Answer ℕ))). d.said ++ collect fourOf l) z) ∙ d.leftSaid in
+        let w : d.done ≡ collect words_of (eachSolved t words lengths) = sym (append-nil d.done)
+        ∙ sym (ap (λ (l : List (Got (Answer ℕ))). d.done ++ collect words_of l) z) ∙ d.left in
+        let v : d.said ≡ collect fourOf (eachSolved t words lengths) = sym (append-nil d.said)
+        ∙ sym (ap (λ (l : List (Got (Answer ℕ))). d.said ++ collect fourOf l) z) ∙ d.leftSaid in
         record {
           many = omega (arith, d.count, ap (sum_of manyOf) z);
           buffer = d.buffer ∙ over-is d.done result₀ (omega (arith, d.long, d.few, d.inside)) ∙ ap (λ (l : List ℕ). over l result₀) w;

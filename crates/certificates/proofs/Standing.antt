@@ -31,7 +31,8 @@ module _ (pool table s : List ℕ) (w : Words32 s) (e : setCall pool table s ≡
   read = let p = passed (aloneGiven pool table s) (setGiven (table_of pool table) s) e in (p.0, p.1.1)
 
   pub lines-stand : (ds : List (Con ℕ)) → setGiven (table_of pool table) s ≡ got ds → IsCons s 0 (length s / 4) ds
-  lines-stand ds g = (set_there pool table s [] ds [] (record { good = entry-good pool table s alone; given = g; short = short; types-short = omega arith }) w).held
+  lines-stand ds g = (set_there pool table s [] ds []
+      (record { good = entry-good pool table s alone; given = g; short = short; types-short = omega arith }) w).held
 
   -- whichever lines stand there, they are those, and few
   pub same : (h : Cons s 0 (length s / 4)) (ds : List (Con ℕ)) → setGiven (table_of pool table) s ≡ got ds → h.0 ≡ ds

@@ -35,7 +35,7 @@ fn check_one<R: Eprint + AllocGlobal, W: Write + Drop>(
     so_far: &mut Apart,
     out: &mut Written<W>,
 ) -> Result<()>
-    ensures { OnOk result (out.new.passed.items ≡ out.old.passed.items ++ pagesOf options.shown (given.now ∷ [])) }
+    ensures { OnOk result (out.new.passed.items ≡ out.old.passed.items ++ pagesOf options.entry.shown (given.now ∷ [])) }
 {
     let alloc = rt.alloc();
     let files = [given.file()];

@@ -4,6 +4,7 @@
 
 mod apart;
 mod files;
+mod html;
 mod json;
 mod listing;
 mod notes;
@@ -11,6 +12,7 @@ mod options;
 mod status;
 mod tables;
 mod together;
+mod told;
 mod words;
 mod written;
 
@@ -33,6 +35,7 @@ fn check<R: Files + Input + Print + Eprint + AllocGlobal>(
         (Form::Text, false) => together::check(rt, names, words, options),
         (Form::Text, true) => apart::check(rt, names, words, options),
         (Form::Json, _) => json::check(rt, names, words, options),
+        (Form::Html(path), _) => html::check(rt, names, words, options, path),
     }
 }
 

@@ -83,6 +83,11 @@ impl Notes {
         Ok(())
     }
 
+    /// They, as lines.
+    pub fn lines(&self) -> &str {
+        &self.text
+    }
+
     /// Says them on standard error, if anybody hears.
     pub fn tell<R: Eprint>(&self, rt: &R) {
         let _ = rt.eprint(&self.text);

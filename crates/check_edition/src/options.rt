@@ -3,42 +3,50 @@ use clap::{Arg, ArgAction, ArgMatches, Command};
 use rules::Shown;
 use std::alloc::{AllocError, Global};
 
-/// As lines, or as one value of JSON.
+/// As lines, as one value of JSON, or as a page of HTML in a file.
 #[derive(Clone, Copy)]
-pub enum Form {
+pub enum Form<'a> {
     Text,
     Json,
+    Html(&'a str),
 }
 
 /// What was asked for beside the files.
 #[derive(Clone, Copy)]
-pub struct Options {
+pub struct Options<'a> {
     pub shown: Shown,
-    pub form: Form,
+    pub form: Form<'a>,
     pub names: bool,
     pub separate: bool,
     pub strict: bool,
 }
 
-impl Options {
+impl<'a> Options<'a> {
     /// By the flags that were given.
-    pub fn of(matches: &ArgMatches) -> Options {
+    pub fn of(matches: &'a ArgMatches) -> Options<'a> {
         Options {
             shown: if matches.get_flag("quiet") {
                 Shown::Quiet
             } else {
                 Shown::All
             },
-            form: if matches.get_flag("json") {
-                Form::Json
-            } else {
-                Form::Text
-            },
+            form: form_of(matches),
             names: matches.get_flag("names"),
             separate: matches.get_flag("separate"),
             strict: matches.get_flag("strict"),
         }
     }
+}
+
+// The form that was asked for.
+fn form_of<'a>(matches: &'a ArgMatches) -> Form<'a> {
+    if let Some(path) = matches.get_str("html") {
+        return Form::Html(path);
+    }
+    if matches.get_flag("json") {
+        return Form::Json;
+    }
+    Form::Text
 }
 
 /// What stands behind the options in the help.
@@ -77,6 +85,13 @@ pub fn command<'a>(alloc: Global) -> Result<Command<'a>, AllocError> {
         "List each sheet's new names behind the report",
     );
     let json = flag(alloc, "json", "Write one value of JSON in place of lines");
+    let html = Arg::new(alloc, "html")
+        .long("html")
+        .value_name("FILE")
+        .help(
+            "Write the report as a page of HTML to FILE, and the last line alone on standard output",
+        )
+        .conflicts_with("json")?;
     let separate = flag(
         alloc,
         "separate",
@@ -93,6 +108,7 @@ pub fn command<'a>(alloc: Global) -> Result<Command<'a>, AllocError> {
         .arg(quiet)?
         .arg(names)?
         .arg(json)?
+        .arg(html)?
         .arg(separate)?
         .arg(strict)
 }

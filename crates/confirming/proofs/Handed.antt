@@ -51,7 +51,8 @@ module _ (m a : Got (Answer ℕ)) (b w : List ℕ) (e : w ≡ resultAfter (solve
       go (inr q) = omega (arith, answer-long m, ap length q)
 
   -- copied to the front of a buffer that has room
-  pub copied : (n : ℕ) (result result' : List ℕ) → n ≡ manyOf m → length w ≡ 8192 → 8192 ≤ length result → result' ≡ sets result 0 (slice 0 (n * 4) w) → result' ≡ resultAfter (solvedWords m) result
+  pub copied : (n : ℕ) (result result' : List ℕ) → n ≡ manyOf m → length w ≡ 8192 → 8192 ≤ length result
+      → result' ≡ sets result 0 (slice 0 (n * 4) w) → result' ≡ resultAfter (solvedWords m) result
   unfolding over
   copied n result result' i k room c =
       let f : slice 0 (n * 4) w ≡ words_of m = ap (λ (j : ℕ). slice 0 (j * 4) w) i ∙ stands in
@@ -74,17 +75,20 @@ module _ (t : Table) (set b w : List ℕ) (v : Got Bool) (solution s : Solution)
   pub small : length w ≡ 8192 → recordsOf (toldSolution s) ≤ 2048
   small k = omega (arith, ap recordsOf told, few (confirmedSet t set) (solvedSet t set) b w a.buffer by-ruling.words k)
 
-  pub put-over : (n : ℕ) (result result' : List ℕ) → n ≡ recordsOf (toldSolution s) → length w ≡ 8192 → 8192 ≤ length result → result' ≡ sets result 0 (slice 0 (n * 4) w)
+  pub put-over : (n : ℕ) (result result' : List ℕ) → n ≡ recordsOf (toldSolution s) → length w ≡ 8192 → 8192 ≤ length result
+      → result' ≡ sets result 0 (slice 0 (n * 4) w)
       → result' ≡ resultAfter (solvedWords (confirmedSet t set)) result
   put-over n result result' i k room c =
       copied (confirmedSet t set) (solvedSet t set) b w a.buffer by-ruling.words n result result' (i ∙ ap recordsOf told) k room c
 
 module _ (pool table set result work : List ℕ) where
-  pub call-short : (s : Solution) → s ≡ refusedAs ShortBuffer 0 → lent pool table result work ≡ refused 10 → solutionAs s result work ≡ confirmCall pool table set result work
+  pub call-short : (s : Solution) → s ≡ refusedAs ShortBuffer 0 → lent pool table result work ≡ refused 10
+      → solutionAs s result work ≡ confirmCall pool table set result work
   unfolding confirmCall solvedOf solvedWords resultAfter workAfter
   call-short s i e = rw (i, e)
 
-  pub called : (s : Solution) (w result' work' : List ℕ) → length w ≡ length work → lent pool table result work ≡ got tt → toldSolution s ≡ solvedOf (confirmedSet (table_of pool table) set)
+  pub called : (s : Solution) (w result' work' : List ℕ) → length w ≡ length work → lent pool table result work ≡ got tt
+      → toldSolution s ≡ solvedOf (confirmedSet (table_of pool table) set)
       → result' ≡ resultAfter (solvedWords (confirmedSet (table_of pool table) set)) result → work' ≡ replicate (length w) 0
       → solutionAs s result' work' ≡ confirmCall pool table set result work
   unfolding confirmCall workAfter

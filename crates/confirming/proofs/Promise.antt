@@ -3,7 +3,21 @@ use Rattle.std.specs.Prelude.{◌≡◌, refl, Bool, true, false, List, [], ◌�
 use Rattle.std.proofs.Common.{sym, ap, ap₂, ◌∙◌, arith}
 use Rattle.rules.specs.Base.{Got, got, refused, ◌>>=◌, ◌>>◌, need, bounded, collect, sum_of}
 use Rattle.rules.specs.Calls as calls
-use Rattle.rules.specs.Calls.{lentResult, lentWork, lent, shortLists, shortNumbers, tableKept, setGiven, apart, opensBinding, resultAfter, Solved, solved, unsolved}
+use Rattle.rules.specs.Calls.{
+  lentResult,
+  lentWork,
+  lent,
+  shortLists,
+  shortNumbers,
+  tableKept,
+  setGiven,
+  apart,
+  opensBinding,
+  resultAfter,
+  Solved,
+  solved,
+  unsolved,
+}
 use Rattle.rules.specs.Calls.{refusedAfter, solvedOf, solvedWords, solvedSet, solveCall, Entry, entriesGiven, risingBounds, judgedSet, judgeCall}
 use Rattle.rules.specs.Confirming.{ruled, confirmed, confirmedSet, confirmCall}
 use Rattle.rules.specs.Contents.{unmixed}
@@ -62,7 +76,8 @@ module _ (pool table set : List ℕ) where
   unfolding judgeCall judgedSet apart
   proposed h bs ns k p entries types bounds work r =
       let o = numbers-ordered pool table p.good in
-      let m : unmixed (numbersOf t) (collect opensCon p.cs ++ collect opensBinding bs) ≡ true = answer-apart (numbersOf t) (is_held t) o p.cs bs ns p.given (final (numbersOf t) (is_held t) o p.cs p.given bs ns k p.accepts) in
+      let m : unmixed (numbersOf t) (collect opensCon p.cs ++ collect opensBinding bs) ≡ true =
+      answer-apart (numbersOf t) (is_held t) o p.cs bs ns p.given (final (numbersOf t) (is_held t) o p.cs p.given bs ns k p.accepts) in
       rw (h, r.lent, r.short, p.kept, p.read, r.entries-read, r.bounds-read, m) refl
 
   module _ (result work : List ℕ) where
@@ -108,7 +123,14 @@ module _ (pool table set : List ℕ) where
             let z : ◌≡◌ {A = Solved} (solved (sum_of sizeBinding bs) (length ns) j) (solved r b k) = rw f at e in
             let y : j ≡ k = cc in
             let a = bound-step room _ (accepted bs ns j) f in
-            record { bs = bs; ns = ns; room-met = is-lent a.0 a.1; is = a.2 ∙ ap (λ (i : ℕ). got (accepted bs ns i)) y; binding-records = cc; bound-records = cc }
+            record {
+              bs = bs;
+              ns = ns;
+              room-met = is-lent a.0 a.1;
+              is = a.2 ∙ ap (λ (i : ℕ). got (accepted bs ns i)) y;
+              binding-records = cc;
+              bound-records = cc;
+            }
 
     module _ (records bounds rounds : ℕ) (e : (solveCall pool table set result work).answer ≡ solved records bounds rounds) where
       abbrev here : Accepts records bounds rounds
@@ -146,31 +168,40 @@ module _ (pool table set : List ℕ) where
           a ∙ sym (by-verdict verdict here.bs here.ns rounds) ∙ ap₂ (λ (b n : ℕ). ruledBy verdict (solved b n rounds)) here.binding-records here.bound-records
 
       pub judged : (buffer : List ℕ) → lentWork buffer ≡ got tt
-          → (confirmCall pool table set result work).answer ≡ ruledBy (judgedInPlace pool table set result work records bounds buffer) (solved records bounds rounds)
+          → (confirmCall pool table set result work).answer
+          ≡ ruledBy (judgedInPlace pool table set result work records bounds buffer) (solved records bounds rounds)
       judged buffer l = told-here ∙ ap (λ (v : Got Bool). ruledBy v (solved records bounds rounds)) (sym (judged-here buffer l))
 
     -- ══ From an answer that solving doesn't accept ══
 
-    pub remains : (records rounds : ℕ) → (solveCall pool table set result work).answer ≡ unsolved records rounds → confirmCall pool table set result work ≡ solveCall pool table set result work
+    pub remains : (records rounds : ℕ) → (solveCall pool table set result work).answer ≡ unsolved records rounds
+        → confirmCall pool table set result work ≡ solveCall pool table set result work
     unfolding solveCall solvedOf confirmed
     remains r k e = go room refl (solvedSet t set) refl
       where
-        go : (l : Got (Unit {0})) → room ≡ l → (m : Got (Answer ℕ)) → solvedSet t set ≡ m → confirmCall pool table set result work ≡ solveCall pool table set result work
+        go : (l : Got (Unit {0})) → room ≡ l → (m : Got (Answer ℕ)) → solvedSet t set ≡ m
+            → confirmCall pool table set result work ≡ solveCall pool table set result work
         go (refused i) f m g = alike (rw f refl)
         go (got u) f (refused i) g = alike (rw (f, g, refused-of t set i g) refl)
-        go (got u) f (got (accepted bs ns j)) g = let z : ◌≡◌ {A = Solved} (solved (sum_of sizeBinding bs) (length ns) j) (unsolved r k) = rw (f, g) at e in unlike cc
-        go (got u) f (got (remaining ds j)) g = let s = read_of t set (remaining ds j) g in alike (rw (f, g, confirmed-of t set (remaining ds j) s.0 g s.1) refl)
+        go (got u) f (got (accepted bs ns j)) g = let z : ◌≡◌ {A = Solved} (solved (sum_of sizeBinding bs) (length ns) j) (unsolved r k) =
+            rw (f, g) at e in unlike cc
+        go (got u) f (got (remaining ds j)) g = let s = read_of t set (remaining ds j) g
+            in alike (rw (f, g, confirmed-of t set (remaining ds j) s.0 g s.1) refl)
         go (got u) f (got (stopped i j)) g = let s = read_of t set (stopped i j) g in alike (rw (f, g, confirmed-of t set (stopped i j) s.0 g s.1) refl)
 
-    pub refuses : (i rounds : ℕ) → (solveCall pool table set result work).answer ≡ refusedAfter i rounds → confirmCall pool table set result work ≡ solveCall pool table set result work
+    pub refuses : (i rounds : ℕ) → (solveCall pool table set result work).answer ≡ refusedAfter i rounds
+        → confirmCall pool table set result work ≡ solveCall pool table set result work
     unfolding solveCall solvedOf confirmed
     refuses r k e = go room refl (solvedSet t set) refl
       where
-        go : (l : Got (Unit {0})) → room ≡ l → (m : Got (Answer ℕ)) → solvedSet t set ≡ m → confirmCall pool table set result work ≡ solveCall pool table set result work
+        go : (l : Got (Unit {0})) → room ≡ l → (m : Got (Answer ℕ)) → solvedSet t set ≡ m
+            → confirmCall pool table set result work ≡ solveCall pool table set result work
         go (refused i) f m g = alike (rw f refl)
         go (got u) f (refused i) g = alike (rw (f, g, refused-of t set i g) refl)
-        go (got u) f (got (accepted bs ns j)) g = let z : ◌≡◌ {A = Solved} (solved (sum_of sizeBinding bs) (length ns) j) (refusedAfter r k) = rw (f, g) at e in unlike cc
-        go (got u) f (got (remaining ds j)) g = let s = read_of t set (remaining ds j) g in alike (rw (f, g, confirmed-of t set (remaining ds j) s.0 g s.1) refl)
+        go (got u) f (got (accepted bs ns j)) g = let z : ◌≡◌ {A = Solved} (solved (sum_of sizeBinding bs) (length ns) j) (refusedAfter r k) =
+            rw (f, g) at e in unlike cc
+        go (got u) f (got (remaining ds j)) g = let s = read_of t set (remaining ds j) g
+            in alike (rw (f, g, confirmed-of t set (remaining ds j) s.0 g s.1) refl)
         go (got u) f (got (stopped i j)) g = let s = read_of t set (stopped i j) g in alike (rw (f, g, confirmed-of t set (stopped i j) s.0 g s.1) refl)
 
     -- ══ From an answer of the call ══

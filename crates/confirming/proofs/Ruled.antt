@@ -40,7 +40,8 @@ module _ (t : Table) (set : List ℕ) where
       (c.0, c.1)
 
   -- from an answer of solving
-  pub confirmed-of : (a : Answer ℕ) (cs : List (Con ℕ)) → solvedSet t set ≡ got a → setGiven t set ≡ got cs → confirmedSet t set ≡ got (confirmed (numbersOf t) cs a)
+  pub confirmed-of : (a : Answer ℕ) (cs : List (Con ℕ)) → solvedSet t set ≡ got a → setGiven t set ≡ got cs
+      → confirmedSet t set ≡ got (confirmed (numbersOf t) cs a)
   unfolding confirmedSet
   confirmed-of a cs e r = rw (e, r) refl
 
@@ -65,7 +66,8 @@ module _ (t : Table) (set : List ℕ) where
       go (got (accepted bs ns k)) e =
           let r = read_of (accepted bs ns k) e in
           let z : v ≡ judge (numbersOf t) bounded bs ns r.0 = rw e at (j r.0 r.1) in
-          let f : confirmedSet t set ≡ got (ruled v bs ns k) = confirmed-of (accepted bs ns k) r.0 e r.1 ∙ ap (λ (w : Got Bool). got (ruled w bs ns k)) (sym z) in
+          let f : confirmedSet t set ≡ got (ruled v bs ns k) = confirmed-of (accepted bs ns k) r.0 e r.1
+          ∙ ap (λ (w : Got Bool). got (ruled w bs ns k)) (sym z) in
           record { answer = rw (e, f) (by-verdict v bs ns k); words = rw (e, f) (verdict-words v bs ns k) }
       go (got (remaining ds k)) e = let r = read_of (remaining ds k) e in same v (got (remaining ds k)) e (confirmed-of (remaining ds k) r.0 e r.1) refl
       go (got (stopped i k)) e = let r = read_of (stopped i k) e in same v (got (stopped i k)) e (confirmed-of (stopped i k) r.0 e r.1) refl

@@ -113,10 +113,12 @@ module _ (pool table set : List ℕ) where
     Verdict ν cs r = JudgedAs ν cs (solvedSet t set) (toldBy is_none r) × PlacedAs ν cs (solvedSet t set) (toldBy toldOption r)
 
     -- nothing is judged where there is no accepted answer
-    pub left-unjudged : {n : ℕ} → solution.outcome ≡ Ok (finish.Unsolved n) → (ν : Names ℕ) (cs : List (Con ℕ)) (r : Result (std.Option ℕ) Refusal) → Verdict ν cs r
+    pub left-unjudged : {n : ℕ} → solution.outcome ≡ Ok (finish.Unsolved n) → (ν : Names ℕ) (cs : List (Con ℕ)) (r : Result (std.Option ℕ) Refusal)
+        → Verdict ν cs r
     left-unjudged {n} i ν cs r = go (solvedSet t set) (says i)
       where
-        go : (m : Got (Answer ℕ)) → StandsBy s (Ok (finish.Unsolved n)) solution.rounds m → JudgedAs ν cs m (toldBy is_none r) × PlacedAs ν cs m (toldBy toldOption r)
+        go : (m : Got (Answer ℕ)) → StandsBy s (Ok (finish.Unsolved n)) solution.rounds m → JudgedAs ν cs m (toldBy is_none r)
+            × PlacedAs ν cs m (toldBy toldOption r)
         go (refused j) q = (tt, tt)
         go (got (accepted bs ns k)) q = absurd q
         go (got (remaining ds k)) q = (tt, tt)

@@ -217,7 +217,7 @@ fn enter(pool: &[u8], table: &[u32], words: &[u32]) -> Result<(), Refusal>
     }
 }
 
-/// All that the call does past the check of 10, but for clearing the work buffer.
+/// All that the call does past the check of 10, except for clearing the work buffer.
 pub fn find_among<'x>(
     pool: &'x [u8],
     table: &'x [u32],

@@ -10,7 +10,30 @@ use Rattle.rules.specs.Contents.{unmixed}
 use Rattle.rules.specs.Judging.{judge, judgeCon, failing}
 use Rattle.rules.specs.Meaning.{TrueUnder, Premise}
 use Rattle.rules.specs.Names.{Bytes, Table, table_of, numbersOf, is_held}
-use Rattle.rules.specs.Reports.{Finding, unseen, unread, agrees, denied, unjudged, remains, stops, judgedBy, finding, findingOf, Content, holding, refusing, lacking, Page, page_of, onPage, namesAfter, readOn, Edition, editionGiven}
+use Rattle.rules.specs.Reports.{
+  Finding,
+  unseen,
+  unread,
+  agrees,
+  denied,
+  unjudged,
+  remains,
+  stops,
+  judgedBy,
+  finding,
+  findingOf,
+  Content,
+  holding,
+  refusing,
+  lacking,
+  Page,
+  page_of,
+  onPage,
+  namesAfter,
+  readOn,
+  Edition,
+  editionGiven,
+}
 use Rattle.rules.specs.Solving.{Answer, accepted, remaining, stopped, solve}
 use Rattle.rules.specs.TextReading.{Sheet, sheet, refusedIn, sheetRead}
 use Rattle.rules.specs.Trees.{Names, Con, Binding, opensCon}
@@ -55,7 +78,8 @@ module _ (ν : Names ℕ) (bs : List (Binding ℕ)) (ns : List ℕ) where
   fails-at (c ∷ cs) k i e = go (judgeCon ν bounded bs ns c) refl (fails-at cs (suc k) i) e
     where
       go : (m : Got Bool) → judgeCon ν bounded bs ns c ≡ m → (failing ν bounded bs ns (suc k) cs ≡ got (some i) → (j : ℕ) × ((i ≡ suc k + j) × FailsAt cs j))
-          → (m >>= λ b. elim b [ true ↦ failing ν bounded bs ns (suc k) cs | false ↦ got (some k) ]) ≡ got (some i) → (j : ℕ) × ((i ≡ k + j) × FailsAt (c ∷ cs) j)
+          → (m >>= λ b. elim b [ true ↦ failing ν bounded bs ns (suc k) cs | false ↦ got (some k) ]) ≡ got (some i) → (j : ℕ)
+          × ((i ≡ k + j) × FailsAt (c ∷ cs) j)
       go (got true) q f e =
           let r = f e in
           (suc r.0, (omega (arith, r.1.0), record { constraint = r.1.1.constraint; there = r.1.1.there; untrue = r.1.1.untrue }))

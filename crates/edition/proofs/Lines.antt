@@ -1,5 +1,30 @@
 -- A page of a report is the first line of its sheet and lines below it, whatever its file is called and holds.
-use Rattle.std.specs.Prelude.{◌≡◌, refl, Bool, true, false, ◌||◌, ◌&&◌, List, [], ◌∷◌, ◌++◌, map, ℕ, zero, suc, ◌-◌, eqb, leb, ltb, take, drop, replicate, length, get_or}
+use Rattle.std.specs.Prelude.{
+  ◌≡◌,
+  refl,
+  Bool,
+  true,
+  false,
+  ◌||◌,
+  ◌&&◌,
+  List,
+  [],
+  ◌∷◌,
+  ◌++◌,
+  map,
+  ℕ,
+  zero,
+  suc,
+  ◌-◌,
+  eqb,
+  leb,
+  ltb,
+  take,
+  drop,
+  replicate,
+  length,
+  get_or,
+}
 use Rattle.std.proofs.Common.{sym, ap, ◌∙◌, append-nil, append_assoc}
 use Rattle.rules.specs.Base.{any, collect}
 use Rattle.rules.specs.Grammar.{ascii}
@@ -62,7 +87,10 @@ every-at (b ∷ bs) (suc i) h = every-at bs i h.1
 
 reason-seen : (n : ℕ) → Seen (Reports.reason n)
 unfolding Reports.reason Reports.reasons any
-reason-seen n = record { flat = every-at Reports.reasons (n - 1) (refl, (refl, (refl, (refl, (refl, (refl, (refl, (refl, (refl, (refl, (refl, (refl, tt)))))))))))) }
+reason-seen n = record {
+  flat = every-at Reports.reasons (n - 1)
+      (refl, (refl, (refl, (refl, (refl, (refl, (refl, (refl, (refl, (refl, (refl, (refl, tt))))))))))));
+}
 
 refused-seen : (n : ℕ) → Seen (Reports.refusedText n)
 unfolding Reports.refusedText any
@@ -157,7 +185,8 @@ module _ (name_of : ℕ → Bytes) (text : Bytes) (cs new : ℕ) where
   finding-told (Reports.unseen u) = unseen-told u
   finding-told (Reports.unread n l c) = told (refused-seen n ▹ feed) (line-below c (Reports.lineIn l text))
   finding-told (Reports.agrees bs ns k) = told
-      (lit "accepted: " refl ▹ quantity-seen cs (ascii " constraint") (lit " constraint" refl) ▹ lit ", " refl ▹ quantity-seen k (ascii " round") (lit " round" refl)
+      (lit "accepted: " refl ▹ quantity-seen cs (ascii " constraint") (lit " constraint" refl) ▹ lit ", " refl ▹ quantity-seen k (ascii " round")
+      (lit " round" refl)
       ▹ lit ", " refl ▹ quantity-seen new (ascii " new name") (lit " new name" refl) ▹ feed)
       (each-below (Reports.bindingLine name_of) binding-below bs ⨾ each-below (Reports.boundLine name_of) bound-below ns)
   finding-told (Reports.denied i) = told

@@ -98,7 +98,8 @@ module _ (pool table : List ℕ) (files : List File) (i : ℕ) (xs : List Sheet)
   unfolding editionGiven
   one-step f fs p' t' x r = r.after (λ a b. editionGiven a b (files_of fs))
 
-  first-file : i < length files → (f d : File) → f ≡ get_or files i d → editionGiven p t (files_of (drop i files)) ≡ editionGiven p t (files_of (f ∷ drop (suc i) files))
+  first-file : i < length files → (f d : File) → f ≡ get_or files i d
+      → editionGiven p t (files_of (drop i files)) ≡ editionGiven p t (files_of (f ∷ drop (suc i) files))
   first-file l f d e = ap (λ (fs : List File). editionGiven p t (files_of fs)) (drop-cons files i d l ∙ ap (λ (g : File). g ∷ drop (suc i) files) (sym e))
 
   in-front : (ps : List Page) (q : Page) (e : Edition) → before ps (onPage q e) ≡ before (ps ++ (q ∷ [])) e
@@ -109,7 +110,8 @@ module _ (pool table : List ℕ) (files : List File) (i : ℕ) (xs : List Sheet)
   one-read l f d e p' t' x r = record {
     pages = h.pages ++ (r.page ∷ []);
     holds = holds-append xs h.pages x r.page h.holds r.is;
-    is = h.is ∙ ap (before h.pages) (first-file l f d e ∙ one-step f (drop (suc i) files) p' t' x r) ∙ in-front h.pages r.page (editionGiven p' t' (files_of (drop (suc i) files)))
+    is = h.is ∙ ap (before h.pages) (first-file l f d e ∙ one-step f (drop (suc i) files) p' t' x r)
+        ∙ in-front h.pages r.page (editionGiven p' t' (files_of (drop (suc i) files)))
         ∙ ap (λ (k : ℕ). before (h.pages ++ (r.page ∷ [])) (editionGiven p' t' (files_of (drop k files)))) (sym (add-one i));
     good = r.good;
     many = simp length-append (omega (arith, h.many));

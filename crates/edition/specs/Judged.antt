@@ -29,7 +29,8 @@ module _ (t : Table) (ws : List ℕ) (n : ℕ) (cs : List (Con ℕ)) (k : Kept w
       → PlacedAs (numbersOf t) cs (solvedSet t ws) j
   placed-same j f = go (solvedSet t ws) refl f
     where
-      go : (m : Got (Answer ℕ)) → solvedSet t ws ≡ m → ((ds : List (Con ℕ)) → setGiven t ws ≡ got ds → PlacedAs (numbersOf t) ds m j) → PlacedAs (numbersOf t) cs m j
+      go : (m : Got (Answer ℕ)) → solvedSet t ws ≡ m → ((ds : List (Con ℕ)) → setGiven t ws ≡ got ds → PlacedAs (numbersOf t) ds m j)
+          → PlacedAs (numbersOf t) cs m j
       go (refused i) e f = tt
       go (got (accepted bs ns r)) e f =
           let g = given (accepted bs ns r) e in

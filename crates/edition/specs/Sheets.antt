@@ -39,7 +39,8 @@ ReadTo pool table pool' table' ws (Err e) (refusedIn n l c) = IsRefused pool tab
 err-ok : {A E : Type 0} {e : E} {a : A} → ◌≡◌ {A = Result A E} (Err e) (Ok a) → ⊥
 err-ok e = let z : ◌≡◌ {A = ℕ} 0 1 = cc in omega (arith, z)
 
-front : (cs : List (Con ℕ)) (result : List ℕ) (n : ℕ) → n ≡ sum_of sizeCon cs → take (n * 4) (over (words (collect writeCon cs)) result) ≡ words (collect writeCon cs)
+front : (cs : List (Con ℕ)) (result : List ℕ) (n : ℕ) → n ≡ sum_of sizeCon cs
+    → take (n * 4) (over (words (collect writeCon cs)) result) ≡ words (collect writeCon cs)
 unfolding over
 front cs result n e =
     let w = words (collect writeCon cs) in
@@ -65,7 +66,8 @@ module _ {pool table : List ℕ} (good : Good pool table) (text result work : Li
         → ((x : Read) → r ≡ Ok x → ws ≡ take (x.records * 4) result') → ReadTo pool table pool' table' ws r (sheetRead pool table text)
     was-read r e ws f = go r (sheetRead pool table text) (e ∙ reads-on) f
       where
-        go : (r : Result Read NotRead) (m : Sheet) → readAs r pool' table' result' work' ≡ handed pool table result (workAfter (lent pool table result work) work) m
+        go : (r : Result Read NotRead) (m : Sheet)
+            → readAs r pool' table' result' work' ≡ handed pool table result (workAfter (lent pool table result work) work) m
             → ((x : Read) → r ≡ Ok x → ws ≡ take (x.records * 4) result') → ReadTo pool table pool' table' ws r m
         go (Ok x) (sheet cs s) e f =
             let a : wasRead x.records x.constraints x.names ≡ wasRead (sum_of sizeCon cs) (length cs) s.fresh = ap (λ (t : TextRead). t.answer) e in

@@ -27,8 +27,10 @@ module _ (shown : Shown) (t : Table) (old : Place) where
   accepted-one-more [] p = omega arith
   accepted-one-more (q ∷ ps) p = omega (arith, accepted-one-more ps p)
 
-  module _ {E : Type 0} (xs : List Sheet) (i accepted : ℕ) (now : Place) (h : ToldSoFar xs i accepted now E) (l : i < length xs) (x d : Sheet) (e : x ≡ get_or xs i d) where
-    text-one-more : (ps : List Page) (a : PageAt ps x i) → collect (pageShown shown t) (take (i + 1) ps) ≡ collect (pageShown shown t) (take i ps) ++ pageShown shown t a.page
+  module _ {E : Type 0} (xs : List Sheet) (i accepted : ℕ) (now : Place) (h : ToldSoFar xs i accepted now E) (l : i < length xs) (x d : Sheet)
+      (e : x ≡ get_or xs i d) where
+    text-one-more : (ps : List Page) (a : PageAt ps x i)
+        → collect (pageShown shown t) (take (i + 1) ps) ≡ collect (pageShown shown t) (take i ps) ++ pageShown shown t a.page
     unfolding collect
     text-one-more ps a = ap (collect (pageShown shown t)) a.one_more ∙ collect-append (pageShown shown t) (take i ps) (a.page ∷ [])
         ∙ ap (collect (pageShown shown t) (take i ps) ++◌) (append-nil (pageShown shown t a.page))
@@ -37,7 +39,8 @@ module _ (shown : Shown) (t : Table) (old : Place) where
         → ((p : Page) → IsSheet x p → b ≡ oneIf (isAccepted (findingOf t p.content))) → ToldSoFar xs (i + 1) (accepted + b) new E
     one-told {new} b few f g = record {
       told = λ ps k. let a = page-at xs ps k i l x d e in rw (text-one-more ps a) (then _ (h.told ps k) (f a.page a.is));
-      counted = λ ps k. let a = page-at xs ps k i l x d e in rw (a.one_more, accepted-one-more (take i ps) a.page) (omega (arith, h.counted ps k, g a.page a.is));
+      counted = λ ps k. let a = page-at xs ps k i l x d e
+          in rw (a.one_more, accepted-one-more (take i ps) a.page) (omega (arith, h.counted ps k, g a.page a.is));
       few = omega (arith, few, h.few);
     }
 
@@ -45,9 +48,11 @@ module _ (shown : Shown) (t : Table) (old : Place) where
         → (ps : List Page) → HoldsAll xs ps → Puts old (collect (pageShown shown t) ps) r new
     one-cut {new} {v} r q f ps k =
         let a = page-at xs ps k i l x d e in
-        let z : collect (pageShown shown t) ps ≡ collect (pageShown shown t) (take i ps) ++ (pageShown shown t a.page ++ collect (pageShown shown t) (drop (i + 1) ps)) =
+        let z : collect (pageShown shown t) ps ≡ collect (pageShown shown t) (take i ps)
+        ++ (pageShown shown t a.page ++ collect (pageShown shown t) (drop (i + 1) ps)) =
         ap (collect (pageShown shown t)) a.rest ∙ collect-append (pageShown shown t) (take (i + 1) ps) (drop (i + 1) ps)
-        ∙ ap (λ (b : Bytes). b ++ collect (pageShown shown t) (drop (i + 1) ps)) (text-one-more ps a) ∙ append_assoc (collect (pageShown shown t) (take i ps)) (pageShown shown t a.page) (collect (pageShown shown t) (drop (i + 1) ps)) in
+        ∙ ap (λ (b : Bytes). b ++ collect (pageShown shown t) (drop (i + 1) ps)) (text-one-more ps a)
+        ∙ append_assoc (collect (pageShown shown t) (take i ps)) (pageShown shown t a.page) (collect (pageShown shown t) (drop (i + 1) ps)) in
         rw z (then r (h.told ps k) (cut (collect (pageShown shown t) (drop (i + 1) ps)) r q (f a.page a.is)))
 
   module _ {E : Type 0} (xs : List Sheet) (i accepted : ℕ) (now : Place) (h : ToldSoFar xs i accepted now E) (l : length xs ≤ i) where
@@ -63,7 +68,8 @@ module _ (shown : Shown) (t : Table) (old : Place) where
 -- ══ The whole report ══
 
 pub shown-is : (shown : Shown) (e : Edition) → editionShown shown e
-    ≡ collect (pageShown shown (table_of e.pool e.table)) e.pages ++ totalText (length e.pages) (acceptedIn (table_of e.pool e.table) e.pages) (get_or e.table 0 0)
+    ≡ collect (pageShown shown (table_of e.pool e.table)) e.pages
+    ++ totalText (length e.pages) (acceptedIn (table_of e.pool e.table) e.pages) (get_or e.table 0 0)
 unfolding editionShown table_of
 shown-is shown e = refl
 
@@ -75,7 +81,8 @@ pub record Whole (pool table : List ℕ) (xs : List Sheet) (e : Edition) : Type 
 
 -- pages and the last line
 module _ (shown : Shown) (pool table : List ℕ) (xs : List Sheet) (e : Edition) (w : Whole pool table xs e) {E : Type 0} {old mid : Place} where
-  pub whole-told : Puts {E = E} old (collect (pageShown shown (table_of pool table)) e.pages) (Ok tt) mid → {n : ℕ} → n ≡ acceptedIn (table_of pool table) e.pages
+  pub whole-told : Puts {E = E} old (collect (pageShown shown (table_of pool table)) e.pages) (Ok tt) mid → {n : ℕ}
+      → n ≡ acceptedIn (table_of pool table) e.pages
       → (r : Result (Unit {0}) E) {new : Place} → Puts mid (totalText (length xs) n (get_or table 0 0)) r new → Puts old (editionShown shown e) r new
   whole-told a {n} k r b =
       let c = rw (as-many xs e.pages w.holds, k) at b in

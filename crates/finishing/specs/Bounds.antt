@@ -14,7 +14,26 @@ use Rattle.rules.specs.Calls.{over, resultAfter, unsolved, solvedOf, solvedWords
 use Rattle.rules.specs.Contents.{namesIn, sort}
 use Rattle.rules.specs.Rounds.{State}
 use Rattle.rules.specs.Solving.{boundOf, finish, finished}
-use Rattle.rules.specs.Trees.{var, quant, par, opened, basic, dim, fn, struct, list, Con, equal, isDim, is_scalar, hasField, opens, opensCon, sizeCon, sizeBinding}
+use Rattle.rules.specs.Trees.{
+  var,
+  quant,
+  par,
+  opened,
+  basic,
+  dim,
+  fn,
+  struct,
+  list,
+  Con,
+  equal,
+  isDim,
+  is_scalar,
+  hasField,
+  opens,
+  opensCon,
+  sizeCon,
+  sizeBinding,
+}
 use Rattle.rules.specs.Writing.{Rec, words, writeCon, writeBinding, writeBound}
 use Rattle.laws.specs.KnownNames.{every_append, Known, con-known}
 use Rattle.laws.specs.ReadLists.{Every}
@@ -50,7 +69,8 @@ unfolding writeBound
 bound-rec x = refl
 
 -- what is left to write falls by one
-pub bound-step : (names d d' : List ℕ) (k out i : ℕ) {R : List ℕ} → i < k → k ≤ length names → d' ≡ sets d ((out + i) * 4) (words (recOf (view.Bound (Var (get_or names i 0))) 1 ∷ []))
+pub bound-step : (names d d' : List ℕ) (k out i : ℕ) {R : List ℕ} → i < k → k ≤ length names
+    → d' ≡ sets d ((out + i) * 4) (words (recOf (view.Bound (Var (get_or names i 0))) 1 ∷ []))
     → sets d ((out + i) * 4) (words (map boundRec (slice i k names))) ≡ R → sets d' ((out + (i + 1)) * 4) (words (map boundRec (slice (i + 1) k names))) ≡ R
 bound-step names d d' k out i {R} lt le e h =
     let r : Rec = boundRec (get_or names i 0) in
@@ -64,7 +84,8 @@ bound-step names d d' k out i {R} lt le e h =
 
 pub bound-none : (names d : List ℕ) (k out i : ℕ) → i ≡ k → d ≡ sets d ((out + i) * 4) (words (map boundRec (slice i k names)))
 unfolding words
-bound-none names d k out i e = sym (ap (λ (l : List ℕ). sets d ((out + i) * 4) (words (map boundRec l))) (ap (λ (j : ℕ). slice j k names) e ∙ slice_empty k names))
+bound-none names d k out i e = sym (ap (λ (l : List ℕ). sets d ((out + i) * 4) (words (map boundRec l)))
+    (ap (λ (j : ℕ). slice j k names) e ∙ slice_empty k names))
 
 -- written, they are held
 bounds-held : (s : List ℕ) (ns : List ℕ) (at : ℕ) (more : List Rec) → from s at ≡ map boundRec ns ++ more → HoldsBounds s (map (λ n. var n) ns) at
@@ -100,7 +121,13 @@ option-few (some a) = omega arith
 names-few : (cs : List (Con ℕ)) → length (collect (λ c. to_list (boundOf c)) cs) ≤ sum_of sizeCon cs
 unfolding collect
 names-few [] = omega arith
-names-few (c ∷ cs) = omega (arith, length-append (to_list (boundOf c)) (collect (λ c. to_list (boundOf c)) cs), option-few (boundOf c), con-some c, names-few cs)
+names-few (c ∷ cs) = omega (
+  arith,
+  length-append (to_list (boundOf c)) (collect (λ c. to_list (boundOf c)) cs),
+  option-few (boundOf c),
+  con-some c,
+  names-few cs,
+)
 
 module _ (s : List ℕ) where
   -- the open names of the records are those of the constraints
@@ -113,11 +140,13 @@ module _ (s : List ℕ) where
   chained (c ∷ cs) at n h e = (at + sizeCon c, ((h.0, refl), chained cs (at + sizeCon c) n h.1 (omega (arith, e))))
 
   set-opens : (cs : List (Con ℕ)) (n : ℕ) → IsCons s 0 n cs → opensIn s 0 n ≡ collect opensCon cs
-  set-opens cs n h = (chain-opens s (λ at c e. HoldsCon s c at × (e ≡ at + sizeCon c)) opensCon (λ at c e k. part c at e k) cs 0 n (chained cs 0 n h.held h.ends)).1
+  set-opens cs n h = (chain-opens s (λ at c e. HoldsCon s c at × (e ≡ at + sizeCon c)) opensCon (λ at c e k. part c at e k) cs 0 n
+      (chained cs 0 n h.held h.ends)).1
 
 -- ══ A state whose constraints are bounds ══
 
-cons-good : (pool table : List ℕ) (cs : List (Con ℕ)) → all (goodCon pool table 0) cs ≡ true → Every (Known (numbers pool table) (holding pool table) 0) (collect opensCon cs)
+cons-good : (pool table : List ℕ) (cs : List (Con ℕ)) → all (goodCon pool table 0) cs ≡ true
+    → Every (Known (numbers pool table) (holding pool table) 0) (collect opensCon cs)
 unfolding all collect
 cons-good pool table [] g = tt
 cons-good pool table (c ∷ cs) g =
@@ -172,30 +201,45 @@ module _ (pool table s : List ℕ) (n m : ℕ) (st : State ℕ) (h : StateHeld p
 
     pub listed-few : length b' ≡ 256 → (k ≤ length b') × (k ≤ n)
     unfolding over
-    listed-few l = (omega (arith, listed.many, ap length listed.buffer ∙ length-append (bounds pool table st) (drop (length (bounds pool table st)) b)), omega (arith, listed.many, bounds-few))
+    listed-few l = (
+      omega (
+        arith,
+        listed.many,
+        ap length listed.buffer
+            ∙ length-append (bounds pool table st) (drop (length (bounds pool table st)) b),
+      ),
+      omega (arith, listed.many, bounds-few),
+    )
 
     listed-front : take k b' ≡ bounds pool table st
     unfolding over
     listed-front = ap (take k) listed.buffer ∙ take_at (bounds pool table st) (drop (length (bounds pool table st)) b) k (sym listed.many)
 
     -- bindings, and then bounds
-    pub accepted-as : (d d₁ d₂ : List ℕ) → 8192 ≤ length d → d₁ ≡ sets d 0 (slice (n * 4) (m * 4) s) → d₂ ≡ sets d₁ ((m - n) * 4) (words (map boundRec (take k b'))) → Accepted pool table st d d₂ (m - n) k
+    pub accepted-as : (d d₁ d₂ : List ℕ) → 8192 ≤ length d → d₁ ≡ sets d 0 (slice (n * 4) (m * 4) s)
+        → d₂ ≡ sets d₁ ((m - n) * 4) (words (map boundRec (take k b'))) → Accepted pool table st d d₂ (m - n) k
     unfolding over
     accepted-as d d₁ d₂ room p q =
         let A = collect writeBinding st.binds in
         let B = map boundRec (bounds pool table st) in
         let z : (0 + (m - n)) * 4 ≡ (m - n) * 4 = omega arith in
-        let w : d₂ ≡ sets d 0 (words (A ++ B)) = writes d d₁ d₂ A B (m - n) 0 binds-length (p ∙ ap (sets d 0) binds-words) (rw z (q ∙ ap (λ (l : List ℕ). sets d₁ ((m - n) * 4) (words (map boundRec l))) listed-front)) in
+        let w : d₂ ≡ sets d 0 (words (A ++ B)) = writes d d₁ d₂ A B (m - n) 0 binds-length (p ∙ ap (sets d 0) binds-words)
+        (rw z (q ∙ ap (λ (l : List ℕ). sets d₁ ((m - n) * 4) (words (map boundRec l))) listed-front)) in
         let a = binds-in in
         let i = length-map (bounds pool table st) boundRec in
         let l = length-append A B in
         let long : length (words (A ++ B)) ≤ 8192 = omega (arith, words-length (A ++ B), l, i, binds-length, bounds-few, h.short, a.0) in
-        let there : from d₂ 0 ≡ (A ++ B) ++ from d (0 + length (A ++ B)) = ap (λ (v : List ℕ). from v 0) w ∙ stored d (A ++ B) 0 (omega (arith, l, i, binds-length, bounds-few, h.short, a.0, room)) in
+        let there : from d₂ 0 ≡ (A ++ B) ++ from d (0 + length (A ++ B)) = ap (λ (v : List ℕ). from v 0) w
+        ∙ stored d (A ++ B) 0 (omega (arith, l, i, binds-length, bounds-few, h.short, a.0, room)) in
         let (u, v) = parted d₂ A B (from d (0 + length (A ++ B))) 0 (m - n) binds-length there in
         let v' : from d₂ (m - n) ≡ B ++ from d (0 + length (A ++ B)) = rw (zero-add (m - n)) at v in
         record {
           rows = record {
-            binds = as-run d₂ st.binds 0 (m - n) (record { held = binds-held pool table d₂ st.binds 0 _ (binds-weaker pool table st.binds h.sound_binds.good) u; ends = omega (arith, h.binds.ends, a.0) });
+            binds = as-run d₂ st.binds 0 (m - n)
+                (record {
+                  held = binds-held pool table d₂ st.binds 0 _ (binds-weaker pool table st.binds h.sound_binds.good) u;
+                  ends = omega (arith, h.binds.ends, a.0);
+                });
             bounds = record { held = bounds-held d₂ (bounds pool table st) (m - n) _ v'; ends = omega (arith, listed.many) };
           };
           many = listed.many;
@@ -209,14 +253,17 @@ module _ (pool table : List ℕ) (st : State ℕ) (d d' : List ℕ) (left : ℕ)
   left-held : sum_of sizeCon st.cons ≤ 2048 → 8192 ≤ length d → all (goodCon pool table 0) st.cons ≡ true → IsCons d' 0 left (others st.cons)
   left-held few room good =
       let n : 0 + sum_of sizeCon (others st.cons) ≡ left = omega (arith, c.many) in
-      rw n at (written-cons pool table d d' 0 (others st.cons) c.buffer (omega (arith, others-few st.cons, few, room)) (cons-weaker pool table (others st.cons) (others-good pool table st.cons good)))
+      rw n at (written-cons pool table d d' 0 (others st.cons) c.buffer (omega (arith, others-few st.cons, few, room))
+      (cons-weaker pool table (others st.cons) (others-good pool table st.cons good)))
 
   -- some remain
-  pub finished-remaining : 0 < left → sum_of sizeCon st.cons ≤ 2048 → 8192 ≤ length d → all (goodCon pool table 0) st.cons ≡ true → Finished pool table st d d' (Unsolved left)
+  pub finished-remaining : 0 < left → sum_of sizeCon st.cons ≤ 2048 → 8192 ≤ length d → all (goodCon pool table 0) st.cons ≡ true
+      → Finished pool table st d d' (Unsolved left)
   unfolding finish finished solvedOf solvedWords resultAfter over
   finished-remaining lt few room good = go (others st.cons) refl c (others-few st.cons) (left-held few room good)
     where
-      go : (cs : List (Con ℕ)) → others st.cons ≡ cs → Copied d d' 0 left cs → sum_of sizeCon cs ≤ sum_of sizeCon st.cons → IsCons d' 0 left cs → Finished pool table st d d' (Unsolved left)
+      go : (cs : List (Con ℕ)) → others st.cons ≡ cs → Copied d d' 0 left cs → sum_of sizeCon cs ≤ sum_of sizeCon st.cons → IsCons d' 0 left cs
+          → Finished pool table st d d' (Unsolved left)
       go [] e k f g = absurd (omega (arith, k.many))
       go (x ∷ cs) e k f g =
           let n = words-length (collect writeCon (x ∷ cs)) in
@@ -224,7 +271,8 @@ module _ (pool table : List ℕ) (st : State ℕ) (d d' : List ℕ) (left : ℕ)
           record {
             answer = λ j. rw e (let z : left ≡ sum_of sizeCon (x ∷ cs) = omega (arith, k.many) in ap (λ (i : ℕ). unsolved i j) z);
             rows = λ j. rw e (refl, g);
-            buffer = λ j. rw e (k.buffer ∙ sets-eq (words (collect writeCon (x ∷ cs))) d 0 (omega arith) ∙ ap (λ (i : ℕ). words (collect writeCon (x ∷ cs)) ++ drop i d) (zero-add (length (words (collect writeCon (x ∷ cs))))));
+            buffer = λ j. rw e (k.buffer ∙ sets-eq (words (collect writeCon (x ∷ cs))) d 0 (omega arith)
+                ∙ ap (λ (i : ℕ). words (collect writeCon (x ∷ cs)) ++ drop i d) (zero-add (length (words (collect writeCon (x ∷ cs))))));
           }
 
 -- none remains, and nothing was copied
@@ -233,7 +281,8 @@ unfolding collect words
 none-remains d d' left [] k le = (refl, k.buffer)
 none-remains d d' left (x ∷ cs) k le = absurd (omega (arith, k.many, con-some x))
 
-pub finished-accepted : (pool table s : List ℕ) (n m : ℕ) (st : State ℕ) (d d₁ d' : List ℕ) (r : ℕ) → StateHeld pool table s n m st → others st.cons ≡ [] → d₁ ≡ d → Accepted pool table st d₁ d' (m - n) r → Finished pool table st d d' (Bound (m - n) r)
+pub finished-accepted : (pool table s : List ℕ) (n m : ℕ) (st : State ℕ) (d d₁ d' : List ℕ) (r : ℕ) → StateHeld pool table s n m st
+    → others st.cons ≡ [] → d₁ ≡ d → Accepted pool table st d₁ d' (m - n) r → Finished pool table st d d' (Bound (m - n) r)
 unfolding finish finished solvedOf solvedWords resultAfter
 finished-accepted pool table s n m st d d₁ d' r h e i a =
     let b = binds-in pool table s n m st h in

@@ -22,7 +22,8 @@ unfolding keep
 others-few [] = omega arith
 others-few (c ∷ cs) = go (is_none (boundOf c)) (others-few cs)
   where
-    go : (b : Bool) → sum_of sizeCon (others cs) ≤ sum_of sizeCon cs → sum_of (sizeCon {N = ℕ}) (elim b [ true ↦ c ∷ others cs | false ↦ others cs ]) ≤ sizeCon c + sum_of sizeCon cs
+    go : (b : Bool) → sum_of sizeCon (others cs) ≤ sum_of sizeCon cs
+        → sum_of (sizeCon {N = ℕ}) (elim b [ true ↦ c ∷ others cs | false ↦ others cs ]) ≤ sizeCon c + sum_of sizeCon cs
     go true h = omega arith
     go false h = omega arith
 

@@ -6,7 +6,24 @@ use Rattle.std.proofs.Math.Bool.{false, and-eq-true_iff}
 use borrow.Author.Tests.{leb-true, lt-leb, le-leb, eq-eqb, ne_eqb}
 use Rattle.std.proofs.Math.Dec.{leb}
 use Rattle.rules.specs.Base.{Got, got, refused, ◌>>=◌, ◌>>◌, need, bounded, all, collect}
-use Rattle.rules.specs.Calls.{Entry, shortLists, shortNumbers, tableKept, setGiven, boundsGiven, risingBounds, entriesGiven, apart, opensBinding, aloneGiven, setCall, lentWork, workAfter, judgedSet, judgeCall}
+use Rattle.rules.specs.Calls.{
+  Entry,
+  shortLists,
+  shortNumbers,
+  tableKept,
+  setGiven,
+  boundsGiven,
+  risingBounds,
+  entriesGiven,
+  apart,
+  opensBinding,
+  aloneGiven,
+  setCall,
+  lentWork,
+  workAfter,
+  judgedSet,
+  judgeCall,
+}
 use Rattle.rules.specs.Judging.{judge}
 use Rattle.rules.specs.Names.{table_of, numbersOf, tableGood, lentTable}
 use Rattle.rules.specs.Reading.{readBound}
@@ -30,17 +47,24 @@ lentAll pool table work = lentTable pool table >> lentWork work
 
 pub all-lent : (pool table work : List ℕ) → lentAll pool table work ≡ got tt → (lentTable pool table ≡ got tt) × (16384 ≤ length work)
 unfolding lentWork
-all-lent pool table work e = (first-passed (need (leb 16384 (length work)) 10) tt (lentTable pool table) e, leb-true 16384 (length work) (need-passed (leb 16384 (length work)) 10 (next-passed (need (leb 16384 (length work)) 10) tt (lentTable pool table) e)))
+all-lent pool table work e = (
+  first-passed (need (leb 16384 (length work)) 10) tt (lentTable pool table) e,
+  leb-true 16384 (length work) (need-passed (leb 16384 (length work)) 10
+      (next-passed (need (leb 16384 (length work)) 10) tt (lentTable pool table) e)),
+)
 
 module _ (pool table : List ℕ) where
   -- 8, then 1 of the table and the set
   abbrev pub entered : List ℕ → List Entry → List ℕ → List ℕ → Got (Unit {0})
-  entered set es types bounds = (shortLists (set ∷ types ∷ bounds ∷ []) >> shortNumbers es) >> tableKept (table_of pool table) >> setGiven (table_of pool table) set >> got tt
+  entered set es types bounds = (shortLists (set ∷ types ∷ bounds ∷ []) >> shortNumbers es) >> tableKept (table_of pool table)
+      >> setGiven (table_of pool table) set >> got tt
 
   -- what is judged past that
   abbrev pub judgedRest : List Entry → List ℕ → List ℕ → List (Con ℕ) → Got Bool
   judgedRest es types bounds cs =
-      entriesGiven (table_of pool table) es types >>= λ bs. risingBounds (table_of pool table) bounds >>= λ ns. apart (table_of pool table) (collect opensCon cs ++ collect opensBinding bs) >> judge (numbersOf (table_of pool table)) bounded bs ns cs
+      entriesGiven (table_of pool table) es types >>= λ bs. risingBounds (table_of pool table) bounds
+      >>= λ ns. apart (table_of pool table) (collect opensCon cs ++ collect opensBinding bs)
+      >> judge (numbersOf (table_of pool table)) bounded bs ns cs
 
   pub record Entered (set types : List ℕ) (cs : List (Con ℕ)) : Type 0 where
     pub good : Good pool table
@@ -54,7 +78,8 @@ module _ (pool table : List ℕ) where
     shorts : Got (Unit {0})
     shorts = shortLists (set ∷ types ∷ bounds ∷ []) >> shortNumbers es
 
-    tests : (a b c d : Bool) → leb (length set) 8192 ≡ a → leb (length types) 8192 ≡ b → leb (length bounds) 8192 ≡ c → leb (length es) 2048 ≡ d → shorts ≡ (need (a && (b && (c && true))) 8 >> need d 8)
+    tests : (a b c d : Bool) → leb (length set) 8192 ≡ a → leb (length types) 8192 ≡ b → leb (length bounds) 8192 ≡ c → leb (length es) 2048 ≡ d
+        → shorts ≡ (need (a && (b && (c && true))) 8 >> need d 8)
     unfolding shortLists shortNumbers all shorts
     tests a b c d p q r s = rw (p, q, r, s)
 
@@ -76,32 +101,42 @@ module _ (pool table : List ℕ) where
     over e = sym (rw e)
 
     pub types_long : 8192 < length types → refused 8 ≡ entered set es types bounds
-    types_long h = over (tests _ _ _ _ refl (lt-leb (length types) 8192 h) refl refl ∙ second-long (leb (length set) 8192) (leb (length bounds) 8192) (leb (length es) 2048))
+    types_long h = over (tests _ _ _ _ refl (lt-leb (length types) 8192 h) refl refl
+        ∙ second-long (leb (length set) 8192) (leb (length bounds) 8192) (leb (length es) 2048))
 
     pub bounds-long : 8192 < length bounds → refused 8 ≡ entered set es types bounds
-    bounds-long h = over (tests _ _ _ _ refl refl (lt-leb (length bounds) 8192 h) refl ∙ third-long (leb (length set) 8192) (leb (length types) 8192) (leb (length es) 2048))
+    bounds-long h = over (tests _ _ _ _ refl refl (lt-leb (length bounds) 8192 h) refl
+        ∙ third-long (leb (length set) 8192) (leb (length types) 8192) (leb (length es) 2048))
 
     pub many-long : 2048 < length es → refused 8 ≡ entered set es types bounds
-    many-long h = over (tests _ _ _ _ refl refl refl (lt-leb (length es) 2048 h) ∙ last-long (leb (length set) 8192 && (leb (length types) 8192 && (leb (length bounds) 8192 && true))))
+    many-long h = over (tests _ _ _ _ refl refl refl (lt-leb (length es) 2048 h)
+        ∙ last-long (leb (length set) 8192 && (leb (length types) 8192 && (leb (length bounds) 8192 && true))))
 
-    one_way : {A : Type 0} (a : Bool) (K : Got (Unit {0})) (M : Got A) → (((got (tt {0}) >> need (a && true) 8) >> K) >> M >> got (tt {0})) ≡ ((need (a && (true && (true && true))) 8 >> need true 8) >> K >> M >> got (tt {0}))
+    one_way : {A : Type 0} (a : Bool) (K : Got (Unit {0})) (M : Got A)
+        → (((got (tt {0}) >> need (a && true) 8) >> K) >> M >> got (tt {0}))
+        ≡ ((need (a && (true && (true && true))) 8 >> need true 8) >> K >> M >> got (tt {0}))
     one_way true K M = refl
     one_way false K M = refl
 
-    pub set_told : lentTable pool table ≡ got tt → length types ≤ 8192 → length bounds ≤ 8192 → length es ≤ 2048 → setCall pool table set ≡ entered set es types bounds
+    pub set_told : lentTable pool table ≡ got tt → length types ≤ 8192 → length bounds ≤ 8192 → length es ≤ 2048
+        → setCall pool table set ≡ entered set es types bounds
     unfolding setCall aloneGiven shortLists all shorts shortNumbers
     set_told l p q r =
-        rw (l, le-leb (length types) 8192 p, le-leb (length bounds) 8192 q) (one_way (leb (length set) 8192) (tableKept (table_of pool table)) (setGiven (table_of pool table) set) ∙ sym (rw (le-leb (length es) 2048 r)))
+        rw (l, le-leb (length types) 8192 p, le-leb (length bounds) 8192 q)
+        (one_way (leb (length set) 8192) (tableKept (table_of pool table)) (setGiven (table_of pool table) set)
+        ∙ sym (rw (le-leb (length es) 2048 r)))
 
     -- ══ Met ══
 
-    met : {A B : Type 0} (S K : Got (Unit {0})) (M : Got A) (f : A → Got B) → (S >> K >> M >> got (tt {0})) ≡ got tt → (a : A) × ((S ≡ got tt) × ((K ≡ got tt) × ((M ≡ got a) × ((S >>= λ _. K >>= λ _. M >>= f) ≡ f a))))
+    met : {A B : Type 0} (S K : Got (Unit {0})) (M : Got A) (f : A → Got B) → (S >> K >> M >> got (tt {0})) ≡ got tt → (a : A)
+        × ((S ≡ got tt) × ((K ≡ got tt) × ((M ≡ got a) × ((S >>= λ _. K >>= λ _. M >>= f) ≡ f a))))
     met (refused i) K M f e = clash e
     met (got x) (refused i) M f e = clash e
     met (got x) (got y) (refused i) f e = clash e
     met (got x) (got y) (got a) f e = (a, (refl, (refl, (refl, refl))))
 
-    unmet : {A B : Type 0} (S K : Got (Unit {0})) (M : Got A) (f : A → Got B) (n : ℕ) → (S >> K >> M >> got (tt {0})) ≡ refused n → (S >>= λ _. K >>= λ _. M >>= f) ≡ refused n
+    unmet : {A B : Type 0} (S K : Got (Unit {0})) (M : Got A) (f : A → Got B) (n : ℕ) → (S >> K >> M >> got (tt {0})) ≡ refused n
+        → (S >>= λ _. K >>= λ _. M >>= f) ≡ refused n
     unmet (refused i) K M f n e = cc
     unmet (got x) (refused i) M f n e = cc
     unmet (got x) (got y) (refused i) f n e = cc
@@ -131,7 +166,8 @@ module _ (pool table : List ℕ) where
     unfolding judgedSet shorts
     came-in l e =
         let (cs, (s, (k, (g, w)))) = met shorts (tableKept (table_of pool table)) (setGiven (table_of pool table) set) (judgedRest es types bounds) e in
-        let p = short-all (leb (length set) 8192) (leb (length types) 8192) (leb (length bounds) 8192) (leb (length es) 2048) (sym (tests _ _ _ _ refl refl refl refl) ∙ s) in
+        let p = short-all (leb (length set) 8192) (leb (length types) 8192) (leb (length bounds) 8192) (leb (length es) 2048)
+        (sym (tests _ _ _ _ refl refl refl refl) ∙ s) in
         record {
           cons = cs;
           known = record { good = table-good l k; given = g; short = leb-true (length set) 8192 p.0; types-short = leb-true (length types) 8192 p.1.0 };
@@ -154,15 +190,18 @@ module _ (pool table : List ℕ) where
     none (got a) e = clash (sym e)
     none (refused n) e = cc
 
-    given-told : (b : Bool) → Chained (GoodBound pool table 0 bounds) (length bounds / 4) 0 b → (boundsGiven (table_of pool table) bounds >> got (tt {0})) ≡ need (eqb (length bounds % 4) 0 && b) 1
+    given-told : (b : Bool) → Chained (GoodBound pool table 0 bounds) (length bounds / 4) 0 b
+        → (boundsGiven (table_of pool table) bounds >> got (tt {0})) ≡ need (eqb (length bounds % 4) 0 && b) 1
     unfolding boundsGiven
     given-told b h = list-told bounds readBound (goodOpen pool table 0) (GoodBound pool table 0 bounds) (bound-reader bounds pool table 0) b h
 
-    pub not-whole : (b : Bool) → Chained (GoodBound pool table 0 bounds) (length bounds / 4) 0 b → (length bounds % 4 ≡ 0 → ⊥) → risingBounds (table_of pool table) bounds ≡ refused 1
+    pub not-whole : (b : Bool) → Chained (GoodBound pool table 0 bounds) (length bounds / 4) 0 b → (length bounds % 4 ≡ 0 → ⊥)
+        → risingBounds (table_of pool table) bounds ≡ refused 1
     unfolding risingBounds
     not-whole b h n = rw (none (boundsGiven (table_of pool table) bounds) (given-told b h ∙ rw (ne_eqb (length bounds % 4) 0 n)))
 
-    pub not_good : length bounds % 4 ≡ 0 → Chained (GoodBound pool table 0 bounds) (length bounds / 4) 0 false → risingBounds (table_of pool table) bounds ≡ refused 1
+    pub not_good : length bounds % 4 ≡ 0 → Chained (GoodBound pool table 0 bounds) (length bounds / 4) 0 false
+        → risingBounds (table_of pool table) bounds ≡ refused 1
     unfolding risingBounds
     not_good e h = rw (none (boundsGiven (table_of pool table) bounds) (given-told false h ∙ rw (eq-eqb (length bounds % 4) 0 e)))
 
@@ -182,10 +221,13 @@ module _ (pool table : List ℕ) where
 -- ══ The call ══
 
 module _ (pool table set types bounds work : List ℕ) (es : List Entry) where
-  pub call-short : (v : Result Bool Refusal) → told v ≡ refused 10 → lentAll pool table work ≡ refused 10 → judgedAs v work ≡ judgeCall pool table set es types bounds work
+  pub call-short : (v : Result Bool Refusal) → told v ≡ refused 10 → lentAll pool table work ≡ refused 10
+      → judgedAs v work ≡ judgeCall pool table set es types bounds work
   unfolding judgeCall workAfter
   call-short v i e = rw (e, i)
 
-  pub called : (v : Result Bool Refusal) (w work' : List ℕ) → length w ≡ length work → lentAll pool table work ≡ got tt → told v ≡ judgedSet (table_of pool table) set es types bounds → work' ≡ replicate (length w) 0 → judgedAs v work' ≡ judgeCall pool table set es types bounds work
+  pub called : (v : Result Bool Refusal) (w work' : List ℕ) → length w ≡ length work → lentAll pool table work ≡ got tt
+      → told v ≡ judgedSet (table_of pool table) set es types bounds → work' ≡ replicate (length w) 0
+      → judgedAs v work' ≡ judgeCall pool table set es types bounds work
   unfolding judgeCall workAfter
   called v w work' n e a z = rw (e, a, z, n)

@@ -77,7 +77,8 @@ unfolding HoldsBounds
 bounds-in s [] at le h = omega arith
 bounds-in s (n ∷ ns) at le h = let i = seen-in s at h.0.0 tt in omega (arith, bounds-in s ns (at + 1) (omega (arith, i)) h.1)
 
-run-in : (s : List ℕ) (bs : List (Binding ℕ)) (at : ℕ) → at ≤ length s / 4 → HoldsAll HoldsBinding sizeBinding s bs at → at + sum_of sizeBinding bs ≤ length s / 4
+run-in : (s : List ℕ) (bs : List (Binding ℕ)) (at : ℕ) → at ≤ length s / 4 → HoldsAll HoldsBinding sizeBinding s bs at
+    → at + sum_of sizeBinding bs ≤ length s / 4
 unfolding HoldsAll
 run-in s [] at le h = omega arith
 run-in s (b ∷ bs) at le h = omega (arith, run-in s bs (at + sizeBinding b) (binding-in s b at h.0) h.1)
@@ -96,7 +97,8 @@ weaker : (pool table : List ℕ) (cs : List (Binding ℕ)) → all (goodBinding 
 unfolding all
 weaker pool table [] g = refl
 weaker pool table (c ∷ cs) g =
-    let r = (and-eq-true_iff (goodBinding (numbers pool table) (holding pool table) 0 c) (all (goodBinding (numbers pool table) (holding pool table) 0) cs)).0 g in
+    let r = (and-eq-true_iff (goodBinding (numbers pool table) (holding pool table) 0 c)
+    (all (goodBinding (numbers pool table) (holding pool table) 0) cs)).0 g in
     and_both (binding-weaker (numbers pool table) (holding pool table) 0 4_294_967_296 (omega arith) c r.0) (weaker pool table cs r.1)
 
 chain : (pool table s ns : List ℕ) (at : ℕ) → from s at ≡ boundRecs ns → Every (λ n. holding pool table n ≡ true) ns
@@ -128,7 +130,8 @@ module _ (pool table found : List ℕ) (b n : ℕ) (bs : List (Binding ℕ)) (ns
   bounds-there =
       let i = length-map ns (λ (n : ℕ). writeBound (var n)) in
       let z : 0 + length ns ≡ length (words (boundRecs ns)) / 4 = omega (arith, words-length (boundRecs ns), i) in
-      rw second (subst (λ (k : ℕ). Chain (GoodBound pool table 0 (words (boundRecs ns))) k (map (λ n. var n) ns) 0) z (chain pool table (words (boundRecs ns)) ns 0 (from-back (boundRecs ns)) h.held))
+      rw second (subst (λ (k : ℕ). Chain (GoodBound pool table 0 (words (boundRecs ns))) k (map (λ n. var n) ns) 0) z
+      (chain pool table (words (boundRecs ns)) ns 0 (from-back (boundRecs ns)) h.held))
 
   pub listed : Listed pool table found 0 b bs
   listed = record { run = h.binds; good = weaker pool table bs h.good; short = omega (arith, within, h.short); near = omega (arith, h.short) }
@@ -141,5 +144,6 @@ module _ (pool table found : List ℕ) (b n : ℕ) (bs : List (Binding ℕ)) (ns
   same_names [] = refl
   same_names (n ∷ ns) = ap (n ∷◌) (same_names ns)
 
-  pub marked : {m : List Bool} → (BoundsThere pool table (take (b * 4 + n * 4 - b * 4) (drop (b * 4) found)) (map (λ n. var n) ns) → Marks m ([] ++ map word_of (map (λ n. var n) ns))) → Marks m ns
+  pub marked : {m : List Bool} → (BoundsThere pool table (take (b * 4 + n * 4 - b * 4) (drop (b * 4) found)) (map (λ n. var n) ns)
+      → Marks m ([] ++ map word_of (map (λ n. var n) ns))) → Marks m ns
   marked {m} f = subst (Marks m) (same_names ns) (f bounds-there)

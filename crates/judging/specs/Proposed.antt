@@ -29,7 +29,8 @@ use Rattle.proposals.specs.Mixed.{variable, Table}
 use Rattle.proposals.specs.Order.{find-no}
 use Rattle.trials.specs.Trials.{Put}
 
-module _ (pool table types places : List ℕ) (es : List Entry) (bs : List (Binding ℕ)) (b : Bound pool table es types places bs) (good : Good pool table) (short : length types ≤ 8192) (long : length places ≡ 256) where
+module _ (pool table types places : List ℕ) (es : List Entry) (bs : List (Binding ℕ)) (b : Bound pool table es types places bs)
+    (good : Good pool table) (short : length types ≤ 8192) (long : length places ≡ 256) where
   abbrev look : Open ℕ → Option (Ty ℕ)
   look = bindings (numbers pool table) bs
 
@@ -48,7 +49,8 @@ module _ (pool table types places : List ℕ) (es : List Entry) (bs : List (Bind
     where
       go : Dec (x < 256) → x < 256
       go (yes l) = l
-      go (no l) = let f = find-no (names_of (table_of pool table)) x bs (held_below bs x b.good (omega arith)) in absurd (let z : ◌≡◌ {A = ℕ} 0 1 = cc in omega arith)
+      go (no l) = let f = find-no (names_of (table_of pool table)) x bs (held_below bs x b.good (omega arith))
+          in absurd (let z : ◌≡◌ {A = ℕ} 0 1 = cc in omega arith)
 
   same_word : (w : ℕ) (m : Option (Ty ℕ)) → tables.SaysAt pool table types w m → SaysAt types w m
   same_word w none h = h
@@ -90,7 +92,11 @@ module _ (pool table types places : List ℕ) (es : List Entry) (bs : List (Bind
 
   pub put : Put pool table places types bs
   put = record {
-    lent = record { tabled = record { says = word; few = few }; good = λ o t e. ty-weaker (numbers pool table) (holding pool table) 0 4_294_967_296 (omega arith) t (plain o t e); near = omega arith };
+    lent = record {
+      tabled = record { says = word; few = few };
+      good = λ o t e. ty-weaker (numbers pool table) (holding pool table) 0 4_294_967_296 (omega arith) t (plain o t e);
+      near = omega arith;
+    };
     good = plain;
   }
 

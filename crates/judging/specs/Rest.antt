@@ -32,13 +32,16 @@ use Rattle.judging.specs.Entry.{Entered, judgedRest}
 module _ (pool table set types : List ℕ) (cs : List (Con ℕ)) (es : List Entry) (n : Entered pool table set types cs) where
   -- ══ Entries ══
 
-  module _ {s : Slots} {places : List ℕ} {r : Bool} (h : Slotted es s) (few : s.count ≤ 2048) (m : Made pool table types s.places s.repeated s.count places r) where
+  module _ {s : Slots} {places : List ℕ} {r : Bool} (h : Slotted es s) (few : s.count ≤ 2048)
+      (m : Made pool table types s.places s.repeated s.count places r) where
     pub are-bound : r ≡ true → (bs : List (Binding ℕ)) × Bound pool table es types places bs
-    are-bound e = placed-yes pool table es types places (rw e at (placed pool table types n.good es s.places s.repeated s.count places r h.slots (h.again few) h.many m))
+    are-bound e = placed-yes pool table es types places
+        (rw e at (placed pool table types n.good es s.places s.repeated s.count places r h.slots (h.again few) h.many m))
 
     pub no-entries : (bounds : List ℕ) → r ≡ false → refused 1 ≡ judgedRest pool table es types bounds cs
     no-entries bounds e =
-        let q = placed-no pool table es types places (rw e at (placed pool table types n.good es s.places s.repeated s.count places r h.slots (h.again few) h.many m)) in
+        let q = placed-no pool table es types places
+        (rw e at (placed pool table types n.good es s.places s.repeated s.count places r h.slots (h.again few) h.many m)) in
         sym (rw q)
 
   -- ══ Past them ══
@@ -56,7 +59,9 @@ module _ (pool table set types : List ℕ) (cs : List (Con ℕ)) (es : List Entr
 
     pub small : (bs : List (Binding ℕ)) → all (records.goodBinding pool table 0) bs ≡ true → Small (opensIn set 0 (length set / 4) ++ collect opensBinding bs)
     small bs g =
-        rw opened (names-small pool table 0 (collect opensCon cs ++ collect opensBinding bs) (every_append _ (collect opensCon cs) (collect opensBinding bs) (set_known pool table 0 set cs 0 (length set / 4) (set_is pool table set w cs n.given)) (bindings-known bs g)) (good-laid n.good).few)
+        rw opened (names-small pool table 0 (collect opensCon cs ++ collect opensBinding bs)
+        (every_append _ (collect opensCon cs) (collect opensBinding bs)
+        (set_known pool table 0 set cs 0 (length set / 4) (set_is pool table set w cs n.given)) (bindings-known bs g)) (good-laid n.good).few)
 
     pub set_there : SetThere pool table set cs
     set_there = let h = given-cons pool table set w cs n.given in record { held = h.0; good = h.1 }
@@ -65,7 +70,8 @@ module _ (pool table set types : List ℕ) (cs : List (Con ℕ)) (es : List Entr
       pub no-bounds : risingBounds (table_of pool table) bounds ≡ refused 1 → refused 1 ≡ judgedRest pool table es types bounds cs
       no-bounds h = sym (rw (given, h))
 
-      module _ (ns : List ℕ) (rises : risingBounds (table_of pool table) bounds ≡ got ns) {r : Bool} (says : r ≡ unmixed (numbers pool table) (opensIn set 0 (length set / 4) ++ collect opensBinding bs)) where
+      module _ (ns : List ℕ) (rises : risingBounds (table_of pool table) bounds ≡ got ns) {r : Bool}
+          (says : r ≡ unmixed (numbers pool table) (opensIn set 0 (length set / 4) ++ collect opensBinding bs)) where
         told-apart : need r 4 ≡ apart (table_of pool table) (collect opensCon cs ++ collect opensBinding bs)
         unfolding apart
         told-apart =

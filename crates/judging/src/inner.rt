@@ -103,7 +103,7 @@ fn judge_rest(
     try_all(names, set, &places, types, &m, work)
 }
 
-// All that the judge does past the check of 10, but for clearing the work buffer.
+// All that the judge does past the check of 10, except for clearing the work buffer.
 fn judge_set(
     pool: &[u8],
     table: &[u32],

@@ -116,7 +116,8 @@ module _ {N : Type 0} (ν : Names N) where
   constraints-flat (s ∷ ss) [] st f = tt
   constraints-flat (s ∷ ss) (v ∷ vs) st f = go (takes s st) (taken-flat s st f.0) (λ st'. constraints-flat ss vs st' f.1)
     where
-      go : (o : Option (Deed N N × List N)) → FlatTaken o → ((st' : List N) → Within 64 (constraints ν vs st' ss)) → Within 64 (elim o [ none ↦ [] | some d ↦ issued ν v d.0 ++ constraints ν vs (v ∷ d.1) ss ])
+      go : (o : Option (Deed N N × List N)) → FlatTaken o → ((st' : List N) → Within 64 (constraints ν vs st' ss))
+          → Within 64 (elim o [ none ↦ [] | some d ↦ issued ν v d.0 ++ constraints ν vs (v ∷ d.1) ss ])
       go none g h = tt
       go (some d) g h = every_append (λ c. depthCon c ≤ 64) (issued ν v d.0) (constraints ν vs (v ∷ d.1) ss) (issued-flat v d.0 g) (h (v ∷ d.1))
 

@@ -98,18 +98,24 @@ module _ (pool table set : List ℕ) (cs : List (Con ℕ)) (h : SetStands pool t
   mixed-made t i w = refused-made (setType pool table cs v) w Mixed (rw (small, told_is t, i))
 
   module _ {b : Bool} (t : Told b) (i : b ≡ true) where
-    after-solving : setType pool table cs v ≡ (settled (solve (numbers pool table) bounded cs) >>= λ f. agreed (judge (numbers pool table) bounded f.0 f.1 cs) >> typeRecs pool table f.0 v)
+    after-solving : setType pool table cs v
+        ≡ (settled (solve (numbers pool table) bounded cs) >>= λ f. agreed (judge (numbers pool table) bounded f.0 f.1 cs)
+        >> typeRecs pool table f.0 v)
     unfolding agreedSet settledSet
-    after-solving = rw (small, told_is t, i) (tested (settled (solve (numbers pool table) bounded cs)) (λ f. agreed (judge (numbers pool table) bounded f.0 f.1 cs)) (λ f. f.0) (λ bs. typeRecs pool table bs v))
+    after-solving = rw (small, told_is t, i)
+        (tested (settled (solve (numbers pool table) bounded cs)) (λ f. agreed (judge (numbers pool table) bounded f.0 f.1 cs)) (λ f. f.0)
+        (λ bs. typeRecs pool table bs v))
 
-    pub refused-settled : (w : List ℕ) (k : Refusal) → settled (solve (numbers pool table) bounded cs) ≡ refused (number_of k) → Made (setType pool table cs v) w (Err k)
+    pub refused-settled : (w : List ℕ) (k : Refusal) → settled (solve (numbers pool table) bounded cs) ≡ refused (number_of k)
+        → Made (setType pool table cs v) w (Err k)
     refused-settled w k e = refused-made (setType pool table cs v) w k (after-solving ∙ rw e)
 
     module _ (good : Good pool table) {found : List ℕ} {b' n : ℕ} (a : Accepts (solve (numbers pool table) bounded cs) found b' n) where
       -- the judge can take what was found
       pub found-well : length found ≤ 8192 → FoundThere pool table found b' n a.bs a.ns
       found-well long =
-          let f = solved-form (numbers pool table) (holding pool table) (numbers-ordered pool table good) cs (record { well-formed = h.admitted.good; apart = told_is t ∙ i }) a.bs a.ns a.rounds a.is in
+          let f = solved-form (numbers pool table) (holding pool table) (numbers-ordered pool table good) cs
+          (record { well-formed = h.admitted.good; apart = told_is t ∙ i }) a.bs a.ns a.rounds a.is in
           record {
             binds = a.rows.binds;
             bounds = a.rows.bounds.held;
@@ -121,4 +127,5 @@ module _ (pool table set : List ℕ) (cs : List (Con ℕ)) (h : SetStands pool t
 
       pub judged-settled : (w : List ℕ) (r : Result ℕ Refusal) → Made (judgedType pool table cs a.bs a.ns v) w r → Made (setType pool table cs v) w r
       unfolding settled
-      judged-settled w r m = let e : judgedType pool table cs a.bs a.ns v ≡ setType pool table cs v = sym (after-solving ∙ rw a.is) in subst (λ (x : Got (List Rec)). Made x w r) e m
+      judged-settled w r m = let e : judgedType pool table cs a.bs a.ns v ≡ setType pool table cs v = sym (after-solving ∙ rw a.is)
+          in subst (λ (x : Got (List Rec)). Made x w r) e m

@@ -43,4 +43,5 @@ own-slice i j l h k =
     let n : length (slice i j l) ≡ j - i = length-slice i j l k in
     let e : i + length (slice i j l) ≡ j = omega arith in
     let f : take i l ++ slice i j l ≡ take j l = ap (λ (x : List ℕ). x ++ slice i j l) (sym (take-take i j l h)) ∙ take-append-drop i (take j l) in
-    sym (sets-eq (slice i j l) l i (omega arith) ∙ ap (λ (x : ℕ). (take i l ++ slice i j l) ++ drop x l) e ∙ ap (λ (x : List ℕ). x ++ drop j l) f ∙ take-append-drop j l)
+    sym (sets-eq (slice i j l) l i (omega arith) ∙ ap (λ (x : ℕ). (take i l ++ slice i j l) ++ drop x l) e ∙ ap (λ (x : List ℕ). x ++ drop j l) f
+    ∙ take-append-drop j l)

@@ -55,13 +55,20 @@ module _ (pool table : List ℕ) where
         rw n at (written-cons pool table ws ws 0 cs e (omega (arith, n)) (cons-weaker pool table cs good))
 
     words-stand : sum_of sizeCon cs ≤ 2048 → SetStands ws cs
-    words-stand h = record { there = record { held = words-held; good = good }; admitted = record { good = good; small = h }; short = omega (arith, many); even = omega (arith, many); flat = flat }
+    words-stand h = record {
+      there = record { held = words-held; good = good };
+      admitted = record { good = good; small = h };
+      short = omega (arith, many);
+      even = omega (arith, many);
+      flat = flat;
+    }
 
     -- the part of the buffer that was written
     pub set-stands : (d₀ d : List ℕ) (n : ℕ) → 8192 ≤ length d₀ → Wrote cs d₀ d n → SetStands (take (n * 4 - 0) d) cs
     set-stands d₀ d n room w =
         let z : n * 4 - 0 ≡ 0 + length ws = omega (arith, many, w.many) in
-        let s : take (n * 4 - 0) d ≡ ws = ap (take (n * 4 - 0)) w.laid ∙ ap (λ (k : ℕ). slice 0 k (sets d₀ 0 ws)) z ∙ slice-there d₀ 0 ws (omega (arith, z, w.within)) in
+        let s : take (n * 4 - 0) d ≡ ws = ap (take (n * 4 - 0)) w.laid ∙ ap (λ (k : ℕ). slice 0 k (sets d₀ 0 ws)) z
+        ∙ slice-there d₀ 0 ws (omega (arith, z, w.within)) in
         subst (λ (l : List ℕ). SetStands l cs) (sym s) (words-stand (omega (arith, w.many, w.within)))
 
   -- ══ Its open names ══
@@ -82,7 +89,8 @@ module _ (pool table : List ℕ) where
     set-opens = (chain-opens set Part opensCon one-opens cs 0 (length set / 4) (parts cs 0 (length set / 4) h.there.held.held h.there.held.ends)).1
 
     pub set-small : Good pool table → Small (opensIn set 0 (length set / 4))
-    set-small g = rw set-opens (names-small pool table 0 (collect opensCon cs) (set_known (numbers pool table) (holding pool table) 0 cs h.admitted.good) (good-laid g).few)
+    set-small g = rw set-opens (names-small pool table 0 (collect opensCon cs)
+        (set_known (numbers pool table) (holding pool table) 0 cs h.admitted.good) (good-laid g).few)
 
     -- ══ What solving asks ══
 

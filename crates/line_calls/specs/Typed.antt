@@ -48,7 +48,8 @@ module _ (places w : List ℕ) (look : Look ℕ) (v : ℕ) (tabled : Tabled plac
       (omega (arith, f.ends), omega (arith, f.ends, ends-in w f.type b f.held), omega (arith, f.ends, tabled.few (var v) f.type f.is))
 
   module _ (d d' : List ℕ) where
-    pub typed-bound : {r : Found} {b e : ℕ} → LookedUp w (look (var v)) r → r ≡ Some (b, e) → d' ≡ sets d 0 (slice (b * 4) (e * 4) w) → Typed look v d d' (e - b)
+    pub typed-bound : {r : Found} {b e : ℕ} → LookedUp w (look (var v)) r → r ≡ Some (b, e) → d' ≡ sets d 0 (slice (b * 4) (e * 4) w)
+        → Typed look v d d' (e - b)
     typed-bound {r} {b} {e} h i q =
         let f = found (look (var v)) h i in
         let t = f.type in
@@ -60,7 +61,8 @@ module _ (places w : List ℕ) (look : Look ℕ) (v : ℕ) (tabled : Tabled plac
           buffer = q ∙ ap (λ (k : ℕ). sets d 0 (slice (b * 4) (k * 4) w)) f.ends ∙ ap (sets d 0) (held-words w t b f.held);
         }
 
-    pub typed_free : {r : Found} → LookedUp w (look (var v)) r → r ≡ None → d' ≡ sets d 0 (words (recOf (view.Opened (opens.Var v)) 1 ∷ [])) → Typed look v d d' 1
+    pub typed_free : {r : Found} → LookedUp w (look (var v)) r → r ≡ None → d' ≡ sets d 0 (words (recOf (view.Opened (opens.Var v)) 1 ∷ []))
+        → Typed look v d d' 1
     unfolding writeTy size
     typed_free {r} h i q = record {
       type = opened (var v);
@@ -77,7 +79,8 @@ pub refused-made : (m : Got (List Rec)) (w : List ℕ) (k : Refusal) → m ≡ r
 refused-made m w k e = record { answer = sym (rw e); front = λ rs i. clash (sym e ∙ i) }
 
 -- records that were written from the start make what they are
-records-made : (m : Got (List Rec)) (rs : List Rec) (d d' : List ℕ) (n : ℕ) → m ≡ got rs → 16384 ≤ length d → d' ≡ sets d 0 (words rs) → length rs ≤ 2048 → n ≡ length rs → Made m d' (Ok n)
+records-made : (m : Got (List Rec)) (rs : List Rec) (d d' : List ℕ) (n : ℕ) → m ≡ got rs → 16384 ≤ length d → d' ≡ sets d 0 (words rs)
+    → length rs ≤ 2048 → n ≡ length rs → Made m d' (Ok n)
 records-made m rs d d' n i room e le q =
     let k = words-length rs in
     let z : d' ≡ words rs ++ drop (0 + length (words rs)) d = e ∙ sets-eq (words rs) d 0 (omega arith) in
@@ -104,20 +107,25 @@ module _ (pool table : List ℕ) where
   -- what an answer makes of bindings up to b, and n bounds behind them, that were found for a set
   abbrev pub Confirmed : List ℕ → List ℕ → ℕ → ℕ → ℕ → List ℕ → Result ℕ Refusal → Type 0
   Confirmed set found b n v w r =
-      (cs : List (Con ℕ)) (bs : List (Binding ℕ)) (ns : List ℕ) → SetStands pool table set cs → FoundThere pool table found b n bs ns → Made (judgedType cs bs ns v) w r
+      (cs : List (Con ℕ)) (bs : List (Binding ℕ)) (ns : List ℕ) → SetStands pool table set cs → FoundThere pool table found b n bs ns
+      → Made (judgedType cs bs ns v) w r
 
   -- ══ The judge's verdicts ══
 
-  module _ (cs : List (Con ℕ)) (bs : List (Binding ℕ)) (ns : List ℕ) (v : ℕ) {r : Result (std.Option ℕ) Refusal} (h : toldBy is_none r ≡ judge (numbers pool table) bounded bs ns cs) where
+  module _ (cs : List (Con ℕ)) (bs : List (Binding ℕ)) (ns : List ℕ) (v : ℕ) {r : Result (std.Option ℕ) Refusal}
+      (h : toldBy is_none r ≡ judge (numbers pool table) bounded bs ns cs) where
     pub judged-no : (w : List ℕ) (k : ℕ) → r ≡ Ok (Some k) → Made (judgedType cs bs ns v) w (Err NotConfirmed)
     unfolding agreed
-    judged-no w k i = let e : judge (numbers pool table) bounded bs ns cs ≡ got false = sym h ∙ ap (toldBy is_none) i in refused-made (judgedType cs bs ns v) w NotConfirmed (rw e)
+    judged-no w k i = let e : judge (numbers pool table) bounded bs ns cs ≡ got false = sym h ∙ ap (toldBy is_none) i
+        in refused-made (judgedType cs bs ns v) w NotConfirmed (rw e)
 
     pub judged-refused : (w : List ℕ) (k : Refusal) → r ≡ Err k → Made (judgedType cs bs ns v) w (Err k)
     unfolding agreed
-    judged-refused w k i = let e : judge (numbers pool table) bounded bs ns cs ≡ refused (number_of k) = sym h ∙ ap (toldBy is_none) i in refused-made (judgedType cs bs ns v) w k (rw e)
+    judged-refused w k i = let e : judge (numbers pool table) bounded bs ns cs ≡ refused (number_of k) = sym h ∙ ap (toldBy is_none) i
+        in refused-made (judgedType cs bs ns v) w k (rw e)
 
-    pub judged-yes : (w w' : List ℕ) (n : ℕ) → r ≡ Ok None → 16384 ≤ length w → Typed (bindings (numbers pool table) bs) v w w' n → Made (judgedType cs bs ns v) w' (Ok n)
+    pub judged-yes : (w w' : List ℕ) (n : ℕ) → r ≡ Ok None → 16384 ≤ length w → Typed (bindings (numbers pool table) bs) v w w' n
+        → Made (judgedType cs bs ns v) w' (Ok n)
     unfolding agreed replaceTy
     judged-yes w w' n i room t =
         let e : judge (numbers pool table) bounded bs ns cs ≡ got true = sym h ∙ ap (toldBy is_none) i in

@@ -118,7 +118,8 @@ module _ (pool table steps types lines names : List ℕ) where
     cs = constraints (numbersOf t) names [] ss
 
     cs-good : all (goodCon (numbers pool table) (holding pool table) 0) cs ≡ true
-    cs-good = is_all (goodCon (numbers pool table) (holding pool table) 0) cs (constraints-formed (numbersOf t) (is_held t) order ss names [] (names_apart t order names h.differing h.held) its-read.formed)
+    cs-good = is_all (goodCon (numbers pool table) (holding pool table) 0) cs
+        (constraints-formed (numbersOf t) (is_held t) order ss names [] (names_apart t order names h.differing h.held) its-read.formed)
 
     cs-flat : Within 64 cs
     cs-flat = constraints-flat (numbersOf t) ss names [] (line-flat t steps types lines ss h.read)
@@ -138,7 +139,8 @@ module _ (pool table steps types lines names : List ℕ) where
 
     type-is : type_of pool table names ss ≡ setType pool table cs last
     unfolding lineType
-    type-is = rw last-there (grouped (agreedSet (numbersOf t) cs) (λ bs. replaceTy (numbersOf t) bounded (bindings (numbersOf t) bs) (its last)) (λ ty. got (writeTy ty)))
+    type-is = rw last-there (grouped (agreedSet (numbersOf t) cs) (λ bs. replaceTy (numbersOf t) bounded (bindings (numbersOf t) bs) (its last))
+        (λ ty. got (writeTy ty)))
 
     pub type-made : (w : List ℕ) (r : Result ℕ Refusal) → Made (setType pool table cs last) w r → Made (type_of pool table names ss) w r
     type-made w r m = subst (λ (x : Got (List Rec)). Made x w r) (sym type-is) m
@@ -196,10 +198,13 @@ module _ (pool table steps types lines names : List ℕ) where
       }
 
   pub line_made : (c : Came) (w : List ℕ) (r : Result ℕ Refusal) → Made (type_of pool table names c.ss) w r → Made (checkedLine t steps types lines names) w r
-  line_made c w r m = let e : type_of pool table names c.ss ≡ checkedLine t steps types lines names = sym (checked-entered t steps types lines names ∙ rw c.is) in subst (λ (x : Got (List Rec)). Made x w r) e m
+  line_made c w r m = let e : type_of pool table names c.ss ≡ checkedLine t steps types lines names =
+      sym (checked-entered t steps types lines names ∙ rw c.is) in subst (λ (x : Got (List Rec)). Made x w r) e m
 
-  pub refused-line : (w : List ℕ) (k : Refusal) → isGiven (lineEntered t steps types lines names) ≡ refused (number_of k) → Made (checkedLine t steps types lines names) w (Err k)
-  refused-line w k e = refused-made (checkedLine t steps types lines names) w k (checked-entered t steps types lines names ∙ rw (not_entered (lineEntered t steps types lines names) (number_of k) e))
+  pub refused-line : (w : List ℕ) (k : Refusal) → isGiven (lineEntered t steps types lines names) ≡ refused (number_of k)
+      → Made (checkedLine t steps types lines names) w (Err k)
+  refused-line w k e = refused-made (checkedLine t steps types lines names) w k
+      (checked-entered t steps types lines names ∙ rw (not_entered (lineEntered t steps types lines names) (number_of k) e))
 
   -- ══ The call ══
 
@@ -212,13 +217,18 @@ module _ (pool table steps types lines names : List ℕ) where
     unfolding lineLent
     room-is e =
         let a = bound-step (lent pool table result work) _ tt e in
-        record { lent-long = long pool table result work true (sym a.1) refl; enough = leb-true (length steps) (length names * 4) (need-passed (leb (length steps) (length names * 4)) 10 a.2) }
+        record {
+          lent-long = long pool table result work true (sym a.1) refl;
+          enough = leb-true (length steps) (length names * 4) (need-passed (leb (length steps) (length names * 4)) 10 a.2);
+        }
 
-    pub call-short : lineLent pool table steps names result work ≡ refused 10 → record { answer = refused 10; result = result; work = work } ≡ checkLineCall pool table steps types lines names result work
+    pub call-short : lineLent pool table steps names result work ≡ refused 10
+        → record { answer = refused 10; result = result; work = work } ≡ checkLineCall pool table steps types lines names result work
     unfolding checkLineCall
     call-short e = unwritten (lineLent pool table steps names result work) (checkedLine t steps types lines names) result work e
 
-    pub called : (w : List ℕ) → length w ≡ length work → lineLent pool table steps names result work ≡ got tt → handed (checkedLine t steps types lines names) result w ≡ checkLineCall pool table steps types lines names result work
+    pub called : (w : List ℕ) → length w ≡ length work → lineLent pool table steps names result work ≡ got tt
+        → handed (checkedLine t steps types lines names) result w ≡ checkLineCall pool table steps types lines names result work
     unfolding checkLineCall
     called w n e =
         let m = checkedLine t steps types lines names in

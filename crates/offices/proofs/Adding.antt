@@ -53,7 +53,11 @@ module _ {N M : Type 0} (ν : Names N) (μ : Names M) (f : N → M) (keeps : Kee
   test-map (equal s t) = rw (closed-map f s, closed-map f t) (equal-map (closed s && closed t) s t)
   test-map (isDim t) = rw (closed-map f t) (dim-map (closed t) t)
   test-map (is_scalar []) = refl
-  test-map (is_scalar (x ∷ p)) = rw (product-opens f (x ∷ p), variables-in f (collect openOfFactor (x ∷ p)), nil-map f (variablesIn (collect openOfFactor (x ∷ p))))
+  test-map (is_scalar (x ∷ p)) = rw (
+    product-opens f (x ∷ p),
+    variables-in f (collect openOfFactor (x ∷ p)),
+    nil-map f (variablesIn (collect openOfFactor (x ∷ p))),
+  )
   test-map (hasField n s t) = refl
 
   appended : (cs : List (Con N)) (c : Con N) → map (mapCon f) cs ++ mapCon f c ∷ [] ≡ map (mapCon f) (cs ++ c ∷ [])
@@ -62,8 +66,10 @@ module _ {N M : Type 0} (ν : Names N) (μ : Names M) (f : N → M) (keeps : Kee
   stored-map : (a : Added) (cs : List (Con N)) (c : Con N) → Over (mapAdded f) (stored ν a cs c) (stored μ a (map (mapCon f) cs) (mapCon f c))
   unfolding stored
   stored-map satisfied cs c = gives refl
-  stored-map violated cs c = rw (appended cs c, size-cons f (cs ++ c ∷ [])) (within-over (mapAdded f) bounded (sum_of sizeCon (cs ++ c ∷ [])) 2048 (violated, cs ++ c ∷ []))
-  stored-map unknown cs c = rw (appended cs c, size-cons f (cs ++ c ∷ [])) (within-over (mapAdded f) bounded (sum_of sizeCon (cs ++ c ∷ [])) 2048 (unknown, cs ++ c ∷ []))
+  stored-map violated cs c = rw (appended cs c, size-cons f (cs ++ c ∷ []))
+      (within-over (mapAdded f) bounded (sum_of sizeCon (cs ++ c ∷ [])) 2048 (violated, cs ++ c ∷ []))
+  stored-map unknown cs c = rw (appended cs c, size-cons f (cs ++ c ∷ []))
+      (within-over (mapAdded f) bounded (sum_of sizeCon (cs ++ c ∷ [])) 2048 (unknown, cs ++ c ∷ []))
 
   pub add-map : (cs : List (Con N)) (c : Con N) → Over (mapAdded f) (add ν cs c) (add μ (map (mapCon f) cs) (mapCon f c))
   unfolding add

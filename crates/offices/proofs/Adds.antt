@@ -59,7 +59,8 @@ module _ {pool table pool' table' : List ℕ} (good : Good pool table) (good' : 
       (checked (kept-alike good good')
       (hence (set_given good good' (take (n * 4) buffer) (take (n * 4) buffer') e) (λ cs cs' i.
       hence (hence (set_given good good' c c' f) (only-alike (mapCon ν₁) (mapCon ν₂))) (λ d d' j.
-      hence (through (add-map _ byBytes ν₁ (keeps good) cs d) (add-map _ byBytes ν₂ (keeps good') cs' d') (ap₂ (λ (x : List (Con Name)) (y : Con Name). add byBytes x y) i j)) (λ q q' k.
+      hence (through (add-map _ byBytes ν₁ (keeps good) cs d) (add-map _ byBytes ν₂ (keeps good') cs' d')
+      (ap₂ (λ (x : List (Con Name)) (y : Con Name). add byBytes x y) i j)) (λ q q' k.
       alike (ap₂ (λ (a : Added) (m : ℕ). (a, m)) (ap (λ v. v.0) k) (sym (size-cons ν₁ q.1) ∙ ap (λ v. sum_of sizeCon v.1) k ∙ size-cons ν₂ q'.1)))))))))
 
   stored-front : (buffer c : List ℕ) (n : ℕ) → n * 4 ≤ length buffer
@@ -70,7 +71,8 @@ module _ {pool table pool' table' : List ℕ} (good : Good pool table) (good' : 
   stored-alike : (buffer buffer' : List ℕ) (n : ℕ) (c c' : List ℕ) → Alike good good' (take (n * 4) buffer) (take (n * 4) buffer')
       → Alike good good' c c' → n * 4 ≤ length buffer
       → n * 4 ≤ length buffer'
-      → Alike good good' (take (n * 4 + length c) (take (n * 4) buffer ++ over c (drop (n * 4) buffer))) (take (n * 4 + length c') (take (n * 4) buffer' ++ over c' (drop (n * 4) buffer')))
+      → Alike good good' (take (n * 4 + length c) (take (n * 4) buffer ++ over c (drop (n * 4) buffer)))
+      (take (n * 4 + length c') (take (n * 4) buffer' ++ over c' (drop (n * 4) buffer')))
   stored-alike buffer buffer' n c c' e f h h' = rw (stored-front buffer c n h, stored-front buffer' c' n h')
       (joined-alike T₁ T₂ n (take (n * 4) buffer) (take (n * 4) buffer') c c' (length-take-le (n * 4) buffer h) (length-take-le (n * 4) buffer' h') e f)
 
@@ -83,7 +85,8 @@ module _ {pool table pool' table' : List ℕ} (good : Good pool table) (good' : 
   fronts buffer buffer' n c c' e f (got r) h = go r.0 (h r refl)
     where
       go : (a : Added) → (n * 4 ≤ length buffer) × (n * 4 ≤ length buffer')
-          → Alike good good' (frontAdded (got (a, r.1)) n c (bufferAfter (got (a, r.1)) (n * 4) c buffer)) (frontAdded (got (a, r.1)) n c' (bufferAfter (got (a, r.1)) (n * 4) c' buffer'))
+          → Alike good good' (frontAdded (got (a, r.1)) n c (bufferAfter (got (a, r.1)) (n * 4) c buffer))
+          (frontAdded (got (a, r.1)) n c' (bufferAfter (got (a, r.1)) (n * 4) c' buffer'))
       go satisfied h = e
       go violated h = stored-alike buffer buffer' n c c' e f h.0 h.1
       go unknown h = stored-alike buffer buffer' n c c' e f h.0 h.1
@@ -96,5 +99,6 @@ module _ {pool table pool' table' : List ℕ} (good : Good pool table) (good' : 
       let s = answered buffer buffer' n c c' e f r in
       record {
         answer = s;
-        records = rw (← s) (fronts buffer buffer' n c c' e f (addedTo pool table buffer n c) (λ q h. (room pool table buffer n c q h, room pool' table' buffer' n c' q (sym s ∙ h))));
+        records = rw (← s) (fronts buffer buffer' n c c' e f (addedTo pool table buffer n c)
+            (λ q h. (room pool table buffer n c q h, room pool' table' buffer' n c' q (sym s ∙ h))));
       }

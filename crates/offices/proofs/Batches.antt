@@ -102,7 +102,8 @@ module _ {pool table pool' table' : List ℕ} (good : Good pool table) (good' : 
       record {
         counts = ap₂ ◌+◌ many r.counts;
         fours = ap₂ (λ (a b : List ℕ). a ++ b) (ap fourWords s.answer) r.fours;
-        words = joined-alike T₁ T₂ (manyOf m) (words_of m) (words_of m') _ _ (answer-long m) (answer-long m' ∙ ap (λ (k : ℕ). k * 4) (sym many)) (one-words m m' s) r.words;
+        words = joined-alike T₁ T₂ (manyOf m) (words_of m) (words_of m') _ _ (answer-long m) (answer-long m' ∙ ap (λ (k : ℕ). k * 4) (sym many))
+            (one-words m m' s) r.words;
       }
 
 -- ══ The buffers ══
@@ -130,7 +131,10 @@ module _ {pool table pool' table' : List ℕ} (good : Good pool table) (good' : 
   built (got u) as' bs n r r' s s' w w' e f = record {
     answer = ap got e.counts;
     told = at_front (collect fourOf as') s (n * 4) f ∙ e.fours ∙ sym (at_front (collect fourOf bs) s' (n * 4) (ap length (sym e.fours) ∙ f));
-    records = rw (at_front (collect words_of as') r (sum_of manyOf as' * 4) (words_long as'), at_front (collect words_of bs) r' (sum_of manyOf bs * 4) (words_long bs)) e.words;
+    records = rw (
+      at_front (collect words_of as') r (sum_of manyOf as' * 4) (words_long as'),
+      at_front (collect words_of bs) r' (sum_of manyOf bs * 4) (words_long bs),
+    ) e.words;
   }
 
   batch-lent : (lengths result result' answers answers' work work' : List ℕ) → LentAlike result result' work work' → length answers ≡ length answers'
@@ -144,11 +148,13 @@ module _ {pool table pool' table' : List ℕ} (good : Good pool table) (good' : 
 
   pub batch-alike : (ws ws' lengths result result' answers answers' work work' : List ℕ) → Alike good good' ws ws'
       → LentAlike result result' work work' → length answers ≡ length answers'
-      → BatchAlike (table_of pool table) (table_of pool' table') (length lengths) (batchCall pool table ws lengths result answers work) (batchCall pool' table' ws' lengths result' answers' work')
+      → BatchAlike (table_of pool table) (table_of pool' table') (length lengths) (batchCall pool table ws lengths result answers work)
+      (batchCall pool' table' ws' lengths result' answers' work')
   unfolding batchCall
   batch-alike ws ws' lengths result result' answers answers' work work' e l a =
       rw (batch-lent lengths result result' answers answers' work work' l a, batch-fits ws ws' lengths e)
-      (built (batchLent pool table lengths result answers work >> batchFits ws lengths) (eachSolved (table_of pool table) ws lengths) (eachSolved (table_of pool' table') ws' lengths) (length lengths) result result' answers answers' _ _
+      (built (batchLent pool table lengths result answers work >> batchFits ws lengths) (eachSolved (table_of pool table) ws lengths)
+      (eachSolved (table_of pool' table') ws' lengths) (length lengths) result result' answers answers' _ _
       (each good good' lengths ws ws' e) (fours-long lengths (table_of pool table) ws))
 
   -- V counts names, whatever their numbers
@@ -160,11 +166,13 @@ module _ {pool table pool' table' : List ℕ} (good : Good pool table) (good' : 
       let f' = nameNo (table_of pool' table') in
       let xs = variablesIn (collect opensCon cs) in
       let xs' = variablesIn (collect opensCon cs') in
-      let names : map f xs ≡ map f' xs' = sym (variables-in f (collect opensCon cs)) ∙ ap variablesIn (set-opens good good' cs cs' i) ∙ variables-in f' (collect opensCon cs') in
+      let names : map f xs ≡ map f' xs' = sym (variables-in f (collect opensCon cs)) ∙ ap variablesIn (set-opens good good' cs cs' i)
+      ∙ variables-in f' (collect opensCon cs') in
       sym (length-map (sort (numbersOf (table_of pool table)) xs) f)
       ∙ ap length (sym (sort-map _ byBytes f (keeps good) xs) ∙ ap (sort byBytes) names ∙ sort-map _ byBytes f' (keeps good') xs')
       ∙ length-map (sort (numbersOf (table_of pool' table')) xs') f'
 
   pub ceiling-alike : (ws ws' : List ℕ) → Alike good good' ws ws' → ceilingCall pool table ws ≡ ceilingCall pool' table' ws'
   unfolding ceilingCall
-  ceiling-alike ws ws' e = equal-answers (checked (alone good good' ws ws' e) (hence (set_given good good' ws ws' e) (λ cs cs' i. alike (ap ceilingFor (counted cs cs' i)))))
+  ceiling-alike ws ws' e = equal-answers
+      (checked (alone good good' ws ws' e) (hence (set_given good good' ws ws' e) (λ cs cs' i. alike (ap ceilingFor (counted cs cs' i)))))

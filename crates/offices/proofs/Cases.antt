@@ -52,7 +52,8 @@ unfolding rules entered afterAll
 known-before = refl
 
 -- so do numbers: the same name is number 0 alone, and number 1 where the other office came first with 'y'
-numbers-differ : answersTo here empty (enters here (120 ∷ []) ∷ []) ∷ answersTo here empty (enters there (121 ∷ []) ∷ enters here (120 ∷ []) ∷ []) ∷ [] ≡ (got 0 ∷ []) ∷ (got 1 ∷ []) ∷ []
+numbers-differ : answersTo here empty (enters here (120 ∷ []) ∷ []) ∷ answersTo here empty (enters there (121 ∷ []) ∷ enters here (120 ∷ []) ∷ [])
+    ∷ [] ≡ (got 0 ∷ []) ∷ (got 1 ∷ []) ∷ []
 unfolding rules entered answersTo
 numbers-differ = refl
 
@@ -95,7 +96,8 @@ abbrev almostFull : Shared
 almostFull = record { pool = up_to 0 255 ++ replicate 7937 0; table = 255 ∷ (up_to 1 255 ++ 0 ∷ []) }
 
 -- 3 may come sooner: the last number goes to whoever comes first
-three-sooner : answersTo here almostFull (enters here (65 ∷ 66 ∷ []) ∷ []) ∷ answersTo here almostFull (enters there (255 ∷ []) ∷ enters here (65 ∷ 66 ∷ []) ∷ []) ∷ [] ≡ (got 255 ∷ []) ∷ (refused 3 ∷ []) ∷ []
+three-sooner : answersTo here almostFull (enters here (65 ∷ 66 ∷ []) ∷ [])
+    ∷ answersTo here almostFull (enters there (255 ∷ []) ∷ enters here (65 ∷ 66 ∷ []) ∷ []) ∷ [] ≡ (got 255 ∷ []) ∷ (refused 3 ∷ []) ∷ []
 unfolding rules up_to entered answersTo
 three-sooner = refl
 

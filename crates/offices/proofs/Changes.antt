@@ -62,7 +62,8 @@ module _ {pool table pool' table' : List ℕ} (good : Good pool table) (good' : 
 
   -- a type or a set in which bindings are put in
   type-replaced : (u u' : Ty ℕ) (bs bs' : List (Binding ℕ)) → mapTy ν₁ u ≡ mapTy ν₂ u' → map (mapBinding ν₁) bs ≡ map (mapBinding ν₂) bs'
-      → Both (mapTy ν₁) (mapTy ν₂) (replaceTy (numbersOf T₁) bounded (bindings (numbersOf T₁) bs) u) (replaceTy (numbersOf T₂) bounded (bindings (numbersOf T₂) bs') u')
+      → Both (mapTy ν₁) (mapTy ν₂) (replaceTy (numbersOf T₁) bounded (bindings (numbersOf T₁) bs) u)
+      (replaceTy (numbersOf T₂) bounded (bindings (numbersOf T₂) bs') u')
   type-replaced u u' bs bs' e f = through
       (ty-map _ byBytes ν₁ (keeps good) bounded _ (bindings byBytes (map (mapBinding ν₁) bs)) (looks-map _ byBytes ν₁ (keeps good) bs) u)
       (ty-map _ byBytes ν₂ (keeps good') bounded _ (bindings byBytes (map (mapBinding ν₂) bs')) (looks-map _ byBytes ν₂ (keeps good') bs') u')
@@ -70,10 +71,12 @@ module _ {pool table pool' table' : List ℕ} (good : Good pool table) (good' : 
 
   set-replaced : (cs cs' : List (Con ℕ)) (bs bs' : List (Binding ℕ)) → map (mapCon ν₁) cs ≡ map (mapCon ν₂) cs'
       → map (mapBinding ν₁) bs ≡ map (mapBinding ν₂) bs'
-      → Both (map (mapCon ν₁)) (map (mapCon ν₂)) (each (replaceCon (numbersOf T₁) bounded (bindings (numbersOf T₁) bs)) cs) (each (replaceCon (numbersOf T₂) bounded (bindings (numbersOf T₂) bs')) cs')
+      → Both (map (mapCon ν₁)) (map (mapCon ν₂)) (each (replaceCon (numbersOf T₁) bounded (bindings (numbersOf T₁) bs)) cs)
+      (each (replaceCon (numbersOf T₂) bounded (bindings (numbersOf T₂) bs')) cs')
   set-replaced cs cs' bs bs' e f = through
       (each_over _ _ _ _ (con-map _ byBytes ν₁ (keeps good) bounded _ (bindings byBytes (map (mapBinding ν₁) bs)) (looks-map _ byBytes ν₁ (keeps good) bs)) cs)
-      (each_over _ _ _ _ (con-map _ byBytes ν₂ (keeps good') bounded _ (bindings byBytes (map (mapBinding ν₂) bs')) (looks-map _ byBytes ν₂ (keeps good') bs')) cs')
+      (each_over _ _ _ _ (con-map _ byBytes ν₂ (keeps good') bounded _ (bindings byBytes (map (mapBinding ν₂) bs'))
+      (looks-map _ byBytes ν₂ (keeps good') bs')) cs')
       (ap₂ (λ (xs : List (Binding Name)) (ds : List (Con Name)). each (replaceCon byBytes bounded (bindings byBytes xs)) ds) f e)
 
   sized-type : (u u' : Ty ℕ) → mapTy ν₁ u ≡ mapTy ν₂ u'
@@ -85,7 +88,9 @@ module _ {pool table pool' table' : List ℕ} (good : Good pool table) (good' : 
 
   limited-set : (cs cs' : List (Con ℕ)) → map (mapCon ν₁) cs ≡ map (mapCon ν₂) cs'
       → Both (mapState ν₁) (mapState ν₂) (limited bounded (record { cons = cs; binds = [] })) (limited bounded (record { cons = cs'; binds = [] }))
-  limited-set cs cs' e = through (limited-map ν₁ bounded (record { cons = cs; binds = [] })) (limited-map ν₂ bounded (record { cons = cs'; binds = [] })) (ap (λ (ds : List (Con Name)). limited bounded (record { cons = ds; binds = [] })) e)
+  limited-set cs cs' e = through (limited-map ν₁ bounded (record { cons = cs; binds = [] }))
+      (limited-map ν₂ bounded (record { cons = cs'; binds = [] }))
+      (ap (λ (ds : List (Con Name)). limited bounded (record { cons = ds; binds = [] })) e)
 
   pub replace-type : (ws ws' bs bs' result result' work work' : List ℕ) → Alike good good' ws ws' → Alike good good' bs bs'
       → LentAlike result result' work work'
@@ -97,7 +102,9 @@ module _ {pool table pool' table' : List ℕ} (good : Good pool table) (good' : 
       (checked (kept-alike good good')
       (hence (type-given good good' ws ws' e) (λ u u' i.
       hence (bindings-given good good' bs bs' f) (λ xs xs' j.
-      checked (apart-alike good good' _ _ (joined good good' (opens u) (opens u') (collect opensBinding xs) (collect opensBinding xs') (opens-alike good good' u u' i) (binding-opens good good' xs xs' j)))
+      checked (apart-alike good good' _ _
+      (joined good good' (opens u) (opens u') (collect opensBinding xs) (collect opensBinding xs') (opens-alike good good' u u' i)
+      (binding-opens good good' xs xs' j)))
       (hence (type-replaced u u' xs xs' i j) (λ v v' k.
       hence (sized-type v v' k) (λ w w' l. alike (type-written T₁ T₂ w w' l))))))))))
 
@@ -110,7 +117,9 @@ module _ {pool table pool' table' : List ℕ} (good : Good pool table) (good' : 
       (checked (kept-alike good good')
       (hence (set_given good good' ws ws' e) (λ cs cs' i.
       hence (bindings-given good good' bs bs' f) (λ xs xs' j.
-      checked (apart-alike good good' _ _ (joined good good' (collect opensCon cs) (collect opensCon cs') (collect opensBinding xs) (collect opensBinding xs') (set-opens good good' cs cs' i) (binding-opens good good' xs xs' j)))
+      checked (apart-alike good good' _ _
+      (joined good good' (collect opensCon cs) (collect opensCon cs') (collect opensBinding xs) (collect opensBinding xs')
+      (set-opens good good' cs cs' i) (binding-opens good good' xs xs' j)))
       (hence (set-replaced cs cs' xs xs' i j) (λ ds ds' k.
       hence (limited-set ds ds' k) (λ s s' l. alike (set-written T₁ T₂ s.cons s'.cons (ap (λ z. z.cons) l)))))))))))
 
@@ -126,7 +135,8 @@ module _ {pool table pool' table' : List ℕ} (good : Good pool table) (good' : 
       hence (bounds-given good good' bs bs' f) (λ os os' j.
       checked (numbers-given good good' ns ns' n.names)
       (checked (apart-alike good good' _ _ (opens-alike good good' u u' i))
-      (hence (through (quantify-map _ byBytes ν₁ (keeps good) bounded ns u os) (quantify-map _ byBytes ν₂ (keeps good') bounded ns' u' os') (quantified-alike n.names i j)) (λ s s' k.
+      (hence (through (quantify-map _ byBytes ν₁ (keeps good) bounded ns u os) (quantify-map _ byBytes ν₂ (keeps good') bounded ns' u' os')
+      (quantified-alike n.names i j)) (λ s s' k.
       alike (scheme-written T₁ T₂ s s' k))))))))))
     where
       quantified-alike : {xs ys : List Name} {u v : Ty Name} {os ps : List (Open Name)} → xs ≡ ys → u ≡ v → os ≡ ps
@@ -144,7 +154,9 @@ module _ {pool table pool' table' : List ℕ} (good : Good pool table) (good' : 
       (hence (scheme-given good good' ws ws' e) (λ s s' i.
       hence (names-given good good' bs bs' f) (λ os os' j.
       checked (apart-alike good good' _ _ (scheme-opens good good' s s' i))
-      (hence (through (generalise-map _ byBytes ν₁ (keeps good) bounded (map word_of os) s) (generalise-map _ byBytes ν₂ (keeps good') bounded (map word_of os') s') (ap₂ (λ (xs : List Name) (z : Scheme Name). generalise byBytes bounded xs z) j i)) (λ z z' k.
+      (hence (through (generalise-map _ byBytes ν₁ (keeps good) bounded (map word_of os) s)
+      (generalise-map _ byBytes ν₂ (keeps good') bounded (map word_of os') s')
+      (ap₂ (λ (xs : List Name) (z : Scheme Name). generalise byBytes bounded xs z) j i)) (λ z z' k.
       alike (scheme-written T₁ T₂ z z' k)))))))))
 
   pub instantiate-alike : (ws ws' ns ns' result result' work work' : List ℕ) → Alike good good' ws ws' → NumbersAlike T₁ T₂ ns ns'
@@ -158,5 +170,6 @@ module _ {pool table pool' table' : List ℕ} (good : Good pool table) (good' : 
       (hence (scheme-given good good' ws ws' e) (λ s s' i.
       checked (numbers-given good good' ns ns' n.names)
       (checked (apart-alike good good' _ _ (scheme-opens good good' s s' i))
-      (hence (through (instantiate-map _ byBytes ν₁ (keeps good) bounded ns s) (instantiate-map _ byBytes ν₂ (keeps good') bounded ns' s') (ap₂ (λ (xs : List Name) (z : Scheme Name). instantiate byBytes bounded xs z) n.names i)) (λ z z' k.
+      (hence (through (instantiate-map _ byBytes ν₁ (keeps good) bounded ns s) (instantiate-map _ byBytes ν₂ (keeps good') bounded ns' s')
+      (ap₂ (λ (xs : List Name) (z : Scheme Name). instantiate byBytes bounded xs z) n.names i)) (λ z z' k.
       alike (opened-written T₁ T₂ z.0 z'.0 z.1 z'.1 (ap (λ v. v.0) k) (ap (λ v. v.1) k))))))))))

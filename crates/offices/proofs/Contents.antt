@@ -161,7 +161,8 @@ module _ {N M : Type 0} (ν : Names N) (μ : Names M) (f : N → M) (keeps : Kee
 
   pub contains-map : (x : N) (t : Ty N) → contains μ (f x) (mapTy f t) ≡ contains ν x t
   unfolding contains
-  contains-map x t = rw (opens-map f t) (any-map (mapOpen f) (λ o. is_yes (open-dec ν (var x) o)) (λ o. is_yes (open-dec μ (var (f x)) o)) (open-same (var x)) (opens t))
+  contains-map x t = rw (opens-map f t) (any-map (mapOpen f) (λ o. is_yes (open-dec ν (var x) o)) (λ o. is_yes (open-dec μ (var (f x)) o))
+      (open-same (var x)) (opens t))
 
   pub contains-name : (b : Bool) (x : N) (t : Ty N) → containsName μ b (f x) (mapTy f t) ≡ containsName ν b x t
   unfolding containsName
@@ -202,4 +203,6 @@ module _ {N M : Type 0} (ν : Names N) (μ : Names M) (f : N → M) (keeps : Kee
 
   pub unmixed-map : (os : List (Open N)) → unmixed μ (map (mapOpen f) os) ≡ unmixed ν os
   unfolding unmixed
-  unmixed-map os = rw (variables-in f os, parameters-in f os) (all_map f (λ x. not (among ν x (parametersIn os))) (λ x. not (among μ x (map f (parametersIn os)))) (λ x. rw (among-map x (parametersIn os))) (variablesIn os))
+  unmixed-map os = rw (variables-in f os, parameters-in f os)
+      (all_map f (λ x. not (among ν x (parametersIn os))) (λ x. not (among μ x (map f (parametersIn os)))) (λ x. rw (among-map x (parametersIn os)))
+      (variablesIn os))

@@ -84,7 +84,9 @@ scheme-good {pool} {table} good (concrete u) = good-ty _ byBytes (nameNo (table_
 scheme-good {pool} {table} good (scheme n u bs) =
     rw (
       good-ty _ byBytes (nameNo (table_of pool table)) (keeps good) _ isNamed (held-named (table_of pool table)) n u,
-      all_map (mapOpen (nameNo (table_of pool table))) (goodOpen (numbersOf (table_of pool table)) (is_held (table_of pool table)) n) (goodOpen byBytes isNamed n) (good-open _ byBytes (nameNo (table_of pool table)) (keeps good) _ isNamed (held-named (table_of pool table)) n) bs,
+      all_map (mapOpen (nameNo (table_of pool table))) (goodOpen (numbersOf (table_of pool table)) (is_held (table_of pool table)) n)
+          (goodOpen byBytes isNamed n) (good-open _ byBytes (nameNo (table_of pool table)) (keeps good) _ isNamed (held-named (table_of pool table))
+          n) bs,
     )
 
 opens-scheme : {N M : Type 0} (f : N → M) (s : Scheme N) → opensScheme (mapScheme f s) ≡ map (mapOpen f) (opensScheme s)
@@ -119,7 +121,8 @@ given-good {A} r goodA ws as' e =
     passes y.0 y.2
   where
     passes : (bs : List A) → (need (all goodA bs) 1 >> got bs) ≡ got as' → all goodA as' ≡ true
-    passes bs h = rw (inside (next-passed (got bs) as' (need (all goodA bs) 1) h)) at (need-passed (all goodA bs) 1 (first-passed (got bs) as' (need (all goodA bs) 1) h))
+    passes bs h = rw (inside (next-passed (got bs) as' (need (all goodA bs) 1) h)) at
+        (need-passed (all goodA bs) 1 (first-passed (got bs) as' (need (all goodA bs) 1) h))
       where
         inside : {x y : List A} → got x ≡ got y → x ≡ y
         inside e = cc
@@ -131,7 +134,9 @@ bounds-good t ws os e = given-good readBound (goodOpen (numbersOf t) (is_held t)
 -- 8 looks at lengths alone
 pub short : (ls ls' : List (List ℕ)) → map length ls ≡ map length ls' → shortLists ls ≡ shortLists ls'
 unfolding shortLists
-short ls ls' e = ap (λ (b : Bool). need b 8) (sym (all_map length (λ ws. leb (length ws) 8192) (λ n. leb n 8192) (λ ws. refl) ls) ∙ ap (all (λ n. leb n 8192)) e ∙ all_map length (λ ws. leb (length ws) 8192) (λ n. leb n 8192) (λ ws. refl) ls')
+short ls ls' e = ap (λ (b : Bool). need b 8)
+    (sym (all_map length (λ ws. leb (length ws) 8192) (λ n. leb n 8192) (λ ws. refl) ls) ∙ ap (all (λ n. leb n 8192)) e
+    ∙ all_map length (λ ws. leb (length ws) 8192) (λ n. leb n 8192) (λ ws. refl) ls')
 
 pub few : {A : Type 0} (ns ns' : List A) → length ns ≡ length ns' → shortNumbers ns ≡ shortNumbers ns'
 unfolding shortNumbers
@@ -164,39 +169,51 @@ module _ {pool table pool' table' : List ℕ} (good : Good pool table) (good' : 
 
   pub lent-table : lentTable pool table ≡ lentTable pool' table'
   unfolding lentTable
-  lent-table = rw (le-leb 8192 (length pool) good.bytes, le-leb 257 (length table) good.words, le-leb 8192 (length pool') good'.bytes, le-leb 257 (length table') good'.words)
+  lent-table = rw (
+    le-leb 8192 (length pool) good.bytes,
+    le-leb 257 (length table) good.words,
+    le-leb 8192 (length pool') good'.bytes,
+    le-leb 257 (length table') good'.words,
+  )
 
-  module _ {A B : Type 0} {g g' : A → B} (r : Reader A) (reads : Readers (table_of pool table) (table_of pool' table') g g' r r) (goodN : B → Bool) (goodA goodA' : A → Bool)
+  module _ {A B : Type 0} {g g' : A → B} (r : Reader A) (reads : Readers (table_of pool table) (table_of pool' table') g g' r r) (goodN : B → Bool)
+      (goodA goodA' : A → Bool)
       (is : (a : A) → goodN (g a) ≡ goodA a) (is' : (a : A) → goodN (g' a) ≡ goodA' a) where
     list-given : (ws ws' : List ℕ) → Alike ws ws' → Both (map g) (map g') (listGiven r goodA ws) (listGiven r goodA' ws')
     unfolding listGiven
     list-given ws ws' e =
         hence (there 1 (records ws) (records ws') (records-alike (table_of pool table) (table_of pool' table') ws ws' e)) (λ rs rs' i.
-        hence (there 1 (read_all r (length rs) rs) (read_all r (length rs') rs') (rw (same_length (table_of pool table) (table_of pool' table') rs rs' i) (all-agree (table_of pool table) (table_of pool' table') r reads (length rs') rs rs' i))) (λ as' bs j.
+        hence (there 1 (read_all r (length rs) rs) (read_all r (length rs') rs')
+        (rw (same_length (table_of pool table) (table_of pool' table') rs rs' i)
+        (all-agree (table_of pool table) (table_of pool' table') r reads (length rs') rs rs' i))) (λ as' bs j.
         hence (needed 1 (sym (all_map g goodA goodN is as') ∙ ap (all goodN) j ∙ all_map g' goodA' goodN is' bs)) (λ u u' l. alike j)))
 
   pub set_given : (ws ws' : List ℕ) → Alike ws ws'
       → Both (map (mapCon ν)) (map (mapCon ν')) (setGiven (table_of pool table) ws) (setGiven (table_of pool' table') ws')
   unfolding setGiven
   set_given = list-given readCon (con-agree (table_of pool table) (table_of pool' table')) (goodCon byBytes isNamed 0) _ _
-      (good-con _ byBytes ν (keeps good) _ isNamed (held-named (table_of pool table)) 0) (good-con _ byBytes ν' (keeps good') _ isNamed (held-named (table_of pool' table')) 0)
+      (good-con _ byBytes ν (keeps good) _ isNamed (held-named (table_of pool table)) 0)
+      (good-con _ byBytes ν' (keeps good') _ isNamed (held-named (table_of pool' table')) 0)
 
   pub type-given : (ws ws' : List ℕ) → Alike ws ws' → Both (mapTy ν) (mapTy ν') (typeGiven (table_of pool table) ws) (typeGiven (table_of pool' table') ws')
   unfolding typeGiven
   type-given ws ws' e = hence (list-given (readTy 64) (ty-agree (table_of pool table) (table_of pool' table') 64) (goodTy byBytes isNamed 0) _ _
-      (good-ty _ byBytes ν (keeps good) _ isNamed (held-named (table_of pool table)) 0) (good-ty _ byBytes ν' (keeps good') _ isNamed (held-named (table_of pool' table')) 0) ws ws' e) (only-alike (mapTy ν) (mapTy ν'))
+      (good-ty _ byBytes ν (keeps good) _ isNamed (held-named (table_of pool table)) 0)
+      (good-ty _ byBytes ν' (keeps good') _ isNamed (held-named (table_of pool' table')) 0) ws ws' e) (only-alike (mapTy ν) (mapTy ν'))
 
   pub bindings-given : (ws ws' : List ℕ) → Alike ws ws'
       → Both (map (mapBinding ν)) (map (mapBinding ν')) (bindingsGiven (table_of pool table) ws) (bindingsGiven (table_of pool' table') ws')
   unfolding bindingsGiven
   bindings-given = list-given readBinding (binding-agree (table_of pool table) (table_of pool' table')) (goodBinding byBytes isNamed 0) _ _
-      (good-binding _ byBytes ν (keeps good) _ isNamed (held-named (table_of pool table)) 0) (good-binding _ byBytes ν' (keeps good') _ isNamed (held-named (table_of pool' table')) 0)
+      (good-binding _ byBytes ν (keeps good) _ isNamed (held-named (table_of pool table)) 0)
+      (good-binding _ byBytes ν' (keeps good') _ isNamed (held-named (table_of pool' table')) 0)
 
   pub bounds-given : (ws ws' : List ℕ) → Alike ws ws'
       → Both (map (mapOpen ν)) (map (mapOpen ν')) (boundsGiven (table_of pool table) ws) (boundsGiven (table_of pool' table') ws')
   unfolding boundsGiven
   bounds-given = list-given readBound (bound-agree (table_of pool table) (table_of pool' table')) (goodOpen byBytes isNamed 0) _ _
-      (good-open _ byBytes ν (keeps good) _ isNamed (held-named (table_of pool table)) 0) (good-open _ byBytes ν' (keeps good') _ isNamed (held-named (table_of pool' table')) 0)
+      (good-open _ byBytes ν (keeps good) _ isNamed (held-named (table_of pool table)) 0)
+      (good-open _ byBytes ν' (keeps good') _ isNamed (held-named (table_of pool' table')) 0)
 
   pub scheme-given : (ws ws' : List ℕ) → Alike ws ws'
       → Both (mapScheme ν) (mapScheme ν') (schemeGiven (table_of pool table) ws) (schemeGiven (table_of pool' table') ws')
@@ -208,22 +225,27 @@ module _ {pool table pool' table' : List ℕ} (good : Good pool table) (good' : 
 
   pub numbers-given : (ns ns' : List ℕ) → map ν ns ≡ map ν' ns' → numbersGiven (table_of pool table) ns ≡ numbersGiven (table_of pool' table') ns'
   unfolding numbersGiven
-  numbers-given ns ns' e = ap (λ (b : Bool). need b 1) (sym (all_map ν (is_held (table_of pool table)) isNamed (held-named (table_of pool table)) ns) ∙ ap (all isNamed) e ∙ all_map ν' (is_held (table_of pool' table')) isNamed (held-named (table_of pool' table')) ns')
+  numbers-given ns ns' e = ap (λ (b : Bool). need b 1)
+      (sym (all_map ν (is_held (table_of pool table)) isNamed (held-named (table_of pool table)) ns) ∙ ap (all isNamed) e
+      ∙ all_map ν' (is_held (table_of pool' table')) isNamed (held-named (table_of pool' table')) ns')
 
   pub apart-alike : (os os' : List (Open ℕ)) → map (mapOpen ν) os ≡ map (mapOpen ν') os' → apart (table_of pool table) os ≡ apart (table_of pool' table') os'
   unfolding apart
-  apart-alike os os' e = ap (λ (b : Bool). need b 4) (sym (unmixed-map _ byBytes ν (keeps good) os) ∙ ap (unmixed byBytes) e ∙ unmixed-map _ byBytes ν' (keeps good') os')
+  apart-alike os os' e = ap (λ (b : Bool). need b 4)
+      (sym (unmixed-map _ byBytes ν (keeps good) os) ∙ ap (unmixed byBytes) e ∙ unmixed-map _ byBytes ν' (keeps good') os')
 
   pub opens-alike : (u u' : Ty ℕ) → mapTy ν u ≡ mapTy ν' u' → map (mapOpen ν) (opens u) ≡ map (mapOpen ν') (opens u')
   opens-alike u u' e = sym (opens-map ν u) ∙ ap opens e ∙ opens-map ν' u'
 
   pub set-opens : (cs cs' : List (Con ℕ)) → map (mapCon ν) cs ≡ map (mapCon ν') cs'
       → map (mapOpen ν) (collect opensCon cs) ≡ map (mapOpen ν') (collect opensCon cs')
-  set-opens cs cs' e = sym (collect-over (mapCon ν) (mapOpen ν) opensCon opensCon (opens-con ν) cs) ∙ ap (collect opensCon) e ∙ collect-over (mapCon ν') (mapOpen ν') opensCon opensCon (opens-con ν') cs'
+  set-opens cs cs' e = sym (collect-over (mapCon ν) (mapOpen ν) opensCon opensCon (opens-con ν) cs) ∙ ap (collect opensCon) e
+      ∙ collect-over (mapCon ν') (mapOpen ν') opensCon opensCon (opens-con ν') cs'
 
   pub binding-opens : (bs bs' : List (Binding ℕ)) → map (mapBinding ν) bs ≡ map (mapBinding ν') bs'
       → map (mapOpen ν) (collect opensBinding bs) ≡ map (mapOpen ν') (collect opensBinding bs')
-  binding-opens bs bs' e = sym (collect-over (mapBinding ν) (mapOpen ν) opensBinding opensBinding (opens-binding ν) bs) ∙ ap (collect opensBinding) e ∙ collect-over (mapBinding ν') (mapOpen ν') opensBinding opensBinding (opens-binding ν') bs'
+  binding-opens bs bs' e = sym (collect-over (mapBinding ν) (mapOpen ν) opensBinding opensBinding (opens-binding ν) bs) ∙ ap (collect opensBinding) e
+      ∙ collect-over (mapBinding ν') (mapOpen ν') opensBinding opensBinding (opens-binding ν') bs'
 
   pub joined : (os os' ps ps' : List (Open ℕ)) → map (mapOpen ν) os ≡ map (mapOpen ν') os' → map (mapOpen ν) ps ≡ map (mapOpen ν') ps'
       → map (mapOpen ν) (os ++ ps) ≡ map (mapOpen ν') (os' ++ ps')
@@ -244,4 +266,6 @@ module _ {pool table pool' table' : List ℕ} (good : Good pool table) (good' : 
       go : (m : Got (List (Open ℕ))) → boundsGiven (table_of pool table) ws ≡ m → (m' : Got (List (Open ℕ))) → boundsGiven (table_of pool' table') ws' ≡ m'
           → Pair (map (mapOpen ν)) (map (mapOpen ν')) m m' → Both (λ os. map ν (map word_of os)) (λ os. map ν' (map word_of os)) m m'
       go m p m' q (neither n) = record { is = refl }
-      go m p m' q (both os os' i) = alike (bounds-named (table_of pool table) os (bounds-good (table_of pool table) ws os p) ∙ ap (map nameIn) i ∙ sym (bounds-named (table_of pool' table') os' (bounds-good (table_of pool' table') ws' os' q)))
+      go m p m' q (both os os' i) = alike
+          (bounds-named (table_of pool table) os (bounds-good (table_of pool table) ws os p) ∙ ap (map nameIn) i
+          ∙ sym (bounds-named (table_of pool' table') os' (bounds-good (table_of pool' table') ws' os' q)))

@@ -41,7 +41,12 @@ grown-all [] s g = grown-same s g
 grown-all (e ∷ es) s g =
     let a = grown-entry s g e.name in
     let b = grown-all es (entered s e.name) a.good in
-    record { good = b.good; more = a.more ++ b.more; names = b.names ∙ ap (λ (ns : List Bytes). ns ++ b.more) a.names ∙ append_assoc (names_of (tableIn s)) a.more b.more }
+    record {
+      good = b.good;
+      more = a.more ++ b.more;
+      names = b.names ∙ ap (λ (ns : List Bytes). ns ++ b.more) a.names
+          ∙ append_assoc (names_of (tableIn s)) a.more b.more;
+    }
 
 pub good-after : (es : List Entering) (s : Shared) → GoodIn s → GoodIn (afterAll s es)
 good-after es s g = (grown-all es s g).good
@@ -63,7 +68,8 @@ name-held t i n h e = rw (h, e)
 
 pub name-is : (s : Shared) → GoodIn s → (a : Got ℕ) (x : Got Name) → Stands (tableIn s) a x → mapGot (nameNo (tableIn s)) a ≡ x
 name-is s g a x (refusal k) = refl
-name-is s g a x (number i n h e) = ap got (name-held (tableIn s) i n (held-is s.pool s.table i ∙ lt-ltb i (get_or s.table 0 0) (omega (arith, h, length-names (good-laid g)))) e)
+name-is s g a x (number i n h e) = ap got
+    (name-held (tableIn s) i n (held-is s.pool s.table i ∙ lt-ltb i (get_or s.table 0 0) (omega (arith, h, length-names (good-laid g)))) e)
 
 new-number : (pool table : List ℕ) (n : Bytes) → Enters pool table n → mapGot (λ a. a.0) (enterNew pool table n).answer ≡ got (get_or table 0 0)
 new-number pool table n en = ap (λ (r : Entered). mapGot (λ a. a.0) r.answer) (new_is (good-laid en.good) n)
@@ -79,15 +85,21 @@ unfolding entered
 entry-passed s g n t h = go (enter-case s.pool s.table n)
   where
     passed : Passed s.pool s.table n
-    passed = record { good = g; long = leb-true 1 (length n) (and_left (leb 1 (length n)) _ t); short = leb-true (length n) 48 (and_right (leb 1 (length n)) _ t) }
+    passed = record {
+      good = g;
+      long = leb-true 1 (length n) (and_left (leb 1 (length n)) _ t);
+      short = leb-true (length n) 48 (and_right (leb 1 (length n)) _ t);
+    }
 
     go : Case s.pool s.table n → Stands (tableIn (entered s n)) (answered s n) (got (named n))
     go (stopped k z e) = absurd (let y : ◌≡◌ {A = ℕ} 0 1 = cc (pass-checks s.pool s.table n passed) in omega arith)
     go (known i a e) = rw (entered, e) (number i n (omega (arith, a.held, length-names (good-laid g))) a.name)
-    go (full q a m e) = absurd (let y : true ≡ false = sym h ∙ ap (λ (r : Entered). noThree (mapGot (λ a. a.0) r.answer)) e in let z : ◌≡◌ {A = ℕ} 0 1 = cc in omega arith)
+    go (full q a m e) = absurd (let y : true ≡ false = sym h ∙ ap (λ (r : Entered). noThree (mapGot (λ a. a.0) r.answer)) e
+        in let z : ◌≡◌ {A = ℕ} 0 1 = cc in omega arith)
     go (new en e) = rw (entered, e, new-number s.pool s.table n en)
         (number (get_or s.table 0 0) n (rw (names-with en, length-append (names_of (tableIn s)) (n ∷ [])) (omega (arith, length-names (good-laid g))))
-        (ap (λ (ns : List Bytes). get_or ns (get_or s.table 0 0) []) (names-with en) ∙ get_or_at (names_of (tableIn s)) n [] [] (get_or s.table 0 0) (length-names (good-laid g))))
+        (ap (λ (ns : List Bytes). get_or ns (get_or s.table 0 0) []) (names-with en)
+        ∙ get_or_at (names_of (tableIn s)) n [] [] (get_or s.table 0 0) (length-names (good-laid g))))
 
 pub entry-stands : (s : Shared) → GoodIn s → (n : Bytes) → noThree (answered s n) ≡ true → Stands (tableIn (entered s n)) (answered s n) (answerFor n)
 entry-stands s g n h = go (leb 1 (length n) && leb (length n) 48) refl
@@ -116,15 +128,18 @@ module _ (o : Office) (s : Shared) (e : Entering) (es : List Entering) where
   names-other h = rw (namesBy, h)
 
 one_more : (o : Office) (s : Shared) (e : Entering) (es : List Entering) → GoodIn s → sameOffice o e.by ≡ true
-    → (hadRoom (answersTo o (entered s e.name) es) ≡ true → map (mapGot (nameNo (tableIn (afterAll (entered s e.name) es)))) (answersTo o (entered s e.name) es) ≡ map answerFor (namesBy o es))
-    → hadRoom (answersTo o s (e ∷ es)) ≡ true → map (mapGot (nameNo (tableIn (afterAll (entered s e.name) es)))) (answersTo o s (e ∷ es)) ≡ map answerFor (namesBy o (e ∷ es))
+    → (hadRoom (answersTo o (entered s e.name) es) ≡ true
+    → map (mapGot (nameNo (tableIn (afterAll (entered s e.name) es)))) (answersTo o (entered s e.name) es) ≡ map answerFor (namesBy o es))
+    → hadRoom (answersTo o s (e ∷ es)) ≡ true
+    → map (mapGot (nameNo (tableIn (afterAll (entered s e.name) es)))) (answersTo o s (e ∷ es)) ≡ map answerFor (namesBy o (e ∷ es))
 unfolding hadRoom all
 one_more o s e es g q r h =
     let a = answered s e.name in
     let k : noThree a && all noThree (answersTo o (entered s e.name) es) ≡ true = rw (answers-own o s e es q) at h in
     let d = entry-stands s g e.name (and_left (noThree a) _ k) in
     let b = grown-all es (entered s e.name) (grown-entry s g e.name).good in
-    let n = name-is (afterAll (entered s e.name) es) b.good a (answerFor e.name) (stays (entered s e.name) (afterAll (entered s e.name) es) b a (answerFor e.name) d) in
+    let n = name-is (afterAll (entered s e.name) es) b.good a (answerFor e.name)
+    (stays (entered s e.name) (afterAll (entered s e.name) es) b a (answerFor e.name) d) in
     rw (answers-own o s e es q, names-own o s e es q) (ap₂ (λ (x : Got Name) (xs : List (Got Name)). x ∷ xs) n (r (and_right (noThree a) _ k)))
 
 -- what an office was answered, read with the names at the end, is what its names are answered
@@ -135,7 +150,8 @@ all_named o [] s g h = refl
 all_named o (e ∷ es) s g h = go (sameOffice o e.by) refl (all_named o es (entered s e.name) (grown-entry s g e.name).good)
   where
     go : (b : Bool) → sameOffice o e.by ≡ b
-        → (hadRoom (answersTo o (entered s e.name) es) ≡ true → map (mapGot (nameNo (tableIn (afterAll (entered s e.name) es)))) (answersTo o (entered s e.name) es) ≡ map answerFor (namesBy o es))
+        → (hadRoom (answersTo o (entered s e.name) es) ≡ true
+        → map (mapGot (nameNo (tableIn (afterAll (entered s e.name) es)))) (answersTo o (entered s e.name) es) ≡ map answerFor (namesBy o es))
         → map (mapGot (nameNo (tableIn (afterAll (entered s e.name) es)))) (answersTo o s (e ∷ es)) ≡ map answerFor (namesBy o (e ∷ es))
     go false q r = rw (answers-other o s e es q, names-other o s e es q) (r (rw (answers-other o s e es q) at h))
     go true q r = one_more o s e es g q r h

@@ -53,7 +53,8 @@ differNamed (x ∷ xs) = not (among byBytes x xs) && differNamed xs
 pub differ-map : {pool table : List ℕ} (good : Good pool table) (ns : List ℕ) → differNamed (map (nameNo (table_of pool table)) ns) ≡ differ ns
 unfolding differ differNamed
 differ-map good [] = refl
-differ-map {pool} {table} good (n ∷ ns) = rw (among-map _ byBytes (nameNo (table_of pool table)) (keeps good) n ns, same-eqb (names_of (table_of pool table)) n ns, differ-map good ns)
+differ-map {pool} {table} good (n ∷ ns) =
+    rw (among-map _ byBytes (nameNo (table_of pool table)) (keeps good) n ns, same-eqb (names_of (table_of pool table)) n ns, differ-map good ns)
 
 module _ {pool table pool' table' : List ℕ} (good : Good pool table) (good' : Good pool' table') where
   -- the two tables, and the names of their numbers
@@ -81,8 +82,10 @@ module _ {pool table pool' table' : List ℕ} (good : Good pool table) (good' : 
   pub type-at : (rs rs' : List Rec) (i : ℕ) → map (seen T₁) rs ≡ map (seen T₂) rs' → Both (mapTy ν₁) (mapTy ν₂) (type_at T₁ rs i) (type_at T₂ rs' i)
   unfolding type_at
   type-at rs rs' i e =
-      hence (there 1 (and_then (readTy 64 (drop i rs)) (λ r. some r.0)) (and_then (readTy 64 (drop i rs')) (λ r. some r.0)) (first_alike (drop i rs) (drop i rs') (dropped T₁ i rs ∙ ap (drop i) e ∙ sym (dropped T₂ i rs')))) (λ u u' j.
-      hence (needed 1 (sym (good-ty _ byBytes ν₁ (keeps good) _ isNamed (held-named T₁) 0 u) ∙ ap (goodTy byBytes isNamed 0) j ∙ good-ty _ byBytes ν₂ (keeps good') _ isNamed (held-named T₂) 0 u')) (λ x y l. alike j))
+      hence (there 1 (and_then (readTy 64 (drop i rs)) (λ r. some r.0)) (and_then (readTy 64 (drop i rs')) (λ r. some r.0))
+      (first_alike (drop i rs) (drop i rs') (dropped T₁ i rs ∙ ap (drop i) e ∙ sym (dropped T₂ i rs')))) (λ u u' j.
+      hence (needed 1 (sym (good-ty _ byBytes ν₁ (keeps good) _ isNamed (held-named T₁) 0 u) ∙ ap (goodTy byBytes isNamed 0) j
+      ∙ good-ty _ byBytes ν₂ (keeps good') _ isNamed (held-named T₂) 0 u')) (λ x y l. alike j))
 
   binding-of : (rs rs' : List Rec) (e e' : Entry) → map (seen T₁) rs ≡ map (seen T₂) rs' → ν₁ e.variable ≡ ν₂ e'.variable → e.place ≡ e'.place
       → Both (mapBinding ν₁) (mapBinding ν₂) (bindingOf T₁ rs e) (bindingOf T₂ rs' e')
@@ -107,19 +110,22 @@ module _ {pool table pool' table' : List ℕ} (good : Good pool table) (good' : 
   unfolding entriesGiven
   entries-given es es' ts ts' e f =
       hence (there 1 (records ts) (records ts') (records-alike T₁ T₂ ts ts' f)) (λ rs rs' h.
-      hence (needed 1 (sym (differ-map good (map (λ e. e.variable) es)) ∙ ap differNamed e.variables.names ∙ differ-map good' (map (λ e. e.variable) es'))) (λ x y l.
+      hence (needed 1 (sym (differ-map good (map (λ e. e.variable) es)) ∙ ap differNamed e.variables.names
+      ∙ differ-map good' (map (λ e. e.variable) es'))) (λ x y l.
       all-bindings rs rs' h es es' e.variables.names e.places))
 
   rising-given : (bs bs' : List ℕ) → Alike good good' bs bs' → Both (map ν₁) (map ν₂) (risingBounds T₁ bs) (risingBounds T₂ bs')
   unfolding risingBounds
   rising-given bs bs' e =
       hence (names-given good good' bs bs' e) (λ os os' j.
-      hence (needed 1 (sym (rising-map ν₁ _ byBytes.order (keeps good).ordered (map word_of os)) ∙ ap (rising byBytes.order) j ∙ rising-map ν₂ _ byBytes.order (keeps good').ordered (map word_of os'))) (λ x y l. alike j))
+      hence (needed 1 (sym (rising-map ν₁ _ byBytes.order (keeps good).ordered (map word_of os)) ∙ ap (rising byBytes.order) j
+      ∙ rising-map ν₂ _ byBytes.order (keeps good').ordered (map word_of os'))) (λ x y l. alike j))
 
   judged : (bs bs' : List (Binding ℕ)) (ns ns' : List ℕ) (cs cs' : List (Con ℕ)) → map (mapBinding ν₁) bs ≡ map (mapBinding ν₂) bs'
       → map ν₁ ns ≡ map ν₂ ns' → map (mapCon ν₁) cs ≡ map (mapCon ν₂) cs'
       → judge (numbersOf T₁) bounded bs ns cs ≡ judge (numbersOf T₂) bounded bs' ns' cs'
-  judged bs bs' ns ns' cs cs' e f g = sym (judge-map _ byBytes ν₁ (keeps good) bounded bs ns cs) ∙ middle e f g ∙ judge-map _ byBytes ν₂ (keeps good') bounded bs' ns' cs'
+  judged bs bs' ns ns' cs cs' e f g = sym (judge-map _ byBytes ν₁ (keeps good) bounded bs ns cs) ∙ middle e f g
+      ∙ judge-map _ byBytes ν₂ (keeps good') bounded bs' ns' cs'
     where
       middle : {a a' : List (Binding Name)} {b b' : List Name} {c c' : List (Con Name)} → a ≡ a' → b ≡ b' → c ≡ c'
           → judge byBytes bounded a b c ≡ judge byBytes bounded a' b' c'
@@ -132,10 +138,13 @@ module _ {pool table pool' table' : List ℕ} (good : Good pool table) (good' : 
   unfolding judgeCall judgedSet
   judge-alike ws ws' es es' ts ts' bs bs' work work' e en f g r = equal-answers
       (checked (two-checks (lent-table good good') (lent-work work work' r))
-      (checked (two-checks (short (ws ∷ ts ∷ bs ∷ []) (ws' ∷ ts' ∷ bs' ∷ []) (rw (as_long e, as_long f, as_long g))) (few es es' (sym (length-map es (λ e. e.place)) ∙ ap length en.places ∙ length-map es' (λ e. e.place))))
+      (checked (two-checks (short (ws ∷ ts ∷ bs ∷ []) (ws' ∷ ts' ∷ bs' ∷ []) (rw (as_long e, as_long f, as_long g)))
+      (few es es' (sym (length-map es (λ e. e.place)) ∙ ap length en.places ∙ length-map es' (λ e. e.place))))
       (checked (kept-alike good good')
       (hence (set_given good good' ws ws' e) (λ cs cs' i.
       hence (entries-given es es' ts ts' en f) (λ xs xs' j.
       hence (rising-given bs bs' g) (λ ns ns' k.
-      checked (apart-alike good good' _ _ (joined good good' (collect opensCon cs) (collect opensCon cs') (collect opensBinding xs) (collect opensBinding xs') (set-opens good good' cs cs' i) (binding-opens good good' xs xs' j)))
+      checked (apart-alike good good' _ _
+      (joined good good' (collect opensCon cs) (collect opensCon cs') (collect opensBinding xs) (collect opensBinding xs')
+      (set-opens good good' cs cs' i) (binding-opens good good' xs xs' j)))
       (same-both (judged xs xs' ns ns' cs cs' j k i)))))))))

@@ -28,12 +28,19 @@ module _ {N M : Type 0} (ν : Names N) (μ : Names M) (f : N → M) (keeps : Kee
 
   among-bounds : (bounds : List N) (t : Ty N) → amongBounds μ (map f bounds) (mapTy f t) ≡ amongBounds ν bounds t
   unfolding amongBounds
-  among-bounds bounds t = rw (opens-map f t, names_in f (opens t)) (all_map f (λ x. among ν x bounds) (λ x. among μ x (map f bounds)) (λ x. among-map ν μ f keeps x bounds) (namesIn (opens t)))
+  among-bounds bounds t = rw (opens-map f t, names_in f (opens t))
+      (all_map f (λ x. among ν x bounds) (λ x. among μ x (map f bounds)) (λ x. among-map ν μ f keeps x bounds) (namesIn (opens t)))
 
   pub holds-map : (bounds : List N) (c : Con N) → holds μ (map f bounds) (mapCon f c) ≡ holds ν bounds c
   unfolding holds mapCon
   holds-map bounds (equal s t) = means-map s t
-  holds-map bounds (isDim t) = rw (product-of f t, open_of f t, none-map (map (mapFactor f)) (productOf t), none-map (mapOpen f) (openOf t), among-bounds bounds t)
+  holds-map bounds (isDim t) = rw (
+    product-of f t,
+    open_of f t,
+    none-map (map (mapFactor f)) (productOf t),
+    none-map (mapOpen f) (openOf t),
+    among-bounds bounds t,
+  )
   holds-map bounds (is_scalar p) = nil-map (mapFactor f) p
   holds-map bounds (hasField n s t) =
       rw (struct-of f s, then_map (mapStruct f) (mapTy f) (struct_of s) (λ v. fieldIn ν n v.2) (λ v. fieldIn μ (f n) v.2) (λ v. field_in ν μ f keeps n v.2))
@@ -44,14 +51,16 @@ module _ {N M : Type 0} (ν : Names N) (μ : Names M) (f : N → M) (keeps : Kee
       → judgeCon μ l (map (mapBinding f) bs) (map f bounds) (mapCon f c) ≡ judgeCon ν l bs bounds c
   unfolding judgeCon
   judge-con bs bounds c = ap failed (over-same (
-      next (con-map ν μ f keeps l (bindings ν bs) (bindings μ (map (mapBinding f) bs)) (looks-map ν μ f keeps bs) c) (λ d d' i. rw (i, size-con f d, depth-con f d)
+      next (con-map ν μ f keeps l (bindings ν bs) (bindings μ (map (mapBinding f) bs)) (looks-map ν μ f keeps bs) c)
+      (λ d d' i. rw (i, size-con f d, depth-con f d)
       (next (sized-over (mapCon f) l (sizeCon d) (depthCon d) d) (λ e e' j. gives (rw (j, holds-map ν μ f keeps bounds e)))))))
 
   pub judge-map : (bs : List (Binding N)) (bounds : List N) (cs : List (Con N))
       → judge μ l (map (mapBinding f) bs) (map f bounds) (map (mapCon f) cs) ≡ judge ν l bs bounds cs
   unfolding judge
   judge-map bs bounds [] = refl
-  judge-map bs bounds (c ∷ cs) = rw (judge-con bs bounds c) (ap (λ (m : Got Bool). judgeCon ν l bs bounds c >>= λ b. elim b [ true ↦ m | false ↦ got false ]) (judge-map bs bounds cs))
+  judge-map bs bounds (c ∷ cs) = rw (judge-con bs bounds c)
+      (ap (λ (m : Got Bool). judgeCon ν l bs bounds c >>= λ b. elim b [ true ↦ m | false ↦ got false ]) (judge-map bs bounds cs))
 
   pub failing-map : (bs : List (Binding N)) (bounds : List N) (k : ℕ) (cs : List (Con N))
       → failing μ l (map (mapBinding f) bs) (map f bounds) k (map (mapCon f) cs) ≡ failing ν l bs bounds k cs

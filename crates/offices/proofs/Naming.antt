@@ -39,7 +39,9 @@ module _ {pool table : List ℕ} (good : Good pool table) where
     where
       go : (o : Option ℕ) → number_of 0 (get_or (names_of (table_of pool table)) i []) (names_of (table_of pool table)) ≡ o
           → number_of 0 (get_or (names_of (table_of pool table)) i []) (names_of (table_of pool table)) ≡ some i
-      go none e = absurd (search-none (get_or (names_of (table_of pool table)) i []) (names_of (table_of pool table)) (search-any 0 (get_or (names_of (table_of pool table)) i []) (names_of (table_of pool table)) ∙ ap (λ (o : Option ℕ). not (is_none o)) e) i h refl)
+      go none e = absurd (search-none (get_or (names_of (table_of pool table)) i []) (names_of (table_of pool table))
+          (search-any 0 (get_or (names_of (table_of pool table)) i []) (names_of (table_of pool table)) ∙ ap (λ (o : Option ℕ). not (is_none o)) e) i
+          h refl)
       go (some j) e =
           let f = search-found 0 j (get_or (names_of (table_of pool table)) i []) (names_of (table_of pool table)) e in
           let z : j ≡ f.place = omega (arith, f.counted) in

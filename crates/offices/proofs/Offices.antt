@@ -93,12 +93,17 @@ pub unmoved : (o : Office) (s s' : Shared) (es es' : List Entering) → tableGiv
     → namesBy o es ≡ namesBy o es' → hadRoom (answersTo o s es) ≡ true → hadRoom (answersTo o s' es') ≡ true → Unmoved o s s' es es'
 unmoved o s s' es es' g g' same h h' =
     let answers = all_named o es s (given-good g) h ∙ ap (map answerFor) same ∙ sym (all_named o es' s' (given-good g') h') in
-    let names = sym (given-names (nameNo (tableIn (afterAll s es))) (answersTo o s es)) ∙ ap (collect givenName) answers ∙ given-names (nameNo (tableIn (afterAll s' es'))) (answersTo o s' es') in
+    let names = sym (given-names (nameNo (tableIn (afterAll s es))) (answersTo o s es)) ∙ ap (collect givenName) answers
+    ∙ given-names (nameNo (tableIn (afterAll s' es'))) (answersTo o s' es') in
     record {
       names = all_named o es s (given-good g) h;
       answers = answers;
-      lists = λ draft rest i j. written-alike (tableIn (afterAll s es)) (tableIn (afterAll s' es')) (given (answersTo o s es)) (given (answersTo o s' es')) names draft rest i (ltb-true (length rest) 4 j);
+      lists = λ draft rest i j. written-alike (tableIn (afterAll s es)) (tableIn (afterAll s' es')) (given (answersTo o s es))
+          (given (answersTo o s' es')) names draft rest i (ltb-true (length rest) 4 j);
       values = λ v i. value-alike (tableIn (afterAll s es)) (tableIn (afterAll s' es')) (given (answersTo o s es)) (given (answersTo o s' es')) names v i;
-      numbers = λ is i. record { names = handed-alike (nameNo (tableIn (afterAll s es))) (nameNo (tableIn (afterAll s' es'))) (given (answersTo o s es)) (given (answersTo o s' es')) is names i };
+      numbers = λ is i. record {
+        names = handed-alike (nameNo (tableIn (afterAll s es))) (nameNo (tableIn (afterAll s' es')))
+            (given (answersTo o s es)) (given (answersTo o s' es')) is names i;
+      };
       calls = numbering' (good-after es s (given-good g)) (good-after es' s' (given-good g'));
     }

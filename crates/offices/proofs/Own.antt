@@ -48,7 +48,10 @@ module _ (f f' : ℕ → Name) where
       → map f (map (λ i. get_or ns i 0) is) ≡ map f' (map (λ i. get_or ns' i 0) is)
   unfolding all
   handed-alike ns ns' [] e h = refl
-  handed-alike ns ns' (i ∷ is) e h = rw (at-alike ns ns' i e (ltb-true i (length ns) (and_left (ltb i (length ns)) _ h)), handed-alike ns ns' is e (and_right (ltb i (length ns)) _ h))
+  handed-alike ns ns' (i ∷ is) e h = rw (
+    at-alike ns ns' i e (ltb-true i (length ns) (and_left (ltb i (length ns)) _ h)),
+    handed-alike ns ns' is e (and_right (ltb i (length ns)) _ h),
+  )
 
 module _ (t t' : Table) (ns ns' : List ℕ) (e : map (nameNo t) ns ≡ map (nameNo t') ns') where
   record-alike : (r : Rec) → ownRec (length ns) r ≡ true → seen t (fill ns r) ≡ seen t' (fill ns' r)
@@ -69,13 +72,15 @@ module _ (t t' : Table) (ns ns' : List ℕ) (e : map (nameNo t) ns ≡ map (name
 
   pub written-alike : (rs : List Rec) (rest : List ℕ) → own (length ns) rs ≡ true → length rest < 4 → ReadAlike t t' (written ns rs rest) (written ns' rs rest)
   unfolding written
-  written-alike rs rest h l = joined-alike t t' (length rs) _ _ rest rest (written-length ns rs) (written-length ns' rs) (words-alike t t' _ _ (draft-alike rs h)) (rest-alike t t' rest l)
+  written-alike rs rest h l = joined-alike t t' (length rs) _ _ rest rest (written-length ns rs) (written-length ns' rs)
+      (words-alike t t' _ _ (draft-alike rs h)) (rest-alike t t' rest l)
 
 -- ══ Products by value ══
 
 -- the atom of a kind, a name and an index
 atomNamed : ℕ → Name → ℕ → Option (Atom Name)
-atomNamed k n i = only_if (eqb k 11) (free (var n)) or_else only_if (eqb k 12) (free (par n)) or_else only_if (eqb k 13) (base n) or_else only_if (eqb k 15) (free (quant i))
+atomNamed k n i = only_if (eqb k 11) (free (var n)) or_else only_if (eqb k 12) (free (par n)) or_else only_if (eqb k 13) (base n) or_else only_if
+    (eqb k 15) (free (quant i))
 
 four : {A B : Type 0} (g : A → B) (a b c d : Option A)
     → (mapOption g a or_else mapOption g b or_else mapOption g c or_else mapOption g d) ≡ mapOption g (a or_else b or_else c or_else d)
@@ -84,8 +89,14 @@ four g a b c d = rw (or_map g c d, or_map g b (c or_else d), or_map g a (b or_el
 atom-named : (f : ℕ → Name) (k x : ℕ) → mapOption (mapAtom f) (atomIn k x) ≡ atomNamed k (f x) x
 unfolding atomIn atomNamed
 atom-named f k x =
-    sym (four (mapAtom f) (only_if (eqb k 11) (free (var x))) (only_if (eqb k 12) (free (par x))) (only_if (eqb k 13) (base x)) (only_if (eqb k 15) (free (quant x))))
-    ∙ rw (← only-map (mapAtom f) (eqb k 11) (free (var x)), ← only-map (mapAtom f) (eqb k 12) (free (par x)), ← only-map (mapAtom f) (eqb k 13) (base x), ← only-map (mapAtom f) (eqb k 15) (free (quant x)))
+    sym (four (mapAtom f) (only_if (eqb k 11) (free (var x))) (only_if (eqb k 12) (free (par x))) (only_if (eqb k 13) (base x))
+    (only_if (eqb k 15) (free (quant x))))
+    ∙ rw (
+      ← only-map (mapAtom f) (eqb k 11) (free (var x)),
+      ← only-map (mapAtom f) (eqb k 12) (free (par x)),
+      ← only-map (mapAtom f) (eqb k 13) (base x),
+      ← only-map (mapAtom f) (eqb k 15) (free (quant x)),
+    )
 
 factor-named : (f : ℕ → Name) (v : FactorValue) → mapOption (mapFactor f) (factorIn v) ≡ and_then (atomNamed v.kind (f v.name) v.name) (λ a. some (a ↑ v.exp))
 unfolding factorIn
@@ -119,7 +130,9 @@ module _ (t t' : Table) (ns ns' : List ℕ) (e : map (nameNo t) ns ≡ map (name
   unfolding ownFactor fillFactor
   factor-alike v h = go (namesOne v.kind 0) refl
     where
-      with-name : (f : ℕ → Name) (x : ℕ) → mapOption (mapFactor f) (factorIn (record { kind = v.kind; name = x; exp = v.exp })) ≡ and_then (atomNamed v.kind (f x) x) (λ a. some (a ↑ v.exp))
+      with-name : (f : ℕ → Name) (x : ℕ)
+          → mapOption (mapFactor f) (factorIn (record { kind = v.kind; name = x; exp = v.exp }))
+          ≡ and_then (atomNamed v.kind (f x) x) (λ a. some (a ↑ v.exp))
       with-name f x = factor-named f (record { kind = v.kind; name = x; exp = v.exp })
 
       go : (b : Bool) → namesOne v.kind 0 ≡ b
@@ -128,27 +141,33 @@ module _ (t t' : Table) (ns ns' : List ℕ) (e : map (nameNo t) ns ≡ map (name
           (with-name (nameNo t) (get_or ns v.name 0)
           ∙ ap (λ (o : Option (Atom Name)). and_then o (λ a. some (a ↑ v.exp)))
           (name-counts v.kind (nameNo t (get_or ns v.name 0)) (get_or ns v.name 0) (get_or ns' v.name 0) q
-          ∙ ap (λ (n : Name). atomNamed v.kind n (get_or ns' v.name 0)) (at-alike (nameNo t) (nameNo t') ns ns' v.name e (ltb-true v.name (length ns) (rw (ownFactor, q) at h))))
+          ∙ ap (λ (n : Name). atomNamed v.kind n (get_or ns' v.name 0))
+          (at-alike (nameNo t) (nameNo t') ns ns' v.name e (ltb-true v.name (length ns) (rw (ownFactor, q) at h))))
           ∙ sym (with-name (nameNo t') (get_or ns' v.name 0)))
       go false q = rw (fillFactor, q)
-          (factor-named (nameNo t) v ∙ ap (λ (o : Option (Atom Name)). and_then o (λ a. some (a ↑ v.exp))) (index-counts v.kind (nameNo t v.name) (nameNo t' v.name) v.name q) ∙ sym (factor-named (nameNo t') v))
+          (factor-named (nameNo t) v ∙ ap (λ (o : Option (Atom Name)). and_then o (λ a. some (a ↑ v.exp)))
+          (index-counts v.kind (nameNo t v.name) (nameNo t' v.name) v.name q) ∙ sym (factor-named (nameNo t') v))
 
   abbrev before : Factor Name → Option (Product Name) → Option (Product Name)
   before x o = and_then o (λ xs. some (x ∷ xs))
 
   step-named : (f : ℕ → Name) (v : FactorValue) (vs : List FactorValue)
-      → mapOption (map (mapFactor f)) (factorsIn (v ∷ vs)) ≡ and_then (mapOption (mapFactor f) (factorIn v)) (λ x. before x (mapOption (map (mapFactor f)) (factorsIn vs)))
+      → mapOption (map (mapFactor f)) (factorsIn (v ∷ vs))
+      ≡ and_then (mapOption (mapFactor f) (factorIn v)) (λ x. before x (mapOption (map (mapFactor f)) (factorsIn vs)))
   unfolding factorsIn
-  step-named f v vs = sym (then_map (mapFactor f) (map (mapFactor f)) (factorIn v) (λ x. and_then (factorsIn vs) (λ xs. some (x ∷ xs))) (λ x. before x (mapOption (map (mapFactor f)) (factorsIn vs)))
+  step-named f v vs = sym (then_map (mapFactor f) (map (mapFactor f)) (factorIn v) (λ x. and_then (factorsIn vs) (λ xs. some (x ∷ xs)))
+      (λ x. before x (mapOption (map (mapFactor f)) (factorsIn vs)))
       (λ x. then_map (map (mapFactor f)) (map (mapFactor f)) (factorsIn vs) (λ xs. some (x ∷ xs)) (λ xs. some (mapFactor f x ∷ xs)) (λ xs. refl)))
 
   factors-alike : (vs : List FactorValue) → all (ownFactor (length ns)) vs ≡ true
-      → mapOption (map (mapFactor (nameNo t))) (factorsIn (map (fillFactor ns) vs)) ≡ mapOption (map (mapFactor (nameNo t'))) (factorsIn (map (fillFactor ns') vs))
+      → mapOption (map (mapFactor (nameNo t))) (factorsIn (map (fillFactor ns) vs))
+      ≡ mapOption (map (mapFactor (nameNo t'))) (factorsIn (map (fillFactor ns') vs))
   unfolding factorsIn all
   factors-alike [] h = refl
   factors-alike (v ∷ vs) h =
       step-named (nameNo t) (fillFactor ns v) (map (fillFactor ns) vs)
-      ∙ ap₂ (λ (o : Option (Factor Name)) (p : Option (Product Name)). and_then o (λ x. before x p)) (factor-alike v (and_left (ownFactor (length ns) v) _ h)) (factors-alike vs (and_right (ownFactor (length ns) v) _ h))
+      ∙ ap₂ (λ (o : Option (Factor Name)) (p : Option (Product Name)). and_then o (λ x. before x p))
+      (factor-alike v (and_left (ownFactor (length ns) v) _ h)) (factors-alike vs (and_right (ownFactor (length ns) v) _ h))
       ∙ sym (step-named (nameNo t') (fillFactor ns' v) (map (fillFactor ns') vs))
 
   take-map : {A B : Type 0} (g : A → B) (n : ℕ) (xs : List A) → take n (map g xs) ≡ map g (take n xs)

@@ -67,13 +67,15 @@ module _ {pool table pool' table' : List ℕ} (good : Good pool table) (good' : 
 
   contained : (b : Bool) (x x' : ℕ) (u u' : Ty ℕ) → ν₁ x ≡ ν₂ x' → mapTy ν₁ u ≡ mapTy ν₂ u'
       → containsName (numbersOf T₁) b x u ≡ containsName (numbersOf T₂) b x' u'
-  contained b x x' u u' e f = sym (contains-name _ byBytes ν₁ (keeps good) b x u) ∙ ap₂ (λ (y : Name) (v : Ty Name). containsName byBytes b y v) e f ∙ contains-name _ byBytes ν₂ (keeps good') b x' u'
+  contained b x x' u u' e f = sym (contains-name _ byBytes ν₁ (keeps good) b x u) ∙ ap₂ (λ (y : Name) (v : Ty Name). containsName byBytes b y v) e f
+      ∙ contains-name _ byBytes ν₂ (keeps good') b x' u'
 
   pub contains-alike : (ws ws' : List ℕ) (x x' : ℕ) (b : Bool) → Alike good good' ws ws' → ν₁ x ≡ ν₂ x'
       → containsCall pool table ws x b ≡ containsCall pool' table' ws' x' b
   unfolding containsCall
   contains-alike ws ws' x x' b e f = equal-answers (checked (alone ws ws' e) (hence (type-given good good' ws ws' e) (λ u u' i.
-      checked (numbers-given good good' (x ∷ []) (x' ∷ []) (rw f)) (checked (apart-alike good good' (opens u) (opens u') (opens-alike good good' u u' i)) (alike (contained b x x' u u' f i))))))
+      checked (numbers-given good good' (x ∷ []) (x' ∷ []) (rw f))
+      (checked (apart-alike good good' (opens u) (opens u') (opens-alike good good' u u' i)) (alike (contained b x x' u u' f i))))))
 
   pub closed-alike : (ws ws' : List ℕ) → Alike good good' ws ws' → closedCall pool table ws ≡ closedCall pool' table' ws'
   unfolding closedCall

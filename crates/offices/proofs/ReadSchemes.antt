@@ -62,7 +62,8 @@ module _ (t t' : Table) where
 
   head_rows : (k b c n n' : ℕ) → SameWord t t' k b n n' → Tables t t' (mapScheme (nameNo t)) (mapScheme (nameNo t')) k (headTable n b c) (headTable n' b c)
   unfolding namesOne any
-  head_rows k b c n n' w = row t t' _ _ (λ e. unused-agree t t' _ _ (c ∷ []) (pick-agree t t' _ _ b (formTable n) (formTable n') (form-rows b n n' (number_at t t' k b n n' 26 e refl w)))) end
+  head_rows k b c n n' w = row t t' _ _ (λ e. unused-agree t t' _ _ (c ∷ [])
+      (pick-agree t t' _ _ b (formTable n) (formTable n') (form-rows b n n' (number_at t t' k b n n' 26 e refl w)))) end
 
   ends-alike : (s s' : Scheme ℕ) (bs bs' : List (Open ℕ)) → mapScheme (nameNo t) s ≡ mapScheme (nameNo t') s'
       → map (mapOpen (nameNo t)) bs ≡ map (mapOpen (nameNo t')) bs'
@@ -78,7 +79,9 @@ module _ (t t' : Table) where
 
   ended-alike : (v v' : Scheme ℕ × List Rec) → mapScheme (nameNo t) v.0 ≡ mapScheme (nameNo t') v'.0 → Alike t t' v.1 v'.1
       → mapOption (mapScheme (nameNo t)) (ended v) ≡ mapOption (mapScheme (nameNo t')) (ended v')
-  ended-alike v v' e f = rw (same_length t t' v.1 v'.1 f) (go (read_all readBound (length v'.1) v.1) (read_all readBound (length v'.1) v'.1) (all-agree t t' readBound (bound-agree t t') (length v'.1) v.1 v'.1 f))
+  ended-alike v v' e f = rw (same_length t t' v.1 v'.1 f)
+      (go (read_all readBound (length v'.1) v.1) (read_all readBound (length v'.1) v'.1)
+      (all-agree t t' readBound (bound-agree t t') (length v'.1) v.1 v'.1 f))
     where
       go : (o o' : Option (List (Open ℕ))) → mapOption (map (mapOpen (nameNo t))) o ≡ mapOption (map (mapOpen (nameNo t'))) o'
           → mapOption (mapScheme (nameNo t)) (and_then o (λ bs. ends v.0 bs)) ≡ mapOption (mapScheme (nameNo t')) (and_then o' (λ bs. ends v'.0 bs))
@@ -90,7 +93,8 @@ module _ (t t' : Table) where
   one-scheme : (k k' n n' b b' c c' : ℕ) (rs rs' : List Rec) → k ≡ k' → b ≡ b' → c ≡ c' → wordIf (namesOne k b) t n ≡ wordIf (namesOne k' b') t' n'
       → Alike t t' rs rs'
       → Agree t t' (mapScheme (nameNo t)) (mapScheme (nameNo t')) (pick k (headTable n b c) rs) (pick k' (headTable n' b' c') rs')
-  one-scheme k k' n n' b b' c c' rs rs' ek eb ec w h = rw (← ek, ← eb, ← ec) ((pick-agree t t' _ _ k (headTable n b c) (headTable n' b c) (head_rows k b c n n' (rw (← ek, ← eb) at w))).agree rs rs' h)
+  one-scheme k k' n n' b b' c c' rs rs' ek eb ec w h = rw (← ek, ← eb, ← ec)
+      ((pick-agree t t' _ _ k (headTable n b c) (headTable n' b c) (head_rows k b c n n' (rw (← ek, ← eb) at w))).agree rs rs' h)
 
   whole-alike : (n m : ℕ) {o o' : Option (Scheme ℕ × List Rec)} → Cases t t' (mapScheme (nameNo t)) (mapScheme (nameNo t')) o o'
       → mapOption (mapScheme (nameNo t)) (whole n m o) ≡ mapOption (mapScheme (nameNo t')) (whole n m o')
@@ -115,4 +119,5 @@ module _ (t t' : Table) where
       let i : w ≡ w' = plain (ap (λ r. r.0) x) in
       rw (ap lengthIn i, same_length t t' rs rs' (tail e))
       (whole-alike (lengthIn w') (suc (length rs')) (cases t t' _ _ (pick (kindIn w) (headTable n b c) rs) (pick (kindIn w') (headTable n' b' c') rs')
-      (one-scheme (kindIn w) (kindIn w') n n' b b' c c' rs rs' (ap kindIn i) (plain (ap (λ r. r.2) x)) (plain (ap (λ r. r.3) x)) (ap (λ r. r.1) x) (tail e)).is))
+      (one-scheme (kindIn w) (kindIn w') n n' b b' c c' rs rs' (ap kindIn i) (plain (ap (λ r. r.2) x)) (plain (ap (λ r. r.3) x)) (ap (λ r. r.1) x)
+      (tail e)).is))

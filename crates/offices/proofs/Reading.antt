@@ -217,8 +217,10 @@ module _ (t t' : Table) where
         go (rec w a b c ∷ rs) (rec w' a' b' c' ∷ rs') e =
             let x = head e in
             let i : w ≡ w' = plain (ap (λ r. r.0) x) in
-            lasting-agree (lengthIn w) (lengthIn w') (suc (length rs)) (suc (length rs')) (f (kindIn w) a b c rs) (f (kindIn w') a' b' c' rs') (ap lengthIn i) (ap suc (same_length rs rs' (tail e)))
-            (one-record f s (kindIn w) (kindIn w') a a' b b' c c' rs rs' (ap kindIn i) (plain (ap (λ r. r.2) x)) (plain (ap (λ r. r.3) x)) (ap (λ r. r.1) x) (tail e))
+            lasting-agree (lengthIn w) (lengthIn w') (suc (length rs)) (suc (length rs')) (f (kindIn w) a b c rs) (f (kindIn w') a' b' c' rs')
+            (ap lengthIn i) (ap suc (same_length rs rs' (tail e)))
+            (one-record f s (kindIn w) (kindIn w') a a' b b' c c' rs rs' (ap kindIn i) (plain (ap (λ r. r.2) x)) (plain (ap (λ r. r.3) x))
+            (ap (λ r. r.1) x) (tail e))
 
   module _ {A B C D : Type 0} {g g' : A → B} {h h' : C → D} where
     pub then-agree : {m m' : Reader A} {k k' : A → Reader C} → Readers g g' m m' → ((a a' : A) → g a ≡ g' a' → Readers h h' (k a) (k' a'))
@@ -264,7 +266,8 @@ module _ (t t' : Table) where
 
     field-rows : (k a a' b c : ℕ) → SameWord k b a a' → Tables (mapField t) (mapField t') k (fieldTable ty a b c) (fieldTable ty a' b c)
     unfolding namesOne any
-    field-rows k a a' b c w = row _ _ (λ e. unused-agree _ _ (b ∷ c ∷ []) (then-agree reads (λ u u' i. give-agree _ _ (rw (name-at k b a a' 9 e refl w, i))))) end
+    field-rows k a a' b c w = row _ _ (λ e. unused-agree _ _ (b ∷ c ∷ [])
+        (then-agree reads (λ u u' i. give-agree _ _ (rw (name-at k b a a' 9 e refl w, i))))) end
 
     field-agree : Readers (mapField t) (mapField t') (next (fieldKinds ty)) (next (fieldKinds ty))
     field-agree = next_agree _ _ (fieldKinds ty) (λ k a a' b c w. pick-agree _ _ k (fieldTable ty a b c) (fieldTable ty a' b c) (field-rows k a a' b c w))
@@ -272,7 +275,8 @@ module _ (t t' : Table) where
     fields-agree : (n : ℕ) → Readers (mapFields (nameNo t)) (mapFields (nameNo t')) (readFields ty n) (readFields ty n)
     unfolding readFields mapTy
     fields-agree zero = give-agree _ _ refl
-    fields-agree (suc n) = then-agree field-agree (λ f f' i. then-agree (fields-agree n) (λ us us' l. give-agree _ _ (rw (ap (λ r. r.0) i, ap (λ r. r.1) i, l))))
+    fields-agree (suc n) = then-agree field-agree
+        (λ f f' i. then-agree (fields-agree n) (λ us us' l. give-agree _ _ (rw (ap (λ r. r.0) i, ap (λ r. r.1) i, l))))
 
     type-rows : (k a a' b c : ℕ) → SameWord k b a a' → Tables (mapTy (nameNo t)) (mapTy (nameNo t')) k (typeTable ty a b c) (typeTable ty a' b c)
     unfolding namesOne any mapTy
@@ -284,9 +288,11 @@ module _ (t t' : Table) where
         (row _ _ (λ e. rw (number_at k b a a' 4 e refl w) (unused-agree _ _ (a' ∷ b ∷ c ∷ []) (give-agree _ _ refl)))
         (row _ _ (λ e. rw (number_at k b a a' 5 e refl w) (unused-agree _ _ (a' ∷ b ∷ c ∷ []) (give-agree _ _ refl)))
         (row _ _ (λ e. rw (number_at k b a a' 6 e refl w) (unused-agree _ _ (a' ∷ b ∷ c ∷ []) (give-agree _ _ refl)))
-        (row _ _ (λ e. unused-agree _ _ (b ∷ c ∷ []) (rw (number_at k b a a' 7 e refl w) (then-agree (tys-agree a') (λ us us' i. then-agree reads (λ u u' j. give-agree _ _ (rw (i, j)))))))
+        (row _ _ (λ e. unused-agree _ _ (b ∷ c ∷ [])
+        (rw (number_at k b a a' 7 e refl w) (then-agree (tys-agree a') (λ us us' i. then-agree reads (λ u u' j. give-agree _ _ (rw (i, j)))))))
         (row _ _ (λ e. then-agree (tys-agree b) (λ us us' i. then-agree (fields-agree c) (λ fs fs' j. give-agree _ _ (rw (name-at k b a a' 8 e refl w, i, j)))))
-        (row _ _ (λ e. rw (number_at k b a a' 10 e refl w) (unused-agree _ _ (a' ∷ b ∷ c ∷ []) (then-agree reads (λ u u' i. give-agree _ _ (rw i))))) end)))))))))
+        (row _ _ (λ e. rw (number_at k b a a' 10 e refl w) (unused-agree _ _ (a' ∷ b ∷ c ∷ []) (then-agree reads (λ u u' i. give-agree _ _ (rw i)))))
+        end)))))))))
 
     types-agree : Readers (mapTy (nameNo t)) (mapTy (nameNo t')) (next (typeKinds ty)) (next (typeKinds ty))
     types-agree = next_agree _ _ (typeKinds ty) (λ k a a' b c w. pick-agree _ _ k (typeTable ty a b c) (typeTable ty a' b c) (type-rows k a a' b c w))
@@ -298,7 +304,8 @@ module _ (t t' : Table) where
 
   scalar-rows : (k a a' b c : ℕ) → SameWord k b a a' → Tables (mapCon (nameNo t)) (mapCon (nameNo t')) k (scalarTable a b c) (scalarTable a' b c)
   unfolding namesOne any mapCon
-  scalar-rows k a a' b c w = row _ _ (λ e. unused-agree _ _ (b ∷ c ∷ []) (rw (number_at k b a a' 3 e refl w) (then-agree (factors-agree a') (λ p p' i. give-agree _ _ (rw i))))) end
+  scalar-rows k a a' b c w = row _ _ (λ e. unused-agree _ _ (b ∷ c ∷ [])
+      (rw (number_at k b a a' 3 e refl w) (then-agree (factors-agree a') (λ p p' i. give-agree _ _ (rw i))))) end
 
   scalar-agree : Readers (mapCon (nameNo t)) (mapCon (nameNo t')) (next scalarKinds) (next scalarKinds)
   scalar-agree = next_agree _ _ scalarKinds (λ k a a' b c w. pick-agree _ _ k (scalarTable a b c) (scalarTable a' b c) (scalar-rows k a a' b c w))
@@ -306,14 +313,17 @@ module _ (t t' : Table) where
   con-rows : (k a a' b c : ℕ) → SameWord k b a a' → Tables (mapCon (nameNo t)) (mapCon (nameNo t')) k (conTable (readTy 64) a b c) (conTable (readTy 64) a' b c)
   unfolding namesOne any mapCon
   con-rows k a a' b c w =
-      row _ _ (λ e. rw (number_at k b a a' 20 e refl w) (unused-agree _ _ (a' ∷ b ∷ c ∷ []) (then-agree (ty-agree 64) (λ u u' i. then-agree (ty-agree 64) (λ v v' j. give-agree _ _ (rw (i, j)))))))
+      row _ _ (λ e. rw (number_at k b a a' 20 e refl w)
+      (unused-agree _ _ (a' ∷ b ∷ c ∷ []) (then-agree (ty-agree 64) (λ u u' i. then-agree (ty-agree 64) (λ v v' j. give-agree _ _ (rw (i, j)))))))
       (row _ _ (λ e. rw (number_at k b a a' 21 e refl w) (unused-agree _ _ (a' ∷ b ∷ c ∷ []) (then-agree (ty-agree 64) (λ u u' i. give-agree _ _ (rw i)))))
       (row _ _ (λ e. rw (number_at k b a a' 22 e refl w) (unused-agree _ _ (a' ∷ b ∷ c ∷ []) scalar-agree))
-      (row _ _ (λ e. unused-agree _ _ (b ∷ c ∷ []) (then-agree (ty-agree 64) (λ u u' i. then-agree (ty-agree 64) (λ v v' j. give-agree _ _ (rw (name-at k b a a' 23 e refl w, i, j)))))) end)))
+      (row _ _ (λ e. unused-agree _ _ (b ∷ c ∷ [])
+      (then-agree (ty-agree 64) (λ u u' i. then-agree (ty-agree 64) (λ v v' j. give-agree _ _ (rw (name-at k b a a' 23 e refl w, i, j)))))) end)))
 
   pub con-agree : Readers (mapCon (nameNo t)) (mapCon (nameNo t')) readCon readCon
   unfolding readCon
-  con-agree = next_agree _ _ (conKinds (readTy 64)) (λ k a a' b c w. pick-agree _ _ k (conTable (readTy 64) a b c) (conTable (readTy 64) a' b c) (con-rows k a a' b c w))
+  con-agree = next_agree _ _ (conKinds (readTy 64))
+      (λ k a a' b c w. pick-agree _ _ k (conTable (readTy 64) a b c) (conTable (readTy 64) a' b c) (con-rows k a a' b c w))
 
   binding-rows : (k a a' b c : ℕ) → SameWord k b a a' → Tables (mapBinding (nameNo t)) (mapBinding (nameNo t')) k (bindingTable a b c) (bindingTable a' b c)
   unfolding namesOne any mapBinding
@@ -343,7 +353,8 @@ module _ (t t' : Table) where
 
   pub bound-agree : Readers (mapOpen (nameNo t)) (mapOpen (nameNo t')) readBound readBound
   unfolding readBound
-  bound-agree = next_agree _ _ boundKinds (λ k a a' b c w. pick-agree _ _ k ((25, pick b (boundTable a c)) ∷ []) ((25, pick b (boundTable a' c)) ∷ []) (bound-rows k a a' b c w))
+  bound-agree = next_agree _ _ boundKinds
+      (λ k a a' b c w. pick-agree _ _ k ((25, pick b (boundTable a c)) ∷ []) ((25, pick b (boundTable a' c)) ∷ []) (bound-rows k a a' b c w))
 
   -- ══ Whole lists ══
 
@@ -378,7 +389,8 @@ module _ (t t' : Table) where
     all-agree (suc n) [] [] e = refl
     all-agree (suc n) [] (x ∷ rs) e = absurd (unlike e)
     all-agree (suc n) (x ∷ rs) [] e = absurd (unlike (sym e))
-    all-agree (suc n) (x ∷ rs) (y ∷ rs') e = rw (read_step n x rs, read_step n y rs') (go (cases g g' (r (x ∷ rs)) (r (y ∷ rs')) (reads.agree (x ∷ rs) (y ∷ rs') e).is) (all-agree n))
+    all-agree (suc n) (x ∷ rs) (y ∷ rs') e = rw (read_step n x rs, read_step n y rs')
+        (go (cases g g' (r (x ∷ rs)) (r (y ∷ rs')) (reads.agree (x ∷ rs) (y ∷ rs') e).is) (all-agree n))
       where
         go : {o o' : Option (A × List Rec)} → Cases g g' o o'
             → ((rs rs' : List Rec) → Alike rs rs' → mapOption (map g) (read_all r n rs) ≡ mapOption (map g') (read_all r n rs'))

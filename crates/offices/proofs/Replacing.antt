@@ -55,7 +55,8 @@ use Rattle.offices.proofs.Over.{Over, next, gives}
 use Rattle.offices.proofs.Products.{multiply-map, divide-map, raise-map, product-map, single-map}
 use Rattle.offices.proofs.Contents.{same_map}
 
-module _ {N M : Type 0} (ν : Names N) (μ : Names M) (f : N → M) (keeps : Keeps ν μ f) (l : Limits) (look : Look N) (look' : Look M) (looks : (o : Open N) → look' (mapOpen f o) ≡ mapOption (mapTy f) (look o)) where
+module _ {N M : Type 0} (ν : Names N) (μ : Names M) (f : N → M) (keeps : Keeps ν μ f) (l : Limits) (look : Look N) (look' : Look M)
+    (looks : (o : Open N) → look' (mapOpen f o) ≡ mapOption (mapTy f) (look o)) where
   factors-map : (p acc : Product N)
       → Over (map (mapFactor f)) (replaceFactors ν l look p acc) (replaceFactors μ l look' (map (mapFactor f) p) (map (mapFactor f) acc))
   unfolding replaceFactors
@@ -64,8 +65,10 @@ module _ {N M : Type 0} (ν : Names N) (μ : Names M) (f : N → M) (keeps : Kee
   factors-map (free o ↑ e ∷ p) acc = go (look o) refl (looks o) (factors-map p)
     where
       go : (t : Option (Ty N)) → look o ≡ t → look' (mapOpen f o) ≡ mapOption (mapTy f) (look o)
-          → ((acc : Product N) → Over (map (mapFactor f)) (replaceFactors ν l look p acc) (replaceFactors μ l look' (map (mapFactor f) p) (map (mapFactor f) acc)))
-          → Over (map (mapFactor f)) (replaceFactors ν l look (free o ↑ e ∷ p) acc) (replaceFactors μ l look' (map (mapFactor f) (free o ↑ e ∷ p)) (map (mapFactor f) acc))
+          → ((acc : Product N) → Over (map (mapFactor f)) (replaceFactors ν l look p acc)
+          (replaceFactors μ l look' (map (mapFactor f) p) (map (mapFactor f) acc)))
+          → Over (map (mapFactor f)) (replaceFactors ν l look (free o ↑ e ∷ p) acc)
+          (replaceFactors μ l look' (map (mapFactor f) (free o ↑ e ∷ p)) (map (mapFactor f) acc))
       go none q r h = rw (r, replaceFactors, q) (h acc)
       go (some t) q r h =
           rw (r, replaceFactors, q)

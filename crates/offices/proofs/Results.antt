@@ -37,7 +37,8 @@ back-append t (suc n) (k ∷ a ∷ b ∷ c ∷ xs) ys e = rw (back-append t n xs
 
 pub joined-alike : (t t' : Table) (n : ℕ) (xs xs' ys ys' : List ℕ) → length xs ≡ n * 4 → length xs' ≡ n * 4 → ReadAlike t t' xs xs'
     → ReadAlike t t' ys ys' → ReadAlike t t' (xs ++ ys) (xs' ++ ys')
-joined-alike t t' n xs xs' ys ys' h h' e f = record { words = back-append t n xs ys h ∙ ap₂ (λ (a b : List Word). a ++ b) e.words f.words ∙ sym (back-append t' n xs' ys' h') }
+joined-alike t t' n xs xs' ys ys' h h' e f =
+    record { words = back-append t n xs ys h ∙ ap₂ (λ (a b : List Word). a ++ b) e.words f.words ∙ sym (back-append t' n xs' ys' h') }
 
 -- words that are no whole record stay as they are
 pub rest-alike : (t t' : Table) (ws : List ℕ) → length ws < 4 → ReadAlike t t' ws ws

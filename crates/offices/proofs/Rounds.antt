@@ -94,13 +94,16 @@ module _ {N M : Type 0} (f : N → M) where
   abbrev pub mapTaken : Step N × List (Con N) → Step M × List (Con M)
   mapTaken v = (map_step v.0, map (mapCon f) v.1)
 
-  taken-map : (s : Step N) (c : Con N) (cs : List (Con N)) (more : Unit {0} → Got (Option (Step N × List (Con N)))) (more' : Unit {0} → Got (Option (Step M × List (Con M))))
-      → Over (mapOption mapTaken) (more tt) (more' tt) → Over (mapOption mapTaken) (taken s c cs more) (taken (map_step s) (mapCon f c) (map (mapCon f) cs) more')
+  taken-map : (s : Step N) (c : Con N) (cs : List (Con N)) (more : Unit {0} → Got (Option (Step N × List (Con N))))
+      (more' : Unit {0} → Got (Option (Step M × List (Con M))))
+      → Over (mapOption mapTaken) (more tt) (more' tt)
+      → Over (mapOption mapTaken) (taken s c cs more) (taken (map_step s) (mapCon f c) (map (mapCon f) cs) more')
   unfolding taken
   taken-map (bind x t) c cs more more' h = gives refl
   taken-map (split new) c cs more more' h = gives refl
   taken-map done c cs more more' h = gives refl
-  taken-map stuck c cs more more' h = next h (λ r r' i. rw i (gives (then_map mapTaken mapTaken r (λ v. some (v.0, c ∷ v.1)) (λ v. some (v.0, mapCon f c ∷ v.1)) (λ v. refl))))
+  taken-map stuck c cs more more' h = next h
+      (λ r r' i. rw i (gives (then_map mapTaken mapTaken r (λ v. some (v.0, c ∷ v.1)) (λ v. some (v.0, mapCon f c ∷ v.1)) (λ v. refl))))
 
   pub limited-map : (l : Limits) (s : State N) → Over (mapState f) (limited l s) (limited l (mapState f s))
   unfolding limited
@@ -116,13 +119,29 @@ module _ {N M : Type 0} (ν : Names N) (μ : Names M) (f : N → M) (keeps : Kee
   equal-records s t = rw (ty_same ν μ f keeps s t) (only-map (map_step f) (is_yes (ty-dec ν s t)) done)
 
   five : (a b c d e : Option (Step N))
-      → (mapOption (map_step f) a or_else mapOption (map_step f) b or_else mapOption (map_step f) c or_else mapOption (map_step f) d or_else mapOption (map_step f) e) ≡ mapOption (map_step f) (a or_else b or_else c or_else d or_else e)
-  five a b c d e = rw (or_map (map_step f) d e, or_map (map_step f) c (d or_else e), or_map (map_step f) b (c or_else d or_else e), or_map (map_step f) a (b or_else c or_else d or_else e))
+      → (mapOption (map_step f) a or_else mapOption (map_step f) b or_else mapOption (map_step f) c or_else mapOption (map_step f) d or_else
+      mapOption (map_step f) e) ≡ mapOption (map_step f) (a or_else b or_else c or_else d or_else e)
+  five a b c d e = rw (
+    or_map (map_step f) d e,
+    or_map (map_step f) c (d or_else e),
+    or_map (map_step f) b (c or_else d or_else e),
+    or_map (map_step f) a (b or_else c or_else d or_else e),
+  )
 
   first-rules : (s t : Ty N) → firstRules μ (mapTy f s) (mapTy f t) ≡ mapOption (map_step f) (firstRules ν s t)
   unfolding firstRules
   first-rules s t =
-      rw (equal-records s t, as-var f s, as-var f t, as-power f s, as-power f t, bind_to (asVar s) t, bind_to (asVar t) s, bind_to (asPower s) t, bind_to (asPower t) s)
+      rw (
+        equal-records s t,
+        as-var f s,
+        as-var f t,
+        as-power f s,
+        as-power f t,
+        bind_to (asVar s) t,
+        bind_to (asVar t) s,
+        bind_to (asPower s) t,
+        bind_to (asPower t) s,
+      )
       (five (only_if (is_yes (ty-dec ν s t)) done) (bindTo ν (asVar s) t) (bindTo ν (asVar t) s) (bindTo ν (asPower s) t) (bindTo ν (asPower t) s))
 
   structs-map : (n : N) (as' : Tys N) (o : Option (N × Tys N × Fields N))
@@ -170,7 +189,8 @@ module _ {N M : Type 0} (ν : Names N) (μ : Names M) (f : N → M) (keeps : Kee
   try-map (equal s t) = rw (first-rules ν μ f keeps s t) (or-try (firstRules ν s t) (by_kind ν l s t) (by_kind μ l (mapTy f s) (mapTy f t)) (by-kind s t))
   try-map (isDim t) = gives (rw (product-of f t) (dimension-parts f (productOf t)))
   try-map (is_scalar []) = gives refl
-  try-map (is_scalar (free (var x) ↑ k ∷ p)) = next (each_over (mapFactor f) (mapFactor f) (otherSide l k) (otherSide l k) (other-side f l k) p) (λ q q' i. gives (rw i))
+  try-map (is_scalar (free (var x) ↑ k ∷ p)) = next (each_over (mapFactor f) (mapFactor f) (otherSide l k) (otherSide l k) (other-side f l k) p)
+      (λ q q' i. gives (rw i))
   try-map (is_scalar (free (quant i) ↑ k ∷ p)) = gives refl
   try-map (is_scalar (free (par x) ↑ k ∷ p)) = gives refl
   try-map (is_scalar (base n ↑ k ∷ p)) = gives refl
@@ -193,8 +213,11 @@ module _ {N M : Type 0} (ν : Names N) (μ : Names M) (f : N → M) (keeps : Kee
       → Over (mapState f) (perform ν l bs s cs) (perform μ l (map (mapBinding f) bs) (map_step f s) (map (mapCon f) cs))
   unfolding perform
   perform-map bs (bind x t) cs =
-      next (each_over (mapCon f) (mapCon f) _ _ (con-map ν μ f keeps l (bindings ν (x ≔ t ∷ [])) (bindings μ (f x ≔ mapTy f t ∷ [])) (bound_map x t)) cs) (λ c c' i. rw i
-      (next (each_over (mapBinding f) (mapBinding f) _ _ (binding-map ν μ f keeps l (bindings ν (x ≔ t ∷ [])) (bindings μ (f x ≔ mapTy f t ∷ [])) (bound_map x t)) bs) (λ b b' j. rw (j, appended b x t)
+      next (each_over (mapCon f) (mapCon f) _ _ (con-map ν μ f keeps l (bindings ν (x ≔ t ∷ [])) (bindings μ (f x ≔ mapTy f t ∷ [])) (bound_map x t))
+      cs) (λ c c' i. rw i
+      (next (each_over (mapBinding f) (mapBinding f) _ _
+      (binding-map ν μ f keeps l (bindings ν (x ≔ t ∷ [])) (bindings μ (f x ≔ mapTy f t ∷ [])) (bound_map x t)) bs)
+      (λ b b' j. rw (j, appended b x t)
       (limited-map f l (record { cons = c; binds = b ++ (x ≔ t ∷ []) })))))
   perform-map bs (split new) cs = rw (← map-append (mapCon f) cs new) (limited-map f l (record { cons = cs ++ new; binds = bs }))
   perform-map bs done cs = limited-map f l (record { cons = cs; binds = bs })

@@ -128,8 +128,10 @@ module _ {N M : Type 0} (ν : Names N) (μ : Names M) (f : N → M) (keeps : Kee
   unfolding quantifyFrom
   from-map i [] t bs = gives refl
   from-map i (v ∷ vs) t bs =
-      next (ty-map ν μ f keeps l (renamed (quantifies ν i v)) (renamed (quantifies μ i (f v))) (renamed-map f (quantifies ν i v) (quantifies μ i (f v)) (quantifies-map ν μ f keeps i v)) t)
-      (λ u u' e. rw (e, bounds-map f (quantifies ν i v) (quantifies μ i (f v)) (quantifies-map ν μ f keeps i v) bs) (from-map (suc i) vs u (renamedBounds (quantifies ν i v) bs)))
+      next (ty-map ν μ f keeps l (renamed (quantifies ν i v)) (renamed (quantifies μ i (f v)))
+      (renamed-map f (quantifies ν i v) (quantifies μ i (f v)) (quantifies-map ν μ f keeps i v)) t)
+      (λ u u' e. rw (e, bounds-map f (quantifies ν i v) (quantifies μ i (f v)) (quantifies-map ν μ f keeps i v) bs)
+      (from-map (suc i) vs u (renamedBounds (quantifies ν i v) bs)))
 
   pub quantify-map : (vs : List N) (t : Ty N) (bs : List (Open N))
       → Over (mapScheme f) (quantify ν l vs t bs) (quantify μ l (map f vs) (mapTy f t) (map (mapOpen f) bs))
@@ -140,7 +142,13 @@ module _ {N M : Type 0} (ν : Names N) (μ : Names M) (f : N → M) (keeps : Kee
   unfolding generalise mapScheme
   generalise-map bs (scheme n t os) = gives refl
   generalise-map bs (concrete t) =
-      rw (opens-map f t, names_in f (opens t), sort-map ν μ f keeps (namesIn (opens t)), kept bs (sort ν (namesIn (opens t))), vars-map f (keep (λ b. among ν b (sort ν (namesIn (opens t)))) bs))
+      rw (
+        opens-map f t,
+        names_in f (opens t),
+        sort-map ν μ f keeps (namesIn (opens t)),
+        kept bs (sort ν (namesIn (opens t))),
+        vars-map f (keep (λ b. among ν b (sort ν (namesIn (opens t)))) bs),
+      )
       (quantify-map (sort ν (namesIn (opens t))) t (map var (keep (λ b. among ν b (sort ν (namesIn (opens t)))) bs)))
     where
       kept : (bs ns : List N) → keep (λ b. among μ b (map f ns)) (map f bs) ≡ map f (keep (λ b. among ν b ns) bs)
@@ -151,7 +159,8 @@ module _ {N M : Type 0} (ν : Names N) (μ : Names M) (f : N → M) (keeps : Kee
   unfolding put_back
   put-back vs t bs =
       next (ty-map ν μ f keeps l (renamed (back vs)) (renamed (back (map f vs))) (renamed-map f (back vs) (back (map f vs)) (back-map f vs)) t)
-      (λ u u' e. rw (e, plain_map f u true, bounds-map f (back vs) (back (map f vs)) (back-map f vs) bs) (limited-map f (mapOpened f) l 0 (plain u true) bs (plain u true, renamedBounds (back vs) bs)))
+      (λ u u' e. rw (e, plain_map f u true, bounds-map f (back vs) (back (map f vs)) (back-map f vs) bs)
+      (limited-map f (mapOpened f) l 0 (plain u true) bs (plain u true, renamedBounds (back vs) bs)))
 
   pub instantiate-map : (vs : List N) (s : Scheme N) → Over (mapOpened f) (instantiate ν l vs s) (instantiate μ l (map f vs) (mapScheme f s))
   unfolding instantiate mapScheme

@@ -49,7 +49,8 @@ module _ {pool table pool' table' : List ℕ} (good : Good pool table) (good' : 
 
   pub record Same (m m' : Got (Answer ℕ)) : Type 0 where
     pub answer : solvedOf m ≡ solvedOf m'
-    pub records : (b b' : List ℕ) → ReadAlike T₁ T₂ (frontSolved (solvedOf m) (resultAfter (solvedWords m) b)) (frontSolved (solvedOf m') (resultAfter (solvedWords m') b'))
+    pub records : (b b' : List ℕ) → ReadAlike T₁ T₂ (frontSolved (solvedOf m) (resultAfter (solvedWords m) b))
+        (frontSolved (solvedOf m') (resultAfter (solvedWords m') b'))
 
   same-answers : (a a' : Answer ℕ) → mapAnswer ν₁ a ≡ mapAnswer ν₂ a' → Same (got a) (got a')
   unfolding solvedOf solvedWords resultAfter mapAnswer
@@ -58,7 +59,8 @@ module _ {pool table pool' table' : List ℕ} (good : Good pool table) (good' : 
       let y : map ν₁ ns ≡ map ν₂ ns' = cc in
       let z : k ≡ k' = cc in
       record {
-        answer = solved-same (sym (size-bindings ν₁ bs) ∙ ap (sum_of sizeBinding) x ∙ size-bindings ν₂ bs') (sym (length-map ns ν₁) ∙ ap length y ∙ length-map ns' ν₂) z;
+        answer = solved-same (sym (size-bindings ν₁ bs) ∙ ap (sum_of sizeBinding) x ∙ size-bindings ν₂ bs')
+            (sym (length-map ns ν₁) ∙ ap length y ∙ length-map ns' ν₂) z;
         records = λ b b'. fronts T₁ T₂ _ _ _ _ b b' (answer-length bs ns) (answer-length bs' ns') (answer-written T₁ T₂ bs bs' ns ns' x y);
       }
     where

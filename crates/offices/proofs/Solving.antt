@@ -63,7 +63,8 @@ module _ {N M : Type 0} (ν : Names N) (μ : Names M) (f : N → M) (keeps : Kee
   pub run-map : (r k : ℕ) (s : State N) → run μ l r k (mapState f s) ≡ mapAnswer f (run ν l r k s)
   unfolding run mapAnswer
   run-map zero k s = refl
-  run-map (suc r) k s = rw (round-map ν μ f keeps l s).is (answered ν μ f keeps (round ν l s) k s (λ s'. run ν l r (suc k) s') (λ s'. run μ l r (suc k) s') (λ s'. run-map r (suc k) s'))
+  run-map (suc r) k s = rw (round-map ν μ f keeps l s).is
+      (answered ν μ f keeps (round ν l s) k s (λ s'. run ν l r (suc k) s') (λ s'. run μ l r (suc k) s') (λ s'. run-map r (suc k) s'))
 
   pub solve-map : (cs : List (Con N)) → solve μ l (map (mapCon f) cs) ≡ mapAnswer f (solve ν l cs)
   unfolding solve

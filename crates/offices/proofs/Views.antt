@@ -89,4 +89,5 @@ module _ {N M : Type 0} (f : N → M) where
   as-var t = rw (open_of t) (then_map (mapOpen f) f (openOf t) variable variable variable-of)
 
   pub as-power : (t : Ty N) → asPower (mapTy f t) ≡ mapOption f (asPower t)
-  as-power t = rw (product-of t, then_map (map (mapFactor f)) (mapOpen f) (productOf t) single single (single-map f)) (then_map (mapOpen f) f (and_then (productOf t) single) variable variable variable-of)
+  as-power t = rw (product-of t, then_map (map (mapFactor f)) (mapOpen f) (productOf t) single single (single-map f))
+      (then_map (mapOpen f) f (and_then (productOf t) single) variable variable variable-of)

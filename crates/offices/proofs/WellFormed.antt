@@ -27,7 +27,8 @@ module _ {N M : Type 0} (f : N → M) where
   field-names noFields = refl
   field-names (field n t fs) = rw (field-names fs)
 
-module _ {N M : Type 0} (ν : Names N) (μ : Names M) (f : N → M) (keeps : Keeps ν μ f) (held : N → Bool) (held' : M → Bool) (holds : (a : N) → held' (f a) ≡ held a) (q : ℕ) where
+module _ {N M : Type 0} (ν : Names N) (μ : Names M) (f : N → M) (keeps : Keeps ν μ f) (held : N → Bool) (held' : M → Bool)
+    (holds : (a : N) → held' (f a) ≡ held a) (q : ℕ) where
   pub good-open : (o : Open N) → goodOpen μ held' q (mapOpen f o) ≡ goodOpen ν held q o
   unfolding goodOpen
   good-open (var x) = holds x
@@ -41,7 +42,12 @@ module _ {N M : Type 0} (ν : Names N) (μ : Names M) (f : N → M) (keeps : Kee
 
   pub good-product : (p : Product N) → goodProduct μ held' q (map (mapFactor f) p) ≡ goodProduct ν held q p
   unfolding goodProduct
-  good-product p = rw (all_map (mapFactor f) (goodFactor ν held q) (goodFactor μ held' q) good-factor p, atoms-map f p, rising-map (mapAtom f) (orderAtom ν) (orderAtom μ) (order-atom ν μ f keeps) (map atomOf p), length-map)
+  good-product p = rw (
+    all_map (mapFactor f) (goodFactor ν held q) (goodFactor μ held' q) good-factor p,
+    atoms-map f p,
+    rising-map (mapAtom f) (orderAtom ν) (orderAtom μ) (order-atom ν μ f keeps) (map atomOf p),
+    length-map,
+  )
 
   mutual
     unfolding goodTy mapTy

@@ -190,7 +190,15 @@ module _ (t : Table) where
         rw (size-map (nameNo t) (fn ps r), first, map-append (seen t) (writeTys ps) (writeTy r), tys-seen ps, ty-seen r, count_map (nameNo t) ps)
     ty-seen (struct n as' fs) =
         let first = name-line 8 (size (struct n as' fs)) n (count as') (countFields fs) (omega arith) refl in
-        rw (size-map (nameNo t) (struct n as' fs), first, map-append (seen t) (writeTys as') (writeFields fs), tys-seen as', fields-seen fs, count_map (nameNo t) as', fields-counted (nameNo t) fs)
+        rw (
+          size-map (nameNo t) (struct n as' fs),
+          first,
+          map-append (seen t) (writeTys as') (writeFields fs),
+          tys-seen as',
+          fields-seen fs,
+          count_map (nameNo t) as',
+          fields-counted (nameNo t) fs,
+        )
     ty-seen (list u) = rw (size-map (nameNo t) (list u), number-line 10 (size (list u)) 0 0 0 (omega arith) refl, ty-seen u)
 
     tys-seen : (us : Tys ℕ) → map (seen t) (writeTys us) ≡ tysSeen (map_tys (nameNo t) us)
@@ -273,9 +281,12 @@ module _ (t t' : Table) where
 
   pub answer-written : (bs bs' : List (Binding ℕ)) (ns ns' : List ℕ) → map (mapBinding (nameNo t)) bs ≡ map (mapBinding (nameNo t')) bs'
       → map (nameNo t) ns ≡ map (nameNo t') ns'
-      → map (seen t) (collect writeBinding bs ++ map (λ n. writeBound (var n)) ns) ≡ map (seen t') (collect writeBinding bs' ++ map (λ n. writeBound (var n)) ns')
+      → map (seen t) (collect writeBinding bs ++ map (λ n. writeBound (var n)) ns)
+      ≡ map (seen t') (collect writeBinding bs' ++ map (λ n. writeBound (var n)) ns')
   answer-written bs bs' ns ns' e f = both t bs ns ∙ ap₂ (λ cs ms. collect bindingSeen cs ++ map (λ n. boundSeen (var n)) ms) e f ∙ sym (both t' bs' ns')
     where
       both : (t : Table) (bs : List (Binding ℕ)) (ns : List ℕ)
-          → map (seen t) (collect writeBinding bs ++ map (λ n. writeBound (var n)) ns) ≡ collect bindingSeen (map (mapBinding (nameNo t)) bs) ++ map (λ n. boundSeen (var n)) (map (nameNo t) ns)
-      both t bs ns = map-append (seen t) (collect writeBinding bs) (map (λ n. writeBound (var n)) ns) ∙ ap₂ (λ (a b : List Seen). a ++ b) (bindings-seen t bs) (names-seen t ns)
+          → map (seen t) (collect writeBinding bs ++ map (λ n. writeBound (var n)) ns) ≡ collect bindingSeen (map (mapBinding (nameNo t)) bs)
+          ++ map (λ n. boundSeen (var n)) (map (nameNo t) ns)
+      both t bs ns = map-append (seen t) (collect writeBinding bs) (map (λ n. writeBound (var n)) ns)
+          ∙ ap₂ (λ (a b : List Seen). a ++ b) (bindings-seen t bs) (names-seen t ns)

@@ -30,7 +30,8 @@ noted places y w = cond (eqb (get_or places y 0) 0) (set places y w) places
 
 -- whatever names there are: the table says what the bindings say
 abbrev pub Fills : List ℕ → ℕ → ℕ → List ℕ → Type 0
-Fills v b e places = (pool table : List ℕ) (bs : List (Binding ℕ)) → Good pool table → Listed pool table v b e bs → Lent pool table places v (bindings (names pool table) bs)
+Fills v b e places = (pool table : List ℕ) (bs : List (Binding ℕ)) → Good pool table → Listed pool table v b e bs
+    → Lent pool table places v (bindings (names pool table) bs)
 
 pub noted-first : (places places' : List ℕ) (y w : ℕ) → get_or places y 0 ≡ 0 → places' ≡ set places y w → places' ≡ noted places y w
 noted-first places places' y w z h = h ∙ sym (ap (λ (b : Bool). cond b (set places y w) places) (eq-eqb (get_or places y 0) 0 z))
@@ -61,7 +62,8 @@ module _ (v : List ℕ) where
     first = run-first v i e g.rest g.run lt
 
     -- the word of the first of what is left
-    here : (names : List Bytes) (x : ℕ) → x < 256 → x ≡ first.name → SoFar (get_or (noted places first.name (i + 2)) x 0) (find (numbered names) bs x) (find (numbered names) first.rest x)
+    here : (names : List Bytes) (x : ℕ) → x < 256 → x ≡ first.name
+        → SoFar (get_or (noted places first.name (i + 2)) x 0) (find (numbered names) bs x) (find (numbered names) first.rest x)
     here names x h q = go (eqb (get_or places first.name 0) 0) refl
       where
         y : ℕ
@@ -70,9 +72,11 @@ module _ (v : List ℕ) where
         s : SoFar (get_or places x 0) (find (numbered names) bs x) (find (numbered names) g.rest x)
         s = g.words names x h
 
-        go : (b : Bool) → eqb (get_or places y 0) 0 ≡ b → SoFar (get_or (cond b (set places y (i + 2)) places) x 0) (find (numbered names) bs x) (find (numbered names) first.rest x)
+        go : (b : Bool) → eqb (get_or places y 0) 0 ≡ b
+            → SoFar (get_or (cond b (set places y (i + 2)) places) x 0) (find (numbered names) bs x) (find (numbered names) first.rest x)
         go true z =
-            let k : get_or (set places y (i + 2)) x 0 ≡ i + 2 = ap (λ (j : ℕ). get_or (set places y (i + 2)) j 0) q ∙ get_or-set_same places y (i + 2) 0 (omega (arith, long, q)) in
+            let k : get_or (set places y (i + 2)) x 0 ≡ i + 2 = ap (λ (j : ℕ). get_or (set places y (i + 2)) j 0) q
+            ∙ get_or-set_same places y (i + 2) 0 (omega (arith, long, q)) in
             let was : get_or places x 0 ≡ 0 = ap (λ (j : ℕ). get_or places j 0) q ∙ eqb-true (get_or places y 0) 0 z in
             let f : find (numbered names) bs x ≡ some first.type = s.unset was ∙ find-here v names i e x g.rest first (eq-eqb x y q) in
             record { unset = λ o. absurd (omega (arith, k, o)); bound = λ n. rw f (record { at = i + 1; word = omega (arith, k); held = first.held }) }
@@ -81,7 +85,8 @@ module _ (v : List ℕ) where
             record { unset = λ o. absurd (was o); bound = s.bound }
 
     -- the word of another name
-    other : (names : List Bytes) (x : ℕ) → x < 256 → (x ≡ first.name → ⊥) → SoFar (get_or (noted places first.name (i + 2)) x 0) (find (numbered names) bs x) (find (numbered names) first.rest x)
+    other : (names : List Bytes) (x : ℕ) → x < 256 → (x ≡ first.name → ⊥)
+        → SoFar (get_or (noted places first.name (i + 2)) x 0) (find (numbered names) bs x) (find (numbered names) first.rest x)
     other names x h q = go (eqb (get_or places first.name 0) 0)
       where
         y : ℕ
@@ -94,14 +99,17 @@ module _ (v : List ℕ) where
         go true = subst (λ (w : ℕ). SoFar w (find (numbered names) bs x) (find (numbered names) first.rest x)) (sym (get_or-set_other places y x (i + 2) 0 q)) s
         go false = s
 
-    pub going_on : {q : ℕ} {places' : List ℕ} → ((y : ℕ) → viewAt v i ≡ view.Binding y → places' ≡ noted places y (i + 2)) → ((t : Ty ℕ) → Holds v t (i + 1) → q ≡ i + 1 + size t) → Going bs places' q e
+    pub going_on : {q : ℕ} {places' : List ℕ} → ((y : ℕ) → viewAt v i ≡ view.Binding y → places' ≡ noted places y (i + 2))
+        → ((t : Ty ℕ) → Holds v t (i + 1) → q ≡ i + 1 + size t) → Going bs places' q e
     going_on {q} {places'} n h = record {
       rest = first.rest;
       run = subst (λ (k : ℕ). Run v k e first.rest) (sym (h first.type first.held)) first.run;
-      words = λ names x k. subst (λ (l : List ℕ). SoFar (get_or l x 0) (find (numbered names) bs x) (find (numbered names) first.rest x)) (sym (n first.name first.shows)) (pick names x k (ℕ_discrete x first.name));
+      words = λ names x k. subst (λ (l : List ℕ). SoFar (get_or l x 0) (find (numbered names) bs x) (find (numbered names) first.rest x))
+          (sym (n first.name first.shows)) (pick names x k (ℕ_discrete x first.name));
     }
       where
-        pick : (names : List Bytes) (x : ℕ) → x < 256 → Dec (x ≡ first.name) → SoFar (get_or (noted places first.name (i + 2)) x 0) (find (numbered names) bs x) (find (numbered names) first.rest x)
+        pick : (names : List Bytes) (x : ℕ) → x < 256 → Dec (x ≡ first.name)
+            → SoFar (get_or (noted places first.name (i + 2)) x 0) (find (numbered names) bs x) (find (numbered names) first.rest x)
         pick names x k (yes p) = here names x k p
         pick names x k (no p) = other names x k p
 
@@ -110,7 +118,8 @@ module _ (v : List ℕ) where
         let p = h first.type first.held in
         (omega arith, omega (arith, run-order v (i + 1 + size first.type) e first.rest first.run))
 
-  pub going_end : {bs : List (Binding ℕ)} {places : List ℕ} {i e : ℕ} → Going bs places i e → e ≤ i → (names : List Bytes) (x : ℕ) → x < 256 → SaysAt v (get_or places x 0) (find (numbered names) bs x)
+  pub going_end : {bs : List (Binding ℕ)} {places : List ℕ} {i e : ℕ} → Going bs places i e → e ≤ i → (names : List Bytes) (x : ℕ) → x < 256
+      → SaysAt v (get_or places x 0) (find (numbered names) bs x)
   unfolding find
   going_end {bs} {places} {i} {e} g le names x h = go (ℕ_discrete (get_or places x 0) 0)
     where

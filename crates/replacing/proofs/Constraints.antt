@@ -52,13 +52,15 @@ module _ (pool table : List ℕ) (look : Look ℕ) where
   module _ {w w₁ : Writer} {start : ℕ} where
     -- two types behind a record
     two-here : {w₂ w₃ w₄ : Writer} (l r : Ty ℕ) (f : Ty ℕ → Ty ℕ → Con ℕ) (v : View)
-        → ((x y : Ty ℕ) → writeCon (f x y) ≡ recOf v (suc (size x + size y)) ∷ (writeTy x ++ writeTy y)) → Reserves w w₁ start → Leaves writeTy w₁ w₂ (Ok tt) (Ty' l)
+        → ((x y : Ty ℕ) → writeCon (f x y) ≡ recOf v (suc (size x + size y)) ∷ (writeTy x ++ writeTy y)) → Reserves w w₁ start
+        → Leaves writeTy w₁ w₂ (Ok tt) (Ty' l)
         → Leaves writeTy w₂ w₃ (Ok tt) (Ty' r) → Begins w₃ w₄ start v → Leaves writeCon w w₄ (Ok tt) (Ty' l >>= λ x. Ty' r >>= λ y. got (f x y))
     two-here {w₄ = w₄} l r f v h s p q b =
         on p (λ x i k. on q (λ y j l.
         leaves (f x y) (rw (i, j))
         (subst (λ (rs : List Rec). Writes w w₄ (cut rs)) (sym (h x y))
-        (headed v (writeTy x ++ writeTy y) (omega (arith, length-append (writeTy x) (writeTy y), size-ty x, size-ty y)) s (after (writeTy x) (writeTy y) k l) b))))
+        (headed v (writeTy x ++ writeTy y) (omega (arith, length-append (writeTy x) (writeTy y), size-ty x, size-ty y)) s
+        (after (writeTy x) (writeTy y) k l) b))))
 
     two-stop : {w₂ w₃ : Writer} (l r : Ty ℕ) {k : Refusal} (f : Ty ℕ → Ty ℕ → Con ℕ) → Reserves w w₁ start → Leaves writeTy w₁ w₂ (Ok tt) (Ty' l)
         → Leaves writeTy w₂ w₃ (Err k) (Ty' r) → Leaves writeCon w w₃ (Err k) (Ty' l >>= λ x. Ty' r >>= λ y. got (f x y))
@@ -82,19 +84,22 @@ module _ (pool table : List ℕ) (look : Look ℕ) where
     pub has-here : {w₂ w₃ w₄ : Writer} {x : ℕ} {l r : Ty ℕ} {c : Con ℕ} → hasField x l r ≡ c → Reserves w w₁ start → Leaves writeTy w₁ w₂ (Ok tt) (Ty' l)
         → Leaves writeTy w₂ w₃ (Ok tt) (Ty' r) → Begins w₃ w₄ start (view.HasField x) → Leaves writeCon w w₄ (Ok tt) (Con' c)
     unfolding replaceCon writeCon sizeCon
-    has-here {w₄ = w₄} {x} e s p q b = subst (λ (c : Con ℕ). Leaves writeCon w w₄ (Ok tt) (Con' c)) e (two-here _ _ (hasField x) (view.HasField x) (λ x y. refl) s p q b)
+    has-here {w₄ = w₄} {x} e s p q b = subst (λ (c : Con ℕ). Leaves writeCon w w₄ (Ok tt) (Con' c)) e
+        (two-here _ _ (hasField x) (view.HasField x) (λ x y. refl) s p q b)
 
     pub of-stop : {w₂ : Writer} {x : ℕ} {l r : Ty ℕ} {c : Con ℕ} {k : Refusal} → hasField x l r ≡ c → Reserves w w₁ start → Leaves writeTy w₁ w₂ (Err k) (Ty' l)
         → Leaves writeCon w w₂ (Err k) (Con' c)
     unfolding replaceCon
     of-stop {w₂} {k = k} e s p = subst (λ (c : Con ℕ). Leaves writeCon w w₂ (Err k) (Con' c)) e (halts _ s.same p)
 
-    pub asked-stop : {w₂ w₃ : Writer} {x : ℕ} {l r : Ty ℕ} {c : Con ℕ} {k : Refusal} → hasField x l r ≡ c → Reserves w w₁ start → Leaves writeTy w₁ w₂ (Ok tt) (Ty' l)
+    pub asked-stop : {w₂ w₃ : Writer} {x : ℕ} {l r : Ty ℕ} {c : Con ℕ} {k : Refusal} → hasField x l r ≡ c → Reserves w w₁ start
+        → Leaves writeTy w₁ w₂ (Ok tt) (Ty' l)
         → Leaves writeTy w₂ w₃ (Err k) (Ty' r) → Leaves writeCon w w₃ (Err k) (Con' c)
     unfolding replaceCon
     asked-stop {w₃ = w₃} {x} {k = k} e s p q = subst (λ (c : Con ℕ). Leaves writeCon w w₃ (Err k) (Con' c)) e (two-stop _ _ (hasField x) s p q)
 
-    pub is-here : {w₂ w₃ : Writer} {t : Ty ℕ} {c : Con ℕ} → isDim t ≡ c → Reserves w w₁ start → Leaves writeTy w₁ w₂ (Ok tt) (Ty' t) → Begins w₂ w₃ start view.IsDim
+    pub is-here : {w₂ w₃ : Writer} {t : Ty ℕ} {c : Con ℕ} → isDim t ≡ c → Reserves w w₁ start → Leaves writeTy w₁ w₂ (Ok tt) (Ty' t)
+        → Begins w₂ w₃ start view.IsDim
         → Leaves writeCon w w₃ (Ok tt) (Con' c)
     unfolding replaceCon writeCon sizeCon
     is-here {w₃ = w₃} e s p b =

@@ -14,11 +14,13 @@ use Rattle.replacing.proofs.Walks.{on, stopped, leaves, stops, after}
 
 module _ {A : Type 0} (write : A → List Rec) (f : A → Got A) (good : A → Type 0) where
   -- one, and then those that are left
-  leaves-more : {w w₁ w' : Writer} (a : A) (as' : List A) (r : Result (Unit {0}) Refusal) → Leaves write w w₁ (Ok tt) (f a) → Leaves (collect write) w₁ w' r (each f as') → Leaves (collect write) w w' r (each f (a ∷ as'))
+  leaves-more : {w w₁ w' : Writer} (a : A) (as' : List A) (r : Result (Unit {0}) Refusal) → Leaves write w w₁ (Ok tt) (f a)
+      → Leaves (collect write) w₁ w' r (each f as') → Leaves (collect write) w w' r (each f (a ∷ as'))
   unfolding each collect
   leaves-more {w} {w₁} {w'} a as' r p q = on p (λ b e h. go b e h r (each f as') refl q)
     where
-      go : (b : A) → f a ≡ got b → Writes w w₁ (cut (write b)) → (r : Result (Unit {0}) Refusal) (R : Got (List A)) → each f as' ≡ R → Leaves (collect write) w₁ w' r R → Leaves (collect write) w w' r (each f (a ∷ as'))
+      go : (b : A) → f a ≡ got b → Writes w w₁ (cut (write b)) → (r : Result (Unit {0}) Refusal) (R : Got (List A)) → each f as' ≡ R
+          → Leaves (collect write) w₁ w' r R → Leaves (collect write) w w' r (each f (a ∷ as'))
       go b e h (Ok u) (got bs) i q = leaves (b ∷ bs) (rw (e, i)) (after (write b) (collect write bs) h q.says)
       go b e h (Ok u) (refused k) i q = absurd q.says
       go b e h (Err x) (got bs) i q = absurd q.says

@@ -15,5 +15,6 @@ abbrev pub Tagged : List ℕ → View → Type 0
 Tagged ks v = OneOf ks (Declared.tag_of views.the_type v)
 
 -- so it isn't w, which has another
-pub untagged : (v : View) (ks : List ℕ) (n : ℕ) → T (not (has_key ks n)) → Tagged ks v → (w : View) → OneOf (n ∷ []) (Declared.tag_of views.the_type w) → v ≡ w → ⊥
+pub untagged : (v : View) (ks : List ℕ) (n : ℕ) → T (not (has_key ks n)) → Tagged ks v → (w : View)
+    → OneOf (n ∷ []) (Declared.tag_of views.the_type w) → v ≡ w → ⊥
 untagged v ks n m k w o e = miss ks n m (subst (OneOf ks) o (subst (Tagged ks) e k))

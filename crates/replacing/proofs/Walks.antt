@@ -56,10 +56,12 @@ module _ {A : Type 0} {ws : A → List Rec} {w w' : Writer} where
   told {R = R} e h = subst (λ (x : Result (Unit {0}) Refusal). Leaves ws w w' x R) e h
 
 -- a record before what is behind it
-pub headed : {w w₁ w₂ w₃ : Writer} {start n : ℕ} (v : View) (rs : List Rec) → n ≡ suc (length rs) → Reserves w w₁ start → Writes w₁ w₂ (cut rs) → Begins w₂ w₃ start v
+pub headed : {w w₁ w₂ w₃ : Writer} {start n : ℕ} (v : View) (rs : List Rec) → n ≡ suc (length rs) → Reserves w w₁ start → Writes w₁ w₂ (cut rs)
+    → Begins w₂ w₃ start v
     → Writes w w₃ (cut (recOf v n ∷ rs))
 headed {w} {w₃ = w₃} v rs e r p b =
-    let h : recOf v (fit (suc (length (cut rs)))) ≡ cutRec (recOf v _) = ap (λ (k : ℕ). recOf v (fit k)) (ap suc (cut-length rs) ∙ sym e) ∙ sym (cut-view v _) in
+    let h : recOf v (fit (suc (length (cut rs)))) ≡ cutRec (recOf v _) = ap (λ (k : ℕ). recOf v (fit k)) (ap suc (cut-length rs) ∙ sym e)
+    ∙ sym (cut-view v _) in
     subst (λ (x : Rec). Writes w w₃ (x ∷ cut rs)) h (part-writes v (cut rs) r p b)
 
 pub after : {w w₁ w₂ : Writer} (rs qs : List Rec) → Writes w w₁ (cut rs) → Writes w₁ w₂ (cut qs) → Writes w w₂ (cut (rs ++ qs))
@@ -81,7 +83,8 @@ pub short-writes : {w w' : Writer} {t u : Ty ℕ} → t ≡ u → size t ≤ 65_
 short-writes {w} {w'} {t} e n p = subst (λ (x : Ty ℕ). Writes w w' (cut (writeTy x))) e (subst (Writes w w') (sym (short-ty t n)) p)
 
 -- a walk that stopped stops what goes on from it
-pub halts : {A B : Type 0} {ws : A → List Rec} {ws' : B → List Rec} {w w₁ w₂ : Writer} {k : Refusal} {R : Got A} (f : A → Got B) → w₁.words.ghost_name ≡ w.words.ghost_name
+pub halts : {A B : Type 0} {ws : A → List Rec} {ws' : B → List Rec} {w w₁ w₂ : Writer} {k : Refusal} {R : Got A} (f : A → Got B)
+    → w₁.words.ghost_name ≡ w.words.ghost_name
     → Leaves ws w₁ w₂ (Err k) R → Leaves ws' w w₂ (Err k) (R >>= f)
 halts f s p = stops (rw (stopped p)) (p.same ∙ s)
 
@@ -124,7 +127,8 @@ module _ (pool table : List ℕ) where
   unfolding goodTy
   fn-good ps t e h = both (goodTys _ _ _ ps) (goodTy _ _ _ t) (subst (GoodTy pool table) (sym e) h)
 
-  pub struct-good : (n : ℕ) (ts : Tys ℕ) (fs : Fields ℕ) {u : Ty ℕ} → struct n ts fs ≡ u → GoodTy pool table u → GoodTys pool table ts × GoodFields pool table fs
+  pub struct-good : (n : ℕ) (ts : Tys ℕ) (fs : Fields ℕ) {u : Ty ℕ} → struct n ts fs ≡ u → GoodTy pool table u → GoodTys pool table ts
+      × GoodFields pool table fs
   unfolding goodTy
   struct-good n ts fs e h =
       let a = both _ (rising (well.names pool table).order (fieldNames fs)) (subst (GoodTy pool table) (sym e) h) in
@@ -143,7 +147,8 @@ module _ (pool table : List ℕ) where
   unfolding goodTy
   cons-good t ts e h = both (goodTy _ _ _ t) (goodTys _ _ _ ts) (subst (GoodTys pool table) (sym e) h)
 
-  pub field-good : (n : ℕ) (t : Ty ℕ) (fs : Fields ℕ) {gs : Fields ℕ} → field n t fs ≡ gs → GoodFields pool table gs → GoodTy pool table t × GoodFields pool table fs
+  pub field-good : (n : ℕ) (t : Ty ℕ) (fs : Fields ℕ) {gs : Fields ℕ} → field n t fs ≡ gs → GoodFields pool table gs → GoodTy pool table t
+      × GoodFields pool table fs
   unfolding goodTy
   field-good n t fs e h =
       let a = both _ (goodFields _ _ _ fs) (subst (GoodFields pool table) (sym e) h) in
@@ -169,7 +174,8 @@ module _ (look : Look ℕ) (o : tree.Open ℕ) where
 pub open-kept : (look : Look ℕ) (o : names.Open) {w w' : Writer} → none ≡ look (openOf o) → Writes w w' (recOf (view.Opened o) (fit 1) ∷ [])
     → Writes w w' (writeTy (becomes look (openOf o)))
 open-kept look o {w} {w'} e p =
-    subst (Writes w w') (ap (λ (k : ℕ). recOf (view.Opened o) k ∷ []) (fits 1 (omega arith)) ∙ open-rec o ∙ ap (λ (m : Option (Ty ℕ)). writeTy (get_or m (opened (openOf o)))) e) p
+    subst (Writes w w') (ap (λ (k : ℕ). recOf (view.Opened o) k ∷ []) (fits 1 (omega arith)) ∙ open-rec o
+    ∙ ap (λ (m : Option (Ty ℕ)). writeTy (get_or m (opened (openOf o)))) e) p
 
 -- ══ Arm by arm ══
 
@@ -194,7 +200,8 @@ module _ (pool table : List ℕ) (look : Look ℕ) where
   fields-count (field n t fs) = next (its_own (Ty' t)) (λ q i. next (fields-count fs) (λ gs j. gives (ap suc j)))
 
   module _ {w : Writer} where
-    pub open-here : {w' : Writer} {o : tree.Open ℕ} {t : Ty ℕ} → opened o ≡ t → size (becomes look o) ≤ 65_535 → Writes w w' (writeTy (becomes look o)) → Leaves writeTy w w' (Ok tt) (Ty' t)
+    pub open-here : {w' : Writer} {o : tree.Open ℕ} {t : Ty ℕ} → opened o ≡ t → size (becomes look o) ≤ 65_535
+        → Writes w w' (writeTy (becomes look o)) → Leaves writeTy w w' (Ok tt) (Ty' t)
     unfolding replaceTy
     open-here {w'} {o} e n p = subst (λ (u : Ty ℕ). Leaves writeTy w w' (Ok tt) (Ty' u)) e (leaves (becomes look o) refl (short-writes refl n p))
 
@@ -202,7 +209,8 @@ module _ (pool table : List ℕ) (look : Look ℕ) where
     unfolding replaceTy size
     basic-here {b = b} {t} e p = leaves t (subst (λ (u : Ty ℕ). Ty' u ≡ got u) e refl) (short-writes refl (omega (arith, ap size e)) p)
 
-    pub list-here : {w₁ w₂ w₃ : Writer} {start : ℕ} {t u : Ty ℕ} → list t ≡ u → Reserves w w₁ start → Leaves writeTy w₁ w₂ (Ok tt) (Ty' t) → Begins w₂ w₃ start view.List
+    pub list-here : {w₁ w₂ w₃ : Writer} {start : ℕ} {t u : Ty ℕ} → list t ≡ u → Reserves w w₁ start → Leaves writeTy w₁ w₂ (Ok tt) (Ty' t)
+        → Begins w₂ w₃ start view.List
         → Leaves writeTy w w₃ (Ok tt) (Ty' u)
     unfolding replaceTy writeTy size
     list-here {w₃ = w₃} e r p b =
@@ -226,12 +234,14 @@ module _ (pool table : List ℕ) (look : Look ℕ) where
         (headed (view.Function (count qs)) (writeTys qs ++ writeTy v) (omega (arith, length-append (writeTys qs) (writeTy v), size-tys qs, size-ty v)) r
         (after (writeTys qs) (writeTy v) k l) (rw d at b)))))
 
-    pub function-stop : {w₁ w₂ : Writer} {start : ℕ} {ps : Tys ℕ} {t u : Ty ℕ} {k : Refusal} → fn ps t ≡ u → Reserves w w₁ start → Leaves writeTys w₁ w₂ (Err k) (Tys' ps)
+    pub function-stop : {w₁ w₂ : Writer} {start : ℕ} {ps : Tys ℕ} {t u : Ty ℕ} {k : Refusal} → fn ps t ≡ u → Reserves w w₁ start
+        → Leaves writeTys w₁ w₂ (Err k) (Tys' ps)
         → Leaves writeTy w w₂ (Err k) (Ty' u)
     unfolding replaceTy
     function-stop {w₂ = w₂} {k = k} e r p = subst (λ (u : Ty ℕ). Leaves writeTy w w₂ (Err k) (Ty' u)) e (stops (rw (stopped p)) (p.same ∙ r.same))
 
-    pub return-stop : {w₁ w₂ w₃ : Writer} {start : ℕ} {ps : Tys ℕ} {t u : Ty ℕ} {k : Refusal} → fn ps t ≡ u → Reserves w w₁ start → Leaves writeTys w₁ w₂ (Ok tt) (Tys' ps)
+    pub return-stop : {w₁ w₂ w₃ : Writer} {start : ℕ} {ps : Tys ℕ} {t u : Ty ℕ} {k : Refusal} → fn ps t ≡ u → Reserves w w₁ start
+        → Leaves writeTys w₁ w₂ (Ok tt) (Tys' ps)
         → Leaves writeTy w₂ w₃ (Err k) (Ty' t) → Leaves writeTy w w₃ (Err k) (Ty' u)
     unfolding replaceTy
     return-stop {w₃ = w₃} {k = k} e r p q =
@@ -248,7 +258,8 @@ module _ (pool table : List ℕ) (look : Look ℕ) where
         let d₂ = sym ((fields-count fs).holds gs j ∙ c₂) in
         leaves (struct x us gs) (rw (i, j))
         (headed (view.Struct x (count us) (countFields gs)) (writeTys us ++ writeFields gs)
-        (omega (arith, length-append (writeTys us) (writeFields gs), size-tys us, size-fields gs)) r (after (writeTys us) (writeFields gs) k l) (rw (d, d₂) at b)))))
+        (omega (arith, length-append (writeTys us) (writeFields gs), size-tys us, size-fields gs)) r (after (writeTys us) (writeFields gs) k l)
+        (rw (d, d₂) at b)))))
 
     pub struct-stop : {w₁ w₂ : Writer} {start x : ℕ} {ts : Tys ℕ} {fs : Fields ℕ} {u : Ty ℕ} {k : Refusal} → struct x ts fs ≡ u → Reserves w w₁ start
         → Leaves writeTys w₁ w₂ (Err k) (Tys' ts) → Leaves writeTy w w₂ (Err k) (Ty' u)
@@ -273,7 +284,8 @@ module _ (pool table : List ℕ) (look : Look ℕ) where
     some-here {w₂ = w₂} {r} e p q =
         subst (λ (us : Tys ℕ). Leaves writeTys w w₂ r (Tys' us)) e (on p (λ v i k. rw i (behind (cons v) (writeTy v) (λ us. refl) k q)))
 
-    pub first-stop : {w₁ : Writer} {k : Refusal} {t : Ty ℕ} {ts us : Tys ℕ} → cons t ts ≡ us → Leaves writeTy w w₁ (Err k) (Ty' t) → Leaves writeTys w w₁ (Err k) (Tys' us)
+    pub first-stop : {w₁ : Writer} {k : Refusal} {t : Ty ℕ} {ts us : Tys ℕ} → cons t ts ≡ us → Leaves writeTy w w₁ (Err k) (Ty' t)
+        → Leaves writeTys w w₁ (Err k) (Tys' us)
     unfolding replaceTy
     first-stop {w₁} {k} e p = subst (λ (us : Tys ℕ). Leaves writeTys w w₁ (Err k) (Tys' us)) e (stops (rw (stopped p)) p.same)
 
@@ -281,15 +293,19 @@ module _ (pool table : List ℕ) (look : Look ℕ) where
     unfolding replaceTy writeTy
     no-fields e = subst (λ (gs : Fields ℕ). Leaves writeFields w w (Ok tt) (Fields' gs)) e (leaves noFields refl (writes-none w))
 
-    pub field-here : {w₁ w₂ w₃ w₄ : Writer} {start x : ℕ} {r : Result (Unit {0}) Refusal} {t : Ty ℕ} {fs gs : Fields ℕ} → field x t fs ≡ gs → Reserves w w₁ start
-        → Leaves writeTy w₁ w₂ (Ok tt) (Ty' t) → Begins w₂ w₃ start (view.Field x) → Leaves writeFields w₃ w₄ r (Fields' fs) → Leaves writeFields w w₄ r (Fields' gs)
+    pub field-here : {w₁ w₂ w₃ w₄ : Writer} {start x : ℕ} {r : Result (Unit {0}) Refusal} {t : Ty ℕ} {fs gs : Fields ℕ} → field x t fs ≡ gs
+        → Reserves w w₁ start
+        → Leaves writeTy w₁ w₂ (Ok tt) (Ty' t) → Begins w₂ w₃ start (view.Field x) → Leaves writeFields w₃ w₄ r (Fields' fs)
+        → Leaves writeFields w w₄ r (Fields' gs)
     unfolding replaceTy writeTy
     field-here {w₄ = w₄} {x = x} {r} e s p b q =
         subst (λ (gs : Fields ℕ). Leaves writeFields w w₄ r (Fields' gs)) e
         (on p (λ v i k.
-        rw i (behind (field x v) (recOf (view.Field x) (suc (size v)) ∷ writeTy v) (λ gs. refl) (headed (view.Field x) (writeTy v) (omega (arith, size-ty v)) s k b) q)))
+        rw i (behind (field x v) (recOf (view.Field x) (suc (size v)) ∷ writeTy v) (λ gs. refl)
+        (headed (view.Field x) (writeTy v) (omega (arith, size-ty v)) s k b) q)))
 
-    pub field-stop : {w₁ w₂ : Writer} {start x : ℕ} {k : Refusal} {t : Ty ℕ} {fs gs : Fields ℕ} → field x t fs ≡ gs → Reserves w w₁ start → Leaves writeTy w₁ w₂ (Err k) (Ty' t)
+    pub field-stop : {w₁ w₂ : Writer} {start x : ℕ} {k : Refusal} {t : Ty ℕ} {fs gs : Fields ℕ} → field x t fs ≡ gs → Reserves w w₁ start
+        → Leaves writeTy w₁ w₂ (Err k) (Ty' t)
         → Leaves writeFields w w₂ (Err k) (Fields' gs)
     unfolding replaceTy
     field-stop {w₂ = w₂} {k = k} e s p = subst (λ (gs : Fields ℕ). Leaves writeFields w w₂ (Err k) (Fields' gs)) e (stops (rw (stopped p)) (p.same ∙ s.same))

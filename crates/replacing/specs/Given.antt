@@ -52,10 +52,13 @@ module _ (pool table s : List ℕ) (w : Words32 s) where
   pub given-bindings : (bs : List (Binding ℕ)) → length s ≤ 8192 → bindingsGiven (table_of pool table) s ≡ got bs → Listed pool table s 0 (length s / 4) bs
   given-bindings bs le h =
       let r = row s HoldsBinding sizeBinding (goodBinding (names pool table) (is_held (table_of pool table)) 4_294_967_296) (records.GoodBinding pool table 0 s)
-      (λ at a e g. (g.held, g.past, binding-weaker (names pool table) (is_held (table_of pool table)) 0 4_294_967_296 weak a g.good)) (length s / 4) 0 bs (bindings-is pool table s w bs h) in
+      (λ at a e g. (g.held, g.past, binding-weaker (names pool table) (is_held (table_of pool table)) 0 4_294_967_296 weak a g.good)) (length s / 4)
+      0 bs (bindings-is pool table s w bs h) in
       record { run = record { held = r.held; past = r.ends }; good = r.right; short = omega arith; near = omega arith }
 
-  pub given-cons : (cs : List (Con ℕ)) → setGiven (table_of pool table) s ≡ got cs → IsCons s 0 (length s / 4) cs × (all (records.goodCon pool table 0) cs ≡ true)
+  pub given-cons : (cs : List (Con ℕ)) → setGiven (table_of pool table) s ≡ got cs → IsCons s 0 (length s / 4) cs
+      × (all (records.goodCon pool table 0) cs ≡ true)
   given-cons cs h =
-      let r = row s HoldsCon sizeCon (records.goodCon pool table 0) (records.GoodCon pool table 0 s) (λ at a e g. (g.held, g.past, g.good)) (length s / 4) 0 cs (set_is pool table s w cs h) in
+      let r = row s HoldsCon sizeCon (records.goodCon pool table 0) (records.GoodCon pool table 0 s) (λ at a e g. (g.held, g.past, g.good))
+      (length s / 4) 0 cs (set_is pool table s w cs h) in
       (record { held = cons-all s cs 0 r.held; ends = r.ends }, r.right)

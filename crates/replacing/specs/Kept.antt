@@ -35,7 +35,8 @@ module _ (pool table : List ℕ) where
 
   -- what is made of them
   module _ (look : Look ℕ) (good : (o : Open ℕ) (t : Ty ℕ) → look o ≡ some t → goodTy (numbers pool table) (holding pool table) 0 t ≡ true) where
-    pub cons-kept : (cs : List (Con ℕ)) → all (goodCon pool table 0) cs ≡ true → Gives (each (replaceCon (numbers pool table) bounded look) cs) (λ ds. all (goodCon pool table 0) ds ≡ true)
+    pub cons-kept : (cs : List (Con ℕ)) → all (goodCon pool table 0) cs ≡ true
+        → Gives (each (replaceCon (numbers pool table) bounded look) cs) (λ ds. all (goodCon pool table 0) ds ≡ true)
     unfolding each all
     cons-kept [] g = gives refl
     cons-kept (c ∷ cs) g =

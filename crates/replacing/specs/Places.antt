@@ -43,7 +43,9 @@ module _ (v : List ℕ) (w : ℕ) where
   says_some none h n = absurd (n h)
   says_some (some t) h n = let e : h.at ≡ w - 1 = omega (arith, h.word) in (t, (refl, subst (Holds v t) e h.held))
 
-  pub says_at : (m : Option (Ty ℕ)) (e : ℕ) → SaysAt v w m → (w ≡ 0 → ⊥) → ((t : Ty ℕ) → Holds v t (w - 1) → e ≡ w - 1 + size t) → LookedUp v m (Some (w - 1, e))
+  pub says_at : (m : Option (Ty ℕ)) (e : ℕ) → SaysAt v w m → (w ≡ 0 → ⊥) → ((t : Ty ℕ) → Holds v t (w - 1) → e ≡ w - 1 + size t)
+      → LookedUp v m (Some (w - 1, e))
   says_at m e h n k =
       let (t, (q, held)) = says_some m h n in
-      subst (λ (o : Option (Ty ℕ)). LookedUp v o (Some (w - 1, e))) (sym q) (record { place = w - 1; is = ap (λ (j : ℕ). Some (w - 1, j)) (k t held); held = held })
+      subst (λ (o : Option (Ty ℕ)). LookedUp v o (Some (w - 1, e))) (sym q)
+      (record { place = w - 1; is = ap (λ (j : ℕ). Some (w - 1, j)) (k t held); held = held })

@@ -65,7 +65,8 @@ found {v} (some t) {r} {i} {j} h e =
 
 pub not_found : (v : List ℕ) (o : Option (Ty ℕ)) {r : Found} → LookedUp v o r → r ≡ None → o ≡ none
 not_found v none h e = refl
-not_found v (some t) h e = absurd (let q : ◌≡◌ {A = Found} (Some (h.place, h.place + size t)) None = sym h.is ∙ e in let z : ◌≡◌ {A = ℕ} 0 1 = cc in omega arith)
+not_found v (some t) h e = absurd (let q : ◌≡◌ {A = Found} (Some (h.place, h.place + size t)) None = sym h.is ∙ e in let z : ◌≡◌ {A = ℕ} 0 1 = cc
+    in omega arith)
 
 module _ (v : List ℕ) where
   -- the first binding of a run that isn't empty
@@ -155,7 +156,8 @@ module _ (ν : Names ℕ) (known : ℕ → Bool) (q : ℕ) where
           subst (λ (v : Ty ℕ). goodTy ν known q v ≡ true) k ((and-eq-true_iff (known y) (goodTy ν known q u)).0 r.0).1
       go false i ih = let z : find ν bs x ≡ some t = rw (find, i) at e in ih z
 
-  pub looked-good : (bs : List (Binding ℕ)) (o : Open ℕ) (t : Ty ℕ) → all (goodBinding ν known q) bs ≡ true → bindings ν bs o ≡ some t → goodTy ν known q t ≡ true
+  pub looked-good : (bs : List (Binding ℕ)) (o : Open ℕ) (t : Ty ℕ) → all (goodBinding ν known q) bs ≡ true → bindings ν bs o ≡ some t
+      → goodTy ν known q t ≡ true
   unfolding bindings
   looked-good bs (var x) t g e = found-good bs x t g e
   looked-good bs (quant i) t g e = absurd (let z : ◌≡◌ {A = ℕ} 0 1 = cc in omega arith)

@@ -33,7 +33,9 @@ module _ {A B : Type 0} (f : A → B → Got (Unit {0})) where
   last (refused n) p = refl
 
   -- each list alone, then what is asked of both
-  apart-then : (l s s' k : Got (Unit {0})) (m : Got A) (b : Got B) (u : Got (Unit {0})) → l ≡ got tt → s' ≡ got tt → ((a : A) (c : B) → m ≡ got a → b ≡ got c → u ≡ f a c) → (l >> s >> k >> m >> got (tt {0}) >> (l >> s' >> k >> b >> got (tt {0}) >> u)) ≡ (row s k m b >> got (tt {0}))
+  apart-then : (l s s' k : Got (Unit {0})) (m : Got A) (b : Got B) (u : Got (Unit {0})) → l ≡ got tt → s' ≡ got tt
+      → ((a : A) (c : B) → m ≡ got a → b ≡ got c → u ≡ f a c)
+      → (l >> s >> k >> m >> got (tt {0}) >> (l >> s' >> k >> b >> got (tt {0}) >> u)) ≡ (row s k m b >> got (tt {0}))
   apart-then (refused i) s s' k m b u e e' h = clash e
   apart-then (got x) (refused i) s' k m b u e e' h = refl
   apart-then (got x) (got y) s' (refused i) m b u e e' h = refl
@@ -98,7 +100,8 @@ module _ (pool table ws : List ℕ) where
 module _ (pool table ws binds : List ℕ) where
   -- the bindings are well formed, and no name of either list is of both kinds
   abbrev pub withBindings : Got (Unit {0}) → Got (Unit {0})
-  withBindings first = first >> (bindingsCall pool table binds >> need (unmixed (numbers pool table) (opensIn ws 0 (length ws / 4) ++ opensIn binds 0 (length binds / 4))) 4)
+  withBindings first = first >> (bindingsCall pool table binds
+      >> need (unmixed (numbers pool table) (opensIn ws 0 (length ws / 4) ++ opensIn binds 0 (length binds / 4))) 4)
 
   binds-small : Words32 binds → bindingsCall pool table binds ≡ got tt → Small (opensIn binds 0 (length binds / 4))
   unfolding bindingsCall
@@ -107,13 +110,15 @@ module _ (pool table ws binds : List ℕ) where
       bindings-small pool table 0 binds bs 0 (length binds / 4) (bindings-is pool table binds v bs g) (good-laid (entry-good pool table binds a)).few
 
   -- what the check of 4 asks
-  pub both_small : Small (opensIn ws 0 (length ws / 4)) → Words32 binds → bindingsCall pool table binds ≡ got tt → Small (opensIn ws 0 (length ws / 4) ++ opensIn binds 0 (length binds / 4))
+  pub both_small : Small (opensIn ws 0 (length ws / 4)) → Words32 binds → bindingsCall pool table binds ≡ got tt
+      → Small (opensIn ws 0 (length ws / 4) ++ opensIn binds 0 (length binds / 4))
   both_small s v e = every_append _ (opensIn ws 0 (length ws / 4)) (opensIn binds 0 (length binds / 4)) s (binds-small v e)
 
   module _ {A : Type 0} (m : Got A) (os : A → List (Open ℕ)) where
     -- all of the checks, and what they give
     unfoldable pub entered : Got (A × List (Binding ℕ))
-    entered = row (λ a bs. apart (table_of pool table) (os a ++ collect opensBinding bs)) (shortLists (ws ∷ binds ∷ [])) (tableKept (table_of pool table)) m (bindingsGiven (table_of pool table) binds)
+    entered = row (λ a bs. apart (table_of pool table) (os a ++ collect opensBinding bs)) (shortLists (ws ∷ binds ∷ []))
+        (tableKept (table_of pool table)) m (bindingsGiven (table_of pool table) binds)
 
     pub binds-long : 8192 < length binds → entered ≡ refused 8
     unfolding entered shortLists all
@@ -128,10 +133,12 @@ module _ (pool table ws binds : List ℕ) where
     unfolding shortLists all
     short-binds h = rw (le-leb (length binds) 8192 h)
 
-    pub checked : length binds ≤ 8192 → lentTable pool table ≡ got tt → Words32 binds → ((a : A) → m ≡ got a → opensIn ws 0 (length ws / 4) ≡ os a) → withBindings (aloneGiven pool table ws >> m >> got tt) ≡ (entered >> got (tt {0}))
+    pub checked : length binds ≤ 8192 → lentTable pool table ≡ got tt → Words32 binds → ((a : A) → m ≡ got a → opensIn ws 0 (length ws / 4) ≡ os a)
+        → withBindings (aloneGiven pool table ws >> m >> got tt) ≡ (entered >> got (tt {0}))
     unfolding entered aloneGiven bindingsCall apart
     checked h l v opened = rw (short-alone h)
-        (apart-then (λ a bs. apart (table_of pool table) (os a ++ collect opensBinding bs)) (lentTable pool table) (shortLists (ws ∷ [])) (shortLists (binds ∷ [])) (tableKept (table_of pool table)) m (bindingsGiven (table_of pool table) binds) _ l (short-binds h)
+        (apart-then (λ a bs. apart (table_of pool table) (os a ++ collect opensBinding bs)) (lentTable pool table) (shortLists (ws ∷ []))
+        (shortLists (binds ∷ [])) (tableKept (table_of pool table)) m (bindingsGiven (table_of pool table) binds) _ l (short-binds h)
         (λ a bs e g. rw (opened a e, bindings-opens pool table 0 binds bs 0 (length binds / 4) (bindings-is pool table binds v bs g))))
 
   -- what was given, and what is known of it
@@ -155,10 +162,12 @@ module _ (pool table ws binds : List ℕ) where
     unfolding lentTable
     lent-long l = need-passed (leb 8192 (length pool) && leb 257 (length table)) 10 l
 
-    pub came-in : (os : A → List (Open ℕ)) → lentTable pool table ≡ got tt → (entered m os >> got (tt {0})) ≡ got tt → (a : A) × ((bs : List (Binding ℕ)) × ((entered m os ≡ got (a, bs)) × Entered a bs))
+    pub came-in : (os : A → List (Open ℕ)) → lentTable pool table ≡ got tt → (entered m os >> got (tt {0})) ≡ got tt → (a : A)
+        × ((bs : List (Binding ℕ)) × ((entered m os ≡ got (a, bs)) × Entered a bs))
     unfolding entered
     came-in os l e =
-        let p = met (λ a bs. apart (table_of pool table) (os a ++ collect opensBinding bs)) (shortLists (ws ∷ binds ∷ [])) (tableKept (table_of pool table)) m (bindingsGiven (table_of pool table) binds) e in
+        let p = met (λ a bs. apart (table_of pool table) (os a ++ collect opensBinding bs)) (shortLists (ws ∷ binds ∷ []))
+        (tableKept (table_of pool table)) m (bindingsGiven (table_of pool table) binds) e in
         let s = lists-short p.short in
         let n = lent-long l in (
           p.first,
@@ -169,9 +178,11 @@ module _ (pool table ws binds : List ℕ) where
               record {
                 one = p.one;
                 two = p.two;
-                good = table-good (leb-true 8192 (length pool) (and_left (leb 8192 (length pool)) (leb 257 (length table)) n)) (leb-true 257 (length table) (and_right (leb 8192 (length pool)) (leb 257 (length table)) n)) p.kept;
+                good = table-good (leb-true 8192 (length pool) (and_left (leb 8192 (length pool)) (leb 257 (length table)) n))
+                    (leb-true 257 (length table) (and_right (leb 8192 (length pool)) (leb 257 (length table)) n)) p.kept;
                 words-short = leb-true (length ws) 8192 (and_left (leb (length ws) 8192) (leb (length binds) 8192 && true) s);
-                binds-short = leb-true (length binds) 8192 (and_left (leb (length binds) 8192) true (and_right (leb (length ws) 8192) (leb (length binds) 8192 && true) s));
+                binds-short = leb-true (length binds) 8192
+                    (and_left (leb (length binds) 8192) true (and_right (leb (length ws) 8192) (leb (length binds) 8192 && true) s));
               },
             ),
           ),

@@ -96,14 +96,16 @@ module _ {A : Type 0} (long deep : A → ℕ) (write : A → List Rec) (lengths 
         }
         go (refused k) p = absurd p
 
-    pub made-to : (R : Got A) (behind : List ℕ) (r : Result ℕ Refusal) (c : Came R) → told r ≡ counted long deep c.value → Made (limitedTo R) (w'.words.now ++ behind) r
+    pub made-to : (R : Got A) (behind : List ℕ) (r : Result ℕ Refusal) (c : Came R) → told r ≡ counted long deep c.value
+        → Made (limitedTo R) (w'.words.now ++ behind) r
     made-to R behind r c h = record {
       answer = h ∙ count-is a (sized bounded (long a) (deep a) a) ∙ sym (ap (λ (m : Got A). limitedTo m >>= λ rs. got (length rs)) c.is);
       front = λ rs e.
           let (b, (g, z)) = written a (sized bounded (long a) (deep a) a) rs (sym (ap limitedTo c.is) ∙ e) in
           let k : a ≡ b = sized_same (long a) (deep a) a bounded b g in
           let le = sized-small (long a) (deep a) a b g in
-          subst (λ (x : List Rec). Front x (w'.words.now ++ behind)) (ap write k ∙ z) (front w.words.now w'.words.now behind (write a) room (c.buffer le) (omega (arith, lengths a)));
+          subst (λ (x : List Rec). Front x (w'.words.now ++ behind)) (ap write k ∙ z)
+          (front w.words.now w'.words.now behind (write a) room (c.buffer le) (omega (arith, lengths a)));
     }
       where
         a : A
@@ -167,7 +169,8 @@ module _ (pool table : List ℕ) where
 
   pub set-made : (cs : List (Con ℕ)) (bs : List (Binding ℕ)) (w : List ℕ) (r : Result ℕ Refusal)
       → Made (madeCons (each (replaceCon (numbers pool table) bounded (bindings (numbers pool table) bs)) cs)) w r → Made (madeSet cs bs) w r
-  set-made cs bs w r h = subst (λ (m : Got (List Rec)). Made m w r) (go (each (replaceCon (numbers pool table) bounded (bindings (numbers pool table) bs)) cs)) h
+  set-made cs bs w r h = subst (λ (m : Got (List Rec)). Made m w r)
+      (go (each (replaceCon (numbers pool table) bounded (bindings (numbers pool table) bs)) cs)) h
     where
       go : (R : Got (List (Con ℕ))) → madeCons R ≡ (R >>= λ r. limited bounded (record { cons = r; binds = [] }) >>= λ s. got (collect writeCon s.cons))
       go (got ds) = sym (same-limits ds)
@@ -178,15 +181,18 @@ module _ (pool table : List ℕ) where
   module _ (ws binds : List ℕ) (w : Words32 ws) (v : Words32 binds) (bs : List (Binding ℕ)) where
     binds-good : bindingsGiven (table_of pool table) binds ≡ got bs → all (goodBinding (numbers pool table) (holding pool table) 0) bs ≡ true
     binds-good e =
-        (row binds HoldsBinding sizeBinding (goodBinding (numbers pool table) (holding pool table) 0) (records.GoodBinding pool table 0 binds) (λ at a e g. (g.held, g.past, g.good)) (length binds / 4) 0 bs
+        (row binds HoldsBinding sizeBinding (goodBinding (numbers pool table) (holding pool table) 0) (records.GoodBinding pool table 0 binds)
+        (λ at a e g. (g.held, g.past, g.good)) (length binds / 4) 0 bs
         (bindings-is pool table binds v bs e)).right
 
     -- what names become is well formed
-    becomes-good : bindingsGiven (table_of pool table) binds ≡ got bs → (o : Open ℕ) (u : Ty ℕ) → bindings (numbers pool table) bs o ≡ some u → goodTy (numbers pool table) (holding pool table) 0 u ≡ true
+    becomes-good : bindingsGiven (table_of pool table) binds ≡ got bs → (o : Open ℕ) (u : Ty ℕ) → bindings (numbers pool table) bs o ≡ some u
+        → goodTy (numbers pool table) (holding pool table) 0 u ≡ true
     becomes-good e o u q = looked-good (numbers pool table) (holding pool table) 0 bs o u (binds-good e) q
 
     -- whichever way it is told what names become
-    same-look : {places : List ℕ} → Lent pool table places binds (bindings (numbers pool table) bs) → (p : ALook pool table places binds) → bindings (numbers pool table) bs ≡ p.0
+    same-look : {places : List ℕ} → Lent pool table places binds (bindings (numbers pool table) bs) → (p : ALook pool table places binds)
+        → bindings (numbers pool table) bs ≡ p.0
     same-look {places} l p = ap (λ (k : ALook pool table places binds). k.0) (one-look pool table places binds (bindings (numbers pool table) bs, l) p)
 
     module _ (t : Ty ℕ) (n : Entered pool table ws binds (typeGiven (table_of pool table) ws) t bs) where
@@ -202,21 +208,27 @@ module _ (pool table : List ℕ) where
       pub type-good : (q : ATree ws 0) → GoodTy pool table q.0
       type-good q = rw (← same-type q) type-held.good
 
-      pub type-left : {places : List ℕ} → Lent pool table places binds (bindings (numbers pool table) bs) → (p : ALook pool table places binds) (q : ATree ws 0) {x y : Writer} {r : Result (Unit {0}) Refusal}
-          → Leaves writeTy x y r (replaceTy (numbers pool table) bounded p.0 q.0) → Leaves writeTy x y r (replaceTy (numbers pool table) bounded (bindings (numbers pool table) bs) t)
+      pub type-left : {places : List ℕ} → Lent pool table places binds (bindings (numbers pool table) bs)
+          → (p : ALook pool table places binds) (q : ATree ws 0) {x y : Writer} {r : Result (Unit {0}) Refusal}
+          → Leaves writeTy x y r (replaceTy (numbers pool table) bounded p.0 q.0)
+          → Leaves writeTy x y r (replaceTy (numbers pool table) bounded (bindings (numbers pool table) bs) t)
       type-left l p q h = rw (same-look l p, same-type q) h
 
-      type-kept : (u : Ty ℕ) → replaceTy (numbers pool table) bounded (bindings (numbers pool table) bs) t ≡ got u → goodTy (numbers pool table) (holding pool table) 0 u ≡ true
+      type-kept : (u : Ty ℕ) → replaceTy (numbers pool table) bounded (bindings (numbers pool table) bs) t ≡ got u
+          → goodTy (numbers pool table) (holding pool table) 0 u ≡ true
       type-kept u e =
-          (laws.ty_kept (numbers pool table) (law pool table) (holding pool table) 0 (bindings (numbers pool table) bs) (becomes-good n.two) t (type-is pool table ws w t n.one).good).holds u e
+          (laws.ty_kept (numbers pool table) (law pool table) (holding pool table) 0 (bindings (numbers pool table) bs) (becomes-good n.two) t
+          (type-is pool table ws w t n.one).good).holds u e
 
-      pub type-stands : (d d' : List ℕ) (m : ℕ) (u : Ty ℕ) → 8192 ≤ length d → replaceTy (numbers pool table) bounded (bindings (numbers pool table) bs) t ≡ got u → min m last ≡ min (size u) last
+      pub type-stands : (d d' : List ℕ) (m : ℕ) (u : Ty ℕ) → 8192 ≤ length d
+          → replaceTy (numbers pool table) bounded (bindings (numbers pool table) bs) t ≡ got u → min m last ≡ min (size u) last
           → (size u ≤ 2048 → d' ≡ sets d 0 (words (writeTy u))) → TypeStands pool table d' m u
       type-stands d d' m u room e many buffer = record {
         many = many;
         held = λ le.
             let i = size-ty u in
-            held d' u 0 (from d (0 + length (writeTy u))) (ty-fits (numbers pool table) (holding pool table) 0 u (type-kept u e)) (ap (λ (x : List ℕ). from x 0) (buffer le) ∙ stored d (writeTy u) 0 (omega arith));
+            held d' u 0 (from d (0 + length (writeTy u))) (ty-fits (numbers pool table) (holding pool table) 0 u (type-kept u e))
+            (ap (λ (x : List ℕ). from x 0) (buffer le) ∙ stored d (writeTy u) 0 (omega arith));
         good = type-kept u e;
       }
 
@@ -230,7 +242,8 @@ module _ (pool table : List ℕ) where
       pub set-good : (q : Cons ws 0 (length ws / 4)) → Every (GoodCon pool table) q.0
       set-good q = rw (← same-set q) (cons-weaker pool table cs (given-cons pool table ws w cs n.one).1)
 
-      pub set-left : {places : List ℕ} → Lent pool table places binds (bindings (numbers pool table) bs) → (p : ALook pool table places binds) (q : Cons ws 0 (length ws / 4)) {x y : Writer} {r : Result (Unit {0}) Refusal}
+      pub set-left : {places : List ℕ} → Lent pool table places binds (bindings (numbers pool table) bs)
+          → (p : ALook pool table places binds) (q : Cons ws 0 (length ws / 4)) {x y : Writer} {r : Result (Unit {0}) Refusal}
           → Leaves (collect writeCon) x y r (each (replaceCon (numbers pool table) bounded p.0) q.0)
           → Leaves (collect writeCon) x y r (each (replaceCon (numbers pool table) bounded (bindings (numbers pool table) bs)) cs)
       set-left l p q h = rw (same-look l p, same-set q) h
@@ -238,16 +251,19 @@ module _ (pool table : List ℕ) where
       pub set-binds : Listed pool table binds 0 (length binds / 4) bs
       set-binds = given-bindings pool table binds v bs n.binds-short n.two
 
-      set-kept : (ds : List (Con ℕ)) → each (replaceCon (numbers pool table) bounded (bindings (numbers pool table) bs)) cs ≡ got ds → all (records.goodCon pool table 0) ds ≡ true
+      set-kept : (ds : List (Con ℕ)) → each (replaceCon (numbers pool table) bounded (bindings (numbers pool table) bs)) cs ≡ got ds
+          → all (records.goodCon pool table 0) ds ≡ true
       set-kept ds e = (cons-kept pool table (bindings (numbers pool table) bs) (becomes-good n.two) cs (given-cons pool table ws w cs n.one).1).holds ds e
 
-      pub set-stands : (d d' : List ℕ) (m : ℕ) (ds : List (Con ℕ)) → length d ≡ 8192 → each (replaceCon (numbers pool table) bounded (bindings (numbers pool table) bs)) cs ≡ got ds
+      pub set-stands : (d d' : List ℕ) (m : ℕ) (ds : List (Con ℕ)) → length d ≡ 8192
+          → each (replaceCon (numbers pool table) bounded (bindings (numbers pool table) bs)) cs ≡ got ds
           → min m last ≡ min (sum_of sizeCon ds) last → (sum_of sizeCon ds ≤ 2048 → d' ≡ sets d 0 (words (collect writeCon ds))) → SetStands pool table d' m ds
       set-stands d d' m ds room e many buffer = record {
         many = many;
         held = λ le.
             let i : 0 + sum_of sizeCon ds ≡ m = omega (arith, many, le) in
-            subst (λ (k : ℕ). IsCons d' 0 k ds) i (written-cons pool table d d' 0 ds (buffer le) (omega (arith, room, le)) (cons-weaker pool table ds (set-kept ds e)));
+            subst (λ (k : ℕ). IsCons d' 0 k ds) i
+            (written-cons pool table d d' 0 ds (buffer le) (omega (arith, room, le)) (cons-weaker pool table ds (set-kept ds e)));
         near = λ le. omega (arith, ap length (buffer le) ∙ length-sets d 0 (words (collect writeCon ds)), room);
         good = set-kept ds e;
       }

@@ -7,7 +7,23 @@ use Rattle.rules.specs.Base.{Got, got, refused, ◌>>=◌, ◌>>◌, collect}
 use Rattle.rules.specs.Trees.{Open, Binding, opens, opensCon, size}
 use Rattle.rules.specs.Names.{table_of, lentTable}
 use Rattle.rules.specs.Refusals.{number_of, told}
-use Rattle.rules.specs.Calls.{shortLists, tableKept, typeGiven, setGiven, bindingsGiven, apart, opensBinding, typeCall, setCall, lent, resultAfter, replacedType, replacedSet, replaceTypeCall, replaceSetCall}
+use Rattle.rules.specs.Calls.{
+  shortLists,
+  tableKept,
+  typeGiven,
+  setGiven,
+  bindingsGiven,
+  apart,
+  opensBinding,
+  typeCall,
+  setCall,
+  lent,
+  resultAfter,
+  replacedType,
+  replacedSet,
+  replaceTypeCall,
+  replaceSetCall,
+}
 use Rattle.rules.specs.Writing.{Rec, words}
 use Rattle.rules.specs.declared.Refusal.{Refusal}
 use Rattle.rules.specs.declared.Refusal.TheVariants.{TooLarge}
@@ -38,16 +54,19 @@ module _ (pool table ws binds : List ℕ) where
     pub unmet-made : Whole → (w : List ℕ) (k : Refusal) → (entered pool table ws binds m os >> got (tt {0})) ≡ refused (number_of k) → Made all w (Err k)
     unmet-made h w k e = refused-made all w k (h ∙ stops (entered pool table ws binds m os) (λ p. make p.0 p.1) (number_of k) e)
 
-    pub met-made : Whole → (w : List ℕ) (r : Result ℕ Refusal) (a : A) (bs : List (Binding ℕ)) → entered pool table ws binds m os ≡ got (a, bs) → Made (make a bs) w r → Made all w r
+    pub met-made : Whole → (w : List ℕ) (r : Result ℕ Refusal) (a : A) (bs : List (Binding ℕ)) → entered pool table ws binds m os ≡ got (a, bs)
+        → Made (make a bs) w r → Made all w r
     met-made h w r a bs e k = subst (λ (x : Got (List Rec)). Made x w r) (sym (h ∙ ap (λ (x : Got (A × List (Binding ℕ))). x >>= λ p. make p.0 p.1) e)) k
 
   pub type-whole : Whole (typeGiven (table_of pool table) ws) opens (madeType pool table) (replacedType (table_of pool table) ws binds)
   unfolding replacedType entered
-  type-whole = row-then (λ t bs. apart (table_of pool table) (opens t ++ collect opensBinding bs)) (madeType pool table) (shortLists _) (tableKept (table_of pool table)) (typeGiven (table_of pool table) ws) (bindingsGiven (table_of pool table) binds)
+  type-whole = row-then (λ t bs. apart (table_of pool table) (opens t ++ collect opensBinding bs)) (madeType pool table) (shortLists _)
+      (tableKept (table_of pool table)) (typeGiven (table_of pool table) ws) (bindingsGiven (table_of pool table) binds)
 
   pub set-whole : Whole (setGiven (table_of pool table) ws) (collect opensCon) (madeSet pool table) (replacedSet (table_of pool table) ws binds)
   unfolding replacedSet entered
-  set-whole = row-then (λ cs bs. apart (table_of pool table) (collect opensCon cs ++ collect opensBinding bs)) (madeSet pool table) (shortLists _) (tableKept (table_of pool table)) (setGiven (table_of pool table) ws) (bindingsGiven (table_of pool table) binds)
+  set-whole = row-then (λ cs bs. apart (table_of pool table) (collect opensCon cs ++ collect opensBinding bs)) (madeSet pool table) (shortLists _)
+      (tableKept (table_of pool table)) (setGiven (table_of pool table) ws) (bindingsGiven (table_of pool table) binds)
 
   -- what is known where the checks are met
   module _ {A : Type 0} (m : Got A) (os : A → List (Open ℕ)) where
@@ -97,20 +116,30 @@ module _ (pool table ws binds : List ℕ) where
 module _ (pool table ws binds result work : List ℕ) where
   -- a work buffer of the same length is left the same
   handed-on : (m : Got (List Rec)) (w : List ℕ) → length w ≡ length work → handed m result w ≡ handed m result work
-  handed-on m w e = ap (λ (n : ℕ). record { answer = m >>= λ rs. got (length rs); result = resultAfter (m >>= λ rs. got (words rs)) result; work = replicate n 0 }) e
+  handed-on m w e = ap (λ (n : ℕ). record {
+    answer = m >>= λ rs. got (length rs);
+    result = resultAfter (m >>= λ rs. got (words rs)) result;
+    work = replicate n 0;
+  }) e
 
-  pub type-short : lent pool table result work ≡ refused 10 → record { answer = refused 10; result = result; work = work } ≡ replaceTypeCall pool table ws binds result work
+  pub type-short : lent pool table result work ≡ refused 10
+      → record { answer = refused 10; result = result; work = work } ≡ replaceTypeCall pool table ws binds result work
   unfolding replaceTypeCall
   type-short e = unwritten (lent pool table result work) (replacedType (table_of pool table) ws binds) result work e
 
-  pub type-called : (w : List ℕ) → length w ≡ length work → lent pool table result work ≡ got tt → handed (replacedType (table_of pool table) ws binds) result w ≡ replaceTypeCall pool table ws binds result work
+  pub type-called : (w : List ℕ) → length w ≡ length work → lent pool table result work ≡ got tt
+      → handed (replacedType (table_of pool table) ws binds) result w ≡ replaceTypeCall pool table ws binds result work
   unfolding replaceTypeCall
-  type-called w n e = handed-on (replacedType (table_of pool table) ws binds) w n ∙ as_written (lent pool table result work) (replacedType (table_of pool table) ws binds) result work e
+  type-called w n e = handed-on (replacedType (table_of pool table) ws binds) w n
+      ∙ as_written (lent pool table result work) (replacedType (table_of pool table) ws binds) result work e
 
-  pub set-short : lent pool table result work ≡ refused 10 → record { answer = refused 10; result = result; work = work } ≡ replaceSetCall pool table ws binds result work
+  pub set-short : lent pool table result work ≡ refused 10
+      → record { answer = refused 10; result = result; work = work } ≡ replaceSetCall pool table ws binds result work
   unfolding replaceSetCall
   set-short e = unwritten (lent pool table result work) (replacedSet (table_of pool table) ws binds) result work e
 
-  pub set-called : (w : List ℕ) → length w ≡ length work → lent pool table result work ≡ got tt → handed (replacedSet (table_of pool table) ws binds) result w ≡ replaceSetCall pool table ws binds result work
+  pub set-called : (w : List ℕ) → length w ≡ length work → lent pool table result work ≡ got tt
+      → handed (replacedSet (table_of pool table) ws binds) result w ≡ replaceSetCall pool table ws binds result work
   unfolding replaceSetCall
-  set-called w n e = handed-on (replacedSet (table_of pool table) ws binds) w n ∙ as_written (lent pool table result work) (replacedSet (table_of pool table) ws binds) result work e
+  set-called w n e = handed-on (replacedSet (table_of pool table) ws binds) w n
+      ∙ as_written (lent pool table result work) (replacedSet (table_of pool table) ws binds) result work e

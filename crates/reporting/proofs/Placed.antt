@@ -3,10 +3,50 @@ use Rattle.std.specs.Prelude.{◌≡◌, refl, Bool, true, false, not, List, [],
 use Rattle.std.proofs.Common.{sym, ap, subst, ◌∙◌, arith}
 use Rattle.std.proofs.Math.Option.{Option, none, some}
 use Rattle.rules.specs.Base.{is_none}
-use Rattle.rules.specs.Grammar.{Place, here, beyond, Parsed, read, bad, isBlank, skipFrom, skip, pass, sign, ifSign, either, hasField, typed, ended, constraint, signsAt, line, ConAt, lines_of}
+use Rattle.rules.specs.Grammar.{
+  Place,
+  here,
+  beyond,
+  Parsed,
+  read,
+  bad,
+  isBlank,
+  skipFrom,
+  skip,
+  pass,
+  sign,
+  ifSign,
+  either,
+  hasField,
+  typed,
+  ended,
+  constraint,
+  signsAt,
+  line,
+  ConAt,
+  lines_of,
+}
 use Rattle.rules.specs.Names.{Bytes}
 use Rattle.rules.specs.Reports.{someAt, holdsSome, lineIn, lineBy, lineHolding, constraintLine}
-use Rattle.rules.specs.TextReading.{Sofar, Told, told, refusedAt, conOf, give, onward, meant, lineRead, Sheet, sheet, refusedIn, with, nextLine, lines_read, sheetRead, unread}
+use Rattle.rules.specs.TextReading.{
+  Sofar,
+  Told,
+  told,
+  refusedAt,
+  conOf,
+  give,
+  onward,
+  meant,
+  lineRead,
+  Sheet,
+  sheet,
+  refusedIn,
+  with,
+  nextLine,
+  lines_read,
+  sheetRead,
+  unread,
+}
 use Rattle.rules.specs.Trees.{Con}
 use Rattle.reporting.specs.Theorems.{LinesAreTheirs}
 

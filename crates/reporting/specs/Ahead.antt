@@ -66,7 +66,8 @@ module _ (text : Bytes) (k lines at left : ℕ) (h : Holding text k lines at lef
   unfolding lineHolding
   here-is e = rw e (sym (ap (lineHolding left (lines + 1)) w.is) ∙ h.is)
 
-  behind-it : {b : Bool} → b ≡ holdsSome (line_at text at r) → (b ≡ true → left ≡ 0 → ⊥) → lineHolding (leftBehind b left) (suc (lines + 1)) w.rest ≡ constraintLine k text
+  behind-it : {b : Bool} → b ≡ holdsSome (line_at text at r) → (b ≡ true → left ≡ 0 → ⊥)
+      → lineHolding (leftBehind b left) (suc (lines + 1)) w.rest ≡ constraintLine k text
   behind-it {b} e n = go b left n (here-is e)
     where
       go : (b : Bool) (i : ℕ) → (b ≡ true → i ≡ 0 → ⊥) → lineBy b i (lines + 1) (λ j. lineHolding j (suc (lines + 1)) w.rest) ≡ constraintLine k text

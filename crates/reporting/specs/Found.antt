@@ -6,7 +6,23 @@ use Rattle.rules.specs.Base.{Got, got, refused, collect}
 use Rattle.rules.specs.Grammar.{ascii}
 use Rattle.rules.specs.Names.{Bytes}
 use Rattle.rules.specs.Refusals.{number_of}
-use Rattle.rules.specs.Reports.{Finding, unseen, unread, agrees, denied, unjudged, remains, stops, finding, quantity, refusedText, findingText, bindingLine, boundLine, remainingLine}
+use Rattle.rules.specs.Reports.{
+  Finding,
+  unseen,
+  unread,
+  agrees,
+  denied,
+  unjudged,
+  remains,
+  stops,
+  finding,
+  quantity,
+  refusedText,
+  findingText,
+  bindingLine,
+  boundLine,
+  remainingLine,
+}
 use Rattle.rules.specs.Solving.{Answer, accepted, remaining, stopped}
 use Rattle.rules.specs.Trees.{Names, Con, Binding}
 use Rattle.rules.specs.declared.Refusal.{Refusal}
@@ -61,7 +77,8 @@ module _ (s : List ℕ) (solution : Solution) (a : Got (Answer ℕ)) (h : Stands
     unfolding finding
     found-denied k f = go a (says i) f
       where
-        go : (m : Got (Answer ℕ)) → StandsBy s (Ok (finish.Solved b n)) solution.rounds m → PlacedAs ν cs m (got (some k)) → IsFinding s (outcome.Denied k) (finding ν cs m)
+        go : (m : Got (Answer ℕ)) → StandsBy s (Ok (finish.Solved b n)) solution.rounds m → PlacedAs ν cs m (got (some k))
+            → IsFinding s (outcome.Denied k) (finding ν cs m)
         go (refused j) q f = absurd q
         go (got (accepted bs ns j)) q f = rw (← f) refl
         go (got (remaining ds j)) q f = absurd q

@@ -194,7 +194,8 @@ module _ (s : List ℕ) where
   bounds-rows (x ∷ ns) at h = let k : at + 1 + length ns ≡ at + length (x ∷ ns) = omega arith in (at + 1, ((h.0, refl), rw k at (bounds-rows ns (at + 1) h.1)))
 
   -- bindings, and then other rows
-  binds-rows : (bs : List (Binding ℕ)) (rs : List Row) (at end : ℕ) → HoldsAll HoldsBinding sizeBinding s bs at → Chain RowHere end rs (at + sum_of sizeBinding bs)
+  binds-rows : (bs : List (Binding ℕ)) (rs : List Row) (at end : ℕ) → HoldsAll HoldsBinding sizeBinding s bs at
+      → Chain RowHere end rs (at + sum_of sizeBinding bs)
       → Chain RowHere end (map binding bs ++ rs) at
   unfolding HoldsAll
   binds-rows [] rs at end h c = let z : at + 0 ≡ at = omega arith in rw z at c

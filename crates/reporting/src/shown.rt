@@ -24,7 +24,7 @@ pub fn put_shown<S: Sink>(to: &mut S, text: &[u8]) -> Result<(), S::Error>
     Ok(())
 }
 
-// Puts a blank under a byte, but for one that goes on a character of UTF-8.
+// Puts a blank under a byte, except for one that goes on a character of UTF-8.
 #[tactic(auto, unfolding(rules::specs::Reports::room))]
 fn put_room<S: Sink>(to: &mut S, b: u8) -> Result<(), S::Error>
     ensures { Puts (S.place to.old) (room b) result (S.place to.new) }

@@ -86,7 +86,8 @@ module _ (pool table : List ℕ) (w : List ℕ) (ends : Ends) (st : State ℕ) (
 
     -- whichever constraints and bindings stand there, they are the state's
     pub cons-good : (x : Cons w 0 ends.constraints) → all (goodCon pool table 0) x.0 ≡ true
-    cons-good x = subst (λ (y : Cons w 0 ends.constraints). all (goodCon pool table 0) y.0 ≡ true) (one-set w 0 ends.constraints (st.cons, m.cons few) x) m.good_cons
+    cons-good x = subst (λ (y : Cons w 0 ends.constraints). all (goodCon pool table 0) y.0 ≡ true)
+        (one-set w 0 ends.constraints (st.cons, m.cons few) x) m.good_cons
 
     pub binds-good : (x : Binds w ends.constraints ends.bindings) → all (goodBinding pool table 0) x.0 ≡ true
     binds-good x = subst (λ (y : Binds w ends.constraints ends.bindings). all (goodBinding pool table 0) y.0 ≡ true)
@@ -96,7 +97,8 @@ module _ (pool table : List ℕ) (w : List ℕ) (ends : Ends) (st : State ℕ) (
     cons-deep x = ap (λ (y : Cons w 0 ends.constraints). max_of depthCon y.0) (one-set w 0 ends.constraints x (st.cons, m.cons few))
 
     binds-deep : (x : Binds w ends.constraints ends.bindings) → max_of depthBinding x.0 ≡ max_of depthBinding st.binds
-    binds-deep x = ap (λ (y : Binds w ends.constraints ends.bindings). max_of depthBinding y.0) (one-binds w ends.constraints ends.bindings x (st.binds, m.binds few))
+    binds-deep x = ap (λ (y : Binds w ends.constraints ends.bindings). max_of depthBinding y.0)
+        (one-binds w ends.constraints ends.bindings x (st.binds, m.binds few))
 
     pub limit-cons : (x : Cons w 0 ends.constraints) {b : Bool} → b ≡ leb (max_of depthCon x.0) 64 → b ≡ false → Limited ends st (Err TooLarge) (keeps st)
     limit-cons x e i = (deep st (omega (arith, over (max_of depthCon x.0) e i, cons-deep x, depth-is st)), refl)

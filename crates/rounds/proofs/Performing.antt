@@ -15,7 +15,23 @@ use Rattle.rules.specs.declared.Refusal.{Refusal}
 use Rattle.laws.specs.KeepsGood.{rule-good}
 use Rattle.laws.specs.Lists.{and_both, is_all, each-parts}
 use Rattle.laws.specs.Nesting.{most, rule-within}
-use Rattle.laws.specs.RuleCases.{Sides, Rule, none-applies, equal-records, binds, two-functions, two-lists, two-structs, as-product, two-dimensions, dimension, no-factor, first-factor, closed-struct, rule}
+use Rattle.laws.specs.RuleCases.{
+  Sides,
+  Rule,
+  none-applies,
+  equal-records,
+  binds,
+  two-functions,
+  two-lists,
+  two-structs,
+  as-product,
+  two-dimensions,
+  dimension,
+  no-factor,
+  first-factor,
+  closed-struct,
+  rule,
+}
 use Rattle.products.specs.Held.{law}
 use Rattle.records.specs.ByView.{size-pos}
 use Rattle.records.specs.Good as records
@@ -102,7 +118,8 @@ module _ (pool table : List ℕ) (d : List ℕ) (o : Others) (r : code.Step) (c 
             name = x;
             type = t;
             is = j;
-            there = rw e (written-binds pool table k.was d 0 (x ≔ t ∷ []) a (omega (arith, n, fits, room)) (binds-weaker pool table (x ≔ t ∷ []) (and_both good refl)));
+            there = rw e (written-binds pool table k.was d 0 (x ≔ t ∷ []) a (omega (arith, n, fits, room))
+                (binds-weaker pool table (x ≔ t ∷ []) (and_both good refl)));
             good = good;
             deep = omega (arith, rule-within (numbers pool table) bounded c (bind x t) v, k.deep);
             fits = omega (arith, z, fits);

@@ -38,7 +38,8 @@ module _ {B : Type 0} where
   whole (refused k) = refl
 
   behind : (R : Got B) (S T : Got (List B))
-      → (R >>= λ y. (S >>= λ us. T >>= λ vs. got (us ++ vs)) >>= λ zs. got (y ∷ zs)) ≡ ((R >>= λ y. S >>= λ us. got (y ∷ us)) >>= λ us. T >>= λ vs. got (us ++ vs))
+      → (R >>= λ y. (S >>= λ us. T >>= λ vs. got (us ++ vs)) >>= λ zs. got (y ∷ zs))
+      ≡ ((R >>= λ y. S >>= λ us. got (y ∷ us)) >>= λ us. T >>= λ vs. got (us ++ vs))
   behind (refused k) S T = refl
   behind (got y) (refused k) T = refl
   behind (got y) (got us) (refused k) = refl
@@ -85,14 +86,21 @@ module _ (pool table : List ℕ) {b : Bindings} {x : ℕ} {t : Ty ℕ} (h : Boun
 
   pub listed : Listed pool table b.words.now b.at b.end one
   unfolding all
-  listed = record { run = as-run b.words.now one b.at b.end there; good = and_both (binds-weaker pool table one good-one).0 refl; short = h.short; near = b.near }
+  listed = record {
+    run = as-run b.words.now one b.at b.end there;
+    good = and_both (binds-weaker pool table one good-one).0 refl;
+    short = h.short;
+    near = b.near;
+  }
 
   pub lent : {places : List ℕ} → Fills b.words.now b.at b.end places → Good pool table → Lent pool table places b.words.now (bindings (names pool table) one)
   lent f g = f pool table one g listed
 
   -- whichever way it is told what the names become
-  pub same-look : {places : List ℕ} (p : ALook pool table places b.words.now) → Fills b.words.now b.at b.end places → Good pool table → p.0 ≡ bindings (names pool table) one
-  same-look {places} p f g = ap (λ (l : ALook pool table places b.words.now). l.0) (one-look pool table places b.words.now p (bindings (names pool table) one, lent f g))
+  pub same-look : {places : List ℕ} (p : ALook pool table places b.words.now) → Fills b.words.now b.at b.end places → Good pool table
+      → p.0 ≡ bindings (names pool table) one
+  same-look {places} p f g = ap (λ (l : ALook pool table places b.words.now). l.0)
+      (one-look pool table places b.words.now p (bindings (names pool table) one, lent f g))
 
 -- ══ What they make ══
 
@@ -129,7 +137,8 @@ module _ (pool table : List ℕ) {b : Bindings} {x : ℕ} {t : Ty ℕ} (h : Boun
   third-stops d e f = rw (← same, each-both conR o.before.trees.0 o.behind.trees.0, d, e, f)
 
   look-good : (n : Open ℕ) (u : Ty ℕ) → look n ≡ some u → goodTy pool table 0 u ≡ true
-  look-good n u e = looked-good (numbers pool table) (holding pool table) 0 (one pool table h) n u (good-one pool table h) (ap (λ (l : Look ℕ). l n) (sym same) ∙ e)
+  look-good n u e = looked-good (numbers pool table) (holding pool table) 0 (one pool table h) n u (good-one pool table h)
+      (ap (λ (l : Look ℕ). l n) (sym same) ∙ e)
 
   module _ {us vs : List (Con ℕ)} {zs : List (Binding ℕ)} (d : fst ≡ got us) (e : snd ≡ got vs) (f : trd ≡ got zs) where
     abbrev pub rebound : State ℕ
@@ -144,7 +153,8 @@ module _ (pool table : List ℕ) {b : Bindings} {x : ℕ} {t : Ty ℕ} (h : Boun
         ((cons-kept pool table look look-good o.behind.trees.0 s.behind.good).holds vs e)
 
     pub binds-good : all (goodBinding pool table 0) (zs ++ (x ≔ t ∷ [])) ≡ true
-    binds-good = all_both (goodBinding pool table 0) zs (x ≔ t ∷ []) ((binds-kept pool table look look-good o.bindings.trees.0 s.bindings.good).holds zs f) (good-one pool table h)
+    binds-good = all_both (goodBinding pool table 0) zs (x ≔ t ∷ [])
+        ((binds-kept pool table look look-good o.bindings.trees.0 s.bindings.good).holds zs f) (good-one pool table h)
 
     -- bound to a type without types inside
     pub known : {p : Bool} → p ≡ leaf t → Known p rebound
@@ -154,11 +164,24 @@ module _ (pool table : List ℕ) {b : Bindings} {x : ℕ} {t : Ty ℕ} (h : Boun
         let a = (cons-deep (names pool table) bounded x t 0 low o.before.trees.0).holds us (rw (← same) d) in
         let c = (cons-deep (names pool table) bounded x t 0 low o.behind.trees.0).holds vs (rw (← same) e) in
         let g = (bindings-deep (names pool table) bounded x t 0 low o.bindings.trees.0).holds zs (rw (← same) f) in
-        omega (arith, depth-is rebound, max_both depthCon us vs, max_both depthBinding zs (x ≔ t ∷ []), a, c, g, low, s.before.flat, s.behind.flat, s.bindings.flat)
+        omega (
+          arith,
+          depth-is rebound,
+          max_both depthCon us vs,
+          max_both depthBinding zs (x ≔ t ∷ []),
+          a,
+          c,
+          g,
+          low,
+          s.before.flat,
+          s.behind.flat,
+          s.bindings.flat,
+        )
 
     -- ══ What was written ══
 
-    module _ {w w₁ w₂ w₃ w₄ : Writer} (front : w.at ≡ 0) (room : 8192 ≤ length w.words.now) (near : length w.words.now ≤ 4_000_000_000) (p : Writes w w₁ (cut (collect writeCon us))) (q : Writes w₁ w₂ (cut (collect writeCon vs)))
+    module _ {w w₁ w₂ w₃ w₄ : Writer} (front : w.at ≡ 0) (room : 8192 ≤ length w.words.now) (near : length w.words.now ≤ 4_000_000_000)
+        (p : Writes w w₁ (cut (collect writeCon us))) (q : Writes w₁ w₂ (cut (collect writeCon vs)))
         (r : Writes w₂ w₃ (cut (collect writeBinding zs))) (l : Writes w₃ w₄ (collect writeBinding b.trees.0)) where
       cut-many : min w₄.at last ≡ min (sizeState rebound) last
       cut-many =
@@ -200,8 +223,10 @@ module _ (pool table : List ℕ) {b : Bindings} {x : ℕ} {t : Ty ℕ} (h : Boun
             let k : sum_of sizeBinding zs ≤ 65_535 = omega (arith, small, size-is rebound, sum_both sizeBinding zs (x ≔ t ∷ [])) in
             let i : cut (collect writeBinding zs) ≡ collect writeBinding zs = short-all sizeBinding writeBinding short-binding zs k in
             let j : collect writeBinding b.trees.0 ≡ collect writeBinding (x ≔ t ∷ []) = ap (collect writeBinding) h.is in
-            let z : collect writeBinding zs ++ collect writeBinding (x ≔ t ∷ []) ≡ collect writeBinding (zs ++ (x ≔ t ∷ [])) = sym (collect-append writeBinding zs (x ≔ t ∷ [])) in
-            subst (Writes w₂ w₄) z (writes-then (collect writeBinding zs) (collect writeBinding (x ≔ t ∷ [])) (subst (Writes w₂ w₃) i r) (subst (Writes w₃ w₄) j l))
+            let z : collect writeBinding zs ++ collect writeBinding (x ≔ t ∷ []) ≡ collect writeBinding (zs ++ (x ≔ t ∷ [])) =
+            sym (collect-append writeBinding zs (x ≔ t ∷ [])) in
+            subst (Writes w₂ w₄) z (writes-then (collect writeBinding zs) (collect writeBinding (x ≔ t ∷ [])) (subst (Writes w₂ w₃) i r)
+            (subst (Writes w₃ w₄) j l))
 
       pub rebind-made : Made pool table w₄.words.now (record { constraints = w₂.at; bindings = w₄.at }) rebound
       rebind-made = record {

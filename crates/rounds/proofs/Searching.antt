@@ -29,7 +29,8 @@ cons-join s (c ∷ cs) ds at m e h k = (h.0, cons-join s cs ds (at + sizeCon c) 
 module _ (pool table : List ℕ) where
   -- what the round gives when no rule applies to those before
   unfoldable pub leads : List (Con ℕ) → List (Con ℕ) → List (Binding ℕ) → Got (Option (State ℕ))
-  leads before rest bs = firstStep (numbers pool table) bounded rest >>= λ f. performed (numbers pool table) bounded bs (and_then f (λ v. some (v.0, before ++ v.1)))
+  leads before rest bs = firstStep (numbers pool table) bounded rest
+      >>= λ f. performed (numbers pool table) bounded bs (and_then f (λ v. some (v.0, before ++ v.1)))
 
   module _ (w : List ℕ) (from n : ℕ) (set : List (Con ℕ)) (bs : List (Binding ℕ)) where
     abbrev pub whole : Got (Option (State ℕ))
@@ -151,7 +152,10 @@ module _ (pool table : List ℕ) where
       unfolding leads firstStep taken
       leads-on e = rw e (go (firstStep (numbers pool table) bounded f.behind))
         where
-          go : (R : Got (Option (Step ℕ × List (Con ℕ)))) → ((R >>= λ r. got (and_then {B = Step ℕ × List (Con ℕ)} r (λ v. some (v.0, c ∷ v.1)))) >>= λ f'. performed (numbers pool table) bounded bs (and_then f' (λ v. some (v.0, f.before ++ v.1)))) ≡ (R >>= λ f'. performed (numbers pool table) bounded bs (and_then f' (λ v. some (v.0, (f.before ++ c ∷ []) ++ v.1))))
+          go : (R : Got (Option (Step ℕ × List (Con ℕ))))
+              → ((R >>= λ r. got (and_then {B = Step ℕ × List (Con ℕ)} r (λ v. some (v.0, c ∷ v.1))))
+              >>= λ f'. performed (numbers pool table) bounded bs (and_then f' (λ v. some (v.0, f.before ++ v.1))))
+              ≡ (R >>= λ f'. performed (numbers pool table) bounded bs (and_then f' (λ v. some (v.0, (f.before ++ c ∷ []) ++ v.1))))
           go (refused k) = refl
           go (got none) = refl
           go (got (some v)) = ap (λ (l : List (Con ℕ)). performed (numbers pool table) bounded bs (some (v.0, l))) (sym (append_snoc f.before c v.1))
@@ -163,7 +167,10 @@ module _ (pool table : List ℕ) where
         rest = f.behind;
         at = x.1 + sizeCon c;
         is = f.is;
-        passed = record { held = cons-join w f.before (c ∷ []) from x.1 f.passed.ends f.passed.held (f.held, tt); ends = omega (arith, f.passed.ends, sum_both sizeCon f.before (c ∷ [])) };
+        passed = record {
+          held = cons-join w f.before (c ∷ []) from x.1 f.passed.ends f.passed.held (f.held, tt);
+          ends = omega (arith, f.passed.ends, sum_both sizeCon f.before (c ∷ []));
+        };
         stay = f.stay;
         sound_before = sound-both pool table f.before (c ∷ []) f.sound_before (record { good = and_both f.good refl; flat = omega (arith, f.deep) });
         sound = f.sound_behind;

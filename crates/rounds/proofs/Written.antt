@@ -36,7 +36,13 @@ abbrev pub stateRecs : State ℕ → List Rec
 stateRecs st = collect writeCon st.cons ++ collect writeBinding st.binds
 
 pub state-long : (st : State ℕ) → length (stateRecs st) ≡ sizeState st
-state-long st = omega (arith, length-append (collect writeCon st.cons) (collect writeBinding st.binds), set-length st.cons, bindings-length st.binds, size-is st)
+state-long st = omega (
+  arith,
+  length-append (collect writeCon st.cons) (collect writeBinding st.binds),
+  set-length st.cons,
+  bindings-length st.binds,
+  size-is st,
+)
 
 module _ (pool table : List ℕ) (st : State ℕ) {w w₁ w₂ : Writer} (front : w.at ≡ 0) (room : 8192 ≤ length w.words.now) where
   -- constraints were written, and then bindings
@@ -56,7 +62,8 @@ module _ (pool table : List ℕ) (st : State ℕ) {w w₁ w₂ : Writer} (front 
           let n = state-long st in
           let e : w₂.words.now ≡ sets w.words.now 0 (words (stateRecs st)) =
           all-written.words (omega (arith, front, n, many, few)) ∙ ap (λ (i : ℕ). sets w.words.now (i * 4) (words (stateRecs st))) front in
-          written-both pool table w.words.now w₂.words.now st.cons st.binds e (omega (arith, many, few, size-is st, room)) (cons-weaker pool table st.cons good) (binds-weaker pool table st.binds sound)
+          written-both pool table w.words.now w₂.words.now st.cons st.binds e (omega (arith, many, few, size-is st, room))
+          (cons-weaker pool table st.cons good) (binds-weaker pool table st.binds sound)
 
       pub long-same : length w₂.words.now ≡ length w.words.now
       long-same =
@@ -74,7 +81,8 @@ module _ (pool table : List ℕ) (st : State ℕ) {w w₁ w₂ : Writer} (front 
 -- ══ New constraints behind the others ══
 
 module _ (pool table : List ℕ) (o : Others) (new : List (Con ℕ)) (s : SoundOthers pool table o) (n : SoundSet pool table new) {w w₁ w₂ w₃ w₄ : Writer}
-    (front : w.at ≡ 0) (room : 8192 ≤ length w.words.now) (p : Writes w w₁ (collect writeCon o.before.trees.0)) (q : Writes w₁ w₂ (collect writeCon o.behind.trees.0))
+    (front : w.at ≡ 0) (room : 8192 ≤ length w.words.now) (p : Writes w w₁ (collect writeCon o.before.trees.0))
+    (q : Writes w₁ w₂ (collect writeCon o.behind.trees.0))
     (r : Writes w₂ w₃ (collect writeCon new)) (t : Writes w₃ w₄ (collect writeBinding o.bindings.trees.0)) where
   abbrev appended : State ℕ
   appended = record { cons = others o ++ new; binds = o.bindings.trees.0 }
@@ -84,7 +92,8 @@ module _ (pool table : List ℕ) (o : Others) (new : List (Con ℕ)) (s : SoundO
       let a = collect writeCon o.before.trees.0 in
       let b = collect writeCon o.behind.trees.0 in
       let e : (a ++ b) ++ collect writeCon new ≡ collect writeCon (others o ++ new) =
-      sym (collect-append writeCon (others o) new ∙ ap (λ (l : List Rec). l ++ collect writeCon new) (collect-append writeCon o.before.trees.0 o.behind.trees.0)) in
+      sym (collect-append writeCon (others o) new
+      ∙ ap (λ (l : List Rec). l ++ collect writeCon new) (collect-append writeCon o.before.trees.0 o.behind.trees.0)) in
       subst (Writes w w₃) e (writes-then (a ++ b) (collect writeCon new) (writes-then a b p q) r)
 
   ghost_same : w₄.words.ghost_name ≡ w.words.ghost_name
@@ -163,6 +172,7 @@ module _ (pool table w : List ℕ) (ends : Ends) (st : State ℕ) (m : Made pool
 pub next-as : {pool table : List ℕ} {w w' : Writer} {r : Turn} {R S : Got (Option (State ℕ))} → R ≡ S → Next pool table w w' r S → Next pool table w w' r R
 next-as e n = record { same = n.same; turned = turned-as e n.turned }
 
-pub next-stops : {pool table : List ℕ} {w w' : Writer} {k : Refusal} {R : Got (Option (State ℕ))} → w'.words.ghost_name ≡ w.words.ghost_name → R ≡ refused (number_of k)
+pub next-stops : {pool table : List ℕ} {w w' : Writer} {k : Refusal} {R : Got (Option (State ℕ))} → w'.words.ghost_name ≡ w.words.ghost_name
+    → R ≡ refused (number_of k)
     → Next pool table w w' (Err k) R
 next-stops s e = record { same = s; turned = turned-as e (record { says = refl }) }

@@ -12,7 +12,7 @@ pub struct Ends {
     pub bindings: usize,
 }
 
-/// A state but for the constraint that is taken: the constraints before it and behind it, and the bindings.
+/// A state except for the constraint that is taken: the constraints before it and behind it, and the bindings.
 #[derive(Clone, Copy)]
 pub struct Others<'a> {
     pub before: Constraints<'a>,

@@ -21,7 +21,7 @@ EachSheetAsAlone = (pool table pool' table' : List ℕ) → tableGiven pool tabl
     → metThree (foundAt (editionGiven pool table files) k) ≡ false → metThree (foundAt (editionGiven pool' table' (f ∷ [])) 0) ≡ false
     → foundAt (editionGiven pool table files) k ≡ foundAt (editionGiven pool' table' (f ∷ [])) 0
 
--- so its page is the same, byte for byte, but for how many of its names are new, and it is accepted in both editions or in neither
+-- so its page is the same, byte for byte, except for how many of its names are new, and it is accepted in both editions or in neither
 abbrev pub PagesApart : Type 0
 PagesApart = (pool table pool' table' : List ℕ) → tableGiven pool table ≡ got tt → tableGiven pool' table' ≡ got tt
     → (files files' : List File) (k k' : ℕ) (f : File) (e e' : Edition) → e ≡ editionGiven pool table files → e' ≡ editionGiven pool' table' files'

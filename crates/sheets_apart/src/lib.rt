@@ -13,7 +13,7 @@ pub fn each_sheet_as_alone()
     ensures { EachSheetAsAlone }
 {}
 
-/// Its page in a report is the same too, byte for byte, but for how many of its names are new; so is whether it is accepted (`pages`).
+/// Its page in a report is the same too, byte for byte, except for how many of its names are new; so is whether it is accepted (`pages`).
 pub fn pages_apart()
     ensures { PagesApart }
 {}

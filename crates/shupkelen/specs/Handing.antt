@@ -17,7 +17,8 @@ pub handed-as : {C B : Type 0} (told : C → Told) (buffers : C → B) (c₀ c :
 handed-as told buffers c₀ c e t f r answer answer' h = rw (← e, ← f, h.0, h.1) (refl)
 
 -- the same of a product, whose words are put into the result buffer as it is told
-pub product-handed : (a₀ a : Got ProductValue) → a₀ ≡ a → (t : Told) (result result' : List ℕ) → (t ≡ toldOf a₀) × (result' ≡ written_of a₀ result) → (r : ℕ) (answer answer' : List ℕ)
+pub product-handed : (a₀ a : Got ProductValue) → a₀ ≡ a → (t : Told) (result result' : List ℕ) → (t ≡ toldOf a₀) × (result' ≡ written_of a₀ result)
+    → (r : ℕ) (answer answer' : List ℕ)
     → (r ≡ t.refusal) × (answer' ≡ answerWords t answer) → out r answer' result' ≡ handed (toldOf a) answer (written_of a result)
 product-handed a₀ a e t result result' f r answer answer' h =
     ap (λ (b : List ℕ). out r answer' b) f.1 ∙ handed-as toldOf (λ (x : Got ProductValue). written_of x result) a₀ a e t f.0 r answer answer' h

@@ -29,7 +29,8 @@ outcome-injective (Err r) (Ok (Solved y z)) j k e = let n : ◌≡◌ {A = ℕ} 
 outcome-injective (Err r) (Ok (Unsolved y)) j k e = let n : ◌≡◌ {A = ℕ} 0 1 = cc in absurd (omega arith)
 outcome-injective (Err r) (Err s) j k e = let q : j ≡ k = cc in (ap Err (number-injective r s (cc)), q)
 
-pub one-result : (a b : Solution) (result result' work work' : List ℕ) → solutionAs a result work ≡ solutionAs b result' work' → OneResult a b result result' work work'
+pub one-result : (a b : Solution) (result result' work work' : List ℕ) → solutionAs a result work ≡ solutionAs b result' work'
+    → OneResult a b result result' work work'
 one-result a b result result' work work' e =
     let o = outcome-injective a.outcome b.outcome a.rounds b.rounds (ap (λ (s : calls.Solution). s.answer) e) in
     record {

@@ -8,7 +8,21 @@ use native.Mathlib.Omega.{arith}
 use borrow.Author.Tests.{leb-true, le-leb, lt-leb}
 use Rattle.std.proofs.Math.ListN.{length}
 use Rattle.rules.specs.Base.{Got, got, refused, ◌>>=◌, ◌>>◌, need, bounded, all, collect, max_of}
-use Rattle.rules.specs.Calls.{shortLists, tableKept, setGiven, apart, aloneGiven, setCall, lent, resultAfter, workAfter, solvedOf, solvedWords, solvedSet, solveCall}
+use Rattle.rules.specs.Calls.{
+  shortLists,
+  tableKept,
+  setGiven,
+  apart,
+  aloneGiven,
+  setCall,
+  lent,
+  resultAfter,
+  workAfter,
+  solvedOf,
+  solvedWords,
+  solvedSet,
+  solveCall,
+}
 use Rattle.rules.specs.Contents.{unmixed}
 use Rattle.rules.specs.Names.{table_of, tableGood, lentTable}
 use Rattle.rules.specs.Refusals.{number_of}
@@ -48,14 +62,16 @@ module _ {A B : Type 0} (u : A → Got (Unit {0})) (v : A → B) where
     pub is : m ≡ got value
     pub all : whole s k m ≡ got (v value)
 
-  met : (l s k : Got (Unit {0})) (m : Got A) (w : Got (Unit {0})) → ((a : A) → m ≡ got a → w ≡ u a) → (l >> s >> k >> m >> got (tt {0}) >> w) ≡ got tt → Met s k m
+  met : (l s k : Got (Unit {0})) (m : Got A) (w : Got (Unit {0})) → ((a : A) → m ≡ got a → w ≡ u a)
+      → (l >> s >> k >> m >> got (tt {0}) >> w) ≡ got tt → Met s k m
   met (refused i) s k m w h e = clash e
   met (got x) (refused i) k m w h e = clash e
   met (got x) (got y) (refused i) m w h e = clash e
   met (got x) (got y) (got z) (refused i) w h e = clash e
   met (got x) (got y) (got z) (got a) w h e = record { value = a; short = refl; kept = refl; is = refl; all = rw (← h a refl, e) }
 
-  unmet : (l s k : Got (Unit {0})) (m : Got A) (w : Got (Unit {0})) (n : ℕ) → l ≡ got tt → ((a : A) → m ≡ got a → w ≡ u a) → (l >> s >> k >> m >> got (tt {0}) >> w) ≡ refused n → whole s k m ≡ refused n
+  unmet : (l s k : Got (Unit {0})) (m : Got A) (w : Got (Unit {0})) (n : ℕ) → l ≡ got tt → ((a : A) → m ≡ got a → w ≡ u a)
+      → (l >> s >> k >> m >> got (tt {0}) >> w) ≡ refused n → whole s k m ≡ refused n
   unmet (refused i) s k m w n l h e = clash l
   unmet (got x) (refused i) k m w n l h e = cc
   unmet (got x) (got y) (refused i) m w n l h e = cc
@@ -99,7 +115,8 @@ module _ (pool table ws : List ℕ) where
       set-small pool table 0 ws cs 0 (length ws / 4) (set_is pool table ws w cs g) (good-laid (entry-good pool table ws a)).few
 
   module _ (w : Words32 ws) where
-    opened : (cs : List (Con ℕ)) → setGiven (table_of pool table) ws ≡ got cs → need (unmixed (numbers pool table) (opensIn ws 0 (length ws / 4))) 4 ≡ apart (table_of pool table) (collect opensCon cs)
+    opened : (cs : List (Con ℕ)) → setGiven (table_of pool table) ws ≡ got cs
+        → need (unmixed (numbers pool table) (opensIn ws 0 (length ws / 4))) 4 ≡ apart (table_of pool table) (collect opensCon cs)
     unfolding apart
     opened cs g = rw (set-opens pool table 0 ws cs 0 (length ws / 4) (set_is pool table ws w cs g))
 
@@ -124,13 +141,17 @@ module _ (pool table ws : List ℕ) where
     pub came-in : lentTable pool table ≡ got tt → entered ≡ got tt → Entered
     unfolding setCall aloneGiven solvedSet
     came-in l e =
-        let p = met (λ cs. apart (table_of pool table) (collect opensCon cs)) (solve (numbers pool table) bounded) (lentTable pool table) (shortLists (ws ∷ [])) (tableKept (table_of pool table)) (setGiven (table_of pool table) ws) (need (unmixed (numbers pool table) (opensIn ws 0 (length ws / 4))) 4) opened e in
+        let p = met (λ cs. apart (table_of pool table) (collect opensCon cs)) (solve (numbers pool table) bounded) (lentTable pool table)
+        (shortLists (ws ∷ [])) (tableKept (table_of pool table)) (setGiven (table_of pool table) ws)
+        (need (unmixed (numbers pool table) (opensIn ws 0 (length ws / 4))) 4) opened e in
         record { set = p.value; good = table-good l p.kept; short = set-short p.short; given = p.is; all = p.all }
 
     pub kept_out : (n : ℕ) → lentTable pool table ≡ got tt → entered ≡ refused n → solvedSet (table_of pool table) ws ≡ refused n
     unfolding setCall aloneGiven solvedSet
     kept_out n l e =
-        unmet (λ cs. apart (table_of pool table) (collect opensCon cs)) (solve (numbers pool table) bounded) (lentTable pool table) (shortLists (ws ∷ [])) (tableKept (table_of pool table)) (setGiven (table_of pool table) ws) (need (unmixed (numbers pool table) (opensIn ws 0 (length ws / 4))) 4) n l opened e
+        unmet (λ cs. apart (table_of pool table) (collect opensCon cs)) (solve (numbers pool table) bounded) (lentTable pool table)
+        (shortLists (ws ∷ [])) (tableKept (table_of pool table)) (setGiven (table_of pool table) ws)
+        (need (unmixed (numbers pool table) (opensIn ws 0 (length ws / 4))) 4) n l opened e
 
     -- ══ The set in the work buffer ══
 
@@ -142,33 +163,45 @@ module _ (pool table ws : List ℕ) where
 
       set-flat : max_of depthCon x.set ≤ 64
       set-flat =
-          let r = row ws HoldsCon sizeCon (λ c. leb (depthCon c) 64) (records.GoodCon pool table 0 ws) (λ at a e g. (g.held, g.past, le-leb (depthCon a) 64 g.deep)) (length ws / 4) 0 x.set (set_is pool table ws w x.set x.given) in
+          let r = row ws HoldsCon sizeCon (λ c. leb (depthCon c) 64) (records.GoodCon pool table 0 ws)
+          (λ at a e g. (g.held, g.past, le-leb (depthCon a) 64 g.deep)) (length ws / 4) 0 x.set (set_is pool table ws w x.set x.given) in
           let e = all-every (λ c. depthCon c ≤ 64) x.set (λ c m. leb-true (depthCon c) 64 (all-is (λ c. leb (depthCon c) 64) x.set r.right c m)) in
           most depthCon x.set 64 e
 
       pub begun : Begun pool table ws x.set
-      begun = record { held = (given-cons pool table ws w x.set x.given).0; sound = record { good = set-admitted.good; flat = set-flat }; short = x.short; admitted = set-admitted }
+      begun = record {
+        held = (given-cons pool table ws w x.set x.given).0;
+        sound = record { good = set-admitted.good; flat = set-flat };
+        short = x.short;
+        admitted = set-admitted;
+      }
 
 -- ══ The call ══
 
 pub answers-as : (a b : Got (Answer ℕ)) (result result' : List ℕ) (s : Solution) → a ≡ b → Answered b result result' s → Answered a result result' s
 answers-as a b result result' s e h = rw e h
 
-pub refused-answers : (a : Got (Answer ℕ)) (result : List ℕ) (r : Refusal) (s : Solution) → a ≡ refused (number_of r) → s ≡ refusedAs r 0 → Answered a result result s
+pub refused-answers : (a : Got (Answer ℕ)) (result : List ℕ) (r : Refusal) (s : Solution) → a ≡ refused (number_of r) → s ≡ refusedAs r 0
+    → Answered a result result s
 unfolding solvedOf solvedWords resultAfter
 refused-answers a result r s e i = record { stands = record { says = rw (e, i) (refl, refl) }; answer = rw (e, i); buffer = rw e }
 
 module _ (pool table ws result work : List ℕ) where
-  pub call-short : (s : Solution) → s ≡ refusedAs ShortBuffer 0 → lent pool table result work ≡ refused 10 → solutionAs s result work ≡ solveCall pool table ws result work
+  pub call-short : (s : Solution) → s ≡ refusedAs ShortBuffer 0 → lent pool table result work ≡ refused 10
+      → solutionAs s result work ≡ solveCall pool table ws result work
   unfolding solveCall solvedOf solvedWords resultAfter workAfter
   call-short s i e = rw (i, e)
 
-  pub short-stands : (s : Solution) → s ≡ refusedAs ShortBuffer 0 → lent pool table result work ≡ refused 10 → Stands result s (answerTo pool table ws result work)
+  pub short-stands : (s : Solution) → s ≡ refusedAs ShortBuffer 0 → lent pool table result work ≡ refused 10
+      → Stands result s (answerTo pool table ws result work)
   short-stands s i e = record { says = rw (i, e) (refl, refl) }
 
-  pub called-stands : (result' : List ℕ) (s : Solution) → lent pool table result work ≡ got tt → Answered (solvedSet (table_of pool table) ws) result result' s → Stands result' s (answerTo pool table ws result work)
+  pub called-stands : (result' : List ℕ) (s : Solution) → lent pool table result work ≡ got tt
+      → Answered (solvedSet (table_of pool table) ws) result result' s → Stands result' s (answerTo pool table ws result work)
   called-stands result' s e a = rw e a.stands
 
-  pub called : (w result' work' : List ℕ) (s : Solution) → length w ≡ length work → lent pool table result work ≡ got tt → Answered (solvedSet (table_of pool table) ws) result result' s → work' ≡ replicate (length w) 0 → solutionAs s result' work' ≡ solveCall pool table ws result work
+  pub called : (w result' work' : List ℕ) (s : Solution) → length w ≡ length work → lent pool table result work ≡ got tt
+      → Answered (solvedSet (table_of pool table) ws) result result' s → work' ≡ replicate (length w) 0
+      → solutionAs s result' work' ≡ solveCall pool table ws result work
   unfolding solveCall workAfter
   called w result' work' s n e a z = rw (e, a.answer, a.buffer, z, n)

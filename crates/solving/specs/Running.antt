@@ -72,12 +72,14 @@ module _ (pool table : List ℕ) where
   unfolding solve
   going-first cs w n h = record { left = enough; state = start cs; sum = omega arith; held = h; same = refl }
 
-  module _ (good : Good pool table) (cs : List (Con ℕ)) (admitted : Admitted (numbers pool table) (holding pool table) cs) (w w' : List ℕ) (n m k : ℕ) (g : Going cs w n m k) (r : Turn) (t : Turned pool table w' r (round (numbers pool table) bounded g.state)) where
+  module _ (good : Good pool table) (cs : List (Con ℕ)) (admitted : Admitted (numbers pool table) (holding pool table) cs) (w w' : List ℕ)
+      (n m k : ℕ) (g : Going cs w n m k) (r : Turn) (t : Turned pool table w' r (round (numbers pool table) bounded g.state)) where
     -- a turn, with the rounds left after it: the bound on rounds is never met
     record Turning : Type 0 where
       pub left : ℕ
       pub sum : suc (left + k) ≡ enough
-      pub same : after (numbers pool table) (round (numbers pool table) bounded g.state) k g.state (λ s'. run (numbers pool table) bounded left (suc k) s') ≡ answer_of cs
+      pub same : after (numbers pool table) (round (numbers pool table) bounded g.state) k g.state
+          (λ s'. run (numbers pool table) bounded left (suc k) s') ≡ answer_of cs
 
     turning : Turning
     unfolding run
@@ -89,7 +91,8 @@ module _ (pool table : List ℕ) where
 
     -- what is known by the case of the round
     abbrev Round : Got (Option (State ℕ)) → Type 0
-    Round R = Turned pool table w' r R × (after (numbers pool table) R k g.state (λ s'. run (numbers pool table) bounded turning.left (suc k) s') ≡ answer_of cs)
+    Round R = Turned pool table w' r R × (after (numbers pool table) R k g.state (λ s'. run (numbers pool table) bounded turning.left (suc k) s')
+        ≡ answer_of cs)
 
     rounded : Round (round (numbers pool table) bounded g.state)
     rounded = (t, turning.same)
@@ -124,7 +127,8 @@ module _ (pool table : List ℕ) where
         go : (R : Got (Option (State ℕ))) → Round R → answer_of cs ≡ finish (numbers pool table) k g.state
         go (refused j) (u, e) = absurd (subst (λ (x : Turn). Turned pool table w' x (refused j)) i u).says
         go (got none) (u, e) = sym e
-        go (got (some s)) (u, e) = absurd (let z : ◌≡◌ {A = Turn} (Ok (Some u.says.ends)) (Ok None) = sym u.says.is ∙ i in let y : ◌≡◌ {A = ℕ} 0 1 = cc in omega arith)
+        go (got (some s)) (u, e) = absurd
+            (let z : ◌≡◌ {A = Turn} (Ok (Some u.says.ends)) (Ok None) = sym u.says.is ∙ i in let y : ◌≡◌ {A = ℕ} 0 1 = cc in omega arith)
 
     -- a refused round isn't counted
     pub going-stop : (x : Refusal) → r ≡ Err x → answer_of cs ≡ stopped (number_of x) k
@@ -134,17 +138,21 @@ module _ (pool table : List ℕ) where
         go : (R : Got (Option (State ℕ))) → Round R → answer_of cs ≡ stopped (number_of x) k
         go (refused j) (u, e) = sym e ∙ ap (λ (y : ℕ). stopped y k) (sym (subst (λ (x : Turn). Turned pool table w' x (refused j)) i u).says)
         go (got none) (u, e) = absurd (let z : ◌≡◌ {A = Turn} (Err x) (Ok None) = sym i ∙ u.says in let y : ◌≡◌ {A = ℕ} 0 1 = cc in omega arith)
-        go (got (some s)) (u, e) = absurd (let z : ◌≡◌ {A = Turn} (Ok (Some u.says.ends)) (Err x) = sym u.says.is ∙ i in let y : ◌≡◌ {A = ℕ} 0 1 = cc in omega arith)
+        go (got (some s)) (u, e) = absurd
+            (let z : ◌≡◌ {A = Turn} (Ok (Some u.says.ends)) (Err x) = sym u.says.is ∙ i in let y : ◌≡◌ {A = ℕ} 0 1 = cc in omega arith)
 
   -- ══ The answer ══
 
-  pub finish-answers : (a : Answer ℕ) (st : State ℕ) (k : ℕ) (result₀ result result' : List ℕ) (f : Finish) (s : Solution) → result ≡ result₀ → a ≡ finish (numbers pool table) k st → Finished pool table st result result' f → s ≡ record { outcome = Ok f; rounds = k } → Answered (got a) result₀ result' s
+  pub finish-answers : (a : Answer ℕ) (st : State ℕ) (k : ℕ) (result₀ result result' : List ℕ) (f : Finish) (s : Solution) → result ≡ result₀
+      → a ≡ finish (numbers pool table) k st → Finished pool table st result result' f → s ≡ record { outcome = Ok f; rounds = k }
+      → Answered (got a) result₀ result' s
   finish-answers a st k result₀ result result' f s q e d i = record {
     stands = record { says = rw (i, e) (d.rows k) };
     answer = ap toldSolution i ∙ d.answer k ∙ sym (ap (λ (x : Answer ℕ). solvedOf (got x)) e);
     buffer = rw (← q, e) (d.buffer k);
   }
 
-pub stop-answers : (a : Answer ℕ) (k : ℕ) (result₀ result : List ℕ) (x : Refusal) (s : Solution) → result ≡ result₀ → a ≡ stopped (number_of x) k → s ≡ refusedAs x k → Answered (got a) result₀ result s
+pub stop-answers : (a : Answer ℕ) (k : ℕ) (result₀ result : List ℕ) (x : Refusal) (s : Solution) → result ≡ result₀ → a ≡ stopped (number_of x) k
+    → s ≡ refusedAs x k → Answered (got a) result₀ result s
 unfolding solvedOf solvedWords resultAfter
 stop-answers a k result₀ result x s q e i = record { stands = record { says = rw (e, i) (refl, refl) }; answer = rw (e, i); buffer = rw e q }

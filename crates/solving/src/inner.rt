@@ -122,7 +122,7 @@ fn enter(pool: &[u8], table: &[u32], good: bool, words: &[u32]) -> Result<(), Re
     }
 }
 
-/// All that solving does past the check of 10 and that of the table, but for clearing the work buffer.
+/// All that solving does past the check of 10 and that of the table, except for clearing the work buffer.
 pub fn solve_set(
     pool: &[u8],
     table: &[u32],

@@ -24,7 +24,8 @@ module _ {N : Type 0} (ν : Names N) (l : Limits) (bs : List (Binding N)) (bound
       go (got false) e = refl
 
   -- the verdict is whether there is none
-  pub verdict : (cs : List (Con N)) (r : Result (std.Option ℕ) Refusal) → toldBy toldOption r ≡ failing ν l bs bounds 0 cs → toldBy code.is_none r ≡ judge ν l bs bounds cs
+  pub verdict : (cs : List (Con N)) (r : Result (std.Option ℕ) Refusal) → toldBy toldOption r ≡ failing ν l bs bounds 0 cs
+      → toldBy code.is_none r ≡ judge ν l bs bounds cs
   verdict cs r e = go r ∙ ap (λ (m : Got (Option ℕ)). m >>= λ o. got (is_none o)) e ∙ sym (none-fails 0 cs)
     where
       go : (r : Result (std.Option ℕ) Refusal) → toldBy code.is_none r ≡ (toldBy toldOption r >>= λ o. got (is_none o))

@@ -114,7 +114,8 @@ module _ (pool table : List ℕ) where
 -- whichever way it is told what the names become, it is what the bindings say
 pub same-look : (pool table places types : List ℕ) (bs : List (Binding ℕ)) → Put pool table places types bs → (p : ALook pool table places types)
     → p.0 ≡ bindings (numbers pool table) bs
-same-look pool table places types bs l p = ap (λ (k : ALook pool table places types). k.0) (one-look pool table places types p (bindings (numbers pool table) bs, l.lent))
+same-look pool table places types bs l p = ap (λ (k : ALook pool table places types). k.0)
+    (one-look pool table places types p (bindings (numbers pool table) bs, l.lent))
 
 -- what becomes of names is without quantified variables
 abbrev pub Plain : Substitution → Type 0
@@ -169,7 +170,8 @@ module _ (by : Substitution) (c : Con ℕ) where
               k.wrote.words (omega (arith, front, l, m, le)) ∙ ap (λ (i : ℕ). sets w.words.now (i * 4) (words (cut (writeCon k.made)))) front
               ∙ ap (λ rs. sets w.words.now 0 (words rs)) (short-con k.made (omega (arith, le)) ∙ sym (append-nil (writeCon k.made))) in
               let g = and-eq-true_iff (goodCon pool table 0 k.made) true in
-              (written-cons pool table w.words.now w'.words.now 0 (k.made ∷ []) e (omega (arith, le, room)) (cons-weaker pool table (k.made ∷ []) (g.1 (made-good, refl)))).held.0;
+              (written-cons pool table w.words.now w'.words.now 0 (k.made ∷ []) e (omega (arith, le, room))
+              (cons-weaker pool table (k.made ∷ []) (g.1 (made-good, refl)))).held.0;
           good = made-good;
         }
       where
@@ -182,7 +184,8 @@ module _ (by : Substitution) (c : Con ℕ) where
     unfolding judgeCon
     tried k r e = e ∙ sym (rw (← same, k.is))
 
-    pub fails : (k : Refusal) (r : Result Bool Refusal) → conBy by c ≡ refused (number_of k) → told r ≡ failed (refused (number_of k)) → told r ≡ judgedBy by bs xs c
+    pub fails : (k : Refusal) (r : Result Bool Refusal) → conBy by c ≡ refused (number_of k) → told r ≡ failed (refused (number_of k))
+        → told r ≡ judgedBy by bs xs c
     unfolding judgeCon
     fails k r i e = e ∙ sym (rw (← same, i))
 
@@ -217,7 +220,8 @@ module _ (pool table set : List ℕ) where
       module _ (c : Con ℕ) (left : List (Con ℕ)) (e : now ≡ c ∷ left) where
         parts : (goodCon pool table 0 c ≡ true) × (all (goodCon pool table 0) left ≡ true)
         unfolding all
-        parts = (and-eq-true_iff (goodCon pool table 0 c) (all (goodCon pool table 0) left)).0 (subst (λ (ds : List (Con ℕ)). all (goodCon pool table 0) ds ≡ true) e g.good)
+        parts = (and-eq-true_iff (goodCon pool table 0 c) (all (goodCon pool table 0) left)).0
+            (subst (λ (ds : List (Con ℕ)). all (goodCon pool table 0) ds ≡ true) e g.good)
 
         pub first-good : goodCon pool table 0 c ≡ true
         first-good = parts.0

@@ -17,7 +17,8 @@ pub returns-in_err-put_total : goal.returns-in_err-put_total
 returns-in_err-put_total g c =
     let r : c.from_residual-in_err-put_total.result ≡ Err c.in_err-put_total.field-0.0 = search rules in
     record {
-      told = λ e h. rw r (whole-told c.args.shown _ _ c.args.sheets.now e h (c.in_ok-accepted.ensures.told _ h.holds) (c.in_ok-accepted.ensures.counted _ h.holds) _
+      told = λ e h. rw r (whole-told c.args.shown _ _ c.args.sheets.now e h (c.in_ok-accepted.ensures.told _ h.holds)
+          (c.in_ok-accepted.ensures.counted _ h.holds) _
           c.in_err-put_total.ensures);
       counted = λ e h. rw r tt;
     }

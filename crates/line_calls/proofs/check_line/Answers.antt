@@ -20,4 +20,6 @@ hand_over-requires c =
     record { made = (_, c.make_line-made.ensures); room = r.lent-long.result-long }
 
 pub returns : goal.returns
-returns c = c.hand_over.ensures _ c.make_line-made.ensures ∙ called _ _ _ _ _ _ _ _ c.make_line-made.new.work c.make_line-made.auto.work (sym c.room.ensures ∙ ap (λ (b : Bool). need b 10) (c.if-not-room.false))
+returns c = c.hand_over.ensures _ c.make_line-made.ensures
+    ∙ called _ _ _ _ _ _ _ _ c.make_line-made.new.work c.make_line-made.auto.work
+    (sym c.room.ensures ∙ ap (λ (b : Bool). need b 10) (c.if-not-room.false))

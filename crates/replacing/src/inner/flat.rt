@@ -9,7 +9,7 @@ use records::inner::{con_end, type_end};
 use rules::NESTED;
 use types::{Bindings, Constraints};
 
-/// Are constraints, which are well formed but for that, nested at most 64 deep?
+/// Are constraints, which are well formed except for that, nested at most 64 deep?
 pub fn constraints_flat(names: NameTable, cs: Constraints) -> bool
     requires { all (goodCon names.pool.now names.table.now 0) cs.trees.0 ≡ true }
     ensures { result ≡ leb (max_of depthCon cs.entry.trees.0) 64 }

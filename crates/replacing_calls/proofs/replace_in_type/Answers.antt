@@ -9,13 +9,16 @@ pub returns-then-not-lent : goal.returns-then-not-lent
 returns-then-not-lent c = type-short _ _ _ _ _ _ (short _ _ _ _ c.lent.result c.lent.ensures (ap not c.if-not-lent.true))
 
 pub make_type-made-requires : goal.make_type-made-requires
-make_type-made-requires c = let enough : Long c.args.pool.now c.args.table.now c.args.res.now c.args.work.now = long _ _ _ _ c.lent.result c.lent.ensures (ap not c.if-not-lent.false) in
+make_type-made-requires c = let enough : Long c.args.pool.now c.args.table.now c.args.res.now c.args.work.now =
+    long _ _ _ _ c.lent.result c.lent.ensures (ap not c.if-not-lent.false) in
     let l = enough in record { table_value = l.table-met; in_bounds = l.work-long }
 
 pub hand_over-requires : goal.hand_over-requires
-hand_over-requires c = let enough : Long c.args.pool.now c.args.table.now c.args.res.now c.args.work.now = long _ _ _ _ c.lent.result c.lent.ensures (ap not c.if-not-lent.false) in
+hand_over-requires c = let enough : Long c.args.pool.now c.args.table.now c.args.res.now c.args.work.now =
+    long _ _ _ _ c.lent.result c.lent.ensures (ap not c.if-not-lent.false) in
     record { made = (_, c.make_type-made.ensures); room = (enough).result-long }
 
 pub returns : goal.returns
-returns c = let enough : Long c.args.pool.now c.args.table.now c.args.res.now c.args.work.now = long _ _ _ _ c.lent.result c.lent.ensures (ap not c.if-not-lent.false) in
+returns c = let enough : Long c.args.pool.now c.args.table.now c.args.res.now c.args.work.now =
+    long _ _ _ _ c.lent.result c.lent.ensures (ap not c.if-not-lent.false) in
     c.hand_over.ensures _ c.make_type-made.ensures ∙ type-called _ _ _ _ _ _ c.make_type-made.new.work c.make_type-made.auto.work (enough).met

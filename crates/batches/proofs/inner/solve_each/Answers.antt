@@ -31,7 +31,15 @@ step-out-requires c =
     let l = c.loop-i in
     let more = c.loop-i-test.true in
     let b = c.requires.begun in
-    record { table_value = c.requires.table_value; good_value = c.requires.good_value; out_bound = l.invariant.0.few; i_bound = omega (arith, b.few, more); out_in_bounds = room-left _ _ _ l.invariant.0 more b.results; in_bounds = omega (arith, b.works, l.invariant.1) }
+    record {
+      table_value = c.requires.table_value;
+      good_value = c.requires.good_value;
+      out_bound = l.invariant.0.few;
+      i_bound = omega (arith, b.few, more);
+      out_in_bounds = room-left _ _ _ l.invariant.0 more b.results;
+      in_bounds =
+          omega (arith, b.works, l.invariant.1);
+    }
 
 pub overflow_add-i : goal.overflow_add-i
 overflow_add-i c = omega (arith, c.loop-i-test.true)

@@ -26,5 +26,6 @@ returns-in_ok-records-in-Ok c = record {
 
 pub returns-in-Err : goal.returns-in-Err
 returns-in-Err c = record {
-  read = was-err c.requires.good c.args.text.now c.args.res.now c.args.work.now c.requires.result_room c.requires.room _ _ _ _ _ c.in-Err.ensures c.new.result.items;
+  read = was-err c.requires.good c.args.text.now c.args.res.now c.args.work.now c.requires.result_room c.requires.room _ _ _ _ _ c.in-Err.ensures
+      c.new.result.items;
 }

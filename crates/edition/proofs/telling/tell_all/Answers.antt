@@ -13,14 +13,16 @@ overflow_add-accepted g c = omega (arith, c.loop-sheet.invariant.few, c.loop-she
 
 pub loop-sheet-preserved : goal.loop-sheet-preserved
 loop-sheet-preserved g c =
-    one-told _ _ _ _ _ _ _ c.loop-sheet.invariant (omega (arith, c.loop-sheet-test.true)) c.sheet-item.result _ c.sheet-item.is _ (rw c.one_if-accepted.ensures (one-small c.is_accepted.result))
+    one-told _ _ _ _ _ _ _ c.loop-sheet.invariant (omega (arith, c.loop-sheet-test.true)) c.sheet-item.result _ c.sheet-item.is _
+    (rw c.one_if-accepted.ensures (one-small c.is_accepted.result))
     (λ p i. c.in_ok-outcome.ensures.told p i) (λ p i. c.one_if-accepted.ensures ∙ ap oneIf (c.is_accepted.ensures _ _ (c.in_ok-outcome.ensures.found p i)))
 
 pub returns-in_err-outcome : goal.returns-in_err-outcome
 returns-in_err-outcome g c =
     let r : c.from_residual.result ≡ Err c.in_err-outcome.field-0.0 = search rules in
     record {
-      told = λ ps h. rw r (one-cut _ _ _ _ _ _ _ c.loop-sheet.invariant (omega (arith, c.loop-sheet-test.true)) c.sheet-item.result _ c.sheet-item.is _ refl (λ p i. c.in_err-outcome.ensures.told p i) ps h);
+      told = λ ps h. rw r (one-cut _ _ _ _ _ _ _ c.loop-sheet.invariant (omega (arith, c.loop-sheet-test.true)) c.sheet-item.result _ c.sheet-item.is
+          _ refl (λ p i. c.in_err-outcome.ensures.told p i) ps h);
       counted = λ ps h. rw r tt;
     }
 

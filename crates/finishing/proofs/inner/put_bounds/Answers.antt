@@ -11,12 +11,25 @@ use Rattle.finishing.specs.Bounds.{bound-step, bound-none}
 use Rattle.finishing.proofs.inner.put_bounds.Goals as goal
 
 pub loop-i-init : goal.loop-i-init
-loop-i-init c = let a = c.args in (refl, (omega arith, ap (λ (j : ℕ). sets a.dst.now (j * 4) (words (map boundRec (take a.k a.names.now)))) (let z : a.out + 0 ≡ a.out = omega arith in z)))
+loop-i-init c = let a = c.args in (
+  refl,
+  (
+    omega arith,
+    ap (λ (j : ℕ). sets a.dst.now (j * 4) (words (map boundRec (take a.k a.names.now))))
+        (let z : a.out + 0 ≡ a.out = omega arith in z),
+  ),
+)
 
 pub loop-i-preserved : goal.loop-i-preserved
 loop-i-preserved c =
-    let a = c.args in
-    (c.put_one.auto.dst ∙ c.loop-i.invariant.0, (omega arith, bound-step a.names.now c.loop-i.dst _ a.k a.out c.loop-i.i c.loop-i-test.true c.requires.held c.put_one.ensures c.loop-i.invariant.1.1))
+    let a = c.args in (
+      c.put_one.auto.dst ∙ c.loop-i.invariant.0,
+      (
+        omega arith,
+        bound-step a.names.now c.loop-i.dst _ a.k a.out c.loop-i.i c.loop-i-test.true c.requires.held c.put_one.ensures
+            c.loop-i.invariant.1.1,
+      ),
+    )
 
 pub returns : goal.returns
 returns c =

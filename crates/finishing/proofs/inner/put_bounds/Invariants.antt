@@ -9,7 +9,9 @@ use Rattle.finishing.proofs.inner.put_bounds.Given as goal
 
 abbrev pub invariant-loop-i : goal.invariant-loop-i
 invariant-loop-i l =
-    (length l.dst ≡ length l.initial.dst) × ((l.i ≤ l.k) × (sets l.dst ((l.out + l.i) * 4) (words (map boundRec (slice l.i l.k l.names))) ≡ sets l.initial.dst (l.out * 4) (words (map boundRec (take l.k l.names)))))
+    (length l.dst ≡ length l.initial.dst)
+    × ((l.i ≤ l.k) × (sets l.dst ((l.out + l.i) * 4) (words (map boundRec (slice l.i l.k l.names)))
+    ≡ sets l.initial.dst (l.out * 4) (words (map boundRec (take l.k l.names)))))
 
 abbrev pub decreases-loop-i : goal.decreases-loop-i
 decreases-loop-i l = l.k - l.i

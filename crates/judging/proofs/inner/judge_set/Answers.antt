@@ -9,7 +9,10 @@ pub invariant_of-names : goal.invariant_of-names
 invariant_of-names c =
     let a = c.args in
     let (es, h) = c.requires.slotted in
-    record { good = (came-in a.pool.now a.table.now a.set.now a.types.now a.bounds.now es c.requires.table_lent (sym (c.in_ok-enter.ensures es h.many))).known.good }
+    record {
+      good = (came-in a.pool.now a.table.now a.set.now a.types.now a.bounds.now es c.requires.table_lent
+          (sym (c.in_ok-enter.ensures es h.many))).known.good;
+    }
 
 pub judge_rest-requires : goal.judge_rest-requires
 judge_rest-requires c =

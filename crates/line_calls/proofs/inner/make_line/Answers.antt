@@ -12,12 +12,14 @@ enter_line-requires c =
 
 pub type_line-requires : goal.type_line-requires
 type_line-requires c =
-    let x : Came c.args.pool.now c.args.table.now c.args.line.steps.now c.args.line.types.now c.args.line.earlier.now c.args.line.lent.now = came _ _ _ _ _ _ c.requires.table_value c.requires.lent (sym c.in_ok-enter_line.ensures) in
+    let x : Came c.args.pool.now c.args.table.now c.args.line.steps.now c.args.line.types.now c.args.line.earlier.now c.args.line.lent.now =
+    came _ _ _ _ _ _ c.requires.table_value c.requires.lent (sym c.in_ok-enter_line.ensures) in
     record { read = (x.ss, x.held); room = c.requires.room }
 
 pub invariant_of-type_line : goal.invariant_of-type_line
 invariant_of-type_line c =
-    let x : Came c.args.pool.now c.args.table.now c.args.line.steps.now c.args.line.types.now c.args.line.earlier.now c.args.line.lent.now = came _ _ _ _ _ _ c.requires.table_value c.requires.lent (sym c.in_ok-enter_line.ensures) in
+    let x : Came c.args.pool.now c.args.table.now c.args.line.steps.now c.args.line.types.now c.args.line.earlier.now c.args.line.lent.now =
+    came _ _ _ _ _ _ c.requires.table_value c.requires.lent (sym c.in_ok-enter_line.ensures) in
     record { good = x.good }
 
 pub returns-in_err-enter_line : goal.returns-in_err-enter_line
@@ -27,5 +29,6 @@ returns-in_err-enter_line c =
 
 pub returns : goal.returns
 returns c =
-    let x : Came c.args.pool.now c.args.table.now c.args.line.steps.now c.args.line.types.now c.args.line.earlier.now c.args.line.lent.now = came _ _ _ _ _ _ c.requires.table_value c.requires.lent (sym c.in_ok-enter_line.ensures) in
+    let x : Came c.args.pool.now c.args.table.now c.args.line.steps.now c.args.line.types.now c.args.line.earlier.now c.args.line.lent.now =
+    came _ _ _ _ _ _ c.requires.table_value c.requires.lent (sym c.in_ok-enter_line.ensures) in
     line_made _ _ _ _ _ _ x _ _ (c.type_line.ensures x.ss x.held)

@@ -34,25 +34,38 @@ bounds-line-line c =
 pub overflow_mul-e : goal.overflow_mul-e
 overflow_mul-e c =
     let (ss, h) = c.requires.read in
-    let wrote : Wrote (constraints (numbersOf (table_of c.args.names.pool.now c.args.names.table.now)) c.args.line.lent.now [] ss) (replicate 8192 0) c.put_line.new.dst c.in-Ok.n = subst (Issues _ _ _) c.in-Ok.is (c.put_line.ensures ss (line-is _ _ _ _ _ _ c.args.names.good ss h)) in
+    let wrote : Wrote (constraints (numbersOf (table_of c.args.names.pool.now c.args.names.table.now)) c.args.line.lent.now [] ss) (replicate 8192 0)
+    c.put_line.new.dst c.in-Ok.n = subst (Issues _ _ _) c.in-Ok.is (c.put_line.ensures ss (line-is _ _ _ _ _ _ c.args.names.good ss h)) in
     omega (arith, wrote.within)
 
 pub slice_bounds-settle-end : goal.slice_bounds-settle-end
 slice_bounds-settle-end c =
     let (ss, h) = c.requires.read in
-    let wrote : Wrote (constraints (numbersOf (table_of c.args.names.pool.now c.args.names.table.now)) c.args.line.lent.now [] ss) (replicate 8192 0) c.put_line.new.dst c.in-Ok.n = subst (Issues _ _ _) c.in-Ok.is (c.put_line.ensures ss (line-is _ _ _ _ _ _ c.args.names.good ss h)) in
+    let wrote : Wrote (constraints (numbersOf (table_of c.args.names.pool.now c.args.names.table.now)) c.args.line.lent.now [] ss) (replicate 8192 0)
+    c.put_line.new.dst c.in-Ok.n = subst (Issues _ _ _) c.in-Ok.is (c.put_line.ensures ss (line-is _ _ _ _ _ _ c.args.names.good ss h)) in
     omega (arith, wrote.within, c.put_line.auto.dst)
 
 pub settle-requires : goal.settle-requires
 settle-requires c =
     let (ss, h) = c.requires.read in
-    let wrote : Wrote (constraints (numbersOf (table_of c.args.names.pool.now c.args.names.table.now)) c.args.line.lent.now [] ss) (replicate 8192 0) c.put_line.new.dst c.in-Ok.n = subst (Issues _ _ _) c.in-Ok.is (c.put_line.ensures ss (line-is _ _ _ _ _ _ c.args.names.good ss h)) in
-    record { stands = (_, set-written _ _ _ _ _ _ c.args.names.good ss h (replicate 8192 0) _ _ (omega (arith, length-replicate {A = ℕ} 8192 0)) wrote); room = c.requires.room }
+    let wrote : Wrote (constraints (numbersOf (table_of c.args.names.pool.now c.args.names.table.now)) c.args.line.lent.now [] ss) (replicate 8192 0)
+    c.put_line.new.dst c.in-Ok.n = subst (Issues _ _ _) c.in-Ok.is (c.put_line.ensures ss (line-is _ _ _ _ _ _ c.args.names.good ss h)) in
+    record {
+      stands = (
+        _,
+        set-written _ _ _ _ _ _ c.args.names.good ss h (replicate 8192 0) _ _ (omega (arith, length-replicate {A = ℕ} 8192 0))
+            wrote,
+      );
+      room = c.requires.room;
+    }
 
 pub returns-in-Ok : goal.returns-in-Ok
 returns-in-Ok c = λ ss h.
-    let wrote : Wrote (constraints (numbersOf (table_of c.args.names.pool.now c.args.names.table.now)) c.args.line.lent.now [] ss) (replicate 8192 0) c.put_line.new.dst c.in-Ok.n = subst (Issues _ _ _) c.in-Ok.is (c.put_line.ensures ss (line-is _ _ _ _ _ _ c.args.names.good ss h)) in
-    type-made _ _ _ _ _ _ c.args.names.good ss h _ _ (c.settle.ensures _ (set-written _ _ _ _ _ _ c.args.names.good ss h (replicate 8192 0) _ _ (omega (arith, length-replicate {A = ℕ} 8192 0)) wrote))
+    let wrote : Wrote (constraints (numbersOf (table_of c.args.names.pool.now c.args.names.table.now)) c.args.line.lent.now [] ss) (replicate 8192 0)
+    c.put_line.new.dst c.in-Ok.n = subst (Issues _ _ _) c.in-Ok.is (c.put_line.ensures ss (line-is _ _ _ _ _ _ c.args.names.good ss h)) in
+    type-made _ _ _ _ _ _ c.args.names.good ss h _ _
+    (c.settle.ensures _ (set-written _ _ _ _ _ _ c.args.names.good ss h (replicate 8192 0) _ _ (omega (arith, length-replicate {A = ℕ} 8192 0))
+    wrote))
 
 pub returns-in-Err : goal.returns-in-Err
 returns-in-Err c = λ ss h.

@@ -31,8 +31,14 @@ loop-i-smaller c =
 
 pub loop-i-preserved : goal.loop-i-preserved
 loop-i-preserved c =
-    let n = c.note.auto.places in
-    (n ∙ c.loop-i.invariant.0, (n ∙ c.loop-i.invariant.1.0, λ bs r. going_on c.args.v.now (c.loop-i.invariant.1.1 bs r) c.loop-i-test.true c.loop-i.invariant.1.0 c.note.ensures c.end_of-i.ensures))
+    let n = c.note.auto.places in (
+      n ∙ c.loop-i.invariant.0,
+      (
+        n ∙ c.loop-i.invariant.1.0,
+        λ bs r. going_on c.args.v.now (c.loop-i.invariant.1.1 bs r) c.loop-i-test.true c.loop-i.invariant.1.0 c.note.ensures c.end_of-i.ensures,
+      ),
+    )
 
 pub returns : goal.returns
-returns c = λ pool table bs good h. filled pool table _ _ _ _ bs good h c.loop-i.invariant.1.0 (going_end c.args.v.now (c.loop-i.invariant.1.1 bs h.run) c.loop-i-test.false (names_of (table_of pool table)))
+returns c = λ pool table bs good h. filled pool table _ _ _ _ bs good h c.loop-i.invariant.1.0
+    (going_end c.args.v.now (c.loop-i.invariant.1.1 bs h.run) c.loop-i-test.false (names_of (table_of pool table)))

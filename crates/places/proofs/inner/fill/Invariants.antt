@@ -8,7 +8,8 @@ use Rattle.places.specs.Filling.{Going}
 use Rattle.places.proofs.inner.fill.Given as goal
 
 abbrev pub invariant-loop-i : goal.invariant-loop-i
-invariant-loop-i l = (length l.places ≡ length l.initial.places) × ((length l.places ≡ 256) × ((bs : List (Binding ℕ)) → Run l.v l.b l.e bs → Going l.v bs l.places l.i l.e))
+invariant-loop-i l = (length l.places ≡ length l.initial.places)
+    × ((length l.places ≡ 256) × ((bs : List (Binding ℕ)) → Run l.v l.b l.e bs → Going l.v bs l.places l.i l.e))
 
 abbrev pub decreases-loop-i : goal.decreases-loop-i
 decreases-loop-i l = l.e - l.i

@@ -12,7 +12,8 @@ returns-then-word_at-eq0 c = λ y h.
     let a = c.args in
     let q : view.Binding c.in-Binding.y ≡ view.Binding y = sym c.in-Binding.is ∙ (c.view_at.ensures ∙ h) in
     let z : c.in-Binding.y ≡ y = cc in
-    noted-first a.places.now _ y (a.at + 2) (ap (λ (k : ℕ). get_or a.places.now k 0) (sym z) ∙ sym c.word_at.ensures ∙ c.if-word_at-eq0.true) (c.put.ensures ∙ ap (λ (k : ℕ). set a.places.now k (a.at + 2)) z)
+    noted-first a.places.now _ y (a.at + 2) (ap (λ (k : ℕ). get_or a.places.now k 0) (sym z) ∙ sym c.word_at.ensures ∙ c.if-word_at-eq0.true)
+    (c.put.ensures ∙ ap (λ (k : ℕ). set a.places.now k (a.at + 2)) z)
 
 pub returns-else-word_at-eq0 : goal.returns-else-word_at-eq0
 returns-else-word_at-eq0 c = λ y h.

@@ -17,7 +17,8 @@ pub invariant_of-type_into : goal.invariant_of-type_into
 invariant_of-type_into c =
     let word : Words32 c.args.words.now = record { word = λ i. (c.shared_slice_known-3-1.given i).fits } in
     let binds-word : Words32 c.args.binds.now = record { word = λ i. (c.shared_slice_known-4-1.given i).fits } in
-    let (t, (bs, (e, n))) = type-met _ _ _ _ c.if-binds-gt-RECORD_WORDS.false c.requires.table_value word binds-word _ _ c.is_type.ensures c.with_bindings.ensures
+    let (t, (bs, (e, n))) = type-met _ _ _ _ c.if-binds-gt-RECORD_WORDS.false c.requires.table_value word binds-word _ _ c.is_type.ensures
+    c.with_bindings.ensures
     (ap told c.in_ok-with_bindings.was) in
     record { good = n.good }
 
@@ -25,7 +26,8 @@ pub type_into-requires : goal.type_into-requires
 type_into-requires c =
     let word : Words32 c.args.words.now = record { word = λ i. (c.shared_slice_known-3-1.given i).fits } in
     let binds-word : Words32 c.args.binds.now = record { word = λ i. (c.shared_slice_known-4-1.given i).fits } in
-    let (t, (bs, (e, n))) = type-met _ _ _ _ c.if-binds-gt-RECORD_WORDS.false c.requires.table_value word binds-word _ _ c.is_type.ensures c.with_bindings.ensures
+    let (t, (bs, (e, n))) = type-met _ _ _ _ c.if-binds-gt-RECORD_WORDS.false c.requires.table_value word binds-word _ _ c.is_type.ensures
+    c.with_bindings.ensures
     (ap told c.in_ok-with_bindings.was) in
     record { entered = (t, (bs, n)); room = c.requires.in_bounds }
 
@@ -33,7 +35,8 @@ pub returns : goal.returns
 returns c =
     let word : Words32 c.args.words.now = record { word = λ i. (c.shared_slice_known-3-1.given i).fits } in
     let binds-word : Words32 c.args.binds.now = record { word = λ i. (c.shared_slice_known-4-1.given i).fits } in
-    let (t, (bs, (e, n))) = type-met _ _ _ _ c.if-binds-gt-RECORD_WORDS.false c.requires.table_value word binds-word _ _ c.is_type.ensures c.with_bindings.ensures
+    let (t, (bs, (e, n))) = type-met _ _ _ _ c.if-binds-gt-RECORD_WORDS.false c.requires.table_value word binds-word _ _ c.is_type.ensures
+    c.with_bindings.ensures
     (ap told c.in_ok-with_bindings.was) in
     met-made _ _ _ _ _ _ _ _ (type-whole _ _ _ _) _ _ t bs e (c.type_into.ensures t bs n)
 

@@ -8,7 +8,8 @@ pub returns-then-n-gt-RECORDS : goal.returns-then-n-gt-RECORDS
 returns-then-n-gt-RECORDS c = λ cs s. too_long (sum_of sizeCon) (max_of depthCon) _ cs s.many c.if-n-gt-RECORDS.true
 
 pub invariant_of-made : goal.invariant_of-made
-invariant_of-made c = let (cs, s) = c.requires in record { near = near-there _ _ _ _ cs s c.if-n-gt-RECORDS.false; trees = (cs, cons-there _ _ _ _ cs s c.if-n-gt-RECORDS.false) }
+invariant_of-made c = let (cs, s) = c.requires
+    in record { near = near-there _ _ _ _ cs s c.if-n-gt-RECORDS.false; trees = (cs, cons-there _ _ _ _ cs s c.if-n-gt-RECORDS.false) }
 
 pub constraints_flat-requires : goal.constraints_flat-requires
 constraints_flat-requires c = let (cs, s) = c.requires in there-good _ _ _ _ cs s c.if-n-gt-RECORDS.false c.constraints_flat-arg-1.given.1.0

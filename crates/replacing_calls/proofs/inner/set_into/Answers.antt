@@ -44,8 +44,10 @@ set_fits-requires c =
     let (cs, (bs, n)) = c.requires.entered in
     let back : c.front-1.given.0 ≡ c.replace_constraints-put.new.out.words.now = search rules in
     let f = c.fill.ensures _ _ bs n.good (set-binds _ _ _ _ word binds-word bs cs n) in
-    let left = set-left _ _ _ _ word binds-word bs cs n f c.replace_constraints-arg-1.given.0 c.replace_constraints-arg-2-1.given.1.0 c.replace_constraints-put.ensures in
-    let k = came (sum_of sizeCon) (max_of depthCon) (collect writeCon) set-length short-set _ _ refl (omega (arith, c.split_at_mut-front.ensures.front_len)) _ c.in-Ok.is left in
+    let left = set-left _ _ _ _ word binds-word bs cs n f c.replace_constraints-arg-1.given.0 c.replace_constraints-arg-2-1.given.1.0
+    c.replace_constraints-put.ensures in
+    let k = came (sum_of sizeCon) (max_of depthCon) (collect writeCon) set-length short-set _ _ refl
+    (omega (arith, c.split_at_mut-front.ensures.front_len)) _ c.in-Ok.is left in
     (k.value, rw back (set-stands _ _ _ _ word binds-word bs cs n _ _ _ k.value (omega (arith, c.split_at_mut-front.ensures.front_len)) k.is k.many k.buffer))
 
 pub returns-in-Ok : goal.returns-in-Ok
@@ -55,10 +57,13 @@ returns-in-Ok c =
     let back : c.front-1.given.0 ≡ c.replace_constraints-put.new.out.words.now = search rules in
     λ cs bs n.
     let f = c.fill.ensures _ _ bs n.good (set-binds _ _ _ _ word binds-word bs cs n) in
-    let left = set-left _ _ _ _ word binds-word bs cs n f c.replace_constraints-arg-1.given.0 c.replace_constraints-arg-2-1.given.1.0 c.replace_constraints-put.ensures in
-    let k = came (sum_of sizeCon) (max_of depthCon) (collect writeCon) set-length short-set _ _ refl (omega (arith, c.split_at_mut-front.ensures.front_len)) _ c.in-Ok.is left in
+    let left = set-left _ _ _ _ word binds-word bs cs n f c.replace_constraints-arg-1.given.0 c.replace_constraints-arg-2-1.given.1.0
+    c.replace_constraints-put.ensures in
+    let k = came (sum_of sizeCon) (max_of depthCon) (collect writeCon) set-length short-set _ _ refl
+    (omega (arith, c.split_at_mut-front.ensures.front_len)) _ c.in-Ok.is left in
     let s = set-stands _ _ _ _ word binds-word bs cs n _ _ _ k.value (omega (arith, c.split_at_mut-front.ensures.front_len)) k.is k.many k.buffer in
-    rw back (set-made _ _ cs bs _ _ (made-to (sum_of sizeCon) (max_of depthCon) (collect writeCon) set-length short-set _ _ refl (omega (arith, c.split_at_mut-front.ensures.front_len)) _ _ _ k
+    rw back (set-made _ _ cs bs _ _ (made-to (sum_of sizeCon) (max_of depthCon) (collect writeCon) set-length short-set _ _ refl
+    (omega (arith, c.split_at_mut-front.ensures.front_len)) _ _ _ k
     (c.set_fits.ensures k.value (rw back s))))
 
 pub returns-in-Err : goal.returns-in-Err
@@ -67,5 +72,7 @@ returns-in-Err c =
     let binds-word : Words32 c.args.binds.now = record { word = λ i. (c.type_inv.binds i).fits } in
     λ cs bs n.
     let f = c.fill.ensures _ _ bs n.good (set-binds _ _ _ _ word binds-word bs cs n) in
-    let left = set-left _ _ _ _ word binds-word bs cs n f c.replace_constraints-arg-1.given.0 c.replace_constraints-arg-2-1.given.1.0 c.replace_constraints-put.ensures in
-    set-made _ _ cs bs _ _ (made-stop (sum_of sizeCon) (max_of depthCon) (collect writeCon) set-length short-set _ _ refl (omega (arith, c.split_at_mut-front.ensures.front_len)) _ _ c.in-Err.is left)
+    let left = set-left _ _ _ _ word binds-word bs cs n f c.replace_constraints-arg-1.given.0 c.replace_constraints-arg-2-1.given.1.0
+    c.replace_constraints-put.ensures in
+    set-made _ _ cs bs _ _ (made-stop (sum_of sizeCon) (max_of depthCon) (collect writeCon) set-length short-set _ _ refl
+    (omega (arith, c.split_at_mut-front.ensures.front_len)) _ _ c.in-Err.is left)

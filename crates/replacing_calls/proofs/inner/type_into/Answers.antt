@@ -47,7 +47,8 @@ returns-in-Ok c =
     let left = type-left _ _ _ _ word binds-word bs t n f c.replace_type-arg-1.given.0 c.replace_type-arg-2-1.given.1.0 c.replace_type-put.ensures in
     let k = came size depth writeTy size-ty short-ty _ _ refl (omega (arith, c.split_at_mut-front.ensures.front_len)) _ c.in-Ok.is left in
     let s = type-stands _ _ _ _ word binds-word bs t n _ _ _ k.value (omega (arith, c.split_at_mut-front.ensures.front_len)) k.is k.many k.buffer in
-    rw back (made-to size depth writeTy size-ty short-ty _ _ refl (omega (arith, c.split_at_mut-front.ensures.front_len)) _ _ _ k (c.type_fits.ensures k.value (rw back s)))
+    rw back (made-to size depth writeTy size-ty short-ty _ _ refl (omega (arith, c.split_at_mut-front.ensures.front_len)) _ _ _ k
+    (c.type_fits.ensures k.value (rw back s)))
 
 pub returns-in-Err : goal.returns-in-Err
 returns-in-Err c =

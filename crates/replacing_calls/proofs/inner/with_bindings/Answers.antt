@@ -10,7 +10,8 @@ use Rattle.replacing_calls.proofs.inner.with_bindings.Goals as goal
 
 pub apart-requires : goal.apart-requires
 apart-requires c =
-    both_small _ _ _ _ (c.requires (ap told c.in_ok-first.was)) (record { word = λ i. (c.shared_slice_known-4-1.given i).fits }) (sym c.is_bindings.ensures ∙ ap told c.in_ok-is_bindings.was)
+    both_small _ _ _ _ (c.requires (ap told c.in_ok-first.was)) (record { word = λ i. (c.shared_slice_known-4-1.given i).fits })
+    (sym c.is_bindings.ensures ∙ ap told c.in_ok-is_bindings.was)
 
 pub returns : goal.returns
 returns c =

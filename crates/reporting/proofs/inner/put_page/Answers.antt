@@ -13,7 +13,8 @@ returns-in_err-put_place g c = λ f h. then _ c.in_ok-put_shown.ensures (cut _ _
 
 pub returns-in_err-put : goal.returns-in_err-put
 unfolding reportText
-returns-in_err-put g c = λ f h. then _ c.in_ok-put_shown.ensures (then _ (c.in_ok-put_place.ensures _ f h) (cut _ _ c.from_residual-in_err-put.ensures.0 c.in_err-put.ensures))
+returns-in_err-put g c = λ f h. then _ c.in_ok-put_shown.ensures
+    (then _ (c.in_ok-put_place.ensures _ f h) (cut _ _ c.from_residual-in_err-put.ensures.0 c.in_err-put.ensures))
 
 pub returns : goal.returns
 unfolding reportText

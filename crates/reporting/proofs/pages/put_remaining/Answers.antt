@@ -9,7 +9,8 @@ pub returns-in_err-put : goal.returns-in_err-put
 returns-in_err-put g c = then _ c.in_ok-put_refused.ensures (cut _ _ c.from_residual-in_err-put.ensures.0 c.in_err-put.ensures)
 
 pub returns-in_err-put_quantity : goal.returns-in_err-put_quantity
-returns-in_err-put_quantity g c = then _ c.in_ok-put_refused.ensures (then _ c.in_ok-put.ensures (cut _ _ c.from_residual-in_err-put_quantity.ensures.0 c.in_err-put_quantity.ensures))
+returns-in_err-put_quantity g c = then _ c.in_ok-put_refused.ensures
+    (then _ c.in_ok-put.ensures (cut _ _ c.from_residual-in_err-put_quantity.ensures.0 c.in_err-put_quantity.ensures))
 
 pub returns : goal.returns
 returns g c = then _ c.in_ok-put_refused.ensures (then _ c.in_ok-put.ensures (then _ c.in_ok-put_quantity.ensures c.put-2.ensures))

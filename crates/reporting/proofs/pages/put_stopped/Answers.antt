@@ -13,7 +13,8 @@ returns-in_err-put g c = λ names text cs new. then _ c.in_ok-put_refused.ensure
 
 pub returns-in_err-put_quantity : goal.returns-in_err-put_quantity
 unfolding findingText
-returns-in_err-put_quantity g c = λ names text cs new. then _ c.in_ok-put_refused.ensures (then _ c.in_ok-put.ensures (cut _ _ c.from_residual-in_err-put_quantity.ensures.0 c.in_err-put_quantity.ensures))
+returns-in_err-put_quantity g c = λ names text cs new. then _ c.in_ok-put_refused.ensures
+    (then _ c.in_ok-put.ensures (cut _ _ c.from_residual-in_err-put_quantity.ensures.0 c.in_err-put_quantity.ensures))
 
 pub returns : goal.returns
 unfolding findingText

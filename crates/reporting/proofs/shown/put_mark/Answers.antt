@@ -13,8 +13,11 @@ returns-in_err-put-2 g c = then _ c.in_ok-put.ensures (cut _ _ c.from_residual-i
 
 pub returns-in_err-put_rooms : goal.returns-in_err-put_rooms
 unfolding markShown
-returns-in_err-put_rooms g c = then _ c.in_ok-put.ensures (then _ (rw c.under_dots.ensures at c.in_ok-put-2.ensures) (cut _ _ c.from_residual-in_err-put_rooms.ensures.0 (rw c.part.ensures at c.in_err-put_rooms.ensures)))
+returns-in_err-put_rooms g c = then _ c.in_ok-put.ensures
+    (then _ (rw c.under_dots.ensures at c.in_ok-put-2.ensures)
+    (cut _ _ c.from_residual-in_err-put_rooms.ensures.0 (rw c.part.ensures at c.in_err-put_rooms.ensures)))
 
 pub returns : goal.returns
 unfolding markShown
-returns g c = then _ c.in_ok-put.ensures (then _ (rw c.under_dots.ensures at c.in_ok-put-2.ensures) (then _ (rw c.part.ensures at c.in_ok-put_rooms.ensures) c.put-3.ensures))
+returns g c = then _ c.in_ok-put.ensures
+    (then _ (rw c.under_dots.ensures at c.in_ok-put-2.ensures) (then _ (rw c.part.ensures at c.in_ok-put_rooms.ensures) c.put-3.ensures))

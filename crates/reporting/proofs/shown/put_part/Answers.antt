@@ -13,8 +13,11 @@ returns-in_err-put-2 g c = then _ c.in_ok-put.ensures (cut _ _ c.from_residual-i
 
 pub returns-in_err-put_shown : goal.returns-in_err-put_shown
 unfolding partShown
-returns-in_err-put_shown g c = then _ c.in_ok-put.ensures (then _ (rw c.dots.ensures at c.in_ok-put-2.ensures) (cut _ _ c.from_residual-in_err-put_shown.ensures.0 (rw c.part.ensures at c.in_err-put_shown.ensures)))
+returns-in_err-put_shown g c = then _ c.in_ok-put.ensures
+    (then _ (rw c.dots.ensures at c.in_ok-put-2.ensures)
+    (cut _ _ c.from_residual-in_err-put_shown.ensures.0 (rw c.part.ensures at c.in_err-put_shown.ensures)))
 
 pub returns : goal.returns
 unfolding partShown
-returns g c = then _ c.in_ok-put.ensures (then _ (rw c.dots.ensures at c.in_ok-put-2.ensures) (then _ (rw c.part.ensures at c.in_ok-put_shown.ensures) c.put-3.ensures))
+returns g c = then _ c.in_ok-put.ensures
+    (then _ (rw c.dots.ensures at c.in_ok-put-2.ensures) (then _ (rw c.part.ensures at c.in_ok-put_shown.ensures) c.put-3.ensures))

@@ -5,7 +5,8 @@ pub fill-requires-clause-run : goal.fill-requires-clause-run
 fill-requires-clause-run c = let (x, t, h) = c.requires.bound in (_, (listed c.args.names.pool.now c.args.names.table.now h).run)
 
 pub invariant_of-by : goal.invariant_of-by
-invariant_of-by c = let (x, t, h) = c.requires.bound in record { lent = (_, lent c.args.names.pool.now c.args.names.table.now h c.fill.ensures c.args.names.good) }
+invariant_of-by c = let (x, t, h) = c.requires.bound
+    in record { lent = (_, lent c.args.names.pool.now c.args.names.table.now h c.fill.ensures c.args.names.good) }
 
 pub rebind-requires-clause-bound : goal.rebind-requires-clause-bound
 rebind-requires-clause-bound c =

@@ -21,7 +21,8 @@ pub returns-in-Bind : goal.returns-in-Bind
 returns-in-Bind c = λ k t.
     let b = took-bind _ _ _ _ _ k t c.requires.new_room c.in-Bind.is in
     next-as (ap (after c.args.names.pool.now c.args.names.table.now c.args.rest) b.is)
-    (c.bind.ensures b.name b.type (record { is = binds-same _ _ _ _ b.there c.bind-arg-in-Bind-1.given.1.0; good = b.good; deep = b.deep; short = omega (arith, b.fits) }))
+    (c.bind.ensures b.name b.type (record
+    { is = binds-same _ _ _ _ b.there c.bind-arg-in-Bind-1.given.1.0; good = b.good; deep = b.deep; short = omega (arith, b.fits) }))
 
 pub invariant_of-constraints : goal.invariant_of-constraints
 invariant_of-constraints c =
@@ -31,7 +32,8 @@ invariant_of-constraints c =
 pub returns-then-end-gt-RECORDS : goal.returns-then-end-gt-RECORDS
 returns-then-end-gt-RECORDS c = λ k t.
     let b = took-split _ _ _ _ _ k t c.requires.new_room c.in-Split.is in
-    next-stops refl (ap (after c.args.names.pool.now c.args.names.table.now c.args.rest) b.is ∙ append-over c.args.rest b.cons (omega (arith, b.many, c.if-end-gt-RECORDS.true)))
+    next-stops refl (ap (after c.args.names.pool.now c.args.names.table.now c.args.rest) b.is
+    ∙ append-over c.args.rest b.cons (omega (arith, b.many, c.if-end-gt-RECORDS.true)))
 
 pub returns-else-end-gt-RECORDS : goal.returns-else-end-gt-RECORDS
 returns-else-end-gt-RECORDS c = λ k t.
@@ -47,4 +49,5 @@ pub returns-in-Done : goal.returns-in-Done
 returns-in-Done c = λ k t.
     let e = set-same _ _ _ _ (none-there _) c.append-arg-in-Done-2-1.given.1.0 in
     next-as (ap (after c.args.names.pool.now c.args.names.table.now c.args.rest) (took-done _ _ _ _ _ k t c.in-Done.is) ∙ ap (appends c.args.rest) (sym e))
-    (c.append-in-Done.ensures c.args.names.pool.now c.args.names.table.now t.sound (subst (SoundSet c.args.names.pool.now c.args.names.table.now) (sym e) (sound-none c.args.names.pool.now c.args.names.table.now)))
+    (c.append-in-Done.ensures c.args.names.pool.now c.args.names.table.now t.sound
+    (subst (SoundSet c.args.names.pool.now c.args.names.table.now) (sym e) (sound-none c.args.names.pool.now c.args.names.table.now)))

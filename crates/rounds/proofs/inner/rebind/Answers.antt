@@ -18,14 +18,16 @@ pub returns-in_err-replace_constraints : goal.returns-in_err-replace_constraints
 returns-in_err-replace_constraints c = λ x t h e.
     let k = err_from_is_err_and c.from_residual.result c.from_residual.ensures.1 in
     rw (k.1, k.2) (next-stops c.replace_constraints.ensures.same
-    (first-stops c.args.by.names.pool.now c.args.by.names.table.now h c.args.rest c.requires.sound _ e (stopped c.in_err-replace_constraints.was c.replace_constraints.ensures)))
+    (first-stops c.args.by.names.pool.now c.args.by.names.table.now h c.args.rest c.requires.sound _ e
+    (stopped c.in_err-replace_constraints.was c.replace_constraints.ensures)))
 
 pub returns-in_err-replace_constraints-2 : goal.returns-in_err-replace_constraints-2
 returns-in_err-replace_constraints-2 c = λ x t h e.
     let k = err_from_is_err_and c.from_residual-in_err-replace_constraints-2.result c.from_residual-in_err-replace_constraints-2.ensures.1 in
     let u = came c.in_ok-replace_constraints.was c.replace_constraints.ensures in
     rw (k.1, k.2) (next-stops (c.replace_constraints-2.ensures.same ∙ c.replace_constraints.ensures.same)
-    (second-stops c.args.by.names.pool.now c.args.by.names.table.now h c.args.rest c.requires.sound _ e u.is (stopped c.in_err-replace_constraints-2.was c.replace_constraints-2.ensures)))
+    (second-stops c.args.by.names.pool.now c.args.by.names.table.now h c.args.rest c.requires.sound _ e u.is
+    (stopped c.in_err-replace_constraints-2.was c.replace_constraints-2.ensures)))
 
 pub returns-in_err-replace_bindings : goal.returns-in_err-replace_bindings
 returns-in_err-replace_bindings c = λ x t h e.
@@ -33,7 +35,8 @@ returns-in_err-replace_bindings c = λ x t h e.
     let u = came c.in_ok-replace_constraints.was c.replace_constraints.ensures in
     let v = came c.in_ok-replace_constraints-2.was c.replace_constraints-2.ensures in
     rw (k.1, k.2) (next-stops (c.replace_bindings.ensures.same ∙ c.replace_constraints-2.ensures.same ∙ c.replace_constraints.ensures.same)
-    (third-stops c.args.by.names.pool.now c.args.by.names.table.now h c.args.rest c.requires.sound _ e u.is v.is (stopped c.in_err-replace_bindings.was c.replace_bindings.ensures)))
+    (third-stops c.args.by.names.pool.now c.args.by.names.table.now h c.args.rest c.requires.sound _ e u.is v.is
+    (stopped c.in_err-replace_bindings.was c.replace_bindings.ensures)))
 
 pub limited-requires : goal.limited-requires
 limited-requires c =
@@ -45,7 +48,8 @@ limited-requires c =
     record {
       made = (
         rebound c.args.by.names.pool.now c.args.by.names.table.now h c.args.rest s _ e u.is v.is z.is,
-        rebind-made c.args.by.names.pool.now c.args.by.names.table.now h c.args.rest s _ e u.is v.is z.is c.requires.front c.requires.room c.requires.near u.wrote v.wrote z.wrote c.copy_bindings.ensures,
+        rebind-made c.args.by.names.pool.now c.args.by.names.table.now h c.args.rest s _ e u.is v.is z.is c.requires.front c.requires.room
+            c.requires.near u.wrote v.wrote z.wrote c.copy_bindings.ensures,
         known c.args.by.names.pool.now c.args.by.names.table.now h c.args.rest s _ e u.is v.is z.is (c.binds_leaf-flat.ensures x t h.is),
       );
     }
@@ -56,9 +60,12 @@ returns c = λ x t h e.
     let u = came c.in_ok-replace_constraints.was c.replace_constraints.ensures in
     let v = came c.in_ok-replace_constraints-2.was c.replace_constraints-2.ensures in
     let z = came c.in_ok-replace_bindings.was c.replace_bindings.ensures in
-    let m = rebind-made c.args.by.names.pool.now c.args.by.names.table.now h c.args.rest s _ e u.is v.is z.is c.requires.front c.requires.room c.requires.near u.wrote v.wrote z.wrote c.copy_bindings.ensures in
-    let l = c.limited.ensures (rebound c.args.by.names.pool.now c.args.by.names.table.now h c.args.rest s _ e u.is v.is z.is) m (known c.args.by.names.pool.now c.args.by.names.table.now h c.args.rest s _ e u.is v.is z.is (c.binds_leaf-flat.ensures x t h.is)) in
+    let m = rebind-made c.args.by.names.pool.now c.args.by.names.table.now h c.args.rest s _ e u.is v.is z.is c.requires.front c.requires.room
+    c.requires.near u.wrote v.wrote z.wrote c.copy_bindings.ensures in
+    let l = c.limited.ensures (rebound c.args.by.names.pool.now c.args.by.names.table.now h c.args.rest s _ e u.is v.is z.is) m
+    (known c.args.by.names.pool.now c.args.by.names.table.now h c.args.rest s _ e u.is v.is z.is (c.binds_leaf-flat.ensures x t h.is)) in
     record {
       same = c.copy_bindings.ensures.same ∙ c.replace_bindings.ensures.same ∙ c.replace_constraints-2.ensures.same ∙ c.replace_constraints.ensures.same;
-      turned = limited-turned c.args.by.names.pool.now c.args.by.names.table.now _ _ _ m _ (rebinds-is c.args.by.names.pool.now c.args.by.names.table.now h c.args.rest s _ e u.is v.is z.is) l;
+      turned = limited-turned c.args.by.names.pool.now c.args.by.names.table.now _ _ _ m _
+          (rebinds-is c.args.by.names.pool.now c.args.by.names.table.now h c.args.rest s _ e u.is v.is z.is) l;
     }

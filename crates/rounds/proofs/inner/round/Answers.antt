@@ -30,4 +30,5 @@ returns c = λ st h.
     let a = set-same _ _ _ _ h.cons c.turn-arg-2-1.given.1.0 in
     let b = binds-same _ _ _ _ h.binds c.turn-arg-3-1.given.1.0 in
     let back : c.next-1.given.0 ≡ c.turn.new.out.words.now = search rules in
-    rw back (turned-as (ap₂ (λ (cs : List (Con _)) (bs : List (Binding _)). rounded c.args.names (record { cons = cs; binds = bs })) (sym a) (sym b)) c.turn.ensures.turned)
+    rw back (turned-as (ap₂ (λ (cs : List (Con _)) (bs : List (Binding _)). rounded c.args.names (record { cons = cs; binds = bs })) (sym a) (sym b))
+    c.turn.ensures.turned)

@@ -36,10 +36,12 @@ search-preserved c = (
 )
 
 pub invariant_of-before : goal.invariant_of-before
-invariant_of-before c = let f = found _ _ _ _ _ _ _ _ _ c.search.invariant.2 c.in-Some.ensures.steps in record { near = c.args.constraints.near; trees = (f.before, f.passed) }
+invariant_of-before c = let f = found _ _ _ _ _ _ _ _ _ c.search.invariant.2 c.in-Some.ensures.steps
+    in record { near = c.args.constraints.near; trees = (f.before, f.passed) }
 
 pub invariant_of-behind : goal.invariant_of-behind
-invariant_of-behind c = let f = found _ _ _ _ _ _ _ _ _ c.search.invariant.2 c.in-Some.ensures.steps in record { near = c.args.constraints.near; trees = (f.behind, rw c.end-at.ensures f.stay) }
+invariant_of-behind c = let f = found _ _ _ _ _ _ _ _ _ c.search.invariant.2 c.in-Some.ensures.steps
+    in record { near = c.args.constraints.near; trees = (f.behind, rw c.end-at.ensures f.stay) }
 
 pub perform-requires : goal.perform-requires
 perform-requires c =
@@ -53,7 +55,11 @@ perform-requires c =
       taken = (
         c.in-Some.c.tree.0,
         record {
-          sound = record { before = subst (SoundSet c.args.names.pool.now c.args.names.table.now) (sym b) f.sound_before; behind = subst (SoundSet c.args.names.pool.now c.args.names.table.now) (sym h) f.sound_behind; bindings = c.requires.sound.binds };
+          sound = record {
+            before = subst (SoundSet c.args.names.pool.now c.args.names.table.now) (sym b) f.sound_before;
+            behind = subst (SoundSet c.args.names.pool.now c.args.names.table.now) (sym h) f.sound_behind;
+            bindings = c.requires.sound.binds;
+          };
           good = f.good;
           deep = f.deep;
           short = omega (arith, f.short);
@@ -74,9 +80,32 @@ returns-in_default c =
     let b = set-same _ _ _ _ f.passed c.rest-1.given.1.0 in
     let h = set-same _ _ _ _ (rw c.end-at.ensures f.stay) c.rest-in_default-1.given.1.0 in
     let i = c.search.invariant.1 in
-    subst (λ (w : Writer). Next c.args.names.pool.now c.args.names.table.now w c.perform.new.out c.perform.result (rounded c.args.names (stateOf c.args.constraints c.args.bindings))) i
-    (next-as (applied _ _ _ _ _ _ _ f (record { before = record { words = c.args.constraints.words; at = c.args.constraints.at; end = c.in-Some.c.at; near = c.rest-1.given.0; trees = c.rest-1.given.1.0 }; behind = record { words = c.args.constraints.words; at = c.end-at.result; end = c.args.constraints.end; near = c.rest-in_default-1.given.0; trees = c.rest-in_default-1.given.1.0 }; bindings = c.args.bindings }) b h refl (some-rule c.in_ok-step.ensures c.in_default.not-Stuck)) (c.perform.ensures c.in-Some.c.tree.0 (record {
-      sound = record { before = subst (SoundSet c.args.names.pool.now c.args.names.table.now) (sym b) f.sound_before; behind = subst (SoundSet c.args.names.pool.now c.args.names.table.now) (sym h) f.sound_behind; bindings = c.requires.sound.binds };
+    subst (λ (w : Writer). Next c.args.names.pool.now c.args.names.table.now w c.perform.new.out c.perform.result
+    (rounded c.args.names (stateOf c.args.constraints c.args.bindings))) i
+    (next-as (applied _ _ _ _ _ _ _ f (record {
+      before = record {
+        words = c.args.constraints.words;
+        at = c.args.constraints.at;
+        end = c.in-Some.c.at;
+        near = c.rest-1.given.0;
+        trees = c.rest-1.given.1.0;
+      };
+      behind =
+          record {
+            words = c.args.constraints.words;
+            at = c.end-at.result;
+            end = c.args.constraints.end;
+            near = c.rest-in_default-1.given.0;
+            trees = c.rest-in_default-1.given.1.0;
+          };
+      bindings = c.args.bindings;
+    }) b h refl (some-rule c.in_ok-step.ensures c.in_default.not-Stuck))
+    (c.perform.ensures c.in-Some.c.tree.0 (record {
+      sound = record {
+        before = subst (SoundSet c.args.names.pool.now c.args.names.table.now) (sym b) f.sound_before;
+        behind = subst (SoundSet c.args.names.pool.now c.args.names.table.now) (sym h) f.sound_behind;
+        bindings = c.requires.sound.binds;
+      };
       good = f.good;
       deep = f.deep;
       short = omega (arith, f.short);
@@ -86,4 +115,7 @@ returns-in_default c =
 
 pub returns : goal.returns
 returns c =
-    record { same = ap (λ (w : Writer). w.words.ghost_name) c.search.invariant.1; turned = turned-as (ended _ _ _ _ _ _ _ c.search.invariant.2 c.in-None.ensures.steps.0) (record { says = refl }) }
+    record {
+      same = ap (λ (w : Writer). w.words.ghost_name) c.search.invariant.1;
+      turned = turned-as (ended _ _ _ _ _ _ _ c.search.invariant.2 c.in-None.ensures.steps.0) (record { says = refl });
+    }

@@ -7,4 +7,5 @@ abbrev pub invariant-search : goal.invariant-search
 invariant-search l =
     (length l.new ≡ length l.fn.new)
     × (l.out ≡ l.fn.out)
-    × Search l.names.pool.now l.names.table.now l.constraints.words.now l.constraints.at l.constraints.end l.constraints.trees.0 l.bindings.trees.0 (cons_of l.c-iterator)
+    × Search l.names.pool.now l.names.table.now l.constraints.words.now l.constraints.at l.constraints.end l.constraints.trees.0 l.bindings.trees.0
+    (cons_of l.c-iterator)

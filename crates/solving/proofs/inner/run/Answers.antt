@@ -39,20 +39,29 @@ round-requires c =
     let (cs, h) = c.requires.begun in
     let (r, s, n, w, i) = c.turns.invariant in
     let g = i cs h in
-    record { standing = (g.state, whole c.turns.state.now g.held); state_near = whole-near c.turns.state.now s; new_room = omega (arith, w); new_near = omega (arith, w); room = whole-room c.turns.next.now n; near = whole-near c.turns.next.now n }
+    record {
+      standing = (g.state, whole c.turns.state.now g.held);
+      state_near = whole-near c.turns.state.now s;
+      new_room = omega (arith, w);
+      new_near = omega (arith, w);
+      room = whole-room c.turns.next.now n;
+      near = whole-near c.turns.next.now n;
+    }
 
 pub overflow_add-completed : goal.overflow_add-completed
 overflow_add-completed c =
     let (cs, h) = c.requires.begun in
     let g = c.turns.invariant.4 cs h in
-    let t = going_next _ _ c.args.names.good cs h.admitted _ _ _ _ _ g _ (c.round.ensures g.state (whole c.turns.state.now g.held)) _ (c.in-Ok-Some.is ∙ ap Ok c.in-Ok-Some.field-0-is) in
+    let t = going_next _ _ c.args.names.good cs h.admitted _ _ _ _ _ g _ (c.round.ensures g.state (whole c.turns.state.now g.held)) _
+    (c.in-Ok-Some.is ∙ ap Ok c.in-Ok-Some.field-0-is) in
     omega (arith, t.1)
 
 pub turns-smaller : goal.turns-smaller
 turns-smaller c =
     let (cs, h) = c.requires.begun in
     let g = c.turns.invariant.4 cs h in
-    let t = going_next _ _ c.args.names.good cs h.admitted _ _ _ _ _ g _ (c.round.ensures g.state (whole c.turns.state.now g.held)) _ (c.in-Ok-Some.is ∙ ap Ok c.in-Ok-Some.field-0-is) in
+    let t = going_next _ _ c.args.names.good cs h.admitted _ _ _ _ _ g _ (c.round.ensures g.state (whole c.turns.state.now g.held)) _
+    (c.in-Ok-Some.is ∙ ap Ok c.in-Ok-Some.field-0-is) in
     omega (arith, t.1)
 
 pub turns-preserved : goal.turns-preserved
@@ -75,14 +84,19 @@ finish-requires c =
     let (cs, h) = c.requires.begun in
     let (r, s, n, w, i) = c.turns.invariant in
     let g = i cs h in
-    record { standing = (g.state, whole c.turns.state.now g.held); near = whole-near c.turns.state.now s; room = omega (arith, ap length r, c.requires.result_room) }
+    record {
+      standing = (g.state, whole c.turns.state.now g.held);
+      near = whole-near c.turns.state.now s;
+      room = omega (arith, ap length r, c.requires.result_room);
+    }
 
 pub returns-in-Ok-None : goal.returns-in-Ok-None
 returns-in-Ok-None c =
     let (r, s, n, w, i) = c.turns.invariant in
     λ cs h.
     let g = i cs h in
-    let t = going_end _ _ c.args.names.good cs h.admitted _ _ _ _ _ g _ (c.round.ensures g.state (whole c.turns.state.now g.held)) (c.in-Ok-None.is ∙ ap Ok c.in-Ok-None.field-0-is) in
+    let t = going_end _ _ c.args.names.good cs h.admitted _ _ _ _ _ g _ (c.round.ensures g.state (whole c.turns.state.now g.held))
+    (c.in-Ok-None.is ∙ ap Ok c.in-Ok-None.field-0-is) in
     finish-answers _ _ _ g.state _ _ _ _ _ _ r t (c.finish.ensures g.state (whole c.turns.state.now g.held)) refl
 
 pub returns-in-Err : goal.returns-in-Err
@@ -90,4 +104,5 @@ returns-in-Err c =
     let (r, s, n, w, i) = c.turns.invariant in
     λ cs h.
     let g = i cs h in
-    stop-answers _ _ _ _ _ _ r (going-stop _ _ c.args.names.good cs h.admitted _ _ _ _ _ g _ (c.round.ensures g.state (whole c.turns.state.now g.held)) _ c.in-Err.is) c.stopped.ensures
+    stop-answers _ _ _ _ _ _ r (going-stop _ _ c.args.names.good cs h.admitted _ _ _ _ _ g _
+    (c.round.ensures g.state (whole c.turns.state.now g.held)) _ c.in-Err.is) c.stopped.ensures

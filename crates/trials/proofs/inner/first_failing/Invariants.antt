@@ -9,4 +9,5 @@ use Rattle.trials.proofs.inner.first_failing.Given as goal
 abbrev pub invariant-search : goal.invariant-search
 invariant-search l = (length l.work ≡ length l.fn.work)
     × ((cs : List (Con ℕ)) (bs : List (Binding ℕ)) (xs : List ℕ) → SetThere l.names.pool.now l.names.table.now l.set cs
-    → Put l.names.pool.now l.names.table.now l.places l.types bs → Marks l.bounds xs → Going l.names.pool.now l.names.table.now l.set bs xs cs l.before (alone (cons_of l.c-iterator)))
+    → Put l.names.pool.now l.names.table.now l.places l.types bs → Marks l.bounds xs
+    → Going l.names.pool.now l.names.table.now l.set bs xs cs l.before (alone (cons_of l.c-iterator)))

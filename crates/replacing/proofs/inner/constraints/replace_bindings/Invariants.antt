@@ -6,4 +6,5 @@ use Rattle.replacing.proofs.Each.{Still}
 use Rattle.replacing.proofs.inner.constraints.replace_bindings.Given as goal
 
 abbrev pub invariant-bindings : goal.invariant-bindings
-invariant-bindings l = Still writeBinding (bindingBy l.fn.by) (GoodBinding l.fn.by.names.pool.now l.fn.by.names.table.now) l.fn.out l.out (bindings_of l.b-iterator) l.fn.bs.trees.0
+invariant-bindings l = Still writeBinding (bindingBy l.fn.by) (GoodBinding l.fn.by.names.pool.now l.fn.by.names.table.now) l.fn.out l.out
+    (bindings_of l.b-iterator) l.fn.bs.trees.0

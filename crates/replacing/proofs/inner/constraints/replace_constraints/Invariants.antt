@@ -7,4 +7,5 @@ use Rattle.replacing.proofs.Each.{Still}
 use Rattle.replacing.proofs.inner.constraints.replace_constraints.Given as goal
 
 abbrev pub invariant-constraints : goal.invariant-constraints
-invariant-constraints l = Still writeCon (conBy l.fn.by) (GoodCon l.fn.by.names.pool.now l.fn.by.names.table.now) l.fn.out l.out (alone (cons_of l.c-iterator)) l.fn.cs.trees.0
+invariant-constraints l = Still writeCon (conBy l.fn.by) (GoodCon l.fn.by.names.pool.now l.fn.by.names.table.now) l.fn.out l.out
+    (alone (cons_of l.c-iterator)) l.fn.cs.trees.0

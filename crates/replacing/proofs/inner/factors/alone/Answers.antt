@@ -16,13 +16,15 @@ returns-then-not-is_one c =
 pub returns-in-Var : goal.returns-in-Var
 returns-in-Var c =
     let p = c.args.p in
-    alone-var c.in-Some.f c.in-Free.is c.in-Var.is (ap (λ (e : Exp). is_yes (Exp-dec e one)) (sym c.from_words.ensures) ∙ sym c.is_one.ensures ∙ c.if-not-is_one.false)
+    alone-var c.in-Some.f c.in-Free.is c.in-Var.is
+    (ap (λ (e : Exp). is_yes (Exp-dec e one)) (sym c.from_words.ensures) ∙ sym c.is_one.ensures ∙ c.if-not-is_one.false)
     ∙ lone _ c.in-Some.ensures (p.factors.1.many ∙ c.if-p-ne1.false)
 
 pub returns-in-Quant : goal.returns-in-Quant
 returns-in-Quant c =
     let p = c.args.p in
-    alone-quant c.in-Some.f c.in-Free.is c.in-Quant.is (ap (λ (e : Exp). is_yes (Exp-dec e one)) (sym c.from_words.ensures) ∙ sym c.is_one.ensures ∙ c.if-not-is_one.false)
+    alone-quant c.in-Some.f c.in-Free.is c.in-Quant.is
+    (ap (λ (e : Exp). is_yes (Exp-dec e one)) (sym c.from_words.ensures) ∙ sym c.is_one.ensures ∙ c.if-not-is_one.false)
     ∙ lone _ c.in-Some.ensures (p.factors.1.many ∙ c.if-p-ne1.false)
 
 pub returns-in-Par : goal.returns-in-Par

@@ -15,7 +15,8 @@ returns-in_default c =
 pub bindings-preserved : goal.bindings-preserved
 bindings-preserved c =
     let n = c.args.names in
-    flat-on _ _ c.bindings.invariant _ _ c.in-Some.ensures.steps (bound-flat n.pool.now n.table.now _ c.in-Some.b.name c.in-Some.b.to.tree c.in-Some-type_end.ensures)
+    flat-on _ _ c.bindings.invariant _ _ c.in-Some.ensures.steps
+    (bound-flat n.pool.now n.table.now _ c.in-Some.b.name c.in-Some.b.to.tree c.in-Some-type_end.ensures)
 
 pub returns : goal.returns
 returns c = none-deep _ _ c.bindings.invariant c.in-None.ensures.steps.0

@@ -11,7 +11,11 @@ returns-then-w-eq0 c =
 pub invariant_of-result : goal.invariant_of-result
 invariant_of-result c =
     let s = c.args.self in
-    record { near = s.lent.1.near; tree = said-at s.types.now (s.lent.0 (openOf c.args.o)) (rw c.word_of-w.ensures (s.lent.1.tabled.says (openOf c.args.o))) c.if-w-eq0.false }
+    record {
+      near = s.lent.1.near;
+      tree = said-at s.types.now (s.lent.0 (openOf c.args.o))
+          (rw c.word_of-w.ensures (s.lent.1.tabled.says (openOf c.args.o))) c.if-w-eq0.false;
+    }
 
 pub returns : goal.returns
 returns c =
