@@ -2,10 +2,9 @@
 use Rattle.std.specs.Prelude.{◌≡◌, List, ◌∷◌, [], ◌++◌, ℕ, replicate, Result, Ok}
 use Rattle.std.proofs.Common.{ap, ap₂}
 use Rattle.rules.specs.Base.{collect}
-use Rattle.rules.specs.Names.{Bytes, table_of}
-use Rattle.rules.specs.Reports.{Edition, editionGiven, pageShown}
+use Rattle.rules.specs.Names.{Bytes, Table, table_of}
+use Rattle.rules.specs.Reports.{Edition, Page, editionGiven}
 use Rattle.rules.specs.declared.Unseen.{Unseen}
-use Rattle.rules.specs.declared.Shown.{Shown}
 use Rattle.spelling.specs.Sinks.{Place, Puts}
 use Rattle.edition.specs.Files.{files_of, text_of as lent_text}
 use Rattle.edition.specs.Pages.{done}
@@ -21,7 +20,8 @@ edition_alone p t f g a b name text =
     rw (a, b) (ap (λ (x : Bytes × Result Bytes Unseen). editionGiven (replicate 8192 0) (replicate 257 0) (x ∷ [])) pair)
 
 -- all pages were put, over the names of the edition
-pub all_put : {E : Type 0} (shown : Shown) (e : Edition) (p t : List ℕ) (old new : Place) (r : Result ℕ E) (a : ℕ) → r ≡ Ok a → p ≡ e.pool → t ≡ e.table
-    → Puts old (collect (pageShown shown (table_of p t)) e.pages) (done r) new
-    → new.held ≡ old.held ++ collect (pageShown shown (table_of e.pool e.table)) e.pages
-all_put shown e p t old new r a ok x y put = rw (← x, ← y) (let there = rw ok at put in there.puts)
+pub all_put : {E : Type 0} (page : Table → Page → Bytes) (e : Edition) (p t : List ℕ) (old new : Place) (r : Result ℕ E) (a : ℕ) → r ≡ Ok a
+    → p ≡ e.pool → t ≡ e.table
+    → Puts old (collect (page (table_of p t)) e.pages) (done r) new
+    → new.held ≡ old.held ++ collect (page (table_of e.pool e.table)) e.pages
+all_put page e p t old new r a ok x y put = rw (← x, ← y) (let there = rw ok at put in there.puts)

@@ -1,12 +1,13 @@
 -- What is had of the files that were named.
-use Rattle.std.specs.Prelude.{◌≡◌, ℕ, ◌≤◌, ◌<◌, ⊤, List, map, length, replicate, Result, Ok, Err, Vec}
+use Rattle.std.specs.Prelude.{◌≡◌, Bool, ℕ, ◌≤◌, ◌<◌, ⊤, List, map, length, replicate, Result, Ok, Err, Vec}
 use Rattle.rules.specs.Base.{collect}
 use Rattle.rules.specs.Names.{Bytes, table_of}
-use Rattle.rules.specs.Reports.{Edition, editionGiven, pageShown}
+use Rattle.rules.specs.Reports.{Edition, editionGiven}
 use Rattle.rules.specs.declared.Shown.{Shown}
 use Rattle.rules.specs.declared.Unseen.{Unseen}
 use Rattle.rules.specs.declared.Unseen.TheVariants.{NotOpened, NotRead, TooLong}
 use Rattle.std.specs.declared.alloc.Global.{Global}
+use Rattle.edition.specs.Why.{pageTold}
 use Rattle.check_edition.specs.declared.files.Given.{Given}
 
 -- a file's bytes, or why they can't be had
@@ -28,6 +29,6 @@ IsSheetOf bs (Err NotOpened) = ⊥
 abbrev pub editionOf : List Given → Edition
 editionOf gs = editionGiven (replicate 8192 0) (replicate 257 0) (given_of gs)
 
--- its pages, as they are shown
-abbrev pub pagesOf : Shown → List Given → Bytes
-pagesOf shown gs = collect (pageShown shown (table_of (editionOf gs).pool (editionOf gs).table)) (editionOf gs).pages
+-- its pages, as they are shown, each with its why if that is asked for
+abbrev pub pagesTold : Bool → Shown → List Given → Bytes
+pagesTold why shown gs = collect (pageTold why shown (table_of (editionOf gs).pool (editionOf gs).table)) (editionOf gs).pages

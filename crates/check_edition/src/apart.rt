@@ -1,6 +1,6 @@
 // Sheets each over a name table of its own.
 ghost use Rattle.std.specs.Prelude.{◌≡◌, ◌++◌, [], ◌∷◌, OnOk};
-ghost use Rattle.check_edition.specs.Given.{pagesOf};
+ghost use Rattle.check_edition.specs.Given.{pagesTold};
 
 use crate::files::{Given, front, read};
 use crate::listing::list;
@@ -11,8 +11,8 @@ use crate::tables::Tables;
 use crate::words::Words;
 use crate::written::Written;
 use anyhow::{Context, Result};
-use edition::model::Room;
-use edition::telling::tell_all;
+use edition::model::{How, Room};
+use edition::telling::tell_each;
 use reporting::words::put_total;
 use spelling::sink::Sink;
 use std::io;
@@ -27,7 +27,7 @@ struct Apart {
     room: Room,
 }
 
-// Tells of one sheet: its page is that of the edition that it is alone.
+// Tells of one sheet: its page is that of the edition that it is alone, and so is its why, if that is asked for.
 fn check_one<R: Eprint + AllocGlobal, W: Write + Drop>(
     rt: &R,
     given: &Given,
@@ -35,20 +35,19 @@ fn check_one<R: Eprint + AllocGlobal, W: Write + Drop>(
     so_far: &mut Apart,
     out: &mut Written<W>,
 ) -> Result<()>
-    ensures { OnOk result (out.new.passed.items ≡ out.old.passed.items ++ pagesOf options.entry.shown (given.now ∷ [])) }
+    ensures { OnOk result (out.new.passed.items ≡ out.old.passed.items ++ pagesTold options.entry.why options.entry.shown (given.now ∷ [])) }
 {
     let alloc = rt.alloc();
     let files = [given.file()];
     let mut tables = Tables::new(alloc)?;
     let sheets = tables.read(alloc, &files, &mut so_far.room)?;
-    let accepted = tell_all(
-        tables.names()?,
-        options.shown,
-        &sheets,
-        &mut so_far.room,
-        out,
-    )
-    .context("the report can't be written")?;
+    let how = How {
+        shown: options.shown,
+        why: options.why,
+    };
+    let accepted = tell_each(tables.names()?, how, &sheets, &mut so_far.room, out).context(
+        "the report can't be written",
+    )?;
     if options.names {
         so_far.listed.extend_from_slice(&list(alloc, &files)?)?;
     }

@@ -41,6 +41,14 @@ fn names_json(alloc: Global, new: &[Vec<u8>]) -> Result<Value, AllocError> {
     Ok(Value::Array(all))
 }
 
+fn lines_json(alloc: Global, lines: &[usize]) -> Result<Value, AllocError> {
+    let mut all = Vec::new(alloc);
+    for line in lines {
+        all.push(number(Some(*line)))?;
+    }
+    Ok(Value::Array(all))
+}
+
 // What became of a sheet, beside its names and its page.
 fn facts_json(alloc: Global, sheet: &SheetTold) -> Result<Map<String, Value>, AllocError> {
     let facts = sheet.facts;
@@ -82,6 +90,7 @@ fn sheet_json(alloc: Global, sheet: &SheetTold) -> Result<Value, AllocError> {
     )?;
     put(&mut members, alloc, "bindings", bindings)?;
     put(&mut members, alloc, "page", text(alloc, &sheet.page)?)?;
+    put(&mut members, alloc, "why", lines_json(alloc, &sheet.why)?)?;
     put(
         &mut members,
         alloc,

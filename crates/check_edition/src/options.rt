@@ -17,6 +17,7 @@ pub struct Options<'a> {
     pub shown: Shown,
     pub form: Form<'a>,
     pub names: bool,
+    pub why: bool,
     pub separate: bool,
     pub strict: bool,
 }
@@ -32,6 +33,7 @@ impl<'a> Options<'a> {
             },
             form: form_of(matches),
             names: matches.get_flag("names"),
+            why: matches.get_flag("why"),
             separate: matches.get_flag("separate"),
             strict: matches.get_flag("strict"),
         }
@@ -84,6 +86,11 @@ pub fn command<'a>(alloc: Global) -> Result<Command<'a>, AllocError> {
         "names",
         "List each sheet's new names behind the report",
     );
+    let why = flag(
+        alloc,
+        "why",
+        "Tell which lines conflict, under a sheet of which constraints remain",
+    );
     let json = flag(alloc, "json", "Write one value of JSON in place of lines");
     let html = Arg::new(alloc, "html")
         .long("html")
@@ -107,6 +114,7 @@ pub fn command<'a>(alloc: Global) -> Result<Command<'a>, AllocError> {
         .arg(files)?
         .arg(quiet)?
         .arg(names)?
+        .arg(why)?
         .arg(json)?
         .arg(html)?
         .arg(separate)?

@@ -3,6 +3,7 @@ ghost use Rattle.std.specs.Prelude.{◌≡◌, ◌++◌, OnOk, IfOk};
 ghost use Rattle.rules.specs.Reports.{editionShown};
 ghost use Rattle.edition.specs.Report.{Counted};
 ghost use Rattle.edition.specs.Theorems.{AllTrue};
+ghost use Rattle.edition.specs.Why.{editionWhy};
 ghost use Rattle.check_edition.specs.Given.{editionOf};
 
 use crate::files::{Given, front, lend, read};
@@ -14,7 +15,7 @@ use crate::tables::Tables;
 use crate::words::Words;
 use crate::written::Written;
 use anyhow::{Context, Result, bail};
-use edition::{Counts, Failed, report};
+use edition::{Counts, Failed, report, report_why};
 use rules::Shown;
 use spelling::sink::Sink;
 use std::alloc::Global;
@@ -58,6 +59,34 @@ pub fn report_on<W: Write + Drop>(
     }
 }
 
+/// Reports on files as `report_on` does, with why each sheet of which constraints remain isn't accepted.
+pub fn report_why_on<W: Write + Drop>(
+    alloc: Global,
+    given: &[Given],
+    pages: Shown,
+    to: &mut Written<W>,
+) -> Result<Reported>
+    ensures told { OnOk result (to.new.passed.items ≡ to.old.passed.items ++ editionWhy pages (editionOf given.now)) }
+    ensures counted { IfOk result (λ r. Counted r.counts.sheets r.counts.accepted (editionOf given.now)) }
+    ensures truth { OnOk result (AllTrue (editionOf given.now)) }
+{
+    let files = lend(alloc, given)?;
+    let mut tables = Tables::new(alloc)?;
+    match report_why(
+        alloc,
+        &mut tables.pool,
+        &mut tables.table,
+        &files,
+        pages,
+        to,
+    ) {
+        Ok(counts) => Ok(Reported { counts, tables }),
+        Err(Failed::Names(why)) => bail!("the name table is refused with {}", why.number()),
+        Err(Failed::Memory(why)) => Err(why.into()),
+        Err(Failed::Sink(why)) => Err(why).context("the report can't be written"),
+    }
+}
+
 // Reads the files with these names.
 fn read_all<'a, R: Files + Input + AllocGlobal>(
     rt: &R,
@@ -83,7 +112,11 @@ pub fn check<R: Files + Input + Print + Eprint + AllocGlobal>(
     let alloc = rt.alloc();
     let given = read_all(rt, names, words)?;
     let mut out = Written::new(alloc, BufWriter::new(alloc, io::writer(rt))?);
-    let reported = report_on(alloc, &given, options.shown, &mut out)?;
+    let reported = if options.why {
+        report_why_on(alloc, &given, options.shown, &mut out)?
+    } else {
+        report_on(alloc, &given, options.shown, &mut out)?
+    };
     let files = lend(alloc, &given)?;
     if options.names {
         out.put(&list(alloc, &files)?)

@@ -9,6 +9,7 @@ use crate::words::Words;
 use anyhow::Result;
 use edition::model::{Room, Sheet};
 use edition::telling::tell_sheet;
+use edition::why::conflict_in;
 use names::tables::NameTable;
 use reporting::lines::constraint_line;
 use reporting::pages::Outcome;
@@ -78,7 +79,7 @@ impl Facts {
     }
 }
 
-/// What is told of a sheet: its file's name, what became of it, its new names, and its page as it would be printed.
+/// What is told of a sheet: its file's name, what became of it, its new names, its page as it would be printed, and the numbers of the lines that conflict.
 #[derive(Drop)]
 pub struct SheetTold {
     pub name: Vec<u8>,
@@ -87,6 +88,7 @@ pub struct SheetTold {
     pub constraints: usize,
     pub new: Vec<Vec<u8>>,
     pub page: Vec<u8>,
+    pub why: Vec<usize>,
 }
 
 /// What is told of all sheets that are shown, what they come to, and what is noted.
@@ -109,7 +111,7 @@ impl Report {
     }
 
     // Adds what is told of files over one name table.
-    fn add(&mut self, alloc: Global, given: &[Given], shown: Shown) -> Result<()> {
+    fn add(&mut self, alloc: Global, given: &[Given], options: Options) -> Result<()> {
         let files = lend(alloc, given)?;
         let mut tables = Tables::new(alloc)?;
         let sheets = tables.read(alloc, &files, &mut self.room)?;
@@ -118,7 +120,12 @@ impl Report {
         for sheet in &sheets {
             let mut page = Vec::new(alloc);
             let outcome = tell_sheet(names, Shown::All, sheet, &mut self.room, &mut page)?;
-            if shown == Shown::All || !outcome.is_accepted() {
+            let why = if options.why {
+                conflict_lines(alloc, names, sheet, outcome, &mut self.room)?
+            } else {
+                Vec::new(alloc)
+            };
+            if options.shown == Shown::All || !outcome.is_accepted() {
                 self.sheets.push(SheetTold {
                     name: Vec::from_slice(alloc, sheet.name)?,
                     accepted: outcome.is_accepted(),
@@ -126,6 +133,7 @@ impl Report {
                     constraints: sheet.content.constraints(),
                     new: names_from(alloc, names, sheet, first)?,
                     page,
+                    why,
                 })?;
             }
             first = first.saturating_add(new_names(sheet));
@@ -137,6 +145,23 @@ impl Report {
         self.totals.notes = self.notes.count;
         Ok(())
     }
+}
+
+// The numbers of the lines of a sheet that conflict; none where a refusal was met on the way.
+fn conflict_lines(
+    alloc: Global,
+    names: NameTable,
+    sheet: &Sheet,
+    outcome: Outcome,
+    room: &mut Room,
+) -> Result<Vec<usize>, AllocError> {
+    let mut lines = Vec::new(alloc);
+    if let Ok(Some(many)) = conflict_in(names, sheet, outcome, room) {
+        for place in room.res.iter().take(many) {
+            lines.push(constraint_line(sheet.text, *place as usize))?;
+        }
+    }
+    Ok(lines)
 }
 
 // The new names of a sheet, whose numbers begin with `first`.
@@ -178,12 +203,12 @@ pub fn tell<R: Files + Input + AllocGlobal>(
     for name in names {
         given.push(read(rt, name, words, &mut buf)?)?;
         if options.separate {
-            report.add(alloc, &given, options.shown)?;
+            report.add(alloc, &given, options)?;
             given.clear();
         }
     }
     if !options.separate {
-        report.add(alloc, &given, options.shown)?;
+        report.add(alloc, &given, options)?;
     }
     Ok(report)
 }

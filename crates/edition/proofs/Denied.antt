@@ -1,5 +1,5 @@
 -- Why the judge says no only to a set outside the premise, and to the constraint that is named.
-use Rattle.std.specs.Prelude.{◌≡◌, refl, Bool, true, false, List, [], ◌∷◌, ℕ, suc, ◌+◌, drop, Result, Ok, Err}
+use Rattle.std.specs.Prelude.{◌≡◌, refl, Bool, true, false, List, [], ◌∷◌, ℕ, suc, ◌+◌, drop}
 use mathlib.Core.List.Memᴰ
 use mathlib.Core.List.{Memᴰ}
 use Rattle.std.proofs.Common.{sym, ap, subst, ◌∙◌, arith, inl, inr}
@@ -27,28 +27,23 @@ use Rattle.rules.specs.Reports.{
   refusing,
   lacking,
   Page,
-  page_of,
-  onPage,
-  namesAfter,
-  readOn,
-  Edition,
   editionGiven,
 }
 use Rattle.rules.specs.Solving.{Answer, accepted, remaining, stopped, solve}
-use Rattle.rules.specs.TextReading.{Sheet, sheet, refusedIn, sheetRead}
 use Rattle.rules.specs.Trees.{Names, Con, Binding, opensCon}
 use Rattle.rules.specs.Writing.{words, writeCon}
 use Rattle.rules.specs.declared.Unseen.{Unseen}
 use Rattle.laws.specs.Checks.{need-passed}
 use Rattle.laws.specs.Given.{set-read}
-use Rattle.laws.specs.Lists.{Every, every-as, bound-step, true≢false, some≢none, got≢refused}
+use Rattle.laws.specs.Lists.{every-as, bound-step, true≢false, some≢none, got≢refused}
 use Rattle.laws.specs.NameTable.{Good, given-good}
-use Rattle.sheet_lines.specs.Left.{read-back, read-keeps-good}
+use Rattle.sheet_lines.specs.Left.{read-back}
 use Rattle.soundness.specs.Claims.{Given, YesOrLimits, Fails}
 use Rattle.soundness.proofs.Soundness.{own-answer, no-fails}
 use Rattle.soundness.proofs.Words.{numbers-ordered}
 use Rattle.trials.specs.Failing.{none-fails}
 use Rattle.edition.specs.Theorems.{DeniedBy, DeniedOn, DeniedWithoutPremise, DeniedOnlyWithoutPremise}
+use Rattle.edition.proofs.Origins.{Origin, Rooted, RootedPage, sound}
 
 -- ══ The constraint that fails ══
 
@@ -156,42 +151,10 @@ module _ (pool table : List ℕ) (good : Good pool table) (cs : List (Con ℕ))
 
 -- ══ An edition ══
 
--- nothing but its set is read from a page's words
-abbrev Backed : Content → Type 0
-Backed (holding cs) = (t : Table) (ds : List (Con ℕ)) → setGiven t (words (collect writeCon cs)) ≡ got ds → ds ≡ cs
-Backed (refusing n l c) = Unit {0}
-Backed (lacking u) = Unit {0}
-
-abbrev BackedPage : Page → Type 0
-BackedPage p = Backed p.content
-
--- pages are backed, and the table with all names is well formed
-record Sound (e : Edition) : Type 0 where
-  backed : Every BackedPage e.pages
-  good : Good e.pool e.table
-
-text-sound : (name text : Bytes) (m : Sheet) (pool table : List ℕ) → Good pool table → sheetRead pool table text ≡ m → (e : List ℕ → List ℕ → Edition)
-    → ((p t : List ℕ) → Good p t → Sound (e p t)) → Sound (onPage (page_of name text m) (namesAfter m pool table e))
-unfolding page_of
-text-sound name text (sheet cs s) pool table g q e again =
-    let r = again s.pool s.table (read-keeps-good pool table text g q).0 in
-    record { backed = (λ t ds e. read-back pool table text q t ds e, r.backed); good = r.good }
-text-sound name text (refusedIn n l c) pool table g q e again = let r = again pool table g in record { backed = (tt, r.backed); good = r.good }
-
-file-sound : (name : Bytes) (given : Result Bytes Unseen) (pool table : List ℕ) → Good pool table → (e : List ℕ → List ℕ → Edition)
-    → ((p t : List ℕ) → Good p t → Sound (e p t)) → Sound (readOn name given pool table e)
-file-sound name (Ok text) pool table g e again = text-sound name text (sheetRead pool table text) pool table g refl e again
-file-sound name (Err u) pool table g e again = let r = again pool table g in record { backed = (tt, r.backed); good = r.good }
-
-sound : (files : List (Bytes × Result Bytes Unseen)) (pool table : List ℕ) → Good pool table → Sound (editionGiven pool table files)
-unfolding editionGiven
-sound [] pool table g = record { backed = tt; good = g }
-sound (f ∷ fs) pool table g = file-sound f.0 f.1 pool table g (λ p t. editionGiven p t fs) (sound fs)
-
-holding-denied : (pool table : List ℕ) → Good pool table → (cs : List (Con ℕ)) → Backed (holding cs) → (i : ℕ)
+holding-denied : (pool table : List ℕ) → Good pool table → (text : Bytes) (cs : List (Con ℕ)) → Origin text cs → (i : ℕ)
     → findingOf (table_of pool table) (holding cs) ≡ denied i → DeniedBy (table_of pool table) cs i
 unfolding findingOf
-holding-denied pool table g cs b i e = set-denied pool table g cs b i e
+holding-denied pool table g text cs r i e = set-denied pool table g cs (λ t ds h. read-back r.pool r.table text r.is t ds h) i e
 
 refusing-denied : (t : Table) (n l c i : ℕ) → findingOf t (refusing n l c) ≡ denied i → ⊥
 unfolding findingOf
@@ -201,16 +164,16 @@ lacking-denied : (t : Table) (u : Unseen) (i : ℕ) → findingOf t (lacking u) 
 unfolding findingOf
 lacking-denied t u i e = absurd (true≢false (sym (ap isDenied e)))
 
-page-denied : (pool table : List ℕ) → Good pool table → (p : Page) → BackedPage p → DeniedWithoutPremise (table_of pool table) p
-page-denied pool table g p b i e = content p.content b e
+page-denied : (pool table : List ℕ) → Good pool table → (p : Page) → RootedPage p → DeniedWithoutPremise (table_of pool table) p
+page-denied pool table g p r i e = content p.content r e
   where
-    content : (c : Content) → Backed c → findingOf (table_of pool table) c ≡ denied i → DeniedOn (table_of pool table) c i
-    content (holding cs) b e = holding-denied pool table g cs b i e
-    content (refusing n l c) b e = refusing-denied (table_of pool table) n l c i e
-    content (lacking u) b e = lacking-denied (table_of pool table) u i e
+    content : (c : Content) → Rooted p.text c → findingOf (table_of pool table) c ≡ denied i → DeniedOn (table_of pool table) c i
+    content (holding cs) r e = holding-denied pool table g p.text cs r i e
+    content (refusing n l c) r e = refusing-denied (table_of pool table) n l c i e
+    content (lacking u) r e = lacking-denied (table_of pool table) u i e
 
 pub edition-denied : DeniedOnlyWithoutPremise
 edition-denied pool table h files =
     let e = editionGiven pool table files in
     let s = sound files pool table (given-good h) in
-    every-as (page-denied e.pool e.table s.good) e.pages s.backed
+    every-as (page-denied e.pool e.table s.good) e.pages s.rooted

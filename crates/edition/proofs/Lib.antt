@@ -1,4 +1,7 @@
+mod Conflicting
 mod Denied
+mod Each
 mod Lines
+mod Origins
 mod Seen
 pub mod Truth

@@ -26,7 +26,9 @@ use Rattle.std.specs.Prelude.{
   get_or,
 }
 use Rattle.std.proofs.Common.{sym, ap, ◌∙◌, append-nil, append_assoc}
-use Rattle.rules.specs.Base.{any, collect}
+use Rattle.std.proofs.Math.Option as may
+use Rattle.rules.specs.Base.{Got, got, refused, any, collect}
+use Rattle.rules.specs.Conflicts.{Line}
 use Rattle.rules.specs.Grammar.{ascii}
 use Rattle.rules.specs.Names.{Bytes, Table, table_of}
 use Rattle.rules.specs.Reports
@@ -36,7 +38,8 @@ use Rattle.rules.specs.declared.Unseen.{Unseen}
 use Rattle.rules.specs.declared.Unseen.TheVariants.{NotOpened, NotRead, TooLong}
 use Rattle.laws.specs.Contents.{collect-append}
 use Rattle.laws.specs.Lists.{Every, every_append}
-use Rattle.edition.specs.Theorems.{belowBlank, Flat, lineBelow, InLines, PagesInLines}
+use Rattle.edition.specs.Theorems.{belowBlank, Flat, lineBelow, InLines, PagesInLines, WhysInLines}
+use Rattle.edition.specs.Why.{conflictHead, unknownText, lineTold, whyLine, whyShown, conflictOn, whyText}
 use Rattle.edition.proofs.Seen.{Seen, none, ◌&◌, lit, name-seen, digits-seen, open-seen, ty-seen, con-seen}
 
 -- ══ What is shown ══
@@ -233,3 +236,51 @@ all-in-lines t (p ∷ ps) = (page-in-lines t p, all-in-lines t ps)
 
 pub pages-in-lines : PagesInLines
 pages-in-lines pool table files = let e = Reports.editionGiven pool table files in all-in-lines (table_of e.pool e.table) e.pages
+
+-- ══ Pages with their why ══
+
+part-ends : (line : Bytes) → Ends [] (Reports.partShown 0 line)
+unfolding Reports.partShown any
+part-ends line = lit "  " refl ▹ cut-seen (eqb 0 0) ▹ shown-seen (take 120 (drop 0 line)) ▹ feed
+
+head-below : Below conflictHead
+unfolding conflictHead any
+head-below = below (lit "these lines conflict, and without any one of them the others don't:" refl ▹ feed)
+
+unknown-below : (n : ℕ) → Below (unknownText n)
+unfolding unknownText any
+unknown-below n = below (lit "looking for lines that conflict: " refl ▹ refused-seen n ▹ feed)
+
+module _ (name text : Bytes) where
+  line-told-below : (n : ℕ) → Below (lineTold name text n)
+  unfolding any
+  line-told-below n = below (shown-seen name ▹ (lit ":" refl & digits-seen 10 n & lit ":" refl) ▹ part-ends (Reports.lineIn n text))
+
+  why-line-below : (k : ℕ) → Below (whyLine name text k)
+  unfolding whyLine
+  why-line-below k = line-told-below (Reports.constraintLine k text)
+
+  why-below : (m : Got (may.Option (List (Line ℕ)))) → Below (whyShown name text m)
+  why-below (got may.none) = nothing
+  why-below (got (may.some ls)) = head-below ⨾ each-below (whyLine name text) why-line-below (map (λ l. l.0) ls)
+  why-below (refused n) = unknown-below n
+
+more-below : {name page bs : Bytes} → InLines name page → Below bs → InLines name (page ++ bs)
+more-below {name} {page} {bs} h b = record {
+  told = h.told;
+  below = h.below ++ b.lines;
+  is = rw (h.is, b.is, collect-append lineBelow h.below b.lines) (simp append_assoc);
+  first = h.first;
+  others = every_append Flat h.below b.lines h.others b.flat;
+}
+
+why-in-lines : (t : Table) (p : Reports.Page) → InLines p.name (Reports.pageText t p ++ whyText t p)
+unfolding whyText
+why-in-lines t p = more-below (page-in-lines t p) (why-below p.name p.text (conflictOn t p.content))
+
+all-whys-in-lines : (t : Table) (ps : List Reports.Page) → Every (λ p. InLines p.name (Reports.pageText t p ++ whyText t p)) ps
+all-whys-in-lines t [] = tt
+all-whys-in-lines t (p ∷ ps) = (why-in-lines t p, all-whys-in-lines t ps)
+
+pub whys-in-lines : WhysInLines
+whys-in-lines pool table files = let e = Reports.editionGiven pool table files in all-whys-in-lines (table_of e.pool e.table) e.pages

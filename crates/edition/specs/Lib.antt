@@ -6,3 +6,5 @@ pub mod Report
 pub mod Sheets
 pub mod Theorems
 pub mod Told
+pub mod Why
+pub mod Asked

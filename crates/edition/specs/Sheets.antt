@@ -53,7 +53,7 @@ front-fits cs result n e =
     omega (arith, e, words-length (collect writeCon cs), set-length cs, length-append w (drop (length w) result))
 
 module _ {pool table : List ℕ} (good : Good pool table) (text result work : List ℕ) (r-long : length result ≡ 8192) (w-long : 16384 ≤ length work) where
-  all-lent : lent pool table result work ≡ got tt
+  pub all-lent : lent pool table result work ≡ got tt
   unfolding lent lentResult lentWork
   all-lent = rw (lent-given good, le-leb 8192 (length result) (omega (arith, r-long)), le-leb 16384 (length work) w-long) refl
 

@@ -1,18 +1,37 @@
 -- What a report of an edition is worth. The functions of src/theorems.rt promise these statements; the proofs stand in proofs/.
 use Rattle.std.specs.Prelude.{◌≡◌, Bool, false, List, ◌∷◌, ◌++◌, map, ℕ, suc, ltb, length, drop, Result}
+use Rattle.std.proofs.Math.Option.{some}
 use Rattle.rules.specs.Base.{got, any, collect}
 use Rattle.rules.specs.Calls.{solvedSet}
+use Rattle.rules.specs.Conflicts.{Conflict, Line, linesFrom}
 use Rattle.rules.specs.Grammar.{ascii}
 use Rattle.rules.specs.Meaning.{TrueUnder, Solves, Premise}
 use Rattle.rules.specs.Names.{Bytes, Table, table_of, tableGiven, numbersOf}
-use Rattle.rules.specs.Reports.{agrees, denied, shown, findingOf, reportText, Content, holding, refusing, lacking, Page, Edition, editionGiven, pageText}
+use Rattle.rules.specs.Reports.{
+  constraintLine,
+  agrees,
+  denied,
+  shown,
+  findingOf,
+  reportText,
+  Content,
+  holding,
+  refusing,
+  lacking,
+  Page,
+  Edition,
+  editionGiven,
+  pageText,
+}
 use Rattle.rules.specs.Solving.{accepted}
 use Rattle.rules.specs.TextWriting.{namesIn}
 use Rattle.rules.specs.Trees.{Con, Binding}
 use Rattle.rules.specs.Writing.{words, writeCon}
 use Rattle.rules.specs.declared.Unseen.{Unseen}
 use Rattle.laws.specs.Lists.{Every}
-use Rattle.reporting.specs.Theorems.{SaysAccepted}
+use Rattle.conflicts.specs.Theorems.{PartOf}
+use Rattle.reporting.specs.Theorems.{SaysAccepted, ReadFrom}
+use Rattle.edition.specs.Why.{conflictHead, conflictOn, whyLine, whyText}
 
 -- what the page prints are bindings and bounds; and put in at once they make each constraint of the set true, in exact arithmetic
 pub record TrueBy (t : Table) (p : Page) (cs : List (Con ℕ)) : Type 0 where
@@ -95,3 +114,34 @@ AllInLines e = Every (λ p. InLines p.name (pageText (table_of e.pool e.table) p
 -- every page is one line of its sheet's and lines below it, whatever the files' names and their texts hold
 abbrev pub PagesInLines : Type 0
 PagesInLines = (pool table : List ℕ) (files : List (Bytes × Result Bytes Unseen)) → AllInLines (editionGiven pool table files)
+
+-- and so is every page with its why behind it
+abbrev pub AllWhysInLines : Edition → Type 0
+AllWhysInLines e = Every (λ p. InLines p.name (pageText (table_of e.pool e.table) p ++ whyText (table_of e.pool e.table) p)) e.pages
+
+abbrev pub WhysInLines : Type 0
+WhysInLines = (pool table : List ℕ) (files : List (Bytes × Result Bytes Unseen)) → AllWhysInLines (editionGiven pool table files)
+
+-- ══ Lines that conflict ══
+
+-- lines are told under the page, and each is the line of the sheet that its constraint was read from, where it stands in the sheet's set; no choice of
+-- dimensions for the variables makes all of them true, and without any one of them there is one that does
+pub record LinesTold (t : Table) (p : Page) (cs : List (Con ℕ)) : Type 0 where
+  pub lines : List (Line ℕ)
+  pub told : whyText t p ≡ conflictHead ++ collect (whyLine p.name p.text) (map (λ l. l.0) lines)
+  pub part : PartOf lines (linesFrom 0 cs)
+  pub theirs : Every (λ l. ReadFrom p.text (constraintLine l.0 p.text) l.1) lines
+  pub conflict : Conflict (numbersOf t).same (map (λ l. l.1) lines)
+
+abbrev pub LinesToldOn : Table → Page → Content → Type 0
+LinesToldOn t p (holding cs) = LinesTold t p cs
+LinesToldOn t p (refusing n l c) = ⊥
+LinesToldOn t p (lacking u) = ⊥
+
+abbrev pub LinesConflict : Table → Page → Type 0
+LinesConflict t p = (ls : List (Line ℕ)) → conflictOn t p.content ≡ got (some ls) → LinesToldOn t p p.content
+
+-- so what is told under a page is a conflict, whatever the files hold, over a table that passes its test
+abbrev pub ToldLinesConflict : Type 0
+ToldLinesConflict = (pool table : List ℕ) → tableGiven pool table ≡ got tt → (files : List (Bytes × Result Bytes Unseen))
+    → Every (LinesConflict (table_of (editionGiven pool table files).pool (editionGiven pool table files).table)) (editionGiven pool table files).pages

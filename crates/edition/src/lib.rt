@@ -5,6 +5,7 @@ pub mod intake;
 pub mod model;
 pub mod telling;
 pub mod theorems;
+pub mod why;
 
 ghost use Rattle.std.specs.Prelude.{◌≡◌, ◌++◌, OnOk, IfOk};
 ghost use Rattle.rules.specs.Names.{tableGiven};
@@ -15,15 +16,16 @@ ghost use Rattle.edition.specs.Pages.{done};
 ghost use Rattle.edition.specs.Report.{Counted, Leaves, sunkOf};
 ghost use Rattle.edition.specs.Told.{Whole};
 ghost use Rattle.edition.specs.Theorems.{AllTrue};
+ghost use Rattle.edition.specs.Why.{editionTold, editionWhy};
 
 use intake::{Unready, read_all};
-use model::{File, Room, Sheet};
+use model::{File, How, Room, Sheet};
 use names::tables::NameTable;
 use reporting::words::put_total;
 use rules::{Refusal, Shown};
 use spelling::sink::Sink;
 use std::alloc::{AllocError, Global};
-use telling::tell_all;
+use telling::tell_each;
 
 /// How many sheets a report tells of, and how many of them are accepted.
 #[derive(Clone, Copy)]
@@ -42,16 +44,16 @@ pub enum Failed<E> {
 // Solves, judges and tells sheets over the table with all names, and puts the last line.
 fn tell_edition<S: Sink>(
     names: NameTable,
-    shown: Shown,
+    how: How,
     sheets: &[Sheet],
     room: &mut Room,
     to: &mut S,
 ) -> Result<Counts, S::Error>
     ensures told { (e : Edition) → Whole names.entry.pool.now names.entry.table.now sheets.now e
-        → Puts (S.place to.old) (editionShown shown e) (done result) (S.place to.new) }
+        → Puts (S.place to.old) (editionTold how.why how.shown e) (done result) (S.place to.new) }
     ensures counted { (e : Edition) → Whole names.entry.pool.now names.entry.table.now sheets.now e → IfOk result (λ n. Counted n.sheets n.accepted e) }
 {
-    let accepted = tell_all(names, shown, sheets, room, to)?;
+    let accepted = tell_each(names, how, sheets, room, to)?;
     put_total(to, sheets.len(), accepted, names.table[0] as usize)?;
     Ok(Counts {
         sheets: sheets.len(),
@@ -66,6 +68,32 @@ fn sunk<E>(told: Result<Counts, E>) -> Result<Counts, Failed<E>>
     match told {
         Ok(counts) => Ok(counts),
         Err(why) => Err(Failed::Sink(why)),
+    }
+}
+
+// Checks an edition, and tells it as it is asked for.
+fn report_as<S: Sink>(
+    alloc: Global,
+    pool: &mut [u8],
+    table: &mut [u32],
+    files: &[File],
+    how: How,
+    to: &mut S,
+) -> Result<Counts, Failed<S::Error>>
+    ensures told { OnOk result ((S.place to.new).held ≡ (S.place to.old).held ++ editionTold how.why how.shown (editionGiven pool.old table.old (files_of files.now))) }
+    ensures counted { IfOk result (λ n. Counted n.sheets n.accepted (editionGiven pool.old table.old (files_of files.now))) }
+    ensures truth { AllTrue (editionGiven pool.old table.old (files_of files.now)) }
+    ensures leaves { Leaves result (tableGiven pool.old table.old) pool.old table.old pool.new table.new (S.place to.old) (S.place to.new)
+        (editionGiven pool.old table.old (files_of files.now)) }
+{
+    let mut room = Room::new();
+    match read_all(alloc, pool, table, files, &mut room) {
+        Ok(sheets) => {
+            let names = NameTable { pool, table };
+            sunk(tell_edition(names, how, &sheets, &mut room, to))
+        }
+        Err(Unready::Names(why)) => Err(Failed::Names(why)),
+        Err(Unready::Memory(why)) => Err(Failed::Memory(why)),
     }
 }
 
@@ -85,13 +113,23 @@ pub fn report<S: Sink>(
     ensures leaves { Leaves result (tableGiven pool.old table.old) pool.old table.old pool.new table.new (S.place to.old) (S.place to.new)
         (editionGiven pool.old table.old (files_of files.now)) }
 {
-    let mut room = Room::new();
-    match read_all(alloc, pool, table, files, &mut room) {
-        Ok(sheets) => {
-            let names = NameTable { pool, table };
-            sunk(tell_edition(names, shown, &sheets, &mut room, to))
-        }
-        Err(Unready::Names(why)) => Err(Failed::Names(why)),
-        Err(Unready::Memory(why)) => Err(Failed::Memory(why)),
-    }
+    report_as(alloc, pool, table, files, How { shown, why: false }, to)
+}
+
+/// Checks an edition as `report` does, and puts behind each page why its sheet isn't accepted: the lines that conflict.
+pub fn report_why<S: Sink>(
+    alloc: Global,
+    pool: &mut [u8],
+    table: &mut [u32],
+    files: &[File],
+    shown: Shown,
+    to: &mut S,
+) -> Result<Counts, Failed<S::Error>>
+    ensures told { OnOk result ((S.place to.new).held ≡ (S.place to.old).held ++ editionWhy shown (editionGiven pool.old table.old (files_of files.now))) }
+    ensures counted { IfOk result (λ n. Counted n.sheets n.accepted (editionGiven pool.old table.old (files_of files.now))) }
+    ensures truth { AllTrue (editionGiven pool.old table.old (files_of files.now)) }
+    ensures leaves { Leaves result (tableGiven pool.old table.old) pool.old table.old pool.new table.new (S.place to.old) (S.place to.new)
+        (editionGiven pool.old table.old (files_of files.now)) }
+{
+    report_as(alloc, pool, table, files, How { shown, why: true }, to)
 }

@@ -2,7 +2,7 @@
 ghost use Rattle.std.specs.Prelude.{◌≡◌, replicate};
 ghost use Rattle.edition.specs.Pages.{constraintsOf, namesOf};
 
-use rules::{RECORD_WORDS, Unseen, WORK_WORDS};
+use rules::{RECORD_WORDS, Shown, Unseen, WORK_WORDS};
 use sheet_reading::{NotRead, Read};
 
 /// A file of an edition: its name as it is told, and its bytes, or why they can't be had.
@@ -71,4 +71,11 @@ impl Room {
             work: [0; WORK_WORDS],
         }
     }
+}
+
+/// How an edition is told: which pages, and whether why a sheet isn't accepted is told behind its page.
+#[derive(Clone, Copy)]
+pub struct How {
+    pub shown: Shown,
+    pub why: bool,
 }

@@ -2,13 +2,15 @@
 ghost use Rattle.std.specs.Prelude.{◌≡◌, IfOk, List, ℕ};
 ghost use Rattle.rules.specs.Base.{collect};
 ghost use Rattle.rules.specs.Names.{Bytes, table_of};
-ghost use Rattle.rules.specs.Reports.{Finding, Page as PageRead, acceptedIn, findingOf, oneIf, pageShown, shownWhere};
+ghost use Rattle.rules.specs.Reports.{Finding, Page as PageRead, acceptedIn, findingOf, isAccepted, oneIf, pageShown, shownWhere};
 ghost use Rattle.reporting.specs.Found.{IsFinding};
 ghost use Rattle.spelling.specs.Sinks.{Puts};
 ghost use Rattle.edition.specs.Files.{HoldsAll, IsSheet};
 ghost use Rattle.edition.specs.Pages.{Tells, done, shownIf};
+ghost use Rattle.edition.specs.Why.{pageTold};
 
-use crate::model::{Content, Room, Sheet};
+use crate::model::{Content, How, Room, Sheet};
+use crate::why::tell_why;
 use confirming::solve_and_judge;
 use names::tables::NameTable;
 use reporting::inner::put_page;
@@ -89,6 +91,49 @@ fn one_if(accepted: bool) -> usize
     if accepted { 1 } else { 0 }
 }
 
+// Tells a sheet, and why it isn't accepted, if that is asked for. Is it accepted?
+fn tell_asked<S: Sink>(
+    names: NameTable,
+    how: How,
+    sheet: &Sheet,
+    room: &mut Room,
+    to: &mut S,
+) -> Result<bool, S::Error>
+    ensures told { (p : PageRead) → IsSheet sheet.now p
+        → Puts (S.place to.old) (pageTold how.why how.shown (table_of names.entry.pool.now names.entry.table.now) p) (done result) (S.place to.new) }
+    ensures found { (p : PageRead) → IsSheet sheet.now p
+        → IfOk result (λ b. b ≡ isAccepted (findingOf (table_of names.entry.pool.now names.entry.table.now) p.content)) }
+{
+    let outcome = tell_sheet(names, how.shown, sheet, room, to)?;
+    let accepted = outcome.is_accepted();
+    if !how.why {
+        return Ok(accepted);
+    }
+    tell_why(names, sheet, outcome, room, to)?;
+    Ok(accepted)
+}
+
+/// Solves, judges and tells sheets one after another, as it is asked for, and says how many are accepted.
+pub fn tell_each<S: Sink>(
+    names: NameTable,
+    how: How,
+    sheets: &[Sheet],
+    room: &mut Room,
+    to: &mut S,
+) -> Result<usize, S::Error>
+    ensures told { (ps : List PageRead) → HoldsAll sheets.now ps
+        → Puts (S.place to.old) (collect (pageTold how.why how.shown (table_of names.entry.pool.now names.entry.table.now)) ps) (done result) (S.place to.new) }
+    ensures counted { (ps : List PageRead) → HoldsAll sheets.now ps
+        → IfOk result (λ n. n ≡ acceptedIn (table_of names.entry.pool.now names.entry.table.now) ps) }
+{
+    let mut accepted = 0;
+    for sheet in sheets {
+        let yes = tell_asked(names, how, sheet, room, to)?;
+        accepted += one_if(yes);
+    }
+    Ok(accepted)
+}
+
 /// Solves, judges and tells sheets one after another, and says how many are accepted.
 pub fn tell_all<S: Sink>(
     names: NameTable,
@@ -102,10 +147,6 @@ pub fn tell_all<S: Sink>(
     ensures counted { (ps : List PageRead) → HoldsAll sheets.now ps
         → IfOk result (λ n. n ≡ acceptedIn (table_of names.entry.pool.now names.entry.table.now) ps) }
 {
-    let mut accepted = 0;
-    for sheet in sheets {
-        let outcome = tell_sheet(names, shown, sheet, room, to)?;
-        accepted += one_if(outcome.is_accepted());
-    }
-    Ok(accepted)
+    let how = How { shown, why: false };
+    tell_each(names, how, sheets, room, to)
 }

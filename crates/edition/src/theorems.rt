@@ -1,5 +1,5 @@
 //! What a report of an edition is worth: theorems, each the contract of a function that does nothing.
-ghost use Rattle.edition.specs.Theorems.{AcceptedSheetsAreTrue, DeniedOnlyWithoutPremise, PagesInLines};
+ghost use Rattle.edition.specs.Theorems.{AcceptedSheetsAreTrue, DeniedOnlyWithoutPremise, PagesInLines, ToldLinesConflict, WhysInLines};
 
 /// Every page of an edition that says 'accepted' is true, whatever the files hold: under the bindings and bounds that it prints, put in at once and in
 /// exact arithmetic, each constraint of its sheet is true (`edition-true`).
@@ -17,4 +17,15 @@ pub fn denied_only_without_premise()
 /// are called and hold: no line feed, and no other byte below the blank, stands in any of these lines (`pages-in-lines`).
 pub fn pages_in_lines()
     ensures { PagesInLines }
+{}
+
+/// So is every page that is followed by its why (`whys-in-lines`).
+pub fn whys_in_lines()
+    ensures { WhysInLines }
+{}
+
+/// The lines that are told under a page conflict: no choice of dimensions for the variables makes all of them true, and without any one of them there is
+/// one that does. Each is the line of the sheet that its constraint was read from (`told-conflict`).
+pub fn told_lines_conflict()
+    ensures { ToldLinesConflict }
 {}

@@ -3,6 +3,7 @@ use Rattle.rules.specs.Reports.{editionGiven}
 use Rattle.edition.specs.Files.{files_of}
 use Rattle.std.specs.Prelude.{[], ◌∷◌}
 use Rattle.std.proofs.Common.{◌∙◌}
+use Rattle.edition.specs.Why.{pageTold}
 use Rattle.check_edition.proofs.Alone.{edition_alone, all_put}
 use Rattle.check_edition.proofs.apart.check_one.Goals as goal
 
@@ -13,6 +14,7 @@ returns g c =
     let same = edition_alone _ _ c.file.result c.args.given.now tables.ensures.pool tables.ensures.table c.file.ensures.name c.file.ensures.text in
     let read = c.in_ok-sheets.ensures in
     let names = c.in_ok-names.ensures in
-    let told = c.tell_all.ensures.told e.pages (rw c.deref.ensures.value read.holds) in
-    let put = all_put c.args.options.shown e _ _ _ _ _ c.in_ok-accepted.accepted c.in_ok-accepted.ensures (names.0 ∙ read.pools) (names.1 ∙ read.tables) told in
+    let told = c.tell_each.ensures.told e.pages (rw c.deref.ensures.value read.holds) in
+    let put = all_put (pageTold c.args.options.why c.args.options.shown) e _ _ _ _ _ c.in_ok-accepted.accepted c.in_ok-accepted.ensures
+    (names.0 ∙ read.pools) (names.1 ∙ read.tables) told in
     rw same at put

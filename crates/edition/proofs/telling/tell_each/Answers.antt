@@ -1,28 +1,28 @@
--- `tell_all` meets its contract: sheet after sheet.
+-- `tell_each` meets its contract: sheet after sheet.
 use Rattle.std.specs.Prelude.{refl}
 use Rattle.std.proofs.Common.{rules, ◌≡◌, Err, arith, ap, ◌∙◌}
 use Rattle.rules.specs.Reports.{oneIf}
 use Rattle.edition.specs.Told.{none-told, one-told, one-cut, one-small, all-told, all-counted}
-use Rattle.edition.proofs.telling.tell_all.Goals as goal
+use Rattle.edition.proofs.telling.tell_each.Goals as goal
 
 pub loop-sheet-init : goal.loop-sheet-init
 loop-sheet-init g c = none-told _ _ _ _ _
 
 pub overflow_add-accepted : goal.overflow_add-accepted
-overflow_add-accepted g c = omega (arith, c.loop-sheet.invariant.few, c.loop-sheet-test.true, c.one_if-accepted.ensures, one-small c.is_accepted.result)
+overflow_add-accepted g c = omega (arith, c.loop-sheet.invariant.few, c.loop-sheet-test.true, c.one_if-accepted.ensures, one-small c.in_ok-yes.yes)
 
 pub loop-sheet-preserved : goal.loop-sheet-preserved
 loop-sheet-preserved g c =
     one-told _ _ _ _ _ _ _ c.loop-sheet.invariant (omega (arith, c.loop-sheet-test.true)) c.sheet-item.result _ c.sheet-item.is _
-    (rw c.one_if-accepted.ensures (one-small c.is_accepted.result))
-    (λ p i. c.in_ok-outcome.ensures.told p i) (λ p i. c.one_if-accepted.ensures ∙ ap oneIf (c.is_accepted.ensures _ _ (c.in_ok-outcome.ensures.found p i)))
+    (rw c.one_if-accepted.ensures (one-small c.in_ok-yes.yes))
+    (λ p i. c.in_ok-yes.ensures.told p i) (λ p i. c.one_if-accepted.ensures ∙ ap oneIf (c.in_ok-yes.ensures.found p i))
 
-pub returns-in_err-outcome : goal.returns-in_err-outcome
-returns-in_err-outcome g c =
-    let r : c.from_residual.result ≡ Err c.in_err-outcome.field-0.0 = search rules in
+pub returns-in_err-yes : goal.returns-in_err-yes
+returns-in_err-yes g c =
+    let r : c.from_residual.result ≡ Err c.in_err-yes.field-0.0 = search rules in
     record {
       told = λ ps h. rw r (one-cut _ _ _ _ _ _ _ c.loop-sheet.invariant (omega (arith, c.loop-sheet-test.true)) c.sheet-item.result _ c.sheet-item.is
-          _ refl (λ p i. c.in_err-outcome.ensures.told p i) ps h);
+          _ refl (λ p i. c.in_err-yes.ensures.told p i) ps h);
       counted = λ ps h. rw r tt;
     }
 
