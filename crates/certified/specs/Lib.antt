@@ -1,0 +1,3 @@
+pub mod Certified
+pub mod Reading
+pub mod Truth
