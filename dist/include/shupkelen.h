@@ -2,14 +2,19 @@
  *
  * What every call has in common
  *
- *   Lent slices. A slice is a pointer and a count of its elements: bytes of a uint8_t slice, words of a uint32_t slice. Each pointer must be
- *   valid for so many elements for the whole call, aligned, and never NULL, not even for 0 elements. A slice that is not const must overlap no other slice of the
- *   same call. Nothing is kept after the call: there is no heap and no state, so calls on separate buffers may run on separate threads.
+ *   Lent slices. A slice is a pointer and a count of its elements: bytes of a uint8_t slice, words of a uint32_t slice. Each pointer must be valid for so
+ *   many elements for the whole call, and aligned. A slice that is not const must overlap no other slice of the same call. Nothing is kept after the call:
+ *   there is no heap and no state, so calls on separate buffers may run on separate threads.
  *
- *   What is returned. The number of the refusal (enum shupkelen_refusal), 0 where there is none; only shupkelen_compare returns its answer.
+ *   NULL with 0 elements is an empty slice, in every call and at every place. The compiled library sees to it, since each exported function puts another
+ *   address in the place of NULL before all else; the proofs don't speak of it. bindings/c/empty.c asks each call with each choice of empty slices, once
+ *   with NULL and once with a valid pointer, and compares all that is left. The thin calls below put a valid pointer in the place of NULL themselves, so
+ *   they don't rest on it.
  *
- *   answer. SHUPKELEN_ANSWER_WORDS words: value, more, rounds. Each call below says what value and more mean; rounds is 0 but for
- *   shupkelen_confirm, shupkelen_solve and shupkelen_read_text. On a refusal all three are written too: 0, but for the rounds that were completed, for 5 of a set, where
+ *   What is returned. The number of the refusal (enum shupkelen_refusal), 0 where there is none; only shupkelen_compare and shupkelen_version return their answer.
+ *
+ *   answer. SHUPKELEN_ANSWER_WORDS words: value, more, rounds. Each call below says what value and more mean; rounds is 0 except for
+ *   shupkelen_confirm, shupkelen_solve and shupkelen_read_text. On a refusal all three are written too: 0, except for the rounds that were completed, for 5 of a set, where
  *   value counts the records that remain, and for shupkelen_read_text, which says where. Of a shorter slice only the words that it has are written.
  *
  *   pool, table. A name table: SHUPKELEN_POOL_BYTES bytes or more, SHUPKELEN_TABLE_WORDS words or more. An empty one is all zero. Word 0 of the
@@ -19,7 +24,7 @@
  *   records of the part that it begins, then a, b, c (crates/rules/specs/Writing.antt). A list has SHUPKELEN_LIST_WORDS words at the most.
  *
  *   result, work. SHUPKELEN_LIST_WORDS words or more, SHUPKELEN_WORK_WORDS words or more. Past the answer, and on a refusal other than 5, the result buffer
- *   is unchanged. The work buffer may hold anything before the call and is all zero after it, but for 10, which changes nothing.
+ *   is unchanged. The work buffer may hold anything before the call and is all zero after it, except for 10, which changes nothing.
  *
  *   Order of refusals at entry: 10, 8, 1, 4, 9. Stack: up to 1 MB (docs/CALLERS.md).
  *
@@ -114,6 +119,11 @@ enum {
     SHUPKELEN_SKIPPED_WORDS = 2049,
     SHUPKELEN_TEXT_BYTES = 354304
 };
+
+/* ---- The version ---- */
+
+/* That of the library: SHUPKELEN_VERSION of the header that belongs to it. */
+uint32_t shupkelen_version(void);
 
 /* ---- Names ---- */
 
@@ -269,6 +279,17 @@ struct shupkelen_line {
     size_t names_len;
 };
 
+/* What is lent for NULL, where a slice has no element. */
+static inline const uint8_t *shupkelen_bytes(const uint8_t *bytes) {
+    static const uint8_t none[1] = {0};
+    return bytes ? bytes : none;
+}
+
+static inline const uint32_t *shupkelen_words(const uint32_t *words) {
+    static const uint32_t none[1] = {0};
+    return words ? words : none;
+}
+
 static inline uint32_t shupkelen_answered(uint32_t refusal, const uint32_t *words, struct shupkelen_answer *answer) {
     answer->value = words[0];
     answer->more = words[1];
@@ -279,14 +300,14 @@ static inline uint32_t shupkelen_answered(uint32_t refusal, const uint32_t *word
 /* shupkelen_enter. */
 static inline uint32_t shupkelen_enter_name(struct shupkelen_names *names, const uint8_t *name, size_t name_len, struct shupkelen_answer *answer) {
     uint32_t words[SHUPKELEN_ANSWER_WORDS];
-    uint32_t refusal = shupkelen_enter(names->pool, SHUPKELEN_POOL_BYTES, names->table, SHUPKELEN_TABLE_WORDS, name, name_len, words, SHUPKELEN_ANSWER_WORDS);
+    uint32_t refusal = shupkelen_enter(names->pool, SHUPKELEN_POOL_BYTES, names->table, SHUPKELEN_TABLE_WORDS, shupkelen_bytes(name), name_len, words, SHUPKELEN_ANSWER_WORDS);
     return shupkelen_answered(refusal, words, answer);
 }
 
 /* shupkelen_read_text: the set stands at the front of buffers->result. */
 static inline uint32_t shupkelen_read_sheet(struct shupkelen_names *names, const uint8_t *text, size_t text_len, struct shupkelen_buffers *buffers, struct shupkelen_answer *answer) {
     uint32_t words[SHUPKELEN_ANSWER_WORDS];
-    uint32_t refusal = shupkelen_read_text(names->pool, SHUPKELEN_POOL_BYTES, names->table, SHUPKELEN_TABLE_WORDS, text, text_len, buffers->result, SHUPKELEN_LIST_WORDS,
+    uint32_t refusal = shupkelen_read_text(names->pool, SHUPKELEN_POOL_BYTES, names->table, SHUPKELEN_TABLE_WORDS, shupkelen_bytes(text), text_len, buffers->result, SHUPKELEN_LIST_WORDS,
         buffers->work, SHUPKELEN_WORK_WORDS, words, SHUPKELEN_ANSWER_WORDS);
     return shupkelen_answered(refusal, words, answer);
 }
@@ -294,7 +315,7 @@ static inline uint32_t shupkelen_read_sheet(struct shupkelen_names *names, const
 /* shupkelen_confirm; set doesn't stand in buffers. */
 static inline uint32_t shupkelen_confirm_set(const struct shupkelen_names *names, const uint32_t *set, size_t set_len, struct shupkelen_buffers *buffers, struct shupkelen_answer *answer) {
     uint32_t words[SHUPKELEN_ANSWER_WORDS];
-    uint32_t refusal = shupkelen_confirm(names->pool, SHUPKELEN_POOL_BYTES, names->table, SHUPKELEN_TABLE_WORDS, set, set_len, buffers->result, SHUPKELEN_LIST_WORDS,
+    uint32_t refusal = shupkelen_confirm(names->pool, SHUPKELEN_POOL_BYTES, names->table, SHUPKELEN_TABLE_WORDS, shupkelen_words(set), set_len, buffers->result, SHUPKELEN_LIST_WORDS,
         buffers->work, SHUPKELEN_WORK_WORDS, words, SHUPKELEN_ANSWER_WORDS);
     return shupkelen_answered(refusal, words, answer);
 }
@@ -302,15 +323,15 @@ static inline uint32_t shupkelen_confirm_set(const struct shupkelen_names *names
 /* shupkelen_check_line. */
 static inline uint32_t shupkelen_check_steps(const struct shupkelen_names *names, const struct shupkelen_line *line, struct shupkelen_buffers *buffers, struct shupkelen_answer *answer) {
     uint32_t words[SHUPKELEN_ANSWER_WORDS];
-    uint32_t refusal = shupkelen_check_line(names->pool, SHUPKELEN_POOL_BYTES, names->table, SHUPKELEN_TABLE_WORDS, line->steps, line->steps_len, line->types, line->types_len,
-        line->lines, line->lines_len, line->names, line->names_len, buffers->result, SHUPKELEN_LIST_WORDS, buffers->work, SHUPKELEN_WORK_WORDS, words, SHUPKELEN_ANSWER_WORDS);
+    uint32_t refusal = shupkelen_check_line(names->pool, SHUPKELEN_POOL_BYTES, names->table, SHUPKELEN_TABLE_WORDS, shupkelen_words(line->steps), line->steps_len,
+        shupkelen_words(line->types), line->types_len, shupkelen_words(line->lines), line->lines_len, shupkelen_words(line->names), line->names_len, buffers->result, SHUPKELEN_LIST_WORDS, buffers->work, SHUPKELEN_WORK_WORDS, words, SHUPKELEN_ANSWER_WORDS);
     return shupkelen_answered(refusal, words, answer);
 }
 
 /* shupkelen_write_text. */
 static inline uint32_t shupkelen_write_set(const struct shupkelen_names *names, const uint32_t *set, size_t set_len, uint8_t *text, size_t text_len, struct shupkelen_answer *answer) {
     uint32_t words[SHUPKELEN_ANSWER_WORDS];
-    uint32_t refusal = shupkelen_write_text(names->pool, SHUPKELEN_POOL_BYTES, names->table, SHUPKELEN_TABLE_WORDS, set, set_len, text, text_len, words, SHUPKELEN_ANSWER_WORDS);
+    uint32_t refusal = shupkelen_write_text(names->pool, SHUPKELEN_POOL_BYTES, names->table, SHUPKELEN_TABLE_WORDS, shupkelen_words(set), set_len, text, text_len, words, SHUPKELEN_ANSWER_WORDS);
     return shupkelen_answered(refusal, words, answer);
 }
 
