@@ -6,8 +6,8 @@ use Rattle.rules.specs.Base.{all, sum_of}
 use Rattle.rules.specs.Trees.{Con, sizeCon}
 use Rattle.rules.specs.Writing.{words, writeBound}
 use Rattle.certificates.specs.Certificates.{lineOf, pairOf, nameOf, pairsOf, boundNames, boundWords, boundsOf, proposes}
-use Rattle.certificates.specs.declared.lines.Line.{Line}
-use Rattle.certificates.specs.declared.lines.Line.TheVariants.{Binds, Bounds}
+use Rattle.certificates.specs.declared.inner.Line.{Line}
+use Rattle.certificates.specs.declared.inner.Line.TheVariants.{Binds, Bounds}
 
 module _ (ds : List (Con ℕ)) where
   pub record Going (at : ℕ) (pairs bounds : List ℕ) (rest : List (Con ℕ)) : Type 0 where

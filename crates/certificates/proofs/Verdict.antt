@@ -6,7 +6,7 @@ use Rattle.rules.specs.Calls.{aloneGiven, setCall, setGiven}
 use Rattle.rules.specs.Names.{table_of}
 use Rattle.laws.specs.Checks.{passed}
 use Rattle.certificates.specs.Certificates.{judged, verified}
-use Rattle.certificates.specs.declared.lines.Proposal.{Proposal}
+use Rattle.certificates.specs.declared.inner.Proposal.{Proposal}
 use Rattle.certificates.specs.Proposals.{Proposed}
 
 module _ (pool table set certificate : List ℕ) where

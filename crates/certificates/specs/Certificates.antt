@@ -8,8 +8,8 @@ use Rattle.rules.specs.Views.{asVar}
 use Rattle.rules.specs.Writing.{words, writeBound}
 use Rattle.rules.specs.Calls.{setCall, setGiven, judgeCall}
 use Rattle.pairs.specs.Pairs.{entriesIn}
-use Rattle.certificates.specs.declared.lines.Line.{Line}
-use Rattle.certificates.specs.declared.lines.Line.TheVariants.{Binds, Bounds}
+use Rattle.certificates.specs.declared.inner.Line.{Line}
+use Rattle.certificates.specs.declared.inner.Line.TheVariants.{Binds, Bounds}
 
 -- ══ Lines ══
 

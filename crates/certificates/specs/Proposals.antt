@@ -5,7 +5,7 @@ use Rattle.rules.specs.Calls.{setGiven}
 use Rattle.rules.specs.Names.{table_of}
 use Rattle.rules.specs.Trees.{Con}
 use Rattle.certificates.specs.Certificates.{pairsOf, boundsOf, proposes}
-use Rattle.certificates.specs.declared.lines.Proposal.{Proposal}
+use Rattle.certificates.specs.declared.inner.Proposal.{Proposal}
 
 -- the pairs and bounds of lines that all propose something
 pub record IsProposal (ds : List (Con ℕ)) (p : Proposal) : Type 0 where

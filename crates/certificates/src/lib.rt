@@ -2,14 +2,14 @@
 //! are judged over the sheet's set with nothing solved, so whoever trusts the judge needs no solver.
 #![tactic(auto)]
 
-pub mod lines;
+pub mod inner;
 pub mod theorems;
 
 ghost use Rattle.std.specs.Prelude.{◌≡◌, IfOk};
 ghost use Rattle.rules.specs.Refusals.{told};
 ghost use Rattle.certificates.specs.Certificates.{verified, judged};
 
-use lines::{Proposal, proposed};
+use inner::{Proposal, proposed};
 use pairs::judge_pairs;
 use records::is_set;
 use rules::{Refusal, WORK_WORDS};

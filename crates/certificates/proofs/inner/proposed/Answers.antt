@@ -5,7 +5,7 @@ use Rattle.rules.specs.Trees.{Con}
 use Rattle.records.specs.Found.{Words32}
 use Rattle.certificates.specs.Proposals.{Proposed, ProposedBy}
 use Rattle.certificates.proofs.Standing.{short, read, lines-stand, same, few}
-use Rattle.certificates.proofs.lines.proposed.Goals as goal
+use Rattle.certificates.proofs.inner.proposed.Goals as goal
 
 pub invariant_of-lines : goal.invariant_of-lines
 invariant_of-lines c =

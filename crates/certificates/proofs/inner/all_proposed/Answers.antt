@@ -1,7 +1,7 @@
 use Rattle.std.proofs.Common.{ap, sym}
 use Rattle.types.specs.Sets.{alone, placed-alone}
 use Rattle.certificates.proofs.Going.{begun, one-more, not-a-line, all-told}
-use Rattle.certificates.proofs.lines.all_proposed.Goals as goal
+use Rattle.certificates.proofs.inner.all_proposed.Goals as goal
 
 pub lines-init : goal.lines-init
 lines-init c =

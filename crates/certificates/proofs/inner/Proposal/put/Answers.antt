@@ -1,7 +1,7 @@
 use Rattle.std.proofs.Common.{sym}
 use Rattle.std.proofs.lemmas.List.{append-nil}
 use Rattle.rules.specs.Writing.{words}
-use Rattle.certificates.proofs.lines.Proposal.put.Goals as goal
+use Rattle.certificates.proofs.inner.Proposal.put.Goals as goal
 
 pub returns-in_ok-push-in-Binds-2-clause-bounds : goal.returns-in_ok-push-in-Binds-2-clause-bounds
 unfolding words
