@@ -1,6 +1,7 @@
 -- Steps that were read, as the rules have them.
 use Rattle.std.specs.Prelude.{◌≡◌, List, ℕ, map, length, take}
-use Rattle.std.proofs.Common.{arith, length-map, length-take}
+use Rattle.std.proofs.Common.{arith, length-take}
+use Rattle.std.proofs.lemmas.List.{length-map}
 use Rattle.rules.specs.Trees.{Ty}
 use Rattle.rules.specs.Steps.{adds, subtracts, multiplies, divides, compares, LineStep, constant, reference, raises, joins, chooses}
 use Rattle.rules.specs.Steps as rules
@@ -33,4 +34,4 @@ abbrev pub stepsOf : Steps → List (LineStep ℕ)
 stepsOf s = map stepOf (take s.len s.list)
 
 pub steps-long : (s : Steps) → length (stepsOf s) ≡ s.len
-steps-long s = omega (arith, length-map stepOf (take s.len s.list), length-take s.len s.list, s.few, s.full)
+steps-long s = omega (arith, length-map (take s.len s.list) stepOf, length-take s.len s.list, s.few, s.full)

@@ -5,7 +5,8 @@ use Rattle.std.proofs.Common.{arith}
 use Rattle.std.proofs.Math.Option.{Option, none, some}
 use Rattle.rules.specs.Steps.{LineStep, constant, reference, raises, joins, chooses, Deed, gives, raised, joined, chosen, operands, takes}
 use Rattle.exponents.specs.Answers.{expOf}
-use Rattle.lines_entry.specs.Told.{treeOf, twoOf}
+use Rattle.lines_entry.specs.Told.{treeOf, twoOf, stepOf}
+use Rattle.lines_entry.specs.declared.inner.steps.Step.{Step}
 use Rattle.lines_set.specs.declared.deeds.Deed as code
 use Rattle.lines_set.specs.declared.deeds.Deed.TheVariants as deed
 
@@ -55,3 +56,25 @@ taking chooses [] h = absurd (omega arith)
 taking chooses (a ∷ []) h = absurd (omega arith)
 taking chooses (a ∷ b ∷ []) h = absurd (omega arith)
 taking chooses (a ∷ b ∷ c ∷ st) h = refl
+
+pub took : (s : LineStep ℕ) (st : List ℕ) (x : Deed ℕ ℕ × List ℕ) → some x ≡ takes s st → operands s ≤ length st
+unfolding takes
+took (constant t) st x h = omega arith
+took (reference t) st x h = omega arith
+took (raises e) [] x h = cc
+took (raises e) (a ∷ st) x h = omega arith
+took (joins o) [] x h = cc
+took (joins o) (a ∷ []) x h = cc
+took (joins o) (a ∷ b ∷ st) x h = omega arith
+took chooses [] x h = cc
+took chooses (a ∷ []) x h = cc
+took chooses (a ∷ b ∷ []) x h = cc
+took chooses (a ∷ b ∷ c ∷ st) x h = omega arith
+
+-- a step that is known
+module _ (step it : Step) (st : List ℕ) (e : step ≡ it) where
+  pub missing-as : length st < operands (stepOf it) → none ≡ takes (stepOf step) st
+  missing-as h = rw e (missing (stepOf it) st h)
+
+  pub taken-as : operands (stepOf it) ≤ length st → some (deedBy (stepOf it) st, drop (operands (stepOf step)) st) ≡ takes (stepOf step) st
+  taken-as h = rw e (taking (stepOf it) st h)

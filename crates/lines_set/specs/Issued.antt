@@ -1,5 +1,5 @@
 -- The constraints of a step, put together from their records.
-use Rattle.std.specs.Prelude.{◌≡◌, Bool, true, false, ℕ, suc, ◌+◌, ◌≤◌, pos, negsuc}
+use Rattle.std.specs.Prelude.{◌≡◌, Bool, true, false, ℕ, suc, ◌+◌, ◌≤◌, ℤ}
 use Rattle.std.proofs.Math.Path.{refl, ap}
 use Rattle.std.proofs.Common.{sym, ◌∙◌, arith, subst, append_assoc}
 use mathlib.Core.List.{List, [], ◌∷◌, ◌++◌}
@@ -7,16 +7,22 @@ use Prim.Native.Nat.{Ordering}
 use Rattle.rules.specs.Base.{collect}
 use Rattle.rules.specs.Exponents.{Exp, frac, one, neg, isZero}
 use Rattle.rules.specs.Trees.{var, free, ◌↑◌, Product, Names, Ty, basic, boolean, dim, equal, isDim, size, sizeCon}
-use Rattle.rules.specs.Writing.{Rec, writeTy, writeProduct, writeFactor, writeCon}
+use Rattle.rules.specs.Writing.{Rec, twos, writeTy, writeProduct, writeFactor, writeCon}
 use Rattle.rules.specs.Products.{put}
 use Rattle.records.specs.Cut.{fit}
 use Rattle.records.specs.Views.{recOf}
+use Rattle.records.specs.declared.Atom.TheVariants as atoms
 use Rattle.records.specs.declared.Basic.TheVariants as basics
+use Rattle.records.specs.declared.Open.TheVariants as opens
 use Rattle.records.specs.declared.View.TheVariants as view
 use Rattle.types.specs.Written.{Writes, writes-then}
 use Rattle.types.specs.Puts.{equal-writes}
 use Rattle.types.specs.declared.writer.Writer.{Writer}
 use Rattle.rules.specs.Steps.{adds, subtracts, multiplies, divides, compares, gives, raised, chosen}
+use Rattle.lines_entry.specs.Told.{twoOf}
+use Rattle.lines_entry.specs.declared.inner.steps.Two.{Two}
+use Rattle.lines_set.specs.Deeds.{deedOf}
+use Rattle.lines_set.specs.declared.deeds.Deed.{Deed}
 use Rattle.rules.specs.Lines.{its, dimensions, twoFactors, issuedByTwo, issued}
 
 nothing-more : (rs : List Rec) → rs ++ [] ≡ rs
@@ -117,6 +123,15 @@ module _ (ν : Names ℕ) (l r : ℕ) (e : Exp) where
       let u : Writes w₁ w₄ (c ++ []) = subst (Writes w₁ w₄) (sym (nothing-more c)) (equal-put v (dim (twoFactors ν l r e)) 5 long-two (omega arith) q s t) in
       subst (Writes w w₄) (two-lists (c ++ [])) (writes-then (collect writeCon (dimensions l r)) (c ++ []) p u)
 
+-- the words of its record say a factor
+pub factor-put : {w w₁ : Writer} (x n d : ℕ) (k : ℤ) → n ≡ twos k → Writes w w₁ (recOf (view.Factor (atoms.Free (opens.Var x)) n d) (fit 1) ∷ [])
+    → Writes w w₁ (writeFactor (free (var x) ↑ frac k d) ∷ [])
+unfolding writeFactor fit
+factor-put x n d k e p = rw (← e) p
+
+pub product-as : {w w₁ : Writer} (p q : Product ℕ) → p ≡ q → Writes w w₁ (writeTy (dim p)) → Writes w w₁ (writeTy (dim q))
+product-as {w} {w₁} p q e h = subst (λ (f : Product ℕ). Writes w w₁ (writeTy (dim f))) e h
+
 -- two powers behind their count
 pub pair-put : {w w₁ w₂ w₃ : Writer} (x y : ℕ) (a b : Exp) → Writes w w₁ (recOf (view.Dim 2) (fit 3) ∷ [])
     → Writes w₁ w₂ (writeFactor (free (var x) ↑ a) ∷ []) → Writes w₂ w₃ (writeFactor (free (var y) ↑ b) ∷ [])
@@ -137,12 +152,23 @@ module _ (ν : Names ℕ) (v x : ℕ) (e : Exp) where
 
   pub scalar-put : {w w₁ w₂ w₃ w₄ : Writer} → isZero e ≡ true → Writes w w₁ (writeCon (isDim (its x))) → Writes w₁ w₂ (recOf view.Equal (fit 3) ∷ [])
       → Writes w₂ w₃ (writeTy (its v)) → Writes w₃ w₄ (recOf (view.Dim 0) (fit 1) ∷ []) → Writes w w₄ (collect writeCon (issued ν v (raised e x)))
-  unfolding put size writeTy writeProduct fit
-  scalar-put z p q r s = power-put [] (rw z) p (equal-put v (dim []) 3 refl (omega arith) q r s)
+  unfolding size writeTy writeProduct fit
+  scalar-put z p q r s = power-put [] (rw (z, put)) p (equal-put v (dim []) 3 refl (omega arith) q r s)
 
   pub raised-put : {w w₁ w₂ w₃ w₄ w₅ : Writer} → isZero e ≡ false → Writes w w₁ (writeCon (isDim (its x))) → Writes w₁ w₂ (recOf view.Equal (fit 4) ∷ [])
       → Writes w₂ w₃ (writeTy (its v)) → Writes w₃ w₄ (recOf (view.Dim 1) (fit 2) ∷ []) → Writes w₄ w₅ (writeFactor (free (var x) ↑ e) ∷ [])
       → Writes w w₅ (collect writeCon (issued ν v (raised e x)))
-  unfolding put size writeTy writeProduct fit
-  raised-put z p q r s t = power-put (free (var x) ↑ e ∷ []) (rw z) p (equal-put v (dim (free (var x) ↑ e ∷ [])) 4 refl (omega arith) q r
+  unfolding size writeTy writeProduct fit
+  raised-put z p q r s t = power-put (free (var x) ↑ e ∷ []) (rw (z, put)) p (equal-put v (dim (free (var x) ↑ e ∷ [])) 4 refl (omega arith) q r
       (writes-then (recOf (view.Dim 1) 2 ∷ []) (writeFactor (free (var x) ↑ e) ∷ []) s t))
+
+-- ══ Which deed it is ══
+
+module _ (ν : Names ℕ) (v : ℕ) where
+  pub joined-as : {w w₁ : Writer} (two it : Two) (l r : ℕ) → two ≡ it → Writes w w₁ (collect writeCon (issuedByTwo ν v (twoOf it) l r))
+      → Writes w w₁ (collect writeCon (issuedByTwo ν v (twoOf two) l r))
+  joined-as {w} {w₁} two it l r e h = subst (λ (o : Two). Writes w w₁ (collect writeCon (issuedByTwo ν v (twoOf o) l r))) (sym e) h
+
+  pub deed-as : {w w₁ : Writer} (deed it : Deed) → deed ≡ it → Writes w w₁ (collect writeCon (issued ν v (deedOf it)))
+      → Writes w w₁ (collect writeCon (issued ν v (deedOf deed)))
+  deed-as {w} {w₁} deed it e h = subst (λ (d : Deed). Writes w w₁ (collect writeCon (issued ν v (deedOf d)))) (sym e) h
