@@ -1,7 +1,7 @@
 -- A number that has no word: the open names of that number stay.
-use Rattle.std.specs.Prelude.{◌≡◌, Bool, true, false, ◌||◌, not, eqb, List, [], ◌∷◌, ℕ, ◌+◌, ◌*◌, ◌≤◌, ◌<◌, ◌/◌, get_or, length, refl}
-use Rattle.std.proofs.Common.{ap, sym, subst, ◌∙◌}
-use Rattle.std.proofs.Math.Option.{Option, none, some}
+use Rattle.std.specs.Prelude.{◌≡◌, true, false, not, eqb, List, [], ◌∷◌, ℕ, ◌+◌, ◌*◌, ◌≤◌, ◌<◌, ◌/◌, get_or, length, refl}
+use Rattle.std.proofs.Common.{ap, sym, subst}
+use Rattle.std.proofs.Math.Option.{Option}
 use Rattle.std.proofs.Math.Bool.{and-eq-true_iff}
 use borrow.Author.Tests.{eqb-true}
 use Rattle.rules.specs.Base.{any, is_none}
@@ -16,7 +16,7 @@ use Rattle.records.specs.declared.View.{View}
 use Rattle.records.specs.declared.View.TheVariants as view
 use Rattle.queries.specs.Scans.{opensView}
 use Rattle.replace.specs.Leaves.{replaced}
-use Rattle.replace.specs.Places.{Called, number_of, SaysAt, Tabled, unsaid, word_of}
+use Rattle.replace.specs.Places.{Called, number_of, Tabled, unsaid, word_of}
 use Rattle.replace.specs.Substitutions.{none-said}
 
 second : Rec → ℕ
@@ -59,6 +59,7 @@ module _ (s : List ℕ) (i : ℕ) where
   called-out h = rw (view-none s i h) tt
 
   pub called-at : i < length s / 4 → Called (get_or s (i * 4 + 1) 0) (opensView (viewAt s i))
+  unfolding second
   called-at h = called (recAt s i) (viewAt s i) (sym (view-some s i h))
 
 -- the names stay

@@ -1,5 +1,4 @@
-use Rattle.std.proofs.Common.{ap, sym}
-use Rattle.std.specs.Prelude.{eqb}
+use Rattle.std.proofs.Common.{sym}
 use borrow.Author.Tests.{eq-eqb, ne_eqb}
 use Rattle.replace.specs.Places.{unsaid}
 use Rattle.replace.proofs.inner.bound.is_unsaid.Goals as goal
