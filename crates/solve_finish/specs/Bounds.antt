@@ -57,7 +57,7 @@ use Rattle.replace.specs.Writes.{words_append, writes}
 use Rattle.replace.specs.Written.{written-cons, binds-held, as-run}
 use Rattle.solve_round.specs.States.{StateHeld}
 use Rattle.solve_round.specs.declared.Place.{Place}
-use Rattle.types.specs.Puts.{binds-words as bound-words, binds-in as bound-in, cons-in}
+use Rattle.types.specs.Puts.{binds-words as bound-words}
 use Rattle.types.specs.Sets.{HoldsCons, IsCons, Cons, con-some, one-set}
 use Rattle.solve_finish.specs.declared.Finish.TheVariants.{Solved as Bound, Unsolved}
 use Rattle.solve_finish.specs.Told.{others, boundRec, bounds, Copied, Accepted, Finished}
