@@ -3,6 +3,7 @@
 #![tactic(auto)]
 
 pub mod given;
+pub mod inner;
 pub mod parts;
 pub mod reading;
 pub mod sets;
