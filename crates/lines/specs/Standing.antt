@@ -69,12 +69,12 @@ module _ (pool table : List ℕ) where
       pub set-many : w'.at ≡ sum_of sizeCon cs
       set-many = omega (arith, p.at, front, few, set-length cs)
 
-      pub set-stands : 8192 ≤ length w.words.now → SetStands (take (w'.at * 4 - 0) w'.words.now) cs
-      set-stands room =
+      pub set-stands : 8192 ≤ length w.words.now → (d : List ℕ) → d ≡ w'.words.now → SetStands (take (w'.at * 4 - 0) d) cs
+      set-stands room d back =
           let z : w'.at * 4 - 0 ≡ 0 + length ws = omega (arith, many, set-many) in
           let laid : w'.words.now ≡ sets w.words.now 0 ws =
           p.words (omega (arith, front, few, set-many, set-length cs)) ∙ ap (λ (k : ℕ). sets w.words.now (k * 4) ws) front in
-          let s : take (w'.at * 4 - 0) w'.words.now ≡ ws = ap (take (w'.at * 4 - 0)) laid ∙ ap (λ (k : ℕ). slice 0 k (sets w.words.now 0 ws)) z
+          let s : take (w'.at * 4 - 0) d ≡ ws = ap (take (w'.at * 4 - 0)) (back ∙ laid) ∙ ap (λ (k : ℕ). slice 0 k (sets w.words.now 0 ws)) z
           ∙ slice-there w.words.now 0 ws (omega (arith, z, few)) in
           subst (λ (l : List ℕ). SetStands l cs) (sym s) (words-stand (omega (arith, set-many, few)))
 
