@@ -2,6 +2,7 @@
 ghost use Rattle.std.specs.Prelude.{◌≡◌, ◌++◌, [], ◌∷◌, OnOk};
 ghost use Rattle.check_edition.specs.Given.{pagesTold};
 
+use crate::certificate::Certificate;
 use crate::files::{Given, front, read};
 use crate::listing::list;
 use crate::notes::Notes;
@@ -73,9 +74,13 @@ pub fn check<R: Files + Input + Print + Eprint + AllocGlobal>(
         listed: Vec::new(alloc),
         room: Room::new(),
     };
+    let mut kept = Certificate::new(alloc)?;
     for name in names {
         let given = read(rt, name, words, &mut buf)?;
         check_one(rt, &given, options, &mut so_far, &mut out)?;
+        if options.certificate.is_some() {
+            kept.add(alloc, &[given.file()])?;
+        }
     }
     let totals = so_far.totals;
     put_total(&mut out, totals.sheets, totals.accepted, totals.names).context(
@@ -83,5 +88,9 @@ pub fn check<R: Files + Input + Print + Eprint + AllocGlobal>(
     )?;
     out.put(&so_far.listed)
         .context("the names can't be written")?;
+    if let Some(path) = options.certificate {
+        kept.write(rt, path)
+            .context("the certificate can't be written")?;
+    }
     Ok(totals)
 }

@@ -3,9 +3,11 @@
 #![tactic(auto)]
 
 mod apart;
+mod certificate;
 mod files;
 mod html;
 mod json;
+mod kept;
 mod listing;
 mod notes;
 mod options;
@@ -13,6 +15,7 @@ mod status;
 mod tables;
 mod together;
 mod told;
+mod verify;
 mod words;
 mod written;
 
@@ -61,7 +64,10 @@ fn run<R: Env + Files + Input + Print + Eprint + AllocGlobal>(rt: &R) -> Result<
     };
     let options = Options::of(&matches);
     let names: &[&str] = matches.get_strs("FILE").unwrap_or(&["-"]);
-    let totals = check(rt, names, &words, options)?;
+    let totals = match matches.get_str("verify") {
+        Some(path) => verify::check(rt, path, names, &words)?,
+        None => check(rt, names, &words, options)?,
+    };
     Ok(status_of(totals, options.strict))
 }
 

@@ -16,6 +16,7 @@ pub enum Form<'a> {
 pub struct Options<'a> {
     pub shown: Shown,
     pub form: Form<'a>,
+    pub certificate: Option<&'a str>,
     pub names: bool,
     pub why: bool,
     pub separate: bool,
@@ -32,6 +33,7 @@ impl<'a> Options<'a> {
                 Shown::All
             },
             form: form_of(matches),
+            certificate: matches.get_str("certificate"),
             names: matches.get_flag("names"),
             why: matches.get_flag("why"),
             separate: matches.get_flag("separate"),
@@ -69,6 +71,23 @@ fn flag<'a>(alloc: Global, name: &'a str, help: &'a str) -> Arg<'a> {
         .action(ArgAction::SetTrue)
 }
 
+// An option that names a file, and can't stand beside these others.
+fn file<'a>(
+    alloc: Global,
+    name: &'a str,
+    help: &'a str,
+    others: &[&'a str],
+) -> Result<Arg<'a>, AllocError> {
+    let mut arg = Arg::new(alloc, name)
+        .long(name)
+        .value_name("FILE")
+        .help(help);
+    for other in others {
+        arg = arg.conflicts_with(*other)?;
+    }
+    Ok(arg)
+}
+
 /// The words that the program takes.
 pub fn command<'a>(alloc: Global) -> Result<Command<'a>, AllocError> {
     let files = Arg::new(alloc, "FILE")
@@ -99,6 +118,26 @@ pub fn command<'a>(alloc: Global) -> Result<Command<'a>, AllocError> {
             "Write the report as a page of HTML to FILE, and the last line alone on standard output",
         )
         .conflicts_with("json")?;
+    let certificate = file(
+        alloc,
+        "certificate",
+        "Write to FILE what is to be kept of the accepted sheets: digests, and what their variables stand for",
+        &["json", "html"],
+    )?;
+    let verify = file(
+        alloc,
+        "verify",
+        "Solve nothing: judge the sheets by the certificate in FILE",
+        &[
+            "certificate",
+            "json",
+            "html",
+            "quiet",
+            "names",
+            "separate",
+            "strict",
+        ],
+    )?;
     let separate = flag(
         alloc,
         "separate",
@@ -117,6 +156,8 @@ pub fn command<'a>(alloc: Global) -> Result<Command<'a>, AllocError> {
         .arg(why)?
         .arg(json)?
         .arg(html)?
+        .arg(certificate)?
+        .arg(verify)?
         .arg(separate)?
         .arg(strict)
 }

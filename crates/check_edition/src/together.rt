@@ -6,6 +6,7 @@ ghost use Rattle.edition.specs.Theorems.{AllTrue};
 ghost use Rattle.edition.specs.Why.{editionWhy};
 ghost use Rattle.check_edition.specs.Given.{editionOf};
 
+use crate::certificate::keep;
 use crate::files::{Given, front, lend, read};
 use crate::listing::list;
 use crate::notes::Notes;
@@ -121,6 +122,9 @@ pub fn check<R: Files + Input + Print + Eprint + AllocGlobal>(
     if options.names {
         out.put(&list(alloc, &files)?)
             .context("the names can't be written")?;
+    }
+    if let Some(path) = options.certificate {
+        keep(rt, path, &files)?;
     }
     let mut notes = Notes::new(alloc);
     notes.add(reported.tables.names()?, &files)?;
