@@ -2,13 +2,13 @@
 // stands in it, line by line.
 use crate::tables::Tables;
 use anyhow::{Context, Result, bail};
-use certified::{Verdict, certify};
+use edition_certified::{Verdict, certify};
 use edition::model::{File, Room};
 use edition::telling::tell_sheet;
-use reporting::words::put_amount;
+use edition_report::words::put_amount;
 use rules::Shown;
 use sha2::{Digest, Sha256};
-use spelling::sink::Sink;
+use text_spell::sink::Sink;
 use std::alloc::{AllocError, Global};
 use std::io::Write;
 use std::rt::Files;

@@ -1,7 +1,7 @@
 // A certificate that is read.
 use crate::certificate::{BEGINS, DIGEST, END, FIRST, INSIDE, LAST, SHEET};
 use hex::FromHex;
-use spelling::sink::Sink;
+use text_spell::sink::Sink;
 use std::alloc::{AllocError, Global};
 
 /// What a certificate keeps of a sheet: its file's name as it is written there, the file's digest, lines over the sheet's names, and the number of the

@@ -10,7 +10,7 @@ ghost use Rattle.rules.specs.Reports.{amount};
 ghost use Rattle.edition_certificate_file.specs.Files.{isEscaped, writtenByte, writtenName, entryText, certificateText, IsReadFrom};
 
 use hex::FromHex;
-use spelling::put_digits;
+use text_spell::put_digits;
 use std::alloc::{AllocError, Global};
 
 /// The first line: what it is, and of which version.

@@ -1,0 +1,4 @@
+use Rattle.judge_meaning.proofs.inner.truth.+past.Given as goal
+
+abbrev pub decreases-past : goal.decreases-past
+decreases-past l = l.n
