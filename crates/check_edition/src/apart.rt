@@ -74,7 +74,7 @@ pub fn check<R: Files + Input + Print + Eprint + AllocGlobal>(
         listed: Vec::new(alloc),
         room: Room::new(),
     };
-    let mut kept = Certificate::new(alloc)?;
+    let mut kept = Certificate::new(alloc);
     for name in names {
         let given = read(rt, name, words, &mut buf)?;
         check_one(rt, &given, options, &mut so_far, &mut out)?;
@@ -89,8 +89,7 @@ pub fn check<R: Files + Input + Print + Eprint + AllocGlobal>(
     out.put(&so_far.listed)
         .context("the names can't be written")?;
     if let Some(path) = options.certificate {
-        kept.write(rt, path)
-            .context("the certificate can't be written")?;
+        kept.write(rt, path)?;
     }
     Ok(totals)
 }

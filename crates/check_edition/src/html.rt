@@ -1,18 +1,20 @@
 // An edition's report as a page of HTML: one file, with nothing fetched and no script. What comes from a file goes through `Html::text`.
+use crate::certificate::write_file;
 use crate::notes::Notes;
 use crate::options::Options;
 use crate::status::Totals;
-use crate::told::{Report, SheetTold, lines_below, tell};
+use crate::told::{Line, Report, SheetTold, lines_below, tell};
 use crate::words::Words;
 use anyhow::{Context, Result};
 use edition_html::put_text;
 use edition_report::words::{put_amount, put_total};
 use text_spell::sink::Sink;
 use std::alloc::{AllocError, Global};
+use std::io;
 use std::io::{BufWriter, Write};
 use std::rt::Files;
 use std::str::from_utf8;
-use std::{fs, io};
+
 
 /// How the page looks, on a screen and on paper.
 const STYLE: &str = "
@@ -227,6 +229,25 @@ impl Html {
         self.raw("</ul>\n")
     }
 
+    // The lines that conflict, each with its number.
+    fn conflict(&mut self, lines: &[Line]) -> Result<(), AllocError> {
+        if lines.is_empty() {
+            return Ok(());
+        }
+        self.raw(
+            "<table>\n<caption>These lines conflict, and without any one of them the others don't</caption>\n<thead><tr>",
+        )?;
+        self.raw("<th scope=\"col\" class=\"count\">Line</th><th scope=\"col\">Constraint</th></tr></thead>\n<tbody>\n")?;
+        for line in lines {
+            self.raw("<tr><th scope=\"row\" class=\"count\">")?;
+            self.number(line.number)?;
+            self.raw("</th><td><code>")?;
+            self.text(&line.text)?;
+            self.raw("</code></td></tr>\n")?;
+        }
+        self.raw("</tbody>\n</table>\n")
+    }
+
     // The names that a sheet has first.
     fn new_names(&mut self, new: &[Vec<u8>]) -> Result<(), AllocError> {
         if new.is_empty() {
@@ -268,6 +289,7 @@ impl Html {
             self.refused(&lines)?;
         } else if !lines.is_empty() {
             self.remaining(&lines)?;
+            self.conflict(&sheet.why)?;
         }
         self.new_names(&sheet.new)?;
         self.raw("</section>\n")
@@ -300,13 +322,6 @@ fn page(alloc: Global, report: &Report) -> Result<Vec<u8>, AllocError> {
     html.notes(&report.notes)?;
     html.raw("</body>\n</html>\n")?;
     Ok(html.out)
-}
-
-// Writes bytes into a file, which is made anew.
-fn write_file<R: Files>(rt: &R, path: &str, bytes: &[u8]) -> io::Result<()> {
-    let mut file = fs::create(rt, path)?;
-    file.write_all(bytes)?;
-    file.flush()
 }
 
 /// Writes what is told of the files as a page into a file, prints the last line of the report, and says what is noted.

@@ -1,7 +1,7 @@
 // An edition's report as one value of JSON.
 use crate::options::Options;
 use crate::status::Totals;
-use crate::told::{Report, SheetTold, lines_below, tell};
+use crate::told::{Line, Report, SheetTold, lines_below, tell};
 use crate::words::Words;
 use anyhow::{Context, Result};
 use serde_json::{Map, Value, put};
@@ -41,10 +41,11 @@ fn names_json(alloc: Global, new: &[Vec<u8>]) -> Result<Value, AllocError> {
     Ok(Value::Array(all))
 }
 
-fn lines_json(alloc: Global, lines: &[usize]) -> Result<Value, AllocError> {
+// The numbers of lines.
+fn lines_json(alloc: Global, lines: &[Line]) -> Result<Value, AllocError> {
     let mut all = Vec::new(alloc);
     for line in lines {
-        all.push(number(Some(*line)))?;
+        all.push(number(Some(line.number)))?;
     }
     Ok(Value::Array(all))
 }

@@ -7,7 +7,6 @@ mod certificate;
 mod files;
 mod html;
 mod json;
-mod kept;
 mod listing;
 mod notes;
 mod options;

@@ -40,6 +40,11 @@ impl<'a> Options<'a> {
             strict: matches.get_flag("strict"),
         }
     }
+
+    /// Is it told which lines conflict? A page to look at always tells it.
+    pub fn is_why_told(self) -> bool {
+        self.why || matches!(self.form, Form::Html(_))
+    }
 }
 
 // The form that was asked for.
@@ -88,36 +93,54 @@ fn file<'a>(
     Ok(arg)
 }
 
-/// The words that the program takes.
-pub fn command<'a>(alloc: Global) -> Result<Command<'a>, AllocError> {
-    let files = Arg::new(alloc, "FILE")
-        .help("Sheets, one file each; none, or -, is standard input")
-        .action(ArgAction::Append)
-        .num_args(0..);
-    let quiet = flag(
+// What is told, and of which sheets.
+fn with_pages<'a>(alloc: Global, command: Command<'a>) -> Result<Command<'a>, AllocError> {
+    command
+        .arg(
+            flag(
+                alloc,
+                "quiet",
+                "Leave out the pages of sheets that are accepted",
+            )
+            .short('q'),
+        )?
+        .arg(flag(
+            alloc,
+            "names",
+            "List each sheet's new names behind the report",
+        ))?
+        .arg(flag(
+            alloc,
+            "why",
+            "Tell which lines conflict, under a sheet of which constraints remain",
+        ))?
+        .arg(flag(
+            alloc,
+            "separate",
+            "Give each sheet a table of names of its own",
+        ))?
+        .arg(flag(alloc, "strict", "Count a note as not accepted"))
+}
+
+// In which form it is told.
+fn with_forms<'a>(alloc: Global, command: Command<'a>) -> Result<Command<'a>, AllocError> {
+    let html = file(
         alloc,
-        "quiet",
-        "Leave out the pages of sheets that are accepted",
-    )
-    .short('q');
-    let names = flag(
-        alloc,
-        "names",
-        "List each sheet's new names behind the report",
-    );
-    let why = flag(
-        alloc,
-        "why",
-        "Tell which lines conflict, under a sheet of which constraints remain",
-    );
-    let json = flag(alloc, "json", "Write one value of JSON in place of lines");
-    let html = Arg::new(alloc, "html")
-        .long("html")
-        .value_name("FILE")
-        .help(
-            "Write the report as a page of HTML to FILE, and the last line alone on standard output",
-        )
-        .conflicts_with("json")?;
+        "html",
+        "Write the report as a page of HTML to FILE, and the last line alone on standard output",
+        &["json"],
+    )?;
+    command
+        .arg(flag(
+            alloc,
+            "json",
+            "Write one value of JSON in place of lines",
+        ))?
+        .arg(html)
+}
+
+// What is kept of sheets, and sheets that are judged by it.
+fn with_certificates<'a>(alloc: Global, command: Command<'a>) -> Result<Command<'a>, AllocError> {
     let certificate = file(
         alloc,
         "certificate",
@@ -134,30 +157,28 @@ pub fn command<'a>(alloc: Global) -> Result<Command<'a>, AllocError> {
             "html",
             "quiet",
             "names",
+            "why",
             "separate",
             "strict",
         ],
     )?;
-    let separate = flag(
-        alloc,
-        "separate",
-        "Give each sheet a table of names of its own",
-    );
-    let strict = flag(alloc, "strict", "Count a note as not accepted");
-    Command::new(alloc, "check_edition")
+    command.arg(certificate)?.arg(verify)
+}
+
+/// The words that the program takes.
+pub fn command<'a>(alloc: Global) -> Result<Command<'a>, AllocError> {
+    let files = Arg::new(alloc, "FILE")
+        .help("Sheets, one file each; none, or -, is standard input")
+        .action(ArgAction::Append)
+        .num_args(0..);
+    let command = Command::new(alloc, "check_edition")
         .version("0.1.0")
         .about(
             "Checks sheets of type and dimension constraints: each is solved, and what solves it is judged",
         )
         .after_help(AFTER)
-        .arg(files)?
-        .arg(quiet)?
-        .arg(names)?
-        .arg(why)?
-        .arg(json)?
-        .arg(html)?
-        .arg(certificate)?
-        .arg(verify)?
-        .arg(separate)?
-        .arg(strict)
+        .arg(files)?;
+    let command = with_pages(alloc, command)?;
+    let command = with_forms(alloc, command)?;
+    with_certificates(alloc, command)
 }

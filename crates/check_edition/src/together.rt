@@ -1,12 +1,12 @@
 // An edition over one name table.
-ghost use Rattle.std.specs.Prelude.{◌≡◌, ◌++◌, OnOk, IfOk};
+ghost use Rattle.std.specs.Prelude.{◌≡◌, ◌++◌, false, OnOk, IfOk};
 ghost use Rattle.rules.specs.Reports.{editionShown};
 ghost use Rattle.edition.specs.Report.{Counted};
 ghost use Rattle.edition.specs.Theorems.{AllTrue};
-ghost use Rattle.edition.specs.Why.{editionWhy};
+ghost use Rattle.edition.specs.Why.{editionTold};
 ghost use Rattle.check_edition.specs.Given.{editionOf};
 
-use crate::certificate::keep;
+use crate::certificate::Certificate;
 use crate::files::{Given, front, lend, read};
 use crate::listing::list;
 use crate::notes::Notes;
@@ -16,8 +16,8 @@ use crate::tables::Tables;
 use crate::words::Words;
 use crate::written::Written;
 use anyhow::{Context, Result, bail};
-use edition::{Counts, Failed, report, report_why};
-use rules::Shown;
+use edition::model::How;
+use edition::{Counts, Failed, report_as};
 use text_spell::sink::Sink;
 use std::alloc::Global;
 use std::io;
@@ -36,21 +36,22 @@ pub struct Reported {
 pub fn report_on<W: Write + Drop>(
     alloc: Global,
     given: &[Given],
-    shown: Shown,
+    how: How,
     to: &mut Written<W>,
 ) -> Result<Reported>
-    ensures told { OnOk result (to.new.passed.items ≡ to.old.passed.items ++ editionShown shown (editionOf given.now)) }
+    ensures told { OnOk result (to.new.passed.items ≡ to.old.passed.items ++ editionTold how.why how.shown (editionOf given.now)) }
+    ensures plain { how.why ≡ false → OnOk result (to.new.passed.items ≡ to.old.passed.items ++ editionShown how.shown (editionOf given.now)) }
     ensures counted { IfOk result (λ r. Counted r.counts.sheets r.counts.accepted (editionOf given.now)) }
     ensures truth { OnOk result (AllTrue (editionOf given.now)) }
 {
     let files = lend(alloc, given)?;
     let mut tables = Tables::new(alloc)?;
-    match report(
+    match report_as(
         alloc,
         &mut tables.pool,
         &mut tables.table,
         &files,
-        shown,
+        how,
         to,
     ) {
         Ok(counts) => Ok(Reported { counts, tables }),
@@ -60,36 +61,8 @@ pub fn report_on<W: Write + Drop>(
     }
 }
 
-/// Reports on files as `report_on` does, with why each sheet of which constraints remain isn't accepted.
-pub fn report_why_on<W: Write + Drop>(
-    alloc: Global,
-    given: &[Given],
-    pages: Shown,
-    to: &mut Written<W>,
-) -> Result<Reported>
-    ensures told { OnOk result (to.new.passed.items ≡ to.old.passed.items ++ editionWhy pages (editionOf given.now)) }
-    ensures counted { IfOk result (λ r. Counted r.counts.sheets r.counts.accepted (editionOf given.now)) }
-    ensures truth { OnOk result (AllTrue (editionOf given.now)) }
-{
-    let files = lend(alloc, given)?;
-    let mut tables = Tables::new(alloc)?;
-    match report_why(
-        alloc,
-        &mut tables.pool,
-        &mut tables.table,
-        &files,
-        pages,
-        to,
-    ) {
-        Ok(counts) => Ok(Reported { counts, tables }),
-        Err(Failed::Names(why)) => bail!("the name table is refused with {}", why.number()),
-        Err(Failed::Memory(why)) => Err(why.into()),
-        Err(Failed::Sink(why)) => Err(why).context("the report can't be written"),
-    }
-}
-
-// Reads the files with these names.
-fn read_all<'a, R: Files + Input + AllocGlobal>(
+/// Reads the files with these names.
+pub fn read_all<'a, R: Files + Input + AllocGlobal>(
     rt: &R,
     names: &[&'a str],
     words: &Words,
@@ -113,18 +86,20 @@ pub fn check<R: Files + Input + Print + Eprint + AllocGlobal>(
     let alloc = rt.alloc();
     let given = read_all(rt, names, words)?;
     let mut out = Written::new(alloc, BufWriter::new(alloc, io::writer(rt))?);
-    let reported = if options.why {
-        report_why_on(alloc, &given, options.shown, &mut out)?
-    } else {
-        report_on(alloc, &given, options.shown, &mut out)?
+    let how = How {
+        shown: options.shown,
+        why: options.why,
     };
+    let reported = report_on(alloc, &given, how, &mut out)?;
     let files = lend(alloc, &given)?;
     if options.names {
         out.put(&list(alloc, &files)?)
             .context("the names can't be written")?;
     }
     if let Some(path) = options.certificate {
-        keep(rt, path, &files)?;
+        let mut kept = Certificate::new(alloc);
+        kept.add(alloc, &files)?;
+        kept.write(rt, path)?;
     }
     let mut notes = Notes::new(alloc);
     notes.add(reported.tables.names()?, &files)?;

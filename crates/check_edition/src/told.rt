@@ -11,7 +11,7 @@ use edition::model::{Room, Sheet};
 use edition::telling::tell_sheet;
 use edition::why::conflict_in;
 use names::tables::NameTable;
-use edition_report::lines::constraint_line;
+use edition_report::lines::{constraint_line, line_in};
 use edition_report::pages::Outcome;
 use rules::Shown;
 use std::alloc::{AllocError, Global};
@@ -79,7 +79,14 @@ impl Facts {
     }
 }
 
-/// What is told of a sheet: its file's name, what became of it, its new names, its page as it would be printed, and the numbers of the lines that conflict.
+/// A line of a sheet: its number, and its bytes.
+#[derive(Drop)]
+pub struct Line {
+    pub number: usize,
+    pub text: Vec<u8>,
+}
+
+/// What is told of a sheet: its file's name, what became of it, its new names, its page as it would be printed, and the lines that conflict.
 #[derive(Drop)]
 pub struct SheetTold {
     pub name: Vec<u8>,
@@ -88,7 +95,7 @@ pub struct SheetTold {
     pub constraints: usize,
     pub new: Vec<Vec<u8>>,
     pub page: Vec<u8>,
-    pub why: Vec<usize>,
+    pub why: Vec<Line>,
 }
 
 /// What is told of all sheets that are shown, what they come to, and what is noted.
@@ -120,7 +127,7 @@ impl Report {
         for sheet in &sheets {
             let mut page = Vec::new(alloc);
             let outcome = tell_sheet(names, Shown::All, sheet, &mut self.room, &mut page)?;
-            let why = if options.why {
+            let why = if options.is_why_told() {
                 conflict_lines(alloc, names, sheet, outcome, &mut self.room)?
             } else {
                 Vec::new(alloc)
@@ -147,18 +154,22 @@ impl Report {
     }
 }
 
-// The numbers of the lines of a sheet that conflict; none where a refusal was met on the way.
+// The lines of a sheet that conflict; none where a refusal was met on the way.
 fn conflict_lines(
     alloc: Global,
     names: NameTable,
     sheet: &Sheet,
     outcome: Outcome,
     room: &mut Room,
-) -> Result<Vec<usize>, AllocError> {
+) -> Result<Vec<Line>, AllocError> {
     let mut lines = Vec::new(alloc);
     if let Ok(Some(many)) = conflict_in(names, sheet, outcome, room) {
         for place in room.res.iter().take(many) {
-            lines.push(constraint_line(sheet.text, *place as usize))?;
+            let number = constraint_line(sheet.text, *place as usize);
+            lines.push(Line {
+                number,
+                text: Vec::from_slice(alloc, line_in(sheet.text, number))?,
+            })?;
         }
     }
     Ok(lines)

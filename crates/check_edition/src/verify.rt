@@ -1,227 +1,107 @@
-// Sheets judged by a certificate, with nothing solved: a line for each sheet.
-use crate::certificate::written;
-use crate::files::{Given, front, read};
-use crate::kept;
-use crate::kept::{Entry, Fault};
+// Sheets judged by a certificate, with nothing solved: a line for each.
+ghost use Rattle.std.specs.Prelude.{◌≡◌, ◌≤◌, ◌++◌, OnOk, IfOk};
+ghost use Rattle.laws.specs.Lists.{Every};
+ghost use Rattle.edition_certificate_file.specs.Files.{IsReadFrom};
+ghost use Rattle.edition_verify.specs.Verifying.{TrueBy, sheetsIn, verifiedIn, verifiedText};
+ghost use Rattle.check_edition.specs.Given.{given_of};
+
+use crate::files::{Given, front, lend};
 use crate::status::Totals;
+use crate::together::read_all;
 use crate::words::Words;
+use crate::written::Written;
 use anyhow::{Context, Result};
-use edition_certified::{Verdict, certify};
+use edition_certificate_file::{Entry, Fault, read_certificate};
 use edition_report::shown::put_shown;
-use edition_report::words::{put_amount, put_quantity, put_refused, put_unseen};
-use rules::Refusal;
-use text_sheet::NotRead;
-use text_spell::sink::Sink;
+use edition_report::words::put_amount;
+use edition_verify::verify_files;
+use filling::fill_front;
 use std::alloc::{AllocError, Global};
 use std::io::{BufWriter, Write};
 use std::rt::Files;
 use std::{fs, io};
+use text_spell::sink::Sink;
 
-// What is told, and how many sheets of all are verified.
-#[derive(Drop)]
-struct Told {
-    out: Vec<u8>,
-    totals: Totals,
-}
-
-impl Told {
-    // Tells of one sheet.
-    fn count(&mut self, verified: bool) {
-        self.totals = self.totals.and(verified as usize, 0, 0);
-    }
-
-    // A line that begins with a name.
-    fn line(&mut self, name: &[u8], words: &[u8]) -> Result<(), AllocError> {
-        put_shown(&mut self.out, name)?;
-        self.out.put(b": ")?;
-        self.out.put(words)?;
-        self.out.put(b"\n")
-    }
-
-    // A sheet whose text is refused.
-    fn unread(&mut self, name: &[u8], stop: NotRead) -> Result<(), AllocError> {
-        put_shown(&mut self.out, name)?;
-        self.out.put(b":")?;
-        put_amount(&mut self.out, stop.line)?;
-        self.out.put(b":")?;
-        put_amount(&mut self.out, stop.column)?;
-        self.out.put(b": not verified: ")?;
-        put_refused(&mut self.out, stop.why)?;
-        self.out.put(b"\n")
-    }
-
-    // A sheet for which the certificate has lines that aren't read.
-    fn lines_unread(&mut self, name: &[u8], first: usize, stop: NotRead) -> Result<(), AllocError> {
-        put_shown(&mut self.out, name)?;
-        self.out.put(b": not verified: the certificate's line ")?;
-        put_amount(
-            &mut self.out,
-            first.saturating_add(stop.line).saturating_sub(1),
-        )?;
-        self.out.put(b", column ")?;
-        put_amount(&mut self.out, stop.column)?;
-        self.out.put(b", is ")?;
-        put_refused(&mut self.out, stop.why)?;
-        self.out.put(b"\n")
-    }
-
-    // A sheet for which the certificate's lines are refused.
-    fn refused(&mut self, name: &[u8], why: Refusal) -> Result<(), AllocError> {
-        put_shown(&mut self.out, name)?;
-        self.out
-            .put(b": not verified: the certificate's lines for it are ")?;
-        put_refused(&mut self.out, why)?;
-        self.out.put(b"\n")
-    }
-
-    // What is said to a sheet that stands in the certificate.
-    fn verdict(&mut self, name: &[u8], entry: &Entry, verdict: Verdict) -> Result<(), AllocError> {
-        match verdict {
-            Verdict::Verified => self.line(name, b"verified"),
-            Verdict::Changed => self.line(
-                name,
-                b"not verified: the file isn't the one that was certified: its digest is another",
-            ),
-            Verdict::Unread(stop) => self.unread(name, stop),
-            Verdict::LinesUnread(stop) => self.lines_unread(name, entry.first, stop),
-            Verdict::Untrue => self.line(
-                name,
-                b"not verified: a constraint isn't true by the certificate's lines",
-            ),
-            Verdict::Refused(why) => self.refused(name, why),
+// Says why a file can't be used as a certificate.
+fn put_fault(out: &mut Vec<u8>, path: &[u8], fault: Fault) -> Result<(), AllocError> {
+    put_shown(out, path)?;
+    match fault {
+        Fault::Other => out.put(b": this is no certificate\n"),
+        Fault::Version => out.put(b": the certificate is of another version\n"),
+        Fault::Torn => out.put(b": the certificate is torn: it has no last line\n"),
+        Fault::Line(number) => {
+            out.put(b":")?;
+            put_amount(out, number)?;
+            out.put(b": no such line stands here in a certificate\n")
         }
-    }
-
-    // A sheet that was named.
-    fn sheet(&mut self, alloc: Global, entries: &[Entry], given: &Given) -> Result<(), AllocError> {
-        let name = given.name.as_bytes();
-        let found = find(alloc, entries, name)?;
-        match (found, &given.text) {
-            (None, _) => {
-                self.count(false);
-                self.line(name, b"not verified: the certificate has no such sheet")
-            }
-            (Some(_), Err(why)) => {
-                self.count(false);
-                put_shown(&mut self.out, name)?;
-                self.out.put(b": ")?;
-                put_unseen(&mut self.out, *why)
-            }
-            (Some(entry), Ok(text)) => {
-                let verdict = certify(alloc, &entry.digest, text, &entry.lines)?;
-                self.count(matches!(verdict, Verdict::Verified));
-                self.verdict(name, entry, verdict)
-            }
-        }
-    }
-
-    // Sheets of the certificate that weren't named.
-    fn others(
-        &mut self,
-        alloc: Global,
-        entries: &[Entry],
-        names: &[&str],
-    ) -> Result<(), AllocError> {
-        let mut known = Vec::new(alloc);
-        for name in names {
-            known.push(written(alloc, name.as_bytes())?)?;
-        }
-        for entry in entries {
-            if !known.iter().any(|n| n.as_slice() == entry.name) {
-                self.count(false);
-                self.line(
-                    entry.name,
-                    b"not verified: it stands in the certificate and wasn't named",
-                )?;
-            }
-        }
-        Ok(())
-    }
-
-    // A file that isn't a certificate.
-    fn fault(&mut self, path: &[u8], fault: Fault) -> Result<(), AllocError> {
-        match fault {
-            Fault::Other => self.line(path, b"this is no certificate"),
-            Fault::Version => self.line(path, b"the certificate is of another version"),
-            Fault::Torn => self.line(path, b"the certificate is torn: it has no last line"),
-            Fault::Line(number) => {
-                put_shown(&mut self.out, path)?;
-                self.out.put(b":")?;
-                put_amount(&mut self.out, number)?;
-                self.out
-                    .put(b": no such line stands here in a certificate\n")
-            }
-        }
-    }
-
-    // The last line.
-    fn total(&mut self) -> Result<(), AllocError> {
-        let Totals {
-            sheets,
-            accepted,
-            ..
-        } = self.totals;
-        put_quantity(&mut self.out, sheets, b" sheet")?;
-        self.out.put(b", ")?;
-        put_amount(&mut self.out, accepted)?;
-        self.out.put(b" verified, ")?;
-        put_amount(&mut self.out, sheets.saturating_sub(accepted))?;
-        self.out.put(b" not verified\n")
     }
 }
 
-// What a certificate has for a file.
-fn find<'e, 'a>(
-    alloc: Global,
-    entries: &'e [Entry<'a>],
-    name: &[u8],
-) -> Result<Option<&'e Entry<'a>>, AllocError> {
-    let name = written(alloc, name)?;
-    for entry in entries {
-        if entry.name == name.as_slice() {
-            return Ok(Some(entry));
+// The bytes of a certificate's file, if they can be had: at most 64 MB.
+fn read_file<R: Files + AllocGlobal>(rt: &R, path: &str) -> Result<Option<Vec<u8>>> {
+    let alloc = rt.alloc();
+    let Ok(mut file) = fs::open(rt, path) else {
+        return Ok(None);
+    };
+    let mut buf = front(alloc)?;
+    let mut text = Vec::new(alloc);
+    for _ in 0..64 {
+        let (n, read) = fill_front(&mut file, &mut buf);
+        if read.is_err() {
+            return Ok(None);
+        }
+        text.extend_from_slice(&buf[..n])?;
+        if n < buf.len() {
+            return Ok(Some(text));
         }
     }
     Ok(None)
 }
 
-// Tells of the sheets, one after another; where there is no certificate none is verified.
-fn tell<R: Files + Input + AllocGlobal>(
-    rt: &R,
-    text: Option<&[u8]>,
-    path: &str,
-    names: &[&str],
-    words: &Words,
-) -> Result<Told> {
+// What the certificate in a file keeps; or a line that says why it can't be used.
+fn kept_in<R: Files + AllocGlobal>(rt: &R, path: &str) -> Result<Result<Vec<Entry>, Vec<u8>>> {
     let alloc = rt.alloc();
-    let mut told = Told {
-        out: Vec::new(alloc),
-        totals: Totals::NONE,
+    let mut line = Vec::new(alloc);
+    let Some(text) = read_file(rt, path)? else {
+        put_shown(&mut line, path.as_bytes())?;
+        line.put(b": the certificate can't be read\n")?;
+        return Ok(Err(line));
     };
-    let entries = match text {
-        Some(text) => match kept::read(alloc, text)? {
-            Ok(entries) => entries,
-            Err(fault) => {
-                told.fault(path.as_bytes(), fault)?;
-                Vec::new(alloc)
-            }
-        },
-        None => {
-            told.line(path.as_bytes(), b"the certificate can't be read")?;
-            Vec::new(alloc)
+    match read_certificate(alloc, &text)? {
+        Ok(entries) => Ok(Ok(entries)),
+        Err(fault) => {
+            put_fault(&mut line, path.as_bytes(), fault)?;
+            Ok(Err(line))
         }
-    };
-    let mut buf = front(alloc)?;
-    for name in names {
-        let given = read(rt, name, words, &mut buf)?;
-        told.sheet(alloc, &entries, &given)?;
     }
-    told.others(alloc, &entries, names)?;
-    told.total()?;
-    Ok(told)
 }
 
-/// Judges the files with these names by the certificate in the file at `path`.
+/// Judges files by what a certificate keeps: what is passed on is what the definition says, byte by byte, and so are the counts; and where every sheet is
+/// counted as verified, each file is the one that was certified, and true.
+pub fn verify_on<W: Write + Drop>(
+    alloc: Global,
+    entries: &[Entry],
+    given: &[Given],
+    to: &mut Written<W>,
+) -> Result<Totals>
+    ensures told { OnOk result (to.new.passed.items ≡ to.old.passed.items ++ verifiedText entries.now (given_of given.now)) }
+    ensures sheets { IfOk result (λ t. t.sheets ≡ sheetsIn entries.now (given_of given.now)) }
+    ensures verified { IfOk result (λ t. t.accepted ≡ verifiedIn entries.now (given_of given.now)) }
+    ensures truth { IfOk result (λ t. t.sheets ≤ t.accepted → Every (TrueBy entries.now) (given_of given.now)) }
+{
+    let files = lend(alloc, given)?;
+    let mut lines = Vec::new(alloc);
+    let verified = verify_files(alloc, entries, &files, &mut lines)?;
+    to.put(&lines).context("what is verified can't be written")?;
+    Ok(Totals {
+        sheets: verified.sheets,
+        accepted: verified.verified,
+        names: 0,
+        notes: 0,
+    })
+}
+
+/// Judges the files with these names by the certificate in the file at `path`; where there is none, no sheet is verified.
 pub fn check<R: Files + Input + Print + AllocGlobal>(
     rt: &R,
     path: &str,
@@ -229,11 +109,14 @@ pub fn check<R: Files + Input + Print + AllocGlobal>(
     words: &Words,
 ) -> Result<Totals> {
     let alloc = rt.alloc();
-    let text = fs::read(rt, path).ok();
-    let told = tell(rt, text.as_deref(), path, names, words)?;
-    let mut out = BufWriter::new(alloc, io::writer(rt))?;
-    out.write_all(&told.out)
-        .context("what is verified can't be written")?;
-    out.flush().context("what is verified can't be written")?;
-    Ok(told.totals)
+    let mut out = Written::new(alloc, BufWriter::new(alloc, io::writer(rt))?);
+    let entries = match kept_in(rt, path)? {
+        Ok(entries) => entries,
+        Err(line) => {
+            out.put(&line).context("what is verified can't be written")?;
+            Vec::new(alloc)
+        }
+    };
+    let given = read_all(rt, names, words)?;
+    verify_on(alloc, &entries, &given, &mut out)
 }

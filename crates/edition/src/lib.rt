@@ -71,8 +71,8 @@ fn sunk<E>(told: Result<Counts, E>) -> Result<Counts, Failed<E>>
     }
 }
 
-// Checks an edition, and tells it as it is asked for.
-fn report_as<S: Sink>(
+/// Checks an edition as `report` does, and tells it as it is asked for: which pages, and with or without why a sheet isn't accepted.
+pub fn report_as<S: Sink>(
     alloc: Global,
     pool: &mut [u8],
     table: &mut [u32],

@@ -1,5 +1,5 @@
 -- A certificate's file: of each sheet that is kept the name of its file, the file's digest, and lines over the sheet's names.
-use Rattle.std.specs.Prelude.{◌≡◌, Bool, true, false, ◌||◌, ℕ, ltb, eqb, List, [], ◌∷◌, ◌++◌, length, Result, Ok, Err, Vec}
+use Rattle.std.specs.Prelude.{◌≡◌, Bool, true, false, ◌||◌, ℕ, ltb, eqb, List, [], ◌∷◌, ◌++◌, length, Result, Ok, Err, Vec, ⊤}
 use Rattle.std.specs.declared.alloc.Global.{Global}
 use Rattle.hex.specs.Hex.{encode_lower}
 use Rattle.rules.specs.Base.{collect}

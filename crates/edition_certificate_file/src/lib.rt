@@ -31,7 +31,7 @@ pub struct Entry {
     pub lines: Vec<u8>,
 }
 
-/// Why a file isn't a certificate that can be read.
+/// Why a file can't be used as a certificate.
 #[derive(Clone, Copy)]
 pub enum Fault {
     /// It doesn't begin as one.
@@ -115,12 +115,19 @@ fn put_entries(entries: &[Entry], out: &mut Vec<u8>) -> Result<(), AllocError>
     Ok(())
 }
 
+// Writes a number.
+fn put_number(out: &mut Vec<u8>, n: usize) -> Result<(), AllocError>
+    ensures { OnOk result (out.new.items ≡ out.old.items ++ amount n) }
+{
+    put_digits(out, 10, n)
+}
+
 // Writes the last line.
 fn put_last(sheets: usize, out: &mut Vec<u8>) -> Result<(), AllocError>
     ensures { OnOk result (out.new.items ≡ out.old.items ++ (ascii "sheets " ++ (amount sheets ++ ascii "\n"))) }
 {
     out.extend_from_slice(b"sheets ")?;
-    put_digits(out, 10, sheets)?;
+    put_number(out, sheets)?;
     out.extend_from_slice(b"\n")
 }
 
