@@ -10,8 +10,8 @@ ghost use Rattle.rules.specs.Reports.{amount};
 ghost use Rattle.edition_certificate_file.specs.Files.{isEscaped, writtenByte, writtenName, entryText, certificateText, IsReadFrom};
 
 use hex::FromHex;
-use text_spell::put_digits;
 use std::alloc::{AllocError, Global};
+use text_spell::put_digits;
 
 /// The first line: what it is, and of which version.
 const FIRST: &[u8] = b"check_edition certificate 1";
@@ -260,10 +260,7 @@ fn sheets_of(alloc: Global, text: &[u8]) -> Result<Result<Vec<Entry>, Fault>, Al
 }
 
 /// Reads a certificate: its sheets, or why it isn't one. What is read is written again and compared, so that each byte of the text is accounted for.
-pub fn read_certificate(
-    alloc: Global,
-    text: &[u8],
-) -> Result<Result<Vec<Entry>, Fault>, AllocError>
+pub fn read_certificate(alloc: Global, text: &[u8]) -> Result<Result<Vec<Entry>, Fault>, AllocError>
     ensures { IfOk result (IsReadFrom text.now) }
 {
     let entries = match sheets_of(alloc, text)? {

@@ -5,6 +5,7 @@ mod pieces;
 
 ghost use Rattle.std.specs.Prelude.{◌≡◌, ◌≤◌, ◌++◌, true, option_copied, IfOk, OnOk};
 ghost use Rattle.rules.specs.Base.{collect};
+ghost use Rattle.rules.specs.Names.{sameBytes};
 ghost use Rattle.laws.specs.Lists.{Every};
 ghost use Rattle.edition.specs.Files.{files_of};
 ghost use Rattle.edition_certificate_file.specs.Files.{writtenName};
@@ -70,12 +71,19 @@ pub struct Verified {
     pub verified: usize,
 }
 
+// Are these the same bytes?
+fn is_same(a: &[u8], b: &[u8]) -> bool
+    ensures { result ≡ sameBytes a.now b.now }
+{
+    a == b
+}
+
 // What a certificate keeps under a name as it is written there.
 fn find<'e>(entries: &'e [Entry], name: &[u8]) -> Option<&'e Entry>
     ensures { option_copied result ≡ findEntry name.now entries.now }
 {
     for entry in entries {
-        if entry.name.as_slice() == name {
+        if is_same(&entry.name, name) {
             return Some(entry);
         }
     }
@@ -83,23 +91,19 @@ fn find<'e>(entries: &'e [Entry], name: &[u8]) -> Option<&'e Entry>
 }
 
 // What is said of a file by what is kept of it.
+#[tactic(auto, unfolding(crate::specs::Files::had))]
 fn judge_by(alloc: Global, entry: &Entry, file: &File) -> Result<Answer, AllocError>
     ensures is { IfOk result (λ a. word a ≡ wordBy entry.now (had file.now).1) }
     ensures truth { IfOk result (λ a. isYes (word a) ≡ true → CertifiedBy entry.now (had file.now).1) }
 {
     match file.text {
-        Ok(text) => Ok(Answer::Judged(certify(
-            alloc,
-            &entry.digest,
-            text,
-            &entry.lines,
-        )?)),
+        Ok(text) => Ok(Answer::Judged(certify(alloc, &entry.digest, text, &entry.lines)?)),
         Err(why) => Ok(Answer::Unseen(why)),
     }
 }
 
 // What is said of a file.
-#[tactic(auto, unfolding(crate::specs::Verifying::wordOf))]
+#[tactic(auto, unfolding(crate::specs::Files::had, crate::specs::Verifying::wordOf))]
 fn judge(alloc: Global, entries: &[Entry], file: &File) -> Result<Answer, AllocError>
     ensures is { IfOk result (λ a. word a ≡ wordOf entries.now (had file.now)) }
     ensures truth { OnOk result (YesIsTrue entries.now (had file.now)) }
@@ -184,7 +188,7 @@ fn put_answer(out: &mut Vec<u8>, answer: Answer) -> Result<(), AllocError>
 }
 
 // Judges a file, and puts its line. Is it verified?
-#[tactic(auto, unfolding(crate::specs::Verifying::fileText))]
+#[tactic(auto, unfolding(crate::specs::Files::had, crate::specs::Verifying::fileText))]
 fn tell_file(
     alloc: Global,
     entries: &[Entry],
@@ -227,14 +231,23 @@ fn tell_files(
     Ok(verified)
 }
 
+// Is this the file whose sheet is kept?
+#[tactic(auto, unfolding(crate::specs::Files::had))]
+fn has_name(alloc: Global, file: &File, entry: &Entry) -> Result<bool, AllocError>
+    ensures { IfOk result (λ b. b ≡ sameBytes entry.now.name.items (writtenName (had file.now).0)) }
+{
+    let name = written_name(alloc, file.name)?;
+    Ok(is_same(&entry.name, &name))
+}
+
 // Is a sheet of the certificate among the files that are named?
 #[tactic(auto, unfolding(crate::specs::Verifying::isNamed))]
 fn is_named(alloc: Global, files: &[File], entry: &Entry) -> Result<bool, AllocError>
     ensures { IfOk result (λ b. b ≡ isNamed (files_of files.now) entry.now) }
 {
     for file in files {
-        let name = written_name(alloc, file.name)?;
-        if entry.name.as_slice() == name.as_slice() {
+        let named = has_name(alloc, file, entry)?;
+        if named {
             return Ok(true);
         }
     }
