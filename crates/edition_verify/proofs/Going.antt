@@ -3,7 +3,7 @@ use Rattle.std.specs.Prelude.{◌≡◌, refl, Bool, true, false, not, ℕ, ◌+
 use Rattle.std.proofs.Common.{sym, ap, ◌∙◌, arith, append-nil, append_assoc}
 use Rattle.std.specs.Prelude.{nat_eq}
 use Rattle.std.specs.Cmp.Lexicographic.{pointwise, same_text, other_text}
-use Rattle.std.proofs.lemmas.List.{at_drop_more, at_drop_all}
+use Rattle.std.proofs.lemmas.List.{at_drop_more, at_drop_all, length-map}
 use Rattle.rules.specs.Base.{any, collect}
 use Rattle.rules.specs.Names.{Bytes, sameBytes}
 use Rattle.laws.specs.Lists.{Every}
@@ -145,6 +145,9 @@ module _ (es : List Entry) where
       go false e n r = let m = at-most hs in absurd (omega (arith, m, n))
 
 -- no more are counted than there are
+pub as-many : (fs : List File) → length (files_of fs) ≡ length fs
+as-many fs = length-map fs _
+
 module _ (hs : List Had) where
   pub few-others : (es : List Entry) → othersIn hs es ≤ length es
   few-others [] = omega arith
