@@ -1,3 +1,2 @@
-pub mod Arms
-pub mod Steps
-pub mod Truths
+mod Arms
+mod Reading

@@ -1,6 +1,7 @@
+mod Alone
 mod Asked
 mod Bound
 mod Factors
 mod FieldsFound
-mod OneVariable
+mod SameWords
 mod Seen

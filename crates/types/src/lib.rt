@@ -4,6 +4,7 @@
 
 pub mod parts;
 pub mod reading;
+pub mod same;
 pub mod sets;
 pub mod writer;
 pub mod writing;

@@ -1,7 +1,7 @@
 -- Equal words hold equal types, and equal types have equal words.
-use Rattle.std.specs.Prelude.{◌≡◌, refl, Bool, true, false, ℕ, suc, ◌+◌, ◌*◌, ◌/◌, ◌<◌, ◌≤◌, ltb, length, get_or}
-use Rattle.std.proofs.Common.{sym, ap, ◌∙◌, add-zero, arith, ltb-true, ltb-false, get_or-take, get_or-drop}
-use mathlib.Core.List.{List, [], ◌∷◌}
+use Rattle.std.specs.Prelude.{◌≡◌, Bool, true, false, List, [], ◌∷◌, ℕ, suc, ◌+◌, ◌*◌, ◌/◌, ◌<◌, ◌≤◌, length, get_or, nat_eq}
+use Rattle.std.specs.Cmp.Lexicographic.{pointwise, same_text, other_text}
+use Rattle.std.proofs.Common.{sym, ap, ◌∙◌, add-zero, arith, get_or-take, get_or-drop}
 use Rattle.rules.specs.Base.{is_yes}
 use Rattle.rules.specs.Exponents.{frac}
 use Rattle.rules.specs.Names.{Bytes, numbered}
@@ -28,29 +28,14 @@ use Rattle.rules.specs.Trees.{
 }
 use Rattle.rules.specs.Writing.{words, writeTy}
 use Rattle.laws.specs.Lists.{is-yes, is-no}
+use Rattle.laws.specs.Size.{size-ty, words-length}
 use Rattle.records.specs.Views.{viewAt, longAt, longOf, view_of}
 use Rattle.records.specs.Places.{view-some, long-some, recAt}
 use Rattle.records.specs.Holds.{HoldsFactors, HoldsProduct, Holds, HoldsTys, HoldsFields}
 use Rattle.records.specs.Held.{held-words}
 use Rattle.records.specs.Parsed.{only}
 use Rattle.records.specs.ByView.{ends-in}
-
--- b says whether P holds
-abbrev pub Tells : Bool → Type 0 → Type 0
-Tells true P = P
-Tells false P = P → ⊥
-
--- n words of s from i on are those of t from j on
-pub record SameWords (s : List ℕ) (i : ℕ) (t : List ℕ) (j n : ℕ) : Type 0 where
-  pub each : (d : ℕ) → d < n → get_or s (i + d) 0 ≡ get_or t (j + d) 0
-
--- one word more
-pub same_next : (s : List ℕ) (i : ℕ) (t : List ℕ) (j n : ℕ) → SameWords s i t j n → get_or s (i + n) 0 ≡ get_or t (j + n) 0 → SameWords s i t j (n + 1)
-same_next s i t j n w e = record { each = λ d l. go d l (ltb d n) refl }
-  where
-    go : (d : ℕ) → d < n + 1 → (b : Bool) → ltb d n ≡ b → get_or s (i + d) 0 ≡ get_or t (j + d) 0
-    go d l true q = w.each d (ltb-true d n q)
-    go d l false q = let z : d ≡ n = omega (arith, ltb-false d n q) in rw z e
+use Rattle.types.specs.Once.{ATree}
 
 module _ (s t : List ℕ) where
   -- n records from `at` on say in s what those from k on say in t
@@ -129,7 +114,8 @@ module _ (s t : List ℕ) where
         )
 
   -- records of equal words say the same
-  alike : (at k n : ℕ) → at + n ≤ length s / 4 → k + n ≤ length t / 4 → SameWords s (at * 4) t (k * 4) (n * 4) → Alike at k n
+  alike : (at k n : ℕ) → at + n ≤ length s / 4 → k + n ≤ length t / 4
+      → ((d : ℕ) → d < n * 4 → get_or s (at * 4 + d) 0 ≡ get_or t (k * 4 + d) 0) → Alike at k n
   alike at k n p q w i l = (
     view-some s (at + i) (omega arith) ∙ ap view_of same ∙ sym (view-some t (k + i) (omega arith)),
     long-some s (at + i) (omega arith) ∙ ap longOf same ∙ sym (long-some t (k + i) (omega arith)),
@@ -139,7 +125,7 @@ module _ (s t : List ℕ) where
       word j h =
           let e : (at + i) * 4 + j ≡ at * 4 + (i * 4 + j) = omega arith in
           let f : (k + i) * 4 + j ≡ k * 4 + (i * 4 + j) = omega arith in
-          rw (e, f) (w.each (i * 4 + j) (omega arith))
+          rw (e, f) (w (i * 4 + j) (omega arith))
 
       same : recAt s (at + i) ≡ recAt t (k + i)
       same = rw (
@@ -149,23 +135,23 @@ module _ (s t : List ℕ) where
         word 3 (omega arith),
       )
 
-module _ (s : List ℕ) (x : Ty ℕ) (at : ℕ) (h : Holds s x at) (t : List ℕ) (y : Ty ℕ) (k : ℕ) (g : Holds t y k) where
-  words-type : size x ≡ size y → SameWords s (at * 4) t (k * 4) (size x * 4) → x ≡ y
-  words-type e w = only t x y k (held-too s t x at k (alike s t at k (size x) (ends-in s x at h) (rw e (ends-in t y k g)) w) h) g
+word : (u : List ℕ) (z : Ty ℕ) (i : ℕ) → Holds u z i → (d : ℕ) → d < size z * 4 → get_or (words (writeTy z)) d 0 ≡ get_or u (i * 4 + d) 0
+word u z i hz d l = let le : i * 4 + d < (i + size z) * 4 = omega arith in rw (← held-words u z i hz, get_or-drop, get_or-take)
 
-  type-words : x ≡ y → SameWords s (at * 4) t (k * 4) (size x * 4)
-  type-words e = record {
-    each = λ d l. sym (word s x at h d l) ∙ ap (λ (z : Ty ℕ). get_or (words (writeTy z)) d 0) e ∙ word t y k g d (rw (← e) l);
-  }
+module _ (s : List ℕ) (at : ℕ) (x : ATree s at) (t : List ℕ) (k : ℕ) (y : ATree t k) where
+  by-words : words (writeTy x.0) ≡ words (writeTy y.0) → x.0 ≡ y.0
+  by-words e =
+      let n : size x.0 ≡ size y.0 =
+      omega (arith, ap length e, words-length (writeTy x.0), words-length (writeTy y.0), size-ty x.0, size-ty y.0) in
+      let same : (d : ℕ) → d < size x.0 * 4 → get_or s (at * 4 + d) 0 ≡ get_or t (k * 4 + d) 0 =
+      λ d l. sym (word s x.0 at x.1 d l) ∙ ap (λ ws. get_or ws d 0) e ∙ word t y.0 k y.1 d (rw (← n) l) in
+      only t x.0 y.0 k (held-too s t x.0 at k (alike s t at k (size x.0) (ends-in s x.0 at x.1) (rw n (ends-in t y.0 k y.1)) same) x.1) y.1
+
+  -- a test of the words tells it
+  pub same-told : (names : List Bytes) {u v : List ℕ} {b : Bool} → u ≡ words (writeTy x.0) → v ≡ words (writeTy y.0) → b ≡ pointwise nat_eq u v
+      → b ≡ is_yes (ty-dec (numbered names) x.0 y.0)
+  same-told names {u} {v} {b} p q h = go b h
     where
-      word : (u : List ℕ) (z : Ty ℕ) (i : ℕ) → Holds u z i → (d : ℕ) → d < size z * 4 → get_or (words (writeTy z)) d 0 ≡ get_or u (i * 4 + d) 0
-      word u z i hz d l = let le : i * 4 + d < (i + size z) * 4 = omega arith in rw (← held-words u z i hz, get_or-drop, get_or-take)
-
-  -- the answers
-  pub told_same : (names : List Bytes) (b : Bool) → size x ≡ size y → Tells b (SameWords s (at * 4) t (k * 4) (size x * 4))
-      → b ≡ is_yes (ty-dec (numbered names) x y)
-  told_same names true e w = sym (is-yes (ty-dec (numbered names) x y) (words-type e w))
-  told_same names false e w = sym (is-no (ty-dec (numbered names) x y) (λ q. w (type-words q)))
-
-  pub told-other : (names : List Bytes) → (size x ≡ size y → ⊥) → false ≡ is_yes (ty-dec (numbered names) x y)
-  told-other names f = sym (is-no (ty-dec (numbered names) x y) (λ q. f (ap size q)))
+      go : (b : Bool) → b ≡ pointwise nat_eq u v → b ≡ is_yes (ty-dec (numbered names) x.0 y.0)
+      go true h = sym (is-yes (ty-dec (numbered names) x.0 y.0) (by-words (sym p ∙ same_text u v h ∙ q)))
+      go false h = sym (is-no (ty-dec (numbered names) x.0 y.0) (λ i. other_text u v h (p ∙ ap (λ z. words (writeTy z)) i ∙ sym q)))
