@@ -27,6 +27,8 @@ pub mod Changes
 pub mod Adds
 pub mod Solves
 pub mod Batches
+pub mod Confirms
+pub mod Conflicts
 pub mod Judges
 pub mod Own
 pub mod Histories

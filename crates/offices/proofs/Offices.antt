@@ -29,6 +29,8 @@ use Rattle.offices.proofs.Queries.{set-alike, type-alike, scheme-alike, bindings
 use Rattle.offices.proofs.Changes.{replace-type, replace-set, quantify-alike, generalise-alike, instantiate-alike}
 use Rattle.offices.proofs.Adds.{add-alike}
 use Rattle.offices.proofs.Solves.{solve-alike}
+use Rattle.offices.proofs.Confirms.{confirm-alike}
+use Rattle.offices.proofs.Conflicts.{conflict-alike}
 use Rattle.offices.proofs.Batches.{batch-alike, ceiling-alike}
 use Rattle.offices.proofs.Judges.{judge-alike}
 use Rattle.offices.proofs.Eliminates.{eliminate-alike}
@@ -58,6 +60,8 @@ numbering' g g' = record {
   add = add-alike g g';
   solve = solve-alike g g';
   batch = batch-alike g g';
+  confirm = confirm-alike g g';
+  conflict = conflict-alike g g';
   ceiling = ceiling-alike g g';
   quantify = quantify-alike g g';
   generalise = generalise-alike g g';

@@ -14,6 +14,8 @@ use Rattle.rules.specs.Adding.{Added, satisfied, violated, unknown}
 use Rattle.rules.specs.Solving.{Answer, accepted, remaining, stopped}
 use Rattle.rules.specs.Calls.{Written, Listed, Solved, solved, unsolved, refusedAfter, Solution, AddedTo, Entry, setCall, typeCall, schemeCall}
 use Rattle.rules.specs.Batches.{Batch, batchCall}
+use Rattle.rules.specs.Confirming.{confirmCall}
+use Rattle.rules.specs.Conflicts.{Conflicts, conflictCall}
 use Rattle.rules.specs.Ceiling.{ceilingCall}
 use Rattle.rules.specs.Elimination.{Eliminated, allBound, someLeft, refusedWith, Elimination, eliminateCall}
 use Rattle.rules.specs.Rescue.{words_in, Rescued, rescueCall}
@@ -184,6 +186,17 @@ pub record SolvedAlike (t t' : Table) (s s' : Solution) : Type 0 where
   pub answer : s.answer ≡ s'.answer
   pub records : ReadAlike t t' (frontSolved s.answer s.result) (frontSolved s'.answer s'.result)
 
+-- the places at the front of the result buffer
+abbrev pub frontConflict : Got (Option ℕ) → List ℕ → List ℕ
+frontConflict (got (some n)) buffer = take n buffer
+frontConflict (got none) buffer = []
+frontConflict (refused k) buffer = []
+
+-- the same refusal, or the same lines conflict, by their places in the set
+pub record ConflictAlike (c c' : Conflicts) : Type 0 where
+  pub answer : c.answer ≡ c'.answer
+  pub places : frontConflict c.answer c.result ≡ frontConflict c'.answer c'.result
+
 -- the set after adding: its n records from before and, where it was stored, the constraint behind them
 abbrev pub frontAdded : Got (Added × ℕ) → ℕ → List ℕ → List ℕ → List ℕ
 frontAdded (got r) n c buffer = elim r.0 [
@@ -333,6 +346,11 @@ module _ (pool table pool' table' : List ℕ) where
         ≡ length answers'
         → BatchAlike (table_of pool table) (table_of pool' table') (length lengths) (batchCall pool table ws lengths result answers work)
         (batchCall pool' table' ws' lengths result' answers' work')
+    -- solving, with an answer that the judge confirms; which lines conflict
+    pub confirm : (ws ws' result result' work work' : List ℕ) → Lists ws ws' → LentAlike result result' work work'
+        → SolvedAlike (table_of pool table) (table_of pool' table') (confirmCall pool table ws result work) (confirmCall pool' table' ws' result' work')
+    pub conflict : (ws ws' result result' work work' : List ℕ) → Lists ws ws' → LentAlike result result' work work'
+        → ConflictAlike (conflictCall pool table ws result work) (conflictCall pool' table' ws' result' work')
     -- the ceiling on rounds
     pub ceiling : (ws ws' : List ℕ) → Lists ws ws' → ceilingCall pool table ws ≡ ceilingCall pool' table' ws'
     -- schemes

@@ -2,6 +2,7 @@
 //! takes no test and no `requires`: the place itself says that a whole type stands there.
 #![tactic(auto)]
 
+pub mod inner;
 pub mod parts;
 pub mod reading;
 pub mod same;

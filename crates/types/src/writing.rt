@@ -2,42 +2,21 @@
 ghost use Rattle.std.specs.Prelude.{◌≡◌, List, [], ◌∷◌, ◌+◌, ◌*◌, ◌≤◌, ◌<◌, length, min};
 ghost use Rattle.std.proofs.Math.Seq.{slice};
 ghost use Rattle.rules.specs.Base.{collect};
-ghost use Rattle.rules.specs.Trees.{equal, size, sizeTys};
-ghost use Rattle.rules.specs.Rounds.{pairs};
-ghost use Rattle.rules.specs.Writing.{Rec, words, writeFactor, writeProduct, writeTy, writeCon, writeBinding};
-ghost use Rattle.products.specs.Told.{productOf, tree_of};
-ghost use Rattle.products.specs.Kinds.{Kind};
-ghost use Rattle.products.specs.Held.{Sound};
+ghost use Rattle.rules.specs.Writing.{Rec, words, writeTy, writeCon, writeBinding};
 ghost use Rattle.records.specs.Cut.{fit};
 ghost use Rattle.records.specs.Views.{recOf};
 ghost use Rattle.types.specs.Written.{last, Writes, Reserves, Begins};
 
 use super::writer::{LAST, Writer};
-use super::{Bindings, Constraint, Constraints, Type, Types};
+use super::{Bindings, Constraint, Constraints, Type};
+use records::View;
 use records::inner::{copy, put_record};
-use records::{Atom, Open, View};
 
 /// The place past n records.
 pub fn past(at: usize, n: usize) -> usize
     ensures { result ≡ min (at + n) last }
 {
     at.saturating_add(n).min(LAST)
-}
-
-/// The record that is a factor.
-fn record_of(f: products::Factor) -> View
-    requires { Kind f.kind }
-    ensures { recOf result 1 ≡ writeFactor (tree_of f) }
-{
-    let name = f.name;
-    let num = f.exp.num_word();
-    let den = f.exp.den;
-    match f.kind {
-        11 => View::Factor(Atom::Free(Open::Var(name)), num, den),
-        12 => View::Factor(Atom::Free(Open::Par(name)), num, den),
-        15 => View::Factor(Atom::Free(Open::Quant(name)), num, den),
-        _ => View::Factor(Atom::Base(name), num, den),
-    }
 }
 
 impl<'a> Writer<'a> {
@@ -71,17 +50,6 @@ impl<'a> Writer<'a> {
         ensures { Writes self.old self.new (writeTy t.entry.tree.0) }
     {
         self.copy_records(t.words, t.at, t.end());
-    }
-
-    /// The records of a product: its count of factors, and the factors.
-    pub fn product(&mut self, p: &products::Product)
-        requires { Sound p.now }
-        ensures { Writes self.old self.new (writeProduct (productOf p.now)) }
-    {
-        self.put(View::Dim(p.len as u32), 1 + p.len);
-        for i in 0..p.len {
-            self.put(record_of(p.factors[i]), 1);
-        }
     }
 
     /// The records of a constraint.
@@ -125,33 +93,6 @@ impl<'a> Writer<'a> {
         let n = self.at.saturating_sub(start);
         if start < LAST {
             put_record(self.words, start, v, n);
-        }
-    }
-
-    /// That two types are equal.
-    pub fn equal(&mut self, left: Type, right: Type)
-        requires short { size left.tree.0 + size right.tree.0 < 65_535 }
-        ensures { Writes self.old self.new (writeCon (equal left.entry.tree.0 right.entry.tree.0)) }
-    {
-        self.put(View::Equal, 1 + left.len() + right.len());
-        self.copy(left);
-        self.copy(right);
-    }
-
-    /// That types are equal pairwise, as far as both go.
-    pub fn pairs(&mut self, left: Types, right: Types)
-        requires short { sizeTys left.trees.0 + sizeTys right.trees.0 < 65_535 }
-        ensures { Writes self.old self.new (collect writeCon (pairs left.entry.trees.0 right.entry.trees.0)) }
-    {
-        let mut ts = left;
-        let mut us = right;
-        'pairs: while let (Some((t, more)), Some((u, others))) = (
-            ts.split_first(),
-            us.split_first(),
-        ) {
-            self.equal(t, u);
-            ts = more;
-            us = others;
         }
     }
 }

@@ -1,8 +1,8 @@
--- `writing::record_of` meets its contract.
+-- `inner::record_of` meets its contract.
 use Rattle.rules.specs.Values.{atomIn}
 use Rattle.rules.specs.Writing.{writeFactor}
 use Rattle.types.proofs.Factors.{last-kind}
-use Rattle.types.proofs.writing.record_of.Goals as goal
+use Rattle.types.proofs.inner.record_of.Goals as goal
 
 pub returns-in-11 : goal.returns-in-11
 unfolding writeFactor atomIn
