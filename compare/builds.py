@@ -36,7 +36,7 @@ def put(folder, n, data, want):
 def main():
     args = sys.argv[1:]
     serve = args[0] if args else ROOT + '/crates/serve/out/serve'
-    last = int(re.search(r'LAST: u32 = (\d+)', open(ROOT + '/crates/calling/src/lib.rt').read()).group(1))
+    last = int(re.search(r'LAST: u32 = (\d+)', open(ROOT + '/crates/calls/src/lib.rt').read()).group(1))
     cases = edges.cases(last)
     failed = n = 0
     with tempfile.TemporaryDirectory() as tmp:

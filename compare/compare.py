@@ -18,7 +18,7 @@ KINDS = ['small', 'rich', 'structs', 'wide', 'shared', 'limits', 'damaged', 'nam
 # the share of each kind in a thousand cases
 SHARE = {'lengths': 30, 'small': 400, 'rich': 250, 'structs': 130, 'wide': 120, 'shared': 50, 'limits': 1, 'damaged': 29, 'names': 20}
 # calls that are there: bit n is call n
-LAST = int(re.search(r'LAST: u32 = (\d+)', open(os.path.join(HERE, '../crates/calling/src/lib.rt')).read()).group(1))
+LAST = int(re.search(r'LAST: u32 = (\d+)', open(os.path.join(HERE, '../crates/calls/src/lib.rt')).read()).group(1))
 CALLS = sum(1 << n for n in range(1, LAST + 1) if n != 31)    # the harness has no calculation lines: lines.py has its own
 NUMBER = {'params': 1, 'args': 2, 'dups': 3, 'inst': 5, 'isdim': 7, 'shared': 11, 'big': 12}
 

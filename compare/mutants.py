@@ -49,7 +49,7 @@ def main():
         i = args.index('--serve')
         serve = args[i + 1]
         del args[i:i + 2]
-    text = open(os.path.join(ROOT, 'crates/calling/src/lib.rt')).read()
+    text = open(os.path.join(ROOT, 'crates/calls/src/lib.rt')).read()
     last = int(re.search(r'LAST: u32 = (\d+)', text).group(1))
     cases = edges.cases(last)
     unnoticed = n = 0

@@ -4,7 +4,7 @@ ghost use Rattle.std.specs.Prelude.{◌≤◌, length};
 use anyhow::{Context, Result, bail, ensure};
 use names::enter;
 use rules::Was;
-use saying::Asked;
+use calls_defined::Asked;
 use std::alloc::Global;
 use std::str::Lines;
 

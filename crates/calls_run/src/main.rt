@@ -4,10 +4,10 @@
 mod case;
 
 use anyhow::Result;
-use calling::called;
+use calls::called;
 use case::{Case, Gives};
-use saying::Lists;
-use saying::told::Told;
+use calls_defined::Lists;
+use calls_defined::told::Told;
 use std::alloc::Global;
 use std::io;
 

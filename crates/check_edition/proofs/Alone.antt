@@ -5,7 +5,7 @@ use Rattle.rules.specs.Base.{collect}
 use Rattle.rules.specs.Names.{Bytes, Table, table_of}
 use Rattle.rules.specs.Reports.{Edition, Page, editionGiven}
 use Rattle.rules.specs.declared.Unseen.{Unseen}
-use Rattle.spelling.specs.Sinks.{Place, Puts}
+use Rattle.text_spell.specs.Sinks.{Place, Puts}
 use Rattle.edition.specs.Files.{files_of, text_of as lent_text}
 use Rattle.edition.specs.Pages.{done}
 use Rattle.edition.specs.declared.model.File.{File}

@@ -3,9 +3,9 @@ use crate::tables::Tables;
 use anyhow::Result;
 use edition::model::{File, Room, Sheet};
 use names::tables::NameTable;
-use reporting::shown::put_shown;
-use spelling::put_name;
-use spelling::sink::Sink;
+use edition_report::shown::put_shown;
+use text_spell::put_name;
+use text_spell::sink::Sink;
 use std::alloc::Global;
 
 /// How many new names a sheet has.

@@ -1,10 +1,10 @@
 // Notes on an edition: what a person should look at, though no verdict rests on it.
 use anyhow::Result;
 use edition::model::File;
-use look_alikes::{alike_pairs, has_format, with_format};
+use edition_look_alikes::{alike_pairs, has_format, with_format};
 use names::tables::NameTable;
-use reporting::lines::constraint_line;
-use spelling::is_plain;
+use edition_report::lines::constraint_line;
+use text_spell::is_plain;
 use std::alloc::{AllocError, Global};
 use std::fmt;
 use std::fmt::Write;

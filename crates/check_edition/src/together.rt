@@ -17,7 +17,7 @@ use crate::written::Written;
 use anyhow::{Context, Result, bail};
 use edition::{Counts, Failed, report, report_why};
 use rules::Shown;
-use spelling::sink::Sink;
+use text_spell::sink::Sink;
 use std::alloc::Global;
 use std::io;
 use std::io::{BufWriter, Write};

@@ -1,8 +1,8 @@
 // A sink that passes bytes on.
 ghost use Rattle.std.specs.Prelude.{◌≡◌, []};
-ghost use Rattle.spelling.specs.Sinks.{Place};
+ghost use Rattle.text_spell.specs.Sinks.{Place};
 
-use spelling::sink::Sink;
+use text_spell::sink::Sink;
 use std::alloc::Global;
 use std::io;
 use std::io::Write;

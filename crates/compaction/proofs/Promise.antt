@@ -16,7 +16,7 @@ use Rattle.rules.specs.Writing.{kindIn}
 use Rattle.laws.specs.Lists.{Every, clash}
 use Rattle.laws.specs.NameTable.{Good, good-given, good-laid, length-names, count-is}
 use Rattle.laws.specs.ReadLists.{Words}
-use Rattle.offices.proofs.Offices.{numbering}
+use Rattle.theorems_offices.proofs.Offices.{numbering}
 use Rattle.rules.specs.Compaction.{occurs, keeps, renumbered, joined, eachGiven, compactChecks, compactCall, compactIf, squeezed}
 use Rattle.compaction.specs.Theorems.{goingOn, Promised}
 use Rattle.compaction.proofs.Checks.{checks-good, checks-each}

@@ -17,7 +17,7 @@ use Rattle.rules.specs.Writing.{kindIn}
 use Rattle.laws.specs.Lists.{Every, clash, and_right}
 use Rattle.laws.specs.NameTable.{Good, good-laid, length-names, count-is, held-is}
 use Rattle.laws.specs.ReadLists.{Words}
-use Rattle.offices.proofs.Given.{set_given}
+use Rattle.theorems_offices.proofs.Given.{set_given}
 use Rattle.rules.specs.Compaction.{
   Compacted,
   oneIf,

@@ -2,7 +2,7 @@
 #![tactic(auto)]
 
 use anyhow::{Context, Result, ensure};
-use conflicts::conflict;
+use solve_conflict::conflict;
 use names::enter;
 use rules::Was;
 use std::alloc::Global;

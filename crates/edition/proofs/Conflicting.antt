@@ -28,10 +28,10 @@ use Rattle.rules.specs.Trees.{Con}
 use Rattle.rules.specs.Writing.{words, writeCon}
 use Rattle.laws.specs.Lists.{Every, every-as, some≢none}
 use Rattle.laws.specs.NameTable.{Good, given-good}
-use Rattle.sheet_lines.specs.Left.{read-back}
-use Rattle.conflicts.specs.Theorems.{PartOf, ConflictTold}
-use Rattle.conflicts.proofs.Worth.{conflicts-told}
-use Rattle.reporting.proofs.Placed.{lines-theirs}
+use Rattle.text_columns.specs.Left.{read-back}
+use Rattle.solve_conflict.specs.Theorems.{PartOf, ConflictTold}
+use Rattle.solve_conflict.proofs.Worth.{conflicts-told}
+use Rattle.edition_report.proofs.Placed.{lines-theirs}
 use Rattle.edition.specs.Sheets.{all-lent}
 use Rattle.edition.specs.Why.{ifRemains, conflictOn, whyText, whyShown}
 use Rattle.edition.specs.Theorems.{LinesTold, LinesToldOn, LinesConflict, ToldLinesConflict}

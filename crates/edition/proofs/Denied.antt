@@ -37,11 +37,11 @@ use Rattle.laws.specs.Checks.{need-passed}
 use Rattle.laws.specs.Given.{set-read}
 use Rattle.laws.specs.Lists.{every-as, bound-step, true≢false, some≢none, got≢refused}
 use Rattle.laws.specs.NameTable.{Good, given-good}
-use Rattle.sheet_lines.specs.Left.{read-back}
-use Rattle.soundness.specs.Claims.{Given, YesOrLimits, Fails}
-use Rattle.soundness.proofs.Soundness.{own-answer, no-fails}
-use Rattle.soundness.proofs.Words.{numbers-ordered}
-use Rattle.trials.specs.Failing.{none-fails}
+use Rattle.text_columns.specs.Left.{read-back}
+use Rattle.theorems_soundness.specs.Claims.{Given, YesOrLimits, Fails}
+use Rattle.theorems_soundness.proofs.Soundness.{own-answer, no-fails}
+use Rattle.theorems_soundness.proofs.Words.{numbers-ordered}
+use Rattle.judge_trials.specs.Failing.{none-fails}
 use Rattle.edition.specs.Theorems.{DeniedBy, DeniedOn, DeniedWithoutPremise, DeniedOnlyWithoutPremise}
 use Rattle.edition.proofs.Origins.{Origin, Rooted, RootedPage, sound}
 

@@ -7,7 +7,7 @@ use Rattle.rules.specs.Trees.{Con}
 use Rattle.rules.specs.declared.Unseen.{Unseen}
 use Rattle.laws.specs.Lists.{Every}
 use Rattle.laws.specs.NameTable.{Good}
-use Rattle.sheet_lines.specs.Left.{read-keeps-good}
+use Rattle.text_columns.specs.Left.{read-keeps-good}
 
 pub record Origin (text : Bytes) (cs : List (Con ℕ)) : Type 0 where
   pub pool : List ℕ

@@ -6,9 +6,9 @@ use Rattle.rules.specs.Names.{Table, table_of, numbersOf}
 use Rattle.rules.specs.Reports.{Content, holding, refusing, lacking, Page, editionGiven, findingOf, pageText}
 use Rattle.rules.specs.Writing.{words, writeCon}
 use Rattle.laws.specs.Lists.{Every}
-use Rattle.reporting.specs.Theorems.{AcceptedOn}
-use Rattle.reporting.proofs.Promise.{found-is, page-only}
-use Rattle.soundness.proofs.Soundness.{yes-solves}
+use Rattle.edition_report.specs.Theorems.{AcceptedOn}
+use Rattle.edition_report.proofs.Promise.{found-is, page-only}
+use Rattle.theorems_soundness.proofs.Soundness.{yes-solves}
 use Rattle.edition.specs.Theorems.{TrueOn, TrueWhereAccepted, AcceptedSheetsAreTrue}
 
 content-true : (t : Table) (p : Page) (c : Content) → p.content ≡ c → AcceptedOn t c → TrueOn t p c

@@ -11,10 +11,10 @@ use Rattle.rules.specs.Refusals.{number_of}
 use Rattle.rules.specs.Reports.{Finding, findingOf, Page}
 use Rattle.rules.specs.declared.Refusal.{Refusal}
 use Rattle.laws.specs.Lists.{some≢none, got≢refused}
-use Rattle.conflicts.specs.Told.{FoundAs}
-use Rattle.reporting.specs.Found.{IsFinding}
-use Rattle.reporting.specs.declared.pages.Outcome.{Outcome}
-use Rattle.reporting.specs.declared.pages.Outcome.TheVariants as outcome
+use Rattle.solve_conflict.specs.Told.{FoundAs}
+use Rattle.edition_report.specs.Found.{IsFinding}
+use Rattle.edition_report.specs.declared.pages.Outcome.{Outcome}
+use Rattle.edition_report.specs.declared.pages.Outcome.TheVariants as outcome
 use Rattle.edition.specs.Files.{IsSheet}
 use Rattle.edition.specs.Judged.{found-unread, found-unseen}
 use Rattle.edition.specs.Pages.{Holds}

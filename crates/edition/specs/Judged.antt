@@ -10,9 +10,9 @@ use Rattle.rules.specs.Solving.{Answer, accepted, remaining, stopped}
 use Rattle.rules.specs.Trees.{Con}
 use Rattle.rules.specs.declared.Unseen.{Unseen}
 use Rattle.laws.specs.Lists.{bound-step}
-use Rattle.judging.specs.Found.{PlacedAs}
-use Rattle.reporting.specs.Found.{IsFinding}
-use Rattle.reporting.specs.declared.pages.Outcome.{Outcome}
+use Rattle.judge.specs.Found.{PlacedAs}
+use Rattle.edition_report.specs.Found.{IsFinding}
+use Rattle.edition_report.specs.declared.pages.Outcome.{Outcome}
 use Rattle.edition.specs.Pages.{Kept}
 
 module _ (t : Table) (ws : List ℕ) (n : ℕ) (cs : List (Con ℕ)) (k : Kept ws n cs) where

@@ -5,9 +5,9 @@ use Rattle.rules.specs.Reports.{holding, refusing, lacking, page_of}
 use Rattle.rules.specs.TextReading.{Sheet, sheet, refusedIn, sheetRead}
 use Rattle.rules.specs.declared.Unseen.{Unseen}
 use Rattle.laws.specs.NameTable.{Good}
-use Rattle.sheet_lines.specs.Left.{read-back, read-keeps-good}
-use Rattle.sheet_reading.specs.declared.Read.{Read}
-use Rattle.sheet_reading.specs.declared.NotRead as stop
+use Rattle.text_columns.specs.Left.{read-back, read-keeps-good}
+use Rattle.text_sheet.specs.declared.Read.{Read}
+use Rattle.text_sheet.specs.declared.NotRead as stop
 use Rattle.edition.specs.Files.{text_of, FileRead}
 use Rattle.edition.specs.Sheets.{ReadTo}
 use Rattle.edition.specs.declared.model.Content as kind

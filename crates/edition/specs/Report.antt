@@ -4,7 +4,7 @@ use Rattle.rules.specs.Base.{Got, got, refused}
 use Rattle.rules.specs.Names.{Bytes, table_of}
 use Rattle.rules.specs.Refusals.{number_of}
 use Rattle.rules.specs.Reports.{Edition, acceptedIn}
-use Rattle.spelling.specs.Sinks.{Place, Keeps, Puts}
+use Rattle.text_spell.specs.Sinks.{Place, Keeps, Puts}
 use Rattle.edition.specs.Pages.{done}
 use Rattle.edition.specs.declared.Counts.{Counts}
 use Rattle.edition.specs.declared.Failed.{Failed}

@@ -9,9 +9,9 @@ use Rattle.rules.specs.Trees.{Con, sizeCon}
 use Rattle.rules.specs.Writing.{words, writeCon}
 use Rattle.laws.specs.NameTable.{Good}
 use Rattle.laws.specs.Size.{words-length, set-length}
-use Rattle.sheet_reading.specs.Given.{readAs}
-use Rattle.sheet_reading.specs.declared.Read.{Read}
-use Rattle.sheet_reading.specs.declared.NotRead.{NotRead}
+use Rattle.text_sheet.specs.Given.{readAs}
+use Rattle.text_sheet.specs.declared.Read.{Read}
+use Rattle.text_sheet.specs.declared.NotRead.{NotRead}
 use Rattle.edition.specs.Pages.{lent-given}
 
 -- a sheet that is read: so many constraints, so many new names, its records, and the table with its names

@@ -29,8 +29,8 @@ use Rattle.rules.specs.Trees.{Con, Binding}
 use Rattle.rules.specs.Writing.{words, writeCon}
 use Rattle.rules.specs.declared.Unseen.{Unseen}
 use Rattle.laws.specs.Lists.{Every}
-use Rattle.conflicts.specs.Theorems.{PartOf}
-use Rattle.reporting.specs.Theorems.{SaysAccepted, ReadFrom}
+use Rattle.solve_conflict.specs.Theorems.{PartOf}
+use Rattle.edition_report.specs.Theorems.{SaysAccepted, ReadFrom}
 use Rattle.edition.specs.Why.{conflictHead, conflictOn, whyLine, whyText}
 
 -- what the page prints are bindings and bounds; and put in at once they make each constraint of the set true, in exact arithmetic

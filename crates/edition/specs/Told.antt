@@ -8,7 +8,7 @@ use Rattle.rules.specs.Reports.{Page, Edition, editionShown, pageShown, accepted
 use Rattle.rules.specs.declared.Shown.{Shown}
 use Rattle.laws.specs.Contents.{collect-append}
 use Rattle.laws.specs.Lists.{true≢false}
-use Rattle.spelling.specs.Sinks.{Place, Puts, nothing, then, cut}
+use Rattle.text_spell.specs.Sinks.{Place, Puts, nothing, then, cut}
 use Rattle.edition.specs.Files.{IsSheet, HoldsAll, as-many, PageAt, page-at}
 use Rattle.edition.specs.Why.{pageTold, editionTold, whyText}
 use Rattle.edition.specs.declared.model.Sheet.{Sheet}

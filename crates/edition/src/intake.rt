@@ -10,7 +10,7 @@ ghost use Rattle.edition.specs.Sheets.{ReadTo};
 use crate::model::{Content, File, Room, Sheet};
 use names::check_table;
 use rules::{Refusal, Unseen};
-use sheet_reading::{NotRead, Read};
+use text_sheet::{NotRead, Read};
 use std::alloc::{AllocError, Global};
 use text::read_text;
 

@@ -3,7 +3,7 @@ ghost use Rattle.std.specs.Prelude.{◌≡◌, replicate};
 ghost use Rattle.edition.specs.Pages.{constraintsOf, namesOf};
 
 use rules::{RECORD_WORDS, Shown, Unseen, WORK_WORDS};
-use sheet_reading::{NotRead, Read};
+use text_sheet::{NotRead, Read};
 
 /// A file of an edition: its name as it is told, and its bytes, or why they can't be had.
 #[derive(Clone, Copy)]

@@ -3,20 +3,20 @@ ghost use Rattle.std.specs.Prelude.{◌≡◌, IfOk, List, ℕ};
 ghost use Rattle.rules.specs.Base.{collect};
 ghost use Rattle.rules.specs.Names.{Bytes, table_of};
 ghost use Rattle.rules.specs.Reports.{Finding, Page as PageRead, acceptedIn, findingOf, isAccepted, oneIf, pageShown, shownWhere};
-ghost use Rattle.reporting.specs.Found.{IsFinding};
-ghost use Rattle.spelling.specs.Sinks.{Puts};
+ghost use Rattle.edition_report.specs.Found.{IsFinding};
+ghost use Rattle.text_spell.specs.Sinks.{Puts};
 ghost use Rattle.edition.specs.Files.{HoldsAll, IsSheet};
 ghost use Rattle.edition.specs.Pages.{Tells, done, shownIf};
 ghost use Rattle.edition.specs.Why.{pageTold};
 
 use crate::model::{Content, How, Room, Sheet};
 use crate::why::tell_why;
-use confirming::solve_and_judge;
+use solve_confirm::solve_and_judge;
 use names::tables::NameTable;
-use reporting::inner::put_page;
-use reporting::pages::{Outcome, Page};
+use edition_report::inner::put_page;
+use edition_report::pages::{Outcome, Page};
 use rules::Shown;
-use spelling::sink::Sink;
+use text_spell::sink::Sink;
 
 // What becomes of a sheet: its set is solved and judged. What is found stands in the room's result.
 fn judge_sheet(names: NameTable, sheet: &Sheet, room: &mut Room) -> Outcome

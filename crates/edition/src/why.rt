@@ -5,22 +5,22 @@ ghost use Rattle.rules.specs.Conflicts.{conflictOf};
 ghost use Rattle.rules.specs.Names.{table_of};
 ghost use Rattle.rules.specs.Refusals.{number_of};
 ghost use Rattle.rules.specs.Reports.{Page as PageRead, findingOf};
-ghost use Rattle.conflicts.specs.Told.{FoundAs};
-ghost use Rattle.reporting.specs.Found.{IsFinding};
-ghost use Rattle.spelling.specs.Sinks.{Puts};
+ghost use Rattle.solve_conflict.specs.Told.{FoundAs};
+ghost use Rattle.edition_report.specs.Found.{IsFinding};
+ghost use Rattle.text_spell.specs.Sinks.{Puts};
 ghost use Rattle.edition.specs.Asked.{askedBy};
 ghost use Rattle.edition.specs.Files.{IsSheet};
 ghost use Rattle.edition.specs.Why.{conflictHead, lineTold, numbered, unknownText, whyLine, whyText};
 
 use crate::model::{Room, Sheet};
-use conflicts::inner::find_among;
+use solve_conflict::inner::find_among;
 use names::tables::NameTable;
-use reporting::lines::{constraint_line, line_in};
-use reporting::pages::Outcome;
-use reporting::shown::{put_part, put_shown};
-use reporting::words::{put_amount, put_refused};
+use edition_report::lines::{constraint_line, line_in};
+use edition_report::pages::Outcome;
+use edition_report::shown::{put_part, put_shown};
+use edition_report::words::{put_amount, put_refused};
 use rules::Refusal;
-use spelling::sink::Sink;
+use text_spell::sink::Sink;
 
 /// Which constraints of a sheet conflict, where constraints remain of it: their places in its set, counted from 0, stand at the front of the room's result.
 /// How many there are; nothing where its dimension lines can all be true. A refusal, 7 or 8, is met where lines are solved.

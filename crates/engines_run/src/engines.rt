@@ -1,8 +1,8 @@
 // What each engine answers, in one form.
 use crate::sets::Table;
-use eliminating::{Eliminated, eliminate};
+use engine::{Eliminated, eliminate};
 use rules::Refusal;
-use solving::{Finish, solve};
+use solve::{Finish, solve};
 use std::alloc::{AllocError, Global};
 
 /// What the words of the result buffer are before a call.

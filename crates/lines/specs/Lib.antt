@@ -1,5 +1,7 @@
-pub mod StepLists
-pub mod Entry
-pub mod Used
-pub mod Entered
-pub mod Lent
+pub mod Nested
+pub mod Settled
+pub mod Slices
+pub mod Standing
+pub mod Theorems
+pub mod Typed
+pub mod Whole

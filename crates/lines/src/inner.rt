@@ -1,273 +1,127 @@
-// The parts of the check of a line: what is looked at before its constraints are written.
-pub mod fresh;
-pub mod given;
+// The steps of the call past the check of 10: the set is written, solved and judged, and the last step's type is left in the work buffer.
+ghost use Rattle.std.specs.Prelude.{◌≡◌, List, ℕ, ◌*◌, ◌≤◌, length};
+ghost use Rattle.rules.specs.Base.{got};
+ghost use Rattle.rules.specs.Names.{table_of, lentTable};
+ghost use Rattle.rules.specs.Replacing.{Look};
+ghost use Rattle.rules.specs.Steps.{LineStep};
+ghost use Rattle.rules.specs.Trees.{Con, Binding};
+ghost use Rattle.rules.specs.Lines.{checkedLine};
+ghost use Rattle.records_buffers.specs.Told.{Made};
+ghost use Rattle.replace.specs.Places.{Tabled};
+ghost use Rattle.judge.specs.Found.{FoundThere};
+ghost use Rattle.lines.specs.Standing.{SetStands};
+ghost use Rattle.lines.specs.Typed.{Typed, setType, Confirmed};
+ghost use Rattle.lines.specs.Whole.{LineHeld, LineTyped};
 
-ghost use Rattle.std.specs.Prelude.{◌≡◌, List, [], ◌∷◌, ℕ, ◌/◌, ◌≤◌, ◌<◌, length};
-ghost use Rattle.rules.specs.Base.{got, need, each};
-ghost use Rattle.rules.specs.Exponents.{frac};
-ghost use Rattle.rules.specs.Names.{Table, table_of};
-ghost use Rattle.rules.specs.Writing.{Rec, signed};
-ghost use Rattle.rules.specs.Calls.{type_at};
-ghost use Rattle.rules.specs.Refusals.{told};
-ghost use Rattle.records.specs.Views.{recs};
-ghost use Rattle.rules.specs.Steps.{four, isConstant, isReference, isRaise, zeros, constantAt, referenceTo, raiseBy, step_of, stepGiven, lineGiven};
-ghost use Rattle.rules.specs.Lines.{lineLent, lineShort};
-ghost use Rattle.lines.specs.Entered.{lineEntered};
-ghost use Rattle.lines.specs.StepLists.{isGiven, stepsFrom, operandsOf, wholeFrom};
-ghost use Rattle.lines.specs.Lent.{wordsAt};
-
-use exponents::Exponent;
-use fresh::{all_held, is_fresh};
-use given::{Line, StepWords};
-use lending::lent;
-use names::inner::is_good;
+use judge::inner::{Found, judge_found};
+use lines_set::inner::writing::put_line;
+use lines_entry::inner::enter_line;
+use lines_entry::inner::given::Line;
 use names::tables::NameTable;
-use queries::inner::closed_at;
-use records::inner::type_end;
-use rules::{NESTED, RECORD_WORDS, RECORDS, Refusal};
+use replace_table::inner::fill;
+use queries::inner::is_unmixed;
+use records::inner::{copy, put_one};
+use records::{Open, View};
+use replace::inner::bound::look_up;
+use rules::{NAMES, RECORD_WORDS, Refusal};
+use solve::Finish;
+use solve::inner::run;
 
-// A line has at most 128 steps.
-const STEP_WORDS: usize = 512;
-
-/// The words of step i.
-pub fn step_at(steps: &[u32], i: usize) -> StepWords
-    requires { i < length steps.now / 4 }
-    ensures { result ≡ wordsAt steps.now i }
+// Writes the type of a variable, with the bindings put in, to the front of a buffer: how many records.
+fn put_type(places: &[u32], found: &[u32], v: u32, dst: &mut [u32]) -> usize
+    requires { (look : Look ℕ) × Tabled places.now found.now look }
+    ensures { (look : Look ℕ) → Tabled places.now found.now look → Typed look v dst.old dst.new result }
 {
-    let j = i * 4;
-    StepWords {
-        kind: steps[j],
-        a: steps[j + 1],
-        b: steps[j + 2],
-        c: steps[j + 3],
-    }
-}
-
-/// Is everything that is lent long enough, and is there a name for each step?
-pub fn room(
-    pool: &[u8],
-    table: &[u32],
-    steps: &[u32],
-    names: &[u32],
-    res: &[u32],
-    work: &[u32],
-) -> bool
-    ensures { need result 10 ≡ lineLent pool.now table.now steps.now names.now res.now work.now }
-{
-    if !lent(pool, table, res, work) {
-        return false;
-    }
-    let n = steps.len() / 4;
-    if n < names.len() {
-        return true;
-    }
-    if names.len() < n {
-        return false;
-    }
-    steps.len() % 4 == 0
-}
-
-// Is nothing that is lent too long?
-fn short(line: Line) -> bool
-    ensures { need result 8 ≡ lineShort line.entry.steps.now line.entry.types.now line.entry.earlier.now line.entry.lent.now }
-{
-    if STEP_WORDS < line.steps.len() {
-        return false;
-    }
-    if RECORD_WORDS < line.types.len() {
-        return false;
-    }
-    if RECORDS < line.earlier.len() {
-        return false;
-    }
-    line.lent.len() <= RECORDS
-}
-
-// 1, unless it is so.
-fn or_malformed(good: bool) -> Result<(), Refusal>
-    ensures { told result ≡ need good 1 }
-{
-    if good {
-        Ok(())
-    } else {
-        Err(Refusal::Malformed)
-    }
-}
-
-// Does a well formed type start at a place?
-fn type_here(names: NameTable, types: &[u32], at: u32) -> Result<(), Refusal>
-    ensures { told result ≡ isGiven (type_at (table_of names.entry.pool.now names.entry.table.now) (recs types.now) at) }
-{
-    match type_end(names, 0, types, at as usize, NESTED) {
-        Some(_) => Ok(()),
-        None => Err(Refusal::Malformed),
-    }
-}
-
-// And is it closed?
-fn constant_here(names: NameTable, types: &[u32], at: u32) -> Result<(), Refusal>
-    ensures { (lines : List ℕ) → told result ≡ isGiven (constantAt (table_of names.entry.pool.now names.entry.table.now) (recs types.now) lines at) }
-{
-    match type_end(names, 0, types, at as usize, NESTED) {
-        Some(_) => or_malformed(closed_at(types, at as usize)),
-        None => Err(Refusal::Malformed),
-    }
-}
-
-// Is there an earlier line with this number, and a well formed type at its place?
-fn reference_here(names: NameTable, line: Line, i: u32) -> Result<(), Refusal>
-    ensures { told result ≡ isGiven (referenceTo (table_of names.entry.pool.now names.entry.table.now) (recs line.entry.types.now) line.entry.earlier.now i) }
-{
-    let k = i as usize;
-    if k < line.earlier.len() {
-        type_here(names, line.types, line.earlier[k])
-    } else {
-        Err(Refusal::Malformed)
-    }
-}
-
-// Is this an exponent? Zero is one.
-fn raise_here(num: u32, den: u32) -> bool
-    ensures { (t : Table) (rs : List Rec) (lines : List ℕ) → need result 1 ≡ isGiven (raiseBy t rs lines (frac (signed num) den)) }
-{
-    Exponent::from_words(num, den).well_formed()
-}
-
-// Are the words that a step doesn't use 0?
-fn two_zeros(b: u32, c: u32) -> bool
-    ensures { need result 1 ≡ zeros (b ∷ c ∷ []) }
-{
-    b == 0 && c == 0
-}
-
-// The same of three words.
-fn three_zeros(a: u32, b: u32, c: u32) -> bool
-    ensures { need result 1 ≡ zeros (a ∷ b ∷ c ∷ []) }
-{
-    a == 0 && two_zeros(b, c)
-}
-
-// The constant with these words.
-fn constant_step(names: NameTable, types: &[u32], step: StepWords) -> Result<(), Refusal>
-    ensures { let t = table_of names.entry.pool.now names.entry.table.now in
-        (lines : List ℕ) → told result ≡ isGiven (step_of t (recs types.now) lines isConstant step.a step.b step.c) }
-{
-    if two_zeros(step.b, step.c) {
-        constant_here(names, types, step.a)
-    } else {
-        Err(Refusal::Malformed)
-    }
-}
-
-// The reference with these words.
-fn reference_step(names: NameTable, line: Line, step: StepWords) -> Result<(), Refusal>
-    ensures { let t = table_of names.entry.pool.now names.entry.table.now in
-        told result ≡ isGiven (step_of t (recs line.entry.types.now) line.entry.earlier.now isReference step.a step.b step.c) }
-{
-    if two_zeros(step.b, step.c) {
-        reference_here(names, line, step.a)
-    } else {
-        Err(Refusal::Malformed)
-    }
-}
-
-// The power with these words.
-fn raise_step(step: StepWords) -> Result<(), Refusal>
-    ensures { (t : Table) (rs : List Rec) (lines : List ℕ) → told result ≡ isGiven (step_of t rs lines isRaise step.a step.b step.c) }
-{
-    if step.a == 0 {
-        or_malformed(raise_here(step.b, step.c))
-    } else {
-        Err(Refusal::Malformed)
-    }
-}
-
-// The step with these words, of whatever kind.
-fn step_here(names: NameTable, line: Line, step: StepWords) -> Result<(), Refusal>
-    ensures { let t = table_of names.entry.pool.now names.entry.table.now in
-        told result ≡ isGiven (stepGiven t (recs line.entry.types.now) line.entry.earlier.now (four step.kind step.a step.b step.c)) }
-{
-    match step.kind {
-        1 => constant_step(names, line.types, step),
-        2 => reference_step(names, line, step),
-        7 => raise_step(step),
-        3 | 4 | 5 | 6 | 8 | 9 => or_malformed(three_zeros(step.a, step.b, step.c)),
-        _ => Err(Refusal::Malformed),
-    }
-}
-
-// From the first step on, each is well formed.
-fn steps_good(names: NameTable, line: Line) -> Result<(), Refusal>
-    ensures { let t = table_of names.entry.pool.now names.entry.table.now in
-        told result ≡ isGiven (each (stepGiven t (recs line.entry.types.now) line.entry.earlier.now) (stepsFrom line.entry.steps.now 0)) }
-{
-    for i in 0..line.steps.len() / 4 {
-        step_here(names, line, step_at(line.steps, i))?;
-    }
-    Ok(())
-}
-
-/// How many operands a step takes.
-pub fn operands_of(k: u32) -> usize
-    ensures { result ≡ operandsOf k }
-{
-    match k {
-        7 => 1,
-        3 | 4 | 5 | 6 | 8 => 2,
-        9 => 3,
-        _ => 0,
-    }
-}
-
-// Does each step find its operands, and is one type left?
-fn is_whole(steps: &[u32]) -> bool
-    ensures { result ≡ wholeFrom 0 (stepsFrom steps.now 0) }
-{
-    let mut n: usize = 0;
-    for i in 0..steps.len() / 4 {
-        let taken = operands_of(steps[i * 4]);
-        if n < taken {
-            return false;
+    match look_up(places, found, Open::Var(v)) {
+        Some((b, e)) => {
+            copy(found, b, e, dst, 0);
+            e - b
         }
-        n = n - taken + 1;
+        None => {
+            put_one(dst, 0, View::Opened(Open::Var(v)));
+            1
+        }
     }
-    n == 1
 }
 
-/// Is the line well formed (1)?
-pub fn line_good(names: NameTable, line: Line) -> Result<(), Refusal>
-    ensures { let t = table_of names.entry.pool.now names.entry.table.now in
-        told result ≡ isGiven (lineGiven t line.entry.steps.now line.entry.types.now line.entry.earlier.now) }
+// Judges what was found over the set. After a yes the type of v stands in the work buffer.
+fn confirm(
+    names: NameTable,
+    set: &[u32],
+    found: Found,
+    v: u32,
+    work: &mut [u32],
+) -> Result<usize, Refusal>
+    requires stands { (cs : List (Con ℕ)) × SetStands names.pool.now names.table.now set.now cs }
+    requires answered { (bs : List (Binding ℕ)) ×
+        ((ns : List ℕ) × FoundThere names.pool.now names.table.now found.words.now found.bindings found.bounds bs ns) }
+    requires room { 16384 ≤ length work.old }
+    ensures { Confirmed names.entry.pool.now names.entry.table.now set.now found.entry.words.now found.entry.bindings found.entry.bounds v work.new result }
 {
-    if line.steps.len() % 4 != 0 {
-        return Err(Refusal::Malformed);
+    match judge_found(names, set, found, work) {
+        Ok(None) => {
+            let mut places = [0u32; NAMES];
+            fill(found.words, 0, found.bindings, &mut places);
+            Ok(put_type(&places, found.words, v, work))
+        }
+        Ok(Some(_)) => Err(Refusal::NotConfirmed),
+        Err(k) => Err(k),
     }
-    if line.types.len() % 4 != 0 {
-        return Err(Refusal::Malformed);
-    }
-    steps_good(names, line)?;
-    or_malformed(is_whole(line.steps))
 }
 
-/// All checks past 10, in their order: 8, 1, 4, 3.
-pub fn enter_line(pool: &[u8], table: &[u32], line: Line) -> Result<(), Refusal>
-    requires bytes { 8192 ≤ length pool.now }
-    requires words { 257 ≤ length table.now }
-    ensures { told result ≡ isGiven (lineEntered (table_of pool.now table.now)
-        line.entry.steps.now line.entry.types.now line.entry.earlier.now line.entry.lent.now) }
+// Solves the set, judges the answer over the same set, and leaves the type of v.
+fn settle(names: NameTable, set: &[u32], v: u32, work: &mut [u32]) -> Result<usize, Refusal>
+    requires stands { (cs : List (Con ℕ)) × SetStands names.pool.now names.table.now set.now cs }
+    requires room { 16384 ≤ length work.old }
+    ensures { (cs : List (Con ℕ)) → SetStands names.entry.pool.now names.entry.table.now set.now cs →
+        Made (setType names.entry.pool.now names.entry.table.now cs v) work.new result }
 {
-    if !short(line) {
-        return Err(Refusal::TooLarge);
-    }
-    if !is_good(pool, table) {
-        return Err(Refusal::Malformed);
-    }
-    line_good(NameTable { pool, table }, line)?;
-    if !is_fresh(line.types, line.earlier, line.steps, line.lent) {
+    let n = set.len() / 4;
+    if !is_unmixed(set, 0, n) {
         return Err(Refusal::Mixed);
     }
-    if !all_held(table, line.lent) {
-        return Err(Refusal::NoRoom); // 3 is also a number that is not held
+    let mut words = [0u32; RECORD_WORDS];
+    let s = run(names, set, &mut words, work);
+    match s.outcome {
+        Ok(Finish::Solved(bindings, bounds)) => {
+            let found = Found {
+                words: &words,
+                bindings,
+                bounds,
+            };
+            confirm(names, set, found, v, work)
+        }
+        Ok(Finish::Unsolved(_)) => Err(Refusal::Unsolved),
+        Err(k) => Err(k),
     }
-    Ok(())
+}
+
+// The type of a line that passed the checks at entry.
+fn type_line(names: NameTable, line: Line, work: &mut [u32]) -> Result<usize, Refusal>
+    requires read { (ss : List (LineStep ℕ)) × LineHeld names.pool.now names.table.now line.steps.now line.types.now line.earlier.now line.lent.now ss }
+    requires room { 16384 ≤ length work.old }
+    ensures { LineTyped names.entry.pool.now names.entry.table.now
+        line.entry.steps.now line.entry.types.now line.entry.earlier.now line.entry.lent.now work.new result }
+{
+    let mut set = [0u32; RECORD_WORDS];
+    match put_line(names, line, &mut set) {
+        Ok(n) => {
+            let v = line.lent[line.steps.len() / 4 - 1];
+            let e = n * 4;
+            settle(names, &set[0..e], v, work)
+        }
+        Err(k) => Err(k),
+    }
+}
+
+// All that the call does past the check of 10; what it makes is left at the start of the work buffer.
+pub fn make_line(pool: &[u8], table: &[u32], line: Line, work: &mut [u32]) -> Result<usize, Refusal>
+    requires table_value { lentTable pool.now table.now ≡ got tt }
+    requires lent { length line.steps.now ≤ length line.lent.now * 4 }
+    requires room { 16384 ≤ length work.old }
+    ensures { Made (checkedLine (table_of pool.now table.now)
+        line.entry.steps.now line.entry.types.now line.entry.earlier.now line.entry.lent.now) work.new result }
+{
+    enter_line(pool, table, line)?;
+    type_line(NameTable { pool, table }, line, work)
 }

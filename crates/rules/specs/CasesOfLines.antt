@@ -428,7 +428,7 @@ factors i zero = []
 factors i (suc n) = to i 1 ∷ factors (suc i) n
 
 -- the scalar times a product of 64 factors: the judge puts the operands in by the order of their names, so that in the second lending 64 factors stand
--- beside a variable: 8. In three steps, and only the judge's 8 shows it (crates/line_theorems/specs/Theorems: `lent-names`)
+-- beside a variable: 8. In three steps, and only the judge's 8 shows it (crates/theorems_lines/specs/Theorems: `lent-names`)
 by_order : map (λ (names : List ℕ). checkedLine (table_of many manyEnds) (1 ∷ 0 ∷ 0 ∷ 0 ∷ 1 ∷ 1 ∷ 0 ∷ 0
     ∷ op 5) (words (writeTy (dim []) ++ writeTy (dim (factors 0 64)))) [] names) ((64 ∷ 65 ∷ 66 ∷ []) ∷ (65 ∷ 64 ∷ 66 ∷ []) ∷ [])
     ≡ of (dim (factors 0 64)) ∷ refused 8 ∷ []

@@ -37,7 +37,7 @@ module _ {N : Type 0} (ν : Names N) where
   after (got (some s')) k s more = more s'
 
 -- the bound on rounds: V + 6,144 x (V + 1) for V = 256 variables, and one to see that no rule applies. It is never
--- met (`ends` in crates/ending)
+-- met (`ends` in crates/theorems_ending)
 abbrev pub enough : ℕ
 enough = 1_579_265
 

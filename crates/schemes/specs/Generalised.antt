@@ -19,10 +19,10 @@ use Rattle.rules.specs.Writing.{word_of, writeScheme}
 use Rattle.laws.specs.Lists.{All, in_head, is-yes, is-no}
 use Rattle.laws.specs.NameTable.{Good}
 use Rattle.products.specs.Held.{law}
-use Rattle.renaming.specs.Places.{first_equal, all_of}
-use Rattle.renaming.proofs.InTurn.{quantify-once}
-use Rattle.handing.specs.Bounds.{Rename, orAll, allBounds}
-use Rattle.quantifying.specs.Ready.{quantifiedAs}
+use Rattle.schemes_renaming.specs.Places.{first_equal, all_of}
+use Rattle.schemes_renaming.proofs.InTurn.{quantify-once}
+use Rattle.schemes_handed.specs.Bounds.{Rename, orAll, allBounds}
+use Rattle.schemes_quantify.specs.Ready.{quantifiedAs}
 use Rattle.schemes.specs.Whole.{tells, bind-twice}
 
 module _ (ν : Names ℕ) where

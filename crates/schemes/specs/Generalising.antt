@@ -41,11 +41,11 @@ use Rattle.queries.specs.Marks.{Filled}
 use Rattle.queries.specs.ScanLaws.{type-opens}
 use Rattle.queries.specs.Scans.{choose, opensIn}
 use Rattle.queries.specs.declared.Kind.TheVariants.{Both}
-use Rattle.lending.specs.Handed.{as_written, unwritten}
-use Rattle.lending.specs.Told.{Made, handed}
-use Rattle.handing.specs.Bounds.{open-view, bound-rec}
-use Rattle.quantifying.specs.Core.{made-records}
-use Rattle.quantifying.specs.Ready.{Ready, quantifiedAs}
+use Rattle.records_buffers.specs.Handed.{as_written, unwritten}
+use Rattle.records_buffers.specs.Told.{Made, handed}
+use Rattle.schemes_handed.specs.Bounds.{open-view, bound-rec}
+use Rattle.schemes_quantify.specs.Core.{made-records}
+use Rattle.schemes_quantify.specs.Ready.{Ready, quantifiedAs}
 use Rattle.schemes.specs.Entry.{Entered}
 use Rattle.schemes.specs.Generalised.{ordered, generalise-made}
 use Rattle.schemes.specs.Whole.{given-bounds, handed-on}

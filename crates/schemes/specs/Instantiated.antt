@@ -21,16 +21,16 @@ use Rattle.laws.specs.Lists.{All}
 use Rattle.laws.specs.NameTable.{held-is}
 use Rattle.laws.specs.Weaker.{ty-weaker}
 use Rattle.products.specs.Held.{law}
-use Rattle.renaming.proofs.Own.{own}
-use Rattle.renaming.proofs.PutBack.{Back, put-back, put-back-twice}
+use Rattle.schemes_renaming.proofs.Own.{own}
+use Rattle.schemes_renaming.proofs.PutBack.{Back, put-back, put-back-twice}
 use Rattle.records.specs.Found.{Words32}
 use Rattle.records.specs.Good.{GoodTy, GoodScheme}
 use Rattle.records.specs.Holds.{Shows}
 use Rattle.records.specs.Schemes.{scheme-is}
-use Rattle.handing.specs.Bounds.{Rename, allBounds, BoundsAt}
-use Rattle.lending.specs.Handed.{as_written, unwritten}
-use Rattle.lending.specs.Told.{Made, handed}
-use Rattle.instantiating.specs.Ready.{putBackAs, instantiatedAs, Slim, Ready, head_of, ReadyScheme}
+use Rattle.schemes_handed.specs.Bounds.{Rename, allBounds, BoundsAt}
+use Rattle.records_buffers.specs.Handed.{as_written, unwritten}
+use Rattle.records_buffers.specs.Told.{Made, handed}
+use Rattle.schemes_instantiate.specs.Ready.{putBackAs, instantiatedAs, Slim, Ready, head_of, ReadyScheme}
 use Rattle.schemes.specs.Entry.{Entered}
 use Rattle.schemes.specs.Whole.{tells, all_renamed, chain-bounds, handed-on}
 use Rattle.schemes.specs.Wholes.{instantiatedFrom}

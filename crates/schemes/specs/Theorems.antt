@@ -3,8 +3,8 @@ use Rattle.std.specs.Prelude.{Result, ◌≡◌, List, ℕ}
 use Rattle.rules.specs.Calls.{Written, quantifyCall, generaliseCall, instantiateCall}
 use Rattle.rules.specs.Numbers.{written, number}
 use Rattle.rules.specs.declared.Refusal.{Refusal}
-use Rattle.lending.specs.Told.{writtenAs}
-use Rattle.lending.specs.Determined.{OneResult}
+use Rattle.records_buffers.specs.Told.{writtenAs}
+use Rattle.records_buffers.specs.Determined.{OneResult}
 use Rattle.rules.specs.Refusals.{numberAnswer}
 
 -- two results that a clause `writtenAs .. ≡ w` allows are the same: the answer, and both buffers

@@ -37,23 +37,23 @@ use Rattle.laws.specs.Lists.{All}
 use Rattle.laws.specs.NameTable.{Good, good-laid, held-is, held_tells}
 use Rattle.laws.specs.Order.{Tells}
 use Rattle.products.specs.Held.{law}
-use Rattle.renaming.specs.Places.{all_of}
-use Rattle.renaming.proofs.InTurn.{quantify-once}
+use Rattle.schemes_renaming.specs.Places.{all_of}
+use Rattle.schemes_renaming.proofs.InTurn.{quantify-once}
 use Rattle.records.specs.Found.{Words32}
 use Rattle.records.specs.Given.{list-is}
 use Rattle.records.specs.Good.{Chain, goodOpen, GoodBound}
 use Rattle.records.specs.Schemes.{bound-reader}
 use Rattle.records.specs.Whole.{type-is, entry-good}
-use Rattle.replacing.specs.Given.{given-type}
+use Rattle.replace.specs.Given.{given-type}
 use Rattle.queries.specs.Answers.{typed, typed-small}
 use Rattle.queries.specs.Marks.{Small}
 use Rattle.queries.specs.ScanLaws.{type-opens}
 use Rattle.queries.specs.Scans.{opensIn}
-use Rattle.lending.specs.Handed.{as_written, unwritten}
-use Rattle.lending.specs.Told.{Made, handed}
-use Rattle.handing.specs.Bounds.{Rename, allBounds, BoundsAt}
-use Rattle.quantifying.specs.Core.{made-refused}
-use Rattle.quantifying.specs.Ready.{Ready, quantifiedAs}
+use Rattle.records_buffers.specs.Handed.{as_written, unwritten}
+use Rattle.records_buffers.specs.Told.{Made, handed}
+use Rattle.schemes_handed.specs.Bounds.{Rename, allBounds, BoundsAt}
+use Rattle.schemes_quantify.specs.Core.{made-refused}
+use Rattle.schemes_quantify.specs.Ready.{Ready, quantifiedAs}
 use Rattle.schemes.specs.Entry.{restChecked, entered, bounds-long, names-long, row-then, stops, checked as all-checked, Entered, came-in}
 
 -- ══ A call is its checks, then what it makes ══

@@ -6,13 +6,13 @@ pub mod theorems;
 
 ghost use Rattle.std.specs.Prelude.{◌≡◌};
 ghost use Rattle.rules.specs.Calls.{quantifyCall, generaliseCall, instantiateCall};
-ghost use Rattle.lending.specs.Told.{writtenAs};
+ghost use Rattle.records_buffers.specs.Told.{writtenAs};
 
 use inner::generalising::make_generalised;
 use inner::instantiated::make_instantiated;
 use inner::making::make_quantified;
-use lending::inner::hand_over;
-use lending::lent;
+use records_buffers::inner::hand_over;
+use records_buffers::lent;
 use rules::Refusal;
 
 /// The type and bounds with the handed names quantified, as a scheme in the result buffer; the work buffer is left all zero.

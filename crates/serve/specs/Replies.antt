@@ -1,8 +1,8 @@
 -- What an answer says beside the call's own words.
 use Rattle.std.specs.Prelude.{Bool, List, ℕ, ◌+◌, drop}
-use Rattle.saying.specs.Saying.{pick}
-use Rattle.saying.specs.Same.{same}
-use Rattle.saying.specs.declared.told.Told.{Told}
+use Rattle.calls_defined.specs.Saying.{pick}
+use Rattle.calls_defined.specs.Same.{same}
+use Rattle.calls_defined.specs.declared.told.Told.{Told}
 
 -- no request: all ones in the place of the refusal, and what is wrong
 abbrev pub faultAs : ℕ → Told

@@ -1,7 +1,7 @@
 -- The head of a request: sixteen words of four bytes, the lowest first; and what makes it a request that can be served.
 use Rattle.std.specs.Prelude.{◌≡◌, refl, Bool, true, false, List, ℕ, ◌+◌, ◌*◌, ◌-◌, ◌/◌, ◌≤◌, ltb, eqb, length, get_or}
 use Rattle.std.proofs.Common.{arith, ltb-false}
-use Rattle.saying.specs.Saying.{pick}
+use Rattle.calls_defined.specs.Saying.{pick}
 use Rattle.serve.specs.declared.request.Header.{Header}
 
 -- the word whose four bytes stand at a place; 0 past the end

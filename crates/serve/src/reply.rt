@@ -4,8 +4,8 @@ ghost use Rattle.serve.specs.Replies.{faultAs, flagOf, flags_of};
 
 use crate::coding::put_words;
 use crate::request::Header;
-use saying::told::{Told, short};
-use saying::words::{all_from, word_of};
+use calls_defined::told::{Told, short};
+use calls_defined::words::{all_from, word_of};
 use std::alloc::{AllocError, Global};
 
 /// What is said of a request that can't be served.

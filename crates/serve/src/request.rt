@@ -3,7 +3,7 @@ ghost use Rattle.std.specs.Prelude.{◌≡◌, ◌≤◌};
 ghost use Rattle.serve.specs.Requests.{head_of, overBy, roomOf, excessOf, filledTo, parts_of, faultOf, Fits};
 
 use crate::coding::word_at;
-use calling::LAST;
+use calls::LAST;
 
 /// The bytes of a head.
 pub const HEAD: usize = 64;

@@ -6,9 +6,9 @@ use Rattle.rules.specs.Names.{Bytes}
 use Rattle.rules.specs.Numbers.{refusalIn}
 use Rattle.rules.specs.Values.{ProductValue}
 use Rattle.names.specs.Told.{refusalOf}
-use Rattle.wording.specs.Factors.{toldOf, written_of}
-use Rattle.saying.specs.declared.told.Told.{Told}
-use Rattle.wording.specs.Words.{answerWords}
+use Rattle.library_words.specs.Factors.{toldOf, written_of}
+use Rattle.calls_defined.specs.declared.told.Told.{Told}
+use Rattle.library_words.specs.Words.{answerWords}
 use Rattle.shupkelen.specs.Exports.{out, handed}
 
 -- c is the outcome by the definition, c₀ what the code has of it

@@ -9,8 +9,8 @@ ghost use Rattle.shupkelen.specs.Exports.{out, rescuedOut, compactedOut, textOut
 use compaction::compact;
 use rescue::rescue;
 use text::{read_text, write_text};
-use wording::answers::{compacted, rescued, sheet, spelt};
-use wording::hand;
+use library_words::answers::{compacted, rescued, sheet, spelt};
+use library_words::hand;
 
 /// Rescues what is well formed of a damaged set file: words of four bytes, the lowest first, four words a record. The constraints that are whole go to
 /// the front of `kept` (32,768 bytes or more), the place of each other record, and of a torn last one, to the front of `skipped` (2,049 words or more).

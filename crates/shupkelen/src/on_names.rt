@@ -6,9 +6,9 @@ ghost use Rattle.rules.specs.Numbers.{refusalIn};
 ghost use Rattle.shupkelen.specs.Exports.{out, orderWord, placeOut, enteredOut};
 
 use names::{check_number, check_table, compare, enter};
-use saying::told::{numbered, ordered};
-use wording::placing::placed;
-use wording::{hand, number};
+use calls_defined::told::{numbered, ordered};
+use library_words::placing::placed;
+use library_words::{hand, number};
 
 /// The order of two names by their bytes, first to last, a prefix before what it begins: returns 1 for less, 2 for same, 3 for more.
 #[unsafe(no_mangle)]

@@ -1,13 +1,13 @@
-//! The calls on products: four words for each factor, as `wording::product_words` has them.
+//! The calls on products: four words for each factor, as `library_words::product_words` has them.
 ghost use Rattle.std.specs.Prelude.{◌≡◌};
 ghost use Rattle.rules.specs.Exponents.{frac};
 ghost use Rattle.rules.specs.Values.{multiplyCall, divideCall, inverseCall, raiseCall};
-ghost use Rattle.wording.specs.Factors.{productAt};
+ghost use Rattle.library_words.specs.Factors.{productAt};
 ghost use Rattle.shupkelen.specs.Exports.{out, productOut};
 
 use exponents::Exponent;
-use wording::hand;
-use wording::product_words::{product_from, put_product};
+use library_words::hand;
+use library_words::product_words::{product_from, put_product};
 
 /// The product of two products, their powers added factor by factor. `res` gets all 64 places, (0, 0, 0, 1) in the unused ones, as far as it goes; says
 /// how many factors. Refuses with 10, 1, 7 (a power out of range) and 8 (over 64 factors), and writes nothing then.

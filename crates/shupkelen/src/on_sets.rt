@@ -5,21 +5,21 @@ ghost use Rattle.rules.specs.Batches.{batchCall};
 ghost use Rattle.rules.specs.Confirming.{confirmCall};
 ghost use Rattle.rules.specs.Elimination.{eliminateCall};
 ghost use Rattle.rules.specs.Lines.{checkLineCall};
-ghost use Rattle.pairs.specs.Pairs.{entriesIn};
+ghost use Rattle.library_pairs.specs.Pairs.{entriesIn};
 ghost use Rattle.shupkelen.specs.Exports.{out, addedOut, writtenOut, solvedOut, batchOut, judgedOut, eliminatedOut};
 
-use adding::add;
-use batches::solve_all;
-use confirming::confirm;
-use eliminating::eliminate;
-use line_calls::check_line;
-use pairs::judge_pairs;
-use replacing_calls::{replace_in_set, replace_in_type};
-use saying::told::{added, judged, solution, written};
+use solve_add::add;
+use solve_batch::solve_all;
+use solve_confirm::confirm;
+use engine::eliminate;
+use lines::check_line;
+use library_pairs::judge_pairs;
+use replace_calls::{replace_in_set, replace_in_type};
+use calls_defined::told::{added, judged, solution, written};
 use schemes::{generalise, instantiate, quantify};
-use solving::solve;
-use wording::answers::eliminated;
-use wording::hand;
+use solve::solve;
+use library_words::answers::eliminated;
+use library_words::hand;
 
 /// Tests a constraint, and stores it behind the first `count` records of the buffer (8,192 words or more), which are a set, unless it is satisfied. Says
 /// 1 Satisfied, 2 Violated or 3 Unknown, and how many records the set has then. Refuses with 10, 8, 1, then 8 where the constraint has no room, and

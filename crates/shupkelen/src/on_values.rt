@@ -5,8 +5,8 @@ ghost use Rattle.rules.specs.Values.{sumCall, timesCall, negationCall, quotientC
 ghost use Rattle.shupkelen.specs.Exports.{out, powerOut};
 
 use exponents::Exponent;
-use wording::answers::powered;
-use wording::hand;
+use library_words::answers::powered;
+use library_words::hand;
 
 /// The sum of two exponents, fractions in lowest terms: says its numerator in two's complement, and its denominator. Refuses with 1 (one is not well
 /// formed) and 7 (out of range: numerators and denominators are at most 2,147,483,647).

@@ -6,11 +6,11 @@ use Rattle.rules.specs.Calls.{Listed}
 use Rattle.rules.specs.Numbers.{refusalIn, number, refusalRead}
 use Rattle.laws.specs.Numbers.{answer-in, number-injective, told-injective}
 use Rattle.rules.specs.TextReading.{TextRead}
-use Rattle.sheet_reading.specs.Given.{toldSheet, readAs}
-use Rattle.sheet_reading.specs.declared.Read.{Read}
-use Rattle.sheet_reading.specs.declared.NotRead.{NotRead}
+use Rattle.text_sheet.specs.Given.{toldSheet, readAs}
+use Rattle.text_sheet.specs.declared.Read.{Read}
+use Rattle.text_sheet.specs.declared.NotRead.{NotRead}
 use Rattle.rules.specs.declared.Refusal.{Refusal}
-use Rattle.sheet_reading.specs.Loop.{Sheet}
+use Rattle.text_sheet.specs.Loop.{Sheet}
 use Rattle.text.specs.Theorems.{ReadingIsDetermined, ReadingIsNumbered, WritingIsDetermined, WritingIsNumbered, numberSheet}
 use Rattle.text.specs.Told.{listedAs}
 

@@ -10,9 +10,9 @@ use Rattle.rules.specs.TextReading.{sheetGiven, readTextCall}
 use Rattle.rules.specs.declared.Refusal.TheVariants.{ShortBuffer}
 use Rattle.laws.specs.Checks.{need-passed}
 use Rattle.laws.specs.Lists.{and_left, and_right}
-use Rattle.lending.specs.Lent.{Long}
-use Rattle.sheet_reading.specs.Loop.{Sheet}
-use Rattle.sheet_reading.specs.Given.{readAs, Answers}
+use Rattle.records_buffers.specs.Lent.{Long}
+use Rattle.text_sheet.specs.Loop.{Sheet}
+use Rattle.text_sheet.specs.Given.{readAs, Answers}
 
 -- ══ What is lent is long enough ══
 

@@ -5,8 +5,8 @@ use Rattle.rules.specs.Refusals.{number_of, numberAnswer}
 use Rattle.rules.specs.TextReading.{readTextCall}
 use Rattle.rules.specs.TextWriting.{writeTextCall}
 use Rattle.rules.specs.declared.Refusal.{Refusal}
-use Rattle.sheet_reading.specs.Loop.{Sheet}
-use Rattle.sheet_reading.specs.Given.{readAs}
+use Rattle.text_sheet.specs.Loop.{Sheet}
+use Rattle.text_sheet.specs.Given.{readAs}
 use Rattle.text.specs.Told.{listedAs}
 
 -- ══ The contracts leave no choice ══

@@ -19,10 +19,10 @@ use Rattle.laws.specs.NameTable.{Good}
 use Rattle.records.specs.Found.{Words32}
 use Rattle.records.specs.Good.{Chain, GoodCon}
 use Rattle.records.specs.Whole.{entry-good, set_is}
-use Rattle.sheets.specs.Lengths.{set-fits}
+use Rattle.text_laws.specs.Lengths.{set-fits}
 use Rattle.rules.specs.TextWriting.{setText, text_of, writeTextCall, namesIn}
-use Rattle.sheet_writing.specs.Rows.{LinesAt}
-use Rattle.spelling.specs.Sinks.{Place, Puts}
+use Rattle.text_write.specs.Rows.{LinesAt}
+use Rattle.text_spell.specs.Sinks.{Place, Puts}
 
 -- ══ A row of checks ══
 

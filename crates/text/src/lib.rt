@@ -8,18 +8,18 @@ ghost use Rattle.rules.specs.Base.{got};
 ghost use Rattle.rules.specs.Calls.{setCall};
 ghost use Rattle.rules.specs.TextReading.{readTextCall};
 ghost use Rattle.rules.specs.TextWriting.{writeTextCall};
-ghost use Rattle.sheet_reading.specs.Given.{readAs};
+ghost use Rattle.text_sheet.specs.Given.{readAs};
 ghost use Rattle.text.specs.Told.{listedAs};
 
-use lending::inner::clear;
-use lending::lent;
+use records_buffers::inner::clear;
+use records_buffers::lent;
 use names::tables::NameTable;
 use records::is_set;
 use rules::Refusal;
-use sheet_reading::inner::read_given;
-use sheet_reading::{NotRead, Read};
-use sheet_writing::inner::write_lines;
-use spelling::sink::{Front, Full};
+use text_sheet::inner::read_given;
+use text_sheet::{NotRead, Read};
+use text_write::inner::write_lines;
+use text_spell::sink::{Front, Full};
 
 /// 173 bytes for each of 2,048 records.
 pub const TEXT_BYTES: usize = 354304;

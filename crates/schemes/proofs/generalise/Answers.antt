@@ -1,7 +1,7 @@
 -- `generalise` meets its contract.
 use mathlib.Core.Path.{ap, ◌∙◌}
 use mathlib.Core.Bool.{not}
-use Rattle.lending.specs.Lent.{Long, long, short}
+use Rattle.records_buffers.specs.Lent.{Long, long, short}
 use Rattle.schemes.specs.Generalising.{generalise-short, generalise-called}
 use Rattle.schemes.proofs.generalise.Goals as goal
 

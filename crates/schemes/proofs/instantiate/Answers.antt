@@ -1,7 +1,7 @@
 -- `instantiate` meets its contract.
 use mathlib.Core.Path.{ap, ◌∙◌}
 use mathlib.Core.Bool.{not}
-use Rattle.lending.specs.Lent.{Long, long, short}
+use Rattle.records_buffers.specs.Lent.{Long, long, short}
 use Rattle.schemes.specs.Instantiated.{instantiate-short, instantiate-called}
 use Rattle.schemes.proofs.instantiate.Goals as goal
 

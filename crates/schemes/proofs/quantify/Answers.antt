@@ -1,7 +1,7 @@
 -- `quantify` meets its contract.
 use mathlib.Core.Path.{ap, ◌∙◌}
 use mathlib.Core.Bool.{not}
-use Rattle.lending.specs.Lent.{Long, long, short}
+use Rattle.records_buffers.specs.Lent.{Long, long, short}
 use Rattle.schemes.specs.Whole.{quantify-short, quantify-called}
 use Rattle.schemes.proofs.quantify.Goals as goal
 

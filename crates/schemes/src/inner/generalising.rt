@@ -5,12 +5,12 @@ ghost use Rattle.rules.specs.Calls.{generalised};
 ghost use Rattle.rules.specs.Names.{table_of, lentTable};
 ghost use Rattle.rules.specs.Schemes.{Scheme, concrete};
 ghost use Rattle.rules.specs.Trees.{Ty, Open};
-ghost use Rattle.lending.specs.Told.{Made};
+ghost use Rattle.records_buffers.specs.Told.{Made};
 ghost use Rattle.schemes.specs.Generalising.{Given, Generalises};
 
 use super::checks::rest_checked;
 use names::tables::NameTable;
-use quantifying::inner::quantifying::quantify_at;
+use schemes_quantify::inner::quantifying::quantify_at;
 use queries::Kind;
 use queries::inner::list_names;
 use records::inner::copy;

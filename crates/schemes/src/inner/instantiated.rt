@@ -3,10 +3,10 @@ ghost use Rattle.std.specs.Prelude.{◌≡◌, ◌≤◌, length};
 ghost use Rattle.rules.specs.Base.{got};
 ghost use Rattle.rules.specs.Calls.{instantiated};
 ghost use Rattle.rules.specs.Names.{table_of, lentTable};
-ghost use Rattle.lending.specs.Told.{Made};
+ghost use Rattle.records_buffers.specs.Told.{Made};
 
 use super::checks::rest_checked;
-use instantiating::inner::instantiating::instantiate_scheme;
+use schemes_instantiate::inner::instantiating::instantiate_scheme;
 use names::tables::NameTable;
 use records::is_scheme;
 use rules::{RECORDS, Refusal};

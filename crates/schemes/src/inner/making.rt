@@ -3,11 +3,11 @@ ghost use Rattle.std.specs.Prelude.{◌≡◌, ◌≤◌, length};
 ghost use Rattle.rules.specs.Base.{got};
 ghost use Rattle.rules.specs.Calls.{quantified};
 ghost use Rattle.rules.specs.Names.{table_of, lentTable};
-ghost use Rattle.lending.specs.Told.{Made};
+ghost use Rattle.records_buffers.specs.Told.{Made};
 
 use super::checks::rest_checked;
 use names::tables::NameTable;
-use quantifying::inner::quantifying::quantify_at;
+use schemes_quantify::inner::quantifying::quantify_at;
 use records::is_type;
 use rules::{RECORD_WORDS, RECORDS, Refusal};
 use types::Type;

@@ -1,7 +1,7 @@
 -- `tell_sheet` meets its contract: by whether its page is shown.
 use Rattle.std.proofs.Common.{rules, ◌≡◌, Err}
 use Rattle.rules.specs.Names.{table_of}
-use Rattle.spelling.specs.Sinks.{nothing}
+use Rattle.text_spell.specs.Sinks.{nothing}
 use Rattle.edition.specs.Pages.{hidden, visible, page-is}
 use Rattle.edition.proofs.telling.tell_sheet.Goals as goal
 

@@ -1,7 +1,7 @@
 use Rattle.std.specs.Prelude.{Ok}
 use Rattle.std.proofs.Common.{take}
 use Rattle.rules.specs.Base.{collect}
-use Rattle.spelling.specs.Sinks.{Puts}
+use Rattle.text_spell.specs.Sinks.{Puts}
 use Rattle.edition.specs.Why.{whyLine}
 use Rattle.edition.proofs.why.put_lines.Given as goal
 

@@ -2,7 +2,7 @@
 use Rattle.std.specs.Prelude.{[], Ok}
 use Rattle.std.proofs.Common.{ap, sym, ◌∙◌, length-take-le}
 use Rattle.rules.specs.Names.{table_of}
-use Rattle.spelling.specs.Sinks.{nothing}
+use Rattle.text_spell.specs.Sinks.{nothing}
 use Rattle.edition.specs.Asked.{why-is, told-none, told-some, told-fits, told-refused}
 use Rattle.edition.proofs.why.tell_why.Goals as goal
 

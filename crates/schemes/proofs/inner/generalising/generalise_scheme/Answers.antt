@@ -3,7 +3,7 @@ use mathlib.Core.Path.{refl, sym, ◌∙◌}
 use mathlib.Core.List.{[], ◌∷◌}
 use Rattle.records.specs.declared.View.TheVariants as view
 use Rattle.schemes.specs.Generalising.{the_type, the-type-made, the-scheme}
-use Rattle.replacing.proofs.Others.{untagged}
+use Rattle.replace.proofs.Others.{untagged}
 use borrow.Enum.Refused.{opened}
 use Rattle.schemes.proofs.inner.generalising.generalise_scheme.Goals as goal
 

@@ -6,8 +6,8 @@ use Rattle.std.specs.Prelude.{take}
 use Rattle.std.proofs.Common.{subst, false, ℕ}
 use Rattle.rules.specs.Trees.{Ty}
 use Rattle.records.specs.Parsed.{only}
-use Rattle.lending.specs.Told.{Made}
-use Rattle.quantifying.specs.Ready.{Ready, quantifiedAs}
+use Rattle.records_buffers.specs.Told.{Made}
+use Rattle.schemes_quantify.specs.Ready.{Ready, quantifiedAs}
 use Rattle.schemes.specs.Generalising.{names-known, listed-few, type-ready, type-made}
 use Rattle.schemes.proofs.inner.generalising.generalise_type.Goals as goal
 

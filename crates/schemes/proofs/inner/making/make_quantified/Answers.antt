@@ -5,8 +5,8 @@ use Rattle.std.proofs.Common.{arith, subst, true, ℕ}
 use Rattle.rules.specs.Trees.{Ty}
 use Rattle.records.specs.Found.{Words32}
 use Rattle.records.specs.Parsed.{only}
-use Rattle.lending.specs.Told.{Made}
-use Rattle.quantifying.specs.Ready.{Ready, quantifiedAs}
+use Rattle.records_buffers.specs.Told.{Made}
+use Rattle.schemes_quantify.specs.Ready.{Ready, quantifiedAs}
 use Rattle.schemes.specs.Whole.{bounds-made, names-made, unmet-made, met-made, quantify-whole, type-table, type-small}
 use Rattle.schemes.specs.Whole.{quantify-checked, quantify-came, quantify-ready, quantify-met}
 use Rattle.schemes.proofs.inner.making.make_quantified.Goals as goal

@@ -1,6 +1,0 @@
-use Rattle.std.proofs.Common.{◌≡◌}
-use Rattle.adding.specs.Tests.{constant}
-use Rattle.adding.proofs.inner.testing.all_constant.Given as goal
-
-abbrev pub invariant-factors : goal.invariant-factors
-invariant-factors l = constant l.factor-iterator.factors.0 ≡ constant l.fn.product.factors.0

@@ -1,0 +1,76 @@
+//! Words and bytes of buffers.
+ghost use Rattle.std.specs.Prelude.{◌≡◌, map, drop, slice_index, slice_set};
+ghost use Rattle.std.proofs.lemmas.List.Edits.{sets};
+ghost use Rattle.calls_defined.specs.Same.{same};
+ghost use Rattle.calls_defined.specs.Fills.{low_byte};
+
+/// The low eight bits.
+pub fn low(x: u32) -> u8
+    ensures { result ≡ low_byte x }
+{
+    (x % 256) as u8
+}
+
+/// The word at a place; 0 past the end.
+pub fn word_of(s: &[u32], i: usize) -> u32
+    ensures { result ≡ slice_index s.now i }
+{
+    if i < s.len() { s[i] } else { 0 }
+}
+
+/// Sets a word, where there is one at i.
+pub fn put(out: &mut [u32], i: usize, w: u32)
+    ensures { out.new ≡ slice_set out.old i w }
+{
+    if i < out.len() {
+        out[i] = w;
+    }
+}
+
+/// Sets a byte, where there is one at i.
+pub fn put_byte(out: &mut [u8], i: usize, b: u8)
+    ensures { out.new ≡ slice_set out.old i b }
+{
+    if i < out.len() {
+        out[i] = b;
+    }
+}
+
+/// Copies a list to the front of a buffer, as far as it goes.
+pub fn fill(a: &[u32], buffer: &mut [u32])
+    ensures { buffer.new ≡ sets buffer.old 0 a.now }
+{
+    for i in 0..a.len() {
+        put(buffer, i, a[i]);
+    }
+}
+
+/// Each byte as a word, at the front of a buffer, as far as it goes.
+pub fn fill_words(a: &[u8], buffer: &mut [u32])
+    ensures { buffer.new ≡ sets buffer.old 0 a.now }
+{
+    for i in 0..a.len() {
+        put(buffer, i, a[i] as u32);
+    }
+}
+
+/// The low byte of each word, at the front of a buffer, as far as it goes.
+pub fn fill_low(a: &[u32], buffer: &mut [u8])
+    ensures { buffer.new ≡ sets buffer.old 0 (map low_byte a.now) }
+{
+    for i in 0..a.len() {
+        put_byte(buffer, i, low(a[i]));
+    }
+}
+
+/// Is each word from this place on the given one?
+pub fn all_from(a: &[u32], from: usize, word: u32) -> bool
+    ensures { result ≡ same (drop from a.now) word }
+{
+    for i in from..a.len() {
+        if a[i] != word {
+            return false;
+        }
+    }
+    true
+}

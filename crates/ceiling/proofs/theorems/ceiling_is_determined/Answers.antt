@@ -1,5 +1,0 @@
-use Rattle.ceiling.proofs.Determined.{ceiling-determined}
-use Rattle.ceiling.proofs.theorems.ceiling_is_determined.Goals as goal
-
-pub returns : goal.returns
-returns c = ceiling-determined

@@ -1,5 +1,0 @@
-use Rattle.ceiling.proofs.Determined.{ceiling-numbered}
-use Rattle.ceiling.proofs.theorems.ceiling_is_numbered.Goals as goal
-
-pub returns : goal.returns
-returns c = ceiling-numbered

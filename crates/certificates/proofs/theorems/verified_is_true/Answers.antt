@@ -1,5 +1,0 @@
-use Rattle.certificates.proofs.Truth.{verified-true}
-use Rattle.certificates.proofs.theorems.verified_is_true.Goals as goal
-
-pub returns : goal.returns
-returns c = λ pool table set certificate w. verified-true pool table set certificate w

@@ -1,5 +1,0 @@
-use Rattle.completeness.proofs.Completeness.{conflict-stays}
-use Rattle.completeness.proofs.conflict_stays.Goals as goal
-
-pub returns : goal.returns
-returns c = conflict-stays

@@ -1,5 +1,0 @@
-use Rattle.completeness.proofs.Completeness.{refused-then-none}
-use Rattle.completeness.proofs.refused_then_none.Goals as goal
-
-pub returns : goal.returns
-returns c = λ pool table set result work cs read dims records rounds e. refused-then-none pool table set result work cs read dims records rounds e

@@ -1,5 +1,0 @@
-use Rattle.completeness.proofs.Completeness.{wide-complete}
-use Rattle.completeness.proofs.wide_call_is_complete.Goals as goal
-
-pub returns : goal.returns
-returns c = wide-complete

@@ -1,5 +1,0 @@
-use Rattle.completeness.proofs.Completeness.{wider}
-use Rattle.completeness.proofs.wide_is_wider.Goals as goal
-
-pub returns : goal.returns
-returns g c = λ same d k h. wider same d k h

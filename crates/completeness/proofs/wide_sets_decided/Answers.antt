@@ -1,5 +1,0 @@
-use Rattle.completeness.proofs.Completeness.{wide-decided}
-use Rattle.completeness.proofs.wide_sets_decided.Goals as goal
-
-pub returns : goal.returns
-returns g c = λ ν held lawful tells cs given. wide-decided ν held lawful tells cs given

@@ -1,5 +1,0 @@
-use Rattle.confirming.proofs.Promise.{just-where}
-use Rattle.confirming.proofs.theorems.answers_just_where_both_do.Goals as goal
-
-pub returns : goal.returns
-returns c = just-where

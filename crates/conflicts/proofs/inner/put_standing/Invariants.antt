@@ -1,7 +1,0 @@
-use Rattle.types.specs.Sets.{alone}
-use Rattle.types.specs.Shapes.{cons_of}
-use Rattle.conflicts.specs.Loops.{Putting}
-use Rattle.conflicts.proofs.inner.put_standing.Given as goal
-
-abbrev pub invariant-standing : goal.invariant-standing
-invariant-standing l = Putting l.stands l.fn.out l.out l.place (alone (cons_of l.c-iterator)) l.fn.set.trees.0

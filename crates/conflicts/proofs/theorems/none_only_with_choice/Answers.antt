@@ -1,5 +1,0 @@
-use Rattle.conflicts.proofs.Worth.{only-with-choice}
-use Rattle.conflicts.proofs.theorems.none_only_with_choice.Goals as goal
-
-pub returns : goal.returns
-returns c = only-with-choice

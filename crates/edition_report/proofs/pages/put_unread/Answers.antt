@@ -1,0 +1,16 @@
+-- `put_unread` meets its contract: piece by piece.
+use Rattle.rules.specs.Reports.{findingText}
+use Rattle.text_spell.specs.Sinks.{cut, then}
+use Rattle.edition_report.proofs.pages.put_unread.Goals as goal
+
+pub returns-in_err-put_refused : goal.returns-in_err-put_refused
+unfolding findingText
+returns-in_err-put_refused g c = λ names cs new. cut _ _ c.from_residual.ensures.0 c.in_err-put_refused.ensures
+
+pub returns-in_err-put : goal.returns-in_err-put
+unfolding findingText
+returns-in_err-put g c = λ names cs new. then _ c.in_ok-put_refused.ensures (cut _ _ c.from_residual-in_err-put.ensures.0 c.in_err-put.ensures)
+
+pub returns : goal.returns
+unfolding findingText
+returns g c = λ names cs new. then _ c.in_ok-put_refused.ensures (then _ c.in_ok-put.ensures (rw c.line_in.ensures at c.show_line.ensures))

@@ -1,8 +1,0 @@
--- `elimination::grids::keeping` meets its contract.
-use mathlib.Core.Path.{refl}
-use Rattle.elimination.specs.Machine.{keepingOf}
-use Rattle.elimination.proofs.inner.grids.keeping.Goals as goal
-
-pub returns : goal.returns
-unfolding keepingOf
-returns c = let w = c.with_row-q in (w.result, (w.ensures.0, w.ensures.1, refl))

@@ -1,6 +1,0 @@
--- `elimination::grids::with_row` meets its contract.
-use Rattle.elimination.specs.Grids.{grid-set}
-use Rattle.elimination.proofs.inner.grids.with_row.Goals as goal
-
-pub returns : goal.returns
-returns c = grid-set c.args.g c.args.i c.args.r c.requires.wide_grid c.requires.wide

@@ -1,8 +1,0 @@
-use Rattle.rules.specs.Base.{bounded}
-use Rattle.rules.specs.Exponents.{sum}
-use Rattle.elimination.specs.Told.{row_in}
-use Rattle.elimination.specs.Doing.{Doing, pairUp}
-use Rattle.elimination.proofs.inner.rows.plus_row.Given as goal
-
-abbrev pub invariant-loop-j : goal.invariant-loop-j
-invariant-loop-j l = Doing (λ p. sum bounded p.0 p.1) (pairUp (row_in l.a) (row_in l.b)) l.j l.out

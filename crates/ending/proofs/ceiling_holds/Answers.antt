@@ -1,5 +1,0 @@
-use Rattle.ending.proofs.Ending.{call-ceiling}
-use Rattle.ending.proofs.ceiling_holds.Goals as goal
-
-pub returns : goal.returns
-returns c = call-ceiling

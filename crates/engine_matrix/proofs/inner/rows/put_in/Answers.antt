@@ -1,0 +1,33 @@
+-- `engine_matrix::rows::put_in` meets its contract.
+use mathlib.Core.Path.{ap, ◌∙◌, sym}
+use lib.ListN.{set}
+use Rattle.std.proofs.lemmas.Result.{err_from_is_err_and}
+use Rattle.rules.specs.Base.{Got, ◌>>=◌}
+use Rattle.rules.specs.Exponents.{Exp, nought}
+use Rattle.laws.specs.Ranges.{nought-good}
+use Rattle.rules.specs.Elimination.{Row, timesRow, plusRow, putInRow}
+use Rattle.engine_matrix.specs.Told.{row_in}
+use Rattle.engine_matrix.specs.Doing.{wide_at}
+use Rattle.engine_matrix.proofs.inner.rows.put_in.Goals as goal
+
+pub times_row-requires : goal.times_row-requires
+times_row-requires c =
+    record { wide = c.requires.value; power = rw c.power_at.ensures (wide_at c.args.r c.args.c c.requires.wide c.requires.column) }
+
+pub returns-in_err-m-clause-is : goal.returns-in_err-m-clause-is
+unfolding putInRow
+returns-in_err-m-clause-is c =
+    let p = err_from_is_err_and c.from_residual.result c.from_residual.ensures.1 in
+    let times = ap (λ (k : Exp). timesRow k (row_in c.args.w)) (sym c.power_at.ensures) ∙ sym c.in_err-m.ensures.is in
+    rw (p.1, p.2) (sym (ap (λ (m : Got Row). m >>= λ m. plusRow (set (row_in c.args.r) c.args.c nought) m) times))
+
+pub with_power-requires-clause-power : goal.with_power-requires-clause-power
+with_power-requires-clause-power c = nought-good
+
+pub returns-clause-is : goal.returns-clause-is
+unfolding putInRow
+returns-clause-is c =
+    let times = ap (λ (k : Exp). timesRow k (row_in c.args.w)) (sym c.power_at.ensures) ∙ sym c.in_ok-m.ensures.is in
+    c.plus_row.ensures.is
+    ∙ ap (λ (r : Row). plusRow r (row_in c.in_ok-m.m)) c.with_power.ensures.1
+    ∙ sym (ap (λ (m : Got Row). m >>= λ m. plusRow (set (row_in c.args.r) c.args.c nought) m) times)

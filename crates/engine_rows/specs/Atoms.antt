@@ -1,0 +1,308 @@
+-- Atoms of the code and of the trees, and rows with zeros past their columns.
+use Rattle.std.specs.Prelude.{◌≡◌, Bool, true, false, cond, eqb, length, take, drop, get_or, set, replicate}
+use Rattle.std.proofs.Math.Path.{refl}
+use Rattle.std.proofs.Common.{
+  ap,
+  ◌∙◌,
+  sym,
+  arith,
+  add-one,
+  eqb-true,
+  eq-eqb,
+  length-append,
+  drop_of_length-le,
+  length-take-le,
+  take-suc,
+  get_or-take,
+  get_or-append-add,
+}
+use mathlib.Core.List.{List, [], ◌∷◌, ◌++◌, append_assoc}
+use Prim.Native.Nat.{ℕ, zero, suc, ◌+◌, ◌-◌, ◌≤◌, ◌<◌}
+use Rattle.std.proofs.lemmas.List.{length-replicate, length-map, set_at}
+use Rattle.std.proofs.Math.ListN.{get_or-append}
+use Rattle.rules.specs.Base.{is_yes}
+use Rattle.rules.specs.Exponents.{Exp, frac, nought, goodExp}
+use Rattle.rules.specs.Writing.{twos, signed}
+use Rattle.rules.specs.Names.{Bytes, numbered}
+use Rattle.rules.specs.Trees as tree
+use Rattle.rules.specs.Trees.{Factor, ◌↑◌, Product, Names}
+use Rattle.laws.specs.Ranges.{nought-good}
+use Rattle.laws.specs.Lists.{Every, is-yes, is-no, true≢false}
+use Rattle.records.specs.Views.{viewAt}
+use Rattle.records.specs.Holds.{openOf, viewOpen, atomOf, viewAtom, HoldsFactor, HoldsFactors}
+use Rattle.records.specs.declared.View.TheVariants as view
+use Rattle.types.specs.Held.{holds_at}
+use Rattle.records.specs.declared.Open.{Open}
+use Rattle.records.specs.declared.Open.TheVariants.{Var, Quant, Par}
+use Rattle.records.specs.declared.Atom.{Atom}
+use Rattle.records.specs.declared.Atom.TheVariants.{Free, Base}
+use Rattle.engine_matrix.specs.declared.inner.rows.Row.{Row}
+use Rattle.engine_matrix.specs.declared.inner.grids.Columns.{Columns}
+use Rattle.engine_matrix.specs.Machine.{atomsFrom, namesIn, colsIn, Laid, names-long}
+use Rattle.rules.specs.Elimination as Rows
+use Rattle.rules.specs.Elimination.{atomNames, powerIn, row_of}
+use Rattle.engine_matrix.specs.Told.{row_in, Wide}
+
+-- ══ Are two atoms the same? ══
+
+abbrev pub openRank : Open → ℕ
+openRank (Var x) = 0
+openRank (Quant i) = 1
+openRank (Par x) = 2
+
+abbrev pub openNumber : Open → ℕ
+openNumber (Var x) = x
+openNumber (Quant i) = i
+openNumber (Par x) = x
+
+abbrev pub atomRank : Atom → ℕ
+atomRank (Free o) = openRank o
+atomRank (Base x) = 3
+
+abbrev pub atomNumber : Atom → ℕ
+atomNumber (Free o) = openNumber o
+atomNumber (Base x) = x
+
+unfoldable pub sameAtom : Atom → Atom → Bool
+sameAtom a b = cond (eqb (atomRank a) (atomRank b)) (eqb (atomNumber a) (atomNumber b)) false
+
+open-same : (o p : Open) → openRank o ≡ openRank p → openNumber o ≡ openNumber p → openOf o ≡ openOf p
+open-same (Var x) (Var y) r e = ap tree.var e
+open-same (Var x) (Quant j) r e = absurd (omega arith)
+open-same (Var x) (Par y) r e = absurd (omega arith)
+open-same (Quant i) (Var y) r e = absurd (omega arith)
+open-same (Quant i) (Quant j) r e = ap tree.quant e
+open-same (Quant i) (Par y) r e = absurd (omega arith)
+open-same (Par x) (Var y) r e = absurd (omega arith)
+open-same (Par x) (Quant j) r e = absurd (omega arith)
+open-same (Par x) (Par y) r e = ap tree.par e
+
+open-low : (o : Open) → openRank o < 3
+open-low (Var x) = omega arith
+open-low (Quant i) = omega arith
+open-low (Par x) = omega arith
+
+ranks-same : (a b : Atom) → atomRank a ≡ atomRank b → atomNumber a ≡ atomNumber b → atomOf a ≡ atomOf b
+ranks-same (Free o) (Free p) r e = ap tree.free (open-same o p r e)
+ranks-same (Free o) (Base y) r e = absurd (omega (arith, open-low o))
+ranks-same (Base x) (Free p) r e = absurd (omega (arith, open-low p))
+ranks-same (Base x) (Base y) r e = ap tree.base e
+
+-- and back
+openRanked : tree.Open ℕ → ℕ × ℕ
+openRanked (tree.var x) = (0, x)
+openRanked (tree.quant i) = (1, i)
+openRanked (tree.par x) = (2, x)
+
+ranked : tree.Atom ℕ → ℕ × ℕ
+ranked (tree.free o) = openRanked o
+ranked (tree.base x) = (3, x)
+
+ranked-is : (a : Atom) → ranked (atomOf a) ≡ (atomRank a, atomNumber a)
+unfolding ranked openRanked
+ranked-is (Free (Var x)) = refl
+ranked-is (Free (Quant i)) = refl
+ranked-is (Free (Par x)) = refl
+ranked-is (Base x) = refl
+
+pub atom-same : (a b : Atom) → sameAtom a b ≡ true → atomOf a ≡ atomOf b
+unfolding sameAtom
+atom-same a b e = go (eqb (atomRank a) (atomRank b)) refl e
+  where
+    go : (t : Bool) → eqb (atomRank a) (atomRank b) ≡ t → cond t (eqb (atomNumber a) (atomNumber b)) false ≡ true → atomOf a ≡ atomOf b
+    go true i h = ranks-same a b (eqb-true _ _ i) (eqb-true _ _ h)
+    go false i h = cc
+
+pub atom-other : (a b : Atom) → sameAtom a b ≡ false → atomOf a ≡ atomOf b → ⊥
+unfolding sameAtom
+atom-other a b e i =
+    let p : ◌≡◌ {A = ℕ × ℕ} (atomRank a, atomNumber a) (atomRank b, atomNumber b) = sym (ranked-is a) ∙ ap ranked i ∙ ranked-is b in
+    true≢false (sym (rw (
+      eq-eqb (atomRank a) (atomRank b) (ap (λ (q : ℕ × ℕ). q.0) p),
+      eq-eqb (atomNumber a) (atomNumber b) (ap (λ (q : ℕ × ℕ). q.1) p),
+    ) refl) ∙ e)
+
+-- ══ Held products, and their rows ══
+
+abbrev pub powerOf : Factor ℕ → Exp
+powerOf (a ↑ e) = e
+
+pub record HeldGood (s : List ℕ) (at n : ℕ) (p : Product ℕ) : Type 0 where
+  pub held : HoldsFactors s p at
+  pub long : length p ≡ n
+  pub good : Every (λ f. goodExp (powerOf f) ≡ true) p
+
+-- these powers, and zeros up to 48
+pub record RowIs (r : Row) (l : Rows.Row) : Type 0 where
+  pub wide : Wide r
+  pub is : row_in r ≡ l ++ replicate (48 - length l) nought
+
+abbrev pub atomIn : Factor ℕ → tree.Atom ℕ
+atomIn (a ↑ e) = a
+
+open-back : (o : tree.Open ℕ) → openOf (viewOpen o) ≡ o
+open-back (tree.var x) = refl
+open-back (tree.quant i) = refl
+open-back (tree.par x) = refl
+
+atom-back : (a : tree.Atom ℕ) → atomOf (viewAtom a) ≡ a
+atom-back (tree.free o) = ap tree.free (open-back o)
+atom-back (tree.base x) = refl
+
+-- ══ The power of an atom, factor by factor ══
+
+power-step : (names : List Bytes) (f : Factor ℕ) (q : Product ℕ) (a : tree.Atom ℕ) → (a ≡ atomIn f → powerIn (numbered names) (f ∷ q) a ≡ powerOf f)
+    × ((a ≡ atomIn f → ⊥) → powerIn (numbered names) (f ∷ q) a ≡ powerIn (numbered names) q a)
+unfolding powerIn
+power-step names (c ↑ e) q a = (
+  λ i. rw (is-yes ((atomNames (numbered names)).same a c) i, powerIn) refl,
+  λ i. rw (is-no ((atomNames (numbered names)).same a c) i, powerIn) refl,
+)
+
+module _ (names : List Bytes) (s : List ℕ) (p : Product ℕ) (at i : ℕ) (a b : Atom) (num den : ℕ) (h : HoldsFactors s p at) (l : i < length p)
+    (v : viewAt s (at + i) ≡ view.Factor b num den) where
+  -- the factor at this place
+  here : (f : Factor ℕ) → HoldsFactor s f (at + i) → (atomOf b ≡ atomIn f) × (frac (signed num) den ≡ powerOf f)
+  here (c ↑ frac n d) k =
+      let z : view.Factor b num den ≡ view.Factor (viewAtom c) (twos n) d = sym v ∙ k.0 in
+      let x : b ≡ viewAtom c = cc in
+      let y : num ≡ twos n = cc in
+      let w : den ≡ d = cc in
+      (ap atomOf x ∙ atom-back c, rw (y, w, k.1) refl)
+
+  pub power-met : sameAtom a b ≡ true → powerIn (numbered names) (drop i p) (atomOf a) ≡ frac (signed num) den
+  power-met e =
+      let w = holds_at s p at i h l in
+      let k = here w.factor w.holds in
+      rw w.rest ((power-step names w.factor (drop (i + 1) p) (atomOf a)).0 (atom-same a b e ∙ k.0) ∙ sym k.1)
+
+  pub power-passed : sameAtom a b ≡ false → powerIn (numbered names) (drop i p) (atomOf a) ≡ powerIn (numbered names) (drop (i + 1) p) (atomOf a)
+  power-passed e =
+      let w = holds_at s p at i h l in
+      let k = here w.factor w.holds in
+      rw w.rest ((power-step names w.factor (drop (i + 1) p) (atomOf a)).1 (λ j. atom-other a b e (j ∙ sym k.0)))
+
+pub power-none : (names : List Bytes) (p : Product ℕ) (i : ℕ) (a : tree.Atom ℕ) → length p ≤ i → powerIn (numbered names) (drop i p) a ≡ nought
+unfolding powerIn
+power-none names p i a h = rw (drop_of_length-le p {i = i} h) refl
+
+-- ══ The atom of a column ══
+
+module _ (d : tree.Atom ℕ) where
+  pub column-variable : (v p : ℕ) (xs : List ℕ) (j : ℕ) → j < length xs → j < v → get_or (atomsFrom v p xs) j d ≡ tree.free (tree.var (get_or xs j 0))
+  unfolding atomsFrom
+  column-variable v p [] j h k = absurd (omega arith)
+  column-variable zero p (x ∷ xs) j h k = absurd (omega arith)
+  column-variable (suc v) p (x ∷ xs) zero h k = refl
+  column-variable (suc v) p (x ∷ xs) (suc j) h k = column-variable v p xs j (omega arith) (omega arith)
+
+  pub column-base : (v p : ℕ) (xs : List ℕ) (j : ℕ) → j < length xs → v + p ≤ j → get_or (atomsFrom v p xs) j d ≡ tree.base (get_or xs j 0)
+  unfolding atomsFrom
+  column-base v p [] j h k = absurd (omega arith)
+  column-base zero zero (x ∷ xs) zero h k = refl
+  column-base zero zero (x ∷ xs) (suc j) h k = column-base zero zero xs j (omega arith) (omega arith)
+  column-base zero (suc p) (x ∷ xs) zero h k = absurd (omega arith)
+  column-base zero (suc p) (x ∷ xs) (suc j) h k = column-base zero p xs j (omega arith) (omega arith)
+  column-base (suc v) p (x ∷ xs) zero h k = absurd (omega arith)
+  column-base (suc v) p (x ∷ xs) (suc j) h k = column-base v p xs j (omega arith) (omega arith)
+
+  pub column-parameter : (v p : ℕ) (xs : List ℕ) (j : ℕ) → j < length xs → v ≤ j → j < v + p
+      → get_or (atomsFrom v p xs) j d ≡ tree.free (tree.par (get_or xs j 0))
+  unfolding atomsFrom
+  column-parameter v p [] j h k l = absurd (omega arith)
+  column-parameter zero zero (x ∷ xs) j h k l = absurd (omega arith)
+  column-parameter zero (suc p) (x ∷ xs) zero h k l = refl
+  column-parameter zero (suc p) (x ∷ xs) (suc j) h k l = column-parameter zero p xs j (omega arith) (omega arith) (omega arith)
+  column-parameter (suc v) p (x ∷ xs) zero h k l = absurd (omega arith)
+  column-parameter (suc v) p (x ∷ xs) (suc j) h k l = column-parameter v p xs j (omega arith) (omega arith) (omega arith)
+
+-- the name of a column, by its kind
+module _ (k : Columns) (j : ℕ) (l : Laid k) where
+  abbrev A : List ℕ
+  A = take k.variables k.vars
+
+  abbrev B : List ℕ
+  B = take k.parameters k.pars
+
+  abbrev C : List ℕ
+  C = take k.dimensions k.bases
+
+  long-a : length A ≡ k.variables
+  long-a = length-take-le k.variables k.vars (omega (arith, l.vars-long, l.few-variables))
+
+  long-b : length B ≡ k.parameters
+  long-b = length-take-le k.parameters k.pars (omega (arith, l.pars-long, l.few-others))
+
+  pub parameter-name : (i : ℕ) → j ≡ k.variables + i → i < k.parameters → get_or (namesIn k) j 0 ≡ get_or k.pars i 0
+  parameter-name i e h =
+      ap (λ (n : ℕ). get_or ((A ++ B) ++ C) n 0) e
+      ∙ ap (λ (xs : List ℕ). get_or xs (k.variables + i) 0) (append_assoc A B C)
+      ∙ ap (λ (n : ℕ). get_or (A ++ (B ++ C)) (n + i) 0) (sym long-a)
+      ∙ get_or-append-add A (B ++ C) i 0
+      ∙ get_or-append B C 0 i (omega (arith, long-b))
+      ∙ get_or-take k.parameters k.pars i 0 h
+
+  pub base-name : (i : ℕ) → j ≡ k.variables + k.parameters + i → i < k.dimensions → get_or (namesIn k) j 0 ≡ get_or k.bases i 0
+  base-name i e h =
+      let n : length (A ++ B) ≡ k.variables + k.parameters = omega (arith, length-append A B, long-a, long-b) in
+      ap (λ (n : ℕ). get_or ((A ++ B) ++ C) n 0) e
+      ∙ ap (λ (n : ℕ). get_or ((A ++ B) ++ C) (n + i) 0) (sym n)
+      ∙ get_or-append-add (A ++ B) C i 0
+      ∙ get_or-take k.dimensions k.bases i 0 h
+
+pub columns-long : (v p : ℕ) (xs : List ℕ) → length (atomsFrom v p xs) ≡ length xs
+unfolding atomsFrom
+columns-long v p [] = refl
+columns-long zero zero (x ∷ xs) = ap suc (columns-long zero zero xs)
+columns-long zero (suc p) (x ∷ xs) = ap suc (columns-long zero p xs)
+columns-long (suc v) p (x ∷ xs) = ap suc (columns-long v p xs)
+
+pub cols-long : (k : Columns) → Laid k → length (colsIn k) ≡ k.len
+unfolding colsIn
+cols-long k l = columns-long k.variables k.parameters (namesIn k) ∙ names-long k l
+
+-- ══ A row, column by column ══
+
+zeros-good : (n : ℕ) → Every (λ e. goodExp e ≡ true) (replicate n nought)
+zeros-good zero = tt
+zeros-good (suc n) = (nought-good, zeros-good n)
+
+pub no-columns : (r : Row) → row_in r ≡ replicate 48 nought → RowIs r []
+no-columns r e = record { wide = record { long = ap length e ∙ length-replicate 48 nought; good = rw e (zeros-good 48) }; is = e }
+
+-- one more column
+pub one_more : (r r' : Row) (l : Rows.Row) (j : ℕ) (e : Exp) → j < length l → length l ≤ 48 → RowIs r (take j l) → e ≡ get_or l j nought → Wide r'
+    → row_in r' ≡ set (row_in r) j e → RowIs r' (take (j + 1) l)
+one_more r r' l j e h m g i w k =
+    let n : length (take j l) ≡ j = length-take-le j l (omega arith) in
+    let t : take (j + 1) l ≡ take j l ++ (get_or l j nought ∷ []) = rw (add-one j) (take-suc l j nought h) in
+    let n' : length (take (j + 1) l) ≡ j + 1 = length-take-le (j + 1) l (omega arith) in
+    let z : 48 - j ≡ suc (48 - (j + 1)) = omega arith in
+    record {
+      wide = w;
+      is = k ∙ rw (g.is, n, n', z, t, i)
+          (set_at (take j l) nought (replicate (48 - (j + 1)) nought) (get_or l j nought) j n
+          ∙ sym (append_assoc (take j l) (get_or l j nought ∷ []) (replicate (48 - (j + 1)) nought)));
+    }
+
+pub row-long : (names : List Bytes) (cols : List (tree.Atom ℕ)) (p : Product ℕ) → length (row_of (numbered names) cols p) ≡ length cols
+unfolding row_of
+row-long names cols p = length-map cols (powerIn (numbered names) p)
+
+pub row_at : (names : List Bytes) (cols : List (tree.Atom ℕ)) (p : Product ℕ) (j : ℕ) (d : tree.Atom ℕ) → j < length cols
+    → powerIn (numbered names) p (get_or cols j d) ≡ get_or (row_of (numbered names) cols p) j nought
+unfolding row_of
+row_at names [] p j d h = absurd (omega arith)
+row_at names (a ∷ cols) p zero d h = refl
+row_at names (a ∷ cols) p (suc j) d h = row_at names cols p j d (omega arith)
+
+pub power-good : (names : List Bytes) (p : Product ℕ) (a : tree.Atom ℕ) → Every (λ f. goodExp (powerOf f) ≡ true) p
+    → goodExp (powerIn (numbered names) p a) ≡ true
+unfolding powerIn
+power-good names [] a h = nought-good
+power-good names (b ↑ e ∷ p) a h = go (is_yes ((atomNames (numbered names)).same a b)) refl (power-good names p a h.1)
+  where
+    go : (t : Bool) → is_yes ((atomNames (numbered names)).same a b) ≡ t → goodExp (powerIn (numbered names) p a) ≡ true
+        → goodExp (powerIn (numbered names) (b ↑ e ∷ p) a) ≡ true
+    go true i g = rw (i, powerIn) h.0
+    go false i g = rw (i, powerIn) g

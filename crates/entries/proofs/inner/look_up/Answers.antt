@@ -1,1 +1,0 @@
-use Rattle.entries.proofs.inner.look_up.Goals as goal

@@ -1,0 +1,83 @@
+-- `inner::judge_rest` meets its contract.
+use mathlib.Core.Path.{subst, ◌∙◌}
+use native.Mathlib.Omega.{arith}
+use Rattle.rules.specs.Names.{table_of, names_of}
+use Rattle.judge.specs.Entry.{BoundsGiven}
+use Rattle.judge.specs.Proposed.{put, tabled}
+use Rattle.judge.specs.Rest.{are-bound, no-entries, small, set_there, no-bounds, both, not-both}
+use Rattle.judge.proofs.inner.judge_rest.Goals as goal
+
+pub returns-then-not-fill : goal.returns-then-not-fill
+returns-then-not-fill c = λ cs es n h. no-entries c.args.names.pool.now c.args.names.table.now c.args.set.now c.args.types.now cs es n h
+    c.requires.few c.fill.ensures c.args.bounds.now (c.if-not-fill.true)
+
+pub returns-then-not-bounds_given : goal.returns-then-not-bounds_given
+returns-then-not-bounds_given c = λ cs es n h.
+    let (bs, b) = are-bound c.args.names.pool.now c.args.names.table.now c.args.set.now c.args.types.now cs es n h c.requires.few c.fill.ensures
+    (c.if-not-fill.false) in
+    no-bounds c.args.names.pool.now c.args.names.table.now c.args.set.now c.args.types.now cs es n (record { word = λ i. (c.type_inv.set i).fits })
+    c.args.bounds.now bs b.given (subst (BoundsGiven c.args.names.pool.now c.args.names.table.now c.args.bounds.now c.bounds_given.new.m)
+    (c.if-not-bounds_given.true) c.bounds_given.ensures)
+
+pub apart-requires : goal.apart-requires
+apart-requires c =
+    let (cs, n) = c.requires.entered in
+    let (es, h) = c.requires.slotted in
+    let (bs, b) = are-bound c.args.names.pool.now c.args.names.table.now c.args.set.now c.args.types.now cs es n h c.requires.few c.fill.ensures
+    (c.if-not-fill.false) in (
+      bs,
+      (
+        names_of (table_of c.args.names.pool.now c.args.names.table.now),
+        tabled c.args.names.pool.now c.args.names.table.now c.args.types.now _ es bs b n.good n.types-short c.fill.auto.places,
+      ),
+    )
+
+pub returns-then-not-apart : goal.returns-then-not-apart
+returns-then-not-apart c = λ cs es n h.
+    let (bs, b) = are-bound c.args.names.pool.now c.args.names.table.now c.args.set.now c.args.types.now cs es n h c.requires.few c.fill.ensures
+    (c.if-not-fill.false) in
+    let (xs, (r, m)) = subst (BoundsGiven c.args.names.pool.now c.args.names.table.now c.args.bounds.now c.bounds_given.new.m)
+    (c.if-not-bounds_given.false) c.bounds_given.ensures in
+    both c.args.names.pool.now c.args.names.table.now c.args.set.now c.args.types.now cs es n (record { word = λ i. (c.type_inv.set i).fits })
+    c.args.bounds.now bs b.given xs r
+    (c.apart.ensures bs (names_of (table_of c.args.names.pool.now c.args.names.table.now))
+    (tabled c.args.names.pool.now c.args.names.table.now c.args.types.now _ es bs b n.good n.types-short c.fill.auto.places)
+    (small c.args.names.pool.now c.args.names.table.now c.args.set.now c.args.types.now cs es n (record { word = λ i. (c.type_inv.set i).fits })
+    bs b.good)) (c.if-not-apart.true)
+
+pub try_all-requires : goal.try_all-requires
+try_all-requires c =
+    let (cs, n) = c.requires.entered in
+    let (es, h) = c.requires.slotted in
+    let (bs, b) = are-bound c.args.names.pool.now c.args.names.table.now c.args.set.now c.args.types.now cs es n h c.requires.few c.fill.ensures
+    (c.if-not-fill.false) in
+    let (xs, (r, m)) = subst (BoundsGiven c.args.names.pool.now c.args.names.table.now c.args.bounds.now c.bounds_given.new.m)
+    (c.if-not-bounds_given.false) c.bounds_given.ensures in
+    record {
+      there = (
+        cs,
+        set_there c.args.names.pool.now c.args.names.table.now c.args.set.now c.args.types.now cs es n
+            (record { word = λ i. (c.type_inv.set i).fits }),
+      );
+      put = (bs, put c.args.names.pool.now c.args.names.table.now c.args.types.now _ es bs b n.good n.types-short c.fill.auto.places);
+      marked =
+          (xs, m);
+      set_short = n.short;
+      work_long = omega (arith, c.requires.work_long);
+    }
+
+pub returns : goal.returns
+returns c = λ cs es n h.
+    let (bs, b) = are-bound c.args.names.pool.now c.args.names.table.now c.args.set.now c.args.types.now cs es n h c.requires.few c.fill.ensures
+    (c.if-not-fill.false) in
+    let (xs, (r, m)) = subst (BoundsGiven c.args.names.pool.now c.args.names.table.now c.args.bounds.now c.bounds_given.new.m)
+    (c.if-not-bounds_given.false) c.bounds_given.ensures in
+    c.try_all.ensures cs bs xs (set_there c.args.names.pool.now c.args.names.table.now c.args.set.now c.args.types.now cs es n
+    (record { word = λ i. (c.type_inv.set i).fits }))
+    (put c.args.names.pool.now c.args.names.table.now c.args.types.now _ es bs b n.good n.types-short c.fill.auto.places) m
+    ∙ not-both c.args.names.pool.now c.args.names.table.now c.args.set.now c.args.types.now cs es n (record { word = λ i. (c.type_inv.set i).fits })
+    c.args.bounds.now bs b.given xs r
+    (c.apart.ensures bs (names_of (table_of c.args.names.pool.now c.args.names.table.now))
+    (tabled c.args.names.pool.now c.args.names.table.now c.args.types.now _ es bs b n.good n.types-short c.fill.auto.places)
+    (small c.args.names.pool.now c.args.names.table.now c.args.set.now c.args.types.now cs es n (record { word = λ i. (c.type_inv.set i).fits })
+    bs b.good)) (c.if-not-apart.false)

@@ -1,0 +1,104 @@
+-- Entries that were placed, as the walks and the checks ask for them.
+use Rattle.std.specs.Prelude.{◌≡◌, Bool, ℕ, ◌+◌, ◌≤◌, ◌<◌, eqb, length, get_or}
+use Rattle.std.proofs.Math.Path.{refl}
+use Rattle.std.proofs.Common.{ap}
+use Rattle.std.proofs.Math.Bool.{true, false, cond, and-eq-true_iff}
+use mathlib.Core.List.{List, [], ◌∷◌, map}
+use Rattle.std.proofs.Math.Option.{Option, none, some}
+use Rattle.std.proofs.Math.Decide.{dec_lt}
+use native.Mathlib.Omega.{arith}
+use borrow.Author.Tests.{ltb-true, ltb-false, ne_eqb}
+use Rattle.std.proofs.Math.Dec.{ltb}
+use Rattle.std.proofs.Math.ListN.{get_or-eq_default}
+use Rattle.rules.specs.Base.{all, any}
+use Rattle.rules.specs.Calls.{Entry}
+use Rattle.rules.specs.Names.{table_of, names_of, is_held}
+use Rattle.rules.specs.Replacing.{find, bindings}
+use Rattle.rules.specs.Trees.{Open, var, quant, par, Ty, Binding, ◌≔◌, size}
+use Rattle.rules.specs.WellFormed.{goodTy, goodBinding}
+use Rattle.laws.specs.NameTable.{Good, good-laid}
+use Rattle.laws.specs.Weaker.{ty-weaker}
+use Rattle.records.specs.ByView.{ends-in}
+use Rattle.records.specs.Good as records
+use Rattle.records.specs.Good.{numbers, holding}
+use Rattle.judge_entries.specs.Tables as tables
+use Rattle.judge_entries.specs.Answers.{Bound}
+use Rattle.replace.specs.Places.{SaysAt, word_of}
+use Rattle.replace.specs.Runs.{looked-good}
+use Rattle.judge_proposals.specs.Mixed.{variable, Table}
+use Rattle.judge_proposals.specs.Order.{find-no}
+use Rattle.judge_trials.specs.Trials.{Put}
+
+module _ (pool table types places : List ℕ) (es : List Entry) (bs : List (Binding ℕ)) (b : Bound pool table es types places bs)
+    (good : Good pool table) (short : length types ≤ 8192) (long : length places ≡ 256) where
+  abbrev look : Open ℕ → Option (Ty ℕ)
+  look = bindings (numbers pool table) bs
+
+  -- only held names are bound
+  held_below : (cs : List (Binding ℕ)) (x : ℕ) → all (records.goodBinding pool table 0) cs ≡ true → 256 ≤ x → any (eqb x) (map variable cs) ≡ false
+  unfolding any all goodBinding table_of
+  held_below [] x g le = refl
+  held_below (y ≔ t ∷ cs) x g le =
+      let r = (and-eq-true_iff (records.goodBinding pool table 0 (y ≔ t)) (all (records.goodBinding pool table 0) cs)).0 g in
+      let k = (and-eq-true_iff (is_held (table_of pool table) y) (goodTy (numbers pool table) (holding pool table) 0 t)).0 r.0 in
+      let l : x ≡ y → ⊥ = λ e. absurd (omega (arith, e, ltb-true y (get_or table 0 0) k.0, (good-laid good).few)) in
+      rw (ne_eqb x y l) (held_below cs x r.1 le)
+
+  below : (x : ℕ) (t : Ty ℕ) → find (numbers pool table) bs x ≡ some t → x < 256
+  below x t e = go (dec_lt x 256)
+    where
+      go : Dec (x < 256) → x < 256
+      go (yes l) = l
+      go (no l) = let f = find-no (names_of (table_of pool table)) x bs (held_below bs x b.good (omega arith))
+          in absurd (let z : ◌≡◌ {A = ℕ} 0 1 = cc in omega arith)
+
+  same_word : (w : ℕ) (m : Option (Ty ℕ)) → tables.SaysAt pool table types w m → SaysAt types w m
+  same_word w none h = h
+  same_word w (some t) h = record { at = h.at; word = h.word; held = h.held }
+
+  says : (x : ℕ) → x < 256 → SaysAt types (get_or places x 0) (find (numbers pool table) bs x)
+  says x l = same_word (get_or places x 0) (find (numbers pool table) bs x) (b.tabled.says x l)
+
+  past : (k : ℕ) → 256 ≤ k → get_or places k 0 ≡ 0
+  past k le = get_or-eq_default places 0 (omega (arith, long))
+
+  unbound : (x : ℕ) → 256 ≤ x → (m : Option (Ty ℕ)) → find (numbers pool table) bs x ≡ m → SaysAt types 0 m
+  unbound x le none e = refl
+  unbound x le (some t) e = absurd (omega (arith, below x t e))
+
+  word : (o : Open ℕ) → SaysAt types (word_of places o) (look o)
+  unfolding bindings
+  word (var x) = go (ltb x 256) refl
+    where
+      go : (c : Bool) → ltb x 256 ≡ c → SaysAt types (cond c (get_or places (0 + x) 0) 0) (find (numbers pool table) bs x)
+      go true q = let z : 0 + x ≡ x = omega arith in rw z (says x (ltb-true x 256 q))
+      go false q = unbound x (ltb-false x 256 q) (find (numbers pool table) bs x) refl
+  word (quant i) = past (512 + i) (omega arith)
+  word (par x) = go (ltb x 256)
+    where
+      go : (c : Bool) → cond c (get_or places (256 + x) 0) 0 ≡ 0
+      go true = past (256 + x) (omega arith)
+      go false = refl
+
+  few : (o : Open ℕ) (t : Ty ℕ) → look o ≡ some t → size t ≤ 2048
+  few o t e = go (look o) (word o) e
+    where
+      go : (m : Option (Ty ℕ)) → SaysAt types (word_of places o) m → m ≡ some t → size t ≤ 2048
+      go none h q = absurd (let z : ◌≡◌ {A = ℕ} 0 1 = cc in omega arith)
+      go (some u) h q = let z : u ≡ t = cc in let k = ends-in types u h.at h.held in omega (arith, ap size z)
+
+  plain : (o : Open ℕ) (t : Ty ℕ) → look o ≡ some t → goodTy (numbers pool table) (holding pool table) 0 t ≡ true
+  plain o t e = looked-good (numbers pool table) (holding pool table) 0 bs o t b.good e
+
+  pub put : Put pool table places types bs
+  put = record {
+    lent = record {
+      tabled = record { says = word; few = few };
+      good = λ o t e. ty-weaker (numbers pool table) (holding pool table) 0 4_294_967_296 (omega arith) t (plain o t e);
+      near = omega arith;
+    };
+    good = plain;
+  }
+
+  pub tabled : Table types places (names_of (table_of pool table)) bs
+  tabled = record { says = says; once = b.once; below = below }

@@ -1,0 +1,181 @@
+// The steps of the judge past the slice of entries, which comes as slots by variable.
+ghost use Rattle.std.specs.Prelude.{◌≡◌, false, List, ℕ, ◌≤◌, length, replicate};
+ghost use Rattle.rules.specs.Base.{got, need};
+ghost use Rattle.rules.specs.Calls.{Entry, judgedSet, judgeCall};
+ghost use Rattle.rules.specs.Names.{table_of, lentTable};
+ghost use Rattle.rules.specs.Refusals.{told};
+ghost use Rattle.rules.specs.Trees.{Con, Binding};
+ghost use Rattle.judge_entries.specs.Slotted.{Slotted};
+ghost use Rattle.judge_trials.specs.Trials.{SetThere};
+ghost use Rattle.judge.specs.Told.{judgedAs};
+ghost use Rattle.judge.specs.Found.{FoundThere, FoundJudged};
+ghost use Rattle.judge.specs.Entry.{lentAll, entered, Entered, BoundsGiven, judgedRest};
+
+use judge_entries::inner::{Slots, fill};
+use records_buffers::inner::clear;
+use names::tables::NameTable;
+use replace_table::inner::fill as note_all;
+use judge_proposals::inner::bounds::{mark_all, rise};
+use judge_proposals::inner::mixed::apart;
+use records::inner::bounds_good;
+use records::is_set;
+use rules::{NAMES, POOL_BYTES, RECORD_WORDS, RECORDS, Refusal, TABLE_WORDS, WORK_WORDS};
+use judge_trials::inner::{first_failing, try_all};
+
+// Is everything that is lent long enough?
+fn lent(pool: &[u8], table: &[u32], work: &[u32]) -> bool
+    ensures { need result 10 ≡ lentAll pool.now table.now work.now }
+{
+    if pool.len() < POOL_BYTES || table.len() < TABLE_WORDS {
+        return false;
+    }
+    WORK_WORDS <= work.len()
+}
+
+// Is no list too long (8), and is the set well formed (1)?
+fn enter(
+    pool: &[u8],
+    table: &[u32],
+    set: &[u32],
+    types: &[u32],
+    bounds: &[u32],
+    count: usize,
+) -> Result<(), Refusal>
+    requires { lentTable pool.now table.now ≡ got tt }
+    ensures { (es : List Entry) → count ≡ length es →
+        told result ≡ entered pool.now table.now set.now es types.now bounds.now }
+{
+    if RECORD_WORDS < types.len() || RECORD_WORDS < bounds.len() {
+        return Err(Refusal::TooLarge);
+    }
+    if RECORDS < count {
+        return Err(Refusal::TooLarge);
+    }
+    is_set(pool, table, set)
+}
+
+// Are these bounds with names that rise? Then they are marked.
+fn bounds_given(names: NameTable, bounds: &[u32], m: &mut [bool; NAMES]) -> bool
+    requires { m.old ≡ replicate 256 false }
+    ensures { BoundsGiven names.entry.pool.now names.entry.table.now bounds.now m.new result }
+{
+    let good = bounds_good(names, 0, bounds, 0);
+    if bounds.len() % 4 != 0 {
+        return false;
+    }
+    if !good {
+        return false;
+    }
+    if !rise(names, bounds) {
+        return false;
+    }
+    mark_all(bounds, m);
+    true
+}
+
+// Past the set: entries and bounds (1), names that are both (4), then constraint by constraint.
+fn judge_rest(
+    names: NameTable,
+    set: &[u32],
+    types: &[u32],
+    bounds: &[u32],
+    slots: Slots,
+    work: &mut [u32],
+) -> Result<bool, Refusal>
+    requires entered { (cs : List (Con ℕ)) × Entered names.pool.now names.table.now set.now types.now cs }
+    requires slotted { (es : List Entry) × Slotted es slots }
+    requires few { slots.count ≤ 2048 }
+    requires work_long { 16384 ≤ length work.old }
+    ensures { (cs : List (Con ℕ)) (es : List Entry) → Entered names.entry.pool.now names.entry.table.now set.now types.now cs → Slotted es slots →
+        told result ≡ judgedRest names.entry.pool.now names.entry.table.now es types.now bounds.now cs }
+{
+    let mut places = [0u32; NAMES];
+    if !fill(names, types, slots, &mut places) {
+        return Err(Refusal::Malformed);
+    }
+    let mut m = [false; NAMES];
+    if !bounds_given(names, bounds, &mut m) {
+        return Err(Refusal::Malformed);
+    }
+    if !apart(set, types, &places) {
+        return Err(Refusal::Mixed);
+    }
+    try_all(names, set, &places, types, &m, work)
+}
+
+// All that the judge does past the check of 10, except for clearing the work buffer.
+fn judge_set(
+    pool: &[u8],
+    table: &[u32],
+    set: &[u32],
+    types: &[u32],
+    bounds: &[u32],
+    slots: Slots,
+    work: &mut [u32],
+) -> Result<bool, Refusal>
+    requires table_lent { lentTable pool.now table.now ≡ got tt }
+    requires slotted { (es : List Entry) × Slotted es slots }
+    requires work_long { 16384 ≤ length work.old }
+    ensures { (es : List Entry) → Slotted es slots →
+        told result ≡ judgedSet (table_of pool.now table.now) set.now es types.now bounds.now }
+{
+    enter(pool, table, set, types, bounds, slots.count)?;
+    let names = NameTable { pool, table };
+    judge_rest(names, set, types, bounds, slots, work)
+}
+
+// The whole call. Of more than 2,048 entries it is not asked whether a name repeats.
+pub fn judge_slots(
+    pool: &[u8],
+    table: &[u32],
+    set: &[u32],
+    types: &[u32],
+    bounds: &[u32],
+    slots: Slots,
+    work: &mut [u32],
+) -> Result<bool, Refusal>
+    requires { (es : List Entry) × Slotted es slots }
+    ensures { (es : List Entry) → Slotted es slots →
+        judgedAs result work.new ≡ judgeCall pool.now table.now set.now es types.now bounds.now work.old }
+{
+    if !lent(pool, table, work) {
+        return Err(Refusal::ShortBuffer);
+    }
+    let answer = judge_set(pool, table, set, types, bounds, slots, work);
+    clear(work);
+    answer
+}
+
+/// What solving found over a set: bindings in the records up to a place, and so many bounds behind them.
+#[derive(Clone, Copy)]
+pub struct Found<'a> {
+    pub words: &'a [u32],
+    pub bindings: usize,
+    pub bounds: usize,
+}
+
+/// Which constraint of the set isn't true once what was found is put in, the first, counted from 0? Nothing where the judge says yes.
+/// What was found is read where it stands.
+pub fn judge_found(
+    names: NameTable,
+    set: &[u32],
+    found: Found,
+    work: &mut [u32],
+) -> Result<Option<usize>, Refusal>
+    requires set_there { (cs : List (Con ℕ)) × SetThere names.pool.now names.table.now set.now cs }
+    requires found_there { (bs : List (Binding ℕ)) × ((ns : List ℕ)
+        × FoundThere names.pool.now names.table.now found.words.now found.bindings found.bounds bs ns) }
+    requires set_short { length set.now ≤ 8192 }
+    requires work_long { 8192 ≤ length work.old }
+    ensures { (cs : List (Con ℕ)) (bs : List (Binding ℕ)) (ns : List ℕ) → SetThere names.entry.pool.now names.entry.table.now set.now cs
+        → FoundThere names.entry.pool.now names.entry.table.now found.entry.words.now found.entry.bindings found.entry.bounds bs ns
+        → FoundJudged names.entry.pool.now names.entry.table.now bs ns cs result }
+{
+    let mut places = [0u32; NAMES];
+    note_all(found.words, 0, found.bindings, &mut places);
+    let mut marks = [false; NAMES];
+    let from = found.bindings * 4;
+    let to = from + found.bounds * 4;
+    mark_all(&found.words[from..to], &mut marks);
+    first_failing(names, set, &places, found.words, &marks, work)
+}

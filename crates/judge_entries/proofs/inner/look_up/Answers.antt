@@ -1,0 +1,1 @@
+use Rattle.judge_entries.proofs.inner.look_up.Goals as goal

@@ -1,0 +1,74 @@
+//! Is a constraint true? All bindings have been put in before; the bounds are marks, one for each name.
+ghost use Rattle.std.specs.Prelude.{◌≡◌, Bool, Decides, List, length};
+ghost use Rattle.rules.specs.Meaning.{amongBounds};
+ghost use Rattle.rules.specs.Names.{Bytes, numbered};
+ghost use Rattle.rules.specs.Trees.{isDim, hasField};
+ghost use Rattle.judge_meaning.specs.Truth.{Bounded, Within, True};
+
+use super::means;
+use queries::Kind;
+use queries::inner::marks;
+use rules::NAMES;
+use types::{Constraint, Demand, Shape, Type};
+
+/// Are all names that are marked in v marked in b?
+fn is_within(v: &[bool; NAMES], b: &[bool; NAMES]) -> bool
+    requires v_len { length v.now ≡ 256 }
+    requires b_len { length b.now ≡ 256 }
+    ensures { Decides result (Within v.now b.now 256) }
+{
+    for i in 0..NAMES {
+        if v[i] && !b[i] {
+            return false;
+        }
+    }
+    true
+}
+
+/// Are all open names of the type among the bounds?
+fn among_bounds(t: Type, bounds: &[bool; NAMES]) -> bool
+    requires bounds_len { length bounds.now ≡ 256 }
+    ensures { Bounded t.entry.tree.0 bounds.now (λ names xs. result ≡ amongBounds (numbered names) xs t.entry.tree.0) }
+{
+    let mut m = [false; NAMES];
+    marks(t.words, t.at, t.end(), Kind::Both, &mut m);
+    is_within(&m, bounds)
+}
+
+/// Is-dimension: a dimension, a variable or a parameter, whose open names are all among the bounds.
+fn is_dimension(t: Type, bounds: &[bool; NAMES]) -> bool
+    requires bounds_len { length bounds.now ≡ 256 }
+    ensures { True (isDim t.entry.tree.0) bounds.now result }
+{
+    match t.shape() {
+        Shape::Open(_) => among_bounds(t, bounds),
+        Shape::Dimension(_) => among_bounds(t, bounds),
+        _ => false,
+    }
+}
+
+/// Has-field: a struct with that field, whose type means the asked one.
+fn has_field(of: Type, name: u32, asked: Type) -> bool
+    ensures { (bounds : List Bool) → True (hasField name of.entry.tree.0 asked.entry.tree.0) bounds result }
+{
+    let Shape::Struct(_, _, fields) = of.shape() else {
+        return false;
+    };
+    match fields.find(name) {
+        Some(t) => means(t, asked),
+        None => false,
+    }
+}
+
+/// Is the constraint true?
+pub fn holds(c: Constraint, bounds: &[bool; NAMES]) -> bool
+    requires bounds_len { length bounds.now ≡ 256 }
+    ensures { True c.entry.tree.0 bounds.now result }
+{
+    match c.demand() {
+        Demand::Equal(left, right) => means(left, right),
+        Demand::IsDimension(of) => is_dimension(of, bounds),
+        Demand::IsScalar(product) => product.count == 0,
+        Demand::HasField(name, of, asked) => has_field(of, name, asked),
+    }
+}

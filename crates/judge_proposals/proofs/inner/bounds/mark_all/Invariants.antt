@@ -1,0 +1,14 @@
+use mathlib.Core.List.{List, ◌++◌, map}
+use Prim.Native.Nat.{ℕ}
+use lib.ListN.{take}
+use Rattle.rules.specs.Trees.{Open}
+use Rattle.rules.specs.Writing.{word_of}
+use Rattle.queries.specs.Marks.{Marks}
+use Rattle.judge_proposals.specs.Bounds.{BoundsThere}
+use Rattle.judge_proposals.proofs.inner.bounds.mark_all.Given as goal
+
+-- the first i names are marked
+abbrev pub invariant-loop-i : goal.invariant-loop-i
+invariant-loop-i l =
+    (pool table : List ℕ) (os : List (Open ℕ)) (xs : List ℕ) → BoundsThere pool table l.s os → Marks l.initial.m xs →
+    Marks l.m (xs ++ take l.i (map word_of os))

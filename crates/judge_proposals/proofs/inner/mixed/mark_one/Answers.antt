@@ -1,0 +1,17 @@
+-- `inner::mixed::mark_one` meets its contract.
+use Rattle.replace.specs.Places.{says_some}
+use Rattle.judge_proposals.specs.Mixed.{unbound, bound}
+use Rattle.judge_proposals.proofs.inner.mixed.mark_one.Goals as goal
+
+pub returns-then-w-eq0 : goal.returns-then-w-eq0
+returns-then-w-eq0 c = λ t xs h m. unbound c.args.types.now c.args.x c.args.w c.args.k t xs h c.if-w-eq0.true m
+
+pub end_of-end-requires : goal.end_of-end-requires
+end_of-end-requires c =
+    let (t, h) = c.requires in
+    let (u, (i, k)) = says_some c.args.types.now c.args.w t h c.if-w-eq0.false in
+    (u, k)
+
+pub returns : goal.returns
+returns c = λ t xs h m. bound c.args.types.now c.args.x c.args.w c.args.k t xs h c.if-w-eq0.false c.end_of-end.ensures c.chosen.ensures
+    (c.marks.ensures _ (c.mark.ensures xs m))

@@ -1,0 +1,58 @@
+use Rattle.std.specs.Prelude.{ℕ}
+use Rattle.std.proofs.Common.{refl, ap, sym, ◌∙◌, arith}
+use Rattle.std.proofs.lemmas.Result.{err_from_is_err_and}
+use Rattle.rules.specs.Replacing.{Look}
+use Rattle.types.specs.Sets.{alone, placed-alone}
+use Rattle.judge_trials.specs.Trials.{going_start, going_end, first-good, count-few, going-refused, going-no, going_on, same-look}
+use Rattle.judge_trials.proofs.inner.first_failing.Goals as goal
+
+pub invariant_of-c-items : goal.invariant_of-c-items
+invariant_of-c-items c = let (cs, h) = c.requires.there in record { near = omega (arith, c.requires.set_short); trees = (cs, h.held) }
+
+pub search-init : goal.search-init
+search-init c = (
+  refl,
+  λ cs bs xs h l m.
+      rw c.into_iter-c-iterator.ensures.into_iter_gives (rw (placed-alone c.args.set.now 0 _) (going_start _ _ _ bs xs cs h c.into_iter-arg-1.given.1.0)),
+)
+
+pub is_true-requires-clause-good : goal.is_true-requires-clause-good
+is_true-requires-clause-good c =
+    let (cs, h) = c.requires.there in
+    let (bs, l) = c.requires.put in
+    let (xs, m) = c.requires.marked in
+    first-good _ _ _ bs xs cs (c.search.invariant.1 cs bs xs h l m) _ _ (ap alone c.in-Some.ensures.steps)
+
+pub is_true-requires-clause-plain : goal.is_true-requires-clause-plain
+is_true-requires-clause-plain c =
+    let (bs, l) = c.requires.put in
+    λ o t e. l.good o t (ap (λ (k : Look ℕ). k o) (sym (same-look _ _ _ _ bs l c.is_true-arg-in-search-1.given.0)) ∙ e)
+
+pub returns-in_err-is_true : goal.returns-in_err-is_true
+returns-in_err-is_true c = λ cs bs xs h l m.
+    let p = err_from_is_err_and c.from_residual.result c.from_residual.ensures.1 in
+    rw (p.1, p.2) (going-refused _ _ _ bs xs cs (c.search.invariant.1 cs bs xs h l m) _ _ (ap alone c.in-Some.ensures.steps)
+    (c.is_true.ensures bs xs (same-look _ _ _ _ bs l c.is_true-arg-in-search-1.given.0) m) c.in_err-is_true.was)
+
+pub returns-then-not-branch : goal.returns-then-not-branch
+returns-then-not-branch c = λ cs bs xs h l m.
+    going-no _ _ _ bs xs cs (c.search.invariant.1 cs bs xs h l m) _ _ (ap alone c.in-Some.ensures.steps)
+    (c.is_true.ensures bs xs (same-look _ _ _ _ bs l c.is_true-arg-in-search-1.given.0) m) c.in_ok-is_true.was c.if-not-branch.true
+
+pub overflow_add-before : goal.overflow_add-before
+overflow_add-before c =
+    let (cs, h) = c.requires.there in
+    let (bs, l) = c.requires.put in
+    let (xs, m) = c.requires.marked in
+    omega (arith, count-few _ _ _ bs xs cs (c.search.invariant.1 cs bs xs h l m) _ _ (ap alone c.in-Some.ensures.steps), c.requires.set_short)
+
+pub search-preserved : goal.search-preserved
+search-preserved c = (
+  c.is_true.auto.work ∙ c.search.invariant.0,
+  λ cs bs xs h l m.
+      going_on _ _ _ bs xs cs (c.search.invariant.1 cs bs xs h l m) _ _ (ap alone c.in-Some.ensures.steps)
+      (c.is_true.ensures bs xs (same-look _ _ _ _ bs l c.is_true-arg-in-search-1.given.0) m) c.in_ok-is_true.was c.if-not-branch.false,
+)
+
+pub returns : goal.returns
+returns c = λ cs bs xs h l m. going_end _ _ _ bs xs cs (c.search.invariant.1 cs bs xs h l m) (ap alone c.in-None.ensures.steps.0)

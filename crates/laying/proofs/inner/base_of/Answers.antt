@@ -1,7 +1,0 @@
--- `inner::base_of` meets its contract.
-use mathlib.Core.Path.{ap, sym}
-use Rattle.laying.specs.Columns.{basesAtom}
-use Rattle.laying.proofs.inner.base_of.Goals as goal
-
-pub returns-in-Base : goal.returns-in-Base
-returns-in-Base c = sym (ap basesAtom c.in-Base.is)

@@ -1,7 +1,0 @@
--- `inner::blank` meets its contract.
-use mathlib.Core.Path.{refl}
-use Rattle.laying.specs.Lines.{wide-copies}
-use Rattle.laying.proofs.inner.blank.Goals as goal
-
-pub returns : goal.returns
-returns c = wide-copies _ c.zeros.result refl c.zeros.ensures.wide

@@ -1,7 +1,0 @@
-pub mod Nested
-pub mod Settled
-pub mod Slices
-pub mod Standing
-pub mod Theorems
-pub mod Typed
-pub mod Whole

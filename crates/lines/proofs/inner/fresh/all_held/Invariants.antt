@@ -1,8 +1,0 @@
-use mathlib.Core.Path.{◌≡◌}
-use lib.Dec.{ltb}
-use lib.ListN.{get_or, drop}
-use Rattle.rules.specs.Base.{all}
-use Rattle.lines.proofs.inner.fresh.all_held.Given as goal
-
-abbrev pub invariant-loop-i : goal.invariant-loop-i
-invariant-loop-i l = all (λ x. ltb x (get_or l.table 0 0)) (drop l.i l.names) ≡ all (λ x. ltb x (get_or l.table 0 0)) l.names

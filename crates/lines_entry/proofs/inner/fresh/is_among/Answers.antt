@@ -1,0 +1,16 @@
+-- `inner::fresh::is_among` meets its contract.
+use mathlib.Core.Path.{sym, ap, ◌∙◌}
+use lib.Dec.{eqb}
+use Rattle.rules.specs.Base.{any}
+use Rattle.lines_entry.specs.Used.{among-hit, among-miss, rest-none}
+use Rattle.lines_entry.proofs.inner.fresh.is_among.Goals as goal
+
+pub returns-then-x-names : goal.returns-then-x-names
+returns-then-x-names c = let n = c.args.names.now in let i = c.loop-i.i in among-hit n i c.loop-i-test.true _ c.if-x-names.true ∙ c.loop-i.invariant
+
+pub loop-i-preserved : goal.loop-i-preserved
+loop-i-preserved c = let n = c.args.names.now in let i = c.loop-i.i in among-miss n i c.loop-i-test.true _ c.if-x-names.false ∙ c.loop-i.invariant
+
+pub returns : goal.returns
+unfolding any
+returns c = sym (ap (any (eqb c.args.x)) (rest-none _ _ c.loop-i-test.false)) ∙ c.loop-i.invariant

@@ -1,5 +1,0 @@
-use Rattle.offices.proofs.Offices.{numbering}
-use Rattle.offices.proofs.rescued_alike.Goals as goal
-
-pub returns : goal.returns
-returns c = λ pool table pool' table' g g' file file' kept kept' skipped skipped' e f h. (numbering g g').rescue file file' kept kept' skipped skipped' e f h

@@ -1,5 +1,0 @@
-use Rattle.offices.proofs.ByNames.{solve-by-names}
-use Rattle.offices.proofs.solved_by_names.Goals as goal
-
-pub returns : goal.returns
-returns c = λ pool table g cs. solve-by-names pool table g cs

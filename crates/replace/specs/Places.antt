@@ -1,0 +1,51 @@
+-- What open names become: a table of places, a word for each name, before a list of words in which the types stand.
+use Rattle.std.specs.Prelude.{◌≡◌, refl, cond, List, ℕ, ◌+◌, ◌-◌, ◌≤◌, ltb, get_or, None, Some}
+use Rattle.std.proofs.Common.{sym, ap, subst, arith}
+use Rattle.std.proofs.Math.Option.{Option, none, some}
+use Rattle.rules.specs.Replacing.{Look}
+use Rattle.rules.specs.Trees.{Open, var, quant, par, Ty, size}
+use Rattle.records.specs.Holds.{Holds}
+use Rattle.replace.specs.Runs.{LookedUp}
+
+-- the word of a variable or a parameter; a number past the last name has none, which counts as 0
+abbrev pub nameWord : List ℕ → ℕ → ℕ → ℕ
+nameWord places first x = cond (ltb x 256) (get_or places (first + x) 0) 0
+
+-- variables from 0 on, parameters from 256 on, quantified variables from 512 on
+abbrev pub word_of : List ℕ → Open ℕ → ℕ
+word_of places (var x) = nameWord places 0 x
+word_of places (quant i) = get_or places (512 + i) 0
+word_of places (par x) = nameWord places 256 x
+
+-- the word w is one more than the place of a type
+pub record BoundAt (v : List ℕ) (w : ℕ) (t : Ty ℕ) : Type 0 where
+  pub at : ℕ
+  pub word : w ≡ at + 1
+  pub held : Holds v t at
+
+-- 0: the name stays; another word: its type stands there
+abbrev pub SaysAt : List ℕ → ℕ → Option (Ty ℕ) → Type 0
+SaysAt v w none = w ≡ 0
+SaysAt v w (some t) = BoundAt v w t
+
+-- each name becomes what its word says, of at most 2,048 records
+pub record Tabled (places v : List ℕ) (look : Look ℕ) : Type 0 where
+  pub says : (o : Open ℕ) → SaysAt v (word_of places o) (look o)
+  pub few : (o : Open ℕ) (t : Ty ℕ) → look o ≡ some t → size t ≤ 2048
+
+module _ (v : List ℕ) (w : ℕ) where
+  pub says_none : (m : Option (Ty ℕ)) → SaysAt v w m → w ≡ 0 → LookedUp v m None
+  says_none none h e = refl
+  says_none (some t) h e = absurd (omega (arith, h.word))
+
+  -- what a word other than 0 says
+  pub says_some : (m : Option (Ty ℕ)) → SaysAt v w m → (w ≡ 0 → ⊥) → (t : Ty ℕ) × ((m ≡ some t) × Holds v t (w - 1))
+  says_some none h n = absurd (n h)
+  says_some (some t) h n = let e : h.at ≡ w - 1 = omega (arith, h.word) in (t, (refl, subst (Holds v t) e h.held))
+
+  pub says_at : (m : Option (Ty ℕ)) (e : ℕ) → SaysAt v w m → (w ≡ 0 → ⊥) → ((t : Ty ℕ) → Holds v t (w - 1) → e ≡ w - 1 + size t)
+      → LookedUp v m (Some (w - 1, e))
+  says_at m e h n k =
+      let (t, (q, held)) = says_some m h n in
+      subst (λ (o : Option (Ty ℕ)). LookedUp v o (Some (w - 1, e))) (sym q)
+      (record { place = w - 1; is = ap (λ (j : ℕ). Some (w - 1, j)) (k t held); held = held })

@@ -1,0 +1,269 @@
+-- What a call of replacing makes, from what its walk leaves in the work buffer.
+use Rattle.std.specs.Prelude.{Result, Ok, Err, ◌≡◌, refl, true, List, [], ◌++◌, ℕ, ◌+◌, ◌*◌, ◌/◌, ◌≤◌, leb, max, min, Bool, false, length, take, drop}
+use Rattle.std.proofs.Common.{sym, ap, ap₂, subst, ◌∙◌, arith, append_assoc, length-append, take_at}
+use Rattle.std.proofs.Math.Option.{some}
+use Rattle.std.proofs.lemmas.List.Edits.{sets, sets-eq}
+use Rattle.std.proofs.Math.Seq.{length-sets}
+use Rattle.rules.specs.Base.{Got, got, refused, ◌>>=◌, allow, bounded, sized, all, each, collect, sum_of, max_of}
+use Rattle.rules.specs.Calls.{typeGiven, setGiven, bindingsGiven}
+use Rattle.rules.specs.Names.{table_of}
+use Rattle.rules.specs.Refusals.{told}
+use Rattle.rules.specs.Replacing.{bindings, replaceTy, replaceCon}
+use Rattle.rules.specs.Rounds.{State, limited, sizeState, depthState}
+use Rattle.rules.specs.Trees.{Open, Ty, Con, Binding, size, depth, sizeCon, depthCon, sizeBinding}
+use Rattle.rules.specs.WellFormed.{goodTy, goodBinding}
+use Rattle.rules.specs.Writing.{Rec, words, writeTy, writeCon}
+use Rattle.rules.specs.declared.Refusal.{Refusal}
+use Rattle.laws.specs.KeepsGood as laws
+use Rattle.laws.specs.Lists.{clash, Every}
+use Rattle.laws.specs.Size.{size-ty, set-length}
+use Rattle.laws.specs.Sized.{sized_same, sized-small}
+use Rattle.names.specs.declared.tables.NameTable.{NameTable}
+use Rattle.products.specs.Held.{law}
+use Rattle.records.specs.Buffers.{stored, words-length}
+use Rattle.records.specs.Cut.{cut, cut-length, short-all, short-con}
+use Rattle.records.specs.Parsed.{only}
+use Rattle.records.specs.Found.{Words32}
+use Rattle.records.specs.Good as records
+use Rattle.records.specs.Good.{numbers, holding}
+use Rattle.records.specs.Held.{held}
+use Rattle.records.specs.Holds.{HoldsBinding}
+use Rattle.records.specs.Views.{from}
+use Rattle.records.specs.Whole.{type-is, bindings-is}
+use Rattle.replace.specs.Given.{row, given-type, given-cons, given-bindings}
+use Rattle.replace.specs.Kept.{cons-kept, cons-weaker}
+use Rattle.replace.specs.Leaves.{Leaves, LeavesOf}
+use Rattle.replace.specs.Runs.{looked-good}
+use Rattle.replace.specs.Substitutions.{ALook, one-look}
+use Rattle.replace.specs.Well.{GoodCon, GoodTy, HeldType, Lent, Listed}
+use Rattle.replace.specs.Written.{ty-fits, written-cons}
+use Rattle.types.specs.declared.writer.Writer.{Writer}
+use Rattle.types.specs.Once.{ATree}
+use Rattle.types.specs.Sets.{Cons, IsCons, one-set}
+use Rattle.types.specs.Written.{last}
+use Rattle.records_buffers.specs.Told.{Front, Made}
+use Rattle.replace_calls.specs.Entry.{Entered}
+use Rattle.replace_calls.specs.Stands.{counted, TypeStands, SetStands}
+
+-- ══ From a walk to what was made, whatever it writes ══
+
+-- records that were written from the start, where they fit, stand at the front
+front : (d d' behind : List ℕ) (rs : List Rec) → 8192 ≤ length d → d' ≡ sets d 0 (words rs) → length rs ≤ 2048 → Front rs (d' ++ behind)
+front d d' behind rs room e le =
+    let n = words-length rs in
+    let left = drop (0 + length (words rs)) d in
+    let z : d' ≡ words rs ++ left = e ∙ sets-eq (words rs) d 0 (omega arith) in
+    let y : d' ++ behind ≡ words rs ++ (left ++ behind) = ap (λ (l : List ℕ). l ++ behind) z ∙ append_assoc (words rs) left behind in
+    record {
+      few = le;
+      room = omega (arith, length-append d' behind, ap length e ∙ length-sets d 0 (words rs));
+      there = ap (take (length rs * 4)) y ∙ take_at (words rs) (left ++ behind) (length rs * 4) n;
+    }
+
+module _ {A : Type 0} (long deep : A → ℕ) (write : A → List Rec) (lengths : (a : A) → length (write a) ≡ long a) where
+  -- the two limits, then writing
+  abbrev pub limitedTo : Got A → Got (List Rec)
+  limitedTo R = R >>= λ a. sized bounded (long a) (deep a) a >>= λ b. got (write b)
+
+  count-is : (a : A) (m : Got A) → (m >>= λ b. got (long b)) ≡ ((m >>= λ b. got (write b)) >>= λ rs. got (length rs))
+  count-is a (got b) = ap got (sym (lengths b))
+  count-is a (refused k) = refl
+
+  written : (a : A) (m : Got A) (rs : List Rec) → (m >>= λ b. got (write b)) ≡ got rs → (b : A) × ((m ≡ got b) × (write b ≡ rs))
+  written a (got b) rs e = let z : write b ≡ rs = cc in (b, (refl, z))
+  written a (refused k) rs e = clash e
+
+  -- a short value is written with its own lengths
+  module _ (short : (a : A) → long a ≤ 65_535 → cut (write a) ≡ write a) (w w' : Writer) (start : w.at ≡ 0) (room : 8192 ≤ length w.words.now) where
+    -- the walk came to its end
+    pub record Came (R : Got A) : Type 0 where
+      pub value : A
+      pub is : R ≡ got value
+      pub many : min w'.at last ≡ min (long value) last
+      pub buffer : long value ≤ 2048 → w'.words.now ≡ sets w.words.now 0 (words (write value))
+
+    pub came : {r : Result (Unit {0}) Refusal} (R : Got A) → r ≡ Ok tt → Leaves write w w' r R → Came R
+    came {r} R i left = go R (subst (λ (y : Result (Unit {0}) Refusal). LeavesOf write w w' y R) i left.says)
+      where
+        go : (R : Got A) → LeavesOf write w w' (Ok tt) R → Came R
+        go (got a) p = record {
+          value = a;
+          is = refl;
+          many = omega (arith, p.at, start, cut-length (write a), lengths a);
+          buffer = λ h.
+              p.words (omega (arith, start, cut-length (write a), lengths a, h))
+              ∙ ap₂ (λ (i : ℕ) (rs : List Rec). sets w.words.now (i * 4) (words rs)) start (short a (omega (arith, h)));
+        }
+        go (refused k) p = absurd p
+
+    pub made-to : (R : Got A) (behind : List ℕ) (r : Result ℕ Refusal) (c : Came R) → told r ≡ counted long deep c.value
+        → Made (limitedTo R) (w'.words.now ++ behind) r
+    made-to R behind r c h = record {
+      answer = h ∙ count-is a (sized bounded (long a) (deep a) a) ∙ sym (ap (λ (m : Got A). limitedTo m >>= λ rs. got (length rs)) c.is);
+      front = λ rs e.
+          let (b, (g, z)) = written a (sized bounded (long a) (deep a) a) rs (sym (ap limitedTo c.is) ∙ e) in
+          let k : a ≡ b = sized_same (long a) (deep a) a bounded b g in
+          let le = sized-small (long a) (deep a) a b g in
+          subst (λ (x : List Rec). Front x (w'.words.now ++ behind)) (ap write k ∙ z)
+          (front w.words.now w'.words.now behind (write a) room (c.buffer le) (omega (arith, lengths a)));
+    }
+      where
+        a : A
+        a = c.value
+
+    -- or stopped
+    pub made-stop : {r : Result (Unit {0}) Refusal} {k : Refusal} (R : Got A) (d : List ℕ) → r ≡ Err k → Leaves write w w' r R → Made (limitedTo R) d (Err k)
+    made-stop {r} {k} R d i left = go R (subst (λ (y : Result (Unit {0}) Refusal). LeavesOf write w w' y R) i left.says)
+      where
+        go : (R : Got A) → LeavesOf write w w' (Err k) R → Made (limitedTo R) d (Err k)
+        go (got a) p = absurd p
+        go (refused j) p = record { answer = ap refused p; front = λ rs e. clash e }
+
+pub short-set : (cs : List (Con ℕ)) → sum_of sizeCon cs ≤ 65_535 → cut (collect writeCon cs) ≡ collect writeCon cs
+short-set cs h = short-all sizeCon writeCon short-con cs h
+
+-- ══ What was entered ══
+
+module _ (t : NameTable) (ws binds : List ℕ) where
+  abbrev pub TypeEntered : Ty ℕ → List (Binding ℕ) → Type 0
+  TypeEntered u bs = Entered t.pool.now t.table.now ws binds (typeGiven (table_of t.pool.now t.table.now) ws) u bs
+
+  abbrev pub SetEntered : List (Con ℕ) → List (Binding ℕ) → Type 0
+  SetEntered cs bs = Entered t.pool.now t.table.now ws binds (setGiven (table_of t.pool.now t.table.now) ws) cs bs
+
+module _ (pool table : List ℕ) where
+  -- ══ A type ══
+
+  abbrev pub madeType : Ty ℕ → List (Binding ℕ) → Got (List Rec)
+  madeType t bs = limitedTo size depth writeTy size-ty (replaceTy (numbers pool table) bounded (bindings (numbers pool table) bs) t)
+
+  -- ══ A set ══
+
+  abbrev pub madeSet : List (Con ℕ) → List (Binding ℕ) → Got (List Rec)
+  madeSet cs bs = do
+    r ← each (replaceCon (numbers pool table) bounded (bindings (numbers pool table) bs)) cs
+    s ← limited bounded (record { cons = r; binds = [] })
+    got (collect writeCon s.cons)
+
+  -- the same, with the two limits of a list
+  abbrev pub madeCons : Got (List (Con ℕ)) → Got (List Rec)
+  madeCons R = limitedTo (sum_of sizeCon) (max_of depthCon) (collect writeCon) set-length R
+
+  abbrev alone : List (Con ℕ) → State ℕ
+  alone cs = record { cons = cs; binds = [] }
+
+  abbrev consOf : Got (State ℕ) → Got (List Rec)
+  consOf m = m >>= λ s. got (collect writeCon s.cons)
+
+  same-limits : (cs : List (Con ℕ)) → consOf (limited bounded (alone cs)) ≡ madeCons (got cs)
+  unfolding limited sizeState depthState
+  same-limits cs =
+      let n : sum_of sizeCon cs + 0 ≡ sum_of sizeCon cs = omega arith in
+      let d : max (max_of depthCon cs) 0 ≡ max_of depthCon cs = omega arith in
+      rw (n, d) (go (leb (sum_of sizeCon cs) 2048) (leb (max_of depthCon cs) 64))
+    where
+      go : (a b : Bool) → consOf (allow a 8 (alone cs) >>= λ t. allow b 8 t) ≡ ((allow a 8 cs >>= λ t. allow b 8 t) >>= λ ds. got (collect writeCon ds))
+      go true true = refl
+      go true false = refl
+      go false b = refl
+
+  pub set-made : (cs : List (Con ℕ)) (bs : List (Binding ℕ)) (w : List ℕ) (r : Result ℕ Refusal)
+      → Made (madeCons (each (replaceCon (numbers pool table) bounded (bindings (numbers pool table) bs)) cs)) w r → Made (madeSet cs bs) w r
+  set-made cs bs w r h = subst (λ (m : Got (List Rec)). Made m w r)
+      (go (each (replaceCon (numbers pool table) bounded (bindings (numbers pool table) bs)) cs)) h
+    where
+      go : (R : Got (List (Con ℕ))) → madeCons R ≡ (R >>= λ r. limited bounded (record { cons = r; binds = [] }) >>= λ s. got (collect writeCon s.cons))
+      go (got ds) = sym (same-limits ds)
+      go (refused k) = refl
+
+  -- ══ What the walks ask, and what they leave ══
+
+  module _ (ws binds : List ℕ) (w : Words32 ws) (v : Words32 binds) (bs : List (Binding ℕ)) where
+    binds-good : bindingsGiven (table_of pool table) binds ≡ got bs → all (goodBinding (numbers pool table) (holding pool table) 0) bs ≡ true
+    binds-good e =
+        (row binds HoldsBinding sizeBinding (goodBinding (numbers pool table) (holding pool table) 0) (records.GoodBinding pool table 0 binds)
+        (λ at a e g. (g.held, g.past, g.good)) (length binds / 4) 0 bs
+        (bindings-is pool table binds v bs e)).right
+
+    -- what names become is well formed
+    becomes-good : bindingsGiven (table_of pool table) binds ≡ got bs → (o : Open ℕ) (u : Ty ℕ) → bindings (numbers pool table) bs o ≡ some u
+        → goodTy (numbers pool table) (holding pool table) 0 u ≡ true
+    becomes-good e o u q = looked-good (numbers pool table) (holding pool table) 0 bs o u (binds-good e) q
+
+    -- whichever way it is told what names become
+    same-look : {places : List ℕ} → Lent pool table places binds (bindings (numbers pool table) bs) → (p : ALook pool table places binds)
+        → bindings (numbers pool table) bs ≡ p.0
+    same-look {places} l p = ap (λ (k : ALook pool table places binds). k.0) (one-look pool table places binds (bindings (numbers pool table) bs, l) p)
+
+    module _ (t : Ty ℕ) (n : Entered pool table ws binds (typeGiven (table_of pool table) ws) t bs) where
+      pub type-held : HeldType pool table ws t 0
+      type-held = (given-type pool table ws w t n.one).0
+
+      pub type-binds : Listed pool table binds 0 (length binds / 4) bs
+      type-binds = given-bindings pool table binds v bs n.binds-short n.two
+
+      same-type : (q : ATree ws 0) → t ≡ q.0
+      same-type q = only ws t q.0 0 type-held.held q.1
+
+      pub type-good : (q : ATree ws 0) → GoodTy pool table q.0
+      type-good q = rw (← same-type q) type-held.good
+
+      pub type-left : {places : List ℕ} → Lent pool table places binds (bindings (numbers pool table) bs)
+          → (p : ALook pool table places binds) (q : ATree ws 0) {x y : Writer} {r : Result (Unit {0}) Refusal}
+          → Leaves writeTy x y r (replaceTy (numbers pool table) bounded p.0 q.0)
+          → Leaves writeTy x y r (replaceTy (numbers pool table) bounded (bindings (numbers pool table) bs) t)
+      type-left l p q h = rw (same-look l p, same-type q) h
+
+      type-kept : (u : Ty ℕ) → replaceTy (numbers pool table) bounded (bindings (numbers pool table) bs) t ≡ got u
+          → goodTy (numbers pool table) (holding pool table) 0 u ≡ true
+      type-kept u e =
+          (laws.ty_kept (numbers pool table) (law pool table) (holding pool table) 0 (bindings (numbers pool table) bs) (becomes-good n.two) t
+          (type-is pool table ws w t n.one).good).holds u e
+
+      pub type-stands : (d d' : List ℕ) (m : ℕ) (u : Ty ℕ) → 8192 ≤ length d
+          → replaceTy (numbers pool table) bounded (bindings (numbers pool table) bs) t ≡ got u → min m last ≡ min (size u) last
+          → (size u ≤ 2048 → d' ≡ sets d 0 (words (writeTy u))) → TypeStands pool table d' m u
+      type-stands d d' m u room e many buffer = record {
+        many = many;
+        held = λ le.
+            let i = size-ty u in
+            held d' u 0 (from d (0 + length (writeTy u))) (ty-fits (numbers pool table) (holding pool table) 0 u (type-kept u e))
+            (ap (λ (x : List ℕ). from x 0) (buffer le) ∙ stored d (writeTy u) 0 (omega arith));
+        good = type-kept u e;
+      }
+
+    module _ (cs : List (Con ℕ)) (n : Entered pool table ws binds (setGiven (table_of pool table) ws) cs bs) where
+      pub set-held : IsCons ws 0 (length ws / 4) cs
+      set-held = (given-cons pool table ws w cs n.one).0
+
+      same-set : (q : Cons ws 0 (length ws / 4)) → cs ≡ q.0
+      same-set q = ap (λ (x : Cons ws 0 (length ws / 4)). x.0) (one-set ws 0 (length ws / 4) (cs, set-held) q)
+
+      pub set-good : (q : Cons ws 0 (length ws / 4)) → Every (GoodCon pool table) q.0
+      set-good q = rw (← same-set q) (cons-weaker pool table cs (given-cons pool table ws w cs n.one).1)
+
+      pub set-left : {places : List ℕ} → Lent pool table places binds (bindings (numbers pool table) bs)
+          → (p : ALook pool table places binds) (q : Cons ws 0 (length ws / 4)) {x y : Writer} {r : Result (Unit {0}) Refusal}
+          → Leaves (collect writeCon) x y r (each (replaceCon (numbers pool table) bounded p.0) q.0)
+          → Leaves (collect writeCon) x y r (each (replaceCon (numbers pool table) bounded (bindings (numbers pool table) bs)) cs)
+      set-left l p q h = rw (same-look l p, same-set q) h
+
+      pub set-binds : Listed pool table binds 0 (length binds / 4) bs
+      set-binds = given-bindings pool table binds v bs n.binds-short n.two
+
+      set-kept : (ds : List (Con ℕ)) → each (replaceCon (numbers pool table) bounded (bindings (numbers pool table) bs)) cs ≡ got ds
+          → all (records.goodCon pool table 0) ds ≡ true
+      set-kept ds e = (cons-kept pool table (bindings (numbers pool table) bs) (becomes-good n.two) cs (given-cons pool table ws w cs n.one).1).holds ds e
+
+      pub set-stands : (d d' : List ℕ) (m : ℕ) (ds : List (Con ℕ)) → length d ≡ 8192
+          → each (replaceCon (numbers pool table) bounded (bindings (numbers pool table) bs)) cs ≡ got ds
+          → min m last ≡ min (sum_of sizeCon ds) last → (sum_of sizeCon ds ≤ 2048 → d' ≡ sets d 0 (words (collect writeCon ds))) → SetStands pool table d' m ds
+      set-stands d d' m ds room e many buffer = record {
+        many = many;
+        held = λ le.
+            let i : 0 + sum_of sizeCon ds ≡ m = omega (arith, many, le) in
+            subst (λ (k : ℕ). IsCons d' 0 k ds) i
+            (written-cons pool table d d' 0 ds (buffer le) (omega (arith, room, le)) (cons-weaker pool table ds (set-kept ds e)));
+        near = λ le. omega (arith, ap length (buffer le) ∙ length-sets d 0 (words (collect writeCon ds)), room);
+        good = set-kept ds e;
+      }

@@ -1,9 +1,0 @@
-use Rattle.rules.specs.Trees.{depthCon}
-use Rattle.records.specs.Good.{goodCon}
-use Rattle.types.specs.Sets.{alone}
-use Rattle.types.specs.Shapes.{cons_of}
-use Rattle.replacing.proofs.Nested.{Deciding}
-use Rattle.replacing.proofs.inner.flat.constraints_flat.Given as goal
-
-abbrev pub invariant-constraints : goal.invariant-constraints
-invariant-constraints l = Deciding (goodCon l.names.pool.now l.names.table.now 0) depthCon (alone (cons_of l.c-iterator)) l.fn.cs.trees.0

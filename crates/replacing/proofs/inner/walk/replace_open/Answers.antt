@@ -1,5 +1,0 @@
-use Rattle.replacing.proofs.Walks.{open-kept}
-use Rattle.replacing.proofs.inner.walk.replace_open.Goals as goal
-
-pub returns-in-None : goal.returns-in-None
-returns-in-None c = open-kept c.args.by.lent.0 c.args.o c.in-None.ensures c.put.ensures

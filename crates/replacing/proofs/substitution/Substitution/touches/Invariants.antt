@@ -1,8 +1,0 @@
-use Rattle.std.proofs.Common.{◌≡◌}
-use Rattle.rules.specs.Base.{any}
-use Rattle.queries.specs.Scans.{opensIn}
-use Rattle.replacing.specs.Leaves.{replaced}
-use Rattle.replacing.proofs.substitution.Substitution.touches.Given as goal
-
-abbrev pub invariant-loop-i : goal.invariant-loop-i
-invariant-loop-i l = any (replaced l.self.lent.0) (opensIn l.s l.i l.e) ≡ any (replaced l.self.lent.0) (opensIn l.s l.b l.e)

@@ -1,6 +1,0 @@
--- `line_in` meets its contract: lines are left behind one after another.
-use Rattle.reporting.specs.Ahead.{at-first}
-use Rattle.reporting.proofs.lines.line_in.Goals as goal
-
-pub loop-left-init : goal.loop-left-init
-loop-left-init c = at-first _ _ _ c.saturating_sub-left.ensures

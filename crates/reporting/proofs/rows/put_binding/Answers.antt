@@ -1,6 +1,0 @@
--- `put_binding` meets its contract.
-use Rattle.spelling.specs.Sinks.{then}
-use Rattle.reporting.proofs.rows.put_binding.Goals as goal
-
-pub returns : goal.returns
-returns g c = then _ c.in_ok-put.ensures (then _ c.in_ok-put_open.ensures (then _ c.in_ok-put-2.ensures (then _ c.in_ok-write_type.ensures c.put-3.ensures)))

@@ -1,6 +1,0 @@
--- `put_bound` meets its contract.
-use Rattle.spelling.specs.Sinks.{then}
-use Rattle.reporting.proofs.rows.put_bound.Goals as goal
-
-pub returns : goal.returns
-returns g c = then _ c.in_ok-put.ensures (then _ c.in_ok-put_bare.ensures c.put-2.ensures)

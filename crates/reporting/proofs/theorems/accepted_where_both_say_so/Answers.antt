@@ -1,8 +1,0 @@
-use Rattle.reporting.proofs.Promise.{report-only, report-there}
-use Rattle.reporting.proofs.theorems.accepted_where_both_say_so.Goals as goal
-
-pub returns : goal.returns
-returns c = record {
-  only = λ names name text n new ν cs a. report-only names name text n new ν cs a;
-  there = λ names name text n new ν cs a. report-there names name text n new ν cs a;
-}

@@ -1,8 +1,0 @@
-use Rattle.std.proofs.Common.{◌≡◌, ◌-◌, ◌≤◌, map, length, drop}
-use lib.Seq.{sets}
-use Rattle.saying.specs.Fills.{low_byte}
-use Rattle.saying.proofs.words.fill_low.Given as goal
-
--- what is left to store
-abbrev pub invariant-loop-i : goal.invariant-loop-i
-invariant-loop-i l = sets l.buffer l.i (drop l.i (map low_byte l.a)) ≡ sets l.initial.buffer 0 (map low_byte l.a)

@@ -1,9 +1,0 @@
--- `inner::scan_digits` meets its contract: what was read so far.
-use Rattle.scanning.specs.Numbers.{first-digit, one_more}
-use Rattle.scanning.proofs.inner.scan_digits.Goals as goal
-
-pub loop-d-init : goal.loop-d-init
-loop-d-init c = first-digit c.in-Some.ensures
-
-pub loop-d-preserved : goal.loop-d-preserved
-loop-d-preserved c = one_more c.loop-d.invariant c.in-Some-digit_at.ensures c.min-value.ensures

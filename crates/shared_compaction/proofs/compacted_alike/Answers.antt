@@ -1,5 +1,0 @@
-use Rattle.shared_compaction.proofs.Calls.{offices-compacted}
-use Rattle.shared_compaction.proofs.compacted_alike.Goals as goal
-
-pub returns : goal.returns
-returns c = offices-compacted

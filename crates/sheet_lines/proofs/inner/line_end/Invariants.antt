@@ -1,5 +1,0 @@
-use Rattle.sheet_lines.specs.Cut.{Flat}
-use Rattle.sheet_lines.proofs.inner.line_end.Given as goal
-
-abbrev pub invariant-loop-i : goal.invariant-loop-i
-invariant-loop-i l = Flat l.text l.at l.i

@@ -1,5 +1,0 @@
-use Rattle.sheet_lines.specs.Left.{refused-within}
-use Rattle.sheet_lines.proofs.refusals_stay_in_the_text.Goals as goal
-
-pub returns : goal.returns
-returns c = λ pool table text n l q e. refused-within pool table text e

@@ -1,6 +1,0 @@
--- `put_label` meets its contract.
-use Rattle.spelling.specs.Sinks.{then}
-use Rattle.sheet_writing.proofs.terms.put_label.Goals as goal
-
-pub returns : goal.returns
-returns g c = then _ c.in_ok-put_comma.ensures (then _ c.in_ok-put_held.ensures c.put.ensures)

@@ -1,0 +1,108 @@
+-- `inner::run` meets its contract. The invariant: the rounds that are left give the whole answer.
+use Rattle.std.proofs.Common.{refl, ap, ◌∙◌, arith, List, ℕ, ◌≡◌, ◌≤◌, length, take, drop, ◌++◌, append-nil}
+use Rattle.std.proofs.Math.Seq.{drop-length, take-length}
+use Rattle.std.specs.Prelude.{Ok}
+use Rattle.rules.specs.Rounds.{State}
+use Rattle.solve_round.specs.States.{StateHeld}
+use Rattle.solve.specs.Running.{begun-state, going-first, going_next, going_end, going-stop, finish-answers, stop-answers}
+use Rattle.solve.proofs.inner.run.Goals as goal
+
+-- a buffer that is lent on whole is all of its words
+-- and it has all of them back
+handed : (l k : List ℕ) → k ++ drop (length l) l ≡ k
+handed l k = ap (λ (x : List ℕ). k ++ x) (drop-length l) ∙ append-nil k
+
+module _ {pool table : List ℕ} {n m : ℕ} {st : State ℕ} where
+  whole : (l : List ℕ) → StateHeld pool table l n m st → StateHeld pool table (take (length l) l) n m st
+  whole l h = rw (take-length l) h
+
+whole-near : (l : List ℕ) → length l ≡ 8192 → length (take (length l) l) ≤ 4_000_000_000
+whole-near l h = rw (take-length l) (omega (arith, h))
+
+whole-room : (l : List ℕ) → length l ≡ 8192 → 8192 ≤ length (take (length l) l)
+whole-room l h = rw (take-length l) (omega (arith, h))
+
+pub turns-init : goal.turns-init
+turns-init c =
+    let front = c.split_at_mut-state.result.0.now in
+    let long : length front ≡ 8192 = omega (arith, c.split_at_mut-state.ensures.front_len) in
+    let behind : length c.split_at_mut-next.result.0.now ≡ 8192 = omega (arith, c.split_at_mut-next.ensures.front_len) in (
+      refl,
+      rw (handed front c.copy.new.dst) (c.copy.auto.dst ∙ ap length (take-length front) ∙ long),
+      behind,
+      refl,
+      λ cs h. rw (handed front c.copy.new.dst) (going-first _ _ cs _ _ (begun-state _ _ _ _ _ _ cs h refl (whole-room front long) c.copy.ensures)),
+    )
+
+pub round-requires : goal.round-requires
+round-requires c =
+    let (cs, h) = c.requires.begun in
+    let (r, s, n, w, i) = c.turns.invariant in
+    let g = i cs h in
+    record {
+      standing = (g.state, whole c.turns.state.now g.held);
+      state_near = whole-near c.turns.state.now s;
+      new_room = omega (arith, w);
+      new_near = omega (arith, w);
+      room = whole-room c.turns.next.now n;
+      near = whole-near c.turns.next.now n;
+    }
+
+pub overflow_add-completed : goal.overflow_add-completed
+overflow_add-completed c =
+    let (cs, h) = c.requires.begun in
+    let g = c.turns.invariant.4 cs h in
+    let t = going_next _ _ c.args.names.good cs h.admitted _ _ _ _ _ g _ (c.round.ensures g.state (whole c.turns.state.now g.held)) _
+    (c.in-Ok-Some.is ∙ ap Ok c.in-Ok-Some.field-0-is) in
+    omega (arith, t.1)
+
+pub turns-smaller : goal.turns-smaller
+turns-smaller c =
+    let (cs, h) = c.requires.begun in
+    let g = c.turns.invariant.4 cs h in
+    let t = going_next _ _ c.args.names.good cs h.admitted _ _ _ _ _ g _ (c.round.ensures g.state (whole c.turns.state.now g.held)) _
+    (c.in-Ok-Some.is ∙ ap Ok c.in-Ok-Some.field-0-is) in
+    omega (arith, t.1)
+
+pub turns-preserved : goal.turns-preserved
+turns-preserved c =
+    let (r, s, n, w, i) = c.turns.invariant in
+    let next = c.turns.next.now in (
+      r,
+      rw (c.swap.ensures.x_after, handed next c.round.new.next) (c.round.auto.next ∙ ap length (take-length next) ∙ n),
+      rw c.swap.ensures.y_after s,
+      c.round.auto.new ∙ w,
+      λ cs h.
+          let g = i cs h in
+          rw (c.swap.ensures.x_after, handed next c.round.new.next)
+          (going_next _ _ c.args.names.good cs h.admitted _ _ _ _ _ g _ (c.round.ensures g.state (whole c.turns.state.now g.held)) _
+          (c.in-Ok-Some.is ∙ ap Ok c.in-Ok-Some.field-0-is)).0,
+    )
+
+pub finish-requires : goal.finish-requires
+finish-requires c =
+    let (cs, h) = c.requires.begun in
+    let (r, s, n, w, i) = c.turns.invariant in
+    let g = i cs h in
+    record {
+      standing = (g.state, whole c.turns.state.now g.held);
+      near = whole-near c.turns.state.now s;
+      room = omega (arith, ap length r, c.requires.result_room);
+    }
+
+pub returns-in-Ok-None : goal.returns-in-Ok-None
+returns-in-Ok-None c =
+    let (r, s, n, w, i) = c.turns.invariant in
+    λ cs h.
+    let g = i cs h in
+    let t = going_end _ _ c.args.names.good cs h.admitted _ _ _ _ _ g _ (c.round.ensures g.state (whole c.turns.state.now g.held))
+    (c.in-Ok-None.is ∙ ap Ok c.in-Ok-None.field-0-is) in
+    finish-answers _ _ _ g.state _ _ _ _ _ _ r t (c.finish.ensures g.state (whole c.turns.state.now g.held)) refl
+
+pub returns-in-Err : goal.returns-in-Err
+returns-in-Err c =
+    let (r, s, n, w, i) = c.turns.invariant in
+    λ cs h.
+    let g = i cs h in
+    stop-answers _ _ _ _ _ _ r (going-stop _ _ c.args.names.good cs h.admitted _ _ _ _ _ g _
+    (c.round.ensures g.state (whole c.turns.state.now g.held)) _ c.in-Err.is) c.stopped.ensures

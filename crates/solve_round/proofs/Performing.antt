@@ -1,0 +1,201 @@
+-- What a step wrote, by the answer of the code that tried the rules.
+use Rattle.std.proofs.Math.Path.{◌≡◌, refl}
+use Rattle.std.proofs.Common.{sym, ap, subst, ◌∙◌, append-nil, inl, inr}
+use Rattle.std.proofs.lemmas.List.Edits.{sets}
+use Rattle.std.specs.Prelude.{true, List, [], ◌∷◌, ℕ, suc, ◌+◌, ◌≤◌, length, Ok, Err}
+use native.Mathlib.Omega.{arith}
+use Rattle.std.proofs.Math.Seq.{length-sets}
+use Rattle.rules.specs.Base.{Got, got, refused, bounded, all, each, collect, sum_of}
+use Rattle.rules.specs.Refusals.{number_of}
+use Rattle.rules.specs.Rounds.{Step, bind, split, done, stuck, trySatisfy}
+use Rattle.rules.specs.Trees.{Names, Ty, dim, Con, Binding, ◌≔◌, size, sizeCon, sizeBinding, depth, depthCon}
+use Rattle.rules.specs.WellFormed.{goodBinding}
+use Rattle.rules.specs.Writing.{words, writeCon, writeBinding}
+use Rattle.rules.specs.declared.Refusal.{Refusal}
+use Rattle.laws.specs.KeepsGood.{rule-good}
+use Rattle.laws.specs.Lists.{and_both, is_all, each-parts}
+use Rattle.laws.specs.Nesting.{most, rule-within}
+use Rattle.laws.specs.RuleCases.{
+  Sides,
+  Rule,
+  none-applies,
+  equal-records,
+  binds,
+  two-functions,
+  two-lists,
+  two-structs,
+  as-product,
+  two-dimensions,
+  dimension,
+  no-factor,
+  first-factor,
+  closed-struct,
+  rule,
+}
+use Rattle.products.specs.Held.{law}
+use Rattle.records.specs.ByView.{size-pos}
+use Rattle.records.specs.Good as records
+use Rattle.records.specs.Good.{numbers, holding}
+use Rattle.replace.specs.Kept.{cons-weaker, binds-weaker}
+use Rattle.replace.specs.Written.{written-cons, written-binds}
+use Rattle.solve_step.specs.Stepped.{Stepped}
+use Rattle.solve_step.specs.declared.Step as code
+use Rattle.solve_step.specs.declared.Step.TheVariants.{Bind, Split, Done, Stuck}
+use Rattle.types.specs.Binds.{Binds, IsBinds, one-binds}
+use Rattle.types.specs.Sets.{Cons, HoldsCons, IsCons, one-set}
+use Rattle.solve_round.specs.declared.Others.{Others}
+use Rattle.solve_round.specs.Parts.{Taken}
+use Rattle.solve_round.specs.States.{SoundSet}
+
+-- ══ A binding takes no more room than the constraint it comes from ══
+
+each-length : {A B : Type 0} (f : A → Got B) (xs : List A) (ys : List B) → each f xs ≡ got ys → length ys ≡ length xs
+unfolding each
+each-length f [] ys e = let z : [] ≡ ys = cc in sym (ap length z)
+each-length f (x ∷ xs) ys e = let t = each-parts f x xs ys e in sym (ap length t.both) ∙ ap suc (each-length f xs t.second t.then)
+
+bind-fits : (ν : Names ℕ) (c : Con ℕ) (s : Step ℕ) (x : ℕ) (t : Ty ℕ) → Rule ν bounded c s → s ≡ bind x t → sizeBinding (x ≔ t) ≤ sizeCon c
+unfolding sizeCon sizeBinding size
+bind-fits ν c s x t (none-applies e) i = absurd (let z : ◌≡◌ {A = ℕ} 0 1 = cc in omega arith)
+bind-fits ν c s x t (equal-records u j e) i = absurd (let z : ◌≡◌ {A = ℕ} 0 1 = cc in omega arith)
+bind-fits ν c s x t (binds y side u j r n e) i = let z : u ≡ t = cc in go j (ap size z)
+  where
+    go : Sides c side u → size u ≡ size t → suc (size t) ≤ sizeCon c
+    go (inl k) q = rw k (omega (arith, size-pos side))
+    go (inr k) q = rw k (omega (arith, size-pos side))
+bind-fits ν c s x t (two-functions ps qs r r' n j e) i = absurd (let z : ◌≡◌ {A = ℕ} 0 1 = cc in omega arith)
+bind-fits ν c s x t (two-lists u v j e) i = absurd (let z : ◌≡◌ {A = ℕ} 0 1 = cc in omega arith)
+bind-fits ν c s x t (two-structs n as' bs fs gs k j e) i = absurd (let z : ◌≡◌ {A = ℕ} 0 1 = cc in omega arith)
+bind-fits ν c s x t (as-product y d j m e) i = absurd (let z : ◌≡◌ {A = ℕ} 0 1 = cc in omega arith)
+bind-fits ν c s x t (two-dimensions d e r k j f) i = absurd (let z : ◌≡◌ {A = ℕ} 0 1 = cc in omega arith)
+bind-fits ν c s x t (dimension p j e) i = absurd (let z : ◌≡◌ {A = ℕ} 0 1 = cc in omega arith)
+bind-fits ν c s x t (no-factor j e) i = absurd (let z : ◌≡◌ {A = ℕ} 0 1 = cc in omega arith)
+bind-fits ν c s x t (first-factor y k p r n j e) i = let z : dim r ≡ t = cc in rw j (omega (arith, ap size z, each-length _ p r n))
+bind-fits ν c s x t (closed-struct n m as' fs u v o f j e) i = absurd (let z : ◌≡◌ {A = ℕ} 0 1 = cc in omega arith)
+
+-- ══ By the answer ══
+
+module _ (pool table : List ℕ) (d : List ℕ) (o : Others) (r : code.Step) (c : Con ℕ) (k : Taken pool table d o r c) where
+  abbrev tried : Got (Step ℕ)
+  tried = trySatisfy (numbers pool table) bounded c
+
+  pub record TookBind (q : ℕ) : Type 0 where
+    pub name : ℕ
+    pub type : Ty ℕ
+    pub is : trySatisfy (numbers pool table) bounded c ≡ got (bind name type)
+    pub there : IsBinds d 0 q (name ≔ type ∷ [])
+    pub good : records.goodBinding pool table 0 (name ≔ type) ≡ true
+    pub deep : depth type ≤ 64
+    pub fits : q ≤ 2048
+
+  pub record TookSplit (q : ℕ) : Type 0 where
+    pub cons : List (Con ℕ)
+    pub is : trySatisfy (numbers pool table) bounded c ≡ got (split cons)
+    pub many : q ≡ sum_of sizeCon cons
+    pub there : q ≤ 2048 → IsCons d 0 q cons
+    pub sound : SoundSet pool table cons
+
+  -- what the answer says of the outcome
+  answered : {s : code.Step} → r ≡ s → Stepped k.was d 0 (Ok s) tried
+  answered i = subst (λ (x : code.Step). Stepped k.was d 0 (Ok x) tried) i k.stepped
+
+  pub took-bind : {q : ℕ} → 8192 ≤ length d → r ≡ Bind q → TookBind q
+  unfolding all collect goodBinding
+  took-bind {q} room i = go tried refl (answered i)
+    where
+      go : (R : Got (Step ℕ)) → tried ≡ R → Stepped k.was d 0 (Ok (Bind q)) R → TookBind q
+      go (got (bind x t)) j s =
+          let f = s.says.0 in
+          let z : q ≡ 0 + sizeBinding (x ≔ t) = cc in
+          let v = rule (numbers pool table) bounded c (bind x t) j in
+          let g = rule-good (numbers pool table) (law pool table) (holding pool table) 0 c (bind x t) v k.good in
+          let fits : sizeBinding (x ≔ t) ≤ 2048 = omega (arith, bind-fits (numbers pool table) c (bind x t) x t v refl, k.short) in
+          let good : records.goodBinding pool table 0 (x ≔ t) ≡ true = and_both g.name g.type in
+          let n : length d ≡ length k.was = ap length s.says.1 ∙ length-sets k.was 0 (words (writeBinding (x ≔ t))) in
+          let e : q ≡ 0 + sum_of sizeBinding (x ≔ t ∷ []) = omega (arith, z) in
+          let a : d ≡ _ = s.says.1 ∙ ap (λ rs. sets k.was 0 (words rs)) (sym (append-nil (writeBinding (x ≔ t)))) in
+          record {
+            name = x;
+            type = t;
+            is = j;
+            there = rw e (written-binds pool table k.was d 0 (x ≔ t ∷ []) a (omega (arith, n, fits, room))
+                (binds-weaker pool table (x ≔ t ∷ []) (and_both good refl)));
+            good = good;
+            deep = omega (arith, rule-within (numbers pool table) bounded c (bind x t) v, k.deep);
+            fits = omega (arith, z, fits);
+          }
+      go (got (split cs)) j s = absurd (let f = s.says.0 in let z : ◌≡◌ {A = ℕ} 0 1 = cc in omega arith)
+      go (got done) j s = absurd (let f = s.says.0 in let z : ◌≡◌ {A = ℕ} 0 1 = cc in omega arith)
+      go (got stuck) j s = absurd (let f = s.says.0 in let z : ◌≡◌ {A = ℕ} 0 1 = cc in omega arith)
+      go (refused l) j s = absurd s.says
+
+  pub took-split : {q : ℕ} → 8192 ≤ length d → r ≡ Split q → TookSplit q
+  took-split {q} room i = go tried refl (answered i)
+    where
+      go : (R : Got (Step ℕ)) → tried ≡ R → Stepped k.was d 0 (Ok (Split q)) R → TookSplit q
+      go (got (bind x t)) j s = absurd (let f = s.says.0 in let z : ◌≡◌ {A = ℕ} 0 1 = cc in omega arith)
+      go (got (split cs)) j s =
+          let f = s.says.0 in
+          let z : q ≡ 0 + sum_of sizeCon cs = cc in
+          let v = rule (numbers pool table) bounded c (split cs) j in
+          let g = is_all (records.goodCon pool table 0) cs (rule-good (numbers pool table) (law pool table) (holding pool table) 0 c (split cs) v k.good) in
+          let n : length d ≡ length k.was = ap length s.says.1 ∙ length-sets k.was 0 (words (collect writeCon cs)) in
+          record {
+            cons = cs;
+            is = j;
+            many = omega (arith, z);
+            there = λ few. rw z (written-cons pool table k.was d 0 cs s.says.1 (omega (arith, n, z, few, room)) (cons-weaker pool table cs g));
+            sound = record { good = g; flat = omega (arith, most depthCon cs (depthCon c) (rule-within (numbers pool table) bounded c (split cs) v), k.deep) };
+          }
+      go (got done) j s = absurd (let f = s.says.0 in let z : ◌≡◌ {A = ℕ} 0 1 = cc in omega arith)
+      go (got stuck) j s = absurd (let f = s.says.0 in let z : ◌≡◌ {A = ℕ} 0 1 = cc in omega arith)
+      go (refused l) j s = absurd s.says
+
+  pub took-done : r ≡ Done → tried ≡ got done
+  took-done i = go tried (answered i)
+    where
+      go : (R : Got (Step ℕ)) → Stepped k.was d 0 (Ok Done) R → R ≡ got done
+      go (got (bind x t)) s = absurd (let f = s.says.0 in let z : ◌≡◌ {A = ℕ} 0 1 = cc in omega arith)
+      go (got (split cs)) s = absurd (let f = s.says.0 in let z : ◌≡◌ {A = ℕ} 0 1 = cc in omega arith)
+      go (got done) s = refl
+      go (got stuck) s = absurd (let f = s.says.0 in let z : ◌≡◌ {A = ℕ} 0 1 = cc in omega arith)
+      go (refused l) s = absurd s.says
+
+-- whether no rule applies
+pub stuck-is : {was d : List ℕ} {out : ℕ} {r : code.Step} {R : Got (Step ℕ)} → Stepped was d out (Ok r) R → r ≡ Stuck → R ≡ got stuck
+stuck-is {was} {d} {out} {r} {R} s i = go R (subst (λ (x : code.Step). Stepped was d out (Ok x) R) i s)
+  where
+    go : (R : Got (Step ℕ)) → Stepped was d out (Ok Stuck) R → R ≡ got stuck
+    go (got (bind x t)) s = absurd (let f = s.says.0 in let z : ◌≡◌ {A = ℕ} 0 1 = cc in omega arith)
+    go (got (split cs)) s = absurd (let f = s.says.0 in let z : ◌≡◌ {A = ℕ} 0 1 = cc in omega arith)
+    go (got done) s = absurd (let f = s.says.0 in let z : ◌≡◌ {A = ℕ} 0 1 = cc in omega arith)
+    go (got stuck) s = refl
+    go (refused l) s = absurd s.says
+
+pub some-rule : {was d : List ℕ} {out : ℕ} {r : code.Step} {R : Got (Step ℕ)} → Stepped was d out (Ok r) R → (r ≡ Stuck → ⊥) → R ≡ got stuck → ⊥
+some-rule {was} {d} {out} {r} {R} s other e = other (let f = (subst (Stepped was d out (Ok r)) e s).says.0 in cc)
+
+pub none-there : (s : List ℕ) → IsCons s 0 0 []
+unfolding HoldsCons
+none-there s = record { held = tt; ends = omega arith }
+
+-- a refusal is the rule's
+pub took-refused : {was d : List ℕ} {out : ℕ} {why : Refusal} {R : Got (Step ℕ)} → Stepped was d out (Err why) R → R ≡ refused (number_of why)
+took-refused {was} {d} {out} {why} {R} = go R
+  where
+    go : (R : Got (Step ℕ)) → Stepped was d out (Err why) R → R ≡ refused (number_of why)
+    go (got (bind x t)) s = absurd (let f = s.says.0 in let z : ◌≡◌ {A = ℕ} 0 1 = cc in omega arith)
+    go (got (split cs)) s = absurd (let f = s.says.0 in let z : ◌≡◌ {A = ℕ} 0 1 = cc in omega arith)
+    go (got done) s = absurd (let f = s.says.0 in let z : ◌≡◌ {A = ℕ} 0 1 = cc in omega arith)
+    go (got stuck) s = absurd (let f = s.says.0 in let z : ◌≡◌ {A = ℕ} 0 1 = cc in omega arith)
+    go (refused j) s = ap refused (sym s.says)
+
+pub not-stuck : {R : Got (Step ℕ)} {l : ℕ} → R ≡ refused l → R ≡ got stuck → ⊥
+not-stuck e i = let z = sym e ∙ i in cc
+
+-- whichever constraints or bindings stand there, they are these
+pub set-same : (s : List ℕ) (at end : ℕ) (cs : List (Con ℕ)) → IsCons s at end cs → (y : Cons s at end) → y.0 ≡ cs
+set-same s at end cs h y = ap (λ (z : Cons s at end). z.0) (one-set s at end y (cs, h))
+
+pub binds-same : (s : List ℕ) (at end : ℕ) (bs : List (Binding ℕ)) → IsBinds s at end bs → (y : Binds s at end) → y.0 ≡ bs
+binds-same s at end bs h y = ap (λ (z : Binds s at end). z.0) (one-binds s at end y (bs, h))

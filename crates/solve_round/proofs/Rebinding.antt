@@ -1,0 +1,239 @@
+-- A new binding put into the constraints and the older bindings, and written behind them.
+use Rattle.std.specs.Prelude.{◌≡◌, refl, Bool, true, List, [], ◌∷◌, ◌++◌, ℕ, ◌≤◌, min, length, Result, Ok, Err}
+use Rattle.std.proofs.Common.{arith, ap, sym, subst, ◌∙◌}
+use Rattle.std.proofs.Math.Option.{Option, some}
+use Rattle.rules.specs.Base.{Got, got, refused, ◌>>=◌, bounded, all, each, collect, sum_of}
+use Rattle.rules.specs.Refusals.{number_of}
+use Rattle.rules.specs.Replacing.{Look, bindings, replaceCon, replaceBinding}
+use Rattle.rules.specs.Rounds.{State, perform, sizeState}
+use Rattle.rules.specs.Trees.{Open, Ty, Con, Binding, ◌≔◌, sizeCon, sizeBinding, depthCon, depthBinding}
+use Rattle.rules.specs.Writing.{Rec, writeCon, writeBinding}
+use Rattle.rules.specs.declared.Refusal.{Refusal}
+use Rattle.laws.specs.Contents.{collect-append}
+use Rattle.laws.specs.Lists.{and_both}
+use Rattle.laws.specs.NameTable.{Good}
+use Rattle.laws.specs.Nesting.{max_both, cons-deep, bindings-deep}
+use Rattle.laws.specs.Size.{set-length, bindings-length}
+use Rattle.records.specs.Cut.{cut, cut-length, short-con, short-binding, short-all}
+use Rattle.records.specs.Good.{goodBinding, goodCon, goodTy, numbers, holding}
+use Rattle.replace.specs.Kept.{binds-weaker, cons-kept, binds-kept}
+use Rattle.replace.specs.Leaves.{LeavesOf, Leaves}
+use Rattle.replace.specs.Runs.{looked-good}
+use Rattle.replace.specs.Substitutions.{ALook, one-look}
+use Rattle.replace.specs.Well.{names, Listed, Lent}
+use Rattle.replace.specs.Written.{as-run}
+use Rattle.replace_table.specs.Filling.{Fills}
+use Rattle.types.specs.declared.Bindings.{Bindings}
+use Rattle.types.specs.declared.writer.Writer.{Writer}
+use Rattle.types.specs.Binds.{IsBinds}
+use Rattle.types.specs.Written.{last, Writes, writes-then}
+use Rattle.solve_round.specs.declared.Others.{Others}
+use Rattle.solve_round.specs.Parts.{keeps, Known, leaf, Made, others, rebinds, SoundOthers, BoundTo}
+use Rattle.solve_round.proofs.Limits.{all_both, depth-is, leaf-flat, size-is, sum_both}
+use Rattle.solve_round.proofs.Written.{cons-there, binds-there, long-same}
+
+module _ {B : Type 0} where
+  whole : (R : Got (List B)) → R ≡ (R >>= λ vs. got vs)
+  whole (got v) = refl
+  whole (refused k) = refl
+
+  behind : (R : Got B) (S T : Got (List B))
+      → (R >>= λ y. (S >>= λ us. T >>= λ vs. got (us ++ vs)) >>= λ zs. got (y ∷ zs))
+      ≡ ((R >>= λ y. S >>= λ us. got (y ∷ us)) >>= λ us. T >>= λ vs. got (us ++ vs))
+  behind (refused k) S T = refl
+  behind (got y) (refused k) T = refl
+  behind (got y) (got us) (refused k) = refl
+  behind (got y) (got us) (got vs) = refl
+
+  each-both : {A : Type 0} (f : A → Got B) (xs ys : List A) → each f (xs ++ ys) ≡ (each f xs >>= λ us. each f ys >>= λ vs. got (us ++ vs))
+  unfolding each
+  each-both f [] ys = whole (each f ys)
+  each-both f (x ∷ xs) ys = rw (each-both f xs ys) (behind (f x) (each f xs) (each f ys))
+
+-- a walk that came to its end; and one that stopped
+pub record Came {A : Type 0} (ws : A → List Rec) (w w' : Writer) (R : Got A) : Type 0 where
+  pub value : A
+  pub is : R ≡ got value
+  pub wrote : Writes w w' (cut (ws value))
+
+module _ {A : Type 0} {ws : A → List Rec} {w w' : Writer} where
+  pub came : {r : Result (Unit {0}) Refusal} {R : Got A} → r ≡ Ok tt → Leaves ws w w' r R → Came ws w w' R
+  came {r} {R} e h = go R refl (subst (λ (x : Result (Unit {0}) Refusal). LeavesOf ws w w' x R) e h.says)
+    where
+      go : (S : Got A) → R ≡ S → LeavesOf ws w w' (Ok tt) S → Came ws w w' R
+      go (got a) i p = record { value = a; is = i; wrote = p }
+      go (refused k) i p = absurd p
+
+  pub stopped : {r : Result (Unit {0}) Refusal} {k : Refusal} {R : Got A} → r ≡ Err k → Leaves ws w w' r R → R ≡ refused (number_of k)
+  stopped {r} {k} {R} e h = go R (subst (λ (x : Result (Unit {0}) Refusal). LeavesOf ws w w' x R) e h.says)
+    where
+      go : (S : Got A) → LeavesOf ws w w' (Err k) S → S ≡ refused (number_of k)
+      go (got a) p = absurd p
+      go (refused j) p = ap (λ (n : ℕ). refused n) (sym p)
+
+-- ══ What is put in ══
+
+module _ (pool table : List ℕ) {b : Bindings} {x : ℕ} {t : Ty ℕ} (h : BoundTo pool table b x t) where
+  abbrev pub one : List (Binding ℕ)
+  one = x ≔ t ∷ []
+
+  good-one : all (goodBinding pool table 0) one ≡ true
+  unfolding all
+  good-one = and_both h.good refl
+
+  pub there : IsBinds b.words.now b.at b.end one
+  there = subst (IsBinds b.words.now b.at b.end) h.is b.trees.1
+
+  pub listed : Listed pool table b.words.now b.at b.end one
+  unfolding all
+  listed = record {
+    run = as-run b.words.now one b.at b.end there;
+    good = and_both (binds-weaker pool table one good-one).0 refl;
+    short = h.short;
+    near = b.near;
+  }
+
+  pub lent : {places : List ℕ} → Fills b.words.now b.at b.end places → Good pool table → Lent pool table places b.words.now (bindings (names pool table) one)
+  lent f g = f pool table one g listed
+
+  -- whichever way it is told what the names become
+  pub same-look : {places : List ℕ} (p : ALook pool table places b.words.now) → Fills b.words.now b.at b.end places → Good pool table
+      → p.0 ≡ bindings (names pool table) one
+  same-look {places} p f g = ap (λ (l : ALook pool table places b.words.now). l.0)
+      (one-look pool table places b.words.now p (bindings (names pool table) one, lent f g))
+
+-- ══ What they make ══
+
+module _ (pool table : List ℕ) {b : Bindings} {x : ℕ} {t : Ty ℕ} (h : BoundTo pool table b x t) (o : Others) (s : SoundOthers pool table o)
+    (look : Look ℕ) (same : look ≡ bindings (names pool table) (x ≔ t ∷ [])) where
+  abbrev conR : Con ℕ → Got (Con ℕ)
+  conR c = replaceCon (names pool table) bounded look c
+
+  abbrev bindR : Binding ℕ → Got (Binding ℕ)
+  bindR c = replaceBinding (names pool table) bounded look c
+
+  abbrev fst : Got (List (Con ℕ))
+  fst = each conR o.before.trees.0
+
+  abbrev snd : Got (List (Con ℕ))
+  snd = each conR o.behind.trees.0
+
+  abbrev trd : Got (List (Binding ℕ))
+  trd = each bindR o.bindings.trees.0
+
+  abbrev R : Got (Option (State ℕ))
+  R = rebinds pool table (others o) x t o.bindings.trees.0
+
+  pub first-stops : {k : ℕ} → fst ≡ refused k → R ≡ refused k
+  unfolding perform
+  first-stops e = rw (← same, each-both conR o.before.trees.0 o.behind.trees.0, e)
+
+  pub second-stops : {k : ℕ} {us : List (Con ℕ)} → fst ≡ got us → snd ≡ refused k → R ≡ refused k
+  unfolding perform
+  second-stops d e = rw (← same, each-both conR o.before.trees.0 o.behind.trees.0, d, e)
+
+  pub third-stops : {k : ℕ} {us vs : List (Con ℕ)} → fst ≡ got us → snd ≡ got vs → trd ≡ refused k → R ≡ refused k
+  unfolding perform
+  third-stops d e f = rw (← same, each-both conR o.before.trees.0 o.behind.trees.0, d, e, f)
+
+  look-good : (n : Open ℕ) (u : Ty ℕ) → look n ≡ some u → goodTy pool table 0 u ≡ true
+  look-good n u e = looked-good (numbers pool table) (holding pool table) 0 (one pool table h) n u (good-one pool table h)
+      (ap (λ (l : Look ℕ). l n) (sym same) ∙ e)
+
+  module _ {us vs : List (Con ℕ)} {zs : List (Binding ℕ)} (d : fst ≡ got us) (e : snd ≡ got vs) (f : trd ≡ got zs) where
+    abbrev pub rebound : State ℕ
+    rebound = record { cons = us ++ vs; binds = zs ++ (x ≔ t ∷ []) }
+
+    pub rebinds-is : R ≡ keeps rebound
+    unfolding perform
+    rebinds-is = rw (← same, each-both conR o.before.trees.0 o.behind.trees.0, d, e, f)
+
+    pub made-good : all (goodCon pool table 0) (us ++ vs) ≡ true
+    made-good = all_both (goodCon pool table 0) us vs ((cons-kept pool table look look-good o.before.trees.0 s.before.good).holds us d)
+        ((cons-kept pool table look look-good o.behind.trees.0 s.behind.good).holds vs e)
+
+    pub binds-good : all (goodBinding pool table 0) (zs ++ (x ≔ t ∷ [])) ≡ true
+    binds-good = all_both (goodBinding pool table 0) zs (x ≔ t ∷ [])
+        ((binds-kept pool table look look-good o.bindings.trees.0 s.bindings.good).holds zs f) (good-one pool table h)
+
+    -- bound to a type without types inside
+    pub known : {p : Bool} → p ≡ leaf t → Known p rebound
+    unfolding depthBinding
+    known i j =
+        let low = leaf-flat t (sym i ∙ j) in
+        let a = (cons-deep (names pool table) bounded x t 0 low o.before.trees.0).holds us (rw (← same) d) in
+        let c = (cons-deep (names pool table) bounded x t 0 low o.behind.trees.0).holds vs (rw (← same) e) in
+        let g = (bindings-deep (names pool table) bounded x t 0 low o.bindings.trees.0).holds zs (rw (← same) f) in
+        omega (
+          arith,
+          depth-is rebound,
+          max_both depthCon us vs,
+          max_both depthBinding zs (x ≔ t ∷ []),
+          a,
+          c,
+          g,
+          low,
+          s.before.flat,
+          s.behind.flat,
+          s.bindings.flat,
+        )
+
+    -- ══ What was written ══
+
+    module _ {w w₁ w₂ w₃ w₄ : Writer} (front : w.at ≡ 0) (room : 8192 ≤ length w.words.now) (near : length w.words.now ≤ 4_000_000_000)
+        (p : Writes w w₁ (cut (collect writeCon us))) (q : Writes w₁ w₂ (cut (collect writeCon vs)))
+        (r : Writes w₂ w₃ (cut (collect writeBinding zs))) (l : Writes w₃ w₄ (collect writeBinding b.trees.0)) where
+      cut-many : min w₄.at last ≡ min (sizeState rebound) last
+      cut-many =
+          omega (
+            arith,
+            p.at,
+            q.at,
+            r.at,
+            l.at,
+            front,
+            cut-length (collect writeCon us),
+            cut-length (collect writeCon vs),
+            cut-length (collect writeBinding zs),
+            set-length us,
+            set-length vs,
+            bindings-length zs,
+            bindings-length b.trees.0,
+            ap (sum_of sizeBinding) h.is,
+            size-is rebound,
+            sum_both sizeCon us vs,
+            sum_both sizeBinding zs (x ≔ t ∷ []),
+          )
+
+      module _ (few : w₄.at ≤ 2048) where
+        small : sizeState rebound ≤ 2048
+        small = omega (arith, cut-many, few)
+
+        cons-written : Writes w w₂ (collect writeCon (us ++ vs))
+        cons-written =
+            let k : sum_of sizeCon us ≤ 65_535 = omega (arith, small, size-is rebound, sum_both sizeCon us vs) in
+            let m : sum_of sizeCon vs ≤ 65_535 = omega (arith, small, size-is rebound, sum_both sizeCon us vs) in
+            let i : cut (collect writeCon us) ≡ collect writeCon us = short-all sizeCon writeCon short-con us k in
+            let j : cut (collect writeCon vs) ≡ collect writeCon vs = short-all sizeCon writeCon short-con vs m in
+            let z : collect writeCon us ++ collect writeCon vs ≡ collect writeCon (us ++ vs) = sym (collect-append writeCon us vs) in
+            subst (Writes w w₂) z (writes-then (collect writeCon us) (collect writeCon vs) (subst (Writes w w₁) i p) (subst (Writes w₁ w₂) j q))
+
+        binds-written : Writes w₂ w₄ (collect writeBinding (zs ++ (x ≔ t ∷ [])))
+        binds-written =
+            let k : sum_of sizeBinding zs ≤ 65_535 = omega (arith, small, size-is rebound, sum_both sizeBinding zs (x ≔ t ∷ [])) in
+            let i : cut (collect writeBinding zs) ≡ collect writeBinding zs = short-all sizeBinding writeBinding short-binding zs k in
+            let j : collect writeBinding b.trees.0 ≡ collect writeBinding (x ≔ t ∷ []) = ap (collect writeBinding) h.is in
+            let z : collect writeBinding zs ++ collect writeBinding (x ≔ t ∷ []) ≡ collect writeBinding (zs ++ (x ≔ t ∷ [])) =
+            sym (collect-append writeBinding zs (x ≔ t ∷ [])) in
+            subst (Writes w₂ w₄) z (writes-then (collect writeBinding zs) (collect writeBinding (x ≔ t ∷ [])) (subst (Writes w₂ w₃) i r)
+            (subst (Writes w₃ w₄) j l))
+
+      pub rebind-made : Made pool table w₄.words.now (record { constraints = w₂.at; bindings = w₄.at }) rebound
+      rebind-made = record {
+        many = cut-many;
+        near = λ few. omega (arith, near, long-same pool table rebound front room (cons-written few) (binds-written few) made-good binds-good few);
+        cons = λ few. cons-there pool table rebound front room (cons-written few) (binds-written few) made-good binds-good few;
+        binds = λ few. binds-there pool table rebound front room (cons-written few) (binds-written few) made-good binds-good few;
+        good_cons = made-good;
+        good_binds = binds-good;
+      }

@@ -1,0 +1,179 @@
+-- The first constraint to which a rule applies: what is left of the search.
+use Rattle.std.specs.Prelude.{◌≡◌, true, refl, List, [], ◌∷◌, ◌++◌, ℕ, ◌+◌, ◌≤◌}
+use Rattle.std.proofs.Common.{ap, arith, sym, subst, ◌∙◌}
+use Rattle.std.proofs.Math.Bool.{and-eq-true_iff}
+use mathlib.Core.List.{append-nil, cons≢nil}
+use Rattle.std.proofs.Math.Option.{Option, none, some}
+use Rattle.std.proofs.Math.Seq.{append_snoc}
+use Rattle.rules.specs.Base.{Got, got, refused, ◌>>=◌, bounded, all, and_then, sum_of}
+use Rattle.rules.specs.Rounds.{Step, bind, split, done, stuck, State, trySatisfy, taken, firstStep, perform, performed, round}
+use Rattle.rules.specs.Trees.{Con, Binding, sizeCon, depthCon}
+use Rattle.laws.specs.Lists.{and_both}
+use Rattle.records.specs.Good.{goodCon, numbers}
+use Rattle.records.specs.Holds.{HoldsCon}
+use Rattle.types.specs.Sets.{HoldsCons, IsCons, placed}
+use Rattle.solve_round.specs.declared.Others.{Others}
+use Rattle.solve_round.specs.States.{SoundSet}
+use Rattle.solve_round.specs.Parts.{after, performs}
+use Rattle.solve_round.proofs.Limits.{sound-both, sound-none, sum_both}
+
+-- constraints with the words that they stand in, and their places there
+abbrev pub Rest : Type 0
+Rest = List (List ℕ × ℕ × Con ℕ)
+
+cons-join : (s : List ℕ) (cs ds : List (Con ℕ)) (at m : ℕ) → m ≡ at + sum_of sizeCon cs → HoldsCons s cs at → HoldsCons s ds m → HoldsCons s (cs ++ ds) at
+unfolding HoldsCons
+cons-join s [] ds at m e h k = let z : m ≡ at = omega (arith, e) in subst (HoldsCons s ds) z k
+cons-join s (c ∷ cs) ds at m e h k = (h.0, cons-join s cs ds (at + sizeCon c) m (omega (arith, e)) h.1 k)
+
+module _ (pool table : List ℕ) where
+  -- what the round gives when no rule applies to those before
+  unfoldable pub leads : List (Con ℕ) → List (Con ℕ) → List (Binding ℕ) → Got (Option (State ℕ))
+  leads before rest bs = firstStep (numbers pool table) bounded rest
+      >>= λ f. performed (numbers pool table) bounded bs (and_then f (λ v. some (v.0, before ++ v.1)))
+
+  module _ (w : List ℕ) (from n : ℕ) (set : List (Con ℕ)) (bs : List (Binding ℕ)) where
+    abbrev pub whole : Got (Option (State ℕ))
+    whole = round (numbers pool table) bounded (record { cons = set; binds = bs })
+
+    -- no rule applies to the constraints before those that are left
+    pub record Search (left : Rest) : Type 0 where
+      pub before : List (Con ℕ)
+      pub rest : List (Con ℕ)
+      pub at : ℕ
+      pub is : left ≡ placed w at rest
+      pub passed : IsCons w from at before
+      pub stay : IsCons w at n rest
+      pub sound_before : SoundSet pool table before
+      pub sound : SoundSet pool table rest
+      pub short : sum_of sizeCon rest ≤ 2048
+      pub decides : whole ≡ leads before rest bs
+
+    all_left : (f : Option (Step ℕ × List (Con ℕ)))
+        → performed (numbers pool table) bounded bs f ≡ performed (numbers pool table) bounded bs (and_then f (λ v. some (v.0, [] ++ v.1)))
+    all_left none = refl
+    all_left (some v) = refl
+
+    pub start : {left : Rest} → IsCons w from n set → SoundSet pool table set → sum_of sizeCon set ≤ 2048 → left ≡ placed w from set → Search left
+    unfolding HoldsCons round leads
+    start h s few e = record {
+      before = [];
+      rest = set;
+      at = from;
+      is = e;
+      passed = record { held = tt; ends = omega arith };
+      stay = h;
+      sound_before = sound-none pool table;
+      sound = s;
+      short = few;
+      decides = go (firstStep (numbers pool table) bounded set);
+    }
+      where
+        go : (R : Got (Option (Step ℕ × List (Con ℕ)))) → (R >>= λ f. performed (numbers pool table) bounded bs f)
+            ≡ (R >>= λ f. performed (numbers pool table) bounded bs (and_then f (λ v. some (v.0, [] ++ v.1))))
+        go (got f) = all_left f
+        go (refused k) = refl
+
+    -- none is left
+    pub ended : {left : Rest} → Search left → left ≡ [] → whole ≡ got none
+    unfolding leads firstStep performed
+    ended {left} s e = s.decides ∙ go s.rest (sym s.is ∙ e)
+      where
+        go : (cs : List (Con ℕ)) → placed w s.at cs ≡ [] → leads s.before cs bs ≡ got none
+        go [] q = refl
+        go (c ∷ cs) q = absurd (cons≢nil q)
+
+    -- the next one
+    pub record Found (x : List ℕ × ℕ × Con ℕ) (left : Rest) : Type 0 where
+      pub before : List (Con ℕ)
+      pub behind : List (Con ℕ)
+      pub held : HoldsCon w x.2 x.1
+      pub good : goodCon pool table 0 x.2 ≡ true
+      pub deep : depthCon x.2 ≤ 64
+      pub short : sizeCon x.2 + sum_of sizeCon behind ≤ 2048
+      pub passed : IsCons w from x.1 before
+      pub stay : IsCons w (x.1 + sizeCon x.2) n behind
+      pub sound_before : SoundSet pool table before
+      pub sound_behind : SoundSet pool table behind
+      pub decides : whole ≡ leads before (x.2 ∷ behind) bs
+      pub is : left ≡ placed w (x.1 + sizeCon x.2) behind
+
+    pub found : {now : Rest} (x : List ℕ × ℕ × Con ℕ) (left : Rest) → Search now → now ≡ x ∷ left → Found x left
+    unfolding HoldsCons all
+    found {now} x left s e = go s.rest s.stay s.sound s.short s.decides (sym s.is ∙ e)
+      where
+        go : (cs : List (Con ℕ)) → IsCons w s.at n cs → SoundSet pool table cs → sum_of sizeCon cs ≤ 2048 → whole ≡ leads s.before cs bs
+            → placed w s.at cs ≡ x ∷ left → Found x left
+        go [] p k few d q = absurd (cons≢nil (sym q))
+        go (c ∷ cs) p k few d q =
+            let first : (w, s.at, c) ≡ x = cc in
+            let rest : placed w (s.at + sizeCon c) cs ≡ left = cc in
+            let g = (and-eq-true_iff (goodCon pool table 0 c) (all (goodCon pool table 0) cs)).0 k.good in
+            let f : Found (w, s.at, c) left = record {
+              before = s.before;
+              behind = cs;
+              held = p.held.0;
+              good = g.0;
+              deep = omega (arith, k.flat);
+              short = few;
+              passed = s.passed;
+              stay = record { held = p.held.1; ends = omega (arith, p.ends) };
+              sound_before = s.sound_before;
+              sound_behind = record { good = g.1; flat = omega (arith, k.flat) };
+              decides = d;
+              is = sym rest;
+            } in
+            subst (λ (y : List ℕ × ℕ × Con ℕ). Found y left) first f
+
+    module _ {x : List ℕ × ℕ × Con ℕ} {left : Rest} (f : Found x left) where
+      abbrev c : Con ℕ
+      c = x.2
+
+      -- a rule applies to it
+      pub applied : (o : Others) → o.before.trees.0 ≡ f.before → o.behind.trees.0 ≡ f.behind → o.bindings.trees.0 ≡ bs
+          → (trySatisfy (numbers pool table) bounded c ≡ got stuck → ⊥) → whole ≡ performs pool table o c
+      unfolding leads firstStep taken performed perform
+      applied o i j l some-rule = f.decides ∙ go (trySatisfy (numbers pool table) bounded c) refl
+        where
+          go : (R : Got (Step ℕ)) → trySatisfy (numbers pool table) bounded c ≡ R → leads f.before (c ∷ f.behind) bs ≡ after pool table o R
+          go (got (bind y t)) e = rw (e, i, j, l) refl
+          go (got (split new)) e = rw (e, i, j, l) refl
+          go (got done) e = rw (e, i, j, l, append-nil (f.before ++ f.behind)) refl
+          go (got stuck) e = absurd (some-rule e)
+          go (refused k) e = rw e refl
+
+      -- it is refused
+      pub stops : {k : ℕ} → trySatisfy (numbers pool table) bounded c ≡ refused k → whole ≡ refused k
+      unfolding leads firstStep
+      stops e = f.decides ∙ rw e refl
+
+      -- or none does
+      leads-on : trySatisfy (numbers pool table) bounded c ≡ got stuck → leads f.before (c ∷ f.behind) bs ≡ leads (f.before ++ c ∷ []) f.behind bs
+      unfolding leads firstStep taken
+      leads-on e = rw e (go (firstStep (numbers pool table) bounded f.behind))
+        where
+          go : (R : Got (Option (Step ℕ × List (Con ℕ))))
+              → ((R >>= λ r. got (and_then {B = Step ℕ × List (Con ℕ)} r (λ v. some (v.0, c ∷ v.1))))
+              >>= λ f'. performed (numbers pool table) bounded bs (and_then f' (λ v. some (v.0, f.before ++ v.1))))
+              ≡ (R >>= λ f'. performed (numbers pool table) bounded bs (and_then f' (λ v. some (v.0, (f.before ++ c ∷ []) ++ v.1))))
+          go (refused k) = refl
+          go (got none) = refl
+          go (got (some v)) = ap (λ (l : List (Con ℕ)). performed (numbers pool table) bounded bs (some (v.0, l))) (sym (append_snoc f.before c v.1))
+
+      pub on : trySatisfy (numbers pool table) bounded c ≡ got stuck → Search left
+      unfolding HoldsCons all
+      on stuck-here = record {
+        before = f.before ++ c ∷ [];
+        rest = f.behind;
+        at = x.1 + sizeCon c;
+        is = f.is;
+        passed = record {
+          held = cons-join w f.before (c ∷ []) from x.1 f.passed.ends f.passed.held (f.held, tt);
+          ends = omega (arith, f.passed.ends, sum_both sizeCon f.before (c ∷ []));
+        };
+        stay = f.stay;
+        sound_before = sound-both pool table f.before (c ∷ []) f.sound_before (record { good = and_both f.good refl; flat = omega (arith, f.deep) });
+        sound = f.sound_behind;
+        short = omega (arith, f.short);
+        decides = f.decides ∙ leads-on stuck-here;
+      }

@@ -1,0 +1,269 @@
+//! One round: the first constraint to which a rule applies is taken, and the state after it is written to another buffer, in the order of the rules.
+ghost use Rattle.std.specs.Prelude.{◌≡◌, List, [], ◌∷◌, ℕ, ◌≤◌, length};
+ghost use Rattle.rules.specs.Rounds.{State};
+ghost use Rattle.rules.specs.Trees.{Ty, Con, ◌≔◌};
+ghost use Rattle.solve_round.specs.Parts.{appends, BoundTo, Known, keeps, leaf, Limited, Made, Next, Puts, SoundOthers, SoundSet};
+ghost use Rattle.solve_round.specs.Standing.{performed, rebound, rounded, SoundState, Standing, stateOf, TakenBy, Turns};
+
+use super::{Ends, Others};
+use names::tables::NameTable;
+use replace_table::inner::fill;
+use replace::inner::constraints::{replace_bindings, replace_constraints};
+use replace::inner::flat::{bindings_flat, constraints_flat};
+use replace::substitution::Substitution;
+use rules::{NAMES, RECORDS, Refusal};
+use solve_step::Step;
+use solve_step::inner::try_satisfy;
+use types::writer::Writer;
+use types::{Bindings, Constraints, Shape, Type};
+
+/// Is a type a name, a basic type or a dimension? Such a type is nested 1 deep.
+#[tactic(auto, unfolding(crate::specs::Parts::leaf))]
+fn is_leaf(t: Type) -> bool
+    ensures { result ≡ leaf t.entry.tree.0 }
+{
+    match t.shape() {
+        Shape::Open(_) => true,
+        Shape::Basic(_) => true,
+        Shape::Dimension(_) => true,
+        Shape::Function(_, _) => false,
+        Shape::Struct(_, _, _) => false,
+        Shape::List(_) => false,
+    }
+}
+
+/// Is the first of some bindings one to such a type?
+fn binds_leaf(bindings: Bindings) -> bool
+    ensures { (x : ℕ) (t : Ty ℕ) → bindings.entry.trees.0 ≡ x ≔ t ∷ [] → result ≡ leaf t }
+{
+    match bindings.split_first() {
+        Some((first, _)) => is_leaf(first.to),
+        None => true,
+    }
+}
+
+/// The state that was made, if it keeps the limits. It is not walked where it is known to be flat.
+fn limited(names: NameTable, out: &Writer, ends: Ends, flat: bool) -> Result<Option<Ends>, Refusal>
+    requires made { (st : State ℕ) × Made names.pool.now names.table.now out.now.words.now ends st × Known flat st }
+    ensures { (st : State ℕ) → Made names.entry.pool.now names.entry.table.now out.now.words.now ends st → Known flat st → Limited ends st result (keeps st) }
+{
+    if RECORDS < ends.bindings {
+        return Err(Refusal::TooLarge);
+    }
+    if flat {
+        return Ok(Some(ends));
+    }
+    let constraints = Constraints {
+        words: out.words,
+        at: 0,
+        end: ends.constraints,
+    };
+    if !constraints_flat(names, constraints) {
+        return Err(Refusal::TooLarge);
+    }
+    let bindings = Bindings {
+        words: out.words,
+        at: ends.constraints,
+        end: ends.bindings,
+    };
+    if !bindings_flat(names, bindings) {
+        return Err(Refusal::TooLarge);
+    }
+    Ok(Some(ends))
+}
+
+/// Writes the other constraints, the new ones behind them, and the bindings. No rule makes a constraint deeper (`only_binding_deepens`), so the records are
+/// counted and no more.
+fn append(rest: Others, new: Constraints, out: &mut Writer) -> Result<Option<Ends>, Refusal>
+    requires front { out.old.at ≡ 0 }
+    requires room { 8192 ≤ length out.old.words.now }
+    ensures { (pool table : List ℕ) → SoundOthers pool table rest.entry → SoundSet pool table new.entry.trees.0
+        → Next pool table out.old out.new result (appends rest.entry new.entry.trees.0) }
+{
+    out.copy_constraints(rest.before);
+    out.copy_constraints(rest.behind);
+    out.copy_constraints(new);
+    let constraints = out.at;
+    out.copy_bindings(rest.bindings);
+    if RECORDS < out.at {
+        return Err(Refusal::TooLarge); // too many records
+    }
+    Ok(Some(Ends {
+        constraints,
+        bindings: out.at,
+    }))
+}
+
+/// Writes the other constraints and the bindings with what is bound put in, and the new binding behind them.
+fn rebind(
+    by: Substitution,
+    rest: Others,
+    new: Bindings,
+    out: &mut Writer,
+) -> Result<Option<Ends>, Refusal>
+    requires sound { SoundOthers by.names.pool.now by.names.table.now rest }
+    requires bound { (x : ℕ) × (t : Ty ℕ) × BoundTo by.names.pool.now by.names.table.now new x t × Puts by x t }
+    requires front { out.old.at ≡ 0 }
+    requires room { 8192 ≤ length out.old.words.now }
+    requires near { length out.old.words.now ≤ 4_000_000_000 }
+    ensures { (x : ℕ) (t : Ty ℕ) → BoundTo by.entry.names.pool.now by.entry.names.table.now new.entry x t → Puts by.entry x t
+        → Next by.entry.names.pool.now by.entry.names.table.now out.old out.new result (rebound by.entry.names rest.entry x t) }
+{
+    replace_constraints(by, rest.before, out)?;
+    replace_constraints(by, rest.behind, out)?;
+    let constraints = out.at;
+    replace_bindings(by, rest.bindings, out)?;
+    out.copy_bindings(new);
+    let ends = Ends {
+        constraints,
+        bindings: out.at,
+    };
+    let flat = binds_leaf(new); // then nothing became deeper (`only_binding_deepens`)
+    limited(by.names, out, ends, flat)
+}
+
+/// The same with a table of the new binding alone.
+fn bind(
+    names: NameTable,
+    rest: Others,
+    new: Bindings,
+    out: &mut Writer,
+) -> Result<Option<Ends>, Refusal>
+    requires sound { SoundOthers names.pool.now names.table.now rest }
+    requires bound { (x : ℕ) × (t : Ty ℕ) × BoundTo names.pool.now names.table.now new x t }
+    requires front { out.old.at ≡ 0 }
+    requires room { 8192 ≤ length out.old.words.now }
+    requires near { length out.old.words.now ≤ 4_000_000_000 }
+    ensures { (x : ℕ) (t : Ty ℕ) → BoundTo names.entry.pool.now names.entry.table.now new.entry x t
+        → Next names.entry.pool.now names.entry.table.now out.old out.new result (rebound names.entry rest.entry x t) }
+{
+    let mut places = [0u32; NAMES];
+    fill(new.words, new.at, new.end, &mut places);
+    let by = Substitution {
+        names,
+        places: &places,
+        types: new.words,
+    };
+    rebind(by, rest, new, out)
+}
+
+/// Does what the step of the constraint that is taken says; what is new stands at the front of `new`.
+fn perform(
+    names: NameTable,
+    rest: Others,
+    step: Step,
+    new: &[u32],
+    out: &mut Writer,
+) -> Result<Option<Ends>, Refusal>
+    requires taken { (c : Con ℕ) × TakenBy names new.now rest step c }
+    requires new_room { 8192 ≤ length new.now }
+    requires new_near { length new.now ≤ 4_000_000_000 }
+    requires front { out.old.at ≡ 0 }
+    requires room { 8192 ≤ length out.old.words.now }
+    requires near { length out.old.words.now ≤ 4_000_000_000 }
+    ensures { (c : Con ℕ) → TakenBy names.entry new.now rest.entry step c
+        → Next names.entry.pool.now names.entry.table.now out.old out.new result (performed names.entry rest.entry c) }
+{
+    match step {
+        Step::Bind(end) => {
+            let bindings = Bindings {
+                words: new,
+                at: 0,
+                end,
+            };
+            bind(names, rest, bindings, out)
+        }
+        Step::Split(end) => {
+            if RECORDS < end {
+                return Err(Refusal::TooLarge);
+            }
+            let constraints = Constraints {
+                words: new,
+                at: 0,
+                end,
+            };
+            append(rest, constraints, out)
+        }
+        Step::Done => {
+            let constraints = Constraints {
+                words: new,
+                at: 0,
+                end: 0,
+            };
+            append(rest, constraints, out)
+        }
+        Step::Stuck => Ok(None),
+    }
+}
+
+/// The first constraint to which a rule applies is taken, and the next state written.
+fn turn<'x>(
+    names: NameTable,
+    constraints: Constraints<'x>,
+    bindings: Bindings<'x>,
+    new: &mut [u32],
+    out: &mut Writer,
+) -> Result<Option<Ends>, Refusal>
+    requires sound { SoundState names constraints bindings }
+    requires new_room { 8192 ≤ length new.old }
+    requires new_near { length new.old ≤ 4_000_000_000 }
+    requires front { out.old.at ≡ 0 }
+    requires room { 8192 ≤ length out.old.words.now }
+    requires near { length out.old.words.now ≤ 4_000_000_000 }
+    ensures { Next names.entry.pool.now names.entry.table.now out.old out.new result (rounded names.entry (stateOf constraints.entry bindings.entry)) }
+{
+    'search: for c in constraints {
+        let step = try_satisfy(names, c, new, 0)?;
+        let Step::Stuck = step else {
+            let before = Constraints {
+                words: constraints.words,
+                at: constraints.at,
+                end: c.at,
+            };
+            let at = c.end();
+            let behind = Constraints {
+                words: constraints.words,
+                at,
+                end: constraints.end,
+            };
+            let rest = Others {
+                before,
+                behind,
+                bindings,
+            };
+            return perform(names, rest, step, new, out);
+        };
+    }
+    Ok(None)
+}
+
+/// One round on the state that ends at `ends` in the list `state`: the state after it stands at the front of `next`, and it answers where that ends; nothing
+/// where no rule applies. A refusal says nothing of `next`. `new` is room for what one step makes.
+pub fn round(
+    names: NameTable,
+    state: &[u32],
+    ends: Ends,
+    new: &mut [u32],
+    next: &mut [u32],
+) -> Result<Option<Ends>, Refusal>
+    requires standing { (st : State ℕ) × Standing names state.now ends st }
+    requires state_near { length state.now ≤ 4_000_000_000 }
+    requires new_room { 8192 ≤ length new.old }
+    requires new_near { length new.old ≤ 4_000_000_000 }
+    requires room { 8192 ≤ length next.old }
+    requires near { length next.old ≤ 4_000_000_000 }
+    ensures { (st : State ℕ) → Standing names.entry state.now ends st → Turns names.entry next.new result (rounded names.entry st) }
+{
+    let constraints = Constraints {
+        words: state,
+        at: 0,
+        end: ends.constraints,
+    };
+    let bindings = Bindings {
+        words: state,
+        at: ends.constraints,
+        end: ends.bindings,
+    };
+    let mut out = Writer { words: next, at: 0 };
+    turn(names, constraints, bindings, new, &mut out)
+}

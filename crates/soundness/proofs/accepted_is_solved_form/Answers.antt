@@ -1,5 +1,0 @@
-use Rattle.soundness.proofs.Soundness.{solved-form}
-use Rattle.soundness.proofs.accepted_is_solved_form.Goals as goal
-
-pub returns : goal.returns
-returns g c = λ ν held order cs given bs bounds rounds accepts. solved-form ν held order cs given bs bounds rounds accepts

@@ -1,5 +1,0 @@
-use Rattle.soundness.proofs.Soundness.{accepted-true}
-use Rattle.soundness.proofs.accepted_is_true.Goals as goal
-
-pub returns : goal.returns
-returns g c = λ ν held order cs given bs bounds rounds accepts premise. accepted-true ν held order cs given bs bounds rounds accepts premise

@@ -1,5 +1,0 @@
-use Rattle.soundness.proofs.Soundness.{k2-entries}
-use Rattle.soundness.proofs.entries_point_at_types.Goals as goal
-
-pub returns : goal.returns
-returns c = k2-entries

@@ -1,5 +1,0 @@
-use Rattle.soundness.proofs.Soundness.{no-fails}
-use Rattle.soundness.proofs.no_is_failure.Goals as goal
-
-pub returns : goal.returns
-returns g c = λ ν cs bs bounds says. no-fails ν cs bs bounds says

@@ -1,5 +1,0 @@
-use Rattle.soundness.proofs.Violated.{exception-needed, premise-needed}
-use Rattle.soundness.proofs.violated_limits_are_needed.Goals as goal
-
-pub returns : goal.returns
-returns c = record { exception = exception-needed; premise = premise-needed }

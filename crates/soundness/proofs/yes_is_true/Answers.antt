@@ -1,5 +1,0 @@
-use Rattle.soundness.proofs.Soundness.{yes-solves}
-use Rattle.soundness.proofs.yes_is_true.Goals as goal
-
-pub returns : goal.returns
-returns g c = λ ν cs bs bounds says. yes-solves ν cs bs bounds says

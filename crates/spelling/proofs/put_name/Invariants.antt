@@ -1,8 +1,0 @@
-use Rattle.std.specs.Prelude.{Ok}
-use Rattle.std.proofs.Common.{take}
-use Rattle.rules.specs.TextWriting.{nameText}
-use Rattle.spelling.specs.Sinks.{Puts}
-use Rattle.spelling.proofs.put_name.Given as goal
-
-abbrev pub invariant-loop-b : goal.invariant-loop-b
-invariant-loop-b g l = Puts {E = g.row.S-Error.Denot} (g.S.Sink.place l.initial.to) (nameText (take l.b-index l.name)) (Ok tt) (g.S.Sink.place l.to)

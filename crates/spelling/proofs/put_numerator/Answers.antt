@@ -1,7 +1,0 @@
--- `put_numerator` meets its contract.
-use Rattle.spelling.specs.Sinks.{then}
-use Rattle.spelling.proofs.Names.{negative}
-use Rattle.spelling.proofs.put_numerator.Goals as goal
-
-pub returns : goal.returns
-returns g c = rw (negative c.args.b c.if-b-lt2147483648.false) (then _ c.in_ok-put.ensures c.put_digits-2.ensures)

@@ -1,0 +1,5 @@
+use Rattle.text_columns.specs.Told.{refused-in}
+use Rattle.text_columns.proofs.refusals_stay_in_the_line.Goals as goal
+
+pub returns : goal.returns
+returns c = refused-in

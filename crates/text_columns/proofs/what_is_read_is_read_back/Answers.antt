@@ -1,0 +1,12 @@
+use Rattle.laws.specs.NameTable.{given-good, good-given}
+use Rattle.text_columns.specs.Left.{read-back, read-few, read-keeps-good}
+use Rattle.text_columns.specs.Sound.{read-sound}
+use Rattle.text_columns.proofs.what_is_read_is_read_back.Goals as goal
+
+pub returns : goal.returns
+returns c = λ pool table text cs s e. record {
+  back = read-back pool table text e;
+  few = read-few pool table text e;
+  tables = λ g. let x = read-keeps-good pool table text (given-good g) e in (good-given x.0, x.1);
+  sound = λ g. read-sound pool table text (given-good g) e;
+}

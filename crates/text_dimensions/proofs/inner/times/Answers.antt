@@ -1,0 +1,25 @@
+-- `inner::times` meets its contract.
+use Rattle.text_dimensions.specs.Times.{single-well, times-stays, times-done, times-refused}
+use Rattle.text_dimensions.proofs.inner.times.Goals as goal
+
+pub single-requires : goal.single-requires
+single-requires c =
+    (c.requires.held_if _ _ c.in-Ok.is).known
+
+pub multiplied-requires : goal.multiplied-requires
+multiplied-requires c =
+    record { well = c.requires.well; well_2 = (single-well _ _ (c.requires.held_if _ _ c.in-Ok.is) _ c.requires.good_exp _ c.single.ensures).0 }
+
+pub returns-in-Err : goal.returns-in-Err
+returns-in-Err c =
+    times-stays _ _ _ _ c.requires.well c.in-Err.is
+
+pub returns-in-Ok-multiplied : goal.returns-in-Ok-multiplied
+returns-in-Ok-multiplied c =
+    let h = c.in-Ok.is in
+    times-done _ _ _ _ c.requires.well c.single.result h (c.requires.held_if _ _ h) c.requires.good_exp c.single.ensures _ c.in-Ok-multiplied.ensures
+
+pub returns-in-Err-multiplied : goal.returns-in-Err-multiplied
+returns-in-Err-multiplied c =
+    let h = c.in-Ok.is in
+    times-refused _ _ _ _ c.requires.well c.single.result h (c.requires.held_if _ _ h) c.requires.good_exp c.single.ensures _ c.in-Err-multiplied.ensures

@@ -1,0 +1,237 @@
+-- A rule of the grammar from a point of a line on, and what it reads.
+use Rattle.std.specs.Prelude.{◌≡◌, Bool, true, false, [], ◌∷◌, ℕ, suc, ◌+◌, ◌-◌, ◌≤◌, ◌<◌, min, eqb, length, get_or, Err, None, Ok, Option, Result, Some}
+use Rattle.std.proofs.Math.Path.{refl, sym}
+use Rattle.std.proofs.Common.{ap, ◌∙◌, true≢false, add-one, arith, eq-eqb, ne_eqb, drop_of_length-le, drop-cons}
+use Prim.Native.Char.{Char, code}
+use Rattle.rules.specs.Names.{Bytes}
+use Rattle.rules.specs.Grammar.{Place, here, beyond, Parsed, read, bad, Rule, pass, give, skip, spell, spellFrom, starts, ifSign, column, digits, digitsAt}
+use Rattle.text_scan.specs.Scanned.{place_in, Skipped}
+use Rattle.text_scan.specs.Numbers.{NumberRead}
+
+-- how far a line is read: to a place, to a type nested 65 deep, or to the byte that fits nothing
+abbrev pub Point : Type 0
+Point = Result (Option ℕ) ℕ
+
+-- a value read up to a point; nothing where the line is refused
+abbrev pub standing : {A : Type 0} → Bytes → Point → A → Parsed A
+standing line (Ok (Some i)) a = read a (place_in line i)
+standing line (Ok None) a = read a beyond
+standing line (Err q) a = bad (suc q)
+
+-- a rule from a point on
+abbrev pub from : {A : Type 0} → Bytes → Point → Rule A → Parsed A
+from line (Ok (Some i)) R = R (place_in line i)
+from line (Ok None) R = R beyond
+from line (Err q) R = bad (suc q)
+
+abbrev pub PointIn : Bytes → Point → Type 0
+PointIn line (Ok (Some i)) = i ≤ length line
+PointIn line (Ok None) = Unit {0}
+PointIn line (Err q) = Unit {0}
+
+-- how many bytes are left at a point
+abbrev pub left_at : Bytes → Point → ℕ
+left_at line (Ok (Some i)) = length line - i
+left_at line (Ok None) = 0
+left_at line (Err q) = 0
+
+-- a rule goes from a point p to a point r, and its value, if there is one, is told
+pub record Reads {A : Type 0} (line : Bytes) (p : Point) (R : Rule A) (P : A → Type 0) (r : Point) : Type 0 where
+  pub within : PointIn line r
+  pub onward : left_at line r ≤ left_at line p
+  pub value : A
+  pub is : from line p R ≡ standing line r value
+  pub holds : P value
+
+abbrev pub Any : {A : Type 0} → A → Type 0
+Any a = Unit {0}
+
+abbrev pub Same : {A : Type 0} → A → A → Type 0
+Same a v = a ≡ v
+
+abbrev pub Capped : ℕ → ℕ → Type 0
+Capped n v = n ≡ min v 2147483648
+
+-- ══ Rules in turn ══
+
+pass-standing : {A B : Type 0} (line : Bytes) (w : Point) (v : A) (K : A → Rule B) → pass (standing line w v) K ≡ from line w (K v)
+pass-standing line (Ok (Some i)) v K = refl
+pass-standing line (Ok None) v K = refl
+pass-standing line (Err q) v K = refl
+
+from_then : {A B : Type 0} (line : Bytes) (p : Point) (R : Rule A) (K : A → Rule B) → from line p (λ x. pass (R x) K) ≡ pass (from line p R) K
+from_then line (Ok (Some i)) R K = refl
+from_then line (Ok None) R K = refl
+from_then line (Err q) R K = refl
+
+-- a rule, and then another by what was read
+pub in-turn : {A B : Type 0} {line : Bytes} {p w r : Point} {P : A → Type 0} {Q : B → Type 0} (R : Rule A) (K : A → Rule B)
+    → Reads line p R P w → ((v : A) → P v → Reads line w (K v) Q r) → Reads line p (λ x. pass (R x) K) Q r
+in-turn {A} {B} {line} {p} {w} {r} {P} {Q} R K x k =
+    let y = k x.value x.holds in
+    record {
+      within = y.within;
+      onward = omega (arith, y.onward, x.onward);
+      value = y.value;
+      is = from_then line p R K ∙ ap (λ (n : Parsed A). pass n K) x.is ∙ pass-standing line w x.value K ∙ y.is;
+      holds = y.holds;
+    }
+
+from-give : {A : Type 0} (line : Bytes) (w : Point) (a : A) → from line w (give a) ≡ standing line w a
+from-give line (Ok (Some i)) a = refl
+from-give line (Ok None) a = refl
+from-give line (Err q) a = refl
+
+-- what is given without reading on
+pub given : {A : Type 0} {line : Bytes} {w : Point} {P : A → Type 0} (a : A) → PointIn line w → P a → Reads line w (give a) P w
+given {A} {line} {w} a i h = record { within = i; onward = omega arith; value = a; is = from-give line w a; holds = h }
+
+-- ══ Signs ══
+
+-- a sign of one byte, behind blanks
+abbrev pub marked : ℕ → Rule (Unit {0})
+marked b = λ p. spell (b ∷ []) (skip p)
+
+-- the column of a point
+abbrev pub columnAt : Point → ℕ
+columnAt (Ok (Some i)) = suc i
+columnAt (Ok None) = 0
+columnAt (Err q) = 0
+
+-- the first byte at a place
+unfoldable pub begins : Place → ℕ → Bool
+begins (here c []) b = false
+begins (here c (x ∷ xs)) b = eqb x b
+begins beyond b = false
+
+abbrev pub beginsAt : Bytes → Point → ℕ → Bool
+beginsAt line (Ok (Some i)) b = begins (skip (place_in line i)) b
+beginsAt line (Ok None) b = false
+beginsAt line (Err q) b = false
+
+begins-starts : (x : Char) (p : Place) → starts x p ≡ begins p (code x)
+unfolding begins
+begins-starts x (here c []) = refl
+begins-starts x (here c (b ∷ bs)) = refl
+begins-starts x beyond = refl
+
+pub skip_is : {line : Bytes} {at i : ℕ} → Skipped line at i → skip (place_in line at) ≡ place_in line i
+unfolding skip
+skip_is s = s.is
+
+pub begins-there : (line : Bytes) (i b : ℕ) → i < length line → begins (place_in line i) b ≡ eqb (get_or line i 0) b
+unfolding begins
+begins-there line i b h = rw (drop-cons line i 0 h)
+
+pub begins-end : (line : Bytes) (i b : ℕ) → length line ≤ i → begins (place_in line i) b ≡ false
+unfolding begins
+begins-end line i b h = rw (drop_of_length-le line {i = i} h)
+
+pub spell-end : (line : Bytes) (i b : ℕ) → length line ≤ i → spell (b ∷ []) (place_in line i) ≡ bad (suc i)
+unfolding spell spellFrom
+spell-end line i b h = rw (drop_of_length-le line {i = i} h)
+
+pub spell-other : (line : Bytes) (i b : ℕ) → i < length line → (get_or line i 0 ≡ b → ⊥) → spell (b ∷ []) (place_in line i) ≡ bad (suc i)
+unfolding spell spellFrom
+spell-other line i b h e = rw (drop-cons line i 0 h) (rw (ne_eqb (get_or line i 0) b e, spellFrom))
+
+pub spell-there : (line : Bytes) (i b : ℕ) → i < length line → get_or line i 0 ≡ b → spell (b ∷ []) (place_in line i) ≡ read tt (place_in line (i + 1))
+unfolding spell spellFrom
+spell-there line i b h e = rw (drop-cons line i 0 h, add-one i) (rw (eq-eqb (get_or line i 0) b e, spellFrom))
+
+-- ══ Single steps ══
+
+-- behind a type nested 65 deep a rule passes
+pub passes : {A : Type 0} {P : A → Type 0} (line : Bytes) (R : Rule A) (a : A) → R beyond ≡ read a beyond → P a → Reads line (Ok None) R P (Ok None)
+passes line R a e h = record { within = tt; onward = omega arith; value = a; is = e; holds = h }
+
+-- what was refused stays refused
+pub stays : {A : Type 0} {P : A → Type 0} (line : Bytes) (q : ℕ) (R : Rule A) (a : A) → P a → Reads line (Err q) R P (Err q)
+stays line q R a h = record { within = tt; onward = omega arith; value = a; is = refl; holds = h }
+
+pub sign-there : {line : Bytes} {at i : ℕ} → Skipped line at i → Reads line (Ok (Some at)) column (λ (c : ℕ). c ≡ suc i) (Ok (Some i))
+sign-there {line} {at} {i} s = record { within = s.within; onward = omega (arith, s.behind); value = suc i; is = rw (skip_is s); holds = refl }
+
+-- a sign of one byte: one byte less is left
+pub record MarkRead (line : Bytes) (p : Point) (b : ℕ) (r : Point) : Type 0 where
+  pub reads : Reads line p (marked b) Any r
+  pub less : left_at line r ≤ left_at line p - 1
+
+module _ {line : Bytes} {at i : ℕ} (b : ℕ) (s : Skipped line at i) where
+  pub mark-end : length line ≤ i → MarkRead line (Ok (Some at)) b (Err i)
+  mark-end h = record {
+    reads = record { within = tt; onward = omega arith; value = tt; is = rw (skip_is s) (spell-end line i b h); holds = tt };
+    less = omega arith;
+  }
+
+  pub mark-other : i < length line → (get_or line i 0 ≡ b → ⊥) → MarkRead line (Ok (Some at)) b (Err i)
+  mark-other h e = record {
+    reads = record { within = tt; onward = omega arith; value = tt; is = rw (skip_is s) (spell-other line i b h e); holds = tt };
+    less = omega arith;
+  }
+
+  pub mark-there : i < length line → get_or line i 0 ≡ b → MarkRead line (Ok (Some at)) b (Ok (Some (i + 1)))
+  mark-there h e = record {
+    reads = record {
+      within = omega arith;
+      onward = omega (arith, s.behind);
+      value = tt;
+      is = rw (skip_is s) (spell-there line i b h e);
+      holds = tt;
+    };
+    less = omega (arith, s.behind);
+  }
+
+  pub begins-so : i < length line → eqb (get_or line i 0) b ≡ beginsAt line (Ok (Some at)) b
+  begins-so h = rw (skip_is s) (sym (begins-there line i b h))
+
+  pub begins-not : length line ≤ i → false ≡ beginsAt line (Ok (Some at)) b
+  begins-not h = rw (skip_is s) (sym (begins-end line i b h))
+
+pub digits-there : {line : Bytes} {at i next n : ℕ} → Skipped line at i → NumberRead line i next n
+    → Reads line (Ok (Some at)) digits (Capped n) (Ok (Some next))
+digits-there s r = record { within = r.within; onward = omega (arith, r.behind, s.behind); value = r.value; is = rw (skip_is s) r.is; holds = r.capped }
+
+pub no-digits : {line : Bytes} {at i q : ℕ} → Skipped line at i → digitsAt (place_in line i) ≡ bad (suc q) → Reads line (Ok (Some at)) digits (Capped 0) (Err q)
+no-digits s e = record { within = tt; onward = omega arith; value = 0; is = rw (skip_is s) e; holds = refl }
+
+pub marks-past : (b : ℕ) → marked b beyond ≡ read tt beyond
+unfolding skip spell
+marks-past b = refl
+
+pub column-past : column beyond ≡ read 0 beyond
+unfolding skip
+column-past = refl
+
+pub digits-past : digits beyond ≡ read 0 beyond
+unfolding skip digitsAt
+digits-past = refl
+
+-- ══ One byte of look-ahead ══
+
+module _ {A : Type 0} (line : Bytes) (x : Char) (R S : Rule A) where
+  from-if : (p : Point) → true ≡ beginsAt line p (code x) → from line p (ifSign x R S) ≡ from line p R
+  from-if (Ok (Some i)) e = rw (begins-starts x (skip (place_in line i)), sym e)
+  from-if (Ok None) e = absurd (true≢false e)
+  from-if (Err q) e = absurd (true≢false e)
+
+  from-else : (p : Point) → false ≡ beginsAt line p (code x) → from line p (ifSign x R S) ≡ from line p S
+  unfolding skip
+  from-else (Ok (Some i)) e = rw (begins-starts x (skip (place_in line i)), sym e)
+  from-else (Ok None) e = refl
+  from-else (Err q) e = refl
+
+pub if-sign : {A : Type 0} {P : A → Type 0} {line : Bytes} {p r : Point} (x : Char) (R S : Rule A) → true ≡ beginsAt line p (code x) → Reads line p R P r
+    → Reads line p (ifSign x R S) P r
+if-sign {A} {P} {line} {p} {r} x R S e y = record { within = y.within; onward = y.onward; value = y.value; is = from-if line x R S p e ∙ y.is; holds = y.holds }
+
+pub if-no-sign : {A : Type 0} {P : A → Type 0} {line : Bytes} {p r : Point} (x : Char) (R S : Rule A) → false ≡ beginsAt line p (code x) → Reads line p S P r
+    → Reads line p (ifSign x R S) P r
+if-no-sign {A} {P} {line} {p} {r} x R S e y = record {
+  within = y.within;
+  onward = y.onward;
+  value = y.value;
+  is = from-else line x R S p e
+      ∙ y.is;
+  holds = y.holds;
+}

@@ -1,0 +1,7 @@
+-- `inner::enter_constraint` meets its contract.
+use Rattle.text_lines.specs.Statements.{constraint-done}
+use Rattle.text_lines.proofs.inner.enter_constraint.Goals as goal
+
+pub returns : goal.returns
+returns c =
+    constraint-done c.enter_stated-c.ensures c.next_sign-e.ensures c.end_at-at.ensures

@@ -1,0 +1,16 @@
+-- `inner::read_line` meets its contract.
+use mathlib.Core.Path.{refl}
+use native.Mathlib.Omega.{arith}
+use Rattle.text_names.specs.Effects.{ready_on, roomy, not-past}
+use Rattle.text_names.specs.Inside.{inside-column}
+use Rattle.text_lines.specs.Answers.{answered}
+use Rattle.text_lines.proofs.inner.read_line.Goals as goal
+
+pub enter_signs-stated-requires : goal.enter_signs-stated-requires
+enter_signs-stated-requires c =
+    ready_on inside-column c.next_sign-at.ensures
+    (record { within = omega arith; good = c.requires.good; room = roomy c.requires.room; halted = not-past })
+
+pub returns : goal.returns
+returns c =
+    rw c.answer.ensures (answered c.next_sign-at.ensures refl _ _ _ c.enter_signs-stated.ensures)

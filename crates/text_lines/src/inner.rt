@@ -1,0 +1,286 @@
+//! A line: its constraint's record is counted at its first sign, and written when its types are there.
+ghost use Rattle.std.specs.Prelude.{◌≡◌, ◌<◌, Ok, Some, length};
+ghost use Rattle.rules.specs.Grammar.{ascii, spell, typed, hasField, constraint, signsAt};
+ghost use Rattle.rules.specs.TextReading.{conOf};
+ghost use Rattle.rules.specs.Writing.{writeCon};
+ghost use Rattle.laws.specs.NameTable.{Good};
+ghost use Rattle.text_grammar.specs.Points.{PointIn, Reads, Any};
+ghost use Rattle.text_names.specs.Effects.{lent, Room, Ready, Writes, Done};
+ghost use Rattle.text_lines.specs.Statements.{end_of, SaysScalar, stated, meantOf, LineTold, LineDone};
+ghost use Rattle.text_lines.specs.Answers.{standIn, countIn, answer_of};
+
+use text_types::inner::nested::enter_type;
+use text_grammar::inner::{Point, byte_at, mark, next_is, next_sign, refuse, sign};
+use records::View;
+use rules::{NESTED, Refusal};
+use text_names::inner::naming::read_named;
+use text_names::inner::{At, Reached, Stand, Tally, count, place_of, put_head};
+
+/// What a line that was read brought a sheet to, and how many constraints the line had: 0 or 1.
+#[derive(Clone, Copy)]
+pub struct Line {
+    pub tally: Tally,
+    pub constraints: usize,
+}
+
+/// Where a line is read to and how the sheet stands then, and how many constraints the line had.
+#[derive(Clone, Copy)]
+pub struct Stated {
+    pub end: Reached,
+    pub count: usize,
+}
+
+/// The quote right behind a name.
+fn quote(line: &[u8], p: Point) -> Point
+    requires { PointIn line.now p }
+    ensures { Reads line.now p (spell (ascii "\"")) Any result }
+{
+    let Some(i) = p? else {
+        return Ok(None);
+    };
+    if line.len() <= i {
+        return Err(i);
+    }
+    if line[i] != b'"' {
+        return Err(i);
+    }
+    Ok(Some(i + 1))
+}
+
+/// The end of a line; the first byte of what else follows fits nothing.
+fn end_at(line: &[u8], p: Point) -> Point
+    requires { PointIn line.now p }
+    ensures { end_of line.now p result }
+{
+    let Some(i) = p? else {
+        return Ok(None);
+    };
+    if i < line.len() {
+        return Err(i);
+    }
+    Ok(Some(i))
+}
+
+/// Is this byte "=", and did a dimension begin at q?
+fn says_scalar(line: &[u8], q: Point, b: u8) -> bool
+    requires { PointIn line.now q }
+    ensures { SaysScalar line.now q b result }
+{
+    b == b'=' && next_is(line, q, b'[')
+}
+
+/// A type, and what the line says of it: that it equals another, is a dimension, or is scalar.
+fn enter_typed(
+    line: &[u8],
+    from: Reached,
+    pool: &mut [u8],
+    table: &mut [u32],
+    dst: &mut [u32],
+) -> Reached
+    requires { Ready line.now from.at pool.old table.old from.stand }
+    ensures { Done line.now typed conOf (Writes writeCon) from.at (lent pool.old table.old dst.old from.stand)
+        result.at (lent pool.new table.new dst.new result.stand) }
+{
+    let q = next_sign(line, from.at);
+    let now = count(1, place_of(q), from.stand);
+    let l = enter_type(
+        line,
+        Reached { at: q, stand: now },
+        NESTED,
+        pool,
+        table,
+        dst,
+    );
+    let stand = l.stand;
+    let e = next_sign(line, l.at);
+    let b = byte_at(line, e);
+    if b == b'~' {
+        let at = mark(line, e, b'~');
+        let t = enter_type(line, Reached { at, stand }, NESTED, pool, table, dst);
+        put_head(View::Equal, from.stand, t.stand, dst);
+        return t;
+    }
+    if b == b':' {
+        let m = mark(line, e, b':');
+        let at = sign(line, m, b"DType");
+        put_head(View::IsDim, from.stand, stand, dst);
+        return Reached { at, stand };
+    }
+    if says_scalar(line, q, b) {
+        let m = mark(line, e, b'=');
+        let at = sign(line, m, b"Scalar");
+        put_head(View::IsScalar, from.stand, stand, dst);
+        return Reached { at, stand };
+    }
+    let at = refuse(e);
+    Reached { at, stand }
+}
+
+/// A field that a type has.
+fn enter_has_field(
+    line: &[u8],
+    from: Reached,
+    pool: &mut [u8],
+    table: &mut [u32],
+    dst: &mut [u32],
+) -> Reached
+    requires { Ready line.now from.at pool.old table.old from.stand }
+    ensures { Done line.now hasField conOf (Writes writeCon) from.at (lent pool.old table.old dst.old from.stand)
+        result.at (lent pool.new table.new dst.new result.stand) }
+{
+    let q = next_sign(line, from.at);
+    let now = count(1, place_of(q), from.stand);
+    let a = sign(line, q, b"HasField");
+    let b = mark(line, a, b'(');
+    let l = enter_type(
+        line,
+        Reached { at: b, stand: now },
+        NESTED,
+        pool,
+        table,
+        dst,
+    );
+    let d = mark(line, l.at, b',');
+    let e = mark(line, d, b'"');
+    let s = l.stand;
+    let x = read_named(line, Reached { at: e, stand: s }, pool, table);
+    let g = quote(line, x.end.at);
+    let at = mark(line, g, b',');
+    let stand = x.end.stand;
+    let t = enter_type(line, Reached { at, stand }, NESTED, pool, table, dst);
+    let end = mark(line, t.at, b')');
+    put_head(View::HasField(x.number), from.stand, t.stand, dst);
+    Reached {
+        at: end,
+        stand: t.stand,
+    }
+}
+
+/// What a line states, by its first byte.
+fn enter_stated(
+    line: &[u8],
+    from: Reached,
+    pool: &mut [u8],
+    table: &mut [u32],
+    dst: &mut [u32],
+) -> Reached
+    requires { Ready line.now from.at pool.old table.old from.stand }
+    ensures { Done line.now stated conOf (Writes writeCon) from.at (lent pool.old table.old dst.old from.stand)
+        result.at (lent pool.new table.new dst.new result.stand) }
+{
+    if next_is(line, from.at, b'H') {
+        return enter_has_field(line, from, pool, table, dst);
+    }
+    enter_typed(line, from, pool, table, dst)
+}
+
+/// A constraint up to the end of its line.
+fn enter_constraint(
+    line: &[u8],
+    from: Reached,
+    pool: &mut [u8],
+    table: &mut [u32],
+    dst: &mut [u32],
+) -> Reached
+    requires { Ready line.now from.at pool.old table.old from.stand }
+    ensures { Done line.now constraint meantOf (LineTold 1) from.at (lent pool.old table.old dst.old from.stand)
+        result.at (lent pool.new table.new dst.new result.stand) }
+{
+    let c = enter_stated(line, from, pool, table, dst);
+    let e = next_sign(line, c.at);
+    let at = end_at(line, e);
+    Reached { at, stand: c.stand }
+}
+
+/// A line with a first sign: a comment or a constraint.
+fn enter_from(
+    line: &[u8],
+    i: usize,
+    stand: Stand,
+    pool: &mut [u8],
+    table: &mut [u32],
+    dst: &mut [u32],
+) -> Stated
+    requires within { i < length line.now }
+    requires ready { Ready line.now (Ok (Some i)) pool.old table.old stand }
+    ensures { Done line.now signsAt meantOf (LineTold result.count) (Ok (Some i)) (lent pool.old table.old dst.old stand)
+        result.end.at (lent pool.new table.new dst.new result.end.stand) }
+{
+    let p = Ok(Some(i));
+    if next_is(line, p, b'-') {
+        let at = sign(line, p, b"--");
+        return Stated {
+            end: Reached { at, stand },
+            count: 0,
+        };
+    }
+    let end = enter_constraint(line, Reached { at: p, stand }, pool, table, dst);
+    Stated { end, count: 1 }
+}
+
+/// A line from its first sign, if it has one.
+fn enter_signs(
+    line: &[u8],
+    from: Reached,
+    pool: &mut [u8],
+    table: &mut [u32],
+    dst: &mut [u32],
+) -> Stated
+    requires { Ready line.now from.at pool.old table.old from.stand }
+    ensures { Done line.now signsAt meantOf (LineTold result.count) from.at (lent pool.old table.old dst.old from.stand)
+        result.end.at (lent pool.new table.new dst.new result.end.stand) }
+{
+    match from.at {
+        Ok(Some(i)) => {
+            if i < line.len() {
+                enter_from(line, i, from.stand, pool, table, dst)
+            } else {
+                Stated {
+                    end: from,
+                    count: 0,
+                }
+            }
+        }
+        Ok(None) => Stated {
+            end: from,
+            count: 0,
+        },
+        Err(_) => Stated {
+            end: from,
+            count: 0,
+        },
+    }
+}
+
+/// Outside the grammar 12, whatever was refused; else how the sheet stands.
+fn answer(end: Reached, constraints: usize) -> Result<Line, At>
+    ensures { result ≡ answer_of end.at end.stand constraints }
+{
+    if let Err(at) = end.at {
+        return Err(At {
+            why: Refusal::NotGrammar,
+            at,
+        });
+    }
+    let tally = end.stand?;
+    Ok(Line { tally, constraints })
+}
+
+/// Reads a line and enters what it says into a sheet that has come to a tally. Of a line that is refused, names may have gone into the table and
+/// records into the buffer: the sheet puts back what counts.
+pub fn read_line(
+    line: &[u8],
+    tally: Tally,
+    pool: &mut [u8],
+    table: &mut [u32],
+    dst: &mut [u32],
+) -> Result<Line, At>
+    requires good { Good pool.old table.old }
+    requires room { Room table.old tally.names tally.records }
+    ensures { LineDone line.now (lent pool.old table.old dst.old (Ok tally)) (lent pool.new table.new dst.new (standIn result)) (countIn result) }
+{
+    let at = next_sign(line, Ok(Some(0)));
+    let stand = Ok(tally);
+    let stated = enter_signs(line, Reached { at, stand }, pool, table, dst);
+    answer(stated.end, stated.count)
+}

@@ -1,0 +1,24 @@
+-- `inner::leaves::enter_open` meets its contract.
+use Rattle.text_names.specs.Effects.{kept_then, kept_above, kept-count, ready-count, ready_on}
+use Rattle.text_names.specs.Inside.{inside-column, inside-spelled}
+use Rattle.text_names.specs.Leaves.{open_done}
+use mathlib.Core.List.{[]}
+use native.Mathlib.Omega.{arith}
+use Rattle.text_names.proofs.inner.leaves.enter_open.Goals as goal
+
+pub count-now-requires : goal.count-now-requires
+count-now-requires c =
+    record { small = omega arith; few = (λ k n e. (c.requires.room k n e).records) }
+
+pub read_named-x-requires : goal.read_named-x-requires
+read_named-x-requires c =
+    ready_on (inside-spelled _) c.mark-a.ensures.reads (ready_on inside-column c.next_sign-c.ensures (ready-count 1 _ c.requires c.count-now.ensures))
+
+pub put_head-requires : goal.put_head-requires
+put_head-requires c =
+    kept_above (kept_then (kept-count 1 _ c.requires c.count-now.ensures []) (c.read_named-x.ensures []).kept)
+
+pub returns : goal.returns
+returns c =
+    open_done c.args.par _ c.requires c.next_sign-c.ensures c.place_of.ensures c.count-now.ensures c.mark_of.ensures c.mark-a.ensures.reads
+    (c.read_named-x.ensures _) c.open_view.ensures c.put_head.ensures

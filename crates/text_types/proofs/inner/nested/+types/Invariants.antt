@@ -1,0 +1,52 @@
+use Rattle.rules.specs.Grammar.{type}
+use Rattle.text_grammar.specs.Points.{left_at}
+use Rattle.text_names.specs.Effects.{lent}
+use Rattle.text_types.specs.Rows.{TysLoop, FieldsLoop}
+use Prim.Native.Nat.{◌+◌, ◌*◌}
+use Rattle.text_types.proofs.inner.nested.+types.Given as goal
+
+abbrev pub decreases-enter_arguments : goal.decreases-enter_arguments
+decreases-enter_arguments l = l.d * 8 + 6
+
+abbrev pub decreases-enter_field : goal.decreases-enter_field
+decreases-enter_field l = l.d * 8 + 4
+
+abbrev pub decreases-enter_fields : goal.decreases-enter_fields
+decreases-enter_fields l = l.d * 8 + 5
+
+abbrev pub decreases-enter_function : goal.decreases-enter_function
+decreases-enter_function l = l.d * 8 + 7
+
+abbrev pub decreases-enter_list : goal.decreases-enter_list
+decreases-enter_list l = l.d * 8 + 7
+
+abbrev pub decreases-enter_members : goal.decreases-enter_members
+decreases-enter_members l = l.d * 8 + 6
+
+abbrev pub decreases-enter_params : goal.decreases-enter_params
+decreases-enter_params l = l.d * 8 + 6
+
+abbrev pub decreases-enter_structure : goal.decreases-enter_structure
+decreases-enter_structure l = l.d * 8 + 7
+
+abbrev pub decreases-enter_type : goal.decreases-enter_type
+decreases-enter_type l = l.d * 8
+
+abbrev pub decreases-enter_types : goal.decreases-enter_types
+decreases-enter_types l = l.d * 8 + 5
+
+abbrev pub invariant-enter_fields-loop-a : goal.invariant-enter_fields-loop-a
+invariant-enter_fields-loop-a l =
+    FieldsLoop (type l.d) l.line l.initial.f.end.at (lent l.initial.pool l.initial.table l.initial.dst l.initial.f.end.stand) l.initial.n l.initial.f.before
+    l.f.end.at (lent l.pool l.table l.dst l.f.end.stand) l.n l.f.before
+
+abbrev pub decreases-enter_fields-loop-a : goal.decreases-enter_fields-loop-a
+decreases-enter_fields-loop-a l = left_at l.line l.f.end.at
+
+abbrev pub invariant-enter_types-loop-a : goal.invariant-enter_types-loop-a
+invariant-enter_types-loop-a l =
+    TysLoop (type l.d) l.line l.initial.end.at (lent l.initial.pool l.initial.table l.initial.dst l.initial.end.stand) l.initial.n l.end.at
+    (lent l.pool l.table l.dst l.end.stand) l.n
+
+abbrev pub decreases-enter_types-loop-a : goal.decreases-enter_types-loop-a
+decreases-enter_types-loop-a l = left_at l.line l.end.at

@@ -1,0 +1,87 @@
+//! Types: a type's record is counted at its first byte, and written when its parts are there.
+pub mod leaves;
+pub mod nested;
+
+ghost use Rattle.std.specs.Prelude.{◌≡◌, List, ℕ, ◌+◌, ◌≤◌, min, length};
+ghost use Rattle.rules.specs.TextReading.{ty_of};
+ghost use Rattle.rules.specs.WellFormed.{is_lt};
+ghost use Rattle.rules.specs.Writing.{writeTy};
+ghost use Rattle.rules.specs.declared.Refusal.TheVariants.{Malformed};
+ghost use Rattle.names.specs.Told.{toldOrder};
+ghost use Rattle.text_grammar.specs.Choice.{among, heads, deepRuled};
+ghost use Rattle.text_names.specs.Effects.{lent, Ready, Writes, Done};
+ghost use Rattle.text_types.specs.Members.{Risen, keptIf};
+
+use names::tables::NameTable;
+use text_grammar::inner::{Point, byte_at, refuse};
+use rules::Refusal;
+use std::cmp::Ordering;
+use text_names::inner::{At, Reached, Stand, place_of};
+
+/// One more; from 4,096 on, which is more than a sheet holds, the count stays.
+fn one_more(n: u32) -> u32
+    ensures { result ≡ min (n + 1) 4096 }
+{
+    if n < 4096 { n + 1 } else { 4096 }
+}
+
+fn is_less(o: Ordering) -> bool
+    ensures { result ≡ is_lt (toldOrder o) }
+{
+    match o {
+        Ordering::Less => true,
+        Ordering::Equal => false,
+        Ordering::Greater => false,
+    }
+}
+
+/// Does a field's name, if it is held, come after the one before?
+fn rises(names: NameTable, before: Option<u32>, x: u32) -> bool
+    ensures { Risen names.entry.pool.now names.entry.table.now before x result }
+{
+    match before {
+        None => true,
+        Some(y) => is_less(names.order(y, x)),
+    }
+}
+
+/// The sheet goes on if a test was passed, else it is refused.
+fn pass_if(ok: bool, at: usize, s: Stand) -> Stand
+    ensures { result ≡ keptIf ok Malformed at s }
+{
+    if ok {
+        return s;
+    }
+    let _tally = s?;
+    Err(At {
+        why: Refusal::Malformed,
+        at,
+    })
+}
+
+/// Does a type begin with this byte?
+fn is_head(b: u8) -> bool
+    ensures { result ≡ among b heads }
+{
+    matches!(
+        b,
+        b'?' | b'!' | b'[' | b'B' | b'S' | b'D' | b'F' | b'L' | b'@'
+    )
+}
+
+/// A type nested too deep: 1 at its first byte, and nothing behind it is looked at.
+fn too_deep(line: &[u8], q: Point, s: Stand) -> Reached
+    ensures { (pool table dst : List ℕ) → Ready line.now q pool table s → Done line.now deepRuled ty_of (Writes writeTy) q (lent pool table dst s)
+        result.at (lent pool table dst result.stand) }
+{
+    if is_head(byte_at(line, q)) {
+        return Reached {
+            at: Ok(None),
+            stand: pass_if(false, place_of(q), s),
+        };
+    }
+    Reached {
+        at: refuse(q),
+        stand: s,
+    }
+}

@@ -1,0 +1,10 @@
+use Rattle.theorems_soundness.proofs.Violated.{violated-final, exception-violated, exception-true, exception-fields}
+use Rattle.theorems_soundness.proofs.violated_is_final.Goals as goal
+
+pub returns : goal.returns
+returns g c = λ ν k. record {
+  final = violated-final ν k;
+  exception-violated = exception-violated ν k;
+  exception-true = exception-true ν k;
+  exception-fields = exception-fields ν k;
+}
