@@ -11,8 +11,12 @@ use Rattle.laws.specs.Lists.{true≢false, yes-is, is-yes, is-no}
 use Rattle.records.specs.Holds.{openOf, viewOpen, basicOf, viewBasic}
 use Rattle.records.specs.declared.Open as names
 use Rattle.records.specs.declared.Basic as basics
+use Rattle.types.specs.declared.Fields as fields
+use Rattle.types.specs.declared.Product as types
 use Rattle.types.specs.declared.Shape.{Shape}
 use Rattle.types.specs.declared.Shape.TheVariants as shape
+use Rattle.types.specs.declared.Type as one
+use Rattle.types.specs.declared.Types as lists
 use Rattle.judge_meaning.specs.Read.{read_as}
 use Rattle.judge_meaning.proofs.Reading.{dim-back}
 
@@ -24,14 +28,20 @@ never f = (λ i. absurd (true≢false (sym i)), λ p. absurd (f p))
 pub always : {P : Type 0} → P → Decides true P
 always p = (λ i. p, λ q. refl)
 
-pub both : {P Q : Type 0} (a b : Bool) → Decides a P → Decides b Q → Decides (a && b) (P × Q)
-both true b d e = (λ i. (d.0 refl, e.0 i), λ p. e.1 p.1)
-both false b d e = never (λ p. true≢false (sym (d.1 p.0)))
+-- of two tests, where the first says yes, and where it says no
+pub second : {P Q : Type 0} {r : Bool} → P → Decides r Q → Decides r (P × Q)
+second p d = (λ i. (p, d.0 i), λ q. d.1 q.1)
+
+pub first : {P Q : Type 0} {r : Bool} → r ≡ false → (P → ⊥) → Decides r (P × Q)
+first e f = (λ i. absurd (true≢false (sym i ∙ e)), λ p. absurd (f p.0))
+
+pub not-so : {P : Type 0} {r : Bool} → Decides r P → r ≡ false → P → ⊥
+not-so d e p = true≢false (sym (d.1 p) ∙ e)
 
 pub decides-as : {P Q : Type 0} {r : Bool} → (P → Q) → (Q → P) → Decides r P → Decides r Q
 decides-as f g d = (λ i. f (d.0 i), λ q. d.1 (g q))
 
-module _ {r : Bool} (ν : Names ℕ) {x y : Ty ℕ} where
+module _ {r : Bool} (ν : Names ℕ) (x y : Ty ℕ) where
   pub told : Decides r (plain x false ≡ plain y false) → r ≡ means ν x y
   unfolding means
   told d = go r d
@@ -60,6 +70,9 @@ basic-back basics.TheVariants.Boolean = refl
 basic-back basics.TheVariants.Text = refl
 basic-back basics.TheVariants.Datetime = refl
 
+abbrev basicTy : basics.Basic → Ty ℕ
+basicTy b = basic (basicOf b)
+
 module _ {r : Bool} where
   pub opens-same : (o p : names.Open) → Decides r (o ≡ p) → Decides r (opened (openOf o) ≡ opened (openOf p))
   opens-same o p d = decides-as (λ e. ap (λ z. opened (openOf z)) e) back d
@@ -67,10 +80,10 @@ module _ {r : Bool} where
       back : opened (openOf o) ≡ opened (openOf p) → o ≡ p
       back e = let z : openOf o ≡ openOf p = cc in sym (view-back o) ∙ ap viewOpen z ∙ view-back p
 
-  pub basics-same : (a b : basics.Basic) → Decides r (a ≡ b) → Decides r (basic (basicOf a) ≡ basic (basicOf b))
-  basics-same a b d = decides-as (λ e. ap (λ z. basic (basicOf z)) e) back d
+  pub basics-same : (a b : basics.Basic) → Decides r (a ≡ b) → Decides r (basicTy a ≡ basicTy b)
+  basics-same a b d = decides-as (ap basicTy) back d
     where
-      back : basic (basicOf a) ≡ basic (basicOf b) → a ≡ b
+      back : basicTy a ≡ basicTy b → a ≡ b
       back e = let z : basicOf a ≡ basicOf b = cc in sym (basic-back a) ∙ ap viewBasic z ∙ basic-back b
 
   pub lists-same : {t u : Ty ℕ} → Decides r (t ≡ u) → Decides r (list t ≡ list u)
@@ -92,7 +105,7 @@ module _ {r : Bool} where
 
 -- ══ Two of different kinds ══
 
-kindOf : Ty ℕ → ℕ
+abbrev kindOf : Ty ℕ → ℕ
 kindOf (opened o) = 0
 kindOf (basic b) = 1
 kindOf (dim p) = 2
@@ -100,6 +113,73 @@ kindOf (fn ps r) = 3
 kindOf (struct x ts fs) = 4
 kindOf (list t) = 5
 
-module _ (s : Shape) {t : Ty ℕ} where
-  differ : (kindOf t ≡ kindOf (read_as s) → ⊥) → t ≡ read_as s → ⊥
-  differ f e = f (ap kindOf e)
+-- a type that reads as one kind, beside a shape that is of another
+module _ (ν : Names ℕ) (x y : Ty ℕ) (s : Shape) (q : read_as s ≡ plain y false) where
+  differ : {a : Ty ℕ} → a ≡ plain x false → (kindOf a ≡ kindOf (read_as s) → ⊥) → false ≡ means ν x y
+  differ p f = by-read ν x y p q (never (λ e. f (ap kindOf e)))
+
+  pub no-open : {o : tree.Open ℕ} → opened o ≡ plain x false → ((o : names.Open) → s ≡ shape.Open o → ⊥) → false ≡ means ν x y
+  no-open p n = differ p (go s n)
+    where
+      go : (s : Shape) → ((o : names.Open) → s ≡ shape.Open o → ⊥) → 0 ≡ kindOf (read_as s) → ⊥
+      go (shape.Open o) n e = n o refl
+      go (shape.Basic b) n e = omega (arith, e)
+      go (shape.Dimension p) n e = omega (arith, e)
+      go (shape.Function ps t) n e = omega (arith, e)
+      go (shape.Struct m ts fs) n e = omega (arith, e)
+      go (shape.List t) n e = omega (arith, e)
+
+  pub no-basic : {b : tree.Basic} → basic b ≡ plain x false → ((b : basics.Basic) → s ≡ shape.Basic b → ⊥) → false ≡ means ν x y
+  no-basic p n = differ p (go s n)
+    where
+      go : (s : Shape) → ((b : basics.Basic) → s ≡ shape.Basic b → ⊥) → 1 ≡ kindOf (read_as s) → ⊥
+      go (shape.Open o) n e = omega (arith, e)
+      go (shape.Basic b) n e = n b refl
+      go (shape.Dimension p) n e = omega (arith, e)
+      go (shape.Function ps t) n e = omega (arith, e)
+      go (shape.Struct m ts fs) n e = omega (arith, e)
+      go (shape.List t) n e = omega (arith, e)
+
+  pub no-dimension : {p : Product ℕ} → dim p ≡ plain x false → ((p : types.Product) → s ≡ shape.Dimension p → ⊥) → false ≡ means ν x y
+  no-dimension p n = differ p (go s n)
+    where
+      go : (s : Shape) → ((p : types.Product) → s ≡ shape.Dimension p → ⊥) → 2 ≡ kindOf (read_as s) → ⊥
+      go (shape.Open o) n e = omega (arith, e)
+      go (shape.Basic b) n e = omega (arith, e)
+      go (shape.Dimension p) n e = n p refl
+      go (shape.Function ps t) n e = omega (arith, e)
+      go (shape.Struct m ts fs) n e = omega (arith, e)
+      go (shape.List t) n e = omega (arith, e)
+
+  pub no-function : {ts : Tys ℕ} {t : Ty ℕ} → fn ts t ≡ plain x false → ((ps : lists.Types) (t : one.Type) → s ≡ shape.Function ps t → ⊥) → false ≡ means ν x y
+  no-function p n = differ p (go s n)
+    where
+      go : (s : Shape) → ((ps : lists.Types) (t : one.Type) → s ≡ shape.Function ps t → ⊥) → 3 ≡ kindOf (read_as s) → ⊥
+      go (shape.Open o) n e = omega (arith, e)
+      go (shape.Basic b) n e = omega (arith, e)
+      go (shape.Dimension p) n e = omega (arith, e)
+      go (shape.Function ps t) n e = n ps t refl
+      go (shape.Struct m ts fs) n e = omega (arith, e)
+      go (shape.List t) n e = omega (arith, e)
+
+  pub no-struct : {n : ℕ} {ts : Tys ℕ} → struct n ts noFields ≡ plain x false → ((n : ℕ) (ts : lists.Types) (fs : fields.Fields) → s ≡ shape.Struct n ts fs → ⊥) → false ≡ means ν x y
+  no-struct p n = differ p (go s n)
+    where
+      go : (s : Shape) → ((n : ℕ) (ts : lists.Types) (fs : fields.Fields) → s ≡ shape.Struct n ts fs → ⊥) → 4 ≡ kindOf (read_as s) → ⊥
+      go (shape.Open o) n e = omega (arith, e)
+      go (shape.Basic b) n e = omega (arith, e)
+      go (shape.Dimension p) n e = omega (arith, e)
+      go (shape.Function ps t) n e = omega (arith, e)
+      go (shape.Struct m ts fs) n e = n m ts fs refl
+      go (shape.List t) n e = omega (arith, e)
+
+  pub no-list : {t : Ty ℕ} → list t ≡ plain x false → ((t : one.Type) → s ≡ shape.List t → ⊥) → false ≡ means ν x y
+  no-list p n = differ p (go s n)
+    where
+      go : (s : Shape) → ((t : one.Type) → s ≡ shape.List t → ⊥) → 5 ≡ kindOf (read_as s) → ⊥
+      go (shape.Open o) n e = omega (arith, e)
+      go (shape.Basic b) n e = omega (arith, e)
+      go (shape.Dimension p) n e = omega (arith, e)
+      go (shape.Function ps t) n e = omega (arith, e)
+      go (shape.Struct m ts fs) n e = omega (arith, e)
+      go (shape.List t) n e = n t refl

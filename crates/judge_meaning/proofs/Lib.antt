@@ -1,2 +1,4 @@
 mod Arms
 mod Reading
+mod Rows
+mod Truths

@@ -33,20 +33,20 @@ read-other (shape.List u) n e = ap (λ u. plain u false) e
 
 module _ {p : Product ℕ} where
   product-is : {t : Ty ℕ} → some p ≡ productOf t → dim p ≡ t
-  product-is {opened o} e = not-both (sym e)
-  product-is {basic b} e = not-both (sym e)
-  product-is {dim q} e = ap dim (let z : p ≡ q = cc in z)
-  product-is {fn ps r} e = not-both (sym e)
-  product-is {struct x ts fs} e = not-both (sym e)
-  product-is {list u} e = not-both (sym e)
+  product-is {t = opened o} e = not-both (sym e)
+  product-is {t = basic b} e = not-both (sym e)
+  product-is {t = dim q} e = ap dim (let z : p ≡ q = cc in z)
+  product-is {t = fn ps r} e = not-both (sym e)
+  product-is {t = struct x ts fs} e = not-both (sym e)
+  product-is {t = list u} e = not-both (sym e)
 
-  pub read-alone : {t : Ty ℕ} {o : tree.Open ℕ} → some p ≡ productOf t → some o ≡ single p → opened o ≡ plain t false
+  pub read-alone : (t : Ty ℕ) {o : tree.Open ℕ} → some p ≡ productOf t → some o ≡ single p → opened o ≡ plain t false
   unfolding plain plainDim
-  read-alone e h = ap (λ m. plainDim m p) h ∙ ap (λ u. plain u false) (product-is e)
+  read-alone t e h = ap (λ m. plainDim m p) h ∙ ap (λ u. plain u false) (product-is e)
 
-  pub read-product : {t : Ty ℕ} → some p ≡ productOf t → none ≡ single p → dim p ≡ plain t false
+  pub read-product : (t : Ty ℕ) → some p ≡ productOf t → none ≡ single p → dim p ≡ plain t false
   unfolding plain plainDim
-  read-product e h = ap (λ m. plainDim m p) h ∙ ap (λ u. plain u false) (product-is e)
+  read-product t e h = ap (λ m. plainDim m p) h ∙ ap (λ u. plain u false) (product-is e)
 
   -- what reads as a dimension is that dimension
   pub dim-back : (t : Ty ℕ) → dim p ≡ plain t false → dim p ≡ t
