@@ -3,5 +3,6 @@ mod Asked
 mod Bound
 mod Factors
 mod FieldsFound
+pub mod GivenSets
 mod SameWords
 mod Seen

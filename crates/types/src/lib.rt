@@ -2,6 +2,7 @@
 //! takes no test and no `requires`: the place itself says that a whole type stands there.
 #![tactic(auto)]
 
+pub mod given;
 pub mod inner;
 pub mod parts;
 pub mod reading;
@@ -14,7 +15,9 @@ ghost use Rattle.std.specs.Prelude.{◌≡◌, ◌≤◌, length};
 ghost use Rattle.types.specs.Once.{ATree, ACon, Trees, FieldTrees, Factors, one-tree, one-con, one-list, one-field-list, one-product};
 ghost use Rattle.types.specs.Sets.{Cons, one-set};
 ghost use Rattle.types.specs.Binds.{Binds, one-binds};
+ghost use Rattle.types.specs.Fine.{Fine};
 
+use names::tables::NameTable;
 use records::{Atom, Basic, Open};
 
 /// A type: the place of its first record, counted in records of four words.
@@ -93,6 +96,14 @@ pub struct Constraints<'a> {
     pub end: usize,
     pub ghost near: { length words.now ≤ 4_000_000_000 },
     pub ghost trees: { Cons words.now at end } by { one-set words.now at end },
+}
+
+/// A set of constraints that passed its test over a name table: well formed, and of at most 2,048 records.
+#[derive(Clone, Copy)]
+pub struct GivenSet<'a> {
+    pub names: NameTable<'a>,
+    pub all: Constraints<'a>,
+    pub ghost fine: { Fine names.pool.now names.table.now all.trees.0 },
 }
 
 /// A binding: a variable, and the type that it is bound to.
