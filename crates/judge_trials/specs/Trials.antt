@@ -5,6 +5,7 @@ use Rattle.std.proofs.Math.Bool.{and-eq-true_iff}
 use Rattle.std.proofs.Math.Option as opt
 use Rattle.std.proofs.Math.Option.{some, none}
 use Rattle.std.proofs.Math.Decide.{dec_le}
+use Rattle.std.proofs.Math.Seq.{length-sets}
 use Rattle.std.proofs.lemmas.List.Edits.{sets}
 use Rattle.rules.specs.Base.{Got, got, refused, ◌>>=◌, bounded, sized, all, collect, sum_of}
 use Rattle.rules.specs.Judging.{failed, failing, judgeCon}
@@ -32,14 +33,14 @@ use Rattle.judge_meaning.specs.Truth.{True}
 use Rattle.replace.specs.declared.substitution.Substitution.{Substitution}
 use Rattle.replace.specs.Came.{Came}
 use Rattle.replace.specs.Kept.{cons-weaker}
-use Rattle.replace.specs.Leaves.{Leaves, LeavesOf, conBy}
+use Rattle.replace.specs.Leaves.{conBy}
 use Rattle.replace.specs.Substitutions.{ALook, one-look}
 use Rattle.replace.specs.Well.{Lent}
 use Rattle.replace.specs.Written.{written-cons}
 use Rattle.types.specs.declared.writer.Writer.{Writer}
 use Rattle.types.specs.Once.{ACon}
 use Rattle.types.specs.Sets.{Cons, HoldsCons, IsCons, con-some, one-set}
-use Rattle.types.specs.Written.{last, Writes}
+use Rattle.types.specs.Written.{last}
 
 -- ══ 6 counts as failure ══
 
@@ -68,6 +69,7 @@ module _ (pool table : List ℕ) where
   pub record ConStands (w : List ℕ) (n : ℕ) (d : Con ℕ) : Type 0 where
     pub many : min n last ≡ min (sizeCon d) last
     pub held : sizeCon d ≤ 2048 → HoldsCon w d 0
+    pub near : sizeCon d ≤ 2048 → length w ≤ 4_000_000_000
     pub good : goodCon pool table 0 d ≡ true
 
   -- ══ Measured and tested ══
@@ -140,20 +142,22 @@ module _ (by : Substitution) (c : Con ℕ) where
 
   module _ (good : goodCon pool table 0 c ≡ true) (plain : Plain by) where
     -- what was put in is well formed, and stands in the buffer
-    pub written : {w w' : Writer} → w.at ≡ 0 → 8192 ≤ length w.words.now → (k : Came writeCon w w' (conBy by c)) → ConStands pool table w'.words.now w'.at k.value
+    pub written : {w w' : Writer} → w.at ≡ 0 → length w.words.now ≡ 8192 → (k : Came writeCon w w' (conBy by c))
+        → ConStands pool table w'.words.now w'.at k.value
     unfolding all collect HoldsCons
     written {w} {w'} front room k =
         let l = cut-length (writeCon k.value) in
         let m = size-con k.value in
+        let put : sizeCon k.value ≤ 2048 → w'.words.now ≡ sets w.words.now 0 (words (collect writeCon (k.value ∷ []))) =
+        λ le. k.wrote.words (omega (arith, front, l, m, le)) ∙ ap (λ (i : ℕ). sets w.words.now (i * 4) (words (cut (writeCon k.value)))) front
+        ∙ ap (λ rs. sets w.words.now 0 (words rs)) (short-con k.value (omega (arith, le)) ∙ sym (append-nil (writeCon k.value))) in
         record {
           many = omega (arith, k.wrote.at, front, l, m);
           held = λ le.
-              let e : w'.words.now ≡ sets w.words.now 0 (words (collect writeCon (k.value ∷ []))) =
-              k.wrote.words (omega (arith, front, l, m, le)) ∙ ap (λ (i : ℕ). sets w.words.now (i * 4) (words (cut (writeCon k.value)))) front
-              ∙ ap (λ rs. sets w.words.now 0 (words rs)) (short-con k.value (omega (arith, le)) ∙ sym (append-nil (writeCon k.value))) in
               let g = and-eq-true_iff (goodCon pool table 0 k.value) true in
-              (written-cons pool table w.words.now w'.words.now 0 (k.value ∷ []) e (omega (arith, le, room))
+              (written-cons pool table w.words.now w'.words.now 0 (k.value ∷ []) (put le) (omega (arith, le, room))
               (cons-weaker pool table (k.value ∷ []) (g.1 (made-good, refl)))).held.0;
+          near = λ le. omega (arith, ap length (put le) ∙ length-sets w.words.now 0 (words (collect writeCon (k.value ∷ []))), room);
           good = made-good;
         }
       where

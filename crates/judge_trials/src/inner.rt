@@ -32,7 +32,6 @@ fn stopped(why: Refusal) -> Result<bool, Refusal>
 fn test(names: NameTable, w: &[u32], n: usize, bounds: &[bool; NAMES]) -> Result<bool, Refusal>
     requires stands { (d : Con ℕ) × ConStands names.pool.now names.table.now w.now n d }
     requires bounds_len { length bounds.now ≡ 256 }
-    requires near { length w.now ≤ 4_000_000_000 }
     ensures { (d : Con ℕ) (xs : List ℕ) → ConStands names.entry.pool.now names.entry.table.now w.now n d → Marks bounds.now xs →
         told result ≡ tested names.entry.pool.now names.entry.table.now xs d }
 {

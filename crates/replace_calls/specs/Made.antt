@@ -1,5 +1,5 @@
 -- What a call of replacing makes, from what its walk leaves in the work buffer.
-use Rattle.std.specs.Prelude.{Result, Ok, Err, ◌≡◌, refl, true, List, [], ◌++◌, ℕ, ◌+◌, ◌*◌, ◌/◌, ◌≤◌, leb, max, min, Bool, false, length, take, drop}
+use Rattle.std.specs.Prelude.{Result, Err, ◌≡◌, refl, true, List, [], ◌++◌, ℕ, ◌+◌, ◌*◌, ◌/◌, ◌≤◌, leb, max, min, Bool, false, length, take, drop}
 use Rattle.std.proofs.Common.{sym, ap, ap₂, subst, ◌∙◌, arith, append_assoc, length-append, take_at}
 use Rattle.std.proofs.Math.Option.{some}
 use Rattle.std.proofs.lemmas.List.Edits.{sets, sets-eq}
@@ -21,7 +21,7 @@ use Rattle.laws.specs.Sized.{sized_same, sized-small}
 use Rattle.names.specs.declared.tables.NameTable.{NameTable}
 use Rattle.products.specs.Held.{law}
 use Rattle.records.specs.Buffers.{stored, words-length}
-use Rattle.records.specs.Cut.{cut, cut-length, short-all, short-con}
+use Rattle.records.specs.Cut.{cut, cut-length, short-all, short-con, short-ty}
 use Rattle.records.specs.Parsed.{only}
 use Rattle.records.specs.Found.{Words32}
 use Rattle.records.specs.Good as records
@@ -33,7 +33,7 @@ use Rattle.records.specs.Whole.{type-is, bindings-is}
 use Rattle.replace.specs.Given.{row, given-type, given-cons, given-bindings}
 use Rattle.replace.specs.Came.{Came, stopped}
 use Rattle.replace.specs.Kept.{cons-kept, cons-weaker}
-use Rattle.replace.specs.Leaves.{Leaves, LeavesOf}
+use Rattle.replace.specs.Leaves.{Leaves}
 use Rattle.replace.specs.Runs.{looked-good}
 use Rattle.replace.specs.Substitutions.{ALook, one-look}
 use Rattle.replace.specs.Well.{GoodCon, GoodTy, HeldType, Lent, Listed}

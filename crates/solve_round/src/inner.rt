@@ -7,10 +7,10 @@ ghost use Rattle.solve_round.specs.Standing.{performed, rebound, rounded, SoundS
 
 use super::{Ends, Others};
 use names::tables::NameTable;
-use replace_table::inner::fill;
 use replace::inner::constraints::{replace_bindings, replace_constraints};
 use replace::inner::flat::{bindings_flat, constraints_flat};
 use replace::substitution::Substitution;
+use replace_table::inner::fill;
 use rules::{NAMES, RECORDS, Refusal};
 use solve_step::Step;
 use solve_step::inner::try_satisfy;

@@ -1,5 +1,4 @@
-use Rattle.std.specs.Prelude.{[]}
-use Rattle.judge_trials.specs.Trials.{long, stands, deep, flat}
+use Rattle.judge_trials.specs.Trials.{long, deep, flat}
 use Rattle.judge_trials.proofs.inner.test.Goals as goal
 
 pub returns-then-n-gt-RECORDS : goal.returns-then-n-gt-RECORDS
