@@ -7,7 +7,8 @@ use Rattle.rules.specs.Names.{Bytes}
 use Rattle.rules.specs.Trees.{var, par, boolean, string, datetime}
 use Rattle.rules.specs.Grammar.{here, bad, Rule, column, columnOf, pick, chosen, TyAt, deepAt, opened, dimension, keyword, function, listed}
 use Rattle.rules.specs.Grammar.{structure, types, type, tooDeep, deepTypes}
-use Rattle.text_grammar.specs.Points.{Reads, columnAt, in-turn, Point}
+use Rattle.text_grammar.specs.declared.inner.Point.{Point}
+use Rattle.text_grammar.specs.Points.{Reads, columnAt, in-turn}
 use Rattle.text_grammar.specs.Factors.{byte_of, refusedFrom, pick_other, choose-this, choose-none}
 use Rattle.text_grammar.specs.declared.inner.Point.TheVariants as point
 

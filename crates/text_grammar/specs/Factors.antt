@@ -12,7 +12,8 @@ use Rattle.rules.specs.Grammar.{◌>>◌}
 use Rattle.text_scan.specs.Scanned.{place_in, nameIn}
 use Rattle.text_scan.specs.Names.{NameRead}
 use Rattle.text_grammar.specs.declared.inner.Point.TheVariants as point
-use Rattle.text_grammar.specs.Points.{Reads, PointIn, Any, marked, left_at, columnAt, from, begins, beginsAt, in-turn, Point}
+use Rattle.text_grammar.specs.declared.inner.Point.{Point}
+use Rattle.text_grammar.specs.Points.{Reads, PointIn, Any, marked, left_at, columnAt, from, begins, beginsAt, in-turn}
 
 -- ══ Names ══
 

@@ -7,7 +7,7 @@ use Rattle.rules.specs.Names.{Bytes}
 use Rattle.rules.specs.Grammar.{Place, here, beyond, Parsed, read, bad, Rule, pass, give, skip, spell, spellFrom, starts, ifSign, column, digits, digitsAt}
 use Rattle.text_scan.specs.Scanned.{place_in, Skipped}
 use Rattle.text_scan.specs.Numbers.{NumberRead}
-pub use Rattle.text_grammar.specs.declared.inner.Point.{Point}
+use Rattle.text_grammar.specs.declared.inner.Point.{Point}
 use Rattle.text_grammar.specs.declared.inner.Point.TheVariants as point
 
 -- a value read up to a point; nothing where the line is refused

@@ -7,7 +7,8 @@ use Rattle.rules.specs.Grammar.{Place, beyond, Parsed, read, bad, pass, Rule, gi
 use Rattle.rules.specs.Grammar.{nilAt, consAt, FieldsAt, noneAt, field_at, fn_at, listAt, struct_at, moreTys, tys, function, listed, fieldName}
 use Rattle.rules.specs.Grammar.{moreFields, fields, structure, ◌>>=◌, ◌>>◌}
 use Rattle.text_scan.specs.Scanned.{place_in}
-use Rattle.text_grammar.specs.Points.{Reads, from, PointIn, MarkRead, Any, marked, left_at, columnAt, beginsAt, in-turn, given, if-sign, if-no-sign, Point}
+use Rattle.text_grammar.specs.declared.inner.Point.{Point}
+use Rattle.text_grammar.specs.Points.{Reads, from, PointIn, MarkRead, Any, marked, left_at, columnAt, beginsAt, in-turn, given, if-sign, if-no-sign}
 use Rattle.text_grammar.specs.Factors.{begun, left_there}
 use Rattle.text_grammar.specs.Signs.{spelled}
 use Rattle.text_grammar.specs.declared.inner.Point.TheVariants as point
