@@ -13,7 +13,7 @@ use names::tables::NameTable;
 use records::inner::con_end;
 use replace::inner::constraints::replace_constraint;
 use replace::substitution::Substitution;
-use rules::{NAMES, RECORDS, Refusal};
+use rules::{NAMES, RECORD_WORDS, RECORDS, Refusal};
 use types::writer::Writer;
 use types::{Constraint, Constraints};
 
@@ -39,7 +39,7 @@ fn test(names: NameTable, w: &[u32], n: usize, bounds: &[bool; NAMES]) -> Result
         return Err(Refusal::TooLarge);
     }
     match con_end(names, w, 0) {
-        Some(_) => Ok(holds(w, 0, bounds)),
+        Some(_) => Ok(holds(Constraint { words: w, at: 0 }, bounds)),
         None => Err(Refusal::TooLarge), // nested over 64
     }
 }
@@ -58,11 +58,15 @@ fn is_true(
     ensures { (bs : List (Binding ℕ)) (xs : List ℕ) → by.entry.lent.0 ≡ lookOf by.entry bs → Marks bounds.now xs →
         told result ≡ judgedBy by.entry bs xs c.entry.tree.0 }
 {
-    let mut out = Writer { words: work, at: 0 };
+    let front = &mut work[..RECORD_WORDS];
+    let mut out = Writer {
+        words: front,
+        at: 0,
+    };
     let put = replace_constraint(by, c, &mut out);
     let n = out.at;
     match put {
-        Ok(()) => test(by.names, work, n, bounds),
+        Ok(()) => test(by.names, front, n, bounds),
         Err(why) => stopped(why),
     }
 }

@@ -6,6 +6,7 @@ pub mod Writes
 pub mod Well
 pub mod InProducts
 pub mod Leaves
+pub mod Came
 pub mod Given
 pub mod Written
 pub mod Kept
