@@ -1,20 +1,7 @@
 -- Atoms of the code and of the trees, and rows with zeros past their columns.
-use Rattle.std.specs.Prelude.{◌≡◌, Bool, true, false, cond, eqb, length, take, get_or, set, replicate}
+use Rattle.std.specs.Prelude.{◌≡◌, Bool, true, false, length, take, get_or, set, replicate}
 use Rattle.std.proofs.Math.Path.{refl}
-use Rattle.std.proofs.Common.{
-  ap,
-  ◌∙◌,
-  sym,
-  arith,
-  add-one,
-  eqb-true,
-  eq-eqb,
-  length-append,
-  length-take-le,
-  take-suc,
-  get_or-take,
-  get_or-append-add,
-}
+use Rattle.std.proofs.Common.{ap, ◌∙◌, sym, arith, add-one, length-append, length-take-le, take-suc, get_or-take, get_or-append-add}
 use mathlib.Core.List.{List, [], ◌∷◌, ◌++◌, append_assoc}
 use Prim.Native.Nat.{ℕ, zero, suc, ◌+◌, ◌-◌, ◌≤◌, ◌<◌}
 use Rattle.std.proofs.lemmas.List.{length-replicate, length-map, set_at}
@@ -26,11 +13,10 @@ use Rattle.rules.specs.Names.{Bytes, numbered}
 use Rattle.rules.specs.Trees as tree
 use Rattle.rules.specs.Trees.{Factor, ◌↑◌, Product, Names}
 use Rattle.laws.specs.Ranges.{nought-good}
-use Rattle.laws.specs.Lists.{Every, is-yes, is-no, true≢false}
-use Rattle.records.specs.Holds.{openOf, atomOf}
+use Rattle.laws.specs.Lists.{Every, is-yes, is-no}
+use Rattle.records.specs.Holds.{atomOf, viewAtom}
 use Rattle.types.specs.Shapes.{factor_of}
 use Rattle.types.specs.declared.Factor as code
-use Rattle.records.specs.declared.Open.{Open}
 use Rattle.records.specs.declared.Open.TheVariants.{Var, Quant, Par}
 use Rattle.records.specs.declared.Atom.{Atom}
 use Rattle.records.specs.declared.Atom.TheVariants.{Free, Base}
@@ -43,82 +29,15 @@ use Rattle.engine_matrix.specs.Told.{row_in, Wide}
 
 -- ══ Are two atoms the same? ══
 
-abbrev pub openRank : Open → ℕ
-openRank (Var x) = 0
-openRank (Quant i) = 1
-openRank (Par x) = 2
+view-back : (a : Atom) → viewAtom (atomOf a) ≡ a
+view-back (Free (Var x)) = refl
+view-back (Free (Quant i)) = refl
+view-back (Free (Par x)) = refl
+view-back (Base x) = refl
 
-abbrev pub openNumber : Open → ℕ
-openNumber (Var x) = x
-openNumber (Quant i) = i
-openNumber (Par x) = x
-
-abbrev pub atomRank : Atom → ℕ
-atomRank (Free o) = openRank o
-atomRank (Base x) = 3
-
-abbrev pub atomNumber : Atom → ℕ
-atomNumber (Free o) = openNumber o
-atomNumber (Base x) = x
-
-unfoldable pub sameAtom : Atom → Atom → Bool
-sameAtom a b = cond (eqb (atomRank a) (atomRank b)) (eqb (atomNumber a) (atomNumber b)) false
-
-open-same : (o p : Open) → openRank o ≡ openRank p → openNumber o ≡ openNumber p → openOf o ≡ openOf p
-open-same (Var x) (Var y) r e = ap tree.var e
-open-same (Var x) (Quant j) r e = absurd (omega arith)
-open-same (Var x) (Par y) r e = absurd (omega arith)
-open-same (Quant i) (Var y) r e = absurd (omega arith)
-open-same (Quant i) (Quant j) r e = ap tree.quant e
-open-same (Quant i) (Par y) r e = absurd (omega arith)
-open-same (Par x) (Var y) r e = absurd (omega arith)
-open-same (Par x) (Quant j) r e = absurd (omega arith)
-open-same (Par x) (Par y) r e = ap tree.par e
-
-open-low : (o : Open) → openRank o < 3
-open-low (Var x) = omega arith
-open-low (Quant i) = omega arith
-open-low (Par x) = omega arith
-
-ranks-same : (a b : Atom) → atomRank a ≡ atomRank b → atomNumber a ≡ atomNumber b → atomOf a ≡ atomOf b
-ranks-same (Free o) (Free p) r e = ap tree.free (open-same o p r e)
-ranks-same (Free o) (Base y) r e = absurd (omega (arith, open-low o))
-ranks-same (Base x) (Free p) r e = absurd (omega (arith, open-low p))
-ranks-same (Base x) (Base y) r e = ap tree.base e
-
--- and back
-openRanked : tree.Open ℕ → ℕ × ℕ
-openRanked (tree.var x) = (0, x)
-openRanked (tree.quant i) = (1, i)
-openRanked (tree.par x) = (2, x)
-
-ranked : tree.Atom ℕ → ℕ × ℕ
-ranked (tree.free o) = openRanked o
-ranked (tree.base x) = (3, x)
-
-ranked-is : (a : Atom) → ranked (atomOf a) ≡ (atomRank a, atomNumber a)
-unfolding ranked openRanked
-ranked-is (Free (Var x)) = refl
-ranked-is (Free (Quant i)) = refl
-ranked-is (Free (Par x)) = refl
-ranked-is (Base x) = refl
-
-pub atom-same : (a b : Atom) → sameAtom a b ≡ true → atomOf a ≡ atomOf b
-unfolding sameAtom
-atom-same a b e = go (eqb (atomRank a) (atomRank b)) refl e
-  where
-    go : (t : Bool) → eqb (atomRank a) (atomRank b) ≡ t → cond t (eqb (atomNumber a) (atomNumber b)) false ≡ true → atomOf a ≡ atomOf b
-    go true i h = ranks-same a b (eqb-true _ _ i) (eqb-true _ _ h)
-    go false i h = cc
-
-pub atom-other : (a b : Atom) → sameAtom a b ≡ false → atomOf a ≡ atomOf b → ⊥
-unfolding sameAtom
-atom-other a b e i =
-    let p : ◌≡◌ {A = ℕ × ℕ} (atomRank a, atomNumber a) (atomRank b, atomNumber b) = sym (ranked-is a) ∙ ap ranked i ∙ ranked-is b in
-    true≢false (sym (rw (
-      eq-eqb (atomRank a) (atomRank b) (ap (λ (q : ℕ × ℕ). q.0) p),
-      eq-eqb (atomNumber a) (atomNumber b) (ap (λ (q : ℕ × ℕ). q.1) p),
-    ) refl) ∙ e)
+-- the same atom in the trees
+atom-same : (a b : Atom) → atomOf a ≡ atomOf b → a ≡ b
+atom-same a b e = sym (view-back a) ∙ ap viewAtom e ∙ view-back b
 
 -- ══ Held products, and their rows ══
 
@@ -148,11 +67,11 @@ power-step names (c ↑ e) q a = (
 )
 
 module _ (names : List Bytes) (left rest : Product ℕ) (f : code.Factor) (e : left ≡ factor_of f ∷ rest) (a : Atom) where
-  pub power-met : sameAtom a f.atom ≡ true → powerIn (numbered names) left (atomOf a) ≡ frac (signed f.num) f.den
-  power-met i = rw e ((power-step names (factor_of f) rest (atomOf a)).0 (atom-same a f.atom i))
+  pub power-met : f.atom ≡ a → powerIn (numbered names) left (atomOf a) ≡ frac (signed f.num) f.den
+  power-met i = rw e ((power-step names (factor_of f) rest (atomOf a)).0 (ap atomOf (sym i)))
 
-  pub power-passed : sameAtom a f.atom ≡ false → powerIn (numbered names) rest (atomOf a) ≡ powerIn (numbered names) left (atomOf a)
-  power-passed i = sym (rw e ((power-step names (factor_of f) rest (atomOf a)).1 (atom-other a f.atom i)))
+  pub power-passed : (f.atom ≡ a → ⊥) → powerIn (numbered names) rest (atomOf a) ≡ powerIn (numbered names) left (atomOf a)
+  power-passed i = sym (rw e ((power-step names (factor_of f) rest (atomOf a)).1 (λ j. i (sym (atom-same a f.atom j)))))
 
 pub power-none : (names : List Bytes) (left : Product ℕ) (a : tree.Atom ℕ) → left ≡ [] → powerIn (numbered names) left a ≡ nought
 unfolding powerIn

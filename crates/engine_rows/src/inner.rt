@@ -15,7 +15,7 @@ ghost use Rattle.records.specs.Good.{numbers};
 ghost use Rattle.queries.specs.Marks.{Marks, Filled};
 ghost use Rattle.engine_rows.specs.Columns.{basesAtom, basesView, basesIn, Known, headed, listed};
 ghost use Rattle.engine_rows.specs.Lines.{Plain, rowsOf, Roomy, laidOut};
-ghost use Rattle.engine_rows.specs.Atoms.{openRank, openNumber, atomRank, atomNumber, sameAtom, GoodPowers, RowIs};
+ghost use Rattle.engine_rows.specs.Atoms.{GoodPowers, RowIs};
 
 use engine_matrix::inner::grids::{Columns, Grid, with_row};
 use engine_matrix::inner::rows::{Row, with_power};
@@ -30,50 +30,6 @@ use types::{Constraints, Demand, Product};
 
 // At most 24 rows, 24 variables, and 24 parameters and base dimensions.
 const ROWS: usize = 24;
-
-fn open_rank(o: Open) -> u32
-    ensures { result ≡ openRank o }
-{
-    match o {
-        Open::Var(_) => 0,
-        Open::Quant(_) => 1,
-        Open::Par(_) => 2,
-    }
-}
-
-fn open_number(o: Open) -> u32
-    ensures { result ≡ openNumber o }
-{
-    match o {
-        Open::Var(x) => x,
-        Open::Quant(x) => x,
-        Open::Par(x) => x,
-    }
-}
-
-fn rank(a: Atom) -> u32
-    ensures { result ≡ atomRank a }
-{
-    match a {
-        Atom::Free(o) => open_rank(o),
-        Atom::Base(_) => 3,
-    }
-}
-
-fn number(a: Atom) -> u32
-    ensures { result ≡ atomNumber a }
-{
-    match a {
-        Atom::Free(o) => open_number(o),
-        Atom::Base(x) => x,
-    }
-}
-
-fn same_atom(a: Atom, b: Atom) -> bool
-    ensures { result ≡ sameAtom a b }
-{
-    rank(a) == rank(b) && number(a) == number(b)
-}
 
 // The atom of a column.
 pub fn atom_at(k: Columns, j: usize) -> Atom
@@ -96,7 +52,7 @@ fn power_in(product: Product, a: Atom) -> Exponent
     ensures { (names : List Bytes) → expOf result ≡ powerIn (numbered names) product.entry.factors.0 (atomOf a) }
 {
     'factors: for factor in product {
-        if same_atom(a, factor.atom) {
+        if factor.atom == a {
             return Exponent::from_words(factor.num, factor.den);
         }
     }

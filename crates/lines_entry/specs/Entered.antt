@@ -1,7 +1,6 @@
 -- All checks of a line before its constraints: 8, 1, 4, 3.
 use Rattle.std.specs.Prelude.{◌≡◌, Bool, ◌&&◌, [], ◌∷◌, ℕ, ◌≤◌, leb, ltb, length, get_or}
-use Rattle.std.proofs.Math.Path.{refl, sym}
-use Rattle.std.proofs.Common.{ap, ◌∙◌}
+use Rattle.std.proofs.Math.Path.{refl}
 use Rattle.std.proofs.Math.Bool.{true, false}
 use mathlib.Core.List.{List}
 use Rattle.rules.specs.Base.{Got, got, refused, ◌>>=◌, ◌>>◌, need, all}
@@ -11,7 +10,6 @@ use Rattle.rules.specs.Calls.{shortLists, shortNumbers, tableKept}
 use Rattle.laws.specs.Checks.{need-passed, first-passed}
 use Rattle.laws.specs.Lists.{and_left, bound-step}
 use borrow.Author.Tests.{leb-true}
-use Rattle.records.specs.Found.{Words32}
 use Rattle.rules.specs.Steps.{LineStep, lineGiven}
 use Rattle.rules.specs.Lines.{fresh, lineShort, lineType, checkedLine}
 

@@ -4,8 +4,8 @@ use Rattle.std.proofs.Common.{sym, arith, ne_eqb, ap, ◌∙◌, append_assoc, a
 use borrow.Author.Tests.{le-leb, lt-leb}
 use Rattle.std.proofs.lemmas.List.{map-append, take_more_set}
 use mathlib.Core.List.{List, [], ◌∷◌, ◌++◌, map}
-use Rattle.std.proofs.Math.Option.{Option, none, some}
-use Rattle.rules.specs.Base.{Got, got, refused, ◌>>=◌, ◌>>◌, need, orRefuse, all, each}
+use Rattle.std.proofs.Math.Option.{none, some}
+use Rattle.rules.specs.Base.{Got, got, refused, ◌>>=◌, ◌>>◌, need, all, each}
 use Rattle.rules.specs.Names.{Table}
 use Rattle.rules.specs.Writing.{Rec, rec}
 use Rattle.records.specs.Views.{recs, from}

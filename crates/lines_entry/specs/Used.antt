@@ -1,5 +1,5 @@
 -- The names that a line uses, found in its records one by one.
-use Rattle.std.specs.Prelude.{◌≡◌, Bool, true, false, not, ◌&&◌, ◌||◌, eqb, length, get_or, map, drop}
+use Rattle.std.specs.Prelude.{◌≡◌, Bool, true, false, ◌||◌, eqb, length, get_or, map, drop}
 use Rattle.std.proofs.Math.Path.{refl, ap}
 use Rattle.std.proofs.Common.{sym, ap₂, ◌∙◌, add-zero}
 use mathlib.Core.List.{List, [], ◌∷◌, ◌++◌, append_assoc}

@@ -2,10 +2,10 @@
 use Rattle.std.specs.Prelude as std
 use Rattle.std.specs.Prelude.{◌≡◌, refl, List, [], ◌∷◌, ◌++◌, map, ℕ, zero, suc, ◌+◌, ◌-◌, ◌≤◌, ◌<◌, length, get_or, set, take, drop}
 use Rattle.std.proofs.Common.{sym, ap, subst, ◌∙◌, arith, drop-drop, length-drop, length-take}
-use Rattle.std.proofs.Math.Option.{Option, none, some}
+use Rattle.std.proofs.Math.Option.{none, some}
 use Rattle.rules.specs.Base.{collect}
-use Rattle.rules.specs.Trees.{Names, Con}
-use Rattle.rules.specs.Writing.{Rec, writeCon}
+use Rattle.rules.specs.Trees.{Names}
+use Rattle.rules.specs.Writing.{writeCon}
 use Rattle.laws.specs.Contents.{collect-append}
 use Rattle.types.specs.Written.{Writes, writes-then, writes-none}
 use Rattle.types.specs.declared.writer.Writer.{Writer}

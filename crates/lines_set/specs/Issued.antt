@@ -1,11 +1,11 @@
 -- The constraints of a step, put together from their records.
-use Rattle.std.specs.Prelude.{◌≡◌, Bool, true, false, ℕ, suc, ◌+◌, ◌≤◌, ℤ}
+use Rattle.std.specs.Prelude.{◌≡◌, true, false, ℕ, ◌+◌, ◌≤◌, ℤ}
 use Rattle.std.proofs.Math.Path.{refl, ap}
 use Rattle.std.proofs.Common.{sym, ◌∙◌, arith, subst, append_assoc}
 use mathlib.Core.List.{List, [], ◌∷◌, ◌++◌}
 use Prim.Native.Nat.{Ordering}
 use Rattle.rules.specs.Base.{collect}
-use Rattle.rules.specs.Exponents.{Exp, frac, one, neg, isZero}
+use Rattle.rules.specs.Exponents.{Exp, frac, one, isZero}
 use Rattle.rules.specs.Trees.{var, free, ◌↑◌, Product, Names, Ty, basic, boolean, dim, equal, isDim, size, sizeCon}
 use Rattle.rules.specs.Writing.{Rec, twos, writeTy, writeProduct, writeFactor, writeCon}
 use Rattle.rules.specs.Products.{put}
@@ -18,7 +18,7 @@ use Rattle.records.specs.declared.View.TheVariants as view
 use Rattle.types.specs.Written.{Writes, writes-then}
 use Rattle.types.specs.Puts.{equal-writes}
 use Rattle.types.specs.declared.writer.Writer.{Writer}
-use Rattle.rules.specs.Steps.{adds, subtracts, multiplies, divides, compares, gives, raised, chosen}
+use Rattle.rules.specs.Steps.{adds, compares, gives, raised, chosen}
 use Rattle.lines_entry.specs.Told.{twoOf}
 use Rattle.lines_entry.specs.declared.inner.steps.Two.{Two}
 use Rattle.lines_set.specs.Deeds.{deedOf}

@@ -25,9 +25,11 @@ pub settle-requires-clause-stands : goal.settle-requires-clause-stands
 settle-requires-clause-stands c =
     let h = c.requires.read in
     let g = c.args.names.good in
-    let back : c.set-2-1.given.0 ≡ c.put_line.new.out.words.now = search rules in
-    (_, set-stands _ _ _ (cs-good _ _ _ g _ h) (cs-flat _ _ _ g _ h) _ _ c.put_line.ensures refl c.if-n-gt-RECORDS.false
-    (omega (arith, length-replicate {A = ℕ} 8192 0)) _ back)
+    let back : c.set-2-1.given.0 ≡ c.put_line.new.out.words.now = search rules in (
+      _,
+      set-stands _ _ _ (cs-good _ _ _ g _ h) (cs-flat _ _ _ g _ h) _ _ c.put_line.ensures refl c.if-n-gt-RECORDS.false
+          (omega (arith, length-replicate {A = ℕ} 8192 0)) _ back,
+    )
 
 pub returns : goal.returns
 returns c =

@@ -18,4 +18,3 @@ returns-in-Joined c = deed-as _ _ _ _ c.in-Joined.is c.put_joined.ensures
 pub returns-in-Chosen : goal.returns-in-Chosen
 unfolding issued
 returns-in-Chosen c = deed-as _ _ _ _ c.in-Chosen.is (c.put_choice.ensures (numbersOf (table_of c.args.names.pool.now c.args.names.table.now)))
-

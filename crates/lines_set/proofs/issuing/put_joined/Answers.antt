@@ -23,4 +23,3 @@ returns-in-Divides c = joined-as _ _ _ _ _ _ c.in-Divides.is c.put_product-in-Di
 pub returns-in-Compares : goal.returns-in-Compares
 unfolding issuedByTwo neg
 returns-in-Compares c = joined-as _ _ _ _ _ _ c.in-Compares.is (c.put_comparison.ensures (numbersOf (table_of c.args.names.pool.now c.args.names.table.now)))
-

@@ -6,7 +6,7 @@ use mathlib.Core.Path.{◌≡◌}
 use mathlib.Core.List.{map}
 use Rattle.std.proofs.Common.{sym, ap, subst, ◌∙◌, length-set}
 use Rattle.std.proofs.lemmas.Result.{err_from_is_err_and}
-use Rattle.rules.specs.Base.{got, each}
+use Rattle.rules.specs.Base.{got}
 use Rattle.rules.specs.Refusals.{toldBy}
 use Rattle.lines_entry.specs.Told.{stepOf}
 use Rattle.lines_entry.specs.StepLists.{ReadTo, read_more, read-stops, read-all, stored, line-torn, line-types, line_refused, line-made, line-torn-off}
