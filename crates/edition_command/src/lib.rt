@@ -13,6 +13,8 @@ mod options;
 mod status;
 mod tables;
 mod together;
+#[cfg(test)]
+mod tests;
 mod told;
 mod verify;
 mod words;
