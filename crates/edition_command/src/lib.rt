@@ -12,9 +12,9 @@ mod notes;
 mod options;
 mod status;
 mod tables;
-mod together;
 #[cfg(test)]
 mod tests;
+mod together;
 mod told;
 mod verify;
 mod words;

@@ -73,7 +73,10 @@ fn a_report_that_is_torn_is_no_report(rt: HostRuntime) -> Result<(), Fail> {
     assert!(rt; report_on(alloc, &given, how, &mut whole).is_ok());
     for left in 0..whole.passed.len() {
         let mut torn = Written::new(alloc, Full { left });
-        assert!(rt; report_on(alloc, &given, how, &mut torn).is_err(), "after {left} bytes");
+        assert!(rt;
+            report_on(alloc, &given, how, &mut torn).is_err(),
+            "after {left} bytes"
+        );
     }
     Ok(())
 }
