@@ -1,4 +1,4 @@
--- `inner::sort_names` meets its contract. The invariant: the names written, then those that are left.
+-- The invariant: the names written, then those that are left.
 use native.Mathlib.Omega.{arith}
 use lib.ListN.{get_or}
 use Rattle.rules.specs.Names.{table_of, names_of}
@@ -6,7 +6,7 @@ use Rattle.laws.specs.ByteOrder.{numbered-lawful}
 use Rattle.laws.specs.NameTable.{held_tells}
 use Rattle.records.specs.Good.{numbers}
 use Rattle.queries.specs.SortMarks.{sorting_start, sorting-end, sorting-less, sorting-few, sorting_step}
-use Rattle.queries.proofs.inner.sort_names.Goals as goal
+use Rattle.queries.proofs.name_set.NameSet.write_sorted.Goals as goal
 
 pub loop-x-init : goal.loop-x-init
 loop-x-init c =
@@ -16,10 +16,10 @@ loop-x-init c =
     let law = numbered-lawful (names_of (table_of a.names.pool.now a.names.table.now)) in
     let nu = numbers a.names.pool.now a.names.table.now in
     let n = get_or a.names.table.now 0 0 in
-    sorting_start nu law n (held_tells g) a.m a.out.now h
+    sorting_start nu law n (held_tells g) a.self.marks a.out.now h
 
-pub least-requires : goal.least-requires
-least-requires c = c.loop-x.invariant.held
+pub first-requires : goal.first-requires
+first-requires c = c.loop-x.invariant.held
 
 pub shape_of-out : goal.shape_of-out
 shape_of-out c = c.loop-x.invariant.same
@@ -32,7 +32,7 @@ returns c =
     let law = numbered-lawful (names_of (table_of a.names.pool.now a.names.table.now)) in
     let nu = numbers a.names.pool.now a.names.table.now in
     let n = get_or a.names.table.now 0 0 in
-    sorting-end nu law n (held_tells g) a.m a.out.now c.loop-x.left c.loop-x.out c.loop-x.k h.long c.loop-x.invariant (rw c.in_default.is at c.least.ensures)
+    sorting-end nu law n (held_tells g) a.self.marks a.out.now c.loop-x.left.marks c.loop-x.out c.loop-x.k h.long c.loop-x.invariant (rw c.in_default.is at c.first.ensures)
 
 pub bounds-left-x : goal.bounds-left-x
 bounds-left-x c =
@@ -42,7 +42,7 @@ bounds-left-x c =
     let law = numbered-lawful (names_of (table_of a.names.pool.now a.names.table.now)) in
     let nu = numbers a.names.pool.now a.names.table.now in
     let n = get_or a.names.table.now 0 0 in
-    let l = (rw c.in-Some.is at c.least.ensures) in
+    let l = (rw c.in-Some.is at c.first.ensures) in
     l.0
 
 pub overflow_add-k : goal.overflow_add-k
@@ -53,8 +53,8 @@ overflow_add-k c =
     let law = numbered-lawful (names_of (table_of a.names.pool.now a.names.table.now)) in
     let nu = numbers a.names.pool.now a.names.table.now in
     let n = get_or a.names.table.now 0 0 in
-    let f = sorting-few nu law n (held_tells g) a.m a.out.now c.loop-x.left c.loop-x.out c.loop-x.k h.long c.loop-x.invariant _
-    (rw c.in-Some.is at c.least.ensures) in
+    let f = sorting-few nu law n (held_tells g) a.self.marks a.out.now c.loop-x.left.marks c.loop-x.out c.loop-x.k h.long c.loop-x.invariant _
+    (rw c.in-Some.is at c.first.ensures) in
     omega (arith, f)
 
 pub loop-x-smaller : goal.loop-x-smaller
@@ -65,7 +65,7 @@ loop-x-smaller c =
     let law = numbered-lawful (names_of (table_of a.names.pool.now a.names.table.now)) in
     let nu = numbers a.names.pool.now a.names.table.now in
     let n = get_or a.names.table.now 0 0 in
-    sorting-less nu law n (held_tells g) a.m a.out.now c.loop-x.left c.loop-x.out c.loop-x.k h.long c.loop-x.invariant _ (rw c.in-Some.is at c.least.ensures)
+    sorting-less nu law n (held_tells g) a.self.marks a.out.now c.loop-x.left.marks c.loop-x.out c.loop-x.k h.long c.loop-x.invariant _ (rw c.in-Some.is at c.first.ensures)
 
 pub loop-x-preserved : goal.loop-x-preserved
 loop-x-preserved c =
@@ -75,5 +75,5 @@ loop-x-preserved c =
     let law = numbered-lawful (names_of (table_of a.names.pool.now a.names.table.now)) in
     let nu = numbers a.names.pool.now a.names.table.now in
     let n = get_or a.names.table.now 0 0 in
-    rw c.put.ensures (sorting_step nu law n (held_tells g) a.m a.out.now c.loop-x.left c.loop-x.out c.loop-x.k h.long c.loop-x.invariant _
-    (rw c.in-Some.is at c.least.ensures) c.requires.in_bounds)
+    rw c.put.ensures (sorting_step nu law n (held_tells g) a.self.marks a.out.now c.loop-x.left.marks c.loop-x.out c.loop-x.k h.long c.loop-x.invariant _
+    (rw c.in-Some.is at c.first.ensures) c.requires.in_bounds)

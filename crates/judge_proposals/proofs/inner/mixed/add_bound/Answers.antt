@@ -1,7 +1,9 @@
--- `inner::mixed::mark_one` meets its contract.
+-- `inner::mixed::add_bound` meets its contract.
 use Rattle.replace.specs.Places.{says_some}
 use Rattle.judge_proposals.specs.Mixed.{unbound, bound}
-use Rattle.judge_proposals.proofs.inner.mixed.mark_one.Goals as goal
+use Rattle.queries.specs.MarkLaws.{mark-none}
+use Rattle.judge_proposals.proofs.inner.mixed.add_bound.Goals as goal
+use Rattle.judge_proposals.proofs.inner.mixed.add_bound.Goals.{in-Some, in_default}
 
 pub returns-then-w-eq0 : goal.returns-then-w-eq0
 returns-then-w-eq0 c = λ t xs h m. unbound c.args.types.now c.args.x c.args.w c.args.k t xs h c.if-w-eq0.true m
@@ -14,4 +16,7 @@ end_of-end-requires c =
 
 pub returns : goal.returns
 returns c = λ t xs h m. bound c.args.types.now c.args.x c.args.w c.args.k t xs h c.if-w-eq0.false c.end_of-end.ensures c.chosen.ensures
-    (c.marks.ensures _ (c.mark.ensures xs m))
+    (c.extend.ensures _ (elim c.match-chosen.branch [
+      | in-Some w ↦ rw (w.names-is, w.in-Some.is) (w.insert.ensures xs m)
+      | in_default w ↦ rw (w.names-is, w.in_default.is) (mark-none _ xs m)
+    ]))
