@@ -12,16 +12,16 @@ ghost use Rattle.judge.specs.Found.{FoundThere, FoundJudged};
 ghost use Rattle.judge.specs.Entry.{lentAll, entered, Entered, BoundsGiven, judgedRest};
 
 use judge_entries::inner::{Slots, fill};
-use records_buffers::inner::clear;
-use names::tables::NameTable;
-use replace_table::inner::fill as note_all;
 use judge_proposals::inner::bounds::{bound_names, rise};
 use judge_proposals::inner::mixed::apart;
+use judge_trials::inner::{first_failing, try_all};
+use names::tables::NameTable;
 use queries::name_set::NameSet;
 use records::inner::bounds_good;
 use records::is_set;
+use records_buffers::inner::clear;
+use replace_table::inner::fill as note_all;
 use rules::{NAMES, POOL_BYTES, RECORD_WORDS, RECORDS, Refusal, TABLE_WORDS, WORK_WORDS};
-use judge_trials::inner::{first_failing, try_all};
 
 // Is everything that is lent long enough?
 fn lent(pool: &[u8], table: &[u32], work: &[u32]) -> bool

@@ -1,6 +1,6 @@
 -- `inner::bounds_given` meets its contract.
 use mathlib.Core.Path.{sym, subst, ◌∙◌}
-use mathlib.Core.List.{[], map}
+use mathlib.Core.List.{map}
 use Prim.Native.Nat.{◌/◌}
 use lib.ListN.{length}
 use Rattle.rules.specs.Writing.{word_of}

@@ -1,5 +1,5 @@
 -- `inner::judge_rest` meets its contract.
-use mathlib.Core.Path.{subst, ◌∙◌}
+use mathlib.Core.Path.{◌∙◌}
 use native.Mathlib.Omega.{arith}
 use Rattle.rules.specs.Names.{table_of, names_of}
 use Rattle.judge.specs.Proposed.{put, tabled}
