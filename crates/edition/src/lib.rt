@@ -18,14 +18,14 @@ ghost use Rattle.edition.specs.Told.{Whole};
 ghost use Rattle.edition.specs.Theorems.{AllTrue};
 ghost use Rattle.edition.specs.Why.{editionTold, editionWhy};
 
+use edition_report::words::put_total;
 use intake::{Unready, read_all};
 use model::{File, How, Room, Sheet};
 use names::tables::NameTable;
-use edition_report::words::put_total;
 use rules::{Refusal, Shown};
-use text_spell::sink::Sink;
 use std::alloc::{AllocError, Global};
 use telling::tell_each;
+use text_spell::sink::Sink;
 
 /// How many sheets a report tells of, and how many of them are accepted.
 #[derive(Clone, Copy)]
@@ -71,8 +71,8 @@ fn sunk<E>(told: Result<Counts, E>) -> Result<Counts, Failed<E>>
     }
 }
 
-// Checks an edition, and tells it as it is asked for.
-fn report_as<S: Sink>(
+/// Checks an edition as `report` does, and tells it as it is asked for: which pages, and with or without why a sheet isn't accepted.
+pub fn report_as<S: Sink>(
     alloc: Global,
     pool: &mut [u8],
     table: &mut [u32],

@@ -13,13 +13,13 @@ ghost use Rattle.edition.specs.Files.{IsSheet};
 ghost use Rattle.edition.specs.Why.{conflictHead, lineTold, numbered, unknownText, whyLine, whyText};
 
 use crate::model::{Room, Sheet};
-use solve_conflict::inner::find_among;
-use names::tables::NameTable;
 use edition_report::lines::{constraint_line, line_in};
 use edition_report::pages::Outcome;
 use edition_report::shown::{put_part, put_shown};
 use edition_report::words::{put_amount, put_refused};
+use names::tables::NameTable;
 use rules::Refusal;
+use solve_conflict::inner::find_among;
 use text_spell::sink::Sink;
 
 /// Which constraints of a sheet conflict, where constraints remain of it: their places in its set, counted from 0, stand at the front of the room's result.
