@@ -80,7 +80,8 @@ pub fn report_as<S: Sink>(
     how: How,
     to: &mut S,
 ) -> Result<Counts, Failed<S::Error>>
-    ensures told { OnOk result ((S.place to.new).held ≡ (S.place to.old).held ++ editionTold how.why how.shown (editionGiven pool.old table.old (files_of files.now))) }
+    ensures told { OnOk result
+        ((S.place to.new).held ≡ (S.place to.old).held ++ editionTold how.why how.shown (editionGiven pool.old table.old (files_of files.now))) }
     ensures counted { IfOk result (λ n. Counted n.sheets n.accepted (editionGiven pool.old table.old (files_of files.now))) }
     ensures truth { AllTrue (editionGiven pool.old table.old (files_of files.now)) }
     ensures leaves { Leaves result (tableGiven pool.old table.old) pool.old table.old pool.new table.new (S.place to.old) (S.place to.new)

@@ -30,7 +30,8 @@ pub fn conflict_in(
     outcome: Outcome,
     room: &mut Room,
 ) -> Result<Option<usize>, Refusal>
-    ensures { FoundAs (askedBy outcome (conflictOf (table_of names.entry.pool.now names.entry.table.now) sheet.now.records.items)) room.old.res room.new.res result }
+    ensures { FoundAs (askedBy outcome (conflictOf (table_of names.entry.pool.now names.entry.table.now) sheet.now.records.items)) room.old.res
+        room.new.res result }
 {
     match outcome {
         Outcome::Remains { .. } => {

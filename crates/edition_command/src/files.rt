@@ -58,7 +58,7 @@ pub fn front(alloc: Global) -> Result<Vec<u8>, AllocError>
 }
 
 /// The bytes of a reader up to its end, if they are a sheet's.
-fn read_sheet<R: Read>(
+pub fn read_sheet<R: Read>(
     alloc: Global,
     reader: &mut R,
     front: &mut [u8],

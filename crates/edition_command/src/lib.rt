@@ -12,6 +12,8 @@ mod notes;
 mod options;
 mod status;
 mod tables;
+#[cfg(test)]
+mod tests;
 mod together;
 mod told;
 mod verify;

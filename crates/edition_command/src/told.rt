@@ -13,7 +13,7 @@ use edition::why::conflict_in;
 use edition_report::lines::{constraint_line, line_in};
 use edition_report::pages::Outcome;
 use names::tables::NameTable;
-use rules::Shown;
+use rules::{Refusal, Shown};
 use std::alloc::{AllocError, Global};
 use std::rt::Files;
 
@@ -28,53 +28,61 @@ pub struct Facts {
 }
 
 impl Facts {
-    fn of(outcome: Outcome, text: &[u8]) -> Facts {
-        let plain = Facts {
-            finding: "",
+    // A word alone.
+    fn told(finding: &'static str) -> Facts {
+        Facts {
+            finding,
             refusal: None,
             line: None,
             column: None,
             rounds: None,
-        };
+        }
+    }
+
+    fn with_refusal(self, why: Refusal) -> Facts {
+        Facts {
+            refusal: Some(why.number() as usize),
+            ..self
+        }
+    }
+
+    fn with_line(self, line: usize) -> Facts {
+        Facts {
+            line: Some(line),
+            ..self
+        }
+    }
+
+    fn with_column(self, column: usize) -> Facts {
+        Facts {
+            column: Some(column),
+            ..self
+        }
+    }
+
+    fn with_rounds(self, rounds: u32) -> Facts {
+        Facts {
+            rounds: Some(rounds as usize),
+            ..self
+        }
+    }
+
+    fn of(outcome: Outcome, text: &[u8]) -> Facts {
         match outcome {
-            Outcome::Unseen(_) => Facts {
-                finding: "unseen",
-                ..plain
-            },
-            Outcome::Unread(stop) => Facts {
-                finding: "unread",
-                refusal: Some(stop.why.number() as usize),
-                line: Some(stop.line),
-                column: Some(stop.column),
-                ..plain
-            },
-            Outcome::Agrees { rounds, .. } => Facts {
-                finding: "agrees",
-                rounds: Some(rounds as usize),
-                ..plain
-            },
-            Outcome::Denied(k) => Facts {
-                finding: "denied",
-                line: Some(constraint_line(text, k)),
-                ..plain
-            },
-            Outcome::Unjudged(why) => Facts {
-                finding: "unjudged",
-                refusal: Some(why.number() as usize),
-                ..plain
-            },
-            Outcome::Remains { rounds, .. } => Facts {
-                finding: "remains",
-                refusal: Some(5),
-                rounds: Some(rounds as usize),
-                ..plain
-            },
-            Outcome::Stops { why, rounds } => Facts {
-                finding: "stops",
-                refusal: Some(why.number() as usize),
-                rounds: Some(rounds as usize),
-                ..plain
-            },
+            Outcome::Unseen(_) => Facts::told("unseen"),
+            Outcome::Unread(stop) => Facts::told("unread")
+                .with_refusal(stop.why)
+                .with_line(stop.line)
+                .with_column(stop.column),
+            Outcome::Agrees { rounds, .. } => Facts::told("agrees").with_rounds(rounds),
+            Outcome::Denied(k) => Facts::told("denied").with_line(constraint_line(text, k)),
+            Outcome::Unjudged(why) => Facts::told("unjudged").with_refusal(why),
+            Outcome::Remains { rounds, .. } => Facts::told("remains")
+                .with_refusal(Refusal::Unsolved)
+                .with_rounds(rounds),
+            Outcome::Stops { why, rounds } => Facts::told("stops")
+                .with_refusal(why)
+                .with_rounds(rounds),
         }
     }
 }

@@ -1,5 +1,6 @@
 -- What holds while files and sheets are gone over, one after another.
-use Rattle.std.specs.Prelude.{◌≡◌, refl, Bool, true, false, not, ℕ, ◌+◌, ◌≤◌, ◌<◌, List, [], ◌∷◌, ◌++◌, length, drop, get_or, Option, Some, None, Result, Ok, Err, IfOk, OnOk}
+use Rattle.std.specs.Prelude.{◌≡◌, refl, Bool, true, false, not, ℕ, ◌+◌, ◌≤◌, ◌<◌, List, [], ◌∷◌, ◌++◌, length, drop, get_or}
+use Rattle.std.specs.Prelude.{Option, Some, None, Result, Ok, Err, IfOk, OnOk}
 use Rattle.std.proofs.Common.{sym, ap, ◌∙◌, arith, append-nil, append_assoc}
 use Rattle.std.specs.Prelude.{nat_eq}
 use Rattle.std.specs.Cmp.Lexicographic.{pointwise, same_text, other_text}
@@ -11,7 +12,8 @@ use Rattle.laws.specs.NameTable.{same-yes, same-no}
 use Rattle.edition.specs.Files.{files_of}
 use Rattle.edition.specs.declared.model.File.{File}
 use Rattle.edition_certificate_file.specs.declared.Entry.{Entry}
-use Rattle.edition_verify.specs.Verifying.{CertifiedBy, Had, TrueBy, YesIsTrue, fileText, findEntry, isNamed, isYes, one, otherText, othersIn, verifiedIn, word, wordBy, wordOf}
+use Rattle.edition_verify.specs.Verifying.{CertifiedBy, Had, TrueBy, YesIsTrue, findEntry, isNamed, isYes, one, word, wordBy, wordOf}
+use Rattle.edition_verify.specs.Verifying.{fileText, otherText, othersIn, verifiedIn}
 use Rattle.edition_verify.specs.declared.Answer.{Answer}
 use Rattle.edition_certificate_file.specs.Files.{writtenName}
 use Rattle.edition_verify.specs.Files.{had}
@@ -28,7 +30,8 @@ module _ {A B : Type 0} (f : List A → B) (xs : List A) (i : ℕ) (x d : A) (h 
   pub at-item : f (drop i xs) ≡ f (x ∷ drop (i + 1) xs)
   at-item = at_drop_more f xs i d h ∙ ap (λ (y : A). f (y ∷ drop (i + 1) xs)) (sym q)
 
-module _ (name : Bytes) (es : List Entry) (i : ℕ) (e d : Entry) (h : i < length es) (q : e ≡ get_or es i d) (k : findEntry name (drop i es) ≡ findEntry name es) where
+module _ (name : Bytes) (es : List Entry) (i : ℕ) (e d : Entry) (h : i < length es) (q : e ≡ get_or es i d)
+    (k : findEntry name (drop i es) ≡ findEntry name es) where
   pub found-here : sameBytes e.name.items name ≡ true → Some e ≡ findEntry name es
   unfolding findEntry
   found-here s = rw s at (sym (at-item (findEntry name) es i e d h q) ∙ k)

@@ -12,7 +12,8 @@ ghost use Rattle.edition_certificate_file.specs.Files.{writtenName};
 ghost use Rattle.edition_certified.specs.Certified.{said};
 ghost use Rattle.edition_certified.specs.declared.Verdict.TheVariants as verdict;
 ghost use Rattle.edition_verify.specs.Files.{had};
-ghost use Rattle.edition_verify.specs.Verifying.{findEntry, wordBy, wordOf, word, isYes, saidText, wordText, fileText, isNamed, otherText, lastText, verifiedText};
+ghost use Rattle.edition_verify.specs.Verifying.{findEntry, wordBy, wordOf, word, isYes, isNamed};
+ghost use Rattle.edition_verify.specs.Verifying.{saidText, wordText, fileText, otherText, lastText, verifiedText};
 ghost use Rattle.edition_verify.specs.Verifying.{CertifiedBy, IsKeptOf, TrueBy, YesIsTrue, one, verifiedIn, othersIn, sheetsIn};
 
 use edition::model::File;

@@ -10,7 +10,8 @@ use Rattle.rules.specs.Trees.{Open, Product, Ty, opened, dim, struct, Tys, Field
 use Rattle.rules.specs.Views.{openOf, productOf, struct_of}
 use Rattle.laws.specs.Contents.{same-eqb}
 use Rattle.laws.specs.Lists.{all-is, is_all, any-is, is_any, true≢false}
-use Rattle.queries.specs.Marks.{Marks, Small}
+use Rattle.queries.specs.declared.name_set.NameSet.{NameSet}
+use Rattle.queries.specs.Marks.{Has, Small, Within}
 use Rattle.queries.specs.MarkLaws.{any-in, in-every, chosen-below}
 use Rattle.queries.specs.declared.Kind.TheVariants.{Both}
 use Rattle.types.specs.Shapes.{whole}
@@ -20,7 +21,7 @@ use Rattle.types.specs.declared.Shape.{Shape}
 use Rattle.types.specs.declared.Shape.TheVariants as shape
 use Rattle.types.specs.declared.Types as lists
 use Rattle.records.specs.declared.Open as code
-use Rattle.judge_meaning.specs.Truth.{Within, Bounded, True}
+use Rattle.judge_meaning.specs.Truth.{Bounded, True}
 
 -- ══ Bounds ══
 
@@ -31,11 +32,11 @@ answers false true d f g = absurd (true≢false (sym (d.1 (g refl))))
 answers false false d f g = refl
 
 -- the names of a type are among the bounds when their marks are
-pub within-bounds : (v b : List Bool) (os : List (Open ℕ)) (t : Ty ℕ) (xs : List ℕ) (names : List Bytes) (r : Bool) → os ≡ opens t
-    → Marks v (namesIn os) → Marks b xs → Small (opens t) → Decides r (Within v b 256) → r ≡ amongBounds (numbered names) xs t
+pub within-bounds : (v b : NameSet) (os : List (Open ℕ)) (t : Ty ℕ) (xs : List ℕ) (names : List Bytes) (r : Bool) → os ≡ opens t
+    → Has v (namesIn os) → Has b xs → Small (opens t) → Decides r (Within v.marks b.marks 256) → r ≡ amongBounds (numbered names) xs t
 unfolding amongBounds
 within-bounds v b os t xs names r o mo mb small d =
-    let mv = subst (λ (os : List (Open ℕ)). Marks v (namesIn os)) o mo in
+    let mv = subst (λ (os : List (Open ℕ)). Has v (namesIn os)) o mo in
     answers r (all p ns) d (λ w. is_all p ns (λ x m.
     let k : any (eqb x) ns ≡ true = is_any (eqb x) ns x m (eq-eqb x x refl) in
     let l : x < 256 = in-every (λ (x : ℕ). x < 256) ns (chosen-below 256 Both (opens t) small) x (any-in x ns k) in
@@ -55,7 +56,7 @@ within-bounds v b os t xs names r o mo mb small d =
 abbrev dimensional : Ty ℕ → Bool
 dimensional t = not (is_none (productOf t)) || not (is_none (openOf t))
 
-module _ (t : Ty ℕ) (m : List Bool) where
+module _ (t : Ty ℕ) (m : NameSet) where
   module _ {r : Bool} (a : Bounded t m (λ names xs. r ≡ amongBounds (numbered names) xs t)) where
     pub open-among : {o : Open ℕ} → opened o ≡ t → True (isDim t) m r
     unfolding holds opensCon

@@ -28,7 +28,8 @@ use Rattle.records.specs.Good.{Ends, GoodCon, goodCon, goodTy, numbers, holding}
 use Rattle.records.specs.Holds.{HoldsCon}
 use Rattle.records.specs.Parsed.{only-con}
 use Rattle.queries.specs.GoodOpens.{names-small}
-use Rattle.queries.specs.Marks.{Marks, Small}
+use Rattle.queries.specs.declared.name_set.NameSet.{NameSet}
+use Rattle.queries.specs.Marks.{Has, Small}
 use Rattle.judge_meaning.specs.Truth.{True}
 use Rattle.replace.specs.declared.substitution.Substitution.{Substitution}
 use Rattle.replace.specs.Came.{Came}
@@ -97,7 +98,7 @@ module _ (pool table : List ℕ) where
           go (yes k) = absurd (e d (sizeCon d) (record { held = stands; past = omega arith; deep = k; good = s.good }))
           go (no k) = let j : 64 < depthCon d = omega arith in sym (rw (sized-deep (sizeCon d) (depthCon d) d j))
 
-      pub flat : {e : ℕ} {r : Bool} {m : List Bool} (p : ACon w 0) → Ends (GoodCon pool table 0 w 0) (Some e) → True p.0 m r → Marks m xs → got r ≡ tested xs d
+      pub flat : {e : ℕ} {r : Bool} {m : NameSet} (p : ACon w 0) → Ends (GoodCon pool table 0 w 0) (Some e) → True p.0 m r → Has m xs → got r ≡ tested xs d
       unfolding failed
       flat {e} {r} {m} p (c, g) t marks =
           let told : True d m r = subst (λ (x : Con ℕ). True x m r) (only-con w p.0 d 0 p.1 stands) t in

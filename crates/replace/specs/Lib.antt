@@ -1,7 +1,7 @@
 pub mod Runs
 pub mod Places
 pub mod Substitutions
-pub mod Alone
+pub mod Opened
 pub mod Writes
 pub mod Well
 pub mod InProducts

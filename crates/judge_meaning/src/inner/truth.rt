@@ -1,43 +1,27 @@
-//! Is a constraint true? All bindings have been put in before; the bounds are marks, one for each name.
-ghost use Rattle.std.specs.Prelude.{◌≡◌, Bool, Decides, List, length};
+//! Is a constraint true? All bindings have been put in before; the bounds are a set of names.
+ghost use Rattle.std.specs.Prelude.{◌≡◌, List};
 ghost use Rattle.rules.specs.Meaning.{amongBounds};
 ghost use Rattle.rules.specs.Names.{Bytes, numbered};
 ghost use Rattle.rules.specs.Trees.{isDim, hasField};
-ghost use Rattle.judge_meaning.specs.Truth.{Bounded, Within, True};
+ghost use Rattle.queries.specs.declared.name_set.NameSet.{NameSet};
+ghost use Rattle.judge_meaning.specs.Truth.{Bounded, True};
 
 use super::means;
 use queries::Kind;
-use queries::inner::marks;
-use rules::NAMES;
+use queries::name_set::NameSet;
 use types::{Constraint, Demand, Shape, Type};
 
-/// Are all names that are marked in v marked in b?
-fn is_within(v: &[bool; NAMES], b: &[bool; NAMES]) -> bool
-    requires v_len { length v.now ≡ 256 }
-    requires b_len { length b.now ≡ 256 }
-    ensures { Decides result (Within v.now b.now 256) }
-{
-    for i in 0..NAMES {
-        if v[i] && !b[i] {
-            return false;
-        }
-    }
-    true
-}
-
 /// Are all open names of the type among the bounds?
-fn among_bounds(t: Type, bounds: &[bool; NAMES]) -> bool
-    requires bounds_len { length bounds.now ≡ 256 }
+fn among_bounds(t: Type, bounds: &NameSet) -> bool
     ensures { Bounded t.entry.tree.0 bounds.now (λ names xs. result ≡ amongBounds (numbered names) xs t.entry.tree.0) }
 {
-    let mut m = [false; NAMES];
-    marks(t.words, t.at, t.end(), Kind::Both, &mut m);
-    is_within(&m, bounds)
+    let mut open = NameSet::new();
+    open.extend(t.words, t.at, t.end(), Kind::Both);
+    open.is_subset(bounds)
 }
 
 /// Is-dimension: a dimension, a variable or a parameter, whose open names are all among the bounds.
-fn is_dimension(t: Type, bounds: &[bool; NAMES]) -> bool
-    requires bounds_len { length bounds.now ≡ 256 }
+fn is_dimension(t: Type, bounds: &NameSet) -> bool
     ensures { True (isDim t.entry.tree.0) bounds.now result }
 {
     match t.shape() {
@@ -49,7 +33,7 @@ fn is_dimension(t: Type, bounds: &[bool; NAMES]) -> bool
 
 /// Has-field: a struct with that field, whose type means the asked one.
 fn has_field(of: Type, name: u32, asked: Type) -> bool
-    ensures { (bounds : List Bool) → True (hasField name of.entry.tree.0 asked.entry.tree.0) bounds result }
+    ensures { (bounds : NameSet) → True (hasField name of.entry.tree.0 asked.entry.tree.0) bounds result }
 {
     let Shape::Struct(_, _, fields) = of.shape() else {
         return false;
@@ -61,8 +45,7 @@ fn has_field(of: Type, name: u32, asked: Type) -> bool
 }
 
 /// Is the constraint true?
-pub fn holds(c: Constraint, bounds: &[bool; NAMES]) -> bool
-    requires bounds_len { length bounds.now ≡ 256 }
+pub fn holds(c: Constraint, bounds: &NameSet) -> bool
     ensures { True c.entry.tree.0 bounds.now result }
 {
     match c.demand() {

@@ -10,11 +10,11 @@ replace_constraint-put-requires c =
     let n = c.args.by.names in
     con-weaker (numbers n.pool.now n.table.now) (holding n.pool.now n.table.now) 0 4_294_967_296 (omega arith) c.args.c.tree.0 c.requires.good
 
-pub test-requires-clause-stands : goal.test-requires-clause-stands
-test-requires-clause-stands c =
+pub test-requires : goal.test-requires
+test-requires c =
     let k = came c.in-Ok.is c.replace_constraint-put.ensures in
     let back : c.front-2-1.given.0 ≡ c.replace_constraint-put.new.out.words.now = search rules in
-    (k.value, rw back (written c.args.by c.args.c.tree.0 c.requires.good c.requires.plain refl (length-take-le 8192 c.args.work.now c.requires.work_long) k))
+    record { stands = (k.value, rw back (written c.args.by c.args.c.tree.0 c.requires.good c.requires.plain refl (length-take-le 8192 c.args.work.now c.requires.work_long) k)) }
 
 pub returns-in-Ok : goal.returns-in-Ok
 returns-in-Ok c = λ bs xs same m.

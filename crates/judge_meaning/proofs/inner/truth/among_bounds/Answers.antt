@@ -1,5 +1,4 @@
 use Rattle.std.proofs.Common.{[], ap, ◌∙◌}
-use Rattle.queries.specs.MarkLaws.{marks-none}
 use Rattle.queries.specs.Scans.{opensIn}
 use Rattle.queries.specs.ScanLaws.{type-opens}
 use Rattle.judge_meaning.proofs.Truths.{within-bounds}
@@ -9,4 +8,4 @@ pub returns : goal.returns
 returns c = λ names xs small m.
     let t = c.args.t in
     within-bounds _ _ _ t.tree.0 xs names _ (ap (opensIn t.words.now t.at) c.end.ensures ∙ type-opens t.words.now t.tree.0 t.at t.tree.1)
-    (c.marks.ensures [] marks-none) m small c.is_within.ensures
+    (c.extend.ensures [] c.new-open.ensures) m small c.is_subset.ensures
