@@ -17,7 +17,8 @@ use rules::Refusal;
 /// Is each constraint of the set true once the entries' bindings are put in? `bounds` are names that any dimension may stand for.
 ///
 /// The pool takes 8,192 bytes, the table 257 words and the work buffer 16,384 (else 10); a set, types and bounds of 8,192 words, and 2,048 entries,
-/// are the most that is taken (else 8, before an entry is looked at). To confirm what solving answers, `solve_confirm::confirm` needs no entries. The work buffer is left all zero, except for a refusal 10.
+/// are the most that is taken (else 8, before an entry is looked at). To confirm what solving answers, `solve_confirm::confirm` needs no entries. The
+/// work buffer is left all zero, except for a refusal 10.
 pub fn judge(
     pool: &[u8],
     table: &[u32],

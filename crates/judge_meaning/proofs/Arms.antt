@@ -162,7 +162,8 @@ module _ (ν : Names ℕ) (x y : Ty ℕ) (s : Shape) (q : read_as s ≡ plain y 
       go (shape.Struct m ts fs) n e = omega (arith, e)
       go (shape.List t) n e = omega (arith, e)
 
-  pub no-struct : {n : ℕ} {ts : Tys ℕ} → struct n ts noFields ≡ plain x false → ((n : ℕ) (ts : lists.Types) (fs : fields.Fields) → s ≡ shape.Struct n ts fs → ⊥) → false ≡ means ν x y
+  pub no-struct : {n : ℕ} {ts : Tys ℕ} → struct n ts noFields ≡ plain x false
+      → ((n : ℕ) (ts : lists.Types) (fs : fields.Fields) → s ≡ shape.Struct n ts fs → ⊥) → false ≡ means ν x y
   no-struct p n = differ p (go s n)
     where
       go : (s : Shape) → ((n : ℕ) (ts : lists.Types) (fs : fields.Fields) → s ≡ shape.Struct n ts fs → ⊥) → 4 ≡ kindOf (read_as s) → ⊥

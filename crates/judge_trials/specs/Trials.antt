@@ -167,7 +167,8 @@ module _ (by : Substitution) (c : Con ℕ) where
 
   -- the answer of the test on what was put in; or replacing refused
   module _ (bs : List (Binding ℕ)) (same : by.lent.0 ≡ lookOf by bs) (xs : List ℕ) where
-    pub tried : {w w' : Writer} (k : Came writeCon w w' (conBy by c)) (r : Result Bool Refusal) → told r ≡ tested pool table xs k.value → told r ≡ judgedBy by bs xs c
+    pub tried : {w w' : Writer} (k : Came writeCon w w' (conBy by c)) (r : Result Bool Refusal) → told r ≡ tested pool table xs k.value
+        → told r ≡ judgedBy by bs xs c
     unfolding judgeCon
     tried k r e = e ∙ sym (rw (← same, k.is))
 

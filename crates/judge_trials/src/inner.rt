@@ -85,7 +85,8 @@ pub fn first_failing(
     requires set_short { length set.now ≤ 8192 }
     requires work_long { 8192 ≤ length work.old }
     ensures { (cs : List (Con ℕ)) (bs : List (Binding ℕ)) (xs : List ℕ) →
-        SetThere names.entry.pool.now names.entry.table.now set.now cs → Put names.entry.pool.now names.entry.table.now places.now types.now bs → Has bounds.now xs →
+        SetThere names.entry.pool.now names.entry.table.now set.now cs
+        → Put names.entry.pool.now names.entry.table.now places.now types.now bs → Has bounds.now xs →
         toldBy toldOption result ≡ failing (numbers names.entry.pool.now names.entry.table.now) bounded bs xs 0 cs }
 {
     let by = Substitution {
@@ -123,7 +124,8 @@ pub fn try_all(
     requires set_short { length set.now ≤ 8192 }
     requires work_long { 8192 ≤ length work.old }
     ensures { (cs : List (Con ℕ)) (bs : List (Binding ℕ)) (xs : List ℕ) →
-        SetThere names.entry.pool.now names.entry.table.now set.now cs → Put names.entry.pool.now names.entry.table.now places.now types.now bs → Has bounds.now xs →
+        SetThere names.entry.pool.now names.entry.table.now set.now cs
+        → Put names.entry.pool.now names.entry.table.now places.now types.now bs → Has bounds.now xs →
         told result ≡ judge (numbers names.entry.pool.now names.entry.table.now) bounded bs xs cs }
 {
     match first_failing(names, set, places, types, bounds, work) {

@@ -26,7 +26,8 @@ fn note(v: &[u32], at: usize, places: &mut [u32])
     }
 }
 
-/// Notes the bindings from a place up to an end in a table of 256 words that is empty: for each variable the place of the type that its first binding binds it to.
+/// Notes the bindings from a place up to an end in a table of 256 words that is empty: for each variable the place of the type that its first binding
+/// binds it to.
 pub fn fill(v: &[u32], b: usize, e: usize, places: &mut [u32])
     requires run { (bs : List (Binding ℕ)) × Run v.now b e bs }
     requires near { length v.now ≤ 4000000000 }

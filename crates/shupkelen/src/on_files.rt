@@ -7,10 +7,10 @@ ghost use Rattle.rules.specs.TextReading.{readTextCall};
 ghost use Rattle.shupkelen.specs.Exports.{out, rescuedOut, compactedOut, textOut, textReadOut};
 
 use compaction::compact;
-use rescue::rescue;
-use text::{read_text, write_text};
 use library_words::answers::{compacted, rescued, sheet, spelt};
 use library_words::hand;
+use rescue::rescue;
+use text::{read_text, write_text};
 
 /// Rescues what is well formed of a damaged set file: words of four bytes, the lowest first, four words a record. The constraints that are whole go to
 /// the front of `kept` (32,768 bytes or more), the place of each other record, and of a torn last one, to the front of `skipped` (2,049 words or more).

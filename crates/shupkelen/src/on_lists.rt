@@ -6,13 +6,13 @@ ghost use Rattle.rules.specs.Ceiling.{ceilingCall};
 ghost use Rattle.rules.specs.Numbers.{refusalIn};
 ghost use Rattle.shupkelen.specs.Exports.{out, askedOut, namesOut, ceilingOut};
 
-use solve_ceiling::ceiling;
-use records_buffers::lent;
-use queries::{closed, contains, variables};
-use records::{is_bindings, is_scheme, is_set, is_type};
-use rules::Refusal;
 use calls_defined::told::{asked, counted, limited};
 use library_words::{hand, number};
+use queries::{closed, contains, variables};
+use records::{is_bindings, is_scheme, is_set, is_type};
+use records_buffers::lent;
+use rules::Refusal;
+use solve_ceiling::ceiling;
 
 /// Is it a set: constraints one after another, each well formed, at most 2,048 records? Refuses with 10, 8 and 1; 0 says yes.
 #[unsafe(no_mangle)]

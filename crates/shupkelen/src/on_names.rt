@@ -5,10 +5,10 @@ ghost use Rattle.rules.specs.Names as rules;
 ghost use Rattle.rules.specs.Numbers.{refusalIn};
 ghost use Rattle.shupkelen.specs.Exports.{out, orderWord, placeOut, enteredOut};
 
-use names::{check_number, check_table, compare, enter};
 use calls_defined::told::{numbered, ordered};
 use library_words::placing::placed;
 use library_words::{hand, number};
+use names::{check_number, check_table, compare, enter};
 
 /// The order of two names by their bytes, first to last, a prefix before what it begins: returns 1 for less, 2 for same, 3 for more.
 #[unsafe(no_mangle)]

@@ -8,18 +8,18 @@ ghost use Rattle.rules.specs.Lines.{checkLineCall};
 ghost use Rattle.library_pairs.specs.Pairs.{entriesIn};
 ghost use Rattle.shupkelen.specs.Exports.{out, addedOut, writtenOut, solvedOut, batchOut, judgedOut, eliminatedOut};
 
+use calls_defined::told::{added, judged, solution, written};
+use engine::eliminate;
+use library_pairs::judge_pairs;
+use library_words::answers::eliminated;
+use library_words::hand;
+use lines::check_line;
+use replace_calls::{replace_in_set, replace_in_type};
+use schemes::{generalise, instantiate, quantify};
+use solve::solve;
 use solve_add::add;
 use solve_batch::solve_all;
 use solve_confirm::confirm;
-use engine::eliminate;
-use lines::check_line;
-use library_pairs::judge_pairs;
-use replace_calls::{replace_in_set, replace_in_type};
-use calls_defined::told::{added, judged, solution, written};
-use schemes::{generalise, instantiate, quantify};
-use solve::solve;
-use library_words::answers::eliminated;
-use library_words::hand;
 
 /// Tests a constraint, and stores it behind the first `count` records of the buffer (8,192 words or more), which are a set, unless it is satisfied. Says
 /// 1 Satisfied, 2 Violated or 3 Unknown, and how many records the set has then. Refuses with 10, 8, 1, then 8 where the constraint has no room, and
@@ -172,7 +172,8 @@ pub extern "C" fn shupkelen_judge(
     work: &mut [u32],
     answer: &mut [u32],
 ) -> u32
-    ensures { out result answer.new work.new ≡ judgedOut (judgeCall pool.now table.now set.now (entriesIn entries.now) types.now bounds.now work.old) answer.old }
+    ensures { out result answer.new work.new
+        ≡ judgedOut (judgeCall pool.now table.now set.now (entriesIn entries.now) types.now bounds.now work.old) answer.old }
 {
     hand(
         judged(judge_pairs(pool, table, set, entries, types, bounds, work)),
@@ -218,7 +219,8 @@ pub extern "C" fn shupkelen_quantify(
     work: &mut [u32],
     answer: &mut [u32],
 ) -> u32
-    ensures { out result answer.new (res.new, work.new) ≡ writtenOut (quantifyCall pool.now table.now words.now bounds.now names.now res.old work.old) answer.old }
+    ensures { out result answer.new (res.new, work.new)
+        ≡ writtenOut (quantifyCall pool.now table.now words.now bounds.now names.now res.old work.old) answer.old }
 {
     hand(
         written(quantify(pool, table, words, bounds, names, res, work)),

@@ -28,7 +28,8 @@ fn equal(names: NameTable, left: Type, right: Type, out: &mut Writer) -> Result<
     requires right_good { GoodTy names.pool.now names.table.now right.tree.0 }
     requires short { size left.tree.0 + size right.tree.0 < 65_000 }
     requires small { out.old.at < 1_000_000_000 }
-    ensures { Applied out.old out.new result (trySatisfy (numbers names.entry.pool.now names.entry.table.now) bounded (equal left.entry.tree.0 right.entry.tree.0)) }
+    ensures { Applied out.old out.new result
+        (trySatisfy (numbers names.entry.pool.now names.entry.table.now) bounded (equal left.entry.tree.0 right.entry.tree.0)) }
 {
     if left.same(right) {
         return Ok(Step::Done);

@@ -34,7 +34,8 @@ fn put_bound(by: Substitution, o: Open, all: bool, out: &mut Writer)
 pub fn put_bounds(by: Substitution, s: &[u32], at: usize, all: bool, out: &mut Writer)
     requires listed { (bs : List (tree.Open ℕ)) × BoundsAt s.now bs at }
     requires renames { (f : Rename) × Renames by.lent.0 f }
-    ensures { (bs : List (tree.Open ℕ)) (f : Rename) → BoundsAt s.now bs at → Renames by.entry.lent.0 f → Writes out.old out.new (map writeBound (allBounds all f bs)) }
+    ensures { (bs : List (tree.Open ℕ)) (f : Rename) → BoundsAt s.now bs at → Renames by.entry.lent.0 f →
+        Writes out.old out.new (map writeBound (allBounds all f bs)) }
 {
     for i in at..s.len() / 4 {
         if let View::Bound(o) = view_at(s, i) {

@@ -4,13 +4,13 @@ ghost use Rattle.rules.specs.Trees.{Open};
 ghost use Rattle.records_buffers.specs.Told.{Made};
 ghost use Rattle.schemes_quantify.specs.Ready.{Ready, quantifiedAs};
 
-use schemes_handed::inner::bounds::put_bounds;
-use schemes_handed::inner::tables::quantify_names;
 use names::tables::NameTable;
 use records::View;
 use replace::inner::walk::replace_type;
 use replace::substitution::Substitution;
 use rules::{RECORDS, Refusal};
+use schemes_handed::inner::bounds::put_bounds;
+use schemes_handed::inner::tables::quantify_names;
 use types::Type;
 use types::writer::Writer;
 
@@ -25,7 +25,8 @@ pub fn quantify_at(
     work: &mut [u32],
 ) -> Result<usize, Refusal>
     requires { (bs : List (Open ℕ)) × Ready names.pool.now names.table.now t.words.now t.at handed.now bounds.now work.old t.tree.0 bs }
-    ensures { (bs : List (Open ℕ)) → Ready names.entry.pool.now names.entry.table.now t.entry.words.now t.entry.at handed.now bounds.now work.old t.entry.tree.0 bs →
+    ensures { (bs : List (Open ℕ)) → Ready names.entry.pool.now names.entry.table.now t.entry.words.now t.entry.at
+        handed.now bounds.now work.old t.entry.tree.0 bs →
         Made (quantifiedAs names.entry.pool.now names.entry.table.now handed.now all t.entry.tree.0 bs) work.new result }
 {
     let mut places = [0u32; 512];

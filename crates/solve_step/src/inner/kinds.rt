@@ -47,7 +47,8 @@ fn quotient(
     requires left_good { GoodProduct names.pool.now names.table.now left.factors.0 }
     requires right_good { GoodProduct names.pool.now names.table.now right.factors.0 }
     requires small { out.old.at < 1_000_000_000 }
-    ensures { Applied out.old out.new result (asScalar (divide (numbers names.entry.pool.now names.entry.table.now) bounded left.entry.factors.0 right.entry.factors.0)) }
+    ensures { Applied out.old out.new result
+        (asScalar (divide (numbers names.entry.pool.now names.entry.table.now) bounded left.entry.factors.0 right.entry.factors.0)) }
 {
     let made = divided(&left.value(), &right.value(), names)?;
     out.put(View::IsScalar, 2 + made.len);

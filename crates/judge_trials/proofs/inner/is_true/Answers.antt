@@ -14,14 +14,21 @@ pub test-requires : goal.test-requires
 test-requires c =
     let k = came c.in-Ok.is c.replace_constraint-put.ensures in
     let back : c.front-2-1.given.0 ≡ c.replace_constraint-put.new.out.words.now = search rules in
-    record { stands = (k.value, rw back (written c.args.by c.args.c.tree.0 c.requires.good c.requires.plain refl (length-take-le 8192 c.args.work.now c.requires.work_long) k)) }
+    record {
+      stands = (
+        k.value,
+        rw back
+            (written c.args.by c.args.c.tree.0 c.requires.good c.requires.plain refl (length-take-le 8192 c.args.work.now c.requires.work_long) k),
+      );
+    }
 
 pub returns-in-Ok : goal.returns-in-Ok
 returns-in-Ok c = λ bs xs same m.
     let k = came c.in-Ok.is c.replace_constraint-put.ensures in
     let back : c.front-2-1.given.0 ≡ c.replace_constraint-put.new.out.words.now = search rules in
     tried c.args.by c.args.c.tree.0 bs same xs k _
-    (c.test.ensures k.value xs (rw back (written c.args.by c.args.c.tree.0 c.requires.good c.requires.plain refl (length-take-le 8192 c.args.work.now c.requires.work_long) k)) m)
+    (c.test.ensures k.value xs
+    (rw back (written c.args.by c.args.c.tree.0 c.requires.good c.requires.plain refl (length-take-le 8192 c.args.work.now c.requires.work_long) k)) m)
 
 pub returns-in-Err : goal.returns-in-Err
 returns-in-Err c = λ bs xs same m.

@@ -32,7 +32,8 @@ returns c =
     let law = numbered-lawful (names_of (table_of a.names.pool.now a.names.table.now)) in
     let nu = numbers a.names.pool.now a.names.table.now in
     let n = get_or a.names.table.now 0 0 in
-    sorting-end nu law n (held_tells g) a.self.marks a.out.now c.loop-x.left.marks c.loop-x.out c.loop-x.k h.long c.loop-x.invariant (rw c.in_default.is at c.first.ensures)
+    sorting-end nu law n (held_tells g) a.self.marks a.out.now c.loop-x.left.marks c.loop-x.out c.loop-x.k h.long c.loop-x.invariant
+    (rw c.in_default.is at c.first.ensures)
 
 pub bounds-left-x : goal.bounds-left-x
 bounds-left-x c =
@@ -65,7 +66,8 @@ loop-x-smaller c =
     let law = numbered-lawful (names_of (table_of a.names.pool.now a.names.table.now)) in
     let nu = numbers a.names.pool.now a.names.table.now in
     let n = get_or a.names.table.now 0 0 in
-    sorting-less nu law n (held_tells g) a.self.marks a.out.now c.loop-x.left.marks c.loop-x.out c.loop-x.k h.long c.loop-x.invariant _ (rw c.in-Some.is at c.first.ensures)
+    sorting-less nu law n (held_tells g) a.self.marks a.out.now c.loop-x.left.marks c.loop-x.out c.loop-x.k h.long c.loop-x.invariant _
+    (rw c.in-Some.is at c.first.ensures)
 
 pub loop-x-preserved : goal.loop-x-preserved
 loop-x-preserved c =
