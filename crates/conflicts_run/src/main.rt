@@ -2,9 +2,9 @@
 #![tactic(auto)]
 
 use anyhow::{Context, Result, ensure};
-use solve_conflict::conflict;
 use names::enter;
 use rules::Was;
+use solve_conflict::conflict;
 use std::alloc::Global;
 use std::io;
 

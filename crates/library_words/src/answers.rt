@@ -9,11 +9,11 @@ ghost use Rattle.rules.specs.Base.{got};
 ghost use Rattle.rules.specs.Refusals.{told, toldBy};
 ghost use Rattle.rules.specs.Elimination.{someLeft};
 
+use calls_defined::told::{Told, refused, said, short};
 use engine::Eliminated;
 use exponents::Exponent;
 use rescue::Counts;
 use rules::Refusal;
-use calls_defined::told::{Told, refused, said, short};
 use text_sheet::{NotRead, Read};
 
 fn power_words(e: Exponent) -> Told

@@ -11,9 +11,9 @@ ghost use Rattle.rules.specs.Numbers.{refusalIn};
 ghost use Rattle.rules.specs.Refusals.{told};
 ghost use Rattle.library_words.specs.Words.{answerWords};
 
+use calls_defined::told::Told;
 use records::inner::put;
 use rules::Refusal;
-use calls_defined::told::Told;
 
 /// The number of a check that says nothing else, 0 where it passes.
 #[tactic(auto, unfolding(rules::specs::Numbers::refusalIn))]

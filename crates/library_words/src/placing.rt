@@ -4,9 +4,9 @@ ghost use Rattle.rules.specs.Names.{nameAsked, partAsked};
 ghost use Rattle.laws.specs.NameTable.{start_at};
 ghost use Rattle.library_words.specs.Words.{placeAs};
 
+use calls_defined::told::{Told, refused, said, short};
 use names::{check_number, name_of};
 use replace::inner::bound::word_at;
-use calls_defined::told::{Told, refused, said, short};
 
 fn start_of(table: &[u32], number: u32) -> u32
     ensures { result ≡ start_at table.now number }

@@ -5,9 +5,9 @@ ghost use Rattle.products.specs.Told.{given};
 ghost use Rattle.library_words.specs.Factors.{productAt, toldOf, written_of};
 
 use crate::inner::{factor_at, put_factors};
+use calls_defined::told::{Told, refused, said, short};
 use products::Product;
 use rules::{FACTORS, Refusal};
-use calls_defined::told::{Told, refused, said, short};
 
 /// The product whose factors these words are, four a factor: kind, name or index, numerator in two's complement, denominator. A torn last factor, like a
 /// 65th, makes a product that no call takes (1).

@@ -10,13 +10,13 @@ ghost use Rattle.schemes.specs.Generalising.{Given, Generalises};
 
 use super::checks::rest_checked;
 use names::tables::NameTable;
-use schemes_quantify::inner::quantifying::quantify_at;
 use queries::Kind;
 use queries::inner::list_names;
 use records::inner::copy;
 use records::seen::view_at;
 use records::{View, is_scheme};
 use rules::{NAMES, RECORD_WORDS, Refusal};
+use schemes_quantify::inner::quantifying::quantify_at;
 use types::Type;
 
 // A concrete type with its names, sorted, quantified; bounds of other names are left out.

@@ -6,10 +6,10 @@ ghost use Rattle.rules.specs.Names.{table_of, lentTable};
 ghost use Rattle.records_buffers.specs.Told.{Made};
 
 use super::checks::rest_checked;
-use schemes_instantiate::inner::instantiating::instantiate_scheme;
 use names::tables::NameTable;
 use records::is_scheme;
 use rules::{RECORDS, Refusal};
+use schemes_instantiate::inner::instantiating::instantiate_scheme;
 
 // The type and bounds of a scheme with handed names put back; no bounds are given.
 pub fn make_instantiated(

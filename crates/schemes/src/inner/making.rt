@@ -7,9 +7,9 @@ ghost use Rattle.records_buffers.specs.Told.{Made};
 
 use super::checks::rest_checked;
 use names::tables::NameTable;
-use schemes_quantify::inner::quantifying::quantify_at;
 use records::is_type;
 use rules::{RECORD_WORDS, RECORDS, Refusal};
+use schemes_quantify::inner::quantifying::quantify_at;
 use types::Type;
 
 // A type and bounds with handed names quantified.

@@ -5,8 +5,6 @@ ghost use Rattle.rules.specs.Trees.{Open};
 ghost use Rattle.records_buffers.specs.Told.{Made};
 ghost use Rattle.schemes_instantiate.specs.Ready.{Ready, ReadyScheme, putBackAs, instantiatedAs};
 
-use schemes_handed::inner::bounds::put_bounds;
-use schemes_handed::inner::tables::{keep_names, put_names_back};
 use names::inner::count;
 use names::tables::NameTable;
 use records::View;
@@ -14,6 +12,8 @@ use records::seen::view_at;
 use replace::inner::walk::replace_type;
 use replace::substitution::Substitution;
 use rules::Refusal;
+use schemes_handed::inner::bounds::put_bounds;
+use schemes_handed::inner::tables::{keep_names, put_names_back};
 use types::Type;
 use types::writer::Writer;
 
