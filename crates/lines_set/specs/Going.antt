@@ -109,12 +109,15 @@ module _ (ν : Names ℕ) where
         still_on w₁ deed n' q p' e k w' r =
             let n : some (deedOf deed, drop (operands s) (drop p stack)) ≡ takes s (drop p stack) = rw (whole-stack stack p m all-of) at n' in
             let x : List ℕ = drop (operands s) (drop p stack) in
-            let top : drop p' (set stack p' v) ≡ v ∷ x = pushed stack p' v k ∙ ap (v ∷◌) (ap (λ (j : ℕ). drop j stack) (next e) ∙ sym (drop-drop (operands s) p stack)) in
+            let top : drop p' (set stack p' v) ≡ v ∷ x = pushed stack p' v k
+            ∙ ap (v ∷◌) (ap (λ (j : ℕ). drop j stack) (next e) ∙ sym (drop-drop (operands s) p stack)) in
             let rest : Writes w₁ w' (collect writeCon (constraints ν (drop (i + 1) lent) (v ∷ x) (steps (i + 1)))) =
             subst (λ (st : List ℕ). Writes w₁ w' (collect writeCon (constraints ν (drop (i + 1) lent) st (steps (i + 1))))) top r in
-            let all : constraints ν (drop i lent) (drop p stack) (steps i) ≡ issued ν v (deedOf deed) ++ constraints ν (drop (i + 1) lent) (v ∷ x) (steps (i + 1)) =
+            let all : constraints ν (drop i lent) (drop p stack) (steps i) ≡ issued ν v (deedOf deed) ++ constraints ν (drop (i + 1) lent) (v ∷ x) (steps
+            (i + 1)) =
             begins ∙ one_more v (drop (i + 1) lent) (drop p stack) x s (steps (i + 1)) (deedOf deed) n in
-            g w' (subst (Writes w w') (sym (ap (collect writeCon) all ∙ collect-append writeCon (issued ν v (deedOf deed)) (constraints ν (drop (i + 1) lent) (v ∷ x) (steps (i + 1)))))
+            g w' (subst (Writes w w') (sym (ap (collect writeCon) all ∙ collect-append writeCon (issued ν v (deedOf deed)) (constraints ν (drop
+            (i + 1) lent) (v ∷ x) (steps (i + 1)))))
             (writes-then (collect writeCon (issued ν v (deedOf deed))) (collect writeCon (constraints ν (drop (i + 1) lent) (v ∷ x) (steps (i + 1)))) q rest))
           where
             next : p' + 1 ≡ p + operands s → suc p' ≡ p + operands s

@@ -159,7 +159,8 @@ fn put_power(v: u32, e: Exponent, x: u32, out: &mut Writer)
 
 // What is done with two operands.
 fn put_joined(names: NameTable, v: u32, two: Two, l: u32, r: u32, out: &mut Writer)
-    ensures { let t = table_of names.entry.pool.now names.entry.table.now in Writes out.old out.new (collect writeCon (issuedByTwo (numbersOf t) v (twoOf two) l r)) }
+    ensures { let t = table_of names.entry.pool.now names.entry.table.now in
+        Writes out.old out.new (collect writeCon (issuedByTwo (numbersOf t) v (twoOf two) l r)) }
 {
     match two {
         Two::Adds => put_sum(v, l, r, out),
@@ -172,7 +173,8 @@ fn put_joined(names: NameTable, v: u32, two: Two, l: u32, r: u32, out: &mut Writ
 
 /// What the step with the variable v adds to the set.
 pub fn put_deed(names: NameTable, v: u32, deed: Deed, out: &mut Writer)
-    ensures { let t = table_of names.entry.pool.now names.entry.table.now in Writes out.old out.new (collect writeCon (issued (numbersOf t) v (deedOf deed.entry))) }
+    ensures { let t = table_of names.entry.pool.now names.entry.table.now in
+        Writes out.old out.new (collect writeCon (issued (numbersOf t) v (deedOf deed.entry))) }
 {
     match deed {
         Deed::Gives(given) => put_given(v, given, out),
