@@ -113,12 +113,11 @@ module _ (ν : Names ℕ) where
             ∙ ap (v ∷◌) (ap (λ (j : ℕ). drop j stack) (next e) ∙ sym (drop-drop (operands s) p stack)) in
             let rest : Writes w₁ w' (collect writeCon (constraints ν (drop (i + 1) lent) (v ∷ x) (steps (i + 1)))) =
             subst (λ (st : List ℕ). Writes w₁ w' (collect writeCon (constraints ν (drop (i + 1) lent) st (steps (i + 1))))) top r in
-            let all : constraints ν (drop i lent) (drop p stack) (steps i)
-            ≡ issued ν v (deedOf deed) ++ constraints ν (drop (i + 1) lent) (v ∷ x) (steps (i + 1)) =
+            let all : constraints ν (drop i lent) (drop p stack) (steps i) ≡ issued ν v (deedOf deed) ++ constraints ν (drop (i + 1) lent) (v ∷ x) (steps
+            (i + 1)) =
             begins ∙ one_more v (drop (i + 1) lent) (drop p stack) x s (steps (i + 1)) (deedOf deed) n in
-            g w' (subst (Writes w w')
-            (sym (ap (collect writeCon) all
-            ∙ collect-append writeCon (issued ν v (deedOf deed)) (constraints ν (drop (i + 1) lent) (v ∷ x) (steps (i + 1)))))
+            g w' (subst (Writes w w') (sym (ap (collect writeCon) all ∙ collect-append writeCon (issued ν v (deedOf deed)) (constraints ν (drop
+            (i + 1) lent) (v ∷ x) (steps (i + 1)))))
             (writes-then (collect writeCon (issued ν v (deedOf deed))) (collect writeCon (constraints ν (drop (i + 1) lent) (v ∷ x) (steps (i + 1)))) q rest))
           where
             next : p' + 1 ≡ p + operands s → suc p' ≡ p + operands s

@@ -58,8 +58,8 @@ dimensions-put {w} {w₁} {w₂} l r p q = subst (Writes w w₂) (ap (writeCon (
 pub given-put : {w w₁ w₂ w₃ : Writer} (ν : Names ℕ) (v : ℕ) (t : Ty ℕ) (n : ℕ) → n ≡ 2 + size t → size t ≤ 2048 → Writes w w₁ (recOf view.Equal (fit n) ∷ [])
     → Writes w₁ w₂ (writeTy (its v)) → Writes w₂ w₃ (writeTy t) → Writes w w₃ (collect writeCon (issued ν v (gives t)))
 unfolding collect issued
-given-put {w} {w₁} {w₂} {w₃} ν v t n e l p q r = subst (Writes w w₃) (sym (nothing-more (writeCon (equal (its v) t))))
-    (equal-put v t n e (omega (arith, e, l)) p q r)
+given-put {w} {w₁} {w₂} {w₃} ν v t n e l p q r = subst (Writes w w₃) (sym (nothing-more (writeCon (equal (its v) t)))) (equal-put v t n e (omega
+    (arith, e, l)) p q r)
 
 -- three constraints, or two and one
 module _ {w w₁ w₂ w₃ : Writer} (ν : Names ℕ) (v l r : ℕ) where

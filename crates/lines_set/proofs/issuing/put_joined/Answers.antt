@@ -10,8 +10,8 @@ returns-in-Adds c = joined-as _ _ _ _ _ _ c.in-Adds.is (c.put_sum.ensures (numbe
 
 pub returns-in-Subtracts : goal.returns-in-Subtracts
 unfolding issuedByTwo neg
-returns-in-Subtracts c = joined-as _ _ _ _ _ _ c.in-Subtracts.is
-    (c.put_sum-in-Subtracts.ensures (numbersOf (table_of c.args.names.pool.now c.args.names.table.now)))
+returns-in-Subtracts c = joined-as _ _ _ _ _ _ c.in-Subtracts.is (c.put_sum-in-Subtracts.ensures (numbersOf
+    (table_of c.args.names.pool.now c.args.names.table.now)))
 
 pub returns-in-Multiplies : goal.returns-in-Multiplies
 unfolding issuedByTwo neg

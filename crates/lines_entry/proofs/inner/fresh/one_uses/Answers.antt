@@ -12,13 +12,13 @@ pub loop-step-init : goal.loop-step-init
 loop-step-init c = refl
 
 pub returns-then-step_uses : goal.returns-then-step_uses
-returns-then-step_uses c = used-hit namesOfStep stepOf _ _ _ _ c.loop-step-test.true
-    (ap (λ (s : Step). any (eqb c.args.x) (namesOfStep (stepOf s))) (sym c.step-item.is) ∙ sym c.step_uses.ensures ∙ c.if-step_uses.true)
+returns-then-step_uses c = used-hit namesOfStep stepOf _ _ _ _ c.loop-step-test.true (ap (λ (s : Step). any (eqb c.args.x) (namesOfStep (stepOf s)))
+    (sym c.step-item.is) ∙ sym c.step_uses.ensures ∙ c.if-step_uses.true)
     ∙ c.loop-step.invariant
 
 pub loop-step-preserved : goal.loop-step-preserved
-loop-step-preserved c = used-miss namesOfStep stepOf _ _ _ _ c.loop-step-test.true
-    (ap (λ (s : Step). any (eqb c.args.x) (namesOfStep (stepOf s))) (sym c.step-item.is) ∙ sym c.step_uses.ensures ∙ c.if-step_uses.false)
+loop-step-preserved c = used-miss namesOfStep stepOf _ _ _ _ c.loop-step-test.true (ap (λ (s : Step). any (eqb c.args.x) (namesOfStep (stepOf s)))
+    (sym c.step-item.is) ∙ sym c.step_uses.ensures ∙ c.if-step_uses.false)
     ∙ c.loop-step.invariant
 
 pub returns : goal.returns

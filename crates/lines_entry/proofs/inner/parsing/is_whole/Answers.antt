@@ -11,14 +11,14 @@ pub loop-step-init : goal.loop-step-init
 loop-step-init c = (omega arith, refl)
 
 pub returns-then-n-taken : goal.returns-then-n-taken
-returns-then-n-taken c = whole-off _ _ stepOf _ _ c.loop-step-test.true _
-    (c.operands-taken.ensures ∙ ap (λ (x : Step). operands (stepOf x)) c.step-item.is) c.if-n-taken.true ∙ c.loop-step.invariant.1
+returns-then-n-taken c = whole-off _ _ stepOf _ _ c.loop-step-test.true _ (c.operands-taken.ensures ∙ ap (λ (x : Step). operands
+    (stepOf x)) c.step-item.is) c.if-n-taken.true ∙ c.loop-step.invariant.1
 
 pub loop-step-preserved : goal.loop-step-preserved
 loop-step-preserved c = (
   omega (arith, c.loop-step.invariant.0),
-  whole-on _ _ stepOf _ _ c.loop-step-test.true _
-      (c.operands-taken.ensures ∙ ap (λ (x : Step). operands (stepOf x)) c.step-item.is) c.if-n-taken.false ∙ c.loop-step.invariant.1,
+  whole-on _ _ stepOf _ _ c.loop-step-test.true _ (c.operands-taken.ensures ∙ ap (λ (x : Step). operands (stepOf x)) c.step-item.is) c.if-n-taken.false
+      ∙ c.loop-step.invariant.1,
 )
 
 pub returns : goal.returns
