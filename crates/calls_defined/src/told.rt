@@ -6,11 +6,12 @@ ghost use Rattle.solve_add.specs.Told.{counted};
 ghost use Rattle.solve.specs.Told as solving;
 ghost use Rattle.solve_ceiling.specs.Told.{toldMost};
 ghost use Rattle.rules.specs.Calls.{solved, unsolved};
-ghost use Rattle.calls_defined.specs.Saying.{word, fours, sum, yesWord, saidAs, refusedAs, checkedAs, askedAs, numberAs, orderAs, countedAs, writtenAs, addedAs, solvedAs, wasWord, mostAs, ceilingAs, batchedAs};
+ghost use Rattle.calls_defined.specs.Saying.{word, fours, sum, yesWord, saidAs, refusedAs, checkedAs, askedAs, numberAs};
+ghost use Rattle.calls_defined.specs.Saying.{orderAs, countedAs, writtenAs, addedAs, solvedAs, wasWord, mostAs, ceilingAs, batchedAs};
 
-use solve_ceiling::Most;
 use rules::{Refusal, Was};
 use solve::{Finish, Solution};
+use solve_ceiling::Most;
 use std::cmp::Ordering;
 
 /// The refusal's number or 0, what the call says, completed rounds, and how many words at the front of the result buffer are the answer's.

@@ -8,11 +8,11 @@ ghost use Rattle.products.specs.Told.{Tree, valueIn, given, answer};
 ghost use Rattle.calls_defined.specs.Given.{exponentAt, factorAt, productAt};
 ghost use Rattle.calls_defined.specs.Dispatch.{shown, powerAs, factorWords, productShown};
 
+use calls_defined::told::{Told, refused, said, short};
+use calls_defined::words::{put, word_of};
 use exponents::Exponent;
 use products::{Factor, Product};
 use rules::{FACTORS, Refusal};
-use calls_defined::told::{Told, refused, said, short};
-use calls_defined::words::{put, word_of};
 
 /// Numerator and denominator from a place on.
 pub fn exponent_at(a: &[u32], i: usize) -> Exponent

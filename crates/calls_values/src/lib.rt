@@ -6,9 +6,9 @@ pub mod inner;
 ghost use Rattle.std.specs.Prelude.{◌≡◌};
 ghost use Rattle.calls_defined.specs.Dispatch.{shown, exponents, products};
 
-use inner::{exponent_at, product_from, told_power, told_product};
 use calls_defined::told::Told;
 use calls_defined::{Asked, Lists};
+use inner::{exponent_at, product_from, told_power, told_product};
 
 /// 5 add, 6 multiply, 7 negate, 8 divide: `exponents` (`calls_defined/specs/Dispatch`).
 pub fn exponent(call: u32, a: &[u32]) -> Told
@@ -24,7 +24,8 @@ pub fn exponent(call: u32, a: &[u32]) -> Told
     }
 }
 
-/// 9 multiply, 10 divide, 11 invert, 12 power: `products` (`calls_defined/specs/Dispatch`). x and y are the counts of the products; for power b has the exponent.
+/// 9 multiply, 10 divide, 11 invert, 12 power: `products` (`calls_defined/specs/Dispatch`). x and y are the counts of the products; for power b has the
+/// exponent.
 pub fn product(q: Asked, lists: Lists, pool: &[u8], table: &[u32], res: &mut [u32]) -> Told
     ensures { shown result res.new ≡ products q lists.entry.a.now lists.entry.b.now pool.now table.now res.old }
 {

@@ -85,7 +85,8 @@ fn judge_rest(
     requires slotted { (es : List Entry) × Slotted es proposal.slots }
     requires few { proposal.slots.count ≤ 2048 }
     requires work_long { 16384 ≤ length work.old }
-    ensures { (cs : List (Con ℕ)) (es : List Entry) → Entered names.entry.pool.now names.entry.table.now set.now proposal.entry.types.now cs → Slotted es proposal.entry.slots →
+    ensures { (cs : List (Con ℕ)) (es : List Entry) → Entered names.entry.pool.now names.entry.table.now set.now proposal.entry.types.now cs
+        → Slotted es proposal.entry.slots →
         told result ≡ judgedRest names.entry.pool.now names.entry.table.now es proposal.entry.types.now proposal.entry.bounds.now cs }
 {
     let mut places = [0u32; NAMES];

@@ -22,7 +22,22 @@ use Rattle.records.specs.Parsed.{only}
 use Rattle.records.specs.ByView.{ends-in}
 use Rattle.judge_entries.specs.Given.{type-there, type-is}
 use Rattle.types.specs.Once.{ATree}
-use Rattle.rules.specs.Steps.{LineStep, constant, reference, raises, StepKind, isConstant, isReference, isRaise, zeros, number_at, constantAt, referenceTo, raiseBy, step_of}
+use Rattle.rules.specs.Steps.{
+  LineStep,
+  constant,
+  reference,
+  raises,
+  StepKind,
+  isConstant,
+  isReference,
+  isRaise,
+  zeros,
+  number_at,
+  constantAt,
+  referenceTo,
+  raiseBy,
+  step_of,
+}
 use Rattle.rules.specs.Lines.{lineLent}
 
 -- ══ 10 ══

@@ -11,7 +11,26 @@ use Rattle.rules.specs.Writing.{Rec, rec}
 use Rattle.records.specs.Views.{recs, from}
 use Rattle.records.specs.Places.{recAt, from_some, from-none}
 use Rattle.records.specs.Given.{records-whole, records-broken}
-use Rattle.rules.specs.Steps.{Two, LineStep, joins, chooses, operands, whole, StepWords, four, stepWords, StepKind, isChoose, isTwo, stepNumbers, stepKind, zeros, step_of, stepGiven, lineGiven}
+use Rattle.rules.specs.Steps.{
+  Two,
+  LineStep,
+  joins,
+  chooses,
+  operands,
+  whole,
+  StepWords,
+  four,
+  stepWords,
+  StepKind,
+  isChoose,
+  isTwo,
+  stepNumbers,
+  stepKind,
+  zeros,
+  step_of,
+  stepGiven,
+  lineGiven,
+}
 
 -- the words of a record as a step's
 abbrev pub fourOf : Rec → StepWords

@@ -22,7 +22,8 @@ use types::Constraint;
 /// Tests the constraint and, unless it is satisfied, stores it behind the set's n records, where 2,048 are enough.
 pub fn add_good(buffer: &mut [u32], n: usize, con: &[u32]) -> Result<(Verdict, usize), Refusal>
     requires { (cs : List (Con ℕ)) × ((c : Con ℕ) × Ready buffer.old n con.now cs c) }
-    ensures { (names : List Bytes) (cs : List (Con ℕ)) (c : Con ℕ) → Ready buffer.old n con.now cs c → addedAs result buffer.new ≡ addedWith (numbered names) buffer.old n con.now cs c }
+    ensures { (names : List Bytes) (cs : List (Con ℕ)) (c : Con ℕ) → Ready buffer.old n con.now cs c
+        → addedAs result buffer.new ≡ addedWith (numbered names) buffer.old n con.now cs c }
 {
     let verdict = test(Constraint { words: con, at: 0 });
     if let Verdict::Satisfied = verdict {

@@ -11,12 +11,14 @@ returns-then-not-room c =
 
 pub make_line-made-requires : goal.make_line-made-requires
 make_line-made-requires c =
-    let r : Room c.args.pool.now c.args.table.now c.args.steps.now c.args.types.now c.args.lines.now c.args.names.now c.args.res.now c.args.work.now = room-is _ _ _ _ _ _ _ _ (sym c.room.ensures ∙ ap (λ (b : Bool). need b 10) (c.if-not-room.false)) in
+    let r : Room c.args.pool.now c.args.table.now c.args.steps.now c.args.types.now c.args.lines.now c.args.names.now c.args.res.now c.args.work.now =
+    room-is _ _ _ _ _ _ _ _ (sym c.room.ensures ∙ ap (λ (b : Bool). need b 10) (c.if-not-room.false)) in
     record { table_value = r.lent-long.table-met; lent = r.enough; room = r.lent-long.work-long }
 
 pub hand_over-requires : goal.hand_over-requires
 hand_over-requires c =
-    let r : Room c.args.pool.now c.args.table.now c.args.steps.now c.args.types.now c.args.lines.now c.args.names.now c.args.res.now c.args.work.now = room-is _ _ _ _ _ _ _ _ (sym c.room.ensures ∙ ap (λ (b : Bool). need b 10) (c.if-not-room.false)) in
+    let r : Room c.args.pool.now c.args.table.now c.args.steps.now c.args.types.now c.args.lines.now c.args.names.now c.args.res.now c.args.work.now =
+    room-is _ _ _ _ _ _ _ _ (sym c.room.ensures ∙ ap (λ (b : Bool). need b 10) (c.if-not-room.false)) in
     record { made = (_, c.make_line-made.ensures); room = r.lent-long.result-long }
 
 pub returns : goal.returns

@@ -109,7 +109,8 @@ fn is_unlike(left: Type, right: Type) -> bool
 
 /// The test of an equality.
 fn test_equal(left: Type, right: Type) -> Verdict
-    ensures { (names : List Bytes) → toldVerdict result ≡ addEqual (numbered names) (closed left.entry.tree.0 && closed right.entry.tree.0) left.entry.tree.0 right.entry.tree.0 }
+    ensures { (names : List Bytes) → toldVerdict result
+        ≡ addEqual (numbered names) (closed left.entry.tree.0 && closed right.entry.tree.0) left.entry.tree.0 right.entry.tree.0 }
 {
     if left.is_closed() && right.is_closed() {
         satisfied_if(left.same(right))
