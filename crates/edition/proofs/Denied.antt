@@ -41,7 +41,7 @@ use Rattle.text_columns.specs.Left.{read-back}
 use Rattle.theorems_soundness.specs.Claims.{Given, YesOrLimits, Fails}
 use Rattle.theorems_soundness.proofs.Soundness.{own-answer, no-fails}
 use Rattle.theorems_soundness.proofs.Words.{numbers-ordered}
-use Rattle.judge_trials.specs.Failing.{none-fails}
+use Rattle.judge_trials.proofs.Failing.{none-fails}
 use Rattle.edition.specs.Theorems.{DeniedBy, DeniedOn, DeniedWithoutPremise, DeniedOnlyWithoutPremise}
 use Rattle.edition.proofs.Origins.{Origin, Rooted, RootedPage, sound}
 

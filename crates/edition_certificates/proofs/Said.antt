@@ -13,7 +13,7 @@ use Rattle.records.specs.Found.{Words32}
 use Rattle.records.specs.Holds.{Holds, HoldsCon}
 use Rattle.records.specs.Parsed.{only}
 use Rattle.records.specs.Views.{recs}
-use Rattle.judge_entries.specs.Given.{type-is}
+use Rattle.judge_entries.proofs.Given.{type-is}
 use Rattle.library_pairs.specs.Pairs.{entriesIn}
 use Rattle.types.specs.Sets.{HoldsCons}
 use Rattle.edition_certificates.specs.Certificates.{lineOf, saying, pairOf, pairsOf, boundTo, bindingsIn}

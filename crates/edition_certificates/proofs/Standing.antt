@@ -11,7 +11,7 @@ use Rattle.laws.specs.Lists.{and_left}
 use Rattle.records.specs.Found.{Words32}
 use Rattle.records.specs.Whole.{entry-good}
 use Rattle.types.specs.Sets.{Cons, IsCons, one-set}
-use Rattle.judge.specs.Rest.{set_there}
+use Rattle.judge.proofs.Rest.{set_there}
 
 module _ (pool table s : List ℕ) (w : Words32 s) (e : setCall pool table s ≡ got tt) where
   alone : aloneGiven pool table s ≡ got tt

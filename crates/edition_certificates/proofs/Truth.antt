@@ -6,7 +6,7 @@ use Rattle.rules.specs.Names.{table_of}
 use Rattle.laws.specs.Checks.{need-passed}
 use Rattle.laws.specs.Lists.{bound-step}
 use Rattle.records.specs.Found.{Words32}
-use Rattle.judge_entries.specs.Given.{parts}
+use Rattle.judge_entries.proofs.Given.{parts}
 use Rattle.library_pairs.specs.Pairs.{entriesIn}
 use Rattle.theorems_soundness.proofs.Soundness.{judge-call-yes}
 use Rattle.edition_certificates.specs.Certificates.{proposes, pairsOf, boundsOf, boundNames, verified}

@@ -1,2 +1,3 @@
 mod Tests
 mod Runs
+pub mod CasesOfAlike

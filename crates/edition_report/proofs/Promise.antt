@@ -16,7 +16,7 @@ use Rattle.rules.specs.TextWriting.{decimal, namesIn}
 use Rattle.rules.specs.declared.Unseen.TheVariants.{NotOpened, NotRead, TooLong}
 use Rattle.laws.specs.Lists.{Every, every_append, true≢false}
 use Rattle.text_laws.specs.Lengths.{NotFeed}
-use Rattle.judge_trials.specs.Failing.{none-fails}
+use Rattle.judge_trials.proofs.Failing.{none-fails}
 use Rattle.edition_report.specs.Theorems.{SaysAccepted, Accepted, AcceptedOn}
 use Rattle.rules.specs.Reports.{
   Finding,

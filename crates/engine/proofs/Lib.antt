@@ -1,1 +1,3 @@
 mod Determined
+pub mod Started
+pub mod Written

@@ -1,5 +1,3 @@
-pub mod Sevens
 pub mod Told
-pub mod Doing
 pub mod Grids
 pub mod Machine

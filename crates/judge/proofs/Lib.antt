@@ -1,1 +1,3 @@
 mod Determined
+pub mod Proposed
+pub mod Rest

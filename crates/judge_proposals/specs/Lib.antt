@@ -1,3 +1,2 @@
 pub mod Bounds
 pub mod Mixed
-pub mod Order

@@ -1,3 +1,2 @@
 -- What the contracts of this crate cite, and how pairs are gone through.
 pub mod Pairs
-pub mod Turns

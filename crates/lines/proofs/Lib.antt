@@ -1,1 +1,2 @@
 mod Determined
+pub mod Settled

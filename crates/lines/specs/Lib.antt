@@ -1,5 +1,4 @@
 pub mod Nested
-pub mod Settled
 pub mod Slices
 pub mod Standing
 pub mod Theorems

@@ -1,5 +1,4 @@
 pub mod StepLists
 pub mod Told
-pub mod Entry
 pub mod Used
 pub mod Entered

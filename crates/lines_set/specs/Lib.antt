@@ -1,3 +1,1 @@
 pub mod Deeds
-pub mod Issued
-pub mod Going

@@ -7,3 +7,4 @@ pub mod Others
 mod Touches
 mod Unsaid
 pub mod Walks
+pub mod Writes

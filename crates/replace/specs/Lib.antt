@@ -2,7 +2,6 @@ pub mod Runs
 pub mod Places
 pub mod Substitutions
 pub mod Opened
-pub mod Writes
 pub mod Well
 pub mod InProducts
 pub mod Leaves

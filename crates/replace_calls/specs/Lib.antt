@@ -1,4 +1,3 @@
 pub mod Entry
 pub mod Stands
 pub mod Made
-pub mod Whole

@@ -1,2 +1,4 @@
 mod Determined
 pub mod Others
+pub mod Tests
+pub mod Whole

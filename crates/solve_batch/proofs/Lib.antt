@@ -1,2 +1,4 @@
 pub mod Promise
 pub mod Determined
+pub mod Cases
+pub mod Checks

@@ -1,4 +1,3 @@
 pub mod Told
 pub mod Counting
-pub mod Answers
 pub mod Theorems

@@ -32,7 +32,7 @@ use Rattle.theorems_soundness.proofs.Judged.{yes-solves}
 use Rattle.theorems_soundness.proofs.Runs.{answer-apart}
 use Rattle.theorems_soundness.proofs.Soundness.{solve-call, own-proposed}
 use Rattle.theorems_soundness.proofs.Words.{numbers-ordered}
-use Rattle.solve_confirm.specs.Own.{Passed, passed}
+use Rattle.solve_confirm.proofs.Own.{Passed, passed}
 use Rattle.solve_confirm.specs.Theorems.{ConfirmedAnswer, OneOfTwo, judgedInPlace, ConfirmedIsTrue, ConfirmsJustWhere}
 use Rattle.solve_confirm.specs.Told.{ruledBy}
 use Rattle.solve_confirm.proofs.Ruled.{by-verdict, read_of, confirmed-of, refused-of}

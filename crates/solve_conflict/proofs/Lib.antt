@@ -7,3 +7,4 @@ pub mod Entering
 pub mod Needed
 pub mod Worth
 pub mod Determined
+pub mod Loops

@@ -13,7 +13,7 @@ use Rattle.queries.specs.SortMarks.{over-put, over_none}
 use Rattle.types.specs.declared.writer.Writer.{Writer}
 use Rattle.types.specs.Sets.{alone, placed, placed-alone}
 use Rattle.types.specs.Written.{Writes, writes-none, writes-then}
-use Rattle.solve_conflict.specs.Loops.{Putting, Placing}
+use Rattle.solve_conflict.proofs.Loops.{Putting, Placing}
 use Rattle.solve_conflict.specs.Standing.{line_place, standing}
 use Rattle.solve_conflict.proofs.Marks.{stands-first, stands-not}
 

@@ -1,4 +1,3 @@
 pub mod Told
 pub mod Standing
-pub mod Loops
 pub mod Theorems

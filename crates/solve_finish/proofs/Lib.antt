@@ -1,1 +1,3 @@
 mod Asked
+pub mod Bounds
+pub mod Others

@@ -1,3 +1,1 @@
 pub mod Told
-pub mod Others
-pub mod Bounds

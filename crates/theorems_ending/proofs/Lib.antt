@@ -6,3 +6,4 @@ pub mod Sets
 pub mod Tables
 pub mod Calls
 pub mod Ending
+pub mod Replaced

@@ -13,7 +13,7 @@ use Rattle.laws.specs.Order.{Lawful}
 use Rattle.theorems_ending.specs.Without.{without, shorter}
 use Rattle.theorems_ending.specs.Yields.{Yields, yields, next, within-yields, bounded-yields, each-yields}
 use Rattle.theorems_ending.specs.Fine.{Fine, Any, change}
-use Rattle.theorems_ending.specs.Replaced.{ty-replaced, product-replaced}
+use Rattle.theorems_ending.proofs.Replaced.{ty-replaced, product-replaced}
 use Rattle.theorems_ending.specs.Weights.{weighCon, weighAll}
 use Rattle.theorems_ending.proofs.Weighing.{weigh-append, weigh-all}
 use Rattle.theorems_ending.specs.Steps.{In, Ok, Stepped}

@@ -2,7 +2,6 @@ pub mod Without
 pub mod Yields
 pub mod Products
 pub mod Fine
-pub mod Replaced
 pub mod Weights
 pub mod Steps
 pub mod Counted

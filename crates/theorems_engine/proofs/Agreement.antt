@@ -61,7 +61,7 @@ use Rattle.theorems_engine.specs.Claims.{Agree, Unfit, Alike, refuse-alike, acce
 use Rattle.theorems_engine.proofs.Runs.{answered}
 use Rattle.theorems_engine.proofs.Laid.{as-solved}
 use Rattle.laws.specs.Refusing.{Refuses, given, next, refusing}
-use Rattle.engine_matrix.specs.Sevens.{Seven, eliminated-seven}
+use Rattle.engine_matrix.proofs.Sevens.{Seven, eliminated-seven}
 
 -- ══ What the checks at entry say ══
 

@@ -6,3 +6,4 @@ mod FieldsFound
 pub mod GivenSets
 mod SameWords
 mod Seen
+pub mod Held

@@ -1,7 +1,6 @@
 pub mod Binds
 pub mod Fine
 pub mod Given
-pub mod Held
 pub mod Once
 pub mod Puts
 pub mod Sets

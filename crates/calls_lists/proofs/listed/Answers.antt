@@ -1,7 +1,7 @@
 -- `listed` meets its contract: by the number.
 use borrow.Author.Tests.{ne_eqb}
-use Rattle.calls_lists.specs.Arms.{list-19, list-20, list-21, list-22, list-23, list-24, list-25, list-26, list-27}
-use Rattle.calls_lists.specs.Arms.{list-looks}
+use Rattle.calls_lists.proofs.Arms.{list-19, list-20, list-21, list-22, list-23, list-24, list-25, list-26, list-27}
+use Rattle.calls_lists.proofs.Arms.{list-looks}
 use Rattle.calls_lists.proofs.listed.Goals as goal
 
 pub returns-in-19 : goal.returns-in-19

@@ -1,6 +1,6 @@
 -- `looked` meets its contract: by the number.
 use borrow.Author.Tests.{ne_eqb}
-use Rattle.calls_lists.specs.Arms.{look-1, look-13, look-14, look-15, look-16, look-17, look-18}
+use Rattle.calls_lists.proofs.Arms.{look-1, look-13, look-14, look-15, look-16, look-17, look-18}
 use Rattle.calls_lists.proofs.looked.Goals as goal
 
 pub returns-in-1 : goal.returns-in-1

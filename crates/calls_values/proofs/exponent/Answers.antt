@@ -1,6 +1,6 @@
 -- `exponent` meets its contract: by the number.
 use borrow.Author.Tests.{ne_eqb}
-use Rattle.calls_values.specs.Arms.{exponent-5, exponent-6, exponent-7, exponent-8}
+use Rattle.calls_values.proofs.Arms.{exponent-5, exponent-6, exponent-7, exponent-8}
 use Rattle.calls_values.proofs.exponent.Goals as goal
 
 pub returns-in-5 : goal.returns-in-5

@@ -1,6 +1,6 @@
 -- `product` meets its contract: by the number.
 use borrow.Author.Tests.{ne_eqb}
-use Rattle.calls_values.specs.Arms.{product-9, product-10, product-11, product-12}
+use Rattle.calls_values.proofs.Arms.{product-9, product-10, product-11, product-12}
 use Rattle.calls_values.proofs.product.Goals as goal
 
 pub told_product-requires : goal.told_product-requires

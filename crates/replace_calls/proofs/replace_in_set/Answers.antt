@@ -2,7 +2,7 @@
 use mathlib.Core.Path.{ap, ◌∙◌}
 use mathlib.Core.Bool.{not}
 use Rattle.records_buffers.specs.Lent.{Long, long, short}
-use Rattle.replace_calls.specs.Whole.{set-short, set-called}
+use Rattle.replace_calls.proofs.Whole.{set-short, set-called}
 use Rattle.replace_calls.proofs.replace_in_set.Goals as goal
 
 pub returns-then-not-lent : goal.returns-then-not-lent

@@ -2,7 +2,7 @@
 use mathlib.Core.Path.{ap, ◌∙◌}
 use mathlib.Core.Bool.{not}
 use Rattle.records_buffers.specs.Lent.{Long, long, short}
-use Rattle.schemes.specs.Instantiated.{instantiate-short, instantiate-called}
+use Rattle.schemes.proofs.Instantiated.{instantiate-short, instantiate-called}
 use Rattle.schemes.proofs.instantiate.Goals as goal
 
 pub returns-then-not-lent : goal.returns-then-not-lent

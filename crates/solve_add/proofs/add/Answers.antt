@@ -2,7 +2,7 @@
 use mathlib.Core.Path.{sym, ◌∙◌}
 use Rattle.records.specs.Found.{Words32}
 use Rattle.std.proofs.lemmas.Result.{err_from_is_err_and}
-use Rattle.solve_add.specs.Whole.{ready, called, refusing}
+use Rattle.solve_add.proofs.Whole.{ready, called, refusing}
 use Rattle.solve_add.proofs.add.Goals as goal
 
 pub add_good-requires : goal.add_good-requires

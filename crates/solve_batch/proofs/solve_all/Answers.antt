@@ -4,7 +4,7 @@ use Rattle.rules.specs.Base.{got}
 use Rattle.rules.specs.Refusals.{told}
 use Rattle.solve.specs.Entry.{long-table}
 use Rattle.rules.specs.Batches.{batchFits}
-use Rattle.solve_batch.specs.Checks.{Room, roomy, cramped, begun, call-short, call-unfit, called}
+use Rattle.solve_batch.proofs.Checks.{Room, roomy, cramped, begun, call-short, call-unfit, called}
 use mathlib.Core.Bool.{not}
 use Rattle.solve_batch.proofs.solve_all.Goals as goal
 

@@ -5,7 +5,7 @@ use native.Mathlib.Omega.{arith}
 use lib.ListN.{length-set}
 use Rattle.products.specs.Held.{made-long}
 use Rattle.calls_defined.specs.Given.{factorsFrom}
-use Rattle.calls_values.specs.Arms.{from_step, from-whole}
+use Rattle.calls_values.proofs.Arms.{from_step, from-whole}
 use Rattle.calls_values.proofs.inner.product_from.Goals as goal
 
 pub loop-i-init : goal.loop-i-init

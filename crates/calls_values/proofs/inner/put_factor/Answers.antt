@@ -2,7 +2,7 @@
 use mathlib.Core.Path.{ap, ◌∙◌}
 use Prim.Native.Nat.{◌+◌}
 use lib.ListN.{set}
-use Rattle.calls_values.specs.Arms.{four-words}
+use Rattle.calls_values.proofs.Arms.{four-words}
 use Rattle.calls_values.proofs.inner.put_factor.Goals as goal
 
 pub returns : goal.returns

@@ -1,7 +1,7 @@
 -- `inner::put_factors` meets its contract: the loop says what is left to store.
 use mathlib.Core.Path.{refl, ◌∙◌}
 use native.Mathlib.Omega.{arith}
-use Rattle.calls_values.specs.Arms.{put_step, put-end}
+use Rattle.calls_values.proofs.Arms.{put_step, put-end}
 use Rattle.calls_values.proofs.inner.put_factors.Goals as goal
 
 pub loop-i-init : goal.loop-i-init

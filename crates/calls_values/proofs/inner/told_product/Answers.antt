@@ -4,7 +4,7 @@ use mathlib.Core.List.{[]}
 use Prim.Native.Nat.{ℕ}
 use Rattle.products.specs.Held.{made-long}
 use Rattle.calls_defined.specs.Saying.{saidAs}
-use Rattle.calls_values.specs.Arms.{made_long, told-made, told-refused}
+use Rattle.calls_values.proofs.Arms.{made_long, told-made, told-refused}
 use Rattle.calls_values.proofs.inner.told_product.Goals as goal
 
 pub put_factors-requires : goal.put_factors-requires

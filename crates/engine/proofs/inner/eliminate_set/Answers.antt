@@ -4,7 +4,7 @@ use Rattle.std.proofs.lemmas.Result.{err_from_is_err_and}
 use Rattle.records.specs.Found.{Words32}
 use Rattle.engine.specs.Entry.{came-in, kept_out, answers-as, held-set, same-set, set-held}
 use Rattle.engine.specs.Reducing.{reduction}
-use Rattle.engine.specs.Written.{refused-answers}
+use Rattle.engine.proofs.Written.{refused-answers}
 use Rattle.engine.proofs.inner.eliminate_set.Goals as goal
 
 pub returns-in_err-enter : goal.returns-in_err-enter

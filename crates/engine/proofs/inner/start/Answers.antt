@@ -1,6 +1,6 @@
 -- `inner::start` meets its contract.
 use mathlib.Core.Path.{refl}
-use Rattle.engine.specs.Started.{started}
+use Rattle.engine.proofs.Started.{started}
 use Rattle.engine.proofs.inner.start.Goals as goal
 
 pub returns : goal.returns

@@ -1,6 +1,6 @@
 -- `inner::write` meets its contract.
 use native.Mathlib.Omega.{arith}
-use Rattle.engine.specs.Written.{lines-written, values-written}
+use Rattle.engine.proofs.Written.{lines-written, values-written}
 use Rattle.engine.proofs.inner.write.Goals as goal
 
 pub put_lines-requires : goal.put_lines-requires

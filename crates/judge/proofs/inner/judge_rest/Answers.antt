@@ -2,8 +2,8 @@
 use mathlib.Core.Path.{◌∙◌}
 use native.Mathlib.Omega.{arith}
 use Rattle.rules.specs.Names.{table_of, names_of}
-use Rattle.judge.specs.Proposed.{put, tabled}
-use Rattle.judge.specs.Rest.{are-bound, no-entries, small, set_there, no-bounds, both, not-both}
+use Rattle.judge.proofs.Proposed.{put, tabled}
+use Rattle.judge.proofs.Rest.{are-bound, no-entries, small, set_there, no-bounds, both, not-both}
 use Rattle.judge.proofs.inner.judge_rest.Goals as goal
 
 pub returns-then-not-fill : goal.returns-then-not-fill

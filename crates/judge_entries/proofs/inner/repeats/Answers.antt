@@ -4,7 +4,7 @@ use lib.Seq.{take_all}
 use Rattle.std.proofs.Common.{◌≡◌, ◌+◌, ◌-◌, length, suc, true, false, drop, get_or, refl, sym, ◌∙◌, add-one, arith}
 use Rattle.judge_entries.specs.declared.Entry.{Entry}
 use Rattle.judge_entries.specs.Entries.{told}
-use Rattle.judge_entries.specs.Counting.{found-is}
+use Rattle.judge_entries.proofs.Counting.{found-is}
 use Rattle.judge_entries.proofs.Turns.{stands, repeated-at, repeated-nowhere}
 use Rattle.judge_entries.proofs.inner.repeats.Goals as goal
 

@@ -1,7 +1,7 @@
 -- Each name is noted.
 use Rattle.std.proofs.Common.{refl}
 use Rattle.judge_entries.specs.Entries.{told, notedBelow}
-use Rattle.judge_entries.specs.Counting.{noted-more}
+use Rattle.judge_entries.proofs.Counting.{noted-more}
 use Rattle.judge_entries.proofs.inner.slots_of.Goals as goal
 
 pub loop-v-init : goal.loop-v-init

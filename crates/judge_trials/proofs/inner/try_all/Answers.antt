@@ -2,7 +2,7 @@
 use Rattle.std.specs.Prelude.{Ok, is_none}
 use Rattle.std.proofs.Common.{sym, ap, ◌∙◌}
 use Rattle.rules.specs.Refusals.{toldBy}
-use Rattle.judge_trials.specs.Failing.{verdict}
+use Rattle.judge_trials.proofs.Failing.{verdict}
 use Rattle.judge_trials.proofs.inner.try_all.Goals as goal
 
 pub returns-in-Ok-None : goal.returns-in-Ok-None

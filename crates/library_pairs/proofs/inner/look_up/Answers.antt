@@ -1,7 +1,7 @@
 -- What is left decides.
 use mathlib.Core.Path.{sym, ◌∙◌}
 use native.Mathlib.Omega.{arith}
-use Rattle.library_pairs.specs.Turns.{found_here, found-later, found_nowhere}
+use Rattle.library_pairs.proofs.Turns.{found_here, found-later, found_nowhere}
 use Rattle.library_pairs.proofs.inner.look_up.Goals as goal
 
 pub returns-then-variable-v : goal.returns-then-variable-v

@@ -1,7 +1,7 @@
 -- What is left decides.
 use mathlib.Core.Path.{◌≡◌}
 use lib.ListN.{length}
-use Rattle.library_pairs.specs.Turns.{repeated}
+use Rattle.library_pairs.proofs.Turns.{repeated}
 use Rattle.library_pairs.proofs.inner.repeats.Given as goal
 
 abbrev pub invariant-loop-rest : goal.invariant-loop-rest

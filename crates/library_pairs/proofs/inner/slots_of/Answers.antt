@@ -5,9 +5,9 @@ use Prim.Native.Nat.{ℕ}
 use native.Mathlib.Omega.{arith}
 use Rattle.std.specs.Prelude.{Option}
 use Rattle.judge_entries.specs.Entries.{notedBelow}
-use Rattle.judge_entries.specs.Counting.{noted-more}
+use Rattle.judge_entries.proofs.Counting.{noted-more}
 use Rattle.library_pairs.specs.Pairs.{entriesIn}
-use Rattle.library_pairs.specs.Turns.{count}
+use Rattle.library_pairs.proofs.Turns.{count}
 use Rattle.library_pairs.proofs.inner.slots_of.Goals as goal
 
 all-noted : (ws : List ℕ) (places : List (Option ℕ)) (v : ℕ) → v ≡ 256 → places ≡ notedBelow (entriesIn ws) v → places ≡ notedBelow (entriesIn ws) 256

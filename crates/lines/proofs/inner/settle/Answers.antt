@@ -6,7 +6,7 @@ use Prim.Native.Nat.{ℕ}
 use native.Mathlib.Omega.{arith}
 use lib.ListN.{length, length-replicate}
 use Rattle.lines.specs.Standing.{set-small, begun}
-use Rattle.lines.specs.Settled.{accepts, remains, stops, mixed-made, refused-settled, found-well, judged-settled}
+use Rattle.lines.proofs.Settled.{accepts, remains, stops, mixed-made, refused-settled, found-well, judged-settled}
 use Rattle.lines.proofs.inner.settle.Goals as goal
 
 pub is_unmixed-requires : goal.is_unmixed-requires

@@ -2,7 +2,7 @@
 use mathlib.Core.Path.{sym, ap, ◌∙◌}
 use mathlib.Core.Bool.{Bool}
 use Rattle.rules.specs.Base.{need}
-use Rattle.lines_entry.specs.Entry.{room-no, room-more, room-less, room-same}
+use Rattle.lines_entry.proofs.Entry.{room-no, room-more, room-less, room-same}
 use Rattle.lines_entry.proofs.inner.room.Goals as goal
 
 pub returns-then-not-lent : goal.returns-then-not-lent

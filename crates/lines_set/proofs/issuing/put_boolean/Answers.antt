@@ -1,4 +1,4 @@
-use Rattle.lines_set.specs.Issued.{boolean-put}
+use Rattle.lines_set.proofs.Issued.{boolean-put}
 use Rattle.lines_set.proofs.issuing.put_boolean.Goals as goal
 
 pub returns : goal.returns

@@ -1,4 +1,4 @@
-use Rattle.lines_set.specs.Issued.{choice-put}
+use Rattle.lines_set.proofs.Issued.{choice-put}
 use Rattle.lines_set.proofs.issuing.put_choice.Goals as goal
 
 pub returns : goal.returns

@@ -1,4 +1,4 @@
-use Rattle.lines_set.specs.Issued.{comparison-put}
+use Rattle.lines_set.proofs.Issued.{comparison-put}
 use Rattle.lines_set.proofs.issuing.put_comparison.Goals as goal
 
 pub returns : goal.returns

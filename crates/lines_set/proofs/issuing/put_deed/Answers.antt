@@ -1,6 +1,6 @@
 use Rattle.rules.specs.Names.{table_of, numbersOf}
 use Rattle.rules.specs.Lines.{issued}
-use Rattle.lines_set.specs.Issued.{deed-as}
+use Rattle.lines_set.proofs.Issued.{deed-as}
 use Rattle.lines_set.proofs.issuing.put_deed.Goals as goal
 
 pub returns-in-Gives : goal.returns-in-Gives

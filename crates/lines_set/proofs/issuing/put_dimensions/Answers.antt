@@ -1,4 +1,4 @@
-use Rattle.lines_set.specs.Issued.{dimensions-put}
+use Rattle.lines_set.proofs.Issued.{dimensions-put}
 use Rattle.lines_set.proofs.issuing.put_dimensions.Goals as goal
 
 pub returns : goal.returns

@@ -1,4 +1,4 @@
-use Rattle.lines_set.specs.Issued.{factor-put}
+use Rattle.lines_set.proofs.Issued.{factor-put}
 use Rattle.lines_set.proofs.issuing.put_factor.Goals as goal
 
 pub returns : goal.returns

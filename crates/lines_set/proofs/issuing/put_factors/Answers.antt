@@ -1,7 +1,7 @@
 use mathlib.Core.Path.{sym, ap, ◌∙◌}
 use Prim.Native.Nat.{Ordering}
 use Rattle.names.specs.Told.{toldOrder}
-use Rattle.lines_set.specs.Issued.{falls, rises, product-as}
+use Rattle.lines_set.proofs.Issued.{falls, rises, product-as}
 use Rattle.lines_set.proofs.issuing.put_factors.Goals as goal
 
 pub returns-in-Less : goal.returns-in-Less

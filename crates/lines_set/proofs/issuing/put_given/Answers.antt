@@ -1,6 +1,6 @@
 use mathlib.Core.Path.{ap}
 use Prim.Native.Nat.{◌+◌}
-use Rattle.lines_set.specs.Issued.{given-put}
+use Rattle.lines_set.proofs.Issued.{given-put}
 use Rattle.lines_set.proofs.issuing.put_given.Goals as goal
 
 pub returns : goal.returns

@@ -1,4 +1,4 @@
-use Rattle.lines_set.specs.Issued.{dim-put}
+use Rattle.lines_set.proofs.Issued.{dim-put}
 use Rattle.lines_set.proofs.issuing.put_is_dim.Goals as goal
 
 pub returns : goal.returns

@@ -1,7 +1,7 @@
 use Rattle.rules.specs.Names.{table_of, numbersOf}
 use Rattle.rules.specs.Exponents.{neg}
 use Rattle.rules.specs.Lines.{issuedByTwo}
-use Rattle.lines_set.specs.Issued.{joined-as}
+use Rattle.lines_set.proofs.Issued.{joined-as}
 use Rattle.lines_set.proofs.issuing.put_joined.Goals as goal
 
 pub returns-in-Adds : goal.returns-in-Adds

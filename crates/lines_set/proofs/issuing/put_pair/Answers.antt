@@ -1,4 +1,4 @@
-use Rattle.lines_set.specs.Issued.{pair-put}
+use Rattle.lines_set.proofs.Issued.{pair-put}
 use Rattle.lines_set.proofs.issuing.put_pair.Goals as goal
 
 pub returns : goal.returns

@@ -1,5 +1,5 @@
 use mathlib.Core.Path.{sym, ◌∙◌}
-use Rattle.lines_set.specs.Issued.{scalar-put, raised-put}
+use Rattle.lines_set.proofs.Issued.{scalar-put, raised-put}
 use Rattle.lines_set.proofs.issuing.put_power.Goals as goal
 
 pub returns-then-is_zero : goal.returns-then-is_zero

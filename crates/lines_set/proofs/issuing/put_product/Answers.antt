@@ -1,4 +1,4 @@
-use Rattle.lines_set.specs.Issued.{product-put}
+use Rattle.lines_set.proofs.Issued.{product-put}
 use Rattle.lines_set.proofs.issuing.put_product.Goals as goal
 
 pub returns : goal.returns

@@ -1,4 +1,4 @@
-use Rattle.lines_set.specs.Issued.{same-put}
+use Rattle.lines_set.proofs.Issued.{same-put}
 use Rattle.lines_set.proofs.issuing.put_same.Goals as goal
 
 pub returns : goal.returns

@@ -1,4 +1,4 @@
-use Rattle.lines_set.specs.Issued.{sum-put}
+use Rattle.lines_set.proofs.Issued.{sum-put}
 use Rattle.lines_set.proofs.issuing.put_sum.Goals as goal
 
 pub returns : goal.returns

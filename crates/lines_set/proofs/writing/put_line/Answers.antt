@@ -3,7 +3,7 @@ use native.Mathlib.Omega.{arith}
 use Prim.Native.Nat.{ℕ}
 use lib.ListN.{replicate, length-replicate}
 use Rattle.std.proofs.Common.{◌∙◌, length-set, length-take}
-use Rattle.lines_set.specs.Going.{still-first, still-nameless, still_end, still-stuck, still_on, in-place}
+use Rattle.lines_set.proofs.Going.{still-first, still-nameless, still_end, still-stuck, still_on, in-place}
 use Rattle.lines_set.proofs.writing.put_line.Goals as goal
 
 pub loop-i-init : goal.loop-i-init

@@ -1,5 +1,5 @@
 use Rattle.rules.specs.Names.{table_of, numbersOf}
-use Rattle.lines_set.specs.Going.{On}
+use Rattle.lines_set.proofs.Going.{On}
 use Rattle.lines_set.proofs.writing.put_line.Given as goal
 
 abbrev pub invariant-loop-i : goal.invariant-loop-i

@@ -4,7 +4,7 @@ use Rattle.std.proofs.lemmas.Result.{err_from_is_err_and}
 use Rattle.rules.specs.Refusals.{told}
 use Rattle.records.specs.Found.{Words32}
 use Rattle.replace_calls.specs.Entry.{constraints-small}
-use Rattle.replace_calls.specs.Whole.{long-made, met-made, set-whole, set-met, set-unmet}
+use Rattle.replace_calls.proofs.Whole.{long-made, met-made, set-whole, set-met, set-unmet}
 use Rattle.replace_calls.proofs.inner.make_set.Goals as goal
 
 pub returns-then-binds-gt-RECORD_WORDS : goal.returns-then-binds-gt-RECORD_WORDS

@@ -1,7 +1,7 @@
 -- `on_names::shupkelen_check_number` meets its contract.
 use mathlib.Core.Path.{ap, ◌∙◌}
 use Rattle.rules.specs.Numbers.{refusalIn}
-use Rattle.shupkelen.specs.Handing.{same_number}
+use Rattle.shupkelen.proofs.Handing.{same_number}
 use borrow.Author.Rules.{rules}
 use Rattle.shupkelen.proofs.on_names.shupkelen_check_number.Goals as goal
 

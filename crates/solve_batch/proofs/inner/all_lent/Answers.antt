@@ -1,6 +1,6 @@
 -- `inner::all_lent` meets its contract.
 use native.Mathlib.Omega.{arith}
-use Rattle.solve_batch.specs.Checks.{short-pool, short-table, short-result, short-answers, long_rest}
+use Rattle.solve_batch.proofs.Checks.{short-pool, short-table, short-result, short-answers, long_rest}
 use Rattle.solve_batch.proofs.inner.all_lent.Goals as goal
 
 pub returns-then-pool-lt-POOL_BYTES : goal.returns-then-pool-lt-POOL_BYTES

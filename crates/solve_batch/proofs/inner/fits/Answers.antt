@@ -2,7 +2,7 @@
 use mathlib.Core.Path.{sym, ap, ◌∙◌}
 use Prim.Native.Nat.{ℕ, ◌*◌}
 use borrow.Author.Tests.{eq-eqb, ne_eqb}
-use Rattle.solve_batch.specs.Checks.{too_many, added}
+use Rattle.solve_batch.proofs.Checks.{too_many, added}
 use Rattle.solve_batch.proofs.inner.fits.Goals as goal
 
 pub returns-then-lengths-gt-SETS : goal.returns-then-lengths-gt-SETS

@@ -2,7 +2,7 @@
 use Rattle.std.specs.Prelude.{Ok}
 use Rattle.std.proofs.Common.{◌≡◌, ap, ◌∙◌}
 use Rattle.records.specs.Found.{Words32}
-use Rattle.solve_confirm.specs.Own.{own, stands, judged, placed}
+use Rattle.solve_confirm.proofs.Own.{own, stands, judged, placed}
 use Rattle.solve_confirm.proofs.inner.verdict_on.Goals as goal
 
 pub invariant_of-judge_found : goal.invariant_of-judge_found

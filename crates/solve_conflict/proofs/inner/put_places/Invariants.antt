@@ -1,6 +1,6 @@
 use Rattle.types.specs.Sets.{alone}
 use Rattle.types.specs.Shapes.{cons_of}
-use Rattle.solve_conflict.specs.Loops.{Placing}
+use Rattle.solve_conflict.proofs.Loops.{Placing}
 use Rattle.solve_conflict.proofs.inner.put_places.Given as goal
 
 abbrev pub invariant-places : goal.invariant-places

@@ -1,6 +1,6 @@
 use Rattle.types.specs.Sets.{alone}
 use Rattle.types.specs.Shapes.{cons_of}
-use Rattle.solve_conflict.specs.Loops.{Putting}
+use Rattle.solve_conflict.proofs.Loops.{Putting}
 use Rattle.solve_conflict.proofs.inner.put_standing.Given as goal
 
 abbrev pub invariant-standing : goal.invariant-standing

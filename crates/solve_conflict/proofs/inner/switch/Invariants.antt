@@ -1,5 +1,5 @@
 use Rattle.std.specs.Prelude.{◌≤◌}
-use Rattle.solve_conflict.specs.Loops.{Switching}
+use Rattle.solve_conflict.proofs.Loops.{Switching}
 use Rattle.solve_conflict.proofs.inner.switch.Given as goal
 
 abbrev pub invariant-switch : goal.invariant-switch

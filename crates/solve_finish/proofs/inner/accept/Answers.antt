@@ -1,6 +1,6 @@
 -- `inner::accept` meets its contract.
 use Rattle.std.proofs.Common.{arith}
-use Rattle.solve_finish.specs.Bounds.{names-known, binds-in, listed-few, accepted-as}
+use Rattle.solve_finish.proofs.Bounds.{names-known, binds-in, listed-few, accepted-as}
 use Rattle.solve_finish.proofs.inner.accept.Goals as goal
 
 pub list_names-k-requires : goal.list_names-k-requires

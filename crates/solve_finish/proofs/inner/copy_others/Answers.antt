@@ -1,5 +1,5 @@
 use Rattle.std.proofs.Common.{◌≡◌, refl, arith, rules}
-use Rattle.solve_finish.specs.Others.{front-copied}
+use Rattle.solve_finish.proofs.Others.{front-copied}
 use Rattle.solve_finish.proofs.inner.copy_others.Goals as goal
 
 pub returns : goal.returns

@@ -1,6 +1,6 @@
 -- `inner::finish` meets its contract.
 use Rattle.std.proofs.Common.{arith}
-use Rattle.solve_finish.specs.Bounds.{binds-in, of-state, finished-remaining, none-remains, finished-accepted}
+use Rattle.solve_finish.proofs.Bounds.{binds-in, of-state, finished-remaining, none-remains, finished-accepted}
 use Rattle.solve_finish.proofs.inner.finish.Goals as goal
 
 pub invariant_of-copy_others : goal.invariant_of-copy_others

@@ -7,7 +7,7 @@ use lib.ListN.{take}
 use lib.Seq.{sets}
 use Rattle.rules.specs.Writing.{words}
 use Rattle.solve_finish.specs.Told.{boundRec}
-use Rattle.solve_finish.specs.Bounds.{bound-step, bound-none}
+use Rattle.solve_finish.proofs.Bounds.{bound-step, bound-none}
 use Rattle.solve_finish.proofs.inner.put_bounds.Goals as goal
 
 pub loop-i-init : goal.loop-i-init

@@ -1,4 +1,4 @@
-use Rattle.solve_finish.specs.Others.{still-all, still-written, still-passed, still-none}
+use Rattle.solve_finish.proofs.Others.{still-all, still-written, still-passed, still-none}
 use Rattle.solve_finish.proofs.inner.put_others.Goals as goal
 
 pub others-init : goal.others-init

@@ -1,5 +1,5 @@
 use Rattle.types.specs.Shapes.{cons_of}
-use Rattle.solve_finish.specs.Others.{Still}
+use Rattle.solve_finish.proofs.Others.{Still}
 use Rattle.solve_finish.proofs.inner.put_others.Given as goal
 
 abbrev pub invariant-others : goal.invariant-others

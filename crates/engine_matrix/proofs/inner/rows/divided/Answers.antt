@@ -8,7 +8,7 @@ use Rattle.rules.specs.Exponents.{Exp, nought, goodExp, neg, quotient}
 use Rattle.laws.specs.Ranges.{neg-good, quotient-good}
 use Rattle.exponents.specs.Answers.{expOf}
 use Rattle.engine_matrix.specs.Told.{row_in, quotients}
-use Rattle.engine_matrix.specs.Doing.{start, onward, stop, done, wide_at}
+use Rattle.engine_matrix.proofs.Doing.{start, onward, stop, done, wide_at}
 use Rattle.engine_matrix.proofs.inner.rows.divided.Goals as goal
 
 pub loop-j-init : goal.loop-j-init

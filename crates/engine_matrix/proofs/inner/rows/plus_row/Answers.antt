@@ -11,7 +11,7 @@ use Rattle.exponents.specs.declared.Exponent.{Exponent}
 use Rattle.exponents.specs.Answers.{expOf}
 use Rattle.engine_matrix.specs.declared.inner.rows.Row.{Row}
 use Rattle.engine_matrix.specs.Told.{row_in, Wide}
-use Rattle.engine_matrix.specs.Doing.{start, onward, stop, done, wide_at, pairUp, plus-each, pair-length, pair-at}
+use Rattle.engine_matrix.proofs.Doing.{start, onward, stop, done, wide_at, pairUp, plus-each, pair-length, pair-at}
 use Rattle.engine_matrix.proofs.inner.rows.plus_row.Goals as goal
 
 -- two rows of one length

@@ -1,7 +1,7 @@
 use Rattle.rules.specs.Base.{bounded}
 use Rattle.rules.specs.Exponents.{sum}
 use Rattle.engine_matrix.specs.Told.{row_in}
-use Rattle.engine_matrix.specs.Doing.{Doing, pairUp}
+use Rattle.engine_matrix.proofs.Doing.{Doing, pairUp}
 use Rattle.engine_matrix.proofs.inner.rows.plus_row.Given as goal
 
 abbrev pub invariant-loop-j : goal.invariant-loop-j

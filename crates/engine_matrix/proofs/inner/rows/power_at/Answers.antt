@@ -1,5 +1,5 @@
 -- `engine_matrix::rows::power_at` meets its contract.
-use Rattle.engine_matrix.specs.Doing.{row_at}
+use Rattle.engine_matrix.proofs.Doing.{row_at}
 use Rattle.engine_matrix.proofs.inner.rows.power_at.Goals as goal
 
 pub returns : goal.returns

@@ -7,7 +7,7 @@ use Rattle.rules.specs.Exponents.{Exp, nought}
 use Rattle.laws.specs.Ranges.{nought-good}
 use Rattle.rules.specs.Elimination.{Row, timesRow, plusRow, putInRow}
 use Rattle.engine_matrix.specs.Told.{row_in}
-use Rattle.engine_matrix.specs.Doing.{wide_at}
+use Rattle.engine_matrix.proofs.Doing.{wide_at}
 use Rattle.engine_matrix.proofs.inner.rows.put_in.Goals as goal
 
 pub times_row-requires : goal.times_row-requires

@@ -3,7 +3,7 @@ use mathlib.Core.Path.{ap₂, ◌∙◌}
 use Rattle.laws.specs.Ranges.{nought-good}
 use Rattle.rules.specs.Elimination.{solvedFor}
 use Rattle.engine_matrix.specs.Told.{quotients}
-use Rattle.engine_matrix.specs.Doing.{wide_at}
+use Rattle.engine_matrix.proofs.Doing.{wide_at}
 use Rattle.engine_matrix.proofs.inner.rows.solved_for.Goals as goal
 
 pub with_power-requires-clause-power : goal.with_power-requires-clause-power

@@ -9,7 +9,7 @@ use Rattle.laws.specs.Ranges.{times-good}
 use Rattle.exponents.specs.Answers.{expOf}
 use Rattle.rules.specs.Elimination.{timesRow}
 use Rattle.engine_matrix.specs.Told.{row_in}
-use Rattle.engine_matrix.specs.Doing.{start, onward, stop, done, wide_at}
+use Rattle.engine_matrix.proofs.Doing.{start, onward, stop, done, wide_at}
 use Rattle.engine_matrix.proofs.inner.rows.times_row.Goals as goal
 
 pub loop-j-init : goal.loop-j-init

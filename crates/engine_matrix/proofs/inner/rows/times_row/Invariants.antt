@@ -2,7 +2,7 @@ use Rattle.rules.specs.Base.{bounded}
 use Rattle.rules.specs.Exponents.{times}
 use Rattle.exponents.specs.Answers.{expOf}
 use Rattle.engine_matrix.specs.Told.{row_in}
-use Rattle.engine_matrix.specs.Doing.{Doing}
+use Rattle.engine_matrix.proofs.Doing.{Doing}
 use Rattle.engine_matrix.proofs.inner.rows.times_row.Given as goal
 
 abbrev pub invariant-loop-j : goal.invariant-loop-j

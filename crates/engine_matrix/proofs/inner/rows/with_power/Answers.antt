@@ -1,5 +1,5 @@
 -- `engine_matrix::rows::with_power` meets its contract.
-use Rattle.engine_matrix.specs.Doing.{row-set}
+use Rattle.engine_matrix.proofs.Doing.{row-set}
 use Rattle.engine_matrix.proofs.inner.rows.with_power.Goals as goal
 
 pub returns : goal.returns

@@ -8,7 +8,7 @@ use Rattle.rules.specs.Calls.{opensBinding}
 use Rattle.queries.specs.MarkLaws.{unmixed-marks}
 use Rattle.queries.specs.Scans.{opensIn}
 use Rattle.queries.specs.declared.Kind.TheVariants.{Variables, Parameters}
-use Rattle.judge_proposals.specs.Order.{same-marks}
+use Rattle.judge_proposals.proofs.Order.{same-marks}
 use Rattle.judge_proposals.proofs.inner.mixed.apart.Goals as goal
 
 pub returns : goal.returns

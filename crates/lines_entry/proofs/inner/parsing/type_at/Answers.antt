@@ -1,6 +1,6 @@
 -- The type that is put together is the one that was found.
 use Rattle.std.proofs.Common.{sym}
-use Rattle.lines_entry.specs.Entry.{type-none, type-found, few-of}
+use Rattle.lines_entry.proofs.Entry.{type-none, type-found, few-of}
 use Rattle.lines_entry.proofs.inner.parsing.type_at.Goals as goal
 
 pub invariant_of-result : goal.invariant_of-result

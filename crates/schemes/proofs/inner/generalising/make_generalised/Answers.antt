@@ -6,7 +6,7 @@ use Rattle.std.proofs.lemmas.Result.{err_from_is_err_and}
 use Rattle.records.specs.Found.{Words32}
 use Rattle.records.specs.Schemes.{scheme-is}
 use Rattle.schemes.specs.Generalising.{Given}
-use Rattle.schemes.specs.GivenScheme.{scheme-table, scheme-small, scheme-checked, scheme-came}
+use Rattle.schemes.proofs.GivenScheme.{scheme-table, scheme-small, scheme-checked, scheme-came}
 use Rattle.schemes.specs.Whole.{bounds-made, unmet-made, met-made}
 use Rattle.schemes.specs.Wholes.{generalise-whole}
 use Rattle.schemes.proofs.inner.generalising.make_generalised.Goals as goal

@@ -4,8 +4,8 @@ use mathlib.Core.List.{[]}
 use native.Mathlib.Omega.{arith}
 use Rattle.std.proofs.lemmas.Result.{err_from_is_err_and}
 use Rattle.records.specs.Found.{Words32}
-use Rattle.schemes.specs.GivenScheme.{scheme-table, scheme-small, scheme-checked, scheme-came}
-use Rattle.schemes.specs.Instantiated.{instantiate-ready, instantiate-met}
+use Rattle.schemes.proofs.GivenScheme.{scheme-table, scheme-small, scheme-checked, scheme-came}
+use Rattle.schemes.proofs.Instantiated.{instantiate-ready, instantiate-met}
 use Rattle.schemes.specs.Whole.{names-made, unmet-made, met-made}
 use Rattle.schemes.specs.Wholes.{instantiate-whole}
 use Rattle.schemes.proofs.inner.instantiated.make_instantiated.Goals as goal

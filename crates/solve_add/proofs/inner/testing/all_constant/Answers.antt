@@ -1,5 +1,5 @@
 use Rattle.std.proofs.Common.{sym, ◌∙◌}
-use Rattle.solve_add.specs.Tests.{variable-here, variable-later, no-variable}
+use Rattle.solve_add.proofs.Tests.{variable-here, variable-later, no-variable}
 use Rattle.solve_add.proofs.inner.testing.all_constant.Goals as goal
 
 pub returns-then-not-is_constant : goal.returns-then-not-is_constant

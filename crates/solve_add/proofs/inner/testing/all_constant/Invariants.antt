@@ -1,5 +1,5 @@
 use Rattle.std.proofs.Common.{◌≡◌}
-use Rattle.solve_add.specs.Tests.{constant}
+use Rattle.solve_add.proofs.Tests.{constant}
 use Rattle.solve_add.proofs.inner.testing.all_constant.Given as goal
 
 abbrev pub invariant-factors : goal.invariant-factors

@@ -1,7 +1,7 @@
 use Rattle.std.proofs.Common.{ap, sym, ◌∙◌, ℕ}
 use Rattle.std.specs.Prelude.{eqb}
 use Rattle.rules.specs.Adding.{satisfiedIf}
-use Rattle.solve_add.specs.Tests.{dim-closed, dim-open}
+use Rattle.solve_add.proofs.Tests.{dim-closed, dim-open}
 use Rattle.solve_add.proofs.inner.testing.test_dim.Goals as goal
 
 pub returns-then-is_closed : goal.returns-then-is_closed

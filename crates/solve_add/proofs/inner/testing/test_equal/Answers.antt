@@ -2,7 +2,7 @@ use Rattle.std.proofs.Common.{◌≡◌, sym, false}
 use Rattle.std.specs.Prelude.{◌&&◌}
 use Rattle.std.proofs.Math.Bool.{and-false}
 use Rattle.rules.specs.Contents.{closed}
-use Rattle.solve_add.specs.Tests.{equal-closed, equal-open}
+use Rattle.solve_add.proofs.Tests.{equal-closed, equal-open}
 use Rattle.solve_add.proofs.inner.testing.test_equal.Goals as goal
 use Rattle.solve_add.proofs.inner.testing.test_equal.Goals.{else-is_closed-via-then-is_closed+else-is_closed-2, else-is_closed-via-else-is_closed}
 

@@ -1,6 +1,6 @@
 use Rattle.std.proofs.Common.{ap, ◌∙◌}
 use Rattle.rules.specs.Adding.{violatedIf}
-use Rattle.solve_add.specs.Tests.{scalar-none, scalar-some}
+use Rattle.solve_add.proofs.Tests.{scalar-none, scalar-some}
 use Rattle.solve_add.proofs.inner.testing.test_scalar.Goals as goal
 
 pub returns-then-product-eq0 : goal.returns-then-product-eq0

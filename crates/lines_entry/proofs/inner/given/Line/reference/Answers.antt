@@ -4,7 +4,7 @@ use Rattle.std.proofs.Common.{sym, ap, ◌∙◌}
 use Rattle.std.proofs.lemmas.Result.{err_from_is_err_and}
 use Rattle.rules.specs.Refusals.{toldBy}
 use Rattle.lines_entry.specs.Told.{treeOf}
-use Rattle.lines_entry.specs.Entry.{reference-not, reference-none, reference-made, reference_refused}
+use Rattle.lines_entry.proofs.Entry.{reference-not, reference-none, reference-made, reference_refused}
 use Rattle.lines_entry.proofs.inner.given.Line.reference.Goals as goal
 
 pub returns-then-words-ne0 : goal.returns-then-words-ne0

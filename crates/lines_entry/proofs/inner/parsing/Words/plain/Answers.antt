@@ -1,6 +1,6 @@
 -- `Words::plain` meets its contract.
 use native.Mathlib.Omega.{arith}
-use Rattle.lines_entry.specs.Entry.{unused-three, used-none}
+use Rattle.lines_entry.proofs.Entry.{unused-three, used-none}
 use Rattle.lines_entry.proofs.inner.parsing.Words.plain.Goals as goal
 
 pub returns-then-self-ne0 : goal.returns-then-self-ne0

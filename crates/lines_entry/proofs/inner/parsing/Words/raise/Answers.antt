@@ -1,6 +1,6 @@
 -- `Words::raise` meets its contract.
 use Rattle.std.proofs.Common.{sym, ◌∙◌}
-use Rattle.lines_entry.specs.Entry.{raise-not, raise-made, raise-bad}
+use Rattle.lines_entry.proofs.Entry.{raise-not, raise-made, raise-bad}
 use Rattle.lines_entry.proofs.inner.parsing.Words.raise.Goals as goal
 
 pub returns-then-self-ne0 : goal.returns-then-self-ne0

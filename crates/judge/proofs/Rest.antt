@@ -21,8 +21,8 @@ use Rattle.queries.specs.Marks.{Small}
 use Rattle.queries.specs.Runs.{AllKnown, set-opens, set_known}
 use Rattle.queries.specs.Scans.{opensIn}
 use Rattle.replace.specs.Given.{given-cons}
-use Rattle.judge_entries.specs.Answers.{Bound, placed-yes, placed-no}
-use Rattle.judge_entries.specs.Placing.{placed}
+use Rattle.judge_entries.proofs.Answers.{Bound, placed-yes, placed-no}
+use Rattle.judge_entries.proofs.Placing.{placed}
 use Rattle.judge_entries.specs.Tables.{Made}
 use Rattle.judge_entries.specs.declared.inner.Slots.{Slots}
 use Rattle.judge_trials.specs.Trials.{SetThere}

@@ -53,7 +53,7 @@ use Rattle.queries.specs.ScanLaws.{con-opens, chain-opens}
 use Rattle.queries.specs.Scans.{choose, opensIn}
 use Rattle.queries.specs.declared.Kind.TheVariants.{Both}
 use Rattle.replace.specs.Kept.{cons-weaker, binds-weaker}
-use Rattle.replace.specs.Writes.{words_append, writes}
+use Rattle.replace.proofs.Writes.{words_append, writes}
 use Rattle.replace.specs.Written.{written-cons, binds-held, as-run}
 use Rattle.solve_round.specs.States.{StateHeld}
 use Rattle.solve_round.specs.declared.Place.{Place}
@@ -61,7 +61,7 @@ use Rattle.types.specs.Puts.{binds-words as bound-words}
 use Rattle.types.specs.Sets.{HoldsCons, IsCons, Cons, con-some, one-set}
 use Rattle.solve_finish.specs.declared.Finish.TheVariants.{Solved as Bound, Unsolved}
 use Rattle.solve_finish.specs.Told.{others, boundRec, bounds, Copied, Accepted, Finished}
-use Rattle.solve_finish.specs.Others.{others-few}
+use Rattle.solve_finish.proofs.Others.{others-few}
 
 -- ══ Bounds written one after another ══
 

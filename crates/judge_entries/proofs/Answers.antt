@@ -12,7 +12,7 @@ use Rattle.rules.specs.Calls.{Entry, differ, numbersGiven, type_at, bindingOf, e
 use Rattle.laws.specs.Lists.{true≢false}
 use Rattle.records.specs.Good.{goodBinding}
 use Rattle.judge_entries.specs.Entries.{variableOf, variablesOf}
-use Rattle.judge_entries.specs.Given.{parts, good-all, same-variables}
+use Rattle.judge_entries.proofs.Given.{parts, good-all, same-variables}
 use Rattle.judge_entries.specs.Tables.{Tabled, Placed}
 
 -- ══ Entries are refused with 1 only ══

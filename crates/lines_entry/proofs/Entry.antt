@@ -20,7 +20,7 @@ use Rattle.records.specs.Found.{Words32}
 use Rattle.records.specs.Good.{GoodTy}
 use Rattle.records.specs.Parsed.{only}
 use Rattle.records.specs.ByView.{ends-in}
-use Rattle.judge_entries.specs.Given.{type-there, type-is}
+use Rattle.judge_entries.proofs.Given.{type-there, type-is}
 use Rattle.types.specs.Once.{ATree}
 use Rattle.rules.specs.Steps.{
   LineStep,

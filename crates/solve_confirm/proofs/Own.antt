@@ -28,7 +28,7 @@ use Rattle.theorems_soundness.proofs.Form.{solved-form}
 use Rattle.theorems_soundness.proofs.Words.{numbers-ordered}
 use Rattle.judge_trials.specs.Trials.{SetThere}
 use Rattle.judge.specs.Found.{FoundThere, FoundJudged, JudgedAs, PlacedAs}
-use Rattle.judge.specs.Rest.{set_there}
+use Rattle.judge.proofs.Rest.{set_there}
 
 module _ (pool table set : List ℕ) where
   abbrev t : Table

@@ -25,7 +25,7 @@ use Rattle.rules.specs.WellFormed as rules
 use Rattle.records.specs.Good.{numbers, goodTy, goodBinding, GoodTy}
 use Rattle.judge_entries.specs.Entries.{variableOf, variablesOf, place_of, slot_of}
 use Rattle.judge_entries.specs.Tables.{Fits}
-use Rattle.judge_entries.specs.Counting.{Below, First}
+use Rattle.judge_entries.proofs.Counting.{Below, First}
 
 -- ══ The type at a place ══
 

@@ -22,11 +22,11 @@ use Rattle.records.specs.ByView.{ends-in}
 use Rattle.records.specs.Good as records
 use Rattle.records.specs.Good.{numbers, holding}
 use Rattle.judge_entries.specs.Tables as tables
-use Rattle.judge_entries.specs.Answers.{Bound}
+use Rattle.judge_entries.proofs.Answers.{Bound}
 use Rattle.replace.specs.Places.{SaysAt, word_of}
 use Rattle.replace.specs.Runs.{looked-good}
 use Rattle.judge_proposals.specs.Mixed.{variable, Table}
-use Rattle.judge_proposals.specs.Order.{find-no}
+use Rattle.judge_proposals.proofs.Order.{find-no}
 use Rattle.judge_trials.specs.Trials.{Put}
 
 module _ (pool table types places : List ℕ) (es : List Entry) (bs : List (Binding ℕ)) (b : Bound pool table es types places bs)

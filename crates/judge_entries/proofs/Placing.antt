@@ -14,8 +14,8 @@ use Rattle.records.specs.Found.{Words32}
 use Rattle.records.specs.Good.{numbers, GoodTy}
 use Rattle.judge_entries.specs.Entries.{variablesOf, place_of, slot_of, slots_of, slotWord}
 use Rattle.judge_entries.specs.Tables.{SaysAt, Placed, Fits, Asked, Filled, Made}
-use Rattle.judge_entries.specs.Counting.{Below, slot_at, taken-below, below-taken, first-is}
-use Rattle.judge_entries.specs.Given.{Agrees, Parts, agrees, held_all, bindings-there, parts, whole-given, type-is}
+use Rattle.judge_entries.proofs.Counting.{Below, slot_at, taken-below, below-taken, first-is}
+use Rattle.judge_entries.proofs.Given.{Agrees, Parts, agrees, held_all, bindings-there, parts, whole-given, type-is}
 
 below_more : (m k : ℕ) → m ≤ k → (es : List Entry) → Below m es → Below k es
 below_more m k l [] b = tt

@@ -1,0 +1,2 @@
+pub mod GivenScheme
+pub mod Instantiated
