@@ -12,7 +12,7 @@ pub use solve_finish::Finish;
 use inner::{solve_set, stopped};
 use records_buffers::inner::clear;
 use records_buffers::lent;
-use names::inner::is_good;
+use names::tables::NameTable;
 use rules::Refusal;
 
 /// What solving answers: what was written to the result buffer, or why there is no answer; with the number of completed rounds.
@@ -54,8 +54,8 @@ pub fn solve(
     if !lent(pool, table, res, work) {
         return stopped(Refusal::ShortBuffer, 0);
     }
-    let good = is_good(pool, table);
-    let s = solve_set(pool, table, good, words, res, work);
+    let names = NameTable::new(pool, table);
+    let s = solve_set(names, words, res, work);
     clear(work);
     s
 }
