@@ -1,6 +1,6 @@
 -- The checks of a set past that of 10, and what is known where they are met; and the whole call.
 use Rattle.std.specs.Prelude.{Result, Ok, Err, IfOk, ◌≡◌, Bool, List, [], ◌∷◌, ℕ, ◌/◌, ◌≤◌, ◌&&◌, leb, length, replicate}
-use Rattle.std.proofs.Common.{refl, sym, ap, ◌∙◌, arith}
+use Rattle.std.proofs.Common.{refl, sym, ap, ap₂, ◌∙◌, arith}
 use Rattle.std.proofs.Math.Bool.{and-eq-true_iff}
 use borrow.Author.Tests.{leb-true, le-leb}
 use Rattle.rules.specs.Base.{Got, got, refused, ◌>>=◌, ◌>>◌, need, all, collect}
@@ -86,8 +86,11 @@ as-refused (got x) n k e = cc
 
 -- what is made of a set whose names are apart: the calls that solve
 module _ {A : Type 0} (g : Table → List (Con ℕ) → Got A) where
+  abbrev made_past : Table → Got (Unit {0}) → List ℕ → Got A
+  made_past t k ws = shortLists (ws ∷ []) >>= λ _. k >>= λ _. setGiven t ws >>= λ cs. apart t (collect opensCon cs) >>= λ _. g t cs
+
   abbrev pub made : Table → List ℕ → Got A
-  made t ws = shortLists (ws ∷ []) >>= λ _. tableKept t >>= λ _. setGiven t ws >>= λ cs. apart t (collect opensCon cs) >>= λ _. g t cs
+  made t ws = made_past t (tableKept t) ws
 
   kept : (n : NameTable) → tableKept (table_of n.pool.now n.table.now) ≡ got tt
   unfolding tableKept
@@ -106,18 +109,20 @@ module _ {A : Type 0} (g : Table → List (Con ℕ) → Got A) where
         let t = table_of names.pool.now names.table.now in
         unmet (λ cs. apart t (collect opensCon cs)) (g t) (shortLists (ws ∷ [])) (tableKept t) (setGiven t ws) n (kept names) (sym e)
 
-    module _ (pool table : List ℕ) (l : lentTable pool table ≡ got tt) where
-      refused-table : (k : ℕ) (a : Got (Unit {0})) → tableKept (table_of pool table) ≡ a → refused k ≡ (lentTable pool table >> a)
-          → (shortLists (ws ∷ []) >> refused k) ≡ made (table_of pool table) ws
-      refused-table k (got u) q e = clash (let z : refused k ≡ got u = rw l at e in z)
-      refused-table k (refused j) q e = let z : refused k ≡ refused j = rw l at e in let same : k ≡ j = cc in rw (q, same) refl
+  module _ (pool table : List ℕ) (l : lentTable pool table ≡ got tt) where
+    refused-table : (k : ℕ) (a : Got (Unit {0})) → tableKept (table_of pool table) ≡ a → refused k ≡ (lentTable pool table >> a)
+        → ◌≡◌ {A = List ℕ → Got A} (λ ws. shortLists (ws ∷ []) >> refused k) (made (table_of pool table))
+    refused-table k (got u) q e = clash (let z : refused k ≡ got u = rw l at e in z)
+    refused-table k (refused j) q e = 
+        let z : refused k ≡ refused j = rw l at e in
+        ap (made_past (table_of pool table)) (z ∙ sym q)
 
-      -- over the table that was tested it is what the call asks
-      pub tested : (names : Result NameTable Refusal) → toldBy unit_of names ≡ tableGiven pool table
-          → IfOk names (λ n. (n.pool.now ≡ pool) × (n.table.now ≡ table)) → call_over names made ws ≡ made (table_of pool table) ws
-      unfolding tableGiven tableKept
-      tested (Ok n) e i = rw (i.0, i.1) refl
-      tested (Err why) e i = refused-table (number_of why) (tableKept (table_of pool table)) refl e
+    -- over the table that was tested it is what the call asks
+    pub tested : (names : Result NameTable Refusal) → toldBy unit_of names ≡ tableGiven pool table
+        → IfOk names (λ n. (n.pool.now ≡ pool) × (n.table.now ≡ table)) → ◌≡◌ {A = List ℕ → Got A} (call_over names made) (made (table_of pool table))
+    unfolding tableGiven tableKept
+    tested (Ok n) e i = ap₂ (λ (p q : List ℕ). made (table_of p q)) i.0 i.1
+    tested (Err why) e i = refused-table (number_of why) (tableKept (table_of pool table)) refl e
 
 -- ══ What is known of a set that came in ══
 

@@ -13,14 +13,14 @@ ghost use Rattle.solve.specs.Entry.{entered};
 ghost use Rattle.types.specs.Given.{call_over, constraints_in};
 
 use super::Solution;
-use solve_finish::Finish;
-use solve_finish::inner::finish;
 use names::tables::NameTable;
 use queries::inner::is_unmixed;
 use records::inner::copy;
+use rules::{RECORD_WORDS, Refusal};
+use solve_finish::Finish;
+use solve_finish::inner::finish;
 use solve_round::Ends;
 use solve_round::inner::round;
-use rules::{RECORD_WORDS, Refusal};
 use std::mem::swap;
 use types::GivenSet;
 
@@ -86,7 +86,10 @@ pub fn run(names: NameTable, set: &[u32], res: &mut [u32], work: &mut [u32]) -> 
 }
 
 /// A set over a table, well formed (8, the table's refusal, 1), and no name both a variable and a parameter (4). One test of the table serves many sets.
-pub fn enter<'a>(names: Result<NameTable<'a>, Refusal>, words: &'a [u32]) -> Result<GivenSet<'a>, Refusal>
+pub fn enter<'a>(
+    names: Result<NameTable<'a>, Refusal>,
+    words: &'a [u32],
+) -> Result<GivenSet<'a>, Refusal>
     ensures answer { toldBy constraints_in result ≡ entered names.entry words.now }
     ensures same { IfOk result (λ s. names.entry ≡ Ok s.names) }
 {

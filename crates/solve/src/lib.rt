@@ -8,12 +8,12 @@ ghost use Rattle.std.specs.Prelude.{◌≡◌};
 ghost use Rattle.rules.specs.Calls.{solveCall};
 ghost use Rattle.solve.specs.Told.{numberOutcome, solutionAs, Stands, answerTo};
 
-pub use solve_finish::Finish;
 use inner::{solve_set, stopped};
+use names::tables::NameTable;
 use records_buffers::inner::clear;
 use records_buffers::lent;
-use names::tables::NameTable;
 use rules::Refusal;
+pub use solve_finish::Finish;
 
 /// What solving answers: what was written to the result buffer, or why there is no answer; with the number of completed rounds.
 #[derive(Clone, Copy)]

@@ -1,8 +1,9 @@
 -- `solve` meets its contract.
-use Rattle.rules.specs.Base.{got, bounded}
+use Rattle.std.specs.Prelude.{List, ℕ}
+use Rattle.rules.specs.Base.{Got, got, bounded}
 use Rattle.rules.specs.Calls.{solvedSet}
 use Rattle.rules.specs.Names.{numbersOf, table_of}
-use Rattle.rules.specs.Solving.{solve}
+use Rattle.rules.specs.Solving.{Answer, solve}
 use Rattle.records_buffers.specs.Lent.{Long, long, short}
 use Rattle.solve.specs.Entry.{short-stands, called-stands, call-short, called, tested, answers-as}
 use Rattle.solve.specs.Told.{Answered}
@@ -24,10 +25,10 @@ pub returns : goal.returns
 unfolding solvedSet
 returns c = let enough : Long c.args.pool.now c.args.table.now c.args.res.now c.args.work.now =
     long _ _ _ _ c.lent.result c.lent.ensures (ap not c.if-not-lent.false) in
-    let over = tested (λ t cs. got (solve (numbersOf t) bounded cs)) c.args.words.now c.args.pool.now c.args.table.now enough.table-met _
+    let over = tested (λ t cs. got (solve (numbersOf t) bounded cs)) c.args.pool.now c.args.table.now enough.table-met _
     c.new-names.ensures.answer c.new-names.ensures.same in
     let answered : Answered (solvedSet (table_of c.args.pool.now c.args.table.now) c.args.words.now) _ _ _ =
-    answers-as _ _ _ _ _ (sym over) c.solve_set-s.ensures in
+    answers-as _ _ _ _ _ (sym (ap (λ (f : List ℕ → Got (Answer ℕ)). f c.args.words.now) over)) c.solve_set-s.ensures in
     record {
       stands = called-stands _ _ _ _ _ _ _ enough.met answered;
       called = called _ _ _ _ _ c.solve_set-s.new.work _ _ _ c.solve_set-s.auto.work enough.met answered c.clear.ensures;
