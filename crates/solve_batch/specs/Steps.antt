@@ -1,7 +1,7 @@
 -- One set after another: what a step leaves, and what is left to do.
 use Rattle.std.specs.Prelude.{◌≡◌, refl}
 use Rattle.std.proofs.Math.Path.{sym, ap, ap₂}
-use Rattle.std.proofs.Common.{◌∙◌, zero-add, add-one, drop_of_length-le, length-drop, drop-cons, length-take-le}
+use Rattle.std.proofs.Common.{◌∙◌, subst, zero-add, add-one, drop_of_length-le, length-drop, drop-cons, length-take-le}
 use mathlib.Core.List.{List, [], ◌∷◌, ◌++◌, append_assoc, append-nil, map}
 use Prim.Native.Nat.{ℕ, suc, ◌+◌, ◌*◌, ◌-◌, ◌≤◌, ◌<◌, zero-le}
 use native.Mathlib.Omega.{arith}
@@ -44,6 +44,11 @@ pub record Finished (f : List ℕ → Got (Answer ℕ)) (words lengths result re
   pub many : r ≡ sum_of manyOf (each f words lengths)
   pub buffer : result' ≡ over (collect words_of (each f words lengths)) result
   pub told : answers' ≡ over (collect fourOf (each f words lengths)) answers
+
+pub finished-as : (f g : List ℕ → Got (Answer ℕ)) (words lengths result result' answers answers' : List ℕ) (r : ℕ) → f ≡ g
+    → Finished f words lengths result result' answers answers' r → Finished g words lengths result result' answers answers' r
+finished-as f g words lengths result result' answers answers' r e h =
+    subst (λ (x : List ℕ → Got (Answer ℕ)). Finished x words lengths result result' answers answers' r) e h
 
 -- ══ Parts of a list ══
 
@@ -102,6 +107,7 @@ told-at answers four at n a s i e k room =
     let is : four ≡ fourOf a = i ∙ ap fourWords e in
     let long : length four ≡ 4 = ap length is ∙ four-long (solvedOf a) in
     ap (λ (x : List ℕ). take at answers ++ (four ++ x)) (drop-drop n at answers ∙ ap (λ (k : ℕ). drop k answers) (let j : at + n ≡ at + length four = omega (arith, k, long) in j))
+    ∙ sym (append_assoc (take at answers) four (drop (at + length four) answers))
     ∙ sym (sets-eq four answers at (omega (arith, long, room))) ∙ ap (sets answers at) is
 
 -- ══ One set after another ══

@@ -1,13 +1,12 @@
 -- `solve_all` meets its contract.
-use Rattle.std.proofs.Common.{subst, List, ℕ}
 use mathlib.Core.Path.{◌≡◌, refl, sym, ap, ◌∙◌}
-use Rattle.rules.specs.Base.{Got, got, bounded}
+use Rattle.rules.specs.Base.{got, bounded}
 use Rattle.rules.specs.Calls.{solvedSet}
-use Rattle.rules.specs.Names.{numbersOf, table_of}
-use Rattle.rules.specs.Solving.{Answer, solve}
+use Rattle.rules.specs.Names.{numbersOf}
+use Rattle.rules.specs.Solving.{solve}
 use Rattle.rules.specs.Refusals.{told}
 use Rattle.solve.specs.Entry.{tested}
-use Rattle.solve_batch.specs.Steps.{Finished}
+use Rattle.solve_batch.specs.Steps.{finished-as}
 use Rattle.rules.specs.Batches.{batchFits}
 use Rattle.solve_batch.specs.Checks.{Room, roomy, cramped, begun, call-short, call-unfit, called}
 use mathlib.Core.Bool.{not}
@@ -21,7 +20,7 @@ solve_each-n-requires c = let enough : Room c.args.pool.now c.args.table.now c.a
     roomy _ _ _ _ _ _ c.all_lent.result c.all_lent.ensures (ap not c.if-not-all_lent.false) in
     let added : batchFits c.args.sets.now c.args.lengths.now ≡ got tt = sym c.fits.ensures ∙ ap told c.in-Ok.is in
     let r = enough in
-    begun _ _ _ _ _ r.results r.answered r.works (added)
+    record { begun = begun _ _ _ _ _ r.results r.answered r.works (added) }
 
 pub returns-in-Ok : goal.returns-in-Ok
 unfolding solvedSet
@@ -30,9 +29,8 @@ returns-in-Ok c = let enough : Room c.args.pool.now c.args.table.now c.args.leng
     let added : batchFits c.args.sets.now c.args.lengths.now ≡ got tt = sym c.fits.ensures ∙ ap told c.in-Ok.is in
     let over = tested (λ t cs. got (solve (numbersOf t) bounded cs)) c.args.pool.now c.args.table.now (enough).table-met _
     c.new-names.ensures.answer c.new-names.ensures.same in
-    let finished : Finished (solvedSet (table_of c.args.pool.now c.args.table.now)) _ _ _ _ _ _ _ =
-    subst (λ (f : List ℕ → Got (Answer ℕ)). Finished f _ _ _ _ _ _ _) over c.solve_each-n.ensures in
-    called _ _ _ _ _ _ _ _ c.solve_each-n.new.work _ _ _ c.solve_each-n.auto.work (enough).met (added) finished c.clear.ensures
+    called _ _ _ _ _ _ _ _ c.solve_each-n.new.work _ _ _ c.solve_each-n.auto.work (enough).met (added)
+    (finished-as _ _ _ _ _ _ _ _ _ over c.solve_each-n.ensures) c.clear.ensures
 
 pub returns-in-Err : goal.returns-in-Err
 returns-in-Err c = let enough : Room c.args.pool.now c.args.table.now c.args.lengths.now c.args.res.now c.args.answers.now c.args.work.now =
