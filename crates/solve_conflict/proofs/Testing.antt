@@ -27,7 +27,7 @@ use Rattle.solve.specs.Running.{Begun}
 use Rattle.types.specs.Sets.{con-some, IsCons}
 use Rattle.types.specs.declared.writer.Writer.{Writer}
 use Rattle.types.specs.Written.{Writes}
-use Rattle.solve_conflict.specs.Standing.{Fine}
+use Rattle.types.specs.Fine.{Fine}
 use Rattle.solve_conflict.proofs.Steps.{part, part-first, part-narrow, part-not}
 
 -- ══ A part of a fine set is fine ══

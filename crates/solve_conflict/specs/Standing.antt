@@ -8,12 +8,6 @@ use Rattle.rules.specs.WellFormed.{goodCon}
 use Rattle.rules.specs.declared.Refusal.{Refusal}
 use Rattle.records.specs.Good.{numbers, holding}
 
--- a set that passed the checks at entry
-pub record Fine (pool table : List ℕ) (cs : List (Con ℕ)) : Type 0 where
-  pub good : all (goodCon (numbers pool table) (holding pool table) 0) cs ≡ true
-  pub small : sum_of sizeCon cs ≤ 2048
-  pub flat : max_of depthCon cs ≤ 64
-
 abbrev pub line_place : Line ℕ → ℕ
 line_place l = l.0
 

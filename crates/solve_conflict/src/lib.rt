@@ -11,6 +11,7 @@ ghost use Rattle.solve_conflict.specs.Told.{conflictsAs};
 use inner::find_among;
 use records_buffers::inner::clear;
 use records_buffers::lent;
+use names::tables::NameTable;
 use rules::Refusal;
 
 /// Which constraints of a set conflict: their places in the set, counted from 0, rising, one a word, stand at the front of the result buffer, whose rest
@@ -31,7 +32,7 @@ pub fn conflict(
     if !lent(pool, table, res, work) {
         return Err(Refusal::ShortBuffer);
     }
-    let found = find_among(pool, table, set, res, work);
+    let found = find_among(NameTable::new(pool, table), set, res, work);
     clear(work);
     found
 }
