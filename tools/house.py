@@ -1,7 +1,7 @@
 #!/usr/bin/env python3
-"""Draws docs/house.svg: the crates of crates.txt as boxes, grouped as docs/CRATES.md groups them, with an arrow from each crate to those it uses.
+"""Draws docs/house.svg: the modules of docs/CRATES.md as boxes with their crates, and an arrow from each module to those it uses by crates.txt.
 
-An arrow that follows from others is left out. Users stand above what they use; the wing of theorems stands apart, on the right.
+An arrow that follows from others is left out. Users stand above what they use; the theorems, on which some crates stand and which stand on others, have a wing on the right without arrows.
 It warns of each crate that crates.txt lists for another whose files don't cite it, and of each that is cited and not listed;
 with --edges it writes crates.txt anew, each crate with what its files cite and no more."""
 import re
@@ -10,15 +10,19 @@ from pathlib import Path
 
 ROOT = Path(__file__).resolve().parent.parent
 WING = "Theorems"
-WIDTH, HEIGHT, GAP, DROP = 112, 22, 14, 58
-COLOURS = ["#dbe9f6", "#e6f2d9", "#fdebd0", "#f6dbe3", "#e8e0f5", "#d9f2ee", "#f7f3cf", "#e3e3e3", "#f9dcc4", "#d7e3fc", "#e2f0cb", "#ffe5ec", "#ece4db", "#cfe8e8", "#f5d6f0", "#d9c9a8"]
+WIDTH, LINE, GAP, DROP = 178, 13, 22, 40
+MARKED = "rules"
 
 
 def used():
-    """crate: the crates of this house that it uses, without those that follow from others."""
+    """crate: the crates of this house that it uses."""
     lines = [l.split("#")[0].strip() for l in (ROOT / "crates.txt").read_text(encoding="utf-8").splitlines()]
     listed = {l.split(":")[0].split()[0]: l.split(":")[1].split() for l in lines if ":" in l}
-    uses = {c: [u for u in us if u in listed] for c, us in listed.items()}
+    return {c: [u for u in us if u in listed] for c, us in listed.items()}
+
+
+def without_followers(uses):
+    """The same without what follows from others."""
     below = {}
 
     def all_below(c):
@@ -70,6 +74,15 @@ def groups():
     return found
 
 
+def modules(uses, group):
+    """module: its crates; module: the modules that its crates use, the wing aside."""
+    inside = {}
+    for c in [c for c in group if c in uses] + [c for c in uses if c not in group]:
+        inside.setdefault(group.get(c, "Others"), []).append(c)
+    between = {m: sorted({group.get(u, "Others") for c in cs for u in uses[c]} - {m, WING}, key=list(inside).index) for m, cs in inside.items() if m != WING}
+    return inside, without_followers(between)
+
+
 def layers(uses):
     level = {}
 
@@ -83,50 +96,59 @@ def layers(uses):
     return level
 
 
-def places(uses, level, wing):
-    """crate: (x, y) of its left upper corner; the order in a row follows what is used below it."""
-    rows, place, top = {}, {}, max(level.values())
-    for c in uses:
-        rows.setdefault((c in wing, level[c]), []).append(c)
-    most = max(len(cs) for (w, _), cs in rows.items() if not w)
-    for (w, l), cs in sorted(rows.items()):
-        middle = lambda c: sum(place[u][0] for u in uses[c] if u in place) / max(1, sum(u in place for u in uses[c]))
-        cs.sort(key=middle)
-        left = (most * (WIDTH + GAP) + 40) if w else (most - len(cs)) * (WIDTH + GAP) / 2
-        for i, c in enumerate(cs):
-            place[c] = (20 + left + i * (WIDTH + GAP), 30 + (top - l) * DROP)
+def height(crates):
+    return 24 + LINE * len(crates)
+
+
+def places(inside, uses, level):
+    """module: (x, y) of its box's left upper corner; the order in a row follows what is used below it, and a module alone in its row stands aside by turns, so that arrows show."""
+    rows, place = {}, {}
+    for m in uses:
+        rows.setdefault(level[m], []).append(m)
+    most = max(len(ms) for ms in rows.values())
+    bottom = 30 + sum(max(height(inside[m]) for m in ms) + DROP for ms in rows.values())
+    for l, ms in sorted(rows.items()):
+        aside = (l % 2 - 0.5) * 1.3 * WIDTH if len(ms) == 1 else 0
+        ms.sort(key=lambda m: sum(place[u][0] for u in uses[m]) / max(1, len(uses[m])))
+        bottom -= max(height(inside[m]) for m in ms) + DROP
+        for i, m in enumerate(ms):
+            place[m] = (20 + (most - len(ms)) * (WIDTH + GAP) / 2 + aside + i * (WIDTH + GAP), bottom)
+    place[WING] = (20 + most * (WIDTH + GAP) + GAP, 30)
     return place
+
+
+def box(module, crates, x, y):
+    title = module.split(" (")[0].split(":")[0]
+    yield f'<rect x="{x:.0f}" y="{y:.0f}" width="{WIDTH}" height="{height(crates)}" rx="5" fill="#f4f7fb" stroke="#555"/>'
+    yield f'<text x="{x + 10:.0f}" y="{y + 16:.0f}" font-weight="bold">{title}</text>'
+    for i, c in enumerate(crates):
+        at = y + 31 + LINE * i
+        if c == MARKED:
+            yield f'<rect x="{x + 5:.0f}" y="{at - 10:.0f}" width="{WIDTH - 10}" height="{LINE}" fill="#ffe08a" stroke="#b8860b"/>'
+        yield f'<text x="{x + 10:.0f}" y="{at:.0f}">{c}{" (the crate to believe)" if c == MARKED else ""}</text>'
 
 
 def main():
     edges("--edges" in sys.argv[1:])
     uses, group = used(), groups()
-    level = layers(uses)
-    wing = {c for c, g in group.items() if g.startswith(WING) and c in uses}
-    place = places(uses, level, wing)
-    names = list(dict.fromkeys(group.get(c, "Others") for c in uses))
-    colour = {g: COLOURS[i % len(COLOURS)] for i, g in enumerate(names)}
+    inside, between = modules(uses, group)
+    place = places(inside, between, layers(between))
     right = max(x for x, _ in place.values()) + WIDTH + 20
-    bottom = max(y for _, y in place.values()) + HEIGHT + 20
-    legend = bottom + 10
-    out = [f'<svg xmlns="http://www.w3.org/2000/svg" viewBox="0 0 {right:.0f} {legend + 20 * ((len(names) + 3) // 4) + 10:.0f}" font-family="sans-serif" font-size="11">',
+    bottom = max(y + height(inside[m]) for m, (_, y) in place.items()) + 20
+    out = [f'<svg xmlns="http://www.w3.org/2000/svg" viewBox="0 0 {right:.0f} {bottom:.0f}" font-family="sans-serif" font-size="11">',
            '<rect width="100%" height="100%" fill="white"/>',
            '<defs><marker id="a" markerWidth="7" markerHeight="6" refX="6" refY="3" orient="auto"><path d="M0,0 L7,3 L0,6 z" fill="#888"/></marker></defs>']
-    for c, us in uses.items():
-        x, y = place[c]
+    for m, us in between.items():
+        x, y = place[m]
         for u in us:
             v, w = place[u]
-            a, b, d, e = x + WIDTH / 2, y + HEIGHT, v + WIDTH / 2, w
-            out.append(f'<path d="M{a:.0f},{b} C{a:.0f},{b + 25} {d:.0f},{e - 25} {d:.0f},{e}" fill="none" stroke="#aaa" stroke-width="0.8" marker-end="url(#a)"/>')
-    for c, (x, y) in place.items():
-        out.append(f'<rect x="{x:.0f}" y="{y}" width="{WIDTH}" height="{HEIGHT}" rx="4" fill="{colour[group.get(c, "Others")]}" stroke="#555"/>')
-        out.append(f'<text x="{x + WIDTH / 2:.0f}" y="{y + 15}" text-anchor="middle">{c}</text>')
-    for i, g in enumerate(names):
-        x, y = 20 + (i % 4) * (right - 40) / 4, legend + (i // 4) * 20
-        out.append(f'<rect x="{x:.0f}" y="{y}" width="14" height="14" fill="{colour[g]}" stroke="#555"/><text x="{x + 20:.0f}" y="{y + 11}">{g}</text>')
+            a, b, d, e = x + WIDTH / 2, y + height(inside[m]), v + WIDTH / 2, w
+            out.append(f'<path d="M{a:.0f},{b:.0f} C{a:.0f},{b + 25:.0f} {d:.0f},{e - 25:.0f} {d:.0f},{e:.0f}" fill="none" stroke="#999" marker-end="url(#a)"/>')
+    for m, (x, y) in place.items():
+        out += box(m, inside[m], x, y)
     (ROOT / "docs" / "house.svg").write_text("\n".join(out + ["</svg>", ""]), encoding="utf-8")
     lost = [c for c in uses if c not in group]
-    print(f"{len(uses)} crates, {sum(map(len, uses.values()))} arrows" + (f"; not in docs/CRATES.md: {', '.join(lost)}" if lost else ""))
+    print(f"{len(uses)} crates, {len(inside)} modules, {sum(map(len, between.values()))} arrows" + (f"; not in docs/CRATES.md: {', '.join(lost)}" if lost else ""))
 
 
 if __name__ == "__main__":

@@ -61,7 +61,8 @@ range-is n p q = rw (sign-abs n p)
 
 module _ (n : ℤ) (d : ℕ) (h : 0 < d) where
   some_left : 0 < d / gcd (nat_abs n) d
-  some_left = (lowest-terms (with_sign n (nat_abs n / gcd (nat_abs n) d)) (d / gcd (nat_abs n) d) (record { num = n; den = d; positive = h; is = sym (lowest-is n d) })).positive
+  some_left = (lowest-terms (with_sign n (nat_abs n / gcd (nat_abs n) d)) (d / gcd (nat_abs n) d)
+      (record { num = n; den = d; positive = h; is = sym (lowest-is n d) })).positive
 
   -- m is the size of n, and g the common divisor
   module _ (m g : ℕ) (k : m ≡ nat_abs n) (l : g ≡ gcd m d) where
@@ -98,7 +99,8 @@ module _ (a : ℕ) (h : 0 < a) (l : a < 2 ^ 64) where
   odd-left = (trailing 64 a h l).odd
 
 pub shifted-back : (a b : ℕ) → 0 < a → a < 2 ^ 64 → 0 < b → b < 2 ^ 64
-    → gcd (a / 2 ^ count_trailing_zeros 64 a) (b / 2 ^ count_trailing_zeros 64 b) * 2 ^ min (count_trailing_zeros 64 a) (count_trailing_zeros 64 b) % 2 ^ 64 ≡ gcd a b
+    → gcd (a / 2 ^ count_trailing_zeros 64 a) (b / 2 ^ count_trailing_zeros 64 b) * 2 ^ min (count_trailing_zeros 64 a)
+    (count_trailing_zeros 64 b) % 2 ^ 64 ≡ gcd a b
 shifted-back a b h l k m =
     ap (λ (x : ℕ). x % 2 ^ 64) (gcd-shifted-least (trailing 64 a h l) (trailing 64 b k m)) ∙ gcd-fits 64 a b h l
 

@@ -10,7 +10,22 @@ use Rattle.products.specs.declared.Product.{Product}
 use Rattle.products.specs.Told.{given}
 use Rattle.products.specs.Held.{Well, taken-well, well-sound, refused-one}
 use Rattle.products.specs.Places.{given-len}
-use Rattle.products.specs.Entry.{Entered, entry_of, entered, entry-good, multiply-stopped, multiply-both, multiply-one, divide-stopped, divide-both, divide-one, inverse-stopped, inverse-goes, raise-stopped, raise-goes}
+use Rattle.products.specs.Entry.{
+  Entered,
+  entry_of,
+  entered,
+  entry-good,
+  multiply-stopped,
+  multiply-both,
+  multiply-one,
+  divide-stopped,
+  divide-both,
+  divide-one,
+  inverse-stopped,
+  inverse-goes,
+  raise-stopped,
+  raise-goes,
+}
 
 pub entered-good : (pool table : List ℕ) (p : Product) → length p.factors ≡ 64 → entry_of pool table (given p) ≡ got tt → Good pool table
 entered-good pool table p long h = (entered pool table p long h).good

@@ -75,10 +75,12 @@ module _ (pool table : List ℕ) (p : Product) where
       divide-goes = rw (good-given g.good, well-given pool table p g.well)
 
       -- the other product is taken in, or refused
-      pub multiply-both : Well pool table r → multiplyCall pool table (given p) (given r) ≡ multiply (numbersOf (table_of pool table)) bounded (productOf p) (productOf r)
+      pub multiply-both : Well pool table r
+          → multiplyCall pool table (given p) (given r) ≡ multiply (numbersOf (table_of pool table)) bounded (productOf p) (productOf r)
       multiply-both w = multiply-goes ∙ rw (well-given pool table r w)
 
-      pub divide-both : Well pool table r → divideCall pool table (given p) (given r) ≡ divide (numbersOf (table_of pool table)) bounded (productOf p) (productOf r)
+      pub divide-both : Well pool table r
+          → divideCall pool table (given p) (given r) ≡ divide (numbersOf (table_of pool table)) bounded (productOf p) (productOf r)
       divide-both w = divide-goes ∙ rw (well-given pool table r w)
 
       pub multiply-one : isGot (productGiven pool table (given r)) ≡ false → multiplyCall pool table (given p) (given r) ≡ refused 1

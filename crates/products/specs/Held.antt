@@ -57,7 +57,11 @@ module _ {pool table : List ℕ} {p : Product} where
   seen_none = record { each = λ k h. absurd (omega arith); rises = λ k h. absurd (omega arith) }
 
   pub seen_first : Fine (numbersOf (table_of pool table)) (heldIn table) (factorAt p 0) → Seen pool table p 1
-  seen_first f = record { each = λ k h. let e : 0 ≡ k = omega arith in subst (λ (j : ℕ). Fine (numbersOf (table_of pool table)) (heldIn table) (factorAt p j)) e f; rises = λ k h. absurd (omega arith) }
+  seen_first f = record {
+    each = λ k h. let e : 0 ≡ k = omega arith in
+        subst (λ (j : ℕ). Fine (numbersOf (table_of pool table)) (heldIn table) (factorAt p j)) e f;
+    rises = λ k h. absurd (omega arith);
+  }
 
   -- one factor more, behind the last
   pub seen_next : (k : ℕ) → Seen pool table p (suc k) → Fine (numbersOf (table_of pool table)) (heldIn table) (factorAt p (suc k))
@@ -68,9 +72,11 @@ module _ {pool table : List ℕ} {p : Product} where
       one j (yes h) i = s.each j h
       one j (no h) i = let e : suc k ≡ j = omega arith in subst (λ (j : ℕ). Fine (numbersOf (table_of pool table)) (heldIn table) (factorAt p j)) e f
 
-      two : (j : ℕ) → Dec (suc j < suc k) → suc j < suc (suc k) → orderAtom (numbersOf (table_of pool table)) (atomAt (factorAt p j)) (atomAt (factorAt p (suc j))) ≡ Ordering.lt
+      two : (j : ℕ) → Dec (suc j < suc k) → suc j < suc (suc k)
+          → orderAtom (numbersOf (table_of pool table)) (atomAt (factorAt p j)) (atomAt (factorAt p (suc j))) ≡ Ordering.lt
       two j (yes h) i = s.rises j h
-      two j (no h) i = let e : k ≡ j = omega arith in subst (λ (j : ℕ). orderAtom (numbersOf (table_of pool table)) (atomAt (factorAt p j)) (atomAt (factorAt p (suc j))) ≡ Ordering.lt) e o
+      two j (no h) i = let e : k ≡ j = omega arith in
+          subst (λ (j : ℕ). orderAtom (numbersOf (table_of pool table)) (atomAt (factorAt p j)) (atomAt (factorAt p (suc j))) ≡ Ordering.lt) e o
 
   pub seen_more : (i : ℕ) → 1 ≤ i → Seen pool table p i → Fine (numbersOf (table_of pool table)) (heldIn table) (factorAt p i)
       → orderAtom (numbersOf (table_of pool table)) (atomAt (factorAt p (i - 1))) (atomAt (factorAt p i)) ≡ Ordering.lt → Seen pool table p (i + 1)
@@ -78,7 +84,9 @@ module _ {pool table : List ℕ} {p : Product} where
   seen_more (suc k) h s f o =
       let e : suc k - 1 ≡ k = omega arith in
       let d : suc (suc k) ≡ suc k + 1 = omega arith in
-      subst (Seen pool table p) d (seen_next k s f (subst (λ (j : ℕ). orderAtom (numbersOf (table_of pool table)) (atomAt (factorAt p j)) (atomAt (factorAt p (suc k))) ≡ Ordering.lt) e o))
+      subst (Seen pool table p) d
+      (seen_next k s f (subst (λ (j : ℕ). orderAtom (numbersOf (table_of pool table)) (atomAt (factorAt p j)) (atomAt (factorAt p (suc k)))
+      ≡ Ordering.lt) e o))
 
   pub seen-well : p.len ≤ 64 → length p.factors ≡ 64 → Seen pool table p p.len → Well pool table p
   seen-well few long s = record { few = few; long = long; each = s.each; rises = s.rises }
@@ -103,13 +111,15 @@ at_each P [] h = tt
 at_each P (f ∷ l) h = (h 0 (omega arith), at_each P l (λ i k. h (suc i) (omega arith)))
 
 module _ (ν : Names ℕ) where
-  rises-at : (l : List Factor) → Rises ν l → (i : ℕ) → suc i < length l → orderAtom ν (atomAt (get_or l i unread)) (atomAt (get_or l (suc i) unread)) ≡ Ordering.lt
+  rises-at : (l : List Factor) → Rises ν l → (i : ℕ) → suc i < length l
+      → orderAtom ν (atomAt (get_or l i unread)) (atomAt (get_or l (suc i) unread)) ≡ Ordering.lt
   rises-at [] h i k = absurd (omega arith)
   rises-at (x ∷ []) h i k = absurd (omega arith)
   rises-at (x ∷ y ∷ l) h zero k = h.0
   rises-at (x ∷ y ∷ l) h (suc i) k = rises-at (y ∷ l) h.1 i (omega arith)
 
-  at-rises : (l : List Factor) → ((i : ℕ) → suc i < length l → orderAtom ν (atomAt (get_or l i unread)) (atomAt (get_or l (suc i) unread)) ≡ Ordering.lt) → Rises ν l
+  at-rises : (l : List Factor)
+      → ((i : ℕ) → suc i < length l → orderAtom ν (atomAt (get_or l i unread)) (atomAt (get_or l (suc i) unread)) ≡ Ordering.lt) → Rises ν l
   at-rises [] h = tt
   at-rises (x ∷ []) h = tt
   at-rises (x ∷ y ∷ l) h = (h 0 (omega arith), at-rises (y ∷ l) (λ i k. h (suc i) (omega arith)))
@@ -241,7 +251,8 @@ module _ (pool table : List ℕ) where
         pub well : Well pool table p
         pub is : t ≡ productOf p
 
-      good-well : p.len ≤ 64 → Every (λ f. Kind f.kind) counted → goodProduct numbers (is_held (table_of pool table)) 4_294_967_296 (productOf p) ≡ true → Well pool table p
+      good-well : p.len ≤ 64 → Every (λ f. Kind f.kind) counted
+          → goodProduct numbers (is_held (table_of pool table)) 4_294_967_296 (productOf p) ≡ true → Well pool table p
       unfolding productOf
       good-well few k h =
           let g = good-here (productOf p) h in
@@ -260,11 +271,13 @@ module _ (pool table : List ℕ) where
       unfolding productGiven
       given-well t h = go (productIn (given p)) refl h
         where
-          test : (b : Bool) → goodProduct numbers (is_held (table_of pool table)) 4_294_967_296 (productOf p) ≡ b → p.len ≤ 64 → Every (λ f. Kind f.kind) counted → (need b 1 >> got (productOf p)) ≡ got t → Taken t
+          test : (b : Bool) → goodProduct numbers (is_held (table_of pool table)) 4_294_967_296 (productOf p) ≡ b → p.len ≤ 64
+              → Every (λ f. Kind f.kind) counted → (need b 1 >> got (productOf p)) ≡ got t → Taken t
           test true e few k j = record { well = good-well few k e; is = cc }
           test false e few k j = let z : ◌≡◌ {A = ℕ} 0 1 = cc in absurd (omega arith)
 
-          go : (o : Option Tree) → productIn (given p) ≡ o → (orRefuse 1 o >>= λ r. need (goodProduct numbers (is_held (table_of pool table)) 4_294_967_296 r) 1 >> got r) ≡ got t → Taken t
+          go : (o : Option Tree) → productIn (given p) ≡ o
+              → (orRefuse 1 o >>= λ r. need (goodProduct numbers (is_held (table_of pool table)) 4_294_967_296 r) 1 >> got r) ≡ got t → Taken t
           go none e j = let z : ◌≡◌ {A = ℕ} 0 1 = cc in absurd (omega arith)
           go (some r) e j =
               let few = in-few p r e in
@@ -319,11 +332,17 @@ pub product-back : (t : Tree) → length t ≤ 64 → productIn (productValue t)
 unfolding productIn productValue
 product-back t h =
     let n = length-map t value_of in
-    rw (le-leb (length t) 64 h, take-take (length t) 64 (map value_of t ++ replicate 64 blank) h, take_at (map value_of t) (replicate 64 blank) (length t) n) (values-back t)
+    rw (
+      le-leb (length t) 64 h,
+      take-take (length t) 64 (map value_of t ++ replicate 64 blank) h,
+      take_at (map value_of t) (replicate 64 blank)
+          (length t) n,
+    ) (values-back t)
 
 length-value : (t : Tree) → length (productValue t).factors ≡ 64
 unfolding productValue
-length-value t = length-take-le 64 (map value_of t ++ replicate 64 blank) (omega (arith, length-append (map value_of t) (replicate 64 blank), length-replicate 64 blank))
+length-value t = length-take-le 64 (map value_of t ++ replicate 64 blank)
+    (omega (arith, length-append (map value_of t) (replicate 64 blank), length-replicate 64 blank))
 
 module _ (pool table : List ℕ) (p : Product) (t : Tree) (is : given p ≡ productValue t) where
   pub made-long : length p.factors ≡ 64
@@ -338,7 +357,8 @@ module _ (pool table : List ℕ) (p : Product) (t : Tree) (is : given p ≡ prod
       given-well pool table p made-long t (rw (is, product-back t few, h))
 
 -- the inverse of a well formed product is well formed
-pub inverse-well : (pool table : List ℕ) (p r : Product) → Well pool table p → (is : given r ≡ productValue (inverse (productOf p))) → Taken pool table r (made-long pool table r (inverse (productOf p)) is) (inverse (productOf p))
+pub inverse-well : (pool table : List ℕ) (p r : Product) → Well pool table p → (is : given r ≡ productValue (inverse (productOf p)))
+    → Taken pool table r (made-long pool table r (inverse (productOf p)) is) (inverse (productOf p))
 inverse-well pool table p r w is =
     made pool table r (inverse (productOf p)) is
     (inverse-good (numbers pool table) (law pool table) (is_held (table_of pool table)) 4_294_967_296 (productOf p) (well-good pool table p w))

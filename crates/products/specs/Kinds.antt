@@ -127,14 +127,17 @@ module _ (ν : Names ℕ) (held : ℕ → Bool) where
   unfolding fine factorIn
   fine-by f = go (atomIn f.kind f.name) refl
     where
-      go : (o : Option (Atom ℕ)) → atomIn f.kind f.name ≡ o → fine ν held f ≡ (and' (atomIn f.kind f.name) (goodAtom ν held 4_294_967_296) && goodStored (expOf f.exp))
+      go : (o : Option (Atom ℕ)) → atomIn f.kind f.name ≡ o
+          → fine ν held f ≡ (and' (atomIn f.kind f.name) (goodAtom ν held 4_294_967_296) && goodStored (expOf f.exp))
       go none e = rw e
       go (some a) e = rw e (tree-good a (expOf f.exp))
 
   pub fine-facts : (f : Factor) → fine ν held f ≡ true → Fine ν held f
-  fine-facts f h = go (kind-of f.kind f.name) ((and-eq-true_iff (and' (atomIn f.kind f.name) (goodAtom ν held 4_294_967_296)) (goodStored (expOf f.exp))).0 (sym (fine-by f) ∙ h))
+  fine-facts f h = go (kind-of f.kind f.name)
+      ((and-eq-true_iff (and' (atomIn f.kind f.name) (goodAtom ν held 4_294_967_296)) (goodStored (expOf f.exp))).0 (sym (fine-by f) ∙ h))
     where
-      go : Kind f.kind ⊎ (atomIn f.kind f.name ≡ none) → (and' (atomIn f.kind f.name) (goodAtom ν held 4_294_967_296) ≡ true) × (goodStored (expOf f.exp) ≡ true) → Fine ν held f
+      go : Kind f.kind ⊎ (atomIn f.kind f.name ≡ none) → (and' (atomIn f.kind f.name) (goodAtom ν held 4_294_967_296) ≡ true)
+          × (goodStored (expOf f.exp) ≡ true) → Fine ν held f
       go (inl k) r = record { kind = k; atom = rw (kind-atom f.name k) at r.0; stored = r.1 }
       go (inr n) r = let z : false ≡ true = rw n at r.0 in let w : ◌≡◌ {A = ℕ} 0 1 = cc in absurd (omega arith)
 
@@ -170,7 +173,8 @@ module _ (ν : Names ℕ) (held : ℕ → Bool) where
       go quantified h n = absurd (n refl)
 
   -- the order of factors: by kind, then by index or by name
-  pub order-by : (k j x y : ℕ) → Kind k → Kind j → orderAtom ν (atomBy k x) (atomBy j y) ≡ then (compare (rank_of k) (rank_of j)) (cond (eqb k 15) (compare x y) (ν.order x y))
+  pub order-by : (k j x y : ℕ) → Kind k → Kind j
+      → orderAtom ν (atomBy k x) (atomBy j y) ≡ then (compare (rank_of k) (rank_of j)) (cond (eqb k 15) (compare x y) (ν.order x y))
   unfolding atomIn orderAtom orderOpen rank_of
   order-by k j x y variable variable = refl
   order-by k j x y variable parameter = refl

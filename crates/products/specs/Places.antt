@@ -27,7 +27,8 @@ module _ {A : Type 0} (none : A) where
       take 64 (set (l ++ replicate 64 none) (length l) f)
       ≡⟨ ap (take 64) (set-append_seam l none (replicate 63 none) f) ⟩
       take 64 (l ++ f ∷ replicate 63 none)
-      ≡⟨ sym (take-append-le 64 (l ++ f ∷ replicate 63 none) (replicate 1 none) (omega (arith, length-append l (f ∷ replicate 63 none), length-replicate 63 none))) ⟩
+      ≡⟨ sym (take-append-le 64 (l ++ f ∷ replicate 63 none) (replicate 1 none)
+      (omega (arith, length-append l (f ∷ replicate 63 none), length-replicate 63 none))) ⟩
       take 64 ((l ++ f ∷ replicate 63 none) ++ replicate 1 none)
       ≡⟨ ap (take 64) (append_assoc l (f ∷ replicate 63 none) (replicate 1 none)) ⟩
       take 64 (l ++ f ∷ (replicate 63 none ++ replicate 1 none))
@@ -66,7 +67,8 @@ map_snoc g (y ∷ l) x = ap (g y ∷◌) (map_snoc g l x)
 
 -- ══ One factor more ══
 
-pub put-given : (p : Product) (f : Factor) (acc : Tree) (t : Trees.Factor ℕ) → given p ≡ productValue acc → valueIn f ≡ value_of t → given (put_of p f) ≡ productValue (acc ++ (t ∷ []))
+pub put-given : (p : Product) (f : Factor) (acc : Tree) (t : Trees.Factor ℕ) → given p ≡ productValue acc → valueIn f ≡ value_of t
+    → given (put_of p f) ≡ productValue (acc ++ (t ∷ []))
 unfolding given put_of productValue padded
 put-given p f acc t h e =
     let fs : map valueIn p.factors ≡ take 64 (map value_of acc ++ replicate 64 blank) = ap (λ (v : ProductValue). v.factors) h in
@@ -103,7 +105,8 @@ module _ (p : Product) (long : length p.factors ≡ 64) (few : p.len ≤ 64) whe
       let n : length l ≡ p.len = length-take-le p.len p.factors (omega arith) in
       map-drop tree_of l i
       ∙ ap (map tree_of) (drop-cons l i unread (omega arith))
-      ∙ ap₂ (λ (f : Factor) (r : Tree). tree_of f ∷ r) (get_or-take p.len p.factors i unread h) (sym (map-drop tree_of l (suc i)) ∙ ap (λ (k : ℕ). drop k (map tree_of l)) (sym (add-one i)))
+      ∙ ap₂ (λ (f : Factor) (r : Tree). tree_of f ∷ r) (get_or-take p.len p.factors i unread h)
+      (sym (map-drop tree_of l (suc i)) ∙ ap (λ (k : ℕ). drop k (map tree_of l)) (sym (add-one i)))
 
   pub at-end : drop p.len (productOf p) ≡ []
   at-end = drop_of_length-le (productOf p) {i = p.len} (omega (arith, length-product))

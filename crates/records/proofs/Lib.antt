@@ -1,5 +1,6 @@
 -- What the proofs of several functions use.
 mod Walks
+mod Closing
 mod Parts
 mod Wholes
 mod Determined

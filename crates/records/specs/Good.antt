@@ -28,23 +28,7 @@ use Rattle.rules.specs.Schemes.{Scheme, concrete, scheme}
 use Rattle.rules.specs.Names.{table_of, numbersOf, is_held}
 use Rattle.rules.specs.WellFormed as rules
 use Rattle.rules.specs.WellFormed.{is_lt, rising, fieldNames}
-use Rattle.records.specs.Holds.{
-  atomOf,
-  viewOpen,
-  Shows,
-  Long,
-  HoldsFactors,
-  HoldsProduct,
-  Holds,
-  HoldsTys,
-  HoldsFields,
-  HoldsCon,
-  HoldsBinding,
-  HoldsBound,
-  Body,
-  BodyCon,
-  BodyBinding,
-}
+use Rattle.records.specs.Holds.{atomOf, Shows, Long, HoldsFactors, HoldsProduct, Holds, HoldsTys, HoldsFields, HoldsCon, HoldsBinding, HoldsBound}
 use Rattle.records.specs.Views.{longAt}
 use Rattle.records.specs.declared.Atom.{Atom}
 use Rattle.records.specs.declared.View.TheVariants as view
@@ -59,9 +43,8 @@ abbrev pub endIf : Bool → ℕ → Option ℕ
 endIf true e = Some e
 endIf false e = None
 
-abbrev pub closedAt : List ℕ → ℕ → Option ℕ → Option ℕ
-closedAt s at (Some e) = endIf (eqb (at + longAt s at) e) e
-closedAt s at None = None
+abbrev pub closedAt : List ℕ → ℕ → ℕ → Option ℕ
+closedAt s at e = endIf (eqb (at + longAt s at) e) e
 
 module _ (pool table : List ℕ) where
   abbrev pub numbers : Names ℕ
@@ -138,24 +121,12 @@ module _ (pool table : List ℕ) where
         pub deep : depth t ≤ d
         pub good : goodTy t ≡ true
 
-      -- except for the length that its first record says
-      pub record PartsTy (d at : ℕ) (t : Ty ℕ) (e : ℕ) : Type 0 where
-        pub held : Body s t at
-        pub past : e ≡ at + size t
-        pub deep : depth t ≤ d
-        pub good : goodTy t ≡ true
-
       pub record GoodTys (d at n : ℕ) (ts : Tys ℕ) (e : ℕ) : Type 0 where
         pub held : HoldsTys s ts at
         pub many : count ts ≡ n
         pub past : e ≡ at + sizeTys ts
         pub deep : depthTys ts ≤ d
         pub good : goodTys ts ≡ true
-
-      -- the type of a field whose record is at a place
-      pub record GoodField (d at : ℕ) (t : Ty ℕ) (e : ℕ) : Type 0 where
-        pub type : GoodTy d (at + 1) t e
-        pub long : Long s at (suc (size t))
 
       -- n fields from `at` up to e, after the name b
       pub record GoodFields (d at n : ℕ) (b : Option ℕ) (fs : Fields ℕ) (e : ℕ) : Type 0 where
@@ -169,12 +140,6 @@ module _ (pool table : List ℕ) where
       -- a product with its head
       pub record GoodProduct (at : ℕ) (p : Product ℕ) (e : ℕ) : Type 0 where
         pub held : HoldsProduct s p at
-        pub past : e ≡ at + suc (length p)
-        pub good : goodProduct p ≡ true
-
-      pub record PartsProduct (at : ℕ) (p : Product ℕ) (e : ℕ) : Type 0 where
-        pub shows : Shows s at (view.Dim (length p))
-        pub held : HoldsFactors s p (at + 1)
         pub past : e ≡ at + suc (length p)
         pub good : goodProduct p ≡ true
 
@@ -194,18 +159,6 @@ module _ (pool table : List ℕ) where
         pub deep : depthCon c ≤ 64
         pub good : goodCon c ≡ true
 
-      pub record PartsCon (at : ℕ) (c : Con ℕ) (e : ℕ) : Type 0 where
-        pub held : BodyCon s c at
-        pub past : e ≡ at + sizeCon c
-        pub deep : depthCon c ≤ 64
-        pub good : goodCon c ≡ true
-
-      pub record PartsBinding (at : ℕ) (b : Binding ℕ) (e : ℕ) : Type 0 where
-        pub held : BodyBinding s b at
-        pub past : e ≡ at + sizeBinding b
-        pub deep : depthBinding b ≤ 64
-        pub good : goodBinding b ≡ true
-
       pub record GoodBinding (at : ℕ) (b : Binding ℕ) (e : ℕ) : Type 0 where
         pub held : HoldsBinding s b at
         pub past : e ≡ at + sizeBinding b
@@ -215,11 +168,6 @@ module _ (pool table : List ℕ) where
       -- a bound as it is read: a variable's name or an index
       pub record GoodBound (at : ℕ) (o : tree.Open ℕ) (e : ℕ) : Type 0 where
         pub held : HoldsBound s o at
-        pub past : e ≡ at + 1
-        pub good : goodOpen o ≡ true
-
-      pub record PartsBound (at : ℕ) (o : tree.Open ℕ) (e : ℕ) : Type 0 where
-        pub held : Shows s at (view.Bound (viewOpen o))
         pub past : e ≡ at + 1
         pub good : goodOpen o ≡ true
 
@@ -243,12 +191,6 @@ There {A} P true = (a : A) × P a
 There {A} P false = (a : A) → P a → ⊥
 
 -- a scheme takes all records: its type, then its bounds
-abbrev pub PartsScheme : List ℕ → List ℕ → List ℕ → Scheme ℕ → Type 0
-PartsScheme pool table s (concrete t) = Shows s 0 view.Concrete × GoodTy pool table 0 s 64 1 t (length s / 4)
-PartsScheme pool table s (scheme n t bs) = Shows s 0 (view.Scheme n)
-    × ((e : ℕ) × (GoodTy pool table n s 64 1 t e × Chain (GoodBound pool table n s) (length s / 4) bs e))
-
--- and its length is that of the list
 abbrev pub GoodScheme : List ℕ → List ℕ → List ℕ → Scheme ℕ → Type 0
 GoodScheme pool table s (concrete t) = Shows s 0 view.Concrete × GoodTy pool table 0 s 64 1 t (length s / 4) × Long s 0 (length s / 4)
 GoodScheme pool table s (scheme n t bs) = Shows s 0 (view.Scheme n)

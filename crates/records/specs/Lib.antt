@@ -9,7 +9,7 @@ pub mod Held
 pub mod Parsed
 pub mod Found
 pub mod Good
-pub mod Closing
+pub mod Readers
 pub mod Moves
 pub mod Given
 pub mod Whole

@@ -2,6 +2,7 @@
 #![tactic(auto)]
 
 pub mod inner;
+pub mod reader;
 pub mod seen;
 pub mod theorems;
 
@@ -10,9 +11,10 @@ ghost use Rattle.rules.specs.Base.{need};
 ghost use Rattle.rules.specs.Calls.{aloneGiven, setCall, typeCall, schemeCall, bindingsCall};
 ghost use Rattle.rules.specs.Refusals.{told};
 
-use inner::{bindings_good, scheme_good, set_good, type_good};
+use inner::set_good;
 use names::inner::is_good;
 use names::tables::NameTable;
+use reader::{Part, Reader, scheme_good};
 use rules::{POOL_BYTES, RECORD_WORDS, Refusal, TABLE_WORDS};
 
 /// An open name: a variable, a quantified variable by its index, a parameter.
@@ -115,7 +117,12 @@ pub fn is_type(pool: &[u8], table: &[u32], words: &[u32]) -> Result<(), Refusal>
 {
     entry(pool, table, words)?;
     let names = NameTable { pool, table };
-    listed(words, type_good(names, words, 0))
+    let reader = Reader {
+        names,
+        quantified: 0,
+        words,
+    };
+    listed(words, reader.is_type(0))
 }
 
 /// Is this list a well formed scheme? Refused as `entry` refuses, and 1 where it is not.
@@ -133,5 +140,10 @@ pub fn is_bindings(pool: &[u8], table: &[u32], words: &[u32]) -> Result<(), Refu
 {
     entry(pool, table, words)?;
     let names = NameTable { pool, table };
-    listed(words, bindings_good(names, words))
+    let reader = Reader {
+        names,
+        quantified: 0,
+        words,
+    };
+    listed(words, reader.all(Part::Binding, 0))
 }

@@ -5,4 +5,5 @@ pub mod Looks
 mod Nested
 pub mod Others
 mod Touches
+mod Unsaid
 pub mod Walks

@@ -1,9 +1,10 @@
 -- What open names become: a table of places, a word for each name, before a list of words in which the types stand.
-use Rattle.std.specs.Prelude.{◌≡◌, refl, cond, List, ℕ, ◌+◌, ◌-◌, ◌≤◌, ltb, get_or, None, Some}
+use Rattle.std.specs.Prelude.{◌≡◌, refl, Bool, ◌&&◌, eqb, cond, List, ℕ, ◌+◌, ◌-◌, ◌≤◌, ltb, get_or, None, Some}
 use Rattle.std.proofs.Common.{sym, ap, subst, arith}
 use Rattle.std.proofs.Math.Option.{Option, none, some}
 use Rattle.rules.specs.Replacing.{Look}
 use Rattle.rules.specs.Trees.{Open, var, quant, par, Ty, size}
+use Rattle.laws.specs.Lists.{Every}
 use Rattle.records.specs.Holds.{Holds}
 use Rattle.replace.specs.Runs.{LookedUp}
 
@@ -16,6 +17,19 @@ abbrev pub word_of : List ℕ → Open ℕ → ℕ
 word_of places (var x) = nameWord places 0 x
 word_of places (quant i) = get_or places (512 + i) 0
 word_of places (par x) = nameWord places 256 x
+
+-- the number of an open name; these names all have the number x
+abbrev pub number_of : Open ℕ → ℕ
+number_of (var x) = x
+number_of (quant i) = i
+number_of (par x) = x
+
+abbrev pub Called : ℕ → List (Open ℕ) → Type 0
+Called x os = Every (λ o. number_of o ≡ x) os
+
+-- no open name of the number x has a word
+unfoldable pub unsaid : List ℕ → ℕ → Bool
+unsaid places x = eqb (word_of places (var x)) 0 && (eqb (word_of places (par x)) 0 && eqb (word_of places (quant x)) 0)
 
 -- the word w is one more than the place of a type
 pub record BoundAt (v : List ℕ) (w : ℕ) (t : Ty ℕ) : Type 0 where

@@ -19,14 +19,16 @@ use Rattle.laws.specs.NameTable.{Good}
 use Rattle.records.specs.Good.{numbers, holding}
 use Rattle.theorems_ending.proofs.Ending.{ends}
 use Rattle.theorems_ending.proofs.Sets.{Admitted, start}
-use Rattle.solve_round.specs.declared.Ends.{Ends}
+use Rattle.solve_round.specs.declared.After.{After}
+use Rattle.solve_round.specs.declared.After.TheVariants.{Nowhere, Read, Written}
+use Rattle.solve_round.specs.declared.Place.{Place}
 use Rattle.replace.specs.Kept.{cons-weaker}
 use Rattle.replace.specs.Written.{written-cons}
 use Rattle.types.specs.Binds.{HoldsBinds}
 use Rattle.types.specs.Puts.{set-words}
 use Rattle.types.specs.Sets.{IsCons}
-use Rattle.solve_round.specs.States.{SoundSet, StateHeld, Turned, Turn}
-use Rattle.std.specs.Prelude.{Ok, Err, None, Some}
+use Rattle.solve_round.specs.States.{Rounded, SoundSet, Stands, StateHeld}
+use Rattle.std.specs.Prelude.{Result, Ok, Err}
 use Rattle.solve_finish.specs.Told.{Finished}
 use Rattle.solve_finish.specs.declared.Finish.{Finish}
 use Rattle.solve.specs.declared.Solution.{Solution}
@@ -42,7 +44,7 @@ module _ (pool table : List ℕ) where
 
   -- copied to the front of a buffer it is a state
   pub begun-state : (ws d d' : List ℕ) (n : ℕ) (cs : List (Con ℕ)) → Begun ws cs → n ≡ length ws / 4 → 8192 ≤ length d → d' ≡ sets d 0 (slice 0 (n * 4) ws)
-      → StateHeld pool table d' n n (start cs)
+      → StateHeld pool table d' (record { start = 0; ends = record { constraints = n; bindings = n } }) (start cs)
   unfolding HoldsBinds all
   begun-state ws d d' n cs b i room e =
       let m : 0 + sum_of sizeCon cs ≡ n = omega (arith, b.held.ends, i) in
@@ -61,19 +63,19 @@ module _ (pool table : List ℕ) where
   answer_of cs = solve (numbers pool table) bounded cs
 
   -- after k rounds: the state, and that the rounds which are left give the whole answer
-  pub record Going (cs : List (Con ℕ)) (w : List ℕ) (n m k : ℕ) : Type 0 where
+  pub record Going (cs : List (Con ℕ)) (w : List ℕ) (p : Place) (k : ℕ) : Type 0 where
     pub left : ℕ
     pub state : State ℕ
     pub sum : left + k ≡ enough
-    pub held : StateHeld pool table w n m state
+    pub held : StateHeld pool table w p state
     pub same : run (numbers pool table) bounded left k state ≡ answer_of cs
 
-  pub going-first : (cs : List (Con ℕ)) (w : List ℕ) (n : ℕ) → StateHeld pool table w n n (start cs) → Going cs w n n 0
+  pub going-first : (cs : List (Con ℕ)) (w : List ℕ) (p : Place) → StateHeld pool table w p (start cs) → Going cs w p 0
   unfolding solve
-  going-first cs w n h = record { left = enough; state = start cs; sum = omega arith; held = h; same = refl }
+  going-first cs w p h = record { left = enough; state = start cs; sum = omega arith; held = h; same = refl }
 
   module _ (good : Good pool table) (cs : List (Con ℕ)) (admitted : Admitted (numbers pool table) (holding pool table) cs) (w w' : List ℕ)
-      (n m k : ℕ) (g : Going cs w n m k) (r : Turn) (t : Turned pool table w' r (round (numbers pool table) bounded g.state)) where
+      (p : Place) (k : ℕ) (g : Going cs w p k) (r : Result After Refusal) (t : Rounded pool table w w' r (round (numbers pool table) bounded g.state)) where
     -- a turn, with the rounds left after it: the bound on rounds is never met
     record Turning : Type 0 where
       pub left : ℕ
@@ -91,44 +93,48 @@ module _ (pool table : List ℕ) where
 
     -- what is known by the case of the round
     abbrev Round : Got (Option (State ℕ)) → Type 0
-    Round R = Turned pool table w' r R × (after (numbers pool table) R k g.state (λ s'. run (numbers pool table) bounded turning.left (suc k) s')
+    Round R = Rounded pool table w w' r R × (after (numbers pool table) R k g.state (λ s'. run (numbers pool table) bounded turning.left (suc k) s')
         ≡ answer_of cs)
 
     rounded : Round (round (numbers pool table) bounded g.state)
     rounded = (t, turning.same)
 
     -- a round was completed
-    pub going_next : (e : Ends) → r ≡ Ok (Some e) → Going cs w' e.constraints e.bindings (k + 1) × (k < enough)
+    going-on : {a : After} → r ≡ Ok a → (a ≡ Nowhere → ⊥) → (v : List ℕ) (e : Place)
+        → ((s : State ℕ) → Stands pool table w w' (Ok a) s → StateHeld pool table v e s) → Going cs v e (k + 1) × (k < enough)
     unfolding after
-    going_next e i = go (round (numbers pool table) bounded g.state) rounded
+    going-on {a} i n v e f = go (round (numbers pool table) bounded g.state) rounded
       where
-        go : (R : Got (Option (State ℕ))) → Round R → Going cs w' e.constraints e.bindings (k + 1) × (k < enough)
-        go (refused j) (u, d) = absurd (subst (λ (x : Turn). Turned pool table w' x (refused j)) i u).says
-        go (got none) (u, d) = absurd (let z : ◌≡◌ {A = Turn} (Ok (Some e)) (Ok None) = sym i ∙ u.says in let y : ◌≡◌ {A = ℕ} 0 1 = cc in omega arith)
-        go (got (some s)) (u, d) =
-            let o = u.says in
-            let z : ◌≡◌ {A = Turn} (Ok (Some o.ends)) (Ok (Some e)) = sym o.is ∙ i in
-            let y : o.ends ≡ e = cc in (
-              record {
-                left = turning.left;
-                state = s;
-                sum = omega (arith, turning.sum);
-                held = subst (λ (x : Ends). StateHeld pool table w' x.constraints x.bindings s) y o.held;
-                same = rw (add-one k) d;
-              },
-              omega (arith, turning.sum),
-            )
+        go : (R : Got (Option (State ℕ))) → Round R → Going cs v e (k + 1) × (k < enough)
+        go (refused j) (u, d) = absurd (subst (λ (x : Result After Refusal). Rounded pool table w w' x (refused j)) i u).says
+        go (got none) (u, d) = absurd (n (let z : ◌≡◌ {A = Result After Refusal} (Ok a) (Ok Nowhere) = sym i ∙ u.says in cc))
+        go (got (some s)) (u, d) = (
+          record {
+            left = turning.left;
+            state = s;
+            sum = omega (arith, turning.sum);
+            held = f s (subst (λ (x : Result After Refusal). Rounded pool table w w' x (got (some s))) i u).says;
+            same = rw (add-one k) d;
+          },
+          omega (arith, turning.sum),
+        )
+
+    -- and the state stands where it stood, or was written
+    pub going-here : (e : Place) → r ≡ Ok (Read e) → Going cs w e (k + 1) × (k < enough)
+    going-here e i = going-on i (λ z. let y : ◌≡◌ {A = ℕ} 0 1 = cc in omega arith) w e (λ s h. h)
+
+    pub going-written : (e : Place) → r ≡ Ok (Written e) → Going cs w' e (k + 1) × (k < enough)
+    going-written e i = going-on i (λ z. let y : ◌≡◌ {A = ℕ} 0 1 = cc in omega arith) w' e (λ s h. h)
 
     -- no rule applies
-    pub going_end : r ≡ Ok None → answer_of cs ≡ finish (numbers pool table) k g.state
+    pub going_end : r ≡ Ok Nowhere → answer_of cs ≡ finish (numbers pool table) k g.state
     unfolding after
     going_end i = go (round (numbers pool table) bounded g.state) rounded
       where
         go : (R : Got (Option (State ℕ))) → Round R → answer_of cs ≡ finish (numbers pool table) k g.state
-        go (refused j) (u, e) = absurd (subst (λ (x : Turn). Turned pool table w' x (refused j)) i u).says
+        go (refused j) (u, e) = absurd (subst (λ (x : Result After Refusal). Rounded pool table w w' x (refused j)) i u).says
         go (got none) (u, e) = sym e
-        go (got (some s)) (u, e) = absurd
-            (let z : ◌≡◌ {A = Turn} (Ok (Some u.says.ends)) (Ok None) = sym u.says.is ∙ i in let y : ◌≡◌ {A = ℕ} 0 1 = cc in omega arith)
+        go (got (some s)) (u, e) = absurd (subst (λ (x : Result After Refusal). Rounded pool table w w' x (got (some s))) i u).says
 
     -- a refused round isn't counted
     pub going-stop : (x : Refusal) → r ≡ Err x → answer_of cs ≡ stopped (number_of x) k
@@ -136,10 +142,10 @@ module _ (pool table : List ℕ) where
     going-stop x i = go (round (numbers pool table) bounded g.state) rounded
       where
         go : (R : Got (Option (State ℕ))) → Round R → answer_of cs ≡ stopped (number_of x) k
-        go (refused j) (u, e) = sym e ∙ ap (λ (y : ℕ). stopped y k) (sym (subst (λ (x : Turn). Turned pool table w' x (refused j)) i u).says)
-        go (got none) (u, e) = absurd (let z : ◌≡◌ {A = Turn} (Err x) (Ok None) = sym i ∙ u.says in let y : ◌≡◌ {A = ℕ} 0 1 = cc in omega arith)
-        go (got (some s)) (u, e) = absurd
-            (let z : ◌≡◌ {A = Turn} (Ok (Some u.says.ends)) (Err x) = sym u.says.is ∙ i in let y : ◌≡◌ {A = ℕ} 0 1 = cc in omega arith)
+        go (refused j) (u, e) = sym e ∙ ap (λ (y : ℕ). stopped y k) (sym (subst (λ (x : Result After Refusal). Rounded pool table w w' x (refused j)) i u).says)
+        go (got none) (u, e) = absurd
+            (let z : ◌≡◌ {A = Result After Refusal} (Err x) (Ok Nowhere) = sym i ∙ u.says in let y : ◌≡◌ {A = ℕ} 0 1 = cc in omega arith)
+        go (got (some s)) (u, e) = absurd (subst (λ (x : Result After Refusal). Rounded pool table w w' x (got (some s))) i u).says
 
   -- ══ The answer ══
 

@@ -19,8 +19,8 @@ use records::inner::copy;
 use rules::{RECORD_WORDS, Refusal};
 use solve_finish::Finish;
 use solve_finish::inner::finish;
-use solve_round::Ends;
 use solve_round::inner::round;
+use solve_round::{After, Ends, Place};
 use std::mem::swap;
 use types::GivenSet;
 
@@ -46,8 +46,8 @@ pub fn records(s: Solution) -> usize
     }
 }
 
-/// Round after round on the constraints of a set, and what is answered at the end. A round writes the next state to one half of the work buffer while it reads
-/// the other, and then the halves change places.
+/// Round after round on the constraints of a set, and what is answered at the end. A round leaves the state where it is, or writes the next one to one half of
+/// the work buffer while it reads the other, and then the halves change places.
 pub fn run(names: NameTable, set: &[u32], res: &mut [u32], work: &mut [u32]) -> Solution
     requires begun { (cs : List (Con ℕ)) × Begun names.pool.now names.table.now set.now cs }
     requires result_room { 8192 ≤ length res.old }
@@ -60,21 +60,26 @@ pub fn run(names: NameTable, set: &[u32], res: &mut [u32], work: &mut [u32]) -> 
     let (mut next, _) = behind.split_at_mut(RECORD_WORDS);
     let n = set.len() / 4;
     copy(set, 0, n, state, 0);
-    let mut ends = Ends {
+    let ends = Ends {
         constraints: n,
         bindings: n,
     };
+    let mut place = Place { start: 0, ends };
     let mut completed = 0;
     'turns: loop {
-        match round(names, state, ends, &mut new, next) {
-            Ok(Some(made)) => {
-                ends = made;
+        match round(names, state, place, &mut new, next) {
+            Ok(After::Read(left)) => {
+                place = left;
+                completed += 1;
+            }
+            Ok(After::Written(made)) => {
+                place = made;
                 completed += 1;
                 swap(&mut state, &mut next);
             }
-            Ok(None) => {
+            Ok(After::Nowhere) => {
                 return Solution {
-                    outcome: Ok(finish(names, state, ends, res)),
+                    outcome: Ok(finish(names, state, place, res)),
                     rounds: completed,
                 };
             }

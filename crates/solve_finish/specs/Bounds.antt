@@ -56,7 +56,8 @@ use Rattle.replace.specs.Kept.{cons-weaker, binds-weaker}
 use Rattle.replace.specs.Writes.{words_append, writes}
 use Rattle.replace.specs.Written.{written-cons, binds-held, as-run}
 use Rattle.solve_round.specs.States.{StateHeld}
-use Rattle.types.specs.Puts.{binds-words as bound-words, binds-in as bound-in, cons-in}
+use Rattle.solve_round.specs.declared.Place.{Place}
+use Rattle.types.specs.Puts.{binds-words as bound-words}
 use Rattle.types.specs.Sets.{HoldsCons, IsCons, Cons, con-some, one-set}
 use Rattle.solve_finish.specs.declared.Finish.TheVariants.{Solved as Bound, Unsolved}
 use Rattle.solve_finish.specs.Told.{others, boundRec, bounds, Copied, Accepted, Finished}
@@ -139,9 +140,9 @@ module _ (s : List ℕ) where
   chained [] at n h e = sym (e ∙ add-zero at)
   chained (c ∷ cs) at n h e = (at + sizeCon c, ((h.0, refl), chained cs (at + sizeCon c) n h.1 (omega (arith, e))))
 
-  set-opens : (cs : List (Con ℕ)) (n : ℕ) → IsCons s 0 n cs → opensIn s 0 n ≡ collect opensCon cs
-  set-opens cs n h = (chain-opens s (λ at c e. HoldsCon s c at × (e ≡ at + sizeCon c)) opensCon (λ at c e k. part c at e k) cs 0 n
-      (chained cs 0 n h.held h.ends)).1
+  set-opens : (cs : List (Con ℕ)) (at n : ℕ) → IsCons s at n cs → opensIn s at n ≡ collect opensCon cs
+  set-opens cs at n h = (chain-opens s (λ at c e. HoldsCon s c at × (e ≡ at + sizeCon c)) opensCon (λ at c e k. part c at e k) cs at n
+      (chained cs at n h.held h.ends)).1
 
 -- ══ A state whose constraints are bounds ══
 
@@ -166,24 +167,30 @@ others-good pool table (c ∷ cs) g =
     go true a h = (and-eq-true_iff (goodCon pool table 0 c) (all (goodCon pool table 0) (others cs))).1 (a, h)
     go false a h = h
 
-module _ (pool table s : List ℕ) (n m : ℕ) (st : State ℕ) (h : StateHeld pool table s n m st) where
+module _ (pool table s : List ℕ) (p : Place) (st : State ℕ) (h : StateHeld pool table s p st) (room : 8192 ≤ length s) where
+  abbrev b : ℕ
+  b = p.start
+
+  abbrev n : ℕ
+  n = p.ends.constraints
+
+  abbrev m : ℕ
+  m = p.ends.bindings
+
   -- whichever constraints stand there, they are those of the state
-  pub of-state : {d d' : List ℕ} {k : ℕ} (x : Cons s 0 n) → Copied d d' 0 k (others x.0) → Copied d d' 0 k (others st.cons)
-  of-state {d} {d'} {k} x c = subst (λ (y : Cons s 0 n). Copied d d' 0 k (others y.0)) (one-set s 0 n x (st.cons, h.cons)) c
+  pub of-state : {d d' : List ℕ} {k : ℕ} (x : Cons s b n) → Copied d d' 0 k (others x.0) → Copied d d' 0 k (others st.cons)
+  of-state {d} {d'} {k} x c = subst (λ (y : Cons s b n). Copied d d' 0 k (others y.0)) (one-set s b n x (st.cons, h.cons)) c
 
   -- what `list_names` asks
-  pub names-known : Every (λ x. x < get_or table 0 0) (choose Both (opensIn s 0 n))
-  names-known = rw (set-opens s st.cons n h.cons) (names-held pool table 0 (collect opensCon st.cons) (cons-good pool table st.cons h.sound_cons.good) Both)
+  pub names-known : Every (λ x. x < get_or table 0 0) (choose Both (opensIn s b n))
+  names-known = rw (set-opens s st.cons b n h.cons) (names-held pool table 0 (collect opensCon st.cons) (cons-good pool table st.cons h.sound_cons.good) Both)
 
-  pub names-are : others st.cons ≡ [] → choose Both (opensIn s 0 n) ≡ collect (λ c. to_list (boundOf c)) st.cons
-  names-are e = ap (choose Both) (set-opens s st.cons n h.cons) ∙ names-bounds st.cons e
+  pub names-are : others st.cons ≡ [] → choose Both (opensIn s b n) ≡ collect (λ c. to_list (boundOf c)) st.cons
+  names-are e = ap (choose Both) (set-opens s st.cons b n h.cons) ∙ names-bounds st.cons e
 
   -- what `copy` asks
   pub binds-in : (n ≤ m) × (m * 4 ≤ length s)
-  binds-in =
-      let a = cons-in s st.cons 0 (omega arith) h.cons.held in
-      let b = bound-in s st.binds n (omega (arith, a, h.cons.ends)) h.binds.held in
-      (omega (arith, h.binds.ends), omega (arith, b, h.binds.ends))
+  binds-in = (omega (arith, h.binds.ends), omega (arith, h.short, room))
 
   binds-words : slice (n * 4) (m * 4) s ≡ words (collect writeBinding st.binds)
   binds-words = bound-words s n m (st.binds, h.binds) (omega (arith, binds-in))
@@ -195,29 +202,29 @@ module _ (pool table s : List ℕ) (n m : ℕ) (st : State ℕ) (h : StateHeld p
   bounds-few = omega (arith, sort-few (numbers pool table) (collect (λ c. to_list (boundOf c)) st.cons), names-few st.cons, h.cons.ends)
 
   -- the names that were listed, in a buffer of 256
-  module _ (e : others st.cons ≡ []) (b b' : List ℕ) (k : ℕ) (f : Filled (sort (numbers pool table) (choose Both (opensIn s 0 n))) k b b') where
-    listed : Filled (bounds pool table st) k b b'
-    listed = subst (λ (xs : List ℕ). Filled (sort (numbers pool table) xs) k b b') (names-are e) f
+  module _ (e : others st.cons ≡ []) (l l' : List ℕ) (k : ℕ) (f : Filled (sort (numbers pool table) (choose Both (opensIn s b n))) k l l') where
+    listed : Filled (bounds pool table st) k l l'
+    listed = subst (λ (xs : List ℕ). Filled (sort (numbers pool table) xs) k l l') (names-are e) f
 
-    pub listed-few : length b' ≡ 256 → (k ≤ length b') × (k ≤ n)
+    pub listed-few : length l' ≡ 256 → (k ≤ length l') × (k ≤ n)
     unfolding over
-    listed-few l = (
+    listed-few q = (
       omega (
         arith,
         listed.many,
         ap length listed.buffer
-            ∙ length-append (bounds pool table st) (drop (length (bounds pool table st)) b),
+            ∙ length-append (bounds pool table st) (drop (length (bounds pool table st)) l),
       ),
       omega (arith, listed.many, bounds-few),
     )
 
-    listed-front : take k b' ≡ bounds pool table st
+    listed-front : take k l' ≡ bounds pool table st
     unfolding over
-    listed-front = ap (take k) listed.buffer ∙ take_at (bounds pool table st) (drop (length (bounds pool table st)) b) k (sym listed.many)
+    listed-front = ap (take k) listed.buffer ∙ take_at (bounds pool table st) (drop (length (bounds pool table st)) l) k (sym listed.many)
 
     -- bindings, and then bounds
     pub accepted-as : (d d₁ d₂ : List ℕ) → 8192 ≤ length d → d₁ ≡ sets d 0 (slice (n * 4) (m * 4) s)
-        → d₂ ≡ sets d₁ ((m - n) * 4) (words (map boundRec (take k b'))) → Accepted pool table st d d₂ (m - n) k
+        → d₂ ≡ sets d₁ ((m - n) * 4) (words (map boundRec (take k l'))) → Accepted pool table st d d₂ (m - n) k
     unfolding over
     accepted-as d d₁ d₂ room p q =
         let A = collect writeBinding st.binds in
@@ -281,12 +288,12 @@ unfolding collect words
 none-remains d d' left [] k le = (refl, k.buffer)
 none-remains d d' left (x ∷ cs) k le = absurd (omega (arith, k.many, con-some x))
 
-pub finished-accepted : (pool table s : List ℕ) (n m : ℕ) (st : State ℕ) (d d₁ d' : List ℕ) (r : ℕ) → StateHeld pool table s n m st
-    → others st.cons ≡ [] → d₁ ≡ d → Accepted pool table st d₁ d' (m - n) r → Finished pool table st d d' (Bound (m - n) r)
+pub finished-accepted : (pool table s : List ℕ) (p : Place) (st : State ℕ) (d d₁ d' : List ℕ) (r : ℕ) → StateHeld pool table s p st
+    → others st.cons ≡ [] → d₁ ≡ d → Accepted pool table st d₁ d' (p.ends.bindings - p.ends.constraints) r
+    → Finished pool table st d d' (Bound (p.ends.bindings - p.ends.constraints) r)
 unfolding finish finished solvedOf solvedWords resultAfter
-finished-accepted pool table s n m st d d₁ d' r h e i a =
-    let b = binds-in pool table s n m st h in
-    let q : m - n ≡ sum_of sizeBinding st.binds = omega (arith, h.binds.ends, b.0) in
+finished-accepted pool table s p st d d₁ d' r h e i a =
+    let q : p.ends.bindings - p.ends.constraints ≡ sum_of sizeBinding st.binds = omega (arith, h.binds.ends) in
     record {
       answer = λ j. rw e (rw (q, a.many));
       rows = λ j. rw e (refl, a.rows);

@@ -18,8 +18,8 @@ use queries::Kind;
 use queries::inner::list_names;
 use records::inner::{copy, put_one};
 use records::{Open, View};
-use solve_round::Ends;
 use rules::NAMES;
+use solve_round::Place;
 use types::writer::Writer;
 use types::{Constraint, Constraints, Demand, Shape};
 
@@ -80,38 +80,48 @@ fn put_bounds(names: &[u32], k: usize, dst: &mut [u32], out: usize)
 }
 
 /// Every constraint is a bound: writes the bindings, then the bounds sorted by name bytes, once each; how many bounds.
-fn accept(names: NameTable, s: &[u32], ends: Ends, res: &mut [u32]) -> usize
-    requires standing { (st : State ℕ) × Standing names s.now ends st × (others st.cons ≡ []) }
+fn accept(names: NameTable, s: &[u32], place: Place, res: &mut [u32]) -> usize
+    requires standing { (st : State ℕ) × Standing names s.now place st × (others st.cons ≡ []) }
+    requires state_room { 8192 ≤ length s.now }
     requires room { 8192 ≤ length res.old }
-    ensures { (st : State ℕ) → Standing names.entry s.now ends st → others st.cons ≡ []
-        → Accepted names.entry.pool.now names.entry.table.now st res.old res.new (ends.bindings - ends.constraints) result }
+    ensures { (st : State ℕ) → Standing names.entry s.now place st → others st.cons ≡ []
+        → Accepted names.entry.pool.now names.entry.table.now st res.old res.new (place.ends.bindings - place.ends.constraints) result }
 {
+    let ends = place.ends;
     let mut bounds = [0u32; NAMES];
-    let k = list_names(names, s, 0, ends.constraints, Kind::Both, &mut bounds);
+    let k = list_names(
+        names,
+        s,
+        place.start,
+        ends.constraints,
+        Kind::Both,
+        &mut bounds,
+    );
     copy(s, ends.constraints, ends.bindings, res, 0);
     put_bounds(&bounds, k, res, ends.bindings - ends.constraints);
     k
 }
 
 /// What is answered where no rule applies to a state.
-pub fn finish(names: NameTable, s: &[u32], ends: Ends, res: &mut [u32]) -> Finish
-    requires standing { (st : State ℕ) × Standing names s.now ends st }
+pub fn finish(names: NameTable, s: &[u32], place: Place, res: &mut [u32]) -> Finish
+    requires standing { (st : State ℕ) × Standing names s.now place st }
+    requires state_room { 8192 ≤ length s.now }
     requires near { length s.now ≤ 4_000_000_000 }
     requires room { 8192 ≤ length res.old }
-    ensures { (st : State ℕ) → Standing names.entry s.now ends st → Finished names.entry.pool.now names.entry.table.now st res.old res.new result }
+    ensures { (st : State ℕ) → Standing names.entry s.now place st → Finished names.entry.pool.now names.entry.table.now st res.old res.new result }
 {
-    let end = ends.constraints;
+    let ends = place.ends;
     let left = copy_others(
         Constraints {
             words: s,
-            at: 0,
-            end,
+            at: place.start,
+            end: ends.constraints,
         },
         res,
     );
     if 0 < left {
         return Finish::Unsolved(left);
     }
-    let bounds = accept(names, s, ends, res);
+    let bounds = accept(names, s, place, res);
     Finish::Solved(ends.bindings - ends.constraints, bounds)
 }

@@ -151,17 +151,17 @@ module _ (pool table : List ℕ) (d : List ℕ) (o : Others) (r : code.Step) (c 
       go (got stuck) j s = absurd (let f = s.says.0 in let z : ◌≡◌ {A = ℕ} 0 1 = cc in omega arith)
       go (refused l) j s = absurd s.says
 
-  pub took-done : r ≡ Done → tried ≡ got done
-  took-done i = go tried (answered i)
-    where
-      go : (R : Got (Step ℕ)) → Stepped k.was d 0 (Ok Done) R → R ≡ got done
-      go (got (bind x t)) s = absurd (let f = s.says.0 in let z : ◌≡◌ {A = ℕ} 0 1 = cc in omega arith)
-      go (got (split cs)) s = absurd (let f = s.says.0 in let z : ◌≡◌ {A = ℕ} 0 1 = cc in omega arith)
-      go (got done) s = refl
-      go (got stuck) s = absurd (let f = s.says.0 in let z : ◌≡◌ {A = ℕ} 0 1 = cc in omega arith)
-      go (refused l) s = absurd s.says
+-- whether the constraint is done with, and whether no rule applies
+pub done-is : {was d : List ℕ} {out : ℕ} {r : code.Step} {R : Got (Step ℕ)} → Stepped was d out (Ok r) R → r ≡ Done → R ≡ got done
+done-is {was} {d} {out} {r} {R} s i = go R (subst (λ (x : code.Step). Stepped was d out (Ok x) R) i s)
+  where
+    go : (R : Got (Step ℕ)) → Stepped was d out (Ok Done) R → R ≡ got done
+    go (got (bind x t)) s = absurd (let f = s.says.0 in let z : ◌≡◌ {A = ℕ} 0 1 = cc in omega arith)
+    go (got (split cs)) s = absurd (let f = s.says.0 in let z : ◌≡◌ {A = ℕ} 0 1 = cc in omega arith)
+    go (got done) s = refl
+    go (got stuck) s = absurd (let f = s.says.0 in let z : ◌≡◌ {A = ℕ} 0 1 = cc in omega arith)
+    go (refused l) s = absurd s.says
 
--- whether no rule applies
 pub stuck-is : {was d : List ℕ} {out : ℕ} {r : code.Step} {R : Got (Step ℕ)} → Stepped was d out (Ok r) R → r ≡ Stuck → R ≡ got stuck
 stuck-is {was} {d} {out} {r} {R} s i = go R (subst (λ (x : code.Step). Stepped was d out (Ok x) R) i s)
   where

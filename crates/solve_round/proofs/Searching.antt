@@ -6,16 +6,16 @@ use mathlib.Core.List.{append-nil, cons≢nil}
 use Rattle.std.proofs.Math.Option.{Option, none, some}
 use Rattle.std.proofs.Math.Seq.{append_snoc}
 use Rattle.rules.specs.Base.{Got, got, refused, ◌>>=◌, bounded, all, and_then, sum_of}
-use Rattle.rules.specs.Rounds.{Step, bind, split, done, stuck, State, trySatisfy, taken, firstStep, perform, performed, round}
+use Rattle.rules.specs.Rounds.{Step, bind, split, done, stuck, State, trySatisfy, taken, firstStep, perform, performed, round, sizeState, depthState}
 use Rattle.rules.specs.Trees.{Con, Binding, sizeCon, depthCon}
 use Rattle.laws.specs.Lists.{and_both}
 use Rattle.records.specs.Good.{goodCon, numbers}
 use Rattle.records.specs.Holds.{HoldsCon}
-use Rattle.types.specs.Sets.{HoldsCons, IsCons, placed}
+use Rattle.types.specs.Sets.{con-some, HoldsCons, IsCons, placed}
 use Rattle.solve_round.specs.declared.Others.{Others}
 use Rattle.solve_round.specs.States.{SoundSet}
 use Rattle.solve_round.specs.Parts.{after, performs}
-use Rattle.solve_round.proofs.Limits.{sound-both, sound-none, sum_both}
+use Rattle.solve_round.proofs.Limits.{kept, sound-both, sound-none, sum_both}
 
 -- constraints with the words that they stand in, and their places there
 abbrev pub Rest : Type 0
@@ -141,6 +141,19 @@ module _ (pool table : List ℕ) where
           go (got done) e = rw (e, i, j, l, append-nil (f.before ++ f.behind)) refl
           go (got stuck) e = absurd (some-rule e)
           go (refused k) e = rw e refl
+
+      none-before : x.1 ≡ from → f.before ≡ []
+      none-before i = go f.before f.passed.ends
+        where
+          go : (cs : List (Con ℕ)) → x.1 ≡ from + sum_of sizeCon cs → cs ≡ []
+          go [] e = refl
+          go (d ∷ ds) e = absurd (omega (arith, i, e, con-some d))
+
+      -- it is the first, and done with
+      pub done-first : x.1 ≡ from → trySatisfy (numbers pool table) bounded c ≡ got done → sizeState (record { cons = f.behind; binds = bs }) ≤ 2048
+          → depthState (record { cons = f.behind; binds = bs }) ≤ 64 → whole ≡ got (some (record { cons = f.behind; binds = bs }))
+      unfolding leads firstStep taken performed perform
+      done-first i e few flat = f.decides ∙ rw (none-before i, e) (kept (record { cons = f.behind; binds = bs }) few flat)
 
       -- it is refused
       pub stops : {k : ℕ} → trySatisfy (numbers pool table) bounded c ≡ refused k → whole ≡ refused k

@@ -1,7 +1,7 @@
 -- A state that was written stands there.
-use Rattle.std.specs.Prelude.{◌≡◌, refl, true, List, ◌++◌, ℕ, ◌+◌, ◌*◌, ◌≤◌, ◌<◌, min, length, Ok, Err, Some}
+use Rattle.std.specs.Prelude.{◌≡◌, refl, true, List, ◌++◌, ℕ, ◌+◌, ◌*◌, ◌≤◌, ◌<◌, min, length, Result, Ok, Err, Some}
 use Rattle.std.proofs.Common.{arith, ap, sym, subst, ◌∙◌, length-append}
-use Rattle.std.proofs.Math.Option.{Option, some}
+use Rattle.std.proofs.Math.Option.{Option, none, some}
 use Rattle.std.proofs.lemmas.List.Edits.{sets}
 use Rattle.std.proofs.Math.Seq.{length-sets}
 use Rattle.rules.specs.Base.{Got, got, refused, all, collect, sum_of}
@@ -22,9 +22,10 @@ use Rattle.types.specs.declared.writer.Writer.{Writer}
 use Rattle.types.specs.Binds.{IsBinds}
 use Rattle.types.specs.Sets.{IsCons}
 use Rattle.types.specs.Written.{last, Writes, writes-then}
+use Rattle.solve_round.specs.declared.After.{After}
 use Rattle.solve_round.specs.declared.Ends.{Ends}
 use Rattle.solve_round.specs.declared.Others.{Others}
-use Rattle.solve_round.specs.States.{SoundSet, Turn, Turned}
+use Rattle.solve_round.specs.States.{Rounded, RoundLeft, Stands, TurnLeft, SoundSet, Turn, Turned, written}
 use Rattle.solve_round.specs.Parts.{appends, keeps, Limited, others, SoundOthers, Made, Next}
 use Rattle.solve_round.proofs.Limits.{kept, long, deep, size-is, depth-is, sound-both, sum_both}
 
@@ -176,3 +177,19 @@ pub next-stops : {pool table : List ℕ} {w w' : Writer} {k : Refusal} {R : Got 
     → R ≡ refused (number_of k)
     → Next pool table w w' (Err k) R
 next-stops s e = record { same = s; turned = turned-as e (record { says = refl }) }
+
+-- ══ What a round leaves ══
+
+module _ {pool table s w : List ℕ} where
+  pub rounded-as : {r : Result After Refusal} {R S : Got (Option (State ℕ))} → R ≡ S → Rounded pool table s w r S → Rounded pool table s w r R
+  rounded-as {r} e t = subst (Rounded pool table s w r) (sym e) t
+
+  -- what was written stands there
+  pub wrote : {r : Turn} {R : Got (Option (State ℕ))} → Turned pool table w r R → Rounded pool table s w (written r) R
+  wrote {r} {R} t = record { says = go R r t.says }
+    where
+      go : (R : Got (Option (State ℕ))) (r : Turn) → TurnLeft pool table w r R → RoundLeft pool table s w (written r) R
+      go (got (some st)) r h = subst (λ (x : Turn). Stands pool table s w (written x) st) (sym h.is) h.held
+      go (got none) r h = ap written h
+      go (refused k) (Ok o) h = absurd h
+      go (refused k) (Err x) h = h

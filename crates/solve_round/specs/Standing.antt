@@ -1,17 +1,20 @@
 -- What the functions of a round ask and leave, said of a name table and of places.
-use Rattle.std.specs.Prelude.{List, ℕ, ◌≤◌}
+use Rattle.std.specs.Prelude.{◌≡◌, List, ℕ, ◌≤◌, Result}
 use Rattle.std.proofs.Math.Option.{Option}
-use Rattle.rules.specs.Base.{Got, bounded, sum_of}
+use Rattle.rules.specs.Base.{Got, bounded}
 use Rattle.rules.specs.Rounds.{State, round}
-use Rattle.rules.specs.Trees.{Ty, Con, sizeCon}
+use Rattle.rules.specs.declared.Refusal.{Refusal}
+use Rattle.rules.specs.Trees.{Ty, Con}
 use Rattle.names.specs.declared.tables.NameTable.{NameTable}
 use Rattle.records.specs.Good.{numbers}
 use Rattle.solve_step.specs.declared.Step as code
 use Rattle.types.specs.declared.Bindings.{Bindings}
 use Rattle.types.specs.declared.Constraints.{Constraints}
-use Rattle.solve_round.specs.declared.Ends.{Ends}
+use Rattle.types.specs.declared.writer.Writer.{Writer}
+use Rattle.solve_round.specs.declared.After.{After}
 use Rattle.solve_round.specs.declared.Others.{Others}
-use Rattle.solve_round.specs.States.{StateHeld, SoundSet, SoundBinds, Turn, Turned}
+use Rattle.solve_round.specs.declared.Place.{Place}
+use Rattle.solve_round.specs.States.{StateHeld, SoundSet, SoundBinds, Rounded}
 use Rattle.solve_round.specs.Parts.{others, rebinds, Taken, performs}
 
 -- the state that constraints and bindings are
@@ -19,12 +22,16 @@ abbrev pub stateOf : Constraints → Bindings → State ℕ
 stateOf cs bs = record { cons = cs.trees.0; binds = bs.trees.0 }
 
 module _ (t : NameTable) where
-  -- a state at the front of a buffer, what a round leaves, and what the rules make of it
-  abbrev pub Standing : List ℕ → Ends → State ℕ → Type 0
-  Standing w e st = StateHeld t.pool.now t.table.now w e.constraints e.bindings st
+  -- a state in a buffer, what a round leaves, and what the rules make of it
+  abbrev pub Standing : List ℕ → Place → State ℕ → Type 0
+  Standing w p st = StateHeld t.pool.now t.table.now w p st
 
-  abbrev pub Turns : List ℕ → Turn → Got (Option (State ℕ)) → Type 0
-  Turns w r R = Turned t.pool.now t.table.now w r R
+  abbrev pub Rounds : List ℕ → List ℕ → Result After Refusal → Got (Option (State ℕ)) → Type 0
+  Rounds s w r R = Rounded t.pool.now t.table.now s w r R
+
+  pub record Took (s : List ℕ) (old new : Writer) (r : Result After Refusal) (R : Got (Option (State ℕ))) : Type 0 where
+    pub same : new.words.ghost_name ≡ old.words.ghost_name
+    pub rounded : Rounded t.pool.now t.table.now s new.words.now r R
 
   abbrev pub rounded : State ℕ → Got (Option (State ℕ))
   rounded st = round (numbers t.pool.now t.table.now) bounded st
@@ -33,7 +40,9 @@ module _ (t : NameTable) where
   pub record SoundState (cs : Constraints) (bs : Bindings) : Type 0 where
     pub cons : SoundSet t.pool.now t.table.now cs.trees.0
     pub binds : SoundBinds t.pool.now t.table.now bs.trees.0
-    pub short : sum_of sizeCon cs.trees.0 ≤ 2048
+    pub short : bs.end ≤ 2048
+    pub same : bs.words.now ≡ cs.words.now
+    pub joined : bs.at ≡ cs.end
 
   -- with a new binding put in
   abbrev pub rebound : Others → ℕ → Ty ℕ → Got (Option (State ℕ))

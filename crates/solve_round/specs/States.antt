@@ -10,11 +10,20 @@ use Rattle.rules.specs.declared.Refusal.{Refusal}
 use Rattle.records.specs.Good.{goodBinding, goodCon}
 use Rattle.types.specs.Binds.{IsBinds}
 use Rattle.types.specs.Sets.{IsCons}
+use Rattle.solve_round.specs.declared.After.{After}
+use Rattle.solve_round.specs.declared.After.TheVariants.{Nowhere, Read, Written}
 use Rattle.solve_round.specs.declared.Ends.{Ends}
+use Rattle.solve_round.specs.declared.Place.{Place}
 
 -- where the state ends after a round; or that no rule applies; or why the round stops
 abbrev pub Turn : Type 0
 Turn = Result (std.Option Ends) Refusal
+
+-- what was written stands at the front
+abbrev pub written : Turn → Result After Refusal
+written (Ok (Some ends)) = Ok (Written (record { start = 0; ends = ends }))
+written (Ok None) = Ok Nowhere
+written (Err r) = Err r
 
 -- a turn that stopped with this number
 abbrev pub Stops : Turn → ℕ → Type 0
@@ -31,19 +40,19 @@ module _ (pool table : List ℕ) where
     pub good : all (goodBinding pool table 0) bs ≡ true
     pub flat : max_of depthBinding bs ≤ 64
 
-  -- the constraints in the records 0 up to n, the bindings from n up to m
-  pub record StateHeld (w : List ℕ) (n m : ℕ) (st : State ℕ) : Type 0 where
-    pub cons : IsCons w 0 n st.cons
-    pub binds : IsBinds w n m st.binds
+  -- a state at a place
+  pub record StateHeld (w : List ℕ) (p : Place) (st : State ℕ) : Type 0 where
+    pub cons : IsCons w p.start p.ends.constraints st.cons
+    pub binds : IsBinds w p.ends.constraints p.ends.bindings st.binds
     pub sound_cons : SoundSet st.cons
     pub sound_binds : SoundBinds st.binds
-    pub short : m ≤ 2048
+    pub short : p.ends.bindings ≤ 2048
 
   -- a turn after which the buffer holds this state
   pub record Onward (w : List ℕ) (r : Turn) (st : State ℕ) : Type 0 where
     pub ends : Ends
     pub is : r ≡ Ok (Some ends)
-    pub held : StateHeld w ends.constraints ends.bindings st
+    pub held : StateHeld w (record { start = 0; ends = ends }) st
 
   -- what a round leaves in the buffer w. A refusal: its number, and nothing is said of the buffer
   abbrev pub TurnLeft : List ℕ → Turn → Got (Option (State ℕ)) → Type 0
@@ -54,3 +63,23 @@ module _ (pool table : List ℕ) where
   -- the same under a name that doesn't compute, so that a lemma's arguments are read off it
   pub record Turned (w : List ℕ) (r : Turn) (R : Got (Option (State ℕ))) : Type 0 where
     pub says : TurnLeft w r R
+
+  -- where the state after a round stands, in the buffer s that was read or in w
+  abbrev pub Stands : List ℕ → List ℕ → Result After Refusal → State ℕ → Type 0
+  Stands s w (Ok (Read p)) st = StateHeld s p st
+  Stands s w (Ok (Written p)) st = StateHeld w p st
+  Stands s w (Ok Nowhere) st = ⊥
+  Stands s w (Err r) st = ⊥
+
+  abbrev pub Refuses : Result After Refusal → ℕ → Type 0
+  Refuses (Ok a) k = ⊥
+  Refuses (Err r) k = number_of r ≡ k
+
+  -- what a round leaves
+  abbrev pub RoundLeft : List ℕ → List ℕ → Result After Refusal → Got (Option (State ℕ)) → Type 0
+  RoundLeft s w r (got (some st)) = Stands s w r st
+  RoundLeft s w r (got none) = r ≡ Ok Nowhere
+  RoundLeft s w r (refused k) = Refuses r k
+
+  pub record Rounded (s w : List ℕ) (r : Result After Refusal) (R : Got (Option (State ℕ))) : Type 0 where
+    pub says : RoundLeft s w r R

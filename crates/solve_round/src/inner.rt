@@ -3,14 +3,15 @@ ghost use Rattle.std.specs.Prelude.{◌≡◌, List, [], ◌∷◌, ℕ, ◌≤�
 ghost use Rattle.rules.specs.Rounds.{State};
 ghost use Rattle.rules.specs.Trees.{Ty, Con, ◌≔◌};
 ghost use Rattle.solve_round.specs.Parts.{appends, BoundTo, Known, keeps, leaf, Limited, Made, Next, Puts, SoundOthers, SoundSet};
-ghost use Rattle.solve_round.specs.Standing.{performed, rebound, rounded, SoundState, Standing, stateOf, TakenBy, Turns};
+ghost use Rattle.solve_round.specs.Standing.{performed, rebound, Rounds, rounded, SoundState, Standing, stateOf, TakenBy, Took};
+ghost use Rattle.solve_round.specs.States.{written};
 
-use super::{Ends, Others};
+use super::{After, Ends, Others, Place};
 use names::tables::NameTable;
-use replace_table::inner::fill;
 use replace::inner::constraints::{replace_bindings, replace_constraints};
 use replace::inner::flat::{bindings_flat, constraints_flat};
 use replace::substitution::Substitution;
+use replace_table::inner::fill;
 use rules::{NAMES, RECORDS, Refusal};
 use solve_step::Step;
 use solve_step::inner::try_satisfy;
@@ -196,31 +197,52 @@ fn perform(
     }
 }
 
-/// The first constraint to which a rule applies is taken, and the next state written.
+/// What was written stands at the front.
+fn written(made: Result<Option<Ends>, Refusal>) -> Result<After, Refusal>
+    ensures { result ≡ written made }
+{
+    match made {
+        Ok(Some(ends)) => Ok(After::Written(Place { start: 0, ends })),
+        Ok(None) => Ok(After::Nowhere),
+        Err(why) => Err(why),
+    }
+}
+
+/// The first constraint to which a rule applies is taken, and the next state written; but where the first of all is done with, the state stays where it is,
+/// and begins behind it.
 fn turn<'x>(
     names: NameTable,
     constraints: Constraints<'x>,
     bindings: Bindings<'x>,
     new: &mut [u32],
     out: &mut Writer,
-) -> Result<Option<Ends>, Refusal>
+) -> Result<After, Refusal>
     requires sound { SoundState names constraints bindings }
     requires new_room { 8192 ≤ length new.old }
     requires new_near { length new.old ≤ 4_000_000_000 }
     requires front { out.old.at ≡ 0 }
     requires room { 8192 ≤ length out.old.words.now }
     requires near { length out.old.words.now ≤ 4_000_000_000 }
-    ensures { Next names.entry.pool.now names.entry.table.now out.old out.new result (rounded names.entry (stateOf constraints.entry bindings.entry)) }
+    ensures { Took names.entry constraints.entry.words.now out.old out.new result (rounded names.entry (stateOf constraints.entry bindings.entry)) }
 {
     'search: for c in constraints {
         let step = try_satisfy(names, c, new, 0)?;
         let Step::Stuck = step else {
+            let at = c.end();
+            if c.at == constraints.at {
+                if let Step::Done = step {
+                    let ends = Ends {
+                        constraints: constraints.end,
+                        bindings: bindings.end,
+                    };
+                    return Ok(After::Read(Place { start: at, ends }));
+                }
+            }
             let before = Constraints {
                 words: constraints.words,
                 at: constraints.at,
                 end: c.at,
             };
-            let at = c.end();
             let behind = Constraints {
                 words: constraints.words,
                 at,
@@ -231,38 +253,38 @@ fn turn<'x>(
                 behind,
                 bindings,
             };
-            return perform(names, rest, step, new, out);
+            return written(perform(names, rest, step, new, out));
         };
     }
-    Ok(None)
+    Ok(After::Nowhere)
 }
 
-/// One round on the state that ends at `ends` in the list `state`: the state after it stands at the front of `next`, and it answers where that ends; nothing
-/// where no rule applies. A refusal says nothing of `next`. `new` is room for what one step makes.
+/// One round on the state that stands at `place` in the list `state`: the state after it stands there too, or at the front of `next`, and it answers where.
+/// A refusal says nothing of `next`. `new` is room for what one step makes.
 pub fn round(
     names: NameTable,
     state: &[u32],
-    ends: Ends,
+    place: Place,
     new: &mut [u32],
     next: &mut [u32],
-) -> Result<Option<Ends>, Refusal>
-    requires standing { (st : State ℕ) × Standing names state.now ends st }
+) -> Result<After, Refusal>
+    requires standing { (st : State ℕ) × Standing names state.now place st }
     requires state_near { length state.now ≤ 4_000_000_000 }
     requires new_room { 8192 ≤ length new.old }
     requires new_near { length new.old ≤ 4_000_000_000 }
     requires room { 8192 ≤ length next.old }
     requires near { length next.old ≤ 4_000_000_000 }
-    ensures { (st : State ℕ) → Standing names.entry state.now ends st → Turns names.entry next.new result (rounded names.entry st) }
+    ensures { (st : State ℕ) → Standing names.entry state.now place st → Rounds names.entry state.now next.new result (rounded names.entry st) }
 {
     let constraints = Constraints {
         words: state,
-        at: 0,
-        end: ends.constraints,
+        at: place.start,
+        end: place.ends.constraints,
     };
     let bindings = Bindings {
         words: state,
-        at: ends.constraints,
-        end: ends.bindings,
+        at: place.ends.constraints,
+        end: place.ends.bindings,
     };
     let mut out = Writer { words: next, at: 0 };
     turn(names, constraints, bindings, new, &mut out)

@@ -5,11 +5,26 @@ pub mod inner;
 
 use types::{Bindings, Constraints};
 
-/// Where a state ends, counted in records: its constraints stand at the front of a buffer, its bindings behind them.
+/// Where a state ends, counted in records: its constraints, and the bindings behind them.
 #[derive(Clone, Copy)]
 pub struct Ends {
     pub constraints: usize,
     pub bindings: usize,
+}
+
+/// Where a state stands in a buffer: its constraints begin at the record `start`.
+#[derive(Clone, Copy)]
+pub struct Place {
+    pub start: usize,
+    pub ends: Ends,
+}
+
+/// Where the state after a round stands: in the buffer that was read, or in the one that was written; or there is none, since no rule applies.
+#[derive(Clone, Copy)]
+pub enum After {
+    Read(Place),
+    Written(Place),
+    Nowhere,
 }
 
 /// A state except for the constraint that is taken: the constraints before it and behind it, and the bindings.

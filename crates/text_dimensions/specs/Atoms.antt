@@ -1,5 +1,5 @@
 -- What a factor is a power of: a mark, and its name, which is entered.
-use Rattle.std.specs.Prelude.{◌≡◌, refl, true, List, [], ℕ, ◌<◌, get_or, Err, None, Ok, Some}
+use Rattle.std.specs.Prelude.{◌≡◌, refl, true, List, [], ℕ, ◌<◌, get_or}
 use Rattle.std.proofs.Math.Path.{ap}
 use Rattle.std.proofs.Common.{arith, lt-ltb}
 use Rattle.rules.specs.Names.{Bytes}
@@ -12,7 +12,9 @@ use Rattle.rules.specs.WellFormed.{goodOpen}
 use Rattle.laws.specs.GoodProducts.{goodAtom}
 use Rattle.products.specs.Told.{heldIn}
 use Rattle.products.specs.Kinds.{Kind, variable, parameter, dimension, atomBy}
-use Rattle.text_grammar.specs.Points.{Reads, Any, marked, columnAt, in-turn, given, Point}
+use Rattle.text_grammar.specs.declared.inner.Point.TheVariants as point
+use Rattle.text_grammar.specs.declared.inner.Point.{Point}
+use Rattle.text_grammar.specs.Points.{Reads, Any, marked, columnAt, in-turn, given}
 use Rattle.text_grammar.specs.Factors.{byte_of, refusedFrom, markName, noAtom, atom, choose-this, atom-none}
 use Rattle.text_names.specs.Effects.{lent, Ready, kept_same, kept-last, Effect, maps, Halted, halted-on, Done, reads_on, ends-bad}
 use Rattle.text_names.specs.Inside.{inside-column}
@@ -93,9 +95,9 @@ module _ {line : Bytes} {p c a q : Point} {pool table pool' table' dst : List �
 module _ {line : Bytes} {p : Point} {pool table dst : List ℕ} {s : Stand} (ready : Ready line p pool table s) where
   refused-atom : (kind i : ℕ) (c : Point) → Reads line p atom Any (refusedFrom c) → Halted c s
       → Done line atom atomNamed (AtomTold table kind i) p (lent pool table dst s) (refusedFrom c) (lent pool table dst s)
-  refused-atom kind i (Ok (Some j)) y h = ends-bad atomNamed (kept_same ready.good ready.room) y
-  refused-atom kind i (Ok None) y h = reads_on atomNamed ready.good (λ k n e. h k n refl e) y
-  refused-atom kind i (Err q) y h = ends-bad atomNamed (kept_same ready.good ready.room) y
+  refused-atom kind i (point.At j) y h = ends-bad atomNamed (kept_same ready.good ready.room) y
+  refused-atom kind i point.Deep y h = reads_on atomNamed ready.good (λ k n e. h k n refl e) y
+  refused-atom kind i (point.Bad q) y h = ends-bad atomNamed (kept_same ready.good ready.room) y
 
   pub no-atom : (i : ℕ) {kind : ℕ} (c : Point) → KindFor (byte_of line c) kind → kind ≡ 0 → Reads line p column (λ (k : ℕ). k ≡ columnAt c) c
       → Done line atom atomNamed (AtomTold table 0 i) p (lent pool table dst s) (refusedFrom c) (lent pool table dst s)

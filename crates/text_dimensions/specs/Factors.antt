@@ -1,5 +1,5 @@
 -- Factors, multiplied from left to right while they are read.
-use Rattle.std.specs.Prelude.{◌≡◌, refl, Bool, true, false, List, [], ◌∷◌, Err, None, Ok, Some}
+use Rattle.std.specs.Prelude.{◌≡◌, refl, Bool, true, false, List, [], ◌∷◌, Err, Ok}
 use Rattle.std.proofs.Common.{sym, ◌∙◌, arith}
 use Rattle.std.proofs.Math.Path.{ap}
 use Prim.Native.Nat.{ℕ, zero, suc, ◌≤◌, ◌<◌}
@@ -17,7 +17,9 @@ use Rattle.exponents.specs.declared.Exponent.{Exponent}
 use Rattle.products.specs.Told.{Tree, productOf}
 use Rattle.products.specs.Held.{Well}
 use Rattle.products.specs.declared.Product.{Product}
-use Rattle.text_grammar.specs.Points.{Reads, PointIn, MarkRead, left_at, columnAt, beginsAt, in-turn, given, if-sign, if-no-sign, Point}
+use Rattle.text_grammar.specs.declared.inner.Point.TheVariants as point
+use Rattle.text_grammar.specs.declared.inner.Point.{Point}
+use Rattle.text_grammar.specs.Points.{Reads, PointIn, MarkRead, left_at, columnAt, beginsAt, in-turn, given, if-sign, if-no-sign}
 use Rattle.text_grammar.specs.Factors.{atom, powerThere, factorsThere, begun, left_there}
 use Rattle.text_names.specs.Stands.{place_of, Stand}
 use Rattle.text_names.specs.Effects.{Lent, lent, Ready, ready-next, Kept, kept_same, kept-last, kept_then, Effect, then, gives, Halted, halted-on, NotBad}
@@ -29,9 +31,9 @@ use Rattle.text_dimensions.specs.Powers.{powered, ExpTold}
 use Rattle.text_dimensions.specs.Times.{timesBy, ProductIs, HeldIf}
 
 abbrev pub is_at : Point → Bool
-is_at (Ok (Some i)) = true
-is_at (Ok None) = false
-is_at (Err q) = false
+is_at (point.At i) = true
+is_at point.Deep = false
+is_at (point.Bad q) = false
 
 -- factors are read and multiplied, whatever the buffer holds: the product is o then, and well formed
 abbrev pub ProductDone : {A : Type 0} → Bytes → Rule A → (A → Step Tree) → Point → List ℕ → List ℕ → Stand → Point → Product → List ℕ → List ℕ → Stand → Type 0
@@ -40,14 +42,14 @@ ProductDone line R f p pool table s r o pool' table' s' = (Well pool' table' o) 
 
 -- at a point that is no place in the line nothing is multiplied
 pub idle : {B : Type 0} {m : Step B} {T : B → List Rec → Type 0} {x : Lent} (q : Point) → false ≡ is_at q → Halted q x.stand → NotBad q → Effect m T x x
-idle (Ok (Some i)) e h n = let z : ◌≡◌ {A = ℕ} 0 1 = cc in absurd (omega arith)
-idle (Ok None) e h n = record { does = λ i j i' j' p q. absurd (h i j refl p); refuses = λ i j c r p q. absurd (h i j refl p) }
-idle (Err q) e h n = absurd n
+idle (point.At i) e h n = let z : ◌≡◌ {A = ℕ} 0 1 = cc in absurd (omega arith)
+idle point.Deep e h n = record { does = λ i j i' j' p q. absurd (h i j refl p); refuses = λ i j c r p q. absurd (h i j refl p) }
+idle (point.Bad q) e h n = absurd n
 
 pub at-fine : (q : Point) → true ≡ is_at q → NotBad q
-at-fine (Ok (Some i)) e = tt
-at-fine (Ok None) e = tt
-at-fine (Err q) e = let z : ◌≡◌ {A = ℕ} 0 1 = cc in omega arith
+at-fine (point.At i) e = tt
+at-fine point.Deep e = tt
+at-fine (point.Bad q) e = let z : ◌≡◌ {A = ℕ} 0 1 = cc in omega arith
 
 pub at-halted : {s : Stand} (q : Point) → true ≡ is_at q → Halted q s
 at-halted q e k n h p = let z : ◌≡◌ {A = Bool} true false = e ∙ ap is_at h in let y : ◌≡◌ {A = ℕ} 0 1 = cc in omega arith

@@ -1,5 +1,5 @@
 -- A factor's power: its worth, or 7 at its sign.
-use Rattle.std.specs.Prelude.{◌≡◌, Bool, true, false, List, [], ℕ, suc, ◌≤◌, ◌<◌, leb, pos, Result, Err, None, Ok, Some}
+use Rattle.std.specs.Prelude.{◌≡◌, Bool, true, false, List, [], ℕ, suc, ◌≤◌, ◌<◌, leb, pos, Result, Err, Ok}
 use Rattle.std.proofs.Math.Path.{refl}
 use Rattle.std.proofs.Common.{sym, ap, ◌∙◌, arith, leb-true, leb-false}
 use Rattle.rules.specs.Base.{Got, got, refused}
@@ -16,7 +16,9 @@ use Rattle.laws.specs.Fractions.{lowest-neg}
 use Rattle.exponents.specs.Answers.{expOf}
 use Rattle.exponents.specs.declared.Exponent.{Exponent}
 use Rattle.text_scan.specs.Scanned.{place_in}
-use Rattle.text_grammar.specs.Points.{Reads, from, standing, beginsAt, columnAt, given, if-sign, if-no-sign, Point}
+use Rattle.text_grammar.specs.declared.inner.Point.TheVariants as point
+use Rattle.text_grammar.specs.declared.inner.Point.{Point}
+use Rattle.text_grammar.specs.Points.{Reads, from, standing, beginsAt, columnAt, given, if-sign, if-no-sign}
 use Rattle.text_grammar.specs.Powers.{Typed, minusThere, denominatorThere}
 use Rattle.text_grammar.specs.Values.{value_of, typed-value, value-large, value-zero, value-under, value_there, lowest-good}
 use Rattle.text_grammar.specs.Factors.{powerThere}
@@ -114,20 +116,20 @@ record ReadTo {A : Type 0} (line : Bytes) (q : Point) (v : A) : Type 0 where
   is : standing line q v ≡ read v place
 
 read-to : {A : Type 0} (line : Bytes) (q : Point) (v : A) → NotBad q → ReadTo line q v
-read-to line (Ok (Some j)) v n = record { place = place_in line j; is = refl }
-read-to line (Ok None) v n = record { place = beyond; is = refl }
-read-to line (Err j) v n = absurd n
+read-to line (point.At j) v n = record { place = place_in line j; is = refl }
+read-to line point.Deep v n = record { place = beyond; is = refl }
+read-to line (point.Bad j) v n = absurd n
 
 -- the next sign of a line that is not refused stands in it
 sign-fine : {line : Bytes} {p c : Point} {P : ℕ → Type 0} → Reads line p column P c → NotBad p → NotBad c
 sign-fine {line} {p} {c} x = go p c x.is
   where
     go : (p c : Point) → from line p column ≡ standing line c x.value → NotBad p → NotBad c
-    go p (Ok (Some i)) e n = tt
-    go p (Ok None) e n = tt
-    go (Ok (Some i)) (Err j) e n = let z : ◌≡◌ {A = ℕ} 0 1 = cc in omega arith
-    go (Ok None) (Err j) e n = let z : ◌≡◌ {A = ℕ} 0 1 = cc in omega arith
-    go (Err i) (Err j) e n = n
+    go p (point.At i) e n = tt
+    go p point.Deep e n = tt
+    go (point.At i) (point.Bad j) e n = let z : ◌≡◌ {A = ℕ} 0 1 = cc in omega arith
+    go point.Deep (point.Bad j) e n = let z : ◌≡◌ {A = ℕ} 0 1 = cc in omega arith
+    go (point.Bad i) (point.Bad j) e n = n
 
 power-sign : {line : Bytes} {p c q : Point} {P : PowerAt → Type 0} (x : Reads line p column (λ (k : ℕ). k ≡ columnAt c) c) (y : Reads line p power P q)
     → NotBad q → y.value.column ≡ columnAt c
@@ -144,9 +146,9 @@ power-sign {line} {p} {c} {q} x y n = go p x.is y.is (not-bad y n) ∙ x.holds
         ∙ cc
 
     go : (p : Point) → from line p column ≡ standing line c x.value → from line p power ≡ standing line q y.value → NotBad p → y.value.column ≡ x.value
-    go (Ok (Some i)) e f m = at (place_in line i) e f
-    go (Ok None) e f m = at beyond e f
-    go (Err i) e f m = absurd m
+    go (point.At i) e f m = at (place_in line i) e f
+    go point.Deep e f m = at beyond e f
+    go (point.Bad i) e f m = absurd m
 
 -- ══ A power, read and valued ══
 

@@ -1,5 +1,5 @@
 -- A dimension: its record and those of the factors that are left, counted and written.
-use Rattle.std.specs.Prelude.{◌≡◌, refl, List, [], Err, None, Ok, Some}
+use Rattle.std.specs.Prelude.{◌≡◌, refl, List, [], Err, Ok}
 use Rattle.std.proofs.Common.{sym, ◌∙◌, arith}
 use Rattle.std.proofs.Math.Path.{ap}
 use Prim.Native.Nat.{ℕ, suc, ◌*◌}
@@ -16,7 +16,9 @@ use Rattle.rules.specs.TextReading as TextReading
 use Rattle.rules.specs.declared.Refusal.{Refusal}
 use Rattle.products.specs.Told.{Tree, productOf}
 use Rattle.products.specs.declared.Product.{Product}
-use Rattle.text_grammar.specs.Points.{Reads, Any, marked, columnAt, in-turn, given, Point}
+use Rattle.text_grammar.specs.declared.inner.Point.TheVariants as point
+use Rattle.text_grammar.specs.declared.inner.Point.{Point}
+use Rattle.text_grammar.specs.Points.{Reads, Any, marked, columnAt, in-turn, given}
 use Rattle.text_grammar.specs.Factors.{factorsThere}
 use Rattle.text_names.specs.Stands.{place_of, countOf, same-refused, Stand}
 use Rattle.text_names.specs.Effects.{Lent, lent, sofar, counted-going, counted-refused, Ready, Kept, kept_then, kept-last, kept-written, kept-count}
@@ -48,9 +50,9 @@ told_same {s} {r} {r'} {d} {d'} e f = let w = same-refused e f in rw (w.0, w.1)
 
 -- the column of a sign where the sheet goes on
 sign-place : {k : ℕ} {s : Stand} (c : Point) → k ≡ columnAt c → NotBad c → Halted c s → (i n : ℕ) → s ≡ stand.Going i n → k ≡ suc (place_of c)
-sign-place (Ok (Some j)) e b h i n f = e
-sign-place (Ok None) e b h i n f = absurd (h i n refl f)
-sign-place (Err j) e b h i n f = absurd b
+sign-place (point.At j) e b h i n f = e
+sign-place point.Deep e b h i n f = absurd (h i n refl f)
+sign-place (point.Bad j) e b h i n f = absurd b
 
 pub written-length : (t : Tree) → length (writeProduct t) ≡ suc (length t)
 unfolding writeProduct

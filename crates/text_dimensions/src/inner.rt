@@ -22,9 +22,9 @@ use exponents::Exponent;
 use names::tables::NameTable;
 use products::inner::multiplied;
 use products::{Factor, Product};
+use rules::Refusal;
 use text_grammar::inner::{byte_at, mark, next_is, next_sign, read_power, refuse};
 use text_grammar::power_value;
-use rules::Refusal;
 use text_names::inner::naming::read_named;
 use text_names::inner::{At, Reached, Stand, place_of};
 

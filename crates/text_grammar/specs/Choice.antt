@@ -1,5 +1,5 @@
 -- Which rule a type's first byte decides on.
-use Rattle.std.specs.Prelude.{◌≡◌, refl, Bool, true, false, ◌||◌, List, [], ◌∷◌, map, ℕ, zero, suc, ◌<◌, eqb, None, Ok, Some}
+use Rattle.std.specs.Prelude.{◌≡◌, refl, Bool, true, false, ◌||◌, List, [], ◌∷◌, map, ℕ, zero, suc, ◌<◌, eqb}
 use Rattle.std.proofs.Common.{sym, ap, ◌∙◌, true≢false, arith}
 use Prim.Native.Char.{Char, code}
 use Rattle.std.proofs.lemmas.Bool.{eqb-false}
@@ -7,8 +7,10 @@ use Rattle.rules.specs.Names.{Bytes}
 use Rattle.rules.specs.Trees.{var, par, boolean, string, datetime}
 use Rattle.rules.specs.Grammar.{here, bad, Rule, column, columnOf, pick, chosen, TyAt, deepAt, opened, dimension, keyword, function, listed}
 use Rattle.rules.specs.Grammar.{structure, types, type, tooDeep, deepTypes}
-use Rattle.text_grammar.specs.Points.{Reads, columnAt, in-turn, Point}
+use Rattle.text_grammar.specs.declared.inner.Point.{Point}
+use Rattle.text_grammar.specs.Points.{Reads, columnAt, in-turn}
 use Rattle.text_grammar.specs.Factors.{byte_of, refusedFrom, pick_other, choose-this, choose-none}
+use Rattle.text_grammar.specs.declared.inner.Point.TheVariants as point
 
 -- the rules for a type whose inside is nested at most d deep
 abbrev pub ruled : ℕ → Rule TyAt
@@ -117,11 +119,11 @@ head-some zero e = absurd (true≢false (sym e))
 head-some (suc b) e = omega arith
 
 -- where a type begins that is nested too deep, nothing behind it is looked at
-pub deep-there : {P : TyAt → Type 0} {line : Bytes} {i : ℕ} → among (byte_of line (Ok (Some i))) heads ≡ true → P (deepAt (suc i))
-    → Reads line (Ok (Some i)) deepRuled P (Ok None)
+pub deep-there : {P : TyAt → Type 0} {line : Bytes} {i : ℕ} → among (byte_of line (point.At i)) heads ≡ true → P (deepAt (suc i))
+    → Reads line (point.At i) deepRuled P point.Deep
 deep-there {P} {line} {i} e h =
-    choose-this (deepAt 0) deepTypes no-deep tooDeep (byte_of line (Ok (Some i))) (head-some (byte_of line (Ok (Some i))) e) refl
-    (deep-pick (byte_of line (Ok (Some i))) heads e)
+    choose-this (deepAt 0) deepTypes no-deep tooDeep (byte_of line (point.At i)) (head-some (byte_of line (point.At i)) e) refl
+    (deep-pick (byte_of line (point.At i)) heads e)
     (record { within = tt; onward = omega arith; value = deepAt (suc i); is = refl; holds = h })
 
 pub deep_none : {P : TyAt → Type 0} {line : Bytes} {s : Point} → among (byte_of line s) heads ≡ false → P (deepAt 0) → Reads line s deepRuled P (refusedFrom s)

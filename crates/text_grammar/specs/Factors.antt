@@ -1,5 +1,5 @@
 -- Names, factors and dimensions from point to point.
-use Rattle.std.specs.Prelude.{◌≡◌, refl, Bool, true, false, leb, length, drop, get_or, Err, None, Ok, Some}
+use Rattle.std.specs.Prelude.{◌≡◌, refl, Bool, true, false, leb, length, drop, get_or}
 use Rattle.std.proofs.Common.{sym, ap, ◌∙◌, true≢false, arith, ne_eqb, leb-true, leb-false, drop_of_length-le, length-drop, drop-cons}
 use mathlib.Core.List.{List, [], ◌∷◌}
 use Prim.Native.Nat.{ℕ, suc, ◌-◌, ◌≤◌, ◌<◌}
@@ -11,14 +11,16 @@ use Rattle.rules.specs.Grammar.{choose, NameAt, name, PowerAt, power, noPower, F
 use Rattle.rules.specs.Grammar.{◌>>◌}
 use Rattle.text_scan.specs.Scanned.{place_in, nameIn}
 use Rattle.text_scan.specs.Names.{NameRead}
-use Rattle.text_grammar.specs.Points.{Reads, PointIn, Any, marked, left_at, columnAt, from, begins, beginsAt, in-turn, Point}
+use Rattle.text_grammar.specs.declared.inner.Point.TheVariants as point
+use Rattle.text_grammar.specs.declared.inner.Point.{Point}
+use Rattle.text_grammar.specs.Points.{Reads, PointIn, Any, marked, left_at, columnAt, from, begins, beginsAt, in-turn}
 
 -- ══ Names ══
 
 abbrev pub noName : NameAt
 noName = record { column = 0; bytes = [] }
 
-pub name-there : {line : Bytes} {at i k : ℕ} {d d' : List ℕ} → NameRead line at i k d d' → Reads line (Ok (Some at)) name Any (Ok (Some i))
+pub name-there : {line : Bytes} {at i k : ℕ} {d d' : List ℕ} → NameRead line at i k d d' → Reads line (point.At at) name Any (point.At i)
 unfolding name
 name-there {line} {at} r = record {
   within = r.within;
@@ -28,7 +30,7 @@ name-there {line} {at} r = record {
   holds = tt;
 }
 
-pub name-bad : {line : Bytes} {at q : ℕ} → nameIn line at ≡ bad (suc q) → Reads line (Ok (Some at)) name Any (Err q)
+pub name-bad : {line : Bytes} {at q : ℕ} → nameIn line at ≡ bad (suc q) → Reads line (point.At at) name Any (point.Bad q)
 unfolding name
 name-bad e = record { within = tt; onward = omega arith; value = noName; is = rw e; holds = tt }
 
@@ -44,21 +46,21 @@ first_byte [] = 0
 first_byte (b ∷ bs) = b
 
 abbrev pub byte_of : Bytes → Point → ℕ
-byte_of line (Ok (Some i)) = first_byte (drop i line)
-byte_of line (Ok None) = 0
-byte_of line (Err q) = 0
+byte_of line (point.At i) = first_byte (drop i line)
+byte_of line point.Deep = 0
+byte_of line (point.Bad q) = 0
 
-pub byte-there : (line : Bytes) (i : ℕ) → i < length line → get_or line i 0 ≡ byte_of line (Ok (Some i))
+pub byte-there : (line : Bytes) (i : ℕ) → i < length line → get_or line i 0 ≡ byte_of line (point.At i)
 byte-there line i h = rw (drop-cons line i 0 h)
 
-pub byte-end : (line : Bytes) (i : ℕ) → length line ≤ i → 0 ≡ byte_of line (Ok (Some i))
+pub byte-end : (line : Bytes) (i : ℕ) → length line ≤ i → 0 ≡ byte_of line (point.At i)
 byte-end line i h = rw (drop_of_length-le line {i = i} h)
 
 -- no rule fits here
 abbrev pub refusedFrom : Point → Point
-refusedFrom (Ok (Some i)) = Err i
-refusedFrom (Ok None) = (Ok None)
-refusedFrom (Err q) = Err q
+refusedFrom (point.At i) = point.Bad i
+refusedFrom point.Deep = point.Deep
+refusedFrom (point.Bad q) = point.Bad q
 
 -- a rule for another byte is passed over
 pub pick_other : {A : Type 0} (b : ℕ) (x : Char × Rule A) (xs : List (Char × Rule A)) → (b ≡ code x.0 → ⊥) → pick b (x ∷ xs) ≡ pick b xs
@@ -70,10 +72,10 @@ module _ {A : Type 0} (a : A) (xs : List (Char × Rule A)) (nothing : (c : ℕ) 
   chosen-byte c (b ∷ bs) = refl
 
   from-chosen : (line : Bytes) (R : Rule A) (k : ℕ) (s : Point) → 0 < k → byte_of line s ≡ k → pick k xs ≡ R → from line s (chosen a xs) ≡ from line s R
-  from-chosen line R k (Ok (Some i)) h e f = chosen-byte (suc i) (drop i line) ∙ ap (λ (b : ℕ). pick b xs (place_in line i)) e
+  from-chosen line R k (point.At i) h e f = chosen-byte (suc i) (drop i line) ∙ ap (λ (b : ℕ). pick b xs (place_in line i)) e
       ∙ ap (λ (r : Rule A). r (place_in line i)) f
-  from-chosen line R k (Ok None) h e f = absurd (omega arith)
-  from-chosen line R k (Err q) h e f = refl
+  from-chosen line R k point.Deep h e f = absurd (omega arith)
+  from-chosen line R k (point.Bad q) h e f = refl
 
   pub choose-this : {P : A → Type 0} {line : Bytes} {s r : Point} (R : Rule A) (k : ℕ) → 0 < k → byte_of line s ≡ k → pick k xs ≡ R → Reads line s R P r
       → Reads line s (chosen a xs) P r
@@ -88,7 +90,7 @@ module _ {A : Type 0} (a : A) (xs : List (Char × Rule A)) (nothing : (c : ℕ) 
 
   pub choose-none : {P : A → Type 0} (line : Bytes) (s : Point) → ((p : Place) → pick (byte_of line s) xs p ≡ bad (columnOf p)) → P a
       → Reads line s (chosen a xs) P (refusedFrom s)
-  choose-none line (Ok (Some i)) f h = record {
+  choose-none line (point.At i) f h = record {
     within = tt;
     onward = omega arith;
     value = a;
@@ -96,8 +98,8 @@ module _ {A : Type 0} (a : A) (xs : List (Char × Rule A)) (nothing : (c : ℕ) 
         ∙ f (place_in line i);
     holds = h;
   }
-  choose-none line (Ok None) f h = record { within = tt; onward = omega arith; value = a; is = refl; holds = h }
-  choose-none line (Err q) f h = record { within = tt; onward = omega arith; value = a; is = refl; holds = h }
+  choose-none line point.Deep f h = record { within = tt; onward = omega arith; value = a; is = refl; holds = h }
+  choose-none line (point.Bad q) f h = record { within = tt; onward = omega arith; value = a; is = refl; holds = h }
 
 -- ══ Factors ══
 
@@ -139,24 +141,24 @@ nothing-begins line i b h = rw (drop_of_length-le line {i = i} h)
 
 -- what begins with a byte has a byte left
 pub begun : (line : Bytes) (b : ℕ) (p : Point) → PointIn line p → true ≡ beginsAt line p b → 0 < left_at line p
-begun line b (Ok (Some i)) h e = go (leb (length line) i) refl
+begun line b (point.At i) h e = go (leb (length line) i) refl
   where
     go : (t : Bool) → leb (length line) i ≡ t → 0 < length line - i
     go true q = absurd (true≢false (e ∙ nothing-begins line i b (leb-true (length line) i q)))
     go false q = omega (arith, leb-false (length line) i q)
-begun line b (Ok None) h e = absurd (true≢false e)
-begun line b (Err q) h e = absurd (true≢false e)
+begun line b point.Deep h e = absurd (true≢false e)
+begun line b (point.Bad q) h e = absurd (true≢false e)
 
 pub left_there : (line : Bytes) (p : Point) → PointIn line p → Reads line p left (λ (n : ℕ). left_at line p ≤ n) p
-left_there line (Ok (Some i)) h = record {
+left_there line (point.At i) h = record {
   within = h;
   onward = omega arith;
   value = length (drop i line);
   is = refl;
   holds = omega (arith, length-drop i line);
 }
-left_there line (Ok None) h = record { within = tt; onward = omega arith; value = 0; is = refl; holds = omega arith }
-left_there line (Err q) h = record { within = tt; onward = omega arith; value = 0; is = refl; holds = omega arith }
+left_there line point.Deep h = record { within = tt; onward = omega arith; value = 0; is = refl; holds = omega arith }
+left_there line (point.Bad q) h = record { within = tt; onward = omega arith; value = 0; is = refl; holds = omega arith }
 
 -- '[ factor { "*" factor } ]'
 abbrev pub factorsThere : Rule (List FactorAt)

@@ -1,5 +1,5 @@
 -- A rule of the grammar from a point of a line on, and what it reads.
-use Rattle.std.specs.Prelude.{◌≡◌, Bool, true, false, [], ◌∷◌, ℕ, suc, ◌+◌, ◌-◌, ◌≤◌, ◌<◌, min, eqb, length, get_or, Err, None, Ok, Option, Result, Some}
+use Rattle.std.specs.Prelude.{◌≡◌, Bool, true, false, [], ◌∷◌, ℕ, suc, ◌+◌, ◌-◌, ◌≤◌, ◌<◌, min, eqb, length, get_or}
 use Rattle.std.proofs.Math.Path.{refl, sym}
 use Rattle.std.proofs.Common.{ap, ◌∙◌, true≢false, add-one, arith, eq-eqb, ne_eqb, drop_of_length-le, drop-cons}
 use Prim.Native.Char.{Char, code}
@@ -7,33 +7,31 @@ use Rattle.rules.specs.Names.{Bytes}
 use Rattle.rules.specs.Grammar.{Place, here, beyond, Parsed, read, bad, Rule, pass, give, skip, spell, spellFrom, starts, ifSign, column, digits, digitsAt}
 use Rattle.text_scan.specs.Scanned.{place_in, Skipped}
 use Rattle.text_scan.specs.Numbers.{NumberRead}
-
--- how far a line is read: to a place, to a type nested 65 deep, or to the byte that fits nothing
-abbrev pub Point : Type 0
-Point = Result (Option ℕ) ℕ
+use Rattle.text_grammar.specs.declared.inner.Point.{Point}
+use Rattle.text_grammar.specs.declared.inner.Point.TheVariants as point
 
 -- a value read up to a point; nothing where the line is refused
 abbrev pub standing : {A : Type 0} → Bytes → Point → A → Parsed A
-standing line (Ok (Some i)) a = read a (place_in line i)
-standing line (Ok None) a = read a beyond
-standing line (Err q) a = bad (suc q)
+standing line (point.At i) a = read a (place_in line i)
+standing line point.Deep a = read a beyond
+standing line (point.Bad q) a = bad (suc q)
 
 -- a rule from a point on
 abbrev pub from : {A : Type 0} → Bytes → Point → Rule A → Parsed A
-from line (Ok (Some i)) R = R (place_in line i)
-from line (Ok None) R = R beyond
-from line (Err q) R = bad (suc q)
+from line (point.At i) R = R (place_in line i)
+from line point.Deep R = R beyond
+from line (point.Bad q) R = bad (suc q)
 
 abbrev pub PointIn : Bytes → Point → Type 0
-PointIn line (Ok (Some i)) = i ≤ length line
-PointIn line (Ok None) = Unit {0}
-PointIn line (Err q) = Unit {0}
+PointIn line (point.At i) = i ≤ length line
+PointIn line point.Deep = Unit {0}
+PointIn line (point.Bad q) = Unit {0}
 
 -- how many bytes are left at a point
 abbrev pub left_at : Bytes → Point → ℕ
-left_at line (Ok (Some i)) = length line - i
-left_at line (Ok None) = 0
-left_at line (Err q) = 0
+left_at line (point.At i) = length line - i
+left_at line point.Deep = 0
+left_at line (point.Bad q) = 0
 
 -- a rule goes from a point p to a point r, and its value, if there is one, is told
 pub record Reads {A : Type 0} (line : Bytes) (p : Point) (R : Rule A) (P : A → Type 0) (r : Point) : Type 0 where
@@ -55,14 +53,14 @@ Capped n v = n ≡ min v 2147483648
 -- ══ Rules in turn ══
 
 pass-standing : {A B : Type 0} (line : Bytes) (w : Point) (v : A) (K : A → Rule B) → pass (standing line w v) K ≡ from line w (K v)
-pass-standing line (Ok (Some i)) v K = refl
-pass-standing line (Ok None) v K = refl
-pass-standing line (Err q) v K = refl
+pass-standing line (point.At i) v K = refl
+pass-standing line point.Deep v K = refl
+pass-standing line (point.Bad q) v K = refl
 
 from_then : {A B : Type 0} (line : Bytes) (p : Point) (R : Rule A) (K : A → Rule B) → from line p (λ x. pass (R x) K) ≡ pass (from line p R) K
-from_then line (Ok (Some i)) R K = refl
-from_then line (Ok None) R K = refl
-from_then line (Err q) R K = refl
+from_then line (point.At i) R K = refl
+from_then line point.Deep R K = refl
+from_then line (point.Bad q) R K = refl
 
 -- a rule, and then another by what was read
 pub in-turn : {A B : Type 0} {line : Bytes} {p w r : Point} {P : A → Type 0} {Q : B → Type 0} (R : Rule A) (K : A → Rule B)
@@ -78,9 +76,9 @@ in-turn {A} {B} {line} {p} {w} {r} {P} {Q} R K x k =
     }
 
 from-give : {A : Type 0} (line : Bytes) (w : Point) (a : A) → from line w (give a) ≡ standing line w a
-from-give line (Ok (Some i)) a = refl
-from-give line (Ok None) a = refl
-from-give line (Err q) a = refl
+from-give line (point.At i) a = refl
+from-give line point.Deep a = refl
+from-give line (point.Bad q) a = refl
 
 -- what is given without reading on
 pub given : {A : Type 0} {line : Bytes} {w : Point} {P : A → Type 0} (a : A) → PointIn line w → P a → Reads line w (give a) P w
@@ -94,9 +92,9 @@ marked b = λ p. spell (b ∷ []) (skip p)
 
 -- the column of a point
 abbrev pub columnAt : Point → ℕ
-columnAt (Ok (Some i)) = suc i
-columnAt (Ok None) = 0
-columnAt (Err q) = 0
+columnAt (point.At i) = suc i
+columnAt point.Deep = 0
+columnAt (point.Bad q) = 0
 
 -- the first byte at a place
 unfoldable pub begins : Place → ℕ → Bool
@@ -105,9 +103,9 @@ begins (here c (x ∷ xs)) b = eqb x b
 begins beyond b = false
 
 abbrev pub beginsAt : Bytes → Point → ℕ → Bool
-beginsAt line (Ok (Some i)) b = begins (skip (place_in line i)) b
-beginsAt line (Ok None) b = false
-beginsAt line (Err q) b = false
+beginsAt line (point.At i) b = begins (skip (place_in line i)) b
+beginsAt line point.Deep b = false
+beginsAt line (point.Bad q) b = false
 
 begins-starts : (x : Char) (p : Place) → starts x p ≡ begins p (code x)
 unfolding begins
@@ -141,15 +139,33 @@ spell-there line i b h e = rw (drop-cons line i 0 h, add-one i) (rw (eq-eqb (get
 
 -- ══ Single steps ══
 
--- behind a type nested 65 deep a rule passes
-pub passes : {A : Type 0} {P : A → Type 0} (line : Bytes) (R : Rule A) (a : A) → R beyond ≡ read a beyond → P a → Reads line (Ok None) R P (Ok None)
-passes line R a e h = record { within = tt; onward = omega arith; value = a; is = e; holds = h }
+-- no place was read to
+abbrev pub NotAt : Point → Type 0
+NotAt p = (i : ℕ) → p ≡ point.At i → ⊥
 
--- what was refused stays refused
-pub stays : {A : Type 0} {P : A → Type 0} (line : Bytes) (q : ℕ) (R : Rule A) (a : A) → P a → Reads line (Err q) R P (Err q)
-stays line q R a h = record { within = tt; onward = omega arith; value = a; is = refl; holds = h }
+-- behind a type nested 65 deep a rule passes, and what was refused stays refused
+pub stays : {A : Type 0} {P : A → Type 0} {line : Bytes} (p : Point) (R : Rule A) (a : A) → R beyond ≡ read a beyond → P a → NotAt p → Reads line p R P p
+stays (point.At i) R a e h n = absurd (n i refl)
+stays point.Deep R a e h n = record { within = tt; onward = omega arith; value = a; is = e; holds = h }
+stays (point.Bad q) R a e h n = record { within = tt; onward = omega arith; value = a; is = refl; holds = h }
 
-pub sign-there : {line : Bytes} {at i : ℕ} → Skipped line at i → Reads line (Ok (Some at)) column (λ (c : ℕ). c ≡ suc i) (Ok (Some i))
+-- there no byte is left, and no column is told
+pub none_left : (line : Bytes) (p : Point) → NotAt p → left_at line p ≡ 0
+none_left line (point.At i) n = absurd (n i refl)
+none_left line point.Deep n = refl
+none_left line (point.Bad q) n = refl
+
+pub no_column : (p : Point) → NotAt p → 0 ≡ columnAt p
+no_column (point.At i) n = absurd (n i refl)
+no_column point.Deep n = refl
+no_column (point.Bad q) n = refl
+
+pub none_begins : (line : Bytes) (p : Point) (b : ℕ) → NotAt p → false ≡ beginsAt line p b
+none_begins line (point.At i) b n = absurd (n i refl)
+none_begins line point.Deep b n = refl
+none_begins line (point.Bad q) b n = refl
+
+pub sign-there : {line : Bytes} {at i : ℕ} → Skipped line at i → Reads line (point.At at) column (λ (c : ℕ). c ≡ suc i) (point.At i)
 sign-there {line} {at} {i} s = record { within = s.within; onward = omega (arith, s.behind); value = suc i; is = rw (skip_is s); holds = refl }
 
 -- a sign of one byte: one byte less is left
@@ -158,19 +174,19 @@ pub record MarkRead (line : Bytes) (p : Point) (b : ℕ) (r : Point) : Type 0 wh
   pub less : left_at line r ≤ left_at line p - 1
 
 module _ {line : Bytes} {at i : ℕ} (b : ℕ) (s : Skipped line at i) where
-  pub mark-end : length line ≤ i → MarkRead line (Ok (Some at)) b (Err i)
+  pub mark-end : length line ≤ i → MarkRead line (point.At at) b (point.Bad i)
   mark-end h = record {
     reads = record { within = tt; onward = omega arith; value = tt; is = rw (skip_is s) (spell-end line i b h); holds = tt };
     less = omega arith;
   }
 
-  pub mark-other : i < length line → (get_or line i 0 ≡ b → ⊥) → MarkRead line (Ok (Some at)) b (Err i)
+  pub mark-other : i < length line → (get_or line i 0 ≡ b → ⊥) → MarkRead line (point.At at) b (point.Bad i)
   mark-other h e = record {
     reads = record { within = tt; onward = omega arith; value = tt; is = rw (skip_is s) (spell-other line i b h e); holds = tt };
     less = omega arith;
   }
 
-  pub mark-there : i < length line → get_or line i 0 ≡ b → MarkRead line (Ok (Some at)) b (Ok (Some (i + 1)))
+  pub mark-there : i < length line → get_or line i 0 ≡ b → MarkRead line (point.At at) b (point.At (i + 1))
   mark-there h e = record {
     reads = record {
       within = omega arith;
@@ -182,17 +198,17 @@ module _ {line : Bytes} {at i : ℕ} (b : ℕ) (s : Skipped line at i) where
     less = omega (arith, s.behind);
   }
 
-  pub begins-so : i < length line → eqb (get_or line i 0) b ≡ beginsAt line (Ok (Some at)) b
+  pub begins-so : i < length line → eqb (get_or line i 0) b ≡ beginsAt line (point.At at) b
   begins-so h = rw (skip_is s) (sym (begins-there line i b h))
 
-  pub begins-not : length line ≤ i → false ≡ beginsAt line (Ok (Some at)) b
+  pub begins-not : length line ≤ i → false ≡ beginsAt line (point.At at) b
   begins-not h = rw (skip_is s) (sym (begins-end line i b h))
 
 pub digits-there : {line : Bytes} {at i next n : ℕ} → Skipped line at i → NumberRead line i next n
-    → Reads line (Ok (Some at)) digits (Capped n) (Ok (Some next))
+    → Reads line (point.At at) digits (Capped n) (point.At next)
 digits-there s r = record { within = r.within; onward = omega (arith, r.behind, s.behind); value = r.value; is = rw (skip_is s) r.is; holds = r.capped }
 
-pub no-digits : {line : Bytes} {at i q : ℕ} → Skipped line at i → digitsAt (place_in line i) ≡ bad (suc q) → Reads line (Ok (Some at)) digits (Capped 0) (Err q)
+pub no-digits : {line : Bytes} {at i q : ℕ} → Skipped line at i → digitsAt (place_in line i) ≡ bad (suc q) → Reads line (point.At at) digits (Capped 0) (point.Bad q)
 no-digits s e = record { within = tt; onward = omega arith; value = 0; is = rw (skip_is s) e; holds = refl }
 
 pub marks-past : (b : ℕ) → marked b beyond ≡ read tt beyond
@@ -211,15 +227,15 @@ digits-past = refl
 
 module _ {A : Type 0} (line : Bytes) (x : Char) (R S : Rule A) where
   from-if : (p : Point) → true ≡ beginsAt line p (code x) → from line p (ifSign x R S) ≡ from line p R
-  from-if (Ok (Some i)) e = rw (begins-starts x (skip (place_in line i)), sym e)
-  from-if (Ok None) e = absurd (true≢false e)
-  from-if (Err q) e = absurd (true≢false e)
+  from-if (point.At i) e = rw (begins-starts x (skip (place_in line i)), sym e)
+  from-if point.Deep e = absurd (true≢false e)
+  from-if (point.Bad q) e = absurd (true≢false e)
 
   from-else : (p : Point) → false ≡ beginsAt line p (code x) → from line p (ifSign x R S) ≡ from line p S
   unfolding skip
-  from-else (Ok (Some i)) e = rw (begins-starts x (skip (place_in line i)), sym e)
-  from-else (Ok None) e = refl
-  from-else (Err q) e = refl
+  from-else (point.At i) e = rw (begins-starts x (skip (place_in line i)), sym e)
+  from-else point.Deep e = refl
+  from-else (point.Bad q) e = refl
 
 pub if-sign : {A : Type 0} {P : A → Type 0} {line : Bytes} {p r : Point} (x : Char) (R S : Rule A) → true ≡ beginsAt line p (code x) → Reads line p R P r
     → Reads line p (ifSign x R S) P r

@@ -3,7 +3,8 @@ use Rattle.std.specs.Prelude.{◌≡◌, refl, Bool, true, false, ℕ}
 use Rattle.std.proofs.Common.{sym, ap}
 use Rattle.rules.specs.Names.{Bytes}
 use Rattle.rules.specs.Grammar.{Rule, give, sign, ifSign, column, digits, PowerAt, signedBy, power, ◌>>=◌, ◌>>◌}
-use Rattle.text_grammar.specs.Points.{Reads, PointIn, Any, Same, Capped, marked, columnAt, beginsAt, in-turn, given, if-sign, if-no-sign, Point}
+use Rattle.text_grammar.specs.declared.inner.Point.{Point}
+use Rattle.text_grammar.specs.Points.{Reads, PointIn, Any, Same, Capped, marked, columnAt, beginsAt, in-turn, given, if-sign, if-no-sign}
 
 -- '[ "-" ]'
 abbrev pub minusThere : Rule Bool

@@ -1,5 +1,5 @@
 -- Signs of several bytes, and the types without a type inside.
-use Rattle.std.specs.Prelude.{◌≡◌, refl, Bool, true, false, [], ◌∷◌, ℕ, suc, ◌+◌, ◌≤◌, eqb, length, drop, Err, Ok, Some}
+use Rattle.std.specs.Prelude.{◌≡◌, refl, Bool, true, false, [], ◌∷◌, ℕ, suc, ◌+◌, ◌≤◌, eqb, length, drop}
 use Rattle.std.proofs.Common.{sym, arith}
 use Rattle.std.proofs.Math.ListN.{length-drop}
 use Rattle.rules.specs.Names.{Bytes}
@@ -8,6 +8,7 @@ use Rattle.rules.specs.Grammar.{Place, here, beyond, Parsed, read, bad, Rule, gi
 use Rattle.rules.specs.Grammar.{basicAt, ◌>>=◌, ◌>>◌}
 use Rattle.text_scan.specs.Scanned.{place_in, Skipped}
 use Rattle.text_grammar.specs.Points.{Reads, Any, marked, skip_is}
+use Rattle.text_grammar.specs.declared.inner.Point.TheVariants as point
 
 -- a sign's bytes, behind blanks
 abbrev pub spelled : Bytes → Rule (Unit {0})
@@ -33,7 +34,7 @@ spell-long (w ∷ ws) (b ∷ bs) c c' bs' e = go (eqb b w) e (spell-long ws bs (
     go false q f = absurd (bad≢read q)
 
 module _ {line : Bytes} (ws : Bytes) {at i : ℕ} (s : Skipped line at i) where
-  pub sign-spelt : {r : ℕ} → read tt (place_in line r) ≡ spellFrom ws (suc i) (drop i line) → Reads line (Ok (Some at)) (spelled ws) Any (Ok (Some r))
+  pub sign-spelt : {r : ℕ} → read tt (place_in line r) ≡ spellFrom ws (suc i) (drop i line) → Reads line (point.At at) (spelled ws) Any (point.At r)
   unfolding spell
   sign-spelt {r} e =
       let l = spell-long ws (drop i line) (suc i) (suc r) (drop r line) (sym e) in
@@ -45,7 +46,7 @@ module _ {line : Bytes} (ws : Bytes) {at i : ℕ} (s : Skipped line at i) where
         holds = tt;
       }
 
-  pub sign-bad : {q : ℕ} → bad (suc q) ≡ spellFrom ws (suc i) (drop i line) → Reads line (Ok (Some at)) (spelled ws) Any (Err q)
+  pub sign-bad : {q : ℕ} → bad (suc q) ≡ spellFrom ws (suc i) (drop i line) → Reads line (point.At at) (spelled ws) Any (point.Bad q)
   unfolding spell
   sign-bad e = record { within = tt; onward = omega arith; value = tt; is = rw (skip_is s) (sym e); holds = tt }
 

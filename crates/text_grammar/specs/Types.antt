@@ -1,5 +1,5 @@
 -- Types from point to point, whatever the rule for the types inside, and what is known of a type by what is known of its parts.
-use Rattle.std.specs.Prelude.{◌≡◌, refl, true, false, Err, None, Ok, Some}
+use Rattle.std.specs.Prelude.{◌≡◌, refl, true, false}
 use Rattle.std.proofs.Common.{◌∙◌, arith}
 use Prim.Native.Nat.{ℕ, zero, suc, ◌≤◌, ◌<◌}
 use Rattle.rules.specs.Names.{Bytes}
@@ -7,15 +7,17 @@ use Rattle.rules.specs.Grammar.{Place, beyond, Parsed, read, bad, pass, Rule, gi
 use Rattle.rules.specs.Grammar.{nilAt, consAt, FieldsAt, noneAt, field_at, fn_at, listAt, struct_at, moreTys, tys, function, listed, fieldName}
 use Rattle.rules.specs.Grammar.{moreFields, fields, structure, ◌>>=◌, ◌>>◌}
 use Rattle.text_scan.specs.Scanned.{place_in}
-use Rattle.text_grammar.specs.Points.{Reads, from, PointIn, MarkRead, Any, marked, left_at, columnAt, beginsAt, in-turn, given, if-sign, if-no-sign, Point}
+use Rattle.text_grammar.specs.declared.inner.Point.{Point}
+use Rattle.text_grammar.specs.Points.{Reads, from, PointIn, MarkRead, Any, marked, left_at, columnAt, beginsAt, in-turn, given, if-sign, if-no-sign}
 use Rattle.text_grammar.specs.Factors.{begun, left_there}
 use Rattle.text_grammar.specs.Signs.{spelled}
+use Rattle.text_grammar.specs.declared.inner.Point.TheVariants as point
 
 -- a rule that is the same everywhere reads the same
 from-same : {A : Type 0} {R S : Rule A} (line : Bytes) (p : Point) → ((q : Place) → R q ≡ S q) → from line p R ≡ from line p S
-from-same line (Ok (Some i)) f = f (place_in line i)
-from-same line (Ok None) f = f beyond
-from-same line (Err q) f = refl
+from-same line (point.At i) f = f (place_in line i)
+from-same line point.Deep f = f beyond
+from-same line (point.Bad q) f = refl
 
 same-rule : {A : Type 0} {P : A → Type 0} {R S : Rule A} {line : Bytes} {p r : Point} → ((q : Place) → R q ≡ S q) → Reads line p S P r → Reads line p R P r
 same-rule {A} {P} {R} {S} {line} {p} {r} f x = record { within = x.within; onward = x.onward; value = x.value; is = from-same line p f ∙ x.is; holds = x.holds }

@@ -1,5 +1,5 @@
 -- What a power is worth, by the numbers that the code has of it.
-use Rattle.text_grammar.specs.Points.{Point}
+use Rattle.text_grammar.specs.declared.inner.Point.{Point}
 use Rattle.std.specs.Prelude.{◌≡◌, refl, Bool, true, false, ◌&&◌, ℕ, zero, suc, ◌*◌, ◌/◌, ◌≤◌, ◌<◌, min, ℤ, pos, nat_abs}
 use Rattle.std.proofs.Common.{sym, ap, ap₂, ◌∙◌, mul-one, one-mul, div-le_self, mul-zero, arith}
 use Rattle.std.proofs.Math.Nat.{mul-div_cancel'}

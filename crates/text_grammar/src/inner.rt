@@ -12,9 +12,14 @@ use exponents::Exponent;
 use exponents::inner::quotient_of;
 use text_scan::inner::{scan_digits, scan_name, skip_blanks, spell};
 
-/// How far a line is read: to a place; to a type nested 65 deep (`None`), behind which nothing is looked at; or, refused, to the place of
-/// the first byte that fits nothing.
-pub type Point = Result<Option<usize>, usize>;
+/// How far a line is read: to a place; to a type nested 65 deep, behind which nothing is looked at; or, refused, to the place of the first
+/// byte that fits nothing.
+#[derive(Clone, Copy)]
+pub enum Point {
+    At(usize),
+    Deep,
+    Bad(usize),
+}
 
 /// Digits: where they end, and their number, in which 2,147,483,648 stands for all that is larger.
 #[derive(Clone, Copy)]
@@ -45,10 +50,10 @@ pub fn next_sign(line: &[u8], p: Point) -> Point
     requires { PointIn line.now p }
     ensures { Reads line.now p column (λ (c : ℕ). c ≡ columnAt result) result }
 {
-    match p? {
-        Some(at) => Ok(Some(skip_blanks(line, at))),
-        None => Ok(None),
-    }
+    let Point::At(at) = p else {
+        return p;
+    };
+    Point::At(skip_blanks(line, at))
 }
 
 /// Does the next sign begin with this byte?
@@ -56,13 +61,11 @@ pub fn next_is(line: &[u8], p: Point, b: u8) -> bool
     requires { PointIn line.now p }
     ensures { result ≡ beginsAt line.now p b }
 {
-    match p {
-        Ok(Some(at)) => {
-            let i = skip_blanks(line, at);
-            i < line.len() && line[i] == b
-        }
-        Ok(None) | Err(_) => false,
-    }
+    let Point::At(at) = p else {
+        return false;
+    };
+    let i = skip_blanks(line, at);
+    i < line.len() && line[i] == b
 }
 
 /// A sign of one byte.
@@ -70,17 +73,15 @@ pub fn mark(line: &[u8], p: Point, b: u8) -> Point
     requires { PointIn line.now p }
     ensures { MarkRead line.now p b result }
 {
-    let Some(at) = p? else {
-        return Ok(None);
+    let Point::At(at) = p else {
+        return p;
     };
     let i = skip_blanks(line, at);
-    if line.len() <= i {
-        return Err(i);
+    if i < line.len() && line[i] == b {
+        Point::At(i + 1)
+    } else {
+        Point::Bad(i)
     }
-    if line[i] != b {
-        return Err(i);
-    }
-    Ok(Some(i + 1))
 }
 
 /// A sign of several bytes, or a keyword.
@@ -88,11 +89,13 @@ pub fn sign(line: &[u8], p: Point, word: &[u8]) -> Point
     requires { PointIn line.now p }
     ensures { Reads line.now p (spelled word.now) Any result }
 {
-    let Some(at) = p? else {
-        return Ok(None);
+    let Point::At(at) = p else {
+        return p;
     };
-    let end = spell(line, skip_blanks(line, at), word)?;
-    Ok(Some(end))
+    match spell(line, skip_blanks(line, at), word) {
+        Ok(end) => Point::At(end),
+        Err(q) => Point::Bad(q),
+    }
 }
 
 /// The name that begins right here.
@@ -100,11 +103,13 @@ pub fn read_name(line: &[u8], p: Point) -> Point
     requires { PointIn line.now p }
     ensures { Reads line.now p name Any result }
 {
-    let Some(at) = p? else {
-        return Ok(None);
+    let Point::At(at) = p else {
+        return p;
     };
-    let name = scan_name(line, at, &mut [])?;
-    Ok(Some(name.end))
+    match scan_name(line, at, &mut []) {
+        Ok(name) => Point::At(name.end),
+        Err(q) => Point::Bad(q),
+    }
 }
 
 /// The byte at a point; 0 where there is none.
@@ -112,8 +117,8 @@ pub fn byte_at(line: &[u8], p: Point) -> u8
     ensures { result ≡ byte_of line.now p }
 {
     match p {
-        Ok(Some(i)) => { if i < line.len() { line[i] } else { 0 } }
-        Ok(None) | Err(_) => 0,
+        Point::At(i) if i < line.len() => line[i],
+        _ => 0,
     }
 }
 
@@ -121,9 +126,9 @@ pub fn byte_at(line: &[u8], p: Point) -> u8
 pub fn refuse(p: Point) -> Point
     ensures { result ≡ refusedFrom p }
 {
-    match p? {
-        Some(i) => Err(i),
-        None => Ok(None),
+    match p {
+        Point::At(i) => Point::Bad(i),
+        Point::Deep | Point::Bad(_) => p,
     }
 }
 
@@ -132,19 +137,18 @@ pub fn read_digits(line: &[u8], p: Point) -> Counted
     requires { PointIn line.now p }
     ensures { Reads line.now p digits (Capped result.number) result.end }
 {
-    match p {
-        Ok(Some(at)) => match scan_digits(line, skip_blanks(line, at)) {
-            Ok(n) => Counted {
-                end: Ok(Some(n.end)),
-                number: n.value,
-            },
-            Err(q) => Counted {
-                end: Err(q),
-                number: 0,
-            },
+    let Point::At(at) = p else {
+        return Counted { end: p, number: 0 };
+    };
+    match scan_digits(line, skip_blanks(line, at)) {
+        Ok(n) => Counted {
+            end: Point::At(n.end),
+            number: n.value,
         },
-        Ok(None) => Counted { end: p, number: 0 },
-        Err(_) => Counted { end: p, number: 0 },
+        Err(q) => Counted {
+            end: Point::Bad(q),
+            number: 0,
+        },
     }
 }
 

@@ -1,5 +1,5 @@
 -- Which types are dimensions, by their first byte.
-use Rattle.std.specs.Prelude.{◌≡◌, refl, Bool, true, false, List, [], ◌∷◌, ℕ, suc, eqb, Err, None, Ok, Some}
+use Rattle.std.specs.Prelude.{◌≡◌, refl, Bool, true, false, List, [], ◌∷◌, ℕ, suc, eqb}
 use Rattle.std.proofs.Common.{sym, ap, subst, ◌∙◌, arith, eqb-true}
 use Prim.Native.Char.{Char, code}
 use Rattle.rules.specs.Names.{Bytes}
@@ -8,7 +8,9 @@ use Rattle.rules.specs.Grammar.{Place, here, beyond, Parsed, read, bad, pass, Ru
 use Rattle.rules.specs.Grammar.{open_at, basicAt, dimAt, fn_at, listAt, struct_at, deepAt, opened, keyword, dimension, function, listed, structure}
 use Rattle.rules.specs.Grammar.{types, type, ◌>>=◌, ◌>>◌}
 use Rattle.text_scan.specs.Scanned.{place_in}
-use Rattle.text_grammar.specs.Points.{Reads, from, standing, begins, beginsAt, Point}
+use Rattle.text_grammar.specs.declared.inner.Point.TheVariants as point
+use Rattle.text_grammar.specs.declared.inner.Point.{Point}
+use Rattle.text_grammar.specs.Points.{Reads, from, standing, begins, beginsAt}
 use Rattle.text_grammar.specs.Types.{paramsThere, typesThere, fieldsThere}
 use Rattle.text_grammar.specs.Factors.{factorsThere}
 use Rattle.text_names.specs.Effects.{NotBad}
@@ -130,10 +132,10 @@ type-dimension {P} {line} {q} {r} d x = record { within = x.within; onward = x.o
   where
     go : (q r : Point) → from line q (λ p. chosen (deepAt 0) (types (type d)) (skip p)) ≡ standing line r x.value → NotBad r
         → isDimension x.value ≡ beginsAt line q 91
-    go (Ok (Some i)) (Ok (Some j)) e n = type-shape d (skip (place_in line i)) _ x.value e
-    go (Ok (Some i)) (Ok None) e n = type-shape d (skip (place_in line i)) _ x.value e
-    go (Ok None) (Ok (Some j)) e n = type-shape d beyond _ x.value e
-    go (Ok None) (Ok None) e n = type-shape d beyond _ x.value e
-    go (Err k) (Ok (Some j)) e n = let z : ◌≡◌ {A = ℕ} 0 1 = cc in absurd (omega arith)
-    go (Err k) (Ok None) e n = let z : ◌≡◌ {A = ℕ} 0 1 = cc in absurd (omega arith)
-    go q (Err j) e n = absurd n
+    go (point.At i) (point.At j) e n = type-shape d (skip (place_in line i)) _ x.value e
+    go (point.At i) point.Deep e n = type-shape d (skip (place_in line i)) _ x.value e
+    go point.Deep (point.At j) e n = type-shape d beyond _ x.value e
+    go point.Deep point.Deep e n = type-shape d beyond _ x.value e
+    go (point.Bad k) (point.At j) e n = let z : ◌≡◌ {A = ℕ} 0 1 = cc in absurd (omega arith)
+    go (point.Bad k) point.Deep e n = let z : ◌≡◌ {A = ℕ} 0 1 = cc in absurd (omega arith)
+    go q (point.Bad j) e n = absurd n

@@ -1,6 +1,6 @@
 -- A line by its parts: a constraint's record is counted at the line's first sign, and written when its types are there.
 use Rattle.std.proofs.Math.Path.{◌≡◌, ap, ap₂, subst}
-use Rattle.std.specs.Prelude.{refl, Bool, true, false, ℕ, suc, ◌+◌, ◌≤◌, ◌<◌, eqb, length, get_or, Err, None, Ok, Some}
+use Rattle.std.specs.Prelude.{refl, Bool, true, false, ℕ, suc, ◌+◌, ◌≤◌, ◌<◌, eqb, length, get_or, Err, Ok}
 use Rattle.std.proofs.Common.{sym, ◌∙◌, true≢false, arith, length-append, drop_of_length-le, drop-cons}
 use mathlib.Core.List.{List, [], ◌∷◌, ◌++◌, append-nil}
 use Rattle.std.proofs.Math.Option.{Option, none, some}
@@ -23,8 +23,10 @@ use Rattle.laws.specs.Size.{size-ty}
 use Rattle.records.specs.declared.View.{View}
 use Rattle.records.specs.declared.View.TheVariants as view
 use Rattle.text_scan.specs.Scanned.{place_in}
-use Rattle.text_grammar.specs.Points.{Reads, PointIn, Any, standing, marked, columnAt, beginsAt, in-turn, given, if-sign, if-no-sign, spell-end}
-use Rattle.text_grammar.specs.Points.{spell-other, spell-there, Point}
+use Rattle.text_grammar.specs.declared.inner.Point.TheVariants as point
+use Rattle.text_grammar.specs.Points.{NotAt, Reads, PointIn, Any, standing, marked, columnAt, beginsAt, in-turn, given, if-sign, if-no-sign, spell-end}
+use Rattle.text_grammar.specs.declared.inner.Point.{Point}
+use Rattle.text_grammar.specs.Points.{spell-other, spell-there}
 use Rattle.text_grammar.specs.Factors.{byte_of, refusedFrom, pick_other, choose-this, choose-none}
 use Rattle.text_grammar.specs.Signs.{spelled}
 use Rattle.text_names.specs.Stands.{place_of, headPut, same-refused, Stand}
@@ -165,9 +167,9 @@ says-scalar line q false e f = λ g. f
 
 -- a byte stands in the line
 byte-stands : (line : Bytes) (e : Point) {b : ℕ} → byte_of line e ≡ b → 0 < b → NotBad e
-byte-stands line (Ok (Some i)) f h = tt
-byte-stands line (Ok None) f h = tt
-byte-stands line (Err q) f h = absurd (omega arith)
+byte-stands line (point.At i) f h = tt
+byte-stands line point.Deep f h = tt
+byte-stands line (point.Bad q) f h = absurd (omega arith)
 
 -- where the sheet is refused, no record is written
 head-none : (v : View) (s r : Stand) (d : List ℕ) → ((k n : ℕ) → r ≡ stand.Going k n → ⊥) → d ≡ headPut v s r d
@@ -255,14 +257,14 @@ module _ {line : Bytes} {p q a e : Point} {x y : Lent} (h : Ready line p x.pool 
   past_effect : (e : Point) → Halted e y.stand → NotBad (refusedFrom e) → (c : ℕ) (l : TyAt) → c ≡ columnAt q → NotBad q
       → Effect (ty_of l) (Writes writeTy) (countedIn 1 (place_of q) x) y
       → Effect (conOf (isDimAt c l)) (Writes writeCon) x y
-  past_effect (Ok (Some i)) o n c l hc nq hl = absurd n
-  past_effect (Ok None) o n c l hc nq hl = dim-effect q hc nq hq l x2.kept hl y.dst (head-none view.IsDim x.stand y.stand y.dst (λ k m f. o k m refl f))
-  past_effect (Err i) o n c l hc nq hl = absurd n
+  past_effect (point.At i) o n c l hc nq hl = absurd n
+  past_effect point.Deep o n c l hc nq hl = dim-effect q hc nq hq l x2.kept hl y.dst (head-none view.IsDim x.stand y.stand y.dst (λ k m f. o k m refl f))
+  past_effect (point.Bad i) o n c l hc nq hl = absurd n
 
   refused-stands : (e : Point) → NotBad (refusedFrom e) → NotBad e
-  refused-stands (Ok (Some i)) n = tt
-  refused-stands (Ok None) n = tt
-  refused-stands (Err i) n = n
+  refused-stands (point.At i) n = tt
+  refused-stands point.Deep n = tt
+  refused-stands (point.Bad i) n = n
 
   -- nothing fits
   pub none_done : (byte_of line e ≡ 126 → ⊥) → (byte_of line e ≡ 58 → ⊥) → (byte_of line e ≡ 61 → false ≡ beginsAt line q 91)
@@ -344,18 +346,18 @@ hasfield-done {q = q} {v = v} h x1 x2 x3 x4 x5 x6 x7 x8 x9 x10 x11 o w = record 
 -- ══ The quote behind a name, and the end of a line ══
 
 module _ {line : Bytes} {i : ℕ} where
-  pub quote-there : i < length line → get_or line i 0 ≡ 34 → Reads line (Ok (Some i)) (spell (ascii "\"")) Any (Ok (Some (i + 1)))
+  pub quote-there : i < length line → get_or line i 0 ≡ 34 → Reads line (point.At i) (spell (ascii "\"")) Any (point.At (i + 1))
   quote-there h e = record { within = omega arith; onward = omega arith; value = tt; is = spell-there line i 34 h e; holds = tt }
 
-  pub quote-other : i < length line → (get_or line i 0 ≡ 34 → ⊥) → Reads line (Ok (Some i)) (spell (ascii "\"")) Any (Err i)
+  pub quote-other : i < length line → (get_or line i 0 ≡ 34 → ⊥) → Reads line (point.At i) (spell (ascii "\"")) Any (point.Bad i)
   quote-other h e = record { within = tt; onward = omega arith; value = tt; is = spell-other line i 34 h e; holds = tt }
 
-  pub quote-end : length line ≤ i → Reads line (Ok (Some i)) (spell (ascii "\"")) Any (Err i)
+  pub quote-end : length line ≤ i → Reads line (point.At i) (spell (ascii "\"")) Any (point.Bad i)
   quote-end h = record { within = tt; onward = omega arith; value = tt; is = spell-end line i 34 h; holds = tt }
 
-pub quote-past : (line : Bytes) → Reads line (Ok None) (spell (ascii "\"")) Any (Ok None)
+pub quote-past : spell (ascii "\"") beyond ≡ read tt beyond
 unfolding spell
-quote-past line = record { within = tt; onward = omega arith; value = tt; is = refl; holds = tt }
+quote-past = refl
 
 quote-in : (c : ℕ) (bs : Bytes) (a : Unit {0}) → spell (ascii "\"") (here c bs) ≡ read a beyond → ⊥
 unfolding spell spellFrom
@@ -374,14 +376,11 @@ abbrev pub end_of : Bytes → Point → Point → Type 0
 end_of line e r = Reads line e end_at Any r
 
 module _ {line : Bytes} {i : ℕ} where
-  pub end-there : i ≤ length line → length line ≤ i → end_of line (Ok (Some i)) (Ok (Some i))
+  pub end-there : i ≤ length line → length line ≤ i → end_of line (point.At i) (point.At i)
   end-there k h = record { within = k; onward = omega arith; value = tt; is = rw (drop_of_length-le line {i = i} h); holds = tt }
 
-  pub end-other : i < length line → end_of line (Ok (Some i)) (Err i)
+  pub end-other : i < length line → end_of line (point.At i) (point.Bad i)
   end-other h = record { within = tt; onward = omega arith; value = tt; is = rw (drop-cons line i 0 h); holds = tt }
-
-pub end-past : (line : Bytes) → end_of line (Ok None) (Ok None)
-end-past line = record { within = tt; onward = omega arith; value = tt; is = refl; holds = tt }
 
 pub end_read : {line : Bytes} {p e r : Point} → Reads line p column (λ (k : ℕ). k ≡ columnAt e) e → end_of line e r → Reads line p ended Any r
 end_read x y = in-turn column (λ c. end_at) x (λ c hc. y)
@@ -439,14 +438,14 @@ unfolding signsAt
 signs-here line i h = rw (drop-cons line i 0 h)
 
 signs-at : {P : Option ConAt → Type 0} {line : Bytes} {i : ℕ} {r : Point} → i < length line
-    → Reads line (Ok (Some i)) (ifSign "-" (sign "--" >> give none) constraint) P r → Reads line (Ok (Some i)) signsAt P r
+    → Reads line (point.At i) (ifSign "-" (sign "--" >> give none) constraint) P r → Reads line (point.At i) signsAt P r
 signs-at {line = line} {i = i} h x = record { within = x.within; onward = x.onward; value = x.value; is = signs-here line i h ∙ x.is; holds = x.holds }
 
 module _ {line : Bytes} {i : ℕ} (h : i < length line) where
   -- 'whose first sign is "--"'
-  pub comment-done : {r : Point} {x : Lent} → Ready line (Ok (Some i)) x.pool x.table x.stand → true ≡ beginsAt line (Ok (Some i)) 45
-      → Reads line (Ok (Some i)) (spelled (ascii "--")) Any r
-      → Done line signsAt meantOf (LineTold 0) (Ok (Some i)) x r x
+  pub comment-done : {r : Point} {x : Lent} → Ready line (point.At i) x.pool x.table x.stand → true ≡ beginsAt line (point.At i) 45
+      → Reads line (point.At i) (spelled (ascii "--")) Any r
+      → Done line signsAt meantOf (LineTold 0) (point.At i) x r x
   comment-done k e y = record {
     reads = signs-at h (if-sign "-" (sign "--" >> give none) constraint e
         (in-turn (sign "--") (λ u. give none) y (λ u hu. given none y.within (λ n. gives [] none_told))));
@@ -454,21 +453,26 @@ module _ {line : Bytes} {i : ℕ} (h : i < length line) where
     halted = halted-on (inside-spelled _) y k.halted;
   }
 
-  pub signs-done : {r : Point} {x y : Lent} → false ≡ beginsAt line (Ok (Some i)) 45 → Done line constraint meantOf (LineTold 1) (Ok (Some i)) x r y
-      → Done line signsAt meantOf (LineTold 1) (Ok (Some i)) x r y
+  pub signs-done : {r : Point} {x y : Lent} → false ≡ beginsAt line (point.At i) 45 → Done line constraint meantOf (LineTold 1) (point.At i) x r y
+      → Done line signsAt meantOf (LineTold 1) (point.At i) x r y
   signs-done e o = record { reads = signs-at h (if-no-sign "-" (sign "--" >> give none) constraint e o.reads); kept = o.kept; halted = o.halted }
 
 -- is there nothing at a point?
 abbrev pub Over : Bytes → Point → Type 0
-Over line (Ok (Some i)) = length line ≤ i
-Over line (Ok None) = Unit {0}
-Over line (Err q) = Unit {0}
+Over line (point.At i) = length line ≤ i
+Over line point.Deep = Unit {0}
+Over line (point.Bad q) = Unit {0}
+
+pub over-no-place : (line : Bytes) (p : Point) → NotAt p → Over line p
+over-no-place line (point.At i) n = absurd (n i refl)
+over-no-place line point.Deep n = tt
+over-no-place line (point.Bad q) n = tt
 
 blank-reads : {P : Option ConAt → Type 0} (line : Bytes) (p : Point) → PointIn line p → Over line p → P none → Reads line p signsAt P p
 unfolding signsAt
-blank-reads line (Ok (Some i)) w h u = record { within = w; onward = omega arith; value = none; is = rw (drop_of_length-le line {i = i} h); holds = u }
-blank-reads line (Ok None) w h u = record { within = tt; onward = omega arith; value = none; is = refl; holds = u }
-blank-reads line (Err q) w h u = record { within = tt; onward = omega arith; value = none; is = refl; holds = u }
+blank-reads line (point.At i) w h u = record { within = w; onward = omega arith; value = none; is = rw (drop_of_length-le line {i = i} h); holds = u }
+blank-reads line point.Deep w h u = record { within = tt; onward = omega arith; value = none; is = refl; holds = u }
+blank-reads line (point.Bad q) w h u = record { within = tt; onward = omega arith; value = none; is = refl; holds = u }
 
 -- 'a line with nothing but blanks'
 pub blank-done : {line : Bytes} {p : Point} {x : Lent} → Ready line p x.pool x.table x.stand → Over line p → Done line signsAt meantOf (LineTold 0) p x p x
@@ -485,20 +489,20 @@ record Whole (line : Bytes) (P : Option ConAt → Type 0) (r : Point) : Type 0 w
   is : Grammar.line line ≡ standing line r value
   holds : P value
 
-whole-line : {line : Bytes} {q r : Point} {P : Option ConAt → Type 0} → Reads line (Ok (Some 0)) column (λ (k : ℕ). k ≡ columnAt q) q
+whole-line : {line : Bytes} {q r : Point} {P : Option ConAt → Type 0} → Reads line (point.At 0) column (λ (k : ℕ). k ≡ columnAt q) q
     → Reads line q signsAt P r → Whole line P r
 unfolding Grammar.line skip
 whole-line x o = let w = in-turn column (λ c. signsAt) x (λ c hc. o) in record { value = w.value; is = w.is; holds = w.holds }
 
 meant_is : (line : Bytes) (r : Point) (v : Option ConAt) → NotBad r → (s : Sofar) → meant (standing line r v) s ≡ meantOf v s
 unfolding meant
-meant_is line (Ok (Some i)) none n s = refl
-meant_is line (Ok (Some i)) (some c) n s = refl
-meant_is line (Ok None) none n s = refl
-meant_is line (Ok None) (some c) n s = refl
-meant_is line (Err q) v n s = absurd n
+meant_is line (point.At i) none n s = refl
+meant_is line (point.At i) (some c) n s = refl
+meant_is line point.Deep none n s = refl
+meant_is line point.Deep (some c) n s = refl
+meant_is line (point.Bad q) v n s = absurd n
 
-module _ {line : Bytes} {q : Point} {x y : Lent} {n : ℕ} (x1 : Reads line (Ok (Some 0)) column (λ (k : ℕ). k ≡ columnAt q) q) where
+module _ {line : Bytes} {q : Point} {x y : Lent} {n : ℕ} (x1 : Reads line (point.At 0) column (λ (k : ℕ). k ≡ columnAt q) q) where
   pub line-done : {r : Point} → Done line signsAt meantOf (LineTold n) q x r y → NotBad r → LineDone line x y n
   unfolding lineRead
   line-done {r} o h =
@@ -506,7 +510,7 @@ module _ {line : Bytes} {q : Point} {x y : Lent} {n : ℕ} (x1 : Reads line (Ok 
       record { kept = o.kept; effect = alike (λ s. ap (λ (m : Parsed (Option ConAt)). meant m s) w.is ∙ meant_is line r w.value h s) (w.holds h) }
 
   -- 12, whatever was refused in the line
-  pub line-bad : {j k m : ℕ} (i : ℕ) → Done line signsAt meantOf (LineTold n) q x (Err j) y → x.stand ≡ stand.Going k m
+  pub line-bad : {j k m : ℕ} (i : ℕ) → Done line signsAt meantOf (LineTold n) q x (point.Bad j) y → x.stand ≡ stand.Going k m
       → LineDone line x (lent y.pool y.table y.dst (stand.Refused NotGrammar j)) i
   unfolding lineRead meant
   line-bad {j} {k} {m} i o g = record {

@@ -1,20 +1,21 @@
 //! A line: its constraint's record is counted at its first sign, and written when its types are there.
-ghost use Rattle.std.specs.Prelude.{◌≡◌, ◌<◌, Ok, Some, length};
+ghost use Rattle.std.specs.Prelude.{◌≡◌, ◌<◌, Ok, length};
 ghost use Rattle.rules.specs.Grammar.{ascii, spell, typed, hasField, constraint, signsAt};
 ghost use Rattle.rules.specs.TextReading.{conOf};
 ghost use Rattle.rules.specs.Writing.{writeCon};
 ghost use Rattle.laws.specs.NameTable.{Good};
+ghost use Rattle.text_grammar.specs.declared.inner.Point.TheVariants as point;
 ghost use Rattle.text_grammar.specs.Points.{PointIn, Reads, Any};
 ghost use Rattle.text_names.specs.Effects.{lent, Room, Ready, Writes, Done};
 ghost use Rattle.text_lines.specs.Statements.{end_of, SaysScalar, stated, meantOf, LineTold, LineDone};
 ghost use Rattle.text_lines.specs.Answers.{standIn, countIn, answer_of};
 
-use text_types::inner::nested::enter_type;
-use text_grammar::inner::{Point, byte_at, mark, next_is, next_sign, refuse, sign};
 use records::View;
 use rules::{NESTED, Refusal};
+use text_grammar::inner::{Point, byte_at, mark, next_is, next_sign, refuse, sign};
 use text_names::inner::naming::read_named;
 use text_names::inner::{At, Reached, Stand, Tally, count, place_of, put_head};
+use text_types::inner::nested::enter_type;
 
 /// What a line that was read brought a sheet to, and how many constraints the line had: 0 or 1.
 #[derive(Clone, Copy)]
@@ -35,16 +36,14 @@ fn quote(line: &[u8], p: Point) -> Point
     requires { PointIn line.now p }
     ensures { Reads line.now p (spell (ascii "\"")) Any result }
 {
-    let Some(i) = p? else {
-        return Ok(None);
+    let Point::At(i) = p else {
+        return p;
     };
-    if line.len() <= i {
-        return Err(i);
+    if i < line.len() && line[i] == b'"' {
+        Point::At(i + 1)
+    } else {
+        Point::Bad(i)
     }
-    if line[i] != b'"' {
-        return Err(i);
-    }
-    Ok(Some(i + 1))
 }
 
 /// The end of a line; the first byte of what else follows fits nothing.
@@ -52,13 +51,10 @@ fn end_at(line: &[u8], p: Point) -> Point
     requires { PointIn line.now p }
     ensures { end_of line.now p result }
 {
-    let Some(i) = p? else {
-        return Ok(None);
-    };
-    if i < line.len() {
-        return Err(i);
+    match p {
+        Point::At(i) if i < line.len() => Point::Bad(i),
+        _ => p,
     }
-    Ok(Some(i))
 }
 
 /// Is this byte "=", and did a dimension begin at q?
@@ -202,11 +198,11 @@ fn enter_from(
     dst: &mut [u32],
 ) -> Stated
     requires within { i < length line.now }
-    requires ready { Ready line.now (Ok (Some i)) pool.old table.old stand }
-    ensures { Done line.now signsAt meantOf (LineTold result.count) (Ok (Some i)) (lent pool.old table.old dst.old stand)
+    requires ready { Ready line.now (point.At i) pool.old table.old stand }
+    ensures { Done line.now signsAt meantOf (LineTold result.count) (point.At i) (lent pool.old table.old dst.old stand)
         result.end.at (lent pool.new table.new dst.new result.end.stand) }
 {
-    let p = Ok(Some(i));
+    let p = Point::At(i);
     if next_is(line, p, b'-') {
         let at = sign(line, p, b"--");
         return Stated {
@@ -231,21 +227,8 @@ fn enter_signs(
         result.end.at (lent pool.new table.new dst.new result.end.stand) }
 {
     match from.at {
-        Ok(Some(i)) => {
-            if i < line.len() {
-                enter_from(line, i, from.stand, pool, table, dst)
-            } else {
-                Stated {
-                    end: from,
-                    count: 0,
-                }
-            }
-        }
-        Ok(None) => Stated {
-            end: from,
-            count: 0,
-        },
-        Err(_) => Stated {
+        Point::At(i) if i < line.len() => enter_from(line, i, from.stand, pool, table, dst),
+        _ => Stated {
             end: from,
             count: 0,
         },
@@ -256,7 +239,7 @@ fn enter_signs(
 fn answer(end: Reached, constraints: usize) -> Result<Line, At>
     ensures { result ≡ answer_of end.at end.stand constraints }
 {
-    if let Err(at) = end.at {
+    if let Point::Bad(at) = end.at {
         return Err(At {
             why: Refusal::NotGrammar,
             at,
@@ -279,7 +262,7 @@ pub fn read_line(
     requires room { Room table.old tally.names tally.records }
     ensures { LineDone line.now (lent pool.old table.old dst.old (Ok tally)) (lent pool.new table.new dst.new (standIn result)) (countIn result) }
 {
-    let at = next_sign(line, Ok(Some(0)));
+    let at = next_sign(line, Point::At(0));
     let stand = Ok(tally);
     let stated = enter_signs(line, Reached { at, stand }, pool, table, dst);
     answer(stated.end, stated.count)

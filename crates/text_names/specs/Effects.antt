@@ -1,6 +1,6 @@
 -- What a step of a sheet's meaning did to all that is lent, and steps in turn.
 use Rattle.std.specs.Prelude.{◌≡◌, refl, Bool, true, false, List, [], ◌∷◌, ◌++◌, ℕ, suc, ◌+◌, ◌-◌, ◌*◌, ◌≤◌, ◌<◌, leb, length, drop, get_or, Err}
-use Rattle.std.specs.Prelude.{None, Ok, Some}
+use Rattle.std.specs.Prelude.{Ok}
 use Rattle.std.proofs.Common.{sym, ap, subst, ◌∙◌, append-nil, append_assoc, arith, leb-true, leb-false, le-leb, length-append}
 use Rattle.std.proofs.lemmas.Bool.{lt-leb}
 use Rattle.std.proofs.lemmas.List.Edits.{sets}
@@ -17,7 +17,9 @@ use Rattle.laws.specs.Size.{words_append, words-length}
 use Rattle.records.specs.Stores.{sets-append, sets-before}
 use Rattle.records.specs.Views.{recOf}
 use Rattle.records.specs.declared.View.{View}
-use Rattle.text_grammar.specs.Points.{Reads, PointIn, from, standing, columnAt, Point}
+use Rattle.text_grammar.specs.declared.inner.Point.TheVariants as point
+use Rattle.text_grammar.specs.declared.inner.Point.{Point}
+use Rattle.text_grammar.specs.Points.{Reads, PointIn, from, standing, columnAt, NotAt}
 use Rattle.text_names.specs.Stands.{Stand, not-both, same-going, same-refused, place_of, countIf, countOf, Above, headPut}
 use Rattle.text_names.specs.Stands as stand
 
@@ -45,7 +47,7 @@ Roomy table s = (k n : ℕ) → s ≡ stand.Going k n → Room table k n
 
 -- behind a type nested 65 deep a sheet is refused
 abbrev pub Halted : Point → Stand → Type 0
-Halted p s = (k n : ℕ) → p ≡ (Ok None) → s ≡ stand.Going k n → ⊥
+Halted p s = (k n : ℕ) → p ≡ point.Deep → s ≡ stand.Going k n → ⊥
 
 -- what every function asks
 pub record Ready (line : Bytes) (p : Point) (pool table : List ℕ) (s : Stand) : Type 0 where
@@ -417,9 +419,9 @@ kept_above k i n i' n' p q = (k.above i n i' n' p q, (k.room i' n' q).records)
 -- ══ From point to point ══
 
 abbrev pub NotBad : Point → Type 0
-NotBad (Ok (Some i)) = Unit {0}
-NotBad (Ok None) = Unit {0}
-NotBad (Err q) = ⊥
+NotBad (point.At i) = Unit {0}
+NotBad point.Deep = Unit {0}
+NotBad (point.Bad q) = ⊥
 
 bad≢read : {A : Type 0} {c : ℕ} {a : A} {p : Place} → bad c ≡ read a p → ⊥
 bad≢read e = let z : ◌≡◌ {A = ℕ} 0 1 = cc in omega arith
@@ -429,11 +431,11 @@ pub not-bad : {A : Type 0} {P : A → Type 0} {line : Bytes} {p r : Point} {R : 
 not-bad {A} {P} {line} {p} {r} {R} x = go p r x.is
   where
     go : (p r : Point) → from line p R ≡ standing line r x.value → NotBad r → NotBad p
-    go (Ok (Some i)) r e n = tt
-    go (Ok None) r e n = tt
-    go (Err q) (Ok (Some j)) e n = bad≢read e
-    go (Err q) (Ok None) e n = bad≢read e
-    go (Err q) (Err j) e n = n
+    go (point.At i) r e n = tt
+    go point.Deep r e n = tt
+    go (point.Bad q) (point.At j) e n = bad≢read e
+    go (point.Bad q) point.Deep e n = bad≢read e
+    go (point.Bad q) (point.Bad j) e n = n
 
 -- a rule that from a place never goes behind a type nested 65 deep
 pub record Inside {A : Type 0} (R : Rule A) : Type 0 where
@@ -442,10 +444,10 @@ pub record Inside {A : Type 0} (R : Rule A) : Type 0 where
 pub halted-on : {A : Type 0} {P : A → Type 0} {line : Bytes} {p r : Point} {s : Stand} {R : Rule A} → Inside R → Reads line p R P r → Halted p s → Halted r s
 halted-on {A} {P} {line} {p} {r} {s} {R} i x h k n e = go p r x.is e (λ q. h k n q)
   where
-    go : (p r : Point) → from line p R ≡ standing line r x.value → r ≡ (Ok None) → (p ≡ (Ok None) → s ≡ stand.Going k n → ⊥) → s ≡ stand.Going k n → ⊥
-    go (Ok (Some j)) r y f g = λ t. i.stays (suc j) (drop j line) x.value (y ∙ ap (λ (w : Point). standing line w x.value) f)
-    go (Ok None) r y f g = g refl
-    go (Err q) r y f g = λ t. bad≢read (y ∙ ap (λ (w : Point). standing line w x.value) f)
+    go : (p r : Point) → from line p R ≡ standing line r x.value → r ≡ point.Deep → (p ≡ point.Deep → s ≡ stand.Going k n → ⊥) → s ≡ stand.Going k n → ⊥
+    go (point.At j) r y f g = λ t. i.stays (suc j) (drop j line) x.value (y ∙ ap (λ (w : Point). standing line w x.value) f)
+    go point.Deep r y f g = g refl
+    go (point.Bad q) r y f g = λ t. bad≢read (y ∙ ap (λ (w : Point). standing line w x.value) f)
 
 pub halted-counted : {p : Point} {s : Stand} (k at : ℕ) → Halted p s → Halted p (countOf k at s)
 halted-counted {p} {s} k at h i n e q = go s (λ f m g. h f m e g) q
@@ -483,9 +485,9 @@ ready-next d = ready-kept d.kept d.reads.within d.halted
 -- the place of a sign: where the sheet goes on and the line is not refused, its column is one more
 pub at_sign : {B : Type 0} {m : Step B} {T : B → List Rec → Type 0} {x y : Lent} (c : Point) {k : ℕ} → k ≡ columnAt c → NotBad c → Halted c x.stand
     → (k ≡ suc (place_of c) → Effect m T x y) → Effect m T x y
-at_sign (Ok (Some i)) e n h f = f e
-at_sign (Ok None) e n h f = record { does = λ i j i' j' p q. absurd (h i j refl p); refuses = λ i j c r p q. absurd (h i j refl p) }
-at_sign (Err q) e n h f = absurd n
+at_sign (point.At i) e n h f = f e
+at_sign point.Deep e n h f = record { does = λ i j i' j' p q. absurd (h i j refl p); refuses = λ i j c r p q. absurd (h i j refl p) }
+at_sign (point.Bad q) e n h f = absurd n
 
 -- a sheet that doesn't go on: the line is only read on
 pub reads_on : {A B : Type 0} {P : A → Type 0} {T : B → List Rec → Type 0} {line : Bytes} {p r : Point} {x : Lent} {R : Rule A} (f : A → Step B)
@@ -510,13 +512,21 @@ only-reads f g e y = reads_on f g (λ k n q. not-both e q) y
 
 -- nothing fits: the line is refused, whatever was done
 pub ends-bad : {A B : Type 0} {P : A → Type 0} {T : B → List Rec → Type 0} {line : Bytes} {p : Point} {x y : Lent} {R : Rule A} {q : ℕ} (f : A → Step B)
-    → Kept x y → Reads line p R P (Err q)
-    → Done line R f T p x (Err q) y
+    → Kept x y → Reads line p R P (point.Bad q)
+    → Done line R f T p x (point.Bad q) y
 ends-bad f k y = record {
   reads = record { within = y.within; onward = y.onward; value = y.value; is = y.is; holds = λ n. absurd n };
   kept = k;
   halted = λ i n h p. let z : ◌≡◌ {A = ℕ} 0 1 = cc in omega arith;
 }
 
-pub not-past : {i : ℕ} {s : Stand} → Halted (Ok (Some i)) s
+-- where no place was read to nothing is done: behind a type nested 65 deep the sheet is refused
+pub elsewhere : {A B : Type 0} {P : A → Type 0} {T : B → List Rec → Type 0} {line : Bytes} {x : Lent} {R : Rule A} (p : Point) (f : A → Step B)
+    → Ready line p x.pool x.table x.stand
+    → NotAt p → Reads line p R P p → Done line R f T p x p x
+elsewhere (point.At i) f h n y = absurd (n i refl)
+elsewhere point.Deep f h n y = reads_on f h.good (λ k m e. h.halted k m refl e) y
+elsewhere (point.Bad q) f h n y = ends-bad f (kept_same h.good h.room) y
+
+pub not-past : {i : ℕ} {s : Stand} → Halted (point.At i) s
 not-past k n h p = let z : ◌≡◌ {A = ℕ} 0 1 = cc in omega arith

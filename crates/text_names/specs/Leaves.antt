@@ -17,7 +17,8 @@ use Rattle.records.specs.declared.Basic.TheVariants.{Boolean, Text, Datetime}
 use Rattle.records.specs.declared.Open.TheVariants.{Var, Par}
 use Rattle.records.specs.declared.View.{View}
 use Rattle.records.specs.declared.View.TheVariants as view
-use Rattle.text_grammar.specs.Points.{Reads, Any, marked, columnAt, in-turn, given, Point}
+use Rattle.text_grammar.specs.declared.inner.Point.{Point}
+use Rattle.text_grammar.specs.Points.{Reads, Any, marked, columnAt, in-turn, given}
 use Rattle.text_grammar.specs.Signs.{spelled, keywordBy, openedBy}
 use Rattle.text_names.specs.Stands.{place_of, countOf, headPut, Stand}
 use Rattle.text_names.specs.Effects.{lent, Ready, Kept, kept_then, kept-last, kept-counted, kept-written, Effect, Writes, gives, maps, headed, head-long}

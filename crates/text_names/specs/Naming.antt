@@ -1,5 +1,5 @@
 -- A name that was read, and entered where it stands.
-use Rattle.std.specs.Prelude.{◌≡◌, Bool, true, false, ◌&&◌, List, [], ◌++◌, ℕ, suc, ◌+◌, ◌≤◌, ◌<◌, Result, Ok, Err, Some, leb, length, take, drop, get_or}
+use Rattle.std.specs.Prelude.{◌≡◌, Bool, true, false, ◌&&◌, List, [], ◌++◌, ℕ, suc, ◌+◌, ◌≤◌, ◌<◌, Result, Ok, Err, leb, length, take, drop, get_or}
 use Rattle.std.proofs.Math.Path.{refl, ap}
 use Rattle.std.proofs.Common.{sym, subst, ◌∙◌, arith, take_at}
 use Rattle.std.proofs.lemmas.Bool.{lt-leb}
@@ -21,6 +21,7 @@ use Rattle.names.specs.Told.{entered}
 use Rattle.text_scan.specs.Names.{NameRead}
 use Rattle.text_names.specs.Effects.{lent, sofar, Room, Kept, Effect, did, stops, Done, not-past}
 use Rattle.text_names.specs.Stands.{Stand, same-going}
+use Rattle.text_grammar.specs.declared.inner.Point.TheVariants as point
 use Rattle.text_names.specs.Stands as stand
 
 -- what entering a name answers
@@ -143,7 +144,7 @@ module _ (pool table pool' table' : List ℕ) (at k l : ℕ) (room : Room table 
 
   pub named-done : {line : Bytes} {i long : ℕ} {d d' : List ℕ} → Good pool table → (r : NameRead line at i long d d') (a : Answer)
       → entered a pool' table' ≡ enterName pool table r.bytes
-      → Done line name named (NumberTold table' (numberTold a)) (Ok (Some at)) (lent pool table dst (stand.Going k l)) (Ok (Some i))
+      → Done line name named (NumberTold table' (numberTold a)) (point.At at) (lent pool table dst (stand.Going k l)) (point.At i)
       (lent pool' table' dst (standAfter at k l a))
   unfolding name
   named-done {line} {i} g r a e =

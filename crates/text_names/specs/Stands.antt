@@ -1,6 +1,7 @@
 -- How a sheet stands: records counted, and a record written before its parts.
-use Rattle.text_grammar.specs.Points.{Point}
-use Rattle.std.specs.Prelude.{◌≡◌, refl, Bool, true, false, List, [], ◌∷◌, ℕ, ◌+◌, ◌-◌, ◌*◌, ◌≤◌, ◌<◌, leb, Result, Err, None, Ok, Some}
+use Rattle.text_grammar.specs.declared.inner.Point.TheVariants as point
+use Rattle.text_grammar.specs.declared.inner.Point.{Point}
+use Rattle.std.specs.Prelude.{◌≡◌, refl, Bool, true, false, List, [], ◌∷◌, ℕ, ◌+◌, ◌-◌, ◌*◌, ◌≤◌, ◌<◌, leb, Result, Err, Ok}
 use Rattle.std.proofs.Common.{sym, ap, ◌∙◌, arith, leb-true, le-leb}
 use Rattle.std.proofs.lemmas.Bool.{lt-leb}
 use Rattle.std.proofs.lemmas.List.Edits.{sets}
@@ -37,9 +38,9 @@ same-refused {s} {r} {r'} {c} {c'} e f =
     (ap (λ (a : At). a.why) p, ap (λ (a : At). a.at) p)
 
 abbrev pub place_of : Point → ℕ
-place_of (Ok (Some i)) = i
-place_of (Ok None) = 0
-place_of (Err q) = 0
+place_of (point.At i) = i
+place_of point.Deep = 0
+place_of (point.Bad q) = 0
 
 -- at most 2,048 records so far
 abbrev pub Few : Stand → Type 0

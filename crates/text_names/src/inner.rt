@@ -5,10 +5,10 @@ pub mod naming;
 ghost use Rattle.std.specs.Prelude.{◌≡◌, ◌+◌, ◌≤◌, ◌<◌};
 ghost use Rattle.text_names.specs.Stands.{Few, countOf, place_of, Above, headPut};
 
-use text_grammar::inner::Point;
 use records::View;
 use records::inner::put_record;
 use rules::{RECORDS, Refusal};
+use text_grammar::inner::Point;
 
 /// What a sheet has come to: its new names and its records so far.
 #[derive(Clone, Copy)]
@@ -39,8 +39,8 @@ pub fn place_of(p: Point) -> usize
     ensures { result ≡ place_of p }
 {
     match p {
-        Ok(Some(i)) => i,
-        Ok(None) | Err(_) => 0,
+        Point::At(i) => i,
+        Point::Deep | Point::Bad(_) => 0,
     }
 }
 

@@ -1,6 +1,6 @@
 -- The fields of a structure, and a structure by its parts.
 use Rattle.std.specs.Prelude as code
-use Rattle.std.specs.Prelude.{◌≡◌, refl, Bool, true, false, ℕ, suc, ◌+◌, ◌≤◌, ◌<◌, min, length, get_or, Err, None, Ok, Some}
+use Rattle.std.specs.Prelude.{◌≡◌, refl, Bool, true, false, ℕ, suc, ◌+◌, ◌≤◌, ◌<◌, min, length, get_or, Err, Ok}
 use Rattle.std.proofs.Common.{sym, ap, ap₂, ◌∙◌, arith, length-append}
 use Rattle.std.proofs.Math.Path.{subst}
 use mathlib.Core.List.{List, [], ◌∷◌, ◌++◌}
@@ -20,7 +20,9 @@ use Rattle.laws.specs.Size.{size-ty, size-tys, size-fields}
 use Rattle.records.specs.Good.{follows}
 use Rattle.records.specs.Views.{recOf}
 use Rattle.records.specs.declared.View.TheVariants as view
-use Rattle.text_grammar.specs.Points.{Reads, Any, from, standing, marked, columnAt, in-turn, Point}
+use Rattle.text_grammar.specs.declared.inner.Point.TheVariants as point
+use Rattle.text_grammar.specs.declared.inner.Point.{Point}
+use Rattle.text_grammar.specs.Points.{Reads, Any, from, standing, marked, columnAt, in-turn}
 use Rattle.text_grammar.specs.Types.{typesThere, fieldsThere, fieldRule, field-read, structure-read}
 use Rattle.text_names.specs.Stands.{place_of, countOf, headPut, same-going, same-refused, Stand}
 use Rattle.text_names.specs.Effects.{Lent, lent, sofar, Halted, Ready, Kept, Effect, Writes, Done, NotBad, not-bad, then, gives, maps, alike, tells-less}
@@ -150,13 +152,13 @@ name-column {P} {line} {q} {r} x = record { within = x.within; onward = x.onward
     past_is v p e = let z : record { column = 0; bytes = [] } ≡ v = cc in sym (ap (λ (i : NameAt). i.column) z)
 
     go : (q r : Point) → from line q name ≡ standing line r x.value → NotBad r → x.value.column ≡ columnAt q
-    go (Ok (Some i)) (Ok (Some j)) e n = read_is (nameFrom whole (suc i) _) (suc i) x.value _ e
-    go (Ok (Some i)) (Ok None) e n = read_is (nameFrom whole (suc i) _) (suc i) x.value _ e
-    go (Ok None) (Ok (Some j)) e n = past_is x.value _ e
-    go (Ok None) (Ok None) e n = past_is x.value _ e
-    go (Err k) (Ok (Some j)) e n = let z : ◌≡◌ {A = ℕ} 0 1 = cc in absurd (omega arith)
-    go (Err k) (Ok None) e n = let z : ◌≡◌ {A = ℕ} 0 1 = cc in absurd (omega arith)
-    go q (Err j) e n = absurd n
+    go (point.At i) (point.At j) e n = read_is (nameFrom whole (suc i) _) (suc i) x.value _ e
+    go (point.At i) point.Deep e n = read_is (nameFrom whole (suc i) _) (suc i) x.value _ e
+    go point.Deep (point.At j) e n = past_is x.value _ e
+    go point.Deep point.Deep e n = past_is x.value _ e
+    go (point.Bad k) (point.At j) e n = let z : ◌≡◌ {A = ℕ} 0 1 = cc in absurd (omega arith)
+    go (point.Bad k) point.Deep e n = let z : ◌≡◌ {A = ℕ} 0 1 = cc in absurd (omega arith)
+    go q (point.Bad j) e n = absurd n
 
 typed-behind : (x : ℕ) (u : Ty ℕ) (rs : List Rec) → rs ≡ writeTy u → recOf (view.Field x) (suc (length rs)) ∷ rs ≡ fieldRecs (x, u)
 typed-behind x u rs e = ap₂ (λ (n : ℕ) (l : List Rec). rec (head 9 (suc n)) x 0 0 ∷ l) (ap length e ∙ size-ty u) e

@@ -11,7 +11,8 @@ use Rattle.laws.specs.Size.{size-ty, size-tys}
 use Rattle.records.specs.Views.{recOf}
 use Rattle.records.specs.declared.View.{View}
 use Rattle.records.specs.declared.View.TheVariants as view
-use Rattle.text_grammar.specs.Points.{Reads, Any, marked, columnAt, Point}
+use Rattle.text_grammar.specs.declared.inner.Point.{Point}
+use Rattle.text_grammar.specs.Points.{Reads, Any, marked, columnAt}
 use Rattle.text_grammar.specs.Signs.{spelled}
 use Rattle.text_grammar.specs.Types.{paramsThere, listed-read, function-read}
 use Rattle.text_names.specs.Stands.{place_of, countOf, headPut, Stand}

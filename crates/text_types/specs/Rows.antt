@@ -1,6 +1,6 @@
 -- Types and fields in a row, turn by turn; parts that may be left out; and the type that a first byte decides on.
 use Rattle.std.specs.Prelude as code
-use Rattle.std.specs.Prelude.{◌≡◌, refl, Bool, true, false, ◌||◌, List, ℕ, suc, ◌+◌, ◌-◌, ◌≤◌, ◌<◌, min, eqb, Err, None, Ok, Some}
+use Rattle.std.specs.Prelude.{◌≡◌, refl, Bool, true, false, ◌||◌, List, ℕ, suc, ◌+◌, ◌-◌, ◌≤◌, ◌<◌, min, eqb}
 use Rattle.std.proofs.Common.{sym, ap, ap₂, subst, true≢false, arith, ne_eqb}
 use Rattle.std.proofs.Math.Option.{none}
 use Rattle.rules.specs.Names.{Bytes}
@@ -11,7 +11,9 @@ use Rattle.rules.specs.Grammar.{Rule, column, TyAt, deepAt, TysAt, FieldsAt, mor
 use Rattle.rules.specs.TextReading.{Step, refusedAt, ty_of, tys_of, fields_of}
 use Rattle.rules.specs.declared.Refusal.{Refusal}
 use Rattle.rules.specs.declared.Refusal.TheVariants.{Malformed}
-use Rattle.text_grammar.specs.Points.{Reads, MarkRead, Any, marked, columnAt, beginsAt, left_at, Point}
+use Rattle.text_grammar.specs.declared.inner.Point.TheVariants as point
+use Rattle.text_grammar.specs.declared.inner.Point.{Point}
+use Rattle.text_grammar.specs.Points.{Reads, MarkRead, Any, marked, columnAt, beginsAt, left_at}
 use Rattle.text_grammar.specs.Factors.{byte_of, refusedFrom}
 use Rattle.text_grammar.specs.Types.{Onto, onto-here, tys-go, tys-less, tys-end, tys-read, fieldRule, fields_go, fields-less, fields-end, fields_read}
 use Rattle.text_grammar.specs.Types.{paramsThere, with_params, without-params, typesThere, with-types, without-types, fieldsThere, with-fields}
@@ -166,14 +168,14 @@ no-head b h1 h2 h3 h4 h5 h6 h7 h8 h9 =
 
 -- where nothing fits, nothing is done
 none-effect : {B : Type 0} {T : B → List Rec → Type 0} {x : Lent} (m : Step B) (q : Point) → Halted q x.stand → NotBad (refusedFrom q) → Effect m T x x
-none-effect m (Ok (Some i)) h n = absurd n
-none-effect m (Ok None) h n = record { does = λ k l k' l' p q. absurd (h k l refl p); refuses = λ k l c r p q. absurd (h k l refl p) }
-none-effect m (Err i) h n = absurd n
+none-effect m (point.At i) h n = absurd n
+none-effect m point.Deep h n = record { does = λ k l k' l' p q. absurd (h k l refl p); refuses = λ k l c r p q. absurd (h k l refl p) }
+none-effect m (point.Bad i) h n = absurd n
 
 pub none-halted : {s : Stand} (q : Point) → Halted q s → Halted (refusedFrom q) s
-none-halted (Ok (Some i)) h = λ k n e f. let z : ◌≡◌ {A = ℕ} 0 1 = cc in omega arith
-none-halted (Ok None) h = h
-none-halted (Err i) h = λ k n e f. let z : ◌≡◌ {A = ℕ} 0 1 = cc in omega arith
+none-halted (point.At i) h = λ k n e f. let z : ◌≡◌ {A = ℕ} 0 1 = cc in omega arith
+none-halted point.Deep h = h
+none-halted (point.Bad i) h = λ k n e f. let z : ◌≡◌ {A = ℕ} 0 1 = cc in omega arith
 
 module _ {T : Ty ℕ → List Rec → Type 0} {line : Bytes} {q : Point} {x : Lent} (h : Ready line q x.pool x.table x.stand) where
   pub no-type : (d : ℕ) → among (byte_of line q) heads ≡ false → Done line (ruled d) ty_of T q x (refusedFrom q) x
@@ -195,14 +197,14 @@ deep-effect {x = x} i = record {
 }
 
 pub deep-type : {T : Ty ℕ → List Rec → Type 0} {line : Bytes} (q : Point) {x : Lent} → Ready line q x.pool x.table x.stand → true ≡ among (byte_of line q) heads
-    → Done line deepRuled ty_of T q x (Ok None) (lent x.pool x.table x.dst (stoppedAt Malformed (place_of q) x.stand))
-deep-type (Ok (Some i)) {x} h e = record {
+    → Done line deepRuled ty_of T q x point.Deep (lent x.pool x.table x.dst (stoppedAt Malformed (place_of q) x.stand))
+deep-type (point.At i) {x} h e = record {
   reads = deep-there (sym e) (λ n. deep-effect i);
   kept = kept_if false Malformed i (kept_same h.good h.room);
   halted = λ k n a b. never_on Malformed i x.stand k n b;
 }
-deep-type (Ok None) h e = absurd (true≢false e)
-deep-type (Err i) h e = absurd (true≢false e)
+deep-type point.Deep h e = absurd (true≢false e)
+deep-type (point.Bad i) h e = absurd (true≢false e)
 
 pub type-zero : {f : TyAt → Step (Ty ℕ)} {T : Ty ℕ → List Rec → Type 0} {line : Bytes} {p q r : Point} {x y : Lent} (d : ℕ) → d ≡ 0
     → Reads line p column (λ (k : ℕ). k ≡ columnAt q) q

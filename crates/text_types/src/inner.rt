@@ -13,9 +13,9 @@ ghost use Rattle.text_names.specs.Effects.{lent, Ready, Writes, Done};
 ghost use Rattle.text_types.specs.Members.{Risen, keptIf};
 
 use names::tables::NameTable;
-use text_grammar::inner::{Point, byte_at, refuse};
 use rules::Refusal;
 use std::cmp::Ordering;
+use text_grammar::inner::{Point, byte_at, refuse};
 use text_names::inner::{At, Reached, Stand, place_of};
 
 /// One more; from 4,096 on, which is more than a sheet holds, the count stays.
@@ -76,7 +76,7 @@ fn too_deep(line: &[u8], q: Point, s: Stand) -> Reached
 {
     if is_head(byte_at(line, q)) {
         return Reached {
-            at: Ok(None),
+            at: Point::Deep,
             stand: pass_if(false, place_of(q), s),
         };
     }

@@ -1,5 +1,5 @@
 -- The call that confirms: sets that read alike are answered alike.
-use Rattle.std.proofs.Math.Path.{◌≡◌, refl, ap, sym}
+use Rattle.std.proofs.Math.Path.{◌≡◌, refl, sym}
 use Rattle.std.proofs.Common.{◌∙◌}
 use Rattle.std.specs.Prelude.{Bool, true, false, ℕ}
 use mathlib.Core.List.{List, map}

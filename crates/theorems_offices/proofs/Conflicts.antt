@@ -6,14 +6,14 @@ use Rattle.std.proofs.Math.Option.{Option, none, some}
 use mathlib.Core.List.{List, [], ◌∷◌, ◌++◌, map}
 use Rattle.std.proofs.Math.ListN.{length, length-map}
 use Rattle.std.proofs.lemmas.List.{map-append, take-map, drop-map}
-use Rattle.rules.specs.Base.{Got, got, refused, ◌>>=◌, ◌>>◌, bounded, keep, collect}
-use Rattle.rules.specs.Trees.{Names, Open, var, quant, par, Ty, opened, basic, dim, fn, struct, list, Con, equal, isDim, is_scalar, hasField, opensCon}
-use Rattle.rules.specs.Names.{Table, table_of, numbersOf}
+use Rattle.rules.specs.Base.{Got, got, ◌>>=◌, bounded, keep, collect}
+use Rattle.rules.specs.Trees.{Names, var, quant, par, Ty, opened, basic, dim, fn, struct, list, Con, equal, isDim, is_scalar, hasField, opensCon}
+use Rattle.rules.specs.Names.{Table, table_of}
 use Rattle.rules.specs.Solving.{Answer, accepted, remaining, stopped, solve}
 use Rattle.rules.specs.Choices.{isSide, wide}
-use Rattle.rules.specs.Calls.{lent, over, resultAfter}
+use Rattle.rules.specs.Calls.{over, resultAfter}
 use Rattle.rules.specs.Conflicts.{Line, linesFrom, wideOf, remains, conflicting, leaveOut, conflictIn, conflictOf, placesOf, manyOf, conflictCall}
-use Rattle.rules.specs.Offices.{Name, Keeps, byBytes, nameNo, mapTy, mapCon, mapAnswer, mapGot, mapOption, LentAlike, ConflictAlike, frontConflict}
+use Rattle.rules.specs.Offices.{Name, Keeps, byBytes, nameNo, mapTy, mapCon, mapAnswer, mapOption, LentAlike, ConflictAlike}
 use Rattle.laws.specs.NameTable.{Good}
 use Rattle.theorems_offices.proofs.Both.{Both, Pair, neither, both, pair, hence, through, checked}
 use Rattle.theorems_offices.proofs.Given.{Alike, as_long, short, kept-alike, lent_alike, set_given, apart-alike, set-opens}
@@ -25,11 +25,12 @@ use Rattle.theorems_offices.proofs.Solving.{solve-map}
 keep-map : {A B : Type 0} (g : A → B) (p : A → Bool) (q : B → Bool) → ((a : A) → q (g a) ≡ p a) → (xs : List A) → keep q (map g xs) ≡ map g (keep p xs)
 unfolding keep
 keep-map g p q e [] = refl
-keep-map {A} g p q e (x ∷ xs) = rw (e x, keep-map g p q e xs) (kept (p x))
+keep-map {A} {B} g p q e (x ∷ xs) = rw (e x) (kept (p x) (keep-map g p q e xs))
   where
-    kept : (b : Bool) → elim b [ true ↦ g x ∷ map g (keep p xs) | false ↦ map g (keep p xs) ] ≡ map g (elim b [ true ↦ x ∷ keep p xs | false ↦ keep p xs ])
-    kept true = refl
-    kept false = refl
+    kept : (b : Bool) → keep q (map g xs) ≡ map g (keep p xs)
+        → elim b [ true ↦ g x ∷ keep q (map g xs) | false ↦ keep q (map g xs) ] ≡ map g (elim b [ true ↦ x ∷ keep p xs | false ↦ keep p xs ])
+    kept true i = ap (λ (ys : List B). g x ∷ ys) i
+    kept false i = i
 
 module _ {N M : Type 0} (f : N → M) where
   abbrev mapLine : Line N → Line M
@@ -83,8 +84,11 @@ module _ {N M : Type 0} (ν : Names N) (μ : Names M) (f : N → M) (keeps : Kee
   looked : (kept behind : List (Line N)) → Over (λ r. r) (conflicting ν (kept ++ behind)) (conflicting μ (map (mapLine f) kept ++ map (mapLine f) behind))
   looked kept behind = rw (← map-append (mapLine f) kept behind, conflicting-map (kept ++ behind)) (same_over (conflicting ν (kept ++ behind)))
 
-  leave-map : (d : ℕ) (kept ls behind : List (Line N)) → Over (map (mapLine f)) (leaveOut ν d kept ls behind)
+  abbrev Leaves : ℕ → Type 0
+  Leaves d = (kept ls behind : List (Line N)) → Over (map (mapLine f)) (leaveOut ν d kept ls behind)
       (leaveOut μ d (map (mapLine f) kept) (map (mapLine f) ls) (map (mapLine f) behind))
+
+  leave-map : (d : ℕ) → Leaves d
   unfolding leaveOut
   leave-map zero kept ls behind = next (looked kept behind) (λ r r' i. rw i (last r))
     where
@@ -92,29 +96,32 @@ module _ {N M : Type 0} (ν : Names N) (μ : Names M) (f : N → M) (keeps : Kee
           (elim r [ true ↦ got (map (mapLine f) kept) | false ↦ got (map (mapLine f) kept ++ map (mapLine f) ls) ])
       last true = gives refl
       last false = gives (sym (map-append (mapLine f) kept ls))
-  leave-map (suc d) kept ls behind = next (looked kept behind) (λ r r' i. rw i (half r))
+  leave-map (suc d) kept ls behind = next (looked kept behind) (λ r r' i. rw i (half (leave-map d) r))
     where
       n : ℕ
       n = length ls / 2
 
-      halves : Over (map (mapLine f)) (leaveOut ν d kept (take n ls) (drop n ls ++ behind) >>= λ more. leaveOut ν d more (drop n ls) behind)
+      halves : Leaves d → Over (map (mapLine f)) (leaveOut ν d kept (take n ls) (drop n ls ++ behind) >>= λ more. leaveOut ν d more (drop n ls) behind)
           (leaveOut μ d (map (mapLine f) kept) (take n (map (mapLine f) ls)) (drop n (map (mapLine f) ls) ++ map (mapLine f) behind)
           >>= λ more. leaveOut μ d more (drop n (map (mapLine f) ls)) (map (mapLine f) behind))
-      halves = rw (take-map (mapLine f) n ls, drop-map (mapLine f) n ls, ← map-append (mapLine f) (drop n ls) behind)
-          (next (leave-map d kept (take n ls) (drop n ls ++ behind)) (λ more more' i. rw i (leave-map d more (drop n ls) behind)))
+      halves by = rw (take-map (mapLine f) n ls, drop-map (mapLine f) n ls, ← map-append (mapLine f) (drop n ls) behind)
+          (next (by kept (take n ls) (drop n ls ++ behind)) (λ more more' i. rw i (by more (drop n ls) behind)))
 
-      single : (b : Bool) → Over (map (mapLine f)) (elim b [
+      single : Leaves d → (b b' : Bool) → b' ≡ b → Over (map (mapLine f)) (elim b [
         | true ↦ got (kept ++ ls)
         | false ↦ leaveOut ν d kept (take n ls) (drop n ls ++ behind) >>= λ more. leaveOut ν d more (drop n ls) behind
-      ]) (elim b [
+      ]) (elim b' [
         | true ↦ got (map (mapLine f) kept ++ map (mapLine f) ls)
-        | false ↦ leaveOut μ d (map (mapLine f) kept) (take n (map (mapLine f) ls)) (drop n (map (mapLine f) ls) ++ map (mapLine f) behind)
-            >>= λ more. leaveOut μ d more (drop n (map (mapLine f) ls)) (map (mapLine f) behind)
+        | false ↦ leaveOut μ d (map (mapLine f) kept) (take (length (map (mapLine f) ls) / 2) (map (mapLine f) ls))
+            (drop (length (map (mapLine f) ls) / 2) (map (mapLine f) ls) ++ map (mapLine f) behind)
+            >>= λ more. leaveOut μ d more (drop (length (map (mapLine f) ls) / 2) (map (mapLine f) ls)) (map (mapLine f) behind)
       ])
-      single true = gives (sym (map-append (mapLine f) kept ls))
-      single false = halves
+      single by true true e = gives (sym (map-append (mapLine f) kept ls))
+      single by false false e = rw (length-map ls (mapLine f)) (halves by)
+      single by true false e = absurd (let z : ◌≡◌ {A = ℕ} 0 1 = cc in omega arith)
+      single by false true e = absurd (let z : ◌≡◌ {A = ℕ} 0 1 = cc in omega arith)
 
-      half : (r : Bool) → Over (map (mapLine f)) (elim r [
+      half : Leaves d → (r : Bool) → Over (map (mapLine f)) (elim r [
         | true ↦ got kept
         | false ↦ elim (leb (length ls) 1) [
           | true ↦ got (kept ++ ls)
@@ -129,18 +136,22 @@ module _ {N M : Type 0} (ν : Names N) (μ : Names M) (f : N → M) (keeps : Kee
               >>= λ more. leaveOut μ d more (drop (length (map (mapLine f) ls) / 2) (map (mapLine f) ls)) (map (mapLine f) behind)
         ]
       ])
-      half true = gives refl
-      half false = rw (length-map ls (mapLine f)) (single (leb (length ls) 1))
+      half by true = gives refl
+      half by false =
+          single by (leb (length ls) 1) (leb (length (map (mapLine f) ls)) 1) (ap (λ (k : ℕ). leb k 1) (length-map ls (mapLine f)))
 
   pub conflict-in : (cs : List (Con N)) → Over (mapOption (map (mapLine f))) (conflictIn ν cs) (conflictIn μ (map (mapCon f) cs))
   unfolding conflictIn
-  conflict-in cs = rw (lines-map f 0 cs, conflicting-map (linesFrom 0 cs)) (next (same_over (conflicting ν (linesFrom 0 cs))) (λ r r' i. rw i (found r)))
+  conflict-in cs = next whole (λ r r' i. rw i (found r))
     where
+      whole : Over (λ r. r) (conflicting ν (linesFrom 0 cs)) (conflicting μ (linesFrom 0 (map (mapCon f) cs)))
+      whole = rw (lines-map f 0 cs, conflicting-map (linesFrom 0 cs)) (same_over (conflicting ν (linesFrom 0 cs)))
+
       found : (r : Bool) → Over (mapOption (map (mapLine f))) (elim r [
         | true ↦ leaveOut ν 11 [] (linesFrom 0 cs) [] >>= λ ls. got (some ls)
         | false ↦ got none
-      ]) (elim r [ true ↦ leaveOut μ 11 [] (map (mapLine f) (linesFrom 0 cs)) [] >>= λ ls. got (some ls) | false ↦ got none ])
-      found true = next (leave-map 11 [] (linesFrom 0 cs) []) (λ ls ls' i. gives (rw i))
+      ]) (elim r [ true ↦ leaveOut μ 11 [] (linesFrom 0 (map (mapCon f) cs)) [] >>= λ ls. got (some ls) | false ↦ got none ])
+      found true = rw (lines-map f 0 cs) (next (leave-map 11 [] (linesFrom 0 cs) []) (λ ls ls' i. gives (rw i)))
       found false = gives refl
 
 module _ {pool table pool' table' : List ℕ} (good : Good pool table) (good' : Good pool' table') where

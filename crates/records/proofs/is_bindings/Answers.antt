@@ -13,7 +13,7 @@ pub returns : goal.returns
 returns c =
     let a = c.args in
     let words : Words32 a.words.now = record { word = λ i. (c.type_inv.words i).fits } in
-    c.listed.ensures ∙ sym (bindings-told a.pool.now a.table.now a.words.now (sym c.in_ok-entry.ensures) words c.bindings_good.result c.bindings_good.ensures)
+    c.listed.ensures ∙ sym (bindings-told a.pool.now a.table.now a.words.now (sym c.in_ok-entry.ensures) words c.all.result c.all.ensures)
 
 pub returns-in_err-entry : goal.returns-in_err-entry
 unfolding bindingsCall

@@ -7,7 +7,7 @@ ghost use Rattle.records.specs.Views.{viewAt};
 ghost use Rattle.records.specs.Holds.{openOf};
 ghost use Rattle.queries.specs.Scans.{opensIn, opensView};
 ghost use Rattle.types.specs.Shapes.{tree_of};
-ghost use Rattle.replace.specs.Places.{nameWord, Tabled, word_of};
+ghost use Rattle.replace.specs.Places.{Called, nameWord, Tabled, unsaid, word_of};
 ghost use Rattle.replace.specs.Runs.{LookedUp};
 ghost use Rattle.replace.specs.Leaves.{replaced};
 
@@ -45,6 +45,29 @@ fn word_of(places: &[u32], o: Open) -> u32
     }
 }
 
+// Does no open name of this number have a word?
+fn is_unsaid(places: &[u32], x: u32) -> bool
+    ensures { result ≡ unsaid places.now x }
+{
+    if word_of(places, Open::Var(x)) != 0 {
+        return false;
+    }
+    if word_of(places, Open::Par(x)) != 0 {
+        return false;
+    }
+    word_of(places, Open::Quant(x)) == 0
+}
+
+// The word of a record that is the number of its open name, if it has one.
+fn number_at(s: &[u32], i: usize) -> u32
+    ensures { Called result (opensView (viewAt s.now i)) }
+{
+    if s.len() / 4 <= i {
+        return 0;
+    }
+    s[i * 4 + 1]
+}
+
 /// Where the type stands that an open name becomes, from its first record up to the end; nothing where the name stays.
 pub fn look_up(places: &[u32], v: &[u32], o: Open) -> Option<(usize, usize)>
     requires { (look : Look ℕ) × Tabled places.now v.now look }
@@ -77,6 +100,9 @@ impl<'a> Substitution<'a> {
     fn changes(self, s: &[u32], i: usize) -> bool
         ensures { result ≡ any (replaced self.entry.lent.0) (opensView (viewAt s.now i)) }
     {
+        if is_unsaid(self.places, number_at(s, i)) {
+            return false; // so it is of most records, and they aren't read
+        }
         match opens_at(s, i) {
             Some(o) => self.look_up(o).is_some(),
             None => false,

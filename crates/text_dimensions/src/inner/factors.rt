@@ -24,10 +24,7 @@ pub struct Factored {
 fn is_at(p: Point) -> bool
     ensures { result ≡ is_at p }
 {
-    match p {
-        Ok(Some(_)) => true,
-        Ok(None) | Err(_) => false,
-    }
+    matches!(p, Point::At(_))
 }
 
 /// A factor: its name is entered, then its power is valued, then it is multiplied.

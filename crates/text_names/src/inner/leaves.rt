@@ -10,8 +10,8 @@ ghost use Rattle.text_names.specs.Leaves.{mark_of, openView, openRule, word_of, 
 
 use super::naming::read_named;
 use super::{Reached, count, place_of, put_head};
-use text_grammar::inner::{Point, mark, next_sign, sign};
 use records::{Basic, Open, View};
+use text_grammar::inner::{Point, mark, next_sign, sign};
 
 fn mark_of(par: bool) -> u8
     ensures { result ≡ mark_of par }

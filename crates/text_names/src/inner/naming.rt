@@ -1,17 +1,18 @@
 //! Names that are read, and entered where they stand.
-ghost use Rattle.std.specs.Prelude.{◌≡◌, List, ℕ, ◌≤◌, Ok, Some, length};
+ghost use Rattle.std.specs.Prelude.{◌≡◌, List, ℕ, ◌≤◌, Ok, length};
 ghost use Rattle.rules.specs.Grammar.{name};
 ghost use Rattle.rules.specs.Names.{Bytes};
 ghost use Rattle.rules.specs.TextReading.{newIn, enterName, named};
 ghost use Rattle.laws.specs.NameTable.{Good};
 ghost use Rattle.names.specs.Told.{entered};
+ghost use Rattle.text_grammar.specs.declared.inner.Point.TheVariants as point;
 ghost use Rattle.text_names.specs.Effects.{lent, Room, Ready, Done};
 ghost use Rattle.text_names.specs.Naming.{standAfter, numberTold, Front, NumberTold};
 
 use super::{At, Reached, Stand, Tally};
 use names::inner::enter_good;
-use text_grammar::inner::read_name;
 use rules::{NAME_BYTES, Refusal, Was};
+use text_grammar::inner::{Point, read_name};
 use text_scan::inner::scan_name;
 
 /// A name: where it ends, how the sheet stands then, and its number; 0 where it has none.
@@ -76,14 +77,14 @@ fn enter_at(line: &[u8], at: usize, tally: Tally, pool: &mut [u8], table: &mut [
     requires within { at ≤ length line.now }
     requires good { Good pool.old table.old }
     requires room { Room table.old tally.names tally.records }
-    ensures { (dst : List ℕ) → Done line.now name named (NumberTold table.new result.number) (Ok (Some at)) (lent pool.old table.old dst (Ok tally))
+    ensures { (dst : List ℕ) → Done line.now name named (NumberTold table.new result.number) (point.At at) (lent pool.old table.old dst (Ok tally))
         result.end.at (lent pool.new table.new dst result.end.stand) }
 {
     let mut bytes = [0u8; NAME_BYTES];
     match scan_name(line, at, &mut bytes) {
         Err(q) => Named {
             end: Reached {
-                at: Err(q),
+                at: Point::Bad(q),
                 stand: Ok(tally),
             },
             number: 0,
@@ -92,7 +93,7 @@ fn enter_at(line: &[u8], at: usize, tally: Tally, pool: &mut [u8], table: &mut [
             let a = enter_front(&bytes, name.size, pool, table);
             Named {
                 end: Reached {
-                    at: Ok(Some(name.end)),
+                    at: Point::At(name.end),
                     stand: stand_after(at, tally, a),
                 },
                 number: number_told(a),
@@ -115,15 +116,11 @@ pub fn read_named(line: &[u8], from: Reached, pool: &mut [u8], table: &mut [u32]
             number: 0,
         };
     };
-    match from.at {
-        Ok(Some(i)) => enter_at(line, i, tally, pool, table),
-        Ok(None) => Named {
+    let Point::At(i) = from.at else {
+        return Named {
             end: from,
             number: 0,
-        },
-        Err(_) => Named {
-            end: from,
-            number: 0,
-        },
-    }
+        };
+    };
+    enter_at(line, i, tally, pool, table)
 }

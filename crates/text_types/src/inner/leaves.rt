@@ -2,9 +2,9 @@
 ghost use Rattle.text_names.specs.Effects.{lent, Ready};
 ghost use Rattle.text_types.specs.Rows.{LeafDone};
 
+use records::Basic;
 use text_dimensions::inner::whole::enter_dimension;
 use text_grammar::inner::{byte_at, refuse};
-use records::Basic;
 use text_names::inner::Reached;
 use text_names::inner::leaves::{enter_basic, enter_open};
 

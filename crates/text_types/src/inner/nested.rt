@@ -11,8 +11,8 @@ ghost use Rattle.text_types.specs.Members.{FieldsTold, FieldDone};
 use super::leaves::enter_leaf;
 use super::{one_more, pass_if, rises, too_deep};
 use names::tables::NameTable;
-use text_grammar::inner::{byte_at, mark, next_is, next_sign, sign};
 use records::View;
+use text_grammar::inner::{byte_at, mark, next_is, next_sign, sign};
 use text_names::inner::naming::read_named;
 use text_names::inner::{Reached, count, place_of, put_head};
 

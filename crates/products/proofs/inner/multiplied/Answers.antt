@@ -19,7 +19,22 @@ use Rattle.products.specs.Told.{atomAt, tree_of, productOf, factorAt, answer}
 use Rattle.products.specs.Kinds.{value-back}
 use Rattle.products.specs.Places.{at_place, at-end, length-product, given-len}
 use Rattle.products.specs.Held.{Well, well-sound}
-use Rattle.products.specs.Steps.{prepend, doing-start, doing-len, doing-put, doing-kept, doing-stop, doing_end, joined, turn-less, turn_more, turn-same, merge-left, multiply-got, multiply-refused}
+use Rattle.products.specs.Steps.{
+  prepend,
+  doing-start,
+  doing-len,
+  doing-put,
+  doing-kept,
+  doing-stop,
+  doing_end,
+  joined,
+  turn-less,
+  turn_more,
+  turn-same,
+  merge-left,
+  multiply-got,
+  multiply-refused,
+}
 use Rattle.products.proofs.inner.multiplied.Goals as goal
 use Rattle.products.proofs.inner.multiplied.Goals.{then-loop-i-test+else-j-n, else-loop-i-test}
 

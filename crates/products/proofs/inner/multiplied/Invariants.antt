@@ -10,7 +10,8 @@ use Rattle.products.proofs.inner.multiplied.Given as goal
 abbrev pub invariant-loop-i : goal.invariant-loop-i
 invariant-loop-i l =
     (l.i ≤ l.m) × (l.j ≤ l.n)
-    × Doing (merge (numbersOf (table_of l.names.pool.now l.names.table.now)) bounded (drop l.i (productOf l.a)) (drop l.j (productOf l.b))) (merge (numbersOf (table_of l.names.pool.now l.names.table.now)) bounded (productOf l.a) (productOf l.b)) (l.i + l.j) l.out
+    × Doing (merge (numbersOf (table_of l.names.pool.now l.names.table.now)) bounded (drop l.i (productOf l.a)) (drop l.j (productOf l.b)))
+    (merge (numbersOf (table_of l.names.pool.now l.names.table.now)) bounded (productOf l.a) (productOf l.b)) (l.i + l.j) l.out
 
 abbrev pub decreases-loop-i : goal.decreases-loop-i
 decreases-loop-i l = l.m + l.n - (l.i + l.j)

@@ -9,7 +9,8 @@ use Rattle.products.specs.Steps.{Doing}
 use Rattle.products.proofs.inner.raised.Given as goal
 
 abbrev pub invariant-loop-i : goal.invariant-loop-i
-invariant-loop-i l = (l.i ≤ l.n) × ((ν : Names ℕ) → Doing (raise ν bounded (drop l.i (productOf l.a)) (expOf l.e)) (raise ν bounded (productOf l.a) (expOf l.e)) l.i l.out)
+invariant-loop-i l = (l.i ≤ l.n)
+    × ((ν : Names ℕ) → Doing (raise ν bounded (drop l.i (productOf l.a)) (expOf l.e)) (raise ν bounded (productOf l.a) (expOf l.e)) l.i l.out)
 
 abbrev pub decreases-loop-i : goal.decreases-loop-i
 decreases-loop-i l = l.n - l.i

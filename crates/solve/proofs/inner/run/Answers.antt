@@ -1,10 +1,15 @@
 -- `inner::run` meets its contract. The invariant: the rounds that are left give the whole answer.
-use Rattle.std.proofs.Common.{refl, ap, ◌∙◌, arith, List, ℕ, ◌≡◌, ◌≤◌, length, take, drop, ◌++◌, append-nil}
+use Rattle.std.proofs.Common.{refl, ap, subst, ◌∙◌, arith, List, ℕ, ◌≡◌, ◌≤◌, length, take, drop, ◌++◌, append-nil}
 use Rattle.std.proofs.Math.Seq.{drop-length, take-length}
-use Rattle.std.specs.Prelude.{Ok}
+use Rattle.std.proofs.Math.Option.{Option}
+use Rattle.std.specs.Prelude.{Ok, Result}
 use Rattle.rules.specs.Rounds.{State}
-use Rattle.solve_round.specs.States.{StateHeld}
-use Rattle.solve.specs.Running.{begun-state, going-first, going_next, going_end, going-stop, finish-answers, stop-answers}
+use Rattle.rules.specs.Base.{Got}
+use Rattle.rules.specs.declared.Refusal.{Refusal}
+use Rattle.solve_round.specs.declared.After.{After}
+use Rattle.solve_round.specs.declared.Place.{Place}
+use Rattle.solve_round.specs.States.{Rounded, StateHeld}
+use Rattle.solve.specs.Running.{begun-state, going-first, going-here, going-written, going_end, going-stop, finish-answers, stop-answers}
 use Rattle.solve.proofs.inner.run.Goals as goal
 
 -- a buffer that is lent on whole is all of its words
@@ -12,9 +17,13 @@ use Rattle.solve.proofs.inner.run.Goals as goal
 handed : (l k : List ℕ) → k ++ drop (length l) l ≡ k
 handed l k = ap (λ (x : List ℕ). k ++ x) (drop-length l) ∙ append-nil k
 
-module _ {pool table : List ℕ} {n m : ℕ} {st : State ℕ} where
-  whole : (l : List ℕ) → StateHeld pool table l n m st → StateHeld pool table (take (length l) l) n m st
+module _ {pool table : List ℕ} where
+  whole : {p : Place} {st : State ℕ} (l : List ℕ) → StateHeld pool table l p st → StateHeld pool table (take (length l) l) p st
   whole l h = rw (take-length l) h
+
+  round-whole : {w : List ℕ} {r : Result After Refusal} {R : Got (Option (State ℕ))} (l : List ℕ) → Rounded pool table (take (length l) l) w r R
+      → Rounded pool table l w r R
+  round-whole {w} {r} {R} l t = subst (λ (x : List ℕ). Rounded pool table x w r R) (take-length l) t
 
 whole-near : (l : List ℕ) → length l ≡ 8192 → length (take (length l) l) ≤ 4_000_000_000
 whole-near l h = rw (take-length l) (omega (arith, h))
@@ -49,19 +58,48 @@ round-requires c =
     }
 
 pub overflow_add-completed : goal.overflow_add-completed
-overflow_add-completed c =
+overflow_add-completed c = let (cs, h) = c.requires.begun in
+    let g = c.turns.invariant.4 cs h in
+    let t = going-here _ _ c.args.names.good cs h.admitted _ _ _ _ g _ (round-whole c.turns.state.now (c.round.ensures g.state (whole c.turns.state.now g.held)))
+    _ (c.in-Ok-Read.is ∙ ap Ok c.in-Ok-Read.field-0-is) in
+    omega (arith, t.1)
+
+pub turns-smaller-in-Ok-Read : goal.turns-smaller-in-Ok-Read
+turns-smaller-in-Ok-Read c =
     let (cs, h) = c.requires.begun in
     let g = c.turns.invariant.4 cs h in
-    let t = going_next _ _ c.args.names.good cs h.admitted _ _ _ _ _ g _ (c.round.ensures g.state (whole c.turns.state.now g.held)) _
-    (c.in-Ok-Some.is ∙ ap Ok c.in-Ok-Some.field-0-is) in
+    let t = going-here _ _ c.args.names.good cs h.admitted _ _ _ _ g _ (round-whole c.turns.state.now (c.round.ensures g.state (whole c.turns.state.now g.held)))
+    _ (c.in-Ok-Read.is ∙ ap Ok c.in-Ok-Read.field-0-is) in
+    omega (arith, t.1)
+
+pub turns-preserved-in-Ok-Read : goal.turns-preserved-in-Ok-Read
+turns-preserved-in-Ok-Read c =
+    let (r, s, n, w, i) = c.turns.invariant in
+    let next = c.turns.next.now in (
+      r,
+      s,
+      rw (handed next c.round.new.next) (c.round.auto.next ∙ ap length (take-length next) ∙ n),
+      c.round.auto.new ∙ w,
+      λ cs h.
+          let g = i cs h in
+          (going-here _ _ c.args.names.good cs h.admitted _ _ _ _ g _ (round-whole c.turns.state.now (c.round.ensures g.state (whole c.turns.state.now g.held)))
+          _ (c.in-Ok-Read.is ∙ ap Ok c.in-Ok-Read.field-0-is)).0,
+    )
+
+pub overflow_add-completed-in-Ok-Written : goal.overflow_add-completed-in-Ok-Written
+overflow_add-completed-in-Ok-Written c =
+    let (cs, h) = c.requires.begun in
+    let g = c.turns.invariant.4 cs h in
+    let t = going-written _ _ c.args.names.good cs h.admitted _ _ _ _ g _
+    (round-whole c.turns.state.now (c.round.ensures g.state (whole c.turns.state.now g.held))) _ (c.in-Ok-Written.is ∙ ap Ok c.in-Ok-Written.field-0-is) in
     omega (arith, t.1)
 
 pub turns-smaller : goal.turns-smaller
 turns-smaller c =
     let (cs, h) = c.requires.begun in
     let g = c.turns.invariant.4 cs h in
-    let t = going_next _ _ c.args.names.good cs h.admitted _ _ _ _ _ g _ (c.round.ensures g.state (whole c.turns.state.now g.held)) _
-    (c.in-Ok-Some.is ∙ ap Ok c.in-Ok-Some.field-0-is) in
+    let t = going-written _ _ c.args.names.good cs h.admitted _ _ _ _ g _
+    (round-whole c.turns.state.now (c.round.ensures g.state (whole c.turns.state.now g.held))) _ (c.in-Ok-Written.is ∙ ap Ok c.in-Ok-Written.field-0-is) in
     omega (arith, t.1)
 
 pub turns-preserved : goal.turns-preserved
@@ -75,8 +113,8 @@ turns-preserved c =
       λ cs h.
           let g = i cs h in
           rw (c.swap.ensures.x_after, handed next c.round.new.next)
-          (going_next _ _ c.args.names.good cs h.admitted _ _ _ _ _ g _ (c.round.ensures g.state (whole c.turns.state.now g.held)) _
-          (c.in-Ok-Some.is ∙ ap Ok c.in-Ok-Some.field-0-is)).0,
+          (going-written _ _ c.args.names.good cs h.admitted _ _ _ _ g _
+          (round-whole c.turns.state.now (c.round.ensures g.state (whole c.turns.state.now g.held))) _ (c.in-Ok-Written.is ∙ ap Ok c.in-Ok-Written.field-0-is)).0,
     )
 
 pub finish-requires : goal.finish-requires
@@ -87,16 +125,17 @@ finish-requires c =
     record {
       standing = (g.state, whole c.turns.state.now g.held);
       near = whole-near c.turns.state.now s;
+      state_room = whole-room c.turns.state.now s;
       room = omega (arith, ap length r, c.requires.result_room);
     }
 
-pub returns-in-Ok-None : goal.returns-in-Ok-None
-returns-in-Ok-None c =
+pub returns-in-Ok-Nowhere : goal.returns-in-Ok-Nowhere
+returns-in-Ok-Nowhere c =
     let (r, s, n, w, i) = c.turns.invariant in
     λ cs h.
     let g = i cs h in
-    let t = going_end _ _ c.args.names.good cs h.admitted _ _ _ _ _ g _ (c.round.ensures g.state (whole c.turns.state.now g.held))
-    (c.in-Ok-None.is ∙ ap Ok c.in-Ok-None.field-0-is) in
+    let t = going_end _ _ c.args.names.good cs h.admitted _ _ _ _ g _
+    (round-whole c.turns.state.now (c.round.ensures g.state (whole c.turns.state.now g.held))) (c.in-Ok-Nowhere.is ∙ ap Ok c.in-Ok-Nowhere.field-0-is) in
     finish-answers _ _ _ g.state _ _ _ _ _ _ r t (c.finish.ensures g.state (whole c.turns.state.now g.held)) refl
 
 pub returns-in-Err : goal.returns-in-Err
@@ -104,5 +143,5 @@ returns-in-Err c =
     let (r, s, n, w, i) = c.turns.invariant in
     λ cs h.
     let g = i cs h in
-    stop-answers _ _ _ _ _ _ r (going-stop _ _ c.args.names.good cs h.admitted _ _ _ _ _ g _
-    (c.round.ensures g.state (whole c.turns.state.now g.held)) _ c.in-Err.is) c.stopped.ensures
+    stop-answers _ _ _ _ _ _ r (going-stop _ _ c.args.names.good cs h.admitted _ _ _ _ g _
+    (round-whole c.turns.state.now (c.round.ensures g.state (whole c.turns.state.now g.held))) _ c.in-Err.is) c.stopped.ensures

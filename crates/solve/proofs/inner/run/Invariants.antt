@@ -11,7 +11,7 @@ invariant-turns l =
     × (length l.next ≡ 8192)
     × (length l.new ≡ 8192)
     × ((cs : List (Con ℕ)) → Begun l.names.pool.now l.names.table.now l.set cs
-    → Going l.names.pool.now l.names.table.now cs l.state l.ends.constraints l.ends.bindings l.completed)
+    → Going l.names.pool.now l.names.table.now cs l.state l.place l.completed)
 
 abbrev pub decreases-turns : goal.decreases-turns
 decreases-turns l = enough - l.completed

@@ -10,16 +10,16 @@ invariant_of-copy_others c =
 
 pub returns-then-left-gt0 : goal.returns-then-left-gt0
 returns-then-left-gt0 c = λ st h.
-    let b = binds-in _ _ _ _ _ st h in
-    finished-remaining _ _ st _ _ _ (of-state _ _ _ _ _ st h c.copy_others-arg-2-1.given.1.0 c.copy_others-left.ensures) c.if-left-gt0.true
+    let b = binds-in _ _ _ _ st h c.requires.state_room in
+    finished-remaining _ _ st _ _ _ (of-state _ _ _ _ st h c.requires.state_room c.copy_others-arg-2-1.given.1.0 c.copy_others-left.ensures) c.if-left-gt0.true
     (omega (arith, h.short, b.0, h.cons.ends)) c.requires.room h.sound_cons.good
 
 pub accept-bounds-requires-clause-standing : goal.accept-bounds-requires-clause-standing
 accept-bounds-requires-clause-standing c =
     let (st, h) = c.requires.standing in
-    (st, h, (none-remains _ _ _ _ (of-state _ _ _ _ _ st h c.copy_others-arg-2-1.given.1.0 c.copy_others-left.ensures) c.if-left-gt0.false).0)
+    (st, h, (none-remains _ _ _ _ (of-state _ _ _ _ st h c.requires.state_room c.copy_others-arg-2-1.given.1.0 c.copy_others-left.ensures) c.if-left-gt0.false).0)
 
 pub returns : goal.returns
 returns c = λ st h.
-    let r = none-remains _ _ _ _ (of-state _ _ _ _ _ st h c.copy_others-arg-2-1.given.1.0 c.copy_others-left.ensures) c.if-left-gt0.false in
-    finished-accepted _ _ _ _ _ st _ _ _ _ h r.0 r.1 (c.accept-bounds.ensures st h r.0)
+    let r = none-remains _ _ _ _ (of-state _ _ _ _ st h c.requires.state_room c.copy_others-arg-2-1.given.1.0 c.copy_others-left.ensures) c.if-left-gt0.false in
+    finished-accepted _ _ _ _ st _ _ _ _ h r.0 r.1 (c.accept-bounds.ensures st h r.0)

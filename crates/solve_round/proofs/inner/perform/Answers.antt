@@ -2,7 +2,7 @@ use Rattle.std.specs.Prelude.{[]}
 use Rattle.std.proofs.Common.{refl, ap, sym, subst, ◌∙◌, arith}
 use Rattle.solve_round.specs.Parts.{after, appends, SoundSet}
 use Rattle.solve_round.proofs.Limits.{sound-none}
-use Rattle.solve_round.proofs.Performing.{took-bind, took-split, took-done, none-there, binds-same, set-same}
+use Rattle.solve_round.proofs.Performing.{took-bind, took-split, done-is, none-there, binds-same, set-same}
 use Rattle.solve_round.proofs.Written.{append-over, next-as, next-stops}
 use Rattle.solve_round.proofs.inner.perform.Goals as goal
 
@@ -48,6 +48,6 @@ invariant_of-constraints-in-Done c = record { near = c.requires.new_near; trees 
 pub returns-in-Done : goal.returns-in-Done
 returns-in-Done c = λ k t.
     let e = set-same _ _ _ _ (none-there _) c.append-arg-in-Done-2-1.given.1.0 in
-    next-as (ap (after c.args.names.pool.now c.args.names.table.now c.args.rest) (took-done _ _ _ _ _ k t c.in-Done.is) ∙ ap (appends c.args.rest) (sym e))
+    next-as (ap (after c.args.names.pool.now c.args.names.table.now c.args.rest) (done-is t.stepped c.in-Done.is) ∙ ap (appends c.args.rest) (sym e))
     (c.append-in-Done.ensures c.args.names.pool.now c.args.names.table.now t.sound
     (subst (SoundSet c.args.names.pool.now c.args.names.table.now) (sym e) (sound-none c.args.names.pool.now c.args.names.table.now)))

@@ -1,11 +1,10 @@
 use Rattle.std.specs.Prelude.{List}
-use Rattle.std.proofs.Common.{◌≡◌, rules, ap, ap₂, sym, subst, arith}
-use Rattle.rules.specs.Base.{sum_of}
-use Rattle.rules.specs.Trees.{Con, Binding, sizeCon}
+use Rattle.std.proofs.Common.{◌≡◌, refl, rules, ap₂, sym, subst}
+use Rattle.rules.specs.Trees.{Con, Binding}
 use Rattle.solve_round.specs.Standing.{rounded}
 use Rattle.solve_round.specs.States.{SoundSet, SoundBinds}
 use Rattle.solve_round.proofs.Performing.{set-same, binds-same}
-use Rattle.solve_round.proofs.Written.{turned-as}
+use Rattle.solve_round.proofs.Written.{rounded-as}
 use Rattle.solve_round.proofs.inner.round.Goals as goal
 
 pub invariant_of-constraints : goal.invariant_of-constraints
@@ -22,7 +21,9 @@ turn-requires-clause-sound c =
     record {
       cons = subst (SoundSet c.args.names.pool.now c.args.names.table.now) (sym a) h.sound_cons;
       binds = subst (SoundBinds c.args.names.pool.now c.args.names.table.now) (sym b) h.sound_binds;
-      short = omega (arith, ap (sum_of sizeCon) a, h.cons.ends, h.binds.ends, h.short);
+      short = h.short;
+      same = refl;
+      joined = refl;
     }
 
 pub returns : goal.returns
@@ -30,5 +31,5 @@ returns c = λ st h.
     let a = set-same _ _ _ _ h.cons c.turn-arg-2-1.given.1.0 in
     let b = binds-same _ _ _ _ h.binds c.turn-arg-3-1.given.1.0 in
     let back : c.next-1.given.0 ≡ c.turn.new.out.words.now = search rules in
-    rw back (turned-as (ap₂ (λ (cs : List (Con _)) (bs : List (Binding _)). rounded c.args.names (record { cons = cs; binds = bs })) (sym a) (sym b))
-    c.turn.ensures.turned)
+    rw back (rounded-as (ap₂ (λ (cs : List (Con _)) (bs : List (Binding _)). rounded c.args.names (record { cons = cs; binds = bs })) (sym a) (sym b))
+    c.turn.ensures.rounded)

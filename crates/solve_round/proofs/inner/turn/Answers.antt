@@ -1,20 +1,25 @@
 -- What is left of the search decides.
-use Rattle.std.proofs.Common.{refl, ap, sym, subst, ◌∙◌, arith, length}
+use Rattle.std.proofs.Common.{refl, ap, sym, subst, ◌∙◌, arith, length, List, ℕ, ◌≤◌}
+use Rattle.rules.specs.Base.{sum_of}
+use Rattle.rules.specs.Rounds.{depthState, sizeState, State}
+use Rattle.rules.specs.Trees.{sizeCon}
+use Rattle.types.specs.Binds.{IsBinds}
 use Rattle.std.proofs.lemmas.Result.{err_from_is_err_and}
 use Rattle.types.specs.declared.writer.Writer.{Writer}
 use Rattle.types.specs.Shapes.{cons_of}
-use Rattle.solve_round.specs.Parts.{Next, SoundSet}
-use Rattle.solve_round.specs.Standing.{rounded, stateOf}
-use Rattle.solve_round.proofs.Performing.{set-same, some-rule, stuck-is, took-refused}
-use Rattle.solve_round.proofs.Searching.{start, ended, found, applied, stops, on}
-use Rattle.solve_round.proofs.Written.{next-as, next-stops, turned-as}
+use Rattle.solve_round.specs.Parts.{SoundSet}
+use Rattle.solve_round.proofs.Limits.{depth-is, size-is}
+use Rattle.solve_round.proofs.Performing.{done-is, set-same, some-rule, stuck-is, took-refused}
+use Rattle.solve_round.proofs.Searching.{start, ended, found, applied, done-first, stops, on}
+use Rattle.solve_round.proofs.Written.{rounded-as, wrote}
 use Rattle.solve_round.proofs.inner.turn.Goals as goal
 
 pub search-init : goal.search-init
 search-init c =
     let a = c.args in
     let s = c.requires.sound in
-    (refl, refl, start _ _ _ _ _ _ _ a.constraints.trees.1 s.cons s.short (ap cons_of c.into_iter-c-iterator.ensures.into_iter_gives))
+    let few : sum_of sizeCon a.constraints.trees.0 ≤ 2048 = omega (arith, s.short, s.joined, a.constraints.trees.1.ends, a.bindings.trees.1.ends) in
+    (refl, refl, start _ _ _ _ _ _ _ a.constraints.trees.1 s.cons few (ap cons_of c.into_iter-c-iterator.ensures.into_iter_gives))
 
 pub try_satisfy-requires-clause-con_good : goal.try_satisfy-requires-clause-con_good
 try_satisfy-requires-clause-con_good c = (found _ _ _ _ _ _ _ _ _ c.search.invariant.2 c.in-Some.ensures.steps).good
@@ -26,7 +31,10 @@ pub returns-in_err-step : goal.returns-in_err-step
 returns-in_err-step c =
     let f = found _ _ _ _ _ _ _ _ _ c.search.invariant.2 c.in-Some.ensures.steps in
     let p = err_from_is_err_and c.from_residual.result c.from_residual.ensures.1 in
-    rw (p.1, p.2) (next-stops (ap (λ (w : Writer). w.words.ghost_name) c.search.invariant.1) (stops _ _ _ _ _ _ _ f (took-refused c.in_err-step.ensures)))
+    rw (p.1, p.2) (record {
+      same = ap (λ (w : Writer). w.words.ghost_name) c.search.invariant.1;
+      rounded = rounded-as (stops _ _ _ _ _ _ _ f (took-refused c.in_err-step.ensures)) (record { says = refl });
+    })
 
 pub search-preserved : goal.search-preserved
 search-preserved c = (
@@ -74,33 +82,34 @@ perform-requires c =
       near = omega (arith, ap (λ (w : Writer). length w.words.now) i, c.requires.near);
     }
 
+pub returns-in-Done : goal.returns-in-Done
+returns-in-Done c =
+    let f = found _ _ _ _ _ _ _ _ _ c.search.invariant.2 c.in-Some.ensures.steps in
+    let a = c.args in
+    let s = c.requires.sound in
+    let st : State ℕ = record { cons = f.behind; binds = a.bindings.trees.0 } in
+    let few : sizeState st ≤ 2048 = omega (arith, f.stay.ends, a.bindings.trees.1.ends, s.joined, s.short, size-is st) in
+    let flat : depthState st ≤ 64 = omega (arith, f.sound_behind.flat, s.binds.flat, depth-is st) in
+    record {
+      same = ap (λ (w : Writer). w.words.ghost_name) c.search.invariant.1;
+      rounded = rounded-as (done-first _ _ _ _ _ _ _ f c.if-c-constraints.true (done-is c.in_ok-step.ensures c.in-Done.is) few flat) (record {
+        says = record {
+          cons = rw c.end-at.ensures f.stay;
+          binds = subst (λ (w : List ℕ). IsBinds w a.constraints.end a.bindings.end a.bindings.trees.0) s.same
+              (subst (λ (k : ℕ). IsBinds a.bindings.words.now k a.bindings.end a.bindings.trees.0) s.joined a.bindings.trees.1);
+          sound_cons = f.sound_behind;
+          sound_binds = s.binds;
+          short = s.short;
+        };
+      });
+    }
+
 pub returns-in_default : goal.returns-in_default
 returns-in_default c =
     let f = found _ _ _ _ _ _ _ _ _ c.search.invariant.2 c.in-Some.ensures.steps in
     let b = set-same _ _ _ _ f.passed c.rest-1.given.1.0 in
     let h = set-same _ _ _ _ (rw c.end-at.ensures f.stay) c.rest-in_default-1.given.1.0 in
-    let i = c.search.invariant.1 in
-    subst (λ (w : Writer). Next c.args.names.pool.now c.args.names.table.now w c.perform.new.out c.perform.result
-    (rounded c.args.names (stateOf c.args.constraints c.args.bindings))) i
-    (next-as (applied _ _ _ _ _ _ _ f (record {
-      before = record {
-        words = c.args.constraints.words;
-        at = c.args.constraints.at;
-        end = c.in-Some.c.at;
-        near = c.rest-1.given.0;
-        trees = c.rest-1.given.1.0;
-      };
-      behind =
-          record {
-            words = c.args.constraints.words;
-            at = c.end-at.result;
-            end = c.args.constraints.end;
-            near = c.rest-in_default-1.given.0;
-            trees = c.rest-in_default-1.given.1.0;
-          };
-      bindings = c.args.bindings;
-    }) b h refl (some-rule c.in_ok-step.ensures c.in_default.not-Stuck))
-    (c.perform.ensures c.in-Some.c.tree.0 (record {
+    let n = c.perform.ensures c.in-Some.c.tree.0 (record {
       sound = record {
         before = subst (SoundSet c.args.names.pool.now c.args.names.table.now) (sym b) f.sound_before;
         behind = subst (SoundSet c.args.names.pool.now c.args.names.table.now) (sym h) f.sound_behind;
@@ -111,11 +120,31 @@ returns-in_default c =
       short = omega (arith, f.short);
       was = _;
       stepped = c.in_ok-step.ensures;
-    })))
+    }) in
+    rw c.written.ensures (record {
+      same = n.same ∙ ap (λ (w : Writer). w.words.ghost_name) c.search.invariant.1;
+      rounded = rounded-as (applied _ _ _ _ _ _ _ f (record {
+        before = record {
+          words = c.args.constraints.words;
+          at = c.args.constraints.at;
+          end = c.in-Some.c.at;
+          near = c.rest-1.given.0;
+          trees = c.rest-1.given.1.0;
+        };
+        behind = record {
+          words = c.args.constraints.words;
+          at = c.end-at.result;
+          end = c.args.constraints.end;
+          near = c.rest-in_default-1.given.0;
+          trees = c.rest-in_default-1.given.1.0;
+        };
+        bindings = c.args.bindings;
+      }) b h refl (some-rule c.in_ok-step.ensures c.in_default.not-Stuck)) (wrote n.turned);
+    })
 
 pub returns : goal.returns
 returns c =
     record {
       same = ap (λ (w : Writer). w.words.ghost_name) c.search.invariant.1;
-      turned = turned-as (ended _ _ _ _ _ _ _ c.search.invariant.2 c.in-None.ensures.steps.0) (record { says = refl });
+      rounded = rounded-as (ended _ _ _ _ _ _ _ c.search.invariant.2 c.in-None.ensures.steps.0) (record { says = refl });
     }

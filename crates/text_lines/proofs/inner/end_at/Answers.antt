@@ -2,5 +2,5 @@
 use Rattle.text_lines.specs.Statements.{end-other}
 use Rattle.text_lines.proofs.inner.end_at.Goals as goal
 
-pub returns-then-i-line : goal.returns-then-i-line
-returns-then-i-line c = rw (c.in_ok-i.was, c.in-Some.is) (end-other c.if-i-line.true)
+pub returns-in-At : goal.returns-in-At
+returns-in-At c = rw c.in-At.is (end-other c.if-i-line.true)

@@ -1,14 +1,13 @@
 -- `inner::enter_signs` meets its contract.
-use Rattle.std.proofs.Common.{◌≡◌, Some, None}
-use Rattle.text_lines.specs.Statements.{blank-done}
+use Rattle.std.proofs.Common.{rules}
+use Rattle.text_grammar.specs.Points.{NotAt}
+use Rattle.text_lines.specs.Statements.{blank-done, over-no-place}
 use Rattle.text_lines.proofs.inner.enter_signs.Goals as goal
 
-pub returns-else-i-line : goal.returns-else-i-line
-returns-else-i-line c =
-    let f : c.in-Ok-Some.field-0 ≡ Some c.in-Ok-Some.i = rw c.in-Ok-Some.is at c.in-Ok-Some.field-0-is in
-    rw (c.in-Ok-Some.is, f) (blank-done (rw (c.in-Ok-Some.is, f) at c.requires) c.if-i-line.false)
+pub returns-in_default : goal.returns-in_default
+returns-in_default c = rw c.in-At.is (blank-done (rw c.in-At.is at c.requires) c.if-i-line.false)
 
-pub returns-in-Ok-None : goal.returns-in-Ok-None
-returns-in-Ok-None c =
-    let f : c.in-Ok-None.field-0 ≡ None = rw c.in-Ok-None.is at c.in-Ok-None.field-0-is in
-    rw (c.in-Ok-None.is, f) (blank-done (rw (c.in-Ok-None.is, f) at c.requires) tt)
+pub returns-in_default-2 : goal.returns-in_default-2
+returns-in_default-2 c =
+    let n : NotAt c.args.from.at = search rules in
+    blank-done c.requires (over-no-place _ c.args.from.at n)

@@ -1,16 +1,18 @@
 -- `inner::quote` meets its contract.
-use native.Mathlib.Omega.{arith}
+use Rattle.std.proofs.Common.{arith}
+use Rattle.text_grammar.specs.Points.{stays}
 use Rattle.text_lines.specs.Statements.{quote-there, quote-other, quote-end, quote-past}
 use Rattle.text_lines.proofs.inner.quote.Goals as goal
+use Rattle.text_lines.proofs.inner.quote.Goals.{else-i-line-via-then-i-line+else-line-i-eq34, else-i-line-via-else-i-line}
 
 pub returns-in_default : goal.returns-in_default
-returns-in_default c = rw (c.in_ok-i.was, c.in_default.is) (quote-past _)
+returns-in_default c = stays c.args.p _ tt quote-past tt c.in_default.not-At
 
-pub returns-then-line-i : goal.returns-then-line-i
-returns-then-line-i c = rw (c.in_ok-i.was, c.in-Some.is) (quote-end c.if-line-i.true)
+pub returns-then-line-i-eq34 : goal.returns-then-line-i-eq34
+returns-then-line-i-eq34 c = rw c.in-At.is (quote-there c.if-i-line.true c.if-line-i-eq34.true)
 
-pub returns-then-line-i-ne34 : goal.returns-then-line-i-ne34
-returns-then-line-i-ne34 c = rw (c.in_ok-i.was, c.in-Some.is) (quote-other (omega arith) c.if-line-i-ne34.true)
-
-pub returns : goal.returns
-returns c = rw (c.in_ok-i.was, c.in-Some.is) (quote-there (omega arith) c.if-line-i-ne34.false)
+pub returns-else-i-line : goal.returns-else-i-line
+returns-else-i-line c = rw c.in-At.is (elim c.else-i-line.branch [
+  | else-i-line-via-then-i-line+else-line-i-eq34 w ↦ quote-other w.if-i-line.true w.if-line-i-eq34.false
+  | else-i-line-via-else-i-line w ↦ quote-end (omega (arith, w.if-i-line.false))
+])
