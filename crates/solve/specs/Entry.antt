@@ -113,7 +113,7 @@ module _ {A : Type 0} (g : Table → List (Con ℕ) → Got A) where
     refused-table : (k : ℕ) (a : Got (Unit {0})) → tableKept (table_of pool table) ≡ a → refused k ≡ (lentTable pool table >> a)
         → ◌≡◌ {A = List ℕ → Got A} (λ ws. shortLists (ws ∷ []) >> refused k) (made (table_of pool table))
     refused-table k (got u) q e = clash (let z : refused k ≡ got u = rw l at e in z)
-    refused-table k (refused j) q e = 
+    refused-table k (refused j) q e =
         let z : refused k ≡ refused j = rw l at e in
         ap (made_past (table_of pool table)) (z ∙ sym q)
 

@@ -9,8 +9,8 @@ ghost use Rattle.rules.specs.Batches.{batchCall};
 ghost use Rattle.solve_batch.specs.Told.{batchAs};
 
 use inner::{all_lent, fits, solve_each};
-use records_buffers::inner::clear;
 use names::tables::NameTable;
+use records_buffers::inner::clear;
 use rules::Refusal;
 
 /// Solves several sets. They stand back to back in `sets`, each as long as `lengths` says in records. Their answers are written back to back to the

@@ -9,10 +9,10 @@ ghost use Rattle.rules.specs.Confirming.{confirmCall};
 ghost use Rattle.solve.specs.Told.{solutionAs};
 
 pub use inner::{Confirmed, solve_and_judge};
-use records_buffers::inner::clear;
-use records_buffers::lent;
 use names::tables::NameTable;
 use records::inner::copy;
+use records_buffers::inner::clear;
+use records_buffers::lent;
 use rules::{RECORD_WORDS, Refusal};
 use solve::Solution;
 use solve::inner::{records, stopped};

@@ -14,12 +14,12 @@ ghost use Rattle.types.specs.Written.{Writes};
 ghost use Rattle.solve_conflict.specs.Standing.{standing, Switched, On, LeftOut, line_place};
 ghost use Rattle.solve_conflict.specs.Told.{FoundAs};
 
-use solve_finish::Finish;
 use names::tables::NameTable;
-use records::inner::put;
 use records::Open;
+use records::inner::put;
 use rules::{RECORD_WORDS, RECORDS, Refusal};
 use solve::inner::{enter, run};
+use solve_finish::Finish;
 use types::writer::Writer;
 use types::{Constraint, Constraints, Demand, GivenSet, Shape, Type};
 

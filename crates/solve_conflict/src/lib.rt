@@ -9,9 +9,9 @@ ghost use Rattle.rules.specs.Conflicts.{conflictCall};
 ghost use Rattle.solve_conflict.specs.Told.{conflictsAs};
 
 use inner::find_among;
+use names::tables::NameTable;
 use records_buffers::inner::clear;
 use records_buffers::lent;
-use names::tables::NameTable;
 use rules::Refusal;
 
 /// Which constraints of a set conflict: their places in the set, counted from 0, rising, one a word, stand at the front of the result buffer, whose rest

@@ -39,9 +39,9 @@ sets-preserved c =
     let w = one_written _ l.res _ (l.out * 4) (l.out * 4 + 8192 - l.out * 4) (omega (arith, r)) (omega arith)
     c.solve_set-s.auto.res c.solve_set-s.ensures.answer c.solve_set-s.ensures.buffer in (
       doing-next _ _ _ l.invariant.0 c.sets-test.true w
-      (told-at l.answers _ (l.i * 4) (l.i * 4 + 4 - l.i * 4) _ _ (c.copy_from_slice.ensures.after ∙ c.four_words.ensures) w.answer (omega arith)
-      (omega (arith, b.answer, c.sets-test.true)))
-      (omega (arith, c.records-out.ensures, ap recordsOf w.answer)),
+          (told-at l.answers _ (l.i * 4) (l.i * 4 + 4 - l.i * 4) _ _ (c.copy_from_slice.ensures.after ∙ c.four_words.ensures) w.answer (omega arith)
+          (omega (arith, b.answer, c.sets-test.true)))
+          (omega (arith, c.records-out.ensures, ap recordsOf w.answer)),
       c.solve_set-s.auto.work ∙ l.invariant.1,
     )
 
