@@ -109,7 +109,7 @@ def versions():
         yield "the Rust crates have another version"
     if f'shupkelen-sys = {{ path = "../rust-sys", version = "{version}" }}' not in read("bindings/rust/Cargo.toml"):
         yield "shupkelen asks for another version of shupkelen-sys"
-    for path in sorted((ROOT / "crates/check_edition/src").rglob("*.rt")):
+    for path in sorted((ROOT / "crates/edition_command/src").rglob("*.rt")):
         if any(other != version for other in re.findall(r'\.version\("([^"]*)"\)', path.read_text(encoding="utf-8"))):
             yield "check_edition has another version"
 

@@ -10,9 +10,9 @@ ghost use Rattle.edition.specs.Sheets.{ReadTo};
 use crate::model::{Content, File, Room, Sheet};
 use names::check_table;
 use rules::{Refusal, Unseen};
-use text_sheet::{NotRead, Read};
 use std::alloc::{AllocError, Global};
 use text::read_text;
+use text_sheet::{NotRead, Read};
 
 /// Why the sheets of an edition can't be read: the pool and the table that were lent are short (10) or not well formed (1); there is no memory.
 #[derive(Clone, Copy)]

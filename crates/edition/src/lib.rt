@@ -18,14 +18,14 @@ ghost use Rattle.edition.specs.Told.{Whole};
 ghost use Rattle.edition.specs.Theorems.{AllTrue};
 ghost use Rattle.edition.specs.Why.{editionTold, editionWhy};
 
+use edition_report::words::put_total;
 use intake::{Unready, read_all};
 use model::{File, How, Room, Sheet};
 use names::tables::NameTable;
-use edition_report::words::put_total;
 use rules::{Refusal, Shown};
-use text_spell::sink::Sink;
 use std::alloc::{AllocError, Global};
 use telling::tell_each;
+use text_spell::sink::Sink;
 
 /// How many sheets a report tells of, and how many of them are accepted.
 #[derive(Clone, Copy)]
@@ -71,8 +71,8 @@ fn sunk<E>(told: Result<Counts, E>) -> Result<Counts, Failed<E>>
     }
 }
 
-// Checks an edition, and tells it as it is asked for.
-fn report_as<S: Sink>(
+/// Checks an edition as `report` does, and tells it as it is asked for: which pages, and with or without why a sheet isn't accepted.
+pub fn report_as<S: Sink>(
     alloc: Global,
     pool: &mut [u8],
     table: &mut [u32],
@@ -80,7 +80,8 @@ fn report_as<S: Sink>(
     how: How,
     to: &mut S,
 ) -> Result<Counts, Failed<S::Error>>
-    ensures told { OnOk result ((S.place to.new).held ≡ (S.place to.old).held ++ editionTold how.why how.shown (editionGiven pool.old table.old (files_of files.now))) }
+    ensures told { OnOk result
+        ((S.place to.new).held ≡ (S.place to.old).held ++ editionTold how.why how.shown (editionGiven pool.old table.old (files_of files.now))) }
     ensures counted { IfOk result (λ n. Counted n.sheets n.accepted (editionGiven pool.old table.old (files_of files.now))) }
     ensures truth { AllTrue (editionGiven pool.old table.old (files_of files.now)) }
     ensures leaves { Leaves result (tableGiven pool.old table.old) pool.old table.old pool.new table.new (S.place to.old) (S.place to.new)

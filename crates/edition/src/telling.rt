@@ -11,11 +11,11 @@ ghost use Rattle.edition.specs.Why.{pageTold};
 
 use crate::model::{Content, How, Room, Sheet};
 use crate::why::tell_why;
-use solve_confirm::solve_and_judge;
-use names::tables::NameTable;
 use edition_report::inner::put_page;
 use edition_report::pages::{Outcome, Page};
+use names::tables::NameTable;
 use rules::Shown;
+use solve_confirm::solve_and_judge;
 use text_spell::sink::Sink;
 
 // What becomes of a sheet: its set is solved and judged. What is found stands in the room's result.

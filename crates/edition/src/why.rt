@@ -13,13 +13,13 @@ ghost use Rattle.edition.specs.Files.{IsSheet};
 ghost use Rattle.edition.specs.Why.{conflictHead, lineTold, numbered, unknownText, whyLine, whyText};
 
 use crate::model::{Room, Sheet};
-use solve_conflict::inner::find_among;
-use names::tables::NameTable;
 use edition_report::lines::{constraint_line, line_in};
 use edition_report::pages::Outcome;
 use edition_report::shown::{put_part, put_shown};
 use edition_report::words::{put_amount, put_refused};
+use names::tables::NameTable;
 use rules::Refusal;
+use solve_conflict::inner::find_among;
 use text_spell::sink::Sink;
 
 /// Which constraints of a sheet conflict, where constraints remain of it: their places in its set, counted from 0, stand at the front of the room's result.
@@ -30,7 +30,8 @@ pub fn conflict_in(
     outcome: Outcome,
     room: &mut Room,
 ) -> Result<Option<usize>, Refusal>
-    ensures { FoundAs (askedBy outcome (conflictOf (table_of names.entry.pool.now names.entry.table.now) sheet.now.records.items)) room.old.res room.new.res result }
+    ensures { FoundAs (askedBy outcome (conflictOf (table_of names.entry.pool.now names.entry.table.now) sheet.now.records.items)) room.old.res
+        room.new.res result }
 {
     match outcome {
         Outcome::Remains { .. } => {

@@ -19,8 +19,8 @@ use crate::words::put_unseen;
 use names::tables::NameTable;
 use records::View;
 use records::seen::{length_at, view_at};
-use text_write::inner::constraint_at;
 use text_spell::sink::Sink;
+use text_write::inner::constraint_at;
 use types::Type;
 
 // The type whose first record is the one at `at`.

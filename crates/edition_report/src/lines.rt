@@ -3,8 +3,8 @@ ghost use Rattle.std.specs.Prelude.{◌≡◌};
 ghost use Rattle.rules.specs.Reports.{constraintLine, holdsSome, lineIn};
 ghost use Rattle.edition_report.specs.Ahead.{leftBehind};
 
-use text_scan::inner::skip_blanks;
 use text_columns::inner::line_end;
+use text_scan::inner::skip_blanks;
 
 /// The line with this number, counted from 1; the empty line where there is none.
 pub fn line_in(text: &[u8], number: usize) -> &[u8]

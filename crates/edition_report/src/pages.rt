@@ -16,8 +16,8 @@ use crate::lines::{constraint_line, line_in};
 use crate::shown::{put_part, show_line};
 use crate::words::{put_amount, put_quantity, put_refused};
 use rules::{Refusal, Unseen};
-use text_sheet::NotRead;
 use solve::{Finish, Solution};
+use text_sheet::NotRead;
 use text_spell::sink::Sink;
 
 /// What became of a sheet. Rows of bindings and bounds, or of what remains, stand at the front of a list: so many records of each.

@@ -9,10 +9,10 @@ ghost use Rattle.edition_report.specs.Rows.{bareText};
 
 use names::tables::NameTable;
 use records::Open;
+use text_spell::sink::Sink;
 use text_write::factors::{put_held, put_open};
 use text_write::lines::write_con;
 use text_write::terms::write_type;
-use text_spell::sink::Sink;
 use types::{Constraint, Type};
 
 /// Puts the line of a binding.

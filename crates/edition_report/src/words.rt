@@ -3,26 +3,11 @@ ghost use Rattle.std.specs.Prelude.{◌≡◌, ◌++◌, eqb};
 ghost use Rattle.rules.specs.Grammar.{ascii};
 ghost use Rattle.rules.specs.Refusals.{number_of};
 ghost use Rattle.rules.specs.Reports.{amount, ending, quantity, reason, refusedText, unseenText, totalText};
-ghost use Rattle.rules.specs.TextWriting.{decimal};
 ghost use Rattle.text_spell.specs.Sinks.{Puts};
 
 use rules::{Refusal, Unseen};
+use text_spell::put_digits;
 use text_spell::sink::Sink;
-
-// Puts a number in decimal digits, at most k of them.
-#[tactic(auto, using(text_spell::proofs::Names::digits), unfolding(rules::specs::TextWriting::decimal))]
-fn put_digits<S: Sink>(to: &mut S, k: usize, n: usize) -> Result<(), S::Error>
-    ensures { Puts (S.place to.old) (decimal k n) result (S.place to.new) }
-{
-    if k == 0 {
-        return Ok(());
-    }
-    if n < 10 {
-        return to.put(&[b'0' + n as u8]);
-    }
-    put_digits(to, k - 1, n / 10)?;
-    to.put(&[b'0' + (n % 10) as u8])
-}
 
 /// Puts a number: its last ten digits, if it has more.
 pub fn put_amount<S: Sink>(to: &mut S, n: usize) -> Result<(), S::Error>

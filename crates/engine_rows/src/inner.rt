@@ -12,7 +12,7 @@ ghost use Rattle.rules.specs.Contents.{sort};
 ghost use Rattle.rules.specs.Refusals.{toldBy};
 ghost use Rattle.laws.specs.ReadLists.{Every};
 ghost use Rattle.records.specs.Good.{numbers};
-ghost use Rattle.queries.specs.Marks.{Marks, Filled};
+ghost use Rattle.queries.specs.Marks.{Has, Filled};
 ghost use Rattle.engine_rows.specs.Columns.{basesAtom, basesView, basesIn, Known, headed, listed};
 ghost use Rattle.engine_rows.specs.Lines.{saysScalar, countOf, Lined, rowsOf, Roomy, laidOut};
 ghost use Rattle.engine_rows.specs.Atoms.{openRank, openNumber, atomRank, atomNumber, sameAtom, HeldGood, RowIs};
@@ -22,7 +22,8 @@ use engine_matrix::inner::rows::{Row, with_power};
 use exponents::Exponent;
 use names::tables::NameTable;
 use queries::Kind;
-use queries::inner::{list_names, mark, sort_names};
+use queries::inner::list_names;
+use queries::name_set::NameSet;
 use records::seen::view_at;
 use records::{Atom, Open, View};
 use rules::{NAMES, Refusal};
@@ -207,13 +208,17 @@ fn base_at(v: View) -> Option<u32>
     }
 }
 
-// Marks the base dimensions that the records before e name.
-fn mark_bases(s: &[u32], e: usize, m: &mut [bool; NAMES])
-    ensures { (xs : List ℕ) → Marks m.old xs → Marks m.new (xs ++ basesIn s.now 0 e) }
+/// The base dimensions that the records before e name.
+fn base_names(s: &[u32], e: usize) -> NameSet
+    ensures { Has result (basesIn s.now 0 e) }
 {
+    let mut found = NameSet::new();
     for i in 0..e {
-        mark(m, base_at(view_at(s, i)));
+        if let Some(x) = base_at(view_at(s, i)) {
+            found.insert(x);
+        }
     }
+    found
 }
 
 // Lists the base dimensions, sorted, and says how many.
@@ -222,9 +227,7 @@ fn list_bases(names: NameTable, s: &[u32], e: usize, out: &mut [u32]) -> usize
     requires room { 256 ≤ length out.old }
     ensures { Filled (sort (numbers names.entry.pool.now names.entry.table.now) (basesIn s.now 0 e)) result out.old out.new }
 {
-    let mut m = [false; NAMES];
-    mark_bases(s, e, &mut m);
-    sort_names(names, m, out)
+    base_names(s, e).write_sorted(names, out)
 }
 
 // Lists the columns: variables, then parameters, then base dimensions, each sorted; 8 where they are too many.

@@ -1,5 +1,5 @@
 -- The checks of the judge at entry, and what is known where they are met.
-use Rattle.std.specs.Prelude.{◌≡◌, Bool, true, ◌&&◌, List, [], ◌∷◌, ◌++◌, map, ℕ, ◌/◌, ◌%◌, ◌≤◌, ◌<◌, eqb, length, replicate, Result}
+use Rattle.std.specs.Prelude.{Option, Some, None, ◌≡◌, Bool, true, ◌&&◌, List, [], ◌∷◌, ◌++◌, map, ℕ, ◌/◌, ◌%◌, ◌≤◌, ◌<◌, eqb, length, replicate, Result}
 use Rattle.std.proofs.Math.Path.{refl, sym}
 use Rattle.std.proofs.Common.{◌∙◌}
 use Rattle.std.proofs.Math.Bool.{false, and-eq-true_iff}
@@ -38,7 +38,8 @@ use Rattle.laws.specs.NameTable.{Good}
 use Rattle.records.specs.Good.{Chain, Chained, GoodBound, numbers, goodOpen}
 use Rattle.records.specs.Given.{list-yes, list-told}
 use Rattle.records.specs.Schemes.{bound-reader}
-use Rattle.queries.specs.Marks.{Marks}
+use Rattle.queries.specs.declared.name_set.NameSet.{NameSet}
+use Rattle.queries.specs.Marks.{Has}
 use Rattle.judge.specs.Told.{judgedAs}
 
 -- 10
@@ -182,9 +183,9 @@ module _ (pool table : List ℕ) where
   -- ══ Bounds ══
 
   module _ (bounds : List ℕ) where
-    abbrev pub BoundsGiven : List Bool → Bool → Type 0
-    BoundsGiven m true = (xs : List ℕ) × ((risingBounds (table_of pool table) bounds ≡ got xs) × Marks m xs)
-    BoundsGiven m false = risingBounds (table_of pool table) bounds ≡ refused 1
+    abbrev pub BoundsGiven : Option NameSet → Type 0
+    BoundsGiven (Some m) = (xs : List ℕ) × ((risingBounds (table_of pool table) bounds ≡ got xs) × Has m xs)
+    BoundsGiven None = risingBounds (table_of pool table) bounds ≡ refused 1
 
     none : {A : Type 0} (m : Got A) → (m >> got (tt {0})) ≡ refused 1 → m ≡ refused 1
     none (got a) e = clash (sym e)

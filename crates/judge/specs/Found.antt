@@ -26,7 +26,8 @@ use Rattle.records.specs.Places.{seen, seen-in, words-from}
 use Rattle.records.specs.Views.{recs, from}
 use Rattle.records.specs.declared.Open.TheVariants as opens
 use Rattle.records.specs.declared.View.TheVariants as view
-use Rattle.queries.specs.Marks.{Marks}
+use Rattle.queries.specs.declared.name_set.NameSet.{NameSet}
+use Rattle.queries.specs.Marks.{Has}
 use Rattle.replace.specs.Runs.{HoldsAll, Run, looked-good}
 use Rattle.replace.specs.Well.{Listed, Lent}
 use Rattle.judge_proposals.specs.Bounds.{BoundsThere}
@@ -144,6 +145,6 @@ module _ (pool table found : List ℕ) (b n : ℕ) (bs : List (Binding ℕ)) (ns
   same_names [] = refl
   same_names (n ∷ ns) = ap (n ∷◌) (same_names ns)
 
-  pub marked : {m : List Bool} → (BoundsThere pool table (take (b * 4 + n * 4 - b * 4) (drop (b * 4) found)) (map (λ n. var n) ns)
-      → Marks m ([] ++ map word_of (map (λ n. var n) ns))) → Marks m ns
-  marked {m} f = subst (Marks m) (same_names ns) (f bounds-there)
+  pub marked : {m : NameSet} → (BoundsThere pool table (take (b * 4 + n * 4 - b * 4) (drop (b * 4) found)) (map (λ n. var n) ns)
+      → Has m (map word_of (map (λ n. var n) ns))) → Has m ns
+  marked {m} f = subst (Has m) (same_names ns) (f bounds-there)

@@ -1,5 +1,5 @@
 // The steps of the judge past the slice of entries, which comes as slots by variable.
-ghost use Rattle.std.specs.Prelude.{◌≡◌, false, List, ℕ, ◌≤◌, length, replicate};
+ghost use Rattle.std.specs.Prelude.{◌≡◌, List, ℕ, ◌≤◌, length};
 ghost use Rattle.rules.specs.Base.{got, need};
 ghost use Rattle.rules.specs.Calls.{Entry, judgedSet, judgeCall};
 ghost use Rattle.rules.specs.Names.{table_of, lentTable};
@@ -12,15 +12,16 @@ ghost use Rattle.judge.specs.Found.{FoundThere, FoundJudged};
 ghost use Rattle.judge.specs.Entry.{lentAll, entered, Entered, BoundsGiven, judgedRest};
 
 use judge_entries::inner::{Slots, fill};
-use records_buffers::inner::clear;
-use names::tables::NameTable;
-use replace_table::inner::fill as note_all;
-use judge_proposals::inner::bounds::{mark_all, rise};
+use judge_proposals::inner::bounds::{bound_names, rise};
 use judge_proposals::inner::mixed::apart;
+use judge_trials::inner::{first_failing, try_all};
+use names::tables::NameTable;
+use queries::name_set::NameSet;
 use records::inner::bounds_good;
 use records::is_set;
+use records_buffers::inner::clear;
+use replace_table::inner::fill as note_all;
 use rules::{NAMES, POOL_BYTES, RECORD_WORDS, RECORDS, Refusal, TABLE_WORDS, WORK_WORDS};
-use judge_trials::inner::{first_failing, try_all};
 
 // Is everything that is lent long enough?
 fn lent(pool: &[u8], table: &[u32], work: &[u32]) -> bool
@@ -54,23 +55,21 @@ fn enter(
     is_set(pool, table, set)
 }
 
-// Are these bounds with names that rise? Then they are marked.
-fn bounds_given(names: NameTable, bounds: &[u32], m: &mut [bool; NAMES]) -> bool
-    requires { m.old ≡ replicate 256 false }
-    ensures { BoundsGiven names.entry.pool.now names.entry.table.now bounds.now m.new result }
+// The names of the bounds, where these are bounds with names that rise.
+fn bounds_given(names: NameTable, bounds: &[u32]) -> Option<NameSet>
+    ensures { BoundsGiven names.entry.pool.now names.entry.table.now bounds.now result }
 {
     let good = bounds_good(names, 0, bounds, 0);
     if bounds.len() % 4 != 0 {
-        return false;
+        return None;
     }
     if !good {
-        return false;
+        return None;
     }
     if !rise(names, bounds) {
-        return false;
+        return None;
     }
-    mark_all(bounds, m);
-    true
+    Some(bound_names(bounds))
 }
 
 // Past the set: entries and bounds (1), names that are both (4), then constraint by constraint.
@@ -93,14 +92,13 @@ fn judge_rest(
     if !fill(names, types, slots, &mut places) {
         return Err(Refusal::Malformed);
     }
-    let mut m = [false; NAMES];
-    if !bounds_given(names, bounds, &mut m) {
+    let Some(allowed) = bounds_given(names, bounds) else {
         return Err(Refusal::Malformed);
-    }
+    };
     if !apart(set, types, &places) {
         return Err(Refusal::Mixed);
     }
-    try_all(names, set, &places, types, &m, work)
+    try_all(names, set, &places, types, &allowed, work)
 }
 
 // All that the judge does past the check of 10, except for clearing the work buffer.
@@ -173,9 +171,8 @@ pub fn judge_found(
 {
     let mut places = [0u32; NAMES];
     note_all(found.words, 0, found.bindings, &mut places);
-    let mut marks = [false; NAMES];
     let from = found.bindings * 4;
     let to = from + found.bounds * 4;
-    mark_all(&found.words[from..to], &mut marks);
-    first_failing(names, set, &places, found.words, &marks, work)
+    let allowed = bound_names(&found.words[from..to]);
+    first_failing(names, set, &places, found.words, &allowed, work)
 }

@@ -9,9 +9,9 @@ ghost use Rattle.rules.specs.Calls.{judgeCall};
 ghost use Rattle.judge_entries.specs.Entries.{told};
 ghost use Rattle.judge.specs.Told.{judgedAs};
 
+use inner::judge_slots;
 use judge_entries::Entry;
 use judge_entries::inner::slots_of;
-use inner::judge_slots;
 use rules::Refusal;
 
 /// Is each constraint of the set true once the entries' bindings are put in? `bounds` are names that any dimension may stand for.

@@ -1,137 +1,185 @@
--- The comparison arm by arm.
-use mathlib.Core.Path.{◌≡◌, refl, sym, ap, ap₂, subst, ◌∙◌}
-use mathlib.Core.Bool.{Bool, true, false}
-use mathlib.Core.List.{List, [], ◌∷◌}
-use Prim.Native.Nat.{ℕ, ◌+◌, ◌<◌}
-use borrow.Author.Tests.{eqb-true, eqb-false}
-use denote.Enum.Declared
-use types.Run.{OneOf, miss}
-use lib.Dec.{eqb}
-use lib.ListN.{length, drop}
-use Rattle.rules.specs.Exponents.{frac}
-use Rattle.rules.specs.Trees.{Factor, ◌↑◌, Product, Ty, opened, basic, dim, fn, struct, list}
-use Rattle.rules.specs.Plain.{plain}
-use Rattle.rules.specs.Writing.{signed}
-use Rattle.laws.specs.Counts.{plain-count}
-use Rattle.records.specs.Views.{viewAt}
-use Rattle.records.specs.Holds.{openOf, basicOf, atomOf, HoldsProduct, HoldsFactor, HoldsFactors, Holds}
-use Rattle.records.specs.ByView.{by-view}
+-- When two types mean the same, by what both are read as.
+use Rattle.std.specs.Prelude.{◌≡◌, refl, Bool, true, false, ◌&&◌, Decides, List, ℕ}
+use Rattle.std.proofs.Common.{ap, ap₂, sym, ◌∙◌, arith}
+use Rattle.rules.specs.Base.{is_yes}
+use Rattle.rules.specs.Meaning.{means}
+use Rattle.rules.specs.Names.{Bytes, numbered}
+use Rattle.rules.specs.Plain.{plain, plainTys}
+use Rattle.rules.specs.Trees as tree
+use Rattle.rules.specs.Trees.{Product, Names, Ty, opened, basic, dim, fn, struct, list, Tys, nil, cons, noFields, ty-dec}
+use Rattle.laws.specs.Lists.{true≢false, yes-is, is-yes, is-no}
+use Rattle.records.specs.Holds.{openOf, viewOpen, basicOf, viewBasic}
 use Rattle.records.specs.declared.Open as names
-use Rattle.records.specs.declared.Atom as atoms
 use Rattle.records.specs.declared.Basic as basics
-use Rattle.records.specs.declared.View.{View}
-use Rattle.records.specs.declared.View.TheVariants as view
-use Rattle.records.specs.contracts.View as views
-use Rattle.types.specs.Held.{holds_at}
-use Rattle.judge_meaning.specs.Heads.{Decides, SaysFactor, TellsFactors, head_of, headAtom, reads}
-use Rattle.judge_meaning.specs.HeadLaws.{same-heads, same-atoms, factor-is, same-words, words_are}
-use Rattle.judge_meaning.specs.declared.inner.Head.{Head}
+use Rattle.types.specs.declared.Fields as fields
+use Rattle.types.specs.declared.Product as types
+use Rattle.types.specs.declared.Shape.{Shape}
+use Rattle.types.specs.declared.Shape.TheVariants as shape
+use Rattle.types.specs.declared.Type as one
+use Rattle.types.specs.declared.Types as lists
+use Rattle.judge_meaning.specs.Read.{read_as}
+use Rattle.judge_meaning.proofs.Reading.{dim-back}
 
--- ══ Heads ══
+-- ══ Answers of tests ══
 
-pub by-many : (a b : Head) → a.kind ≡ b.kind → a.name ≡ b.name → Decides (eqb a.many b.many) (a ≡ b)
-by-many a b p q = go (eqb a.many b.many) refl
-  where
-    go : (r : Bool) → eqb a.many b.many ≡ r → Decides r (a ≡ b)
-    go true e = same-heads a b p q (eqb-true a.many b.many e)
-    go false e = λ i. eqb-false a.many b.many e (ap (λ (h : Head). h.many) i)
+pub never : {P : Type 0} → (P → ⊥) → Decides false P
+never f = (λ i. absurd (true≢false (sym i)), λ p. absurd (f p))
 
--- ══ The other arms ══
+pub always : {P : Type 0} → P → Decides true P
+always p = (λ i. p, λ q. refl)
 
--- the view has one of these tags
-abbrev pub Tagged : List ℕ → View → Type 0
-Tagged ks v = OneOf ks (Declared.tag_of views.the_type v)
+-- of two tests, where the first says yes, and where it says no
+pub second : {P Q : Type 0} {r : Bool} → P → Decides r Q → Decides r (P × Q)
+second p d = (λ i. (p, d.0 i), λ q. d.1 q.1)
 
--- the views that are no type
-abbrev pub untyped : List ℕ
-untyped = 6 ∷ 7 ∷ 8 ∷ 9 ∷ 10 ∷ 11 ∷ 12 ∷ 13 ∷ 14 ∷ 15 ∷ 16 ∷ []
+pub first : {P Q : Type 0} {r : Bool} → r ≡ false → (P → ⊥) → Decides r (P × Q)
+first e f = (λ i. absurd (true≢false (sym i ∙ e)), λ p. absurd (f p.0))
 
--- and those that are no factor
-abbrev pub unfactored : List ℕ
-unfactored = 0 ∷ 1 ∷ 2 ∷ 3 ∷ 4 ∷ 5 ∷ 6 ∷ 8 ∷ 9 ∷ 10 ∷ 11 ∷ 12 ∷ 13 ∷ 14 ∷ 15 ∷ 16 ∷ []
+pub not-so : {P : Type 0} {r : Bool} → Decides r P → r ≡ false → P → ⊥
+not-so d e p = true≢false (sym (d.1 p) ∙ e)
 
-pub no-factor : {v : View} {a : atoms.Atom} {n d : ℕ} → v ≡ view.Factor a n d → Tagged unfactored v → ⊥
-no-factor e k = miss unfactored 7 tt (subst (Tagged unfactored) e k)
+pub decides-as : {P Q : Type 0} {r : Bool} → (P → Q) → (Q → P) → Decides r P → Decides r Q
+decides-as f g d = (λ i. f (d.0 i), λ q. d.1 (g q))
 
-pub no-type : {v : View} (s : List ℕ) (at : ℕ) (t : Ty ℕ) → Holds s t at → v ≡ viewAt s at → Tagged untyped v → ⊥
-unfolding Holds HoldsProduct
-no-type s at (opened o) h e k = miss untyped 0 tt (subst (Tagged untyped) (e ∙ h.0) k)
-no-type s at (basic b) h e k = miss untyped 1 tt (subst (Tagged untyped) (e ∙ h.0) k)
-no-type s at (dim p) h e k = miss untyped 2 tt (subst (Tagged untyped) (e ∙ h.0) k)
-no-type s at (fn ps r) h e k = miss untyped 3 tt (subst (Tagged untyped) (e ∙ h.0) k)
-no-type s at (struct n as' fs) h e k = miss untyped 4 tt (subst (Tagged untyped) (e ∙ h.0) k)
-no-type s at (list t) h e k = miss untyped 5 tt (subst (Tagged untyped) (e ∙ h.0) k)
-
--- ══ The head at a place ══
-
-module _ (s : List ℕ) (at : ℕ) {v : View} (e : v ≡ viewAt s at) where
-  abbrev pub Read : Head → Type 0
-  Read r = (t : Ty ℕ) → Holds s t at → r ≡ reads t
-
-  pub open-read : {o : names.Open} {r : Head} → v ≡ view.Opened o → r ≡ head_of (opened (openOf o)) → Read r
-  unfolding plain
-  open-read {r = r} k h t i = by-view s (λ t. r ≡ reads t) t at i (sym e ∙ k) h
-
-  pub basic-read : {b : basics.Basic} {r : Head} → v ≡ view.Basic b → r ≡ head_of (basic (basicOf b)) → Read r
-  unfolding plain
-  basic-read {r = r} k h t i = by-view s (λ t. r ≡ reads t) t at i (sym e ∙ k) h
-
-  pub fn-read : {n m : ℕ} → v ≡ view.Function n → m ≡ n → Read (record { kind = 7; name = 0; many = m + 1 })
-  unfolding plain
-  fn-read {m = m} k h t i = by-view s (λ t. record { kind = 7; name = 0; many = m + 1 } ≡ reads t) t at i (sym e ∙ k)
-      (λ ps u c x y. ap (λ (n : ℕ). record { kind = 7; name = 0; many = n + 1 }) (h ∙ sym c ∙ sym (plain-count ps false)))
-
-  pub struct-read : {x n f m : ℕ} → v ≡ view.Struct x n f → m ≡ n → Read (record { kind = 8; name = x; many = m })
-  unfolding plain
-  struct-read {x = x} {m = m} k h t i = by-view s (λ t. record { kind = 8; name = x; many = m } ≡ reads t) t at i (sym e ∙ k)
-      (λ ps fs c c₂ a b. ap (λ (n : ℕ). record { kind = 8; name = x; many = n }) (h ∙ sym c ∙ sym (plain-count ps false)))
-
-  pub list_read : v ≡ view.List → Read (record { kind = 10; name = 0; many = 1 })
-  unfolding plain
-  list_read k t i = by-view s (λ t. record { kind = 10; name = 0; many = 1 } ≡ reads t) t at i (sym e ∙ k) (λ u a. refl)
-
-  pub dim-read : {n : ℕ} {r : Head} → v ≡ view.Dim n → ((p : Product ℕ) → HoldsFactors s p (at + 1) → length p ≡ n → r ≡ reads (dim p)) → Read r
-  dim-read {r = r} k h t i = by-view s (λ t. r ≡ reads t) t at i (sym e ∙ k) (λ p c f. h p f c)
-
--- ══ Factors ══
-
-pub unsaid : (v : View) (f : Factor ℕ) → SaysFactor v f → Tagged unfactored v → ⊥
-unsaid v (a ↑ frac n d) h k = no-factor h.0 k
-
-module _ {v w : View} {a b : atoms.Atom} {n m d e : ℕ} (p : v ≡ view.Factor a n d) (q : w ≡ view.Factor b m e) where
-  alike : (f g : Factor ℕ) → SaysFactor v f → SaysFactor w g → f ≡ g → view.Factor a n d ≡ view.Factor b m e
-  alike f g h k = same-words f g (words_are f h p) (words_are g k q)
-
-  pub num-differs : (n ≡ m → ⊥) → TellsFactors v w false
-  num-differs o f g h k i = let z = alike f g h k i in o (cc)
-
-  pub den-differs : (d ≡ e → ⊥) → TellsFactors v w false
-  den-differs o f g h k i = let z = alike f g h k i in o (cc)
-
-  pub by-atoms : (r : Bool) → n ≡ m → d ≡ e → Decides r (headAtom (atomOf a) ≡ headAtom (atomOf b)) → TellsFactors v w r
-  by-atoms r x y h f g i j = go r h
+module _ {r : Bool} (ν : Names ℕ) (x y : Ty ℕ) where
+  pub told : Decides r (plain x false ≡ plain y false) → r ≡ means ν x y
+  unfolding means
+  told d = go r d
     where
-      go : (r : Bool) → Decides r (headAtom (atomOf a) ≡ headAtom (atomOf b)) → Decides r (f ≡ g)
-      go true h = factor-is f i p ∙ ap₂ ◌↑◌ (same-atoms (atomOf a) (atomOf b) h) (ap₂ frac (ap signed x) y) ∙ sym (factor-is g j q)
-      go false h = λ l. let z = alike f g i j l in let c : a ≡ b = cc in h (ap (λ (u : atoms.Atom). headAtom (atomOf u)) c)
+      go : (r : Bool) → Decides r (plain x false ≡ plain y false) → r ≡ means ν x y
+      go true d = sym (is-yes (ty-dec ν (plain x false) (plain y false)) (d.0 refl))
+      go false d = sym (is-no (ty-dec ν (plain x false) (plain y false)) (λ e. true≢false (sym (d.1 e))))
 
--- ══ Factor after factor ══
+  pub tells : r ≡ means ν x y → Decides r (plain x false ≡ plain y false)
+  unfolding means
+  tells h = (λ i. yes-is (ty-dec ν (plain x false) (plain y false)) (sym h ∙ i), λ e. h ∙ is-yes (ty-dec ν (plain x false) (plain y false)) e)
 
-held-says : (s : List ℕ) (at : ℕ) (v : View) (f : Factor ℕ) → v ≡ viewAt s at → HoldsFactor s f at → SaysFactor v f
-held-says s at v (a ↑ frac n d) e h = (e ∙ h.0, h.1)
+  module _ {a b : Ty ℕ} (p : a ≡ plain x false) (q : b ≡ plain y false) where
+    pub by-read : Decides r (a ≡ b) → r ≡ means ν x y
+    by-read d = told (decides-as (λ e. sym p ∙ e ∙ q) (λ e. p ∙ e ∙ sym q) d)
 
-module _ (s : List ℕ) (at : ℕ) (t : List ℕ) (k i : ℕ) (v w : View) (e : v ≡ viewAt s (at + i)) (o : w ≡ viewAt t (k + i)) (p q : Product ℕ)
-    (h : HoldsFactors s p at) (j : HoldsFactors t q k) (l : i < length p) (m : i < length q) where
-  pub factors-on : TellsFactors v w true → drop (i + 1) p ≡ drop (i + 1) q → drop i p ≡ drop i q
-  factors-on d x =
-      let f = holds_at s p at i h l in
-      let g = holds_at t q k i j m in
-      f.rest ∙ ap₂ ◌∷◌ (d f.factor g.factor (held-says s (at + i) v f.factor e f.holds) (held-says t (k + i) w g.factor o g.holds)) x ∙ sym g.rest
+-- ══ Two of a kind ══
 
-  pub factors-stop : TellsFactors v w false → p ≡ q → ⊥
-  factors-stop d x =
-      let f = holds_at s p at i h l in
-      let g = holds_at t q k i j m in
-      let z : f.factor ∷ drop (i + 1) p ≡ g.factor ∷ drop (i + 1) q = sym f.rest ∙ ap (drop i) x ∙ g.rest in
-      let y : f.factor ≡ g.factor = cc in
-      d f.factor g.factor (held-says s (at + i) v f.factor e f.holds) (held-says t (k + i) w g.factor o g.holds) y
+view-back : (o : names.Open) → viewOpen (openOf o) ≡ o
+view-back (names.TheVariants.Var x) = refl
+view-back (names.TheVariants.Quant i) = refl
+view-back (names.TheVariants.Par x) = refl
+
+basic-back : (b : basics.Basic) → viewBasic (basicOf b) ≡ b
+basic-back basics.TheVariants.Boolean = refl
+basic-back basics.TheVariants.Text = refl
+basic-back basics.TheVariants.Datetime = refl
+
+abbrev basicTy : basics.Basic → Ty ℕ
+basicTy b = basic (basicOf b)
+
+module _ {r : Bool} where
+  pub opens-same : (o p : names.Open) → Decides r (o ≡ p) → Decides r (opened (openOf o) ≡ opened (openOf p))
+  opens-same o p d = decides-as (λ e. ap (λ z. opened (openOf z)) e) back d
+    where
+      back : opened (openOf o) ≡ opened (openOf p) → o ≡ p
+      back e = let z : openOf o ≡ openOf p = cc in sym (view-back o) ∙ ap viewOpen z ∙ view-back p
+
+  pub basics-same : (a b : basics.Basic) → Decides r (a ≡ b) → Decides r (basicTy a ≡ basicTy b)
+  basics-same a b d = decides-as (ap basicTy) back d
+    where
+      back : basicTy a ≡ basicTy b → a ≡ b
+      back e = let z : basicOf a ≡ basicOf b = cc in sym (basic-back a) ∙ ap viewBasic z ∙ basic-back b
+
+  pub lists-same : {t u : Ty ℕ} → Decides r (t ≡ u) → Decides r (list t ≡ list u)
+  lists-same d = decides-as (ap list) (λ e. cc) d
+
+  pub functions-same : {ts us : Tys ℕ} {t u : Ty ℕ} → Decides r ((ts ≡ us) × (t ≡ u)) → Decides r (fn ts t ≡ fn us u)
+  functions-same d = decides-as (λ e. ap₂ fn e.0 e.1) (λ e. (cc, cc)) d
+
+  pub structs-same : {x y : ℕ} {ts us : Tys ℕ} → Decides r ((x ≡ y) × (ts ≡ us)) → Decides r (struct x ts noFields ≡ struct y us noFields)
+  structs-same d = decides-as (λ e. ap₂ (λ n l. struct n l noFields) e.0 e.1) (λ e. (cc, cc)) d
+
+  -- dimensions that are no variables are compared as they are
+  pub dims-same : {p q : Product ℕ} (ν : Names ℕ) (x y : Ty ℕ) → dim p ≡ plain x false → dim q ≡ plain y false → r ≡ is_yes (ty-dec ν x y)
+      → Decides r (dim p ≡ dim q)
+  dims-same ν x y i j h =
+      let e = dim-back x i in
+      let f = dim-back y j in
+      (λ k. e ∙ yes-is (ty-dec ν x y) (sym h ∙ k) ∙ sym f, λ k. h ∙ is-yes (ty-dec ν x y) (sym e ∙ k ∙ f))
+
+-- ══ Two of different kinds ══
+
+abbrev kindOf : Ty ℕ → ℕ
+kindOf (opened o) = 0
+kindOf (basic b) = 1
+kindOf (dim p) = 2
+kindOf (fn ps r) = 3
+kindOf (struct x ts fs) = 4
+kindOf (list t) = 5
+
+-- a type that reads as one kind, beside a shape that is of another
+module _ (ν : Names ℕ) (x y : Ty ℕ) (s : Shape) (q : read_as s ≡ plain y false) where
+  differ : {a : Ty ℕ} → a ≡ plain x false → (kindOf a ≡ kindOf (read_as s) → ⊥) → false ≡ means ν x y
+  differ p f = by-read ν x y p q (never (λ e. f (ap kindOf e)))
+
+  pub no-open : {o : tree.Open ℕ} → opened o ≡ plain x false → ((o : names.Open) → s ≡ shape.Open o → ⊥) → false ≡ means ν x y
+  no-open p n = differ p (go s n)
+    where
+      go : (s : Shape) → ((o : names.Open) → s ≡ shape.Open o → ⊥) → 0 ≡ kindOf (read_as s) → ⊥
+      go (shape.Open o) n e = n o refl
+      go (shape.Basic b) n e = omega (arith, e)
+      go (shape.Dimension p) n e = omega (arith, e)
+      go (shape.Function ps t) n e = omega (arith, e)
+      go (shape.Struct m ts fs) n e = omega (arith, e)
+      go (shape.List t) n e = omega (arith, e)
+
+  pub no-basic : {b : tree.Basic} → basic b ≡ plain x false → ((b : basics.Basic) → s ≡ shape.Basic b → ⊥) → false ≡ means ν x y
+  no-basic p n = differ p (go s n)
+    where
+      go : (s : Shape) → ((b : basics.Basic) → s ≡ shape.Basic b → ⊥) → 1 ≡ kindOf (read_as s) → ⊥
+      go (shape.Open o) n e = omega (arith, e)
+      go (shape.Basic b) n e = n b refl
+      go (shape.Dimension p) n e = omega (arith, e)
+      go (shape.Function ps t) n e = omega (arith, e)
+      go (shape.Struct m ts fs) n e = omega (arith, e)
+      go (shape.List t) n e = omega (arith, e)
+
+  pub no-dimension : {p : Product ℕ} → dim p ≡ plain x false → ((p : types.Product) → s ≡ shape.Dimension p → ⊥) → false ≡ means ν x y
+  no-dimension p n = differ p (go s n)
+    where
+      go : (s : Shape) → ((p : types.Product) → s ≡ shape.Dimension p → ⊥) → 2 ≡ kindOf (read_as s) → ⊥
+      go (shape.Open o) n e = omega (arith, e)
+      go (shape.Basic b) n e = omega (arith, e)
+      go (shape.Dimension p) n e = n p refl
+      go (shape.Function ps t) n e = omega (arith, e)
+      go (shape.Struct m ts fs) n e = omega (arith, e)
+      go (shape.List t) n e = omega (arith, e)
+
+  pub no-function : {ts : Tys ℕ} {t : Ty ℕ} → fn ts t ≡ plain x false → ((ps : lists.Types) (t : one.Type) → s ≡ shape.Function ps t → ⊥) → false ≡ means ν x y
+  no-function p n = differ p (go s n)
+    where
+      go : (s : Shape) → ((ps : lists.Types) (t : one.Type) → s ≡ shape.Function ps t → ⊥) → 3 ≡ kindOf (read_as s) → ⊥
+      go (shape.Open o) n e = omega (arith, e)
+      go (shape.Basic b) n e = omega (arith, e)
+      go (shape.Dimension p) n e = omega (arith, e)
+      go (shape.Function ps t) n e = n ps t refl
+      go (shape.Struct m ts fs) n e = omega (arith, e)
+      go (shape.List t) n e = omega (arith, e)
+
+  pub no-struct : {n : ℕ} {ts : Tys ℕ} → struct n ts noFields ≡ plain x false → ((n : ℕ) (ts : lists.Types) (fs : fields.Fields) → s ≡ shape.Struct n ts fs → ⊥) → false ≡ means ν x y
+  no-struct p n = differ p (go s n)
+    where
+      go : (s : Shape) → ((n : ℕ) (ts : lists.Types) (fs : fields.Fields) → s ≡ shape.Struct n ts fs → ⊥) → 4 ≡ kindOf (read_as s) → ⊥
+      go (shape.Open o) n e = omega (arith, e)
+      go (shape.Basic b) n e = omega (arith, e)
+      go (shape.Dimension p) n e = omega (arith, e)
+      go (shape.Function ps t) n e = omega (arith, e)
+      go (shape.Struct m ts fs) n e = n m ts fs refl
+      go (shape.List t) n e = omega (arith, e)
+
+  pub no-list : {t : Ty ℕ} → list t ≡ plain x false → ((t : one.Type) → s ≡ shape.List t → ⊥) → false ≡ means ν x y
+  no-list p n = differ p (go s n)
+    where
+      go : (s : Shape) → ((t : one.Type) → s ≡ shape.List t → ⊥) → 5 ≡ kindOf (read_as s) → ⊥
+      go (shape.Open o) n e = omega (arith, e)
+      go (shape.Basic b) n e = omega (arith, e)
+      go (shape.Dimension p) n e = omega (arith, e)
+      go (shape.Function ps t) n e = omega (arith, e)
+      go (shape.Struct m ts fs) n e = omega (arith, e)
+      go (shape.List t) n e = n t refl

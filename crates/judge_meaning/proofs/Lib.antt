@@ -1,3 +1,4 @@
-pub mod Arms
-pub mod Steps
-pub mod Truths
+mod Arms
+mod Reading
+mod Rows
+mod Truths

@@ -1,5 +1,2 @@
-pub mod Heads
-pub mod HeadLaws
-pub mod Means
+pub mod Read
 pub mod Truth
-pub mod TruthLaws

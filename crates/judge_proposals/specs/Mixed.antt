@@ -10,7 +10,8 @@ use Rattle.rules.specs.Replacing.{find}
 use Rattle.rules.specs.Trees.{Open, var, Ty, Binding, ◌≔◌, opens, size}
 use Rattle.records.specs.Holds.{Holds}
 use Rattle.replace.specs.Places.{SaysAt, says_some}
-use Rattle.queries.specs.Marks.{Marks}
+use Rattle.queries.specs.declared.name_set.NameSet.{NameSet}
+use Rattle.queries.specs.Marks.{Has}
 use Rattle.queries.specs.Scans.{choose, opensIn}
 use Rattle.queries.specs.ScanLaws.{choose-append, type-opens}
 use Rattle.queries.specs.declared.Kind.{Kind}
@@ -42,14 +43,14 @@ choose-nil Parameters = refl
 choose-nil Both = refl
 
 module _ (types : List ℕ) (x w : ℕ) (k : Kind) where
-  pub unbound : {m : List Bool} (t : Option (Ty ℕ)) (xs : List ℕ) → SaysAt types w t → w ≡ 0 → Marks m xs → Marks m (xs ++ choose k (opens_of x t))
+  pub unbound : {m : NameSet} (t : Option (Ty ℕ)) (xs : List ℕ) → SaysAt types w t → w ≡ 0 → Has m xs → Has m (xs ++ choose k (opens_of x t))
   unbound none xs h e m = rw (choose-nil k, append-nil) m
   unbound (some t) xs h e m = absurd (omega (arith, h.word))
 
   -- the variable, then its type
-  pub bound : {e : ℕ} {n : List ℕ} {m : List Bool} (t : Option (Ty ℕ)) (xs : List ℕ) → SaysAt types w t → (w ≡ 0 → ⊥)
+  pub bound : {e : ℕ} {n : List ℕ} {m : NameSet} (t : Option (Ty ℕ)) (xs : List ℕ) → SaysAt types w t → (w ≡ 0 → ⊥)
       → ((u : Ty ℕ) → Holds types u (w - 1) → e ≡ w - 1 + size u) → n ≡ choose k (var x ∷ [])
-      → Marks m ((xs ++ n) ++ choose k (opensIn types (w - 1) e)) → Marks m (xs ++ choose k (opens_of x t))
+      → Has m ((xs ++ n) ++ choose k (opensIn types (w - 1) e)) → Has m (xs ++ choose k (opens_of x t))
   bound {e} t xs h z f q m =
       let (u, (i, held)) = says_some types w t h z in
       let o : opensIn types (w - 1) e ≡ opens u = rw (f u held) (type-opens types u (w - 1) held) in

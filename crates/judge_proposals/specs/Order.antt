@@ -14,7 +14,8 @@ use Rattle.rules.specs.Calls.{differ, opensBinding}
 use Rattle.rules.specs.Names.{Bytes, numbered}
 use Rattle.rules.specs.Replacing.{find}
 use Rattle.rules.specs.Trees.{Open, Ty, Binding, ◌≔◌}
-use Rattle.queries.specs.Marks.{Marks}
+use Rattle.queries.specs.declared.name_set.NameSet.{NameSet}
+use Rattle.queries.specs.Marks.{Has}
 use Rattle.queries.specs.Scans.{choose}
 use Rattle.queries.specs.ScanLaws.{choose-append}
 use Rattle.queries.specs.declared.Kind.{Kind}
@@ -131,8 +132,8 @@ module _ (names : List Bytes) where
         ∙ sym (has-append (opensBinding (x ≔ t)) (collect opensBinding bs))
 
 -- so the same marks
-pub same-marks : (types places : List ℕ) (names : List Bytes) (bs : List (Binding ℕ)) (k : Kind) (os : List (Open ℕ)) {m : List Bool}
-    → Table types places names bs → Marks m (choose k os ++ choose k (opensBelow names bs 256)) → Marks m (choose k (os ++ collect opensBinding bs))
+pub same-marks : (types places : List ℕ) (names : List Bytes) (bs : List (Binding ℕ)) (k : Kind) (os : List (Open ℕ)) {m : NameSet}
+    → Table types places names bs → Has m (choose k os ++ choose k (opensBelow names bs 256)) → Has m (choose k (os ++ collect opensBinding bs))
 unfolding has
 same-marks types places names bs k os h m = record {
   long = m.long;

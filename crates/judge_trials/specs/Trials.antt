@@ -5,6 +5,7 @@ use Rattle.std.proofs.Math.Bool.{and-eq-true_iff}
 use Rattle.std.proofs.Math.Option as opt
 use Rattle.std.proofs.Math.Option.{some, none}
 use Rattle.std.proofs.Math.Decide.{dec_le}
+use Rattle.std.proofs.Math.Seq.{length-sets}
 use Rattle.std.proofs.lemmas.List.Edits.{sets}
 use Rattle.rules.specs.Base.{Got, got, refused, ◌>>=◌, bounded, sized, all, collect, sum_of}
 use Rattle.rules.specs.Judging.{failed, failing, judgeCon}
@@ -27,17 +28,20 @@ use Rattle.records.specs.Good.{Ends, GoodCon, goodCon, goodTy, numbers, holding}
 use Rattle.records.specs.Holds.{HoldsCon}
 use Rattle.records.specs.Parsed.{only-con}
 use Rattle.queries.specs.GoodOpens.{names-small}
-use Rattle.queries.specs.Marks.{Marks, Small}
-use Rattle.judge_meaning.specs.Truth.{ConTrue}
+use Rattle.queries.specs.declared.name_set.NameSet.{NameSet}
+use Rattle.queries.specs.Marks.{Has, Small}
+use Rattle.judge_meaning.specs.Truth.{True}
 use Rattle.replace.specs.declared.substitution.Substitution.{Substitution}
+use Rattle.replace.specs.Came.{Came}
 use Rattle.replace.specs.Kept.{cons-weaker}
-use Rattle.replace.specs.Leaves.{Leaves, LeavesOf, conBy}
+use Rattle.replace.specs.Leaves.{conBy}
 use Rattle.replace.specs.Substitutions.{ALook, one-look}
 use Rattle.replace.specs.Well.{Lent}
 use Rattle.replace.specs.Written.{written-cons}
 use Rattle.types.specs.declared.writer.Writer.{Writer}
+use Rattle.types.specs.Once.{ACon}
 use Rattle.types.specs.Sets.{Cons, HoldsCons, IsCons, con-some, one-set}
-use Rattle.types.specs.Written.{last, Writes}
+use Rattle.types.specs.Written.{last}
 
 -- ══ 6 counts as failure ══
 
@@ -66,6 +70,7 @@ module _ (pool table : List ℕ) where
   pub record ConStands (w : List ℕ) (n : ℕ) (d : Con ℕ) : Type 0 where
     pub many : min n last ≡ min (sizeCon d) last
     pub held : sizeCon d ≤ 2048 → HoldsCon w d 0
+    pub near : sizeCon d ≤ 2048 → length w ≤ 4_000_000_000
     pub good : goodCon pool table 0 d ≡ true
 
   -- ══ Measured and tested ══
@@ -93,11 +98,12 @@ module _ (pool table : List ℕ) where
           go (yes k) = absurd (e d (sizeCon d) (record { held = stands; past = omega arith; deep = k; good = s.good }))
           go (no k) = let j : 64 < depthCon d = omega arith in sym (rw (sized-deep (sizeCon d) (depthCon d) d j))
 
-      pub flat : {e : ℕ} {r : Bool} {m : List Bool} → Ends (GoodCon pool table 0 w 0) (Some e) → ConTrue w 0 m r → Marks m xs → got r ≡ tested xs d
+      pub flat : {e : ℕ} {r : Bool} {m : NameSet} (p : ACon w 0) → Ends (GoodCon pool table 0 w 0) (Some e) → True p.0 m r → Has m xs → got r ≡ tested xs d
       unfolding failed
-      flat {e} {r} (c, g) t marks =
+      flat {e} {r} {m} p (c, g) t marks =
+          let told : True d m r = subst (λ (x : Con ℕ). True x m r) (only-con w p.0 d 0 p.1 stands) t in
           let j : depthCon d ≤ 64 = subst (λ (x : Con ℕ). depthCon x ≤ 64) (only-con w c d 0 g.held stands) g.deep in
-          sym (rw (sized-kept (sizeCon d) (depthCon d) d few j, t d (names_of (table_of pool table)) xs stands small marks))
+          sym (rw (sized-kept (sizeCon d) (depthCon d) d few j, told (names_of (table_of pool table)) xs small marks))
 
   -- ══ Put in ══
 
@@ -135,52 +141,33 @@ module _ (by : Substitution) (c : Con ℕ) where
   abbrev table : List ℕ
   table = by.names.table.now
 
-  -- a constraint that was put in
-  pub record Came (w w' : Writer) : Type 0 where
-    pub made : Con ℕ
-    pub is : conBy by c ≡ got made
-    pub wrote : Writes w w' (cut (writeCon made))
-
-  module _ {w w' : Writer} {r : Result (Unit {0}) Refusal} (l : Leaves writeCon w w' r (conBy by c)) where
-    pub came : r ≡ Ok tt → Came w w'
-    came e = go (conBy by c) refl (subst (λ (x : Result (Unit {0}) Refusal). LeavesOf writeCon w w' x (conBy by c)) e l.says)
-      where
-        go : (S : Got (Con ℕ)) → conBy by c ≡ S → LeavesOf writeCon w w' (Ok tt) S → Came w w'
-        go (got d) i p = record { made = d; is = i; wrote = p }
-        go (refused k) i p = absurd p
-
-    pub stops : {k : Refusal} → r ≡ Err k → conBy by c ≡ refused (number_of k)
-    stops {k} e = go (conBy by c) refl (subst (λ (x : Result (Unit {0}) Refusal). LeavesOf writeCon w w' x (conBy by c)) e l.says)
-      where
-        go : (S : Got (Con ℕ)) → conBy by c ≡ S → LeavesOf writeCon w w' (Err k) S → conBy by c ≡ refused (number_of k)
-        go (got d) i p = absurd p
-        go (refused j) i p = i ∙ ap refused (sym p)
-
   module _ (good : goodCon pool table 0 c ≡ true) (plain : Plain by) where
     -- what was put in is well formed, and stands in the buffer
-    pub written : {w w' : Writer} → w.at ≡ 0 → 8192 ≤ length w.words.now → (k : Came w w') → ConStands pool table w'.words.now w'.at k.made
+    pub written : {w w' : Writer} → w.at ≡ 0 → length w.words.now ≡ 8192 → (k : Came writeCon w w' (conBy by c))
+        → ConStands pool table w'.words.now w'.at k.value
     unfolding all collect HoldsCons
     written {w} {w'} front room k =
-        let l = cut-length (writeCon k.made) in
-        let m = size-con k.made in
+        let l = cut-length (writeCon k.value) in
+        let m = size-con k.value in
+        let put : sizeCon k.value ≤ 2048 → w'.words.now ≡ sets w.words.now 0 (words (collect writeCon (k.value ∷ []))) =
+        λ le. k.wrote.words (omega (arith, front, l, m, le)) ∙ ap (λ (i : ℕ). sets w.words.now (i * 4) (words (cut (writeCon k.value)))) front
+        ∙ ap (λ rs. sets w.words.now 0 (words rs)) (short-con k.value (omega (arith, le)) ∙ sym (append-nil (writeCon k.value))) in
         record {
           many = omega (arith, k.wrote.at, front, l, m);
           held = λ le.
-              let e : w'.words.now ≡ sets w.words.now 0 (words (collect writeCon (k.made ∷ []))) =
-              k.wrote.words (omega (arith, front, l, m, le)) ∙ ap (λ (i : ℕ). sets w.words.now (i * 4) (words (cut (writeCon k.made)))) front
-              ∙ ap (λ rs. sets w.words.now 0 (words rs)) (short-con k.made (omega (arith, le)) ∙ sym (append-nil (writeCon k.made))) in
-              let g = and-eq-true_iff (goodCon pool table 0 k.made) true in
-              (written-cons pool table w.words.now w'.words.now 0 (k.made ∷ []) e (omega (arith, le, room))
-              (cons-weaker pool table (k.made ∷ []) (g.1 (made-good, refl)))).held.0;
+              let g = and-eq-true_iff (goodCon pool table 0 k.value) true in
+              (written-cons pool table w.words.now w'.words.now 0 (k.value ∷ []) (put le) (omega (arith, le, room))
+              (cons-weaker pool table (k.value ∷ []) (g.1 (made-good, refl)))).held.0;
+          near = λ le. omega (arith, ap length (put le) ∙ length-sets w.words.now 0 (words (collect writeCon (k.value ∷ []))), room);
           good = made-good;
         }
       where
-        made-good : goodCon pool table 0 k.made ≡ true
-        made-good = (laws.con-kept (numbers pool table) (law pool table) (holding pool table) 0 by.lent.0 plain c good).holds k.made k.is
+        made-good : goodCon pool table 0 k.value ≡ true
+        made-good = (laws.con-kept (numbers pool table) (law pool table) (holding pool table) 0 by.lent.0 plain c good).holds k.value k.is
 
   -- the answer of the test on what was put in; or replacing refused
   module _ (bs : List (Binding ℕ)) (same : by.lent.0 ≡ lookOf by bs) (xs : List ℕ) where
-    pub tried : {w w' : Writer} (k : Came w w') (r : Result Bool Refusal) → told r ≡ tested pool table xs k.made → told r ≡ judgedBy by bs xs c
+    pub tried : {w w' : Writer} (k : Came writeCon w w' (conBy by c)) (r : Result Bool Refusal) → told r ≡ tested pool table xs k.value → told r ≡ judgedBy by bs xs c
     unfolding judgeCon
     tried k r e = e ∙ sym (rw (← same, k.is))
 

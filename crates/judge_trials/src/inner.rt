@@ -5,15 +5,16 @@ ghost use Rattle.rules.specs.Judging.{failed, failing, judge};
 ghost use Rattle.rules.specs.Refusals.{number_of, told, toldBy, toldOption};
 ghost use Rattle.rules.specs.Trees.{Con, Binding};
 ghost use Rattle.records.specs.Good.{goodCon, numbers};
-ghost use Rattle.queries.specs.Marks.{Marks};
+ghost use Rattle.queries.specs.Marks.{Has};
 ghost use Rattle.judge_trials.specs.Trials.{ConStands, tested, Put, SetThere, Plain, lookOf, judgedBy};
 
 use judge_meaning::inner::truth::holds;
 use names::tables::NameTable;
+use queries::name_set::NameSet;
 use records::inner::con_end;
 use replace::inner::constraints::replace_constraint;
 use replace::substitution::Substitution;
-use rules::{NAMES, RECORDS, Refusal};
+use rules::{RECORD_WORDS, RECORDS, Refusal};
 use types::writer::Writer;
 use types::{Constraint, Constraints};
 
@@ -29,17 +30,16 @@ fn stopped(why: Refusal) -> Result<bool, Refusal>
 }
 
 // The constraint of n records at the start: is it short and flat enough, and is it true?
-fn test(names: NameTable, w: &[u32], n: usize, bounds: &[bool; NAMES]) -> Result<bool, Refusal>
+fn test(names: NameTable, w: &[u32], n: usize, bounds: &NameSet) -> Result<bool, Refusal>
     requires stands { (d : Con ℕ) × ConStands names.pool.now names.table.now w.now n d }
-    requires bounds_len { length bounds.now ≡ 256 }
-    ensures { (d : Con ℕ) (xs : List ℕ) → ConStands names.entry.pool.now names.entry.table.now w.now n d → Marks bounds.now xs →
+    ensures { (d : Con ℕ) (xs : List ℕ) → ConStands names.entry.pool.now names.entry.table.now w.now n d → Has bounds.now xs →
         told result ≡ tested names.entry.pool.now names.entry.table.now xs d }
 {
     if RECORDS < n {
         return Err(Refusal::TooLarge);
     }
     match con_end(names, w, 0) {
-        Some(_) => Ok(holds(w, 0, bounds)),
+        Some(_) => Ok(holds(Constraint { words: w, at: 0 }, bounds)),
         None => Err(Refusal::TooLarge), // nested over 64
     }
 }
@@ -48,21 +48,24 @@ fn test(names: NameTable, w: &[u32], n: usize, bounds: &[bool; NAMES]) -> Result
 fn is_true(
     by: Substitution,
     c: Constraint,
-    bounds: &[bool; NAMES],
+    bounds: &NameSet,
     work: &mut [u32],
 ) -> Result<bool, Refusal>
     requires good { goodCon by.names.pool.now by.names.table.now 0 c.tree.0 ≡ true }
     requires plain { Plain by }
-    requires bounds_len { length bounds.now ≡ 256 }
     requires work_long { 8192 ≤ length work.old }
-    ensures { (bs : List (Binding ℕ)) (xs : List ℕ) → by.entry.lent.0 ≡ lookOf by.entry bs → Marks bounds.now xs →
+    ensures { (bs : List (Binding ℕ)) (xs : List ℕ) → by.entry.lent.0 ≡ lookOf by.entry bs → Has bounds.now xs →
         told result ≡ judgedBy by.entry bs xs c.entry.tree.0 }
 {
-    let mut out = Writer { words: work, at: 0 };
+    let front = &mut work[..RECORD_WORDS];
+    let mut out = Writer {
+        words: front,
+        at: 0,
+    };
     let put = replace_constraint(by, c, &mut out);
     let n = out.at;
     match put {
-        Ok(()) => test(by.names, work, n, bounds),
+        Ok(()) => test(by.names, front, n, bounds),
         Err(why) => stopped(why),
     }
 }
@@ -73,16 +76,16 @@ pub fn first_failing(
     set: &[u32],
     places: &[u32],
     types: &[u32],
-    bounds: &[bool; NAMES],
+    bounds: &NameSet,
     work: &mut [u32],
 ) -> Result<Option<usize>, Refusal>
     requires there { (cs : List (Con ℕ)) × SetThere names.pool.now names.table.now set.now cs }
     requires put { (bs : List (Binding ℕ)) × Put names.pool.now names.table.now places.now types.now bs }
-    requires marked { (xs : List ℕ) × Marks bounds.now xs }
+    requires marked { (xs : List ℕ) × Has bounds.now xs }
     requires set_short { length set.now ≤ 8192 }
     requires work_long { 8192 ≤ length work.old }
     ensures { (cs : List (Con ℕ)) (bs : List (Binding ℕ)) (xs : List ℕ) →
-        SetThere names.entry.pool.now names.entry.table.now set.now cs → Put names.entry.pool.now names.entry.table.now places.now types.now bs → Marks bounds.now xs →
+        SetThere names.entry.pool.now names.entry.table.now set.now cs → Put names.entry.pool.now names.entry.table.now places.now types.now bs → Has bounds.now xs →
         toldBy toldOption result ≡ failing (numbers names.entry.pool.now names.entry.table.now) bounded bs xs 0 cs }
 {
     let by = Substitution {
@@ -111,16 +114,16 @@ pub fn try_all(
     set: &[u32],
     places: &[u32],
     types: &[u32],
-    bounds: &[bool; NAMES],
+    bounds: &NameSet,
     work: &mut [u32],
 ) -> Result<bool, Refusal>
     requires there { (cs : List (Con ℕ)) × SetThere names.pool.now names.table.now set.now cs }
     requires put { (bs : List (Binding ℕ)) × Put names.pool.now names.table.now places.now types.now bs }
-    requires marked { (xs : List ℕ) × Marks bounds.now xs }
+    requires marked { (xs : List ℕ) × Has bounds.now xs }
     requires set_short { length set.now ≤ 8192 }
     requires work_long { 8192 ≤ length work.old }
     ensures { (cs : List (Con ℕ)) (bs : List (Binding ℕ)) (xs : List ℕ) →
-        SetThere names.entry.pool.now names.entry.table.now set.now cs → Put names.entry.pool.now names.entry.table.now places.now types.now bs → Marks bounds.now xs →
+        SetThere names.entry.pool.now names.entry.table.now set.now cs → Put names.entry.pool.now names.entry.table.now places.now types.now bs → Has bounds.now xs →
         told result ≡ judge (numbers names.entry.pool.now names.entry.table.now) bounded bs xs cs }
 {
     match first_failing(names, set, places, types, bounds, work) {

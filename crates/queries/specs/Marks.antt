@@ -5,11 +5,20 @@ use Rattle.rules.specs.Base.{any}
 use Rattle.rules.specs.Trees.{Open, var, quant, par, Names}
 use Rattle.rules.specs.Calls.{over}
 use Rattle.laws.specs.ReadLists.{Every}
+use Rattle.queries.specs.declared.name_set.NameSet.{NameSet}
 
 -- the marks are at these names
 pub record Marks (m : List Bool) (xs : List ℕ) : Type 0 where
   pub long : length m ≡ 256
   pub each : (x : ℕ) → x < 256 → get_or m x false ≡ any (eqb x) xs
+
+-- a set of names has these
+abbrev pub Has : NameSet → List ℕ → Type 0
+Has s xs = Marks s.marks xs
+
+-- below n, what is marked in v is marked in b
+abbrev pub Within : List Bool → List Bool → ℕ → Type 0
+Within v b n = (x : ℕ) → x < n → get_or v x false ≡ true → get_or b x false ≡ true
 
 -- names that can be marked
 abbrev pub Below : ℕ → Open ℕ → Type 0

@@ -11,14 +11,13 @@ ghost use Rattle.records.specs.Views.{viewAt};
 ghost use Rattle.records.specs.Holds.{openOf, atomOf, Holds};
 ghost use Rattle.records.specs.Good.{numbers};
 ghost use Rattle.queries.specs.Scans.{toldOpens, opensAtom, opensView, opensIn, choose};
-ghost use Rattle.queries.specs.Marks.{Marks, Small, disjoint, picked, Held, Least, Filled, sooner};
+ghost use Rattle.queries.specs.Marks.{Small, Filled, sooner};
 
 use super::Kind;
+use super::name_set::NameSet;
 use names::tables::NameTable;
-use records::inner::put;
 use records::seen::{length_at, view_at};
 use records::{Atom, Open, View};
-use rules::NAMES;
 use std::cmp::Ordering;
 
 fn atom_opens(a: Atom) -> Option<Open>
@@ -95,54 +94,18 @@ pub fn none_open(s: &[u32], b: usize, e: usize) -> bool
     true
 }
 
-// Marks a name, if there is one.
-pub fn mark(m: &mut [bool; NAMES], n: Option<u32>)
-    ensures { (xs : List ℕ) → Marks m.old xs → Marks m.new (xs ++ option_to_list n) }
-{
-    let Some(x) = n else {
-        return;
-    };
-    let i = x as usize;
-    if i < NAMES {
-        m[i] = true;
-    }
-}
-
-// Marks the names of that kind.
-pub fn marks(s: &[u32], b: usize, e: usize, k: Kind, m: &mut [bool; NAMES])
-    ensures { (xs : List ℕ) → Marks m.old xs → Marks m.new (xs ++ choose k (opensIn s.now b e)) }
-{
-    for i in b..e {
-        mark(m, name_at(s, i, k));
-    }
-}
-
-// Is no name marked in both?
-pub fn is_disjoint(v: &[bool; NAMES], p: &[bool; NAMES]) -> bool
-    requires v_len { length v.now ≡ 256 }
-    requires p_len { length p.now ≡ 256 }
-    ensures { result ≡ disjoint v.now p.now }
-{
-    for i in 0..NAMES {
-        if v[i] && p[i] {
-            return false;
-        }
-    }
-    true
-}
-
 // Refusal 4 on two runs of records: is no name both a variable and a parameter?
 pub fn apart(s: &[u32], b: usize, e: usize, u: &[u32], c: usize, f: usize) -> bool
     requires { Small (opensIn s.now b e ++ opensIn u.now c f) }
     ensures { (names : List Bytes) → result ≡ unmixed (numbered names) (opensIn s.now b e ++ opensIn u.now c f) }
 {
-    let mut v = [false; NAMES];
-    marks(s, b, e, Kind::Variables, &mut v);
-    marks(u, c, f, Kind::Variables, &mut v);
-    let mut p = [false; NAMES];
-    marks(s, b, e, Kind::Parameters, &mut p);
-    marks(u, c, f, Kind::Parameters, &mut p);
-    is_disjoint(&v, &p)
+    let mut variables = NameSet::new();
+    variables.extend(s, b, e, Kind::Variables);
+    variables.extend(u, c, f, Kind::Variables);
+    let mut parameters = NameSet::new();
+    parameters.extend(s, b, e, Kind::Parameters);
+    parameters.extend(u, c, f, Kind::Parameters);
+    variables.is_disjoint(&parameters)
 }
 
 // Refusal 4 on one run of records.
@@ -170,7 +133,7 @@ pub fn closed_at(s: &[u32], at: usize) -> bool
 }
 
 // The first by name bytes of the best name so far and x.
-fn sooner(names: NameTable, best: Option<u32>, x: u32) -> Option<u32>
+pub fn sooner(names: NameTable, best: Option<u32>, x: u32) -> Option<u32>
     ensures { result ≡ sooner (numbers names.entry.pool.now names.entry.table.now) best x }
 {
     let Some(y) = best else {
@@ -180,36 +143,6 @@ fn sooner(names: NameTable, best: Option<u32>, x: u32) -> Option<u32>
         Ordering::Less => Some(x),
         Ordering::Equal | Ordering::Greater => Some(y),
     }
-}
-
-// The first by name bytes of the marked names.
-fn least(names: NameTable, m: &[bool; NAMES]) -> Option<u32>
-    requires { Held (get_or names.table.now 0 0) m.now }
-    ensures { Least (numbers names.entry.pool.now names.entry.table.now) m.now 256 result }
-{
-    let mut best = None;
-    for i in 0..NAMES {
-        if m[i] {
-            best = sooner(names, best, i as u32);
-        }
-    }
-    best
-}
-
-// Writes the marked names, sorted by name bytes, and says how many.
-pub fn sort_names(names: NameTable, m: [bool; NAMES], out: &mut [u32]) -> usize
-    requires held { Held (get_or names.table.now 0 0) m }
-    requires in_bounds { 256 ≤ length out.old }
-    ensures { Filled (sort (numbers names.entry.pool.now names.entry.table.now) (picked 0 m)) result out.old out.new }
-{
-    let mut left = m;
-    let mut k = 0;
-    while let Some(x) = least(names, &left) {
-        left[x as usize] = false;
-        put(out, k, x);
-        k += 1;
-    }
-    k
 }
 
 // Writes the names of that kind, sorted by name bytes, once each, and says how many.
@@ -225,7 +158,7 @@ pub fn list_names(
     requires in_bounds { 256 ≤ length out.old }
     ensures { Filled (sort (numbers names.entry.pool.now names.entry.table.now) (choose k (opensIn s.now b e))) result out.old out.new }
 {
-    let mut m = [false; NAMES];
-    marks(s, b, e, k, &mut m);
-    sort_names(names, m, out)
+    let mut found = NameSet::new();
+    found.extend(s, b, e, k);
+    found.write_sorted(names, out)
 }

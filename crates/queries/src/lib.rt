@@ -12,6 +12,7 @@ use records::is_type;
 use rules::{RECORD_WORDS, Refusal};
 
 pub mod inner;
+pub mod name_set;
 pub mod theorems;
 
 /// Which names are asked for: those of variables, of parameters, or of both.

@@ -18,7 +18,7 @@ use reader::{Part, Reader, scheme_good};
 use rules::{POOL_BYTES, RECORD_WORDS, Refusal, TABLE_WORDS};
 
 /// An open name: a variable, a quantified variable by its index, a parameter.
-#[derive(Clone, Copy)]
+#[derive(Clone, Copy, PartialEq, Eq)]
 pub enum Open {
     Var(u32),
     Quant(u32),
@@ -26,14 +26,14 @@ pub enum Open {
 }
 
 /// What a factor is a power of.
-#[derive(Clone, Copy)]
+#[derive(Clone, Copy, PartialEq, Eq)]
 pub enum Atom {
     Free(Open),
     Base(u32),
 }
 
 /// The types that have no parts.
-#[derive(Clone, Copy)]
+#[derive(Clone, Copy, PartialEq, Eq)]
 pub enum Basic {
     Boolean,
     Text,

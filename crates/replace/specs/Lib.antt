@@ -1,11 +1,12 @@
 pub mod Runs
 pub mod Places
 pub mod Substitutions
-pub mod Alone
+pub mod Opened
 pub mod Writes
 pub mod Well
 pub mod InProducts
 pub mod Leaves
+pub mod Came
 pub mod Given
 pub mod Written
 pub mod Kept

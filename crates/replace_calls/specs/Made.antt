@@ -1,5 +1,5 @@
 -- What a call of replacing makes, from what its walk leaves in the work buffer.
-use Rattle.std.specs.Prelude.{Result, Ok, Err, ◌≡◌, refl, true, List, [], ◌++◌, ℕ, ◌+◌, ◌*◌, ◌/◌, ◌≤◌, leb, max, min, Bool, false, length, take, drop}
+use Rattle.std.specs.Prelude.{Result, Err, ◌≡◌, refl, true, List, [], ◌++◌, ℕ, ◌+◌, ◌*◌, ◌/◌, ◌≤◌, leb, max, min, Bool, false, length, take, drop}
 use Rattle.std.proofs.Common.{sym, ap, ap₂, subst, ◌∙◌, arith, append_assoc, length-append, take_at}
 use Rattle.std.proofs.Math.Option.{some}
 use Rattle.std.proofs.lemmas.List.Edits.{sets, sets-eq}
@@ -21,7 +21,7 @@ use Rattle.laws.specs.Sized.{sized_same, sized-small}
 use Rattle.names.specs.declared.tables.NameTable.{NameTable}
 use Rattle.products.specs.Held.{law}
 use Rattle.records.specs.Buffers.{stored, words-length}
-use Rattle.records.specs.Cut.{cut, cut-length, short-all, short-con}
+use Rattle.records.specs.Cut.{cut, cut-length, short-all, short-con, short-ty}
 use Rattle.records.specs.Parsed.{only}
 use Rattle.records.specs.Found.{Words32}
 use Rattle.records.specs.Good as records
@@ -31,8 +31,9 @@ use Rattle.records.specs.Holds.{HoldsBinding}
 use Rattle.records.specs.Views.{from}
 use Rattle.records.specs.Whole.{type-is, bindings-is}
 use Rattle.replace.specs.Given.{row, given-type, given-cons, given-bindings}
+use Rattle.replace.specs.Came.{Came, stopped}
 use Rattle.replace.specs.Kept.{cons-kept, cons-weaker}
-use Rattle.replace.specs.Leaves.{Leaves, LeavesOf}
+use Rattle.replace.specs.Leaves.{Leaves}
 use Rattle.replace.specs.Runs.{looked-good}
 use Rattle.replace.specs.Substitutions.{ALook, one-look}
 use Rattle.replace.specs.Well.{GoodCon, GoodTy, HeldType, Lent, Listed}
@@ -75,28 +76,16 @@ module _ {A : Type 0} (long deep : A → ℕ) (write : A → List Rec) (lengths 
 
   -- a short value is written with its own lengths
   module _ (short : (a : A) → long a ≤ 65_535 → cut (write a) ≡ write a) (w w' : Writer) (start : w.at ≡ 0) (room : 8192 ≤ length w.words.now) where
+    module _ {R : Got A} (c : Came write w w' R) where
+      pub many : min w'.at last ≡ min (long c.value) last
+      many = omega (arith, c.wrote.at, start, cut-length (write c.value), lengths c.value)
+
+      pub buffer : long c.value ≤ 2048 → w'.words.now ≡ sets w.words.now 0 (words (write c.value))
+      buffer h = c.wrote.words (omega (arith, start, cut-length (write c.value), lengths c.value, h))
+          ∙ ap₂ (λ (i : ℕ) (rs : List Rec). sets w.words.now (i * 4) (words rs)) start (short c.value (omega (arith, h)))
+
     -- the walk came to its end
-    pub record Came (R : Got A) : Type 0 where
-      pub value : A
-      pub is : R ≡ got value
-      pub many : min w'.at last ≡ min (long value) last
-      pub buffer : long value ≤ 2048 → w'.words.now ≡ sets w.words.now 0 (words (write value))
-
-    pub came : {r : Result (Unit {0}) Refusal} (R : Got A) → r ≡ Ok tt → Leaves write w w' r R → Came R
-    came {r} R i left = go R (subst (λ (y : Result (Unit {0}) Refusal). LeavesOf write w w' y R) i left.says)
-      where
-        go : (R : Got A) → LeavesOf write w w' (Ok tt) R → Came R
-        go (got a) p = record {
-          value = a;
-          is = refl;
-          many = omega (arith, p.at, start, cut-length (write a), lengths a);
-          buffer = λ h.
-              p.words (omega (arith, start, cut-length (write a), lengths a, h))
-              ∙ ap₂ (λ (i : ℕ) (rs : List Rec). sets w.words.now (i * 4) (words rs)) start (short a (omega (arith, h)));
-        }
-        go (refused k) p = absurd p
-
-    pub made-to : (R : Got A) (behind : List ℕ) (r : Result ℕ Refusal) (c : Came R) → told r ≡ counted long deep c.value
+    pub made-to : (R : Got A) (behind : List ℕ) (r : Result ℕ Refusal) (c : Came write w w' R) → told r ≡ counted long deep c.value
         → Made (limitedTo R) (w'.words.now ++ behind) r
     made-to R behind r c h = record {
       answer = h ∙ count-is a (sized bounded (long a) (deep a) a) ∙ sym (ap (λ (m : Got A). limitedTo m >>= λ rs. got (length rs)) c.is);
@@ -105,7 +94,7 @@ module _ {A : Type 0} (long deep : A → ℕ) (write : A → List Rec) (lengths 
           let k : a ≡ b = sized_same (long a) (deep a) a bounded b g in
           let le = sized-small (long a) (deep a) a b g in
           subst (λ (x : List Rec). Front x (w'.words.now ++ behind)) (ap write k ∙ z)
-          (front w.words.now w'.words.now behind (write a) room (c.buffer le) (omega (arith, lengths a)));
+          (front w.words.now w'.words.now behind (write a) room (buffer c le) (omega (arith, lengths a)));
     }
       where
         a : A
@@ -113,11 +102,8 @@ module _ {A : Type 0} (long deep : A → ℕ) (write : A → List Rec) (lengths 
 
     -- or stopped
     pub made-stop : {r : Result (Unit {0}) Refusal} {k : Refusal} (R : Got A) (d : List ℕ) → r ≡ Err k → Leaves write w w' r R → Made (limitedTo R) d (Err k)
-    made-stop {r} {k} R d i left = go R (subst (λ (y : Result (Unit {0}) Refusal). LeavesOf write w w' y R) i left.says)
-      where
-        go : (R : Got A) → LeavesOf write w w' (Err k) R → Made (limitedTo R) d (Err k)
-        go (got a) p = absurd p
-        go (refused j) p = record { answer = ap refused p; front = λ rs e. clash e }
+    made-stop {r} {k} R d i left =
+        subst (λ (S : Got A). Made (limitedTo S) d (Err k)) (sym (stopped i left)) (record { answer = refl; front = λ rs e. clash e })
 
 pub short-set : (cs : List (Con ℕ)) → sum_of sizeCon cs ≤ 65_535 → cut (collect writeCon cs) ≡ collect writeCon cs
 short-set cs h = short-all sizeCon writeCon short-con cs h
@@ -220,16 +206,18 @@ module _ (pool table : List ℕ) where
           (laws.ty_kept (numbers pool table) (law pool table) (holding pool table) 0 (bindings (numbers pool table) bs) (becomes-good n.two) t
           (type-is pool table ws w t n.one).good).holds u e
 
-      pub type-stands : (d d' : List ℕ) (m : ℕ) (u : Ty ℕ) → 8192 ≤ length d
-          → replaceTy (numbers pool table) bounded (bindings (numbers pool table) bs) t ≡ got u → min m last ≡ min (size u) last
-          → (size u ≤ 2048 → d' ≡ sets d 0 (words (writeTy u))) → TypeStands pool table d' m u
-      type-stands d d' m u room e many buffer = record {
-        many = many;
+      pub type-stands : {w w' : Writer} → w.at ≡ 0 → 8192 ≤ length w.words.now
+          → (k : Came writeTy w w' (replaceTy (numbers pool table) bounded (bindings (numbers pool table) bs) t))
+          → TypeStands pool table w'.words.now w'.at k.value
+      type-stands {w} {w'} start room k = record {
+        many = many size depth writeTy size-ty short-ty w w' start room k;
         held = λ le.
+            let u : Ty ℕ = k.value in
             let i = size-ty u in
-            held d' u 0 (from d (0 + length (writeTy u))) (ty-fits (numbers pool table) (holding pool table) 0 u (type-kept u e))
-            (ap (λ (x : List ℕ). from x 0) (buffer le) ∙ stored d (writeTy u) 0 (omega arith));
-        good = type-kept u e;
+            let b = buffer size depth writeTy size-ty short-ty w w' start room k le in
+            held w'.words.now u 0 (from w.words.now (0 + length (writeTy u))) (ty-fits (numbers pool table) (holding pool table) 0 u (type-kept u k.is))
+            (ap (λ (x : List ℕ). from x 0) b ∙ stored w.words.now (writeTy u) 0 (omega arith));
+        good = type-kept k.value k.is;
       }
 
     module _ (cs : List (Con ℕ)) (n : Entered pool table ws binds (setGiven (table_of pool table) ws) cs bs) where
@@ -255,15 +243,18 @@ module _ (pool table : List ℕ) where
           → all (records.goodCon pool table 0) ds ≡ true
       set-kept ds e = (cons-kept pool table (bindings (numbers pool table) bs) (becomes-good n.two) cs (given-cons pool table ws w cs n.one).1).holds ds e
 
-      pub set-stands : (d d' : List ℕ) (m : ℕ) (ds : List (Con ℕ)) → length d ≡ 8192
-          → each (replaceCon (numbers pool table) bounded (bindings (numbers pool table) bs)) cs ≡ got ds
-          → min m last ≡ min (sum_of sizeCon ds) last → (sum_of sizeCon ds ≤ 2048 → d' ≡ sets d 0 (words (collect writeCon ds))) → SetStands pool table d' m ds
-      set-stands d d' m ds room e many buffer = record {
-        many = many;
-        held = λ le.
-            let i : 0 + sum_of sizeCon ds ≡ m = omega (arith, many, le) in
-            subst (λ (k : ℕ). IsCons d' 0 k ds) i
-            (written-cons pool table d d' 0 ds (buffer le) (omega (arith, room, le)) (cons-weaker pool table ds (set-kept ds e)));
-        near = λ le. omega (arith, ap length (buffer le) ∙ length-sets d 0 (words (collect writeCon ds)), room);
-        good = set-kept ds e;
-      }
+      pub set-stands : {w w' : Writer} → w.at ≡ 0 → length w.words.now ≡ 8192
+          → (k : Came (collect writeCon) w w' (each (replaceCon (numbers pool table) bounded (bindings (numbers pool table) bs)) cs))
+          → SetStands pool table w'.words.now w'.at k.value
+      set-stands {w} {w'} start room k =
+          let long = many (sum_of sizeCon) (max_of depthCon) (collect writeCon) set-length short-set w w' start (omega (arith, room)) k in
+          let stands = buffer (sum_of sizeCon) (max_of depthCon) (collect writeCon) set-length short-set w w' start (omega (arith, room)) k in record {
+            many = long;
+            held = λ le.
+                let i : 0 + sum_of sizeCon k.value ≡ w'.at = omega (arith, long, le) in
+                subst (λ (n : ℕ). IsCons w'.words.now 0 n k.value) i
+                (written-cons pool table w.words.now w'.words.now 0 k.value (stands le) (omega (arith, room, le))
+                (cons-weaker pool table k.value (set-kept k.value k.is)));
+            near = λ le. omega (arith, ap length (stands le) ∙ length-sets w.words.now 0 (words (collect writeCon k.value)), room);
+            good = set-kept k.value k.is;
+          }

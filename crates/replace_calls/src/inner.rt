@@ -13,7 +13,6 @@ ghost use Rattle.replace_calls.specs.Stands.{TypeStands, SetStands, typeCounted,
 ghost use Rattle.replace_calls.specs.Made.{madeType, madeSet, TypeEntered, SetEntered};
 
 use names::tables::NameTable;
-use replace_table::inner::fill;
 use queries::inner::apart;
 use records::inner::type_end;
 use records::{is_bindings, is_set, is_type};
@@ -21,6 +20,7 @@ use replace::inner::constraints::replace_constraints;
 use replace::inner::flat::constraints_flat;
 use replace::inner::walk::replace_type;
 use replace::substitution::Substitution;
+use replace_table::inner::fill;
 use rules::{NAMES, NESTED, RECORD_WORDS, RECORDS, Refusal};
 use types::writer::Writer;
 use types::{Constraints, Type};

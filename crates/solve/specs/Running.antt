@@ -1,7 +1,7 @@
 -- Round after round: what is left to do is what solving answers.
 use Rattle.std.proofs.Math.Path.{◌≡◌, refl, sym, ap, subst}
 use Rattle.std.proofs.Common.{◌∙◌, add-one, arith}
-use mathlib.Core.List.{List}
+use mathlib.Core.List.{List, []}
 use Rattle.std.proofs.Math.Option.{Option, none, some}
 use Prim.Native.Nat.{ℕ, zero, suc, ◌+◌, ◌*◌, ◌/◌, ◌≤◌, ◌<◌}
 use Rattle.std.proofs.Math.ListN.{length}
@@ -26,8 +26,8 @@ use Rattle.replace.specs.Kept.{cons-weaker}
 use Rattle.replace.specs.Written.{written-cons}
 use Rattle.types.specs.Binds.{HoldsBinds}
 use Rattle.types.specs.Puts.{set-words}
-use Rattle.types.specs.Sets.{IsCons}
-use Rattle.solve_round.specs.States.{Rounded, SoundSet, Stands, StateHeld}
+use Rattle.types.specs.Sets.{HoldsCons, IsCons}
+use Rattle.solve_round.specs.States.{Placed, Rounded, SoundSet, Stands}
 use Rattle.std.specs.Prelude.{Result, Ok, Err}
 use Rattle.solve_finish.specs.Told.{Finished}
 use Rattle.solve_finish.specs.declared.Finish.{Finish}
@@ -44,18 +44,22 @@ module _ (pool table : List ℕ) where
 
   -- copied to the front of a buffer it is a state
   pub begun-state : (ws d d' : List ℕ) (n : ℕ) (cs : List (Con ℕ)) → Begun ws cs → n ≡ length ws / 4 → 8192 ≤ length d → d' ≡ sets d 0 (slice 0 (n * 4) ws)
-      → StateHeld pool table d' (record { start = 0; ends = record { constraints = n; bindings = n } }) (start cs)
-  unfolding HoldsBinds all
+      → Placed pool table d' (record { start = 0; stuck = 0; ends = record { constraints = n; bindings = n } }) (start cs)
+  unfolding HoldsBinds HoldsCons all
   begun-state ws d d' n cs b i room e =
       let m : 0 + sum_of sizeCon cs ≡ n = omega (arith, b.held.ends, i) in
       let h : IsCons ws 0 n cs = rw i b.held in
       let w : d' ≡ sets d 0 (words (collect writeCon cs)) = e ∙ ap (sets d 0) (set-words ws 0 n (cs, h) (omega (arith, i))) in
+      let there : IsCons d' 0 n cs = rw m at (written-cons pool table d d' 0 cs w (omega (arith, m, i, b.short, room)) (cons-weaker pool table cs b.sound.good)) in
       record {
-        cons = rw m at (written-cons pool table d d' 0 cs w (omega (arith, m, i, b.short, room)) (cons-weaker pool table cs b.sound.good));
-        binds = record { held = tt; ends = omega arith };
-        sound_cons = b.sound;
-        sound_binds = record { good = refl; flat = omega arith };
-        short = omega (arith, i, b.short);
+        held = record {
+          cons = there;
+          binds = record { held = tt; ends = omega arith };
+          sound_cons = b.sound;
+          sound_binds = record { good = refl; flat = omega arith };
+          short = omega (arith, i, b.short);
+        };
+        front = record { passed = []; left = cs; are = refl; there = record { held = tt; ends = omega arith }; stay = there; idle = tt };
       }
 
   -- the answer of solving cs
@@ -67,10 +71,10 @@ module _ (pool table : List ℕ) where
     pub left : ℕ
     pub state : State ℕ
     pub sum : left + k ≡ enough
-    pub held : StateHeld pool table w p state
+    pub held : Placed pool table w p state
     pub same : run (numbers pool table) bounded left k state ≡ answer_of cs
 
-  pub going-first : (cs : List (Con ℕ)) (w : List ℕ) (p : Place) → StateHeld pool table w p (start cs) → Going cs w p 0
+  pub going-first : (cs : List (Con ℕ)) (w : List ℕ) (p : Place) → Placed pool table w p (start cs) → Going cs w p 0
   unfolding solve
   going-first cs w p h = record { left = enough; state = start cs; sum = omega arith; held = h; same = refl }
 
@@ -101,7 +105,7 @@ module _ (pool table : List ℕ) where
 
     -- a round was completed
     going-on : {a : After} → r ≡ Ok a → (a ≡ Nowhere → ⊥) → (v : List ℕ) (e : Place)
-        → ((s : State ℕ) → Stands pool table w w' (Ok a) s → StateHeld pool table v e s) → Going cs v e (k + 1) × (k < enough)
+        → ((s : State ℕ) → Stands pool table w w' (Ok a) s → Placed pool table v e s) → Going cs v e (k + 1) × (k < enough)
     unfolding after
     going-on {a} i n v e f = go (round (numbers pool table) bounded g.state) rounded
       where

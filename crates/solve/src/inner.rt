@@ -64,7 +64,11 @@ pub fn run(names: NameTable, set: &[u32], res: &mut [u32], work: &mut [u32]) -> 
         constraints: n,
         bindings: n,
     };
-    let mut place = Place { start: 0, ends };
+    let mut place = Place {
+        start: 0,
+        stuck: 0,
+        ends,
+    };
     let mut completed = 0;
     'turns: loop {
         match round(names, state, place, &mut new, next) {

@@ -1,3 +1,4 @@
+mod Fronts
 mod Limits
 mod Performing
 mod Rebinding

@@ -50,7 +50,21 @@ all_both p (x ∷ xs) ys g h =
     let r = (and-eq-true_iff (p x) (all p xs)).0 g in
     (and-eq-true_iff (p x) (all p (xs ++ ys))).1 (r.0, all_both p xs ys r.1 h)
 
+all_parts : {A : Type 0} (p : A → Bool) (xs ys : List A) → all p (xs ++ ys) ≡ true → (all p xs ≡ true) × (all p ys ≡ true)
+unfolding all
+all_parts p [] ys h = (refl, h)
+all_parts p (x ∷ xs) ys h =
+    let r = (and-eq-true_iff (p x) (all p (xs ++ ys))).0 h in
+    let q = all_parts p xs ys r.1 in
+    ((and-eq-true_iff (p x) (all p xs)).1 (r.0, q.0), q.1)
+
 module _ (pool table : List ℕ) where
+  pub sound-parts : (cs ds : List (Con ℕ)) → SoundSet pool table (cs ++ ds) → SoundSet pool table cs × SoundSet pool table ds
+  sound-parts cs ds s =
+      let p = all_parts (goodCon pool table 0) cs ds s.good in
+      let m = max_both depthCon cs ds in
+      (record { good = p.0; flat = omega (arith, s.flat, m) }, record { good = p.1; flat = omega (arith, s.flat, m) })
+
   pub sound-none : SoundSet pool table []
   unfolding all
   sound-none = record { good = refl; flat = omega arith }

@@ -175,9 +175,12 @@ stuck-is {was} {d} {out} {r} {R} s i = go R (subst (λ (x : code.Step). Stepped 
 pub some-rule : {was d : List ℕ} {out : ℕ} {r : code.Step} {R : Got (Step ℕ)} → Stepped was d out (Ok r) R → (r ≡ Stuck → ⊥) → R ≡ got stuck → ⊥
 some-rule {was} {d} {out} {r} {R} s other e = other (let f = (subst (Stepped was d out (Ok r)) e s).says.0 in cc)
 
-pub none-there : (s : List ℕ) → IsCons s 0 0 []
+pub nothing-there : (s : List ℕ) (at : ℕ) → IsCons s at at []
 unfolding HoldsCons
-none-there s = record { held = tt; ends = omega arith }
+nothing-there s at = record { held = tt; ends = omega arith }
+
+pub none-there : (s : List ℕ) → IsCons s 0 0 []
+none-there s = nothing-there s 0
 
 -- a refusal is the rule's
 pub took-refused : {was d : List ℕ} {out : ℕ} {why : Refusal} {R : Got (Step ℕ)} → Stepped was d out (Err why) R → R ≡ refused (number_of why)

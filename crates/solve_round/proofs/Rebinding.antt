@@ -16,6 +16,7 @@ use Rattle.laws.specs.Nesting.{max_both, cons-deep, bindings-deep}
 use Rattle.laws.specs.Size.{set-length, bindings-length}
 use Rattle.records.specs.Cut.{cut, cut-length, short-con, short-binding, short-all}
 use Rattle.records.specs.Good.{goodBinding, goodCon, goodTy, numbers, holding}
+use Rattle.replace.specs.Came.{Came}
 use Rattle.replace.specs.Kept.{binds-weaker, cons-kept, binds-kept}
 use Rattle.replace.specs.Leaves.{LeavesOf, Leaves}
 use Rattle.replace.specs.Runs.{looked-good}
@@ -49,27 +50,6 @@ module _ {B : Type 0} where
   unfolding each
   each-both f [] ys = whole (each f ys)
   each-both f (x ∷ xs) ys = rw (each-both f xs ys) (behind (f x) (each f xs) (each f ys))
-
--- a walk that came to its end; and one that stopped
-pub record Came {A : Type 0} (ws : A → List Rec) (w w' : Writer) (R : Got A) : Type 0 where
-  pub value : A
-  pub is : R ≡ got value
-  pub wrote : Writes w w' (cut (ws value))
-
-module _ {A : Type 0} {ws : A → List Rec} {w w' : Writer} where
-  pub came : {r : Result (Unit {0}) Refusal} {R : Got A} → r ≡ Ok tt → Leaves ws w w' r R → Came ws w w' R
-  came {r} {R} e h = go R refl (subst (λ (x : Result (Unit {0}) Refusal). LeavesOf ws w w' x R) e h.says)
-    where
-      go : (S : Got A) → R ≡ S → LeavesOf ws w w' (Ok tt) S → Came ws w w' R
-      go (got a) i p = record { value = a; is = i; wrote = p }
-      go (refused k) i p = absurd p
-
-  pub stopped : {r : Result (Unit {0}) Refusal} {k : Refusal} {R : Got A} → r ≡ Err k → Leaves ws w w' r R → R ≡ refused (number_of k)
-  stopped {r} {k} {R} e h = go R (subst (λ (x : Result (Unit {0}) Refusal). LeavesOf ws w w' x R) e h.says)
-    where
-      go : (S : Got A) → LeavesOf ws w w' (Err k) S → S ≡ refused (number_of k)
-      go (got a) p = absurd p
-      go (refused j) p = ap (λ (n : ℕ). refused n) (sym p)
 
 -- ══ What is put in ══
 

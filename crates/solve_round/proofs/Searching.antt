@@ -8,14 +8,14 @@ use Rattle.std.proofs.Math.Seq.{append_snoc}
 use Rattle.rules.specs.Base.{Got, got, refused, ◌>>=◌, bounded, all, and_then, sum_of}
 use Rattle.rules.specs.Rounds.{Step, bind, split, done, stuck, State, trySatisfy, taken, firstStep, perform, performed, round, sizeState, depthState}
 use Rattle.rules.specs.Trees.{Con, Binding, sizeCon, depthCon}
-use Rattle.laws.specs.Lists.{and_both}
+use Rattle.laws.specs.Lists.{and_both, every_append}
 use Rattle.records.specs.Good.{goodCon, numbers}
 use Rattle.records.specs.Holds.{HoldsCon}
 use Rattle.types.specs.Sets.{con-some, HoldsCons, IsCons, placed}
 use Rattle.solve_round.specs.declared.Others.{Others}
-use Rattle.solve_round.specs.States.{SoundSet}
+use Rattle.solve_round.specs.States.{Idle, SoundSet}
 use Rattle.solve_round.specs.Parts.{after, performs}
-use Rattle.solve_round.proofs.Limits.{kept, sound-both, sound-none, sum_both}
+use Rattle.solve_round.proofs.Limits.{kept, sound-both, sum_both}
 
 -- constraints with the words that they stand in, and their places there
 abbrev pub Rest : Type 0
@@ -26,11 +26,47 @@ unfolding HoldsCons
 cons-join s [] ds at m e h k = let z : m ≡ at = omega (arith, e) in subst (HoldsCons s ds) z k
 cons-join s (c ∷ cs) ds at m e h k = (h.0, cons-join s cs ds (at + sizeCon c) m (omega (arith, e)) h.1 k)
 
+-- and apart again
+cons-part : (s : List ℕ) (cs ds : List (Con ℕ)) (at : ℕ) → HoldsCons s (cs ++ ds) at → HoldsCons s cs at × HoldsCons s ds (at + sum_of sizeCon cs)
+unfolding HoldsCons
+cons-part s [] ds at h = let z : at ≡ at + 0 = omega arith in (tt, subst (HoldsCons s ds) z h)
+cons-part s (c ∷ cs) ds at h =
+    let r = cons-part s cs ds (at + sizeCon c) h.1 in
+    let z : at + sizeCon c + sum_of sizeCon cs ≡ at + (sizeCon c + sum_of sizeCon cs) = omega arith in
+    ((h.0, r.0), subst (HoldsCons s ds) z r.1)
+
+pub is-part : (s : List ℕ) (at n : ℕ) (cs ds : List (Con ℕ)) → IsCons s at n (cs ++ ds)
+    → IsCons s at (at + sum_of sizeCon cs) cs × IsCons s (at + sum_of sizeCon cs) n ds
+is-part s at n cs ds h =
+    let p = cons-part s cs ds at h.held in
+    (record { held = p.0; ends = refl }, record { held = p.1; ends = omega (arith, h.ends, sum_both sizeCon cs ds) })
+
 module _ (pool table : List ℕ) where
   -- what the round gives when no rule applies to those before
   unfoldable pub leads : List (Con ℕ) → List (Con ℕ) → List (Binding ℕ) → Got (Option (State ℕ))
   leads before rest bs = firstStep (numbers pool table) bounded rest
       >>= λ f. performed (numbers pool table) bounded bs (and_then f (λ v. some (v.0, before ++ v.1)))
+
+  leads-past : (before : List (Con ℕ)) (c : Con ℕ) (behind : List (Con ℕ)) (bs : List (Binding ℕ)) → trySatisfy (numbers pool table) bounded c ≡ got stuck
+      → leads before (c ∷ behind) bs ≡ leads (before ++ c ∷ []) behind bs
+  unfolding leads firstStep taken
+  leads-past before c behind bs e = rw e (go (firstStep (numbers pool table) bounded behind))
+    where
+      go : (R : Got (Option (Step ℕ × List (Con ℕ))))
+          → ((R >>= λ r. got (and_then {B = Step ℕ × List (Con ℕ)} r (λ v. some (v.0, c ∷ v.1))))
+          >>= λ f. performed (numbers pool table) bounded bs (and_then f (λ v. some (v.0, before ++ v.1))))
+          ≡ (R >>= λ f. performed (numbers pool table) bounded bs (and_then f (λ v. some (v.0, (before ++ c ∷ []) ++ v.1))))
+      go (refused k) = refl
+      go (got none) = refl
+      go (got (some v)) = ap (λ (l : List (Con ℕ)). performed (numbers pool table) bounded bs (some (v.0, l))) (sym (append_snoc before c v.1))
+
+  -- those to which no rule applies are passed by
+  leads-by : (before front rest : List (Con ℕ)) (bs : List (Binding ℕ)) → Idle pool table front
+      → leads before (front ++ rest) bs ≡ leads (before ++ front) rest bs
+  leads-by before [] rest bs h = ap (λ (l : List (Con ℕ)). leads l rest bs) (sym (append-nil before))
+  leads-by before (c ∷ cs) rest bs h =
+      leads-past before c (cs ++ rest) bs h.0 ∙ leads-by (before ++ c ∷ []) cs rest bs h.1
+      ∙ ap (λ (l : List (Con ℕ)). leads l rest bs) (append_snoc before c cs)
 
   module _ (w : List ℕ) (from n : ℕ) (set : List (Con ℕ)) (bs : List (Binding ℕ)) where
     abbrev pub whole : Got (Option (State ℕ))
@@ -44,35 +80,41 @@ module _ (pool table : List ℕ) where
       pub is : left ≡ placed w at rest
       pub passed : IsCons w from at before
       pub stay : IsCons w at n rest
+      pub idle : Idle pool table before
       pub sound_before : SoundSet pool table before
       pub sound : SoundSet pool table rest
       pub short : sum_of sizeCon rest ≤ 2048
       pub decides : whole ≡ leads before rest bs
 
-    all_left : (f : Option (Step ℕ × List (Con ℕ)))
-        → performed (numbers pool table) bounded bs f ≡ performed (numbers pool table) bounded bs (and_then f (λ v. some (v.0, [] ++ v.1)))
-    all_left none = refl
-    all_left (some v) = refl
-
-    pub start : {left : Rest} → IsCons w from n set → SoundSet pool table set → sum_of sizeCon set ≤ 2048 → left ≡ placed w from set → Search left
-    unfolding HoldsCons round leads
-    start h s few e = record {
-      before = [];
-      rest = set;
-      at = from;
-      is = e;
-      passed = record { held = tt; ends = omega arith };
-      stay = h;
-      sound_before = sound-none pool table;
-      sound = s;
-      short = few;
-      decides = go (firstStep (numbers pool table) bounded set);
-    }
+    all-lead : (cs : List (Con ℕ)) → round (numbers pool table) bounded (record { cons = cs; binds = bs }) ≡ leads [] cs bs
+    unfolding round leads
+    all-lead cs = go (firstStep (numbers pool table) bounded cs)
       where
+        all_left : (f : Option (Step ℕ × List (Con ℕ)))
+            → performed (numbers pool table) bounded bs f ≡ performed (numbers pool table) bounded bs (and_then f (λ v. some (v.0, [] ++ v.1)))
+        all_left none = refl
+        all_left (some v) = refl
+
         go : (R : Got (Option (Step ℕ × List (Con ℕ)))) → (R >>= λ f. performed (numbers pool table) bounded bs f)
             ≡ (R >>= λ f. performed (numbers pool table) bounded bs (and_then f (λ v. some (v.0, [] ++ v.1))))
         go (got f) = all_left f
         go (refused k) = refl
+
+    pub start : {left : Rest} (front rest : List (Con ℕ)) {at : ℕ} → set ≡ front ++ rest → Idle pool table front → SoundSet pool table front
+        → SoundSet pool table rest → IsCons w from at front → IsCons w at n rest → sum_of sizeCon rest ≤ 2048 → left ≡ placed w at rest → Search left
+    start front rest i k s t g h few e = record {
+      before = front;
+      rest = rest;
+      at = _;
+      is = e;
+      passed = g;
+      stay = h;
+      idle = k;
+      sound_before = s;
+      sound = t;
+      short = few;
+      decides = all-lead set ∙ ap (λ (l : List (Con ℕ)). leads [] l bs) i ∙ leads-by [] front rest bs k;
+    }
 
     -- none is left
     pub ended : {left : Rest} → Search left → left ≡ [] → whole ≡ got none
@@ -93,6 +135,7 @@ module _ (pool table : List ℕ) where
       pub short : sizeCon x.2 + sum_of sizeCon behind ≤ 2048
       pub passed : IsCons w from x.1 before
       pub stay : IsCons w (x.1 + sizeCon x.2) n behind
+      pub idle : Idle pool table before
       pub sound_before : SoundSet pool table before
       pub sound_behind : SoundSet pool table behind
       pub decides : whole ≡ leads before (x.2 ∷ behind) bs
@@ -118,6 +161,7 @@ module _ (pool table : List ℕ) where
               short = few;
               passed = s.passed;
               stay = record { held = p.held.1; ends = omega (arith, p.ends) };
+              idle = s.idle;
               sound_before = s.sound_before;
               sound_behind = record { good = g.1; flat = omega (arith, k.flat) };
               decides = d;
@@ -161,18 +205,6 @@ module _ (pool table : List ℕ) where
       stops e = f.decides ∙ rw e refl
 
       -- or none does
-      leads-on : trySatisfy (numbers pool table) bounded c ≡ got stuck → leads f.before (c ∷ f.behind) bs ≡ leads (f.before ++ c ∷ []) f.behind bs
-      unfolding leads firstStep taken
-      leads-on e = rw e (go (firstStep (numbers pool table) bounded f.behind))
-        where
-          go : (R : Got (Option (Step ℕ × List (Con ℕ))))
-              → ((R >>= λ r. got (and_then {B = Step ℕ × List (Con ℕ)} r (λ v. some (v.0, c ∷ v.1))))
-              >>= λ f'. performed (numbers pool table) bounded bs (and_then f' (λ v. some (v.0, f.before ++ v.1))))
-              ≡ (R >>= λ f'. performed (numbers pool table) bounded bs (and_then f' (λ v. some (v.0, (f.before ++ c ∷ []) ++ v.1))))
-          go (refused k) = refl
-          go (got none) = refl
-          go (got (some v)) = ap (λ (l : List (Con ℕ)). performed (numbers pool table) bounded bs (some (v.0, l))) (sym (append_snoc f.before c v.1))
-
       pub on : trySatisfy (numbers pool table) bounded c ≡ got stuck → Search left
       unfolding HoldsCons all
       on stuck-here = record {
@@ -185,8 +217,9 @@ module _ (pool table : List ℕ) where
           ends = omega (arith, f.passed.ends, sum_both sizeCon f.before (c ∷ []));
         };
         stay = f.stay;
+        idle = every_append _ f.before (c ∷ []) f.idle (stuck-here, tt);
         sound_before = sound-both pool table f.before (c ∷ []) f.sound_before (record { good = and_both f.good refl; flat = omega (arith, f.deep) });
         sound = f.sound_behind;
         short = omega (arith, f.short);
-        decides = f.decides ∙ leads-on stuck-here;
+        decides = f.decides ∙ leads-past f.before c f.behind bs stuck-here;
       }

@@ -25,7 +25,8 @@ use Rattle.types.specs.Written.{last, Writes, writes-then}
 use Rattle.solve_round.specs.declared.After.{After}
 use Rattle.solve_round.specs.declared.Ends.{Ends}
 use Rattle.solve_round.specs.declared.Others.{Others}
-use Rattle.solve_round.specs.States.{Rounded, RoundLeft, Stands, TurnLeft, SoundSet, Turn, Turned, written}
+use Rattle.solve_round.specs.declared.Place.{Place}
+use Rattle.solve_round.specs.States.{Front, StateHeld, Rounded, RoundLeft, Stands, TurnLeft, SoundSet, Turn, Turned, written}
 use Rattle.solve_round.specs.Parts.{appends, keeps, Limited, others, SoundOthers, Made, Next}
 use Rattle.solve_round.proofs.Limits.{kept, long, deep, size-is, depth-is, sound-both, sum_both}
 
@@ -180,16 +181,28 @@ next-stops s e = record { same = s; turned = turned-as e (record { says = refl }
 
 -- ══ What a round leaves ══
 
+-- whatever is known of its front
+placed : {pool table w : List ℕ} {p : Place} {st : State ℕ} (k : ℕ) → StateHeld pool table w p st
+    → StateHeld pool table w (record { start = p.start; stuck = k; ends = p.ends }) st
+placed k h = record { cons = h.cons; binds = h.binds; sound_cons = h.sound_cons; sound_binds = h.sound_binds; short = h.short }
+
 module _ {pool table s w : List ℕ} where
   pub rounded-as : {r : Result After Refusal} {R S : Got (Option (State ℕ))} → R ≡ S → Rounded pool table s w r S → Rounded pool table s w r R
   rounded-as {r} e t = subst (Rounded pool table s w r) (sym e) t
 
   -- what was written stands there
-  pub wrote : {r : Turn} {R : Got (Option (State ℕ))} → Turned pool table w r R → Rounded pool table s w (written r) R
-  wrote {r} {R} t = record { says = go R r t.says }
+  pub wrote : {k : ℕ} {r : Turn} {R : Got (Option (State ℕ))} → Turned pool table w r R
+      → ((st : State ℕ) (ends : Ends) → R ≡ got (some st) → StateHeld pool table w (record { start = 0; stuck = 0; ends = ends }) st
+      → Front pool table w (record { start = 0; stuck = k; ends = ends }) st.cons)
+      → Rounded pool table s w (written k r) R
+  wrote {k} {r} {R} t f = record { says = go R r f t.says }
     where
-      go : (R : Got (Option (State ℕ))) (r : Turn) → TurnLeft pool table w r R → RoundLeft pool table s w (written r) R
-      go (got (some st)) r h = subst (λ (x : Turn). Stands pool table s w (written x) st) (sym h.is) h.held
-      go (got none) r h = ap written h
-      go (refused k) (Ok o) h = absurd h
-      go (refused k) (Err x) h = h
+      go : (R : Got (Option (State ℕ))) (r : Turn)
+          → ((st : State ℕ) (ends : Ends) → R ≡ got (some st) → StateHeld pool table w (record { start = 0; stuck = 0; ends = ends }) st
+          → Front pool table w (record { start = 0; stuck = k; ends = ends }) st.cons)
+          → TurnLeft pool table w r R → RoundLeft pool table s w (written k r) R
+      go (got (some st)) r f h = subst (λ (x : Turn). Stands pool table s w (written k x) st) (sym h.is)
+          (record { held = placed k h.held; front = f st h.ends refl h.held })
+      go (got none) r f h = ap (written k) h
+      go (refused j) (Ok o) f h = absurd h
+      go (refused j) (Err x) f h = h

@@ -8,23 +8,21 @@ use Rattle.rules.specs.Trees.{Ty, Con}
 use Rattle.names.specs.declared.tables.NameTable.{NameTable}
 use Rattle.records.specs.Good.{numbers}
 use Rattle.solve_step.specs.declared.Step as code
-use Rattle.types.specs.declared.Bindings.{Bindings}
-use Rattle.types.specs.declared.Constraints.{Constraints}
 use Rattle.types.specs.declared.writer.Writer.{Writer}
 use Rattle.solve_round.specs.declared.After.{After}
 use Rattle.solve_round.specs.declared.Others.{Others}
 use Rattle.solve_round.specs.declared.Place.{Place}
-use Rattle.solve_round.specs.States.{StateHeld, SoundSet, SoundBinds, Rounded}
-use Rattle.solve_round.specs.Parts.{others, rebinds, Taken, performs}
+use Rattle.solve_round.specs.States.{Idle, Placed, Rounded}
+use Rattle.solve_round.specs.Parts.{others, rebinds, SoundOthers, Taken, performs}
 
--- the state that constraints and bindings are
-abbrev pub stateOf : Constraints → Bindings → State ℕ
-stateOf cs bs = record { cons = cs.trees.0; binds = bs.trees.0 }
+-- the state that constraints, others behind them and bindings are
+abbrev pub stateOf : Others → State ℕ
+stateOf o = record { cons = others o; binds = o.bindings.trees.0 }
 
 module _ (t : NameTable) where
   -- a state in a buffer, what a round leaves, and what the rules make of it
   abbrev pub Standing : List ℕ → Place → State ℕ → Type 0
-  Standing w p st = StateHeld t.pool.now t.table.now w p st
+  Standing w p st = Placed t.pool.now t.table.now w p st
 
   abbrev pub Rounds : List ℕ → List ℕ → Result After Refusal → Got (Option (State ℕ)) → Type 0
   Rounds s w r R = Rounded t.pool.now t.table.now s w r R
@@ -36,13 +34,15 @@ module _ (t : NameTable) where
   abbrev pub rounded : State ℕ → Got (Option (State ℕ))
   rounded st = round (numbers t.pool.now t.table.now) bounded st
 
-  -- constraints and bindings that are a state
-  pub record SoundState (cs : Constraints) (bs : Bindings) : Type 0 where
-    pub cons : SoundSet t.pool.now t.table.now cs.trees.0
-    pub binds : SoundBinds t.pool.now t.table.now bs.trees.0
-    pub short : bs.end ≤ 2048
-    pub same : bs.words.now ≡ cs.words.now
-    pub joined : bs.at ≡ cs.end
+  -- a state that stands in one buffer, in which no rule applies to the constraints before
+  pub record SoundState (o : Others) : Type 0 where
+    pub sound : SoundOthers t.pool.now t.table.now o
+    pub idle : Idle t.pool.now t.table.now o.before.trees.0
+    pub short : o.bindings.end ≤ 2048
+    pub same : o.before.words.now ≡ o.behind.words.now
+    pub joined : o.before.end ≡ o.behind.at
+    pub same_bindings : o.bindings.words.now ≡ o.behind.words.now
+    pub joined_bindings : o.bindings.at ≡ o.behind.end
 
   -- with a new binding put in
   abbrev pub rebound : Others → ℕ → Ty ℕ → Got (Option (State ℕ))

@@ -1,13 +1,16 @@
 -- A state that stands in a buffer, and what a round leaves.
 use Rattle.std.specs.Prelude as std
-use Rattle.std.specs.Prelude.{Result, Ok, Err, None, Some, ◌≡◌, true, List, ℕ, ◌≤◌}
+use Rattle.std.specs.Prelude.{Result, Ok, Err, None, Some, ◌≡◌, true, List, ◌++◌, ℕ, ◌≤◌}
 use Rattle.std.proofs.Math.Option.{Option, none, some}
-use Rattle.rules.specs.Base.{Got, got, refused, all, max_of}
+use Rattle.rules.specs.Base.{Got, got, refused, bounded, all, max_of}
 use Rattle.rules.specs.Refusals.{number_of}
-use Rattle.rules.specs.Rounds.{State}
+use Rattle.rules.specs.Rounds.{State, stuck, trySatisfy}
 use Rattle.rules.specs.Trees.{Con, Binding, depthBinding, depthCon}
 use Rattle.rules.specs.declared.Refusal.{Refusal}
-use Rattle.records.specs.Good.{goodBinding, goodCon}
+use Rattle.laws.specs.Lists.{Every}
+use Rattle.records.specs.Good.{goodBinding, goodCon, numbers}
+use Rattle.solve_step.specs.declared.Step as code
+use Rattle.solve_step.specs.declared.Step.TheVariants.{Bind, Split, Done, Stuck}
 use Rattle.types.specs.Binds.{IsBinds}
 use Rattle.types.specs.Sets.{IsCons}
 use Rattle.solve_round.specs.declared.After.{After}
@@ -19,11 +22,18 @@ use Rattle.solve_round.specs.declared.Place.{Place}
 abbrev pub Turn : Type 0
 Turn = Result (std.Option Ends) Refusal
 
+-- up to where no rule applies after a step of a constraint with k records before it
+abbrev pub stillStuck : code.Step → ℕ → ℕ
+stillStuck (Bind e) k = 0
+stillStuck (Split e) k = k
+stillStuck Done k = k
+stillStuck Stuck k = k
+
 -- what was written stands at the front
-abbrev pub written : Turn → Result After Refusal
-written (Ok (Some ends)) = Ok (Written (record { start = 0; ends = ends }))
-written (Ok None) = Ok Nowhere
-written (Err r) = Err r
+abbrev pub written : ℕ → Turn → Result After Refusal
+written k (Ok (Some ends)) = Ok (Written (record { start = 0; stuck = k; ends = ends }))
+written k (Ok None) = Ok Nowhere
+written k (Err r) = Err r
 
 -- a turn that stopped with this number
 abbrev pub Stops : Turn → ℕ → Type 0
@@ -40,6 +50,19 @@ module _ (pool table : List ℕ) where
     pub good : all (goodBinding pool table 0) bs ≡ true
     pub flat : max_of depthBinding bs ≤ 64
 
+  -- no rule applies to these
+  abbrev pub Idle : List (Con ℕ) → Type 0
+  Idle cs = Every (λ c. trySatisfy (numbers pool table) bounded c ≡ got stuck) cs
+
+  -- nor to the first ones of these constraints, up to that place
+  pub record Front (w : List ℕ) (p : Place) (cs : List (Con ℕ)) : Type 0 where
+    pub passed : List (Con ℕ)
+    pub left : List (Con ℕ)
+    pub are : cs ≡ passed ++ left
+    pub there : IsCons w p.start p.stuck passed
+    pub stay : IsCons w p.stuck p.ends.constraints left
+    pub idle : Idle passed
+
   -- a state at a place
   pub record StateHeld (w : List ℕ) (p : Place) (st : State ℕ) : Type 0 where
     pub cons : IsCons w p.start p.ends.constraints st.cons
@@ -48,11 +71,16 @@ module _ (pool table : List ℕ) where
     pub sound_binds : SoundBinds st.binds
     pub short : p.ends.bindings ≤ 2048
 
+  -- and where no rule is known to apply
+  pub record Placed (w : List ℕ) (p : Place) (st : State ℕ) : Type 0 where
+    pub held : StateHeld w p st
+    pub front : Front w p st.cons
+
   -- a turn after which the buffer holds this state
   pub record Onward (w : List ℕ) (r : Turn) (st : State ℕ) : Type 0 where
     pub ends : Ends
     pub is : r ≡ Ok (Some ends)
-    pub held : StateHeld w (record { start = 0; ends = ends }) st
+    pub held : StateHeld w (record { start = 0; stuck = 0; ends = ends }) st
 
   -- what a round leaves in the buffer w. A refusal: its number, and nothing is said of the buffer
   abbrev pub TurnLeft : List ℕ → Turn → Got (Option (State ℕ)) → Type 0
@@ -66,8 +94,8 @@ module _ (pool table : List ℕ) where
 
   -- where the state after a round stands, in the buffer s that was read or in w
   abbrev pub Stands : List ℕ → List ℕ → Result After Refusal → State ℕ → Type 0
-  Stands s w (Ok (Read p)) st = StateHeld s p st
-  Stands s w (Ok (Written p)) st = StateHeld w p st
+  Stands s w (Ok (Read p)) st = Placed s p st
+  Stands s w (Ok (Written p)) st = Placed w p st
   Stands s w (Ok Nowhere) st = ⊥
   Stands s w (Err r) st = ⊥
 

@@ -4,7 +4,7 @@ ghost use Rattle.rules.specs.Rounds.{State};
 ghost use Rattle.rules.specs.Trees.{Ty, Con, ◌≔◌};
 ghost use Rattle.solve_round.specs.Parts.{appends, BoundTo, Known, keeps, leaf, Limited, Made, Next, Puts, SoundOthers, SoundSet};
 ghost use Rattle.solve_round.specs.Standing.{performed, rebound, Rounds, rounded, SoundState, Standing, stateOf, TakenBy, Took};
-ghost use Rattle.solve_round.specs.States.{written};
+ghost use Rattle.solve_round.specs.States.{stillStuck, written};
 
 use super::{After, Ends, Others, Place};
 use names::tables::NameTable;
@@ -197,63 +197,84 @@ fn perform(
     }
 }
 
+/// Up to where no rule applies to what a step leaves: to no more than the constraints before the one that is taken, which `passed` records hold. Where a binding
+/// is put in, nothing is known of them.
+fn still_stuck(step: Step, passed: usize) -> usize
+    ensures { result ≡ stillStuck step passed }
+{
+    match step {
+        Step::Bind(_) => 0,
+        Step::Split(_) => passed,
+        Step::Done => passed,
+        Step::Stuck => passed,
+    }
+}
+
 /// What was written stands at the front.
-fn written(made: Result<Option<Ends>, Refusal>) -> Result<After, Refusal>
-    ensures { result ≡ written made }
+fn written(made: Result<Option<Ends>, Refusal>, stuck: usize) -> Result<After, Refusal>
+    ensures { result ≡ written stuck made }
 {
     match made {
-        Ok(Some(ends)) => Ok(After::Written(Place { start: 0, ends })),
+        Ok(Some(ends)) => Ok(After::Written(Place {
+            start: 0,
+            stuck,
+            ends,
+        })),
         Ok(None) => Ok(After::Nowhere),
         Err(why) => Err(why),
     }
 }
 
-/// The first constraint to which a rule applies is taken, and the next state written; but where the first of all is done with, the state stays where it is,
-/// and begins behind it.
-fn turn<'x>(
+/// The first constraint to which a rule applies is taken, of those behind, since none applies to those before, and the next state written. But where the first
+/// of all is done with, the state stays where it is, and begins behind it.
+fn turn(
     names: NameTable,
-    constraints: Constraints<'x>,
-    bindings: Bindings<'x>,
+    state: Others,
     new: &mut [u32],
     out: &mut Writer,
 ) -> Result<After, Refusal>
-    requires sound { SoundState names constraints bindings }
+    requires sound { SoundState names state }
     requires new_room { 8192 ≤ length new.old }
     requires new_near { length new.old ≤ 4_000_000_000 }
     requires front { out.old.at ≡ 0 }
     requires room { 8192 ≤ length out.old.words.now }
     requires near { length out.old.words.now ≤ 4_000_000_000 }
-    ensures { Took names.entry constraints.entry.words.now out.old out.new result (rounded names.entry (stateOf constraints.entry bindings.entry)) }
+    ensures { Took names.entry state.entry.behind.words.now out.old out.new result (rounded names.entry (stateOf state.entry)) }
 {
-    'search: for c in constraints {
+    'search: for c in state.behind {
         let step = try_satisfy(names, c, new, 0)?;
         let Step::Stuck = step else {
             let at = c.end();
-            if c.at == constraints.at {
+            if c.at == state.before.at {
                 if let Step::Done = step {
                     let ends = Ends {
-                        constraints: constraints.end,
-                        bindings: bindings.end,
+                        constraints: state.behind.end,
+                        bindings: state.bindings.end,
                     };
-                    return Ok(After::Read(Place { start: at, ends }));
+                    return Ok(After::Read(Place {
+                        start: at,
+                        stuck: at,
+                        ends,
+                    }));
                 }
             }
             let before = Constraints {
-                words: constraints.words,
-                at: constraints.at,
+                words: state.behind.words,
+                at: state.before.at,
                 end: c.at,
             };
             let behind = Constraints {
-                words: constraints.words,
+                words: state.behind.words,
                 at,
-                end: constraints.end,
+                end: state.behind.end,
             };
             let rest = Others {
                 before,
                 behind,
-                bindings,
+                bindings: state.bindings,
             };
-            return written(perform(names, rest, step, new, out));
+            let stuck = still_stuck(step, c.at - state.before.at);
+            return written(perform(names, rest, step, new, out), stuck);
         };
     }
     Ok(After::Nowhere)
@@ -276,9 +297,14 @@ pub fn round(
     requires near { length next.old ≤ 4_000_000_000 }
     ensures { (st : State ℕ) → Standing names.entry state.now place st → Rounds names.entry state.now next.new result (rounded names.entry st) }
 {
-    let constraints = Constraints {
+    let before = Constraints {
         words: state,
         at: place.start,
+        end: place.stuck,
+    };
+    let behind = Constraints {
+        words: state,
+        at: place.stuck,
         end: place.ends.constraints,
     };
     let bindings = Bindings {
@@ -286,6 +312,11 @@ pub fn round(
         at: place.ends.constraints,
         end: place.ends.bindings,
     };
+    let held = Others {
+        before,
+        behind,
+        bindings,
+    };
     let mut out = Writer { words: next, at: 0 };
-    turn(names, constraints, bindings, new, &mut out)
+    turn(names, held, new, &mut out)
 }

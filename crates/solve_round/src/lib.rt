@@ -12,10 +12,11 @@ pub struct Ends {
     pub bindings: usize,
 }
 
-/// Where a state stands in a buffer: its constraints begin at the record `start`.
+/// Where a state stands in a buffer: its constraints begin at the record `start`, and to those before the record `stuck` no rule applies.
 #[derive(Clone, Copy)]
 pub struct Place {
     pub start: usize,
+    pub stuck: usize,
     pub ends: Ends,
 }
 
@@ -27,7 +28,8 @@ pub enum After {
     Nowhere,
 }
 
-/// A state except for the constraint that is taken: the constraints before it and behind it, and the bindings.
+/// A state except for the constraint that is taken: the constraints before it and behind it, and the bindings. Or a whole state, in which no rule applies to
+/// those before.
 #[derive(Clone, Copy)]
 pub struct Others<'a> {
     pub before: Constraints<'a>,

@@ -14,7 +14,6 @@ ghost use Rattle.solve_step.specs.Applied.{Applied};
 
 use super::Step;
 use binding::first_binding;
-use types_compare::inner::same_types;
 use kinds::by_kind;
 use names::tables::NameTable;
 use others::{equal_scalar, has_field, is_dimension};
@@ -31,7 +30,7 @@ fn equal(names: NameTable, left: Type, right: Type, out: &mut Writer) -> Result<
     requires small { out.old.at < 1_000_000_000 }
     ensures { Applied out.old out.new result (trySatisfy (numbers names.entry.pool.now names.entry.table.now) bounded (equal left.entry.tree.0 right.entry.tree.0)) }
 {
-    if same_types(left.words, left.at, right.words, right.at) {
+    if left.same(right) {
         return Ok(Step::Done);
     }
     match first_binding(left, right) {

@@ -1,1 +1,3 @@
 mod Determined
+mod ReadCall
+mod Whole

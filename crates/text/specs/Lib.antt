@@ -1,4 +1,2 @@
-pub mod ReadCall
 pub mod Theorems
 pub mod Told
-pub mod Whole

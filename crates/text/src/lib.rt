@@ -11,15 +11,15 @@ ghost use Rattle.rules.specs.TextWriting.{writeTextCall};
 ghost use Rattle.text_sheet.specs.Given.{readAs};
 ghost use Rattle.text.specs.Told.{listedAs};
 
-use records_buffers::inner::clear;
-use records_buffers::lent;
 use names::tables::NameTable;
 use records::is_set;
+use records_buffers::inner::clear;
+use records_buffers::lent;
 use rules::Refusal;
 use text_sheet::inner::read_given;
 use text_sheet::{NotRead, Read};
-use text_write::inner::write_lines;
 use text_spell::sink::{Front, Full};
+use text_write::inner::write_lines;
 
 /// 173 bytes for each of 2,048 records.
 pub const TEXT_BYTES: usize = 354304;

@@ -3,6 +3,5 @@ pub mod Cut
 pub mod Deep
 pub mod Told
 pub mod Left
-pub mod Sound
 pub mod Upto
 pub mod Theorems

@@ -208,7 +208,8 @@ pub digits-there : {line : Bytes} {at i next n : ℕ} → Skipped line at i → 
     → Reads line (point.At at) digits (Capped n) (point.At next)
 digits-there s r = record { within = r.within; onward = omega (arith, r.behind, s.behind); value = r.value; is = rw (skip_is s) r.is; holds = r.capped }
 
-pub no-digits : {line : Bytes} {at i q : ℕ} → Skipped line at i → digitsAt (place_in line i) ≡ bad (suc q) → Reads line (point.At at) digits (Capped 0) (point.Bad q)
+pub no-digits : {line : Bytes} {at i q : ℕ} → Skipped line at i → digitsAt (place_in line i) ≡ bad (suc q)
+    → Reads line (point.At at) digits (Capped 0) (point.Bad q)
 no-digits s e = record { within = tt; onward = omega arith; value = 0; is = rw (skip_is s) e; holds = refl }
 
 pub marks-past : (b : ℕ) → marked b beyond ≡ read tt beyond

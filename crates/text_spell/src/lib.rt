@@ -57,7 +57,7 @@ pub fn put_name<S: Sink>(to: &mut S, name: &[u8]) -> Result<(), S::Error>
 
 /// Puts a number in decimal digits, at most k of them.
 #[tactic(auto, using(crate::proofs::Names::digits), unfolding(rules::specs::TextWriting::decimal))]
-pub fn put_digits<S: Sink>(to: &mut S, k: usize, n: u32) -> Result<(), S::Error>
+pub fn put_digits<S: Sink>(to: &mut S, k: usize, n: usize) -> Result<(), S::Error>
     ensures { Puts (S.place to.old) (decimal k n) result (S.place to.new) }
 {
     if k == 0 {
@@ -76,10 +76,10 @@ fn put_numerator<S: Sink>(to: &mut S, b: u32) -> Result<(), S::Error>
     ensures { Puts (S.place to.old) (numeratorText (signed b)) result (S.place to.new) }
 {
     if b < 2147483648 {
-        return put_digits(to, 10, b);
+        return put_digits(to, 10, b as usize);
     }
     to.put(b"-")?;
-    put_digits(to, 10, 4294967295 - b + 1)
+    put_digits(to, 10, (4294967295 - b + 1) as usize)
 }
 
 // Puts a denominator, except for 1.
@@ -91,7 +91,7 @@ fn put_denominator<S: Sink>(to: &mut S, d: u32) -> Result<(), S::Error>
         return Ok(());
     }
     to.put(b"/")?;
-    put_digits(to, 10, d)
+    put_digits(to, 10, d as usize)
 }
 
 /// Puts a power, except for 1; it comes as the words of a factor's record.

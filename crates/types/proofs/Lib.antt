@@ -1,7 +1,8 @@
+mod Alone
 mod Asked
 mod Bound
 mod Factors
 mod FieldsFound
 pub mod GivenSets
-mod OneVariable
+mod SameWords
 mod Seen

@@ -6,6 +6,7 @@ pub mod given;
 pub mod inner;
 pub mod parts;
 pub mod reading;
+pub mod same;
 pub mod sets;
 pub mod writer;
 pub mod writing;

@@ -140,14 +140,7 @@ impl<'a> Product<'a> {
     pub fn variable(self) -> Option<u32>
         ensures { toldOption result ≡ and_then (single self.entry.factors.0) variable }
     {
-        let (factor, others) = self.split_first()?;
-        if 0 < others.count || !Exponent::from_words(factor.num, factor.den).is_one() {
-            return None;
-        }
-        match factor.atom {
-            Atom::Free(o) => variable(o),
-            Atom::Base(_) => None,
-        }
+        variable(self.alone()?)
     }
 }
 

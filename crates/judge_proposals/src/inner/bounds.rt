@@ -5,15 +5,14 @@ ghost use Rattle.rules.specs.WellFormed.{rising};
 ghost use Rattle.rules.specs.Writing.{word_of};
 ghost use Rattle.records.specs.Good.{numbers};
 ghost use Rattle.records.specs.Holds.{openOf, HoldsBound};
-ghost use Rattle.queries.specs.Marks.{Marks};
+ghost use Rattle.queries.specs.Marks.{Has};
 ghost use Rattle.judge_proposals.specs.Bounds.{BoundsThere};
 
 use names::tables::NameTable;
-use queries::inner::mark;
+use queries::name_set::NameSet;
 use records::inner::is_less;
 use records::seen::view_at;
 use records::{Open, View};
-use rules::NAMES;
 
 fn number(o: Open) -> u32
     ensures { result ≡ word_of (openOf o) }
@@ -47,12 +46,13 @@ pub fn rise(names: NameTable, s: &[u32]) -> bool
     true
 }
 
-// Marks the names of the bounds.
-pub fn mark_all(s: &[u32], m: &mut [bool; NAMES])
-    ensures { (pool table : List ℕ) (os : List (trees.Open ℕ)) (xs : List ℕ) → BoundsThere pool table s.now os → Marks m.old xs →
-        Marks m.new (xs ++ map word_of os) }
+/// The names of the bounds.
+pub fn bound_names(s: &[u32]) -> NameSet
+    ensures { (pool table : List ℕ) (os : List (trees.Open ℕ)) → BoundsThere pool table s.now os → Has result (map word_of os) }
 {
+    let mut found = NameSet::new();
     for i in 0..s.len() / 4 {
-        mark(m, Some(name_of(s, i)));
+        found.insert(name_of(s, i));
     }
+    found
 }

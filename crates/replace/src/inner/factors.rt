@@ -1,17 +1,16 @@
 //! Factors by value.
 ghost use Rattle.std.specs.Prelude.{◌≡◌};
-ghost use Rattle.rules.specs.Products.{single};
 ghost use Rattle.rules.specs.Refusals.{toldOptionBy};
 ghost use Rattle.rules.specs.Trees.{◌↑◌, free};
 ghost use Rattle.rules.specs.Values.{value_of};
 ghost use Rattle.exponents.specs.Answers.{expOf};
 ghost use Rattle.products.specs.Told.{valueIn, tree_of};
 ghost use Rattle.records.specs.Holds.{openOf};
-ghost use Rattle.replace.specs.Alone.{open_in};
+ghost use Rattle.replace.specs.Opened.{open_in};
 
 use exponents::Exponent;
 use products::Factor;
-use records::{Atom, Open};
+use records::Open;
 
 /// The power of an open name, as a factor.
 pub fn free_factor(o: Open, exp: Exponent) -> Factor
@@ -45,28 +44,5 @@ pub fn open_of(f: Factor) -> Option<Open>
         12 => Some(Open::Par(f.name)),
         15 => Some(Open::Quant(f.name)),
         _ => None,
-    }
-}
-
-/// The variable that a dimension is, where it is one to the power 1.
-pub fn alone(p: types::Product) -> Option<Open>
-    ensures { toldOptionBy openOf result ≡ single p.entry.factors.0 }
-{
-    if p.count != 1 {
-        return None;
-    }
-    let Some((f, _)) = p.split_first() else {
-        return None;
-    };
-    if !Exponent::from_words(f.num, f.den).is_one() {
-        return None;
-    }
-    match f.atom {
-        Atom::Free(o) => match o {
-            Open::Var(_) => Some(o),
-            Open::Quant(_) => Some(o),
-            Open::Par(_) => None,
-        },
-        Atom::Base(_) => None,
     }
 }

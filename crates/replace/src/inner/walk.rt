@@ -8,7 +8,6 @@ ghost use Rattle.replace.specs.Well.{GoodProduct, GoodTy};
 ghost use Rattle.replace.specs.Leaves.{becomes, Leaves, LeavesParts, GoodParts, productBy, typeBy};
 
 use super::dims::replace_factors;
-use super::factors::alone;
 use crate::substitution::Substitution;
 use records::{Open, View};
 use rules::Refusal;
@@ -48,7 +47,7 @@ fn replace_dimension(by: Substitution, t: Type, p: Product, out: &mut Writer) ->
     requires good { GoodProduct by.names.pool.now by.names.table.now p.factors.0 }
     ensures { Leaves writeTy out.old out.new result (typeBy by.entry t.entry.tree.0) }
 {
-    let Some(o) = alone(p) else {
+    let Some(o) = p.alone() else {
         if by.touches_product(p) {
             return replace_product(by, p, out);
         }

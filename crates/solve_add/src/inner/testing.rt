@@ -11,7 +11,6 @@ ghost use Rattle.records.specs.Holds.{atomOf, basicOf, openOf};
 ghost use Rattle.solve_add.specs.Told.{toldVerdict};
 
 use super::super::Verdict;
-use types_compare::inner::same_types;
 use records::{Atom, Basic, Open};
 use types::{Constraint, Demand, Product, Shape, Type};
 
@@ -113,7 +112,7 @@ fn test_equal(left: Type, right: Type) -> Verdict
     ensures { (names : List Bytes) → toldVerdict result ≡ addEqual (numbered names) (closed left.entry.tree.0 && closed right.entry.tree.0) left.entry.tree.0 right.entry.tree.0 }
 {
     if left.is_closed() && right.is_closed() {
-        satisfied_if(same_types(left.words, left.at, right.words, right.at))
+        satisfied_if(left.same(right))
     } else {
         violated_if(is_unlike(left, right))
     }

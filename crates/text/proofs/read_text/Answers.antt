@@ -2,7 +2,7 @@
 use native.Mathlib.Omega.{arith}
 use Rattle.records_buffers.specs.Lent.{Long}
 use Rattle.records_buffers.specs.Lent as lent
-use Rattle.text.specs.ReadCall.{short, pool-long, table-long, called}
+use Rattle.text.proofs.ReadCall.{short, pool-long, table-long, called}
 use mathlib.Core.Bool.{not}
 use mathlib.Core.Path.{ap}
 use Rattle.text.proofs.read_text.Goals as goal

@@ -2,7 +2,7 @@
 use Rattle.std.specs.Prelude.{Ok}
 use Rattle.std.proofs.Common.{sym, ap, ◌∙◌, arith}
 use Rattle.text.specs.Told.{listedAs}
-use Rattle.text.specs.Whole.{has-room, set-in, text-fits, text-given}
+use Rattle.text.proofs.Whole.{has-room, set-in, text-fits, text-given}
 use Rattle.text.proofs.write_good.Goals as goal
 
 pub write_lines-requires : goal.write_lines-requires

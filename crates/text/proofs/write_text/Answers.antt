@@ -2,7 +2,7 @@
 use Rattle.std.specs.Prelude.{◌≤◌, length}
 use Rattle.std.proofs.Common.{arith, sym}
 use Rattle.std.proofs.lemmas.Result.{err_from_is_err_and}
-use Rattle.text.specs.Whole.{set-in, text-refused, text-short}
+use Rattle.text.proofs.Whole.{set-in, text-refused, text-short}
 use Rattle.text.proofs.write_text.Goals as goal
 
 pub returns-then-text-lt-TEXT_BYTES : goal.returns-then-text-lt-TEXT_BYTES

@@ -1,11 +1,10 @@
 -- `inner::bounds_given` meets its contract.
 use mathlib.Core.Path.{sym, subst, ◌∙◌}
-use mathlib.Core.List.{[], map}
+use mathlib.Core.List.{map}
 use Prim.Native.Nat.{◌/◌}
 use lib.ListN.{length}
 use Rattle.rules.specs.Writing.{word_of}
 use Rattle.records.specs.Good.{Chained, GoodBound}
-use Rattle.queries.specs.MarkLaws.{marks-none}
 use Rattle.judge.specs.Entry.{not-whole, not_good, not-rising, are-rising}
 use Rattle.judge.proofs.inner.bounds_given.Goals as goal
 
@@ -36,6 +35,6 @@ returns c =
       (
         are-rising c.args.names.pool.now c.args.names.table.now c.args.bounds.now c.if-bounds-ne0.false os h
             (sym (c.rise.ensures os h) ∙ c.if-not-rise.false),
-        c.mark_all.ensures _ _ os [] h (rw c.requires marks-none),
+        c.bound_names.ensures _ _ os h,
       ),
     )

@@ -1,8 +1,7 @@
 -- `inner::judge_found` meets its contract.
-use Rattle.std.specs.Prelude.{[], map}
+use Rattle.std.specs.Prelude.{map}
 use Rattle.std.proofs.Common.{arith}
 use Rattle.rules.specs.Trees.{var}
-use Rattle.queries.specs.MarkLaws.{marks-none}
 use Rattle.judge_trials.specs.Failing.{verdict}
 use Rattle.judge.specs.Found.{ends-in, listed, put-in, marked}
 use Rattle.judge.proofs.inner.judge_found.Goals as goal
@@ -27,8 +26,8 @@ overflow_add-to c =
     let (bs, (ns, h)) = c.requires.found_there in
     omega (arith, ends-in _ _ _ _ _ bs ns h, h.short)
 
-pub slice_bounds-mark_all-end : goal.slice_bounds-mark_all-end
-slice_bounds-mark_all-end c =
+pub slice_bounds-bound_names-end : goal.slice_bounds-bound_names-end
+slice_bounds-bound_names-end c =
     let (bs, (ns, h)) = c.requires.found_there in
     ends-in _ _ _ _ _ bs ns h
 
@@ -40,11 +39,11 @@ first_failing-requires-clause-put c =
 pub first_failing-requires-clause-marked : goal.first_failing-requires-clause-marked
 first_failing-requires-clause-marked c =
     let (bs, (ns, h)) = c.requires.found_there in
-    (ns, marked _ _ _ _ _ bs ns h (λ b. c.mark_all.ensures c.args.names.pool.now c.args.names.table.now (map (λ n. var n) ns) [] b marks-none))
+    (ns, marked _ _ _ _ _ bs ns h (c.bound_names-allowed.ensures c.args.names.pool.now c.args.names.table.now (map (λ n. var n) ns)))
 
 pub returns : goal.returns
 returns c = λ cs bs ns t h.
     let p = put-in _ _ _ _ _ bs ns h (c.fill.ensures _ _ bs c.args.names.good (listed _ _ _ _ _ bs ns h)) in
-    let m = marked _ _ _ _ _ bs ns h (λ b. c.mark_all.ensures c.args.names.pool.now c.args.names.table.now (map (λ n. var n) ns) [] b marks-none) in
+    let m = marked _ _ _ _ _ bs ns h (c.bound_names-allowed.ensures c.args.names.pool.now c.args.names.table.now (map (λ n. var n) ns)) in
     let f = c.first_failing.ensures cs bs ns t p m in
     record { verdict = verdict _ _ bs ns cs _ f; place = f }

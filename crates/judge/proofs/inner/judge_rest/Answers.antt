@@ -1,8 +1,7 @@
 -- `inner::judge_rest` meets its contract.
-use mathlib.Core.Path.{subst, ◌∙◌}
+use mathlib.Core.Path.{◌∙◌}
 use native.Mathlib.Omega.{arith}
 use Rattle.rules.specs.Names.{table_of, names_of}
-use Rattle.judge.specs.Entry.{BoundsGiven}
 use Rattle.judge.specs.Proposed.{put, tabled}
 use Rattle.judge.specs.Rest.{are-bound, no-entries, small, set_there, no-bounds, both, not-both}
 use Rattle.judge.proofs.inner.judge_rest.Goals as goal
@@ -11,13 +10,12 @@ pub returns-then-not-fill : goal.returns-then-not-fill
 returns-then-not-fill c = λ cs es n h. no-entries c.args.names.pool.now c.args.names.table.now c.args.set.now c.args.types.now cs es n h
     c.requires.few c.fill.ensures c.args.bounds.now (c.if-not-fill.true)
 
-pub returns-then-not-bounds_given : goal.returns-then-not-bounds_given
-returns-then-not-bounds_given c = λ cs es n h.
+pub returns-in_default : goal.returns-in_default
+returns-in_default c = λ cs es n h.
     let (bs, b) = are-bound c.args.names.pool.now c.args.names.table.now c.args.set.now c.args.types.now cs es n h c.requires.few c.fill.ensures
     (c.if-not-fill.false) in
     no-bounds c.args.names.pool.now c.args.names.table.now c.args.set.now c.args.types.now cs es n (record { word = λ i. (c.type_inv.set i).fits })
-    c.args.bounds.now bs b.given (subst (BoundsGiven c.args.names.pool.now c.args.names.table.now c.args.bounds.now c.bounds_given.new.m)
-    (c.if-not-bounds_given.true) c.bounds_given.ensures)
+    c.args.bounds.now bs b.given c.in_default.ensures
 
 pub apart-requires : goal.apart-requires
 apart-requires c =
@@ -36,8 +34,7 @@ pub returns-then-not-apart : goal.returns-then-not-apart
 returns-then-not-apart c = λ cs es n h.
     let (bs, b) = are-bound c.args.names.pool.now c.args.names.table.now c.args.set.now c.args.types.now cs es n h c.requires.few c.fill.ensures
     (c.if-not-fill.false) in
-    let (xs, (r, m)) = subst (BoundsGiven c.args.names.pool.now c.args.names.table.now c.args.bounds.now c.bounds_given.new.m)
-    (c.if-not-bounds_given.false) c.bounds_given.ensures in
+    let (xs, (r, m)) = c.in-Some.ensures in
     both c.args.names.pool.now c.args.names.table.now c.args.set.now c.args.types.now cs es n (record { word = λ i. (c.type_inv.set i).fits })
     c.args.bounds.now bs b.given xs r
     (c.apart.ensures bs (names_of (table_of c.args.names.pool.now c.args.names.table.now))
@@ -51,8 +48,7 @@ try_all-requires c =
     let (es, h) = c.requires.slotted in
     let (bs, b) = are-bound c.args.names.pool.now c.args.names.table.now c.args.set.now c.args.types.now cs es n h c.requires.few c.fill.ensures
     (c.if-not-fill.false) in
-    let (xs, (r, m)) = subst (BoundsGiven c.args.names.pool.now c.args.names.table.now c.args.bounds.now c.bounds_given.new.m)
-    (c.if-not-bounds_given.false) c.bounds_given.ensures in
+    let (xs, (r, m)) = c.in-Some.ensures in
     record {
       there = (
         cs,
@@ -70,8 +66,7 @@ pub returns : goal.returns
 returns c = λ cs es n h.
     let (bs, b) = are-bound c.args.names.pool.now c.args.names.table.now c.args.set.now c.args.types.now cs es n h c.requires.few c.fill.ensures
     (c.if-not-fill.false) in
-    let (xs, (r, m)) = subst (BoundsGiven c.args.names.pool.now c.args.names.table.now c.args.bounds.now c.bounds_given.new.m)
-    (c.if-not-bounds_given.false) c.bounds_given.ensures in
+    let (xs, (r, m)) = c.in-Some.ensures in
     c.try_all.ensures cs bs xs (set_there c.args.names.pool.now c.args.names.table.now c.args.set.now c.args.types.now cs es n
     (record { word = λ i. (c.type_inv.set i).fits }))
     (put c.args.names.pool.now c.args.names.table.now c.args.types.now _ es bs b n.good n.types-short c.fill.auto.places) m

@@ -1,7 +1,8 @@
-use Rattle.std.proofs.Common.{◌≡◌, refl, rules, arith}
+use Rattle.std.proofs.Common.{◌≡◌, refl, rules, arith, length-take-le}
 use Rattle.laws.specs.Weaker.{con-weaker}
 use Rattle.records.specs.Good.{numbers, holding}
-use Rattle.judge_trials.specs.Trials.{came, stops, written, tried, fails}
+use Rattle.replace.specs.Came.{came, stopped}
+use Rattle.judge_trials.specs.Trials.{written, tried, fails}
 use Rattle.judge_trials.proofs.inner.is_true.Goals as goal
 
 pub replace_constraint-put-requires : goal.replace_constraint-put-requires
@@ -9,19 +10,19 @@ replace_constraint-put-requires c =
     let n = c.args.by.names in
     con-weaker (numbers n.pool.now n.table.now) (holding n.pool.now n.table.now) 0 4_294_967_296 (omega arith) c.args.c.tree.0 c.requires.good
 
-pub test-requires-clause-stands : goal.test-requires-clause-stands
-test-requires-clause-stands c =
-    let k = came c.args.by c.args.c.tree.0 c.replace_constraint-put.ensures c.in-Ok.is in
-    let back : c.work-1.given.0 ≡ c.replace_constraint-put.new.out.words.now = search rules in
-    (k.made, rw back (written c.args.by c.args.c.tree.0 c.requires.good c.requires.plain refl c.requires.work_long k))
+pub test-requires : goal.test-requires
+test-requires c =
+    let k = came c.in-Ok.is c.replace_constraint-put.ensures in
+    let back : c.front-2-1.given.0 ≡ c.replace_constraint-put.new.out.words.now = search rules in
+    record { stands = (k.value, rw back (written c.args.by c.args.c.tree.0 c.requires.good c.requires.plain refl (length-take-le 8192 c.args.work.now c.requires.work_long) k)) }
 
 pub returns-in-Ok : goal.returns-in-Ok
 returns-in-Ok c = λ bs xs same m.
-    let k = came c.args.by c.args.c.tree.0 c.replace_constraint-put.ensures c.in-Ok.is in
-    let back : c.work-1.given.0 ≡ c.replace_constraint-put.new.out.words.now = search rules in
+    let k = came c.in-Ok.is c.replace_constraint-put.ensures in
+    let back : c.front-2-1.given.0 ≡ c.replace_constraint-put.new.out.words.now = search rules in
     tried c.args.by c.args.c.tree.0 bs same xs k _
-    (c.test.ensures k.made xs (rw back (written c.args.by c.args.c.tree.0 c.requires.good c.requires.plain refl c.requires.work_long k)) m)
+    (c.test.ensures k.value xs (rw back (written c.args.by c.args.c.tree.0 c.requires.good c.requires.plain refl (length-take-le 8192 c.args.work.now c.requires.work_long) k)) m)
 
 pub returns-in-Err : goal.returns-in-Err
 returns-in-Err c = λ bs xs same m.
-    fails c.args.by c.args.c.tree.0 bs same xs _ _ (stops c.args.by c.args.c.tree.0 c.replace_constraint-put.ensures c.in-Err.is) c.stopped.ensures
+    fails c.args.by c.args.c.tree.0 bs same xs _ _ (stopped c.in-Err.is c.replace_constraint-put.ensures) c.stopped.ensures

@@ -1,17 +1,11 @@
-use Rattle.std.specs.Prelude.{[]}
-use Rattle.judge_trials.specs.Trials.{long, stands, deep, flat}
+use Rattle.judge_trials.specs.Trials.{long, deep, flat}
 use Rattle.judge_trials.proofs.inner.test.Goals as goal
 
 pub returns-then-n-gt-RECORDS : goal.returns-then-n-gt-RECORDS
 returns-then-n-gt-RECORDS c = λ d xs s m. long _ _ c.args.names.good _ _ d s xs c.if-n-gt-RECORDS.true
 
-pub holds-requires : goal.holds-requires
-holds-requires c =
-    let (d, s) = c.requires.stands in
-    record { held = (d, stands _ _ c.args.names.good _ _ d s [] c.if-n-gt-RECORDS.false); bounds_len = c.requires.bounds_len }
-
 pub returns-in-Some : goal.returns-in-Some
-returns-in-Some c = λ d xs s m. flat _ _ c.args.names.good _ _ d s xs c.if-n-gt-RECORDS.false c.in-Some.ensures c.holds.ensures m
+returns-in-Some c = λ d xs s m. flat _ _ c.args.names.good _ _ d s xs c.if-n-gt-RECORDS.false c.holds-arg-1.given.1.0 c.in-Some.ensures c.holds.ensures m
 
 pub returns-in-None : goal.returns-in-None
 returns-in-None c = λ d xs s m. deep _ _ c.args.names.good _ _ d s xs c.if-n-gt-RECORDS.false c.in-None.ensures

@@ -6,17 +6,16 @@ use Rattle.laws.specs.ByteOrder.{numbered-lawful}
 use Rattle.laws.specs.NameTable.{good-laid, held_tells}
 use Rattle.records.specs.Good.{numbers}
 use Rattle.queries.specs.Scans.{choose, opensIn}
-use Rattle.queries.specs.MarkLaws.{marks-none}
 use Rattle.queries.specs.SortMarks.{marks-held, marks-sort}
 use Rattle.queries.proofs.inner.list_names.Goals as goal
 
-pub sort_names-requires : goal.sort_names-requires
-sort_names-requires c =
+pub write_sorted-requires : goal.write_sorted-requires
+write_sorted-requires c =
     let a = c.args in
     let g = a.names.good in
     let n = get_or a.names.table.now 0 0 in
     let xs = choose a.k (opensIn a.s.now a.b a.e) in
-    let k = c.marks.ensures [] marks-none in
+    let k = c.extend.ensures [] c.new-found.ensures in
     record { held = marks-held n (good-laid g).few _ xs k c.requires.every; in_bounds = c.requires.in_bounds }
 
 pub returns : goal.returns
@@ -25,6 +24,6 @@ returns c =
     let g = a.names.good in
     let n = get_or a.names.table.now 0 0 in
     let xs = choose a.k (opensIn a.s.now a.b a.e) in
-    let k = c.marks.ensures [] marks-none in
+    let k = c.extend.ensures [] c.new-found.ensures in
     rw (marks-sort n (good-laid g).few _ xs k c.requires.every (numbers a.names.pool.now a.names.table.now)
-    (numbered-lawful (names_of (table_of a.names.pool.now a.names.table.now))) (held_tells g)) at c.sort_names.ensures
+    (numbered-lawful (names_of (table_of a.names.pool.now a.names.table.now))) (held_tells g)) at c.write_sorted.ensures

@@ -5,7 +5,8 @@ use Rattle.rules.specs.Trees.{sizeCon, depthCon}
 use Rattle.rules.specs.Writing.{writeCon}
 use Rattle.laws.specs.Size.{set-length}
 use Rattle.records.specs.Found.{Words32}
-use Rattle.replace_calls.specs.Made.{set-binds, set-held, set-good, set-left, set-stands, set-made, came, made-to, made-stop, short-set}
+use Rattle.replace.specs.Came.{came}
+use Rattle.replace_calls.specs.Made.{set-binds, set-held, set-good, set-left, set-stands, set-made, made-to, made-stop, short-set}
 use Rattle.replace_calls.proofs.inner.set_into.Goals as goal
 
 pub fill-requires : goal.fill-requires
@@ -46,9 +47,8 @@ set_fits-requires c =
     let f = c.fill.ensures _ _ bs n.good (set-binds _ _ _ _ word binds-word bs cs n) in
     let left = set-left _ _ _ _ word binds-word bs cs n f c.replace_constraints-arg-1.given.0 c.replace_constraints-arg-2-1.given.1.0
     c.replace_constraints-put.ensures in
-    let k = came (sum_of sizeCon) (max_of depthCon) (collect writeCon) set-length short-set _ _ refl
-    (omega (arith, c.split_at_mut-front.ensures.front_len)) _ c.in-Ok.is left in
-    (k.value, rw back (set-stands _ _ _ _ word binds-word bs cs n _ _ _ k.value (omega (arith, c.split_at_mut-front.ensures.front_len)) k.is k.many k.buffer))
+    let k = came c.in-Ok.is left in
+    (k.value, rw back (set-stands _ _ _ _ word binds-word bs cs n refl (omega (arith, c.split_at_mut-front.ensures.front_len)) k))
 
 pub returns-in-Ok : goal.returns-in-Ok
 returns-in-Ok c =
@@ -59,9 +59,8 @@ returns-in-Ok c =
     let f = c.fill.ensures _ _ bs n.good (set-binds _ _ _ _ word binds-word bs cs n) in
     let left = set-left _ _ _ _ word binds-word bs cs n f c.replace_constraints-arg-1.given.0 c.replace_constraints-arg-2-1.given.1.0
     c.replace_constraints-put.ensures in
-    let k = came (sum_of sizeCon) (max_of depthCon) (collect writeCon) set-length short-set _ _ refl
-    (omega (arith, c.split_at_mut-front.ensures.front_len)) _ c.in-Ok.is left in
-    let s = set-stands _ _ _ _ word binds-word bs cs n _ _ _ k.value (omega (arith, c.split_at_mut-front.ensures.front_len)) k.is k.many k.buffer in
+    let k = came c.in-Ok.is left in
+    let s = set-stands _ _ _ _ word binds-word bs cs n refl (omega (arith, c.split_at_mut-front.ensures.front_len)) k in
     rw back (set-made _ _ cs bs _ _ (made-to (sum_of sizeCon) (max_of depthCon) (collect writeCon) set-length short-set _ _ refl
     (omega (arith, c.split_at_mut-front.ensures.front_len)) _ _ _ k
     (c.set_fits.ensures k.value (rw back s))))

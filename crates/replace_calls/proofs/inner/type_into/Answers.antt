@@ -5,7 +5,8 @@ use Rattle.rules.specs.Writing.{writeTy}
 use Rattle.laws.specs.Size.{size-ty}
 use Rattle.records.specs.Cut.{short-ty}
 use Rattle.records.specs.Found.{Words32}
-use Rattle.replace_calls.specs.Made.{type-binds, type-good, type-held, type-left, type-stands, came, made-to, made-stop}
+use Rattle.replace.specs.Came.{came}
+use Rattle.replace_calls.specs.Made.{type-binds, type-good, type-held, type-left, type-stands, made-to, made-stop}
 use Rattle.replace_calls.proofs.inner.type_into.Goals as goal
 
 pub fill-requires : goal.fill-requires
@@ -45,8 +46,8 @@ returns-in-Ok c =
     λ t bs n.
     let f = c.fill.ensures _ _ bs n.good (type-binds _ _ _ _ word binds-word bs t n) in
     let left = type-left _ _ _ _ word binds-word bs t n f c.replace_type-arg-1.given.0 c.replace_type-arg-2-1.given.1.0 c.replace_type-put.ensures in
-    let k = came size depth writeTy size-ty short-ty _ _ refl (omega (arith, c.split_at_mut-front.ensures.front_len)) _ c.in-Ok.is left in
-    let s = type-stands _ _ _ _ word binds-word bs t n _ _ _ k.value (omega (arith, c.split_at_mut-front.ensures.front_len)) k.is k.many k.buffer in
+    let k = came c.in-Ok.is left in
+    let s = type-stands _ _ _ _ word binds-word bs t n refl (omega (arith, c.split_at_mut-front.ensures.front_len)) k in
     rw back (made-to size depth writeTy size-ty short-ty _ _ refl (omega (arith, c.split_at_mut-front.ensures.front_len)) _ _ _ k
     (c.type_fits.ensures k.value (rw back s)))
 

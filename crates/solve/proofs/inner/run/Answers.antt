@@ -8,7 +8,7 @@ use Rattle.rules.specs.Base.{Got}
 use Rattle.rules.specs.declared.Refusal.{Refusal}
 use Rattle.solve_round.specs.declared.After.{After}
 use Rattle.solve_round.specs.declared.Place.{Place}
-use Rattle.solve_round.specs.States.{Rounded, StateHeld}
+use Rattle.solve_round.specs.States.{Placed, Rounded}
 use Rattle.solve.specs.Running.{begun-state, going-first, going-here, going-written, going_end, going-stop, finish-answers, stop-answers}
 use Rattle.solve.proofs.inner.run.Goals as goal
 
@@ -18,7 +18,7 @@ handed : (l k : List ℕ) → k ++ drop (length l) l ≡ k
 handed l k = ap (λ (x : List ℕ). k ++ x) (drop-length l) ∙ append-nil k
 
 module _ {pool table : List ℕ} where
-  whole : {p : Place} {st : State ℕ} (l : List ℕ) → StateHeld pool table l p st → StateHeld pool table (take (length l) l) p st
+  whole : {p : Place} {st : State ℕ} (l : List ℕ) → Placed pool table l p st → Placed pool table (take (length l) l) p st
   whole l h = rw (take-length l) h
 
   round-whole : {w : List ℕ} {r : Result After Refusal} {R : Got (Option (State ℕ))} (l : List ℕ) → Rounded pool table (take (length l) l) w r R

@@ -1,7 +1,8 @@
 use Rattle.std.proofs.Common.{◌∙◌}
 use Rattle.std.proofs.lemmas.Result.{err_from_is_err_and}
 use Rattle.replace.specs.Kept.{cons-weaker, binds-weaker}
-use Rattle.solve_round.proofs.Rebinding.{came, stopped, first-stops, second-stops, third-stops, rebound, rebinds-is, known, rebind-made}
+use Rattle.replace.specs.Came.{came, stopped}
+use Rattle.solve_round.proofs.Rebinding.{first-stops, second-stops, third-stops, rebound, rebinds-is, known, rebind-made}
 use Rattle.solve_round.proofs.Written.{limited-turned, next-stops}
 use Rattle.solve_round.proofs.inner.rebind.Goals as goal
 

@@ -1,25 +1,39 @@
 -- What is left of the search decides.
-use Rattle.std.proofs.Common.{refl, ap, sym, subst, ◌∙◌, arith, length, List, ℕ, ◌≤◌}
+use Rattle.std.proofs.Common.{refl, ap, sym, subst, ◌∙◌, arith, length, List, [], ℕ, ◌-◌, ◌≡◌, ◌≤◌}
 use Rattle.rules.specs.Base.{sum_of}
 use Rattle.rules.specs.Rounds.{depthState, sizeState, State}
 use Rattle.rules.specs.Trees.{sizeCon}
 use Rattle.types.specs.Binds.{IsBinds}
 use Rattle.std.proofs.lemmas.Result.{err_from_is_err_and}
 use Rattle.types.specs.declared.writer.Writer.{Writer}
+use Rattle.types.specs.Sets.{IsCons}
+use Rattle.solve_round.specs.declared.Others.{Others}
+use Rattle.solve_round.specs.States.{Idle}
+use Rattle.solve_round.proofs.Fronts.{still}
 use Rattle.types.specs.Shapes.{cons_of}
 use Rattle.solve_round.specs.Parts.{SoundSet}
 use Rattle.solve_round.proofs.Limits.{depth-is, size-is}
-use Rattle.solve_round.proofs.Performing.{done-is, set-same, some-rule, stuck-is, took-refused}
+use Rattle.solve_round.proofs.Performing.{done-is, nothing-there, set-same, some-rule, stuck-is, took-refused}
 use Rattle.solve_round.proofs.Searching.{start, ended, found, applied, done-first, stops, on}
 use Rattle.solve_round.proofs.Written.{rounded-as, wrote}
 use Rattle.solve_round.proofs.inner.turn.Goals as goal
 
 pub search-init : goal.search-init
 search-init c =
-    let a = c.args in
+    let o = c.args.state in
     let s = c.requires.sound in
-    let few : sum_of sizeCon a.constraints.trees.0 ≤ 2048 = omega (arith, s.short, s.joined, a.constraints.trees.1.ends, a.bindings.trees.1.ends) in
-    (refl, refl, start _ _ _ _ _ _ _ a.constraints.trees.1 s.cons few (ap cons_of c.into_iter-c-iterator.ensures.into_iter_gives))
+    let few : sum_of sizeCon o.behind.trees.0 ≤ 2048 = omega (arith, s.short, s.joined_bindings, o.behind.trees.1.ends, o.bindings.trees.1.ends) in
+    let front : IsCons o.behind.words.now o.before.at o.behind.at o.before.trees.0 =
+    subst (λ (w : List ℕ). IsCons w o.before.at o.behind.at o.before.trees.0) s.same
+    (subst (λ (k : ℕ). IsCons o.before.words.now o.before.at k o.before.trees.0) s.joined o.before.trees.1) in (
+      refl,
+      refl,
+      start _ _ _ _ _ _ _ o.before.trees.0 o.behind.trees.0 refl s.idle s.sound.before s.sound.behind front o.behind.trees.1 few
+          (ap cons_of c.into_iter-c-iterator.ensures.into_iter_gives),
+    )
+
+pub overflow_sub-c : goal.overflow_sub-c
+overflow_sub-c c = omega (arith, (found _ _ _ _ _ _ _ _ _ c.search.invariant.2 c.in-Some.ensures.steps).passed.ends)
 
 pub try_satisfy-requires-clause-con_good : goal.try_satisfy-requires-clause-con_good
 try_satisfy-requires-clause-con_good c = (found _ _ _ _ _ _ _ _ _ c.search.invariant.2 c.in-Some.ensures.steps).good
@@ -45,17 +59,17 @@ search-preserved c = (
 
 pub invariant_of-before : goal.invariant_of-before
 invariant_of-before c = let f = found _ _ _ _ _ _ _ _ _ c.search.invariant.2 c.in-Some.ensures.steps
-    in record { near = c.args.constraints.near; trees = (f.before, f.passed) }
+    in record { near = c.args.state.behind.near; trees = (f.before, f.passed) }
 
 pub invariant_of-behind : goal.invariant_of-behind
 invariant_of-behind c = let f = found _ _ _ _ _ _ _ _ _ c.search.invariant.2 c.in-Some.ensures.steps
-    in record { near = c.args.constraints.near; trees = (f.behind, rw c.end-at.ensures f.stay) }
+    in record { near = c.args.state.behind.near; trees = (f.behind, rw c.end-at.ensures f.stay) }
 
 pub perform-requires : goal.perform-requires
 perform-requires c =
     let f = found _ _ _ _ _ _ _ _ _ c.search.invariant.2 c.in-Some.ensures.steps in
-    let b = set-same _ _ _ _ f.passed c.rest-1.given.1.0 in
-    let h = set-same _ _ _ _ (rw c.end-at.ensures f.stay) c.rest-in_default-1.given.1.0 in
+    let b = set-same _ _ _ _ f.passed c.rest-in_default-1.given.1.0 in
+    let h = set-same _ _ _ _ (rw c.end-at.ensures f.stay) c.rest-in_default-2-1.given.1.0 in
     let i = c.search.invariant.1 in
     let n = c.search.invariant.0 in
     let v = c.try_satisfy.auto.dst in
@@ -66,7 +80,7 @@ perform-requires c =
           sound = record {
             before = subst (SoundSet c.args.names.pool.now c.args.names.table.now) (sym b) f.sound_before;
             behind = subst (SoundSet c.args.names.pool.now c.args.names.table.now) (sym h) f.sound_behind;
-            bindings = c.requires.sound.binds;
+            bindings = c.requires.sound.sound.bindings;
           };
           good = f.good;
           deep = f.deep;
@@ -85,21 +99,31 @@ perform-requires c =
 pub returns-in-Done : goal.returns-in-Done
 returns-in-Done c =
     let f = found _ _ _ _ _ _ _ _ _ c.search.invariant.2 c.in-Some.ensures.steps in
-    let a = c.args in
+    let o = c.args.state in
     let s = c.requires.sound in
-    let st : State ℕ = record { cons = f.behind; binds = a.bindings.trees.0 } in
-    let few : sizeState st ≤ 2048 = omega (arith, f.stay.ends, a.bindings.trees.1.ends, s.joined, s.short, size-is st) in
-    let flat : depthState st ≤ 64 = omega (arith, f.sound_behind.flat, s.binds.flat, depth-is st) in
+    let st : State ℕ = record { cons = f.behind; binds = o.bindings.trees.0 } in
+    let few : sizeState st ≤ 2048 = omega (arith, f.stay.ends, o.bindings.trees.1.ends, s.joined_bindings, s.short, size-is st) in
+    let flat : depthState st ≤ 64 = omega (arith, f.sound_behind.flat, s.sound.bindings.flat, depth-is st) in
     record {
       same = ap (λ (w : Writer). w.words.ghost_name) c.search.invariant.1;
-      rounded = rounded-as (done-first _ _ _ _ _ _ _ f c.if-c-constraints.true (done-is c.in_ok-step.ensures c.in-Done.is) few flat) (record {
+      rounded = rounded-as (done-first _ _ _ _ _ _ _ f c.if-c-state.true (done-is c.in_ok-step.ensures c.in-Done.is) few flat) (record {
         says = record {
-          cons = rw c.end-at.ensures f.stay;
-          binds = subst (λ (w : List ℕ). IsBinds w a.constraints.end a.bindings.end a.bindings.trees.0) s.same
-              (subst (λ (k : ℕ). IsBinds a.bindings.words.now k a.bindings.end a.bindings.trees.0) s.joined a.bindings.trees.1);
-          sound_cons = f.sound_behind;
-          sound_binds = s.binds;
-          short = s.short;
+          held = record {
+            cons = rw c.end-at.ensures f.stay;
+            binds = subst (λ (w : List ℕ). IsBinds w o.behind.end o.bindings.end o.bindings.trees.0) s.same_bindings
+                (subst (λ (k : ℕ). IsBinds o.bindings.words.now k o.bindings.end o.bindings.trees.0) s.joined_bindings o.bindings.trees.1);
+            sound_cons = f.sound_behind;
+            sound_binds = s.sound.bindings;
+            short = s.short;
+          };
+          front = record {
+            passed = [];
+            left = f.behind;
+            are = refl;
+            there = nothing-there _ _;
+            stay = rw c.end-at.ensures f.stay;
+            idle = tt;
+          };
         };
       });
     }
@@ -107,13 +131,13 @@ returns-in-Done c =
 pub returns-in_default : goal.returns-in_default
 returns-in_default c =
     let f = found _ _ _ _ _ _ _ _ _ c.search.invariant.2 c.in-Some.ensures.steps in
-    let b = set-same _ _ _ _ f.passed c.rest-1.given.1.0 in
-    let h = set-same _ _ _ _ (rw c.end-at.ensures f.stay) c.rest-in_default-1.given.1.0 in
+    let b = set-same _ _ _ _ f.passed c.rest-in_default-1.given.1.0 in
+    let h = set-same _ _ _ _ (rw c.end-at.ensures f.stay) c.rest-in_default-2-1.given.1.0 in
     let n = c.perform.ensures c.in-Some.c.tree.0 (record {
       sound = record {
         before = subst (SoundSet c.args.names.pool.now c.args.names.table.now) (sym b) f.sound_before;
         behind = subst (SoundSet c.args.names.pool.now c.args.names.table.now) (sym h) f.sound_behind;
-        bindings = c.requires.sound.binds;
+        bindings = c.requires.sound.sound.bindings;
       };
       good = f.good;
       deep = f.deep;
@@ -121,25 +145,29 @@ returns-in_default c =
       was = _;
       stepped = c.in_ok-step.ensures;
     }) in
-    rw c.written.ensures (record {
+    let o : Others = record {
+      before = record {
+        words = c.args.state.behind.words;
+        at = c.args.state.before.at;
+        end = c.in-Some.c.at;
+        near = c.rest-in_default-1.given.0;
+        trees = c.rest-in_default-1.given.1.0;
+      };
+      behind = record {
+        words = c.args.state.behind.words;
+        at = c.end-at.result;
+        end = c.args.state.behind.end;
+        near = c.rest-in_default-2-1.given.0;
+        trees = c.rest-in_default-2-1.given.1.0;
+      };
+      bindings = c.args.state.bindings;
+    } in
+    let k : c.in-Some.c.at - c.args.state.before.at ≡ sum_of sizeCon o.before.trees.0 = omega (arith, o.before.trees.1.ends) in
+    rw (c.written.ensures, c.still_stuck-stuck.ensures) (record {
       same = n.same ∙ ap (λ (w : Writer). w.words.ghost_name) c.search.invariant.1;
-      rounded = rounded-as (applied _ _ _ _ _ _ _ f (record {
-        before = record {
-          words = c.args.constraints.words;
-          at = c.args.constraints.at;
-          end = c.in-Some.c.at;
-          near = c.rest-1.given.0;
-          trees = c.rest-1.given.1.0;
-        };
-        behind = record {
-          words = c.args.constraints.words;
-          at = c.end-at.result;
-          end = c.args.constraints.end;
-          near = c.rest-in_default-1.given.0;
-          trees = c.rest-in_default-1.given.1.0;
-        };
-        bindings = c.args.bindings;
-      }) b h refl (some-rule c.in_ok-step.ensures c.in_default.not-Stuck)) (wrote n.turned);
+      rounded = rounded-as (applied _ _ _ _ _ _ _ f o b h refl (some-rule c.in_ok-step.ensures c.in_default.not-Stuck))
+          (wrote n.turned (λ st ends e held. still _ _ o (subst (Idle c.args.names.pool.now c.args.names.table.now) (sym b) f.idle) k _ st ends held _ _ _ e _
+          c.in_ok-step.ensures));
     })
 
 pub returns : goal.returns

@@ -1,5 +1,4 @@
 use Rattle.std.proofs.Common.{ap, sym, ◌∙◌}
-use Rattle.rules.specs.Trees.{Ty}
 use Rattle.rules.specs.Views.{asVar}
 use Rattle.types.proofs.Seen.{seen-as, no-variable}
 use Rattle.types.proofs.Type.variable.Goals as goal

@@ -5,24 +5,16 @@ use Prim.Native.Nat.{◌/◌}
 use lib.ListN.{length}
 use Rattle.rules.specs.Base.{collect}
 use Rattle.rules.specs.Calls.{opensBinding}
-use Rattle.queries.specs.MarkLaws.{marks-none, unmixed-marks}
+use Rattle.queries.specs.MarkLaws.{unmixed-marks}
 use Rattle.queries.specs.Scans.{opensIn}
 use Rattle.queries.specs.declared.Kind.TheVariants.{Variables, Parameters}
 use Rattle.judge_proposals.specs.Order.{same-marks}
 use Rattle.judge_proposals.proofs.inner.mixed.apart.Goals as goal
-
-pub is_disjoint-requires : goal.is_disjoint-requires
-is_disjoint-requires c =
-    let (bs, (names, h)) = c.requires in
-    record {
-      v_len = (c.mark_table.ensures bs names _ h (c.marks.ensures [] marks-none)).long;
-      p_len = (c.mark_table-2.ensures bs names _ h (c.marks-2.ensures [] marks-none)).long;
-    }
 
 pub returns : goal.returns
 returns c = λ bs names h small.
     let s = c.args.set.now in
     let os = opensIn s 0 (length s / 4) in
     c.is_disjoint.ensures ∙ unmixed-marks (os ++ collect opensBinding bs) _ _
-    (same-marks _ _ names bs Variables os h (c.mark_table.ensures bs names _ h (c.marks.ensures [] marks-none)))
-    (same-marks _ _ names bs Parameters os h (c.mark_table-2.ensures bs names _ h (c.marks-2.ensures [] marks-none))) small names
+    (same-marks _ _ names bs Variables os h (c.add_table.ensures bs names _ h (c.extend.ensures [] c.new-variables.ensures)))
+    (same-marks _ _ names bs Parameters os h (c.add_table-2.ensures bs names _ h (c.extend-2.ensures [] c.new-parameters.ensures))) small names

@@ -11,7 +11,7 @@ returns-then-is_closed-2 c =
     let a = c.args in
     let e = sym c.if-is_closed.ensures in
     let f = sym c.if-is_closed-2.ensures in
-    λ names. equal-closed names _ _ _ (rw (e, f)) c.satisfied_if.ensures (c.same_types.ensures _ _ names a.left.tree.1 a.right.tree.1)
+    λ names. equal-closed names _ _ _ (rw (e, f)) c.satisfied_if.ensures (c.same.ensures names)
 
 pub returns-else-is_closed : goal.returns-else-is_closed
 returns-else-is_closed c =

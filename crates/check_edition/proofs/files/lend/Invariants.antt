@@ -1,7 +1,0 @@
-use Rattle.std.specs.Prelude.{◌≡◌, take}
-use Rattle.edition.specs.Files.{files_of}
-use Rattle.check_edition.specs.Given.{given_of}
-use Rattle.check_edition.proofs.files.lend.Given as goal
-
-abbrev pub invariant-loop-g : goal.invariant-loop-g
-invariant-loop-g l = files_of l.files.items ≡ given_of (take l.g-index l.given)

@@ -1,0 +1,182 @@
+// The command line.
+use clap::{Arg, ArgAction, ArgMatches, Command};
+use rules::Shown;
+use std::alloc::{AllocError, Global};
+
+/// As lines, as one value of JSON, as a page of HTML in a file; or judged by the certificate in a file.
+#[derive(Clone, Copy)]
+pub enum Form<'a> {
+    Text,
+    Json,
+    Html(&'a str),
+    Verified(&'a str),
+}
+
+/// What was asked for beside the files.
+#[derive(Clone, Copy)]
+pub struct Options<'a> {
+    pub shown: Shown,
+    pub form: Form<'a>,
+    pub certificate: Option<&'a str>,
+    pub names: bool,
+    pub why: bool,
+    pub separate: bool,
+    pub strict: bool,
+}
+
+impl<'a> Options<'a> {
+    /// By the flags that were given.
+    pub fn of(matches: &'a ArgMatches) -> Options<'a> {
+        Options {
+            shown: if matches.get_flag("quiet") {
+                Shown::Quiet
+            } else {
+                Shown::All
+            },
+            form: form_of(matches),
+            certificate: matches.get_str("certificate"),
+            names: matches.get_flag("names"),
+            why: matches.get_flag("why"),
+            separate: matches.get_flag("separate"),
+            strict: matches.get_flag("strict"),
+        }
+    }
+
+    /// Is it told which lines conflict? A page to look at always tells it.
+    pub fn is_why_told(self) -> bool {
+        self.why || matches!(self.form, Form::Html(_))
+    }
+}
+
+// The form that was asked for.
+fn form_of<'a>(matches: &'a ArgMatches) -> Form<'a> {
+    if let Some(path) = matches.get_str("verify") {
+        return Form::Verified(path);
+    }
+    if let Some(path) = matches.get_str("html") {
+        return Form::Html(path);
+    }
+    if matches.get_flag("json") {
+        return Form::Json;
+    }
+    Form::Text
+}
+
+/// What stands behind the options in the help.
+const AFTER: &str =
+    "Each sheet is told by itself: sheets are not compared with one another, so ?price may be euros in one and Bool in the next. \
+All sheets share one table of 256 names; --separate gives each a table of its own, 256 names a sheet in place of 256 an edition.
+
+A page begins with the file's name, and the place where one is known, NAME:LINE:COLUMN:. \
+Notes on standard error (names that look alike, sheets without a constraint) are no part of a verdict.
+
+Exit status: 0 every sheet is accepted; 1 one isn't, a file that can't be read among them; 2 a mistake on the command line; \
+3 no whole report (no memory, or the output can't be written).";
+
+fn flag<'a>(alloc: Global, name: &'a str, help: &'a str) -> Arg<'a> {
+    Arg::new(alloc, name)
+        .long(name)
+        .help(help)
+        .action(ArgAction::SetTrue)
+}
+
+// An option that names a file, and can't stand beside these others.
+fn file<'a>(
+    alloc: Global,
+    name: &'a str,
+    help: &'a str,
+    others: &[&'a str],
+) -> Result<Arg<'a>, AllocError> {
+    let mut arg = Arg::new(alloc, name)
+        .long(name)
+        .value_name("FILE")
+        .help(help);
+    for other in others {
+        arg = arg.conflicts_with(*other)?;
+    }
+    Ok(arg)
+}
+
+// What is told, and of which sheets.
+fn with_pages<'a>(alloc: Global, command: Command<'a>) -> Result<Command<'a>, AllocError> {
+    command
+        .arg(flag(
+            alloc,
+            "quiet",
+            "Leave out the pages of sheets that are accepted",
+        )
+        .short('q'))?
+        .arg(flag(
+            alloc,
+            "names",
+            "List each sheet's new names behind the report",
+        ))?
+        .arg(flag(
+            alloc,
+            "why",
+            "Tell which lines conflict, under a sheet of which constraints remain",
+        ))?
+        .arg(flag(
+            alloc,
+            "separate",
+            "Give each sheet a table of names of its own",
+        ))?
+        .arg(flag(alloc, "strict", "Count a note as not accepted"))
+}
+
+// In which form it is told.
+fn with_forms<'a>(alloc: Global, command: Command<'a>) -> Result<Command<'a>, AllocError> {
+    let html = file(
+        alloc,
+        "html",
+        "Write the report as a page of HTML to FILE, and the last line alone on standard output",
+        &["json"],
+    )?;
+    command
+        .arg(flag(alloc, "json", "Write one value of JSON in place of lines"))?
+        .arg(html)
+}
+
+// What is kept of sheets, and sheets that are judged by it.
+fn with_certificates<'a>(alloc: Global, command: Command<'a>) -> Result<Command<'a>, AllocError> {
+    let certificate = file(
+        alloc,
+        "certificate",
+        "Write to FILE what is to be kept of the accepted sheets: digests, and what their variables stand for",
+        &["json", "html"],
+    )?;
+    let verify = file(
+        alloc,
+        "verify",
+        "Solve nothing: judge the sheets by the certificate in FILE",
+        &[
+            "certificate",
+            "json",
+            "html",
+            "quiet",
+            "names",
+            "why",
+            "separate",
+            "strict",
+        ],
+    )?;
+    command.arg(certificate)?.arg(verify)
+}
+
+/// The words that the program takes.
+pub fn command<'a>(alloc: Global) -> Result<Command<'a>, AllocError> {
+    let files = Arg::new(alloc, "FILE")
+        .help("Sheets, one file each; none, or -, is standard input")
+        .action(ArgAction::Append)
+        .num_args(0..);
+    let command = Command::new(alloc, "check_edition")
+        .version("0.1.0")
+        .about(
+            "Checks sheets of type and dimension constraints: each is solved, and what solves it is judged",
+        )
+        .after_help(AFTER)
+        .arg(files)?;
+    let command = with_pages(alloc, command)?;
+    let command = with_forms(alloc, command)?;
+    with_certificates(alloc, command)
+}

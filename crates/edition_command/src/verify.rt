@@ -1,0 +1,121 @@
+// Sheets judged by a certificate, with nothing solved: a line for each.
+ghost use Rattle.std.specs.Prelude.{◌≡◌, ◌≤◌, ◌++◌, OnOk, IfOk};
+ghost use Rattle.laws.specs.Lists.{Every};
+ghost use Rattle.edition_certificate_file.specs.Files.{IsReadFrom};
+ghost use Rattle.edition_verify.specs.Verifying.{TrueBy, sheetsIn, verifiedIn, verifiedText};
+ghost use Rattle.edition_command.specs.Given.{given_of};
+
+use crate::files::{Given, front, lend, read_all};
+use crate::status::Totals;
+use crate::words::Words;
+use crate::written::Written;
+use anyhow::{Context, Result};
+use edition_certificate_file::{Entry, Fault, read_certificate};
+use edition_report::shown::put_shown;
+use edition_report::words::put_amount;
+use edition_verify::verify_files;
+use filling::fill_front;
+use std::alloc::{AllocError, Global};
+use std::io::{BufWriter, Write};
+use std::rt::Files;
+use std::{fs, io};
+use text_spell::sink::Sink;
+
+// Says why a file can't be used as a certificate.
+fn put_fault(out: &mut Vec<u8>, path: &[u8], fault: Fault) -> Result<(), AllocError> {
+    put_shown(out, path)?;
+    match fault {
+        Fault::Other => out.put(b": this is no certificate\n"),
+        Fault::Version => out.put(b": the certificate is of another version\n"),
+        Fault::Torn => out.put(b": the certificate is torn: it has no last line\n"),
+        Fault::Line(number) => {
+            out.put(b":")?;
+            put_amount(out, number)?;
+            out.put(b": no such line stands here in a certificate\n")
+        }
+    }
+}
+
+// The bytes of a certificate's file, if they can be had: at most 64 MB.
+fn read_file<R: Files + AllocGlobal>(rt: &R, path: &str) -> Result<Option<Vec<u8>>> {
+    let alloc = rt.alloc();
+    let Ok(mut file) = fs::open(rt, path) else {
+        return Ok(None);
+    };
+    let mut buf = front(alloc)?;
+    let mut text = Vec::new(alloc);
+    for _ in 0..64 {
+        let (n, read) = fill_front(&mut file, &mut buf);
+        if read.is_err() {
+            return Ok(None);
+        }
+        text.extend_from_slice(&buf[..n])?;
+        if n < buf.len() {
+            return Ok(Some(text));
+        }
+    }
+    Ok(None)
+}
+
+// What the certificate in a file keeps; or a line that says why it can't be used.
+fn kept_in<R: Files + AllocGlobal>(rt: &R, path: &str) -> Result<Result<Vec<Entry>, Vec<u8>>> {
+    let alloc = rt.alloc();
+    let mut line = Vec::new(alloc);
+    let Some(text) = read_file(rt, path)? else {
+        put_shown(&mut line, path.as_bytes())?;
+        line.put(b": the certificate can't be read\n")?;
+        return Ok(Err(line));
+    };
+    match read_certificate(alloc, &text)? {
+        Ok(entries) => Ok(Ok(entries)),
+        Err(fault) => {
+            put_fault(&mut line, path.as_bytes(), fault)?;
+            Ok(Err(line))
+        }
+    }
+}
+
+/// Judges files by what a certificate keeps: what is passed on is what the definition says, byte by byte, and so are the counts; and where every sheet is
+/// counted as verified, each file is the one that was certified, and true.
+pub fn verify_on<W: Write + Drop>(
+    alloc: Global,
+    entries: &[Entry],
+    given: &[Given],
+    to: &mut Written<W>,
+) -> Result<Totals>
+    ensures told { OnOk result (to.new.passed.items ≡ to.old.passed.items ++ verifiedText entries.now (given_of given.now)) }
+    ensures sheets { IfOk result (λ t. t.sheets ≡ sheetsIn entries.now (given_of given.now)) }
+    ensures verified { IfOk result (λ t. t.accepted ≡ verifiedIn entries.now (given_of given.now)) }
+    ensures truth { IfOk result (λ t. t.sheets ≤ t.accepted → Every (TrueBy entries.now) (given_of given.now)) }
+{
+    let files = lend(alloc, given)?;
+    let mut lines = Vec::new(alloc);
+    let verified = verify_files(alloc, entries, &files, &mut lines)?;
+    to.put(&lines).context("what is verified can't be written")?;
+    Ok(Totals {
+        sheets: verified.sheets,
+        accepted: verified.verified,
+        names: 0,
+        notes: 0,
+    })
+}
+
+/// Judges the files with these names by the certificate in the file at `path`; where there is none, no sheet is verified.
+pub fn check<R: Files + Input + Print + AllocGlobal>(
+    rt: &R,
+    path: &str,
+    names: &[&str],
+    words: &Words,
+) -> Result<Totals> {
+    let alloc = rt.alloc();
+    let mut out = Written::new(alloc, BufWriter::new(alloc, io::writer(rt))?);
+    let entries = match kept_in(rt, path)? {
+        Ok(entries) => entries,
+        Err(line) => {
+            out.put(&line).context("what is verified can't be written")?;
+            Vec::new(alloc)
+        }
+    };
+    let given = read_all(rt, names, words)?;
+    verify_on(alloc, &entries, &given, &mut out)
+}

@@ -1,4 +1,0 @@
-use Rattle.edition_report.proofs.words.+put_digits.Given as goal
-
-abbrev pub decreases-put_digits : goal.decreases-put_digits
-decreases-put_digits g l = l.k

@@ -1,0 +1,5 @@
+use Rattle.queries.specs.MarkLaws.{marks-none}
+use Rattle.queries.proofs.name_set.NameSet.new.Goals as goal
+
+pub returns : goal.returns
+returns c = marks-none
