@@ -3,7 +3,7 @@ use Rattle.std.specs.Prelude as std
 use Rattle.std.specs.Prelude.{Result, Ok, Err, IfOk, ◌≡◌, refl, List, ℕ, length, replicate}
 use Rattle.std.proofs.Math.Option.{Option}
 use Rattle.std.proofs.Common.{ap, sym, subst}
-use Rattle.rules.specs.Base.{Got, got, refused, ◌>>=◌}
+use Rattle.rules.specs.Base.{Got, got, refused}
 use Rattle.rules.specs.Calls.{lent, resultAfter, workAfter}
 use Rattle.rules.specs.Conflicts.{Line, conflictIn, conflictOf, conflictCall}
 use Rattle.rules.specs.Names.{table_of, numbersOf, tableGiven, lentTable}

@@ -1,12 +1,10 @@
 -- Which constraints of a set stand: a mark for each place.
 use Rattle.std.specs.Prelude.{Result, ◌≡◌, Bool, true, false, List, ℕ, ◌-◌, ◌≤◌, ◌<◌, ◌⊎◌, length, take, drop, get_or}
-use Rattle.rules.specs.Base.{all, keep, sum_of, max_of}
+use Rattle.rules.specs.Base.{keep}
 use Rattle.rules.specs.Conflicts.{Line, linesFrom, leaveOut}
 use Rattle.rules.specs.Refusals.{toldBy}
-use Rattle.rules.specs.Trees.{Names, Con, sizeCon, depthCon}
-use Rattle.rules.specs.WellFormed.{goodCon}
+use Rattle.rules.specs.Trees.{Names, Con}
 use Rattle.rules.specs.declared.Refusal.{Refusal}
-use Rattle.records.specs.Good.{numbers, holding}
 
 abbrev pub line_place : Line ℕ → ℕ
 line_place l = l.0
