@@ -1,6 +1,6 @@
 -- The checks of a set past that of 10, and what is known where they are met; and the whole call.
 use Rattle.std.specs.Prelude.{◌≡◌, refl, Err, ◌&&◌, List, [], ◌∷◌, ℕ, ◌/◌, ◌≤◌, leb, length, replicate}
-use Rattle.std.proofs.Common.{arith}
+use Rattle.std.proofs.Common.{arith, sym, subst}
 use Rattle.std.proofs.Math.Path.{ap}
 use Rattle.std.proofs.Math.Bool.{true}
 use borrow.Author.Tests.{leb-true}
@@ -16,6 +16,7 @@ use Rattle.laws.specs.NameTable.{Good, good-laid}
 use Rattle.records.specs.Found.{Words32}
 use Rattle.records.specs.Good.{Chain, GoodCon, numbers}
 use Rattle.records.specs.Whole.{entry-good, set_is}
+use Rattle.types.specs.Sets.{HoldsCons, IsCons, Cons, one-set}
 use Rattle.queries.specs.Marks.{Small}
 use Rattle.queries.specs.Runs.{set-small, set-opens}
 use Rattle.queries.specs.Scans.{opensIn}
@@ -113,6 +114,23 @@ module _ (pool table ws : List ℕ) where
         (unmet (λ cs. apart (table_of pool table) (collect opensCon cs)) (lentTable pool table) (shortLists (ws ∷ []))
         (tableKept (table_of pool table)) (setGiven (table_of pool table) ws)
         (need (unmixed (numbers pool table) (opensIn ws 0 (length ws / 4))) 4) n l opened e)
+
+-- ══ The set as a value ══
+
+module _ (pool table s : List ℕ) (e : ℕ) where
+  pub held-set : (cs : List (Con ℕ)) (at : ℕ) → Chain (GoodCon pool table 0 s) e cs at → IsCons s at e cs
+  unfolding HoldsCons
+  held-set [] at c = record { held = tt; ends = omega (arith, c) }
+  held-set (x ∷ cs) at c =
+      let r = held-set cs c.0 c.1.1 in
+      record { held = (c.1.0.held, subst (HoldsCons s cs) c.1.0.past r.held); ends = omega (arith, r.ends, c.1.0.past) }
+
+  module _ (cs : List (Con ℕ)) (c : Chain (GoodCon pool table 0 s) e cs 0) (set : Cons s 0 e) where
+    pub same-set : set.0 ≡ cs
+    same-set = ap (λ (x : Cons s 0 e). x.0) (one-set s 0 e set (cs, held-set cs 0 c))
+
+    pub set-held : Chain (GoodCon pool table 0 s) e set.0 0
+    set-held = subst (λ (l : List (Con ℕ)). Chain (GoodCon pool table 0 s) e l 0) (sym same-set) c
 
 -- ══ The call ══
 

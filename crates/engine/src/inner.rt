@@ -3,7 +3,7 @@ ghost use Rattle.std.specs.Prelude.{◌≡◌, List, [], ◌∷◌, map, ℕ, �
 ghost use Rattle.std.proofs.lemmas.List.Edits.{sets};
 ghost use Rattle.rules.specs.Base.{collect};
 ghost use Rattle.rules.specs.Exponents.{nought};
-ghost use Rattle.rules.specs.Trees.{Atom as TreeAtom, base, ◌↑◌, is_scalar, Con};
+ghost use Rattle.rules.specs.Trees.{Atom as TreeAtom, base, ◌↑◌, is_scalar};
 ghost use Rattle.rules.specs.Writing.{words, writeFactor, writeProduct, writeCon, writeBinding};
 ghost use Rattle.exponents.specs.Answers.{expOf};
 ghost use Rattle.records.specs.Views.{recOf};
@@ -24,13 +24,14 @@ ghost use Rattle.engine.specs.Put.{Put, OneFactor, PutProduct, PutSmall};
 use super::Eliminated;
 use engine_matrix::inner::grids::{Columns, Grid, Machine, eliminate, row_at};
 use engine_matrix::inner::rows::{Row, power_at};
-use exponents::Exponent;
 use engine_rows::inner::{atom_at, blank, lines_of, list_columns};
+use exponents::Exponent;
 use names::tables::NameTable;
 use queries::inner::is_unmixed;
 use records::inner::{put_one, put_record};
 use records::{Atom, View, is_set};
 use rules::Refusal;
+use types::Constraints;
 
 // The record of a factor.
 fn factor_view(a: Atom, e: Exponent) -> View
@@ -174,16 +175,15 @@ pub struct Reduced {
     pub machine: Machine,
 }
 
-/// The set in the records before e, laid out and eliminated. Refuses with 8 where it doesn't fit, and with 7.
-pub fn reduce(names: NameTable, s: &[u32], e: usize) -> Result<Reduced, Refusal>
-    requires end { e ≤ 2048 }
-    requires a_set { (cs : List (Con ℕ)) × SetHeld names.pool.now names.table.now s.now e cs }
-    ensures is { (cs : List (Con ℕ)) → SetHeld names.entry.pool.now names.entry.table.now s.now e cs → toldBy settledOf result ≡ reduction names.entry.pool.now names.entry.table.now cs }
+/// The set, laid out and eliminated. Refuses with 8 where it doesn't fit, and with 7.
+pub fn reduce(names: NameTable, set: Constraints) -> Result<Reduced, Refusal>
+    requires a_set { SetHeld names.pool.now names.table.now set.words.now set.end set.trees.0 }
+    ensures is { toldBy settledOf result ≡ reduction names.entry.pool.now names.entry.table.now set.entry.trees.0 }
     ensures ready { IfOk result Ready }
 {
-    lines_of(s, e, none())?; // the kinds alone: which names there are is known of equal-scalars only
-    let columns = list_columns(names, s, e)?;
-    let lines = lines_of(s, e, columns)?;
+    lines_of(set, none())?; // the kinds alone: which names there are is known of equal-scalars only
+    let columns = list_columns(names, set.words, set.end)?;
+    let lines = lines_of(set, columns)?;
     let machine = eliminate(columns, start(lines.grid, lines.len))?;
     Ok(Reduced { columns, machine })
 }
@@ -226,6 +226,8 @@ pub fn eliminate_set(
 {
     enter(pool, table, words)?;
     let names = NameTable { pool, table };
-    let reduced = reduce(names, words, words.len() / 4)?;
+    let end = words.len() / 4;
+    let set = Constraints { words, at: 0, end };
+    let reduced = reduce(names, set)?;
     Ok(write(reduced.columns, reduced.machine, res))
 }

@@ -1,38 +1,22 @@
 -- Atoms of the code and of the trees, and rows with zeros past their columns.
-use Rattle.std.specs.Prelude.{◌≡◌, Bool, true, false, cond, eqb, length, take, drop, get_or, set, replicate}
+use Rattle.std.specs.Prelude.{◌≡◌, Bool, true, false, length, take, get_or, set, replicate}
 use Rattle.std.proofs.Math.Path.{refl}
-use Rattle.std.proofs.Common.{
-  ap,
-  ◌∙◌,
-  sym,
-  arith,
-  add-one,
-  eqb-true,
-  eq-eqb,
-  length-append,
-  drop_of_length-le,
-  length-take-le,
-  take-suc,
-  get_or-take,
-  get_or-append-add,
-}
+use Rattle.std.proofs.Common.{ap, ◌∙◌, sym, arith, add-one, length-append, length-take-le, take-suc, get_or-take, get_or-append-add}
 use mathlib.Core.List.{List, [], ◌∷◌, ◌++◌, append_assoc}
 use Prim.Native.Nat.{ℕ, zero, suc, ◌+◌, ◌-◌, ◌≤◌, ◌<◌}
 use Rattle.std.proofs.lemmas.List.{length-replicate, length-map, set_at}
 use Rattle.std.proofs.Math.ListN.{get_or-append}
 use Rattle.rules.specs.Base.{is_yes}
 use Rattle.rules.specs.Exponents.{Exp, frac, nought, goodExp}
-use Rattle.rules.specs.Writing.{twos, signed}
+use Rattle.rules.specs.Writing.{signed}
 use Rattle.rules.specs.Names.{Bytes, numbered}
 use Rattle.rules.specs.Trees as tree
 use Rattle.rules.specs.Trees.{Factor, ◌↑◌, Product, Names}
 use Rattle.laws.specs.Ranges.{nought-good}
-use Rattle.laws.specs.Lists.{Every, is-yes, is-no, true≢false}
-use Rattle.records.specs.Views.{viewAt}
-use Rattle.records.specs.Holds.{openOf, viewOpen, atomOf, viewAtom, HoldsFactor, HoldsFactors}
-use Rattle.records.specs.declared.View.TheVariants as view
-use Rattle.types.specs.Held.{holds_at}
-use Rattle.records.specs.declared.Open.{Open}
+use Rattle.laws.specs.Lists.{Every, is-yes, is-no}
+use Rattle.records.specs.Holds.{atomOf, viewAtom}
+use Rattle.types.specs.Shapes.{factor_of}
+use Rattle.types.specs.declared.Factor as code
 use Rattle.records.specs.declared.Open.TheVariants.{Var, Quant, Par}
 use Rattle.records.specs.declared.Atom.{Atom}
 use Rattle.records.specs.declared.Atom.TheVariants.{Free, Base}
@@ -45,92 +29,24 @@ use Rattle.engine_matrix.specs.Told.{row_in, Wide}
 
 -- ══ Are two atoms the same? ══
 
-abbrev pub openRank : Open → ℕ
-openRank (Var x) = 0
-openRank (Quant i) = 1
-openRank (Par x) = 2
+view-back : (a : Atom) → viewAtom (atomOf a) ≡ a
+view-back (Free (Var x)) = refl
+view-back (Free (Quant i)) = refl
+view-back (Free (Par x)) = refl
+view-back (Base x) = refl
 
-abbrev pub openNumber : Open → ℕ
-openNumber (Var x) = x
-openNumber (Quant i) = i
-openNumber (Par x) = x
-
-abbrev pub atomRank : Atom → ℕ
-atomRank (Free o) = openRank o
-atomRank (Base x) = 3
-
-abbrev pub atomNumber : Atom → ℕ
-atomNumber (Free o) = openNumber o
-atomNumber (Base x) = x
-
-unfoldable pub sameAtom : Atom → Atom → Bool
-sameAtom a b = cond (eqb (atomRank a) (atomRank b)) (eqb (atomNumber a) (atomNumber b)) false
-
-open-same : (o p : Open) → openRank o ≡ openRank p → openNumber o ≡ openNumber p → openOf o ≡ openOf p
-open-same (Var x) (Var y) r e = ap tree.var e
-open-same (Var x) (Quant j) r e = absurd (omega arith)
-open-same (Var x) (Par y) r e = absurd (omega arith)
-open-same (Quant i) (Var y) r e = absurd (omega arith)
-open-same (Quant i) (Quant j) r e = ap tree.quant e
-open-same (Quant i) (Par y) r e = absurd (omega arith)
-open-same (Par x) (Var y) r e = absurd (omega arith)
-open-same (Par x) (Quant j) r e = absurd (omega arith)
-open-same (Par x) (Par y) r e = ap tree.par e
-
-open-low : (o : Open) → openRank o < 3
-open-low (Var x) = omega arith
-open-low (Quant i) = omega arith
-open-low (Par x) = omega arith
-
-ranks-same : (a b : Atom) → atomRank a ≡ atomRank b → atomNumber a ≡ atomNumber b → atomOf a ≡ atomOf b
-ranks-same (Free o) (Free p) r e = ap tree.free (open-same o p r e)
-ranks-same (Free o) (Base y) r e = absurd (omega (arith, open-low o))
-ranks-same (Base x) (Free p) r e = absurd (omega (arith, open-low p))
-ranks-same (Base x) (Base y) r e = ap tree.base e
-
--- and back
-openRanked : tree.Open ℕ → ℕ × ℕ
-openRanked (tree.var x) = (0, x)
-openRanked (tree.quant i) = (1, i)
-openRanked (tree.par x) = (2, x)
-
-ranked : tree.Atom ℕ → ℕ × ℕ
-ranked (tree.free o) = openRanked o
-ranked (tree.base x) = (3, x)
-
-ranked-is : (a : Atom) → ranked (atomOf a) ≡ (atomRank a, atomNumber a)
-unfolding ranked openRanked
-ranked-is (Free (Var x)) = refl
-ranked-is (Free (Quant i)) = refl
-ranked-is (Free (Par x)) = refl
-ranked-is (Base x) = refl
-
-pub atom-same : (a b : Atom) → sameAtom a b ≡ true → atomOf a ≡ atomOf b
-unfolding sameAtom
-atom-same a b e = go (eqb (atomRank a) (atomRank b)) refl e
-  where
-    go : (t : Bool) → eqb (atomRank a) (atomRank b) ≡ t → cond t (eqb (atomNumber a) (atomNumber b)) false ≡ true → atomOf a ≡ atomOf b
-    go true i h = ranks-same a b (eqb-true _ _ i) (eqb-true _ _ h)
-    go false i h = cc
-
-pub atom-other : (a b : Atom) → sameAtom a b ≡ false → atomOf a ≡ atomOf b → ⊥
-unfolding sameAtom
-atom-other a b e i =
-    let p : ◌≡◌ {A = ℕ × ℕ} (atomRank a, atomNumber a) (atomRank b, atomNumber b) = sym (ranked-is a) ∙ ap ranked i ∙ ranked-is b in
-    true≢false (sym (rw (
-      eq-eqb (atomRank a) (atomRank b) (ap (λ (q : ℕ × ℕ). q.0) p),
-      eq-eqb (atomNumber a) (atomNumber b) (ap (λ (q : ℕ × ℕ). q.1) p),
-    ) refl) ∙ e)
+-- the same atom in the trees
+atom-same : (a b : Atom) → atomOf a ≡ atomOf b → a ≡ b
+atom-same a b e = sym (view-back a) ∙ ap viewAtom e ∙ view-back b
 
 -- ══ Held products, and their rows ══
 
 abbrev pub powerOf : Factor ℕ → Exp
 powerOf (a ↑ e) = e
 
-pub record HeldGood (s : List ℕ) (at n : ℕ) (p : Product ℕ) : Type 0 where
-  pub held : HoldsFactors s p at
-  pub long : length p ≡ n
-  pub good : Every (λ f. goodExp (powerOf f) ≡ true) p
+-- each power is well formed
+abbrev pub GoodPowers : Product ℕ → Type 0
+GoodPowers p = Every (λ f. goodExp (powerOf f) ≡ true) p
 
 -- these powers, and zeros up to 48
 pub record RowIs (r : Row) (l : Rows.Row) : Type 0 where
@@ -139,15 +55,6 @@ pub record RowIs (r : Row) (l : Rows.Row) : Type 0 where
 
 abbrev pub atomIn : Factor ℕ → tree.Atom ℕ
 atomIn (a ↑ e) = a
-
-open-back : (o : tree.Open ℕ) → openOf (viewOpen o) ≡ o
-open-back (tree.var x) = refl
-open-back (tree.quant i) = refl
-open-back (tree.par x) = refl
-
-atom-back : (a : tree.Atom ℕ) → atomOf (viewAtom a) ≡ a
-atom-back (tree.free o) = ap tree.free (open-back o)
-atom-back (tree.base x) = refl
 
 -- ══ The power of an atom, factor by factor ══
 
@@ -159,32 +66,16 @@ power-step names (c ↑ e) q a = (
   λ i. rw (is-no ((atomNames (numbered names)).same a c) i, powerIn) refl,
 )
 
-module _ (names : List Bytes) (s : List ℕ) (p : Product ℕ) (at i : ℕ) (a b : Atom) (num den : ℕ) (h : HoldsFactors s p at) (l : i < length p)
-    (v : viewAt s (at + i) ≡ view.Factor b num den) where
-  -- the factor at this place
-  here : (f : Factor ℕ) → HoldsFactor s f (at + i) → (atomOf b ≡ atomIn f) × (frac (signed num) den ≡ powerOf f)
-  here (c ↑ frac n d) k =
-      let z : view.Factor b num den ≡ view.Factor (viewAtom c) (twos n) d = sym v ∙ k.0 in
-      let x : b ≡ viewAtom c = cc in
-      let y : num ≡ twos n = cc in
-      let w : den ≡ d = cc in
-      (ap atomOf x ∙ atom-back c, rw (y, w, k.1) refl)
+module _ (names : List Bytes) (left rest : Product ℕ) (f : code.Factor) (e : left ≡ factor_of f ∷ rest) (a : Atom) where
+  pub power-met : f.atom ≡ a → powerIn (numbered names) left (atomOf a) ≡ frac (signed f.num) f.den
+  power-met i = rw e ((power-step names (factor_of f) rest (atomOf a)).0 (ap atomOf (sym i)))
 
-  pub power-met : sameAtom a b ≡ true → powerIn (numbered names) (drop i p) (atomOf a) ≡ frac (signed num) den
-  power-met e =
-      let w = holds_at s p at i h l in
-      let k = here w.factor w.holds in
-      rw w.rest ((power-step names w.factor (drop (i + 1) p) (atomOf a)).0 (atom-same a b e ∙ k.0) ∙ sym k.1)
+  pub power-passed : (f.atom ≡ a → ⊥) → powerIn (numbered names) rest (atomOf a) ≡ powerIn (numbered names) left (atomOf a)
+  power-passed i = sym (rw e ((power-step names (factor_of f) rest (atomOf a)).1 (λ j. i (sym (atom-same a f.atom j)))))
 
-  pub power-passed : sameAtom a b ≡ false → powerIn (numbered names) (drop i p) (atomOf a) ≡ powerIn (numbered names) (drop (i + 1) p) (atomOf a)
-  power-passed e =
-      let w = holds_at s p at i h l in
-      let k = here w.factor w.holds in
-      rw w.rest ((power-step names w.factor (drop (i + 1) p) (atomOf a)).1 (λ j. atom-other a b e (j ∙ sym k.0)))
-
-pub power-none : (names : List Bytes) (p : Product ℕ) (i : ℕ) (a : tree.Atom ℕ) → length p ≤ i → powerIn (numbered names) (drop i p) a ≡ nought
+pub power-none : (names : List Bytes) (left : Product ℕ) (a : tree.Atom ℕ) → left ≡ [] → powerIn (numbered names) left a ≡ nought
 unfolding powerIn
-power-none names p i a h = rw (drop_of_length-le p {i = i} h) refl
+power-none names left a e = rw e refl
 
 -- ══ The atom of a column ══
 
@@ -296,7 +187,7 @@ row_at names [] p j d h = absurd (omega arith)
 row_at names (a ∷ cols) p zero d h = refl
 row_at names (a ∷ cols) p (suc j) d h = row_at names cols p j d (omega arith)
 
-pub power-good : (names : List Bytes) (p : Product ℕ) (a : tree.Atom ℕ) → Every (λ f. goodExp (powerOf f) ≡ true) p
+pub power-good : (names : List Bytes) (p : Product ℕ) (a : tree.Atom ℕ) → GoodPowers p
     → goodExp (powerIn (numbered names) p a) ≡ true
 unfolding powerIn
 power-good names [] a h = nought-good

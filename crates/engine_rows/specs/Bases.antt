@@ -1,7 +1,7 @@
 -- The base dimensions that the records of a set name are those of its products.
 use Rattle.std.specs.Prelude.{◌≡◌, length}
 use Rattle.std.proofs.Math.Path.{refl, ap, ap₂, sym}
-use Rattle.std.proofs.Common.{◌∙◌}
+use Rattle.std.proofs.Common.{◌∙◌, subst}
 use mathlib.Core.List.{List, [], ◌∷◌, ◌++◌, map, append_assoc}
 use Prim.Native.Nat.{ℕ, zero, suc, ◌+◌, ◌-◌, ◌≤◌}
 use native.Mathlib.Omega.{arith}
@@ -12,7 +12,7 @@ use Rattle.rules.specs.WellFormed.{atomOf}
 use Rattle.records.specs.Views.{viewAt}
 use Rattle.records.specs.Holds.{HoldsFactor, HoldsFactors, HoldsProduct, HoldsCon}
 use Rattle.engine_rows.specs.Columns.{basesView, basesFrom, basesIn}
-use Rattle.engine_rows.specs.Lines.{Lined}
+use Rattle.records.specs.Good.{Chain, GoodCon}
 use Rattle.engine_rows.specs.Sorting.{basesOf, bases-append}
 
 module _ (s : List ℕ) where
@@ -40,14 +40,17 @@ module _ (s : List ℕ) where
   unfolding basesFrom HoldsCon HoldsProduct sizeCon size
   con-bases p at h = ap₂ ◌++◌ (ap basesView h.0) (ap₂ ◌++◌ (ap basesView h.1.0) (factors-bases p (at + 1 + 1) h.1.1))
 
-  pub set-bases : (ps : List (Product ℕ)) (at e : ℕ) → Lined s (map is_scalar ps) at e → (at ≤ e) × (basesIn s at e ≡ basesOf (collect (λ p. map atomOf p) ps))
-  unfolding Lined collect basesFrom
-  set-bases [] at e l = (omega (arith, l), let z : e - at ≡ 0 = omega (arith, l) in rw z refl)
-  set-bases (p ∷ ps) at e l =
-      let m = sizeCon (is_scalar p) in
-      let r = set-bases ps (at + m) e l.2 in
-      let z : e - at ≡ m + (e - (at + m)) = omega (arith, r.0) in (
-        omega (arith, r.0),
-        rw z (from-append m (e - (at + m)) at ∙ ap₂ ◌++◌ (con-bases p at l.0) r.1
-            ∙ sym (bases-append (map atomOf p) (collect (λ p. map atomOf p) ps))),
-      )
+  module _ (pool table : List ℕ) where
+    pub set-bases : (ps : List (Product ℕ)) (at e : ℕ) → Chain (GoodCon pool table 0 s) e (map is_scalar ps) at
+        → (at ≤ e) × (basesIn s at e ≡ basesOf (collect (λ p. map atomOf p) ps))
+    unfolding collect basesFrom
+    set-bases [] at e c = (omega (arith, c), let z : e - at ≡ 0 = omega (arith, c) in rw z refl)
+    set-bases (p ∷ ps) at e c =
+        let m = sizeCon (is_scalar p) in
+        let r : (at + m ≤ e) × (basesIn s (at + m) e ≡ basesOf (collect (λ p. map atomOf p) ps)) =
+        subst (λ (x : ℕ). (x ≤ e) × (basesIn s x e ≡ basesOf (collect (λ p. map atomOf p) ps))) c.1.0.past (set-bases ps c.0 e c.1.1) in
+        let z : e - at ≡ m + (e - (at + m)) = omega (arith, r.0) in (
+          omega (arith, r.0),
+          rw z (from-append m (e - (at + m)) at ∙ ap₂ ◌++◌ (con-bases p at c.1.0.held) r.1
+              ∙ sym (bases-append (map atomOf p) (collect (λ p. map atomOf p) ps))),
+        )

@@ -1,6 +1,6 @@
 -- A set that was read, laid out: what is known of its records, its columns, and whether it fits.
 use Rattle.std.specs.Prelude.{◌≡◌, ◌&&◌, ℕ, ◌+◌, ◌≤◌, ◌<◌, get_or}
-use Rattle.std.proofs.Math.Path.{ap, ap₂, sym, subst}
+use Rattle.std.proofs.Math.Path.{ap, ap₂, sym}
 use Rattle.std.proofs.Common.{◌∙◌}
 use Rattle.std.proofs.Math.Bool.{true, not}
 use mathlib.Core.List.{List, [], ◌∷◌, ◌++◌, map}
@@ -29,7 +29,7 @@ use Rattle.engine_matrix.specs.declared.inner.grids.Columns.{Columns}
 use Rattle.rules.specs.Elimination.{columns, fits, isVariable}
 use Rattle.engine_matrix.specs.Machine.{atomsFrom, namesIn, colsIn}
 use Rattle.engine_rows.specs.Atoms.{powerOf}
-use Rattle.engine_rows.specs.Lines.{Plain, Lined}
+use Rattle.engine_rows.specs.Lines.{Plain}
 use Rattle.engine_rows.specs.Columns.{vars, pars, bases, Known, Listed}
 use Rattle.engine_rows.specs.Sorting.{varsOf, parsOf, basesOf, Named, in_turn, in-turn, from-names, variables-kept, others-kept, set-variables, set-parameters}
 use Rattle.engine_rows.specs.Bases.{set-bases}
@@ -47,18 +47,15 @@ module _ (pool table s : List ℕ) where
   unfolding goodCon
   con-plain (equal l r) h = tt
   con-plain (isDim t) h = tt
-  con-plain (is_scalar p) h = let g = good-product ν (atom-lawful ν law) (holding pool table) 0 p h in (every-as power-good p g.each, g.few)
+  con-plain (is_scalar p) h = let g = good-product ν (atom-lawful ν law) (holding pool table) 0 p h in every-as power-good p g.each
     where
       power-good : (f : Factor ℕ) → GoodFactor ν (holding pool table) 0 f → goodExp (powerOf f) ≡ true
       power-good (a ↑ e) g = stored-good e g.1
   con-plain (hasField n l r) h = tt
 
-  pub lined : (cs : List (Con ℕ)) (at e : ℕ) → Chain (GoodCon pool table 0 s) e cs at → Lined s cs at e
-  unfolding Lined
-  lined [] at e c = c
-  lined (x ∷ cs) at e c =
-      let g = c.1.0 in
-      (g.held, con-plain x g.good, subst (λ (a : ℕ). Lined s cs a e) g.past (lined cs c.0 e c.1.1))
+  pub all-plain : (cs : List (Con ℕ)) (at e : ℕ) → Chain (GoodCon pool table 0 s) e cs at → Every Plain cs
+  all-plain [] at e c = tt
+  all-plain (x ∷ cs) at e c = (con-plain x c.1.0.good, all-plain cs c.0 e c.1.1)
 
   -- ══ The columns ══
 
@@ -90,7 +87,7 @@ module _ (pool table s : List ℕ) where
     pars-are = ap (λ (os : List (Open ℕ)). sort ν (parametersIn os)) (set-opens pool table 0 s (map is_scalar ps) 0 e chain) ∙ ap (sort ν) (set-parameters ps)
 
     bases-are : bases ν s e ≡ sort ν (basesOf atoms)
-    bases-are = ap (sort ν) (set-bases s ps 0 e (lined (map is_scalar ps) 0 e chain)).1
+    bases-are = ap (sort ν) (set-bases s pool table ps 0 e chain).1
 
     -- in the order of factors
     columns-are : columns ν ps ≡ in_turn (vars ν s e) (pars ν s e) (bases ν s e)
@@ -157,5 +154,5 @@ module _ (pool table s : List ℕ) where
         record {
           variables = rw o (h Variables);
           parameters = rw o (h Parameters);
-          bases = rw (set-bases s ps 0 e (lined (map is_scalar ps) 0 e chain)).1 (all-bases ps 0 chain);
+          bases = rw (set-bases s pool table ps 0 e chain).1 (all-bases ps 0 chain);
         }

@@ -1,21 +1,21 @@
 // The work on words that hold a set.
 ghost use Rattle.std.specs.Prelude.{◌≡◌, List, [], ◌++◌, ℕ, ◌+◌, ◌≤◌, ◌<◌, length, get_or, option_to_list, IfOk};
 ghost use Rattle.rules.specs.Names.{Bytes, numbered};
-ghost use Rattle.rules.specs.Trees.{base, Con};
+ghost use Rattle.rules.specs.Trees.{base};
 ghost use Rattle.exponents.specs.Answers.{expOf};
-ghost use Rattle.records.specs.Holds.{atomOf, HoldsFactors};
-ghost use Rattle.products.specs.Told.{Tree};
+ghost use Rattle.records.specs.Holds.{atomOf};
 ghost use Rattle.rules.specs.Elimination.{powerIn, row_of};
 ghost use Rattle.engine_matrix.specs.Machine.{colsIn, Laid};
 ghost use Rattle.engine_matrix.specs.Grids.{WideGrid};
 ghost use Rattle.rules.specs.Contents.{sort};
 ghost use Rattle.rules.specs.Refusals.{toldBy};
-ghost use Rattle.laws.specs.ReadLists.{Every};
+ghost use Rattle.laws.specs.Lists.{Every};
+ghost use Rattle.laws.specs.ReadLists as Below;
 ghost use Rattle.records.specs.Good.{numbers};
 ghost use Rattle.queries.specs.Marks.{Has, Filled};
 ghost use Rattle.engine_rows.specs.Columns.{basesAtom, basesView, basesIn, Known, headed, listed};
-ghost use Rattle.engine_rows.specs.Lines.{saysScalar, countOf, Lined, rowsOf, Roomy, laidOut};
-ghost use Rattle.engine_rows.specs.Atoms.{openRank, openNumber, atomRank, atomNumber, sameAtom, HeldGood, RowIs};
+ghost use Rattle.engine_rows.specs.Lines.{Plain, rowsOf, Roomy, laidOut};
+ghost use Rattle.engine_rows.specs.Atoms.{GoodPowers, RowIs};
 
 use engine_matrix::inner::grids::{Columns, Grid, with_row};
 use engine_matrix::inner::rows::{Row, with_power};
@@ -27,53 +27,10 @@ use queries::name_set::NameSet;
 use records::seen::view_at;
 use records::{Atom, Open, View};
 use rules::{NAMES, Refusal};
+use types::{Constraints, Demand, Product};
 
 // At most 24 rows, 24 variables, and 24 parameters and base dimensions.
 const ROWS: usize = 24;
-
-fn open_rank(o: Open) -> u32
-    ensures { result ≡ openRank o }
-{
-    match o {
-        Open::Var(_) => 0,
-        Open::Quant(_) => 1,
-        Open::Par(_) => 2,
-    }
-}
-
-fn open_number(o: Open) -> u32
-    ensures { result ≡ openNumber o }
-{
-    match o {
-        Open::Var(x) => x,
-        Open::Quant(x) => x,
-        Open::Par(x) => x,
-    }
-}
-
-fn rank(a: Atom) -> u32
-    ensures { result ≡ atomRank a }
-{
-    match a {
-        Atom::Free(o) => open_rank(o),
-        Atom::Base(_) => 3,
-    }
-}
-
-fn number(a: Atom) -> u32
-    ensures { result ≡ atomNumber a }
-{
-    match a {
-        Atom::Free(o) => open_number(o),
-        Atom::Base(x) => x,
-    }
-}
-
-fn same_atom(a: Atom, b: Atom) -> bool
-    ensures { result ≡ sameAtom a b }
-{
-    rank(a) == rank(b) && number(a) == number(b)
-}
 
 // The atom of a column.
 pub fn atom_at(k: Columns, j: usize) -> Atom
@@ -91,17 +48,13 @@ pub fn atom_at(k: Columns, j: usize) -> Atom
     Atom::Base(k.bases[i - k.parameters])
 }
 
-// The power of an atom in the n factors from a place on; 0 where it doesn't occur.
-fn power_in(s: &[u32], at: usize, n: usize, a: Atom) -> Exponent
-    requires { (at ≤ 1000000000) × (n ≤ 64) }
-    ensures { (p : Tree) (names : List Bytes) → HoldsFactors s.now p at → length p ≡ n → expOf result ≡ powerIn (numbered names) p (atomOf a) }
+// The power of an atom in a product; 0 where it doesn't occur.
+fn power_in(product: Product, a: Atom) -> Exponent
+    ensures { (names : List Bytes) → expOf result ≡ powerIn (numbered names) product.entry.factors.0 (atomOf a) }
 {
-    for i in 0..n {
-        let View::Factor(b, num, den) = view_at(s, at + i) else {
-            return Exponent::ZERO;
-        };
-        if same_atom(a, b) {
-            return Exponent::from_words(num, den);
+    'factors: for factor in product {
+        if factor.atom == a {
+            return Exponent::from_words(factor.num, factor.den);
         }
     }
     Exponent::ZERO
@@ -116,38 +69,17 @@ pub fn zeros() -> Row
     }
 }
 
-// The row of the n factors from a place on.
-pub fn row_of(s: &[u32], at: usize, n: usize, k: Columns) -> Row
+// The row of a product.
+fn row_of(product: Product, k: Columns) -> Row
     requires laid { Laid k }
-    requires place { (at ≤ 1000000000) × (n ≤ 64) }
-    requires held { (p : Tree) × HeldGood s.now at n p }
-    ensures { (p : Tree) (names : List Bytes) → HeldGood s.now at n p → RowIs result (row_of (numbered names) (colsIn k) p) }
+    requires good { GoodPowers product.factors.0 }
+    ensures { (names : List Bytes) → RowIs result (row_of (numbered names) (colsIn k) product.entry.factors.0) }
 {
     let mut out = zeros();
     for j in 0..k.len {
-        out = with_power(out, j, power_in(s, at, n, atom_at(k, j)));
+        out = with_power(out, j, power_in(product, atom_at(k, j)));
     }
     out
-}
-
-// Does a record say equal-scalar?
-fn says_scalar(v: View) -> bool
-    ensures { result ≡ saysScalar v }
-{
-    match v {
-        View::IsScalar => true,
-        _ => false,
-    }
-}
-
-// How many factors follow a record.
-fn count_of(v: View) -> usize
-    ensures { result ≡ countOf v }
-{
-    match v {
-        View::Dim(n) => n as usize,
-        _ => 0,
-    }
 }
 
 // The rows of a set, so many from the grid's front.
@@ -166,25 +98,24 @@ pub fn blank() -> Grid
     }
 }
 
-// Lays the constraints up to the record e out, one a row; 8 where they aren't at most 24 equal-scalar constraints.
-pub fn lines_of(s: &[u32], e: usize, k: Columns) -> Result<Lines, Refusal>
+// Lays the constraints out, one a row; 8 where they aren't at most 24 equal-scalar constraints.
+pub fn lines_of(constraints: Constraints, k: Columns) -> Result<Lines, Refusal>
     requires laid { Laid k }
-    requires end { e ≤ 2048 }
-    requires lined { (cs : List (Con ℕ)) × Lined s.now cs 0 e }
-    ensures is { (cs : List (Con ℕ)) (names : List Bytes) → Lined s.now cs 0 e → toldBy rowsOf result ≡ laidOut names (colsIn k) cs }
+    requires plain { Every Plain constraints.trees.0 }
+    ensures is { (names : List Bytes) → toldBy rowsOf result ≡ laidOut names (colsIn k) constraints.entry.trees.0 }
     ensures room { IfOk result Roomy }
 {
     let mut grid = blank();
     let mut len = 0;
-    let mut at = 0;
-    while at < e {
-        if !says_scalar(view_at(s, at)) || ROWS <= len {
+    'lines: for constraint in constraints {
+        let Demand::IsScalar(product) = constraint.demand() else {
+            return Err(Refusal::TooLarge);
+        };
+        if ROWS <= len {
             return Err(Refusal::TooLarge);
         }
-        let n = count_of(view_at(s, at + 1));
-        grid = with_row(grid, len, row_of(s, at + 2, n, k));
+        grid = with_row(grid, len, row_of(product, k));
         len += 1;
-        at += 2 + n;
     }
     Ok(Lines { grid, len })
 }
@@ -223,7 +154,7 @@ fn base_names(s: &[u32], e: usize) -> NameSet
 
 // Lists the base dimensions, sorted, and says how many.
 fn list_bases(names: NameTable, s: &[u32], e: usize, out: &mut [u32]) -> usize
-    requires held { Every (λ x. x < get_or names.table.now 0 0) (basesIn s.now 0 e) }
+    requires held { Below.Every (λ x. x < get_or names.table.now 0 0) (basesIn s.now 0 e) }
     requires room { 256 ≤ length out.old }
     ensures { Filled (sort (numbers names.entry.pool.now names.entry.table.now) (basesIn s.now 0 e)) result out.old out.new }
 {

@@ -34,21 +34,15 @@ fn lent(pool: &[u8], table: &[u32], work: &[u32]) -> bool
 }
 
 // Is no list too long (8), and is the set well formed (1)?
-fn enter(
-    pool: &[u8],
-    table: &[u32],
-    set: &[u32],
-    types: &[u32],
-    bounds: &[u32],
-    count: usize,
-) -> Result<(), Refusal>
+fn enter(pool: &[u8], table: &[u32], set: &[u32], proposal: Proposal) -> Result<(), Refusal>
     requires { lentTable pool.now table.now ≡ got tt }
-    ensures { (es : List Entry) → count ≡ length es →
-        told result ≡ entered pool.now table.now set.now es types.now bounds.now }
+    ensures { (es : List Entry) → proposal.entry.slots.count ≡ length es →
+        told result ≡ entered pool.now table.now set.now es proposal.entry.types.now proposal.entry.bounds.now }
 {
-    if RECORD_WORDS < types.len() || RECORD_WORDS < bounds.len() {
+    if RECORD_WORDS < proposal.types.len() || RECORD_WORDS < proposal.bounds.len() {
         return Err(Refusal::TooLarge);
     }
+    let count = proposal.slots.count;
     if RECORDS < count {
         return Err(Refusal::TooLarge);
     }
@@ -72,33 +66,39 @@ fn bounds_given(names: NameTable, bounds: &[u32]) -> Option<NameSet>
     Some(bound_names(bounds))
 }
 
+/// What is proposed: bounds with names, and the types that the entries point to, of which each variable has its slot.
+#[derive(Clone, Copy)]
+pub struct Proposal<'a> {
+    pub types: &'a [u32],
+    pub bounds: &'a [u32],
+    pub slots: Slots,
+}
+
 // Past the set: entries and bounds (1), names that are both (4), then constraint by constraint.
 fn judge_rest(
     names: NameTable,
     set: &[u32],
-    types: &[u32],
-    bounds: &[u32],
-    slots: Slots,
+    proposal: Proposal,
     work: &mut [u32],
 ) -> Result<bool, Refusal>
-    requires entered { (cs : List (Con ℕ)) × Entered names.pool.now names.table.now set.now types.now cs }
-    requires slotted { (es : List Entry) × Slotted es slots }
-    requires few { slots.count ≤ 2048 }
+    requires entered { (cs : List (Con ℕ)) × Entered names.pool.now names.table.now set.now proposal.types.now cs }
+    requires slotted { (es : List Entry) × Slotted es proposal.slots }
+    requires few { proposal.slots.count ≤ 2048 }
     requires work_long { 16384 ≤ length work.old }
-    ensures { (cs : List (Con ℕ)) (es : List Entry) → Entered names.entry.pool.now names.entry.table.now set.now types.now cs → Slotted es slots →
-        told result ≡ judgedRest names.entry.pool.now names.entry.table.now es types.now bounds.now cs }
+    ensures { (cs : List (Con ℕ)) (es : List Entry) → Entered names.entry.pool.now names.entry.table.now set.now proposal.entry.types.now cs → Slotted es proposal.entry.slots →
+        told result ≡ judgedRest names.entry.pool.now names.entry.table.now es proposal.entry.types.now proposal.entry.bounds.now cs }
 {
     let mut places = [0u32; NAMES];
-    if !fill(names, types, slots, &mut places) {
+    if !fill(names, proposal.types, proposal.slots, &mut places) {
         return Err(Refusal::Malformed);
     }
-    let Some(allowed) = bounds_given(names, bounds) else {
+    let Some(allowed) = bounds_given(names, proposal.bounds) else {
         return Err(Refusal::Malformed);
     };
-    if !apart(set, types, &places) {
+    if !apart(set, proposal.types, &places) {
         return Err(Refusal::Mixed);
     }
-    try_all(names, set, &places, types, &allowed, work)
+    try_all(names, set, &places, proposal.types, &allowed, work)
 }
 
 // All that the judge does past the check of 10, except for clearing the work buffer.
@@ -106,20 +106,18 @@ fn judge_set(
     pool: &[u8],
     table: &[u32],
     set: &[u32],
-    types: &[u32],
-    bounds: &[u32],
-    slots: Slots,
+    proposal: Proposal,
     work: &mut [u32],
 ) -> Result<bool, Refusal>
     requires table_lent { lentTable pool.now table.now ≡ got tt }
-    requires slotted { (es : List Entry) × Slotted es slots }
+    requires slotted { (es : List Entry) × Slotted es proposal.slots }
     requires work_long { 16384 ≤ length work.old }
-    ensures { (es : List Entry) → Slotted es slots →
-        told result ≡ judgedSet (table_of pool.now table.now) set.now es types.now bounds.now }
+    ensures { (es : List Entry) → Slotted es proposal.entry.slots →
+        told result ≡ judgedSet (table_of pool.now table.now) set.now es proposal.entry.types.now proposal.entry.bounds.now }
 {
-    enter(pool, table, set, types, bounds, slots.count)?;
+    enter(pool, table, set, proposal)?;
     let names = NameTable { pool, table };
-    judge_rest(names, set, types, bounds, slots, work)
+    judge_rest(names, set, proposal, work)
 }
 
 // The whole call. Of more than 2,048 entries it is not asked whether a name repeats.
@@ -127,19 +125,17 @@ pub fn judge_slots(
     pool: &[u8],
     table: &[u32],
     set: &[u32],
-    types: &[u32],
-    bounds: &[u32],
-    slots: Slots,
+    proposal: Proposal,
     work: &mut [u32],
 ) -> Result<bool, Refusal>
-    requires { (es : List Entry) × Slotted es slots }
-    ensures { (es : List Entry) → Slotted es slots →
-        judgedAs result work.new ≡ judgeCall pool.now table.now set.now es types.now bounds.now work.old }
+    requires { (es : List Entry) × Slotted es proposal.slots }
+    ensures { (es : List Entry) → Slotted es proposal.entry.slots →
+        judgedAs result work.new ≡ judgeCall pool.now table.now set.now es proposal.entry.types.now proposal.entry.bounds.now work.old }
 {
     if !lent(pool, table, work) {
         return Err(Refusal::ShortBuffer);
     }
-    let answer = judge_set(pool, table, set, types, bounds, slots, work);
+    let answer = judge_set(pool, table, set, proposal, work);
     clear(work);
     answer
 }

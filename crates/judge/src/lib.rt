@@ -9,7 +9,7 @@ ghost use Rattle.rules.specs.Calls.{judgeCall};
 ghost use Rattle.judge_entries.specs.Entries.{told};
 ghost use Rattle.judge.specs.Told.{judgedAs};
 
-use inner::judge_slots;
+use inner::{Proposal, judge_slots};
 use judge_entries::Entry;
 use judge_entries::inner::slots_of;
 use rules::Refusal;
@@ -29,5 +29,10 @@ pub fn judge(
 ) -> Result<bool, Refusal>
     ensures { judgedAs result work.new ≡ judgeCall pool.now table.now set.now (told entries.now) types.now bounds.now work.old }
 {
-    judge_slots(pool, table, set, types, bounds, slots_of(entries), work)
+    let proposal = Proposal {
+        types,
+        bounds,
+        slots: slots_of(entries),
+    };
+    judge_slots(pool, table, set, proposal, work)
 }

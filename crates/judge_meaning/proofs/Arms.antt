@@ -1,10 +1,9 @@
 -- When two types mean the same, by what both are read as.
-use Rattle.std.specs.Prelude.{◌≡◌, refl, Bool, true, false, ◌&&◌, Decides, List, ℕ}
+use Rattle.std.specs.Prelude.{◌≡◌, refl, Bool, true, false, Decides, ℕ}
 use Rattle.std.proofs.Common.{ap, ap₂, sym, ◌∙◌, arith}
 use Rattle.rules.specs.Base.{is_yes}
 use Rattle.rules.specs.Meaning.{means}
-use Rattle.rules.specs.Names.{Bytes, numbered}
-use Rattle.rules.specs.Plain.{plain, plainTys}
+use Rattle.rules.specs.Plain.{plain}
 use Rattle.rules.specs.Trees as tree
 use Rattle.rules.specs.Trees.{Product, Names, Ty, opened, basic, dim, fn, struct, list, Tys, nil, cons, noFields, ty-dec}
 use Rattle.laws.specs.Lists.{true≢false, yes-is, is-yes, is-no}

@@ -1,5 +1,5 @@
 -- A type as it is read, from its shape.
-use Rattle.std.specs.Prelude.{◌≡◌, refl, false, ℕ, ◌∷◌, []}
+use Rattle.std.specs.Prelude.{◌≡◌, refl, false, ℕ}
 use Rattle.std.proofs.Common.{ap, sym, ◌∙◌}
 use Rattle.std.proofs.Math.Option.{Option, none, some}
 use Rattle.rules.specs.Base.{is_none}

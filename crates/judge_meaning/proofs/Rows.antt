@@ -1,8 +1,7 @@
 -- Types one by one beside their partners.
-use Rattle.std.specs.Prelude.{◌≡◌, refl, Bool, true, false, Decides, ℕ, ◌+◌, ◌≤◌, ◌<◌, eqb, suc}
+use Rattle.std.specs.Prelude.{◌≡◌, refl, Bool, true, false, Decides, ℕ, ◌+◌, ◌≤◌, eqb, suc}
 use Rattle.std.proofs.Common.{ap, ap₂, sym, ◌∙◌, arith, eqb-true, eq-eqb}
 use Rattle.rules.specs.Meaning.{means}
-use Rattle.rules.specs.Names.{numbered}
 use Rattle.rules.specs.Plain.{plain, plainTys}
 use Rattle.rules.specs.Trees.{Names, Ty, opened, basic, dim, fn, struct, list, noFields, Tys, nil, cons, size, sizeTys, count}
 use Rattle.laws.specs.Lists.{true≢false}

@@ -1,7 +1,7 @@
 -- What the tests of a constraint answer.
 use Rattle.std.specs.Prelude.{◌≡◌, Bool, List, ℕ}
 use Rattle.rules.specs.Names.{Bytes, numbered}
-use Rattle.rules.specs.Trees.{Open, Ty, Con, opens, opensCon}
+use Rattle.rules.specs.Trees.{Ty, Con, opens, opensCon}
 use Rattle.rules.specs.Meaning.{holds}
 use Rattle.queries.specs.declared.name_set.NameSet.{NameSet}
 use Rattle.queries.specs.Marks.{Has, Small}

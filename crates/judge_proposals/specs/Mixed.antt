@@ -1,5 +1,5 @@
 -- The open names of a table of places.
-use Rattle.std.specs.Prelude.{◌≡◌, refl, Bool, true, List, [], ◌∷◌, ◌++◌, map, ℕ, zero, suc, ◌+◌, ◌-◌, ◌<◌, get_or}
+use Rattle.std.specs.Prelude.{◌≡◌, refl, true, List, [], ◌∷◌, ◌++◌, map, ℕ, zero, suc, ◌+◌, ◌-◌, ◌<◌, get_or}
 use Rattle.std.proofs.Common.{append_assoc, append-nil, add-one, arith}
 use Rattle.std.proofs.Math.Option.{Option, none, some}
 use Rattle.rules.specs.Base.{collect}

@@ -9,7 +9,7 @@ ghost use Rattle.judge.specs.Told.{judgedAs};
 ghost use Rattle.library_pairs.specs.Pairs.{entriesIn};
 
 use inner::slots_of;
-use judge::inner::judge_slots;
+use judge::inner::{Proposal, judge_slots};
 use rules::Refusal;
 
 /// Is each constraint of the set true once the bindings of the pairs are put in: of each a variable, and the place of its type? An odd last word is not
@@ -25,5 +25,10 @@ pub fn judge_pairs(
 ) -> Result<bool, Refusal>
     ensures { judgedAs result work.new ≡ judgeCall pool.now table.now set.now (entriesIn pairs.now) types.now bounds.now work.old }
 {
-    judge_slots(pool, table, set, types, bounds, slots_of(pairs), work)
+    let proposal = Proposal {
+        types,
+        bounds,
+        slots: slots_of(pairs),
+    };
+    judge_slots(pool, table, set, proposal, work)
 }

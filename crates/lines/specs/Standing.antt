@@ -1,5 +1,5 @@
 -- A set as it stands in a buffer.
-use Rattle.std.specs.Prelude.{◌≡◌, true, ℕ, ◌+◌, ◌*◌, ◌-◌, ◌/◌, ◌≤◌, take}
+use Rattle.std.specs.Prelude.{◌≡◌, true, ℕ, ◌+◌, ◌*◌, ◌-◌, ◌/◌, ◌≤◌, ◌<◌, take}
 use Rattle.std.proofs.Math.Path.{refl, sym, ap}
 use Rattle.std.proofs.Common.{subst, ◌∙◌}
 use mathlib.Core.List.{List, [], ◌∷◌}
@@ -28,7 +28,8 @@ use Rattle.types.specs.Sets.{HoldsCons, IsCons}
 use Rattle.lines.specs.Slices.{slice-there, own-slice}
 use Rattle.judge_trials.specs.Trials.{SetThere}
 use Rattle.solve.specs.Running.{Begun}
-use Rattle.lines_set.specs.StepLoop.{Wrote}
+use Rattle.types.specs.Written.{Writes}
+use Rattle.types.specs.declared.writer.Writer.{Writer}
 
 module _ (pool table : List ℕ) where
   -- the whole list is a set that solver and judge take
@@ -63,13 +64,23 @@ module _ (pool table : List ℕ) where
       flat = flat;
     }
 
-    -- the part of the buffer that was written
-    pub set-stands : (d₀ d : List ℕ) (n : ℕ) → 8192 ≤ length d₀ → Wrote cs d₀ d n → SetStands (take (n * 4 - 0) d) cs
-    set-stands d₀ d n room w =
-        let z : n * 4 - 0 ≡ 0 + length ws = omega (arith, many, w.many) in
-        let s : take (n * 4 - 0) d ≡ ws = ap (take (n * 4 - 0)) w.laid ∙ ap (λ (k : ℕ). slice 0 k (sets d₀ 0 ws)) z
-        ∙ slice-there d₀ 0 ws (omega (arith, z, w.within)) in
-        subst (λ (l : List ℕ). SetStands l cs) (sym s) (words-stand (omega (arith, w.many, w.within)))
+    -- the part of a buffer that was written from its front on
+    module _ (w w' : Writer) (p : Writes w w' (collect writeCon cs)) (front : w.at ≡ 0) (few : w'.at ≤ 2048) where
+      pub set-many : w'.at ≡ sum_of sizeCon cs
+      set-many = omega (arith, p.at, front, few, set-length cs)
+
+      pub set-stands : 8192 ≤ length w.words.now → (d : List ℕ) → d ≡ w'.words.now → SetStands (take (w'.at * 4 - 0) d) cs
+      set-stands room d back =
+          let z : w'.at * 4 - 0 ≡ 0 + length ws = omega (arith, many, set-many) in
+          let laid : w'.words.now ≡ sets w.words.now 0 ws =
+          p.words (omega (arith, front, few, set-many, set-length cs)) ∙ ap (λ (k : ℕ). sets w.words.now (k * 4) ws) front in
+          let s : take (w'.at * 4 - 0) d ≡ ws = ap (take (w'.at * 4 - 0)) (back ∙ laid) ∙ ap (λ (k : ℕ). slice 0 k (sets w.words.now 0 ws)) z
+          ∙ slice-there w.words.now 0 ws (omega (arith, z, few)) in
+          subst (λ (l : List ℕ). SetStands l cs) (sym s) (words-stand (omega (arith, set-many, few)))
+
+    -- it has over 2,048 records
+    pub set-large : (w w' : Writer) → Writes w w' (collect writeCon cs) → w.at ≡ 0 → 2048 < w'.at → 2048 < sum_of sizeCon cs
+    set-large w w' p front h = omega (arith, p.at, front, h, set-length cs)
 
   -- ══ Its open names ══
 

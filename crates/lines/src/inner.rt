@@ -3,29 +3,31 @@ ghost use Rattle.std.specs.Prelude.{◌≡◌, List, ℕ, ◌*◌, ◌≤◌, le
 ghost use Rattle.rules.specs.Base.{got};
 ghost use Rattle.rules.specs.Names.{table_of, lentTable};
 ghost use Rattle.rules.specs.Replacing.{Look};
-ghost use Rattle.rules.specs.Steps.{LineStep};
 ghost use Rattle.rules.specs.Trees.{Con, Binding};
 ghost use Rattle.rules.specs.Lines.{checkedLine};
 ghost use Rattle.records_buffers.specs.Told.{Made};
 ghost use Rattle.replace.specs.Places.{Tabled};
+ghost use Rattle.lines_entry.specs.Told.{stepsOf};
 ghost use Rattle.judge.specs.Found.{FoundThere};
 ghost use Rattle.lines.specs.Standing.{SetStands};
 ghost use Rattle.lines.specs.Typed.{Typed, setType, Confirmed};
-ghost use Rattle.lines.specs.Whole.{LineHeld, LineTyped};
+ghost use Rattle.lines.specs.Whole.{LineHeld, type_of};
 
 use judge::inner::{Found, judge_found};
-use lines_set::inner::writing::put_line;
 use lines_entry::inner::enter_line;
 use lines_entry::inner::given::Line;
+use lines_entry::inner::steps::Steps;
+use lines_set::writing::put_line;
 use names::tables::NameTable;
-use replace_table::inner::fill;
 use queries::inner::is_unmixed;
 use records::inner::{copy, put_one};
 use records::{Open, View};
 use replace::inner::bound::look_up;
-use rules::{NAMES, RECORD_WORDS, Refusal};
+use replace_table::inner::fill;
+use rules::{NAMES, RECORD_WORDS, RECORDS, Refusal};
 use solve::Finish;
 use solve::inner::run;
+use types::writer::Writer;
 
 // Writes the type of a variable, with the bindings put in, to the front of a buffer: how many records.
 fn put_type(places: &[u32], found: &[u32], v: u32, dst: &mut [u32]) -> usize
@@ -97,21 +99,29 @@ fn settle(names: NameTable, set: &[u32], v: u32, work: &mut [u32]) -> Result<usi
 }
 
 // The type of a line that passed the checks at entry.
-fn type_line(names: NameTable, line: Line, work: &mut [u32]) -> Result<usize, Refusal>
-    requires read { (ss : List (LineStep ℕ)) × LineHeld names.pool.now names.table.now line.steps.now line.types.now line.earlier.now line.lent.now ss }
+fn type_line(
+    names: NameTable,
+    steps: &Steps,
+    lent: &[u32],
+    work: &mut [u32],
+) -> Result<usize, Refusal>
+    requires read { LineHeld names.pool.now names.table.now lent.now (stepsOf steps.now) }
     requires room { 16384 ≤ length work.old }
-    ensures { LineTyped names.entry.pool.now names.entry.table.now
-        line.entry.steps.now line.entry.types.now line.entry.earlier.now line.entry.lent.now work.new result }
+    ensures { Made (type_of names.entry.pool.now names.entry.table.now lent.now (stepsOf steps.now)) work.new result }
 {
     let mut set = [0u32; RECORD_WORDS];
-    match put_line(names, line, &mut set) {
-        Ok(n) => {
-            let v = line.lent[line.steps.len() / 4 - 1];
-            let e = n * 4;
-            settle(names, &set[0..e], v, work)
-        }
-        Err(k) => Err(k),
+    let mut out = Writer {
+        words: &mut set,
+        at: 0,
+    };
+    put_line(names, steps, lent, &mut out);
+    let n = out.at;
+    if RECORDS < n {
+        return Err(Refusal::TooLarge);
     }
+    let v = lent[steps.len - 1];
+    let end = n * 4;
+    settle(names, &set[0..end], v, work)
 }
 
 // All that the call does past the check of 10; what it makes is left at the start of the work buffer.
@@ -122,6 +132,6 @@ pub fn make_line(pool: &[u8], table: &[u32], line: Line, work: &mut [u32]) -> Re
     ensures { Made (checkedLine (table_of pool.now table.now)
         line.entry.steps.now line.entry.types.now line.entry.earlier.now line.entry.lent.now) work.new result }
 {
-    enter_line(pool, table, line)?;
-    type_line(NameTable { pool, table }, line, work)
+    let steps = enter_line(pool, table, line)?;
+    type_line(NameTable { pool, table }, &steps, line.lent, work)
 }

@@ -9,9 +9,9 @@ ghost use Rattle.rules.specs.Lines.{checkLineCall};
 ghost use Rattle.records_buffers.specs.Told.{writtenAs};
 
 use inner::make_line;
-use records_buffers::inner::hand_over;
 use lines_entry::inner::given::Line;
 use lines_entry::inner::room;
+use records_buffers::inner::hand_over;
 use rules::Refusal;
 
 /// The type of the line's last step, at the front of the result buffer; the work buffer is left all zero. `lines` has the places of the earlier

@@ -1,18 +1,16 @@
 -- All checks of a line before its constraints: 8, 1, 4, 3.
-use Rattle.std.specs.Prelude.{◌≡◌, Bool, ℕ, ltb, get_or}
-use Rattle.std.proofs.Math.Path.{refl, sym}
-use Rattle.std.proofs.Common.{ap, ◌∙◌}
+use Rattle.std.specs.Prelude.{◌≡◌, Bool, ◌&&◌, [], ◌∷◌, ℕ, ◌≤◌, leb, ltb, length, get_or}
+use Rattle.std.proofs.Math.Path.{refl}
 use Rattle.std.proofs.Math.Bool.{true, false}
 use mathlib.Core.List.{List}
 use Rattle.rules.specs.Base.{Got, got, refused, ◌>>=◌, ◌>>◌, need, all}
 use Rattle.rules.specs.Names.{Table, table_of, tableGood, numbersOf, is_held}
 use Rattle.rules.specs.Writing.{writeTy}
-use Rattle.rules.specs.Calls.{tableKept}
-use Rattle.records.specs.Found.{Words32}
+use Rattle.rules.specs.Calls.{shortLists, shortNumbers, tableKept}
+use Rattle.laws.specs.Checks.{need-passed, first-passed}
+use Rattle.laws.specs.Lists.{and_left, bound-step}
+use borrow.Author.Tests.{leb-true}
 use Rattle.rules.specs.Steps.{LineStep, lineGiven}
-use Rattle.lines_entry.specs.StepLists.{isGiven}
-use Rattle.lines_entry.specs.Entry.{line_read}
-use Rattle.lines_entry.specs.Used.{freshWords, fresh-words}
 use Rattle.rules.specs.Lines.{fresh, lineShort, lineType, checkedLine}
 
 -- the steps of a line that passed every check at entry
@@ -52,17 +50,25 @@ checked-entered t steps types lines names = go (lineShort steps types lines name
     go (got u) (got v) = after-given (λ ss. lineType (numbersOf t) ss names >>= λ ty. got (writeTy ty)) (lineGiven t steps types lines) (fresh names)
         (λ ss. all (is_held t) names)
 
--- ══ The answers of the code ══
+-- what is lent is short
+pub its-short : (steps types lines names : List ℕ) → lineShort steps types lines names ≡ got tt → (length steps ≤ 512) × (length types ≤ 8192)
+unfolding lineShort shortLists all
+its-short steps types lines names h =
+    let s₃ = first-passed (shortNumbers names) tt (need (leb (length steps) 512) 8 >> shortLists (types ∷ []) >> shortNumbers lines) h in
+    let s₂ = first-passed (shortNumbers lines) _ (need (leb (length steps) 512) 8 >> shortLists (types ∷ [])) s₃ in
+    let s₁ = bound-step (need (leb (length steps) 512) 8) _ _ s₂ in (
+      leb-true (length steps) 512 (need-passed (leb (length steps) 512) 8 s₁.1),
+      leb-true (length types) 8192 (and_left (leb (length types) 8192) true (need-passed (leb (length types) 8192 && true) 8 s₁.2)),
+    )
 
-abbrev pub namesChecked : List ℕ → List ℕ → List ℕ → List ℕ → List ℕ → Got (Unit {0})
-namesChecked table types lines steps names = need (freshWords types lines steps names) 4 >> need (all (λ x. ltb x (get_or table 0 0)) names) 3
+-- ══ The answers of the code ══
 
 module _ (pool table steps types lines names : List ℕ) where
   abbrev t : Table
   t = table_of pool table
 
-  abbrev entered : Got (Unit {0})
-  entered = isGiven (lineEntered t steps types lines names)
+  abbrev entered : Got (List (LineStep ℕ))
+  entered = lineEntered t steps types lines names
 
   pub enter-long : need false 8 ≡ lineShort steps types lines names → refused 8 ≡ entered
   unfolding lineEntered
@@ -74,29 +80,20 @@ module _ (pool table steps types lines names : List ℕ) where
     enter-table h = rw (← s, h)
 
     module _ (k : tableGood t ≡ true) where
-      pub enter-form : (n : ℕ) → isGiven (lineGiven t steps types lines) ≡ refused n → refused n ≡ entered
+      pub enter-form : (n : ℕ) → lineGiven t steps types lines ≡ refused n → refused n ≡ entered
       unfolding lineEntered tableKept
-      enter-form n h = rw (← s, k) (go (lineGiven t steps types lines) h)
-        where
-          go : (m : Got (List (LineStep ℕ))) → isGiven m ≡ refused n
-              → refused n ≡ isGiven (m >>= λ ss. need (fresh names ss) 4 >> (need (all (is_held t) names) 3 >> got ss))
-          go (got ss) h = cc
-          go (refused j) h = sym h
+      enter-form n h = rw (← s, k, h)
 
-      pub enter-names : Words32 types → isGiven (lineGiven t steps types lines) ≡ got tt → namesChecked table types lines steps names ≡ entered
-      unfolding lineEntered tableKept table_of
-      enter-names w h = rw (← s, k) (go (lineGiven t steps types lines) refl h)
-        where
-          last : (a b : Bool) (ss : List (LineStep ℕ)) → (need a 4 >> need b 3) ≡ isGiven (need a 4 >> (need b 3 >> got ss))
-          last true true ss = refl
-          last true false ss = refl
-          last false b ss = refl
+      module _ (ss : List (LineStep ℕ)) (h : lineGiven t steps types lines ≡ got ss) where
+        pub enter-used : fresh names ss ≡ false → refused 4 ≡ entered
+        unfolding lineEntered tableKept
+        enter-used f = rw (← s, k, h, f)
 
-          go : (m : Got (List (LineStep ℕ))) → lineGiven t steps types lines ≡ m → isGiven m ≡ got tt
-              → namesChecked table types lines steps names
-              ≡ isGiven (m >>= λ ss. need (fresh names ss) 4 >> (need (all (is_held t) names) 3 >> got ss))
-          go (refused j) e h = cc
-          go (got ss) e h =
-              ap (λ (b : Bool). need b 4 >> need (all (λ x. ltb x (get_or table 0 0)) names) 3)
-              (fresh-words pool table types lines steps names w ss (line_read t steps types lines ss e))
-              ∙ last (fresh names ss) (all (is_held t) names) ss
+        module _ (f : fresh names ss ≡ true) where
+          pub enter-unheld : all (λ x. ltb x (get_or table 0 0)) names ≡ false → refused 3 ≡ entered
+          unfolding lineEntered tableKept table_of
+          enter-unheld e = rw (← s, k, h, f, e)
+
+          pub enter-all : all (λ x. ltb x (get_or table 0 0)) names ≡ true → got ss ≡ entered
+          unfolding lineEntered tableKept table_of
+          enter-all e = rw (← s, k, h, f, e)

@@ -1,5 +1,5 @@
 pub mod StepLists
+pub mod Told
 pub mod Entry
 pub mod Used
 pub mod Entered
-pub mod Lent

@@ -1,51 +1,17 @@
--- The steps of a line one by one from a place on, and how many operands their words ask for.
-use Rattle.std.specs.Prelude.{◌≡◌, refl, Bool, true, false, not, ◌&&◌, ℕ, zero, suc, ◌-◌, ◌%◌, ◌<◌, ◌≤◌, eqb, leb, length}
-use Rattle.std.proofs.Common.{sym, arith, ne_eqb}
-use Rattle.std.proofs.Math.Path.{ap}
-use mathlib.Core.List.{List, [], ◌∷◌, map}
-use Rattle.std.proofs.Math.Option.{Option, none, some}
-use Rattle.rules.specs.Base.{Got, got, refused, ◌>>=◌, ◌>>◌, need, orRefuse, all, each}
+-- The steps of a line one by one from a place on, in words, and read.
+use Rattle.std.specs.Prelude.{◌≡◌, refl, Bool, true, false, not, ◌&&◌, ℕ, zero, suc, ◌+◌, ◌-◌, ◌%◌, ◌/◌, ◌<◌, ◌≤◌, eqb, length, take, drop, set, get_or}
+use Rattle.std.proofs.Common.{sym, arith, ne_eqb, ap, ◌∙◌, append_assoc, add-one, drop-cons}
+use borrow.Author.Tests.{le-leb, lt-leb}
+use Rattle.std.proofs.lemmas.List.{map-append, take_more_set}
+use mathlib.Core.List.{List, [], ◌∷◌, ◌++◌, map}
+use Rattle.std.proofs.Math.Option.{none, some}
+use Rattle.rules.specs.Base.{Got, got, refused, ◌>>=◌, ◌>>◌, need, all, each}
 use Rattle.rules.specs.Names.{Table}
-use Rattle.rules.specs.Writing.{Rec, rec, signed}
-use Rattle.rules.specs.Exponents.{frac, goodExp}
-use Rattle.rules.specs.Contents.{closed}
-use Rattle.rules.specs.Calls.{type_at}
-use Rattle.laws.specs.Checks.{next-passed}
-use Rattle.laws.specs.Lists.{bound-step, each-parts}
+use Rattle.rules.specs.Writing.{Rec, rec}
 use Rattle.records.specs.Views.{recs, from}
-use Rattle.rules.specs.Steps.{
-  LineStep,
-  constant,
-  reference,
-  raises,
-  joins,
-  chooses,
-  operands,
-  whole,
-  StepWords,
-  four,
-  stepWords,
-  StepKind,
-  isConstant,
-  isReference,
-  isRaise,
-  isChoose,
-  isTwo,
-  stepNumbers,
-  stepKind,
-  zeros,
-  number_at,
-  constantAt,
-  referenceTo,
-  raiseBy,
-  step_of,
-  stepGiven,
-}
-
--- of a value is said only that there is one
-abbrev pub isGiven : {A : Type 0} → Got A → Got (Unit {0})
-isGiven (got a) = got tt
-isGiven (refused n) = refused n
+use Rattle.records.specs.Places.{recAt, from_some, from-none}
+use Rattle.records.specs.Given.{records-whole, records-broken}
+use Rattle.rules.specs.Steps.{Two, LineStep, joins, chooses, operands, whole, StepWords, four, stepWords, StepKind, isChoose, isTwo, stepNumbers, stepKind, zeros, step_of, stepGiven, lineGiven}
 
 -- the words of a record as a step's
 abbrev pub fourOf : Rec → StepWords
@@ -55,30 +21,7 @@ fourOf (rec k a b c) = four k a b c
 abbrev pub stepsFrom : List ℕ → ℕ → List StepWords
 stepsFrom s i = map fourOf (from s i)
 
-abbrev pub taken : StepKind → ℕ
-taken isConstant = 0
-taken isReference = 0
-taken isRaise = 1
-taken isChoose = 3
-taken (isTwo o) = 2
-
-abbrev pub takenIf : Option StepKind → ℕ
-takenIf none = 0
-takenIf (some k) = taken k
-
--- how many operands a step asks for, by its number
-abbrev pub operandsOf : ℕ → ℕ
-operandsOf k = takenIf (stepKind k stepNumbers)
-
-abbrev pub kind_of : StepWords → ℕ
-kind_of (four k a b c) = k
-
--- as `whole`, by the words of the steps
-unfoldable pub wholeFrom : ℕ → List StepWords → Bool
-wholeFrom n [] = eqb n 1
-wholeFrom n (w ∷ ws) = leb (operandsOf (kind_of w)) n && wholeFrom (suc (n - operandsOf (kind_of w))) ws
-
--- ══ Numbers that no step has ══
+-- ══ The number of a step ══
 
 past : (k : ℕ) (xs : List (ℕ × StepKind)) → all (λ x. not (eqb k x.0)) xs ≡ true → stepKind k xs ≡ none
 unfolding stepKind all
@@ -90,109 +33,160 @@ past k (x ∷ xs) h = go (eqb k x.0) refl h (past k xs)
     go true q h ih = cc
     go false q h ih = rw (q, stepKind) (ih h)
 
-pub unknown : (k : ℕ) → 10 ≤ k → stepKind k stepNumbers ≡ none
-unfolding all
-unknown k h =
-    let n : (m : ℕ) → m < 10 → eqb k m ≡ false = λ m l. ne_eqb k m (λ e. omega arith) in
-    past k stepNumbers (rw (
-      n 1 (omega arith),
-      n 2 (omega arith),
-      n 3 (omega arith),
-      n 4 (omega arith),
-      n 5 (omega arith),
-      n 6 (omega arith),
-      n 7 (omega arith),
-      n 8 (omega arith),
-      n 9 (omega arith),
-    ))
+-- a step that uses none of its words
+abbrev pub plainly : ℕ → ℕ → ℕ → LineStep ℕ → Got (LineStep ℕ)
+plainly a b c s = zeros (a ∷ b ∷ c ∷ []) >> got s
 
--- operands by numbers
-pub taken-two : (k : ℕ) → 3 ≤ k → k < 7 → operandsOf k ≡ 2
-unfolding stepKind
-taken-two zero l h = absurd (omega arith)
-taken-two (suc zero) l h = absurd (omega arith)
-taken-two (suc (suc zero)) l h = absurd (omega arith)
-taken-two (suc (suc (suc zero))) l h = refl
-taken-two (suc (suc (suc (suc zero)))) l h = refl
-taken-two (suc (suc (suc (suc (suc zero))))) l h = refl
-taken-two (suc (suc (suc (suc (suc (suc zero)))))) l h = refl
-taken-two (suc (suc (suc (suc (suc (suc (suc k))))))) l h = absurd (omega arith)
+module _ (t : Table) (rs : List Rec) (lines : List ℕ) (k a b c : ℕ) where
+  abbrev its-step : Got (LineStep ℕ)
+  its-step = stepGiven t rs lines (four k a b c)
 
-pub taken_none : (k : ℕ) → k < 3 → operandsOf k ≡ 0
-unfolding stepKind
-taken_none zero h = refl
-taken_none (suc zero) h = refl
-taken_none (suc (suc zero)) h = refl
-taken_none (suc (suc (suc k))) h = absurd (omega arith)
+  pub step-as : (n : ℕ) (x : StepKind) → k ≡ n → stepKind n stepNumbers ≡ some x → step_of t rs lines x a b c ≡ its-step
+  unfolding stepGiven
+  step-as n x e h = rw (e, h)
 
-pub taken-unknown : (k : ℕ) → 10 ≤ k → operandsOf k ≡ 0
-taken-unknown k h = ap takenIf (unknown k h)
+  pub step-joins : (n : ℕ) (o : Two) → k ≡ n → stepKind n stepNumbers ≡ some (isTwo o) → plainly a b c (joins o) ≡ its-step
+  unfolding step_of
+  step-joins n o e h = step-as n (isTwo o) e h
+
+  pub step-chooses : k ≡ 9 → plainly a b c chooses ≡ its-step
+  unfolding step_of stepKind
+  step-chooses e = step-as 9 isChoose e refl
+
+  -- a number that no step has
+  pub step-unknown : ((n : ℕ) → 1 ≤ n → n ≤ 9 → k ≡ n → ⊥) → refused 1 ≡ its-step
+  unfolding stepGiven all
+  step-unknown f =
+      let no : (n : ℕ) → 1 ≤ n → n ≤ 9 → eqb k n ≡ false = λ n p q. ne_eqb k n (f n p q) in
+      let e : stepKind k stepNumbers ≡ none = past k stepNumbers (rw (
+        no 1 (omega arith) (omega arith),
+        no 2 (omega arith) (omega arith),
+        no 3 (omega arith) (omega arith),
+        no 4 (omega arith) (omega arith),
+        no 5 (omega arith) (omega arith),
+        no 6 (omega arith) (omega arith),
+        no 7 (omega arith) (omega arith),
+        no 8 (omega arith) (omega arith),
+        no 9 (omega arith) (omega arith),
+      )) in
+      rw e
 
 -- ══ Words as steps ══
 
 unfoldable mutual
   unfolding stepWords recs
 
-  pub steps-whole : (s : List ℕ) → length s % 4 ≡ 0 → stepWords s ≡ some (map fourOf (recs s))
+  steps-whole : (s : List ℕ) → length s % 4 ≡ 0 → stepWords s ≡ some (map fourOf (recs s))
   steps-whole [] h = refl
   steps-whole (k ∷ []) h = absurd (omega arith)
   steps-whole (k ∷ a ∷ []) h = absurd (omega arith)
   steps-whole (k ∷ a ∷ b ∷ []) h = absurd (omega arith)
   steps-whole (k ∷ a ∷ b ∷ c ∷ ws) h = rw (steps-whole ws (omega arith), stepWords)
 
-  pub steps-broken : (s : List ℕ) → ((length s % 4 ≡ 0) → ⊥) → stepWords s ≡ none
+  steps-broken : (s : List ℕ) → ((length s % 4 ≡ 0) → ⊥) → stepWords s ≡ none
   steps-broken [] h = absurd (h refl)
   steps-broken (k ∷ []) h = refl
   steps-broken (k ∷ a ∷ []) h = refl
   steps-broken (k ∷ a ∷ b ∷ []) h = refl
   steps-broken (k ∷ a ∷ b ∷ c ∷ ws) h = rw (steps-broken ws (λ e. h (omega arith)), stepWords)
 
--- ══ A step that is given takes what its number says ══
+-- ══ One step after another ══
 
-module _ (t : Table) (rs : List Rec) (lines : List ℕ) where
-  of-kind : (k : StepKind) (a b c : ℕ) (s : LineStep ℕ) → step_of t rs lines k a b c ≡ got s → operands s ≡ taken k
-  unfolding step_of constantAt referenceTo raiseBy
-  of-kind isConstant a b c s h =
-      let p = next-passed (constantAt t rs lines a) s (zeros (b ∷ c ∷ [])) h in
-      let (ty, g, q) = bound-step (type_at t rs a) (λ ty. need (closed ty) 1 >> got (constant ty)) s p in
-      let r : got (constant ty) ≡ got s = next-passed (got (constant ty)) s (need (closed ty) 1) q in
-      let e : constant ty ≡ s = cc in
-      ap operands (sym e)
-  of-kind isReference a b c s h =
-      let p = next-passed (referenceTo t rs lines a) s (zeros (b ∷ c ∷ [])) h in
-      let (at, g, q) = bound-step (orRefuse 1 (number_at lines a)) (λ at. type_at t rs at >>= λ ty. got (reference ty)) s p in
-      let (ty, g', r) = bound-step (type_at t rs at) (λ ty. got (reference ty)) s q in
-      let e : reference ty ≡ s = cc in
-      ap operands (sym e)
-  of-kind isRaise a b c s h =
-      let p = next-passed (raiseBy t rs lines (frac (signed b) c)) s (zeros (a ∷ [])) h in
-      let r : got (raises (frac (signed b) c)) ≡ got s = next-passed (got (raises (frac (signed b) c))) s (need (goodExp (frac (signed b) c)) 1) p in
-      let e : raises (frac (signed b) c) ≡ s = cc in
-      ap operands (sym e)
-  of-kind isChoose a b c s h =
-      let p : got chooses ≡ got s = next-passed (got chooses) s (zeros (a ∷ b ∷ c ∷ [])) h in
-      let e : chooses ≡ s = cc in
-      ap operands (sym e)
-  of-kind (isTwo o) a b c s h =
-      let p : got (joins o) ≡ got s = next-passed (got (joins o)) s (zeros (a ∷ b ∷ c ∷ [])) h in
-      let e : joins o ≡ s = cc in
-      ap operands (sym e)
+nothing-more : {A : Type 0} (xs : List A) → xs ++ [] ≡ xs
+nothing-more [] = refl
+nothing-more (x ∷ xs) = ap (x ∷◌) (nothing-more xs)
 
-  pub of_number : (k a b c : ℕ) (s : LineStep ℕ) → stepGiven t rs lines (four k a b c) ≡ got s → operands s ≡ operandsOf k
-  unfolding stepGiven
-  of_number k a b c s h = go (stepKind k stepNumbers) h
+module _ (f : StepWords → Got (LineStep ℕ)) (s : List ℕ) where
+  -- these were read of the steps up to place i
+  abbrev pub ReadTo : ℕ → List (LineStep ℕ) → Type 0
+  ReadTo i ss = each f (stepsFrom s 0) ≡ (each f (stepsFrom s i) >>= λ more. got (ss ++ more))
+
+  pub read-none : ReadTo 0 []
+  read-none = go (each f (stepsFrom s 0))
     where
-      go : (o : Option StepKind) → (orRefuse 1 o >>= λ kind. step_of t rs lines kind a b c) ≡ got s → operands s ≡ takenIf o
-      go none h = cc
-      go (some x) h = of-kind x a b c s h
+      go : (m : Got (List (LineStep ℕ))) → m ≡ (m >>= λ more. got more)
+      go (got ss) = refl
+      go (refused n) = refl
 
-  of_words : (w : StepWords) (s : LineStep ℕ) → stepGiven t rs lines w ≡ got s → operands s ≡ operandsOf (kind_of w)
-  of_words (four k a b c) s h = of_number k a b c s h
+  module _ (i : ℕ) (ss : List (LineStep ℕ)) (r : ReadTo i ss) where
+    its-steps : i < length s / 4 → stepsFrom s i ≡ fourOf (recAt s i) ∷ stepsFrom s (i + 1)
+    its-steps h = ap (map fourOf) (from_some s i h)
 
-  pub whole_words : (n : ℕ) (ws : List StepWords) (ss : List (LineStep ℕ)) → each (stepGiven t rs lines) ws ≡ got ss → wholeFrom n ws ≡ whole n ss
-  unfolding each whole wholeFrom
-  whole_words n [] ss h = let e : [] ≡ ss = cc in rw (← e)
-  whole_words n (w ∷ ws) ss h =
-      let p = each-parts (stepGiven t rs lines) w ws ss h in
-      let q = of_words w p.first p.gave in
-      rw (← p.both, q, whole_words (suc (n - operandsOf (kind_of w))) ws p.second p.then)
+    pub read_more : i < length s / 4 → (y : LineStep ℕ) → got y ≡ f (fourOf (recAt s i)) → ReadTo (i + 1) (ss ++ y ∷ [])
+    unfolding each
+    read_more h y e = r ∙ rw (its-steps h, ← e) (go (each f (stepsFrom s (i + 1))))
+      where
+        go : (m : Got (List (LineStep ℕ))) → ((m >>= λ ys. got (y ∷ ys)) >>= λ more. got (ss ++ more)) ≡ (m >>= λ more. got ((ss ++ y ∷ []) ++ more))
+        go (got ys) = ap got (sym (append_assoc ss (y ∷ []) ys))
+        go (refused n) = refl
+
+    pub read-stops : i < length s / 4 → (n : ℕ) → refused n ≡ f (fourOf (recAt s i)) → each f (stepsFrom s 0) ≡ refused n
+    unfolding each
+    read-stops h n e = r ∙ rw (its-steps h, ← e)
+
+    pub read-all : length s / 4 ≤ i → each f (stepsFrom s 0) ≡ got ss
+    unfolding each
+    read-all h = r ∙ rw (from-none s i h) (ap got (nothing-more ss))
+
+-- the step that was stored at place i, behind those before it
+pub stored : {A : Type 0} (f : A → LineStep ℕ) (xs : List A) (i : ℕ) (x : A) → i < length xs
+    → map f (take (i + 1) (set xs i x)) ≡ map f (take i xs) ++ f x ∷ []
+stored f xs i x h = ap (map f) (take_more_set xs i x h) ∙ map-append f (take i xs) (x ∷ [])
+
+-- ══ Lists from a place on ══
+
+module _ {A : Type 0} (xs : List A) (i : ℕ) where
+  pub rest-none : length xs ≤ i → drop i xs ≡ []
+  rest-none h = go xs i h
+    where
+      go : (ys : List A) (j : ℕ) → length ys ≤ j → drop j ys ≡ []
+      go [] zero h = refl
+      go [] (suc j) h = refl
+      go (y ∷ ys) zero h = absurd (omega arith)
+      go (y ∷ ys) (suc j) h = go ys j (omega arith)
+
+  pub rest_some : (d : A) → i < length xs → drop i xs ≡ get_or xs i d ∷ drop (i + 1) xs
+  rest_some d h = drop-cons xs i d h ∙ ap (λ (j : ℕ). get_or xs i d ∷ drop j xs) (sym (add-one i))
+
+  -- does each of the steps from there on find its operands, where there are n types
+  module _ (g : A → LineStep ℕ) (n : ℕ) where
+    pub whole-on : (d : A) → i < length xs → (k : ℕ) → k ≡ operands (g (get_or xs i d)) → k ≤ n
+        → whole (n - k + 1) (map g (drop (i + 1) xs)) ≡ whole n (map g (drop i xs))
+    unfolding whole
+    whole-on d h k e l = rw (rest_some d h, ← e, le-leb k n l, add-one (n - k))
+
+    pub whole-off : (d : A) → i < length xs → (k : ℕ) → k ≡ operands (g (get_or xs i d)) → n < k → false ≡ whole n (map g (drop i xs))
+    unfolding whole
+    whole-off d h k e l = rw (rest_some d h, ← e, lt-leb k n l)
+
+    pub whole-end : length xs ≤ i → eqb n 1 ≡ whole n (map g (drop i xs))
+    unfolding whole
+    whole-end h = rw (rest-none h)
+
+-- ══ The line ══
+
+module _ (t : Table) (steps types lines : List ℕ) where
+  pub line-torn : (length steps % 4 ≡ 0 → ⊥) → refused 1 ≡ lineGiven t steps types lines
+  unfolding lineGiven
+  line-torn f = rw (steps-broken steps f)
+
+  pub line-types : length steps % 4 ≡ 0 → (length types % 4 ≡ 0 → ⊥) → refused 1 ≡ lineGiven t steps types lines
+  unfolding lineGiven
+  line-types e f = rw (steps-whole steps e, records-broken types f)
+
+  module _ (e : length steps % 4 ≡ 0) (f : length types % 4 ≡ 0) where
+    abbrev read : Got (List (LineStep ℕ))
+    read = each (stepGiven t (recs types) lines) (stepsFrom steps 0)
+
+    line-is : lineGiven t steps types lines ≡ (read >>= λ ss. need (whole 0 ss) 1 >> got ss)
+    unfolding lineGiven from
+    line-is = rw (steps-whole steps e, records-whole types f)
+
+    pub line_refused : (k : ℕ) → read ≡ refused k → refused k ≡ lineGiven t steps types lines
+    line_refused k h = sym (line-is ∙ rw h)
+
+    pub line-made : (ss : List (LineStep ℕ)) → read ≡ got ss → whole 0 ss ≡ true → got ss ≡ lineGiven t steps types lines
+    line-made ss h e = sym (line-is ∙ rw (h, e))
+
+    pub line-torn-off : (ss : List (LineStep ℕ)) → read ≡ got ss → whole 0 ss ≡ false → refused 1 ≡ lineGiven t steps types lines
+    line-torn-off ss h e = sym (line-is ∙ rw (h, e))

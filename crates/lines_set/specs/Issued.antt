@@ -1,137 +1,87 @@
--- The records of a single constraint, one after another.
-use Rattle.std.specs.Prelude.{◌≡◌, Bool, true, false, eqb, ltb, ℤ, pos, negsuc, nat_abs, length}
+-- The constraints of a step, put together from their records.
+use Rattle.std.specs.Prelude.{◌≡◌, true, false, ℕ, ◌+◌, ◌≤◌, ℤ}
 use Rattle.std.proofs.Math.Path.{refl, ap}
-use Rattle.std.proofs.Common.{sym, ◌∙◌, arith, ne_eqb}
+use Rattle.std.proofs.Common.{sym, ◌∙◌, arith, subst, append_assoc}
 use mathlib.Core.List.{List, [], ◌∷◌, ◌++◌}
-use Prim.Native.Nat.{ℕ, suc, ◌+◌, ◌-◌, ◌*◌, ◌/◌, ◌≤◌, ◌<◌, Ordering}
-use Rattle.std.proofs.Math.Seq.{sets, slice}
+use Prim.Native.Nat.{Ordering}
 use Rattle.rules.specs.Base.{collect}
-use Rattle.rules.specs.Exponents.{Exp, frac, one, neg, isZero}
+use Rattle.rules.specs.Exponents.{Exp, frac, one, isZero}
 use Rattle.rules.specs.Trees.{var, free, ◌↑◌, Product, Names, Ty, basic, boolean, dim, equal, isDim, size, sizeCon}
-use Rattle.rules.specs.Writing.{Rec, words, writeTy, writeProduct, writeFactor, writeCon, twos, by_sign, signed}
+use Rattle.rules.specs.Writing.{Rec, twos, writeTy, writeProduct, writeFactor, writeCon}
 use Rattle.rules.specs.Products.{put}
-use Rattle.laws.specs.Written.{unsigned}
-use Rattle.records.specs.Cut.{fit, fits}
-use Rattle.records.specs.Views.{recOf, longAt}
-use Rattle.records.specs.Holds.{Holds, holds-long}
-use Rattle.records.specs.ByView.{ends-in}
-use Rattle.records.specs.Held.{held-words}
-use Rattle.records.specs.declared.Open.TheVariants as opens
+use Rattle.records.specs.Cut.{fit}
+use Rattle.records.specs.Views.{recOf}
 use Rattle.records.specs.declared.Atom.TheVariants as atoms
 use Rattle.records.specs.declared.Basic.TheVariants as basics
+use Rattle.records.specs.declared.Open.TheVariants as opens
 use Rattle.records.specs.declared.View.TheVariants as view
-use Rattle.replace.specs.Writes.{writes}
-use Rattle.rules.specs.Steps.{Two, adds, subtracts, multiplies, divides, compares, gives, raised, chosen}
+use Rattle.types.specs.Written.{Writes, writes-then}
+use Rattle.types.specs.Puts.{equal-writes}
+use Rattle.types.specs.declared.writer.Writer.{Writer}
+use Rattle.rules.specs.Steps.{adds, compares, gives, raised, chosen}
+use Rattle.lines_entry.specs.Told.{twoOf}
+use Rattle.lines_entry.specs.declared.inner.steps.Two.{Two}
+use Rattle.lines_set.specs.Deeds.{deedOf}
+use Rattle.lines_set.specs.declared.deeds.Deed.{Deed}
 use Rattle.rules.specs.Lines.{its, dimensions, twoFactors, issuedByTwo, issued}
 
-module _ (d d₁ d₂ d₃ : List ℕ) (out : ℕ) where
-  three : (a b c : Rec) → d₁ ≡ sets d (out * 4) (words (a ∷ [])) → d₂ ≡ sets d₁ ((out + 1) * 4) (words (b ∷ []))
-      → d₃ ≡ sets d₂ ((out + 2) * 4) (words (c ∷ [])) → d₃ ≡ sets d (out * 4) (words (a ∷ b ∷ c ∷ []))
-  three a b c p q r = writes d d₂ d₃ (a ∷ b ∷ []) (c ∷ []) 2 out refl (writes d d₁ d₂ (a ∷ []) (b ∷ []) 1 out refl p q) r
+nothing-more : (rs : List Rec) → rs ++ [] ≡ rs
+nothing-more [] = refl
+nothing-more (r ∷ rs) = ap (r ∷◌) (nothing-more rs)
 
-  module _ (x : ℕ) (p : d₁ ≡ sets d (out * 4) (words (recOf view.Equal (fit 3) ∷ [])))
-      (q : d₂ ≡ sets d₁ ((out + 1) * 4) (words (recOf (view.Opened (opens.Var x)) 1 ∷ []))) where
-    pub same-put : (y : ℕ) → d₃ ≡ sets d₂ ((out + 2) * 4) (words (recOf (view.Opened (opens.Var y)) 1 ∷ []))
-        → d₃ ≡ sets d (out * 4) (words (writeCon (equal (its x) (its y))))
-    unfolding writeCon writeTy sizeCon size fit
-    same-put y r = three (recOf view.Equal 3) (recOf (view.Opened (opens.Var x)) 1) (recOf (view.Opened (opens.Var y)) 1) p q r
+pub dim-put : {w w₁ w₂ : Writer} (x : ℕ) → Writes w w₁ (recOf view.IsDim (fit 2) ∷ []) → Writes w₁ w₂ (writeTy (its x)) → Writes w w₂ (writeCon (isDim (its x)))
+unfolding writeCon sizeCon size fit
+dim-put x p q = writes-then (recOf view.IsDim 2 ∷ []) (writeTy (its x)) p q
 
-    pub boolean-put : d₃ ≡ sets d₂ ((out + 2) * 4) (words (recOf (view.Basic basics.Boolean) 1 ∷ []))
-        → d₃ ≡ sets d (out * 4) (words (writeCon (equal (its x) (basic boolean))))
-    unfolding writeCon writeTy sizeCon size fit
-    boolean-put r = three (recOf view.Equal 3) (recOf (view.Opened (opens.Var x)) 1) (recOf (view.Basic basics.Boolean) 1) p q r
+-- that x is a type of n - 2 records
+equal-put : {w w₁ w₂ w₃ : Writer} (x : ℕ) (t : Ty ℕ) (n : ℕ) → n ≡ 2 + size t → n ≤ 65_535 → Writes w w₁ (recOf view.Equal (fit n) ∷ [])
+    → Writes w₁ w₂ (writeTy (its x)) → Writes w₂ w₃ (writeTy t) → Writes w w₃ (writeCon (equal (its x) t))
+unfolding size
+equal-put x t n e l p q r = equal-writes (its x) t n e l p q r
 
-pub dim-put : (d d₁ d₂ : List ℕ) (out x : ℕ) → d₁ ≡ sets d (out * 4) (words (recOf view.IsDim (fit 2) ∷ []))
-    → d₂ ≡ sets d₁ ((out + 1) * 4) (words (recOf (view.Opened (opens.Var x)) 1 ∷ [])) → d₂ ≡ sets d (out * 4) (words (writeCon (isDim (its x))))
-unfolding writeCon writeTy sizeCon size fit
-dim-put d d₁ d₂ out x p q = writes d d₁ d₂ (recOf view.IsDim 2 ∷ []) (recOf (view.Opened (opens.Var x)) 1 ∷ []) 1 out refl p q
+pub same-put : {w w₁ w₂ w₃ : Writer} (x y : ℕ) → Writes w w₁ (recOf view.Equal (fit 3) ∷ []) → Writes w₁ w₂ (writeTy (its x)) → Writes w₂ w₃ (writeTy (its y))
+    → Writes w w₃ (writeCon (equal (its x) (its y)))
+unfolding size
+same-put x y p q r = equal-put x (its y) 3 refl (omega arith) p q r
 
--- ══ What a step issues ══
+pub boolean-put : {w w₁ w₂ w₃ : Writer} (x : ℕ) → Writes w w₁ (recOf view.Equal (fit 3) ∷ []) → Writes w₁ w₂ (writeTy (its x))
+    → Writes w₂ w₃ (recOf (view.Basic basics.Boolean) (fit 1) ∷ []) → Writes w w₃ (writeCon (equal (its x) (basic boolean)))
+unfolding size writeTy fit
+boolean-put x p q r = equal-put x (basic boolean) 3 refl (omega arith) p q r
 
-pub dimensions-put : (d d₁ d₂ : List ℕ) (out l r : ℕ) → d₁ ≡ sets d (out * 4) (words (writeCon (isDim (its l))))
-    → d₂ ≡ sets d₁ ((out + 2) * 4) (words (writeCon (isDim (its r)))) → d₂ ≡ sets d (out * 4) (words (collect writeCon (dimensions l r)))
-unfolding writeCon writeTy collect
-dimensions-put d d₁ d₂ out l r p q = writes d d₁ d₂ (writeCon (isDim (its l))) (writeCon (isDim (its r))) 2 out refl p q
+pub dimensions-put : {w w₁ w₂ : Writer} (l r : ℕ) → Writes w w₁ (writeCon (isDim (its l))) → Writes w₁ w₂ (writeCon (isDim (its r)))
+    → Writes w w₂ (collect writeCon (dimensions l r))
+unfolding collect
+dimensions-put {w} {w₁} {w₂} l r p q = subst (Writes w w₂) (ap (writeCon (isDim (its l)) ++◌) (sym (nothing-more (writeCon (isDim (its r))))))
+    (writes-then (writeCon (isDim (its l))) (writeCon (isDim (its r))) p q)
 
-module _ (ν : Names ℕ) (d d₁ d₂ d₃ : List ℕ) (out v l r : ℕ) where
-  abbrev Dims : Type 0
-  Dims = d₁ ≡ sets d (out * 4) (words (collect writeCon (dimensions l r)))
+pub given-put : {w w₁ w₂ w₃ : Writer} (ν : Names ℕ) (v : ℕ) (t : Ty ℕ) (n : ℕ) → n ≡ 2 + size t → size t ≤ 2048 → Writes w w₁ (recOf view.Equal (fit n) ∷ [])
+    → Writes w₁ w₂ (writeTy (its v)) → Writes w₂ w₃ (writeTy t) → Writes w w₃ (collect writeCon (issued ν v (gives t)))
+unfolding collect issued
+given-put {w} {w₁} {w₂} {w₃} ν v t n e l p q r = subst (Writes w w₃) (sym (nothing-more (writeCon (equal (its v) t)))) (equal-put v t n e (omega
+    (arith, e, l)) p q r)
 
-  abbrev Same : ℕ → Type 0
-  Same n = d₂ ≡ sets d₁ ((out + n) * 4) (words (writeCon (equal (its l) (its r))))
+-- three constraints, or two and one
+module _ {w w₁ w₂ w₃ : Writer} (ν : Names ℕ) (v l r : ℕ) where
+  pub sum-put : Writes w w₁ (collect writeCon (dimensions l r)) → Writes w₁ w₂ (writeCon (equal (its l) (its r)))
+      → Writes w₂ w₃ (writeCon (equal (its v) (its l))) → Writes w w₃ (collect writeCon (issuedByTwo ν v adds l r))
+  unfolding collect issuedByTwo writeCon writeTy
+  sum-put p q e = writes-then (collect writeCon (dimensions l r)) (writeCon (equal (its l) (its r)) ++ writeCon (equal (its v) (its l))) p
+      (writes-then (writeCon (equal (its l) (its r))) (writeCon (equal (its v) (its l))) q e)
 
-  pub sum-put : Dims → Same 4 → d₃ ≡ sets d₂ ((out + 7) * 4) (words (writeCon (equal (its v) (its l))))
-      → d₃ ≡ sets d (out * 4) (words (collect writeCon (issuedByTwo ν v adds l r)))
-  unfolding writeCon writeTy collect issuedByTwo
-  sum-put p q e =
-      let w = writes d d₁ d₂ (collect writeCon (dimensions l r)) (writeCon (equal (its l) (its r))) 4 out refl p q in
-      writes d d₂ d₃ (collect writeCon (dimensions l r) ++ writeCon (equal (its l) (its r))) (writeCon (equal (its v) (its l))) 7 out refl w e
+  pub comparison-put : Writes w w₁ (collect writeCon (dimensions l r)) → Writes w₁ w₂ (writeCon (equal (its l) (its r)))
+      → Writes w₂ w₃ (writeCon (equal (its v) (basic boolean))) → Writes w w₃ (collect writeCon (issuedByTwo ν v compares l r))
+  unfolding collect issuedByTwo writeCon writeTy
+  comparison-put p q e = writes-then (collect writeCon (dimensions l r)) (writeCon (equal (its l) (its r)) ++ writeCon (equal (its v) (basic boolean))) p
+      (writes-then (writeCon (equal (its l) (its r))) (writeCon (equal (its v) (basic boolean))) q e)
 
-  pub comparison-put : Dims → Same 4 → d₃ ≡ sets d₂ ((out + 7) * 4) (words (writeCon (equal (its v) (basic boolean))))
-      → d₃ ≡ sets d (out * 4) (words (collect writeCon (issuedByTwo ν v compares l r)))
-  unfolding writeCon writeTy collect issuedByTwo
-  comparison-put p q e =
-      let w = writes d d₁ d₂ (collect writeCon (dimensions l r)) (writeCon (equal (its l) (its r))) 4 out refl p q in
-      writes d d₂ d₃ (collect writeCon (dimensions l r) ++ writeCon (equal (its l) (its r))) (writeCon (equal (its v) (basic boolean))) 7 out refl w e
-
-  pub choice-put : (c : ℕ) → d₁ ≡ sets d (out * 4) (words (writeCon (equal (its c) (basic boolean)))) → Same 3
-      → d₃ ≡ sets d₂ ((out + 6) * 4) (words (writeCon (equal (its v) (its l))))
-      → d₃ ≡ sets d (out * 4) (words (collect writeCon (issued ν v (chosen c l r))))
-  unfolding writeCon writeTy collect issued
-  choice-put c p q e =
-      let w = writes d d₁ d₂ (writeCon (equal (its c) (basic boolean))) (writeCon (equal (its l) (its r))) 3 out refl p q in
-      writes d d₂ d₃ (writeCon (equal (its c) (basic boolean)) ++ writeCon (equal (its l) (its r))) (writeCon (equal (its v) (its l))) 6 out refl w e
-
--- ══ The type of a constant or a reference ══
-
-no_more : (rs : List Rec) → rs ++ [] ≡ rs
-no_more [] = refl
-no_more (r ∷ rs) = ap (r ∷◌) (no_more rs)
-
-module _ (s : List ℕ) (t : Ty ℕ) (at n : ℕ) (h : Holds s t at) (few : length s ≤ 8192) (e : n ≡ longAt s at) where
-  pub as_long : n ≡ size t
-  as_long = e ∙ holds-long s t at h
-
-  pub within : at + n ≤ length s / 4
-  within = omega (arith, as_long, ends-in s t at h)
-
-  pub given-put : (ν : Names ℕ) (d d₁ d₂ d₃ : List ℕ) (out v : ℕ) → d₁ ≡ sets d (out * 4) (words (recOf view.Equal (fit (n + 2)) ∷ []))
-      → d₂ ≡ sets d₁ ((out + 1) * 4) (words (recOf (view.Opened (opens.Var v)) 1 ∷ [])) → d₃ ≡ sets d₂ ((out + 2) * 4) (slice (at * 4) ((at + n) * 4) s)
-      → d₃ ≡ sets d (out * 4) (words (collect writeCon (issued ν v (gives t))))
-  unfolding writeCon writeTy sizeCon size collect issued
-  given-put ν d d₁ d₂ d₃ out v p q r =
-      let m : n + 2 ≡ sizeCon (equal (its v) t) = omega (arith, as_long) in
-      let f : fit (n + 2) ≡ sizeCon (equal (its v) t) = fits (n + 2) (omega (arith, within)) ∙ m in
-      let p' = p ∙ ap (λ (k : ℕ). sets d (out * 4) (words (recOf view.Equal k ∷ []))) f in
-      let r' = r ∙ ap (λ (ws : List ℕ). sets d₂ ((out + 2) * 4) ws) (ap (λ (k : ℕ). slice (at * 4) ((at + k) * 4) s) as_long ∙ held-words s t at h) in
-      let a : Rec = recOf view.Equal (sizeCon (equal (its v) t)) in
-      let b : Rec = recOf (view.Opened (opens.Var v)) 1 in
-      let w = writes d d₂ d₃ (a ∷ b ∷ []) (writeTy t) 2 out refl (writes d d₁ d₂ (a ∷ []) (b ∷ []) 1 out refl p' q) r' in
-      w ∙ ap (λ (rs : List Rec). sets d (out * 4) (words (a ∷ b ∷ rs))) (sym (no_more (writeTy t)))
+  pub choice-put : (c : ℕ) → Writes w w₁ (writeCon (equal (its c) (basic boolean))) → Writes w₁ w₂ (writeCon (equal (its l) (its r)))
+      → Writes w₂ w₃ (writeCon (equal (its v) (its l))) → Writes w w₃ (collect writeCon (issued ν v (chosen c l r)))
+  unfolding collect issued writeCon writeTy
+  choice-put c p q e = writes-then (writeCon (equal (its c) (basic boolean))) (writeCon (equal (its l) (its r)) ++ writeCon (equal (its v) (its l))) p
+      (writes-then (writeCon (equal (its l) (its r))) (writeCon (equal (its v) (its l))) q e)
 
 -- ══ Products ══
-
--- a variable to a power, as a record
-abbrev pub powerOf : ℕ → ℕ → ℕ → Rec
-powerOf x n d = recOf (view.Factor (atoms.Free (opens.Var x)) n d) 1
-
--- two variables to whole powers, the exponents as words
-abbrev pub pair_of : ℕ → ℕ → ℕ → ℕ → List Rec
-pair_of x m y n = recOf (view.Dim 2) 3 ∷ powerOf x m 1 ∷ powerOf y n 1 ∷ []
-
-pub pair_put : (d d₁ d₂ d₃ : List ℕ) (out x m y n : ℕ) → d₁ ≡ sets d (out * 4) (words (recOf (view.Dim 2) (fit 3) ∷ []))
-    → d₂ ≡ sets d₁ ((out + 1) * 4) (words (powerOf x m 1 ∷ [])) → d₃ ≡ sets d₂ ((out + 2) * 4) (words (powerOf y n 1 ∷ []))
-    → d₃ ≡ sets d (out * 4) (words (pair_of x m y n))
-unfolding fit
-pair_put d d₁ d₂ d₃ out x m y n p q r = three d d₁ d₂ d₃ out (recOf (view.Dim 2) 3) (powerOf x m 1) (powerOf y n 1) p q r
-
--- the right operand's power: the word of 1 or -1
-abbrev pub PowerIs : Two → ℕ → Type 0
-PowerIs adds n = ⊥
-PowerIs subtracts n = ⊥
-PowerIs multiplies n = n ≡ 1
-PowerIs divides n = n ≡ 4_294_967_295
-PowerIs compares n = ⊥
 
 -- the left one stands first
 abbrev pub Rising : Ordering → Type 0
@@ -140,123 +90,86 @@ Rising Ordering.eq = Unit {0}
 Rising Ordering.gt = ⊥
 
 module _ (ν : Names ℕ) (l r : ℕ) (e : Exp) where
-  rises : (o : Ordering) → o ≡ ν.order l r → Rising o → twoFactors ν l r e ≡ free (var l) ↑ one ∷ free (var r) ↑ e ∷ []
+  -- the left one stands first, except where its name comes later
+  pub falls : Ordering.gt ≡ ν.order l r → free (var r) ↑ e ∷ free (var l) ↑ one ∷ [] ≡ twoFactors ν l r e
+  unfolding twoFactors
+  falls q = rw (← q, twoFactors)
+
+  pub rises : (o : Ordering) → o ≡ ν.order l r → Rising o → free (var l) ↑ one ∷ free (var r) ↑ e ∷ [] ≡ twoFactors ν l r e
   unfolding twoFactors
   rises Ordering.lt q f = rw (← q, twoFactors)
   rises Ordering.eq q f = rw (← q, twoFactors)
   rises Ordering.gt q f = absurd f
 
-  falls : Ordering.gt ≡ ν.order l r → twoFactors ν l r e ≡ free (var r) ↑ e ∷ free (var l) ↑ one ∷ []
-  unfolding twoFactors
-  falls q = rw (← q, twoFactors)
-
-  pub long-two : size (dim (twoFactors ν l r e)) ≡ 3
+  long-two : 5 ≡ 2 + size (dim (twoFactors ν l r e))
   unfolding size
   long-two = go (ν.order l r) refl
     where
-      go : (o : Ordering) → o ≡ ν.order l r → size (dim (twoFactors ν l r e)) ≡ 3
-      go Ordering.lt q = ap (λ (p : Product ℕ). size (dim p)) (rises Ordering.lt q tt)
-      go Ordering.eq q = ap (λ (p : Product ℕ). size (dim p)) (rises Ordering.eq q tt)
-      go Ordering.gt q = ap (λ (p : Product ℕ). size (dim p)) (falls q)
+      go : (o : Ordering) → o ≡ ν.order l r → 5 ≡ 2 + size (dim (twoFactors ν l r e))
+      go Ordering.lt q = ap (λ (p : Product ℕ). 2 + size (dim p)) (rises Ordering.lt q tt)
+      go Ordering.eq q = ap (λ (p : Product ℕ). 2 + size (dim p)) (rises Ordering.eq q tt)
+      go Ordering.gt q = ap (λ (p : Product ℕ). 2 + size (dim p)) (falls q)
 
-module _ (ν : Names ℕ) (d d₁ : List ℕ) (out l r n : ℕ) where
-  -- the product of the two is written
-  abbrev pub Factors : Type 0
-  Factors = (k : ℤ) → twos k ≡ n → d₁ ≡ sets d (out * 4) (words (writeTy (dim (twoFactors ν l r (frac k 1)))))
+  two-lists : (rs : List Rec) → collect writeCon (dimensions l r) ++ rs ≡ writeCon (isDim (its l)) ++ (writeCon (isDim (its r)) ++ rs)
+  unfolding collect
+  two-lists rs = append_assoc (writeCon (isDim (its l))) (writeCon (isDim (its r)) ++ []) rs
+      ∙ ap (writeCon (isDim (its l)) ++◌) (ap (◌++ rs) (nothing-more (writeCon (isDim (its r)))))
 
-  pub left-first : (o : Ordering) → o ≡ ν.order l r → Rising o → d₁ ≡ sets d (out * 4) (words (pair_of l 1 r n)) → Factors
-  unfolding writeTy writeProduct writeFactor twos
-  left-first o q f p k e = p ∙ rw (rises ν l r (frac k 1) o q f, ← e)
+  pub product-put : {w w₁ w₂ w₃ w₄ : Writer} (v : ℕ) → Writes w w₁ (collect writeCon (dimensions l r)) → Writes w₁ w₂ (recOf view.Equal (fit 5) ∷ [])
+      → Writes w₂ w₃ (writeTy (its v)) → Writes w₃ w₄ (writeTy (dim (twoFactors ν l r e)))
+      → Writes w w₄ (collect writeCon (dimensions l r ++ equal (its v) (dim (twoFactors ν l r e)) ∷ []))
+  unfolding collect
+  product-put {w} {w₁} {w₂} {w₃} {w₄} v p q s t =
+      let c : List Rec = writeCon (equal (its v) (dim (twoFactors ν l r e))) in
+      let u : Writes w₁ w₄ (c ++ []) = subst (Writes w₁ w₄) (sym (nothing-more c)) (equal-put v (dim (twoFactors ν l r e)) 5 long-two (omega arith) q s t) in
+      subst (Writes w w₄) (two-lists (c ++ [])) (writes-then (collect writeCon (dimensions l r)) (c ++ []) p u)
 
-  pub right-first : Ordering.gt ≡ ν.order l r → d₁ ≡ sets d (out * 4) (words (pair_of r n l 1)) → Factors
-  unfolding writeTy writeProduct writeFactor twos
-  right-first q p k e = p ∙ rw (falls ν l r (frac k 1) q, ← e)
+-- the words of its record say a factor
+pub factor-put : {w w₁ : Writer} (x n d : ℕ) (k : ℤ) → n ≡ twos k → Writes w w₁ (recOf (view.Factor (atoms.Free (opens.Var x)) n d) (fit 1) ∷ [])
+    → Writes w w₁ (writeFactor (free (var x) ↑ frac k d) ∷ [])
+unfolding writeFactor fit
+factor-put x n d k e p = rw (← e) p
 
--- the product of two operands, after the two demands
-module _ (ν : Names ℕ) (d d₁ d₂ d₃ d₄ : List ℕ) (out v l r : ℕ) where
-  by-power : (e : Exp) → d₁ ≡ sets d (out * 4) (words (collect writeCon (dimensions l r)))
-      → d₂ ≡ sets d₁ ((out + 4) * 4) (words (recOf view.Equal (fit 5) ∷ []))
-      → d₃ ≡ sets d₂ ((out + 5) * 4) (words (recOf (view.Opened (opens.Var v)) 1 ∷ []))
-      → d₄ ≡ sets d₃ ((out + 6) * 4) (words (writeTy (dim (twoFactors ν l r e))))
-      → d₄ ≡ sets d (out * 4) (words (collect writeCon (dimensions l r ++ equal (its v) (dim (twoFactors ν l r e)) ∷ [])))
-  unfolding writeCon writeTy sizeCon collect fit size
-  by-power e p q s t =
-      let a : Rec = recOf view.Equal 5 in
-      let b : Rec = recOf (view.Opened (opens.Var v)) 1 in
-      let ds : List Rec = collect writeCon (dimensions l r) in
-      let w = writes d d₁ d₂ ds (a ∷ []) 4 out refl p q in
-      let w' = writes d d₂ d₃ (ds ++ a ∷ []) (b ∷ []) 5 out refl w s in
-      let u = writes d d₃ d₄ (ds ++ a ∷ b ∷ []) (writeTy (dim (twoFactors ν l r e))) 6 out refl w' t in
-      let m : 5 ≡ sizeCon (equal (its v) (dim (twoFactors ν l r e))) = omega (arith, long-two ν l r e) in
-      u ∙ ap (λ (n : ℕ). sets d (out * 4) (words (ds ++ recOf view.Equal n ∷ b ∷ writeTy (dim (twoFactors ν l r e))))) m
-      ∙ ap (λ (rs : List Rec). sets d (out * 4) (words (ds ++ recOf view.Equal (sizeCon (equal (its v) (dim (twoFactors ν l r e)))) ∷ b ∷ rs)))
-      (sym (no_more (writeTy (dim (twoFactors ν l r e)))))
+pub product-as : {w w₁ : Writer} (p q : Product ℕ) → p ≡ q → Writes w w₁ (writeTy (dim p)) → Writes w w₁ (writeTy (dim q))
+product-as {w} {w₁} p q e h = subst (λ (f : Product ℕ). Writes w w₁ (writeTy (dim f))) e h
 
-  pub product-put : (num : ℕ) → d₁ ≡ sets d (out * 4) (words (collect writeCon (dimensions l r)))
-      → d₂ ≡ sets d₁ ((out + 4) * 4) (words (recOf view.Equal (fit 5) ∷ []))
-      → d₃ ≡ sets d₂ ((out + 5) * 4) (words (recOf (view.Opened (opens.Var v)) 1 ∷ []))
-      → ((k : ℤ) → twos k ≡ num → d₄ ≡ sets d₃ ((out + 6) * 4) (words (writeTy (dim (twoFactors ν l r (frac k 1))))))
-      → (o : Two) → PowerIs o num → d₄ ≡ sets d (out * 4) (words (collect writeCon (issuedByTwo ν v o l r)))
-  unfolding issuedByTwo neg twos
-  product-put num p q s f multiplies e = by-power (frac (pos 1) 1) p q s (f (pos 1) (sym e))
-  product-put num p q s f divides e = by-power (frac (negsuc 0) 1) p q s (f (negsuc 0) (sym e))
-  product-put num p q s f adds e = absurd e
-  product-put num p q s f subtracts e = absurd e
-  product-put num p q s f compares e = absurd e
-
--- subtracting issues what adding does
-pub subtracts-as-adds : (ν : Names ℕ) (v l r : ℕ) → issuedByTwo ν v adds l r ≡ issuedByTwo ν v subtracts l r
-unfolding issuedByTwo
-subtracts-as-adds ν v l r = refl
+-- two powers behind their count
+pub pair-put : {w w₁ w₂ w₃ : Writer} (x y : ℕ) (a b : Exp) → Writes w w₁ (recOf (view.Dim 2) (fit 3) ∷ [])
+    → Writes w₁ w₂ (writeFactor (free (var x) ↑ a) ∷ []) → Writes w₂ w₃ (writeFactor (free (var y) ↑ b) ∷ [])
+    → Writes w w₃ (writeTy (dim (free (var x) ↑ a ∷ free (var y) ↑ b ∷ [])))
+unfolding writeTy writeProduct fit
+pair-put x y a b q r s = writes-then (recOf (view.Dim 2) 3 ∷ []) (writeFactor (free (var x) ↑ a) ∷ writeFactor (free (var y) ↑ b) ∷ []) q
+    (writes-then (writeFactor (free (var x) ↑ a) ∷ []) (writeFactor (free (var y) ↑ b) ∷ []) r s)
 
 -- ══ Powers ══
 
-module _ (d d₁ d₂ d₃ : List ℕ) (out v : ℕ) (q : d₂ ≡ sets d₁ ((out + 1) * 4) (words (recOf (view.Opened (opens.Var v)) 1 ∷ []))) where
-  pub scalar-put : d₁ ≡ sets d (out * 4) (words (recOf view.Equal (fit 3) ∷ [])) → d₃ ≡ sets d₂ ((out + 2) * 4) (words (recOf (view.Dim 0) 1 ∷ []))
-      → d₃ ≡ sets d (out * 4) (words (writeCon (equal (its v) (dim []))))
-  unfolding writeCon writeTy writeProduct sizeCon size fit
-  scalar-put p r = three d d₁ d₂ d₃ out (recOf view.Equal 3) (recOf (view.Opened (opens.Var v)) 1) (recOf (view.Dim 0) 1) p q r
+module _ (ν : Names ℕ) (v x : ℕ) (e : Exp) where
+  power-put : {w w₁ w₂ : Writer} (f : Product ℕ) → put (free (var x)) e [] ≡ f → Writes w w₁ (writeCon (isDim (its x)))
+      → Writes w₁ w₂ (writeCon (equal (its v) (dim f))) → Writes w w₂ (collect writeCon (issued ν v (raised e x)))
+  unfolding collect issued
+  power-put {w} {w₁} {w₂} f h p q =
+      rw h (writes-then (writeCon (isDim (its x))) (writeCon (equal (its v) (dim f)) ++ []) p
+      (subst (Writes w₁ w₂) (sym (nothing-more (writeCon (equal (its v) (dim f))))) q))
 
-  pub raised-put : (d₄ : List ℕ) (x num den : ℕ) → d₁ ≡ sets d (out * 4) (words (recOf view.Equal (fit 4) ∷ []))
-      → d₃ ≡ sets d₂ ((out + 2) * 4) (words (recOf (view.Dim 1) (fit 2) ∷ []))
-      → d₄ ≡ sets d₃ ((out + 3) * 4) (words (powerOf x num den ∷ [])) → (k : ℤ) → twos k ≡ num
-      → d₄ ≡ sets d (out * 4) (words (writeCon (equal (its v) (dim (free (var x) ↑ frac k den ∷ [])))))
-  unfolding writeCon writeTy writeProduct writeFactor sizeCon size fit
-  raised-put d₄ x num den p r s k e =
-      let a : Rec = recOf view.Equal 4 in
-      let b : Rec = recOf (view.Opened (opens.Var v)) 1 in
-      let c : Rec = recOf (view.Dim 1) 2 in
-      let w = three d d₁ d₂ d₃ out a b c p q r in
-      writes d d₃ d₄ (a ∷ b ∷ c ∷ []) (powerOf x num den ∷ []) 3 out refl w s ∙ rw (← e)
+  pub scalar-put : {w w₁ w₂ w₃ w₄ : Writer} → isZero e ≡ true → Writes w w₁ (writeCon (isDim (its x))) → Writes w₁ w₂ (recOf view.Equal (fit 3) ∷ [])
+      → Writes w₂ w₃ (writeTy (its v)) → Writes w₃ w₄ (recOf (view.Dim 0) (fit 1) ∷ []) → Writes w w₄ (collect writeCon (issued ν v (raised e x)))
+  unfolding size writeTy writeProduct fit
+  scalar-put z p q r s = power-put [] (rw (z, put)) p (equal-put v (dim []) 3 refl (omega arith) q r s)
 
--- a word is the numerator 0 just when it is 0
-pub word-zero : (num den : ℕ) → num ≡ 0 → isZero (frac (signed num) den) ≡ true
-unfolding signed by_sign
-word-zero num den e = rw e
+  pub raised-put : {w w₁ w₂ w₃ w₄ w₅ : Writer} → isZero e ≡ false → Writes w w₁ (writeCon (isDim (its x))) → Writes w₁ w₂ (recOf view.Equal (fit 4) ∷ [])
+      → Writes w₂ w₃ (writeTy (its v)) → Writes w₃ w₄ (recOf (view.Dim 1) (fit 2) ∷ []) → Writes w₄ w₅ (writeFactor (free (var x) ↑ e) ∷ [])
+      → Writes w w₅ (collect writeCon (issued ν v (raised e x)))
+  unfolding size writeTy writeProduct fit
+  raised-put z p q r s t = power-put (free (var x) ↑ e ∷ []) (rw (z, put)) p (equal-put v (dim (free (var x) ↑ e ∷ [])) 4 refl (omega arith) q r
+      (writes-then (recOf (view.Dim 1) 2 ∷ []) (writeFactor (free (var x) ↑ e) ∷ []) s t))
 
-pub word-nonzero : (num den : ℕ) → (num ≡ 0 → ⊥) → isZero (frac (signed num) den) ≡ false
-unfolding signed by_sign
-word-nonzero num den f = go (ltb num 2_147_483_648)
-  where
-    go : (b : Bool) → eqb (nat_abs (by_sign b num)) 0 ≡ false
-    go true = ne_eqb num 0 f
-    go false = ne_eqb (suc (4_294_967_295 - num)) 0 (λ e. omega arith)
+-- ══ Which deed it is ══
 
-module _ (ν : Names ℕ) (d d₁ d₂ : List ℕ) (out v x num den : ℕ) (p : d₁ ≡ sets d (out * 4) (words (writeCon (isDim (its x))))) where
-  abbrev Power : Type 0
-  Power = d₂ ≡ sets d (out * 4) (words (collect writeCon (issued ν v (raised (frac (signed num) den) x))))
+module _ (ν : Names ℕ) (v : ℕ) where
+  pub joined-as : {w w₁ : Writer} (two it : Two) (l r : ℕ) → two ≡ it → Writes w w₁ (collect writeCon (issuedByTwo ν v (twoOf it) l r))
+      → Writes w w₁ (collect writeCon (issuedByTwo ν v (twoOf two) l r))
+  joined-as {w} {w₁} two it l r e h = subst (λ (o : Two). Writes w w₁ (collect writeCon (issuedByTwo ν v (twoOf o) l r))) (sym e) h
 
-  of-product : (f : Product ℕ) → put (free (var x)) (frac (signed num) den) [] ≡ f
-      → d₂ ≡ sets d₁ ((out + 2) * 4) (words (writeCon (equal (its v) (dim f)))) → Power
-  unfolding collect issued writeCon writeTy
-  of-product f e q =
-      let w = writes d d₁ d₂ (writeCon (isDim (its x))) (writeCon (equal (its v) (dim f))) 2 out refl p q in
-      w ∙ ap (λ (rs : List Rec). sets d (out * 4) (words (writeCon (isDim (its x)) ++ rs))) (sym (no_more (writeCon (equal (its v) (dim f)))))
-      ∙ ap (λ (g : Product ℕ). sets d (out * 4) (words (writeCon (isDim (its x)) ++ (writeCon (equal (its v) (dim g)) ++ [])))) (sym e)
-
-  pub power-none : num ≡ 0 → d₂ ≡ sets d₁ ((out + 2) * 4) (words (writeCon (equal (its v) (dim [])))) → Power
-  power-none z q = of-product [] (rw (word-zero num den z, put)) q
-
-  pub power-some : (num ≡ 0 → ⊥) → num < 4_294_967_296
-      → ((k : ℤ) → twos k ≡ num → d₂ ≡ sets d₁ ((out + 2) * 4) (words (writeCon (equal (its v) (dim (free (var x) ↑ frac k den ∷ [])))))) → Power
-  power-some f h q = of-product (free (var x) ↑ frac (signed num) den ∷ []) (rw (word-nonzero num den f, put)) (q (signed num) (unsigned num h))
+  pub deed-as : {w w₁ : Writer} (deed it : Deed) → deed ≡ it → Writes w w₁ (collect writeCon (issued ν v (deedOf it)))
+      → Writes w w₁ (collect writeCon (issued ν v (deedOf deed)))
+  deed-as {w} {w₁} deed it e h = subst (λ (d : Deed). Writes w w₁ (collect writeCon (issued ν v (deedOf d)))) (sym e) h

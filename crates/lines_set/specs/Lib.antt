@@ -1,5 +1,3 @@
+pub mod Deeds
 pub mod Issued
-pub mod StepPuts
-pub mod StepSizes
-pub mod StepLoop
-pub mod Stacked
+pub mod Going

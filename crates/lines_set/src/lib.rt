@@ -1,4 +1,6 @@
-// What the steps of a calculation line issue.
+//! The constraints that the steps of a calculation line issue, written one after another.
 #![tactic(auto)]
 
-pub mod inner;
+pub mod deeds;
+pub mod issuing;
+pub mod writing;

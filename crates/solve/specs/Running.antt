@@ -50,7 +50,8 @@ module _ (pool table : List ℕ) where
       let m : 0 + sum_of sizeCon cs ≡ n = omega (arith, b.held.ends, i) in
       let h : IsCons ws 0 n cs = rw i b.held in
       let w : d' ≡ sets d 0 (words (collect writeCon cs)) = e ∙ ap (sets d 0) (set-words ws 0 n (cs, h) (omega (arith, i))) in
-      let there : IsCons d' 0 n cs = rw m at (written-cons pool table d d' 0 cs w (omega (arith, m, i, b.short, room)) (cons-weaker pool table cs b.sound.good)) in
+      let few : sum_of sizeCon cs ≤ 2048 = omega (arith, m, i, b.short) in
+      let there : IsCons d' 0 n cs = rw m at (written-cons pool table d d' 0 cs w (omega (arith, few, room)) (cons-weaker pool table cs b.sound.good)) in
       record {
         held = record {
           cons = there;

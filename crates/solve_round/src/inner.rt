@@ -197,8 +197,8 @@ fn perform(
     }
 }
 
-/// Up to where no rule applies to what a step leaves: to no more than the constraints before the one that is taken, which `passed` records hold. Where a binding
-/// is put in, nothing is known of them.
+/// Up to where no rule applies to what a step leaves: the constraints before the one that is taken, of `passed` records, stay as they are; but where a binding
+/// is put in, a rule may apply to any of them.
 fn still_stuck(step: Step, passed: usize) -> usize
     ensures { result ≡ stillStuck step passed }
 {

@@ -4,35 +4,26 @@ pub mod nested;
 
 ghost use Rattle.std.specs.Prelude.{◌≡◌, List, ℕ, ◌+◌, ◌≤◌, min, length};
 ghost use Rattle.rules.specs.TextReading.{ty_of};
-ghost use Rattle.rules.specs.WellFormed.{is_lt};
 ghost use Rattle.rules.specs.Writing.{writeTy};
 ghost use Rattle.rules.specs.declared.Refusal.TheVariants.{Malformed};
-ghost use Rattle.names.specs.Told.{toldOrder};
 ghost use Rattle.text_grammar.specs.Choice.{among, heads, deepRuled};
 ghost use Rattle.text_names.specs.Effects.{lent, Ready, Writes, Done};
 ghost use Rattle.text_types.specs.Members.{Risen, keptIf};
 
 use names::tables::NameTable;
+use records::inner::is_less;
 use rules::Refusal;
-use std::cmp::Ordering;
 use text_grammar::inner::{Point, byte_at, refuse};
 use text_names::inner::{At, Reached, Stand, place_of};
 
-/// One more; from 4,096 on, which is more than a sheet holds, the count stays.
+/// More than a sheet holds records: a count stays there.
+const MANY: u32 = 4096;
+
+/// One more, up to the most that is counted.
 fn one_more(n: u32) -> u32
     ensures { result ≡ min (n + 1) 4096 }
 {
-    if n < 4096 { n + 1 } else { 4096 }
-}
-
-fn is_less(o: Ordering) -> bool
-    ensures { result ≡ is_lt (toldOrder o) }
-{
-    match o {
-        Ordering::Less => true,
-        Ordering::Equal => false,
-        Ordering::Greater => false,
-    }
+    n.saturating_add(1).min(MANY)
 }
 
 /// Does a field's name, if it is held, come after the one before?

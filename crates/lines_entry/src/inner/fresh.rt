@@ -1,17 +1,19 @@
 // The lent names: no two the same, none used in a type of the line (4), each held (3).
-ghost use Rattle.std.specs.Prelude.{◌≡◌, not, ◌≤◌, eqb, ltb, length, get_or, drop, option_to_list};
+ghost use Rattle.std.specs.Prelude.{◌≡◌, not, ◌≤◌, eqb, ltb, length, get_or, map, drop, option_to_list};
 ghost use Rattle.rules.specs.Base.{any, all, collect, to_list};
 ghost use Rattle.rules.specs.Views.{name_of};
 ghost use Rattle.rules.specs.Calls.{differ};
 ghost use Rattle.records.specs.Views.{viewAt};
 ghost use Rattle.records.specs.Holds.{openOf, atomOf};
-ghost use Rattle.rules.specs.Steps.{stepKind, stepNumbers};
-ghost use Rattle.lines_entry.specs.StepLists.{stepsFrom};
-ghost use Rattle.lines_entry.specs.Used.{namesAtom, namesView, namesIn, names_at, namesBy, namesWord, freshWords};
+ghost use Rattle.rules.specs.Lines.{namesOfTy, namesOfStep, fresh};
+ghost use Rattle.lines_entry.specs.Told.{stepOf};
+ghost use Rattle.lines_entry.specs.Used.{namesAtom, namesView, namesIn};
 
+use super::steps::Step;
 use names::inner::is_held;
-use records::seen::{length_at, view_at};
+use records::seen::view_at;
 use records::{Atom, Open, View};
+use types::Type;
 
 // Is x among the names from a place on?
 fn is_among(names: &[u32], from: usize, x: u32) -> bool
@@ -106,51 +108,43 @@ fn used_in(s: &[u32], b: usize, e: usize, x: u32) -> bool
     false
 }
 
-// Does the part that starts at a place use the name x?
-fn part_uses(s: &[u32], at: u32, x: u32) -> bool
-    ensures { result ≡ any (eqb x) (names_at s.now at) }
+// Does a type use the name x?
+fn type_uses(t: Type, x: u32) -> bool
+    ensures { result ≡ any (eqb x) (namesOfTy t.entry.tree.0) }
 {
-    let i = at as usize;
-    used_in(s, i, i + length_at(s, i), x)
+    used_in(t.words, t.at, t.end(), x)
 }
 
-/// The place of the type of an earlier line; 0 where there is no such line.
-pub fn place_of(lines: &[u32], a: u32) -> u32
-    ensures { result ≡ get_or lines.now a 0 }
+// Does a step?
+#[tactic(auto, unfolding(rules::specs::Lines::namesOfStep, rules::specs::Base::any))]
+fn step_uses(step: &Step, x: u32) -> bool
+    ensures { result ≡ any (eqb x) (namesOfStep (stepOf step.now)) }
 {
-    let i = a as usize;
-    if i < lines.len() { lines[i] } else { 0 }
-}
-
-// Does a step use the name x?
-fn step_uses(types: &[u32], lines: &[u32], k: u32, a: u32, x: u32) -> bool
-    ensures { result ≡ any (eqb x) (namesBy types.now lines.now (stepKind k stepNumbers) a) }
-{
-    match k {
-        1 => part_uses(types, a, x),
-        2 => part_uses(types, place_of(lines, a), x),
+    match step {
+        Step::Constant(given) => type_uses(given.of, x),
+        Step::Reference(given) => type_uses(given.of, x),
         _ => false,
     }
 }
 
-// Does a step of the line?
-fn line_uses(types: &[u32], lines: &[u32], steps: &[u32], x: u32) -> bool
-    ensures { result ≡ any (eqb x) (collect (namesWord types.now lines.now) (stepsFrom steps.now 0)) }
+// Does one of the steps?
+fn one_uses(steps: &[Step], x: u32) -> bool
+    ensures { result ≡ any (eqb x) (collect namesOfStep (map stepOf steps.now)) }
 {
-    for i in 0..steps.len() / 4 {
-        if step_uses(types, lines, steps[i * 4], steps[i * 4 + 1], x) {
+    for step in steps {
+        if step_uses(step, x) {
             return true;
         }
     }
     false
 }
 
-// Is none of the names used in a step of the line?
-fn none_used(types: &[u32], lines: &[u32], steps: &[u32], names: &[u32]) -> bool
-    ensures { result ≡ all (λ n. not (any (eqb n) (collect (namesWord types.now lines.now) (stepsFrom steps.now 0)))) names.now }
+// Is none of the names used in a step?
+fn none_used(steps: &[Step], names: &[u32]) -> bool
+    ensures { result ≡ all (λ n. not (any (eqb n) (collect namesOfStep (map stepOf steps.now)))) names.now }
 {
     for i in 0..names.len() {
-        if line_uses(types, lines, steps, names[i]) {
+        if one_uses(steps, names[i]) {
             return false;
         }
     }
@@ -158,8 +152,8 @@ fn none_used(types: &[u32], lines: &[u32], steps: &[u32], names: &[u32]) -> bool
 }
 
 /// Are no two names the same, and is none used in a type that a step points to?
-pub fn is_fresh(types: &[u32], lines: &[u32], steps: &[u32], names: &[u32]) -> bool
-    ensures { result ≡ freshWords types.now lines.now steps.now names.now }
+pub fn is_fresh(steps: &[Step], names: &[u32]) -> bool
+    ensures { result ≡ fresh names.now (map stepOf steps.now) }
 {
-    all_differ(names) && none_used(types, lines, steps, names)
+    all_differ(names) && none_used(steps, names)
 }

@@ -10,12 +10,3 @@ pub struct Line<'a> {
     pub lent: &'a [u32],
     ghost words: { Words32 types.now },
 }
-
-/// The words of a step: its kind, and three more.
-#[derive(Clone, Copy)]
-pub struct StepWords {
-    pub kind: u32,
-    pub a: u32,
-    pub b: u32,
-    pub c: u32,
-}

@@ -1,8 +1,9 @@
 -- `inner::eliminate_set` meets its contract.
-use Rattle.std.proofs.Common.{sym, ◌∙◌}
+use Rattle.std.proofs.Common.{sym, ap, ◌∙◌, arith}
 use Rattle.std.proofs.lemmas.Result.{err_from_is_err_and}
 use Rattle.records.specs.Found.{Words32}
-use Rattle.engine.specs.Entry.{came-in, kept_out, answers-as}
+use Rattle.engine.specs.Entry.{came-in, kept_out, answers-as, held-set, same-set, set-held}
+use Rattle.engine.specs.Reducing.{reduction}
 use Rattle.engine.specs.Written.{refused-answers}
 use Rattle.engine.proofs.inner.eliminate_set.Goals as goal
 
@@ -24,7 +25,14 @@ reduce-requires c =
     let a = c.args in
     let w : Words32 a.words.now = record { word = λ i. (c.type_inv.words i).fits } in
     let x = came-in a.pool.now a.table.now a.words.now w (sym c.in_ok-enter.ensures) in
-    record { end = x.few; a_set = (x.set, x.chain) }
+    record { a_set = set-held a.pool.now a.table.now a.words.now _ x.set x.chain c.reduce-arg-2-1.given.1.0 }
+
+pub invariant_of-set : goal.invariant_of-set
+invariant_of-set c =
+    let a = c.args in
+    let w : Words32 a.words.now = record { word = λ i. (c.type_inv.words i).fits } in
+    let x = came-in a.pool.now a.table.now a.words.now w (sym c.in_ok-enter.ensures) in
+    record { near = omega (arith, x.few); trees = (x.set, held-set a.pool.now a.table.now a.words.now _ x.set 0 x.chain) }
 
 pub returns-in_err-reduced : goal.returns-in_err-reduced
 returns-in_err-reduced c =
@@ -32,7 +40,8 @@ returns-in_err-reduced c =
     let w : Words32 a.words.now = record { word = λ i. (c.type_inv.words i).fits } in
     let x = came-in a.pool.now a.table.now a.words.now w (sym c.in_ok-enter.ensures) in
     let p = err_from_is_err_and c.from_residual-in_err-reduced.result c.from_residual-in_err-reduced.ensures.1 in
-    rw (p.1, p.2) (refused-answers _ _ _ (x.all ∙ sym (c.in_err-reduced.ensures.is x.set x.chain)))
+    rw (p.1, p.2) (refused-answers _ _ _ (x.all ∙ sym (c.in_err-reduced.ensures.is
+    ∙ ap (reduction a.pool.now a.table.now) (same-set a.pool.now a.table.now a.words.now _ x.set x.chain c.reduce-arg-2-1.given.1.0))))
 
 pub write-requires : goal.write-requires
 write-requires c =
@@ -43,4 +52,5 @@ returns c =
     let a = c.args in
     let w : Words32 a.words.now = record { word = λ i. (c.type_inv.words i).fits } in
     let x = came-in a.pool.now a.table.now a.words.now w (sym c.in_ok-enter.ensures) in
-    answers-as _ _ _ _ _ (x.all ∙ sym (c.in_ok-reduced.ensures.is x.set x.chain)) c.write.ensures
+    answers-as _ _ _ _ _ (x.all ∙ sym (c.in_ok-reduced.ensures.is
+    ∙ ap (reduction a.pool.now a.table.now) (same-set a.pool.now a.table.now a.words.now _ x.set x.chain c.reduce-arg-2-1.given.1.0))) c.write.ensures

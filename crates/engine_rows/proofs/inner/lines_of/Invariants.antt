@@ -1,15 +1,14 @@
 use mathlib.Core.List.{List}
-use Prim.Native.Nat.{ℕ, ◌-◌, ◌≤◌}
+use Prim.Native.Nat.{◌≤◌}
 use Rattle.rules.specs.Names.{Bytes}
-use Rattle.rules.specs.Trees.{Con}
+use Rattle.laws.specs.Lists.{Every}
+use Rattle.types.specs.Sets.{alone}
+use Rattle.types.specs.Shapes.{cons_of}
 use Rattle.engine_matrix.specs.Grids.{WideGrid}
 use Rattle.engine_matrix.specs.Machine.{colsIn}
-use Rattle.engine_rows.specs.Lines.{Lined, Going}
+use Rattle.engine_rows.specs.Lines.{Plain, Going}
 use Rattle.engine_rows.proofs.inner.lines_of.Given as goal
 
-abbrev pub invariant-loop-at : goal.invariant-loop-at
-invariant-loop-at l = (l.at ≤ l.e) × (l.len ≤ 24) × WideGrid l.grid
-    × ((cs : List (Con ℕ)) (names : List Bytes) → Lined l.s cs 0 l.e → Going names (colsIn l.k) l.s cs l.at l.e l.len l.grid)
-
-abbrev pub decreases-loop-at : goal.decreases-loop-at
-decreases-loop-at l = l.e - l.at
+abbrev pub invariant-lines : goal.invariant-lines
+invariant-lines l = (l.len ≤ 24) × WideGrid l.grid × Every Plain (alone (cons_of l.constraint-iterator))
+    × ((names : List Bytes) → Going names (colsIn l.k) l.fn.constraints.trees.0 (alone (cons_of l.constraint-iterator)) l.len l.grid)

@@ -7,55 +7,55 @@ use Rattle.judge.specs.Rest.{are-bound, no-entries, small, set_there, no-bounds,
 use Rattle.judge.proofs.inner.judge_rest.Goals as goal
 
 pub returns-then-not-fill : goal.returns-then-not-fill
-returns-then-not-fill c = λ cs es n h. no-entries c.args.names.pool.now c.args.names.table.now c.args.set.now c.args.types.now cs es n h
-    c.requires.few c.fill.ensures c.args.bounds.now (c.if-not-fill.true)
+returns-then-not-fill c = λ cs es n h. no-entries c.args.names.pool.now c.args.names.table.now c.args.set.now c.args.proposal.types.now cs es n h
+    c.requires.few c.fill.ensures c.args.proposal.bounds.now (c.if-not-fill.true)
 
 pub returns-in_default : goal.returns-in_default
 returns-in_default c = λ cs es n h.
-    let (bs, b) = are-bound c.args.names.pool.now c.args.names.table.now c.args.set.now c.args.types.now cs es n h c.requires.few c.fill.ensures
+    let (bs, b) = are-bound c.args.names.pool.now c.args.names.table.now c.args.set.now c.args.proposal.types.now cs es n h c.requires.few c.fill.ensures
     (c.if-not-fill.false) in
-    no-bounds c.args.names.pool.now c.args.names.table.now c.args.set.now c.args.types.now cs es n (record { word = λ i. (c.type_inv.set i).fits })
-    c.args.bounds.now bs b.given c.in_default.ensures
+    no-bounds c.args.names.pool.now c.args.names.table.now c.args.set.now c.args.proposal.types.now cs es n (record { word = λ i. (c.type_inv.set i).fits })
+    c.args.proposal.bounds.now bs b.given c.in_default.ensures
 
 pub apart-requires : goal.apart-requires
 apart-requires c =
     let (cs, n) = c.requires.entered in
     let (es, h) = c.requires.slotted in
-    let (bs, b) = are-bound c.args.names.pool.now c.args.names.table.now c.args.set.now c.args.types.now cs es n h c.requires.few c.fill.ensures
+    let (bs, b) = are-bound c.args.names.pool.now c.args.names.table.now c.args.set.now c.args.proposal.types.now cs es n h c.requires.few c.fill.ensures
     (c.if-not-fill.false) in (
       bs,
       (
         names_of (table_of c.args.names.pool.now c.args.names.table.now),
-        tabled c.args.names.pool.now c.args.names.table.now c.args.types.now _ es bs b n.good n.types-short c.fill.auto.places,
+        tabled c.args.names.pool.now c.args.names.table.now c.args.proposal.types.now _ es bs b n.good n.types-short c.fill.auto.places,
       ),
     )
 
 pub returns-then-not-apart : goal.returns-then-not-apart
 returns-then-not-apart c = λ cs es n h.
-    let (bs, b) = are-bound c.args.names.pool.now c.args.names.table.now c.args.set.now c.args.types.now cs es n h c.requires.few c.fill.ensures
+    let (bs, b) = are-bound c.args.names.pool.now c.args.names.table.now c.args.set.now c.args.proposal.types.now cs es n h c.requires.few c.fill.ensures
     (c.if-not-fill.false) in
     let (xs, (r, m)) = c.in-Some.ensures in
-    both c.args.names.pool.now c.args.names.table.now c.args.set.now c.args.types.now cs es n (record { word = λ i. (c.type_inv.set i).fits })
-    c.args.bounds.now bs b.given xs r
+    both c.args.names.pool.now c.args.names.table.now c.args.set.now c.args.proposal.types.now cs es n (record { word = λ i. (c.type_inv.set i).fits })
+    c.args.proposal.bounds.now bs b.given xs r
     (c.apart.ensures bs (names_of (table_of c.args.names.pool.now c.args.names.table.now))
-    (tabled c.args.names.pool.now c.args.names.table.now c.args.types.now _ es bs b n.good n.types-short c.fill.auto.places)
-    (small c.args.names.pool.now c.args.names.table.now c.args.set.now c.args.types.now cs es n (record { word = λ i. (c.type_inv.set i).fits })
+    (tabled c.args.names.pool.now c.args.names.table.now c.args.proposal.types.now _ es bs b n.good n.types-short c.fill.auto.places)
+    (small c.args.names.pool.now c.args.names.table.now c.args.set.now c.args.proposal.types.now cs es n (record { word = λ i. (c.type_inv.set i).fits })
     bs b.good)) (c.if-not-apart.true)
 
 pub try_all-requires : goal.try_all-requires
 try_all-requires c =
     let (cs, n) = c.requires.entered in
     let (es, h) = c.requires.slotted in
-    let (bs, b) = are-bound c.args.names.pool.now c.args.names.table.now c.args.set.now c.args.types.now cs es n h c.requires.few c.fill.ensures
+    let (bs, b) = are-bound c.args.names.pool.now c.args.names.table.now c.args.set.now c.args.proposal.types.now cs es n h c.requires.few c.fill.ensures
     (c.if-not-fill.false) in
     let (xs, (r, m)) = c.in-Some.ensures in
     record {
       there = (
         cs,
-        set_there c.args.names.pool.now c.args.names.table.now c.args.set.now c.args.types.now cs es n
+        set_there c.args.names.pool.now c.args.names.table.now c.args.set.now c.args.proposal.types.now cs es n
             (record { word = λ i. (c.type_inv.set i).fits }),
       );
-      put = (bs, put c.args.names.pool.now c.args.names.table.now c.args.types.now _ es bs b n.good n.types-short c.fill.auto.places);
+      put = (bs, put c.args.names.pool.now c.args.names.table.now c.args.proposal.types.now _ es bs b n.good n.types-short c.fill.auto.places);
       marked =
           (xs, m);
       set_short = n.short;
@@ -64,15 +64,15 @@ try_all-requires c =
 
 pub returns : goal.returns
 returns c = λ cs es n h.
-    let (bs, b) = are-bound c.args.names.pool.now c.args.names.table.now c.args.set.now c.args.types.now cs es n h c.requires.few c.fill.ensures
+    let (bs, b) = are-bound c.args.names.pool.now c.args.names.table.now c.args.set.now c.args.proposal.types.now cs es n h c.requires.few c.fill.ensures
     (c.if-not-fill.false) in
     let (xs, (r, m)) = c.in-Some.ensures in
-    c.try_all.ensures cs bs xs (set_there c.args.names.pool.now c.args.names.table.now c.args.set.now c.args.types.now cs es n
+    c.try_all.ensures cs bs xs (set_there c.args.names.pool.now c.args.names.table.now c.args.set.now c.args.proposal.types.now cs es n
     (record { word = λ i. (c.type_inv.set i).fits }))
-    (put c.args.names.pool.now c.args.names.table.now c.args.types.now _ es bs b n.good n.types-short c.fill.auto.places) m
-    ∙ not-both c.args.names.pool.now c.args.names.table.now c.args.set.now c.args.types.now cs es n (record { word = λ i. (c.type_inv.set i).fits })
-    c.args.bounds.now bs b.given xs r
+    (put c.args.names.pool.now c.args.names.table.now c.args.proposal.types.now _ es bs b n.good n.types-short c.fill.auto.places) m
+    ∙ not-both c.args.names.pool.now c.args.names.table.now c.args.set.now c.args.proposal.types.now cs es n (record { word = λ i. (c.type_inv.set i).fits })
+    c.args.proposal.bounds.now bs b.given xs r
     (c.apart.ensures bs (names_of (table_of c.args.names.pool.now c.args.names.table.now))
-    (tabled c.args.names.pool.now c.args.names.table.now c.args.types.now _ es bs b n.good n.types-short c.fill.auto.places)
-    (small c.args.names.pool.now c.args.names.table.now c.args.set.now c.args.types.now cs es n (record { word = λ i. (c.type_inv.set i).fits })
+    (tabled c.args.names.pool.now c.args.names.table.now c.args.proposal.types.now _ es bs b n.good n.types-short c.fill.auto.places)
+    (small c.args.names.pool.now c.args.names.table.now c.args.set.now c.args.proposal.types.now cs es n (record { word = λ i. (c.type_inv.set i).fits })
     bs b.good)) (c.if-not-apart.false)

@@ -10,7 +10,7 @@ invariant_of-names c =
     let a = c.args in
     let (es, h) = c.requires.slotted in
     record {
-      good = (came-in a.pool.now a.table.now a.set.now a.types.now a.bounds.now es c.requires.table_lent
+      good = (came-in a.pool.now a.table.now a.set.now a.proposal.types.now a.proposal.bounds.now es c.requires.table_lent
           (sym (c.in_ok-enter.ensures es h.many))).known.good;
     }
 
@@ -18,17 +18,17 @@ pub judge_rest-requires : goal.judge_rest-requires
 judge_rest-requires c =
     let a = c.args in
     let (es, h) = c.requires.slotted in
-    let i = came-in a.pool.now a.table.now a.set.now a.types.now a.bounds.now es c.requires.table_lent (sym (c.in_ok-enter.ensures es h.many)) in
+    let i = came-in a.pool.now a.table.now a.set.now a.proposal.types.now a.proposal.bounds.now es c.requires.table_lent (sym (c.in_ok-enter.ensures es h.many)) in
     record { entered = (i.cons, i.known); slotted = (es, h); few = omega (arith, h.many, i.few); work_long = c.requires.work_long }
 
 pub returns : goal.returns
 returns c = λ es h.
     let a = c.args in
-    let i = came-in a.pool.now a.table.now a.set.now a.types.now a.bounds.now es c.requires.table_lent (sym (c.in_ok-enter.ensures es h.many)) in
+    let i = came-in a.pool.now a.table.now a.set.now a.proposal.types.now a.proposal.bounds.now es c.requires.table_lent (sym (c.in_ok-enter.ensures es h.many)) in
     c.judge_rest.ensures i.cons es i.known h ∙ sym i.rest
 
 pub returns-in_err-enter : goal.returns-in_err-enter
 returns-in_err-enter c = λ es h.
     let a = c.args in
     let p = err_from_is_err_and c.from_residual.result c.from_residual.ensures.1 in
-    rw (p.1, p.2) (sym (kept_out a.pool.now a.table.now a.set.now a.types.now a.bounds.now es _ (sym (c.in_err-enter.ensures es h.many))))
+    rw (p.1, p.2) (sym (kept_out a.pool.now a.table.now a.set.now a.proposal.types.now a.proposal.bounds.now es _ (sym (c.in_err-enter.ensures es h.many))))

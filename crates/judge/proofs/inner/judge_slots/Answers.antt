@@ -8,7 +8,7 @@ use Rattle.judge.specs.Entry.{call-short, called, all-lent}
 use Rattle.judge.proofs.inner.judge_slots.Goals as goal
 
 pub returns-then-not-lent : goal.returns-then-not-lent
-returns-then-not-lent c = λ es h. call-short c.args.pool.now c.args.table.now c.args.set.now c.args.types.now c.args.bounds.now c.args.work.now es
+returns-then-not-lent c = λ es h. call-short c.args.pool.now c.args.table.now c.args.set.now c.args.proposal.types.now c.args.proposal.bounds.now c.args.work.now es
     (Err ShortBuffer) refl (sym c.lent.ensures ∙ ap (λ (b : Bool). need b 10) (c.if-not-lent.true))
 
 pub judge_set-answer-requires : goal.judge_set-answer-requires
@@ -20,5 +20,5 @@ judge_set-answer-requires c =
 pub returns : goal.returns
 returns c = λ es h.
     let e = sym c.lent.ensures ∙ ap (λ (b : Bool). need b 10) (c.if-not-lent.false) in
-    called c.args.pool.now c.args.table.now c.args.set.now c.args.types.now c.args.bounds.now c.args.work.now es c.judge_set-answer.result
+    called c.args.pool.now c.args.table.now c.args.set.now c.args.proposal.types.now c.args.proposal.bounds.now c.args.work.now es c.judge_set-answer.result
     c.judge_set-answer.new.work _ c.judge_set-answer.auto.work e (c.judge_set-answer.ensures es h) c.clear.ensures

@@ -22,7 +22,7 @@ use Rattle.judge_meaning.proofs.Arms.{
   no-struct,
   no-list,
 }
-use Rattle.judge_meaning.proofs.Rows.{passed, ended, size-some, split-size, left-ended, right-ended, finished, fn-size, struct-size, list-size}
+use Rattle.judge_meaning.proofs.Rows.{passed, ended, split-size, left-ended, right-ended, finished, fn-size, struct-size, list-size}
 use Rattle.judge_meaning.proofs.inner.+means.Goals as goal
 use Rattle.judge_meaning.proofs.inner.+means.Goals.{all_mean-in_default, all_mean-in_default-2}
 

@@ -1,4 +1,4 @@
-use Rattle.std.proofs.Common.{ℕ, ◌+◌, ◌*◌, ◌≤◌, false}
+use Rattle.std.proofs.Common.{◌+◌, ◌*◌, ◌≤◌, false}
 use Rattle.rules.specs.Plain.{plain, plainTys}
 use Rattle.rules.specs.Trees.{size, sizeTys}
 use Rattle.judge_meaning.proofs.Rows.{Decide}

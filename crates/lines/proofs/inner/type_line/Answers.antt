@@ -1,73 +1,41 @@
 -- `inner::type_line` meets its contract.
-use mathlib.Core.Path.{subst}
-use mathlib.Core.List.{[]}
-use Prim.Native.Nat.{ℕ}
 use native.Mathlib.Omega.{arith}
-use lib.ListN.{replicate, length-replicate}
-use Rattle.rules.specs.Names.{table_of, numbersOf}
-use Rattle.rules.specs.Lines.{constraints}
-use Rattle.lines_set.specs.StepLoop.{Issues, Wrote}
-use Rattle.lines.specs.Whole.{line-is, step-there, names-enough, names-held, set-written, type-made, large-made}
+use Rattle.std.proofs.Common.{◌≡◌, refl, rules}
+use lib.ListN.{length-replicate}
+use Prim.Native.Nat.{ℕ}
+use Rattle.lines_entry.specs.Told.{steps-long}
+use Rattle.lines.specs.Standing.{set-stands, set-large}
+use Rattle.lines.specs.Whole.{cs-good, cs-flat, step-there, type-made, large-made}
 use Rattle.lines.proofs.inner.type_line.Goals as goal
 
-pub put_line-requires : goal.put_line-requires
-put_line-requires c =
-    let (ss, h) = c.requires.read in
-    record {
-      read = (ss, line-is _ _ _ _ _ _ c.args.names.good ss h);
-      few = h.types-short;
-      lent = names-enough _ _ _ _ _ _ c.args.names.good ss h;
-      short = h.few;
-      held = names-held _ _ _ _ _ _ c.args.names.good ss h;
-    }
+pub returns-then-n-gt-RECORDS : goal.returns-then-n-gt-RECORDS
+returns-then-n-gt-RECORDS c =
+    let h = c.requires.read in
+    let g = c.args.names.good in
+    large-made _ _ _ g _ h _ (set-large _ _ _ (cs-good _ _ _ g _ h) (cs-flat _ _ _ g _ h) _ _ c.put_line.ensures refl c.if-n-gt-RECORDS.true)
 
 pub overflow_sub-v : goal.overflow_sub-v
-overflow_sub-v c =
-    let (ss, h) = c.requires.read in
-    step-there _ _ _ _ _ _ c.args.names.good ss h
+overflow_sub-v c = omega (arith, step-there _ _ _ c.args.names.good _ c.requires.read, steps-long c.args.steps.now)
 
-pub bounds-line-line : goal.bounds-line-line
-bounds-line-line c =
-    let (ss, h) = c.requires.read in
-    omega (arith, step-there _ _ _ _ _ _ c.args.names.good ss h, names-enough _ _ _ _ _ _ c.args.names.good ss h)
+pub bounds-lent-steps : goal.bounds-lent-steps
+bounds-lent-steps c =
+    omega (arith, step-there _ _ _ c.args.names.good _ c.requires.read, steps-long c.args.steps.now, c.requires.read.enough)
 
-pub overflow_mul-e : goal.overflow_mul-e
-overflow_mul-e c =
-    let (ss, h) = c.requires.read in
-    let wrote : Wrote (constraints (numbersOf (table_of c.args.names.pool.now c.args.names.table.now)) c.args.line.lent.now [] ss) (replicate 8192 0)
-    c.put_line.new.dst c.in-Ok.n = subst (Issues _ _ _) c.in-Ok.is (c.put_line.ensures ss (line-is _ _ _ _ _ _ c.args.names.good ss h)) in
-    omega (arith, wrote.within)
+pub settle-requires-clause-stands : goal.settle-requires-clause-stands
+settle-requires-clause-stands c =
+    let h = c.requires.read in
+    let g = c.args.names.good in
+    let back : c.set-2-1.given.0 ≡ c.put_line.new.out.words.now = search rules in (
+      _,
+      set-stands _ _ _ (cs-good _ _ _ g _ h) (cs-flat _ _ _ g _ h) _ _ c.put_line.ensures refl c.if-n-gt-RECORDS.false
+          (omega (arith, length-replicate {A = ℕ} 8192 0)) _ back,
+    )
 
-pub slice_bounds-settle-end : goal.slice_bounds-settle-end
-slice_bounds-settle-end c =
-    let (ss, h) = c.requires.read in
-    let wrote : Wrote (constraints (numbersOf (table_of c.args.names.pool.now c.args.names.table.now)) c.args.line.lent.now [] ss) (replicate 8192 0)
-    c.put_line.new.dst c.in-Ok.n = subst (Issues _ _ _) c.in-Ok.is (c.put_line.ensures ss (line-is _ _ _ _ _ _ c.args.names.good ss h)) in
-    omega (arith, wrote.within, c.put_line.auto.dst)
-
-pub settle-requires : goal.settle-requires
-settle-requires c =
-    let (ss, h) = c.requires.read in
-    let wrote : Wrote (constraints (numbersOf (table_of c.args.names.pool.now c.args.names.table.now)) c.args.line.lent.now [] ss) (replicate 8192 0)
-    c.put_line.new.dst c.in-Ok.n = subst (Issues _ _ _) c.in-Ok.is (c.put_line.ensures ss (line-is _ _ _ _ _ _ c.args.names.good ss h)) in
-    record {
-      stands = (
-        _,
-        set-written _ _ _ _ _ _ c.args.names.good ss h (replicate 8192 0) _ _ (omega (arith, length-replicate {A = ℕ} 8192 0))
-            wrote,
-      );
-      room = c.requires.room;
-    }
-
-pub returns-in-Ok : goal.returns-in-Ok
-returns-in-Ok c = λ ss h.
-    let wrote : Wrote (constraints (numbersOf (table_of c.args.names.pool.now c.args.names.table.now)) c.args.line.lent.now [] ss) (replicate 8192 0)
-    c.put_line.new.dst c.in-Ok.n = subst (Issues _ _ _) c.in-Ok.is (c.put_line.ensures ss (line-is _ _ _ _ _ _ c.args.names.good ss h)) in
-    type-made _ _ _ _ _ _ c.args.names.good ss h _ _
-    (c.settle.ensures _ (set-written _ _ _ _ _ _ c.args.names.good ss h (replicate 8192 0) _ _ (omega (arith, length-replicate {A = ℕ} 8192 0))
-    wrote))
-
-pub returns-in-Err : goal.returns-in-Err
-returns-in-Err c = λ ss h.
-    let over = subst (Issues _ _ _) c.in-Err.is (c.put_line.ensures ss (line-is _ _ _ _ _ _ c.args.names.good ss h)) in
-    rw over.0 (large-made _ _ _ _ _ _ c.args.names.good ss h _ over.1)
+pub returns : goal.returns
+returns c =
+    let h = c.requires.read in
+    let g = c.args.names.good in
+    let back : c.set-2-1.given.0 ≡ c.put_line.new.out.words.now = search rules in
+    type-made _ _ _ g _ h _ (steps-long c.args.steps.now) _ _ (c.settle.ensures _
+    (set-stands _ _ _ (cs-good _ _ _ g _ h) (cs-flat _ _ _ g _ h) _ _ c.put_line.ensures refl c.if-n-gt-RECORDS.false
+    (omega (arith, length-replicate {A = ℕ} 8192 0)) _ back))

@@ -60,16 +60,16 @@ round-requires c =
 pub overflow_add-completed : goal.overflow_add-completed
 overflow_add-completed c = let (cs, h) = c.requires.begun in
     let g = c.turns.invariant.4 cs h in
-    let t = going-here _ _ c.args.names.good cs h.admitted _ _ _ _ g _ (round-whole c.turns.state.now (c.round.ensures g.state (whole c.turns.state.now g.held)))
-    _ (c.in-Ok-Read.is ∙ ap Ok c.in-Ok-Read.field-0-is) in
+    let t = going-here _ _ c.args.names.good cs h.admitted _ _ _ _ g _
+    (round-whole c.turns.state.now (c.round.ensures g.state (whole c.turns.state.now g.held))) _ (c.in-Ok-Read.is ∙ ap Ok c.in-Ok-Read.field-0-is) in
     omega (arith, t.1)
 
 pub turns-smaller-in-Ok-Read : goal.turns-smaller-in-Ok-Read
 turns-smaller-in-Ok-Read c =
     let (cs, h) = c.requires.begun in
     let g = c.turns.invariant.4 cs h in
-    let t = going-here _ _ c.args.names.good cs h.admitted _ _ _ _ g _ (round-whole c.turns.state.now (c.round.ensures g.state (whole c.turns.state.now g.held)))
-    _ (c.in-Ok-Read.is ∙ ap Ok c.in-Ok-Read.field-0-is) in
+    let t = going-here _ _ c.args.names.good cs h.admitted _ _ _ _ g _
+    (round-whole c.turns.state.now (c.round.ensures g.state (whole c.turns.state.now g.held))) _ (c.in-Ok-Read.is ∙ ap Ok c.in-Ok-Read.field-0-is) in
     omega (arith, t.1)
 
 pub turns-preserved-in-Ok-Read : goal.turns-preserved-in-Ok-Read
@@ -114,7 +114,8 @@ turns-preserved c =
           let g = i cs h in
           rw (c.swap.ensures.x_after, handed next c.round.new.next)
           (going-written _ _ c.args.names.good cs h.admitted _ _ _ _ g _
-          (round-whole c.turns.state.now (c.round.ensures g.state (whole c.turns.state.now g.held))) _ (c.in-Ok-Written.is ∙ ap Ok c.in-Ok-Written.field-0-is)).0,
+          (round-whole c.turns.state.now (c.round.ensures g.state (whole c.turns.state.now g.held))) _
+          (c.in-Ok-Written.is ∙ ap Ok c.in-Ok-Written.field-0-is)).0,
     )
 
 pub finish-requires : goal.finish-requires

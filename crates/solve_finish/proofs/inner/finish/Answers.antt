@@ -19,8 +19,8 @@ returns-then-left-gt0 c = λ st k.
 pub accept-bounds-requires-clause-standing : goal.accept-bounds-requires-clause-standing
 accept-bounds-requires-clause-standing c =
     let (st, k) = c.requires.standing in
-    let h = k.held in
-    (st, k, (none-remains _ _ _ _ (of-state _ _ _ _ st h c.requires.state_room c.copy_others-arg-2-1.given.1.0 c.copy_others-left.ensures) c.if-left-gt0.false).0)
+    let o = of-state _ _ _ _ st k.held c.requires.state_room c.copy_others-arg-2-1.given.1.0 c.copy_others-left.ensures in
+    (st, k, (none-remains _ _ _ _ o c.if-left-gt0.false).0)
 
 pub returns : goal.returns
 returns c = λ st k.

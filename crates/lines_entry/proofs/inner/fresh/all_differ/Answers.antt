@@ -1,7 +1,8 @@
 -- `inner::fresh::all_differ` meets its contract.
 use mathlib.Core.Path.{sym, ap, ◌∙◌}
 use Rattle.rules.specs.Calls.{differ}
-use Rattle.lines_entry.specs.Used.{differ-hit, differ-miss, rest-none}
+use Rattle.lines_entry.specs.StepLists.{rest-none}
+use Rattle.lines_entry.specs.Used.{differ-hit, differ-miss}
 use Rattle.lines_entry.proofs.inner.fresh.all_differ.Goals as goal
 
 pub returns-then-is_among : goal.returns-then-is_among

@@ -3,7 +3,8 @@ use mathlib.Core.Path.{sym, ap, ◌∙◌}
 use lib.Dec.{ltb}
 use lib.ListN.{get_or}
 use Rattle.rules.specs.Base.{all}
-use Rattle.lines_entry.specs.Used.{all-hit, all-miss, rest-none}
+use Rattle.lines_entry.specs.StepLists.{rest-none}
+use Rattle.lines_entry.specs.Used.{all-hit, all-miss}
 use Rattle.lines_entry.proofs.inner.fresh.all_held.Goals as goal
 
 pub is_held-requires : goal.is_held-requires

@@ -2,7 +2,8 @@
 use mathlib.Core.Path.{sym, ap, ◌∙◌}
 use lib.Dec.{eqb}
 use Rattle.rules.specs.Base.{any}
-use Rattle.lines_entry.specs.Used.{among-hit, among-miss, rest-none}
+use Rattle.lines_entry.specs.StepLists.{rest-none}
+use Rattle.lines_entry.specs.Used.{among-hit, among-miss}
 use Rattle.lines_entry.proofs.inner.fresh.is_among.Goals as goal
 
 pub returns-then-x-names : goal.returns-then-x-names

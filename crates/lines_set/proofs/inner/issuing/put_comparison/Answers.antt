@@ -1,6 +1,0 @@
--- `inner::issuing::put_comparison` meets its contract.
-use Rattle.lines_set.specs.Issued.{comparison-put}
-use Rattle.lines_set.proofs.inner.issuing.put_comparison.Goals as goal
-
-pub returns : goal.returns
-returns c = λ ν. comparison-put ν _ _ _ _ _ _ _ _ c.put_dimensions.ensures c.put_same.ensures c.put_boolean.ensures
