@@ -27,9 +27,7 @@ fn judge_sheet(names: NameTable, sheet: &Sheet, room: &mut Room) -> Outcome
     match sheet.content {
         Content::Set(_) => {
             let confirmed = solve_and_judge(
-                names.pool,
-                names.table,
-                true,
+                Ok(names),
                 &sheet.records,
                 &mut room.res,
                 &mut room.work,

@@ -36,8 +36,7 @@ pub fn conflict_in(
     match outcome {
         Outcome::Remains { .. } => {
             find_among(
-                names.pool,
-                names.table,
+                Ok(names),
                 &sheet.records,
                 &mut room.res,
                 &mut room.work,

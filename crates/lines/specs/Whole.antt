@@ -1,25 +1,25 @@
 -- The whole call past the check of 10: from the steps in words to the type of the last one.
-use Rattle.std.specs.Prelude.{Result, Err, ◌≡◌, refl, Bool, List, [], ◌∷◌, ℕ, zero, suc, ◌-◌, ◌*◌, ◌/◌, ◌≤◌, ◌<◌, leb, ltb, length, get_or, take}
+use Rattle.std.specs.Prelude.{Result, Err, ◌≡◌, refl, Bool, List, [], ◌∷◌, ℕ, suc, ◌-◌, ◌*◌, ◌≤◌, ◌<◌, leb, length, get_or}
 use Rattle.std.proofs.Common.{sym, subst, ◌∙◌, arith}
 use Rattle.std.proofs.Math.Path.{ap}
 use Rattle.std.proofs.Math.Bool.{true}
 use Rattle.std.proofs.Math.Option.{some}
-use borrow.Author.Tests.{ltb-true, leb-true, lt-leb}
+use borrow.Author.Tests.{leb-true, lt-leb}
 use Rattle.std.proofs.Math.ListN.{replicate}
-use Rattle.rules.specs.Base.{Got, got, refused, ◌>>=◌, ◌>>◌, need, bounded, all, sum_of}
+use Rattle.rules.specs.Base.{Got, got, refused, ◌>>=◌, need, bounded, all, sum_of}
 use Rattle.rules.specs.Trees.{Names, Con, sizeCon}
 use Rattle.rules.specs.Names.{Table, table_of, numbersOf, is_held, lentTable, tableGiven}
 use Rattle.rules.specs.Replacing.{replaceTy, bindings}
 use Rattle.rules.specs.Refusals.{number_of}
 use Rattle.rules.specs.WellFormed.{goodCon}
 use Rattle.rules.specs.Writing.{Rec, words, writeTy}
-use Rattle.rules.specs.Calls.{shortLists, shortNumbers, tableKept, differ, lent, resultAfter}
+use Rattle.rules.specs.Calls.{tableKept, differ, lent, resultAfter}
 use Rattle.rules.specs.Steps.{LineStep, whole, lineGiven}
 use Rattle.rules.specs.Lines.{its, constraints, last_of, settledSet, agreedSet, lineType, fresh, lineLent, lineShort, checkedLine, checkLineCall}
 use Rattle.rules.specs.declared.Refusal.{Refusal}
 use Rattle.rules.specs.declared.Refusal.TheVariants.{TooLarge}
-use Rattle.laws.specs.Checks.{need-passed, first-passed}
-use Rattle.laws.specs.Lists.{clash, true≢false, and_left, and_right, bound-step, is_all, Every}
+use Rattle.laws.specs.Checks.{need-passed}
+use Rattle.laws.specs.Lists.{true≢false, and_left, bound-step, is_all, Every}
 use Rattle.laws.specs.NameTable.{Good, given-good}
 use Rattle.theorems_soundness.specs.Claims.{Ordered}
 use Rattle.theorems_soundness.proofs.Words.{numbers-ordered}

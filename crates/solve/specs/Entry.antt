@@ -1,20 +1,14 @@
 -- The checks of a set past that of 10, and what is known where they are met; and the whole call.
-use Rattle.std.specs.Prelude.{◌≡◌, Bool, false, ◌&&◌, ℕ, ◌/◌, ◌≤◌, ◌<◌, leb, replicate}
-use Rattle.std.proofs.Math.Path.{refl, sym}
-use Rattle.std.proofs.Common.{◌∙◌}
-use Rattle.std.proofs.Math.Bool.{true, and-eq-true_iff}
-use mathlib.Core.List.{List, [], ◌∷◌}
-use native.Mathlib.Omega.{arith}
-use borrow.Author.Tests.{leb-true, le-leb, lt-leb}
-use Rattle.std.proofs.Math.ListN.{length}
-use Rattle.rules.specs.Base.{Got, got, refused, ◌>>=◌, ◌>>◌, need, bounded, all, collect, max_of}
+use Rattle.std.specs.Prelude.{Result, Ok, Err, IfOk, ◌≡◌, Bool, List, [], ◌∷◌, ℕ, ◌/◌, ◌≤◌, ◌&&◌, leb, length, replicate}
+use Rattle.std.proofs.Common.{refl, sym, ap, ap₂, ◌∙◌, arith}
+use Rattle.std.proofs.Math.Bool.{and-eq-true_iff}
+use borrow.Author.Tests.{leb-true, le-leb}
+use Rattle.rules.specs.Base.{Got, got, refused, ◌>>=◌, ◌>>◌, need, all, collect}
 use Rattle.rules.specs.Calls.{
   shortLists,
   tableKept,
   setGiven,
   apart,
-  aloneGiven,
-  setCall,
   lent,
   resultAfter,
   workAfter,
@@ -24,61 +18,61 @@ use Rattle.rules.specs.Calls.{
   solveCall,
 }
 use Rattle.rules.specs.Contents.{unmixed}
-use Rattle.rules.specs.Names.{table_of, tableGood, lentTable}
-use Rattle.rules.specs.Refusals.{number_of}
-use Rattle.rules.specs.Solving.{Answer, solve}
-use Rattle.rules.specs.Trees.{Con, opensCon, sizeCon, depthCon}
+use Rattle.rules.specs.Names.{Table, table_of, tableGood, tableGiven, lentTable}
+use Rattle.rules.specs.Refusals.{number_of, toldBy}
+use Rattle.rules.specs.Solving.{Answer}
+use Rattle.rules.specs.Trees.{Con, opensCon}
 use Rattle.rules.specs.declared.Refusal.{Refusal}
 use Rattle.rules.specs.declared.Refusal.TheVariants.{ShortBuffer}
-use Rattle.laws.specs.Checks.{need-passed, passed}
-use Rattle.laws.specs.Lists.{clash, and_left, all-every, all-is}
-use Rattle.laws.specs.NameTable.{Good, good-laid}
-use Rattle.laws.specs.Nesting.{most}
+use Rattle.laws.specs.Checks.{need-passed}
+use Rattle.laws.specs.Lists.{clash}
+use Rattle.laws.specs.NameTable.{good-laid}
+use Rattle.names.specs.Told.{unit_of}
+use Rattle.names.specs.declared.tables.NameTable.{NameTable}
 use Rattle.records.specs.Found.{Words32}
-use Rattle.records.specs.Good as records
-use Rattle.records.specs.Good.{numbers, holding}
-use Rattle.records.specs.Holds.{HoldsCon}
-use Rattle.records.specs.Whole.{entry-good, set_is}
+use Rattle.records.specs.Good.{numbers}
+use Rattle.records.specs.Whole.{set_is}
 use Rattle.queries.specs.Marks.{Small}
 use Rattle.queries.specs.Runs.{set-small, set-opens}
 use Rattle.queries.specs.Scans.{opensIn}
-use Rattle.replace.specs.Given.{row, given-cons}
-use Rattle.theorems_ending.proofs.Sets.{Admitted}
+use Rattle.replace.specs.Given.{given-cons}
+use Rattle.types.proofs.GivenSets.{Given, given-in}
+use Rattle.types.specs.Given.{over_table, call_over, constraints_in}
+use Rattle.types.specs.declared.GivenSet.{GivenSet}
 use Rattle.solve.specs.declared.Solution.{Solution}
 use Rattle.solve.specs.Told.{refusedAs, solutionAs, Stands, Answered, answerTo}
 use Rattle.solve.specs.Running.{Begun}
 
+-- a set over a table, whose names are apart
+abbrev pub entered : Result NameTable Refusal → List ℕ → Got (List (Con ℕ))
+entered names ws = shortLists (ws ∷ []) >> over_table names (λ t. setGiven t ws >>= λ cs. apart t (collect opensCon cs) >> got cs)
+
 -- ══ A row of checks ══
 
-module _ {A B : Type 0} (u : A → Got (Unit {0})) (v : A → B) where
+module _ {A B : Type 0} (u : A → Got (Unit {0})) (g : A → Got B) where
   -- the checks of the paper, and then the answer
   abbrev whole : Got (Unit {0}) → Got (Unit {0}) → Got A → Got B
-  whole s k m = s >>= λ _. k >>= λ _. m >>= λ a. u a >>= λ _. got (v a)
+  whole s k m = s >>= λ _. k >>= λ _. m >>= λ a. u a >>= λ _. g a
 
-  pub record Met (s k : Got (Unit {0})) (m : Got A) : Type 0 where
-    pub value : A
-    pub short : s ≡ got tt
-    pub kept : k ≡ got tt
-    pub is : m ≡ got value
-    pub all : whole s k m ≡ got (v value)
+  met : (s k : Got (Unit {0})) (m : Got A) (a : A) → k ≡ got tt → (s >> (m >>= λ x. u x >> got x)) ≡ got a → whole s k m ≡ g a
+  met (refused i) k m a h e = clash e
+  met (got x) (refused i) m a h e = clash h
+  met (got x) (got y) (refused i) a h e = clash e
+  met (got x) (got y) (got z) a h e = go (u z) refl
+    where
+      go : (v : Got (Unit {0})) → u z ≡ v → (u z >>= λ _. g z) ≡ g a
+      go (refused i) q = let n : refused i ≡ got a = rw q at e in clash n
+      go (got w) q = let n : got z ≡ got a = rw q at e in let same : z ≡ a = cc in rw q (ap g same)
 
-  met : (l s k : Got (Unit {0})) (m : Got A) (w : Got (Unit {0})) → ((a : A) → m ≡ got a → w ≡ u a)
-      → (l >> s >> k >> m >> got (tt {0}) >> w) ≡ got tt → Met s k m
-  met (refused i) s k m w h e = clash e
-  met (got x) (refused i) k m w h e = clash e
-  met (got x) (got y) (refused i) m w h e = clash e
-  met (got x) (got y) (got z) (refused i) w h e = clash e
-  met (got x) (got y) (got z) (got a) w h e = record { value = a; short = refl; kept = refl; is = refl; all = rw (← h a refl, e) }
-
-  unmet : (l s k : Got (Unit {0})) (m : Got A) (w : Got (Unit {0})) (n : ℕ) → l ≡ got tt → ((a : A) → m ≡ got a → w ≡ u a)
-      → (l >> s >> k >> m >> got (tt {0}) >> w) ≡ refused n → whole s k m ≡ refused n
-  unmet (refused i) s k m w n l h e = clash l
-  unmet (got x) (refused i) k m w n l h e = cc
-  unmet (got x) (got y) (refused i) m w n l h e = cc
-  unmet (got x) (got y) (got z) (refused i) w n l h e = cc
-  unmet (got x) (got y) (got z) (got a) w n l h e = rw (← h a refl, e)
-
--- ══ Is a set well formed, where the table's check was made before ══
+  unmet : (s k : Got (Unit {0})) (m : Got A) (n : ℕ) → k ≡ got tt → (s >> (m >>= λ x. u x >> got x)) ≡ refused n → whole s k m ≡ refused n
+  unmet (refused i) k m n h e = cc
+  unmet (got x) (refused i) m n h e = clash h
+  unmet (got x) (got y) (refused i) n h e = cc
+  unmet (got x) (got y) (got z) n h e = go (u z) refl
+    where
+      go : (v : Got (Unit {0})) → u z ≡ v → (u z >>= λ _. g z) ≡ refused n
+      go (refused i) q = let o : refused i ≡ refused n = rw q at e in rw q (cc)
+      go (got w) q = let o : got z ≡ refused n = rw q at e in clash (sym o)
 
 pub long-table : (pool table : List ℕ) → lentTable pool table ≡ got tt → (8192 ≤ length pool) × (257 ≤ length table)
 unfolding lentTable
@@ -86,95 +80,91 @@ long-table pool table l =
     let b = (and-eq-true_iff (leb 8192 (length pool)) (leb 257 (length table))).0 (need-passed (leb 8192 (length pool) && leb 257 (length table)) 10 l) in
     (leb-true 8192 (length pool) b.0, leb-true 257 (length table) b.1)
 
-module _ (pool table ws : List ℕ) (good : Bool) (l : lentTable pool table ≡ got tt) (g : good ≡ tableGood (table_of pool table)) where
-  pub too_long : 8192 < length ws → refused 8 ≡ setCall pool table ws
-  unfolding setCall aloneGiven shortLists all
-  too_long h = sym (rw (l, lt-leb (length ws) 8192 h))
+as-refused : {A B : Type 0} (l : Got (Unit {0})) (n k : ℕ) → ◌≡◌ {A = Got A} (refused n) (l >> refused k) → ◌≡◌ {A = Got B} (l >> refused k) (refused n)
+as-refused (refused i) n k e = cc
+as-refused (got x) n k e = cc
 
-  module _ (h : length ws ≤ 8192) where
-    pub bad-table : good ≡ false → refused 1 ≡ setCall pool table ws
-    unfolding setCall aloneGiven shortLists tableKept all
-    bad-table b = sym (rw (l, le-leb (length ws) 8192 h, sym g ∙ b))
+-- what is made of a set whose names are apart: the calls that solve
+module _ {A : Type 0} (g : Table → List (Con ℕ) → Got A) where
+  abbrev made_past : Table → Got (Unit {0}) → List ℕ → Got A
+  made_past t k ws = shortLists (ws ∷ []) >>= λ _. k >>= λ _. setGiven t ws >>= λ cs. apart t (collect opensCon cs) >>= λ _. g t cs
 
-    pub alone : good ≡ true → aloneGiven pool table ws ≡ got tt
-    unfolding aloneGiven shortLists tableKept all
-    alone b = rw (l, le-leb (length ws) 8192 h, sym g ∙ b)
+  abbrev pub made : Table → List ℕ → Got A
+  made t ws = made_past t (tableKept t) ws
 
--- ══ The checks of this call ══
+  kept : (n : NameTable) → tableKept (table_of n.pool.now n.table.now) ≡ got tt
+  unfolding tableKept
+  kept n = rw n.good.good
 
-module _ (pool table ws : List ℕ) where
-  -- the set is well formed, and no name is both a variable and a parameter
-  abbrev pub entered : Got (Unit {0})
-  entered = setCall pool table ws >> need (unmixed (numbers pool table) (opensIn ws 0 (length ws / 4))) 4
+  module _ (ws : List ℕ) where
+    pub came-in : (names : Result NameTable Refusal) (s : GivenSet) → names ≡ Ok s.names → got (constraints_in s) ≡ entered names ws
+        → call_over names made ws ≡ g (table_of s.names.pool.now s.names.table.now) (constraints_in s)
+    came-in names s i e =
+        let t = table_of s.names.pool.now s.names.table.now in
+        rw i (met (λ cs. apart t (collect opensCon cs)) (g t) (shortLists (ws ∷ [])) (tableKept t) (setGiven t ws) (constraints_in s) (kept s.names) (sym (rw i at e)))
 
-  -- what the check of 4 asks
-  pub entry-small : Words32 ws → setCall pool table ws ≡ got tt → Small (opensIn ws 0 (length ws / 4))
-  unfolding setCall
-  entry-small w e =
-      let (cs, (a, g)) = passed (aloneGiven pool table ws) (setGiven (table_of pool table) ws) e in
-      set-small pool table 0 ws cs 0 (length ws / 4) (set_is pool table ws w cs g) (good-laid (entry-good pool table ws a)).few
+    pub kept_out : (names : Result NameTable Refusal) (n : ℕ) → refused n ≡ entered names ws → call_over names made ws ≡ refused n
+    kept_out (Err why) n e = as-refused (shortLists (ws ∷ [])) n (number_of why) e
+    kept_out (Ok names) n e =
+        let t = table_of names.pool.now names.table.now in
+        unmet (λ cs. apart t (collect opensCon cs)) (g t) (shortLists (ws ∷ [])) (tableKept t) (setGiven t ws) n (kept names) (sym e)
 
-  module _ (w : Words32 ws) where
-    opened : (cs : List (Con ℕ)) → setGiven (table_of pool table) ws ≡ got cs
-        → need (unmixed (numbers pool table) (opensIn ws 0 (length ws / 4))) 4 ≡ apart (table_of pool table) (collect opensCon cs)
-    unfolding apart
-    opened cs g = rw (set-opens pool table 0 ws cs 0 (length ws / 4) (set_is pool table ws w cs g))
+  module _ (pool table : List ℕ) (l : lentTable pool table ≡ got tt) where
+    refused-table : (k : ℕ) (a : Got (Unit {0})) → tableKept (table_of pool table) ≡ a → refused k ≡ (lentTable pool table >> a)
+        → ◌≡◌ {A = List ℕ → Got A} (λ ws. shortLists (ws ∷ []) >> refused k) (made (table_of pool table))
+    refused-table k (got u) q e = clash (let z : refused k ≡ got u = rw l at e in z)
+    refused-table k (refused j) q e =
+        let z : refused k ≡ refused j = rw l at e in
+        ap (made_past (table_of pool table)) (z ∙ sym q)
 
-    -- what was given, and what is known of it
-    pub record Entered : Type 0 where
-      pub set : List (Con ℕ)
-      pub good : Good pool table
-      pub short : length ws ≤ 8192
-      pub given : setGiven (table_of pool table) ws ≡ got set
-      pub all : solvedSet (table_of pool table) ws ≡ got (solve (numbers pool table) bounded set)
+    -- over the table that was tested it is what the call asks
+    pub tested : (names : Result NameTable Refusal) → toldBy unit_of names ≡ tableGiven pool table
+        → IfOk names (λ n. (n.pool.now ≡ pool) × (n.table.now ≡ table)) → ◌≡◌ {A = List ℕ → Got A} (call_over names made) (made (table_of pool table))
+    unfolding tableGiven tableKept
+    tested (Ok n) e i = ap₂ (λ (p q : List ℕ). made (table_of p q)) i.0 i.1
+    tested (Err why) e i = refused-table (number_of why) (tableKept (table_of pool table)) refl e
 
-    set-short : shortLists (ws ∷ []) ≡ got tt → length ws ≤ 8192
-    unfolding shortLists all
-    set-short s = leb-true (length ws) 8192 (and_left (leb (length ws) 8192) true (need-passed (leb (length ws) 8192 && true) 8 s))
+-- ══ What is known of a set that came in ══
 
-    table-good : lentTable pool table ≡ got tt → tableKept (table_of pool table) ≡ got tt → Good pool table
-    unfolding tableKept
-    table-good l k =
-        let b = long-table pool table l in
-        record { bytes = b.0; words = b.1; good = need-passed (tableGood (table_of pool table)) 1 k }
+through : {A : Type 0} (l : Got (Unit {0})) (m : Got A) (u : A → Got (Unit {0})) (a : A) → got a ≡ (l >> (m >>= λ x. u x >> got x)) → got a ≡ (l >> m)
+through (refused i) m u a e = e
+through (got x) (refused i) u a e = e
+through (got x) (got z) u a e = go (u z) refl
+  where
+    go : (v : Got (Unit {0})) → u z ≡ v → got a ≡ got z
+    go (refused i) q = clash (let n : refused i ≡ got a = sym (rw q at e) in n)
+    go (got w) q = rw q at e
 
-    pub came-in : lentTable pool table ≡ got tt → entered ≡ got tt → Entered
-    unfolding setCall aloneGiven solvedSet
-    came-in l e =
-        let p = met (λ cs. apart (table_of pool table) (collect opensCon cs)) (solve (numbers pool table) bounded) (lentTable pool table)
-        (shortLists (ws ∷ [])) (tableKept (table_of pool table)) (setGiven (table_of pool table) ws)
-        (need (unmixed (numbers pool table) (opensIn ws 0 (length ws / 4))) 4) opened e in
-        record { set = p.value; good = table-good l p.kept; short = set-short p.short; given = p.is; all = p.all }
+pub entered-given : (ws : List ℕ) (names : Result NameTable Refusal) (s : GivenSet) → names ≡ Ok s.names → got (constraints_in s) ≡ entered names ws → Given ws s
+entered-given ws names s i e =
+    let t = table_of s.names.pool.now s.names.table.now in
+    given-in (Ok s.names) ws s refl (through (shortLists (ws ∷ [])) (setGiven t ws) (λ cs. apart t (collect opensCon cs)) (constraints_in s) (rw i at e))
 
-    pub kept_out : (n : ℕ) → lentTable pool table ≡ got tt → entered ≡ refused n → solvedSet (table_of pool table) ws ≡ refused n
-    unfolding setCall aloneGiven solvedSet
-    kept_out n l e =
-        unmet (λ cs. apart (table_of pool table) (collect opensCon cs)) (solve (numbers pool table) bounded) (lentTable pool table)
-        (shortLists (ws ∷ [])) (tableKept (table_of pool table)) (setGiven (table_of pool table) ws)
-        (need (unmixed (numbers pool table) (opensIn ws 0 (length ws / 4))) 4) n l opened e
+module _ (ws : List ℕ) (w : Words32 ws) (s : GivenSet) (x : Given ws s) where
+  pub entry-small : Small (opensIn ws 0 (length ws / 4))
+  entry-small =
+      let n = s.names in
+      set-small n.pool.now n.table.now 0 ws (constraints_in s) 0 (length ws / 4) (set_is n.pool.now n.table.now ws w (constraints_in s) x.is)
+      (good-laid n.good).few
 
-    -- ══ The set in the work buffer ══
+  pub entry-opens : opensIn ws 0 (length ws / 4) ≡ collect opensCon (constraints_in s)
+  entry-opens =
+      let n = s.names in
+      set-opens n.pool.now n.table.now 0 ws (constraints_in s) 0 (length ws / 4) (set_is n.pool.now n.table.now ws w (constraints_in s) x.is)
 
-    module _ (x : Entered) where
-      set-admitted : Admitted (numbers pool table) (holding pool table) x.set
-      set-admitted =
-          let h = given-cons pool table ws w x.set x.given in
-          record { good = h.1; small = omega (arith, h.0.ends, x.short) }
+  -- what the check of 4 says of it
+  pub let-in : (names : Result NameTable Refusal) (b : Bool) → names ≡ Ok s.names
+      → b ≡ unmixed (numbers s.names.pool.now s.names.table.now) (opensIn ws 0 (length ws / 4)) → (need b 4 >> got (constraints_in s)) ≡ entered names ws
+  unfolding shortLists all apart
+  let-in names b i e = rw (e, entry-opens, i, le-leb (length ws) 8192 x.short, x.is) refl
 
-      set-flat : max_of depthCon x.set ≤ 64
-      set-flat =
-          let r = row ws HoldsCon sizeCon (λ c. leb (depthCon c) 64) (records.GoodCon pool table 0 ws)
-          (λ at a e g. (g.held, g.past, le-leb (depthCon a) 64 g.deep)) (length ws / 4) 0 x.set (set_is pool table ws w x.set x.given) in
-          let e = all-every (λ c. depthCon c ≤ 64) x.set (λ c m. leb-true (depthCon c) 64 (all-is (λ c. leb (depthCon c) 64) x.set r.right c m)) in
-          most depthCon x.set 64 e
-
-      pub begun : Begun pool table ws x.set
-      begun = record {
-        held = (given-cons pool table ws w x.set x.given).0;
-        sound = record { good = set-admitted.good; flat = set-flat };
-        short = x.short;
-        admitted = set-admitted;
-      }
+  pub begun : Begun s.names.pool.now s.names.table.now ws (constraints_in s)
+  begun = record {
+    held = (given-cons s.names.pool.now s.names.table.now ws w (constraints_in s) x.is).0;
+    sound = record { good = s.fine.good; flat = s.fine.flat };
+    short = x.short;
+    admitted = record { good = s.fine.good; small = s.fine.small };
+  }
 
 -- ══ The call ══
 

@@ -1,27 +1,28 @@
 //! The steps of solving, past the check of 10.
-ghost use Rattle.std.specs.Prelude.{◌≡◌, List, ℕ, ◌≤◌, length};
+ghost use Rattle.std.specs.Prelude.{◌≡◌, IfOk, List, ℕ, Ok, ◌≤◌, length};
 ghost use Rattle.rules.specs.Base.{got, bounded};
 ghost use Rattle.rules.specs.Batches.{recordsOf};
-ghost use Rattle.rules.specs.Calls.{setCall, solvedSet};
-ghost use Rattle.rules.specs.Names.{table_of, tableGood, lentTable};
-ghost use Rattle.rules.specs.Refusals.{told};
+ghost use Rattle.rules.specs.Calls.{solvedSet};
+ghost use Rattle.rules.specs.Refusals.{toldBy};
 ghost use Rattle.rules.specs.Solving.{solve};
 ghost use Rattle.rules.specs.Trees.{Con};
 ghost use Rattle.records.specs.Good.{numbers};
 ghost use Rattle.solve.specs.Told.{toldSolution, refusedAs, Answered};
 ghost use Rattle.solve.specs.Running.{Begun};
 ghost use Rattle.solve.specs.Entry.{entered};
+ghost use Rattle.types.specs.Given.{call_over, constraints_in};
 
 use super::Solution;
 use names::tables::NameTable;
 use queries::inner::is_unmixed;
-use records::inner::{copy, set_good};
+use records::inner::copy;
 use rules::{RECORD_WORDS, Refusal};
 use solve_finish::Finish;
 use solve_finish::inner::finish;
 use solve_round::inner::round;
 use solve_round::{After, Ends, Place};
 use std::mem::swap;
+use types::GivenSet;
 
 /// Why there is no answer.
 pub fn stopped(r: Refusal, completed: u32) -> Solution
@@ -93,61 +94,35 @@ pub fn run(names: NameTable, set: &[u32], res: &mut [u32], work: &mut [u32]) -> 
     }
 }
 
-/// Is the set well formed (8, 1)? Whether the table is good is handed on, so that one check of it serves many sets.
-fn is_set(pool: &[u8], table: &[u32], good: bool, words: &[u32]) -> Result<(), Refusal>
-    requires table_value { lentTable pool.now table.now ≡ got tt }
-    requires good_value { good ≡ tableGood (table_of pool.now table.now) }
-    ensures { told result ≡ setCall pool.now table.now words.now }
+/// A set over a table, well formed (8, the table's refusal, 1), and no name both a variable and a parameter (4). One test of the table serves many sets.
+pub fn enter<'a>(
+    names: Result<NameTable<'a>, Refusal>,
+    words: &'a [u32],
+) -> Result<GivenSet<'a>, Refusal>
+    ensures answer { toldBy constraints_in result ≡ entered names.entry words.now }
+    ensures same { IfOk result (λ s. names.entry ≡ Ok s.names) }
 {
-    if RECORD_WORDS < words.len() {
-        return Err(Refusal::TooLarge);
-    }
-    if !good {
-        return Err(Refusal::Malformed);
-    }
-    let names = NameTable { pool, table };
-    let held = set_good(names, words);
-    if words.len() % 4 != 0 {
-        return Err(Refusal::Malformed);
-    }
-    if held {
-        Ok(())
-    } else {
-        Err(Refusal::Malformed)
-    }
-}
-
-/// Is the set well formed (8, 1), and is no name both a variable and a parameter (4)?
-fn enter(pool: &[u8], table: &[u32], good: bool, words: &[u32]) -> Result<(), Refusal>
-    requires table_value { lentTable pool.now table.now ≡ got tt }
-    requires good_value { good ≡ tableGood (table_of pool.now table.now) }
-    ensures { told result ≡ entered pool.now table.now words.now }
-{
-    is_set(pool, table, good, words)?;
+    let set = GivenSet::new(names, words)?;
     if is_unmixed(words, 0, words.len() / 4) {
-        Ok(())
+        Ok(set)
     } else {
         Err(Refusal::Mixed)
     }
 }
 
-/// All that solving does past the check of 10 and that of the table, except for clearing the work buffer.
+/// All that solving does past the check of 10, except for clearing the work buffer.
 pub fn solve_set(
-    pool: &[u8],
-    table: &[u32],
-    good: bool,
+    names: Result<NameTable, Refusal>,
     words: &[u32],
     res: &mut [u32],
     work: &mut [u32],
 ) -> Solution
-    requires table_value { lentTable pool.now table.now ≡ got tt }
-    requires good_value { good ≡ tableGood (table_of pool.now table.now) }
     requires result_room { 8192 ≤ length res.old }
     requires room { 16384 ≤ length work.old }
-    ensures { Answered (solvedSet (table_of pool.now table.now) words.now) res.old res.new result }
+    ensures { Answered (call_over names.entry solvedSet words.now) res.old res.new result }
 {
-    match enter(pool, table, good, words) {
-        Ok(()) => run(NameTable { pool, table }, words, res, work),
+    match enter(names, words) {
+        Ok(set) => run(set.names, words, res, work),
         Err(r) => stopped(r, 0),
     }
 }

@@ -9,7 +9,7 @@ ghost use Rattle.rules.specs.Calls.{solveCall};
 ghost use Rattle.solve.specs.Told.{numberOutcome, solutionAs, Stands, answerTo};
 
 use inner::{solve_set, stopped};
-use names::inner::is_good;
+use names::tables::NameTable;
 use records_buffers::inner::clear;
 use records_buffers::lent;
 use rules::Refusal;
@@ -54,8 +54,8 @@ pub fn solve(
     if !lent(pool, table, res, work) {
         return stopped(Refusal::ShortBuffer, 0);
     }
-    let good = is_good(pool, table);
-    let s = solve_set(pool, table, good, words, res, work);
+    let names = NameTable::new(pool, table);
+    let s = solve_set(names, words, res, work);
     clear(work);
     s
 }

@@ -4,10 +4,10 @@ use Rattle.std.proofs.Math.Path.{sym, ap}
 use Rattle.std.proofs.Common.{◌∙◌}
 use borrow.Author.Tests.{le-leb, lt-leb, leb-true, eqb-true}
 use Rattle.rules.specs.Base.{Got, got, refused, ◌>>=◌, ◌>>◌, need, sum_of}
-use Rattle.rules.specs.Calls.{lentWork, workAfter}
+use Rattle.rules.specs.Calls.{lentWork, workAfter, solvedSet}
 use Rattle.rules.specs.Names.{lentTable, table_of}
 use Rattle.laws.specs.Lists.{clash, not-true, not-false}
-use Rattle.rules.specs.Batches.{batchLent, batchFits, batchCall, writtenOver}
+use Rattle.rules.specs.Batches.{batchLent, batchFits, batchCall, eachSolved, writtenOver}
 use Rattle.solve_batch.specs.Told.{batchAs}
 use Rattle.solve_batch.specs.Steps.{Begun, Finished}
 
@@ -122,7 +122,7 @@ module _ (pool table words lengths result answers work : List ℕ) where
 
   pub called : (n : ℕ) (w result' answers' work' : List ℕ) → length w ≡ length work → batchLent pool table lengths result answers work ≡ got tt
       → batchFits words lengths ≡ got tt
-      → Finished (table_of pool table) words lengths result result' answers answers' n → work' ≡ replicate (length w) 0
+      → Finished (λ ws. solvedSet (table_of pool table) ws) words lengths result result' answers answers' n → work' ≡ replicate (length w) 0
       → batchAs (Ok n) result' answers' work' ≡ batchCall pool table words lengths result answers work
-  unfolding batchCall writtenOver workAfter
+  unfolding batchCall eachSolved writtenOver workAfter
   called n w result' answers' work' l e f d z = rw (e, f, d.many, d.buffer, d.told, z, l)

@@ -1,7 +1,7 @@
 -- One set after another: what a step leaves, and what is left to do.
 use Rattle.std.specs.Prelude.{◌≡◌, refl}
 use Rattle.std.proofs.Math.Path.{sym, ap, ap₂}
-use Rattle.std.proofs.Common.{◌∙◌, zero-add, add-one, drop_of_length-le, length-drop, drop-cons, length-take-le}
+use Rattle.std.proofs.Common.{◌∙◌, subst, zero-add, add-one, drop_of_length-le, length-drop, drop-cons, length-take-le}
 use mathlib.Core.List.{List, [], ◌∷◌, ◌++◌, append_assoc, append-nil, map}
 use Prim.Native.Nat.{ℕ, suc, ◌+◌, ◌*◌, ◌-◌, ◌≤◌, ◌<◌, zero-le}
 use native.Mathlib.Omega.{arith}
@@ -10,12 +10,11 @@ use Rattle.std.proofs.Math.Seq.{sets, length-sets, drop-drop}
 use Rattle.std.proofs.lemmas.List.Edits.{sets-eq}
 use Rattle.std.proofs.lemmas.List.{drop-append-le}
 use Rattle.rules.specs.Base.{Got, got, refused, collect, sum_of}
-use Rattle.rules.specs.Calls.{Solved, solvedOf, solvedWords, solvedSet, over, resultAfter}
-use Rattle.rules.specs.Names.{Table}
+use Rattle.rules.specs.Calls.{Solved, solvedOf, solvedWords, over, resultAfter}
 use Rattle.rules.specs.Solving.{Answer}
 use Rattle.laws.specs.Answers.{words_of, manyOf, answer-long, four-long}
 use Rattle.records.specs.Stores.{sets-append}
-use Rattle.rules.specs.Batches.{cutSets, eachSolved, answeredWords, fourWords}
+use Rattle.rules.specs.Batches.{cutSets, answeredWords, fourWords}
 
 -- a set's four words
 abbrev pub fourOf : Got (Answer ℕ) → List ℕ
@@ -28,14 +27,6 @@ pub record Written (a : Got (Answer ℕ)) (s : Solved) (result result' : List �
   pub long : length (words_of a) ≡ manyOf a * 4
   pub few : manyOf a ≤ 2048
 
--- the i-th set's answer was written behind `out` records
-pub record Stepped (a : Got (Answer ℕ)) (i out : ℕ) (result result' answers answers' : List ℕ) (r : ℕ) : Type 0 where
-  pub many : r ≡ out + manyOf a
-  pub buffer : result' ≡ sets result (out * 4) (words_of a)
-  pub told : answers' ≡ sets answers (i * 4) (fourOf a)
-  pub long : length (words_of a) ≡ manyOf a * 4
-  pub few : manyOf a ≤ 2048
-
 -- what a batch needs, once its checks are met
 pub record Begun (words lengths result answers work : List ℕ) : Type 0 where
   pub few : length lengths ≤ 64
@@ -44,11 +35,20 @@ pub record Begun (words lengths result answers work : List ℕ) : Type 0 where
   pub answer : length lengths * 4 ≤ length answers
   pub works : 16384 ≤ length work
 
+-- each set answered by itself
+abbrev pub each : (List ℕ → Got (Answer ℕ)) → List ℕ → List ℕ → List (Got (Answer ℕ))
+each f sets lengths = map f (cutSets lengths sets)
+
 -- what it leaves
-pub record Finished (t : Table) (words lengths result result' answers answers' : List ℕ) (r : ℕ) : Type 0 where
-  pub many : r ≡ sum_of manyOf (eachSolved t words lengths)
-  pub buffer : result' ≡ over (collect words_of (eachSolved t words lengths)) result
-  pub told : answers' ≡ over (collect fourOf (eachSolved t words lengths)) answers
+pub record Finished (f : List ℕ → Got (Answer ℕ)) (words lengths result result' answers answers' : List ℕ) (r : ℕ) : Type 0 where
+  pub many : r ≡ sum_of manyOf (each f words lengths)
+  pub buffer : result' ≡ over (collect words_of (each f words lengths)) result
+  pub told : answers' ≡ over (collect fourOf (each f words lengths)) answers
+
+pub finished-as : (f g : List ℕ → Got (Answer ℕ)) (words lengths result result' answers answers' : List ℕ) (r : ℕ) → f ≡ g
+    → Finished f words lengths result result' answers answers' r → Finished g words lengths result result' answers answers' r
+finished-as f g words lengths result result' answers answers' r e h =
+    subst (λ (x : List ℕ → Got (Answer ℕ)). Finished x words lengths result result' answers answers' r) e h
 
 -- ══ Parts of a list ══
 
@@ -100,11 +100,21 @@ module _ (a : Got (Answer ℕ)) (result part : List ℕ) (at k : ℕ) (room : at
 pub part-long : (result : List ℕ) (at : ℕ) → at + 8192 ≤ length result → 8192 ≤ length (take (at + 8192 - at) (drop at result))
 part-long result at h = omega (arith, length-take-le (at + 8192 - at) (drop at result) (omega (arith, length-drop at result)))
 
+-- the four words of a set's answer, where they were copied to
+pub told-at : (answers four : List ℕ) (at n : ℕ) (a : Got (Answer ℕ)) (s : Solved) → four ≡ fourWords s → s ≡ solvedOf a → n ≡ 4 → at + 4 ≤ length answers
+    → take at answers ++ (four ++ drop n (drop at answers)) ≡ sets answers at (fourOf a)
+told-at answers four at n a s i e k room =
+    let is : four ≡ fourOf a = i ∙ ap fourWords e in
+    let long : length four ≡ 4 = ap length is ∙ four-long (solvedOf a) in
+    ap (λ (x : List ℕ). take at answers ++ (four ++ x)) (drop-drop n at answers ∙ ap (λ (k : ℕ). drop k answers) (let j : at + n ≡ at + length four = omega (arith, k, long) in j))
+    ∙ sym (append_assoc (take at answers) four (drop (at + length four) answers))
+    ∙ sym (sets-eq four answers at (omega (arith, long, room))) ∙ ap (sets answers at) is
+
 -- ══ One set after another ══
 
-module _ (t : Table) (words lengths : List ℕ) where
+module _ (f : List ℕ → Got (Answer ℕ)) (words lengths : List ℕ) where
   abbrev from_on : ℕ → ℕ → List (Got (Answer ℕ))
-  from_on from i = eachSolved t (drop from words) (drop i lengths)
+  from_on from i = each f (drop from words) (drop i lengths)
 
   -- after i sets: what was written, and that the rest gives the whole
   pub record Doing (result₀ answers₀ result answers : List ℕ) (i from out : ℕ) : Type 0 where
@@ -117,9 +127,9 @@ module _ (t : Table) (words lengths : List ℕ) where
     pub long : length done ≡ out * 4
     pub wide : length said ≡ i * 4
     pub few : out ≤ i * 2048
-    pub left : done ++ collect words_of (from_on from i) ≡ collect words_of (eachSolved t words lengths)
-    pub leftSaid : said ++ collect fourOf (from_on from i) ≡ collect fourOf (eachSolved t words lengths)
-    pub count : out + sum_of manyOf (from_on from i) ≡ sum_of manyOf (eachSolved t words lengths)
+    pub left : done ++ collect words_of (from_on from i) ≡ collect words_of (each f words lengths)
+    pub leftSaid : said ++ collect fourOf (from_on from i) ≡ collect fourOf (each f words lengths)
+    pub count : out + sum_of manyOf (from_on from i) ≡ sum_of manyOf (each f words lengths)
 
   pub doing-first : (result answers : List ℕ) → sum_of (λ n. n) lengths * 4 ≡ length words → Doing result answers result answers 0 0 0
   doing-first result answers e = record {
@@ -150,17 +160,18 @@ module _ (t : Table) (words lengths : List ℕ) where
       pub to_inside : to ≤ length words
       to_inside = omega (arith, d.sums, rest_sum lengths i more)
 
-      rest-is : from_on from i ≡ solvedSet t next ∷ from_on to (i + 1)
-      unfolding eachSolved cutSets
+      rest-is : from_on from i ≡ f next ∷ from_on to (i + 1)
+      unfolding cutSets
       rest-is =
-          ap (λ (ls : List ℕ). map (solvedSet t) (cutSets ls (drop from words))) (drop-cons lengths i 0 more)
-          ∙ rw (add-one i) (ap₂ (λ (set rest : List ℕ). solvedSet t set ∷ map (solvedSet t) (cutSets (drop (suc i) lengths) rest))
+          ap (λ (ls : List ℕ). map f (cutSets ls (drop from words))) (drop-cons lengths i 0 more)
+          ∙ rw (add-one i) (ap₂ (λ (set rest : List ℕ). f set ∷ map f (cutSets (drop (suc i) lengths) rest))
           (ap (λ (k : ℕ). take k (drop from words)) (let k : get_or lengths i 0 * 4 ≡ to - from = omega arith in k))
           (drop-drop (get_or lengths i 0 * 4) from words))
 
-      module _ {result' answers' : List ℕ} {r : ℕ} (s : Stepped (solvedSet t next) i out result result' answers answers' r) where
+      module _ {result' answers' : List ℕ} {r : ℕ} {s : Solved} (w : Written (f next) s result result' (out * 4)) (told : answers' ≡ sets answers (i * 4) (fourOf (f next)))
+          (many : r ≡ out + manyOf (f next)) where
         abbrev a : Got (Answer ℕ)
-        a = solvedSet t next
+        a = f next
 
         pub doing-next : Doing result₀ answers₀ result' answers' (i + 1) to r
         unfolding collect
@@ -169,17 +180,17 @@ module _ (t : Table) (words lengths : List ℕ) where
           said = d.said ++ fourOf a;
           inside = omega arith;
           sums = omega (arith, d.sums, rest_sum lengths i more);
-          buffer = s.buffer ∙ ap₂ (λ (b : List ℕ) (k : ℕ). sets b k (words_of a)) d.buffer (omega (arith, d.long))
+          buffer = w.buffer ∙ ap₂ (λ (b : List ℕ) (k : ℕ). sets b k (words_of a)) d.buffer (omega (arith, d.long))
               ∙ sym (sets-append d.done (words_of a) result₀ 0);
-          told = s.told ∙ ap₂ (λ (b : List ℕ) (k : ℕ). sets b k (fourOf a)) d.told (omega (arith, d.wide)) ∙ sym (sets-append d.said (fourOf a) answers₀ 0);
-          long = omega (arith, length-append d.done (words_of a), d.long, s.long, s.many);
+          told = told ∙ ap₂ (λ (b : List ℕ) (k : ℕ). sets b k (fourOf a)) d.told (omega (arith, d.wide)) ∙ sym (sets-append d.said (fourOf a) answers₀ 0);
+          long = omega (arith, length-append d.done (words_of a), d.long, w.long, many);
           wide = omega (arith, length-append d.said (fourOf a), d.wide, four-long (solvedOf a));
-          few = omega (arith, d.few, s.few, s.many);
+          few = omega (arith, d.few, w.few, many);
           left = append_assoc d.done (words_of a) (collect words_of (from_on to (i + 1)))
               ∙ sym (ap (λ (l : List (Got (Answer ℕ))). d.done ++ collect words_of l) rest-is) ∙ d.left;
           leftSaid = append_assoc d.said (fourOf a) (collect fourOf (from_on to (i + 1)))
               ∙ sym (ap (λ (l : List (Got (Answer ℕ))). d.said ++ collect fourOf l) rest-is) ∙ d.leftSaid;
-          count = omega (arith, s.many, d.count, ap (sum_of manyOf) rest-is);
+          count = omega (arith, many, d.count, ap (sum_of manyOf) rest-is);
         }
 
     -- there is room for one more answer
@@ -187,13 +198,13 @@ module _ (t : Table) (words lengths : List ℕ) where
     room-left more p = omega (arith, d.few, ap length d.buffer ∙ length-sets result₀ 0 d.done)
 
     pub doing-last : length lengths ≤ i → length lengths * 8192 ≤ length result₀ → length lengths * 4 ≤ length answers₀
-        → Finished t words lengths result₀ result answers₀ answers out
-    unfolding eachSolved cutSets collect over
+        → Finished f words lengths result₀ result answers₀ answers out
+    unfolding cutSets collect over
     doing-last h p q =
-        let z : from_on from i ≡ [] = ap (λ (ls : List ℕ). map (solvedSet t) (cutSets ls (drop from words))) (drop_of_length-le lengths h) in
-        let w : d.done ≡ collect words_of (eachSolved t words lengths) = sym (append-nil d.done)
+        let z : from_on from i ≡ [] = ap (λ (ls : List ℕ). map f (cutSets ls (drop from words))) (drop_of_length-le lengths h) in
+        let w : d.done ≡ collect words_of (each f words lengths) = sym (append-nil d.done)
         ∙ sym (ap (λ (l : List (Got (Answer ℕ))). d.done ++ collect words_of l) z) ∙ d.left in
-        let v : d.said ≡ collect fourOf (eachSolved t words lengths) = sym (append-nil d.said)
+        let v : d.said ≡ collect fourOf (each f words lengths) = sym (append-nil d.said)
         ∙ sym (ap (λ (l : List (Got (Answer ℕ))). d.said ++ collect fourOf l) z) ∙ d.leftSaid in
         record {
           many = omega (arith, d.count, ap (sum_of manyOf) z);

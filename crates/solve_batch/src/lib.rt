@@ -9,8 +9,8 @@ ghost use Rattle.rules.specs.Batches.{batchCall};
 ghost use Rattle.solve_batch.specs.Told.{batchAs};
 
 use inner::{all_lent, fits, solve_each};
+use names::tables::NameTable;
 use records_buffers::inner::clear;
-use names::inner::is_good;
 use rules::Refusal;
 
 /// Solves several sets. They stand back to back in `sets`, each as long as `lengths` says in records. Their answers are written back to back to the
@@ -37,8 +37,8 @@ pub fn solve_all(
     }
     match fits(sets, lengths) {
         Ok(()) => {
-            let good = is_good(pool, table);
-            let n = solve_each(pool, table, good, sets, lengths, res, answers, work);
+            let names = NameTable::new(pool, table);
+            let n = solve_each(names, sets, lengths, res, answers, work);
             clear(work);
             Ok(n)
         }

@@ -1,21 +1,28 @@
 -- What stands at the front of a list, put at the front of the result buffer.
-use Rattle.std.specs.Prelude.{◌≡◌, refl, Bool, List, [], ◌++◌, ℕ, ◌*◌, ◌≤◌, ◌⊎◌, length, take, drop, replicate}
-use Rattle.std.proofs.Common.{sym, ap, ◌∙◌, inl, inr, arith, zero-add, length-append}
+use Rattle.std.specs.Prelude as std
+use Rattle.std.specs.Prelude.{Result, Ok, Err, IfOk, is_none, ◌≡◌, refl, Bool, List, [], ◌∷◌, ◌++◌, ℕ, ◌*◌, ◌≤◌, ◌⊎◌, length, take, drop, replicate}
+use Rattle.std.proofs.Common.{sym, ap, subst, ◌∙◌, inl, inr, arith, zero-add, length-append}
 use Rattle.std.proofs.lemmas.List.Edits.{sets, sets-eq}
 use Rattle.std.proofs.Math.Seq.{slice, take-append_seam}
-use Rattle.rules.specs.Base.{Got, got, refused, ◌>>◌}
+use Rattle.rules.specs.Base.{Got, got, refused, ◌>>◌, bounded}
 use Rattle.rules.specs.Batches.{answeredWords, recordsOf}
-use Rattle.rules.specs.Calls.{lent, over, resultAfter, workAfter, setGiven, solvedOf, solvedWords, solvedSet}
+use Rattle.rules.specs.Calls.{shortLists, lent, over, resultAfter, workAfter, setGiven, solvedOf, solvedWords, solvedSet}
 use Rattle.rules.specs.Confirming.{confirmedSet, confirmCall}
-use Rattle.rules.specs.Names.{Table, table_of, numbersOf}
-use Rattle.rules.specs.Solving.{Answer}
+use Rattle.rules.specs.Names.{Table, table_of, numbersOf, lentTable, tableGiven}
+use Rattle.rules.specs.Refusals.{number_of, toldBy}
+use Rattle.rules.specs.declared.Refusal.{Refusal}
+use Rattle.names.specs.Told.{unit_of}
+use Rattle.names.specs.declared.tables.NameTable.{NameTable}
+use Rattle.types.specs.Given.{call_over}
+use Rattle.solve.specs.Entry.{tested}
+use Rattle.rules.specs.Solving.{Answer, solve}
 use Rattle.rules.specs.Trees.{Con}
 use Rattle.rules.specs.declared.Refusal.TheVariants.{ShortBuffer}
 use Rattle.laws.specs.Answers.{words_of, manyOf, answer-long}
 use Rattle.solve.specs.declared.Solution.{Solution}
 use Rattle.judge.specs.Found.{JudgedAs}
 use Rattle.solve.specs.Told.{toldSolution, refusedAs, solutionAs, Answered}
-use Rattle.solve_confirm.specs.Told.{ruledBy}
+use Rattle.solve_confirm.specs.Told.{ruledBy, VerdictBy, VerdictOn}
 use Rattle.solve_confirm.proofs.Ruled.{Ruled, is-ruled}
 
 -- the words of an answer, where they were written to
@@ -93,3 +100,31 @@ module _ (pool table set result work : List ℕ) where
       → solutionAs s result' work' ≡ confirmCall pool table set result work
   unfolding confirmCall workAfter
   called s w result' work' n e a b z = rw (e, a, b, z, n)
+
+-- ══ The table's test ══
+
+-- what is said over the table that was tested is said over what was lent
+module _ (pool table set : List ℕ) (l : lentTable pool table ≡ got tt) (names : Result NameTable Refusal) (e : toldBy unit_of names ≡ tableGiven pool table)
+    (i : IfOk names (λ n. (n.pool.now ≡ pool) × (n.table.now ≡ table))) where
+  same : call_over names solvedSet set ≡ solvedSet (table_of pool table) set
+  unfolding solvedSet
+  same = ap (λ (f : List ℕ → Got (Answer ℕ)). f set) (tested (λ t cs. got (solve (numbersOf t) bounded cs)) pool table l names e i)
+
+  pub answered-over : (b b' : List ℕ) (s : Solution) → Answered (call_over names solvedSet set) b b' s → Answered (solvedSet (table_of pool table) set) b b' s
+  answered-over b b' s a = subst (λ (m : Got (Answer ℕ)). Answered m b b' s) same a
+
+  pub judged-over : (r : Result (std.Option ℕ) Refusal) → IfOk names (λ n. VerdictOn n set r) → (cs : List (Con ℕ)) → setGiven (table_of pool table) set ≡ got cs
+      → JudgedAs (numbersOf (table_of pool table)) cs (solvedSet (table_of pool table) set) (toldBy is_none r)
+  judged-over r v = go names i v same
+    where
+      go : (names : Result NameTable Refusal) → IfOk names (λ n. (n.pool.now ≡ pool) × (n.table.now ≡ table)) → IfOk names (λ n. VerdictOn n set r)
+          → call_over names solvedSet set ≡ solvedSet (table_of pool table) set → (cs : List (Con ℕ)) → setGiven (table_of pool table) set ≡ got cs
+          → JudgedAs (numbersOf (table_of pool table)) cs (solvedSet (table_of pool table) set) (toldBy is_none r)
+      go (Ok n) j w o cs g =
+          (subst (λ (p : List ℕ). VerdictBy p table set r) j.0 (subst (λ (q : List ℕ). VerdictBy n.pool.now q set r) j.1 w)).judged cs g
+      go (Err why) j w o cs g =
+          subst (λ (m : Got (Answer ℕ)). JudgedAs (numbersOf (table_of pool table)) cs m (toldBy is_none r)) o (none (shortLists (set ∷ [])))
+        where
+          none : (m : Got (Unit {0})) → JudgedAs (numbersOf (table_of pool table)) cs (m >> refused (number_of why)) (toldBy is_none r)
+          none (got u) = tt
+          none (refused k) = tt

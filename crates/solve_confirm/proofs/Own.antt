@@ -2,7 +2,7 @@
 use Rattle.std.specs.Prelude.{◌≡◌, refl, Bool, true, ◌&&◌, List, [], ◌∷◌, ℕ, ◌≤◌, leb, length, Result, Ok, Err, is_none}
 use Rattle.std.specs.Prelude as std
 use Rattle.std.proofs.Common.{subst, arith}
-use borrow.Author.Tests.{leb-true}
+use borrow.Author.Tests.{leb-true, le-leb}
 use Rattle.rules.specs.Base.{Got, got, refused, need, bounded, all, collect}
 use Rattle.rules.specs.Calls.{shortLists, tableKept, setGiven, apart, solvedSet}
 use Rattle.rules.specs.Contents.{unmixed}
@@ -96,16 +96,20 @@ module _ (pool table set : List ℕ) where
         };
       }
 
+  lent-good : Good pool table → lentTable pool table ≡ got tt
+  unfolding lentTable
+  lent-good g = rw (le-leb 8192 (length pool) g.bytes, le-leb 257 (length table) g.words) refl
+
   module _ (s : List ℕ) (solution : Solution) (h : Stands s solution (solvedSet t set)) where
     says : {o : Result Finish Refusal} → solution.outcome ≡ o → StandsBy s o solution.rounds (solvedSet t set)
     says i = subst (λ (o : Result Finish Refusal). StandsBy s o solution.rounds (solvedSet t set)) i h.says
 
-    pub own : lentTable pool table ≡ got tt → length s ≤ 8192 → {b n : ℕ} → solution.outcome ≡ Ok (finish.Solved b n) → Own s b n
-    own l long {b} {n} i = go (solvedSet t set) refl (says i)
+    pub own : Good pool table → length s ≤ 8192 → {b n : ℕ} → solution.outcome ≡ Ok (finish.Solved b n) → Own s b n
+    own g long {b} {n} i = go (solvedSet t set) refl (says i)
       where
         go : (m : Got (Answer ℕ)) → solvedSet t set ≡ m → StandsBy s (Ok (finish.Solved b n)) solution.rounds m → Own s b n
         go (refused j) e q = absurd q
-        go (got (accepted bs ns k)) e q = accepted-own l s b n long bs ns k e q.1
+        go (got (accepted bs ns k)) e q = accepted-own (lent-good g) s b n long bs ns k e q.1
         go (got (remaining ds k)) e q = absurd q
         go (got (stopped j k)) e q = absurd q
 

@@ -1,7 +1,7 @@
 -- What is answered is true, and comes just where solving accepts and the judge says yes.
-use Rattle.std.specs.Prelude.{◌≡◌, refl, Bool, true, false, List, [], ◌∷◌, ◌++◌, ℕ, ◌≤◌, leb, length, replicate}
+use Rattle.std.specs.Prelude.{◌≡◌, refl, Bool, true, false, List, ◌++◌, ℕ, length}
 use Rattle.std.proofs.Common.{sym, ap, ap₂, ◌∙◌, arith}
-use Rattle.rules.specs.Base.{Got, got, refused, ◌>>=◌, ◌>>◌, need, bounded, collect, sum_of}
+use Rattle.rules.specs.Base.{Got, got, refused, ◌>>◌, bounded, collect, sum_of}
 use Rattle.rules.specs.Calls as calls
 use Rattle.rules.specs.Calls.{
   lentResult,
@@ -23,17 +23,17 @@ use Rattle.rules.specs.Confirming.{ruled, confirmed, confirmedSet, confirmCall}
 use Rattle.rules.specs.Contents.{unmixed}
 use Rattle.rules.specs.Judging.{judge}
 use Rattle.rules.specs.Names.{Table, table_of, numbersOf, is_held, lentTable}
-use Rattle.rules.specs.Solving.{Answer, accepted, remaining, stopped, solve}
+use Rattle.rules.specs.Solving.{Answer, accepted, remaining, stopped}
 use Rattle.rules.specs.Trees.{Names, Con, Binding, opensCon, sizeBinding}
-use Rattle.laws.specs.Lists.{bound-step, clash}
-use Rattle.theorems_soundness.specs.Claims.{Ordered, Proposes, SoundAnswer, pointed, bindingsIn, boundsIn}
+use Rattle.laws.specs.Lists.{bound-step}
+use Rattle.theorems_soundness.specs.Claims.{Proposes, SoundAnswer}
 use Rattle.theorems_soundness.proofs.Form.{final, solved-form}
 use Rattle.theorems_soundness.proofs.Judged.{yes-solves}
 use Rattle.theorems_soundness.proofs.Runs.{answer-apart}
 use Rattle.theorems_soundness.proofs.Soundness.{solve-call, own-proposed}
 use Rattle.theorems_soundness.proofs.Words.{numbers-ordered}
 use Rattle.solve_confirm.proofs.Own.{Passed, passed}
-use Rattle.solve_confirm.specs.Theorems.{ConfirmedAnswer, OneOfTwo, judgedInPlace, ConfirmedIsTrue, ConfirmsJustWhere}
+use Rattle.solve_confirm.specs.Theorems.{ConfirmedAnswer, judgedInPlace, ConfirmedIsTrue, ConfirmsJustWhere}
 use Rattle.solve_confirm.specs.Told.{ruledBy}
 use Rattle.solve_confirm.proofs.Ruled.{by-verdict, read_of, confirmed-of, refused-of}
 

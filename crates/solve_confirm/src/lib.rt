@@ -9,10 +9,10 @@ ghost use Rattle.rules.specs.Confirming.{confirmCall};
 ghost use Rattle.solve.specs.Told.{solutionAs};
 
 pub use inner::{Confirmed, solve_and_judge};
+use names::tables::NameTable;
+use records::inner::copy;
 use records_buffers::inner::clear;
 use records_buffers::lent;
-use names::inner::is_good;
-use records::inner::copy;
 use rules::{RECORD_WORDS, Refusal};
 use solve::Solution;
 use solve::inner::{records, stopped};
@@ -35,10 +35,10 @@ pub fn confirm(
     if !lent(pool, table, res, work) {
         return stopped(Refusal::ShortBuffer, 0);
     }
-    let good = is_good(pool, table);
+    let names = NameTable::new(pool, table);
     // An answer stands here until the judge has said yes.
     let mut found = [0u32; RECORD_WORDS];
-    let solution = solve_and_judge(pool, table, good, set, &mut found, work).ruled();
+    let solution = solve_and_judge(names, set, &mut found, work).ruled();
     copy(&found, 0, records(solution), res, 0);
     clear(work);
     solution

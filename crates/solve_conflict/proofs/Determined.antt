@@ -1,10 +1,8 @@
 -- The contract leaves no choice: two results that it allows coincide.
-use Rattle.std.specs.Prelude as std
-use Rattle.std.specs.Prelude.{Result, ◌≡◌, List, ℕ}
+use Rattle.std.specs.Prelude.{◌≡◌}
 use Rattle.std.proofs.Common.{ap, sym, ◌∙◌}
 use Rattle.rules.specs.Conflicts.{Conflicts}
 use Rattle.rules.specs.Refusals.{toldOption}
-use Rattle.rules.specs.declared.Refusal.{Refusal}
 use Rattle.laws.specs.Numbers.{toldBy-injective, toldOption-injective}
 use Rattle.solve_conflict.specs.Told.{conflictsAs}
 use Rattle.solve_conflict.specs.Theorems.{ConflictDetermined}

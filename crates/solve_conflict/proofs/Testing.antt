@@ -1,5 +1,5 @@
 -- The part of a set that is under test: it stands at the front of the work buffer, ready to be solved; and what its answer says.
-use Rattle.std.specs.Prelude.{Result, Ok, Err, ◌≡◌, refl, Bool, true, false, List, [], ◌∷◌, ◌++◌, map, ℕ, suc, ◌+◌, ◌*◌, ◌≤◌, length, get_or, take, drop, ◌/◌}
+use Rattle.std.specs.Prelude.{Result, Ok, Err, ◌≡◌, refl, Bool, true, false, List, [], ◌∷◌, ◌++◌, ℕ, suc, ◌+◌, ◌*◌, ◌≤◌, length, get_or, take, drop, ◌/◌}
 use Rattle.std.proofs.Common.{ap, sym, subst, ◌∙◌, arith, append-nil, take_at}
 use Rattle.std.proofs.lemmas.List.Edits.{sets, sets-eq}
 use Rattle.std.proofs.Math.ListN.{drop_of_length-le}
@@ -27,7 +27,7 @@ use Rattle.solve.specs.Running.{Begun}
 use Rattle.types.specs.Sets.{con-some, IsCons}
 use Rattle.types.specs.declared.writer.Writer.{Writer}
 use Rattle.types.specs.Written.{Writes}
-use Rattle.solve_conflict.specs.Standing.{Fine}
+use Rattle.types.specs.Fine.{Fine}
 use Rattle.solve_conflict.proofs.Steps.{part, part-first, part-narrow, part-not}
 
 -- ══ A part of a fine set is fine ══

@@ -1,18 +1,10 @@
 -- Which constraints of a set stand: a mark for each place.
 use Rattle.std.specs.Prelude.{Result, ◌≡◌, Bool, true, false, List, ℕ, ◌-◌, ◌≤◌, ◌<◌, ◌⊎◌, length, take, drop, get_or}
-use Rattle.rules.specs.Base.{all, keep, sum_of, max_of}
+use Rattle.rules.specs.Base.{keep}
 use Rattle.rules.specs.Conflicts.{Line, linesFrom, leaveOut}
 use Rattle.rules.specs.Refusals.{toldBy}
-use Rattle.rules.specs.Trees.{Names, Con, sizeCon, depthCon}
-use Rattle.rules.specs.WellFormed.{goodCon}
+use Rattle.rules.specs.Trees.{Names, Con}
 use Rattle.rules.specs.declared.Refusal.{Refusal}
-use Rattle.records.specs.Good.{numbers, holding}
-
--- a set that passed the checks at entry
-pub record Fine (pool table : List ℕ) (cs : List (Con ℕ)) : Type 0 where
-  pub good : all (goodCon (numbers pool table) (holding pool table) 0) cs ≡ true
-  pub small : sum_of sizeCon cs ≤ 2048
-  pub flat : max_of depthCon cs ≤ 64
 
 abbrev pub line_place : Line ℕ → ℕ
 line_place l = l.0

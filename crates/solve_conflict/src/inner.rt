@@ -1,29 +1,27 @@
 //! Lines of a set are left out, as long as the others are still refused with 5.
 ghost use Rattle.std.specs.Prelude.{◌≡◌, ◌≤◌, map, length};
-ghost use Rattle.rules.specs.Base.{got, collect};
+ghost use Rattle.rules.specs.Base.{collect};
 ghost use Rattle.rules.specs.Choices.{isSide, wide};
 ghost use Rattle.rules.specs.Conflicts.{wideOf, conflicting, conflictIn, conflictOf};
-ghost use Rattle.rules.specs.Names.{table_of, lentTable};
 ghost use Rattle.rules.specs.Refusals.{told};
 ghost use Rattle.rules.specs.Trees.{opened};
 ghost use Rattle.rules.specs.Writing.{writeCon};
 ghost use Rattle.records.specs.Good.{numbers};
 ghost use Rattle.records.specs.Holds.{openOf};
 ghost use Rattle.queries.specs.Marks.{Filled};
-ghost use Rattle.solve.specs.Entry.{entered};
+ghost use Rattle.types.specs.Given.{call_over};
 ghost use Rattle.types.specs.Written.{Writes};
-ghost use Rattle.solve_conflict.specs.Standing.{standing, Fine, Switched, On, LeftOut, line_place};
+ghost use Rattle.solve_conflict.specs.Standing.{standing, Switched, On, LeftOut, line_place};
 ghost use Rattle.solve_conflict.specs.Told.{FoundAs};
 
-use solve_finish::Finish;
 use names::tables::NameTable;
-use queries::inner::is_unmixed;
+use records::Open;
 use records::inner::put;
-use records::{Open, is_set};
 use rules::{RECORD_WORDS, RECORDS, Refusal};
-use solve::inner::run;
+use solve::inner::{enter, run};
+use solve_finish::Finish;
 use types::writer::Writer;
-use types::{Constraint, Constraints, Demand, Shape, Type};
+use types::{Constraint, Constraints, Demand, GivenSet, Shape, Type};
 
 /// How often a run of 2,048 lines can be halved.
 const HALVINGS: u32 = 11;
@@ -130,9 +128,7 @@ fn put_places(set: Constraints, stands: &[bool; RECORDS], res: &mut [u32]) -> us
 /// A set of constraints that passed the checks at entry.
 #[derive(Clone, Copy)]
 pub struct Lines<'a> {
-    pub names: NameTable<'a>,
-    pub set: Constraints<'a>,
-    pub ghost fine: { Fine names.pool.now names.table.now set.trees.0 },
+    pub set: GivenSet<'a>,
 }
 
 impl<'a> Lines<'a> {
@@ -140,9 +136,9 @@ impl<'a> Lines<'a> {
     fn is_refused(self, stands: &[bool; RECORDS], work: &mut [u32]) -> Result<bool, Refusal>
         requires long { length stands.now ≡ 2048 }
         requires room { 16384 ≤ length work.old }
-        ensures { told result ≡ conflicting (numbers self.entry.names.pool.now self.entry.names.table.now) (standing stands.now 0 self.entry.set.trees.0) }
+        ensures { told result ≡ conflicting (numbers self.entry.set.names.pool.now self.entry.set.names.table.now) (standing stands.now 0 self.entry.set.all.trees.0) }
     {
-        let Lines { names, set } = self;
+        let set = self.set.all;
         let mut tested = [0u32; RECORD_WORDS];
         let mut out = Writer {
             words: &mut tested,
@@ -152,7 +148,7 @@ impl<'a> Lines<'a> {
         let n = out.at;
         let end = n * 4;
         let mut res = [0u32; RECORD_WORDS];
-        match run(names, &tested[0..end], &mut res, work).outcome {
+        match run(self.set.names, &tested[0..end], &mut res, work).outcome {
             Ok(Finish::Solved(_, _)) => Ok(false),
             Ok(Finish::Unsolved(_)) => Ok(true),
             Err(why) => Err(why),
@@ -169,11 +165,11 @@ impl<'a> Lines<'a> {
         work: &mut [u32],
     ) -> Result<(), Refusal>
         requires order { from ≤ to }
-        requires within { to ≤ length self.set.trees.0 }
+        requires within { to ≤ length self.set.all.trees.0 }
         requires long { length stands.old ≡ 2048 }
         requires whole { On from to stands.old }
         requires room { 16384 ≤ length work.old }
-        ensures { LeftOut self.entry.set.trees.0 (numbers self.entry.names.pool.now self.entry.names.table.now) halvings from to stands.old stands.new result }
+        ensures { LeftOut self.entry.set.all.trees.0 (numbers self.entry.set.names.pool.now self.entry.set.names.table.now) halvings from to stands.old stands.new result }
     {
         switch(stands, from, to, false);
         if self.is_refused(stands, work)? {
@@ -192,50 +188,30 @@ impl<'a> Lines<'a> {
     fn find(self, res: &mut [u32], work: &mut [u32]) -> Result<Option<usize>, Refusal>
         requires result_room { 8192 ≤ length res.old }
         requires room { 16384 ≤ length work.old }
-        ensures { FoundAs (conflictIn (numbers self.entry.names.pool.now self.entry.names.table.now) self.entry.set.trees.0) res.old res.new result }
+        ensures { FoundAs (conflictIn (numbers self.entry.set.names.pool.now self.entry.set.names.table.now) self.entry.set.all.trees.0) res.old res.new result }
     {
         let mut stands = [true; RECORDS];
         if !self.is_refused(&stands, work)? {
             return Ok(None);
         }
-        let n = count(self.set);
+        let n = count(self.set.all);
         self.leave_out(HALVINGS, 0, n, &mut stands, work)?;
-        Ok(Some(put_places(self.set, &stands, res)))
-    }
-}
-
-/// Is the set well formed (8, 1), and is no name both a variable and a parameter (4)?
-fn enter(pool: &[u8], table: &[u32], words: &[u32]) -> Result<(), Refusal>
-    requires { lentTable pool.now table.now ≡ got tt }
-    ensures { told result ≡ entered pool.now table.now words.now }
-{
-    is_set(pool, table, words)?;
-    if is_unmixed(words, 0, words.len() / 4) {
-        Ok(())
-    } else {
-        Err(Refusal::Mixed)
+        Ok(Some(put_places(self.set.all, &stands, res)))
     }
 }
 
 /// All that the call does past the check of 10, except for clearing the work buffer.
 pub fn find_among<'x>(
-    pool: &'x [u8],
-    table: &'x [u32],
+    names: Result<NameTable<'x>, Refusal>,
     words: &'x [u32],
     res: &mut [u32],
     work: &mut [u32],
 ) -> Result<Option<usize>, Refusal>
-    requires table_value { lentTable pool.now table.now ≡ got tt }
     requires result_room { 8192 ≤ length res.old }
     requires room { 16384 ≤ length work.old }
-    ensures { FoundAs (conflictOf (table_of pool.now table.now) words.now) res.old res.new result }
+    ensures { FoundAs (call_over names.entry conflictOf words.now) res.old res.new result }
 {
-    enter(pool, table, words)?;
-    let names = NameTable { pool, table };
-    let end = words.len() / 4;
-    let lines = Lines {
-        names,
-        set: Constraints { words, at: 0, end },
-    };
+    let set = enter(names, words)?;
+    let lines = Lines { set };
     lines.find(res, work)
 }

@@ -9,6 +9,7 @@ ghost use Rattle.rules.specs.Conflicts.{conflictCall};
 ghost use Rattle.solve_conflict.specs.Told.{conflictsAs};
 
 use inner::find_among;
+use names::tables::NameTable;
 use records_buffers::inner::clear;
 use records_buffers::lent;
 use rules::Refusal;
@@ -31,7 +32,7 @@ pub fn conflict(
     if !lent(pool, table, res, work) {
         return Err(Refusal::ShortBuffer);
     }
-    let found = find_among(pool, table, set, res, work);
+    let found = find_among(NameTable::new(pool, table), set, res, work);
     clear(work);
     found
 }

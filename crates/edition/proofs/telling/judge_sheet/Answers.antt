@@ -3,11 +3,7 @@ use Rattle.std.specs.Prelude.{refl}
 use Rattle.rules.specs.Calls.{solvedSet}
 use Rattle.rules.specs.Names.{table_of, numbersOf}
 use Rattle.edition.specs.Judged.{placed-same, found-set, found-unread, found-unseen}
-use Rattle.edition.specs.Pages.{lent-given}
 use Rattle.edition.proofs.telling.judge_sheet.Goals as goal
-
-pub solve_and_judge-confirmed-requires-clause-table_value : goal.solve_and_judge-confirmed-requires-clause-table_value
-solve_and_judge-confirmed-requires-clause-table_value c = lent-given c.args.names.good
 
 pub returns-in-Set : goal.returns-in-Set
 returns-in-Set c =
@@ -19,7 +15,7 @@ returns-in-Set c =
           let k = rw c.in-Set.is at h.holds in
           found-set t ws _ k.0 k.1.1.0 _ _ p k.1.0
           (c.of.ensures.found _ (solvedSet t ws) (rw c.deref.ensures.value at x.answered.stands) (numbersOf t) k.0
-          (placed-same t ws _ k.0 k.1.1.0 _ (rw c.deref.ensures.value at x.placed)));
+          (placed-same t ws _ k.0 k.1.1.0 _ (rw c.deref.ensures.value at x.judged.placed)));
       there = c.of.ensures.there _ _ x.answered.stands;
     }
 

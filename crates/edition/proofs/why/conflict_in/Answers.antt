@@ -1,10 +1,6 @@
 -- `conflict_in` meets its contract: by what became of the sheet.
 use Rattle.edition.specs.Asked.{none-found}
-use Rattle.edition.specs.Pages.{lent-given}
 use Rattle.edition.proofs.why.conflict_in.Goals as goal
-
-pub find_among-requires-clause-table_value : goal.find_among-requires-clause-table_value
-find_among-requires-clause-table_value c = lent-given c.args.names.good
 
 pub returns-in-Unseen : goal.returns-in-Unseen
 returns-in-Unseen c = rw c.in-Unseen.is (none-found _)

@@ -3,42 +3,37 @@ use Rattle.std.specs.Prelude.{Ok}
 use Rattle.std.proofs.Common.{◌≡◌, ap, ◌∙◌}
 use Rattle.records.specs.Found.{Words32}
 use Rattle.solve_confirm.proofs.Own.{own, stands, judged, placed}
+use Rattle.solve_confirm.specs.Told.{VerdictOn}
 use Rattle.solve_confirm.proofs.inner.verdict_on.Goals as goal
-
-pub invariant_of-judge_found : goal.invariant_of-judge_found
-invariant_of-judge_found c =
-    let i : c.args.solution.outcome ≡ Ok c.in-Ok-Solved.field-0 = c.in-Ok-Solved.is in
-    let o = own _ _ c.args.words.now c.args.rows.now c.args.solution c.requires.stands c.requires.table_value c.requires.short
-    (i ∙ ap Ok (rw i at c.in-Ok-Solved.field-0-is)) in
-    record { good = o.passes.good }
 
 pub judge_found-requires-clause-set_there : goal.judge_found-requires-clause-set_there
 judge_found-requires-clause-set_there c =
     let i : c.args.solution.outcome ≡ Ok c.in-Ok-Solved.field-0 = c.in-Ok-Solved.is in
-    let o = own _ _ c.args.words.now c.args.rows.now c.args.solution c.requires.stands c.requires.table_value c.requires.short
+    let o = own _ _ c.args.words.now c.args.rows.now c.args.solution (rw c.in-Ok.is at c.requires.stands) c.in-Ok.names.good c.requires.short
     (i ∙ ap Ok (rw i at c.in-Ok-Solved.field-0-is)) in
-    let w : Words32 c.args.words.now = record { word = λ i. (c.shared_slice_known-3-1.given i).fits } in
+    let w : Words32 c.args.words.now = record { word = λ i. (c.type_inv.words i).fits } in
     (o.passes.cs, stands _ _ _ o w)
 
 pub judge_found-requires-clause-found_there : goal.judge_found-requires-clause-found_there
 judge_found-requires-clause-found_there c =
     let i : c.args.solution.outcome ≡ Ok c.in-Ok-Solved.field-0 = c.in-Ok-Solved.is in
-    let o = own _ _ c.args.words.now c.args.rows.now c.args.solution c.requires.stands c.requires.table_value c.requires.short
+    let o = own _ _ c.args.words.now c.args.rows.now c.args.solution (rw c.in-Ok.is at c.requires.stands) c.in-Ok.names.good c.requires.short
     (i ∙ ap Ok (rw i at c.in-Ok-Solved.field-0-is)) in
     (o.bs, (o.ns, o.found))
 
 pub judge_found-requires-clause-set_short : goal.judge_found-requires-clause-set_short
 judge_found-requires-clause-set_short c =
     let i : c.args.solution.outcome ≡ Ok c.in-Ok-Solved.field-0 = c.in-Ok-Solved.is in
-    let o = own _ _ c.args.words.now c.args.rows.now c.args.solution c.requires.stands c.requires.table_value c.requires.short
+    let o = own _ _ c.args.words.now c.args.rows.now c.args.solution (rw c.in-Ok.is at c.requires.stands) c.in-Ok.names.good c.requires.short
     (i ∙ ap Ok (rw i at c.in-Ok-Solved.field-0-is)) in
     o.passes.short
 
 pub returns-in-Ok-Solved : goal.returns-in-Ok-Solved
 returns-in-Ok-Solved c =
     let i : c.args.solution.outcome ≡ Ok c.in-Ok-Solved.field-0 = c.in-Ok-Solved.is in
-    let o = own _ _ c.args.words.now c.args.rows.now c.args.solution c.requires.stands c.requires.table_value c.requires.short
+    let o = own _ _ c.args.words.now c.args.rows.now c.args.solution (rw c.in-Ok.is at c.requires.stands) c.in-Ok.names.good c.requires.short
     (i ∙ ap Ok (rw i at c.in-Ok-Solved.field-0-is)) in
-    let w : Words32 c.args.words.now = record { word = λ i. (c.shared_slice_known-3-1.given i).fits } in
+    let w : Words32 c.args.words.now = record { word = λ i. (c.type_inv.words i).fits } in
     let f = c.judge_found.ensures o.passes.cs o.bs o.ns (stands _ _ _ o w) o.found in
-    record { judged = judged _ _ _ o f; placed = placed _ _ _ o f }
+    let v : VerdictOn c.in-Ok.names c.args.words.now c.judge_found.result = record { judged = judged _ _ _ o f; placed = placed _ _ _ o f } in
+    rw c.in-Ok.is v

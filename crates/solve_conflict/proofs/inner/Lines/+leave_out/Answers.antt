@@ -11,7 +11,7 @@ use Rattle.solve_conflict.proofs.inner.Lines.+leave_out.Goals.{
 }
 
 pub switch-requires-clause-within : goal.switch-requires-clause-within
-switch-requires-clause-within t c = omega (arith, few c.args.self.set.trees.0, c.args.self.fine.small, c.requires.within)
+switch-requires-clause-within t c = omega (arith, few c.args.self.set.all.trees.0, c.args.self.set.fine.small, c.requires.within)
 
 pub returns-in_err-is_refused : goal.returns-in_err-is_refused
 returns-in_err-is_refused t c =
@@ -23,7 +23,7 @@ returns-then-branch t c =
     left-none _ _ _ _ c.requires.order c.requires.within _ _ c.switch.ensures _ c.is_refused.ensures _ (c.in_ok-is_refused.was ∙ ap Ok c.if-branch.true)
 
 pub switch-requires-2-clause-within : goal.switch-requires-2-clause-within
-switch-requires-2-clause-within t c = omega (arith, few c.args.self.set.trees.0, c.args.self.fine.small, c.requires.within)
+switch-requires-2-clause-within t c = omega (arith, few c.args.self.set.all.trees.0, c.args.self.set.fine.small, c.requires.within)
 
 pub returns-then-halvings-eq0 : goal.returns-then-halvings-eq0
 returns-then-halvings-eq0 t c =
