@@ -7,14 +7,14 @@ pub mod sheets;
 ghost use Rattle.std.specs.Prelude.{◌≡◌};
 ghost use Rattle.calls_defined.specs.Dispatch.{served, dispatch};
 
-use calls_lists::listed;
-use calls_values::{exponent, product};
-use solve_confirm::confirm;
-use lines::check_line;
-use named::{compared, entered, named};
 use calls_defined::told::{Told, solution, written};
 use calls_defined::{Asked, Lists};
+use calls_lists::listed;
+use calls_values::{exponent, product};
+use lines::check_line;
+use named::{compared, entered, named};
 use sheets::sheet;
+use solve_confirm::confirm;
 
 /// The calls have the numbers 1 to this.
 pub const LAST: u32 = 32;

@@ -6,14 +6,14 @@ ghost use Rattle.judge.specs.Told.{judgedAs};
 ghost use Rattle.calls_defined.specs.Dispatch.{done, sheets, batchOf};
 ghost use Rattle.calls_defined.specs.Given.{at_most, pair_at, pairsFrom, entriesIn};
 
-use solve_batch::solve_all;
-use solve_ceiling::ceiling;
-use judge_entries::Entry;
-use judge::judge;
-use rules::Refusal;
 use calls_defined::told::{Told, batched, judged, limited};
 use calls_defined::words::word_of;
 use calls_defined::{Asked, Lists};
+use judge::judge;
+use judge_entries::Entry;
+use rules::Refusal;
+use solve_batch::solve_all;
+use solve_ceiling::ceiling;
 
 // As many entries are handed on at the most: no longer list of pairs is sent.
 const ENTRIES: usize = 5120;

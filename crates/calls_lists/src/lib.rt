@@ -7,18 +7,18 @@ ghost use Rattle.rules.specs.Calls.{lent, addCall};
 ghost use Rattle.calls_defined.specs.Saying.{checkedAs, addedAs};
 ghost use Rattle.calls_defined.specs.Dispatch.{done, looking, listing};
 
-use solve_add::add;
-use records_buffers::lent;
-use names::check_table;
-use queries::{closed, contains, variables};
-use records::{is_bindings, is_scheme, is_set, is_type};
-use replace_calls::{replace_in_set, replace_in_type};
-use rules::Refusal;
 use calls_defined::told::{Told, added, asked, checked, counted, refused, said, solution, written};
 use calls_defined::words::fill;
 use calls_defined::{Asked, Lists};
+use names::check_table;
+use queries::{closed, contains, variables};
+use records::{is_bindings, is_scheme, is_set, is_type};
+use records_buffers::lent;
+use replace_calls::{replace_in_set, replace_in_type};
+use rules::Refusal;
 use schemes::{generalise, instantiate, quantify};
 use solve::solve;
+use solve_add::add;
 
 // The result buffer begins with the set.
 fn adding_to(

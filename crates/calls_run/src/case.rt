@@ -2,9 +2,9 @@
 ghost use Rattle.std.specs.Prelude.{◌≤◌, length};
 
 use anyhow::{Context, Result, bail, ensure};
+use calls_defined::Asked;
 use names::enter;
 use rules::Was;
-use calls_defined::Asked;
 use std::alloc::Global;
 use std::str::Lines;
 

@@ -5,9 +5,9 @@ mod case;
 
 use anyhow::Result;
 use calls::called;
-use case::{Case, Gives};
 use calls_defined::Lists;
 use calls_defined::told::Told;
+use case::{Case, Gives};
 use std::alloc::Global;
 use std::io;
 

@@ -35,12 +35,7 @@ pub fn conflict_in(
 {
     match outcome {
         Outcome::Remains { .. } => {
-            find_among(
-                Ok(names),
-                &sheet.records,
-                &mut room.res,
-                &mut room.work,
-            )
+            find_among(Ok(names), &sheet.records, &mut room.res, &mut room.work)
         }
         Outcome::Unseen(_) => Ok(None),
         Outcome::Unread(_) => Ok(None),

@@ -11,9 +11,9 @@ ghost use Rattle.edition_certified.specs.Truth.{LinesAreTrue, TextIsTrue};
 use super::Verdict;
 use edition_certificates::verify;
 use rules::{POOL_BYTES, RECORD_WORDS, TABLE_WORDS, WORK_WORDS};
-use text_sheet::NotRead;
 use std::alloc::{AllocError, Global};
 use text::read_text;
+use text_sheet::NotRead;
 
 /// Reads a text over the names so far, and keeps its records.
 pub fn read_over(

@@ -12,8 +12,8 @@ ghost use Rattle.edition_certified.specs.Truth.{VerifiedIsTrue};
 use inner::judge_text;
 use rules::Refusal;
 use sha2::{Digest, Sha256};
-use text_sheet::NotRead;
 use std::alloc::{AllocError, Global};
+use text_sheet::NotRead;
 
 /// What a certificate is worth to the file of a sheet.
 #[derive(Clone, Copy)]

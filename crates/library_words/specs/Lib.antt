@@ -1,3 +1,4 @@
 -- What the contracts of this crate cite, and where a name stands.
 pub mod Words
 pub mod Factors
+pub mod Placing

@@ -10,11 +10,11 @@ mod request;
 ghost use Rattle.serve.specs.Requests.{Fits};
 
 use calls::called;
+use calls_defined::{Asked, Lists};
 use filling::fill_front;
 use lent::Lent;
 use reply::{answer, no_request, told_alone};
 use request::{HEAD, Header, TORN, fault, header_from};
-use calls_defined::{Asked, Lists};
 use std::alloc::{AllocError, Global};
 use std::io;
 use std::io::{Read, Write};
