@@ -59,6 +59,12 @@ fn check_one<R: Eprint + AllocGlobal, W: Write + Drop>(
     Ok(())
 }
 
+// Takes one sheet into what is kept.
+fn keep(alloc: Global, given: &Given, kept: &mut Certificate) -> Result<()> {
+    let files = [given.file()];
+    kept.add(alloc, &files)
+}
+
 /// Reads each file and tells of it, one after another.
 pub fn check<R: Files + Input + Print + Eprint + AllocGlobal>(
     rt: &R,
@@ -79,7 +85,7 @@ pub fn check<R: Files + Input + Print + Eprint + AllocGlobal>(
         let given = read(rt, name, words, &mut buf)?;
         check_one(rt, &given, options, &mut so_far, &mut out)?;
         if options.certificate.is_some() {
-            kept.add(alloc, &[given.file()])?;
+            keep(alloc, &given, &mut kept)?;
         }
     }
     let totals = so_far.totals;

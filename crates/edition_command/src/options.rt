@@ -80,21 +80,12 @@ fn flag<'a>(alloc: Global, name: &'a str, help: &'a str) -> Arg<'a> {
         .action(ArgAction::SetTrue)
 }
 
-// An option that names a file, and can't stand beside these others.
-fn file<'a>(
-    alloc: Global,
-    name: &'a str,
-    help: &'a str,
-    others: &[&'a str],
-) -> Result<Arg<'a>, AllocError> {
-    let mut arg = Arg::new(alloc, name)
+// An option that names a file.
+fn file<'a>(alloc: Global, name: &'a str, help: &'a str) -> Arg<'a> {
+    Arg::new(alloc, name)
         .long(name)
         .value_name("FILE")
-        .help(help);
-    for other in others {
-        arg = arg.conflicts_with(*other)?;
-    }
-    Ok(arg)
+        .help(help)
 }
 
 // What is told, and of which sheets.
@@ -130,8 +121,8 @@ fn with_forms<'a>(alloc: Global, command: Command<'a>) -> Result<Command<'a>, Al
         alloc,
         "html",
         "Write the report as a page of HTML to FILE, and the last line alone on standard output",
-        &["json"],
-    )?;
+    )
+    .conflicts_with("json")?;
     command
         .arg(flag(alloc, "json", "Write one value of JSON in place of lines"))?
         .arg(html)
@@ -143,23 +134,22 @@ fn with_certificates<'a>(alloc: Global, command: Command<'a>) -> Result<Command<
         alloc,
         "certificate",
         "Write to FILE what is to be kept of the accepted sheets: digests, and what their variables stand for",
-        &["json", "html"],
-    )?;
+    )
+    .conflicts_with("json")?
+    .conflicts_with("html")?;
     let verify = file(
         alloc,
         "verify",
         "Solve nothing: judge the sheets by the certificate in FILE",
-        &[
-            "certificate",
-            "json",
-            "html",
-            "quiet",
-            "names",
-            "why",
-            "separate",
-            "strict",
-        ],
-    )?;
+    )
+    .conflicts_with("certificate")?
+    .conflicts_with("json")?
+    .conflicts_with("html")?
+    .conflicts_with("quiet")?
+    .conflicts_with("names")?
+    .conflicts_with("why")?
+    .conflicts_with("separate")?
+    .conflicts_with("strict")?;
     command.arg(certificate)?.arg(verify)
 }
 
