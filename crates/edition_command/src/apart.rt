@@ -15,6 +15,7 @@ use anyhow::{Context, Result};
 use edition::model::{How, Room};
 use edition::telling::tell_each;
 use edition_report::words::put_total;
+use std::alloc::Global;
 use std::io;
 use std::io::{BufWriter, Write};
 use std::rt::Files;
