@@ -74,7 +74,6 @@ pub fn check<R: Files + Input + Print + Eprint + AllocGlobal>(
     options: Options,
 ) -> Result<Totals> {
     let alloc = rt.alloc();
-    let mut buf = front(alloc)?;
     let mut out = Written::new(alloc, BufWriter::new(alloc, io::writer(rt))?);
     let mut so_far = Apart {
         totals: Totals::NONE,
@@ -83,6 +82,7 @@ pub fn check<R: Files + Input + Print + Eprint + AllocGlobal>(
     };
     let mut kept = Certificate::new(alloc);
     for name in names {
+        let mut buf = front(alloc)?;
         let given = read(rt, name, words, &mut buf)?;
         check_one(rt, &given, options, &mut so_far, &mut out)?;
         if options.certificate.is_some() {
