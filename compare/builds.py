@@ -2,7 +2,7 @@
 """The edge cases through other builds of `serve`: builds.py [SERVE]. As Rattle's own compiler builds it, and unproved, with its indices and sums tested as
 it runs (`rt try`), it must write what the proved program SERVE (default crates/serve/out/serve) writes. They have 64 MB of stack: unlike the proved
 program, a build that is not optimised copies the large buffers about."""
-import os, re, resource, subprocess, sys, tempfile
+import os, resource, subprocess, sys, tempfile
 HERE = os.path.dirname(os.path.abspath(__file__))
 sys.path.insert(0, HERE)
 import edges, requests
@@ -36,8 +36,7 @@ def put(folder, n, data, want):
 def main():
     args = sys.argv[1:]
     serve = args[0] if args else ROOT + '/crates/serve/out/serve'
-    last = int(re.search(r'LAST: u32 = (\d+)', open(ROOT + '/crates/calls/src/lib.rt').read()).group(1))
-    cases = edges.cases(last)
+    cases = edges.cases(requests.LAST)
     failed = n = 0
     with tempfile.TemporaryDirectory() as tmp:
         for data, want in chunks(serve, cases):

@@ -5,7 +5,7 @@ NUMBAT is a checkout of numbat at e8abf32b97. The harness is built from it in DI
 `serve` (default crates/serve/out/serve, which `rt run` in crates/serve makes) and compares every answer with numbat's, or with our own reading of the rules
 where numbat has no counterpart. A difference counts as explained when model.py, which has the rules, answers as `serve` did, and
 with the fewest of numbat's deviations switched on as numbat did; each deviation is a number of docs/DIFFERENCES.md. Any other fails the run."""
-import ast, itertools, os, re, subprocess, sys, tempfile, time
+import ast, itertools, os, subprocess, sys, tempfile, time
 from collections import Counter
 HERE = os.path.dirname(os.path.abspath(__file__))
 sys.path.insert(0, HERE)
@@ -18,7 +18,7 @@ KINDS = ['small', 'rich', 'structs', 'wide', 'shared', 'limits', 'damaged', 'nam
 # the share of each kind in a thousand cases
 SHARE = {'lengths': 30, 'small': 400, 'rich': 250, 'structs': 130, 'wide': 120, 'shared': 50, 'limits': 1, 'damaged': 29, 'names': 20}
 # calls that are there: bit n is call n
-LAST = int(re.search(r'LAST: u32 = (\d+)', open(os.path.join(HERE, '../crates/calls/src/lib.rt')).read()).group(1))
+LAST = requests.LAST
 CALLS = sum(1 << n for n in range(1, LAST + 1) if n != 31)    # the harness has no calculation lines: lines.py has its own
 NUMBER = {'params': 1, 'args': 2, 'dups': 3, 'inst': 5, 'isdim': 7, 'shared': 11, 'big': 12}
 

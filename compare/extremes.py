@@ -98,7 +98,7 @@ def main():
         n = 20
         best = min((cpu(serve, one * (n + 1)) - cpu(serve, one)) / n for _ in range(3))
         s = stack_of(serve, one)
-        print('| %s | %d | %d | %d | %.2f ms | %d KB |' % (what, len(q.lists[0]) // 4, r[0], r[3], best * 1000, (s - base[q.result > 9216]) // 1024), flush=True)
+        print('| %s | %d | %d | %d | %.2f ms | %d KB |' % (what, len(q.lists[0]) // 4, r[0], r[3], best * 1000, max(0, s - base[q.result > 9216]) // 1024), flush=True)
     print('\nThe program itself needs %d KB, with a large result buffer %d KB.' % (base[False] // 1024, base[True] // 1024))
 
 

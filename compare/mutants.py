@@ -5,7 +5,7 @@ where a part is answered otherwise than the real program answers it. Prints a li
 import glob, os, re, shutil, subprocess, sys, tempfile
 HERE = os.path.dirname(os.path.abspath(__file__))
 sys.path.insert(0, HERE)
-import builds, edges
+import builds, edges, requests
 ROOT = os.path.dirname(HERE)
 
 
@@ -49,9 +49,7 @@ def main():
         i = args.index('--serve')
         serve = args[i + 1]
         del args[i:i + 2]
-    text = open(os.path.join(ROOT, 'crates/calls/src/lib.rt')).read()
-    last = int(re.search(r'LAST: u32 = (\d+)', text).group(1))
-    cases = edges.cases(last)
+    cases = edges.cases(requests.LAST)
     unnoticed = n = 0
     with tempfile.TemporaryDirectory() as parts:
         for data, want in builds.chunks(serve, cases):

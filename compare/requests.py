@@ -1,7 +1,13 @@
 """Requests of `serve` from cases written as text (the lines that model.py answers), and answers read back: docs/SERVE.md has the form."""
+import os
+import re
 import struct
 from array import array
 import model
+
+# how many calls there are: the last number that `Call::from_number` knows
+NUMBERS = os.path.join(os.path.dirname(os.path.abspath(__file__)), '../crates/calls_defined/src/numbers.rt')
+LAST = max(int(n) for n in re.findall(r'(\d+) => Some\(Call::', open(NUMBERS).read()))
 
 CALLS = {'check_table': 1, 'name_of': 2, 'enter': 3, 'compare': 4, 'exp add': 5, 'exp mul': 6, 'exp neg': 7, 'exp div': 8,
          'prod mul': 9, 'prod div': 10, 'prod inv': 11, 'prod pow': 12, 'is_set': 13, 'is_type': 14, 'is_scheme': 15, 'is_bindings': 16,

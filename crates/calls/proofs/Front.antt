@@ -6,7 +6,7 @@ use native.Mathlib.Omega.{arith}
 use lib.ListN.{length, take, set, length-map}
 use lib.Seq.{take_all}
 use Rattle.std.proofs.Math.Decide.{dec_lt}
-use Rattle.std.proofs.lemmas.List.{length-take-le}
+use Rattle.std.proofs.lemmas.List.{length-take-le, take-map}
 use Rattle.std.proofs.lemmas.List.Edits.{sets}
 use Rattle.calls_defined.specs.Given.{nameIn}
 use Rattle.calls_defined.specs.Fills.{low_byte}
@@ -23,11 +23,6 @@ module _ {A : Type 0} where
   filled (x ∷ xs) [] (suc n) p q = absurd (omega arith)
   filled (x ∷ xs) (y ∷ d) (suc n) p q = rw (sets-tail x d 0 xs) (ap (λ (r : List A). x ∷ r) (filled xs d n (omega arith) (omega arith)))
 
-pub map_take : {A B : Type 0} (f : A → B) (n : ℕ) (xs : List A) → take n (map f xs) ≡ map f (take n xs)
-map_take f zero xs = refl
-map_take f (suc n) [] = refl
-map_take f (suc n) (x ∷ xs) = ap (λ r. f x ∷ r) (map_take f n xs)
-
 take-less : {A : Type 0} (xs : List A) (m n : ℕ) → n ≡ min (length xs) m → take n xs ≡ take m xs
 take-less xs m n e = go (dec_lt (length xs) m)
   where
@@ -39,7 +34,7 @@ take-less xs m n e = go (dec_lt (length xs) m)
 pub name-bytes : (a d : List ℕ) (n : ℕ) {c : List ℕ} → length d ≡ 512 → n ≡ min (length a) 512 → c ≡ sets d 0 (map low_byte a) → take n c ≡ nameIn a
 name-bytes a d n l e w =
     let k : n ≤ length (map low_byte a) = rw (length-map a low_byte) (omega (arith, e)) in
-    ap (take n) w ∙ filled (map low_byte a) d n k (omega (arith, e, l)) ∙ map_take low_byte n a ∙ ap (map low_byte) (take-less a 512 n e)
+    ap (take n) w ∙ filled (map low_byte a) d n k (omega (arith, e, l)) ∙ take-map low_byte n a ∙ ap (map low_byte) (take-less a 512 n e)
 
 -- the front of a list that was copied to a buffer with room for it
 pub front-words : (xs d : List ℕ) (m : ℕ) {x : List ℕ} → m ≤ length xs → m ≤ length d → x ≡ sets d 0 (take m xs) → take m x ≡ take m xs

@@ -4,4 +4,5 @@ pub mod Front
 pub mod Names
 pub mod Pairs
 pub mod Sets
-pub mod Numbers
+pub mod Arms
+pub mod OfValues

@@ -1,1 +1,2 @@
--- This crate needs no definition of its own: what the calls come to stands in saying.
+-- What the calls come to stands in calls_defined; here is what the parts of a call cite besides.
+pub mod Values

@@ -15,7 +15,7 @@ const POOL: usize = 9216;
 
 const TABLE: usize = 512;
 
-/// 2: the bytes of the name with this number, a word each, at the front of the result buffer.
+/// The bytes of the name with this number, a word each, at the front of the result buffer.
 pub fn named(pool: &[u8], table: &[u32], x: u32, res: &mut [u32]) -> Told
     ensures { shown result res.new ≡ naming pool.now table.now x res.old }
 {
@@ -27,7 +27,7 @@ pub fn named(pool: &[u8], table: &[u32], x: u32, res: &mut [u32]) -> Told
     }
 }
 
-/// 4: how two names compare, a word for each byte.
+/// How two names compare, a word for each byte.
 pub fn compared(a: &[u32], b: &[u32]) -> Told
     ensures { result ≡ comparing a.now b.now }
 {
@@ -68,7 +68,7 @@ fn put_changes(before: &[u32], after: &[u32], from: usize, res: &mut [u32]) -> u
     next
 }
 
-/// 3: enters a name, a word for each byte. The answer is its number; the result buffer begins with what that changed: places of the pool and their
+/// Enters a name, a word for each byte. The answer is its number; the result buffer begins with what that changed: places of the pool and their
 /// bytes now, a word of ones, places of the table and their words now. The first 9,216 bytes of the pool and the first 512 words of the table are
 /// looked at.
 pub fn entered(pool: &mut [u8], table: &mut [u32], b: &[u32], res: &mut [u32]) -> Told

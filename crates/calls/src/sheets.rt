@@ -1,19 +1,17 @@
-//! The calls on whole sets beside solving: the judge, the ceiling on rounds, and several sets at once.
+//! The calls on whole sets that take more than one step: the judge, and several sets at once.
 ghost use Rattle.std.specs.Prelude.{◌≡◌, ◌≤◌, length, take};
 ghost use Rattle.rules.specs.Calls.{judgeCall};
 ghost use Rattle.judge_entries.specs.Entries.{toldEntry, told};
 ghost use Rattle.judge.specs.Told.{judgedAs};
-ghost use Rattle.calls_defined.specs.Dispatch.{done, sheets, batchOf};
+ghost use Rattle.calls_defined.specs.Dispatch.{done, batchOf};
 ghost use Rattle.calls_defined.specs.Given.{at_most, pair_at, pairsFrom, entriesIn};
 
-use calls_defined::told::{Told, batched, judged, limited};
+use calls_defined::told::{Told, batched};
 use calls_defined::words::word_of;
-use calls_defined::{Asked, Lists};
 use judge::judge;
 use judge_entries::Entry;
 use rules::Refusal;
 use solve_batch::solve_all;
-use solve_ceiling::ceiling;
 
 // As many entries are handed on at the most: no longer list of pairs is sent.
 const ENTRIES: usize = 5120;
@@ -48,25 +46,8 @@ fn entries_from(b: &[u32], n: usize) -> [Entry; ENTRIES]
     es
 }
 
-// The judge on the first n entries of an array.
-fn judge_first(
-    pool: &[u8],
-    table: &[u32],
-    set: &[u32],
-    es: [Entry; ENTRIES],
-    n: usize,
-    types: &[u32],
-    bounds: &[u32],
-    work: &mut [u32],
-) -> Result<bool, Refusal>
-    requires { n ≤ 5120 }
-    ensures { judgedAs result work.new ≡ judgeCall pool.now table.now set.now (told (take n es)) types.now bounds.now work.old }
-{
-    judge(pool, table, set, &es[..n], types, bounds, work)
-}
-
-// The judge, with its entries as pairs of words.
-fn judge_pairs(
+/// The judge, with its entries as pairs of words.
+pub fn judge_pairs(
     pool: &[u8],
     table: &[u32],
     set: &[u32],
@@ -79,11 +60,11 @@ fn judge_pairs(
 {
     let n = (pairs.len() / 2).min(ENTRIES);
     let es = entries_from(pairs, n);
-    judge_first(pool, table, set, es, n, types, bounds, work)
+    judge(pool, table, set, &es[..n], types, bounds, work)
 }
 
-// Several sets. The first x words of the result buffer are lent as the buffer of their answers, the others as the result buffer.
-fn batch(
+/// Several sets. The first x words of the result buffer are lent as the buffer of their answers, the others as the result buffer.
+pub fn batch(
     pool: &[u8],
     table: &[u32],
     sets: &[u32],
@@ -101,24 +82,4 @@ fn batch(
         solve_all(pool, table, sets, lengths, rest, answers, work),
         n,
     )
-}
-
-/// 28 judge, 29 ceiling, 30 several sets: `sheets` (`calls_defined/specs/Dispatch`).
-pub fn sheet(
-    q: Asked,
-    lists: Lists,
-    pool: &[u8],
-    table: &[u32],
-    res: &mut [u32],
-    work: &mut [u32],
-) -> Told
-    ensures { done result res.new work.new ≡
-        sheets q pool.now table.now lists.entry.a.now lists.entry.b.now lists.entry.c.now lists.entry.d.now res.old work.old }
-{
-    let Lists { a, b, c, d } = lists;
-    match q.call {
-        28 => judged(judge_pairs(pool, table, a, b, c, d, work)),
-        29 => limited(ceiling(pool, table, a)),
-        _ => batch(pool, table, a, b, q.x, res, work),
-    }
 }

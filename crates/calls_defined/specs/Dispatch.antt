@@ -1,4 +1,4 @@
--- What each call by its number comes to (docs/SERVE.md): the call's own definition of the rules on the words that were given, what is told of it in words,
+-- What each call comes to (docs/SERVE.md): the call's own definition of the rules on the words that were given, what is told of it in words,
 -- and what all that is lent holds then.
 use Rattle.std.specs.Prelude.{ℕ, zero, suc, List, [], ◌∷◌, ◌++◌, map, length, take, drop, ◌==◌, slice_index}
 use Rattle.std.proofs.lemmas.List.Edits.{sets}
@@ -33,6 +33,41 @@ use Rattle.calls_defined.specs.Given.{at_most, exponentAt, productAt, nameIn, en
 use Rattle.calls_defined.specs.Saying.{pick, word, saidAs, refusedAs, checkedAs, askedAs, numberAs, orderAs}
 use Rattle.calls_defined.specs.Saying.{countedAs, writtenAs, addedAs, solvedAs, ceilingAs, batchedAs}
 use Rattle.calls_defined.specs.declared.Asked.{Asked}
+use Rattle.calls_defined.specs.declared.numbers.Call.{Call}
+use Rattle.calls_defined.specs.declared.numbers.Call.TheVariants.{
+  CheckTable,
+  NameOf,
+  Enter,
+  Compare,
+  AddExponents,
+  MultiplyExponents,
+  NegateExponent,
+  DivideExponents,
+  MultiplyProducts,
+  DivideProducts,
+  InvertProduct,
+  RaiseProduct,
+  IsSet,
+  IsType,
+  IsScheme,
+  IsBindings,
+  Contains,
+  Closed,
+  Variables,
+  Add,
+  ReplaceInType,
+  ReplaceInSet,
+  Solve,
+  Lent,
+  Quantify,
+  Generalise,
+  Instantiate,
+  Judge,
+  Ceiling,
+  SolveAll,
+  CheckLine,
+  Confirm,
+}
 use Rattle.calls_defined.specs.declared.told.Told.{Told}
 
 -- ══ What a call leaves: what is told, and the buffers that it is lent to change ══
@@ -71,19 +106,14 @@ named t pool table result = record { told = t; pool = pool; table = table; resul
 abbrev pub served : Told → List ℕ → List ℕ → List ℕ → List ℕ → Served
 served t pool table result work = record { told = t; pool = pool; table = table; result = result; work = work }
 
--- what stands at a number in a table, or the other
-abbrev pub byNumber : {A : Type 0} → ℕ → List (ℕ × A) → A → A
-byNumber n [] other = other
-byNumber n (x ∷ xs) other = pick (n == x.0) x.1 (byNumber n xs other)
-
--- ══ Names: 2, 3, 4 ══
+-- ══ Names ══
 
 -- how many bytes the name has
 abbrev pub nameAs : Got Bytes → Told
 nameAs (got name) = saidAs 0 0 (length name)
 nameAs (refused n) = refusedAs n 0 0
 
--- 2: the bytes of the name with this number, a word each, as far as the result buffer goes
+-- the bytes of the name with this number, a word each, as far as the result buffer goes
 unfoldable pub naming : List ℕ → List ℕ → ℕ → List ℕ → Shown
 naming pool table x result = shown (nameAs (nameAsked pool table x)) (sets result 0 (part_of (nameAsked pool table x)))
 
@@ -106,32 +136,21 @@ changes pool table e =
 unfoldable pub enteredAs : List ℕ → List ℕ → Entered → List ℕ → Named
 enteredAs pool table e result = named (numberAs e.answer (length (changes pool table e))) e.pool e.table (sets result 0 (changes pool table e))
 
--- 3: a name is entered; its number, and what that changed
+-- a name is entered; its number, and what that changed
 unfoldable pub entering : List ℕ → List ℕ → List ℕ → List ℕ → Named
 entering pool table b result = enteredAs pool table (enter pool table (nameIn b)) result
 
--- 4: two names
+-- two names
 unfoldable pub comparing : List ℕ → List ℕ → Told
 comparing a b = orderAs (orderBytes (nameIn a) (nameIn b))
 
--- ══ Exponents: 5 to 8 ══
+-- ══ Exponents ══
 
 abbrev pub powerAs : Got Exp → Told
 powerAs (got (frac n d)) = saidAs (twos n) d 0
 powerAs (refused n) = refusedAs n 0 0
 
-abbrev pub exponentCalls : List ℕ → List (ℕ × Got Exp)
-exponentCalls a =
-    (5, sumCall (exponentAt a 0) (exponentAt a 2))
-    ∷ (6, timesCall (exponentAt a 0) (exponentAt a 2))
-    ∷ (7, negationCall (exponentAt a 0))
-    ∷ []
-
--- any other number is taken for 8
-unfoldable pub exponents : ℕ → List ℕ → Told
-exponents n a = powerAs (byNumber n (exponentCalls a) (quotientCall (exponentAt a 0) (exponentAt a 2)))
-
--- ══ Products: 9 to 12 ══
+-- ══ Products ══
 
 -- the four words of a factor, and those of a product or, beside a refusal, of the scalar: all 64 places
 abbrev pub factorWords : FactorValue → List ℕ
@@ -154,35 +173,7 @@ productAs (refused n) = refusedAs n 0 256
 unfoldable pub productShown : Got (Product ℕ) → List ℕ → Shown
 productShown m result = shown (productAs m) (sets result 0 (collect factorWords (productValue (productOr m)).factors))
 
-abbrev pub productCalls : Asked → List ℕ → List ℕ → List ℕ → List ℕ → List (ℕ × Got (Product ℕ))
-productCalls q a b pool table =
-    (9, multiplyCall pool table (productAt a q.x) (productAt b q.y))
-    ∷ (10, divideCall pool table (productAt a q.x) (productAt b q.y))
-    ∷ (11, inverseCall pool table (productAt a q.x))
-    ∷ []
-
--- any other number is taken for 12
-unfoldable pub products : Asked → List ℕ → List ℕ → List ℕ → List ℕ → List ℕ → Shown
-products q a b pool table result =
-    productShown (byNumber q.call (productCalls q a b pool table) (raiseCall pool table (productAt a q.x) (exponentAt b 0))) result
-
--- ══ Lists that are looked at: 1, 13 to 18 ══
-
-abbrev pub lookCalls : Asked → List ℕ → List ℕ → List ℕ → List (ℕ × Told)
-lookCalls q pool table a =
-    (1, checkedAs (tableGiven pool table))
-    ∷ (13, checkedAs (setCall pool table a))
-    ∷ (14, checkedAs (typeCall pool table a))
-    ∷ (15, checkedAs (schemeCall pool table a))
-    ∷ (16, checkedAs (bindingsCall pool table a))
-    ∷ (17, askedAs (containsCall pool table a q.x (q.y == 1)))
-    ∷ []
-
--- any other number is taken for 18
-unfoldable pub looking : Asked → List ℕ → List ℕ → List ℕ → Told
-looking q pool table a = byNumber q.call (lookCalls q pool table a) (askedAs (closedCall pool table a))
-
--- ══ Lists that are written: 19 to 27 ══
+-- ══ Lists that are written ══
 
 abbrev pub listed : Listed → List ℕ → Done
 listed l work = done (countedAs l.answer) l.result work
@@ -196,46 +187,17 @@ written w = done (writtenAs w.answer) w.result w.work
 abbrev pub solution : Solution → Done
 solution s = done (solvedAs s.answer) s.result s.work
 
--- 20: the set stands at the front of the result buffer before the call
-abbrev pub listCalls : Asked → List ℕ → List ℕ → List ℕ → List ℕ → List ℕ → List ℕ → List ℕ → List (ℕ × Done)
-listCalls q pool table a b c result work =
-    (19, listed (variablesCall pool table a (q.y == 1) result) work)
-    ∷ (20, added (addCall pool table (sets result 0 a) q.x b) (length a) work)
-    ∷ (21, written (replaceTypeCall pool table a b result work))
-    ∷ (22, written (replaceSetCall pool table a b result work))
-    ∷ (23, solution (solveCall pool table a result work))
-    ∷ (24, done (checkedAs (lent pool table result work)) result work)
-    ∷ (25, written (quantifyCall pool table a b c result work))
-    ∷ (26, written (generaliseCall pool table a b result work))
-    ∷ (27, written (instantiateCall pool table a b result work))
-    ∷ []
-
--- any other number is one of those that look
-unfoldable pub listing : Asked → List ℕ → List ℕ → List ℕ → List ℕ → List ℕ → List ℕ → List ℕ → Done
-listing q pool table a b c result work = byNumber q.call (listCalls q pool table a b c result work) (done (looking q pool table a) result work)
-
--- ══ Whole sets beside solving: 28, 29, 30 ══
+-- ══ Whole sets beside solving ══
 
 abbrev pub judged : Judged → List ℕ → Done
 judged j result = done (askedAs j.answer) result j.work
 
--- 30: the first n words of the result buffer are lent as the buffer of the answers, the others as the result buffer
+-- several sets: the first n words of the result buffer are lent as the buffer of the answers, the others as the result buffer
 abbrev pub batched : ℕ → Batch → Done
 batched n s = done (batchedAs s.answer n) (s.answers ++ s.result) s.work
 
 abbrev pub batchOf : ℕ → List ℕ → List ℕ → List ℕ → List ℕ → List ℕ → List ℕ → Done
 batchOf n pool table a b result work = batched n (batchCall pool table a b (drop n result) (take n result) work)
-
-abbrev pub sheetCalls : List ℕ → List ℕ → List ℕ → List ℕ → List ℕ → List ℕ → List ℕ → List ℕ → List (ℕ × Done)
-sheetCalls pool table a b c d result work =
-    (28, judged (judgeCall pool table a (entriesIn b) c d work) result)
-    ∷ (29, done (ceilingAs (ceilingCall pool table a)) result work)
-    ∷ []
-
--- any other number is taken for 30
-unfoldable pub sheets : Asked → List ℕ → List ℕ → List ℕ → List ℕ → List ℕ → List ℕ → List ℕ → List ℕ → Done
-sheets q pool table a b c d result work =
-    byNumber q.call (sheetCalls pool table a b c d result work) (batchOf (at_most (at_most q.x 512) (length result)) pool table a b result work)
 
 -- ══ All calls ══
 
@@ -253,18 +215,37 @@ module _ (q : Asked) (pool table a b c d result work : List ℕ) where
   abbrev enters : Named → Served
   enters s = served s.told s.pool s.table s.result work
 
-  -- the numbers of the groups; every other, 1 and 13 to 27 among them, is a call on lists
-  abbrev pub allCalls : List (ℕ × Served)
-  allCalls =
-      (2, shows (naming pool table q.x result))
-      ∷ (3, enters (entering pool table b result))
-      ∷ (4, says (comparing a b))
-      ∷ map (λ n. (n, says (exponents n a))) (5 ∷ 6 ∷ 7 ∷ 8 ∷ [])
-      ++ map (λ n. (n, shows (products q a b pool table result))) (9 ∷ 10 ∷ 11 ∷ 12 ∷ [])
-      ++ map (λ n. (n, does (sheets q pool table a b c d result work))) (28 ∷ 29 ∷ 30 ∷ [])
-      ++ (31, does (written (checkLineCall pool table a b c d result work)))
-      ∷ (32, does (solution (confirmCall pool table a result work)))
-      ∷ []
-
-  unfoldable pub dispatch : Served
-  dispatch = byNumber q.call allCalls (does (listing q pool table a b c result work))
+  unfoldable pub dispatch : Call → Served
+  dispatch CheckTable = says (checkedAs (tableGiven pool table))
+  dispatch NameOf = shows (naming pool table q.x result)
+  dispatch Enter = enters (entering pool table b result)
+  dispatch Compare = says (comparing a b)
+  dispatch AddExponents = says (powerAs (sumCall (exponentAt a 0) (exponentAt a 2)))
+  dispatch MultiplyExponents = says (powerAs (timesCall (exponentAt a 0) (exponentAt a 2)))
+  dispatch NegateExponent = says (powerAs (negationCall (exponentAt a 0)))
+  dispatch DivideExponents = says (powerAs (quotientCall (exponentAt a 0) (exponentAt a 2)))
+  dispatch MultiplyProducts = shows (productShown (multiplyCall pool table (productAt a q.x) (productAt b q.y)) result)
+  dispatch DivideProducts = shows (productShown (divideCall pool table (productAt a q.x) (productAt b q.y)) result)
+  dispatch InvertProduct = shows (productShown (inverseCall pool table (productAt a q.x)) result)
+  dispatch RaiseProduct = shows (productShown (raiseCall pool table (productAt a q.x) (exponentAt b 0)) result)
+  dispatch IsSet = says (checkedAs (setCall pool table a))
+  dispatch IsType = says (checkedAs (typeCall pool table a))
+  dispatch IsScheme = says (checkedAs (schemeCall pool table a))
+  dispatch IsBindings = says (checkedAs (bindingsCall pool table a))
+  dispatch Contains = says (askedAs (containsCall pool table a q.x (q.y == 1)))
+  dispatch Closed = says (askedAs (closedCall pool table a))
+  dispatch Variables = does (listed (variablesCall pool table a (q.y == 1) result) work)
+  -- the set stands at the front of the result buffer before the call
+  dispatch Add = does (added (addCall pool table (sets result 0 a) q.x b) (length a) work)
+  dispatch ReplaceInType = does (written (replaceTypeCall pool table a b result work))
+  dispatch ReplaceInSet = does (written (replaceSetCall pool table a b result work))
+  dispatch Solve = does (solution (solveCall pool table a result work))
+  dispatch Lent = says (checkedAs (lent pool table result work))
+  dispatch Quantify = does (written (quantifyCall pool table a b c result work))
+  dispatch Generalise = does (written (generaliseCall pool table a b result work))
+  dispatch Instantiate = does (written (instantiateCall pool table a b result work))
+  dispatch Judge = does (judged (judgeCall pool table a (entriesIn b) c d work) result)
+  dispatch Ceiling = says (ceilingAs (ceilingCall pool table a))
+  dispatch SolveAll = does (batchOf (at_most (at_most q.x 512) (length result)) pool table a b result work)
+  dispatch CheckLine = does (written (checkLineCall pool table a b c d result work))
+  dispatch Confirm = does (solution (confirmCall pool table a result work))

@@ -3,4 +3,5 @@ pub mod Saying
 pub mod Same
 pub mod Fills
 pub mod Given
+pub mod Numbers
 pub mod Dispatch

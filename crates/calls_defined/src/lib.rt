@@ -1,13 +1,13 @@
 //! What a call by its number says, in words, and the words and bytes of buffers: the calls behind their numbers share this.
 #![tactic(auto)]
 
+pub mod numbers;
 pub mod told;
 pub mod words;
 
-/// The number of a call, and the two words that some calls take beside their lists.
+/// The two words that some calls take beside their lists.
 #[derive(Clone, Copy)]
 pub struct Asked {
-    pub call: u32,
     pub x: u32,
     pub y: u32,
 }

@@ -80,7 +80,7 @@ fn yes(b: bool) -> u32
     if b { 1 } else { 0 }
 }
 
-/// No 0, yes 1.
+/// No 0, yes 1; the judge's too.
 pub fn asked(a: Result<bool, Refusal>) -> Told
     ensures { result ≡ askedAs (told a) }
 {
@@ -192,16 +192,6 @@ pub fn solution(s: Solution) -> Told
         Ok(Finish::Solved(b, n)) => accepted(b, n, rounds),
         Ok(Finish::Unsolved(n)) => remaining(n, rounds),
         Err(why) => refused(why, rounds, 0),
-    }
-}
-
-/// The judge's no 0 or yes 1.
-pub fn judged(answer: Result<bool, Refusal>) -> Told
-    ensures { result ≡ askedAs (told answer) }
-{
-    match answer {
-        Ok(holds) => said(yes(holds), 0, 0),
-        Err(why) => refused(why, 0, 0),
     }
 }
 

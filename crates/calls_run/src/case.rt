@@ -3,6 +3,7 @@ ghost use Rattle.std.specs.Prelude.{◌≤◌, length};
 
 use anyhow::{Context, Result, bail, ensure};
 use calls_defined::Asked;
+use calls_defined::numbers::Call;
 use names::enter;
 use rules::Was;
 use std::alloc::Global;
@@ -46,6 +47,7 @@ pub struct Words {
 #[derive(Drop)]
 pub struct Case {
     pub table: Table,
+    pub call: Call,
     pub asked: Asked,
     pub lent: Lent,
     pub words: Words,
@@ -118,8 +120,8 @@ impl Gives {
     }
 }
 
-/// The call, and how much is lent.
-fn asks(alloc: Global, text: &str) -> Result<(Asked, Lent)> {
+/// The call with the two words beside its lists, and how much is lent.
+fn asks(alloc: Global, text: &str) -> Result<(Call, Asked, Lent)> {
     let (asks, lent) = text.split_once("lent").context("asks has a lent")?;
     let [call, x, y] = *numbers(alloc, asks)?.as_slice() else {
         bail!("asks has three numbers");
@@ -133,7 +135,8 @@ fn asks(alloc: Global, text: &str) -> Result<(Asked, Lent)> {
         result: result as usize,
         work: work as usize,
     };
-    Ok((Asked { call, x, y }, lent))
+    let call = Call::from_number(call).context("no call has this number")?;
+    Ok((call, Asked { x, y }, lent))
 }
 
 impl Words {
@@ -156,9 +159,10 @@ impl Case {
         ensures onward { length lines.new.rest.now ≤ length lines.old.rest.now }
     {
         let names = behind(lines.next(), "case")?;
-        let (asked, lent) = asks(alloc, behind(lines.next(), "asks")?)?;
+        let (call, asked, lent) = asks(alloc, behind(lines.next(), "asks")?)?;
         Ok(Case {
             table: Table::new(alloc, names, lent)?,
+            call,
             asked,
             lent,
             words: Words::read(alloc, lines)?,

@@ -6,6 +6,7 @@ mod case;
 use anyhow::Result;
 use calls::called;
 use calls_defined::Lists;
+use calls_defined::numbers::Call;
 use calls_defined::told::Told;
 use case::{Case, Gives};
 use std::alloc::Global;
@@ -18,11 +19,26 @@ const RESULT_BEFORE: u32 = 0xaaaaaaaa;
 const WORK_BEFORE: u32 = 0x55555555;
 
 /// What the work buffer's words are after a call: zero where the call has one, except after a 10.
-fn work_after(call: u32, refusal: u32) -> u32 {
-    match (call, refusal) {
-        (_, 10) => WORK_BEFORE,
-        (21..=23 | 25..=28 | 30..=32, _) => 0,
-        _ => WORK_BEFORE,
+fn work_after(call: Call, refusal: u32) -> u32 {
+    if refusal != 10 && takes_work(call) {
+        0
+    } else {
+        WORK_BEFORE
+    }
+}
+
+/// Does the call write to the work buffer, so that it clears it at its end?
+fn takes_work(call: Call) -> bool {
+    match call {
+        Call::ReplaceInType | Call::ReplaceInSet | Call::Solve | Call::Confirm => true,
+        Call::Quantify | Call::Generalise | Call::Instantiate => true,
+        Call::Judge | Call::SolveAll | Call::CheckLine => true,
+        Call::CheckTable | Call::NameOf | Call::Enter | Call::Compare => false,
+        Call::AddExponents | Call::MultiplyExponents | Call::NegateExponent => false,
+        Call::DivideExponents | Call::MultiplyProducts | Call::DivideProducts => false,
+        Call::InvertProduct | Call::RaiseProduct | Call::IsSet | Call::IsType => false,
+        Call::IsScheme | Call::IsBindings | Call::Contains | Call::Closed => false,
+        Call::Variables | Call::Add | Call::Lent | Call::Ceiling => false,
     }
 }
 
@@ -44,6 +60,7 @@ fn begins(buffer: &[u32], words: &[u32]) -> bool {
 fn holds(alloc: Global, case: Case) -> Result<bool> {
     let Case {
         mut table,
+        call,
         asked,
         lent,
         words,
@@ -58,6 +75,7 @@ fn holds(alloc: Global, case: Case) -> Result<bool> {
         d: &words.fourth,
     };
     let told = called(
+        call,
         asked,
         lists,
         &mut table.pool,
@@ -65,7 +83,7 @@ fn holds(alloc: Global, case: Case) -> Result<bool> {
         &mut result,
         &mut work,
     );
-    let after = work_after(asked.call, gives.refusal);
+    let after = work_after(call, gives.refusal);
     Ok(
         told_holds(&told, &gives)
             && begins(&result, &gives.words)

@@ -3,6 +3,7 @@ use Rattle.std.specs.Prelude.{◌≡◌, Bool, true, false, ◌||◌, ℕ, lengt
 use Rattle.std.proofs.Math.Path.{refl, ap₂}
 use Rattle.std.proofs.Common.{sym, ap, ◌∙◌, arith, lt-ltb, ltb-true, eq-eqb}
 use Rattle.std.proofs.Math.Bool.{◌&&◌, or-true}
+use Rattle.std.proofs.lemmas.Bool.{or_left}
 use mathlib.Core.List.{List, [], ◌∷◌}
 use Rattle.std.proofs.Math.Dec.{eqb}
 use Rattle.rules.specs.Names.{Bytes, Table, table_of, names_of, is_held}
@@ -69,9 +70,6 @@ module _ {pool table : List ℕ} (g : Good pool table) (p : ℕ → Bool) where
 
 -- ══ What occurs in a set occurs in them all ══
 
-some_left : (a b : Bool) → a ≡ true → (a || b) ≡ true
-some_left a b e = ap (◌|| b) e
-
 module _ {pool table : List ℕ} (g : Good pool table) (whole : List ℕ) where
   abbrev p : ℕ → Bool
   p = keeps (table_of pool table).count whole
@@ -88,6 +86,6 @@ module _ {pool table : List ℕ} (g : Good pool table) (whole : List ℕ) where
   kept-words (w ∷ a ∷ []) f h = tt
   kept-words (w ∷ a ∷ b ∷ []) f h = tt
   kept-words (w ∷ a ∷ b ∷ c ∷ ws) f h = (
-    (λ e. kept_if a (h.0 e) (f a (some_left (namesOne (kindIn w) b && eqb a a) (occurs ws a) (ap₂ ◌&&◌ e (eq-eqb a a refl))))),
+    (λ e. kept_if a (h.0 e) (f a (or_left (namesOne (kindIn w) b && eqb a a) (occurs ws a) (ap₂ ◌&&◌ e (eq-eqb a a refl))))),
     kept-words ws (λ i e. f i (ap ((namesOne (kindIn w) b && eqb a i) ||◌) e ∙ or-true (namesOne (kindIn w) b && eqb a i))) h.1,
   )

@@ -2,7 +2,7 @@
 use Rattle.std.specs.Prelude.{◌≡◌, Bool, true, false, ◌&&◌, ◌||◌, eqb, length, drop}
 use Rattle.std.proofs.Math.Path.{refl, ap₂}
 use Rattle.std.proofs.Common.{sym, ap, ◌∙◌, arith}
-use Rattle.std.proofs.Math.Bool.{or-true}
+use Rattle.std.proofs.lemmas.Bool.{or_right}
 use mathlib.Core.List.{List, [], ◌∷◌, map}
 use Prim.Native.Nat.{ℕ, zero, suc, ◌*◌, ◌<◌}
 use Rattle.std.proofs.Math.ListN.{take}
@@ -60,9 +60,6 @@ module _ (p : ℕ → Bool) where
 behind-one : (x y z : Bool) → (y ≡ true → z ≡ true) → (x || y) ≡ true → (x || z) ≡ true
 behind-one true y z f e = refl
 behind-one false y z f e = f e
-
-or_right : (x y : Bool) → y ≡ true → (x || y) ≡ true
-or_right x y e = ap (x ||◌) e ∙ or-true x
 
 take-occurs : (n : ℕ) (ws : List ℕ) (i : ℕ) → occurs (take (n * 4) ws) i ≡ true → occurs ws i ≡ true
 unfolding occurs

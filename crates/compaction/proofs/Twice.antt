@@ -163,9 +163,6 @@ module _ (t : Table) where
       held-parts n ws (set-held t (take (n * 4) ws) (every_take (λ x. x < 4_294_967_296) (n * 4) ws w) b.0.0 b.0.1)
       (held_all ns (drop (n * 4) ws) (omega (arith, length-drop (n * 4) ws)) (every_drop (λ x. x < 4_294_967_296) (n * 4) ws w) b.1)
 
-right_of : (a b : Bool) → (a && b) ≡ true → b ≡ true
-right_of a b e = and_right a b e
-
 -- ══ The second time ══
 
 given-too : {A A' B : Type 0} (f : A → B) (f' : A' → B) (m : Got A) (m' : Got A') (k k' : Got (Unit {0})) → mapGot f m ≡ mapGot f' m'
@@ -217,7 +214,7 @@ module _ {pool table : List ℕ} (g : Good pool table) (words : List ℕ) where
       let chosen : p s.from ≡ true = sym (ap p (zero-add s.from)) ∙ s.chosen in
       let same : newNumber p s.from ≡ j = new-rank p s.from ∙ s.ranked in
       ap₂ ◌&&◌ (lt-ltb j t'.count (omega (arith, count-after)))
-      (sym (ap (occurs (renumbered p words)) same) ∙ occurs-again p words s.from (right_of (ltb s.from t.count) (occurs words s.from) chosen))
+      (sym (ap (occurs (renumbered p words)) same) ∙ occurs-again p words s.from (and_right (ltb s.from t.count) (occurs words s.from) chosen))
 
   renumbered-again : (ws : List ℕ) → HeldWords t ws → KeptWords g p ws → renumbered p' (renumbered p ws) ≡ renumbered p ws
   unfolding renumbered HeldWords KeptWords

@@ -22,12 +22,11 @@ use Rattle.rules.specs.Reports.{
   refusing,
   lacking,
   Page,
-  editionGiven,
 }
 use Rattle.rules.specs.Trees.{Con}
 use Rattle.rules.specs.Writing.{words, writeCon}
-use Rattle.laws.specs.Lists.{Every, every-as, some≢none}
-use Rattle.laws.specs.NameTable.{Good, given-good}
+use Rattle.laws.specs.Lists.{Every, every-as}
+use Rattle.laws.specs.NameTable.{Good}
 use Rattle.text_columns.specs.Left.{read-back}
 use Rattle.solve_conflict.specs.Theorems.{PartOf, ConflictTold}
 use Rattle.solve_conflict.proofs.Worth.{conflicts-told}
@@ -35,20 +34,17 @@ use Rattle.edition_report.proofs.Placed.{lines-theirs}
 use Rattle.edition.specs.Sheets.{all-lent}
 use Rattle.edition.specs.Why.{ifRemains, conflictOn, whyText, whyShown}
 use Rattle.edition.specs.Theorems.{LinesTold, LinesToldOn, LinesConflict, ToldLinesConflict}
-use Rattle.edition.proofs.Origins.{Origin, Rooted, RootedPage, sound}
-
-no-lines : {A : Type 0} {ls : List (Line ℕ)} → ◌≡◌ {A = Got (Option (List (Line ℕ)))} (got none) (got (some ls)) → A
-no-lines {A} {ls} e = let z : none ≡ some ls = cc e in absurd (some≢none (sym z))
+use Rattle.edition.proofs.Origins.{Origin, Rooted, RootedPage, on-pages}
 
 -- nothing is found but where constraints remain
 left-found : (f : Finding) (m : Got (Option (List (Line ℕ)))) (ls : List (Line ℕ)) → ifRemains f m ≡ got (some ls) → m ≡ got (some ls)
-left-found (unseen u) m ls e = no-lines e
-left-found (unread n l c) m ls e = no-lines e
-left-found (agrees bs ns k) m ls e = no-lines e
-left-found (denied i) m ls e = no-lines e
-left-found (unjudged n) m ls e = no-lines e
+left-found (unseen u) m ls e = cc e
+left-found (unread n l c) m ls e = cc e
+left-found (agrees bs ns k) m ls e = cc e
+left-found (denied i) m ls e = cc e
+left-found (unjudged n) m ls e = cc e
 left-found (remains ds k) m ls e = e
-left-found (stops n k) m ls e = no-lines e
+left-found (stops n k) m ls e = cc e
 
 -- ══ Lines in their places ══
 
@@ -122,11 +118,8 @@ page-told pool table g p root ls e = go p.content refl root
   where
     go : (c : Content) → p.content ≡ c → Rooted p.text c → LinesToldOn (table_of pool table) p c
     go (holding cs) h r = set-told pool table g (replicate 8192 0) (replicate 16384 0) (length-replicate {A = ℕ} 8192 0) enough p cs r ls h e
-    go (refusing n l c) h r = no-lines (left-found (findingOf (table_of pool table) (refusing n l c)) (got none) ls (rw h at e))
-    go (lacking u) h r = no-lines (left-found (findingOf (table_of pool table) (lacking u)) (got none) ls (rw h at e))
+    go (refusing n l c) h r = cc (left-found (findingOf (table_of pool table) (refusing n l c)) (got none) ls (rw h at e))
+    go (lacking u) h r = cc (left-found (findingOf (table_of pool table) (lacking u)) (got none) ls (rw h at e))
 
 pub told-conflict : ToldLinesConflict
-told-conflict pool table h files =
-    let e = editionGiven pool table files in
-    let s = sound files pool table (given-good h) in
-    every-as (page-told e.pool e.table s.good) e.pages s.rooted
+told-conflict = on-pages LinesConflict page-told

@@ -10,40 +10,21 @@ use Rattle.rules.specs.Contents.{unmixed}
 use Rattle.rules.specs.Judging.{judge, judgeCon, failing}
 use Rattle.rules.specs.Meaning.{TrueUnder, Premise}
 use Rattle.rules.specs.Names.{Bytes, Table, table_of, numbersOf, is_held}
-use Rattle.rules.specs.Reports.{
-  Finding,
-  unseen,
-  unread,
-  agrees,
-  denied,
-  unjudged,
-  remains,
-  stops,
-  judgedBy,
-  finding,
-  findingOf,
-  Content,
-  holding,
-  refusing,
-  lacking,
-  Page,
-  editionGiven,
-}
+use Rattle.rules.specs.Reports.{denied, judgedBy, finding, findingOf, Content, holding, refusing, lacking, Page}
 use Rattle.rules.specs.Solving.{Answer, accepted, remaining, stopped, solve}
 use Rattle.rules.specs.Trees.{Names, Con, Binding, opensCon}
 use Rattle.rules.specs.Writing.{words, writeCon}
-use Rattle.rules.specs.declared.Unseen.{Unseen}
 use Rattle.laws.specs.Checks.{need-passed}
 use Rattle.laws.specs.Given.{set-read}
-use Rattle.laws.specs.Lists.{every-as, bound-step, true≢false, some≢none, got≢refused}
-use Rattle.laws.specs.NameTable.{Good, given-good}
+use Rattle.laws.specs.Lists.{bound-step, true≢false, some≢none, got≢refused}
+use Rattle.laws.specs.NameTable.{Good}
 use Rattle.text_columns.specs.Left.{read-back}
 use Rattle.theorems_soundness.specs.Claims.{Given, YesOrLimits, Fails}
 use Rattle.theorems_soundness.proofs.Soundness.{own-answer, no-fails}
 use Rattle.theorems_soundness.proofs.Words.{numbers-ordered}
 use Rattle.judge_trials.proofs.Failing.{none-fails}
 use Rattle.edition.specs.Theorems.{DeniedBy, DeniedOn, DeniedWithoutPremise, DeniedOnlyWithoutPremise}
-use Rattle.edition.proofs.Origins.{Origin, Rooted, RootedPage, sound}
+use Rattle.edition.proofs.Origins.{Rooted, RootedPage, on-pages}
 
 -- ══ The constraint that fails ══
 
@@ -83,15 +64,6 @@ module _ (ν : Names ℕ) (bs : List (Binding ℕ)) (ns : List ℕ) where
 
 -- ══ A set ══
 
-abbrev isDenied : Finding → Bool
-isDenied (unseen u) = false
-isDenied (unread n l c) = false
-isDenied (agrees bs ns k) = false
-isDenied (denied i) = true
-isDenied (unjudged n) = false
-isDenied (remains ds k) = false
-isDenied (stops n k) = false
-
 module _ (pool table : List ℕ) (good : Good pool table) (cs : List (Con ℕ))
     (back : (t : Table) (ds : List (Con ℕ)) → setGiven t (words (collect writeCon cs)) ≡ got ds → ds ≡ cs) where
   abbrev t : Table
@@ -125,14 +97,14 @@ module _ (pool table : List ℕ) (good : Good pool table) (cs : List (Con ℕ))
   set-denied i e = go (solvedSet t (words (collect writeCon cs))) refl e
     where
       go : (m : Got (Answer ℕ)) → solvedSet t (words (collect writeCon cs)) ≡ m → finding ν cs m ≡ denied i → DeniedBy t cs i
-      go (refused n) q e = absurd (true≢false (sym (ap isDenied e)))
-      go (got (remaining ds k)) q e = absurd (true≢false (sym (ap isDenied e)))
-      go (got (stopped n k)) q e = absurd (true≢false (sym (ap isDenied e)))
+      go (refused n) q e = cc e
+      go (got (remaining ds k)) q e = cc e
+      go (got (stopped n k)) q e = cc e
       go (got (accepted bs ns k)) q e = by (failing ν bounded bs ns 0 cs) refl e
         where
           by : (j : Got (Option ℕ)) → failing ν bounded bs ns 0 cs ≡ j → judgedBy j bs ns k ≡ denied i → DeniedBy t cs i
-          by (got none) f e = absurd (true≢false (sym (ap isDenied e)))
-          by (refused n) f e = absurd (true≢false (sym (ap isDenied e)))
+          by (got none) f e = cc e
+          by (refused n) f e = cc e
           by (got (some h)) f e =
               let z : h ≡ i = cc e in
               let r = fails-at ν bs ns cs 0 h f in
@@ -151,29 +123,15 @@ module _ (pool table : List ℕ) (good : Good pool table) (cs : List (Con ℕ))
 
 -- ══ An edition ══
 
-holding-denied : (pool table : List ℕ) → Good pool table → (text : Bytes) (cs : List (Con ℕ)) → Origin text cs → (i : ℕ)
-    → findingOf (table_of pool table) (holding cs) ≡ denied i → DeniedBy (table_of pool table) cs i
+content-denied : (pool table : List ℕ) → Good pool table → (text : Bytes) (c : Content) → Rooted text c → (i : ℕ)
+    → findingOf (table_of pool table) c ≡ denied i → DeniedOn (table_of pool table) c i
 unfolding findingOf
-holding-denied pool table g text cs r i e = set-denied pool table g cs (λ t ds h. read-back r.pool r.table text r.is t ds h) i e
-
-refusing-denied : (t : Table) (n l c i : ℕ) → findingOf t (refusing n l c) ≡ denied i → ⊥
-unfolding findingOf
-refusing-denied t n l c i e = absurd (true≢false (sym (ap isDenied e)))
-
-lacking-denied : (t : Table) (u : Unseen) (i : ℕ) → findingOf t (lacking u) ≡ denied i → ⊥
-unfolding findingOf
-lacking-denied t u i e = absurd (true≢false (sym (ap isDenied e)))
+content-denied pool table g text (holding cs) r i e = set-denied pool table g cs (λ t ds h. read-back r.pool r.table text r.is t ds h) i e
+content-denied pool table g text (refusing n l c) r i e = cc e
+content-denied pool table g text (lacking u) r i e = cc e
 
 page-denied : (pool table : List ℕ) → Good pool table → (p : Page) → RootedPage p → DeniedWithoutPremise (table_of pool table) p
-page-denied pool table g p r i e = content p.content r e
-  where
-    content : (c : Content) → Rooted p.text c → findingOf (table_of pool table) c ≡ denied i → DeniedOn (table_of pool table) c i
-    content (holding cs) r e = holding-denied pool table g p.text cs r i e
-    content (refusing n l c) r e = refusing-denied (table_of pool table) n l c i e
-    content (lacking u) r e = lacking-denied (table_of pool table) u i e
+page-denied pool table g p r i e = content-denied pool table g p.text p.content r i e
 
 pub edition-denied : DeniedOnlyWithoutPremise
-edition-denied pool table h files =
-    let e = editionGiven pool table files in
-    let s = sound files pool table (given-good h) in
-    every-as (page-denied e.pool e.table s.good) e.pages s.rooted
+edition-denied = on-pages DeniedWithoutPremise page-denied

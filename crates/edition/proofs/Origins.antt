@@ -1,12 +1,13 @@
 -- Where the set of a page comes from: it was read from the page's text, over names that are well formed.
 use Rattle.std.specs.Prelude.{◌≡◌, refl, List, [], ◌∷◌, ℕ, Result, Ok, Err}
-use Rattle.rules.specs.Names.{Bytes}
+use Rattle.rules.specs.Base.{got}
+use Rattle.rules.specs.Names.{Bytes, Table, table_of, tableGiven}
 use Rattle.rules.specs.Reports.{Content, holding, refusing, lacking, Page, page_of, onPage, namesAfter, readOn, Edition, editionGiven}
 use Rattle.rules.specs.TextReading.{Sheet, sheet, refusedIn, Sofar, sheetRead}
 use Rattle.rules.specs.Trees.{Con}
 use Rattle.rules.specs.declared.Unseen.{Unseen}
-use Rattle.laws.specs.Lists.{Every}
-use Rattle.laws.specs.NameTable.{Good}
+use Rattle.laws.specs.Lists.{Every, every-as}
+use Rattle.laws.specs.NameTable.{Good, given-good}
 use Rattle.text_columns.specs.Left.{read-keeps-good}
 
 pub record Origin (text : Bytes) (cs : List (Con ℕ)) : Type 0 where
@@ -45,3 +46,12 @@ pub sound : (files : List (Bytes × Result Bytes Unseen)) (pool table : List ℕ
 unfolding editionGiven
 sound [] pool table g = record { rooted = tt; good = g }
 sound (f ∷ fs) pool table g = file-sound f.0 f.1 pool table g (λ p t. editionGiven p t fs) (sound fs)
+
+-- what holds of a page whose set was read from its text, over a table that is well formed, holds of each page of an edition
+pub on-pages : (P : Table → Page → Type 0) → ((pool table : List ℕ) → Good pool table → (p : Page) → RootedPage p → P (table_of pool table) p)
+    → (pool table : List ℕ) → tableGiven pool table ≡ got tt → (files : List (Bytes × Result Bytes Unseen))
+    → Every (P (table_of (editionGiven pool table files).pool (editionGiven pool table files).table)) (editionGiven pool table files).pages
+on-pages P each pool table h files =
+    let e = editionGiven pool table files in
+    let s = sound files pool table (given-good h) in
+    every-as (each e.pool e.table s.good) e.pages s.rooted

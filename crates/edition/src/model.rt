@@ -27,8 +27,7 @@ impl Content {
     {
         match self {
             Content::Set(read) => read.constraints,
-            Content::Refused(_) => 0,
-            Content::Unseen(_) => 0,
+            Content::Refused(_) | Content::Unseen(_) => 0,
         }
     }
 
@@ -38,8 +37,7 @@ impl Content {
     {
         match self {
             Content::Set(read) => read.names,
-            Content::Refused(_) => 0,
-            Content::Unseen(_) => 0,
+            Content::Refused(_) | Content::Unseen(_) => 0,
         }
     }
 }

@@ -15,7 +15,7 @@ use edition_report::inner::put_page;
 use edition_report::pages::{Outcome, Page};
 use names::tables::NameTable;
 use rules::Shown;
-use solve_confirm::solve_and_judge;
+use solve_confirm::inner::solve_and_judge;
 use text_spell::sink::Sink;
 
 // What becomes of a sheet: its set is solved and judged. What is found stands in the room's result.

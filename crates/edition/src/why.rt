@@ -37,12 +37,12 @@ pub fn conflict_in(
         Outcome::Remains { .. } => {
             find_among(Ok(names), &sheet.records, &mut room.res, &mut room.work)
         }
-        Outcome::Unseen(_) => Ok(None),
-        Outcome::Unread(_) => Ok(None),
-        Outcome::Agrees { .. } => Ok(None),
-        Outcome::Denied(_) => Ok(None),
-        Outcome::Unjudged(_) => Ok(None),
-        Outcome::Stops { .. } => Ok(None),
+        Outcome::Unseen(_)
+        | Outcome::Unread(_)
+        | Outcome::Agrees { .. }
+        | Outcome::Denied(_)
+        | Outcome::Unjudged(_)
+        | Outcome::Stops { .. } => Ok(None),
     }
 }
 

@@ -3,7 +3,8 @@ ghost use Rattle.std.specs.Prelude.{◌≡◌, ◌++◌, [], ◌∷◌, OnOk};
 ghost use Rattle.edition_command.specs.Given.{pagesTold};
 
 use crate::certificate::Certificate;
-use crate::files::{Given, front, read};
+use crate::files::{Given, read};
+use crate::front::Front;
 use crate::listing::list;
 use crate::notes::Notes;
 use crate::options::Options;
@@ -67,7 +68,7 @@ fn keep(alloc: Global, given: &Given, kept: &mut Certificate) -> Result<()> {
 }
 
 /// Reads each file and tells of it, one after another.
-pub fn check<R: Files + Input + Print + Eprint + AllocGlobal>(
+pub(crate) fn check<R: Files + Input + Print + Eprint + AllocGlobal>(
     rt: &R,
     names: &[&str],
     words: &Words,
@@ -81,9 +82,9 @@ pub fn check<R: Files + Input + Print + Eprint + AllocGlobal>(
         room: Room::new(),
     };
     let mut kept = Certificate::new(alloc);
+    let mut front = Front::new(alloc)?;
     for name in names {
-        let mut buf = front(alloc)?;
-        let given = read(rt, name, words, &mut buf)?;
+        let given = read(rt, name, words, &mut front)?;
         check_one(rt, &given, options, &mut so_far, &mut out)?;
         if options.certificate.is_some() {
             keep(alloc, &given, &mut kept)?;

@@ -14,14 +14,14 @@ use std::{fs, io};
 
 /// What is kept of the sheets so far.
 #[derive(Drop)]
-pub struct Certificate {
+pub(crate) struct Certificate {
     entries: Vec<Entry>,
     room: Room,
 }
 
 impl Certificate {
     /// Of no sheet.
-    pub fn new(alloc: Global) -> Certificate {
+    pub(crate) fn new(alloc: Global) -> Certificate {
         Certificate {
             entries: Vec::new(alloc),
             room: Room::new(),
@@ -29,7 +29,7 @@ impl Certificate {
     }
 
     /// Adds the files that are accepted over one name table. They are read and solved once more, and what is kept of each is verified before it is added.
-    pub fn add(&mut self, alloc: Global, files: &[File]) -> Result<()> {
+    pub(crate) fn add(&mut self, alloc: Global, files: &[File]) -> Result<()> {
         let mut tables = Tables::new(alloc)?;
         let sheets = tables.read(alloc, files, &mut self.room)?;
         let names = tables.names()?;
@@ -59,14 +59,14 @@ impl Certificate {
     }
 
     /// Writes it into a file, which is made anew.
-    pub fn write<R: Files>(&self, rt: &R, path: &str) -> Result<()> {
+    pub(crate) fn write<R: Files>(&self, rt: &R, path: &str) -> Result<()> {
         let text = certificate_text(*self.entries.allocator(), &self.entries)?;
         write_file(rt, path, &text).context("the certificate can't be written")
     }
 }
 
 /// Writes bytes into a file, which is made anew.
-pub fn write_file<R: Files>(rt: &R, path: &str, bytes: &[u8]) -> io::Result<()> {
+pub(crate) fn write_file<R: Files>(rt: &R, path: &str, bytes: &[u8]) -> io::Result<()> {
     let mut file = fs::create(rt, path)?;
     file.write_all(bytes)?;
     file.flush()

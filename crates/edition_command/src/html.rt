@@ -326,7 +326,7 @@ fn page(alloc: Global, report: &Report) -> Result<Vec<u8>, AllocError> {
 }
 
 /// Writes what is told of the files as a page into a file, prints the last line of the report, and says what is noted.
-pub fn check<R: Files + Input + Print + Eprint + AllocGlobal>(
+pub(crate) fn check<R: Files + Input + Print + Eprint + AllocGlobal>(
     rt: &R,
     names: &[&str],
     words: &Words,

@@ -1,4 +1,5 @@
 // An edition's report as one value of JSON.
+use crate::notes::Notes;
 use crate::options::Options;
 use crate::status::Totals;
 use crate::told::{Line, Report, SheetTold, lines_below, tell};
@@ -101,6 +102,15 @@ fn sheet_json(alloc: Global, sheet: &SheetTold) -> Result<Value, AllocError> {
     Ok(Value::Object(members))
 }
 
+// The lines of what is noted.
+fn notes_json(alloc: Global, notes: &Notes) -> Result<Value, AllocError> {
+    let mut all = Vec::new(alloc);
+    for line in notes.lines().lines() {
+        all.push(text(alloc, line.as_bytes())?)?;
+    }
+    Ok(Value::Array(all))
+}
+
 // The whole value.
 fn report_json(alloc: Global, report: &Report) -> Result<Value, AllocError> {
     let mut sheets = Vec::new(alloc);
@@ -119,11 +129,17 @@ fn report_json(alloc: Global, report: &Report) -> Result<Value, AllocError> {
     )?;
     put(&mut members, alloc, "names", number(Some(totals.names)))?;
     put(&mut members, alloc, "notes", number(Some(totals.notes)))?;
+    put(
+        &mut members,
+        alloc,
+        "noted",
+        notes_json(alloc, &report.notes)?,
+    )?;
     Ok(Value::Object(members))
 }
 
 /// Writes what is told of the files as one value, and says what is noted.
-pub fn check<R: Files + Input + Print + Eprint + AllocGlobal>(
+pub(crate) fn check<R: Files + Input + Print + Eprint + AllocGlobal>(
     rt: &R,
     names: &[&str],
     words: &Words,

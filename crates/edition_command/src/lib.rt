@@ -5,6 +5,7 @@
 mod apart;
 mod certificate;
 mod files;
+mod front;
 mod html;
 mod json;
 mod listing;
@@ -20,7 +21,9 @@ mod verify;
 mod words;
 mod written;
 
-use anyhow::{Result, anyhow};
+ghost use Rattle.std.specs.Prelude.{◌≡◌, OnErr};
+
+use anyhow::{Error, Result, anyhow};
 use clap::error::ErrorKind;
 use options::{Form, Options, command};
 pub use status::Status;
@@ -72,21 +75,25 @@ fn check_words<R: Files + Input + Print + Eprint + AllocGlobal>(
     Ok(status_of(totals, options.strict))
 }
 
+// There is no whole report: standard error says why.
+fn no_report<R: Eprint>(rt: &R, error: &Error) -> Status
+    ensures { result ≡ Status.NoReport }
+{
+    let _ = eprintln!(rt; "check_edition: {error:#}");
+    Status::NoReport
+}
+
 /// Runs the command with the words of a command line, the first of which is its own name: what it comes to. Where there is no whole report, standard
-/// error says why.
-pub fn run<R: Files + Input + Print + Eprint + AllocGlobal>(
-    rt: &R,
-    words: Result<Words>,
-) -> Status {
-    let checked = match words {
-        Ok(words) => check_words(rt, &words),
-        Err(error) => Err(error),
+/// error says why; without words there is none.
+pub fn run<R: Files + Input + Print + Eprint + AllocGlobal>(rt: &R, words: Result<Words>) -> Status
+    ensures { OnErr words (result ≡ Status.NoReport) }
+{
+    let words = match words {
+        Ok(words) => words,
+        Err(error) => return no_report(rt, &error),
     };
-    match checked {
+    match check_words(rt, &words) {
         Ok(status) => status,
-        Err(error) => {
-            let _ = eprintln!(rt; "check_edition: {error:#}");
-            Status::NoReport
-        }
+        Err(error) => no_report(rt, &error),
     }
 }

@@ -13,14 +13,14 @@ use unicode_normalization::to_nfkd;
 
 /// Notes as lines, and how many there are.
 #[derive(Drop)]
-pub struct Notes {
+pub(crate) struct Notes {
     text: String,
     pub count: usize,
 }
 
 impl Notes {
     /// None yet.
-    pub fn new(alloc: Global) -> Notes {
+    pub(crate) fn new(alloc: Global) -> Notes {
         Notes {
             text: String::new(alloc),
             count: 0,
@@ -28,7 +28,7 @@ impl Notes {
     }
 
     /// Adds those on files and the names that they have.
-    pub fn add(&mut self, names: NameTable, files: &[File]) -> Result<()> {
+    pub(crate) fn add(&mut self, names: NameTable, files: &[File]) -> Result<()> {
         let alloc = *self.text.allocator();
         for file in files {
             if is_empty(file) {
@@ -84,12 +84,12 @@ impl Notes {
     }
 
     /// They, as lines.
-    pub fn lines(&self) -> &str {
+    pub(crate) fn lines(&self) -> &str {
         &self.text
     }
 
     /// Says them on standard error, if anybody hears.
-    pub fn tell<R: Eprint>(&self, rt: &R) {
+    pub(crate) fn tell<R: Eprint>(&self, rt: &R) {
         let _ = rt.eprint(&self.text);
     }
 }

@@ -5,7 +5,7 @@ use std::alloc::{AllocError, Global};
 
 /// As lines, as one value of JSON, as a page of HTML in a file; or judged by the certificate in a file.
 #[derive(Clone, Copy)]
-pub enum Form<'a> {
+pub(crate) enum Form<'a> {
     Text,
     Json,
     Html(&'a str),
@@ -14,7 +14,7 @@ pub enum Form<'a> {
 
 /// What was asked for beside the files.
 #[derive(Clone, Copy)]
-pub struct Options<'a> {
+pub(crate) struct Options<'a> {
     pub shown: Shown,
     pub form: Form<'a>,
     pub certificate: Option<&'a str>,
@@ -26,7 +26,7 @@ pub struct Options<'a> {
 
 impl<'a> Options<'a> {
     /// By the flags that were given.
-    pub fn of(matches: &'a ArgMatches) -> Options<'a> {
+    pub(crate) fn of(matches: &'a ArgMatches) -> Options<'a> {
         Options {
             shown: if matches.get_flag("quiet") {
                 Shown::Quiet
@@ -43,7 +43,7 @@ impl<'a> Options<'a> {
     }
 
     /// Is it told which lines conflict? A page to look at always tells it.
-    pub fn is_why_told(self) -> bool {
+    pub(crate) fn is_why_told(self) -> bool {
         self.why || matches!(self.form, Form::Html(_))
     }
 }
@@ -154,7 +154,7 @@ fn with_certificates<'a>(alloc: Global, command: Command<'a>) -> Result<Command<
 }
 
 /// The words that the program takes.
-pub fn command<'a>(alloc: Global) -> Result<Command<'a>, AllocError> {
+pub(crate) fn command<'a>(alloc: Global) -> Result<Command<'a>, AllocError> {
     let files = Arg::new(alloc, "FILE")
         .help("Sheets, one file each; none, or -, is standard input")
         .action(ArgAction::Append)

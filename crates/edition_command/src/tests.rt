@@ -1,5 +1,6 @@
 // Reads and writes that fail on the way.
-use crate::files::{Given, front, read_sheet};
+use crate::files::Given;
+use crate::front::Front;
 use crate::together::report_on;
 use crate::written::Written;
 use edition::model::How;
@@ -50,9 +51,9 @@ impl Write for Full {
 #[test]
 fn a_read_that_fails_leaves_no_sheet(rt: HostRuntime) -> Result<(), Fail> {
     let alloc = rt.alloc();
-    let mut room = front(alloc)?;
+    let mut front = Front::new(alloc)?;
     for left in [0, 1, 100_000] {
-        let text = read_sheet(alloc, &mut Failing { left }, &mut room)?;
+        let text = front.read_sheet(alloc, &mut Failing { left })?;
         assert!(rt; matches!(text, Err(Unseen::NotRead)), "after {left} bytes");
     }
     Ok(())

@@ -26,14 +26,14 @@ use text_spell::sink::Sink;
 
 /// What a report told: its counts, and the table with all names.
 #[derive(Drop)]
-pub struct Reported {
+pub(crate) struct Reported {
     pub counts: Counts,
     pub tables: Tables,
 }
 
 /// Reports on files over a table without names: what is passed on is what the definition shows, byte by byte, and so are the counts; and each page that says
 /// 'accepted' is true.
-pub fn report_on<W: Write + Drop>(
+pub(crate) fn report_on<W: Write + Drop>(
     alloc: Global,
     given: &[Given],
     how: How,
@@ -55,7 +55,7 @@ pub fn report_on<W: Write + Drop>(
 }
 
 /// Reads the files, reports on all, lists their names if that was asked for, and says what is noted.
-pub fn check<R: Files + Input + Print + Eprint + AllocGlobal>(
+pub(crate) fn check<R: Files + Input + Print + Eprint + AllocGlobal>(
     rt: &R,
     names: &[&str],
     words: &Words,

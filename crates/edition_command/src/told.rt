@@ -1,5 +1,6 @@
 // What is told of each sheet, for whoever shows it in another form than lines.
-use crate::files::{Given, front, lend, read};
+use crate::files::{Given, lend, read};
+use crate::front::Front;
 use crate::listing::new_names;
 use crate::notes::Notes;
 use crate::options::Options;
@@ -19,7 +20,7 @@ use std::rt::Files;
 
 /// What is told of an outcome beside its page: in one word, the refusal's number, line and column, and completed rounds.
 #[derive(Clone, Copy)]
-pub struct Facts {
+pub(crate) struct Facts {
     pub finding: &'static str,
     pub refusal: Option<usize>,
     pub line: Option<usize>,
@@ -89,14 +90,14 @@ impl Facts {
 
 /// A line of a sheet: its number, and its bytes.
 #[derive(Drop)]
-pub struct Line {
+pub(crate) struct Line {
     pub number: usize,
     pub text: Vec<u8>,
 }
 
 /// What is told of a sheet: its file's name, what became of it, its new names, its page as it would be printed, and the lines that conflict.
 #[derive(Drop)]
-pub struct SheetTold {
+pub(crate) struct SheetTold {
     pub name: Vec<u8>,
     pub accepted: bool,
     pub facts: Facts,
@@ -108,7 +109,7 @@ pub struct SheetTold {
 
 /// What is told of all sheets that are shown, what they come to, and what is noted.
 #[derive(Drop)]
-pub struct Report {
+pub(crate) struct Report {
     pub sheets: Vec<SheetTold>,
     pub totals: Totals,
     pub notes: Notes,
@@ -198,7 +199,7 @@ fn names_from(
 }
 
 /// The lines of a page behind the first that begin with two blanks, without these.
-pub fn lines_below(alloc: Global, page: &[u8]) -> Result<Vec<&[u8]>, AllocError> {
+pub(crate) fn lines_below(alloc: Global, page: &[u8]) -> Result<Vec<&[u8]>, AllocError> {
     let mut lines = Vec::new(alloc);
     for line in page.split(|b| *b == b'\n').skip(1) {
         if let Some(line) = line.strip_prefix(b"  ") {
@@ -209,7 +210,7 @@ pub fn lines_below(alloc: Global, page: &[u8]) -> Result<Vec<&[u8]>, AllocError>
 }
 
 /// Reads the files and tells of them: of each by itself, or of all together.
-pub fn tell<R: Files + Input + AllocGlobal>(
+pub(crate) fn tell<R: Files + Input + AllocGlobal>(
     rt: &R,
     names: &[&str],
     words: &Words,
@@ -217,10 +218,10 @@ pub fn tell<R: Files + Input + AllocGlobal>(
 ) -> Result<Report> {
     let alloc = rt.alloc();
     let mut report = Report::new(alloc);
-    let mut buf = front(alloc)?;
+    let mut front = Front::new(alloc)?;
     let mut given = Vec::new(alloc);
     for name in names {
-        given.push(read(rt, name, words, &mut buf)?)?;
+        given.push(read(rt, name, words, &mut front)?)?;
         if options.separate {
             report.add(alloc, &given, options)?;
             given.clear();

@@ -5,7 +5,7 @@ ghost use Rattle.edition_certificate_file.specs.Files.{IsReadFrom};
 ghost use Rattle.edition_verify.specs.Verifying.{TrueBy, sheetsIn, verifiedIn, verifiedText};
 ghost use Rattle.edition_command.specs.Given.{given_of};
 
-use crate::files::{Given, front, lend, read_all};
+use crate::files::{Given, lend, read_all};
 use crate::status::Totals;
 use crate::words::Words;
 use crate::written::Written;
@@ -15,11 +15,27 @@ use edition_report::shown::put_shown;
 use edition_report::words::put_amount;
 use edition_verify::verify_files;
 use filling::fill_front;
+use rules::Unseen;
 use std::alloc::{AllocError, Global};
 use std::io::{BufWriter, Write};
 use std::rt::Files;
 use std::{fs, io};
 use text_spell::sink::Sink;
+
+/// A certificate's file is read in pieces of so many bytes.
+const PIECE_BYTES: usize = 1_048_576;
+
+/// It has at most so many pieces.
+const PIECES: usize = 64;
+
+// Why a certificate's file can't be had, in words.
+fn unseen(why: Unseen) -> &'static [u8] {
+    match why {
+        Unseen::NotOpened => b": the certificate can't be opened\n",
+        Unseen::NotRead => b": the certificate can't be read\n",
+        Unseen::TooLong => b": the certificate is longer than 64 MB\n",
+    }
+}
 
 // Says why a file can't be used as a certificate.
 fn put_fault(out: &mut Vec<u8>, path: &[u8], fault: Fault) -> Result<(), AllocError> {
@@ -36,35 +52,42 @@ fn put_fault(out: &mut Vec<u8>, path: &[u8], fault: Fault) -> Result<(), AllocEr
     }
 }
 
-// The bytes of a certificate's file, if they can be had: at most 64 MB.
-fn read_file<R: Files + AllocGlobal>(rt: &R, path: &str) -> Result<Option<Vec<u8>>> {
+// The bytes of a certificate's file, or why they can't be had.
+fn read_file<R: Files + AllocGlobal>(rt: &R, path: &str) -> Result<Result<Vec<u8>, Unseen>> {
     let alloc = rt.alloc();
     let Ok(mut file) = fs::open(rt, path) else {
-        return Ok(None);
+        return Ok(Err(Unseen::NotOpened));
     };
-    let mut buf = front(alloc)?;
+    let mut piece = vec![in alloc; 0u8; PIECE_BYTES]?;
     let mut text = Vec::new(alloc);
-    for _ in 0..64 {
-        let (n, read) = fill_front(&mut file, &mut buf);
+    // One piece more, of which nothing may be there.
+    for k in 0..=PIECES {
+        let (n, read) = fill_front(&mut file, &mut piece);
         if read.is_err() {
-            return Ok(None);
+            return Ok(Err(Unseen::NotRead));
         }
-        text.extend_from_slice(&buf[..n])?;
-        if n < buf.len() {
-            return Ok(Some(text));
+        if k == PIECES && 0 < n {
+            return Ok(Err(Unseen::TooLong));
+        }
+        text.extend_from_slice(&piece[..n])?;
+        if n < piece.len() {
+            return Ok(Ok(text));
         }
     }
-    Ok(None)
+    Ok(Err(Unseen::TooLong))
 }
 
 // What the certificate in a file keeps; or a line that says why it can't be used.
 fn kept_in<R: Files + AllocGlobal>(rt: &R, path: &str) -> Result<Result<Vec<Entry>, Vec<u8>>> {
     let alloc = rt.alloc();
     let mut line = Vec::new(alloc);
-    let Some(text) = read_file(rt, path)? else {
-        put_shown(&mut line, path.as_bytes())?;
-        line.put(b": the certificate can't be read\n")?;
-        return Ok(Err(line));
+    let text = match read_file(rt, path)? {
+        Ok(text) => text,
+        Err(why) => {
+            put_shown(&mut line, path.as_bytes())?;
+            line.put(unseen(why))?;
+            return Ok(Err(line));
+        }
     };
     match read_certificate(alloc, &text)? {
         Ok(entries) => Ok(Ok(entries)),
@@ -77,7 +100,7 @@ fn kept_in<R: Files + AllocGlobal>(rt: &R, path: &str) -> Result<Result<Vec<Entr
 
 /// Judges files by what a certificate keeps: what is passed on is what the definition says, byte by byte, and so are the counts; and where every sheet is
 /// counted as verified, each file is the one that was certified, and true.
-pub fn verify_on<W: Write + Drop>(
+pub(crate) fn verify_on<W: Write + Drop>(
     alloc: Global,
     entries: &[Entry],
     given: &[Given],
@@ -101,7 +124,7 @@ pub fn verify_on<W: Write + Drop>(
 }
 
 /// Judges the files with these names by the certificate in the file at `path`; where there is none, no sheet is verified.
-pub fn check<R: Files + Input + Print + AllocGlobal>(
+pub(crate) fn check<R: Files + Input + Print + AllocGlobal>(
     rt: &R,
     path: &str,
     names: &[&str],

@@ -1,4 +1,6 @@
 // The words of the command line.
+ghost use Rattle.std.specs.Prelude.{◌≡◌, ◌+◌, [], length, OnOk};
+
 use anyhow::{Result, bail};
 use std::alloc::Global;
 use std::env::FillError;
@@ -15,7 +17,7 @@ pub struct Words {
 }
 
 impl Words {
-    /// Those that the program was called with.
+    /// Those that the program was called with; nothing can be said of what these are.
     pub fn read<R: Env + AllocGlobal>(rt: &R) -> Result<Words> {
         let alloc = rt.alloc();
         let mut buf = vec![in alloc; 0u8; WORD_BYTES]?;
@@ -31,7 +33,9 @@ impl Words {
     }
 
     /// None yet.
-    pub fn new(alloc: Global) -> Words {
+    pub fn new(alloc: Global) -> Words
+        ensures { result.all.items ≡ [] }
+    {
         Words {
             all: Vec::new(alloc),
             replaced: Vec::new(alloc),
@@ -39,7 +43,9 @@ impl Words {
     }
 
     /// One more word.
-    pub fn add(&mut self, bytes: &[u8]) -> Result<()> {
+    pub fn add(&mut self, bytes: &[u8]) -> Result<()>
+        ensures { OnOk result (length self.new.all.items ≡ length self.old.all.items + 1) }
+    {
         let alloc = *self.all.allocator();
         let word = String::from_utf8_lossy(alloc, bytes)?;
         if word.as_bytes() != bytes {
@@ -50,7 +56,7 @@ impl Words {
     }
 
     /// Can a file be opened by this word: was it UTF-8 as it was given?
-    pub fn is_path(&self, word: &str) -> bool {
+    pub(crate) fn is_path(&self, word: &str) -> bool {
         !self.replaced.iter().any(|r| r.as_str() == word)
     }
 }

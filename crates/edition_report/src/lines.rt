@@ -11,14 +11,12 @@ pub fn line_in(text: &[u8], number: usize) -> &[u8]
     ensures { result.now ≡ lineIn number text.now }
 {
     let mut at = 0;
-    let mut left = number.saturating_sub(1);
-    while 0 < left {
+    for _before in 1..number {
         let end = line_end(text, at);
         if end == text.len() {
             return &text[..0];
         }
         at = end + 1;
-        left -= 1;
     }
     let last = line_end(text, at);
     &text[at..last]

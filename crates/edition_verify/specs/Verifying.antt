@@ -1,5 +1,5 @@
 -- What is said of files by a certificate, with nothing solved.
-use Rattle.std.specs.Prelude.{◌≡◌, Bool, true, false, not, if◌then◌else◌, ℕ, ◌+◌, ◌-◌, List, [], ◌∷◌, ◌++◌, map, length, Option, Some, None, Result, Ok, Err, ⊤}
+use Rattle.std.specs.Prelude.{◌≡◌, Bool, true, false, not, if◌then◌else◌, ℕ, eqb, ◌+◌, ◌-◌, List, [], ◌∷◌, ◌++◌, map, length, Option, Some, None, Result, Ok, Err, ⊤}
 use Rattle.rules.specs.Base.{any, collect, sum_of}
 use Rattle.rules.specs.Grammar.{ascii}
 use Rattle.rules.specs.Names.{Bytes, sameBytes}
@@ -86,6 +86,11 @@ IsKeptOf name text (Err v) = ⊤
 
 -- ══ As text ══
 
+-- why lines that were read are refused: 1 and 12 have other causes there than in a sheet
+abbrev pub linesRefused : ℕ → Bytes
+linesRefused n = if eqb n 1 then ascii "not accepted (1): a variable is bound twice, or bounded names don't rise by their bytes\n"
+    else (if eqb n 12 then ascii "not accepted (12): a line is neither ?x ~ type nor ?x: DType\n" else (refusedText n ++ ascii "\n"))
+
 abbrev pub saidText : Said → Bytes
 saidText yes = ascii ": verified\n"
 saidText changed = ascii ": not verified: the file isn't the one that was certified: its digest is another\n"
@@ -93,7 +98,7 @@ saidText (unread n l c) = ascii ":" ++ (amount l ++ (ascii ":" ++ (amount c ++ (
 saidText (linesUnread n l c) = ascii ": not verified: of the certificate's lines for it line "
     ++ (amount l ++ (ascii ", column " ++ (amount c ++ (ascii ", is " ++ (refusedText n ++ ascii "\n")))))
 saidText untrue = ascii ": not verified: a constraint isn't true by the certificate's lines\n"
-saidText (refusedAs n) = ascii ": not verified: the certificate's lines for it are " ++ (refusedText n ++ ascii "\n")
+saidText (refusedAs n) = ascii ": not verified: the certificate's lines for it are " ++ linesRefused n
 
 abbrev pub wordText : Word → Bytes
 wordText unkept = ascii ": not verified: the certificate has no such sheet\n"

@@ -6,6 +6,7 @@ mod pieces;
 ghost use Rattle.std.specs.Prelude.{◌≡◌, ◌≤◌, ◌++◌, true, option_copied, IfOk, OnOk};
 ghost use Rattle.rules.specs.Base.{collect};
 ghost use Rattle.rules.specs.Names.{sameBytes};
+ghost use Rattle.rules.specs.Refusals.{number_of};
 ghost use Rattle.laws.specs.Lists.{Every};
 ghost use Rattle.edition.specs.Files.{files_of};
 ghost use Rattle.edition_certificate_file.specs.Files.{writtenName};
@@ -13,7 +14,7 @@ ghost use Rattle.edition_certified.specs.Certified.{said};
 ghost use Rattle.edition_certified.specs.declared.Verdict.TheVariants as verdict;
 ghost use Rattle.edition_verify.specs.Files.{had};
 ghost use Rattle.edition_verify.specs.Verifying.{findEntry, wordBy, wordOf, word, isYes, isNamed};
-ghost use Rattle.edition_verify.specs.Verifying.{saidText, wordText, fileText, otherText, lastText, verifiedText};
+ghost use Rattle.edition_verify.specs.Verifying.{linesRefused, saidText, wordText, fileText, otherText, lastText, verifiedText};
 ghost use Rattle.edition_verify.specs.Verifying.{CertifiedBy, IsKeptOf, TrueBy, YesIsTrue, one, verifiedIn, othersIn, sheetsIn};
 
 use edition::model::File;
@@ -144,14 +145,39 @@ fn put_lines_unread(out: &mut Vec<u8>, stop: NotRead) -> Result<(), AllocError>
     Ok(())
 }
 
+// Puts why lines of a certificate that were read are refused: 1 and 12 have other causes there than in a sheet.
+fn put_lines_reason(out: &mut Vec<u8>, why: Refusal) -> Result<(), AllocError>
+    ensures { OnOk result (out.new.items ≡ out.old.items ++ linesRefused (number_of why)) }
+{
+    match why {
+        Refusal::Malformed => out.extend_from_slice(
+            b"not accepted (1): a variable is bound twice, or bounded names don't rise by their bytes\n",
+        ),
+        Refusal::NotGrammar => {
+            out.extend_from_slice(b"not accepted (12): a line is neither ?x ~ type nor ?x: DType\n")
+        }
+        Refusal::NameLength
+        | Refusal::NoRoom
+        | Refusal::Mixed
+        | Refusal::Unsolved
+        | Refusal::NotDimension
+        | Refusal::OutOfRange
+        | Refusal::TooLarge
+        | Refusal::WrongCount
+        | Refusal::ShortBuffer
+        | Refusal::NotConfirmed => {
+            put_refusal(out, why)?;
+            out.extend_from_slice(b"\n")
+        }
+    }
+}
+
 // Puts that the lines of a certificate are refused.
 fn put_lines_refused(out: &mut Vec<u8>, why: Refusal) -> Result<(), AllocError>
     ensures { OnOk result (out.new.items ≡ out.old.items ++ saidText (said (verdict.Refused why))) }
 {
     out.extend_from_slice(b": not verified: the certificate's lines for it are ")?;
-    put_refusal(out, why)?;
-    out.extend_from_slice(b"\n")?;
-    Ok(())
+    put_lines_reason(out, why)
 }
 
 // Puts what is said of a file whose sheet is kept.

@@ -1,3 +1,4 @@
 mod Determined
-pub mod Started
-pub mod Written
+mod Factors
+mod Started
+mod Written

@@ -4,7 +4,7 @@ use Rattle.std.proofs.Math.Path.{refl, ap, sym}
 use Rattle.std.proofs.Common.{◌∙◌, subst}
 use mathlib.Core.List.{List, [], ◌∷◌, map}
 use Rattle.std.proofs.Math.Bool.{true}
-use Rattle.std.proofs.Math.ListN.{length, take}
+use Rattle.std.proofs.Math.ListN.{length}
 use Rattle.rules.specs.Base.{Got, got, refused, ◌>>=◌, each}
 use Rattle.std.proofs.Math.Dec.{leb}
 use Rattle.rules.specs.Names.{Bytes}
@@ -21,19 +21,18 @@ use Rattle.engine_rows.specs.Lines.{paddedRows, laidOut, LaidSo, laid-so}
 use Rattle.engine_rows.specs.Columns.{Known, Listed, listed, listed-eight, few-enough}
 use Rattle.engine_rows.specs.Fitted.{known, fits-then, fits-so, listed-columns}
 use Rattle.records.specs.Good.{Chain, GoodCon, numbers, holding}
-use Rattle.engine_matrix.specs.declared.inner.grids.Columns.{Columns}
-use Rattle.engine_matrix.specs.declared.inner.grids.Machine.{Machine}
+use Rattle.engine_matrix.specs.declared.inner.parts.Columns.{Columns}
+use Rattle.engine_matrix.specs.declared.inner.parts.Machine.{Machine}
 use Rattle.rules.specs.Elimination as Rows
 use Rattle.std.proofs.lemmas.List.{length-map}
 use Rattle.laws.specs.Lists.{clash}
 use Rattle.rules.specs.Elimination.{Row, eliminate, Settled, settledBy, scalarOf, columns, isVariable, fits, fitting, eliminated}
-use Rattle.engine_matrix.specs.Grids.{rowsIn}
-use Rattle.engine_matrix.specs.Machine.{colsIn, pairValues, Laid, Running}
+use Rattle.engine_matrix.specs.Machine.{colsIn, staying, bound}
 use Rattle.engine.specs.declared.inner.Reduced.{Reduced}
 
 -- what stays, or else the values
 abbrev pub settledIn : Columns → Machine → Settled ℕ
-settledIn k m = settledBy (colsIn k) (take m.stay (rowsIn m.kept)) (pairValues (take m.found m.names) (take m.found (rowsIn m.values)))
+settledIn k m = settledBy (colsIn k) (staying m) (bound m)
 
 abbrev pub settledOf : Reduced → Settled ℕ
 settledOf r = settledIn r.columns r.machine
@@ -41,11 +40,6 @@ settledOf r = settledIn r.columns r.machine
 -- a well formed set in the records before e
 abbrev pub SetHeld : List ℕ → List ℕ → List ℕ → ℕ → List (Con ℕ) → Type 0
 SetHeld pool table s e cs = Chain (GoodCon pool table 0 s) e cs 0
-
--- columns and a machine that can be written
-pub record Ready (r : Reduced) : Type 0 where
-  pub laid : Laid r.columns
-  pub running : Running r.machine
 
 module _ (pool table : List ℕ) (cs : List (Con ℕ)) where
   abbrev pub ν : Names ℕ

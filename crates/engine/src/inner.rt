@@ -1,144 +1,107 @@
-// The rows that are left, and the values that were found, as records.
-ghost use Rattle.std.specs.Prelude.{◌≡◌, List, [], ◌∷◌, map, ℕ, ◌+◌, ◌*◌, ◌≤◌, ◌<◌, length, take, get_or, IfOk};
-ghost use Rattle.std.proofs.lemmas.List.Edits.{sets};
-ghost use Rattle.rules.specs.Base.{collect};
-ghost use Rattle.rules.specs.Exponents.{nought};
-ghost use Rattle.rules.specs.Trees.{Atom as TreeAtom, base, ◌↑◌, is_scalar};
-ghost use Rattle.rules.specs.Writing.{words, writeFactor, writeProduct, writeCon, writeBinding};
+//! The rows that are left, and the values that were found, as records.
+ghost use Rattle.std.specs.Prelude.{◌≡◌, List, [], map, ℕ, ◌≤◌, length};
+ghost use Rattle.rules.specs.Base.{got, collect};
+ghost use Rattle.rules.specs.Trees.{Atom as TreeAtom, ◌↑◌, is_scalar};
+ghost use Rattle.rules.specs.Writing.{writeFactor, writeProduct, writeCon, writeBinding};
+ghost use Rattle.rules.specs.Names.{table_of, lentTable};
+ghost use Rattle.rules.specs.Refusals.{told, toldBy};
+ghost use Rattle.rules.specs.Elimination.{◌gets◌, factors, boundBy, eliminate as eliminated, eliminatedSet};
 ghost use Rattle.exponents.specs.Answers.{expOf};
 ghost use Rattle.records.specs.Views.{recOf};
 ghost use Rattle.records.specs.Holds.{atomOf};
-ghost use Rattle.rules.specs.Elimination.{◌gets◌, factors, boundBy, eliminate as eliminated};
-ghost use Rattle.engine_matrix.specs.Told.{row_in, Wide};
-ghost use Rattle.engine_matrix.specs.Grids.{rowsIn, WideGrid};
-ghost use Rattle.engine_matrix.specs.Machine.{colsIn, Laid, pairValues, Running, rest};
-ghost use Rattle.engine.specs.Reducing.{Ready, SetHeld, reduction, settledIn, settledOf};
+ghost use Rattle.types.specs.Written.{Writes};
+ghost use Rattle.engine_matrix.specs.Told.{row_in};
+ghost use Rattle.engine_matrix.specs.Machine.{colsIn, staying, bound, rest};
+ghost use Rattle.engine_rows.specs.Lines.{rowsOf};
+ghost use Rattle.engine.specs.Reducing.{SetHeld, reduction, settledIn, settledOf};
 ghost use Rattle.engine.specs.Told.{Answered};
 ghost use Rattle.engine.specs.Entry.{entered};
-ghost use Rattle.rules.specs.Refusals.{told, toldBy};
-ghost use Rattle.rules.specs.Base.{got};
-ghost use Rattle.rules.specs.Names.{table_of, lentTable};
-ghost use Rattle.rules.specs.Elimination.{eliminatedSet};
-ghost use Rattle.engine.specs.Put.{Put, OneFactor, PutProduct, PutSmall};
+ghost use Rattle.engine.specs.Put.{Factored};
 
 use super::Eliminated;
-use engine_matrix::inner::grids::{Columns, Grid, Machine, eliminate, row_at};
-use engine_matrix::inner::rows::{Row, power_at};
+use engine_matrix::inner::grids::{eliminate, row_at};
+use engine_matrix::inner::parts::{Columns, Machine, Row};
+use engine_matrix::inner::rows::power_at;
+use engine_rows::Lines;
 use engine_rows::inner::{atom_at, blank, lines_of, list_columns};
 use exponents::Exponent;
 use names::tables::NameTable;
 use queries::inner::is_unmixed;
-use records::inner::{put_one, put_record};
 use records::{Atom, View, is_set};
 use rules::Refusal;
 use types::Constraints;
+use types::writer::Writer;
 
-// The record of a factor.
+/// The record of a factor.
 fn factor_view(a: Atom, e: Exponent) -> View
     ensures { recOf result 1 ≡ writeFactor (atomOf a ↑ expOf e) }
 {
     View::Factor(a, e.num_word(), e.den)
 }
 
-// The factor of a column, unless its power is 0, and how many.
-fn put_factor(k: Columns, r: Row, j: usize, dst: &mut [u32], at: usize) -> usize
-    requires laid { Laid k }
-    requires wide { Wide r }
-    requires column { j < k.len }
-    requires place { at ≤ 2000000 }
-    ensures { OneFactor dst.old dst.new at result (get_or (colsIn k) j (base 0)) (get_or (row_in r) j nought) }
-{
-    let e = power_at(r, j);
-    if e.is_zero() {
-        return 0;
-    }
-    put_one(dst, at, factor_view(atom_at(k, j), e));
-    1
-}
-
-// The factors of a row, and how many.
-fn put_factors(k: Columns, r: Row, dst: &mut [u32], out: usize) -> usize
-    requires laid { Laid k }
-    requires wide { Wide r }
-    requires place { out ≤ 1000000 }
-    ensures { Put dst.old dst.new out result (map writeFactor (factors (colsIn k) (row_in r))) }
+/// Writes the factors of a row, column by column, and says how many they are.
+fn put_factors(k: Columns, r: Row, out: &mut Writer) -> u32
+    ensures { Factored out.old out.new result (factors (colsIn k) (row_in r)) }
 {
     let mut n = 0;
     for j in 0..k.len {
-        n += put_factor(k, r, j, dst, out + n);
+        let e = power_at(r, j);
+        if e.is_zero() {
+            continue;
+        }
+        out.put(factor_view(atom_at(k, j), e), 1);
+        n += 1;
     }
     n
 }
 
-// A row as a product, and how many factors it has.
-fn put_product(k: Columns, r: Row, dst: &mut [u32], out: usize) -> usize
-    requires laid { Laid k }
-    requires wide { Wide r }
-    requires place { out ≤ 900000 }
-    ensures { PutProduct dst.old dst.new out result (factors (colsIn k) (row_in r)) }
+/// Writes a row as a product.
+fn put_product(k: Columns, r: Row, out: &mut Writer)
+    ensures { Writes out.old out.new (writeProduct (factors (colsIn k) (row_in r))) }
 {
-    let n = put_factors(k, r, dst, out + 1);
-    put_record(dst, out, View::Dim(n as u32), n + 1);
-    n
+    let start = out.reserve();
+    let n = put_factors(k, r, out);
+    out.begin(start, View::Dim(n));
 }
 
-// A binding of x to a row, and how many records.
-fn put_binding(k: Columns, x: u32, r: Row, dst: &mut [u32], out: usize) -> usize
-    requires laid { Laid k }
-    requires wide { Wide r }
-    requires place { out ≤ 800000 }
-    ensures { PutSmall dst.old dst.new out result (writeBinding (boundBy (colsIn k) (x gets row_in r))) }
+/// Writes the binding of x to a row.
+fn put_binding(k: Columns, x: u32, r: Row, out: &mut Writer)
+    ensures { Writes out.old out.new (writeBinding (boundBy (colsIn k) (x gets row_in r))) }
 {
-    let n = put_product(k, r, dst, out + 1);
-    put_record(dst, out, View::Binding(x), n + 2);
-    n + 2
+    let start = out.reserve();
+    put_product(k, r, out);
+    out.begin(start, View::Binding(x));
 }
 
-// An equal-scalar of a row, and how many records.
-fn put_line(k: Columns, r: Row, dst: &mut [u32], out: usize) -> usize
-    requires laid { Laid k }
-    requires wide { Wide r }
-    requires place { out ≤ 800000 }
-    ensures { PutSmall dst.old dst.new out result (writeCon (is_scalar (factors (colsIn k) (row_in r)))) }
+/// Writes a row as an equal-scalar.
+fn put_line(k: Columns, r: Row, out: &mut Writer)
+    ensures { Writes out.old out.new (writeCon (is_scalar (factors (colsIn k) (row_in r)))) }
 {
-    let n = put_product(k, r, dst, out + 1);
-    put_record(dst, out, View::IsScalar, n + 2);
-    n + 2
+    let start = out.reserve();
+    put_product(k, r, out);
+    out.begin(start, View::IsScalar);
 }
 
-// The first m rows as equal-scalars, and how many records.
-pub fn put_lines(k: Columns, g: Grid, m: usize, dst: &mut [u32]) -> usize
-    requires laid { Laid k }
-    requires wide_grid { WideGrid g }
-    requires few { m ≤ 24 }
-    ensures { Put dst.old dst.new 0 result (collect writeCon (map (λ r. is_scalar (factors (colsIn k) r)) (take m (rowsIn g)))) }
+/// Writes the rows that stay as equal-scalars.
+fn put_lines(k: Columns, m: Machine, out: &mut Writer)
+    ensures { Writes out.old out.new (collect writeCon (map (λ r. is_scalar (factors (colsIn k) r)) (staying m))) }
 {
-    let mut n = 0;
-    for i in 0..m {
-        n += put_line(k, row_at(g, i), dst, n);
+    for i in 0..m.stay {
+        put_line(k, row_at(m.kept, i), out);
     }
-    n
 }
 
-// The first m values as bindings, and how many records.
-pub fn put_bindings(k: Columns, names: [u32; 24], g: Grid, m: usize, dst: &mut [u32]) -> usize
-    requires laid { Laid k }
-    requires wide_grid { WideGrid g }
-    requires named { length names ≡ 24 }
-    requires few { m ≤ 24 }
-    ensures { Put dst.old dst.new 0 result (collect writeBinding (map (boundBy (colsIn k)) (pairValues (take m names) (take m (rowsIn g))))) }
+/// Writes the values as bindings.
+fn put_bindings(k: Columns, m: Machine, out: &mut Writer)
+    ensures { Writes out.old out.new (collect writeBinding (map (boundBy (colsIn k)) (bound m))) }
 {
-    let mut n = 0;
-    for i in 0..m {
-        n += put_binding(k, names[i], row_at(g, i), dst, n);
+    for i in 0..m.found {
+        put_binding(k, m.names[i], row_at(m.values, i), out);
     }
-    n
 }
 
-// No columns.
-fn none() -> Columns
-    ensures { Laid result }
-{
+/// No columns.
+fn none() -> Columns {
     Columns {
         vars: [0; 256],
         variables: 0,
@@ -150,16 +113,14 @@ fn none() -> Columns
     }
 }
 
-// A machine that has n rows to do.
-fn start(g: Grid, n: usize) -> Machine
-    requires wide_grid { WideGrid g }
-    requires few { n ≤ 24 }
-    ensures { Running result × ((cols : List (TreeAtom ℕ)) → rest cols result ≡ eliminated cols n (take n (rowsIn g)) []) }
+/// A machine that has these rows to do.
+fn start(lines: Lines) -> Machine
+    ensures { (cols : List (TreeAtom ℕ)) → rest cols result ≡ eliminated cols lines.len (rowsOf lines) [] }
 {
     Machine {
-        rows: g,
+        rows: lines.grid,
         at: 0,
-        left: n,
+        left: lines.len,
         kept: blank(),
         stay: 0,
         names: [0; 24],
@@ -178,27 +139,27 @@ pub struct Reduced {
 /// The set, laid out and eliminated. Refuses with 8 where it doesn't fit, and with 7.
 pub fn reduce(names: NameTable, set: Constraints) -> Result<Reduced, Refusal>
     requires a_set { SetHeld names.pool.now names.table.now set.words.now set.end set.trees.0 }
-    ensures is { toldBy settledOf result ≡ reduction names.entry.pool.now names.entry.table.now set.entry.trees.0 }
-    ensures ready { IfOk result Ready }
+    ensures { toldBy settledOf result ≡ reduction names.entry.pool.now names.entry.table.now set.entry.trees.0 }
 {
     lines_of(set, none())?; // the kinds alone: which names there are is known of equal-scalars only
     let columns = list_columns(names, set.words, set.end)?;
     let lines = lines_of(set, columns)?;
-    let machine = eliminate(columns, start(lines.grid, lines.len))?;
+    let machine = eliminate(columns, start(lines))?;
     Ok(Reduced { columns, machine })
 }
 
 /// The rows that are left, or else the values, written into the result buffer.
 fn write(k: Columns, m: Machine, res: &mut [u32]) -> Eliminated
-    requires laid { Laid k }
-    requires running { Running m }
     requires room { 8192 ≤ length res.old }
     ensures { Answered (got (settledIn k m)) res.old res.new (Ok result) }
 {
+    let mut out = Writer { words: res, at: 0 };
     if 0 < m.stay {
-        return Eliminated::Left(put_lines(k, m.kept, m.stay, res));
+        put_lines(k, m, &mut out);
+        return Eliminated::Left(out.at);
     }
-    Eliminated::Bound(put_bindings(k, m.names, m.values, m.found, res))
+    put_bindings(k, m, &mut out);
+    Eliminated::Bound(out.at)
 }
 
 /// Is the set well formed (8, 1), and is no name both a variable and a parameter (4)?

@@ -1,4 +1,4 @@
-// The public call of the second engine: a set of equal-scalar constraints solved by rows of powers.
+//! The public call of the second engine: a set of equal-scalar constraints solved by rows of powers.
 #![tactic(auto)]
 
 pub mod inner;

@@ -1,4 +1,4 @@
-// What the contract of the second engine decides: theorems, each the contract of a function that does nothing.
+//! What the contract of the second engine decides: theorems, each the contract of a function that does nothing.
 ghost use Rattle.engine.specs.Theorems.{EliminateDetermined, EliminateNumbered};
 
 /// The contract of `eliminate` leaves no choice: two results that it allows coincide (`eliminate-determined`).

@@ -1,2 +1,3 @@
-pub mod Doing
+mod Loops
+mod Steps
 pub mod Sevens

@@ -1,3 +1,4 @@
+pub mod Powers
 pub mod Told
 pub mod Grids
 pub mod Machine

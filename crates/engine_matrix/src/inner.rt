@@ -1,3 +1,4 @@
-// Rows of powers and the grid of them, for callers that know their widths.
+//! Rows of powers and the grid of them, and the machine that eliminates them.
 pub mod grids;
+pub mod parts;
 pub mod rows;

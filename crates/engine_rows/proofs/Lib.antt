@@ -1,1 +1,1 @@
-mod Tags
+mod Others

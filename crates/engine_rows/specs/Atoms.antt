@@ -4,7 +4,7 @@ use Rattle.std.proofs.Math.Path.{refl}
 use Rattle.std.proofs.Common.{ap, ◌∙◌, sym, arith, add-one, length-append, length-take-le, take-suc, get_or-take, get_or-append-add}
 use mathlib.Core.List.{List, [], ◌∷◌, ◌++◌, append_assoc}
 use Prim.Native.Nat.{ℕ, zero, suc, ◌+◌, ◌-◌, ◌≤◌, ◌<◌}
-use Rattle.std.proofs.lemmas.List.{length-replicate, length-map, set_at}
+use Rattle.std.proofs.lemmas.List.{length-map, set_at}
 use Rattle.std.proofs.Math.ListN.{get_or-append}
 use Rattle.rules.specs.Base.{is_yes}
 use Rattle.rules.specs.Exponents.{Exp, frac, nought, goodExp}
@@ -20,12 +20,13 @@ use Rattle.types.specs.declared.Factor as code
 use Rattle.records.specs.declared.Open.TheVariants.{Var, Quant, Par}
 use Rattle.records.specs.declared.Atom.{Atom}
 use Rattle.records.specs.declared.Atom.TheVariants.{Free, Base}
-use Rattle.engine_matrix.specs.declared.inner.rows.Row.{Row}
-use Rattle.engine_matrix.specs.declared.inner.grids.Columns.{Columns}
-use Rattle.engine_matrix.specs.Machine.{atomsFrom, namesIn, colsIn, Laid, names-long}
+use Rattle.exponents.specs.declared.Exponent.{Exponent}
+use Rattle.exponents.specs.Answers.{expOf}
+use Rattle.engine_matrix.specs.declared.inner.parts.Columns.{Columns}
+use Rattle.engine_matrix.specs.Machine.{atomsFrom, namesIn, colsIn, names-long}
 use Rattle.rules.specs.Elimination as Rows
 use Rattle.rules.specs.Elimination.{atomNames, powerIn, row_of}
-use Rattle.engine_matrix.specs.Told.{row_in, Wide}
+use Rattle.engine_matrix.specs.Powers.{powersIn}
 
 -- ══ Are two atoms the same? ══
 
@@ -49,9 +50,8 @@ abbrev pub GoodPowers : Product ℕ → Type 0
 GoodPowers p = Every (λ f. goodExp (powerOf f) ≡ true) p
 
 -- these powers, and zeros up to 48
-pub record RowIs (r : Row) (l : Rows.Row) : Type 0 where
-  pub wide : Wide r
-  pub is : row_in r ≡ l ++ replicate (48 - length l) nought
+abbrev pub padded : Rows.Row → Rows.Row
+padded l = l ++ replicate (48 - length l) nought
 
 abbrev pub atomIn : Factor ℕ → tree.Atom ℕ
 atomIn (a ↑ e) = a
@@ -108,7 +108,7 @@ module _ (d : tree.Atom ℕ) where
   column-parameter (suc v) p (x ∷ xs) (suc j) h k l = column-parameter v p xs j (omega arith) (omega arith) (omega arith)
 
 -- the name of a column, by its kind
-module _ (k : Columns) (j : ℕ) (l : Laid k) where
+module _ (k : Columns) (j : ℕ) where
   abbrev A : List ℕ
   A = take k.variables k.vars
 
@@ -119,10 +119,10 @@ module _ (k : Columns) (j : ℕ) (l : Laid k) where
   C = take k.dimensions k.bases
 
   long-a : length A ≡ k.variables
-  long-a = length-take-le k.variables k.vars (omega (arith, l.vars-long, l.few-variables))
+  long-a = length-take-le k.variables k.vars (omega (arith, k.vars_long, k.few_variables))
 
   long-b : length B ≡ k.parameters
-  long-b = length-take-le k.parameters k.pars (omega (arith, l.pars-long, l.few-others))
+  long-b = length-take-le k.parameters k.pars (omega (arith, k.pars_long, k.few_others))
 
   pub parameter-name : (i : ℕ) → j ≡ k.variables + i → i < k.parameters → get_or (namesIn k) j 0 ≡ get_or k.pars i 0
   parameter-name i e h =
@@ -148,33 +148,30 @@ columns-long zero zero (x ∷ xs) = ap suc (columns-long zero zero xs)
 columns-long zero (suc p) (x ∷ xs) = ap suc (columns-long zero p xs)
 columns-long (suc v) p (x ∷ xs) = ap suc (columns-long v p xs)
 
-pub cols-long : (k : Columns) → Laid k → length (colsIn k) ≡ k.len
+pub cols-long : (k : Columns) → length (colsIn k) ≡ k.len
 unfolding colsIn
-cols-long k l = columns-long k.variables k.parameters (namesIn k) ∙ names-long k l
+cols-long k = columns-long k.variables k.parameters (namesIn k) ∙ names-long k
 
 -- ══ A row, column by column ══
 
-zeros-good : (n : ℕ) → Every (λ e. goodExp e ≡ true) (replicate n nought)
-zeros-good zero = tt
-zeros-good (suc n) = (nought-good, zeros-good n)
-
-pub no-columns : (r : Row) → row_in r ≡ replicate 48 nought → RowIs r []
-no-columns r e = record { wide = record { long = ap length e ∙ length-replicate 48 nought; good = rw e (zeros-good 48) }; is = e }
+-- one power in every column
+pub good-copies : (n : ℕ) (e : Exponent) → goodExp (expOf e) ≡ true → (j : ℕ) → goodExp (get_or (powersIn (replicate n e)) j nought) ≡ true
+unfolding powersIn
+good-copies zero e h j = nought-good
+good-copies (suc n) e h zero = h
+good-copies (suc n) e h (suc j) = good-copies n e h j
 
 -- one more column
-pub one_more : (r r' : Row) (l : Rows.Row) (j : ℕ) (e : Exp) → j < length l → length l ≤ 48 → RowIs r (take j l) → e ≡ get_or l j nought → Wide r'
-    → row_in r' ≡ set (row_in r) j e → RowIs r' (take (j + 1) l)
-one_more r r' l j e h m g i w k =
+pub one_more : (r r' l : Rows.Row) (j : ℕ) (e : Exp) → j < length l → length l ≤ 48 → r ≡ padded (take j l) → e ≡ get_or l j nought
+    → r' ≡ set r j e → r' ≡ padded (take (j + 1) l)
+one_more r r' l j e h m g i k =
     let n : length (take j l) ≡ j = length-take-le j l (omega arith) in
     let t : take (j + 1) l ≡ take j l ++ (get_or l j nought ∷ []) = rw (add-one j) (take-suc l j nought h) in
     let n' : length (take (j + 1) l) ≡ j + 1 = length-take-le (j + 1) l (omega arith) in
     let z : 48 - j ≡ suc (48 - (j + 1)) = omega arith in
-    record {
-      wide = w;
-      is = k ∙ rw (g.is, n, n', z, t, i)
-          (set_at (take j l) nought (replicate (48 - (j + 1)) nought) (get_or l j nought) j n
-          ∙ sym (append_assoc (take j l) (get_or l j nought ∷ []) (replicate (48 - (j + 1)) nought)));
-    }
+    k ∙ rw (g, n, n', z, t, i)
+    (set_at (take j l) nought (replicate (48 - (j + 1)) nought) (get_or l j nought) j n
+    ∙ sym (append_assoc (take j l) (get_or l j nought ∷ []) (replicate (48 - (j + 1)) nought)))
 
 pub row-long : (names : List Bytes) (cols : List (tree.Atom ℕ)) (p : Product ℕ) → length (row_of (numbered names) cols p) ≡ length cols
 unfolding row_of

@@ -19,8 +19,8 @@ use Rattle.records.specs.declared.View.{View}
 use Rattle.records.specs.declared.View.TheVariants as view
 use Rattle.queries.specs.Scans.{opensIn}
 use Rattle.queries.specs.Marks.{Filled}
-use Rattle.engine_matrix.specs.declared.inner.grids.Columns.{Columns}
-use Rattle.engine_matrix.specs.Machine.{namesIn, Laid}
+use Rattle.engine_matrix.specs.declared.inner.parts.Columns.{Columns}
+use Rattle.engine_matrix.specs.Machine.{namesIn}
 use Rattle.rules.specs.Base.{Got, got, refused, ◌>>=◌, ◌>>◌, need}
 use Rattle.std.proofs.lemmas.Bool.{leb-true, le-leb, lt-leb}
 use Rattle.std.proofs.Math.Dec.{leb}
@@ -93,9 +93,11 @@ module _ (ν : Names ℕ) (s : List ℕ) (e : ℕ) where
 abbrev pub headed : Columns → ℕ × ℕ × List ℕ
 headed k = (k.variables, k.parameters, namesIn k)
 
-over-long : (xs before : List ℕ) → length before ≡ 256 → length xs ≤ 24 → length (over xs before) ≡ 256
+-- a buffer that was filled is as long as it was
+pub filled-long : (xs before after : List ℕ) (n : ℕ) → Filled xs n before after → length before ≡ 256 → n ≤ 24 → length after ≡ 256
 unfolding over
-over-long xs before l h = omega (arith, length-append xs (drop (length xs) before), length-drop (length xs) before, l)
+filled-long xs before after n f l h =
+    ap length f.buffer ∙ omega (arith, length-append xs (drop (length xs) before), length-drop (length xs) before, l, f.many)
 
 over-front : (xs before : List ℕ) (n : ℕ) → n ≡ length xs → take n (over xs before) ≡ xs
 unfolding over
@@ -150,23 +152,13 @@ module _ (ν : Names ℕ) (s : List ℕ) (e : ℕ) where
         few-others = leb-true _ _ (need-passed (leb (length (pars ν s e) + length (bases ν s e)) 24) 8 b.1);
       }
 
-  module _ (k : Columns) (vb pb bb : List ℕ) (fv : Filled (vars ν s e) k.variables vb k.vars) (fp : Filled (pars ν s e) k.parameters pb k.pars)
-      (fb : Filled (bases ν s e) k.dimensions bb k.bases) (hv : k.variables ≤ 24) (ho : k.parameters + k.dimensions ≤ 24) where
-    pub laid-well : length vb ≡ 256 → length pb ≡ 256 → length bb ≡ 256 → k.len ≡ k.variables + k.parameters + k.dimensions → Laid k
-    laid-well lv lp lb all = record {
-      vars-long = ap length fv.buffer ∙ over-long (vars ν s e) vb lv (omega (arith, fv.many));
-      pars-long = ap length fp.buffer ∙ over-long (pars ν s e) pb lp (omega (arith, fp.many));
-      bases-long = ap length fb.buffer ∙ over-long (bases ν s e) bb lb (omega (arith, fb.many));
-      few-variables = hv;
-      few-others = ho;
-      all = all;
-    }
-
-    pub listed-well : got (headed k) ≡ listed ν s e
+  module _ (v p d : ℕ) (vb vs pb ps bb bs : List ℕ) (fv : Filled (vars ν s e) v vb vs) (fp : Filled (pars ν s e) p pb ps)
+      (fb : Filled (bases ν s e) d bb bs) (hv : v ≤ 24) (ho : p + d ≤ 24) where
+    pub listed-well : got (v, p, take v vs ++ take p ps ++ take d bs) ≡ listed ν s e
     unfolding listed
     listed-well =
         rw (le-leb (length (vars ν s e)) 24 (omega (arith, fv.many)), le-leb (length (pars ν s e) + length (bases ν s e)) 24 (omega (arith, fp.many, fb.many)))
         (ap got (ap₂ (λ (x : ℕ × ℕ) (xs : List ℕ). (x.0, x.1, xs)) (ap₂ (λ (x y : ℕ). (x, y)) fv.many fp.many)
-        (ap₂ ◌++◌ (ap₂ ◌++◌ (ap (take k.variables) fv.buffer ∙ over-front (vars ν s e) vb k.variables fv.many)
-        (ap (take k.parameters) fp.buffer ∙ over-front (pars ν s e) pb k.parameters fp.many))
-        (ap (take k.dimensions) fb.buffer ∙ over-front (bases ν s e) bb k.dimensions fb.many))))
+        (ap₂ ◌++◌ (ap₂ ◌++◌ (ap (take v) fv.buffer ∙ over-front (vars ν s e) vb v fv.many)
+        (ap (take p) fp.buffer ∙ over-front (pars ν s e) pb p fp.many))
+        (ap (take d) fb.buffer ∙ over-front (bases ν s e) bb d fb.many))))

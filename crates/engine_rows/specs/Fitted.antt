@@ -25,7 +25,7 @@ use Rattle.queries.specs.declared.Kind.TheVariants.{Variables, Parameters}
 use Rattle.rules.specs.Names.{table_of}
 use Rattle.laws.specs.NameTable.{count-is}
 use Rattle.laws.specs.ReadLists as Below
-use Rattle.engine_matrix.specs.declared.inner.grids.Columns.{Columns}
+use Rattle.engine_matrix.specs.declared.inner.parts.Columns.{Columns}
 use Rattle.rules.specs.Elimination.{columns, fits, isVariable}
 use Rattle.engine_matrix.specs.Machine.{atomsFrom, namesIn, colsIn}
 use Rattle.engine_rows.specs.Atoms.{powerOf}

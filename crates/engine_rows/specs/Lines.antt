@@ -1,35 +1,31 @@
 -- The constraints of a set, one after another, as rows.
-use Rattle.std.specs.Prelude.{◌≡◌, take, set, replicate}
+use Rattle.std.specs.Prelude.{◌≡◌, take, set}
 use Rattle.std.proofs.Math.Path.{refl, ap, ap₂, sym}
 use Rattle.std.proofs.Common.{◌∙◌, add-one, take-suc-set}
-use mathlib.Core.List.{List, [], ◌∷◌, ◌++◌, map, append_assoc}
-use Prim.Native.Nat.{ℕ, zero, suc, ◌+◌, ◌-◌, ◌≤◌, ◌<◌}
+use mathlib.Core.List.{List, [], ◌∷◌, ◌++◌, map, append_assoc, append-nil, map-append}
+use Prim.Native.Nat.{ℕ, suc, ◌+◌, ◌≤◌, ◌<◌}
 use native.Mathlib.Omega.{arith}
 use Rattle.std.proofs.Math.ListN.{length, length-append}
-use Rattle.std.proofs.lemmas.List.{length-replicate}
 use Rattle.std.proofs.lemmas.Bool.{leb-true, le-leb, lt-leb}
 use Rattle.std.proofs.Math.Dec.{leb}
 use Rattle.rules.specs.Base.{Got, got, refused, ◌>>=◌, ◌>>◌, need, each}
-use Rattle.rules.specs.Exponents.{nought}
 use Rattle.rules.specs.Names.{Bytes, numbered}
 use Rattle.rules.specs.Trees as tree
 use Rattle.rules.specs.Trees.{Product, Con, equal, isDim, is_scalar, hasField}
 use Rattle.laws.specs.Checks.{need-passed}
 use Rattle.laws.specs.Refusing.{Refuses, given, refusing, next}
-use Rattle.laws.specs.Lists.{Every, got≢refused, one-step, each-parts, bound-step}
+use Rattle.laws.specs.Lists.{alone, got≢refused, one-step, each-parts, bound-step}
 use Rattle.types.specs.Sets as sets
 use Rattle.types.specs.Shapes.{asked}
 use Rattle.types.specs.declared.Product as code
 use Rattle.types.specs.declared.Demand.{Demand}
 use Rattle.types.specs.declared.Demand.TheVariants as demand
-use Rattle.engine_matrix.specs.declared.inner.rows.Row.{Row}
 use Rattle.rules.specs.Elimination as Rows
 use Rattle.rules.specs.Elimination.{row_of, scalarOf}
-use Rattle.engine_matrix.specs.Told.{row_in, Wide}
-use Rattle.engine_matrix.specs.Grids.{rowsIn, WideGrid, grid-long}
-use Rattle.engine_matrix.specs.declared.inner.grids.Grid.{Grid}
-use Rattle.engine_rows.specs.declared.inner.Lines.{Lines}
-use Rattle.engine_rows.specs.Atoms.{GoodPowers, RowIs}
+use Rattle.engine_matrix.specs.Grids.{rowsIn, grid-long}
+use Rattle.engine_matrix.specs.declared.inner.parts.Grid.{Grid}
+use Rattle.engine_rows.specs.declared.Lines.{Lines}
+use Rattle.engine_rows.specs.Atoms.{GoodPowers, padded}
 
 -- products with well formed powers
 abbrev pub Plain : Con ℕ → Type 0
@@ -37,10 +33,6 @@ Plain (equal l r) = Unit {0}
 Plain (isDim t) = Unit {0}
 Plain (is_scalar p) = GoodPowers p
 Plain (hasField n l r) = Unit {0}
-
--- a row with zeros past its columns
-abbrev pub padded : Rows.Row → Rows.Row
-padded l = l ++ replicate (48 - length l) nought
 
 abbrev pub paddedRows : List Bytes → List (tree.Atom ℕ) → List (Product ℕ) → List Rows.Row
 paddedRows names cols ps = map (λ p. padded (row_of (numbered names) cols p)) ps
@@ -52,13 +44,9 @@ laidOut names cols cs = do
   need (leb (length ps) 24) 8
   got (paddedRows names cols ps)
 
--- the rows that were laid out, and their room
+-- the rows that were laid out
 abbrev pub rowsOf : Lines → List Rows.Row
 rowsOf l = take l.len (rowsIn l.grid)
-
-pub record Roomy (l : Lines) : Type 0 where
-  pub few : l.len ≤ 24
-  pub wide : WideGrid l.grid
 
 scalar-eight : (c : Con ℕ) → Refuses (λ n. n ≡ 8) (scalarOf c)
 unfolding scalarOf
@@ -101,18 +89,6 @@ module _ (names : List Bytes) (cols : List (tree.Atom ℕ)) (cs : List (Con ℕ)
       go (refused n) e = rw (e, (scalars-eight cs).only n e) refl
 
 -- ══ Row by row ══
-
-alone : {A : Type 0} (m : Got A) → (m >>= λ a. got a) ≡ m
-alone (got a) = refl
-alone (refused n) = refl
-
-append-nil : {A : Type 0} (xs : List A) → xs ++ [] ≡ xs
-append-nil [] = refl
-append-nil (x ∷ xs) = ap (x ∷◌) (append-nil xs)
-
-map-append : {A B : Type 0} (f : A → B) (xs ys : List A) → map f (xs ++ ys) ≡ map f xs ++ map f ys
-map-append f [] ys = refl
-map-append f (x ∷ xs) ys = ap (f x ∷◌) (map-append f xs ys)
 
 -- what is no equal-scalar
 pub not-asked : (d : Demand) → ((p : code.Product) → d ≡ demand.IsScalar p → ⊥) → scalarOf (asked d) ≡ refused 8
@@ -160,15 +136,15 @@ module _ (names : List Bytes) (cols : List (tree.Atom ℕ)) (cs : List (Con ℕ)
               let m : length ps ≡ length w.done + length a.value = ap length (sym a.is) ∙ length-append w.done a.value in
               omega (arith, l, m, w.many, k)
 
-    pub going_on : (p : Product ℕ) (others : List (Con ℕ)) → more ≡ is_scalar p ∷ others → (g' : Grid) (r : Row) → n < 24 → WideGrid g
-        → RowIs r (row_of (numbered names) cols p) → rowsIn g' ≡ set (rowsIn g) n (row_in r) → Going others (n + 1) g'
+    pub going_on : (p : Product ℕ) (others : List (Con ℕ)) → more ≡ is_scalar p ∷ others → (g' : Grid) (r : Rows.Row) → n < 24
+        → r ≡ padded (row_of (numbered names) cols p) → rowsIn g' ≡ set (rowsIn g) n r → Going others (n + 1) g'
     unfolding each scalarOf
-    going_on p others e g' r k wide ri i = record {
+    going_on p others e g' r k ri i = record {
       done = w.done ++ (p ∷ []);
       whole = w.whole ∙ ap (λ (m : List (Con ℕ)). each scalarOf m >>= λ qs. got (w.done ++ qs)) e ∙ again (each scalarOf others);
       many = omega (arith, w.many, length-append w.done (p ∷ []));
-      rows = rw (add-one n, i) (take-suc-set (rowsIn g) n (row_in r) (omega (arith, grid-long g wide)))
-          ∙ ap₂ (λ (xs : List Rows.Row) (x : Rows.Row). xs ++ (x ∷ [])) w.rows ri.is
+      rows = rw (add-one n, i) (take-suc-set (rowsIn g) n r (omega (arith, grid-long g)))
+          ∙ ap₂ (λ (xs : List Rows.Row) (x : Rows.Row). xs ++ (x ∷ [])) w.rows ri
           ∙ sym (map-append (λ p. padded (row_of (numbered names) cols p)) w.done (p ∷ []));
     }
       where
@@ -181,10 +157,3 @@ module _ (names : List Bytes) (cols : List (tree.Atom ℕ)) (cs : List (Con ℕ)
     pub going_end : more ≡ [] → n ≤ 24 → laidOut names cols cs ≡ got (take n (rowsIn g))
     unfolding each
     going_end e k = laid-some names cols cs w.done (w.whole ∙ rw e (ap got (append-nil w.done))) (omega (arith, w.many)) ∙ ap got (sym w.rows)
-
-copies : (n : ℕ) (r : Row) → Wide r → Every Wide (replicate n r)
-copies zero r w = tt
-copies (suc n) r w = (w, copies n r w)
-
-pub wide-copies : (g : Grid) (r : Row) → g.rows ≡ replicate 24 r → Wide r → WideGrid g
-wide-copies g r e w = record { long = ap length e ∙ length-replicate 24 r; each-wide = rw e (copies 24 r w) }

@@ -1,12 +1,13 @@
-// The work on words that hold a set.
-ghost use Rattle.std.specs.Prelude.{◌≡◌, List, [], ◌++◌, ℕ, ◌+◌, ◌≤◌, ◌<◌, length, get_or, option_to_list, IfOk};
+//! The work on words that hold a set.
+ghost use Rattle.std.specs.Prelude.{◌≡◌, List, [], ◌++◌, ℕ, ◌+◌, ◌≤◌, ◌<◌, length, get_or, option_to_list, replicate};
 ghost use Rattle.rules.specs.Names.{Bytes, numbered};
 ghost use Rattle.rules.specs.Trees.{base};
 ghost use Rattle.exponents.specs.Answers.{expOf};
 ghost use Rattle.records.specs.Holds.{atomOf};
 ghost use Rattle.rules.specs.Elimination.{powerIn, row_of};
-ghost use Rattle.engine_matrix.specs.Machine.{colsIn, Laid};
-ghost use Rattle.engine_matrix.specs.Grids.{WideGrid};
+ghost use Rattle.engine_matrix.specs.Told.{row_in};
+ghost use Rattle.engine_matrix.specs.Grids.{rowsIn};
+ghost use Rattle.engine_matrix.specs.Machine.{colsIn};
 ghost use Rattle.rules.specs.Contents.{sort};
 ghost use Rattle.rules.specs.Refusals.{toldBy};
 ghost use Rattle.laws.specs.Lists.{Every};
@@ -14,11 +15,13 @@ ghost use Rattle.laws.specs.ReadLists as Below;
 ghost use Rattle.records.specs.Good.{numbers};
 ghost use Rattle.queries.specs.Marks.{Has, Filled};
 ghost use Rattle.engine_rows.specs.Columns.{basesAtom, basesView, basesIn, Known, headed, listed};
-ghost use Rattle.engine_rows.specs.Lines.{Plain, rowsOf, Roomy, laidOut};
-ghost use Rattle.engine_rows.specs.Atoms.{GoodPowers, RowIs};
+ghost use Rattle.engine_rows.specs.Lines.{Plain, rowsOf, laidOut};
+ghost use Rattle.engine_rows.specs.Atoms.{GoodPowers, padded};
 
-use engine_matrix::inner::grids::{Columns, Grid, with_row};
-use engine_matrix::inner::rows::{Row, with_power};
+use super::Lines;
+use engine_matrix::inner::grids::with_row;
+use engine_matrix::inner::parts::{Columns, Grid, Row};
+use engine_matrix::inner::rows::with_power;
 use exponents::Exponent;
 use names::tables::NameTable;
 use queries::Kind;
@@ -29,12 +32,11 @@ use records::{Atom, Open, View};
 use rules::{NAMES, Refusal};
 use types::{Constraints, Demand, Product};
 
-// At most 24 rows, 24 variables, and 24 parameters and base dimensions.
+/// At most 24 rows, 24 variables, and 24 parameters and base dimensions.
 const ROWS: usize = 24;
 
-// The atom of a column.
+/// The atom of a column.
 pub fn atom_at(k: Columns, j: usize) -> Atom
-    requires laid { Laid k }
     requires column { j < k.len }
     ensures { atomOf result ≡ get_or (colsIn k) j (base 0) }
 {
@@ -48,7 +50,7 @@ pub fn atom_at(k: Columns, j: usize) -> Atom
     Atom::Base(k.bases[i - k.parameters])
 }
 
-// The power of an atom in a product; 0 where it doesn't occur.
+/// The power of an atom in a product; 0 where it doesn't occur.
 fn power_in(product: Product, a: Atom) -> Exponent
     ensures { (names : List Bytes) → expOf result ≡ powerIn (numbered names) product.entry.factors.0 (atomOf a) }
 {
@@ -60,20 +62,19 @@ fn power_in(product: Product, a: Atom) -> Exponent
     Exponent::ZERO
 }
 
-// A row of zeros.
+/// A row of zeros.
 pub fn zeros() -> Row
-    ensures { RowIs result [] }
+    ensures { row_in result ≡ padded [] }
 {
     Row {
         powers: [Exponent::ZERO; 48],
     }
 }
 
-// The row of a product.
+/// The row of a product.
 fn row_of(product: Product, k: Columns) -> Row
-    requires laid { Laid k }
     requires good { GoodPowers product.factors.0 }
-    ensures { (names : List Bytes) → RowIs result (row_of (numbered names) (colsIn k) product.entry.factors.0) }
+    ensures { (names : List Bytes) → row_in result ≡ padded (row_of (numbered names) (colsIn k) product.entry.factors.0) }
 {
     let mut out = zeros();
     for j in 0..k.len {
@@ -82,28 +83,19 @@ fn row_of(product: Product, k: Columns) -> Row
     out
 }
 
-// The rows of a set, so many from the grid's front.
-#[derive(Clone, Copy)]
-pub struct Lines {
-    pub grid: Grid,
-    pub len: usize,
-}
-
-// No rows yet.
+/// A grid of rows of zeros.
 pub fn blank() -> Grid
-    ensures { WideGrid result }
+    ensures { rowsIn result ≡ replicate 24 (padded []) }
 {
     Grid {
         rows: [zeros(); 24],
     }
 }
 
-// Lays the constraints out, one a row; 8 where they aren't at most 24 equal-scalar constraints.
+/// Lays the constraints out, one a row; 8 where they aren't at most 24 equal-scalar constraints.
 pub fn lines_of(constraints: Constraints, k: Columns) -> Result<Lines, Refusal>
-    requires laid { Laid k }
     requires plain { Every Plain constraints.trees.0 }
-    ensures is { (names : List Bytes) → toldBy rowsOf result ≡ laidOut names (colsIn k) constraints.entry.trees.0 }
-    ensures room { IfOk result Roomy }
+    ensures { (names : List Bytes) → toldBy rowsOf result ≡ laidOut names (colsIn k) constraints.entry.trees.0 }
 {
     let mut grid = blank();
     let mut len = 0;
@@ -120,7 +112,7 @@ pub fn lines_of(constraints: Constraints, k: Columns) -> Result<Lines, Refusal>
     Ok(Lines { grid, len })
 }
 
-// The base dimension that a record names.
+/// The base dimension that an atom is.
 fn base_of(a: Atom) -> Option<u32>
     ensures { option_to_list result ≡ basesAtom a }
 {
@@ -130,6 +122,7 @@ fn base_of(a: Atom) -> Option<u32>
     }
 }
 
+/// The base dimension that a record names.
 fn base_at(v: View) -> Option<u32>
     ensures { option_to_list result ≡ basesView v }
 {
@@ -152,7 +145,7 @@ fn base_names(s: &[u32], e: usize) -> NameSet
     found
 }
 
-// Lists the base dimensions, sorted, and says how many.
+/// Lists the base dimensions, sorted, and says how many.
 fn list_bases(names: NameTable, s: &[u32], e: usize, out: &mut [u32]) -> usize
     requires held { Below.Every (λ x. x < get_or names.table.now 0 0) (basesIn s.now 0 e) }
     requires room { 256 ≤ length out.old }
@@ -161,11 +154,10 @@ fn list_bases(names: NameTable, s: &[u32], e: usize, out: &mut [u32]) -> usize
     base_names(s, e).write_sorted(names, out)
 }
 
-// Lists the columns: variables, then parameters, then base dimensions, each sorted; 8 where they are too many.
+/// Lists the columns: variables, then parameters, then base dimensions, each sorted; 8 where they are too many.
 pub fn list_columns(names: NameTable, s: &[u32], e: usize) -> Result<Columns, Refusal>
     requires known { Known (get_or names.table.now 0 0) s.now e }
-    ensures is { toldBy headed result ≡ listed (numbers names.entry.pool.now names.entry.table.now) s.now e }
-    ensures laid { IfOk result Laid }
+    ensures { toldBy headed result ≡ listed (numbers names.entry.pool.now names.entry.table.now) s.now e }
 {
     let mut vars = [0u32; NAMES];
     let variables = list_names(names, s, 0, e, Kind::Variables, &mut vars);
@@ -181,7 +173,7 @@ pub fn list_columns(names: NameTable, s: &[u32], e: usize) -> Result<Columns, Re
         return Err(Refusal::TooLarge);
     }
     let len = variables + parameters + dimensions;
-    Ok(Columns {
+    let columns = Columns {
         vars,
         variables,
         pars,
@@ -189,5 +181,6 @@ pub fn list_columns(names: NameTable, s: &[u32], e: usize) -> Result<Columns, Re
         bases,
         dimensions,
         len,
-    })
+    };
+    Ok(columns)
 }

@@ -1,4 +1,4 @@
-// What each engine answers, in one form.
+//! What each engine answers, in one form.
 use crate::sets::Table;
 use engine::{Eliminated, eliminate};
 use rules::Refusal;

@@ -1,4 +1,4 @@
-// Runs both engines on the listed sets and on generated ones, and compares what they answer and all that the buffers hold afterwards.
+//! Runs both engines on the listed sets and on generated ones, and compares what they answer and all that the buffers hold afterwards.
 #![tactic(auto)]
 
 mod engines;

@@ -1,4 +1,4 @@
-// Where sets come from: names, the words on a line, and generated lines.
+//! Where sets come from: names, the words on a line, and generated lines.
 use anyhow::{Context, Result, ensure};
 use names::enter;
 use rules::Was;

@@ -15,8 +15,8 @@ fn without_twos(n: u64) -> u64
 // Of two odd numbers: the larger less the smaller is even, and its factors 2 don't count.
 #[tactic(auto, using(crate::proofs::Steps::divisors))]
 fn of_odd(a: u64, b: u64) -> u64
-    requires a_value { a % 2 ≡ 1 }
-    requires b_value { b % 2 ≡ 1 }
+    requires left_odd { a % 2 ≡ 1 }
+    requires right_odd { b % 2 ≡ 1 }
     ensures { result ≡ gcd a b }
 {
     let mut x = a;

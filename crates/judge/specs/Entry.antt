@@ -1,8 +1,8 @@
 -- The checks of the judge at entry, and what is known where they are met.
-use Rattle.std.specs.Prelude.{Option, Some, None, ◌≡◌, Bool, true, ◌&&◌, List, [], ◌∷◌, ◌++◌, map, ℕ, ◌/◌, ◌%◌, ◌≤◌, ◌<◌, eqb, length, replicate, Result}
+use Rattle.std.specs.Prelude.{Option, Some, None, Ok, Err, IfOk, ◌≡◌, Bool, true, ◌&&◌, List, [], ◌∷◌, ◌++◌, map, ℕ, ◌/◌, ◌%◌, ◌≤◌, ◌<◌, eqb, length, replicate, Result}
 use Rattle.std.proofs.Math.Path.{refl, sym}
-use Rattle.std.proofs.Common.{◌∙◌}
-use Rattle.std.proofs.Math.Bool.{false, and-eq-true_iff}
+use Rattle.std.proofs.Common.{ap, ap₂, ◌∙◌}
+use Rattle.std.proofs.Math.Bool.{false}
 use borrow.Author.Tests.{leb-true, lt-leb, le-leb, eq-eqb, ne_eqb}
 use Rattle.std.proofs.Math.Dec.{leb}
 use Rattle.rules.specs.Base.{Got, got, refused, ◌>>=◌, ◌>>◌, need, bounded, all, collect}
@@ -17,17 +17,15 @@ use Rattle.rules.specs.Calls.{
   entriesGiven,
   apart,
   opensBinding,
-  aloneGiven,
-  setCall,
   lentWork,
   workAfter,
   judgedSet,
   judgeCall,
 }
 use Rattle.rules.specs.Judging.{judge}
-use Rattle.rules.specs.Names.{table_of, numbersOf, tableGood, lentTable}
+use Rattle.rules.specs.Names.{table_of, numbersOf, tableGiven, lentTable}
 use Rattle.rules.specs.Reading.{readBound}
-use Rattle.rules.specs.Refusals.{told}
+use Rattle.rules.specs.Refusals.{number_of, told, toldBy}
 use Rattle.rules.specs.Trees.{Open, Con, opensCon}
 use Rattle.rules.specs.WellFormed.{rising}
 use Rattle.rules.specs.Writing.{word_of}
@@ -35,11 +33,14 @@ use Rattle.rules.specs.declared.Refusal.{Refusal}
 use Rattle.laws.specs.Checks.{need-passed, first-passed, next-passed}
 use Rattle.laws.specs.Lists.{clash}
 use Rattle.laws.specs.NameTable.{Good}
+use Rattle.names.specs.Told.{unit_of}
+use Rattle.names.specs.declared.tables.NameTable.{NameTable}
 use Rattle.records.specs.Good.{Chain, Chained, GoodBound, numbers, goodOpen}
 use Rattle.records.specs.Given.{list-yes, list-told}
 use Rattle.records.specs.Schemes.{bound-reader}
 use Rattle.queries.specs.declared.name_set.NameSet.{NameSet}
 use Rattle.queries.specs.Marks.{Has}
+use Rattle.types.specs.Given.{over_table, set_over}
 use Rattle.judge.specs.Told.{judgedAs}
 
 -- 10
@@ -54,12 +55,16 @@ all-lent pool table work e = (
       (next-passed (need (leb 16384 (length work)) 10) tt (lentTable pool table) e)),
 )
 
-module _ (pool table : List ℕ) where
-  -- 8, then 1 of the table and the set
-  abbrev pub entered : List ℕ → List Entry → List ℕ → List ℕ → Got (Unit {0})
-  entered set es types bounds = (shortLists (set ∷ types ∷ bounds ∷ []) >> shortNumbers es) >> tableKept (table_of pool table)
-      >> setGiven (table_of pool table) set >> got tt
+-- 8; then the set over a table that was tested before
+abbrev pub entered : Result NameTable Refusal → List ℕ → List Entry → List ℕ → List ℕ → Got (List (Con ℕ))
+entered names set es types bounds = (shortLists (set ∷ types ∷ bounds ∷ []) >> shortNumbers es) >> over_table names (λ t. setGiven t set)
 
+-- what is judged over such a table; and where the table was refused, 8 and then its refusal
+abbrev pub judged_over : Result NameTable Refusal → List ℕ → List Entry → List ℕ → List ℕ → Got Bool
+judged_over (Ok n) set es types bounds = judgedSet (table_of n.pool.now n.table.now) set es types bounds
+judged_over (Err why) set es types bounds = (shortLists (set ∷ types ∷ bounds ∷ []) >> shortNumbers es) >> refused (number_of why)
+
+module _ (pool table : List ℕ) where
   -- what is judged past that
   abbrev pub judgedRest : List Entry → List ℕ → List ℕ → List (Con ℕ) → Got Bool
   judgedRest es types bounds cs =
@@ -73,113 +78,130 @@ module _ (pool table : List ℕ) where
     pub short : length set ≤ 8192
     pub types-short : length types ≤ 8192
 
-  -- ══ Too long ══
+-- ══ Too long ══
 
-  module _ (set types bounds : List ℕ) (es : List Entry) where
-    shorts : Got (Unit {0})
-    shorts = shortLists (set ∷ types ∷ bounds ∷ []) >> shortNumbers es
+module _ (set types bounds : List ℕ) (es : List Entry) where
+  shorts : Got (Unit {0})
+  shorts = shortLists (set ∷ types ∷ bounds ∷ []) >> shortNumbers es
 
-    tests : (a b c d : Bool) → leb (length set) 8192 ≡ a → leb (length types) 8192 ≡ b → leb (length bounds) 8192 ≡ c → leb (length es) 2048 ≡ d
-        → shorts ≡ (need (a && (b && (c && true))) 8 >> need d 8)
-    unfolding shortLists shortNumbers all shorts
-    tests a b c d p q r s = rw (p, q, r, s)
+  tests : (a b c d : Bool) → leb (length set) 8192 ≡ a → leb (length types) 8192 ≡ b → leb (length bounds) 8192 ≡ c → leb (length es) 2048 ≡ d
+      → shorts ≡ (need (a && (b && (c && true))) 8 >> need d 8)
+  unfolding shortLists shortNumbers all shorts
+  tests a b c d p q r s = rw (p, q, r, s)
 
-    second-long : (a c d : Bool) → (need (a && (false && (c && true))) 8 >> need d 8) ≡ refused 8
-    second-long true c d = refl
-    second-long false c d = refl
+  second-long : (a c d : Bool) → (need (a && (false && (c && true))) 8 >> need d 8) ≡ refused 8
+  second-long true c d = refl
+  second-long false c d = refl
 
-    third-long : (a b d : Bool) → (need (a && (b && (false && true))) 8 >> need d 8) ≡ refused 8
-    third-long true true d = refl
-    third-long true false d = refl
-    third-long false b d = refl
+  third-long : (a b d : Bool) → (need (a && (b && (false && true))) 8 >> need d 8) ≡ refused 8
+  third-long true true d = refl
+  third-long true false d = refl
+  third-long false b d = refl
 
-    last-long : (a : Bool) → (need a 8 >> need false 8) ≡ refused 8
-    last-long true = refl
-    last-long false = refl
+  last-long : (a : Bool) → (need a 8 >> need false 8) ≡ refused 8
+  last-long true = refl
+  last-long false = refl
 
-    over : shorts ≡ refused 8 → refused 8 ≡ entered set es types bounds
+  module _ (names : Result NameTable Refusal) where
+    over : shorts ≡ refused 8 → refused 8 ≡ entered names set es types bounds
     unfolding shorts
     over e = sym (rw e)
 
-    pub types_long : 8192 < length types → refused 8 ≡ entered set es types bounds
+    pub types_long : 8192 < length types → refused 8 ≡ entered names set es types bounds
     types_long h = over (tests _ _ _ _ refl (lt-leb (length types) 8192 h) refl refl
         ∙ second-long (leb (length set) 8192) (leb (length bounds) 8192) (leb (length es) 2048))
 
-    pub bounds-long : 8192 < length bounds → refused 8 ≡ entered set es types bounds
+    pub bounds-long : 8192 < length bounds → refused 8 ≡ entered names set es types bounds
     bounds-long h = over (tests _ _ _ _ refl refl (lt-leb (length bounds) 8192 h) refl
         ∙ third-long (leb (length set) 8192) (leb (length types) 8192) (leb (length es) 2048))
 
-    pub many-long : 2048 < length es → refused 8 ≡ entered set es types bounds
+    pub many-long : 2048 < length es → refused 8 ≡ entered names set es types bounds
     many-long h = over (tests _ _ _ _ refl refl refl (lt-leb (length es) 2048 h)
         ∙ last-long (leb (length set) 8192 && (leb (length types) 8192 && (leb (length bounds) 8192 && true))))
 
-    one_way : {A : Type 0} (a : Bool) (K : Got (Unit {0})) (M : Got A)
-        → (((got (tt {0}) >> need (a && true) 8) >> K) >> M >> got (tt {0}))
-        ≡ ((need (a && (true && (true && true))) 8 >> need true 8) >> K >> M >> got (tt {0}))
-    one_way true K M = refl
-    one_way false K M = refl
+    one_way : {A : Type 0} (a : Bool) (M : Got A) → (need (a && true) 8 >> M) ≡ ((need (a && (true && (true && true))) 8 >> need true 8) >> M)
+    one_way true M = refl
+    one_way false M = refl
 
-    pub set_told : lentTable pool table ≡ got tt → length types ≤ 8192 → length bounds ≤ 8192 → length es ≤ 2048
-        → setCall pool table set ≡ entered set es types bounds
-    unfolding setCall aloneGiven shortLists all shorts shortNumbers
-    set_told l p q r =
-        rw (l, le-leb (length types) 8192 p, le-leb (length bounds) 8192 q)
-        (one_way (leb (length set) 8192) (tableKept (table_of pool table)) (setGiven (table_of pool table) set)
-        ∙ sym (rw (le-leb (length es) 2048 r)))
+    -- where the others are short, the set is all that is left to look at
+    pub set-left : length types ≤ 8192 → length bounds ≤ 8192 → length es ≤ 2048 → set_over names set ≡ entered names set es types bounds
+    unfolding shortLists all shorts shortNumbers
+    set-left p q r = rw (le-leb (length types) 8192 p, le-leb (length bounds) 8192 q, le-leb (length es) 2048 r)
+        (one_way (leb (length set) 8192) (over_table names (λ t. setGiven t set)))
 
-    -- ══ Met ══
+  -- ══ Met ══
 
-    met : {A B : Type 0} (S K : Got (Unit {0})) (M : Got A) (f : A → Got B) → (S >> K >> M >> got (tt {0})) ≡ got tt → (a : A)
-        × ((S ≡ got tt) × ((K ≡ got tt) × ((M ≡ got a) × ((S >>= λ _. K >>= λ _. M >>= f) ≡ f a))))
-    met (refused i) K M f e = clash e
-    met (got x) (refused i) M f e = clash e
-    met (got x) (got y) (refused i) f e = clash e
-    met (got x) (got y) (got a) f e = (a, (refl, (refl, (refl, refl))))
+  kept : (n : NameTable) → tableKept (table_of n.pool.now n.table.now) ≡ got tt
+  unfolding tableKept
+  kept n = rw n.good.good
 
-    unmet : {A B : Type 0} (S K : Got (Unit {0})) (M : Got A) (f : A → Got B) (n : ℕ) → (S >> K >> M >> got (tt {0})) ≡ refused n
-        → (S >>= λ _. K >>= λ _. M >>= f) ≡ refused n
-    unmet (refused i) K M f n e = cc
-    unmet (got x) (refused i) M f n e = cc
-    unmet (got x) (got y) (refused i) f n e = cc
-    unmet (got x) (got y) (got a) f n e = clash (sym e)
+  unmet : {A B : Type 0} (S K : Got (Unit {0})) (M : Got A) (f : A → Got B) (n : ℕ) → K ≡ got tt → refused n ≡ (S >> M)
+      → (S >>= λ _. K >>= λ _. M >>= f) ≡ refused n
+  unmet (refused i) K M f n h e = cc
+  unmet (got x) (refused i) M f n h e = clash h
+  unmet (got x) (got y) (refused i) f n h e = cc
+  unmet (got x) (got y) (got a) f n h e = clash e
 
-    table-good : lentTable pool table ≡ got tt → tableKept (table_of pool table) ≡ got tt → Good pool table
-    unfolding tableKept lentTable
-    table-good l k =
-        let n = need-passed (leb 8192 (length pool) && leb 257 (length table)) 10 l in
-        let b = (and-eq-true_iff (leb 8192 (length pool)) (leb 257 (length table))).0 n in
-        record { bytes = leb-true 8192 (length pool) b.0; words = leb-true 257 (length table) b.1; good = need-passed (tableGood (table_of pool table)) 1 k }
+  as-refused : {A B : Type 0} (l : Got (Unit {0})) (n k : ℕ) → ◌≡◌ {A = Got A} (refused n) (l >> refused k) → ◌≡◌ {A = Got B} (l >> refused k) (refused n)
+  as-refused (refused i) n k e = cc
+  as-refused (got x) n k e = cc
 
-    pub record CameIn : Type 0 where
-      pub cons : List (Con ℕ)
-      pub known : Entered set types cons
-      pub few : length es ≤ 2048
-      pub rest : judgedSet (table_of pool table) set es types bounds ≡ judgedRest es types bounds cons
+  short-all : (a b c d : Bool) → (need (a && (b && (c && true))) 8 >> need d 8) ≡ got tt → (a ≡ true) × ((b ≡ true) × (d ≡ true))
+  short-all true true true true e = (refl, (refl, refl))
+  short-all true true true false e = clash e
+  short-all true true false d e = clash e
+  short-all true false c d e = clash e
+  short-all false b c d e = clash e
 
-    short-all : (a b c d : Bool) → (need (a && (b && (c && true))) 8 >> need d 8) ≡ got tt → (a ≡ true) × ((b ≡ true) × (d ≡ true))
-    short-all true true true true e = (refl, (refl, refl))
-    short-all true true true false e = clash e
-    short-all true true false d e = clash e
-    short-all true false c d e = clash e
-    short-all false b c d e = clash e
+  pub record CameIn (names : Result NameTable Refusal) (n : NameTable) (cs : List (Con ℕ)) : Type 0 where
+    pub known : Entered n.pool.now n.table.now set types cs
+    pub few : length es ≤ 2048
+    pub rest : judgedRest n.pool.now n.table.now es types bounds cs ≡ judged_over names set es types bounds
 
-    pub came-in : lentTable pool table ≡ got tt → entered set es types bounds ≡ got tt → CameIn
+  pub came-in : (names : Result NameTable Refusal) (n : NameTable) (cs : List (Con ℕ)) → names ≡ Ok n → got cs ≡ entered names set es types bounds
+      → CameIn names n cs
+  unfolding judgedSet shorts
+  came-in names n cs i e =
+      let given = setGiven (table_of n.pool.now n.table.now) set in
+      let e' : (shorts >> given) ≡ got cs = sym (rw i at e) in
+      let s = first-passed given cs shorts e' in
+      let g = next-passed given cs shorts e' in
+      let p = short-all (leb (length set) 8192) (leb (length types) 8192) (leb (length bounds) 8192) (leb (length es) 2048)
+      (sym (tests _ _ _ _ refl refl refl refl) ∙ s) in
+      record {
+        known = record { good = n.good; given = g; short = leb-true (length set) 8192 p.0; types-short = leb-true (length types) 8192 p.1.0 };
+        few = leb-true (length es) 2048 p.1.1;
+        rest = sym (rw (i, s, kept n, g));
+      }
+
+  pub kept_out : (names : Result NameTable Refusal) (k : ℕ) → refused k ≡ entered names set es types bounds → refused k ≡ judged_over names set es types bounds
+  unfolding judgedSet shorts
+  kept_out (Ok n) k e =
+      let t = table_of n.pool.now n.table.now in
+      sym (unmet shorts (tableKept t) (setGiven t set) (judgedRest n.pool.now n.table.now es types bounds) k (kept n) e)
+  kept_out (Err why) k e = sym (as-refused shorts k (number_of why) e)
+
+  -- over the table that was tested it is what the call asks
+  module _ (pool table : List ℕ) (l : lentTable pool table ≡ got tt) where
+    abbrev past : Got (Unit {0}) → Got Bool
+    past k = shorts >>= λ _. k >>= λ _. setGiven (table_of pool table) set >>= judgedRest pool table es types bounds
+
+    refused-table : (k : ℕ) (a : Got (Unit {0})) → tableKept (table_of pool table) ≡ a → refused k ≡ (lentTable pool table >> a)
+        → (shorts >> refused k) ≡ judgedSet (table_of pool table) set es types bounds
     unfolding judgedSet shorts
-    came-in l e =
-        let (cs, (s, (k, (g, w)))) = met shorts (tableKept (table_of pool table)) (setGiven (table_of pool table) set) (judgedRest es types bounds) e in
-        let p = short-all (leb (length set) 8192) (leb (length types) 8192) (leb (length bounds) 8192) (leb (length es) 2048)
-        (sym (tests _ _ _ _ refl refl refl refl) ∙ s) in
-        record {
-          cons = cs;
-          known = record { good = table-good l k; given = g; short = leb-true (length set) 8192 p.0; types-short = leb-true (length types) 8192 p.1.0 };
-          few = leb-true (length es) 2048 p.1.1;
-          rest = w;
-        }
+    refused-table k (got u) q e = clash (let z : refused k ≡ got u = rw l at e in z)
+    refused-table k (refused j) q e =
+        let z : refused k ≡ refused j = rw l at e in
+        ap past (z ∙ sym q)
 
-    pub kept_out : (n : ℕ) → entered set es types bounds ≡ refused n → judgedSet (table_of pool table) set es types bounds ≡ refused n
-    unfolding judgedSet shorts
-    kept_out n e = unmet shorts (tableKept (table_of pool table)) (setGiven (table_of pool table) set) (judgedRest es types bounds) n e
+    pub tested : (names : Result NameTable Refusal) → toldBy unit_of names ≡ tableGiven pool table
+        → IfOk names (λ n. (n.pool.now ≡ pool) × (n.table.now ≡ table))
+        → judged_over names set es types bounds ≡ judgedSet (table_of pool table) set es types bounds
+    unfolding tableGiven tableKept shorts
+    tested (Ok n) e i = ap₂ (λ (p q : List ℕ). judgedSet (table_of p q) set es types bounds) i.0 i.1
+    tested (Err why) e i = refused-table (number_of why) (tableKept (table_of pool table)) refl e
 
+module _ (pool table : List ℕ) where
   -- ══ Bounds ══
 
   module _ (bounds : List ℕ) where

@@ -2,7 +2,6 @@
 use Rattle.std.specs.Prelude as std
 use Rattle.std.specs.Prelude.{◌≡◌, refl, Bool, true, Result, is_none, List, [], ◌∷◌, ◌++◌, map, ℕ, ◌+◌, ◌*◌, ◌-◌, ◌/◌, ◌≤◌, ◌<◌, length, take, drop}
 use Rattle.std.proofs.Common.{sym, ap, subst, ◌∙◌, arith, add-zero}
-use Rattle.std.proofs.Math.Bool.{and-eq-true_iff}
 use Rattle.std.proofs.Math.Option.{Option}
 use Rattle.std.proofs.Math.Seq.{slice}
 use Rattle.std.proofs.lemmas.List.{length-map, drop-take}
@@ -15,8 +14,7 @@ use Rattle.rules.specs.Trees.{var, Names, Con, Binding, sizeBinding}
 use Rattle.rules.specs.WellFormed.{goodOpen, goodBinding}
 use Rattle.rules.specs.declared.Refusal.{Refusal}
 use Rattle.rules.specs.Writing.{Rec, rec, words, word_of, writeBound}
-use Rattle.laws.specs.Lists.{and_both, Every}
-use Rattle.laws.specs.Weaker.{binding-weaker}
+use Rattle.laws.specs.Lists.{Every, every-all, is_all}
 use Rattle.laws.specs.Size.{words-length}
 use Rattle.records.specs.Good.{Chain, GoodBound, numbers, holding}
 use Rattle.records.specs.Held.{shown}
@@ -28,6 +26,7 @@ use Rattle.records.specs.declared.Open.TheVariants as opens
 use Rattle.records.specs.declared.View.TheVariants as view
 use Rattle.queries.specs.declared.name_set.NameSet.{NameSet}
 use Rattle.queries.specs.Marks.{Has}
+use Rattle.replace.specs.Kept.{binds-weaker}
 use Rattle.replace.specs.Runs.{HoldsAll, Run, looked-good}
 use Rattle.replace.specs.Well.{Listed, Lent}
 use Rattle.judge_proposals.specs.Bounds.{BoundsThere}
@@ -93,15 +92,6 @@ from-back : (rs : List Rec) → from (words rs) 0 ≡ rs
 unfolding from
 from-back rs = recs-back rs
 
-weaker : (pool table : List ℕ) (cs : List (Binding ℕ)) → all (goodBinding (numbers pool table) (holding pool table) 0) cs ≡ true
-    → all (goodBinding (numbers pool table) (holding pool table) 4_294_967_296) cs ≡ true
-unfolding all
-weaker pool table [] g = refl
-weaker pool table (c ∷ cs) g =
-    let r = (and-eq-true_iff (goodBinding (numbers pool table) (holding pool table) 0 c)
-    (all (goodBinding (numbers pool table) (holding pool table) 0) cs)).0 g in
-    and_both (binding-weaker (numbers pool table) (holding pool table) 0 4_294_967_296 (omega arith) c r.0) (weaker pool table cs r.1)
-
 chain : (pool table s ns : List ℕ) (at : ℕ) → from s at ≡ boundRecs ns → Every (λ n. holding pool table n ≡ true) ns
     → Chain (GoodBound pool table 0 s) (at + length ns) (map (λ n. var n) ns) at
 unfolding goodOpen writeBound
@@ -135,7 +125,12 @@ module _ (pool table found : List ℕ) (b n : ℕ) (bs : List (Binding ℕ)) (ns
       (chain pool table (words (boundRecs ns)) ns 0 (from-back (boundRecs ns)) h.held))
 
   pub listed : Listed pool table found 0 b bs
-  listed = record { run = h.binds; good = weaker pool table bs h.good; short = omega (arith, within, h.short); near = omega (arith, h.short) }
+  listed = record {
+    run = h.binds;
+    good = is_all (goodBinding (numbers pool table) (holding pool table) 4_294_967_296) bs (every-all _ bs (binds-weaker pool table bs h.good));
+    short = omega (arith, within, h.short);
+    near = omega (arith, h.short);
+  }
 
   -- what the trials ask
   pub put-in : {places : List ℕ} → Lent pool table places found (bindings (numbers pool table) bs) → Put pool table places found bs

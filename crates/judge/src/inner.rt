@@ -1,15 +1,15 @@
 // The steps of the judge past the slice of entries, which comes as slots by variable.
-ghost use Rattle.std.specs.Prelude.{◌≡◌, List, ℕ, ◌≤◌, length};
-ghost use Rattle.rules.specs.Base.{got, need};
-ghost use Rattle.rules.specs.Calls.{Entry, judgedSet, judgeCall};
-ghost use Rattle.rules.specs.Names.{table_of, lentTable};
-ghost use Rattle.rules.specs.Refusals.{told};
+ghost use Rattle.std.specs.Prelude.{◌≡◌, IfOk, List, ℕ, Ok, ◌≤◌, length};
+ghost use Rattle.rules.specs.Base.{need};
+ghost use Rattle.rules.specs.Calls.{Entry, judgeCall};
+ghost use Rattle.rules.specs.Refusals.{told, toldBy};
 ghost use Rattle.rules.specs.Trees.{Con, Binding};
 ghost use Rattle.judge_entries.specs.Slotted.{Slotted};
 ghost use Rattle.judge_trials.specs.Trials.{SetThere};
 ghost use Rattle.judge.specs.Told.{judgedAs};
 ghost use Rattle.judge.specs.Found.{FoundThere, FoundJudged};
-ghost use Rattle.judge.specs.Entry.{lentAll, entered, Entered, BoundsGiven, judgedRest};
+ghost use Rattle.judge.specs.Entry.{lentAll, entered, Entered, BoundsGiven, judgedRest, judged_over};
+ghost use Rattle.types.specs.Given.{constraints_in};
 
 use judge_entries::inner::{Slots, fill};
 use judge_proposals::inner::bounds::{bound_names, rise};
@@ -18,10 +18,10 @@ use judge_trials::inner::{first_failing, try_all};
 use names::tables::NameTable;
 use queries::name_set::NameSet;
 use records::inner::bounds_good;
-use records::is_set;
 use records_buffers::inner::clear;
 use replace_table::inner::fill as note_all;
 use rules::{NAMES, POOL_BYTES, RECORD_WORDS, RECORDS, Refusal, TABLE_WORDS, WORK_WORDS};
+use types::GivenSet;
 
 // Is everything that is lent long enough?
 fn lent(pool: &[u8], table: &[u32], work: &[u32]) -> bool
@@ -33,11 +33,15 @@ fn lent(pool: &[u8], table: &[u32], work: &[u32]) -> bool
     WORK_WORDS <= work.len()
 }
 
-// Is no list too long (8), and is the set well formed (1)?
-fn enter(pool: &[u8], table: &[u32], set: &[u32], proposal: Proposal) -> Result<(), Refusal>
-    requires { lentTable pool.now table.now ≡ got tt }
-    ensures { (es : List Entry) → proposal.entry.slots.count ≡ length es →
-        told result ≡ entered pool.now table.now set.now es proposal.entry.types.now proposal.entry.bounds.now }
+// The set, where no list is too long (8) and the table passed its test; 1 where it is not well formed.
+fn enter<'a>(
+    names: Result<NameTable<'a>, Refusal>,
+    set: &'a [u32],
+    proposal: Proposal,
+) -> Result<GivenSet<'a>, Refusal>
+    ensures answer { (es : List Entry) → proposal.entry.slots.count ≡ length es →
+        toldBy constraints_in result ≡ entered names.entry set.now es proposal.entry.types.now proposal.entry.bounds.now }
+    ensures same { IfOk result (λ s. names.entry ≡ Ok s.names) }
 {
     if RECORD_WORDS < proposal.types.len() || RECORD_WORDS < proposal.bounds.len() {
         return Err(Refusal::TooLarge);
@@ -46,7 +50,7 @@ fn enter(pool: &[u8], table: &[u32], set: &[u32], proposal: Proposal) -> Result<
     if RECORDS < count {
         return Err(Refusal::TooLarge);
     }
-    is_set(pool, table, set)
+    GivenSet::new(names, set)
 }
 
 // The names of the bounds, where these are bounds with names that rise.
@@ -104,21 +108,18 @@ fn judge_rest(
 
 // All that the judge does past the check of 10, except for clearing the work buffer.
 fn judge_set(
-    pool: &[u8],
-    table: &[u32],
+    names: Result<NameTable, Refusal>,
     set: &[u32],
     proposal: Proposal,
     work: &mut [u32],
 ) -> Result<bool, Refusal>
-    requires table_lent { lentTable pool.now table.now ≡ got tt }
     requires slotted { (es : List Entry) × Slotted es proposal.slots }
     requires work_long { 16384 ≤ length work.old }
     ensures { (es : List Entry) → Slotted es proposal.entry.slots →
-        told result ≡ judgedSet (table_of pool.now table.now) set.now es proposal.entry.types.now proposal.entry.bounds.now }
+        told result ≡ judged_over names.entry set.now es proposal.entry.types.now proposal.entry.bounds.now }
 {
-    enter(pool, table, set, proposal)?;
-    let names = NameTable { pool, table };
-    judge_rest(names, set, proposal, work)
+    let given = enter(names, set, proposal)?;
+    judge_rest(given.names, set, proposal, work)
 }
 
 // The whole call. Of more than 2,048 entries it is not asked whether a name repeats.
@@ -136,7 +137,8 @@ pub fn judge_slots(
     if !lent(pool, table, work) {
         return Err(Refusal::ShortBuffer);
     }
-    let answer = judge_set(pool, table, set, proposal, work);
+    let names = NameTable::new(pool, table);
+    let answer = judge_set(names, set, proposal, work);
     clear(work);
     answer
 }

@@ -1,22 +1,22 @@
 -- When two types mean the same, by what both are read as.
-use Rattle.std.specs.Prelude.{◌≡◌, refl, Bool, true, false, Decides, ℕ}
+use Rattle.std.specs.Prelude.{◌≡◌, ◌≤◌, refl, Bool, true, false, Decides, ℕ}
 use Rattle.std.proofs.Common.{ap, ap₂, sym, ◌∙◌, arith}
 use Rattle.rules.specs.Base.{is_yes}
 use Rattle.rules.specs.Meaning.{means}
 use Rattle.rules.specs.Plain.{plain}
 use Rattle.rules.specs.Trees as tree
-use Rattle.rules.specs.Trees.{Product, Names, Ty, opened, basic, dim, fn, struct, list, Tys, nil, cons, noFields, ty-dec}
+use Rattle.rules.specs.Trees.{Product, Names, Ty, opened, basic, dim, fn, struct, list, Tys, nil, cons, noFields, count, ty-dec}
 use Rattle.laws.specs.Lists.{true≢false, yes-is, is-yes, is-no}
 use Rattle.records.specs.Holds.{openOf, viewOpen, basicOf, viewBasic}
 use Rattle.records.specs.declared.Open as names
 use Rattle.records.specs.declared.Basic as basics
-use Rattle.types.specs.declared.Fields as fields
+use Rattle.types.specs.Shapes.{row}
+use Rattle.types.specs.declared.Head.{Head}
+use Rattle.types.specs.declared.Head.TheVariants as head
 use Rattle.types.specs.declared.Product as types
-use Rattle.types.specs.declared.Shape.{Shape}
-use Rattle.types.specs.declared.Shape.TheVariants as shape
 use Rattle.types.specs.declared.Type as one
 use Rattle.types.specs.declared.Types as lists
-use Rattle.judge_meaning.specs.Read.{read_as}
+use Rattle.judge_meaning.specs.Read.{ReadAs}
 use Rattle.judge_meaning.proofs.Reading.{dim-back}
 
 -- ══ Answers of tests ══
@@ -33,9 +33,6 @@ second p d = (λ i. (p, d.0 i), λ q. d.1 q.1)
 
 pub first : {P Q : Type 0} {r : Bool} → r ≡ false → (P → ⊥) → Decides r (P × Q)
 first e f = (λ i. absurd (true≢false (sym i ∙ e)), λ p. absurd (f p.0))
-
-pub not-so : {P : Type 0} {r : Bool} → Decides r P → r ≡ false → P → ⊥
-not-so d e p = true≢false (sym (d.1 p) ∙ e)
 
 pub decides-as : {P Q : Type 0} {r : Bool} → (P → Q) → (Q → P) → Decides r P → Decides r Q
 decides-as f g d = (λ i. f (d.0 i), λ q. d.1 (g q))
@@ -72,6 +69,24 @@ basic-back basics.TheVariants.Datetime = refl
 abbrev basicTy : basics.Basic → Ty ℕ
 basicTy b = basic (basicOf b)
 
+some-in-row : (ps : Tys ℕ) (t : Ty ℕ) → 1 ≤ count (row ps t)
+unfolding count
+some-in-row nil t = omega arith
+some-in-row (cons p ps) t = omega arith
+
+no-row : (ps : Tys ℕ) (t : Ty ℕ) → nil ≡ row ps t → ⊥
+unfolding count
+no-row ps t e = omega (arith, ap (λ (z : Tys ℕ). count z) e, some-in-row ps t)
+
+row-back : (ps qs : Tys ℕ) (t u : Ty ℕ) → row ps t ≡ row qs u → (ps ≡ qs) × (t ≡ u)
+row-back nil nil t u e = (refl, cc)
+row-back nil (cons q qs) t u e = absurd (no-row qs u cc)
+row-back (cons p ps) nil t u e = absurd (no-row ps t (let z : row ps t ≡ nil = cc in sym z))
+row-back (cons p ps) (cons q qs) t u e =
+    let a : p ≡ q = cc in
+    let z : (ps ≡ qs) × (t ≡ u) = row-back ps qs t u cc in
+    (ap₂ cons a z.0, z.1)
+
 module _ {r : Bool} where
   pub opens-same : (o p : names.Open) → Decides r (o ≡ p) → Decides r (opened (openOf o) ≡ opened (openOf p))
   opens-same o p d = decides-as (λ e. ap (λ z. opened (openOf z)) e) back d
@@ -88,8 +103,12 @@ module _ {r : Bool} where
   pub lists-same : {t u : Ty ℕ} → Decides r (t ≡ u) → Decides r (list t ≡ list u)
   lists-same d = decides-as (ap list) (λ e. cc) d
 
-  pub functions-same : {ts us : Tys ℕ} {t u : Ty ℕ} → Decides r ((ts ≡ us) × (t ≡ u)) → Decides r (fn ts t ≡ fn us u)
-  functions-same d = decides-as (λ e. ap₂ fn e.0 e.1) (λ e. (cc, cc)) d
+  -- two functions are the same where their rows are
+  pub functions-same : (ps qs : Tys ℕ) (t u : Ty ℕ) {ts us : Tys ℕ} → row ps t ≡ ts → row qs u ≡ us → Decides r (ts ≡ us) → Decides r (fn ps t ≡ fn qs u)
+  functions-same ps qs t u p q d = decides-as
+      (λ e. let z : (ps ≡ qs) × (t ≡ u) = row-back ps qs t u (p ∙ e ∙ sym q) in ap₂ fn z.0 z.1)
+      (λ e. let a : ps ≡ qs = cc in let b : t ≡ u = cc in sym p ∙ ap₂ row a b ∙ q)
+      d
 
   pub structs-same : {x y : ℕ} {ts us : Tys ℕ} → Decides r ((x ≡ y) × (ts ≡ us)) → Decides r (struct x ts noFields ≡ struct y us noFields)
   structs-same d = decides-as (λ e. ap₂ (λ n l. struct n l noFields) e.0 e.1) (λ e. (cc, cc)) d
@@ -112,74 +131,90 @@ kindOf (fn ps r) = 3
 kindOf (struct x ts fs) = 4
 kindOf (list t) = 5
 
--- a type that reads as one kind, beside a shape that is of another
-module _ (ν : Names ℕ) (x y : Ty ℕ) (s : Shape) (q : read_as s ≡ plain y false) where
-  differ : {a : Ty ℕ} → a ≡ plain x false → (kindOf a ≡ kindOf (read_as s) → ⊥) → false ≡ means ν x y
-  differ p f = by-read ν x y p q (never (λ e. f (ap kindOf e)))
+abbrev kind_read : Head → ℕ
+kind_read (head.Open o) = 0
+kind_read (head.Basic b) = 1
+kind_read (head.Dimension p) = 2
+kind_read (head.Function ts) = 3
+kind_read (head.Struct x ts) = 4
+kind_read (head.List t) = 5
 
-  pub no-open : {o : tree.Open ℕ} → opened o ≡ plain x false → ((o : names.Open) → s ≡ shape.Open o → ⊥) → false ≡ means ν x y
-  no-open p n = differ p (go s n)
-    where
-      go : (s : Shape) → ((o : names.Open) → s ≡ shape.Open o → ⊥) → 0 ≡ kindOf (read_as s) → ⊥
-      go (shape.Open o) n e = n o refl
-      go (shape.Basic b) n e = omega (arith, e)
-      go (shape.Dimension p) n e = omega (arith, e)
-      go (shape.Function ps t) n e = omega (arith, e)
-      go (shape.Struct m ts fs) n e = omega (arith, e)
-      go (shape.List t) n e = omega (arith, e)
+kinds : (h : Head) (t : Ty ℕ) → ReadAs h t → kind_read h ≡ kindOf t
+kinds (head.Open o) t e = ap kindOf e
+kinds (head.Basic b) t e = ap kindOf e
+kinds (head.Dimension p) t e = ap kindOf e
+kinds (head.Function ts) t e = ap kindOf e.3
+kinds (head.Struct x ts) t e = ap kindOf e
+kinds (head.List u) t e = ap kindOf e
 
-  pub no-basic : {b : tree.Basic} → basic b ≡ plain x false → ((b : basics.Basic) → s ≡ shape.Basic b → ⊥) → false ≡ means ν x y
-  no-basic p n = differ p (go s n)
-    where
-      go : (s : Shape) → ((b : basics.Basic) → s ≡ shape.Basic b → ⊥) → 1 ≡ kindOf (read_as s) → ⊥
-      go (shape.Open o) n e = omega (arith, e)
-      go (shape.Basic b) n e = n b refl
-      go (shape.Dimension p) n e = omega (arith, e)
-      go (shape.Function ps t) n e = omega (arith, e)
-      go (shape.Struct m ts fs) n e = omega (arith, e)
-      go (shape.List t) n e = omega (arith, e)
+-- a type that reads as one kind, beside one that reads as another
+module _ (ν : Names ℕ) (x y : Ty ℕ) (h : Head) (q : ReadAs h (plain y false)) where
+  differ : {a : Ty ℕ} → a ≡ plain x false → (kindOf a ≡ kind_read h → ⊥) → false ≡ means ν x y
+  differ p f = by-read ν x y p refl (never (λ e. f (ap kindOf e ∙ sym (kinds h (plain y false) q))))
 
-  pub no-dimension : {p : Product ℕ} → dim p ≡ plain x false → ((p : types.Product) → s ≡ shape.Dimension p → ⊥) → false ≡ means ν x y
-  no-dimension p n = differ p (go s n)
+  pub no-open : {o : tree.Open ℕ} → opened o ≡ plain x false → ((o : names.Open) → h ≡ head.Open o → ⊥) → false ≡ means ν x y
+  no-open p n = differ p (go h n)
     where
-      go : (s : Shape) → ((p : types.Product) → s ≡ shape.Dimension p → ⊥) → 2 ≡ kindOf (read_as s) → ⊥
-      go (shape.Open o) n e = omega (arith, e)
-      go (shape.Basic b) n e = omega (arith, e)
-      go (shape.Dimension p) n e = n p refl
-      go (shape.Function ps t) n e = omega (arith, e)
-      go (shape.Struct m ts fs) n e = omega (arith, e)
-      go (shape.List t) n e = omega (arith, e)
+      go : (h : Head) → ((o : names.Open) → h ≡ head.Open o → ⊥) → 0 ≡ kind_read h → ⊥
+      go (head.Open o) n e = n o refl
+      go (head.Basic b) n e = omega (arith, e)
+      go (head.Dimension p) n e = omega (arith, e)
+      go (head.Function ts) n e = omega (arith, e)
+      go (head.Struct m ts) n e = omega (arith, e)
+      go (head.List t) n e = omega (arith, e)
 
-  pub no-function : {ts : Tys ℕ} {t : Ty ℕ} → fn ts t ≡ plain x false → ((ps : lists.Types) (t : one.Type) → s ≡ shape.Function ps t → ⊥) → false ≡ means ν x y
-  no-function p n = differ p (go s n)
+  pub no-basic : {b : tree.Basic} → basic b ≡ plain x false → ((b : basics.Basic) → h ≡ head.Basic b → ⊥) → false ≡ means ν x y
+  no-basic p n = differ p (go h n)
     where
-      go : (s : Shape) → ((ps : lists.Types) (t : one.Type) → s ≡ shape.Function ps t → ⊥) → 3 ≡ kindOf (read_as s) → ⊥
-      go (shape.Open o) n e = omega (arith, e)
-      go (shape.Basic b) n e = omega (arith, e)
-      go (shape.Dimension p) n e = omega (arith, e)
-      go (shape.Function ps t) n e = n ps t refl
-      go (shape.Struct m ts fs) n e = omega (arith, e)
-      go (shape.List t) n e = omega (arith, e)
+      go : (h : Head) → ((b : basics.Basic) → h ≡ head.Basic b → ⊥) → 1 ≡ kind_read h → ⊥
+      go (head.Open o) n e = omega (arith, e)
+      go (head.Basic b) n e = n b refl
+      go (head.Dimension p) n e = omega (arith, e)
+      go (head.Function ts) n e = omega (arith, e)
+      go (head.Struct m ts) n e = omega (arith, e)
+      go (head.List t) n e = omega (arith, e)
+
+  pub no-dimension : {p : Product ℕ} → dim p ≡ plain x false → ((p : types.Product) → h ≡ head.Dimension p → ⊥) → false ≡ means ν x y
+  no-dimension p n = differ p (go h n)
+    where
+      go : (h : Head) → ((p : types.Product) → h ≡ head.Dimension p → ⊥) → 2 ≡ kind_read h → ⊥
+      go (head.Open o) n e = omega (arith, e)
+      go (head.Basic b) n e = omega (arith, e)
+      go (head.Dimension p) n e = n p refl
+      go (head.Function ts) n e = omega (arith, e)
+      go (head.Struct m ts) n e = omega (arith, e)
+      go (head.List t) n e = omega (arith, e)
+
+  pub no-function : {ts : Tys ℕ} {t : Ty ℕ} → fn ts t ≡ plain x false → ((ts : lists.Types) → h ≡ head.Function ts → ⊥) → false ≡ means ν x y
+  no-function p n = differ p (go h n)
+    where
+      go : (h : Head) → ((ts : lists.Types) → h ≡ head.Function ts → ⊥) → 3 ≡ kind_read h → ⊥
+      go (head.Open o) n e = omega (arith, e)
+      go (head.Basic b) n e = omega (arith, e)
+      go (head.Dimension p) n e = omega (arith, e)
+      go (head.Function ts) n e = n ts refl
+      go (head.Struct m ts) n e = omega (arith, e)
+      go (head.List t) n e = omega (arith, e)
 
   pub no-struct : {n : ℕ} {ts : Tys ℕ} → struct n ts noFields ≡ plain x false
-      → ((n : ℕ) (ts : lists.Types) (fs : fields.Fields) → s ≡ shape.Struct n ts fs → ⊥) → false ≡ means ν x y
-  no-struct p n = differ p (go s n)
+      → ((n : ℕ) (ts : lists.Types) → h ≡ head.Struct n ts → ⊥) → false ≡ means ν x y
+  no-struct p n = differ p (go h n)
     where
-      go : (s : Shape) → ((n : ℕ) (ts : lists.Types) (fs : fields.Fields) → s ≡ shape.Struct n ts fs → ⊥) → 4 ≡ kindOf (read_as s) → ⊥
-      go (shape.Open o) n e = omega (arith, e)
-      go (shape.Basic b) n e = omega (arith, e)
-      go (shape.Dimension p) n e = omega (arith, e)
-      go (shape.Function ps t) n e = omega (arith, e)
-      go (shape.Struct m ts fs) n e = n m ts fs refl
-      go (shape.List t) n e = omega (arith, e)
+      go : (h : Head) → ((n : ℕ) (ts : lists.Types) → h ≡ head.Struct n ts → ⊥) → 4 ≡ kind_read h → ⊥
+      go (head.Open o) n e = omega (arith, e)
+      go (head.Basic b) n e = omega (arith, e)
+      go (head.Dimension p) n e = omega (arith, e)
+      go (head.Function ts) n e = omega (arith, e)
+      go (head.Struct m ts) n e = n m ts refl
+      go (head.List t) n e = omega (arith, e)
 
-  pub no-list : {t : Ty ℕ} → list t ≡ plain x false → ((t : one.Type) → s ≡ shape.List t → ⊥) → false ≡ means ν x y
-  no-list p n = differ p (go s n)
+  pub no-list : {t : Ty ℕ} → list t ≡ plain x false → ((t : one.Type) → h ≡ head.List t → ⊥) → false ≡ means ν x y
+  no-list p n = differ p (go h n)
     where
-      go : (s : Shape) → ((t : one.Type) → s ≡ shape.List t → ⊥) → 5 ≡ kindOf (read_as s) → ⊥
-      go (shape.Open o) n e = omega (arith, e)
-      go (shape.Basic b) n e = omega (arith, e)
-      go (shape.Dimension p) n e = omega (arith, e)
-      go (shape.Function ps t) n e = omega (arith, e)
-      go (shape.Struct m ts fs) n e = omega (arith, e)
-      go (shape.List t) n e = n t refl
+      go : (h : Head) → ((t : one.Type) → h ≡ head.List t → ⊥) → 5 ≡ kind_read h → ⊥
+      go (head.Open o) n e = omega (arith, e)
+      go (head.Basic b) n e = omega (arith, e)
+      go (head.Dimension p) n e = omega (arith, e)
+      go (head.Function ts) n e = omega (arith, e)
+      go (head.Struct m ts) n e = omega (arith, e)
+      go (head.List t) n e = n t refl

@@ -1,4 +1,4 @@
--- A type as it is read, from its shape.
+-- A type as it is read, from what it begins with.
 use Rattle.std.specs.Prelude.{◌≡◌, refl, false, ℕ}
 use Rattle.std.proofs.Common.{ap, sym, ◌∙◌}
 use Rattle.std.proofs.Math.Option.{Option, none, some}
@@ -6,13 +6,14 @@ use Rattle.rules.specs.Base.{is_none}
 use Rattle.rules.specs.Plain.{plain, plainDim, plainTys, plainFields}
 use Rattle.rules.specs.Products.{single}
 use Rattle.rules.specs.Trees as tree
-use Rattle.rules.specs.Trees.{Product, Ty, opened, basic, dim, fn, struct, list, Fields, noFields, field}
+use Rattle.rules.specs.Trees.{Product, Ty, opened, basic, dim, fn, struct, list, Tys, nil, cons, Fields, noFields, field}
 use Rattle.rules.specs.Views.{productOf}
 use Rattle.laws.specs.Lists.{true≢false}
-use Rattle.types.specs.Shapes.{whole}
-use Rattle.types.specs.declared.Shape.{Shape}
-use Rattle.types.specs.declared.Shape.TheVariants as shape
-use Rattle.judge_meaning.specs.Read.{read_as}
+use Rattle.types.specs.Shapes.{Begins, row}
+use Rattle.types.specs.declared.Head.{Head}
+use Rattle.types.specs.declared.Head.TheVariants as head
+use Rattle.types.specs.declared.Product as products
+use Rattle.judge_meaning.specs.Read.{ReadAs}
 
 pub not-both : {A : Type 0} {x : A} {B : Type 0} → none ≡ some x → B
 not-both e = absurd (true≢false (ap is_none e))
@@ -22,31 +23,33 @@ unfolding plain
 no_fields noFields = refl
 no_fields (field n t fs) = refl
 
-pub read-other : {t : Ty ℕ} (s : Shape) → none ≡ productOf t → whole s ≡ t → read_as s ≡ plain t false
+plain-row : (ps : Tys ℕ) (r : Ty ℕ) → row (plainTys ps false) (plain r false) ≡ plainTys (row ps r) false
 unfolding plain
-read-other (shape.Open o) n e = ap (λ u. plain u false) e
-read-other (shape.Basic b) n e = ap (λ u. plain u false) e
-read-other (shape.Dimension p) n e = not-both (n ∙ sym (ap productOf e))
-read-other (shape.Function ps r) n e = ap (λ u. plain u false) e
-read-other (shape.Struct x ts fs) n e = ap (struct x (plainTys ts.trees.0 false)) (no_fields fs.trees.0) ∙ ap (λ u. plain u false) e
-read-other (shape.List u) n e = ap (λ u. plain u false) e
+plain-row nil r = refl
+plain-row (cons p ps) r = ap (cons (plain p false)) (plain-row ps r)
+
+pub read-other : (t : Ty ℕ) (h : Head) → ((p : products.Product) → h ≡ head.Dimension p → ⊥) → Begins h t → ReadAs h (plain t false)
+unfolding plain
+read-other t (head.Open o) n e = ap (λ u. plain u false) e
+read-other t (head.Basic b) n e = ap (λ u. plain u false) e
+read-other t (head.Dimension p) n e = absurd (n p refl)
+read-other t (head.Function ts) n e = (
+  plainTys e.0 false,
+  plain e.1 false,
+  plain-row e.0 e.1 ∙ ap (λ us. plainTys us false) e.2,
+  ap (λ u. plain u false) e.3,
+)
+read-other t (head.Struct x ts) n e = ap (struct x (plainTys ts.trees.0 false)) (no_fields e.0) ∙ ap (λ u. plain u false) e.1
+read-other t (head.List u) n e = ap (λ u. plain u false) e
 
 module _ {p : Product ℕ} where
-  product-is : {t : Ty ℕ} → some p ≡ productOf t → dim p ≡ t
-  product-is {t = opened o} e = not-both (sym e)
-  product-is {t = basic b} e = not-both (sym e)
-  product-is {t = dim q} e = ap dim (let z : p ≡ q = cc in z)
-  product-is {t = fn ps r} e = not-both (sym e)
-  product-is {t = struct x ts fs} e = not-both (sym e)
-  product-is {t = list u} e = not-both (sym e)
-
-  pub read-alone : (t : Ty ℕ) {o : tree.Open ℕ} → some p ≡ productOf t → some o ≡ single p → opened o ≡ plain t false
+  pub read-alone : (t : Ty ℕ) {o : tree.Open ℕ} → dim p ≡ t → some o ≡ single p → opened o ≡ plain t false
   unfolding plain plainDim
-  read-alone t e h = ap (λ m. plainDim m p) h ∙ ap (λ u. plain u false) (product-is e)
+  read-alone t e h = ap (λ m. plainDim m p) h ∙ ap (λ u. plain u false) e
 
-  pub read-product : (t : Ty ℕ) → some p ≡ productOf t → none ≡ single p → dim p ≡ plain t false
+  pub read-product : (t : Ty ℕ) → dim p ≡ t → none ≡ single p → dim p ≡ plain t false
   unfolding plain plainDim
-  read-product t e h = ap (λ m. plainDim m p) h ∙ ap (λ u. plain u false) (product-is e)
+  read-product t e h = ap (λ m. plainDim m p) h ∙ ap (λ u. plain u false) e
 
   -- what reads as a dimension is that dimension
   pub dim-back : (t : Ty ℕ) → dim p ≡ plain t false → dim p ≡ t

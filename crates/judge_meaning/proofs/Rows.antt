@@ -1,10 +1,11 @@
 -- Types one by one beside their partners.
-use Rattle.std.specs.Prelude.{◌≡◌, refl, Bool, true, false, Decides, ℕ, ◌+◌, ◌≤◌, eqb, suc}
+use Rattle.std.specs.Prelude.{◌≡◌, refl, Bool, true, false, Decides, ℕ, ◌+◌, eqb, suc}
 use Rattle.std.proofs.Common.{ap, ap₂, sym, ◌∙◌, arith, eqb-true, eq-eqb}
 use Rattle.rules.specs.Meaning.{means}
 use Rattle.rules.specs.Plain.{plain, plainTys}
-use Rattle.rules.specs.Trees.{Names, Ty, opened, basic, dim, fn, struct, list, noFields, Tys, nil, cons, size, sizeTys, count}
+use Rattle.rules.specs.Trees.{Names, Ty, fn, struct, list, noFields, Tys, nil, cons, size, sizeTys, count}
 use Rattle.laws.specs.Lists.{true≢false}
+use Rattle.types.specs.Shapes.{row}
 use Rattle.judge_meaning.proofs.Arms.{tells, never}
 
 abbrev pub Alike : Tys ℕ → Tys ℕ → Type 0
@@ -14,15 +15,6 @@ Alike ts us = plainTys ts false ≡ plainTys us false
 pub record Decide (ts us left right : Tys ℕ) : Type 0 where
   pub on : Alike ts us → Alike left right
   pub back : Alike left right → Alike ts us
-
-pub size-some : (t : Ty ℕ) → 1 ≤ size t
-unfolding size
-size-some (opened o) = omega arith
-size-some (basic b) = omega arith
-size-some (dim p) = omega arith
-size-some (fn ps r) = omega arith
-size-some (struct x ts fs) = omega arith
-size-some (list t) = omega arith
 
 pub start : (ts us : Tys ℕ) → Decide ts us ts us
 start ts us = record { on = λ e. e; back = λ e. e }
@@ -81,11 +73,16 @@ finished {ts = ts} {us} d {n} {m} k l both = (
   λ e. eq-eqb n m (sym k ∙ sym (count-plain ts) ∙ ap count (d.back e) ∙ count-plain us ∙ l),
 )
 
+row-size : (ps : Tys ℕ) (r : Ty ℕ) → sizeTys (row ps r) ≡ sizeTys ps + size r
+unfolding size
+row-size nil r = omega arith
+row-size (cons p ps) r = omega (arith, row-size ps r)
+
 -- parts are of fewer records than the whole
 module _ {T : Ty ℕ} where
-  pub fn-size : {A : Tys ℕ} {B : Ty ℕ} → fn A B ≡ T → size T ≡ suc (sizeTys A + size B)
+  pub fn-size : (A : Tys ℕ) (B : Ty ℕ) {R : Tys ℕ} → row A B ≡ R → fn A B ≡ T → size T ≡ suc (sizeTys R)
   unfolding size
-  fn-size e = ap size (sym e)
+  fn-size A B k e = omega (arith, ap size e, ap sizeTys k, row-size A B)
 
   pub struct-size : {x : ℕ} {A : Tys ℕ} → struct x A noFields ≡ T → size T ≡ suc (sizeTys A + 0)
   unfolding size

@@ -5,20 +5,21 @@ ghost use Rattle.std.specs.Prelude.{◌≡◌, Decides, List, false};
 ghost use Rattle.rules.specs.Meaning.{means};
 ghost use Rattle.rules.specs.Names.{Bytes, numbered};
 ghost use Rattle.rules.specs.Plain.{plain, plainTys};
-ghost use Rattle.judge_meaning.specs.Read.{read_as};
+ghost use Rattle.judge_meaning.specs.Read.{ReadAs};
 
-use types::{Shape, Type, Types};
+use types::{Head, Type, Types};
 
 /// What a type is, where a dimension that is one variable to the power 1 is that variable.
-fn read<'a>(t: Type<'a>) -> Shape<'a>
-    ensures { read_as result ≡ plain t.entry.tree.0 false }
+fn read<'a>(t: Type<'a>) -> Head<'a>
+    ensures { ReadAs result (plain t.entry.tree.0 false) }
 {
-    let Some(p) = t.dimension() else {
-        return t.shape();
+    let head = t.head();
+    let Head::Dimension(p) = head else {
+        return head;
     };
     match p.alone() {
-        Some(o) => Shape::Open(o),
-        None => Shape::Dimension(p),
+        Some(o) => Head::Open(o),
+        None => Head::Dimension(p),
     }
 }
 
@@ -28,12 +29,12 @@ pub fn means(left: Type, right: Type) -> bool
     ensures { (names : List Bytes) → result ≡ means (numbered names) left.entry.tree.0 right.entry.tree.0 }
 {
     match (read(left), read(right)) {
-        (Shape::Open(o), Shape::Open(p)) => o == p,
-        (Shape::Basic(a), Shape::Basic(b)) => a == b,
-        (Shape::Dimension(_), Shape::Dimension(_)) => left.same(right),
-        (Shape::Function(ps, t), Shape::Function(qs, u)) => all_mean(ps, qs) && means(t, u),
-        (Shape::Struct(x, ts, _), Shape::Struct(y, us, _)) => x == y && all_mean(ts, us),
-        (Shape::List(t), Shape::List(u)) => means(t, u),
+        (Head::Open(o), Head::Open(p)) => o == p,
+        (Head::Basic(a), Head::Basic(b)) => a == b,
+        (Head::Dimension(_), Head::Dimension(_)) => left.same(right),
+        (Head::Function(ts), Head::Function(us)) => all_mean(ts, us),
+        (Head::Struct(x, ts), Head::Struct(y, us)) => x == y && all_mean(ts, us),
+        (Head::List(t), Head::List(u)) => means(t, u),
         _ => false,
     }
 }

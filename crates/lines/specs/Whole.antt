@@ -1,16 +1,16 @@
 -- The whole call past the check of 10: from the steps in words to the type of the last one.
-use Rattle.std.specs.Prelude.{Result, Err, ◌≡◌, refl, Bool, List, [], ◌∷◌, ℕ, suc, ◌-◌, ◌*◌, ◌≤◌, ◌<◌, leb, length, get_or}
-use Rattle.std.proofs.Common.{sym, subst, ◌∙◌, arith}
+use Rattle.std.specs.Prelude.{Result, Ok, Err, IfOk, ◌≡◌, refl, Bool, List, [], ◌∷◌, ℕ, suc, ◌-◌, ◌*◌, ◌≤◌, ◌<◌, leb, length, get_or}
+use Rattle.std.proofs.Common.{sym, subst, ap₂, ◌∙◌, arith}
 use Rattle.std.proofs.Math.Path.{ap}
 use Rattle.std.proofs.Math.Bool.{true}
 use Rattle.std.proofs.Math.Option.{some}
 use borrow.Author.Tests.{leb-true, lt-leb}
 use Rattle.std.proofs.Math.ListN.{replicate}
-use Rattle.rules.specs.Base.{Got, got, refused, ◌>>=◌, need, bounded, all, sum_of}
+use Rattle.rules.specs.Base.{Got, got, refused, ◌>>=◌, ◌>>◌, need, bounded, all, sum_of}
 use Rattle.rules.specs.Trees.{Names, Con, sizeCon}
 use Rattle.rules.specs.Names.{Table, table_of, numbersOf, is_held, lentTable, tableGiven}
 use Rattle.rules.specs.Replacing.{replaceTy, bindings}
-use Rattle.rules.specs.Refusals.{number_of}
+use Rattle.rules.specs.Refusals.{number_of, toldBy}
 use Rattle.rules.specs.WellFormed.{goodCon}
 use Rattle.rules.specs.Writing.{Rec, words, writeTy}
 use Rattle.rules.specs.Calls.{tableKept, differ, lent, resultAfter}
@@ -19,18 +19,20 @@ use Rattle.rules.specs.Lines.{its, constraints, last_of, settledSet, agreedSet, 
 use Rattle.rules.specs.declared.Refusal.{Refusal}
 use Rattle.rules.specs.declared.Refusal.TheVariants.{TooLarge}
 use Rattle.laws.specs.Checks.{need-passed}
-use Rattle.laws.specs.Lists.{true≢false, and_left, bound-step, is_all, Every}
-use Rattle.laws.specs.NameTable.{Good, given-good}
+use Rattle.laws.specs.Lists.{true≢false, and_left, bound-step, clash, is_all, Every}
+use Rattle.laws.specs.NameTable.{Good}
 use Rattle.theorems_soundness.specs.Claims.{Ordered}
 use Rattle.theorems_soundness.proofs.Words.{numbers-ordered}
 use Rattle.theorems_lines.proofs.Formed.{FormedStep, constraints-formed}
 use Rattle.theorems_lines.proofs.Read as theorems
 use Rattle.theorems_lines.proofs.Read.{names_apart}
+use Rattle.names.specs.Told.{unit_of}
+use Rattle.names.specs.declared.tables.NameTable.{NameTable}
 use Rattle.records.specs.Good.{numbers, holding}
 use Rattle.records_buffers.specs.Lent.{Long, long}
 use Rattle.records_buffers.specs.Handed.{as_written, unwritten}
 use Rattle.records_buffers.specs.Told.{handed, Made}
-use Rattle.lines_entry.specs.Entered.{lineEntered, checked-entered}
+use Rattle.lines_entry.specs.Entered.{lineEntered, entered_over, checked-entered}
 use Rattle.laws.specs.Nesting.{Within}
 use Rattle.lines.specs.Nested.{Flat, constraints-flat, line-flat}
 use Rattle.lines.specs.Typed.{setType, refused-made}
@@ -56,6 +58,11 @@ last-is (v ∷ vs) (s ∷ s' ∷ ss) l h =
 -- the type of its last step, as records
 abbrev pub type_of : List ℕ → List ℕ → List ℕ → List (LineStep ℕ) → Got (List Rec)
 type_of pool table names ss = lineType (numbersOf (table_of pool table)) ss names >>= λ ty. got (writeTy ty)
+
+-- what the call makes over a table that was tested before; and where it was refused, 8 and then its refusal
+abbrev pub line_over : Result NameTable Refusal → List ℕ → List ℕ → List ℕ → List ℕ → Got (List Rec)
+line_over (Ok n) steps types lines names = checkedLine (table_of n.pool.now n.table.now) steps types lines names
+line_over (Err why) steps types lines names = lineShort steps types lines names >> refused (number_of why)
 
 grouped : {A B C : Type 0} (m : Got A) (f : A → Got B) (g : B → Got C) → ((m >>= f) >>= g) ≡ (m >>= λ a. f a >>= g)
 grouped (got a) f g = refl
@@ -113,53 +120,77 @@ module _ (pool table names : List ℕ) where
     unfolding agreedSet settledSet
     large-made w l = refused-made (type_of pool table names ss) w TooLarge (type-is ∙ rw (lt-leb (sum_of sizeCon cs) 2048 l))
 
+-- ══ The checks at entry ══
+
+as-refused : {A B : Type 0} (l : Got (Unit {0})) (n k : ℕ) → ◌≡◌ {A = Got A} (l >> refused k) (refused n) → ◌≡◌ {A = Got B} (l >> refused k) (refused n)
+as-refused (refused i) n k e = cc
+as-refused (got x) n k e = cc
+
+not-refused : {A B : Type 0} (l : Got (Unit {0})) (k : ℕ) (a : A) → (l >> refused k) ≡ got a → B
+not-refused (refused i) k a e = clash e
+not-refused (got x) k a e = clash e
+
+module _ (steps types lines names : List ℕ) where
+  module _ (n : NameTable) where
+    abbrev over : Table
+    over = table_of n.pool.now n.table.now
+
+    -- what is known past them
+    pub came : (ss : List (LineStep ℕ)) → length steps ≤ length names * 4
+        → lineEntered over steps types lines names ≡ got ss → LineHeld n.pool.now n.table.now names ss
+    unfolding lineEntered fresh
+    came ss l i =
+        let a = bound-step (lineShort steps types lines names) _ ss i in
+        let b = bound-step (tableKept over) _ ss a.2 in
+        let c = bound-step (lineGiven over steps types lines) _ ss b.2 in
+        let d = bound-step (need (fresh names c.0) 4) _ ss c.2 in
+        let f = bound-step (need (all (is_held over) names) 3) _ ss d.2 in
+        let z : c.0 ≡ ss = cc f.2 in
+        let e : lineGiven over steps types lines ≡ got ss = c.1 ∙ ap got z in
+        let r = theorems.line_read over (numbers-ordered n.pool.now n.table.now n.good) steps types lines ss e in
+        record {
+          formed = λ good. (theorems.line_read over (numbers-ordered n.pool.now n.table.now good) steps types lines ss e).formed;
+          complete = r.complete;
+          flat = line-flat over steps types lines ss e;
+          differing = and_left (differ names) _ (need-passed (fresh names c.0) 4 d.1);
+          held = need-passed (all (is_held over) names) 3 f.1;
+          enough = omega (arith, r.long, l);
+        }
+
+    pub line_made : (ss : List (LineStep ℕ)) → lineEntered over steps types lines names ≡ got ss → (w : List ℕ) (r : Result ℕ Refusal)
+        → Made (type_of n.pool.now n.table.now names ss) w r → Made (checkedLine over steps types lines names) w r
+    line_made ss i w r m = subst (λ (x : Got (List Rec)). Made x w r) (sym (checked-entered over steps types lines names ∙ rw i)) m
+
+  pub refused-line : (table : Result NameTable Refusal) (w : List ℕ) (k : Refusal) → entered_over table steps types lines names ≡ refused (number_of k)
+      → Made (line_over table steps types lines names) w (Err k)
+  refused-line (Ok n) w k e = refused-made (checkedLine (over n) steps types lines names) w k (checked-entered (over n) steps types lines names ∙ rw e)
+  refused-line (Err why) w k e = refused-made (line_over (Err why) steps types lines names) w k (as-refused (lineShort steps types lines names) (number_of k) (number_of why) e)
+
+  -- no line comes in over a table that was refused
+  pub no-table : {A : Type 0} (table : Result NameTable Refusal) (why : Refusal) (ss : List (LineStep ℕ)) → table ≡ Err why
+      → entered_over table steps types lines names ≡ got ss → A
+  no-table table why ss i e = not-refused (lineShort steps types lines names) (number_of why) ss (rw i at e)
+
 module _ (pool table steps types lines names : List ℕ) where
   abbrev t : Table
   t = table_of pool table
 
-  -- ══ The checks at entry ══
+  abbrev past : Got (Unit {0}) → Got (List Rec)
+  past k = lineShort steps types lines names >> (k >> (lineGiven t steps types lines >>= λ ss. need (fresh names ss) 4
+      >> (need (all (is_held t) names) 3 >> (lineType (numbersOf t) ss names >>= λ ty. got (writeTy ty)))))
 
-  -- what is known past them
-  pub record Came (ss : List (LineStep ℕ)) : Type 0 where
-    pub good : Good pool table
-    pub held : LineHeld pool table names ss
+  refused-table : (l : lentTable pool table ≡ got tt) (k : ℕ) (a : Got (Unit {0})) → tableKept t ≡ a → refused k ≡ (lentTable pool table >> a)
+      → (lineShort steps types lines names >> refused k) ≡ checkedLine t steps types lines names
+  unfolding checkedLine
+  refused-table l k (got u) q e = clash (let z : refused k ≡ got u = rw l at e in z)
+  refused-table l k (refused j) q e = let z : refused k ≡ refused j = rw l at e in ap past (z ∙ sym q)
 
-  table-good : lentTable pool table ≡ got tt → (u : Unit {0}) → tableKept t ≡ got u → Good pool table
-  unfolding tableKept tableGiven
-  table-good l u k = given-good (rw (l, k))
-
-  pub came : (ss : List (LineStep ℕ)) → lentTable pool table ≡ got tt → length steps ≤ length names * 4
-      → lineEntered t steps types lines names ≡ got ss → Came ss
-  unfolding lineEntered fresh
-  came ss l n i =
-      let a = bound-step (lineShort steps types lines names) _ ss i in
-      let b = bound-step (tableKept t) _ ss a.2 in
-      let c = bound-step (lineGiven t steps types lines) _ ss b.2 in
-      let d = bound-step (need (fresh names c.0) 4) _ ss c.2 in
-      let f = bound-step (need (all (is_held t) names) 3) _ ss d.2 in
-      let z : c.0 ≡ ss = cc f.2 in
-      let e : lineGiven t steps types lines ≡ got ss = c.1 ∙ ap got z in
-      let g = table-good l b.0 b.1 in
-      let r = theorems.line_read t (numbers-ordered pool table g) steps types lines ss e in
-      record {
-        good = g;
-        held = record {
-          formed = λ good. (theorems.line_read t (numbers-ordered pool table good) steps types lines ss e).formed;
-          complete = r.complete;
-          flat = line-flat t steps types lines ss e;
-          differing = and_left (differ names) _ (need-passed (fresh names c.0) 4 d.1);
-          held = need-passed (all (is_held t) names) 3 f.1;
-          enough = omega (arith, r.long, n);
-        };
-      }
-
-  pub line_made : (ss : List (LineStep ℕ)) → lineEntered t steps types lines names ≡ got ss → (w : List ℕ) (r : Result ℕ Refusal)
-      → Made (type_of pool table names ss) w r → Made (checkedLine t steps types lines names) w r
-  line_made ss i w r m = subst (λ (x : Got (List Rec)). Made x w r) (sym (checked-entered t steps types lines names ∙ rw i)) m
-
-  pub refused-line : (w : List ℕ) (k : Refusal) → lineEntered t steps types lines names ≡ refused (number_of k)
-      → Made (checkedLine t steps types lines names) w (Err k)
-  refused-line w k e = refused-made (checkedLine t steps types lines names) w k (checked-entered t steps types lines names ∙ rw e)
+  -- over the table that was tested it is what the call asks
+  pub tested : lentTable pool table ≡ got tt → (n : Result NameTable Refusal) → toldBy unit_of n ≡ tableGiven pool table
+      → IfOk n (λ n. (n.pool.now ≡ pool) × (n.table.now ≡ table)) → line_over n steps types lines names ≡ checkedLine t steps types lines names
+  unfolding tableGiven tableKept
+  tested l (Ok n) e i = ap₂ (λ (p q : List ℕ). checkedLine (table_of p q) steps types lines names) i.0 i.1
+  tested l (Err why) e i = refused-table l (number_of why) (tableKept t) refl e
 
   -- ══ The call ══
 

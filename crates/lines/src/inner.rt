@@ -1,17 +1,14 @@
 // The steps of the call past the check of 10: the set is written, solved and judged, and the last step's type is left in the work buffer.
 ghost use Rattle.std.specs.Prelude.{◌≡◌, List, ℕ, ◌*◌, ◌≤◌, length};
-ghost use Rattle.rules.specs.Base.{got};
-ghost use Rattle.rules.specs.Names.{table_of, lentTable};
 ghost use Rattle.rules.specs.Replacing.{Look};
 ghost use Rattle.rules.specs.Trees.{Con, Binding};
-ghost use Rattle.rules.specs.Lines.{checkedLine};
 ghost use Rattle.records_buffers.specs.Told.{Made};
 ghost use Rattle.replace.specs.Places.{Tabled};
 ghost use Rattle.lines_entry.specs.Told.{stepsOf};
 ghost use Rattle.judge.specs.Found.{FoundThere};
 ghost use Rattle.lines.specs.Standing.{SetStands};
 ghost use Rattle.lines.specs.Typed.{Typed, setType, Confirmed};
-ghost use Rattle.lines.specs.Whole.{LineHeld, type_of};
+ghost use Rattle.lines.specs.Whole.{LineHeld, type_of, line_over};
 
 use judge::inner::{Found, judge_found};
 use lines_entry::inner::enter_line;
@@ -125,13 +122,16 @@ fn type_line(
 }
 
 // All that the call does past the check of 10; what it makes is left at the start of the work buffer.
-pub fn make_line(pool: &[u8], table: &[u32], line: Line, work: &mut [u32]) -> Result<usize, Refusal>
-    requires table_value { lentTable pool.now table.now ≡ got tt }
+pub fn make_line(
+    names: Result<NameTable, Refusal>,
+    line: Line,
+    work: &mut [u32],
+) -> Result<usize, Refusal>
     requires lent { length line.steps.now ≤ length line.lent.now * 4 }
     requires room { 16384 ≤ length work.old }
-    ensures { Made (checkedLine (table_of pool.now table.now)
-        line.entry.steps.now line.entry.types.now line.entry.earlier.now line.entry.lent.now) work.new result }
+    ensures { Made (line_over names.entry line.entry.steps.now line.entry.types.now line.entry.earlier.now line.entry.lent.now) work.new result }
 {
-    let steps = enter_line(pool, table, line)?;
-    type_line(NameTable { pool, table }, &steps, line.lent, work)
+    let steps = enter_line(names, line)?;
+    let names = names?; // where the table was refused, the line was too
+    type_line(names, &steps, line.lent, work)
 }

@@ -11,6 +11,7 @@ ghost use Rattle.records_buffers.specs.Told.{writtenAs};
 use inner::make_line;
 use lines_entry::inner::given::Line;
 use lines_entry::inner::room;
+use names::tables::NameTable;
 use records_buffers::inner::hand_over;
 use rules::Refusal;
 
@@ -37,6 +38,6 @@ pub fn check_line(
         earlier: lines,
         lent: names,
     };
-    let made = make_line(pool, table, line, work);
+    let made = make_line(NameTable::new(pool, table), line, work);
     hand_over(made, res, work)
 }

@@ -1,12 +1,15 @@
 -- All checks of a line before its constraints: 8, 1, 4, 3.
-use Rattle.std.specs.Prelude.{◌≡◌, Bool, ◌&&◌, [], ◌∷◌, ℕ, ◌≤◌, leb, ltb, length, get_or}
+use Rattle.std.specs.Prelude.{Result, Ok, Err, ◌≡◌, Bool, ◌&&◌, [], ◌∷◌, ℕ, ◌≤◌, leb, ltb, length, get_or}
 use Rattle.std.proofs.Math.Path.{refl}
 use Rattle.std.proofs.Math.Bool.{true, false}
 use mathlib.Core.List.{List}
 use Rattle.rules.specs.Base.{Got, got, refused, ◌>>=◌, ◌>>◌, need, all}
 use Rattle.rules.specs.Names.{Table, table_of, tableGood, numbersOf, is_held}
+use Rattle.rules.specs.Refusals.{number_of}
 use Rattle.rules.specs.Writing.{writeTy}
+use Rattle.rules.specs.declared.Refusal.{Refusal}
 use Rattle.rules.specs.Calls.{shortLists, shortNumbers, tableKept}
+use Rattle.names.specs.declared.tables.NameTable.{NameTable}
 use Rattle.laws.specs.Checks.{need-passed, first-passed}
 use Rattle.laws.specs.Lists.{and_left, bound-step}
 use borrow.Author.Tests.{leb-true}
@@ -22,6 +25,11 @@ lineEntered t steps types lines names = do
   need (fresh names ss) 4
   need (all (is_held t) names) 3
   got ss
+
+-- the same over a table that was tested before; and where it was refused, 8 and then its refusal
+abbrev pub entered_over : Result NameTable Refusal → List ℕ → List ℕ → List ℕ → List ℕ → Got (List (LineStep ℕ))
+entered_over (Ok n) steps types lines names = lineEntered (table_of n.pool.now n.table.now) steps types lines names
+entered_over (Err why) steps types lines names = lineShort steps types lines names >> refused (number_of why)
 
 module _ {A B : Type 0} (g : A → Got B) where
   after_two : (a b : Bool) (x : A) → (need a 4 >> (need b 3 >> g x)) ≡ ((need a 4 >> (need b 3 >> got x)) >>= g)
@@ -63,37 +71,40 @@ its-short steps types lines names h =
 
 -- ══ The answers of the code ══
 
-module _ (pool table steps types lines names : List ℕ) where
-  abbrev t : Table
-  t = table_of pool table
-
-  abbrev entered : Got (List (LineStep ℕ))
-  entered = lineEntered t steps types lines names
-
-  pub enter-long : need false 8 ≡ lineShort steps types lines names → refused 8 ≡ entered
+module _ (steps types lines names : List ℕ) where
+  pub enter-long : (table : Result NameTable Refusal) → need false 8 ≡ lineShort steps types lines names → refused 8 ≡ entered_over table steps types lines names
   unfolding lineEntered
-  enter-long h = rw (← h)
+  enter-long (Ok n) h = rw (← h)
+  enter-long (Err why) h = rw (← h)
 
   module _ (s : need true 8 ≡ lineShort steps types lines names) where
-    pub enter-table : tableGood t ≡ false → refused 1 ≡ entered
-    unfolding lineEntered tableKept
-    enter-table h = rw (← s, h)
+    pub enter-refused : (why : Refusal) → refused (number_of why) ≡ entered_over (Err why) steps types lines names
+    enter-refused why = rw (← s)
 
-    module _ (k : tableGood t ≡ true) where
+    module _ (n : NameTable) where
+      abbrev t : Table
+      t = table_of n.pool.now n.table.now
+
+      abbrev entered : Got (List (LineStep ℕ))
+      entered = lineEntered t steps types lines names
+
+      kept : tableGood t ≡ true
+      kept = n.good.good
+
       pub enter-form : (n : ℕ) → lineGiven t steps types lines ≡ refused n → refused n ≡ entered
       unfolding lineEntered tableKept
-      enter-form n h = rw (← s, k, h)
+      enter-form n h = rw (← s, kept, h)
 
       module _ (ss : List (LineStep ℕ)) (h : lineGiven t steps types lines ≡ got ss) where
         pub enter-used : fresh names ss ≡ false → refused 4 ≡ entered
         unfolding lineEntered tableKept
-        enter-used f = rw (← s, k, h, f)
+        enter-used f = rw (← s, kept, h, f)
 
         module _ (f : fresh names ss ≡ true) where
-          pub enter-unheld : all (λ x. ltb x (get_or table 0 0)) names ≡ false → refused 3 ≡ entered
+          pub enter-unheld : all (λ x. ltb x (get_or n.table.now 0 0)) names ≡ false → refused 3 ≡ entered
           unfolding lineEntered tableKept table_of
-          enter-unheld e = rw (← s, k, h, f, e)
+          enter-unheld e = rw (← s, kept, h, f, e)
 
-          pub enter-all : all (λ x. ltb x (get_or table 0 0)) names ≡ true → got ss ≡ entered
+          pub enter-all : all (λ x. ltb x (get_or n.table.now 0 0)) names ≡ true → got ss ≡ entered
           unfolding lineEntered tableKept table_of
-          enter-all e = rw (← s, k, h, f, e)
+          enter-all e = rw (← s, kept, h, f, e)

@@ -4,17 +4,15 @@ pub mod given;
 pub mod parsing;
 pub mod steps;
 
-ghost use Rattle.std.specs.Prelude.{◌≡◌, ◌≤◌, length};
+ghost use Rattle.std.specs.Prelude.{◌≡◌};
 ghost use Rattle.rules.specs.Base.{need};
-ghost use Rattle.rules.specs.Names.{table_of};
 ghost use Rattle.rules.specs.Refusals.{toldBy};
 ghost use Rattle.rules.specs.Lines.{lineLent, lineShort};
-ghost use Rattle.lines_entry.specs.Entered.{lineEntered};
+ghost use Rattle.lines_entry.specs.Entered.{entered_over};
 ghost use Rattle.lines_entry.specs.Told.{stepsOf};
 
 use fresh::{all_held, is_fresh};
 use given::Line;
-use names::inner::is_good;
 use names::tables::NameTable;
 use parsing::read_steps;
 use records_buffers::lent;
@@ -64,24 +62,23 @@ fn short(line: Line) -> bool
     line.lent.len() <= RECORDS
 }
 
-/// All checks past 10, in their order: 8, 1, 4, 3. The steps, where none of them refuses.
-pub fn enter_line<'a>(pool: &[u8], table: &[u32], line: Line<'a>) -> Result<Steps<'a>, Refusal>
-    requires bytes { 8192 ≤ length pool.now }
-    requires words { 257 ≤ length table.now }
-    ensures { toldBy stepsOf result ≡ lineEntered (table_of pool.now table.now)
+/// All checks past 10, in their order: 8, the table's, 1, 4, 3. The steps, where none of them refuses.
+pub fn enter_line<'a>(
+    names: Result<NameTable, Refusal>,
+    line: Line<'a>,
+) -> Result<Steps<'a>, Refusal>
+    ensures { toldBy stepsOf result ≡ entered_over names.entry
         line.entry.steps.now line.entry.types.now line.entry.earlier.now line.entry.lent.now }
 {
     if !short(line) {
         return Err(Refusal::TooLarge);
     }
-    if !is_good(pool, table) {
-        return Err(Refusal::Malformed);
-    }
-    let steps = read_steps(NameTable { pool, table }, line)?;
+    let names = names?;
+    let steps = read_steps(names, line)?;
     if !is_fresh(&steps.list[..steps.len], line.lent) {
         return Err(Refusal::Mixed);
     }
-    if !all_held(table, line.lent) {
+    if !all_held(names, line.lent) {
         return Err(Refusal::NoRoom); // 3 is also a number that is not held
     }
     Ok(steps)

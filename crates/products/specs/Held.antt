@@ -10,7 +10,7 @@ use native.Mathlib.Omega.{arith}
 use borrow.Author.Tests.{leb-true, le-leb}
 use Rattle.std.proofs.Math.Dec.{leb}
 use Rattle.std.proofs.Math.ListN.{length, length-map}
-use Rattle.std.proofs.lemmas.List.{length-replicate}
+use Rattle.std.proofs.lemmas.List.{length-replicate, take-map}
 use Rattle.rules.specs.Base.{Got, got, refused, ◌>>=◌, ◌>>◌, need, orRefuse}
 use Rattle.rules.specs.Exponents.{goodStored}
 use Rattle.rules.specs.Names.{table_of, names_of, numbersOf, is_held}
@@ -141,11 +141,6 @@ all_known (f ∷ l) t h = go (kind-of f.kind f.name) (factorsIn (map valueIn l))
     go (inl k) (some r) e rest = (k, rest r e)
     go (inl k) none e rest = let z : none ≡ some t = rw (factor-back f k, e) at h in let w : ◌≡◌ {A = ℕ} 0 1 = cc in absurd (omega arith)
     go (inr n) o e rest = let z : none ≡ some t = rw (factor-none f n) at h in let w : ◌≡◌ {A = ℕ} 0 1 = cc in absurd (omega arith)
-
-take-map : {A B : Type 0} (g : A → B) (n : ℕ) (l : List A) → take n (map g l) ≡ map g (take n l)
-take-map g zero l = refl
-take-map g (suc n) [] = refl
-take-map g (suc n) (x ∷ l) = ap (g x ∷◌) (take-map g n l)
 
 -- the product that a value is, if its kinds are known
 pub product-in : (p : Product) → p.len ≤ 64 → Every (λ f. Kind f.kind) (take p.len p.factors) → productIn (given p) ≡ some (productOf p)

@@ -63,8 +63,8 @@ fn order_numbers(m: u32, n: u32) -> Ordering
 
 // The order of factors: by kind, then by name bytes or by index.
 pub fn order(x: Factor, y: Factor, names: NameTable) -> Ordering
-    requires fine { Fine (numbersOf (table_of names.pool.now names.table.now)) (heldIn names.table.now) x }
-    requires fine_2 { Fine (numbersOf (table_of names.pool.now names.table.now)) (heldIn names.table.now) y }
+    requires left { Fine (numbersOf (table_of names.pool.now names.table.now)) (heldIn names.table.now) x }
+    requires right { Fine (numbersOf (table_of names.pool.now names.table.now)) (heldIn names.table.now) y }
     ensures { toldOrder result ≡ orderAtom (numbersOf (table_of names.entry.pool.now names.entry.table.now)) (atomAt x) (atomAt y) }
 {
     match order_numbers(rank(x.kind), rank(y.kind)) {
@@ -80,7 +80,7 @@ pub fn order(x: Factor, y: Factor, names: NameTable) -> Ordering
 }
 
 impl Product {
-    /// One factor more. Past the 64th it is counted and not kept.
+    /// One factor more. Past the 64th it is counted and not kept. A count that can still grow is asked for: no product that is put together comes near it.
     pub fn push(&mut self, f: Factor)
         requires { self.old.len < 2 ^ 32 }
         ensures { self.new ≡ put_of self.old f }
@@ -105,14 +105,11 @@ impl Product {
     // The factors of p from a place on, behind those that are here.
     fn append(&mut self, p: &Product, from: usize)
         requires sound { Sound p.now }
-        requires len_bound { (self.old.len ≤ 128) × (from ≤ p.now.len) }
+        requires room { (self.old.len ≤ 128) × (from ≤ p.now.len) }
         ensures { (acc : Tree) → given self.old ≡ productValue acc → given self.new ≡ productValue (acc ++ drop from (productOf p.now)) }
     {
-        let n = p.len;
-        let mut i = from;
-        while i < n {
+        for i in from..p.len {
             self.push(p.factors[i]);
-            i += 1;
         }
     }
 }
@@ -181,17 +178,14 @@ pub fn inverted(a: &Product) -> Product
 // Multiplies each exponent and drops zeros.
 pub fn raised(a: &Product, e: Exponent) -> Result<Product, Refusal>
     requires sound { Sound a.now }
-    requires e_value { goodExp (expOf e) ≡ true }
+    requires power { goodExp (expOf e) ≡ true }
     ensures { (ν : Names ℕ) → toldBy given result ≡ answer (raise ν bounded (productOf a.now) (expOf e)) }
 {
-    let n = a.len;
     let mut out = Product::scalar();
-    let mut i = 0;
-    while i < n {
+    for i in 0..a.len {
         let x = a.factors[i];
         let k = exponents::inner::product_of(x.exp, e)?;
         out.keep(x, k);
-        i += 1;
     }
     Ok(out)
 }
@@ -221,8 +215,7 @@ pub fn fits(p: &Product, names: NameTable) -> bool
     if !is_sound(last, names) {
         return false;
     }
-    let mut i = 1;
-    while i < n {
+    for i in 1..n {
         let next = p.factors[i];
         if !is_sound(next, names) {
             return false;
@@ -232,7 +225,6 @@ pub fn fits(p: &Product, names: NameTable) -> bool
             Ordering::Equal | Ordering::Greater => return false,
         }
         last = next;
-        i += 1;
     }
     true
 }

@@ -1,2 +1,3 @@
 pub mod Others
 mod Determined
+mod Sizes

@@ -1,14 +1,12 @@
 //! Sets of names of a table, by their numbers.
-ghost use Rattle.std.specs.Prelude.{◌≡◌, Decides, List, [], ◌∷◌, ◌++◌, ℕ, ◌≤◌, ◌<◌, length, get_or};
-ghost use Rattle.rules.specs.Contents.{sort};
-ghost use Rattle.records.specs.Good.{numbers};
-ghost use Rattle.queries.specs.Marks.{Has, Within, Held, Least, Filled, disjoint, picked};
+pub mod inner;
+
+ghost use Rattle.std.specs.Prelude.{◌≡◌, Decides, List, [], ◌∷◌, ◌++◌, ℕ, length};
+ghost use Rattle.queries.specs.Marks.{Has, Within, disjoint, picked};
 ghost use Rattle.queries.specs.Scans.{choose, opensIn};
 
 use super::Kind;
-use super::inner::{name_at, sooner};
-use names::tables::NameTable;
-use records::inner::put;
+use super::inner::name_at;
 use rules::NAMES;
 
 /// Some of the names that a table can hold: a mark for each number.
@@ -72,33 +70,16 @@ impl NameSet {
         true
     }
 
-    /// The first of them by name bytes.
-    fn first(&self, names: NameTable) -> Option<u32>
-        requires { Held (get_or names.table.now 0 0) self.now.marks }
-        ensures { Least (numbers names.entry.pool.now names.entry.table.now) self.now.marks 256 result }
+    /// How many they are.
+    pub fn len(&self) -> u32
+        ensures { result ≡ length (picked 0 self.now.marks) }
     {
-        let mut best = None;
+        let mut n = 0;
         for i in 0..NAMES {
             if self.marks[i] {
-                best = sooner(names, best, i as u32);
+                n += 1;
             }
         }
-        best
-    }
-
-    /// Writes them, sorted by name bytes, and says how many they are.
-    pub fn write_sorted(self, names: NameTable, out: &mut [u32]) -> usize
-        requires held { Held (get_or names.table.now 0 0) self.marks }
-        requires in_bounds { 256 ≤ length out.old }
-        ensures { Filled (sort (numbers names.entry.pool.now names.entry.table.now) (picked 0 self.marks)) result out.old out.new }
-    {
-        let mut left = self;
-        let mut k = 0;
-        while let Some(x) = left.first(names) {
-            left.marks[x as usize] = false;
-            put(out, k, x);
-            k += 1;
-        }
-        k
+        n
     }
 }

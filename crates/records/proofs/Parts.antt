@@ -4,6 +4,7 @@ use borrow.Author.Tests.{eqb-true, eqb-false}
 use lib.Dec.{eqb}
 use mathlib.Core.Path.{◌≡◌, refl, sym, ap, subst, ◌∙◌}
 use mathlib.Core.Bool.{Bool, true, false, ◌&&◌}
+use Rattle.std.proofs.lemmas.Bool.{and_from}
 use mathlib.Core.List.{List, [], ◌∷◌}
 use Prim.Native.Nat.{ℕ, suc, ◌+◌, ◌/◌, ◌≤◌, ◌<◌}
 use native.Mathlib.Omega.{arith}
@@ -25,7 +26,7 @@ use Rattle.records.specs.declared.reader.Part.{Part}
 use Rattle.records.specs.declared.Open as names
 use Rattle.records.specs.declared.View.{View}
 use Rattle.records.specs.declared.View.TheVariants as view
-use Rattle.records.proofs.Walks.{false-true, both, open-there}
+use Rattle.records.proofs.Walks.{false-true, open-there}
 
 module _ (reader : Reader) where
   abbrev pool : List ℕ
@@ -94,7 +95,7 @@ module _ (reader : Reader) where
       held = (v, g.left, g.right);
       past = omega (arith, g.past);
       deep = omega (arith, g.deepLeft, g.deepRight);
-      good = both (goodTy pool table q l) (goodTy pool table q r) g.goodLeft g.goodRight;
+      good = and_from (goodTy pool table q l) (goodTy pool table q r) g.goodLeft g.goodRight;
     })
     con-equal v None bad = con-none v (λ l r h i k g. bad (l, r) (at + 1 + (size l + size r)) (record {
       left = h;
@@ -133,7 +134,7 @@ module _ (reader : Reader) where
             held = (v, g.left, g.right);
             past = omega (arith, g.past);
             deep = omega (arith, g.deepLeft, g.deepRight);
-            good = both (H && L) (goodTy pool table q r) (both H L t g.goodLeft) g.goodRight;
+            good = and_from (H && L) (goodTy pool table q r) (and_from H L t g.goodLeft) g.goodRight;
           })
       con-field t None bad = con-none v (λ l r h i k g.
           let H : Bool = holding pool table x in
@@ -200,7 +201,7 @@ module _ (reader : Reader) where
         held = (v, g.held);
         past = omega (arith, g.past);
         deep = g.deep;
-        good = both (holding pool table x) (goodTy pool table q u) t g.good;
+        good = and_from (holding pool table x) (goodTy pool table q u) t g.good;
       })
       binding-type t None bad = binding-none bad
 

@@ -2,6 +2,7 @@
 use Rattle.std.specs.Prelude.{Option, Some, None}
 use mathlib.Core.Path.{◌≡◌, refl, sym, ap, subst, ◌∙◌}
 use mathlib.Core.Bool.{Bool, true, false, ◌&&◌}
+use Rattle.std.proofs.lemmas.Bool.{and_from}
 use mathlib.Core.List.{List, [], ◌∷◌, map}
 use Prim.Native.Nat.{ℕ, suc, ◌+◌, ◌-◌, ◌≤◌, ◌<◌}
 use native.Mathlib.Omega.{arith}
@@ -90,9 +91,6 @@ use Rattle.records.specs.declared.View.TheVariants as view
 
 pub false-true : {A : Type 0} → false ≡ true → A
 false-true e = absurd (let z : ◌≡◌ {A = ℕ} 0 1 = cc in omega arith)
-
-pub both : (a b : Bool) → a ≡ true → b ≡ true → (a && b) ≡ true
-both a b p q = rw (p, q)
 
 -- ══ Lengths ══
 
@@ -217,7 +215,7 @@ module _ (reader : Reader) where
           let y : (F && R) ≡ true = sym (rises-atom l a (map rules.atomOf p)) ∙ w in
           let many : suc (length p) ≡ n = g.many in
           record {
-            test = both L Fine (eq-eqb (longAt s at) 1 (factor-long f at g.held.0)) (both (A && S) F u (both_left F R y));
+            test = and_from L Fine (eq-eqb (longAt s at) 1 (factor-long f at g.held.0)) (and_from (A && S) F u (both_left F R y));
             rest = record {
               held = g.held.1;
               many = omega arith;
@@ -248,8 +246,8 @@ module _ (reader : Reader) where
               held = ((rw (atom-there a, unsigned num w) v, ap signed (unsigned num w), eqb-true (longAt s at) 1 (both_left L Fine t)), g.held);
               many = omega (arith, g.many);
               past = omega (arith, g.past);
-              good = both (G x) (goodFactors pool table q p) gx g.good;
-              rises = rises-atom l a (map rules.atomOf p) ∙ both F R (both_right (A && S) F fine) g.rises;
+              good = and_from (G x) (goodFactors pool table q p) gx g.good;
+              rises = rises-atom l a (map rules.atomOf p) ∙ and_from F R (both_right (A && S) F fine) g.rises;
             },
           )
       factors-step w t None bad = none_left bad
@@ -273,7 +271,7 @@ module _ (reader : Reader) where
           held = g.held;
           many = g.many;
           past = g.past;
-          good = both (goodFactors pool table q p && R) (leb (length p) 64) (both (goodFactors pool table q p) R g.good g.rises)
+          good = and_from (goodFactors pool table q p && R) (leb (length p) 64) (and_from (goodFactors pool table q p) R g.good g.rises)
               (le-leb (length p) 64 k);
         },
       )
@@ -336,7 +334,7 @@ module _ (reader : Reader) where
         many = omega (arith, g.many);
         past = omega (arith, h.past, g.past);
         deep = omega (arith, h.deep, g.deep);
-        good = both (goodTy pool table q t) (goodTys pool table q ts) h.good g.good;
+        good = and_from (goodTy pool table q t) (goodTys pool table q ts) h.good g.good;
       },
     )
     types-step m z (t, h) None bad = types-left m t h z bad
@@ -383,7 +381,7 @@ module _ (reader : Reader) where
           let ht : (H && T') ≡ true = both_left (H && T') R k in
           let many : suc (countFields fs) ≡ n = g.many in
           record {
-            test = both H W (both_left H T' ht) (both_left W S' y);
+            test = and_from H W (both_left H T' ht) (both_left W S' y);
             type = record { type = record { held = g.held.1; past = refl; deep = omega (arith, g.deep); good = both_right H T' ht }; long = g.held.3 };
             rest = record {
               held = g.held.2;
@@ -428,8 +426,8 @@ module _ (reader : Reader) where
               many = omega (arith, g.many);
               past = omega (arith, h.type.past, g.past);
               deep = omega (arith, h.type.deep, g.deep);
-              good = both (H && T') R (both H T' (both_left H W t) h.type.good) g.good;
-              rises = rises-name b x (fieldNames fs) ∙ both W S' (both_right H W t) g.rises;
+              good = and_from (H && T') R (and_from H T' (both_left H W t) h.type.good) g.good;
+              rises = rises-name b x (fieldNames fs) ∙ and_from W S' (both_right H W t) g.rises;
             },
           )
       fields-step m t (u, h) None bad = fields-left m u h bad
@@ -514,7 +512,7 @@ module _ (reader : Reader) where
         held = (rw f.many v, f.held, subst (Holds s t) f.past g.held);
         past = omega (arith, f.past, g.past);
         deep = omega (arith, f.deep, g.deep);
-        good = both (goodTys pool table q ps) (goodTy pool table q t) f.good g.good;
+        good = and_from (goodTys pool table q ps) (goodTy pool table q t) f.good g.good;
       })
       type-fn n m v (ps, f) None bad = fn-left n m ps v f bad
 
@@ -570,7 +568,7 @@ module _ (reader : Reader) where
               held = (rw (f.many, g.many) v, f.held, subst (HoldsFields s fs) f.past g.held);
               past = omega (arith, f.past, g.past);
               deep = omega (arith, f.deep, g.deep);
-              good = both ((H && A) && F) (rising (numbers pool table).order (fieldNames fs)) (both (H && A) F (both H A t f.good) g.good) g.rises;
+              good = and_from ((H && A) && F) (rising (numbers pool table).order (fieldNames fs)) (and_from (H && A) F (and_from H A t f.good) g.good) g.rises;
             })
         type-struct m t (as', f) None bad = struct_left m as' f bad
 

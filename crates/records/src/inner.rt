@@ -24,7 +24,8 @@ pub fn put(dst: &mut [u32], i: usize, w: u32)
     }
 }
 
-// Writes the record that says v and begins a part of n records, as far as the buffer goes.
+// Writes the record that says v and begins a part of n records, as far as the buffer goes. The place may lie far behind the buffer's end, but its number
+// times 4 is a number too.
 pub fn put_record(dst: &mut [u32], out: usize, v: View, n: usize)
     requires { out < 2 ^ 60 }
     ensures { dst.new ≡ sets dst.old (out * 4) (words (recOf v (fit n) ∷ [])) }

@@ -1,1 +1,5 @@
-pub mod Whole
+mod Tests
+mod Checks
+mod Standing
+mod Making
+mod Whole

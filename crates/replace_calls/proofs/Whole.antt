@@ -1,115 +1,83 @@
--- The calls past the check of 10: where their checks refuse, so do they; where these are met, they are what is made.
-use Rattle.std.specs.Prelude.{Result, Err, ◌≡◌, List, ◌++◌, ℕ, ◌+◌, ◌/◌, ◌≤◌, ◌<◌, replicate}
-use Rattle.std.proofs.Math.Path.{sym, ap}
-use Rattle.std.proofs.Common.{subst, ◌∙◌}
-use Rattle.std.proofs.Math.ListN.{length}
-use Rattle.rules.specs.Base.{Got, got, refused, ◌>>=◌, ◌>>◌, collect}
-use Rattle.rules.specs.Trees.{Open, Binding, opens, opensCon, size}
-use Rattle.rules.specs.Names.{table_of, lentTable}
-use Rattle.rules.specs.Refusals.{number_of, told}
-use Rattle.rules.specs.Calls.{
-  shortLists,
-  tableKept,
-  typeGiven,
-  setGiven,
-  bindingsGiven,
-  apart,
-  opensBinding,
-  typeCall,
-  setCall,
-  lent,
-  resultAfter,
-  replacedType,
-  replacedSet,
-  replaceTypeCall,
-  replaceSetCall,
-}
+-- The calls past the check of 10, and whole.
+use Rattle.std.specs.Prelude.{Result, Err, ◌≡◌, List, ◌++◌, ℕ, ◌+◌, ◌/◌, ◌≤◌, length, get_or, replicate}
+use Rattle.std.proofs.Common.{sym, ap, subst, ◌∙◌}
+use Rattle.rules.specs.Base.{Got, got, refused, ◌>>=◌, collect}
+use Rattle.rules.specs.Trees.{Ty, Con, Binding, opens, opensCon, size}
+use Rattle.rules.specs.Calls.{typeGiven, setGiven, bindingsGiven, opensBinding, lent, resultAfter, replacedType, replacedSet, replaceTypeCall, replaceSetCall}
+use Rattle.rules.specs.Names.{table_of}
+use Rattle.rules.specs.Refusals.{number_of}
 use Rattle.rules.specs.Writing.{Rec, words}
 use Rattle.rules.specs.declared.Refusal.{Refusal}
-use Rattle.rules.specs.declared.Refusal.TheVariants.{TooLarge}
+use Rattle.laws.specs.KnownNames.{every_append, ty-known}
 use Rattle.laws.specs.Lists.{clash}
+use Rattle.laws.specs.NameTable.{good-laid}
+use Rattle.names.specs.declared.tables.NameTable.{NameTable}
 use Rattle.records.specs.Found.{Words32}
-use Rattle.records.specs.Whole.{type-is, set_is}
-use Rattle.queries.specs.Runs.{set-opens}
+use Rattle.records.specs.Good.{numbers, holding}
+use Rattle.records.specs.Whole.{type-is, set_is, bindings-is}
+use Rattle.queries.specs.GoodOpens.{names-small}
+use Rattle.queries.specs.Marks.{Small}
+use Rattle.queries.specs.Runs.{set-opens, set-small, bindings-opens, bindings-small}
+use Rattle.queries.specs.Scans.{opensIn}
 use Rattle.queries.specs.ScanLaws.{type-opens}
 use Rattle.records_buffers.specs.Handed.{as_written, unwritten}
 use Rattle.records_buffers.specs.Told.{Made, handed}
-use Rattle.replace_calls.specs.Entry.{withBindings, Entered, entered, binds-long, row-then, stops, came-in, checked as all-checked}
-use Rattle.replace_calls.specs.Made.{madeType, madeSet}
 
 -- a refusal makes nothing
-refused-made : (m : Got (List Rec)) (w : List ℕ) (k : Refusal) → m ≡ refused (number_of k) → Made m w (Err k)
-refused-made m w k e = record { answer = sym (rw e); front = λ rs i. clash (sym e ∙ i) }
+pub refused-made : {m : Got (List Rec)} {w : List ℕ} (k : Refusal) → m ≡ refused (number_of k) → Made m w (Err k)
+refused-made k e = record { answer = sym (rw e); front = λ rs i. clash (sym e ∙ i) }
 
-module _ (pool table ws binds : List ℕ) where
-  -- all that a call does past the check of 10, from what it asks and what it makes
-  module _ {A : Type 0} (m : Got A) (os : A → List (Open ℕ)) (make : A → List (Binding ℕ) → Got (List Rec)) (all : Got (List Rec)) where
-    -- the call is its checks, then what it makes
-    abbrev pub Whole : Type 0
-    Whole = all ≡ (entered pool table ws binds m os >>= λ p. make p.0 p.1)
+pub as-made : {m m' : Got (List Rec)} {w : List ℕ} {r : Result ℕ Refusal} → m ≡ m' → Made m' w r → Made m w r
+as-made {m} {m'} {w} {r} e h = subst (λ (x : Got (List Rec)). Made x w r) (sym e) h
 
-    pub long-made : Whole → (w : List ℕ) → 8192 < length binds → Made all w (Err TooLarge)
-    long-made h w l = refused-made all w TooLarge (h ∙ ap (λ (x : Got (A × List (Binding ℕ))). x >>= λ p. make p.0 p.1) (binds-long pool table ws binds m os l))
+-- ══ The open names of what was given ══
 
-    pub unmet-made : Whole → (w : List ℕ) (k : Refusal) → (entered pool table ws binds m os >> got (tt {0})) ≡ refused (number_of k) → Made all w (Err k)
-    unmet-made h w k e = refused-made all w k (h ∙ stops (entered pool table ws binds m os) (λ p. make p.0 p.1) (number_of k) e)
+module _ (n : NameTable) (ws : List ℕ) (w : Words32 ws) where
+  abbrev pool : List ℕ
+  pool = n.pool.now
 
-    pub met-made : Whole → (w : List ℕ) (r : Result ℕ Refusal) (a : A) (bs : List (Binding ℕ)) → entered pool table ws binds m os ≡ got (a, bs)
-        → Made (make a bs) w r → Made all w r
-    met-made h w r a bs e k = subst (λ (x : Got (List Rec)). Made x w r) (sym (h ∙ ap (λ (x : Got (A × List (Binding ℕ))). x >>= λ p. make p.0 p.1) e)) k
+  abbrev table : List ℕ
+  table = n.table.now
 
-  pub type-whole : Whole (typeGiven (table_of pool table) ws) opens (madeType pool table) (replacedType (table_of pool table) ws binds)
-  unfolding replacedType entered
-  type-whole = row-then (λ t bs. apart (table_of pool table) (opens t ++ collect opensBinding bs)) (madeType pool table) (shortLists _)
-      (tableKept (table_of pool table)) (typeGiven (table_of pool table) ws) (bindingsGiven (table_of pool table) binds)
+  few : get_or table 0 0 ≤ 256
+  few = (good-laid n.good).few
 
-  pub set-whole : Whole (setGiven (table_of pool table) ws) (collect opensCon) (madeSet pool table) (replacedSet (table_of pool table) ws binds)
-  unfolding replacedSet entered
-  set-whole = row-then (λ cs bs. apart (table_of pool table) (collect opensCon cs ++ collect opensBinding bs)) (madeSet pool table) (shortLists _)
-      (tableKept (table_of pool table)) (setGiven (table_of pool table) ws) (bindingsGiven (table_of pool table) binds)
+  pub type-opened : (t : Ty ℕ) → typeGiven (table_of pool table) ws ≡ got t → opensIn ws 0 (length ws / 4) ≡ opens t
+  type-opened t e =
+      let k = type-is pool table ws w t e in
+      let z : length ws / 4 ≡ 0 + size t = k.past in
+      rw z (type-opens ws t 0 k.held)
 
-  -- what is known where the checks are met
-  module _ {A : Type 0} (m : Got A) (os : A → List (Open ℕ)) where
-    abbrev pub AllMet : Type 0
-    AllMet = (a : A) × ((bs : List (Binding ℕ)) × ((entered pool table ws binds m os ≡ got (a, bs)) × Entered pool table ws binds m a bs))
+  type-small : (t : Ty ℕ) → typeGiven (table_of pool table) ws ≡ got t → Small (opensIn ws 0 (length ws / 4))
+  type-small t e =
+      rw (type-opened t e)
+      (names-small pool table 0 (opens t) (ty-known (numbers pool table) (holding pool table) 0 t (type-is pool table ws w t e).good) few)
 
-  -- what the code's checks say: x of the list alone, y of the bindings beside it too
-  module _ (h : length binds ≤ 8192) (l : lentTable pool table ≡ got tt) (w : Words32 ws) (v : Words32 binds) (x y : Result (Unit {0}) Refusal) where
-    type-checked : told x ≡ typeCall pool table ws → told y ≡ withBindings pool table ws binds (told x)
-        → (entered pool table ws binds (typeGiven (table_of pool table) ws) opens >> got (tt {0})) ≡ told y
-    unfolding typeCall
-    type-checked e g =
-        sym (g ∙ ap (withBindings pool table ws binds) e ∙ all-checked pool table ws binds (typeGiven (table_of pool table) ws) opens h l v (λ t i.
-        let k = type-is pool table ws w t i in
-        let z : length ws / 4 ≡ 0 + size t = k.past in
-        rw z (type-opens ws t 0 k.held)))
+  pub set-opened : (cs : List (Con ℕ)) → setGiven (table_of pool table) ws ≡ got cs → opensIn ws 0 (length ws / 4) ≡ collect opensCon cs
+  set-opened cs e = set-opens pool table 0 ws cs 0 (length ws / 4) (set_is pool table ws w cs e)
 
-    set-checked : told x ≡ setCall pool table ws → told y ≡ withBindings pool table ws binds (told x)
-        → (entered pool table ws binds (setGiven (table_of pool table) ws) (collect opensCon) >> got (tt {0})) ≡ told y
-    unfolding setCall
-    set-checked e g =
-        sym (g ∙ ap (withBindings pool table ws binds) e ∙ all-checked pool table ws binds (setGiven (table_of pool table) ws) (collect opensCon) h l v (λ cs i.
-        set-opens pool table 0 ws cs 0 (length ws / 4) (set_is pool table ws w cs i)))
+  constraints-small : (cs : List (Con ℕ)) → setGiven (table_of pool table) ws ≡ got cs → Small (opensIn ws 0 (length ws / 4))
+  constraints-small cs e = set-small pool table 0 ws cs 0 (length ws / 4) (set_is pool table ws w cs e) few
 
-    pub type-met : told x ≡ typeCall pool table ws → told y ≡ withBindings pool table ws binds (told x) → told y ≡ got tt
-        → AllMet (typeGiven (table_of pool table) ws) opens
-    type-met e g q = came-in pool table ws binds (typeGiven (table_of pool table) ws) opens l (type-checked e g ∙ q)
+  pub bindings-opened : (bs : List (Binding ℕ)) → bindingsGiven (table_of pool table) ws ≡ got bs → opensIn ws 0 (length ws / 4) ≡ collect opensBinding bs
+  bindings-opened bs e = bindings-opens pool table 0 ws bs 0 (length ws / 4) (bindings-is pool table ws w bs e)
 
-    pub set-met : told x ≡ setCall pool table ws → told y ≡ withBindings pool table ws binds (told x) → told y ≡ got tt
-        → AllMet (setGiven (table_of pool table) ws) (collect opensCon)
-    set-met e g q = came-in pool table ws binds (setGiven (table_of pool table) ws) (collect opensCon) l (set-checked e g ∙ q)
+  binds-small : (bs : List (Binding ℕ)) → bindingsGiven (table_of pool table) ws ≡ got bs → Small (opensIn ws 0 (length ws / 4))
+  binds-small bs e = bindings-small pool table 0 ws bs 0 (length ws / 4) (bindings-is pool table ws w bs e) few
 
-    pub type-unmet : told x ≡ typeCall pool table ws → told y ≡ withBindings pool table ws binds (told x) → (work : List ℕ) (k : Refusal)
-        → told y ≡ refused (number_of k) → Made (replacedType (table_of pool table) ws binds) work (Err k)
-    type-unmet e g work k q =
-        unmet-made (typeGiven (table_of pool table) ws) opens (madeType pool table) (replacedType (table_of pool table) ws binds)
-        type-whole work k (type-checked e g ∙ q)
+module _ (n : NameTable) (ws binds : List ℕ) (w : Words32 ws) (v : Words32 binds) (bs : List (Binding ℕ))
+    (b : bindingsGiven (table_of n.pool.now n.table.now) binds ≡ got bs) where
+  abbrev Both : Type 0
+  Both = Small (opensIn ws 0 (length ws / 4) ++ opensIn binds 0 (length binds / 4))
 
-    pub set-unmet : told x ≡ setCall pool table ws → told y ≡ withBindings pool table ws binds (told x) → (work : List ℕ) (k : Refusal)
-        → told y ≡ refused (number_of k) → Made (replacedSet (table_of pool table) ws binds) work (Err k)
-    set-unmet e g work k q =
-        unmet-made (setGiven (table_of pool table) ws) (collect opensCon) (madeSet pool table) (replacedSet (table_of pool table) ws binds)
-        set-whole work k (set-checked e g ∙ q)
+  both-small : Small (opensIn ws 0 (length ws / 4)) → Both
+  both-small s = every_append _ (opensIn ws 0 (length ws / 4)) (opensIn binds 0 (length binds / 4)) s (binds-small n binds v bs b)
+
+  pub type-both : (t : Ty ℕ) → typeGiven (table_of n.pool.now n.table.now) ws ≡ got t → Both
+  type-both t e = both-small (type-small n ws w t e)
+
+  pub set-both : (cs : List (Con ℕ)) → setGiven (table_of n.pool.now n.table.now) ws ≡ got cs → Both
+  set-both cs e = both-small (constraints-small n ws w cs e)
 
 -- ══ The calls ══
 

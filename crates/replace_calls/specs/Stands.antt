@@ -1,65 +1,27 @@
--- What was written at the start of the work buffer is at most 2,048 records long and nested at most 64, or refused as 8.
-use Rattle.std.specs.Prelude.{Some, None, ◌≡◌, Bool, true, false, List, ℕ, ◌≤◌, ◌<◌, leb, min, length}
-use Rattle.std.proofs.Common.{sym, ap, subst, ◌∙◌, arith, leb-true, le-leb}
-use Rattle.std.proofs.Math.Decide.{dec_le}
-use Rattle.rules.specs.Base.{Got, got, refused, ◌>>=◌, bounded, sized, all, sum_of, max_of}
+-- What was written at the start of the work buffer, and how many records it has where it is short and flat enough.
+use Rattle.std.specs.Prelude.{◌≡◌, true, List, ℕ, ◌≤◌, min, length}
+use Rattle.rules.specs.Base.{Got, got, ◌>>=◌, bounded, sized, all, sum_of, max_of}
 use Rattle.rules.specs.Trees.{Ty, Con, size, depth, sizeCon, depthCon}
-use Rattle.rules.specs.WellFormed.{goodTy}
-use Rattle.laws.specs.Lists.{true≢false}
-use Rattle.laws.specs.Sized.{sized-kept, sized-long, sized-deep}
-use Rattle.records.specs.Good.{Ends, GoodTy, goodCon, numbers, holding}
+use Rattle.records.specs.Good.{goodTy, goodCon}
 use Rattle.records.specs.Holds.{Holds}
-use Rattle.records.specs.Parsed.{only}
-use Rattle.types.specs.Sets.{Cons, IsCons, one-set}
+use Rattle.types.specs.Sets.{IsCons}
 use Rattle.types.specs.Written.{last}
 
--- how many records a value has, or 8
-module _ {A : Type 0} (long deep : A → ℕ) where
-  abbrev pub counted : A → Got ℕ
-  counted a = sized bounded (long a) (deep a) a >>= λ b. got (long b)
-
-  module _ (n : ℕ) (a : A) (many : min n last ≡ min (long a) last) where
-    pub too_long : 2048 < n → refused 8 ≡ counted a
-    too_long h = let k : 2048 < long a = omega (arith, many) in sym (rw (sized-long (long a) (deep a) a k))
-
-    pub too-deep : 64 < deep a → refused 8 ≡ counted a
-    too-deep h = sym (rw (sized-deep (long a) (deep a) a h))
-
-    pub fitting : n ≤ 2048 → deep a ≤ 64 → got n ≡ counted a
-    fitting h k =
-        let i : long a ≤ 2048 = omega (arith, many) in
-        let e : n ≡ long a = omega (arith, many) in
-        ap got e ∙ sym (rw (sized-kept (long a) (deep a) a i k))
-
--- ══ A type ══
+-- how many records a value has; over 2,048 records, or nested over 64, is 8
+abbrev pub counted : {A : Type 0} → (A → ℕ) → (A → ℕ) → A → Got ℕ
+counted long deep a = sized bounded (long a) (deep a) a >>= λ b. got (long b)
 
 abbrev pub typeCounted : Ty ℕ → Got ℕ
 typeCounted u = counted size depth u
+
+abbrev pub setCounted : List (Con ℕ) → Got ℕ
+setCounted cs = counted (sum_of sizeCon) (max_of depthCon) cs
 
 -- n records of u stand at the start of w, where they are not too many
 pub record TypeStands (pool table w : List ℕ) (n : ℕ) (u : Ty ℕ) : Type 0 where
   pub many : min n last ≡ min (size u) last
   pub held : size u ≤ 2048 → Holds w u 0
-  pub good : goodTy (numbers pool table) (holding pool table) 0 u ≡ true
-
-module _ (pool table w : List ℕ) (n : ℕ) (u : Ty ℕ) (s : TypeStands pool table w n u) (h : n ≤ 2048) where
-  there : Holds w u 0
-  there = s.held (omega (arith, s.many))
-
-  pub type-shallow : (e : ℕ) → Ends (GoodTy pool table 0 w 64 0) (Some e) → got n ≡ typeCounted u
-  type-shallow e g = fitting size depth n u s.many h (subst (λ (t : Ty ℕ). depth t ≤ 64) (only w g.0 u 0 g.1.held there) g.1.deep)
-
-  pub type-deep : Ends (GoodTy pool table 0 w 64 0) None → refused 8 ≡ typeCounted u
-  type-deep f = go (dec_le (depth u) 64)
-    where
-      go : Dec (depth u ≤ 64) → refused 8 ≡ typeCounted u
-      go (yes k) = absurd (f u (size u) (record { held = there; past = omega arith; deep = k; good = s.good }))
-      go (no k) = too-deep size depth n u s.many (omega arith)
-
--- ══ A set ══
-
-abbrev pub setCounted : List (Con ℕ) → Got ℕ
-setCounted cs = counted (sum_of sizeCon) (max_of depthCon) cs
+  pub good : goodTy pool table 0 u ≡ true
 
 -- n records of these constraints stand at the start of w, where they are not too many
 pub record SetStands (pool table w : List ℕ) (n : ℕ) (cs : List (Con ℕ)) : Type 0 where
@@ -67,31 +29,3 @@ pub record SetStands (pool table w : List ℕ) (n : ℕ) (cs : List (Con ℕ)) :
   pub held : sum_of sizeCon cs ≤ 2048 → IsCons w 0 n cs
   pub near : sum_of sizeCon cs ≤ 2048 → length w ≤ 4_000_000_000
   pub good : all (goodCon pool table 0) cs ≡ true
-
-module _ (pool table w : List ℕ) (n : ℕ) (cs : List (Con ℕ)) (s : SetStands pool table w n cs) (h : n ≤ 2048) where
-  pub cons-there : IsCons w 0 n cs
-  cons-there = s.held (omega (arith, s.many))
-
-  pub near-there : length w ≤ 4_000_000_000
-  near-there = s.near (omega (arith, s.many))
-
-  -- whichever way it is told which constraints stand there
-  same-there : (p : Cons w 0 n) → cs ≡ p.0
-  same-there p = ap (λ (x : Cons w 0 n). x.0) (one-set w 0 n (cs, cons-there) p)
-
-  pub there-good : (p : Cons w 0 n) → all (goodCon pool table 0) p.0 ≡ true
-  there-good p = rw (← same-there p) s.good
-
-  module _ (p : Cons w 0 n) {b : Bool} (e : b ≡ leb (max_of depthCon p.0) 64) where
-    told : b ≡ leb (max_of depthCon cs) 64
-    told = rw (same-there p) e
-
-    pub set-shallow : b ≡ true → got n ≡ setCounted cs
-    set-shallow i = fitting (sum_of sizeCon) (max_of depthCon) n cs s.many h (leb-true (max_of depthCon cs) 64 (sym told ∙ i))
-
-    pub set-deep : b ≡ false → refused 8 ≡ setCounted cs
-    set-deep i = go (dec_le (max_of depthCon cs) 64)
-      where
-        go : Dec (max_of depthCon cs ≤ 64) → refused 8 ≡ setCounted cs
-        go (yes k) = absurd (true≢false (sym (le-leb (max_of depthCon cs) 64 k) ∙ sym told ∙ i))
-        go (no k) = too-deep (sum_of sizeCon) (max_of depthCon) n cs s.many (omega arith)

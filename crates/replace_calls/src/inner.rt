@@ -1,21 +1,26 @@
-// The steps of a call that replaces, past the check of 10.
-ghost use Rattle.std.specs.Prelude.{◌≡◌, List, ℕ, ◌/◌, ◌≤◌, length};
-ghost use Rattle.rules.specs.Base.{got, need};
-ghost use Rattle.rules.specs.Names.{table_of, lentTable};
+//! The steps of a call that replaces, past the check of 10.
+pub mod given;
+pub mod testing;
+
+ghost use Rattle.std.specs.Prelude.{◌≡◌, true, List, ℕ, ◌++◌, ◌/◌, ◌≤◌, length};
+ghost use Rattle.rules.specs.Base.{need, all};
 ghost use Rattle.rules.specs.Calls.{replacedSet, replacedType};
-ghost use Rattle.rules.specs.Trees.{Ty, Con, Binding};
+ghost use Rattle.rules.specs.Contents.{unmixed};
+ghost use Rattle.rules.specs.Names.{Bytes, numbered, table_of};
+ghost use Rattle.rules.specs.Refusals.{told};
+ghost use Rattle.rules.specs.Trees.{Ty, Con};
+ghost use Rattle.records.specs.Good.{goodTy, goodCon};
 ghost use Rattle.queries.specs.Marks.{Small};
 ghost use Rattle.queries.specs.Scans.{opensIn};
 ghost use Rattle.records_buffers.specs.Told.{Made};
-ghost use Rattle.rules.specs.Refusals.{told};
-ghost use Rattle.replace_calls.specs.Entry.{withBindings};
+ghost use Rattle.replace_calls.specs.Entry.{both_over};
 ghost use Rattle.replace_calls.specs.Stands.{TypeStands, SetStands, typeCounted, setCounted};
-ghost use Rattle.replace_calls.specs.Made.{madeType, madeSet, TypeEntered, SetEntered};
+ghost use Rattle.replace_calls.specs.Made.{madeType, madeSet};
 
+use given::{GivenBindings, GivenType};
 use names::tables::NameTable;
 use queries::inner::apart;
 use records::inner::type_end;
-use records::{is_bindings, is_set, is_type};
 use replace::inner::constraints::replace_constraints;
 use replace::inner::flat::constraints_flat;
 use replace::inner::walk::replace_type;
@@ -23,30 +28,19 @@ use replace::substitution::Substitution;
 use replace_table::inner::fill;
 use rules::{NAMES, NESTED, RECORD_WORDS, RECORDS, Refusal};
 use types::writer::Writer;
-use types::{Constraints, Type};
+use types::{Constraints, GivenSet, Type};
 
-// No, as refusal 4.
-fn unmixed_or(yes: bool) -> Result<(), Refusal>
-    ensures { told result ≡ need yes 4 }
+// 4 where a name of the two lists is a variable and a parameter.
+fn check_apart(words: &[u32], binds: &[u32]) -> Result<(), Refusal>
+    requires { Small (opensIn words.now 0 (length words.now / 4) ++ opensIn binds.now 0 (length binds.now / 4)) }
+    ensures { (names : List Bytes)
+        → told result ≡ need (unmixed (numbered names) (opensIn words.now 0 (length words.now / 4) ++ opensIn binds.now 0 (length binds.now / 4))) 4 }
 {
-    if yes { Ok(()) } else { Err(Refusal::Mixed) }
-}
-
-// The checks of the bindings beside a list that was checked: 1, then 4 over both.
-fn with_bindings(
-    first: Result<(), Refusal>,
-    pool: &[u8],
-    table: &[u32],
-    words: &[u32],
-    binds: &[u32],
-) -> Result<(), Refusal>
-    requires { told first ≡ got tt → Small (opensIn words.now 0 (length words.now / 4)) }
-    ensures { told result ≡ withBindings pool.now table.now words.now binds.now (told first) }
-{
-    first?;
-    is_bindings(pool, table, binds)?;
-    let n = words.len() / 4;
-    unmixed_or(apart(words, 0, n, binds, 0, binds.len() / 4))
+    if apart(words, 0, words.len() / 4, binds, 0, binds.len() / 4) {
+        Ok(())
+    } else {
+        Err(Refusal::Mixed)
+    }
 }
 
 // Is the type at the start, of n records, short and flat enough? How many records, or 8.
@@ -82,31 +76,27 @@ fn set_fits(names: NameTable, w: &[u32], n: usize) -> Result<usize, Refusal>
     }
 }
 
-// Writes the type with its bound variables replaced to the front of the work buffer: how many records, or why not.
-fn type_into(
-    names: NameTable,
-    words: &[u32],
-    binds: &[u32],
-    work: &mut [u32],
-) -> Result<usize, Refusal>
-    requires entered { (t : Ty ℕ) × ((bs : List (Binding ℕ)) × TypeEntered names words.now binds.now t bs) }
+// Writes a type with its bound variables replaced to the front of the work buffer: how many records, or why not.
+fn type_into(bindings: GivenBindings, t: Type, work: &mut [u32]) -> Result<usize, Refusal>
+    requires good { goodTy bindings.names.pool.now bindings.names.table.now 0 t.tree.0 ≡ true }
     requires room { 16384 ≤ length work.old }
-    ensures { (t : Ty ℕ) (bs : List (Binding ℕ)) → TypeEntered names.entry words.now binds.now t bs
-        → Made (madeType names.entry.pool.now names.entry.table.now t bs) work.new result }
+    ensures { Made (madeType (table_of bindings.entry.names.pool.now bindings.entry.names.table.now) t.entry.tree.0 bindings.entry.all.trees.0) work.new result }
 {
+    let names = bindings.names;
+    let all = bindings.all;
     let mut places = [0u32; NAMES];
-    fill(binds, 0, binds.len() / 4, &mut places);
+    fill(all.words, all.at, all.end, &mut places);
     let by = Substitution {
         names,
         places: &places,
-        types: binds,
+        types: all.words,
     };
     let (front, _) = work.split_at_mut(RECORD_WORDS);
     let mut out = Writer {
         words: front,
         at: 0,
     };
-    let put = replace_type(by, Type { words, at: 0 }, &mut out);
+    let put = replace_type(by, t, &mut out);
     let n = out.at;
     match put {
         Ok(()) => type_fits(names, front, n),
@@ -114,29 +104,20 @@ fn type_into(
     }
 }
 
-// The same for a set.
-fn set_into(
-    names: NameTable,
-    words: &[u32],
-    binds: &[u32],
-    work: &mut [u32],
-) -> Result<usize, Refusal>
-    requires entered { (cs : List (Con ℕ)) × ((bs : List (Binding ℕ)) × SetEntered names words.now binds.now cs bs) }
+// The same for constraints.
+fn set_into(bindings: GivenBindings, set: Constraints, work: &mut [u32]) -> Result<usize, Refusal>
+    requires good { all (goodCon bindings.names.pool.now bindings.names.table.now 0) set.trees.0 ≡ true }
     requires room { 16384 ≤ length work.old }
-    ensures { (cs : List (Con ℕ)) (bs : List (Binding ℕ)) → SetEntered names.entry words.now binds.now cs bs
-        → Made (madeSet names.entry.pool.now names.entry.table.now cs bs) work.new result }
+    ensures { Made (madeSet (table_of bindings.entry.names.pool.now bindings.entry.names.table.now) set.entry.trees.0 bindings.entry.all.trees.0) work.new result }
 {
+    let names = bindings.names;
+    let all = bindings.all;
     let mut places = [0u32; NAMES];
-    fill(binds, 0, binds.len() / 4, &mut places);
+    fill(all.words, all.at, all.end, &mut places);
     let by = Substitution {
         names,
         places: &places,
-        types: binds,
-    };
-    let set = Constraints {
-        words,
-        at: 0,
-        end: words.len() / 4,
+        types: all.words,
     };
     let (front, _) = work.split_at_mut(RECORD_WORDS);
     let mut out = Writer {
@@ -153,38 +134,38 @@ fn set_into(
 
 /// All that replacing in a type does past the check of 10; what it makes is left at the start of the work buffer. How many records.
 pub fn make_type(
-    pool: &[u8],
-    table: &[u32],
+    names: Result<NameTable, Refusal>,
     words: &[u32],
     binds: &[u32],
     work: &mut [u32],
 ) -> Result<usize, Refusal>
-    requires table_value { lentTable pool.now table.now ≡ got tt }
-    requires in_bounds { 16384 ≤ length work.old }
-    ensures { Made (replacedType (table_of pool.now table.now) words.now binds.now) work.new result }
+    requires { 16384 ≤ length work.old }
+    ensures { Made (both_over names.entry replacedType words.now binds.now) work.new result }
 {
     if RECORD_WORDS < binds.len() {
         return Err(Refusal::TooLarge);
     }
-    with_bindings(is_type(pool, table, words), pool, table, words, binds)?;
-    type_into(NameTable { pool, table }, words, binds, work)
+    let given = GivenType::new(names, words)?;
+    let bindings = GivenBindings::new(names, binds)?;
+    check_apart(words, binds)?;
+    type_into(bindings, given.whole, work)
 }
 
 /// The same for a set.
 pub fn make_set(
-    pool: &[u8],
-    table: &[u32],
+    names: Result<NameTable, Refusal>,
     words: &[u32],
     binds: &[u32],
     work: &mut [u32],
 ) -> Result<usize, Refusal>
-    requires table_value { lentTable pool.now table.now ≡ got tt }
-    requires in_bounds { 16384 ≤ length work.old }
-    ensures { Made (replacedSet (table_of pool.now table.now) words.now binds.now) work.new result }
+    requires { 16384 ≤ length work.old }
+    ensures { Made (both_over names.entry replacedSet words.now binds.now) work.new result }
 {
     if RECORD_WORDS < binds.len() {
         return Err(Refusal::TooLarge);
     }
-    with_bindings(is_set(pool, table, words), pool, table, words, binds)?;
-    set_into(NameTable { pool, table }, words, binds, work)
+    let given = GivenSet::new(names, words)?;
+    let bindings = GivenBindings::new(names, binds)?;
+    check_apart(words, binds)?;
+    set_into(bindings, given.all, work)
 }

@@ -8,6 +8,7 @@ ghost use Rattle.rules.specs.Calls.{replaceTypeCall, replaceSetCall};
 ghost use Rattle.records_buffers.specs.Told.{writtenAs};
 
 use inner::{make_set, make_type};
+use names::tables::NameTable;
 use records_buffers::inner::hand_over;
 use records_buffers::lent;
 use rules::Refusal;
@@ -26,7 +27,8 @@ pub fn replace_in_type(
     if !lent(pool, table, res, work) {
         return Err(Refusal::ShortBuffer);
     }
-    let made = make_type(pool, table, words, binds, work);
+    let names = NameTable::new(pool, table);
+    let made = make_type(names, words, binds, work);
     hand_over(made, res, work)
 }
 
@@ -44,6 +46,7 @@ pub fn replace_in_set(
     if !lent(pool, table, res, work) {
         return Err(Refusal::ShortBuffer);
     }
-    let made = make_set(pool, table, words, binds, work);
+    let names = NameTable::new(pool, table);
+    let made = make_set(names, words, binds, work);
     hand_over(made, res, work)
 }

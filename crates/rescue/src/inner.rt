@@ -78,7 +78,7 @@ fn put_byte(dst: &mut [u8], i: usize, b: u8)
     }
 }
 
-// Writes a word with its low byte first.
+// Writes a word with its low byte first, as far as the buffer goes: the place may lie behind its end, but the fourth from there has a number.
 fn put_word(dst: &mut [u8], i: usize, w: u32)
     requires { i < 2 ^ 60 }
     ensures { dst.new ≡ sets dst.old i (bytes_of (w ∷ [])) }

@@ -2,15 +2,15 @@
 use Rattle.rules.specs.declared.Refusal.{Refusal}
 use Rattle.std.specs.Prelude.{Result, ◌≡◌, Bool, ℕ, ◌+◌, ◌/◌, ◌≤◌, length, get_or}
 use Rattle.std.proofs.Math.Path.{refl, ap}
-use Rattle.std.proofs.Common.{sym, subst, ◌∙◌, arith, lt-ltb, eqb-true}
+use Rattle.std.proofs.Common.{sym, subst, ap₂, ◌∙◌, arith, lt-ltb, eqb-true}
 use Rattle.std.proofs.Math.Bool.{true, false}
 use mathlib.Core.List.{List, [], ◌∷◌, ◌++◌, map}
 use Rattle.std.proofs.Math.Option
 use Rattle.std.proofs.Math.Dec.{eqb}
 use Rattle.std.proofs.lemmas.List.{length-map}
-use Rattle.rules.specs.Base.{Got, got, refused, ◌>>=◌, ◌>>◌, need, bounded}
-use Rattle.rules.specs.Calls.{schemeGiven, opensScheme, lent, instantiated, instantiateCall}
-use Rattle.rules.specs.Names.{table_of, numbersOf, is_held}
+use Rattle.rules.specs.Base.{Got, got, refused, ◌>>=◌, ◌>>◌, need, bounded, all}
+use Rattle.rules.specs.Calls.{shortLists, tableKept, numbersGiven, apart, schemeGiven, opensScheme, lent, instantiated, instantiateCall}
+use Rattle.rules.specs.Names.{Table, table_of, numbersOf, is_held}
 use Rattle.rules.specs.Plain.{plain}
 use Rattle.rules.specs.Replacing.{replaceTy}
 use Rattle.rules.specs.Schemes.{Scheme, concrete, scheme, renamed, back, renamedBounds, put_back, instantiate}
@@ -19,21 +19,24 @@ use Rattle.rules.specs.Trees.{Names, Ty, size}
 use Rattle.rules.specs.Writing.{Rec, writeTy, writeBound}
 use Rattle.laws.specs.Lists.{All}
 use Rattle.laws.specs.NameTable.{held-is}
+use Rattle.names.specs.declared.tables.NameTable.{NameTable}
 use Rattle.laws.specs.Weaker.{ty-weaker}
 use Rattle.products.specs.Held.{law}
 use Rattle.schemes_renaming.proofs.Own.{own}
 use Rattle.schemes_renaming.proofs.PutBack.{Back, put-back, put-back-twice}
 use Rattle.records.specs.Found.{Words32}
 use Rattle.records.specs.Good.{GoodTy, GoodScheme}
-use Rattle.records.specs.Holds.{Shows}
 use Rattle.records.specs.Schemes.{scheme-is}
 use Rattle.schemes_handed.specs.Bounds.{Rename, allBounds, BoundsAt}
 use Rattle.records_buffers.specs.Handed.{as_written, unwritten}
 use Rattle.records_buffers.specs.Told.{Made, handed}
-use Rattle.schemes_instantiate.specs.Ready.{putBackAs, instantiatedAs, Slim, Ready, head_of, ReadyScheme}
-use Rattle.schemes.specs.Entry.{Entered}
-use Rattle.schemes.specs.Whole.{tells, all_renamed, chain-bounds, handed-on}
-use Rattle.schemes.specs.Wholes.{instantiatedFrom}
+use Rattle.schemes_handed.proofs.Tested.{chain-bounds}
+use Rattle.schemes_handed.specs.declared.Handed.{Handed}
+use Rattle.schemes_instantiate.specs.Ready.{putBackAs, instantiatedAs, Slim, Ready, ReadyScheme}
+use Rattle.schemes.specs.Entry.{short}
+use Rattle.schemes.proofs.Called.{handed-on}
+use Rattle.schemes.proofs.Rows.{IsRow}
+use Rattle.schemes.proofs.Whole.{tells, all_renamed}
 
 -- where bounds begin, and how many they are
 bounds-many : (s : List ℕ) (bs : List (tree.Open ℕ)) (at : ℕ) → BoundsAt s bs at → at + length bs ≡ length s / 4
@@ -61,10 +64,33 @@ written_out (got u) f cs = go (f u)
     go (got w) = refl
     go (refused k) = refl
 
+-- ══ The checks, one after another ══
+
+module _ (pool table : List ℕ) where
+  abbrev pub instantiatedFrom : List ℕ → Scheme ℕ → List (tree.Open ℕ) → Got (List Rec)
+  instantiatedFrom numbers s bs = instantiate (numbersOf (table_of pool table)) bounded numbers s >>= λ r. got (writeTy r.0 ++ map writeBound r.1)
+
+pub instantiate-row : (t : Table) (given numbers : List ℕ)
+    → IsRow {B = List (tree.Open ℕ)} (λ s. apart t (opensScheme s))
+    (λ s bs. instantiate (numbersOf t) bounded numbers s >>= λ r. got (writeTy r.0 ++ map writeBound r.1)) (short given [] numbers)
+    (tableKept t) (schemeGiven t given) (got []) (numbersGiven t numbers) (instantiated t given numbers)
+unfolding instantiated shortLists all
+instantiate-row t given numbers = record { is = refl }
+
 -- ══ A scheme that was given ══
 
-module _ (pool table s names : List ℕ) (w : Words32 s) (sc : Scheme ℕ) (none : List (tree.Open ℕ))
-    (n : Entered pool table s [] names (schemeGiven (table_of pool table) s) opensScheme sc none) where
+-- with the handed names of the table that it was given over
+module _ (h : Handed) (s : List ℕ) (w : Words32 s) (short : length s ≤ 8192) (sc : Scheme ℕ)
+    (g : schemeGiven (table_of h.names.pool.now h.names.table.now) s ≡ got sc) where
+  abbrev pool : List ℕ
+  pool = h.names.pool.now
+
+  abbrev table : List ℕ
+  table = h.names.table.now
+
+  abbrev names : List ℕ
+  names = h.numbers.now
+
   abbrev ν : Names ℕ
   ν = numbersOf (table_of pool table)
 
@@ -72,13 +98,13 @@ module _ (pool table s names : List ℕ) (w : Words32 s) (sc : Scheme ℕ) (none
   held = is_held (table_of pool table)
 
   known : All (λ x. held x ≡ true) names
-  known x i = held-is pool table x ∙ lt-ltb x (get_or table 0 0) (n.names-held x i)
+  known x i = held-is pool table x ∙ lt-ltb x (get_or table 0 0) (h.held x i)
 
   few : length names ≤ 4_294_967_296
-  few = let k = n.names-few in omega arith
+  few = let k = h.few in omega arith
 
   its : GoodScheme pool table s sc
-  its = scheme-is pool table s w sc n.one
+  its = scheme-is pool table s w sc g
 
   -- as many names as it quantifies
   module _ (t : Ty ℕ) (bs : List (tree.Open ℕ)) (i : sc ≡ scheme (length names) t bs) where
@@ -89,24 +115,24 @@ module _ (pool table s names : List ℕ) (w : Words32 s) (sc : Scheme ℕ) (none
     type-good = let (v, (e, (g, c)), m) = counted in subst (GoodTy pool table (length names) s 64 1 t) g.past g
 
     behind : BoundsAt s bs (1 + size t)
-    behind = let (v, (e, (g, c)), m) = counted in subst (BoundsAt s bs) g.past (chain-bounds pool table (length names) s e bs c)
+    behind = let (v, (e, (g, c)), m) = counted in subst (BoundsAt s bs) g.past (chain-bounds pool table s w true (length names) e bs c)
 
-    short : size t + length bs ≤ 2047
-    short = let m = bounds-many s bs (1 + size t) behind in let k = n.words-short in omega arith
+    within : size t + length bs ≤ 2047
+    within = let m = bounds-many s bs (1 + size t) behind in omega (arith, m, short)
 
     backed : (u : Ty ℕ) → replaceTy ν bounded (renamed (back names)) t ≡ got u
-        → Back ν (law pool table) held 4_294_967_296 (tells pool table 4_294_967_296 n.good) names known few t bs type-good.good
-        (omega (arith, short)) type-good.deep u
+        → Back ν (law pool table) held 4_294_967_296 (tells pool table 4_294_967_296 h.names.good) names known few t bs type-good.good
+        (omega (arith, within)) type-good.deep u
     backed u e =
-        put-back ν (law pool table) held 4_294_967_296 (tells pool table 4_294_967_296 n.good) names known few t bs type-good.good
-        (omega (arith, short)) type-good.deep u e
+        put-back ν (law pool table) held 4_294_967_296 (tells pool table 4_294_967_296 h.names.good) names known few t bs type-good.good
+        (omega (arith, within)) type-good.deep u e
 
-    slim : (u : Ty ℕ) → replaceTy ν bounded (renamed (back names)) t ≡ got u → Slim pool table names bs u
+    slim : (u : Ty ℕ) → replaceTy ν bounded (renamed (back names)) t ≡ got u → Slim h bs u
     slim u e =
         let b = backed u e in
         record {
           well = b.well;
-          few = omega (arith, b.first_fits, short);
+          few = omega (arith, b.first_fits, within);
           fits = λ x j.
               let z : got x ≡ got (plain u true) = sym j ∙ b.reads in
               let k : x ≡ plain u true = cc in
@@ -114,50 +140,42 @@ module _ (pool table s names : List ℕ) (w : Words32 s) (sc : Scheme ℕ) (none
               omega (arith, l, b.fits, renamed-many (back names) bs);
         }
 
-    ready : (work : List ℕ) → 16384 ≤ length work → Ready pool table names s work t bs
-    ready work room = record {
-      good = n.good;
-      type = record { held = type-good.held; good = ty-weaker ν held (length names) 4_294_967_296 few t type-good.good };
-      listed = behind;
-      inside = omega (arith, short);
-      short = n.words-short;
-      names-few = n.names-few;
-      names-held = n.names-held;
-      work-long = room;
-      slim = slim;
-    }
+    ready : Ready h t bs
+    ready = record { good = ty-weaker ν held (length names) 4_294_967_296 few t type-good.good; slim = slim }
 
     -- two walks and the bounds are what instantiating says
-    put-made : putBackAs pool table names t bs ≡ (put_back ν bounded names t bs >>= λ r. got (writeTy r.0 ++ map writeBound r.1))
+    put-made : putBackAs h t bs ≡ (put_back ν bounded names t bs >>= λ r. got (writeTy r.0 ++ map writeBound r.1))
     put-made =
-        let p = put-back-twice ν (law pool table) held 4_294_967_296 (tells pool table 4_294_967_296 n.good) names known few t bs type-good.good
-        (omega (arith, short)) type-good.deep in
+        let p = put-back-twice ν (law pool table) held 4_294_967_296 (tells pool table 4_294_967_296 h.names.good) names known few t bs type-good.good
+        (omega (arith, within)) type-good.deep in
         rw (all_renamed (back names) bs, p)
         (written_out (replaceTy ν bounded (renamed (back names)) t) (λ u. replaceTy ν bounded (renamed (own held)) u) (renamedBounds (back names) bs))
 
-  pub instantiate-ready : (work : List ℕ) → 16384 ≤ length work → ReadyScheme pool table names s work sc
-  instantiate-ready work room = record { head = go sc its; rest = λ m t bs e h. ready t bs (e ∙ ap (λ (i : ℕ). scheme i t bs) h) work room }
-    where
-      go : (x : Scheme ℕ) → GoodScheme pool table s x → Shows s 0 (head_of x)
-      go (concrete t) g = g.0
-      go (scheme m t bs) g = g.0
+  pub instantiate-ready : ReadyScheme h sc
+  instantiate-ready m t bs e k = ready t bs (e ∙ ap (λ (i : ℕ). scheme i t bs) k)
 
-  instantiate-made : instantiatedAs pool table names sc ≡ instantiatedFrom pool table s names sc none
+  instantiate-made : instantiatedAs h sc ≡ instantiatedFrom pool table names sc []
   unfolding instantiate
   instantiate-made = go sc refl
     where
-      go : (x : Scheme ℕ) → sc ≡ x → instantiatedAs pool table names x ≡ instantiatedFrom pool table s names x none
+      go : (x : Scheme ℕ) → sc ≡ x → instantiatedAs h x ≡ instantiatedFrom pool table names x []
       go (concrete t) e = refl
       go (scheme m t bs) e = more (eqb m (length names)) refl
         where
           more : (b : Bool) → eqb m (length names) ≡ b
-              → (need b 9 >> putBackAs pool table names t bs) ≡ ((need b 9 >> put_back ν bounded names t bs) >>= λ r. got (writeTy r.0 ++ map writeBound r.1))
-          more true h = put-made t bs (e ∙ ap (λ (i : ℕ). scheme i t bs) (eqb-true m (length names) h))
-          more false h = refl
+              → (need b 9 >> putBackAs h t bs) ≡ ((need b 9 >> put_back ν bounded names t bs) >>= λ r. got (writeTy r.0 ++ map writeBound r.1))
+          more true j = put-made t bs (e ∙ ap (λ (i : ℕ). scheme i t bs) (eqb-true m (length names) j))
+          more false j = refl
 
-  pub instantiate-met : (w' : List ℕ) (r : Result ℕ Refusal) → Made (instantiatedAs pool table names sc) w' r
-      → Made (instantiatedFrom pool table s names sc none) w' r
-  instantiate-met w' r k = subst (λ (m : Got (List Rec)). Made m w' r) instantiate-made k
+  pub instantiate-met : {n : NameTable} {numbers : List ℕ} → (h.names ≡ n) × (h.numbers.now ≡ numbers) → {w' : List ℕ} {r : Result ℕ Refusal}
+      → Made (instantiatedAs h sc) w' r → Made (instantiatedFrom n.pool.now n.table.now numbers sc []) w' r
+  instantiate-met e {w'} {r} k = subst (λ (m : Got (List Rec)). Made m w' r)
+      (instantiate-made ∙ ap₂ (λ (x : NameTable) (xs : List ℕ). instantiatedFrom x.pool.now x.table.now xs sc []) e.0 e.1) k
+
+-- what was given over a table was given over that of the handed names
+pub given-over : (h : Handed) {n : NameTable} (s : List ℕ) {sc : Scheme ℕ} → h.names ≡ n → schemeGiven (table_of n.pool.now n.table.now) s ≡ got sc
+    → schemeGiven (table_of h.names.pool.now h.names.table.now) s ≡ got sc
+given-over h s {sc} e g = subst (λ (x : NameTable). schemeGiven (table_of x.pool.now x.table.now) s ≡ got sc) (sym e) g
 
 -- ══ The call ══
 
@@ -171,5 +189,5 @@ module _ (pool table result work s names : List ℕ) where
       → handed (instantiated (table_of pool table) s names) result w ≡ instantiateCall pool table s names result work
   unfolding instantiateCall
   instantiate-called w n e =
-      handed-on pool table result work (instantiated (table_of pool table) s names) w n
+      handed-on (instantiated (table_of pool table) s names) result work w n
       ∙ as_written (lent pool table result work) (instantiated (table_of pool table) s names) result work e

@@ -1,2 +1,7 @@
-pub mod GivenScheme
-pub mod Instantiated
+mod Called
+mod Generalised
+mod Generalising
+mod Instantiated
+mod Rows
+mod Schemes
+mod Whole

@@ -11,6 +11,7 @@ ghost use Rattle.records_buffers.specs.Told.{writtenAs};
 use inner::generalising::make_generalised;
 use inner::instantiated::make_instantiated;
 use inner::making::make_quantified;
+use names::tables::NameTable;
 use records_buffers::inner::hand_over;
 use records_buffers::lent;
 use rules::Refusal;
@@ -30,7 +31,8 @@ pub fn quantify(
     if !lent(pool, table, res, work) {
         return Err(Refusal::ShortBuffer);
     }
-    let made = make_quantified(pool, table, words, bounds, names, work);
+    let tested = NameTable::new(pool, table);
+    let made = make_quantified(tested, words, bounds, names, work);
     hand_over(made, res, work)
 }
 
@@ -48,7 +50,8 @@ pub fn generalise(
     if !lent(pool, table, res, work) {
         return Err(Refusal::ShortBuffer);
     }
-    let made = make_generalised(pool, table, given, bounds, work);
+    let tested = NameTable::new(pool, table);
+    let made = make_generalised(tested, given, bounds, work);
     hand_over(made, res, work)
 }
 
@@ -66,6 +69,7 @@ pub fn instantiate(
     if !lent(pool, table, res, work) {
         return Err(Refusal::ShortBuffer);
     }
-    let made = make_instantiated(pool, table, given, names, work);
+    let tested = NameTable::new(pool, table);
+    let made = make_instantiated(tested, given, names, work);
     hand_over(made, res, work)
 }

@@ -21,7 +21,7 @@ use Rattle.schemes_renaming.proofs.Own.{own, own_is, own-known}
 use Rattle.records.specs.Holds.{Holds}
 use Rattle.replace.specs.Places.{word_of, SaysAt}
 use Rattle.replace.specs.Well.{GoodTy, Lent}
-use Rattle.schemes_handed.specs.Tables.{backPlaces, ownPlaces, own_types, back-places-long, own-places-long, own-types-long}
+use Rattle.schemes_handed.specs.Tables.{backPlaces, ownPlaces, ownTypes, back-places-long, own-places-long, own-types-long}
 use Rattle.schemes_handed.specs.Stored.{held-far, held-here}
 use Rattle.schemes_handed.specs.Said.{renamed-few, renamed-good, past}
 
@@ -65,17 +65,17 @@ unfolding ownPlaces
 own-rest zero d x h = refl
 own-rest (suc m) d x h = get_or-set_other (ownPlaces m d) m x (m + 1) 0 (λ e. omega arith) ∙ own-rest m d x (omega arith)
 
-own-type : (n : ℕ) (d : List ℕ) (x : ℕ) → n * 4 ≤ length d → x < n → Holds (own_types n d) (opened (tree.var x)) x
-unfolding own_types
+own-type : (n : ℕ) (d : List ℕ) (x : ℕ) → n * 4 ≤ length d → x < n → Holds (ownTypes n d) (opened (tree.var x)) x
+unfolding ownTypes
 own-type zero d x h l = absurd (omega arith)
 own-type (suc m) d x h l = go (dec_lt x m) (λ i. own-type m d x (omega arith) i)
   where
-    go : Dec (x < m) → (x < m → Holds (own_types m d) (opened (tree.var x)) x) → Holds (own_types (suc m) d) (opened (tree.var x)) x
-    go (yes i) r = held-far (own_types m d) m (head 1 1) m 0 0 x (tree.var x) (λ e. omega arith) (r i)
+    go : Dec (x < m) → (x < m → Holds (ownTypes m d) (opened (tree.var x)) x) → Holds (ownTypes (suc m) d) (opened (tree.var x)) x
+    go (yes i) r = held-far (ownTypes m d) m (head 1 1) m 0 0 x (tree.var x) (λ e. omega arith) (r i)
     go (no i) r =
         let e : x ≡ m = omega arith in
         let k = own-types-long m d in
-        rw e (held-here (own_types m d) m (head 1 1) m 0 0 (tree.var m) refl (omega arith))
+        rw e (held-here (ownTypes m d) m (head 1 1) m 0 0 (tree.var m) refl (omega arith))
 
 -- ══ The renamings ══
 
@@ -84,7 +84,7 @@ module _ (pool table : List ℕ) (few : get_or table 0 0 ≤ 256) where
   held = get_or table 0 0
 
   abbrev pub ownedTypes : List ℕ
-  ownedTypes = own_types held (replicate 1024 0)
+  ownedTypes = ownTypes held (replicate 1024 0)
 
   types-near : length ownedTypes ≤ 4_000_000_000
   types-near = let l = own-types-long held (replicate 1024 0) in let n = length-replicate {A = ℕ} 1024 0 in omega arith

@@ -1,7 +1,8 @@
 -- Bounds with their names renamed: those that aren't renamed stay, or are left out.
 use Rattle.std.specs.Prelude.{◌≡◌, Bool, true, false, ℕ, ◌+◌, ◌*◌, ◌/◌, ◌≤◌, ◌<◌, length}
 use Rattle.std.proofs.Math.Path.{refl, sym, ap}
-use Rattle.std.proofs.Common.{subst, ◌∙◌, arith}
+use Rattle.std.proofs.Common.{subst, ap₂, ◌∙◌, arith}
+use mathlib.Core.HLevel.{Σ_prop_path}
 use mathlib.Core.List.{List, [], ◌∷◌, ◌++◌, map}
 use Rattle.std.proofs.Math.Option.{Option, none, some}
 use Rattle.std.proofs.lemmas.List.{map-append}
@@ -24,6 +25,7 @@ use Rattle.records.specs.Cut.{fit, fits}
 use Rattle.types.specs.declared.Shape.{Shape}
 use Rattle.types.specs.declared.Shape.TheVariants as shape
 use Rattle.types.specs.declared.writer.Writer.{Writer}
+use Rattle.types.specs.Once.{ℕ-set, View-set}
 use Rattle.types.specs.Shapes.{whole}
 use Rattle.types.specs.Written.{Writes, writes-none, writes-then}
 
@@ -50,16 +52,39 @@ unfoldable pub BoundsAt : List ℕ → List (tree.Open ℕ) → ℕ → Type 0
 BoundsAt s [] at = at ≡ length s / 4
 BoundsAt s (o ∷ bs) at = Shows s at (view.Bound (viewOpen o)) × BoundsAt s bs (at + 1)
 
+pub open-view : (o : tree.Open ℕ) → openOf (viewOpen o) ≡ o
+open-view (tree.var x) = refl
+open-view (tree.quant i) = refl
+open-view (tree.par x) = refl
+
+-- they are one list, in one way
+only-bounds : (s : List ℕ) (bs cs : List (tree.Open ℕ)) (at : ℕ) → BoundsAt s bs at → BoundsAt s cs at → bs ≡ cs
+unfolding BoundsAt
+only-bounds s [] [] at h k = refl
+only-bounds s [] (u ∷ cs) at h k = absurd (let z = seen-in s at k.0 tt in omega (arith, z, h))
+only-bounds s (o ∷ bs) [] at h k = absurd (let z = seen-in s at h.0 tt in omega (arith, z, k))
+only-bounds s (o ∷ bs) (u ∷ cs) at h k =
+    let z : view.Bound (viewOpen o) ≡ view.Bound (viewOpen u) = sym h.0 ∙ k.0 in
+    let y : viewOpen o ≡ viewOpen u = cc in
+    ap₂ ◌∷◌ (sym (open-view o) ∙ ap openOf y ∙ open-view u) (only-bounds s bs cs (at + 1) h.1 k.1)
+
+bounds-once : (s : List ℕ) (bs : List (tree.Open ℕ)) (at : ℕ) → IsProp (BoundsAt s bs at)
+unfolding BoundsAt
+bounds-once s [] at = ℕ-set at (length s / 4)
+bounds-once s (o ∷ bs) at = Prim.hlevel (ℕ-set, View-set, bounds-once s bs (at + 1))
+
+-- the bounds from a place to the end
+abbrev pub BoundList : List ℕ → ℕ → Type 0
+BoundList s at = (bs : List (tree.Open ℕ)) × BoundsAt s bs at
+
+pub one-bounds : (s : List ℕ) (at : ℕ) → IsProp (BoundList s at)
+one-bounds s at p q = Σ_prop_path (λ bs. bounds-once s bs at) (only-bounds s p.0 q.0 at p.1 q.1)
+
 -- what names become is the renaming
 abbrev pub Renames : (tree.Open ℕ → Option (Ty ℕ)) → Rename → Type 0
 Renames look f = (o : tree.Open ℕ) → look o ≡ renamed f o
 
 -- ══ One bound ══
-
-pub open-view : (o : tree.Open ℕ) → openOf (viewOpen o) ≡ o
-open-view (tree.var x) = refl
-open-view (tree.quant i) = refl
-open-view (tree.par x) = refl
 
 -- a bound's record, as the trees write it
 pub bound-rec : (o : Open) → recOf (view.Bound o) 1 ≡ writeBound (openOf o)

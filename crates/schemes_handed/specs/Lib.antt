@@ -3,3 +3,4 @@ pub mod Stored
 pub mod Said
 pub mod Bounds
 pub mod Back
+pub mod Given

@@ -1,6 +1,6 @@
 -- The words of the tables: places by name, and the types that they point to. A name's type stands at the place of its number.
 use Rattle.std.specs.Prelude.{◌≡◌, refl, length, get_or, drop}
-use Rattle.std.proofs.Common.{sym, ◌∙◌, drop_of_length-le, length-set, drop-cons}
+use Rattle.std.proofs.Common.{sym, ◌∙◌, add-one, drop_of_length-le, length-set, drop-cons}
 use Rattle.std.proofs.Math.Path.{ap}
 use mathlib.Core.List.{List, [], ◌∷◌}
 use Prim.Native.Nat.{ℕ, zero, suc, ◌+◌, ◌*◌, ◌<◌}
@@ -28,9 +28,9 @@ unfoldable pub ownPlaces : ℕ → List ℕ → List ℕ
 ownPlaces zero d = d
 ownPlaces (suc x) d = set (ownPlaces x d) x (x + 1)
 
-unfoldable pub own_types : ℕ → List ℕ → List ℕ
-own_types zero d = d
-own_types (suc x) d = sets (own_types x d) (x * 4) (words (rec (head 1 1) x 0 0 ∷ []))
+unfoldable pub ownTypes : ℕ → List ℕ → List ℕ
+ownTypes zero d = d
+ownTypes (suc x) d = sets (ownTypes x d) (x * 4) (words (rec (head 1 1) x 0 0 ∷ []))
 
 -- ══ One name more ══
 
@@ -72,16 +72,13 @@ module _ (names : List ℕ) (i : ℕ) (e : i ≡ length names) where
 
 -- one more of the first names
 module _ (x : ℕ) where
-  next_one : x + 1 ≡ suc x
-  next_one = omega arith
-
   pub own-places : (d p p' : List ℕ) → p ≡ ownPlaces x d → p' ≡ set p x (x + 1) → p' ≡ ownPlaces (x + 1) d
   unfolding ownPlaces
-  own-places d p p' a b = b ∙ ap (λ (l : List ℕ). set l x (x + 1)) a ∙ ap (λ (n : ℕ). ownPlaces n d) (sym next_one)
+  own-places d p p' a b = b ∙ ap (λ (l : List ℕ). set l x (x + 1)) a ∙ ap (λ (n : ℕ). ownPlaces n d) (sym (add-one x))
 
-  pub own-types : (d v v' : List ℕ) → v ≡ own_types x d → v' ≡ sets v (x * 4) (words (rec (head 1 1) x 0 0 ∷ [])) → v' ≡ own_types (x + 1) d
-  unfolding own_types
-  own-types d v v' a b = b ∙ ap (λ (l : List ℕ). sets l (x * 4) (words (rec (head 1 1) x 0 0 ∷ []))) a ∙ ap (λ (n : ℕ). own_types n d) (sym next_one)
+  pub own-types : (d v v' : List ℕ) → v ≡ ownTypes x d → v' ≡ sets v (x * 4) (words (rec (head 1 1) x 0 0 ∷ [])) → v' ≡ ownTypes (x + 1) d
+  unfolding ownTypes
+  own-types d v v' a b = b ∙ ap (λ (l : List ℕ). sets l (x * 4) (words (rec (head 1 1) x 0 0 ∷ []))) a ∙ ap (λ (n : ℕ). ownTypes n d) (sym (add-one x))
 
 -- ══ Their lengths ══
 
@@ -105,7 +102,7 @@ unfolding ownPlaces
 own-places-long zero d = refl
 own-places-long (suc x) d = let r = own-places-long x d in simp length-set r
 
-pub own-types-long : (x : ℕ) (d : List ℕ) → length (own_types x d) ≡ length d
-unfolding own_types
+pub own-types-long : (x : ℕ) (d : List ℕ) → length (ownTypes x d) ≡ length d
+unfolding ownTypes
 own-types-long zero d = refl
-own-types-long (suc x) d = length-sets (own_types x d) (x * 4) (words (rec (head 1 1) x 0 0 ∷ [])) ∙ own-types-long x d
+own-types-long (suc x) d = length-sets (ownTypes x d) (x * 4) (words (rec (head 1 1) x 0 0 ∷ [])) ∙ own-types-long x d

@@ -1,3 +1,4 @@
-// Work whose callers know that the handed names are held.
+//! The tests that make values of lists, and the work with these values.
 pub mod bounds;
+pub mod given;
 pub mod tables;

@@ -1,12 +1,14 @@
--- What an answer says beside the call's own words.
-use Rattle.std.specs.Prelude.{Bool, List, ℕ, ◌+◌, drop}
-use Rattle.calls_defined.specs.Saying.{pick}
+-- An answer: what the call said, what the buffers hold, and both in bytes.
+use Rattle.std.specs.Prelude.{Bool, List, [], ◌∷◌, ◌++◌, ℕ, ◌+◌, ◌*◌, ◌-◌, eqb, length, take, drop, replicate}
+use Rattle.calls_defined.specs.Saying.{pick, word}
 use Rattle.calls_defined.specs.Same.{same}
+use Rattle.calls_defined.specs.Dispatch.{Served, dispatch}
+use Rattle.calls_defined.specs.declared.Asked.{Asked}
+use Rattle.calls_defined.specs.declared.numbers.Call.{Call}
 use Rattle.calls_defined.specs.declared.told.Told.{Told}
-
--- no request: all ones in the place of the refusal, and what is wrong
-abbrev pub faultAs : ℕ → Told
-faultAs n = record { refusal = 4294967295; value = n; more = 0; rounds = 0; words = 0 }
+use Rattle.serve.specs.Bytes.{bytes_of}
+use Rattle.serve.specs.Requests.{Lending, lendingOf}
+use Rattle.serve.specs.declared.request.Header.{Header}
 
 abbrev pub flagOf : Bool → ℕ → ℕ
 flagOf is n = pick is n 0
@@ -15,3 +17,32 @@ flagOf is n = pick is n 0
 abbrev pub flags_of : ℕ → ℕ → ℕ → List ℕ → List ℕ → ℕ
 flags_of words resultwas workwas result work =
     flagOf (same (drop words result) resultwas) 1 + flagOf (same (drop 0 work) 0) 2 + flagOf (same (drop 0 work) workwas) 4
+
+-- an answer: its length in bytes, what is told, the flags, how many words are the answer's, and the words behind
+abbrev pub answerOf : Told → ℕ → List ℕ → List ℕ
+answerOf t flags behind = word (28 + length behind * 4) ∷ t.refusal ∷ t.value ∷ t.more ∷ t.rounds ∷ flags ∷ word t.words ∷ behind
+
+-- the first n words of a buffer, 0 where it is shorter; then both buffers whole, where the request asks for them
+abbrev pub behindOf : Header → ℕ → List ℕ → List ℕ → List ℕ
+behindOf h n result work = (take n result ++ replicate (n - length result) 0) ++ pick (eqb h.show 0) [] (result ++ work)
+
+abbrev pub saidBy : Header → Served → List ℕ
+saidBy h s = answerOf s.told (flags_of s.told.words h.resultwas h.workwas s.result s.work) (behindOf h s.told.words s.result s.work)
+
+abbrev pub askedBy : Header → Asked
+askedBy h = record { x = h.x; y = h.y }
+
+abbrev pub dispatchOn : Call → Header → Lending → Served
+dispatchOn call h l = dispatch (askedBy h) l.pool l.table l.a l.b l.c l.d l.result l.work call
+
+-- what is written for a request that can be served: the call's own answer on what was sent
+unfoldable pub replyTo : Call → Header → List ℕ → List ℕ
+replyTo call h body = bytes_of (saidBy h (dispatchOn call h (lendingOf h body)))
+
+-- no request: all ones in the place of the refusal, and what is wrong
+abbrev pub faultAs : ℕ → Told
+faultAs n = record { refusal = 4294967295; value = n; more = 0; rounds = 0; words = 0 }
+
+-- what is written for what is no request
+unfoldable pub faultReply : ℕ → List ℕ
+faultReply n = bytes_of (answerOf (faultAs n) 0 [])

@@ -1,13 +1,13 @@
--- The head of a request: sixteen words of four bytes, the lowest first; and what makes it a request that can be served.
-use Rattle.std.specs.Prelude.{◌≡◌, refl, Bool, true, false, List, ℕ, ◌+◌, ◌*◌, ◌-◌, ◌/◌, ◌≤◌, ltb, eqb, length, get_or}
-use Rattle.std.proofs.Common.{arith, ltb-false}
+-- The head of a request, sixteen words; what makes it a request that can be served; and what such a request lends.
+use Rattle.std.specs.Prelude.{Option, None, Some, Result, Ok, Err, List, ◌++◌, ℕ, ◌+◌, ◌*◌, ◌-◌, ◌/◌, ltb, eqb, length, take, drop, replicate}
+use Rattle.calls_defined.specs.Numbers.{callOf}
 use Rattle.calls_defined.specs.Saying.{pick}
+use Rattle.calls_defined.specs.declared.numbers.Call.{Call}
+use Rattle.serve.specs.Bytes.{word_at, words_in}
+use Rattle.serve.specs.declared.lent.Lent.{Lent}
+use Rattle.serve.specs.declared.request.Fault.{Fault}
+use Rattle.serve.specs.declared.request.Fault.TheVariants.{Torn, Unknown, TooLong, Untrue}
 use Rattle.serve.specs.declared.request.Header.{Header}
-
--- the word whose four bytes stand at a place; 0 past the end
-unfoldable pub word_at : List ℕ → ℕ → ℕ
-word_at s at = pick (ltb (length s) 4) 0
-    (pick (ltb (length s - 4) at) 0 (get_or s at 0 + get_or s (at + 1) 0 * 256 + get_or s (at + 2) 0 * 65536 + get_or s (at + 3) 0 * 16777216))
 
 abbrev pub head_of : List ℕ → Header
 head_of s = record {
@@ -52,63 +52,79 @@ filledTo n = (n + 3) / 4 * 4
 abbrev pub parts_of : Header → ℕ
 parts_of h = filledTo h.pool + (h.table + h.a + h.b + h.c + h.d) * 4
 
--- 2: no call has this number; 3: something is over its room; 4: the body is not as long as its parts; 0: it can be served
-unfoldable pub faultOf : Header → ℕ
-faultOf h = pick (ltb h.call 1) 2 (pick (ltb 32 h.call) 2 (pick (ltb 0 (excessOf h)) 3 (pick (eqb h.body (parts_of h)) 0 4)))
+abbrev pub faultNumber : Fault → ℕ
+faultNumber Torn = 1
+faultNumber Unknown = 2
+faultNumber TooLong = 3
+faultNumber Untrue = 4
 
--- everything has room
-pub record Fits (h : Header) : Type 0 where
-  pub result : h.result ≤ 533504
-  pub work : h.work ≤ 20480
-  pub pool : h.pool ≤ 9216
-  pub table : h.table ≤ 512
-  pub a : h.a ≤ 10240
-  pub b : h.b ≤ 10240
-  pub c : h.c ≤ 10240
-  pub d : h.d ≤ 10240
-  pub body : h.body ≤ 98304
+-- of a call that there is: its request has room, and a body as long as its parts
+abbrev pub servedAs : Header → Option Call → Result Call Fault
+servedAs h None = Err Unknown
+servedAs h (Some call) = pick (ltb 0 (excessOf h)) (Err TooLong) (pick (eqb h.body (parts_of h)) (Ok call) (Err Untrue))
 
-under : (n most : ℕ) → overBy n most ≤ 0 → n ≤ most
-under n most = go (ltb most n) refl
-  where
-    go : (t : Bool) → ltb most n ≡ t → pick t 1 0 ≤ 0 → n ≤ most
-    go true e h = absurd (omega arith)
-    go false e h = ltb-false most n e
+-- the call that a request is for, or the first thing that is wrong with it
+unfoldable pub requestOf : Header → Result Call Fault
+requestOf h = servedAs h (callOf h.call)
 
-within : (n show : ℕ) → n ≤ roomOf show → n ≤ 533504
-within n show = go (eqb show 0)
-  where
-    go : (t : Bool) → n ≤ pick t 533504 9216 → n ≤ 533504
-    go true l = l
-    go false l = omega arith
+-- ══ What a request lends ══
 
-pub fits : (h : Header) → excessOf h ≤ 0 → Fits h
-unfolding excessOf
-fits h e = record {
-  result = within h.result h.show (under h.result (roomOf h.show) (omega arith));
-  work = under h.work 20480 (omega arith);
-  pool = under h.pool 9216 (omega arith);
-  table = under h.table 512 (omega arith);
-  a = under h.a 10240 (omega arith);
-  b = under h.b 10240 (omega arith);
-  c = under h.c 10240 (omega arith);
-  d = under h.d 10240 (omega arith);
-  body = under h.body 98304 (omega arith);
+-- where the parts of the body begin
+abbrev pub tableAt : Header → ℕ
+tableAt h = filledTo h.pool
+
+abbrev pub aAt : Header → ℕ
+aAt h = tableAt h + h.table * 4
+
+abbrev pub bAt : Header → ℕ
+bAt h = aAt h + h.a * 4
+
+abbrev pub cAt : Header → ℕ
+cAt h = bAt h + h.b * 4
+
+abbrev pub dAt : Header → ℕ
+dAt h = cAt h + h.c * 4
+
+-- with so much behind that it has n elements at the least
+abbrev pub padded : {A : Type 0} → List A → ℕ → A → List A
+padded s n x = s ++ replicate (n - length s) x
+
+-- a whole name table's length, where the request asks for one
+abbrev pub leastOf : Header → ℕ → ℕ
+leastOf h n = pick (eqb h.whole 0) 0 n
+
+-- a name table, four lists and two buffers
+pub record Lending : Type 0 where
+  pub pool : List ℕ
+  pub table : List ℕ
+  pub a : List ℕ
+  pub b : List ℕ
+  pub c : List ℕ
+  pub d : List ℕ
+  pub result : List ℕ
+  pub work : List ℕ
+
+unfoldable pub lendingOf : Header → List ℕ → Lending
+lendingOf h body = record {
+  pool = padded (take h.pool body) (leastOf h 8192) 0;
+  table = padded (words_in (drop (tableAt h) body) h.table) (leastOf h 257) 0;
+  a = words_in (drop (aAt h) body) h.a;
+  b = words_in (drop (bAt h) body) h.b;
+  c = words_in (drop (cAt h) body) h.c;
+  d = words_in (drop (dAt h) body) h.d;
+  result = replicate h.result h.resultwas;
+  work = replicate h.work h.workwas;
 }
 
--- a request that can be served has room
-pub served : (h : Header) → faultOf h ≡ 0 → Fits h
-unfolding faultOf
-served h = first (ltb h.call 1)
-  where
-    third : (t : Bool) → ltb 0 (excessOf h) ≡ t → ◌≡◌ {A = ℕ} (pick t 3 (pick (eqb h.body (parts_of h)) 0 4)) 0 → Fits h
-    third true e z = absurd (omega arith)
-    third false e z = fits h (ltb-false 0 (excessOf h) e)
-
-    second : (t : Bool) → ◌≡◌ {A = ℕ} (pick t 2 (pick (ltb 0 (excessOf h)) 3 (pick (eqb h.body (parts_of h)) 0 4))) 0 → Fits h
-    second true z = absurd (omega arith)
-    second false z = third (ltb 0 (excessOf h)) refl z
-
-    first : (t : Bool) → ◌≡◌ {A = ℕ} (pick t 2 (pick (ltb 32 h.call) 2 (pick (ltb 0 (excessOf h)) 3 (pick (eqb h.body (parts_of h)) 0 4)))) 0 → Fits h
-    first true z = absurd (omega arith)
-    first false z = second (ltb 32 h.call) z
+-- the same of the program's lists
+abbrev pub lent_as : Lent → Lending
+lent_as l = record {
+  pool = l.pool.items;
+  table = l.table.items;
+  a = l.a.items;
+  b = l.b.items;
+  c = l.c.items;
+  d = l.d.items;
+  result = l.result.items;
+  work = l.work.items;
+}

@@ -7,15 +7,11 @@ mod lent;
 mod reply;
 mod request;
 
-ghost use Rattle.serve.specs.Requests.{Fits};
-
-use calls::called;
-use calls_defined::{Asked, Lists};
+use calls_defined::numbers::Call;
 use filling::fill_front;
-use lent::Lent;
-use reply::{answer, no_request, told_alone};
-use request::{HEAD, Header, TORN, fault, header_from};
-use std::alloc::{AllocError, Global};
+use reply::{fault_reply, reply};
+use request::{Fault, HEAD, Header, call_of, header_from};
+use std::alloc::Global;
 use std::io;
 use std::io::{Read, Write};
 
@@ -28,33 +24,6 @@ const BLOCK: usize = 4096;
 /// What stopped a read before its last byte: `Ok` where the input ended.
 type Short = io::Result<()>;
 
-/// The call, and its answer in bytes.
-fn answered(alloc: Global, h: Header, body: &[u8]) -> Result<Vec<u8>, AllocError>
-    requires { Fits h }
-{
-    let mut lent = Lent::new(alloc, h, body)?;
-    let asked = Asked {
-        call: h.call,
-        x: h.x,
-        y: h.y,
-    };
-    let lists = Lists {
-        a: &lent.a,
-        b: &lent.b,
-        c: &lent.c,
-        d: &lent.d,
-    };
-    let told = called(
-        asked,
-        lists,
-        &mut lent.pool,
-        &mut lent.table,
-        &mut lent.result,
-        &mut lent.work,
-    );
-    answer(alloc, &told, h, &lent.result, &lent.work)
-}
-
 /// Fills a buffer, or says what stopped it.
 fn read_whole(from: &mut impl Read, buf: &mut [u8]) -> Result<(), Short> {
     let (got, read) = fill_front(from, buf);
@@ -62,13 +31,13 @@ fn read_whole(from: &mut impl Read, buf: &mut [u8]) -> Result<(), Short> {
 }
 
 /// Says that this was no request.
-fn say_fault(alloc: Global, to: &mut impl Write, fault: u32) -> io::Result<()> {
-    to.write_all(&told_alone(alloc, &no_request(fault))?)
+fn say_fault(alloc: Global, to: &mut impl Write, fault: Fault) -> io::Result<()> {
+    to.write_all(&fault_reply(alloc, fault)?)
 }
 
 /// Says that the request is torn. Nothing is to come, and a read that failed is handed on.
 fn say_torn(alloc: Global, to: &mut impl Write, short: Short) -> io::Result<bool> {
-    say_fault(alloc, to, TORN)?;
+    say_fault(alloc, to, Fault::Torn)?;
     short?;
     Ok(false)
 }
@@ -78,15 +47,14 @@ fn serve_body<R: Read, W: Write>(
     alloc: Global,
     from: &mut R,
     to: &mut W,
+    call: Call,
     h: Header,
-) -> io::Result<bool>
-    requires { Fits h }
-{
+) -> io::Result<bool> {
     let mut body = vec![in alloc; 0u8; h.body as usize]?;
     if let Err(short) = read_whole(from, &mut body) {
         return say_torn(alloc, to, short);
     }
-    to.write_all(&answered(alloc, h, &body)?)?;
+    to.write_all(&reply(alloc, call, h, &body)?)?;
     Ok(true)
 }
 
@@ -105,7 +73,7 @@ fn pass<R: Read, W: Write>(
     from: &mut R,
     to: &mut W,
     h: Header,
-    fault: u32,
+    fault: Fault,
 ) -> io::Result<bool> {
     if let Err(short) = skip(from, h.body as usize) {
         return say_torn(alloc, to, short);
@@ -126,9 +94,9 @@ fn serve_next<R: Read, W: Write>(alloc: Global, from: &mut R, to: &mut W) -> io:
         return say_torn(alloc, to, read);
     }
     let h = header_from(&head);
-    match fault(h) {
-        0 => serve_body(alloc, from, to, h),
-        fault => pass(alloc, from, to, h, fault),
+    match call_of(h) {
+        Ok(call) => serve_body(alloc, from, to, call, h),
+        Err(fault) => pass(alloc, from, to, h, fault),
     }
 }
 

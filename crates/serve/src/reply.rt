@@ -1,15 +1,21 @@
 // An answer in bytes.
-ghost use Rattle.std.specs.Prelude.{◌≡◌, ◌≤◌};
-ghost use Rattle.serve.specs.Replies.{faultAs, flagOf, flags_of};
+ghost use Rattle.std.specs.Prelude.{◌≡◌, ◌≤◌, IfOk};
+ghost use Rattle.serve.specs.Bytes.{bytes_of};
+ghost use Rattle.serve.specs.Requests.{faultNumber};
+ghost use Rattle.serve.specs.Replies.{faultAs, flagOf, flags_of, answerOf, behindOf, replyTo, faultReply};
 
 use crate::coding::put_words;
-use crate::request::Header;
+use crate::lent::Lent;
+use crate::request::{Fault, Header};
+use calls::called;
+use calls_defined::numbers::Call;
 use calls_defined::told::{Told, short};
-use calls_defined::words::{all_from, word_of};
+use calls_defined::words::all_from;
+use calls_defined::{Asked, Lists};
 use std::alloc::{AllocError, Global};
 
 /// What is said of a request that can't be served.
-pub fn no_request(fault: u32) -> Told
+fn no_request(fault: u32) -> Told
     ensures { result ≡ faultAs fault }
 {
     Told {
@@ -38,11 +44,12 @@ fn flags(t: &Told, h: Header, res: &[u32], work: &[u32]) -> u32
     rest + zero + same
 }
 
-// The answer without its words, which are so many with those that are shown: its length in bytes comes first.
-fn put_told(out: &mut Vec<u8>, t: &Told, flags: u32, words: usize) -> Result<(), AllocError> {
-    let length = short(words.saturating_mul(4).saturating_add(28));
+// An answer with the words behind it. Its length in bytes comes first.
+fn in_bytes(alloc: Global, t: &Told, flags: u32, behind: &[u32]) -> Result<Vec<u8>, AllocError>
+    ensures { IfOk result (λ v. v.items ≡ bytes_of (answerOf t.now flags behind.now)) }
+{
     let head = [
-        length,
+        short(28 + behind.len() * 4),
         t.refusal,
         t.value,
         t.more,
@@ -50,43 +57,65 @@ fn put_told(out: &mut Vec<u8>, t: &Told, flags: u32, words: usize) -> Result<(),
         flags,
         short(t.words),
     ];
-    put_words(out, &head)
+    let mut out = Vec::new(alloc);
+    put_words(&mut out, &head)?;
+    put_words(&mut out, behind)?;
+    Ok(out)
 }
 
-/// What a call said, and what the buffers hold, in bytes. The answer's words are 0 where the result buffer is shorter; both buffers follow whole where
-/// the request asks for them.
-pub fn answer(
+// The answer's words, 0 where the result buffer is shorter; both buffers follow whole where the request asks for them.
+fn behind(
     alloc: Global,
-    t: &Told,
     h: Header,
+    n: usize,
     res: &[u32],
     work: &[u32],
-) -> Result<Vec<u8>, AllocError> {
-    let shown = if h.show == 0 {
-        0
-    } else {
-        res.len().saturating_add(work.len())
-    };
-    let mut out = Vec::new(alloc);
-    put_told(
-        &mut out,
-        t,
-        flags(t, h, res, work),
-        t.words.saturating_add(shown),
-    )?;
-    for i in 0..t.words {
-        put_words(&mut out, &[word_of(res, i)])?;
+) -> Result<Vec<u32>, AllocError>
+    ensures { IfOk result (λ v. v.items ≡ behindOf h n res.now work.now) }
+{
+    let front = n.min(res.len());
+    let mut words = Vec::new(alloc);
+    words.extend_from_slice(&res[..front])?;
+    words.resize(n, 0)?;
+    if h.show == 0 {
+        return Ok(words);
     }
-    if h.show != 0 {
-        put_words(&mut out, res)?;
-        put_words(&mut out, work)?;
-    }
-    Ok(out)
+    words.extend_from_slice(res)?;
+    words.extend_from_slice(work)?;
+    Ok(words)
 }
 
-/// The same where no call was made.
-pub fn told_alone(alloc: Global, t: &Told) -> Result<Vec<u8>, AllocError> {
-    let mut out = Vec::new(alloc);
-    put_told(&mut out, t, 0, 0)?;
-    Ok(out)
+/// What is written for a request that can be served: what its call says on what was sent, and what the buffers hold then.
+#[tactic(auto, unfolding(crate::specs::Replies::replyTo))]
+pub fn reply(alloc: Global, call: Call, h: Header, body: &[u8]) -> Result<Vec<u8>, AllocError>
+    ensures { IfOk result (λ v. v.items ≡ replyTo call h body.now) }
+{
+    let mut lent = Lent::new(alloc, h, body)?;
+    let asked = Asked { x: h.x, y: h.y };
+    let lists = Lists {
+        a: &lent.a,
+        b: &lent.b,
+        c: &lent.c,
+        d: &lent.d,
+    };
+    let told = called(
+        call,
+        asked,
+        lists,
+        &mut lent.pool,
+        &mut lent.table,
+        &mut lent.result,
+        &mut lent.work,
+    );
+    let flags = flags(&told, h, &lent.result, &lent.work);
+    let behind = behind(alloc, h, told.words, &lent.result, &lent.work)?;
+    in_bytes(alloc, &told, flags, &behind)
+}
+
+/// What is written for what is no request, by what is wrong with it.
+#[tactic(auto, unfolding(crate::specs::Replies::faultReply))]
+pub fn fault_reply(alloc: Global, fault: Fault) -> Result<Vec<u8>, AllocError>
+    ensures { IfOk result (λ v. v.items ≡ faultReply (faultNumber fault)) }
+{
+    in_bytes(alloc, &no_request(fault.number()), 0, &[])
 }

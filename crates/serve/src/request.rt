@@ -1,21 +1,39 @@
 // The head of a request, and whether it is one.
-ghost use Rattle.std.specs.Prelude.{◌≡◌, ◌≤◌};
-ghost use Rattle.serve.specs.Requests.{head_of, overBy, roomOf, excessOf, filledTo, parts_of, faultOf, Fits};
+ghost use Rattle.std.specs.Prelude.{◌≡◌, ◌≤◌, Some};
+ghost use Rattle.serve.specs.Requests.{head_of, overBy, roomOf, excessOf, filledTo, parts_of, faultNumber, servedAs, requestOf};
 
 use crate::coding::word_at;
-use calls::LAST;
+use calls_defined::numbers::Call;
 
 /// The bytes of a head.
 pub const HEAD: usize = 64;
 
-/// What can be wrong with a request: it is torn, no call has its number, a length is over its room, its body isn't as long as its parts.
-pub const TORN: u32 = 1;
+/// What can be wrong with a request.
+#[derive(Clone, Copy)]
+pub enum Fault {
+    /// The input ended, or a read failed, within it.
+    Torn,
+    /// No call has its number.
+    Unknown,
+    /// A length is over its room.
+    TooLong,
+    /// Its body isn't as long as its parts.
+    Untrue,
+}
 
-const UNKNOWN: u32 = 2;
-
-const TOO_LONG: u32 = 3;
-
-const UNTRUE: u32 = 4;
+impl Fault {
+    /// The number that docs/SERVE.md has for it.
+    pub fn number(self) -> u32
+        ensures { result ≡ faultNumber self }
+    {
+        match self {
+            Fault::Torn => 1,
+            Fault::Unknown => 2,
+            Fault::TooLong => 3,
+            Fault::Untrue => 4,
+        }
+    }
+}
 
 /// The words of a head, in their order.
 #[derive(Clone, Copy)]
@@ -94,7 +112,6 @@ fn excess(h: Header) -> u32
 
 /// The bytes of the pool with those that fill up its last word.
 pub fn filled(n: u32) -> usize
-    requires { n ≤ 9216 }
     ensures { result ≡ filledTo n }
 {
     (n as usize + 3) / 4 * 4
@@ -102,29 +119,32 @@ pub fn filled(n: u32) -> usize
 
 // How many bytes the parts of the body have together.
 fn parts(h: Header) -> usize
-    requires { Fits h }
     ensures { result ≡ parts_of h }
 {
     filled(h.pool)
         + (h.table as usize + h.a as usize + h.b as usize + h.c as usize + h.d as usize) * 4
 }
 
-/// 0 for a request that can be served, or the first thing that is wrong with it.
-pub fn fault(h: Header) -> u32
-    ensures { result ≡ faultOf h }
+// Has the request of a call room, and a body as long as its parts?
+fn fitting(h: Header, call: Call) -> Result<Call, Fault>
+    ensures { result ≡ servedAs h (Some call) }
 {
-    if h.call < 1 {
-        return UNKNOWN;
-    }
-    if LAST < h.call {
-        return UNKNOWN;
-    }
     if 0 < excess(h) {
-        return TOO_LONG;
+        return Err(Fault::TooLong);
     }
     if h.body as usize == parts(h) {
-        0
+        Ok(call)
     } else {
-        UNTRUE
+        Err(Fault::Untrue)
+    }
+}
+
+/// The call that a request is for, or the first thing that is wrong with it.
+pub fn call_of(h: Header) -> Result<Call, Fault>
+    ensures { result ≡ requestOf h }
+{
+    match Call::from_number(h.call) {
+        None => Err(Fault::Unknown),
+        Some(call) => fitting(h, call),
     }
 }

@@ -8,7 +8,7 @@ ghost use Rattle.rules.specs.Lines.{checkLineCall};
 ghost use Rattle.library_pairs.specs.Pairs.{entriesIn};
 ghost use Rattle.shupkelen.specs.Exports.{out, addedOut, writtenOut, solvedOut, batchOut, judgedOut, eliminatedOut};
 
-use calls_defined::told::{added, judged, solution, written};
+use calls_defined::told::{added, asked, solution, written};
 use engine::eliminate;
 use library_pairs::judge_pairs;
 use library_words::answers::eliminated;
@@ -176,7 +176,7 @@ pub extern "C" fn shupkelen_judge(
         ≡ judgedOut (judgeCall pool.now table.now set.now (entriesIn entries.now) types.now bounds.now work.old) answer.old }
 {
     hand(
-        judged(judge_pairs(pool, table, set, entries, types, bounds, work)),
+        asked(judge_pairs(pool, table, set, entries, types, bounds, work)),
         answer,
     )
 }

@@ -1,3 +1,4 @@
+pub mod Checked
 mod Determined
 pub mod Others
 pub mod Tests

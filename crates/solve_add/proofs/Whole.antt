@@ -19,7 +19,8 @@ use Rattle.records.specs.Found.{Words32}
 use Rattle.records.specs.Given.{list-broken, con-reader, one-is}
 use Rattle.records.specs.Good.{Chain, GoodCon, goodCon, numbers}
 use Rattle.records.specs.Whole.{set_is}
-use Rattle.solve_add.specs.Entry.{passing, lentBuffer, oneGiven, checks, room}
+use Rattle.solve_add.specs.Entry.{passing, lentBuffer, oneGiven, checks}
+use Rattle.solve_add.proofs.Checked.{room}
 use Rattle.solve_add.specs.Stored.{Ready, addedWith}
 
 -- ══ A part of the words ══
@@ -40,20 +41,19 @@ part-words n l w = record { word = λ i. go i (ltb i n) refl }
 -- ══ A row of checks, and what comes after ══
 
 module _ {A B C : Type 0} (l s k : Got (Unit {0})) (m : Got A) (o : Got B) (f : A → B → Got C) where
-  abbrev row : Got (Unit {0})
-  row = l >> (s >> (k >> (passing m >> passing o)))
+  abbrev row : Got B
+  row = l >> (s >> (k >> (passing m >> o)))
 
   abbrev all' : Got C
   all' = l >>= λ _. s >>= λ _. k >>= λ _. m >>= λ a. o >>= λ b. f a b
 
-  record Met : Type 0 where
+  record Met (b : B) : Type 0 where
     pub first : A
-    pub second : B
     pub lent : l ≡ got tt
     pub short : s ≡ got tt
     pub one : m ≡ got first
-    pub two : o ≡ got second
-    pub is : all' ≡ f first second
+    pub two : o ≡ got b
+    pub is : all' ≡ f first b
 
 stops : {A B C : Type 0} (l s k : Got (Unit {0})) (m : Got A) (o : Got B) (f : A → B → Got C) (n : ℕ) → row l s k m o f ≡ refused n
     → all' l s k m o f ≡ refused n
@@ -64,13 +64,12 @@ stops (got u) (got v) (refused j) m o f n e = cc
 stops (got u) (refused j) k m o f n e = cc
 stops (refused j) s k m o f n e = cc
 
-met : {A B C : Type 0} (l s k : Got (Unit {0})) (m : Got A) (o : Got B) (f : A → B → Got C) → row l s k m o f ≡ got tt → Met l s k m o f
-met (got u) (got v) (got w) (got a) (got b) f e = record { first = a; second = b; lent = refl; short = refl; one = refl; two = refl; is = refl }
-met (got u) (got v) (got w) (got a) (refused j) f e = clash e
-met (got u) (got v) (got w) (refused j) o f e = clash e
-met (got u) (got v) (refused j) m o f e = clash e
-met (got u) (refused j) k m o f e = clash e
-met (refused j) s k m o f e = clash e
+met : {A B C : Type 0} (l s k : Got (Unit {0})) (m : Got A) (o : Got B) (f : A → B → Got C) (b : B) → row l s k m o f ≡ got b → Met l s k m o f b
+met (got u) (got v) (got w) (got a) o f b e = record { first = a; lent = refl; short = refl; one = refl; two = e; is = rw e }
+met (got u) (got v) (got w) (refused j) o f b e = clash e
+met (got u) (got v) (refused j) m o f b e = clash e
+met (got u) (refused j) k m o f b e = clash e
+met (refused j) s k m o f b e = clash e
 
 -- ══ The call ══
 
@@ -106,45 +105,41 @@ module _ (pool table : List ℕ) where
       leb-true (length con) 8192 (and_left (leb (length con) 8192) true (need-passed _ 8 (next-passed (shortLists (con ∷ [])) tt (need (leb count 2048) 8) e))),
     )
 
-    abbrev Checks : Type 0
-    Checks = Met (lentBuffer pool table buffer) (need (leb count 2048) 8 >> shortLists (con ∷ [])) (tableKept (table_of pool table))
-        (setGiven (table_of pool table) (take (count * 4) buffer)) (oneGiven pool table con) made
+    module _ (c : Con ℕ) (e : checks pool table buffer count con ≡ got c) where
+      checks-met : Met (lentBuffer pool table buffer) (need (leb count 2048) 8 >> shortLists (con ∷ [])) (tableKept (table_of pool table))
+          (setGiven (table_of pool table) (take (count * 4) buffer)) (oneGiven pool table con) made c
+      unfolding checks
+      checks-met = met (lentBuffer pool table buffer) (need (leb count 2048) 8 >> shortLists (con ∷ [])) (tableKept (table_of pool table))
+          (setGiven (table_of pool table) (take (count * 4) buffer)) (oneGiven pool table con) made c e
 
-    checks-met : checks pool table buffer count con ≡ got tt → Checks
-    unfolding checks
-    checks-met e = met (lentBuffer pool table buffer) (need (leb count 2048) 8 >> shortLists (con ∷ [])) (tableKept (table_of pool table))
-        (setGiven (table_of pool table) (take (count * 4) buffer)) (oneGiven pool table con) made e
+      -- the set that was given
+      pub given : List (Con ℕ)
+      given = checks-met.first
 
-    -- the set and the constraint that were given
-    pub given : checks pool table buffer count con ≡ got tt → List (Con ℕ) × Con ℕ
-    given e = ((checks-met e).first, (checks-met e).second)
+      pub ready : Words32 buffer → Words32 con → Ready buffer count con given c
+      unfolding given
+      ready v w =
+          let x = checks-met in
+          let (few, short) = lists-short x.short in
+          let long = room pool table buffer x.lent in
+          let n : length (take (count * 4) buffer) ≡ count * 4 = length-take-le (count * 4) buffer (omega arith) in
+          let t = chain-sum (take (count * 4) buffer) (length (take (count * 4) buffer) / 4) x.first 0
+          (set_is pool table (take (count * 4) buffer) (part-words (count * 4) buffer v) x.first x.one) in
+          let g = one-held con w c x.two in
+          record {
+            few = few;
+            room = long;
+            many = omega (arith, t, n);
+            whole = omega (arith, g.past, one-whole con w c x.two);
+            short = short;
+          }
 
-    pub ready : Words32 buffer → Words32 con → (e : checks pool table buffer count con ≡ got tt) → Ready buffer count con (given e).0 (given e).1
-    unfolding given
-    ready v w e =
-        let x = checks-met e in
-        let (few, short) = lists-short x.short in
-        let long = room pool table buffer x.lent in
-        let n : length (take (count * 4) buffer) ≡ count * 4 = length-take-le (count * 4) buffer (omega arith) in
-        let t = chain-sum (take (count * 4) buffer) (length (take (count * 4) buffer) / 4) x.first 0
-        (set_is pool table (take (count * 4) buffer) (part-words (count * 4) buffer v) x.first x.one) in
-        let g = one-held con w x.second x.two in
-        record {
-          few = few;
-          room = long;
-          many = omega (arith, t, n);
-          held = g.held;
-          whole = omega (arith, g.past, one-whole con w x.second x.two);
-          short = short;
-        }
+      pub called : addedWith (numbers pool table) buffer count con given c ≡ addCall pool table buffer count con
+      unfolding addCall addedTo given checks-met
+      called = sym (rw checks-met.is refl)
 
-    pub called : (e : checks pool table buffer count con ≡ got tt)
-        → addedWith (numbers pool table) buffer count con (given e).0 (given e).1 ≡ addCall pool table buffer count con
-    unfolding addCall addedTo given checks-met
-    called e = sym (rw (checks-met e).is refl)
-
-    pub refusing : (n : ℕ) → checks pool table buffer count con ≡ refused n
+    pub refusing : (n : ℕ) → refused n ≡ checks pool table buffer count con
         → record { answer = refused n; buffer = buffer } ≡ addCall pool table buffer count con
     unfolding addCall addedTo bufferAfter checks
     refusing n e = sym (rw (stops (lentBuffer pool table buffer) (need (leb count 2048) 8 >> shortLists (con ∷ [])) (tableKept (table_of pool table))
-        (setGiven (table_of pool table) (take (count * 4) buffer)) (oneGiven pool table con) made n e) refl)
+        (setGiven (table_of pool table) (take (count * 4) buffer)) (oneGiven pool table con) made n (sym e)) refl)

@@ -10,14 +10,12 @@ use Rattle.rules.specs.Adding.{Added, satisfied, violated, unknown, add, addTest
 use Rattle.rules.specs.Base.{got, refused, ◌>>=◌, sum_of}
 use Rattle.rules.specs.Calls.{AddedTo, bufferAfter, over}
 use Rattle.rules.specs.Trees.{Names, Con, sizeCon}
-use Rattle.records.specs.Holds.{HoldsCon}
 
 -- a set of n records at the front of the buffer, and a constraint that takes all of its list
 pub record Ready (buffer : List ℕ) (n : ℕ) (con : List ℕ) (cs : List (Con ℕ)) (c : Con ℕ) : Type 0 where
   pub few : n ≤ 2048
   pub room : 8192 ≤ length buffer
   pub many : sum_of sizeCon cs ≡ n
-  pub held : HoldsCon con c 0
   pub whole : length con ≡ sizeCon c * 4
   pub short : length con ≤ 8192
 

@@ -1,31 +1,34 @@
 //! The checks at entry, and the storing.
 pub mod testing;
 
-ghost use Rattle.std.specs.Prelude.{◌≡◌, List, ℕ, ◌/◌, length};
+ghost use Rattle.std.specs.Prelude.{◌≡◌, List, ℕ};
 ghost use Rattle.rules.specs.Base.{need};
 ghost use Rattle.rules.specs.Names.{Bytes, numbered};
-ghost use Rattle.rules.specs.Refusals.{told};
+ghost use Rattle.rules.specs.Refusals.{toldBy};
 ghost use Rattle.rules.specs.Trees.{Con};
-ghost use Rattle.records.specs.Good.{There, GoodCon};
 ghost use Rattle.solve_add.specs.Told.{addedAs};
-ghost use Rattle.solve_add.specs.Entry.{checks, lentBuffer, oneGiven, passing};
+ghost use Rattle.solve_add.specs.Entry.{checks, constraint_in, lentBuffer, one_over};
 ghost use Rattle.solve_add.specs.Stored.{Ready, addedWith};
 
 use super::Verdict;
 use names::tables::NameTable;
-use records::inner::{con_end, copy};
-use records::is_set;
+use records::inner::copy;
 use rules::{POOL_BYTES, RECORD_WORDS, RECORDS, Refusal, TABLE_WORDS};
 use testing::test;
-use types::Constraint;
+use types::{Constraint, GivenSet};
 
-/// Tests the constraint and, unless it is satisfied, stores it behind the set's n records, where 2,048 are enough.
-pub fn add_good(buffer: &mut [u32], n: usize, con: &[u32]) -> Result<(Verdict, usize), Refusal>
-    requires { (cs : List (Con ℕ)) × ((c : Con ℕ) × Ready buffer.old n con.now cs c) }
-    ensures { (names : List Bytes) (cs : List (Con ℕ)) (c : Con ℕ) → Ready buffer.old n con.now cs c
-        → addedAs result buffer.new ≡ addedWith (numbered names) buffer.old n con.now cs c }
+/// Tests the constraint that a list is and, unless it is satisfied, stores the list behind the set's n records, where 2,048 are enough.
+pub fn add_good(
+    buffer: &mut [u32],
+    n: usize,
+    con: &[u32],
+    constraint: Constraint,
+) -> Result<(Verdict, usize), Refusal>
+    requires { (cs : List (Con ℕ)) × Ready buffer.old n con.now cs constraint.tree.0 }
+    ensures { (names : List Bytes) (cs : List (Con ℕ)) → Ready buffer.old n con.now cs constraint.entry.tree.0
+        → addedAs result buffer.new ≡ addedWith (numbered names) buffer.old n con.now cs constraint.entry.tree.0 }
 {
-    let verdict = test(Constraint { words: con, at: 0 });
+    let verdict = test(constraint);
     if let Verdict::Satisfied = verdict {
         return Ok((Verdict::Satisfied, n));
     }
@@ -47,36 +50,32 @@ fn lent(pool: &[u8], table: &[u32], buffer: &[u32]) -> bool
     RECORD_WORDS <= buffer.len()
 }
 
-// Are all records one constraint, well formed?
-fn con_good(names: NameTable, con: &[u32]) -> bool
-    ensures { There (λ c. GoodCon names.entry.pool.now names.entry.table.now 0 con.now 0 c (length con.now / 4)) result }
+// The one constraint that a list is: 8 where the list is long, the table's refusal, 1.
+fn one_constraint<'a>(
+    names: Result<NameTable<'a>, Refusal>,
+    con: &'a [u32],
+) -> Result<Constraint<'a>, Refusal>
+    ensures { toldBy constraint_in result ≡ one_over names.entry con.now }
 {
-    con_end(names, con, 0) == Some(con.len() / 4)
-}
-
-// A list of whole records that is one constraint.
-fn check_one(names: NameTable, con: &[u32]) -> Result<(), Refusal>
-    ensures { told result ≡ passing (oneGiven names.entry.pool.now names.entry.table.now con.now) }
-{
-    if con.len() % 4 != 0 {
-        return Err(Refusal::Malformed);
-    }
-    if con_good(names, con) {
-        Ok(())
-    } else {
-        Err(Refusal::Malformed)
+    let set = GivenSet::new(names, con)?;
+    match set.all.split_first() {
+        None => Err(Refusal::Malformed),
+        Some((first, rest)) => match rest.split_first() {
+            None => Ok(first),
+            Some(_) => Err(Refusal::Malformed),
+        },
     }
 }
 
-/// The checks at entry: 10, 8, 1.
-pub fn check(
-    pool: &[u8],
-    table: &[u32],
+/// The checks at entry: 10, 8, 1; and the constraint.
+pub fn check<'a>(
+    pool: &'a [u8],
+    table: &'a [u32],
     buffer: &[u32],
     count: usize,
-    con: &[u32],
-) -> Result<(), Refusal>
-    ensures { told result ≡ checks pool.now table.now buffer.now count con.now }
+    con: &'a [u32],
+) -> Result<Constraint<'a>, Refusal>
+    ensures { toldBy constraint_in result ≡ checks pool.now table.now buffer.now count con.now }
 {
     if !lent(pool, table, buffer) {
         return Err(Refusal::ShortBuffer);
@@ -84,7 +83,7 @@ pub fn check(
     if RECORDS < count || RECORD_WORDS < con.len() {
         return Err(Refusal::TooLarge);
     }
-    let n = count * 4;
-    is_set(pool, table, &buffer[..n])?;
-    check_one(NameTable { pool, table }, con)
+    let names = NameTable::new(pool, table);
+    GivenSet::new(names, &buffer[..count * 4])?;
+    one_constraint(names, con)
 }

@@ -31,6 +31,6 @@ pub fn add(
 ) -> Result<(Verdict, usize), Refusal>
     ensures { addedAs result buffer.new ≡ addCall pool.now table.now buffer.old count con.now }
 {
-    check(pool, table, buffer, count, con)?;
-    add_good(buffer, count, con)
+    let constraint = check(pool, table, buffer, count, con)?;
+    add_good(buffer, count, con, constraint)
 }

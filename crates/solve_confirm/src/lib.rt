@@ -8,7 +8,8 @@ ghost use Rattle.std.specs.Prelude.{◌≡◌};
 ghost use Rattle.rules.specs.Confirming.{confirmCall};
 ghost use Rattle.solve.specs.Told.{solutionAs};
 
-pub use inner::{Confirmed, solve_and_judge};
+pub use inner::Confirmed;
+use inner::solve_and_judge;
 use names::tables::NameTable;
 use records::inner::copy;
 use records_buffers::inner::clear;

@@ -42,7 +42,7 @@ pub fn write_text(
     write_good(names, set, text)
 }
 
-// Writes a well formed set to a buffer that has room for every set.
+/// Writes a well formed set to a buffer that has room for every set.
 fn write_good(names: NameTable, set: &[u32], text: &mut [u8]) -> Result<usize, Refusal>
     requires room { 354304 ≤ length text.old }
     requires good { setCall names.pool.now names.table.now set.now ≡ got tt }

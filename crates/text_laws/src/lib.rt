@@ -1,4 +1,4 @@
-// Sheets, written and read: theorems, each the contract of a function that does nothing.
+//! Sheets, written and read: theorems, each the contract of a function that does nothing.
 #![tactic(auto)]
 
 ghost use Rattle.text_laws.specs.Theorems.{WrittenAndReadBack, RefusedChangesNothing, RefusedLineIsFirst};

@@ -21,7 +21,7 @@ pub fn is_plain(b: u8) -> bool
     matches!(b, b'A'..=b'Z' | b'a'..=b'z' | b'0'..=b'9' | b'_' | 128..)
 }
 
-// A hex digit in small letters.
+/// A hex digit in small letters.
 #[tactic(auto, unfolding(rules::specs::TextWriting::hexDigit))]
 fn hex_digit(n: u8) -> u8
     requires { n < 16 }
@@ -33,7 +33,7 @@ fn hex_digit(n: u8) -> u8
     }
 }
 
-// Puts a byte of a name, escaped where it can't stand for itself.
+/// Puts a byte of a name, escaped where it can't stand for itself.
 #[tactic(auto, unfolding(rules::specs::TextWriting::escaped))]
 fn put_escaped<S: Sink>(to: &mut S, b: u8) -> Result<(), S::Error>
     ensures { Puts (S.place to.old) (escaped b) result (S.place to.new) }
@@ -70,7 +70,7 @@ pub fn put_digits<S: Sink>(to: &mut S, k: usize, n: usize) -> Result<(), S::Erro
     to.put(&[b'0' + (n % 10) as u8])
 }
 
-// Puts a numerator, which comes in two's complement.
+/// Puts a numerator, which comes in two's complement.
 #[tactic(auto, using(crate::proofs::Names::numerators))]
 fn put_numerator<S: Sink>(to: &mut S, b: u32) -> Result<(), S::Error>
     ensures { Puts (S.place to.old) (numeratorText (signed b)) result (S.place to.new) }
@@ -82,7 +82,7 @@ fn put_numerator<S: Sink>(to: &mut S, b: u32) -> Result<(), S::Error>
     put_digits(to, 10, (4294967295 - b + 1) as usize)
 }
 
-// Puts a denominator, except for 1.
+/// Puts a denominator, except for 1.
 #[tactic(auto, unfolding(rules::specs::TextWriting::denominatorText))]
 fn put_denominator<S: Sink>(to: &mut S, d: u32) -> Result<(), S::Error>
     ensures { Puts (S.place to.old) (denominatorText d) result (S.place to.new) }

@@ -36,7 +36,7 @@ pub fn put_open<S: Sink>(names: NameTable, o: Open, to: &mut S) -> Result<(), S:
     }
 }
 
-// Puts what a factor is a power of.
+/// Puts what a factor is a power of.
 #[tactic(auto, unfolding(crate::specs::Parts::atomText))]
 fn put_atom<S: Sink>(names: NameTable, atom: Atom, to: &mut S) -> Result<(), S::Error>
     ensures { Puts (S.place to.old) (atomText (name_of names.entry.pool.now names.entry.table.now) (atomOf atom)) result (S.place to.new) }
@@ -50,7 +50,7 @@ fn put_atom<S: Sink>(names: NameTable, atom: Atom, to: &mut S) -> Result<(), S::
     }
 }
 
-// Puts a factor.
+/// Puts a factor.
 fn put_factor<S: Sink>(names: NameTable, factor: Factor, to: &mut S) -> Result<(), S::Error>
     ensures { Puts (S.place to.old) (factorText (name_of names.entry.pool.now names.entry.table.now) (factor_of factor)) result (S.place to.new) }
 {
@@ -58,14 +58,14 @@ fn put_factor<S: Sink>(names: NameTable, factor: Factor, to: &mut S) -> Result<(
     put_power(to, factor.num, factor.den)
 }
 
-// Puts what stands in front of a factor.
+/// Puts what stands in front of a factor.
 fn put_star<S: Sink>(first: bool, to: &mut S) -> Result<(), S::Error>
     ensures { Puts (S.place to.old) (star first) result (S.place to.new) }
 {
     if first { Ok(()) } else { to.put(b" * ") }
 }
 
-// Puts factors, behind others or not.
+/// Puts factors, behind others or not.
 fn put_factors<S: Sink>(
     names: NameTable,
     factors: Product,

@@ -9,7 +9,7 @@ use names::tables::NameTable;
 use text_spell::sink::Sink;
 use types::{Constraint, Demand};
 
-// Puts a field's name between the two types of its constraint.
+/// Puts a field's name between the two types of its constraint.
 fn put_named<S: Sink>(names: NameTable, x: u32, to: &mut S) -> Result<(), S::Error>
     ensures { Puts (S.place to.old) (named (name_of names.entry.pool.now names.entry.table.now x)) result (S.place to.new) }
 {

@@ -10,7 +10,7 @@ use records::Basic;
 use text_spell::sink::Sink;
 use types::{Fields, Shape, Type, Types};
 
-// Puts a basic type.
+/// Puts a basic type.
 fn put_basic<S: Sink>(basic: Basic, to: &mut S) -> Result<(), S::Error>
     ensures { Puts (S.place to.old) (basicText (basicOf basic)) result (S.place to.new) }
 {
@@ -21,14 +21,14 @@ fn put_basic<S: Sink>(basic: Basic, to: &mut S) -> Result<(), S::Error>
     }
 }
 
-// Puts what stands in front of a type or a field.
+/// Puts what stands in front of a type or a field.
 fn put_comma<S: Sink>(first: bool, to: &mut S) -> Result<(), S::Error>
     ensures { Puts (S.place to.old) (comma first) result (S.place to.new) }
 {
     if first { Ok(()) } else { to.put(b", ") }
 }
 
-// Puts a bracket if there are any parts.
+/// Puts a bracket if there are any parts.
 #[tactic(auto, using(crate::specs::Parts::brackets))]
 fn put_if<S: Sink>(n: u32, b: u8, to: &mut S) -> Result<(), S::Error>
     ensures { Puts (S.place to.old) (bracket n b) result (S.place to.new) }
@@ -36,7 +36,7 @@ fn put_if<S: Sink>(n: u32, b: u8, to: &mut S) -> Result<(), S::Error>
     if n == 0 { Ok(()) } else { to.put(&[b]) }
 }
 
-// Puts a field's name and its colon, behind others or not.
+/// Puts a field's name and its colon, behind others or not.
 fn put_label<S: Sink>(names: NameTable, first: bool, x: u32, to: &mut S) -> Result<(), S::Error>
     ensures { Puts (S.place to.old) (label first (name_of names.entry.pool.now names.entry.table.now x)) result (S.place to.new) }
 {
@@ -45,7 +45,7 @@ fn put_label<S: Sink>(names: NameTable, first: bool, x: u32, to: &mut S) -> Resu
     to.put(b": ")
 }
 
-// Puts a structure's name, and a bracket if it has parameters.
+/// Puts a structure's name, and a bracket if it has parameters.
 fn put_head<S: Sink>(names: NameTable, x: u32, n: u32, to: &mut S) -> Result<(), S::Error>
     ensures { Puts (S.place to.old) (head (name_of names.entry.pool.now names.entry.table.now x) n) result (S.place to.new) }
 {
@@ -54,7 +54,7 @@ fn put_head<S: Sink>(names: NameTable, x: u32, n: u32, to: &mut S) -> Result<(),
     put_if(n, b'<', to)
 }
 
-// Puts what stands between a structure's parameters and its fields.
+/// Puts what stands between a structure's parameters and its fields.
 fn put_between<S: Sink>(n: u32, m: u32, to: &mut S) -> Result<(), S::Error>
     ensures { Puts (S.place to.old) (between n m) result (S.place to.new) }
 {
@@ -93,7 +93,7 @@ pub fn write_type<S: Sink>(names: NameTable, t: Type, to: &mut S) -> Result<(), 
     }
 }
 
-// Puts types, behind others or not.
+/// Puts types, behind others or not.
 #[cycle(types)]
 fn write_types<S: Sink>(
     names: NameTable,
@@ -111,7 +111,7 @@ fn write_types<S: Sink>(
     write_types(names, rest, false, to)
 }
 
-// Puts fields, behind others or not.
+/// Puts fields, behind others or not.
 #[cycle(types)]
 fn write_fields<S: Sink>(
     names: NameTable,

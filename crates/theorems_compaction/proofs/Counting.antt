@@ -7,7 +7,7 @@ use mathlib.Core.List.{List, [], ◌∷◌}
 use Prim.Native.Nat.{ℕ, suc}
 use Rattle.rules.specs.Base.{any, keep}
 use Rattle.rules.specs.Names.{Bytes, sameBytes, distinct}
-use Rattle.laws.specs.Lists.{and_left, and_right, and_both}
+use Rattle.laws.specs.Lists.{and_left, and_right, and_both, not-true}
 use Rattle.laws.specs.NameTable.{same-yes, same-no, same-is}
 
 abbrev pub Among : Bytes → List Bytes → Bool
@@ -67,23 +67,12 @@ distinct-without m (n ∷ ns) h = go (sameBytes m n) refl (distinct-without m ns
     go : (b : Bool) → sameBytes m n ≡ b → distinct (without m ns) ≡ true → distinct (without m (n ∷ ns)) ≡ true
     go true i k = rw (i, keep) k
     go false i k =
-        let a : Among n ns ≡ false = not-there (and_left (not (Among n ns)) _ h) in
+        let a : Among n ns ≡ false = not-true (Among n ns) (and_left (not (Among n ns)) _ h) in
         rw (i, keep, distinct) (and_both (ap not (among-keep (λ x. not (sameBytes m x)) n ns ∙ fewer (not (sameBytes m n)) a)) k)
-      where
-        not-there : {b : Bool} → not b ≡ true → b ≡ false
-        not-there {b} e = by b e
-          where
-            by : (b : Bool) → not b ≡ true → b ≡ false
-            by true e = absurd (let z : ◌≡◌ {A = ℕ} 0 1 = cc in omega arith)
-            by false e = refl
 
 first-apart : (n : Bytes) (ns : List Bytes) → distinct (n ∷ ns) ≡ true → Among n ns ≡ false
 unfolding distinct
-first-apart n ns h = go (Among n ns) refl (and_left (not (Among n ns)) _ h)
-  where
-    go : (b : Bool) → Among n ns ≡ b → not b ≡ true → Among n ns ≡ false
-    go true i e = absurd (let z : ◌≡◌ {A = ℕ} 0 1 = cc in omega arith)
-    go false i e = i
+first-apart n ns h = not-true (Among n ns) (and_left (not (Among n ns)) _ h)
 
 rest-distinct : (n : Bytes) (ns : List Bytes) → distinct (n ∷ ns) ≡ true → distinct ns ≡ true
 unfolding distinct

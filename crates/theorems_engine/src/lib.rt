@@ -1,4 +1,4 @@
-// The second engine beside the solver: a theorem, the contract of a function that does nothing.
+//! The second engine beside the solver: a theorem, the contract of a function that does nothing.
 #![tactic(auto)]
 
 ghost use Rattle.theorems_engine.specs.Theorems.{EnginesAgree};

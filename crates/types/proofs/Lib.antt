@@ -3,6 +3,7 @@ mod Asked
 mod Bound
 mod Factors
 mod FieldsFound
+mod Heads
 pub mod GivenSets
 mod SameWords
 mod Seen

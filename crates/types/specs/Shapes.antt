@@ -1,5 +1,5 @@
 -- What a type is, from its first record and the places of its parts.
-use Rattle.std.specs.Prelude.{ℕ, List, [], ◌∷◌, Option, None, Some}
+use Rattle.std.specs.Prelude.{◌≡◌, ℕ, List, [], ◌∷◌, Option, None, Some}
 use Rattle.rules.specs.Exponents.{frac}
 use Rattle.rules.specs.Trees as tree
 use Rattle.rules.specs.Trees.{◌↑◌, ◌≔◌}
@@ -17,6 +17,8 @@ use Rattle.types.specs.declared.Binding as bound
 use Rattle.types.specs.declared.Bindings as bindings
 use Rattle.types.specs.declared.Demand.{Demand}
 use Rattle.types.specs.declared.Demand.TheVariants as demand
+use Rattle.types.specs.declared.Head.{Head}
+use Rattle.types.specs.declared.Head.TheVariants as head
 use Rattle.types.specs.declared.Shape.{Shape}
 use Rattle.types.specs.declared.Shape.TheVariants as shape
 
@@ -28,6 +30,20 @@ whole (shape.Dimension p) = tree.dim p.factors.0
 whole (shape.Function ps r) = tree.fn ps.trees.0 r.tree.0
 whole (shape.Struct x as' fs) = tree.struct x as'.trees.0 fs.trees.0
 whole (shape.List t) = tree.list t.tree.0
+
+-- a function's row: its parameters, and last what it returns
+abbrev pub row : tree.Tys ℕ → tree.Ty ℕ → tree.Tys ℕ
+row tree.nil r = tree.cons r tree.nil
+row (tree.cons p ps) r = tree.cons p (row ps r)
+
+-- what a type begins with
+abbrev pub Begins : Head → tree.Ty ℕ → Type 0
+Begins (head.Open o) t = tree.opened (openOf o) ≡ t
+Begins (head.Basic b) t = tree.basic (basicOf b) ≡ t
+Begins (head.Dimension p) t = tree.dim p.factors.0 ≡ t
+Begins (head.Function ts) t = (ps : tree.Tys ℕ) × (r : tree.Ty ℕ) × (row ps r ≡ ts.trees.0) × (tree.fn ps r ≡ t)
+Begins (head.Struct x as') t = (fs : tree.Fields ℕ) × (tree.struct x as'.trees.0 fs ≡ t)
+Begins (head.List t) u = tree.list t.tree.0 ≡ u
 
 -- the types that a first one and the rest are
 abbrev pub together : Option (types.Type × lists.Types) → tree.Tys ℕ

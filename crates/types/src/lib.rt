@@ -79,6 +79,18 @@ pub enum Shape<'a> {
     List(Type<'a>),
 }
 
+/// What a type is, found without a step over its parts. A function: its parameters and, last, what it returns, as one row of types. A struct: its name and its
+/// type arguments.
+#[derive(Clone, Copy)]
+pub enum Head<'a> {
+    Open(Open),
+    Basic(Basic),
+    Dimension(Product<'a>),
+    Function(Types<'a>),
+    Struct(u32, Types<'a>),
+    List(Type<'a>),
+}
+
 /// A constraint: the place of its first record.
 #[derive(Clone, Copy)]
 pub struct Constraint<'a> {

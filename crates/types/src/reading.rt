@@ -5,10 +5,10 @@ ghost use Rattle.rules.specs.Contents.{closed, contains};
 ghost use Rattle.rules.specs.Names.{Bytes, numbered};
 ghost use Rattle.rules.specs.Refusals.{toldOption, toldOptionBy};
 ghost use Rattle.rules.specs.Views.{asPower, asVar, productOf};
-ghost use Rattle.types.specs.Shapes.{asked, factors_of, whole, together};
+ghost use Rattle.types.specs.Shapes.{Begins, asked, factors_of, whole, together};
 
 use super::parts::variable;
-use super::{Constraint, Demand, Fields, Product, Shape, Type, Types};
+use super::{Constraint, Demand, Fields, Head, Product, Shape, Type, Types};
 use queries::Kind;
 use queries::inner::{none_open, occurs};
 use records::View;
@@ -72,6 +72,27 @@ impl<'a> Type<'a> {
         ensures { toldOption result ≡ asPower self.entry.tree.0 }
     {
         self.dimension()?.variable()
+    }
+
+    /// What it is, without a step over its parts. What a function returns is the last of its row: the place where it stands is known only to who goes over the
+    /// parameters, as `shape` does.
+    pub fn head(self) -> Head<'a>
+        ensures { Begins result self.entry.tree.0 }
+    {
+        let words = self.words;
+        let at = self.at + 1;
+        match view_at(words, self.at) {
+            View::Opened(o) => Head::Open(o),
+            View::Basic(b) => Head::Basic(b),
+            View::Dim(count) => Head::Dimension(Product { words, at, count }),
+            View::Function(count) => {
+                let count = count + 1;
+                Head::Function(Types { words, at, count })
+            }
+            View::Struct(name, count, _) => Head::Struct(name, Types { words, at, count }),
+            View::List => Head::List(Type { words, at }),
+            _ => unreachable!(),
+        }
     }
 
     /// Which type it is, and its parts.

@@ -1,5 +1,5 @@
-use Rattle.std.proofs.Common.{refl, append_assoc}
+use Rattle.std.proofs.Common.{append_assoc}
 use Rattle.edition_verify.proofs.put_lines_refused.Goals as goal
 
 pub returns : goal.returns
-returns c = rw (c.in_ok-extend_from_slice-2.ensures.items, c.in_ok-put_refusal.ensures, c.in_ok-extend_from_slice.ensures.items) (simp append_assoc refl)
+returns c = simp append_assoc at (rw c.in_ok-extend_from_slice.ensures.items at c.put_lines_reason.ensures)

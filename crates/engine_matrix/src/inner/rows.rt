@@ -1,52 +1,43 @@
-// Rows of powers by value. Columns that no name has hold 0.
-ghost use Rattle.std.specs.Prelude.{◌≡◌, true, ◌<◌, ◌≤◌, get_or, set, IfOk};
+//! Rows of powers by value.
+ghost use Rattle.std.specs.Prelude.{◌≡◌, true, ◌<◌, ◌≤◌, get_or, set};
 ghost use Rattle.rules.specs.Exponents.{nought, goodExp};
 ghost use Rattle.rules.specs.Refusals.{toldBy};
 ghost use Rattle.exponents.specs.Answers.{expOf};
 ghost use Rattle.rules.specs.Elimination.{solvedFor, timesRow, plusRow, putInRow};
-ghost use Rattle.engine_matrix.specs.Told.{row_in, Wide, quotients};
+ghost use Rattle.engine_matrix.specs.Told.{row_in, quotients};
 ghost use Rattle.engine_matrix.specs.Grids.{First};
 
+use crate::inner::parts::Row;
 use exponents::Exponent;
 use exponents::inner::{negative_of, product_of, quotient_of, sum_of};
 use rules::Refusal;
 
-// 24 variables, 24 parameters and base dimensions.
+/// 24 variables, 24 parameters and base dimensions.
 pub const COLUMNS: usize = 48;
 
-// A power for each column.
-#[derive(Clone, Copy)]
-pub struct Row {
-    pub powers: [Exponent; 48],
-}
-
-// The power of a column.
+/// The power of a column.
 pub fn power_at(r: Row, j: usize) -> Exponent
-    requires wide { Wide r }
     requires column { j < 48 }
     ensures { expOf result ≡ get_or (row_in r) j nought }
 {
     r.powers[j]
 }
 
-// The row with another power in a column.
+/// The row with another power in a column.
 pub fn with_power(r: Row, j: usize, e: Exponent) -> Row
-    requires wide { Wide r }
     requires column { j < 48 }
     requires power { goodExp (expOf e) ≡ true }
-    ensures { Wide result × (row_in result ≡ set (row_in r) j (expOf e)) }
+    ensures { row_in result ≡ set (row_in r) j (expOf e) }
 {
     let mut q = r;
     q.powers[j] = e;
     q
 }
 
-// Power x value.
+/// Power x value.
 fn times_row(k: Exponent, w: Row) -> Result<Row, Refusal>
-    requires wide { Wide w }
     requires power { goodExp (expOf k) ≡ true }
-    ensures is { toldBy row_in result ≡ timesRow (expOf k) (row_in w) }
-    ensures wide { IfOk result Wide }
+    ensures { toldBy row_in result ≡ timesRow (expOf k) (row_in w) }
 {
     let mut out = w;
     for j in 0..COLUMNS {
@@ -56,12 +47,9 @@ fn times_row(k: Exponent, w: Row) -> Result<Row, Refusal>
     Ok(out)
 }
 
-// Row + row.
+/// Row + row.
 fn plus_row(a: Row, b: Row) -> Result<Row, Refusal>
-    requires left { Wide a }
-    requires right { Wide b }
-    ensures is { toldBy row_in result ≡ plusRow (row_in a) (row_in b) }
-    ensures wide { IfOk result Wide }
+    ensures { toldBy row_in result ≡ plusRow (row_in a) (row_in b) }
 {
     let mut out = a;
     for j in 0..COLUMNS {
@@ -71,12 +59,10 @@ fn plus_row(a: Row, b: Row) -> Result<Row, Refusal>
     Ok(out)
 }
 
-// -j/k for each power j.
+/// -j/k for each power j.
 fn divided(k: Exponent, r: Row) -> Result<Row, Refusal>
-    requires wide { Wide r }
     requires power { goodExp (expOf k) ≡ true }
-    ensures is { toldBy row_in result ≡ quotients (expOf k) (row_in r) }
-    ensures wide { IfOk result Wide }
+    ensures { toldBy row_in result ≡ quotients (expOf k) (row_in r) }
 {
     let mut out = r;
     for j in 0..COLUMNS {
@@ -86,31 +72,25 @@ fn divided(k: Exponent, r: Row) -> Result<Row, Refusal>
     Ok(out)
 }
 
-// The value of the variable in column c, from a row that is to be 0.
+/// The value of the variable in column c, from a row that is to be 0. Refused with 7 where a power leaves the range.
 pub fn solved_for(c: usize, r: Row) -> Result<Row, Refusal>
-    requires wide { Wide r }
     requires column { c < 48 }
-    ensures is { toldBy row_in result ≡ solvedFor c (row_in r) }
-    ensures wide { IfOk result Wide }
+    ensures { toldBy row_in result ≡ solvedFor c (row_in r) }
 {
     divided(power_at(r, c), with_power(r, c, Exponent::ZERO))
 }
 
-// The variable of column c, whose value is w, put into a row.
+/// The variable of column c, whose value is w, put into a row. Refused with 7 where a power leaves the range.
 pub fn put_in(c: usize, w: Row, r: Row) -> Result<Row, Refusal>
     requires column { c < 48 }
-    requires value { Wide w }
-    requires wide { Wide r }
-    ensures is { toldBy row_in result ≡ putInRow c (row_in w) (row_in r) }
-    ensures wide { IfOk result Wide }
+    ensures { toldBy row_in result ≡ putInRow c (row_in w) (row_in r) }
 {
     let m = times_row(power_at(r, c), w)?;
     plus_row(with_power(r, c, Exponent::ZERO), m)
 }
 
-// The first of the first n columns whose power isn't 0; n where all are 0.
+/// The first of the first n columns whose power isn't 0; n where all are 0.
 pub fn first_in(r: Row, n: usize) -> usize
-    requires wide { Wide r }
     requires columns { n ≤ 48 }
     ensures { First (row_in r) n result }
 {

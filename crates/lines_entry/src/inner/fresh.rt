@@ -1,5 +1,5 @@
 // The lent names: no two the same, none used in a type of the line (4), each held (3).
-ghost use Rattle.std.specs.Prelude.{◌≡◌, not, ◌≤◌, eqb, ltb, length, get_or, map, drop, option_to_list};
+ghost use Rattle.std.specs.Prelude.{◌≡◌, not, eqb, ltb, get_or, map, drop, option_to_list};
 ghost use Rattle.rules.specs.Base.{any, all, collect, to_list};
 ghost use Rattle.rules.specs.Views.{name_of};
 ghost use Rattle.rules.specs.Calls.{differ};
@@ -10,42 +10,41 @@ ghost use Rattle.lines_entry.specs.Told.{stepOf};
 ghost use Rattle.lines_entry.specs.Used.{namesAtom, namesView, namesIn};
 
 use super::steps::Step;
-use names::inner::is_held;
+use names::tables::NameTable;
 use records::seen::view_at;
 use records::{Atom, Open, View};
 use types::Type;
 
-// Is x among the names from a place on?
-fn is_among(names: &[u32], from: usize, x: u32) -> bool
-    ensures { result ≡ any (eqb x) (drop from names.now) }
+// Is x among the lent names from a place on?
+fn is_among(lent: &[u32], from: usize, x: u32) -> bool
+    ensures { result ≡ any (eqb x) (drop from lent.now) }
 {
-    for i in from..names.len() {
-        if x == names[i] {
+    for i in from..lent.len() {
+        if x == lent[i] {
             return true;
         }
     }
     false
 }
 
-// Are no two names the same?
-fn all_differ(names: &[u32]) -> bool
-    ensures { result ≡ differ names.now }
+// Are no two lent names the same?
+fn all_differ(lent: &[u32]) -> bool
+    ensures { result ≡ differ lent.now }
 {
-    for i in 0..names.len() {
-        if is_among(names, i + 1, names[i]) {
+    for i in 0..lent.len() {
+        if is_among(lent, i + 1, lent[i]) {
             return false;
         }
     }
     true
 }
 
-/// Is each name held?
-pub fn all_held(table: &[u32], names: &[u32]) -> bool
-    requires { 257 ≤ length table.now }
-    ensures { result ≡ all (λ n. ltb n (get_or table.now 0 0)) names.now }
+/// Is each lent name held?
+pub fn all_held(names: NameTable, lent: &[u32]) -> bool
+    ensures { result ≡ all (λ n. ltb n (get_or names.entry.table.now 0 0)) lent.now }
 {
-    for i in 0..names.len() {
-        if !is_held(table, names[i]) {
+    for i in 0..lent.len() {
+        if !names.is_held(lent[i]) {
             return false;
         }
     }
@@ -139,21 +138,21 @@ fn one_uses(steps: &[Step], x: u32) -> bool
     false
 }
 
-// Is none of the names used in a step?
-fn none_used(steps: &[Step], names: &[u32]) -> bool
-    ensures { result ≡ all (λ n. not (any (eqb n) (collect namesOfStep (map stepOf steps.now)))) names.now }
+// Is none of the lent names used in a step?
+fn none_used(steps: &[Step], lent: &[u32]) -> bool
+    ensures { result ≡ all (λ n. not (any (eqb n) (collect namesOfStep (map stepOf steps.now)))) lent.now }
 {
-    for i in 0..names.len() {
-        if one_uses(steps, names[i]) {
+    for i in 0..lent.len() {
+        if one_uses(steps, lent[i]) {
             return false;
         }
     }
     true
 }
 
-/// Are no two names the same, and is none used in a type that a step points to?
-pub fn is_fresh(steps: &[Step], names: &[u32]) -> bool
-    ensures { result ≡ fresh names.now (map stepOf steps.now) }
+/// Are no two lent names the same, and is none used in a type that a step points to?
+pub fn is_fresh(steps: &[Step], lent: &[u32]) -> bool
+    ensures { result ≡ fresh lent.now (map stepOf steps.now) }
 {
-    all_differ(names) && none_used(steps, names)
+    all_differ(lent) && none_used(steps, lent)
 }

@@ -1,33 +1,29 @@
-// All that instantiating does past the check of 10; what it makes is left at the start of the work buffer.
-ghost use Rattle.std.specs.Prelude.{◌≡◌, ◌≤◌, length};
-ghost use Rattle.rules.specs.Base.{got};
+//! All that instantiating does past the check of 10; what it makes is left at the start of the work buffer.
+ghost use Rattle.std.specs.Prelude.{◌≤◌, [], length};
 ghost use Rattle.rules.specs.Calls.{instantiated};
-ghost use Rattle.rules.specs.Names.{table_of, lentTable};
 ghost use Rattle.records_buffers.specs.Told.{Made};
+ghost use Rattle.schemes.specs.Entry.{short, called_over};
 
-use super::checks::rest_checked;
+use super::checks::{check_lengths, check_unmixed};
 use names::tables::NameTable;
-use records::is_scheme;
-use rules::{RECORDS, Refusal};
+use rules::Refusal;
+use schemes_handed::{Handed, Scheme};
 use schemes_instantiate::inner::instantiating::instantiate_scheme;
 
-// The type and bounds of a scheme with handed names put back; no bounds are given.
+/// The type and bounds of a scheme with handed names put back; no bounds are given.
 pub fn make_instantiated(
-    pool: &[u8],
-    table: &[u32],
+    names: Result<NameTable, Refusal>,
     given: &[u32],
-    names: &[u32],
+    numbers: &[u32],
     work: &mut [u32],
 ) -> Result<usize, Refusal>
-    requires table_value { lentTable pool.now table.now ≡ got tt }
-    requires in_bounds { 16384 ≤ length work.old }
-    ensures { Made (instantiated (table_of pool.now table.now) given.now names.now) work.new result }
+    requires { 16384 ≤ length work.old }
+    ensures { Made (called_over names.entry (short given.now [] numbers.now) (λ t. instantiated t given.now numbers.now)) work.new result }
 {
-    if RECORDS < names.len() {
-        return Err(Refusal::TooLarge);
-    }
-    is_scheme(pool, table, given)?;
-    rest_checked(pool, table, given, &[], names)?;
-    let held = NameTable { pool, table };
-    instantiate_scheme(held, given, names, work)
+    check_lengths(given, &[], numbers)?;
+    let names = names?;
+    let scheme = Scheme::new(names, given)?;
+    let handed = Handed::new(names, numbers)?;
+    check_unmixed(given)?;
+    instantiate_scheme(handed, scheme, work)
 }

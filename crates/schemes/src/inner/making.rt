@@ -1,39 +1,32 @@
-// All that the calls do past the check of 10; what they make is left at the start of the work buffer.
-ghost use Rattle.std.specs.Prelude.{◌≡◌, ◌≤◌, length};
-ghost use Rattle.rules.specs.Base.{got};
+//! All that quantifying does past the check of 10; what it makes is left at the start of the work buffer.
+ghost use Rattle.std.specs.Prelude.{◌≤◌, length};
 ghost use Rattle.rules.specs.Calls.{quantified};
-ghost use Rattle.rules.specs.Names.{table_of, lentTable};
 ghost use Rattle.records_buffers.specs.Told.{Made};
+ghost use Rattle.schemes.specs.Entry.{short, called_over};
 
-use super::checks::rest_checked;
+use super::checks::{check_lengths, check_unmixed};
 use names::tables::NameTable;
-use records::is_type;
-use rules::{RECORD_WORDS, RECORDS, Refusal};
+use rules::Refusal;
+use schemes_handed::inner::given::given_type;
+use schemes_handed::{Bounds, Handed};
 use schemes_quantify::inner::quantifying::quantify_at;
-use types::Type;
 
-// A type and bounds with handed names quantified.
+/// A type and bounds with handed names quantified.
 pub fn make_quantified(
-    pool: &[u8],
-    table: &[u32],
+    names: Result<NameTable, Refusal>,
     words: &[u32],
     bounds: &[u32],
-    names: &[u32],
+    numbers: &[u32],
     work: &mut [u32],
 ) -> Result<usize, Refusal>
-    requires table_value { lentTable pool.now table.now ≡ got tt }
-    requires in_bounds { 16384 ≤ length work.old }
-    ensures { Made (quantified (table_of pool.now table.now) words.now bounds.now names.now) work.new result }
+    requires { 16384 ≤ length work.old }
+    ensures { Made (called_over names.entry (short words.now bounds.now numbers.now) (λ t. quantified t words.now bounds.now numbers.now)) work.new result }
 {
-    if RECORD_WORDS < bounds.len() {
-        return Err(Refusal::TooLarge);
-    }
-    if RECORDS < names.len() {
-        return Err(Refusal::TooLarge);
-    }
-    is_type(pool, table, words)?;
-    rest_checked(pool, table, words, bounds, names)?;
-    let held = NameTable { pool, table };
-    let t = Type { words, at: 0 };
-    quantify_at(held, t, names, bounds, true, work)
+    check_lengths(words, bounds, numbers)?;
+    let names = names?;
+    let t = given_type(names, words)?;
+    let bounds = Bounds::new(names, bounds)?;
+    let handed = Handed::new(names, numbers)?;
+    check_unmixed(words)?;
+    quantify_at(handed, t, bounds, true, work)
 }

@@ -9,4 +9,4 @@ pub returns : goal.returns
 returns c =
     let a = c.args in
     let e = c.entries_from-es.ensures ∙ ap (pairsFrom a.pairs.now 0) (c.min-n.ensures ∙ lesser _ _) in
-    c.judge_first.ensures ∙ ap (λ (es : List Entry). judgeCall a.pool.now a.table.now a.set.now es a.types.now a.bounds.now a.work.now) e
+    c.judge.ensures ∙ ap (λ (es : List Entry). judgeCall a.pool.now a.table.now a.set.now es a.types.now a.bounds.now a.work.now) e

@@ -1,6 +1,7 @@
 -- `line_in` meets its contract: lines are left behind one after another.
+use Rattle.std.proofs.Common.{refl}
 use Rattle.edition_report.specs.Ahead.{at-first}
 use Rattle.edition_report.proofs.lines.line_in.Goals as goal
 
-pub loop-left-init : goal.loop-left-init
-loop-left-init c = at-first _ _ _ c.saturating_sub-left.ensures
+pub loop-before-init : goal.loop-before-init
+loop-before-init c = at-first c.args.text.now c.args.number _ refl

@@ -40,17 +40,13 @@ returns-in_err-reduced c =
     let w : Words32 a.words.now = record { word = λ i. (c.type_inv.words i).fits } in
     let x = came-in a.pool.now a.table.now a.words.now w (sym c.in_ok-enter.ensures) in
     let p = err_from_is_err_and c.from_residual-in_err-reduced.result c.from_residual-in_err-reduced.ensures.1 in
-    rw (p.1, p.2) (refused-answers _ _ _ (x.all ∙ sym (c.in_err-reduced.ensures.is
+    rw (p.1, p.2) (refused-answers _ _ _ (x.all ∙ sym (c.in_err-reduced.ensures
     ∙ ap (reduction a.pool.now a.table.now) (same-set a.pool.now a.table.now a.words.now _ x.set x.chain c.reduce-arg-2-1.given.1.0))))
-
-pub write-requires : goal.write-requires
-write-requires c =
-    let r = c.in_ok-reduced.ensures.ready in record { laid = r.laid; running = r.running; room = c.requires.room }
 
 pub returns : goal.returns
 returns c =
     let a = c.args in
     let w : Words32 a.words.now = record { word = λ i. (c.type_inv.words i).fits } in
     let x = came-in a.pool.now a.table.now a.words.now w (sym c.in_ok-enter.ensures) in
-    answers-as _ _ _ _ _ (x.all ∙ sym (c.in_ok-reduced.ensures.is
+    answers-as _ _ _ _ _ (x.all ∙ sym (c.in_ok-reduced.ensures
     ∙ ap (reduction a.pool.now a.table.now) (same-set a.pool.now a.table.now a.words.now _ x.set x.chain c.reduce-arg-2-1.given.1.0))) c.write.ensures

@@ -12,7 +12,7 @@ returns-in_err-is_set c =
 
 pub is_unmixed-requires : goal.is_unmixed-requires
 is_unmixed-requires c =
-    entry-small _ _ _ (record { word = λ i. (c.shared_slice_known-3-1.given i).fits }) (sym c.in_ok-is_set.ensures)
+    entry-small _ _ _ (record { word = λ i. (c.type_inv.words i).fits }) (sym c.in_ok-is_set.ensures)
 
 pub returns-then-is_unmixed : goal.returns-then-is_unmixed
 returns-then-is_unmixed c =

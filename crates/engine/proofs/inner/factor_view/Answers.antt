@@ -3,7 +3,7 @@ use mathlib.Core.Path.{ap, ◌∙◌}
 use Prim.Native.Nat.{ℕ}
 use Rattle.records.specs.Views.{recOf}
 use Rattle.records.specs.declared.View.TheVariants as view
-use Rattle.engine.specs.Put.{factor-record}
+use Rattle.engine.proofs.Factors.{factor-record}
 use Rattle.engine.proofs.inner.factor_view.Goals as goal
 
 pub returns : goal.returns

@@ -11,19 +11,19 @@ pub returns-then-j-k : goal.returns-then-j-k
 unfolding colsIn
 returns-then-j-k c =
     let k = c.args.k in
-    sym (column-variable (base 0) k.variables k.parameters (namesIn k) c.args.j (omega (arith, names-long k c.requires.laid)) (omega arith)
-    ∙ ap (λ (x : ℕ). free (var x)) (variable-name k c.args.j c.requires.laid c.if-j-k.true))
+    sym (column-variable (base 0) k.variables k.parameters (namesIn k) c.args.j (omega (arith, names-long k)) (omega arith)
+    ∙ ap (λ (x : ℕ). free (var x)) (variable-name k c.args.j c.if-j-k.true))
 
 pub returns-then-i-k : goal.returns-then-i-k
 unfolding colsIn
 returns-then-i-k c =
     let k = c.args.k in
-    sym (column-parameter (base 0) k.variables k.parameters (namesIn k) c.args.j (omega (arith, names-long k c.requires.laid)) (omega arith) (omega arith)
-    ∙ ap (λ (x : ℕ). free (par x)) (parameter-name k c.args.j c.requires.laid (c.args.j - k.variables) (omega arith) c.if-i-k.true))
+    sym (column-parameter (base 0) k.variables k.parameters (namesIn k) c.args.j (omega (arith, names-long k)) (omega arith) (omega arith)
+    ∙ ap (λ (x : ℕ). free (par x)) (parameter-name k c.args.j (c.args.j - k.variables) (omega arith) c.if-i-k.true))
 
 pub returns : goal.returns
 unfolding colsIn
 returns c =
     let k = c.args.k in
-    sym (column-base (base 0) k.variables k.parameters (namesIn k) c.args.j (omega (arith, names-long k c.requires.laid)) (omega arith)
-    ∙ ap base (base-name k c.args.j c.requires.laid (c.args.j - k.variables - k.parameters) (omega arith) (omega (arith, c.requires.laid.all))))
+    sym (column-base (base 0) k.variables k.parameters (namesIn k) c.args.j (omega (arith, names-long k)) (omega arith)
+    ∙ ap base (base-name k c.args.j (c.args.j - k.variables - k.parameters) (omega arith) (omega (arith, k.all))))

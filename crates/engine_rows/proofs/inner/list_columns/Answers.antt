@@ -1,9 +1,8 @@
 -- `inner::list_columns` meets its contract.
 use mathlib.Core.Path.{refl, sym}
 use Rattle.std.proofs.Common.{inl, inr}
-use Prim.Native.Nat.{◌+◌}
 use native.Mathlib.Omega.{arith}
-use Rattle.engine_rows.specs.Columns.{too-many, laid-well, listed-well}
+use Rattle.engine_rows.specs.Columns.{too-many, filled-long, listed-well}
 use Rattle.engine_rows.proofs.inner.list_columns.Goals as goal
 use Rattle.engine_rows.proofs.inner.list_columns.Goals.{
   then-variables-gt-ROWS-via-then-variables-gt-ROWS,
@@ -12,8 +11,8 @@ use Rattle.engine_rows.proofs.inner.list_columns.Goals.{
   then-variables-gt-ROWS-via-else-variables-gt-ROWS+else-parameters-gt-ROWS+else-dimensions-gt-ROWS+then-parameters-dimensions-gt-ROWS,
 }
 
-pub returns-then-variables-gt-ROWS-clause-is : goal.returns-then-variables-gt-ROWS-clause-is
-returns-then-variables-gt-ROWS-clause-is c =
+pub returns-then-variables-gt-ROWS : goal.returns-then-variables-gt-ROWS
+returns-then-variables-gt-ROWS c =
     let v = c.list_names-variables.ensures.many in
     let p = c.list_names-parameters.ensures.many in
     let d = c.list_bases-dimensions.ensures.many in
@@ -26,23 +25,17 @@ returns-then-variables-gt-ROWS-clause-is c =
           w ↦ too-many _ _ _ (inr (omega (arith, w.if-parameters-dimensions-gt-ROWS.true, p, d)))
     ])
 
-pub returns-clause-is : goal.returns-clause-is
-returns-clause-is c =
-    let v = c.list_names-variables in
-    let p = c.list_names-parameters in
-    let d = c.list_bases-dimensions in
-    listed-well _ _ _ (record {
-      vars = v.new.out;
-      variables = v.result;
-      pars = p.new.out;
-      parameters = p.result;
-      bases = d.new.out;
-      dimensions = d.result;
-      len = v.result + p.result + d.result;
-    }) _ _ _ c.list_names-variables.ensures c.list_names-parameters.ensures
-    c.list_bases-dimensions.ensures (omega arith) (omega arith)
+pub invariant_of-columns : goal.invariant_of-columns
+invariant_of-columns c = record {
+  vars_long = filled-long _ _ _ _ c.list_names-variables.ensures refl (omega arith);
+  pars_long = filled-long _ _ _ _ c.list_names-parameters.ensures refl (omega arith);
+  bases_long = filled-long _ _ _ _ c.list_bases-dimensions.ensures refl (omega arith);
+  few_variables = omega arith;
+  few_others = omega arith;
+  all = refl;
+}
 
-pub returns-clause-laid : goal.returns-clause-laid
-returns-clause-laid c =
-    laid-well _ _ _ _ _ _ _ c.list_names-variables.ensures c.list_names-parameters.ensures c.list_bases-dimensions.ensures (omega arith)
-    (omega arith) refl refl refl refl
+pub returns : goal.returns
+returns c =
+    listed-well _ _ _ _ _ _ _ _ _ _ _ _ c.list_names-variables.ensures c.list_names-parameters.ensures c.list_bases-dimensions.ensures
+    (omega arith) (omega arith)

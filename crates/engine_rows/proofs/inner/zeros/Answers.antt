@@ -1,9 +1,14 @@
 -- `inner::zeros` meets its contract.
 use mathlib.Core.Path.{refl}
-use Rattle.engine_matrix.specs.Told.{row_in}
-use Rattle.engine_rows.specs.Atoms.{no-columns}
+use Rattle.laws.specs.Ranges.{nought-good}
+use Rattle.engine_matrix.specs.Powers.{powersIn}
+use Rattle.engine_rows.specs.Atoms.{good-copies}
 use Rattle.engine_rows.proofs.inner.zeros.Goals as goal
 
+pub invariant_of-result : goal.invariant_of-result
+unfolding powersIn
+invariant_of-result c = record { long = refl; good = good-copies 48 _ nought-good }
+
 pub returns : goal.returns
-unfolding row_in
-returns c = no-columns _ refl
+unfolding powersIn
+returns c = refl

@@ -8,7 +8,6 @@ use Rattle.judge_meaning.proofs.Arms.{
   by-read,
   first,
   second,
-  not-so,
   opens-same,
   basics-same,
   dims-same,
@@ -57,16 +56,13 @@ all_mean-returns t c =
     ]
 
 pub means-all_mean-requires : goal.means-all_mean-requires
-means-all_mean-requires t c = let i = c.in-Function-Function in (omega (arith, c.decreases, fn-size i.ensures), tt)
-
-pub means-means-requires : goal.means-means-requires
-means-means-requires t c = let i = c.in-Function-Function in (omega (arith, c.decreases, fn-size i.ensures), tt)
+means-all_mean-requires t c = let i = c.in-Function-Function in (omega (arith, c.decreases, fn-size i.ensures.0 i.ensures.1 i.ensures.2 i.ensures.3), tt)
 
 pub means-all_mean-requires-then-x-y : goal.means-all_mean-requires-then-x-y
 means-all_mean-requires-then-x-y t c = let i = c.in-Struct-Struct in (omega (arith, c.decreases, struct-size i.ensures), tt)
 
-pub means-means-requires-in-List-List : goal.means-means-requires-in-List-List
-means-means-requires-in-List-List t c = let i = c.in-List-List in (omega (arith, c.decreases, list-size i.ensures), tt)
+pub means-means-requires : goal.means-means-requires
+means-means-requires t c = let i = c.in-List-List in (omega (arith, c.decreases, list-size i.ensures), tt)
 
 pub means-returns-in-Open-Open : goal.means-returns-in-Open-Open
 means-returns-in-Open-Open t c = λ names.
@@ -83,16 +79,12 @@ means-returns-in-Dimension-Dimension t c = λ names.
     let i = c.in-Dimension-Dimension in
     by-read (numbered names) _ _ i.ensures i.ensures' (dims-same (numbered names) _ _ i.ensures i.ensures' (c.same.ensures names))
 
-pub means-returns-then-all_mean : goal.means-returns-then-all_mean
-means-returns-then-all_mean t c = λ names.
+pub means-returns-in-Function-Function : goal.means-returns-in-Function-Function
+means-returns-in-Function-Function t c = λ names.
     let i = c.in-Function-Function in
-    by-read (numbered names) _ _ i.ensures i.ensures'
-    (functions-same (second (c.all_mean.ensures.0 c.if-all_mean.true) (tells (numbered names) _ _ (c.means.ensures names))))
-
-pub means-returns-else-all_mean : goal.means-returns-else-all_mean
-means-returns-else-all_mean t c = λ names.
-    let i = c.in-Function-Function in
-    by-read (numbered names) _ _ i.ensures i.ensures' (functions-same (first c.if-all_mean.false (not-so c.all_mean.ensures c.if-all_mean.false)))
+    let p = i.ensures in
+    let q = i.ensures' in
+    by-read (numbered names) _ _ p.3 q.3 (functions-same p.0 q.0 p.1 q.1 p.2 q.2 c.all_mean.ensures)
 
 pub means-returns-then-x-y : goal.means-returns-then-x-y
 means-returns-then-x-y t c = λ names.
@@ -107,7 +99,7 @@ means-returns-else-x-y t c = λ names.
 pub means-returns-in-List-List : goal.means-returns-in-List-List
 means-returns-in-List-List t c = λ names.
     let i = c.in-List-List in
-    by-read (numbered names) _ _ i.ensures i.ensures' (lists-same (tells (numbered names) _ _ (c.means-in-List-List.ensures names)))
+    by-read (numbered names) _ _ i.ensures i.ensures' (lists-same (tells (numbered names) _ _ (c.means.ensures names)))
 
 pub means-returns-in_default : goal.means-returns-in_default
 means-returns-in_default t c = λ names. let d = c.in_default in no-open (numbered names) _ _ _ c.read-2.ensures d.ensures d.not-Open-1
@@ -119,7 +111,7 @@ pub means-returns-in_default-3 : goal.means-returns-in_default-3
 means-returns-in_default-3 t c = λ names. let d = c.in_default in no-dimension (numbered names) _ _ _ c.read-2.ensures d.ensures d.not-Dimension-1
 
 pub means-returns-in_default-4 : goal.means-returns-in_default-4
-means-returns-in_default-4 t c = λ names. let d = c.in_default in no-function (numbered names) _ _ _ c.read-2.ensures d.ensures d.not-Function-1
+means-returns-in_default-4 t c = λ names. let d = c.in_default in no-function (numbered names) _ _ _ c.read-2.ensures d.ensures.3 d.not-Function-1
 
 pub means-returns-in_default-5 : goal.means-returns-in_default-5
 means-returns-in_default-5 t c = λ names. let d = c.in_default in no-struct (numbered names) _ _ _ c.read-2.ensures d.ensures d.not-Struct-1

@@ -61,7 +61,7 @@ order-requires c = let names : Names ℕ = numbersOf (table_of c.args.names.pool
     let fined : Fine (names) (heldIn (held)) (factorAt c.args.p.now c.loop-i.i) =
     fine-facts _ _ _ (sym (c.is_sound-in-loop-i.ensures (names)) ∙ c.if-not-is_sound-2.false) in
     let k : c.loop-i.i - 1 < c.loop-i.i = omega arith in
-    record { fine = rw c.loop-i.invariant.2 (c.loop-i.invariant.3.each _ k); fine_2 = fined }
+    record { left = rw c.loop-i.invariant.2 (c.loop-i.invariant.3.each _ k); right = fined }
 
 pub returns-in-Equal : goal.returns-in-Equal
 returns-in-Equal c = let long : length c.args.p.now.factors ≡ 64 = omega arith in

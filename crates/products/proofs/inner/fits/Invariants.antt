@@ -6,6 +6,3 @@ use Rattle.products.proofs.inner.fits.Given as goal
 
 abbrev pub invariant-loop-i : goal.invariant-loop-i
 invariant-loop-i l = (1 ≤ l.i) × (l.i ≤ l.n) × (l.last ≡ factorAt l.p (l.i - 1)) × Seen l.names.pool.now l.names.table.now l.p l.i
-
-abbrev pub decreases-loop-i : goal.decreases-loop-i
-decreases-loop-i l = l.n - l.i

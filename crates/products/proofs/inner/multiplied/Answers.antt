@@ -65,7 +65,7 @@ pub loop-i-init : goal.loop-i-init
 loop-i-init c = (omega arith, omega arith, doing-start _ _ c.scalar-out.ensures)
 
 pub order-requires : goal.order-requires
-order-requires c = record { fine = c.requires.well.each c.loop-i.i (omega arith); fine_2 = c.requires.well_2.each c.loop-i.j c.if-j-n.true }
+order-requires c = record { left = c.requires.well.each c.loop-i.i (omega arith); right = c.requires.well_2.each c.loop-i.j c.if-j-n.true }
 
 pub push-requires : goal.push-requires
 push-requires c = omega (arith, doing-len c.loop-i.invariant.2, c.requires.well.few, c.requires.well_2.few)
@@ -133,7 +133,7 @@ loop-i-preserved c =
 pub append-requires : goal.append-requires
 append-requires c =
     let n = doing-len c.loop-i.invariant.2 in
-    record { sound = well-sound c.requires.well; len_bound = (omega (arith, c.requires.well.few, c.requires.well_2.few), c.loop-i.invariant.0) }
+    record { sound = well-sound c.requires.well; room = (omega (arith, c.requires.well.few, c.requires.well_2.few), c.loop-i.invariant.0) }
 
 pub append-requires-2 : goal.append-requires-2
 append-requires-2 c =
@@ -152,7 +152,7 @@ append-requires-2 c =
       c.requires.well.few,
       c.requires.well_2.few,
     ) in
-    record { sound = well-sound c.requires.well_2; len_bound = (few, c.loop-i.invariant.1) }
+    record { sound = well-sound c.requires.well_2; room = (few, c.loop-i.invariant.1) }
 
 pub returns : goal.returns
 returns c =

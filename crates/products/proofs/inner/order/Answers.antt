@@ -13,8 +13,8 @@ use Rattle.products.proofs.inner.order.Goals as goal
 
 pub returns-then-x-eq15 : goal.returns-then-x-eq15
 returns-then-x-eq15 c = let left : Fine (numbersOf (table_of c.args.names.pool.now c.args.names.table.now)) (heldIn c.args.names.table.now) c.args.x =
-    c.requires.fine in
-    let right : Fine (numbersOf (table_of c.args.names.pool.now c.args.names.table.now)) (heldIn c.args.names.table.now) c.args.y = c.requires.fine_2 in
+    c.requires.left in
+    let right : Fine (numbersOf (table_of c.args.names.pool.now c.args.names.table.now)) (heldIn c.args.names.table.now) c.args.y = c.requires.right in
     let whole : let ν = numbersOf (table_of c.args.names.pool.now c.args.names.table.now) in orderAtom ν (atomAt c.args.x) (atomAt c.args.y)
     ≡ then (compare (rank_of c.args.x.kind) (rank_of c.args.y.kind))
     (cond (eqb c.args.x.kind 15) (compare c.args.x.name c.args.y.name) (ν.order c.args.x.name c.args.y.name)) =
@@ -26,8 +26,8 @@ returns-then-x-eq15 c = let left : Fine (numbersOf (table_of c.args.names.pool.n
 
 pub returns-in-Less : goal.returns-in-Less
 returns-in-Less c = let left : Fine (numbersOf (table_of c.args.names.pool.now c.args.names.table.now)) (heldIn c.args.names.table.now) c.args.x =
-    c.requires.fine in
-    let right : Fine (numbersOf (table_of c.args.names.pool.now c.args.names.table.now)) (heldIn c.args.names.table.now) c.args.y = c.requires.fine_2 in
+    c.requires.left in
+    let right : Fine (numbersOf (table_of c.args.names.pool.now c.args.names.table.now)) (heldIn c.args.names.table.now) c.args.y = c.requires.right in
     let whole : let ν = numbersOf (table_of c.args.names.pool.now c.args.names.table.now) in orderAtom ν (atomAt c.args.x) (atomAt c.args.y)
     ≡ then (compare (rank_of c.args.x.kind) (rank_of c.args.y.kind))
     (cond (eqb c.args.x.kind 15) (compare c.args.x.name c.args.y.name) (ν.order c.args.x.name c.args.y.name)) =
@@ -38,8 +38,8 @@ returns-in-Less c = let left : Fine (numbersOf (table_of c.args.names.pool.now c
 
 pub returns-in-Greater : goal.returns-in-Greater
 returns-in-Greater c = let left : Fine (numbersOf (table_of c.args.names.pool.now c.args.names.table.now)) (heldIn c.args.names.table.now) c.args.x =
-    c.requires.fine in
-    let right : Fine (numbersOf (table_of c.args.names.pool.now c.args.names.table.now)) (heldIn c.args.names.table.now) c.args.y = c.requires.fine_2 in
+    c.requires.left in
+    let right : Fine (numbersOf (table_of c.args.names.pool.now c.args.names.table.now)) (heldIn c.args.names.table.now) c.args.y = c.requires.right in
     let whole : let ν = numbersOf (table_of c.args.names.pool.now c.args.names.table.now) in orderAtom ν (atomAt c.args.x) (atomAt c.args.y)
     ≡ then (compare (rank_of c.args.x.kind) (rank_of c.args.y.kind))
     (cond (eqb c.args.x.kind 15) (compare c.args.x.name c.args.y.name) (ν.order c.args.x.name c.args.y.name)) =
@@ -50,8 +50,8 @@ returns-in-Greater c = let left : Fine (numbersOf (table_of c.args.names.pool.no
 
 pub returns-else-x-eq15 : goal.returns-else-x-eq15
 returns-else-x-eq15 c = let left : Fine (numbersOf (table_of c.args.names.pool.now c.args.names.table.now)) (heldIn c.args.names.table.now) c.args.x =
-    c.requires.fine in
-    let right : Fine (numbersOf (table_of c.args.names.pool.now c.args.names.table.now)) (heldIn c.args.names.table.now) c.args.y = c.requires.fine_2 in
+    c.requires.left in
+    let right : Fine (numbersOf (table_of c.args.names.pool.now c.args.names.table.now)) (heldIn c.args.names.table.now) c.args.y = c.requires.right in
     let whole : let ν = numbersOf (table_of c.args.names.pool.now c.args.names.table.now) in orderAtom ν (atomAt c.args.x) (atomAt c.args.y)
     ≡ then (compare (rank_of c.args.x.kind) (rank_of c.args.y.kind))
     (cond (eqb c.args.x.kind 15) (compare c.args.x.name c.args.y.name) (ν.order c.args.x.name c.args.y.name)) =

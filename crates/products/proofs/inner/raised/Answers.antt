@@ -30,7 +30,7 @@ pub loop-i-init : goal.loop-i-init
 loop-i-init c = (omega arith, λ ν. doing-start _ _ c.scalar-out.ensures)
 
 pub product_of-requires : goal.product_of-requires
-product_of-requires c = (stored-good _ (c.requires.sound.stored c.loop-i.i (omega arith)), c.requires.e_value)
+product_of-requires c = (stored-good _ (c.requires.sound.stored c.loop-i.i (omega arith)), c.requires.power)
 
 pub returns-in_err-k : goal.returns-in_err-k
 unfolding answer

@@ -1,4 +1,4 @@
-use Prim.Native.Nat.{ℕ, ◌-◌, ◌≤◌}
+use Prim.Native.Nat.{ℕ, ◌≤◌}
 use lib.ListN.{drop}
 use Rattle.rules.specs.Base.{bounded}
 use Rattle.rules.specs.Products.{raise}
@@ -9,8 +9,5 @@ use Rattle.products.specs.Steps.{Doing}
 use Rattle.products.proofs.inner.raised.Given as goal
 
 abbrev pub invariant-loop-i : goal.invariant-loop-i
-invariant-loop-i l = (l.i ≤ l.n)
+invariant-loop-i l = (l.i ≤ l.a.len)
     × ((ν : Names ℕ) → Doing (raise ν bounded (drop l.i (productOf l.a)) (expOf l.e)) (raise ν bounded (productOf l.a) (expOf l.e)) l.i l.out)
-
-abbrev pub decreases-loop-i : goal.decreases-loop-i
-decreases-loop-i l = l.n - l.i

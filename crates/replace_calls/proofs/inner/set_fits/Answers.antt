@@ -1,7 +1,7 @@
 -- `inner::set_fits` meets its contract.
 use Rattle.rules.specs.Base.{sum_of, max_of}
 use Rattle.rules.specs.Trees.{sizeCon, depthCon}
-use Rattle.replace_calls.specs.Stands.{too_long, cons-there, near-there, there-good, set-shallow, set-deep}
+use Rattle.replace_calls.proofs.Standing.{too_long, cons-there, near-there, there-good, set-shallow, set-deep}
 use Rattle.replace_calls.proofs.inner.set_fits.Goals as goal
 
 pub returns-then-n-gt-RECORDS : goal.returns-then-n-gt-RECORDS

@@ -1,6 +1,6 @@
 -- `inner::type_fits` meets its contract.
 use Rattle.rules.specs.Trees.{size, depth}
-use Rattle.replace_calls.specs.Stands.{too_long, type-shallow, type-deep}
+use Rattle.replace_calls.proofs.Standing.{too_long, type-shallow, type-deep}
 use Rattle.replace_calls.proofs.inner.type_fits.Goals as goal
 
 pub returns-then-n-gt-RECORDS : goal.returns-then-n-gt-RECORDS

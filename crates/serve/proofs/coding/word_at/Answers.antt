@@ -1,6 +1,6 @@
 -- `word_at` meets its contract.
 use borrow.Author.Tests.{lt-ltb, le-ltb}
-use Rattle.serve.specs.Requests.{word_at}
+use Rattle.serve.specs.Bytes.{word_at}
 use Rattle.serve.proofs.coding.word_at.Goals as goal
 
 pub returns-then-s-lt4 : goal.returns-then-s-lt4

@@ -1,6 +1,13 @@
 -- `engine_matrix::grids::with_row` meets its contract.
-use Rattle.engine_matrix.specs.Grids.{grid-set}
+use mathlib.Core.Path.{◌∙◌}
+use Rattle.std.proofs.lemmas.List.{length-set}
+use Rattle.engine_matrix.specs.Grids.{rowsIn}
+use Rattle.engine_matrix.proofs.Loops.{grid-set}
 use Rattle.engine_matrix.proofs.inner.grids.with_row.Goals as goal
 
+pub invariant_of-q : goal.invariant_of-q
+invariant_of-q c = record { long = length-set c.args.g.rows c.args.i c.args.r ∙ c.args.g.long }
+
 pub returns : goal.returns
-returns c = grid-set c.args.g c.args.i c.args.r c.requires.wide_grid c.requires.wide
+unfolding rowsIn
+returns c = grid-set c.args.g c.args.i c.args.r

@@ -3,7 +3,7 @@ use mathlib.Core.Path.{ap, ◌∙◌, sym}
 use native.Mathlib.Omega.{arith}
 use Rattle.rules.specs.Exponents.{isZero}
 use Rattle.engine_matrix.specs.Told.{row_in}
-use Rattle.engine_matrix.specs.Grids.{zeros-more}
+use Rattle.engine_matrix.proofs.Loops.{zeros-more}
 use Rattle.engine_matrix.proofs.inner.rows.first_in.Goals as goal
 
 pub returns-then-not-is_zero : goal.returns-then-not-is_zero

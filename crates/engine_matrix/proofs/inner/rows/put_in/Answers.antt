@@ -7,27 +7,25 @@ use Rattle.rules.specs.Exponents.{Exp, nought}
 use Rattle.laws.specs.Ranges.{nought-good}
 use Rattle.rules.specs.Elimination.{Row, timesRow, plusRow, putInRow}
 use Rattle.engine_matrix.specs.Told.{row_in}
-use Rattle.engine_matrix.proofs.Doing.{wide_at}
 use Rattle.engine_matrix.proofs.inner.rows.put_in.Goals as goal
 
 pub times_row-requires : goal.times_row-requires
-times_row-requires c =
-    record { wide = c.requires.value; power = rw c.power_at.ensures (wide_at c.args.r c.args.c c.requires.wide c.requires.column) }
+times_row-requires c = record { power = rw c.power_at.ensures (c.args.r.good c.args.c) }
 
-pub returns-in_err-m-clause-is : goal.returns-in_err-m-clause-is
+pub returns-in_err-m : goal.returns-in_err-m
 unfolding putInRow
-returns-in_err-m-clause-is c =
+returns-in_err-m c =
     let p = err_from_is_err_and c.from_residual.result c.from_residual.ensures.1 in
-    let times = ap (λ (k : Exp). timesRow k (row_in c.args.w)) (sym c.power_at.ensures) ∙ sym c.in_err-m.ensures.is in
+    let times = ap (λ (k : Exp). timesRow k (row_in c.args.w)) (sym c.power_at.ensures) ∙ sym c.in_err-m.ensures in
     rw (p.1, p.2) (sym (ap (λ (m : Got Row). m >>= λ m. plusRow (set (row_in c.args.r) c.args.c nought) m) times))
 
 pub with_power-requires-clause-power : goal.with_power-requires-clause-power
 with_power-requires-clause-power c = nought-good
 
-pub returns-clause-is : goal.returns-clause-is
+pub returns : goal.returns
 unfolding putInRow
-returns-clause-is c =
-    let times = ap (λ (k : Exp). timesRow k (row_in c.args.w)) (sym c.power_at.ensures) ∙ sym c.in_ok-m.ensures.is in
-    c.plus_row.ensures.is
-    ∙ ap (λ (r : Row). plusRow r (row_in c.in_ok-m.m)) c.with_power.ensures.1
+returns c =
+    let times = ap (λ (k : Exp). timesRow k (row_in c.args.w)) (sym c.power_at.ensures) ∙ sym c.in_ok-m.ensures in
+    c.plus_row.ensures
+    ∙ ap (λ (r : Row). plusRow r (row_in c.in_ok-m.m)) c.with_power.ensures
     ∙ sym (ap (λ (m : Got Row). m >>= λ m. plusRow (set (row_in c.args.r) c.args.c nought) m) times)

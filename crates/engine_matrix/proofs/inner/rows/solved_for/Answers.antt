@@ -3,16 +3,14 @@ use mathlib.Core.Path.{ap₂, ◌∙◌}
 use Rattle.laws.specs.Ranges.{nought-good}
 use Rattle.rules.specs.Elimination.{solvedFor}
 use Rattle.engine_matrix.specs.Told.{quotients}
-use Rattle.engine_matrix.proofs.Doing.{wide_at}
 use Rattle.engine_matrix.proofs.inner.rows.solved_for.Goals as goal
 
 pub with_power-requires-clause-power : goal.with_power-requires-clause-power
 with_power-requires-clause-power c = nought-good
 
 pub divided-requires : goal.divided-requires
-divided-requires c =
-    record { wide = c.with_power.ensures.0; power = rw c.power_at.ensures (wide_at c.args.r c.args.c c.requires.wide c.requires.column) }
+divided-requires c = record { power = rw c.power_at.ensures (c.args.r.good c.args.c) }
 
-pub returns-clause-is : goal.returns-clause-is
+pub returns : goal.returns
 unfolding solvedFor quotients
-returns-clause-is c = c.divided.ensures.is ∙ ap₂ quotients c.power_at.ensures c.with_power.ensures.1
+returns c = c.divided.ensures ∙ ap₂ quotients c.power_at.ensures c.with_power.ensures

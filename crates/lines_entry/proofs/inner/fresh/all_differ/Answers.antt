@@ -6,11 +6,11 @@ use Rattle.lines_entry.specs.Used.{differ-hit, differ-miss}
 use Rattle.lines_entry.proofs.inner.fresh.all_differ.Goals as goal
 
 pub returns-then-is_among : goal.returns-then-is_among
-returns-then-is_among c = let n = c.args.names.now in let i = c.loop-i.i
+returns-then-is_among c = let n = c.args.lent.now in let i = c.loop-i.i
     in differ-hit n i c.loop-i-test.true (sym c.is_among.ensures ∙ c.if-is_among.true) ∙ c.loop-i.invariant
 
 pub loop-i-preserved : goal.loop-i-preserved
-loop-i-preserved c = let n = c.args.names.now in let i = c.loop-i.i
+loop-i-preserved c = let n = c.args.lent.now in let i = c.loop-i.i
     in differ-miss n i c.loop-i-test.true (sym c.is_among.ensures ∙ c.if-is_among.false) ∙ c.loop-i.invariant
 
 pub returns : goal.returns

@@ -7,17 +7,14 @@ use Rattle.lines_entry.specs.StepLists.{rest-none}
 use Rattle.lines_entry.specs.Used.{all-hit, all-miss}
 use Rattle.lines_entry.proofs.inner.fresh.all_held.Goals as goal
 
-pub is_held-requires : goal.is_held-requires
-is_held-requires c = c.requires
-
 pub returns-then-not-is_held : goal.returns-then-not-is_held
-returns-then-not-is_held c = let n = c.args.names.now in let i = c.loop-i.i
-    in all-miss n i c.loop-i-test.true (λ x. ltb x (get_or c.args.table.now 0 0)) (sym c.is_held.ensures ∙ c.if-not-is_held.true) ∙ c.loop-i.invariant
+returns-then-not-is_held c = let n = c.args.lent.now in let i = c.loop-i.i
+    in all-miss n i c.loop-i-test.true (λ x. ltb x (get_or c.args.names.table.now 0 0)) (sym c.is_held.ensures ∙ c.if-not-is_held.true) ∙ c.loop-i.invariant
 
 pub loop-i-preserved : goal.loop-i-preserved
-loop-i-preserved c = let n = c.args.names.now in let i = c.loop-i.i
-    in all-hit n i c.loop-i-test.true (λ x. ltb x (get_or c.args.table.now 0 0)) (sym c.is_held.ensures ∙ c.if-not-is_held.false) ∙ c.loop-i.invariant
+loop-i-preserved c = let n = c.args.lent.now in let i = c.loop-i.i
+    in all-hit n i c.loop-i-test.true (λ x. ltb x (get_or c.args.names.table.now 0 0)) (sym c.is_held.ensures ∙ c.if-not-is_held.false) ∙ c.loop-i.invariant
 
 pub returns : goal.returns
 unfolding all
-returns c = sym (ap (all (λ x. ltb x (get_or c.args.table.now 0 0))) (rest-none _ _ c.loop-i-test.false)) ∙ c.loop-i.invariant
+returns c = sym (ap (all (λ x. ltb x (get_or c.args.names.table.now 0 0))) (rest-none _ _ c.loop-i-test.false)) ∙ c.loop-i.invariant

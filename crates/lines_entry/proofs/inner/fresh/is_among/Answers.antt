@@ -6,11 +6,11 @@ use Rattle.lines_entry.specs.StepLists.{rest-none}
 use Rattle.lines_entry.specs.Used.{among-hit, among-miss}
 use Rattle.lines_entry.proofs.inner.fresh.is_among.Goals as goal
 
-pub returns-then-x-names : goal.returns-then-x-names
-returns-then-x-names c = let n = c.args.names.now in let i = c.loop-i.i in among-hit n i c.loop-i-test.true _ c.if-x-names.true ∙ c.loop-i.invariant
+pub returns-then-x-lent : goal.returns-then-x-lent
+returns-then-x-lent c = let n = c.args.lent.now in let i = c.loop-i.i in among-hit n i c.loop-i-test.true _ c.if-x-lent.true ∙ c.loop-i.invariant
 
 pub loop-i-preserved : goal.loop-i-preserved
-loop-i-preserved c = let n = c.args.names.now in let i = c.loop-i.i in among-miss n i c.loop-i-test.true _ c.if-x-names.false ∙ c.loop-i.invariant
+loop-i-preserved c = let n = c.args.lent.now in let i = c.loop-i.i in among-miss n i c.loop-i-test.true _ c.if-x-lent.false ∙ c.loop-i.invariant
 
 pub returns : goal.returns
 unfolding any

@@ -9,5 +9,5 @@ use Rattle.lines_entry.specs.Told.{stepOf}
 use Rattle.lines_entry.proofs.inner.fresh.none_used.Given as goal
 
 abbrev pub invariant-loop-i : goal.invariant-loop-i
-invariant-loop-i l = all (λ x. not (any (eqb x) (collect namesOfStep (map stepOf l.steps)))) (drop l.i l.names)
-    ≡ all (λ x. not (any (eqb x) (collect namesOfStep (map stepOf l.steps)))) l.names
+invariant-loop-i l = all (λ x. not (any (eqb x) (collect namesOfStep (map stepOf l.steps)))) (drop l.i l.lent)
+    ≡ all (λ x. not (any (eqb x) (collect namesOfStep (map stepOf l.steps)))) l.lent

@@ -78,4 +78,4 @@ loop-x-preserved c =
     let nu = numbers a.names.pool.now a.names.table.now in
     let n = get_or a.names.table.now 0 0 in
     rw c.put.ensures (sorting_step nu law n (held_tells g) a.self.marks a.out.now c.loop-x.left.marks c.loop-x.out c.loop-x.k h.long c.loop-x.invariant _
-    (rw c.in-Some.is at c.first.ensures) c.requires.in_bounds)
+    (rw c.in-Some.is at c.first.ensures) c.requires.room)

@@ -38,8 +38,8 @@ raised-requires-clause-sound c =
     c.in_ok-bound.bound c.in_ok-bound.ensures in
     well-sound (taken s.names.pool.now s.names.table.now _ d.tree d.whole).well
 
-pub raised-requires-clause-e_value : goal.raised-requires-clause-e_value
-raised-requires-clause-e_value c = exp-good c.args.names.pool.now c.args.names.table.now c.args.f c.requires.fine
+pub raised-requires-clause-power : goal.raised-requires-clause-power
+raised-requires-clause-power c = exp-good c.args.names.pool.now c.args.names.table.now c.args.f c.requires.fine
 
 pub returns-in_err-more : goal.returns-in_err-more
 returns-in_err-more c = λ a w.

@@ -1,53 +1,102 @@
 -- `inner::generalising::make_generalised` meets its contract.
-use mathlib.Core.Path.{refl, sym}
-use mathlib.Core.List.{[]}
-use native.Mathlib.Omega.{arith}
+use Rattle.std.specs.Prelude.{◌≡◌, refl, true, ℕ}
+use Rattle.std.proofs.Common.{ap, subst, arith, ◌∙◌}
 use Rattle.std.proofs.lemmas.Result.{err_from_is_err_and}
+use Rattle.rules.specs.Base.{got}
+use Rattle.rules.specs.Calls.{opensScheme}
+use Rattle.rules.specs.Contents.{unmixed}
+use Rattle.rules.specs.Names.{table_of, numbersOf}
+use Rattle.rules.specs.Schemes.{Scheme}
 use Rattle.records.specs.Found.{Words32}
-use Rattle.records.specs.Schemes.{scheme-is}
-use Rattle.schemes.specs.Generalising.{Given}
-use Rattle.schemes.proofs.GivenScheme.{scheme-table, scheme-small, scheme-checked, scheme-came}
-use Rattle.schemes.specs.Whole.{bounds-made, unmet-made, met-made}
-use Rattle.schemes.specs.Wholes.{generalise-whole}
+use Rattle.schemes_handed.specs.Given.{scheme_in}
+use Rattle.schemes_quantify.specs.Core.{made-refused}
+use Rattle.schemes.proofs.Called.{long-called, untested, kept, made-as, asked-of-words, are-apart}
+use Rattle.schemes.proofs.Generalising.{generalise-row, the-scheme, type-ready}
+use Rattle.schemes.proofs.Rows.{words-short, first-alone, bounds-alone, first-refused, bounds-refused, mixed-refused, met}
+use Rattle.schemes.proofs.Schemes.{scheme-opens, scheme-small}
 use Rattle.schemes.proofs.inner.generalising.make_generalised.Goals as goal
 
-pub returns-then-bounds-gt-RECORD_WORDS : goal.returns-then-bounds-gt-RECORD_WORDS
-returns-then-bounds-gt-RECORD_WORDS c = bounds-made _ _ _ _ [] _ _ _ _ (generalise-whole _ _ _ _) _ c.if-bounds-gt-RECORD_WORDS.true
-
-pub returns-in_err-is_scheme : goal.returns-in_err-is_scheme
-returns-in_err-is_scheme c =
-    let word : Words32 c.args.given.now = record { word = λ i. (c.shared_slice_known-3-1.given i).fits } in
+pub returns-in_err-check_lengths : goal.returns-in_err-check_lengths
+returns-in_err-check_lengths c =
     let p = err_from_is_err_and c.from_residual.result c.from_residual.ensures.1 in
-    rw (p.1, p.2) (unmet-made _ _ _ _ [] _ _ _ _ (generalise-whole _ _ _ _) _ _ (
-    scheme-checked _ _ _ _ [] c.if-bounds-gt-RECORD_WORDS.false (omega arith) c.requires.table_value word _ _ c.in_err-is_scheme.ensures refl))
+    rw (p.1, p.2) (made-refused _ _ _ (long-called _ _ _ (λ t. (generalise-row t c.args.given.now c.args.bounds.now).is) c.args.names c.in_err-check_lengths.ensures))
 
-pub rest_checked-requires : goal.rest_checked-requires
-rest_checked-requires c =
-    let word : Words32 c.args.given.now = record { word = λ i. (c.shared_slice_known-3-1.given i).fits } in
-    let q = sym c.in_ok-is_scheme.ensures in
-    record { good = scheme-table _ _ _ q; small = scheme-small _ _ _ word q }
+pub returns-in_err-names : goal.returns-in_err-names
+returns-in_err-names c =
+    let p = err_from_is_err_and c.from_residual-in_err-names.result c.from_residual-in_err-names.ensures.1 in
+    rw (p.1, p.2) (made-refused _ _ _ (untested _ _ c.in_err-names.was c.in_ok-check_lengths.ensures))
 
-pub returns-in_err-rest_checked : goal.returns-in_err-rest_checked
-returns-in_err-rest_checked c =
-    let word : Words32 c.args.given.now = record { word = λ i. (c.shared_slice_known-3-1.given i).fits } in
-    let p = err_from_is_err_and c.from_residual-in_err-rest_checked.result c.from_residual-in_err-rest_checked.ensures.1 in
-    rw (p.1, p.2) (unmet-made _ _ _ _ [] _ _ _ _ (generalise-whole _ _ _ _) _ _ (
-    scheme-checked _ _ _ _ [] c.if-bounds-gt-RECORD_WORDS.false (omega arith) c.requires.table_value word _ _
-    c.in_ok-is_scheme.ensures c.in_err-rest_checked.ensures))
+pub returns-in_err-scheme : goal.returns-in_err-scheme
+returns-in_err-scheme c =
+    let short = c.in_ok-check_lengths.ensures in
+    let p = err_from_is_err_and c.from_residual-in_err-scheme.result c.from_residual-in_err-scheme.ensures.1 in
+    rw (p.1, p.2, c.in_ok-names.was)
+    (made-refused _ _ _
+    (first-refused (generalise-row (table_of c.in_ok-names.names.pool.now c.in_ok-names.names.table.now) c.args.given.now c.args.bounds.now) short (kept c.in_ok-names.names) (first-alone _ _ _ short _ c.in_err-scheme.ensures)))
 
-pub generalise_scheme-requires : goal.generalise_scheme-requires
-generalise_scheme-requires c =
-    let word : Words32 c.args.given.now = record { word = λ i. (c.shared_slice_known-3-1.given i).fits } in
-    let (sc, (bs, (e, n))) = scheme-came _ _ _ _ [] c.if-bounds-gt-RECORD_WORDS.false (omega arith) c.requires.table_value word
-    c.in_ok-is_scheme.ensures c.in_ok-rest_checked.ensures in
-    (sc, (bs, record { there = scheme-is _ _ _ word sc n.one; checks = n; work-long = c.requires.in_bounds }))
+pub returns-in_err-bounds : goal.returns-in_err-bounds
+returns-in_err-bounds c =
+    let short = c.in_ok-check_lengths.ensures in
+    let p = err_from_is_err_and c.from_residual-in_err-bounds.result c.from_residual-in_err-bounds.ensures.1 in
+    rw (p.1, p.2, c.in_ok-names.was)
+    (made-refused _ _ _
+    (bounds-refused (generalise-row (table_of c.in_ok-names.names.pool.now c.in_ok-names.names.table.now) c.args.given.now c.args.bounds.now) short (kept c.in_ok-names.names) (first-alone _ _ _ short _ c.in_ok-scheme.ensures)
+    (bounds-alone _ _ _ short _ c.in_err-bounds.ensures)))
 
-pub returns : goal.returns
-returns c =
-    let word : Words32 c.args.given.now = record { word = λ i. (c.shared_slice_known-3-1.given i).fits } in
-    let (sc, (bs, (e, n))) = scheme-came _ _ _ _ [] c.if-bounds-gt-RECORD_WORDS.false (omega arith) c.requires.table_value word
-    c.in_ok-is_scheme.ensures c.in_ok-rest_checked.ensures in
-    let a = c.args in
-    let g : Given a.pool.now a.table.now a.given.now a.bounds.now a.work.now sc bs =
-    record { there = scheme-is _ _ _ word sc n.one; checks = n; work-long = c.requires.in_bounds } in
-    met-made _ _ _ _ [] _ _ _ _ (generalise-whole _ _ _ _) _ _ sc bs e (c.generalise_scheme.ensures sc bs g)
+pub check_unmixed-requires : goal.check_unmixed-requires
+check_unmixed-requires c =
+    let n = c.in_ok-names.names in
+    let word : Words32 c.args.given.now = record { word = λ i. (c.type_inv.given i).fits } in
+    scheme-small n.pool.now n.table.now _ word n.good _ (first-alone _ _ _ c.in_ok-check_lengths.ensures _ c.in_ok-scheme.ensures)
+
+pub returns-in_err-check_unmixed : goal.returns-in_err-check_unmixed
+returns-in_err-check_unmixed c =
+    let n = c.in_ok-names.names in
+    let short = c.in_ok-check_lengths.ensures in
+    let word : Words32 c.args.given.now = record { word = λ i. (c.type_inv.given i).fits } in
+    let s = first-alone _ _ _ short _ c.in_ok-scheme.ensures in
+    let p = err_from_is_err_and c.from_residual-in_err-check_unmixed.result c.from_residual-in_err-check_unmixed.ensures.1 in
+    rw (p.1, p.2, c.in_ok-names.was)
+    (made-refused _ _ _
+    (mixed-refused (generalise-row (table_of n.pool.now n.table.now) c.args.given.now c.args.bounds.now) short (kept n) s (bounds-alone _ _ _ short _ c.in_ok-bounds.ensures) refl
+    (asked-of-words n.pool.now n.table.now (scheme-opens n.pool.now n.table.now _ word n.good _ s) (c.in_err-check_unmixed.ensures _))))
+
+pub generalise_type-requires-clause-ready : goal.generalise_type-requires-clause-ready
+generalise_type-requires-clause-ready c =
+    let n = c.in_ok-names.names in
+    let short = c.in_ok-check_lengths.ensures in
+    let word : Words32 c.args.given.now = record { word = λ i. (c.type_inv.given i).fits } in
+    let s = first-alone _ _ _ short _ c.in_ok-scheme.ensures in
+    let apart = asked-of-words n.pool.now n.table.now (scheme-opens n.pool.now n.table.now _ word n.good _ s) (c.in_ok-check_unmixed.ensures _) in
+    let is = ap scheme_in c.in-Concrete.is in
+    type-ready n.pool.now n.table.now _ _ word _ (s ∙ ap got is) _ (bounds-alone _ _ _ short _ c.in_ok-bounds.ensures) (subst (λ (x : Scheme ℕ). unmixed (numbersOf (table_of n.pool.now n.table.now)) (opensScheme x) ≡ true) is (are-apart _ _ apart))
+
+pub returns-in-Concrete : goal.returns-in-Concrete
+returns-in-Concrete c =
+    let n = c.in_ok-names.names in
+    let short = c.in_ok-check_lengths.ensures in
+    let word : Words32 c.args.given.now = record { word = λ i. (c.type_inv.given i).fits } in
+    let s = first-alone _ _ _ short _ c.in_ok-scheme.ensures in
+    let apart = asked-of-words n.pool.now n.table.now (scheme-opens n.pool.now n.table.now _ word n.good _ s) (c.in_ok-check_unmixed.ensures _) in
+    let row = met (generalise-row (table_of n.pool.now n.table.now) c.args.given.now c.args.bounds.now) short (kept n) s (bounds-alone _ _ _ short _ c.in_ok-bounds.ensures) refl apart in
+    let is = ap scheme_in c.in-Concrete.is in
+    rw c.in_ok-names.was (made-as row (rw is c.generalise_type.ensures))
+
+pub copy-requires : goal.copy-requires
+copy-requires c =
+    let short = words-short _ _ _ c.in_ok-check_lengths.ensures in
+    record { b_le_e = omega arith; e_in_bounds = omega arith; b_bound = omega (arith, short) }
+
+pub returns-in-Quantified : goal.returns-in-Quantified
+returns-in-Quantified c =
+    let n = c.in_ok-names.names in
+    let q = c.in-Quantified in
+    let short = c.in_ok-check_lengths.ensures in
+    let word : Words32 c.args.given.now = record { word = λ i. (c.type_inv.given i).fits } in
+    let s = first-alone _ _ _ short _ c.in_ok-scheme.ensures in
+    let apart = asked-of-words n.pool.now n.table.now (scheme-opens n.pool.now n.table.now _ word n.good _ s) (c.in_ok-check_unmixed.ensures _) in
+    let row = met (generalise-row (table_of n.pool.now n.table.now) c.args.given.now c.args.bounds.now) short (kept n) s (bounds-alone _ _ _ short _ c.in_ok-bounds.ensures) refl apart in
+    rw c.in_ok-names.was
+    (made-as row
+    (the-scheme n.pool.now n.table.now c.args.given.now (scheme_in c.in_ok-scheme.scheme) c.in_ok-bounds.bounds.listed.0 (ap scheme_in q.is) s word
+    (words-short _ _ _ short) c.args.work.now _ c.requires c.copy.ensures))

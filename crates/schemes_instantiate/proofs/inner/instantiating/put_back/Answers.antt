@@ -1,114 +1,89 @@
-use Rattle.std.proofs.Common.{◌≡◌, ◌+◌, List, ℕ, arith, ap, sym, subst, refl, rules, ◌∙◌}
+use Rattle.std.proofs.Common.{◌≡◌, List, ℕ, arith, sym, subst, refl, rules}
 use Rattle.std.proofs.lemmas.Result.{err_from_is_err_and}
-use Rattle.std.specs.Prelude.{replicate}
 use lib.ListN.{length-replicate}
 use Rattle.rules.specs.Names.{table_of, is_held}
 use Rattle.rules.specs.Schemes.{renamed, back}
-use Rattle.rules.specs.Trees.{Ty, size}
-use Rattle.laws.specs.NameTable.{good-laid}
+use Rattle.rules.specs.Trees.{Ty}
 use Rattle.schemes_renaming.proofs.Own.{own}
 use Rattle.records.specs.Parsed.{only}
 use Rattle.replace.specs.Substitutions.{same-look}
 use Rattle.replace.specs.Well.{GoodTy}
 use Rattle.replace.proofs.Looks.{type-as}
 use Rattle.replace.proofs.Walks.{told}
-use Rattle.schemes_handed.specs.Bounds.{BoundsAt}
-use Rattle.schemes_quantify.specs.Ready.{at_in}
 use Rattle.schemes_instantiate.specs.Ready.{back-tables, own-tables, came, first-stopped, first-held, read-near, second-stopped, all_made}
 use Rattle.schemes_instantiate.proofs.inner.instantiating.put_back.Goals as goal
 
-pub put_names_back-requires : goal.put_names_back-requires
-put_names_back-requires c = let (bs, y) = c.requires.ready
-    in record {
-      names_len_bound = y.names-few;
-      by_index = (λ i h. let k = y.names-held _ (at_in _ i h) in let f = (good-laid y.good).few in omega arith);
-    }
-
-pub keep_names-requires : goal.keep_names-requires
-keep_names-requires c = let (bs, y) = c.requires.ready in let f = (good-laid y.good).few in let e = c.count.ensures in omega arith
-
 pub invariant_of-back : goal.invariant_of-back
 invariant_of-back c =
-    let (bs, y) = c.requires.ready in
-    let n = c.args.names in
-    let h = c.args.handed.now in
-    let s = c.args.t.words.now in
-    let p = c.put_names_back.new.places in
-    let v = c.keep_names.new.v in
-    let l = back-tables n.pool.now n.table.now h _ y.good c.count.ensures _ _ y.names-held y.names-few c.put_names_back.ensures c.keep_names.ensures.1 in
-    record { lent = (renamed (back h), l) }
+    let h = c.args.handed in
+    let l = back-tables h _ _ c.put_names_back.ensures c.keep_names.ensures.1 in
+    record { lent = (renamed (back h.numbers.now), l) }
 
 pub invariant_of-itself : goal.invariant_of-itself
 invariant_of-itself c =
-    let (bs, y) = c.requires.ready in
-    let n = c.args.names in
-    let h = c.args.handed.now in
-    let s = c.args.t.words.now in
-    let p = c.put_names_back.new.places in
-    let v = c.keep_names.new.v in
-    let o = own-tables n.pool.now n.table.now h _ y.good c.count.ensures _ _ c.keep_names.ensures.0 c.keep_names.ensures.1 in
+    let n = c.args.handed.names in
+    let h = c.args.handed in
+    let o = own-tables h _ _ c.keep_names.ensures.0 c.keep_names.ensures.1 in
     record { lent = (renamed (own (is_held (table_of n.pool.now n.table.now))), o) }
 
 pub returns-in_err-replace_type : goal.returns-in_err-replace_type
-returns-in_err-replace_type c = λ bs y.
-    let n = c.args.names in
-    let h = c.args.handed.now in
-    let s = c.args.t.words.now in
+returns-in_err-replace_type c =
+    let y = c.requires.ready in
+    let n = c.args.handed.names in
+    let h = c.args.handed in
     let p = c.put_names_back.new.places in
     let v = c.keep_names.new.v in
-    let l = back-tables n.pool.now n.table.now h _ y.good c.count.ensures _ _ y.names-held y.names-few c.put_names_back.ensures c.keep_names.ensures.1 in
+    let l = back-tables h _ _ c.put_names_back.ensures c.keep_names.ensures.1 in
     let k = err_from_is_err_and c.from_residual.result c.from_residual.ensures.1 in
     rw (k.1, k.2)
-    (first-stopped n.pool.now n.table.now h s c.args.work.now c.args.t.tree.0 bs y _
-    (type-as n.pool.now n.table.now p v c.replace_type-arg-1.given.0 (renamed (back h), l) refl (told c.in_err-replace_type.was c.replace_type.ensures)))
+    (first-stopped h c.args.t.tree.0 c.args.bounds.listed.0 y _
+    (type-as n.pool.now n.table.now p v c.replace_type-arg-1.given.0 (renamed (back h.numbers.now), l) refl (told c.in_err-replace_type.was c.replace_type.ensures)))
 
 pub invariant_of-read : goal.invariant_of-read
 invariant_of-read c =
-    let (bs, y) = c.requires.ready in
-    let n = c.args.names in
-    let h = c.args.handed.now in
-    let s = c.args.t.words.now in
+    let y = c.requires.ready in
+    let n = c.args.handed.names in
+    let h = c.args.handed in
     let p = c.put_names_back.new.places in
     let v = c.keep_names.new.v in
-    let l = back-tables n.pool.now n.table.now h _ y.good c.count.ensures _ _ y.names-held y.names-few c.put_names_back.ensures c.keep_names.ensures.1 in
-    let once = came (type-as n.pool.now n.table.now p v c.replace_type-arg-1.given.0 (renamed (back h), l) refl
+    let l = back-tables h _ _ c.put_names_back.ensures c.keep_names.ensures.1 in
+    let once = came (type-as n.pool.now n.table.now p v c.replace_type-arg-1.given.0 (renamed (back h.numbers.now), l) refl
     (told c.in_ok-replace_type.was c.replace_type.ensures)) in
-    let held = first-held n.pool.now n.table.now h s c.args.work.now c.args.t.tree.0 bs y once refl (omega (arith, length-replicate {A = ℕ} 8192 0)) in
+    let held = first-held h c.args.t.tree.0 c.args.bounds.listed.0 y once refl (omega (arith, length-replicate {A = ℕ} 8192 0)) in
     let between : c.between-2-1.given.0 ≡ c.replace_type.new.out.words.now = search rules in
     record {
-      near = rw between (read-near n.pool.now n.table.now h s c.args.work.now c.args.t.tree.0 bs y once refl (omega (arith, length-replicate {A = ℕ} 8192 0)));
+      near = rw between (read-near h c.args.t.tree.0 c.args.bounds.listed.0 y once refl (omega (arith, length-replicate {A = ℕ} 8192 0)));
       tree = (once.value, rw between held.held);
     }
 
 pub replace_type-requires-2 : goal.replace_type-requires-2
 replace_type-requires-2 c =
-    let (bs, y) = c.requires.ready in
-    let n = c.args.names in
-    let h = c.args.handed.now in
-    let s = c.args.t.words.now in
+    let y = c.requires.ready in
+    let n = c.args.handed.names in
+    let h = c.args.handed in
     let p = c.put_names_back.new.places in
     let v = c.keep_names.new.v in
-    let l = back-tables n.pool.now n.table.now h _ y.good c.count.ensures _ _ y.names-held y.names-few c.put_names_back.ensures c.keep_names.ensures.1 in
-    let once = came (type-as n.pool.now n.table.now p v c.replace_type-arg-1.given.0 (renamed (back h), l) refl
+    let l = back-tables h _ _ c.put_names_back.ensures c.keep_names.ensures.1 in
+    let once = came (type-as n.pool.now n.table.now p v c.replace_type-arg-1.given.0 (renamed (back h.numbers.now), l) refl
     (told c.in_ok-replace_type.was c.replace_type.ensures)) in
-    let held = first-held n.pool.now n.table.now h s c.args.work.now c.args.t.tree.0 bs y once refl (omega (arith, length-replicate {A = ℕ} 8192 0)) in
+    let held = first-held h c.args.t.tree.0 c.args.bounds.listed.0 y once refl (omega (arith, length-replicate {A = ℕ} 8192 0)) in
     let between : c.between-2-1.given.0 ≡ c.replace_type.new.out.words.now = search rules in
     let u = c.replace_type-arg-3-1.given.1.0 in
     let one = only c.between-2-1.given.0 u.0 once.value 0 u.1 (rw between held.held) in
     subst (GoodTy n.pool.now n.table.now) (sym one) held.good
 
 pub returns-in_err-replace_type-2 : goal.returns-in_err-replace_type-2
-returns-in_err-replace_type-2 c = λ bs y.
-    let n = c.args.names in
-    let h = c.args.handed.now in
-    let s = c.args.t.words.now in
+returns-in_err-replace_type-2 c =
+    let y = c.requires.ready in
+    let n = c.args.handed.names in
+    let h = c.args.handed in
     let p = c.put_names_back.new.places in
     let v = c.keep_names.new.v in
-    let l = back-tables n.pool.now n.table.now h _ y.good c.count.ensures _ _ y.names-held y.names-few c.put_names_back.ensures c.keep_names.ensures.1 in
-    let o = own-tables n.pool.now n.table.now h _ y.good c.count.ensures _ _ c.keep_names.ensures.0 c.keep_names.ensures.1 in
-    let once = came (type-as n.pool.now n.table.now p v c.replace_type-arg-1.given.0 (renamed (back h), l) refl
+    let l = back-tables h _ _ c.put_names_back.ensures c.keep_names.ensures.1 in
+    let o = own-tables h _ _ c.keep_names.ensures.0 c.keep_names.ensures.1 in
+    let once = came (type-as n.pool.now n.table.now p v c.replace_type-arg-1.given.0 (renamed (back h.numbers.now), l) refl
     (told c.in_ok-replace_type.was c.replace_type.ensures)) in
-    let held = first-held n.pool.now n.table.now h s c.args.work.now c.args.t.tree.0 bs y once refl (omega (arith, length-replicate {A = ℕ} 8192 0)) in
+    let held = first-held h c.args.t.tree.0 c.args.bounds.listed.0 y once refl (omega (arith, length-replicate {A = ℕ} 8192 0)) in
     let between : c.between-2-1.given.0 ≡ c.replace_type.new.out.words.now = search rules in
     let u = c.replace_type-arg-3-1.given.1.0 in
     let one = only c.between-2-1.given.0 u.0 once.value 0 u.1 (rw between held.held) in
@@ -116,39 +91,36 @@ returns-in_err-replace_type-2 c = λ bs y.
     (renamed (own (is_held (table_of n.pool.now n.table.now))), o) one
     (told c.in_err-replace_type-2.was c.replace_type-2.ensures) in
     let k = err_from_is_err_and c.from_residual-in_err-replace_type-2.result c.from_residual-in_err-replace_type-2.ensures.1 in
-    rw (k.1, k.2) (second-stopped n.pool.now n.table.now h s c.args.work.now c.args.t.tree.0 bs y once _ again)
+    rw (k.1, k.2) (second-stopped h c.args.t.tree.0 c.args.bounds.listed.0 y once _ again)
 
-pub put_bounds-requires-clause-renames : goal.put_bounds-requires-clause-renames
-put_bounds-requires-clause-renames c =
-    let (bs, y) = c.requires.ready in
-    let n = c.args.names in
-    let h = c.args.handed.now in
-    let s = c.args.t.words.now in
+pub put_bounds-requires : goal.put_bounds-requires
+put_bounds-requires c =
+    let n = c.args.handed.names in
+    let h = c.args.handed in
     let p = c.put_names_back.new.places in
     let v = c.keep_names.new.v in
-    let l = back-tables n.pool.now n.table.now h _ y.good c.count.ensures _ _ y.names-held y.names-few c.put_names_back.ensures c.keep_names.ensures.1 in
-    (back h, same-look n.pool.now n.table.now p v c.put_bounds-arg-2-1.given.0 (renamed (back h), l))
+    let l = back-tables h _ _ c.put_names_back.ensures c.keep_names.ensures.1 in
+    (back h.numbers.now, same-look n.pool.now n.table.now p v c.put_bounds-arg-1.given.0 (renamed (back h.numbers.now), l))
 
 pub returns : goal.returns
-returns c = λ bs y.
-    let n = c.args.names in
-    let h = c.args.handed.now in
-    let s = c.args.t.words.now in
+returns c =
+    let y = c.requires.ready in
+    let n = c.args.handed.names in
+    let h = c.args.handed in
     let p = c.put_names_back.new.places in
     let v = c.keep_names.new.v in
-    let l = back-tables n.pool.now n.table.now h _ y.good c.count.ensures _ _ y.names-held y.names-few c.put_names_back.ensures c.keep_names.ensures.1 in
-    let o = own-tables n.pool.now n.table.now h _ y.good c.count.ensures _ _ c.keep_names.ensures.0 c.keep_names.ensures.1 in
-    let once = came (type-as n.pool.now n.table.now p v c.replace_type-arg-1.given.0 (renamed (back h), l) refl
+    let l = back-tables h _ _ c.put_names_back.ensures c.keep_names.ensures.1 in
+    let o = own-tables h _ _ c.keep_names.ensures.0 c.keep_names.ensures.1 in
+    let once = came (type-as n.pool.now n.table.now p v c.replace_type-arg-1.given.0 (renamed (back h.numbers.now), l) refl
     (told c.in_ok-replace_type.was c.replace_type.ensures)) in
-    let held = first-held n.pool.now n.table.now h s c.args.work.now c.args.t.tree.0 bs y once refl (omega (arith, length-replicate {A = ℕ} 8192 0)) in
+    let held = first-held h c.args.t.tree.0 c.args.bounds.listed.0 y once refl (omega (arith, length-replicate {A = ℕ} 8192 0)) in
     let between : c.between-2-1.given.0 ≡ c.replace_type.new.out.words.now = search rules in
     let u = c.replace_type-arg-3-1.given.1.0 in
     let one = only c.between-2-1.given.0 u.0 once.value 0 u.1 (rw between held.held) in
     let again = type-as n.pool.now n.table.now c.keep_names.new.places v c.replace_type-arg-2-1.given.0
     (renamed (own (is_held (table_of n.pool.now n.table.now))), o) one
     (told c.in_ok-replace_type-2.was c.replace_type-2.ensures) in
-    let place = subst (BoundsAt s bs) (sym (c.end.ensures ∙ ap (λ (k : ℕ). k + size c.args.t.tree.0) c.requires.first)) y.listed in
-    let b = c.put_bounds.ensures bs (back h) place (same-look n.pool.now n.table.now p v c.put_bounds-arg-2-1.given.0 (renamed (back h), l)) in
+    let b = c.put_bounds.ensures (back h.numbers.now) (same-look n.pool.now n.table.now p v c.put_bounds-arg-1.given.0 (renamed (back h.numbers.now), l)) in
     let same = b.same in
     let work : c.work-2-1.given.0 ≡ c.put_bounds.new.out.words.now = search (rules, same) in
-    rw work (all_made n.pool.now n.table.now h s c.args.work.now c.args.t.tree.0 bs y once refl refl (came again) b)
+    rw work (all_made h c.args.t.tree.0 c.args.bounds.listed.0 y once refl c.requires.work_room (came again) b)

@@ -1,0 +1,15 @@
+-- `values::product_power` meets its contract.
+use mathlib.Core.Path.{ap, ap₂, ◌∙◌}
+use Rattle.rules.specs.Exponents.{Exp}
+use Rattle.rules.specs.Base.{Got}
+use Rattle.rules.specs.Values.{ProductValue, raiseCall}
+use Rattle.calls_defined.specs.Dispatch.{productShown}
+use Rattle.calls.specs.Values.{valueShown}
+use Rattle.calls.proofs.OfValues.{value-shown}
+use Rattle.calls.proofs.values.product_power.Goals as goal
+
+pub returns : goal.returns
+returns c =
+    let a = c.args in
+    c.told_product.ensures ∙ ap (λ (m : Got ProductValue). valueShown m a.res.now) c.power.ensures ∙ value-shown _ a.res.now
+    ∙ ap₂ (λ (v : ProductValue) (x : Exp). productShown (raiseCall a.pool.now a.table.now v x) a.res.now) c.product_from-p.ensures c.exponent_at-e.ensures

@@ -1,0 +1,14 @@
+-- `values::product_product` meets its contract.
+use mathlib.Core.Path.{ap, ap₂, ◌∙◌}
+use Rattle.rules.specs.Base.{Got}
+use Rattle.rules.specs.Values.{ProductValue, multiplyCall}
+use Rattle.calls_defined.specs.Dispatch.{productShown}
+use Rattle.calls.specs.Values.{valueShown}
+use Rattle.calls.proofs.OfValues.{value-shown}
+use Rattle.calls.proofs.values.product_product.Goals as goal
+
+pub returns : goal.returns
+returns c =
+    let a = c.args in
+    c.told_product.ensures ∙ ap (λ (m : Got ProductValue). valueShown m a.res.now) c.multiply.ensures ∙ value-shown _ a.res.now
+    ∙ ap₂ (λ (v w : ProductValue). productShown (multiplyCall a.pool.now a.table.now v w) a.res.now) c.product_from-p.ensures c.product_from-r.ensures

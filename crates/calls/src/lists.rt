@@ -1,0 +1,38 @@
+//! Of the calls on lists of records those that take more than one step.
+ghost use Rattle.std.specs.Prelude.{◌≡◌, length};
+ghost use Rattle.std.proofs.lemmas.List.Edits.{sets};
+ghost use Rattle.rules.specs.Calls.{lent, addCall};
+ghost use Rattle.calls_defined.specs.Saying.{checkedAs, addedAs};
+
+use calls_defined::told::{Told, added, refused, said};
+use calls_defined::words::fill;
+use records_buffers::lent;
+use rules::Refusal;
+use solve_add::add;
+
+/// Adds to a set. The result buffer begins with it.
+pub fn adding_to(
+    pool: &[u8],
+    table: &[u32],
+    a: &[u32],
+    count: u32,
+    con: &[u32],
+    buffer: &mut [u32],
+) -> Told
+    ensures value { result ≡ addedAs (addCall pool.now table.now (sets buffer.old 0 a.now) count con.now).answer (length a.now) }
+    ensures buffer_after { buffer.new ≡ (addCall pool.now table.now (sets buffer.old 0 a.now) count con.now).buffer }
+{
+    fill(a, buffer);
+    added(add(pool, table, buffer, count as usize, con), a.len())
+}
+
+/// Is so much lent as a call needs?
+pub fn lent_told(pool: &[u8], table: &[u32], res: &[u32], work: &[u32]) -> Told
+    ensures { result ≡ checkedAs (lent pool.now table.now res.now work.now) }
+{
+    if lent(pool, table, res, work) {
+        said(0, 0, 0)
+    } else {
+        refused(Refusal::ShortBuffer, 0, 0)
+    }
+}

@@ -1,1 +1,0 @@
--- Laws for the proofs of this crate; its contracts cite the definitions of saying.
